@@ -1,0 +1,3 @@
+-- Expressions of the table as trees.
+pub mod Table
+pub mod Term

@@ -1,0 +1,13 @@
+//! The checked program as a table of core statements and expressions, its plan of
+//! e-blocks and synchronization units, and the words in which a process ends.
+#![tactic(auto)]
+
+mod lists;
+mod plan;
+mod program;
+mod status;
+
+pub use lists::{Bytes, Cells, Ids, Memory, Nums, Seq};
+pub use plan::{Block, BlockKind, Plan, Policy, Start, Unit};
+pub use program::{Body, Chan, Expr, Kind, Op, Place, Program, Sem, Stmt, Target, Var};
+pub use status::{Status, SyncKind, Trap};

@@ -1,0 +1,6 @@
+//! The tokens of a source, or its first lexical fault.
+#![tactic(auto)]
+
+mod token;
+
+pub use token::{LexError, Token, TokenKind};
