@@ -1,0 +1,5 @@
+-- Sources of one process, their programs, the run and what is written of it.
+pub mod Form
+pub mod Lowered
+pub mod Reading
+pub mod Reached
