@@ -1,6 +1,6 @@
 -- Programs whose processes assign and print sums of shared variables and numbers, and end; and a
 -- process state of such a program.
-use Rattle.std.specs.Prelude.{◌≡◌, ℕ, ◌+◌, ◌<◌, ◌≤◌, ◌++◌, ◌∷◌, Some, List, [], length, ⊤}
+use Rattle.std.specs.Prelude.{◌≡◌, ℕ, ◌+◌, ◌<◌, ◌≤◌, ◌++◌, ◌∷◌, Some, List, [], drop, length, ⊤}
 use Rattle.ppd_ast.specs.Table.{AreChildrenBelow, EachAt}
 use Rattle.ppd_ast.specs.declared.program.Body.{Body}
 use Rattle.ppd_ast.specs.declared.program.Expr.{Expr}
@@ -62,6 +62,10 @@ IsPlainNeed n = ⊥
 -- after a step that writes no values
 abbrev pub with_step : Proc → Proc
 with_step s = record s { spent = s.spent + 1; steps = s.steps + 1 }
+
+-- after such a step that finishes the head statement
+abbrev pub finished : Proc → Proc
+finished s = with_step (record s { todo = drop 1 s.todo; answers = [] })
 
 -- after a step of a statement that lacks a value, or traps
 abbrev pub paused_at : Proc → Pause → Answer → Proc

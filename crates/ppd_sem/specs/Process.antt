@@ -133,7 +133,7 @@ need_of_running program plan [] s = Stopped
 need_of_running program plan (t ∷ ts) s = within_budget plan s (need_of_head program plan t s)
 
 abbrev pub need_by_status : Program → Plan → Option Status → Proc → Need
-need_by_status program plan (Some ended) s = Stopped
+need_by_status program plan (Some _) s = Stopped
 need_by_status program plan None s = need_of_running program plan s.todo s
 
 -- what the next step needs

@@ -1,10 +1,12 @@
-ghost use Rattle.std.specs.Prelude.{◌≡◌, ◌<◌, ◌≤◌, ◌+◌, ◌-◌, ◌^◌, drop, length, [], OnOk, OnErr};
-ghost use Rattle.ppd_sem.specs.First.{IsFirstProc, IsFirstProgram, paused_at};
-ghost use Rattle.ppd_sem.specs.Process.{act, kind_of, value_of};
+ghost use Rattle.std.specs.Prelude.{◌≡◌, ◌<◌, ◌≤◌, ◌-◌, ◌^◌, ◌∷◌, ◌++◌, length, [], OnOk, OnErr};
+ghost use Rattle.ppd_ast.specs.declared.status.Status.TheVariants as status;
+ghost use Rattle.ppd_sem.specs.First.{IsFirstProc, IsFirstProgram, finished, paused_at, with_step};
+ghost use Rattle.ppd_sem.specs.Process.{act, value_of};
 
 use crate::asking::{Pause, ask};
 use crate::looking::top_cells;
 use crate::proc::{Answer, Proc};
+use crate::tables::kind_at;
 use ppd_ast::{Kind, Memory, Plan, Program, Status, Target};
 
 fn value_in(answer: &Answer) -> i64
@@ -16,15 +18,9 @@ fn value_in(answer: &Answer) -> i64
     }
 }
 
-fn kind_at(program: &Program, stmt: u32) -> &Kind
-    requires { stmt < length program.now.stmts }
-    ensures { result.now ≡ kind_of program.now stmt }
-{
-    &program.stmts.as_slice()[stmt as usize].kind
-}
-
 /// Takes the next step of a process. `Value` goes with a need for a value, `Go` with the
 /// others. `Memory` is want of memory: the process is as before.
+#[tactic(auto, using(crate::proofs::First::first_within, crate::proofs::First::finished_first))]
 pub fn feed(
     program: &Program,
     plan: &Plan,
@@ -52,28 +48,17 @@ pub fn feed(
     match kind_at(program, todo.stmt) {
         Kind::Set(Target::Shared(_), value) => {
             match ask(exprs, *value, top_cells(&proc.frames), proc.answers.as_slice()) {
-                Ok(_) => {
-                    finish(proc);
-                    Ok(())
-                }
+                Ok(_) => Ok(finish(proc)),
                 Err(pause) => hold(proc, pause, answer),
             }
         }
         Kind::Print(value) => {
             match ask(exprs, *value, top_cells(&proc.frames), proc.answers.as_slice()) {
-                Ok((value, _)) => {
-                    proc.prints.push(value)?;
-                    finish(proc);
-                    Ok(())
-                }
+                Ok((value, _)) => print(proc, value),
                 Err(pause) => hold(proc, pause, answer),
             }
         }
-        Kind::End => {
-            finish(proc);
-            proc.status = Some(Status::Ended);
-            Ok(())
-        }
+        Kind::End => Ok(end(proc)),
         _ => unreachable!(),
     }
 }
@@ -82,7 +67,7 @@ pub fn feed(
 fn charge(proc: &mut Proc)
     requires room { proc.old.spent < 2 ^ 32 - 1 }
     requires steps { proc.old.steps ≤ proc.old.spent }
-    ensures { proc.new ≡ record proc.old { spent = proc.old.spent + 1; steps = proc.old.steps + 1 } }
+    ensures { proc.new ≡ with_step proc.old }
 {
     proc.spent += 1;
     proc.steps += 1;
@@ -93,11 +78,33 @@ fn finish(proc: &mut Proc)
     requires todo { 0 < length proc.old.todo }
     requires room { proc.old.spent < 2 ^ 32 - 1 }
     requires steps { proc.old.steps ≤ proc.old.spent }
-    ensures { proc.new ≡ record proc.old { todo = drop 1 proc.old.todo; answers = []; spent = proc.old.spent + 1; steps = proc.old.steps + 1 } }
+    ensures { proc.new ≡ finished proc.old }
 {
     proc.todo.pop();
     proc.answers.clear();
     charge(proc);
+}
+
+fn print(proc: &mut Proc, value: i64) -> Result<(), Memory>
+    requires todo { 0 < length proc.old.todo }
+    requires room { proc.old.spent < 2 ^ 32 - 1 }
+    requires steps { proc.old.steps ≤ proc.old.spent }
+    ensures ok { OnOk result (proc.new ≡ finished (record proc.old { prints = proc.old.prints ++ value ∷ [] })) }
+    ensures err { OnErr result (proc.new ≡ proc.old) }
+{
+    proc.prints.push(value)?;
+    finish(proc);
+    Ok(())
+}
+
+fn end(proc: &mut Proc)
+    requires todo { 0 < length proc.old.todo }
+    requires room { proc.old.spent < 2 ^ 32 - 1 }
+    requires steps { proc.old.steps ≤ proc.old.spent }
+    ensures { proc.new ≡ finished (record proc.old { status = Some status.Ended }) }
+{
+    finish(proc);
+    proc.status = Some(Status::Ended);
 }
 
 /// The step of a statement that lacks a value, or traps.

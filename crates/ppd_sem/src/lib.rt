@@ -9,6 +9,7 @@ mod looking;
 mod proc;
 mod stack;
 mod starting;
+mod tables;
 
 pub use asking::{Pause, ask};
 pub use event::{Access, Event, Spot};

@@ -8,6 +8,7 @@ ghost use Rattle.ppd_sem.specs.Tables.{block_of, or_zero, same_block};
 use crate::asking::{Pause, ask};
 use crate::proc::{Frame, Need, Proc, Todo};
 use crate::stack::Stack;
+use crate::tables::kind_at;
 use ppd_ast::{BlockKind, Kind, Plan, Program, Target};
 
 fn is_same(a: BlockKind, b: BlockKind) -> bool
@@ -70,6 +71,7 @@ fn paused_need(pause: Pause) -> Need
 }
 
 /// What a statement of this kind needs.
+#[tactic(auto, using(crate::proofs::First::first_within))]
 fn kind_need(program: &Program, plan: &Plan, stmt: u32, kind: &Kind, proc: &Proc) -> Need
     requires program { IsFirstProgram program.now }
     requires first { IsFirstKind (length program.now.exprs) kind.now }
@@ -104,8 +106,7 @@ fn head_need(program: &Program, plan: &Plan, todo: Todo, proc: &Proc) -> Need
     ensures need { result ≡ need_of_head program.now plan.now todo proc.now }
     ensures plain { IsPlainNeed result }
 {
-    let stmt = &program.stmts.as_slice()[todo.stmt as usize];
-    kind_need(program, plan, todo.stmt, &stmt.kind, proc)
+    kind_need(program, plan, todo.stmt, kind_at(program, todo.stmt), proc)
 }
 
 fn within_budget(plan: &Plan, proc: &Proc, need: Need) -> Need

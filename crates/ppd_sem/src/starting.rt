@@ -1,21 +1,33 @@
-ghost use Rattle.std.specs.Prelude.{◌≡◌, ◌+◌, ◌<◌, ◌++◌, [], ◌∷◌, length, map, reverse, IfOk, OnOk, OnErr, None};
+ghost use Rattle.std.specs.Prelude.{◌≡◌, ◌+◌, ◌<◌, ◌^◌, [], ◌∷◌, length, reverse, IfOk, None};
 ghost use Rattle.ppd_sem.specs.First.{IsFirstProc, IsFirstProgram};
 ghost use Rattle.ppd_sem.specs.Process.{new_frame, started, todos};
 
 use crate::proc::{Frame, Proc, Todo};
 use crate::stack::Stack;
+use crate::tables::top_at;
 use ppd_ast::{Memory, Nums, Plan, Program};
-use std::alloc::Global;
+use std::alloc::{AllocError, Global};
 
-/// The statements as a list of what is to do.
+/// The statements as what is to do, the last one first.
+fn listed(alloc: Global, stmts: &[u32]) -> Result<Vec<Todo>, AllocError>
+    ensures { IfOk result (λ items. items.items ≡ todos (reverse stmts.now)) }
+{
+    stmts
+        .iter()
+        .rev()
+        .map(|stmt| Todo { stmt: *stmt, entered: false })
+        .collect(alloc)
+}
+
+/// The statements as what is to do, the first one at the top.
+#[tactic(auto, using(crate::proofs::Todos::stacked))]
 fn stack_of(alloc: Global, stmts: &[u32]) -> Result<Stack<Todo>, Memory>
     ensures { IfOk result (λ todo. todo ≡ todos stmts.now) }
 {
-    let mut todo = Stack::new(alloc);
-    for stmt in stmts.iter().rev() {
-        todo.push(Todo { stmt: *stmt, entered: false })?;
+    match listed(alloc, stmts) {
+        Ok(items) => Ok(Stack::from_vec(items)),
+        Err(_) => Err(Memory),
     }
-    Ok(todo)
 }
 
 /// The frame of a process's body, which has no parameters.
@@ -35,14 +47,17 @@ impl Proc {
     pub fn start(alloc: Global, program: &Program, plan: &Plan, process: u8, budget: u32) -> Result<Proc, Memory>
         requires program { IsFirstProgram program.now }
         requires process { program.now.functions + process < length program.now.bodies }
+        requires range { program.now.functions + process < 2 ^ 16 }
         ensures started { IfOk result (λ proc. proc ≡ started program.now plan.now process budget) }
         ensures first { IfOk result (λ proc. IsFirstProc program.now proc) }
     {
-        let body = program.functions + process as u16;
-        let stmts = program.bodies.as_slice()[body as usize].top.as_slice();
+        let functions = program.functions;
+        let body = functions + process as u16;
+        let frames = first_frame(alloc, program, body)?;
+        let todo = stack_of(alloc, top_at(program, body))?;
         Ok(Proc {
-            frames: first_frame(alloc, program, body)?,
-            todo: stack_of(alloc, stmts)?,
+            frames,
+            todo,
             answers: Nums::new(alloc),
             below: 0,
             budget,
