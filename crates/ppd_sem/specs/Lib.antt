@@ -3,6 +3,7 @@ pub mod Ask
 pub mod Asked
 pub mod Deed
 pub mod First
+pub mod Measure
 pub mod Process
 pub mod Reads
 pub mod Tables
