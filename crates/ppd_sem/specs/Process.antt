@@ -1,0 +1,253 @@
+-- The state of one process: what its next step needs, and the state after that step.
+use Rattle.std.specs.Prelude.{ℕ, ◌+◌, ◌-◌, nat_lt, ℤ, pos, List, [], ◌∷◌, ◌++◌, map, true, false, zero, suc, length, replicate, slice_set, slice_get, Option, Some, None, Ok, Err, if◌then◌else◌}
+use Rattle.ppd_ast.specs.declared.program.Kind.{Kind}
+use Rattle.ppd_ast.specs.declared.program.Kind.TheVariants as kind
+use Rattle.ppd_ast.specs.declared.program.Body.{Body}
+use Rattle.ppd_ast.specs.declared.program.Stmt.{Stmt}
+use Rattle.ppd_ast.specs.declared.program.Program.{Program}
+use Rattle.ppd_ast.specs.declared.plan.Plan.{Plan}
+use Rattle.ppd_ast.specs.declared.plan.Start.TheVariants as start
+use Rattle.ppd_ast.specs.declared.plan.BlockKind.TheVariants as block
+use Rattle.ppd_ast.specs.declared.status.Trap.TheVariants as trap
+use Rattle.ppd_ast.specs.declared.status.Status.{Status}
+use Rattle.ppd_ast.specs.declared.status.Status.TheVariants as status
+use Rattle.ppd_sem.specs.declared.proc.Need.{Need}
+use Rattle.ppd_sem.specs.declared.proc.Need.TheVariants.{Read, Write, Plain, Enter, Leave, Invoke, Back, P, V, Send, Recv, End, Trap, Budget, Stopped}
+use Rattle.ppd_sem.specs.declared.proc.Answer.{Answer}
+use Rattle.ppd_sem.specs.declared.proc.Answer.TheVariants.{Value, Go}
+use Rattle.ppd_sem.specs.declared.proc.Frame.{Frame}
+use Rattle.ppd_sem.specs.declared.proc.Todo.{Todo}
+use Rattle.ppd_sem.specs.declared.proc.Proc.{Proc}
+use Rattle.ppd_sem.specs.declared.asking.Pause.{Pause}
+use Rattle.ppd_sem.specs.declared.asking.Pause.TheVariants.{Wants, Traps}
+use Rattle.ppd_sem.specs.Asked.{Asked}
+use Rattle.ppd_sem.specs.Deed.{Deed, set_local, set_shared, clear, branch, turn, leave, invoke, back, take, give, send, receive, print, pass, finish, ask_deed}
+use Rattle.ppd_sem.specs.Tables.{block_of, unit_of, or_zero, prelog_length, postlog_length, unit_length, returned_length}
+
+-- ---- the head
+
+abbrev pub kind_or_end : Option Stmt → Kind
+kind_or_end None = kind.End
+kind_or_end (Some s) = s.kind
+
+-- the kind of a statement, and End past the table
+abbrev pub kind_of : Program → ℕ → Kind
+kind_of program s = kind_or_end (slice_get program.stmts s)
+
+abbrev pub top_cells : List Frame → List ℤ
+top_cells [] = []
+top_cells (f ∷ fs) = f.cells
+
+abbrev pub top_body : List Frame → ℕ
+top_body [] = 0
+top_body (f ∷ fs) = f.body
+
+-- the call that began the top frame, if this process state has the frame below it
+abbrev pub top_call : List Frame → Option ℕ
+top_call [] = None
+top_call (f ∷ fs) = f.call
+
+-- what the head statement asks for, or does
+abbrev pub head_deed : Program → Todo → Proc → Asked Deed
+head_deed program t s = ask_deed program.exprs (kind_of program t.stmt) (top_cells s.frames) s.answers
+
+-- ---- the need
+
+-- the unit after the call that began the top frame
+abbrev pub call_unit : Plan → Option ℕ → Option ℕ
+call_unit plan None = None
+call_unit plan (Some c) = Some (unit_of plan (start.After c))
+
+-- a call, where the first frame is no call of the frames' own: 64 may be open
+abbrev pub need_of_call : Plan → ℕ → Proc → Need
+need_of_call plan f s =
+    if nat_lt 64 (s.below + length s.frames) then Trap trap.Depth
+    else Invoke (block_of plan (block.Function f)) (unit_of plan (start.Entry f))
+
+-- a loop that ends, by its block
+abbrev pub need_of_leaving : Plan → ℕ → Option ℕ → Need
+need_of_leaving plan t None = Plain
+need_of_leaving plan t (Some b) = Leave b (unit_of plan (start.Exit t))
+
+-- t is the statement
+abbrev pub need_of_deed : Plan → ℕ → Proc → Deed → Need
+need_of_deed plan t s (set_shared c v) = Write c v
+need_of_deed plan t s leave = need_of_leaving plan t (block_of plan (block.Loop t))
+need_of_deed plan t s (invoke f values into) = need_of_call plan f s
+need_of_deed plan t s (back value) =
+    Back (block_of plan (block.Function (top_body s.frames))) (call_unit plan (top_call s.frames))
+need_of_deed plan t s (take sem) = P sem (unit_of plan (start.After t))
+need_of_deed plan t s (give sem) = V sem (unit_of plan (start.After t))
+need_of_deed plan t s (send chan value) = Send chan value (unit_of plan (start.After t))
+need_of_deed plan t s (receive chan into) = Recv chan (unit_of plan (start.After t))
+need_of_deed plan t s finish = End (or_zero (block_of plan (block.Process (top_body s.frames))))
+need_of_deed plan t s deed = Plain
+
+abbrev pub need_of_pause : Pause → Need
+need_of_pause (Wants cell) = Read cell
+need_of_pause (Traps t) = Trap t
+
+abbrev pub need_of_asked : Plan → ℕ → Proc → Asked Deed → Need
+need_of_asked plan t s (Ok p) = need_of_deed plan t s p.0
+need_of_asked plan t s (Err pause) = need_of_pause pause
+
+-- the block of a loop that the process has yet to enter
+abbrev pub loop_of : Plan → ℕ → Kind → Option ℕ
+loop_of plan t (kind.While e body) = block_of plan (block.Loop t)
+loop_of plan t k = None
+
+abbrev pub entry_of : Program → Plan → Todo → Option ℕ
+entry_of program plan t = if t.entered then None else loop_of plan t.stmt (kind_of program t.stmt)
+
+-- a block that is yet to be entered comes first
+abbrev pub need_by_entry : Plan → ℕ → Proc → Option ℕ → Asked Deed → Need
+need_by_entry plan t s (Some b) asked = Enter b (unit_of plan (start.Enter t))
+need_by_entry plan t s None asked = need_of_asked plan t s asked
+
+abbrev pub need_of_head : Program → Plan → Todo → Proc → Need
+need_of_head program plan t s = need_by_entry plan t.stmt s (entry_of program plan t) (head_deed program t s)
+
+-- the values in the prelog, postlog and unit entries that the step writes
+abbrev pub values_of : Plan → Need → ℕ
+values_of plan (Enter b u) = prelog_length plan b + unit_length plan u
+values_of plan (Leave b u) = postlog_length plan b + unit_length plan u
+values_of plan (Invoke None u) = unit_length plan u
+values_of plan (Invoke (Some b) u) = prelog_length plan b + unit_length plan u
+values_of plan (Back b None) = returned_length plan b
+values_of plan (Back b (Some u)) = returned_length plan b + unit_length plan u
+values_of plan (P s u) = unit_length plan u
+values_of plan (V s u) = unit_length plan u
+values_of plan (Send c v u) = unit_length plan u
+values_of plan (Recv c u) = unit_length plan u
+values_of plan need = 0
+
+abbrev pub cost : Plan → Need → ℕ
+cost plan need = 1 + values_of plan need
+
+-- the need, where its step can still be paid for
+abbrev pub within_budget : Plan → Proc → Need → Need
+within_budget plan s need = if nat_lt s.budget (s.spent + cost plan need) then Budget else need
+
+abbrev pub need_of_running : Program → Plan → List Todo → Proc → Need
+need_of_running program plan [] s = Stopped
+need_of_running program plan (t ∷ ts) s = within_budget plan s (need_of_head program plan t s)
+
+abbrev pub need_by_status : Program → Plan → Option Status → Proc → Need
+need_by_status program plan (Some _) s = Stopped
+need_by_status program plan None s = need_of_running program plan s.todo s
+
+-- what the next step needs
+abbrev pub need_of : Program → Plan → Proc → Need
+need_of program plan s = need_by_status program plan s.status s
+
+-- ---- frames and statements
+
+abbrev pub todos : List ℕ → List Todo
+todos stmts = map (λ s. record { stmt = s; entered = false }) stmts
+
+abbrev pub write_top : ℕ → ℤ → List Frame → List Frame
+write_top c v [] = []
+write_top c v (f ∷ fs) = record f { cells = slice_set f.cells c v } ∷ fs
+
+abbrev pub clear_cells : ℕ → ℕ → List ℤ → List ℤ
+clear_cells base zero cells = cells
+clear_cells base (suc n) cells = slice_set (clear_cells base n cells) (base + n) (pos 0)
+
+abbrev pub clear_top : ℕ → ℕ → List Frame → List Frame
+clear_top base len [] = []
+clear_top base len (f ∷ fs) = record f { cells = clear_cells base len f.cells } ∷ fs
+
+abbrev pub top_of : Option Body → List ℕ
+top_of None = []
+top_of (Some b) = b.top
+
+abbrev pub cells_for : Option Body → List ℤ → List ℤ
+cells_for None values = values
+cells_for (Some b) values = values ++ replicate (b.cells - length values) (pos 0)
+
+-- the parameters' values, and zeros
+abbrev pub new_frame : Program → ℕ → List ℤ → Option ℕ → Frame
+new_frame program f values call = record { body = f; cells = cells_for (slice_get program.bodies f) values; call = call }
+
+abbrev pub into_of : Kind → Option ℕ
+into_of (kind.Call f arguments into) = into
+into_of k = None
+
+abbrev pub receive_at : Option ℕ → Option ℤ → List Frame → List Frame
+receive_at (Some c) (Some v) frames = write_top c v frames
+receive_at into value frames = frames
+
+abbrev pub returned_from : Program → Option ℕ → Option ℤ → List Frame → List Frame
+returned_from program None value fs = fs
+returned_from program (Some c) value fs = receive_at (into_of (kind_of program c)) value fs
+
+-- the frames after a return, which writes the receiving local of the caller
+abbrev pub returned : Program → Option ℤ → List Frame → List Frame
+returned program value [] = []
+returned program value (f ∷ fs) = returned_from program f.call value fs
+
+-- ---- the step
+
+abbrev pub value_of : Answer → ℤ
+value_of (Value v) = v
+value_of Go = pos 0
+
+-- t is the head, and ts what is to do after it
+abbrev pub act_by_deed : Program → Answer → Todo → List Todo → Deed → Proc → Proc
+act_by_deed program a t ts (set_local c v) s = record s { todo = ts; frames = write_top c v s.frames }
+act_by_deed program a t ts (clear base len) s = record s { todo = ts; frames = clear_top base len s.frames }
+act_by_deed program a t ts (branch stmts) s = record s { todo = todos stmts ++ ts }
+act_by_deed program a t ts (turn stmts) s = record s { todo = todos stmts ++ t ∷ ts }
+act_by_deed program a t ts (invoke f values into) s =
+    record s {
+      todo = todos (top_of (slice_get program.bodies f)) ++ ts;
+      frames = new_frame program f values (Some t.stmt) ∷ s.frames }
+act_by_deed program a t ts (back value) s = record s { todo = ts; frames = returned program value s.frames }
+act_by_deed program a t ts (receive chan into) s = record s { todo = ts; frames = write_top into (value_of a) s.frames }
+act_by_deed program a t ts (print v) s = record s { todo = ts; prints = s.prints ++ v ∷ [] }
+act_by_deed program a t ts finish s = record s { todo = ts; status = Some status.Ended }
+act_by_deed program a t ts deed s = record s { todo = ts }
+
+-- a statement that finishes drops its answers
+abbrev pub act_by_asked : Program → Answer → Todo → List Todo → Asked Deed → Proc → Proc
+act_by_asked program a t ts (Ok p) s = act_by_deed program a t ts p.0 (record s { answers = [] })
+act_by_asked program a t ts (Err (Wants cell)) s = record s { answers = s.answers ++ value_of a ∷ [] }
+act_by_asked program a t ts (Err (Traps trap)) s = record s { status = Some (status.Trap trap) }
+
+abbrev pub charged : Plan → Need → Proc → Proc
+charged plan need s = record s { spent = s.spent + cost plan need; steps = s.steps + 1 }
+
+abbrev pub act_by_need : Program → Plan → Answer → Todo → List Todo → Need → Proc → Proc
+act_by_need program plan a t ts Stopped s = s
+act_by_need program plan a t ts Budget s = record s { status = Some status.Budget }
+act_by_need program plan a t ts (Enter b u) s =
+    charged plan (Enter b u) (record s { todo = record t { entered = true } ∷ ts })
+act_by_need program plan a t ts (Trap trap) s = charged plan (Trap trap) (record s { status = Some (status.Trap trap) })
+act_by_need program plan a t ts need s = charged plan need (act_by_asked program a t ts (head_deed program t s) s)
+
+abbrev pub act_at : Program → Plan → Answer → List Todo → Proc → Proc
+act_at program plan a [] s = s
+act_at program plan a (t ∷ ts) s = act_by_need program plan a t ts (need_of program plan s) s
+
+-- the state after the next step, which this answer is given
+abbrev pub act : Program → Plan → Proc → Answer → Proc
+act program plan s a = act_at program plan a s.todo s
+
+-- ---- the start
+
+abbrev pub started_in : Program → ℕ → ℕ → Proc
+started_in program body budget = record {
+  frames = new_frame program body [] None ∷ [];
+  todo = todos (top_of (slice_get program.bodies body));
+  answers = [];
+  below = 0;
+  budget = budget;
+  spent = 0;
+  steps = 0;
+  prints = [];
+  status = None;
+}
+
+-- a process before its first step: the processes are the bodies after the functions
+abbrev pub started : Program → Plan → ℕ → ℕ → Proc
+started program plan process budget = started_in program (program.functions + process) budget

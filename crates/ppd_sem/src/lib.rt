@@ -1,0 +1,20 @@
+//! One process: what its next step needs, and the step that it takes.
+#![tactic(auto)]
+
+mod asking;
+mod eval;
+mod event;
+mod feeding;
+mod looking;
+mod proc;
+mod stack;
+mod starting;
+mod tables;
+
+pub use asking::{Pause, ask};
+pub use event::{Access, Event, Spot};
+pub use feeding::feed;
+pub use looking::look;
+pub use ppd_ast::{Status, SyncKind, Trap};
+pub use proc::{Answer, Frame, Need, Proc, Todo};
+pub use stack::Stack;
