@@ -3,9 +3,11 @@
 #![tactic(auto)]
 
 mod adapters;
+mod calls;
 mod entries;
 mod gate;
 mod host;
+mod memory;
 mod put;
 mod shelf;
 mod sink;
@@ -15,8 +17,12 @@ mod steady;
 pub use adapters::{StdSink, StdSource};
 pub use gate::{FreeGate, Gate};
 pub use host::HostShelf;
+pub use memory::{MemoryShelf, MemorySink, MemorySource};
 pub use put::put_all;
 pub use shelf::{Shelf, ShelfError};
 pub use sink::{Failed, Sink};
 pub use source::Source;
 pub use steady::{SteadyShelf, SteadySink, SteadySource};
+
+#[cfg(test)]
+mod tests;
