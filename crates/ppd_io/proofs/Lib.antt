@@ -1,0 +1,2 @@
+pub mod EntryPlaces
+pub mod Prefixes

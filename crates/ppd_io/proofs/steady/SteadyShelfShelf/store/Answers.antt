@@ -1,0 +1,13 @@
+use Rattle.std.specs.Prelude.{unwrap_or}
+use Rattle.std.proofs.Common.{ap, [], Some, ◌∙◌}
+use Rattle.ppd_io.specs.Entries.{find_entry}
+use Rattle.ppd_io.proofs.EntryPlaces.{find-put_same, find-put_other}
+use Rattle.ppd_io.proofs.steady.SteadyShelfShelf.store.Goals as goal
+
+pub returns-clause-bytes : goal.returns-clause-bytes
+returns-clause-bytes c =
+    ap (λ es. Some (unwrap_or (find_entry es c.args.name.now) [])) c.in-Ok.ensures.ok ∙ ap (λ o. Some (unwrap_or o [])) (find-put_same c.self.inside.entries c.args.name.now c.args.bytes.now)
+
+pub returns-clause-others : goal.returns-clause-others
+returns-clause-others c = λ n ne.
+    ap (λ es. Some (unwrap_or (find_entry es n) [])) c.in-Ok.ensures.ok ∙ (ap (λ o. Some (unwrap_or o [])) (find-put_other c.self.inside.entries c.args.name.now c.args.bytes.now n ne) ∙ ap (λ es. Some (unwrap_or (find_entry es n) [])) c.self.view_is)

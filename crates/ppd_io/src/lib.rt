@@ -1,0 +1,28 @@
+//! Bytes in and out: where they are read, written and kept by name, with counts of faults,
+//! over the system, over memory, and over memory with faults at chosen calls.
+#![tactic(auto)]
+
+mod adapters;
+mod calls;
+mod entries;
+mod gate;
+mod host;
+mod memory;
+mod put;
+mod shelf;
+mod sink;
+mod source;
+mod steady;
+
+pub use adapters::{StdSink, StdSource};
+pub use gate::{FreeGate, Gate};
+pub use host::HostShelf;
+pub use memory::{MemoryShelf, MemorySink, MemorySource};
+pub use put::put_all;
+pub use shelf::{Shelf, ShelfError};
+pub use sink::{Failed, Sink};
+pub use source::Source;
+pub use steady::{SteadyShelf, SteadySink, SteadySource};
+
+#[cfg(test)]
+mod tests;
