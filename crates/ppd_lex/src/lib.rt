@@ -1,6 +1,8 @@
 //! The tokens of a source, or its first lexical fault.
 #![tactic(auto)]
 
+mod front;
+mod text;
 mod token;
 
 pub use token::{LexError, Token, TokenKind};
