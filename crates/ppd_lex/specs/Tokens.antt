@@ -6,9 +6,9 @@ use Rattle.ppd_lex.specs.declared.token.TokenKind.{TokenKind}
 use Rattle.ppd_lex.specs.declared.token.TokenKind.TheVariants.{End}
 use Rattle.ppd_lex.specs.declared.token.LexError.{LexError}
 use Rattle.ppd_lex.specs.declared.token.LexError.TheVariants as E
-use Rattle.ppd_lex.specs.declared.front.Fault.{Fault}
-use Rattle.ppd_lex.specs.declared.front.Fault.TheVariants as F
-use Rattle.ppd_lex.specs.declared.front.Front.TheVariants.{Gap, Read, Bad}
+use Rattle.ppd_lex.specs.declared.scan.Fault.{Fault}
+use Rattle.ppd_lex.specs.declared.scan.Fault.TheVariants as F
+use Rattle.ppd_lex.specs.declared.scan.Piece.TheVariants.{Gap, Read, Bad}
 use Rattle.ppd_lex.specs.Front.{front}
 
 abbrev pub origin : Place

@@ -1,7 +1,7 @@
 //! The tokens of a source, or its first lexical fault.
 #![tactic(auto)]
 
-mod front;
+mod scan;
 mod text;
 mod token;
 

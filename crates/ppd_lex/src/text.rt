@@ -1,7 +1,8 @@
 // Classes of bytes, the tables of keywords and marks, and what some bytes are.
-ghost use Rattle.std.specs.Prelude.{◌≡◌, not, nat_eq, map};
+ghost use Rattle.std.specs.Prelude.{◌≡◌, ◌<◌, ◌≤◌, ◌+◌, ◌^◌, length, not, nat_eq, position, IfSome};
 ghost use Rattle.std.specs.List.{prefix_len};
-ghost use Rattle.ppd_lex.specs.Front.{is_space, is_digit, is_letter, is_name_byte, keywords, marks, number_in};
+ghost use Rattle.std.specs.Str.{bytes_eq};
+ghost use Rattle.ppd_lex.specs.Front.{is_space, is_digit, is_letter, is_name_byte, keywords, marks, number_in, value_of, number_of, close_from};
 
 // Each keyword at its number.
 const KEYWORDS: [&str; 17] = [
@@ -42,7 +43,8 @@ fn is_name_byte(b: u8) -> bool
 
 // How many bytes at the front may stand in a name.
 pub fn name_len(bytes: &[u8]) -> usize
-    ensures { result ≡ prefix_len is_name_byte bytes.now }
+    ensures len { result ≡ prefix_len is_name_byte bytes.now }
+    ensures within { result ≤ length bytes.now }
 {
     bytes.iter().take_while(|b| is_name_byte(**b)).count()
 }
@@ -54,16 +56,66 @@ pub fn line_len(bytes: &[u8]) -> usize
     bytes.iter().take_while(|b| **b != b'\n').count()
 }
 
+// At which number of the table the text stands.
+fn number_in(table: &[&str], text: &[u8]) -> Option<usize>
+    ensures { result ≡ position (λ entry. bytes_eq entry.now text.now) table.now }
+{
+    table.iter().position(|entry| entry.as_bytes() == text)
+}
+
 // The number of the keyword that these bytes are.
-pub fn keyword(text: &[u8]) -> Option<usize>
+pub fn keyword(text: &[u8]) -> Option<u8>
     ensures { result ≡ number_in keywords text.now }
 {
-    KEYWORDS.iter().position(|entry| entry.as_bytes() == text)
+    number_in(&KEYWORDS, text).map(|number| number as u8)
 }
 
 // The number of the mark that these bytes are.
-pub fn mark(text: &[u8]) -> Option<usize>
+pub fn mark(text: &[u8]) -> Option<u8>
     ensures { result ≡ number_in marks text.now }
 {
-    MARKS.iter().position(|entry| entry.as_bytes() == text)
+    number_in(&MARKS, text).map(|number| number as u8)
+}
+
+// The number that digits write, where it is at most 9223372036854775807.
+fn value_of(digits: &[u8]) -> Option<u64>
+    ensures value { result ≡ value_of digits.now }
+    ensures small { IfSome result (λ value. value < 2 ^ 63) }
+{
+    let mut value: u64 = 0;
+    for b in digits {
+        if !is_digit(*b) {
+            return None;
+        }
+        let digit = u64::from(*b - b'0');
+        if value > (0x7fff_ffff_ffff_ffff - digit) / 10 {
+            return None;
+        }
+        value = value * 10 + digit;
+    }
+    Some(value)
+}
+
+// The number that the text is, which has no needless 0.
+pub fn number_of(text: &[u8]) -> Option<u64>
+    ensures number { result ≡ number_of text.now }
+    ensures small { IfSome result (λ value. value < 2 ^ 63) }
+{
+    match text {
+        [] | [b'0', _, ..] => None,
+        _ => value_of(text),
+    }
+}
+
+// How many bytes there are up to the first `*/` and with it, after `before` bytes.
+pub fn close_from(before: usize, bytes: &[u8]) -> Option<usize>
+    requires { before + length bytes.now < 2 ^ 63 }
+    ensures { result ≡ close_from before bytes.now }
+{
+    for i in 0..bytes.len() {
+        if bytes[i..].starts_with(b"*/") {
+            return Some(before + i + 2);
+        }
+    }
+    None
 }
