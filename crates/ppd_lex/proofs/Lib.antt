@@ -1,2 +1,3 @@
 pub mod Comments
 pub mod Numbers
+pub mod Places
