@@ -1,5 +1,5 @@
 -- Places in a source.
-use Rattle.std.proofs.Common.{◌≡◌, ◌<◌, ◌≤◌, ℕ, ◌+◌, ◌-◌, ◌^◌, List, [], ◌∷◌, ◌++◌, length, drop, take, get_or, Bool, true, false, cond, refl, sym, ◌∙◌, ap, arith, drop-cons, add-one, nat_eq, length-take}
+use Rattle.std.proofs.Common.{◌≡◌, ◌<◌, ◌≤◌, ℕ, ◌+◌, ◌-◌, List, [], ◌∷◌, ◌++◌, length, drop, take, get_or, Bool, true, false, cond, refl, sym, ◌∙◌, ap, arith, drop-cons, add-one, nat_eq, length-take}
 use Rattle.std.proofs.Math.Seq.{take-add}
 use Rattle.ppd_ast.specs.declared.program.Place.{Place}
 use Rattle.ppd_lex.specs.Tokens.{after_bytes, after_byte, place_of, origin}

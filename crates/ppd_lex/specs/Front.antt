@@ -1,10 +1,9 @@
 -- What stands at the front of some bytes: a gap, a token or a fault.
-use Rattle.std.specs.Prelude.{ℕ, pos, ◌+◌, ◌-◌, ◌*◌, ◌^◌, List, [], ◌∷◌, length, drop, Bool, false, not, ◌&&◌, ◌||◌, nat_eq, nat_lt, nat_le, if◌then◌else◌, Option, Some, None, take_while, position, codes}
+use Rattle.std.specs.Prelude.{ℕ, pos, ◌+◌, ◌-◌, ◌*◌, ◌^◌, List, [], ◌∷◌, length, drop, Bool, not, ◌&&◌, ◌||◌, nat_eq, nat_lt, nat_le, if◌then◌else◌, Option, Some, None, take_while, position, codes}
 use Rattle.std.specs.List.{list_all, prefix_len, starts_with}
 use Rattle.std.specs.Str.{bytes_eq}
 use Rattle.ppd_lex.specs.declared.token.TokenKind.{TokenKind}
 use Rattle.ppd_lex.specs.declared.token.TokenKind.TheVariants.{Name, Number, Word, Mark}
-use Rattle.ppd_lex.specs.declared.scan.Fault.{Fault}
 use Rattle.ppd_lex.specs.declared.scan.Fault.TheVariants.{BadByte, BadNumber, OpenComment, LongName}
 use Rattle.ppd_lex.specs.declared.scan.Piece.{Piece}
 use Rattle.ppd_lex.specs.declared.scan.Piece.TheVariants.{Gap, Read, Bad}

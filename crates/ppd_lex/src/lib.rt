@@ -9,11 +9,10 @@ mod scan;
 mod text;
 mod token;
 
-pub use token::{LexError, Token, TokenKind};
-
 use ppd_ast::Place;
 use scan::{Fault, Piece, front};
 use std::alloc::Global;
+pub use token::{LexError, Token, TokenKind};
 
 // The most bytes of a source.
 const MOST_BYTES: usize = 262_144;

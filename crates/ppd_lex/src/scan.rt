@@ -2,7 +2,9 @@
 ghost use Rattle.std.specs.Prelude.{◌≡◌, ◌<◌, ◌+◌, ◌^◌, length, IfOk};
 ghost use Rattle.ppd_lex.specs.Front.{front, read_word, read_number, read_block, read_mark, close_from};
 
-use crate::text::{close_from, is_digit, is_letter, is_space, keyword, line_len, mark, name_len, number_of};
+use crate::text::{
+    close_from, is_digit, is_letter, is_space, keyword, line_len, mark, name_len, number_of,
+};
 use crate::token::TokenKind;
 use ppd_ast::Bytes;
 use std::alloc::{AllocError, Global};

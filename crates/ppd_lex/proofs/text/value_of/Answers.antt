@@ -1,8 +1,6 @@
-use Rattle.std.proofs.Common.{◌≡◌, ◌<◌, ◌≤◌, ◌+◌, ◌-◌, ◌*◌, ◌^◌, ◌&&◌, sym, ◌∙◌, ap, subst, arith, take, get_or, length, true, refl, Some}
-use Rattle.std.specs.List.{list_all}
-use Rattle.std.proofs.Math.Seq.{take-length}
+use Rattle.std.proofs.Common.{◌+◌, ◌&&◌, sym, ◌∙◌, ap, arith, get_or}
 use Rattle.std.proofs.lemmas.List.Folds.{list_all_at, list_all_more}
-use Rattle.ppd_lex.specs.Front.{value_from, is_digit, value_of}
+use Rattle.ppd_lex.specs.Front.{is_digit}
 use Rattle.ppd_lex.proofs.Numbers.{value_next, value_front, too_great, digit_small, not_digits, all_digits}
 use Rattle.ppd_lex.proofs.text.value_of.Goals as goal
 
