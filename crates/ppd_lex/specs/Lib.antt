@@ -1,4 +1,5 @@
 -- The tokens of a source, or its first lexical fault.
 pub mod Front
 pub mod Formed
+pub mod Gaps
 pub mod Tokens
