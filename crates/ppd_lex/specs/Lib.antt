@@ -1,1 +1,5 @@
--- Tokens.
+-- The tokens of a source, or its first lexical fault.
+pub mod Front
+pub mod Formed
+pub mod Gaps
+pub mod Tokens

@@ -1,4 +1,8 @@
+ghost use Rattle.std.specs.Prelude.{◌≡◌};
+ghost use Rattle.ppd_lex.specs.declared.token.LexError.TheVariants.{Memory};
+
 use ppd_ast::{Bytes, Place};
+use std::alloc::{AllocError, AllocFailed};
 
 /// What a token is. Keywords and marks are numbered from 0, in the order of the language's table.
 #[derive(Drop, Debug, Clone, PartialEq)]
@@ -39,4 +43,20 @@ pub enum LexError {
     LongName(Place),
     /// Want of memory.
     Memory,
+}
+
+impl From<AllocError> for LexError {
+    ghost from_gives = { λ _ e. e ≡ Memory };
+
+    fn from(_error: AllocError) -> Self {
+        LexError::Memory
+    }
+}
+
+impl<T: Drop> From<AllocFailed<T>> for LexError {
+    ghost from_gives = { λ _ e. e ≡ Memory };
+
+    fn from(_error: AllocFailed<T>) -> Self {
+        LexError::Memory
+    }
 }

@@ -1,0 +1,45 @@
+-- Numbers, one digit at a time.
+use Rattle.std.proofs.Common.{◌≡◌, ◌<◌, ◌≤◌, ℕ, ◌+◌, ◌-◌, ◌*◌, List, [], ◌∷◌, ◌++◌, length, drop, take, get_or, true, false, sym, ◌∙◌, ap, arith, ◌^◌, Some, None, refl, take_all}
+use Rattle.std.specs.List.{list_all}
+use Rattle.std.proofs.lemmas.List.{take_more, take-append-drop}
+use Rattle.std.proofs.lemmas.Bool.Decides.{nat_tests}
+use Rattle.ppd_lex.specs.Front.{value_from, is_digit, value_of}
+
+value_rises : (n : ℕ) (bs : List ℕ) → n ≤ value_from n bs
+value_rises n [] = omega arith
+value_rises n (b ∷ bs) = let h = value_rises (10 * n + (b - 48)) bs in omega arith
+
+value_append : (n : ℕ) (xs bs : List ℕ) → value_from n (xs ++ bs) ≡ value_from (value_from n xs) bs
+value_append n [] bs = refl
+value_append n (x ∷ xs) bs = value_append (10 * n + (x - 48)) xs bs
+
+pub value_next : (bs : List ℕ) (i : ℕ) → i < length bs → value_from 0 (take (i + 1) bs) ≡ 10 * value_from 0 (take i bs) + (get_or bs i 0 - 48)
+value_next bs i h = ap (value_from 0) (take_more bs i 0 h) ∙ value_append 0 (take i bs) (get_or bs i 0 ∷ [])
+
+pub value_front : (bs : List ℕ) (i : ℕ) → value_from 0 (take i bs) ≤ value_from 0 bs
+value_front bs i =
+    let e = ap (value_from 0) (take-append-drop i bs) in
+    let a = value_append 0 (take i bs) (drop i bs) in
+    let h = value_rises (value_from 0 (take i bs)) (drop i bs) in
+    omega arith
+
+pub not_digits : (bs : List ℕ) → list_all is_digit bs ≡ false → value_of bs ≡ None
+unfolding value_of
+not_digits bs h = grind (arith, nat_tests)
+
+pub too_great : (bs : List ℕ) → 2 ^ 63 ≤ value_from 0 bs → value_of bs ≡ None
+unfolding value_of
+too_great bs h = grind (arith, nat_tests)
+
+pub value_is : (bs : List ℕ) → list_all is_digit bs ≡ true → value_from 0 bs < 2 ^ 63 → value_of bs ≡ Some (value_from 0 bs)
+unfolding value_of
+value_is bs p v = grind (arith, nat_tests)
+
+pub digit_small : (b : ℕ) → is_digit b ≡ true → (48 ≤ b) × (b - 48 ≤ 9)
+digit_small b h = (grind (arith, nat_tests), grind (arith, nat_tests))
+
+pub all_digits : (bs : List ℕ) (i value : ℕ) → length bs ≤ i → list_all is_digit (take i bs) ≡ true → value ≡ value_from 0 (take i bs) → value < 2 ^ 63 → value_of bs ≡ Some value
+all_digits bs i value l p e v =
+    let whole : take i bs ≡ bs = take_all i bs l in
+    let is : value ≡ value_from 0 bs = e ∙ ap (value_from 0) whole in
+    value_is bs (sym (ap (list_all is_digit) whole) ∙ p) (omega (arith, is)) ∙ ap Some (sym is)

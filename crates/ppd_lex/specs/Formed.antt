@@ -1,0 +1,47 @@
+-- What the tokens of every source are.
+use Rattle.std.specs.Prelude.{◌≡◌, ◌≢◌, ◌<◌, ◌≤◌, ℕ, pos, negsuc, ◌^◌, List, [], ◌∷◌, length, All}
+use Rattle.ppd_ast.specs.declared.program.Place.{Place}
+use Rattle.ppd_lex.specs.declared.token.Token.{Token}
+use Rattle.ppd_lex.specs.declared.token.TokenKind.{TokenKind}
+use Rattle.ppd_lex.specs.declared.token.TokenKind.TheVariants.{Name, Number, Word, Mark, End}
+
+-- a name of 1 to 64 bytes, a number of 0 to 9223372036854775807, one of the 17 keywords or 27 marks, or the end
+abbrev pub IsKind : TokenKind → Type 0
+IsKind (Name text) = (1 ≤ length text) × (length text ≤ 64)
+IsKind (Number (pos n)) = n < 2 ^ 63
+IsKind (Number (negsuc n)) = ⊥
+IsKind (Word n) = n < 17
+IsKind (Mark n) = n < 27
+IsKind End = Unit {0}
+
+-- lines and columns count from 1, and fit i32
+pub record IsPlace (p : Place) : Type 0 where
+  pub line_least : 1 ≤ p.line
+  pub line_most : p.line < 2 ^ 31
+  pub column_least : 1 ≤ p.column
+  pub column_most : p.column < 2 ^ 31
+
+-- a token of a source of len bytes
+pub record IsFormed (len : ℕ) (t : Token) : Type 0 where
+  pub kind : IsKind t.kind
+  pub place : IsPlace t.place
+  pub order : t.from ≤ t.to
+  pub within : t.to ≤ len
+
+-- the last token, and no other, is the end
+abbrev pub EndOnce : List Token → Type 0
+EndOnce [] = ⊥
+EndOnce (t ∷ []) = t.kind ≡ End
+EndOnce (t ∷ (u ∷ us)) = (t.kind ≢ End) × EndOnce (u ∷ us)
+
+-- each token begins where the one before it ends or later, the first at byte i or later; all but the last have a byte
+abbrev pub Rise : ℕ → List Token → Type 0
+Rise i [] = Unit {0}
+Rise i (t ∷ []) = i ≤ t.from
+Rise i (t ∷ (u ∷ us)) = (i ≤ t.from) × (t.from < t.to) × Rise t.to (u ∷ us)
+
+-- tokens of a source of len bytes
+pub record AreFormed (len : ℕ) (tokens : List Token) : Type 0 where
+  pub each : All (IsFormed len) tokens
+  pub ends : EndOnce tokens
+  pub rise : Rise 0 tokens

@@ -1,0 +1,104 @@
+-- What stands at the front of some bytes: a gap, a token or a fault.
+use Rattle.std.specs.Prelude.{ℕ, pos, ◌+◌, ◌-◌, ◌*◌, ◌^◌, List, [], ◌∷◌, length, drop, Bool, not, ◌&&◌, ◌||◌, nat_eq, nat_lt, nat_le, if◌then◌else◌, Option, Some, None, take_while, position, codes}
+use Rattle.std.specs.List.{list_all, prefix_len, starts_with}
+use Rattle.std.specs.Str.{bytes_eq}
+use Rattle.ppd_lex.specs.declared.token.TokenKind.{TokenKind}
+use Rattle.ppd_lex.specs.declared.token.TokenKind.TheVariants.{Name, Number, Word, Mark}
+use Rattle.ppd_lex.specs.declared.scan.Fault.TheVariants.{BadByte, BadNumber, OpenComment, LongName}
+use Rattle.ppd_lex.specs.declared.scan.Piece.{Piece}
+use Rattle.ppd_lex.specs.declared.scan.Piece.TheVariants.{Gap, Read, Bad}
+
+abbrev pub is_space : ℕ → Bool
+is_space b = (nat_le 9 b && nat_le b 13) || nat_eq b 32
+
+abbrev pub is_digit : ℕ → Bool
+is_digit b = nat_le 48 b && nat_le b 57
+
+-- a letter or _
+abbrev pub is_letter : ℕ → Bool
+is_letter b = (nat_le 65 b && nat_le b 90) || ((nat_le 97 b && nat_le b 122) || nat_eq b 95)
+
+abbrev pub is_name_byte : ℕ → Bool
+is_name_byte b = is_letter b || is_digit b
+
+-- the keywords and the marks, each at its number
+abbrev pub keywords : List (List ℕ)
+keywords =
+    codes "shared" ∷ codes "int" ∷ codes "void" ∷ codes "sem" ∷ codes "chan" ∷ codes "process" ∷ codes "if" ∷ codes "else" ∷ codes "while" ∷ codes "for" ∷ codes "return" ∷ codes "P" ∷ codes "V" ∷ codes "send" ∷ codes "recv" ∷ codes "print" ∷ codes "assert" ∷ []
+
+abbrev pub marks : List (List ℕ)
+marks =
+    codes "||" ∷ codes "&&" ∷ codes "==" ∷ codes "!=" ∷ codes "<=" ∷ codes ">=" ∷ codes "<" ∷ codes ">" ∷ codes "+" ∷ codes "-" ∷ codes "*" ∷ codes "/" ∷ codes "%" ∷ codes "!" ∷ codes "=" ∷ codes "+=" ∷ codes "-=" ∷ codes "++" ∷ codes "--" ∷ codes "(" ∷ codes ")" ∷ codes "{" ∷ codes "}" ∷ codes "[" ∷ codes "]" ∷ codes ";" ∷ codes "," ∷ []
+
+-- at which number of the table the text stands
+abbrev pub number_in : List (List ℕ) → List ℕ → Option ℕ
+number_in table text = position (λ entry. bytes_eq entry text) table
+
+-- the number that decimal digits write, after those that write n
+abbrev pub value_from : ℕ → List ℕ → ℕ
+value_from n [] = n
+value_from n (b ∷ bs) = value_from (10 * n + (b - 48)) bs
+
+-- the number that digits write, where it is at most 9223372036854775807
+unfoldable pub value_of : List ℕ → Option ℕ
+value_of text = if list_all is_digit text && nat_lt (value_from 0 text) (2 ^ 63) then Some (value_from 0 text) else None
+
+-- the number that the text is, which has no needless 0
+abbrev pub number_of : List ℕ → Option ℕ
+number_of [] = None
+number_of (b ∷ []) = value_of (b ∷ [])
+number_of (b ∷ (c ∷ cs)) = if nat_eq b 48 then None else value_of (b ∷ (c ∷ cs))
+
+-- how many bytes there are up to the first `*/` and with it, after n bytes
+abbrev pub close_from : ℕ → List ℕ → Option ℕ
+close_from n [] = None
+close_from n (b ∷ bs) = if starts_with nat_eq (b ∷ bs) (codes "*/") then Some (n + 2) else close_from (n + 1) bs
+
+-- the keyword or the name that this text is
+abbrev pub word_kind : Option ℕ → List ℕ → TokenKind
+word_kind (Some number) text = Word number
+word_kind None text = Name text
+
+-- letters, digits and _ that begin with no digit
+abbrev pub read_word : List ℕ → Piece
+read_word text = if nat_lt 64 (length text) then Bad LongName else Read (length text) (word_kind (number_in keywords text) text)
+
+-- a number of n bytes
+abbrev pub read_value : ℕ → Option ℕ → Piece
+read_value n (Some value) = Read n (Number (pos value))
+read_value n None = Bad BadNumber
+
+-- letters, digits and _ that begin with a digit
+abbrev pub read_number : List ℕ → Piece
+read_number text = read_value (length text) (number_of text)
+
+-- a comment up to its end
+abbrev pub read_block : Option ℕ → Piece
+read_block (Some n) = Gap n
+read_block None = Bad OpenComment
+
+-- the mark of this one byte
+abbrev pub read_single : Option ℕ → Piece
+read_single (Some number) = Read 1 (Mark number)
+read_single None = Bad BadByte
+
+-- the mark of two bytes, or else that of the first of them
+abbrev pub read_pair : Option ℕ → ℕ → Piece
+read_pair (Some number) b = Read 2 (Mark number)
+read_pair None b = read_single (number_in marks (b ∷ []))
+
+-- the longest mark that begins with b
+abbrev pub read_mark : ℕ → List ℕ → Piece
+read_mark b [] = read_single (number_in marks (b ∷ []))
+read_mark b (c ∷ cs) = read_pair (number_in marks (b ∷ c ∷ [])) b
+
+-- What stands at the front. No byte is no token.
+abbrev pub front : List ℕ → Piece
+front [] = Bad BadByte
+front (b ∷ bs) =
+    if is_space b then Gap 1
+    else (if is_letter b then read_word (take_while is_name_byte (b ∷ bs))
+    else (if is_digit b then read_number (take_while is_name_byte (b ∷ bs))
+    else (if starts_with nat_eq (b ∷ bs) (codes "//") then Gap (prefix_len (λ c. not (nat_eq c 10)) (b ∷ bs))
+    else (if starts_with nat_eq (b ∷ bs) (codes "/*") then read_block (close_from 2 (drop 2 (b ∷ bs)))
+    else read_mark b bs))))

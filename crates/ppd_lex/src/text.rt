@@ -1,0 +1,121 @@
+// Classes of bytes, the tables of keywords and marks, and what some bytes are.
+ghost use Rattle.std.specs.Prelude.{◌≡◌, ◌<◌, ◌≤◌, ◌+◌, ◌^◌, length, not, nat_eq, position, IfSome};
+ghost use Rattle.std.specs.List.{prefix_len};
+ghost use Rattle.std.specs.Str.{bytes_eq};
+ghost use Rattle.ppd_lex.specs.Front.{is_space, is_digit, is_letter, is_name_byte, keywords, marks, number_in, value_of, number_of, close_from};
+
+// Each keyword at its number.
+const KEYWORDS: [&str; 17] = [
+    "shared", "int", "void", "sem", "chan", "process", "if", "else", "while", "for", "return", "P",
+    "V", "send", "recv", "print", "assert",
+];
+
+// Each mark at its number.
+const MARKS: [&str; 27] = [
+    "||", "&&", "==", "!=", "<=", ">=", "<", ">", "+", "-", "*", "/", "%", "!", "=", "+=", "-=",
+    "++", "--", "(", ")", "{", "}", "[", "]", ";", ",",
+];
+
+pub fn is_space(b: u8) -> bool
+    ensures { result ≡ is_space b }
+{
+    (9..=13).contains(&b) || b == b' '
+}
+
+pub fn is_digit(b: u8) -> bool
+    ensures { result ≡ is_digit b }
+{
+    b.is_ascii_digit()
+}
+
+// A letter or `_`.
+pub fn is_letter(b: u8) -> bool
+    ensures { result ≡ is_letter b }
+{
+    b.is_ascii_alphabetic() || b == b'_'
+}
+
+fn is_name_byte(b: u8) -> bool
+    ensures { result ≡ is_name_byte b }
+{
+    is_letter(b) || is_digit(b)
+}
+
+// How many bytes at the front may stand in a name.
+pub fn name_len(bytes: &[u8]) -> usize
+    ensures len { result ≡ prefix_len is_name_byte bytes.now }
+    ensures within { result ≤ length bytes.now }
+{
+    bytes.iter().take_while(|b| is_name_byte(**b)).count()
+}
+
+// How many bytes stand before the end of the line.
+pub fn line_len(bytes: &[u8]) -> usize
+    ensures { result ≡ prefix_len (λ b. not (nat_eq b 10)) bytes.now }
+{
+    bytes.iter().take_while(|b| **b != b'\n').count()
+}
+
+// At which number of the table the text stands.
+fn number_in(table: &[&str], text: &[u8]) -> Option<usize>
+    ensures { result ≡ position (λ entry. bytes_eq entry.now text.now) table.now }
+{
+    table.iter().position(|entry| entry.as_bytes() == text)
+}
+
+// The number of the keyword that these bytes are.
+pub fn keyword(text: &[u8]) -> Option<u8>
+    ensures { result ≡ number_in keywords text.now }
+{
+    number_in(&KEYWORDS, text).map(|number| number as u8)
+}
+
+// The number of the mark that these bytes are.
+pub fn mark(text: &[u8]) -> Option<u8>
+    ensures { result ≡ number_in marks text.now }
+{
+    number_in(&MARKS, text).map(|number| number as u8)
+}
+
+// The number that digits write, where it is at most 9223372036854775807.
+fn value_of(digits: &[u8]) -> Option<u64>
+    ensures value { result ≡ value_of digits.now }
+    ensures small { IfSome result (λ value. value < 2 ^ 63) }
+{
+    let mut value: u64 = 0;
+    for b in digits {
+        if !is_digit(*b) {
+            return None;
+        }
+        let digit = u64::from(*b - b'0');
+        if value > (0x7fff_ffff_ffff_ffff - digit) / 10 {
+            return None;
+        }
+        value = value * 10 + digit;
+    }
+    Some(value)
+}
+
+// The number that the text is, which has no needless 0.
+pub fn number_of(text: &[u8]) -> Option<u64>
+    ensures number { result ≡ number_of text.now }
+    ensures small { IfSome result (λ value. value < 2 ^ 63) }
+{
+    match text {
+        [] | [b'0', _, ..] => None,
+        _ => value_of(text),
+    }
+}
+
+// How many bytes there are up to the first `*/` and with it, after `before` bytes.
+pub fn close_from(before: usize, bytes: &[u8]) -> Option<usize>
+    requires { before + length bytes.now < 2 ^ 63 }
+    ensures { result ≡ close_from before bytes.now }
+{
+    for i in 0..bytes.len() {
+        if bytes[i..].starts_with(b"*/") {
+            return Some(before + i + 2);
+        }
+    }
+    None
+}
