@@ -5,3 +5,8 @@ pub mod StepsRead
 pub mod Reached
 pub mod ReachedNames
 pub mod Tables
+pub mod Changes
+pub mod Runs
+pub mod WorldSteps
+pub mod Each
+pub mod OneProcess

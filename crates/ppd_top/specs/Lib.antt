@@ -3,3 +3,5 @@ pub mod Form
 pub mod Lowered
 pub mod Reading
 pub mod Reached
+pub mod World
+pub mod Running

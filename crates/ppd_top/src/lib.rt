@@ -7,7 +7,9 @@ mod lowering;
 mod reader;
 mod reading;
 mod steps;
+mod world;
 
 pub use form::{Form, Operand, Step, Sum};
 pub use lowering::{lower, plan};
 pub use reader::FormError;
+pub use world::World;
