@@ -10,3 +10,6 @@ pub mod Runs
 pub mod WorldSteps
 pub mod Each
 pub mod OneProcess
+pub mod Printed
+pub mod FirstProgram
+pub mod Answering

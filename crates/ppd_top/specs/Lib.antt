@@ -5,3 +5,5 @@ pub mod Reading
 pub mod Reached
 pub mod World
 pub mod Running
+pub mod Summary
+pub mod Top

@@ -3,8 +3,10 @@ ghost use Rattle.ppd_ast.specs.Table.{EachAt};
 ghost use Rattle.ppd_sem.specs.First.{IsFirstProgram, IsFirstProc};
 ghost use Rattle.ppd_top.specs.World.{step as step_of, started_procs, started_world, IsOver, enabled as enabled_of, need_at, can, answer as answer_of, change};
 ghost use Rattle.ppd_top.specs.Running.{IsFirstWorld, Runs, shared_after, stepped, measure_of};
+ghost use Rattle.ppd_top.specs.Summary.{summary_of};
 ghost use Rattle.ppd_sem.specs.Process.{act};
 
+use crate::summary::summary;
 use ppd_ast::{Bytes, Memory, Nums, Plan, Program, Seq};
 use ppd_sem::{Answer, Need, Proc, feed, look};
 use std::alloc::Global;
@@ -189,6 +191,14 @@ impl<'a> World<'a> {
         write(&mut self.shared, need);
         Ok(())
     }
+
+    /// The summary of the run that came to this world.
+    pub fn summary(&self, alloc: Global) -> Result<Vec<u8>, Memory>
+        requires { self.now.program.functions + length self.now.world.procs ≤ length self.now.program.bodies }
+        ensures { IfOk result (λ text. text.items ≡ summary_of self.now.program self.now.world) }
+    {
+        summary(alloc, self.program, &self.procs)
+    }
 }
 
 /// Steps process 0, the only one, until it is not enabled, and answers the schedule.
@@ -196,6 +206,7 @@ pub(crate) fn run_one(alloc: Global, world: &mut World) -> Result<Bytes, Memory>
     requires first { IsFirstWorld world.old }
     requires one { length world.old.world.procs ≡ 1 }
     ensures runs { IfOk result (λ schedule. Runs world.old world.new schedule) }
+    ensures one { IfOk result (λ _. length world.new.world.procs ≡ 1) }
     ensures over { IfOk result (λ _. IsOver world.new.program world.new.plan world.new.world) }
 {
     let mut schedule = Seq::new(alloc);

@@ -21,7 +21,8 @@ loop-world-preserved c =
     record {
       first = c.in_ok-step.ensures.kept;
       one = subst P e (one_stays w 0 c.loop-world.invariant.one);
-      runs = subst R (sym c.in_ok-push.ensures.ok) (subst Q e (runs_more c.args.world.now w c.loop-world.schedule 0 c.loop-world.invariant.runs (sym c.enabled.ensures ∙ c.loop-world-test.true))) }
+      runs = subst R (sym c.in_ok-push.ensures.ok) (subst Q e (runs_more c.args.world.now w c.loop-world.schedule 0 c.loop-world.invariant.runs (sym c.enabled.ensures ∙ c.loop-world-test.true)));
+    }
 
 pub returns-clause-over : goal.returns-clause-over
 returns-clause-over c = one_over c.loop-world.world.program c.loop-world.world.plan c.loop-world.world.world c.loop-world.invariant.one (sym c.enabled.ensures ∙ c.loop-world-test.false)
