@@ -13,3 +13,5 @@ pub mod OneProcess
 pub mod Printed
 pub mod FirstProgram
 pub mod Answering
+pub mod AskedWords
+pub mod Outcomes

@@ -53,7 +53,6 @@ pub fn ppd<F: Shelf, I: Source, O: Sink, G: Gate>(
     ensures stores { (n : List ℕ) → F.failed_stores shelf.new n ≡ F.failed_stores shelf.old n }
     ensures input { input.new ≡ input.old }
 {
-    let _ = (input, gate);
     let Some(name) = asked(words) else {
         return Outcome {
             status: finish(output, USAGE, 2),
