@@ -21,10 +21,8 @@ use Rattle.ppd_sem.specs.declared.proc.Answer.TheVariants.{Value, Go}
 use Rattle.ppd_sem.specs.declared.proc.Need.{Need}
 use Rattle.ppd_sem.specs.declared.proc.Need.TheVariants.{Read, Write, Plain, Enter, Leave, Invoke, Back, End, Trap, Stopped}
 use Rattle.ppd_sem.specs.declared.proc.Proc.{Proc}
+use Rattle.ppd_sem.specs.Example.{stmt}
 use Rattle.ppd_sem.specs.Process.{act, need_of, started}
-
-abbrev stmt : Kind → Stmt
-stmt kind = record { place = record { line = 1; column = 1 }; body = 0; parent = None; kind = kind }
 
 abbrev needs : Program → Plan → Proc → List Answer → List Need
 needs program plan s [] = need_of program plan s ∷ []
@@ -105,7 +103,7 @@ pub deep_below : need_of deep bare (after deep bare (record (started deep bare 0
 unfolding terms
 deep_below = refl
 
--- shared int a[2];  process p { int y; a[x] = b[9 % x]; print(1 || b[y]); } over shared cells a = 0, 1, x = 2, b = 3, 4
+-- shared int a[2], x, b[2];  process p { int y; a[x] = b[9 % x]; print(1 || b[y]); }
 abbrev indexing : Program
 indexing = record {
   exprs =
