@@ -40,7 +40,7 @@ printing_like program exprs stmts bodies =
       children = subst (λ (es : List Expr). EachAt AreChildrenBelow es) (sym exprs) first.children;
       exprs = subst (λ (es : List Expr). EachAt (λ _ e. IsFirstExpr e) es) (sym exprs) first.exprs;
       stmts =
-        subst (λ (es : List Expr). EachAt (λ _ s. IsFirstKind (length es) s.kind) program.stmts) (sym exprs) (subst (λ (ss : List Stmt). EachAt (λ _ s. IsFirstKind 4 s.kind) ss) (sym stmts) first.stmts);
+          subst (λ (es : List Expr). EachAt (λ _ s. IsFirstKind (length es) s.kind) program.stmts) (sym exprs) (subst (λ (ss : List Stmt). EachAt (λ _ s. IsFirstKind 4 s.kind) ss) (sym stmts) first.stmts);
       bodies =
-        subst (λ (ss : List Stmt). EachAt (λ _ b. IsFirstBody (length ss) b) program.bodies) (sym stmts) (subst (λ (bs : List Body). EachAt (λ _ b. IsFirstBody 3 b) bs) (sym bodies) first.bodies);
+          subst (λ (ss : List Stmt). EachAt (λ _ b. IsFirstBody (length ss) b) program.bodies) (sym stmts) (subst (λ (bs : List Body). EachAt (λ _ b. IsFirstBody 3 b) bs) (sym bodies) first.bodies);
     }

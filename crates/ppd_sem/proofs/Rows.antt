@@ -1,6 +1,6 @@
 -- Small processes, computed from start to end.
 use Rattle.std.proofs.Common.{◌≡◌, refl}
-use Rattle.std.specs.Prelude.{pos, false, List, [], ◌∷◌, None, Some}
+use Rattle.std.specs.Prelude.{pos, false, List, [], ◌∷◌, Some}
 use Rattle.ppd_ast.specs.Term.{terms}
 use Rattle.ppd_ast.specs.declared.plan.BlockKind.TheVariants as block
 use Rattle.ppd_ast.specs.declared.plan.Plan.{Plan}

@@ -1,6 +1,6 @@
 -- Programs whose processes assign and print sums of shared variables and numbers, and end; and a
 -- process state of such a program.
-use Rattle.std.specs.Prelude.{◌≡◌, ℕ, ◌+◌, ◌<◌, ◌≤◌, ◌++◌, ◌∷◌, Some, List, [], drop, length, ⊤}
+use Rattle.std.specs.Prelude.{◌≡◌, ℕ, ◌+◌, ◌<◌, ◌≤◌, ◌++◌, ◌∷◌, Some, [], drop, length, ⊤}
 use Rattle.ppd_ast.specs.Table.{AreChildrenBelow, EachAt}
 use Rattle.ppd_ast.specs.declared.program.Body.{Body}
 use Rattle.ppd_ast.specs.declared.program.Expr.{Expr}

@@ -21,7 +21,7 @@ use Rattle.ppd_sem.specs.declared.proc.Proc.{Proc}
 use Rattle.ppd_sem.specs.declared.asking.Pause.{Pause}
 use Rattle.ppd_sem.specs.declared.asking.Pause.TheVariants.{Wants, Traps}
 use Rattle.ppd_sem.specs.Asked.{Asked}
-use Rattle.ppd_sem.specs.Deed.{Deed, set_local, set_shared, clear, branch, turn, leave, invoke, back, take, give, send, receive, print, pass, finish, ask_deed}
+use Rattle.ppd_sem.specs.Deed.{Deed, set_local, set_shared, clear, branch, turn, leave, invoke, back, take, give, send, receive, print, finish, ask_deed}
 use Rattle.ppd_sem.specs.Tables.{block_of, unit_of, or_zero, prelog_length, postlog_length, unit_length, returned_length}
 
 -- ---- the head
@@ -201,7 +201,8 @@ act_by_deed program a t ts (turn stmts) s = record s { todo = todos stmts ++ t �
 act_by_deed program a t ts (invoke f values into) s =
     record s {
       todo = todos (top_of (slice_get program.bodies f)) ++ ts;
-      frames = new_frame program f values (Some t.stmt) ∷ s.frames }
+      frames = new_frame program f values (Some t.stmt) ∷ s.frames;
+    }
 act_by_deed program a t ts (back value) s = record s { todo = ts; frames = returned program value s.frames }
 act_by_deed program a t ts (receive chan into) s = record s { todo = ts; frames = write_top into (value_of a) s.frames }
 act_by_deed program a t ts (print v) s = record s { todo = ts; prints = s.prints ++ v ∷ [] }

@@ -8,8 +8,8 @@ use crate::feeding::feed;
 use crate::looking::look;
 use crate::proc::{Answer, Need, Proc};
 use ppd_ast::{
-    Block, BlockKind, Body, Expr, Kind, Op, Place, Plan, Policy, Program, Seq,
-    Start, Status, Stmt, Target, Trap, Unit,
+    Block, BlockKind, Body, Expr, Kind, Op, Place, Plan, Policy, Program, Seq, Start, Status, Stmt,
+    Target, Trap, Unit,
 };
 use std::alloc::{AllocError, Global};
 use std::test::Fail;
@@ -17,7 +17,12 @@ use std::test::Fail;
 fn exprs(alloc: Global) -> Result<Seq<Expr>, AllocError>
     ensures { IfOk result (λ exprs. exprs ≡ printing_of.exprs) }
 {
-    let items = vec![in alloc; Expr::Const(2), Expr::Shared(0), Expr::Const(3), Expr::Two(Op::Add, 1, 2)]?;
+    let items = vec![in alloc;
+        Expr::Const(2),
+        Expr::Shared(0),
+        Expr::Const(3),
+        Expr::Two(Op::Add, 1, 2),
+    ]?;
     Ok(Seq::from_vec(items))
 }
 
