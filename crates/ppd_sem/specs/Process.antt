@@ -47,7 +47,7 @@ abbrev pub top_call : List Frame → Option ℕ
 top_call [] = None
 top_call (f ∷ fs) = f.call
 
--- what the head statement asks for, or does
+-- what the head statement asks for, or what it does once its values are there
 abbrev pub head_deed : Program → Todo → Proc → Asked Deed
 head_deed program t s = ask_deed program.exprs (kind_of program t.stmt) (top_cells s.frames) s.answers
 
@@ -58,7 +58,7 @@ abbrev pub call_unit : Plan → Option ℕ → Option ℕ
 call_unit plan None = None
 call_unit plan (Some c) = Some (unit_of plan (start.After c))
 
--- a call, where the first frame is no call of the frames' own: 64 may be open
+-- a call, which is too deep where 64 are open: those of the first frame, and one for each frame above it
 abbrev pub need_of_call : Plan → ℕ → Proc → Need
 need_of_call plan f s =
     if nat_lt 64 (s.below + length s.frames) then Trap trap.Depth
@@ -230,7 +230,7 @@ abbrev pub act_at : Program → Plan → Answer → List Todo → Proc → Proc
 act_at program plan a [] s = s
 act_at program plan a (t ∷ ts) s = act_by_need program plan a t ts (need_of program plan s) s
 
--- the state after the next step, which this answer is given
+-- the state after the next step, with this answer to its need
 abbrev pub act : Program → Plan → Proc → Answer → Proc
 act program plan s a = act_at program plan a s.todo s
 

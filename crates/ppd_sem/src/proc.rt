@@ -88,9 +88,11 @@ pub struct Todo {
     pub entered: bool,
 }
 
-/// The state of one process. `todo` holds the statements still to do, the head statement at the
-/// top; `answers` the values of the head statement's shared reads so far; `below` counts the
-/// calls that had not returned when the first frame began. No shared value is kept.
+/// The state of one process, without any shared value. `todo` holds the statements still to do,
+/// the head statement at the top; `answers` the values that its shared reads got so far. `below`
+/// counts the calls that were open when the first frame had just begun, its own among them: 0 in
+/// a process's body, 64 at most. `spent` is what the `steps` counted so far cost; `status` is
+/// there once the process stopped.
 #[derive(Drop, Debug)]
 pub struct Proc {
     pub frames: Stack<Frame>,
