@@ -1,10 +1,7 @@
 -- The 64-bit results of the checked operations.
-use Rattle.std.proofs.Common.{◌≡◌, ℕ, ◌<◌, ◌^◌, ℤ, pos, negsuc, Option, Some, None, Result, Ok, Err, true, false, w64, refl, arith, FitsSigned, rules}
+use Rattle.std.proofs.Common.{◌≡◌, ℤ, pos, negsuc, true, w64, arith, FitsSigned}
 use Rattle.std.proofs.lemmas.Bool.Decides.{nat_tests}
-use Rattle.std.specs.Option.{SomeIff}
-use Rattle.ppd_ast.specs.declared.status.Trap.{Trap}
-use Rattle.ppd_ast.specs.declared.status.Trap.TheVariants.{Overflow}
-use Rattle.ppd_sem.specs.Ask.{fits, checked}
+use Rattle.ppd_sem.specs.Ask.{fits}
 
 pub fits-true : (z : ℤ) → FitsSigned w64 z → fits z ≡ true
 fits-true (pos n) h = grind (arith, nat_tests)

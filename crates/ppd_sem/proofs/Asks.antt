@@ -1,15 +1,14 @@
 -- One step of evaluation, from its parts, in the form in which the code reads the table.
-use Rattle.std.proofs.Common.{◌≡◌, ℕ, ◌+◌, ℤ, pos, List, [], ◌∷◌, length, get_or, ◌<◌, ◌≤◌, Result, Ok, Err, refl, ap, sym, ◌∙◌, arith, w64, subst}
+use Rattle.std.proofs.Common.{◌≡◌, ℕ, ℤ, pos, List, length, get_or, ◌<◌, Ok, Err, refl}
 use Rattle.std.proofs.lemmas.Int.{to_z-of_z}
-use Rattle.ppd_ast.specs.declared.program.Op.{Op}
 use Rattle.ppd_ast.specs.declared.program.Expr.{Expr}
-use Rattle.ppd_ast.specs.declared.program.Expr.TheVariants.{Const, Local, LocalAt, Shared, SharedAt, Neg, Not, Two, And, Or}
-use Rattle.ppd_ast.specs.Term.{Term, term, terms, node}
+use Rattle.ppd_ast.specs.declared.program.Expr.TheVariants.{Const}
+use Rattle.ppd_ast.specs.Term.{term, terms, node}
 use Rattle.ppd_ast.specs.Table.{AreChildrenBelow, EachAt}
 use Rattle.ppd_ast.proofs.Terms.{term_read, children_read}
 use Rattle.ppd_sem.specs.declared.asking.Pause.{Pause}
-use Rattle.ppd_sem.specs.Asked.{Asked, and_then, gives, lift, paused, read_shared}
-use Rattle.ppd_sem.specs.Ask.{ask, calc}
+use Rattle.ppd_sem.specs.Asked.{Asked, and_then}
+use Rattle.ppd_sem.specs.Ask.{ask}
 use Rattle.ppd_sem.specs.Within.{IsWithin}
 
 pub record Reads (es : List Expr) (i : ℕ) (e : Expr) : Type 0 where

@@ -1,9 +1,9 @@
 -- Expressions of the first programs name no local cell, and a step keeps their process states.
-use Rattle.std.proofs.Common.{◌≡◌, ℕ, zero, suc, ◌+◌, ◌<◌, ◌≤◌, ℤ, pos, List, [], ◌∷◌, ◌++◌, length, get_or, drop, None, refl, subst, sym, ap, ◌∙◌, arith}
-use Rattle.std.specs.Prelude.{⊤, slice_get}
+use Rattle.std.proofs.Common.{◌≡◌, ℕ, zero, suc, ◌<◌, ℤ, List, [], ◌∷◌, ◌++◌, length, drop, None, refl, subst, sym, ap, ◌∙◌, arith}
+use Rattle.std.specs.Prelude.{slice_get}
 use Rattle.ppd_ast.specs.declared.program.Body.{Body}
 use Rattle.ppd_ast.specs.Table.{EachAt}
-use Rattle.ppd_ast.specs.Term.{Term, const, term, terms, terms_after, term_at, node}
+use Rattle.ppd_ast.specs.Term.{Term, term, terms, terms_after, term_at, node}
 use Rattle.ppd_ast.specs.declared.program.Expr.{Expr}
 use Rattle.ppd_ast.specs.declared.program.Expr.TheVariants.{Const, Local, LocalAt, Shared, SharedAt, Neg, Not, Two, And, Or}
 use Rattle.ppd_ast.specs.declared.program.Program.{Program}
@@ -89,7 +89,7 @@ pub started_first : (program : Program) (body budget : ℕ) (frames : List Frame
 started_first program body budget frames todo answers prints h frames_are todo_is =
     let n : ℕ = length program.stmts in
     let below : EachAt (λ _ t. t.stmt < n) (todos (top_of (slice_get program.bodies body))) =
-      todos_below n (top_of (slice_get program.bodies body)) (body_top n program.bodies body h.bodies) in
+    todos_below n (top_of (slice_get program.bodies body)) (body_top n program.bodies body h.bodies) in
     record {
       todo = subst (λ (ts : List Todo). EachAt (λ _ t. t.stmt < n) ts) (sym todo_is) below;
       cells = ap top_cells frames_are ∙ body_cells n program.bodies body h.bodies;

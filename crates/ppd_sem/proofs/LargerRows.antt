@@ -1,18 +1,14 @@
 -- Processes with locals, arrays, loops and calls, computed.
 use Rattle.std.proofs.Common.{◌≡◌, refl}
-use Rattle.std.specs.Prelude.{ℕ, ℤ, pos, negsuc, true, false, List, [], ◌∷◌, None, Some, replicate}
+use Rattle.std.specs.Prelude.{pos, negsuc, true, false, List, [], ◌∷◌, None, Some, replicate}
 use Rattle.ppd_ast.specs.Term.{terms}
 use Rattle.ppd_ast.specs.declared.plan.BlockKind.TheVariants as block
 use Rattle.ppd_ast.specs.declared.plan.Plan.{Plan}
 use Rattle.ppd_ast.specs.declared.plan.Start.TheVariants as start
-use Rattle.ppd_ast.specs.declared.program.Body.{Body}
-use Rattle.ppd_ast.specs.declared.program.Expr.{Expr}
 use Rattle.ppd_ast.specs.declared.program.Expr.TheVariants as expr
-use Rattle.ppd_ast.specs.declared.program.Kind.{Kind}
 use Rattle.ppd_ast.specs.declared.program.Kind.TheVariants as kind
 use Rattle.ppd_ast.specs.declared.program.Op.TheVariants as op
 use Rattle.ppd_ast.specs.declared.program.Program.{Program}
-use Rattle.ppd_ast.specs.declared.program.Stmt.{Stmt}
 use Rattle.ppd_ast.specs.declared.program.Target.TheVariants as target
 use Rattle.ppd_ast.specs.declared.status.Status.TheVariants as status
 use Rattle.ppd_ast.specs.declared.status.Trap.TheVariants as trap
@@ -21,10 +17,8 @@ use Rattle.ppd_sem.specs.declared.proc.Answer.TheVariants.{Value, Go}
 use Rattle.ppd_sem.specs.declared.proc.Need.{Need}
 use Rattle.ppd_sem.specs.declared.proc.Need.TheVariants.{Read, Write, Plain, Enter, Leave, Invoke, Back, End, Trap, Stopped}
 use Rattle.ppd_sem.specs.declared.proc.Proc.{Proc}
+use Rattle.ppd_sem.specs.Example.{stmt}
 use Rattle.ppd_sem.specs.Process.{act, need_of, started}
-
-abbrev stmt : Kind → Stmt
-stmt kind = record { place = record { line = 1; column = 1 }; body = 0; parent = None; kind = kind }
 
 abbrev needs : Program → Plan → Proc → List Answer → List Need
 needs program plan s [] = need_of program plan s ∷ []
@@ -40,8 +34,8 @@ calling = record {
   exprs = expr.Local 0 ∷ expr.Const (pos 1) ∷ expr.Two op.Sub 0 1 ∷ expr.Const (pos 2) ∷ expr.Local 0 ∷ expr.Local 0 ∷ expr.Local 0 ∷ [];
   stmts = stmt (kind.Return (Some 2)) ∷ stmt (kind.Set (target.Local 0) 3) ∷ stmt (kind.While 4 (3 ∷ [])) ∷ stmt (kind.Call 0 (5 ∷ []) (Some 0)) ∷ stmt (kind.Print 6) ∷ stmt kind.End ∷ [];
   bodies =
-    record { name = 102 ∷ []; process = false; params = 1; value = true; cells = 1; locals = []; top = 0 ∷ []; first = 0; end = 1 } ∷
-    record { name = 112 ∷ []; process = true; params = 0; value = false; cells = 1; locals = []; top = 1 ∷ 2 ∷ 4 ∷ 5 ∷ []; first = 1; end = 6 } ∷ [];
+      record { name = 102 ∷ []; process = false; params = 1; value = true; cells = 1; locals = []; top = 0 ∷ []; first = 0; end = 1 } ∷
+      record { name = 112 ∷ []; process = true; params = 0; value = false; cells = 1; locals = []; top = 1 ∷ 2 ∷ 4 ∷ 5 ∷ []; first = 1; end = 6 } ∷ [];
   functions = 1;
   shared = [];
   starts = [];
@@ -54,15 +48,15 @@ abbrev blocks : Plan
 blocks = record {
   policy = record { leaf = 0; loops = 1 };
   blocks =
-    record { kind = block.Function 0; prelog = 0 ∷ []; postlog = []; value = true } ∷
-    record { kind = block.Process 1; prelog = []; postlog = []; value = false } ∷
-    record { kind = block.Loop 2; prelog = 0 ∷ []; postlog = 0 ∷ []; value = false } ∷ [];
+      record { kind = block.Function 0; prelog = 0 ∷ []; postlog = []; value = true } ∷
+      record { kind = block.Process 1; prelog = []; postlog = []; value = false } ∷
+      record { kind = block.Loop 2; prelog = 0 ∷ []; postlog = 0 ∷ []; value = false } ∷ [];
   units =
-    record { start = start.Entry 0; cells = [] } ∷
-    record { start = start.Entry 1; cells = [] } ∷
-    record { start = start.Enter 2; cells = [] } ∷
-    record { start = start.Exit 2; cells = [] } ∷
-    record { start = start.After 3; cells = [] } ∷ [];
+      record { start = start.Entry 0; cells = [] } ∷
+      record { start = start.Entry 1; cells = [] } ∷
+      record { start = start.Enter 2; cells = [] } ∷
+      record { start = start.Exit 2; cells = [] } ∷
+      record { start = start.After 3; cells = [] } ∷ [];
 }
 
 pub calling_needs : needs calling blocks (started calling blocks 0 100) (replicate 11 Go) ≡ Plain ∷ Enter 2 2 ∷ Plain ∷ Invoke (Some 0) 0 ∷ Back (Some 0) (Some 4) ∷ Plain ∷ Invoke (Some 0) 0 ∷ Back (Some 0) (Some 4) ∷ Leave 2 3 ∷ Plain ∷ End 1 ∷ Stopped ∷ []
@@ -80,8 +74,8 @@ deep = record {
   exprs = [];
   stmts = stmt (kind.Call 0 [] None) ∷ stmt (kind.Return None) ∷ stmt (kind.Call 0 [] None) ∷ stmt kind.End ∷ [];
   bodies =
-    record { name = 102 ∷ []; process = false; params = 0; value = false; cells = 0; locals = []; top = 0 ∷ 1 ∷ []; first = 0; end = 2 } ∷
-    record { name = 112 ∷ []; process = true; params = 0; value = false; cells = 0; locals = []; top = 2 ∷ 3 ∷ []; first = 2; end = 4 } ∷ [];
+      record { name = 102 ∷ []; process = false; params = 0; value = false; cells = 0; locals = []; top = 0 ∷ 1 ∷ []; first = 0; end = 2 } ∷
+      record { name = 112 ∷ []; process = true; params = 0; value = false; cells = 0; locals = []; top = 2 ∷ 3 ∷ []; first = 2; end = 4 } ∷ [];
   functions = 1;
   shared = [];
   starts = [];
@@ -105,12 +99,12 @@ pub deep_below : need_of deep bare (after deep bare (record (started deep bare 0
 unfolding terms
 deep_below = refl
 
--- shared int a[2];  process p { int y; a[x] = b[9 % x]; print(1 || b[y]); } over shared cells a = 0, 1, x = 2, b = 3, 4
+-- shared int a[2], x, b[2];  process p { int y; a[x] = b[9 % x]; print(1 || b[y]); }
 abbrev indexing : Program
 indexing = record {
   exprs =
-    expr.Shared 2 ∷ expr.Const (pos 9) ∷ expr.Shared 2 ∷ expr.Two op.Rem 1 2 ∷ expr.SharedAt 3 2 3 ∷
-    expr.Const (pos 1) ∷ expr.Local 0 ∷ expr.SharedAt 3 2 6 ∷ expr.Or 5 7 ∷ [];
+      expr.Shared 2 ∷ expr.Const (pos 9) ∷ expr.Shared 2 ∷ expr.Two op.Rem 1 2 ∷ expr.SharedAt 3 2 3 ∷
+      expr.Const (pos 1) ∷ expr.Local 0 ∷ expr.SharedAt 3 2 6 ∷ expr.Or 5 7 ∷ [];
   stmts = stmt (kind.Set (target.SharedAt 0 2 0) 4) ∷ stmt (kind.Print 8) ∷ stmt kind.End ∷ [];
   bodies = record { name = 112 ∷ []; process = true; params = 0; value = false; cells = 1; locals = []; top = 0 ∷ 1 ∷ 2 ∷ []; first = 0; end = 3 } ∷ [];
   functions = 0;

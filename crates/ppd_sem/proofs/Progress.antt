@@ -1,5 +1,5 @@
 -- A process comes to its end: each step makes its measure smaller, and keeps the budget.
-use Rattle.std.proofs.Common.{◌≡◌, ◌≢◌, ◌⊎◌, ℕ, ◌+◌, ◌-◌, ◌<◌, ◌≤◌, Bool, true, false, nat_lt, List, [], ◌∷◌, Option, Some, None, Ok, Err, refl, ap, sym, ◌∙◌, subst, arith, inl, inr, if◌then◌else◌}
+use Rattle.std.proofs.Common.{◌≡◌, ◌≢◌, ◌⊎◌, ◌+◌, ◌-◌, ◌<◌, ◌≤◌, Bool, true, false, nat_lt, List, [], ◌∷◌, Option, Some, None, Ok, Err, refl, ap, sym, ◌∙◌, subst, arith, inl, inr, if◌then◌else◌}
 use Rattle.std.proofs.lemmas.Bool.Decides.{nat_tests}
 use Rattle.ppd_ast.specs.declared.program.Program.{Program}
 use Rattle.ppd_ast.specs.declared.plan.Plan.{Plan}
@@ -14,7 +14,7 @@ use Rattle.ppd_sem.specs.declared.proc.Todo.{Todo}
 use Rattle.ppd_sem.specs.Asked.{Asked}
 use Rattle.ppd_sem.specs.Deed.{Deed, set_local, set_shared, clear, branch, turn, leave, invoke, back, take, give, send, receive, print, pass, finish}
 use Rattle.ppd_sem.specs.Measure.{measure, measure_by}
-use Rattle.ppd_sem.specs.Process.{act, act_at, act_by_asked, act_by_deed, act_by_need, charged, cost, head_deed, need_by_status, need_of, need_of_head, need_of_running, values_of, within_budget}
+use Rattle.ppd_sem.specs.Process.{act, act_at, act_by_asked, act_by_deed, act_by_need, charged, cost, head_deed, need_by_status, need_of, need_of_head, need_of_running, within_budget}
 
 -- the same budget and the same cost so far
 record SamePurse (s t : Proc) : Type 0 where
@@ -41,7 +41,7 @@ deed_purse program a t ts finish s = record { budget = refl; spent = refl }
 asked_purse : (program : Program) (a : Answer) (t : Todo) (ts : List Todo) (asked : Asked Deed) (s : Proc) → SamePurse s (act_by_asked program a t ts asked s)
 asked_purse program a t ts (Ok p) s =
     let same : SamePurse (record s { answers = [] }) (act_by_deed program a t ts p.0 (record s { answers = [] })) =
-      deed_purse program a t ts p.0 (record s { answers = [] }) in
+    deed_purse program a t ts p.0 (record s { answers = [] }) in
     record { budget = same.budget; spent = same.spent }
 asked_purse program a t ts (Err (Wants cell)) s = record { budget = refl; spent = refl }
 asked_purse program a t ts (Err (Traps trap)) s = record { budget = refl; spent = refl }
@@ -121,7 +121,7 @@ goes_at program plan a s None (t ∷ ts) r e h n =
     let head : Need = need_of_head program plan t s in
     let is : need_of program plan s ≡ within_budget plan s head = need_at_todo program plan s (t ∷ ts) r e in
     let paid : Goes s (act_by_need program plan a t ts (within_budget plan s head) s) =
-      paid_goes program plan a t ts head s (nat_lt s.budget (s.spent + cost plan head)) refl r h (λ stops. n (is ∙ stops)) in
+    paid_goes program plan a t ts head s (nat_lt s.budget (s.spent + cost plan head)) refl r h (λ stops. n (is ∙ stops)) in
     subst (λ (x : Need). Goes s (act_by_need program plan a t ts x s)) (sym is) paid
 
 stays_at : (program : Program) (plan : Plan) (a : Answer) (s : Proc) (ts : List Todo) → need_of program plan s ≡ Stopped → act_at program plan a ts s ≡ s
@@ -151,8 +151,8 @@ pub record IsWithinBudget (s t : Proc) : Type 0 where
 pub act-within : (program : Program) (plan : Plan) (s : Proc) (a : Answer) → s.spent ≤ s.budget → IsWithinBudget s (act program plan s a)
 act-within program plan s a h =
     elim (stopped_or (need_of program plan s)) [
-    | inl n ↦ subst (λ (t : Proc). IsWithinBudget s t) (sym (act-stopped program plan s a n)) record { budget = refl; spent = h }
-    | inr n ↦
-        let goes : Goes s (act program plan s a) = goes_at program plan a s s.status s.todo refl refl h n in
-        record { budget = goes.budget; spent = goes.within }
+      | inl n ↦ subst (λ (t : Proc). IsWithinBudget s t) (sym (act-stopped program plan s a n)) record { budget = refl; spent = h }
+      | inr n ↦
+          let goes : Goes s (act program plan s a) = goes_at program plan a s s.status s.todo refl refl h n in
+          record { budget = goes.budget; spent = goes.within }
     ]

@@ -1,17 +1,14 @@
 -- Small processes, computed from start to end.
 use Rattle.std.proofs.Common.{◌≡◌, refl}
-use Rattle.std.specs.Prelude.{pos, true, false, List, [], ◌∷◌, None, Some}
+use Rattle.std.specs.Prelude.{pos, false, List, [], ◌∷◌, Some}
 use Rattle.ppd_ast.specs.Term.{terms}
 use Rattle.ppd_ast.specs.declared.plan.BlockKind.TheVariants as block
 use Rattle.ppd_ast.specs.declared.plan.Plan.{Plan}
 use Rattle.ppd_ast.specs.declared.plan.Start.TheVariants as start
-use Rattle.ppd_ast.specs.declared.program.Expr.{Expr}
 use Rattle.ppd_ast.specs.declared.program.Expr.TheVariants as expr
-use Rattle.ppd_ast.specs.declared.program.Kind.{Kind}
 use Rattle.ppd_ast.specs.declared.program.Kind.TheVariants as kind
 use Rattle.ppd_ast.specs.declared.program.Op.TheVariants as op
 use Rattle.ppd_ast.specs.declared.program.Program.{Program}
-use Rattle.ppd_ast.specs.declared.program.Stmt.{Stmt}
 use Rattle.ppd_ast.specs.declared.program.Target.TheVariants as target
 use Rattle.ppd_ast.specs.declared.status.Status.TheVariants as status
 use Rattle.ppd_ast.specs.declared.status.Trap.TheVariants as trap
@@ -20,23 +17,8 @@ use Rattle.ppd_sem.specs.declared.proc.Answer.TheVariants.{Value, Go}
 use Rattle.ppd_sem.specs.declared.proc.Need.{Need}
 use Rattle.ppd_sem.specs.declared.proc.Need.TheVariants.{Read, Write, Plain, End, Trap, Budget, Stopped}
 use Rattle.ppd_sem.specs.declared.proc.Proc.{Proc}
+use Rattle.ppd_sem.specs.Example.{printing, program_of}
 use Rattle.ppd_sem.specs.Process.{act, need_of, started}
-
-abbrev stmt : Kind → Stmt
-stmt kind = record { place = record { line = 1; column = 1 }; body = 0; parent = None; kind = kind }
-
--- one process of three statements, over one shared variable
-abbrev program_of : List Expr → Kind → Kind → Program
-program_of exprs first second = record {
-  exprs = exprs;
-  stmts = stmt first ∷ stmt second ∷ stmt kind.End ∷ [];
-  bodies = record { name = 97 ∷ []; process = true; params = 0; value = false; cells = 0; locals = []; top = 0 ∷ 1 ∷ 2 ∷ []; first = 0; end = 3 } ∷ [];
-  functions = 0;
-  shared = record { name = 120 ∷ []; base = 0; len = None } ∷ [];
-  starts = pos 0 ∷ [];
-  sems = [];
-  chans = [];
-}
 
 abbrev plan : Plan
 plan = record {
@@ -53,11 +35,6 @@ needs program s (a ∷ answers) = need_of program plan s ∷ needs program (act 
 abbrev after : Program → Proc → List Answer → Proc
 after program s [] = s
 after program s (a ∷ answers) = after program (act program plan s a) answers
-
--- x = 2; print(x + 3);
-abbrev printing : Program
-printing =
-    program_of (expr.Const (pos 2) ∷ expr.Shared 0 ∷ expr.Const (pos 3) ∷ expr.Two op.Add 1 2 ∷ []) (kind.Set (target.Shared 0) 0) (kind.Print 3)
 
 abbrev four : List Answer
 four = Go ∷ Value (pos 2) ∷ Go ∷ Go ∷ []

@@ -1,12 +1,10 @@
 -- What a statement does once all its values are there.
-use Rattle.std.specs.Prelude.{ℕ, ◌+◌, ℤ, pos, List, [], ◌∷◌, ◌++◌, Option, Some, None, Result, Ok, Err, if◌then◌else◌}
-use Rattle.ppd_ast.specs.declared.program.Target.{Target}
+use Rattle.std.specs.Prelude.{ℕ, ℤ, List, [], ◌∷◌, Option, Some, None, Err, if◌then◌else◌}
 use Rattle.ppd_ast.specs.declared.program.Target.TheVariants.{Local, LocalAt, Shared, SharedAt}
 use Rattle.ppd_ast.specs.declared.program.Expr.{Expr}
 use Rattle.ppd_ast.specs.declared.program.Kind.{Kind}
 use Rattle.ppd_ast.specs.declared.program.Kind.TheVariants.{Set, Zero, If, While, Call, Return, P, V, Send, Recv, Print, Assert, End}
 use Rattle.ppd_ast.specs.Term.{Term, term}
-use Rattle.ppd_ast.specs.declared.status.Trap.{Trap}
 use Rattle.ppd_ast.specs.declared.status.Trap.TheVariants as trap
 use Rattle.ppd_sem.specs.Asked.{Asked, gives, and_then, lift}
 use Rattle.ppd_sem.specs.declared.asking.Pause.TheVariants.{Traps}

@@ -1,6 +1,6 @@
 -- Programs whose processes assign and print sums of shared variables and numbers, and end; and a
 -- process state of such a program.
-use Rattle.std.specs.Prelude.{◌≡◌, ℕ, ◌+◌, ◌<◌, ◌≤◌, ◌++◌, ◌∷◌, Some, List, [], drop, length, ⊤}
+use Rattle.std.specs.Prelude.{◌≡◌, ℕ, ◌+◌, ◌<◌, ◌≤◌, ◌++◌, ◌∷◌, Some, [], drop, length, ⊤}
 use Rattle.ppd_ast.specs.Table.{AreChildrenBelow, EachAt}
 use Rattle.ppd_ast.specs.declared.program.Body.{Body}
 use Rattle.ppd_ast.specs.declared.program.Expr.{Expr}
@@ -42,7 +42,8 @@ pub record IsFirstProgram (program : Program) : Type 0 where
   pub stmts : EachAt (λ _ s. IsFirstKind (length program.exprs) s.kind) program.stmts
   pub bodies : EachAt (λ _ b. IsFirstBody (length program.stmts) b) program.bodies
 
--- the statements still to do are the program's, the frame has no cells, and no step was unpaid
+-- the statements still to do are the program's, the top frame has no cells, each step cost at least
+-- 1, and the budget is not overspent
 pub record IsFirstProc (program : Program) (s : Proc) : Type 0 where
   pub todo : EachAt (λ _ t. t.stmt < length program.stmts) s.todo
   pub cells : top_cells s.frames ≡ []

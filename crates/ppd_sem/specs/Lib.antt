@@ -2,6 +2,7 @@
 pub mod Ask
 pub mod Asked
 pub mod Deed
+pub mod Example
 pub mod First
 pub mod Measure
 pub mod Process

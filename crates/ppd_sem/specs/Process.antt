@@ -21,7 +21,7 @@ use Rattle.ppd_sem.specs.declared.proc.Proc.{Proc}
 use Rattle.ppd_sem.specs.declared.asking.Pause.{Pause}
 use Rattle.ppd_sem.specs.declared.asking.Pause.TheVariants.{Wants, Traps}
 use Rattle.ppd_sem.specs.Asked.{Asked}
-use Rattle.ppd_sem.specs.Deed.{Deed, set_local, set_shared, clear, branch, turn, leave, invoke, back, take, give, send, receive, print, pass, finish, ask_deed}
+use Rattle.ppd_sem.specs.Deed.{Deed, set_local, set_shared, clear, branch, turn, leave, invoke, back, take, give, send, receive, print, finish, ask_deed}
 use Rattle.ppd_sem.specs.Tables.{block_of, unit_of, or_zero, prelog_length, postlog_length, unit_length, returned_length}
 
 -- ---- the head
@@ -47,7 +47,7 @@ abbrev pub top_call : List Frame → Option ℕ
 top_call [] = None
 top_call (f ∷ fs) = f.call
 
--- what the head statement asks for, or does
+-- what the head statement asks for, or what it does once its values are there
 abbrev pub head_deed : Program → Todo → Proc → Asked Deed
 head_deed program t s = ask_deed program.exprs (kind_of program t.stmt) (top_cells s.frames) s.answers
 
@@ -58,7 +58,7 @@ abbrev pub call_unit : Plan → Option ℕ → Option ℕ
 call_unit plan None = None
 call_unit plan (Some c) = Some (unit_of plan (start.After c))
 
--- a call, where the first frame is no call of the frames' own: 64 may be open
+-- a call, which is too deep where 64 are open: those of the first frame, and one for each frame above it
 abbrev pub need_of_call : Plan → ℕ → Proc → Need
 need_of_call plan f s =
     if nat_lt 64 (s.below + length s.frames) then Trap trap.Depth
@@ -201,7 +201,8 @@ act_by_deed program a t ts (turn stmts) s = record s { todo = todos stmts ++ t �
 act_by_deed program a t ts (invoke f values into) s =
     record s {
       todo = todos (top_of (slice_get program.bodies f)) ++ ts;
-      frames = new_frame program f values (Some t.stmt) ∷ s.frames }
+      frames = new_frame program f values (Some t.stmt) ∷ s.frames;
+    }
 act_by_deed program a t ts (back value) s = record s { todo = ts; frames = returned program value s.frames }
 act_by_deed program a t ts (receive chan into) s = record s { todo = ts; frames = write_top into (value_of a) s.frames }
 act_by_deed program a t ts (print v) s = record s { todo = ts; prints = s.prints ++ v ∷ [] }
@@ -229,7 +230,7 @@ abbrev pub act_at : Program → Plan → Answer → List Todo → Proc → Proc
 act_at program plan a [] s = s
 act_at program plan a (t ∷ ts) s = act_by_need program plan a t ts (need_of program plan s) s
 
--- the state after the next step, which this answer is given
+-- the state after the next step, with this answer to its need
 abbrev pub act : Program → Plan → Proc → Answer → Proc
 act program plan s a = act_at program plan a s.todo s
 

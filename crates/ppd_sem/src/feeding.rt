@@ -21,12 +21,7 @@ fn value_in(answer: &Answer) -> i64
 /// Takes the next step of a process. `Value` goes with a need for a value, `Go` with the
 /// others. `Memory` is want of memory: the process is as before.
 #[tactic(auto, using(crate::proofs::First::first_within, crate::proofs::First::finished_first))]
-pub fn feed(
-    program: &Program,
-    plan: &Plan,
-    proc: &mut Proc,
-    answer: &Answer,
-) -> Result<(), Memory>
+pub fn feed(program: &Program, plan: &Plan, proc: &mut Proc, answer: &Answer) -> Result<(), Memory>
     requires program { IsFirstProgram program.now }
     requires proc { IsFirstProc program.now proc.old }
     ensures ok { OnOk result (proc.new ≡ act program.now plan.now proc.old answer.now) }
@@ -47,18 +42,34 @@ pub fn feed(
     let exprs = program.exprs.as_slice();
     match kind_at(program, todo.stmt) {
         Kind::Set(Target::Shared(_), value) => {
-            match ask(exprs, *value, top_cells(&proc.frames), proc.answers.as_slice()) {
-                Ok(_) => Ok(finish(proc)),
+            match ask(
+                exprs,
+                *value,
+                top_cells(&proc.frames),
+                proc.answers.as_slice(),
+            ) {
+                Ok(_) => {
+                    finish(proc);
+                    Ok(())
+                }
                 Err(pause) => hold(proc, pause, answer),
             }
         }
         Kind::Print(value) => {
-            match ask(exprs, *value, top_cells(&proc.frames), proc.answers.as_slice()) {
+            match ask(
+                exprs,
+                *value,
+                top_cells(&proc.frames),
+                proc.answers.as_slice(),
+            ) {
                 Ok((value, _)) => print(proc, value),
                 Err(pause) => hold(proc, pause, answer),
             }
         }
-        Kind::End => Ok(end(proc)),
+        Kind::End => {
+            end(proc);
+            Ok(())
+        }
         _ => unreachable!(),
     }
 }

@@ -18,3 +18,6 @@ pub use looking::look;
 pub use ppd_ast::{Status, SyncKind, Trap};
 pub use proc::{Answer, Frame, Need, Proc, Todo};
 pub use stack::Stack;
+
+#[cfg(test)]
+mod tests;

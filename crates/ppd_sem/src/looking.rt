@@ -92,7 +92,9 @@ fn kind_need(program: &Program, plan: &Plan, stmt: u32, kind: &Kind, proc: &Proc
             Ok(_) => Need::Plain,
             Err(pause) => paused_need(pause),
         },
-        Kind::End => Need::End { block: process_block(plan, body_of(&proc.frames)) },
+        Kind::End => Need::End {
+            block: process_block(plan, body_of(&proc.frames)),
+        },
         _ => unreachable!(),
     }
 }

@@ -12,23 +12,50 @@ pub enum Need {
     /// Nothing but the process itself.
     Plain,
     /// To enter a block loop.
-    Enter { block: u16, unit: u16 },
+    Enter {
+        block: u16,
+        unit: u16,
+    },
     /// To leave a block loop.
-    Leave { block: u16, unit: u16 },
+    Leave {
+        block: u16,
+        unit: u16,
+    },
     /// To call a function, which may be a block.
-    Invoke { block: Option<u16>, unit: u16 },
+    Invoke {
+        block: Option<u16>,
+        unit: u16,
+    },
     /// To return; `unit` is None where the frame is the first of its process state.
-    Back { block: Option<u16>, unit: Option<u16> },
+    Back {
+        block: Option<u16>,
+        unit: Option<u16>,
+    },
     /// To take from a semaphore.
-    P { sem: u8, unit: u16 },
+    P {
+        sem: u8,
+        unit: u16,
+    },
     /// To give to a semaphore.
-    V { sem: u8, unit: u16 },
+    V {
+        sem: u8,
+        unit: u16,
+    },
     /// To send a value on a channel.
-    Send { chan: u8, value: i64, unit: u16 },
+    Send {
+        chan: u8,
+        value: i64,
+        unit: u16,
+    },
     /// To receive from a channel.
-    Recv { chan: u8, unit: u16 },
+    Recv {
+        chan: u8,
+        unit: u16,
+    },
     /// To end at the process's closing brace.
-    End { block: u16 },
+    End {
+        block: u16,
+    },
     /// A step that traps.
     Trap(Trap),
     /// To stop, since the next step would cost more than is left.
@@ -61,9 +88,11 @@ pub struct Todo {
     pub entered: bool,
 }
 
-/// The state of one process. `todo` holds the statements still to do, the head statement at the
-/// top; `answers` the values of the head statement's shared reads so far; `below` counts the
-/// calls that had not returned when the first frame began. No shared value is kept.
+/// The state of one process, without any shared value. `todo` holds the statements still to do,
+/// the head statement at the top; `answers` the values that its shared reads got so far. `below`
+/// counts the calls that were open when the first frame had just begun, its own among them: 0 in
+/// a process's body, 64 at most. `spent` is what the `steps` counted so far cost; `status` is
+/// there once the process stopped.
 #[derive(Drop, Debug)]
 pub struct Proc {
     pub frames: Stack<Frame>,

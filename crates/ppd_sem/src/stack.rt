@@ -24,7 +24,9 @@ impl<T: Drop> Stack<T> {
     pub fn new(alloc: Global) -> Stack<T>
         ensures { result ≡ [] }
     {
-        Stack { items: Vec::new(alloc) }
+        Stack {
+            items: Vec::new(alloc),
+        }
     }
 
     /// The stack of a vector's items, the last one at the top, without taking memory.

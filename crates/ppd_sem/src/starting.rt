@@ -15,7 +15,10 @@ fn listed(alloc: Global, stmts: &[u32]) -> Result<Vec<Todo>, AllocError>
     stmts
         .iter()
         .rev()
-        .map(|stmt| Todo { stmt: *stmt, entered: false })
+        .map(|stmt| Todo {
+            stmt: *stmt,
+            entered: false,
+        })
         .collect(alloc)
 }
 
@@ -37,14 +40,24 @@ fn first_frame(alloc: Global, program: &Program, body: u16) -> Result<Stack<Fram
     ensures { IfOk result (λ frames. frames ≡ new_frame program.now body [] None ∷ []) }
 {
     let mut frames = Stack::new(alloc);
-    frames.push(Frame { body, cells: Nums::new(alloc), call: None })?;
+    frames.push(Frame {
+        body,
+        cells: Nums::new(alloc),
+        call: None,
+    })?;
     Ok(frames)
 }
 
 impl Proc {
     /// The state of this process before its first step. Its budget is 1 to 500,000.
     /// `Memory` is want of memory.
-    pub fn start(alloc: Global, program: &Program, plan: &Plan, process: u8, budget: u32) -> Result<Proc, Memory>
+    pub fn start(
+        alloc: Global,
+        program: &Program,
+        plan: &Plan,
+        process: u8,
+        budget: u32,
+    ) -> Result<Proc, Memory>
         requires program { IsFirstProgram program.now }
         requires process { program.now.functions + process < length program.now.bodies }
         requires range { program.now.functions + process < 2 ^ 16 }
