@@ -105,6 +105,13 @@ passed_proper b bs h =
     let most = prefix_len-le-length is_name_byte (b ∷ bs) in
     (omega (arith, len, one), omega (arith, len, most))
 
+pub line_least : (b : ℕ) (bs : List ℕ) → starts_with nat_eq (b ∷ bs) (codes "//") ≡ true → 2 ≤ prefix_len (λ c. not (nat_eq c 10)) (b ∷ bs)
+line_least b [] h = grind (arith, nat_tests)
+line_least b (c ∷ cs) h =
+    let first : b ≡ 47 = grind (arith, nat_tests) in
+    let second : c ≡ 47 = grind (arith, nat_tests) in
+    rw (first, second) (omega arith)
+
 line_proper : (b : ℕ) (bs : List ℕ) → starts_with nat_eq (b ∷ bs) (codes "//") ≡ true → IsProper (length (b ∷ bs)) (Gap (prefix_len (λ c. not (nat_eq c 10)) (b ∷ bs)))
 line_proper b bs h =
     let one : prefix_len (λ c. not (nat_eq c 10)) (b ∷ bs) ≡ 1 + prefix_len (λ c. not (nat_eq c 10)) bs = grind (arith, nat_tests) in
