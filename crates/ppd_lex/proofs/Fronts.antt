@@ -31,7 +31,6 @@ number_in_bound table text n h = go (nat_lt (position_or_len (λ entry. bytes_eq
     go false e h = cc
 
 pub value_small : (text : List ℕ) (v : ℕ) → value_of text ≡ Some v → v < 2 ^ 63
-unfolding value_of
 value_small text v h = grind (arith, nat_tests)
 
 pub number_small : (text : List ℕ) (v : ℕ) → number_of text ≡ Some v → v < 2 ^ 63
