@@ -31,7 +31,6 @@ number_in_bound table text n h = go (nat_lt (position_or_len (λ entry. bytes_eq
     go false e h = cc
 
 pub value_small : (text : List ℕ) (v : ℕ) → value_of text ≡ Some v → v < 2 ^ 63
-unfolding value_of
 value_small text v h = grind (arith, nat_tests)
 
 pub number_small : (text : List ℕ) (v : ℕ) → number_of text ≡ Some v → v < 2 ^ 63
@@ -104,6 +103,13 @@ passed_proper b bs h =
     let one : prefix_len is_name_byte (b ∷ bs) ≡ 1 + prefix_len is_name_byte bs = ap (λ t. cond t (1 + prefix_len is_name_byte bs) 0) h in
     let most = prefix_len-le-length is_name_byte (b ∷ bs) in
     (omega (arith, len, one), omega (arith, len, most))
+
+pub line_least : (b : ℕ) (bs : List ℕ) → starts_with nat_eq (b ∷ bs) (codes "//") ≡ true → 2 ≤ prefix_len (λ c. not (nat_eq c 10)) (b ∷ bs)
+line_least b [] h = grind (arith, nat_tests)
+line_least b (c ∷ cs) h =
+    let first : b ≡ 47 = grind (arith, nat_tests) in
+    let second : c ≡ 47 = grind (arith, nat_tests) in
+    rw (first, second) (omega arith)
 
 line_proper : (b : ℕ) (bs : List ℕ) → starts_with nat_eq (b ∷ bs) (codes "//") ≡ true → IsProper (length (b ∷ bs)) (Gap (prefix_len (λ c. not (nat_eq c 10)) (b ∷ bs)))
 line_proper b bs h =

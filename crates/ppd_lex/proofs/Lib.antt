@@ -1,8 +1,12 @@
 pub mod Begins
+pub mod Between
 pub mod Comments
 pub mod FormedTokens
+pub mod Examples
 pub mod Fronts
 pub mod Lexed
+pub mod Longest
+pub mod Munch
 pub mod Numbers
 pub mod Places
 pub mod Unique

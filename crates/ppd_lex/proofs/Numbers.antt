@@ -24,15 +24,12 @@ value_front bs i =
     omega arith
 
 pub not_digits : (bs : List ℕ) → list_all is_digit bs ≡ false → value_of bs ≡ None
-unfolding value_of
 not_digits bs h = grind (arith, nat_tests)
 
 pub too_great : (bs : List ℕ) → 2 ^ 63 ≤ value_from 0 bs → value_of bs ≡ None
-unfolding value_of
 too_great bs h = grind (arith, nat_tests)
 
 pub value_is : (bs : List ℕ) → list_all is_digit bs ≡ true → value_from 0 bs < 2 ^ 63 → value_of bs ≡ Some (value_from 0 bs)
-unfolding value_of
 value_is bs p v = grind (arith, nat_tests)
 
 pub digit_small : (b : ℕ) → is_digit b ≡ true → (48 ≤ b) × (b - 48 ≤ 9)

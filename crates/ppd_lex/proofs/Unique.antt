@@ -1,11 +1,10 @@
 -- A source has one list of tokens or one first fault.
-use Rattle.std.proofs.Common.{◌≡◌, ◌≢◌, ◌<◌, ◌≤◌, ℕ, ◌+◌, ◌^◌, List, [], ◌∷◌, length, refl, sym, ◌∙◌, ap, subst, arith}
+use Rattle.std.proofs.Common.{◌≡◌, ◌≢◌, ◌<◌, ℕ, ◌+◌, ◌^◌, List, ◌∷◌, length, refl, sym, ◌∙◌, ap, subst, arith}
 use Rattle.ppd_lex.specs.declared.token.Token.{Token}
 use Rattle.ppd_lex.specs.declared.token.TokenKind.{TokenKind}
 use Rattle.ppd_lex.specs.declared.token.LexError.{LexError}
 use Rattle.ppd_lex.specs.declared.token.LexError.TheVariants as E
 use Rattle.ppd_lex.specs.declared.scan.Fault.{Fault}
-use Rattle.ppd_lex.specs.declared.scan.Piece.TheVariants.{Gap, Read, Bad}
 use Rattle.ppd_lex.specs.Tokens.{origin, place_of, token_at, Lexes, end, gap, token, Faults, here, after_gap, after_token, IsTokens, IsFirstFault, IsRefused, error_of}
 
 same_tokens : (bs : List ℕ) (i n m : ℕ) (k l : TokenKind) (ts us : List Token) → n ≡ m → k ≡ l → ts ≡ us → token_at bs i n k ∷ ts ≡ token_at bs i m l ∷ us

@@ -40,7 +40,7 @@ value_from n [] = n
 value_from n (b ∷ bs) = value_from (10 * n + (b - 48)) bs
 
 -- the number that digits write, where it is at most 9223372036854775807
-unfoldable pub value_of : List ℕ → Option ℕ
+abbrev pub value_of : List ℕ → Option ℕ
 value_of text = if list_all is_digit text && nat_lt (value_from 0 text) (2 ^ 63) then Some (value_from 0 text) else None
 
 -- the number that the text is, which has no needless 0

@@ -1,5 +1,5 @@
 -- What stands between tokens, and which texts are one token.
-use Rattle.std.specs.Prelude.{◌≡◌, ◌≢◌, ◌<◌, ◌≤◌, ℕ, List, [], ◌∷◌, length, drop, slice_range, true, not, nat_eq, Some, codes}
+use Rattle.std.specs.Prelude.{◌≡◌, ◌<◌, ◌≤◌, ℕ, List, [], ◌∷◌, length, drop, slice_range, true, not, nat_eq, Some, codes}
 use Rattle.std.specs.List.{starts_with, list_all}
 use Rattle.ppd_lex.specs.declared.token.Token.{Token}
 use Rattle.ppd_lex.specs.declared.token.TokenKind.{TokenKind}

@@ -105,3 +105,6 @@ pub fn lex(alloc: Global, bytes: &[u8]) -> Result<Vec<Token>, LexError>
     })?;
     Ok(tokens)
 }
+
+#[cfg(test)]
+mod tests;
