@@ -2,6 +2,7 @@
 //! e-blocks and synchronization units, and the words in which a process ends.
 #![tactic(auto)]
 
+pub mod limits;
 mod lists;
 mod plan;
 mod program;
