@@ -1,8 +1,10 @@
 -- Expressions of the table as trees, and which programs and plans are valid.
 pub mod Cells
+pub mod Counting
 pub mod Numbered
 pub mod Order
 pub mod Table
+pub mod Tally
 pub mod Term
 pub mod Uses
 pub mod Valid
