@@ -1,7 +1,9 @@
 -- Lists that count up, and the order of statements.
-use Rattle.std.proofs.Common.{◌≡◌, ◌≢◌, ℕ, zero, suc, pred, ◌+◌, ◌-◌, ◌<◌, ◌==◌, Bool, true, false, cond, List, [], ◌∷◌, ◌++◌, length, get_or, take, drop, Option, Some, None, refl, sym, ap, ◌∙◌, subst, arith, nat_eq}
+use Rattle.std.proofs.Common.{◌≡◌, ◌≢◌, ◌≤◌, ℕ, zero, suc, pred, ◌+◌, ◌-◌, ◌<◌, ◌==◌, Bool, true, false, cond, List, [], ◌∷◌, ◌++◌, length, get_or, take, drop, Option, Some, None, refl, sym, ap, ◌∙◌, subst, arith, nat_eq}
 use Rattle.std.specs.Prelude.{slice_get}
-use Rattle.std.specs.List.{flat_map}
+use Rattle.std.specs.List.{flat_map, range_with_len}
+use Rattle.std.specs.Option.{option_eq}
+use Rattle.std.proofs.lemmas.Bool.Decides.{nat_tests}
 use Rattle.std.proofs.lemmas.Grind.{flat_map-append, common_steps}
 use Rattle.ppd_ast.specs.declared.program.Stmt.{Stmt}
 use Rattle.ppd_ast.specs.Counting.{counted}
@@ -65,3 +67,39 @@ counted_whole f list k from h =
     ap (λ l. counted (flat_map f l) from) (sym e)
     ∙ ap (λ l. counted l from) (flat_map-append f (take k list) (drop k list))
     ∙ counted_none (flat_map f (take k list)) (flat_map f (drop k list)) from h
+
+-- a list that counts up from n to before m is their range
+pub counted_is_range : (list : List ℕ) (n m : ℕ) → counted list n ≡ Some m → (n ≤ m) × (list ≡ range_with_len n (m - n))
+counted_is_range [] n m h =
+    let e : n ≡ m = cc in
+    let z : m - n ≡ 0 = omega arith in
+    (omega arith, ap (range_with_len n) (sym z))
+counted_is_range (i ∷ is) n m h = split (λ r. counted_is_range is (n + 1) m r) (i == n) refl h
+  where
+    split : (counted is (n + 1) ≡ Some m → (n + 1 ≤ m) × (is ≡ range_with_len (n + 1) (m - (n + 1)))) → (b : Bool) → (i == n) ≡ b
+        → cond b (counted is (n + 1)) None ≡ Some m → (n ≤ m) × (i ∷ is ≡ range_with_len n (m - n))
+    split further true t r =
+        let rest = further r in
+        let below : n + 1 ≤ m = rest.0 in
+        let same : i ≡ n = grind (arith, common_steps) in
+        let more : m - n ≡ suc (m - (n + 1)) = omega arith in
+        (omega arith, ap (λ k. k ∷ is) same ∙ ap (λ l. n ∷ l) rest.1 ∙ ap (range_with_len n) (sym more))
+    split further false t r = absurd (let no : ⊥ = cc in no)
+
+counted_range : (k n : ℕ) → counted (range_with_len n k) n ≡ Some (n + k)
+counted_range zero n = ap Some (omega arith)
+counted_range (suc k) n = counted_next n (range_with_len (n + 1) k) ∙ counted_range k (n + 1) ∙ ap Some (omega arith)
+
+pub range_is_counted : (list : List ℕ) (n m : ℕ) → n ≤ m → list ≡ range_with_len n (m - n) → counted list n ≡ Some m
+range_is_counted list n m h e =
+    let s : n + (m - n) ≡ m = omega arith in
+    ap (λ l. counted l n) e ∙ counted_range (m - n) n ∙ ap Some s
+
+-- a test for one number
+pub is_that : (o : Option ℕ) (m : ℕ) → option_eq nat_eq o (Some m) ≡ true → o ≡ Some m
+is_that None m h = cc
+is_that (Some n) m h = let e : n ≡ m = grind (arith, nat_tests) in ap Some e
+
+pub that_is : (o : Option ℕ) (m : ℕ) → o ≡ Some m → option_eq nat_eq o (Some m) ≡ true
+that_is None m h = cc
+that_is (Some n) m h = let e : n ≡ m = cc in grind (arith, nat_tests)

@@ -1,7 +1,8 @@
-ghost use Rattle.std.specs.Prelude.{◌≡◌, ◌<◌, ◌≤◌, ◌↔◌, ◌+◌, ◌-◌, ℕ, nat_le, IsTrue, IsSome, IsSomeAnd, length, slice_get, Some};
+ghost use Rattle.std.specs.Prelude.{◌≡◌, ◌<◌, ◌≤◌, ◌↔◌, ◌+◌, ◌-◌, ℕ, nat_le, IsTrue, IsSome, IsSomeAnd, length, slice_get, Some, None, false};
 ghost use Rattle.std.specs.List.{All, flat_map, range_with_len};
 ghost use Rattle.ppd_ast.specs.Table.{EachAt, AreChildrenBelow};
-ghost use Rattle.ppd_ast.specs.Order.{preorder};
+ghost use Rattle.ppd_ast.specs.Cells.{CoverCells, AreParams};
+ghost use Rattle.ppd_ast.specs.Order.{preorder, StandIn};
 ghost use Rattle.ppd_ast.specs.Uses.{kind_uses};
 ghost use Rattle.ppd_ast.specs.Valid.{IsName, AreNamed, AreWithinLimits, Follow, last_of, IsEnding, EndsBody, HasObject, CallsRightly, IsValidUse, IsValidKind, IsValidStmt, IsValidBody, IsValid};
 
@@ -104,6 +105,23 @@ impl Kind {
             Kind::End => body.process && last_of(body.top.as_slice()) == Some(number),
             _ => true,
         }
+    }
+}
+
+impl Body {
+    // Whether the body, if it is a process, has no parameters and gives no value.
+    fn is_plain_process(&self) -> bool
+        ensures { IsTrue result ↔ (IsTrue self.now.process → (self.now.params ≡ 0) × (self.now.value ≡ false)) }
+    {
+        !self.process || (self.params == 0 && !self.value)
+    }
+
+    fn has_valid_frame(&self) -> bool
+        ensures { IsTrue result ↔ ((self.now.cells ≤ MOST_LOCAL_CELLS) × CoverCells self.now.locals self.now.cells × AreParams self.now.locals self.now.params) }
+    {
+        self.cells as usize <= MOST_LOCAL_CELLS
+            && do_cover(self.locals.as_slice(), self.cells as usize)
+            && are_params(self.locals.as_slice(), self.params)
     }
 }
 
@@ -247,21 +265,40 @@ impl Program {
         counted_in(stmts, body.top.as_slice(), first, MOST_NESTING) == Some(body.end as usize)
     }
 
+    // What stands of the body itself: of which sort it is, and its names.
+    fn has_valid_head(&self, number: u16, body: &Body) -> bool
+        ensures { IsTrue result ↔ ((body.now.process ≡ nat_le self.now.functions number) × (IsTrue body.now.process → (body.now.params ≡ 0) × (body.now.value ≡ false)) × IsName body.now.name × AreNamed body.now.locals) }
+    {
+        body.process == (self.functions <= number)
+            && body.is_plain_process()
+            && is_name(body.name.as_slice())
+            && are_named(body.locals.as_slice())
+    }
+
+    // Its statements: their order, the top list, and the last one.
+    fn has_valid_list(&self, number: u16, body: &Body) -> bool
+        requires { body.now.first ≤ body.now.end }
+        ensures { IsTrue result ↔ ((flat_map (preorder MOST_NESTING self.now.stmts) body.now.top ≡ range_with_len body.now.first (body.now.end - body.now.first)) × StandIn self.now.stmts None number body.now.top × IsSomeAnd (last_of body.now.top) (λ i. IsSomeAnd (slice_get self.now.stmts i) (λ s. IsEnding s.kind))) }
+    {
+        let stmts = self.stmts.as_slice();
+        self.is_body_in_order(body)
+            && do_stand_in(stmts, None, number, body.top.as_slice())
+            && is_ending_at(stmts, last_of(body.top.as_slice()))
+    }
+
     fn is_valid_body(&self, number: u16, body: &Body) -> bool
         requires { body.now.first ≤ body.now.end }
         ensures { IsTrue result ↔ IsValidBody self.now number body.now }
     {
-        body.process == (self.functions <= number)
-            && (!body.process || (body.params == 0 && !body.value))
-            && is_name(body.name.as_slice())
-            && are_named(body.locals.as_slice())
-            && body.cells as usize <= MOST_LOCAL_CELLS
-            && do_cover(body.locals.as_slice(), body.cells as usize)
-            && are_params(body.locals.as_slice(), body.params)
-            && self.is_body_in_order(body)
-            && do_stand_in(self.stmts.as_slice(), None, number, body.top.as_slice())
-            && is_ending_at(self.stmts.as_slice(), last_of(body.top.as_slice()))
+        if !self.has_valid_head(number, body) {
+            return false;
+        }
+        if !body.has_valid_frame() {
+            return false;
+        }
+        self.has_valid_list(number, body)
     }
+
     fn are_valid_bodies(&self) -> bool
         requires limits { AreWithinLimits self.now }
         requires ranges { Follow 0 self.now.bodies (length self.now.stmts) }
@@ -280,12 +317,26 @@ impl Program {
     pub fn valid(&self) -> bool
         ensures { IsTrue result ↔ IsValid self.now }
     {
-        self.is_within_limits()
-            && are_ordered(self.exprs.as_slice())
-            && are_used_once(self.exprs.as_slice(), self.stmts.as_slice())
-            && do_cover(self.shared.as_slice(), self.starts.len())
-            && do_follow(self.bodies.as_slice(), self.stmts.len())
-            && self.are_valid_bodies()
-            && self.are_valid_stmts()
+        let exprs = self.exprs.as_slice();
+        let stmts = self.stmts.as_slice();
+        if !self.is_within_limits() {
+            return false;
+        }
+        if !are_ordered(exprs) {
+            return false;
+        }
+        if !are_used_once(exprs, stmts) {
+            return false;
+        }
+        if !do_cover(self.shared.as_slice(), self.starts.len()) {
+            return false;
+        }
+        if !do_follow(self.bodies.as_slice(), stmts.len()) {
+            return false;
+        }
+        if !self.are_valid_bodies() {
+            return false;
+        }
+        self.are_valid_stmts()
     }
 }
