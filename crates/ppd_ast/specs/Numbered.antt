@@ -113,11 +113,6 @@ blocks_of stmts policy j b =
     (if is_block_body stmts policy b then body_kind j b ∷ [] else [])
     ++ flat_map (loops_at stmts policy) (numbers_of stmts b)
 
--- the blocks of the bodies from j on
-abbrev pub blocks_from : List Stmt → Policy → ℕ → List Body → List BlockKind
-blocks_from stmts policy j [] = []
-blocks_from stmts policy j (b ∷ bs) = blocks_of stmts policy j b ++ blocks_from stmts policy (j + 1) bs
-
 abbrev pub starts_of : List Stmt → Policy → ℕ → Option Stmt → List Start
 starts_of stmts policy k None = []
 starts_of stmts policy k (Some s) =
@@ -129,8 +124,17 @@ starts_of stmts policy k (Some s) =
 abbrev pub starts_at : List Stmt → Policy → ℕ → List Start
 starts_at stmts policy k = starts_of stmts policy k (slice_get stmts k)
 
--- the starts of units in the bodies from j on: each body's entry, then those at its statements
-abbrev pub starts_from : List Stmt → Policy → ℕ → List Body → List Start
-starts_from stmts policy j [] = []
-starts_from stmts policy j (b ∷ bs) =
-    (Entry j ∷ flat_map (starts_at stmts policy) (numbers_of stmts b)) ++ starts_from stmts policy (j + 1) bs
+-- the starts of units of body j: its entry, then those at its statements
+abbrev pub body_starts : List Stmt → Policy → ℕ → Body → List Start
+body_starts stmts policy j b = Entry j ∷ flat_map (starts_at stmts policy) (numbers_of stmts b)
+
+-- what there is for each body and its number, one after another, from number j on
+abbrev pub each_from : {X : Type 0} → (ℕ → Body → List X) → ℕ → List Body → List X
+each_from f j [] = []
+each_from f j (b ∷ bs) = f j b ++ each_from f (j + 1) bs
+
+abbrev pub blocks_by : List Stmt → Policy → List Body → List BlockKind
+blocks_by stmts policy bodies = each_from (blocks_of stmts policy) 0 bodies
+
+abbrev pub starts_by : List Stmt → Policy → List Body → List Start
+starts_by stmts policy bodies = each_from (body_starts stmts policy) 0 bodies

@@ -11,7 +11,7 @@ use Rattle.ppd_ast.specs.declared.plan.BlockKind.{BlockKind}
 use Rattle.ppd_ast.specs.declared.plan.BlockKind.TheVariants.{Function, Process, Loop}
 use Rattle.ppd_ast.specs.declared.plan.Unit.{Unit}
 use Rattle.ppd_ast.specs.declared.limits.TheConstants.{MOST_POLICY}
-use Rattle.ppd_ast.specs.Numbered.{blocks_from, starts_from}
+use Rattle.ppd_ast.specs.Numbered.{blocks_by, starts_by}
 
 -- a list of cells is rising, and its cells are below n
 pub record AreCells (n : ℕ) (cells : List ℕ) : Type 0 where
@@ -51,8 +51,8 @@ IsValidBlock p block = IsBlockOf p block.kind block
 pub record IsValidPlan (p : Program) (plan : Plan) : Type 0 where
   pub policy : IsValidPolicy plan.policy
   -- the blocks and units are those of the policy, in the order of their numbers
-  pub kinds : map (λ block. block.kind) plan.blocks ≡ blocks_from p.stmts plan.policy 0 p.bodies
-  pub starts : map (λ unit. unit.start) plan.units ≡ starts_from p.stmts plan.policy 0 p.bodies
+  pub kinds : map (λ block. block.kind) plan.blocks ≡ blocks_by p.stmts plan.policy p.bodies
+  pub starts : map (λ unit. unit.start) plan.units ≡ starts_by p.stmts plan.policy p.bodies
   pub blocks : All (IsValidBlock p) plan.blocks
   -- a unit's cells are shared cells
   pub units : All (λ unit. AreCells (length p.starts) unit.cells) plan.units

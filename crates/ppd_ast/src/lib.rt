@@ -5,6 +5,7 @@
 mod cells;
 pub mod limits;
 mod lists;
+mod numbered;
 mod order;
 mod plan;
 mod program;
