@@ -12,6 +12,7 @@ mod program;
 mod status;
 mod uses;
 mod valid;
+mod valid_plan;
 
 pub use lists::{Bytes, Cells, Ids, Memory, Nums, Seq};
 pub use plan::{Block, BlockKind, Plan, Policy, Start, Unit};
