@@ -1,3 +1,12 @@
--- Expressions of the table as trees.
+-- Expressions of the table as trees, and which programs and plans are valid.
+pub mod Begins
+pub mod Cells
+pub mod Counting
+pub mod Numbered
+pub mod Order
 pub mod Table
+pub mod Tally
 pub mod Term
+pub mod Uses
+pub mod Valid
+pub mod ValidPlan

@@ -2,10 +2,17 @@
 //! e-blocks and synchronization units, and the words in which a process ends.
 #![tactic(auto)]
 
+mod cells;
+pub mod limits;
 mod lists;
+mod numbered;
+mod order;
 mod plan;
 mod program;
 mod status;
+mod uses;
+mod valid;
+mod valid_plan;
 
 pub use lists::{Bytes, Cells, Ids, Memory, Nums, Seq};
 pub use plan::{Block, BlockKind, Plan, Policy, Start, Unit};

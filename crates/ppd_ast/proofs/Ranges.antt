@@ -1,0 +1,107 @@
+-- Walks over the numbers of statements and over bodies.
+use Rattle.std.proofs.Common.{◌≡◌, ◌≢◌, ℕ, zero, suc, ◌+◌, ◌-◌, ◌<◌, ◌≤◌, Bool, true, false, List, [], ◌∷◌, ◌++◌, length, get_or, take, drop, Option, Some, None, refl, sym, ap, ◌∙◌, arith, subst, length-append, length-take, length-drop}
+use Rattle.std.specs.Prelude.{◌||◌}
+use Rattle.std.specs.List.{flat_map, range_with_len, list_any}
+use Rattle.std.proofs.lemmas.List.{append_assoc, append-nil, take_more}
+use Rattle.std.proofs.lemmas.List.Folds.{list_any-append}
+use Rattle.std.proofs.lemmas.Grind.{flat_map-append, common_steps}
+use Rattle.ppd_ast.specs.declared.program.Body.{Body}
+use Rattle.ppd_ast.specs.Begins.{Begins}
+use Rattle.ppd_ast.specs.Numbered.{each_from}
+use Rattle.ppd_ast.proofs.Beginnings.{begins_then, begins_stop_at}
+
+range_append : (a m n : ℕ) → range_with_len a (m + n) ≡ range_with_len a m ++ range_with_len (a + m) n
+range_append a zero n =
+    let e : 0 + n ≡ n = omega arith in
+    let f : a ≡ a + 0 = omega arith in
+    ap (range_with_len a) e ∙ ap (λ b. range_with_len b n) f
+range_append a (suc m) n =
+    let e : suc m + n ≡ suc (m + n) = omega arith in
+    let f : a + 1 + m ≡ a + suc m = omega arith in
+    ap (range_with_len a) e ∙ ap (λ l. a ∷ l) (range_append (a + 1) m n ∙ ap (λ b. range_with_len (a + 1) m ++ range_with_len b n) f)
+
+-- one more number
+pub range_more : (a k : ℕ) → a ≤ k → range_with_len a (k + 1 - a) ≡ range_with_len a (k - a) ++ k ∷ []
+range_more a k h =
+    let e : k + 1 - a ≡ (k - a) + 1 = omega arith in
+    let f : a + (k - a) ≡ k = omega arith in
+    ap (range_with_len a) e ∙ range_append a (k - a) 1 ∙ ap (λ b. range_with_len a (k - a) ++ b ∷ []) f
+
+-- the numbers up to k, k, and those after it
+pub range_split : (a k e : ℕ) → a ≤ k → k < e → range_with_len a (e - a) ≡ (range_with_len a (k - a) ++ k ∷ []) ++ range_with_len (k + 1) (e - (k + 1))
+range_split a k e h l =
+    let n : e - a ≡ (k + 1 - a) + (e - (k + 1)) = omega arith in
+    let f : a + (k + 1 - a) ≡ k + 1 = omega arith in
+    ap (range_with_len a) n ∙ range_append a (k + 1 - a) (e - (k + 1))
+    ∙ ap (λ b. range_with_len a (k + 1 - a) ++ range_with_len b (e - (k + 1))) f
+    ∙ ap (λ r. r ++ range_with_len (k + 1) (e - (k + 1))) (range_more a k h)
+
+flat_one : {X : Type 0} (f : ℕ → List X) (xs : List ℕ) (k : ℕ) → flat_map f (xs ++ k ∷ []) ≡ flat_map f xs ++ f k
+flat_one f xs k = flat_map-append f xs (k ∷ []) ∙ ap (λ l. flat_map f xs ++ l) (append-nil (f k))
+
+module _ {X : Type 0} (f : ℕ → List X) (list : List X) (place next a k : ℕ) (low : a ≤ k)
+    (so_far : drop place list ≡ flat_map f (range_with_len a (k - a)) ++ drop next list) where
+  pub walk_more : (m : ℕ) → drop next list ≡ f k ++ drop m list → drop place list ≡ flat_map f (range_with_len a (k + 1 - a)) ++ drop m list
+  walk_more m h =
+      so_far ∙ ap (λ l. flat_map f (range_with_len a (k - a)) ++ l) h
+      ∙ sym (append_assoc (flat_map f (range_with_len a (k - a))) (f k) (drop m list))
+      ∙ ap (λ l. l ++ drop m list) (sym (flat_one f (range_with_len a (k - a)) k) ∙ ap (flat_map f) (sym (range_more a k low)))
+
+  pub walk_stop : (e : ℕ) → k < e → ((rest : List X) → drop next list ≡ f k ++ rest → ⊥) → Begins None list place (flat_map f (range_with_len a (e - a)))
+  walk_stop e high h =
+      let all : flat_map f (range_with_len a (e - a)) ≡ (flat_map f (range_with_len a (k - a)) ++ f k) ++ flat_map f (range_with_len (k + 1) (e - (k + 1))) =
+      ap (flat_map f) (range_split a k e low high) ∙ flat_map-append f (range_with_len a (k - a) ++ k ∷ []) (range_with_len (k + 1) (e - (k + 1)))
+      ∙ ap (λ l. l ++ flat_map f (range_with_len (k + 1) (e - (k + 1)))) (flat_one f (range_with_len a (k - a)) k) in
+      begins_stop_at list place (flat_map f (range_with_len a (k - a)) ++ f k) (flat_map f (range_with_len (k + 1) (e - (k + 1)))) _ all
+      (begins_then list place next (flat_map f (range_with_len a (k - a))) (f k) None so_far h)
+
+each_append : {X : Type 0} (f : ℕ → Body → List X) (j : ℕ) (xs ys : List Body) → each_from f j (xs ++ ys) ≡ each_from f j xs ++ each_from f (j + length xs) ys
+each_append f j [] ys = let e : j ≡ j + 0 = omega arith in ap (λ n. each_from f n ys) e
+each_append f j (x ∷ xs) ys =
+    let e : j + 1 + length xs ≡ j + suc (length xs) = omega arith in
+    ap (λ l. f j x ++ l) (each_append f (j + 1) xs ys ∙ ap (λ n. each_from f (j + 1) xs ++ each_from f n ys) e)
+    ∙ sym (append_assoc (f j x) (each_from f (j + 1) xs) (each_from f (j + suc (length xs)) ys))
+
+pub each_more : {X : Type 0} (f : ℕ → Body → List X) (bs : List Body) (k : ℕ) (b : Body) → k < length bs → b ≡ get_or bs k b → each_from f 0 (take (k + 1) bs) ≡ each_from f 0 (take k bs) ++ f k b
+each_more f bs k b h is =
+    let long : 0 + length (take k bs) ≡ k = omega (arith, length-take k bs) in
+    ap (each_from f 0) (take_more bs k b h ∙ ap (λ x. take k bs ++ x ∷ []) (sym is)) ∙ each_append f 0 (take k bs) (b ∷ [])
+    ∙ ap (λ l. each_from f 0 (take k bs) ++ l) (append-nil (f (0 + length (take k bs)) b)) ∙ ap (λ n. each_from f 0 (take k bs) ++ f n b) long
+
+module _ {X : Type 0} (f : ℕ → Body → List X) (list : List X) (next k : ℕ) (bs : List Body) (b : Body) (inside : k < length bs) (is : b ≡ get_or bs k b)
+    (so_far : drop 0 list ≡ each_from f 0 (take k bs) ++ drop next list) where
+  pub bodies_more : (m : ℕ) → drop next list ≡ f k b ++ drop m list → drop 0 list ≡ each_from f 0 (take (k + 1) bs) ++ drop m list
+  bodies_more m h =
+      so_far ∙ ap (λ l. each_from f 0 (take k bs) ++ l) h ∙ sym (append_assoc (each_from f 0 (take k bs)) (f k b) (drop m list))
+      ∙ ap (λ l. l ++ drop m list) (sym (each_more f bs k b inside is))
+
+  pub bodies_stop : ((rest : List X) → drop next list ≡ f k b ++ rest → ⊥) → Begins None list 0 (each_from f 0 bs)
+  bodies_stop h =
+      let cut : take (k + 1) bs ++ drop (k + 1) bs ≡ bs = grind (arith, common_steps) in
+      let all : each_from f 0 bs ≡ (each_from f 0 (take k bs) ++ f k b) ++ each_from f (0 + length (take (k + 1) bs)) (drop (k + 1) bs) =
+      ap (each_from f 0) (sym cut) ∙ each_append f 0 (take (k + 1) bs) (drop (k + 1) bs)
+      ∙ ap (λ l. l ++ each_from f (0 + length (take (k + 1) bs)) (drop (k + 1) bs)) (each_more f bs k b inside is) in
+      begins_stop_at list 0 (each_from f 0 (take k bs) ++ f k b) (each_from f (0 + length (take (k + 1) bs)) (drop (k + 1) bs)) _ all
+      (begins_then list 0 next (each_from f 0 (take k bs)) (f k b) None so_far h)
+
+-- a test at each of the numbers
+pub any_more : (p : ℕ → Bool) (a k : ℕ) → a ≤ k → list_any p (range_with_len a (k - a)) ≡ false → p k ≡ false → list_any p (range_with_len a (k + 1 - a)) ≡ false
+any_more p a k low h g =
+    ap (list_any p) (range_more a k low) ∙ list_any-append p (range_with_len a (k - a)) (k ∷ []) ∙ grind (arith, common_steps)
+
+pub any_found : (p : ℕ → Bool) (a k e : ℕ) → a ≤ k → k < e → p k ≡ true → list_any p (range_with_len a (e - a)) ≡ true
+any_found p a k e low high g =
+    ap (list_any p) (range_split a k e low high) ∙ list_any-append p (range_with_len a (k - a) ++ k ∷ []) (range_with_len (k + 1) (e - (k + 1)))
+    ∙ ap (λ b. b || list_any p (range_with_len (k + 1) (e - (k + 1)))) (list_any-append p (range_with_len a (k - a)) (k ∷ [])) ∙ grind (arith, common_steps)
+
+-- the whole list is these items just where they stand in it from its beginning and nothing is left
+pub whole_is : {X : Type 0} (list items : List X) (n : ℕ) → length list ≤ n → drop 0 list ≡ items ++ drop n list → list ≡ items
+whole_is list items n e h =
+    let none : drop n list ≡ [] = grind (arith, common_steps) in
+    h ∙ ap (λ l. items ++ l) none ∙ append-nil items
+
+pub whole_ends : {X : Type 0} (list items : List X) (n : ℕ) → list ≡ items → drop 0 list ≡ items ++ drop n list → length list ≤ n
+whole_ends list items n e h =
+    let l : length list ≡ length items + length (drop n list) = ap length h ∙ length-append items (drop n list) in
+    let m : length items ≡ length list = ap length (sym e) in
+    omega (arith, l, m, length-drop n list)

@@ -1,0 +1,32 @@
+//! The limits of programs and plans.
+
+/// Core statements of a program, at most.
+pub const MOST_STATEMENTS: usize = 4096;
+/// Functions of a program, at most.
+pub const MOST_FUNCTIONS: usize = 256;
+/// Processes of a program, at most; at least there is one.
+pub const MOST_PROCESSES: usize = 16;
+/// Cells of a body's frame, at most.
+pub const MOST_LOCAL_CELLS: usize = 256;
+/// Shared cells of a program, at most.
+pub const MOST_SHARED_CELLS: usize = 1024;
+/// Semaphores of a program, at most.
+pub const MOST_SEMAPHORES: usize = 64;
+/// Channels of a program, at most.
+pub const MOST_CHANNELS: usize = 64;
+/// Bytes of a name, at most.
+pub const MOST_NAME_BYTES: usize = 64;
+/// The greatest initial value of a semaphore.
+pub const MOST_START: u32 = 65_535;
+/// The smallest capacity of a channel.
+pub const LEAST_CAPACITY: u8 = 1;
+/// The greatest capacity of a channel.
+pub const MOST_CAPACITY: u8 = 64;
+/// Statements that stand in one another, at most; one in a top list is the first.
+pub const MOST_NESTING: u32 = 64;
+/// Operators of an expression, at most: two expressions of a source with the operator that joins them.
+pub const MOST_OPERATORS: u32 = 513;
+/// Nodes from an expression's root to a leaf, both counted, at most.
+pub const MOST_EXPRESSION_DEPTH: u32 = 1024;
+/// The greatest number of a policy.
+pub const MOST_POLICY: u16 = 4096;

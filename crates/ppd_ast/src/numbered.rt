@@ -1,0 +1,351 @@
+ghost use Rattle.std.specs.Prelude.{◌≡◌, ◌↔◌, ◌<◌, ◌-◌, [], ◌∷◌, IsTrue, length, map, min, if◌then◌else◌};
+ghost use Rattle.std.specs.List.{flat_map};
+ghost use Rattle.ppd_ast.specs.Begins.{Begins};
+ghost use Rattle.ppd_ast.specs.Numbered.{is_while, is_call, is_left, numbers_of, in_while, inside_count, is_block_loop, has_call, is_block_body, body_kind, loops_of, loops_at, blocks_of, blocks_by, starts_at, body_starts, starts_by};
+ghost use Rattle.ppd_ast.specs.Order.{inner, preorder};
+
+use crate::limits::MOST_NESTING;
+use crate::plan::{Block, BlockKind, Policy, Start, Unit};
+use crate::program::{Body, Kind, Stmt};
+
+impl Kind {
+    fn is_while(&self) -> bool
+        ensures { result ≡ is_while self.now }
+    {
+        match self {
+            Kind::While(_, _) => true,
+            _ => false,
+        }
+    }
+
+    fn is_call(&self) -> bool
+        ensures { result ≡ is_call self.now }
+    {
+        match self {
+            Kind::Call { .. } => true,
+            _ => false,
+        }
+    }
+
+    fn is_left(&self) -> bool
+        ensures { result ≡ is_left self.now }
+    {
+        match self {
+            Kind::Call { .. } | Kind::P(_) | Kind::V(_) | Kind::Send(_, _) | Kind::Recv(_, _) => {
+                true
+            }
+            _ => false,
+        }
+    }
+}
+
+// Whether a `while` is among this parent and those that it stands in. It calls itself no deeper.
+fn is_in_while(stmts: &[Stmt], parent: Option<u32>, depth: u32) -> bool
+    ensures { result ≡ in_while depth stmts.now parent }
+{
+    if depth == 0 {
+        return false;
+    }
+    match parent {
+        None => false,
+        Some(number) => match stmts.get(number as usize) {
+            None => false,
+            Some(stmt) => stmt.kind.is_while() || is_in_while(stmts, stmt.parent, depth - 1),
+        },
+    }
+}
+
+// How many are wanted beside the statements of the list and those inside them.
+#[cycle(missing)]
+fn missing_in(stmts: &[Stmt], list: &[u32], wanted: u16, depth: u32) -> u16
+    ensures { result ≡ wanted - length (flat_map (preorder depth stmts.now) list.now) }
+{
+    if depth == 0 {
+        return wanted;
+    }
+    let mut missing = wanted;
+    for number in list {
+        if missing == 0 {
+            return 0;
+        }
+        missing = match stmts.get(*number as usize) {
+            None => missing - 1,
+            Some(stmt) => missing_inside(stmts, &stmt.kind, missing - 1, depth - 1),
+        };
+    }
+    missing
+}
+
+#[cycle(missing)]
+fn missing_inside(stmts: &[Stmt], kind: &Kind, wanted: u16, depth: u32) -> u16
+    ensures { result ≡ wanted - length (flat_map (preorder depth stmts.now) (inner kind.now)) }
+{
+    match kind {
+        Kind::If(_, first, second) => {
+            let missing = missing_in(stmts, first.as_slice(), wanted, depth);
+            missing_in(stmts, second.as_slice(), missing, depth)
+        }
+        Kind::While(_, body) => missing_in(stmts, body.as_slice(), wanted, depth),
+        _ => wanted,
+    }
+}
+
+fn is_block_loop(stmts: &[Stmt], policy: Policy, stmt: &Stmt) -> bool
+    ensures { result ≡ is_block_loop stmts.now policy stmt.now }
+{
+    stmt.kind.is_while()
+        && policy.loops > 0
+        && !is_in_while(stmts, stmt.parent, MOST_NESTING)
+        && missing_inside(stmts, &stmt.kind, policy.loops, MOST_NESTING) == 0
+}
+
+// The number after the body's last statement that is there.
+fn end_of(stmts: &[Stmt], body: &Body) -> u32
+    ensures { result ≡ min body.now.end (length stmts.now) }
+{
+    (body.end as usize).min(stmts.len()) as u32
+}
+
+fn has_call(stmts: &[Stmt], body: &Body) -> bool
+    ensures { result ≡ has_call stmts.now body.now }
+{
+    for number in body.first..end_of(stmts, body) {
+        if stmts[number as usize].kind.is_call() {
+            return true;
+        }
+    }
+    false
+}
+
+fn is_block_body(stmts: &[Stmt], policy: Policy, body: &Body) -> bool
+    ensures { result ≡ is_block_body stmts.now policy body.now }
+{
+    body.process
+        || has_call(stmts, body)
+        || policy.leaf as u32 <= body.end.saturating_sub(body.first)
+}
+
+fn start_at(units: &[Unit], place: usize, start: Start) -> Option<usize>
+    ensures { Begins result (map (λ unit. unit.start) units.now) place (start ∷ []) }
+{
+    match units.get(place) {
+        None => None,
+        Some(unit) => {
+            if unit.start == start {
+                Some(place + 1)
+            } else {
+                None
+            }
+        }
+    }
+}
+
+fn entry_at(units: &[Unit], place: usize, body: usize) -> Option<usize>
+    ensures { Begins result (map (λ unit. unit.start) units.now) place (Start.Entry body ∷ []) }
+{
+    match units.get(place) {
+        None => None,
+        Some(unit) => match unit.start {
+            Start::Entry(number) => {
+                if number as usize == body {
+                    Some(place + 1)
+                } else {
+                    None
+                }
+            }
+            _ => None,
+        },
+    }
+}
+
+fn starts_at_stmt(
+    units: &[Unit],
+    place: usize,
+    stmts: &[Stmt],
+    policy: Policy,
+    number: u32,
+) -> Option<usize>
+    requires { number < length stmts.now }
+    ensures { Begins result (map (λ unit. unit.start) units.now) place (starts_at stmts.now policy number) }
+{
+    let stmt = &stmts[number as usize];
+    if stmt.kind.is_left() {
+        return start_at(units, place, Start::After(number));
+    }
+    if !is_block_loop(stmts, policy, stmt) {
+        return Some(place);
+    }
+    let next = start_at(units, place, Start::Enter(number))?;
+    start_at(units, next, Start::Exit(number))
+}
+
+fn starts_of_stmts(
+    units: &[Unit],
+    place: usize,
+    stmts: &[Stmt],
+    policy: Policy,
+    body: &Body,
+) -> Option<usize>
+    ensures { Begins result (map (λ unit. unit.start) units.now) place (flat_map (starts_at stmts.now policy) (numbers_of stmts.now body.now)) }
+{
+    let mut next = place;
+    for number in body.first..end_of(stmts, body) {
+        next = starts_at_stmt(units, next, stmts, policy, number)?;
+    }
+    Some(next)
+}
+
+fn starts_of_body(
+    units: &[Unit],
+    place: usize,
+    stmts: &[Stmt],
+    policy: Policy,
+    number: usize,
+    body: &Body,
+) -> Option<usize>
+    ensures { Begins result (map (λ unit. unit.start) units.now) place (body_starts stmts.now policy number body.now) }
+{
+    let next = entry_at(units, place, number)?;
+    starts_of_stmts(units, next, stmts, policy, body)
+}
+
+fn starts_of_bodies(
+    units: &[Unit],
+    stmts: &[Stmt],
+    policy: Policy,
+    bodies: &[Body],
+) -> Option<usize>
+    ensures { Begins result (map (λ unit. unit.start) units.now) 0 (starts_by stmts.now policy bodies.now) }
+{
+    let mut next = 0;
+    for number in 0..bodies.len() {
+        next = starts_of_body(units, next, stmts, policy, number, &bodies[number])?;
+    }
+    Some(next)
+}
+
+// Whether the units are those of the policy, in the order of their numbers.
+pub(crate) fn are_units(units: &[Unit], stmts: &[Stmt], policy: Policy, bodies: &[Body]) -> bool
+    ensures { IsTrue result ↔ (map (λ unit. unit.start) units.now ≡ starts_by stmts.now policy bodies.now) }
+{
+    match starts_of_bodies(units, stmts, policy, bodies) {
+        None => false,
+        Some(end) => units.len() <= end,
+    }
+}
+
+fn loop_at(blocks: &[Block], place: usize, number: u32) -> Option<usize>
+    ensures { Begins result (map (λ block. block.kind) blocks.now) place (BlockKind.Loop number ∷ []) }
+{
+    match blocks.get(place) {
+        None => None,
+        Some(block) => {
+            if block.kind == BlockKind::Loop(number) {
+                Some(place + 1)
+            } else {
+                None
+            }
+        }
+    }
+}
+
+fn body_at(blocks: &[Block], place: usize, number: usize, body: &Body) -> Option<usize>
+    ensures { Begins result (map (λ block. block.kind) blocks.now) place (body_kind number body.now ∷ []) }
+{
+    match blocks.get(place) {
+        None => None,
+        Some(block) => {
+            if block.kind.is_of_body(number, body.process) {
+                Some(place + 1)
+            } else {
+                None
+            }
+        }
+    }
+}
+
+impl BlockKind {
+    fn is_of_body(&self, body: usize, process: bool) -> bool
+        ensures { IsTrue result ↔ (self.now ≡ (if process then BlockKind.Process body else BlockKind.Function body)) }
+    {
+        match *self {
+            BlockKind::Function(number) => !process && number as usize == body,
+            BlockKind::Process(number) => process && number as usize == body,
+            BlockKind::Loop(_) => false,
+        }
+    }
+}
+
+fn loops_at_stmt(
+    blocks: &[Block],
+    place: usize,
+    stmts: &[Stmt],
+    policy: Policy,
+    number: u32,
+) -> Option<usize>
+    requires { number < length stmts.now }
+    ensures { Begins result (map (λ block. block.kind) blocks.now) place (loops_at stmts.now policy number) }
+{
+    if !is_block_loop(stmts, policy, &stmts[number as usize]) {
+        return Some(place);
+    }
+    loop_at(blocks, place, number)
+}
+
+fn loops_of_stmts(
+    blocks: &[Block],
+    place: usize,
+    stmts: &[Stmt],
+    policy: Policy,
+    body: &Body,
+) -> Option<usize>
+    ensures { Begins result (map (λ block. block.kind) blocks.now) place (flat_map (loops_at stmts.now policy) (numbers_of stmts.now body.now)) }
+{
+    let mut next = place;
+    for number in body.first..end_of(stmts, body) {
+        next = loops_at_stmt(blocks, next, stmts, policy, number)?;
+    }
+    Some(next)
+}
+
+fn blocks_of_body(
+    blocks: &[Block],
+    place: usize,
+    stmts: &[Stmt],
+    policy: Policy,
+    number: usize,
+    body: &Body,
+) -> Option<usize>
+    ensures { Begins result (map (λ block. block.kind) blocks.now) place (blocks_of stmts.now policy number body.now) }
+{
+    if !is_block_body(stmts, policy, body) {
+        return loops_of_stmts(blocks, place, stmts, policy, body);
+    }
+    let next = body_at(blocks, place, number, body)?;
+    loops_of_stmts(blocks, next, stmts, policy, body)
+}
+
+fn blocks_of_bodies(
+    blocks: &[Block],
+    stmts: &[Stmt],
+    policy: Policy,
+    bodies: &[Body],
+) -> Option<usize>
+    ensures { Begins result (map (λ block. block.kind) blocks.now) 0 (blocks_by stmts.now policy bodies.now) }
+{
+    let mut next = 0;
+    for number in 0..bodies.len() {
+        next = blocks_of_body(blocks, next, stmts, policy, number, &bodies[number])?;
+    }
+    Some(next)
+}
+
+// Whether the blocks are those of the policy, in the order of their numbers.
+pub(crate) fn are_blocks(blocks: &[Block], stmts: &[Stmt], policy: Policy, bodies: &[Body]) -> bool
+    ensures { IsTrue result ↔ (map (λ block. block.kind) blocks.now ≡ blocks_by stmts.now policy bodies.now) }
+{
+    match blocks_of_bodies(blocks, stmts, policy, bodies) {
+        None => false,
+        Some(end) => blocks.len() <= end,
+    }
+}
