@@ -15,3 +15,4 @@ pub mod FirstProgram
 pub mod Answering
 pub mod AskedWords
 pub mod Outcomes
+pub mod Rows

@@ -46,7 +46,7 @@ module _ (words : List (Bor (List ℕ))) (held : Option (List ℕ → Option (Li
   -- what the flow of a loaded source comes to
   abbrev Flowed : List ℕ → Type 0
   Flowed source = ((result ≡ 5) × (new ≡ old) × (schedule ≡ []))
-    ⊎ ((status : ℕ) × (text : List ℕ) × (status < 2) × Answers source schedule status text × Finished old new before now result status text)
+      ⊎ ((status : ℕ) × (text : List ℕ) × (status < 2) × Answers source schedule status text × Finished old new before now result status text)
 
   module _ (name source : List ℕ) (asked : Asks words name) (loads : Loads held name most_bytes source) where
     ran : (h : List ℕ) (status : ℕ) (text : List ℕ) → Answers source h status text → status ≡ 0 → Appends old new text → RanWhole words held h old new

@@ -16,5 +16,8 @@ mod world;
 pub use call::{Outcome, ppd};
 pub use form::{Form, Operand, Step, Sum};
 pub use lowering::{lower, plan};
-pub use reader::FormError;
+pub use reader::{FormError, read_form};
 pub use world::World;
+
+#[cfg(test)]
+mod tests;

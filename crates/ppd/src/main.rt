@@ -1,0 +1,51 @@
+//! The program: it makes the real shelf, input and output, and leaves all else to the top call.
+#![tactic(auto)]
+
+use ppd_ast::Memory;
+use ppd_io::{FreeGate, HostShelf, StdSink, StdSource};
+use ppd_top::ppd;
+use std::alloc::Global;
+use std::process::ExitCode;
+use std::{env, io};
+
+/// The words after the program's name. Words that cannot be decoded are none that the program
+/// knows, so they stand as no words at all.
+fn words_given(alloc: Global, rt: &HostRuntime) -> Result<Vec<String>, Memory> {
+    let given = match env::args(rt) {
+        Ok(given) => given,
+        Err(error) if error.kind() == io::ErrorKind::OutOfMemory => return Err(Memory),
+        Err(_) => return Ok(Vec::new(alloc)),
+    };
+    match given.skip(1).collect(alloc) {
+        Ok(words) => Ok(words),
+        Err(_) => Err(Memory),
+    }
+}
+
+fn run(rt: &HostRuntime) -> Result<u8, Memory> {
+    let alloc = rt.alloc();
+    let given = words_given(alloc, rt)?;
+    let Ok(words) = given.iter().map(|word| word.as_str()).collect(alloc) else {
+        return Err(Memory);
+    };
+    let words: Vec<&str> = words;
+    let mut shelf = HostShelf::new(rt);
+    let mut input = StdSource::new(rt.reader());
+    let mut output = StdSink::new(io::writer(rt));
+    let outcome = ppd(
+        alloc,
+        &words,
+        &mut shelf,
+        &mut input,
+        &mut output,
+        &FreeGate,
+    );
+    Ok(outcome.status)
+}
+
+fn main(rt: HostRuntime) -> ExitCode {
+    match run(&rt) {
+        Ok(status) => ExitCode::from(status),
+        Err(Memory) => ExitCode::from(5),
+    }
+}
