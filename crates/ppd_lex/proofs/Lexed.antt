@@ -1,5 +1,5 @@
 -- From one piece to the next.
-use Rattle.std.proofs.Common.{◌≡◌, ◌<◌, ◌≤◌, ℕ, ◌+◌, ◌-◌, List, [], ◌∷◌, ◌++◌, length, drop, take, refl, sym, ◌∙◌, ap, subst, arith, length-drop, length-take, append_assoc, ◌^◌}
+use Rattle.std.proofs.Common.{◌≡◌, ◌<◌, ◌≤◌, ℕ, ◌+◌, ◌-◌, List, [], ◌∷◌, ◌++◌, length, drop, take, refl, sym, ◌∙◌, ap, subst, arith, length-take, append_assoc, ◌^◌}
 use Rattle.ppd_lex.specs.declared.token.Token.{Token}
 use Rattle.ppd_lex.specs.declared.token.TokenKind.{TokenKind}
 use Rattle.ppd_lex.specs.declared.token.TokenKind.TheVariants.{End}
@@ -12,7 +12,8 @@ use Rattle.ppd_lex.specs.Front.{front}
 use Rattle.ppd_lex.specs.Tokens.{place_of, Lexes, Faults, gap, token, here, after_gap, after_token, token_at, IsTokens, IsFirstFault, IsRefused, error_of, end}
 use Rattle.ppd_lex.proofs.Comments.{rest_of}
 use Rattle.ppd_lex.proofs.Places.{place_bound}
-use Rattle.ppd_lex.proofs.Fronts.{IsProper, front_proper}
+use Rattle.ppd_lex.proofs.FormedTokens.{proper_at}
+use Rattle.ppd_lex.proofs.Fronts.{IsProper}
 
 module _ (bs : List ℕ) (i : ℕ) (lt : i < length bs) where
   -- what stands at the front of what is left
@@ -20,9 +21,7 @@ module _ (bs : List ℕ) (i : ℕ) (lt : i < length bs) where
   front_left p e = ap front (sym (rest_of bs i)) ∙ sym e
 
   front_within : (p : Piece) → p ≡ front (take (length bs - i) (drop i bs)) → IsProper (length bs - i) p
-  front_within p e =
-      let len : length (drop i bs) ≡ length bs - i = length-drop i bs in
-      subst (IsProper (length bs - i)) (front_left p e) (subst (λ m. IsProper m (front (drop i bs))) len (front_proper (drop i bs) (omega (arith, len))))
+  front_within p e = proper_at bs i p lt (front_left p e)
 
   pub gap_within : (n : ℕ) → Gap n ≡ front (take (length bs - i) (drop i bs)) → (0 < n) × (i + n ≤ length bs)
   gap_within n e = let h = front_within (Gap n) e in (h.0, omega (arith, h.1))

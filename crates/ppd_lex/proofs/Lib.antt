@@ -2,6 +2,7 @@ pub mod Begins
 pub mod Between
 pub mod Comments
 pub mod FormedTokens
+pub mod Covered
 pub mod Examples
 pub mod Fronts
 pub mod Lexed

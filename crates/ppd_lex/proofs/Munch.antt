@@ -13,7 +13,7 @@ pub take_after : (k x : ℕ) (xs : List ℕ) → take (1 + k) (x ∷ xs) ≡ x �
 take_after k x xs = rw one-add refl
 
 -- as far as the test goes, and a piece that is cut off later
-pub while_cut : (test : ℕ → Bool) (xs : List ℕ) (m : ℕ) → prefix_len test xs ≤ m → take_while test (take m xs) ≡ take_while test xs
+while_cut : (test : ℕ → Bool) (xs : List ℕ) (m : ℕ) → prefix_len test xs ≤ m → take_while test (take m xs) ≡ take_while test xs
 while_cut test [] m h = ap (take_while test) (take-nil m)
 while_cut test (x ∷ xs) zero h = go (test x) h
   where

@@ -1,0 +1,43 @@
+-- Every source has its tokens or a first fault.
+use Rattle.std.proofs.Common.{◌≡◌, ◌<◌, ◌≤◌, ℕ, zero, suc, ◌+◌, List, [], ◌∷◌, length, drop, refl, sym, arith, Bool, true, false, nat_lt}
+use Rattle.std.proofs.lemmas.Bool.Decides.{nat_tests}
+use Rattle.ppd_lex.specs.declared.token.Token.{Token}
+use Rattle.ppd_lex.specs.declared.scan.Fault.{Fault}
+use Rattle.ppd_lex.specs.declared.scan.Piece.{Piece}
+use Rattle.ppd_lex.specs.declared.scan.Piece.TheVariants.{Gap, Read, Bad}
+use Rattle.ppd_lex.specs.declared.token.TokenKind.{TokenKind}
+use Rattle.ppd_lex.specs.declared.token.TokenKind.TheVariants.{End}
+use Rattle.ppd_lex.specs.Front.{front}
+use Rattle.ppd_lex.specs.Tokens.{token_at, Lexes, end, gap, token, Faults, here, after_gap, after_token}
+use Rattle.ppd_lex.proofs.FormedTokens.{proper_at}
+
+-- from byte i on there are tokens, or there is a fault
+pub data Outcome (bs : List ℕ) (i : ℕ) : Type 0 where
+  tokens : (ts : List Token) → Lexes bs i ts → Outcome bs i
+  fault : (j : ℕ) (f : Fault) → Faults bs i j f → Outcome bs i
+
+module _ (bs : List ℕ) where
+  past_gap : (i n : ℕ) → i < length bs → front (drop i bs) ≡ Gap n → Outcome bs (i + n) → Outcome bs i
+  past_gap i n lt e (tokens ts h) = tokens ts (gap lt e h)
+  past_gap i n lt e (fault j f h) = fault j f (after_gap lt e h)
+
+  past_token : (i n : ℕ) (kind : TokenKind) → i < length bs → front (drop i bs) ≡ Read n kind → Outcome bs (i + n) → Outcome bs i
+  past_token i n kind lt e (tokens ts h) = tokens (token_at bs i n kind ∷ ts) (token lt e h)
+  past_token i n kind lt e (fault j f h) = fault j f (after_token lt e h)
+
+  -- by what is left
+  from_left : (k i : ℕ) → i ≤ length bs → length bs ≤ i + k → Outcome bs i
+  from_left zero i l r = tokens (token_at bs i 0 End ∷ []) (end (omega arith))
+  from_left (suc k) i l r = go (nat_lt i (length bs)) refl (λ lt. step (front (drop i bs)) refl lt (λ n p w. from_left k (i + n) w (omega arith)))
+    where
+      step : (p : Piece) → p ≡ front (drop i bs) → i < length bs → ((n : ℕ) → 0 < n → i + n ≤ length bs → Outcome bs (i + n)) → Outcome bs i
+      step (Gap n) e lt more = let w = proper_at bs i (Gap n) lt (sym e) in past_gap i n lt (sym e) (more n w.0 (omega (arith, w.1)))
+      step (Read n kind) e lt more = let w = proper_at bs i (Read n kind) lt (sym e) in past_token i n kind lt (sym e) (more n w.0 (omega (arith, w.1)))
+      step (Bad f) e lt more = fault i f (here lt (sym e))
+
+      go : (t : Bool) → t ≡ nat_lt i (length bs) → (i < length bs → Outcome bs i) → Outcome bs i
+      go true e inside = inside (grind (arith, nat_tests))
+      go false e inside = let last : i ≡ length bs = grind (arith, nat_tests) in tokens (token_at bs i 0 End ∷ []) (end last)
+
+  pub covered : Outcome bs 0
+  covered = from_left (length bs) 0 (omega arith) (omega arith)
