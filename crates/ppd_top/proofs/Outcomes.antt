@@ -9,7 +9,7 @@ use Rattle.ppd_lex.specs.declared.token.LexError.{LexError}
 use Rattle.ppd_lex.proofs.Unique.{tokens_unique, tokens_or_fault}
 use Rattle.ppd_top.specs.declared.form.Form.{Form}
 use Rattle.ppd_top.specs.Form.{IsForm}
-use Rattle.ppd_top.specs.Top.{texts, Asks, most_bytes, usage, IsSource, IsWholeRun, summary_of_run, refused_lex, refused_form, Refuses, Answers, Writes, Finished, RanWhole, WasRefused, WriteFailed, IsPromised}
+use Rattle.ppd_top.specs.Top.{texts, Asks, most_bytes, usage, IsSource, IsWholeRun, summary_of_run, refused_lex, refused_form, Refuses, Answers, Writes, Finished, RanWhole, WasRefused, WriteFailed, MemoryRanOut, IsPromised}
 use Rattle.ppd_top.specs.Top.Refuses.{by_token, by_form}
 use Rattle.ppd_top.specs.Top.Answers.{refusal, run}
 use Rattle.ppd_top.specs.Top.Writes.{for_words, for_source}
@@ -70,6 +70,11 @@ module _ (words : List (Bor (List ℕ))) (held : Option (List ℕ → Option (Li
     pub flow_failed : Flowed source → result ≡ 4 → WriteFailed words held schedule before now old new
     flow_failed (inl h) is = absurd (omega (arith, h.0))
     flow_failed (inr (status, text, small, answers, f)) is = write_failed status text (for_source name source asked loads status text answers) (omega arith) f is
+
+    pub flow_ran_out : Flowed source → result ≡ 5 → MemoryRanOut words schedule old new
+    flow_ran_out (inl h) is = record { name = name; asked = asked; no_run = h.2; written = h.1 }
+    flow_ran_out (inr (status, text, small, answers, inl h)) is = absurd (omega (arith, h.0))
+    flow_ran_out (inr (status, text, small, answers, inr h)) is = absurd (omega (arith, h.0))
 
     -- a source that is promised is accepted
     accepted_as : (loads_before loads_now : List ℕ → ℕ) (p : IsPromised words held loads_before loads_now before now) → IsSource source p.form

@@ -130,6 +130,13 @@ pub record WriteFailed (words : List (Bor (List ℕ))) (held : Option (List ℕ 
   pub writes : Writes words held schedule status text
   pub written : AppendsPart old new text
 
+-- status 5: want of memory for a source that was asked for, and nothing was written
+pub record MemoryRanOut (words : List (Bor (List ℕ))) (schedule : List ℕ) (old new : Option (List ℕ)) : Type 0 where
+  pub name : List ℕ
+  pub asked : Asks words name
+  pub no_run : schedule ≡ []
+  pub written : new ≡ old
+
 -- A told source of one process succeeds, but for want of memory, where no load of its name and no write failed.
 pub record IsPromised (words : List (Bor (List ℕ))) (held : Option (List ℕ → Option (List ℕ))) (loads_before loads_now : List ℕ → ℕ) (before now : ℕ) : Type 0 where
   pub name : List ℕ

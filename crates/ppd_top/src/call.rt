@@ -1,7 +1,7 @@
 ghost use Rattle.std.specs.Prelude.{◌≡◌, ◌<◌, ◌≤◌, ◌⊎◌, ℕ, List, [], true, IfNone, IfSome};
 ghost use Rattle.ppd_io.specs.Causes.{Rose};
 ghost use Rattle.ppd_io.specs.Content.{Appends};
-ghost use Rattle.ppd_top.specs.Top.{Asks, Answers, Finished, is_file_name as is_file_name_of, RanWhole, WasRefused, WasNotAsked, ReadFailed, WriteFailed, IsPromised};
+ghost use Rattle.ppd_top.specs.Top.{Asks, Answers, Finished, is_file_name as is_file_name_of, RanWhole, WasRefused, WasNotAsked, ReadFailed, WriteFailed, MemoryRanOut, IsPromised};
 
 use crate::answer::answer_source;
 use ppd_ast::{Bytes, Seq};
@@ -46,7 +46,7 @@ pub fn ppd<F: Shelf, I: Source, O: Sink, G: Gate>(
     ensures usage { result.status ≡ 2 → WasNotAsked words.now (O.written output.old) (O.written output.new) }
     ensures read { result.status ≡ 3 → ReadFailed words.now (F.failed_loads shelf.old) (F.failed_loads shelf.new) (O.written output.old) (O.written output.new) }
     ensures write { result.status ≡ 4 → WriteFailed words.now (F.held shelf.old) result.schedule (O.faults output.old) (O.faults output.new) (O.written output.old) (O.written output.new) }
-    ensures memory { result.status ≡ 5 → (O.written output.new ≡ O.written output.old) × (result.schedule ≡ []) }
+    ensures memory { result.status ≡ 5 → MemoryRanOut words.now result.schedule (O.written output.old) (O.written output.new) }
     ensures complete { IsPromised words.now (F.held shelf.old) (F.failed_loads shelf.old) (F.failed_loads shelf.new) (O.faults output.old) (O.faults output.new) → (result.status ≡ 0) ⊎ (result.status ≡ 5) }
     ensures no_run { (result.status ≡ 1) ⊎ (result.status ≡ 2) ⊎ (result.status ≡ 3) → result.schedule ≡ [] }
     ensures shelf { F.held shelf.new ≡ F.held shelf.old }

@@ -41,7 +41,7 @@ fn rows_are_written_byte_for_byte(rt: HostRuntime) -> Result<(), Fail> {
     let alloc = rt.alloc();
     let usage = "usage: ppd flow|run|debug|show|drill\n";
     let flow: &[&str] = &["flow", "row.c"];
-    let rows: [(&[&str], &str, u8, &str); 22] = [
+    let rows: [(&[&str], &str, u8, &str); 24] = [
         (flow, SMALLEST, 0, SUMMARY),
         (
             flow,
@@ -97,6 +97,18 @@ fn rows_are_written_byte_for_byte(rt: HostRuntime) -> Result<(), Fail> {
             "shared int x; process a { x = x + ; }",
             1,
             "refused form\n",
+        ),
+        (
+            flow,
+            "shared int a, b;\nshared int total;\n\nprocess sum {\n  a = 19;\n  b = a + 4;\n  total = a + b;\n  print(total);\n  print(total + 100);\n}\n",
+            0,
+            "process sum ended steps 11\nprint sum 42\nprint sum 142\nraces 0\n",
+        ),
+        (
+            flow,
+            "// Two shared cells.\nshared int x, y; /* both start\n                    at 0 */\nprocess main {\n  x = 4;     // one step\n  y = x + x; /* two reads and a write */\n  print(y);\n  print(x /* read again */ + 1);\n}\n// nothing after it\n",
+            0,
+            "process main ended steps 9\nprint main 8\nprint main 5\nraces 0\n",
         ),
         (&["flow"], SMALLEST, 2, usage),
         (&["help"], SMALLEST, 2, usage),

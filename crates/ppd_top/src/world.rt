@@ -192,9 +192,10 @@ impl<'a> World<'a> {
         Ok(())
     }
 
-    /// The summary of the run that came to this world.
+    /// The summary of the run that came to this world, of one process. `Memory` is want of memory.
     pub fn summary(&self, alloc: Global) -> Result<Vec<u8>, Memory>
-        requires { self.now.program.functions + length self.now.world.procs ≤ length self.now.program.bodies }
+        requires one { length self.now.world.procs ≡ 1 }
+        requires bodies { self.now.program.functions + length self.now.world.procs ≤ length self.now.program.bodies }
         ensures { IfOk result (λ text. text.items ≡ summary_of self.now.program self.now.world) }
     {
         summary(alloc, self.program, &self.procs)
