@@ -1,7 +1,7 @@
 use Rattle.std.proofs.Common.{◌≡◌, ℕ, refl, ◌+◌, ◌-◌, ◌≤◌, min, arith}
 use Rattle.ppd_ast.specs.Uses.{operators_of}
 use Rattle.ppd_ast.specs.Term.{term}
-use Rattle.ppd_ast.proofs.Tests.{at_leaf, at_element, at_single, at_pair}
+use Rattle.ppd_ast.proofs.Deciding.{at_leaf, at_element, at_single, at_pair}
 use Rattle.ppd_ast.proofs.uses.+operators.Goals as goal
 use Rattle.ppd_ast.proofs.uses.+operators.Goals.{in-Const, in-Two2, in-Neg2, in-LocalAt2}
 
