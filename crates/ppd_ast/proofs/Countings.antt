@@ -14,16 +14,16 @@ pub counted_some : (xs ys : List ℕ) (n m : ℕ) → counted xs n ≡ Some m �
 counted_some [] ys n m h = let e : n ≡ m = cc in ap (counted ys) e
 counted_some (x ∷ xs) ys n m h =
     elim (x == n) as (λ b. cond b (counted xs (n + 1)) None ≡ Some m → cond b (counted (xs ++ ys) (n + 1)) None ≡ counted ys m) [
-      true ↦ counted_some xs ys (n + 1) m
-    | false ↦ λ e. cc
+      | true ↦ counted_some xs ys (n + 1) m
+      | false ↦ λ e. cc
     ] h
 
 pub counted_none : (xs ys : List ℕ) (n : ℕ) → counted xs n ≡ None → counted (xs ++ ys) n ≡ None
 counted_none [] ys n h = cc
 counted_none (x ∷ xs) ys n h =
     elim (x == n) as (λ b. cond b (counted xs (n + 1)) None ≡ None → cond b (counted (xs ++ ys) (n + 1)) None ≡ None) [
-      true ↦ counted_none xs ys (n + 1)
-    | false ↦ λ e. refl
+      | true ↦ counted_none xs ys (n + 1)
+      | false ↦ λ e. refl
     ] h
 
 -- a list that goes on where it should, and one that does not

@@ -5,9 +5,10 @@ use Rattle.std.proofs.lemmas.List.{get_or_append_left, get_or-append-add}
 use Rattle.std.proofs.lemmas.List.Elements.{All-append}
 
 pub All-append_parts : {X : Type 0} (P : X → Type 0) (xs ys : List X) → All P (xs ++ ys) → All P xs × All P ys
-All-append_parts {X} P xs ys h =
-    (λ k d b. subst P (get_or_append_left xs ys d k b) (h k d (omega (arith, length-append xs ys))),
-    λ k d b. subst P (get_or-append-add xs ys k d) (h (length xs + k) d (omega (arith, length-append xs ys))))
+All-append_parts {X} P xs ys h = (
+  λ k d b. subst P (get_or_append_left xs ys d k b) (h k d (omega (arith, length-append xs ys))),
+  λ k d b. subst P (get_or-append-add xs ys k d) (h (length xs + k) d (omega (arith, length-append xs ys))),
+)
 
 pub both_lists : {X : Type 0} (P : X → Type 0) (xs ys : List X) (r : Bool) → IsTrue r ↔ (All P xs × All P ys) → IsTrue r ↔ All P (xs ++ ys)
 both_lists P xs ys r f =

@@ -37,13 +37,13 @@ got_none (x ∷ xs) (suc i) h = got_none xs i (omega arith)
 pub each_more : {X : Type 0} (P : ℕ → X → Type 0) (xs : List X) (i : ℕ) (x : X)
     → ((k : ℕ) (d : X) → k < i → P k (get_or xs k d)) → i < length xs → x ≡ get_or xs i x → P i x → (k : ℕ) (d : X) → k < i + 1 → P k (get_or xs k d)
 each_more {X} P xs i x before inside is here k d h = elim (cases_lt k i) [
-      inl low ↦ before k d low
-    | inr up ↦
-        let same : i ≡ k = omega arith in
-        let long : k < length xs = omega arith in
-        let any : get_or xs k x ≡ get_or xs k d = get_or_same xs k x d long in
-        subst (λ y. P k y) any (subst (λ m. P m (get_or xs m x)) same (subst (λ y. P i y) is here))
-    ]
+  | inl low ↦ before k d low
+  | inr up ↦
+      let same : i ≡ k = omega arith in
+      let long : k < length xs = omega arith in
+      let any : get_or xs k x ≡ get_or xs k d = get_or_same xs k x d long in
+      subst (λ y. P k y) any (subst (λ m. P m (get_or xs m x)) same (subst (λ y. P i y) is here))
+]
   where
     get_or_same : (ys : List X) (n : ℕ) (a b : X) → n < length ys → get_or ys n a ≡ get_or ys n b
     get_or_same ys n a b l = cc (slice_get-get_or ys n a l, slice_get-get_or ys n b l)

@@ -62,7 +62,8 @@ fn has_scalar(vars: &[Var], cell: u16) -> bool
 fn has_array(vars: &[Var], base: u16, len: u16) -> bool
     ensures { IsTrue result ↔ IsArrayOf vars.now base len }
 {
-    vars.iter().any(|var| var.base == base && var.len == Some(len))
+    vars.iter()
+        .any(|var| var.base == base && var.len == Some(len))
 }
 
 pub(crate) fn are_params(vars: &[Var], params: u16) -> bool

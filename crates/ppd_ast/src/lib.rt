@@ -10,6 +10,8 @@ mod order;
 mod plan;
 mod program;
 mod status;
+#[cfg(test)]
+mod tests;
 mod uses;
 mod valid;
 mod valid_plan;

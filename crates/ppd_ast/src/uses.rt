@@ -9,7 +9,7 @@ use crate::limits::MOST_OPERATORS;
 use crate::program::{Expr, Kind, Stmt, Target};
 
 // How many numbers are marked in one pass.
-const WINDOW: usize = 4096;
+const WINDOW: usize = 65_536;
 
 impl Expr {
     fn are_children_below(&self, index: usize) -> bool

@@ -198,7 +198,12 @@ impl Program {
         (number as usize) < exprs.len()
             && is_within_depth(exprs, number, MOST_EXPRESSION_DEPTH)
             && operators(exprs, number) <= MOST_OPERATORS
-            && does_name_whole(exprs, number, self.shared.as_slice(), body.locals.as_slice())
+            && does_name_whole(
+                exprs,
+                number,
+                self.shared.as_slice(),
+                body.locals.as_slice(),
+            )
     }
 
     fn are_valid_uses(&self, body: &Body, kind: &Kind) -> bool

@@ -1,7 +1,7 @@
 use Rattle.std.proofs.Common.{◌↔◌, IsTrue, true, refl}
 use Rattle.ppd_ast.specs.Cells.{NamesWhole}
 use Rattle.ppd_ast.specs.Term.{term}
-use Rattle.ppd_ast.proofs.Tests.{second_test, first_test, at_node, at_single, at_pair}
+use Rattle.ppd_ast.proofs.Deciding.{second_test, first_test, at_node, at_single, at_pair}
 use Rattle.ppd_ast.proofs.cells.+does_name_whole.Goals as goal
 
 pub returns-in-Const : goal.returns-in-Const

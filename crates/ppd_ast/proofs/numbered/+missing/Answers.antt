@@ -31,7 +31,7 @@ missing_in-loop-number-preserved t c =
     let more : after ≡ before + suc (length (flat_map f (inner_at c.args.stmts.now n))) =
     count_more c.args.stmts.now c.args.depth c.args.list.now c.loop-number.number-index c.if-depth-eq0.false c.loop-number-test.true in
     let goes : c.match-get.missing ≡ c.args.wanted - after = elim c.match-get.branch [
-        missing_in-in-None w ↦
+      | missing_in-in-None w ↦
           let none : slice_get c.args.stmts.now n ≡ None = got_none _ _ w.in-None.ensures.lookup.3 in
           let inside : length (flat_map f (inner_at c.args.stmts.now n)) ≡ 0 = ap (λ (o : Option Stmt). length (flat_map f (inner_of o))) none in
           omega (arith, so_far, more, inside, w.missing-is)
@@ -39,5 +39,5 @@ missing_in-loop-number-preserved t c =
           let is : slice_get c.args.stmts.now n ≡ Some w.in-Some.stmt.now = got_some _ _ _ w.in-Some.ensures.lookup.3.0 w.in-Some.ensures.lookup.1 in
           let inside : length (flat_map f (inner_at c.args.stmts.now n)) ≡ length (flat_map f (inner w.in-Some.stmt.now.kind)) = ap (λ (o : Option Stmt). length (flat_map f (inner_of o))) is in
           omega (arith, so_far, more, inside, w.missing-is, w.missing_inside-missing.ensures)
-      ] in
+    ] in
     goes

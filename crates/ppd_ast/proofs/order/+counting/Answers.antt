@@ -43,16 +43,16 @@ counted_in-loop-number-preserved t c =
     let here : counted (flat_map (preorder c.args.depth c.args.stmts.now) (take (c.loop-number.number-index + 1) c.args.list.now)) c.args.from ≡ counted (flat_map f (inner_at c.args.stmts.now n)) (n + 1) =
     more ∙ ap (λ m. counted (flat_map f (inner_at c.args.stmts.now m)) (m + 1)) (sym same) in
     elim c.match-get.branch [
-      counted_in-in-None w ↦
-        let none : slice_get c.args.stmts.now n ≡ None = got_none _ _ w.in-None.ensures.lookup.3 in
-        here ∙ ap (λ (o : Option Stmt). counted (flat_map f (inner_of o)) (n + 1)) none ∙ ap Some (sym w.next-is)
-    | counted_in-in-Some+in_ok-next-in-Some w ↦
-        let is : slice_get c.args.stmts.now n ≡ Some w.in-Some.stmt.now = got_some _ _ _ w.in-Some.ensures.lookup.3.0 w.in-Some.ensures.lookup.1 in
-        let inside : counted (flat_map f (inner_at c.args.stmts.now n)) (n + 1) ≡ w.counted_inside.result =
-        ap (λ (o : Option Stmt). counted (flat_map f (inner_of o)) (n + 1)) is ∙ sym w.counted_inside.ensures in
-        let was = w.in_ok-next-in-Some.was in
-        let last : w.counted_inside.result ≡ Some c.match-get.next = cc in
-        here ∙ inside ∙ last
+      | counted_in-in-None w ↦
+          let none : slice_get c.args.stmts.now n ≡ None = got_none _ _ w.in-None.ensures.lookup.3 in
+          here ∙ ap (λ (o : Option Stmt). counted (flat_map f (inner_of o)) (n + 1)) none ∙ ap Some (sym w.next-is)
+      | counted_in-in-Some+in_ok-next-in-Some w ↦
+          let is : slice_get c.args.stmts.now n ≡ Some w.in-Some.stmt.now = got_some _ _ _ w.in-Some.ensures.lookup.3.0 w.in-Some.ensures.lookup.1 in
+          let inside : counted (flat_map f (inner_at c.args.stmts.now n)) (n + 1) ≡ w.counted_inside.result =
+          ap (λ (o : Option Stmt). counted (flat_map f (inner_of o)) (n + 1)) is ∙ sym w.counted_inside.ensures in
+          let was = w.in_ok-next-in-Some.was in
+          let last : w.counted_inside.result ≡ Some c.match-get.next = cc in
+          here ∙ inside ∙ last
     ]
 
 pub counted_inside-returns-in_err-next-in-If : goal.counted_inside-returns-in_err-next-in-If

@@ -3,7 +3,7 @@ use Rattle.std.specs.Prelude.{slice_get}
 use Rattle.std.specs.List.{All}
 use Rattle.ppd_ast.specs.Order.{inner, StandIn}
 use Rattle.ppd_ast.specs.declared.program.Kind.{Kind}
-use Rattle.ppd_ast.proofs.Tests.{second_test, first_test}
+use Rattle.ppd_ast.proofs.Deciding.{second_test, first_test}
 use Rattle.ppd_ast.proofs.Standing.{both_lists}
 use Rattle.ppd_ast.proofs.order.does_stand_inside.Goals as goal
 

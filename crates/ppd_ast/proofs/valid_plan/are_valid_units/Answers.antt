@@ -5,12 +5,14 @@ use Rattle.ppd_ast.proofs.Walks.{each_more}
 use Rattle.ppd_ast.proofs.valid_plan.are_valid_units.Goals as goal
 
 pub returns-then-not-is_valid : goal.returns-then-not-is_valid
-returns-then-not-is_valid c =
-    (λ e. cc, λ h.
-    let here : AreCells c.args.cells c.index-units-index.result.cells =
-    subst (λ (u : Unit). AreCells c.args.cells u.cells) (sym c.index-units-index.is) (h c.loop-index.index c.index-units-index.result c.loop-index-test.true) in
-    let yes : c.is_valid.result ≡ true = c.is_valid.ensures.1 here in
-    cc)
+returns-then-not-is_valid c = (
+  λ e. cc,
+  λ h.
+      let here : AreCells c.args.cells c.index-units-index.result.cells =
+      subst (λ (u : Unit). AreCells c.args.cells u.cells) (sym c.index-units-index.is) (h c.loop-index.index c.index-units-index.result c.loop-index-test.true) in
+      let yes : c.is_valid.result ≡ true = c.is_valid.ensures.1 here in
+      cc,
+)
 
 pub loop-index-preserved : goal.loop-index-preserved
 loop-index-preserved c =

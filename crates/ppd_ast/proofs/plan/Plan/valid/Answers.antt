@@ -25,11 +25,13 @@ returns c =
     subst (λ (xs : List Block). All (IsValidBlock c.args.program.now) xs) c.as_slice-3.ensures (c.are_valid_blocks.ensures.0 c.if-not-are_valid_blocks.false) in
     let cells : IsTrue c.are_valid_units.result ↔ All (λ (u : Unit). AreCells (length c.args.program.now.starts) u.cells) c.args.self.now.units =
     subst (λ (n : ℕ). IsTrue c.are_valid_units.result ↔ All (λ (u : Unit). AreCells n u.cells) c.args.self.now.units) c.len.ensures
-    (subst (λ (xs : List Unit). IsTrue c.are_valid_units.result ↔ All (λ (u : Unit). AreCells c.len.result u.cells) xs) c.as_slice-4.ensures c.are_valid_units.ensures) in
-    (λ e. record {
-      policy = c.is_valid.ensures.0 c.if-not-is_valid.false;
-      kinds = kinds;
-      starts = starts;
-      blocks = blocks;
-      units = cells.0 e;
-    }, λ v. cells.1 v.units)
+    (subst (λ (xs : List Unit). IsTrue c.are_valid_units.result ↔ All (λ (u : Unit). AreCells c.len.result u.cells) xs) c.as_slice-4.ensures c.are_valid_units.ensures) in (
+      λ e. record {
+        policy = c.is_valid.ensures.0 c.if-not-is_valid.false;
+        kinds = kinds;
+        starts = starts;
+        blocks = blocks;
+        units = cells.0 e;
+      },
+      λ v. cells.1 v.units,
+    )

@@ -12,6 +12,7 @@ returns c =
     let list : List ℕ = order c.args.self.now.stmts c.args.body.now.top in
     let same : c.counted_in.result ≡ counted list c.args.body.now.first =
     c.counted_in.ensures ∙ ap (λ (ss : List Stmt). counted (order ss c.as_slice.result.now) c.args.body.now.first) c.as_slice-stmts.ensures
-    ∙ ap (λ (l : List ℕ). counted (order c.args.self.now.stmts l) c.args.body.now.first) c.as_slice.ensures in
-    (λ e. (counted_is_range list c.args.body.now.first c.args.body.now.end (sym same ∙ is_that c.counted_in.result c.args.body.now.end (sym c.eq.ensures ∙ e))).1,
-    λ e. c.eq.ensures ∙ that_is c.counted_in.result c.args.body.now.end (same ∙ range_is_counted list c.args.body.now.first c.args.body.now.end c.requires e))
+    ∙ ap (λ (l : List ℕ). counted (order c.args.self.now.stmts l) c.args.body.now.first) c.as_slice.ensures in (
+      λ e. (counted_is_range list c.args.body.now.first c.args.body.now.end (sym same ∙ is_that c.counted_in.result c.args.body.now.end (sym c.eq.ensures ∙ e))).1,
+      λ e. c.eq.ensures ∙ that_is c.counted_in.result c.args.body.now.end (same ∙ range_is_counted list c.args.body.now.first c.args.body.now.end c.requires e),
+    )

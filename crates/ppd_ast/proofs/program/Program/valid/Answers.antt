@@ -30,13 +30,15 @@ returns c =
     let cover : CoverCells c.args.self.now.shared (length c.args.self.now.starts) =
     subst (λ (n : ℕ). CoverCells c.args.self.now.shared n) c.len.ensures
     (subst (λ (vs : List Var). CoverCells vs c.len.result) c.as_slice.ensures (c.do_cover.ensures.0 c.if-not-do_cover.false)) in
-    let follow = along (λ (bs : List Body) (ss : List Stmt). Follow 0 bs (length ss)) c.do_follow.result _ _ _ _ c.as_slice-2.ensures c.as_slice-stmts.ensures c.do_follow.ensures in
-    (λ e. record {
-      limits = c.is_within_limits.ensures.0 c.if-not-is_within_limits.false;
-      children = ordered.0 c.if-not-are_ordered.false;
-      once = once.0 c.if-not-are_used_once.false;
-      cells = cover;
-      ranges = follow.0 c.if-not-do_follow.false;
-      bodies = c.are_valid_bodies.ensures.0 c.if-not-are_valid_bodies.false;
-      stmts = c.are_valid_stmts.ensures.0 e;
-    }, λ v. c.are_valid_stmts.ensures.1 v.stmts)
+    let follow = along (λ (bs : List Body) (ss : List Stmt). Follow 0 bs (length ss)) c.do_follow.result _ _ _ _ c.as_slice-2.ensures c.as_slice-stmts.ensures c.do_follow.ensures in (
+      λ e. record {
+        limits = c.is_within_limits.ensures.0 c.if-not-is_within_limits.false;
+        children = ordered.0 c.if-not-are_ordered.false;
+        once = once.0 c.if-not-are_used_once.false;
+        cells = cover;
+        ranges = follow.0 c.if-not-do_follow.false;
+        bodies = c.are_valid_bodies.ensures.0 c.if-not-are_valid_bodies.false;
+        stmts = c.are_valid_stmts.ensures.0 e;
+      },
+      λ v. c.are_valid_stmts.ensures.1 v.stmts,
+    )

@@ -33,8 +33,8 @@ pub at_pair : (P : Term → Type 0) (es : List Expr) (i a b : ℕ) (d : Expr) �
     → ((op : Op) → P (two op (term es a) (term es b))) → P (and (term es a) (term es b)) → P (or (term es a) (term es b)) → P (term es i)
 at_pair P es i a b d below inside is x y z =
     elim is [
-      inl e ↦ at_node P es i d _ below inside e.1 (x e.0)
-    | inr k ↦ elim k [ inl e ↦ at_node P es i d _ below inside e y | inr e ↦ at_node P es i d _ below inside e z ]
+      | inl e ↦ at_node P es i d _ below inside e.1 (x e.0)
+      | inr k ↦ elim k [ inl e ↦ at_node P es i d _ below inside e y | inr e ↦ at_node P es i d _ below inside e z ]
     ]
 
 -- the same of a leaf, and of an element
@@ -43,8 +43,8 @@ pub at_leaf : (P : Term → Type 0) (es : List Expr) (i : ℕ) (d : Expr) → Ea
     → ((v : ℤ) → P (const v)) → ((n : ℕ) → P (local n)) → ((n : ℕ) → P (shared n)) → P (term es i)
 at_leaf P es i d below inside is x y z =
     elim is [
-      inl e ↦ at_node P es i d _ below inside e.1 (x e.0)
-    | inr k ↦ elim k [ inl e ↦ at_node P es i d _ below inside e.1 (y e.0) | inr e ↦ at_node P es i d _ below inside e.1 (z e.0) ]
+      | inl e ↦ at_node P es i d _ below inside e.1 (x e.0)
+      | inr k ↦ elim k [ inl e ↦ at_node P es i d _ below inside e.1 (y e.0) | inr e ↦ at_node P es i d _ below inside e.1 (z e.0) ]
     ]
 
 pub at_element : (P : Term → Type 0) (es : List Expr) (i a : ℕ) (d : Expr) → EachAt AreChildrenBelow es → i < length es
@@ -52,6 +52,6 @@ pub at_element : (P : Term → Type 0) (es : List Expr) (i a : ℕ) (d : Expr) �
     → ((base len : ℕ) → P (local_at base len (term es a))) → ((base len : ℕ) → P (shared_at base len (term es a))) → P (term es i)
 at_element P es i a d below inside is x y =
     elim is [
-      inl e ↦ at_node P es i d _ below inside e.2 (x e.0 e.1)
-    | inr e ↦ at_node P es i d _ below inside e.2 (y e.0 e.1)
+      | inl e ↦ at_node P es i d _ below inside e.2 (x e.0 e.1)
+      | inr e ↦ at_node P es i d _ below inside e.2 (y e.0 e.1)
     ]
