@@ -293,7 +293,10 @@ fn a_call(rt: HostRuntime) -> Result<(), AllocError> {
     ];
     let program = table(alloc, &exprs, &lines, &frames, 1)?;
     assert!(rt; program.valid());
-    let parts = [block_of(BlockKind::Function(0)), block_of(BlockKind::Process(1))];
+    let parts = [
+        block_of(BlockKind::Function(0)),
+        block_of(BlockKind::Process(1)),
+    ];
     let starts = [Start::Entry(0), Start::Entry(1), Start::After(3)];
     assert!(rt; is_planned(alloc, &program, (2, 0), &parts, &starts)?);
     // by this policy the function is no block
