@@ -45,7 +45,7 @@ fn rows_are_written_byte_for_byte(rt: HostRuntime) -> Result<(), Fail> {
         (flow, SMALLEST, 0, SUMMARY),
         (
             flow,
-            "process a { print(9223372036854775807 + 1); }",
+            "process a { print(9223372036854775807 + 1); }\n",
             0,
             "process a trap overflow 1:13 steps 1\nraces 0\n",
         ),
