@@ -7,6 +7,8 @@ use Rattle.ppd_ast.specs.declared.program.Expr.{Expr}
 use Rattle.ppd_ast.specs.declared.program.Program.{Program}
 use Rattle.ppd_ast.specs.declared.program.Stmt.{Stmt}
 use Rattle.ppd_sem.specs.Example.{printing}
+use Rattle.ppd_sem.specs.Runs.{IsRunnable}
+use Rattle.ppd_sem.proofs.First.{first-runnable}
 use Rattle.ppd_sem.specs.First.{IsFirstBody, IsFirstExpr, IsFirstKind, IsFirstProgram}
 
 -- P of each element, numbered from n on
@@ -24,7 +26,7 @@ each_after {X} P n (x ∷ xs) h (suc k) d b =
 each : {X : Type 0} (P : ℕ → X → Type 0) (xs : List X) → EachFrom P 0 xs → EachAt P xs
 each P xs h k d b = let e : 0 + k ≡ k = omega arith in subst (λ (i : ℕ). P i (get_or xs k d)) e (each_after P 0 xs h k d b)
 
-pub printing_first : IsFirstProgram printing
+printing_first : IsFirstProgram printing
 printing_first = record {
   children = each AreChildrenBelow printing.exprs (tt, (tt, (tt, ((omega arith, omega arith), tt))));
   exprs = each (λ _ e. IsFirstExpr e) printing.exprs (tt, (tt, (tt, (tt, tt))));
@@ -33,7 +35,7 @@ printing_first = record {
 }
 
 -- a program with the same tables is one too
-pub printing_like : (program : Program) → program.exprs ≡ printing.exprs → program.stmts ≡ printing.stmts → program.bodies ≡ printing.bodies → IsFirstProgram program
+printing_like : (program : Program) → program.exprs ≡ printing.exprs → program.stmts ≡ printing.stmts → program.bodies ≡ printing.bodies → IsFirstProgram program
 printing_like program exprs stmts bodies =
     let first : IsFirstProgram printing = printing_first in
     record {
@@ -44,3 +46,6 @@ printing_like program exprs stmts bodies =
       bodies =
           subst (λ (ss : List Stmt). EachAt (λ _ b. IsFirstBody (length ss) b) program.bodies) (sym stmts) (subst (λ (bs : List Body). EachAt (λ _ b. IsFirstBody 3 b) bs) (sym bodies) first.bodies);
     }
+
+pub printing_runnable : (program : Program) → program.exprs ≡ printing.exprs → program.stmts ≡ printing.stmts → program.bodies ≡ printing.bodies → IsRunnable program
+printing_runnable program exprs stmts bodies = first-runnable program (printing_like program exprs stmts bodies)

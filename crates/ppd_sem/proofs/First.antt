@@ -1,5 +1,5 @@
--- Expressions of the first programs name no local cell, and a step keeps their process states.
-use Rattle.std.proofs.Common.{◌≡◌, ℕ, zero, suc, ◌<◌, ℤ, List, [], ◌∷◌, ◌++◌, length, drop, None, refl, subst, sym, ap, ◌∙◌, arith}
+-- Expressions of the first programs name no local cell, and their processes can run.
+use Rattle.std.proofs.Common.{◌≡◌, ℕ, zero, suc, List, [], ◌∷◌, ◌++◌, false, length, get_or, refl, subst, sym, ◌∙◌, arith}
 use Rattle.std.specs.Prelude.{slice_get}
 use Rattle.ppd_ast.specs.declared.program.Body.{Body}
 use Rattle.ppd_ast.specs.Table.{EachAt}
@@ -7,11 +7,13 @@ use Rattle.ppd_ast.specs.Term.{Term, term, terms, terms_after, term_at, node}
 use Rattle.ppd_ast.specs.declared.program.Expr.{Expr}
 use Rattle.ppd_ast.specs.declared.program.Expr.TheVariants.{Const, Local, LocalAt, Shared, SharedAt, Neg, Not, Two, And, Or}
 use Rattle.ppd_ast.specs.declared.program.Program.{Program}
-use Rattle.ppd_sem.specs.declared.proc.Frame.{Frame}
-use Rattle.ppd_sem.specs.declared.proc.Proc.{Proc}
-use Rattle.ppd_sem.specs.declared.proc.Todo.{Todo}
-use Rattle.ppd_sem.specs.First.{IsFirstBody, IsFirstExpr, IsFirstProc, IsFirstProgram, finished}
-use Rattle.ppd_sem.specs.Process.{cells_for, new_frame, todos, top_cells, top_of}
+use Rattle.ppd_ast.specs.declared.program.Kind.{Kind}
+use Rattle.ppd_ast.specs.declared.program.Kind.TheVariants as kind
+use Rattle.ppd_ast.specs.declared.program.Stmt.{Stmt}
+use Rattle.ppd_ast.specs.declared.program.Target.TheVariants as target
+use Rattle.ppd_sem.specs.First.{IsFirstBody, IsFirstExpr, IsFirstKind, IsFirstProgram}
+use Rattle.ppd_sem.specs.Process.{kind_or_end}
+use Rattle.ppd_sem.specs.Runs.{AreUses, IsRunnable, IsRunnableBody, LeadsOn, returns, size_if, size_of, stmt_size}
 use Rattle.ppd_sem.specs.Within.{IsWithin}
 
 AreWithin : List Term → Type 0
@@ -55,45 +57,67 @@ pub first_within : (es : List Expr) (i n : ℕ) → EachAt (λ _ e. IsFirstExpr 
 unfolding terms AreWithin
 first_within es i n f e = subst (λ (n : ℕ). IsWithin n (term es i)) (sym e) (within_after [] es within_end f i)
 
-todo_dropped : (n : ℕ) (ts : List Todo) → EachAt (λ _ t. t.stmt < n) ts → EachAt (λ _ t. t.stmt < n) (drop 1 ts)
-todo_dropped n [] h k d b = h k d b
-todo_dropped n (t ∷ ts) h k d b = h (suc k) d (omega arith)
+first_uses : (es : List Expr) (n : ℕ) (k : Kind) → EachAt (λ _ e. IsFirstExpr e) es → n ≡ 0 → IsFirstKind (length es) k → AreUses es n k
+first_uses es n (kind.Set (target.Local c) e) f z h = elim h [ ]
+first_uses es n (kind.Set (target.LocalAt base len i) e) f z h = elim h [ ]
+first_uses es n (kind.Set (target.Shared c) e) f z h = (tt, record { there = h; within = first_within es e n f z })
+first_uses es n (kind.Set (target.SharedAt base len i) e) f z h = elim h [ ]
+first_uses es n (kind.Zero base len) f z h = elim h [ ]
+first_uses es n (kind.If e first second) f z h = elim h [ ]
+first_uses es n (kind.While e body) f z h = elim h [ ]
+first_uses es n (kind.Call g arguments into) f z h = elim h [ ]
+first_uses es n (kind.Return value) f z h = elim h [ ]
+first_uses es n (kind.P s) f z h = elim h [ ]
+first_uses es n (kind.V s) f z h = elim h [ ]
+first_uses es n (kind.Send c e) f z h = elim h [ ]
+first_uses es n (kind.Recv c into) f z h = elim h [ ]
+first_uses es n (kind.Print e) f z h = record { there = h; within = first_within es e n f z }
+first_uses es n (kind.Assert e) f z h = elim h [ ]
+first_uses es n kind.End f z h = tt
 
--- a statement that finishes leaves a process state of the program
-pub finished_first : (program : Program) (s : Proc) → IsFirstProc program s → s.spent < s.budget → IsFirstProc program (finished s)
-finished_first program s h b = record {
-  todo = todo_dropped (length program.stmts) s.todo h.todo;
-  cells = h.cells;
-  below = h.below;
-  steps = omega (arith, h.steps);
-  spent = omega arith;
-}
+first_leads : (p : Program) (n m : ℕ) (k : Kind) → IsFirstKind m k → LeadsOn p n k
+first_leads p n m (kind.If e first second) h = elim h [ ]
+first_leads p n m (kind.While e body) h = elim h [ ]
+first_leads p n m (kind.Call g arguments into) h = elim h [ ]
+first_leads p n m k h = tt
 
-todos_below : (n : ℕ) (stmts : List ℕ) → EachAt (λ _ s. s < n) stmts → EachAt (λ _ t. t.stmt < n) (todos stmts)
-todos_below n [] h k d b = absurd (omega arith)
-todos_below n (x ∷ xs) h zero d b = h 0 x (omega arith)
-todos_below n (x ∷ xs) h (suc k) d b = todos_below n xs (λ i e c. h (suc i) e (omega arith)) k d (omega arith)
+first_stays : (m : ℕ) (k : Kind) → IsFirstKind m k → returns k ≡ false
+first_stays m (kind.Return value) h = elim h [ ]
+first_stays m k h = refl
 
-body_cells : (n : ℕ) (bodies : List Body) (i : ℕ) → EachAt (λ _ b. IsFirstBody n b) bodies → cells_for (slice_get bodies i) [] ≡ []
-body_cells n [] i h = refl
-body_cells n (b ∷ bs) zero h = rw ((h 0 b (omega arith)).cells) refl
-body_cells n (b ∷ bs) (suc i) h = body_cells n bs i (λ k d c. h (suc k) d (omega arith))
+size_zero : (n : ℕ) (bodies : List Body) (i : ℕ) → EachAt (λ _ b. IsFirstBody n b) bodies → size_if (slice_get bodies i) ≡ 0
+size_zero n [] i h = refl
+size_zero n (b ∷ bs) zero h = (h 0 b (omega arith)).cells
+size_zero n (b ∷ bs) (suc i) h = size_zero n bs i (λ k d c. h (suc k) d (omega arith))
 
-body_top : (n : ℕ) (bodies : List Body) (i : ℕ) → EachAt (λ _ b. IsFirstBody n b) bodies → EachAt (λ _ s. s < n) (top_of (slice_get bodies i))
-body_top n [] i h = λ k d b. absurd (omega arith)
-body_top n (b ∷ bs) zero h = (h 0 b (omega arith)).top
-body_top n (b ∷ bs) (suc i) h = body_top n bs i (λ k d c. h (suc k) d (omega arith))
+stmt_zero : (p : Program) (stmts : List Stmt) (i : ℕ) → ((b : ℕ) → size_of p b ≡ 0) → stmt_size p (slice_get stmts i) ≡ 0
+stmt_zero p [] i h = refl
+stmt_zero p (s ∷ ss) zero h = h s.body
+stmt_zero p (s ∷ ss) (suc i) h = stmt_zero p ss i h
 
--- a process before its first step is one of the program
-pub started_first : (program : Program) (body budget : ℕ) (frames : List Frame) (todo : List Todo) (answers prints : List ℤ) → IsFirstProgram program → frames ≡ new_frame program body [] None ∷ [] → todo ≡ todos (top_of (slice_get program.bodies body)) → IsFirstProc program record { frames = frames; todo = todo; answers = answers; below = 0; budget = budget; spent = 0; steps = 0; prints = prints; status = None }
-started_first program body budget frames todo answers prints h frames_are todo_is =
-    let n : ℕ = length program.stmts in
-    let below : EachAt (λ _ t. t.stmt < n) (todos (top_of (slice_get program.bodies body))) =
-    todos_below n (top_of (slice_get program.bodies body)) (body_top n program.bodies body h.bodies) in
+kind_stays : (m : ℕ) (stmts : List Stmt) (i : ℕ) → EachAt (λ _ s. IsFirstKind m s.kind) stmts → returns (kind_or_end (slice_get stmts i)) ≡ false
+kind_stays m [] i h = refl
+kind_stays m (s ∷ ss) zero h = first_stays m s.kind (h 0 s (omega arith))
+kind_stays m (s ∷ ss) (suc i) h = kind_stays m ss i (λ k d c. h (suc k) d (omega arith))
+
+-- the processes of such a program can run
+pub first-runnable : (program : Program) → IsFirstProgram program → IsRunnable program
+first-runnable p h =
+    let zeros : (b : ℕ) → size_of p b ≡ 0 = λ b. size_zero (length p.stmts) p.bodies b h.bodies in
     record {
-      todo = subst (λ (ts : List Todo). EachAt (λ _ t. t.stmt < n) ts) (sym todo_is) below;
-      cells = ap top_cells frames_are ∙ body_cells n program.bodies body h.bodies;
-      below = omega arith;
-      steps = omega arith;
-      spent = omega arith;
+      children = h.children;
+      stmts = λ k s lt. record {
+        uses = first_uses p.exprs (size_of p _) _ h.exprs (zeros _) (h.stmts k s lt);
+        leads = first_leads p (size_of p _) (length p.exprs) _ (h.stmts k s lt);
+      };
+      bodies = λ k b lt. first_body k (get_or p.bodies k b) (h.bodies k b lt) zeros;
+    }
+  where
+    first_body : (number : ℕ) (b : Body) → IsFirstBody (length p.stmts) b → ((b : ℕ) → size_of p b ≡ 0) → IsRunnableBody p number b
+    first_body number b f zeros = record {
+      cells = let none : b.cells ≡ 0 = f.cells in omega arith;
+      top = λ _ k s lt. record {
+        over = record { there = f.top k s lt; size = stmt_zero p p.stmts _ zeros ∙ sym f.cells };
+        stays = kind_stays (length p.exprs) p.stmts _ h.stmts;
+      };
     }

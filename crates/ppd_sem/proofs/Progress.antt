@@ -16,35 +16,37 @@ use Rattle.ppd_sem.specs.Deed.{Deed, set_local, set_shared, clear, branch, turn,
 use Rattle.ppd_sem.specs.Measure.{measure, measure_by}
 use Rattle.ppd_sem.specs.Process.{act, act_at, act_by_asked, act_by_deed, act_by_need, charged, cost, head_deed, need_by_status, need_of, need_of_head, need_of_running, within_budget}
 
--- the same budget and the same cost so far
-record SamePurse (s t : Proc) : Type 0 where
+-- the same budget, the same cost and steps so far, and the same calls below
+pub record SamePurse (s t : Proc) : Type 0 where
   pub budget : t.budget ≡ s.budget
   pub spent : t.spent ≡ s.spent
+  pub steps : t.steps ≡ s.steps
+  pub below : t.below ≡ s.below
 
 deed_purse : (program : Program) (a : Answer) (t : Todo) (ts : List Todo) (d : Deed) (s : Proc) → SamePurse s (act_by_deed program a t ts d s)
-deed_purse program a t ts (set_local c v) s = record { budget = refl; spent = refl }
-deed_purse program a t ts (set_shared c v) s = record { budget = refl; spent = refl }
-deed_purse program a t ts (clear base len) s = record { budget = refl; spent = refl }
-deed_purse program a t ts (branch stmts) s = record { budget = refl; spent = refl }
-deed_purse program a t ts (turn stmts) s = record { budget = refl; spent = refl }
-deed_purse program a t ts leave s = record { budget = refl; spent = refl }
-deed_purse program a t ts (invoke f values into) s = record { budget = refl; spent = refl }
-deed_purse program a t ts (back value) s = record { budget = refl; spent = refl }
-deed_purse program a t ts (take sem) s = record { budget = refl; spent = refl }
-deed_purse program a t ts (give sem) s = record { budget = refl; spent = refl }
-deed_purse program a t ts (send chan value) s = record { budget = refl; spent = refl }
-deed_purse program a t ts (receive chan into) s = record { budget = refl; spent = refl }
-deed_purse program a t ts (print v) s = record { budget = refl; spent = refl }
-deed_purse program a t ts pass s = record { budget = refl; spent = refl }
-deed_purse program a t ts finish s = record { budget = refl; spent = refl }
+deed_purse program a t ts (set_local c v) s = record { budget = refl; spent = refl; steps = refl; below = refl }
+deed_purse program a t ts (set_shared c v) s = record { budget = refl; spent = refl; steps = refl; below = refl }
+deed_purse program a t ts (clear base len) s = record { budget = refl; spent = refl; steps = refl; below = refl }
+deed_purse program a t ts (branch stmts) s = record { budget = refl; spent = refl; steps = refl; below = refl }
+deed_purse program a t ts (turn stmts) s = record { budget = refl; spent = refl; steps = refl; below = refl }
+deed_purse program a t ts leave s = record { budget = refl; spent = refl; steps = refl; below = refl }
+deed_purse program a t ts (invoke f values into) s = record { budget = refl; spent = refl; steps = refl; below = refl }
+deed_purse program a t ts (back value) s = record { budget = refl; spent = refl; steps = refl; below = refl }
+deed_purse program a t ts (take sem) s = record { budget = refl; spent = refl; steps = refl; below = refl }
+deed_purse program a t ts (give sem) s = record { budget = refl; spent = refl; steps = refl; below = refl }
+deed_purse program a t ts (send chan value) s = record { budget = refl; spent = refl; steps = refl; below = refl }
+deed_purse program a t ts (receive chan into) s = record { budget = refl; spent = refl; steps = refl; below = refl }
+deed_purse program a t ts (print v) s = record { budget = refl; spent = refl; steps = refl; below = refl }
+deed_purse program a t ts pass s = record { budget = refl; spent = refl; steps = refl; below = refl }
+deed_purse program a t ts finish s = record { budget = refl; spent = refl; steps = refl; below = refl }
 
-asked_purse : (program : Program) (a : Answer) (t : Todo) (ts : List Todo) (asked : Asked Deed) (s : Proc) → SamePurse s (act_by_asked program a t ts asked s)
+pub asked_purse : (program : Program) (a : Answer) (t : Todo) (ts : List Todo) (asked : Asked Deed) (s : Proc) → SamePurse s (act_by_asked program a t ts asked s)
 asked_purse program a t ts (Ok p) s =
     let same : SamePurse (record s { answers = [] }) (act_by_deed program a t ts p.0 (record s { answers = [] })) =
     deed_purse program a t ts p.0 (record s { answers = [] }) in
-    record { budget = same.budget; spent = same.spent }
-asked_purse program a t ts (Err (Wants cell)) s = record { budget = refl; spent = refl }
-asked_purse program a t ts (Err (Traps trap)) s = record { budget = refl; spent = refl }
+    record { budget = same.budget; spent = same.spent; steps = same.steps; below = same.below }
+asked_purse program a t ts (Err (Wants cell)) s = record { budget = refl; spent = refl; steps = refl; below = refl }
+asked_purse program a t ts (Err (Traps trap)) s = record { budget = refl; spent = refl; steps = refl; below = refl }
 
 -- a step from s to t: the budget stays, it is not overspent, and fewer steps are left
 record Goes (s t : Proc) : Type 0 where
@@ -84,7 +86,7 @@ need_goes program plan a t ts (Read c) s r e h = asked_goes program plan a t ts 
 need_goes program plan a t ts (Write c v) s r e h = asked_goes program plan a t ts (Write c v) s r h
 need_goes program plan a t ts Plain s r e h = asked_goes program plan a t ts Plain s r h
 need_goes program plan a t ts (Enter b u) s r e h =
-    charged_goes plan (Enter b u) s (record s { todo = record t { entered = true } ∷ ts }) record { budget = refl; spent = refl } r h
+    charged_goes plan (Enter b u) s (record s { todo = record t { entered = true } ∷ ts }) record { budget = refl; spent = refl; steps = refl; below = refl } r h
 need_goes program plan a t ts (Leave b u) s r e h = asked_goes program plan a t ts (Leave b u) s r h
 need_goes program plan a t ts (Invoke b u) s r e h = asked_goes program plan a t ts (Invoke b u) s r h
 need_goes program plan a t ts (Back b u) s r e h = asked_goes program plan a t ts (Back b u) s r h
@@ -94,24 +96,24 @@ need_goes program plan a t ts (Send c v u) s r e h = asked_goes program plan a t
 need_goes program plan a t ts (Recv c u) s r e h = asked_goes program plan a t ts (Recv c u) s r h
 need_goes program plan a t ts (End b) s r e h = asked_goes program plan a t ts (End b) s r h
 need_goes program plan a t ts (Trap x) s r e h =
-    charged_goes plan (Trap x) s (record s { status = Some (status.Trap x) }) record { budget = refl; spent = refl } r h
+    charged_goes plan (Trap x) s (record s { status = Some (status.Trap x) }) record { budget = refl; spent = refl; steps = refl; below = refl } r h
 need_goes program plan a t ts Budget s r e h =
-    ended_goes s (record s { status = Some status.Budget }) record { budget = refl; spent = refl } refl r (omega arith)
+    ended_goes s (record s { status = Some status.Budget }) record { budget = refl; spent = refl; steps = refl; below = refl } refl r (omega arith)
 need_goes program plan a t ts Stopped s r e h = absurd (e refl)
 
 paid_goes : (program : Program) (plan : Plan) (a : Answer) (t : Todo) (ts : List Todo) (n : Need) (s : Proc) (poor : Bool) → nat_lt s.budget (s.spent + cost plan n) ≡ poor → s.status ≡ None → s.spent ≤ s.budget → (if poor then Budget else n) ≢ Stopped → Goes s (act_by_need program plan a t ts (if poor then Budget else n) s)
 paid_goes program plan a t ts n s true test r h e =
-    ended_goes s (record s { status = Some status.Budget }) record { budget = refl; spent = refl } refl r h
+    ended_goes s (record s { status = Some status.Budget }) record { budget = refl; spent = refl; steps = refl; below = refl } refl r h
 paid_goes program plan a t ts n s false test r h e =
     let paid : s.spent + cost plan n ≤ s.budget = grind (arith, nat_tests) in
     need_goes program plan a t ts n s r e paid
 
 -- ---- what the next step needs, from the parts of the state
 
-need_at_status : (program : Program) (plan : Plan) (s : Proc) (o : Option Status) → s.status ≡ o → need_of program plan s ≡ need_by_status program plan o s
+pub need_at_status : (program : Program) (plan : Plan) (s : Proc) (o : Option Status) → s.status ≡ o → need_of program plan s ≡ need_by_status program plan o s
 need_at_status program plan s o e = ap (λ o. need_by_status program plan o s) e
 
-need_at_todo : (program : Program) (plan : Plan) (s : Proc) (ts : List Todo) → s.status ≡ None → s.todo ≡ ts → need_of program plan s ≡ need_of_running program plan ts s
+pub need_at_todo : (program : Program) (plan : Plan) (s : Proc) (ts : List Todo) → s.status ≡ None → s.todo ≡ ts → need_of program plan s ≡ need_of_running program plan ts s
 need_at_todo program plan s ts r e = need_at_status program plan s None r ∙ ap (λ ts. need_of_running program plan ts s) e
 
 goes_at : (program : Program) (plan : Plan) (a : Answer) (s : Proc) (o : Option Status) (ts : List Todo) → s.status ≡ o → s.todo ≡ ts → s.spent ≤ s.budget → need_of program plan s ≢ Stopped → Goes s (act_at program plan a ts s)
@@ -124,7 +126,7 @@ goes_at program plan a s None (t ∷ ts) r e h n =
     paid_goes program plan a t ts head s (nat_lt s.budget (s.spent + cost plan head)) refl r h (λ stops. n (is ∙ stops)) in
     subst (λ (x : Need). Goes s (act_by_need program plan a t ts x s)) (sym is) paid
 
-stays_at : (program : Program) (plan : Plan) (a : Answer) (s : Proc) (ts : List Todo) → need_of program plan s ≡ Stopped → act_at program plan a ts s ≡ s
+pub stays_at : (program : Program) (plan : Plan) (a : Answer) (s : Proc) (ts : List Todo) → need_of program plan s ≡ Stopped → act_at program plan a ts s ≡ s
 stays_at program plan a s [] n = refl
 stays_at program plan a s (t ∷ ts) n = ap (λ x. act_by_need program plan a t ts x s) n
 

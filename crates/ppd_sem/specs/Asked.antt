@@ -16,6 +16,16 @@ abbrev pub and_then : {A B : Type 0} → Asked A → (A → List ℤ → Asked B
 and_then (Ok p) next = next p.0 p.1
 and_then (Err pause) next = Err pause
 
+-- what the value brings, and nothing without one
+abbrev pub once : {A B : Type 0} → Asked A → (A → List ℤ → List B) → List B
+once (Ok p) bring = bring p.0 p.1
+once (Err pause) bring = []
+
+-- the value without the answers that are left
+abbrev pub outcome : {A : Type 0} → Asked A → Result A Pause
+outcome (Ok p) = Ok p.0
+outcome (Err pause) = Err pause
+
 -- a shared read takes the next answer
 abbrev pub read_shared : List ℤ → ℕ → Asked ℤ
 read_shared [] cell = Err (Wants cell)

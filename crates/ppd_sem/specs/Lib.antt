@@ -2,10 +2,14 @@
 pub mod Ask
 pub mod Asked
 pub mod Deed
+pub mod Described
+pub mod Effects
 pub mod Example
+pub mod Feeding
 pub mod First
 pub mod Measure
 pub mod Process
 pub mod Reads
+pub mod Runs
 pub mod Tables
 pub mod Within

@@ -1,19 +1,14 @@
 -- The reads of an expression and of a statement, in order of evaluation.
-use Rattle.std.specs.Prelude.{ℕ, ℤ, List, [], ◌∷◌, ◌++◌, Some, Ok, Err, if◌then◌else◌}
+use Rattle.std.specs.Prelude.{ℕ, ℤ, List, [], ◌∷◌, ◌++◌, Some, if◌then◌else◌}
 use Rattle.ppd_ast.specs.declared.program.Target.TheVariants as target
 use Rattle.ppd_ast.specs.declared.program.Expr.{Expr}
 use Rattle.ppd_ast.specs.declared.program.Kind.{Kind}
 use Rattle.ppd_ast.specs.declared.program.Kind.TheVariants.{Set, If, While, Call, Return, Send, Print, Assert}
 use Rattle.ppd_ast.specs.Term.{Term, const, local, local_at, shared, shared_at, neg, not, two, and, or, term}
-use Rattle.ppd_sem.specs.Asked.{Asked, lift}
+use Rattle.ppd_sem.specs.Asked.{lift, once}
 use Rattle.ppd_sem.specs.Ask.{ask, element, cell_of, is_zero}
 use Rattle.ppd_sem.specs.declared.event.Access.{Access}
 use Rattle.ppd_sem.specs.declared.event.Spot.TheVariants as spot
-
--- what is read once this has a value
-abbrev pub once : {A : Type 0} → Asked A → (A → List ℤ → List Access) → List Access
-once (Ok p) reads = reads p.0 p.1
-once (Err pause) reads = []
 
 abbrev pub local_read : ℕ → List ℤ → ℕ → List Access
 local_read frame cells c = record { spot = spot.Local frame c; value = cell_of cells c } ∷ []

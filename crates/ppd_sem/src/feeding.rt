@@ -1,13 +1,20 @@
-ghost use Rattle.std.specs.Prelude.{◌≡◌, ◌<◌, ◌≤◌, ◌-◌, ◌^◌, ◌∷◌, ◌++◌, length, [], OnOk, OnErr};
+ghost use Rattle.std.specs.Prelude.{◌≡◌, ◌<◌, ◌≤◌, ◌+◌, ◌-◌, ◌^◌, ◌∷◌, ◌++◌, drop, length, [], true, Some, OnOk, OnErr, IfOk, slice_get};
 ghost use Rattle.ppd_ast.specs.declared.status.Status.TheVariants as status;
-ghost use Rattle.ppd_sem.specs.First.{IsFirstProc, IsFirstProgram, finished, paused_at, with_step};
-ghost use Rattle.ppd_sem.specs.Process.{act, value_of};
+ghost use Rattle.ppd_sem.specs.Effects.{arguments_of, given, head_deed_of};
+ghost use Rattle.ppd_sem.specs.Feeding.{finished, hold_at, invoked};
+ghost use Rattle.ppd_sem.specs.Process.{act, act_by_asked, act_by_deed, act_by_need, charged, cost as cost_of, head_deed, kind_of, need_of, todos, top_cells as top_cells_of, value_of};
+ghost use Rattle.ppd_sem.specs.Runs.{IsNumbered, IsOver, IsRunnable, IsRunning};
 
-use crate::asking::{Pause, ask};
-use crate::looking::top_cells;
-use crate::proc::{Answer, Proc};
-use crate::tables::kind_at;
-use ppd_ast::{Kind, Memory, Plan, Program, Status, Target};
+use crate::asking::Pause;
+use crate::cost::cost;
+use crate::effect::Effect;
+use crate::frame::{new_frame, push_values};
+use crate::frames::{clear_top, return_from, write_top};
+use crate::looking::{head, head_effect, look, top_cells};
+use crate::proc::{Answer, Need, Proc, Todo};
+use crate::tables::{arguments_in, body_in, branch_in, kind_at, top_at};
+use crate::todos::{put_before, put_in_place};
+use ppd_ast::{Memory, Nums, Plan, Program, Status};
 
 fn value_in(answer: &Answer) -> i64
     ensures { result ≡ value_of answer.now }
@@ -18,89 +25,78 @@ fn value_in(answer: &Answer) -> i64
     }
 }
 
-/// Takes the next step of a process. `Value` goes with a need for a value, `Go` with the
-/// others. `Memory` is want of memory: the process is as before.
-#[tactic(auto, using(crate::proofs::First::first_within, crate::proofs::First::finished_first))]
-pub fn feed(program: &Program, plan: &Plan, proc: &mut Proc, answer: &Answer) -> Result<(), Memory>
-    requires program { IsFirstProgram program.now }
-    requires proc { IsFirstProc program.now proc.old }
-    ensures ok { OnOk result (proc.new ≡ act program.now plan.now proc.old answer.now) }
-    ensures err { OnErr result (proc.new ≡ proc.old) }
-    ensures kept { IsFirstProc program.now proc.new }
-{
-    if proc.status.is_some() {
-        return Ok(());
-    }
-    let todo = match proc.todo.top() {
-        Some(todo) => *todo,
-        None => return Ok(()),
-    };
-    if proc.spent >= proc.budget {
-        proc.status = Some(Status::Budget);
-        return Ok(());
-    }
-    let exprs = program.exprs.as_slice();
-    match kind_at(program, todo.stmt) {
-        Kind::Set(Target::Shared(_), value) => {
-            match ask(
-                exprs,
-                *value,
-                top_cells(&proc.frames),
-                proc.answers.as_slice(),
-            ) {
-                Ok(_) => {
-                    finish(proc);
-                    Ok(())
-                }
-                Err(pause) => hold(proc, pause, answer),
-            }
-        }
-        Kind::Print(value) => {
-            match ask(
-                exprs,
-                *value,
-                top_cells(&proc.frames),
-                proc.answers.as_slice(),
-            ) {
-                Ok((value, _)) => print(proc, value),
-                Err(pause) => hold(proc, pause, answer),
-            }
-        }
-        Kind::End => {
-            end(proc);
-            Ok(())
-        }
-        _ => unreachable!(),
-    }
-}
-
-/// Counts a step that writes no values.
-fn charge(proc: &mut Proc)
-    requires room { proc.old.spent < 2 ^ 32 - 1 }
-    requires steps { proc.old.steps ≤ proc.old.spent }
-    ensures { proc.new ≡ with_step proc.old }
-{
-    proc.spent += 1;
-    proc.steps += 1;
-}
-
-/// Takes the head statement off.
+/// Takes the head statement off, with its answers.
 fn finish(proc: &mut Proc)
-    requires todo { 0 < length proc.old.todo }
-    requires room { proc.old.spent < 2 ^ 32 - 1 }
-    requires steps { proc.old.steps ≤ proc.old.spent }
     ensures { proc.new ≡ finished proc.old }
 {
     proc.todo.pop();
     proc.answers.clear();
-    charge(proc);
+}
+
+/// The values of a call's arguments.
+#[tactic(auto, using(crate::proofs::Leads::arguments_used))]
+fn argument_values(program: &Program, todo: Todo, proc: &Proc) -> Result<Nums, Memory>
+    requires program { IsRunnable program.now }
+    requires cells { length (top_cells_of proc.now.frames) < 2 ^ 16 }
+    requires over { IsOver program.now (length (top_cells_of proc.now.frames)) todo.stmt }
+    ensures { IfOk result (λ values. values ≡ given program.now.exprs (arguments_of (kind_of program.now todo.stmt)) (top_cells_of proc.now.frames) proc.now.answers) }
+{
+    let mut values = Nums::new(proc.frames.allocator());
+    push_values(
+        &mut values,
+        program.exprs.as_slice(),
+        arguments_in(kind_at(program, todo.stmt)),
+        top_cells(&proc.frames),
+        proc.answers.as_slice(),
+    )?;
+    Ok(values)
+}
+
+/// Begins a function, before what is left to do after the call.
+fn invoke(
+    program: &Program,
+    todo: Todo,
+    function: u16,
+    values: Nums,
+    proc: &mut Proc,
+) -> Result<(), Memory>
+    requires { 0 < length proc.old.todo }
+    ensures ok { OnOk result (proc.new ≡ invoked program.now todo function values proc.old) }
+    ensures err { OnErr result (proc.new ≡ proc.old) }
+{
+    let frame = new_frame(program, function, values, Some(todo.stmt))?;
+    proc.frames.push(frame)?;
+    if put_in_place(&mut proc.todo, top_at(program, function)).is_err() {
+        proc.frames.pop();
+        return Err(Memory);
+    }
+    proc.answers.clear();
+    Ok(())
+}
+
+/// Goes on with the statements in the head's place.
+fn go_on(proc: &mut Proc, stmts: &[u32]) -> Result<(), Memory>
+    requires { 0 < length proc.old.todo }
+    ensures ok { OnOk result (proc.new ≡ record proc.old { todo = todos stmts.now ++ drop 1 proc.old.todo; answers = [] }) }
+    ensures err { OnErr result (proc.new ≡ proc.old) }
+{
+    put_in_place(&mut proc.todo, stmts)?;
+    proc.answers.clear();
+    Ok(())
+}
+
+/// Runs the statements before the head statement comes again.
+fn turn(proc: &mut Proc, stmts: &[u32]) -> Result<(), Memory>
+    ensures ok { OnOk result (proc.new ≡ record proc.old { todo = todos stmts.now ++ proc.old.todo; answers = [] }) }
+    ensures err { OnErr result (proc.new ≡ proc.old) }
+{
+    put_before(&mut proc.todo, stmts)?;
+    proc.answers.clear();
+    Ok(())
 }
 
 fn print(proc: &mut Proc, value: i64) -> Result<(), Memory>
-    requires todo { 0 < length proc.old.todo }
-    requires room { proc.old.spent < 2 ^ 32 - 1 }
-    requires steps { proc.old.steps ≤ proc.old.spent }
-    ensures ok { OnOk result (proc.new ≡ finished (record proc.old { prints = proc.old.prints ++ value ∷ [] })) }
+    ensures ok { OnOk result (proc.new ≡ record (finished proc.old) { prints = proc.old.prints ++ value ∷ [] }) }
     ensures err { OnErr result (proc.new ≡ proc.old) }
 {
     proc.prints.push(value)?;
@@ -108,27 +104,165 @@ fn print(proc: &mut Proc, value: i64) -> Result<(), Memory>
     Ok(())
 }
 
-fn end(proc: &mut Proc)
-    requires todo { 0 < length proc.old.todo }
-    requires room { proc.old.spent < 2 ^ 32 - 1 }
-    requires steps { proc.old.steps ≤ proc.old.spent }
-    ensures { proc.new ≡ finished (record proc.old { status = Some status.Ended }) }
+/// Does what the head statement does once its values are there.
+fn do_effect(
+    program: &Program,
+    todo: Todo,
+    effect: Effect,
+    proc: &mut Proc,
+    answer: &Answer,
+) -> Result<(), Memory>
+    requires program { IsRunnable program.now }
+    requires head { slice_get proc.old.todo 0 ≡ Some todo }
+    requires cells { length (top_cells_of proc.old.frames) < 2 ^ 16 }
+    requires over { IsOver program.now (length (top_cells_of proc.old.frames)) todo.stmt }
+    ensures ok { OnOk result (proc.new ≡ act_by_deed program.now answer.now todo (drop 1 proc.old.todo) (head_deed_of program.now todo proc.old effect) (record proc.old { answers = [] })) }
+    ensures err { OnErr result (proc.new ≡ proc.old) }
 {
+    match effect {
+        Effect::Branch(holds) => return go_on(proc, branch_in(kind_at(program, todo.stmt), holds)),
+        Effect::Turn => return turn(proc, body_in(kind_at(program, todo.stmt))),
+        Effect::Invoke(function, _) => {
+            let values = argument_values(program, todo, proc)?;
+            return invoke(program, todo, function, values, proc);
+        }
+        Effect::Print(value) => return print(proc, value),
+        _ => {}
+    }
     finish(proc);
-    proc.status = Some(Status::Ended);
+    match effect {
+        Effect::SetLocal(cell, value) => write_top(&mut proc.frames, cell, value),
+        Effect::Clear(base, len) => clear_top(&mut proc.frames, base, len),
+        Effect::Back(value) => return_from(program, &mut proc.frames, value),
+        Effect::Receive(_, into) => write_top(&mut proc.frames, into, value_in(answer)),
+        Effect::Finish => proc.status = Some(Status::Ended),
+        _ => {}
+    }
+    Ok(())
 }
 
 /// The step of a statement that lacks a value, or traps.
 fn hold(proc: &mut Proc, pause: Pause, answer: &Answer) -> Result<(), Memory>
-    requires room { proc.old.spent < 2 ^ 32 - 1 }
-    requires steps { proc.old.steps ≤ proc.old.spent }
-    ensures ok { OnOk result (proc.new ≡ paused_at proc.old pause answer.now) }
+    ensures ok { OnOk result (proc.new ≡ hold_at proc.old pause answer.now) }
     ensures err { OnErr result (proc.new ≡ proc.old) }
 {
     match pause {
         Pause::Wants(_) => proc.answers.push(value_in(answer))?,
         Pause::Traps(trap) => proc.status = Some(Status::Trap(trap)),
     }
-    charge(proc);
     Ok(())
+}
+
+/// What the head statement's step does, its cost aside.
+fn act_on_head(
+    program: &Program,
+    todo: Todo,
+    proc: &mut Proc,
+    answer: &Answer,
+) -> Result<(), Memory>
+    requires program { IsRunnable program.now }
+    requires head { slice_get proc.old.todo 0 ≡ Some todo }
+    requires cells { length (top_cells_of proc.old.frames) < 2 ^ 16 }
+    requires over { IsOver program.now (length (top_cells_of proc.old.frames)) todo.stmt }
+    ensures ok { OnOk result (proc.new ≡ act_by_asked program.now answer.now todo (drop 1 proc.old.todo) (head_deed program.now todo proc.old) proc.old) }
+    ensures err { OnErr result (proc.new ≡ proc.old) }
+{
+    match head_effect(program, todo, proc) {
+        Ok(effect) => do_effect(program, todo, effect, proc, answer),
+        Err(pause) => hold(proc, pause, answer),
+    }
+}
+
+/// Counts a step and its cost.
+fn charge(plan: &Plan, need: Need, proc: &mut Proc)
+    requires paid { proc.old.spent + cost_of plan.now need ≤ proc.old.budget }
+    requires steps { proc.old.steps ≤ proc.old.spent }
+    ensures { proc.new ≡ charged plan.now need proc.old }
+{
+    let _budget = proc.budget;
+    proc.spent += cost(plan, need) as u32;
+    proc.steps += 1;
+}
+
+/// Marks the head statement, a block loop, as entered.
+fn enter(todo: Todo, proc: &mut Proc)
+    requires { 0 < length proc.old.todo }
+    ensures { proc.new ≡ record proc.old { todo = record todo { entered = true } ∷ drop 1 proc.old.todo } }
+{
+    proc.todo.set_top(Todo {
+        stmt: todo.stmt,
+        entered: true,
+    });
+}
+
+/// Takes the step of a need that is there to be met.
+fn step(
+    program: &Program,
+    plan: &Plan,
+    todo: Todo,
+    proc: &mut Proc,
+    answer: &Answer,
+) -> Result<(), Memory>
+    requires program { IsRunnable program.now }
+    requires plan { IsNumbered plan.now }
+    requires proc { IsRunning program.now proc.old }
+    requires head { slice_get proc.old.todo 0 ≡ Some todo }
+    ensures ok { OnOk result (proc.new ≡ act_by_need program.now plan.now answer.now todo (drop 1 proc.old.todo) (need_of program.now plan.now proc.old) proc.old) }
+    ensures err { OnErr result (proc.new ≡ proc.old) }
+{
+    let need = look(program, plan, proc);
+    match need {
+        Need::Stopped => Ok(()),
+        Need::Budget => {
+            proc.status = Some(Status::Budget);
+            Ok(())
+        }
+        Need::Enter { .. } => {
+            enter(todo, proc);
+            charge(plan, need, proc);
+            Ok(())
+        }
+        Need::Trap(trap) => {
+            proc.status = Some(Status::Trap(trap));
+            charge(plan, need, proc);
+            Ok(())
+        }
+        _ => {
+            act_on_head(program, todo, proc, answer)?;
+            charge(plan, need, proc);
+            Ok(())
+        }
+    }
+}
+
+/// The next step of a process, if there is one.
+fn step_of_head(
+    program: &Program,
+    plan: &Plan,
+    proc: &mut Proc,
+    answer: &Answer,
+) -> Result<(), Memory>
+    requires program { IsRunnable program.now }
+    requires plan { IsNumbered plan.now }
+    requires proc { IsRunning program.now proc.old }
+    ensures ok { OnOk result (proc.new ≡ act program.now plan.now proc.old answer.now) }
+    ensures err { OnErr result (proc.new ≡ proc.old) }
+{
+    match head(proc) {
+        Some(todo) => step(program, plan, todo, proc, answer),
+        None => Ok(()),
+    }
+}
+
+/// Takes the next step of a process. `Value` goes with a need for a value, `Go` with the
+/// others. `Memory` is want of memory: the process is as before.
+pub fn feed(program: &Program, plan: &Plan, proc: &mut Proc, answer: &Answer) -> Result<(), Memory>
+    requires program { IsRunnable program.now }
+    requires plan { IsNumbered plan.now }
+    requires proc { IsRunning program.now proc.old }
+    ensures ok { OnOk result (proc.new ≡ act program.now plan.now proc.old answer.now) }
+    ensures err { OnErr result (proc.new ≡ proc.old) }
+    ensures kept { IsRunning program.now proc.new }
+{
+    step_of_head(program, plan, proc, answer)
 }

@@ -2,14 +2,19 @@
 #![tactic(auto)]
 
 mod asking;
+mod cost;
+mod effect;
 mod eval;
 mod event;
 mod feeding;
+mod frame;
+mod frames;
 mod looking;
 mod proc;
 mod stack;
 mod starting;
 mod tables;
+mod todos;
 
 pub use asking::{Pause, ask};
 pub use event::{Access, Event, Spot};

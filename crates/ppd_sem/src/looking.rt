@@ -1,45 +1,22 @@
-ghost use Rattle.std.specs.Prelude.{◌≡◌, ◌<◌, ◌≤◌, ◌^◌, [], length};
-ghost use Rattle.ppd_ast.specs.declared.plan.BlockKind.TheVariants.{Process};
-ghost use Rattle.ppd_sem.specs.Deed.{ask_deed};
-ghost use Rattle.ppd_sem.specs.First.{IsFirstKind, IsFirstProc, IsFirstProgram, IsPlainNeed};
-ghost use Rattle.ppd_sem.specs.Process.{need_of, need_of_asked, need_of_head, need_of_pause, top_body, top_cells as top_cells_of, within_budget as within_budget_of};
-ghost use Rattle.ppd_sem.specs.Tables.{block_of, or_zero, same_block};
+ghost use Rattle.std.specs.Prelude.{◌≡◌, ◌<◌, ◌≤◌, ◌^◌, Some, None, length, slice_get, IsSomeAnd};
+ghost use Rattle.ppd_ast.specs.declared.plan.BlockKind.TheVariants.{Function, Loop, Process};
+ghost use Rattle.ppd_sem.specs.declared.proc.Need.TheVariants.{Back, End};
+ghost use Rattle.ppd_sem.specs.Asked.{outcome};
+ghost use Rattle.ppd_sem.specs.Effects.{head_deed_if, head_deed_of};
+ghost use Rattle.ppd_sem.specs.Process.{call_unit as call_unit_of, entry_of, head_deed, need_of, need_of_call, need_of_deed, need_of_head, need_of_leaving, need_of_pause, top_body, top_call, top_cells as top_cells_of};
+ghost use Rattle.ppd_sem.specs.Tables.{block_of, or_zero};
+ghost use Rattle.ppd_sem.specs.Runs.{IsNumbered, IsOver, IsRunnable, IsRunning};
 
-use crate::asking::{Pause, ask};
+use crate::asking::Pause;
+use crate::cost::within_budget;
+use crate::effect::{Effect, effect_of};
 use crate::proc::{Frame, Need, Proc, Todo};
 use crate::stack::Stack;
-use crate::tables::kind_at;
-use ppd_ast::{BlockKind, Kind, Plan, Program, Target};
+use crate::tables::{find_block, find_unit, kind_at};
+use ppd_ast::{BlockKind, Kind, Plan, Program, Start, Trap};
 
-fn is_same(a: BlockKind, b: BlockKind) -> bool
-    ensures { result ≡ same_block a b }
-{
-    match (a, b) {
-        (BlockKind::Function(a), BlockKind::Function(b)) => a == b,
-        (BlockKind::Process(a), BlockKind::Process(b)) => a == b,
-        (BlockKind::Loop(a), BlockKind::Loop(b)) => a == b,
-        _ => false,
-    }
-}
-
-fn find_block(plan: &Plan, kind: BlockKind) -> Option<usize>
-    ensures { result ≡ block_of plan.now kind }
-{
-    plan.blocks
-        .as_slice()
-        .iter()
-        .position(|block| is_same(block.kind, kind))
-}
-
-fn process_block(plan: &Plan, body: u16) -> u16
-    requires { length plan.now.blocks ≤ 2 ^ 16 }
-    ensures { result ≡ or_zero (block_of plan.now (Process body)) }
-{
-    match find_block(plan, BlockKind::Process(body)) {
-        Some(block) => block as u16,
-        None => 0,
-    }
-}
+/// The most calls of a process that are open at once.
+const MOST_CALLS: usize = 64;
 
 fn body_of(frames: &Stack<Frame>) -> u16
     ensures { result ≡ top_body frames.now }
@@ -47,6 +24,15 @@ fn body_of(frames: &Stack<Frame>) -> u16
     match frames.top() {
         Some(frame) => frame.body,
         None => 0,
+    }
+}
+
+fn call_of(frames: &Stack<Frame>) -> Option<u32>
+    ensures { result ≡ top_call frames.now }
+{
+    match frames.top() {
+        Some(frame) => frame.call,
+        None => None,
     }
 }
 
@@ -60,9 +46,33 @@ pub(crate) fn top_cells(frames: &Stack<Frame>) -> &[i64]
     }
 }
 
+/// The head statement, if any is still to do.
+pub(crate) fn head(proc: &Proc) -> Option<Todo>
+    ensures { result ≡ slice_get proc.now.todo 0 }
+{
+    match proc.todo.top() {
+        Some(todo) => Some(*todo),
+        None => None,
+    }
+}
+
+/// What the head statement does, or why a value is not there yet.
+pub(crate) fn head_effect(program: &Program, todo: Todo, proc: &Proc) -> Result<Effect, Pause>
+    requires program { IsRunnable program.now }
+    requires cells { length (top_cells_of proc.now.frames) < 2 ^ 16 }
+    requires over { IsOver program.now (length (top_cells_of proc.now.frames)) todo.stmt }
+    ensures { outcome (head_deed program.now todo proc.now) ≡ head_deed_if program.now todo proc.now result }
+{
+    effect_of(
+        program.exprs.as_slice(),
+        kind_at(program, todo.stmt),
+        top_cells(&proc.frames),
+        proc.answers.as_slice(),
+    )
+}
+
 fn paused_need(pause: Pause) -> Need
-    ensures need { result ≡ need_of_pause pause }
-    ensures plain { IsPlainNeed result }
+    ensures { result ≡ need_of_pause pause }
 {
     match pause {
         Pause::Wants(cell) => Need::Read(cell),
@@ -70,70 +80,148 @@ fn paused_need(pause: Pause) -> Need
     }
 }
 
-/// What a statement of this kind needs.
-#[tactic(auto, using(crate::proofs::First::first_within))]
-fn kind_need(program: &Program, plan: &Plan, stmt: u32, kind: &Kind, proc: &Proc) -> Need
-    requires program { IsFirstProgram program.now }
-    requires first { IsFirstKind (length program.now.exprs) kind.now }
-    requires cells { top_cells_of proc.now.frames ≡ [] }
-    requires blocks { length plan.now.blocks ≤ 2 ^ 16 }
-    ensures need { result ≡ need_of_asked plan.now stmt proc.now (ask_deed program.now.exprs kind.now (top_cells_of proc.now.frames) proc.now.answers) }
-    ensures plain { IsPlainNeed result }
+fn call_need(plan: &Plan, function: u16, proc: &Proc) -> Need
+    requires plan { IsNumbered plan.now }
+    ensures { result ≡ need_of_call plan.now function proc.now }
 {
-    let exprs = program.exprs.as_slice();
-    let cells = top_cells(&proc.frames);
-    let answers = proc.answers.as_slice();
-    match kind {
-        Kind::Set(Target::Shared(cell), value) => match ask(exprs, *value, cells, answers) {
-            Ok((value, _)) => Need::Write(*cell, value),
-            Err(pause) => paused_need(pause),
+    let below = proc.below as usize;
+    if proc.frames.len() > MOST_CALLS || below + proc.frames.len() > MOST_CALLS {
+        return Need::Trap(Trap::Depth);
+    }
+    Need::Invoke {
+        block: find_block(plan, BlockKind::Function(function)),
+        unit: find_unit(plan, Start::Entry(function)),
+    }
+}
+
+fn leaving_need(plan: &Plan, stmt: u32) -> Need
+    requires plan { IsNumbered plan.now }
+    ensures { result ≡ need_of_leaving plan.now stmt (block_of plan.now (Loop stmt)) }
+{
+    match find_block(plan, BlockKind::Loop(stmt)) {
+        Some(block) => Need::Leave {
+            block,
+            unit: find_unit(plan, Start::Exit(stmt)),
         },
-        Kind::Print(value) => match ask(exprs, *value, cells, answers) {
-            Ok(_) => Need::Plain,
-            Err(pause) => paused_need(pause),
+        None => Need::Plain,
+    }
+}
+
+fn call_unit(plan: &Plan, call: Option<u32>) -> Option<u16>
+    requires plan { IsNumbered plan.now }
+    ensures { result ≡ call_unit_of plan.now call }
+{
+    match call {
+        Some(call) => Some(find_unit(plan, Start::After(call))),
+        None => None,
+    }
+}
+
+fn return_need(plan: &Plan, frames: &Stack<Frame>) -> Need
+    requires plan { IsNumbered plan.now }
+    ensures { result ≡ Back (block_of plan.now (Function (top_body frames.now))) (call_unit_of plan.now (top_call frames.now)) }
+{
+    Need::Back {
+        block: find_block(plan, BlockKind::Function(body_of(frames))),
+        unit: call_unit(plan, call_of(frames)),
+    }
+}
+
+fn ending_need(plan: &Plan, body: u16) -> Need
+    requires plan { IsNumbered plan.now }
+    ensures { result ≡ End (or_zero (block_of plan.now (Process body))) }
+{
+    match find_block(plan, BlockKind::Process(body)) {
+        Some(block) => Need::End { block },
+        None => Need::End { block: 0 },
+    }
+}
+
+/// What a statement needs whose values are all there.
+fn effect_need(program: &Program, plan: &Plan, todo: Todo, proc: &Proc, effect: Effect) -> Need
+    requires plan { IsNumbered plan.now }
+    ensures { result ≡ need_of_deed plan.now todo.stmt proc.now (head_deed_of program.now todo proc.now effect) }
+{
+    let after = Start::After(todo.stmt);
+    match effect {
+        Effect::SetShared(cell, value) => Need::Write(cell, value),
+        Effect::Leave => leaving_need(plan, todo.stmt),
+        Effect::Invoke(function, _) => call_need(plan, function, proc),
+        Effect::Back(_) => return_need(plan, &proc.frames),
+        Effect::Take(sem) => Need::P {
+            sem,
+            unit: find_unit(plan, after),
         },
-        Kind::End => Need::End {
-            block: process_block(plan, body_of(&proc.frames)),
+        Effect::Give(sem) => Need::V {
+            sem,
+            unit: find_unit(plan, after),
         },
-        _ => unreachable!(),
+        Effect::Send(chan, value) => Need::Send {
+            chan,
+            value,
+            unit: find_unit(plan, after),
+        },
+        Effect::Receive(chan, _) => Need::Recv {
+            chan,
+            unit: find_unit(plan, after),
+        },
+        Effect::Finish => ending_need(plan, body_of(&proc.frames)),
+        Effect::SetLocal(..)
+        | Effect::Clear(..)
+        | Effect::Branch(_)
+        | Effect::Turn
+        | Effect::Print(_)
+        | Effect::Pass => Need::Plain,
+    }
+}
+
+/// The block of a loop that the process has yet to enter.
+fn entry_block(program: &Program, plan: &Plan, todo: Todo) -> Option<u16>
+    requires plan { IsNumbered plan.now }
+    requires todo { todo.stmt < length program.now.stmts }
+    ensures { result ≡ entry_of program.now plan.now todo }
+{
+    if todo.entered {
+        return None;
+    }
+    match kind_at(program, todo.stmt) {
+        Kind::While(..) => find_block(plan, BlockKind::Loop(todo.stmt)),
+        _ => None,
     }
 }
 
 /// What the head statement needs.
 fn head_need(program: &Program, plan: &Plan, todo: Todo, proc: &Proc) -> Need
-    requires program { IsFirstProgram program.now }
-    requires todo { todo.stmt < length program.now.stmts }
-    requires cells { top_cells_of proc.now.frames ≡ [] }
-    requires blocks { length plan.now.blocks ≤ 2 ^ 16 }
-    ensures need { result ≡ need_of_head program.now plan.now todo proc.now }
-    ensures plain { IsPlainNeed result }
+    requires program { IsRunnable program.now }
+    requires plan { IsNumbered plan.now }
+    requires cells { length (top_cells_of proc.now.frames) < 2 ^ 16 }
+    requires over { IsOver program.now (length (top_cells_of proc.now.frames)) todo.stmt }
+    ensures { result ≡ need_of_head program.now plan.now todo proc.now }
 {
-    kind_need(program, plan, todo.stmt, kind_at(program, todo.stmt), proc)
-}
-
-fn within_budget(plan: &Plan, proc: &Proc, need: Need) -> Need
-    requires { IsPlainNeed need }
-    ensures { result ≡ within_budget_of plan.now proc.now need }
-{
-    if proc.spent < proc.budget {
-        need
-    } else {
-        Need::Budget
+    if let Some(block) = entry_block(program, plan, todo) {
+        return Need::Enter {
+            block,
+            unit: find_unit(plan, Start::Enter(todo.stmt)),
+        };
+    }
+    match head_effect(program, todo, proc) {
+        Ok(effect) => effect_need(program, plan, todo, proc, effect),
+        Err(pause) => paused_need(pause),
     }
 }
 
 /// What the next step of a process needs.
 pub fn look(program: &Program, plan: &Plan, proc: &Proc) -> Need
-    requires program { IsFirstProgram program.now }
-    requires proc { IsFirstProc program.now proc.now }
-    requires blocks { length plan.now.blocks ≤ 2 ^ 16 }
+    requires program { IsRunnable program.now }
+    requires plan { IsNumbered plan.now }
+    requires proc { IsRunning program.now proc.now }
     ensures { result ≡ need_of program.now plan.now proc.now }
 {
     if proc.status.is_some() {
         return Need::Stopped;
     }
-    match proc.todo.top() {
-        Some(todo) => within_budget(plan, proc, head_need(program, plan, *todo, proc)),
+    match head(proc) {
+        Some(todo) => within_budget(plan, proc, head_need(program, plan, todo, proc)),
         None => Need::Stopped,
     }
 }

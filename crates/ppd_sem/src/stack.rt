@@ -1,4 +1,4 @@
-ghost use Rattle.std.specs.Prelude.{◌≡◌, [], ◌∷◌, OnOk, OnErr, reverse, slice_get, IfSome, IfNone};
+ghost use Rattle.std.specs.Prelude.{◌≡◌, length, [], ◌∷◌, ◌++◌, ◌<◌, drop, OnOk, OnErr, reverse, slice_get, IfSome, IfNone};
 ghost use Rattle.std.specs.Option.{option_copied};
 
 use ppd_ast::Memory;
@@ -8,7 +8,7 @@ use std::marker::Model;
 /// A stack, which contracts see as the list from its top.
 #[derive(Drop, Debug)]
 pub struct Stack<T: Drop> {
-    items: Vec<T>,
+    pub(crate) items: Vec<T>,
 }
 
 impl<T: Drop> Model for Stack<T> {
@@ -48,11 +48,59 @@ impl<T: Drop> Stack<T> {
         }
     }
 
+    /// Puts the items at the top, the last of them topmost. `Memory` is want of memory: the
+    /// stack is as before and the items are dropped.
+    pub fn push_all(&mut self, mut items: Vec<T>) -> Result<(), Memory>
+        ensures ok { OnOk result (self.new ≡ reverse items.items ++ self.old) }
+        ensures err { OnErr result (self.new ≡ self.old) }
+    {
+        match self.items.append(&mut items) {
+            Ok(()) => Ok(()),
+            Err(_) => Err(Memory),
+        }
+    }
+
+    /// Puts the items in place of the one at the top, the last of them topmost. `Memory` is want
+    /// of memory: the stack is as before and the items are dropped.
+    pub fn replace_top(&mut self, mut items: Vec<T>) -> Result<(), Memory>
+        requires { 0 < length self.old }
+        ensures ok { OnOk result (self.new ≡ reverse items.items ++ drop 1 self.old) }
+        ensures err { OnErr result (self.new ≡ self.old) }
+    {
+        let top = self.items.len() - 1;
+        if self.items.append(&mut items).is_err() {
+            return Err(Memory);
+        }
+        self.items.remove(top);
+        Ok(())
+    }
+
+    /// Puts the item in place of the one at the top.
+    pub fn set_top(&mut self, item: T)
+        requires { 0 < length self.old }
+        ensures { self.new ≡ item ∷ drop 1 self.old }
+    {
+        let top = self.items.len() - 1;
+        self.items[top] = item;
+    }
+
+    /// The allocator by which the stack grows.
+    pub fn allocator(&self) -> Global {
+        *self.items.allocator()
+    }
+
     /// The item at the top, if there is one.
     pub fn top(&self) -> Option<&T>
         ensures { option_copied result ≡ slice_get self.now 0 }
     {
         self.items.last()
+    }
+
+    /// How many items there are.
+    pub fn len(&self) -> usize
+        ensures { result ≡ length self.now }
+    {
+        self.items.len()
     }
 
     /// Takes the item at the top off.

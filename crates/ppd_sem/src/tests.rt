@@ -1,6 +1,6 @@
 ghost use Rattle.std.specs.Prelude.{◌≡◌, length, IfOk};
 ghost use Rattle.ppd_sem.specs.Example.{printing as printing_of, stmt as stmt_of};
-ghost use Rattle.ppd_sem.specs.First.{IsFirstProgram};
+ghost use Rattle.ppd_sem.specs.Runs.{IsNumbered, IsRunnable};
 
 use crate::asking::Pause;
 use crate::eval::calc;
@@ -66,9 +66,8 @@ fn bodies(alloc: Global) -> Result<Seq<Body>, AllocError>
 }
 
 /// `shared int x; process a { x = 2; print(x + 3); }`
-#[tactic(auto, using(crate::proofs::ExampleFirst::printing_like))]
 fn printing(alloc: Global) -> Result<Program, AllocError>
-    ensures first { IfOk result (λ program. IsFirstProgram program) }
+    ensures runnable { IfOk result (λ program. IsRunnable program) }
     ensures functions { IfOk result (λ program. program.functions ≡ 0) }
     ensures bodies { IfOk result (λ program. length program.bodies ≡ 1) }
 {
@@ -89,7 +88,7 @@ fn printing(alloc: Global) -> Result<Program, AllocError>
 
 /// The process is block 0, and unit 0 starts at its entry.
 fn plan(alloc: Global) -> Result<Plan, AllocError>
-    ensures { IfOk result (λ plan. length plan.blocks ≡ 1) }
+    ensures { IfOk result (λ plan. IsNumbered plan) }
 {
     let block = Block {
         kind: BlockKind::Process(0),

@@ -1,0 +1,328 @@
+-- A step leaves a process state of the program.
+use Rattle.std.proofs.Common.{◌≡◌, ℕ, zero, suc, ◌+◌, ◌-◌, ◌<◌, ◌≤◌, ◌^◌, ℤ, pos, Bool, true, false, nat_lt, List, [], ◌∷◌, ◌++◌, length, Option, Some, None, Result, Ok, Err, refl, ap, sym, ◌∙◌, subst, arith, if◌then◌else◌}
+use Rattle.std.specs.Prelude.{OnOk, OnErr, replicate, slice_get, ⊤}
+use Rattle.std.specs.List.{All}
+use Rattle.std.proofs.lemmas.Bool.Decides.{nat_tests}
+use Rattle.std.proofs.lemmas.List.{length-set, length-append, length-replicate}
+use Rattle.ppd_ast.specs.Table.{EachAt}
+use Rattle.ppd_ast.specs.Term.{Term, term}
+use Rattle.ppd_ast.specs.declared.plan.Plan.{Plan}
+use Rattle.ppd_ast.specs.declared.program.Body.{Body}
+use Rattle.ppd_ast.specs.declared.program.Expr.{Expr}
+use Rattle.ppd_ast.specs.declared.program.Kind.{Kind}
+use Rattle.ppd_ast.specs.declared.program.Kind.TheVariants as kind
+use Rattle.ppd_ast.specs.declared.program.Program.{Program}
+use Rattle.ppd_ast.specs.declared.program.Target.TheVariants as target
+use Rattle.ppd_ast.specs.declared.status.Status.{Status}
+use Rattle.ppd_ast.specs.declared.status.Status.TheVariants as status
+use Rattle.ppd_ast.specs.declared.status.Trap.TheVariants as trap
+use Rattle.ppd_sem.specs.declared.asking.Pause.TheVariants.{Wants, Traps}
+use Rattle.ppd_sem.specs.declared.proc.Answer.{Answer}
+use Rattle.ppd_sem.specs.declared.proc.Frame.{Frame}
+use Rattle.ppd_sem.specs.declared.proc.Need.{Need}
+use Rattle.ppd_sem.specs.declared.proc.Need.TheVariants.{Read, Write, Plain, Enter, Leave, Invoke, Back, P, V, Send, Recv, End, Trap, Budget, Stopped}
+use Rattle.ppd_sem.specs.declared.proc.Proc.{Proc}
+use Rattle.ppd_sem.specs.declared.proc.Todo.{Todo}
+use Rattle.ppd_sem.specs.Ask.{ask, element, is_zero}
+use Rattle.ppd_sem.specs.Asked.{Asked, and_then, gives, lift}
+use Rattle.ppd_sem.specs.Deed.{Deed, set_local, set_shared, clear, branch, turn, leave, invoke, back, take, give, send, receive, print, pass, finish, ask_all, ask_deed, ask_stored}
+use Rattle.ppd_sem.specs.Process.{act, act_at, act_by_asked, act_by_deed, act_by_need, cells_for, charged, clear_cells, clear_top, cost, head_deed, into_of, kind_of, kind_or_end, need_of, need_of_head, receive_at, returned, returned_from, todos, top_cells, top_of, within_budget, write_top}
+use Rattle.ppd_sem.specs.Runs.{AreOfFunction, AreOver, IsCallable, IsInner, IsOver, IsRunnable, IsRunnableStmt, IsRunning, LeadsOn, left_by, returns, size_if, size_of, sizes, stmt_size}
+use Rattle.ppd_sem.proofs.Progress.{SamePurse, asked_purse, need_at_status, need_at_todo, stays_at}
+
+-- ---- what a statement's deed is
+
+abbrev DeedFits : Program → ℕ → Kind → Deed → Type 0
+DeedFits p n k (branch stmts) = (returns k ≡ false) × All (IsInner p n) stmts
+DeedFits p n k (turn stmts) = (returns k ≡ false) × All (IsInner p n) stmts
+DeedFits p n k (invoke f values into) = (returns k ≡ false) × IsCallable p f (length values)
+DeedFits p n k (back value) = returns k ≡ true
+DeedFits p n k d = returns k ≡ false
+
+abbrev Fits : Program → ℕ → Kind → Asked Deed → Type 0
+Fits p n k (Ok q) = DeedFits p n k q.0
+Fits p n k (Err pause) = ⊤
+
+then_fits : {A : Type 0} (p : Program) (n : ℕ) (k : Kind) (r : Asked A) (next : A → List ℤ → Asked Deed) → ((x : A) (left : List ℤ) → r ≡ Ok (x, left) → Fits p n k (next x left)) → Fits p n k (and_then r next)
+then_fits p n k (Ok q) next h = h q.0 q.1 refl
+then_fits p n k (Err pause) next h = tt
+
+one_fits : {A : Type 0} (p : Program) (n : ℕ) (k : Kind) (r : Asked A) (deed : A → Deed) → ((x : A) → DeedFits p n k (deed x)) → Fits p n k (and_then r (λ x left. gives left (deed x)))
+one_fits p n k (Ok q) deed h = h q.0
+one_fits p n k (Err pause) deed h = tt
+
+stored_fits : (p : Program) (n : ℕ) (k : Kind) (i e : Term) (base len : ℕ) (store : ℕ → ℤ → Deed) (cells answers : List ℤ) → ((c : ℕ) (v : ℤ) → DeedFits p n k (store c v)) → Fits p n k (ask_stored i e base len store cells answers)
+stored_fits p n k i e base len store cells answers h =
+    then_fits p n k (ask i cells answers)
+    (λ at left. and_then (lift left (element base len at)) (λ c left. and_then (ask e cells left) (λ v left. gives left (store c v))))
+    (λ at left _. then_fits p n k (lift left (element base len at)) (λ c left. and_then (ask e cells left) (λ v left. gives left (store c v)))
+    (λ c left _. one_fits p n k (ask e cells left) (store c) (h c)))
+
+chosen : (Q : ℕ → Type 0) (b : Bool) (xs ys : List ℕ) → All Q xs → All Q ys → All Q (if b then xs else ys)
+chosen Q true xs ys h g = h
+chosen Q false xs ys h g = g
+
+turn_fits : (p : Program) (n : ℕ) (k : Kind) (b : Bool) (stmts : List ℕ) → returns k ≡ false → All (IsInner p n) stmts → DeedFits p n k (if b then leave else turn stmts)
+turn_fits p n k true stmts e h = e
+turn_fits p n k false stmts e h = (e, h)
+
+assert_fits : (p : Program) (n : ℕ) (k : Kind) (b : Bool) (left : List ℤ) → returns k ≡ false → Fits p n k (if b then Err (Traps trap.Assert) else gives left pass)
+assert_fits p n k true left e = tt
+assert_fits p n k false left e = e
+
+abbrev values_in : Asked (List ℤ) → List ℤ
+values_in (Ok q) = q.0
+values_in (Err x) = []
+
+more_values : (v : ℤ) (n : ℕ) (values left : List ℤ) (r : Asked (List ℤ)) → ((vs l : List ℤ) → r ≡ Ok (vs, l) → length vs ≡ n) → and_then r (λ vs l. gives l (v ∷ vs)) ≡ Ok (values, left) → length values ≡ suc n
+more_values v n values left (Ok q) h e = let is : v ∷ q.0 ≡ values = ap values_in e in sym (ap length is) ∙ ap suc (h q.0 q.1 refl)
+more_values v n values left (Err x) h e = absurd cc
+
+first_value : (n : ℕ) (values left : List ℤ) (rest : List ℤ → Asked (List ℤ)) (r : Asked ℤ) → ((mid vs l : List ℤ) → rest mid ≡ Ok (vs, l) → length vs ≡ n) → and_then r (λ v mid. and_then (rest mid) (λ vs l. gives l (v ∷ vs))) ≡ Ok (values, left) → length values ≡ suc n
+first_value n values left rest (Ok q) h e = more_values q.0 n values left (rest q.1) (h q.1) e
+first_value n values left rest (Err x) h e = absurd cc
+
+-- as many values as arguments
+values_count : (es : List Expr) (arguments : List ℕ) (cells answers : List ℤ) (values left : List ℤ) → ask_all es arguments cells answers ≡ Ok (values, left) → length values ≡ length arguments
+values_count es [] cells answers values left h = let e : [] ≡ values = ap values_in h in sym (ap length e)
+values_count es (a ∷ as') cells answers values left h =
+    first_value (length as') values left (ask_all es as' cells) (ask (term es a) cells answers) (λ mid vs l e. values_count es as' cells mid vs l e) h
+
+fits : (p : Program) (n : ℕ) (es : List Expr) (k : Kind) (cells answers : List ℤ) → LeadsOn p n k → Fits p n k (ask_deed es k cells answers)
+fits p n es (kind.Set (target.Local c) e) cells answers h = one_fits p n (kind.Set (target.Local c) e) (ask (term es e) cells answers) (λ v. set_local c v) (λ v. refl)
+fits p n es (kind.Set (target.LocalAt base len i) e) cells answers h =
+    stored_fits p n (kind.Set (target.LocalAt base len i) e) (term es i) (term es e) base len set_local cells answers (λ c v. refl)
+fits p n es (kind.Set (target.Shared c) e) cells answers h = one_fits p n (kind.Set (target.Shared c) e) (ask (term es e) cells answers) (λ v. set_shared c v) (λ v. refl)
+fits p n es (kind.Set (target.SharedAt base len i) e) cells answers h =
+    stored_fits p n (kind.Set (target.SharedAt base len i) e) (term es i) (term es e) base len set_shared cells answers (λ c v. refl)
+fits p n es (kind.Zero base len) cells answers h = refl
+fits p n es (kind.If e first second) cells answers h =
+    one_fits p n (kind.If e first second) (ask (term es e) cells answers) (λ v. branch (if is_zero v then second else first))
+    (λ v. (refl, chosen (IsInner p n) (is_zero v) second first h.1 h.0))
+fits p n es (kind.While e body) cells answers h =
+    one_fits p n (kind.While e body) (ask (term es e) cells answers) (λ v. if is_zero v then leave else turn body)
+    (λ v. turn_fits p n (kind.While e body) (is_zero v) body refl h)
+fits p n es (kind.Call f arguments into) cells answers h =
+    then_fits p n (kind.Call f arguments into) (ask_all es arguments cells answers) (λ vs left. gives left (invoke f vs into))
+    (λ vs left e. (refl, subst (λ (m : ℕ). IsCallable p f m) (sym (values_count es arguments cells answers vs left e)) h))
+fits p n es (kind.Return None) cells answers h = refl
+fits p n es (kind.Return (Some e)) cells answers h = one_fits p n (kind.Return (Some e)) (ask (term es e) cells answers) (λ v. back (Some v)) (λ v. refl)
+fits p n es (kind.P s) cells answers h = refl
+fits p n es (kind.V s) cells answers h = refl
+fits p n es (kind.Send c e) cells answers h = one_fits p n (kind.Send c e) (ask (term es e) cells answers) (λ v. send c v) (λ v. refl)
+fits p n es (kind.Recv c into) cells answers h = refl
+fits p n es (kind.Print e) cells answers h = one_fits p n (kind.Print e) (ask (term es e) cells answers) (λ v. print v) (λ v. refl)
+fits p n es (kind.Assert e) cells answers h =
+    then_fits p n (kind.Assert e) (ask (term es e) cells answers) (λ v left. if is_zero v then Err (Traps trap.Assert) else gives left pass)
+    (λ v left _. assert_fits p n (kind.Assert e) (is_zero v) left refl)
+fits p n es kind.End cells answers h = refl
+
+-- ---- the program's tables
+
+-- the element with this number, and what holds of it
+abbrev pub There : {X : Type 0} → (ℕ → X → Type 0) → List X → ℕ → Type 0
+There {X} Q xs i = (x : X) × (slice_get xs i ≡ Some x) × Q i x
+
+pub there_at : {X : Type 0} (Q : ℕ → X → Type 0) (xs : List X) (i : ℕ) → EachAt Q xs → i < length xs → There Q xs i
+there_at Q [] i h lt = absurd (omega arith)
+there_at Q (x ∷ xs) zero h lt = (x, refl, h 0 x (omega arith))
+there_at Q (x ∷ xs) (suc i) h lt = there_at (λ j. Q (suc j)) xs i (λ k d b. h (suc k) d (omega arith)) (omega arith)
+
+leads_at : (p : Program) (n s : ℕ) → IsRunnable p → IsOver p n s → LeadsOn p n (kind_of p s)
+leads_at p n s h over =
+    let found : There (λ _ x. IsRunnableStmt p x) p.stmts s = there_at (λ _ x. IsRunnableStmt p x) p.stmts s h.stmts over.there in
+    let size : size_of p found.0.body ≡ n = sym (ap (stmt_size p) found.1) ∙ over.size in
+    let kind : found.0.kind ≡ kind_of p s = sym (ap kind_or_end found.1) in
+    subst (λ (m : ℕ). LeadsOn p m (kind_of p s)) size (subst (λ (k : Kind). LeadsOn p (size_of p found.0.body) k) kind found.2.leads)
+
+body_small : (bodies : List Body) (i : ℕ) → EachAt (λ _ b. b.cells < 2 ^ 16) bodies → size_if (slice_get bodies i) < 2 ^ 16
+body_small [] i h = omega arith
+body_small (b ∷ bs) zero h = h 0 b (omega arith)
+body_small (b ∷ bs) (suc i) h = body_small bs i (λ k d lt. h (suc k) d (omega arith))
+
+pub size_small : (p : Program) (f : ℕ) → IsRunnable p → size_of p f < 2 ^ 16
+size_small p f h = body_small p.bodies f (λ k d lt. (h.bodies k d lt).cells)
+
+-- ---- frames and what is to do over them
+
+record Shape (p : Program) (ns : List ℕ) (ts : List Todo) : Type 0 where
+  pub todo : AreOver p ns ts
+  pub sizes : All (λ n. n < 2 ^ 16) ns
+
+sized : (p : Program) (ms ns : List ℕ) (ts : List Todo) → ns ≡ ms → Shape p ms ts → Shape p ns ts
+sized p ms ns ts e h = subst (λ (l : List ℕ). Shape p l ts) (sym e) h
+
+sizes-write : (c : ℕ) (v : ℤ) (frames : List Frame) → sizes (write_top c v frames) ≡ sizes frames
+sizes-write c v [] = refl
+sizes-write c v (f ∷ fs) = ap (λ n. n ∷ sizes fs) (length-set f.cells c v)
+
+length-clear : (base len : ℕ) (cells : List ℤ) → length (clear_cells base len cells) ≡ length cells
+length-clear base zero cells = refl
+length-clear base (suc n) cells = length-set (clear_cells base n cells) (base + n) (pos 0) ∙ length-clear base n cells
+
+sizes-clear : (base len : ℕ) (frames : List Frame) → sizes (clear_top base len frames) ≡ sizes frames
+sizes-clear base len [] = refl
+sizes-clear base len (f ∷ fs) = ap (λ n. n ∷ sizes fs) (length-clear base len f.cells)
+
+sizes-receive : (into : Option ℕ) (value : Option ℤ) (frames : List Frame) → sizes (receive_at into value frames) ≡ sizes frames
+sizes-receive None value frames = refl
+sizes-receive (Some c) None frames = refl
+sizes-receive (Some c) (Some v) frames = sizes-write c v frames
+
+sizes-returned : (p : Program) (call : Option ℕ) (value : Option ℤ) (frames : List Frame) → sizes (returned_from p call value frames) ≡ sizes frames
+sizes-returned p None value frames = refl
+sizes-returned p (Some c) value frames = sizes-receive (into_of (kind_of p c)) value frames
+
+pub cells_count : (o : Option Body) (values : List ℤ) → length values ≤ size_if o → length (cells_for o values) ≡ size_if o
+cells_count None values h = omega arith
+cells_count (Some b) values h =
+    let n : ℕ = b.cells - length values in
+    omega (arith, length-append values (replicate n (pos 0)), length-replicate n (pos 0))
+
+pub inner_over : (p : Program) (n : ℕ) (ns : List ℕ) (ss : List ℕ) (ts : List Todo) → All (IsInner p n) ss → AreOver p (n ∷ ns) ts → AreOver p (n ∷ ns) (todos ss ++ ts)
+inner_over p n ns [] ts h over = over
+inner_over p n ns (s ∷ ss) ts h over =
+    let inner : IsInner p n s = h 0 s (omega arith) in
+    let rest : AreOver p (n ∷ ns) (todos ss ++ ts) = inner_over p n ns ss ts (λ k d b. h (suc k) d (omega arith)) over in
+    (inner.over, subst (λ (b : Bool). AreOver p (left_by b n ns) (todos ss ++ ts)) (sym inner.stays) rest)
+
+function_over : (p : Program) (n : ℕ) (ns : List ℕ) (ss : List ℕ) (ts : List Todo) → AreOfFunction p n ss → AreOver p ns ts → AreOver p (n ∷ ns) (todos ss ++ ts)
+function_over p n ns [] ts h over = absurd h
+function_over p n ns (s ∷ []) ts h over = (h.0, subst (λ (b : Bool). AreOver p (left_by b n ns) ts) (sym h.1) over)
+function_over p n ns (s ∷ t ∷ ss) ts h over =
+    let rest : AreOver p (n ∷ ns) (todos (t ∷ ss) ++ ts) = function_over p n ns (t ∷ ss) ts h.1 over in
+    (h.0.over, subst (λ (b : Bool). AreOver p (left_by b n ns) (todos (t ∷ ss) ++ ts)) (sym h.0.stays) rest)
+
+-- the head statement runs over the top frame of n cells, which stays unless it returns
+left : (p : Program) (n : ℕ) (ns : List ℕ) (t : Todo) (ts : List Todo) (b : Bool) → returns (kind_of p t.stmt) ≡ b → Shape p (n ∷ ns) (t ∷ ts) → AreOver p (left_by b n ns) ts
+left p n ns t ts b e h = subst (λ (x : Bool). AreOver p (left_by x n ns) ts) e h.todo.1
+
+stays : (p : Program) (n : ℕ) (ns : List ℕ) (t : Todo) (ts : List Todo) → returns (kind_of p t.stmt) ≡ false → Shape p (n ∷ ns) (t ∷ ts) → Shape p (n ∷ ns) ts
+stays p n ns t ts e h = record { todo = left p n ns t ts false e h; sizes = h.sizes }
+
+deed_shape : (p : Program) (a : Answer) (t : Todo) (ts : List Todo) (d : Deed) (s : Proc) (f : Frame) (fs : List Frame) → IsRunnable p → s.frames ≡ f ∷ fs → DeedFits p (length f.cells) (kind_of p t.stmt) d → Shape p (sizes s.frames) (t ∷ ts)
+    → Shape p (sizes (act_by_deed p a t ts d s).frames) (act_by_deed p a t ts d s).todo
+deed_shape p a t ts d s f fs run e h shape = by d h
+  where
+    whole : Shape p (sizes (f ∷ fs)) (t ∷ ts)
+    whole = sized p (sizes s.frames) (sizes (f ∷ fs)) (t ∷ ts) (sym (ap sizes e)) shape
+
+    same : returns (kind_of p t.stmt) ≡ false → Shape p (sizes s.frames) ts
+    same still = sized p (sizes (f ∷ fs)) (sizes s.frames) ts (ap sizes e) (stays p (length f.cells) (sizes fs) t ts still whole)
+
+    by : (d : Deed) → DeedFits p (length f.cells) (kind_of p t.stmt) d → Shape p (sizes (act_by_deed p a t ts d s).frames) (act_by_deed p a t ts d s).todo
+    by (set_local c v) h = sized p (sizes s.frames) (sizes (write_top c v s.frames)) ts (sizes-write c v s.frames) (same h)
+    by (set_shared c v) h = same h
+    by (clear base len) h = sized p (sizes s.frames) (sizes (clear_top base len s.frames)) ts (sizes-clear base len s.frames) (same h)
+    by (branch stmts) h =
+        let after : Shape p (sizes (f ∷ fs)) ts = stays p (length f.cells) (sizes fs) t ts h.0 whole in
+        let over : AreOver p (sizes (f ∷ fs)) (todos stmts ++ ts) = inner_over p (length f.cells) (sizes fs) stmts ts h.1 after.todo in
+        sized p (sizes (f ∷ fs)) (sizes s.frames) (todos stmts ++ ts) (ap sizes e) record { todo = over; sizes = whole.sizes }
+    by (turn stmts) h =
+        let over : AreOver p (sizes (f ∷ fs)) (todos stmts ++ t ∷ ts) = inner_over p (length f.cells) (sizes fs) stmts (t ∷ ts) h.1 whole.todo in
+        sized p (sizes (f ∷ fs)) (sizes s.frames) (todos stmts ++ t ∷ ts) (ap sizes e) record { todo = over; sizes = whole.sizes }
+    by leave h = same h
+    by (invoke g values into) h =
+        let after : Shape p (sizes s.frames) ts = same h.0 in
+        let count : length (cells_for (slice_get p.bodies g) values) ≡ size_of p g = cells_count (slice_get p.bodies g) values h.1.arguments in
+        let stmts : List ℕ = top_of (slice_get p.bodies g) in
+        let over : AreOver p (size_of p g ∷ sizes s.frames) (todos stmts ++ ts) = function_over p (size_of p g) (sizes s.frames) stmts ts h.1.top after.todo in
+        let small : All (λ n. n < 2 ^ 16) (size_of p g ∷ sizes s.frames) = small_cons (size_of p g) (sizes s.frames) (size_small p g run) after.sizes in
+        sized p (size_of p g ∷ sizes s.frames) (length (cells_for (slice_get p.bodies g) values) ∷ sizes s.frames) (todos stmts ++ ts) (ap (λ n. n ∷ sizes s.frames) count) record { todo = over; sizes = small }
+      where
+        small_cons : (n : ℕ) (ns : List ℕ) → n < 2 ^ 16 → All (λ n. n < 2 ^ 16) ns → All (λ n. n < 2 ^ 16) (n ∷ ns)
+        small_cons n ns lt h zero d b = lt
+        small_cons n ns lt h (suc k) d b = h k d (omega arith)
+    by (back value) h =
+        let over : AreOver p (sizes fs) ts = left p (length f.cells) (sizes fs) t ts true h whole in
+        let small : All (λ n. n < 2 ^ 16) (sizes fs) = λ k d b. whole.sizes (suc k) d (omega arith) in
+        let is : sizes (returned p value s.frames) ≡ sizes fs = ap (λ l. sizes (returned p value l)) e ∙ sizes-returned p f.call value fs in
+        sized p (sizes fs) (sizes (returned p value s.frames)) ts is record { todo = over; sizes = small }
+    by (take sem) h = same h
+    by (give sem) h = same h
+    by (send chan v) h = same h
+    by (receive chan c) h = sized p (sizes s.frames) (sizes (write_top c _ s.frames)) ts (sizes-write c _ s.frames) (same h)
+    by (print v) h = same h
+    by pass h = same h
+    by finish h = same h
+
+-- ---- the step
+
+asked_shape : (p : Program) (a : Answer) (t : Todo) (ts : List Todo) (asked : Asked Deed) (s : Proc) (f : Frame) (fs : List Frame) → IsRunnable p → s.frames ≡ f ∷ fs → s.todo ≡ t ∷ ts → Fits p (length f.cells) (kind_of p t.stmt) asked → Shape p (sizes s.frames) (t ∷ ts)
+    → Shape p (sizes (act_by_asked p a t ts asked s).frames) (act_by_asked p a t ts asked s).todo
+asked_shape p a t ts (Ok q) s f fs run e d h shape = deed_shape p a t ts q.0 (record s { answers = [] }) f fs run e h shape
+asked_shape p a t ts (Err (Wants c)) s f fs run e d h shape = subst (λ (l : List Todo). Shape p (sizes s.frames) l) (sym d) shape
+asked_shape p a t ts (Err (Traps x)) s f fs run e d h shape = subst (λ (l : List Todo). Shape p (sizes s.frames) l) (sym d) shape
+
+head_shape : (p : Program) (a : Answer) (t : Todo) (ts : List Todo) (s : Proc) (frames : List Frame) → IsRunnable p → s.frames ≡ frames → s.todo ≡ t ∷ ts → Shape p (sizes frames) (t ∷ ts)
+    → Shape p (sizes (act_by_asked p a t ts (head_deed p t s) s).frames) (act_by_asked p a t ts (head_deed p t s) s).todo
+head_shape p a t ts s [] run e d shape = absurd shape.todo
+head_shape p a t ts s (f ∷ fs) run e d shape =
+    let k : Kind = kind_of p t.stmt in
+    let leads : LeadsOn p (length f.cells) k = leads_at p (length f.cells) t.stmt run shape.todo.0 in
+    let fit : Fits p (length f.cells) k (ask_deed p.exprs k (top_cells s.frames) s.answers) = fits p (length f.cells) p.exprs k (top_cells s.frames) s.answers leads in
+    asked_shape p a t ts (head_deed p t s) s f fs run e d fit (sized p (sizes (f ∷ fs)) (sizes s.frames) (t ∷ ts) (ap sizes e) shape)
+
+paid_runs : (p : Program) (plan : Plan) (n : Need) (s t : Proc) → IsRunning p s → SamePurse s t → Shape p (sizes t.frames) t.todo → s.spent + cost plan n ≤ s.budget → IsRunning p (charged plan n t)
+paid_runs p plan n s t run same shape paid =
+    let budget : t.budget ≡ s.budget = same.budget in
+    let spent : t.spent ≡ s.spent = same.spent in
+    let steps : t.steps ≡ s.steps = same.steps in
+    let below : t.below ≡ s.below = same.below in
+    let before : s.steps ≤ s.spent = run.steps in
+    let most : s.below ≤ 64 = run.below in
+    record { todo = shape.todo; frames = shape.sizes; below = omega arith; steps = omega arith; spent = omega arith }
+
+asked_runs : (p : Program) (plan : Plan) (a : Answer) (t : Todo) (ts : List Todo) (n : Need) (s : Proc) → IsRunnable p → IsRunning p s → s.todo ≡ t ∷ ts → s.spent + cost plan n ≤ s.budget → IsRunning p (charged plan n (act_by_asked p a t ts (head_deed p t s) s))
+asked_runs p plan a t ts n s prog run d paid =
+    let whole : Shape p (sizes s.frames) (t ∷ ts) = record { todo = subst (λ (l : List Todo). AreOver p (sizes s.frames) l) d run.todo; sizes = run.frames } in
+    paid_runs p plan n s (act_by_asked p a t ts (head_deed p t s) s) run (asked_purse p a t ts (head_deed p t s) s) (head_shape p a t ts s s.frames prog refl d whole) paid
+
+need_runs : (p : Program) (plan : Plan) (a : Answer) (t : Todo) (ts : List Todo) (n : Need) (s : Proc) → IsRunnable p → IsRunning p s → s.todo ≡ t ∷ ts → s.spent + cost plan n ≤ s.budget → IsRunning p (act_by_need p plan a t ts n s)
+need_runs p plan a t ts (Read c) s prog run d h = asked_runs p plan a t ts (Read c) s prog run d h
+need_runs p plan a t ts (Write c v) s prog run d h = asked_runs p plan a t ts (Write c v) s prog run d h
+need_runs p plan a t ts Plain s prog run d h = asked_runs p plan a t ts Plain s prog run d h
+need_runs p plan a t ts (Enter b u) s prog run d h =
+    let over : AreOver p (sizes s.frames) (t ∷ ts) = subst (λ (l : List Todo). AreOver p (sizes s.frames) l) d run.todo in
+    let entered : Shape p (sizes s.frames) (record t { entered = true } ∷ ts) = record { todo = entered_over (sizes s.frames) over; sizes = run.frames } in
+    paid_runs p plan (Enter b u) s (record s { todo = record t { entered = true } ∷ ts }) run record { budget = refl; spent = refl; steps = refl; below = refl } entered h
+  where
+    entered_over : (ns : List ℕ) → AreOver p ns (t ∷ ts) → AreOver p ns (record t { entered = true } ∷ ts)
+    entered_over [] h = h
+    entered_over (n ∷ ns) h = h
+need_runs p plan a t ts (Leave b u) s prog run d h = asked_runs p plan a t ts (Leave b u) s prog run d h
+need_runs p plan a t ts (Invoke b u) s prog run d h = asked_runs p plan a t ts (Invoke b u) s prog run d h
+need_runs p plan a t ts (Back b u) s prog run d h = asked_runs p plan a t ts (Back b u) s prog run d h
+need_runs p plan a t ts (P x u) s prog run d h = asked_runs p plan a t ts (P x u) s prog run d h
+need_runs p plan a t ts (V x u) s prog run d h = asked_runs p plan a t ts (V x u) s prog run d h
+need_runs p plan a t ts (Send c v u) s prog run d h = asked_runs p plan a t ts (Send c v u) s prog run d h
+need_runs p plan a t ts (Recv c u) s prog run d h = asked_runs p plan a t ts (Recv c u) s prog run d h
+need_runs p plan a t ts (End b) s prog run d h = asked_runs p plan a t ts (End b) s prog run d h
+need_runs p plan a t ts (Trap x) s prog run d h =
+    paid_runs p plan (Trap x) s (record s { status = Some (status.Trap x) }) run record { budget = refl; spent = refl; steps = refl; below = refl } record { todo = run.todo; sizes = run.frames } h
+need_runs p plan a t ts Budget s prog run d h = record { todo = run.todo; frames = run.frames; below = run.below; steps = run.steps; spent = run.spent }
+need_runs p plan a t ts Stopped s prog run d h = run
+
+by_budget : (p : Program) (plan : Plan) (a : Answer) (t : Todo) (ts : List Todo) (n : Need) (s : Proc) (poor : Bool) → nat_lt s.budget (s.spent + cost plan n) ≡ poor → IsRunnable p → IsRunning p s → s.todo ≡ t ∷ ts → IsRunning p (act_by_need p plan a t ts (if poor then Budget else n) s)
+by_budget p plan a t ts n s true test prog run d = record { todo = run.todo; frames = run.frames; below = run.below; steps = run.steps; spent = run.spent }
+by_budget p plan a t ts n s false test prog run d =
+    let paid : s.spent + cost plan n ≤ s.budget = grind (arith, nat_tests) in
+    need_runs p plan a t ts n s prog run d paid
+
+runs_at : (p : Program) (plan : Plan) (a : Answer) (s : Proc) (o : Option Status) (ts : List Todo) → s.status ≡ o → s.todo ≡ ts → IsRunnable p → IsRunning p s → IsRunning p (act_at p plan a ts s)
+runs_at p plan a s (Some x) ts r d prog run = subst (λ (t : Proc). IsRunning p t) (sym (stays_at p plan a s ts (need_at_status p plan s (Some x) r))) run
+runs_at p plan a s None [] r d prog run = run
+runs_at p plan a s None (t ∷ ts) r d prog run =
+    let head : Need = need_of_head p plan t s in
+    let is : need_of p plan s ≡ within_budget plan s head = need_at_todo p plan s (t ∷ ts) r d in
+    let runs : IsRunning p (act_by_need p plan a t ts (within_budget plan s head) s) = by_budget p plan a t ts head s (nat_lt s.budget (s.spent + cost plan head)) refl prog run d in
+    subst (λ (x : Need). IsRunning p (act_by_need p plan a t ts x s)) (sym is) runs
+
+-- each step leaves a process state of the program
+pub act-runs : (program : Program) (plan : Plan) (s : Proc) (a : Answer) → IsRunnable program → IsRunning program s → IsRunning program (act program plan s a)
+act-runs program plan s a prog run = runs_at program plan a s s.status s.todo refl refl prog run
+
+-- whether it is refused or not
+pub kept_by : {A E : Type 0} (program : Program) (r : Result A E) (old now after : Proc) → OnOk r (now ≡ after) → OnErr r (now ≡ old) → IsRunning program old → IsRunning program after → IsRunning program now
+kept_by program (Ok x) old now after ok err h g = subst (λ (s : Proc). IsRunning program s) (sym ok) g
+kept_by program (Err x) old now after ok err h g = subst (λ (s : Proc). IsRunning program s) (sym err) h

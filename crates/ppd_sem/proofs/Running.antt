@@ -1,0 +1,27 @@
+-- A process state of the program: its head statement runs over its top frame.
+use Rattle.std.proofs.Common.{◌≡◌, ◌<◌, ◌^◌, List, [], ◌∷◌, length, Some, subst, arith}
+use Rattle.std.specs.Prelude.{slice_get}
+use Rattle.std.specs.List.{All}
+use Rattle.ppd_ast.specs.declared.program.Program.{Program}
+use Rattle.ppd_sem.specs.declared.proc.Frame.{Frame}
+use Rattle.ppd_sem.specs.declared.proc.Proc.{Proc}
+use Rattle.ppd_sem.specs.declared.proc.Todo.{Todo}
+use Rattle.ppd_sem.specs.Process.{top_cells}
+use Rattle.ppd_sem.specs.Runs.{AreOver, IsOver, IsRunning, sizes}
+
+over_at : (program : Program) (frames : List Frame) (todo : List Todo) (t : Todo) → AreOver program (sizes frames) todo → slice_get todo 0 ≡ Some t → IsOver program (length (top_cells frames)) t.stmt
+over_at program frames [] t h e = absurd cc
+over_at program [] (x ∷ xs) t h e = absurd h
+over_at program (f ∷ fs) (x ∷ xs) t h e =
+    let is : x ≡ t = cc in
+    subst (λ (y : Todo). IsOver program (length f.cells) y.stmt) is h.0
+
+cells_at : (frames : List Frame) → All (λ n. n < 2 ^ 16) (sizes frames) → length (top_cells frames) < 2 ^ 16
+cells_at [] h = omega arith
+cells_at (f ∷ fs) h = h 0 0 (omega arith)
+
+pub head_over : (program : Program) (s : Proc) (t : Todo) → IsRunning program s → slice_get s.todo 0 ≡ Some t → IsOver program (length (top_cells s.frames)) t.stmt
+head_over program s t h e = over_at program s.frames s.todo t h.todo e
+
+pub head_cells : (program : Program) (s : Proc) → IsRunning program s → length (top_cells s.frames) < 2 ^ 16
+head_cells program s h = cells_at s.frames h.frames

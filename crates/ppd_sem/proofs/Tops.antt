@@ -1,0 +1,56 @@
+-- A change of a vector's last item is a change of the stack's top.
+use Rattle.std.proofs.Common.{◌≡◌, ℕ, zero, suc, ◌+◌, ◌<◌, ℤ, List, [], ◌∷◌, ◌++◌, length, drop, reverse, get_or, refl, ap, sym, ◌∙◌, arith}
+use Rattle.std.specs.Prelude.{slice_set}
+use Rattle.std.proofs.Math.ListN.{set}
+use Rattle.std.proofs.lemmas.List.{reverse-append, length-reverse}
+use Rattle.ppd_sem.specs.declared.proc.Frame.{Frame}
+use Rattle.ppd_sem.specs.Process.{clear_cells, clear_top, write_top}
+
+abbrev change : {A : Type 0} → (A → A) → List A → List A
+change g [] = []
+change g (x ∷ xs) = g x ∷ xs
+
+change-snoc : {A : Type 0} (g : A → A) (l : List A) (y : A) → 0 < length l → change g (l ++ y ∷ []) ≡ change g l ++ y ∷ []
+change-snoc g [] y h = absurd (omega arith)
+change-snoc g (x ∷ l) y h = refl
+
+last_changed : {A : Type 0} (g : A → A) (xs : List A) (n : ℕ) (d : A) → n + 1 ≡ length xs → reverse (set xs n (g (get_or xs n d))) ≡ change g (reverse xs)
+last_changed g [] n d h = absurd (omega arith)
+last_changed g (y ∷ []) zero d h = refl
+last_changed g (y ∷ z ∷ ys) zero d h = absurd (omega arith)
+last_changed {A} g (y ∷ ys) (suc n) d h =
+    let short : n + 1 ≡ length ys = omega arith in
+    let some : 0 < length (reverse ys) = omega (arith, length-reverse ys) in
+    let there : reverse (y ∷ ys) ≡ reverse ys ++ y ∷ [] = reverse-append (y ∷ []) ys in
+    reverse-append (y ∷ []) (set ys n (g (get_or ys n d))) ∙ ap (λ l. l ++ y ∷ []) (last_changed g ys n d short) ∙
+    sym (change-snoc g (reverse ys) y some) ∙ ap (change g) (sym there)
+
+-- another last item
+pub topped : {A : Type 0} (xs : List A) (n : ℕ) (x : A) → n + 1 ≡ length xs → reverse (set xs n x) ≡ x ∷ drop 1 (reverse xs)
+topped {A} xs n x h =
+    let some : 0 < length (reverse xs) = omega (arith, length-reverse xs) in
+    last_changed (λ (_ : A). x) xs n x h ∙ head (reverse xs) some
+  where
+    head : (l : List A) → 0 < length l → change (λ (_ : A). x) l ≡ x ∷ drop 1 l
+    head [] h = absurd (omega arith)
+    head (y ∷ ys) h = refl
+
+write_is : (c : ℕ) (v : ℤ) (frames : List Frame) → change (λ f. record f { cells = slice_set f.cells c v }) frames ≡ write_top c v frames
+write_is c v [] = refl
+write_is c v (f ∷ fs) = refl
+
+clear_is : (base len : ℕ) (frames : List Frame) → change (λ f. record f { cells = clear_cells base len f.cells }) frames ≡ clear_top base len frames
+clear_is base len [] = refl
+clear_is base len (f ∷ fs) = refl
+
+pub written : (c : ℕ) (v : ℤ) (items : List Frame) (n : ℕ) (f : Frame) (cells : List ℤ) → n + 1 ≡ length items → f ≡ get_or items n f → cells ≡ slice_set f.cells c v → reverse (set items n record { body = f.body; cells = cells; call = f.call }) ≡ write_top c v (reverse items)
+written c v items n f cells h is new =
+    let g : Frame → Frame = λ f. record f { cells = slice_set f.cells c v } in
+    let same : record { body = f.body; cells = cells; call = f.call } ≡ g (get_or items n f) = ap (λ l. record f { cells = l }) new ∙ ap g is in
+    ap (λ x. reverse (set items n x)) same ∙ last_changed g items n f h ∙ write_is c v (reverse items)
+
+pub cleared : (base len : ℕ) (items : List Frame) (n : ℕ) (f : Frame) (cells : List ℤ) → n + 1 ≡ length items → f ≡ get_or items n f → cells ≡ clear_cells base len f.cells → reverse (set items n record { body = f.body; cells = cells; call = f.call }) ≡ clear_top base len (reverse items)
+cleared base len items n f cells h is new =
+    let g : Frame → Frame = λ f. record f { cells = clear_cells base len f.cells } in
+    let same : record { body = f.body; cells = cells; call = f.call } ≡ g (get_or items n f) = ap (λ l. record f { cells = l }) new ∙ ap g is in
+    ap (λ x. reverse (set items n x)) same ∙ last_changed g items n f h ∙ clear_is base len (reverse items)

@@ -1,0 +1,117 @@
+-- The event of a process's next step, from the process's own state alone.
+use Rattle.std.specs.Prelude.{ℕ, zero, suc, ◌+◌, ℤ, pos, Bool, true, false, ◌||◌, not, List, [], ◌∷◌, ◌++◌, take_while, Option, Some, None, is_some, Ok, Err, if◌then◌else◌}
+use Rattle.std.specs.List.{list_any}
+use Rattle.ppd_ast.specs.declared.program.Expr.{Expr}
+use Rattle.ppd_ast.specs.declared.program.Kind.{Kind}
+use Rattle.ppd_ast.specs.declared.program.Kind.TheVariants as kind
+use Rattle.ppd_ast.specs.declared.plan.BlockKind.TheVariants as block
+use Rattle.ppd_ast.specs.declared.program.Program.{Program}
+use Rattle.ppd_ast.specs.declared.plan.Plan.{Plan}
+use Rattle.ppd_ast.specs.declared.status.Trap.{Trap as TrapOf}
+use Rattle.ppd_ast.specs.Term.{term}
+use Rattle.ppd_sem.specs.declared.proc.Need.{Need}
+use Rattle.ppd_sem.specs.declared.proc.Need.TheVariants.{Trap}
+use Rattle.ppd_sem.specs.declared.proc.Answer.{Answer}
+use Rattle.ppd_sem.specs.declared.proc.Proc.{Proc}
+use Rattle.ppd_sem.specs.declared.proc.Todo.{Todo}
+use Rattle.ppd_sem.specs.declared.event.Access.{Access}
+use Rattle.ppd_sem.specs.declared.event.Event.{Event}
+use Rattle.ppd_sem.specs.declared.event.Spot.TheVariants as spot
+use Rattle.ppd_sem.specs.Asked.{Asked}
+use Rattle.ppd_sem.specs.Ask.{ask}
+use Rattle.ppd_sem.specs.Deed.{Deed, set_local, set_shared, clear, invoke, receive}
+use Rattle.ppd_sem.specs.Reads.{reads_of_kind}
+use Rattle.ppd_sem.specs.Tables.{block_of}
+use Rattle.ppd_sem.specs.Process.{kind_of, top_cells, top_body, head_deed, need_of, value_of}
+
+-- ---- the frame of the innermost interval is 0, one that it called is 1
+
+abbrev pub ends_body : Kind → Bool
+ends_body (kind.Return e) = true
+ends_body kind.End = true
+ends_body k = false
+
+-- what is to do in the top frame, up to the statement that ends its body
+abbrev pub top_todo : Program → List Todo → List Todo
+top_todo program todo = take_while (λ t. not (ends_body (kind_of program t.stmt))) todo
+
+abbrev pub is_block : Plan → ℕ → Bool
+is_block plan body = is_some (block_of plan (block.Function body)) || is_some (block_of plan (block.Process body))
+
+-- the top frame is that of an interval where a block loop runs in it, or its body is a block
+abbrev pub has_interval : Program → Plan → Proc → Bool
+has_interval program plan s = list_any (λ t. t.entered) (top_todo program s.todo) || is_block plan (top_body s.frames)
+
+abbrev pub frame_of : Program → Plan → Proc → ℕ
+frame_of program plan s = if has_interval program plan s then 0 else 1
+
+-- ---- writes and value
+
+abbrev pub local_write : ℕ → ℕ → ℤ → Access
+local_write frame c v = record { spot = spot.Local frame c; value = v }
+
+abbrev pub cleared : ℕ → ℕ → ℕ → List Access
+cleared frame base zero = []
+cleared frame base (suc n) = cleared frame base n ++ local_write frame (base + n) (pos 0) ∷ []
+
+-- the values of the parameters from cell c on
+abbrev pub parameters : ℕ → ℕ → List ℤ → List Access
+parameters frame c [] = []
+parameters frame c (v ∷ vs) = local_write frame c v ∷ parameters frame (c + 1) vs
+
+-- a return has no write: its value is written by the caller's receiving local
+abbrev pub writes_of_deed : ℕ → Answer → Deed → List Access
+writes_of_deed frame a (set_local c v) = local_write frame c v ∷ []
+writes_of_deed frame a (set_shared c v) = record { spot = spot.Shared c; value = v } ∷ []
+writes_of_deed frame a (clear base len) = cleared frame base len
+writes_of_deed frame a (invoke f values into) = parameters (frame + 1) 0 values
+writes_of_deed frame a (receive chan into) = local_write frame into (value_of a) ∷ []
+writes_of_deed frame a deed = []
+
+abbrev pub writes_of_asked : ℕ → Answer → Asked Deed → List Access
+writes_of_asked frame a (Ok p) = writes_of_deed frame a p.0
+writes_of_asked frame a (Err pause) = []
+
+-- the trap of a step
+abbrev pub trap_of : Need → Option TrapOf
+trap_of (Trap t) = Some t
+trap_of need = None
+
+-- a step that traps writes nothing
+abbrev pub writes_by : Option TrapOf → ℕ → Answer → Asked Deed → List Access
+writes_by (Some t) frame a asked = []
+writes_by None frame a asked = writes_of_asked frame a asked
+
+-- the expression whose value is the event's: of a test, a returned value, a sent value, a print and an assertion
+abbrev pub valued : Kind → Option ℕ
+valued (kind.If e first second) = Some e
+valued (kind.While e body) = Some e
+valued (kind.Return e) = e
+valued (kind.Send c e) = Some e
+valued (kind.Print e) = Some e
+valued (kind.Assert e) = Some e
+valued k = None
+
+abbrev pub value_if : Asked ℤ → Option ℤ
+value_if (Ok p) = Some p.0
+value_if (Err pause) = None
+
+abbrev pub value_at : List Expr → List ℤ → List ℤ → Option ℕ → Option ℤ
+value_at es cells answers None = None
+value_at es cells answers (Some e) = value_if (ask (term es e) cells answers)
+
+-- ---- the event
+
+abbrev pub event_at : Program → Plan → Answer → Need → Proc → Todo → Event
+event_at program plan a need s t = record {
+  stmt = t.stmt;
+  reads = reads_of_kind (frame_of program plan s) program.exprs (kind_of program t.stmt) (top_cells s.frames) s.answers;
+  writes = writes_by (trap_of need) (frame_of program plan s) a (head_deed program t s);
+  value = value_at program.exprs (top_cells s.frames) s.answers (valued (kind_of program t.stmt));
+  number = None;
+  trap = trap_of need;
+}
+
+-- the event of the next step of a process whose head is t; its number is told by the world alone
+abbrev pub described : Program → Plan → Proc → Todo → Answer → Event
+described program plan s t a = event_at program plan a (need_of program plan s) s t
