@@ -3,7 +3,8 @@ use Rattle.std.specs.Prelude.{Option, Some, None, false}
 use Rattle.std.proofs.Common.{◌≡◌, ◌≢◌, ℕ, ◌++◌, List, [], refl, sym, ◌∙◌, ap, subst}
 use Rattle.ppd_ast.specs.declared.program.Program.{Program}
 use Rattle.ppd_ast.specs.declared.plan.Plan.{Plan}
-use Rattle.ppd_sem.specs.First.{IsFirstProgram}
+use Rattle.ppd_sem.specs.Runs.{IsRunnable}
+use Rattle.ppd_sem.proofs.First.{first-runnable}
 use Rattle.ppd_lex.specs.declared.token.Token.{Token}
 use Rattle.ppd_lex.specs.declared.token.LexError.{LexError}
 use Rattle.ppd_lex.specs.declared.token.LexError.TheVariants.{Memory}
@@ -19,8 +20,8 @@ use Rattle.ppd_top.specs.Top.Refuses.{by_token, by_form}
 use Rattle.ppd_top.specs.Top.Answers.{refusal, run as ran}
 use Rattle.ppd_top.proofs.FirstProgram.{program_of-first}
 
-pub lowered-first : (program : Program) (form : Form) → program ≡ program_of form → IsFirstProgram program
-lowered-first program form e = subst IsFirstProgram (sym e) (program_of-first form)
+pub lowered-runnable : (program : Program) (form : Form) → program ≡ program_of form → IsRunnable program
+lowered-runnable program form e = subst IsRunnable (sym e) (first-runnable (program_of form) (program_of-first form))
 
 -- ---- the run of a source's program
 

@@ -8,7 +8,7 @@ use Rattle.ppd_ast.specs.declared.plan.Plan.{Plan}
 use Rattle.ppd_sem.specs.declared.proc.Need.{Need}
 use Rattle.ppd_sem.specs.declared.proc.Need.TheVariants.{Stopped}
 use Rattle.ppd_sem.specs.declared.proc.Proc.{Proc}
-use Rattle.ppd_sem.specs.First.{IsFirstProc}
+use Rattle.ppd_sem.specs.Runs.{IsRunning}
 use Rattle.ppd_sem.specs.Measure.{measure}
 use Rattle.ppd_sem.specs.Process.{act, need_of, started}
 use Rattle.ppd_sem.proofs.Progress.{act-falls}
@@ -27,7 +27,7 @@ step-procs program plan w p = refl
 not_stopped : (w : World) (n : Need) → can w n ≡ true → n ≢ Stopped
 not_stopped w n h e = let stops : can w Stopped ≡ true = subst (λ (m : Need). can w m ≡ true) e h in cc
 
-falls_at : (program : Program) (plan : Plan) (w : World) (ps : List Proc) → w.procs ≡ ps → length ps ≡ 1 → EachAt (λ _ s. IsFirstProc program s) ps → can w (need_at program plan (slice_get ps 0)) ≡ true
+falls_at : (program : Program) (plan : Plan) (w : World) (ps : List Proc) → w.procs ≡ ps → length ps ≡ 1 → EachAt (λ _ s. IsRunning program s) ps → can w (need_at program plan (slice_get ps 0)) ≡ true
     → measure_of (slice_get (change (λ s. act program plan s (answer w (need_at program plan (slice_get ps 0)))) 0 ps) 0) < measure_of (slice_get ps 0)
 falls_at program plan w [] e n first can_step = absurd (omega arith)
 falls_at program plan w (s ∷ ps) e n first can_step =

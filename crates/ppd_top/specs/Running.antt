@@ -6,7 +6,7 @@ use Rattle.ppd_ast.specs.declared.plan.Plan.{Plan}
 use Rattle.ppd_sem.specs.declared.proc.Need.{Need}
 use Rattle.ppd_sem.specs.declared.proc.Need.TheVariants.{Write}
 use Rattle.ppd_sem.specs.declared.proc.Proc.{Proc}
-use Rattle.ppd_sem.specs.First.{IsFirstProgram, IsFirstProc}
+use Rattle.ppd_sem.specs.Runs.{IsRunnable, IsNumbered, IsRunning}
 use Rattle.ppd_sem.specs.Measure.{measure}
 use Rattle.ppd_top.specs.World.{World, step, run_from}
 
@@ -15,11 +15,11 @@ pub record Running : Type 0 where
   pub plan : Plan
   pub world : World
 
--- a world of a program of assignments and prints, without semaphores and channels
+-- a world of a program that can run, without semaphores and channels
 pub record IsFirstWorld (r : Running) : Type 0 where
-  pub program : IsFirstProgram r.program
-  pub blocks : length r.plan.blocks ≤ 2 ^ 16
-  pub procs : EachAt (λ _ s. IsFirstProc r.program s) r.world.procs
+  pub program : IsRunnable r.program
+  pub plan_numbers : IsNumbered r.plan
+  pub procs : EachAt (λ _ s. IsRunning r.program s) r.world.procs
   pub sems : r.world.sems ≡ []
   pub chans : r.world.chans ≡ []
 

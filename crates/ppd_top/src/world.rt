@@ -1,6 +1,6 @@
 ghost use Rattle.std.specs.Prelude.{◌≡◌, ◌<◌, ◌≤◌, [], length, OnOk, OnErr, IfOk, Some, None, get_or, pos, true, ◌+◌, ◌++◌, ◌∷◌, ◌^◌, slice_get, slice_set};
 ghost use Rattle.ppd_ast.specs.Table.{EachAt};
-ghost use Rattle.ppd_sem.specs.First.{IsFirstProgram, IsFirstProc};
+ghost use Rattle.ppd_sem.specs.Runs.{IsRunnable, IsNumbered, IsRunning};
 ghost use Rattle.ppd_top.specs.World.{step as step_of, started_procs, started_world, IsOver, enabled as enabled_of, need_at, can, answer as answer_of, change};
 ghost use Rattle.ppd_top.specs.Running.{IsFirstWorld, Runs, shared_after, stepped, measure_of};
 ghost use Rattle.ppd_top.specs.Summary.{summary_of};
@@ -31,9 +31,9 @@ impl<'a> Model for World<'a> {
 }
 
 fn process_need(program: &Program, plan: &Plan, procs: &[Proc], p: u8) -> Need
-    requires program { IsFirstProgram program.now }
-    requires blocks { length plan.now.blocks ≤ 2 ^ 16 }
-    requires procs { EachAt (λ _ s. IsFirstProc program.now s) procs.now }
+    requires program { IsRunnable program.now }
+    requires plan { IsNumbered plan.now }
+    requires procs { EachAt (λ _ s. IsRunning program.now s) procs.now }
     ensures { result ≡ need_at program.now plan.now (slice_get procs.now p) }
 {
     match procs.get(p as usize) {
@@ -88,12 +88,12 @@ fn advance(
     p: u8,
     answer: &Answer,
 ) -> Result<(), Memory>
-    requires program { IsFirstProgram program.now }
-    requires blocks { length plan.now.blocks ≤ 2 ^ 16 }
-    requires procs { EachAt (λ _ s. IsFirstProc program.now s) procs.old.items }
+    requires program { IsRunnable program.now }
+    requires plan { IsNumbered plan.now }
+    requires procs { EachAt (λ _ s. IsRunning program.now s) procs.old.items }
     ensures ok { OnOk result (procs.new.items ≡ change (λ s. act program.now plan.now s answer.now) p procs.old.items) }
     ensures err { OnErr result (procs.new.items ≡ procs.old.items) }
-    ensures kept { EachAt (λ _ s. IsFirstProc program.now s) procs.new.items }
+    ensures kept { EachAt (λ _ s. IsRunning program.now s) procs.new.items }
 {
     if p as usize >= procs.len() {
         return Ok(());
@@ -118,11 +118,11 @@ fn start_all(
     budget: u32,
     count: u8,
 ) -> Result<Vec<Proc>, Memory>
-    requires first { IsFirstProgram program.now }
+    requires first { IsRunnable program.now }
     requires processes { program.now.functions + count ≤ length program.now.bodies }
     requires range { program.now.functions + count < 2 ^ 16 }
     ensures procs { IfOk result (λ procs. procs.items ≡ started_procs program.now plan.now budget count) }
-    ensures kept { IfOk result (λ procs. EachAt (λ _ s. IsFirstProc program.now s) procs.items) }
+    ensures kept { IfOk result (λ procs. EachAt (λ _ s. IsRunning program.now s) procs.items) }
 {
     let mut procs = Vec::new(alloc);
     for process in 0..count {
@@ -149,8 +149,8 @@ impl<'a> World<'a> {
         plan: &'a Plan,
         budget: u32,
     ) -> Result<World<'a>, Memory>
-        requires first { IsFirstProgram program.now }
-        requires blocks { length plan.now.blocks ≤ 2 ^ 16 }
+        requires first { IsRunnable program.now }
+        requires plan { IsNumbered plan.now }
         requires processes { length program.now.bodies ≤ program.now.functions + 16 }
         requires functions { program.now.functions ≤ length program.now.bodies }
         requires range { program.now.functions ≤ 256 }

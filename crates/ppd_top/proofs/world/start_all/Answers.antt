@@ -1,6 +1,6 @@
 use Rattle.std.proofs.Common.{◌≡◌, ◌∷◌, [], ◌++◌, List, ap, sym, ◌∙◌, subst}
 use Rattle.ppd_ast.specs.Table.{EachAt}
-use Rattle.ppd_sem.specs.First.{IsFirstProc}
+use Rattle.ppd_sem.specs.Runs.{IsRunning}
 use Rattle.ppd_sem.specs.declared.proc.Proc.{Proc}
 use Rattle.ppd_top.specs.World.{started_procs}
 use Rattle.ppd_top.proofs.Each.{each-push}
@@ -14,6 +14,6 @@ loop-process-preserved c =
     record {
       procs = pushed ∙ (ap (λ (w : List Proc). w ++ c.in_ok-proc.proc ∷ []) c.loop-process.invariant.procs
           ∙ (ap (λ (s : Proc). started_procs c.args.program.now c.args.plan.now c.args.budget c.loop-process.process ++ s ∷ []) proc.started ∙ sym (started_more c.args.program.now c.args.plan.now c.args.budget c.loop-process.process)));
-      kept = let P : List Proc → Type 0 = λ w. EachAt (λ _ s. IsFirstProc c.args.program.now s) w in
-          subst P (sym pushed) (each-push (λ s. IsFirstProc c.args.program.now s) c.loop-process.procs.items c.in_ok-proc.proc c.loop-process.invariant.kept proc.first);
+      kept = let P : List Proc → Type 0 = λ w. EachAt (λ _ s. IsRunning c.args.program.now s) w in
+          subst P (sym pushed) (each-push (λ s. IsRunning c.args.program.now s) c.loop-process.procs.items c.in_ok-proc.proc c.loop-process.invariant.kept proc.running);
     }
