@@ -9,14 +9,18 @@ use Rattle.ppd_lex.specs.declared.token.Token.{Token}
 use Rattle.ppd_lex.specs.declared.token.LexError.{LexError}
 use Rattle.ppd_lex.specs.declared.token.LexError.TheVariants.{Memory}
 use Rattle.ppd_lex.specs.Tokens.{IsTokens, IsRefused}
+use Rattle.ppd_parse.specs.declared.error.SyntaxError.{SyntaxError}
+use Rattle.ppd_parse.specs.declared.error.SyntaxError.TheVariants as syntax
+use Rattle.ppd_parse.specs.Grammar.{Shape}
+use Rattle.ppd_parse.specs.Limits.{IsTree, IsRefused as IsSyntaxRefused}
 use Rattle.ppd_top.specs.declared.form.Form.{Form}
 use Rattle.ppd_top.specs.Form.{IsForm}
 use Rattle.ppd_top.specs.Lowered.{program_of, plan_of_process}
 use Rattle.ppd_top.specs.World.{World, run, run_from, started_world, IsOver, IsWhole}
 use Rattle.ppd_top.specs.Running.{Running, Runs}
 use Rattle.ppd_top.specs.Summary.{summary_of, summary_after}
-use Rattle.ppd_top.specs.Top.{default_budget, IsSource, IsWholeRun, summary_of_run, refused_lex, refused_form, Refuses, Answers}
-use Rattle.ppd_top.specs.Top.Refuses.{by_token, by_form}
+use Rattle.ppd_top.specs.Top.{default_budget, IsSource, IsWholeRun, summary_of_run, refused_lex, refused_syntax, refused_form, Refuses, Answers}
+use Rattle.ppd_top.specs.Top.Refuses.{by_token, by_syntax, by_form}
 use Rattle.ppd_top.specs.Top.Answers.{refusal, run as ran}
 use Rattle.ppd_top.proofs.FirstProgram.{program_of-first}
 
@@ -62,9 +66,12 @@ answers_as source status h k t u e f a =
 pub refused_by_token : (source h text : List ℕ) (error : LexError) → h ≡ [] → text ≡ refused_lex error → error ≢ Memory → IsRefused source error → Answers source h 1 text
 refused_by_token source h text error e f real fault = answers_as source 1 h [] text (refused_lex error) e f (refusal (refused_lex error) (by_token error real fault))
 
-pub refused_by_form : (source h text : List ℕ) (tokens : List Token) → h ≡ [] → text ≡ refused_form → IsTokens source tokens → ((form : Form) → IsForm tokens form → ⊥) → Answers source h 1 text
-refused_by_form source h text tokens e f lexed no_form = answers_as source 1 h [] text refused_form e f (refusal refused_form (by_form tokens lexed no_form))
+pub refused_by_syntax : (source h text : List ℕ) (tokens : List Token) (error : SyntaxError) → h ≡ [] → text ≡ refused_syntax error → IsTokens source tokens → error ≢ syntax.Memory → IsSyntaxRefused tokens error → Answers source h 1 text
+refused_by_syntax source h text tokens error e f lexed real fault = answers_as source 1 h [] text (refused_syntax error) e f (refusal (refused_syntax error) (by_syntax tokens error lexed real fault))
 
-pub ran_source : (source h text : List ℕ) (tokens : List Token) (form : Form) → IsTokens source tokens → IsForm tokens form → IsWholeRun form h → text ≡ summary_of_run form h → Answers source h 0 text
-ran_source source h text tokens form lexed formed whole e =
-    answers_as source 0 h h text (summary_of_run form h) refl e (ran form h record { tokens = tokens; lexed = lexed; formed = formed } whole)
+pub refused_by_form : (source h text : List ℕ) (tokens : List Token) (trees : List Shape) → h ≡ [] → text ≡ refused_form → IsTokens source tokens → IsTree tokens trees → ((form : Form) → IsForm tokens form → ⊥) → Answers source h 1 text
+refused_by_form source h text tokens trees e f lexed parsed no_form = answers_as source 1 h [] text refused_form e f (refusal refused_form (by_form tokens trees lexed parsed no_form))
+
+pub ran_source : (source h text : List ℕ) (tokens : List Token) (trees : List Shape) (form : Form) → IsTokens source tokens → IsTree tokens trees → IsForm tokens form → IsWholeRun form h → text ≡ summary_of_run form h → Answers source h 0 text
+ran_source source h text tokens trees form lexed parsed formed whole e =
+    answers_as source 0 h h text (summary_of_run form h) refl e (ran form h record { tokens = tokens; trees = trees; lexed = lexed; parsed = parsed; formed = formed } whole)

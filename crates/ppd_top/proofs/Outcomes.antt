@@ -7,17 +7,25 @@ use Rattle.ppd_io.specs.Content.{Loads, Appends, AppendsPart}
 use Rattle.ppd_lex.specs.declared.token.Token.{Token}
 use Rattle.ppd_lex.specs.declared.token.LexError.{LexError}
 use Rattle.ppd_lex.proofs.Unique.{tokens_unique, tokens_or_fault}
+use Rattle.ppd_parse.specs.declared.error.SyntaxError.{SyntaxError}
+use Rattle.ppd_parse.specs.Grammar.{Shape}
+use Rattle.ppd_parse.specs.Limits.{IsTree}
+use Rattle.ppd_parse.proofs.Excluded.{tree_or_refused}
 use Rattle.ppd_top.specs.declared.form.Form.{Form}
 use Rattle.ppd_top.specs.Form.{IsForm}
 use Rattle.ppd_top.specs.Top.{texts, Asks, most_bytes, usage, IsSource, IsWholeRun, summary_of_run, refused_lex, refused_form, Refuses, Answers, Writes, Finished, RanWhole, WasRefused, WriteFailed, MemoryRanOut, IsPromised}
-use Rattle.ppd_top.specs.Top.Refuses.{by_token, by_form}
+use Rattle.ppd_top.specs.Top.Refuses.{by_token, by_syntax, by_form}
 use Rattle.ppd_top.specs.Top.Answers.{refusal, run}
 use Rattle.ppd_top.specs.Top.Writes.{for_words, for_source}
 
 -- a refused source is none of one process
 pub refuses-no_source : (source line : List ℕ) → Refuses source line → (form : Form) → IsSource source form → ⊥
 refuses-no_source source line (by_token error real fault) form s = tokens_or_fault source s.tokens error s.lexed fault real
-refuses-no_source source line (by_form tokens lexed no_form) form s =
+refuses-no_source source line (by_syntax tokens error lexed real fault) form s =
+    let same : s.tokens ≡ tokens = tokens_unique source s.tokens tokens s.lexed lexed in
+    let P : List Token → Type 0 = λ ts. IsTree ts s.trees in
+    tree_or_refused tokens s.trees (subst P same s.parsed) error real fault
+refuses-no_source source line (by_form tokens trees lexed parsed no_form) form s =
     let same : s.tokens ≡ tokens = tokens_unique source s.tokens tokens s.lexed lexed in
     let P : List Token → Type 0 = λ ts. IsForm ts form in
     no_form form (subst P same s.formed)

@@ -7,6 +7,10 @@ use Rattle.ppd_lex.specs.declared.token.Token.{Token}
 use Rattle.ppd_lex.specs.declared.token.LexError.{LexError}
 use Rattle.ppd_lex.specs.declared.token.LexError.TheVariants.{BadByte, BadNumber, OpenComment, TooLong, LongName, Memory}
 use Rattle.ppd_lex.specs.Tokens.{IsTokens, IsRefused}
+use Rattle.ppd_parse.specs.declared.error.SyntaxError.{SyntaxError}
+use Rattle.ppd_parse.specs.declared.error.SyntaxError.TheVariants as syntax
+use Rattle.ppd_parse.specs.Grammar.{Shape}
+use Rattle.ppd_parse.specs.Limits.{IsTree, IsRefused as IsSyntaxRefused}
 use Rattle.ppd_top.specs.declared.form.Form.{Form}
 use Rattle.ppd_top.specs.Form.{IsForm}
 use Rattle.ppd_top.specs.Lowered.{program_of, plan_of_process}
@@ -37,10 +41,12 @@ most_bytes = 262145
 abbrev pub default_budget : ℕ
 default_budget = 100000
 
--- the bytes are a source of one process, and this is its form
+-- the bytes are a program of the grammar, of one process, and this is its form
 pub record IsSource (source : List ℕ) (form : Form) : Type 0 where
   pub tokens : List Token
+  pub trees : List Shape
   pub lexed : IsTokens source tokens
+  pub parsed : IsTree tokens trees
   pub formed : IsForm tokens form
 
 -- the schedule is one that this source's process takes to its end
@@ -67,10 +73,17 @@ refused_lex (TooLong p) = codes "refused lex 4 TooLong " ++ place_text p ++ code
 refused_lex (LongName p) = codes "refused lex 5 LongName " ++ place_text p ++ codes "\n"
 refused_lex Memory = []
 
+abbrev pub refused_syntax : SyntaxError → List ℕ
+refused_syntax (syntax.Unexpected p) = codes "refused syntax 1 Unexpected " ++ place_text p ++ codes "\n"
+refused_syntax (syntax.Deep p) = codes "refused syntax 2 Deep " ++ place_text p ++ codes "\n"
+refused_syntax (syntax.Wide p) = codes "refused syntax 3 Wide " ++ place_text p ++ codes "\n"
+refused_syntax syntax.Memory = []
+
 -- why a source is refused, and the line that says so
 pub data Refuses (source : List ℕ) : List ℕ → Type 0 where
   by_token : (error : LexError) → error ≢ Memory → IsRefused source error → Refuses source (refused_lex error)
-  by_form : (tokens : List Token) → IsTokens source tokens → ((form : Form) → IsForm tokens form → ⊥) → Refuses source refused_form
+  by_syntax : (tokens : List Token) (error : SyntaxError) → IsTokens source tokens → error ≢ syntax.Memory → IsSyntaxRefused tokens error → Refuses source (refused_syntax error)
+  by_form : (tokens : List Token) (trees : List Shape) → IsTokens source tokens → IsTree tokens trees → ((form : Form) → IsForm tokens form → ⊥) → Refuses source refused_form
 
 -- what is written in all for a source, with which status and schedule
 pub data Answers (source : List ℕ) : (schedule : List ℕ) → ℕ → List ℕ → Type 0 where
