@@ -1,0 +1,3 @@
+-- The grammar, and what the parser does at a token.
+pub mod Choice
+pub mod Grammar
