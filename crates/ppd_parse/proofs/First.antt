@@ -387,7 +387,7 @@ looked_assigned a b assigned_recv m rs = ap choose_assigned (first_exact rs)
 looked_assigned a b assigned_name m rs = ap choose_assigned (first_exact rs)
 looked_assigned a b {x = x} assigned_other m rs = let f = first_other_unary rs in lift_assigned_other (kind_at x) f.0 f.1
 
-default_assigned_expr : (k : Kind) → Stands assigned_expr k → choose_assigned_rest k ≡ chosen assigned_expr
+pub default_assigned_expr : (k : Kind) → Stands assigned_expr k → choose_assigned_rest k ≡ chosen assigned_expr
 default_assigned_expr K.LeftParen h = absurd (h refl)
 default_assigned_expr _ h = refl
 

@@ -28,7 +28,7 @@ again : (A : Type 0) (b : Bool) → Unless b A → Unless b (Unless b A)
 again A true h = absurd h
 again A false h = h
 
-over_good : (ws : List Want) → IsOver ws → IsGood ws
+pub over_good : (ws : List Want) → IsOver ws → IsGood ws
 over_good [] h = tt
 over_good (Close r b ∷ ws) h = over_good ws h
 over_good (Get y a b ∷ ws) h = absurd h
@@ -490,7 +490,7 @@ weight_least : (y : Symbol) → 1 ≤ weight y
 weight_least (S.Exact k) = omega arith
 weight_least _ = omega arith
 
-good_exact : (k : Kind) (a : At) (b : ℕ) (ws : List Want) → IsGood (Get (S.Exact k) a b ∷ ws) → IsGood ws
+pub good_exact : (k : Kind) (a : At) (b : ℕ) (ws : List Want) → IsGood (Get (S.Exact k) a b ∷ ws) → IsGood ws
 good_exact K.End a b ws h = over_good ws h
 good_exact _ a b ws h = h
 

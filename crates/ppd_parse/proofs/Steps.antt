@@ -10,6 +10,7 @@ use Rattle.ppd_parse.specs.declared.symbol.Want.{Want}
 use Rattle.ppd_parse.specs.declared.symbol.Want.TheVariants.{Get, Close}
 use Rattle.ppd_parse.specs.Grammar.{Shape, leaf, close, Marked, kind_at, is_operator, Production, parts, Stands, MayStand, wants_in, base_in, Reads, ReadsAll, exact, operator, wrap, by, nothing, next}
 use Rattle.ppd_parse.specs.Choice.{Choice, chosen, refused, choose}
+use Rattle.ppd_parse.specs.Machine.{IsTerminal}
 use Rattle.ppd_parse.proofs.First.{looked, stands}
 
 pub split : (vs ws : List Want) {s u : List Shape} {ts rest : List Marked} → ReadsAll (vs ++ ws) s ts u rest → (t : List Shape) × (mid : List Marked) × ReadsAll vs s ts t mid × ReadsAll ws t mid u rest
@@ -33,12 +34,6 @@ operator_to (next (by p m r) rs) = elim p [ ]
 
 pub wrap_to : {r : Rule} {b : ℕ} {ws : List Want} {s f : List Shape} {ts rest : List Marked} → ReadsAll (Close r b ∷ ws) s ts f rest → ReadsAll ws (close r b s) ts f rest
 wrap_to (next wrap rs) = rs
-
--- symbols that are one token
-abbrev pub IsTerminal : Symbol → Type 0
-IsTerminal (S.Exact k) = Unit {0}
-IsTerminal (S.Operator l) = Unit {0}
-IsTerminal _ = ⊥
 
 opened : {y : Symbol} {a : At} {b : ℕ} {ws : List Want} {s f : List Shape} {ts rest : List Marked} → (IsTerminal y → ⊥) → ReadsAll (Get y a b ∷ ws) s ts f rest → (p : Production y) × MayStand p ts × ReadsAll (wants_in a (base_in y b (length s)) (parts p) ++ ws) s ts f rest
 opened other (next (exact e m) rs) = absurd (other tt)

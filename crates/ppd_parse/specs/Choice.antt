@@ -1,5 +1,5 @@
 -- How a symbol is made up, where a token of some kind is next.
-use Rattle.std.specs.Prelude.{◌≡◌, ◌≢◌, ℕ, Bool, true, false, List, [], ◌∷◌, Option, Some, None, cond}
+use Rattle.std.specs.Prelude.{◌≡◌, ◌≢◌, ℕ, Bool, true, false, List, [], ◌∷◌, ◌++◌, reverse, Option, Some, None, cond}
 use Rattle.ppd_lex.specs.declared.token.Token.{Token}
 use Rattle.ppd_lex.specs.declared.token.TokenKind.{TokenKind}
 use Rattle.ppd_parse.specs.declared.symbol.Kind.{Kind}
@@ -15,7 +15,7 @@ use Rattle.ppd_parse.specs.declared.symbol.Part.{Part}
 use Rattle.ppd_parse.specs.declared.symbol.Part.TheVariants as P
 use Rattle.ppd_parse.specs.declared.symbol.Want.{Want}
 use Rattle.ppd_parse.specs.declared.symbol.Want.TheVariants.{Get, Close}
-use Rattle.ppd_parse.specs.Grammar.{Production, parts, is_operator, operand, chain_end, chain_more, source, items_end, items_shared, items_sems, items_chans, items_function, items_process, shared, shared_end, shared_more, shared_item, no_start, start, shared_length, start_plain, start_minus, sems, no_sem_start, sem_start, sems_end, sems_more, chans, chans_end, chans_more, function_int, function_void, no_params, some_params, params_void, params_int, params_end, params_more, process, block, stmts_end, stmts_local, stmts_more, local, local_end, local_more, local_item, no_local_start, local_start, local_length, value_recv, value_plain, call_or_name, other_expr, named_call, named_expr, no_args, some_args, args_end, args_more, place, no_index, index, change, assign, add, subtract, increase, decrease, expr, expr_rest, unary_place, unary_other, minus, negation, parens, number, stmt_block, stmt_empty, stmt_name, stmt_if, stmt_while, stmt_for, stmt_return, stmt_take, stmt_give, stmt_send, stmt_print, stmt_assert, rest_call, rest_element, rest_scalar, rest_assign, rest_add, rest_subtract, rest_increase, rest_decrease, assigned_recv, assigned_name, assigned_other, assigned_call, assigned_expr, no_else, some_else, for_plain, for_local, for_change, for_ever, for_while, for_still, for_step, return_plain, return_value}
+use Rattle.ppd_parse.specs.Grammar.{Production, parts, is_operator, wants_in, operand, chain_end, chain_more, source, items_end, items_shared, items_sems, items_chans, items_function, items_process, shared, shared_end, shared_more, shared_item, no_start, start, shared_length, start_plain, start_minus, sems, no_sem_start, sem_start, sems_end, sems_more, chans, chans_end, chans_more, function_int, function_void, no_params, some_params, params_void, params_int, params_end, params_more, process, block, stmts_end, stmts_local, stmts_more, local, local_end, local_more, local_item, no_local_start, local_start, local_length, value_recv, value_plain, call_or_name, other_expr, named_call, named_expr, no_args, some_args, args_end, args_more, place, no_index, index, change, assign, add, subtract, increase, decrease, expr, expr_rest, unary_place, unary_other, minus, negation, parens, number, stmt_block, stmt_empty, stmt_name, stmt_if, stmt_while, stmt_for, stmt_return, stmt_take, stmt_give, stmt_send, stmt_print, stmt_assert, rest_call, rest_element, rest_scalar, rest_assign, rest_add, rest_subtract, rest_increase, rest_decrease, assigned_recv, assigned_name, assigned_other, assigned_call, assigned_expr, no_else, some_else, for_plain, for_local, for_change, for_ever, for_while, for_still, for_step, return_plain, return_value}
 
 pub data Choice (y : Symbol) : Type 0 where
   chosen : Production y → Choice y
@@ -362,3 +362,51 @@ parts_if refused = None
 -- the parts that stand for a symbol there, if any do
 abbrev pub expansion : Symbol → Kind → Option (List Part)
 expansion y k = parts_if (choose y k)
+
+-- a vector of wants, the last of them next, with the parts on top
+unfoldable pub pushed : List Want → At → ℕ → List Part → List Want
+pushed ws a b ps = ws ++ reverse (wants_in a b ps)
+
+abbrev pub stack_with : List Want → At → ℕ → Option (List Part) → Option (List Want)
+stack_with ws a b (Some ps) = Some (pushed ws a b ps)
+stack_with ws a b None = None
+
+-- the symbols of declarations, and of statements
+abbrev pub in_declarations : Symbol → Bool
+in_declarations S.Source = true
+in_declarations S.Items = true
+in_declarations S.Shared = true
+in_declarations S.SharedItems = true
+in_declarations S.SharedItem = true
+in_declarations S.SharedStart = true
+in_declarations S.StartValue = true
+in_declarations S.Sems = true
+in_declarations S.SemStart = true
+in_declarations S.SemItems = true
+in_declarations S.Chans = true
+in_declarations S.ChanItems = true
+in_declarations S.Function = true
+in_declarations S.ParamsEnd = true
+in_declarations S.Params = true
+in_declarations S.ParamItems = true
+in_declarations S.Process = true
+in_declarations _ = false
+
+abbrev pub in_statements : Symbol → Bool
+in_statements S.Block = true
+in_statements S.Stmts = true
+in_statements S.Local = true
+in_statements S.LocalItems = true
+in_statements S.LocalItem = true
+in_statements S.LocalStart = true
+in_statements S.Stmt = true
+in_statements S.StmtRest = true
+in_statements S.PlaceRest = true
+in_statements S.Assigned = true
+in_statements S.AssignedRest = true
+in_statements S.ElsePart = true
+in_statements S.ForStart = true
+in_statements S.ForTest = true
+in_statements S.ForStep = true
+in_statements S.ReturnEnd = true
+in_statements _ = false

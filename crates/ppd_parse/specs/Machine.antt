@@ -12,6 +12,12 @@ use Rattle.ppd_parse.specs.declared.symbol.Symbol.TheVariants as S
 use Rattle.ppd_parse.specs.declared.symbol.At.{At}
 use Rattle.ppd_parse.specs.declared.symbol.Want.{Want}
 use Rattle.ppd_parse.specs.declared.symbol.Want.TheVariants.{Get, Close}
+use Rattle.ppd_parse.specs.declared.growth.Grove.{Grove}
+use Rattle.ppd_parse.specs.declared.growth.Step.{Step}
+use Rattle.ppd_parse.specs.declared.growth.Step.TheVariants as M
+use Rattle.ppd_parse.specs.Rank.{rank}
+use Rattle.ppd_parse.specs.Stack.{IsGood, IsOver}
+use Rattle.ppd_parse.specs.Table.{shapes_of}
 use Rattle.ppd_parse.specs.Grammar.{Shape, leaf, node, forest, Marked, kind_at, kind_of, ReadsAll, IsProgram, tokens_of, is_operator}
 
 -- what is still wanted, and the trees so far
@@ -45,3 +51,24 @@ pub record Follows (ts : List Token) (zs : List Marked) (a : State) : Type 0 whe
 
 abbrev pub wanting : Want → State → State
 wanting w a = record { wants = w ∷ a.wants; shapes = a.shapes }
+
+-- the state of the parser: the wants with the next one last, and the trees of the nodes without a parent
+abbrev pub state_of : List Want → Grove → State
+state_of items grove = record { wants = reverse items; shapes = shapes_of grove.nodes.items grove.roots.items }
+
+-- what came of a want on top, at this token
+abbrev pub Advanced : Token → Step → State → State → Type 0
+Advanced token M.Moved a b = SameAt (kind_of token.kind) a b × IsGood b.wants × (rank b.wants < rank a.wants)
+Advanced token (M.Read at) a b = Shifts (record { token = token; at = at }) a b × IsGood b.wants × (kind_of token.kind ≡ K.End → IsOver b.wants)
+Advanced token M.Refused a b = IsDead (kind_of token.kind) a
+
+-- the token was read with this mark, or nothing goes on with it
+abbrev pub Taken : Token → Option At → State → State → Type 0
+Taken token (Some at) a b = Shifts (record { token = token; at = at }) a b × IsGood b.wants × (kind_of token.kind ≡ K.End → IsOver b.wants)
+Taken token None a b = IsDead (kind_of token.kind) a
+
+-- symbols that are one token
+abbrev pub IsTerminal : Symbol → Type 0
+IsTerminal (S.Exact k) = Unit {0}
+IsTerminal (S.Operator l) = Unit {0}
+IsTerminal _ = ⊥
