@@ -10,6 +10,7 @@ use Rattle.ppd_parse.specs.declared.symbol.Kind.{Kind}
 use Rattle.ppd_parse.specs.declared.symbol.Kind.TheVariants as K
 use Rattle.ppd_parse.specs.declared.symbol.Symbol.TheVariants as S
 use Rattle.ppd_parse.specs.declared.symbol.At.{At}
+use Rattle.ppd_parse.specs.declared.symbol.Want.{Want}
 use Rattle.ppd_parse.specs.declared.symbol.Want.TheVariants.{Get}
 use Rattle.ppd_parse.specs.declared.error.SyntaxError.{SyntaxError}
 use Rattle.ppd_parse.specs.declared.error.SyntaxError.TheVariants as E
@@ -19,9 +20,9 @@ use Rattle.ppd_parse.specs.Stack.{IsGood, IsOver}
 use Rattle.ppd_parse.specs.Limits.{count_with, count_after, KeepLimits, no_token, token_at, IsTree, IsUnexpected, IsPast, BreaksDepth, BreaksWidth, IsRefused, Stepped, IsReadTo, EndsAs}
 use Rattle.ppd_parse.proofs.Sample.{completion}
 
-cancel : (as : List Token) {bs cs : List Token} → as ++ bs ≡ as ++ cs → bs ≡ cs
+cancel : (us : List Token) {bs cs : List Token} → us ++ bs ≡ us ++ cs → bs ≡ cs
 cancel [] e = e
-cancel (a ∷ as) e = cancel as (tail_same e)
+cancel (u ∷ us) e = cancel us (tail_same e)
   where
     tail_same : {x y : Token} {xs ys : List Token} → x ∷ xs ≡ y ∷ ys → xs ≡ ys
     tail_same d = cc
@@ -74,7 +75,7 @@ module _ (ts : List Token) (zs : List Marked) (a : State) (follows : Follows ts 
 pub start_read : (ts : List Token) → EndOnce ts → (a : State) → a.wants ≡ Get S.Source outside 0 ∷ [] → a.shapes ≡ [] → IsReadTo ts 0 0 a
 start_read ts ends a w s =
     let b : State = record { wants = Get S.Source outside 0 ∷ []; shapes = [] } in
-    let same : a ≡ b = cc in
+    let same : a ≡ b = ap (λ (ws : List Want). let r : State = record { wants = ws; shapes = a.shapes } in r) w ∙ ap (λ (f : List Shape). let r : State = record { wants = Get S.Source outside 0 ∷ []; shapes = f } in r) s in
     subst (IsReadTo ts 0 0) (sym same) (record {
       marked = [];
       follows = record { tokens = refl; to = λ qs f more p e. (qs, refl, p); from = λ rest f h. h };
@@ -165,3 +166,12 @@ whole ts i n a f e r ends =
     go : (qs : List Marked) (g : List Shape) (rest : List Marked) → qs ≡ r.marked ++ rest → Completed a rest g → tokens_of rest ≡ [] → (qs ≡ r.marked) × (g ≡ f)
     go qs g [] q h d = (q ∙ append-nil r.marked, ends.to g h)
     go qs g (x ∷ rest) q h d = cc
+
+-- an element is the same under any default
+at_any : (ts : List Token) (i : ℕ) (d e : Token) → i < length ts → get_or ts i d ≡ get_or ts i e
+at_any [] i d e lt = absurd (omega arith)
+at_any (t ∷ ts) zero d e lt = refl
+at_any (t ∷ ts) (suc i) d e lt = at_any ts i d e (omega arith)
+
+pub told : (ts : List Token) (i : ℕ) (t : Token) → i < length ts → t ≡ get_or ts i t → t ≡ token_at ts i
+told ts i t lt e = e ∙ at_any ts i t no_token lt

@@ -8,6 +8,7 @@ mod grove;
 mod growth;
 mod kind;
 mod machine;
+mod reading;
 mod statements;
 mod symbol;
 mod want;
