@@ -3,7 +3,7 @@ use Rattle.std.proofs.Common.{◌≡◌, ℕ, List, [], ◌∷◌, ◌++◌, rev
 use Rattle.std.proofs.lemmas.List.{reverse-append}
 use Rattle.ppd_parse.specs.declared.symbol.Rule.{Rule}
 use Rattle.ppd_parse.specs.declared.symbol.Want.{Want}
-use Rattle.ppd_parse.specs.declared.symbol.Want.TheVariants.{Get, Close}
+use Rattle.ppd_parse.specs.declared.symbol.Want.TheVariants.{Close}
 use Rattle.ppd_parse.specs.Grammar.{Shape, close, ReadsAll, nothing, wrap, next}
 use Rattle.ppd_parse.specs.Limits.{EndsAs}
 use Rattle.ppd_parse.specs.Machine.{State, Completed}
@@ -22,15 +22,15 @@ popped {items} rest w e = ap reverse e ∙ reverse-append rest (w ∷ [])
 
 pub ends_close : (a : State) (r : Rule) (b : ℕ) (ws : List Want) (s t : List Shape) → t ≡ close r b s → Ends a (record { wants = Close r b ∷ ws; shapes = s }) → Ends a (record { wants = ws; shapes = t })
 ends_close a r b ws s t e h = record {
-    to = λ f c. subst (λ u. ReadsAll ws u [] f []) (sym e) (wrap_to (h.to f c));
-    from = λ f c. h.from f (next wrap (subst (λ u. ReadsAll ws u [] f []) e c));
-  }
+  to = λ f c. subst (λ u. ReadsAll ws u [] f []) (sym e) (wrap_to (h.to f c));
+  from = λ f c. h.from f (next wrap (subst (λ u. ReadsAll ws u [] f []) e c));
+}
 
 pub ends_as : (a b : State) → b.wants ≡ [] → Ends a b → EndsAs a b.shapes
 ends_as a b e h = record {
-    to = λ g c. go g (subst (λ ws. ReadsAll ws b.shapes [] g []) e (h.to g c));
-    from = h.from b.shapes (subst (λ ws. ReadsAll ws b.shapes [] b.shapes []) (sym e) nothing);
-  }
+  to = λ g c. go g (subst (λ ws. ReadsAll ws b.shapes [] g []) e (h.to g c));
+  from = h.from b.shapes (subst (λ ws. ReadsAll ws b.shapes [] b.shapes []) (sym e) nothing);
+}
   where
     go : (g : List Shape) → ReadsAll [] b.shapes [] g [] → g ≡ b.shapes
     go g nothing = refl

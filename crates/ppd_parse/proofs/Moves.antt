@@ -1,5 +1,5 @@
 -- What each move of the parser comes to.
-use Rattle.std.proofs.Common.{◌≡◌, ◌≢◌, ◌<◌, ℕ, true, false, List, [], ◌∷◌, ◌++◌, length, reverse, Option, Some, None, refl, sym, ◌∙◌, ap, subst, arith}
+use Rattle.std.proofs.Common.{◌≡◌, ◌≢◌, ℕ, true, false, List, [], ◌∷◌, ◌++◌, length, reverse, Some, None, refl, sym, ◌∙◌, ap, subst, arith}
 use Rattle.std.proofs.lemmas.List.{reverse-append, reverse-reverse}
 use Rattle.ppd_lex.specs.declared.token.Token.{Token}
 use Rattle.ppd_parse.specs.declared.symbol.Kind.{Kind}
@@ -13,10 +13,9 @@ use Rattle.ppd_parse.specs.declared.symbol.At.{At}
 use Rattle.ppd_parse.specs.declared.symbol.Want.{Want}
 use Rattle.ppd_parse.specs.declared.symbol.Want.TheVariants.{Get, Close}
 use Rattle.ppd_parse.specs.declared.growth.Step.TheVariants as M
-use Rattle.ppd_parse.specs.Grammar.{Shape, leaf, close, Marked, kind_at, kind_of, is_operator, Production, parts, wants_in, base_in, ReadsAll, exact, operator, wrap, next}
+use Rattle.ppd_parse.specs.Grammar.{Shape, leaf, close, Marked, kind_of, is_operator, Production, parts, wants_in, base_in, ReadsAll, exact, operator, wrap, next}
 use Rattle.ppd_parse.specs.Choice.{Choice, chosen, refused, choose, expansion, parts_if, pushed, stack_with}
-use Rattle.ppd_parse.specs.Machine.{State, Completed, SameAt, IsDead, Shifts, Advanced, IsTerminal}
-use Rattle.ppd_parse.specs.Rank.{rank}
+use Rattle.ppd_parse.specs.Machine.{State, SameAt, IsDead, Shifts, Advanced, IsTerminal}
 use Rattle.ppd_parse.specs.Stack.{IsGood, IsOver}
 use Rattle.ppd_parse.proofs.Ranked.{ranked}
 use Rattle.ppd_parse.proofs.Sample.{good_exact, good_unfolded}

@@ -1,5 +1,5 @@
 -- Each move of the parser keeps what completes the program.
-use Rattle.std.proofs.Common.{◌≡◌, ◌≢◌, ℕ, true, List, [], ◌∷◌, ◌++◌, length, refl, sym, ◌∙◌, ap, subst}
+use Rattle.std.proofs.Common.{◌≡◌, ℕ, true, List, [], ◌∷◌, ◌++◌, length, sym, ◌∙◌, subst}
 use Rattle.ppd_parse.specs.declared.symbol.Kind.{Kind}
 use Rattle.ppd_parse.specs.declared.symbol.Level.{Level}
 use Rattle.ppd_parse.specs.declared.symbol.Rule.{Rule}
@@ -8,8 +8,8 @@ use Rattle.ppd_parse.specs.declared.symbol.Symbol.TheVariants as S
 use Rattle.ppd_parse.specs.declared.symbol.At.{At}
 use Rattle.ppd_parse.specs.declared.symbol.Want.{Want}
 use Rattle.ppd_parse.specs.declared.symbol.Want.TheVariants.{Get, Close}
-use Rattle.ppd_parse.specs.Grammar.{Shape, leaf, close, Marked, kind_at, is_operator, Production, parts, Stands, MayStand, wants_in, base_in, Reads, ReadsAll, exact, operator, wrap, by, nothing, next}
-use Rattle.ppd_parse.specs.Choice.{Choice, chosen, refused, choose}
+use Rattle.ppd_parse.specs.Grammar.{Shape, leaf, close, Marked, kind_at, is_operator, Production, parts, MayStand, wants_in, base_in, ReadsAll, exact, operator, wrap, by, nothing, next}
+use Rattle.ppd_parse.specs.Choice.{chosen, refused, choose}
 use Rattle.ppd_parse.specs.Machine.{IsTerminal}
 use Rattle.ppd_parse.proofs.First.{looked, stands}
 

@@ -1,6 +1,6 @@
 -- The trees of a table of nodes, as it grows.
-use Rattle.std.proofs.Common.{◌≡◌, ◌<◌, ◌≤◌, ℕ, ◌+◌, ◌-◌, List, [], ◌∷◌, ◌++◌, map, length, take, drop, get_or, min, refl, sym, ◌∙◌, ap, arith, append_assoc, Option, Some, None}
-use Rattle.std.proofs.lemmas.List.{map-append, length-map, take_min, drop_min, length-append, length-drop, take-map, drop-map, get_or_append_left}
+use Rattle.std.proofs.Common.{◌≡◌, ◌<◌, ℕ, ◌+◌, ◌-◌, List, [], ◌∷◌, ◌++◌, length, take, drop, get_or, min, refl, sym, ◌∙◌, ap, arith, Some, None}
+use Rattle.std.proofs.lemmas.List.{map-append, take_min, drop_min, length-append, length-drop, take-map, drop-map, get_or_append_left}
 use Rattle.std.proofs.lemmas.List.Elements.{All-head, All-tail, All-take}
 use Rattle.std.proofs.Math.Seq.{get_or-append_seam, take-length}
 use Rattle.ppd_lex.specs.declared.token.Token.{Token}

@@ -1,23 +1,20 @@
 -- What the tokens before show, from the first token on.
-use Rattle.std.proofs.Common.{◌≡◌, ◌≢◌, ◌<◌, ◌+◌, ◌≤◌, ℕ, zero, suc, List, [], ◌∷◌, ◌++◌, length, take, get_or, map, refl, sym, ◌∙◌, ap, subst, append_assoc, arith, cond, Result, Ok, Err}
+use Rattle.std.proofs.Common.{◌≡◌, ◌<◌, ◌+◌, ◌≤◌, ℕ, zero, suc, List, [], ◌∷◌, ◌++◌, length, take, get_or, refl, sym, ◌∙◌, ap, subst, append_assoc, arith, Ok, Err}
 use Rattle.std.proofs.lemmas.List.{append-nil, map-append, take_more}
 use Rattle.std.proofs.Math.Seq.{take-length}
-use Rattle.ppd_ast.specs.declared.program.Place.{Place}
 use Rattle.ppd_lex.specs.declared.token.Token.{Token}
 use Rattle.ppd_lex.specs.declared.token.TokenKind.TheVariants as T
 use Rattle.ppd_lex.specs.Formed.{EndOnce}
-use Rattle.ppd_parse.specs.declared.symbol.Kind.{Kind}
-use Rattle.ppd_parse.specs.declared.symbol.Kind.TheVariants as K
 use Rattle.ppd_parse.specs.declared.symbol.Symbol.TheVariants as S
 use Rattle.ppd_parse.specs.declared.symbol.At.{At}
 use Rattle.ppd_parse.specs.declared.symbol.Want.{Want}
 use Rattle.ppd_parse.specs.declared.symbol.Want.TheVariants.{Get}
 use Rattle.ppd_parse.specs.declared.error.SyntaxError.{SyntaxError}
 use Rattle.ppd_parse.specs.declared.error.SyntaxError.TheVariants as E
-use Rattle.ppd_parse.specs.Grammar.{Shape, Marked, kind_at, kind_of, IsProgram, tokens_of, outside}
-use Rattle.ppd_parse.specs.Machine.{State, Completed, Shifts, IsDead, Follows}
-use Rattle.ppd_parse.specs.Stack.{IsGood, IsOver}
-use Rattle.ppd_parse.specs.Limits.{count_with, count_after, KeepLimits, no_token, token_at, IsTree, IsUnexpected, IsPast, BreaksDepth, BreaksWidth, IsRefused, Stepped, IsReadTo, EndsAs}
+use Rattle.ppd_parse.specs.Grammar.{Shape, Marked, kind_of, IsProgram, tokens_of, outside}
+use Rattle.ppd_parse.specs.Machine.{State, Completed, Shifts, Follows}
+use Rattle.ppd_parse.specs.Stack.{IsOver}
+use Rattle.ppd_parse.specs.Limits.{count_with, count_after, KeepLimits, no_token, token_at, IsTree, IsRefused, Stepped, IsReadTo, EndsAs}
 use Rattle.ppd_parse.proofs.Sample.{completion}
 
 cancel : (us : List Token) {bs cs : List Token} → us ++ bs ≡ us ++ cs → bs ≡ cs
@@ -65,12 +62,12 @@ module _ (ts : List Token) (zs : List Marked) (a : State) (follows : Follows ts 
 
     follows_next : Follows (ts ++ t ∷ []) (zs ++ (let m : Marked = record { token = t; at = at } in m) ∷ []) b
     follows_next = record {
-        tokens = map-append (λ x. x.token) zs _ ∙ ap (λ u. u ++ t ∷ []) follows.tokens;
-        to = λ qs f more p e.
+      tokens = map-append (λ x. x.token) zs _ ∙ ap (λ u. u ++ t ∷ []) follows.tokens;
+      to = λ qs f more p e.
           let o = only_so qs f more p (e ∙ append_assoc ts (t ∷ []) more) in
           (o.0, o.1 ∙ sym (append_assoc zs _ o.0), o.2);
-        from = λ rest f h. subst (λ u. IsProgram u f) (sym (append_assoc zs _ rest)) (follows.from _ f (shifts.from rest f h));
-      }
+      from = λ rest f h. subst (λ u. IsProgram u f) (sym (append_assoc zs _ rest)) (follows.from _ f (shifts.from rest f h));
+    }
 
 pub start_read : (ts : List Token) → EndOnce ts → (a : State) → a.wants ≡ Get S.Source outside 0 ∷ [] → a.shapes ≡ [] → IsReadTo ts 0 0 a
 start_read ts ends a w s =
@@ -117,36 +114,58 @@ module _ (ts : List Token) (i n : ℕ) (a b : State) (lt : i < length ts) (r : I
   read_refused (E.Unexpected place) s =
       let c = completion a.wants a.shapes r.good in
       record {
-        i = i; within = lt; is = s.0; marked = r.marked; tokens = r.follows.tokens; rest = c.0; tree = c.1;
+        i = i;
+        within = lt;
+        is = s.0;
+        marked = r.marked;
+        tokens = r.follows.tokens;
+        rest = c.0;
+        tree = c.1;
         program = r.follows.from c.0 c.1 c.2;
         limits = r.limits;
         none = λ qs f more p e.
-          let g = goes_on (take i ts) r.marked a r.follows (token_at ts i) qs f more p e in
-          s.1 g.0 g.1 f (ap (λ (u : Token). kind_of u.kind) g.2) g.4;
+            let g = goes_on (take i ts) r.marked a r.follows (token_at ts i) qs f more p e in
+            s.1 g.0 g.1 f (ap (λ (u : Token). kind_of u.kind) g.2) g.4;
       }
   read_refused (E.Deep place) s =
       let z : Marked = record { token = token_at ts i; at = s.1.0 } in
       let c = completion b.wants b.shapes s.1.2 in
       record {
-        i = i; within = lt; is = s.0; marked = r.marked; tokens = r.follows.tokens; last = z; token = refl; rest = c.0; tree = c.1;
+        i = i;
+        within = lt;
+        is = s.0;
+        marked = r.marked;
+        tokens = r.follows.tokens;
+        last = z;
+        token = refl;
+        rest = c.0;
+        tree = c.1;
         program = r.follows.from (z ∷ c.0) c.1 (s.1.1.from c.0 c.1 c.2);
         limits = r.limits;
         breaks = s.1.3;
         only = λ qs f more p e.
-          let o = only_so (take i ts) r.marked a r.follows (token_at ts i) s.1.0 b s.1.1 qs f more p e in
-          (o.0, o.1);
+            let o = only_so (take i ts) r.marked a r.follows (token_at ts i) s.1.0 b s.1.1 qs f more p e in
+            (o.0, o.1);
       }
   read_refused (E.Wide place) s =
       let z : Marked = record { token = token_at ts i; at = s.1.0 } in
       let c = completion b.wants b.shapes s.1.2 in
       record {
-        i = i; within = lt; is = s.0; marked = r.marked; tokens = r.follows.tokens; last = z; token = refl; rest = c.0; tree = c.1;
+        i = i;
+        within = lt;
+        is = s.0;
+        marked = r.marked;
+        tokens = r.follows.tokens;
+        last = z;
+        token = refl;
+        rest = c.0;
+        tree = c.1;
         program = r.follows.from (z ∷ c.0) c.1 (s.1.1.from c.0 c.1 c.2);
         limits = r.limits;
         breaks = (s.1.3, subst (λ k. 257 ≤ count_with k z) r.count s.1.4);
         only = λ qs f more p e.
-          let o = only_so (take i ts) r.marked a r.follows (token_at ts i) s.1.0 b s.1.1 qs f more p e in
-          (o.0, o.1);
+            let o = only_so (take i ts) r.marked a r.follows (token_at ts i) s.1.0 b s.1.1 qs f more p e in
+            (o.0, o.1);
       }
   read_refused E.Memory s = tt
 
@@ -159,8 +178,8 @@ whole ts i n a f e r ends =
       program = subst (λ u. IsProgram u f) (append-nil r.marked) (r.follows.from [] f ends.from);
       limits = r.limits;
       only = λ qs g p q.
-        let w = r.follows.to qs g [] p (q ∙ (sym all ∙ sym (append-nil (take i ts)))) in
-        go qs g w.0 w.1 w.2 (left r.marked w.0 (take i ts) [] r.follows.tokens (ap tokens_of (sym w.1) ∙ (q ∙ (sym all ∙ sym (append-nil (take i ts))))));
+          let w = r.follows.to qs g [] p (q ∙ (sym all ∙ sym (append-nil (take i ts)))) in
+          go qs g w.0 w.1 w.2 (left r.marked w.0 (take i ts) [] r.follows.tokens (ap tokens_of (sym w.1) ∙ (q ∙ (sym all ∙ sym (append-nil (take i ts))))));
     }
   where
     go : (qs : List Marked) (g : List Shape) (rest : List Marked) → qs ≡ r.marked ++ rest → Completed a rest g → tokens_of rest ≡ [] → (qs ≡ r.marked) × (g ≡ f)

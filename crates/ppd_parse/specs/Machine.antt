@@ -1,24 +1,19 @@
 -- What the parser's stack still wants, and what one token does to it.
-use Rattle.std.specs.Prelude.{◌≡◌, ℕ, ◌+◌, Bool, true, false, List, [], ◌∷◌, ◌++◌, map, reverse, length, Option, Some, None, slice_index_or, All, ◌<◌}
+use Rattle.std.specs.Prelude.{◌≡◌, List, [], ◌∷◌, ◌++◌, reverse, Option, Some, None, ◌<◌}
 use Rattle.ppd_lex.specs.declared.token.Token.{Token}
 use Rattle.ppd_parse.specs.declared.symbol.Kind.{Kind}
 use Rattle.ppd_parse.specs.declared.symbol.Kind.TheVariants as K
-use Rattle.ppd_parse.specs.declared.symbol.Level.{Level}
-use Rattle.ppd_parse.specs.declared.symbol.Level.TheVariants as L
-use Rattle.ppd_parse.specs.declared.symbol.Rule.{Rule}
-use Rattle.ppd_parse.specs.declared.symbol.Rule.TheVariants as R
 use Rattle.ppd_parse.specs.declared.symbol.Symbol.{Symbol}
 use Rattle.ppd_parse.specs.declared.symbol.Symbol.TheVariants as S
 use Rattle.ppd_parse.specs.declared.symbol.At.{At}
 use Rattle.ppd_parse.specs.declared.symbol.Want.{Want}
-use Rattle.ppd_parse.specs.declared.symbol.Want.TheVariants.{Get, Close}
 use Rattle.ppd_parse.specs.declared.growth.Grove.{Grove}
 use Rattle.ppd_parse.specs.declared.growth.Step.{Step}
 use Rattle.ppd_parse.specs.declared.growth.Step.TheVariants as M
 use Rattle.ppd_parse.specs.Rank.{rank}
 use Rattle.ppd_parse.specs.Stack.{IsGood, IsOver}
 use Rattle.ppd_parse.specs.Table.{shapes_of}
-use Rattle.ppd_parse.specs.Grammar.{Shape, leaf, node, forest, Marked, kind_at, kind_of, ReadsAll, IsProgram, tokens_of, is_operator}
+use Rattle.ppd_parse.specs.Grammar.{Shape, Marked, kind_at, kind_of, ReadsAll, IsProgram, tokens_of}
 
 -- what is still wanted, and the trees so far
 pub record State : Type 0 where

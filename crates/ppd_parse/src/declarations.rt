@@ -2,8 +2,8 @@
 ghost use Rattle.std.specs.Prelude.{◌≡◌, ◌++◌, List, IfOk, Some, None, if◌then◌else◌, Bool, true, false, cond};
 ghost use Rattle.ppd_parse.specs.Choice.{expansion, stack_with};
 
-use crate::symbol::{At, Kind, Level, Part, Rule, Symbol, Want};
 use crate::statements::expand_in_block;
+use crate::symbol::{At, Kind, Level, Part, Rule, Symbol, Want};
 use crate::want::want;
 use std::alloc::AllocError;
 
@@ -11,7 +11,12 @@ use std::alloc::AllocError;
 fn expand_source(wants: &mut Vec<Want>, kind: Kind, at: At, base: usize) -> Result<bool, AllocError>
     ensures { IfOk result (λ done. stack_with wants.old.items at base (expansion Symbol.Source kind) ≡ (if done then Some wants.new.items else None)) }
 {
-    want(wants, at, base, &[Part::Here(Symbol::Items), Part::Wrap(Rule::Source)])
+    want(
+        wants,
+        at,
+        base,
+        &[Part::Here(Symbol::Items), Part::Wrap(Rule::Source)],
+    )
 }
 
 // What stands for `Items` where a token of this kind is next.
@@ -20,11 +25,36 @@ fn expand_items(wants: &mut Vec<Want>, kind: Kind, at: At, base: usize) -> Resul
 {
     match kind {
         Kind::End => want(wants, at, base, &[Part::Here(Symbol::Exact(Kind::End))]),
-        Kind::SharedWord => want(wants, at, base, &[Part::Here(Symbol::Shared), Part::Here(Symbol::Items)]),
-        Kind::SemWord => want(wants, at, base, &[Part::Here(Symbol::Sems), Part::Here(Symbol::Items)]),
-        Kind::ChanWord => want(wants, at, base, &[Part::Here(Symbol::Chans), Part::Here(Symbol::Items)]),
-        Kind::IntWord | Kind::VoidWord => want(wants, at, base, &[Part::Here(Symbol::Function), Part::Here(Symbol::Items)]),
-        Kind::ProcessWord => want(wants, at, base, &[Part::Here(Symbol::Process), Part::Here(Symbol::Items)]),
+        Kind::SharedWord => want(
+            wants,
+            at,
+            base,
+            &[Part::Here(Symbol::Shared), Part::Here(Symbol::Items)],
+        ),
+        Kind::SemWord => want(
+            wants,
+            at,
+            base,
+            &[Part::Here(Symbol::Sems), Part::Here(Symbol::Items)],
+        ),
+        Kind::ChanWord => want(
+            wants,
+            at,
+            base,
+            &[Part::Here(Symbol::Chans), Part::Here(Symbol::Items)],
+        ),
+        Kind::IntWord | Kind::VoidWord => want(
+            wants,
+            at,
+            base,
+            &[Part::Here(Symbol::Function), Part::Here(Symbol::Items)],
+        ),
+        Kind::ProcessWord => want(
+            wants,
+            at,
+            base,
+            &[Part::Here(Symbol::Process), Part::Here(Symbol::Items)],
+        ),
         _ => Ok(false),
     }
 }
@@ -34,47 +64,126 @@ fn expand_shared(wants: &mut Vec<Want>, kind: Kind, at: At, base: usize) -> Resu
     ensures { IfOk result (λ done. stack_with wants.old.items at base (expansion Symbol.Shared kind) ≡ (if done then Some wants.new.items else None)) }
 {
     match kind {
-        Kind::SharedWord => want(wants, at, base, &[Part::Here(Symbol::Exact(Kind::SharedWord)), Part::Here(Symbol::Exact(Kind::IntWord)), Part::Here(Symbol::SharedItem), Part::Here(Symbol::SharedItems), Part::Wrap(Rule::Shared)]),
+        Kind::SharedWord => want(
+            wants,
+            at,
+            base,
+            &[
+                Part::Here(Symbol::Exact(Kind::SharedWord)),
+                Part::Here(Symbol::Exact(Kind::IntWord)),
+                Part::Here(Symbol::SharedItem),
+                Part::Here(Symbol::SharedItems),
+                Part::Wrap(Rule::Shared),
+            ],
+        ),
         _ => Ok(false),
     }
 }
 
 // What stands for `SharedItems` where a token of this kind is next.
-fn expand_shared_items(wants: &mut Vec<Want>, kind: Kind, at: At, base: usize) -> Result<bool, AllocError>
+fn expand_shared_items(
+    wants: &mut Vec<Want>,
+    kind: Kind,
+    at: At,
+    base: usize,
+) -> Result<bool, AllocError>
     ensures { IfOk result (λ done. stack_with wants.old.items at base (expansion Symbol.SharedItems kind) ≡ (if done then Some wants.new.items else None)) }
 {
     match kind {
-        Kind::Semicolon => want(wants, at, base, &[Part::Here(Symbol::Exact(Kind::Semicolon))]),
-        Kind::Comma => want(wants, at, base, &[Part::Here(Symbol::Exact(Kind::Comma)), Part::Here(Symbol::SharedItem), Part::Here(Symbol::SharedItems)]),
+        Kind::Semicolon => want(
+            wants,
+            at,
+            base,
+            &[Part::Here(Symbol::Exact(Kind::Semicolon))],
+        ),
+        Kind::Comma => want(
+            wants,
+            at,
+            base,
+            &[
+                Part::Here(Symbol::Exact(Kind::Comma)),
+                Part::Here(Symbol::SharedItem),
+                Part::Here(Symbol::SharedItems),
+            ],
+        ),
         _ => Ok(false),
     }
 }
 
 // What stands for `SharedItem` where a token of this kind is next.
-fn expand_shared_item(wants: &mut Vec<Want>, kind: Kind, at: At, base: usize) -> Result<bool, AllocError>
+fn expand_shared_item(
+    wants: &mut Vec<Want>,
+    kind: Kind,
+    at: At,
+    base: usize,
+) -> Result<bool, AllocError>
     ensures { IfOk result (λ done. stack_with wants.old.items at base (expansion Symbol.SharedItem kind) ≡ (if done then Some wants.new.items else None)) }
 {
-    want(wants, at, base, &[Part::Here(Symbol::Exact(Kind::Name)), Part::Here(Symbol::SharedStart), Part::Wrap(Rule::Sitem)])
+    want(
+        wants,
+        at,
+        base,
+        &[
+            Part::Here(Symbol::Exact(Kind::Name)),
+            Part::Here(Symbol::SharedStart),
+            Part::Wrap(Rule::Sitem),
+        ],
+    )
 }
 
 // What stands for `SharedStart` where a token of this kind is next.
-fn expand_shared_start(wants: &mut Vec<Want>, kind: Kind, at: At, base: usize) -> Result<bool, AllocError>
+fn expand_shared_start(
+    wants: &mut Vec<Want>,
+    kind: Kind,
+    at: At,
+    base: usize,
+) -> Result<bool, AllocError>
     ensures { IfOk result (λ done. stack_with wants.old.items at base (expansion Symbol.SharedStart kind) ≡ (if done then Some wants.new.items else None)) }
 {
     match kind {
-        Kind::AssignMark => want(wants, at, base, &[Part::Here(Symbol::Exact(Kind::AssignMark)), Part::Here(Symbol::StartValue)]),
-        Kind::LeftBracket => want(wants, at, base, &[Part::Deeper(Symbol::Exact(Kind::LeftBracket)), Part::Deeper(Symbol::Exact(Kind::Number)), Part::Deeper(Symbol::Exact(Kind::RightBracket))]),
+        Kind::AssignMark => want(
+            wants,
+            at,
+            base,
+            &[
+                Part::Here(Symbol::Exact(Kind::AssignMark)),
+                Part::Here(Symbol::StartValue),
+            ],
+        ),
+        Kind::LeftBracket => want(
+            wants,
+            at,
+            base,
+            &[
+                Part::Deeper(Symbol::Exact(Kind::LeftBracket)),
+                Part::Deeper(Symbol::Exact(Kind::Number)),
+                Part::Deeper(Symbol::Exact(Kind::RightBracket)),
+            ],
+        ),
         _ => want(wants, at, base, &[]),
     }
 }
 
 // What stands for `StartValue` where a token of this kind is next.
-fn expand_start_value(wants: &mut Vec<Want>, kind: Kind, at: At, base: usize) -> Result<bool, AllocError>
+fn expand_start_value(
+    wants: &mut Vec<Want>,
+    kind: Kind,
+    at: At,
+    base: usize,
+) -> Result<bool, AllocError>
     ensures { IfOk result (λ done. stack_with wants.old.items at base (expansion Symbol.StartValue kind) ≡ (if done then Some wants.new.items else None)) }
 {
     match kind {
         Kind::Number => want(wants, at, base, &[Part::Here(Symbol::Exact(Kind::Number))]),
-        Kind::MinusMark => want(wants, at, base, &[Part::Here(Symbol::Exact(Kind::MinusMark)), Part::Here(Symbol::Exact(Kind::Number))]),
+        Kind::MinusMark => want(
+            wants,
+            at,
+            base,
+            &[
+                Part::Here(Symbol::Exact(Kind::MinusMark)),
+                Part::Here(Symbol::Exact(Kind::Number)),
+            ],
+        ),
         _ => Ok(false),
     }
 }
@@ -84,28 +193,72 @@ fn expand_sems(wants: &mut Vec<Want>, kind: Kind, at: At, base: usize) -> Result
     ensures { IfOk result (λ done. stack_with wants.old.items at base (expansion Symbol.Sems kind) ≡ (if done then Some wants.new.items else None)) }
 {
     match kind {
-        Kind::SemWord => want(wants, at, base, &[Part::Here(Symbol::Exact(Kind::SemWord)), Part::Here(Symbol::Exact(Kind::Name)), Part::Here(Symbol::SemStart), Part::Here(Symbol::SemItems), Part::Wrap(Rule::Sems)]),
+        Kind::SemWord => want(
+            wants,
+            at,
+            base,
+            &[
+                Part::Here(Symbol::Exact(Kind::SemWord)),
+                Part::Here(Symbol::Exact(Kind::Name)),
+                Part::Here(Symbol::SemStart),
+                Part::Here(Symbol::SemItems),
+                Part::Wrap(Rule::Sems),
+            ],
+        ),
         _ => Ok(false),
     }
 }
 
 // What stands for `SemStart` where a token of this kind is next.
-fn expand_sem_start(wants: &mut Vec<Want>, kind: Kind, at: At, base: usize) -> Result<bool, AllocError>
+fn expand_sem_start(
+    wants: &mut Vec<Want>,
+    kind: Kind,
+    at: At,
+    base: usize,
+) -> Result<bool, AllocError>
     ensures { IfOk result (λ done. stack_with wants.old.items at base (expansion Symbol.SemStart kind) ≡ (if done then Some wants.new.items else None)) }
 {
     match kind {
-        Kind::AssignMark => want(wants, at, base, &[Part::Here(Symbol::Exact(Kind::AssignMark)), Part::Here(Symbol::Exact(Kind::Number))]),
+        Kind::AssignMark => want(
+            wants,
+            at,
+            base,
+            &[
+                Part::Here(Symbol::Exact(Kind::AssignMark)),
+                Part::Here(Symbol::Exact(Kind::Number)),
+            ],
+        ),
         _ => want(wants, at, base, &[]),
     }
 }
 
 // What stands for `SemItems` where a token of this kind is next.
-fn expand_sem_items(wants: &mut Vec<Want>, kind: Kind, at: At, base: usize) -> Result<bool, AllocError>
+fn expand_sem_items(
+    wants: &mut Vec<Want>,
+    kind: Kind,
+    at: At,
+    base: usize,
+) -> Result<bool, AllocError>
     ensures { IfOk result (λ done. stack_with wants.old.items at base (expansion Symbol.SemItems kind) ≡ (if done then Some wants.new.items else None)) }
 {
     match kind {
-        Kind::Semicolon => want(wants, at, base, &[Part::Here(Symbol::Exact(Kind::Semicolon))]),
-        Kind::Comma => want(wants, at, base, &[Part::Here(Symbol::Exact(Kind::Comma)), Part::Here(Symbol::Exact(Kind::Name)), Part::Here(Symbol::SemStart), Part::Here(Symbol::SemItems)]),
+        Kind::Semicolon => want(
+            wants,
+            at,
+            base,
+            &[Part::Here(Symbol::Exact(Kind::Semicolon))],
+        ),
+        Kind::Comma => want(
+            wants,
+            at,
+            base,
+            &[
+                Part::Here(Symbol::Exact(Kind::Comma)),
+                Part::Here(Symbol::Exact(Kind::Name)),
+                Part::Here(Symbol::SemStart),
+                Part::Here(Symbol::SemItems),
+            ],
+        ),
         _ => Ok(false),
     }
 }
@@ -115,40 +268,122 @@ fn expand_chans(wants: &mut Vec<Want>, kind: Kind, at: At, base: usize) -> Resul
     ensures { IfOk result (λ done. stack_with wants.old.items at base (expansion Symbol.Chans kind) ≡ (if done then Some wants.new.items else None)) }
 {
     match kind {
-        Kind::ChanWord => want(wants, at, base, &[Part::Here(Symbol::Exact(Kind::ChanWord)), Part::Here(Symbol::Exact(Kind::Name)), Part::Deeper(Symbol::Exact(Kind::LeftBracket)), Part::Deeper(Symbol::Exact(Kind::Number)), Part::Deeper(Symbol::Exact(Kind::RightBracket)), Part::Here(Symbol::ChanItems), Part::Wrap(Rule::Chans)]),
+        Kind::ChanWord => want(
+            wants,
+            at,
+            base,
+            &[
+                Part::Here(Symbol::Exact(Kind::ChanWord)),
+                Part::Here(Symbol::Exact(Kind::Name)),
+                Part::Deeper(Symbol::Exact(Kind::LeftBracket)),
+                Part::Deeper(Symbol::Exact(Kind::Number)),
+                Part::Deeper(Symbol::Exact(Kind::RightBracket)),
+                Part::Here(Symbol::ChanItems),
+                Part::Wrap(Rule::Chans),
+            ],
+        ),
         _ => Ok(false),
     }
 }
 
 // What stands for `ChanItems` where a token of this kind is next.
-fn expand_chan_items(wants: &mut Vec<Want>, kind: Kind, at: At, base: usize) -> Result<bool, AllocError>
+fn expand_chan_items(
+    wants: &mut Vec<Want>,
+    kind: Kind,
+    at: At,
+    base: usize,
+) -> Result<bool, AllocError>
     ensures { IfOk result (λ done. stack_with wants.old.items at base (expansion Symbol.ChanItems kind) ≡ (if done then Some wants.new.items else None)) }
 {
     match kind {
-        Kind::Semicolon => want(wants, at, base, &[Part::Here(Symbol::Exact(Kind::Semicolon))]),
-        Kind::Comma => want(wants, at, base, &[Part::Here(Symbol::Exact(Kind::Comma)), Part::Here(Symbol::Exact(Kind::Name)), Part::Deeper(Symbol::Exact(Kind::LeftBracket)), Part::Deeper(Symbol::Exact(Kind::Number)), Part::Deeper(Symbol::Exact(Kind::RightBracket)), Part::Here(Symbol::ChanItems)]),
+        Kind::Semicolon => want(
+            wants,
+            at,
+            base,
+            &[Part::Here(Symbol::Exact(Kind::Semicolon))],
+        ),
+        Kind::Comma => want(
+            wants,
+            at,
+            base,
+            &[
+                Part::Here(Symbol::Exact(Kind::Comma)),
+                Part::Here(Symbol::Exact(Kind::Name)),
+                Part::Deeper(Symbol::Exact(Kind::LeftBracket)),
+                Part::Deeper(Symbol::Exact(Kind::Number)),
+                Part::Deeper(Symbol::Exact(Kind::RightBracket)),
+                Part::Here(Symbol::ChanItems),
+            ],
+        ),
         _ => Ok(false),
     }
 }
 
 // What stands for `Function` where a token of this kind is next.
-fn expand_function(wants: &mut Vec<Want>, kind: Kind, at: At, base: usize) -> Result<bool, AllocError>
+fn expand_function(
+    wants: &mut Vec<Want>,
+    kind: Kind,
+    at: At,
+    base: usize,
+) -> Result<bool, AllocError>
     ensures { IfOk result (λ done. stack_with wants.old.items at base (expansion Symbol.Function kind) ≡ (if done then Some wants.new.items else None)) }
 {
     match kind {
-        Kind::IntWord => want(wants, at, base, &[Part::Here(Symbol::Exact(Kind::IntWord)), Part::Here(Symbol::Exact(Kind::Name)), Part::Deeper(Symbol::Exact(Kind::LeftParen)), Part::Deeper(Symbol::ParamsEnd), Part::Here(Symbol::Block), Part::Wrap(Rule::Function)]),
-        Kind::VoidWord => want(wants, at, base, &[Part::Here(Symbol::Exact(Kind::VoidWord)), Part::Here(Symbol::Exact(Kind::Name)), Part::Deeper(Symbol::Exact(Kind::LeftParen)), Part::Deeper(Symbol::ParamsEnd), Part::Here(Symbol::Block), Part::Wrap(Rule::Function)]),
+        Kind::IntWord => want(
+            wants,
+            at,
+            base,
+            &[
+                Part::Here(Symbol::Exact(Kind::IntWord)),
+                Part::Here(Symbol::Exact(Kind::Name)),
+                Part::Deeper(Symbol::Exact(Kind::LeftParen)),
+                Part::Deeper(Symbol::ParamsEnd),
+                Part::Here(Symbol::Block),
+                Part::Wrap(Rule::Function),
+            ],
+        ),
+        Kind::VoidWord => want(
+            wants,
+            at,
+            base,
+            &[
+                Part::Here(Symbol::Exact(Kind::VoidWord)),
+                Part::Here(Symbol::Exact(Kind::Name)),
+                Part::Deeper(Symbol::Exact(Kind::LeftParen)),
+                Part::Deeper(Symbol::ParamsEnd),
+                Part::Here(Symbol::Block),
+                Part::Wrap(Rule::Function),
+            ],
+        ),
         _ => Ok(false),
     }
 }
 
 // What stands for `ParamsEnd` where a token of this kind is next.
-fn expand_params_end(wants: &mut Vec<Want>, kind: Kind, at: At, base: usize) -> Result<bool, AllocError>
+fn expand_params_end(
+    wants: &mut Vec<Want>,
+    kind: Kind,
+    at: At,
+    base: usize,
+) -> Result<bool, AllocError>
     ensures { IfOk result (λ done. stack_with wants.old.items at base (expansion Symbol.ParamsEnd kind) ≡ (if done then Some wants.new.items else None)) }
 {
     match kind {
-        Kind::RightParen => want(wants, at, base, &[Part::Here(Symbol::Exact(Kind::RightParen))]),
-        Kind::IntWord | Kind::VoidWord => want(wants, at, base, &[Part::Here(Symbol::Params), Part::Here(Symbol::Exact(Kind::RightParen))]),
+        Kind::RightParen => want(
+            wants,
+            at,
+            base,
+            &[Part::Here(Symbol::Exact(Kind::RightParen))],
+        ),
+        Kind::IntWord | Kind::VoidWord => want(
+            wants,
+            at,
+            base,
+            &[
+                Part::Here(Symbol::Params),
+                Part::Here(Symbol::Exact(Kind::RightParen)),
+            ],
+        ),
         _ => Ok(false),
     }
 }
@@ -158,34 +393,88 @@ fn expand_params(wants: &mut Vec<Want>, kind: Kind, at: At, base: usize) -> Resu
     ensures { IfOk result (λ done. stack_with wants.old.items at base (expansion Symbol.Params kind) ≡ (if done then Some wants.new.items else None)) }
 {
     match kind {
-        Kind::VoidWord => want(wants, at, base, &[Part::Here(Symbol::Exact(Kind::VoidWord)), Part::Wrap(Rule::Params)]),
-        Kind::IntWord => want(wants, at, base, &[Part::Here(Symbol::Exact(Kind::IntWord)), Part::Here(Symbol::Exact(Kind::Name)), Part::Here(Symbol::ParamItems), Part::Wrap(Rule::Params)]),
+        Kind::VoidWord => want(
+            wants,
+            at,
+            base,
+            &[
+                Part::Here(Symbol::Exact(Kind::VoidWord)),
+                Part::Wrap(Rule::Params),
+            ],
+        ),
+        Kind::IntWord => want(
+            wants,
+            at,
+            base,
+            &[
+                Part::Here(Symbol::Exact(Kind::IntWord)),
+                Part::Here(Symbol::Exact(Kind::Name)),
+                Part::Here(Symbol::ParamItems),
+                Part::Wrap(Rule::Params),
+            ],
+        ),
         _ => Ok(false),
     }
 }
 
 // What stands for `ParamItems` where a token of this kind is next.
-fn expand_param_items(wants: &mut Vec<Want>, kind: Kind, at: At, base: usize) -> Result<bool, AllocError>
+fn expand_param_items(
+    wants: &mut Vec<Want>,
+    kind: Kind,
+    at: At,
+    base: usize,
+) -> Result<bool, AllocError>
     ensures { IfOk result (λ done. stack_with wants.old.items at base (expansion Symbol.ParamItems kind) ≡ (if done then Some wants.new.items else None)) }
 {
     match kind {
-        Kind::Comma => want(wants, at, base, &[Part::Here(Symbol::Exact(Kind::Comma)), Part::Here(Symbol::Exact(Kind::IntWord)), Part::Here(Symbol::Exact(Kind::Name)), Part::Here(Symbol::ParamItems)]),
+        Kind::Comma => want(
+            wants,
+            at,
+            base,
+            &[
+                Part::Here(Symbol::Exact(Kind::Comma)),
+                Part::Here(Symbol::Exact(Kind::IntWord)),
+                Part::Here(Symbol::Exact(Kind::Name)),
+                Part::Here(Symbol::ParamItems),
+            ],
+        ),
         _ => want(wants, at, base, &[]),
     }
 }
 
 // What stands for `Process` where a token of this kind is next.
-fn expand_process(wants: &mut Vec<Want>, kind: Kind, at: At, base: usize) -> Result<bool, AllocError>
+fn expand_process(
+    wants: &mut Vec<Want>,
+    kind: Kind,
+    at: At,
+    base: usize,
+) -> Result<bool, AllocError>
     ensures { IfOk result (λ done. stack_with wants.old.items at base (expansion Symbol.Process kind) ≡ (if done then Some wants.new.items else None)) }
 {
     match kind {
-        Kind::ProcessWord => want(wants, at, base, &[Part::Here(Symbol::Exact(Kind::ProcessWord)), Part::Here(Symbol::Exact(Kind::Name)), Part::Here(Symbol::Block), Part::Wrap(Rule::Process)]),
+        Kind::ProcessWord => want(
+            wants,
+            at,
+            base,
+            &[
+                Part::Here(Symbol::Exact(Kind::ProcessWord)),
+                Part::Here(Symbol::Exact(Kind::Name)),
+                Part::Here(Symbol::Block),
+                Part::Wrap(Rule::Process),
+            ],
+        ),
         _ => Ok(false),
     }
 }
 
 // What stands for a symbol where a token of this kind is next.
-pub fn expand(wants: &mut Vec<Want>, symbol: Symbol, kind: Kind, at: At, base: usize) -> Result<bool, AllocError>
+pub fn expand(
+    wants: &mut Vec<Want>,
+    symbol: Symbol,
+    kind: Kind,
+    at: At,
+    base: usize,
+) -> Result<bool, AllocError>
     ensures { IfOk result (λ done. stack_with wants.old.items at base (expansion symbol kind) ≡ (if done then Some wants.new.items else None)) }
 {
     match symbol {

@@ -3,7 +3,7 @@ ghost use Rattle.std.specs.Prelude.{◌≡◌, ◌++◌, ◌∷◌, [], IfOk, On
 ghost use Rattle.ppd_parse.specs.Grammar.{leaf, close};
 ghost use Rattle.ppd_parse.specs.Table.{shapes_of};
 
-use crate::growth::{Growth, Grove};
+use crate::growth::{Grove, Growth};
 use crate::symbol::Rule;
 use ppd_lex::{Token, TokenKind};
 use std::alloc::{AllocError, AllocFailed, Global};

@@ -1,4 +1,4 @@
-//! The tree of a list of tokens, or the first token with which no program goes on.
+//! The tree of a list of tokens, or the first token that breaks the grammar or a limit.
 #![tactic(auto)]
 
 mod declarations;
@@ -14,4 +14,9 @@ mod symbol;
 mod want;
 
 pub use error::SyntaxError;
-pub use symbol::{At, Kind, Level, Part, Rule, Symbol, Want};
+pub use growth::{Grove, Growth};
+pub use reading::parse;
+pub use symbol::Rule;
+
+#[cfg(test)]
+mod tests;

@@ -17,6 +17,7 @@ use std::alloc::{AllocError, Global};
 
 // The most constructs open at a token, and the most operators of an expression.
 const MOST_OPEN: u8 = 64;
+
 const MOST_OPERATORS: u16 = 256;
 
 // Whether the kind is an operator where it stands in an expression.
@@ -93,8 +94,15 @@ fn finish(wants: &mut Vec<Want>, grove: &mut Grove) -> Result<(), AllocError>
     Ok(())
 }
 
-// The trees of the tokens: a single one, of a source.
-pub fn grow(alloc: Global, tokens: &[Token]) -> Result<Grove, SyntaxError>
+/// The tree of the tokens of a source: `roots` has one number, its root's.
+///
+/// The tokens end with `End`, which stands nowhere else. The answer is a tree exactly where the
+/// tokens are a program of the grammar with at most 64 constructs open at each token and at most
+/// 256 operators in each expression that is no part of another. The first token that breaks one of
+/// these is answered: `Unexpected` where some program begins with the tokens before it and none
+/// with the tokens through it, else `Deep` where it makes 65 constructs open, else `Wide` where it
+/// is the 257th operator. `Memory` is want of memory.
+pub fn parse(alloc: Global, tokens: &[Token]) -> Result<Grove, SyntaxError>
     requires ends { EndOnce tokens.now }
     ensures tree { IfOk result (λ grove. IsTree tokens.now (shapes_of grove.nodes.items grove.roots.items)) }
     ensures refused { IfErr result (λ error. IsRefused tokens.now error) }

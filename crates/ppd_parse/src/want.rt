@@ -43,12 +43,7 @@ fn want_in(at: At, base: usize, part: Part) -> Want
 }
 
 // Wants the parts, the first of them next; the answer is true.
-pub fn want(
-    wants: &mut Vec<Want>,
-    at: At,
-    base: usize,
-    parts: &[Part],
-) -> Result<bool, AllocError>
+pub fn want(wants: &mut Vec<Want>, at: At, base: usize, parts: &[Part]) -> Result<bool, AllocError>
     ensures { IfOk result (λ done. (done ≡ true) × (wants.new.items ≡ pushed wants.old.items at base parts.now)) }
 {
     let mut left = parts.len();

@@ -1,8 +1,7 @@
-use Rattle.std.proofs.Common.{◌≡◌, refl}
+use Rattle.std.proofs.Common.{refl}
 use Rattle.ppd_parse.specs.declared.symbol.Kind.TheVariants as K
 use Rattle.ppd_parse.specs.declared.symbol.Symbol.TheVariants as S
-use Rattle.ppd_parse.specs.Choice.{expansion}
-use Rattle.ppd_parse.proofs.Wanted.{wanted, wanted_at}
+use Rattle.ppd_parse.proofs.Wanted.{wanted_at}
 use Rattle.ppd_parse.proofs.declarations.expand_function.Goals as goal
 
 pub returns-in-IntWord : goal.returns-in-IntWord

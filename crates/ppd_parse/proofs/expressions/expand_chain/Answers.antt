@@ -1,4 +1,4 @@
-use Rattle.std.proofs.Common.{◌≡◌, sym, ap, cond}
+use Rattle.std.proofs.Common.{sym, ap, cond}
 use Rattle.ppd_parse.specs.declared.symbol.Symbol.TheVariants as S
 use Rattle.ppd_parse.specs.Choice.{expansion, parts_if, chosen}
 use Rattle.ppd_parse.specs.Grammar.{chain_end, chain_more}

@@ -1,8 +1,7 @@
-use Rattle.std.proofs.Common.{◌≡◌, refl}
-use Rattle.ppd_parse.specs.declared.symbol.Kind.TheVariants as K
+use Rattle.std.proofs.Common.{refl}
 use Rattle.ppd_parse.specs.declared.symbol.Symbol.TheVariants as S
 use Rattle.ppd_parse.specs.Choice.{expansion}
-use Rattle.ppd_parse.proofs.Wanted.{wanted, wanted_at}
+use Rattle.ppd_parse.proofs.Wanted.{wanted}
 use Rattle.ppd_parse.proofs.expressions.expand_expr_rest.Goals as goal
 
 pub returns : goal.returns

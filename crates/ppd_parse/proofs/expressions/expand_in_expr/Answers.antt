@@ -1,4 +1,4 @@
-use Rattle.std.proofs.Common.{◌≡◌, ap, None}
+use Rattle.std.proofs.Common.{ap}
 use Rattle.ppd_parse.specs.declared.symbol.Symbol.TheVariants as S
 use Rattle.ppd_parse.specs.Choice.{stack_with}
 use Rattle.ppd_parse.proofs.Wanted.{same_symbol}

@@ -1,4 +1,4 @@
-use Rattle.std.proofs.Common.{◌≡◌, Option, Some, ap}
+use Rattle.std.proofs.Common.{Some, ap}
 use Rattle.ppd_parse.specs.Grammar.{operand_parts}
 use Rattle.ppd_parse.proofs.Wanted.{wanted}
 use Rattle.ppd_parse.proofs.expressions.expand_operand.Goals as goal

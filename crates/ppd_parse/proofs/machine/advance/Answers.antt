@@ -1,4 +1,4 @@
-use Rattle.std.proofs.Common.{◌≡◌, sym, subst, reverse, ◌∷◌}
+use Rattle.std.proofs.Common.{sym, subst, reverse, ◌∷◌}
 use Rattle.ppd_parse.specs.declared.symbol.Want.{Want}
 use Rattle.ppd_parse.specs.declared.growth.Step.TheVariants as M
 use Rattle.ppd_parse.specs.Machine.{Advanced, state_of, wanting}
@@ -13,4 +13,4 @@ returns-in_ok-close-in-Close c =
     let g = c.args.grove.now in
     let new = c.close.new.self in
     subst (λ (w : Want). Advanced c.args.token.now M.Moved (wanting w (state_of ws g)) (state_of ws new)) (sym c.in-Close.is)
-      (close_moves c.args.token.now c.in-Close.rule c.in-Close.base (reverse ws) (shapes_of g.nodes.items g.roots.items) (shapes_of new.nodes.items new.roots.items) c.in_ok-close-in-Close.ensures (subst (λ (w : Want). IsGood (w ∷ reverse ws)) c.in-Close.is c.requires))
+    (close_moves c.args.token.now c.in-Close.rule c.in-Close.base (reverse ws) (shapes_of g.nodes.items g.roots.items) (shapes_of new.nodes.items new.roots.items) c.in_ok-close-in-Close.ensures (subst (λ (w : Want). IsGood (w ∷ reverse ws)) c.in-Close.is c.requires))

@@ -1,14 +1,12 @@
-use Rattle.std.proofs.Common.{◌≡◌, ◌≢◌, ℕ, List, ◌∷◌, refl, sym, ◌∙◌, ap, subst, reverse, length, map, Some, None, cond, rules}
-use Rattle.std.proofs.lemmas.List.{length-map}
+use Rattle.std.proofs.Common.{◌≡◌, ◌∷◌, sym, ◌∙◌, ap, subst, reverse, length, Some, None, cond, rules}
 use denote.Enum.Bare.{same_true, same_false}
 use Rattle.ppd_parse.specs.contracts.symbol.Kind.{the_type}
 use Rattle.ppd_parse.specs.declared.symbol.Symbol.{Symbol}
-use Rattle.ppd_parse.specs.declared.symbol.Symbol.TheVariants as S
 use Rattle.ppd_parse.specs.declared.symbol.Want.TheVariants.{Get}
 use Rattle.ppd_parse.specs.declared.growth.Step.TheVariants as M
-use Rattle.ppd_parse.specs.Grammar.{Shape, kind_of, base_in, is_operator}
+use Rattle.ppd_parse.specs.Grammar.{kind_of, base_in, is_operator}
 use Rattle.ppd_parse.specs.Choice.{expansion, stack_with}
-use Rattle.ppd_parse.specs.Machine.{Advanced, IsDead, IsTerminal, state_of, wanting}
+use Rattle.ppd_parse.specs.Machine.{Advanced, IsDead, state_of, wanting}
 use Rattle.ppd_parse.specs.Stack.{IsGood}
 use Rattle.ppd_parse.specs.Table.{shapes_of}
 use Rattle.ppd_parse.proofs.Moves.{exact_moves, exact_refused, operator_moves, operator_refused, unfold_moves, unfold_refused, inner_symbol}
@@ -22,10 +20,10 @@ returns-in_ok-leaf-in-Exact c =
     let new = c.leaf.new.self in
     let k = c.in-Exact.wanted in
     subst (λ (y : Symbol). Advanced c.args.token.now (M.Read c.args.at) (wanting (Get y c.args.at c.args.base) (state_of ws g)) (state_of ws new)) (sym c.in-Exact.is)
-      (exact_moves c.args.token.now k c.args.at c.args.base (reverse ws) (shapes_of g.nodes.items g.roots.items) (shapes_of new.nodes.items new.roots.items)
-        (same_true the_type (search rules) k c.kind_of-kind.result (sym c.if-eq.ensures) ∙ c.kind_of-kind.ensures)
-        c.in_ok-leaf-in-Exact.ensures
-        (subst (λ (y : Symbol). IsGood (Get y c.args.at c.args.base ∷ reverse ws)) c.in-Exact.is c.requires))
+    (exact_moves c.args.token.now k c.args.at c.args.base (reverse ws) (shapes_of g.nodes.items g.roots.items) (shapes_of new.nodes.items new.roots.items)
+    (same_true the_type (search rules) k c.kind_of-kind.result (sym c.if-eq.ensures) ∙ c.kind_of-kind.ensures)
+    c.in_ok-leaf-in-Exact.ensures
+    (subst (λ (y : Symbol). IsGood (Get y c.args.at c.args.base ∷ reverse ws)) c.in-Exact.is c.requires))
 
 pub returns-else-eq : goal.returns-else-eq
 returns-else-eq c =
@@ -33,8 +31,8 @@ returns-else-eq c =
     let g = c.args.grove.now in
     let k = c.in-Exact.wanted in
     subst (λ (y : Symbol). IsDead (kind_of c.args.token.now.kind) (wanting (Get y c.args.at c.args.base) (state_of ws g))) (sym c.in-Exact.is)
-      (exact_refused c.args.token.now k c.args.at c.args.base (reverse ws) (shapes_of g.nodes.items g.roots.items)
-        (λ e. same_false the_type k c.kind_of-kind.result (sym c.if-eq.ensures) (e ∙ sym c.kind_of-kind.ensures)))
+    (exact_refused c.args.token.now k c.args.at c.args.base (reverse ws) (shapes_of g.nodes.items g.roots.items)
+    (λ e. same_false the_type k c.kind_of-kind.result (sym c.if-eq.ensures) (e ∙ sym c.kind_of-kind.ensures)))
 
 pub returns-in_ok-leaf-in-Operator : goal.returns-in_ok-leaf-in-Operator
 returns-in_ok-leaf-in-Operator c =
@@ -42,18 +40,18 @@ returns-in_ok-leaf-in-Operator c =
     let g = c.args.grove.now in
     let new = c.leaf-then-is_operator.new.self in
     subst (λ (y : Symbol). Advanced c.args.token.now (M.Read c.args.at) (wanting (Get y c.args.at c.args.base) (state_of ws g)) (state_of ws new)) (sym c.in-Operator.is)
-      (operator_moves c.args.token.now c.in-Operator.level c.args.at c.args.base (reverse ws) (shapes_of g.nodes.items g.roots.items) (shapes_of new.nodes.items new.roots.items)
-        (sym (c.if-is_operator.ensures ∙ ap (is_operator c.in-Operator.level) c.kind_of-kind.ensures))
-        c.in_ok-leaf-in-Operator.ensures
-        (subst (λ (y : Symbol). IsGood (Get y c.args.at c.args.base ∷ reverse ws)) c.in-Operator.is c.requires))
+    (operator_moves c.args.token.now c.in-Operator.level c.args.at c.args.base (reverse ws) (shapes_of g.nodes.items g.roots.items) (shapes_of new.nodes.items new.roots.items)
+    (sym (c.if-is_operator.ensures ∙ ap (is_operator c.in-Operator.level) c.kind_of-kind.ensures))
+    c.in_ok-leaf-in-Operator.ensures
+    (subst (λ (y : Symbol). IsGood (Get y c.args.at c.args.base ∷ reverse ws)) c.in-Operator.is c.requires))
 
 pub returns-else-is_operator : goal.returns-else-is_operator
 returns-else-is_operator c =
     let ws = c.args.wants.now.items in
     let g = c.args.grove.now in
     subst (λ (y : Symbol). IsDead (kind_of c.args.token.now.kind) (wanting (Get y c.args.at c.args.base) (state_of ws g))) (sym c.in-Operator.is)
-      (operator_refused c.args.token.now c.in-Operator.level c.args.at c.args.base (reverse ws) (shapes_of g.nodes.items g.roots.items)
-        (sym (c.if-is_operator.ensures ∙ ap (is_operator c.in-Operator.level) c.kind_of-kind.ensures)))
+    (operator_refused c.args.token.now c.in-Operator.level c.args.at c.args.base (reverse ws) (shapes_of g.nodes.items g.roots.items)
+    (sym (c.if-is_operator.ensures ∙ ap (is_operator c.in-Operator.level) c.kind_of-kind.ensures)))
 
 pub returns-then-branch : goal.returns-then-branch
 returns-then-branch c =

@@ -1,9 +1,8 @@
-use Rattle.std.proofs.Common.{◌≡◌, List, [], ◌∷◌, ◌++◌, reverse, refl, sym, ◌∙◌, ap, subst, rules, arith}
+use Rattle.std.proofs.Common.{◌≡◌, List, [], ◌∷◌, reverse, ◌∙◌, ap, subst, rules, arith}
 use Rattle.std.proofs.lemmas.Grind.{common_steps}
-use Rattle.std.proofs.lemmas.List.{append-nil}
 use Rattle.ppd_parse.specs.declared.symbol.Want.{Want}
-use Rattle.ppd_parse.specs.declared.symbol.Want.TheVariants.{Get, Close}
-use Rattle.ppd_parse.specs.Machine.{State, state_of}
+use Rattle.ppd_parse.specs.declared.symbol.Want.TheVariants.{Close}
+use Rattle.ppd_parse.specs.Machine.{state_of}
 use Rattle.ppd_parse.specs.Stack.{IsOver}
 use Rattle.ppd_parse.specs.Table.{shapes_of}
 use Rattle.ppd_parse.proofs.Ends.{Ends, ends_close, ends_as, popped}
@@ -19,7 +18,7 @@ loop-want-preserved-in-Continue-1 c =
     record {
       over = subst IsOver stack c.loop-want.invariant.over;
       ends = ends_close a c.in-Close.rule c.in-Close.base ws (shapes_of g.nodes.items g.roots.items) (shapes_of new.nodes.items new.roots.items) c.in_ok-close-in-Close.ensures
-        (subst (λ (v : List Want). Ends a (record { wants = v; shapes = shapes_of g.nodes.items g.roots.items })) stack c.loop-want.invariant.ends);
+          (subst (λ (v : List Want). Ends a (record { wants = v; shapes = shapes_of g.nodes.items g.roots.items })) stack c.loop-want.invariant.ends);
     }
 
 pub loop-want-preserved : goal.loop-want-preserved

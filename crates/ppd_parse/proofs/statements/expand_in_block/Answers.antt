@@ -1,4 +1,3 @@
-use Rattle.std.proofs.Common.{◌≡◌, ap, None}
 use Rattle.ppd_parse.specs.declared.symbol.Symbol.TheVariants as S
 use Rattle.ppd_parse.proofs.Wanted.{same_symbol}
 use Rattle.ppd_parse.proofs.Groups.{no_statement}

@@ -1,5 +1,4 @@
-use Rattle.std.proofs.Common.{◌≡◌, ◌∙◌, ap, refl, reverse, length, take, drop, min, ◌-◌}
-use Rattle.ppd_parse.specs.Table.{shapes_of}
+use Rattle.std.proofs.Common.{◌≡◌, ◌∙◌, ap, refl, length, take, drop, min, ◌-◌}
 use Rattle.ppd_parse.proofs.Table.{node_added}
 use Rattle.ppd_parse.proofs.growth.Grove.close.Goals as goal
 

@@ -1,5 +1,4 @@
-use Rattle.std.proofs.Common.{◌≡◌, ◌∙◌, ap, refl, reverse, Some, rules}
-use Rattle.ppd_parse.specs.Table.{shapes_of}
+use Rattle.std.proofs.Common.{◌∙◌, ap, Some}
 use Rattle.ppd_parse.proofs.Table.{leaf_added}
 use Rattle.ppd_parse.proofs.growth.Grove.leaf.Goals as goal
 

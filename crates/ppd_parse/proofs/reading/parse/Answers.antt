@@ -1,14 +1,13 @@
-use Rattle.std.proofs.Common.{◌≡◌, ◌<◌, ◌≤◌, ◌+◌, List, refl, sym, ◌∙◌, ap, subst, length, reverse, ◌∷◌, [], ◌++◌, arith, Ok, Err}
+use Rattle.std.proofs.Common.{◌≡◌, List, ◌∙◌, ap, subst, reverse, ◌∷◌, [], ◌++◌, Ok, Err}
 use Rattle.ppd_lex.specs.declared.token.Token.{Token}
 use Rattle.ppd_parse.specs.declared.symbol.Symbol.TheVariants as S
 use Rattle.ppd_parse.specs.declared.symbol.Want.{Want}
 use Rattle.ppd_parse.specs.declared.symbol.Want.TheVariants.{Get}
 use Rattle.ppd_parse.specs.Grammar.{outside}
-use Rattle.ppd_parse.specs.Limits.{IsReadTo, Stepped, IsRefused, token_at}
+use Rattle.ppd_parse.specs.Limits.{Stepped, token_at}
 use Rattle.ppd_parse.specs.Machine.{state_of}
-use Rattle.ppd_parse.specs.Table.{shapes_of}
-use Rattle.ppd_parse.proofs.Whole.{start_read, read_next, read_refused, told, whole}
-use Rattle.ppd_parse.proofs.reading.grow.Goals as goal
+use Rattle.ppd_parse.proofs.Whole.{start_read, read_next, read_refused, told}
+use Rattle.ppd_parse.proofs.reading.parse.Goals as goal
 
 source : Want
 source = Get S.Source outside 0
