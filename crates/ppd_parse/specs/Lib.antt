@@ -1,0 +1,9 @@
+-- The grammar, the limits, and what the parser does at a token.
+pub mod Below
+pub mod Choice
+pub mod Grammar
+pub mod Limits
+pub mod Machine
+pub mod Rank
+pub mod Stack
+pub mod Table

@@ -1,0 +1,112 @@
+-- The limits of a program, and the first token that breaks the grammar or a limit.
+use Rattle.std.specs.Prelude.{◌≡◌, ◌<◌, ◌≤◌, ◌+◌, ℕ, Bool, true, List, [], ◌∷◌, ◌++◌, length, take, slice_index_or, if◌then◌else◌, Result, Ok, Err}
+use Rattle.ppd_ast.specs.declared.program.Place.{Place}
+use Rattle.ppd_lex.specs.declared.token.Token.{Token}
+use Rattle.ppd_lex.specs.declared.token.TokenKind.TheVariants as T
+use Rattle.ppd_parse.specs.declared.symbol.Kind.{Kind}
+use Rattle.ppd_parse.specs.declared.symbol.Kind.TheVariants as K
+use Rattle.ppd_parse.specs.declared.error.SyntaxError.{SyntaxError}
+use Rattle.ppd_parse.specs.declared.error.SyntaxError.TheVariants as E
+use Rattle.ppd_parse.specs.declared.symbol.At.{At}
+use Rattle.ppd_parse.specs.Grammar.{Shape, Marked, kind_at, kind_of, IsProgram, tokens_of}
+use Rattle.ppd_parse.specs.Machine.{State, Completed, Shifts, IsDead, Follows}
+use Rattle.ppd_parse.specs.Stack.{is_binary, IsGood, IsOver}
+
+-- in an expression: a unary or binary operator
+abbrev pub is_sign : Kind → Bool
+is_sign K.NotMark = true
+is_sign k = is_binary k
+
+-- the operators of the expression so far, which is no part of another
+abbrev pub count_with : ℕ → Marked → ℕ
+count_with n x = if x.at.inside then (if is_sign (kind_at x) then n + 1 else n) else 0
+
+abbrev pub count_after : ℕ → List Marked → ℕ
+count_after n [] = n
+count_after n (x ∷ xs) = count_after (count_with n x) xs
+
+-- after n operators of an expression, these tokens keep the limits: 64 open constructs and 256 operators
+abbrev pub KeepLimits : ℕ → List Marked → Type 0
+KeepLimits n [] = Unit {0}
+KeepLimits n (x ∷ xs) = (x.at.depth ≤ 64) × (count_with n x ≤ 256) × KeepLimits (count_with n x) xs
+
+abbrev pub no_token : Token
+no_token = record { kind = T.End; from = 0; to = 0; place = record { line = 1; column = 1 } }
+
+abbrev pub token_at : List Token → ℕ → Token
+token_at ts i = slice_index_or ts i no_token
+
+-- The tokens are a program within the limits, and this is its tree, as a list of one; they have no other tree and no other marks.
+pub record IsTree (ts : List Token) (trees : List Shape) : Type 0 where
+  pub marked : List Marked
+  pub tokens : tokens_of marked ≡ ts
+  pub program : IsProgram marked trees
+  pub limits : KeepLimits 0 marked
+  pub only : (qs : List Marked) (f : List Shape) → IsProgram qs f → tokens_of qs ≡ ts → (qs ≡ marked) × (f ≡ trees)
+
+-- Some program begins with the tokens before token i, which keep the limits, and none with the tokens through it.
+pub record IsUnexpected (ts : List Token) (place : Place) : Type 0 where
+  pub i : ℕ
+  pub within : i < length ts
+  pub is : place ≡ (token_at ts i).place
+  pub marked : List Marked
+  pub tokens : tokens_of marked ≡ take i ts
+  pub rest : List Marked
+  pub tree : List Shape
+  pub program : IsProgram (marked ++ rest) tree
+  pub limits : KeepLimits 0 marked
+  pub none : (qs : List Marked) (f : List Shape) (more : List Token) → IsProgram qs f → tokens_of qs ≡ take i ts ++ token_at ts i ∷ more → ⊥
+
+-- Some program begins with the tokens through token i; in each, the tokens before it keep the limits, and it breaks one.
+pub record IsPast (Breaks : ℕ → Marked → Type 0) (ts : List Token) (place : Place) : Type 0 where
+  pub i : ℕ
+  pub within : i < length ts
+  pub is : place ≡ (token_at ts i).place
+  pub marked : List Marked
+  pub tokens : tokens_of marked ≡ take i ts
+  pub last : Marked
+  pub token : last.token ≡ token_at ts i
+  pub rest : List Marked
+  pub tree : List Shape
+  pub program : IsProgram (marked ++ last ∷ rest) tree
+  pub limits : KeepLimits 0 marked
+  pub breaks : Breaks (count_after 0 marked) last
+  pub only : (qs : List Marked) (f : List Shape) (more : List Token) → IsProgram qs f → tokens_of qs ≡ take i ts ++ token_at ts i ∷ more → (others : List Marked) × (qs ≡ marked ++ last ∷ others)
+
+-- the token makes 65 constructs open
+abbrev pub BreaksDepth : ℕ → Marked → Type 0
+BreaksDepth n x = 65 ≤ x.at.depth
+
+-- the token is the 257th operator of its expression, and does not make 65 constructs open
+abbrev pub BreaksWidth : ℕ → Marked → Type 0
+BreaksWidth n x = (x.at.depth ≤ 64) × (257 ≤ count_with n x)
+
+-- why the tokens have no tree; want of memory may come at any
+abbrev pub IsRefused : List Token → SyntaxError → Type 0
+IsRefused ts (E.Unexpected place) = IsUnexpected ts place
+IsRefused ts (E.Deep place) = IsPast BreaksDepth ts place
+IsRefused ts (E.Wide place) = IsPast BreaksWidth ts place
+IsRefused ts E.Memory = Unit {0}
+
+-- what one token comes to, after n operators of an expression
+abbrev pub Stepped : ℕ → Token → Result ℕ SyntaxError → State → State → Type 0
+Stepped n t (Ok m) a b = (at : At) × Shifts (record { token = t; at = at }) a b × IsGood b.wants × (kind_of t.kind ≡ K.End → IsOver b.wants) × (at.depth ≤ 64) × (m ≡ count_with n (record { token = t; at = at })) × (m ≤ 256)
+Stepped n t (Err (E.Unexpected place)) a b = (place ≡ t.place) × IsDead (kind_of t.kind) a
+Stepped n t (Err (E.Deep place)) a b = (place ≡ t.place) × ((at : At) × Shifts (record { token = t; at = at }) a b × IsGood b.wants × (65 ≤ at.depth))
+Stepped n t (Err (E.Wide place)) a b = (place ≡ t.place) × ((at : At) × Shifts (record { token = t; at = at }) a b × IsGood b.wants × (at.depth ≤ 64) × (257 ≤ count_with n (record { token = t; at = at })))
+Stepped n t (Err E.Memory) a b = Unit {0}
+
+-- i tokens are read: the state that they lead to, and their marks, which keep the limits
+pub record IsReadTo (ts : List Token) (i n : ℕ) (a : State) : Type 0 where
+  pub marked : List Marked
+  pub follows : Follows (take i ts) marked a
+  pub limits : KeepLimits 0 marked
+  pub count : n ≡ count_after 0 marked
+  pub few : n ≤ 256
+  pub good : IsGood a.wants
+  pub over : i ≡ length ts → IsOver a.wants
+
+-- where the tokens end, these trees and no others come out
+pub record EndsAs (a : State) (f : List Shape) : Type 0 where
+  pub to : (g : List Shape) → Completed a [] g → g ≡ f
+  pub from : Completed a [] f

@@ -1,0 +1,69 @@
+-- What the parser's stack still wants, and what one token does to it.
+use Rattle.std.specs.Prelude.{◌≡◌, List, [], ◌∷◌, ◌++◌, reverse, Option, Some, None, ◌<◌}
+use Rattle.ppd_lex.specs.declared.token.Token.{Token}
+use Rattle.ppd_parse.specs.declared.symbol.Kind.{Kind}
+use Rattle.ppd_parse.specs.declared.symbol.Kind.TheVariants as K
+use Rattle.ppd_parse.specs.declared.symbol.Symbol.{Symbol}
+use Rattle.ppd_parse.specs.declared.symbol.Symbol.TheVariants as S
+use Rattle.ppd_parse.specs.declared.symbol.At.{At}
+use Rattle.ppd_parse.specs.declared.symbol.Want.{Want}
+use Rattle.ppd_parse.specs.declared.growth.Grove.{Grove}
+use Rattle.ppd_parse.specs.declared.growth.Step.{Step}
+use Rattle.ppd_parse.specs.declared.growth.Step.TheVariants as M
+use Rattle.ppd_parse.specs.Rank.{rank}
+use Rattle.ppd_parse.specs.Stack.{IsGood, IsOver}
+use Rattle.ppd_parse.specs.Table.{shapes_of}
+use Rattle.ppd_parse.specs.Grammar.{Shape, Marked, kind_at, kind_of, ReadsAll, IsProgram, tokens_of}
+
+-- what is still wanted, and the trees so far
+pub record State : Type 0 where
+  pub wants : List Want
+  pub shapes : List Shape
+
+-- the tokens are what the state wants, and the trees come out
+abbrev pub Completed : State → List Marked → List Shape → Type 0
+Completed a ts f = ReadsAll a.wants a.shapes ts f []
+
+-- from a token of kind k on, the same programs complete both
+pub record SameAt (k : Kind) (a b : State) : Type 0 where
+  pub to : (x : Marked) (ts : List Marked) (f : List Shape) → kind_at x ≡ k → Completed a (x ∷ ts) f → Completed b (x ∷ ts) f
+  pub from : (x : Marked) (ts : List Marked) (f : List Shape) → kind_at x ≡ k → Completed b (x ∷ ts) f → Completed a (x ∷ ts) f
+
+-- from a token of kind k on, nothing completes it
+abbrev pub IsDead : Kind → State → Type 0
+IsDead k a = (x : Marked) (ts : List Marked) (f : List Shape) → kind_at x ≡ k → Completed a (x ∷ ts) f → ⊥
+
+-- the token was read, so marked
+pub record Shifts (z : Marked) (a b : State) : Type 0 where
+  pub to : (x : Marked) (ts : List Marked) (f : List Shape) → x.token ≡ z.token → Completed a (x ∷ ts) f → (x ≡ z) × Completed b ts f
+  pub from : (ts : List Marked) (f : List Shape) → Completed b ts f → Completed a (z ∷ ts) f
+
+-- the tokens so marked lead to the state: what completes it completes a program, and the tokens have no other marks
+pub record Follows (ts : List Token) (zs : List Marked) (a : State) : Type 0 where
+  pub tokens : tokens_of zs ≡ ts
+  pub to : (qs : List Marked) (f : List Shape) (more : List Token) → IsProgram qs f → tokens_of qs ≡ ts ++ more → (rest : List Marked) × (qs ≡ zs ++ rest) × Completed a rest f
+  pub from : (rest : List Marked) (f : List Shape) → Completed a rest f → IsProgram (zs ++ rest) f
+
+abbrev pub wanting : Want → State → State
+wanting w a = record { wants = w ∷ a.wants; shapes = a.shapes }
+
+-- the state of the parser: the wants with the next one last, and the trees of the nodes without a parent
+abbrev pub state_of : List Want → Grove → State
+state_of items grove = record { wants = reverse items; shapes = shapes_of grove.nodes.items grove.roots.items }
+
+-- what came of a want on top, at this token
+abbrev pub Advanced : Token → Step → State → State → Type 0
+Advanced token M.Moved a b = SameAt (kind_of token.kind) a b × IsGood b.wants × (rank b.wants < rank a.wants)
+Advanced token (M.Read at) a b = Shifts (record { token = token; at = at }) a b × IsGood b.wants × (kind_of token.kind ≡ K.End → IsOver b.wants)
+Advanced token M.Refused a b = IsDead (kind_of token.kind) a
+
+-- the token was read with this mark, or nothing goes on with it
+abbrev pub Taken : Token → Option At → State → State → Type 0
+Taken token (Some at) a b = Shifts (record { token = token; at = at }) a b × IsGood b.wants × (kind_of token.kind ≡ K.End → IsOver b.wants)
+Taken token None a b = IsDead (kind_of token.kind) a
+
+-- symbols that are one token
+abbrev pub IsTerminal : Symbol → Type 0
+IsTerminal (S.Exact k) = Unit {0}
+IsTerminal (S.Operator l) = Unit {0}
+IsTerminal _ = ⊥

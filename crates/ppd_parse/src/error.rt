@@ -1,0 +1,34 @@
+ghost use Rattle.std.specs.Prelude.{◌≡◌};
+ghost use Rattle.ppd_parse.specs.declared.error.SyntaxError.TheVariants.{Memory};
+
+use ppd_ast::Place;
+use std::alloc::{AllocError, AllocFailed};
+
+/// Why tokens are no program within the limits: the first token that breaks the grammar or a limit.
+#[derive(Clone, Copy, PartialEq, Eq, Debug, Drop)]
+pub enum SyntaxError {
+    /// No program begins with the tokens through this one.
+    Unexpected(Place),
+    /// The token makes 65 constructs open.
+    Deep(Place),
+    /// The token is the 257th operator of one expression that is no part of another.
+    Wide(Place),
+    /// Want of memory.
+    Memory,
+}
+
+impl From<AllocError> for SyntaxError {
+    ghost from_gives = { λ _ e. e ≡ Memory };
+
+    fn from(_error: AllocError) -> Self {
+        SyntaxError::Memory
+    }
+}
+
+impl<T: Drop> From<AllocFailed<T>> for SyntaxError {
+    ghost from_gives = { λ _ e. e ≡ Memory };
+
+    fn from(_error: AllocFailed<T>) -> Self {
+        SyntaxError::Memory
+    }
+}

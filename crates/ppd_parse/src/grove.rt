@@ -1,0 +1,83 @@
+// The trees that the parser has read, as nodes in the order in which they were complete.
+ghost use Rattle.std.specs.Prelude.{◌≡◌, ◌++◌, ◌∷◌, [], IfOk, OnOk};
+ghost use Rattle.ppd_parse.specs.Grammar.{leaf, close};
+ghost use Rattle.ppd_parse.specs.Table.{shapes_of};
+
+use crate::growth::{Grove, Growth};
+use crate::symbol::Rule;
+use ppd_lex::{Token, TokenKind};
+use std::alloc::{AllocError, AllocFailed, Global};
+
+// A copy of what a token is.
+fn copy_kind(kind: &TokenKind) -> Result<TokenKind, AllocError>
+    ensures { IfOk result (λ copy. copy ≡ kind.now) }
+{
+    match kind {
+        TokenKind::Name(text) => match text.clone() {
+            Ok(copy) => Ok(TokenKind::Name(copy)),
+            Err(error) => Err(error),
+        },
+        TokenKind::Number(value) => Ok(TokenKind::Number(*value)),
+        TokenKind::Word(number) => Ok(TokenKind::Word(*number)),
+        TokenKind::Mark(number) => Ok(TokenKind::Mark(*number)),
+        TokenKind::End => Ok(TokenKind::End),
+    }
+}
+
+// A copy of a token.
+fn copy(token: &Token) -> Result<Token, AllocError>
+    ensures { IfOk result (λ copy. copy ≡ token.now) }
+{
+    let kind = copy_kind(&token.kind)?;
+    Ok(Token {
+        kind,
+        from: token.from,
+        to: token.to,
+        place: token.place,
+    })
+}
+
+impl Grove {
+    pub fn new(alloc: Global) -> Grove
+        ensures { shapes_of result.nodes.items result.roots.items ≡ [] }
+    {
+        Grove {
+            alloc,
+            nodes: Vec::new(alloc),
+            roots: Vec::new(alloc),
+        }
+    }
+
+    // Adds a leaf.
+    pub fn leaf(&mut self, token: &Token) -> Result<(), AllocError>
+        ensures { OnOk result (shapes_of self.new.nodes.items self.new.roots.items ≡ shapes_of self.old.nodes.items self.old.roots.items ++ leaf token.now ∷ []) }
+    {
+        let id = self.nodes.len();
+        let children = Vec::new(self.alloc);
+        let token = copy(token)?;
+        self.nodes.push(Growth {
+            rule: Rule::Leaf,
+            token: Some(token),
+            children,
+        })?;
+        self.roots.push(id)?;
+        Ok(())
+    }
+
+    // Makes one node of the trees from the base on.
+    pub fn close(&mut self, rule: Rule, base: usize) -> Result<(), AllocError>
+        ensures { OnOk result (shapes_of self.new.nodes.items self.new.roots.items ≡ close rule base (shapes_of self.old.nodes.items self.old.roots.items)) }
+    {
+        let base = base.min(self.roots.len());
+        let id = self.nodes.len();
+        let children = Vec::from_slice(self.alloc, &self.roots[base..])?;
+        self.nodes.push(Growth {
+            rule,
+            token: None,
+            children,
+        })?;
+        self.roots.truncate(base);
+        self.roots.push(id)?;
+        Ok(())
+    }
+}

@@ -1,0 +1,22 @@
+//! The tree of a list of tokens, or the first token that breaks the grammar or a limit.
+#![tactic(auto)]
+
+mod declarations;
+mod error;
+mod expressions;
+mod grove;
+mod growth;
+mod kind;
+mod machine;
+mod reading;
+mod statements;
+mod symbol;
+mod want;
+
+pub use error::SyntaxError;
+pub use growth::{Grove, Growth};
+pub use reading::parse;
+pub use symbol::Rule;
+
+#[cfg(test)]
+mod tests;

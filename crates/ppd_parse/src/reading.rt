@@ -1,0 +1,126 @@
+// The parser's way through the tokens.
+ghost use Rattle.std.specs.Prelude.{◌≡◌, ◌≤◌, ◌+◌, ◌^◌, ℕ, length, IfOk, IfErr, OnOk, reverse};
+ghost use Rattle.ppd_lex.specs.Formed.{EndOnce};
+ghost use Rattle.ppd_parse.specs.Grammar.{Marked};
+ghost use Rattle.ppd_parse.specs.Limits.{count_with, is_sign, EndsAs, IsRefused, IsTree, Stepped};
+ghost use Rattle.ppd_parse.specs.Machine.{state_of};
+ghost use Rattle.ppd_parse.specs.Stack.{IsGood, IsOver};
+ghost use Rattle.ppd_parse.specs.Table.{shapes_of};
+
+use crate::error::SyntaxError;
+use crate::growth::Grove;
+use crate::kind::{is_operator, kind_of};
+use crate::machine::take;
+use crate::symbol::{At, Kind, Level, Symbol, Want};
+use ppd_lex::Token;
+use std::alloc::{AllocError, Global};
+
+// The most constructs open at a token, and the most operators of an expression.
+const MOST_OPEN: u8 = 64;
+
+const MOST_OPERATORS: u16 = 256;
+
+// Whether the kind is an operator where it stands in an expression.
+fn is_sign(kind: Kind) -> bool
+    ensures { result ≡ is_sign kind }
+{
+    match kind {
+        Kind::NotMark => true,
+        _ => {
+            is_operator(Level::Product, kind)
+                || is_operator(Level::Sum, kind)
+                || is_operator(Level::Compare, kind)
+                || is_operator(Level::Equal, kind)
+                || is_operator(Level::And, kind)
+                || is_operator(Level::Or, kind)
+        }
+    }
+}
+
+// The operators of the expression so far, with a token that stands there.
+fn count_with(count: u16, token: &Token, at: At) -> u16
+    requires { count ≤ 256 }
+    ensures { result ≡ count_with count (record { token = token.now; at = at }) }
+{
+    if at.inside {
+        if is_sign(kind_of(&token.kind)) {
+            count + 1
+        } else {
+            count
+        }
+    } else {
+        0
+    }
+}
+
+// Reads a token after some operators of an expression, and answers how many there are then.
+fn step(
+    wants: &mut Vec<Want>,
+    grove: &mut Grove,
+    count: u16,
+    token: &Token,
+) -> Result<u16, SyntaxError>
+    requires good { IsGood (reverse wants.old.items) }
+    requires few { count ≤ 256 }
+    ensures { Stepped count token.now result (state_of wants.old.items grove.old) (state_of wants.new.items grove.new) }
+{
+    match take(wants, grove, token) {
+        Err(_) => Err(SyntaxError::Memory),
+        Ok(None) => Err(SyntaxError::Unexpected(token.place)),
+        Ok(Some(at)) => {
+            let count = count_with(count, token, at);
+            if at.depth > MOST_OPEN {
+                Err(SyntaxError::Deep(token.place))
+            } else if count > MOST_OPERATORS {
+                Err(SyntaxError::Wide(token.place))
+            } else {
+                Ok(count)
+            }
+        }
+    }
+}
+
+// Closes the nodes that are complete where the tokens end.
+fn finish(wants: &mut Vec<Want>, grove: &mut Grove) -> Result<(), AllocError>
+    requires { IsOver (reverse wants.old.items) }
+    ensures { OnOk result (EndsAs (state_of wants.old.items grove.old) (shapes_of grove.new.nodes.items grove.new.roots.items)) }
+{
+    while let Some(want) = wants.pop() {
+        match want {
+            Want::Close(rule, base) => grove.close(rule, base)?,
+            Want::Get(_, _, _) => {}
+        }
+    }
+    Ok(())
+}
+
+/// The tree of the tokens of a source: `roots` has one number, its root's.
+///
+/// The tokens end with `End`, which stands nowhere else. The answer is a tree exactly where the
+/// tokens are a program of the grammar with at most 64 constructs open at each token and at most
+/// 256 operators in each expression that is no part of another. The first token that breaks one of
+/// these is answered: `Unexpected` where some program begins with the tokens before it and none
+/// with the tokens through it, else `Deep` where it makes 65 constructs open, else `Wide` where it
+/// is the 257th operator. `Memory` is want of memory.
+pub fn parse(alloc: Global, tokens: &[Token]) -> Result<Grove, SyntaxError>
+    requires ends { EndOnce tokens.now }
+    ensures tree { IfOk result (λ grove. IsTree tokens.now (shapes_of grove.nodes.items grove.roots.items)) }
+    ensures refused { IfErr result (λ error. IsRefused tokens.now error) }
+{
+    let mut grove = Grove::new(alloc);
+    let mut wants = Vec::new(alloc);
+    let outside = At {
+        depth: 0,
+        inside: false,
+    };
+    wants.push(Want::Get(Symbol::Source, outside, 0))?;
+    let mut count: u16 = 0;
+    for token in tokens {
+        match step(&mut wants, &mut grove, count, token) {
+            Ok(next) => count = next,
+            Err(error) => return Err(error),
+        }
+    }
+    finish(&mut wants, &mut grove)?;
+    Ok(grove)
+}
