@@ -63,14 +63,20 @@ answers_as source status h k t u e f a =
     let Q : List ℕ → Type 0 = λ w. Answers source h status w in
     subst Q (sym f) (subst P (sym e) a)
 
-pub refused_by_token : (source h text : List ℕ) (error : LexError) → h ≡ [] → text ≡ refused_lex error → error ≢ Memory → IsRefused source error → Answers source h 1 text
-refused_by_token source h text error e f real fault = answers_as source 1 h [] text (refused_lex error) e f (refusal (refused_lex error) (by_token error real fault))
+-- a refusal, as it was answered
+refused_as : (source h t line : List ℕ) (status : ℕ) → h ≡ [] → status ≡ 1 → t ≡ line → Refuses source line → Answers source h status t
+refused_as source h t line status e f g r =
+    let P : ℕ → Type 0 = λ s. Answers source h s t in
+    subst P (sym f) (answers_as source 1 h [] t line e g (refusal line r))
 
-pub refused_by_syntax : (source h text : List ℕ) (tokens : List Token) (error : SyntaxError) → h ≡ [] → text ≡ refused_syntax error → IsTokens source tokens → error ≢ syntax.Memory → IsSyntaxRefused tokens error → Answers source h 1 text
-refused_by_syntax source h text tokens error e f lexed real fault = answers_as source 1 h [] text (refused_syntax error) e f (refusal (refused_syntax error) (by_syntax tokens error lexed real fault))
+pub refused_by_token : (source h text : List ℕ) (status : ℕ) (error : LexError) → h ≡ [] → status ≡ 1 → text ≡ refused_lex error → error ≢ Memory → IsRefused source error → Answers source h status text
+refused_by_token source h text status error e f g real fault = refused_as source h text (refused_lex error) status e f g (by_token error real fault)
 
-pub refused_by_form : (source h text : List ℕ) (tokens : List Token) (trees : List Shape) → h ≡ [] → text ≡ refused_form → IsTokens source tokens → IsTree tokens trees → ((form : Form) → IsForm tokens form → ⊥) → Answers source h 1 text
-refused_by_form source h text tokens trees e f lexed parsed no_form = answers_as source 1 h [] text refused_form e f (refusal refused_form (by_form tokens trees lexed parsed no_form))
+pub refused_by_syntax : (source h text : List ℕ) (status : ℕ) (tokens : List Token) (error : SyntaxError) → h ≡ [] → status ≡ 1 → text ≡ refused_syntax error → IsTokens source tokens → error ≢ syntax.Memory → IsSyntaxRefused tokens error → Answers source h status text
+refused_by_syntax source h text status tokens error e f g lexed real fault = refused_as source h text (refused_syntax error) status e f g (by_syntax tokens error lexed real fault)
+
+pub refused_by_form : (source h text : List ℕ) (status : ℕ) (tokens : List Token) (trees : List Shape) → h ≡ [] → status ≡ 1 → text ≡ refused_form → IsTokens source tokens → IsTree tokens trees → ((form : Form) → IsForm tokens form → ⊥) → Answers source h status text
+refused_by_form source h text status tokens trees e f g lexed parsed no_form = refused_as source h text refused_form status e f g (by_form tokens trees lexed parsed no_form)
 
 pub ran_source : (source h text : List ℕ) (tokens : List Token) (trees : List Shape) (form : Form) → IsTokens source tokens → IsTree tokens trees → IsForm tokens form → IsWholeRun form h → text ≡ summary_of_run form h → Answers source h 0 text
 ran_source source h text tokens trees form lexed parsed formed whole e =

@@ -41,7 +41,7 @@ fn rows_are_written_byte_for_byte(rt: HostRuntime) -> Result<(), Fail> {
     let alloc = rt.alloc();
     let usage = "usage: ppd flow|run|debug|show|drill\n";
     let flow: &[&str] = &["flow", "row.c"];
-    let rows: [(&[&str], &str, u8, &str); 24] = [
+    let rows: [(&[&str], &str, u8, &str); 26] = [
         (flow, SMALLEST, 0, SUMMARY),
         (
             flow,
@@ -91,12 +91,17 @@ fn rows_are_written_byte_for_byte(rt: HostRuntime) -> Result<(), Fail> {
             1,
             "refused form\n",
         ),
-        (flow, "shared int x process a { }", 1, "refused form\n"),
+        (
+            flow,
+            "shared int x process a { }",
+            1,
+            "refused syntax 1 Unexpected 1:14\n",
+        ),
         (
             flow,
             "shared int x; process a { x = x + ; }",
             1,
-            "refused form\n",
+            "refused syntax 1 Unexpected 1:35\n",
         ),
         (
             flow,
@@ -109,6 +114,18 @@ fn rows_are_written_byte_for_byte(rt: HostRuntime) -> Result<(), Fail> {
             "// Two shared cells.\nshared int x, y; /* both start\n                    at 0 */\nprocess main {\n  x = 4;     // one step\n  y = x + x; /* two reads and a write */\n  print(y);\n  print(x /* read again */ + 1);\n}\n// nothing after it\n",
             0,
             "process main ended steps 9\nprint main 8\nprint main 5\nraces 0\n",
+        ),
+        (
+            flow,
+            "process a { 1; }",
+            1,
+            "refused syntax 1 Unexpected 1:13\n",
+        ),
+        (
+            flow,
+            "process a {{{{{{{{{{{{{{{{{{{{{{{{{{{{{{{{{{{{{{{{{{{{{{{{{{{{{{{{{{{{{{{{{",
+            1,
+            "refused syntax 2 Deep 1:75\n",
         ),
         (&["flow"], SMALLEST, 2, usage),
         (&["help"], SMALLEST, 2, usage),
