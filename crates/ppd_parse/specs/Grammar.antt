@@ -1,4 +1,12 @@
--- The grammar: which lists of tokens are which trees.
+-- The grammar: which lists of tokens are which trees. It knows no limits.
+--
+-- A production is a list of parts: a symbol Here, Deeper (in one more open construct) or Inside (an
+-- expression), or a Wrap, which makes one node of its construct's trees so far. Lists of the language
+-- are symbols that end with what closes them, optional parts symbols of their own; neither makes a
+-- node. Where a call, a place, a change and the assignment of a value begin with the same tokens,
+-- these are read first, and the rest (StmtRest, PlaceRest, Assigned, AssignedRest, NamedRest) wraps
+-- them as what they turned out to be. A binary operator wraps what its level has read so far as its
+-- left operand, so every level groups to the left.
 use Rattle.std.specs.Prelude.{◌≡◌, ◌≢◌, ◌+◌, ◌-◌, ℕ, Bool, true, false, List, [], ◌∷◌, ◌++◌, map, length, take, drop, slice_index_or, nat_lt, if◌then◌else◌}
 use Rattle.ppd_lex.specs.declared.token.Token.{Token}
 use Rattle.ppd_lex.specs.declared.token.TokenKind.{TokenKind}
@@ -74,7 +82,7 @@ is_operator L.And K.AndMark = true
 is_operator L.Or K.OrMark = true
 is_operator _ _ = false
 
--- the ways in which a symbol is made up
+-- the ways in which a symbol is made up; those of one symbol stand together
 pub data Production : Symbol → Type 0 where
   source : Production S.Source
   items_end : Production S.Items
@@ -309,7 +317,8 @@ parts (operand l) = operand_parts l
 parts (chain_end l) = []
 parts (chain_more l) = P.Here (S.Operator l) ∷ P.Here (S.Operand l) ∷ P.Wrap R.Binary ∷ P.Here (S.Chain l) ∷ []
 
--- an optional part is left out only where the next token does not begin it; a name before a parenthesis is a call
+-- An optional part is left out only where the next token does not begin it: so an else belongs to the nearest open if. A name
+-- before a parenthesis is a call, and no expression.
 abbrev pub Stands : {s : Symbol} → Production s → Kind → Type 0
 Stands no_start k = (k ≢ K.AssignMark) × (k ≢ K.LeftBracket)
 Stands no_sem_start k = (k ≢ K.AssignMark)

@@ -2,6 +2,7 @@
 pub mod Below
 pub mod Choice
 pub mod Grammar
+pub mod Leaves
 pub mod Limits
 pub mod Machine
 pub mod Rank
