@@ -65,7 +65,8 @@ fn bodies(alloc: Global) -> Result<Seq<Body>, AllocError>
     Ok(Seq::from_vec(items))
 }
 
-/// `shared int x; process a { x = 2; print(x + 3); }`
+/// The process of `shared int x; process a { x = 2; print(x + 3); }`. The shared cell is not in the
+/// table, since the test gives the answers of its reads itself.
 fn printing(alloc: Global) -> Result<Program, AllocError>
     ensures runnable { IfOk result (λ program. IsRunnable program) }
     ensures functions { IfOk result (λ program. program.functions ≡ 0) }
