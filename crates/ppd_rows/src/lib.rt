@@ -1,0 +1,7 @@
+//! Worked programs as tables, too large for the tests of the crate that they are of.
+#![tactic(auto)]
+
+#[cfg(test)]
+mod buffer;
+#[cfg(test)]
+mod tests;
