@@ -4,4 +4,6 @@
 #[cfg(test)]
 mod buffer;
 #[cfg(test)]
+mod limits;
+#[cfg(test)]
 mod tests;

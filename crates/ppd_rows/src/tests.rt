@@ -1,5 +1,6 @@
 use crate::buffer::{plan, program};
-use ppd_ast::{Chan, Policy, Seq};
+use crate::limits::{elements, loops, signs};
+use ppd_ast::{Chan, Kind, Place, Policy, Sem, Seq, Stmt};
 use std::process::Abort;
 use std::test::Fail;
 
@@ -37,6 +38,60 @@ fn the_bounded_buffer_is_valid(rt: HostRuntime) -> Result<(), Fail> {
     program.chans = Seq::new(alloc);
     // a start value too many
     assert!(rt; program.starts.push(0).is_ok());
+    assert!(rt; !program.valid());
+    Ok(())
+}
+
+// Operators, nodes and nesting at their limits and one past them.
+#[test]
+fn limits_of_expressions_and_nesting(rt: HostRuntime) -> Result<(), Fail> {
+    let alloc = rt.alloc();
+    for (count, valid) in [(0, true), (513, true), (514, false)] {
+        assert_eq!(rt; signs(alloc, count)?.valid(), valid, "at {count} signs");
+    }
+    for (nodes, valid) in [(1, true), (1024, true), (1025, false)] {
+        assert_eq!(rt; elements(alloc, nodes)?.valid(), valid, "at {nodes} nodes");
+    }
+    for (count, valid) in [(1, true), (63, true), (64, false)] {
+        assert_eq!(rt; loops(alloc, count)?.valid(), valid, "at {count} loops");
+    }
+    Ok(())
+}
+
+// A semaphore's start, a name's length and the arguments of a call.
+#[test]
+fn limits_of_objects_and_calls(rt: HostRuntime) -> Result<(), Fail> {
+    let alloc = rt.alloc();
+    let mut program = program(alloc)?;
+    for (bytes, start, valid) in [
+        (1, 65_535, true),
+        (1, 65_536, false),
+        (64, 0, true),
+        (65, 0, false),
+    ] {
+        let name = Seq::from_vec(vec![in alloc; b'a'; bytes]?);
+        program.sems.set(2, Sem { name, start });
+        assert_eq!(rt; program.valid(), valid, "at {bytes} bytes and {start}");
+    }
+    let name = Seq::new(alloc);
+    program.sems.set(2, Sem { name, start: 1 });
+    assert!(rt; program.valid());
+    // `put` without its argument, whose expression is then used nowhere
+    let place = Place { line: 1, column: 1 };
+    let put = Kind::Call {
+        function: 0,
+        args: Seq::new(alloc),
+        into: None,
+    };
+    program.stmts.set(
+        20,
+        Stmt {
+            place,
+            body: 2,
+            parent: Some(16),
+            kind: put,
+        },
+    );
     assert!(rt; !program.valid());
     Ok(())
 }

@@ -1,0 +1,107 @@
+//! Programs of one process at the edges of what validity allows.
+
+use ppd_ast::{Body, Expr, Ids, Kind, Place, Program, Seq, Stmt, Var};
+use std::alloc::{AllocError, Global};
+
+fn ids(alloc: Global, items: &[u32]) -> Result<Ids, AllocError> {
+    Ok(Seq::from_vec(Vec::from_slice(alloc, items)?))
+}
+
+fn stmt(parent: Option<u32>, kind: Kind) -> Stmt {
+    Stmt {
+        place: Place { line: 1, column: 1 },
+        body: 0,
+        parent,
+        kind,
+    }
+}
+
+/// A process of these statements, over a shared scalar and a shared array of one cell.
+fn program(
+    alloc: Global,
+    exprs: Vec<Expr>,
+    stmts: Vec<Stmt>,
+    top: &[u32],
+) -> Result<Program, AllocError> {
+    let end = stmts.len().min(4096) as u32;
+    let mut bodies = Vec::new(alloc);
+    bodies.push(Body {
+        name: Seq::new(alloc),
+        process: true,
+        params: 0,
+        value: false,
+        cells: 0,
+        locals: Seq::new(alloc),
+        top: ids(alloc, top)?,
+        first: 0,
+        end,
+    })?;
+    let mut shared = Vec::new(alloc);
+    for (base, len) in [(0, None), (1, Some(1))] {
+        shared.push(Var {
+            name: Seq::new(alloc),
+            base,
+            len,
+        })?;
+    }
+    Ok(Program {
+        exprs: Seq::from_vec(exprs),
+        stmts: Seq::from_vec(stmts),
+        bodies: Seq::from_vec(bodies),
+        functions: 0,
+        shared: Seq::from_vec(shared),
+        starts: Seq::from_vec(vec![in alloc; 0; 2]?),
+        sems: Seq::new(alloc),
+        chans: Seq::new(alloc),
+    })
+}
+
+/// A process that prints the last expression.
+fn printing(alloc: Global, exprs: Vec<Expr>) -> Result<Program, AllocError> {
+    let last = exprs.len().min(4096).saturating_sub(1) as u32;
+    let mut stmts = Vec::new(alloc);
+    stmts.push(stmt(None, Kind::Print(last)))?;
+    stmts.push(stmt(None, Kind::End))?;
+    program(alloc, exprs, stmts, &[0, 1])
+}
+
+/// A print of the shared scalar under so many signs.
+pub fn signs(alloc: Global, count: u16) -> Result<Program, AllocError> {
+    let mut exprs = Vec::new(alloc);
+    exprs.push(Expr::Shared(0))?;
+    for number in 0..count {
+        exprs.push(Expr::Neg(number as u32))?;
+    }
+    printing(alloc, exprs)
+}
+
+/// A print of an element whose index is an element, and so on, so many nodes deep.
+pub fn elements(alloc: Global, nodes: u16) -> Result<Program, AllocError> {
+    let mut exprs = Vec::new(alloc);
+    exprs.push(Expr::Shared(0))?;
+    for number in 1..nodes {
+        exprs.push(Expr::SharedAt {
+            base: 1,
+            len: 1,
+            at: number as u32 - 1,
+        })?;
+    }
+    printing(alloc, exprs)
+}
+
+/// A print inside so many loops.
+pub fn loops(alloc: Global, count: u8) -> Result<Program, AllocError> {
+    let count = count as u32;
+    let mut exprs = Vec::new(alloc);
+    let mut stmts = Vec::new(alloc);
+    let mut parent = None;
+    for number in 0..count {
+        exprs.push(Expr::Const(1))?;
+        stmts.push(stmt(parent, Kind::While(number, ids(alloc, &[number + 1])?)))?;
+        parent = Some(number);
+    }
+    exprs.push(Expr::Const(1))?;
+    stmts.push(stmt(parent, Kind::Print(count)))?;
+    stmts.push(stmt(None, Kind::End))?;
+    program(alloc, exprs, stmts, &[0, count + 1])
+}
