@@ -231,7 +231,7 @@ fn limits_hold_at_their_edges(rt: HostRuntime) -> Result<(), Fail> {
     let alloc = rt.alloc();
     let flow: &[&str] = &["flow", "row.c"];
     let mut long = Vec::from_slice(alloc, b"process p { }")?;
-    while long.len() < 262_144 {
+    for _ in long.len()..262_144 {
         long.push(b' ')?;
     }
     assert_eq!(rt; call(alloc, flow, &long, &[], 99)?.0, 0);
@@ -246,10 +246,7 @@ fn limits_hold_at_their_edges(rt: HostRuntime) -> Result<(), Fail> {
     assert_eq!(rt; call(alloc, flow, &declared(alloc, 1025)?, &[], 99)?.0, 1);
     let (status, written, schedule) = call(alloc, flow, &printing(alloc, 4095)?, &[], 99_999)?;
     assert_eq!(rt; status, 0);
-    assert_eq!(rt;
-        &written[..29],
-        b"process p ended steps 4096\npr".as_slice()
-    );
+    assert!(rt; written.starts_with(b"process p ended steps 4096\npr"));
     assert_eq!(rt; schedule.len(), 4096);
     assert_eq!(rt;
         call(alloc, flow, &printing(alloc, 4096)?, &[], 99_999)?.0,
@@ -258,9 +255,9 @@ fn limits_hold_at_their_edges(rt: HostRuntime) -> Result<(), Fail> {
     Ok(())
 }
 
-// The parts of the call, one by one.
+// The parts of the call up to the run, one by one.
 #[test]
-fn parts_give_the_program_and_its_steps(rt: HostRuntime) -> Result<(), Fail> {
+fn parts_give_the_program_and_its_plan(rt: HostRuntime) -> Result<(), Fail> {
     let alloc = rt.alloc();
     let Ok(tokens) = lex(alloc, SMALLEST.as_bytes()) else {
         return Err(Fail::new("no answer"));
@@ -279,20 +276,5 @@ fn parts_give_the_program_and_its_steps(rt: HostRuntime) -> Result<(), Fail> {
     };
     assert!(rt; program.valid());
     assert!(rt; plan.valid(&program));
-    let Ok(mut world) = World::new(alloc, &program, &plan, 100_000) else {
-        return Err(Fail::new("no answer"));
-    };
-    let mut steps = 0;
-    for _ in 0..9 {
-        if world.enabled(0) {
-            assert!(rt; world.step(0).is_ok());
-            steps += 1;
-        }
-    }
-    assert_eq!(rt; steps, 4);
-    let Ok(text) = world.summary(alloc) else {
-        return Err(Fail::new("no answer"));
-    };
-    assert_eq!(rt; text.as_slice(), SUMMARY.as_bytes());
     Ok(())
 }
