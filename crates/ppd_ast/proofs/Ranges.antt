@@ -1,5 +1,5 @@
 -- Walks over the numbers of statements and over bodies.
-use Rattle.std.proofs.Common.{◌≡◌, ◌≢◌, ℕ, zero, suc, ◌+◌, ◌-◌, ◌<◌, ◌≤◌, Bool, true, false, List, [], ◌∷◌, ◌++◌, length, get_or, take, drop, Option, Some, None, refl, sym, ap, ◌∙◌, arith, subst, length-append, length-take, length-drop}
+use Rattle.std.proofs.Common.{◌≡◌, ℕ, zero, suc, ◌+◌, ◌-◌, ◌<◌, ◌≤◌, Bool, true, false, List, [], ◌∷◌, ◌++◌, length, get_or, take, drop, None, sym, ap, ◌∙◌, arith, length-append, length-take, length-drop}
 use Rattle.std.specs.Prelude.{◌||◌}
 use Rattle.std.specs.List.{flat_map, range_with_len, list_any}
 use Rattle.std.proofs.lemmas.List.{append_assoc, append-nil, take_more}
@@ -36,7 +36,7 @@ range_split a k e h l =
     ∙ ap (λ b. range_with_len a (k + 1 - a) ++ range_with_len b (e - (k + 1))) f
     ∙ ap (λ r. r ++ range_with_len (k + 1) (e - (k + 1))) (range_more a k h)
 
-flat_one : {X : Type 0} (f : ℕ → List X) (xs : List ℕ) (k : ℕ) → flat_map f (xs ++ k ∷ []) ≡ flat_map f xs ++ f k
+pub flat_one : {X : Type 0} (f : ℕ → List X) (xs : List ℕ) (k : ℕ) → flat_map f (xs ++ k ∷ []) ≡ flat_map f xs ++ f k
 flat_one f xs k = flat_map-append f xs (k ∷ []) ∙ ap (λ l. flat_map f xs ++ l) (append-nil (f k))
 
 module _ {X : Type 0} (f : ℕ → List X) (list : List X) (place next a k : ℕ) (low : a ≤ k)

@@ -1,5 +1,5 @@
 -- What holds of each element of two lists.
-use Rattle.std.proofs.Common.{◌≡◌, ◌↔◌, ℕ, ◌+◌, ◌<◌, Bool, IsTrue, List, ◌++◌, length, get_or, arith, subst, length-append}
+use Rattle.std.proofs.Common.{◌↔◌, ◌+◌, Bool, IsTrue, List, ◌++◌, length, arith, subst, length-append}
 use Rattle.std.specs.List.{All}
 use Rattle.std.proofs.lemmas.List.{get_or_append_left, get_or-append-add}
 use Rattle.std.proofs.lemmas.List.Elements.{All-append}

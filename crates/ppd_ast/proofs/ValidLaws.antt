@@ -1,7 +1,7 @@
 -- What holds in a valid program, for the crates above.
-use Rattle.std.proofs.Common.{◌≡◌, ◌⊎◌, ℕ, zero, suc, ◌+◌, ◌-◌, ◌<◌, ◌≤◌, List, [], ◌∷◌, length, get_or, Option, Some, None, refl, sym, ap, ◌∙◌, subst, arith, IsSomeAnd}
+use Rattle.std.proofs.Common.{◌≡◌, ℕ, zero, suc, ◌+◌, ◌<◌, ◌≤◌, List, [], ◌∷◌, length, get_or, Option, Some, None, refl, subst, arith, IsSomeAnd}
 use Rattle.std.specs.Prelude.{slice_get, ⊤}
-use Rattle.std.specs.List.{All, Any}
+use Rattle.std.specs.List.{All}
 use Rattle.std.proofs.lemmas.Option.{get_or_from_slice_get}
 use Rattle.ppd_ast.specs.declared.program.Expr.{Expr}
 use Rattle.ppd_ast.specs.declared.program.Var.{Var}
@@ -16,7 +16,7 @@ use Rattle.ppd_ast.specs.Term.{Term, const, local, local_at, shared, shared_at, 
 use Rattle.ppd_ast.specs.Uses.{kind_uses}
 use Rattle.ppd_ast.specs.Cells.{size, after, CoverCells, IsScalarOf, IsArrayOf, NamesWhole, IsWholeTarget}
 use Rattle.ppd_ast.specs.Order.{inner}
-use Rattle.ppd_ast.specs.Valid.{IsValid, IsValidBody, IsValidStmt, IsValidKind, IsValidUse}
+use Rattle.ppd_ast.specs.Valid.{IsValid, IsValidBody, IsValidStmt, IsValidKind}
 use Rattle.ppd_ast.proofs.Terms.{term-node}
 
 -- a number at which something stands is in range

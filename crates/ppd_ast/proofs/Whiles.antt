@@ -1,5 +1,5 @@
 -- Whether a `while` is among those that a statement stands in, and how many statements stand in one.
-use Rattle.std.proofs.Common.{◌≡◌, ◌≢◌, ℕ, zero, suc, ◌+◌, ◌-◌, ◌<◌, ◌≤◌, Bool, true, false, List, [], ◌∷◌, ◌++◌, length, get_or, take, drop, Option, Some, None, refl, sym, ap, ◌∙◌, arith, length-append}
+use Rattle.std.proofs.Common.{◌≡◌, ◌≢◌, ℕ, zero, suc, ◌+◌, ◌-◌, ◌<◌, ◌≤◌, false, List, ◌++◌, length, get_or, take, drop, Option, Some, None, refl, sym, ap, ◌∙◌, arith, length-append}
 use Rattle.std.specs.Prelude.{slice_get}
 use Rattle.std.specs.List.{flat_map}
 use Rattle.std.proofs.lemmas.Grind.{flat_map-append, common_steps}
@@ -7,7 +7,7 @@ use Rattle.ppd_ast.specs.declared.program.Stmt.{Stmt}
 use Rattle.ppd_ast.specs.Order.{preorder, inner_at}
 use Rattle.ppd_ast.specs.Numbered.{in_while, while_or}
 use Rattle.ppd_ast.proofs.Walks.{flat_more}
-use Rattle.ppd_ast.proofs.Countings.{preorder_none, preorder_some}
+use Rattle.ppd_ast.proofs.Countings.{preorder_some}
 
 pub in_while_deep : (depth : ℕ) (stmts : List Stmt) (parent : Option ℕ) → depth ≡ 0 → in_while depth stmts parent ≡ false
 unfolding in_while

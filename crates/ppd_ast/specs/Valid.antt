@@ -6,8 +6,6 @@ use Rattle.ppd_ast.specs.declared.program.Kind.TheVariants as K
 use Rattle.ppd_ast.specs.declared.program.Stmt.{Stmt}
 use Rattle.ppd_ast.specs.declared.program.Var.{Var}
 use Rattle.ppd_ast.specs.declared.program.Body.{Body}
-use Rattle.ppd_ast.specs.declared.program.Sem.{Sem}
-use Rattle.ppd_ast.specs.declared.program.Chan.{Chan}
 use Rattle.ppd_ast.specs.declared.program.Program.{Program}
 use Rattle.ppd_ast.specs.declared.limits.TheConstants.{MOST_STATEMENTS, MOST_FUNCTIONS, MOST_PROCESSES, MOST_LOCAL_CELLS, MOST_SHARED_CELLS, MOST_SEMAPHORES, MOST_CHANNELS, MOST_NAME_BYTES, MOST_START, LEAST_CAPACITY, MOST_CAPACITY, MOST_NESTING, MOST_OPERATORS, MOST_EXPRESSION_DEPTH}
 use Rattle.ppd_ast.specs.Term.{term}

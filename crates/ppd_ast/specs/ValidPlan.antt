@@ -9,7 +9,6 @@ use Rattle.ppd_ast.specs.declared.plan.Policy.{Policy}
 use Rattle.ppd_ast.specs.declared.plan.Block.{Block}
 use Rattle.ppd_ast.specs.declared.plan.BlockKind.{BlockKind}
 use Rattle.ppd_ast.specs.declared.plan.BlockKind.TheVariants.{Function, Process, Loop}
-use Rattle.ppd_ast.specs.declared.plan.Unit.{Unit}
 use Rattle.ppd_ast.specs.declared.limits.TheConstants.{MOST_POLICY}
 use Rattle.ppd_ast.specs.Numbered.{blocks_by, starts_by}
 

@@ -2,6 +2,7 @@
 //! e-blocks and synchronization units, and the words in which a process ends.
 #![tactic(auto)]
 
+mod bare;
 mod cells;
 pub mod limits;
 mod lists;
@@ -10,8 +11,6 @@ mod order;
 mod plan;
 mod program;
 mod status;
-#[cfg(test)]
-mod tests;
 mod uses;
 mod valid;
 mod valid_plan;

@@ -27,7 +27,7 @@ impl Kind {
         }
     }
 
-    fn is_left(&self) -> bool
+    pub(crate) fn is_left(&self) -> bool
         ensures { result ≡ is_left self.now }
     {
         match self {
@@ -90,7 +90,7 @@ fn missing_inside(stmts: &[Stmt], kind: &Kind, wanted: u16, depth: u32) -> u16
     }
 }
 
-fn is_block_loop(stmts: &[Stmt], policy: Policy, stmt: &Stmt) -> bool
+pub(crate) fn is_block_loop(stmts: &[Stmt], policy: Policy, stmt: &Stmt) -> bool
     ensures { result ≡ is_block_loop stmts.now policy stmt.now }
 {
     stmt.kind.is_while()
@@ -100,7 +100,7 @@ fn is_block_loop(stmts: &[Stmt], policy: Policy, stmt: &Stmt) -> bool
 }
 
 // The number after the body's last statement that is there.
-fn end_of(stmts: &[Stmt], body: &Body) -> u32
+pub(crate) fn end_of(stmts: &[Stmt], body: &Body) -> u32
     ensures { result ≡ min body.now.end (length stmts.now) }
 {
     (body.end as usize).min(stmts.len()) as u32
@@ -117,7 +117,7 @@ fn has_call(stmts: &[Stmt], body: &Body) -> bool
     false
 }
 
-fn is_block_body(stmts: &[Stmt], policy: Policy, body: &Body) -> bool
+pub(crate) fn is_block_body(stmts: &[Stmt], policy: Policy, body: &Body) -> bool
     ensures { result ≡ is_block_body stmts.now policy body.now }
 {
     body.process

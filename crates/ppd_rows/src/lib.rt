@@ -1,9 +1,11 @@
-//! Worked programs as tables, too large for the tests of the crate that they are of.
+//! Worked programs as tables: tests of the crates that speak of programs and plans.
 #![tactic(auto)]
 
 #[cfg(test)]
 mod buffer;
 #[cfg(test)]
 mod limits;
+#[cfg(test)]
+mod tables;
 #[cfg(test)]
 mod tests;

@@ -1,6 +1,6 @@
 use crate::buffer::{plan, program};
 use crate::limits::{elements, loops, signs};
-use ppd_ast::{Chan, Kind, Place, Policy, Sem, Seq, Stmt};
+use ppd_ast::{Chan, Kind, Place, Plan, Policy, Sem, Seq, Stmt};
 use std::process::Abort;
 use std::test::Fail;
 
@@ -93,5 +93,40 @@ fn limits_of_objects_and_calls(rt: HostRuntime) -> Result<(), Fail> {
         },
     );
     assert!(rt; !program.valid());
+    Ok(())
+}
+
+// The plan without cells has the blocks and units of the policy, and a returned value alone.
+#[test]
+fn a_plan_without_cells(rt: HostRuntime) -> Result<(), Fail> {
+    let alloc = rt.alloc();
+    let program = program(alloc)?;
+    let plan = plan(alloc)?;
+    assert!(rt; program.valid());
+    match Plan::bare(alloc, &program, &Policy { leaf: 0, loops: 0 }) {
+        Err(_) => assert!(rt; false, "want of memory"),
+        Ok(bare) => {
+            assert!(rt; bare.valid(&program));
+            assert_eq!(rt; bare.blocks.len(), plan.blocks.len());
+            assert_eq!(rt; bare.units.len(), plan.units.len());
+            for (block, other) in bare
+                .blocks
+                .as_slice()
+                .iter()
+                .zip(plan.blocks.as_slice().iter())
+            {
+                assert!(rt; block.kind == other.kind && block.value == other.value);
+                assert!(rt; block.prelog.len() == 0 && block.postlog.len() == 0);
+            }
+            for (unit, other) in bare
+                .units
+                .as_slice()
+                .iter()
+                .zip(plan.units.as_slice().iter())
+            {
+                assert!(rt; unit.start == other.start && unit.cells.len() == 0);
+            }
+        }
+    }
     Ok(())
 }

@@ -1,4 +1,4 @@
-use Rattle.std.proofs.Common.{true, false, ◌≡◌, ◌∙◌, sym, ap, ℕ, Option, Some, None, ◌-◌}
+use Rattle.std.proofs.Common.{true, false, ◌≡◌, ◌∙◌, sym, ap, Option, Some, None, ◌-◌}
 use Rattle.std.specs.Prelude.{slice_get, ◌||◌}
 use Rattle.ppd_ast.specs.declared.program.Stmt.{Stmt}
 use Rattle.ppd_ast.specs.Numbered.{in_while, while_or, is_while}

@@ -1,4 +1,4 @@
-use Rattle.std.proofs.Common.{◌≡◌, ◌≢◌, ◌≤◌, ◌∙◌, suc, sym, ap, arith, ℕ, Option, Some, None, ◌+◌, ◌-◌, length, take, get_or}
+use Rattle.std.proofs.Common.{◌≡◌, ◌≤◌, suc, ap, arith, Option, Some, None, ◌+◌, ◌-◌, length, take, get_or}
 use Rattle.std.specs.Prelude.{slice_get}
 use Rattle.std.specs.List.{flat_map}
 use Rattle.ppd_ast.specs.declared.program.Stmt.{Stmt}

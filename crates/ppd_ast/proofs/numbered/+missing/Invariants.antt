@@ -1,4 +1,4 @@
-use Rattle.std.proofs.Common.{◌≡◌, ℕ, ◌+◌, ◌*◌, ◌-◌, length, take}
+use Rattle.std.proofs.Common.{◌≡◌, ◌+◌, ◌*◌, ◌-◌, length, take}
 use Rattle.std.specs.List.{flat_map}
 use Rattle.ppd_ast.specs.Order.{preorder}
 use Rattle.ppd_ast.proofs.numbered.+missing.Given as goal

@@ -1,4 +1,4 @@
-use Rattle.std.proofs.Common.{◌≡◌, sym, subst, map}
+use Rattle.std.proofs.Common.{sym, subst, map}
 use Rattle.ppd_ast.specs.Begins.{Begins}
 use Rattle.ppd_ast.specs.Numbered.{blocks_of, blocks_by}
 use Rattle.ppd_ast.specs.declared.plan.Block.{Block}

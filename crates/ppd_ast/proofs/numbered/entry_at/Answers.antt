@@ -1,4 +1,4 @@
-use Rattle.std.proofs.Common.{◌≡◌, ◌∙◌, ap, ℕ}
+use Rattle.std.proofs.Common.{◌≡◌, ◌∙◌, ap}
 use Rattle.ppd_ast.specs.declared.plan.Unit.{Unit}
 use Rattle.ppd_ast.specs.declared.plan.Start.TheVariants.{Entry}
 use Rattle.ppd_ast.proofs.Beginnings.{begins_here, begins_not}

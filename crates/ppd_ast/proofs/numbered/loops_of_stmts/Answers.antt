@@ -1,4 +1,4 @@
-use Rattle.std.proofs.Common.{◌≡◌, ◌∙◌, sym, ap, subst, arith, ℕ, List, None, ◌+◌, ◌-◌, ◌<◌, ◌≤◌, drop, map, min, length, ◌++◌}
+use Rattle.std.proofs.Common.{◌≡◌, ◌∙◌, sym, ap, subst, arith, ◌-◌, ◌<◌, ◌≤◌, drop, map, min, length, ◌++◌}
 use Rattle.std.specs.List.{flat_map, range_with_len}
 use Rattle.ppd_ast.specs.Begins.{Begins}
 use Rattle.ppd_ast.specs.Numbered.{loops_at, numbers_of}

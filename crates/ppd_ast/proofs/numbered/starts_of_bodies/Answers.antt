@@ -1,4 +1,4 @@
-use Rattle.std.proofs.Common.{◌≡◌, sym, subst, map}
+use Rattle.std.proofs.Common.{sym, subst, map}
 use Rattle.ppd_ast.specs.Begins.{Begins}
 use Rattle.ppd_ast.specs.Numbered.{body_starts, starts_by}
 use Rattle.ppd_ast.specs.declared.plan.Unit.{Unit}

@@ -1,13 +1,12 @@
-use Rattle.std.proofs.Common.{take, Option, ◌≡◌, ◌∙◌, ap, sym, arith, Some, None, ◌+◌, ◌-◌, get_or, List, ℕ, ◌++◌, subst}
+use Rattle.std.proofs.Common.{take, Option, ◌≡◌, ◌∙◌, ap, sym, Some, None, ◌+◌, ◌-◌, get_or, ◌++◌}
 use Rattle.std.specs.Prelude.{slice_get}
 use Rattle.std.specs.List.{flat_map}
-use Rattle.std.proofs.lemmas.Grind.{common_steps, flat_map-append}
+use Rattle.std.proofs.lemmas.Grind.{flat_map-append}
 use Rattle.ppd_ast.specs.Counting.{counted}
 use Rattle.ppd_ast.specs.Order.{preorder, inner, inner_of, inner_at}
 use Rattle.ppd_ast.specs.declared.program.Stmt.{Stmt}
 use Rattle.ppd_ast.proofs.Walks.{got_some, got_none}
 use Rattle.ppd_ast.specs.declared.program.Kind.{Kind}
-use Rattle.ppd_ast.specs.declared.program.Kind.TheVariants as K
 use Rattle.ppd_ast.proofs.Countings.{preorder_none, counted_on, counted_broken, counted_whole, counted_some, counted_none}
 use Rattle.ppd_ast.proofs.order.+counting.Goals as goal
 use Rattle.ppd_ast.proofs.order.+counting.Goals.{counted_in-in-None, counted_in-in-Some+in_ok-next-in-Some}

@@ -1,4 +1,4 @@
-use Rattle.std.proofs.Common.{◌≡◌, ℕ, ◌+◌, ◌*◌, ◌-◌, Some, take}
+use Rattle.std.proofs.Common.{◌≡◌, ◌+◌, ◌*◌, Some, take}
 use Rattle.std.specs.List.{flat_map}
 use Rattle.ppd_ast.specs.Counting.{counted}
 use Rattle.ppd_ast.specs.Order.{preorder}

@@ -1,7 +1,7 @@
-use Rattle.std.proofs.Common.{◌≡◌, ◌↔◌, IsTrue, List, ℕ, subst, sym, IsSomeAnd, ◌++◌}
+use Rattle.std.proofs.Common.{◌≡◌, ◌↔◌, IsTrue, ℕ, subst, sym, IsSomeAnd, ◌++◌}
 use Rattle.std.specs.Prelude.{slice_get}
 use Rattle.std.specs.List.{All}
-use Rattle.ppd_ast.specs.Order.{inner, StandIn}
+use Rattle.ppd_ast.specs.Order.{inner}
 use Rattle.ppd_ast.specs.declared.program.Kind.{Kind}
 use Rattle.ppd_ast.proofs.Deciding.{second_test, first_test}
 use Rattle.ppd_ast.proofs.Standing.{both_lists}

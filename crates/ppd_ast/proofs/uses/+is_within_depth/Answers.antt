@@ -1,7 +1,7 @@
 use Rattle.std.proofs.Common.{◌≡◌, ◌↔◌, ℕ, Bool, true, false, IsTrue, refl, ◌+◌, ◌-◌, ◌≤◌, max, arith}
 use Rattle.ppd_ast.specs.Uses.{depth_of}
 use Rattle.ppd_ast.specs.Term.{Term, const, local, local_at, shared, shared_at, neg, not, two, and, or, term}
-use Rattle.ppd_ast.proofs.Deciding.{second_test, first_test, at_leaf, at_element, at_single, at_pair}
+use Rattle.ppd_ast.proofs.Deciding.{at_leaf, at_element, at_single, at_pair}
 use Rattle.ppd_ast.proofs.uses.+is_within_depth.Goals as goal
 
 deep : (u : Term) → 1 ≤ depth_of u

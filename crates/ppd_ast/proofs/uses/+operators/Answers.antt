@@ -1,4 +1,4 @@
-use Rattle.std.proofs.Common.{◌≡◌, ℕ, refl, ◌+◌, ◌-◌, ◌≤◌, min, arith}
+use Rattle.std.proofs.Common.{◌≡◌, ◌+◌, min, arith}
 use Rattle.ppd_ast.specs.Uses.{operators_of}
 use Rattle.ppd_ast.specs.Term.{term}
 use Rattle.ppd_ast.proofs.Deciding.{at_leaf, at_element, at_single, at_pair}

@@ -1,5 +1,4 @@
-use Rattle.std.proofs.Common.{◌≡◌, ◌≤◌, ◌<◌, ◌⊎◌, inl, inr, arith, true, IsTrue, sym, ◌∙◌}
-use Rattle.std.proofs.Common.{ℕ, ◌+◌}
+use Rattle.std.proofs.Common.{◌≡◌, inl, inr, true}
 use Rattle.std.proofs.lemmas.Bool.{cases_lt}
 use Rattle.ppd_ast.proofs.uses.are_used_once.Goals as goal
 

@@ -1,4 +1,4 @@
-use Rattle.std.proofs.Common.{ℕ, ◌↔◌, drop}
+use Rattle.std.proofs.Common.{◌↔◌, drop}
 use Rattle.ppd_ast.specs.Valid.{Follow}
 use Rattle.ppd_ast.proofs.valid.do_follow.Given as goal
 

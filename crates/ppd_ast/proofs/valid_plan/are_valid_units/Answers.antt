@@ -1,4 +1,4 @@
-use Rattle.std.proofs.Common.{◌≡◌, ◌<◌, ◌≤◌, true, refl, sym, subst, arith, length}
+use Rattle.std.proofs.Common.{◌≡◌, ◌≤◌, true, refl, sym, subst, arith, length}
 use Rattle.ppd_ast.specs.ValidPlan.{AreCells}
 use Rattle.ppd_ast.specs.declared.plan.Unit.{Unit}
 use Rattle.ppd_ast.proofs.Walks.{each_more}

@@ -1,7 +1,6 @@
-use Rattle.std.proofs.Common.{◌≡◌, ◌∙◌, ◌<◌, ◌≤◌, ap, subst, sym, length, get_or, List, refl, arith}
+use Rattle.std.proofs.Common.{◌≡◌, ◌∙◌, ◌<◌, ap, subst, length, get_or, List}
 use Rattle.ppd_ast.specs.declared.program.Stmt.{Stmt}
 use Rattle.ppd_ast.specs.Valid.{IsValidStmt}
-use Rattle.ppd_ast.proofs.Following.{first_to_end}
 use Rattle.ppd_ast.proofs.Walks.{each_more}
 use Rattle.ppd_ast.proofs.program.Program.are_valid_stmts.Goals as goal
 

@@ -1,4 +1,4 @@
-use Rattle.std.proofs.Common.{◌≡◌, ◌∙◌, ap, sym, Some, List, ℕ, true}
+use Rattle.std.proofs.Common.{◌≡◌, ◌∙◌, ap, sym, List, ℕ}
 use Rattle.std.specs.List.{flat_map}
 use Rattle.ppd_ast.specs.Order.{preorder}
 use Rattle.ppd_ast.specs.Counting.{counted}

@@ -1,8 +1,9 @@
 // Tables of small sources with their plans, which are valid, and changes of them, which are not.
 
-use crate::lists::{Cells, Ids, Seq};
-use crate::plan::{Block, BlockKind, Plan, Policy, Start, Unit};
-use crate::program::{Body, Expr, Kind, Op, Place, Program, Stmt, Target, Var};
+use ppd_ast::{
+    Block, BlockKind, Body, Cells, Expr, Ids, Kind, Op, Place, Plan, Policy, Program, Seq, Start,
+    Stmt, Target, Unit, Var,
+};
 use std::alloc::{AllocError, Global};
 
 // A statement's kind in a line of a table.
