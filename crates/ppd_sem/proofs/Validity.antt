@@ -9,6 +9,9 @@ use Rattle.ppd_ast.specs.Cells.{AreParams, CoverCells, IsArrayOf, IsScalarOf, Na
 use Rattle.ppd_ast.specs.Order.{StandIn, inner, preorder, inner_at}
 use Rattle.ppd_ast.specs.Term.{Term, const, local, local_at, shared, shared_at, neg, not, two, and, or, term}
 use Rattle.ppd_ast.specs.Uses.{kind_uses}
+use Rattle.ppd_ast.specs.ValidPlan.{IsValidPlan}
+use Rattle.ppd_ast.specs.declared.plan.Plan.{Plan}
+use Rattle.ppd_ast.proofs.PlanNumbers.{few_plan_blocks, few_plan_units}
 use Rattle.ppd_ast.specs.Valid.{CallsRightly, EndsBody, IsEnding, IsValid, IsValidBody, IsValidKind, IsValidStmt, IsValidUse, last_of}
 use Rattle.ppd_ast.specs.declared.program.Body.{Body}
 use Rattle.ppd_ast.specs.declared.program.Kind.{Kind}
@@ -18,7 +21,7 @@ use Rattle.ppd_ast.specs.declared.program.Stmt.{Stmt}
 use Rattle.ppd_ast.specs.declared.program.Target.TheVariants as target
 use Rattle.ppd_ast.specs.declared.program.Var.{Var}
 use Rattle.ppd_sem.specs.Process.{kind_of, kind_or_end, top_of}
-use Rattle.ppd_sem.specs.Runs.{AreOfFunction, AreUses, IsCallable, IsInner, IsOver, IsRunnable, IsRunnableBody, IsRunnableStmt, IsUse, LeadsOn, returns, size_if, size_of, stmt_size}
+use Rattle.ppd_sem.specs.Runs.{AreOfFunction, AreUses, IsCallable, IsInner, IsNumbered, IsOver, IsRunnable, IsRunnableBody, IsRunnableStmt, IsUse, LeadsOn, returns, size_if, size_of, stmt_size}
 use Rattle.ppd_sem.specs.Within.{IsWithin}
 use Rattle.ppd_sem.proofs.Kept.{There, there_at}
 
@@ -407,3 +410,14 @@ valid-runnable p v = record {
       where
         process : p.functions ≤ j → b.process ≡ true
         process from = let test : nat_le p.functions j ≡ true = grind (arith, nat_tests) in h.process ∙ test
+
+-- the numbers of a valid plan's blocks and units have 16 bits
+pub valid-numbered : (program : Program) (plan : Plan) → IsValid program → IsValidPlan program plan → IsNumbered plan
+valid-numbered p plan v h =
+    let stmts : length p.stmts ≤ 4096 = v.limits.stmts in
+    let functions : p.functions ≤ 256 = v.limits.functions in
+    let bodies : length p.bodies ≤ p.functions + 16 = v.limits.processes in
+    record {
+      blocks = omega (arith, few_plan_blocks p plan v h);
+      units = omega (arith, few_plan_units p plan v h);
+    }
