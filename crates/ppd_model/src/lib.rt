@@ -1,0 +1,13 @@
+//! The definitions of a run: its schedule and trace, its synchronizations and races, its logs,
+//! their intervals and the flowback edges, and the types of their values.
+#![tactic(auto)]
+
+mod closed;
+mod flow;
+mod graph;
+mod trace;
+
+pub use closed::{Closed, ProcEnd};
+pub use flow::{EdgeKind, FlowEdge, Item, Origin};
+pub use graph::{EdgeId, NodeId, Race, RaceKind};
+pub use trace::{DriveError, EventId, Trace, TracedEvent};
