@@ -4,3 +4,12 @@ pub mod Schedule
 pub mod Story
 pub mod Synchronizations
 pub mod FullTrace
+pub mod Record
+pub mod HappenedBefore
+pub mod Races
+pub mod Agreement
+pub mod Marks
+pub mod Logs
+pub mod Intervals
+pub mod FlowbackEdges
+pub mod NearIntervals
