@@ -1,2 +1,16 @@
 pub mod Tables
 pub mod Smallest
+pub mod UnguardedIncrement
+pub mod LockOrder
+pub mod CountingSemaphore
+pub mod BoundedChannel
+pub mod ArrayCells
+pub mod UnreadSnapshot
+pub mod CalleeWrite
+pub mod LoopNeverEntered
+pub mod Recursion
+pub mod ShortCircuit
+pub mod PastTheEnd
+pub mod Deadlock
+pub mod BudgetStop
+pub mod LeafFunction
