@@ -13,3 +13,4 @@ pub mod Logs
 pub mod Intervals
 pub mod FlowbackEdges
 pub mod NearIntervals
+pub mod Laws
