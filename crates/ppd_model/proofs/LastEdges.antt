@@ -1,5 +1,5 @@
 -- A process's last edge: no synchronization ends it, so it is before no edge.
-use Rattle.std.proofs.Common.{◌≡◌, ℕ, zero, suc, ◌+◌, ◌<◌, ◌≤◌, List, [], ◌∷◌, Option, Some, None, Bool, false, refl, ap, sym, subst, arith, ◌∙◌, ◌&&◌, length, inl, inr, true≢false, eqb-true}
+use Rattle.std.proofs.Common.{◌≡◌, ℕ, zero, suc, ◌+◌, ◌≤◌, List, [], ◌∷◌, Option, Some, None, refl, ap, sym, subst, arith, ◌∙◌, ◌&&◌, length, inl, inr, true≢false, eqb-true}
 use Rattle.std.proofs.lemmas.Bool.{and_parts, or_cases}
 use Rattle.std.specs.Prelude.{IsTrue, is_some, nat_eq, slice_get}
 use Rattle.ppd_ast.specs.declared.program.Program.{Program}
@@ -7,7 +7,6 @@ use Rattle.ppd_model.specs.declared.graph.NodeId.{NodeId}
 use Rattle.ppd_model.specs.Synchronizations.{Sync, leads_at}
 use Rattle.ppd_model.specs.HappenedBefore.{Before, EdgeBefore, across, direct, earlier, edge, is_direct, is_next, node, own_syncs, sync_at, through}
 use Rattle.ppd_model.specs.Laws.{LastEdgesAreOpen}
-use Rattle.ppd_model.proofs.Tested.{below_length}
 
 past_the_end : {A : Type 0} (xs : List A) → slice_get xs (length xs) ≡ None
 past_the_end [] = refl

@@ -11,7 +11,7 @@ use Rattle.ppd_sem.specs.declared.proc.Need.{Need}
 use Rattle.ppd_sem.specs.declared.proc.Need.TheVariants.{Read, Write, P, V, Send, Recv}
 use Rattle.ppd_sem.specs.declared.proc.Proc.{Proc}
 use Rattle.ppd_sem.specs.Process.{act}
-use Rattle.ppd_model.specs.Story.{Moment, Story, Taken, steps_of, story, told, unit_started}
+use Rattle.ppd_model.specs.Story.{Moment, Taken, steps_of, story, told, unit_started}
 use Rattle.ppd_model.specs.Synchronizations.{Sync, sync_of}
 use Rattle.ppd_model.specs.FullTrace.{trace_of}
 use Rattle.ppd_model.specs.Record.{accesses, record_of}
@@ -21,7 +21,7 @@ use Rattle.ppd_model.specs.Logs.{Logging, begun_log, closed_log, end_of, ends, e
 use Rattle.ppd_model.specs.Intervals.{intervals, items}
 use Rattle.ppd_model.specs.FlowbackEdges.{edges, last}
 use Rattle.ppd_model.specs.NearIntervals.{near_intervals}
-use Rattle.ppd_model.specs.Laws.{HasOneHistory, StoriesTellAll, without_values}
+use Rattle.ppd_model.specs.Laws.{StoriesTellAll, without_values}
 
 map-append : {A B : Type 0} (f : A → B) (xs ys : List A) → map f (xs ++ ys) ≡ map f xs ++ map f ys
 map-append f [] ys = refl
@@ -177,5 +177,5 @@ one_history program plan budget h h' e =
       near = λ p k j. ap (λ s. near_intervals program plan budget s p k j) e;
       all_logs = lists_bare (loggings program plan budget h) ∙ ap (λ ls. map closed_log ls) same ∙ sym (lists_bare (loggings program plan budget h'));
       all_ends = ends_same program program.functions (loggings program plan budget h) ∙ ap (λ ls. ends_from program program.functions ls) same
-      ∙ sym (ends_same program program.functions (loggings program plan budget h'));
+          ∙ sym (ends_same program program.functions (loggings program plan budget h'));
     }

@@ -42,10 +42,10 @@ none_passes test x (z ∷ xs) e (there i) = none_passes test x xs (filter_first 
 any_at : {A : Type 0} (test : A → Bool) (xs : List A) (m : ℕ) (x : A) → slice_get xs m ≡ Some x → test x ≡ true → list_any test xs ≡ true
 any_at test [] m x h e = absurd (none-some x h)
 any_at test (y ∷ xs) zero x h e = or_left (test y) (list_any test xs) (subst (λ o. some_passes test o ≡ true) (sym h) e)
-    where
-      some_passes : {B : Type 0} → (B → Bool) → Option B → Bool
-      some_passes t None = false
-      some_passes t (Some z) = t z
+  where
+    some_passes : {B : Type 0} → (B → Bool) → Option B → Bool
+    some_passes t None = false
+    some_passes t (Some z) = t z
 any_at test (y ∷ xs) (suc m) x h e = or_right (test y) (list_any test xs) (any_at test xs m x h e)
 
 -- ---- the edge of an access is one of its process
@@ -73,11 +73,11 @@ process_below s p m a h = elim (cases_lt p (length s.steps)) [
   | inl lt ↦ lt
   | inr ge ↦ absurd (none-some a (subst (λ xs. slice_get (accesses_from 0 xs) m ≡ Some a) (past s.steps p ge) h))
 ]
-    where
-      past : (steps : List (List Taken)) (q : ℕ) → length steps ≤ q → get_or steps q [] ≡ []
-      past [] q le = refl
-      past (xs ∷ rest) zero le = absurd (omega (arith, le))
-      past (xs ∷ rest) (suc q) le = past rest q (omega (arith, le))
+  where
+    past : (steps : List (List Taken)) (q : ℕ) → length steps ≤ q → get_or steps q [] ≡ []
+    past [] q le = refl
+    past (xs ∷ rest) zero le = absurd (omega (arith, le))
+    past (xs ∷ rest) (suc q) le = past rest q (omega (arith, le))
 
 -- ---- candidates
 
@@ -170,9 +170,9 @@ module _ (program : Program) (s : Story) (none : races_of program s ≡ []) wher
     there = subst (λ c. c < length s.cells) d.cell d.there;
     writes = either a.writes b.writes d.writes;
   }
-      where
-        either : (v w : Bool) → IsTrue (v || w) → IsTrue (w || v)
-        either v w h = elim (or_cases v w h) [ inl x ↦ or_right w v x | inr y ↦ or_left w v y ]
+    where
+      either : (v w : Bool) → IsTrue (v || w) → IsTrue (w || v)
+      either v w h = elim (or_cases v w h) [ inl x ↦ or_right w v x | inr y ↦ or_left w v y ]
 
   pub ordered : (p q : ℕ) (a b : SharedAccess) → DoConflict s p q a b → EdgeBefore program (record_of s) (edge p a.edge) (edge q b.edge) ⊎ EdgeBefore program (record_of s) (edge q b.edge) (edge p a.edge)
   unfolding Ordered
@@ -180,9 +180,9 @@ module _ (program : Program) (s : Story) (none : races_of program s ≡ []) wher
     | inl lt ↦ rising p q a b d lt
     | inr le ↦ swapped (edge q b.edge) (edge p a.edge) (rising q p b a (turned p q a b d) (below le))
   ]
-      where
-        below : q ≤ p → q < p
-        below le = elim (cases_lt q p) [ inl lt ↦ lt | inr ge ↦ absurd (d.apart (omega (arith, le, ge))) ]
+    where
+      below : q ≤ p → q < p
+      below le = elim (cases_lt q p) [ inl lt ↦ lt | inr ge ↦ absurd (d.apart (omega (arith, le, ge))) ]
 
 pub no_race : NoRaceMeansOrder
 no_race program s none p q a b d = ordered program s none p q a b d

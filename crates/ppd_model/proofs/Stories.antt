@@ -1,5 +1,5 @@
 -- A story with one more step, and the world of which it is told.
-use Rattle.std.proofs.Common.{◌≡◌, ℕ, zero, suc, List, [], ◌∷◌, ◌++◌, Option, Some, None, Bool, true, false, refl, ap, sym, ◌∙◌, cond, map}
+use Rattle.std.proofs.Common.{◌≡◌, ℕ, zero, suc, List, [], ◌∷◌, ◌++◌, Some, None, Bool, true, false, refl, ap, ◌∙◌, cond, map}
 use Rattle.std.proofs.lemmas.List.Sums.{fold-append}
 use Rattle.std.proofs.lemmas.Option.{none-some}
 use Rattle.std.specs.Prelude.{fold}
@@ -7,20 +7,20 @@ use Rattle.ppd_ast.specs.declared.plan.Plan.{Plan}
 use Rattle.ppd_ast.specs.declared.program.Program.{Program}
 use Rattle.ppd_model.specs.World.{World, change, enabled, step}
 use Rattle.ppd_model.specs.Schedule.{run_from, started_world}
-use Rattle.ppd_model.specs.Story.{Moment, Taken, Telling, begun, moment_of, steps_of, tell, told}
-use Rattle.ppd_model.specs.Laws.{HasOneMoreStep, StoriesAreOfRuns, StoriesGrow}
+use Rattle.ppd_model.specs.Story.{Moment, Telling, begun, moment_of, steps_of, tell, told}
+use Rattle.ppd_model.specs.Laws.{StoriesAreOfRuns, StoriesGrow}
 
 map-append : {A B : Type 0} (f : A → B) (xs ys : List A) → map f (xs ++ ys) ≡ map f xs ++ map f ys
 map-append f [] ys = refl
 map-append f (x ∷ xs) ys = ap (λ zs. f x ∷ zs) (map-append f xs ys)
 
 -- the steps of the processes, where process p has one more moment
-steps-change : (m : Moment) (p : ℕ) (moments : List (List Moment)) → map steps_of (change (λ ms. ms ++ m ∷ []) p moments) ≡ change (λ xs. xs ++ m.taken ∷ []) p (map steps_of moments)
+pub steps-change : (m : Moment) (p : ℕ) (moments : List (List Moment)) → map steps_of (change (λ ms. ms ++ m ∷ []) p moments) ≡ change (λ xs. xs ++ m.taken ∷ []) p (map steps_of moments)
 steps-change m p [] = refl
 steps-change m zero (ms ∷ rest) = ap (λ xs. xs ∷ map steps_of rest) (map-append (λ x. x.taken) ms (m ∷ []))
 steps-change m (suc p) (ms ∷ rest) = ap (λ xs. steps_of ms ∷ xs) (steps-change m p rest)
 
-told-append : (program : Program) (plan : Plan) (budget : ℕ) (h : List ℕ) (p : ℕ) → told program plan budget (h ++ p ∷ []) ≡ tell program plan (told program plan budget h) p
+pub told-append : (program : Program) (plan : Plan) (budget : ℕ) (h : List ℕ) (p : ℕ) → told program plan budget (h ++ p ∷ []) ≡ tell program plan (told program plan budget h) p
 told-append program plan budget h p = fold-append (tell program plan) (begun (started_world program plan budget)) h (p ∷ [])
 
 pub stories_grow : StoriesGrow

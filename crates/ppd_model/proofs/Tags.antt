@@ -1,17 +1,15 @@
 -- The tag of a shared cell is the event that last wrote it.
-use Rattle.std.proofs.Common.{◌≡◌, ℕ, zero, suc, ◌<◌, ℤ, pos, List, [], ◌∷◌, ◌++◌, Option, Some, None, Bool, true, false, refl, ap, sym, subst, ◌∙◌, arith, length, map, set, get_or, inl, inr, ◌⊎◌, true≢false, eqb-true}
-use Rattle.std.proofs.lemmas.Bool.{cases_eq, eq-eqb, ne_eqb}
+use Rattle.std.proofs.Common.{◌≡◌, ℕ, ◌<◌, ℤ, pos, List, [], ◌∷◌, Some, None, false, refl, ap, sym, subst, ◌∙◌, length, set, get_or, inl, inr, ◌⊎◌}
+use Rattle.std.proofs.lemmas.Bool.{cases_eq, ne_eqb}
 use Rattle.std.proofs.lemmas.List.{get_or-set_other, get_or-set_same, length-map, length-set}
-use Rattle.std.specs.Prelude.{fold, nat_eq}
 use Rattle.ppd_ast.specs.declared.plan.Plan.{Plan}
 use Rattle.ppd_ast.specs.declared.program.Program.{Program}
 use Rattle.ppd_sem.specs.declared.proc.Need.{Need}
 use Rattle.ppd_sem.specs.declared.proc.Need.TheVariants.{Write}
 use Rattle.ppd_model.specs.declared.trace.EventId.{EventId}
-use Rattle.ppd_model.specs.World.{World, effect, need, step}
-use Rattle.ppd_model.specs.Schedule.{started_world}
-use Rattle.ppd_model.specs.Story.{Telling, begun, next_event, tell, told, writers_after}
-use Rattle.ppd_model.specs.Laws.{IsAtStart, IsLastWrite, IsTagged, IsUnwritten, TagsAreLastWrites, begins, goes_on, is_write_of}
+use Rattle.ppd_model.specs.World.{effect, need}
+use Rattle.ppd_model.specs.Story.{Telling, next_event, tell, writers_after}
+use Rattle.ppd_model.specs.Laws.{IsAtStart, IsLastWrite, IsTagged, TagsAreLastWrites, begins, goes_on, is_write_of}
 
 -- what a step of this need does to the cell's tag and value
 record Writes (t : Telling) (p c : ℕ) (n : Need) : Type 0 where

@@ -1,5 +1,5 @@
 -- The tests of happened-before answer the relations, both ways.
-use Rattle.std.proofs.Common.{◌≡◌, ℕ, zero, suc, ◌+◌, ◌<◌, List, [], ◌∷◌, ◌++◌, Option, Some, None, Bool, false, refl, ap, sym, subst, arith, cond, eq-eqb, lt-ltb, ltb-true, ne_eqb, ◌&&◌, ◌||◌, length, map, get_or, inl, inr, ◌⊎◌, ◌↔◌, true≢false, ◌∙◌}
+use Rattle.std.proofs.Common.{◌≡◌, ℕ, zero, suc, ◌+◌, ◌<◌, List, [], ◌∷◌, ◌++◌, Option, Some, None, Bool, false, refl, ap, sym, subst, arith, eq-eqb, lt-ltb, ltb-true, ne_eqb, ◌&&◌, ◌||◌, length, map, get_or, inl, inr, ◌⊎◌, true≢false, ◌∙◌}
 use Rattle.std.specs.Prelude.{IsTrue, is_some, nat_eq, nat_lt, slice_get}
 use Rattle.std.specs.List.{range_with_len}
 use Rattle.std.proofs.lemmas.Bool.{and_from, and_parts, cases_eq, cond-false, cond-true, or_cases, or_left, or_right}
@@ -7,7 +7,7 @@ use Rattle.ppd_ast.specs.declared.program.Program.{Program}
 use Rattle.ppd_model.specs.declared.graph.NodeId.{NodeId}
 use Rattle.ppd_model.specs.Synchronizations.{Sync, leads_at}
 use Rattle.ppd_model.specs.declared.graph.EdgeId.{EdgeId}
-use Rattle.ppd_model.specs.HappenedBefore.{Before, EdgeBefore, across as across_to, closed_through, direct, earlier, ends_before, is_before, is_direct, is_edge_before, is_next, node, nodes, nodes_from, own_syncs, sync_at, through}
+use Rattle.ppd_model.specs.HappenedBefore.{Before, EdgeBefore, across as across_to, closed_through, direct, earlier, ends_before, is_before, is_direct, is_edge_before, is_next, node, nodes, nodes_from, sync_at, through}
 use Rattle.ppd_model.specs.Laws.{IsTestOfBefore, IsTestOfEdges}
 
 pub data In {A : Type 0} : A → List A → Type 0 where

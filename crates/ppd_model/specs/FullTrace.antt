@@ -132,27 +132,24 @@ traced_by program story x t e = record {
 
 -- a step that finishes or traps a statement
 abbrev pub with_event : Program → Plan → Story → ℕ → Taken → Tracing → Tracing
-with_event program plan story p x t =
-    let after = act program plan t.proc x.answer in
-    record {
-      proc = after;
-      locals = tags_after program t.proc (Some (me_in p t)) x.need t.locals;
-      answers = [];
-      parents = parents_after (Some (me_in p t)) t.proc after t.parents;
-      events = t.events ++ traced_by program story x t (event_of program plan t.proc x t.proc.todo) ∷ [];
-    }
+with_event program plan story p x t = record t {
+  locals = tags_after program t.proc (Some (me_in p t)) x.need t.locals;
+  answers = [];
+  parents = parents_after (Some (me_in p t)) t.proc (act program plan t.proc x.answer) t.parents;
+  events = t.events ++ traced_by program story x t (event_of program plan t.proc x t.proc.todo) ∷ [];
+}
 
--- a read keeps its tag for the event that it is of; an entry and a stop are no events
+-- a read keeps its tag for the event that it is of; an entry of a loop and a stop are no events
 abbrev pub trace_by : Program → Plan → Story → ℕ → Taken → Need → Tracing → Tracing
-trace_by program plan story p x (Read c) t =
-    record t { proc = act program plan t.proc x.answer; answers = t.answers ++ x.writer ∷ [] }
-trace_by program plan story p x (Enter b u) t = record t { proc = act program plan t.proc x.answer }
-trace_by program plan story p x Budget t = record t { proc = act program plan t.proc x.answer }
+trace_by program plan story p x (Read c) t = record t { answers = t.answers ++ x.writer ∷ [] }
+trace_by program plan story p x (Enter b u) t = t
+trace_by program plan story p x Budget t = t
 trace_by program plan story p x Stopped t = t
 trace_by program plan story p x need t = with_event program plan story p x t
 
+-- the state goes on by the step's answer
 abbrev pub trace_step : Program → Plan → Story → ℕ → Tracing → Taken → Tracing
-trace_step program plan story p t x = trace_by program plan story p x x.need t
+trace_step program plan story p t x = record (trace_by program plan story p x x.need t) { proc = act program plan t.proc x.answer }
 
 -- ---- a process, and all of them
 

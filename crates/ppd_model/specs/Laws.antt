@@ -1,5 +1,5 @@
 -- Laws of the definitions, which hold of every program, plan, budget and schedule.
-use Rattle.std.specs.Prelude.{◌≡◌, ℕ, ◌+◌, ◌<◌, ◌≤◌, nat_eq, ℤ, pos, Bool, true, false, ◌||◌, ◌⊎◌, ◌↔◌, List, [], ◌∷◌, ◌++◌, fold, map, length, get_or, slice_get, Option, Some, None, IsTrue, ⊤}
+use Rattle.std.specs.Prelude.{◌≡◌, ℕ, ◌<◌, ◌≤◌, nat_eq, ℤ, pos, Bool, false, ◌||◌, ◌⊎◌, ◌↔◌, List, [], ◌∷◌, ◌++◌, fold, map, length, get_or, slice_get, Some, None, IsTrue, ⊤}
 use Rattle.ppd_ast.specs.declared.plan.Plan.{Plan}
 use Rattle.ppd_ast.specs.declared.program.Program.{Program}
 use Rattle.ppd_entry.specs.declared.entry.Entry.{Entry}
@@ -9,16 +9,17 @@ use Rattle.ppd_sem.specs.declared.proc.Need.TheVariants.{Write}
 use Rattle.ppd_model.specs.declared.graph.EdgeId.{EdgeId}
 use Rattle.ppd_model.specs.declared.graph.NodeId.{NodeId}
 use Rattle.ppd_model.specs.declared.trace.EventId.{EventId}
-use Rattle.ppd_model.specs.World.{World, change, need, step}
+use Rattle.ppd_model.specs.World.{World, answer, change, need, step}
 use Rattle.ppd_model.specs.Schedule.{run, started_world}
-use Rattle.ppd_model.specs.Story.{Story, Telling, begun, moment_of, next_event, story, tell, told, writers_after}
+use Rattle.ppd_model.specs.Story.{Moment, Story, Taken, Telling, begun, moment_of, next_event, number_of, story, tell, told, unit_started, values_at_start, writers_after}
+use Rattle.ppd_model.specs.States.{state_of, states}
 use Rattle.ppd_model.specs.Synchronizations.{Sync}
-use Rattle.ppd_model.specs.FullTrace.{full_trace}
+use Rattle.ppd_model.specs.FullTrace.{full_trace, tracing_of}
 use Rattle.ppd_model.specs.Record.{SharedAccess, accesses, record_of, sync_record}
 use Rattle.ppd_model.specs.HappenedBefore.{Before, EdgeBefore, edge, is_before, is_edge_before, node, own_syncs, sync_at}
 use Rattle.ppd_model.specs.Races.{races, races_of}
-use Rattle.ppd_model.specs.Logs.{close, logs}
-use Rattle.ppd_model.specs.Intervals.{intervals, items}
+use Rattle.ppd_model.specs.Logs.{close, log_step, loggings, logs}
+use Rattle.ppd_model.specs.Intervals.{intervals, items, split_of}
 use Rattle.ppd_model.specs.FlowbackEdges.{edges, last}
 use Rattle.ppd_model.specs.NearIntervals.{near_intervals}
 
@@ -39,6 +40,36 @@ StoriesGrow = (program : Program) (plan : Plan) (budget : ℕ) (h : List ℕ) (p
 abbrev pub StoriesAreOfRuns : Type 0
 StoriesAreOfRuns =
     (program : Program) (plan : Plan) (budget : ℕ) (h : List ℕ) (w : World) → run program plan budget h ≡ Some w → (told program plan budget h).world ≡ w
+
+-- ---- a process by its own steps
+
+-- the states of the processes, as the world, the traces, the intervals and the logs of a story have them
+pub record HasOneState (program : Program) (plan : Plan) (budget : ℕ) (h : List ℕ) : Type 0 where
+  pub worlds : (told program plan budget h).world.procs ≡ states program plan budget (story program plan budget h)
+  pub logged : map (λ l. l.proc) (loggings program plan budget h) ≡ states program plan budget (story program plan budget h)
+  pub traced : (s : Story) (p : ℕ) (steps : List Taken) → (tracing_of program plan budget s p steps).proc ≡ state_of program plan budget p steps
+  pub split : (s : Story) (p : ℕ) (steps : List Taken) → (split_of program plan budget s p steps).trace ≡ tracing_of program plan budget s p steps
+
+-- each process comes to what its own steps lead to
+abbrev pub ProcessesFollowTheirSteps : Type 0
+ProcessesFollowTheirSteps = (program : Program) (plan : Plan) (budget : ℕ) (h : List ℕ) → HasOneState program plan budget h
+
+-- ---- logs
+
+-- the next step of process p as a log needs it, without a tag
+abbrev pub logged_moment : Program → Plan → World → ℕ → Moment
+logged_moment program plan w p =
+    let n = need program plan w p in
+    record {
+      taken = record { need = n; answer = answer w n; writer = None; number = number_of w n };
+      unit_values = values_at_start plan (step program plan w p).shared (unit_started n);
+    }
+
+-- a step adds its entries to the log of its process
+abbrev pub LogsGrow : Type 0
+LogsGrow =
+    (program : Program) (plan : Plan) (budget : ℕ) (h : List ℕ) (p : ℕ)
+    → loggings program plan budget (h ++ p ∷ []) ≡ change (λ l. log_step program plan l (logged_moment program plan (told program plan budget h).world p)) p (loggings program plan budget h)
 
 -- ---- equal stories
 

@@ -2,6 +2,7 @@
 pub mod World
 pub mod Schedule
 pub mod Story
+pub mod States
 pub mod Synchronizations
 pub mod FullTrace
 pub mod Record

@@ -1,4 +1,4 @@
-ghost use Rattle.ppd_model.specs.Laws.{IsTestOfBefore, IsTestOfEdges, LastEdgesAreOpen, NoRaceMeansOrder, StoriesAreOfRuns, StoriesGrow, StoriesTellAll, TagsAreLastWrites};
+ghost use Rattle.ppd_model.specs.Laws.{IsTestOfBefore, IsTestOfEdges, LastEdgesAreOpen, LogsGrow, NoRaceMeansOrder, ProcessesFollowTheirSteps, StoriesAreOfRuns, StoriesGrow, StoriesTellAll, TagsAreLastWrites};
 
 /// Law: the story of a schedule with one more step is that of the schedule with this step, its
 /// writer and its cell; and the world of which a story is told is the one that the schedule
@@ -6,6 +6,17 @@ ghost use Rattle.ppd_model.specs.Laws.{IsTestOfBefore, IsTestOfEdges, LastEdgesA
 pub fn stories_grow()
     ensures grow { StoriesGrow }
     ensures of_runs { StoriesAreOfRuns }
+{}
+
+/// Law: each process comes to the state that its own steps lead to, and its trace, its intervals and
+/// its log go by that state.
+pub fn processes_follow_their_steps()
+    ensures { ProcessesFollowTheirSteps }
+{}
+
+/// Law: a step adds its entries to the log of its process, and changes no other log.
+pub fn logs_grow()
+    ensures { LogsGrow }
 {}
 
 /// Law: two schedules with one story have the same trace, record, accesses, races, intervals,
