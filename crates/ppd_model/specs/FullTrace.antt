@@ -1,7 +1,10 @@
 -- The events of a schedule: each with the writers of what it read, its control parent and its pair.
-use Rattle.std.specs.Prelude.{ℕ, zero, suc, ◌+◌, ◌-◌, ℤ, List, [], ◌∷◌, ◌++◌, map, fold, drop, length, get_or, replicate, slice_set, slice_get, Option, Some, None, Ok}
+use Rattle.std.specs.Prelude.{ℕ, zero, suc, ◌+◌, ◌-◌, nat_eq, ℤ, Bool, false, not, List, [], ◌∷◌, ◌++◌, map, fold, find, drop, length, get_or, replicate, slice_set, slice_get, Option, Some, None, option_map, Ok, if◌then◌else◌}
 use Rattle.ppd_ast.specs.declared.program.Body.{Body}
+use Rattle.ppd_ast.specs.declared.program.Kind.{Kind}
+use Rattle.ppd_ast.specs.declared.program.Kind.TheVariants.{If, While}
 use Rattle.ppd_ast.specs.declared.program.Program.{Program}
+use Rattle.ppd_ast.specs.declared.program.Stmt.{Stmt}
 use Rattle.ppd_ast.specs.declared.plan.Plan.{Plan}
 use Rattle.ppd_sem.specs.declared.event.Access.{Access}
 use Rattle.ppd_sem.specs.declared.event.Event.{Event}
@@ -11,6 +14,7 @@ use Rattle.ppd_sem.specs.declared.proc.Need.{Need}
 use Rattle.ppd_sem.specs.declared.proc.Need.TheVariants.{Read, Enter, Trap, Budget, Stopped}
 use Rattle.ppd_sem.specs.declared.proc.Proc.{Proc}
 use Rattle.ppd_sem.specs.declared.proc.Todo.{Todo}
+use Rattle.ppd_sem.specs.Ask.{is_zero}
 use Rattle.ppd_sem.specs.Asked.{Asked}
 use Rattle.ppd_sem.specs.Deed.{Deed, set_local, clear, invoke, back, receive}
 use Rattle.ppd_sem.specs.Described.{described}
@@ -25,28 +29,40 @@ use Rattle.ppd_model.specs.Synchronizations.{paired_of}
 abbrev pub Tag : Type 0
 Tag = Option EventId
 
--- a process with the tags of the local cells of each frame and of the head's answers, of each
--- statement that is to do the event that put it there, and the events so far
+-- an event of an `If` or `While`, and whether its value was true
+pub record Test : Type 0 where
+  pub stmt : ℕ
+  pub event : EventId
+  pub passed : Bool
+
+-- a body's run: the event of the call that began it, none in a process, the tags of its local
+-- cells, and its tests with the latest first
+pub record Activation : Type 0 where
+  pub call : Option EventId
+  pub tags : List Tag
+  pub tests : List Test
+
+-- a process with its activations, the top one first, the tags of the head's answers, and the
+-- events so far
 pub record Tracing : Type 0 where
   pub proc : Proc
-  pub locals : List (List Tag)
+  pub activations : List Activation
   pub answers : List Tag
-  pub parents : List (Option EventId)
   pub events : List TracedEvent
 
 -- ---- the tags of what is read
 
-abbrev pub top_tags : List (List Tag) → List Tag
+abbrev pub top_tags : List Activation → List Tag
 top_tags [] = []
-top_tags (x ∷ xs) = x
+top_tags (x ∷ xs) = x.tags
 
-abbrev pub first_of_tags : List Tag → Tag
-first_of_tags [] = None
-first_of_tags (x ∷ xs) = x
+abbrev pub first_tag : List Tag → Tag
+first_tag [] = None
+first_tag (x ∷ xs) = x
 
 abbrev pub tag_at : List Tag → List Tag → Spot → Tag
 tag_at locals answers (Local frame c) = get_or locals c None
-tag_at locals answers (Shared c) = first_of_tags answers
+tag_at locals answers (Shared c) = first_tag answers
 
 abbrev pub answers_past : List Tag → Spot → List Tag
 answers_past answers (Local frame c) = answers
@@ -59,11 +75,11 @@ tags_of locals answers (a ∷ as') = tag_at locals answers a.spot ∷ tags_of lo
 
 -- ---- the tags of what is written
 
-abbrev pub tagged : ℕ → Tag → List (List Tag) → List (List Tag)
+abbrev pub tagged : ℕ → Tag → List Activation → List Activation
 tagged c me [] = []
-tagged c me (x ∷ xs) = slice_set x c me ∷ xs
+tagged c me (x ∷ xs) = record x { tags = slice_set x.tags c me } ∷ xs
 
-abbrev pub all_tagged : ℕ → ℕ → Tag → List (List Tag) → List (List Tag)
+abbrev pub all_tagged : ℕ → ℕ → Tag → List Activation → List Activation
 all_tagged base zero me xs = xs
 all_tagged base (suc n) me xs = tagged (base + n) me (all_tagged base n me xs)
 
@@ -71,43 +87,91 @@ abbrev pub size_if : Option Body → ℕ
 size_if None = 0
 size_if (Some b) = b.cells
 
--- the tags of a new frame: its parameters are written by the call
-abbrev pub new_tags : Program → ℕ → ℕ → Tag → List Tag
-new_tags program f count me = replicate count me ++ replicate (size_if (slice_get program.bodies f) - count) None
+-- the activation that a call begins, which writes so many parameters
+abbrev pub called : Program → ℕ → ℕ → Option EventId → Activation
+called program f count me = record {
+  call = me;
+  tags = replicate count me ++ replicate (size_if (slice_get program.bodies f) - count) None;
+  tests = [];
+}
 
 -- the local that receives the value of the top frame
 abbrev pub into_at : Program → Option ℕ → Option ℕ
 into_at program None = None
 into_at program (Some c) = into_of (kind_of program c)
 
-abbrev pub tagged_into : Option ℕ → Option ℤ → Tag → List (List Tag) → List (List Tag)
+abbrev pub tagged_into : Option ℕ → Option ℤ → Tag → List Activation → List Activation
 tagged_into (Some c) (Some v) me xs = tagged c me xs
 tagged_into into value me xs = xs
 
--- the tags of the frames after a statement that the event finished
-abbrev pub tags_by_deed : Program → Proc → Tag → Asked Deed → List (List Tag) → List (List Tag)
-tags_by_deed program s me (Ok (set_local c v, left)) xs = tagged c me xs
-tags_by_deed program s me (Ok (clear base len, left)) xs = all_tagged base len me xs
-tags_by_deed program s me (Ok (invoke f values into, left)) xs = new_tags program f (length values) me ∷ xs
-tags_by_deed program s me (Ok (back value, left)) xs = tagged_into (into_at program (top_call s.frames)) value me (drop 1 xs)
-tags_by_deed program s me (Ok (receive chan into, left)) xs = tagged into me xs
-tags_by_deed program s me asked xs = xs
+-- the activations after a statement that the event finished
+abbrev pub tagged_by : Program → Proc → Tag → Asked Deed → List Activation → List Activation
+tagged_by program s me (Ok (set_local c v, left)) xs = tagged c me xs
+tagged_by program s me (Ok (clear base len, left)) xs = all_tagged base len me xs
+tagged_by program s me (Ok (invoke f values into, left)) xs = called program f (length values) me ∷ xs
+tagged_by program s me (Ok (back value, left)) xs = tagged_into (into_at program (top_call s.frames)) value me (drop 1 xs)
+tagged_by program s me (Ok (receive chan into, left)) xs = tagged into me xs
+tagged_by program s me asked xs = xs
 
-abbrev pub tags_at_head : Program → Proc → Tag → List Todo → List (List Tag) → List (List Tag)
-tags_at_head program s me [] xs = xs
-tags_at_head program s me (t ∷ ts) xs = tags_by_deed program s me (head_deed program t s) xs
+abbrev pub tagged_at : Program → Proc → Tag → List Todo → List Activation → List Activation
+tagged_at program s me [] xs = xs
+tagged_at program s me (t ∷ ts) xs = tagged_by program s me (head_deed program t s) xs
 
 -- a step that traps writes nothing
-abbrev pub tags_after : Program → Proc → Tag → Need → List (List Tag) → List (List Tag)
-tags_after program s me (Trap t) xs = xs
-tags_after program s me need xs = tags_at_head program s me s.todo xs
+abbrev pub tagged_after : Program → Proc → Tag → Need → List Activation → List Activation
+tagged_after program s me (Trap t) xs = xs
+tagged_after program s me need xs = tagged_at program s me s.todo xs
 
 -- ---- control
 
--- the event is the parent of the statements that it put on the list of what is to do, which of a
--- test that goes on are the loop's own and the loop itself
-abbrev pub parents_after : Option EventId → Proc → Proc → List (Option EventId) → List (Option EventId)
-parents_after me before after parents = replicate (length after.todo + 1 - length before.todo) me ++ drop 1 parents
+abbrev pub parent_if : Option Stmt → Option ℕ
+parent_if None = None
+parent_if (Some s) = s.parent
+
+-- the latest test of a statement
+abbrev pub latest : ℕ → List Test → Option Test
+latest s tests = find (λ x. nat_eq x.stmt s) tests
+
+-- the previous test of a loop run that goes on
+abbrev pub of_run : Kind → Option Test → Option EventId
+of_run (While e body) (Some x) = if x.passed then Some x.event else None
+of_run k x = None
+
+-- the latest test of the statement in which another one directly stands
+abbrev pub of_outer : Option ℕ → List Test → Option EventId
+of_outer None tests = None
+of_outer (Some s) tests = option_map (λ x. x.event) (latest s tests)
+
+-- the first that is there
+abbrev pub or_else : {A : Type 0} → Option A → Option A → Option A
+or_else None y = y
+or_else (Some x) y = Some x
+
+abbrev pub parent_in : Program → ℕ → Activation → Option EventId
+parent_in program s x =
+    or_else (of_run (kind_of program s) (latest s x.tests)) (or_else (of_outer (parent_if (slice_get program.stmts s)) x.tests) x.call)
+
+-- the control parent of an event of the head: the previous test of its loop run, or the latest
+-- test of the statement round it, or else the call; and None in a process by itself
+abbrev pub parent_at : Program → List Activation → List Todo → Option EventId
+parent_at program [] todo = None
+parent_at program xs [] = None
+parent_at program (x ∷ xs) (t ∷ ts) = parent_in program t.stmt x
+
+-- a value that is there and not 0
+abbrev pub is_passed : Option ℤ → Bool
+is_passed None = false
+is_passed (Some v) = not (is_zero v)
+
+abbrev pub tests_after : Kind → ℕ → EventId → Option ℤ → List Test → List Test
+tests_after (If e first second) s me value tests = record { stmt = s; event = me; passed = is_passed value } ∷ tests
+tests_after (While e body) s me value tests = record { stmt = s; event = me; passed = is_passed value } ∷ tests
+tests_after k s me value tests = tests
+
+-- the top activation with the event, if it is of a test
+abbrev pub with_test : Program → EventId → Event → List Activation → List Activation
+with_test program me e [] = []
+with_test program me e (x ∷ xs) = record x { tests = tests_after (kind_of program e.stmt) e.stmt me e.value x.tests } ∷ xs
 
 -- ---- one step
 
@@ -125,19 +189,20 @@ me_in p t = record { process = p; number = length t.events }
 abbrev pub traced_by : Program → Story → Taken → Tracing → Event → TracedEvent
 traced_by program story x t e = record {
   event = e;
-  writers = tags_of (top_tags t.locals) t.answers e.reads;
-  parent = first_of_tags t.parents;
+  writers = tags_of (top_tags t.activations) t.answers e.reads;
+  parent = parent_at program t.activations t.proc.todo;
   paired = paired_of program story x;
 }
 
 -- a step that finishes or traps a statement
 abbrev pub with_event : Program → Plan → Story → ℕ → Taken → Tracing → Tracing
-with_event program plan story p x t = record t {
-  locals = tags_after program t.proc (Some (me_in p t)) x.need t.locals;
-  answers = [];
-  parents = parents_after (Some (me_in p t)) t.proc (act program plan t.proc x.answer) t.parents;
-  events = t.events ++ traced_by program story x t (event_of program plan t.proc x t.proc.todo) ∷ [];
-}
+with_event program plan story p x t =
+    let e = event_of program plan t.proc x t.proc.todo in
+    record t {
+      activations = tagged_after program t.proc (Some (me_in p t)) x.need (with_test program (me_in p t) e t.activations);
+      answers = [];
+      events = t.events ++ traced_by program story x t e ∷ [];
+    }
 
 -- a read keeps its tag for the event that it is of; an entry of a loop and a stop are no events
 abbrev pub trace_by : Program → Plan → Story → ℕ → Taken → Need → Tracing → Tracing
@@ -153,12 +218,12 @@ trace_step program plan story p t x = record (trace_by program plan story p x x.
 
 -- ---- a process, and all of them
 
+-- the frames of a process before its first step have no tags
 abbrev pub begun_tracing : Proc → Tracing
 begun_tracing s = record {
   proc = s;
-  locals = map (λ f. map (λ _. None) f.cells) s.frames;
+  activations = map (λ f. record { call = None; tags = map (λ _. None) f.cells; tests = [] }) s.frames;
   answers = [];
-  parents = map (λ _. None) s.todo;
   events = [];
 }
 

@@ -20,7 +20,7 @@ use Rattle.ppd_model.specs.declared.trace.EventId.{EventId}
 use Rattle.ppd_model.specs.declared.trace.TracedEvent.{TracedEvent}
 use Rattle.ppd_model.specs.World.{change}
 use Rattle.ppd_model.specs.Story.{Taken, Story, is_event}
-use Rattle.ppd_model.specs.FullTrace.{Tag, Tracing, begun_tracing, first_of_tags, me_in, top_tags, trace_step}
+use Rattle.ppd_model.specs.FullTrace.{Tag, Tracing, begun_tracing, me_in, parent_at, top_tags, trace_step}
 use Rattle.ppd_model.specs.Record.{edge_after}
 use Rattle.ppd_model.specs.Marks.{Mark, opened, closed, postlog_cells}
 
@@ -116,14 +116,14 @@ abbrev pub with_own : Need → Split → Split
 with_own need x = if is_event need then innermost (with_part (own (length x.trace.events))) x else x
 
 -- an interval as an item has the parent of the loop's first test, or the call
-abbrev pub control_by : ℕ → Tracing → Need → Option EventId
-control_by p t (Enter b u) = first_of_tags t.parents
-control_by p t need = Some (me_in p t)
+abbrev pub control_by : Program → ℕ → Tracing → Need → Option EventId
+control_by program p t (Enter b u) = parent_at program t.activations t.proc.todo
+control_by program p t need = Some (me_in p t)
 
 abbrev pub with_marks : Program → Plan → ℕ → Need → Split → Split
 with_marks program plan p need x =
-    begin_if (opened program plan x.trace.proc need) (frame_of program plan x.trace.proc) (control_by p x.trace need)
-    (end_if (closed program plan x.trace.proc need) (left_by plan (me_in p x.trace) (top_tags x.trace.locals) need) x)
+    begin_if (opened program plan x.trace.proc need) (frame_of program plan x.trace.proc) (control_by program p x.trace need)
+    (end_if (closed program plan x.trace.proc need) (left_by plan (me_in p x.trace) (top_tags x.trace.activations) need) x)
 
 abbrev pub split_step : Program → Plan → Story → ℕ → Split → Taken → Split
 split_step program plan story p x step =
