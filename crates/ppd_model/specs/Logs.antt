@@ -126,9 +126,13 @@ abbrev pub logs_from : Program → Plan → ℕ → ℕ → List (List Moment) �
 logs_from program plan budget p [] = []
 logs_from program plan budget p (moments ∷ rest) = log_of program plan budget p moments ∷ logs_from program plan budget (p + 1) rest
 
--- each process with its log, in a schedule that need not be whole
+-- each process with its log
 abbrev pub loggings : Program → Plan → ℕ → List ℕ → List Logging
 loggings program plan budget h = logs_from program plan budget 0 (told program plan budget h).moments
+
+-- the logs that the steps of a schedule wrote, which need not be whole
+abbrev pub kept_logs : Program → Plan → ℕ → List ℕ → Logs
+kept_logs program plan budget h = record { lists = map (λ l. l.entries) (loggings program plan budget h) }
 
 -- ---- whole schedules
 

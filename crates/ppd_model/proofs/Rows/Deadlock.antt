@@ -15,7 +15,7 @@ use Rattle.ppd_model.specs.World.{enabled}
 use Rattle.ppd_model.specs.Schedule.{IsWhole, run}
 use Rattle.ppd_model.specs.Story.{Story, story, told}
 use Rattle.ppd_model.specs.Races.{races}
-use Rattle.ppd_model.specs.Logs.{close, logs}
+use Rattle.ppd_model.specs.Logs.{close, kept_logs, logs}
 use Rattle.ppd_model.specs.Intervals.{items}
 use Rattle.ppd_model.proofs.Rows.Tables.{stmt_in, body_of, block_of, unit_of, event, ended}
 
@@ -75,6 +75,11 @@ open_a_0 = refl
 pub log : (logs program plan 100000 schedule).lists ≡ (entry.Prelog 0 [] ∷ entry.Unit 0 [] ∷ entry.Sync sync.P 0 1 (pos 0) [] [] ∷ entry.Unit 1 [] ∷ entry.End status.Blocked 0 [] [] ∷ []) ∷ (entry.Prelog 1 [] ∷ entry.Unit 3 [] ∷ entry.Sync sync.P 1 1 (pos 0) [] [] ∷ entry.Unit 4 [] ∷ entry.End status.Blocked 0 [] [] ∷ []) ∷ []
 unfolding terms
 log = refl
+
+-- before the run is closed
+pub kept : (kept_logs program plan 100000 schedule).lists ≡ (entry.Prelog 0 [] ∷ entry.Unit 0 [] ∷ entry.Sync sync.P 0 1 (pos 0) [] [] ∷ entry.Unit 1 [] ∷ []) ∷ (entry.Prelog 1 [] ∷ entry.Unit 3 [] ∷ entry.Sync sync.P 1 1 (pos 0) [] [] ∷ entry.Unit 4 [] ∷ []) ∷ []
+unfolding terms
+kept = refl
 
 -- after 0 1 process 0 is not enabled, and after 0 alone process 1 is
 pub not_enabled : run program plan 100000 (0 ∷ 1 ∷ 0 ∷ []) ≡ None

@@ -1,6 +1,6 @@
 -- int f(int n) { int r; if (n > 0) { r = f(n - 1); } return r + 1; } process a { int v = f(2); print(v); }
 use Rattle.std.proofs.Common.{◌≡◌, refl}
-use Rattle.std.specs.Prelude.{ℕ, zero, suc, pos, true, false, List, [], ◌∷◌, Some, None}
+use Rattle.std.specs.Prelude.{ℕ, zero, suc, pos, true, false, List, [], ◌∷◌, Some, None, replicate, slice_set}
 use Rattle.ppd_ast.specs.Term.{terms}
 use Rattle.ppd_ast.specs.declared.plan.BlockKind.TheVariants as block
 use Rattle.ppd_ast.specs.declared.plan.Plan.{Plan}
@@ -11,6 +11,7 @@ use Rattle.ppd_ast.specs.declared.program.Op.TheVariants as op
 use Rattle.ppd_ast.specs.declared.program.Program.{Program}
 use Rattle.ppd_ast.specs.declared.program.Target.TheVariants as target
 use Rattle.ppd_ast.specs.declared.status.Status.TheVariants as status
+use Rattle.ppd_ast.specs.declared.status.Trap.TheVariants as trap
 use Rattle.ppd_sem.specs.declared.event.Spot.TheVariants.{Local}
 use Rattle.ppd_model.specs.declared.flow.Item.TheVariants.{Own, Nested}
 use Rattle.ppd_model.specs.declared.flow.Origin.TheVariants.{Entry, Item as ItemAt}
@@ -90,3 +91,16 @@ why_a_1_4 = refl
 pub why_a_2_4 : edges program plan 100000 the_story 0 2 4 ≡ Some (read_from (Local 0 1) (pos 1) (ItemAt 0 3 2) ∷ control_from (ItemAt 0 1 2) ∷ [])
 unfolding terms
 why_a_2_4 = refl
+
+-- with f(n) in place of f(2)
+abbrev pub deeper : ℕ → Program
+deeper n = record program { exprs = slice_set program.exprs 10 (expr.Const (pos n)) }
+
+pub ends_63 : (close (deeper 63) plan 100000 (replicate 258 0)).ends ≡ ended status.Ended 6 258 (pos 64 ∷ []) ∷ []
+unfolding terms
+ends_63 = refl
+
+-- the 65th call is one too many
+pub ends_64 : (close (deeper 64) plan 100000 (replicate 193 0)).ends ≡ ended (status.Trap trap.Depth) 2 193 [] ∷ []
+unfolding terms
+ends_64 = refl
