@@ -17,6 +17,7 @@ use Rattle.ppd_model.specs.Synchronizations.{Sync}
 use Rattle.ppd_model.specs.FullTrace.{full_trace, tracing_of}
 use Rattle.ppd_model.specs.Record.{SharedAccess, accesses, record_of, sync_record}
 use Rattle.ppd_model.specs.HappenedBefore.{Before, EdgeBefore, edge, is_before, is_edge_before, node, own_syncs, sync_at}
+use Rattle.ppd_model.specs.Numbers.{IsCounted, count_of}
 use Rattle.ppd_model.specs.Races.{races, races_of}
 use Rattle.ppd_model.specs.Logs.{close, log_step, loggings, logs}
 use Rattle.ppd_model.specs.Intervals.{intervals, items, split_of}
@@ -115,6 +116,14 @@ pub record IsOpenEnded (program : Program) (syncs : List (List Sync)) (p : ℕ) 
 
 abbrev pub LastEdgesAreOpen : Type 0
 LastEdgesAreOpen = (program : Program) (syncs : List (List Sync)) (p : ℕ) → IsOpenEnded program syncs p
+
+-- ---- numbers
+
+-- the synchronizations of one kind and object have the numbers after its first count through its last, each once
+abbrev pub SynchronizationsAreCounted : Type 0
+SynchronizationsAreCounted =
+    (program : Program) (plan : Plan) (budget : ℕ) (h : List ℕ)
+    → IsCounted (count_of (started_world program plan budget)) (count_of (told program plan budget h).world) (sync_record program plan budget h)
 
 -- ---- races
 

@@ -7,6 +7,7 @@ pub mod Synchronizations
 pub mod FullTrace
 pub mod Record
 pub mod HappenedBefore
+pub mod Numbers
 pub mod Races
 pub mod Agreement
 pub mod Marks

@@ -1,4 +1,4 @@
-ghost use Rattle.ppd_model.specs.Laws.{IsTestOfBefore, IsTestOfEdges, LastEdgesAreOpen, LogsGrow, NoRaceMeansOrder, ProcessesFollowTheirSteps, StoriesAreOfRuns, StoriesGrow, StoriesTellAll, TagsAreLastWrites};
+ghost use Rattle.ppd_model.specs.Laws.{IsTestOfBefore, IsTestOfEdges, LastEdgesAreOpen, LogsGrow, NoRaceMeansOrder, ProcessesFollowTheirSteps, StoriesAreOfRuns, StoriesGrow, StoriesTellAll, SynchronizationsAreCounted, TagsAreLastWrites};
 
 /// Law: the story of a schedule with one more step is that of the schedule with this step, its
 /// writer and its cell; and the world of which a story is told is the one that the schedule
@@ -31,6 +31,12 @@ pub fn happened_before_is_tested()
     ensures on_nodes { IsTestOfBefore }
     ensures on_edges { IsTestOfEdges }
     ensures last_edges { LastEdgesAreOpen }
+{}
+
+/// Law: the synchronizations of one kind and object are numbered upwards by one, each number once:
+/// from 1, but the `V`s of a semaphore from 1 more than its initial value.
+pub fn synchronizations_are_counted()
+    ensures { SynchronizationsAreCounted }
 {}
 
 /// Law: where no race is listed, each two accesses of two processes to one cell, of which one is a

@@ -13,6 +13,6 @@ pub use flow::{EdgeKind, FlowEdge, Item, Origin};
 pub use graph::{EdgeId, NodeId, Race, RaceKind};
 pub use laws::{
     happened_before_is_tested, logs_grow, no_race_means_order, processes_follow_their_steps,
-    stories_grow, stories_tell_all, tags_are_last_writes,
+    stories_grow, stories_tell_all, synchronizations_are_counted, tags_are_last_writes,
 };
 pub use trace::{DriveError, EventId, Trace, TracedEvent};
