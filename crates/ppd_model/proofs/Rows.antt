@@ -14,3 +14,5 @@ pub mod PastTheEnd
 pub mod Deadlock
 pub mod BudgetStop
 pub mod LeafFunction
+pub mod UnfinishedLoop
+pub mod LoopInLeaf
