@@ -21,20 +21,23 @@ use Rattle.ppd_model.specs.FullTrace.{Tag}
 use Rattle.ppd_model.specs.Marks.{postlog_cells}
 use Rattle.ppd_model.specs.Intervals.{Part, own, nested, Span, Split, splits, block_kind, ref}
 
--- where a value came from, and where control came from
+-- where a value came from
 abbrev pub from_writer : List Split → Tag → Origin
 from_writer xs None = origin.Initial
 from_writer xs (Some e) = ref xs e
 
+-- where control came from
 abbrev pub from_parent : List Split → Option EventId → Origin
 from_parent xs None = origin.Entry
 from_parent xs (Some e) = ref xs e
 
 -- ---- of an event
 
+-- from the event that last wrote the place that is read
 abbrev pub read_edge : List Split → Access × Tag → FlowEdge
 read_edge xs r = record { kind = Read; spot = Some r.0.spot; value = Some r.0.value; from = from_writer xs r.1 }
 
+-- an edge without spot and value
 abbrev pub bare_edge : EdgeKind → Origin → FlowEdge
 bare_edge kind from = record { kind = kind; spot = None; value = None; from = from }
 
@@ -44,6 +47,7 @@ sync_edges xs k (Some e) = bare_edge Sync (ref xs e) ∷ []
 sync_edges xs (kind.P s) None = bare_edge Sync origin.Initial ∷ []
 sync_edges xs k None = []
 
+-- the reads in order, the synchronization, and control
 abbrev pub edges_of_event : Program → List Split → TracedEvent → List FlowEdge
 edges_of_event program xs e =
     map (read_edge xs) (zip e.event.reads e.writers)
@@ -63,20 +67,24 @@ abbrev pub returned_edges : List Split → List ℤ → List Tag → List FlowEd
 returned_edges xs (v ∷ vs) (w ∷ ws) = record { kind = Returned; spot = None; value = Some v; from = from_writer xs w } ∷ []
 returned_edges xs vs ws = []
 
+-- what a loop left, or what a function returned
 abbrev pub result_edges : Plan → List Split → BlockKind → Span → List FlowEdge
 result_edges plan xs (block.Loop s) i = left_edges xs i.frame (postlog_cells plan i.block) i.values i.left
 result_edges plan xs kind i = returned_edges xs i.values i.left
 
+-- what the interval brought, and control
 abbrev pub edges_of_nested : Plan → List Split → Span → List FlowEdge
 edges_of_nested plan xs i =
     result_edges plan xs (block_kind plan i.block) i ++ bare_edge Control (from_parent xs i.control) ∷ []
 
 -- ---- of an item
 
+-- the edges of an event, or of an interval directly inside
 abbrev pub edges_of_part : Program → Plan → List Split → Split → Part → Option (List FlowEdge)
 edges_of_part program plan xs x (own n) = option_map (edges_of_event program xs) (slice_get x.trace.events n)
 edges_of_part program plan xs x (nested m) = option_map (edges_of_nested plan xs) (slice_get x.spans m)
 
+-- part j of an interval
 abbrev pub part_in : Option Span → ℕ → Option Part
 part_in None j = None
 part_in (Some i) j = slice_get i.parts j
@@ -85,10 +93,12 @@ part_in (Some i) j = slice_get i.parts j
 abbrev pub part_at : Split → ℕ → ℕ → Option Part
 part_at x k j = part_in (slice_get x.spans k) j
 
+-- the edges of a part that is there
 abbrev pub edges_if : Program → Plan → List Split → Split → Option Part → Option (List FlowEdge)
 edges_if program plan xs x None = None
 edges_if program plan xs x (Some part) = edges_of_part program plan xs x part
 
+-- the edges of item j of interval k of one process
 abbrev pub edges_in : Program → Plan → List Split → ℕ → ℕ → Option Split → Option (List FlowEdge)
 edges_in program plan xs k j None = None
 edges_in program plan xs k j (Some x) = edges_if program plan xs x (part_at x k j)

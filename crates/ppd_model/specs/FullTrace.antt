@@ -52,18 +52,22 @@ pub record Tracing : Type 0 where
 
 -- ---- the tags of what is read
 
+-- the tags of the local cells of the top frame
 abbrev pub top_tags : List Activation → List Tag
 top_tags [] = []
 top_tags (x ∷ xs) = x.tags
 
+-- the tag of the next answer
 abbrev pub first_tag : List Tag → Tag
 first_tag [] = None
 first_tag (x ∷ xs) = x
 
+-- the tag of a place that is read
 abbrev pub tag_at : List Tag → List Tag → Spot → Tag
 tag_at locals answers (Local frame c) = get_or locals c None
 tag_at locals answers (Shared c) = first_tag answers
 
+-- a shared read takes its answer
 abbrev pub answers_past : List Tag → Spot → List Tag
 answers_past answers (Local frame c) = answers
 answers_past answers (Shared c) = drop 1 answers
@@ -75,14 +79,17 @@ tags_of locals answers (a ∷ as') = tag_at locals answers a.spot ∷ tags_of lo
 
 -- ---- the tags of what is written
 
+-- the top activation with a new tag of cell c
 abbrev pub tagged : ℕ → Tag → List Activation → List Activation
 tagged c me [] = []
 tagged c me (x ∷ xs) = record x { tags = slice_set x.tags c me } ∷ xs
 
+-- the top activation with a new tag of each cell of an array
 abbrev pub all_tagged : ℕ → ℕ → Tag → List Activation → List Activation
 all_tagged base zero me xs = xs
 all_tagged base (suc n) me xs = tagged (base + n) me (all_tagged base n me xs)
 
+-- the cells of a frame of this body
 abbrev pub size_if : Option Body → ℕ
 size_if None = 0
 size_if (Some b) = b.cells
@@ -100,6 +107,7 @@ abbrev pub into_at : Program → Option ℕ → Option ℕ
 into_at program None = None
 into_at program (Some c) = into_of (kind_of program c)
 
+-- the receiving local has the tag of the return, where there are a local and a value
 abbrev pub tagged_into : Option ℕ → Option ℤ → Tag → List Activation → List Activation
 tagged_into (Some c) (Some v) me xs = tagged c me xs
 tagged_into into value me xs = xs
@@ -113,6 +121,7 @@ tagged_by program s me (Ok (back value, left)) xs = tagged_into (into_at program
 tagged_by program s me (Ok (receive chan into, left)) xs = tagged into me xs
 tagged_by program s me asked xs = xs
 
+-- the activations after the head statement finished
 abbrev pub tagged_at : Program → Proc → Tag → List Todo → List Activation → List Activation
 tagged_at program s me [] xs = xs
 tagged_at program s me (t ∷ ts) xs = tagged_by program s me (head_deed program t s) xs
@@ -124,6 +133,7 @@ tagged_after program s me need xs = tagged_at program s me s.todo xs
 
 -- ---- control
 
+-- the `If` or `While` in which a statement directly stands
 abbrev pub parent_if : Option Stmt → Option ℕ
 parent_if None = None
 parent_if (Some s) = s.parent
@@ -147,6 +157,7 @@ abbrev pub or_else : {A : Type 0} → Option A → Option A → Option A
 or_else None y = y
 or_else (Some x) y = Some x
 
+-- the control parent of statement s in its activation
 abbrev pub parent_in : Program → ℕ → Activation → Option EventId
 parent_in program s x =
     or_else (of_run (kind_of program s) (latest s x.tests)) (or_else (of_outer (parent_if (slice_get program.stmts s)) x.tests) x.call)
@@ -163,6 +174,7 @@ abbrev pub is_passed : Option ℤ → Bool
 is_passed None = false
 is_passed (Some v) = not (is_zero v)
 
+-- the tests of an activation with one more, where the statement is an `If` or a `While`
 abbrev pub tests_after : Kind → ℕ → EventId → Option ℤ → List Test → List Test
 tests_after (If e first second) s me value tests = record { stmt = s; event = me; passed = is_passed value } ∷ tests
 tests_after (While e body) s me value tests = record { stmt = s; event = me; passed = is_passed value } ∷ tests
@@ -175,6 +187,7 @@ with_test program me e (x ∷ xs) = record x { tests = tests_after (kind_of prog
 
 -- ---- one step
 
+-- stands where nothing is to do
 abbrev pub no_event : Event
 no_event = record { stmt = 0; reads = []; writes = []; value = None; number = None; trap = None }
 
@@ -183,9 +196,11 @@ abbrev pub event_of : Program → Plan → Proc → Taken → List Todo → Even
 event_of program plan s x [] = no_event
 event_of program plan s x (t ∷ ts) = record (described program plan s t x.answer) { number = x.number }
 
+-- the next event of process p
 abbrev pub me_in : ℕ → Tracing → EventId
 me_in p t = record { process = p; number = length t.events }
 
+-- an event with the writers of its reads, its parent and its pair
 abbrev pub traced_by : Program → Story → Taken → Tracing → Event → TracedEvent
 traced_by program story x t e = record {
   event = e;
@@ -232,6 +247,7 @@ abbrev pub tracing_of : Program → Plan → ℕ → Story → ℕ → List Take
 tracing_of program plan budget story p steps =
     fold (trace_step program plan story p) (begun_tracing (started program plan p budget)) steps
 
+-- the events of the processes from number p on
 abbrev pub events_from : Program → Plan → ℕ → Story → ℕ → List (List Taken) → List (List TracedEvent)
 events_from program plan budget story p [] = []
 events_from program plan budget story p (steps ∷ rest) =

@@ -6,9 +6,11 @@ use Rattle.ppd_model.specs.declared.graph.NodeId.{NodeId}
 use Rattle.ppd_model.specs.declared.graph.EdgeId.{EdgeId}
 use Rattle.ppd_model.specs.Synchronizations.{Sync, leads_at}
 
+-- synchronization i of process p
 abbrev pub node : ℕ → ℕ → NodeId
 node p i = record { process = p; sync = i }
 
+-- internal edge i of process p
 abbrev pub edge : ℕ → ℕ → EdgeId
 edge p i = record { process = p; edge = i }
 
@@ -16,6 +18,7 @@ edge p i = record { process = p; edge = i }
 abbrev pub own_syncs : List (List Sync) → ℕ → List Sync
 own_syncs syncs p = get_or syncs p []
 
+-- the synchronization of this name, if it is there
 abbrev pub sync_at : List (List Sync) → NodeId → Option Sync
 sync_at syncs a = slice_get (own_syncs syncs a.process) a.sync
 
@@ -45,6 +48,7 @@ abbrev pub closed_through : {A : Type 0} → (A → A → Bool) → List A → A
 closed_through r [] a b = r a b
 closed_through r (n ∷ ns) a b = closed_through r ns a b || (closed_through r ns a n && closed_through r ns n b)
 
+-- the synchronizations of the processes from number p on
 abbrev pub nodes_from : ℕ → List (List Sync) → List NodeId
 nodes_from p [] = []
 nodes_from p (xs ∷ rest) = map (node p) (range_with_len 0 (length xs)) ++ nodes_from (p + 1) rest

@@ -105,6 +105,7 @@ abbrev pub IsTestOfBefore : Type 0
 IsTestOfBefore =
     (program : Program) (syncs : List (List Sync)) (a b : NodeId) → IsTrue (is_before program syncs a b) ↔ Before program syncs a b
 
+-- the same of edges
 abbrev pub IsTestOfEdges : Type 0
 IsTestOfEdges =
     (program : Program) (syncs : List (List Sync)) (a b : EdgeId) → IsTrue (is_edge_before program syncs a b) ↔ EdgeBefore program syncs a b
@@ -114,6 +115,7 @@ pub record IsOpenEnded (program : Program) (syncs : List (List Sync)) (p : ℕ) 
   pub no_end : sync_at syncs (node p (length (own_syncs syncs p))) ≡ None
   pub before_none : (q j : ℕ) → j ≤ length (own_syncs syncs q) → EdgeBefore program syncs (edge p (length (own_syncs syncs p))) (edge q j) → ⊥
 
+-- so it is with the last edge of every process
 abbrev pub LastEdgesAreOpen : Type 0
 LastEdgesAreOpen = (program : Program) (syncs : List (List Sync)) (p : ℕ) → IsOpenEnded program syncs p
 
@@ -144,10 +146,12 @@ NoRaceMeansOrder =
 
 -- ---- tags
 
+-- a step of this need writes cell c
 abbrev pub is_write_of : ℕ → Need → Bool
 is_write_of c (Write d v) = nat_eq d c
 is_write_of c need = false
 
+-- what is told after the steps of h, from t on
 abbrev pub goes_on : Program → Plan → Telling → List ℕ → Telling
 goes_on program plan t h = fold (tell program plan) t h
 
@@ -179,6 +183,7 @@ pub record IsTagged (program : Program) (plan : Plan) (c : ℕ) (t now : Telling
   pub tag_is : get_or now.writers c None ≡ Some event
   pub last : IsLastWrite program plan c t h (get_or now.world.shared c (pos 0)) event
 
+-- what is told before the first step
 abbrev pub begins : Program → Plan → ℕ → Telling
 begins program plan budget = begun (started_world program plan budget)
 

@@ -39,14 +39,17 @@ with_cell c (d ∷ ds) = if nat_lt c d then c ∷ d ∷ ds else if nat_eq c d th
 
 -- ---- the entries of one step
 
+-- the prelog of a block that is entered
 abbrev pub prelogs : Option Mark → List Entry
 prelogs None = []
 prelogs (Some m) = entry.Prelog m.block m.values ∷ []
 
+-- the postlog of a block that is left
 abbrev pub postlogs : Option Mark → List Entry
 postlogs None = []
 postlogs (Some m) = entry.Postlog m.block m.values ∷ []
 
+-- the unit that starts, with its values
 abbrev pub units : Option ℕ → List ℤ → List Entry
 units None values = []
 units (Some u) values = entry.Unit u values ∷ []
@@ -57,16 +60,19 @@ passed (Send c v u) a = v
 passed (Recv c u) a = value_of a
 passed need a = pos 0
 
+-- the entry of a synchronization, with the cells accessed since the one before
 abbrev pub syncs : Logging → Taken → Option Sync → List Entry
 syncs l x None = []
 syncs l x (Some s) = entry.Sync s.kind s.object s.number (passed x.need x.answer) l.reads l.writes ∷ []
 
+-- the status of a step that ends its process
 abbrev pub status_of : Need → Option Status
 status_of (Trap t) = Some (status.Trap t)
 status_of Budget = Some status.Budget
 status_of (End b) = Some status.Ended
 status_of need = None
 
+-- the end of the process
 abbrev pub ends : Logging → Option Status → List Entry
 ends l None = []
 ends l (Some s) = entry.End s l.rest l.reads l.writes ∷ []
@@ -82,6 +88,7 @@ entries_of program plan l m =
 
 -- ---- the step
 
+-- a read or a write of a shared cell is noted, and a synchronization begins anew
 abbrev pub with_access : Need → Logging → Logging
 with_access (Read c) l = record l { reads = with_cell c l.reads }
 with_access (Write c v) l = record l { writes = with_cell c l.writes }
@@ -91,10 +98,12 @@ with_access (Send c v u) l = record l { reads = []; writes = [] }
 with_access (Recv c u) l = record l { reads = []; writes = [] }
 with_access need l = l
 
+-- the steps since the last one that wrote an entry
 abbrev pub rest_after : ℕ → List Entry → ℕ
 rest_after rest [] = rest + 1
 rest_after rest (e ∷ es) = 0
 
+-- one more step: its entries, and the state after it
 abbrev pub log_step : Program → Plan → Logging → Moment → Logging
 log_step program plan l m =
     let new = entries_of program plan l m in
@@ -119,9 +128,11 @@ begun_log program plan budget p =
       entries = entry.Prelog (or_zero (block_of plan (block.Process body))) [] ∷ entry.Unit u (values_of_unit plan program.starts u) ∷ [];
     }
 
+-- process p with its log, by its own steps and the values of their units
 abbrev pub log_of : Program → Plan → ℕ → ℕ → List Moment → Logging
 log_of program plan budget p moments = fold (log_step program plan) (begun_log program plan budget p) moments
 
+-- the processes from number p on, with their logs
 abbrev pub logs_from : Program → Plan → ℕ → ℕ → List (List Moment) → List Logging
 logs_from program plan budget p [] = []
 logs_from program plan budget p (moments ∷ rest) = log_of program plan budget p moments ∷ logs_from program plan budget (p + 1) rest
@@ -140,6 +151,7 @@ kept_logs program plan budget h = record { lists = map (λ l. l.entries) (loggin
 abbrev pub closed_log : Logging → List Entry
 closed_log l = l.entries ++ (if is_none l.proc.status then entry.End status.Blocked l.rest l.reads l.writes ∷ [] else [])
 
+-- closed logs
 abbrev pub logs_of : List Logging → Logs
 logs_of ls = record { lists = map closed_log ls }
 
@@ -147,6 +159,7 @@ logs_of ls = record { lists = map closed_log ls }
 abbrev pub logs : Program → Plan → ℕ → List ℕ → Logs
 logs program plan budget h = logs_of (loggings program plan budget h)
 
+-- the last statement of a body
 abbrev pub last_of : Option Body → ℕ
 last_of None = 0
 last_of (Some b) = b.end - 1
@@ -156,6 +169,7 @@ abbrev pub stmt_of : Option Body → List Todo → ℕ
 stmt_of body [] = last_of body
 stmt_of body (t ∷ ts) = t.stmt
 
+-- how a process ended: one that is still running is blocked
 abbrev pub end_of : Option Body → Proc → ProcEnd
 end_of body s = record { status = unwrap_or s.status status.Blocked; stmt = stmt_of body s.todo; steps = s.steps; prints = s.prints }
 

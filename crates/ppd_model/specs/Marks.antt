@@ -17,21 +17,25 @@ pub record Mark : Type 0 where
   pub block : ℕ
   pub values : List ℤ
 
+-- a block with these values
 abbrev pub mark : ℕ → List ℤ → Mark
 mark block values = record { block = block; values = values }
 
+-- the local cells of a block's prelog
 abbrev pub prelog_in : Option Block → List ℕ
 prelog_in None = []
 prelog_in (Some b) = b.prelog
 
+-- the local cells of a block's postlog
 abbrev pub postlog_in : Option Block → List ℕ
 postlog_in None = []
 postlog_in (Some b) = b.postlog
 
--- the local cells of a block's prelog and of its postlog
+-- the local cells of the prelog of block b
 abbrev pub prelog_cells : Plan → ℕ → List ℕ
 prelog_cells plan b = prelog_in (slice_get plan.blocks b)
 
+-- the local cells of the postlog of block b
 abbrev pub postlog_cells : Plan → ℕ → List ℕ
 postlog_cells plan b = postlog_in (slice_get plan.blocks b)
 
@@ -39,18 +43,22 @@ postlog_cells plan b = postlog_in (slice_get plan.blocks b)
 abbrev pub values_at : Proc → List ℕ → List ℤ
 values_at s cells = map (cell_of (top_cells s.frames)) cells
 
+-- the values with which a call is made
 abbrev pub arguments_in : Asked Deed → List ℤ
 arguments_in (Ok (invoke f values into, left)) = values
 arguments_in asked = []
 
+-- the value that is returned, if any
 abbrev pub result_in : Asked Deed → List ℤ
 result_in (Ok (back value, left)) = option_to_list value
 result_in asked = []
 
+-- the arguments of the head's call
 abbrev pub arguments_at : Program → Proc → List Todo → List ℤ
 arguments_at program s [] = []
 arguments_at program s (t ∷ ts) = arguments_in (head_deed program t s)
 
+-- the value of the head's return
 abbrev pub result_at : Program → Proc → List Todo → List ℤ
 result_at program s [] = []
 result_at program s (t ∷ ts) = result_in (head_deed program t s)

@@ -14,6 +14,7 @@ use Rattle.ppd_model.specs.FlowbackEdges.{edges, part_at}
 
 -- ---- open in an edge
 
+-- the edges of the steps through number n, or of all
 abbrev pub through_step : Option ℕ → List ℕ → List ℕ
 through_step None edges = edges
 through_step (Some n) edges = take (n + 1) edges
@@ -34,6 +35,7 @@ is_open_at x part i = false
 
 -- ---- round an item
 
+-- the intervals round an interval that is there
 abbrev pub round_of : Option Span → List ℕ
 round_of None = []
 round_of (Some i) = i.round
@@ -42,13 +44,16 @@ round_of (Some i) = i.round
 abbrev pub surroundings : Split → ℕ → List ℕ
 surroundings x k = k ∷ round_of (slice_get x.spans k)
 
+-- number m is one of these
 abbrev pub is_in : ℕ → List ℕ → Bool
 is_in m ms = list_any (nat_eq m) ms
 
+-- the block is a loop
 abbrev pub is_loop : BlockKind → Bool
 is_loop (block.Loop s) = true
 is_loop kind = false
 
+-- the innermost of the intervals round it is one of these
 abbrev pub is_inside : List ℕ → List ℕ → Bool
 is_inside [] ms = false
 is_inside (m ∷ round) ms = is_in m ms
@@ -65,6 +70,7 @@ is_near_origin q x m i origin.Initial = false
 is_near_origin q x m i origin.Entry = false
 is_near_origin q x m i (origin.Item p k j) = nat_eq p q && (nat_eq k m || is_open_at x (part_at x k j) i)
 
+-- no edges where there is no item
 abbrev pub edges_or_none : Option (List FlowEdge) → List FlowEdge
 edges_or_none None = []
 edges_or_none (Some es) = es
@@ -80,6 +86,7 @@ abbrev pub passing : (ℕ → Span → Bool) → ℕ → List Span → List Span
 passing near m [] = []
 passing near m (i ∷ is) = if near m i then i ∷ passing near (m + 1) is else passing near (m + 1) is
 
+-- the intervals that pass, of the processes from number q on
 abbrev pub near_from : (ℕ → Split → ℕ → Span → Bool) → ℕ → List Split → List Span
 near_from near q [] = []
 near_from near q (x ∷ xs) = passing (near q x) 0 x.spans ++ near_from near (q + 1) xs

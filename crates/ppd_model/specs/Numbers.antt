@@ -11,6 +11,7 @@ use Rattle.ppd_model.specs.HappenedBefore.{sync_at}
 abbrev pub Counting : Type 0
 Counting = SyncKind → ℕ → ℕ
 
+-- the count of an object, and 0 where there is none
 abbrev pub count_in : {A : Type 0} → (A → ℕ) → Option A → ℕ
 count_in count None = 0
 count_in count (Some x) = count x
@@ -22,6 +23,7 @@ count_of w V o = count_in (λ (x : Counts). x.given) (slice_get w.sems o)
 count_of w Send o = count_in (λ (x : Channel). length x.sent) (slice_get w.chans o)
 count_of w Recv o = count_in (λ (x : Channel). x.received) (slice_get w.chans o)
 
+-- the synchronization of this kind, object and number
 abbrev pub sync : SyncKind → ℕ → ℕ → Sync
 sync kind object number = record { kind = kind; object = object; number = number }
 

@@ -12,16 +12,19 @@ use Rattle.ppd_model.specs.Synchronizations.{syncs_of}
 use Rattle.ppd_model.specs.Record.{SharedAccess, accesses, record_of}
 use Rattle.ppd_model.specs.HappenedBefore.{edge, is_edge_before}
 
+-- the first process writes in a race of this kind
 abbrev pub first_writes : RaceKind → Bool
 first_writes ReadWrite = false
 first_writes WriteRead = true
 first_writes WriteWrite = true
 
+-- the second process writes in a race of this kind
 abbrev pub second_writes : RaceKind → Bool
 second_writes ReadWrite = true
 second_writes WriteRead = false
 second_writes WriteWrite = true
 
+-- the access is a write, or is a read
 abbrev pub writes_or_not : SharedAccess → Bool → Bool
 writes_or_not a true = a.writes
 writes_or_not a false = not a.writes
@@ -34,6 +37,7 @@ has_access s p i cell writes = list_any (λ a. nat_eq a.edge i && nat_eq a.cell 
 abbrev pub are_ordered : Program → Story → EdgeId → EdgeId → Bool
 are_ordered program s a b = is_edge_before program (record_of s) a b || is_edge_before program (record_of s) b a
 
+-- both processes have their accesses in these edges, and neither edge is before the other
 abbrev pub is_race : Program → Story → Race → Bool
 is_race program s r =
     has_access s r.p r.i r.cell (first_writes r.kind)
@@ -44,12 +48,15 @@ is_race program s r =
 abbrev pub edges_of : Story → ℕ → List ℕ
 edges_of s p = range_with_len 0 (length (syncs_of (own_steps s p)) + 1)
 
+-- the processes after p
 abbrev pub processes_after : Story → ℕ → List ℕ
 processes_after s p = range_with_len (p + 1) (length s.steps - (p + 1))
 
+-- the kinds of races in their order
 abbrev pub kinds : List RaceKind
 kinds = ReadWrite ∷ WriteRead ∷ WriteWrite ∷ []
 
+-- a race from its parts
 abbrev pub race : ℕ → ℕ → ℕ → ℕ → ℕ → RaceKind → Race
 race p i q j cell kind = record { p = p; i = i; q = q; j = j; cell = cell; kind = kind }
 

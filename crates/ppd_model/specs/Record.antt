@@ -23,11 +23,13 @@ pub record SharedAccess : Type 0 where
   pub cell : ℕ
   pub writes : Bool
 
+-- the access of a step in this edge, if it is one
 abbrev pub access_at : ℕ → Need → List SharedAccess
 access_at edge (Read c) = record { edge = edge; cell = c; writes = false } ∷ []
 access_at edge (Write c v) = record { edge = edge; cell = c; writes = true } ∷ []
 access_at edge need = []
 
+-- a synchronization ends its edge
 abbrev pub edge_after : ℕ → Taken → ℕ
 edge_after edge x = if is_some (sync_of x) then edge + 1 else edge
 

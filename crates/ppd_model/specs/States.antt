@@ -14,6 +14,7 @@ act_on program plan s x = act program plan s x.answer
 abbrev pub state_of : Program → Plan → ℕ → ℕ → List Taken → Proc
 state_of program plan budget p steps = fold (act_on program plan) (started program plan p budget) steps
 
+-- the processes from number p on after their steps
 abbrev pub states_from : Program → Plan → ℕ → ℕ → List (List Taken) → List Proc
 states_from program plan budget p [] = []
 states_from program plan budget p (steps ∷ rest) = state_of program plan budget p steps ∷ states_from program plan budget (p + 1) rest

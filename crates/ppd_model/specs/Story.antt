@@ -45,9 +45,11 @@ is_event Budget = false
 is_event Stopped = false
 is_event need = true
 
+-- the steps without the values of units
 abbrev pub steps_of : List Moment → List Taken
 steps_of moments = map (λ m. m.taken) moments
 
+-- what process p did so far
 abbrev pub own_moments : Telling → ℕ → List Moment
 own_moments t p = get_or t.moments p []
 
@@ -59,6 +61,7 @@ count_events moments = count_by (λ m. is_event m.taken.need) moments
 abbrev pub next_event : Telling → ℕ → EventId
 next_event t p = record { process = p; number = count_events (own_moments t p) }
 
+-- one more than the count of an object that is there
 abbrev pub number_after : {A : Type 0} → (A → ℕ) → Option A → Option ℕ
 number_after count x = option_map (λ y. count y + 1) x
 
@@ -70,6 +73,7 @@ number_of w (Send c v u) = number_after (λ (x : Channel). length x.sent) (slice
 number_of w (Recv c u) = number_after (λ (x : Channel). x.received) (slice_get w.chans c)
 number_of w need = None
 
+-- the event that last wrote the cell of a read
 abbrev pub writer_of : Telling → Need → Option EventId
 writer_of t (Read c) = get_or t.writers c None
 writer_of t need = None
@@ -86,6 +90,7 @@ unit_started (Send c v u) = Some u
 unit_started (Recv c u) = Some u
 unit_started need = None
 
+-- the cells of a unit that is there
 abbrev pub cells_of_unit : Option UnitOf → List ℕ
 cells_of_unit None = []
 cells_of_unit (Some u) = u.cells
@@ -94,13 +99,16 @@ cells_of_unit (Some u) = u.cells
 abbrev pub values_of_unit : Plan → List ℤ → ℕ → List ℤ
 values_of_unit plan shared u = map (λ c. get_or shared c (pos 0)) (cells_of_unit (slice_get plan.units u))
 
+-- the values of the unit that starts, if one does
 abbrev pub values_at_start : Plan → List ℤ → Option ℕ → List ℤ
 values_at_start plan shared None = []
 values_at_start plan shared (Some u) = values_of_unit plan shared u
 
+-- a step of this need
 abbrev pub taken_of : Telling → Need → Taken
 taken_of t n = record { need = n; answer = answer t.world n; writer = writer_of t n; number = number_of t.world n }
 
+-- the next step of process p, with the values of its unit as they stand after it
 abbrev pub moment_of : Program → Plan → Telling → ℕ → Moment
 moment_of program plan t p = record {
   taken = taken_of t (need program plan t.world p);
@@ -122,6 +130,7 @@ tell program plan t p = record {
 
 -- ---- schedules
 
+-- before the first step nothing is written and nothing was done
 abbrev pub begun : World → Telling
 begun w = record { world = w; writers = map (λ _. None) w.shared; moments = map (λ _. []) w.procs }
 
@@ -129,6 +138,7 @@ begun w = record { world = w; writers = map (λ _. None) w.shared; moments = map
 abbrev pub told : Program → Plan → ℕ → List ℕ → Telling
 told program plan budget h = fold (tell program plan) (begun (started_world program plan budget)) h
 
+-- what is told, without the values of units
 abbrev pub story_of : Telling → Story
 story_of t = record { steps = map steps_of t.moments; cells = t.world.shared; writers = t.writers }
 
