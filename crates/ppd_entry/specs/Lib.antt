@@ -1,0 +1,1 @@
+-- The entries of a log have no definitions beside their types.

@@ -1,0 +1,56 @@
+use ppd_ast::{Cells, Nums, Seq, Status, SyncKind};
+
+/// An entry of a process's log. Numbers of blocks and units are those of the plan, cells are
+/// shared cells, rising. `reads` and `writes` are the cells accessed since the previous
+/// synchronization of the process, or since its start.
+#[derive(Drop, Debug, Clone, PartialEq)]
+pub enum Entry {
+    /// A block was entered: of a function the values of its parameters, of a loop those of the
+    /// local cells that it may read or write.
+    Prelog {
+        block: u16,
+        values: Nums,
+    },
+    /// A synchronization unit started: the values of the shared cells that it may read.
+    Unit {
+        unit: u16,
+        values: Nums,
+    },
+    /// A synchronization: its number, from 1, among those of its kind and object, and the value
+    /// that was sent or received, 0 for a `P` or a `V`.
+    Sync {
+        kind: SyncKind,
+        object: u8,
+        number: u32,
+        value: i64,
+        reads: Cells,
+        writes: Cells,
+    },
+    /// A block was left: of a function the value that it returned, if any, of a loop the values of
+    /// the local cells that it may write.
+    Postlog {
+        block: u16,
+        values: Nums,
+    },
+    /// The process came to its end: `rest` counts the steps after the last earlier one that wrote
+    /// an entry, or from the start; the step that writes this entry is not counted.
+    End {
+        status: Status,
+        rest: u32,
+        reads: Cells,
+        writes: Cells,
+    },
+}
+
+/// The logs of a run: the entries of each process in order.
+#[derive(Drop, Debug, Clone, PartialEq)]
+pub struct Logs {
+    pub lists: Seq<Seq<Entry>>,
+}
+
+/// An entry by its process and its number in that process's log, both from 0.
+#[derive(Clone, Copy, PartialEq, Eq, Debug)]
+pub struct At {
+    pub process: u8,
+    pub entry: u32,
+}

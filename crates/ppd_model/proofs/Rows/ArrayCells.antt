@@ -1,0 +1,75 @@
+-- shared int a[2]; process p { a[0] = 1; } process q { a[1] = 2; }
+use Rattle.std.proofs.Common.{◌≡◌, refl}
+use Rattle.std.specs.Prelude.{ℕ, zero, suc, pos, true, false, List, [], ◌∷◌, None}
+use Rattle.ppd_ast.specs.Term.{terms}
+use Rattle.ppd_ast.specs.declared.plan.BlockKind.TheVariants as block
+use Rattle.ppd_ast.specs.declared.plan.Plan.{Plan}
+use Rattle.ppd_ast.specs.declared.plan.Start.TheVariants as start
+use Rattle.ppd_ast.specs.declared.program.Expr.TheVariants as expr
+use Rattle.ppd_ast.specs.declared.program.Kind.TheVariants as kind
+use Rattle.ppd_ast.specs.declared.program.Program.{Program}
+use Rattle.ppd_ast.specs.declared.program.Target.TheVariants as target
+use Rattle.ppd_ast.specs.declared.status.Status.TheVariants as status
+use Rattle.ppd_model.specs.declared.flow.Origin.TheVariants.{Item as ItemAt}
+use Rattle.ppd_model.specs.World.{enabled}
+use Rattle.ppd_model.specs.Schedule.{IsWhole}
+use Rattle.ppd_model.specs.Story.{Story, story, told}
+use Rattle.ppd_model.specs.Races.{races}
+use Rattle.ppd_model.specs.Logs.{close}
+use Rattle.ppd_model.specs.FlowbackEdges.{last}
+use Rattle.ppd_model.proofs.Rows.Tables.{stmt_in, array, body_of, block_of, unit_of, ended}
+
+abbrev pub program : Program
+program = record {
+  exprs = expr.Const (pos 0) ∷ expr.Const (pos 1) ∷ expr.Const (pos 1) ∷ expr.Const (pos 2) ∷ [];
+  stmts =
+      stmt_in 0 1 30 None (kind.Set (target.SharedAt 0 2 0) 1)
+      ∷ stmt_in 0 1 40 None kind.End
+      ∷ stmt_in 1 1 54 None (kind.Set (target.SharedAt 0 2 2) 3)
+      ∷ stmt_in 1 1 64 None kind.End ∷ [];
+  bodies = body_of 112 true 0 false [] 0 (0 ∷ 1 ∷ []) 0 2 ∷ body_of 113 true 0 false [] 0 (2 ∷ 3 ∷ []) 2 4 ∷ [];
+  functions = 0;
+  shared = array 97 0 2 ∷ [];
+  starts = pos 0 ∷ pos 0 ∷ [];
+  sems = [];
+  chans = [];
+}
+
+abbrev pub plan : Plan
+plan = record {
+  policy = record { leaf = 0; loops = 0 };
+  blocks = block_of (block.Process 0) [] [] false ∷ block_of (block.Process 1) [] [] false ∷ [];
+  units = unit_of (start.Entry 0) [] ∷ unit_of (start.Entry 1) [] ∷ [];
+}
+
+abbrev pub schedule : List ℕ
+schedule = 0 ∷ 0 ∷ 1 ∷ 1 ∷ []
+
+abbrev pub the_story : Story
+the_story = story program plan 100000 schedule
+
+nobody : (p : ℕ) → enabled program plan (told program plan 100000 schedule).world p ≡ false
+unfolding terms
+nobody zero = refl
+nobody (suc zero) = refl
+nobody (suc (suc p)) = refl
+
+pub whole : IsWhole program plan 100000 schedule
+unfolding terms
+whole = record { last = (told program plan 100000 schedule).world; runs = refl; over = record { nobody = nobody } }
+
+pub ends : (close program plan 100000 schedule).ends ≡ ended status.Ended 1 2 [] ∷ ended status.Ended 3 2 [] ∷ []
+unfolding terms
+ends = refl
+
+pub race_list : races program plan 100000 schedule ≡ []
+unfolding terms
+race_list = refl
+
+pub final_a_0 : last program plan 100000 the_story 0 ≡ (pos 1, ItemAt 0 0 0)
+unfolding terms
+final_a_0 = refl
+
+pub final_a_1 : last program plan 100000 the_story 1 ≡ (pos 2, ItemAt 1 0 0)
+unfolding terms
+final_a_1 = refl

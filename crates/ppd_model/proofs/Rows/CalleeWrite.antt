@@ -1,0 +1,111 @@
+-- shared int x; void f() { x = 4; } process a { x = 1; f(); print(x); }
+use Rattle.std.proofs.Common.{◌≡◌, refl}
+use Rattle.std.specs.Prelude.{ℕ, zero, suc, pos, true, false, List, [], ◌∷◌, map, Some, None}
+use Rattle.ppd_ast.specs.Term.{terms}
+use Rattle.ppd_ast.specs.declared.plan.BlockKind.TheVariants as block
+use Rattle.ppd_ast.specs.declared.plan.Plan.{Plan}
+use Rattle.ppd_ast.specs.declared.plan.Start.TheVariants as start
+use Rattle.ppd_ast.specs.declared.program.Expr.TheVariants as expr
+use Rattle.ppd_ast.specs.declared.program.Kind.TheVariants as kind
+use Rattle.ppd_ast.specs.declared.program.Program.{Program}
+use Rattle.ppd_ast.specs.declared.program.Target.TheVariants as target
+use Rattle.ppd_ast.specs.declared.status.Status.TheVariants as status
+use Rattle.ppd_entry.specs.declared.entry.Entry.TheVariants as entry
+use Rattle.ppd_sem.specs.declared.event.Spot.TheVariants.{Shared}
+use Rattle.ppd_model.specs.declared.flow.Item.TheVariants.{Own, Nested}
+use Rattle.ppd_model.specs.declared.flow.Origin.TheVariants.{Entry, Item as ItemAt}
+use Rattle.ppd_model.specs.World.{enabled}
+use Rattle.ppd_model.specs.Schedule.{IsWhole}
+use Rattle.ppd_model.specs.Story.{Story, story, told}
+use Rattle.ppd_model.specs.Races.{races}
+use Rattle.ppd_model.specs.Logs.{close, logs}
+use Rattle.ppd_model.specs.Intervals.{intervals, items}
+use Rattle.ppd_model.specs.FlowbackEdges.{edges}
+use Rattle.ppd_model.specs.NearIntervals.{near_steps}
+use Rattle.ppd_model.proofs.Rows.Tables.{stmt_in, scalar, body_of, block_of, unit_of, access, event, ended, read_from, control_from}
+
+abbrev pub program : Program
+program = record {
+  exprs = expr.Const (pos 4) ∷ expr.Const (pos 1) ∷ expr.Shared 0 ∷ [];
+  stmts =
+      stmt_in 0 1 26 None (kind.Set (target.Shared 0) 0)
+      ∷ stmt_in 0 1 33 None (kind.Return None)
+      ∷ stmt_in 1 1 47 None (kind.Set (target.Shared 0) 1)
+      ∷ stmt_in 1 1 54 None (kind.Call 0 [] None)
+      ∷ stmt_in 1 1 59 None (kind.Print 2)
+      ∷ stmt_in 1 1 69 None kind.End ∷ [];
+  bodies = body_of 102 false 0 false [] 0 (0 ∷ 1 ∷ []) 0 2 ∷ body_of 97 true 0 false [] 0 (2 ∷ 3 ∷ 4 ∷ 5 ∷ []) 2 6 ∷ [];
+  functions = 1;
+  shared = scalar 120 0 ∷ [];
+  starts = pos 0 ∷ [];
+  sems = [];
+  chans = [];
+}
+
+abbrev pub plan : Plan
+plan = record {
+  policy = record { leaf = 0; loops = 0 };
+  blocks = block_of (block.Function 0) [] [] false ∷ block_of (block.Process 1) [] [] false ∷ [];
+  units = unit_of (start.Entry 0) [] ∷ unit_of (start.Entry 1) [] ∷ unit_of (start.After 3) (0 ∷ []) ∷ [];
+}
+
+abbrev pub schedule : List ℕ
+schedule = 0 ∷ 0 ∷ 0 ∷ 0 ∷ 0 ∷ 0 ∷ 0 ∷ []
+
+abbrev pub the_story : Story
+the_story = story program plan 100000 schedule
+
+nobody : (p : ℕ) → enabled program plan (told program plan 100000 schedule).world p ≡ false
+unfolding terms
+nobody zero = refl
+nobody (suc p) = refl
+
+pub whole : IsWhole program plan 100000 schedule
+unfolding terms
+whole = record { last = (told program plan 100000 schedule).world; runs = refl; over = record { nobody = nobody } }
+
+pub ends : (close program plan 100000 schedule).ends ≡ ended status.Ended 5 7 (pos 4 ∷ []) ∷ []
+unfolding terms
+ends = refl
+
+pub race_list : races program plan 100000 schedule ≡ []
+unfolding terms
+race_list = refl
+
+pub blocks_a : map (λ i. i.block) (intervals program plan 100000 the_story 0) ≡ 1 ∷ 0 ∷ []
+unfolding terms
+blocks_a = refl
+
+-- the own steps of the two intervals
+pub steps_a : map (λ i. i.steps) (intervals program plan 100000 the_story 0) ≡ 5 ∷ 2 ∷ []
+unfolding terms
+steps_a = refl
+
+pub open_a_0 : items program plan 100000 the_story 0 0 ≡ Some (Own (event 2 [] (access (Shared 0) (pos 1) ∷ []) None None None) ∷ Own (event 3 [] [] None None None) ∷ Nested 1 0 [] true ∷ Own (event 4 (access (Shared 0) (pos 4) ∷ []) [] (Some (pos 4)) None None) ∷ Own (event 5 [] [] None None None) ∷ [])
+unfolding terms
+open_a_0 = refl
+
+pub open_a_1 : items program plan 100000 the_story 0 1 ≡ Some (Own (event 0 [] (access (Shared 0) (pos 4) ∷ []) None None None) ∷ Own (event 1 [] [] None None None) ∷ [])
+unfolding terms
+open_a_1 = refl
+
+pub why_a_0_2 : edges program plan 100000 the_story 0 0 2 ≡ Some (control_from (ItemAt 0 0 1) ∷ [])
+unfolding terms
+why_a_0_2 = refl
+
+pub why_a_0_3 : edges program plan 100000 the_story 0 0 3 ≡ Some (read_from (Shared 0) (pos 4) (ItemAt 0 1 0) ∷ control_from Entry ∷ [])
+unfolding terms
+why_a_0_3 = refl
+
+pub why_a_1_0 : edges program plan 100000 the_story 0 1 0 ≡ Some (control_from (ItemAt 0 0 1) ∷ [])
+unfolding terms
+why_a_1_0 = refl
+
+-- the call's interval is near to the print after it, since both lie in one edge
+pub near_a_0_3 : near_steps program plan 100000 the_story 0 0 3 ≡ 7
+unfolding terms
+near_a_0_3 = refl
+
+pub log : (logs program plan 100000 schedule).lists ≡ (entry.Prelog 1 [] ∷ entry.Unit 1 [] ∷ entry.Prelog 0 [] ∷ entry.Unit 0 [] ∷ entry.Postlog 0 [] ∷ entry.Unit 2 (pos 4 ∷ []) ∷ entry.Postlog 1 [] ∷ entry.End status.Ended 2 (0 ∷ []) (0 ∷ []) ∷ []) ∷ []
+unfolding terms
+log = refl

@@ -1,0 +1,109 @@
+-- shared int x; void f(int k) { x = k; } process a { f(9); print(x); }
+use Rattle.std.proofs.Common.{◌≡◌, refl}
+use Rattle.std.specs.Prelude.{ℕ, zero, suc, pos, true, false, List, [], ◌∷◌, Some, None}
+use Rattle.ppd_ast.specs.Term.{terms}
+use Rattle.ppd_ast.specs.declared.plan.BlockKind.TheVariants as block
+use Rattle.ppd_ast.specs.declared.plan.Plan.{Plan}
+use Rattle.ppd_ast.specs.declared.plan.Start.TheVariants as start
+use Rattle.ppd_ast.specs.declared.program.Expr.TheVariants as expr
+use Rattle.ppd_ast.specs.declared.program.Kind.TheVariants as kind
+use Rattle.ppd_ast.specs.declared.program.Program.{Program}
+use Rattle.ppd_ast.specs.declared.program.Target.TheVariants as target
+use Rattle.ppd_ast.specs.declared.status.Status.TheVariants as status
+use Rattle.ppd_sem.specs.declared.event.Spot.TheVariants.{Local, Shared}
+use Rattle.ppd_model.specs.declared.flow.Item.TheVariants.{Own, Nested}
+use Rattle.ppd_model.specs.declared.flow.Origin.TheVariants.{Item as ItemAt}
+use Rattle.ppd_model.specs.World.{enabled}
+use Rattle.ppd_model.specs.Schedule.{IsWhole}
+use Rattle.ppd_model.specs.Story.{Story, story, told}
+use Rattle.ppd_model.specs.Logs.{close}
+use Rattle.ppd_model.specs.Intervals.{items}
+use Rattle.ppd_model.specs.FlowbackEdges.{edges}
+use Rattle.ppd_model.proofs.Rows.Tables.{stmt_in, scalar, body_of, block_of, unit_of, access, event, ended, read_from, control_from}
+
+abbrev pub program : Program
+program = record {
+  exprs = expr.Local 0 ∷ expr.Const (pos 9) ∷ expr.Shared 0 ∷ [];
+  stmts =
+      stmt_in 0 1 31 None (kind.Set (target.Shared 0) 0)
+      ∷ stmt_in 0 1 38 None (kind.Return None)
+      ∷ stmt_in 1 1 52 None (kind.Call 0 (1 ∷ []) None)
+      ∷ stmt_in 1 1 58 None (kind.Print 2)
+      ∷ stmt_in 1 1 68 None kind.End ∷ [];
+  bodies = body_of 102 false 1 false (scalar 107 0 ∷ []) 1 (0 ∷ 1 ∷ []) 0 2 ∷ body_of 97 true 0 false [] 0 (2 ∷ 3 ∷ 4 ∷ []) 2 5 ∷ [];
+  functions = 1;
+  shared = scalar 120 0 ∷ [];
+  starts = pos 0 ∷ [];
+  sems = [];
+  chans = [];
+}
+
+-- functions of fewer than 3 statements are no blocks
+abbrev pub leaf_plan : Plan
+leaf_plan = record {
+  policy = record { leaf = 3; loops = 0 };
+  blocks = block_of (block.Process 1) [] [] false ∷ [];
+  units = unit_of (start.Entry 0) [] ∷ unit_of (start.Entry 1) [] ∷ unit_of (start.After 2) (0 ∷ []) ∷ [];
+}
+
+abbrev pub plan : Plan
+plan = record {
+  policy = record { leaf = 0; loops = 0 };
+  blocks = block_of (block.Function 0) (0 ∷ []) [] false ∷ block_of (block.Process 1) [] [] false ∷ [];
+  units = unit_of (start.Entry 0) [] ∷ unit_of (start.Entry 1) [] ∷ unit_of (start.After 2) (0 ∷ []) ∷ [];
+}
+
+abbrev pub schedule : List ℕ
+schedule = 0 ∷ 0 ∷ 0 ∷ 0 ∷ 0 ∷ 0 ∷ []
+
+abbrev pub leaf_story : Story
+leaf_story = story program leaf_plan 100000 schedule
+
+abbrev pub the_story : Story
+the_story = story program plan 100000 schedule
+
+nobody_leaf : (p : ℕ) → enabled program leaf_plan (told program leaf_plan 100000 schedule).world p ≡ false
+unfolding terms
+nobody_leaf zero = refl
+nobody_leaf (suc p) = refl
+
+pub whole_leaf : IsWhole program leaf_plan 100000 schedule
+unfolding terms
+whole_leaf = record { last = (told program leaf_plan 100000 schedule).world; runs = refl; over = record { nobody = nobody_leaf } }
+
+nobody : (p : ℕ) → enabled program plan (told program plan 100000 schedule).world p ≡ false
+unfolding terms
+nobody zero = refl
+nobody (suc p) = refl
+
+pub whole : IsWhole program plan 100000 schedule
+unfolding terms
+whole = record { last = (told program plan 100000 schedule).world; runs = refl; over = record { nobody = nobody } }
+
+pub leaf_ends : (close program leaf_plan 100000 schedule).ends ≡ ended status.Ended 4 6 (pos 9 ∷ []) ∷ []
+unfolding terms
+leaf_ends = refl
+
+pub ends : (close program plan 100000 schedule).ends ≡ ended status.Ended 4 6 (pos 9 ∷ []) ∷ []
+unfolding terms
+ends = refl
+
+pub leaf_open_a_0 : items program leaf_plan 100000 leaf_story 0 0 ≡ Some (Own (event 2 [] (access (Local 1 0) (pos 9) ∷ []) None None None) ∷ Own (event 0 (access (Local 1 0) (pos 9) ∷ []) (access (Shared 0) (pos 9) ∷ []) None None None) ∷ Own (event 1 [] [] None None None) ∷ Own (event 3 (access (Shared 0) (pos 9) ∷ []) [] (Some (pos 9)) None None) ∷ Own (event 4 [] [] None None None) ∷ [])
+unfolding terms
+leaf_open_a_0 = refl
+
+pub leaf_why_a_0_1 : edges program leaf_plan 100000 leaf_story 0 0 1 ≡ Some (read_from (Local 1 0) (pos 9) (ItemAt 0 0 0) ∷ control_from (ItemAt 0 0 0) ∷ [])
+unfolding terms
+leaf_why_a_0_1 = refl
+
+pub open_a_0 : items program plan 100000 the_story 0 0 ≡ Some (Own (event 2 [] (access (Local 1 0) (pos 9) ∷ []) None None None) ∷ Nested 1 0 [] true ∷ Own (event 3 (access (Shared 0) (pos 9) ∷ []) [] (Some (pos 9)) None None) ∷ Own (event 4 [] [] None None None) ∷ [])
+unfolding terms
+open_a_0 = refl
+
+pub open_a_1 : items program plan 100000 the_story 0 1 ≡ Some (Own (event 0 (access (Local 0 0) (pos 9) ∷ []) (access (Shared 0) (pos 9) ∷ []) None None None) ∷ Own (event 1 [] [] None None None) ∷ [])
+unfolding terms
+open_a_1 = refl
+
+pub why_a_1_0 : edges program plan 100000 the_story 0 1 0 ≡ Some (read_from (Local 0 0) (pos 9) (ItemAt 0 0 0) ∷ control_from (ItemAt 0 0 0) ∷ [])
+unfolding terms
+why_a_1_0 = refl

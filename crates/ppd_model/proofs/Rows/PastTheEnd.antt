@@ -1,0 +1,77 @@
+-- shared int a[2]; process p { int i; a[0] = 5; a[1] = 6; while (a[i] != 0) { i = i + 1; } print(i); }
+use Rattle.std.proofs.Common.{◌≡◌, refl}
+use Rattle.std.specs.Prelude.{ℕ, zero, suc, pos, true, false, List, [], ◌∷◌, slice_get, Some, None, option_map}
+use Rattle.ppd_ast.specs.Term.{terms}
+use Rattle.ppd_ast.specs.declared.plan.BlockKind.TheVariants as block
+use Rattle.ppd_ast.specs.declared.plan.Plan.{Plan}
+use Rattle.ppd_ast.specs.declared.plan.Start.TheVariants as start
+use Rattle.ppd_ast.specs.declared.program.Expr.TheVariants as expr
+use Rattle.ppd_ast.specs.declared.program.Kind.TheVariants as kind
+use Rattle.ppd_ast.specs.declared.program.Op.TheVariants as op
+use Rattle.ppd_ast.specs.declared.program.Program.{Program}
+use Rattle.ppd_ast.specs.declared.program.Target.TheVariants as target
+use Rattle.ppd_ast.specs.declared.status.Status.TheVariants as status
+use Rattle.ppd_ast.specs.declared.status.Trap.TheVariants as trap
+use Rattle.ppd_sem.specs.declared.event.Spot.TheVariants.{Local}
+use Rattle.ppd_model.specs.declared.flow.Item.TheVariants.{Own}
+use Rattle.ppd_model.specs.declared.flow.Origin.TheVariants.{Item as ItemAt}
+use Rattle.ppd_model.specs.World.{enabled}
+use Rattle.ppd_model.specs.Schedule.{IsWhole}
+use Rattle.ppd_model.specs.Story.{Story, story, told}
+use Rattle.ppd_model.specs.Logs.{close}
+use Rattle.ppd_model.specs.Intervals.{items}
+use Rattle.ppd_model.specs.FlowbackEdges.{edges}
+use Rattle.ppd_model.proofs.Rows.Tables.{stmt_in, scalar, array, body_of, block_of, unit_of, access, event, ended, read_from, control_from}
+
+abbrev pub program : Program
+program = record {
+  exprs = expr.Const (pos 0) ∷ expr.Const (pos 0) ∷ expr.Const (pos 5) ∷ expr.Const (pos 1) ∷ expr.Const (pos 6) ∷ expr.Local 0 ∷ expr.SharedAt 0 2 5 ∷ expr.Const (pos 0) ∷ expr.Two op.Ne 6 7 ∷ expr.Local 0 ∷ expr.Const (pos 1) ∷ expr.Two op.Add 9 10 ∷ expr.Local 0 ∷ [];
+  stmts =
+      stmt_in 0 3 7 None (kind.Set (target.Local 0) 0)
+      ∷ stmt_in 0 4 3 None (kind.Set (target.SharedAt 0 2 1) 2)
+      ∷ stmt_in 0 5 3 None (kind.Set (target.SharedAt 0 2 3) 4)
+      ∷ stmt_in 0 6 3 None (kind.While 8 (4 ∷ []))
+      ∷ stmt_in 0 6 23 (Some 3) (kind.Set (target.Local 0) 11)
+      ∷ stmt_in 0 7 3 None (kind.Print 12)
+      ∷ stmt_in 0 8 1 None kind.End ∷ [];
+  bodies = body_of 112 true 0 false (scalar 105 0 ∷ []) 1 (0 ∷ 1 ∷ 2 ∷ 3 ∷ 5 ∷ 6 ∷ []) 0 7 ∷ [];
+  functions = 0;
+  shared = array 97 0 2 ∷ [];
+  starts = pos 0 ∷ pos 0 ∷ [];
+  sems = [];
+  chans = [];
+}
+
+abbrev pub plan : Plan
+plan = record {
+  policy = record { leaf = 0; loops = 0 };
+  blocks = block_of (block.Process 0) [] [] false ∷ [];
+  units = unit_of (start.Entry 0) (0 ∷ 1 ∷ []) ∷ [];
+}
+
+abbrev pub schedule : List ℕ
+schedule = 0 ∷ 0 ∷ 0 ∷ 0 ∷ 0 ∷ 0 ∷ 0 ∷ 0 ∷ 0 ∷ 0 ∷ []
+
+abbrev pub the_story : Story
+the_story = story program plan 100000 schedule
+
+nobody : (p : ℕ) → enabled program plan (told program plan 100000 schedule).world p ≡ false
+unfolding terms
+nobody zero = refl
+nobody (suc p) = refl
+
+pub whole : IsWhole program plan 100000 schedule
+unfolding terms
+whole = record { last = (told program plan 100000 schedule).world; runs = refl; over = record { nobody = nobody } }
+
+pub ends : (close program plan 100000 schedule).ends ≡ ended (status.Trap trap.Index) 3 10 [] ∷ []
+unfolding terms
+ends = refl
+
+pub item_7 : option_map (λ is. slice_get is 7) (items program plan 100000 the_story 0 0) ≡ Some (Some (Own (event 3 (access (Local 0 0) (pos 2) ∷ []) [] None None (Some trap.Index))))
+unfolding terms
+item_7 = refl
+
+pub why_p_0_7 : edges program plan 100000 the_story 0 0 7 ≡ Some (read_from (Local 0 0) (pos 2) (ItemAt 0 0 6) ∷ control_from (ItemAt 0 0 5) ∷ [])
+unfolding terms
+why_p_0_7 = refl

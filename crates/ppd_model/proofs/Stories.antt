@@ -1,0 +1,47 @@
+-- A story with one more step, and the world of which it is told.
+use Rattle.std.proofs.Common.{◌≡◌, ℕ, zero, suc, List, [], ◌∷◌, ◌++◌, Some, None, Bool, true, false, refl, ap, ◌∙◌, cond, map}
+use Rattle.std.proofs.lemmas.List.Sums.{fold-append}
+use Rattle.std.proofs.lemmas.Option.{none-some}
+use Rattle.std.specs.Prelude.{fold}
+use Rattle.ppd_ast.specs.declared.plan.Plan.{Plan}
+use Rattle.ppd_ast.specs.declared.program.Program.{Program}
+use Rattle.ppd_model.specs.World.{World, change, enabled, step}
+use Rattle.ppd_model.specs.Schedule.{run_from, started_world}
+use Rattle.ppd_model.specs.Story.{Moment, Telling, begun, moment_of, steps_of, tell, told}
+use Rattle.ppd_model.specs.Laws.{StoriesAreOfRuns, StoriesGrow}
+
+map-append : {A B : Type 0} (f : A → B) (xs ys : List A) → map f (xs ++ ys) ≡ map f xs ++ map f ys
+map-append f [] ys = refl
+map-append f (x ∷ xs) ys = ap (λ zs. f x ∷ zs) (map-append f xs ys)
+
+-- the steps of the processes, where process p has one more moment
+pub steps-change : (m : Moment) (p : ℕ) (moments : List (List Moment)) → map steps_of (change (λ ms. ms ++ m ∷ []) p moments) ≡ change (λ xs. xs ++ m.taken ∷ []) p (map steps_of moments)
+steps-change m p [] = refl
+steps-change m zero (ms ∷ rest) = ap (λ xs. xs ∷ map steps_of rest) (map-append (λ x. x.taken) ms (m ∷ []))
+steps-change m (suc p) (ms ∷ rest) = ap (λ xs. steps_of ms ∷ xs) (steps-change m p rest)
+
+pub told-append : (program : Program) (plan : Plan) (budget : ℕ) (h : List ℕ) (p : ℕ) → told program plan budget (h ++ p ∷ []) ≡ tell program plan (told program plan budget h) p
+told-append program plan budget h p = fold-append (tell program plan) (begun (started_world program plan budget)) h (p ∷ [])
+
+pub stories_grow : StoriesGrow
+stories_grow program plan budget h p = record {
+  told_is = told-append program plan budget h p;
+  steps_are = ap (λ t. map steps_of t.moments) (told-append program plan budget h p)
+      ∙ steps-change (moment_of program plan (told program plan budget h) p) p (told program plan budget h).moments;
+  cells_are = ap (λ t. t.world.shared) (told-append program plan budget h p);
+  writers_are = ap (λ t. t.writers) (told-append program plan budget h p);
+}
+
+some_is : {A : Type 0} {x y : A} → Some x ≡ Some y → x ≡ y
+some_is {x = x} e = ap (λ o. elim o [ None ↦ x | Some z ↦ z ]) e
+
+taken : (program : Program) (plan : Plan) (t : Telling) (p : ℕ) (h : List ℕ) (w : World) (b : Bool) → cond b (run_from program plan (step program plan t.world p) h) None ≡ Some w → run_from program plan (step program plan t.world p) h ≡ Some w
+taken program plan t p h w true e = e
+taken program plan t p h w false e = absurd (none-some w e)
+
+run_told : (program : Program) (plan : Plan) (t : Telling) (h : List ℕ) (w : World) → run_from program plan t.world h ≡ Some w → (fold (tell program plan) t h).world ≡ w
+run_told program plan t [] w e = some_is e
+run_told program plan t (p ∷ h) w e = run_told program plan (tell program plan t p) h w (taken program plan t p h w (enabled program plan t.world p) e)
+
+pub stories_are_of_runs : StoriesAreOfRuns
+stories_are_of_runs program plan budget h w e = run_told program plan (begun (started_world program plan budget)) h w e

@@ -1,0 +1,262 @@
+-- The events of a schedule: each with the writers of what it read, its control parent and its pair.
+use Rattle.std.specs.Prelude.{ℕ, zero, suc, ◌+◌, ◌-◌, nat_eq, ℤ, Bool, false, not, List, [], ◌∷◌, ◌++◌, map, fold, find, drop, length, get_or, replicate, slice_set, slice_get, Option, Some, None, option_map, Ok, if◌then◌else◌}
+use Rattle.ppd_ast.specs.declared.program.Body.{Body}
+use Rattle.ppd_ast.specs.declared.program.Kind.{Kind}
+use Rattle.ppd_ast.specs.declared.program.Kind.TheVariants.{If, While}
+use Rattle.ppd_ast.specs.declared.program.Program.{Program}
+use Rattle.ppd_ast.specs.declared.program.Stmt.{Stmt}
+use Rattle.ppd_ast.specs.declared.plan.Plan.{Plan}
+use Rattle.ppd_sem.specs.declared.event.Access.{Access}
+use Rattle.ppd_sem.specs.declared.event.Event.{Event}
+use Rattle.ppd_sem.specs.declared.event.Spot.{Spot}
+use Rattle.ppd_sem.specs.declared.event.Spot.TheVariants.{Local, Shared}
+use Rattle.ppd_sem.specs.declared.proc.Need.{Need}
+use Rattle.ppd_sem.specs.declared.proc.Need.TheVariants.{Read, Enter, Trap, Budget, Stopped}
+use Rattle.ppd_sem.specs.declared.proc.Proc.{Proc}
+use Rattle.ppd_sem.specs.declared.proc.Todo.{Todo}
+use Rattle.ppd_sem.specs.Ask.{is_zero}
+use Rattle.ppd_sem.specs.Asked.{Asked}
+use Rattle.ppd_sem.specs.Deed.{Deed, set_local, clear, invoke, back, receive}
+use Rattle.ppd_sem.specs.Described.{described}
+use Rattle.ppd_sem.specs.Process.{act, head_deed, into_of, kind_of, started, top_call}
+use Rattle.ppd_model.specs.declared.trace.EventId.{EventId}
+use Rattle.ppd_model.specs.declared.trace.Trace.{Trace}
+use Rattle.ppd_model.specs.declared.trace.TracedEvent.{TracedEvent}
+use Rattle.ppd_model.specs.Story.{Taken, Story, story}
+use Rattle.ppd_model.specs.Synchronizations.{paired_of}
+
+-- the event that last wrote a place, and None for its start value
+abbrev pub Tag : Type 0
+Tag = Option EventId
+
+-- an event of an `If` or `While`, and whether its value was true
+pub record Test : Type 0 where
+  pub stmt : ℕ
+  pub event : EventId
+  pub passed : Bool
+
+-- a body's run: the event of the call that began it, none in a process, the tags of its local
+-- cells, and its tests with the latest first
+pub record Activation : Type 0 where
+  pub call : Option EventId
+  pub tags : List Tag
+  pub tests : List Test
+
+-- a process with its activations, the top one first, the tags of the head's answers, and the
+-- events so far
+pub record Tracing : Type 0 where
+  pub proc : Proc
+  pub activations : List Activation
+  pub answers : List Tag
+  pub events : List TracedEvent
+
+-- ---- the tags of what is read
+
+-- the tags of the local cells of the top frame
+abbrev pub top_tags : List Activation → List Tag
+top_tags [] = []
+top_tags (x ∷ xs) = x.tags
+
+-- the tag of the next answer
+abbrev pub first_tag : List Tag → Tag
+first_tag [] = None
+first_tag (x ∷ xs) = x
+
+-- the tag of a place that is read
+abbrev pub tag_at : List Tag → List Tag → Spot → Tag
+tag_at locals answers (Local frame c) = get_or locals c None
+tag_at locals answers (Shared c) = first_tag answers
+
+-- a shared read takes its answer
+abbrev pub answers_past : List Tag → Spot → List Tag
+answers_past answers (Local frame c) = answers
+answers_past answers (Shared c) = drop 1 answers
+
+-- the tags of reads in their order: a shared one has the next answer's
+abbrev pub tags_of : List Tag → List Tag → List Access → List Tag
+tags_of locals answers [] = []
+tags_of locals answers (a ∷ as') = tag_at locals answers a.spot ∷ tags_of locals (answers_past answers a.spot) as'
+
+-- ---- the tags of what is written
+
+-- the top activation with a new tag of cell c
+abbrev pub tagged : ℕ → Tag → List Activation → List Activation
+tagged c me [] = []
+tagged c me (x ∷ xs) = record x { tags = slice_set x.tags c me } ∷ xs
+
+-- the top activation with a new tag of each cell of an array
+abbrev pub all_tagged : ℕ → ℕ → Tag → List Activation → List Activation
+all_tagged base zero me xs = xs
+all_tagged base (suc n) me xs = tagged (base + n) me (all_tagged base n me xs)
+
+-- the cells of a frame of this body
+abbrev pub size_if : Option Body → ℕ
+size_if None = 0
+size_if (Some b) = b.cells
+
+-- the activation that a call begins, which writes so many parameters
+abbrev pub called : Program → ℕ → ℕ → Option EventId → Activation
+called program f count me = record {
+  call = me;
+  tags = replicate count me ++ replicate (size_if (slice_get program.bodies f) - count) None;
+  tests = [];
+}
+
+-- the local that receives the value of the top frame
+abbrev pub into_at : Program → Option ℕ → Option ℕ
+into_at program None = None
+into_at program (Some c) = into_of (kind_of program c)
+
+-- the receiving local has the tag of the return, where there are a local and a value
+abbrev pub tagged_into : Option ℕ → Option ℤ → Tag → List Activation → List Activation
+tagged_into (Some c) (Some v) me xs = tagged c me xs
+tagged_into into value me xs = xs
+
+-- the activations after a statement that the event finished
+abbrev pub tagged_by : Program → Proc → Tag → Asked Deed → List Activation → List Activation
+tagged_by program s me (Ok (set_local c v, left)) xs = tagged c me xs
+tagged_by program s me (Ok (clear base len, left)) xs = all_tagged base len me xs
+tagged_by program s me (Ok (invoke f values into, left)) xs = called program f (length values) me ∷ xs
+tagged_by program s me (Ok (back value, left)) xs = tagged_into (into_at program (top_call s.frames)) value me (drop 1 xs)
+tagged_by program s me (Ok (receive chan into, left)) xs = tagged into me xs
+tagged_by program s me asked xs = xs
+
+-- the activations after the head statement finished
+abbrev pub tagged_at : Program → Proc → Tag → List Todo → List Activation → List Activation
+tagged_at program s me [] xs = xs
+tagged_at program s me (t ∷ ts) xs = tagged_by program s me (head_deed program t s) xs
+
+-- a step that traps writes nothing
+abbrev pub tagged_after : Program → Proc → Tag → Need → List Activation → List Activation
+tagged_after program s me (Trap t) xs = xs
+tagged_after program s me need xs = tagged_at program s me s.todo xs
+
+-- ---- control
+
+-- the `If` or `While` in which a statement directly stands
+abbrev pub parent_if : Option Stmt → Option ℕ
+parent_if None = None
+parent_if (Some s) = s.parent
+
+-- the latest test of a statement
+abbrev pub latest : ℕ → List Test → Option Test
+latest s tests = find (λ x. nat_eq x.stmt s) tests
+
+-- the previous test of a loop run that goes on
+abbrev pub of_run : Kind → Option Test → Option EventId
+of_run (While e body) (Some x) = if x.passed then Some x.event else None
+of_run k x = None
+
+-- the latest test of the statement in which another one directly stands
+abbrev pub of_outer : Option ℕ → List Test → Option EventId
+of_outer None tests = None
+of_outer (Some s) tests = option_map (λ x. x.event) (latest s tests)
+
+-- the first that is there
+abbrev pub or_else : {A : Type 0} → Option A → Option A → Option A
+or_else None y = y
+or_else (Some x) y = Some x
+
+-- the control parent of statement s in its activation
+abbrev pub parent_in : Program → ℕ → Activation → Option EventId
+parent_in program s x =
+    or_else (of_run (kind_of program s) (latest s x.tests)) (or_else (of_outer (parent_if (slice_get program.stmts s)) x.tests) x.call)
+
+-- the control parent of an event of the head: the previous test of its loop run, or the latest
+-- test of the statement round it, or else the call; and None in a process by itself
+abbrev pub parent_at : Program → List Activation → List Todo → Option EventId
+parent_at program [] todo = None
+parent_at program xs [] = None
+parent_at program (x ∷ xs) (t ∷ ts) = parent_in program t.stmt x
+
+-- a value that is there and not 0
+abbrev pub is_passed : Option ℤ → Bool
+is_passed None = false
+is_passed (Some v) = not (is_zero v)
+
+-- the tests of an activation with one more, where the statement is an `If` or a `While`
+abbrev pub tests_after : Kind → ℕ → EventId → Option ℤ → List Test → List Test
+tests_after (If e first second) s me value tests = record { stmt = s; event = me; passed = is_passed value } ∷ tests
+tests_after (While e body) s me value tests = record { stmt = s; event = me; passed = is_passed value } ∷ tests
+tests_after k s me value tests = tests
+
+-- the top activation with the event, if it is of a test
+abbrev pub with_test : Program → EventId → Event → List Activation → List Activation
+with_test program me e [] = []
+with_test program me e (x ∷ xs) = record x { tests = tests_after (kind_of program e.stmt) e.stmt me e.value x.tests } ∷ xs
+
+-- ---- one step
+
+-- stands where nothing is to do
+abbrev pub no_event : Event
+no_event = record { stmt = 0; reads = []; writes = []; value = None; number = None; trap = None }
+
+-- the event of a process's next step
+abbrev pub event_of : Program → Plan → Proc → Taken → List Todo → Event
+event_of program plan s x [] = no_event
+event_of program plan s x (t ∷ ts) = record (described program plan s t x.answer) { number = x.number }
+
+-- the next event of process p
+abbrev pub me_in : ℕ → Tracing → EventId
+me_in p t = record { process = p; number = length t.events }
+
+-- an event with the writers of its reads, its parent and its pair
+abbrev pub traced_by : Program → Story → Taken → Tracing → Event → TracedEvent
+traced_by program story x t e = record {
+  event = e;
+  writers = tags_of (top_tags t.activations) t.answers e.reads;
+  parent = parent_at program t.activations t.proc.todo;
+  paired = paired_of program story x;
+}
+
+-- a step that finishes or traps a statement
+abbrev pub with_event : Program → Plan → Story → ℕ → Taken → Tracing → Tracing
+with_event program plan story p x t =
+    let e = event_of program plan t.proc x t.proc.todo in
+    record t {
+      activations = tagged_after program t.proc (Some (me_in p t)) x.need (with_test program (me_in p t) e t.activations);
+      answers = [];
+      events = t.events ++ traced_by program story x t e ∷ [];
+    }
+
+-- a read keeps its tag for the event that it is of; an entry of a loop and a stop are no events
+abbrev pub trace_by : Program → Plan → Story → ℕ → Taken → Need → Tracing → Tracing
+trace_by program plan story p x (Read c) t = record t { answers = t.answers ++ x.writer ∷ [] }
+trace_by program plan story p x (Enter b u) t = t
+trace_by program plan story p x Budget t = t
+trace_by program plan story p x Stopped t = t
+trace_by program plan story p x need t = with_event program plan story p x t
+
+-- the state goes on by the step's answer
+abbrev pub trace_step : Program → Plan → Story → ℕ → Tracing → Taken → Tracing
+trace_step program plan story p t x = record (trace_by program plan story p x x.need t) { proc = act program plan t.proc x.answer }
+
+-- ---- a process, and all of them
+
+-- the frames of a process before its first step have no tags
+abbrev pub begun_tracing : Proc → Tracing
+begun_tracing s = record {
+  proc = s;
+  activations = map (λ f. record { call = None; tags = map (λ _. None) f.cells; tests = [] }) s.frames;
+  answers = [];
+  events = [];
+}
+
+-- process p, traced by its own steps
+abbrev pub tracing_of : Program → Plan → ℕ → Story → ℕ → List Taken → Tracing
+tracing_of program plan budget story p steps =
+    fold (trace_step program plan story p) (begun_tracing (started program plan p budget)) steps
+
+-- the events of the processes from number p on
+abbrev pub events_from : Program → Plan → ℕ → Story → ℕ → List (List Taken) → List (List TracedEvent)
+events_from program plan budget story p [] = []
+events_from program plan budget story p (steps ∷ rest) =
+    (tracing_of program plan budget story p steps).events ∷ events_from program plan budget story (p + 1) rest
+
+-- the trace of a story
+abbrev pub trace_of : Program → Plan → ℕ → Story → Trace
+trace_of program plan budget story = record { events = events_from program plan budget story 0 story.steps }
+
+-- the full trace of a schedule
+abbrev pub full_trace : Program → Plan → ℕ → List ℕ → Trace
+full_trace program plan budget h = trace_of program plan budget (story program plan budget h)

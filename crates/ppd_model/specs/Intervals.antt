@@ -1,0 +1,275 @@
+-- The log intervals of a process and their items, from the process's own steps.
+use Rattle.std.specs.Prelude.{ℕ, ◌+◌, nat_eq, ℤ, Bool, true, false, List, [], ◌∷◌, ◌++◌, map, fold, drop, length, get_or, slice_get, count_by, position, Option, Some, None, is_some, if◌then◌else◌}
+use Rattle.std.specs.List.{flat_map}
+use Rattle.ppd_ast.specs.declared.plan.Block.{Block}
+use Rattle.ppd_ast.specs.declared.plan.BlockKind.{BlockKind}
+use Rattle.ppd_ast.specs.declared.plan.BlockKind.TheVariants as block
+use Rattle.ppd_ast.specs.declared.plan.Plan.{Plan}
+use Rattle.ppd_ast.specs.declared.program.Program.{Program}
+use Rattle.ppd_sem.specs.declared.proc.Need.{Need}
+use Rattle.ppd_sem.specs.declared.proc.Need.TheVariants.{Enter, Leave, Budget, Stopped}
+use Rattle.ppd_sem.specs.declared.proc.Proc.{Proc}
+use Rattle.ppd_sem.specs.Described.{frame_of}
+use Rattle.ppd_sem.specs.Process.{started}
+use Rattle.ppd_sem.specs.Tables.{block_of, or_zero}
+use Rattle.ppd_model.specs.declared.flow.Item.{Item}
+use Rattle.ppd_model.specs.declared.flow.Item.TheVariants as item
+use Rattle.ppd_model.specs.declared.flow.Origin.{Origin}
+use Rattle.ppd_model.specs.declared.flow.Origin.TheVariants as origin
+use Rattle.ppd_model.specs.declared.trace.EventId.{EventId}
+use Rattle.ppd_model.specs.declared.trace.TracedEvent.{TracedEvent}
+use Rattle.ppd_model.specs.World.{change}
+use Rattle.ppd_model.specs.Story.{Taken, Story, is_event}
+use Rattle.ppd_model.specs.FullTrace.{Tag, Tracing, begun_tracing, me_in, parent_at, top_tags, trace_step}
+use Rattle.ppd_model.specs.Record.{edge_after}
+use Rattle.ppd_model.specs.Marks.{Mark, opened, closed, postlog_cells}
+
+-- what stands in an interval: an event of its own, or an interval directly inside it, by number
+pub data Part : Type 0 where
+  own : ℕ → Part
+  nested : ℕ → Part
+
+-- an interval: its block, the intervals round it with the innermost first, as an item its frame and
+-- control parent, its parts, its count of own steps, the numbers of the steps that wrote its prelog
+-- and its postlog (0 for a process's own prelog), and the postlog's values with their tags
+pub record Span : Type 0 where
+  pub block : ℕ
+  pub round : List ℕ
+  pub frame : ℕ
+  pub control : Option EventId
+  pub parts : List Part
+  pub steps : ℕ
+  pub opened : ℕ
+  pub closed : Option ℕ
+  pub values : List ℤ
+  pub left : List Tag
+
+-- a process's trace, the edge that each of its steps is in and the edge of the next, its intervals,
+-- and the numbers of those that are running with the innermost first
+pub record Split : Type 0 where
+  pub trace : Tracing
+  pub edges : List ℕ
+  pub edge : ℕ
+  pub spans : List Span
+  pub running : List ℕ
+
+-- ---- opening and closing
+
+-- the interval of the first of these numbers is changed
+abbrev pub change_first : (Span → Span) → List ℕ → List Span → List Span
+change_first f [] spans = spans
+change_first f (k ∷ ks) spans = change f k spans
+
+-- the innermost running interval is changed
+abbrev pub innermost : (Span → Span) → Split → Split
+innermost f x = record x { spans = change_first f x.running x.spans }
+
+-- an interval with one more part
+abbrev pub with_part : Part → Span → Span
+with_part part i = record i { parts = i.parts ++ part ∷ [] }
+
+-- an interval that begins with the next step, inside those that are running
+abbrev pub new_span : Split → ℕ → ℕ → Option EventId → Span
+new_span x b frame control = record {
+  block = b;
+  round = x.running;
+  frame = frame;
+  control = control;
+  parts = [];
+  steps = 0;
+  opened = length x.edges;
+  closed = None;
+  values = [];
+  left = [];
+}
+
+-- the new interval is a part of the innermost one, and then the innermost itself
+abbrev pub begin_span : ℕ → ℕ → Option EventId → Split → Split
+begin_span b frame control x =
+    let outer = innermost (with_part (nested (length x.spans))) x in
+    record outer { spans = outer.spans ++ new_span x b frame control ∷ []; running = length x.spans ∷ x.running }
+
+-- the innermost interval is closed, with the values of its postlog and their tags
+abbrev pub end_span : List ℤ → List Tag → Split → Split
+end_span values left x =
+    let ended = innermost (λ i. record i { closed = Some (length x.edges); values = values; left = left }) x in
+    record ended { running = drop 1 x.running }
+
+-- an interval begins where a block is entered
+abbrev pub begin_if : Option Mark → ℕ → Option EventId → Split → Split
+begin_if None frame control x = x
+begin_if (Some m) frame control x = begin_span m.block frame control x
+
+-- the innermost interval ends where its block is left
+abbrev pub end_if : Option Mark → List Tag → Split → Split
+end_if None left x = x
+end_if (Some m) left x = end_span m.values left x
+
+-- the tags of the values of a postlog: of a loop's local cells their own, of a returned value its return
+abbrev pub left_by : Plan → EventId → List Tag → Need → List Tag
+left_by plan me locals (Leave b u) = map (λ c. get_or locals c None) (postlog_cells plan b)
+left_by plan me locals need = Some me ∷ []
+
+-- ---- one step
+
+-- the step is the innermost interval's own, but a stop for the budget, which is no interval's
+abbrev pub with_step : Need → Split → Split
+with_step Budget x = x
+with_step Stopped x = x
+with_step need x = innermost (λ i. record i { steps = i.steps + 1 }) x
+
+-- an event is an item before its step opens or closes an interval
+abbrev pub with_own : Need → Split → Split
+with_own need x = if is_event need then innermost (with_part (own (length x.trace.events))) x else x
+
+-- an interval as an item has the parent of the loop's first test, or the call
+abbrev pub control_by : Program → ℕ → Tracing → Need → Option EventId
+control_by program p t (Enter b u) = parent_at program t.activations t.proc.todo
+control_by program p t need = Some (me_in p t)
+
+-- a step that leaves a block ends its interval, and one that enters a block begins an interval
+abbrev pub with_marks : Program → Plan → ℕ → Need → Split → Split
+with_marks program plan p need x =
+    begin_if (opened program plan x.trace.proc need) (frame_of program plan x.trace.proc) (control_by program p x.trace need)
+    (end_if (closed program plan x.trace.proc need) (left_by plan (me_in p x.trace) (top_tags x.trace.activations) need) x)
+
+-- one more step: its own interval, its event, the intervals that it ends and begins, and its edge
+abbrev pub split_step : Program → Plan → Story → ℕ → Split → Taken → Split
+split_step program plan story p x step =
+    record (with_marks program plan p step.need (with_own step.need (with_step step.need x))) {
+      trace = trace_step program plan story p x.trace step;
+      edges = x.edges ++ x.edge ∷ [];
+      edge = edge_after x.edge step;
+    }
+
+-- ---- a process, and all of them
+
+-- interval 0 is the process's body
+abbrev pub begun_split : Program → Plan → ℕ → Proc → Split
+begun_split program plan p s =
+    begin_span (or_zero (block_of plan (block.Process (program.functions + p)))) 0 None (record {
+      trace = begun_tracing s;
+      edges = [];
+      edge = 0;
+      spans = [];
+      running = [];
+    })
+
+-- process p in its intervals, by its own steps
+abbrev pub split_of : Program → Plan → ℕ → Story → ℕ → List Taken → Split
+split_of program plan budget story p steps =
+    fold (split_step program plan story p) (begun_split program plan p (started program plan p budget)) steps
+
+-- the processes from number p on
+abbrev pub splits_from : Program → Plan → ℕ → Story → ℕ → List (List Taken) → List Split
+splits_from program plan budget story p [] = []
+splits_from program plan budget story p (steps ∷ rest) =
+    split_of program plan budget story p steps ∷ splits_from program plan budget story (p + 1) rest
+
+-- the processes of a story in their intervals
+abbrev pub splits : Program → Plan → ℕ → Story → List Split
+splits program plan budget story = splits_from program plan budget story 0 story.steps
+
+-- ---- an interval
+
+-- the intervals of a process that is there
+abbrev pub spans_in : Option Split → List Span
+spans_in None = []
+spans_in (Some x) = x.spans
+
+-- the intervals of process p
+abbrev pub intervals : Program → Plan → ℕ → Story → ℕ → List Span
+intervals program plan budget story p = spans_in (slice_get (splits program plan budget story) p)
+
+-- the interval has a postlog
+abbrev pub is_closed : Span → Bool
+is_closed i = is_some i.closed
+
+-- what a block is the code of
+abbrev pub kind_in : Option Block → BlockKind
+kind_in None = block.Process 0
+kind_in (Some b) = b.kind
+
+-- what block b of the plan is the code of
+abbrev pub block_kind : Plan → ℕ → BlockKind
+block_kind plan b = kind_in (slice_get plan.blocks b)
+
+-- the block is a function's body
+abbrev pub is_function : BlockKind → Bool
+is_function (block.Function f) = true
+is_function kind = false
+
+-- the interval is one of a function's body
+abbrev pub is_function_span : Plan → Option Span → Bool
+is_function_span plan None = false
+is_function_span plan (Some i) = is_function (block_kind plan i.block)
+
+-- how many function intervals are among interval k and those round it
+abbrev pub depth_of : Plan → List Span → ℕ → Span → ℕ
+depth_of plan spans k i = count_by (λ m. is_function_span plan (slice_get spans m)) (k ∷ i.round)
+
+-- ---- items
+
+-- the item of interval m, if it is there
+abbrev pub item_of_span : ℕ → Option Span → List Item
+item_of_span m None = []
+item_of_span m (Some i) = item.Nested m i.block i.values (is_closed i) ∷ []
+
+-- the item of an event, if it is there
+abbrev pub item_of_event : Option TracedEvent → List Item
+item_of_event None = []
+item_of_event (Some e) = item.Own e.event ∷ []
+
+-- the item that a part is
+abbrev pub item_of : Split → Part → List Item
+item_of x (own n) = item_of_event (slice_get x.trace.events n)
+item_of x (nested m) = item_of_span m (slice_get x.spans m)
+
+-- the items of an interval
+abbrev pub items_of : Split → Span → List Item
+items_of x i = flat_map (item_of x) i.parts
+
+-- the items of an interval that is there
+abbrev pub items_at : Split → Option Span → Option (List Item)
+items_at x None = None
+items_at x (Some i) = Some (items_of x i)
+
+-- the items of interval k of a process that is there
+abbrev pub items_in : ℕ → Option Split → Option (List Item)
+items_in k None = None
+items_in k (Some x) = items_at x (slice_get x.spans k)
+
+-- the items of interval k of process p, and None where there is no such interval
+abbrev pub items : Program → Plan → ℕ → Story → ℕ → ℕ → Option (List Item)
+items program plan budget story p k = items_in k (slice_get (splits program plan budget story) p)
+
+-- ---- where an event is an item
+
+-- the part is event n
+abbrev pub is_own : ℕ → Part → Bool
+is_own n (own m) = nat_eq n m
+is_own n (nested m) = false
+
+-- item j of interval k, or what is found otherwise
+abbrev pub place_or : ℕ → Option ℕ → Option (ℕ × ℕ) → Option (ℕ × ℕ)
+place_or k None otherwise = otherwise
+place_or k (Some j) otherwise = Some (k, j)
+
+-- the interval, of these from number k on, and the item that is event n
+abbrev pub place_in : ℕ → ℕ → List Span → Option (ℕ × ℕ)
+place_in n k [] = None
+place_in n k (i ∷ is) = place_or k (position (is_own n) i.parts) (place_in n (k + 1) is)
+
+-- the item at a place of process p
+abbrev pub item_at : ℕ → Option (ℕ × ℕ) → Origin
+item_at p None = origin.Entry
+item_at p (Some place) = origin.Item p place.0 place.1
+
+-- where the event is an item of its process
+abbrev pub ref_in : EventId → Option Split → Origin
+ref_in e None = origin.Entry
+ref_in e (Some x) = item_at e.process (place_in e.number 0 x.spans)
+
+-- the process, interval and item at which an event is an own item
+abbrev pub ref : List Split → EventId → Origin
+ref xs e = ref_in e (slice_get xs e.process)

@@ -1,0 +1,194 @@
+-- Laws of the definitions, which hold of every program, plan, budget and schedule.
+use Rattle.std.specs.Prelude.{◌≡◌, ℕ, ◌<◌, ◌≤◌, nat_eq, ℤ, pos, Bool, false, ◌||◌, ◌⊎◌, ◌↔◌, List, [], ◌∷◌, ◌++◌, fold, map, length, get_or, slice_get, Some, None, IsTrue, ⊤}
+use Rattle.ppd_ast.specs.declared.plan.Plan.{Plan}
+use Rattle.ppd_ast.specs.declared.program.Program.{Program}
+use Rattle.ppd_entry.specs.declared.entry.Entry.{Entry}
+use Rattle.ppd_entry.specs.declared.entry.Entry.TheVariants as entry
+use Rattle.ppd_sem.specs.declared.proc.Need.{Need}
+use Rattle.ppd_sem.specs.declared.proc.Need.TheVariants.{Write}
+use Rattle.ppd_model.specs.declared.graph.EdgeId.{EdgeId}
+use Rattle.ppd_model.specs.declared.graph.NodeId.{NodeId}
+use Rattle.ppd_model.specs.declared.trace.EventId.{EventId}
+use Rattle.ppd_model.specs.World.{World, answer, change, need, step}
+use Rattle.ppd_model.specs.Schedule.{run, started_world}
+use Rattle.ppd_model.specs.Story.{Moment, Story, Taken, Telling, begun, moment_of, next_event, number_of, story, tell, told, unit_started, values_at_start, writers_after}
+use Rattle.ppd_model.specs.States.{state_of, states}
+use Rattle.ppd_model.specs.Synchronizations.{Sync}
+use Rattle.ppd_model.specs.FullTrace.{full_trace, tracing_of}
+use Rattle.ppd_model.specs.Record.{SharedAccess, accesses, record_of, sync_record}
+use Rattle.ppd_model.specs.HappenedBefore.{Before, EdgeBefore, edge, is_before, is_edge_before, node, own_syncs, sync_at}
+use Rattle.ppd_model.specs.Numbers.{IsCounted, count_of}
+use Rattle.ppd_model.specs.Races.{races, races_of}
+use Rattle.ppd_model.specs.Logs.{close, log_step, loggings, logs}
+use Rattle.ppd_model.specs.Intervals.{intervals, items, split_of}
+use Rattle.ppd_model.specs.FlowbackEdges.{edges, last}
+use Rattle.ppd_model.specs.NearIntervals.{near_intervals}
+
+-- ---- one more step
+
+-- the story of the schedule with a step of p after it
+pub record HasOneMoreStep (program : Program) (plan : Plan) (budget : ℕ) (h : List ℕ) (p : ℕ) : Type 0 where
+  pub told_is : told program plan budget (h ++ p ∷ []) ≡ tell program plan (told program plan budget h) p
+  pub steps_are : (story program plan budget (h ++ p ∷ [])).steps ≡ change (λ xs. xs ++ (moment_of program plan (told program plan budget h) p).taken ∷ []) p (story program plan budget h).steps
+  pub cells_are : (story program plan budget (h ++ p ∷ [])).cells ≡ (step program plan (told program plan budget h).world p).shared
+  pub writers_are : (story program plan budget (h ++ p ∷ [])).writers ≡ writers_after (told program plan budget h) p (need program plan (told program plan budget h).world p)
+
+-- each story grows by what the step is
+abbrev pub StoriesGrow : Type 0
+StoriesGrow = (program : Program) (plan : Plan) (budget : ℕ) (h : List ℕ) (p : ℕ) → HasOneMoreStep program plan budget h p
+
+-- the world of which a story is told is the one that the schedule comes to
+abbrev pub StoriesAreOfRuns : Type 0
+StoriesAreOfRuns =
+    (program : Program) (plan : Plan) (budget : ℕ) (h : List ℕ) (w : World) → run program plan budget h ≡ Some w → (told program plan budget h).world ≡ w
+
+-- ---- a process by its own steps
+
+-- the states of the processes, as the world, the traces, the intervals and the logs of a story have them
+pub record HasOneState (program : Program) (plan : Plan) (budget : ℕ) (h : List ℕ) : Type 0 where
+  pub worlds : (told program plan budget h).world.procs ≡ states program plan budget (story program plan budget h)
+  pub logged : map (λ l. l.proc) (loggings program plan budget h) ≡ states program plan budget (story program plan budget h)
+  pub traced : (s : Story) (p : ℕ) (steps : List Taken) → (tracing_of program plan budget s p steps).proc ≡ state_of program plan budget p steps
+  pub split : (s : Story) (p : ℕ) (steps : List Taken) → (split_of program plan budget s p steps).trace ≡ tracing_of program plan budget s p steps
+
+-- each process comes to what its own steps lead to
+abbrev pub ProcessesFollowTheirSteps : Type 0
+ProcessesFollowTheirSteps = (program : Program) (plan : Plan) (budget : ℕ) (h : List ℕ) → HasOneState program plan budget h
+
+-- ---- logs
+
+-- the next step of process p as a log needs it, without a tag
+abbrev pub logged_moment : Program → Plan → World → ℕ → Moment
+logged_moment program plan w p =
+    let n = need program plan w p in
+    record {
+      taken = record { need = n; answer = answer w n; writer = None; number = number_of w n };
+      unit_values = values_at_start plan (step program plan w p).shared (unit_started n);
+    }
+
+-- a step adds its entries to the log of its process
+abbrev pub LogsGrow : Type 0
+LogsGrow =
+    (program : Program) (plan : Plan) (budget : ℕ) (h : List ℕ) (p : ℕ)
+    → loggings program plan budget (h ++ p ∷ []) ≡ change (λ l. log_step program plan l (logged_moment program plan (told program plan budget h).world p)) p (loggings program plan budget h)
+
+-- ---- equal stories
+
+-- an entry without the values of a unit
+abbrev pub without_values : Entry → Entry
+without_values (entry.Unit u values) = entry.Unit u []
+without_values e = e
+
+-- all that is found in two schedules is the same, of the logs but for the values of units
+pub record HasOneHistory (program : Program) (plan : Plan) (budget : ℕ) (h h' : List ℕ) : Type 0 where
+  pub traces : full_trace program plan budget h ≡ full_trace program plan budget h'
+  pub records : sync_record program plan budget h ≡ sync_record program plan budget h'
+  pub all_accesses : (p : ℕ) → accesses (story program plan budget h) p ≡ accesses (story program plan budget h') p
+  pub all_races : races program plan budget h ≡ races program plan budget h'
+  pub all_intervals : (p : ℕ) → intervals program plan budget (story program plan budget h) p ≡ intervals program plan budget (story program plan budget h') p
+  pub all_items : (p k : ℕ) → items program plan budget (story program plan budget h) p k ≡ items program plan budget (story program plan budget h') p k
+  pub all_edges : (p k j : ℕ) → edges program plan budget (story program plan budget h) p k j ≡ edges program plan budget (story program plan budget h') p k j
+  pub last_values : (c : ℕ) → last program plan budget (story program plan budget h) c ≡ last program plan budget (story program plan budget h') c
+  pub near : (p k j : ℕ) → near_intervals program plan budget (story program plan budget h) p k j ≡ near_intervals program plan budget (story program plan budget h') p k j
+  pub all_logs : map (map without_values) (logs program plan budget h).lists ≡ map (map without_values) (logs program plan budget h').lists
+  pub all_ends : (close program plan budget h).ends ≡ (close program plan budget h').ends
+
+-- two schedules with one story have one history
+abbrev pub StoriesTellAll : Type 0
+StoriesTellAll =
+    (program : Program) (plan : Plan) (budget : ℕ) (h h' : List ℕ) → story program plan budget h ≡ story program plan budget h' → HasOneHistory program plan budget h h'
+
+-- ---- happened before
+
+-- the tests answer true exactly where the relations hold
+abbrev pub IsTestOfBefore : Type 0
+IsTestOfBefore =
+    (program : Program) (syncs : List (List Sync)) (a b : NodeId) → IsTrue (is_before program syncs a b) ↔ Before program syncs a b
+
+-- the same of edges
+abbrev pub IsTestOfEdges : Type 0
+IsTestOfEdges =
+    (program : Program) (syncs : List (List Sync)) (a b : EdgeId) → IsTrue (is_edge_before program syncs a b) ↔ EdgeBefore program syncs a b
+
+-- no synchronization ends the last edge of process p, which is before no edge
+pub record IsOpenEnded (program : Program) (syncs : List (List Sync)) (p : ℕ) : Type 0 where
+  pub no_end : sync_at syncs (node p (length (own_syncs syncs p))) ≡ None
+  pub before_none : (q j : ℕ) → j ≤ length (own_syncs syncs q) → EdgeBefore program syncs (edge p (length (own_syncs syncs p))) (edge q j) → ⊥
+
+-- so it is with the last edge of every process
+abbrev pub LastEdgesAreOpen : Type 0
+LastEdgesAreOpen = (program : Program) (syncs : List (List Sync)) (p : ℕ) → IsOpenEnded program syncs p
+
+-- ---- numbers
+
+-- the synchronizations of one kind and object have the numbers after its first count through its last, each once
+abbrev pub SynchronizationsAreCounted : Type 0
+SynchronizationsAreCounted =
+    (program : Program) (plan : Plan) (budget : ℕ) (h : List ℕ)
+    → IsCounted (count_of (started_world program plan budget)) (count_of (told program plan budget h).world) (sync_record program plan budget h)
+
+-- ---- races
+
+-- an access of process p and one of process q, of one cell that is there, one of them a write
+pub record DoConflict (s : Story) (p q : ℕ) (a b : SharedAccess) : Type 0 where
+  pub apart : p ≡ q → ⊥
+  pub first : (m : ℕ) × (slice_get (accesses s p) m ≡ Some a)
+  pub second : (n : ℕ) × (slice_get (accesses s q) n ≡ Some b)
+  pub cell : a.cell ≡ b.cell
+  pub there : a.cell < length s.cells
+  pub writes : IsTrue (a.writes || b.writes)
+
+-- where no race is listed, all accesses that conflict are ordered by their edges
+abbrev pub NoRaceMeansOrder : Type 0
+NoRaceMeansOrder =
+    (program : Program) (s : Story) → races_of program s ≡ [] → (p q : ℕ) (a b : SharedAccess) → DoConflict s p q a b
+    → EdgeBefore program (record_of s) (edge p a.edge) (edge q b.edge) ⊎ EdgeBefore program (record_of s) (edge q b.edge) (edge p a.edge)
+
+-- ---- tags
+
+-- a step of this need writes cell c
+abbrev pub is_write_of : ℕ → Need → Bool
+is_write_of c (Write d v) = nat_eq d c
+is_write_of c need = false
+
+-- what is told after the steps of h, from t on
+abbrev pub goes_on : Program → Plan → Telling → List ℕ → Telling
+goes_on program plan t h = fold (tell program plan) t h
+
+-- no step of the schedule from here on writes the cell
+abbrev pub IsUnwritten : Program → Plan → ℕ → Telling → List ℕ → Type 0
+IsUnwritten program plan c t [] = ⊤
+IsUnwritten program plan c t (p ∷ h) =
+    (is_write_of c (need program plan t.world p) ≡ false) × IsUnwritten program plan c (tell program plan t p) h
+
+-- in the schedule from t on, the event is that of the last step that writes the cell, and writes this value
+pub record IsLastWrite (program : Program) (plan : Plan) (c : ℕ) (t : Telling) (h : List ℕ) (value : ℤ) (e : EventId) : Type 0 where
+  pub before : List ℕ
+  pub process : ℕ
+  pub after : List ℕ
+  pub schedule_is : h ≡ before ++ process ∷ after
+  pub writes : need program plan (goes_on program plan t before).world process ≡ Write c value
+  pub event_is : e ≡ next_event (goes_on program plan t before) process
+  pub unwritten : IsUnwritten program plan c (tell program plan (goes_on program plan t before) process) after
+
+-- no step from t on writes the cell, whose tag and value are as at t
+pub record IsAtStart (program : Program) (plan : Plan) (c : ℕ) (t now : Telling) (h : List ℕ) : Type 0 where
+  pub unwritten : IsUnwritten program plan c t h
+  pub tag_is : get_or now.writers c None ≡ get_or t.writers c None
+  pub value_is : get_or now.world.shared c (pos 0) ≡ get_or t.world.shared c (pos 0)
+
+-- the cell has the tag and the value of the last write
+pub record IsTagged (program : Program) (plan : Plan) (c : ℕ) (t now : Telling) (h : List ℕ) : Type 0 where
+  pub event : EventId
+  pub tag_is : get_or now.writers c None ≡ Some event
+  pub last : IsLastWrite program plan c t h (get_or now.world.shared c (pos 0)) event
+
+-- what is told before the first step
+abbrev pub begins : Program → Plan → ℕ → Telling
+begins program plan budget = begun (started_world program plan budget)
+
+-- the tag of a shared cell is the event that last wrote it, with its value, and none where nothing did
+abbrev pub TagsAreLastWrites : Type 0
+TagsAreLastWrites =
+    (program : Program) (plan : Plan) (budget : ℕ) (h : List ℕ) (c : ℕ) → c < length program.starts
+    → IsAtStart program plan c (begins program plan budget) (told program plan budget h) h ⊎ IsTagged program plan c (begins program plan budget) (told program plan budget h) h

@@ -1,0 +1,186 @@
+-- The log of each process: the entries that its steps write.
+use Rattle.std.specs.Prelude.{ℕ, ◌+◌, ◌-◌, nat_lt, nat_eq, ℤ, pos, List, [], ◌∷◌, ◌++◌, map, fold, Option, Some, None, is_none, slice_get, unwrap_or, if◌then◌else◌}
+use Rattle.ppd_ast.specs.declared.plan.BlockKind.TheVariants as block
+use Rattle.ppd_ast.specs.declared.plan.Plan.{Plan}
+use Rattle.ppd_ast.specs.declared.plan.Start.TheVariants as start
+use Rattle.ppd_ast.specs.declared.program.Body.{Body}
+use Rattle.ppd_ast.specs.declared.program.Program.{Program}
+use Rattle.ppd_ast.specs.declared.status.Status.{Status}
+use Rattle.ppd_ast.specs.declared.status.Status.TheVariants as status
+use Rattle.ppd_entry.specs.declared.entry.Entry.{Entry}
+use Rattle.ppd_entry.specs.declared.entry.Entry.TheVariants as entry
+use Rattle.ppd_entry.specs.declared.entry.Logs.{Logs}
+use Rattle.ppd_sem.specs.declared.proc.Answer.{Answer}
+use Rattle.ppd_sem.specs.declared.proc.Need.{Need}
+use Rattle.ppd_sem.specs.declared.proc.Need.TheVariants.{Read, Write, P, V, Send, Recv, End, Trap, Budget}
+use Rattle.ppd_sem.specs.declared.proc.Proc.{Proc}
+use Rattle.ppd_sem.specs.declared.proc.Todo.{Todo}
+use Rattle.ppd_sem.specs.Process.{act, started, value_of}
+use Rattle.ppd_sem.specs.Tables.{block_of, unit_of, or_zero}
+use Rattle.ppd_model.specs.declared.closed.Closed.{Closed}
+use Rattle.ppd_model.specs.declared.closed.ProcEnd.{ProcEnd}
+use Rattle.ppd_model.specs.Story.{Taken, Moment, told, unit_started, values_of_unit}
+use Rattle.ppd_model.specs.Synchronizations.{Sync, sync_of}
+use Rattle.ppd_model.specs.Marks.{Mark, opened, closed}
+
+-- a process with its entries so far, the shared cells that it accessed since its last
+-- synchronization, and its steps since the last one that wrote an entry
+pub record Logging : Type 0 where
+  pub proc : Proc
+  pub reads : List ℕ
+  pub writes : List ℕ
+  pub rest : ℕ
+  pub entries : List Entry
+
+-- a rising list with one more number
+abbrev pub with_cell : ℕ → List ℕ → List ℕ
+with_cell c [] = c ∷ []
+with_cell c (d ∷ ds) = if nat_lt c d then c ∷ d ∷ ds else if nat_eq c d then d ∷ ds else d ∷ with_cell c ds
+
+-- ---- the entries of one step
+
+-- the prelog of a block that is entered
+abbrev pub prelogs : Option Mark → List Entry
+prelogs None = []
+prelogs (Some m) = entry.Prelog m.block m.values ∷ []
+
+-- the postlog of a block that is left
+abbrev pub postlogs : Option Mark → List Entry
+postlogs None = []
+postlogs (Some m) = entry.Postlog m.block m.values ∷ []
+
+-- the unit that starts, with its values
+abbrev pub units : Option ℕ → List ℤ → List Entry
+units None values = []
+units (Some u) values = entry.Unit u values ∷ []
+
+-- what was sent or received, and 0 for a semaphore
+abbrev pub passed : Need → Answer → ℤ
+passed (Send c v u) a = v
+passed (Recv c u) a = value_of a
+passed need a = pos 0
+
+-- the entry of a synchronization, with the cells accessed since the one before
+abbrev pub syncs : Logging → Taken → Option Sync → List Entry
+syncs l x None = []
+syncs l x (Some s) = entry.Sync s.kind s.object s.number (passed x.need x.answer) l.reads l.writes ∷ []
+
+-- the status of a step that ends its process
+abbrev pub status_of : Need → Option Status
+status_of (Trap t) = Some (status.Trap t)
+status_of Budget = Some status.Budget
+status_of (End b) = Some status.Ended
+status_of need = None
+
+-- the end of the process
+abbrev pub ends : Logging → Option Status → List Entry
+ends l None = []
+ends l (Some s) = entry.End s l.rest l.reads l.writes ∷ []
+
+-- a block that is entered or left or a synchronization, the unit that starts then, and the end
+abbrev pub entries_of : Program → Plan → Logging → Moment → List Entry
+entries_of program plan l m =
+    prelogs (opened program plan l.proc m.taken.need)
+    ++ syncs l m.taken (sync_of m.taken)
+    ++ postlogs (closed program plan l.proc m.taken.need)
+    ++ units (unit_started m.taken.need) m.unit_values
+    ++ ends l (status_of m.taken.need)
+
+-- ---- the step
+
+-- a read or a write of a shared cell is noted, and a synchronization begins anew
+abbrev pub with_access : Need → Logging → Logging
+with_access (Read c) l = record l { reads = with_cell c l.reads }
+with_access (Write c v) l = record l { writes = with_cell c l.writes }
+with_access (P s u) l = record l { reads = []; writes = [] }
+with_access (V s u) l = record l { reads = []; writes = [] }
+with_access (Send c v u) l = record l { reads = []; writes = [] }
+with_access (Recv c u) l = record l { reads = []; writes = [] }
+with_access need l = l
+
+-- the steps since the last one that wrote an entry
+abbrev pub rest_after : ℕ → List Entry → ℕ
+rest_after rest [] = rest + 1
+rest_after rest (e ∷ es) = 0
+
+-- one more step: its entries, and the state after it
+abbrev pub log_step : Program → Plan → Logging → Moment → Logging
+log_step program plan l m =
+    let new = entries_of program plan l m in
+    record (with_access m.taken.need l) {
+      proc = act program plan l.proc m.taken.answer;
+      rest = rest_after l.rest new;
+      entries = l.entries ++ new;
+    }
+
+-- ---- a process, and all of them
+
+-- before the first step the process's own block is entered and the unit of its entry starts
+abbrev pub begun_log : Program → Plan → ℕ → ℕ → Logging
+begun_log program plan budget p =
+    let body = program.functions + p in
+    let u = unit_of plan (start.Entry body) in
+    record {
+      proc = started program plan p budget;
+      reads = [];
+      writes = [];
+      rest = 0;
+      entries = entry.Prelog (or_zero (block_of plan (block.Process body))) [] ∷ entry.Unit u (values_of_unit plan program.starts u) ∷ [];
+    }
+
+-- process p with its log, by its own steps and the values of their units
+abbrev pub log_of : Program → Plan → ℕ → ℕ → List Moment → Logging
+log_of program plan budget p moments = fold (log_step program plan) (begun_log program plan budget p) moments
+
+-- the processes from number p on, with their logs
+abbrev pub logs_from : Program → Plan → ℕ → ℕ → List (List Moment) → List Logging
+logs_from program plan budget p [] = []
+logs_from program plan budget p (moments ∷ rest) = log_of program plan budget p moments ∷ logs_from program plan budget (p + 1) rest
+
+-- each process with its log
+abbrev pub loggings : Program → Plan → ℕ → List ℕ → List Logging
+loggings program plan budget h = logs_from program plan budget 0 (told program plan budget h).moments
+
+-- the logs that the steps of a schedule wrote, which need not be whole
+abbrev pub kept_logs : Program → Plan → ℕ → List ℕ → Logs
+kept_logs program plan budget h = record { lists = map (λ l. l.entries) (loggings program plan budget h) }
+
+-- ---- whole schedules
+
+-- a process that is still running when the run is whole is blocked
+abbrev pub closed_log : Logging → List Entry
+closed_log l = l.entries ++ (if is_none l.proc.status then entry.End status.Blocked l.rest l.reads l.writes ∷ [] else [])
+
+-- closed logs
+abbrev pub logs_of : List Logging → Logs
+logs_of ls = record { lists = map closed_log ls }
+
+-- the logs of a whole schedule
+abbrev pub logs : Program → Plan → ℕ → List ℕ → Logs
+logs program plan budget h = logs_of (loggings program plan budget h)
+
+-- the last statement of a body
+abbrev pub last_of : Option Body → ℕ
+last_of None = 0
+last_of (Some b) = b.end - 1
+
+-- the statement that would come next, or else the last one of the body
+abbrev pub stmt_of : Option Body → List Todo → ℕ
+stmt_of body [] = last_of body
+stmt_of body (t ∷ ts) = t.stmt
+
+-- how a process ended: one that is still running is blocked
+abbrev pub end_of : Option Body → Proc → ProcEnd
+end_of body s = record { status = unwrap_or s.status status.Blocked; stmt = stmt_of body s.todo; steps = s.steps; prints = s.prints }
+
+-- how each process ended; the first one's body has number b
+abbrev pub ends_from : Program → ℕ → List Logging → List ProcEnd
+ends_from program b [] = []
+ends_from program b (l ∷ ls) = end_of (slice_get program.bodies b) l.proc ∷ ends_from program (b + 1) ls
+
+-- the logs of a whole schedule with how each process ended
+abbrev pub close : Program → Plan → ℕ → List ℕ → Closed
+close program plan budget h = record {
+  logs = logs program plan budget h;
+  ends = ends_from program program.functions (loggings program plan budget h);
+}

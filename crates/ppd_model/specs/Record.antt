@@ -1,0 +1,43 @@
+-- The record of a schedule, its synchronizations by process, and the accesses to shared cells between them.
+use Rattle.std.specs.Prelude.{ℕ, ◌+◌, Bool, true, false, List, [], ◌∷◌, ◌++◌, map, is_some, if◌then◌else◌}
+use Rattle.ppd_ast.specs.declared.program.Program.{Program}
+use Rattle.ppd_ast.specs.declared.plan.Plan.{Plan}
+use Rattle.ppd_sem.specs.declared.proc.Need.{Need}
+use Rattle.ppd_sem.specs.declared.proc.Need.TheVariants.{Read, Write}
+use Rattle.ppd_model.specs.Story.{Taken, Story, story, own_steps}
+use Rattle.ppd_model.specs.Synchronizations.{Sync, sync_of, syncs_of}
+
+-- the synchronizations of each process in order
+abbrev pub record_of : Story → List (List Sync)
+record_of s = map syncs_of s.steps
+
+-- the record of a schedule
+abbrev pub sync_record : Program → Plan → ℕ → List ℕ → List (List Sync)
+sync_record program plan budget h = record_of (story program plan budget h)
+
+-- ---- accesses
+
+-- a read or a write of a shared cell; its edge is how many synchronizations its process did before
+pub record SharedAccess : Type 0 where
+  pub edge : ℕ
+  pub cell : ℕ
+  pub writes : Bool
+
+-- the access of a step in this edge, if it is one
+abbrev pub access_at : ℕ → Need → List SharedAccess
+access_at edge (Read c) = record { edge = edge; cell = c; writes = false } ∷ []
+access_at edge (Write c v) = record { edge = edge; cell = c; writes = true } ∷ []
+access_at edge need = []
+
+-- a synchronization ends its edge
+abbrev pub edge_after : ℕ → Taken → ℕ
+edge_after edge x = if is_some (sync_of x) then edge + 1 else edge
+
+-- the accesses of the steps, the first of which is in this edge
+abbrev pub accesses_from : ℕ → List Taken → List SharedAccess
+accesses_from edge [] = []
+accesses_from edge (x ∷ xs) = access_at edge x.need ++ accesses_from (edge_after edge x) xs
+
+-- the accesses of process p, also those of statements that never finished
+abbrev pub accesses : Story → ℕ → List SharedAccess
+accesses s p = accesses_from 0 (own_steps s p)

@@ -1,0 +1,151 @@
+-- What each process did in a schedule: its steps, each with what it needed and was given.
+use Rattle.std.specs.Prelude.{ℕ, ◌+◌, ℤ, pos, Bool, true, false, List, [], ◌∷◌, ◌++◌, map, fold, length, get_or, slice_get, slice_set, count_by, Option, Some, None, option_map}
+use Rattle.ppd_ast.specs.declared.program.Program.{Program}
+use Rattle.ppd_ast.specs.declared.plan.Plan.{Plan}
+use Rattle.ppd_ast.specs.declared.plan.Unit.{Unit as UnitOf}
+use Rattle.ppd_sem.specs.declared.proc.Need.{Need}
+use Rattle.ppd_sem.specs.declared.proc.Need.TheVariants.{Read, Write, Enter, Leave, Invoke, Back, P, V, Send, Recv, Budget, Stopped}
+use Rattle.ppd_sem.specs.declared.proc.Answer.{Answer}
+use Rattle.ppd_model.specs.declared.trace.EventId.{EventId}
+use Rattle.ppd_model.specs.World.{World, Counts, Channel, need, answer, step, change}
+use Rattle.ppd_model.specs.Schedule.{started_world}
+
+-- a step that a process took: its need and answer, the event that last wrote the cell of a Read,
+-- and the number of a synchronization
+pub record Taken : Type 0 where
+  pub need : Need
+  pub answer : Answer
+  pub writer : Option EventId
+  pub number : Option ℕ
+
+-- a step with the values of the unit that it starts, as they stand after it
+pub record Moment : Type 0 where
+  pub taken : Taken
+  pub unit_values : List ℤ
+
+-- a world with the event that last wrote each shared cell, and what each process did
+pub record Telling : Type 0 where
+  pub world : World
+  pub writers : List (Option EventId)
+  pub moments : List (List Moment)
+
+-- the steps of each process, and each shared cell's last value and writer
+pub record Story : Type 0 where
+  pub steps : List (List Taken)
+  pub cells : List ℤ
+  pub writers : List (Option EventId)
+
+-- ---- one step
+
+-- a step of this need finishes or traps a statement
+abbrev pub is_event : Need → Bool
+is_event (Read c) = false
+is_event (Enter b u) = false
+is_event Budget = false
+is_event Stopped = false
+is_event need = true
+
+-- the steps without the values of units
+abbrev pub steps_of : List Moment → List Taken
+steps_of moments = map (λ m. m.taken) moments
+
+-- what process p did so far
+abbrev pub own_moments : Telling → ℕ → List Moment
+own_moments t p = get_or t.moments p []
+
+-- how many events there are in these steps
+abbrev pub count_events : List Moment → ℕ
+count_events moments = count_by (λ m. is_event m.taken.need) moments
+
+-- the next event of process p
+abbrev pub next_event : Telling → ℕ → EventId
+next_event t p = record { process = p; number = count_events (own_moments t p) }
+
+-- one more than the count of an object that is there
+abbrev pub number_after : {A : Type 0} → (A → ℕ) → Option A → Option ℕ
+number_after count x = option_map (λ y. count y + 1) x
+
+-- the number that a synchronization takes: the new count of its kind and object
+abbrev pub number_of : World → Need → Option ℕ
+number_of w (P s u) = number_after (λ (x : Counts). x.taken) (slice_get w.sems s)
+number_of w (V s u) = number_after (λ (x : Counts). x.given) (slice_get w.sems s)
+number_of w (Send c v u) = number_after (λ (x : Channel). length x.sent) (slice_get w.chans c)
+number_of w (Recv c u) = number_after (λ (x : Channel). x.received) (slice_get w.chans c)
+number_of w need = None
+
+-- the event that last wrote the cell of a read
+abbrev pub writer_of : Telling → Need → Option EventId
+writer_of t (Read c) = get_or t.writers c None
+writer_of t need = None
+
+-- the unit that a step of this need starts
+abbrev pub unit_started : Need → Option ℕ
+unit_started (Enter b u) = Some u
+unit_started (Leave b u) = Some u
+unit_started (Invoke b u) = Some u
+unit_started (Back b u) = u
+unit_started (P s u) = Some u
+unit_started (V s u) = Some u
+unit_started (Send c v u) = Some u
+unit_started (Recv c u) = Some u
+unit_started need = None
+
+-- the cells of a unit that is there
+abbrev pub cells_of_unit : Option UnitOf → List ℕ
+cells_of_unit None = []
+cells_of_unit (Some u) = u.cells
+
+-- the values of a unit's cells
+abbrev pub values_of_unit : Plan → List ℤ → ℕ → List ℤ
+values_of_unit plan shared u = map (λ c. get_or shared c (pos 0)) (cells_of_unit (slice_get plan.units u))
+
+-- the values of the unit that starts, if one does
+abbrev pub values_at_start : Plan → List ℤ → Option ℕ → List ℤ
+values_at_start plan shared None = []
+values_at_start plan shared (Some u) = values_of_unit plan shared u
+
+-- a step of this need
+abbrev pub taken_of : Telling → Need → Taken
+taken_of t n = record { need = n; answer = answer t.world n; writer = writer_of t n; number = number_of t.world n }
+
+-- the next step of process p, with the values of its unit as they stand after it
+abbrev pub moment_of : Program → Plan → Telling → ℕ → Moment
+moment_of program plan t p = record {
+  taken = taken_of t (need program plan t.world p);
+  unit_values = values_at_start plan (step program plan t.world p).shared (unit_started (need program plan t.world p));
+}
+
+-- a write is by the event that its step is
+abbrev pub writers_after : Telling → ℕ → Need → List (Option EventId)
+writers_after t p (Write c v) = slice_set t.writers c (Some (next_event t p))
+writers_after t p need = t.writers
+
+-- process p takes its step
+abbrev pub tell : Program → Plan → Telling → ℕ → Telling
+tell program plan t p = record {
+  world = step program plan t.world p;
+  writers = writers_after t p (need program plan t.world p);
+  moments = change (λ ms. ms ++ moment_of program plan t p ∷ []) p t.moments;
+}
+
+-- ---- schedules
+
+-- before the first step nothing is written and nothing was done
+abbrev pub begun : World → Telling
+begun w = record { world = w; writers = map (λ _. None) w.shared; moments = map (λ _. []) w.procs }
+
+-- what is told of a schedule from the start
+abbrev pub told : Program → Plan → ℕ → List ℕ → Telling
+told program plan budget h = fold (tell program plan) (begun (started_world program plan budget)) h
+
+-- what is told, without the values of units
+abbrev pub story_of : Telling → Story
+story_of t = record { steps = map steps_of t.moments; cells = t.world.shared; writers = t.writers }
+
+-- the story of a schedule
+abbrev pub story : Program → Plan → ℕ → List ℕ → Story
+story program plan budget h = story_of (told program plan budget h)
+
+-- the steps of process p
+abbrev pub own_steps : Story → ℕ → List Taken
+own_steps s p = get_or s.steps p []

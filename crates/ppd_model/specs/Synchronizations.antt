@@ -1,0 +1,92 @@
+-- The synchronizations of each process, and which of them lead to which by their numbers.
+use Rattle.std.specs.Prelude.{ℕ, ◌+◌, nat_eq, Bool, false, ◌&&◌, List, [], ◌∷◌, filter_map, slice_get, Option, Some, None, if◌then◌else◌}
+use Rattle.ppd_ast.specs.declared.program.Chan.{Chan}
+use Rattle.ppd_ast.specs.declared.program.Program.{Program}
+use Rattle.ppd_ast.specs.declared.status.SyncKind.{SyncKind}
+use Rattle.ppd_ast.specs.declared.status.SyncKind.TheVariants.{P, V, Send, Recv}
+use Rattle.ppd_sem.specs.declared.proc.Need.{Need}
+use Rattle.ppd_sem.specs.declared.proc.Need.TheVariants as need
+use Rattle.ppd_model.specs.declared.trace.EventId.{EventId}
+use Rattle.ppd_model.specs.Story.{Taken, Story, is_event}
+
+-- a synchronization: the number is that among those of its kind and object
+pub record Sync : Type 0 where
+  pub kind : SyncKind
+  pub object : ℕ
+  pub number : ℕ
+
+-- the kind and the object of a synchronization
+abbrev pub kind_of_sync : Need → Option (SyncKind × ℕ)
+kind_of_sync (need.P s u) = Some (P, s)
+kind_of_sync (need.V s u) = Some (V, s)
+kind_of_sync (need.Send c v u) = Some (Send, c)
+kind_of_sync (need.Recv c u) = Some (Recv, c)
+kind_of_sync n = None
+
+-- a synchronization has a kind, an object and a number
+abbrev pub numbered : Option (SyncKind × ℕ) → Option ℕ → Option Sync
+numbered (Some k) (Some number) = Some (record { kind = k.0; object = k.1; number = number })
+numbered k number = None
+
+-- the synchronization that a step is, if it is one
+abbrev pub sync_of : Taken → Option Sync
+sync_of x = numbered (kind_of_sync x.need) x.number
+
+-- the synchronizations among these steps, in order
+abbrev pub syncs_of : List Taken → List Sync
+syncs_of steps = filter_map sync_of steps
+
+-- ---- pairs
+
+-- the capacity of a channel that is there
+abbrev pub capacity_in : Option Chan → ℕ
+capacity_in None = 0
+capacity_in (Some c) = c.capacity
+
+-- the capacity of channel c
+abbrev pub capacity_of : Program → ℕ → ℕ
+capacity_of program c = capacity_in (slice_get program.chans c)
+
+-- the number of the second kind to which number k of the first kind leads: V k to P k, send k to
+-- receive k, and receive k to the send that finds its place free
+abbrev pub led_to : ℕ → SyncKind → SyncKind → ℕ → Option ℕ
+led_to capacity V P k = Some k
+led_to capacity Send Recv k = Some k
+led_to capacity Recv Send k = Some (k + capacity)
+led_to capacity a b k = None
+
+-- there is a number, and it is k
+abbrev pub is_number : Option ℕ → ℕ → Bool
+is_number None k = false
+is_number (Some n) k = nat_eq n k
+
+-- a leads to b: their objects are one, and their numbers fit
+abbrev pub leads : Program → Sync → Sync → Bool
+leads program a b =
+    nat_eq a.object b.object && is_number (led_to (capacity_of program a.object) a.kind b.kind a.number) b.number
+
+-- both are there, and the first leads to the second
+abbrev pub leads_at : Program → Option Sync → Option Sync → Bool
+leads_at program (Some a) (Some b) = leads program a b
+leads_at program a b = false
+
+-- the number of the event among these steps that leads to b, where the next event has number n
+abbrev pub leading_in : Program → Option Sync → ℕ → List Taken → Option ℕ
+leading_in program b n [] = None
+leading_in program b n (x ∷ xs) =
+    if leads_at program (sync_of x) b then Some n
+    else leading_in program b (if is_event x.need then n + 1 else n) xs
+
+-- event n of process p, or what is found otherwise
+abbrev pub event_or : ℕ → Option ℕ → Option EventId → Option EventId
+event_or p None otherwise = otherwise
+event_or p (Some n) otherwise = Some (record { process = p; number = n })
+
+-- the same among the steps of the processes from number p on
+abbrev pub leading_from : Program → Option Sync → ℕ → List (List Taken) → Option EventId
+leading_from program b p [] = None
+leading_from program b p (steps ∷ rest) = event_or p (leading_in program b 0 steps) (leading_from program b (p + 1) rest)
+
+-- the event whose synchronization leads to that of a step, found by the numbers
+abbrev pub paired_of : Program → Story → Taken → Option EventId
+paired_of program story x = leading_from program (sync_of x) 0 story.steps

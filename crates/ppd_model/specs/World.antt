@@ -1,0 +1,104 @@
+-- The shared state with all processes, who may take a step in it, and the step.
+use Rattle.std.specs.Prelude.{ℕ, zero, suc, ◌+◌, nat_lt, ℤ, pos, Bool, true, false, List, [], ◌∷◌, ◌++◌, length, get_or, slice_set, slice_get, Option, Some, None}
+use Rattle.ppd_ast.specs.declared.program.Program.{Program}
+use Rattle.ppd_ast.specs.declared.plan.Plan.{Plan}
+use Rattle.ppd_sem.specs.declared.proc.Need.{Need}
+use Rattle.ppd_sem.specs.declared.proc.Need.TheVariants.{Read, Write, P, V, Send, Recv, Stopped}
+use Rattle.ppd_sem.specs.declared.proc.Answer.{Answer}
+use Rattle.ppd_sem.specs.declared.proc.Answer.TheVariants.{Value, Go}
+use Rattle.ppd_sem.specs.declared.proc.Proc.{Proc}
+use Rattle.ppd_sem.specs.Process.{need_of, act}
+
+-- how often a semaphore was given, its initial value included, and taken
+pub record Counts : Type 0 where
+  pub given : ℕ
+  pub taken : ℕ
+
+-- the values sent to a channel so far, and how many of them were received
+pub record Channel : Type 0 where
+  pub capacity : ℕ
+  pub sent : List ℤ
+  pub received : ℕ
+
+-- the shared cells, the semaphores, the channels and the process states
+pub record World : Type 0 where
+  pub shared : List ℤ
+  pub sems : List Counts
+  pub chans : List Channel
+  pub procs : List Proc
+
+-- ---- who may take a step
+
+-- it was given more often than taken
+abbrev pub can_take : Option Counts → Bool
+can_take None = false
+can_take (Some s) = nat_lt s.taken s.given
+
+-- fewer were sent than received and the capacity together
+abbrev pub can_send : Option Channel → Bool
+can_send None = false
+can_send (Some c) = nat_lt (length c.sent) (c.received + c.capacity)
+
+-- fewer were received than sent
+abbrev pub can_receive : Option Channel → Bool
+can_receive None = false
+can_receive (Some c) = nat_lt c.received (length c.sent)
+
+-- a step of this need can be taken
+abbrev pub can : World → Need → Bool
+can w Stopped = false
+can w (P s u) = can_take (slice_get w.sems s)
+can w (Send c v u) = can_send (slice_get w.chans c)
+can w (Recv c u) = can_receive (slice_get w.chans c)
+can w need = true
+
+-- the need of a process that is there
+abbrev pub need_at : Program → Plan → Option Proc → Need
+need_at program plan None = Stopped
+need_at program plan (Some s) = need_of program plan s
+
+-- what process p needs
+abbrev pub need : Program → Plan → World → ℕ → Need
+need program plan w p = need_at program plan (slice_get w.procs p)
+
+-- process p can take a step
+abbrev pub enabled : Program → Plan → World → ℕ → Bool
+enabled program plan w p = can w (need program plan w p)
+
+-- ---- the step
+
+-- the value that is received next
+abbrev pub next_value : Option Channel → ℤ
+next_value None = pos 0
+next_value (Some c) = get_or c.sent c.received (pos 0)
+
+-- what a step of this need is given
+abbrev pub answer : World → Need → Answer
+answer w (Read c) = Value (get_or w.shared c (pos 0))
+answer w (Recv c u) = Value (next_value (slice_get w.chans c))
+answer w need = Go
+
+-- a list with one element changed
+abbrev pub change : {A : Type 0} → (A → A) → ℕ → List A → List A
+change f i [] = []
+change f zero (x ∷ xs) = f x ∷ xs
+change f (suc i) (x ∷ xs) = x ∷ change f i xs
+
+-- the shared state after a step of this need
+abbrev pub effect : World → Need → World
+effect w (Write c v) = record w { shared = slice_set w.shared c v }
+effect w (P s u) = record w { sems = change (λ x. record x { taken = x.taken + 1 }) s w.sems }
+effect w (V s u) = record w { sems = change (λ x. record x { given = x.given + 1 }) s w.sems }
+effect w (Send c v u) = record w { chans = change (λ x. record x { sent = x.sent ++ v ∷ [] }) c w.chans }
+effect w (Recv c u) = record w { chans = change (λ x. record x { received = x.received + 1 }) c w.chans }
+effect w need = w
+
+-- process p, with this need, takes its step
+abbrev pub step_by : Program → Plan → World → ℕ → Need → World
+step_by program plan w p n =
+    let after = effect w n in
+    record after { procs = change (λ s. act program plan s (answer w n)) p w.procs }
+
+-- process p takes its step
+abbrev pub step : Program → Plan → World → ℕ → World
+step program plan w p = step_by program plan w p (need program plan w p)

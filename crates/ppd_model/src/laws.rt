@@ -1,0 +1,51 @@
+ghost use Rattle.ppd_model.specs.Laws.{IsTestOfBefore, IsTestOfEdges, LastEdgesAreOpen, LogsGrow, NoRaceMeansOrder, ProcessesFollowTheirSteps, StoriesAreOfRuns, StoriesGrow, StoriesTellAll, SynchronizationsAreCounted, TagsAreLastWrites};
+
+/// Law: the story of a schedule with one more step is that of the schedule with this step, its
+/// writer and its cell; and the world of which a story is told is the one that the schedule
+/// comes to.
+pub fn stories_grow()
+    ensures grow { StoriesGrow }
+    ensures of_runs { StoriesAreOfRuns }
+{}
+
+/// Law: each process comes to the state that its own steps lead to, and its trace, its intervals and
+/// its log go by that state.
+pub fn processes_follow_their_steps()
+    ensures { ProcessesFollowTheirSteps }
+{}
+
+/// Law: a step adds its entries to the log of its process, and changes no other log.
+pub fn logs_grow()
+    ensures { LogsGrow }
+{}
+
+/// Law: two schedules with one story have the same trace, record, accesses, races, intervals,
+/// items, edges, last values and ends, and the same logs but for the values of units.
+pub fn stories_tell_all()
+    ensures { StoriesTellAll }
+{}
+
+/// Law: the tests of happened-before, on synchronizations and on edges, answer the relations, and
+/// a process's last edge is before no edge, since no synchronization ends it.
+pub fn happened_before_is_tested()
+    ensures on_nodes { IsTestOfBefore }
+    ensures on_edges { IsTestOfEdges }
+    ensures last_edges { LastEdgesAreOpen }
+{}
+
+/// Law: the synchronizations of one kind and object are numbered upwards by one, each number once:
+/// from 1, but the `V`s of a semaphore from 1 more than its initial value.
+pub fn synchronizations_are_counted()
+    ensures { SynchronizationsAreCounted }
+{}
+
+/// Law: where no race is listed, each two accesses of two processes to one cell, of which one is a
+/// write, are ordered.
+pub fn no_race_means_order()
+    ensures { NoRaceMeansOrder }
+{}
+
+/// Law: the tag of a shared cell is the event that last wrote it.
+pub fn tags_are_last_writes()
+    ensures { TagsAreLastWrites }
+{}

@@ -1,0 +1,18 @@
+//! The definitions of a run: its schedule and trace, its synchronizations and races, its logs,
+//! their intervals and the flowback edges, and the types of their values.
+#![tactic(auto)]
+
+mod closed;
+mod flow;
+mod graph;
+mod laws;
+mod trace;
+
+pub use closed::{Closed, ProcEnd};
+pub use flow::{EdgeKind, FlowEdge, Item, Origin};
+pub use graph::{EdgeId, NodeId, Race, RaceKind};
+pub use laws::{
+    happened_before_is_tested, logs_grow, no_race_means_order, processes_follow_their_steps,
+    stories_grow, stories_tell_all, synchronizations_are_counted, tags_are_last_writes,
+};
+pub use trace::{DriveError, EventId, Trace, TracedEvent};

@@ -1,0 +1,37 @@
+use ppd_ast::Seq;
+use ppd_sem::Event;
+
+/// An event of a run by its process and its number among that process's events, both from 0.
+#[derive(Clone, Copy, PartialEq, Eq, Debug)]
+pub struct EventId {
+    pub process: u8,
+    pub number: u32,
+}
+
+/// An event of a full trace. `writers` has for each of its reads the event that last wrote the
+/// place, or None where the place still has its start value; `parent` is the event of the test or
+/// the call that let it run, or None where it stands in a process by itself; `paired` is the event
+/// of the synchronization that leads to this one by its number.
+#[derive(Drop, Debug, Clone, PartialEq)]
+pub struct TracedEvent {
+    pub event: Event,
+    pub writers: Seq<Option<EventId>>,
+    pub parent: Option<EventId>,
+    pub paired: Option<EventId>,
+}
+
+/// A full trace: the events of each process in order.
+#[derive(Drop, Debug, Clone, PartialEq)]
+pub struct Trace {
+    pub events: Seq<Seq<TracedEvent>>,
+}
+
+/// Why a schedule could not be taken.
+#[derive(Clone, Copy, PartialEq, Eq, Debug)]
+pub enum DriveError {
+    /// The number at this place of the schedule, from 0, names no enabled process, and it is the
+    /// first such.
+    NotEnabled(u32),
+    /// Want of memory.
+    Memory,
+}
