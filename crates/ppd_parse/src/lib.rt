@@ -8,13 +8,15 @@ mod grove;
 mod growth;
 mod kind;
 mod machine;
+mod node;
+mod numbering;
 mod reading;
 mod statements;
 mod symbol;
 mod want;
 
 pub use error::SyntaxError;
-pub use growth::{Grove, Growth};
+pub use node::{Node, Tree};
 pub use reading::parse;
 pub use symbol::Rule;
 

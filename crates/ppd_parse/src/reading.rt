@@ -1,16 +1,19 @@
 // The parser's way through the tokens.
-ghost use Rattle.std.specs.Prelude.{◌≡◌, ◌≤◌, ◌+◌, ◌^◌, ℕ, length, IfOk, IfErr, OnOk, reverse};
+ghost use Rattle.std.specs.Prelude.{◌≡◌, ◌≤◌, ◌+◌, ◌*◌, ◌^◌, ℕ, [], ◌∷◌, length, IfOk, IfErr, OnOk, reverse};
 ghost use Rattle.ppd_lex.specs.Formed.{EndOnce};
 ghost use Rattle.ppd_parse.specs.Grammar.{Marked};
 ghost use Rattle.ppd_parse.specs.Limits.{count_with, is_sign, EndsAs, IsRefused, IsTree, Stepped};
 ghost use Rattle.ppd_parse.specs.Machine.{state_of};
 ghost use Rattle.ppd_parse.specs.Stack.{IsGood, IsOver};
 ghost use Rattle.ppd_parse.specs.Table.{shapes_of};
+ghost use Rattle.ppd_parse.specs.Tree.{tree_of, IsTable};
 
 use crate::error::SyntaxError;
 use crate::growth::Grove;
 use crate::kind::{is_operator, kind_of};
 use crate::machine::take;
+use crate::node::Tree;
+use crate::numbering::renumber;
 use crate::symbol::{At, Kind, Level, Symbol, Want};
 use ppd_lex::Token;
 use std::alloc::{AllocError, Global};
@@ -94,15 +97,8 @@ fn finish(wants: &mut Vec<Want>, grove: &mut Grove) -> Result<(), AllocError>
     Ok(())
 }
 
-/// The tree of the tokens of a source: `roots` has one number, its root's.
-///
-/// The tokens end with `End`, which stands nowhere else. The answer is a tree exactly where the
-/// tokens are a program of the grammar with at most 64 constructs open at each token and at most
-/// 256 operators in each expression that is no part of another. The first token that breaks one of
-/// these is answered: `Unexpected` where some program begins with the tokens before it and none
-/// with the tokens through it, else `Deep` where it makes 65 constructs open, else `Wide` where it
-/// is the 257th operator. `Memory` is want of memory.
-pub fn parse(alloc: Global, tokens: &[Token]) -> Result<Grove, SyntaxError>
+// The nodes of the tokens of a source, up to its root.
+fn grow(alloc: Global, tokens: &[Token]) -> Result<Grove, SyntaxError>
     requires ends { EndOnce tokens.now }
     ensures tree { IfOk result (λ grove. IsTree tokens.now (shapes_of grove.nodes.items grove.roots.items)) }
     ensures refused { IfErr result (λ error. IsRefused tokens.now error) }
@@ -123,4 +119,30 @@ pub fn parse(alloc: Global, tokens: &[Token]) -> Result<Grove, SyntaxError>
     }
     finish(&mut wants, &mut grove)?;
     Ok(grove)
+}
+
+/// The tree of the tokens of a source, as a table of nodes with the root first.
+///
+/// The tokens end with `End`, which stands nowhere else, and are at most 2^30, so that the numbers
+/// of nodes fit `u32`: there are fewer than three nodes for each token. The answer is a tree
+/// exactly where the tokens are a program of the grammar with at most 64 constructs open at each
+/// token and at most 256 operators in each expression that is no part of another. The first token
+/// that breaks one of these is answered: `Unexpected` where some program begins with the tokens
+/// before it and none with the tokens through it, else `Deep` where it makes 65 constructs open,
+/// else `Wide` where it is the 257th operator. `Memory` is want of memory.
+pub fn parse(alloc: Global, tokens: &[Token]) -> Result<Tree, SyntaxError>
+    requires ends { EndOnce tokens.now }
+    requires short { length tokens.now ≤ 2 ^ 30 }
+    ensures tree { IfOk result (λ tree. IsTree tokens.now (tree_of tree.nodes ∷ [])) }
+    ensures table { IfOk result (λ tree. IsTable tree.nodes) }
+    ensures few { IfOk result (λ tree. length tree.nodes ≤ 3 * length tokens.now) }
+    ensures refused { IfErr result (λ error. IsRefused tokens.now error) }
+{
+    match grow(alloc, tokens) {
+        Ok(grove) => {
+            let tree = renumber(alloc, grove)?;
+            Ok(tree)
+        }
+        Err(error) => Err(error),
+    }
 }

@@ -1,35 +1,25 @@
-use Rattle.std.proofs.Common.{◌≡◌, List, ◌∙◌, ap, subst, reverse, ◌∷◌, [], ◌++◌, Ok, Err}
-use Rattle.ppd_lex.specs.declared.token.Token.{Token}
-use Rattle.ppd_parse.specs.declared.symbol.Symbol.TheVariants as S
-use Rattle.ppd_parse.specs.declared.symbol.Want.{Want}
-use Rattle.ppd_parse.specs.declared.symbol.Want.TheVariants.{Get}
-use Rattle.ppd_parse.specs.Grammar.{outside}
-use Rattle.ppd_parse.specs.Limits.{Stepped, token_at}
-use Rattle.ppd_parse.specs.Machine.{state_of}
-use Rattle.ppd_parse.proofs.Whole.{start_read, read_next, read_refused, told}
+use Rattle.ppd_parse.proofs.Renumbered.{short, numbered}
 use Rattle.ppd_parse.proofs.reading.parse.Goals as goal
 
-source : Want
-source = Get S.Source outside 0
+pub renumber-requires : goal.renumber-requires
+renumber-requires c =
+    let g = c.in-Ok.grove in
+    record { few = short c.args.tokens.now g.nodes.items g.roots.items c.requires.short g.grown c.in-Ok.ensures.tree }
 
-pub loop-token-init : goal.loop-token-init
-unfolding source
-loop-token-init c = start_read c.args.tokens.now c.requires.ends (state_of c.push.new.self.items c.new-grove.result) (ap reverse (c.in_ok-push.ensures.items ∙ ap (λ (ws : List Want). ws ++ source ∷ []) c.new-wants.ensures.items)) c.new-grove.ensures
+pub returns-in_ok-tree-in-Ok-clause-tree : goal.returns-in_ok-tree-in-Ok-clause-tree
+returns-in_ok-tree-in-Ok-clause-tree c =
+    let g = c.in-Ok.grove in
+    let n = numbered c.args.tokens.now g.nodes.items g.roots.items c.in_ok-tree-in-Ok.tree.nodes c.in_ok-tree-in-Ok.ensures g.grown c.in-Ok.ensures.tree in
+    n.tree
 
-pub loop-token-preserved : goal.loop-token-preserved
-loop-token-preserved c =
-    let ts = c.args.tokens.now in
-    let i = c.loop-token.token-index in
-    let a = state_of c.loop-token.wants.items c.loop-token.grove in
-    let b = state_of c.step.new.wants.items c.step.new.grove in
-    let t : c.token-item.result ≡ token_at ts i = told ts i c.token-item.result c.loop-token-test.true c.token-item.is in
-    read_next ts i c.loop-token.count a b c.loop-token-test.true c.loop-token.invariant c.in-Ok.next c.requires.ends (subst (λ (x : Token). Stepped c.loop-token.count x (Ok c.in-Ok.next) a b) t c.in-Ok.ensures)
+pub returns-in_ok-tree-in-Ok-clause-table : goal.returns-in_ok-tree-in-Ok-clause-table
+returns-in_ok-tree-in-Ok-clause-table c =
+    let g = c.in-Ok.grove in
+    let n = numbered c.args.tokens.now g.nodes.items g.roots.items c.in_ok-tree-in-Ok.tree.nodes c.in_ok-tree-in-Ok.ensures g.grown c.in-Ok.ensures.tree in
+    n.table
 
-pub returns-in-Err-clause-refused : goal.returns-in-Err-clause-refused
-returns-in-Err-clause-refused c =
-    let ts = c.args.tokens.now in
-    let i = c.loop-token.token-index in
-    let a = state_of c.loop-token.wants.items c.loop-token.grove in
-    let b = state_of c.step.new.wants.items c.step.new.grove in
-    let t : c.token-item.result ≡ token_at ts i = told ts i c.token-item.result c.loop-token-test.true c.token-item.is in
-    read_refused ts i c.loop-token.count a b c.loop-token-test.true c.loop-token.invariant c.in-Err.error (subst (λ (x : Token). Stepped c.loop-token.count x (Err c.in-Err.error) a b) t c.in-Err.ensures)
+pub returns-in_ok-tree-in-Ok-clause-few : goal.returns-in_ok-tree-in-Ok-clause-few
+returns-in_ok-tree-in-Ok-clause-few c =
+    let g = c.in-Ok.grove in
+    let n = numbered c.args.tokens.now g.nodes.items g.roots.items c.in_ok-tree-in-Ok.tree.nodes c.in_ok-tree-in-Ok.ensures g.grown c.in-Ok.ensures.tree in
+    n.few

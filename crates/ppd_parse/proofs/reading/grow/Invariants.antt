@@ -1,6 +1,6 @@
 use Rattle.ppd_parse.specs.Limits.{IsReadTo}
 use Rattle.ppd_parse.specs.Machine.{state_of}
-use Rattle.ppd_parse.proofs.reading.parse.Given as goal
+use Rattle.ppd_parse.proofs.reading.grow.Given as goal
 
 abbrev pub invariant-loop-token : goal.invariant-loop-token
 invariant-loop-token l = IsReadTo l.tokens l.token-index l.count (state_of l.wants.items l.grove)

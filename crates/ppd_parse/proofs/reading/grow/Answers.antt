@@ -1,0 +1,35 @@
+use Rattle.std.proofs.Common.{◌≡◌, List, ◌∙◌, ap, subst, reverse, ◌∷◌, [], ◌++◌, Ok, Err}
+use Rattle.ppd_lex.specs.declared.token.Token.{Token}
+use Rattle.ppd_parse.specs.declared.symbol.Symbol.TheVariants as S
+use Rattle.ppd_parse.specs.declared.symbol.Want.{Want}
+use Rattle.ppd_parse.specs.declared.symbol.Want.TheVariants.{Get}
+use Rattle.ppd_parse.specs.Grammar.{outside}
+use Rattle.ppd_parse.specs.Limits.{Stepped, token_at}
+use Rattle.ppd_parse.specs.Machine.{state_of}
+use Rattle.ppd_parse.proofs.Whole.{start_read, read_next, read_refused, told}
+use Rattle.ppd_parse.proofs.reading.grow.Goals as goal
+
+source : Want
+source = Get S.Source outside 0
+
+pub loop-token-init : goal.loop-token-init
+unfolding source
+loop-token-init c = start_read c.args.tokens.now c.requires.ends (state_of c.push.new.self.items c.new-grove.result) (ap reverse (c.in_ok-push.ensures.items ∙ ap (λ (ws : List Want). ws ++ source ∷ []) c.new-wants.ensures.items)) c.new-grove.ensures
+
+pub loop-token-preserved : goal.loop-token-preserved
+loop-token-preserved c =
+    let ts = c.args.tokens.now in
+    let i = c.loop-token.token-index in
+    let a = state_of c.loop-token.wants.items c.loop-token.grove in
+    let b = state_of c.step.new.wants.items c.step.new.grove in
+    let t : c.token-item.result ≡ token_at ts i = told ts i c.token-item.result c.loop-token-test.true c.token-item.is in
+    read_next ts i c.loop-token.count a b c.loop-token-test.true c.loop-token.invariant c.in-Ok.next c.requires.ends (subst (λ (x : Token). Stepped c.loop-token.count x (Ok c.in-Ok.next) a b) t c.in-Ok.ensures)
+
+pub returns-in-Err-clause-refused : goal.returns-in-Err-clause-refused
+returns-in-Err-clause-refused c =
+    let ts = c.args.tokens.now in
+    let i = c.loop-token.token-index in
+    let a = state_of c.loop-token.wants.items c.loop-token.grove in
+    let b = state_of c.step.new.wants.items c.step.new.grove in
+    let t : c.token-item.result ≡ token_at ts i = told ts i c.token-item.result c.loop-token-test.true c.token-item.is in
+    read_refused ts i c.loop-token.count a b c.loop-token-test.true c.loop-token.invariant c.in-Err.error (subst (λ (x : Token). Stepped c.loop-token.count x (Err c.in-Err.error) a b) t c.in-Err.ensures)
