@@ -9,6 +9,7 @@ fn told_at(alloc: Global, word: &str, place: Place) -> Result<String, AllocError
 }
 
 // What comes of a source: the number of the tree's nodes, or the refusal.
+#[tactic(auto, using(crate::proofs::Counted::short_tokens))]
 fn told(alloc: Global, source: &[u8]) -> Result<String, AllocError> {
     match lex(alloc, source) {
         Err(_) => format!(in alloc; "no tokens"),
