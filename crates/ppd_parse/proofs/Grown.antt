@@ -1,17 +1,15 @@
 -- What holds of the nodes that the parser made still holds with a node more.
-use Rattle.std.proofs.Common.{◌≡◌, ◌<◌, ◌≤◌, ℕ, zero, suc, ◌+◌, ◌-◌, ◌⊎◌, inl, inr, Bool, cond, nat_eq, min, List, [], ◌∷◌, ◌++◌, length, take, drop, get_or, Option, Some, None, refl, sym, ◌∙◌, ap, subst, arith}
-use Rattle.std.specs.List.{count_by, flat_map, All}
+use Rattle.std.proofs.Common.{◌≡◌, ◌<◌, ◌≤◌, ℕ, zero, suc, ◌+◌, ◌⊎◌, inl, inr, Bool, cond, nat_eq, List, [], ◌∷◌, ◌++◌, length, take, drop, get_or, Option, Some, None, refl, sym, ◌∙◌, ap, subst, arith}
+use Rattle.std.specs.List.{count_by}
 use Rattle.std.proofs.lemmas.Bool.Decides.{nat_tests}
-use Rattle.std.proofs.lemmas.List.{append-nil, length-append, length-drop, take-append-drop, take_all, map-append, get_or_append_left, get_or_push, nil_from_length}
+use Rattle.std.proofs.lemmas.List.{append-nil, length-append, take-append-drop, map-append, get_or_append_left, get_or_push}
 use Rattle.std.proofs.lemmas.List.Concat.{flat_map-append}
-use Rattle.std.proofs.lemmas.List.Elements.{All-nil, All-cons, All-head, All-tail, All-append, All-push, All-take, All-drop, All-weaker}
+use Rattle.std.proofs.lemmas.List.Elements.{All-nil, All-head, All-tail, All-append, All-push, All-take, All-drop, All-weaker}
 use Rattle.std.proofs.lemmas.List.Sums.{sum_by-cons, sum_by-append}
 use Rattle.ppd_ast.specs.Tally.{IsOnce}
 use Rattle.ppd_lex.specs.declared.token.Token.{Token}
-use Rattle.ppd_parse.specs.declared.symbol.Rule.{Rule}
 use Rattle.ppd_parse.specs.declared.node.Growth.{Growth}
 use Rattle.ppd_parse.specs.Below.{AreBelow}
-use Rattle.ppd_parse.specs.Grammar.{Shape, leaf, node, forest}
 use Rattle.ppd_parse.specs.Grown.{children_in, AreRising, AreOnce, IsLeafy, AreLeafy, AreCounted, IsGrown}
 use Rattle.ppd_parse.specs.Size.{size, size_of}
 use Rattle.ppd_parse.specs.Table.{shape_or, at_ids, shape_of, table, shapes_of}

@@ -4,18 +4,17 @@ use Rattle.std.specs.List.{count_by, All}
 use Rattle.std.proofs.lemmas.Bool.Decides.{nat_tests}
 use Rattle.std.proofs.lemmas.List.{map-append, length-map, length-append, length-reverse, reverse-append, reverse-reverse, get_or_append_left, get_or_push, get_or-reverse}
 use Rattle.std.proofs.lemmas.List.Concat.{flat_map-append}
-use Rattle.std.proofs.lemmas.List.Elements.{All-nil, All-head, All-tail, All-map, All-weaker}
+use Rattle.std.proofs.lemmas.List.Elements.{All-head, All-tail, All-map, All-weaker}
 use Rattle.ppd_ast.specs.Tally.{IsOnce}
 use Rattle.ppd_lex.specs.declared.token.Token.{Token}
 use Rattle.ppd_parse.specs.declared.symbol.Rule.TheVariants as R
 use Rattle.ppd_parse.specs.declared.node.Growth.{Growth}
 use Rattle.ppd_parse.specs.declared.node.Node.{Node}
 use Rattle.ppd_parse.specs.Below.{AreBelow}
-use Rattle.ppd_parse.specs.Grammar.{Shape, Marked, node, forest, tokens_of}
+use Rattle.ppd_parse.specs.Grammar.{Shape}
 use Rattle.ppd_parse.specs.Grown.{children_in, AreRising, AreLeafy, IsLeafy, IsGrown}
 use Rattle.ppd_parse.specs.Limits.{IsTree}
 use Rattle.ppd_parse.specs.Renumbered.{turned, node_of, renumbered}
-use Rattle.ppd_parse.specs.Size.{size_of}
 use Rattle.ppd_parse.specs.Table.{no_shape, shape_or, at_ids, shape_of, table, shapes_of}
 use Rattle.ppd_parse.specs.Tree.{trees_from, tree_of, children_of, IsTable}
 use Rattle.ppd_parse.proofs.Grown.{one_if, times_append, times_cons, times_none, children_below, below_more, all_children_below}
@@ -38,11 +37,12 @@ under [] h = tt
 under (g ∷ rs) all =
     let h : AreRising (reverse rs ++ g ∷ []) = subst AreRising (turned_cons g rs) all in
     let long : length (reverse rs ++ g ∷ []) ≡ length rs + 1 = length-append (reverse rs) (g ∷ []) ∙ ap (λ n. n + 1) (length-reverse rs) in
-    let P : Growth → Type 0 = λ n. AreBelow (length rs) n.children.items in
-    (subst P (get_or_push (reverse rs) g g (length rs) (length-reverse rs)) (h (length rs) g (omega (arith, long))),
-    under rs (λ k d lt.
-        let Q : Growth → Type 0 = λ n. AreBelow k n.children.items in
-        subst Q (get_or_append_left (reverse rs) (g ∷ []) d k lt) (h k d (omega (arith, long, length-reverse rs)))))
+    let P : Growth → Type 0 = λ n. AreBelow (length rs) n.children.items in (
+      subst P (get_or_push (reverse rs) g g (length rs) (length-reverse rs)) (h (length rs) g (omega (arith, long))),
+      under rs (λ k d lt.
+          let Q : Growth → Type 0 = λ n. AreBelow k n.children.items in
+          subst Q (get_or_append_left (reverse rs) (g ∷ []) d k lt) (h k d (omega (arith, long, length-reverse rs)))),
+    )
 
 -- ---- the trees
 

@@ -12,12 +12,14 @@ mod node;
 mod numbering;
 mod reading;
 mod statements;
+mod steps;
 mod symbol;
 mod want;
 
 pub use error::SyntaxError;
 pub use node::{Node, Tree};
-pub use reading::parse;
+pub use reading::{parse, parse_in};
+pub use steps::Steps;
 pub use symbol::Rule;
 
 #[cfg(test)]
