@@ -1,19 +1,21 @@
 -- What holds of the nodes that the parser made still holds with a node more.
-use Rattle.std.proofs.Common.{◌≡◌, ◌<◌, ◌≤◌, ℕ, zero, suc, ◌+◌, ◌⊎◌, inl, inr, Bool, cond, nat_eq, List, [], ◌∷◌, ◌++◌, length, take, drop, get_or, Option, Some, None, refl, sym, ◌∙◌, ap, subst, arith}
-use Rattle.std.specs.List.{count_by}
+use Rattle.std.proofs.Common.{◌≡◌, ◌≢◌, ◌<◌, ◌≤◌, ℕ, zero, suc, ◌+◌, ◌⊎◌, inl, inr, Bool, cond, nat_eq, List, [], ◌∷◌, ◌++◌, length, take, drop, get_or, Option, Some, None, refl, sym, ◌∙◌, ap, subst, arith}
+use Rattle.std.specs.List.{count_by, sum_by}
 use Rattle.std.proofs.lemmas.Bool.Decides.{nat_tests}
 use Rattle.std.proofs.lemmas.List.{append-nil, length-append, take-append-drop, map-append, get_or_append_left, get_or_push}
 use Rattle.std.proofs.lemmas.List.Concat.{flat_map-append}
 use Rattle.std.proofs.lemmas.List.Elements.{All-nil, All-head, All-tail, All-append, All-push, All-take, All-drop, All-weaker}
-use Rattle.std.proofs.lemmas.List.Sums.{sum_by-cons, sum_by-append}
+use Rattle.std.proofs.lemmas.List.Sums.{sum_by-cons, sum_by-append, sum_by_push, get_or-le-sum_by}
 use Rattle.ppd_ast.specs.Tally.{IsOnce}
 use Rattle.ppd_lex.specs.declared.token.Token.{Token}
+use Rattle.ppd_parse.specs.declared.symbol.Rule.{Rule}
+use Rattle.ppd_parse.specs.declared.symbol.Rule.TheVariants as R
 use Rattle.ppd_parse.specs.declared.node.Growth.{Growth}
 use Rattle.ppd_parse.specs.Below.{AreBelow}
 use Rattle.ppd_parse.specs.Grown.{children_in, AreRising, AreOnce, IsLeafy, AreLeafy, AreCounted, IsGrown}
-use Rattle.ppd_parse.specs.Size.{size, size_of}
+use Rattle.ppd_parse.specs.Size.{weigh, weigh_all, weigh_node, size_of, one_for_leaf}
 use Rattle.ppd_parse.specs.Table.{shape_or, at_ids, shape_of, table, shapes_of}
-use Rattle.ppd_parse.proofs.Sizes.{size_append, size_node}
+use Rattle.ppd_parse.proofs.Sizes.{weigh_append, weigh_made}
 use Rattle.ppd_parse.proofs.Table.{shapes_more}
 
 -- ---- how often a number stands in a list
@@ -110,17 +112,20 @@ module _ (ns : List Growth) (n : Growth) where
             let held : count_by (nat_eq c) roots ≡ 0 = times_none (length ns) c roots (omega arith) grown.0 in
             omega (arith, times_after c, this, kept, held, times_append c (children_in ns) roots)
 
-    size_shape : (o : Option Token) → n.token ≡ o → size (shape_or o n.rule (at_ids (table [] ns) n.children.items)) ≡ 1 + size_of (at_ids (table [] ns) n.children.items)
-    size_shape (Some x) e = ap (λ ids. 1 + size_of (at_ids (table [] ns) ids)) (sym (leafy x e).1)
-    size_shape None e = size_node n.rule (at_ids (table [] ns) n.children.items)
+    weigh_shape : (m : ℕ) (w : Rule → ℕ) (o : Option Token) → n.token ≡ o → weigh m w (shape_or o n.rule (at_ids (table [] ns) n.children.items)) ≡ weigh_node m w o n.rule + weigh_all m w (at_ids (table [] ns) n.children.items)
+    weigh_shape m w (Some x) e =
+        let none : weigh_all m w (at_ids (table [] ns) n.children.items) ≡ 0 = ap (λ ids. weigh_all m w (at_ids (table [] ns) ids)) (leafy x e).1 in
+        omega (arith, none)
+    weigh_shape m w None e = weigh_made m w n.rule (at_ids (table [] ns) n.children.items)
 
     counted_after : AreCounted (ns ++ n ∷ []) (take b roots ++ length ns ∷ [])
-    counted_after =
+    counted_after m w =
         let whole : at_ids (table [] ns) (take b roots) ++ at_ids (table [] ns) (drop b roots) ≡ shapes_of ns roots = sym (map-append (λ i. get_or (table [] ns) i _) (take b roots) (drop b roots)) ∙ ap (at_ids (table [] ns)) (take-append-drop b roots) in
-        let cut : size_of (at_ids (table [] ns) (take b roots) ++ at_ids (table [] ns) (drop b roots)) ≡ size_of (shapes_of ns roots) = ap size_of whole in
-        let new : size_of (shapes_of (ns ++ n ∷ []) (take b roots ++ length ns ∷ [])) ≡ size_of (shapes_of ns (take b roots) ++ shape_of (table [] ns) n ∷ []) = ap size_of (shapes_more ns n (take b roots) low) in
-        let kid : size_of (at_ids (table [] ns) n.children.items) ≡ size_of (at_ids (table [] ns) (drop b roots)) = ap (λ ids. size_of (at_ids (table [] ns) ids)) kids in
-        omega (arith, longer, grown.4, cut, new, kid, size_shape n.token refl, size_append (shapes_of ns (take b roots)) (shape_of (table [] ns) n ∷ []), size_append (at_ids (table [] ns) (take b roots)) (at_ids (table [] ns) (drop b roots)))
+        let cut : weigh_all m w (at_ids (table [] ns) (take b roots) ++ at_ids (table [] ns) (drop b roots)) ≡ weigh_all m w (shapes_of ns roots) = ap (weigh_all m w) whole in
+        let new : weigh_all m w (shapes_of (ns ++ n ∷ []) (take b roots ++ length ns ∷ [])) ≡ weigh_all m w (shapes_of ns (take b roots) ++ shape_of (table [] ns) n ∷ []) = ap (weigh_all m w) (shapes_more ns n (take b roots) low) in
+        let kid : weigh_all m w (at_ids (table [] ns) n.children.items) ≡ weigh_all m w (at_ids (table [] ns) (drop b roots)) = ap (λ ids. weigh_all m w (at_ids (table [] ns) ids)) kids in
+        let sum = sum_by_push (λ (g : Growth). weigh_node m w g.token g.rule) ns n in
+        omega (arith, sum, grown.4 m w, cut, new, kid, weigh_shape m w n.token refl, weigh_append m w (shapes_of ns (take b roots)) (shape_of (table [] ns) n ∷ []), weigh_append m w (at_ids (table [] ns) (take b roots)) (at_ids (table [] ns) (drop b roots)))
 
     pub grown_after : IsGrown (ns ++ n ∷ []) (take b roots ++ length ns ∷ [])
     grown_after = (below_after, rising_after, once_after, leafy_after, counted_after)
@@ -135,4 +140,24 @@ pub grown_none : (ms : List Growth) (js : List ℕ) → ms ≡ [] → js ≡ [] 
 grown_none ms js em ej = subst (λ (u : List Growth). IsGrown u js) (sym em) (subst (IsGrown []) (sym ej) none)
   where
     none : IsGrown [] []
-    none = (λ k d lt. absurd (omega arith), λ k d lt. absurd (omega arith), λ c lt. absurd (omega arith), λ k d lt. absurd (omega arith), refl)
+    none = (λ k d lt. absurd (omega arith), λ k d lt. absurd (omega arith), λ c lt. absurd (omega arith), λ k d lt. absurd (omega arith), λ m w. refl)
+
+-- the nodes are as many as those of the trees
+pub counted_size : (ns : List Growth) (roots : List ℕ) → AreCounted ns roots → length ns ≡ size_of (shapes_of ns roots)
+counted_size ns roots h = sym (ones ns) ∙ h 1 (λ r. 1)
+  where
+    one : (o : Option Token) (r : Rule) → weigh_node 1 (λ r. 1) o r ≡ 1
+    one (Some x) r = refl
+    one None r = refl
+
+    ones : (gs : List Growth) → sum_by (λ g. weigh_node 1 (λ r. 1) g.token g.rule) gs ≡ length gs
+    ones [] = refl
+    ones (g ∷ gs) = omega (arith, sum_by-cons (λ (k : Growth). weigh_node 1 (λ r. 1) k.token k.rule) g gs, one g.token g.rule, ones gs)
+
+-- where no tree has the rule of a token elsewhere, no node has
+pub counted_inner : (ns : List Growth) (roots : List ℕ) → AreCounted ns roots → weigh_all 0 one_for_leaf (shapes_of ns roots) ≡ 0 → (k : ℕ) (d : Growth) → k < length ns → (get_or ns k d).token ≡ None → (get_or ns k d).rule ≢ R.Leaf
+counted_inner ns roots h z k d lt none is =
+    let f : Growth → ℕ = λ g. weigh_node 0 one_for_leaf g.token g.rule in
+    let most : f (get_or ns k d) ≤ sum_by f ns = get_or-le-sum_by f ns k d lt in
+    let one : f (get_or ns k d) ≡ 1 = ap (λ o. weigh_node 0 one_for_leaf o (get_or ns k d).rule) none ∙ ap one_for_leaf is in
+    omega (arith, most, one, h 0 one_for_leaf, z)

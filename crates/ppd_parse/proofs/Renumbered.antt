@@ -1,5 +1,5 @@
 -- The nodes that have grown, numbered with the root first, are the table of their tree.
-use Rattle.std.proofs.Common.{◌≡◌, ◌<◌, ◌≤◌, ℕ, zero, suc, ◌+◌, ◌-◌, ◌*◌, ◌^◌, nat_eq, List, [], ◌∷◌, ◌++◌, length, map, reverse, get_or, Some, refl, sym, ◌∙◌, ap, subst, arith}
+use Rattle.std.proofs.Common.{◌≡◌, ◌≢◌, ◌<◌, ◌≤◌, ℕ, zero, suc, ◌+◌, ◌-◌, ◌*◌, ◌^◌, nat_eq, List, [], ◌∷◌, ◌++◌, length, map, reverse, get_or, Some, None, refl, sym, ◌∙◌, ap, subst, arith}
 use Rattle.std.specs.List.{count_by, All}
 use Rattle.std.proofs.lemmas.Bool.Decides.{nat_tests}
 use Rattle.std.proofs.lemmas.List.{map-append, length-map, length-append, length-reverse, reverse-append, reverse-reverse, get_or_append_left, get_or_push, get_or-reverse}
@@ -17,9 +17,9 @@ use Rattle.ppd_parse.specs.Limits.{IsTree}
 use Rattle.ppd_parse.specs.Renumbered.{turned, node_of, renumbered}
 use Rattle.ppd_parse.specs.Table.{no_shape, shape_or, at_ids, shape_of, table, shapes_of}
 use Rattle.ppd_parse.specs.Tree.{trees_from, tree_of, children_of, IsTable}
-use Rattle.ppd_parse.proofs.Grown.{one_if, times_append, times_cons, times_none, children_below, below_more, all_children_below}
+use Rattle.ppd_parse.proofs.Grown.{one_if, times_append, times_cons, times_none, children_below, below_more, all_children_below, counted_size, counted_inner}
 use Rattle.ppd_parse.proofs.Laws.{program_root}
-use Rattle.ppd_parse.proofs.Sizes.{program_size}
+use Rattle.ppd_parse.proofs.Sizes.{program_size, program_inner}
 use Rattle.ppd_parse.proofs.Table.{table_snoc, length-table, length-shapes}
 
 -- ---- the nodes from the last one on
@@ -93,10 +93,22 @@ larger_from n j (g ∷ rs) u e zero d lt = All-map (λ c. (j + 0 < c) × (c < n)
 larger_from n j (g ∷ rs) u e (suc i) d lt =
     All-weaker (λ c. (j + 1 + i < c) × (c < n)) (λ c. (j + suc i < c) × (c < n)) (λ c b. (let f = b.0 in omega arith, b.1)) (get_or (map (node_of n) rs) i d).children (larger_from n (j + 1) rs u.1 (omega arith) i d (omega arith))
 
+-- a node without a token has another rule than a token
+abbrev IsInner : Growth → Type 0
+IsInner g = g.token ≡ None → g.rule ≢ R.Leaf
+
+abbrev AreInner : List Growth → Type 0
+AreInner gs = (k : ℕ) (d : Growth) → k < length gs → IsInner (get_or gs k d)
+
 leaves_from : (n : ℕ) (rs : List Growth) → AreLeafy rs → (i : ℕ) (d : Node) (x : Token) → i < length (map (node_of n) rs) → (get_or (map (node_of n) rs) i d).token ≡ Some x → ((get_or (map (node_of n) rs) i d).rule ≡ R.Leaf) × ((get_or (map (node_of n) rs) i d).children ≡ [])
 leaves_from n [] h i d x lt e = absurd (omega arith)
 leaves_from n (g ∷ rs) h zero d x lt e = let l = h 0 g (omega arith) x e in (l.0, ap (turned n) l.1)
 leaves_from n (g ∷ rs) h (suc i) d x lt e = leaves_from n rs (λ k f less. h (suc k) f (omega arith)) i d x (omega arith) e
+
+inner_from : (n : ℕ) (rs : List Growth) → AreInner rs → (i : ℕ) (d : Node) → i < length (map (node_of n) rs) → (get_or (map (node_of n) rs) i d).token ≡ None → (get_or (map (node_of n) rs) i d).rule ≢ R.Leaf
+inner_from n [] h i d lt e = absurd (omega arith)
+inner_from n (g ∷ rs) h zero d lt e = h 0 g (omega arith) e
+inner_from n (g ∷ rs) h (suc i) d lt e = inner_from n rs (λ k f less. h (suc k) f (omega arith)) i d (omega arith) e
 
 -- ---- the table
 
@@ -158,12 +170,18 @@ module _ (gs : List Growth) (r : ℕ) (grown : IsGrown gs (r ∷ [])) where
       let less : k < length gs = omega (arith, length-reverse gs) in
       subst IsLeafy (sym (get_or-reverse gs k d less)) (grown.3 (length gs - 1 - k) d (omega arith))
 
-  pub is_table : IsTable (renumbered gs)
-  is_table = record {
+  inner_reversed : AreInner gs → AreInner (reverse gs)
+  inner_reversed h k d lt =
+      let less : k < length gs = omega (arith, length-reverse gs) in
+      subst IsInner (sym (get_or-reverse gs k d less)) (h (length gs - 1 - k) d (omega arith))
+
+  pub is_table : AreInner gs → IsTable (renumbered gs)
+  is_table inner = record {
     some = omega (arith, length-renumbered, root_below);
     larger = λ i d lt. All-weaker (λ c. (0 + i < c) × (c < length gs)) (λ c. (i < c) × (c < length (renumbered gs))) (λ c b. (let f = b.0 in omega arith, let f = b.1 in omega (arith, length-renumbered))) (get_or (renumbered gs) i d).children (larger_from (length gs) 0 (reverse gs) under_all count_all i d lt);
     once = once_after;
     leaves = leaves_from (length gs) (reverse gs) leafy_reversed;
+    inner = inner_from (length gs) (reverse gs) (inner_reversed inner);
   }
 
 -- ---- of a program
@@ -176,7 +194,7 @@ one_tree ts f t = let root = program_root t.program in ap length root.1
 pub few_nodes : (ts : List Token) (gs : List Growth) (roots : List ℕ) → IsGrown gs roots → IsTree ts (shapes_of gs roots) → length gs + 1 ≤ 3 * length ts
 few_nodes ts gs roots grown t =
     let tokens : length t.marked ≡ length ts = sym (length-map t.marked (λ x. x.token)) ∙ ap length t.tokens in
-    omega (arith, grown.4, tokens, program_size t.program)
+    omega (arith, counted_size gs roots grown.4, tokens, program_size t.program)
 
 pub short : (ts : List Token) (gs : List Growth) (roots : List ℕ) → length ts ≤ 2 ^ 30 → IsGrown gs roots → IsTree ts (shapes_of gs roots) → length gs ≤ 2 ^ 32
 short ts gs roots few grown t = omega (arith, few_nodes ts gs roots grown t)
@@ -193,7 +211,7 @@ numbered ts gs roots ns e grown t = subst (IsRenumbered ts) (sym e) (go roots gr
     go [] g t h = absurd (omega arith)
     go (r ∷ []) g t h = record {
       tree = subst (IsTree ts) (sym (same_tree gs r g)) t;
-      table = is_table gs r g;
+      table = is_table gs r g (counted_inner gs (r ∷ []) g.4 (program_inner t.program));
       few = omega (arith, few_nodes ts gs (r ∷ []) g t, length-renumbered gs r g);
     }
     go (r ∷ (q ∷ ids)) g t h = absurd (omega arith)

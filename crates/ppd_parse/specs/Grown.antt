@@ -1,12 +1,13 @@
 -- What holds of the nodes that the parser made, and of those of them that have no parent yet.
 use Rattle.std.specs.Prelude.{◌≡◌, ◌<◌, ◌++◌, ℕ, List, [], length, slice_index_or, Some}
-use Rattle.std.specs.List.{flat_map}
+use Rattle.std.specs.List.{flat_map, sum_by}
 use Rattle.ppd_ast.specs.Tally.{IsOnce}
 use Rattle.ppd_lex.specs.declared.token.Token.{Token}
+use Rattle.ppd_parse.specs.declared.symbol.Rule.{Rule}
 use Rattle.ppd_parse.specs.declared.symbol.Rule.TheVariants as R
 use Rattle.ppd_parse.specs.declared.node.Growth.{Growth}
 use Rattle.ppd_parse.specs.Below.{AreBelow}
-use Rattle.ppd_parse.specs.Size.{size_of}
+use Rattle.ppd_parse.specs.Size.{weigh_node, weigh_all}
 use Rattle.ppd_parse.specs.Table.{shapes_of}
 
 -- the children of all nodes
@@ -28,9 +29,9 @@ IsLeafy n = (x : Token) → n.token ≡ Some x → (n.rule ≡ R.Leaf) × (n.chi
 abbrev pub AreLeafy : List Growth → Type 0
 AreLeafy ns = (k : ℕ) (d : Growth) → k < length ns → IsLeafy (slice_index_or ns k d)
 
--- no node is outside the trees
+-- no node is outside the trees: they have as many of each kind
 abbrev pub AreCounted : List Growth → List ℕ → Type 0
-AreCounted ns roots = length ns ≡ size_of (shapes_of ns roots)
+AreCounted ns roots = (m : ℕ) (w : Rule → ℕ) → sum_by (λ n. weigh_node m w n.token n.rule) ns ≡ weigh_all m w (shapes_of ns roots)
 
 abbrev pub IsGrown : List Growth → List ℕ → Type 0
 IsGrown ns roots = AreBelow (length ns) roots × AreRising ns × AreOnce ns roots × AreLeafy ns × AreCounted ns roots

@@ -1,5 +1,5 @@
 -- The table of nodes that a parse answers: the tree that it stands for, and how its nodes are numbered.
-use Rattle.std.specs.Prelude.{◌≡◌, ◌<◌, ◌+◌, ◌-◌, ℕ, List, [], ◌∷◌, length, map, slice_index_or, All, Some}
+use Rattle.std.specs.Prelude.{◌≡◌, ◌≢◌, ◌<◌, ◌+◌, ◌-◌, ℕ, List, [], ◌∷◌, length, map, slice_index_or, All, Some, None}
 use Rattle.std.specs.List.{flat_map}
 use Rattle.ppd_ast.specs.Tally.{IsOnce}
 use Rattle.ppd_lex.specs.declared.token.Token.{Token}
@@ -25,9 +25,10 @@ abbrev pub children_of : List Node → List ℕ
 children_of ns = flat_map (λ n. n.children) ns
 
 -- Node 0 is the root. The children of a node are nodes with larger numbers, and each node but the root is the child of one
--- node, once: none is shared, none is stray. A node with a token is a leaf, and has no children.
+-- node, once: none is shared, none is stray. The leaves are the nodes with a token, and have no children.
 pub record IsTable (ns : List Node) : Type 0 where
   pub some : 0 < length ns
   pub larger : (i : ℕ) (d : Node) → i < length ns → All (λ c. (i < c) × (c < length ns)) (slice_index_or ns i d).children
   pub once : (c : ℕ) → 0 < c → c < length ns → IsOnce (children_of ns) c
   pub leaves : (i : ℕ) (d : Node) (x : Token) → i < length ns → (slice_index_or ns i d).token ≡ Some x → ((slice_index_or ns i d).rule ≡ R.Leaf) × ((slice_index_or ns i d).children ≡ [])
+  pub inner : (i : ℕ) (d : Node) → i < length ns → (slice_index_or ns i d).token ≡ None → (slice_index_or ns i d).rule ≢ R.Leaf
