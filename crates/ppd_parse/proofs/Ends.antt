@@ -7,7 +7,7 @@ use Rattle.ppd_parse.specs.declared.symbol.Want.TheVariants.{Close}
 use Rattle.ppd_parse.specs.Grammar.{Shape, close, ReadsAll, nothing, wrap, next}
 use Rattle.ppd_parse.specs.Limits.{EndsAs}
 use Rattle.ppd_parse.specs.Machine.{State, Completed}
-use Rattle.ppd_parse.proofs.Steps.{wrap_to}
+use Rattle.ppd_parse.proofs.Unfolded.{wrap_to}
 
 -- at the end, the same trees come out
 pub record Ends (a b : State) : Type 0 where

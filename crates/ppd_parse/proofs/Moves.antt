@@ -17,9 +17,9 @@ use Rattle.ppd_parse.specs.Grammar.{Shape, leaf, close, Marked, kind_of, is_oper
 use Rattle.ppd_parse.specs.Choice.{Choice, chosen, refused, choose, expansion, parts_if, pushed, stack_with}
 use Rattle.ppd_parse.specs.Machine.{State, SameAt, IsDead, Shifts, Advanced, IsTerminal}
 use Rattle.ppd_parse.specs.Stack.{IsGood, IsOver}
-use Rattle.ppd_parse.proofs.Ranked.{ranked}
+use Rattle.ppd_parse.proofs.Ranked.{ranked, read_exact, read_operator}
 use Rattle.ppd_parse.proofs.Sample.{good_exact, good_unfolded}
-use Rattle.ppd_parse.proofs.Steps.{exact_to, operator_to, wrap_to, unfold_to, unfold_from, unfold_none}
+use Rattle.ppd_parse.proofs.Unfolded.{exact_to, operator_to, wrap_to, unfold_to, unfold_from, unfold_none}
 
 abbrev at_state : List Want → List Shape → State
 at_state ws s = record { wants = ws; shapes = s }
@@ -45,7 +45,7 @@ exact_moves token k a b ws s t e new good =
       to = λ x ts f d h. let o = exact_to h in (marked_same x token a d o.1, subst (λ u. ReadsAll ws u ts f []) (ap (λ z. s ++ leaf z ∷ []) d ∙ sym new) o.2);
       from = λ ts f h. next (exact (sym e) refl) (subst (λ u. ReadsAll ws u ts f []) new h);
     } in
-    (shifts, good_exact k a b ws good, λ d. good_end k a b ws (e ∙ d) good)
+    (shifts, good_exact k a b ws good, λ d. good_end k a b ws (e ∙ d) good, read_exact k a b ws)
 
 pub exact_refused : (token : Token) (k : Kind) (a : At) (b : ℕ) (ws : List Want) (s : List Shape) → (k ≡ kind_of token.kind → ⊥) → IsDead (kind_of token.kind) (record { wants = Get (S.Exact k) a b ∷ ws; shapes = s })
 exact_refused token k a b ws s other x ts f e h = other (sym (exact_to h).0 ∙ e)
@@ -63,7 +63,7 @@ operator_moves token l a b ws s t e new good =
       to = λ x ts f d h. let o = operator_to h in (marked_same x token a d o.1, subst (λ u. ReadsAll ws u ts f []) (ap (λ z. s ++ leaf z ∷ []) d ∙ sym new) o.2);
       from = λ ts f h. next (operator e refl) (subst (λ u. ReadsAll ws u ts f []) new h);
     } in
-    (shifts, good, λ d. absurd (no_operator l (kind_of token.kind) d e))
+    (shifts, good, λ d. absurd (no_operator l (kind_of token.kind) d e), read_operator l a b ws)
 
 pub operator_refused : (token : Token) (l : Level) (a : At) (b : ℕ) (ws : List Want) (s : List Shape) → is_operator l (kind_of token.kind) ≡ false → IsDead (kind_of token.kind) (record { wants = Get (S.Operator l) a b ∷ ws; shapes = s })
 operator_refused token l a b ws s other x ts f e h =

@@ -1,15 +1,34 @@
--- Each move leaves fewer to make.
-use Rattle.std.proofs.Common.{◌<◌, ℕ, List, ◌∷◌, ◌++◌, arith}
+-- Each move leaves fewer to make, and a token that is read pays for 15.
+use Rattle.std.proofs.Common.{◌<◌, ◌≤◌, ◌+◌, ℕ, List, [], ◌∷◌, ◌++◌, arith}
 use Rattle.ppd_parse.specs.declared.symbol.Level.{Level}
 use Rattle.ppd_parse.specs.declared.symbol.Level.TheVariants as L
 use Rattle.ppd_parse.specs.declared.symbol.Symbol.{Symbol}
+use Rattle.ppd_parse.specs.declared.symbol.Symbol.TheVariants as S
 use Rattle.ppd_parse.specs.declared.symbol.At.{At}
+use Rattle.ppd_parse.specs.declared.symbol.Kind.{Kind}
 use Rattle.ppd_parse.specs.declared.symbol.Want.{Want}
-use Rattle.ppd_parse.specs.declared.symbol.Want.TheVariants.{Get}
+use Rattle.ppd_parse.specs.declared.symbol.Want.TheVariants.{Get, Close}
 use Rattle.ppd_parse.specs.Grammar.{Production, parts, wants_in, operand_parts, operand}
-use Rattle.ppd_parse.specs.Rank.{rank}
+use Rattle.ppd_parse.specs.Rank.{lead, lead_all, weight_all, rank}
 
-ranked_operand : (l : Level) (a : At) (b c : ℕ) (ws : List Want) → rank (wants_in a b (operand_parts l) ++ ws) < 4
+lead_most : (y : Symbol) → lead y ≤ 15
+lead_most (S.Chain l) = omega arith
+lead_most _ = omega arith
+
+pub lead_all_most : (ws : List Want) → lead_all ws ≤ 15
+lead_all_most [] = omega arith
+lead_all_most (Get y a b ∷ ws) = lead_most y
+lead_all_most (Close r b ∷ ws) = lead_all_most ws
+
+pub some_lead : (y : Symbol) → 1 ≤ lead y
+some_lead (S.Chain l) = omega arith
+some_lead _ = omega arith
+
+pub some_rank : (w : Want) (ws : List Want) → 1 ≤ rank (w ∷ ws)
+some_rank (Get y a b) ws = omega (arith, some_lead y)
+some_rank (Close r b) ws = omega arith
+
+ranked_operand : (l : Level) (a : At) (b c : ℕ) (ws : List Want) → rank (wants_in a b (operand_parts l) ++ ws) < 12 + weight_all ws
 ranked_operand L.Product a b c ws = omega arith
 ranked_operand L.Sum a b c ws = omega arith
 ranked_operand L.Compare a b c ws = omega arith
@@ -18,5 +37,11 @@ ranked_operand L.And a b c ws = omega arith
 ranked_operand L.Or a b c ws = omega arith
 
 pub ranked : {y : Symbol} (p : Production y) (a : At) (b c : ℕ) (ws : List Want) → rank (wants_in a b (parts p) ++ ws) < rank (Get y a c ∷ ws)
-ranked (operand l) a b c ws = ranked_operand l a b c ws
-ranked _ a b c ws = omega arith
+ranked (operand l) a b c ws = omega (arith, ranked_operand l a b c ws)
+ranked _ a b c ws = omega (arith, lead_all_most ws)
+
+pub read_exact : (k : Kind) (a : At) (b : ℕ) (ws : List Want) → rank ws + 1 ≤ rank (Get (S.Exact k) a b ∷ ws) + 15
+read_exact k a b ws = omega (arith, lead_all_most ws)
+
+pub read_operator : (l : Level) (a : At) (b : ℕ) (ws : List Want) → rank ws + 1 ≤ rank (Get (S.Operator l) a b ∷ ws) + 15
+read_operator l a b ws = omega (arith, lead_all_most ws)

@@ -4,16 +4,16 @@ use Rattle.std.proofs.lemmas.List.{map-append, take_min, drop_min, length-append
 use Rattle.std.proofs.lemmas.List.Elements.{All-head, All-tail, All-take}
 use Rattle.std.proofs.Math.Seq.{get_or-append_seam, take-length}
 use Rattle.ppd_lex.specs.declared.token.Token.{Token}
-use Rattle.ppd_parse.specs.declared.growth.Growth.{Growth}
+use Rattle.ppd_parse.specs.declared.node.Growth.{Growth}
 use Rattle.ppd_parse.specs.Below.{AreBelow}
 use Rattle.ppd_parse.specs.Grammar.{Shape, leaf, node, forest, close}
 use Rattle.ppd_parse.specs.Table.{no_shape, shape_or, at_ids, shape_of, table, shapes_of}
 
-table_snoc : (ts : List Shape) (ns : List Growth) (n : Growth) → table ts (ns ++ n ∷ []) ≡ table ts ns ++ shape_of (table ts ns) n ∷ []
+pub table_snoc : (ts : List Shape) (ns : List Growth) (n : Growth) → table ts (ns ++ n ∷ []) ≡ table ts ns ++ shape_of (table ts ns) n ∷ []
 table_snoc ts [] n = refl
 table_snoc ts (m ∷ ns) n = table_snoc (ts ++ shape_of ts m ∷ []) ns n
 
-length-table : (ts : List Shape) (ns : List Growth) → length (table ts ns) ≡ length ts + length ns
+pub length-table : (ts : List Shape) (ns : List Growth) → length (table ts ns) ≡ length ts + length ns
 length-table ts [] = omega arith
 length-table ts (m ∷ ns) = omega (arith, length-table (ts ++ shape_of ts m ∷ []) ns, length-append ts (shape_of ts m ∷ []))
 
@@ -26,7 +26,7 @@ at_ids_more ts t (i ∷ ids) h =
     cc
 
 -- a new node, which is a root
-shapes_more : (ns : List Growth) (n : Growth) (ids : List ℕ) → AreBelow (length ns) ids → shapes_of (ns ++ n ∷ []) (ids ++ length ns ∷ []) ≡ shapes_of ns ids ++ shape_of (table [] ns) n ∷ []
+pub shapes_more : (ns : List Growth) (n : Growth) (ids : List ℕ) → AreBelow (length ns) ids → shapes_of (ns ++ n ∷ []) (ids ++ length ns ∷ []) ≡ shapes_of ns ids ++ shape_of (table [] ns) n ∷ []
 shapes_more ns n ids h =
     let old = table [] ns in
     let len : length old ≡ length ns = omega (arith, length-table [] ns) in

@@ -1,10 +1,14 @@
--- The grammar, the limits, and what the parser does at a token.
+-- The grammar, the limits, what the parser does at a token, and the table of nodes that it makes.
 pub mod Below
 pub mod Choice
 pub mod Grammar
+pub mod Grown
 pub mod Leaves
 pub mod Limits
 pub mod Machine
 pub mod Rank
+pub mod Renumbered
+pub mod Size
 pub mod Stack
 pub mod Table
+pub mod Tree

@@ -1,9 +1,11 @@
 // The trees that the parser has read, as nodes in the order in which they were complete.
-ghost use Rattle.std.specs.Prelude.{◌≡◌, ◌++◌, ◌∷◌, [], IfOk, OnOk};
+ghost use Rattle.std.specs.Prelude.{◌≡◌, ◌≤◌, ◌++◌, ◌∷◌, [], length, take, drop, IfOk, OnOk};
 ghost use Rattle.ppd_parse.specs.Grammar.{leaf, close};
+ghost use Rattle.ppd_parse.specs.Grown.{IsLeafy};
 ghost use Rattle.ppd_parse.specs.Table.{shapes_of};
 
-use crate::growth::{Grove, Growth};
+use crate::growth::Grove;
+use crate::node::Growth;
 use crate::symbol::Rule;
 use ppd_lex::{Token, TokenKind};
 use std::alloc::{AllocError, AllocFailed, Global};
@@ -48,19 +50,40 @@ impl Grove {
         }
     }
 
+    // Adds a node, the parent of the roots from the base on. Where memory is wanting, no node is left.
+    fn add(&mut self, growth: Growth, base: usize) -> Result<(), AllocError>
+        requires base { base ≤ length self.old.roots.items }
+        requires children { growth.children.items ≡ drop base self.old.roots.items }
+        requires leafy { IsLeafy growth }
+        ensures nodes { OnOk result (self.new.nodes.items ≡ self.old.nodes.items ++ growth ∷ []) }
+        ensures roots { OnOk result (self.new.roots.items ≡ take base self.old.roots.items ++ length self.old.nodes.items ∷ []) }
+    {
+        let id = self.nodes.len();
+        self.nodes.push(growth)?;
+        self.roots.truncate(base);
+        match self.roots.push(id) {
+            Ok(()) => Ok(()),
+            Err(_) => {
+                self.nodes.clear();
+                self.roots.clear();
+                Err(AllocError)
+            }
+        }
+    }
+
     // Adds a leaf.
     pub fn leaf(&mut self, token: &Token) -> Result<(), AllocError>
         ensures { OnOk result (shapes_of self.new.nodes.items self.new.roots.items ≡ shapes_of self.old.nodes.items self.old.roots.items ++ leaf token.now ∷ []) }
     {
-        let id = self.nodes.len();
+        let base = self.roots.len();
         let children = Vec::new(self.alloc);
         let token = copy(token)?;
-        self.nodes.push(Growth {
+        let growth = Growth {
             rule: Rule::Leaf,
             token: Some(token),
             children,
-        })?;
-        self.roots.push(id)?;
+        };
+        self.add(growth, base)?;
         Ok(())
     }
 
@@ -69,15 +92,13 @@ impl Grove {
         ensures { OnOk result (shapes_of self.new.nodes.items self.new.roots.items ≡ close rule base (shapes_of self.old.nodes.items self.old.roots.items)) }
     {
         let base = base.min(self.roots.len());
-        let id = self.nodes.len();
         let children = Vec::from_slice(self.alloc, &self.roots[base..])?;
-        self.nodes.push(Growth {
+        let growth = Growth {
             rule,
             token: None,
             children,
-        })?;
-        self.roots.truncate(base);
-        self.roots.push(id)?;
+        };
+        self.add(growth, base)?;
         Ok(())
     }
 }

@@ -8,14 +8,18 @@ mod grove;
 mod growth;
 mod kind;
 mod machine;
+mod node;
+mod numbering;
 mod reading;
 mod statements;
+mod steps;
 mod symbol;
 mod want;
 
 pub use error::SyntaxError;
-pub use growth::{Grove, Growth};
-pub use reading::parse;
+pub use node::{Node, Tree};
+pub use reading::{parse, parse_in};
+pub use steps::Steps;
 pub use symbol::Rule;
 
 #[cfg(test)]

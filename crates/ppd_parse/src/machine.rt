@@ -1,15 +1,18 @@
 // What the parser does at a token.
-ghost use Rattle.std.specs.Prelude.{◌∷◌, IfOk, reverse};
+ghost use Rattle.std.specs.Prelude.{◌∷◌, ◌≤◌, ◌+◌, IfOk, reverse};
 ghost use Rattle.ppd_parse.specs.Machine.{Advanced, Taken, state_of, wanting};
+ghost use Rattle.ppd_parse.specs.Rank.{rank, Paid};
 ghost use Rattle.ppd_parse.specs.Stack.{IsGood};
 
 use crate::declarations::expand;
 use crate::growth::{Grove, Step};
 use crate::kind::{is_operator, kind_of};
+use crate::steps::Steps;
 use crate::symbol::{At, Symbol, Want};
 use crate::want::base_in;
 use ppd_lex::Token;
 use std::alloc::AllocError;
+use std::sync::ledger::Ledger;
 
 // Deals with a symbol that is wanted next, where the token is next.
 fn meet(
@@ -71,16 +74,21 @@ fn advance(
     }
 }
 
-// Reads a token and answers where it stands, or none where no program goes on with it.
-pub fn take(
+// Reads a token and answers where it stands, or none where no program goes on with it. A step is
+// dealing with one want.
+pub fn take<L: Ledger>(
     wants: &mut Vec<Want>,
     grove: &mut Grove,
     token: &Token,
+    steps: &mut Steps<L>,
 ) -> Result<Option<At>, AllocError>
     requires { IsGood (reverse wants.old.items) }
-    ensures { IfOk result (λ at. Taken token.now at (state_of wants.old.items grove.old) (state_of wants.new.items grove.new)) }
+    ensures taken { IfOk result (λ at. Taken token.now at (state_of wants.old.items grove.old) (state_of wants.new.items grove.new)) }
+    ensures cost { steps.new ≤ steps.old + rank (reverse wants.old.items) }
+    ensures paid { IfOk result (λ at. Paid at steps.old steps.new (reverse wants.old.items) (reverse wants.new.items)) }
 {
     while let Some(want) = wants.pop() {
+        steps.tick();
         match advance(wants, grove, token, want)? {
             Step::Moved => {}
             Step::Read(at) => return Ok(Some(at)),

@@ -1,19 +1,26 @@
 // The parser's way through the tokens.
-ghost use Rattle.std.specs.Prelude.{◌≡◌, ◌≤◌, ◌+◌, ◌^◌, ℕ, length, IfOk, IfErr, OnOk, reverse};
+ghost use Rattle.std.specs.Prelude.{◌≡◌, ◌<◌, ◌≤◌, ◌+◌, ◌*◌, ◌^◌, ℕ, [], ◌∷◌, length, IfOk, IfErr, OnOk, reverse};
 ghost use Rattle.ppd_lex.specs.Formed.{EndOnce};
 ghost use Rattle.ppd_parse.specs.Grammar.{Marked};
 ghost use Rattle.ppd_parse.specs.Limits.{count_with, is_sign, EndsAs, IsRefused, IsTree, Stepped};
 ghost use Rattle.ppd_parse.specs.Machine.{state_of};
+ghost use Rattle.ppd_parse.specs.Rank.{rank};
 ghost use Rattle.ppd_parse.specs.Stack.{IsGood, IsOver};
 ghost use Rattle.ppd_parse.specs.Table.{shapes_of};
+ghost use Rattle.ppd_parse.specs.Tree.{tree_of, IsTable};
 
 use crate::error::SyntaxError;
 use crate::growth::Grove;
 use crate::kind::{is_operator, kind_of};
 use crate::machine::take;
+use crate::node::Tree;
+use crate::numbering::renumber;
+use crate::steps::Steps;
 use crate::symbol::{At, Kind, Level, Symbol, Want};
 use ppd_lex::Token;
 use std::alloc::{AllocError, Global};
+use std::marker::Brand;
+use std::sync::ledger::{Blank, Ledger};
 
 // The most constructs open at a token, and the most operators of an expression.
 const MOST_OPEN: u8 = 64;
@@ -54,17 +61,20 @@ fn count_with(count: u16, token: &Token, at: At) -> u16
 }
 
 // Reads a token after some operators of an expression, and answers how many there are then.
-fn step(
+fn step<L: Ledger>(
     wants: &mut Vec<Want>,
     grove: &mut Grove,
     count: u16,
     token: &Token,
+    steps: &mut Steps<L>,
 ) -> Result<u16, SyntaxError>
     requires good { IsGood (reverse wants.old.items) }
     requires few { count ≤ 256 }
-    ensures { Stepped count token.now result (state_of wants.old.items grove.old) (state_of wants.new.items grove.new) }
+    ensures stepped { Stepped count token.now result (state_of wants.old.items grove.old) (state_of wants.new.items grove.new) }
+    ensures cost { steps.new ≤ steps.old + rank (reverse wants.old.items) }
+    ensures paid { OnOk result (steps.new + rank (reverse wants.new.items) ≤ steps.old + rank (reverse wants.old.items) + 15) }
 {
-    match take(wants, grove, token) {
+    match take(wants, grove, token, steps) {
         Err(_) => Err(SyntaxError::Memory),
         Ok(None) => Err(SyntaxError::Unexpected(token.place)),
         Ok(Some(at)) => {
@@ -81,11 +91,17 @@ fn step(
 }
 
 // Closes the nodes that are complete where the tokens end.
-fn finish(wants: &mut Vec<Want>, grove: &mut Grove) -> Result<(), AllocError>
+fn finish<L: Ledger>(
+    wants: &mut Vec<Want>,
+    grove: &mut Grove,
+    steps: &mut Steps<L>,
+) -> Result<(), AllocError>
     requires { IsOver (reverse wants.old.items) }
-    ensures { OnOk result (EndsAs (state_of wants.old.items grove.old) (shapes_of grove.new.nodes.items grove.new.roots.items)) }
+    ensures cost { steps.new ≤ steps.old + rank (reverse wants.old.items) }
+    ensures ends { OnOk result (EndsAs (state_of wants.old.items grove.old) (shapes_of grove.new.nodes.items grove.new.roots.items)) }
 {
     while let Some(want) = wants.pop() {
+        steps.tick();
         match want {
             Want::Close(rule, base) => grove.close(rule, base)?,
             Want::Get(_, _, _) => {}
@@ -94,16 +110,14 @@ fn finish(wants: &mut Vec<Want>, grove: &mut Grove) -> Result<(), AllocError>
     Ok(())
 }
 
-/// The tree of the tokens of a source: `roots` has one number, its root's.
-///
-/// The tokens end with `End`, which stands nowhere else. The answer is a tree exactly where the
-/// tokens are a program of the grammar with at most 64 constructs open at each token and at most
-/// 256 operators in each expression that is no part of another. The first token that breaks one of
-/// these is answered: `Unexpected` where some program begins with the tokens before it and none
-/// with the tokens through it, else `Deep` where it makes 65 constructs open, else `Wide` where it
-/// is the 257th operator. `Memory` is want of memory.
-pub fn parse(alloc: Global, tokens: &[Token]) -> Result<Grove, SyntaxError>
+// The nodes of the tokens of a source, up to its root.
+fn grow<L: Ledger>(
+    alloc: Global,
+    tokens: &[Token],
+    steps: &mut Steps<L>,
+) -> Result<Grove, SyntaxError>
     requires ends { EndOnce tokens.now }
+    ensures cost { steps.new ≤ steps.old + 15 * (length tokens.now + 1) }
     ensures tree { IfOk result (λ grove. IsTree tokens.now (shapes_of grove.nodes.items grove.roots.items)) }
     ensures refused { IfErr result (λ error. IsRefused tokens.now error) }
 {
@@ -116,11 +130,72 @@ pub fn parse(alloc: Global, tokens: &[Token]) -> Result<Grove, SyntaxError>
     wants.push(Want::Get(Symbol::Source, outside, 0))?;
     let mut count: u16 = 0;
     for token in tokens {
-        match step(&mut wants, &mut grove, count, token) {
+        match step(&mut wants, &mut grove, count, token, steps) {
             Ok(next) => count = next,
             Err(error) => return Err(error),
         }
     }
-    finish(&mut wants, &mut grove)?;
+    finish(&mut wants, &mut grove, steps)?;
     Ok(grove)
+}
+
+/// The tree of the tokens, as `parse` answers it, in at most 15 steps for each token and 15 more. A
+/// step is dealing with one part of the grammar that is wanted: a token, a symbol or the end of a
+/// node.
+pub fn parse_in<L: Ledger>(
+    alloc: Global,
+    tokens: &[Token],
+    steps: &mut Steps<L>,
+) -> Result<Tree, SyntaxError>
+    requires ends { EndOnce tokens.now }
+    requires short { length tokens.now ≤ 2 ^ 30 }
+    ensures tree { IfOk result (λ tree. IsTree tokens.now (tree_of tree.nodes ∷ [])) }
+    ensures table { IfOk result (λ tree. IsTable tree.nodes) }
+    ensures few { IfOk result (λ tree. length tree.nodes ≤ 3 * length tokens.now) }
+    ensures refused { IfErr result (λ error. IsRefused tokens.now error) }
+    ensures cost { steps.new ≤ steps.old + 15 * (length tokens.now + 1) }
+{
+    match grow(alloc, tokens, steps) {
+        Ok(grove) => {
+            let tree = renumber(alloc, grove)?;
+            Ok(tree)
+        }
+        Err(error) => Err(error),
+    }
+}
+
+// The tree of the tokens, with steps of a ledger that nobody reads.
+fn parse_from<L: Ledger>(alloc: Global, tokens: &[Token], blank: Blank) -> Result<Tree, SyntaxError>
+    requires name { blank.name ≡ L.name }
+    requires parts { blank.parts ≡ L.parts }
+    requires some { 0 < blank.parts }
+    requires ends { EndOnce tokens.now }
+    requires short { length tokens.now ≤ 2 ^ 30 }
+    ensures tree { IfOk result (λ tree. IsTree tokens.now (tree_of tree.nodes ∷ [])) }
+    ensures table { IfOk result (λ tree. IsTable tree.nodes) }
+    ensures few { IfOk result (λ tree. length tree.nodes ≤ 3 * length tokens.now) }
+    ensures refused { IfErr result (λ error. IsRefused tokens.now error) }
+{
+    let mut steps: Steps<L> = Steps::new(blank);
+    parse_in(alloc, tokens, &mut steps)
+}
+
+/// The tree of the tokens of a source, as a table of nodes with the root first.
+///
+/// The tokens end with `End`, which stands nowhere else, and are at most 2^30, so that the numbers
+/// of nodes fit `u32`: there are fewer than three nodes for each token. The answer is a tree
+/// exactly where the tokens are a program of the grammar with at most 64 constructs open at each
+/// token and at most 256 operators in each expression that is no part of another. The first token
+/// that breaks one of these is answered: `Unexpected` where some program begins with the tokens
+/// before it and none with the tokens through it, else `Deep` where it makes 65 constructs open,
+/// else `Wide` where it is the 257th operator. `Memory` is want of memory.
+pub fn parse(alloc: Global, tokens: &[Token]) -> Result<Tree, SyntaxError>
+    requires ends { EndOnce tokens.now }
+    requires short { length tokens.now ≤ 2 ^ 30 }
+    ensures tree { IfOk result (λ tree. IsTree tokens.now (tree_of tree.nodes ∷ [])) }
+    ensures table { IfOk result (λ tree. IsTable tree.nodes) }
+    ensures few { IfOk result (λ tree. length tree.nodes ≤ 3 * length tokens.now) }
+    ensures refused { IfErr result (λ error. IsRefused tokens.now error) }
+{
+    parse_from::<Brand>(alloc, tokens, Blank::new(1))
 }

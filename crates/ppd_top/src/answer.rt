@@ -1,4 +1,4 @@
-ghost use Rattle.std.specs.Prelude.{◌≡◌, ◌≢◌, ◌<◌, ◌≤◌, ◌+◌, ◌++◌, codes, length, [], ℕ, List, IfOk, OnOk};
+ghost use Rattle.std.specs.Prelude.{◌≡◌, ◌≢◌, ◌<◌, ◌≤◌, ◌+◌, ◌^◌, ◌++◌, codes, length, [], ℕ, List, IfOk, OnOk};
 ghost use Rattle.ppd_lex.specs.declared.token.LexError.TheVariants as error_of;
 ghost use Rattle.ppd_lex.specs.Formed.{EndOnce};
 ghost use Rattle.ppd_lex.specs.Tokens.{IsTokens};
@@ -127,7 +127,8 @@ fn answer_program(alloc: Global, tokens: &[Token]) -> Result<Answer, Memory>
 
 /// What a list of tokens comes to.
 fn answer_tokens(alloc: Global, tokens: &[Token]) -> Result<Answer, Memory>
-    requires { EndOnce tokens.now }
+    requires ends { EndOnce tokens.now }
+    requires short { length tokens.now ≤ 2 ^ 30 }
     ensures answers { IfOk result (λ a. (source : List ℕ) → IsTokens source tokens.now → Answers source a.schedule a.status a.text.items) }
     ensures status { IfOk result (λ a. a.status < 2) }
 {

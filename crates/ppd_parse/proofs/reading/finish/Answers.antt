@@ -3,32 +3,34 @@ use Rattle.std.proofs.lemmas.Grind.{common_steps}
 use Rattle.ppd_parse.specs.declared.symbol.Want.{Want}
 use Rattle.ppd_parse.specs.declared.symbol.Want.TheVariants.{Close}
 use Rattle.ppd_parse.specs.Machine.{state_of}
+use Rattle.ppd_parse.specs.Rank.{rank}
 use Rattle.ppd_parse.specs.Stack.{IsOver}
 use Rattle.ppd_parse.specs.Table.{shapes_of}
 use Rattle.ppd_parse.proofs.Ends.{Ends, ends_close, ends_as, popped}
 use Rattle.ppd_parse.proofs.reading.finish.Goals as goal
 
 pub loop-want-preserved-in-Continue-1 : goal.loop-want-preserved-in-Continue-1
-loop-want-preserved-in-Continue-1 c =
-    let g = c.loop-want.grove in
+loop-want-preserved-in-Continue-1 g c =
+    let w = c.loop-want.grove in
     let new = c.close.new.self in
     let ws = reverse c.pop.new.self.items in
     let a = state_of c.args.wants.now.items c.args.grove.now in
     let stack : reverse c.loop-want.wants.items ≡ Close c.in-Close.rule c.in-Close.base ∷ ws = popped c.pop.new.self.items c.in-Some.want c.in-Some.ensures.items ∙ ap (λ w. w ∷ ws) c.in-Close.is in
     record {
       over = subst IsOver stack c.loop-want.invariant.over;
-      ends = ends_close a c.in-Close.rule c.in-Close.base ws (shapes_of g.nodes.items g.roots.items) (shapes_of new.nodes.items new.roots.items) c.in_ok-close-in-Close.ensures
-          (subst (λ (v : List Want). Ends a (record { wants = v; shapes = shapes_of g.nodes.items g.roots.items })) stack c.loop-want.invariant.ends);
+      ends = ends_close a c.in-Close.rule c.in-Close.base ws (shapes_of w.nodes.items w.roots.items) (shapes_of new.nodes.items new.roots.items) c.in_ok-close-in-Close.ensures
+          (subst (λ (v : List Want). Ends a (record { wants = v; shapes = shapes_of w.nodes.items w.roots.items })) stack c.loop-want.invariant.ends);
+      spent = omega (arith, ap rank stack, c.loop-want.invariant.spent, c.tick.ensures);
     }
 
 pub loop-want-preserved : goal.loop-want-preserved
-loop-want-preserved c =
+loop-want-preserved g c =
     let ws = reverse c.pop.new.self.items in
     let stack : reverse c.loop-want.wants.items ≡ c.in-Some.want ∷ ws = popped c.pop.new.self.items c.in-Some.want c.in-Some.ensures.items in
     absurd (subst (λ (w : Want). IsOver (w ∷ ws)) c.in-Get.is (subst IsOver stack c.loop-want.invariant.over))
 
-pub returns : goal.returns
-returns c =
-    let g = c.loop-want.grove in
+pub returns-clause-ends : goal.returns-clause-ends
+returns-clause-ends g c =
+    let w = c.loop-want.grove in
     let none : c.loop-want.wants.items ≡ [] = first_of (search rules, grind (arith, common_steps)) in
-    ends_as (state_of c.args.wants.now.items c.args.grove.now) (state_of c.loop-want.wants.items g) (ap reverse none) c.loop-want.invariant.ends
+    ends_as (state_of c.args.wants.now.items c.args.grove.now) (state_of c.loop-want.wants.items w) (ap reverse none) c.loop-want.invariant.ends

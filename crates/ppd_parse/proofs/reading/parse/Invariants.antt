@@ -1,6 +1,4 @@
-use Rattle.ppd_parse.specs.Limits.{IsReadTo}
-use Rattle.ppd_parse.specs.Machine.{state_of}
 use Rattle.ppd_parse.proofs.reading.parse.Given as goal
 
-abbrev pub invariant-loop-token : goal.invariant-loop-token
-invariant-loop-token l = IsReadTo l.tokens l.token-index l.count (state_of l.wants.items l.grove)
+abbrev pub ghosts-parse_from : goal.ghosts-parse_from
+ghosts-parse_from a = record { name = a.blank.name; parts = a.blank.parts }

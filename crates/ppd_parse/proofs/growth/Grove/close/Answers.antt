@@ -7,4 +7,4 @@ returns c =
     let m = c.args.self.now in
     let base : c.min-base.result ≡ min c.args.base (length m.roots.items) = c.min-base.ensures ∙ ap (min c.args.base) (c.len.ensures ∙ m.roots.ok.0) in
     let kids : c.in_ok-children.children.items ≡ take (length m.roots.items - c.min-base.result) (drop c.min-base.result m.roots.items) = c.in_ok-children.ensures.items ∙ ap (λ xs. take (length xs - c.min-base.result) (drop c.min-base.result xs)) c.deref.ensures.value in
-    (node_added m.nodes.items _ m.roots.items c.args.base c.in_ok-push.ensures.items c.in_ok-push-2.ensures.items c.truncate.ensures.items (c.len-id.ensures ∙ m.nodes.ok.0) m.in_range refl kids base)
+    node_added m.nodes.items _ m.roots.items c.args.base c.in_ok-add.ensures.nodes c.in_ok-add.ensures.roots refl refl m.grown.0 refl kids base

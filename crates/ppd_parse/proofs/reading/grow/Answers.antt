@@ -1,4 +1,4 @@
-use Rattle.std.proofs.Common.{◌≡◌, List, ◌∙◌, ap, subst, reverse, ◌∷◌, [], ◌++◌, Ok, Err}
+use Rattle.std.proofs.Common.{◌≡◌, List, ◌∙◌, ap, subst, reverse, ◌∷◌, [], ◌++◌, Ok, Err, arith}
 use Rattle.ppd_lex.specs.declared.token.Token.{Token}
 use Rattle.ppd_parse.specs.declared.symbol.Symbol.TheVariants as S
 use Rattle.ppd_parse.specs.declared.symbol.Want.{Want}
@@ -6,30 +6,39 @@ use Rattle.ppd_parse.specs.declared.symbol.Want.TheVariants.{Get}
 use Rattle.ppd_parse.specs.Grammar.{outside}
 use Rattle.ppd_parse.specs.Limits.{Stepped, token_at}
 use Rattle.ppd_parse.specs.Machine.{state_of}
+use Rattle.ppd_parse.specs.Rank.{rank}
 use Rattle.ppd_parse.proofs.Whole.{start_read, read_next, read_refused, told}
-use Rattle.ppd_parse.proofs.reading.parse.Goals as goal
+use Rattle.ppd_parse.proofs.reading.grow.Goals as goal
 
 source : Want
 source = Get S.Source outside 0
 
 pub loop-token-init : goal.loop-token-init
 unfolding source
-loop-token-init c = start_read c.args.tokens.now c.requires.ends (state_of c.push.new.self.items c.new-grove.result) (ap reverse (c.in_ok-push.ensures.items ∙ ap (λ (ws : List Want). ws ++ source ∷ []) c.new-wants.ensures.items)) c.new-grove.ensures
+loop-token-init g c =
+    let stack : reverse c.push.new.self.items ≡ source ∷ [] = ap reverse (c.in_ok-push.ensures.items ∙ ap (λ (ws : List Want). ws ++ source ∷ []) c.new-wants.ensures.items) in
+    record {
+      read = start_read c.args.tokens.now c.requires.ends (state_of c.push.new.self.items c.new-grove.result) stack c.new-grove.ensures;
+      spent = omega (arith, ap rank stack);
+    }
 
 pub loop-token-preserved : goal.loop-token-preserved
-loop-token-preserved c =
+loop-token-preserved g c =
     let ts = c.args.tokens.now in
     let i = c.loop-token.token-index in
     let a = state_of c.loop-token.wants.items c.loop-token.grove in
     let b = state_of c.step.new.wants.items c.step.new.grove in
     let t : c.token-item.result ≡ token_at ts i = told ts i c.token-item.result c.loop-token-test.true c.token-item.is in
-    read_next ts i c.loop-token.count a b c.loop-token-test.true c.loop-token.invariant c.in-Ok.next c.requires.ends (subst (λ (x : Token). Stepped c.loop-token.count x (Ok c.in-Ok.next) a b) t c.in-Ok.ensures)
+    record {
+      read = read_next ts i c.loop-token.count a b c.loop-token-test.true c.loop-token.invariant.read c.in-Ok.next c.requires.ends (subst (λ (x : Token). Stepped c.loop-token.count x (Ok c.in-Ok.next) a b) t c.in-Ok.ensures.stepped);
+      spent = omega (arith, c.loop-token.invariant.spent, c.in-Ok.ensures.paid);
+    }
 
 pub returns-in-Err-clause-refused : goal.returns-in-Err-clause-refused
-returns-in-Err-clause-refused c =
+returns-in-Err-clause-refused g c =
     let ts = c.args.tokens.now in
     let i = c.loop-token.token-index in
     let a = state_of c.loop-token.wants.items c.loop-token.grove in
     let b = state_of c.step.new.wants.items c.step.new.grove in
     let t : c.token-item.result ≡ token_at ts i = told ts i c.token-item.result c.loop-token-test.true c.token-item.is in
-    read_refused ts i c.loop-token.count a b c.loop-token-test.true c.loop-token.invariant c.in-Err.error (subst (λ (x : Token). Stepped c.loop-token.count x (Err c.in-Err.error) a b) t c.in-Err.ensures)
+    read_refused ts i c.loop-token.count a b c.loop-token-test.true c.loop-token.invariant.read c.in-Err.error (subst (λ (x : Token). Stepped c.loop-token.count x (Err c.in-Err.error) a b) t c.in-Err.ensures.stepped)
