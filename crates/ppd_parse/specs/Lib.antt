@@ -2,6 +2,7 @@
 pub mod Below
 pub mod Choice
 pub mod Grammar
+pub mod Language
 pub mod Leaves
 pub mod Limits
 pub mod Machine
