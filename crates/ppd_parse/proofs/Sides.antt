@@ -12,6 +12,9 @@ use Rattle.ppd_parse.proofs.Usual.{declarations, expressions}
 pub regroup : {f g k : Phrase} {a : At} {t : List Shape} {ts rest : List Marked} → Is (f · (g · k)) a ts t rest → Is ((f · g) · k) a ts t rest
 regroup {f} {g} {k} {a} {ts = ts} {rest = rest} (both {t = t} d (both {t = u} {u = v} e r)) = subst (λ z. Is ((f · g) · k) a ts z rest) (append_assoc t u v) (both (both d e) r)
 
+pub ungroup : {f g k : Phrase} {a : At} {t : List Shape} {ts rest : List Marked} → Is ((f · g) · k) a ts t rest → Is (f · (g · k)) a ts t rest
+ungroup {f} {g} {k} {a} {ts = ts} {rest = rest} (both {u = v} (both {t = t} {u = u} d e) r) = subst (λ z. Is (f · (g · k)) a ts z rest) (sym (append_assoc t u v)) (both d (both e r))
+
 pub again : {f k : Phrase} {a : At} {t : List Shape} {ts rest : List Marked} → Is (f · (many f · k)) a ts t rest → Is (many f · k) a ts t rest
 again {f} {k} {a} {ts = ts} {rest = rest} (both {t = t} d (both {t = u} {u = v} ds r)) = subst (λ z. Is (many f · k) a ts z rest) (append_assoc t u v) (both (more d ds) r)
 
@@ -149,6 +152,12 @@ empty_stmt (grouped d) = side (grouped (right (left d)))
 
 pub change_stmt : {a : At} {t : List Shape} {ts rest : List Marked} → Is (made R.Stmt (the change_side · word K.Semicolon)) a ts t rest → Is (the stmt_side) a ts t rest
 change_stmt (grouped d) = side (grouped (right (right (left d))))
+
+pub assigned_change : {a : At} {t : List Shape} {ts rest : List Marked} → Is (made R.Change ((the place_side · word K.AssignMark) · the expr_side)) a ts t rest → Is (the change_side) a ts t rest
+assigned_change (grouped d) = side (grouped (marked (ungroup d)))
+  where
+    marked : {a : At} {t : List Shape} {ts rest : List Marked} → Is (the place_side · (word K.AssignMark · the expr_side)) a ts t rest → Is ((the place_side · ((word K.AssignMark ∣ word K.AddMark ∣ word K.SubtractMark) · the expr_side)) ∣ (the place_side · (word K.IncreaseMark ∣ word K.DecreaseMark))) a ts t rest
+    marked (both p (both m e)) = left (both p (both (left m) e))
 
 pub answer_stmt : {a : At} {t : List Shape} {ts rest : List Marked} → Is (made R.Stmt (the place_side · (word K.AssignMark · (made R.Value (received ∣ called) · word K.Semicolon)))) a ts t rest → Is (the stmt_side) a ts t rest
 answer_stmt (grouped d) = side (grouped (right (right (right (left d)))))

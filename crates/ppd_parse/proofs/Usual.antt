@@ -106,6 +106,7 @@ pub data Closed (r : Rule) (b : ℕ) (s : List Shape) (ts : List Marked) : List 
 abbrev pub Goes : Symbol → At → ℕ → List Shape → List Marked → List Shape → List Marked → Type 0
 Goes S.Assigned a b s ts t rest = (front held : List Shape) → s ≡ front ++ held → length held ≡ 2 → Out front (λ new. AfterPlace a held ts new rest) t
 Goes S.AssignedRest a b s ts t rest = (front held got : List Shape) → s ≡ (front ++ held) ++ got → b ≡ length (front ++ held) → length held ≡ 2 → Out front (λ new. AfterName a held got ts new rest) t
+Goes S.PlaceRest a b s ts t rest = (front : List Shape) (place : Shape) → s ≡ front ++ place ∷ [] → b ≡ length front → Out front (λ new. Rest S.PlaceRest a (place ∷ []) ts new rest) t
 Goes y a b s ts t rest = (front got : List Shape) → s ≡ front ++ got → b ≡ length front → Out front (λ new. Rest y a got ts new rest) t
 
 abbrev pub MeansBy : Manner → Symbol → At → ℕ → List Shape → List Marked → List Shape → List Marked → Type 0
@@ -207,7 +208,7 @@ drop_front (t ∷ s) new = drop_front s new
 pub close_front : (r : Rule) (s new : List Shape) → close r (length s) (s ++ new) ≡ s ++ node r (forest new) ∷ []
 close_front r s new = ap (λ u. u ++ node r (forest (drop (length s) (s ++ new))) ∷ []) (take_front s new) ∙ ap (λ u. s ++ node r (forest u) ∷ []) (drop_front s new)
 
-split_means : (vs ws : List Want) {s u : List Shape} {ts rest : List Marked} → MeansAll (vs ++ ws) s ts u rest → (t : List Shape) × (mid : List Marked) × MeansAll vs s ts t mid × MeansAll ws t mid u rest
+pub split_means : (vs ws : List Want) {s u : List Shape} {ts rest : List Marked} → MeansAll (vs ++ ws) s ts u rest → (t : List Shape) × (mid : List Marked) × MeansAll vs s ts t mid × MeansAll ws t mid u rest
 split_means [] ws {s} {u} {ts} {rest} h = (s, ts, last, h)
 split_means (v ∷ vs) ws (then h hs) =
     let e = split_means vs ws hs in
