@@ -1,5 +1,5 @@
 -- What the parser's grammar reads, the language's grammar reads.
-use Rattle.std.proofs.Common.{◌≡◌, ◌-◌, ℕ, List, [], ◌∷◌, ◌++◌, length, refl, sym, ◌∙◌, ap, subst, append_assoc, append-nil}
+use Rattle.std.proofs.Common.{◌≡◌, ◌-◌, ℕ, Bool, true, List, [], ◌∷◌, ◌++◌, length, refl, sym, ◌∙◌, ap, subst, append_assoc, append-nil}
 use Rattle.ppd_parse.specs.declared.symbol.Kind.TheVariants as K
 use Rattle.ppd_parse.specs.declared.symbol.Level.{Level}
 use Rattle.ppd_parse.specs.declared.symbol.Level.TheVariants as L
@@ -10,11 +10,11 @@ use Rattle.ppd_parse.specs.declared.symbol.At.{At}
 use Rattle.ppd_parse.specs.declared.symbol.Part.TheVariants as P
 use Rattle.ppd_parse.specs.declared.symbol.Want.{Want}
 use Rattle.ppd_parse.specs.declared.symbol.Want.TheVariants.{Get, Close}
-use Rattle.ppd_parse.specs.Grammar.{Shape, leaf, node, forest, Marked, inside, close, Production, parts, operand_parts, MayStand, wants_in, base_in, Reads, ReadsAll, exact, operator, wrap, by, nothing, next, IsProgram, operand, chain_end, chain_more, source, items_end, items_shared, items_sems, items_chans, items_function, items_process, shared, shared_end, shared_more, shared_item, no_start, start, shared_length, start_plain, start_minus, sems, no_sem_start, sem_start, sems_end, sems_more, chans, chans_end, chans_more, function_int, function_void, no_params, some_params, params_void, params_int, params_end, params_more, process, block, stmts_end, stmts_local, stmts_more, local, local_end, local_more, local_item, no_local_start, local_start, local_length, value_recv, value_plain, call_or_name, other_expr, named_call, named_expr, no_args, some_args, args_end, args_more, place, no_index, index, change, assign, add, subtract, increase, decrease, expr, expr_rest, unary_place, unary_other, minus, negation, parens, number, stmt_block, stmt_empty, stmt_name, stmt_if, stmt_while, stmt_for, stmt_return, stmt_take, stmt_give, stmt_send, stmt_print, stmt_assert, rest_call, rest_element, rest_scalar, rest_assign, rest_add, rest_subtract, rest_increase, rest_decrease, assigned_recv, assigned_name, assigned_other, assigned_call, assigned_expr, no_else, some_else, for_plain, for_local, for_change, for_ever, for_while, for_still, for_step, return_plain, return_value}
+use Rattle.ppd_parse.specs.Grammar.{Shape, leaf, node, forest, Marked, inside, outside, close, Production, parts, operand_parts, MayStand, wants_in, base_in, Reads, ReadsAll, exact, operator, wrap, by, nothing, next, IsProgram, operand, chain_end, chain_more, source, items_end, items_shared, items_sems, items_chans, items_function, items_process, shared, shared_end, shared_more, shared_item, no_start, start, shared_length, start_plain, start_minus, sems, no_sem_start, sem_start, sems_end, sems_more, chans, chans_end, chans_more, function_int, function_void, no_params, some_params, params_void, params_int, params_end, params_more, process, block, stmts_end, stmts_local, stmts_more, local, local_end, local_more, local_item, no_local_start, local_start, local_length, value_recv, value_plain, call_or_name, other_expr, named_call, named_expr, no_args, some_args, args_end, args_more, place, no_index, index, change, assign, add, subtract, increase, decrease, expr, expr_rest, unary_place, unary_other, minus, negation, parens, number, stmt_block, stmt_empty, stmt_name, stmt_if, stmt_while, stmt_for, stmt_return, stmt_take, stmt_give, stmt_send, stmt_print, stmt_assert, rest_call, rest_element, rest_scalar, rest_assign, rest_add, rest_subtract, rest_increase, rest_decrease, assigned_recv, assigned_name, assigned_other, assigned_call, assigned_expr, no_else, some_else, for_plain, for_local, for_change, for_ever, for_while, for_still, for_step, return_plain, return_value}
 use Rattle.ppd_parse.specs.Language.{tier, below, stmt_side, expr_side, place_side, change_side, unary_side, word, the, ◌·◌, ◌∣◌, made, called, received, Is, IsSource, token, sign, side, both, left, right, done, absent, present, ended, within, counted, grouped}
 use Rattle.ppd_parse.proofs.Usual.{manner, Rest, AfterPlace, AfterName, Out, out, closed, Goes, MeansBy, Means, MeansAll, last, then, moved, nothing_new, plain_parts, node_parts, split_means, close_front}
 use Rattle.ppd_parse.proofs.Sides as Q
-use Rattle.ppd_parse.proofs.Walk.{grown, wrapped, Run, stop, part, walk, walk_own, mapped, EndedAnswer, ended_answer, EndedChange, ended_change, back_answer, back_change}
+use Rattle.ppd_parse.proofs.Walk.{grown, wrapped, Run, stop, part, runs, walk, walk_own, mapped, EndedAnswer, ended_answer, EndedChange, ended_change, back_answer, back_change}
 
 -- ---- expressions
 
@@ -146,3 +146,149 @@ assigned_expr_on a {b} {ts = ts} h front held got e eb two =
     let d = split_means (wants_in a b (parts named_expr)) (Close R.Change (b - 2) ∷ Get (S.Exact K.Semicolon) a b ∷ Close R.Stmt (b - 2) ∷ []) h in
     let v = walk a b (parts named_expr) (front ++ held) got refl e eb d.2 in
     mapped (λ new r from mid p i. changed a (λ n j. expr_of a j mid i) r from p) (back_change front held eb two v d.3)
+
+-- ---- all productions
+
+chain_end_on : (l : Level) (a : At) {got new : List Shape} {ts rest : List Marked} → Run a [] got ts new rest → Rest (S.Chain l) a got ts new rest
+chain_end_on l a stop from d = d
+
+runs_operand : (l : Level) → runs (operand_parts l) ≡ true
+runs_operand L.Product = refl
+runs_operand L.Sum = refl
+runs_operand L.Compare = refl
+runs_operand L.Equal = refl
+runs_operand L.And = refl
+runs_operand L.Or = refl
+
+step : {y : Symbol} (p : Production y) (a : At) (b : ℕ) {s t : List Shape} {ts rest : List Marked} → MayStand p ts → MeansAll (wants_in a (base_in y b (length s)) (parts p)) s ts t rest → MeansBy (manner y) y a b s ts t rest
+step source a b m h = moved (λ n d. side d) (node_parts R.Source a (P.Here S.Items) ([]) refl h)
+step items_end a b {s} m h = moved (λ n d. Q.no_more d) (plain_parts a (length s) (P.Here (S.Exact K.End)) ([]) refl h)
+step items_shared a b {s} m h = moved (λ n d. Q.shared_declared d) (plain_parts a (length s) (P.Here S.Shared) (P.Here S.Items ∷ []) refl h)
+step items_sems a b {s} m h = moved (λ n d. Q.sems_declared d) (plain_parts a (length s) (P.Here S.Sems) (P.Here S.Items ∷ []) refl h)
+step items_chans a b {s} m h = moved (λ n d. Q.chans_declared d) (plain_parts a (length s) (P.Here S.Chans) (P.Here S.Items ∷ []) refl h)
+step items_function a b {s} m h = moved (λ n d. Q.function_declared d) (plain_parts a (length s) (P.Here S.Function) (P.Here S.Items ∷ []) refl h)
+step items_process a b {s} m h = moved (λ n d. Q.process_declared d) (plain_parts a (length s) (P.Here S.Process) (P.Here S.Items ∷ []) refl h)
+step shared a b m h = moved (λ n d. side d) (node_parts R.Shared a (P.Here (S.Exact K.SharedWord)) (P.Here (S.Exact K.IntWord) ∷ P.Here S.SharedItem ∷ P.Here S.SharedItems ∷ []) refl h)
+step shared_end a b {s} m h = moved (λ n d. Q.no_more d) (plain_parts a (length s) (P.Here (S.Exact K.Semicolon)) ([]) refl h)
+step shared_more a b {s} m h = moved (λ n d. Q.again (Q.regroup d)) (plain_parts a (length s) (P.Here (S.Exact K.Comma)) (P.Here S.SharedItem ∷ P.Here S.SharedItems ∷ []) refl h)
+step shared_item a b m h = moved (λ n d. Q.shared_item_made d) (node_parts R.Sitem a (P.Here (S.Exact K.Name)) (P.Here S.SharedStart ∷ []) refl h)
+step no_start a b m last = nothing_new (left absent)
+step start a b {s} m h = moved (λ n d. left (present d)) (plain_parts a (length s) (P.Here (S.Exact K.AssignMark)) (P.Here S.StartValue ∷ []) refl h)
+step shared_length a b {s} m h = moved (λ n d. right (Q.opened_three d)) (plain_parts a (length s) (P.Deeper (S.Exact K.LeftBracket)) (P.Deeper (S.Exact K.Number) ∷ P.Deeper (S.Exact K.RightBracket) ∷ []) refl h)
+step start_plain a b {s} m h = moved (λ n d. Q.not_given d) (plain_parts a (length s) (P.Here (S.Exact K.Number)) ([]) refl h)
+step start_minus a b {s} m h = moved (λ n d. Q.given d) (plain_parts a (length s) (P.Here (S.Exact K.MinusMark)) (P.Here (S.Exact K.Number) ∷ []) refl h)
+step sems a b m h = moved (λ n d. side d) (node_parts R.Sems a (P.Here (S.Exact K.SemWord)) (P.Here (S.Exact K.Name) ∷ P.Here S.SemStart ∷ P.Here S.SemItems ∷ []) refl h)
+step no_sem_start a b m last = nothing_new (absent)
+step sem_start a b {s} m h = moved (λ n d. present d) (plain_parts a (length s) (P.Here (S.Exact K.AssignMark)) (P.Here (S.Exact K.Number) ∷ []) refl h)
+step sems_end a b {s} m h = moved (λ n d. Q.no_more d) (plain_parts a (length s) (P.Here (S.Exact K.Semicolon)) ([]) refl h)
+step sems_more a b {s} m h = moved (λ n d. Q.sems_next d) (plain_parts a (length s) (P.Here (S.Exact K.Comma)) (P.Here (S.Exact K.Name) ∷ P.Here S.SemStart ∷ P.Here S.SemItems ∷ []) refl h)
+step chans a b m h = moved (λ n d. Q.chans_made d) (node_parts R.Chans a (P.Here (S.Exact K.ChanWord)) (P.Here (S.Exact K.Name) ∷ P.Deeper (S.Exact K.LeftBracket) ∷ P.Deeper (S.Exact K.Number) ∷ P.Deeper (S.Exact K.RightBracket) ∷ P.Here S.ChanItems ∷ []) refl h)
+step chans_end a b {s} m h = moved (λ n d. Q.no_more d) (plain_parts a (length s) (P.Here (S.Exact K.Semicolon)) ([]) refl h)
+step chans_more a b {s} m h = moved (λ n d. Q.chans_next d) (plain_parts a (length s) (P.Here (S.Exact K.Comma)) (P.Here (S.Exact K.Name) ∷ P.Deeper (S.Exact K.LeftBracket) ∷ P.Deeper (S.Exact K.Number) ∷ P.Deeper (S.Exact K.RightBracket) ∷ P.Here S.ChanItems ∷ []) refl h)
+step function_int a b m h = moved (λ n d. Q.int_function_made d) (node_parts R.Function a (P.Here (S.Exact K.IntWord)) (P.Here (S.Exact K.Name) ∷ P.Deeper (S.Exact K.LeftParen) ∷ P.Deeper S.ParamsEnd ∷ P.Here S.Block ∷ []) refl h)
+step function_void a b m h = moved (λ n d. Q.void_function_made d) (node_parts R.Function a (P.Here (S.Exact K.VoidWord)) (P.Here (S.Exact K.Name) ∷ P.Deeper (S.Exact K.LeftParen) ∷ P.Deeper S.ParamsEnd ∷ P.Here S.Block ∷ []) refl h)
+step no_params a b {s} m h = moved (λ n d. Q.not_given d) (plain_parts a (length s) (P.Here (S.Exact K.RightParen)) ([]) refl h)
+step some_params a b {s} m h = moved (λ n d. Q.given d) (plain_parts a (length s) (P.Here S.Params) (P.Here (S.Exact K.RightParen) ∷ []) refl h)
+step params_void a b m h = moved (λ n d. Q.void_params_made d) (node_parts R.Params a (P.Here (S.Exact K.VoidWord)) ([]) refl h)
+step params_int a b m h = moved (λ n d. Q.int_params_made d) (node_parts R.Params a (P.Here (S.Exact K.IntWord)) (P.Here (S.Exact K.Name) ∷ P.Here S.ParamItems ∷ []) refl h)
+step params_end a b m last = nothing_new (done)
+step params_more a b {s} m h = moved (λ n d. Q.params_next d) (plain_parts a (length s) (P.Here (S.Exact K.Comma)) (P.Here (S.Exact K.IntWord) ∷ P.Here (S.Exact K.Name) ∷ P.Here S.ParamItems ∷ []) refl h)
+step process a b m h = moved (λ n d. side d) (node_parts R.Process a (P.Here (S.Exact K.ProcessWord)) (P.Here (S.Exact K.Name) ∷ P.Here S.Block ∷ []) refl h)
+step block a b m h = moved (λ n d. Q.block_made d) (node_parts R.Block a (P.Deeper (S.Exact K.LeftBrace)) (P.Deeper S.Stmts ∷ []) refl h)
+step stmts_end a b {s} m h = moved (λ n d. Q.no_more d) (plain_parts a (length s) (P.Here (S.Exact K.RightBrace)) ([]) refl h)
+step stmts_local a b {s} m h = moved (λ n d. Q.local_stands d) (plain_parts a (length s) (P.Here S.Local) (P.Here S.Stmts ∷ []) refl h)
+step stmts_more a b {s} m h = moved (λ n d. Q.stmt_stands d) (plain_parts a (length s) (P.Here S.Stmt) (P.Here S.Stmts ∷ []) refl h)
+step local a b m h = moved (λ n d. side d) (node_parts R.Local a (P.Here (S.Exact K.IntWord)) (P.Here S.LocalItem ∷ P.Here S.LocalItems ∷ []) refl h)
+step local_end a b {s} m h = moved (λ n d. Q.no_more d) (plain_parts a (length s) (P.Here (S.Exact K.Semicolon)) ([]) refl h)
+step local_more a b {s} m h = moved (λ n d. Q.again (Q.regroup d)) (plain_parts a (length s) (P.Here (S.Exact K.Comma)) (P.Here S.LocalItem ∷ P.Here S.LocalItems ∷ []) refl h)
+step local_item a b m h = moved (λ n d. Q.local_item_made d) (node_parts R.Litem a (P.Here (S.Exact K.Name)) (P.Here S.LocalStart ∷ []) refl h)
+step no_local_start a b m last = nothing_new (left absent)
+step local_start a b {s} m h = moved (λ n d. left (present d)) (plain_parts a (length s) (P.Here (S.Exact K.AssignMark)) (P.Here S.Value ∷ []) refl h)
+step local_length a b {s} m h = moved (λ n d. right (Q.opened_three d)) (plain_parts a (length s) (P.Deeper (S.Exact K.LeftBracket)) (P.Deeper (S.Exact K.Number) ∷ P.Deeper (S.Exact K.RightBracket) ∷ []) refl h)
+step value_recv a b m h = moved (λ n d. Q.received_value (Q.received_made d)) (node_parts R.Value a (P.Here (S.Exact K.RecvWord)) (P.Deeper (S.Exact K.LeftParen) ∷ P.Deeper (S.Exact K.Name) ∷ P.Deeper (S.Exact K.RightParen) ∷ []) refl h)
+step value_plain a b m h = moved (λ n d. Q.other_value d) (node_parts R.Value a (P.Here S.CallOrExpr) ([]) refl h)
+step call_or_name a b m h = mapped (λ n d. call_or_name_is a d) (walk_own a (parts call_or_name) refl h)
+step other_expr a b m h = mapped (λ n d. right (other_expr_is a d)) (walk_own a (parts other_expr) refl h)
+step named_call a b m h = λ front got e eb. mapped (λ n d. named_call_on a d) (walk a b (parts named_call) front got refl e eb h)
+step named_expr a b m h = λ front got e eb. mapped (λ n d. named_expr_on a d) (walk a b (parts named_expr) front got refl e eb h)
+step no_args a b {s} m h = moved (λ n d. Q.not_given d) (plain_parts a (length s) (P.Here (S.Exact K.RightParen)) ([]) refl h)
+step some_args a b {s} m h = moved (λ n d. Q.given (Q.regroup d)) (plain_parts a (length s) (P.Here S.Expr) (P.Here S.ArgsMore ∷ []) refl h)
+step args_end a b {s} m h = moved (λ n d. Q.no_more d) (plain_parts a (length s) (P.Here (S.Exact K.RightParen)) ([]) refl h)
+step args_more a b {s} m h = moved (λ n d. Q.again (Q.regroup d)) (plain_parts a (length s) (P.Here (S.Exact K.Comma)) (P.Here S.Expr ∷ P.Here S.ArgsMore ∷ []) refl h)
+step place a b m h = moved (λ n d. side d) (node_parts R.Place a (P.Here (S.Exact K.Name)) (P.Here S.PlaceEnd ∷ []) refl h)
+step no_index a b m last = nothing_new (absent)
+step index a b {s} m h = moved (λ n d. present (Q.opened_three d)) (plain_parts a (length s) (P.Deeper (S.Exact K.LeftBracket)) (P.Deeper S.Expr ∷ P.Deeper (S.Exact K.RightBracket) ∷ []) refl h)
+step change a b m h = moved (λ n d. Q.change_made d) (node_parts R.Change a (P.Here S.Place) (P.Here S.ChangeEnd ∷ []) refl h)
+step assign a b {s} m h = moved (λ n d. left (Q.assigned d)) (plain_parts a (length s) (P.Here (S.Exact K.AssignMark)) (P.Here S.Expr ∷ []) refl h)
+step add a b {s} m h = moved (λ n d. left (Q.added d)) (plain_parts a (length s) (P.Here (S.Exact K.AddMark)) (P.Here S.Expr ∷ []) refl h)
+step subtract a b {s} m h = moved (λ n d. left (Q.subtracted d)) (plain_parts a (length s) (P.Here (S.Exact K.SubtractMark)) (P.Here S.Expr ∷ []) refl h)
+step increase a b {s} m h = moved (λ n d. right (left d)) (plain_parts a (length s) (P.Here (S.Exact K.IncreaseMark)) ([]) refl h)
+step decrease a b {s} m h = moved (λ n d. right (right d)) (plain_parts a (length s) (P.Here (S.Exact K.DecreaseMark)) ([]) refl h)
+step expr a b m h = mapped (λ n d. expr_is a d) (walk_own a (parts expr) refl h)
+step expr_rest a b m h = λ front got e eb. mapped (λ n d. expr_rest_on a d) (walk a b (parts expr_rest) front got refl e eb h)
+step unary_place a b m h = moved (λ n d. Q.place_unary d) (node_parts R.Unary a (P.Here S.Place) ([]) refl h)
+step unary_other a b {s} m h = plain_parts a (length s) (P.Here S.OtherUnary) ([]) refl h
+step minus a b m h = moved (λ n d. Q.minus_unary d) (node_parts R.Unary a (P.Deeper (S.Exact K.MinusMark)) (P.Deeper S.Unary ∷ []) refl h)
+step negation a b m h = moved (λ n d. Q.not_unary d) (node_parts R.Unary a (P.Deeper (S.Exact K.NotMark)) (P.Deeper S.Unary ∷ []) refl h)
+step parens a b m h = moved (λ n d. Q.parens_unary d) (node_parts R.Unary a (P.Deeper (S.Exact K.LeftParen)) (P.Deeper S.Expr ∷ P.Deeper (S.Exact K.RightParen) ∷ []) refl h)
+step number a b m h = moved (λ n d. Q.number_unary d) (node_parts R.Unary a (P.Here (S.Exact K.Number)) ([]) refl h)
+step stmt_block a b m h = moved (λ n d. Q.block_stmt d) (node_parts R.Stmt a (P.Here S.Block) ([]) refl h)
+step stmt_empty a b m h = moved (λ n d. Q.empty_stmt d) (node_parts R.Stmt a (P.Here (S.Exact K.Semicolon)) ([]) refl h)
+step stmt_name a b m h = mapped (λ n d. stmt_name_is a d) (walk_own a (parts stmt_name) refl h)
+step stmt_if a b m h = moved (λ n d. Q.if_stmt d) (node_parts R.Stmt a (P.Here (S.Exact K.IfWord)) (P.Deeper (S.Exact K.LeftParen) ∷ P.Deeper S.Expr ∷ P.Deeper (S.Exact K.RightParen) ∷ P.Deeper S.Stmt ∷ P.Here S.ElsePart ∷ []) refl h)
+step stmt_while a b m h = moved (λ n d. Q.while_stmt d) (node_parts R.Stmt a (P.Here (S.Exact K.WhileWord)) (P.Deeper (S.Exact K.LeftParen) ∷ P.Deeper S.Expr ∷ P.Deeper (S.Exact K.RightParen) ∷ P.Deeper S.Stmt ∷ []) refl h)
+step stmt_for a b m h = moved (λ n d. Q.for_stmt d) (node_parts R.Stmt a (P.Here (S.Exact K.ForWord)) (P.Deeper (S.Exact K.LeftParen) ∷ P.Deeper S.ForStart ∷ P.Deeper S.ForTest ∷ P.Deeper S.ForStep ∷ P.Deeper S.Stmt ∷ []) refl h)
+step stmt_return a b m h = moved (λ n d. Q.return_stmt d) (node_parts R.Stmt a (P.Here (S.Exact K.ReturnWord)) (P.Here S.ReturnEnd ∷ []) refl h)
+step stmt_take a b m h = moved (λ n d. Q.take_stmt d) (node_parts R.Stmt a (P.Here (S.Exact K.TakeWord)) (P.Deeper (S.Exact K.LeftParen) ∷ P.Deeper (S.Exact K.Name) ∷ P.Deeper (S.Exact K.RightParen) ∷ P.Here (S.Exact K.Semicolon) ∷ []) refl h)
+step stmt_give a b m h = moved (λ n d. Q.give_stmt d) (node_parts R.Stmt a (P.Here (S.Exact K.GiveWord)) (P.Deeper (S.Exact K.LeftParen) ∷ P.Deeper (S.Exact K.Name) ∷ P.Deeper (S.Exact K.RightParen) ∷ P.Here (S.Exact K.Semicolon) ∷ []) refl h)
+step stmt_send a b m h = moved (λ n d. Q.send_stmt d) (node_parts R.Stmt a (P.Here (S.Exact K.SendWord)) (P.Deeper (S.Exact K.LeftParen) ∷ P.Deeper (S.Exact K.Name) ∷ P.Deeper (S.Exact K.Comma) ∷ P.Deeper S.Expr ∷ P.Deeper (S.Exact K.RightParen) ∷ P.Here (S.Exact K.Semicolon) ∷ []) refl h)
+step stmt_print a b m h = moved (λ n d. Q.print_stmt d) (node_parts R.Stmt a (P.Here (S.Exact K.PrintWord)) (P.Deeper (S.Exact K.LeftParen) ∷ P.Deeper S.Expr ∷ P.Deeper (S.Exact K.RightParen) ∷ P.Here (S.Exact K.Semicolon) ∷ []) refl h)
+step stmt_assert a b m h = moved (λ n d. Q.assert_stmt d) (node_parts R.Stmt a (P.Here (S.Exact K.AssertWord)) (P.Deeper (S.Exact K.LeftParen) ∷ P.Deeper S.Expr ∷ P.Deeper (S.Exact K.RightParen) ∷ P.Here (S.Exact K.Semicolon) ∷ []) refl h)
+step rest_call a b m h = λ front got e eb. mapped (λ n d. rest_call_on a d) (walk a b (parts rest_call) front got refl e eb h)
+step rest_element a b m h = rest_element_on a b h
+step rest_scalar a b m h = rest_scalar_on a b h
+step rest_assign a b m h = rest_assign_on a b h
+step rest_add a b m h = λ front held e eb. mapped (λ n d. rest_add_on a d) (walk a b (parts rest_add) front (held ∷ []) refl e eb h)
+step rest_subtract a b m h = λ front held e eb. mapped (λ n d. rest_subtract_on a d) (walk a b (parts rest_subtract) front (held ∷ []) refl e eb h)
+step rest_increase a b m h = λ front held e eb. mapped (λ n d. rest_increase_on a d) (walk a b (parts rest_increase) front (held ∷ []) refl e eb h)
+step rest_decrease a b m h = λ front held e eb. mapped (λ n d. rest_decrease_on a d) (walk a b (parts rest_decrease) front (held ∷ []) refl e eb h)
+step assigned_recv a b m h = assigned_recv_on a b h
+step assigned_name a b m h = assigned_name_on a b h
+step assigned_other a b m h = assigned_other_on a b h
+step assigned_call a b m h = assigned_call_on a h
+step assigned_expr a b m h = assigned_expr_on a h
+step no_else a b {ts = ts} m last = nothing_new (right (ended (Q.no_else_next ts m)))
+step some_else a b {s} m h = moved (λ n d. left d) (plain_parts a (length s) (P.Here (S.Exact K.ElseWord)) (P.Deeper S.Stmt ∷ []) refl h)
+step for_plain a b {s} m h = moved (λ n d. Q.not_given d) (plain_parts a (length s) (P.Here (S.Exact K.Semicolon)) ([]) refl h)
+step for_local a b {s} m h = moved (λ n d. Q.local_start d) (plain_parts a (length s) (P.Here (S.Exact K.IntWord)) (P.Here (S.Exact K.Name) ∷ P.Here (S.Exact K.AssignMark) ∷ P.Here S.Expr ∷ P.Here (S.Exact K.Semicolon) ∷ []) refl h)
+step for_change a b {s} m h = moved (λ n d. Q.change_start d) (plain_parts a (length s) (P.Here S.Change) (P.Here (S.Exact K.Semicolon) ∷ []) refl h)
+step for_ever a b {s} m h = moved (λ n d. Q.not_given d) (plain_parts a (length s) (P.Here (S.Exact K.Semicolon)) ([]) refl h)
+step for_while a b {s} m h = moved (λ n d. Q.given d) (plain_parts a (length s) (P.Here S.Expr) (P.Here (S.Exact K.Semicolon) ∷ []) refl h)
+step for_still a b {s} m h = moved (λ n d. Q.not_given d) (plain_parts a (length s) (P.Here (S.Exact K.RightParen)) ([]) refl h)
+step for_step a b {s} m h = moved (λ n d. Q.given d) (plain_parts a (length s) (P.Here S.Change) (P.Here (S.Exact K.RightParen) ∷ []) refl h)
+step return_plain a b {s} m h = moved (λ n d. Q.not_given d) (plain_parts a (length s) (P.Here (S.Exact K.Semicolon)) ([]) refl h)
+step return_value a b {s} m h = moved (λ n d. Q.given d) (plain_parts a (length s) (P.Here S.CallOrExpr) (P.Here (S.Exact K.Semicolon) ∷ []) refl h)
+step (operand l) a b m h = mapped (λ n d. operand_is l a d) (walk_own a (operand_parts l) (runs_operand l) h)
+step (chain_end l) a b m h = λ front got e eb. mapped (λ n d. chain_end_on l a d) (walk a b [] front got refl e eb h)
+step (chain_more l) a b m h = λ front got e eb. mapped (λ n d. chain_more_on l a d) (walk a b (parts (chain_more l)) front got refl e eb h)
+
+mutual
+  pub means : {w : Want} {s t : List Shape} {ts rest : List Marked} → Reads w s ts t rest → Means w s ts t rest
+  means (exact e m) = out (token e m)
+  means (operator e m) = out (sign e m)
+  means wrap = closed
+  means (by {a = a} {b = b} p m rs) = step p a b m (means_all rs)
+
+  pub means_all : {ws : List Want} {s t : List Shape} {ts rest : List Marked} → ReadsAll ws s ts t rest → MeansAll ws s ts t rest
+  means_all nothing = last
+  means_all (next r rs) = then (means r) (means_all rs)
+
+-- A program of the parser's grammar is a source of the language, with the same tree.
+pub program_source : {ts : List Marked} {f : List Shape} → IsProgram ts f → IsSource ts f
+program_source p = only (means_all p)
+  where
+    only : {ts : List Marked} {f : List Shape} → MeansAll (Get S.Source outside 0 ∷ []) [] ts f [] → IsSource ts f
+    only (then h last) = whole h
+      where
+        whole : {ts : List Marked} {f : List Shape} → Out [] (λ new. IsSource ts new) f → IsSource ts f
+        whole (out d) = d
