@@ -72,11 +72,13 @@ close_rows r {a} {ps} {ts} {rest} {t} (rows h) s got =
     subst (λ ws. ReadsAll ws (s ++ got) ts (s ++ node r (forest (got ++ t)) ∷ []) rest) (sym (map-append (want_in a (length s)) ps (P.Wrap r ∷ [])))
         (subst (λ z. ReadsAll (wants_in a (length s) ps ++ Close r (length s) ∷ []) (s ++ got) ts z rest) whole (join (h (s ++ got) (length s)) (next wrap nothing)))
 
+pub close_own : (r : Rule) {a : At} {ps : List Part} {ts rest : List Marked} {t : List Shape} → Rows a ps ts t rest → (s : List Shape) → ReadsAll (wants_in a (length s) (ps ++ P.Wrap r ∷ [])) s ts (s ++ node r (forest t) ∷ []) rest
+close_own r {a} {ps} {ts} {rest} {t} h s = subst (λ u. ReadsAll (wants_in a (length s) (ps ++ P.Wrap r ∷ [])) u ts (s ++ node r (forest t) ∷ []) rest) (append-nil s) (close_rows r h s [])
+
 -- a symbol with a node of its own
 pub node_by : {y : Symbol} (p : Production y) (r : Rule) (ps : List Part) {a : At} {ts rest : List Marked} {t : List Shape} → parts p ≡ ps ++ P.Wrap r ∷ [] → ((b n : ℕ) → base_in y b n ≡ n) → MayStand p ts → Rows a ps ts t rest → Gives y a ts (node r (forest t) ∷ []) rest
 node_by {y} p r ps {a} {ts} {rest} {t} e own m h s b =
-    let c : ReadsAll (wants_in a (length s) (ps ++ P.Wrap r ∷ [])) s ts (s ++ node r (forest t) ∷ []) rest = subst (λ u. ReadsAll (wants_in a (length s) (ps ++ P.Wrap r ∷ [])) u ts (s ++ node r (forest t) ∷ []) rest) (append-nil s) (close_rows r h s []) in
-    by p m (subst (λ n. ReadsAll (wants_in a n (parts p)) s ts (s ++ node r (forest t) ∷ []) rest) (sym (own b (length s))) (subst (λ qs. ReadsAll (wants_in a (length s) qs) s ts (s ++ node r (forest t) ∷ []) rest) (sym e) c))
+    by p m (subst (λ n. ReadsAll (wants_in a n (parts p)) s ts (s ++ node r (forest t) ∷ []) rest) (sym (own b (length s))) (subst (λ qs. ReadsAll (wants_in a (length s) qs) s ts (s ++ node r (forest t) ∷ []) rest) (sym e) (close_own r h s)))
 
 -- ---- what is next
 

@@ -124,17 +124,24 @@ back_to front held b e two = let l : length (front ++ held) ≡ length front + l
 close_back : (r : Rule) (front held new : List Shape) (b : ℕ) → b ≡ length (front ++ held) → length held ≡ 2 → close r (b - 2) ((front ++ held) ++ new) ≡ front ++ node r (forest (held ++ new)) ∷ []
 close_back r front held new b e two = ap (λ n. close r n ((front ++ held) ++ new)) (back_to front held b e two) ∙ (ap (close r (length front)) (append_assoc front held new) ∙ close_front r front (held ++ new))
 
+pub closed_answer : (front held n z : List Shape) (b : ℕ) → b ≡ length (front ++ held) → length held ≡ 2 → close R.Stmt (b - 2) (((front ++ held) ++ n) ++ z) ≡ front ++ node R.Stmt (forest (held ++ (n ++ z))) ∷ []
+closed_answer front held n z b e two = ap (close R.Stmt (b - 2)) (append_assoc (front ++ held) n z) ∙ close_back R.Stmt front held (n ++ z) b e two
+
+pub closed_change : (front held n z : List Shape) (b : ℕ) → b ≡ length (front ++ held) → length held ≡ 2 → close R.Stmt (b - 2) (close R.Change (b - 2) ((front ++ held) ++ n) ++ z) ≡ front ++ node R.Stmt (forest (node R.Change (forest (held ++ n)) ∷ z)) ∷ []
+closed_change front held n z b e two =
+    let c1 : Shape = node R.Change (forest (held ++ n)) in
+    let change : close R.Change (b - 2) ((front ++ held) ++ n) ≡ front ++ c1 ∷ [] = close_back R.Change front held n b e two in
+    let all : close R.Change (b - 2) ((front ++ held) ++ n) ++ z ≡ front ++ (c1 ∷ z) = ap (λ u. u ++ z) change ∙ append_assoc front (c1 ∷ []) z in
+    let stmt : close R.Stmt (length front) (front ++ (c1 ∷ z)) ≡ front ++ node R.Stmt (forest (c1 ∷ z)) ∷ [] = close_front R.Stmt front (c1 ∷ z) in
+    ap (λ k. close R.Stmt k (close R.Change (b - 2) ((front ++ held) ++ n) ++ z)) (back_to front held b e two) ∙ (ap (close R.Stmt (length front)) all ∙ stmt)
+
 closing_last : (G : List Marked → List Shape → Type 0) {r : Rule} {b : ℕ} {front t u : List Shape} {mid rest : List Marked} (all : List Shape) → close r b t ≡ front ++ all → G mid all → MeansAll (Close r b ∷ []) t mid u rest → Out front (G rest) u
 closing_last G {front = front} {mid = mid} all e g (then closed last) = subst (Out front (G mid)) (sym e) (out g)
 
 pub back_answer : {F : List Shape → Type 0} {a : At} {b : ℕ} {t u : List Shape} {mid rest : List Marked} (front held : List Shape) → b ≡ length (front ++ held) → length held ≡ 2 → Out (front ++ held) F t → MeansAll (Get (S.Exact K.Semicolon) a b ∷ Close R.Stmt (b - 2) ∷ []) t mid u rest → Out front (EndedAnswer F held a mid rest) u
 back_answer {F} {a} {b} {mid = mid} front held e two (out {new = n} d) (then (out {new = z} x) hs) =
-    closing_last (λ rest. EndedAnswer F held a mid rest) (node R.Stmt (forest (held ++ (n ++ z))) ∷ []) (ap (close R.Stmt (b - 2)) (append_assoc (front ++ held) n z) ∙ close_back R.Stmt front held (n ++ z) b e two) (ended_answer d x) hs
+    closing_last (λ rest. EndedAnswer F held a mid rest) (node R.Stmt (forest (held ++ (n ++ z))) ∷ []) (closed_answer front held n z b e two) (ended_answer d x) hs
 
 pub back_change : {F : List Shape → Type 0} {a : At} {b : ℕ} {t u : List Shape} {mid rest : List Marked} (front held : List Shape) → b ≡ length (front ++ held) → length held ≡ 2 → Out (front ++ held) F t → MeansAll (Close R.Change (b - 2) ∷ Get (S.Exact K.Semicolon) a b ∷ Close R.Stmt (b - 2) ∷ []) t mid u rest → Out front (EndedChange F held a mid rest) u
 back_change {F} {a} {b} {mid = mid} front held e two (out {new = n} d) (then closed (then (out {new = z} x) hs)) =
-    let c1 : Shape = node R.Change (forest (held ++ n)) in
-    let change : close R.Change (b - 2) ((front ++ held) ++ n) ≡ front ++ c1 ∷ [] = close_back R.Change front held n b e two in
-    let all : close R.Change (b - 2) ((front ++ held) ++ n) ++ z ≡ front ++ (c1 ∷ z) = ap (λ u. u ++ z) change ∙ append_assoc front (c1 ∷ []) z in
-    let stmt : close R.Stmt (length front) (front ++ (c1 ∷ z)) ≡ front ++ node R.Stmt (forest (c1 ∷ z)) ∷ [] = close_front R.Stmt front (c1 ∷ z) in
-    closing_last (λ rest. EndedChange F held a mid rest) (node R.Stmt (forest (c1 ∷ z)) ∷ []) (ap (λ k. close R.Stmt k (close R.Change (b - 2) ((front ++ held) ++ n) ++ z)) (back_to front held b e two) ∙ (ap (close R.Stmt (length front)) all ∙ stmt)) (ended_change d x) hs
+    closing_last (λ rest. EndedChange F held a mid rest) (node R.Stmt (forest (node R.Change (forest (held ++ n)) ∷ z)) ∷ []) (closed_change front held n z b e two) (ended_change d x) hs
