@@ -9,7 +9,7 @@ use Rattle.ppd_parse.specs.declared.symbol.Symbol.TheVariants as S
 use Rattle.ppd_parse.specs.declared.symbol.At.{At}
 use Rattle.ppd_parse.specs.declared.symbol.Part.TheVariants as P
 use Rattle.ppd_parse.specs.Grammar.{Shape, leaf, node, forest, Marked, kind_at, is_operator, deeper, inside, outside, MayStand, nothing, next, IsProgram, source, items_end, items_shared, items_sems, items_chans, items_function, items_process, shared, shared_end, shared_more, shared_item, no_start, start, shared_length, start_plain, start_minus, sems, no_sem_start, sem_start, sems_end, sems_more, chans, chans_end, chans_more, function_int, function_void, no_params, some_params, params_void, params_int, params_end, params_more, process, block, stmts_end, stmts_local, stmts_more, local, local_end, local_more, local_item, no_local_start, local_start, local_length, value_recv, value_plain, no_args, some_args, args_end, args_more, minus, negation, parens as parens_unary, number, stmt_block, stmt_empty, stmt_if, stmt_while, stmt_for, stmt_return, stmt_take, stmt_give, stmt_send, stmt_print, stmt_assert, no_else, some_else, for_plain, for_local, for_change, for_ever, for_while, for_still, for_step, return_plain, return_value}
-use Rattle.ppd_parse.specs.Language.{Side, source_side, shared_side, shared_item_side, sems_side, chans_side, function_side, params_side, process_side, block_side, local_side, local_item_side, value_side, place_side, change_side, stmt_side, expr_side, tier, unary_side, Phrase, word, binary, the, ◌·◌, ◌∣◌, many, maybe, opened, measured, made, parens, brackets, below, called, call, else_part, heading, phrase, NextIsNot, IsSource}
+use Rattle.ppd_parse.specs.Language.{Side, source_side, shared_side, shared_item_side, sems_side, chans_side, function_side, params_side, process_side, block_side, local_side, local_item_side, value_side, place_side, change_side, stmt_side, expr_side, tier, unary_side, Phrase, word, binary, the, ◌·◌, ◌∣◌, many, maybe, opened, measured, made, parens, brackets, called, call, answer, else_part, heading, phrase, NextIsNot, IsSource}
 use Rattle.ppd_parse.proofs.Usual.{declarations, expressions}
 use Rattle.ppd_parse.proofs.Given.{Gives, Rows, here, token_here, token_below, one, cons, cons_two, rows_as, free, plain_by, nothing_by, node_by, Next, next_kind, next_left, next_right, is_not, other_kind, is_opening, binds, binds_or, binds_operator, goes, Calm}
 use Rattle.ppd_parse.proofs.Given as G
@@ -164,3 +164,148 @@ local_item_step {rest = rest} (tree (first (pair (one_token e m) (there (pair (o
     local_item_by e m (plain_by local_start tt (cons (token_here f o) (one (here (g (next_right begins_start goes rest n))))))
 local_item_step (tree (second (pair (one_token e m) (deep (pair (one_token f o) (pair (one_token g p) (one_token h q))))))) n =
     local_item_by e m (plain_by local_length tt (cons (token_below f o) (cons (token_below g p) (one (token_below h q)))))
+
+-- ---- expressions
+
+more_args : {a : At} {ts mid rest : List Marked} {t u : List Shape} → Seen (many (word K.Comma · the expr_side)) a ts t mid → Seen (word K.RightParen) a mid u rest → Gives S.ArgsMore a ts (t ++ u) rest
+more_args no_more (one_token e m) = plain_by args_end tt (one (token_here e m))
+more_args {u = w} (one_more {u = v} (pair {u = i} (one_token {x = x} e m) (one_side g)) ms) z =
+    plain_by args_more tt (rows_as (ap (λ y. leaf x.token ∷ y) (sym (append_assoc i v w))) (cons (token_here e m) (cons (here (expr_gives (g (list_next goes (the expr_side) K.RightParen refl refl ms z)))) (one (here (more_args ms z))))))
+
+args : {a : At} {ts mid rest : List Marked} {t u : List Shape} → Seen expressions a ts t mid → Seen (word K.RightParen) a mid u rest → Gives S.Args a ts (t ++ u) rest
+args missing (one_token e m) = plain_by no_args tt (one (token_here e m))
+args {ts = ts} {u = w} (there (pair {t = i} {u = v} (one_side g) ms)) z =
+    plain_by some_args (free some_args (λ k. tt) ts) (rows_as (sym (append_assoc i v w)) (cons (here (expr_gives (g (list_next goes (the expr_side) K.RightParen refl refl ms z)))) (one (here (more_args ms z)))))
+
+called_seen : {a : At} {ts rest : List Marked} {t : List Shape} → Seen called a ts t rest → CallWays (inside a) a ts t rest
+called_seen (tree (pair (inner (one_token e m)) (deep (pair (one_token f n) (pair xs z))))) = call_ways e m (cons (token_below f n) (one (G.below (args xs z))))
+
+call_seen : {a : At} {ts rest : List Marked} {t : List Shape} → Seen (call (word K.Name)) a ts t rest → CallWays a a ts t rest
+call_seen (tree (pair (one_token e m) (deep (pair (one_token f n) (pair xs z))))) = call_ways e m (cons (token_below f n) (one (G.below (args xs z))))
+
+value_step : {a : At} {ts rest : List Marked} {t : List Shape} → Seen (phrase value_side) a ts t rest → Calm rest → Gives S.Value a ts t rest
+value_step (tree (first (pair (one_token e m) (deep (pair (one_token f o) (pair (one_token g p) (one_token h q))))))) n =
+    node_by value_recv R.Value (P.Here (S.Exact K.RecvWord) ∷ P.Deeper (S.Exact K.LeftParen) ∷ P.Deeper (S.Exact K.Name) ∷ P.Deeper (S.Exact K.RightParen) ∷ []) refl (λ b n. refl) tt
+        (cons (token_here e m) (cons (token_below f o) (cons (token_below g p) (one (token_below h q)))))
+value_step {ts = ts} (tree (second (first c))) n = node_by value_plain R.Value (P.Here S.CallOrExpr ∷ []) refl (λ b n. refl) (free value_plain (λ k. tt) ts) (one (here (call_gives (called_seen c))))
+value_step {ts = ts} (tree (second (second (one_side g)))) n = node_by value_plain R.Value (P.Here S.CallOrExpr ∷ []) refl (λ b n. refl) (free value_plain (λ k. tt) ts) (one (here (value_gives (g n))))
+
+place_step : {a : At} {ts rest : List Marked} {t : List Shape} → Seen (phrase place_side) a ts t rest → NextIsNot K.LeftBracket rest → PlaceWays a ts t rest
+place_step (tree (pair (one_token e m) missing)) n = place_ways e m (scalar n)
+place_step (tree (pair (one_token e m) (there (deep (pair (one_token f o) (pair (one_side g) (one_token h q))))))) n = place_ways e m (element f o (expr_gives (g (next_kind goes h refl))) h q)
+
+change_step : {a : At} {ts rest : List Marked} {t : List Shape} → Seen (phrase change_side) a ts t rest → Calm rest → ChangeWays a ts t rest
+change_step (tree (first (pair (one_side p) (pair (first (one_token e m)) (one_side g))))) n = change_ways (p (other_kind e (λ d. cc))) (set_to e m (g n))
+change_step (tree (first (pair (one_side p) (pair (second (first (one_token e m))) (one_side g))))) n = change_ways (p (other_kind e (λ d. cc))) (add_to e m (g n))
+change_step (tree (first (pair (one_side p) (pair (second (second (one_token e m))) (one_side g))))) n = change_ways (p (other_kind e (λ d. cc))) (subtract_from e m (g n))
+change_step (tree (second (pair (one_side p) (first (one_token e m))))) n = change_ways (p (other_kind e (λ d. cc))) (up e m)
+change_step (tree (second (pair (one_side p) (second (one_token e m))))) n = change_ways (p (other_kind e (λ d. cc))) (down e m)
+
+expr_step : {a : At} {ts rest : List Marked} {t : List Shape} → Seen (phrase expr_side) a ts t rest → Calm rest → ExprWays a ts t rest
+expr_step {rest = rest} (inner (one_side g)) n = expr_ways (ended L.Or (g (next_right (is_operator L.Or) binds_or rest n)) (next_left (is_operator L.Or) binds_or rest n))
+
+tier_step : (l : Level) {a : At} {ts rest : List Marked} {t : List Shape} → Seen (phrase (tier l)) a ts t rest → Next (binds l) rest → TierWays l a ts t rest
+tier_step l {a} {ts} {rest} {t} (first (one_side g)) n = first_operand l (below_ways l (below_goal l a ts t rest g) n)
+tier_step l {a} {rest = rest} (second (tree (pair (one_side g) (pair {u = u} {mid = mid} (one_sign {x = x} e m) (one_side h))))) n = next_operand l (g (binds_operator l (kind_at x) e)) e m (below_ways l (below_goal l a mid u rest h) n)
+
+unary_step : {a : At} {ts rest : List Marked} {t : List Shape} → Seen (phrase unary_side) a ts t rest → Next is_opening rest → UnaryWays a ts t rest
+unary_step (tree (first (deep (pair (first (one_token e m)) (one_side g))))) n = other_way (node_by negation R.Unary (P.Deeper (S.Exact K.NotMark) ∷ P.Deeper S.Unary ∷ []) refl (λ b n. refl) tt (cons (token_below e m) (one (G.below (unary_gives (g n))))))
+unary_step (tree (first (deep (pair (second (one_token e m)) (one_side g))))) n = other_way (node_by minus R.Unary (P.Deeper (S.Exact K.MinusMark) ∷ P.Deeper S.Unary ∷ []) refl (λ b n. refl) tt (cons (token_below e m) (one (G.below (unary_gives (g n))))))
+unary_step (tree (second (first (deep (pair (one_token e m) (pair (one_side g) (one_token f o))))))) n =
+    other_way (node_by parens_unary R.Unary (P.Deeper (S.Exact K.LeftParen) ∷ P.Deeper S.Expr ∷ P.Deeper (S.Exact K.RightParen) ∷ []) refl (λ b n. refl) tt (cons (token_below e m) (cons (G.below (expr_gives (g (next_kind goes f refl)))) (one (token_below f o)))))
+unary_step (tree (second (second (first (one_token e m))))) n = other_way (node_by number R.Unary (P.Here (S.Exact K.Number) ∷ []) refl (λ b n. refl) tt (one (token_here e m)))
+unary_step {rest = rest} (tree (second (second (second (one_side p))))) n = place_way (p (no_bracket rest n)) n
+
+-- ---- statements
+
+else_by : {a : At} {ts rest : List Marked} {t : List Shape} → Seen else_part a ts t rest → Gives S.ElsePart a ts t rest
+else_by (first (pair (one_token e m) (deep (one_side g)))) = plain_by some_else tt (cons (token_here e m) (one (G.below g)))
+else_by (second (not_next {ts = ts} n)) = nothing_by no_else refl (else_stands ts n)
+
+for_start_by : {a : At} {ts mid rest : List Marked} {t u : List Shape} → Seen (maybe (word K.IntWord · word K.Name · word K.AssignMark · the expr_side ∣ the change_side)) a ts t mid → Seen (word K.Semicolon) a mid u rest → Gives S.ForStart a ts (t ++ u) rest
+for_start_by missing (one_token e m) = plain_by for_plain tt (one (token_here e m))
+for_start_by (there (first (pair (one_token f n) (pair (one_token g o) (pair (one_token h p) (one_side i)))))) (one_token e m) =
+    plain_by for_local tt (cons (token_here f n) (cons (token_here g o) (cons (token_here h p) (cons (here (expr_gives (i (next_kind goes e refl)))) (one (token_here e m))))))
+for_start_by {ts = ts} (there (second (one_side g))) (one_token e m) = plain_by for_change (free for_change (λ k. tt) ts) (cons (here (change_gives (g (next_kind goes e refl)))) (one (token_here e m)))
+
+for_test_by : {a : At} {ts mid rest : List Marked} {t u : List Shape} → Seen (maybe (the expr_side)) a ts t mid → Seen (word K.Semicolon) a mid u rest → Gives S.ForTest a ts (t ++ u) rest
+for_test_by missing (one_token e m) = plain_by for_ever tt (one (token_here e m))
+for_test_by {ts = ts} (there (one_side g)) (one_token e m) = plain_by for_while (free for_while (λ k. tt) ts) (cons (here (expr_gives (g (next_kind goes e refl)))) (one (token_here e m)))
+
+for_step_by : {a : At} {ts mid rest : List Marked} {t u : List Shape} → Seen (maybe (the change_side)) a ts t mid → Seen (word K.RightParen) a mid u rest → Gives S.ForStep a ts (t ++ u) rest
+for_step_by missing (one_token e m) = plain_by for_still tt (one (token_here e m))
+for_step_by {ts = ts} (there (one_side g)) (one_token e m) = plain_by for_step (free for_step (λ k. tt) ts) (cons (here (change_gives (g (next_kind goes e refl)))) (one (token_here e m)))
+
+return_by : {a : At} {ts mid rest : List Marked} {t u : List Shape} → Seen (maybe (called ∣ the expr_side)) a ts t mid → Seen (word K.Semicolon) a mid u rest → Gives S.ReturnEnd a ts (t ++ u) rest
+return_by missing (one_token e m) = plain_by return_plain tt (one (token_here e m))
+return_by {ts = ts} (there (first c)) (one_token e m) = plain_by return_value (free return_value (λ k. tt) ts) (cons (here (call_gives (called_seen c))) (one (token_here e m)))
+return_by {ts = ts} (there (second (one_side g))) (one_token e m) = plain_by return_value (free return_value (λ k. tt) ts) (cons (here (value_gives (g (next_kind goes e refl)))) (one (token_here e m)))
+
+answer_seen : {a : At} {ts rest : List Marked} {t : List Shape} → Seen answer a ts t rest → AnswerWays a ts t rest
+answer_seen (tree (first (pair (one_token e m) (deep (pair (one_token f o) (pair (one_token g p) (one_token h q))))))) = received e m (cons (token_below f o) (cons (token_below g p) (one (token_below h q))))
+answer_seen (tree (second c)) = W.called (called_seen c)
+
+for_trees : (t u v w c o q : List Shape) → (t ++ c) ++ ((u ++ o) ++ ((v ++ q) ++ w)) ≡ ((t ++ (c ++ (u ++ (o ++ v)))) ++ q) ++ w
+for_trees t u v w c o q = simp append_assoc
+
+stmt_step : {a : At} {ts rest : List Marked} {t : List Shape} → Seen (phrase stmt_side) a ts t rest → Gives S.Stmt a ts t rest
+stmt_step {ts = ts} (tree (first (one_side g))) = node_by stmt_block R.Stmt (P.Here S.Block ∷ []) refl (λ b n. refl) (free stmt_block (λ k. tt) ts) (one (here g))
+stmt_step (tree (second (first (one_token e m)))) = node_by stmt_empty R.Stmt (P.Here (S.Exact K.Semicolon) ∷ []) refl (λ b n. refl) tt (one (token_here e m))
+stmt_step (tree (second (second (first (pair (one_side g) (one_token e m)))))) = change_statement (g (next_kind goes e refl)) e m
+stmt_step (tree (second (second (second (first (pair (one_side p) (pair (one_token f n) (pair v (one_token e m))))))))) = answer_statement (p (other_kind f (λ d. cc))) f n (answer_seen v) e m
+stmt_step (tree (second (second (second (second (first (pair c (one_token e m)))))))) = call_statement (call_seen c) e m
+stmt_step (tree (second (second (second (second (second (first (pair (one_token e m) (pair (deep (pair (one_token f n) (pair (one_side g) (one_token h o)))) (pair (deep (one_side s)) el)))))))))) =
+    node_by stmt_if R.Stmt (P.Here (S.Exact K.IfWord) ∷ P.Deeper (S.Exact K.LeftParen) ∷ P.Deeper S.Expr ∷ P.Deeper (S.Exact K.RightParen) ∷ P.Deeper S.Stmt ∷ P.Here S.ElsePart ∷ []) refl (λ b n. refl) tt
+        (cons (token_here e m) (cons (token_below f n) (cons_two (G.below (expr_gives (g (next_kind goes h refl)))) (token_below h o) (cons (G.below s) (one (here (else_by el)))))))
+stmt_step (tree (second (second (second (second (second (second (first (pair (one_token e m) (pair (deep (pair (one_token f n) (pair (one_side g) (one_token h o)))) (deep (one_side s))))))))))))  =
+    node_by stmt_while R.Stmt (P.Here (S.Exact K.WhileWord) ∷ P.Deeper (S.Exact K.LeftParen) ∷ P.Deeper S.Expr ∷ P.Deeper (S.Exact K.RightParen) ∷ P.Deeper S.Stmt ∷ []) refl (λ b n. refl) tt
+        (cons (token_here e m) (cons (token_below f n) (cons_two (G.below (expr_gives (g (next_kind goes h refl)))) (token_below h o) (one (G.below s)))))
+stmt_step (tree (second (second (second (second (second (second (second (first (pair (one_token {x = x} e m) (pair {u = w} (deep (pair (one_token {x = y} f n) (pair {u = q} (pair {t = t} i (pair {t = c} c1 (pair {t = u} j (pair {t = o} {u = v} c2 k)))) z))) (deep (one_side s))))))))))))) =
+    node_by stmt_for R.Stmt (P.Here (S.Exact K.ForWord) ∷ P.Deeper (S.Exact K.LeftParen) ∷ P.Deeper S.ForStart ∷ P.Deeper S.ForTest ∷ P.Deeper S.ForStep ∷ P.Deeper S.Stmt ∷ []) refl (λ b n. refl) tt
+        (rows_as (ap (λ r. leaf x.token ∷ leaf y.token ∷ r) (for_trees t u v w c o q)) (cons (token_here e m) (cons (token_below f n) (cons (G.below (for_start_by i c1)) (cons (G.below (for_test_by j c2)) (cons (G.below (for_step_by k z)) (one (G.below s))))))))
+stmt_step (tree (second (second (second (second (second (second (second (second (first (pair (one_token e m) (pair v z)))))))))))) =
+    node_by stmt_return R.Stmt (P.Here (S.Exact K.ReturnWord) ∷ P.Here S.ReturnEnd ∷ []) refl (λ b n. refl) tt (cons (token_here e m) (one (here (return_by v z))))
+stmt_step (tree (second (second (second (second (second (second (second (second (second (first (pair (one_token e m) (pair (deep (pair (one_token f n) (pair (one_token g o) (one_token h p)))) (one_token i q)))))))))))))) =
+    node_by stmt_take R.Stmt (P.Here (S.Exact K.TakeWord) ∷ P.Deeper (S.Exact K.LeftParen) ∷ P.Deeper (S.Exact K.Name) ∷ P.Deeper (S.Exact K.RightParen) ∷ P.Here (S.Exact K.Semicolon) ∷ []) refl (λ b n. refl) tt
+        (cons (token_here e m) (cons (token_below f n) (cons (token_below g o) (cons (token_below h p) (one (token_here i q))))))
+stmt_step (tree (second (second (second (second (second (second (second (second (second (second (first (pair (one_token e m) (pair (deep (pair (one_token f n) (pair (one_token g o) (one_token h p)))) (one_token i q))))))))))))))) =
+    node_by stmt_give R.Stmt (P.Here (S.Exact K.GiveWord) ∷ P.Deeper (S.Exact K.LeftParen) ∷ P.Deeper (S.Exact K.Name) ∷ P.Deeper (S.Exact K.RightParen) ∷ P.Here (S.Exact K.Semicolon) ∷ []) refl (λ b n. refl) tt
+        (cons (token_here e m) (cons (token_below f n) (cons (token_below g o) (cons (token_below h p) (one (token_here i q))))))
+stmt_step (tree (second (second (second (second (second (second (second (second (second (second (second (first (pair (one_token e m) (pair (deep (pair (one_token f n) (pair (pair (one_token g o) (pair (one_token k r) (one_side x))) (one_token h p)))) (one_token i q)))))))))))))))) =
+    node_by stmt_send R.Stmt (P.Here (S.Exact K.SendWord) ∷ P.Deeper (S.Exact K.LeftParen) ∷ P.Deeper (S.Exact K.Name) ∷ P.Deeper (S.Exact K.Comma) ∷ P.Deeper S.Expr ∷ P.Deeper (S.Exact K.RightParen) ∷ P.Here (S.Exact K.Semicolon) ∷ []) refl (λ b n. refl) tt
+        (cons (token_here e m) (cons (token_below f n) (cons (token_below g o) (cons (token_below k r) (cons_two (G.below (expr_gives (x (next_kind goes h refl)))) (token_below h p) (one (token_here i q)))))))
+stmt_step (tree (second (second (second (second (second (second (second (second (second (second (second (second (first (pair (one_token e m) (pair (deep (pair (one_token f n) (pair (one_side x) (one_token h p)))) (one_token i q))))))))))))))))) =
+    node_by stmt_print R.Stmt (P.Here (S.Exact K.PrintWord) ∷ P.Deeper (S.Exact K.LeftParen) ∷ P.Deeper S.Expr ∷ P.Deeper (S.Exact K.RightParen) ∷ P.Here (S.Exact K.Semicolon) ∷ []) refl (λ b n. refl) tt
+        (cons (token_here e m) (cons (token_below f n) (cons_two (G.below (expr_gives (x (next_kind goes h refl)))) (token_below h p) (one (token_here i q)))))
+stmt_step (tree (second (second (second (second (second (second (second (second (second (second (second (second (second (pair (one_token e m) (pair (deep (pair (one_token f n) (pair (one_side x) (one_token h p)))) (one_token i q))))))))))))))))) =
+    node_by stmt_assert R.Stmt (P.Here (S.Exact K.AssertWord) ∷ P.Deeper (S.Exact K.LeftParen) ∷ P.Deeper S.Expr ∷ P.Deeper (S.Exact K.RightParen) ∷ P.Here (S.Exact K.Semicolon) ∷ []) refl (λ b n. refl) tt
+        (cons (token_here e m) (cons (token_below f n) (cons_two (G.below (expr_gives (x (next_kind goes h refl)))) (token_below h p) (one (token_here i q)))))
+
+-- ---- all left sides
+
+step : (y : Side) (a : At) (ts : List Marked) (t : List Shape) (rest : List Marked) → Seen (phrase y) a ts t rest → Goal y a ts t rest
+step source_side a ts t rest d = source_step d
+step shared_side a ts t rest d = shared_step d
+step shared_item_side a ts t rest d = shared_item_step d
+step sems_side a ts t rest d = sems_step d
+step chans_side a ts t rest d = chans_step d
+step function_side a ts t rest d = function_step d
+step params_side a ts t rest d = params_step d
+step process_side a ts t rest d = process_step d
+step block_side a ts t rest d = block_step d
+step local_side a ts t rest d = local_step d
+step local_item_side a ts t rest d = local_item_step d
+step value_side a ts t rest d = value_step d
+step place_side a ts t rest d = place_step d
+step change_side a ts t rest d = change_step d
+step stmt_side a ts t rest d = stmt_step d
+step expr_side a ts t rest d = expr_step d
+step (tier l) a ts t rest d = tier_step l d
+step unary_side a ts t rest d = unary_step d
+
+-- A source of the language is a program of the parser's grammar, with the same tree.
+pub source_program : {ts : List Marked} {f : List Shape} → IsSource ts f → IsProgram ts f
+source_program p = only (seen step p)
+  where
+    only : {ts : List Marked} {f : List Shape} → Seen (the source_side) outside ts f [] → IsProgram ts f
+    only (one_side g) = next (g [] 0) nothing
