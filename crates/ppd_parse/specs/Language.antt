@@ -7,7 +7,7 @@ use Rattle.ppd_parse.specs.declared.symbol.Level.TheVariants as L
 use Rattle.ppd_parse.specs.declared.symbol.Rule.{Rule}
 use Rattle.ppd_parse.specs.declared.symbol.Rule.TheVariants as R
 use Rattle.ppd_parse.specs.declared.symbol.At.{At}
-use Rattle.ppd_parse.specs.Grammar.{Shape, leaf, node, forest, Marked, kind_at, is_operator, deeper, inside, outside}
+use Rattle.ppd_parse.specs.Trees.{Shape, leaf, node, forest, Marked, kind_at, is_operator, deeper, inside, outside}
 
 -- the left sides; a tier has the binary operators of its level and all that binds more strongly
 pub data Side : Type 0 where
@@ -151,6 +151,6 @@ pub data Is : Phrase → At → List Marked → List Shape → List Marked → T
   counted : {f : Phrase} {a : At} {t : List Shape} {ts rest : List Marked} → Is f (inside a) ts t rest → Is (measured f) a ts t rest
   grouped : {r : Rule} {f : Phrase} {a : At} {t : List Shape} {ts rest : List Marked} → Is f a ts t rest → Is (made r f) a ts (node r (forest t) ∷ []) rest
 
--- the marked tokens are a source with this tree
-abbrev pub IsSource : List Marked → List Shape → Type 0
-IsSource ts f = Is (the source_side) outside ts f []
+-- the marked tokens are a program with this tree
+abbrev pub IsProgram : List Marked → List Shape → Type 0
+IsProgram ts f = Is (the source_side) outside ts f []

@@ -9,3 +9,4 @@ pub mod Machine
 pub mod Rank
 pub mod Stack
 pub mod Table
+pub mod Trees
