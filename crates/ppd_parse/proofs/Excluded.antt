@@ -1,12 +1,12 @@
 -- Tokens that have a tree are not refused.
 use Rattle.std.specs.Prelude.{take, drop}
-use Rattle.std.proofs.Common.{◌≡◌, ◌≢◌, ℕ, zero, suc, ◌+◌, ◌<◌, ◌≤◌, List, [], ◌∷◌, ◌++◌, length, get_or, refl, sym, ◌∙◌, ap, subst, arith}
+use Rattle.std.proofs.Common.{◌≡◌, ◌≢◌, ℕ, zero, suc, ◌<◌, ◌≤◌, List, [], ◌∷◌, ◌++◌, length, refl, ◌∙◌, ap, subst, arith}
 use Rattle.ppd_ast.specs.declared.program.Place.{Place}
 use Rattle.ppd_lex.specs.declared.token.Token.{Token}
 use Rattle.ppd_parse.specs.declared.error.SyntaxError.{SyntaxError}
 use Rattle.ppd_parse.specs.declared.error.SyntaxError.TheVariants as E
 use Rattle.ppd_parse.specs.Grammar.{Shape, Marked}
-use Rattle.ppd_parse.specs.Limits.{count_with, count_after, KeepLimits, token_at, no_token, IsTree, BreaksDepth, BreaksWidth, IsUnexpected, IsPast, IsRefused}
+use Rattle.ppd_parse.specs.Limits.{count_with, count_after, KeepLimits, token_at, IsTree, BreaksDepth, BreaksWidth, IsUnexpected, IsPast, IsRefused}
 
 -- a list at one of its places
 split_at : (ts : List Token) (i : ℕ) → i < length ts → ts ≡ take i ts ++ token_at ts i ∷ drop (suc i) ts

@@ -1,5 +1,5 @@
 -- What the language's grammar reads, the parser's grammar reads.
-use Rattle.std.proofs.Common.{◌≡◌, ◌≢◌, ℕ, Bool, true, false, ◌||◌, List, [], ◌∷◌, ◌++◌, length, refl, sym, ◌∙◌, ap, append_assoc}
+use Rattle.std.proofs.Common.{◌≡◌, Bool, false, List, [], ◌∷◌, ◌++◌, refl, sym, ap, append_assoc}
 use Rattle.ppd_parse.specs.declared.symbol.Kind.{Kind}
 use Rattle.ppd_parse.specs.declared.symbol.Kind.TheVariants as K
 use Rattle.ppd_parse.specs.declared.symbol.Level.{Level}
@@ -8,8 +8,8 @@ use Rattle.ppd_parse.specs.declared.symbol.Rule.TheVariants as R
 use Rattle.ppd_parse.specs.declared.symbol.Symbol.TheVariants as S
 use Rattle.ppd_parse.specs.declared.symbol.At.{At}
 use Rattle.ppd_parse.specs.declared.symbol.Part.TheVariants as P
-use Rattle.ppd_parse.specs.Grammar.{Shape, leaf, node, forest, Marked, kind_at, is_operator, deeper, inside, outside, MayStand, nothing, next, IsParsed, source, items_end, items_shared, items_sems, items_chans, items_function, items_process, shared, shared_end, shared_more, shared_item, no_start, start, shared_length, start_plain, start_minus, sems, no_sem_start, sem_start, sems_end, sems_more, chans, chans_end, chans_more, function_int, function_void, no_params, some_params, params_void, params_int, params_end, params_more, process, block, stmts_end, stmts_local, stmts_more, local, local_end, local_more, local_item, no_local_start, local_start, local_length, value_recv, value_plain, no_args, some_args, args_end, args_more, minus, negation, parens as parens_unary, number, stmt_block, stmt_empty, stmt_if, stmt_while, stmt_for, stmt_return, stmt_take, stmt_give, stmt_send, stmt_print, stmt_assert, no_else, some_else, for_plain, for_local, for_change, for_ever, for_while, for_still, for_step, return_plain, return_value}
-use Rattle.ppd_parse.specs.Language.{Side, source_side, shared_side, shared_item_side, sems_side, chans_side, function_side, params_side, process_side, block_side, local_side, local_item_side, value_side, place_side, change_side, stmt_side, expr_side, tier, unary_side, Phrase, word, binary, the, ◌·◌, ◌∣◌, many, maybe, opened, measured, made, parens, brackets, called, call, answer, else_part, heading, phrase, NextIsNot, IsProgram}
+use Rattle.ppd_parse.specs.Grammar.{Shape, leaf, node, forest, Marked, kind_at, is_operator, inside, outside, MayStand, nothing, next, IsParsed, source, items_end, items_shared, items_sems, items_chans, items_function, items_process, shared, shared_end, shared_more, shared_item, no_start, start, shared_length, start_plain, start_minus, sems, no_sem_start, sem_start, sems_end, sems_more, chans, chans_end, chans_more, function_int, function_void, no_params, some_params, params_void, params_int, params_end, params_more, process, block, stmts_end, stmts_local, stmts_more, local, local_end, local_more, local_item, no_local_start, local_start, local_length, value_recv, value_plain, no_args, some_args, args_end, args_more, minus, negation, parens as parens_unary, number, stmt_block, stmt_empty, stmt_if, stmt_while, stmt_for, stmt_return, stmt_take, stmt_give, stmt_send, stmt_print, stmt_assert, no_else, some_else, for_plain, for_local, for_change, for_ever, for_while, for_still, for_step, return_plain, return_value}
+use Rattle.ppd_parse.specs.Language.{Side, source_side, shared_side, shared_item_side, sems_side, chans_side, function_side, params_side, process_side, block_side, local_side, local_item_side, value_side, place_side, change_side, stmt_side, expr_side, tier, unary_side, Phrase, word, the, ◌·◌, ◌∣◌, many, maybe, brackets, called, call, answer, else_part, phrase, NextIsNot, IsProgram}
 use Rattle.ppd_parse.proofs.Usual.{declarations, expressions}
 use Rattle.ppd_parse.proofs.Given.{Gives, Rows, here, token_here, token_below, one, cons, cons_two, rows_as, free, plain_by, nothing_by, node_by, Next, next_kind, next_left, next_right, is_not, other_kind, is_opening, binds, binds_or, binds_operator, goes, Calm}
 use Rattle.ppd_parse.proofs.Given as G
@@ -58,7 +58,7 @@ shared_items {u = w} (one_more {u = v} (pair {u = i} (one_token {x = x} e m) (on
 shared_step : {a : At} {ts rest : List Marked} {t : List Shape} → Seen (phrase shared_side) a ts t rest → Gives S.Shared a ts t rest
 shared_step (tree (pair (one_token e m) (pair (one_token f n) (pair (one_side g) (pair ms z))))) =
     node_by shared R.Shared (P.Here (S.Exact K.SharedWord) ∷ P.Here (S.Exact K.IntWord) ∷ P.Here S.SharedItem ∷ P.Here S.SharedItems ∷ []) refl (λ b n. refl) tt
-        (cons (token_here e m) (cons (token_here f n) (cons (here (g (list_next begins_start (the shared_item_side) K.Semicolon refl refl ms z))) (one (here (shared_items ms z))))))
+    (cons (token_here e m) (cons (token_here f n) (cons (here (g (list_next begins_start (the shared_item_side) K.Semicolon refl refl ms z))) (one (here (shared_items ms z))))))
 
 shared_item_by : {a : At} {x : Marked} {ts rest : List Marked} {t : List Shape} → kind_at x ≡ K.Name → x.at ≡ a → Gives S.SharedStart a ts t rest → Gives S.SharedItem a (x ∷ ts) (node R.Sitem (forest (leaf x.token ∷ t)) ∷ []) rest
 shared_item_by e m g = node_by shared_item R.Sitem (P.Here (S.Exact K.Name) ∷ P.Here S.SharedStart ∷ []) refl (λ b n. refl) tt (cons (token_here e m) (one (here g)))
@@ -84,7 +84,7 @@ sem_items {u = w} (one_more {u = v} (pair (one_token {x = x} e m) (pair {u = i} 
 sems_step : {a : At} {ts rest : List Marked} {t : List Shape} → Seen (phrase sems_side) a ts t rest → Gives S.Sems a ts t rest
 sems_step (tree (pair (one_token e m) (pair (one_token f n) (pair s (pair ms z))))) =
     node_by sems R.Sems (P.Here (S.Exact K.SemWord) ∷ P.Here (S.Exact K.Name) ∷ P.Here S.SemStart ∷ P.Here S.SemItems ∷ []) refl (λ b n. refl) tt
-        (cons (token_here e m) (cons (token_here f n) (cons (here (sem_start_by s (list_next is_assign (word K.Name · maybe (word K.AssignMark · word K.Number)) K.Semicolon refl refl ms z))) (one (here (sem_items ms z))))))
+    (cons (token_here e m) (cons (token_here f n) (cons (here (sem_start_by s (list_next is_assign (word K.Name · maybe (word K.AssignMark · word K.Number)) K.Semicolon refl refl ms z))) (one (here (sem_items ms z))))))
 
 chan_items : {a : At} {ts mid rest : List Marked} {t u : List Shape} → Seen (many (word K.Comma · word K.Name · brackets (word K.Number))) a ts t mid → Seen (word K.Semicolon) a mid u rest → Gives S.ChanItems a ts (t ++ u) rest
 chan_items no_more (one_token e m) = plain_by chans_end tt (one (token_here e m))
@@ -94,7 +94,7 @@ chan_items (one_more (pair (one_token e m) (pair (one_token f n) (deep (pair (on
 chans_step : {a : At} {ts rest : List Marked} {t : List Shape} → Seen (phrase chans_side) a ts t rest → Gives S.Chans a ts t rest
 chans_step (tree (pair (one_token e m) (pair (one_token f n) (pair (deep (pair (one_token g o) (pair (one_token h p) (one_token i q)))) (pair ms z))))) =
     node_by chans R.Chans (P.Here (S.Exact K.ChanWord) ∷ P.Here (S.Exact K.Name) ∷ P.Deeper (S.Exact K.LeftBracket) ∷ P.Deeper (S.Exact K.Number) ∷ P.Deeper (S.Exact K.RightBracket) ∷ P.Here S.ChanItems ∷ []) refl (λ b n. refl) tt
-        (cons (token_here e m) (cons (token_here f n) (cons (token_below g o) (cons (token_below h p) (cons (token_below i q) (one (here (chan_items ms z))))))))
+    (cons (token_here e m) (cons (token_here f n) (cons (token_below g o) (cons (token_below h p) (cons (token_below i q) (one (here (chan_items ms z))))))))
 
 params_by : {a : At} {ts mid rest : List Marked} {t u : List Shape} → Seen (maybe (the params_side)) a ts t mid → Seen (word K.RightParen) a mid u rest → Gives S.ParamsEnd a ts (t ++ u) rest
 params_by missing (one_token e m) = plain_by no_params tt (one (token_here e m))
@@ -103,10 +103,10 @@ params_by {ts = ts} (there (one_side g)) (one_token e m) = plain_by some_params 
 function_step : {a : At} {ts rest : List Marked} {t : List Shape} → Seen (phrase function_side) a ts t rest → Gives S.Function a ts t rest
 function_step (tree (pair (first (one_token e m)) (pair (one_token f n) (pair (deep (pair (one_token g o) (pair ps z))) (one_side b))))) =
     node_by function_int R.Function (P.Here (S.Exact K.IntWord) ∷ P.Here (S.Exact K.Name) ∷ P.Deeper (S.Exact K.LeftParen) ∷ P.Deeper S.ParamsEnd ∷ P.Here S.Block ∷ []) refl (λ b n. refl) tt
-        (cons (token_here e m) (cons (token_here f n) (cons (token_below g o) (cons (G.below (params_by ps z)) (one (here b))))))
+    (cons (token_here e m) (cons (token_here f n) (cons (token_below g o) (cons (G.below (params_by ps z)) (one (here b))))))
 function_step (tree (pair (second (one_token e m)) (pair (one_token f n) (pair (deep (pair (one_token g o) (pair ps z))) (one_side b))))) =
     node_by function_void R.Function (P.Here (S.Exact K.VoidWord) ∷ P.Here (S.Exact K.Name) ∷ P.Deeper (S.Exact K.LeftParen) ∷ P.Deeper S.ParamsEnd ∷ P.Here S.Block ∷ []) refl (λ b n. refl) tt
-        (cons (token_here e m) (cons (token_here f n) (cons (token_below g o) (cons (G.below (params_by ps z)) (one (here b))))))
+    (cons (token_here e m) (cons (token_here f n) (cons (token_below g o) (cons (G.below (params_by ps z)) (one (here b))))))
 
 param_items : {a : At} {ts rest : List Marked} {t : List Shape} → Seen (many (word K.Comma · word K.IntWord · word K.Name)) a ts t rest → Next is_comma rest → Gives S.ParamItems a ts t rest
 param_items (no_more {ts = ts}) n = nothing_by params_end refl (params_stand ts n)
@@ -153,7 +153,7 @@ local_items {u = w} (one_more {u = v} (pair {u = i} (one_token {x = x} e m) (one
 local_step : {a : At} {ts rest : List Marked} {t : List Shape} → Seen (phrase local_side) a ts t rest → Gives S.Local a ts t rest
 local_step (tree (pair (one_token e m) (pair (one_side g) (pair ms z)))) =
     node_by local R.Local (P.Here (S.Exact K.IntWord) ∷ P.Here S.LocalItem ∷ P.Here S.LocalItems ∷ []) refl (λ b n. refl) tt
-        (cons (token_here e m) (cons (here (g (list_next item_goes (the local_item_side) K.Semicolon refl refl ms z))) (one (here (local_items ms z)))))
+    (cons (token_here e m) (cons (here (g (list_next item_goes (the local_item_side) K.Semicolon refl refl ms z))) (one (here (local_items ms z)))))
 
 local_item_by : {a : At} {x : Marked} {ts rest : List Marked} {t : List Shape} → kind_at x ≡ K.Name → x.at ≡ a → Gives S.LocalStart a ts t rest → Gives S.LocalItem a (x ∷ ts) (node R.Litem (forest (leaf x.token ∷ t)) ∷ []) rest
 local_item_by e m g = node_by local_item R.Litem (P.Here (S.Exact K.Name) ∷ P.Here S.LocalStart ∷ []) refl (λ b n. refl) tt (cons (token_here e m) (one (here g)))
@@ -186,7 +186,7 @@ call_seen (tree (pair (one_token e m) (deep (pair (one_token f n) (pair xs z))))
 value_step : {a : At} {ts rest : List Marked} {t : List Shape} → Seen (phrase value_side) a ts t rest → Calm rest → Gives S.Value a ts t rest
 value_step (tree (first (pair (one_token e m) (deep (pair (one_token f o) (pair (one_token g p) (one_token h q))))))) n =
     node_by value_recv R.Value (P.Here (S.Exact K.RecvWord) ∷ P.Deeper (S.Exact K.LeftParen) ∷ P.Deeper (S.Exact K.Name) ∷ P.Deeper (S.Exact K.RightParen) ∷ []) refl (λ b n. refl) tt
-        (cons (token_here e m) (cons (token_below f o) (cons (token_below g p) (one (token_below h q)))))
+    (cons (token_here e m) (cons (token_below f o) (cons (token_below g p) (one (token_below h q)))))
 value_step {ts = ts} (tree (second (first c))) n = node_by value_plain R.Value (P.Here S.CallOrExpr ∷ []) refl (λ b n. refl) (free value_plain (λ k. tt) ts) (one (here (call_gives (called_seen c))))
 value_step {ts = ts} (tree (second (second (one_side g)))) n = node_by value_plain R.Value (P.Here S.CallOrExpr ∷ []) refl (λ b n. refl) (free value_plain (λ k. tt) ts) (one (here (value_gives (g n))))
 
@@ -256,30 +256,30 @@ stmt_step (tree (second (second (second (first (pair (one_side p) (pair (one_tok
 stmt_step (tree (second (second (second (second (first (pair c (one_token e m)))))))) = call_statement (call_seen c) e m
 stmt_step (tree (second (second (second (second (second (first (pair (one_token e m) (pair (deep (pair (one_token f n) (pair (one_side g) (one_token h o)))) (pair (deep (one_side s)) el)))))))))) =
     node_by stmt_if R.Stmt (P.Here (S.Exact K.IfWord) ∷ P.Deeper (S.Exact K.LeftParen) ∷ P.Deeper S.Expr ∷ P.Deeper (S.Exact K.RightParen) ∷ P.Deeper S.Stmt ∷ P.Here S.ElsePart ∷ []) refl (λ b n. refl) tt
-        (cons (token_here e m) (cons (token_below f n) (cons_two (G.below (expr_gives (g (next_kind goes h refl)))) (token_below h o) (cons (G.below s) (one (here (else_by el)))))))
-stmt_step (tree (second (second (second (second (second (second (first (pair (one_token e m) (pair (deep (pair (one_token f n) (pair (one_side g) (one_token h o)))) (deep (one_side s))))))))))))  =
+    (cons (token_here e m) (cons (token_below f n) (cons_two (G.below (expr_gives (g (next_kind goes h refl)))) (token_below h o) (cons (G.below s) (one (here (else_by el)))))))
+stmt_step (tree (second (second (second (second (second (second (first (pair (one_token e m) (pair (deep (pair (one_token f n) (pair (one_side g) (one_token h o)))) (deep (one_side s)))))))))))) =
     node_by stmt_while R.Stmt (P.Here (S.Exact K.WhileWord) ∷ P.Deeper (S.Exact K.LeftParen) ∷ P.Deeper S.Expr ∷ P.Deeper (S.Exact K.RightParen) ∷ P.Deeper S.Stmt ∷ []) refl (λ b n. refl) tt
-        (cons (token_here e m) (cons (token_below f n) (cons_two (G.below (expr_gives (g (next_kind goes h refl)))) (token_below h o) (one (G.below s)))))
+    (cons (token_here e m) (cons (token_below f n) (cons_two (G.below (expr_gives (g (next_kind goes h refl)))) (token_below h o) (one (G.below s)))))
 stmt_step (tree (second (second (second (second (second (second (second (first (pair (one_token {x = x} e m) (pair {u = w} (deep (pair (one_token {x = y} f n) (pair {u = q} (pair {t = t} i (pair {t = c} c1 (pair {t = u} j (pair {t = o} {u = v} c2 k)))) z))) (deep (one_side s))))))))))))) =
     node_by stmt_for R.Stmt (P.Here (S.Exact K.ForWord) ∷ P.Deeper (S.Exact K.LeftParen) ∷ P.Deeper S.ForStart ∷ P.Deeper S.ForTest ∷ P.Deeper S.ForStep ∷ P.Deeper S.Stmt ∷ []) refl (λ b n. refl) tt
-        (rows_as (ap (λ r. leaf x.token ∷ leaf y.token ∷ r) (for_trees t u v w c o q)) (cons (token_here e m) (cons (token_below f n) (cons (G.below (for_start_by i c1)) (cons (G.below (for_test_by j c2)) (cons (G.below (for_step_by k z)) (one (G.below s))))))))
+    (rows_as (ap (λ r. leaf x.token ∷ leaf y.token ∷ r) (for_trees t u v w c o q)) (cons (token_here e m) (cons (token_below f n) (cons (G.below (for_start_by i c1)) (cons (G.below (for_test_by j c2)) (cons (G.below (for_step_by k z)) (one (G.below s))))))))
 stmt_step (tree (second (second (second (second (second (second (second (second (first (pair (one_token e m) (pair v z)))))))))))) =
     node_by stmt_return R.Stmt (P.Here (S.Exact K.ReturnWord) ∷ P.Here S.ReturnEnd ∷ []) refl (λ b n. refl) tt (cons (token_here e m) (one (here (return_by v z))))
 stmt_step (tree (second (second (second (second (second (second (second (second (second (first (pair (one_token e m) (pair (deep (pair (one_token f n) (pair (one_token g o) (one_token h p)))) (one_token i q)))))))))))))) =
     node_by stmt_take R.Stmt (P.Here (S.Exact K.TakeWord) ∷ P.Deeper (S.Exact K.LeftParen) ∷ P.Deeper (S.Exact K.Name) ∷ P.Deeper (S.Exact K.RightParen) ∷ P.Here (S.Exact K.Semicolon) ∷ []) refl (λ b n. refl) tt
-        (cons (token_here e m) (cons (token_below f n) (cons (token_below g o) (cons (token_below h p) (one (token_here i q))))))
+    (cons (token_here e m) (cons (token_below f n) (cons (token_below g o) (cons (token_below h p) (one (token_here i q))))))
 stmt_step (tree (second (second (second (second (second (second (second (second (second (second (first (pair (one_token e m) (pair (deep (pair (one_token f n) (pair (one_token g o) (one_token h p)))) (one_token i q))))))))))))))) =
     node_by stmt_give R.Stmt (P.Here (S.Exact K.GiveWord) ∷ P.Deeper (S.Exact K.LeftParen) ∷ P.Deeper (S.Exact K.Name) ∷ P.Deeper (S.Exact K.RightParen) ∷ P.Here (S.Exact K.Semicolon) ∷ []) refl (λ b n. refl) tt
-        (cons (token_here e m) (cons (token_below f n) (cons (token_below g o) (cons (token_below h p) (one (token_here i q))))))
+    (cons (token_here e m) (cons (token_below f n) (cons (token_below g o) (cons (token_below h p) (one (token_here i q))))))
 stmt_step (tree (second (second (second (second (second (second (second (second (second (second (second (first (pair (one_token e m) (pair (deep (pair (one_token f n) (pair (pair (one_token g o) (pair (one_token k r) (one_side x))) (one_token h p)))) (one_token i q)))))))))))))))) =
     node_by stmt_send R.Stmt (P.Here (S.Exact K.SendWord) ∷ P.Deeper (S.Exact K.LeftParen) ∷ P.Deeper (S.Exact K.Name) ∷ P.Deeper (S.Exact K.Comma) ∷ P.Deeper S.Expr ∷ P.Deeper (S.Exact K.RightParen) ∷ P.Here (S.Exact K.Semicolon) ∷ []) refl (λ b n. refl) tt
-        (cons (token_here e m) (cons (token_below f n) (cons (token_below g o) (cons (token_below k r) (cons_two (G.below (expr_gives (x (next_kind goes h refl)))) (token_below h p) (one (token_here i q)))))))
+    (cons (token_here e m) (cons (token_below f n) (cons (token_below g o) (cons (token_below k r) (cons_two (G.below (expr_gives (x (next_kind goes h refl)))) (token_below h p) (one (token_here i q)))))))
 stmt_step (tree (second (second (second (second (second (second (second (second (second (second (second (second (first (pair (one_token e m) (pair (deep (pair (one_token f n) (pair (one_side x) (one_token h p)))) (one_token i q))))))))))))))))) =
     node_by stmt_print R.Stmt (P.Here (S.Exact K.PrintWord) ∷ P.Deeper (S.Exact K.LeftParen) ∷ P.Deeper S.Expr ∷ P.Deeper (S.Exact K.RightParen) ∷ P.Here (S.Exact K.Semicolon) ∷ []) refl (λ b n. refl) tt
-        (cons (token_here e m) (cons (token_below f n) (cons_two (G.below (expr_gives (x (next_kind goes h refl)))) (token_below h p) (one (token_here i q)))))
+    (cons (token_here e m) (cons (token_below f n) (cons_two (G.below (expr_gives (x (next_kind goes h refl)))) (token_below h p) (one (token_here i q)))))
 stmt_step (tree (second (second (second (second (second (second (second (second (second (second (second (second (second (pair (one_token e m) (pair (deep (pair (one_token f n) (pair (one_side x) (one_token h p)))) (one_token i q))))))))))))))))) =
     node_by stmt_assert R.Stmt (P.Here (S.Exact K.AssertWord) ∷ P.Deeper (S.Exact K.LeftParen) ∷ P.Deeper S.Expr ∷ P.Deeper (S.Exact K.RightParen) ∷ P.Here (S.Exact K.Semicolon) ∷ []) refl (λ b n. refl) tt
-        (cons (token_here e m) (cons (token_below f n) (cons_two (G.below (expr_gives (x (next_kind goes h refl)))) (token_below h p) (one (token_here i q)))))
+    (cons (token_here e m) (cons (token_below f n) (cons_two (G.below (expr_gives (x (next_kind goes h refl)))) (token_below h p) (one (token_here i q)))))
 
 -- ---- all left sides
 

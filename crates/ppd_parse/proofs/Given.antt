@@ -11,7 +11,6 @@ use Rattle.ppd_parse.specs.declared.symbol.Symbol.TheVariants as S
 use Rattle.ppd_parse.specs.declared.symbol.At.{At}
 use Rattle.ppd_parse.specs.declared.symbol.Part.{Part}
 use Rattle.ppd_parse.specs.declared.symbol.Part.TheVariants as P
-use Rattle.ppd_parse.specs.declared.symbol.Want.{Want}
 use Rattle.ppd_parse.specs.declared.symbol.Want.TheVariants.{Get, Close}
 use Rattle.ppd_parse.specs.Grammar.{Shape, leaf, node, forest, close, Marked, kind_at, is_operator, deeper, inside, Production, parts, Stands, MayStand, want_in, wants_in, base_in, Reads, ReadsAll, exact, wrap, by, nothing, next}
 use Rattle.ppd_parse.proofs.Usual.{close_front}
@@ -70,7 +69,7 @@ pub close_rows : (r : Rule) {a : At} {ps : List Part} {ts rest : List Marked} {t
 close_rows r {a} {ps} {ts} {rest} {t} (rows h) s got =
     let whole : close r (length s) ((s ++ got) ++ t) ≡ s ++ node r (forest (got ++ t)) ∷ [] = ap (close r (length s)) (append_assoc s got t) ∙ close_front r s (got ++ t) in
     subst (λ ws. ReadsAll ws (s ++ got) ts (s ++ node r (forest (got ++ t)) ∷ []) rest) (sym (map-append (want_in a (length s)) ps (P.Wrap r ∷ [])))
-        (subst (λ z. ReadsAll (wants_in a (length s) ps ++ Close r (length s) ∷ []) (s ++ got) ts z rest) whole (join (h (s ++ got) (length s)) (next wrap nothing)))
+    (subst (λ z. ReadsAll (wants_in a (length s) ps ++ Close r (length s) ∷ []) (s ++ got) ts z rest) whole (join (h (s ++ got) (length s)) (next wrap nothing)))
 
 pub close_own : (r : Rule) {a : At} {ps : List Part} {ts rest : List Marked} {t : List Shape} → Rows a ps ts t rest → (s : List Shape) → ReadsAll (wants_in a (length s) (ps ++ P.Wrap r ∷ [])) s ts (s ++ node r (forest t) ∷ []) rest
 close_own r {a} {ps} {ts} {rest} {t} h s = subst (λ u. ReadsAll (wants_in a (length s) (ps ++ P.Wrap r ∷ [])) u ts (s ++ node r (forest t) ∷ []) rest) (append-nil s) (close_rows r h s [])

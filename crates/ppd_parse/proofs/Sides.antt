@@ -1,5 +1,5 @@
 -- What each production of the parser's grammar reads, as a right side of the language's grammar reads it.
-use Rattle.std.proofs.Common.{◌≡◌, List, [], ◌∷◌, ◌++◌, refl, sym, ◌∙◌, ap, subst, append_assoc}
+use Rattle.std.proofs.Common.{◌≡◌, List, [], ◌∷◌, ◌++◌, sym, ◌∙◌, ap, subst, append_assoc}
 use Rattle.ppd_parse.specs.declared.symbol.Kind.TheVariants as K
 use Rattle.ppd_parse.specs.declared.symbol.Rule.TheVariants as R
 use Rattle.ppd_parse.specs.declared.symbol.At.{At}
@@ -182,7 +182,7 @@ opened_for {f} {g} {h} {k} {m} {a} {ts = ts} {rest = rest} (both {t = t} (within
     subst (λ z. Is (opened (f · (g · (h · k))) · m) a ts z rest) e1 (both (within (both d (both e (both i j)))) r)
 
 pub for_stmt : {a : At} {t : List Shape} {ts rest : List Marked} → Is (made R.Stmt (word K.ForWord · (opened (word K.LeftParen) · (opened (maybe (word K.IntWord · word K.Name · word K.AssignMark · the expr_side ∣ the change_side) · word K.Semicolon) · (opened (maybe (the expr_side) · word K.Semicolon) · (opened (maybe (the change_side) · word K.RightParen) · opened (the stmt_side))))))) a ts t rest → Is (the stmt_side) a ts t rest
-for_stmt (grouped (both i x)) = side (grouped (right (right (right (right (right (right (right (left (both i (headed (opened_for x)))))))))))) 
+for_stmt (grouped (both i x)) = side (grouped (right (right (right (right (right (right (right (left (both i (headed (opened_for x))))))))))))
   where
     headed : {a : At} {t : List Shape} {ts rest : List Marked} → Is (opened (word K.LeftParen · ((maybe (word K.IntWord · word K.Name · word K.AssignMark · the expr_side ∣ the change_side) · word K.Semicolon) · ((maybe (the expr_side) · word K.Semicolon) · (maybe (the change_side) · word K.RightParen)))) · opened (the stmt_side)) a ts t rest → Is (parens heading · opened (the stmt_side)) a ts t rest
     headed (both (within d) r) = both (within (for_heading d)) r

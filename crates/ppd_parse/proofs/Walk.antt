@@ -1,5 +1,5 @@
 -- What parts of the parser's grammar make of the trees of their construct.
-use Rattle.std.proofs.Common.{◌≡◌, ◌+◌, ◌-◌, ℕ, zero, suc, Bool, true, false, cond, List, [], ◌∷◌, ◌++◌, length, refl, sym, ◌∙◌, ap, subst, append_assoc, append-nil, arith}
+use Rattle.std.proofs.Common.{◌≡◌, ◌+◌, ◌-◌, ℕ, Bool, true, false, cond, List, [], ◌∷◌, ◌++◌, length, refl, sym, ◌∙◌, ap, subst, append_assoc, append-nil, arith}
 use Rattle.std.proofs.lemmas.List.{length-append}
 use Rattle.ppd_parse.specs.declared.symbol.Kind.TheVariants as K
 use Rattle.ppd_parse.specs.declared.symbol.Rule.{Rule}
@@ -9,9 +9,8 @@ use Rattle.ppd_parse.specs.declared.symbol.Symbol.TheVariants as S
 use Rattle.ppd_parse.specs.declared.symbol.At.{At}
 use Rattle.ppd_parse.specs.declared.symbol.Part.{Part}
 use Rattle.ppd_parse.specs.declared.symbol.Part.TheVariants as P
-use Rattle.ppd_parse.specs.declared.symbol.Want.{Want}
 use Rattle.ppd_parse.specs.declared.symbol.Want.TheVariants.{Get, Close}
-use Rattle.ppd_parse.specs.Grammar.{Shape, leaf, node, forest, close, Marked, deeper, inside, want_in, wants_in}
+use Rattle.ppd_parse.specs.Grammar.{Shape, node, forest, close, Marked, deeper, inside, want_in, wants_in}
 use Rattle.ppd_parse.specs.Language.{Phrase, word, Is}
 use Rattle.ppd_parse.proofs.Usual.{Manner, plain, later, manner, Rest, Out, out, Closed, closed, Goes, MeansBy, Means, MeansAll, last, then, close_front}
 

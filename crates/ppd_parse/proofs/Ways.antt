@@ -1,5 +1,5 @@
 -- What is read of the language's phrases that the parser's grammar splits in other ways.
-use Rattle.std.proofs.Common.{◌≡◌, ◌-◌, ℕ, true, false, List, [], ◌∷◌, ◌++◌, length, refl, sym, ◌∙◌, ap, subst, append_assoc}
+use Rattle.std.proofs.Common.{◌≡◌, ℕ, true, List, [], ◌∷◌, ◌++◌, length, refl, sym, ◌∙◌, ap, subst, append_assoc}
 use Rattle.ppd_parse.specs.declared.symbol.Kind.TheVariants as K
 use Rattle.ppd_parse.specs.declared.symbol.Level.{Level}
 use Rattle.ppd_parse.specs.declared.symbol.Level.TheVariants as L
@@ -15,7 +15,7 @@ use Rattle.ppd_parse.specs.Language.{NextIsNot}
 use Rattle.ppd_parse.proofs.Usual.{close_front}
 use Rattle.ppd_parse.proofs.Walk.{closed_answer, closed_change}
 use Rattle.ppd_parse.proofs.Steps.{join}
-use Rattle.ppd_parse.proofs.Given.{Gives, Given, Rows, here, below, token_here, token_below, one, cons, free, plain_by, nothing_by, node_by, close_rows, close_own, Next, next_left, next_right, is_not, other_kind, is_opening, binds, binds_sum, binds_compare, binds_equal, binds_and, binds_or, binds_operator, goes, Calm}
+use Rattle.ppd_parse.proofs.Given.{Gives, Rows, here, below, token_here, token_below, one, cons, free, plain_by, nothing_by, node_by, close_rows, close_own, Next, next_left, next_right, is_not, other_kind, is_opening, binds, binds_sum, binds_compare, binds_equal, binds_and}
 
 -- ---- places
 
@@ -124,8 +124,8 @@ first_operand l (ways w r) = tier_ways w (λ s v end c. join_chain l (r s) c)
 pub next_operand : (l : Level) {a : At} {x : Marked} {ts mid rest : List Marked} {t u : List Shape} → TierWays l a ts t (x ∷ mid) → is_operator l (kind_at x) ≡ true → x.at ≡ a → Ways (chains_below l) a mid u rest → TierWays l a ts (node R.Binary (forest (t ++ (leaf x.token ∷ u))) ∷ []) rest
 next_operand l {a} {x} {mid = mid} {rest = rest} {t = t} {u = u} (tier_ways w k) e m b =
     tier_ways w (λ s v end c.
-        let whole : close R.Binary (length s) (((s ++ t) ++ leaf x.token ∷ []) ++ u) ≡ s ++ node R.Binary (forest (t ++ (leaf x.token ∷ u))) ∷ [] = ap (close R.Binary (length s)) (append_assoc (s ++ t) (leaf x.token ∷ []) u ∙ append_assoc s t (leaf x.token ∷ u)) ∙ close_front R.Binary s (t ++ (leaf x.token ∷ u)) in
-        k s v end (by (chain_more l) tt (next (operator e m) (next (operand_gives l b ((s ++ t) ++ leaf x.token ∷ []) (length s)) (next wrap (next (subst (λ z. Reads (Get (S.Chain l) a (length s)) z rest v end) (sym whole) c) nothing))))))
+    let whole : close R.Binary (length s) (((s ++ t) ++ leaf x.token ∷ []) ++ u) ≡ s ++ node R.Binary (forest (t ++ (leaf x.token ∷ u))) ∷ [] = ap (close R.Binary (length s)) (append_assoc (s ++ t) (leaf x.token ∷ []) u ∙ append_assoc s t (leaf x.token ∷ u)) ∙ close_front R.Binary s (t ++ (leaf x.token ∷ u)) in
+    k s v end (by (chain_more l) tt (next (operator e m) (next (operand_gives l b ((s ++ t) ++ leaf x.token ∷ []) (length s)) (next wrap (next (subst (λ z. Reads (Get (S.Chain l) a (length s)) z rest v end) (sym whole) c) nothing))))))
 
 pub data ExprWays (a : At) : List Marked → List Shape → List Marked → Type 0 where
   expr_ways : {ts rest : List Marked} {t : List Shape} → Ways (parts expr_rest) (inside a) ts t rest → ExprWays a ts t rest

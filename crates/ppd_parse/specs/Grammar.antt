@@ -8,9 +8,7 @@
 -- them as what they turned out to be. A binary operator wraps what its level has read so far as its
 -- left operand, so every level groups to the left. It reads what the language's grammar reads.
 pub use Rattle.ppd_parse.specs.Trees.{words, marks, kind_of, Shape, Shapes, leaf, node, no_shapes, shape_then, forest, Marked, kind_at, is_operator, deeper, inside, outside, tokens_of}
-use Rattle.std.specs.Prelude.{◌≡◌, ◌≢◌, ◌+◌, ◌-◌, ℕ, Bool, true, false, List, [], ◌∷◌, ◌++◌, map, length, take, drop, slice_index_or, nat_lt, if◌then◌else◌}
-use Rattle.ppd_lex.specs.declared.token.Token.{Token}
-use Rattle.ppd_lex.specs.declared.token.TokenKind.{TokenKind}
+use Rattle.std.specs.Prelude.{◌≡◌, ◌≢◌, ◌-◌, ℕ, true, false, List, [], ◌∷◌, ◌++◌, map, length, take, drop}
 use Rattle.ppd_parse.specs.declared.symbol.Kind.{Kind}
 use Rattle.ppd_parse.specs.declared.symbol.Kind.TheVariants as K
 use Rattle.ppd_parse.specs.declared.symbol.Level.{Level}
@@ -24,7 +22,6 @@ use Rattle.ppd_parse.specs.declared.symbol.Part.{Part}
 use Rattle.ppd_parse.specs.declared.symbol.Part.TheVariants as P
 use Rattle.ppd_parse.specs.declared.symbol.Want.{Want}
 use Rattle.ppd_parse.specs.declared.symbol.Want.TheVariants.{Get, Close}
-use Rattle.ppd_lex.specs.declared.token.TokenKind.TheVariants as T
 
 -- the trees from the base on become one node
 abbrev pub close : Rule → ℕ → List Shape → List Shape

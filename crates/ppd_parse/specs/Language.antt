@@ -1,5 +1,5 @@
 -- The grammar of the language: each of its left sides with what it is made up of. It knows no limits and no parser.
-use Rattle.std.specs.Prelude.{◌≡◌, ◌≢◌, Bool, true, List, [], ◌∷◌, ◌++◌}
+use Rattle.std.specs.Prelude.{◌≡◌, ◌≢◌, true, List, [], ◌∷◌, ◌++◌}
 use Rattle.ppd_parse.specs.declared.symbol.Kind.{Kind}
 use Rattle.ppd_parse.specs.declared.symbol.Kind.TheVariants as K
 use Rattle.ppd_parse.specs.declared.symbol.Level.{Level}
@@ -32,7 +32,6 @@ pub data Side : Type 0 where
 
 infixr 60 ◌·◌
 infixr 50 ◌∣◌
-
 -- what stands on a right side
 pub data Phrase : Type 0 where
   -- a token of the kind
@@ -73,7 +72,7 @@ below L.Equal = tier L.Compare
 below L.And = tier L.Equal
 below L.Or = tier L.And
 
--- a call; the name of one that is a value stands where an expression could begin
+-- a call; where it is a value, its name is marked as the first token of an expression is
 abbrev pub call : Phrase → Phrase
 call name = made R.Call (name · parens (maybe (the expr_side · many (word K.Comma · the expr_side))))
 

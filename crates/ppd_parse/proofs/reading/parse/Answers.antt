@@ -1,4 +1,4 @@
-use Rattle.std.proofs.Common.{◌≡◌, List, ◌∙◌, ap, subst, reverse, length, rules, arith, ◌∷◌, [], ◌++◌, Ok, Err}
+use Rattle.std.proofs.Common.{◌≡◌, List, ◌∙◌, ap, subst, reverse, length, rules, ◌∷◌, [], ◌++◌, Ok, Err}
 use Rattle.ppd_lex.specs.declared.token.Token.{Token}
 use Rattle.ppd_parse.specs.declared.symbol.Symbol.TheVariants as S
 use Rattle.ppd_parse.specs.declared.symbol.Want.{Want}
