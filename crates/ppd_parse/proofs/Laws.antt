@@ -4,7 +4,9 @@ use Rattle.std.proofs.lemmas.List.{append-nil, take-append-drop}
 use Rattle.ppd_parse.specs.declared.symbol.Rule.{Rule}
 use Rattle.ppd_parse.specs.declared.symbol.Rule.TheVariants as R
 use Rattle.ppd_parse.specs.declared.symbol.Want.{Want}
-use Rattle.ppd_parse.specs.Grammar.{Shape, leaf, node, forest, close, Marked, Reads, ReadsAll, exact, operator, wrap, by, nothing, next, source, IsProgram, tokens_of}
+use Rattle.ppd_parse.specs.Grammar.{Shape, leaf, node, forest, close, Marked, Reads, ReadsAll, exact, operator, wrap, by, nothing, next, source, IsParsed, tokens_of}
+use Rattle.ppd_parse.specs.Language.{IsProgram}
+use Rattle.ppd_parse.proofs.FromLanguage.{program_parsed}
 use Rattle.ppd_parse.specs.Leaves.{leaves, leaves_in, leaves_of}
 
 leaves_forest : (f : List Shape) → leaves_in (forest f) ≡ leaves_of f
@@ -37,8 +39,11 @@ mutual
 
 -- The leaves of a program's tree are its tokens.
 pub program_leaves : {zs : List Marked} {f : List Shape} → IsProgram zs f → leaves_of f ≡ tokens_of zs
-program_leaves {zs} {f} p = sym (append-nil (leaves_of f)) ∙ kept_all p
+program_leaves {zs} {f} p = sym (append-nil (leaves_of f)) ∙ kept_all (program_parsed p)
 
 -- A program has a single tree, of a source.
 pub program_root : {zs : List Marked} {f : List Shape} → IsProgram zs f → (g : List Shape) × (f ≡ node R.Source (forest g) ∷ [])
-program_root (next (by source m (next {t = t} r (next wrap nothing))) nothing) = (t, refl)
+program_root p = root (program_parsed p)
+  where
+    root : {zs : List Marked} {f : List Shape} → IsParsed zs f → (g : List Shape) × (f ≡ node R.Source (forest g) ∷ [])
+    root (next (by source m (next {t = t} r (next wrap nothing))) nothing) = (t, refl)

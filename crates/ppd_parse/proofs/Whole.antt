@@ -11,11 +11,13 @@ use Rattle.ppd_parse.specs.declared.symbol.Want.{Want}
 use Rattle.ppd_parse.specs.declared.symbol.Want.TheVariants.{Get}
 use Rattle.ppd_parse.specs.declared.error.SyntaxError.{SyntaxError}
 use Rattle.ppd_parse.specs.declared.error.SyntaxError.TheVariants as E
-use Rattle.ppd_parse.specs.Grammar.{Shape, Marked, kind_of, IsProgram, tokens_of, outside}
+use Rattle.ppd_parse.specs.Grammar.{Shape, Marked, kind_of, IsParsed, tokens_of, outside}
 use Rattle.ppd_parse.specs.Machine.{State, Completed, Shifts, Follows}
 use Rattle.ppd_parse.specs.Stack.{IsOver}
 use Rattle.ppd_parse.specs.Limits.{count_with, count_after, KeepLimits, no_token, token_at, IsTree, IsRefused, Stepped, IsReadTo, EndsAs}
 use Rattle.ppd_parse.proofs.Sample.{completion}
+use Rattle.ppd_parse.proofs.ToLanguage.{parsed_program}
+use Rattle.ppd_parse.proofs.FromLanguage.{program_parsed}
 
 cancel : (us : List Token) {bs cs : List Token} → us ++ bs ≡ us ++ cs → bs ≡ cs
 cancel [] e = e
@@ -38,7 +40,7 @@ count_more n (z ∷ zs) x = count_more (count_with n z) zs x
 
 module _ (ts : List Token) (zs : List Marked) (a : State) (follows : Follows ts zs a) (t : Token) where
   -- a program that goes on with the token goes on so from the state
-  goes_on : (qs : List Marked) (f : List Shape) (more : List Token) → IsProgram qs f → tokens_of qs ≡ ts ++ t ∷ more → (x : Marked) × (rest : List Marked) × (x.token ≡ t) × (qs ≡ zs ++ x ∷ rest) × Completed a (x ∷ rest) f
+  goes_on : (qs : List Marked) (f : List Shape) (more : List Token) → IsParsed qs f → tokens_of qs ≡ ts ++ t ∷ more → (x : Marked) × (rest : List Marked) × (x.token ≡ t) × (qs ≡ zs ++ x ∷ rest) × Completed a (x ∷ rest) f
   goes_on qs f more p e =
       let w = follows.to qs f (t ∷ more) p e in
       go w.0 w.1 w.2 (left zs w.0 ts (t ∷ more) follows.tokens (ap tokens_of (sym w.1) ∙ e))
@@ -54,7 +56,7 @@ module _ (ts : List Token) (zs : List Marked) (a : State) (follows : Follows ts 
     z : Marked
     z = record { token = t; at = at }
 
-    only_so : (qs : List Marked) (f : List Shape) (more : List Token) → IsProgram qs f → tokens_of qs ≡ ts ++ t ∷ more → (others : List Marked) × (qs ≡ zs ++ (let m : Marked = record { token = t; at = at } in m) ∷ others) × Completed b others f
+    only_so : (qs : List Marked) (f : List Shape) (more : List Token) → IsParsed qs f → tokens_of qs ≡ ts ++ t ∷ more → (others : List Marked) × (qs ≡ zs ++ (let m : Marked = record { token = t; at = at } in m) ∷ others) × Completed b others f
     only_so qs f more p e =
         let g = goes_on qs f more p e in
         let s = shifts.to g.0 g.1 f g.2 g.4 in
@@ -66,7 +68,7 @@ module _ (ts : List Token) (zs : List Marked) (a : State) (follows : Follows ts 
       to = λ qs f more p e.
           let o = only_so qs f more p (e ∙ append_assoc ts (t ∷ []) more) in
           (o.0, o.1 ∙ sym (append_assoc zs _ o.0), o.2);
-      from = λ rest f h. subst (λ u. IsProgram u f) (sym (append_assoc zs _ rest)) (follows.from _ f (shifts.from rest f h));
+      from = λ rest f h. subst (λ u. IsParsed u f) (sym (append_assoc zs _ rest)) (follows.from _ f (shifts.from rest f h));
     }
 
 pub start_read : (ts : List Token) → EndOnce ts → (a : State) → a.wants ≡ Get S.Source outside 0 ∷ [] → a.shapes ≡ [] → IsReadTo ts 0 0 a
@@ -121,10 +123,10 @@ module _ (ts : List Token) (i n : ℕ) (a b : State) (lt : i < length ts) (r : I
         tokens = r.follows.tokens;
         rest = c.0;
         tree = c.1;
-        program = r.follows.from c.0 c.1 c.2;
+        program = parsed_program (r.follows.from c.0 c.1 c.2);
         limits = r.limits;
         none = λ qs f more p e.
-            let g = goes_on (take i ts) r.marked a r.follows (token_at ts i) qs f more p e in
+            let g = goes_on (take i ts) r.marked a r.follows (token_at ts i) qs f more (program_parsed p) e in
             s.1 g.0 g.1 f (ap (λ (u : Token). kind_of u.kind) g.2) g.4;
       }
   read_refused (E.Deep place) s =
@@ -140,11 +142,11 @@ module _ (ts : List Token) (i n : ℕ) (a b : State) (lt : i < length ts) (r : I
         token = refl;
         rest = c.0;
         tree = c.1;
-        program = r.follows.from (z ∷ c.0) c.1 (s.1.1.from c.0 c.1 c.2);
+        program = parsed_program (r.follows.from (z ∷ c.0) c.1 (s.1.1.from c.0 c.1 c.2));
         limits = r.limits;
         breaks = s.1.3;
         only = λ qs f more p e.
-            let o = only_so (take i ts) r.marked a r.follows (token_at ts i) s.1.0 b s.1.1 qs f more p e in
+            let o = only_so (take i ts) r.marked a r.follows (token_at ts i) s.1.0 b s.1.1 qs f more (program_parsed p) e in
             (o.0, o.1);
       }
   read_refused (E.Wide place) s =
@@ -160,11 +162,11 @@ module _ (ts : List Token) (i n : ℕ) (a b : State) (lt : i < length ts) (r : I
         token = refl;
         rest = c.0;
         tree = c.1;
-        program = r.follows.from (z ∷ c.0) c.1 (s.1.1.from c.0 c.1 c.2);
+        program = parsed_program (r.follows.from (z ∷ c.0) c.1 (s.1.1.from c.0 c.1 c.2));
         limits = r.limits;
         breaks = (s.1.3, subst (λ k. 257 ≤ count_with k z) r.count s.1.4);
         only = λ qs f more p e.
-            let o = only_so (take i ts) r.marked a r.follows (token_at ts i) s.1.0 b s.1.1 qs f more p e in
+            let o = only_so (take i ts) r.marked a r.follows (token_at ts i) s.1.0 b s.1.1 qs f more (program_parsed p) e in
             (o.0, o.1);
       }
   read_refused E.Memory s = tt
@@ -175,10 +177,10 @@ whole ts i n a f e r ends =
     record {
       marked = r.marked;
       tokens = r.follows.tokens ∙ all;
-      program = subst (λ u. IsProgram u f) (append-nil r.marked) (r.follows.from [] f ends.from);
+      program = parsed_program (subst (λ u. IsParsed u f) (append-nil r.marked) (r.follows.from [] f ends.from));
       limits = r.limits;
       only = λ qs g p q.
-          let w = r.follows.to qs g [] p (q ∙ (sym all ∙ sym (append-nil (take i ts)))) in
+          let w = r.follows.to qs g [] (program_parsed p) (q ∙ (sym all ∙ sym (append-nil (take i ts)))) in
           go qs g w.0 w.1 w.2 (left r.marked w.0 (take i ts) [] r.follows.tokens (ap tokens_of (sym w.1) ∙ (q ∙ (sym all ∙ sym (append-nil (take i ts))))));
     }
   where

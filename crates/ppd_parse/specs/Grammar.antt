@@ -1,4 +1,4 @@
--- The grammar: which lists of tokens are which trees. It knows no limits.
+-- The grammar as the parser reads it: which lists of tokens are which trees, with what begins alike read once.
 --
 -- A production is a list of parts: a symbol Here, Deeper (in one more open construct) or Inside (an
 -- expression), or a Wrap, which makes one node of its construct's trees so far. Lists of the language
@@ -6,10 +6,9 @@
 -- node. Where a call, a place, a change and the assignment of a value begin with the same tokens,
 -- these are read first, and the rest (StmtRest, PlaceRest, Assigned, AssignedRest, NamedRest) wraps
 -- them as what they turned out to be. A binary operator wraps what its level has read so far as its
--- left operand, so every level groups to the left.
-use Rattle.std.specs.Prelude.{◌≡◌, ◌≢◌, ◌+◌, ◌-◌, ℕ, Bool, true, false, List, [], ◌∷◌, ◌++◌, map, length, take, drop, slice_index_or, nat_lt, if◌then◌else◌}
-use Rattle.ppd_lex.specs.declared.token.Token.{Token}
-use Rattle.ppd_lex.specs.declared.token.TokenKind.{TokenKind}
+-- left operand, so every level groups to the left. It reads what the language's grammar reads.
+pub use Rattle.ppd_parse.specs.Trees.{words, marks, kind_of, Shape, Shapes, leaf, node, no_shapes, shape_then, forest, Marked, kind_at, is_operator, deeper, inside, outside, tokens_of}
+use Rattle.std.specs.Prelude.{◌≡◌, ◌≢◌, ◌-◌, ℕ, true, false, List, [], ◌∷◌, ◌++◌, map, length, take, drop}
 use Rattle.ppd_parse.specs.declared.symbol.Kind.{Kind}
 use Rattle.ppd_parse.specs.declared.symbol.Kind.TheVariants as K
 use Rattle.ppd_parse.specs.declared.symbol.Level.{Level}
@@ -23,64 +22,10 @@ use Rattle.ppd_parse.specs.declared.symbol.Part.{Part}
 use Rattle.ppd_parse.specs.declared.symbol.Part.TheVariants as P
 use Rattle.ppd_parse.specs.declared.symbol.Want.{Want}
 use Rattle.ppd_parse.specs.declared.symbol.Want.TheVariants.{Get, Close}
-use Rattle.ppd_lex.specs.declared.token.TokenKind.TheVariants as T
-
--- the keywords and the marks by their numbers
-abbrev pub words : List Kind
-words = K.SharedWord ∷ K.IntWord ∷ K.VoidWord ∷ K.SemWord ∷ K.ChanWord ∷ K.ProcessWord ∷ K.IfWord ∷ K.ElseWord ∷ K.WhileWord ∷ K.ForWord ∷ K.ReturnWord ∷ K.TakeWord ∷ K.GiveWord ∷ K.SendWord ∷ K.RecvWord ∷ K.PrintWord ∷ K.AssertWord ∷ []
-
-abbrev pub marks : List Kind
-marks = K.OrMark ∷ K.AndMark ∷ K.EqualMark ∷ K.UnequalMark ∷ K.AtMostMark ∷ K.AtLeastMark ∷ K.LessMark ∷ K.MoreMark ∷ K.PlusMark ∷ K.MinusMark ∷ K.StarMark ∷ K.SlashMark ∷ K.PercentMark ∷ K.NotMark ∷ K.AssignMark ∷ K.AddMark ∷ K.SubtractMark ∷ K.IncreaseMark ∷ K.DecreaseMark ∷ K.LeftParen ∷ K.RightParen ∷ K.LeftBrace ∷ K.RightBrace ∷ K.LeftBracket ∷ K.RightBracket ∷ K.Semicolon ∷ K.Comma ∷ []
-
--- what a token is to the grammar
-abbrev pub kind_of : TokenKind → Kind
-kind_of (T.Name text) = K.Name
-kind_of (T.Number value) = K.Number
-kind_of (T.Word n) = slice_index_or words n K.Other
-kind_of (T.Mark n) = slice_index_or marks n K.Other
-kind_of T.End = K.End
-
-mutual
-  pub data Shape : Type 0 where
-    leaf : Token → Shape
-    node : Rule → Shapes → Shape
-
-  pub data Shapes : Type 0 where
-    no_shapes : Shapes
-    shape_then : Shape → Shapes → Shapes
-
-abbrev pub forest : List Shape → Shapes
-forest [] = no_shapes
-forest (t ∷ ts) = shape_then t (forest ts)
 
 -- the trees from the base on become one node
 abbrev pub close : Rule → ℕ → List Shape → List Shape
 close r b s = take b s ++ node r (forest (drop b s)) ∷ []
-
--- a token with where it stands: how many constructs are open at it, and whether it stands in an expression
-pub record Marked : Type 0 where
-  pub token : Token
-  pub at : At
-
-abbrev pub kind_at : Marked → Kind
-kind_at x = kind_of x.token.kind
-
--- the binary operators of each level
-abbrev pub is_operator : Level → Kind → Bool
-is_operator L.Product K.StarMark = true
-is_operator L.Product K.SlashMark = true
-is_operator L.Product K.PercentMark = true
-is_operator L.Sum K.PlusMark = true
-is_operator L.Sum K.MinusMark = true
-is_operator L.Compare K.LessMark = true
-is_operator L.Compare K.AtMostMark = true
-is_operator L.Compare K.MoreMark = true
-is_operator L.Compare K.AtLeastMark = true
-is_operator L.Equal K.EqualMark = true
-is_operator L.Equal K.UnequalMark = true
-is_operator L.And K.AndMark = true
-is_operator L.Or K.OrMark = true
-is_operator _ _ = false
 
 -- the ways in which a symbol is made up; those of one symbol stand together
 pub data Production : Symbol → Type 0 where
@@ -252,7 +197,7 @@ parts local_start = P.Here (S.Exact K.AssignMark) ∷ P.Here S.Value ∷ []
 parts local_length = P.Deeper (S.Exact K.LeftBracket) ∷ P.Deeper (S.Exact K.Number) ∷ P.Deeper (S.Exact K.RightBracket) ∷ []
 parts value_recv = P.Here (S.Exact K.RecvWord) ∷ P.Deeper (S.Exact K.LeftParen) ∷ P.Deeper (S.Exact K.Name) ∷ P.Deeper (S.Exact K.RightParen) ∷ P.Wrap R.Value ∷ []
 parts value_plain = P.Here S.CallOrExpr ∷ P.Wrap R.Value ∷ []
-parts call_or_name = P.Here (S.Exact K.Name) ∷ P.Here S.NamedRest ∷ []
+parts call_or_name = P.Inside (S.Exact K.Name) ∷ P.Here S.NamedRest ∷ []
 parts other_expr = P.Inside S.OtherUnary ∷ P.Inside S.ExprRest ∷ []
 parts named_call = P.Deeper (S.Exact K.LeftParen) ∷ P.Deeper S.Args ∷ P.Wrap R.Call ∷ []
 parts named_expr = P.Inside S.PlaceEnd ∷ P.Wrap R.Place ∷ P.Wrap R.Unary ∷ P.Inside S.ExprRest ∷ []
@@ -298,7 +243,7 @@ parts rest_subtract = P.Here (S.Exact K.SubtractMark) ∷ P.Here S.Expr ∷ P.Wr
 parts rest_increase = P.Here (S.Exact K.IncreaseMark) ∷ P.Wrap R.Change ∷ P.Here (S.Exact K.Semicolon) ∷ P.Wrap R.Stmt ∷ []
 parts rest_decrease = P.Here (S.Exact K.DecreaseMark) ∷ P.Wrap R.Change ∷ P.Here (S.Exact K.Semicolon) ∷ P.Wrap R.Stmt ∷ []
 parts assigned_recv = P.Here (S.Exact K.RecvWord) ∷ P.Deeper (S.Exact K.LeftParen) ∷ P.Deeper (S.Exact K.Name) ∷ P.Deeper (S.Exact K.RightParen) ∷ P.Wrap R.Value ∷ P.Here (S.Exact K.Semicolon) ∷ P.WrapBack R.Stmt ∷ []
-parts assigned_name = P.Here (S.Exact K.Name) ∷ P.Here S.AssignedRest ∷ []
+parts assigned_name = P.Inside (S.Exact K.Name) ∷ P.Here S.AssignedRest ∷ []
 parts assigned_other = P.Inside S.OtherUnary ∷ P.Inside S.ExprRest ∷ P.WrapBack R.Change ∷ P.Here (S.Exact K.Semicolon) ∷ P.WrapBack R.Stmt ∷ []
 parts assigned_call = P.Deeper (S.Exact K.LeftParen) ∷ P.Deeper S.Args ∷ P.Wrap R.Call ∷ P.Wrap R.Value ∷ P.Here (S.Exact K.Semicolon) ∷ P.WrapBack R.Stmt ∷ []
 parts assigned_expr = P.Inside S.PlaceEnd ∷ P.Wrap R.Place ∷ P.Wrap R.Unary ∷ P.Inside S.ExprRest ∷ P.WrapBack R.Change ∷ P.Here (S.Exact K.Semicolon) ∷ P.WrapBack R.Stmt ∷ []
@@ -335,13 +280,6 @@ abbrev pub MayStand : {s : Symbol} → Production s → List Marked → Type 0
 MayStand p [] = Unit {0}
 MayStand p (x ∷ ts) = Stands p (kind_at x)
 
--- one more construct is open; 65 stands for 65 or more
-abbrev pub deeper : At → At
-deeper a = record { depth = if nat_lt a.depth 65 then a.depth + 1 else a.depth; inside = a.inside }
-
-abbrev pub inside : At → At
-inside a = record { depth = a.depth; inside = true }
-
 -- a part at a place, where the trees of its construct begin at the base; two trees stand before the base in WrapBack
 abbrev pub want_in : At → ℕ → Part → Want
 want_in a b (P.Here y) = Get y a b
@@ -375,13 +313,6 @@ mutual
     nothing : {s : List Shape} {ts : List Marked} → ReadsAll [] s ts s ts
     next : {w : Want} {ws : List Want} {s t u : List Shape} {ts mid rest : List Marked} → Reads w s ts t mid → ReadsAll ws t mid u rest → ReadsAll (w ∷ ws) s ts u rest
 
--- outside every construct
-abbrev pub outside : At
-outside = record { depth = 0; inside = false }
-
--- the marked tokens are a program with this tree
-abbrev pub IsProgram : List Marked → List Shape → Type 0
-IsProgram ts f = ReadsAll (Get S.Source outside 0 ∷ []) [] ts f []
-
-abbrev pub tokens_of : List Marked → List Token
-tokens_of zs = map (λ x. x.token) zs
+-- the parser reads the marked tokens as this tree
+abbrev pub IsParsed : List Marked → List Shape → Type 0
+IsParsed ts f = ReadsAll (Get S.Source outside 0 ∷ []) [] ts f []

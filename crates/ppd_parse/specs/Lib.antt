@@ -3,6 +3,7 @@ pub mod Below
 pub mod Choice
 pub mod Grammar
 pub mod Grown
+pub mod Language
 pub mod Leaves
 pub mod Limits
 pub mod Machine
@@ -12,3 +13,4 @@ pub mod Size
 pub mod Stack
 pub mod Table
 pub mod Tree
+pub mod Trees

@@ -8,7 +8,8 @@ use Rattle.ppd_parse.specs.declared.symbol.Kind.TheVariants as K
 use Rattle.ppd_parse.specs.declared.error.SyntaxError.{SyntaxError}
 use Rattle.ppd_parse.specs.declared.error.SyntaxError.TheVariants as E
 use Rattle.ppd_parse.specs.declared.symbol.At.{At}
-use Rattle.ppd_parse.specs.Grammar.{Shape, Marked, kind_at, kind_of, IsProgram, tokens_of}
+use Rattle.ppd_parse.specs.Grammar.{Shape, Marked, kind_at, kind_of, tokens_of}
+use Rattle.ppd_parse.specs.Language.{IsProgram}
 use Rattle.ppd_parse.specs.Machine.{State, Completed, Shifts, IsDead, Follows}
 use Rattle.ppd_parse.specs.Stack.{is_binary, IsGood, IsOver}
 

@@ -13,7 +13,7 @@ use Rattle.ppd_parse.specs.declared.growth.Step.TheVariants as M
 use Rattle.ppd_parse.specs.Rank.{rank}
 use Rattle.ppd_parse.specs.Stack.{IsGood, IsOver}
 use Rattle.ppd_parse.specs.Table.{shapes_of}
-use Rattle.ppd_parse.specs.Grammar.{Shape, Marked, kind_at, kind_of, ReadsAll, IsProgram, tokens_of}
+use Rattle.ppd_parse.specs.Grammar.{Shape, Marked, kind_at, kind_of, ReadsAll, IsParsed, tokens_of}
 
 -- what is still wanted, and the trees so far
 pub record State : Type 0 where
@@ -41,8 +41,8 @@ pub record Shifts (z : Marked) (a b : State) : Type 0 where
 -- the tokens so marked lead to the state: what completes it completes a program, and the tokens have no other marks
 pub record Follows (ts : List Token) (zs : List Marked) (a : State) : Type 0 where
   pub tokens : tokens_of zs ≡ ts
-  pub to : (qs : List Marked) (f : List Shape) (more : List Token) → IsProgram qs f → tokens_of qs ≡ ts ++ more → (rest : List Marked) × (qs ≡ zs ++ rest) × Completed a rest f
-  pub from : (rest : List Marked) (f : List Shape) → Completed a rest f → IsProgram (zs ++ rest) f
+  pub to : (qs : List Marked) (f : List Shape) (more : List Token) → IsParsed qs f → tokens_of qs ≡ ts ++ more → (rest : List Marked) × (qs ≡ zs ++ rest) × Completed a rest f
+  pub from : (rest : List Marked) (f : List Shape) → Completed a rest f → IsParsed (zs ++ rest) f
 
 abbrev pub wanting : Want → State → State
 wanting w a = record { wants = w ∷ a.wants; shapes = a.shapes }

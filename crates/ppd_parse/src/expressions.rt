@@ -50,7 +50,7 @@ fn expand_call_or_expr(
             at,
             base,
             &[
-                Part::Here(Symbol::Exact(Kind::Name)),
+                Part::Inside(Symbol::Exact(Kind::Name)),
                 Part::Here(Symbol::NamedRest),
             ],
         ),

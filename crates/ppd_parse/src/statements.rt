@@ -465,7 +465,7 @@ fn expand_assigned(
             at,
             base,
             &[
-                Part::Here(Symbol::Exact(Kind::Name)),
+                Part::Inside(Symbol::Exact(Kind::Name)),
                 Part::Here(Symbol::AssignedRest),
             ],
         ),

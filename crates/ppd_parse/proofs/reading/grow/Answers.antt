@@ -1,4 +1,4 @@
-use Rattle.std.proofs.Common.{◌≡◌, List, ◌∙◌, ap, subst, reverse, ◌∷◌, [], ◌++◌, Ok, Err, arith}
+use Rattle.std.proofs.Common.{◌≡◌, List, ◌∙◌, ap, subst, reverse, length, rules, ◌∷◌, [], ◌++◌, Ok, Err, arith}
 use Rattle.ppd_lex.specs.declared.token.Token.{Token}
 use Rattle.ppd_parse.specs.declared.symbol.Symbol.TheVariants as S
 use Rattle.ppd_parse.specs.declared.symbol.Want.{Want}
@@ -7,7 +7,8 @@ use Rattle.ppd_parse.specs.Grammar.{outside}
 use Rattle.ppd_parse.specs.Limits.{Stepped, token_at}
 use Rattle.ppd_parse.specs.Machine.{state_of}
 use Rattle.ppd_parse.specs.Rank.{rank}
-use Rattle.ppd_parse.proofs.Whole.{start_read, read_next, read_refused, told}
+use Rattle.ppd_parse.specs.Table.{shapes_of}
+use Rattle.ppd_parse.proofs.Whole.{start_read, read_next, read_refused, whole, told}
 use Rattle.ppd_parse.proofs.reading.grow.Goals as goal
 
 source : Want
@@ -42,3 +43,11 @@ returns-in-Err-clause-refused g c =
     let b = state_of c.step.new.wants.items c.step.new.grove in
     let t : c.token-item.result ≡ token_at ts i = told ts i c.token-item.result c.loop-token-test.true c.token-item.is in
     read_refused ts i c.loop-token.count a b c.loop-token-test.true c.loop-token.invariant.read c.in-Err.error (subst (λ (x : Token). Stepped c.loop-token.count x (Err c.in-Err.error) a b) t c.in-Err.ensures.stepped)
+
+pub returns-clause-tree : goal.returns-clause-tree
+returns-clause-tree c =
+    let ts = c.args.tokens.now in
+    let i = c.loop-token.token-index in
+    let a = state_of c.loop-token.wants.items c.loop-token.grove in
+    let end : i ≡ length ts = search rules in
+    whole ts i c.loop-token.count a (shapes_of c.finish.new.grove.nodes.items c.finish.new.grove.roots.items) end c.loop-token.invariant.read c.in_ok-finish.ensures

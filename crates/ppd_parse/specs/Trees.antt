@@ -1,0 +1,78 @@
+-- The trees over tokens, and the tokens with where they stand.
+use Rattle.std.specs.Prelude.{◌+◌, Bool, true, false, List, [], ◌∷◌, map, slice_index_or, nat_lt, if◌then◌else◌}
+use Rattle.ppd_lex.specs.declared.token.Token.{Token}
+use Rattle.ppd_lex.specs.declared.token.TokenKind.{TokenKind}
+use Rattle.ppd_lex.specs.declared.token.TokenKind.TheVariants as T
+use Rattle.ppd_parse.specs.declared.symbol.Kind.{Kind}
+use Rattle.ppd_parse.specs.declared.symbol.Kind.TheVariants as K
+use Rattle.ppd_parse.specs.declared.symbol.Level.{Level}
+use Rattle.ppd_parse.specs.declared.symbol.Level.TheVariants as L
+use Rattle.ppd_parse.specs.declared.symbol.Rule.{Rule}
+use Rattle.ppd_parse.specs.declared.symbol.At.{At}
+
+-- the keywords and the marks by their numbers
+abbrev pub words : List Kind
+words = K.SharedWord ∷ K.IntWord ∷ K.VoidWord ∷ K.SemWord ∷ K.ChanWord ∷ K.ProcessWord ∷ K.IfWord ∷ K.ElseWord ∷ K.WhileWord ∷ K.ForWord ∷ K.ReturnWord ∷ K.TakeWord ∷ K.GiveWord ∷ K.SendWord ∷ K.RecvWord ∷ K.PrintWord ∷ K.AssertWord ∷ []
+
+abbrev pub marks : List Kind
+marks = K.OrMark ∷ K.AndMark ∷ K.EqualMark ∷ K.UnequalMark ∷ K.AtMostMark ∷ K.AtLeastMark ∷ K.LessMark ∷ K.MoreMark ∷ K.PlusMark ∷ K.MinusMark ∷ K.StarMark ∷ K.SlashMark ∷ K.PercentMark ∷ K.NotMark ∷ K.AssignMark ∷ K.AddMark ∷ K.SubtractMark ∷ K.IncreaseMark ∷ K.DecreaseMark ∷ K.LeftParen ∷ K.RightParen ∷ K.LeftBrace ∷ K.RightBrace ∷ K.LeftBracket ∷ K.RightBracket ∷ K.Semicolon ∷ K.Comma ∷ []
+
+-- what a token is to the grammar
+abbrev pub kind_of : TokenKind → Kind
+kind_of (T.Name text) = K.Name
+kind_of (T.Number value) = K.Number
+kind_of (T.Word n) = slice_index_or words n K.Other
+kind_of (T.Mark n) = slice_index_or marks n K.Other
+kind_of T.End = K.End
+
+mutual
+  pub data Shape : Type 0 where
+    leaf : Token → Shape
+    node : Rule → Shapes → Shape
+
+  pub data Shapes : Type 0 where
+    no_shapes : Shapes
+    shape_then : Shape → Shapes → Shapes
+
+abbrev pub forest : List Shape → Shapes
+forest [] = no_shapes
+forest (t ∷ ts) = shape_then t (forest ts)
+
+-- a token with where it stands: how many constructs are open at it, and whether it stands in an expression
+pub record Marked : Type 0 where
+  pub token : Token
+  pub at : At
+
+abbrev pub kind_at : Marked → Kind
+kind_at x = kind_of x.token.kind
+
+-- the binary operators of each level
+abbrev pub is_operator : Level → Kind → Bool
+is_operator L.Product K.StarMark = true
+is_operator L.Product K.SlashMark = true
+is_operator L.Product K.PercentMark = true
+is_operator L.Sum K.PlusMark = true
+is_operator L.Sum K.MinusMark = true
+is_operator L.Compare K.LessMark = true
+is_operator L.Compare K.AtMostMark = true
+is_operator L.Compare K.MoreMark = true
+is_operator L.Compare K.AtLeastMark = true
+is_operator L.Equal K.EqualMark = true
+is_operator L.Equal K.UnequalMark = true
+is_operator L.And K.AndMark = true
+is_operator L.Or K.OrMark = true
+is_operator _ _ = false
+
+-- one more construct is open; 65 stands for 65 or more
+abbrev pub deeper : At → At
+deeper a = record { depth = if nat_lt a.depth 65 then a.depth + 1 else a.depth; inside = a.inside }
+
+abbrev pub inside : At → At
+inside a = record { depth = a.depth; inside = true }
+
+-- outside every construct
+abbrev pub outside : At
+outside = record { depth = 0; inside = false }
+
+abbrev pub tokens_of : List Marked → List Token
+tokens_of zs = map (λ x. x.token) zs
