@@ -7,6 +7,7 @@ use Rattle.std.proofs.lemmas.List.Concat.{flat_map-append}
 use Rattle.std.proofs.lemmas.List.Elements.{All-head, All-tail, All-map, All-weaker}
 use Rattle.ppd_ast.specs.Tally.{IsOnce}
 use Rattle.ppd_lex.specs.declared.token.Token.{Token}
+use Rattle.ppd_parse.proofs.FromLanguage.{program_parsed}
 use Rattle.ppd_parse.specs.declared.symbol.Rule.TheVariants as R
 use Rattle.ppd_parse.specs.declared.node.Growth.{Growth}
 use Rattle.ppd_parse.specs.declared.node.Node.{Node}
@@ -194,7 +195,7 @@ one_tree ts f t = let root = program_root t.program in ap length root.1
 pub few_nodes : (ts : List Token) (gs : List Growth) (roots : List ℕ) → IsGrown gs roots → IsTree ts (shapes_of gs roots) → length gs + 1 ≤ 3 * length ts
 few_nodes ts gs roots grown t =
     let tokens : length t.marked ≡ length ts = sym (length-map t.marked (λ x. x.token)) ∙ ap length t.tokens in
-    omega (arith, counted_size gs roots grown.4, tokens, program_size t.program)
+    omega (arith, counted_size gs roots grown.4, tokens, program_size (program_parsed t.program))
 
 pub short : (ts : List Token) (gs : List Growth) (roots : List ℕ) → length ts ≤ 2 ^ 30 → IsGrown gs roots → IsTree ts (shapes_of gs roots) → length gs ≤ 2 ^ 32
 short ts gs roots few grown t = omega (arith, few_nodes ts gs roots grown t)
@@ -211,7 +212,7 @@ numbered ts gs roots ns e grown t = subst (IsRenumbered ts) (sym e) (go roots gr
     go [] g t h = absurd (omega arith)
     go (r ∷ []) g t h = record {
       tree = subst (IsTree ts) (sym (same_tree gs r g)) t;
-      table = is_table gs r g (counted_inner gs (r ∷ []) g.4 (program_inner t.program));
+      table = is_table gs r g (counted_inner gs (r ∷ []) g.4 (program_inner (program_parsed t.program)));
       few = omega (arith, few_nodes ts gs (r ∷ []) g t, length-renumbered gs r g);
     }
     go (r ∷ (q ∷ ids)) g t h = absurd (omega arith)

@@ -9,7 +9,7 @@ use Rattle.ppd_parse.specs.declared.symbol.Symbol.TheVariants as S
 use Rattle.ppd_parse.specs.declared.symbol.At.{At}
 use Rattle.ppd_parse.specs.declared.symbol.Want.{Want}
 use Rattle.ppd_parse.specs.declared.symbol.Want.TheVariants.{Get, Close}
-use Rattle.ppd_parse.specs.Grammar.{Shape, leaf, node, forest, close, Marked, Production, parts, operand_parts, operand, wants_in, base_in, Reads, ReadsAll, exact, operator, wrap, by, nothing, next, IsProgram}
+use Rattle.ppd_parse.specs.Grammar.{Shape, leaf, node, forest, close, Marked, Production, parts, operand_parts, operand, wants_in, base_in, Reads, ReadsAll, exact, operator, wrap, by, nothing, next, IsParsed}
 use Rattle.ppd_parse.specs.Size.{weigh, weigh_in, weigh_all, size_of, one_for_leaf}
 
 -- ---- trees side by side, and as the children of a node
@@ -121,7 +121,7 @@ mutual
   sized_all nothing = omega arith
   sized_all (next r rs) = omega (arith, sized r, sized_all rs)
 
-pub program_size : {zs : List Marked} {f : List Shape} → IsProgram zs f → size_of f + 1 ≤ 3 * length zs
+pub program_size : {zs : List Marked} {f : List Shape} → IsParsed zs f → size_of f + 1 ≤ 3 * length zs
 program_size p = omega (arith, sized_all p)
 
 -- ---- no node but a token has the rule of one
@@ -157,5 +157,5 @@ mutual
   inner_all nothing = omega arith
   inner_all (next r rs) = omega (arith, inner r, inner_all rs)
 
-pub program_inner : {zs : List Marked} {f : List Shape} → IsProgram zs f → weigh_all 0 one_for_leaf f ≡ 0
+pub program_inner : {zs : List Marked} {f : List Shape} → IsParsed zs f → weigh_all 0 one_for_leaf f ≡ 0
 program_inner p = omega (arith, inner_all p)

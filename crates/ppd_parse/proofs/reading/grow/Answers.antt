@@ -45,9 +45,9 @@ returns-in-Err-clause-refused g c =
     read_refused ts i c.loop-token.count a b c.loop-token-test.true c.loop-token.invariant.read c.in-Err.error (subst (λ (x : Token). Stepped c.loop-token.count x (Err c.in-Err.error) a b) t c.in-Err.ensures.stepped)
 
 pub returns-clause-tree : goal.returns-clause-tree
-returns-clause-tree c =
+returns-clause-tree g c =
     let ts = c.args.tokens.now in
     let i = c.loop-token.token-index in
     let a = state_of c.loop-token.wants.items c.loop-token.grove in
     let end : i ≡ length ts = search rules in
-    whole ts i c.loop-token.count a (shapes_of c.finish.new.grove.nodes.items c.finish.new.grove.roots.items) end c.loop-token.invariant.read c.in_ok-finish.ensures
+    whole ts i c.loop-token.count a (shapes_of c.finish.new.grove.nodes.items c.finish.new.grove.roots.items) end c.loop-token.invariant.read c.in_ok-finish.ensures.ends
