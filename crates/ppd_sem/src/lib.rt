@@ -3,6 +3,7 @@
 
 mod asking;
 mod cost;
+mod describing;
 mod effect;
 mod eval;
 mod event;
@@ -11,12 +12,14 @@ mod frame;
 mod frames;
 mod looking;
 mod proc;
+mod reading;
 mod stack;
 mod starting;
 mod tables;
 mod todos;
 
 pub use asking::{Pause, ask};
+pub use describing::describe;
 pub use event::{Access, Event, Spot};
 pub use feeding::feed;
 pub use looking::look;
