@@ -1,5 +1,5 @@
 -- What the tables say of a statement.
-use Rattle.std.proofs.Common.{◌≡◌, ℕ, suc, ◌<◌, ◌≤◌, ◌^◌, ℤ, List, [], ◌∷◌, length, Option, Some, None, Ok, Err, subst, arith}
+use Rattle.std.proofs.Common.{◌≡◌, ℕ, suc, ◌<◌, ◌≤◌, ◌^◌, ℤ, List, [], ◌∷◌, length, Some, None, Ok, Err, subst, arith}
 use Rattle.std.specs.List.{All}
 use Rattle.ppd_ast.specs.Term.{term}
 use Rattle.ppd_ast.specs.declared.program.Expr.{Expr}

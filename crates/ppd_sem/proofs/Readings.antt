@@ -8,7 +8,6 @@ use Rattle.ppd_ast.specs.Term.{term, terms, node}
 use Rattle.ppd_ast.specs.Table.{AreChildrenBelow, EachAt}
 use Rattle.ppd_ast.proofs.Terms.{term_read}
 use Rattle.ppd_sem.specs.declared.asking.Pause.{Pause}
-use Rattle.ppd_sem.specs.declared.event.Access.{Access}
 use Rattle.ppd_sem.specs.Asked.{Asked, once}
 use Rattle.ppd_sem.specs.Reads.{reads_of}
 

@@ -229,7 +229,12 @@ fn head_value(program: &Program, proc: &Proc, todo: Todo) -> Option<i64>
 {
     let value = valued(kind_at(program, todo.stmt))?;
     let exprs = program.exprs.as_slice();
-    match ask(exprs, value, top_cells(&proc.frames), proc.answers.as_slice()) {
+    match ask(
+        exprs,
+        value,
+        top_cells(&proc.frames),
+        proc.answers.as_slice(),
+    ) {
         Ok((value, _)) => Some(value),
         Err(_) => None,
     }

@@ -13,12 +13,7 @@ use crate::event::{Access, Spot};
 use ppd_ast::{Expr, Kind, Memory, Seq, Target};
 
 /// Adds the read of a local cell.
-fn read_local(
-    reads: &mut Seq<Access>,
-    frame: u8,
-    cells: &[i64],
-    cell: u16,
-) -> Result<(), Memory>
+fn read_local(reads: &mut Seq<Access>, frame: u8, cells: &[i64], cell: u16) -> Result<(), Memory>
     requires { cell < length cells.now }
     ensures { OnOk result (reads.new ≡ reads.old ++ local_read frame cells.now cell) }
 {

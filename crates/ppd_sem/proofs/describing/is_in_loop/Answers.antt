@@ -1,4 +1,4 @@
-use Rattle.std.proofs.Common.{◌≡◌, ◌+◌, ◌<◌, ◌∷◌, drop, length, sym, ◌∙◌, arith}
+use Rattle.std.proofs.Common.{◌≡◌, ◌+◌, ◌<◌, ◌∷◌, drop, sym, ◌∙◌, arith}
 use Rattle.ppd_sem.specs.Described.{is_in_loop}
 use Rattle.ppd_sem.proofs.Describes.{ends_here, next_top, runs_below, runs_here}
 use Rattle.ppd_sem.proofs.describing.is_in_loop.Goals as goal
