@@ -10,6 +10,7 @@ mod event;
 mod feeding;
 mod frame;
 mod frames;
+mod laws;
 mod looking;
 mod proc;
 mod reading;
@@ -22,6 +23,10 @@ pub use asking::{Pause, ask};
 pub use describing::describe;
 pub use event::{Access, Event, Spot};
 pub use feeding::feed;
+pub use laws::{
+    arguments_come_first, arithmetic_is_exact, divides_toward_zero, index_comes_first, steps_end,
+    stops_early, valid_can_run,
+};
 pub use looking::look;
 pub use ppd_ast::{Status, SyncKind, Trap};
 pub use proc::{Answer, Frame, Need, Proc, Todo};
