@@ -2,8 +2,14 @@
 #![tactic(auto)]
 
 #[cfg(test)]
+mod alone;
+#[cfg(test)]
+mod alone_tests;
+#[cfg(test)]
 mod buffer;
 #[cfg(test)]
 mod limits;
+#[cfg(test)]
+mod rows;
 #[cfg(test)]
 mod tests;

@@ -1,5 +1,5 @@
 ghost use Rattle.std.specs.Prelude.{◌≡◌, ◌+◌, ◌<◌, ◌≤◌, ◌^◌, true, Some, [], ◌∷◌, length, slice_get, IfOk, IsSomeAnd};
-ghost use Rattle.ppd_sem.specs.Described.{cleared as cleared_of, described, ends_body as ends_body_of, frame_of as frame_number, is_block as is_block_of, is_event, is_in_loop as is_in_loop_of, local_write as local_write_of, parameters as parameters_of, trap_of as trap_of_need, value_at, valued as valued_of, writes_by, writes_of_deed};
+ghost use Rattle.ppd_sem.specs.Described.{cleared as cleared_of, described, ends_body as ends_body_of, frame_of as frame_number, is_block as is_block_of, is_event as is_event_of, is_in_loop as is_in_loop_of, local_write as local_write_of, parameters as parameters_of, trap_of as trap_of_need, value_at, valued as valued_of, writes_by, writes_of_deed};
 ghost use Rattle.ppd_sem.specs.Effects.{HasRange, head_deed_of};
 ghost use Rattle.ppd_sem.specs.Process.{head_deed, kind_of, need_of, top_cells as top_cells_of};
 ghost use Rattle.ppd_sem.specs.Reads.{reads_of_kind};
@@ -278,6 +278,18 @@ fn event_at(
     })
 }
 
+impl Need {
+    /// Whether a step of this need finishes or traps a statement.
+    pub fn is_event(self) -> bool
+        ensures { result ≡ is_event_of self }
+    {
+        !matches!(
+            self,
+            Need::Read(_) | Need::Enter { .. } | Need::Budget | Need::Stopped
+        )
+    }
+}
+
 /// The event of the next step of a process, which finishes or traps a statement. Its number is
 /// None: it is told by the world alone. `Memory` is want of memory.
 pub fn describe(
@@ -290,7 +302,7 @@ pub fn describe(
     requires program { IsRunnable program.now }
     requires plan { IsNumbered plan.now }
     requires proc { IsRunning program.now proc.now }
-    requires event { is_event (need_of program.now plan.now proc.now) ≡ true }
+    requires event { is_event_of (need_of program.now plan.now proc.now) ≡ true }
     ensures { IfOk result (λ event. IsSomeAnd (slice_get proc.now.todo 0) (λ todo. event ≡ described program.now plan.now proc.now todo answer.now)) }
 {
     match head(proc) {
