@@ -1,302 +1,311 @@
 use crate::alone::{Ran, run};
 use crate::rows::{
-    each_need, each_need_plan, endless, leaf, leaf_plan, never_entered, never_entered_plan,
-    of_value, recursion, recursion_plan, short_circuit, single_plan,
+    Does, each_need, each_need_plan, endless, leaf, leaf_plan, never_entered, never_entered_plan,
+    of_value, recursion, recursion_plan, short_circuit, short_circuit_unguarded, single_plan,
 };
-use ppd_ast::{Expr, Op, Seq};
-use ppd_sem::{Access, Event, Need, Spot, Status, Trap};
+use ppd_ast::{Expr, Op, Plan, Program};
+use ppd_sem::{Access, Need, Spot, Status, Trap};
 use std::alloc::{AllocError, Global};
-use std::process::Abort;
-use std::test::Fail;
 
 const BUDGET: u32 = 100_000;
 
+/// The process of a row, run for so many steps. None where the row is not valid.
+fn row(
+    alloc: Global,
+    program: Result<Program, AllocError>,
+    plan: Result<Plan, AllocError>,
+    budget: u32,
+    steps: usize,
+) -> Option<Ran> {
+    match (program, plan) {
+        (Ok(program), Ok(plan)) => run(alloc, &program, &plan, budget, steps),
+        _ => None,
+    }
+}
+
 /// A local cell of this frame, with its value.
-fn local(frame: u8, cell: u16, value: i64) -> Access {
+const fn local(frame: u8, cell: u16, value: i64) -> Access {
     let spot = Spot::Local { frame, cell };
     Access { spot, value }
 }
 
 /// A shared cell with its value.
-fn shared(cell: u16, value: i64) -> Access {
+const fn shared(cell: u16, value: i64) -> Access {
     let spot = Spot::Shared(cell);
     Access { spot, value }
 }
 
-/// An event that did not trap.
-fn event(
-    alloc: Global,
+/// Whether the process ended like this, after so many steps, with these prints.
+fn ends(ran: &Ran, status: Status, steps: u32, prints: &[i64]) -> bool {
+    ran.proc.status == Some(status)
+        && ran.proc.steps == steps
+        && ran.proc.prints.as_slice() == prints
+}
+
+/// Whether the event with this number is of this statement, with these reads, writes and value,
+/// without a number of its own and without a trap.
+fn is_event(
+    ran: &Ran,
+    number: usize,
     stmt: u32,
     reads: &[Access],
     writes: &[Access],
     value: Option<i64>,
-) -> Result<Event, AllocError> {
-    Ok(Event {
-        stmt,
-        reads: Seq::from_vec(Vec::from_slice(alloc, reads)?),
-        writes: Seq::from_vec(Vec::from_slice(alloc, writes)?),
-        value,
-        number: None,
-        trap: None,
-    })
+) -> bool {
+    let Some(event) = ran.events.as_slice().get(number) else {
+        return false;
+    };
+    let listed = event.reads.as_slice() == reads && event.writes.as_slice() == writes;
+    let told = event.stmt == stmt && event.value == value;
+    listed && told && event.number.is_none() && event.trap.is_none()
 }
 
-/// An event that trapped: it writes nothing.
-fn trapped(
-    alloc: Global,
-    stmt: u32,
-    reads: &[Access],
-    value: Option<i64>,
-    trap: Trap,
-) -> Result<Event, AllocError> {
-    let mut event = event(alloc, stmt, reads, &[], value)?;
-    event.trap = Some(trap);
-    Ok(event)
+/// Whether the last event is the trap of this statement, with these reads and this value, and no
+/// write.
+fn is_trap(ran: &Ran, stmt: u32, reads: &[Access], value: Option<i64>, trap: Trap) -> bool {
+    let Some(event) = ran.events.as_slice().last() else {
+        return false;
+    };
+    let listed = event.reads.as_slice() == reads && event.writes.len() == 0;
+    let told = event.stmt == stmt && event.value == value;
+    listed && told && event.number.is_none() && event.trap == Some(trap)
 }
 
-/// The status, the steps and the prints of a process.
-fn assert_ends(rt: &impl Abort, ran: &Ran, status: Status, steps: u32, prints: &[i64]) {
-    assert_eq!(rt; ran.proc.status, Some(status));
-    assert_eq!(rt; ran.proc.steps, steps);
-    assert_eq!(rt; ran.proc.prints.as_slice(), prints);
+/// Whether the step with this number had this need.
+fn is_need(ran: &Ran, number: usize, need: Need) -> bool {
+    match ran.needs.as_slice().get(number) {
+        Some(found) => *found == need,
+        None => false,
+    }
 }
 
 // `f(2)` prints 3 after 14 steps; 64 open calls are the most.
 #[test]
-fn recursion_to_its_depth(rt: HostRuntime) -> Result<(), Fail> {
+fn recursion_to_its_depth(rt: HostRuntime) {
     let alloc = rt.alloc();
-    let plan = recursion_plan(alloc)?;
-    for (depth, status, steps, printed) in [
-        (2, Status::Ended, 14, Some(3)),
-        (63, Status::Ended, 258, Some(64)),
-        (64, Status::Trap(Trap::Depth), 193, None),
-    ] {
-        let program = recursion(alloc, depth)?;
-        let ran = run(alloc, &program, &plan, BUDGET, 300).expect(&rt, "a valid row");
-        assert_eq!(rt; ran.proc.status, Some(status), "at depth {depth}");
-        assert_eq!(rt; ran.proc.steps, steps, "at depth {depth}");
-        assert_eq!(rt; ran.proc.prints.as_slice().first().copied(), printed);
+    for (depth, printed, steps) in [(2, 3, 14), (63, 64, 258)] {
+        let ran = row(
+            alloc,
+            recursion(alloc, depth),
+            recursion_plan(alloc),
+            BUDGET,
+            300,
+        )
+        .expect(&rt, "a valid row");
+        assert!(rt;
+            ends(&ran, Status::Ended, steps, &[printed]),
+            "at depth {depth}"
+        );
     }
-    Ok(())
 }
 
 // A receiving local is written by no event: neither by the call's nor by the return's.
 #[test]
-fn events_of_a_recursion(rt: HostRuntime) -> Result<(), Fail> {
+fn events_of_a_recursion(rt: HostRuntime) {
     let alloc = rt.alloc();
-    let plan = recursion_plan(alloc)?;
-    let program = recursion(alloc, 2)?;
-    let ran = run(alloc, &program, &plan, BUDGET, 300).expect(&rt, "a valid row");
-    let events = ran.events.as_slice();
-    assert_eq!(rt; events.len(), 14);
-    let call = event(alloc, 4, &[], &[local(1, 0, 2)], None)?;
-    assert_eq!(rt; events.first(), Some(&call));
-    let test = event(alloc, 1, &[local(0, 0, 2)], &[], Some(1))?;
-    assert_eq!(rt; events.get(2), Some(&test));
-    let inner = event(alloc, 2, &[local(0, 0, 2)], &[local(1, 0, 1)], None)?;
-    assert_eq!(rt; events.get(3), Some(&inner));
-    let back = event(alloc, 3, &[local(0, 1, 2)], &[], Some(3))?;
-    assert_eq!(rt; events.get(11), Some(&back));
-    let print = event(alloc, 5, &[local(0, 0, 3)], &[], Some(3))?;
-    assert_eq!(rt; events.get(12), Some(&print));
-    let end = event(alloc, 6, &[], &[], None)?;
-    assert_eq!(rt; events.get(13), Some(&end));
-    Ok(())
+    let ran = row(
+        alloc,
+        recursion(alloc, 2),
+        recursion_plan(alloc),
+        BUDGET,
+        300,
+    )
+    .expect(&rt, "a valid row");
+    assert_eq!(rt; ran.events.len(), 14);
+    assert!(rt; is_event(&ran, 0, 4, &[], &[local(1, 0, 2)], None));
+    assert!(rt; is_event(&ran, 1, 0, &[], &[local(0, 1, 0)], None));
+    assert!(rt; is_event(&ran, 2, 1, &[local(0, 0, 2)], &[], Some(1)));
+    assert!(rt; is_event(&ran, 3, 2, &[local(0, 0, 2)], &[local(1, 0, 1)], None));
+    assert!(rt; is_event(&ran, 11, 3, &[local(0, 1, 2)], &[], Some(3)));
+    assert!(rt; is_event(&ran, 12, 5, &[local(0, 0, 3)], &[], Some(3)));
+    assert!(rt; is_event(&ran, 13, 6, &[], &[], None));
 }
 
-// The call that is too deep reads its argument, writes nothing, and stands at 4:5.
+// The call that is too deep stands at 4:5; it reads its argument and writes nothing.
 #[test]
-fn trap_of_a_call_too_deep(rt: HostRuntime) -> Result<(), Fail> {
+fn recursion_past_its_depth(rt: HostRuntime) {
     let alloc = rt.alloc();
-    let plan = recursion_plan(alloc)?;
-    let program = recursion(alloc, 64)?;
-    let ran = run(alloc, &program, &plan, BUDGET, 300).expect(&rt, "a valid row");
-    let deep = trapped(alloc, 2, &[local(0, 0, 1)], None, Trap::Depth)?;
-    assert_eq!(rt; ran.events.as_slice().last(), Some(&deep));
-    assert_eq!(rt;
-        ran.needs.as_slice().get(192),
-        Some(&Need::Trap(Trap::Depth))
+    let ran = row(
+        alloc,
+        recursion(alloc, 64),
+        recursion_plan(alloc),
+        BUDGET,
+        300,
+    )
+    .expect(&rt, "a valid row");
+    assert!(rt; ends(&ran, Status::Trap(Trap::Depth), 193, &[]));
+    assert!(rt; is_need(&ran, 192, Need::Trap(Trap::Depth)));
+    assert!(rt; is_trap(&ran, 2, &[local(0, 0, 1)], None, Trap::Depth));
+}
+
+// The test reads the array only where its guard holds.
+#[test]
+fn short_circuit_with_its_guard(rt: HostRuntime) {
+    let alloc = rt.alloc();
+    let ran = row(alloc, short_circuit(alloc), single_plan(alloc), BUDGET, 20).expect(
+        &rt,
+        "a valid row",
     );
-    Ok(())
-}
-
-// The test reads the array only where the guard holds.
-#[test]
-fn short_circuit_with_its_guard(rt: HostRuntime) -> Result<(), Fail> {
-    let alloc = rt.alloc();
-    let plan = single_plan(alloc)?;
-    let program = short_circuit(alloc, true)?;
-    let ran = run(alloc, &program, &plan, BUDGET, 20).expect(&rt, "a valid row");
-    assert_ends(&rt, &ran, Status::Ended, 12, &[2]);
-    let events = ran.events.as_slice();
     let i = local(0, 0, 1);
-    let first = event(alloc, 1, &[], &[shared(0, 5)], None)?;
-    assert_eq!(rt; events.get(1), Some(&first));
-    let within = event(alloc, 3, &[i, i, shared(1, 6)], &[], Some(1))?;
-    assert_eq!(rt; events.get(5), Some(&within));
-    let past = event(alloc, 3, &[local(0, 0, 2)], &[], Some(0))?;
-    assert_eq!(rt; events.get(7), Some(&past));
-    Ok(())
+    assert!(rt; ends(&ran, Status::Ended, 12, &[2]));
+    assert!(rt; is_event(&ran, 1, 1, &[], &[shared(0, 5)], None));
+    assert!(rt; is_event(&ran, 5, 3, &[i, i, shared(1, 6)], &[], Some(1)));
+    assert!(rt; is_event(&ran, 7, 3, &[local(0, 0, 2)], &[], Some(0)));
 }
 
-// Without the guard the array's end is passed: a trapped test has no value.
+// Without the guard the test passes the array's end; a trapped test has no value.
 #[test]
-fn short_circuit_without_its_guard(rt: HostRuntime) -> Result<(), Fail> {
+fn short_circuit_without_its_guard(rt: HostRuntime) {
     let alloc = rt.alloc();
-    let plan = single_plan(alloc)?;
-    let program = short_circuit(alloc, false)?;
-    let ran = run(alloc, &program, &plan, BUDGET, 20).expect(&rt, "a valid row");
-    assert_ends(&rt, &ran, Status::Trap(Trap::Index), 10, &[]);
-    let past = trapped(alloc, 3, &[local(0, 0, 2)], None, Trap::Index)?;
-    assert_eq!(rt; ran.events.as_slice().get(7), Some(&past));
+    let ran = row(
+        alloc,
+        short_circuit_unguarded(alloc),
+        single_plan(alloc),
+        BUDGET,
+        20,
+    )
+    .expect(&rt, "a valid row");
+    assert!(rt; ends(&ran, Status::Trap(Trap::Index), 10, &[]));
     assert_eq!(rt; ran.events.len(), 8);
-    Ok(())
+    assert!(rt; is_trap(&ran, 3, &[local(0, 0, 2)], None, Trap::Index));
 }
 
-// The ends of 64 bits, a zero divisor, and an assertion, whose trapped event has its value.
+/// The least number of 64 bits, and it by -1.
+const LEAST: [Expr; 7] = [
+    Expr::Const(i64::MAX),
+    Expr::Neg(0),
+    Expr::Const(1),
+    Expr::Two(Op::Sub, 1, 2),
+    Expr::Const(1),
+    Expr::Neg(4),
+    Expr::Two(Op::Div, 3, 5),
+];
+
 #[test]
-fn number_limits_and_traps_of_values(rt: HostRuntime) -> Result<(), Fail> {
+fn number_limits(rt: HostRuntime) {
     let alloc = rt.alloc();
-    let plan = single_plan(alloc)?;
-    let least = [
-        Expr::Const(i64::MAX),
-        Expr::Neg(0),
-        Expr::Const(1),
-        Expr::Two(Op::Sub, 1, 2),
-        Expr::Const(1),
-        Expr::Neg(4),
-        Expr::Two(Op::Div, 3, 5),
-    ];
     let sum = [
         Expr::Const(i64::MAX),
         Expr::Const(1),
         Expr::Two(Op::Add, 0, 1),
     ];
-    let zero = [Expr::Const(1), Expr::Const(0), Expr::Two(Op::Rem, 0, 1)];
-    let cases: [(&[Expr], bool, Option<i64>, Option<Trap>); 6] = [
-        (&sum, false, None, Some(Trap::Overflow)),
-        (&least[..4], false, Some(i64::MIN), None),
-        (&least, false, None, Some(Trap::Overflow)),
-        (&zero, false, None, Some(Trap::Zero)),
-        (&zero[1..2], true, Some(0), Some(Trap::Assert)),
-        (&zero[..1], true, Some(1), None),
-    ];
-    for (exprs, asserts, value, trap) in cases {
-        let program = of_value(alloc, exprs, asserts)?;
-        let ran = run(alloc, &program, &plan, BUDGET, 5).expect(&rt, "a valid row");
-        let mut first = event(alloc, 0, &[], &[], value)?;
-        first.trap = trap;
-        assert_eq!(rt; ran.events.as_slice().first(), Some(&first));
-        assert_eq!(rt; ran.proc.steps, if trap.is_some() { 1 } else { 2 });
+    for (exprs, root) in [(sum.as_slice(), 2), (LEAST.as_slice(), 6)] {
+        let program = of_value(alloc, exprs, Does::Print(root));
+        let ran = row(alloc, program, single_plan(alloc), BUDGET, 5).expect(&rt, "a valid row");
+        assert!(rt; ends(&ran, Status::Trap(Trap::Overflow), 1, &[]));
+        assert!(rt; is_trap(&ran, 0, &[], None, Trap::Overflow));
     }
-    Ok(())
+    let program = of_value(alloc, &LEAST[..4], Does::Print(3));
+    let ran = row(alloc, program, single_plan(alloc), BUDGET, 5).expect(&rt, "a valid row");
+    assert!(rt; ends(&ran, Status::Ended, 2, &[i64::MIN]));
+}
+
+// A zero divisor, and an assertion, whose trapped event has its value.
+#[test]
+fn traps_of_values(rt: HostRuntime) {
+    let alloc = rt.alloc();
+    let zero = [Expr::Const(1), Expr::Const(0), Expr::Two(Op::Rem, 0, 1)];
+    let program = of_value(alloc, &zero, Does::Print(2));
+    let ran = row(alloc, program, single_plan(alloc), BUDGET, 5).expect(&rt, "a valid row");
+    assert!(rt; is_trap(&ran, 0, &[], None, Trap::Zero));
+    let program = of_value(alloc, &zero[1..2], Does::Assert(0));
+    let ran = row(alloc, program, single_plan(alloc), BUDGET, 5).expect(&rt, "a valid row");
+    assert!(rt; is_trap(&ran, 0, &[], Some(0), Trap::Assert));
+    let program = of_value(alloc, &zero[..1], Does::Assert(0));
+    let ran = row(alloc, program, single_plan(alloc), BUDGET, 5).expect(&rt, "a valid row");
+    assert!(rt; is_event(&ran, 0, 0, &[], &[], Some(1)));
 }
 
 // Five steps, then the stop for the budget, which is no step and has no event.
 #[test]
-fn budget_stop_after_five_steps(rt: HostRuntime) -> Result<(), Fail> {
+fn budget_stop_after_five_steps(rt: HostRuntime) {
     let alloc = rt.alloc();
-    let plan = single_plan(alloc)?;
-    let program = endless(alloc)?;
-    let ran = run(alloc, &program, &plan, 5, 9).expect(&rt, "a valid row");
-    assert_ends(&rt, &ran, Status::Budget, 5, &[]);
-    let needs = ran.needs.as_slice();
-    assert_eq!(rt; needs.get(4), Some(&Need::Plain));
-    assert_eq!(rt; needs.get(5), Some(&Need::Budget));
-    assert_eq!(rt; needs.get(6), Some(&Need::Stopped));
-    let events = ran.events.as_slice();
-    assert_eq!(rt; events.len(), 5);
-    let test = event(alloc, 1, &[], &[], Some(1))?;
-    assert_eq!(rt; events.get(3), Some(&test));
-    let more = event(alloc, 2, &[local(0, 0, 1)], &[local(0, 0, 2)], None)?;
-    assert_eq!(rt; events.get(4), Some(&more));
-    Ok(())
+    let ran = row(alloc, endless(alloc), single_plan(alloc), 5, 9).expect(&rt, "a valid row");
+    assert!(rt; ends(&ran, Status::Budget, 5, &[]));
+    assert!(rt; is_need(&ran, 4, Need::Plain));
+    assert!(rt; is_need(&ran, 5, Need::Budget));
+    assert!(rt; is_need(&ran, 6, Need::Stopped));
+    assert_eq!(rt; ran.events.len(), 5);
+    assert!(rt; is_event(&ran, 3, 1, &[], &[], Some(1)));
+    assert!(rt; is_event(&ran, 4, 2, &[local(0, 0, 1)], &[local(0, 0, 2)], None));
 }
 
 // The entry step of a block loop is no event; the test that ends it is one.
 #[test]
-fn loop_never_entered(rt: HostRuntime) -> Result<(), Fail> {
+fn loop_never_entered(rt: HostRuntime) {
     let alloc = rt.alloc();
-    let plan = never_entered_plan(alloc)?;
-    let program = never_entered(alloc)?;
-    let ran = run(alloc, &program, &plan, BUDGET, 9).expect(&rt, "a valid row");
-    assert_ends(&rt, &ran, Status::Ended, 5, &[3]);
-    let needs = ran.needs.as_slice();
-    assert_eq!(rt; needs.get(1), Some(&Need::Enter { block: 1, unit: 1 }));
-    assert_eq!(rt; needs.get(2), Some(&Need::Leave { block: 1, unit: 2 }));
-    let events = ran.events.as_slice();
-    assert_eq!(rt; events.len(), 4);
-    let test = event(alloc, 1, &[local(0, 0, 3)], &[], Some(0))?;
-    assert_eq!(rt; events.get(1), Some(&test));
-    Ok(())
+    let ran = row(
+        alloc,
+        never_entered(alloc),
+        never_entered_plan(alloc),
+        BUDGET,
+        9,
+    )
+    .expect(&rt, "a valid row");
+    assert!(rt; ends(&ran, Status::Ended, 5, &[3]));
+    assert!(rt; is_need(&ran, 1, Need::Enter { block: 1, unit: 1 }));
+    assert!(rt; is_need(&ran, 2, Need::Leave { block: 1, unit: 2 }));
+    assert_eq!(rt; ran.events.len(), 4);
+    assert!(rt; is_event(&ran, 1, 1, &[local(0, 0, 3)], &[], Some(0)));
 }
 
 // A function that is no block has frame 1, one that is a block has frame 0.
 #[test]
-fn leaf_function_in_its_callers_interval(rt: HostRuntime) -> Result<(), Fail> {
+fn leaf_function_in_its_callers_interval(rt: HostRuntime) {
     let alloc = rt.alloc();
-    let program = leaf(alloc)?;
-    for (policy, frame) in [(3, 1), (0, 0)] {
-        let plan = leaf_plan(alloc, policy)?;
-        let ran = run(alloc, &program, &plan, BUDGET, 9).expect(&rt, "a valid row");
-        assert_ends(&rt, &ran, Status::Ended, 6, &[9]);
-        let events = ran.events.as_slice();
-        let call = event(alloc, 2, &[], &[local(1, 0, 9)], None)?;
-        assert_eq!(rt; events.first(), Some(&call));
-        let set = event(alloc, 0, &[local(frame, 0, 9)], &[shared(0, 9)], None)?;
-        assert_eq!(rt; events.get(1), Some(&set));
-        let back = event(alloc, 1, &[], &[], None)?;
-        assert_eq!(rt; events.get(2), Some(&back));
-        let print = event(alloc, 3, &[shared(0, 9)], &[], Some(9))?;
-        assert_eq!(rt; events.get(3), Some(&print));
+    for (is_block, frame) in [(false, 1), (true, 0)] {
+        let ran = row(alloc, leaf(alloc), leaf_plan(alloc, is_block), BUDGET, 9).expect(
+            &rt,
+            "a valid row",
+        );
+        assert!(rt; ends(&ran, Status::Ended, 6, &[9]));
+        assert!(rt; is_event(&ran, 0, 2, &[], &[local(1, 0, 9)], None));
+        assert!(rt; is_event(&ran, 1, 0, &[local(frame, 0, 9)], &[shared(0, 9)], None));
+        assert!(rt; is_event(&ran, 2, 1, &[], &[], None));
+        assert!(rt; is_event(&ran, 3, 3, &[shared(0, 9)], &[], Some(9)));
     }
-    Ok(())
 }
 
-// Each need that is no trap and no stop, with its block and unit.
+/// The needs of `each_need`: each need that is no trap and no stop for the budget.
+const NEEDS: [Need; 14] = [
+    Need::Plain,
+    Need::Write(0, 1),
+    Need::Read(0),
+    Need::Plain,
+    Need::P { sem: 0, unit: 2 },
+    Need::V { sem: 0, unit: 3 },
+    Need::Send {
+        chan: 0,
+        value: 5,
+        unit: 4,
+    },
+    Need::Recv { chan: 0, unit: 5 },
+    Need::Enter { block: 2, unit: 6 },
+    Need::Leave { block: 2, unit: 7 },
+    Need::Invoke {
+        block: Some(0),
+        unit: 0,
+    },
+    Need::Back {
+        block: Some(0),
+        unit: Some(8),
+    },
+    Need::End { block: 1 },
+    Need::Stopped,
+];
+
 #[test]
-fn each_need_in_turn(rt: HostRuntime) -> Result<(), Fail> {
+fn each_need_in_turn(rt: HostRuntime) {
     let alloc = rt.alloc();
-    let plan = each_need_plan(alloc)?;
-    let program = each_need(alloc)?;
-    let ran = run(alloc, &program, &plan, BUDGET, 14).expect(&rt, "a valid row");
-    assert_ends(&rt, &ran, Status::Ended, 13, &[1]);
-    let needs = [
-        Need::Plain,
-        Need::Write(0, 1),
-        Need::Read(0),
-        Need::Plain,
-        Need::P { sem: 0, unit: 2 },
-        Need::V { sem: 0, unit: 3 },
-        Need::Send {
-            chan: 0,
-            value: 5,
-            unit: 4,
-        },
-        Need::Recv { chan: 0, unit: 5 },
-        Need::Enter { block: 2, unit: 6 },
-        Need::Leave { block: 2, unit: 7 },
-        Need::Invoke {
-            block: Some(0),
-            unit: 0,
-        },
-        Need::Back {
-            block: Some(0),
-            unit: Some(8),
-        },
-        Need::End { block: 1 },
-        Need::Stopped,
-    ];
-    assert!(rt; ran.needs.as_slice().starts_with(&needs));
-    let events = ran.events.as_slice();
-    assert_eq!(rt; events.len(), 11);
-    let taken = event(alloc, 4, &[], &[], None)?;
-    assert_eq!(rt; events.get(3), Some(&taken));
-    let sent = event(alloc, 6, &[], &[], Some(5))?;
-    assert_eq!(rt; events.get(5), Some(&sent));
-    let received = event(alloc, 7, &[], &[local(0, 0, 7)], None)?;
-    assert_eq!(rt; events.get(6), Some(&received));
-    let back = event(alloc, 0, &[], &[], Some(1))?;
-    assert_eq!(rt; events.get(9), Some(&back));
-    Ok(())
+    let ran = row(alloc, each_need(alloc), each_need_plan(alloc), BUDGET, 14).expect(
+        &rt,
+        "a valid row",
+    );
+    assert!(rt; ends(&ran, Status::Ended, 13, &[1]));
+    assert!(rt; ran.needs.as_slice().starts_with(&NEEDS));
+    assert_eq!(rt; ran.events.len(), 11);
+    assert!(rt; is_event(&ran, 3, 4, &[], &[], None));
+    assert!(rt; is_event(&ran, 5, 6, &[], &[], Some(5)));
+    assert!(rt; is_event(&ran, 6, 7, &[], &[local(0, 0, 7)], None));
+    assert!(rt; is_event(&ran, 9, 0, &[], &[], Some(1)));
 }
