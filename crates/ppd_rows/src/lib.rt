@@ -2,9 +2,15 @@
 #![tactic(auto)]
 
 #[cfg(test)]
+mod alone;
+#[cfg(test)]
+mod alone_tests;
+#[cfg(test)]
 mod buffer;
 #[cfg(test)]
 mod limits;
+#[cfg(test)]
+mod rows;
 #[cfg(test)]
 mod tables;
 #[cfg(test)]
