@@ -10,6 +10,7 @@ use Rattle.ppd_ast.specs.declared.status.Trap.{Trap}
 use Rattle.ppd_ast.specs.declared.status.Trap.TheVariants.{Overflow, Zero, Index, Depth}
 use Rattle.ppd_ast.specs.Term.{Term, and, or, term}
 use Rattle.ppd_ast.specs.Valid.{IsValid}
+use Rattle.ppd_ast.specs.ValidPlan.{IsValidPlan}
 use Rattle.ppd_sem.specs.declared.asking.Pause.{Pause}
 use Rattle.ppd_sem.specs.declared.asking.Pause.TheVariants.{Traps}
 use Rattle.ppd_sem.specs.declared.proc.Answer.{Answer}
@@ -21,7 +22,7 @@ use Rattle.ppd_sem.specs.Deed.{ask_all, ask_deed}
 use Rattle.ppd_sem.specs.Measure.{measure}
 use Rattle.ppd_sem.specs.Process.{act, kind_of, need_of, need_of_head, need_of_pause, top_cells}
 use Rattle.ppd_sem.specs.Reads.{reads_of, reads_of_kind}
-use Rattle.ppd_sem.specs.Runs.{IsRunnable}
+use Rattle.ppd_sem.specs.Runs.{IsNumbered, IsRunnable}
 
 -- ---- arithmetic
 
@@ -101,3 +102,7 @@ pub record StepsEnd : Type 0 where
   pub stays : (program : Program) (plan : Plan) (s : Proc) (a : Answer) → need_of program plan s ≡ need.Stopped → act program plan s a ≡ s
   pub budget : (program : Program) (plan : Plan) (s : Proc) (a : Answer) → s.spent ≤ s.budget → (act program plan s a).budget ≡ s.budget
   pub within : (program : Program) (plan : Plan) (s : Proc) (a : Answer) → s.spent ≤ s.budget → (act program plan s a).spent ≤ s.budget
+
+-- the blocks and units of a plan that is valid for a valid program have numbers of 16 bits
+abbrev pub ValidIsNumbered : Type 0
+ValidIsNumbered = (program : Program) (plan : Plan) → IsValid program → IsValidPlan program plan → IsNumbered plan

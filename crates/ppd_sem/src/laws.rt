@@ -1,4 +1,4 @@
-ghost use Rattle.ppd_sem.specs.Laws.{ArgumentsComeFirst, ArithmeticIsExact, DividesTowardZero, IndexComesFirst, StepsEnd, StopsEarly, ValidCanRun};
+ghost use Rattle.ppd_sem.specs.Laws.{ArgumentsComeFirst, ArithmeticIsExact, DividesTowardZero, IndexComesFirst, StepsEnd, StopsEarly, ValidCanRun, ValidIsNumbered};
 
 // Laws of what the other calls give: each is the contract of a function that does nothing.
 
@@ -37,6 +37,13 @@ pub fn arguments_come_first()
 pub fn valid_can_run()
     ensures { ValidCanRun }
 {}
+
+/// The blocks and units of a plan that is valid for a valid program have numbers of 16 bits.
+#[tactic(auto, using(crate::proofs::Lawful::is_numbered))]
+pub fn valid_is_numbered()
+    ensures { ValidIsNumbered }
+{
+}
 
 /// Each step leaves fewer steps to take, within the budget.
 #[tactic(auto, using(crate::proofs::Lawful::ends))]

@@ -25,7 +25,7 @@ pub use event::{Access, Event, Spot};
 pub use feeding::feed;
 pub use laws::{
     arguments_come_first, arithmetic_is_exact, divides_toward_zero, index_comes_first, steps_end,
-    stops_early, valid_can_run,
+    stops_early, valid_can_run, valid_is_numbered,
 };
 pub use looking::look;
 pub use ppd_ast::{Status, SyncKind, Trap};
