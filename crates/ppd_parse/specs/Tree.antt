@@ -9,7 +9,7 @@ use Rattle.ppd_parse.specs.Grammar.{Shape}
 use Rattle.ppd_parse.specs.Table.{no_shape, shape_or}
 
 -- the trees of the nodes from number i on: a leaf's is its token, another's its rule over its children's; child c of node i
--- stands c - (i + 1) places after the node that follows it
+-- stands in place c - (i + 1) of the nodes after it
 abbrev pub trees_from : ℕ → List Node → List Shape
 trees_from i [] = []
 trees_from i (n ∷ ns) =

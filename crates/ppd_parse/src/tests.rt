@@ -386,7 +386,7 @@ fn operators_of_an_expression(rt: HostRuntime) -> Result<(), Fail> {
             "]+(1",
             "+1",
             "); }",
-            "1043",
+            "1046",
         ),
         (
             "process a { x = a[1",
