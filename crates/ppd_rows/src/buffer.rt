@@ -19,17 +19,17 @@ use ppd_ast::{
 use std::alloc::{AllocError, Global};
 
 /// Which body the statement is of, in which statement it stands, and what it is.
-type Line = (u16, Option<u32>, Kind);
+pub(crate) type Line = (u16, Option<u32>, Kind);
 
-fn name(alloc: Global, text: &str) -> Result<Bytes, AllocError> {
+pub(crate) fn name(alloc: Global, text: &str) -> Result<Bytes, AllocError> {
     Ok(Seq::from_vec(Vec::from_slice(alloc, text.as_bytes())?))
 }
 
-fn ids(alloc: Global, items: &[u32]) -> Result<Ids, AllocError> {
+pub(crate) fn ids(alloc: Global, items: &[u32]) -> Result<Ids, AllocError> {
     Ok(Seq::from_vec(Vec::from_slice(alloc, items)?))
 }
 
-fn cells(alloc: Global, items: &[u16]) -> Result<Cells, AllocError> {
+pub(crate) fn cells(alloc: Global, items: &[u16]) -> Result<Cells, AllocError> {
     Ok(Seq::from_vec(Vec::from_slice(alloc, items)?))
 }
 
@@ -164,7 +164,7 @@ fn stmts(alloc: Global) -> Result<Seq<Stmt>, AllocError> {
 }
 
 /// Scalars in the cells from `base` on.
-fn scalars(alloc: Global, base: u16, names: &[&str]) -> Result<Vec<Var>, AllocError> {
+pub(crate) fn scalars(alloc: Global, base: u16, names: &[&str]) -> Result<Vec<Var>, AllocError> {
     let mut vars = Vec::new(alloc);
     let mut next = base;
     for text in names {
@@ -179,7 +179,7 @@ fn scalars(alloc: Global, base: u16, names: &[&str]) -> Result<Vec<Var>, AllocEr
 }
 
 /// A body of this name, sort, parameters and locals, with the range of its statements.
-fn body(
+pub(crate) fn body(
     alloc: Global,
     text: &str,
     (process, value, params): (bool, bool, u16),
@@ -260,7 +260,12 @@ pub fn program(alloc: Global) -> Result<Program, AllocError> {
     })
 }
 
-fn block(alloc: Global, kind: BlockKind, prelog: &[u16], value: bool) -> Result<Block, AllocError> {
+pub(crate) fn block(
+    alloc: Global,
+    kind: BlockKind,
+    prelog: &[u16],
+    value: bool,
+) -> Result<Block, AllocError> {
     Ok(Block {
         kind,
         prelog: cells(alloc, prelog)?,

@@ -128,7 +128,7 @@ there_at Q [] i h lt = absurd (omega arith)
 there_at Q (x ∷ xs) zero h lt = (x, refl, h 0 x (omega arith))
 there_at Q (x ∷ xs) (suc i) h lt = there_at (λ j. Q (suc j)) xs i (λ k d b. h (suc k) d (omega arith)) (omega arith)
 
-leads_at : (p : Program) (n s : ℕ) → IsRunnable p → IsOver p n s → LeadsOn p n (kind_of p s)
+pub leads_at : (p : Program) (n s : ℕ) → IsRunnable p → IsOver p n s → LeadsOn p n (kind_of p s)
 leads_at p n s h over =
     let found : There (λ _ x. IsRunnableStmt p x) p.stmts s = there_at (λ _ x. IsRunnableStmt p x) p.stmts s h.stmts over.there in
     let size : size_of p found.0.body ≡ n = sym (ap (stmt_size p) found.1) ∙ over.size in

@@ -316,7 +316,7 @@ uses_of p b (kind.Set (target.Shared c) e) lt small ss ls u w = (tt, use_of p b 
 uses_of p b (kind.Set (target.SharedAt base len i) e) lt small ss ls u w =
     let most : base + len ≤ length p.starts = array_in p.shared (length p.starts) base len ss w in
     ((use_of p b i lt ss ls (u 0 e (omega arith)), omega arith), use_of p b e lt ss ls (u 1 e (omega arith)))
-uses_of p b (kind.Zero base len) lt small ss ls u w = tt
+uses_of p b (kind.Zero base len) lt small ss ls u w = let most : base + len ≤ b.cells = array_in b.locals b.cells base len ls w in omega arith
 uses_of p b (kind.If e first second) lt small ss ls u w = use_of p b e lt ss ls (u 0 e (omega arith))
 uses_of p b (kind.While e body) lt small ss ls u w = use_of p b e lt ss ls (u 0 e (omega arith))
 uses_of p b (kind.Call f arguments into) lt small ss ls u w = each_of (IsValidUse p b) (IsUse p.exprs b.cells) arguments (λ e h. use_of p b e lt ss ls h) u

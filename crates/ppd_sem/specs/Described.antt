@@ -10,7 +10,7 @@ use Rattle.ppd_ast.specs.declared.plan.Plan.{Plan}
 use Rattle.ppd_ast.specs.declared.status.Trap.{Trap as TrapOf}
 use Rattle.ppd_ast.specs.Term.{term}
 use Rattle.ppd_sem.specs.declared.proc.Need.{Need}
-use Rattle.ppd_sem.specs.declared.proc.Need.TheVariants.{Trap}
+use Rattle.ppd_sem.specs.declared.proc.Need.TheVariants.{Read, Enter, Trap, Budget, Stopped}
 use Rattle.ppd_sem.specs.declared.proc.Answer.{Answer}
 use Rattle.ppd_sem.specs.declared.proc.Proc.{Proc}
 use Rattle.ppd_sem.specs.declared.proc.Todo.{Todo}
@@ -35,12 +35,16 @@ ends_body k = false
 abbrev pub top_todo : Program → List Todo → List Todo
 top_todo program todo = take_while (λ t. not (ends_body (kind_of program t.stmt))) todo
 
+-- a block loop runs in the top frame
+abbrev pub is_in_loop : Program → List Todo → Bool
+is_in_loop program todo = list_any (λ t. t.entered) (top_todo program todo)
+
 abbrev pub is_block : Plan → ℕ → Bool
 is_block plan body = is_some (block_of plan (block.Function body)) || is_some (block_of plan (block.Process body))
 
 -- the top frame is that of an interval where a block loop runs in it, or its body is a block
 abbrev pub has_interval : Program → Plan → Proc → Bool
-has_interval program plan s = list_any (λ t. t.entered) (top_todo program s.todo) || is_block plan (top_body s.frames)
+has_interval program plan s = is_in_loop program s.todo || is_block plan (top_body s.frames)
 
 abbrev pub frame_of : Program → Plan → Proc → ℕ
 frame_of program plan s = if has_interval program plan s then 0 else 1
@@ -101,6 +105,14 @@ value_at es cells answers None = None
 value_at es cells answers (Some e) = value_if (ask (term es e) cells answers)
 
 -- ---- the event
+
+-- a step of this need finishes or traps a statement
+abbrev pub is_event : Need → Bool
+is_event (Read c) = false
+is_event (Enter b u) = false
+is_event Budget = false
+is_event Stopped = false
+is_event need = true
 
 abbrev pub event_at : Program → Plan → Answer → Need → Proc → Todo → Event
 event_at program plan a need s t = record {

@@ -1,5 +1,5 @@
 -- A deed from its short form, whose lists of statements and arguments stand in the statement.
-use Rattle.std.specs.Prelude.{ℕ, ℤ, List, [], ◌∷◌, Result, Ok, Err, if◌then◌else◌}
+use Rattle.std.specs.Prelude.{ℕ, ◌+◌, ◌<◌, ◌^◌, ℤ, ⊤, List, [], ◌∷◌, Result, Ok, Err, if◌then◌else◌}
 use Rattle.ppd_ast.specs.declared.program.Expr.{Expr}
 use Rattle.ppd_ast.specs.declared.program.Kind.{Kind}
 use Rattle.ppd_ast.specs.declared.program.Kind.TheVariants as kind
@@ -54,6 +54,11 @@ deed_of es k cells answers effect.Finish = finish
 abbrev pub deed_if : List Expr → Kind → List ℤ → List ℤ → Result Effect Pause → Result Deed Pause
 deed_if es k cells answers (Ok e) = Ok (deed_of es k cells answers e)
 deed_if es k cells answers (Err pause) = Err pause
+
+-- the cells that it clears have 16 bits
+abbrev pub HasRange : Effect → Type 0
+HasRange (effect.Clear base len) = base + len < 2 ^ 16
+HasRange e = ⊤
 
 -- the deed of the head statement
 abbrev pub head_deed_of : Program → Todo → Proc → Effect → Deed

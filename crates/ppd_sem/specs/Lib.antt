@@ -7,6 +7,7 @@ pub mod Effects
 pub mod Example
 pub mod Feeding
 pub mod First
+pub mod Laws
 pub mod Measure
 pub mod Process
 pub mod Reads

@@ -5,13 +5,17 @@ use Rattle.ppd_ast.specs.declared.program.Expr.{Expr}
 use Rattle.ppd_ast.specs.declared.program.Kind.{Kind}
 use Rattle.ppd_ast.specs.declared.program.Kind.TheVariants.{Set, If, While, Call, Return, Send, Print, Assert}
 use Rattle.ppd_ast.specs.Term.{Term, const, local, local_at, shared, shared_at, neg, not, two, and, or, term}
-use Rattle.ppd_sem.specs.Asked.{lift, once}
+use Rattle.ppd_sem.specs.Asked.{Asked, and_then, lift, once}
 use Rattle.ppd_sem.specs.Ask.{ask, element, cell_of, is_zero}
 use Rattle.ppd_sem.specs.declared.event.Access.{Access}
 use Rattle.ppd_sem.specs.declared.event.Spot.TheVariants as spot
 
 abbrev pub local_read : ℕ → List ℤ → ℕ → List Access
 local_read frame cells c = record { spot = spot.Local frame c; value = cell_of cells c } ∷ []
+
+-- the cell of an array's element, once its index is there and was tested
+abbrev pub ask_place : Term → ℕ → ℕ → List ℤ → List ℤ → Asked ℕ
+ask_place i base len cells answers = and_then (ask i cells answers) (λ at left. lift left (element base len at))
 
 -- a shared read is made where its answer is there
 abbrev pub shared_read : ℕ → List ℤ → List Access
@@ -23,12 +27,10 @@ abbrev pub reads_of : ℕ → Term → List ℤ → List ℤ → List Access
 reads_of frame (const v) cells answers = []
 reads_of frame (local c) cells answers = local_read frame cells c
 reads_of frame (local_at base len i) cells answers =
-    reads_of frame i cells answers ++ once (ask i cells answers) (λ at left.
-    once (lift left (element base len at)) (λ c left. local_read frame cells c))
+    reads_of frame i cells answers ++ once (ask_place i base len cells answers) (λ c left. local_read frame cells c)
 reads_of frame (shared c) cells answers = shared_read c answers
 reads_of frame (shared_at base len i) cells answers =
-    reads_of frame i cells answers ++ once (ask i cells answers) (λ at left.
-    once (lift left (element base len at)) (λ c left. shared_read c left))
+    reads_of frame i cells answers ++ once (ask_place i base len cells answers) (λ c left. shared_read c left)
 reads_of frame (neg a) cells answers = reads_of frame a cells answers
 reads_of frame (not a) cells answers = reads_of frame a cells answers
 reads_of frame (two op a b) cells answers =
@@ -47,8 +49,7 @@ reads_of_all frame es (a ∷ as') cells answers =
 -- an index, tested first, and then the value that is stored
 abbrev pub reads_of_stored : ℕ → Term → Term → ℕ → ℕ → List ℤ → List ℤ → List Access
 reads_of_stored frame i e base len cells answers =
-    reads_of frame i cells answers ++ once (ask i cells answers) (λ at left.
-    once (lift left (element base len at)) (λ c left. reads_of frame e cells left))
+    reads_of frame i cells answers ++ once (ask_place i base len cells answers) (λ c left. reads_of frame e cells left)
 
 abbrev pub reads_of_kind : ℕ → List Expr → Kind → List ℤ → List ℤ → List Access
 reads_of_kind frame es (Set (target.Local c) e) = reads_of frame (term es e)

@@ -32,7 +32,7 @@ IsTargetWithin es n (target.SharedAt base len i) = IsUse es n i × (base + len <
 -- the expressions of a statement are there, and name cells of a frame of n cells
 abbrev pub AreUses : List Expr → ℕ → Kind → Type 0
 AreUses es n (kind.Set t e) = IsTargetWithin es n t × IsUse es n e
-AreUses es n (kind.Zero base len) = ⊤
+AreUses es n (kind.Zero base len) = base + len < 2 ^ 16
 AreUses es n (kind.If e first second) = IsUse es n e
 AreUses es n (kind.While e body) = IsUse es n e
 AreUses es n (kind.Call f arguments into) = All (IsUse es n) arguments

@@ -5,7 +5,7 @@ ghost use Rattle.ppd_ast.specs.Term.{term};
 ghost use Rattle.ppd_ast.specs.declared.program.Kind.TheVariants.{Set};
 ghost use Rattle.ppd_sem.specs.Asked.{outcome};
 ghost use Rattle.ppd_sem.specs.Deed.{Deed, ask_all, ask_deed, ask_stored};
-ghost use Rattle.ppd_sem.specs.Effects.{deed_if, given, given_if};
+ghost use Rattle.ppd_sem.specs.Effects.{HasRange, deed_if, given, given_if};
 ghost use Rattle.ppd_sem.specs.Runs.{AreUses, IsTargetWithin, IsUse};
 
 use crate::asking::{Pause, ask};
@@ -91,7 +91,8 @@ fn assigned(
     requires limit { length cells.now < 2 ^ 16 }
     requires target { IsTargetWithin exprs.now (length cells.now) target }
     requires value { IsUse exprs.now (length cells.now) value }
-    ensures { outcome (ask_deed exprs.now (Set target value) cells.now answers.now) ≡ deed_if exprs.now (Set target value) cells.now answers.now result }
+    ensures deed { outcome (ask_deed exprs.now (Set target value) cells.now answers.now) ≡ deed_if exprs.now (Set target value) cells.now answers.now result }
+    ensures range { IfOk result HasRange }
 {
     match target {
         Target::Local(cell) => {
@@ -123,7 +124,8 @@ pub(crate) fn effect_of(
     requires children { EachAt AreChildrenBelow exprs.now }
     requires limit { length cells.now < 2 ^ 16 }
     requires uses { AreUses exprs.now (length cells.now) kind.now }
-    ensures { outcome (ask_deed exprs.now kind.now cells.now answers.now) ≡ deed_if exprs.now kind.now cells.now answers.now result }
+    ensures deed { outcome (ask_deed exprs.now kind.now cells.now answers.now) ≡ deed_if exprs.now kind.now cells.now answers.now result }
+    ensures range { IfOk result HasRange }
 {
     match kind {
         Kind::Set(target, value) => assigned(exprs, *target, *value, cells, answers),

@@ -16,7 +16,8 @@ use crate::tables::{arguments_in, body_in, branch_in, kind_at, top_at};
 use crate::todos::{put_before, put_in_place};
 use ppd_ast::{Memory, Nums, Plan, Program, Status};
 
-fn value_in(answer: &Answer) -> i64
+/// The value that a step is given, and 0 without one.
+pub(crate) fn value_in(answer: &Answer) -> i64
     ensures { result ≡ value_of answer.now }
 {
     match *answer {
@@ -34,12 +35,13 @@ fn finish(proc: &mut Proc)
 }
 
 /// The values of a call's arguments.
-#[tactic(auto, using(crate::proofs::Leads::arguments_used))]
-fn argument_values(program: &Program, todo: Todo, proc: &Proc) -> Result<Nums, Memory>
+#[tactic(auto, using(crate::proofs::Leads::arguments_used, crate::proofs::Leads::arguments_few))]
+pub(crate) fn argument_values(program: &Program, todo: Todo, proc: &Proc) -> Result<Nums, Memory>
     requires program { IsRunnable program.now }
     requires cells { length (top_cells_of proc.now.frames) < 2 ^ 16 }
     requires over { IsOver program.now (length (top_cells_of proc.now.frames)) todo.stmt }
-    ensures { IfOk result (λ values. values ≡ given program.now.exprs (arguments_of (kind_of program.now todo.stmt)) (top_cells_of proc.now.frames) proc.now.answers) }
+    ensures few { IfOk result (λ values. length values < 2 ^ 16) }
+    ensures values { IfOk result (λ values. values ≡ given program.now.exprs (arguments_of (kind_of program.now todo.stmt)) (top_cells_of proc.now.frames) proc.now.answers) }
 {
     let mut values = Nums::new(proc.frames.allocator());
     push_values(

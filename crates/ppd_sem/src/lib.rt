@@ -3,22 +3,30 @@
 
 mod asking;
 mod cost;
+mod describing;
 mod effect;
 mod eval;
 mod event;
 mod feeding;
 mod frame;
 mod frames;
+mod laws;
 mod looking;
 mod proc;
+mod reading;
 mod stack;
 mod starting;
 mod tables;
 mod todos;
 
 pub use asking::{Pause, ask};
+pub use describing::describe;
 pub use event::{Access, Event, Spot};
 pub use feeding::feed;
+pub use laws::{
+    arguments_come_first, arithmetic_is_exact, divides_toward_zero, index_comes_first, steps_end,
+    stops_early, valid_can_run,
+};
 pub use looking::look;
 pub use ppd_ast::{Status, SyncKind, Trap};
 pub use proc::{Answer, Frame, Need, Proc, Todo};

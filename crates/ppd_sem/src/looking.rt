@@ -1,8 +1,8 @@
-ghost use Rattle.std.specs.Prelude.{◌≡◌, ◌<◌, ◌≤◌, ◌^◌, Some, None, length, slice_get, IsSomeAnd};
+ghost use Rattle.std.specs.Prelude.{◌≡◌, ◌<◌, ◌≤◌, ◌^◌, Some, None, length, slice_get, IfOk, IsSomeAnd};
 ghost use Rattle.ppd_ast.specs.declared.plan.BlockKind.TheVariants.{Function, Loop, Process};
 ghost use Rattle.ppd_sem.specs.declared.proc.Need.TheVariants.{Back, End};
 ghost use Rattle.ppd_sem.specs.Asked.{outcome};
-ghost use Rattle.ppd_sem.specs.Effects.{head_deed_if, head_deed_of};
+ghost use Rattle.ppd_sem.specs.Effects.{HasRange, head_deed_if, head_deed_of};
 ghost use Rattle.ppd_sem.specs.Process.{call_unit as call_unit_of, entry_of, head_deed, need_of, need_of_call, need_of_deed, need_of_head, need_of_leaving, need_of_pause, top_body, top_call, top_cells as top_cells_of};
 ghost use Rattle.ppd_sem.specs.Tables.{block_of, or_zero};
 ghost use Rattle.ppd_sem.specs.Runs.{IsNumbered, IsOver, IsRunnable, IsRunning};
@@ -18,7 +18,8 @@ use ppd_ast::{BlockKind, Kind, Plan, Program, Start, Trap};
 /// The most calls of a process that are open at once.
 const MOST_CALLS: usize = 64;
 
-fn body_of(frames: &Stack<Frame>) -> u16
+/// The body of the top frame.
+pub(crate) fn body_of(frames: &Stack<Frame>) -> u16
     ensures { result ≡ top_body frames.now }
 {
     match frames.top() {
@@ -61,7 +62,8 @@ pub(crate) fn head_effect(program: &Program, todo: Todo, proc: &Proc) -> Result<
     requires program { IsRunnable program.now }
     requires cells { length (top_cells_of proc.now.frames) < 2 ^ 16 }
     requires over { IsOver program.now (length (top_cells_of proc.now.frames)) todo.stmt }
-    ensures { outcome (head_deed program.now todo proc.now) ≡ head_deed_if program.now todo proc.now result }
+    ensures deed { outcome (head_deed program.now todo proc.now) ≡ head_deed_if program.now todo proc.now result }
+    ensures range { IfOk result HasRange }
 {
     effect_of(
         program.exprs.as_slice(),

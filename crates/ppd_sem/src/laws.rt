@@ -1,0 +1,45 @@
+ghost use Rattle.ppd_sem.specs.Laws.{ArgumentsComeFirst, ArithmeticIsExact, DividesTowardZero, IndexComesFirst, StepsEnd, StopsEarly, ValidCanRun};
+
+// Laws of what the other calls give: each is the contract of a function that does nothing.
+
+/// Sums, differences, products and opposites are exact, or overflow.
+#[tactic(auto, using(crate::proofs::Lawful::arithmetic))]
+pub fn arithmetic_is_exact()
+    ensures { ArithmeticIsExact }
+{}
+
+/// Division is toward zero, and traps at a zero divisor and at the least number by -1.
+#[tactic(auto, using(crate::proofs::Lawful::division))]
+pub fn divides_toward_zero()
+    ensures { DividesTowardZero }
+{}
+
+/// An index is tested before the stored value is evaluated.
+#[tactic(auto, using(crate::proofs::Lawful::index_first))]
+pub fn index_comes_first()
+    ensures { IndexComesFirst }
+{}
+
+/// `&&` and `||` read nothing past their stop.
+#[tactic(auto, using(crate::proofs::Lawful::stops))]
+pub fn stops_early()
+    ensures { StopsEarly }
+{}
+
+/// The arguments of a call come before the test of its depth.
+#[tactic(auto, using(crate::proofs::Lawful::arguments_first))]
+pub fn arguments_come_first()
+    ensures { ArgumentsComeFirst }
+{}
+
+/// The processes of a valid program can run.
+#[tactic(auto, using(crate::proofs::Lawful::can_run))]
+pub fn valid_can_run()
+    ensures { ValidCanRun }
+{}
+
+/// Each step leaves fewer steps to take, within the budget.
+#[tactic(auto, using(crate::proofs::Lawful::ends))]
+pub fn steps_end()
+    ensures { StepsEnd }
+{}

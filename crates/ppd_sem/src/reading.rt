@@ -1,0 +1,214 @@
+ghost use Rattle.std.specs.Prelude.{◌≡◌, ◌+◌, ◌<◌, ◌^◌, ◌++◌, length, IfOk, IfErr, OnOk, Ok, Err};
+ghost use Rattle.std.specs.List.{All};
+ghost use Rattle.ppd_ast.specs.Table.{AreChildrenBelow, EachAt};
+ghost use Rattle.ppd_ast.specs.Term.{term};
+ghost use Rattle.ppd_ast.specs.declared.program.Kind.TheVariants.{Set};
+ghost use Rattle.ppd_sem.specs.Reads.{ask_place, local_read, reads_of, reads_of_all, reads_of_kind, shared_read};
+ghost use Rattle.ppd_sem.specs.Runs.{AreUses, IsTargetWithin, IsUse};
+ghost use Rattle.ppd_sem.specs.Within.{IsWithin};
+
+use crate::asking::{Pause, ask};
+use crate::eval::{element, is_zero};
+use crate::event::{Access, Spot};
+use ppd_ast::{Expr, Kind, Memory, Seq, Target};
+
+/// Adds the read of a local cell.
+fn read_local(reads: &mut Seq<Access>, frame: u8, cells: &[i64], cell: u16) -> Result<(), Memory>
+    requires { cell < length cells.now }
+    ensures { OnOk result (reads.new ≡ reads.old ++ local_read frame cells.now cell) }
+{
+    let spot = Spot::Local { frame, cell };
+    let value = cells[cell as usize];
+    reads.push(Access { spot, value })
+}
+
+/// Adds the read of a shared cell, where its answer is there.
+fn read_shared(reads: &mut Seq<Access>, cell: u16, answers: &[i64]) -> Result<(), Memory>
+    ensures { OnOk result (reads.new ≡ reads.old ++ shared_read cell answers.now) }
+{
+    match answers {
+        [] => Ok(()),
+        [value, ..] => {
+            let spot = Spot::Shared(cell);
+            let value = *value;
+            reads.push(Access { spot, value })
+        }
+    }
+}
+
+/// The cell of an array's element by its index, which is tested, with the answers that are left.
+#[tactic(auto, using(crate::proofs::Asks::steps))]
+fn place<'a>(
+    exprs: &[Expr],
+    base: u16,
+    len: u16,
+    at: u32,
+    cells: &[i64],
+    answers: &'a [i64],
+) -> Result<(u16, &'a [i64]), Pause>
+    requires children { EachAt AreChildrenBelow exprs.now }
+    requires limit { length cells.now < 2 ^ 16 }
+    requires index { IsUse exprs.now (length cells.now) at }
+    requires range { base + len < 2 ^ 16 }
+    ensures ok { IfOk result (λ r. ask_place (term exprs.now at) base len cells.now answers.now ≡ Ok (r.0, r.1.now)) }
+    ensures inside { IfOk result (λ r. r.0 < base + len) }
+    ensures err { IfErr result (λ p. ask_place (term exprs.now at) base len cells.now answers.now ≡ Err p) }
+{
+    let (index, rest) = ask(exprs, at, cells, answers)?;
+    let cell = element(base, len, index)?;
+    Ok((cell, rest))
+}
+
+/// Adds the reads of expression `at` over the top frame's cells, in order of evaluation, as far
+/// as it is evaluated. `Memory` is want of memory.
+#[tactic(auto, using(crate::proofs::Readings::reading))]
+pub(crate) fn push_reads(
+    reads: &mut Seq<Access>,
+    frame: u8,
+    exprs: &[Expr],
+    at: u32,
+    cells: &[i64],
+    answers: &[i64],
+) -> Result<(), Memory>
+    requires children { EachAt AreChildrenBelow exprs.now }
+    requires at_in { at < length exprs.now }
+    requires within { IsWithin (length cells.now) (term exprs.now at) }
+    requires limit { length cells.now < 2 ^ 16 }
+    ensures { OnOk result (reads.new ≡ reads.old ++ reads_of frame (term exprs.now at) cells.now answers.now) }
+{
+    match exprs[at as usize] {
+        Expr::Const(_) => Ok(()),
+        Expr::Local(cell) => read_local(reads, frame, cells, cell),
+        Expr::LocalAt { base, len, at } => {
+            push_reads(reads, frame, exprs, at, cells, answers)?;
+            match place(exprs, base, len, at, cells, answers) {
+                Ok((cell, _)) => read_local(reads, frame, cells, cell),
+                Err(_) => Ok(()),
+            }
+        }
+        Expr::Shared(cell) => read_shared(reads, cell, answers),
+        Expr::SharedAt { base, len, at } => {
+            push_reads(reads, frame, exprs, at, cells, answers)?;
+            match place(exprs, base, len, at, cells, answers) {
+                Ok((cell, rest)) => read_shared(reads, cell, rest),
+                Err(_) => Ok(()),
+            }
+        }
+        Expr::Neg(a) => push_reads(reads, frame, exprs, a, cells, answers),
+        Expr::Not(a) => push_reads(reads, frame, exprs, a, cells, answers),
+        Expr::Two(_, a, b) => {
+            push_reads(reads, frame, exprs, a, cells, answers)?;
+            match ask(exprs, a, cells, answers) {
+                Ok((_, rest)) => push_reads(reads, frame, exprs, b, cells, rest),
+                Err(_) => Ok(()),
+            }
+        }
+        Expr::And(a, b) => {
+            push_reads(reads, frame, exprs, a, cells, answers)?;
+            match ask(exprs, a, cells, answers) {
+                Ok((x, rest)) if !is_zero(x) => push_reads(reads, frame, exprs, b, cells, rest),
+                _ => Ok(()),
+            }
+        }
+        Expr::Or(a, b) => {
+            push_reads(reads, frame, exprs, a, cells, answers)?;
+            match ask(exprs, a, cells, answers) {
+                Ok((x, rest)) if is_zero(x) => push_reads(reads, frame, exprs, b, cells, rest),
+                _ => Ok(()),
+            }
+        }
+    }
+}
+
+/// Adds the reads of the arguments, left to right.
+fn push_all(
+    reads: &mut Seq<Access>,
+    frame: u8,
+    exprs: &[Expr],
+    arguments: &[u32],
+    cells: &[i64],
+    answers: &[i64],
+) -> Result<(), Memory>
+    requires children { EachAt AreChildrenBelow exprs.now }
+    requires limit { length cells.now < 2 ^ 16 }
+    requires uses { All (IsUse exprs.now (length cells.now)) arguments.now }
+    ensures { OnOk result (reads.new ≡ reads.old ++ reads_of_all frame exprs.now arguments.now cells.now answers.now) }
+{
+    match arguments {
+        [] => Ok(()),
+        [first, rest @ ..] => {
+            push_reads(reads, frame, exprs, *first, cells, answers)?;
+            match ask(exprs, *first, cells, answers) {
+                Ok((_, left)) => push_all(reads, frame, exprs, rest, cells, left),
+                Err(_) => Ok(()),
+            }
+        }
+    }
+}
+
+/// Adds the reads of an assignment to this place.
+fn push_assigned(
+    reads: &mut Seq<Access>,
+    frame: u8,
+    exprs: &[Expr],
+    target: Target,
+    value: u32,
+    cells: &[i64],
+    answers: &[i64],
+) -> Result<(), Memory>
+    requires children { EachAt AreChildrenBelow exprs.now }
+    requires limit { length cells.now < 2 ^ 16 }
+    requires target { IsTargetWithin exprs.now (length cells.now) target }
+    requires value { IsUse exprs.now (length cells.now) value }
+    ensures { OnOk result (reads.new ≡ reads.old ++ reads_of_kind frame exprs.now (Set target value) cells.now answers.now) }
+{
+    match target {
+        Target::Local(_) | Target::Shared(_) => {
+            push_reads(reads, frame, exprs, value, cells, answers)
+        }
+        Target::LocalAt { base, len, at } | Target::SharedAt { base, len, at } => {
+            push_reads(reads, frame, exprs, at, cells, answers)?;
+            match place(exprs, base, len, at, cells, answers) {
+                Ok((_, rest)) => push_reads(reads, frame, exprs, value, cells, rest),
+                Err(_) => Ok(()),
+            }
+        }
+    }
+}
+
+/// Adds the reads of a statement of this kind, in order of evaluation, as far as it is
+/// evaluated. `Memory` is want of memory.
+pub(crate) fn push_kind_reads(
+    reads: &mut Seq<Access>,
+    frame: u8,
+    exprs: &[Expr],
+    kind: &Kind,
+    cells: &[i64],
+    answers: &[i64],
+) -> Result<(), Memory>
+    requires children { EachAt AreChildrenBelow exprs.now }
+    requires limit { length cells.now < 2 ^ 16 }
+    requires uses { AreUses exprs.now (length cells.now) kind.now }
+    ensures { OnOk result (reads.new ≡ reads.old ++ reads_of_kind frame exprs.now kind.now cells.now answers.now) }
+{
+    match kind {
+        Kind::Set(target, value) => {
+            push_assigned(reads, frame, exprs, *target, *value, cells, answers)
+        }
+        Kind::If(value, _, _)
+        | Kind::While(value, _)
+        | Kind::Return(Some(value))
+        | Kind::Send(_, value)
+        | Kind::Print(value)
+        | Kind::Assert(value) => push_reads(reads, frame, exprs, *value, cells, answers),
+        Kind::Call { args, .. } => {
+            push_all(reads, frame, exprs, args.as_slice(), cells, answers)
+        }
+        Kind::Zero { .. }
+        | Kind::Return(None)
+        | Kind::P(_)
+        | Kind::V(_)
+        | Kind::Recv(..)
+        | Kind::End => Ok(()),
+    }
+}
