@@ -19,7 +19,7 @@ use Rattle.ppd_model.specs.Synchronizations.{Sync, kind_of_sync, numbered, sync_
 use Rattle.ppd_model.specs.Numbers.{Counting, IsCounted, count_in, count_of}
 use Rattle.ppd_model.specs.Laws.{SynchronizationsAreCounted}
 use Rattle.ppd_model.proofs.Changes.{change-at, change-else, change-none, length-change, own-at, own-else}
-use Rattle.ppd_model.proofs.Counts.{counting}
+use Rattle.ppd_model.proofs.Counting.{counting}
 use Rattle.ppd_model.proofs.CountedOn.{counted_after}
 use Rattle.ppd_model.proofs.Stories.{steps-change}
 

@@ -22,15 +22,7 @@ use Rattle.ppd_model.specs.declared.closed.ProcEnd.{ProcEnd}
 use Rattle.ppd_model.specs.Story.{Taken, Moment, told, unit_started, values_of_unit}
 use Rattle.ppd_model.specs.Synchronizations.{Sync, sync_of}
 use Rattle.ppd_model.specs.Marks.{Mark, opened, closed}
-
--- a process with its entries so far, the shared cells that it accessed since its last
--- synchronization, and its steps since the last one that wrote an entry
-pub record Logging : Type 0 where
-  pub proc : Proc
-  pub reads : List ℕ
-  pub writes : List ℕ
-  pub rest : ℕ
-  pub entries : List Entry
+pub use Rattle.ppd_model.specs.declared.state.Logging.{Logging}
 
 -- a rising list with one more number
 abbrev pub with_cell : ℕ → List ℕ → List ℕ

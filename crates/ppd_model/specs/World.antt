@@ -8,17 +8,8 @@ use Rattle.ppd_sem.specs.declared.proc.Answer.{Answer}
 use Rattle.ppd_sem.specs.declared.proc.Answer.TheVariants.{Value, Go}
 use Rattle.ppd_sem.specs.declared.proc.Proc.{Proc}
 use Rattle.ppd_sem.specs.Process.{need_of, act}
-
--- how often a semaphore was given, its initial value included, and taken
-pub record Counts : Type 0 where
-  pub given : ℕ
-  pub taken : ℕ
-
--- the values sent to a channel so far, and how many of them were received
-pub record Channel : Type 0 where
-  pub capacity : ℕ
-  pub sent : List ℤ
-  pub received : ℕ
+pub use Rattle.ppd_model.specs.declared.state.Counts.{Counts}
+pub use Rattle.ppd_model.specs.declared.state.Channel.{Channel}
 
 -- the shared cells, the semaphores, the channels and the process states
 pub record World : Type 0 where

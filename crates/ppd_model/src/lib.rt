@@ -6,6 +6,7 @@ mod closed;
 mod flow;
 mod graph;
 mod laws;
+mod state;
 mod trace;
 
 pub use closed::{Closed, ProcEnd};
@@ -15,4 +16,5 @@ pub use laws::{
     happened_before_is_tested, logs_grow, no_race_means_order, processes_follow_their_steps,
     stories_grow, stories_tell_all, synchronizations_are_counted, tags_are_last_writes,
 };
+pub use state::{Channel, Counts, Logging};
 pub use trace::{DriveError, EventId, Trace, TracedEvent};

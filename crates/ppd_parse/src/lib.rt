@@ -17,10 +17,11 @@ mod symbol;
 mod want;
 
 pub use error::SyntaxError;
+pub use kind::kind_of;
 pub use node::{Node, Tree};
 pub use reading::{parse, parse_in};
 pub use steps::Steps;
-pub use symbol::Rule;
+pub use symbol::{Kind, Rule};
 
 #[cfg(test)]
 mod tests;

@@ -9,6 +9,7 @@ pub mod Feeding
 pub mod First
 pub mod Laws
 pub mod Measure
+pub mod Passed
 pub mod Process
 pub mod Reads
 pub mod Runs

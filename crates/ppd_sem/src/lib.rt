@@ -12,6 +12,7 @@ mod frame;
 mod frames;
 mod laws;
 mod looking;
+mod passing;
 mod proc;
 mod reading;
 mod stack;
@@ -28,9 +29,11 @@ pub use laws::{
     stops_early, valid_can_run, valid_is_numbered,
 };
 pub use looking::look;
+pub use passing::{call_values, local_cells, next_stmt, returned_value};
 pub use ppd_ast::{Status, SyncKind, Trap};
 pub use proc::{Answer, Frame, Need, Proc, Todo};
 pub use stack::Stack;
+pub use tables::{find_block, find_unit};
 
 #[cfg(test)]
 mod tests;

@@ -102,7 +102,7 @@ fn unit_position(plan: &Plan, start: Start) -> Option<usize>
 }
 
 /// The block of this kind, if it is one.
-pub(crate) fn find_block(plan: &Plan, kind: BlockKind) -> Option<u16>
+pub fn find_block(plan: &Plan, kind: BlockKind) -> Option<u16>
     requires { length plan.now.blocks ≤ 2 ^ 16 }
     ensures { result ≡ block_of plan.now kind }
 {
@@ -113,7 +113,7 @@ pub(crate) fn find_block(plan: &Plan, kind: BlockKind) -> Option<u16>
 }
 
 /// The unit with this start, and 0 without one.
-pub(crate) fn find_unit(plan: &Plan, start: Start) -> u16
+pub fn find_unit(plan: &Plan, start: Start) -> u16
     requires { length plan.now.units ≤ 2 ^ 16 }
     ensures { result ≡ unit_of plan.now start }
 {

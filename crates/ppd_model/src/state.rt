@@ -1,0 +1,29 @@
+use ppd_ast::{Cells, Nums, Seq};
+use ppd_entry::Entry;
+use ppd_sem::Proc;
+
+/// How often a semaphore was given, its initial value included, and how often it was taken.
+#[derive(Clone, Copy, PartialEq, Eq, Debug)]
+pub struct Counts {
+    pub given: u32,
+    pub taken: u32,
+}
+
+/// The values sent to a channel so far, and how many of them were received.
+#[derive(Drop, Debug)]
+pub struct Channel {
+    pub capacity: u8,
+    pub sent: Nums,
+    pub received: u32,
+}
+
+/// A process with its entries so far, the shared cells that it accessed since its last
+/// synchronization, and its steps since the last one that wrote an entry.
+#[derive(Drop, Debug)]
+pub struct Logging {
+    pub proc: Proc,
+    pub reads: Cells,
+    pub writes: Cells,
+    pub rest: u32,
+    pub entries: Seq<Entry>,
+}

@@ -1,0 +1,82 @@
+ghost use Rattle.std.specs.Prelude.{◌≡◌, ◌<◌, ◌^◌, length, slice_get, Some, IfOk, option_to_list};
+ghost use Rattle.ppd_sem.specs.Passed.{arguments_at, arguments_of_head, next_stmt_of, result_at, result_of_head};
+ghost use Rattle.ppd_sem.specs.Process.{top_cells as top_cells_of};
+ghost use Rattle.ppd_sem.specs.Runs.{IsOver, IsRunnable, IsRunning};
+
+use crate::effect::Effect;
+use crate::feeding::argument_values;
+use crate::looking::{head, head_effect, top_cells};
+use crate::proc::{Proc, Todo};
+use ppd_ast::{Memory, Nums, Program};
+use std::alloc::Global;
+
+fn head_arguments(
+    alloc: Global,
+    program: &Program,
+    todo: Todo,
+    proc: &Proc,
+) -> Result<Nums, Memory>
+    requires program { IsRunnable program.now }
+    requires cells { length (top_cells_of proc.now.frames) < 2 ^ 16 }
+    requires over { IsOver program.now (length (top_cells_of proc.now.frames)) todo.stmt }
+    ensures { IfOk result (λ values. values ≡ arguments_of_head program.now proc.now (Some todo)) }
+{
+    match head_effect(program, todo, proc) {
+        Ok(Effect::Invoke(..)) => argument_values(program, todo, proc),
+        _ => Ok(Nums::new(alloc)),
+    }
+}
+
+fn head_result(program: &Program, todo: Todo, proc: &Proc) -> Option<i64>
+    requires program { IsRunnable program.now }
+    requires cells { length (top_cells_of proc.now.frames) < 2 ^ 16 }
+    requires over { IsOver program.now (length (top_cells_of proc.now.frames)) todo.stmt }
+    ensures { result ≡ result_of_head program.now proc.now (Some todo) }
+{
+    match head_effect(program, todo, proc) {
+        Ok(Effect::Back(value)) => value,
+        _ => None,
+    }
+}
+
+/// The values with which the call that comes next is made, and none where no call is made next.
+/// `Memory` is want of memory.
+pub fn call_values(alloc: Global, program: &Program, proc: &Proc) -> Result<Nums, Memory>
+    requires program { IsRunnable program.now }
+    requires proc { IsRunning program.now proc.now }
+    ensures { IfOk result (λ values. values ≡ arguments_at program.now proc.now) }
+{
+    match head(proc) {
+        Some(todo) => head_arguments(alloc, program, todo, proc),
+        None => Ok(Nums::new(alloc)),
+    }
+}
+
+/// The value that the return that comes next gives back, if any.
+pub fn returned_value(program: &Program, proc: &Proc) -> Option<i64>
+    requires program { IsRunnable program.now }
+    requires proc { IsRunning program.now proc.now }
+    ensures { option_to_list result ≡ result_at program.now proc.now }
+{
+    match head(proc) {
+        Some(todo) => head_result(program, todo, proc),
+        None => None,
+    }
+}
+
+/// The cells of the top frame of a process.
+pub fn local_cells(proc: &Proc) -> &[i64]
+    ensures { result.now ≡ top_cells_of proc.now.frames }
+{
+    top_cells(&proc.frames)
+}
+
+/// The statement that comes next, if any is still to do.
+pub fn next_stmt(proc: &Proc) -> Option<u32>
+    ensures { result ≡ next_stmt_of proc.now.todo }
+{
+    match proc.todo.top() {
+        Some(todo) => Some(todo.stmt),
+        None => None,
+    }
+}
