@@ -12,7 +12,6 @@ mod node;
 mod numbering;
 mod reading;
 mod statements;
-mod steps;
 mod symbol;
 mod want;
 
@@ -20,7 +19,6 @@ pub use error::SyntaxError;
 pub use kind::kind_of;
 pub use node::{Node, Tree};
 pub use reading::{parse, parse_in};
-pub use steps::Steps;
 pub use symbol::{Kind, Rule};
 
 #[cfg(test)]
