@@ -30,3 +30,5 @@ pub const MOST_OPERATORS: u32 = 513;
 pub const MOST_EXPRESSION_DEPTH: u32 = 1024;
 /// The greatest number of a policy.
 pub const MOST_POLICY: u16 = 4096;
+/// The greatest budget of a process.
+pub const MOST_BUDGET: u32 = 500_000;

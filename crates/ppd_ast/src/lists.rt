@@ -1,4 +1,4 @@
-ghost use Rattle.std.specs.Prelude.{◌≡◌, [], ◌∷◌, ◌++◌, OnOk, OnErr, length, slice_set};
+ghost use Rattle.std.specs.Prelude.{◌≡◌, [], ◌∷◌, ◌++◌, OnOk, OnErr, length, slice_set, take};
 
 use std::alloc::Global;
 use std::marker::Model;
@@ -63,6 +63,25 @@ impl<T: Drop> Seq<T> {
             Ok(()) => Ok(()),
             Err(_) => Err(Memory),
         }
+    }
+
+    /// Appends the vector's items. `Memory` is want of memory: the list is as before and the items
+    /// are dropped.
+    pub fn append(&mut self, mut items: Vec<T>) -> Result<(), Memory>
+        ensures ok { OnOk result (self.new ≡ self.old ++ items.items) }
+        ensures err { OnErr result (self.new ≡ self.old) }
+    {
+        match self.items.append(&mut items) {
+            Ok(()) => Ok(()),
+            Err(_) => Err(Memory),
+        }
+    }
+
+    /// Leaves the first items, so many.
+    pub fn truncate(&mut self, count: usize)
+        ensures { self.new ≡ take count self.old }
+    {
+        self.items.truncate(count);
     }
 
     /// Writes the place with this number, from 0. Past the list's end the item is dropped.
