@@ -15,4 +15,5 @@ pub mod Logs
 pub mod Intervals
 pub mod FlowbackEdges
 pub mod NearIntervals
+pub mod Bounds
 pub mod Laws

@@ -1,3 +1,4 @@
+ghost use Rattle.ppd_model.specs.Bounds.{CountsAreBalanced, SchedulesAreBounded, StepsChangeTheirOwn};
 ghost use Rattle.ppd_model.specs.Laws.{IsTestOfBefore, IsTestOfEdges, LastEdgesAreOpen, LogsGrow, NoRaceMeansOrder, ProcessesFollowTheirSteps, StoriesAreOfRuns, StoriesGrow, StoriesTellAll, SynchronizationsAreCounted, TagsAreLastWrites};
 
 /// Law: the story of a schedule with one more step is that of the schedule with this step, its
@@ -48,4 +49,21 @@ pub fn no_race_means_order()
 /// Law: the tag of a shared cell is the event that last wrote it.
 pub fn tags_are_last_writes()
     ensures { TagsAreLastWrites }
+{}
+
+/// Law: the step of a process changes the process itself and what its need names, and nothing else.
+pub fn steps_change_their_own()
+    ensures { StepsChangeTheirOwn }
+{}
+
+/// Law: a schedule that can be taken has at most budget + 1 numbers of each process.
+pub fn schedules_are_bounded()
+    ensures { SchedulesAreBounded }
+{}
+
+/// Law: a semaphore is taken no more often than it is given, which begins at its initial value;
+/// from a channel no more is received than sent, and to it no more is sent than is received and its
+/// capacity together.
+pub fn counts_are_balanced()
+    ensures { CountsAreBalanced }
 {}

@@ -1,0 +1,91 @@
+-- After each schedule the counts of semaphores and channels are balanced.
+use Rattle.std.proofs.Common.{◌≡◌, ℕ, zero, suc, ◌+◌, ◌<◌, ◌≤◌, ℤ, true, List, [], ◌∷◌, ◌++◌, length, map, Some, refl, ap, sym, subst, ◌∙◌, arith, length-append}
+use Rattle.std.specs.Prelude.{slice_get}
+use Rattle.std.proofs.lemmas.Bool.Decides.{nat_tests}
+use Rattle.ppd_ast.specs.declared.plan.Plan.{Plan}
+use Rattle.ppd_ast.specs.declared.program.Chan.{Chan}
+use Rattle.ppd_ast.specs.declared.program.Program.{Program}
+use Rattle.ppd_ast.specs.declared.program.Sem.{Sem}
+use Rattle.ppd_sem.specs.declared.proc.Need.{Need}
+use Rattle.ppd_sem.specs.declared.proc.Need.TheVariants.{Write, P, V, Send, Recv}
+use Rattle.ppd_model.specs.Bounds.{AreEach, CountsAreBalanced, IsBalanced, IsBalancedChan, IsBalancedSem}
+use Rattle.ppd_model.specs.Schedule.{run_from, started_world}
+use Rattle.ppd_model.specs.World.{World, Channel, Counts, can, can_receive, can_send, can_take, change, effect, need, step}
+use Rattle.ppd_model.proofs.Bounded.{Goes, goes}
+use Rattle.ppd_model.proofs.Changes.{some}
+
+pub each_change : {A B : Type 0} (R : A → B → Type 0) (f : B → B) (i : ℕ) (xs : List A) (ys : List B) → ((x : A) (y : B) → slice_get ys i ≡ Some y → R x y → R x (f y)) → AreEach R xs ys → AreEach R xs (change f i ys)
+each_change R f i [] [] keeps h = h
+each_change R f i [] (y ∷ ys) keeps h = absurd h
+each_change R f i (x ∷ xs) [] keeps h = absurd h
+each_change R f zero (x ∷ xs) (y ∷ ys) keeps h = (keeps x y refl h.0, h.1)
+each_change R f (suc i) (x ∷ xs) (y ∷ ys) keeps h = (h.0, each_change R f i xs ys keeps h.1)
+
+taken : (s : Sem) (x : Counts) → can_take (Some x) ≡ true → IsBalancedSem s x → IsBalancedSem s (record x { taken = x.taken + 1 })
+taken s x e b =
+    let less : x.taken < x.given = grind (arith, nat_tests) in
+    record { first = b.first; taken = omega arith }
+
+given : (s : Sem) (x : Counts) → IsBalancedSem s x → IsBalancedSem s (record x { given = x.given + 1 })
+given s x b =
+    let first : s.start ≤ x.given = b.first in
+    let within : x.taken ≤ x.given = b.taken in
+    record { first = omega arith; taken = omega arith }
+
+sent : (c : Chan) (x : Channel) (v : ℤ) → can_send (Some x) ≡ true → IsBalancedChan c x → IsBalancedChan c (record x { sent = x.sent ++ v ∷ [] })
+sent c x v e b =
+    let less : length x.sent < x.received + x.capacity = grind (arith, nat_tests) in
+    let within : x.received ≤ length x.sent = b.received in
+    let more : length (x.sent ++ v ∷ []) ≡ length x.sent + 1 = length-append x.sent (v ∷ []) in
+    record { capacity = b.capacity; received = omega arith; sent = omega arith }
+
+received : (c : Chan) (x : Channel) → can_receive (Some x) ≡ true → IsBalancedChan c x → IsBalancedChan c (record x { received = x.received + 1 })
+received c x e b =
+    let less : x.received < length x.sent = grind (arith, nat_tests) in
+    let within : length x.sent ≤ x.received + x.capacity = b.sent in
+    record { capacity = b.capacity; received = omega arith; sent = omega arith }
+
+pub effect_balanced : (program : Program) (w : World) (n : Need) → can w n ≡ true → IsBalanced program w → IsBalanced program (effect w n)
+effect_balanced program w (P s u) e b = record {
+  sems = each_change IsBalancedSem (λ x. record x { taken = x.taken + 1 }) s program.sems w.sems (λ x y is h. taken x y (sym (ap can_take is) ∙ e) h) b.sems;
+  chans = b.chans;
+}
+effect_balanced program w (V s u) e b = record {
+  sems = each_change IsBalancedSem (λ x. record x { given = x.given + 1 }) s program.sems w.sems (λ x y is h. given x y h) b.sems;
+  chans = b.chans;
+}
+effect_balanced program w (Send c v u) e b = record {
+  sems = b.sems;
+  chans = each_change IsBalancedChan (λ x. record x { sent = x.sent ++ v ∷ [] }) c program.chans w.chans (λ x y is h. sent x y v (sym (ap can_send is) ∙ e) h) b.chans;
+}
+effect_balanced program w (Recv c u) e b = record {
+  sems = b.sems;
+  chans = each_change IsBalancedChan (λ x. record x { received = x.received + 1 }) c program.chans w.chans (λ x y is h. received x y (sym (ap can_receive is) ∙ e) h) b.chans;
+}
+effect_balanced program w (Write c v) e b = record { sems = b.sems; chans = b.chans }
+effect_balanced program w n e b = b
+
+pub step_balanced : (program : Program) (plan : Plan) (w : World) (p : ℕ) → can w (need program plan w p) ≡ true → IsBalanced program w → IsBalanced program (step program plan w p)
+step_balanced program plan w p e b =
+    let after : IsBalanced program (effect w (need program plan w p)) = effect_balanced program w (need program plan w p) e b in
+    record { sems = after.sems; chans = after.chans }
+
+started_sems : (sems : List Sem) → AreEach IsBalancedSem sems (map (λ s. record { given = s.start; taken = 0 }) sems)
+started_sems [] = tt
+started_sems (s ∷ ss) = (record { first = omega arith; taken = omega arith }, started_sems ss)
+
+started_chans : (chans : List Chan) → AreEach IsBalancedChan chans (map (λ c. record { capacity = c.capacity; sent = []; received = 0 }) chans)
+started_chans [] = tt
+started_chans (c ∷ cs) = (record { capacity = refl; received = omega arith; sent = omega arith }, started_chans cs)
+
+pub started_balanced : (program : Program) (plan : Plan) (budget : ℕ) → IsBalanced program (started_world program plan budget)
+started_balanced program plan budget = record { sems = started_sems program.sems; chans = started_chans program.chans }
+
+run_balanced : (program : Program) (plan : Plan) (w last : World) (h : List ℕ) → IsBalanced program w → run_from program plan w h ≡ Some last → IsBalanced program last
+run_balanced program plan w last [] b e = subst (λ (x : World). IsBalanced program x) (some e) b
+run_balanced program plan w last (p ∷ h) b e =
+    let g : Goes program plan w last p h = goes program plan w last p h e in
+    run_balanced program plan (step program plan w p) last h (step_balanced program plan w p g.enables b) g.rest
+
+pub balanced : CountsAreBalanced
+balanced program plan budget h w e = run_balanced program plan (started_world program plan budget) w h (started_balanced program plan budget) e
