@@ -1,6 +1,7 @@
 -- Expressions of the table as trees, and which programs and plans are valid.
 pub mod Bare
 pub mod Begins
+pub mod Blocks
 pub mod Cells
 pub mod Counting
 pub mod Numbered

@@ -1,6 +1,7 @@
 -- What one process needs next, and the step that it takes.
 pub mod Ask
 pub mod Asked
+pub mod Blocks
 pub mod Deed
 pub mod Described
 pub mod Effects
