@@ -1,3 +1,17 @@
 pub mod Showing
+pub mod ArrayCells
+pub mod BoundedChannel
+pub mod BudgetStop
 pub mod CalleeWrite
+pub mod Deadlock
+pub mod LeafFunction
+pub mod LockOrder
+pub mod LoopInLeaf
+pub mod LoopNeverEntered
+pub mod PastTheEnd
+pub mod Recursion
+pub mod ShortCircuit
+pub mod Smallest
+pub mod UnfinishedLoop
+pub mod UnreadSnapshot
 pub mod Damaged

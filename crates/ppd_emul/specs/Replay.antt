@@ -1,24 +1,26 @@
 -- The replay of an interval: steps of a process state at its block, which take the pieces of its log in order.
-use Rattle.std.specs.Prelude.{ℕ, zero, suc, ◌+◌, nat_eq, ℤ, pos, Bool, true, List, [], ◌∷◌, ◌++◌, zip, drop, get_or, slice_get, Option, Some, None, unwrap_or, Result, Ok, Err, if◌then◌else◌}
+use Rattle.std.specs.Prelude.{ℕ, zero, suc, ◌+◌, nat_eq, ℤ, pos, Bool, true, false, List, [], ◌∷◌, ◌++◌, zip, drop, get_or, slice_get, Option, Some, None, is_some, unwrap_or, Result, Ok, Err, if◌then◌else◌}
 use Rattle.ppd_ast.specs.Blocks.{block_kind}
 use Rattle.ppd_ast.specs.declared.plan.Plan.{Plan}
 use Rattle.ppd_ast.specs.declared.program.Program.{Program}
 use Rattle.ppd_ast.specs.declared.status.Status.{Status}
 use Rattle.ppd_ast.specs.declared.status.Status.TheVariants as status
+use Rattle.ppd_ast.specs.declared.status.Trap.{Trap as TrapOf}
 use Rattle.ppd_entry.specs.IntervalLogs.{IntervalLog}
 use Rattle.ppd_entry.specs.Pieces.{Piece, unit, sync, nested, unfinished, postlog, finish}
 use Rattle.ppd_sem.specs.declared.proc.Answer.{Answer}
 use Rattle.ppd_sem.specs.declared.proc.Answer.TheVariants.{Value, Go}
 use Rattle.ppd_sem.specs.declared.proc.Need.{Need}
-use Rattle.ppd_sem.specs.declared.proc.Need.TheVariants.{Read, Write, Invoke, P, V, Send, Recv, Trap, Budget, Stopped}
+use Rattle.ppd_sem.specs.declared.proc.Need.TheVariants.{Read, Write, Invoke, Recv, Budget, Stopped}
 use Rattle.ppd_sem.specs.declared.proc.Proc.{Proc}
 use Rattle.ppd_sem.specs.declared.proc.Todo.{Todo}
 use Rattle.ppd_sem.specs.Blocks.{at_block, block_unit, skipped, unit_past}
-use Rattle.ppd_sem.specs.Described.{described}
+use Rattle.ppd_sem.specs.Described.{described, trap_of}
 use Rattle.ppd_sem.specs.Process.{act, need_of}
 use Rattle.ppd_model.specs.declared.flow.Item.{Item}
 use Rattle.ppd_model.specs.declared.flow.Item.TheVariants as item
 use Rattle.ppd_model.specs.Story.{cells_of_unit, unit_started}
+use Rattle.ppd_model.specs.Synchronizations.{kind_of_sync}
 use Rattle.ppd_emul.specs.Fits.{found_of, wanted_of, same_trap, fits}
 use Rattle.ppd_emul.specs.declared.trace.BlockTrace.{BlockTrace}
 use Rattle.ppd_emul.specs.declared.trace.EmulError.{EmulError}
@@ -169,14 +171,17 @@ turn_by_wanted program plan need (Some w) r =
 abbrev pub goes_on : Program → Plan → Need → Replaying → Turn
 goes_on program plan need r = fail r (unwrap_or (wanted_of program plan r.proc need) wanted.Fewer)
 
--- the process ends here, after its steps: it was blocked at a synchronization, or traps
-abbrev pub turn_at_end : Program → Plan → Status → Need → Replaying → Turn
-turn_at_end program plan status.Blocked (P o u) r = finished r
-turn_at_end program plan status.Blocked (V o u) r = finished r
-turn_at_end program plan status.Blocked (Send o v u) r = finished r
-turn_at_end program plan status.Blocked (Recv o u) r = finished r
-turn_at_end program plan (status.Trap t) (Trap t') r =
+-- the process traps here, after its steps: its next step traps so
+abbrev pub turn_at_trap : Program → Plan → TrapOf → Option TrapOf → Need → Replaying → Turn
+turn_at_trap program plan t None need r = goes_on program plan need r
+turn_at_trap program plan t (Some t') need r =
     if same_trap t t' then finished (counted (with_event program plan Go None r)) else fail r (wanted.End (status.Trap t'))
+
+-- the process ends here, after its steps: it traps, or was blocked at a synchronization
+abbrev pub turn_at_end : Program → Plan → Status → Need → Replaying → Turn
+turn_at_end program plan status.Blocked need r =
+    if is_some (kind_of_sync need) then finished r else goes_on program plan need r
+turn_at_end program plan (status.Trap t) need r = turn_at_trap program plan t (trap_of need) need r
 turn_at_end program plan s need r = goes_on program plan need r
 
 -- how the process ended, where the piece is its end and these steps are those before it
@@ -184,12 +189,21 @@ abbrev pub end_here : ℕ → Piece → Option Status
 end_here since (finish s rest) = if nat_eq since rest then Some s else None
 end_here since piece = None
 
+-- a turn that the budget allows
+abbrev pub turn_within : Program → Plan → Option Status → Need → Replaying → Turn
+turn_within program plan (Some s) need r = turn_at_end program plan s need r
+turn_within program plan None need r = turn_by_wanted program plan need (wanted_of program plan r.proc need) r
+
+-- the step costs more than is left
+abbrev pub is_budget : Need → Bool
+is_budget Budget = true
+is_budget need = false
+
 -- a stop for the budget ends the replay whatever comes next; else the budget may not be exceeded
 abbrev pub turn_by_end : Program → Plan → Option Status → Need → Replaying → Turn
 turn_by_end program plan (Some status.Budget) need r = finished r
-turn_by_end program plan s Budget r = fail r wanted.Fewer
-turn_by_end program plan (Some s) need r = turn_at_end program plan s need r
-turn_by_end program plan None need r = turn_by_wanted program plan need (wanted_of program plan r.proc need) r
+turn_by_end program plan how need r =
+    if is_budget need then fail r wanted.Fewer else turn_within program plan how need r
 
 -- one turn takes one step, or ends the replay
 abbrev pub turn : Program → Plan → Replaying → Turn

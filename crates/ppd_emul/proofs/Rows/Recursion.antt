@@ -1,0 +1,9 @@
+-- int f(int n) { int r; if (n > 0) { r = f(n - 1); } return r + 1; } process a { int v = f(2); print(v); }
+use Rattle.std.proofs.Common.{◌≡◌, refl}
+use Rattle.ppd_ast.specs.Term.{terms}
+use Rattle.ppd_model.proofs.Rows.Recursion.{program, plan, schedule, the_story}
+use Rattle.ppd_emul.proofs.Rows.Showing.{replays, model_of}
+
+pub process_a : replays program plan 100000 schedule 0 ≡ model_of program plan 100000 the_story 0
+unfolding terms
+process_a = refl
