@@ -1,5 +1,5 @@
 -- The log intervals of a process and their items, from the process's own steps.
-use Rattle.std.specs.Prelude.{ℕ, ◌+◌, nat_eq, ℤ, Bool, true, false, List, [], ◌∷◌, ◌++◌, map, fold, drop, length, get_or, slice_get, count_by, position, Option, Some, None, is_some, if◌then◌else◌}
+use Rattle.std.specs.Prelude.{ℕ, ◌+◌, nat_eq, ℤ, Bool, false, List, [], ◌∷◌, ◌++◌, map, fold, drop, length, get_or, slice_get, count_by, position, Option, Some, None, is_some, if◌then◌else◌}
 use Rattle.std.specs.List.{flat_map}
 use Rattle.ppd_ast.specs.Blocks.{block_kind, is_function, postlog_cells}
 use Rattle.ppd_ast.specs.declared.plan.BlockKind.TheVariants as block

@@ -1,0 +1,36 @@
+-- Laws of replays, which hold of every program, plan, log and budget.
+use Rattle.std.specs.Prelude.{◌≡◌, ℕ, ◌+◌, ◌<◌, ◌≤◌, ◌⊎◌}
+use Rattle.ppd_ast.specs.declared.plan.Plan.{Plan}
+use Rattle.ppd_ast.specs.declared.program.Program.{Program}
+use Rattle.ppd_entry.specs.IntervalLogs.{IntervalLog}
+use Rattle.ppd_emul.specs.Replay.{Replaying, Replayed, Turn, more, done, turn, begun_replay, replay_from, replay}
+
+-- the counter and the process count one step, which the process pays for within its budget
+pub record IsOneStep (r next : Replaying) : Type 0 where
+  pub steps : next.steps ≡ r.steps + 1
+  pub process : next.proc.steps ≡ r.proc.steps + 1
+  pub budget : next.proc.budget ≡ r.proc.budget
+  pub paid : r.proc.spent < next.proc.spent
+  pub within : next.proc.spent ≤ next.proc.budget
+
+-- the counter counts one step more, which can be paid for, or none
+abbrev pub IsLast : Replaying → Replayed → Type 0
+IsLast r x = ((x.steps ≡ r.steps + 1) × (r.proc.spent < r.proc.budget)) ⊎ (x.steps ≡ r.steps)
+
+-- a turn that goes on takes one step, and one that ends the replay one or none
+abbrev pub TakesOneStep : Replaying → Turn → Type 0
+TakesOneStep r (more next) = IsOneStep r next
+TakesOneStep r (done x) = IsLast r x
+
+-- each turn takes one step, and the last one takes one or none
+abbrev pub TurnsAreSteps : Type 0
+TurnsAreSteps = (program : Program) (plan : Plan) (r : Replaying) → TakesOneStep r (turn program plan r)
+
+-- a replay takes no more steps than its budget has
+abbrev pub ReplaysAreWithinBudget : Type 0
+ReplaysAreWithinBudget = (program : Program) (plan : Plan) (l : IntervalLog) (budget : ℕ) → (replay program plan l budget).steps ≤ budget
+
+-- a replay that has turns for all that is left of its budget comes to the same with more turns
+abbrev pub TurnsSuffice : Type 0
+TurnsSuffice = (program : Program) (plan : Plan) (turns extra : ℕ) (r : Replaying) → r.proc.budget < r.proc.spent + turns
+    → r.proc.spent ≤ r.proc.budget → replay_from program plan (turns + extra) r ≡ replay_from program plan turns r
