@@ -1,5 +1,5 @@
 -- Each turn of a replay takes one step of its process, and its budget bounds them.
-use Rattle.std.proofs.Common.{◌≡◌, ◌≢◌, ◌⊎◌, ℕ, zero, suc, ◌+◌, ◌<◌, ◌≤◌, ℤ, Bool, true, false, List, [], ◌∷◌, Option, Some, None, is_some, refl, ap, sym, ◌∙◌, subst, arith, inl, inr, if◌then◌else◌}
+use Rattle.std.proofs.Common.{◌≡◌, ◌≢◌, ℕ, zero, suc, ◌+◌, ◌<◌, ◌≤◌, ℤ, Bool, true, false, List, [], ◌∷◌, Option, Some, None, is_some, refl, ap, sym, ◌∙◌, subst, arith, inl, inr, if◌then◌else◌}
 use Rattle.ppd_ast.specs.Blocks.{block_kind}
 use Rattle.ppd_ast.specs.declared.plan.Plan.{Plan}
 use Rattle.ppd_ast.specs.declared.program.Program.{Program}
@@ -14,7 +14,7 @@ use Rattle.ppd_sem.specs.declared.proc.Need.{Need}
 use Rattle.ppd_sem.specs.declared.proc.Need.TheVariants.{Read, Write, Plain, Enter, Leave, Invoke, Back, P, V, Send, Recv, End, Trap, Budget, Stopped}
 use Rattle.ppd_sem.specs.declared.proc.Proc.{Proc}
 use Rattle.ppd_sem.specs.declared.proc.Todo.{Todo}
-use Rattle.ppd_sem.specs.Blocks.{block_unit, frames_past, skipped, unit_past}
+use Rattle.ppd_sem.specs.Blocks.{block_unit, skipped, unit_past}
 use Rattle.ppd_sem.specs.Described.{trap_of}
 use Rattle.ppd_sem.specs.Process.{act, act_at, act_by_asked, act_by_need, charged, cost, head_deed, need_of}
 use Rattle.ppd_sem.proofs.Paid.{need-paid}
@@ -25,7 +25,7 @@ use Rattle.ppd_model.specs.Synchronizations.{kind_of_sync}
 use Rattle.ppd_emul.specs.declared.wanted.Wanted.{Wanted}
 use Rattle.ppd_emul.specs.declared.wanted.Wanted.TheVariants as wanted
 use Rattle.ppd_emul.specs.Fits.{found_of, wanted_of, same_trap, fits}
-use Rattle.ppd_emul.specs.Replay.{Replaying, Replayed, Turn, more, done, begun_replay, counted, end_here, fail, finished, go_on, goes_on, is_budget, next_piece, out_of_turns, past_piece, received, replay, replay_from, skip_nested, step_with, step_without, stepped, synchronize, take_unit, take_unit_if, turn, turn_at_end, turn_at_trap, turn_by_end, turn_by_wanted, turn_within, unit_taken, value_in_force, with_call, with_event, with_event_of, with_item, with_write}
+use Rattle.ppd_emul.specs.Replay.{Replaying, Replayed, Turn, more, done, begun_replay, counted, end_here, fail, finished, go_on, goes_on, is_budget, next_piece, past_piece, received, replay, replay_from, skip_nested, step_with, step_without, stepped, synchronize, take_unit, take_unit_if, turn, turn_at_end, turn_at_trap, turn_by_end, turn_by_wanted, turn_within, unit_taken, value_in_force, with_call, with_event, with_event_of, with_item, with_write}
 use Rattle.ppd_emul.specs.Laws.{IsLast, IsOneStep, ReplaysAreWithinBudget, TakesOneStep, TurnsAreSteps, TurnsSuffice}
 
 module _ (program : Program) (plan : Plan) where
@@ -327,9 +327,9 @@ module _ (program : Program) (plan : Plan) where
 
   same_paid : (r q : Replaying) → Same r q → IsPaid r → IsPaid q
   same_paid r q same paid = record {
-      steps = subst (λ (m : ℕ). m ≤ q.proc.spent) (sym same.steps) (subst (λ (s : Proc). r.steps ≤ s.spent) (sym same.proc) paid.steps);
-      spent = subst (λ (s : Proc). s.spent ≤ s.budget) (sym same.proc) paid.spent;
-    }
+    steps = subst (λ (m : ℕ). m ≤ q.proc.spent) (sym same.steps) (subst (λ (s : Proc). r.steps ≤ s.spent) (sym same.proc) paid.steps);
+    spent = subst (λ (s : Proc). s.spent ≤ s.budget) (sym same.proc) paid.spent;
+  }
 
   begun_bounded : (turns u : ℕ) (r : Replaying) (ok : Bool) → IsPaid r → (go_on (if ok then more (unit_taken plan u (next_piece r).1 r) else fail r (wanted.Unit u)) (replay_from program plan turns)).steps ≤ r.proc.budget
   begun_bounded turns u r true paid =
@@ -345,7 +345,7 @@ module _ (program : Program) (plan : Plan) where
   replay_bounded l budget =
       let u : ℕ = block_unit plan (block_kind plan l.block) in
       let r : Replaying = begun_replay program plan l budget in
-      begun_bounded (budget + 1) u r (fits (wanted.Unit u) (found_of (next_piece r).1)) record { steps = arith; spent = arith }
+      begun_bounded (budget + 1) u r (fits (wanted.Unit u) (found_of (next_piece r).1)) record { steps = omega arith; spent = omega arith }
 
   -- ---- more turns than the budget has
 
@@ -359,13 +359,16 @@ module _ (program : Program) (plan : Plan) where
       let spent : r.proc.spent < next.proc.spent = one.paid in
       omega arith
 
-  suffice : (turns extra : ℕ) (r : Replaying) → r.proc.budget < r.proc.spent + turns → r.proc.spent ≤ r.proc.budget → replay_from program plan (turns + extra) r ≡ replay_from program plan turns r
-  suffice zero extra r few paid =
+  suffice : (m n : ℕ) (r : Replaying) → r.proc.spent ≤ r.proc.budget → r.proc.budget < r.proc.spent + m → r.proc.budget < r.proc.spent + n → replay_from program plan m r ≡ replay_from program plan n r
+  suffice zero n r paid few _ =
       let none : ⊥ = omega arith in
       absurd none
-  suffice (suc turns) extra r few paid =
-      suffice_by r (replay_from program plan (turns + extra)) (replay_from program plan turns)
-      (λ next one. suffice turns extra next (fewer_left turns r next few one) one.within) (turn program plan r) (turn_goes r)
+  suffice (suc m) zero r paid _ few =
+      let none : ⊥ = omega arith in
+      absurd none
+  suffice (suc m) (suc n) r paid x y =
+      suffice_by r (replay_from program plan m) (replay_from program plan n)
+      (λ next one. suffice m n next one.within (fewer_left m r next x one) (fewer_left n r next y one)) (turn program plan r) (turn_goes r)
 
 pub turns_are_steps : TurnsAreSteps
 turns_are_steps = turn_goes

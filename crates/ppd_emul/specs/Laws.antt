@@ -3,7 +3,7 @@ use Rattle.std.specs.Prelude.{◌≡◌, ℕ, ◌+◌, ◌<◌, ◌≤◌, ◌�
 use Rattle.ppd_ast.specs.declared.plan.Plan.{Plan}
 use Rattle.ppd_ast.specs.declared.program.Program.{Program}
 use Rattle.ppd_entry.specs.IntervalLogs.{IntervalLog}
-use Rattle.ppd_emul.specs.Replay.{Replaying, Replayed, Turn, more, done, turn, begun_replay, replay_from, replay}
+use Rattle.ppd_emul.specs.Replay.{Replaying, Replayed, Turn, more, done, turn, replay_from, replay}
 
 -- the counter and the process count one step, which the process pays for within its budget
 pub record IsOneStep (r next : Replaying) : Type 0 where
@@ -30,7 +30,7 @@ TurnsAreSteps = (program : Program) (plan : Plan) (r : Replaying) → TakesOneSt
 abbrev pub ReplaysAreWithinBudget : Type 0
 ReplaysAreWithinBudget = (program : Program) (plan : Plan) (l : IntervalLog) (budget : ℕ) → (replay program plan l budget).steps ≤ budget
 
--- a replay that has turns for all that is left of its budget comes to the same with more turns
+-- two counts of turns that are both more than what is left of the budget come to the same
 abbrev pub TurnsSuffice : Type 0
-TurnsSuffice = (program : Program) (plan : Plan) (turns extra : ℕ) (r : Replaying) → r.proc.budget < r.proc.spent + turns
-    → r.proc.spent ≤ r.proc.budget → replay_from program plan (turns + extra) r ≡ replay_from program plan turns r
+TurnsSuffice = (program : Program) (plan : Plan) (m n : ℕ) (r : Replaying) → r.proc.spent ≤ r.proc.budget
+    → r.proc.budget < r.proc.spent + m → r.proc.budget < r.proc.spent + n → replay_from program plan m r ≡ replay_from program plan n r

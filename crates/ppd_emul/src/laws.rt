@@ -8,7 +8,7 @@ pub fn replays_count_their_steps()
 {}
 
 /// Law: a replay takes no more steps than its budget has, and the definition gives it turns
-/// enough: with more of them it comes to the same.
+/// enough: any count of turns that is more than the budget comes to the same.
 pub fn replays_are_within_budget()
     ensures steps { ReplaysAreWithinBudget }
     ensures turns { TurnsSuffice }

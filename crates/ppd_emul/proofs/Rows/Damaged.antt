@@ -1,6 +1,6 @@
 -- Logs that no run wrote: the replay fails at the first piece that is not the one needed.
 use Rattle.std.proofs.Common.{◌≡◌, refl}
-use Rattle.std.specs.Prelude.{ℕ, ℤ, pos, true, List, [], ◌∷◌, Some, None, Ok, Err}
+use Rattle.std.specs.Prelude.{ℕ, pos, true, List, [], ◌∷◌, Some, None, Ok, Err}
 use Rattle.ppd_ast.specs.Term.{terms}
 use Rattle.ppd_ast.specs.declared.status.Status.{Status}
 use Rattle.ppd_ast.specs.declared.status.Status.TheVariants as status
