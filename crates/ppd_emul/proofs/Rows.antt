@@ -14,4 +14,5 @@ pub mod ShortCircuit
 pub mod Smallest
 pub mod UnfinishedLoop
 pub mod UnreadSnapshot
+pub mod TooDeep
 pub mod Damaged
