@@ -1,5 +1,6 @@
 -- What a replay needs of the next piece, and whether the piece is that.
 use Rattle.std.specs.Prelude.{ℕ, nat_eq, ℤ, pos, Bool, true, false, ◌&&◌, List, [], ◌∷◌, Option, Some, None}
+use Rattle.std.specs.Cmp.Lexicographic.{pointwise}
 use Rattle.std.specs.Ordering.{int_eq}
 use Rattle.ppd_ast.specs.declared.plan.Plan.{Plan}
 use Rattle.ppd_ast.specs.declared.program.Program.{Program}
@@ -63,12 +64,6 @@ same_kind sync_kind.Send sync_kind.Send = true
 same_kind sync_kind.Recv sync_kind.Recv = true
 same_kind a b = false
 
--- the values are the same, one after the other
-abbrev pub same_values : List ℤ → List ℤ → Bool
-same_values [] [] = true
-same_values (x ∷ xs) (y ∷ ys) = int_eq x y && same_values xs ys
-same_values xs ys = false
-
 -- the traps are one
 abbrev pub same_trap : TrapOf → TrapOf → Bool
 same_trap trap.Overflow trap.Overflow = true
@@ -84,5 +79,5 @@ abbrev pub fits : Wanted → Found → Bool
 fits (wanted.Unit a) (found.Unit b) = nat_eq a b
 fits (wanted.Sync k o v) (found.Sync k' o' v') = same_kind k k' && nat_eq o o' && int_eq v v'
 fits (wanted.Nested a) (found.Nested b) = nat_eq a b
-fits (wanted.Postlog vs) (found.Postlog ws) = same_values vs ws
+fits (wanted.Postlog vs) (found.Postlog ws) = pointwise int_eq vs ws
 fits w f = false
