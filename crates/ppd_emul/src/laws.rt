@@ -1,4 +1,4 @@
-ghost use Rattle.ppd_emul.specs.Laws.{ReplaysAreWithinBudget, TurnsAreSteps, TurnsSuffice};
+ghost use Rattle.ppd_emul.specs.Laws.{FailuresDiffer, ReplaysAreWithinBudget, TurnsAreSteps, TurnsSuffice};
 
 /// Law: each turn of a replay that goes on takes exactly one step of its process, which the
 /// counter of steps counts and the process pays for; the last turn takes one step or none. So the
@@ -12,4 +12,10 @@ pub fn replays_count_their_steps()
 pub fn replays_are_within_budget()
     ensures steps { ReplaysAreWithinBudget }
     ensures turns { TurnsSuffice }
+{}
+
+/// Law: where a replay fails, what it found is not what it wanted, but where both are the end by
+/// one trap.
+pub fn failures_differ()
+    ensures { FailuresDiffer }
 {}
