@@ -1,1 +1,4 @@
--- The entries of a log have no definitions beside their types.
+-- The log of each interval, from the log of its process.
+pub mod Blocks
+pub mod Pieces
+pub mod IntervalLogs

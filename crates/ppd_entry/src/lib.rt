@@ -1,7 +1,9 @@
-//! What a process writes to its log while it runs, as data.
+//! What a process writes to its log while it runs, and the log of each of its intervals, as data.
 #![tactic(auto)]
 
 mod entry;
+mod piece;
 
 pub use entry::{At, Entry, Logs};
+pub use piece::Piece;
 pub use ppd_ast::{Status, SyncKind, Trap};

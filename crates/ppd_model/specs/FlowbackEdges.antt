@@ -1,5 +1,6 @@
 -- The flowback edges of an item: where what it read, was left, was given and was let run by came from.
 use Rattle.std.specs.Prelude.{ℕ, ℤ, pos, List, [], ◌∷◌, ◌++◌, map, zip, get_or, slice_get, Option, Some, None, option_map}
+use Rattle.ppd_entry.specs.Blocks.{block_kind, postlog_cells}
 use Rattle.ppd_ast.specs.declared.plan.BlockKind.{BlockKind}
 use Rattle.ppd_ast.specs.declared.plan.BlockKind.TheVariants as block
 use Rattle.ppd_ast.specs.declared.plan.Plan.{Plan}
@@ -18,8 +19,7 @@ use Rattle.ppd_model.specs.declared.trace.EventId.{EventId}
 use Rattle.ppd_model.specs.declared.trace.TracedEvent.{TracedEvent}
 use Rattle.ppd_model.specs.Story.{Story}
 use Rattle.ppd_model.specs.FullTrace.{Tag}
-use Rattle.ppd_model.specs.Marks.{postlog_cells}
-use Rattle.ppd_model.specs.Intervals.{Part, own, nested, Span, Split, splits, block_kind, ref}
+use Rattle.ppd_model.specs.Intervals.{Part, own, nested, Span, Split, splits, ref}
 
 -- where a value came from
 abbrev pub from_writer : List Split → Tag → Origin

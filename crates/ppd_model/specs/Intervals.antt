@@ -1,8 +1,7 @@
 -- The log intervals of a process and their items, from the process's own steps.
-use Rattle.std.specs.Prelude.{ℕ, ◌+◌, nat_eq, ℤ, Bool, true, false, List, [], ◌∷◌, ◌++◌, map, fold, drop, length, get_or, slice_get, count_by, position, Option, Some, None, is_some, if◌then◌else◌}
+use Rattle.std.specs.Prelude.{ℕ, ◌+◌, nat_eq, ℤ, Bool, false, List, [], ◌∷◌, ◌++◌, map, fold, drop, length, get_or, slice_get, count_by, position, Option, Some, None, is_some, if◌then◌else◌}
 use Rattle.std.specs.List.{flat_map}
-use Rattle.ppd_ast.specs.declared.plan.Block.{Block}
-use Rattle.ppd_ast.specs.declared.plan.BlockKind.{BlockKind}
+use Rattle.ppd_entry.specs.Blocks.{block_kind, is_function, postlog_cells}
 use Rattle.ppd_ast.specs.declared.plan.BlockKind.TheVariants as block
 use Rattle.ppd_ast.specs.declared.plan.Plan.{Plan}
 use Rattle.ppd_ast.specs.declared.program.Program.{Program}
@@ -22,7 +21,7 @@ use Rattle.ppd_model.specs.World.{change}
 use Rattle.ppd_model.specs.Story.{Taken, Story, is_event}
 use Rattle.ppd_model.specs.FullTrace.{Tag, Tracing, begun_tracing, me_in, parent_at, top_tags, trace_step}
 use Rattle.ppd_model.specs.Record.{edge_after}
-use Rattle.ppd_model.specs.Marks.{Mark, opened, closed, postlog_cells}
+use Rattle.ppd_model.specs.Marks.{Mark, opened, closed}
 
 -- what stands in an interval: an event of its own, or an interval directly inside it, by number
 pub data Part : Type 0 where
@@ -184,20 +183,6 @@ intervals program plan budget story p = spans_in (slice_get (splits program plan
 -- the interval has a postlog
 abbrev pub is_closed : Span → Bool
 is_closed i = is_some i.closed
-
--- what a block is the code of
-abbrev pub kind_in : Option Block → BlockKind
-kind_in None = block.Process 0
-kind_in (Some b) = b.kind
-
--- what block b of the plan is the code of
-abbrev pub block_kind : Plan → ℕ → BlockKind
-block_kind plan b = kind_in (slice_get plan.blocks b)
-
--- the block is a function's body
-abbrev pub is_function : BlockKind → Bool
-is_function (block.Function f) = true
-is_function kind = false
 
 -- the interval is one of a function's body
 abbrev pub is_function_span : Plan → Option Span → Bool

@@ -1,6 +1,6 @@
 -- The interval that a step of a process opens or closes, with the values of its prelog or postlog.
-use Rattle.std.specs.Prelude.{ℕ, ℤ, List, [], map, Option, Some, None, slice_get}
-use Rattle.ppd_ast.specs.declared.plan.Block.{Block}
+use Rattle.std.specs.Prelude.{ℕ, ℤ, List, [], map, Option, Some, None}
+use Rattle.ppd_entry.specs.Blocks.{prelog_cells, postlog_cells}
 use Rattle.ppd_ast.specs.declared.plan.Plan.{Plan}
 use Rattle.ppd_ast.specs.declared.program.Program.{Program}
 use Rattle.ppd_sem.specs.declared.proc.Need.{Need}
@@ -18,24 +18,6 @@ pub record Mark : Type 0 where
 -- a block with these values
 abbrev pub mark : ℕ → List ℤ → Mark
 mark block values = record { block = block; values = values }
-
--- the local cells of a block's prelog
-abbrev pub prelog_in : Option Block → List ℕ
-prelog_in None = []
-prelog_in (Some b) = b.prelog
-
--- the local cells of a block's postlog
-abbrev pub postlog_in : Option Block → List ℕ
-postlog_in None = []
-postlog_in (Some b) = b.postlog
-
--- the local cells of the prelog of block b
-abbrev pub prelog_cells : Plan → ℕ → List ℕ
-prelog_cells plan b = prelog_in (slice_get plan.blocks b)
-
--- the local cells of the postlog of block b
-abbrev pub postlog_cells : Plan → ℕ → List ℕ
-postlog_cells plan b = postlog_in (slice_get plan.blocks b)
 
 -- the values of cells of the top frame
 abbrev pub values_at : Proc → List ℕ → List ℤ

@@ -1,6 +1,7 @@
 -- The intervals near to an item: those of its own surroundings and of the origins of its edges.
 use Rattle.std.specs.Prelude.{ℕ, ◌+◌, nat_eq, Bool, true, false, ◌&&◌, ◌||◌, List, [], ◌∷◌, ◌++◌, drop, take, slice_get, count_by, sum_by, Option, Some, None, is_some, if◌then◌else◌}
 use Rattle.std.specs.List.{list_any}
+use Rattle.ppd_entry.specs.Blocks.{block_kind}
 use Rattle.ppd_ast.specs.declared.plan.BlockKind.{BlockKind}
 use Rattle.ppd_ast.specs.declared.plan.BlockKind.TheVariants as block
 use Rattle.ppd_ast.specs.declared.plan.Plan.{Plan}
@@ -9,7 +10,7 @@ use Rattle.ppd_model.specs.declared.flow.FlowEdge.{FlowEdge}
 use Rattle.ppd_model.specs.declared.flow.Origin.{Origin}
 use Rattle.ppd_model.specs.declared.flow.Origin.TheVariants as origin
 use Rattle.ppd_model.specs.Story.{Story}
-use Rattle.ppd_model.specs.Intervals.{Part, own, Span, Split, splits, block_kind}
+use Rattle.ppd_model.specs.Intervals.{Part, own, Span, Split, splits}
 use Rattle.ppd_model.specs.FlowbackEdges.{edges, part_at}
 
 -- ---- open in an edge
