@@ -42,8 +42,7 @@ pub fn valid_can_run()
 #[tactic(auto, using(crate::proofs::Lawful::is_numbered))]
 pub fn valid_is_numbered()
     ensures { ValidIsNumbered }
-{
-}
+{}
 
 /// Each step leaves fewer steps to take, within the budget.
 #[tactic(auto, using(crate::proofs::Lawful::ends))]

@@ -1,6 +1,6 @@
 -- From the run of a program to the answer for its source.
-use Rattle.std.specs.Prelude.{Option, Some, None, false}
-use Rattle.std.proofs.Common.{◌≡◌, ◌≢◌, ℕ, ◌++◌, List, [], refl, sym, ◌∙◌, ap, subst}
+use Rattle.std.specs.Prelude.{Some}
+use Rattle.std.proofs.Common.{◌≡◌, ◌≢◌, ℕ, List, [], refl, sym, ◌∙◌, ap, subst}
 use Rattle.ppd_ast.specs.declared.program.Program.{Program}
 use Rattle.ppd_ast.specs.declared.plan.Plan.{Plan}
 use Rattle.ppd_sem.specs.Runs.{IsRunnable}
@@ -16,10 +16,10 @@ use Rattle.ppd_parse.specs.Limits.{IsTree, IsRefused as IsSyntaxRefused}
 use Rattle.ppd_top.specs.declared.form.Form.{Form}
 use Rattle.ppd_top.specs.Form.{IsForm}
 use Rattle.ppd_top.specs.Lowered.{program_of, plan_of_process}
-use Rattle.ppd_top.specs.World.{World, run, run_from, started_world, IsOver, IsWhole}
+use Rattle.ppd_model.specs.Schedule.{run, run_from, started_world, IsOver}
 use Rattle.ppd_top.specs.Running.{Running, Runs}
 use Rattle.ppd_top.specs.Summary.{summary_of, summary_after}
-use Rattle.ppd_top.specs.Top.{default_budget, IsSource, IsWholeRun, summary_of_run, refused_lex, refused_syntax, refused_form, Refuses, Answers}
+use Rattle.ppd_top.specs.Top.{default_budget, IsWholeRun, summary_of_run, refused_lex, refused_syntax, refused_form, Refuses, Answers}
 use Rattle.ppd_top.specs.Top.Refuses.{by_token, by_syntax, by_form}
 use Rattle.ppd_top.specs.Top.Answers.{refusal, run as ran}
 use Rattle.ppd_top.proofs.FirstProgram.{program_of-first}

@@ -1,6 +1,6 @@
 -- One element of a list changed.
-use Rattle.std.proofs.Common.{◌≡◌, ℕ, zero, suc, ◌<◌, ◌≤◌, List, [], ◌∷◌, length, get_or, slice_set, refl, ap, sym, arith}
-use Rattle.ppd_top.specs.World.{change}
+use Rattle.std.proofs.Common.{◌≡◌, ℕ, zero, suc, ◌<◌, ◌≤◌, List, [], ◌∷◌, length, get_or, slice_set, refl, ap, arith}
+use Rattle.ppd_model.specs.World.{change}
 
 pub change_past : {A : Type 0} (f : A → A) (i : ℕ) (xs : List A) → length xs ≤ i → change f i xs ≡ xs
 change_past f i [] h = refl

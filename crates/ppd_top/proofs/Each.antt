@@ -1,6 +1,5 @@
 -- What holds of each element of longer lists.
-use Rattle.std.specs.Prelude.{slice_index_or}
-use Rattle.std.proofs.Common.{◌≡◌, ℕ, zero, suc, ◌+◌, ◌<◌, List, [], ◌∷◌, ◌++◌, length, get_or, refl, sym, subst, arith, length-append}
+use Rattle.std.proofs.Common.{◌≡◌, ℕ, zero, suc, ◌+◌, List, [], ◌∷◌, ◌++◌, length, get_or, subst, arith, length-append}
 use Rattle.ppd_ast.specs.Table.{EachAt}
 
 pub each-nil : {X : Type 0} (P : ℕ → X → Type 0) → EachAt P []

@@ -1,15 +1,12 @@
 -- The program of a source of one process is one of assignments and prints.
-use Rattle.std.specs.Prelude.{⊤}
 use Rattle.std.specs.List.{range_with_len}
-use Rattle.std.proofs.Common.{◌≡◌, ℕ, zero, suc, ◌+◌, ◌<◌, ◌≤◌, ◌^◌, List, [], ◌∷◌, ◌++◌, length, get_or, refl, sym, ◌∙◌, ap, subst, arith, length-append}
+use Rattle.std.proofs.Common.{◌≡◌, ℕ, suc, ◌+◌, ◌<◌, ◌≤◌, List, [], ◌∷◌, length, get_or, refl, ap, subst, arith, length-append}
 use Rattle.std.proofs.lemmas.List.FromFn.{length-range_with_len, get_or-range_with_len}
 use Rattle.ppd_ast.specs.Table.{EachAt, AreChildrenBelow}
 use Rattle.ppd_ast.specs.declared.program.Op.TheVariants.{Add}
 use Rattle.ppd_ast.specs.declared.program.Expr.{Expr}
 use Rattle.ppd_ast.specs.declared.program.Expr.TheVariants as expr
-use Rattle.ppd_ast.specs.declared.program.Stmt.{Stmt}
 use Rattle.ppd_ast.specs.declared.program.Kind.TheVariants as kind
-use Rattle.ppd_ast.specs.declared.program.Body.{Body}
 use Rattle.ppd_sem.specs.First.{IsFirstExpr, IsFirstKind, IsFirstBody, IsFirstProgram}
 use Rattle.ppd_top.specs.declared.form.Operand.{Operand}
 use Rattle.ppd_top.specs.declared.form.Operand.TheVariants as operand
@@ -18,7 +15,7 @@ use Rattle.ppd_top.specs.declared.form.Sum.TheVariants.{One, Plus}
 use Rattle.ppd_top.specs.declared.form.Step.{Step}
 use Rattle.ppd_top.specs.declared.form.Step.TheVariants.{Set, Print}
 use Rattle.ppd_top.specs.declared.form.Form.{Form}
-use Rattle.ppd_top.specs.Lowered.{expr_of, sum_exprs, sum_size, sum_root, sum_of, stmt_at, stmt_of, exprs_from, stmts_from, body_of, program_of, plan_of_process}
+use Rattle.ppd_top.specs.Lowered.{expr_of, sum_exprs, sum_size, sum_root, sum_of, stmt_at, stmt_of, exprs_from, stmts_from, body_of, program_of}
 use Rattle.ppd_top.proofs.Each.{each-nil, each-cons, each-append}
 use Rattle.ppd_top.proofs.Tables.{length-sum_exprs}
 

@@ -1,6 +1,6 @@
 -- A world of one process comes to its end.
-use Rattle.std.specs.Prelude.{slice_get, slice_index_or}
-use Rattle.std.proofs.Common.{◌≡◌, ◌≢◌, ℕ, zero, suc, ◌+◌, ◌<◌, ◌≤◌, List, [], ◌∷◌, ◌++◌, length, Option, Some, None, Bool, true, false, refl, sym, ◌∙◌, ap, subst, arith}
+use Rattle.std.specs.Prelude.{slice_get}
+use Rattle.std.proofs.Common.{◌≡◌, ◌≢◌, ℕ, zero, suc, ◌+◌, ◌<◌, List, [], ◌∷◌, ◌++◌, length, true, false, refl, ◌∙◌, ap, subst, arith}
 use Rattle.std.proofs.lemmas.List.FromFn.{map-range_with_len_more}
 use Rattle.ppd_ast.specs.Table.{EachAt}
 use Rattle.ppd_ast.specs.declared.program.Program.{Program}
@@ -9,10 +9,10 @@ use Rattle.ppd_sem.specs.declared.proc.Need.{Need}
 use Rattle.ppd_sem.specs.declared.proc.Need.TheVariants.{Stopped}
 use Rattle.ppd_sem.specs.declared.proc.Proc.{Proc}
 use Rattle.ppd_sem.specs.Runs.{IsRunning}
-use Rattle.ppd_sem.specs.Measure.{measure}
 use Rattle.ppd_sem.specs.Process.{act, need_of, started}
 use Rattle.ppd_sem.proofs.Progress.{act-falls}
-use Rattle.ppd_top.specs.World.{World, started_procs, enabled, step, step_by, effect, change, can, need, need_at, answer, IsOver}
+use Rattle.ppd_model.specs.Schedule.{started_procs, IsOver}
+use Rattle.ppd_model.specs.World.{World, enabled, step, change, can, need, need_at, answer}
 use Rattle.ppd_top.specs.Running.{Running, IsFirstWorld, stepped, measure_of}
 
 pub length-change : {A : Type 0} (f : A → A) (i : ℕ) (xs : List A) → length (change f i xs) ≡ length xs

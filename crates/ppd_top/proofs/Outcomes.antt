@@ -1,22 +1,18 @@
 -- From what was written last to the clauses of the top call.
 use Rattle.std.specs.Prelude.{Option, Some, None, ◌⊎◌, take, codes}
 use Rattle.std.specs.Borrow.{Bor}
-use Rattle.std.proofs.Common.{◌≡◌, ◌≢◌, ℕ, ◌<◌, List, [], ◌∷◌, arith, inl, inr, refl, subst, sym, ◌∙◌, ap, lit<}
-use Rattle.ppd_io.specs.Causes.{Rose}
-use Rattle.ppd_io.specs.Content.{Loads, Appends, AppendsPart}
+use Rattle.std.proofs.Common.{◌≡◌, ℕ, ◌<◌, List, [], ◌∷◌, arith, inl, inr, refl, subst, sym, ◌∙◌, ap}
+use Rattle.ppd_io.specs.Content.{Loads, Appends}
 use Rattle.ppd_lex.specs.declared.token.Token.{Token}
-use Rattle.ppd_lex.specs.declared.token.LexError.{LexError}
 use Rattle.ppd_lex.proofs.Unique.{tokens_unique, tokens_or_fault}
-use Rattle.ppd_parse.specs.declared.error.SyntaxError.{SyntaxError}
-use Rattle.ppd_parse.specs.Grammar.{Shape}
 use Rattle.ppd_parse.specs.Limits.{IsTree}
 use Rattle.ppd_parse.proofs.Excluded.{tree_or_refused}
 use Rattle.ppd_top.specs.declared.form.Form.{Form}
 use Rattle.ppd_top.specs.Form.{IsForm}
-use Rattle.ppd_top.specs.Top.{texts, Asks, most_bytes, usage, IsSource, IsWholeRun, summary_of_run, refused_lex, refused_form, Refuses, Answers, Writes, Finished, RanWhole, WasRefused, WriteFailed, MemoryRanOut, IsPromised}
+use Rattle.ppd_top.specs.Top.{Asks, most_bytes, IsSource, Refuses, Answers, Writes, Finished, RanWhole, WasRefused, WriteFailed, MemoryRanOut, IsPromised}
 use Rattle.ppd_top.specs.Top.Refuses.{by_token, by_syntax, by_form}
 use Rattle.ppd_top.specs.Top.Answers.{refusal, run}
-use Rattle.ppd_top.specs.Top.Writes.{for_words, for_source}
+use Rattle.ppd_top.specs.Top.Writes.{for_source}
 
 -- a refused source is none of one process
 pub refuses-no_source : (source line : List ℕ) → Refuses source line → (form : Form) → IsSource source form → ⊥

@@ -1,15 +1,15 @@
 -- How far the steps and the declarations are read.
-use Rattle.std.specs.Prelude.{Option, Some, None, Bool, true, false, ◌⊎◌}
-use Rattle.std.proofs.Common.{◌≡◌, ℕ, ◌+◌, ◌<◌, List, [], ◌∷◌, ◌++◌, length, refl, sym, ◌∙◌, subst, ap, arith, cond, append_assoc, append-nil, inl, inr, length-append}
+use Rattle.std.specs.Prelude.{Option, Some, None, Bool, true, false}
+use Rattle.std.proofs.Common.{◌≡◌, ℕ, ◌+◌, ◌<◌, List, [], ◌∷◌, ◌++◌, length, refl, sym, ◌∙◌, subst, ap, arith, cond, append_assoc, append-nil}
 use Rattle.ppd_ast.specs.declared.program.Place.{Place}
 use Rattle.ppd_lex.specs.declared.token.Token.{Token}
 use Rattle.ppd_lex.specs.declared.token.TokenKind.{TokenKind}
 use Rattle.ppd_lex.specs.declared.token.TokenKind.TheVariants.{Name, Number, Word, Mark, End}
 use Rattle.ppd_top.specs.declared.form.Step.{Step}
 use Rattle.ppd_top.specs.declared.form.Step.TheVariants.{Set, Print}
-use Rattle.ppd_top.specs.Form.{Spells, Steps, step_kinds, HasDeclared, place_of, first_place, are_distinct, finish_mark}
+use Rattle.ppd_top.specs.Form.{Spells, Steps, step_kinds, are_distinct}
 use Rattle.ppd_top.specs.Reached.{ReachedSteps, IsBody}
-use Rattle.ppd_top.specs.Reading.{Read, read_step, read_name, read_print, after_mark, after_word, read_finish, finish_from, ends_here, is_end}
+use Rattle.ppd_top.specs.Reading.{read_step, after_mark, read_finish, finish_from, ends_here, is_end}
 use Rattle.ppd_top.proofs.Readings.{after_mark-spells, spelled-mark}
 use Rattle.ppd_top.proofs.StepsRead.{read_step-spells, spelled-step}
 

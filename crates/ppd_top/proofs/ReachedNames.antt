@@ -1,13 +1,12 @@
 -- How far the declarations are read.
-use Rattle.std.specs.Prelude.{Option, Some, None, Bool, true, false, ◌⊎◌}
-use Rattle.std.proofs.Common.{◌≡◌, ℕ, ◌+◌, ◌<◌, List, [], ◌∷◌, ◌++◌, length, refl, sym, ◌∙◌, subst, ap, arith, append_assoc, append-nil, inl, inr, length-append}
+use Rattle.std.specs.Prelude.{Option, Some, None, ◌⊎◌}
+use Rattle.std.proofs.Common.{◌≡◌, ℕ, ◌<◌, List, [], ◌∷◌, ◌++◌, length, refl, sym, ◌∙◌, subst, ap, arith, append_assoc, append-nil, inl, inr}
 use Rattle.ppd_lex.specs.declared.token.Token.{Token}
-use Rattle.ppd_lex.specs.declared.token.TokenKind.{TokenKind}
-use Rattle.ppd_lex.specs.declared.token.TokenKind.TheVariants.{Name, Number, Word, Mark, End}
+use Rattle.ppd_lex.specs.declared.token.TokenKind.TheVariants.{Name}
 use Rattle.ppd_top.specs.Form.{Spells, Declares, Heads, shared_word, int_word, process_word, begin_mark, semicolon_mark, comma_mark}
 use Rattle.ppd_top.specs.Reached.{ReachedNames, IsHeading}
-use Rattle.ppd_top.specs.Reading.{Read, and_read, and_skip, read_name, after_mark, after_word, read_shared, read_further, read_more, read_process, read_head}
-use Rattle.ppd_top.proofs.Spelled.{spells-append, spells-split, and_read_some, and_skip_some}
+use Rattle.ppd_top.specs.Reading.{and_read, and_skip, read_name, after_mark, after_word, read_shared, read_further, read_more, read_process, read_head}
+use Rattle.ppd_top.proofs.Spelled.{spells-append, and_read_some, and_skip_some}
 use Rattle.ppd_top.proofs.Readings.{after_word-spells, after_mark-spells, spelled-word, spelled-mark, no_mark, read_name-spells, spelled-name}
 use Rattle.ppd_top.proofs.Reached.{spells-length}
 

@@ -1,8 +1,7 @@
 -- What was read is spelled so, and what is spelled is read.
 use Rattle.std.specs.Prelude.{Option, Some, None, Bool, true, false}
-use Rattle.std.proofs.Common.{◌≡◌, ℕ, ◌<◌, List, [], ◌∷◌, ◌++◌, length, refl, sym, ◌∙◌, subst, ap, nat_eq, cond}
+use Rattle.std.proofs.Common.{◌≡◌, ℕ, List, [], ◌∷◌, ◌++◌, length, refl, sym, subst, ap, cond}
 use Rattle.std.proofs.lemmas.Bool.{eqb-true, eq-eqb}
-use Rattle.ppd_ast.specs.declared.program.Place.{Place}
 use Rattle.ppd_lex.specs.declared.token.Token.{Token}
 use Rattle.ppd_lex.specs.declared.token.TokenKind.{TokenKind}
 use Rattle.ppd_lex.specs.declared.token.TokenKind.TheVariants.{Name, Number, Word, Mark, End}
@@ -10,11 +9,9 @@ use Rattle.ppd_top.specs.declared.form.Operand.{Operand}
 use Rattle.ppd_top.specs.declared.form.Operand.TheVariants as operand
 use Rattle.ppd_top.specs.declared.form.Sum.{Sum}
 use Rattle.ppd_top.specs.declared.form.Sum.TheVariants.{One, Plus}
-use Rattle.ppd_top.specs.declared.form.Step.{Step}
-use Rattle.ppd_top.specs.declared.form.Step.TheVariants.{Set, Print}
-use Rattle.ppd_top.specs.Form.{Spells, operand_kind, sum_kinds, step_kinds, IsDeclared, AreDeclared, HasDeclared, place_of, first_place, are_distinct, name_of, plus_mark, close_mark, semicolon_mark}
-use Rattle.ppd_top.specs.Reading.{Read, and_read, and_skip, with_rest, is_word, is_mark, after_word, after_mark, name_in, read_name, cell_of, shared_at, operand_in, read_operand, second_operand, read_sum, read_set, read_print, set_or_print, read_step}
-use Rattle.ppd_top.proofs.Spelled.{spells-append, spells-split, and_read_some, and_skip_some, with_rest_some}
+use Rattle.ppd_top.specs.Form.{Spells, operand_kind, sum_kinds, IsDeclared, AreDeclared, are_distinct, plus_mark}
+use Rattle.ppd_top.specs.Reading.{is_word, is_mark, after_word, after_mark, name_in, read_name, cell_of, shared_at, operand_in, read_operand, second_operand, read_sum}
+use Rattle.ppd_top.proofs.Spelled.{spells-append, and_read_some, with_rest_some}
 use Rattle.ppd_top.proofs.Names.{cell_of-some, cell_of-name_of}
 
 -- ---- keywords, marks and names

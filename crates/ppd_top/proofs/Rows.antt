@@ -1,5 +1,5 @@
 -- Worked rows, computed from the definitions.
-use Rattle.std.specs.Prelude.{ℕ, ℤ, pos, Bool, true, false, List, [], ◌∷◌, ◌++◌, Option, Some, None, codes}
+use Rattle.std.specs.Prelude.{ℕ, pos, Bool, true, false, List, [], ◌∷◌, Option, Some, None, codes}
 use Rattle.std.proofs.Common.{◌≡◌, refl}
 use Rattle.std.specs.Fmt.{digits}
 use Rattle.ppd_ast.specs.Term.{terms}
@@ -9,8 +9,8 @@ use Rattle.ppd_top.specs.declared.form.Sum.TheVariants.{One, Plus}
 use Rattle.ppd_top.specs.declared.form.Step.TheVariants.{Set, Print}
 use Rattle.ppd_top.specs.declared.form.Form.{Form}
 use Rattle.ppd_top.specs.Lowered.{program_of, plan_of_process}
-use Rattle.ppd_top.specs.World.{World, enabled, run}
-use Rattle.ppd_top.specs.Summary.{summary}
+use Rattle.ppd_model.specs.Schedule.{run}
+use Rattle.ppd_model.specs.World.{World, enabled}
 use Rattle.ppd_top.specs.Top.{default_budget, summary_of_run}
 
 abbrev at : ℕ → Place

@@ -1,8 +1,9 @@
 -- A schedule with one more number.
-use Rattle.std.proofs.Common.{◌≡◌, ℕ, List, [], ◌∷◌, ◌++◌, Option, Some, None, Bool, true, false, cond, refl, sym, ◌∙◌, ap, subst}
+use Rattle.std.proofs.Common.{◌≡◌, ℕ, List, [], ◌∷◌, ◌++◌, Option, Some, None, true, false, cond, refl, sym, ◌∙◌}
 use Rattle.ppd_ast.specs.declared.program.Program.{Program}
 use Rattle.ppd_ast.specs.declared.plan.Plan.{Plan}
-use Rattle.ppd_top.specs.World.{World, enabled, step, run_from}
+use Rattle.ppd_model.specs.Schedule.{run_from}
+use Rattle.ppd_model.specs.World.{World, enabled, step}
 use Rattle.ppd_top.specs.Running.{Running, Runs, stepped}
 
 -- one further step, where process p is enabled

@@ -1,9 +1,8 @@
 -- Spelling, one piece after another.
-use Rattle.std.specs.Prelude.{Option, Some, None, Bool, true, false}
-use Rattle.std.proofs.Common.{◌≡◌, ℕ, List, [], ◌∷◌, ◌++◌, refl, sym, ◌∙◌, subst, ap}
+use Rattle.std.specs.Prelude.{Option, Some, None}
+use Rattle.std.proofs.Common.{◌≡◌, List, [], ◌∷◌, ◌++◌, refl, sym, subst, ap}
 use Rattle.ppd_lex.specs.declared.token.Token.{Token}
 use Rattle.ppd_lex.specs.declared.token.TokenKind.{TokenKind}
-use Rattle.ppd_lex.specs.declared.token.TokenKind.TheVariants.{Name, Number, Word, Mark, End}
 use Rattle.ppd_top.specs.Form.{Spells}
 use Rattle.ppd_top.specs.Reading.{Read, and_read, and_skip, with_rest}
 

@@ -1,15 +1,13 @@
 -- A step that was read is spelled so, and one that is spelled is read.
-use Rattle.std.specs.Prelude.{Option, Some, None, Bool, true, false}
-use Rattle.std.proofs.Common.{◌≡◌, ℕ, ◌<◌, List, [], ◌∷◌, ◌++◌, length, refl, sym, ◌∙◌, subst, ap}
+use Rattle.std.specs.Prelude.{Some, None, true}
+use Rattle.std.proofs.Common.{◌≡◌, ℕ, List, [], ◌∷◌, ◌++◌, length, refl, sym, subst, ap}
 use Rattle.ppd_lex.specs.declared.token.Token.{Token}
-use Rattle.ppd_lex.specs.declared.token.TokenKind.{TokenKind}
-use Rattle.ppd_lex.specs.declared.token.TokenKind.TheVariants.{Name, Number, Word, Mark, End}
-use Rattle.ppd_top.specs.declared.form.Sum.{Sum}
+use Rattle.ppd_lex.specs.declared.token.TokenKind.TheVariants.{Name}
 use Rattle.ppd_top.specs.declared.form.Step.{Step}
 use Rattle.ppd_top.specs.declared.form.Step.TheVariants.{Set, Print}
-use Rattle.ppd_top.specs.Form.{Spells, sum_kinds, step_kinds, AreDeclared, HasDeclared, place_of, first_place, are_distinct, name_of, print_word, open_mark, close_mark, equals_mark, semicolon_mark}
+use Rattle.ppd_top.specs.Form.{Spells, sum_kinds, step_kinds, HasDeclared, place_of, first_place, are_distinct, name_of, print_word, open_mark, close_mark, equals_mark, semicolon_mark}
 use Rattle.ppd_top.specs.Reading.{Read, and_read, and_skip, with_rest, after_word, after_mark, read_name, cell_of, read_sum, read_set, read_print, set_or_print, read_step}
-use Rattle.ppd_top.proofs.Spelled.{spells-append, spells-split, and_read_some, and_skip_some, with_rest_some}
+use Rattle.ppd_top.proofs.Spelled.{spells-append, and_read_some, and_skip_some, with_rest_some}
 use Rattle.ppd_top.proofs.Names.{cell_of-some, cell_of-name_of}
 use Rattle.ppd_top.proofs.Readings.{after_word-spells, after_mark-spells, spelled-word, spelled-mark, read_name-spells, spelled-name, word_no_name, read_sum-spells, spelled-sum}
 

@@ -1,14 +1,14 @@
 -- The step of a world that has no semaphore and no channel.
-use Rattle.std.proofs.Common.{◌≡◌, ℕ, ℤ, List, [], refl, ap, sym, Option, Some, None}
+use Rattle.std.proofs.Common.{◌≡◌, ℕ, ℤ, List, [], refl, ap, sym}
 use Rattle.std.specs.Prelude.{slice_get}
 use Rattle.ppd_ast.specs.declared.program.Program.{Program}
 use Rattle.ppd_ast.specs.declared.plan.Plan.{Plan}
 use Rattle.ppd_sem.specs.declared.proc.Need.{Need}
-use Rattle.ppd_sem.specs.declared.proc.Need.TheVariants.{Read, Write, Plain, Enter, Leave, Invoke, Back, P, V, Send, Recv, End, Trap, Budget, Stopped}
+use Rattle.ppd_sem.specs.declared.proc.Need.TheVariants.{Write}
 use Rattle.ppd_sem.specs.declared.proc.Answer.{Answer}
 use Rattle.ppd_sem.specs.declared.proc.Proc.{Proc}
 use Rattle.ppd_sem.specs.Process.{act}
-use Rattle.ppd_top.specs.World.{World, need_at, answer, change, step, step_by}
+use Rattle.ppd_model.specs.World.{World, need_at, answer, change, step_by}
 use Rattle.ppd_top.specs.Running.{Running, stepped, shared_after}
 
 abbrev pub plain : List ℤ → List Proc → World

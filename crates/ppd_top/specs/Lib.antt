@@ -3,7 +3,6 @@ pub mod Form
 pub mod Lowered
 pub mod Reading
 pub mod Reached
-pub mod World
 pub mod Running
 pub mod Summary
 pub mod Top

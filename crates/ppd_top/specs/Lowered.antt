@@ -1,5 +1,5 @@
 -- The program and the plan of a source of one process.
-use Rattle.std.specs.Prelude.{ℕ, ◌+◌, ℤ, pos, true, false, List, [], ◌∷◌, ◌++◌, length, replicate, Some, None}
+use Rattle.std.specs.Prelude.{ℕ, ◌+◌, pos, true, false, List, [], ◌∷◌, ◌++◌, length, replicate, None}
 use Rattle.std.specs.List.{range_with_len}
 use Rattle.ppd_ast.specs.declared.program.Place.{Place}
 use Rattle.ppd_ast.specs.declared.program.Op.TheVariants.{Add}

@@ -1,5 +1,5 @@
 -- A world with the program and the plan that it runs.
-use Rattle.std.specs.Prelude.{◌≡◌, ℕ, ◌≤◌, ◌^◌, List, [], length, ℤ, slice_set, slice_get, Option, Some, None}
+use Rattle.std.specs.Prelude.{◌≡◌, ℕ, List, [], ℤ, slice_set, Option, Some, None}
 use Rattle.ppd_ast.specs.Table.{EachAt}
 use Rattle.ppd_ast.specs.declared.program.Program.{Program}
 use Rattle.ppd_ast.specs.declared.plan.Plan.{Plan}
@@ -8,7 +8,8 @@ use Rattle.ppd_sem.specs.declared.proc.Need.TheVariants.{Write}
 use Rattle.ppd_sem.specs.declared.proc.Proc.{Proc}
 use Rattle.ppd_sem.specs.Runs.{IsRunnable, IsNumbered, IsRunning}
 use Rattle.ppd_sem.specs.Measure.{measure}
-use Rattle.ppd_top.specs.World.{World, step, run_from}
+use Rattle.ppd_model.specs.Schedule.{run_from}
+use Rattle.ppd_model.specs.World.{World, step}
 
 pub record Running : Type 0 where
   pub program : Program

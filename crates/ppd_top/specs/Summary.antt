@@ -12,7 +12,8 @@ use Rattle.ppd_ast.specs.declared.status.Trap.{Trap}
 use Rattle.ppd_ast.specs.declared.status.Trap.TheVariants as trap
 use Rattle.ppd_sem.specs.declared.proc.Todo.{Todo}
 use Rattle.ppd_sem.specs.declared.proc.Proc.{Proc}
-use Rattle.ppd_top.specs.World.{World, run}
+use Rattle.ppd_model.specs.Schedule.{run}
+use Rattle.ppd_model.specs.World.{World}
 
 -- ---- how a process ended
 

@@ -1,5 +1,5 @@
 -- The words, the sources, and what is written for each.
-use Rattle.std.specs.Prelude.{◌≡◌, ◌≢◌, ◌<◌, ◌⊎◌, ◌++◌, ℕ, Bool, true, false, not, nat_eq, List, [], ◌∷◌, take, map, Option, None, Some, codes}
+use Rattle.std.specs.Prelude.{◌≡◌, ◌≢◌, ◌⊎◌, ◌++◌, ℕ, Bool, true, false, not, nat_eq, List, [], ◌∷◌, take, map, Option, Some, codes}
 use Rattle.std.specs.Borrow.{Bor}
 use Rattle.ppd_io.specs.Causes.{Rose}
 use Rattle.ppd_io.specs.Content.{Loads, Appends, AppendsPart}
@@ -14,7 +14,7 @@ use Rattle.ppd_parse.specs.Limits.{IsTree, IsRefused as IsSyntaxRefused}
 use Rattle.ppd_top.specs.declared.form.Form.{Form}
 use Rattle.ppd_top.specs.Form.{IsForm}
 use Rattle.ppd_top.specs.Lowered.{program_of, plan_of_process}
-use Rattle.ppd_top.specs.World.{IsWhole}
+use Rattle.ppd_model.specs.Schedule.{IsWhole}
 use Rattle.ppd_top.specs.Summary.{place_text, summary}
 
 -- ---- the words

@@ -1,7 +1,8 @@
 ghost use Rattle.std.specs.Prelude.{◌≡◌, ◌<◌, ◌≤◌, [], length, OnOk, OnErr, IfOk, Some, None, get_or, pos, true, ◌+◌, ◌++◌, ◌∷◌, ◌^◌, slice_get, slice_set};
 ghost use Rattle.ppd_ast.specs.Table.{EachAt};
 ghost use Rattle.ppd_sem.specs.Runs.{IsRunnable, IsNumbered, IsRunning};
-ghost use Rattle.ppd_top.specs.World.{step as step_of, started_procs, started_world, IsOver, enabled as enabled_of, need_at, can, answer as answer_of, change};
+ghost use Rattle.ppd_model.specs.Schedule.{started_procs, started_world, IsOver};
+ghost use Rattle.ppd_model.specs.World.{step as step_of, enabled as enabled_of, need_at, can, answer as answer_of, change};
 ghost use Rattle.ppd_top.specs.Running.{IsFirstWorld, Runs, shared_after, stepped, measure_of};
 ghost use Rattle.ppd_top.specs.Summary.{summary_of};
 ghost use Rattle.ppd_sem.specs.Process.{act};

@@ -1,4 +1,4 @@
-use Rattle.std.proofs.Common.{arith, ◌∙◌, sym}
+use Rattle.std.proofs.Common.{arith}
 use Rattle.std.proofs.lemmas.Grind.{common_steps}
 use Rattle.ppd_top.proofs.Tables.{range_with_len-more}
 use Rattle.ppd_top.proofs.lowering.numbers.Goals as goal

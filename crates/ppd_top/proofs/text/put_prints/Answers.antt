@@ -1,6 +1,5 @@
-use Rattle.std.proofs.lemmas.Grind.{common_steps}
 use Rattle.std.proofs.lemmas.Int.{to_z-of_z}
-use Rattle.std.proofs.Common.{◌+◌, take, get_or, pos, arith, rules, FitsSigned, w64}
+use Rattle.std.proofs.Common.{◌+◌, take, get_or, pos, rules, FitsSigned, w64}
 use Rattle.ppd_top.specs.Summary.{print_text, print_texts}
 use Rattle.ppd_top.proofs.Printed.{print_texts-taken, appended}
 use Rattle.ppd_top.proofs.text.put_prints.Goals as goal

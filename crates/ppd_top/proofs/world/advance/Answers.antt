@@ -1,7 +1,6 @@
-use Rattle.std.proofs.Common.{rules, ◌≡◌, ◌≤◌, length, OnOk, sym, arith}
+use Rattle.std.proofs.Common.{rules, ◌≤◌, length, sym, arith}
 use Rattle.std.proofs.lemmas.Grind.{common_steps}
 use Rattle.ppd_sem.specs.Process.{act}
-use Rattle.ppd_top.specs.World.{change}
 use Rattle.ppd_top.proofs.Changes.{change_past, set_is_change}
 use Rattle.ppd_top.proofs.world.advance.Goals as goal
 

@@ -1,6 +1,5 @@
-use Rattle.std.proofs.Common.{◌≡◌, sym, ◌∙◌, subst, length, slice_get, ◌<◌, List, ℕ, true, false, ◌++◌, ◌∷◌, []}
-use Rattle.ppd_top.specs.World.{IsOver, enabled}
-use Rattle.ppd_top.specs.Running.{Running, Runs, measure_of, stepped}
+use Rattle.std.proofs.Common.{◌≡◌, sym, ◌∙◌, subst, length, slice_get, ◌<◌, List, ℕ, ◌++◌, ◌∷◌, []}
+use Rattle.ppd_top.specs.Running.{Running, Runs, measure_of}
 use Rattle.ppd_top.proofs.OneProcess.{one_falls, one_stays, one_over}
 use Rattle.ppd_top.proofs.Runs.{runs_more}
 use Rattle.ppd_top.proofs.world.run_one.Goals as goal

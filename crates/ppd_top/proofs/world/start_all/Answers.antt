@@ -1,8 +1,8 @@
-use Rattle.std.proofs.Common.{◌≡◌, ◌∷◌, [], ◌++◌, List, ap, sym, ◌∙◌, subst}
+use Rattle.std.proofs.Common.{◌∷◌, [], ◌++◌, List, ap, sym, ◌∙◌, subst}
 use Rattle.ppd_ast.specs.Table.{EachAt}
 use Rattle.ppd_sem.specs.Runs.{IsRunning}
 use Rattle.ppd_sem.specs.declared.proc.Proc.{Proc}
-use Rattle.ppd_top.specs.World.{started_procs}
+use Rattle.ppd_model.specs.Schedule.{started_procs}
 use Rattle.ppd_top.proofs.Each.{each-push}
 use Rattle.ppd_top.proofs.OneProcess.{started_more}
 use Rattle.ppd_top.proofs.world.start_all.Goals as goal

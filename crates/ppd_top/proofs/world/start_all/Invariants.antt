@@ -1,7 +1,7 @@
 use Rattle.std.proofs.Common.{◌≡◌}
 use Rattle.ppd_ast.specs.Table.{EachAt}
 use Rattle.ppd_sem.specs.Runs.{IsRunning}
-use Rattle.ppd_top.specs.World.{started_procs}
+use Rattle.ppd_model.specs.Schedule.{started_procs}
 use Rattle.ppd_top.proofs.world.start_all.Given as goal
 
 abbrev pub invariant-loop-process : goal.invariant-loop-process

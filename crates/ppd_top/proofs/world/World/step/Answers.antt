@@ -1,8 +1,6 @@
-use Rattle.std.proofs.Common.{rules, ◌≡◌, OnOk, sym, arith, refl, ap, slice_get, []}
-use Rattle.std.proofs.lemmas.Grind.{common_steps}
-use Rattle.ppd_sem.specs.declared.proc.Need.{Need}
+use Rattle.std.proofs.Common.{◌≡◌, refl, slice_get, []}
 use Rattle.ppd_sem.specs.Process.{act}
-use Rattle.ppd_top.specs.World.{need_at, answer, change}
+use Rattle.ppd_model.specs.World.{need_at, answer, change}
 use Rattle.ppd_top.specs.Running.{shared_after}
 use Rattle.ppd_top.proofs.WorldSteps.{step_is, plain}
 use Rattle.ppd_top.proofs.world.World.step.Goals as goal
