@@ -10,10 +10,8 @@ mod buffer;
 #[cfg(test)]
 mod limits;
 #[cfg(test)]
-<<<<<<< HEAD
-mod tables;
-=======
 mod rows;
->>>>>>> 19dffe55d03319a0eff7477744fd6856b492c750
+#[cfg(test)]
+mod tables;
 #[cfg(test)]
 mod tests;
