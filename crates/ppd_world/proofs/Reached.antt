@@ -1,6 +1,6 @@
 -- A schedule goes on by the step that a world takes, and what the code may ask of a world that is reached.
-use Rattle.std.proofs.Common.{◌≡◌, ℕ, ◌+◌, ◌-◌, ◌<◌, ◌≤◌, ◌^◌, ℤ, Bool, true, false, cond, List, [], ◌∷◌, ◌++◌, length, map, take, get_or, Option, Some, None, Result, Ok, Err, OnOk, OnErr, refl, ap, sym, ◌∙◌, subst, arith}
-use Rattle.std.specs.Prelude.{◌↔◌, slice_get, IsSomeAnd}
+use Rattle.std.proofs.Common.{◌≡◌, ℕ, ◌+◌, ◌-◌, ◌<◌, ◌≤◌, ℤ, Bool, true, false, cond, List, [], ◌∷◌, ◌++◌, length, map, take, get_or, Option, Some, None, Result, Ok, Err, OnOk, OnErr, refl, ap, sym, ◌∙◌, subst, arith}
+use Rattle.std.specs.Prelude.{slice_get, IsSomeAnd}
 use Rattle.std.specs.List.{All}
 use Rattle.std.proofs.lemmas.List.{append_assoc, append-nil, take_all, take_more}
 use Rattle.std.proofs.lemmas.Option.{slice_get-get_or}
@@ -23,7 +23,7 @@ use Rattle.ppd_model.specs.declared.state.Logging.{Logging}
 use Rattle.ppd_model.specs.Bounds.{steps_left}
 use Rattle.ppd_model.specs.Laws.{logged_moment}
 use Rattle.ppd_model.specs.Logs.{close, ends_from, log_step, loggings, logs_of}
-use Rattle.ppd_model.specs.Schedule.{IsOver, run, run_from, started_procs, started_world}
+use Rattle.ppd_model.specs.Schedule.{run_from, started_procs, started_world}
 use Rattle.ppd_model.specs.Story.{told}
 use Rattle.ppd_model.specs.World.{World, change, enabled, step}
 use Rattle.ppd_model.proofs.Bounded.{Goes, goes}
@@ -35,8 +35,7 @@ use Rattle.ppd_world.specs.Running.{IsCause, IsDriven, IsFollowed, IsOf, IsReach
 use Rattle.ppd_world.specs.Starts.{begun_chans, begun_logs, begun_sems}
 use Rattle.ppd_world.proofs.Begun.{logs_begun, procs_begun}
 use Rattle.ppd_world.proofs.Lists.{every_all, every_more}
-use Rattle.ppd_world.proofs.Steps.{enabled_is}
-use Rattle.ppd_world.proofs.Sound.{IsSound, IsSoundChan, IsSoundLogging, IsSoundSem, left_less, most, reached_sound}
+use Rattle.ppd_world.proofs.Sound.{IsSoundChan, IsSoundLogging, IsSoundSem, left_less, most, reached_sound}
 
 -- ---- schedules
 
@@ -69,14 +68,6 @@ reached_step r p can h = record {
 }
 
 -- ---- the world from its parts
-
-over_to : (program : Program) (plan : Plan) (a b : List ℤ) (sems : List Counts) (chans : List Channel) (ps : List Proc)
-    → IsOver program plan (record { shared = a; sems = sems; chans = chans; procs = ps }) → IsOver program plan (record { shared = b; sems = sems; chans = chans; procs = ps })
-over_to program plan a b sems chans ps o = record { nobody = λ p. enabled_is program plan b a sems chans ps p ∙ o.nobody p }
-
-pub over_is : (t : Type 0) (program : Program) (plan : Plan) (a b : List ℤ) (sems : List Counts) (chans : List Channel) (ps : List Proc)
-    → (t ↔ IsOver program plan (record { shared = a; sems = sems; chans = chans; procs = ps })) → t ↔ IsOver program plan (record { shared = b; sems = sems; chans = chans; procs = ps })
-over_is t program plan a b sems chans ps h = (λ x. over_to program plan a b sems chans ps (h.0 x), λ o. h.1 (over_to program plan b a sems chans ps o))
 
 abbrev running : Program → Plan → ℕ → World → List Logging → Running
 running program plan budget w ls = record { program = program; plan = plan; budget = budget; world = w; loggings = ls }
@@ -140,6 +131,9 @@ driven_part old now h i p Memory lt is t c = (i, omega arith, t)
 pub driven_whole : (old now : Running) (h : List ℕ) (i : ℕ) → length h ≤ i → Takes old (take i h) now → Takes old h now
 driven_whole old now h i lt t = subst (λ (l : List ℕ). Takes old l now) (take_all i h lt) t
 
+pub takes_followed : (r now : Running) (p : ℕ) → IsFollowed r p now → Takes r (p ∷ []) now
+takes_followed r now p f = λ g o. subst (λ (x : Running). IsOf (g ++ p ∷ []) x) (sym f.stepped_to) (of_step g r p f.enabled o)
+
 pub followed_by : (r : Result (Unit {0}) MemoryOf) (old now : Running) (p : ℕ) → can_step old p ≡ true → OnOk r (now ≡ stepped old p) → OnOk r (IsFollowed old p now)
 followed_by (Ok u) old now p can e = record { enabled = can; stepped_to = e }
 followed_by (Err x) old now p can e = tt
@@ -196,8 +190,8 @@ begun_is program plan budget n shared sems chans ls count s_is m_is c_is l_is =
     let procs : map (λ l. l.proc) ls ≡ started_procs program plan budget k = ap (λ (x : List Logging). map (λ l. l.proc) x) (l_is ∙ ap (λ (i : ℕ). begun_logs program plan budget i) count) ∙ procs_begun program plan budget 0 k in
     same_running program plan budget (world_of shared sems chans ls) (started_world program plan budget) ls (loggings program plan budget [])
     (ap (λ (x : List ℤ). world_of x sems chans ls) s_is ∙ ap (λ (x : List Counts). world_of program.starts x chans ls) m_is
-      ∙ ap (λ (x : List Channel). world_of program.starts (begun_sems program) x ls) c_is
-      ∙ ap (λ (x : List Proc). record { shared = program.starts; sems = begun_sems program; chans = begun_chans program; procs = x }) procs)
+    ∙ ap (λ (x : List Channel). world_of program.starts (begun_sems program) x ls) c_is
+    ∙ ap (λ (x : List Proc). record { shared = program.starts; sems = begun_sems program; chans = begun_chans program; procs = x }) procs)
     logs
 
 pub begun_of : (program : Program) (plan : Plan) (budget : ℕ) (r : Running) → r ≡ begun program plan budget → IsOf [] r

@@ -1,22 +1,20 @@
 -- What holds in each world that a schedule comes to.
-use Rattle.std.proofs.Common.{◌≡◌, ℕ, ℤ, zero, suc, ◌+◌, ◌-◌, ◌*◌, ◌<◌, ◌≤◌, ◌^◌, true, List, [], ◌∷◌, ◌++◌, length, map, Option, Some, None, refl, ap, sym, ◌∙◌, subst, arith, length-append}
+use Rattle.std.proofs.Common.{◌≡◌, ℕ, ℤ, zero, suc, ◌+◌, ◌-◌, ◌*◌, ◌<◌, ◌≤◌, true, List, [], ◌∷◌, ◌++◌, length, map, Option, Some, refl, ap, sym, ◌∙◌, subst, arith, length-append}
 use Rattle.std.specs.Prelude.{fold, slice_get}
 use Rattle.std.specs.List.{range_with_len}
 use Rattle.std.proofs.lemmas.Bool.Decides.{nat_tests}
 use Rattle.std.proofs.lemmas.Nat.{mul-le}
 use Rattle.ppd_ast.specs.Valid.{IsValid}
-use Rattle.ppd_ast.specs.declared.limits.TheConstants.{MOST_BUDGET, MOST_START}
 use Rattle.ppd_ast.specs.declared.plan.Plan.{Plan}
 use Rattle.ppd_ast.specs.declared.program.Chan.{Chan}
 use Rattle.ppd_ast.specs.declared.program.Program.{Program}
 use Rattle.ppd_ast.specs.declared.program.Sem.{Sem}
 use Rattle.ppd_entry.specs.declared.entry.Entry.{Entry}
-use Rattle.ppd_sem.specs.declared.proc.Answer.{Answer}
 use Rattle.ppd_sem.specs.declared.proc.Need.{Need}
 use Rattle.ppd_sem.specs.declared.proc.Need.TheVariants.{Write, P, V, Send, Recv}
 use Rattle.ppd_sem.specs.declared.proc.Proc.{Proc}
 use Rattle.ppd_sem.specs.Measure.{measure}
-use Rattle.ppd_sem.specs.Process.{act, need_of, started}
+use Rattle.ppd_sem.specs.Process.{act, need_of}
 use Rattle.ppd_sem.specs.Runs.{IsRunnable, IsRunning}
 use Rattle.ppd_sem.proofs.Kept.{act-runs}
 use Rattle.ppd_sem.proofs.Progress.{act-falls}
@@ -25,20 +23,18 @@ use Rattle.ppd_sem.proofs.Validity.{valid-runnable}
 use Rattle.ppd_model.specs.declared.state.Channel.{Channel}
 use Rattle.ppd_model.specs.declared.state.Counts.{Counts}
 use Rattle.ppd_model.specs.declared.state.Logging.{Logging}
-use Rattle.ppd_model.specs.Bounds.{IsBalanced, steps_left}
+use Rattle.ppd_model.specs.Bounds.{steps_left}
 use Rattle.ppd_model.specs.Laws.{logged_moment}
 use Rattle.ppd_model.specs.Logs.{begun_log, entries_of, log_step, loggings, logs_from, rest_after}
 use Rattle.ppd_model.specs.Schedule.{run, run_from, started_procs, started_world}
 use Rattle.ppd_model.specs.Story.{Moment, Telling, begun, moment_of, tell, told}
 use Rattle.ppd_model.specs.World.{World, answer, can, can_receive, can_take, change, effect, need, need_at, step}
-use Rattle.ppd_model.proofs.Balanced.{started_balanced, step_balanced}
 use Rattle.ppd_model.proofs.Bounded.{ArePaid, Goes, all_falls, goes, not_stopped, started_all}
 use Rattle.ppd_model.proofs.States.{logs-change}
 use Rattle.ppd_model.proofs.Stories.{stories_are_of_runs}
-use Rattle.ppd_world.specs.Running.{IsOf, IsReached, Running, begun as begun_running, can_step, stepped}
-use Rattle.ppd_world.specs.Starts.{begun_chans, begun_logs, begun_sems}
+use Rattle.ppd_world.specs.Running.{IsReached, Running, begun as begun_running, can_step, stepped}
 use Rattle.ppd_world.proofs.Begun.{logs_begun, procs_begun}
-use Rattle.ppd_world.proofs.Lists.{Every, all_every, every_at, every_change, every_map, every_more, get_map, map_change}
+use Rattle.ppd_world.proofs.Lists.{Every, all_every, every_change, every_more, get_map, map_change}
 
 -- the greatest initial value of a semaphore and all steps of 16 processes
 abbrev pub most : ℕ
@@ -73,7 +69,6 @@ rest_le rest [] = omega arith
 rest_le rest (e ∷ es) = omega arith
 
 paid_of : (program : Program) (ls : List Logging) → Every (IsSoundLogging program) ls → ArePaid (map (λ l. l.proc) ls)
-unfolding Every
 paid_of program [] h = tt
 paid_of program (l ∷ ls) h = (h.0.proc.spent, paid_of program ls h.1)
 
@@ -151,7 +146,7 @@ step_sound r p run e s =
     let few : steps_left r.world.procs ≤ most = s.few in
     let at : (l : Logging) → slice_get r.loggings p ≡ Some l → can r.world (need_of r.program r.plan l.proc) ≡ true =
     λ l is. let found : slice_get r.world.procs p ≡ Some l.proc = ap (λ (ps : List Proc). slice_get ps p) (sym s.same) ∙ get_map (λ (y : Logging). y.proc) r.loggings p l is in
-        sym (ap (λ (o : Option Proc). can r.world (need_at r.program r.plan o)) found) ∙ e in
+    sym (ap (λ (o : Option Proc). can r.world (need_at r.program r.plan o)) found) ∙ e in
     record {
       same = map_change (λ l. l.proc) (λ l. log_step r.program r.plan l x) (λ t. act r.program r.plan t x.taken.answer) p r.loggings (λ l. refl) ∙ ap (λ (ps : List Proc). change (λ t. act r.program r.plan t x.taken.answer) p ps) s.same;
       logs = every_change (IsSoundLogging r.program) (IsSoundLogging r.program) (λ l. log_step r.program r.plan l x) p r.loggings (λ l h. h) (λ l is h. logging_sound r.program r.plan r.world l x run (at l is) h) s.logs;
@@ -163,19 +158,17 @@ step_sound r p run e s =
 -- ---- the start
 
 logs_sound : (program : Program) (plan : Plan) (budget p n : ℕ) → IsRunnable program → budget ≤ 500000 → program.functions + (p + n) ≤ length program.bodies → Every (IsSoundLogging program) (map (λ q. begun_log program plan budget q) (range_with_len p n))
-unfolding Every
 logs_sound program plan budget p zero run few lt = tt
-logs_sound program plan budget p (suc n) run few lt =
-    (record { proc = started_runs program (program.functions + p) budget run (omega arith) (omega arith); rest = omega arith },
-      logs_sound program plan budget (p + 1) n run few (omega arith))
+logs_sound program plan budget p (suc n) run few lt = (
+  record { proc = started_runs program (program.functions + p) budget run (omega arith) (omega arith); rest = omega arith },
+  logs_sound program plan budget (p + 1) n run few (omega arith),
+)
 
 sems_begun : (left : ℕ) (sems : List Sem) → left ≤ 8000016 → Every (λ s. s.start ≤ 65535) sems → Every (IsSoundSem left) (map (λ s. record { given = s.start; taken = 0 }) sems)
-unfolding Every
 sems_begun left [] few h = tt
 sems_begun left (s ∷ ss) few h = let start : s.start ≤ 65535 = h.0 in (record { given = omega arith; taken = omega arith }, sems_begun left ss few h.1)
 
 chans_begun : (left : ℕ) (chans : List Chan) → left ≤ 8000016 → Every (IsSoundChan left) (map (λ c. record { capacity = c.capacity; sent = []; received = 0 }) chans)
-unfolding Every
 chans_begun left [] few = tt
 chans_begun left (c ∷ cs) few = (record { sent = omega arith; received = omega arith }, chans_begun left cs few)
 

@@ -1,6 +1,6 @@
 -- The parts of a step make the step of the world.
-use Rattle.std.proofs.Common.{◌≡◌, ℕ, zero, suc, ℤ, Bool, List, [], ◌∷◌, map, length, take, ◌+◌, ◌-◌, ◌<◌, ◌≤◌, ◌++◌, true, false, Option, Some, None, Result, Ok, Err, OnErr, refl, ap, sym, ◌∙◌, subst, arith, inl, inr, length-append}
-use Rattle.std.specs.Prelude.{slice_get}
+use Rattle.std.proofs.Common.{◌≡◌, ℕ, zero, suc, ℤ, List, [], ◌∷◌, map, length, take, ◌+◌, ◌-◌, ◌<◌, ◌≤◌, ◌++◌, true, false, Option, Result, Ok, Err, OnErr, refl, ap, sym, ◌∙◌, subst, arith, inl, inr, length-append}
+use Rattle.std.specs.Prelude.{◌↔◌, slice_get}
 use Rattle.std.specs.List.{All}
 use Rattle.std.proofs.Math.Seq.{take-append_seam}
 use Rattle.std.proofs.lemmas.Bool.{cases_lt, false≢true}
@@ -8,7 +8,7 @@ use Rattle.ppd_ast.specs.declared.plan.Plan.{Plan}
 use Rattle.ppd_ast.specs.declared.program.Program.{Program}
 use Rattle.ppd_sem.specs.declared.proc.Answer.{Answer}
 use Rattle.ppd_sem.specs.declared.proc.Need.{Need}
-use Rattle.ppd_sem.specs.declared.proc.Need.TheVariants.{Read, Write, Enter, Leave, Invoke, Back, P, V, Send, Recv}
+use Rattle.ppd_sem.specs.declared.proc.Need.TheVariants.{Read, Write, P, V, Send, Recv}
 use Rattle.ppd_sem.specs.declared.proc.Proc.{Proc}
 use Rattle.ppd_sem.specs.Process.{act}
 use Rattle.ppd_model.specs.declared.state.Channel.{Channel}
@@ -67,8 +67,11 @@ unit_is plan w (Send c v u) = refl
 unit_is plan w (Recv c u) = refl
 unit_is plan w n = refl
 
+abbrev build : List ℤ → List Counts → List Channel → List Proc → World
+build a b c d = record { shared = a; sems = b; chans = c; procs = d }
+
 same_world : (a a' : List ℤ) (b b' : List Counts) (c c' : List Channel) (d d' : List Proc) → a ≡ a' → b ≡ b' → c ≡ c' → d ≡ d'
-    → record { shared = a; sems = b; chans = c; procs = d } ≡ record { shared = a'; sems = b'; chans = c'; procs = d' }
+    → build a b c d ≡ build a' b' c' d'
 same_world a a' b b' c c' d d' ae be ce de = cc
 
 same_moment : (plan : Plan) (shared : List ℤ) (n m : Need) (a b : Answer) (k j : Option ℕ) → n ≡ m → a ≡ b → k ≡ j → moment_with plan shared n a k ≡ moment_with plan shared m b j
@@ -134,7 +137,7 @@ pub unsent_is : (chans : List Channel) (n : Need) → unsent_after (sent_after c
 unsent_is chans (Send c v u) = change_back (with_value v) without_last c chans (λ x. without_with v x)
 unsent_is chans n = refl
 
-pub if_refused : {T E P : Type 0} (r : Result T E) → P → OnErr r P
+pub if_refused : {T E Held : Type 0} (r : Result T E) → Held → OnErr r Held
 if_refused (Ok x) p = tt
 if_refused (Err e) p = p
 
@@ -153,10 +156,10 @@ all_over program plan sems chans ls h = record {
 pub not_over : (program : Program) (plan : Plan) (w : World) (q : ℕ) → enabled program plan w q ≡ true → IsOver program plan w → ⊥
 not_over program plan w q e o = false≢true (sym (o.nobody q) ∙ e)
 
-pub still_none : (P : ℕ → Type 0) (i : ℕ) → ((q : ℕ) → q < i → P q) → P i → (q : ℕ) → q < i + 1 → P q
-still_none P i below here q lt = elim (cases_lt q i) [
+pub still_none : (Held : ℕ → Type 0) (i : ℕ) → ((q : ℕ) → q < i → Held q) → Held i → (q : ℕ) → q < i + 1 → Held q
+still_none Held i below here q lt = elim (cases_lt q i) [
   | inl less ↦ below q less
-  | inr le ↦ let same : i ≡ q = omega arith in subst P same here
+  | inr le ↦ let same : i ≡ q = omega arith in subst Held same here
 ]
 
 -- what is sent changes no count of receives
@@ -172,3 +175,18 @@ receivable_after chans now n h e = subst (λ (cs : List Channel). All IsReceivab
     by : (n : Need) → Every IsReceivable (sent_after chans n)
     by (Send c v u) = every_change IsSmallChan IsReceivable (with_value v) c chans receivable (λ x is s. record { received = s.received }) before
     by n = every_more IsSmallChan IsReceivable chans receivable before
+
+pub enabled_parts : (program : Program) (plan : Plan) (shared : List ℤ) (sems sems' : List Counts) (chans chans' : List Channel) (ls ls' : List Logging) (p : ℕ) → sems' ≡ sems → chans' ≡ chans → ls' ≡ ls
+    → enabled program plan (world_of [] sems' chans' ls') p ≡ enabled program plan (world_of shared sems chans ls) p
+enabled_parts program plan shared sems sems' chans chans' ls ls' p e f g =
+    ap (λ (x : List Counts). enabled program plan (world_of [] x chans' ls') p) e ∙ ap (λ (x : List Channel). enabled program plan (world_of [] sems x ls') p) f
+    ∙ ap (λ (x : List Logging). enabled program plan (world_of [] sems chans x) p) g ∙ enabled_is program plan [] shared sems chans (map (λ l. l.proc) ls) p
+
+over_to : (program : Program) (plan : Plan) (w v : World) → ((p : ℕ) → enabled program plan v p ≡ enabled program plan w p) → IsOver program plan w → IsOver program plan v
+over_to program plan w v same o = record { nobody = λ p. same p ∙ o.nobody p }
+
+pub over_parts : (t : Type 0) (program : Program) (plan : Plan) (shared : List ℤ) (sems sems' : List Counts) (chans chans' : List Channel) (ls ls' : List Logging) → sems' ≡ sems → chans' ≡ chans → ls' ≡ ls
+    → (t ↔ IsOver program plan (world_of [] sems' chans' ls')) → t ↔ IsOver program plan (world_of shared sems chans ls)
+over_parts t program plan shared sems sems' chans chans' ls ls' e f g h =
+    let same : (p : ℕ) → enabled program plan (world_of [] sems' chans' ls') p ≡ enabled program plan (world_of shared sems chans ls) p = λ p. enabled_parts program plan shared sems sems' chans chans' ls ls' p e f g in
+    (λ x. over_to program plan (world_of [] sems' chans' ls') (world_of shared sems chans ls) (λ p. sym (same p)) (h.0 x), λ o. h.1 (over_to program plan (world_of shared sems chans ls) (world_of [] sems' chans' ls') same o))

@@ -1,5 +1,5 @@
 -- A world with its logs, and the schedule that it comes from.
-use Rattle.std.specs.Prelude.{◌≡◌, ℕ, ◌≤◌, ◌<◌, Bool, true, false, List, [], ◌∷◌, ◌++◌, length, take, Option, Some, IsSomeAnd, slice_get, Result, Ok, Err, ⊤}
+use Rattle.std.specs.Prelude.{◌≡◌, ℕ, ◌≤◌, Bool, true, false, List, [], ◌++◌, length, take, Some, IsSomeAnd, slice_get, Result, Ok, Err, ⊤}
 use Rattle.ppd_ast.specs.Valid.{IsValid}
 use Rattle.ppd_ast.specs.ValidPlan.{IsValidPlan}
 use Rattle.ppd_ast.specs.declared.limits.TheConstants.{MOST_BUDGET}

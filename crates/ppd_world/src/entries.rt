@@ -102,7 +102,8 @@ fn push_opened(
             push(entries, Entry::Prelog { block, values })
         }
         Need::Invoke {
-            block: Some(block), ..
+            block: Some(block),
+            ..
         } => {
             let values = call_values(alloc, program, proc)?;
             push(entries, Entry::Prelog { block, values })
@@ -141,7 +142,8 @@ fn push_closed(
             push(entries, Entry::Postlog { block, values })
         }
         Need::Back {
-            block: Some(block), ..
+            block: Some(block),
+            ..
         } => {
             let values = listed(alloc, returned_value(program, proc))?;
             push(entries, Entry::Postlog { block, values })

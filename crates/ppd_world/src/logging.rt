@@ -98,9 +98,7 @@ fn step_one(
     ensures ok { OnOk result (logging.new ≡ log_step program.now plan.now logging.old (moment_with plan.now shared.now need answer number)) }
     ensures err { OnErr result (logging.new ≡ logging.old) }
 {
-    let new = entries_of(
-        alloc, program, plan, logging, shared, need, answer, number,
-    )?;
+    let new = entries_of(alloc, program, plan, logging, shared, need, answer, number)?;
     let note = note_of(alloc, logging, need)?;
     put(program, plan, logging, answer, note, new)
 }
@@ -128,18 +126,11 @@ pub(crate) fn step_at(
         return Ok(());
     }
     let logging = &mut loggings[place];
-    step_one(
-        alloc, program, plan, shared, logging, need, answer, number,
-    )
+    step_one(alloc, program, plan, shared, logging, need, answer, number)
 }
 
 /// What the process at this place needs.
-pub(crate) fn need_at(
-    program: &Program,
-    plan: &Plan,
-    loggings: &[Logging],
-    place: usize,
-) -> Need
+pub(crate) fn need_at(program: &Program, plan: &Plan, loggings: &[Logging], place: usize) -> Need
     requires program { IsRunnable program.now }
     requires plan { IsNumbered plan.now }
     requires loggings { All (IsSmallLogging program.now) loggings.now }

@@ -108,19 +108,11 @@ pub(crate) fn take_step(
     ensures same_loggings { OnErr result (loggings.new.items ≡ loggings.old.items) }
 {
     let need = need_at(program, plan, loggings, place);
-    let answer = answer_to(shared.as_slice(), chans, need);
+    let cells = shared.as_slice();
+    let answer = answer_to(cells, chans, need);
     let number = number_of(sems, chans, need);
     send_and_step(
-        alloc,
-        program,
-        plan,
-        shared.as_slice(),
-        chans,
-        loggings,
-        place,
-        need,
-        answer,
-        number,
+        alloc, program, plan, cells, chans, loggings, place, need, answer, number,
     )?;
     write(shared, need);
     count(sems, need);

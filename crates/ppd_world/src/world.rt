@@ -1,4 +1,4 @@
-ghost use Rattle.std.specs.Prelude.{◌≡◌, ◌≤◌, ◌<◌, ◌↔◌, ◌^◌, ◌++◌, ◌∷◌, [], length, true, IsTrue, IfErr, IfOk, OnOk, OnErr, List, ℕ};
+ghost use Rattle.std.specs.Prelude.{◌≡◌, ◌+◌, ◌-◌, ◌≤◌, ◌↔◌, ◌∷◌, [], length, true, IsTrue, IfErr, IfOk, OnOk, OnErr, List, ℕ};
 ghost use Rattle.ppd_ast.specs.Valid.{IsValid};
 ghost use Rattle.ppd_ast.specs.ValidPlan.{IsValidPlan};
 ghost use Rattle.ppd_model.specs.Logs.{close as close_of};
@@ -45,6 +45,15 @@ fn copy_values(values: &Nums) -> Result<Nums, Memory>
     }
 }
 
+/// How many processes a valid program has.
+fn process_count(program: &Program) -> u8
+    requires { IsValid program.now }
+    ensures is { result ≡ length program.now.bodies - program.now.functions }
+    ensures within { program.now.functions + result ≤ length program.now.bodies }
+{
+    (program.bodies.len() - program.functions as usize) as u8
+}
+
 impl<'a> World<'a> {
     /// The world of a valid program with a valid plan before the first step. The budget, at most
     /// 500,000, is that of each process. `Memory` is want of memory.
@@ -61,8 +70,8 @@ impl<'a> World<'a> {
         ensures comes { IfOk result (λ world. IsOf [] world) }
         ensures reached { IfOk result (λ world. IsReached world) }
     {
-        let count = program.bodies.len() - program.functions as usize;
-        let loggings = start_logs(alloc, program, plan, budget, count as u8)?;
+        let count = process_count(program);
+        let loggings = start_logs(alloc, program, plan, budget, count)?;
         Ok(World {
             alloc,
             program,
@@ -173,8 +182,8 @@ impl<'a> World<'a> {
     pub fn close(self) -> Result<Closed, Memory>
         requires reached { IsReached self }
         requires over { IsOver self.program self.plan self.world }
-        ensures closed { IfOk result (λ closed. closed ≡ closed_of self) }
-        ensures whole { IfOk result (λ closed. (h : List ℕ) → IsOf h self → closed ≡ close_of self.program self.plan self.budget h) }
+        ensures closed { IfOk result (λ closed. closed ≡ closed_of self.entry) }
+        ensures whole { IfOk result (λ closed. (h : List ℕ) → IsOf h self.entry → closed ≡ close_of self.entry.program self.entry.plan self.entry.budget h) }
     {
         close_all(self.alloc, self.program, self.loggings)
     }

@@ -1,4 +1,4 @@
-use Rattle.std.proofs.Common.{◌≡◌, List, ap, sym, ◌∙◌}
+use Rattle.std.proofs.Common.{◌≡◌, List, ap, ◌∙◌}
 use Rattle.ppd_model.specs.declared.state.Channel.{Channel}
 use Rattle.ppd_world.specs.Parts.{unsent_after}
 use Rattle.ppd_world.proofs.Steps.{if_refused, unsent_is}
