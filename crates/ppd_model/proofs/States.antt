@@ -73,7 +73,7 @@ module _ (program : Program) (plan : Plan) (budget : ℕ) where
 
   -- ---- one more step of a log
 
-  logs-change : (m : Moment) (q p : ℕ) (moments : List (List Moment)) → logs_from program plan budget p (change (λ ms. ms ++ m ∷ []) q moments) ≡ change (λ l. log_step program plan l m) q (logs_from program plan budget p moments)
+  pub logs-change : (m : Moment) (q p : ℕ) (moments : List (List Moment)) → logs_from program plan budget p (change (λ ms. ms ++ m ∷ []) q moments) ≡ change (λ l. log_step program plan l m) q (logs_from program plan budget p moments)
   logs-change m q p [] = refl
   logs-change m zero p (ms ∷ rest) = ap (λ l. l ∷ logs_from program plan budget (p + 1) rest) (fold-append (log_step program plan) (begun_log program plan budget p) ms (m ∷ []))
   logs-change m (suc q) p (ms ∷ rest) = ap (λ ls. log_of program plan budget p ms ∷ ls) (logs-change m q (p + 1) rest)

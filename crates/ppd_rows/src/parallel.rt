@@ -1,0 +1,210 @@
+//! Worked programs of several processes, each with its plan.
+
+use crate::buffer::{name, scalars};
+use crate::rows::{Does, Line, Table, program};
+use ppd_ast::{Chan, Expr, Nums, Op, Program, Sem, Seq, Target};
+use std::alloc::{AllocError, Global};
+
+fn with_shared(alloc: Global, program: &mut Program, names: &[&str]) -> Result<(), AllocError> {
+    let mut starts = Vec::new(alloc);
+    for _name in names {
+        starts.push(0i64)?;
+    }
+    program.shared = Seq::from_vec(scalars(alloc, 0, names)?);
+    program.starts = Nums::from_vec(starts);
+    Ok(())
+}
+
+fn with_sems(alloc: Global, program: &mut Program, sems: &[(&str, u32)]) -> Result<(), AllocError> {
+    let mut list = Vec::new(alloc);
+    for (text, start) in sems {
+        list.push(Sem {
+            name: name(alloc, text)?,
+            start: *start,
+        })?;
+    }
+    program.sems = Seq::from_vec(list);
+    Ok(())
+}
+
+fn with_chan(alloc: Global, program: &mut Program, capacity: u8) -> Result<(), AllocError> {
+    let chan = Chan {
+        name: name(alloc, "c")?,
+        capacity,
+    };
+    program.chans = Seq::from_vec(vec![in alloc; chan]?);
+    Ok(())
+}
+
+/// ```text
+/// shared int x; sem m = START;
+/// process a { P(m); x = x + 1; V(m); }
+/// process b { P(m); x = x + 1; V(m); }
+/// ```
+pub fn locked(alloc: Global, start: u32) -> Result<Program, AllocError> {
+    let exprs = [
+        Expr::Shared(0),
+        Expr::Const(1),
+        Expr::Two(Op::Add, 0, 1),
+        Expr::Shared(0),
+        Expr::Const(1),
+        Expr::Two(Op::Add, 3, 4),
+    ];
+    let lines = [
+        (1, 41, 0, None, Does::P(0)),
+        (1, 47, 0, None, Does::Set(Target::Shared(0), 2)),
+        (1, 58, 0, None, Does::V(0)),
+        (1, 64, 0, None, Does::End),
+        (1, 75, 1, None, Does::P(0)),
+        (1, 81, 1, None, Does::Set(Target::Shared(0), 5)),
+        (1, 92, 1, None, Does::V(0)),
+        (1, 98, 1, None, Does::End),
+    ];
+    let bodies = [
+        ("a", (true, false, 0), [].as_slice(), [0, 1, 2, 3].as_slice(), (0, 4)),
+        ("b", (true, false, 0), [].as_slice(), [4, 5, 6, 7].as_slice(), (4, 8)),
+    ];
+    let mut row = program(
+        alloc,
+        Table {
+            exprs: &exprs,
+            lines: &lines,
+            functions: 0,
+            bodies: &bodies,
+        },
+    )?;
+    with_shared(alloc, &mut row, &["x"])?;
+    with_sems(alloc, &mut row, &[("m", start)])?;
+    Ok(row)
+}
+
+/// ```text
+/// sem s = 1, t = 1;
+/// process a { P(s); P(t); }
+/// process b { P(t); P(s); }
+/// ```
+pub fn deadlock(alloc: Global) -> Result<Program, AllocError> {
+    let lines = [
+        (1, 31, 0, None, Does::P(0)),
+        (1, 37, 0, None, Does::P(1)),
+        (1, 43, 0, None, Does::End),
+        (1, 57, 1, None, Does::P(1)),
+        (1, 63, 1, None, Does::P(0)),
+        (1, 69, 1, None, Does::End),
+    ];
+    let bodies = [
+        ("a", (true, false, 0), [].as_slice(), [0, 1, 2].as_slice(), (0, 3)),
+        ("b", (true, false, 0), [].as_slice(), [3, 4, 5].as_slice(), (3, 6)),
+    ];
+    let mut row = program(
+        alloc,
+        Table {
+            exprs: &[],
+            lines: &lines,
+            functions: 0,
+            bodies: &bodies,
+        },
+    )?;
+    with_sems(alloc, &mut row, &[("s", 1), ("t", 1)])?;
+    Ok(row)
+}
+
+/// ```text
+/// shared int x; chan c[1];
+/// process a { send(c, 7); send(c, 8); x = 2; }
+/// process b { int v; print(x); v = recv(c); v = recv(c); }
+/// ```
+pub fn bounded(alloc: Global) -> Result<Program, AllocError> {
+    let exprs = [
+        Expr::Const(7),
+        Expr::Const(8),
+        Expr::Const(2),
+        Expr::Const(0),
+        Expr::Shared(0),
+    ];
+    let lines = [
+        (1, 38, 0, None, Does::Send(0, 0)),
+        (1, 50, 0, None, Does::Send(0, 1)),
+        (1, 62, 0, None, Does::Set(Target::Shared(0), 2)),
+        (1, 69, 0, None, Does::End),
+        (1, 87, 1, None, Does::Set(Target::Local(0), 3)),
+        (1, 90, 1, None, Does::Print(4)),
+        (1, 100, 1, None, Does::Recv(0, 0)),
+        (1, 113, 1, None, Does::Recv(0, 0)),
+        (1, 126, 1, None, Does::End),
+    ];
+    let bodies = [
+        ("a", (true, false, 0), [].as_slice(), [0, 1, 2, 3].as_slice(), (0, 4)),
+        ("b", (true, false, 0), ["v"].as_slice(), [4, 5, 6, 7, 8].as_slice(), (4, 9)),
+    ];
+    let mut row = program(
+        alloc,
+        Table {
+            exprs: &exprs,
+            lines: &lines,
+            functions: 0,
+            bodies: &bodies,
+        },
+    )?;
+    with_shared(alloc, &mut row, &["x"])?;
+    with_chan(alloc, &mut row, 1)?;
+    Ok(row)
+}
+
+/// ```text
+/// chan c[CAPACITY];
+/// process a { while (1) { send(c, 5); } }
+/// process b { int v; while (1) { v = recv(c); } }
+/// ```
+pub fn filling(alloc: Global, capacity: u8) -> Result<Program, AllocError> {
+    let exprs = [Expr::Const(1), Expr::Const(5), Expr::Const(0), Expr::Const(1)];
+    let lines: [Line; 7] = [
+        (1, 31, 0, None, Does::While(0, [1].as_slice())),
+        (1, 43, 0, Some(0), Does::Send(0, 1)),
+        (1, 57, 0, None, Does::End),
+        (1, 75, 1, None, Does::Set(Target::Local(0), 2)),
+        (1, 78, 1, None, Does::While(3, [5].as_slice())),
+        (1, 90, 1, Some(4), Does::Recv(0, 0)),
+        (1, 105, 1, None, Does::End),
+    ];
+    let bodies = [
+        ("a", (true, false, 0), [].as_slice(), [0, 2].as_slice(), (0, 3)),
+        ("b", (true, false, 0), ["v"].as_slice(), [3, 4, 6].as_slice(), (3, 7)),
+    ];
+    let mut row = program(
+        alloc,
+        Table {
+            exprs: &exprs,
+            lines: &lines,
+            functions: 0,
+            bodies: &bodies,
+        },
+    )?;
+    with_chan(alloc, &mut row, capacity)?;
+    Ok(row)
+}
+
+/// ```text
+/// sem s = START;
+/// process a { while (1) { P(s); } }
+/// ```
+pub fn draining(alloc: Global, start: u32) -> Result<Program, AllocError> {
+    let exprs = [Expr::Const(1)];
+    let lines: [Line; 3] = [
+        (1, 28, 0, None, Does::While(0, [1].as_slice())),
+        (1, 40, 0, Some(0), Does::P(0)),
+        (1, 48, 0, None, Does::End),
+    ];
+    let bodies = [("a", (true, false, 0), [].as_slice(), [0, 2].as_slice(), (0, 3))];
+    let mut row = program(
+        alloc,
+        Table {
+            exprs: &exprs,
+            lines: &lines,
+            functions: 0,
+            bodies: &bodies,
+        },
+    )?;
+    with_sems(alloc, &mut row, &[("s", start)])?;
+    Ok(row)
+}

@@ -1,0 +1,207 @@
+-- A schedule goes on by the step that a world takes, and what the code may ask of a world that is reached.
+use Rattle.std.proofs.Common.{◌≡◌, ℕ, ◌+◌, ◌-◌, ◌<◌, ◌≤◌, ℤ, Bool, true, false, cond, List, [], ◌∷◌, ◌++◌, length, map, take, get_or, Option, Some, None, Result, Ok, Err, OnOk, OnErr, refl, ap, sym, ◌∙◌, subst, arith}
+use Rattle.std.specs.Prelude.{slice_get, IsSomeAnd}
+use Rattle.std.specs.List.{All}
+use Rattle.std.proofs.lemmas.List.{append_assoc, append-nil, take_all, take_more}
+use Rattle.std.proofs.lemmas.Option.{slice_get-get_or}
+use Rattle.ppd_ast.specs.declared.plan.Plan.{Plan}
+use Rattle.ppd_ast.specs.declared.program.Program.{Program}
+use Rattle.ppd_sem.specs.declared.proc.Proc.{Proc}
+use Rattle.ppd_sem.specs.Measure.{measure}
+use Rattle.ppd_sem.specs.Runs.{IsNumbered, IsRunnable}
+use Rattle.ppd_sem.proofs.Validity.{valid-numbered, valid-runnable}
+use Rattle.ppd_ast.specs.Valid.{IsValid}
+use Rattle.ppd_ast.specs.ValidPlan.{IsValidPlan}
+use Rattle.ppd_ast.specs.declared.limits.TheConstants.{MOST_BUDGET}
+use Rattle.ppd_ast.specs.declared.lists.Memory.{Memory as MemoryOf}
+use Rattle.ppd_model.specs.declared.closed.Closed.{Closed}
+use Rattle.ppd_model.specs.declared.trace.DriveError.{DriveError}
+use Rattle.ppd_model.specs.declared.trace.DriveError.TheVariants.{NotEnabled, Memory}
+use Rattle.ppd_model.specs.declared.state.Channel.{Channel}
+use Rattle.ppd_model.specs.declared.state.Counts.{Counts}
+use Rattle.ppd_model.specs.declared.state.Logging.{Logging}
+use Rattle.ppd_model.specs.Bounds.{steps_left}
+use Rattle.ppd_model.specs.Laws.{logged_moment}
+use Rattle.ppd_model.specs.Logs.{close, ends_from, log_step, loggings, logs_of}
+use Rattle.ppd_model.specs.Schedule.{run_from, started_procs, started_world}
+use Rattle.ppd_model.specs.Story.{told}
+use Rattle.ppd_model.specs.World.{World, change, enabled, step}
+use Rattle.ppd_model.proofs.Bounded.{Goes, goes}
+use Rattle.ppd_model.proofs.Changes.{some}
+use Rattle.ppd_model.proofs.States.{logs_grow}
+use Rattle.ppd_model.proofs.Stories.{stories_are_of_runs}
+use Rattle.ppd_world.specs.Parts.{IsSmallChan, IsSmallLogging, IsSmallSem, world_of}
+use Rattle.ppd_world.specs.Running.{IsCause, IsDriven, IsFollowed, IsOf, IsReached, Running, Takes, begun, can_step, closed, stepped}
+use Rattle.ppd_world.specs.Starts.{begun_chans, begun_logs, begun_sems}
+use Rattle.ppd_world.proofs.Begun.{logs_begun, procs_begun}
+use Rattle.ppd_world.proofs.Lists.{every_all, every_more}
+use Rattle.ppd_world.proofs.Sound.{IsSoundChan, IsSoundLogging, IsSoundSem, left_less, most, reached_sound}
+
+-- ---- schedules
+
+run_more : (program : Program) (plan : Plan) (first last : World) (h : List ℕ) (p : ℕ) → run_from program plan first h ≡ Some last → enabled program plan last p ≡ true → run_from program plan first (h ++ p ∷ []) ≡ Some (step program plan last p)
+run_more program plan first last [] p e can =
+    let is : first ≡ last = some e in
+    subst (λ (w : World). run_from program plan w (p ∷ []) ≡ Some (step program plan last p)) (sym is) (ap (λ (b : Bool). cond b (Some (step program plan last p)) None) can)
+run_more program plan first last (q ∷ h) p e can =
+    let g : Goes program plan first last q h = goes program plan first last q h e in
+    let rest : run_from program plan (step program plan first q) (h ++ p ∷ []) ≡ Some (step program plan last p) = run_more program plan (step program plan first q) last h p g.rest can in
+    ap (λ (b : Bool). cond b (run_from program plan (step program plan first q) (h ++ p ∷ [])) None) g.enables ∙ rest
+
+pub of_step : (h : List ℕ) (r : Running) (p : ℕ) → can_step r p ≡ true → IsOf h r → IsOf (h ++ p ∷ []) (stepped r p)
+of_step h r p can o =
+    let told_is : (told r.program r.plan r.budget h).world ≡ r.world = stories_are_of_runs r.program r.plan r.budget h r.world o.runs in
+    record {
+      runs = run_more r.program r.plan (started_world r.program r.plan r.budget) r.world h p o.runs can;
+      logs = ap (λ (ls : List Logging). change (λ l. log_step r.program r.plan l (logged_moment r.program r.plan r.world p)) p ls) o.logs
+          ∙ ap (λ (w : World). change (λ l. log_step r.program r.plan l (logged_moment r.program r.plan w p)) p (loggings r.program r.plan r.budget h)) (sym told_is)
+          ∙ sym (logs_grow r.program r.plan r.budget h p);
+    }
+
+pub reached_step : (r : Running) (p : ℕ) → can_step r p ≡ true → IsReached r → IsReached (stepped r p)
+reached_step r p can h = record {
+  program = h.program;
+  plan = h.plan;
+  budget = h.budget;
+  schedule = h.schedule ++ p ∷ [];
+  comes = of_step h.schedule r p can h.comes;
+}
+
+-- ---- the world from its parts
+
+abbrev running : Program → Plan → ℕ → World → List Logging → Running
+running program plan budget w ls = record { program = program; plan = plan; budget = budget; world = w; loggings = ls }
+
+same_running : (program : Program) (plan : Plan) (budget : ℕ) (w v : World) (ls ks : List Logging) → w ≡ v → ls ≡ ks → running program plan budget w ls ≡ running program plan budget v ks
+same_running program plan budget w v ls ks e f = ap (λ (x : World). running program plan budget x ls) e ∙ ap (λ (l : List Logging). running program plan budget v l) f
+
+pub took : {E : Type 0} (r : Result (Unit {0}) E) (program : Program) (plan : Plan) (budget : ℕ) (w now : World) (ls new : List Logging) (p : ℕ)
+    → OnOk r (now ≡ step program plan w p) → OnOk r (new ≡ change (λ l. log_step program plan l (logged_moment program plan w p)) p ls)
+    → OnOk r (running program plan budget now new ≡ stepped (running program plan budget w ls) p)
+took (Ok u) program plan budget w now ls new p e f = same_running program plan budget now (step program plan w p) new (change (λ l. log_step program plan l (logged_moment program plan w p)) p ls) e f
+took (Err x) program plan budget w now ls new p e f = tt
+
+pub left_it : {E : Type 0} (r : Result (Unit {0}) E) (program : Program) (plan : Plan) (budget : ℕ) (a a' : List ℤ) (b b' : List Counts) (c c' : List Channel) (ls ks : List Logging)
+    → OnErr r (a' ≡ a) → OnErr r (b' ≡ b) → OnErr r (c' ≡ c) → OnErr r (ks ≡ ls)
+    → OnErr r (running program plan budget (world_of a' b' c' ks) ks ≡ running program plan budget (world_of a b c ls) ls)
+left_it (Ok u) program plan budget a a' b b' c c' ls ks e f g h = tt
+left_it (Err x) program plan budget a a' b b' c c' ls ks e f g h =
+    ap (λ (x : List ℤ). running program plan budget (world_of x b' c' ks) ks) e ∙ ap (λ (x : List Counts). running program plan budget (world_of a x c' ks) ks) f
+    ∙ ap (λ (x : List Channel). running program plan budget (world_of a b x ks) ks) g ∙ ap (λ (x : List Logging). running program plan budget (world_of a b c x) x) h
+
+-- ---- answers of a step
+
+pub comes_by : {E : Type 0} (r : Result (Unit {0}) E) (old now : Running) (p : ℕ) → can_step old p ≡ true → OnOk r (now ≡ stepped old p) → OnOk r (Takes old (p ∷ []) now)
+comes_by (Ok u) old now p can e = λ g o. subst (λ (x : Running). IsOf (g ++ p ∷ []) x) (sym e) (of_step g old p can o)
+comes_by (Err x) old now p can e = tt
+
+pub kept_by : {E : Type 0} (r : Result (Unit {0}) E) (old now : Running) (p : ℕ) → can_step old p ≡ true → OnOk r (now ≡ stepped old p) → OnErr r (now ≡ old) → IsReached old → IsReached now
+kept_by (Ok u) old now p can e f h = subst (λ (x : Running). IsReached x) (sym e) (reached_step old p can h)
+kept_by (Err x) old now p can e f h = subst (λ (x : Running). IsReached x) (sym f) h
+
+-- ---- driving
+
+pub takes_none : (r : Running) (h : List ℕ) → Takes r (take 0 h) r
+takes_none r h = λ g o. subst (λ (l : List ℕ). IsOf l r) (sym (append-nil g)) o
+
+pub takes_more : (old now next : Running) (h : List ℕ) (i p : ℕ) → i < length h → p ≡ get_or h i p → Takes old (take i h) now → Takes now (p ∷ []) next → Takes old (take (i + 1) h) next
+takes_more old now next h i p lt is before after = λ g o.
+    let one : IsOf ((g ++ take i h) ++ p ∷ []) next = after (g ++ take i h) (before g o) in
+    let more : take (i + 1) h ≡ take i h ++ p ∷ [] = take_more h i p lt ∙ ap (λ (x : ℕ). take i h ++ x ∷ []) (sym is) in
+    subst (λ (l : List ℕ). IsOf l next) (append_assoc g (take i h) (p ∷ []) ∙ ap (λ (l : List ℕ). g ++ l) (sym more)) one
+
+pub fewer_left : (r now : Running) (p : ℕ) → IsReached r → can_step r p ≡ true → now ≡ stepped r p → steps_left now.world.procs + 1 ≤ steps_left r.world.procs
+fewer_left r now p h can e = subst (λ (x : Running). steps_left x.world.procs + 1 ≤ steps_left r.world.procs) (sym e) (left_less r p can (reached_sound r h))
+
+pub few_left : (r : Running) → IsReached r → steps_left r.world.procs ≤ most
+few_left r h = (reached_sound r h).few
+
+pub at_place : (h : List ℕ) (i p : ℕ) (P : ℕ → Type 0) → i < length h → p ≡ get_or h i p → P p → IsSomeAnd (slice_get h i) P
+at_place h i p P lt is here = by (slice_get h i) (slice_get-get_or h i p lt)
+  where
+    by : (o : Option ℕ) → o ≡ Some (get_or h i p) → IsSomeAnd o P
+    by None e = absurd (cc e)
+    by (Some x) e = let same : p ≡ x = is ∙ sym (some e) in subst P same here
+
+pub driven_part : (old now : Running) (h : List ℕ) (i p : ℕ) (e : DriveError) → i < length h → p ≡ get_or h i p → Takes old (take i h) now → IsCause now p i e → IsDriven old h now (Err e)
+driven_part old now h i p (NotEnabled k) lt is t c =
+    (subst (λ (n : ℕ). Takes old (take n h) now) (sym c.0) t, subst (λ (n : ℕ). IsSomeAnd (slice_get h n) (λ q. can_step now q ≡ false)) (sym c.0) (at_place h i p (λ q. can_step now q ≡ false) lt is c.1))
+driven_part old now h i p Memory lt is t c = (i, omega arith, t)
+
+pub driven_whole : (old now : Running) (h : List ℕ) (i : ℕ) → length h ≤ i → Takes old (take i h) now → Takes old h now
+driven_whole old now h i lt t = subst (λ (l : List ℕ). Takes old l now) (take_all i h lt) t
+
+pub takes_followed : (r now : Running) (p : ℕ) → IsFollowed r p now → Takes r (p ∷ []) now
+takes_followed r now p f = λ g o. subst (λ (x : Running). IsOf (g ++ p ∷ []) x) (sym f.stepped_to) (of_step g r p f.enabled o)
+
+pub followed_by : (r : Result (Unit {0}) MemoryOf) (old now : Running) (p : ℕ) → can_step old p ≡ true → OnOk r (now ≡ stepped old p) → OnOk r (IsFollowed old p now)
+followed_by (Ok u) old now p can e = record { enabled = can; stepped_to = e }
+followed_by (Err x) old now p can e = tt
+
+-- ---- what the code asks
+
+small_sem : (left : ℕ) (x : Counts) → IsSoundSem left x → IsSmallSem x
+small_sem left x s =
+    let given : x.given + left ≤ most = s.given in
+    let taken : x.taken ≤ x.given = s.taken in
+    record { given = omega arith; taken = omega arith }
+
+small_chan : (left : ℕ) (x : Channel) → IsSoundChan left x → IsSmallChan x
+small_chan left x s =
+    let sent : length x.sent + left ≤ most = s.sent in
+    let received : x.received ≤ length x.sent = s.received in
+    record { sent = omega arith; received = omega arith }
+
+small_logging : (program : Program) (l : Logging) → IsSoundLogging program l → IsSmallLogging program l
+small_logging program l s = let rest : l.rest + measure l.proc ≤ 500001 = s.rest in record { proc = s.proc; rest = omega arith }
+
+pub runnable : (r : Running) → IsReached r → IsRunnable r.program
+runnable r h = valid-runnable r.program h.program
+
+pub numbered : (r : Running) → IsReached r → IsNumbered r.plan
+numbered r h = valid-numbered r.program r.plan h.program h.plan
+
+pub small_sems : (r : Running) → IsReached r → All IsSmallSem r.world.sems
+small_sems r h = every_all IsSmallSem r.world.sems (every_more (IsSoundSem (steps_left r.world.procs)) IsSmallSem r.world.sems (small_sem (steps_left r.world.procs)) (reached_sound r h).sems)
+
+pub small_chans : (r : Running) → IsReached r → All IsSmallChan r.world.chans
+small_chans r h = every_all IsSmallChan r.world.chans (every_more (IsSoundChan (steps_left r.world.procs)) IsSmallChan r.world.chans (small_chan (steps_left r.world.procs)) (reached_sound r h).chans)
+
+pub small_loggings : (r : Running) → IsReached r → All (IsSmallLogging r.program) r.loggings
+small_loggings r h = every_all (IsSmallLogging r.program) r.loggings (every_more (IsSoundLogging r.program) (IsSmallLogging r.program) r.loggings (small_logging r.program) (reached_sound r h).logs)
+
+-- ---- the end
+
+pub closed_is : (r : Running) (c : Closed) → c ≡ closed r → (h : List ℕ) → IsOf h r → c ≡ close r.program r.plan r.budget h
+closed_is r c e h o = e ∙ ap (λ (ls : List Logging). record { logs = logs_of ls; ends = ends_from r.program r.program.functions ls }) o.logs
+
+-- ---- the start
+
+pub few_processes : (program : Program) → IsValid program → length program.bodies - program.functions ≤ 16
+few_processes program v =
+    let processes : length program.bodies ≤ program.functions + 16 = v.limits.processes in
+    omega arith
+
+pub begun_is : (program : Program) (plan : Plan) (budget n : ℕ) (shared : List ℤ) (sems : List Counts) (chans : List Channel) (ls : List Logging) → n ≡ length program.bodies - program.functions → shared ≡ program.starts → sems ≡ begun_sems program → chans ≡ begun_chans program → ls ≡ begun_logs program plan budget n
+    → running program plan budget (world_of shared sems chans ls) ls ≡ begun program plan budget
+begun_is program plan budget n shared sems chans ls count s_is m_is c_is l_is =
+    let k : ℕ = length program.bodies - program.functions in
+    let logs : ls ≡ loggings program plan budget [] = l_is ∙ ap (λ (i : ℕ). begun_logs program plan budget i) count ∙ sym (logs_begun program plan budget 0 k) in
+    let procs : map (λ l. l.proc) ls ≡ started_procs program plan budget k = ap (λ (x : List Logging). map (λ l. l.proc) x) (l_is ∙ ap (λ (i : ℕ). begun_logs program plan budget i) count) ∙ procs_begun program plan budget 0 k in
+    same_running program plan budget (world_of shared sems chans ls) (started_world program plan budget) ls (loggings program plan budget [])
+    (ap (λ (x : List ℤ). world_of x sems chans ls) s_is ∙ ap (λ (x : List Counts). world_of program.starts x chans ls) m_is
+    ∙ ap (λ (x : List Channel). world_of program.starts (begun_sems program) x ls) c_is
+    ∙ ap (λ (x : List Proc). record { shared = program.starts; sems = begun_sems program; chans = begun_chans program; procs = x }) procs)
+    logs
+
+pub begun_of : (program : Program) (plan : Plan) (budget : ℕ) (r : Running) → r ≡ begun program plan budget → IsOf [] r
+begun_of program plan budget r e = subst (λ (x : Running). IsOf [] x) (sym e) record { runs = refl; logs = refl }
+
+pub begun_reached : (program : Program) (plan : Plan) (budget : ℕ) (r : Running) → IsValid program → IsValidPlan program plan → budget ≤ MOST_BUDGET → r ≡ begun program plan budget → IsReached r
+begun_reached program plan budget r v w b e = subst (λ (x : Running). IsReached x) (sym e) record {
+  program = v;
+  plan = w;
+  budget = b;
+  schedule = [];
+  comes = record { runs = refl; logs = refl };
+}

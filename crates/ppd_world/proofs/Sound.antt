@@ -1,0 +1,224 @@
+-- What holds in each world that a schedule comes to.
+use Rattle.std.proofs.Common.{◌≡◌, ℕ, ℤ, zero, suc, ◌+◌, ◌-◌, ◌*◌, ◌<◌, ◌≤◌, true, List, [], ◌∷◌, ◌++◌, length, map, Option, Some, refl, ap, sym, ◌∙◌, subst, arith, length-append}
+use Rattle.std.specs.Prelude.{fold, slice_get}
+use Rattle.std.specs.List.{range_with_len}
+use Rattle.std.proofs.lemmas.Bool.Decides.{nat_tests}
+use Rattle.std.proofs.lemmas.Nat.{mul-le}
+use Rattle.ppd_ast.specs.Valid.{IsValid}
+use Rattle.ppd_ast.specs.declared.plan.Plan.{Plan}
+use Rattle.ppd_ast.specs.declared.program.Chan.{Chan}
+use Rattle.ppd_ast.specs.declared.program.Program.{Program}
+use Rattle.ppd_ast.specs.declared.program.Sem.{Sem}
+use Rattle.ppd_entry.specs.declared.entry.Entry.{Entry}
+use Rattle.ppd_sem.specs.declared.proc.Need.{Need}
+use Rattle.ppd_sem.specs.declared.proc.Need.TheVariants.{Write, P, V, Send, Recv}
+use Rattle.ppd_sem.specs.declared.proc.Proc.{Proc}
+use Rattle.ppd_sem.specs.Measure.{measure}
+use Rattle.ppd_sem.specs.Process.{act, need_of}
+use Rattle.ppd_sem.specs.Runs.{IsRunnable, IsRunning}
+use Rattle.ppd_sem.proofs.Kept.{act-runs}
+use Rattle.ppd_sem.proofs.Progress.{act-falls}
+use Rattle.ppd_sem.proofs.Starts.{started_runs}
+use Rattle.ppd_sem.proofs.Validity.{valid-runnable}
+use Rattle.ppd_model.specs.declared.state.Channel.{Channel}
+use Rattle.ppd_model.specs.declared.state.Counts.{Counts}
+use Rattle.ppd_model.specs.declared.state.Logging.{Logging}
+use Rattle.ppd_model.specs.Bounds.{steps_left}
+use Rattle.ppd_model.specs.Laws.{logged_moment}
+use Rattle.ppd_model.specs.Logs.{begun_log, entries_of, log_step, loggings, logs_from, rest_after}
+use Rattle.ppd_model.specs.Schedule.{run, run_from, started_procs, started_world}
+use Rattle.ppd_model.specs.Story.{Moment, Telling, begun, moment_of, tell, told}
+use Rattle.ppd_model.specs.World.{World, answer, can, can_receive, can_take, change, effect, need, need_at, step}
+use Rattle.ppd_model.proofs.Bounded.{ArePaid, Goes, all_falls, goes, not_stopped, started_all}
+use Rattle.ppd_model.proofs.States.{logs-change}
+use Rattle.ppd_model.proofs.Stories.{stories_are_of_runs}
+use Rattle.ppd_world.specs.Running.{IsReached, Running, begun as begun_running, can_step, stepped}
+use Rattle.ppd_world.proofs.Begun.{logs_begun, procs_begun}
+use Rattle.ppd_world.proofs.Lists.{Every, all_every, every_change, every_more, get_map, map_change}
+
+-- the greatest initial value of a semaphore and all steps of 16 processes
+abbrev pub most : ℕ
+most = 8065551
+
+-- a process of the program, whose steps since its last entry and those to come are within the budget
+pub record IsSoundLogging (program : Program) (l : Logging) : Type 0 where
+  pub proc : IsRunning program l.proc
+  pub rest : l.rest + measure l.proc ≤ 500001
+
+-- each semaphore can still be given by all steps that are left
+pub record IsSoundSem (left : ℕ) (x : Counts) : Type 0 where
+  pub given : x.given + left ≤ most
+  pub taken : x.taken ≤ x.given
+
+-- the same of a channel
+pub record IsSoundChan (left : ℕ) (x : Channel) : Type 0 where
+  pub sent : length x.sent + left ≤ most
+  pub received : x.received ≤ length x.sent
+
+pub record IsSound (r : Running) : Type 0 where
+  pub same : map (λ l. l.proc) r.loggings ≡ r.world.procs
+  pub logs : Every (IsSoundLogging r.program) r.loggings
+  pub sems : Every (IsSoundSem (steps_left r.world.procs)) r.world.sems
+  pub chans : Every (IsSoundChan (steps_left r.world.procs)) r.world.chans
+  pub few : steps_left r.world.procs ≤ most
+
+-- ---- a step
+
+rest_le : (rest : ℕ) (es : List Entry) → rest_after rest es ≤ rest + 1
+rest_le rest [] = omega arith
+rest_le rest (e ∷ es) = omega arith
+
+paid_of : (program : Program) (ls : List Logging) → Every (IsSoundLogging program) ls → ArePaid (map (λ l. l.proc) ls)
+paid_of program [] h = tt
+paid_of program (l ∷ ls) h = (h.0.proc.spent, paid_of program ls h.1)
+
+fewer_sem : (j k : ℕ) (x : Counts) → k ≤ j → IsSoundSem j x → IsSoundSem k x
+fewer_sem j k x h s = let given : x.given + j ≤ most = s.given in record { given = omega arith; taken = s.taken }
+
+fewer_chan : (j k : ℕ) (x : Channel) → k ≤ j → IsSoundChan j x → IsSoundChan k x
+fewer_chan j k x h s = let sent : length x.sent + j ≤ most = s.sent in record { sent = omega arith; received = s.received }
+
+taken_sound : (j k : ℕ) (x : Counts) → k + 1 ≤ j → can_take (Some x) ≡ true → IsSoundSem j x → IsSoundSem k (record x { taken = x.taken + 1 })
+taken_sound j k x h e s =
+    let given : x.given + j ≤ most = s.given in
+    let less : x.taken < x.given = grind (arith, nat_tests) in
+    record { given = omega arith; taken = omega arith }
+
+given_sound : (j k : ℕ) (x : Counts) → k + 1 ≤ j → IsSoundSem j x → IsSoundSem k (record x { given = x.given + 1 })
+given_sound j k x h s =
+    let given : x.given + j ≤ most = s.given in
+    let taken : x.taken ≤ x.given = s.taken in
+    record { given = omega arith; taken = omega arith }
+
+sent_sound : (j k : ℕ) (x : Channel) (v : ℤ) → k + 1 ≤ j → IsSoundChan j x → IsSoundChan k (record x { sent = x.sent ++ v ∷ [] })
+sent_sound j k x v h s =
+    let sent : length x.sent + j ≤ most = s.sent in
+    let received : x.received ≤ length x.sent = s.received in
+    let more : length (x.sent ++ v ∷ []) ≡ length x.sent + 1 = length-append x.sent (v ∷ []) in
+    record { sent = omega arith; received = omega arith }
+
+received_sound : (j k : ℕ) (x : Channel) → k + 1 ≤ j → can_receive (Some x) ≡ true → IsSoundChan j x → IsSoundChan k (record x { received = x.received + 1 })
+received_sound j k x h e s =
+    let sent : length x.sent + j ≤ most = s.sent in
+    let less : x.received < length x.sent = grind (arith, nat_tests) in
+    record { sent = omega arith; received = omega arith }
+
+module _ (w : World) (j k : ℕ) (less : k + 1 ≤ j) where
+  weak_sem : (x : Counts) → IsSoundSem j x → IsSoundSem k x
+  weak_sem x h = fewer_sem j k x (omega arith) h
+
+  weak_chan : (x : Channel) → IsSoundChan j x → IsSoundChan k x
+  weak_chan x h = fewer_chan j k x (omega arith) h
+
+  sems_sound : (n : Need) → can w n ≡ true → Every (IsSoundSem j) w.sems → Every (IsSoundSem k) (effect w n).sems
+  sems_sound (P s u) e h = every_change (IsSoundSem j) (IsSoundSem k) (λ x. record x { taken = x.taken + 1 }) s w.sems weak_sem (λ x is b. taken_sound j k x less (sym (ap can_take is) ∙ e) b) h
+  sems_sound (V s u) e h = every_change (IsSoundSem j) (IsSoundSem k) (λ x. record x { given = x.given + 1 }) s w.sems weak_sem (λ x is b. given_sound j k x less b) h
+  sems_sound (Write c v) e h = every_more (IsSoundSem j) (IsSoundSem k) w.sems weak_sem h
+  sems_sound (Send c v u) e h = every_more (IsSoundSem j) (IsSoundSem k) w.sems weak_sem h
+  sems_sound (Recv c u) e h = every_more (IsSoundSem j) (IsSoundSem k) w.sems weak_sem h
+  sems_sound n e h = every_more (IsSoundSem j) (IsSoundSem k) w.sems weak_sem h
+
+  chans_sound : (n : Need) → can w n ≡ true → Every (IsSoundChan j) w.chans → Every (IsSoundChan k) (effect w n).chans
+  chans_sound (Send c v u) e h = every_change (IsSoundChan j) (IsSoundChan k) (λ x. record x { sent = x.sent ++ v ∷ [] }) c w.chans weak_chan (λ x is b. sent_sound j k x v less b) h
+  chans_sound (Recv c u) e h = every_change (IsSoundChan j) (IsSoundChan k) (λ x. record x { received = x.received + 1 }) c w.chans weak_chan (λ x is b. received_sound j k x less (sym (ap can_receive is) ∙ e) b) h
+  chans_sound (Write c v) e h = every_more (IsSoundChan j) (IsSoundChan k) w.chans weak_chan h
+  chans_sound (P s u) e h = every_more (IsSoundChan j) (IsSoundChan k) w.chans weak_chan h
+  chans_sound (V s u) e h = every_more (IsSoundChan j) (IsSoundChan k) w.chans weak_chan h
+  chans_sound n e h = every_more (IsSoundChan j) (IsSoundChan k) w.chans weak_chan h
+
+logging_sound : (program : Program) (plan : Plan) (w : World) (l : Logging) (x : Moment) → IsRunnable program → can w (need_of program plan l.proc) ≡ true → IsSoundLogging program l → IsSoundLogging program (log_step program plan l x)
+logging_sound program plan w l x run e h =
+    let falls : measure (act program plan l.proc x.taken.answer) < measure l.proc = act-falls program plan l.proc x.taken.answer (not_stopped w (need_of program plan l.proc) e) h.proc.spent in
+    let rest : (log_step program plan l x).rest ≤ l.rest + 1 = rest_le l.rest (entries_of program plan l x) in
+    let within : l.rest + measure l.proc ≤ 500001 = h.rest in
+    record { proc = act-runs program plan l.proc x.taken.answer run h.proc; rest = omega arith }
+
+pub left_less : (r : Running) (p : ℕ) → can_step r p ≡ true → IsSound r → steps_left (stepped r p).world.procs + 1 ≤ steps_left r.world.procs
+left_less r p e s =
+    let paid : ArePaid r.world.procs = subst (λ (ps : List Proc). ArePaid ps) s.same (paid_of r.program r.loggings s.logs) in
+    all_falls r.program r.plan r.world (answer r.world (need r.program r.plan r.world p)) p r.world.procs paid e
+
+pub step_sound : (r : Running) (p : ℕ) → IsRunnable r.program → can_step r p ≡ true → IsSound r → IsSound (stepped r p)
+step_sound r p run e s =
+    let n : Need = need r.program r.plan r.world p in
+    let x : Moment = logged_moment r.program r.plan r.world p in
+    let less : steps_left (stepped r p).world.procs + 1 ≤ steps_left r.world.procs = left_less r p e s in
+    let few : steps_left r.world.procs ≤ most = s.few in
+    let at : (l : Logging) → slice_get r.loggings p ≡ Some l → can r.world (need_of r.program r.plan l.proc) ≡ true =
+    λ l is. let found : slice_get r.world.procs p ≡ Some l.proc = ap (λ (ps : List Proc). slice_get ps p) (sym s.same) ∙ get_map (λ (y : Logging). y.proc) r.loggings p l is in
+    sym (ap (λ (o : Option Proc). can r.world (need_at r.program r.plan o)) found) ∙ e in
+    record {
+      same = map_change (λ l. l.proc) (λ l. log_step r.program r.plan l x) (λ t. act r.program r.plan t x.taken.answer) p r.loggings (λ l. refl) ∙ ap (λ (ps : List Proc). change (λ t. act r.program r.plan t x.taken.answer) p ps) s.same;
+      logs = every_change (IsSoundLogging r.program) (IsSoundLogging r.program) (λ l. log_step r.program r.plan l x) p r.loggings (λ l h. h) (λ l is h. logging_sound r.program r.plan r.world l x run (at l is) h) s.logs;
+      sems = sems_sound r.world (steps_left r.world.procs) (steps_left (stepped r p).world.procs) less n e s.sems;
+      chans = chans_sound r.world (steps_left r.world.procs) (steps_left (stepped r p).world.procs) less n e s.chans;
+      few = omega arith;
+    }
+
+-- ---- the start
+
+logs_sound : (program : Program) (plan : Plan) (budget p n : ℕ) → IsRunnable program → budget ≤ 500000 → program.functions + (p + n) ≤ length program.bodies → Every (IsSoundLogging program) (map (λ q. begun_log program plan budget q) (range_with_len p n))
+logs_sound program plan budget p zero run few lt = tt
+logs_sound program plan budget p (suc n) run few lt = (
+  record { proc = started_runs program (program.functions + p) budget run (omega arith) (omega arith); rest = omega arith },
+  logs_sound program plan budget (p + 1) n run few (omega arith),
+)
+
+sems_begun : (left : ℕ) (sems : List Sem) → left ≤ 8000016 → Every (λ s. s.start ≤ 65535) sems → Every (IsSoundSem left) (map (λ s. record { given = s.start; taken = 0 }) sems)
+sems_begun left [] few h = tt
+sems_begun left (s ∷ ss) few h = let start : s.start ≤ 65535 = h.0 in (record { given = omega arith; taken = omega arith }, sems_begun left ss few h.1)
+
+chans_begun : (left : ℕ) (chans : List Chan) → left ≤ 8000016 → Every (IsSoundChan left) (map (λ c. record { capacity = c.capacity; sent = []; received = 0 }) chans)
+chans_begun left [] few = tt
+chans_begun left (c ∷ cs) few = (record { sent = omega arith; received = omega arith }, chans_begun left cs few)
+
+few_steps : (n budget : ℕ) → n ≤ 16 → budget ≤ 500000 → n * (budget + 1) ≤ 8000016
+few_steps n budget h k = mul-le n (budget + 1) 16 500001 h (omega arith)
+
+pub begun_sound : (program : Program) (plan : Plan) (budget : ℕ) → IsValid program → budget ≤ 500000 → IsSound (begun_running program plan budget)
+begun_sound program plan budget v h =
+    let n : ℕ = length program.bodies - program.functions in
+    let run : IsRunnable program = valid-runnable program v in
+    let process : program.functions < length program.bodies = v.limits.process in
+    let processes : length program.bodies ≤ program.functions + 16 = v.limits.processes in
+    let left : steps_left (started_procs program plan budget n) ≡ n * (budget + 1) = started_all program plan budget 0 n in
+    let few : n * (budget + 1) ≤ 8000016 = few_steps n budget (omega arith) h in
+    let logs : loggings program plan budget [] ≡ map (λ q. begun_log program plan budget q) (range_with_len 0 n) = logs_begun program plan budget 0 n in
+    let starts : Every (λ (s : Sem). s.start ≤ 65535) program.sems = all_every (λ (s : Sem). s.start ≤ 65535) program.sems (λ i d lt. (v.limits.sems i d lt).1) in
+    record {
+      same = ap (λ (ls : List Logging). map (λ l. l.proc) ls) logs ∙ procs_begun program plan budget 0 n;
+      logs = subst (λ (ls : List Logging). Every (IsSoundLogging program) ls) (sym logs) (logs_sound program plan budget 0 n run h (omega arith));
+      sems = sems_begun (steps_left (started_procs program plan budget n)) program.sems (omega arith) starts;
+      chans = chans_begun (steps_left (started_procs program plan budget n)) program.chans (omega arith);
+      few = omega arith;
+    }
+
+-- ---- schedules
+
+module _ (program : Program) (plan : Plan) (budget : ℕ) where
+  -- the world and the logs of what is told
+  abbrev telling : Telling → Running
+  telling t = record { program = program; plan = plan; budget = budget; world = t.world; loggings = logs_from program plan budget 0 t.moments }
+
+  with_logs : (w : World) (ls ls' : List Logging) → ls ≡ ls' → IsSound (record { program = program; plan = plan; budget = budget; world = w; loggings = ls }) → IsSound (record { program = program; plan = plan; budget = budget; world = w; loggings = ls' })
+  with_logs w ls ls' e s = subst (λ (l : List Logging). IsSound (record { program = program; plan = plan; budget = budget; world = w; loggings = l })) e s
+
+  with_world : (w w' : World) (ls : List Logging) → w ≡ w' → IsSound (record { program = program; plan = plan; budget = budget; world = w; loggings = ls }) → IsSound (record { program = program; plan = plan; budget = budget; world = w'; loggings = ls })
+  with_world w w' ls e s = subst (λ (x : World). IsSound (record { program = program; plan = plan; budget = budget; world = x; loggings = ls })) e s
+
+  told_sound : (t : Telling) (h : List ℕ) (last : World) → IsRunnable program → IsSound (telling t) → run_from program plan t.world h ≡ Some last → IsSound (telling (fold (tell program plan) t h))
+  told_sound t [] last run s e = s
+  told_sound t (p ∷ h) last run s e =
+      let g : Goes program plan t.world last p h = goes program plan t.world last p h e in
+      let one : IsSound (stepped (telling t) p) = step_sound (telling t) p run g.enables s in
+      let next : IsSound (telling (tell program plan t p)) =
+      with_logs (step program plan t.world p) (change (λ l. log_step program plan l (logged_moment program plan t.world p)) p (logs_from program plan budget 0 t.moments)) (logs_from program plan budget 0 (tell program plan t p).moments)
+      (sym (logs-change program plan budget (moment_of program plan t p) p 0 t.moments)) one in
+      told_sound (tell program plan t p) h last run next g.rest
+
+pub reached_sound : (r : Running) → IsReached r → IsSound r
+reached_sound r h =
+    let last : IsSound (telling r.program r.plan r.budget (told r.program r.plan r.budget h.schedule)) =
+    told_sound r.program r.plan r.budget (begun (started_world r.program r.plan r.budget)) h.schedule r.world (valid-runnable r.program h.program) (begun_sound r.program r.plan r.budget h.program h.budget) h.comes.runs in
+    with_logs r.program r.plan r.budget r.world (loggings r.program r.plan r.budget h.schedule) r.loggings (sym h.comes.logs)
+    (with_world r.program r.plan r.budget (told r.program r.plan r.budget h.schedule).world r.world (loggings r.program r.plan r.budget h.schedule) (stories_are_of_runs r.program r.plan r.budget h.schedule r.world h.comes.runs) last)

@@ -1,0 +1,128 @@
+-- The parts of a step of a world.
+use Rattle.std.specs.Prelude.{ℕ, ◌+◌, ◌-◌, ◌<◌, ◌^◌, ℤ, List, [], ◌∷◌, ◌++◌, length, map, take, slice_set, Option, Some, None}
+use Rattle.ppd_ast.specs.declared.plan.Plan.{Plan}
+use Rattle.ppd_ast.specs.declared.program.Program.{Program}
+use Rattle.ppd_entry.specs.declared.entry.Entry.{Entry}
+use Rattle.ppd_sem.specs.declared.proc.Answer.{Answer}
+use Rattle.ppd_sem.specs.declared.proc.Need.{Need}
+use Rattle.ppd_sem.specs.declared.proc.Need.TheVariants.{Write, P, V, Send, Recv, Stopped}
+use Rattle.ppd_sem.specs.Process.{act, need_of}
+use Rattle.ppd_sem.specs.Runs.{IsRunning}
+use Rattle.ppd_model.specs.declared.state.Channel.{Channel}
+use Rattle.ppd_model.specs.declared.state.Counts.{Counts}
+use Rattle.ppd_model.specs.declared.state.Logging.{Logging}
+use Rattle.ppd_model.specs.Logs.{rest_after}
+use Rattle.ppd_model.specs.Story.{Moment, Taken, unit_started, values_at_start}
+use Rattle.ppd_model.specs.World.{World, change}
+use Rattle.ppd_world.specs.declared.note.Note.{Note}
+use Rattle.ppd_world.specs.declared.note.Note.TheVariants.{Nothing, Reads, Writes, Anew}
+
+-- ---- bounds
+
+-- one more can be given and taken within 32 bits
+pub record IsSmallSem (x : Counts) : Type 0 where
+  pub given : x.given + 1 < 2 ^ 32
+  pub taken : x.taken + 1 < 2 ^ 32
+
+-- one more can be received within 32 bits
+pub record IsReceivable (x : Channel) : Type 0 where
+  pub received : x.received + 1 < 2 ^ 32
+
+-- one more can be sent and received within 32 bits
+pub record IsSmallChan (x : Channel) : Type 0 where
+  pub sent : length x.sent + 1 < 2 ^ 32
+  pub received : x.received + 1 < 2 ^ 32
+
+-- a process of the program, and one more step can be counted within 32 bits
+pub record IsSmallLogging (program : Program) (l : Logging) : Type 0 where
+  pub proc : IsRunning program l.proc
+  pub rest : l.rest + 1 < 2 ^ 32
+
+-- ---- the shared state
+
+-- a shared state without processes
+abbrev pub store : List ℤ → List Counts → List Channel → World
+store shared sems chans = record { shared = shared; sems = sems; chans = chans; procs = [] }
+
+-- a shared state with the processes that have these logs
+abbrev pub world_of : List ℤ → List Counts → List Channel → List Logging → World
+world_of shared sems chans loggings = record { shared = shared; sems = sems; chans = chans; procs = map (λ l. l.proc) loggings }
+
+-- what a process that is there needs
+abbrev pub need_of_logging : Program → Plan → Option Logging → Need
+need_of_logging program plan None = Stopped
+need_of_logging program plan (Some l) = need_of program plan l.proc
+
+-- the shared cells after a step of this need
+abbrev pub shared_after : List ℤ → Need → List ℤ
+shared_after shared (Write c v) = slice_set shared c v
+shared_after shared need = shared
+
+-- a semaphore taken once more
+abbrev pub one_taken : Counts → Counts
+one_taken x = record x { taken = x.taken + 1 }
+
+-- a semaphore given once more
+abbrev pub one_given : Counts → Counts
+one_given x = record x { given = x.given + 1 }
+
+-- the semaphores after a step of this need
+abbrev pub sems_after : List Counts → Need → List Counts
+sems_after sems (P s u) = change one_taken s sems
+sems_after sems (V s u) = change one_given s sems
+sems_after sems need = sems
+
+-- a channel with one more value
+abbrev pub with_value : ℤ → Channel → Channel
+with_value v x = record x { sent = x.sent ++ v ∷ [] }
+
+-- a channel without what was sent last
+abbrev pub without_last : Channel → Channel
+without_last x = record x { sent = take (length x.sent - 1) x.sent }
+
+-- a channel from which one more was received
+abbrev pub one_received : Channel → Channel
+one_received x = record x { received = x.received + 1 }
+
+-- the channels with what a step of this need sends
+abbrev pub sent_after : List Channel → Need → List Channel
+sent_after chans (Send c v u) = change (with_value v) c chans
+sent_after chans need = chans
+
+-- the channels without what was sent last
+abbrev pub unsent_after : List Channel → Need → List Channel
+unsent_after chans (Send c v u) = change without_last c chans
+unsent_after chans need = chans
+
+-- the channels with what a step of this need receives
+abbrev pub received_after : List Channel → Need → List Channel
+received_after chans (Recv c u) = change one_received c chans
+received_after chans need = chans
+
+-- ---- a process with its log
+
+-- a step of this need with this answer and number
+abbrev pub taken_with : Need → Answer → Option ℕ → Taken
+taken_with n answer number = record { need = n; answer = answer; writer = None; number = number }
+
+-- the same with the values of its unit, the shared cells as they stand after it
+abbrev pub moment_with : Plan → List ℤ → Need → Answer → Option ℕ → Moment
+moment_with plan shared n answer number = record {
+  taken = taken_with n answer number;
+  unit_values = values_at_start plan shared (unit_started n);
+}
+
+-- what becomes of the cells that were accessed
+abbrev pub noted : Note → Logging → Logging
+noted Nothing l = l
+noted (Reads cells) l = record l { reads = cells }
+noted (Writes cells) l = record l { writes = cells }
+noted Anew l = record l { reads = []; writes = [] }
+
+-- a process with its log after a step, with this answer, that wrote these entries
+abbrev pub logged : Program → Plan → Logging → Answer → Note → List Entry → Logging
+logged program plan l answer note new = record (noted note l) {
+  proc = act program plan l.proc answer;
+  rest = rest_after l.rest new;
+  entries = l.entries ++ new;
+}

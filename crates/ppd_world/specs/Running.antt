@@ -1,0 +1,82 @@
+-- A world with its logs, and the schedule that it comes from.
+use Rattle.std.specs.Prelude.{◌≡◌, ℕ, ◌≤◌, Bool, true, false, List, [], ◌++◌, length, take, Some, IsSomeAnd, slice_get, Result, Ok, Err, ⊤}
+use Rattle.ppd_ast.specs.Valid.{IsValid}
+use Rattle.ppd_ast.specs.ValidPlan.{IsValidPlan}
+use Rattle.ppd_ast.specs.declared.limits.TheConstants.{MOST_BUDGET}
+use Rattle.ppd_ast.specs.declared.plan.Plan.{Plan}
+use Rattle.ppd_ast.specs.declared.program.Program.{Program}
+use Rattle.ppd_model.specs.declared.closed.Closed.{Closed}
+use Rattle.ppd_model.specs.declared.trace.DriveError.{DriveError}
+use Rattle.ppd_model.specs.declared.trace.DriveError.TheVariants.{NotEnabled, Memory}
+use Rattle.ppd_model.specs.Laws.{logged_moment}
+use Rattle.ppd_model.specs.declared.state.Logging.{Logging}
+use Rattle.ppd_model.specs.Logs.{ends_from, log_step, loggings, logs_of}
+use Rattle.ppd_model.specs.Schedule.{run, started_world}
+use Rattle.ppd_model.specs.World.{World, change, enabled, step}
+
+-- a program with its plan and its processes' budget, the world that it came to, and each process with its log
+pub record Running : Type 0 where
+  pub program : Program
+  pub plan : Plan
+  pub budget : ℕ
+  pub world : World
+  pub loggings : List Logging
+
+-- before the first step
+abbrev pub begun : Program → Plan → ℕ → Running
+begun program plan budget = record {
+  program = program;
+  plan = plan;
+  budget = budget;
+  world = started_world program plan budget;
+  loggings = loggings program plan budget [];
+}
+
+-- process p takes its step, which adds its entries to its log
+abbrev pub stepped : Running → ℕ → Running
+stepped r p = record r {
+  world = step r.program r.plan r.world p;
+  loggings = change (λ l. log_step r.program r.plan l (logged_moment r.program r.plan r.world p)) p r.loggings;
+}
+
+-- what is left when nobody can take a step
+abbrev pub closed : Running → Closed
+closed r = record { logs = logs_of r.loggings; ends = ends_from r.program r.program.functions r.loggings }
+
+-- the world and the logs are those of this schedule
+pub record IsOf (h : List ℕ) (r : Running) : Type 0 where
+  pub runs : run r.program r.plan r.budget h ≡ Some r.world
+  pub logs : r.loggings ≡ loggings r.program r.plan r.budget h
+
+-- the world and the logs are those of some schedule of a valid program with a valid plan
+pub record IsReached (r : Running) : Type 0 where
+  pub program : IsValid r.program
+  pub plan : IsValidPlan r.program r.plan
+  pub budget : r.budget ≤ MOST_BUDGET
+  pub schedule : List ℕ
+  pub comes : IsOf schedule r
+
+-- process p can take a step
+abbrev pub can_step : Running → ℕ → Bool
+can_step r p = enabled r.program r.plan r.world p
+
+-- from the first to the second world the steps of this schedule were taken, each by an enabled process
+abbrev pub Takes : Running → List ℕ → Running → Type 0
+Takes before h after = (g : List ℕ) → IsOf g before → IsOf (g ++ h) after
+
+-- process p, which was enabled, took its step
+pub record IsFollowed (before : Running) (p : ℕ) (after : Running) : Type 0 where
+  pub enabled : can_step before p ≡ true
+  pub stepped_to : after ≡ stepped before p
+
+-- number n of a schedule, which is p, names no enabled process; or memory is wanting
+abbrev pub IsCause : Running → (p n : ℕ) → DriveError → Type 0
+IsCause r p n (NotEnabled k) = (k ≡ n) × (can_step r p ≡ false)
+IsCause r p n Memory = ⊤
+
+-- how far a schedule was taken: whole; or up to its first number that names no enabled process; or,
+-- for want of memory, some first numbers
+abbrev pub IsDriven : Running → List ℕ → Running → Result (Unit {0}) DriveError → Type 0
+IsDriven before h after (Ok u) = Takes before h after
+IsDriven before h after (Err (NotEnabled n)) = Takes before (take n h) after × IsSomeAnd (slice_get h n) (λ p. can_step after p ≡ false)
+IsDriven before h after (Err Memory) = (n : ℕ) × (n ≤ length h) × Takes before (take n h) after

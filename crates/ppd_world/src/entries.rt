@@ -1,0 +1,310 @@
+ghost use Rattle.std.specs.Prelude.{◌≡◌, ◌++◌, ◌∷◌, [], map, option_to_list, slice_get, IfOk, OnOk};
+ghost use Rattle.ppd_model.specs.Logs.{ends, entries_of as entries_of_step, passed as passed_of, postlogs, prelogs, status_of as status_of_need, syncs, units};
+ghost use Rattle.ppd_model.specs.Marks.{closed, opened, postlog_cells as postlog_cells_of, prelog_cells as prelog_cells_of};
+ghost use Rattle.ppd_model.specs.Story.{cells_of_unit as cells_of_unit_in, unit_started as unit_started_of, values_at_start, values_of_unit};
+ghost use Rattle.ppd_model.specs.Synchronizations.{kind_of_sync, numbered};
+ghost use Rattle.ppd_sem.specs.Ask.{cell_of};
+ghost use Rattle.ppd_sem.specs.Process.{value_of};
+ghost use Rattle.ppd_sem.specs.Runs.{IsRunnable, IsRunning};
+ghost use Rattle.ppd_world.specs.Parts.{moment_with, taken_with};
+
+use crate::store::value_at;
+use ppd_ast::{Cells, Memory, Nums, Plan, Program, Status, SyncKind};
+use ppd_entry::Entry;
+use ppd_model::Logging;
+use ppd_sem::{Answer, Need, Proc, call_values, local_cells, returned_value};
+use std::alloc::Global;
+
+fn push(entries: &mut Vec<Entry>, entry: Entry) -> Result<(), Memory>
+    ensures { OnOk result (entries.new.items ≡ entries.old.items ++ entry ∷ []) }
+{
+    match entries.push(entry) {
+        Ok(()) => Ok(()),
+        Err(_) => Err(Memory),
+    }
+}
+
+fn copy_cells(cells: &Cells) -> Result<Cells, Memory>
+    ensures { IfOk result (λ copy. copy ≡ cells.now) }
+{
+    match cells.clone() {
+        Ok(copy) => Ok(copy),
+        Err(_) => Err(Memory),
+    }
+}
+
+/// The values at these places, 0 for each past the end.
+fn values_at(alloc: Global, values: &[i64], places: &[u16]) -> Result<Nums, Memory>
+    ensures { IfOk result (λ found. found ≡ map (cell_of values.now) places.now) }
+{
+    let mut found = Nums::new(alloc);
+    for place in places {
+        found.push(value_at(values, *place as usize))?;
+    }
+    Ok(found)
+}
+
+fn prelog_cells(plan: &Plan, block: u16) -> &[u16]
+    ensures { result.now ≡ prelog_cells_of plan.now block }
+{
+    match plan.blocks.as_slice().get(block as usize) {
+        Some(block) => block.prelog.as_slice(),
+        None => &[],
+    }
+}
+
+fn postlog_cells(plan: &Plan, block: u16) -> &[u16]
+    ensures { result.now ≡ postlog_cells_of plan.now block }
+{
+    match plan.blocks.as_slice().get(block as usize) {
+        Some(block) => block.postlog.as_slice(),
+        None => &[],
+    }
+}
+
+fn unit_cells(plan: &Plan, unit: u16) -> &[u16]
+    ensures { result.now ≡ cells_of_unit_in (slice_get plan.now.units unit) }
+{
+    match plan.units.as_slice().get(unit as usize) {
+        Some(unit) => unit.cells.as_slice(),
+        None => &[],
+    }
+}
+
+/// The values of a unit's cells.
+pub(crate) fn unit_values(
+    alloc: Global,
+    plan: &Plan,
+    shared: &[i64],
+    unit: u16,
+) -> Result<Nums, Memory>
+    ensures { IfOk result (λ values. values ≡ values_of_unit plan.now shared.now unit) }
+{
+    values_at(alloc, shared, unit_cells(plan, unit))
+}
+
+/// The prelog of the block that a step of this need enters.
+fn push_opened(
+    entries: &mut Vec<Entry>,
+    alloc: Global,
+    program: &Program,
+    plan: &Plan,
+    proc: &Proc,
+    need: Need,
+) -> Result<(), Memory>
+    requires program { IsRunnable program.now }
+    requires proc { IsRunning program.now proc.now }
+    ensures { OnOk result (entries.new.items ≡ entries.old.items ++ prelogs (opened program.now plan.now proc.now need)) }
+{
+    match need {
+        Need::Enter { block, .. } => {
+            let values = values_at(alloc, local_cells(proc), prelog_cells(plan, block))?;
+            push(entries, Entry::Prelog { block, values })
+        }
+        Need::Invoke {
+            block: Some(block),
+            ..
+        } => {
+            let values = call_values(alloc, program, proc)?;
+            push(entries, Entry::Prelog { block, values })
+        }
+        _ => Ok(()),
+    }
+}
+
+/// The list of the value, if there is one.
+fn listed(alloc: Global, value: Option<i64>) -> Result<Nums, Memory>
+    ensures { IfOk result (λ list. list ≡ option_to_list value) }
+{
+    let mut list = Nums::new(alloc);
+    if let Some(value) = value {
+        list.push(value)?;
+    }
+    Ok(list)
+}
+
+/// The postlog of the block that a step of this need leaves.
+fn push_closed(
+    entries: &mut Vec<Entry>,
+    alloc: Global,
+    program: &Program,
+    plan: &Plan,
+    proc: &Proc,
+    need: Need,
+) -> Result<(), Memory>
+    requires program { IsRunnable program.now }
+    requires proc { IsRunning program.now proc.now }
+    ensures { OnOk result (entries.new.items ≡ entries.old.items ++ postlogs (closed program.now plan.now proc.now need)) }
+{
+    match need {
+        Need::Leave { block, .. } => {
+            let values = values_at(alloc, local_cells(proc), postlog_cells(plan, block))?;
+            push(entries, Entry::Postlog { block, values })
+        }
+        Need::Back {
+            block: Some(block),
+            ..
+        } => {
+            let values = listed(alloc, returned_value(program, proc))?;
+            push(entries, Entry::Postlog { block, values })
+        }
+        Need::End { block } => {
+            let values = Nums::new(alloc);
+            push(entries, Entry::Postlog { block, values })
+        }
+        _ => Ok(()),
+    }
+}
+
+fn value_in(answer: Answer) -> i64
+    ensures { result ≡ value_of answer }
+{
+    match answer {
+        Answer::Value(value) => value,
+        Answer::Go => 0,
+    }
+}
+
+/// What a synchronization passes, and 0 for a semaphore.
+fn passed(need: Need, answer: Answer) -> i64
+    ensures { result ≡ passed_of need answer }
+{
+    match need {
+        Need::Send { value, .. } => value,
+        Need::Recv { .. } => value_in(answer),
+        _ => 0,
+    }
+}
+
+/// The entry of a synchronization that takes this number.
+fn push_sync(
+    entries: &mut Vec<Entry>,
+    logging: &Logging,
+    need: Need,
+    answer: Answer,
+    number: Option<u32>,
+) -> Result<(), Memory>
+    ensures { OnOk result (entries.new.items ≡ entries.old.items ++ syncs logging.now (taken_with need answer number) (numbered (kind_of_sync need) number)) }
+{
+    let (kind, object) = match need {
+        Need::P { sem, .. } => (SyncKind::P, sem),
+        Need::V { sem, .. } => (SyncKind::V, sem),
+        Need::Send { chan, .. } => (SyncKind::Send, chan),
+        Need::Recv { chan, .. } => (SyncKind::Recv, chan),
+        _ => return Ok(()),
+    };
+    let Some(number) = number else {
+        return Ok(());
+    };
+    let value = passed(need, answer);
+    let reads = copy_cells(&logging.reads)?;
+    let writes = copy_cells(&logging.writes)?;
+    push(
+        entries,
+        Entry::Sync {
+            kind,
+            object,
+            number,
+            value,
+            reads,
+            writes,
+        },
+    )
+}
+
+/// The unit that starts after a step of this need.
+fn unit_started(need: Need) -> Option<u16>
+    ensures { result ≡ unit_started_of need }
+{
+    match need {
+        Need::Enter { unit, .. }
+        | Need::Leave { unit, .. }
+        | Need::Invoke { unit, .. }
+        | Need::P { unit, .. }
+        | Need::V { unit, .. }
+        | Need::Send { unit, .. }
+        | Need::Recv { unit, .. } => Some(unit),
+        Need::Back { unit, .. } => unit,
+        _ => None,
+    }
+}
+
+/// The unit that starts after a step of this need, with its values.
+fn push_unit(
+    entries: &mut Vec<Entry>,
+    alloc: Global,
+    plan: &Plan,
+    shared: &[i64],
+    need: Need,
+) -> Result<(), Memory>
+    ensures { OnOk result (entries.new.items ≡ entries.old.items ++ units (unit_started_of need) (values_at_start plan.now shared.now (unit_started_of need))) }
+{
+    match unit_started(need) {
+        Some(unit) => {
+            let values = unit_values(alloc, plan, shared, unit)?;
+            push(entries, Entry::Unit { unit, values })
+        }
+        None => Ok(()),
+    }
+}
+
+/// The status of a step that ends its process.
+fn status_of(need: Need) -> Option<Status>
+    ensures { result ≡ status_of_need need }
+{
+    match need {
+        Need::Trap(trap) => Some(Status::Trap(trap)),
+        Need::Budget => Some(Status::Budget),
+        Need::End { .. } => Some(Status::Ended),
+        _ => None,
+    }
+}
+
+/// The end of the process, where there is a status.
+pub(crate) fn push_end(
+    entries: &mut Vec<Entry>,
+    logging: &Logging,
+    status: Option<Status>,
+) -> Result<(), Memory>
+    ensures { OnOk result (entries.new.items ≡ entries.old.items ++ ends logging.now status) }
+{
+    let Some(status) = status else {
+        return Ok(());
+    };
+    let reads = copy_cells(&logging.reads)?;
+    let writes = copy_cells(&logging.writes)?;
+    push(
+        entries,
+        Entry::End {
+            status,
+            rest: logging.rest,
+            reads,
+            writes,
+        },
+    )
+}
+
+/// The entries that a step of this need writes, with this answer and number.
+/// `Memory` is want of memory.
+pub(crate) fn entries_of(
+    alloc: Global,
+    program: &Program,
+    plan: &Plan,
+    logging: &Logging,
+    shared: &[i64],
+    need: Need,
+    answer: Answer,
+    number: Option<u32>,
+) -> Result<Vec<Entry>, Memory>
+    requires program { IsRunnable program.now }
+    requires proc { IsRunning program.now logging.now.proc }
+    ensures { IfOk result (λ entries. entries.items ≡ entries_of_step program.now plan.now logging.now (moment_with plan.now shared.now need answer number)) }
+{
+    let mut entries = Vec::new(alloc);
+    push_opened(&mut entries, alloc, program, plan, &logging.proc, need)?;
+    push_sync(&mut entries, logging, need, answer, number)?;
+    push_closed(&mut entries, alloc, program, plan, &logging.proc, need)?;
+    push_unit(&mut entries, alloc, plan, shared, need)?;
+    push_end(&mut entries, logging, status_of(need))?;
+    Ok(entries)
+}

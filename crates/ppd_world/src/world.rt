@@ -1,0 +1,190 @@
+ghost use Rattle.std.specs.Prelude.{◌≡◌, ◌+◌, ◌-◌, ◌≤◌, ◌↔◌, ◌∷◌, [], length, true, IsTrue, IfErr, IfOk, OnOk, OnErr, List, ℕ};
+ghost use Rattle.ppd_ast.specs.Valid.{IsValid};
+ghost use Rattle.ppd_ast.specs.ValidPlan.{IsValidPlan};
+ghost use Rattle.ppd_model.specs.Logs.{close as close_of};
+ghost use Rattle.ppd_model.specs.Schedule.{IsOver};
+ghost use Rattle.ppd_world.specs.Running.{IsCause, IsDriven, IsFollowed, IsOf, IsReached, Takes, begun, can_step, closed as closed_of, stepped};
+
+use crate::closing::close_all;
+use crate::starting::{start_chans, start_logs, start_sems};
+use crate::stepping::{is_enabled, is_over, take_step};
+use ppd_ast::limits::MOST_BUDGET;
+use ppd_ast::{Memory, Nums, Plan, Program};
+use ppd_model::{Channel, Closed, Counts, DriveError, Logging};
+use std::alloc::Global;
+use std::marker::Model;
+
+/// The shared state of a program's run with all its processes and their logs.
+#[derive(Drop)]
+pub struct World<'a> {
+    alloc: Global,
+    program: &'a Program,
+    plan: &'a Plan,
+    budget: u32,
+    shared: Nums,
+    sems: Vec<Counts>,
+    chans: Vec<Channel>,
+    loggings: Vec<Logging>,
+}
+
+impl<'a> Model for World<'a> {
+    ghost use Rattle.std.specs.Prelude.{map};
+    ghost use Rattle.ppd_world.specs.Running.{Running};
+
+    ghost Value = { Running };
+
+    ghost view = { λ w. record { program = w.program.now; plan = w.plan.now; budget = w.budget; world = record { shared = w.shared; sems = w.sems.items; chans = w.chans.items; procs = map (λ l. l.proc) w.loggings.items }; loggings = w.loggings.items } };
+}
+
+fn copy_values(values: &Nums) -> Result<Nums, Memory>
+    ensures { IfOk result (λ copy. copy ≡ values.now) }
+{
+    match values.clone() {
+        Ok(copy) => Ok(copy),
+        Err(_) => Err(Memory),
+    }
+}
+
+/// How many processes a valid program has.
+fn process_count(program: &Program) -> u8
+    requires { IsValid program.now }
+    ensures is { result ≡ length program.now.bodies - program.now.functions }
+    ensures within { program.now.functions + result ≤ length program.now.bodies }
+{
+    (program.bodies.len() - program.functions as usize) as u8
+}
+
+impl<'a> World<'a> {
+    /// The world of a valid program with a valid plan before the first step. The budget, at most
+    /// 500,000, is that of each process. `Memory` is want of memory.
+    pub fn new(
+        alloc: Global,
+        program: &'a Program,
+        plan: &'a Plan,
+        budget: u32,
+    ) -> Result<World<'a>, Memory>
+        requires program { IsValid program.now }
+        requires plan { IsValidPlan program.now plan.now }
+        requires budget { budget ≤ MOST_BUDGET }
+        ensures world { IfOk result (λ world. world ≡ begun program.now plan.now budget) }
+        ensures comes { IfOk result (λ world. IsOf [] world) }
+        ensures reached { IfOk result (λ world. IsReached world) }
+    {
+        let count = process_count(program);
+        let loggings = start_logs(alloc, program, plan, budget, count)?;
+        Ok(World {
+            alloc,
+            program,
+            plan,
+            budget,
+            shared: copy_values(&program.starts)?,
+            sems: start_sems(alloc, program)?,
+            chans: start_chans(alloc, program)?,
+            loggings,
+        })
+    }
+
+    /// Whether process `p` can take a step; false for a number that is no process.
+    pub fn enabled(&self, p: u8) -> bool
+        requires { IsReached self.now }
+        ensures { result ≡ can_step self.now p }
+    {
+        is_enabled(
+            self.program,
+            self.plan,
+            &self.sems,
+            &self.chans,
+            &self.loggings,
+            p as usize,
+        )
+    }
+
+    /// Whether no process can take a step.
+    pub fn over(&self) -> bool
+        requires { IsReached self.now }
+        ensures { IsTrue result ↔ IsOver self.now.program self.now.plan self.now.world }
+    {
+        is_over(
+            self.program,
+            self.plan,
+            &self.sems,
+            &self.chans,
+            &self.loggings,
+        )
+    }
+
+    /// Takes the step of process `p`.
+    fn take(&mut self, p: u8) -> Result<(), Memory>
+        requires { IsReached self.old }
+        ensures ok { OnOk result (self.new ≡ stepped self.old p) }
+        ensures err { OnErr result (self.new ≡ self.old) }
+    {
+        let place = p as usize;
+        take_step(
+            self.alloc,
+            self.program,
+            self.plan,
+            &mut self.shared,
+            &mut self.sems,
+            &mut self.chans,
+            &mut self.loggings,
+            place,
+        )
+    }
+
+    /// Process `p`, which is enabled, takes its step and writes its entries. `Memory` is want of
+    /// memory: the world is as before.
+    pub fn step(&mut self, p: u8) -> Result<(), Memory>
+        requires reached { IsReached self.old }
+        requires enabled { can_step self.old p ≡ true }
+        ensures ok { OnOk result (self.new ≡ stepped self.old p) }
+        ensures comes { OnOk result (Takes self.old (p ∷ []) self.new) }
+        ensures err { OnErr result (self.new ≡ self.old) }
+        ensures kept { IsReached self.new }
+    {
+        self.take(p)
+    }
+
+    /// Takes the step of process `p`, which is number `index` of a schedule.
+    fn follow(&mut self, p: u8, index: u32) -> Result<(), DriveError>
+        requires { IsReached self.old }
+        ensures ok { OnOk result (IsFollowed self.old p self.new) }
+        ensures err { OnErr result (self.new ≡ self.old) }
+        ensures cause { IfErr result (IsCause self.new p index) }
+        ensures kept { IsReached self.new }
+    {
+        if !self.enabled(p) {
+            return Err(DriveError::NotEnabled(index));
+        }
+        match self.step(p) {
+            Ok(()) => Ok(()),
+            Err(_) => Err(DriveError::Memory),
+        }
+    }
+
+    /// Takes the steps of a schedule, as far as each number names an enabled process.
+    /// `NotEnabled(n)`: the first `n` steps were taken, and number `n`, from 0, is the first that
+    /// names none. `Memory` is want of memory: some first steps were taken.
+    pub fn drive(&mut self, schedule: &[u8]) -> Result<(), DriveError>
+        requires { IsReached self.old }
+        ensures driven { IsDriven self.old schedule.now self.new result }
+        ensures kept { IsReached self.new }
+    {
+        for index in 0..schedule.len() {
+            let p = schedule[index];
+            self.follow(p, index as u32)?;
+        }
+        Ok(())
+    }
+
+    /// The logs of a run in which nobody can take a step, and how each process ended. `Memory` is
+    /// want of memory: the world is gone.
+    pub fn close(self) -> Result<Closed, Memory>
+        requires reached { IsReached self }
+        requires over { IsOver self.program self.plan self.world }
+        ensures closed { IfOk result (λ closed. closed ≡ closed_of self.entry) }
+        ensures whole { IfOk result (λ closed. (h : List ℕ) → IsOf h self.entry → closed ≡ close_of self.entry.program self.entry.plan self.entry.budget h) }
+    {
+        close_all(self.alloc, self.program, self.loggings)
+    }
+}
