@@ -1,8 +1,8 @@
 //! Worked programs of several processes, each with its plan.
 
-use crate::buffer::{name, scalars};
-use crate::rows::{Does, Line, Table, program};
-use ppd_ast::{Chan, Expr, Nums, Op, Program, Sem, Seq, Target};
+use crate::buffer::{cells, name, scalars};
+use crate::rows::{Does, Table, program};
+use ppd_ast::{Chan, Expr, Nums, Op, Plan, Program, Sem, Seq, Start, Target, Unit};
 use std::alloc::{AllocError, Global};
 
 fn with_shared(alloc: Global, program: &mut Program, names: &[&str]) -> Result<(), AllocError> {
@@ -50,27 +50,25 @@ pub fn locked(alloc: Global, start: u32) -> Result<Program, AllocError> {
         Expr::Const(1),
         Expr::Two(Op::Add, 3, 4),
     ];
-    let lines = [
-        (1, 41, 0, None, Does::P(0)),
-        (1, 47, 0, None, Does::Set(Target::Shared(0), 2)),
-        (1, 58, 0, None, Does::V(0)),
-        (1, 64, 0, None, Does::End),
-        (1, 75, 1, None, Does::P(0)),
-        (1, 81, 1, None, Does::Set(Target::Shared(0), 5)),
-        (1, 92, 1, None, Does::V(0)),
-        (1, 98, 1, None, Does::End),
-    ];
-    let bodies = [
-        ("a", (true, false, 0), [].as_slice(), [0, 1, 2, 3].as_slice(), (0, 4)),
-        ("b", (true, false, 0), [].as_slice(), [4, 5, 6, 7].as_slice(), (4, 8)),
-    ];
     let mut row = program(
         alloc,
         Table {
             exprs: &exprs,
-            lines: &lines,
+            lines: &[
+                (1, 41, 0, None, Does::P(0)),
+                (1, 47, 0, None, Does::Set(Target::Shared(0), 2)),
+                (1, 58, 0, None, Does::V(0)),
+                (1, 64, 0, None, Does::End),
+                (1, 75, 1, None, Does::P(0)),
+                (1, 81, 1, None, Does::Set(Target::Shared(0), 5)),
+                (1, 92, 1, None, Does::V(0)),
+                (1, 98, 1, None, Does::End),
+            ],
             functions: 0,
-            bodies: &bodies,
+            bodies: &[
+                ("a", (true, false, 0), &[], &[0, 1, 2, 3], (0, 4)),
+                ("b", (true, false, 0), &[], &[4, 5, 6, 7], (4, 8)),
+            ],
         },
     )?;
     with_shared(alloc, &mut row, &["x"])?;
@@ -84,25 +82,23 @@ pub fn locked(alloc: Global, start: u32) -> Result<Program, AllocError> {
 /// process b { P(t); P(s); }
 /// ```
 pub fn deadlock(alloc: Global) -> Result<Program, AllocError> {
-    let lines = [
-        (1, 31, 0, None, Does::P(0)),
-        (1, 37, 0, None, Does::P(1)),
-        (1, 43, 0, None, Does::End),
-        (1, 57, 1, None, Does::P(1)),
-        (1, 63, 1, None, Does::P(0)),
-        (1, 69, 1, None, Does::End),
-    ];
-    let bodies = [
-        ("a", (true, false, 0), [].as_slice(), [0, 1, 2].as_slice(), (0, 3)),
-        ("b", (true, false, 0), [].as_slice(), [3, 4, 5].as_slice(), (3, 6)),
-    ];
     let mut row = program(
         alloc,
         Table {
             exprs: &[],
-            lines: &lines,
+            lines: &[
+                (1, 31, 0, None, Does::P(0)),
+                (1, 37, 0, None, Does::P(1)),
+                (1, 43, 0, None, Does::End),
+                (1, 57, 1, None, Does::P(1)),
+                (1, 63, 1, None, Does::P(0)),
+                (1, 69, 1, None, Does::End),
+            ],
             functions: 0,
-            bodies: &bodies,
+            bodies: &[
+                ("a", (true, false, 0), &[], &[0, 1, 2], (0, 3)),
+                ("b", (true, false, 0), &[], &[3, 4, 5], (3, 6)),
+            ],
         },
     )?;
     with_sems(alloc, &mut row, &[("s", 1), ("t", 1)])?;
@@ -122,28 +118,26 @@ pub fn bounded(alloc: Global) -> Result<Program, AllocError> {
         Expr::Const(0),
         Expr::Shared(0),
     ];
-    let lines = [
-        (1, 38, 0, None, Does::Send(0, 0)),
-        (1, 50, 0, None, Does::Send(0, 1)),
-        (1, 62, 0, None, Does::Set(Target::Shared(0), 2)),
-        (1, 69, 0, None, Does::End),
-        (1, 87, 1, None, Does::Set(Target::Local(0), 3)),
-        (1, 90, 1, None, Does::Print(4)),
-        (1, 100, 1, None, Does::Recv(0, 0)),
-        (1, 113, 1, None, Does::Recv(0, 0)),
-        (1, 126, 1, None, Does::End),
-    ];
-    let bodies = [
-        ("a", (true, false, 0), [].as_slice(), [0, 1, 2, 3].as_slice(), (0, 4)),
-        ("b", (true, false, 0), ["v"].as_slice(), [4, 5, 6, 7, 8].as_slice(), (4, 9)),
-    ];
     let mut row = program(
         alloc,
         Table {
             exprs: &exprs,
-            lines: &lines,
+            lines: &[
+                (1, 38, 0, None, Does::Send(0, 0)),
+                (1, 50, 0, None, Does::Send(0, 1)),
+                (1, 62, 0, None, Does::Set(Target::Shared(0), 2)),
+                (1, 69, 0, None, Does::End),
+                (1, 87, 1, None, Does::Set(Target::Local(0), 3)),
+                (1, 90, 1, None, Does::Print(4)),
+                (1, 100, 1, None, Does::Recv(0, 0)),
+                (1, 113, 1, None, Does::Recv(0, 0)),
+                (1, 126, 1, None, Does::End),
+            ],
             functions: 0,
-            bodies: &bodies,
+            bodies: &[
+                ("a", (true, false, 0), &[], &[0, 1, 2, 3], (0, 4)),
+                ("b", (true, false, 0), &["v"], &[4, 5, 6, 7, 8], (4, 9)),
+            ],
         },
     )?;
     with_shared(alloc, &mut row, &["x"])?;
@@ -157,27 +151,30 @@ pub fn bounded(alloc: Global) -> Result<Program, AllocError> {
 /// process b { int v; while (1) { v = recv(c); } }
 /// ```
 pub fn filling(alloc: Global, capacity: u8) -> Result<Program, AllocError> {
-    let exprs = [Expr::Const(1), Expr::Const(5), Expr::Const(0), Expr::Const(1)];
-    let lines: [Line; 7] = [
-        (1, 31, 0, None, Does::While(0, [1].as_slice())),
-        (1, 43, 0, Some(0), Does::Send(0, 1)),
-        (1, 57, 0, None, Does::End),
-        (1, 75, 1, None, Does::Set(Target::Local(0), 2)),
-        (1, 78, 1, None, Does::While(3, [5].as_slice())),
-        (1, 90, 1, Some(4), Does::Recv(0, 0)),
-        (1, 105, 1, None, Does::End),
-    ];
-    let bodies = [
-        ("a", (true, false, 0), [].as_slice(), [0, 2].as_slice(), (0, 3)),
-        ("b", (true, false, 0), ["v"].as_slice(), [3, 4, 6].as_slice(), (3, 7)),
+    let exprs = [
+        Expr::Const(1),
+        Expr::Const(5),
+        Expr::Const(0),
+        Expr::Const(1),
     ];
     let mut row = program(
         alloc,
         Table {
             exprs: &exprs,
-            lines: &lines,
+            lines: &[
+                (1, 31, 0, None, Does::While(0, &[1])),
+                (1, 43, 0, Some(0), Does::Send(0, 1)),
+                (1, 57, 0, None, Does::End),
+                (1, 75, 1, None, Does::Set(Target::Local(0), 2)),
+                (1, 78, 1, None, Does::While(3, &[5])),
+                (1, 90, 1, Some(4), Does::Recv(0, 0)),
+                (1, 105, 1, None, Does::End),
+            ],
             functions: 0,
-            bodies: &bodies,
+            bodies: &[
+                ("a", (true, false, 0), &[], &[0, 2], (0, 3)),
+                ("b", (true, false, 0), &["v"], &[3, 4, 6], (3, 7)),
+            ],
         },
     )?;
     with_chan(alloc, &mut row, capacity)?;
@@ -190,21 +187,60 @@ pub fn filling(alloc: Global, capacity: u8) -> Result<Program, AllocError> {
 /// ```
 pub fn draining(alloc: Global, start: u32) -> Result<Program, AllocError> {
     let exprs = [Expr::Const(1)];
-    let lines: [Line; 3] = [
-        (1, 28, 0, None, Does::While(0, [1].as_slice())),
-        (1, 40, 0, Some(0), Does::P(0)),
-        (1, 48, 0, None, Does::End),
-    ];
-    let bodies = [("a", (true, false, 0), [].as_slice(), [0, 2].as_slice(), (0, 3))];
     let mut row = program(
         alloc,
         Table {
             exprs: &exprs,
-            lines: &lines,
+            lines: &[
+                (1, 28, 0, None, Does::While(0, &[1])),
+                (1, 40, 0, Some(0), Does::P(0)),
+                (1, 48, 0, None, Does::End),
+            ],
             functions: 0,
-            bodies: &bodies,
+            bodies: &[("a", (true, false, 0), &[], &[0, 2], (0, 3))],
         },
     )?;
     with_sems(alloc, &mut row, &[("s", start)])?;
     Ok(row)
+}
+
+/// ```text
+/// shared int x, y; sem s = 1;
+/// process p { P(s); if (y) { print(x); } }
+/// process q { x = 5; }
+/// ```
+pub fn unread(alloc: Global) -> Result<Program, AllocError> {
+    let exprs = [Expr::Shared(1), Expr::Shared(0), Expr::Const(5)];
+    let mut row = program(
+        alloc,
+        Table {
+            exprs: &exprs,
+            lines: &[
+                (1, 41, 0, None, Does::P(0)),
+                (1, 47, 0, None, Does::If(0, &[2])),
+                (1, 56, 0, Some(1), Does::Print(1)),
+                (1, 68, 0, None, Does::End),
+                (1, 82, 1, None, Does::Set(Target::Shared(0), 2)),
+                (1, 89, 1, None, Does::End),
+            ],
+            functions: 0,
+            bodies: &[
+                ("p", (true, false, 0), &[], &[0, 1, 3], (0, 4)),
+                ("q", (true, false, 0), &[], &[4, 5], (4, 6)),
+            ],
+        },
+    )?;
+    with_shared(alloc, &mut row, &["x", "y"])?;
+    with_sems(alloc, &mut row, &[("s", 1)])?;
+    Ok(row)
+}
+
+/// Gives the unit after the `P` of the unread cell's program both shared cells.
+pub fn with_unread_cells(alloc: Global, plan: &mut Plan) -> Result<(), AllocError> {
+    let unit = Unit {
+        start: Start::After(0),
+        cells: cells(alloc, &[0, 1])?,
+    };
+    plan.units.set(1, unit);
+    Ok(())
 }

@@ -1,11 +1,12 @@
 use crate::buffer;
-use crate::parallel::{bounded, deadlock, draining, filling, locked};
-use crate::rows::{endless, single_plan};
+use crate::parallel::{bounded, deadlock, draining, filling, locked, unread, with_unread_cells};
+use crate::rows::endless;
 use crate::worlds::{Driven, bare_plan, drive, drive_lowest};
-use ppd_ast::{Nums, Program, Seq, Status, SyncKind, Trap};
+use ppd_ast::{Program, Status, SyncKind, Trap};
 use ppd_entry::Entry;
 use ppd_model::{Closed, DriveError};
 use std::alloc::{AllocError, Global};
+use std::test::Fail;
 
 const BUDGET: u32 = 100_000;
 
@@ -19,6 +20,14 @@ fn by_schedule(
     let program = program.ok()?;
     let plan = bare_plan(alloc, &program)?;
     drive(alloc, &program, &plan, budget, schedule)
+}
+
+/// The program of the unread cell, driven by the schedule.
+fn unread_by(alloc: Global, schedule: &[u8]) -> Option<Closed> {
+    let program = unread(alloc).ok()?;
+    let mut plan = bare_plan(alloc, &program)?;
+    with_unread_cells(alloc, &mut plan).ok()?;
+    drive(alloc, &program, &plan, BUDGET, schedule)?.closed
 }
 
 /// The program driven by its lowest enabled process with its bare plan.
@@ -65,14 +74,16 @@ fn is_sync(
     is_writes: &[u16],
 ) -> bool {
     match entry {
-        Some(Entry::Sync {
-            kind,
-            object,
-            number,
-            value,
-            reads,
-            writes,
-        }) => {
+        Some(
+            Entry::Sync {
+                kind,
+                object,
+                number,
+                value,
+                reads,
+                writes,
+            },
+        ) => {
             *kind == is_kind
                 && *object == 0
                 && *number == is_number
@@ -93,12 +104,14 @@ fn is_end(
     is_writes: &[u16],
 ) -> bool {
     match entry {
-        Some(Entry::End {
-            status,
-            rest,
-            reads,
-            writes,
-        }) => {
+        Some(
+            Entry::End {
+                status,
+                rest,
+                reads,
+                writes,
+            },
+        ) => {
             *status == is_status
                 && *rest == is_rest
                 && reads.as_slice() == is_reads
@@ -224,26 +237,31 @@ fn channels_of_least_and_most_capacity(rt: HostRuntime) -> Result<(), Fail> {
         for _ in 0..steps {
             schedule.push(0)?;
         }
-        let full = by_schedule(alloc, filling(alloc, capacity), BUDGET, schedule.as_slice())
-            .expect(&rt, "valid");
+        let full = by_schedule(alloc, filling(alloc, capacity), BUDGET, schedule.as_slice()).expect(
+            &rt, "valid",
+        );
         assert_eq!(rt; full.answer, Ok(()));
         schedule.push(0)?;
-        let over = by_schedule(alloc, filling(alloc, capacity), BUDGET, schedule.as_slice())
-            .expect(&rt, "valid");
+        let over = by_schedule(alloc, filling(alloc, capacity), BUDGET, schedule.as_slice()).expect(
+            &rt, "valid",
+        );
         assert_eq!(rt; over.answer, Err(DriveError::NotEnabled(steps)));
     }
     let closed = by_lowest(alloc, filling(alloc, 64), 1000, 3000).expect(&rt, "whole");
     assert!(rt; ends(&closed, 0, Status::Budget, 0, 1000));
-    assert!(rt; ends(&closed, 1, Status::Budget, 4, 1000));
+    assert!(rt; ends(&closed, 1, Status::Budget, 5, 1000));
     Ok(())
 }
 
-// A semaphore of 65,535 is taken as often and then waited for.
+// A semaphore that starts at 65,535: its first `P` has number 1, its first `V` number 65,536.
 #[test]
 fn largest_semaphore(rt: HostRuntime) -> Result<(), Fail> {
     let alloc = rt.alloc();
-    let closed = by_lowest(alloc, draining(alloc, 65_535), 200_000, 131_080).expect(&rt, "whole");
-    assert!(rt; ends(&closed, 0, Status::Blocked, 1, 131_071));
+    let closed = by_lowest(alloc, locked(alloc, 65_535), BUDGET, 20).expect(&rt, "whole");
+    assert!(rt; is_sync(entry(&closed, 0, 2), SyncKind::P, 1, 0, &[], &[]));
+    assert!(rt; is_sync(entry(&closed, 0, 4), SyncKind::V, 65_536, 0, &[0], &[0]));
+    assert!(rt; is_sync(entry(&closed, 1, 2), SyncKind::P, 2, 0, &[], &[]));
+    assert!(rt; is_sync(entry(&closed, 1, 4), SyncKind::V, 65_537, 0, &[0], &[0]));
     Ok(())
 }
 
@@ -266,5 +284,22 @@ fn log_of_a_budget_stop(rt: HostRuntime) -> Result<(), Fail> {
     assert!(rt; is_unit(entry(&closed, 0, 1), 0, &[]));
     assert!(rt; is_end(entry(&closed, 0, 2), Status::Budget, 5, &[], &[]));
     assert!(rt; entry(&closed, 0, 3).is_none());
+    Ok(())
+}
+
+// The unit after the `P` holds the cells as they stand then, whether they are read or not.
+#[test]
+fn log_of_an_unread_cell(rt: HostRuntime) -> Result<(), Fail> {
+    let alloc = rt.alloc();
+    for (schedule, x) in [([0, 0, 0, 0, 1, 1], 0), ([1, 1, 0, 0, 0, 0], 5)] {
+        let closed = unread_by(alloc, &schedule).expect(&rt, "whole");
+        assert!(rt; ends(&closed, 0, Status::Ended, 3, 4));
+        assert!(rt; ends(&closed, 1, Status::Ended, 5, 2));
+        assert!(rt; is_unit(entry(&closed, 0, 1), 0, &[]));
+        assert!(rt; is_sync(entry(&closed, 0, 2), SyncKind::P, 1, 0, &[], &[]));
+        assert!(rt; is_unit(entry(&closed, 0, 3), 1, &[x, 0]));
+        assert!(rt; is_end(entry(&closed, 0, 5), Status::Ended, 2, &[1], &[]));
+        assert!(rt; entry(&closed, 0, 6).is_none());
+    }
     Ok(())
 }

@@ -27,12 +27,7 @@ pub fn bare_plan(alloc: Global, program: &Program) -> Option<Plan> {
 }
 
 /// The world before its first step. None where program, plan or budget is not valid.
-fn start<'a>(
-    alloc: Global,
-    program: &'a Program,
-    plan: &'a Plan,
-    budget: u32,
-) -> Option<World<'a>>
+fn start<'a>(alloc: Global, program: &'a Program, plan: &'a Plan, budget: u32) -> Option<World<'a>>
     ensures { IfSome result (λ world. IsReached world) }
 {
     if budget > MOST_BUDGET || !program.valid() || !plan.valid(program) {
@@ -45,7 +40,11 @@ fn start<'a>(
 fn close(world: World) -> Option<Closed>
     requires { IsReached world }
 {
-    if world.over() { world.close().ok() } else { None }
+    if world.over() {
+        world.close().ok()
+    } else {
+        None
+    }
 }
 
 /// Drives the program by the schedule, and closes it where nobody is enabled then.
