@@ -10,14 +10,8 @@ mod buffer;
 #[cfg(test)]
 mod limits;
 #[cfg(test)]
-mod parallel;
-#[cfg(test)]
 mod rows;
 #[cfg(test)]
 mod tables;
 #[cfg(test)]
 mod tests;
-#[cfg(test)]
-mod world_tests;
-#[cfg(test)]
-mod worlds;
