@@ -1,5 +1,6 @@
 ghost use Rattle.ppd_model.specs.Bounds.{CountsAreBalanced, SchedulesAreBounded, StepsChangeTheirOwn};
 ghost use Rattle.ppd_model.specs.Laws.{IsTestOfBefore, IsTestOfEdges, LastEdgesAreOpen, LogsGrow, NoRaceMeansOrder, ProcessesFollowTheirSteps, StoriesAreOfRuns, StoriesGrow, StoriesTellAll, SynchronizationsAreCounted, TagsAreLastWrites};
+ghost use Rattle.ppd_model.specs.LocalTags.{LocalTagsAreLastWrites, StepsTagTheirWrites, StoriesTellOwnSteps};
 
 /// Law: the story of a schedule with one more step is that of the schedule with this step, its
 /// writer and its cell; and the world of which a story is told is the one that the schedule
@@ -49,6 +50,14 @@ pub fn no_race_means_order()
 /// Law: the tag of a shared cell is the event that last wrote it.
 pub fn tags_are_last_writes()
     ensures { TagsAreLastWrites }
+{}
+
+/// Law: the tag of a local cell is the event that last wrote it in the cell's activation, and none
+/// where no event did; the steps that a story tells of a process are its own.
+pub fn local_tags_are_last_writes()
+    ensures steps { StepsTagTheirWrites }
+    ensures own { StoriesTellOwnSteps }
+    ensures traces { LocalTagsAreLastWrites }
 {}
 
 /// Law: the step of a process changes the process itself and what its need names, and nothing else.
