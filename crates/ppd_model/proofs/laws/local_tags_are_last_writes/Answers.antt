@@ -1,5 +1,5 @@
 use Rattle.ppd_model.proofs.laws.local_tags_are_last_writes.Goals as goal
-use Rattle.ppd_model.proofs.FromEnd.{topped}
+use Rattle.ppd_model.proofs.LocalDeeds.{back_does}
 
 pub returns-clause-steps : goal.returns-clause-steps
 returns-clause-steps c = ?
