@@ -41,7 +41,7 @@ shift_up k frame n = elim (cases_eq k n) [
 
 -- ---- shapes
 
-lengths : (frames : List Frame) (acts : List Activation) → map length (locals acts) ≡ sizes frames → length acts ≡ length frames
+pub lengths : (frames : List Frame) (acts : List Activation) → map length (locals acts) ≡ sizes frames → length acts ≡ length frames
 lengths frames acts e =
     sym (length-map acts (λ x. x.tags)) ∙ sym (length-map (locals acts) length) ∙ ap length e ∙ length-map frames (λ f. length f.cells)
 
@@ -51,7 +51,7 @@ tail_is e = cc
 head_is : {a b : ℕ} {xs ys : List ℕ} → a ∷ xs ≡ b ∷ ys → a ≡ b
 head_is e = cc
 
-length_locals : (acts : List Activation) → length (locals acts) ≡ length acts
+pub length_locals : (acts : List Activation) → length (locals acts) ≡ length acts
 length_locals acts = length-map acts (λ x. x.tags)
 
 with_heads : {a b : ℕ} {xs ys : List ℕ} → a ≡ b → xs ≡ ys → a ∷ xs ≡ b ∷ ys

@@ -1,8 +1,8 @@
 use Rattle.ppd_model.proofs.laws.local_tags_are_last_writes.Goals as goal
-use Rattle.ppd_model.proofs.LocalDeeds.{back_does}
+use Rattle.ppd_model.proofs.LocalSteps.{tags_its_writes}
 
 pub returns-clause-steps : goal.returns-clause-steps
-returns-clause-steps c = ?
+returns-clause-steps c = tags_its_writes
 
 pub returns-clause-own : goal.returns-clause-own
 returns-clause-own c = ?
