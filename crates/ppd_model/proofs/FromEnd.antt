@@ -33,6 +33,7 @@ pub record Outcome (old new : List (List Tag)) (sizes : List ℕ) (w : ℕ → �
   pub written : (k c : ℕ) → w k c ≡ true → c < from_end 0 sizes k → get_or (from_end [] new k) c None ≡ me
   pub kept : (k c : ℕ) → w k c ≡ false → k < length old → k < length new → get_or (from_end [] new k) c None ≡ get_or (from_end [] old k) c None
   pub fresh : (k c : ℕ) → w k c ≡ false → length old ≤ k → get_or (from_end [] new k) c None ≡ None
+  pub sized : (k : ℕ) → k < length old → k < length new → length (from_end [] new k) ≡ length (from_end [] old k)
 
 pub same : (old : List (List Tag)) (sizes : List ℕ) (w : ℕ → ℕ → Bool) (me : Tag) → map length old ≡ sizes → ((k c : ℕ) → c < from_end 0 sizes k → w k c ≡ false)
     → Outcome old old sizes w me
@@ -41,6 +42,7 @@ same old sizes w me shape none = record {
   written = λ k c e lt. absurd (both_ways (w k c) (none k c lt) e);
   kept = λ k c e lt lt2. refl;
   fresh = λ k c e le. ap (λ xs. get_or xs c None) (past [] old k le);
+  sized = λ k lt lt2. refl;
 }
 
 -- an activation goes, and the others stay
@@ -51,6 +53,7 @@ popped a new sizes w me shape none = record {
   written = λ k c e lt. absurd (both_ways (w k c) (none k c lt) e);
   kept = λ k c e lt lt2. ap (λ xs. get_or xs c None) (sym (miss [] a new k (λ f. omega arith)));
   fresh = λ k c e le. ap (λ xs. get_or xs c None) (past [] new k (omega arith));
+  sized = λ k lt lt2. ap length (sym (miss [] a new k (λ f. omega arith)));
 }
 
 at_top : (k m : ℕ) (b : Bool) → k ≡ m → (nat_eq k m && b) ≡ false → b ≡ false
@@ -68,6 +71,7 @@ module _ (old below : List (List Tag)) (a : List Tag) (sizes : List ℕ) (w : �
     pub longer : length below ≤ length old
     pub sets : (c : ℕ) → u c ≡ true → c < length a → get_or a c None ≡ me
     pub keeps : (c : ℕ) → u c ≡ false → get_or a c None ≡ get_or (from_end [] old (length below)) c None
+    pub same_size : length below < length old → length a ≡ length (from_end [] old (length below))
 
   written_top : Topped → (k c : ℕ) → w k c ≡ true → c < from_end 0 sizes k → get_or (from_end [] (a ∷ below) k) c None ≡ me
   written_top t k c e lt =
@@ -90,10 +94,17 @@ module _ (old below : List (List Tag)) (a : List Tag) (sizes : List ℕ) (w : �
     | inr n ↦ ap (λ xs. get_or xs c None) (miss [] a below k n ∙ past [] below k (omega (arith, t.longer)))
   ]
 
+  sized_top : Topped → (k : ℕ) → k < length old → k < length (a ∷ below) → length (from_end [] (a ∷ below) k) ≡ length (from_end [] old k)
+  sized_top t k lt lt2 = elim (cases_eq k (length below)) [
+    | inl is ↦ ap length (hit [] a below k is) ∙ t.same_size (omega arith) ∙ ap (λ j. length (from_end [] old j)) (sym is)
+    | inr n ↦ ap length (miss [] a below k n ∙ sym (t.under k (omega arith)))
+  ]
+
   pub topped : Topped → Outcome old (a ∷ below) sizes w me
   topped t = record {
     shape = t.shape;
     written = written_top t;
     kept = λ k c e lt lt2. kept_top t k c e lt2;
     fresh = fresh_top t;
+    sized = sized_top t;
   }

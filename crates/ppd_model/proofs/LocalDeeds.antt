@@ -85,6 +85,7 @@ set_does frame (f ∷ fs) (a ∷ as') d v me e =
       longer = omega arith;
       sets = sets_one a.tags d me;
       keeps = λ c no. keeps_others a.tags d me c no ∙ ap (λ xs. get_or xs c None) (sym (hit [] a.tags (locals as') (length (locals as')) refl));
+      same_size = λ lt. length-set a.tags d me ∙ ap length (sym (hit [] a.tags (locals as') (length (locals as')) refl));
     })
 
 -- ---- an array of the top activation
@@ -158,6 +159,7 @@ cleared_top frame f fs a as' base n me e =
       longer = omega arith;
       sets = λ c is lt. sets_all a.tags base n me c is (subst (λ k. c < k) (length_cleared base n me a.tags) lt);
       keeps = λ c no. keeps_rest a.tags base n me c no ∙ ap (λ xs. get_or xs c None) (sym (hit [] a.tags (locals as') (length (locals as')) refl));
+      same_size = λ lt. length_cleared base n me a.tags ∙ ap length (sym (hit [] a.tags (locals as') (length (locals as')) refl));
     })
 
 pub clear_does : (frame : ℕ) (frames : List Frame) (acts : List Activation) (base n : ℕ) (me : Tag) → map length (locals acts) ≡ sizes frames
@@ -241,6 +243,7 @@ call_does program frame frames acts f values call me e =
       longer = omega arith;
       sets = λ c is lt. sets_parameters values rest me c is;
       keeps = λ c no. others_none values rest me c no ∙ ap (λ xs. get_or xs c None) (sym (past [] (locals acts) (length (locals acts)) (omega arith)));
+      same_size = λ lt. absurd (omega arith);
     })
 
 -- ---- a return
@@ -272,6 +275,8 @@ back_into (Some d) (Some v) a (f ∷ fs) (b ∷ bs) me e =
       sets = sets_one b.tags d me;
       keeps = λ c no. keeps_others b.tags d me c no
           ∙ ap (λ xs. get_or xs c None) (sym (miss [] a.tags (locals (b ∷ bs)) (length (locals bs)) (λ is. omega arith) ∙ hit [] b.tags (locals bs) (length (locals bs)) refl));
+      same_size = λ lt. length-set b.tags d me
+          ∙ ap length (sym (miss [] a.tags (locals (b ∷ bs)) (length (locals bs)) (λ is. omega arith) ∙ hit [] b.tags (locals bs) (length (locals bs)) refl));
     })
 
 back_by : (program : Program) (call : Option ℕ) (value : Option ℤ) (a : Activation) (fs : List Frame) (as' : List Activation) (me : Tag) → map length (locals as') ≡ sizes fs

@@ -22,9 +22,9 @@ use Rattle.ppd_sem.specs.Tables.{block_of}
 use Rattle.ppd_model.specs.declared.trace.EventId.{EventId}
 use Rattle.ppd_model.specs.declared.trace.TracedEvent.{TracedEvent}
 use Rattle.ppd_model.specs.FullTrace.{Activation, Tag, Tracing, event_of, me_in, tagged_at, tagged_after, tagged_by, trace_by, trace_step, with_event, with_test}
-use Rattle.ppd_model.specs.LocalTags.{HasTags, StepsTagTheirWrites, TagsItsWrites, is_local_write, is_received_by, locals, sizes}
+use Rattle.ppd_model.specs.LocalTags.{HasTags, StepsTagTheirWrites, TagsItsWrites, cells_in, from_end, is_local_write, is_received_by, locals, sizes}
 use Rattle.ppd_model.specs.Story.{Story, Taken, is_event}
-use Rattle.ppd_model.proofs.FromEnd.{Outcome, same}
+use Rattle.ppd_model.proofs.FromEnd.{Outcome, from_end-length, same}
 use Rattle.ppd_model.proofs.LocalDeeds.{among, back_does, call_does, clear_does, length_locals, lengths, set_does}
 
 -- ---- what a need tells of what is asked
@@ -198,6 +198,9 @@ outcome_of program plan story p t x shape e =
 locals_of : (t : Tracing) → HasTags t → length (locals t.activations) ≡ length t.proc.frames
 locals_of t shape = length_locals t.activations ∙ lengths t.proc.frames t.activations shape
 
+cells_are : (t : Tracing) → HasTags t → (k : ℕ) → cells_in t.proc.frames k ≡ length (from_end [] (locals t.activations) k)
+cells_are t shape k = ap (λ ns. from_end 0 ns k) (sym shape) ∙ from_end-length (locals t.activations) k
+
 pub tags_its_writes : StepsTagTheirWrites
 tags_its_writes program plan story p t x shape e =
     let o : Outcome (locals t.activations) (locals (trace_step program plan story p t x).activations) (sizes (act program plan t.proc x.answer).frames)
@@ -206,6 +209,8 @@ tags_its_writes program plan story p t x shape e =
       locals_of (trace_step program plan story p t x) o.shape in
     record {
       has_tags = o.shape;
+      same_cells = λ k lt lt2. cells_are (trace_step program plan story p t x) o.shape k
+          ∙ o.sized k (subst (λ n. k < n) (sym (locals_of t shape)) lt) (subst (λ n. k < n) (sym new) lt2) ∙ sym (cells_are t shape k);
       written = o.written;
       kept = λ k c no lt lt2. o.kept k c no (subst (λ n. k < n) (sym (locals_of t shape)) lt) (subst (λ n. k < n) (sym new) lt2);
       fresh = λ k c no le. o.fresh k c no (subst (λ n. n ≤ k) (sym (locals_of t shape)) le);

@@ -76,9 +76,10 @@ is_local_write program plan k c s x = is_event x.need && (is_in_writes program p
 abbrev pub HasTags : Tracing → Type 0
 HasTags t = map length (locals t.activations) ≡ sizes t.proc.frames
 
--- a step tags the cell that it writes with its event, keeps each other tag, and a new activation's other cells have none
+-- a step tags each cell that it writes with its event and keeps the other tags; a new activation's other cells have none
 pub record TagsItsWrites (program : Program) (plan : Plan) (p : ℕ) (t now : Tracing) (x : Taken) : Type 0 where
   pub has_tags : HasTags now
+  pub same_cells : (k : ℕ) → k < length t.proc.frames → k < length now.proc.frames → cells_in now.proc.frames k ≡ cells_in t.proc.frames k
   pub written : (k c : ℕ) → is_local_write program plan k c t.proc x ≡ true → c < cells_in now.proc.frames k → local_tag now.activations k c ≡ Some (me_in p t)
   pub kept : (k c : ℕ) → is_local_write program plan k c t.proc x ≡ false → k < length t.proc.frames → k < length now.proc.frames → local_tag now.activations k c ≡ local_tag t.activations k c
   pub fresh : (k c : ℕ) → is_local_write program plan k c t.proc x ≡ false → length t.proc.frames ≤ k → local_tag now.activations k c ≡ None
