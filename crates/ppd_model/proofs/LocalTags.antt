@@ -9,7 +9,7 @@ use Rattle.ppd_sem.specs.declared.proc.Frame.{Frame}
 use Rattle.ppd_sem.specs.declared.proc.Proc.{Proc}
 use Rattle.ppd_sem.specs.Process.{act, need_of, started}
 use Rattle.ppd_model.specs.FullTrace.{Activation, Tag, Tracing, begun_tracing, me_in, trace_step, tracing_of}
-use Rattle.ppd_model.specs.LocalTags.{AreOwn, HasLocalTags, HasTags, IsLastLocalWrite, IsLocalTag, IsSteady, IsUnwrittenSinceCall, IsUnwrittenSinceStart, LocalTagsAreLastWrites, StoriesTellOwnSteps, TagsItsWrites, cells_in, from_end, is_local_write, local_tag, locals, sizes}
+use Rattle.ppd_model.specs.LocalTags.{AreOwn, HasLocalTags, HasTags, IsLastLocalWrite, IsLocalTag, IsSteady, IsUnwrittenSinceCall, IsUnwrittenSinceStart, LocalTagsAreLastWrites, ReadsAreOfTheTop, SchedulesTagLastWrites, StoriesTellOwnSteps, TagsItsWrites, cells_in, from_end, is_local_write, local_tag, locals, sizes}
 use Rattle.ppd_model.specs.Schedule.{started_world}
 use Rattle.ppd_model.specs.States.{act_on, states_from}
 use Rattle.ppd_model.specs.Story.{Story, Taken, Telling, begun, moment_of, own_steps, steps_of, story, tell, told}
@@ -195,3 +195,18 @@ pub own_steps_told : StoriesTellOwnSteps
 own_steps_told program plan budget h p =
     subst (λ n. AreOwn program plan (started program plan n budget) (own_steps (story program plan budget h) p)) (let e : 0 + p ≡ p = omega arith in e)
     (own_at program plan budget 0 p (map steps_of (told program plan budget h).moments) (all_own program plan budget h))
+
+own-before : (program : Program) (plan : Plan) (s : Proc) (before after : List Taken) → AreOwn program plan s (before ++ after) → AreOwn program plan s before
+own-before program plan s [] after own = tt
+own-before program plan s (x ∷ xs) after own = (own.0, own-before program plan (act program plan s x.answer) xs after own.1)
+
+pub schedules_tag : SchedulesTagLastWrites
+schedules_tag program plan budget h p before after e =
+    local_tags program plan budget (story program plan budget h) p before
+    (own-before program plan (started program plan p budget) before after
+    (subst (λ xs. AreOwn program plan (started program plan p budget) xs) e (own_steps_told program plan budget h p)))
+
+pub top_reads : ReadsAreOfTheTop
+top_reads [] answers frame c = refl
+top_reads (x ∷ xs) answers frame c =
+    ap (λ ts. get_or ts c None) (sym (hit [] x.tags (locals xs) (length (x ∷ xs) - 1) (let e : length (x ∷ xs) - 1 ≡ length xs = omega arith in e ∙ sym (length-map xs (λ y. y.tags)))))

@@ -1,5 +1,5 @@
 -- The events that write the local cells of a process, and the tags that the cells then have.
-use Rattle.std.specs.Prelude.{◌≡◌, ℕ, ◌+◌, ◌<◌, ◌≤◌, nat_eq, ℤ, Bool, true, false, ◌&&◌, ◌||◌, ◌⊎◌, List, [], ◌∷◌, ◌++◌, map, fold, length, get_or, Option, Some, None, Ok, ⊤, if◌then◌else◌}
+use Rattle.std.specs.Prelude.{◌≡◌, ℕ, ◌+◌, ◌-◌, ◌<◌, ◌≤◌, nat_eq, ℤ, Bool, true, false, ◌&&◌, ◌||◌, ◌⊎◌, List, [], ◌∷◌, ◌++◌, map, fold, length, get_or, Option, Some, None, Ok, ⊤, if◌then◌else◌}
 use Rattle.std.specs.List.{list_any}
 use Rattle.ppd_ast.specs.declared.plan.Plan.{Plan}
 use Rattle.ppd_ast.specs.declared.program.Program.{Program}
@@ -13,7 +13,7 @@ use Rattle.ppd_sem.specs.Deed.{Deed, back}
 use Rattle.ppd_sem.specs.Described.{frame_of}
 use Rattle.ppd_sem.specs.Process.{act, head_deed, need_of, started, top_call}
 use Rattle.ppd_model.specs.declared.trace.EventId.{EventId}
-use Rattle.ppd_model.specs.FullTrace.{Activation, Tag, Tracing, begun_tracing, event_of, into_at, me_in, trace_step, tracing_of}
+use Rattle.ppd_model.specs.FullTrace.{Activation, Tag, Tracing, begun_tracing, event_of, into_at, me_in, tag_at, top_tags, trace_step, tracing_of}
 use Rattle.ppd_model.specs.Story.{Story, Taken, is_event, own_steps, story}
 
 -- ---- activations by their numbers
@@ -152,3 +152,14 @@ abbrev pub LocalTagsAreLastWrites : Type 0
 LocalTagsAreLastWrites =
     (program : Program) (plan : Plan) (budget : ℕ) (story : Story) (p : ℕ) (steps : List Taken) → AreOwn program plan (started program plan p budget) steps
     → HasLocalTags program plan story p (begun_tracing (started program plan p budget)) (tracing_of program plan budget story p steps) steps
+
+-- so it is at each time of a schedule, after the steps that the process took before it
+abbrev pub SchedulesTagLastWrites : Type 0
+SchedulesTagLastWrites =
+    (program : Program) (plan : Plan) (budget : ℕ) (h : List ℕ) (p : ℕ) (before after : List Taken) → own_steps (story program plan budget h) p ≡ before ++ after
+    → HasLocalTags program plan (story program plan budget h) p (begun_tracing (started program plan p budget)) (tracing_of program plan budget (story program plan budget h) p before) before
+
+-- a local cell that an event reads is one of the top activation, and its tag is that cell's
+abbrev pub ReadsAreOfTheTop : Type 0
+ReadsAreOfTheTop =
+    (xs : List Activation) (answers : List Tag) (frame c : ℕ) → tag_at (top_tags xs) answers (Local frame c) ≡ local_tag xs (length xs - 1) c
