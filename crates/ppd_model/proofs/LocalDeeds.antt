@@ -1,9 +1,8 @@
 -- What each statement's writes do to the tags of the local cells.
-use Rattle.std.proofs.Common.{◌≡◌, ℕ, zero, suc, ◌+◌, ◌-◌, ◌<◌, ◌≤◌, ℤ, pos, Bool, true, false, ◌&&◌, ◌||◌, List, [], ◌∷◌, ◌++◌, Option, Some, None, Ok, Err, refl, ap, sym, subst, ◌∙◌, cond, length, map, set, get_or, inl, inr, ◌⊎◌, arith}
-use Rattle.std.specs.Prelude.{drop, nat_eq, nat_lt, replicate, slice_get}
+use Rattle.std.proofs.Common.{◌≡◌, ℕ, zero, suc, ◌+◌, ◌-◌, ◌<◌, ◌≤◌, ℤ, pos, Bool, true, false, ◌&&◌, ◌||◌, List, [], ◌∷◌, ◌++◌, Option, Some, None, refl, ap, sym, subst, ◌∙◌, length, map, set, get_or, inl, inr, arith}
+use Rattle.std.specs.Prelude.{drop, nat_eq, replicate, slice_get}
 use Rattle.std.specs.List.{list_any}
-use Rattle.std.proofs.lemmas.Bool.{and_parts, and_cases, both_ways, cases_Bool, cases_eq, cases_lt, eq-eqb, eqb-false, eqb-true, ltb-true, ltb-false, lt-ltb, le-ltb, ne_eqb, or_cases, or_parts}
-use Rattle.std.proofs.lemmas.Bool.Decides.{nat_tests}
+use Rattle.std.proofs.lemmas.Bool.{both_ways, cases_Bool, cases_eq, cases_lt, eq-eqb, eqb-false, eqb-true, ne_eqb, or_cases, or_parts}
 use Rattle.std.proofs.lemmas.List.{get_or-append_right, get_or-replicate, get_or-set_other, get_or-set_same, get_or_append_left, get_or_past, length-append, length-map, length-replicate, length-set}
 use Rattle.std.proofs.lemmas.List.Folds.{list_any-append}
 use Rattle.ppd_ast.specs.declared.program.Body.{Body}
@@ -12,10 +11,9 @@ use Rattle.ppd_sem.specs.declared.event.Access.{Access}
 use Rattle.ppd_sem.specs.declared.proc.Frame.{Frame}
 use Rattle.ppd_sem.specs.Described.{cleared, local_write, parameters}
 use Rattle.ppd_sem.specs.Process.{cells_for, clear_cells, clear_top, into_of, kind_of, new_frame, receive_at, returned, returned_from, top_call, write_top}
-use Rattle.ppd_model.specs.declared.trace.EventId.{EventId}
 use Rattle.ppd_model.specs.FullTrace.{Activation, Tag, all_tagged, called, into_at, size_if, tagged, tagged_into}
-use Rattle.ppd_model.specs.LocalTags.{from_end, is_cell, is_into, locals, sizes}
-use Rattle.ppd_model.proofs.FromEnd.{Outcome, Topped, hit, miss, past, popped, same, topped}
+use Rattle.ppd_model.specs.LocalTags.{is_cell, is_into, locals, sizes}
+use Rattle.ppd_model.proofs.FromEnd.{Outcome, hit, miss, past, popped, same, topped}
 
 -- ---- tests
 
@@ -199,7 +197,7 @@ not_from_on : (i : ℕ) (vs : List ℤ) (c : ℕ) → i ≤ c → from_on i vs c
 not_from_on i [] c le e = omega arith
 not_from_on i (v ∷ vs) c le e =
     let both : (nat_eq i c ≡ false) × (from_on (i + 1) vs c ≡ false) = or_parts (nat_eq i c) (from_on (i + 1) vs c) e in
-    let more : i + 1 ≤ c = elim (cases_eq i c) [ | inl is ↦ absurd (eqb-false i c both.0 is) | inr other ↦ omega arith ] in
+    let more : i + 1 ≤ c = elim (cases_eq i c) [ inl is ↦ absurd (eqb-false i c both.0 is) | inr other ↦ omega arith ] in
     let le2 : i + 1 + length vs ≤ c = not_from_on (i + 1) vs c more both.1 in
     omega arith
 
@@ -286,7 +284,7 @@ back_by program (Some c) value a fs as' me e = back_into (into_of (kind_of progr
 
 pub back_does : (program : Program) (frames : List Frame) (acts : List Activation) (value : Option ℤ) (me : Tag) → map length (locals acts) ≡ sizes frames
     → Outcome (locals acts) (locals (tagged_into (into_at program (top_call frames)) value me (drop 1 acts))) (sizes (returned program value frames))
-      (λ k c. nat_eq (k + 2) (length frames) && is_into (into_at program (top_call frames)) value c) me
+    (λ k c. nat_eq (k + 2) (length frames) && is_into (into_at program (top_call frames)) value c) me
 back_does program [] [] value me e = nothing_there _ me
 back_does program [] (a ∷ as') value me e = absurd (cc)
 back_does program (f ∷ fs) [] value me e = absurd (cc)

@@ -1,6 +1,6 @@
 -- One step of a process: it tags the local cells that its event writes, and keeps the other tags.
-use Rattle.std.proofs.Common.{◌≡◌, ℕ, ◌+◌, ◌<◌, ◌≤◌, ℤ, Bool, true, false, ◌&&◌, ◌||◌, List, [], ◌∷◌, ◌++◌, Option, Some, None, Ok, Err, refl, ap, sym, subst, ◌∙◌, cond, length, map, arith}
-use Rattle.std.specs.Prelude.{⊤, nat_lt}
+use Rattle.std.proofs.Common.{◌≡◌, ℕ, ◌<◌, ◌≤◌, ℤ, Bool, true, false, ◌&&◌, ◌||◌, List, [], ◌∷◌, Option, Some, None, Ok, Err, refl, ap, sym, subst, ◌∙◌, cond, length, map}
+use Rattle.std.specs.Prelude.{⊤}
 use Rattle.ppd_ast.specs.declared.plan.Plan.{Plan}
 use Rattle.ppd_ast.specs.declared.program.Program.{Program}
 use Rattle.ppd_ast.specs.declared.status.Status.{Status}
@@ -11,18 +11,17 @@ use Rattle.ppd_sem.specs.declared.event.Event.{Event}
 use Rattle.ppd_sem.specs.declared.proc.Answer.{Answer}
 use Rattle.ppd_sem.specs.declared.proc.Frame.{Frame}
 use Rattle.ppd_sem.specs.declared.proc.Need.{Need}
-use Rattle.ppd_sem.specs.declared.proc.Need.TheVariants.{Read, Write, Plain, Enter, Leave, Invoke, Back, P, V, Send, Recv, End, Trap, Budget, Stopped}
+use Rattle.ppd_sem.specs.declared.proc.Need.TheVariants.{Read, Enter, Invoke, Trap, Budget, Stopped}
 use Rattle.ppd_sem.specs.declared.proc.Proc.{Proc}
 use Rattle.ppd_sem.specs.declared.proc.Todo.{Todo}
 use Rattle.ppd_sem.specs.Asked.{Asked}
 use Rattle.ppd_sem.specs.Deed.{Deed, set_local, set_shared, clear, branch, turn, leave, invoke, back, take, give, send, receive, print, pass, finish}
-use Rattle.ppd_sem.specs.Described.{event_at, frame_of, trap_of, writes_by, writes_of_asked}
-use Rattle.ppd_sem.specs.Process.{act, act_at, act_by_asked, act_by_need, entry_of, head_deed, need_by_entry, need_by_status, need_of, need_of_asked, need_of_call, need_of_deed, need_of_leaving, need_of_running, value_of, within_budget}
-use Rattle.ppd_sem.specs.Tables.{block_of}
+use Rattle.ppd_sem.specs.Described.{frame_of, trap_of, writes_by, writes_of_asked}
+use Rattle.ppd_sem.specs.Process.{act, act_by_asked, act_by_need, entry_of, head_deed, need_by_entry, need_by_status, need_of, need_of_asked, need_of_leaving, need_of_running, value_of}
 use Rattle.ppd_model.specs.declared.trace.EventId.{EventId}
 use Rattle.ppd_model.specs.declared.trace.TracedEvent.{TracedEvent}
-use Rattle.ppd_model.specs.FullTrace.{Activation, Tag, Tracing, event_of, me_in, tagged_at, tagged_after, tagged_by, trace_by, trace_step, with_event, with_test}
-use Rattle.ppd_model.specs.LocalTags.{HasTags, StepsTagTheirWrites, TagsItsWrites, cells_in, from_end, is_local_write, is_received_by, locals, sizes}
+use Rattle.ppd_model.specs.FullTrace.{Activation, Tag, Tracing, event_of, me_in, tagged_by, trace_by, trace_step, with_test}
+use Rattle.ppd_model.specs.LocalTags.{HasTags, StepsTagTheirWrites, cells_in, from_end, is_local_write, is_received_by, locals, sizes}
 use Rattle.ppd_model.specs.Story.{Story, Taken, is_event}
 use Rattle.ppd_model.proofs.FromEnd.{Outcome, from_end-length, same}
 use Rattle.ppd_model.proofs.LocalDeeds.{among, back_does, call_does, clear_does, length_locals, lengths, set_does}
@@ -95,7 +94,7 @@ fits program plan s = fits_status program plan s s.status
 
 deed_does : (program : Program) (a : Answer) (t : Todo) (ts : List Todo) (s : Proc) (frame : ℕ) (acts : List Activation) (me : Tag) (asked : Asked Deed) → map length (locals acts) ≡ sizes s.frames
     → Outcome (locals acts) (locals (tagged_by program s me asked acts)) (sizes (act_by_asked program a t ts asked s).frames)
-      (λ k c. among frame (length s.frames) k c (writes_of_asked frame a asked) || is_received_by program s.frames k c asked) me
+    (λ k c. among frame (length s.frames) k c (writes_of_asked frame a asked) || is_received_by program s.frames k c asked) me
 deed_does program a t ts s frame acts me (Ok (set_local d v, left)) e = set_does frame s.frames acts d v me e
 deed_does program a t ts s frame acts me (Ok (clear base len, left)) e = clear_does frame s.frames acts base len me e
 deed_does program a t ts s frame acts me (Ok (invoke f values into, left)) e = call_does program frame s.frames acts f values (Some t.stmt) me e
@@ -135,12 +134,12 @@ module _ (program : Program) (plan : Plan) (story : Story) (p : ℕ) (frames : L
 
     ordinary : (t : Todo) (ts : List Todo) (id : EventId) (e : Event)
         → Outcome (locals acts) (locals (tagged_by program (proc (t ∷ ts)) (Some id) (head_deed program t (proc (t ∷ ts))) (with_test program id e acts)))
-          (sizes (act_by_asked program a t ts (head_deed program t (proc (t ∷ ts))) (proc (t ∷ ts))).frames)
-          (λ k c. among (frame_of program plan (proc (t ∷ ts))) (length frames) k c (writes_of_asked (frame_of program plan (proc (t ∷ ts))) a (head_deed program t (proc (t ∷ ts)))) || is_received_by program frames k c (head_deed program t (proc (t ∷ ts)))) (Some id)
+        (sizes (act_by_asked program a t ts (head_deed program t (proc (t ∷ ts))) (proc (t ∷ ts))).frames)
+        (λ k c. among (frame_of program plan (proc (t ∷ ts))) (length frames) k c (writes_of_asked (frame_of program plan (proc (t ∷ ts))) a (head_deed program t (proc (t ∷ ts)))) || is_received_by program frames k c (head_deed program t (proc (t ∷ ts)))) (Some id)
     ordinary t ts id e =
         subst (λ old. Outcome old (locals (tagged_by program (proc (t ∷ ts)) (Some id) (head_deed program t (proc (t ∷ ts))) (with_test program id e acts)))
-          (sizes (act_by_asked program a t ts (head_deed program t (proc (t ∷ ts))) (proc (t ∷ ts))).frames)
-          (λ k c. among (frame_of program plan (proc (t ∷ ts))) (length frames) k c (writes_of_asked (frame_of program plan (proc (t ∷ ts))) a (head_deed program t (proc (t ∷ ts)))) || is_received_by program frames k c (head_deed program t (proc (t ∷ ts)))) (Some id))
+        (sizes (act_by_asked program a t ts (head_deed program t (proc (t ∷ ts))) (proc (t ∷ ts))).frames)
+        (λ k c. among (frame_of program plan (proc (t ∷ ts))) (length frames) k c (writes_of_asked (frame_of program plan (proc (t ∷ ts))) a (head_deed program t (proc (t ∷ ts)))) || is_received_by program frames k c (head_deed program t (proc (t ∷ ts)))) (Some id))
         (test_locals program id e acts)
         (deed_does program a t ts (proc (t ∷ ts)) (frame_of program plan (proc (t ∷ ts))) (with_test program id e acts) (Some id) (head_deed program t (proc (t ∷ ts)))
         (ap (λ xs. map length xs) (test_locals program id e acts) ∙ shape))
@@ -153,7 +152,7 @@ module _ (program : Program) (plan : Plan) (story : Story) (p : ℕ) (frames : L
 
     by_need : (t : Todo) (ts : List Todo) (n : Need) → Fits n (head_deed program t (proc (t ∷ ts)))
         → Outcome (locals acts) (locals (trace_by program plan story p (taken n) n (at (t ∷ ts))).activations) (sizes (act_by_need program plan a t ts n (proc (t ∷ ts))).frames)
-          (writes t ts n) (Some (me_in p (at (t ∷ ts))))
+        (writes t ts n) (Some (me_in p (at (t ∷ ts))))
     by_need t ts (Read c) h = same (locals acts) _ _ _ (shape ∙ ap sizes (sym (paused_frames program a t ts (proc (t ∷ ts)) c (head_deed program t (proc (t ∷ ts))) h))) (λ k d lt. refl)
     by_need t ts (Enter b u) h = same (locals acts) _ _ _ shape (λ k d lt. refl)
     by_need t ts Budget h = same (locals acts) _ _ _ shape (λ k d lt. refl)
@@ -190,7 +189,7 @@ module _ (program : Program) (plan : Plan) (story : Story) (p : ℕ) (frames : L
 
 outcome_of : (program : Program) (plan : Plan) (story : Story) (p : ℕ) (t : Tracing) (x : Taken) → HasTags t → x.need ≡ need_of program plan t.proc
     → Outcome (locals t.activations) (locals (trace_step program plan story p t x).activations) (sizes (act program plan t.proc x.answer).frames)
-      (λ k c. is_local_write program plan k c t.proc x) (Some (me_in p t))
+    (λ k c. is_local_write program plan k c t.proc x) (Some (me_in p t))
 outcome_of program plan story p t x shape e =
     step_of program plan story p t.proc.frames t.proc.answers t.proc.below t.proc.budget t.proc.spent t.proc.steps t.proc.prints t.proc.status
     t.activations t.answers t.events x.answer x.writer x.number shape t.proc.todo x.need e
@@ -204,9 +203,9 @@ cells_are t shape k = ap (λ ns. from_end 0 ns k) (sym shape) ∙ from_end-lengt
 pub tags_its_writes : StepsTagTheirWrites
 tags_its_writes program plan story p t x shape e =
     let o : Outcome (locals t.activations) (locals (trace_step program plan story p t x).activations) (sizes (act program plan t.proc x.answer).frames)
-      (λ k c. is_local_write program plan k c t.proc x) (Some (me_in p t)) = outcome_of program plan story p t x shape e in
+    (λ k c. is_local_write program plan k c t.proc x) (Some (me_in p t)) = outcome_of program plan story p t x shape e in
     let new : length (locals (trace_step program plan story p t x).activations) ≡ length (act program plan t.proc x.answer).frames =
-      locals_of (trace_step program plan story p t x) o.shape in
+    locals_of (trace_step program plan story p t x) o.shape in
     record {
       has_tags = o.shape;
       same_cells = λ k lt lt2. cells_are (trace_step program plan story p t x) o.shape k

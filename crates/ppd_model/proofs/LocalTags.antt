@@ -1,5 +1,5 @@
 -- The tag of a local cell is the event that last wrote it in the cell's activation.
-use Rattle.std.proofs.Common.{◌≡◌, ℕ, zero, suc, ◌+◌, ◌<◌, ◌≤◌, ℤ, Bool, true, false, List, [], ◌∷◌, ◌++◌, Some, None, refl, ap, sym, subst, ◌∙◌, length, map, get_or, inl, inr, ◌⊎◌, arith}
+use Rattle.std.proofs.Common.{◌≡◌, ℕ, zero, suc, ◌+◌, ◌<◌, ◌≤◌, ℤ, List, [], ◌∷◌, ◌++◌, None, refl, ap, sym, subst, ◌∙◌, length, map, get_or, inl, inr, ◌⊎◌, arith}
 use Rattle.std.specs.Prelude.{⊤, ◌-◌, fold, slice_get}
 use Rattle.std.proofs.lemmas.Bool.{cases_Bool, cases_eq, cases_lt}
 use Rattle.std.proofs.lemmas.List.{length-map}
@@ -8,8 +8,8 @@ use Rattle.ppd_ast.specs.declared.program.Program.{Program}
 use Rattle.ppd_sem.specs.declared.proc.Frame.{Frame}
 use Rattle.ppd_sem.specs.declared.proc.Proc.{Proc}
 use Rattle.ppd_sem.specs.Process.{act, need_of, started}
-use Rattle.ppd_model.specs.FullTrace.{Activation, Tag, Tracing, begun_tracing, me_in, trace_step, tracing_of}
-use Rattle.ppd_model.specs.LocalTags.{AreOwn, HasLocalTags, HasTags, IsLastLocalWrite, IsLocalTag, IsSteady, IsUnwrittenSinceCall, IsUnwrittenSinceStart, LocalTagsAreLastWrites, ReadsAreOfTheTop, SchedulesTagLastWrites, StoriesTellOwnSteps, TagsItsWrites, cells_in, from_end, is_local_write, local_tag, locals, sizes}
+use Rattle.ppd_model.specs.FullTrace.{Activation, Tag, Tracing, begun_tracing, trace_step}
+use Rattle.ppd_model.specs.LocalTags.{AreOwn, HasTags, IsLastLocalWrite, IsLocalTag, IsSteady, IsUnwrittenSinceCall, LocalTagsAreLastWrites, ReadsAreOfTheTop, SchedulesTagLastWrites, StoriesTellOwnSteps, TagsItsWrites, cells_in, is_local_write, local_tag, locals, sizes}
 use Rattle.ppd_model.specs.Schedule.{started_world}
 use Rattle.ppd_model.specs.States.{act_on, states_from}
 use Rattle.ppd_model.specs.Story.{Story, Taken, Telling, begun, moment_of, own_steps, steps_of, story, tell, told}

@@ -12,7 +12,6 @@ use Rattle.ppd_sem.specs.Asked.{Asked}
 use Rattle.ppd_sem.specs.Deed.{Deed, back}
 use Rattle.ppd_sem.specs.Described.{frame_of}
 use Rattle.ppd_sem.specs.Process.{act, head_deed, need_of, started, top_call}
-use Rattle.ppd_model.specs.declared.trace.EventId.{EventId}
 use Rattle.ppd_model.specs.FullTrace.{Activation, Tag, Tracing, begun_tracing, event_of, into_at, me_in, tag_at, top_tags, trace_step, tracing_of}
 use Rattle.ppd_model.specs.Story.{Story, Taken, is_event, own_steps, story}
 
