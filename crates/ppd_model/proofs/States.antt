@@ -24,11 +24,11 @@ module _ (program : Program) (plan : Plan) (budget : ℕ) where
   states-change x zero p (xs ∷ rest) = ap (λ s. s ∷ states_from program plan budget (p + 1) rest) (fold-append (act_on program plan) (started program plan p budget) xs (x ∷ []))
   states-change x (suc q) p (xs ∷ rest) = ap (λ ss. state_of program plan budget p xs ∷ ss) (states-change x q (p + 1) rest)
 
-  states-begun : (p n : ℕ) → states_from program plan budget p (map steps_of (map (λ _. []) (map (λ q. started program plan q budget) (range_with_len p n)))) ≡ map (λ q. started program plan q budget) (range_with_len p n)
+  pub states-begun : (p n : ℕ) → states_from program plan budget p (map steps_of (map (λ _. []) (map (λ q. started program plan q budget) (range_with_len p n)))) ≡ map (λ q. started program plan q budget) (range_with_len p n)
   states-begun p zero = refl
   states-begun p (suc n) = ap (λ ss. started program plan p budget ∷ ss) (states-begun (p + 1) n)
 
-  states-tell : (t : Telling) (p : ℕ) → t.world.procs ≡ states_from program plan budget 0 (map steps_of t.moments)
+  pub states-tell : (t : Telling) (p : ℕ) → t.world.procs ≡ states_from program plan budget 0 (map steps_of t.moments)
       → (tell program plan t p).world.procs ≡ states_from program plan budget 0 (map steps_of (tell program plan t p).moments)
   states-tell t p e =
       let m : Moment = moment_of program plan t p in

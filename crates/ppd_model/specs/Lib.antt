@@ -17,3 +17,4 @@ pub mod FlowbackEdges
 pub mod NearIntervals
 pub mod Bounds
 pub mod Laws
+pub mod LocalTags

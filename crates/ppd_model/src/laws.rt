@@ -1,5 +1,6 @@
 ghost use Rattle.ppd_model.specs.Bounds.{CountsAreBalanced, SchedulesAreBounded, StepsChangeTheirOwn};
 ghost use Rattle.ppd_model.specs.Laws.{IsTestOfBefore, IsTestOfEdges, LastEdgesAreOpen, LogsGrow, NoRaceMeansOrder, ProcessesFollowTheirSteps, StoriesAreOfRuns, StoriesGrow, StoriesTellAll, SynchronizationsAreCounted, TagsAreLastWrites};
+ghost use Rattle.ppd_model.specs.LocalTags.{LocalTagsAreLastWrites, ReadsAreOfTheTop, SchedulesTagLastWrites, StepsTagTheirWrites, StoriesTellOwnSteps};
 
 /// Law: the story of a schedule with one more step is that of the schedule with this step, its
 /// writer and its cell; and the world of which a story is told is the one that the schedule
@@ -49,6 +50,17 @@ pub fn no_race_means_order()
 /// Law: the tag of a shared cell is the event that last wrote it.
 pub fn tags_are_last_writes()
     ensures { TagsAreLastWrites }
+{}
+
+/// Law: the tag of a local cell, which its readers have as their writer, is the event that last
+/// wrote it in the cell's activation, and none where no event did. An event writes a cell by a
+/// write of its own, as a parameter of the call, or by the value that it returns to it.
+pub fn local_tags_are_last_writes()
+    ensures steps { StepsTagTheirWrites }
+    ensures own { StoriesTellOwnSteps }
+    ensures traces { LocalTagsAreLastWrites }
+    ensures schedules { SchedulesTagLastWrites }
+    ensures reads { ReadsAreOfTheTop }
 {}
 
 /// Law: the step of a process changes the process itself and what its need names, and nothing else.
