@@ -10,12 +10,7 @@ use crate::proc::{Proc, Todo};
 use ppd_ast::{Memory, Nums, Program};
 use std::alloc::Global;
 
-fn head_arguments(
-    alloc: Global,
-    program: &Program,
-    todo: Todo,
-    proc: &Proc,
-) -> Result<Nums, Memory>
+fn head_arguments(alloc: Global, program: &Program, todo: Todo, proc: &Proc) -> Result<Nums, Memory>
     requires program { IsRunnable program.now }
     requires cells { length (top_cells_of proc.now.frames) < 2 ^ 16 }
     requires over { IsOver program.now (length (top_cells_of proc.now.frames)) todo.stmt }
