@@ -68,6 +68,7 @@ fn kind_in(table: &[Kind], number: u8) -> Kind
     }
 }
 
+/// What a token is to the grammar.
 pub fn kind_of(kind: &TokenKind) -> Kind
     ensures { result ≡ kind_of kind.now }
 {

@@ -16,9 +16,10 @@ mod symbol;
 mod want;
 
 pub use error::SyntaxError;
+pub use kind::kind_of;
 pub use node::{Node, Tree};
 pub use reading::parse;
-pub use symbol::Rule;
+pub use symbol::{Kind, Rule};
 
 #[cfg(test)]
 mod tests;

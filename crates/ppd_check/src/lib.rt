@@ -1,0 +1,11 @@
+//! The core form of a tree, or the first rule that its source breaks.
+#![tactic(auto)]
+
+mod error;
+mod fault;
+mod frame;
+mod meaning;
+mod scopes;
+
+pub use error::{CheckError, SourceError};
+pub use fault::Limit;
