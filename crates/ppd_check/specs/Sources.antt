@@ -26,7 +26,7 @@ use Rattle.ppd_check.specs.Code.{Code, done, act, join, places}
 use Rattle.ppd_check.specs.Code as C
 use Rattle.ppd_check.specs.Table.{stmts, numbers, terms, flats, weights}
 use Rattle.ppd_check.specs.Statements.{after_cells, variable_of, innermost, declared, after_row, row_code, row_faults, twice_faults, size_faults}
-use Rattle.ppd_check.specs.Syntax.{Name, Number, Value, Simple, Row, stop, simple, block, choice, repeat, count, give_back, Block, Item, shared, shared_array, semaphore, channel, function, process, Source}
+use Rattle.ppd_check.specs.Syntax.{Name, Simple, Row, stop, simple, block, choice, repeat, count, give_back, Block, Item, shared, shared_array, semaphore, channel, function, process, Source}
 use Rattle.ppd_check.specs.Reading.{source_of}
 
 -- What is declared.
