@@ -1,5 +1,7 @@
 pub mod First
+pub mod Flat
 pub mod Lookup
 pub mod RowsOfFaults
 pub mod RowsOfForms
 pub mod RowsOfPrograms
+pub mod Trees

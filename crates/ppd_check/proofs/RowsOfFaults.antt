@@ -27,7 +27,7 @@ tok k from to l c = record { rule = R.Leaf; token = Some (record { kind = k; fro
 abbrev stmt : Place → ℕ → Option ℕ → Kind → Stmt
 stmt p b parent k = record { place = p; body = b; parent = parent; kind = k }
 
--- 
+--
 abbrev nothing : List Node
 nothing =
     node R.Source (1 ∷ []) ∷

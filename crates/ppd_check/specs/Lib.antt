@@ -10,3 +10,5 @@ pub mod Code
 pub mod Statements
 pub mod Table
 pub mod Sources
+pub mod Nodes
+pub mod Forms

@@ -88,10 +88,14 @@ abbrev pub as_token : Phrase → Token
 as_token (token t) = t
 as_token _ = nowhere
 
+-- a place where a value is stored, as an expression
+abbrev pub goal_formula : Goal → Formula
+goal_formula (scalar x) = variable x
+goal_formula (item x i) = element x i
+
 abbrev pub as_formula : Phrase → Formula
 as_formula (formula f) = f
-as_formula (goal (scalar x)) = variable x
-as_formula (goal (item x i)) = element x i
+as_formula (goal g) = goal_formula g
 as_formula _ = number (pos 0)
 
 abbrev pub as_goal : Phrase → Goal
@@ -160,19 +164,16 @@ joined K.StarMark a b = two O.Mul a b
 joined K.SlashMark a b = two O.Div a b
 joined _ a b = two O.Rem a b
 
--- a number, a place, a sign with its operand, or an expression in parentheses
-abbrev pub unary_token : Token → List Phrase → Formula
-unary_token t ps = go (kind_of t.kind)
+-- an expression in parentheses, a sign with its operand, a number, or a place
+abbrev pub unary : List Phrase → Formula
+unary ps = go (kind (phrase ps 0))
   where
     go : Kind → Formula
     go K.LeftParen = formula_at ps 1
     go K.MinusMark = negated (formula_at ps 1)
     go K.NotMark = inverted (formula_at ps 1)
-    go _ = number (value_of t.kind)
-
-abbrev pub unary : Phrase → List Phrase → Formula
-unary (token t) ps = unary_token t ps
-unary p ps = as_formula p
+    go K.Number = number (value_of (as_token (phrase ps 0)).kind)
+    go _ = formula_at ps 0
 
 -- the expressions among the phrases
 abbrev pub formulas : List Phrase → List Formula
@@ -244,8 +245,7 @@ for_row ps =
     count (place_at ps 0) (for_start (before inside)) (for_test (formulas (before later))) (some_change (phrase (beyond later) 0)) (as_row (last ps)) stop
 
 abbrev pub returned : Phrase → Option Value
-returned (token t) = None
-returned p = Some (as_value p)
+returned p = if is_semicolon (kind p) then None else Some (as_value p)
 
 -- a statement that begins with a word, or the empty one
 abbrev pub worded : List Phrase → Row
@@ -322,7 +322,7 @@ made R.Call ps = calling (name_at ps 0) (formulas ps)
 made R.Place ps = goal (goal_of ps)
 made R.Change ps = changing (changed ps)
 made R.Stmt ps = row (statement (phrase ps 0) ps)
-made R.Unary ps = formula (unary (phrase ps 0) ps)
+made R.Unary ps = formula (unary ps)
 made R.Binary ps = formula (joined (kind (phrase ps 1)) (formula_at ps 0) (formula_at ps 2))
 
 -- the phrase of a tree

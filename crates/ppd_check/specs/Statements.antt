@@ -14,8 +14,9 @@ use Rattle.ppd_check.specs.Names.{Meaning, Scope, meaning, found, declare, semap
 use Rattle.ppd_check.specs.Names as N
 use Rattle.ppd_check.specs.Code.{Spot, Act, Code, done, act, loop, join, acts}
 use Rattle.ppd_check.specs.Code as C
+use Rattle.ppd_check.specs.Reading.{goal_formula}
 use Rattle.ppd_check.specs.Expressions.{term_of, formula_faults, name_faults, call_faults}
-use Rattle.ppd_check.specs.Syntax.{Name, Number, Formula, variable, element, Goal, scalar, item, Value, plain, result, received, Simple, fresh, array, store, change, call, give_back, take, give, send, print, assert, Row, stop, simple, block, choice, repeat, count}
+use Rattle.ppd_check.specs.Syntax.{Name, Number, Goal, scalar, item, Value, plain, result, received, Simple, fresh, array, store, change, call, give_back, take, give, send, print, assert, Row, stop, simple, block, choice, repeat, count}
 
 -- Variables and frames.
 
@@ -73,11 +74,6 @@ closed f g = record g { scopes = f.scopes }
 
 -- Places where values are stored.
 
--- such a place as an expression
-abbrev pub formula : Goal → Formula
-formula (scalar x) = variable x
-formula (item x i) = element x i
-
 abbrev pub goal_name : Goal → Name
 goal_name (scalar x) = x
 goal_name (item x i) = x
@@ -90,7 +86,7 @@ spot (T.shared c) = C.shared c
 spot _ = C.shared 0
 
 abbrev pub spot_of : List Scope → Goal → Spot
-spot_of s g = spot (term_of s (formula g))
+spot_of s g = spot (term_of s (goal_formula g))
 
 -- a value from a call or a channel comes into a local scalar, if need be into a hidden one
 abbrev pub via_hidden : Spot → Value → Bool
@@ -166,7 +162,7 @@ abbrev pub acts_of : Simple → Frame → List Act
 acts_of (fresh x v) f = put (declared x None f).scopes f.cells v ∷ []
 acts_of (array x n) f = C.clear f.cells (as_short n.value) ∷ []
 acts_of (store g v) f = store_acts (spot_of f.scopes g) v f
-acts_of (change g op e) f = C.set (spot_of f.scopes g) (T.two op (term_of f.scopes (formula g)) (term_of f.scopes e)) ∷ []
+acts_of (change g op e) f = C.set (spot_of f.scopes g) (T.two op (term_of f.scopes (goal_formula g)) (term_of f.scopes e)) ∷ []
 acts_of (call g args) f = C.call (function_of (meaning f.scopes g.text)) (map (term_of f.scopes) args) None ∷ []
 acts_of (give_back p v) f = return_acts v f
 acts_of (take p x) f = C.take (semaphore_of (meaning f.scopes x.text)) ∷ []
@@ -214,8 +210,8 @@ size_faults least most n = unless (nat_le least n.value && nat_le n.value most) 
 abbrev pub faults_of : Simple → Frame → List Fault
 faults_of (fresh x v) f = twice_faults (innermost f.scopes) x ++ value_faults (declared x None f).scopes v
 faults_of (array x n) f = twice_faults (innermost f.scopes) x ++ size_faults 1 MOST_LOCAL_CELLS n
-faults_of (store g v) f = formula_faults f.scopes (formula g) ++ value_faults f.scopes v
-faults_of (change g op e) f = formula_faults f.scopes (formula g) ++ formula_faults f.scopes e
+faults_of (store g v) f = formula_faults f.scopes (goal_formula g) ++ value_faults f.scopes v
+faults_of (change g op e) f = formula_faults f.scopes (goal_formula g) ++ formula_faults f.scopes e
 faults_of (call g args) f = call_faults f.scopes false g args
 faults_of (give_back p None) f = []
 faults_of (give_back p (Some v)) f = value_faults f.scopes v

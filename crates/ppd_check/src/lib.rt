@@ -3,8 +3,11 @@
 
 mod error;
 mod fault;
+mod forms;
+mod formulas;
 mod frame;
 mod meaning;
+mod nodes;
 mod scopes;
 
 pub use error::{CheckError, SourceError};
