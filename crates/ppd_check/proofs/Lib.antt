@@ -1,7 +1,10 @@
+pub mod Arguments
 pub mod First
 pub mod Flat
+pub mod Joined
 pub mod Lookup
 pub mod RowsOfFaults
 pub mod RowsOfForms
 pub mod RowsOfPrograms
 pub mod Trees
+pub mod Writing

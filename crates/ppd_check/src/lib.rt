@@ -1,6 +1,7 @@
 //! The core form of a tree, or the first rule that its source breaks.
 #![tactic(auto)]
 
+mod calls;
 mod error;
 mod fault;
 mod forms;
@@ -9,6 +10,9 @@ mod frame;
 mod meaning;
 mod nodes;
 mod scopes;
+mod simple;
+mod values;
+mod writer;
 
 pub use error::{CheckError, SourceError};
 pub use fault::Limit;
