@@ -1,7 +1,7 @@
 -- The arguments of a call, child after child.
-use Rattle.std.proofs.Common.{◌≡◌, refl, sym, ap, subst, ◌∙◌, ℕ, ◌+◌, ◌<◌, Bool, true, false, if◌then◌else◌, List, [], ◌∷◌, ◌++◌, map, take, length, get_or, Option}
+use Rattle.std.proofs.Common.{◌≡◌, refl, sym, ap, subst, ◌∙◌, ℕ, suc, ◌+◌, ◌<◌, Bool, true, false, if◌then◌else◌, List, [], ◌∷◌, ◌++◌, map, take, length, get_or, Option}
 use Rattle.std.specs.List.{flat_map}
-use Rattle.std.proofs.lemmas.List.{take_more, map-append, append-nil}
+use Rattle.std.proofs.lemmas.List.{take_more, map-append, append-nil, length-map}
 use Rattle.std.proofs.lemmas.List.Concat.{flat_map-append}
 use Rattle.ppd_ast.specs.declared.program.Expr.{Expr}
 use Rattle.ppd_parse.specs.declared.node.Node.{Node}
@@ -11,10 +11,12 @@ use Rattle.ppd_check.specs.Names.{Scope}
 use Rattle.ppd_check.specs.Syntax.{Formula}
 use Rattle.ppd_check.specs.Reading.{Phrase, as_formula, is_formula, formulas}
 use Rattle.ppd_check.specs.Expressions.{term_of, formula_faults}
-use Rattle.ppd_check.specs.Nodes.{phrase_of, phrases_of}
+use Rattle.ppd_check.specs.Nodes.{phrase_of, phrases_of, phrases_below, children_of}
+use Rattle.ppd_ast.specs.Term.{Term}
+use Rattle.ppd_check.specs.Table.{weight, roots}
 use Rattle.ppd_check.specs.Forms.{Added}
 use Rattle.ppd_check.specs.Writing.{AddedAll, Argued}
-use Rattle.ppd_check.proofs.First.{found_in_both, first_of_both_none}
+use Rattle.ppd_check.proofs.First.{found_in_both, first_of_both_none, first-swap}
 use Rattle.ppd_check.proofs.Writing.{added_none, added_first, added_join}
 
 pub argued_none : (ns : List Node) (s : List Scope) (old : List Expr) (ids : List ℕ) (found : Option Fault) → Argued ns s [] old old ids ids found found
@@ -78,3 +80,25 @@ argued_one ns s c n old new ids ids' found found' e a o f =
           ∙ ap (λ l. first_of_both found (first l)) (sym (append-nil (formula_faults s (as_formula (phrase_of ns c)))))
           ∙ ap (λ fs. first_of_both found (first (flat_map (formula_faults s) fs))) (one_formula ns c true e);
     }
+
+-- the arguments of a call with what is wrong with the call, which is noted after them
+pub argued_call : (ns : List Node) (s : List Scope) (i : ℕ) (old new : List Expr) (ids : List ℕ) (found found' found'' : Option Fault) (fs : List Fault)
+    → Argued ns s (children_of ns i) old new [] ids found found' → found'' ≡ first_of_both found' (first fs)
+    → AddedAll old (map (term_of s) (formulas (phrases_below ns i))) new [] ids
+    × (found'' ≡ first_of_both found (first (fs ++ flat_map (formula_faults s) (formulas (phrases_below ns i)))))
+unfolding phrases_below
+argued_call ns s i old new ids found found' found'' fs a f =
+    (a.added,
+    found_in_both found found' found'' (flat_map (formula_faults s) (formulas (phrases_below ns i))) fs a.noted f
+    ∙ ap (first_of_both found) (first-swap (flat_map (formula_faults s) (formulas (phrases_below ns i))) fs))
+
+length_roots : (m : ℕ) (ts : List Term) → length (roots m ts) ≡ length ts
+length_roots m [] = refl
+length_roots m (t ∷ ts) = ap suc (length_roots (m + weight t) ts)
+
+-- as many numbers as arguments
+pub argued_count : (ns : List Node) (s : List Scope) (i : ℕ) (old new : List Expr) (ids : List ℕ) (found found' : Option Fault)
+    → Argued ns s (children_of ns i) old new [] ids found found' → length ids ≡ length (formulas (phrases_below ns i))
+unfolding phrases_below
+argued_count ns s i old new ids found found' a =
+    ap length a.added.numbers ∙ length_roots (length old) (map (term_of s) (formulas (phrases_below ns i))) ∙ length-map (formulas (phrases_below ns i)) (term_of s)

@@ -135,3 +135,7 @@ added_join old mid new ts us ids ids' ids'' a b =
 
 pub added_first : (old new : List Expr) (t : Term) (n : ℕ) (ids ids' : List ℕ) → Added old t new n → ids' ≡ ids ++ n ∷ [] → AddedAll old (t ∷ []) new ids ids'
 added_first old new t n ids ids' a e = record { table = added_one old t new n a; numbers = e ∙ ap (λ k. ids ++ k ∷ []) a.number }
+
+pub both_ok : {X E : Type 0} (r : Result X E) (P Q R : Type 0) → OnOk r P → OnOk r Q → (P → Q → R) → OnOk r R
+both_ok (Ok x) P Q R p q f = f p q
+both_ok (Err e) P Q R p q f = tt

@@ -11,7 +11,12 @@ use Rattle.ppd_check.specs.Names.{Scope}
 use Rattle.ppd_check.specs.Reading.{formulas}
 use Rattle.ppd_check.specs.Expressions.{term_of, formula_faults}
 use Rattle.ppd_check.specs.Nodes.{phrases_of}
-use Rattle.ppd_check.specs.Code.{Code}
+use Rattle.ppd_ast.specs.declared.program.Place.{Place}
+use Rattle.ppd_check.specs.declared.frame.Frame.{Frame}
+use Rattle.ppd_check.specs.declared.writer.Site.{Site}
+use Rattle.ppd_check.specs.Syntax.{Simple}
+use Rattle.ppd_check.specs.Statements.{code_of, faults_of}
+use Rattle.ppd_check.specs.Code.{Code, Act, done, act}
 use Rattle.ppd_check.specs.Table.{flats, roots, terms, numbers, stmts}
 
 -- Statements of a body that stand directly in `parent` were added with their expressions, and their numbers to a row; the
@@ -21,6 +26,14 @@ pub record Wrote (body : ℕ) (parent : Option ℕ) (code : Code) (faults : List
   pub stmts : new.stmts ≡ old.stmts ++ stmts body parent (length old.stmts) (length old.exprs) code
   pub row : ids' ≡ ids ++ numbers (length old.stmts) code
   pub found : new.found ≡ first_of_both old.found (first faults)
+
+-- a statement without statements inside it was added, in a frame
+abbrev pub WroteSimple : Site → Simple → Frame → (old new : Writer) (ids ids' : List ℕ) → Type 0
+WroteSimple site s f old new ids ids' = Wrote site.body site.parent (code_of s f) (faults_of s f) old new ids ids'
+
+-- one core statement was added
+abbrev pub WroteAct : Site → Place → Act → List Fault → (old new : Writer) (ids ids' : List ℕ) → Type 0
+WroteAct site p a faults old new ids ids' = Wrote site.body site.parent (act p a done) faults old new ids ids'
 
 -- the expressions of terms were added, and their numbers to a list
 pub record AddedAll (old : List Expr) (ts : List Term) (new : List Expr) (ids ids' : List ℕ) : Type 0 where

@@ -11,6 +11,7 @@ mod meaning;
 mod nodes;
 mod scopes;
 mod simple;
+mod stores;
 mod values;
 mod writer;
 
