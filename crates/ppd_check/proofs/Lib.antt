@@ -3,8 +3,11 @@ pub mod First
 pub mod Flat
 pub mod Joined
 pub mod Lookup
-pub mod RowsOfFaults
+pub mod RowTables
 pub mod RowsOfForms
+pub mod RowsOfLoops
+pub mod RowsOfNames
 pub mod RowsOfPrograms
+pub mod RowsOfRules
 pub mod Trees
 pub mod Writing

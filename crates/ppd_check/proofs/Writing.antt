@@ -139,3 +139,22 @@ added_first old new t n ids ids' a e = record { table = added_one old t new n a;
 pub both_ok : {X E : Type 0} (r : Result X E) (P Q R : Type 0) → OnOk r P → OnOk r Q → (P → Q → R) → OnOk r R
 both_ok (Ok x) P Q R p q f = f p q
 both_ok (Err e) P Q R p q f = tt
+
+-- one term after others, its number, and what was added
+pub record AddedAfter (old : List Expr) (ts : List Term) (t : Term) (new : List Expr) (n : ℕ) : Type 0 where
+  pub table : new ≡ old ++ flats (length old) (ts ++ t ∷ [])
+  pub number : n ≡ root (length old + weights ts) t
+
+pub added_after : (old mid new : List Expr) (ts : List Term) (t : Term) (n : ℕ) → mid ≡ old ++ flats (length old) ts → Added mid t new n → AddedAfter old ts t new n
+added_after old mid new ts t n e a =
+    let m : ℕ = length old in
+    let long : length mid ≡ m + weights ts = ap length e ∙ length-append old (flats m ts) ∙ ap (λ k. m + k) (length_flats m ts) in
+    record {
+      table =
+          added_one mid t new n a
+          ∙ ap (λ l. l ++ flats (length mid) (t ∷ [])) e
+          ∙ append_assoc old (flats m ts) (flats (length mid) (t ∷ []))
+          ∙ ap (λ k. old ++ (flats m ts ++ flats k (t ∷ []))) long
+          ∙ ap (λ l. old ++ l) (sym (flats_append m ts (t ∷ [])));
+      number = a.number ∙ ap (λ k. root k t) long;
+    }

@@ -203,7 +203,7 @@ fn element_target(meaning: Option<Meaning>, at: u32) -> Target
 }
 
 // The expression that reads a place where a value is stored; what is wrong with it is noted where it is written.
-fn write_goal(
+pub fn write_goal(
     nodes: &[Node],
     scopes: &Scopes,
     goal: Goal<'_>,

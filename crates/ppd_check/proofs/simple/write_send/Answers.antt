@@ -1,7 +1,7 @@
-use Rattle.std.proofs.Common.{rules, arith, ◌∙◌, sym, ap, [], ◌∷◌, ◌++◌, length}
+use Rattle.std.proofs.Common.{rules, ◌∙◌, ap, [], ◌∷◌, ◌++◌, length}
 use Rattle.ppd_check.specs.Faults.{first, first_of_both}
 use Rattle.ppd_check.specs.Names.{is_channel}
-use Rattle.ppd_check.specs.Reading.{name_at, formula_at}
+use Rattle.ppd_check.specs.Reading.{name_at}
 use Rattle.ppd_check.specs.Nodes.{phrases_below, label_name, operand_formula}
 use Rattle.ppd_check.specs.Expressions.{term_of, formula_faults, name_faults}
 use Rattle.ppd_check.specs.Table.{flats}

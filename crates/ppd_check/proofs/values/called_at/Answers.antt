@@ -1,6 +1,6 @@
 use Rattle.std.proofs.Common.{◌∙◌, ap, sym}
 use Rattle.ppd_check.specs.Reading.{called}
-use Rattle.ppd_check.specs.Nodes.{phrase_of, phrases_below, SaysBy}
+use Rattle.ppd_check.specs.Nodes.{phrase_of, phrases_below}
 use Rattle.ppd_check.proofs.Trees.{called_other}
 use Rattle.ppd_check.proofs.values.called_at.Goals as goal
 
