@@ -2,7 +2,8 @@
 ghost use Rattle.std.specs.Prelude.{◌≡◌, ◌<◌, OnOk, length, List};
 ghost use Rattle.ppd_parse.specs.declared.node.Node.{Node};
 ghost use Rattle.ppd_parse.specs.Tree.{IsTable};
-ghost use Rattle.ppd_check.specs.Nodes.{operand_formula, IsOperand};
+ghost use Rattle.ppd_check.specs.Nodes.{operand_formula, phrases_below, IsOperand};
+ghost use Rattle.ppd_check.specs.Reading.{changed};
 ghost use Rattle.ppd_check.specs.Syntax.{store, change, plain};
 ghost use Rattle.ppd_check.specs.Statements.{goal_name};
 ghost use Rattle.ppd_check.specs.Values.{goal_said, IsGoal};
@@ -10,12 +11,12 @@ ghost use Rattle.ppd_check.specs.Writing.{WroteSimple};
 
 use crate::formulas::{formula, put};
 use crate::frame::Frame;
-use crate::nodes::Operand;
+use crate::nodes::{Operand, kind_at, operand_at};
 use crate::stores::{write_goal, write_spot};
-use crate::values::Goal;
+use crate::values::{Goal, goal_at};
 use crate::writer::{Site, Writer, put_stmt};
 use ppd_ast::{Expr, Ids, Kind, Memory, Op, Place};
-use ppd_parse::Node;
+use ppd_parse::{Kind as Token, Node};
 
 // The place of the name.
 fn place_of(goal: Goal<'_>) -> Place
@@ -94,4 +95,37 @@ pub fn write_change(
     )?;
     let number = put(&mut out.exprs, Expr::Two(op, a, b))?;
     put_stmt(out, site, place, Kind::Set(target, number), row)
+}
+
+// What a node of changes says.
+pub fn write_changed(
+    nodes: &[Node],
+    id: u32,
+    frame: &Frame,
+    out: &mut Writer,
+    site: Site,
+    row: &mut Ids,
+) -> Result<(), Memory>
+    requires table { IsTable nodes.now }
+    requires within { id < length nodes.now }
+    ensures { OnOk result (WroteSimple site (changed (phrases_below nodes.now id)) frame.now out.old out.new row.old row.new) }
+{
+    let goal = goal_at(nodes, id, 0);
+    let one = Operand::Constant(1);
+    match kind_at(nodes, id, 1) {
+        Token::AssignMark => {
+            let operand = operand_at(nodes, id, 2);
+            write_set(nodes, goal, operand, frame, out, site, row)
+        }
+        Token::AddMark => {
+            let operand = operand_at(nodes, id, 2);
+            write_change(nodes, goal, Op::Add, operand, frame, out, site, row)
+        }
+        Token::SubtractMark => {
+            let operand = operand_at(nodes, id, 2);
+            write_change(nodes, goal, Op::Sub, operand, frame, out, site, row)
+        }
+        Token::IncreaseMark => write_change(nodes, goal, Op::Add, one, frame, out, site, row),
+        _ => write_change(nodes, goal, Op::Sub, one, frame, out, site, row),
+    }
 }

@@ -1,6 +1,7 @@
 //! The core form of a tree, or the first rule that its source breaks.
 #![tactic(auto)]
 
+mod arrays;
 mod calls;
 mod changes;
 mod error;
