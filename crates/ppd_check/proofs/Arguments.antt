@@ -87,10 +87,11 @@ pub argued_call : (ns : List Node) (s : List Scope) (i : ℕ) (old new : List Ex
     → AddedAll old (map (term_of s) (formulas (phrases_below ns i))) new [] ids
     × (found'' ≡ first_of_both found (first (fs ++ flat_map (formula_faults s) (formulas (phrases_below ns i)))))
 unfolding phrases_below
-argued_call ns s i old new ids found found' found'' fs a f =
-    (a.added,
-    found_in_both found found' found'' (flat_map (formula_faults s) (formulas (phrases_below ns i))) fs a.noted f
-    ∙ ap (first_of_both found) (first-swap (flat_map (formula_faults s) (formulas (phrases_below ns i))) fs))
+argued_call ns s i old new ids found found' found'' fs a f = (
+  a.added,
+  found_in_both found found' found'' (flat_map (formula_faults s) (formulas (phrases_below ns i))) fs a.noted f
+      ∙ ap (first_of_both found) (first-swap (flat_map (formula_faults s) (formulas (phrases_below ns i))) fs),
+)
 
 length_roots : (m : ℕ) (ts : List Term) → length (roots m ts) ≡ length ts
 length_roots m [] = refl

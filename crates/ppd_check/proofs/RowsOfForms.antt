@@ -8,10 +8,7 @@ use Rattle.ppd_lex.specs.declared.token.TokenKind.TheVariants as T
 use Rattle.ppd_parse.specs.declared.symbol.Rule.TheVariants as R
 use Rattle.ppd_parse.specs.declared.node.Node.{Node}
 use Rattle.ppd_parse.specs.Tree.{tree_of}
-use Rattle.ppd_check.specs.declared.fault.Cause.TheVariants.{Twice, Unknown, WrongKind, Arity, ReturnPlace, VoidValue, NoProcess, TooMany, BadSize}
-use Rattle.ppd_check.specs.declared.fault.Limit.TheVariants as L
-use Rattle.ppd_check.specs.Faults.{at}
-use Rattle.ppd_check.specs.Sources.{core, faults, first_fault}
+use Rattle.ppd_check.specs.Sources.{core, faults}
 use Rattle.ppd_check.proofs.RowTables.{place, node, tok, stmt}
 
 -- chan c[4]; shared int g[3], h = -7; int f(int a) { return f(a); } process p { int b[2]; g[1] += 2; b[0]--; b[b[1]] -= h; g[0] = f(1); h = recv(c); b[1] = recv(c); int k = f(2); k = f(3); f(4); ; { } }
@@ -201,51 +198,51 @@ forms_accepted = refl
 
 forms_core : core (tree_of forms) ≡ record {
   exprs = E.Local 0 ∷
-    E.Local 1 ∷
-    E.Const (pos 1) ∷
-    E.Const (pos 1) ∷
-    E.SharedAt 0 3 3 ∷
-    E.Const (pos 2) ∷
-    E.Two O.Add 4 5 ∷
-    E.Const (pos 0) ∷
-    E.Const (pos 0) ∷
-    E.LocalAt 0 2 8 ∷
-    E.Const (pos 1) ∷
-    E.Two O.Sub 9 10 ∷
-    E.Const (pos 1) ∷
-    E.LocalAt 0 2 12 ∷
-    E.Const (pos 1) ∷
-    E.LocalAt 0 2 14 ∷
-    E.LocalAt 0 2 15 ∷
-    E.Shared 3 ∷
-    E.Two O.Sub 16 17 ∷
-    E.Const (pos 1) ∷
-    E.Const (pos 0) ∷
-    E.Local 2 ∷
-    E.Local 3 ∷
-    E.Const (pos 1) ∷
-    E.Local 4 ∷
-    E.Const (pos 2) ∷
-    E.Const (pos 3) ∷
-    E.Const (pos 4) ∷ [];
+      E.Local 1 ∷
+      E.Const (pos 1) ∷
+      E.Const (pos 1) ∷
+      E.SharedAt 0 3 3 ∷
+      E.Const (pos 2) ∷
+      E.Two O.Add 4 5 ∷
+      E.Const (pos 0) ∷
+      E.Const (pos 0) ∷
+      E.LocalAt 0 2 8 ∷
+      E.Const (pos 1) ∷
+      E.Two O.Sub 9 10 ∷
+      E.Const (pos 1) ∷
+      E.LocalAt 0 2 12 ∷
+      E.Const (pos 1) ∷
+      E.LocalAt 0 2 14 ∷
+      E.LocalAt 0 2 15 ∷
+      E.Shared 3 ∷
+      E.Two O.Sub 16 17 ∷
+      E.Const (pos 1) ∷
+      E.Const (pos 0) ∷
+      E.Local 2 ∷
+      E.Local 3 ∷
+      E.Const (pos 1) ∷
+      E.Local 4 ∷
+      E.Const (pos 2) ∷
+      E.Const (pos 3) ∷
+      E.Const (pos 4) ∷ [];
   stmts = stmt (place 1 52) 0 None (K.Call 0 (0 ∷ []) (Some 1)) ∷
-    stmt (place 1 52) 0 None (K.Return (Some 1)) ∷
-    stmt (place 1 83) 1 None (K.Zero 0 2) ∷
-    stmt (place 1 89) 1 None (K.Set (G.SharedAt 0 3 2) 6) ∷
-    stmt (place 1 100) 1 None (K.Set (G.LocalAt 0 2 7) 11) ∷
-    stmt (place 1 108) 1 None (K.Set (G.LocalAt 0 2 13) 18) ∷
-    stmt (place 1 122) 1 None (K.Call 0 (19 ∷ []) (Some 2)) ∷
-    stmt (place 1 122) 1 None (K.Set (G.SharedAt 0 3 20) 21) ∷
-    stmt (place 1 135) 1 None (K.Recv 0 3) ∷
-    stmt (place 1 135) 1 None (K.Set (G.Shared 3) 22) ∷
-    stmt (place 1 148) 1 None (K.Recv 0 4) ∷
-    stmt (place 1 148) 1 None (K.Set (G.LocalAt 0 2 23) 24) ∷
-    stmt (place 1 168) 1 None (K.Call 0 (25 ∷ []) (Some 5)) ∷
-    stmt (place 1 178) 1 None (K.Call 0 (26 ∷ []) (Some 5)) ∷
-    stmt (place 1 188) 1 None (K.Call 0 (27 ∷ []) None) ∷
-    stmt (place 1 200) 1 None (K.End) ∷ [];
+      stmt (place 1 52) 0 None (K.Return (Some 1)) ∷
+      stmt (place 1 83) 1 None (K.Zero 0 2) ∷
+      stmt (place 1 89) 1 None (K.Set (G.SharedAt 0 3 2) 6) ∷
+      stmt (place 1 100) 1 None (K.Set (G.LocalAt 0 2 7) 11) ∷
+      stmt (place 1 108) 1 None (K.Set (G.LocalAt 0 2 13) 18) ∷
+      stmt (place 1 122) 1 None (K.Call 0 (19 ∷ []) (Some 2)) ∷
+      stmt (place 1 122) 1 None (K.Set (G.SharedAt 0 3 20) 21) ∷
+      stmt (place 1 135) 1 None (K.Recv 0 3) ∷
+      stmt (place 1 135) 1 None (K.Set (G.Shared 3) 22) ∷
+      stmt (place 1 148) 1 None (K.Recv 0 4) ∷
+      stmt (place 1 148) 1 None (K.Set (G.LocalAt 0 2 23) 24) ∷
+      stmt (place 1 168) 1 None (K.Call 0 (25 ∷ []) (Some 5)) ∷
+      stmt (place 1 178) 1 None (K.Call 0 (26 ∷ []) (Some 5)) ∷
+      stmt (place 1 188) 1 None (K.Call 0 (27 ∷ []) None) ∷
+      stmt (place 1 200) 1 None (K.End) ∷ [];
   bodies = record { name = (102 ∷ []); process = false; params = 1; value = true; cells = 2; locals = (record { name = (97 ∷ []); base = 0; len = None } ∷ record { name = 37 ∷ decimal 1; base = 1; len = None } ∷ []); top = (0 ∷ 1 ∷ []); first = 0; end = 2 } ∷
-    record { name = (112 ∷ []); process = true; params = 0; value = false; cells = 6; locals = (record { name = (98 ∷ []); base = 0; len = (Some 2) } ∷ record { name = 37 ∷ decimal 1; base = 2; len = None } ∷ record { name = 37 ∷ decimal 2; base = 3; len = None } ∷ record { name = 37 ∷ decimal 3; base = 4; len = None } ∷ record { name = (107 ∷ []); base = 5; len = None } ∷ []); top = (2 ∷ 3 ∷ 4 ∷ 5 ∷ 6 ∷ 7 ∷ 8 ∷ 9 ∷ 10 ∷ 11 ∷ 12 ∷ 13 ∷ 14 ∷ 15 ∷ []); first = 2; end = 16 } ∷ [];
+      record { name = (112 ∷ []); process = true; params = 0; value = false; cells = 6; locals = (record { name = (98 ∷ []); base = 0; len = (Some 2) } ∷ record { name = 37 ∷ decimal 1; base = 2; len = None } ∷ record { name = 37 ∷ decimal 2; base = 3; len = None } ∷ record { name = 37 ∷ decimal 3; base = 4; len = None } ∷ record { name = (107 ∷ []); base = 5; len = None } ∷ []); top = (2 ∷ 3 ∷ 4 ∷ 5 ∷ 6 ∷ 7 ∷ 8 ∷ 9 ∷ 10 ∷ 11 ∷ 12 ∷ 13 ∷ 14 ∷ 15 ∷ []); first = 2; end = 16 } ∷ [];
   functions = 1;
   shared = (record { name = (103 ∷ []); base = 0; len = (Some 3) } ∷ record { name = (104 ∷ []); base = 3; len = None } ∷ []);
   starts = ((pos 0) ∷ (pos 0) ∷ (pos 0) ∷ (negsuc 6) ∷ []);
@@ -382,38 +379,38 @@ turns_accepted = refl
 
 turns_core : core (tree_of turns) ≡ record {
   exprs = E.Const (pos 9) ∷
-    E.Local 1 ∷
-    E.Local 1 ∷
-    E.Const (pos 2) ∷
-    E.Two O.Lt 2 3 ∷
-    E.Local 2 ∷
-    E.Local 2 ∷
-    E.Not 6 ∷
-    E.Local 2 ∷
-    E.Neg 8 ∷
-    E.Or 7 9 ∷
-    E.Local 1 ∷
-    E.Const (pos 1) ∷
-    E.Two O.Add 11 12 ∷
-    E.Const (pos 1) ∷
-    E.Const (pos 1) ∷
-    E.Local 0 ∷
-    E.Local 0 ∷
-    E.Const (pos 2) ∷
-    E.Const (pos 0) ∷ [];
+      E.Local 1 ∷
+      E.Local 1 ∷
+      E.Const (pos 2) ∷
+      E.Two O.Lt 2 3 ∷
+      E.Local 2 ∷
+      E.Local 2 ∷
+      E.Not 6 ∷
+      E.Local 2 ∷
+      E.Neg 8 ∷
+      E.Or 7 9 ∷
+      E.Local 1 ∷
+      E.Const (pos 1) ∷
+      E.Two O.Add 11 12 ∷
+      E.Const (pos 1) ∷
+      E.Const (pos 1) ∷
+      E.Local 0 ∷
+      E.Local 0 ∷
+      E.Const (pos 2) ∷
+      E.Const (pos 0) ∷ [];
   stmts = stmt (place 1 17) 0 None (K.Set (G.Local 0) 0) ∷
-    stmt (place 1 33) 0 None (K.Set (G.Local 1) 1) ∷
-    stmt (place 1 24) 0 None (K.While 4 (3 ∷ 4 ∷ 5 ∷ [])) ∷
-    stmt (place 1 58) 0 (Some 2) (K.Set (G.Local 2) 5) ∷
-    stmt (place 1 65) 0 (Some 2) (K.Assert 10) ∷
-    stmt (place 1 47) 0 (Some 2) (K.Set (G.Local 1) 13) ∷
-    stmt (place 1 85) 0 None (K.While 14 []) ∷
-    stmt (place 1 103) 0 None (K.Set (G.Local 0) 15) ∷
-    stmt (place 1 98) 0 None (K.While 16 (9 ∷ [])) ∷
-    stmt (place 1 115) 0 (Some 8) (K.If 17 (10 ∷ []) (11 ∷ [])) ∷
-    stmt (place 1 122) 0 (Some 9) (K.Set (G.Local 0) 18) ∷
-    stmt (place 1 140) 0 (Some 9) (K.Set (G.Local 3) 19) ∷
-    stmt (place 1 145) 0 None (K.End) ∷ [];
+      stmt (place 1 33) 0 None (K.Set (G.Local 1) 1) ∷
+      stmt (place 1 24) 0 None (K.While 4 (3 ∷ 4 ∷ 5 ∷ [])) ∷
+      stmt (place 1 58) 0 (Some 2) (K.Set (G.Local 2) 5) ∷
+      stmt (place 1 65) 0 (Some 2) (K.Assert 10) ∷
+      stmt (place 1 47) 0 (Some 2) (K.Set (G.Local 1) 13) ∷
+      stmt (place 1 85) 0 None (K.While 14 []) ∷
+      stmt (place 1 103) 0 None (K.Set (G.Local 0) 15) ∷
+      stmt (place 1 98) 0 None (K.While 16 (9 ∷ [])) ∷
+      stmt (place 1 115) 0 (Some 8) (K.If 17 (10 ∷ []) (11 ∷ [])) ∷
+      stmt (place 1 122) 0 (Some 9) (K.Set (G.Local 0) 18) ∷
+      stmt (place 1 140) 0 (Some 9) (K.Set (G.Local 3) 19) ∷
+      stmt (place 1 145) 0 None (K.End) ∷ [];
   bodies = record { name = (112 ∷ []); process = true; params = 0; value = false; cells = 4; locals = (record { name = (105 ∷ []); base = 0; len = None } ∷ record { name = (105 ∷ []); base = 1; len = None } ∷ record { name = (105 ∷ []); base = 2; len = None } ∷ record { name = (106 ∷ []); base = 3; len = None } ∷ []); top = (0 ∷ 1 ∷ 2 ∷ 6 ∷ 7 ∷ 8 ∷ 12 ∷ []); first = 0; end = 13 } ∷ [];
   functions = 0;
   shared = [];
@@ -539,25 +536,25 @@ scopes_accepted = refl
 
 scopes_core : core (tree_of scopes) ≡ record {
   exprs = E.Local 1 ∷
-    E.Local 1 ∷
-    E.Local 0 ∷
-    E.Shared 0 ∷
-    E.Const (pos 2) ∷
-    E.Local 0 ∷
-    E.Const (pos 0) ∷
-    E.Shared 0 ∷ [];
+      E.Local 1 ∷
+      E.Local 0 ∷
+      E.Shared 0 ∷
+      E.Const (pos 2) ∷
+      E.Local 0 ∷
+      E.Const (pos 0) ∷
+      E.Shared 0 ∷ [];
   stmts = stmt (place 1 41) 0 None (K.Set (G.Local 1) 0) ∷
-    stmt (place 1 48) 0 None (K.Print 1) ∷
-    stmt (place 1 60) 0 None (K.Print 2) ∷
-    stmt (place 1 70) 0 None (K.Return None) ∷
-    stmt (place 1 92) 1 None (K.Print 3) ∷
-    stmt (place 1 108) 1 None (K.Set (G.Local 0) 4) ∷
-    stmt (place 1 115) 1 None (K.Call 0 (5 ∷ []) None) ∷
-    stmt (place 1 129) 1 None (K.Set (G.Local 1) 6) ∷
-    stmt (place 1 134) 1 None (K.Print 7) ∷
-    stmt (place 1 144) 1 None (K.End) ∷ [];
+      stmt (place 1 48) 0 None (K.Print 1) ∷
+      stmt (place 1 60) 0 None (K.Print 2) ∷
+      stmt (place 1 70) 0 None (K.Return None) ∷
+      stmt (place 1 92) 1 None (K.Print 3) ∷
+      stmt (place 1 108) 1 None (K.Set (G.Local 0) 4) ∷
+      stmt (place 1 115) 1 None (K.Call 0 (5 ∷ []) None) ∷
+      stmt (place 1 129) 1 None (K.Set (G.Local 1) 6) ∷
+      stmt (place 1 134) 1 None (K.Print 7) ∷
+      stmt (place 1 144) 1 None (K.End) ∷ [];
   bodies = record { name = (102 ∷ []); process = false; params = 1; value = false; cells = 2; locals = (record { name = (120 ∷ []); base = 0; len = None } ∷ record { name = (120 ∷ []); base = 1; len = None } ∷ []); top = (0 ∷ 1 ∷ 2 ∷ 3 ∷ []); first = 0; end = 4 } ∷
-    record { name = (112 ∷ []); process = true; params = 0; value = false; cells = 2; locals = (record { name = (120 ∷ []); base = 0; len = None } ∷ record { name = (120 ∷ []); base = 1; len = None } ∷ []); top = (4 ∷ 5 ∷ 6 ∷ 7 ∷ 8 ∷ 9 ∷ []); first = 4; end = 10 } ∷ [];
+      record { name = (112 ∷ []); process = true; params = 0; value = false; cells = 2; locals = (record { name = (120 ∷ []); base = 0; len = None } ∷ record { name = (120 ∷ []); base = 1; len = None } ∷ []); top = (4 ∷ 5 ∷ 6 ∷ 7 ∷ 8 ∷ 9 ∷ []); first = 4; end = 10 } ∷ [];
   functions = 1;
   shared = (record { name = (120 ∷ []); base = 0; len = None } ∷ []);
   starts = ((pos 1) ∷ []);
@@ -618,15 +615,15 @@ order_accepted = refl
 order_core : core (tree_of order) ≡ record {
   exprs = [];
   stmts = stmt (place 1 31) 0 None (K.Return None) ∷
-    stmt (place 1 58) 1 None (K.Call 0 [] None) ∷
-    stmt (place 1 63) 1 None (K.Return None) ∷
-    stmt (place 1 13) 2 None (K.Call 0 [] None) ∷
-    stmt (place 1 18) 2 None (K.End) ∷
-    stmt (place 1 45) 3 None (K.End) ∷ [];
+      stmt (place 1 58) 1 None (K.Call 0 [] None) ∷
+      stmt (place 1 63) 1 None (K.Return None) ∷
+      stmt (place 1 13) 2 None (K.Call 0 [] None) ∷
+      stmt (place 1 18) 2 None (K.End) ∷
+      stmt (place 1 45) 3 None (K.End) ∷ [];
   bodies = record { name = (102 ∷ []); process = false; params = 0; value = false; cells = 0; locals = []; top = (0 ∷ []); first = 0; end = 1 } ∷
-    record { name = (103 ∷ []); process = false; params = 0; value = false; cells = 0; locals = []; top = (1 ∷ 2 ∷ []); first = 1; end = 3 } ∷
-    record { name = (97 ∷ []); process = true; params = 0; value = false; cells = 0; locals = []; top = (3 ∷ 4 ∷ []); first = 3; end = 5 } ∷
-    record { name = (98 ∷ []); process = true; params = 0; value = false; cells = 0; locals = []; top = (5 ∷ []); first = 5; end = 6 } ∷ [];
+      record { name = (103 ∷ []); process = false; params = 0; value = false; cells = 0; locals = []; top = (1 ∷ 2 ∷ []); first = 1; end = 3 } ∷
+      record { name = (97 ∷ []); process = true; params = 0; value = false; cells = 0; locals = []; top = (3 ∷ 4 ∷ []); first = 3; end = 5 } ∷
+      record { name = (98 ∷ []); process = true; params = 0; value = false; cells = 0; locals = []; top = (5 ∷ []); first = 5; end = 6 } ∷ [];
   functions = 2;
   shared = [];
   starts = [];
@@ -721,36 +718,36 @@ arithmetic_accepted = refl
 
 arithmetic_core : core (tree_of arithmetic) ≡ record {
   exprs = E.Const (pos 1) ∷
-    E.Const (pos 2) ∷
-    E.Two O.Add 0 1 ∷
-    E.Const (pos 3) ∷
-    E.Two O.Mul 2 3 ∷
-    E.Const (pos 4) ∷
-    E.Const (pos 5) ∷
-    E.Two O.Div 5 6 ∷
-    E.Const (pos 6) ∷
-    E.Two O.Rem 7 8 ∷
-    E.Two O.Sub 4 9 ∷
-    E.Const (pos 1) ∷
-    E.Const (pos 2) ∷
-    E.Two O.Eq 11 12 ∷
-    E.Const (pos 3) ∷
-    E.Const (pos 4) ∷
-    E.Two O.Le 14 15 ∷
-    E.Const (pos 5) ∷
-    E.Two O.Ge 16 17 ∷
-    E.Const (pos 6) ∷
-    E.Two O.Lt 18 19 ∷
-    E.Const (pos 7) ∷
-    E.Two O.Gt 20 21 ∷
-    E.Two O.Ne 13 22 ∷
-    E.Const (pos 8) ∷
-    E.Const (pos 9) ∷
-    E.And 24 25 ∷
-    E.Or 23 26 ∷ [];
+      E.Const (pos 2) ∷
+      E.Two O.Add 0 1 ∷
+      E.Const (pos 3) ∷
+      E.Two O.Mul 2 3 ∷
+      E.Const (pos 4) ∷
+      E.Const (pos 5) ∷
+      E.Two O.Div 5 6 ∷
+      E.Const (pos 6) ∷
+      E.Two O.Rem 7 8 ∷
+      E.Two O.Sub 4 9 ∷
+      E.Const (pos 1) ∷
+      E.Const (pos 2) ∷
+      E.Two O.Eq 11 12 ∷
+      E.Const (pos 3) ∷
+      E.Const (pos 4) ∷
+      E.Two O.Le 14 15 ∷
+      E.Const (pos 5) ∷
+      E.Two O.Ge 16 17 ∷
+      E.Const (pos 6) ∷
+      E.Two O.Lt 18 19 ∷
+      E.Const (pos 7) ∷
+      E.Two O.Gt 20 21 ∷
+      E.Two O.Ne 13 22 ∷
+      E.Const (pos 8) ∷
+      E.Const (pos 9) ∷
+      E.And 24 25 ∷
+      E.Or 23 26 ∷ [];
   stmts = stmt (place 1 13) 0 None (K.Print 10) ∷
-    stmt (place 1 45) 0 None (K.Print 27) ∷
-    stmt (place 1 93) 0 None (K.End) ∷ [];
+      stmt (place 1 45) 0 None (K.Print 27) ∷
+      stmt (place 1 93) 0 None (K.End) ∷ [];
   bodies = record { name = (97 ∷ []); process = true; params = 0; value = false; cells = 0; locals = []; top = (0 ∷ 1 ∷ 2 ∷ []); first = 0; end = 3 } ∷ [];
   functions = 0;
   shared = [];

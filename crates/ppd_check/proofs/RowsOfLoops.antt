@@ -1,5 +1,5 @@
 -- The tables of small sources with loops and calls, evaluated.
-use Rattle.std.proofs.Common.{◌≡◌, refl, List, [], ◌∷◌, Some, None, pos, negsuc, true, false, decimal}
+use Rattle.std.proofs.Common.{◌≡◌, refl, List, [], ◌∷◌, Some, None, pos, true, false}
 use Rattle.ppd_ast.specs.declared.program.Op.TheVariants as O
 use Rattle.ppd_ast.specs.declared.program.Expr.TheVariants as E
 use Rattle.ppd_ast.specs.declared.program.Target.TheVariants as G
@@ -8,10 +8,7 @@ use Rattle.ppd_lex.specs.declared.token.TokenKind.TheVariants as T
 use Rattle.ppd_parse.specs.declared.symbol.Rule.TheVariants as R
 use Rattle.ppd_parse.specs.declared.node.Node.{Node}
 use Rattle.ppd_parse.specs.Tree.{tree_of}
-use Rattle.ppd_check.specs.declared.fault.Cause.TheVariants.{Twice, Unknown, WrongKind, Arity, ReturnPlace, VoidValue, NoProcess, TooMany, BadSize}
-use Rattle.ppd_check.specs.declared.fault.Limit.TheVariants as L
-use Rattle.ppd_check.specs.Faults.{at}
-use Rattle.ppd_check.specs.Sources.{core, faults, first_fault}
+use Rattle.ppd_check.specs.Sources.{core, faults}
 use Rattle.ppd_check.proofs.RowTables.{place, node, tok, stmt}
 
 -- process a { int i = 3; while (i < 3) { i = i + 1; } print(i); }
@@ -76,18 +73,18 @@ loop_never_entered_accepted = refl
 
 loop_never_entered_core : core (tree_of loop_never_entered) ≡ record {
   exprs = E.Const (pos 3) ∷
-    E.Local 0 ∷
-    E.Const (pos 3) ∷
-    E.Two O.Lt 1 2 ∷
-    E.Local 0 ∷
-    E.Const (pos 1) ∷
-    E.Two O.Add 4 5 ∷
-    E.Local 0 ∷ [];
+      E.Local 0 ∷
+      E.Const (pos 3) ∷
+      E.Two O.Lt 1 2 ∷
+      E.Local 0 ∷
+      E.Const (pos 1) ∷
+      E.Two O.Add 4 5 ∷
+      E.Local 0 ∷ [];
   stmts = stmt (place 1 17) 0 None (K.Set (G.Local 0) 0) ∷
-    stmt (place 1 24) 0 None (K.While 3 (2 ∷ [])) ∷
-    stmt (place 1 40) 0 (Some 1) (K.Set (G.Local 0) 6) ∷
-    stmt (place 1 53) 0 None (K.Print 7) ∷
-    stmt (place 1 63) 0 None (K.End) ∷ [];
+      stmt (place 1 24) 0 None (K.While 3 (2 ∷ [])) ∷
+      stmt (place 1 40) 0 (Some 1) (K.Set (G.Local 0) 6) ∷
+      stmt (place 1 53) 0 None (K.Print 7) ∷
+      stmt (place 1 63) 0 None (K.End) ∷ [];
   bodies = record { name = (97 ∷ []); process = true; params = 0; value = false; cells = 1; locals = (record { name = (105 ∷ []); base = 0; len = None } ∷ []); top = (0 ∷ 1 ∷ 3 ∷ 4 ∷ []); first = 0; end = 5 } ∷ [];
   functions = 0;
   shared = [];
@@ -203,26 +200,26 @@ recursion_accepted = refl
 
 recursion_core : core (tree_of recursion) ≡ record {
   exprs = E.Const (pos 0) ∷
-    E.Local 0 ∷
-    E.Const (pos 0) ∷
-    E.Two O.Gt 1 2 ∷
-    E.Local 0 ∷
-    E.Const (pos 1) ∷
-    E.Two O.Sub 4 5 ∷
-    E.Local 1 ∷
-    E.Const (pos 1) ∷
-    E.Two O.Add 7 8 ∷
-    E.Const (pos 2) ∷
-    E.Local 0 ∷ [];
+      E.Local 0 ∷
+      E.Const (pos 0) ∷
+      E.Two O.Gt 1 2 ∷
+      E.Local 0 ∷
+      E.Const (pos 1) ∷
+      E.Two O.Sub 4 5 ∷
+      E.Local 1 ∷
+      E.Const (pos 1) ∷
+      E.Two O.Add 7 8 ∷
+      E.Const (pos 2) ∷
+      E.Local 0 ∷ [];
   stmts = stmt (place 2 7) 0 None (K.Set (G.Local 1) 0) ∷
-    stmt (place 3 3) 0 None (K.If 3 (2 ∷ []) []) ∷
-    stmt (place 4 5) 0 (Some 1) (K.Call 0 (6 ∷ []) (Some 1)) ∷
-    stmt (place 6 3) 0 None (K.Return (Some 9)) ∷
-    stmt (place 9 7) 1 None (K.Call 0 (10 ∷ []) (Some 0)) ∷
-    stmt (place 10 3) 1 None (K.Print 11) ∷
-    stmt (place 11 1) 1 None (K.End) ∷ [];
+      stmt (place 3 3) 0 None (K.If 3 (2 ∷ []) []) ∷
+      stmt (place 4 5) 0 (Some 1) (K.Call 0 (6 ∷ []) (Some 1)) ∷
+      stmt (place 6 3) 0 None (K.Return (Some 9)) ∷
+      stmt (place 9 7) 1 None (K.Call 0 (10 ∷ []) (Some 0)) ∷
+      stmt (place 10 3) 1 None (K.Print 11) ∷
+      stmt (place 11 1) 1 None (K.End) ∷ [];
   bodies = record { name = (102 ∷ []); process = false; params = 1; value = true; cells = 2; locals = (record { name = (110 ∷ []); base = 0; len = None } ∷ record { name = (114 ∷ []); base = 1; len = None } ∷ []); top = (0 ∷ 1 ∷ 3 ∷ []); first = 0; end = 4 } ∷
-    record { name = (97 ∷ []); process = true; params = 0; value = false; cells = 1; locals = (record { name = (118 ∷ []); base = 0; len = None } ∷ []); top = (4 ∷ 5 ∷ 6 ∷ []); first = 4; end = 7 } ∷ [];
+      record { name = (97 ∷ []); process = true; params = 0; value = false; cells = 1; locals = (record { name = (118 ∷ []); base = 0; len = None } ∷ []); top = (4 ∷ 5 ∷ 6 ∷ []); first = 4; end = 7 } ∷ [];
   functions = 1;
   shared = [];
   starts = [];
@@ -343,29 +340,29 @@ short_circuit_accepted = refl
 
 short_circuit_core : core (tree_of short_circuit) ≡ record {
   exprs = E.Const (pos 0) ∷
-    E.Const (pos 0) ∷
-    E.Const (pos 5) ∷
-    E.Const (pos 1) ∷
-    E.Const (pos 6) ∷
-    E.Local 0 ∷
-    E.Const (pos 2) ∷
-    E.Two O.Lt 5 6 ∷
-    E.Local 0 ∷
-    E.SharedAt 0 2 8 ∷
-    E.Const (pos 0) ∷
-    E.Two O.Ne 9 10 ∷
-    E.And 7 11 ∷
-    E.Local 0 ∷
-    E.Const (pos 1) ∷
-    E.Two O.Add 13 14 ∷
-    E.Local 0 ∷ [];
+      E.Const (pos 0) ∷
+      E.Const (pos 5) ∷
+      E.Const (pos 1) ∷
+      E.Const (pos 6) ∷
+      E.Local 0 ∷
+      E.Const (pos 2) ∷
+      E.Two O.Lt 5 6 ∷
+      E.Local 0 ∷
+      E.SharedAt 0 2 8 ∷
+      E.Const (pos 0) ∷
+      E.Two O.Ne 9 10 ∷
+      E.And 7 11 ∷
+      E.Local 0 ∷
+      E.Const (pos 1) ∷
+      E.Two O.Add 13 14 ∷
+      E.Local 0 ∷ [];
   stmts = stmt (place 3 7) 0 None (K.Set (G.Local 0) 0) ∷
-    stmt (place 4 3) 0 None (K.Set (G.SharedAt 0 2 1) 2) ∷
-    stmt (place 5 3) 0 None (K.Set (G.SharedAt 0 2 3) 4) ∷
-    stmt (place 6 3) 0 None (K.While 12 (4 ∷ [])) ∷
-    stmt (place 6 32) 0 (Some 3) (K.Set (G.Local 0) 15) ∷
-    stmt (place 7 3) 0 None (K.Print 16) ∷
-    stmt (place 8 1) 0 None (K.End) ∷ [];
+      stmt (place 4 3) 0 None (K.Set (G.SharedAt 0 2 1) 2) ∷
+      stmt (place 5 3) 0 None (K.Set (G.SharedAt 0 2 3) 4) ∷
+      stmt (place 6 3) 0 None (K.While 12 (4 ∷ [])) ∷
+      stmt (place 6 32) 0 (Some 3) (K.Set (G.Local 0) 15) ∷
+      stmt (place 7 3) 0 None (K.Print 16) ∷
+      stmt (place 8 1) 0 None (K.End) ∷ [];
   bodies = record { name = (112 ∷ []); process = true; params = 0; value = false; cells = 1; locals = (record { name = (105 ∷ []); base = 0; len = None } ∷ []); top = (0 ∷ 1 ∷ 2 ∷ 3 ∷ 5 ∷ 6 ∷ []); first = 0; end = 7 } ∷ [];
   functions = 0;
   shared = (record { name = (97 ∷ []); base = 0; len = (Some 2) } ∷ []);

@@ -1,20 +1,16 @@
 -- The first broken rules of small sources: names, and their uses.
-use Rattle.std.proofs.Common.{◌≡◌, refl, List, [], ◌∷◌, Some, None, pos, negsuc, true, false, decimal}
-use Rattle.ppd_ast.specs.declared.program.Op.TheVariants as O
-use Rattle.ppd_ast.specs.declared.program.Expr.TheVariants as E
-use Rattle.ppd_ast.specs.declared.program.Target.TheVariants as G
-use Rattle.ppd_ast.specs.declared.program.Kind.TheVariants as K
+use Rattle.std.proofs.Common.{◌≡◌, refl, List, [], ◌∷◌, Some, pos}
 use Rattle.ppd_lex.specs.declared.token.TokenKind.TheVariants as T
 use Rattle.ppd_parse.specs.declared.symbol.Rule.TheVariants as R
 use Rattle.ppd_parse.specs.declared.node.Node.{Node}
 use Rattle.ppd_parse.specs.Tree.{tree_of}
-use Rattle.ppd_check.specs.declared.fault.Cause.TheVariants.{Twice, Unknown, WrongKind, Arity, ReturnPlace, VoidValue, NoProcess, TooMany, BadSize}
+use Rattle.ppd_check.specs.declared.fault.Cause.TheVariants.{Twice, Unknown, WrongKind, Arity, NoProcess, TooMany}
 use Rattle.ppd_check.specs.declared.fault.Limit.TheVariants as L
 use Rattle.ppd_check.specs.Faults.{at}
-use Rattle.ppd_check.specs.Sources.{core, faults, first_fault}
-use Rattle.ppd_check.proofs.RowTables.{place, node, tok, stmt}
+use Rattle.ppd_check.specs.Sources.{first_fault}
+use Rattle.ppd_check.proofs.RowTables.{place, node, tok}
 
--- 
+--
 abbrev nothing : List Node
 nothing =
     node R.Source (1 ∷ []) ∷

@@ -1,5 +1,5 @@
 -- The tables of small sources, evaluated.
-use Rattle.std.proofs.Common.{◌≡◌, refl, List, [], ◌∷◌, Some, None, pos, negsuc, true, false, decimal}
+use Rattle.std.proofs.Common.{◌≡◌, refl, List, [], ◌∷◌, Some, None, pos, true, false}
 use Rattle.ppd_ast.specs.declared.program.Op.TheVariants as O
 use Rattle.ppd_ast.specs.declared.program.Expr.TheVariants as E
 use Rattle.ppd_ast.specs.declared.program.Target.TheVariants as G
@@ -8,10 +8,7 @@ use Rattle.ppd_lex.specs.declared.token.TokenKind.TheVariants as T
 use Rattle.ppd_parse.specs.declared.symbol.Rule.TheVariants as R
 use Rattle.ppd_parse.specs.declared.node.Node.{Node}
 use Rattle.ppd_parse.specs.Tree.{tree_of}
-use Rattle.ppd_check.specs.declared.fault.Cause.TheVariants.{Twice, Unknown, WrongKind, Arity, ReturnPlace, VoidValue, NoProcess, TooMany, BadSize}
-use Rattle.ppd_check.specs.declared.fault.Limit.TheVariants as L
-use Rattle.ppd_check.specs.Faults.{at}
-use Rattle.ppd_check.specs.Sources.{core, faults, first_fault}
+use Rattle.ppd_check.specs.Sources.{core, faults}
 use Rattle.ppd_check.proofs.RowTables.{place, node, tok, stmt}
 
 -- shared int x; process a { x = 2; print(x + 3); }
@@ -57,12 +54,12 @@ smallest_accepted = refl
 
 smallest_core : core (tree_of smallest) ≡ record {
   exprs = E.Const (pos 2) ∷
-    E.Shared 0 ∷
-    E.Const (pos 3) ∷
-    E.Two O.Add 1 2 ∷ [];
+      E.Shared 0 ∷
+      E.Const (pos 3) ∷
+      E.Two O.Add 1 2 ∷ [];
   stmts = stmt (place 1 27) 0 None (K.Set (G.Shared 0) 0) ∷
-    stmt (place 1 34) 0 None (K.Print 3) ∷
-    stmt (place 1 48) 0 None (K.End) ∷ [];
+      stmt (place 1 34) 0 None (K.Print 3) ∷
+      stmt (place 1 48) 0 None (K.End) ∷ [];
   bodies = record { name = (97 ∷ []); process = true; params = 0; value = false; cells = 0; locals = []; top = (0 ∷ 1 ∷ 2 ∷ []); first = 0; end = 3 } ∷ [];
   functions = 0;
   shared = (record { name = (120 ∷ []); base = 0; len = None } ∷ []);
@@ -157,21 +154,21 @@ lock_order_accepted = refl
 
 lock_order_core : core (tree_of lock_order) ≡ record {
   exprs = E.Shared 0 ∷
-    E.Const (pos 1) ∷
-    E.Two O.Add 0 1 ∷
-    E.Shared 0 ∷
-    E.Const (pos 1) ∷
-    E.Two O.Add 3 4 ∷ [];
+      E.Const (pos 1) ∷
+      E.Two O.Add 0 1 ∷
+      E.Shared 0 ∷
+      E.Const (pos 1) ∷
+      E.Two O.Add 3 4 ∷ [];
   stmts = stmt (place 1 38) 0 None (K.P 0) ∷
-    stmt (place 1 44) 0 None (K.Set (G.Shared 0) 2) ∷
-    stmt (place 1 55) 0 None (K.V 0) ∷
-    stmt (place 1 61) 0 None (K.End) ∷
-    stmt (place 1 75) 1 None (K.P 0) ∷
-    stmt (place 1 81) 1 None (K.Set (G.Shared 0) 5) ∷
-    stmt (place 1 92) 1 None (K.V 0) ∷
-    stmt (place 1 98) 1 None (K.End) ∷ [];
+      stmt (place 1 44) 0 None (K.Set (G.Shared 0) 2) ∷
+      stmt (place 1 55) 0 None (K.V 0) ∷
+      stmt (place 1 61) 0 None (K.End) ∷
+      stmt (place 1 75) 1 None (K.P 0) ∷
+      stmt (place 1 81) 1 None (K.Set (G.Shared 0) 5) ∷
+      stmt (place 1 92) 1 None (K.V 0) ∷
+      stmt (place 1 98) 1 None (K.End) ∷ [];
   bodies = record { name = (97 ∷ []); process = true; params = 0; value = false; cells = 0; locals = []; top = (0 ∷ 1 ∷ 2 ∷ 3 ∷ []); first = 0; end = 4 } ∷
-    record { name = (98 ∷ []); process = true; params = 0; value = false; cells = 0; locals = []; top = (4 ∷ 5 ∷ 6 ∷ 7 ∷ []); first = 4; end = 8 } ∷ [];
+      record { name = (98 ∷ []); process = true; params = 0; value = false; cells = 0; locals = []; top = (4 ∷ 5 ∷ 6 ∷ 7 ∷ []); first = 4; end = 8 } ∷ [];
   functions = 0;
   shared = (record { name = (120 ∷ []); base = 0; len = None } ∷ []);
   starts = ((pos 0) ∷ []);
@@ -275,21 +272,21 @@ bounded_channel_accepted = refl
 
 bounded_channel_core : core (tree_of bounded_channel) ≡ record {
   exprs = E.Const (pos 7) ∷
-    E.Const (pos 8) ∷
-    E.Const (pos 2) ∷
-    E.Const (pos 0) ∷
-    E.Shared 0 ∷ [];
+      E.Const (pos 8) ∷
+      E.Const (pos 2) ∷
+      E.Const (pos 0) ∷
+      E.Shared 0 ∷ [];
   stmts = stmt (place 1 38) 0 None (K.Send 0 0) ∷
-    stmt (place 1 50) 0 None (K.Send 0 1) ∷
-    stmt (place 1 62) 0 None (K.Set (G.Shared 0) 2) ∷
-    stmt (place 1 69) 0 None (K.End) ∷
-    stmt (place 1 87) 1 None (K.Set (G.Local 0) 3) ∷
-    stmt (place 1 90) 1 None (K.Print 4) ∷
-    stmt (place 1 100) 1 None (K.Recv 0 0) ∷
-    stmt (place 1 113) 1 None (K.Recv 0 0) ∷
-    stmt (place 1 126) 1 None (K.End) ∷ [];
+      stmt (place 1 50) 0 None (K.Send 0 1) ∷
+      stmt (place 1 62) 0 None (K.Set (G.Shared 0) 2) ∷
+      stmt (place 1 69) 0 None (K.End) ∷
+      stmt (place 1 87) 1 None (K.Set (G.Local 0) 3) ∷
+      stmt (place 1 90) 1 None (K.Print 4) ∷
+      stmt (place 1 100) 1 None (K.Recv 0 0) ∷
+      stmt (place 1 113) 1 None (K.Recv 0 0) ∷
+      stmt (place 1 126) 1 None (K.End) ∷ [];
   bodies = record { name = (97 ∷ []); process = true; params = 0; value = false; cells = 0; locals = []; top = (0 ∷ 1 ∷ 2 ∷ 3 ∷ []); first = 0; end = 4 } ∷
-    record { name = (98 ∷ []); process = true; params = 0; value = false; cells = 1; locals = (record { name = (118 ∷ []); base = 0; len = None } ∷ []); top = (4 ∷ 5 ∷ 6 ∷ 7 ∷ 8 ∷ []); first = 4; end = 9 } ∷ [];
+      record { name = (98 ∷ []); process = true; params = 0; value = false; cells = 1; locals = (record { name = (118 ∷ []); base = 0; len = None } ∷ []); top = (4 ∷ 5 ∷ 6 ∷ 7 ∷ 8 ∷ []); first = 4; end = 9 } ∷ [];
   functions = 0;
   shared = (record { name = (120 ∷ []); base = 0; len = None } ∷ []);
   starts = ((pos 0) ∷ []);
@@ -354,15 +351,15 @@ array_cells_accepted = refl
 
 array_cells_core : core (tree_of array_cells) ≡ record {
   exprs = E.Const (pos 0) ∷
-    E.Const (pos 1) ∷
-    E.Const (pos 1) ∷
-    E.Const (pos 2) ∷ [];
+      E.Const (pos 1) ∷
+      E.Const (pos 1) ∷
+      E.Const (pos 2) ∷ [];
   stmts = stmt (place 1 30) 0 None (K.Set (G.SharedAt 0 2 0) 1) ∷
-    stmt (place 1 40) 0 None (K.End) ∷
-    stmt (place 1 54) 1 None (K.Set (G.SharedAt 0 2 2) 3) ∷
-    stmt (place 1 64) 1 None (K.End) ∷ [];
+      stmt (place 1 40) 0 None (K.End) ∷
+      stmt (place 1 54) 1 None (K.Set (G.SharedAt 0 2 2) 3) ∷
+      stmt (place 1 64) 1 None (K.End) ∷ [];
   bodies = record { name = (112 ∷ []); process = true; params = 0; value = false; cells = 0; locals = []; top = (0 ∷ 1 ∷ []); first = 0; end = 2 } ∷
-    record { name = (113 ∷ []); process = true; params = 0; value = false; cells = 0; locals = []; top = (2 ∷ 3 ∷ []); first = 2; end = 4 } ∷ [];
+      record { name = (113 ∷ []); process = true; params = 0; value = false; cells = 0; locals = []; top = (2 ∷ 3 ∷ []); first = 2; end = 4 } ∷ [];
   functions = 0;
   shared = (record { name = (97 ∷ []); base = 0; len = (Some 2) } ∷ []);
   starts = ((pos 0) ∷ (pos 0) ∷ []);
@@ -442,16 +439,16 @@ unread_snapshot_accepted = refl
 
 unread_snapshot_core : core (tree_of unread_snapshot) ≡ record {
   exprs = E.Shared 1 ∷
-    E.Shared 0 ∷
-    E.Const (pos 5) ∷ [];
+      E.Shared 0 ∷
+      E.Const (pos 5) ∷ [];
   stmts = stmt (place 1 41) 0 None (K.P 0) ∷
-    stmt (place 1 47) 0 None (K.If 0 (2 ∷ []) []) ∷
-    stmt (place 1 56) 0 (Some 1) (K.Print 1) ∷
-    stmt (place 1 68) 0 None (K.End) ∷
-    stmt (place 1 82) 1 None (K.Set (G.Shared 0) 2) ∷
-    stmt (place 1 89) 1 None (K.End) ∷ [];
+      stmt (place 1 47) 0 None (K.If 0 (2 ∷ []) []) ∷
+      stmt (place 1 56) 0 (Some 1) (K.Print 1) ∷
+      stmt (place 1 68) 0 None (K.End) ∷
+      stmt (place 1 82) 1 None (K.Set (G.Shared 0) 2) ∷
+      stmt (place 1 89) 1 None (K.End) ∷ [];
   bodies = record { name = (112 ∷ []); process = true; params = 0; value = false; cells = 0; locals = []; top = (0 ∷ 1 ∷ 3 ∷ []); first = 0; end = 4 } ∷
-    record { name = (113 ∷ []); process = true; params = 0; value = false; cells = 0; locals = []; top = (4 ∷ 5 ∷ []); first = 4; end = 6 } ∷ [];
+      record { name = (113 ∷ []); process = true; params = 0; value = false; cells = 0; locals = []; top = (4 ∷ 5 ∷ []); first = 4; end = 6 } ∷ [];
   functions = 0;
   shared = (record { name = (120 ∷ []); base = 0; len = None } ∷ record { name = (121 ∷ []); base = 1; len = None } ∷ []);
   starts = ((pos 0) ∷ (pos 0) ∷ []);
@@ -521,16 +518,16 @@ callee_write_accepted = refl
 
 callee_write_core : core (tree_of callee_write) ≡ record {
   exprs = E.Const (pos 4) ∷
-    E.Const (pos 1) ∷
-    E.Shared 0 ∷ [];
+      E.Const (pos 1) ∷
+      E.Shared 0 ∷ [];
   stmts = stmt (place 1 26) 0 None (K.Set (G.Shared 0) 0) ∷
-    stmt (place 1 33) 0 None (K.Return None) ∷
-    stmt (place 1 47) 1 None (K.Set (G.Shared 0) 1) ∷
-    stmt (place 1 54) 1 None (K.Call 0 [] None) ∷
-    stmt (place 1 59) 1 None (K.Print 2) ∷
-    stmt (place 1 69) 1 None (K.End) ∷ [];
+      stmt (place 1 33) 0 None (K.Return None) ∷
+      stmt (place 1 47) 1 None (K.Set (G.Shared 0) 1) ∷
+      stmt (place 1 54) 1 None (K.Call 0 [] None) ∷
+      stmt (place 1 59) 1 None (K.Print 2) ∷
+      stmt (place 1 69) 1 None (K.End) ∷ [];
   bodies = record { name = (102 ∷ []); process = false; params = 0; value = false; cells = 0; locals = []; top = (0 ∷ 1 ∷ []); first = 0; end = 2 } ∷
-    record { name = (97 ∷ []); process = true; params = 0; value = false; cells = 0; locals = []; top = (2 ∷ 3 ∷ 4 ∷ 5 ∷ []); first = 2; end = 6 } ∷ [];
+      record { name = (97 ∷ []); process = true; params = 0; value = false; cells = 0; locals = []; top = (2 ∷ 3 ∷ 4 ∷ 5 ∷ []); first = 2; end = 6 } ∷ [];
   functions = 1;
   shared = (record { name = (120 ∷ []); base = 0; len = None } ∷ []);
   starts = ((pos 0) ∷ []);

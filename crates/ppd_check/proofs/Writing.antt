@@ -1,5 +1,5 @@
 -- What is written one after another is what both say, and one statement with its expressions.
-use Rattle.std.proofs.Common.{◌≡◌, refl, sym, ap, ◌∙◌, ℕ, suc, ◌+◌, arith, List, [], ◌∷◌, ◌++◌, length, Option, Some, None, Result, Ok, Err, OnOk}
+use Rattle.std.proofs.Common.{◌≡◌, refl, sym, ap, ◌∙◌, ℕ, suc, ◌+◌, arith, List, [], ◌∷◌, ◌++◌, length, Option, Some, Result, Ok, Err, OnOk}
 use Rattle.std.proofs.lemmas.List.{append_assoc, append-nil, length-append}
 use Rattle.ppd_ast.specs.declared.program.Expr.{Expr}
 use Rattle.ppd_ast.specs.declared.program.Stmt.{Stmt}
@@ -14,8 +14,8 @@ use Rattle.ppd_check.specs.Table.{weight, weights, flat, flats, root, roots, ter
 use Rattle.ppd_check.specs.Forms.{Added}
 use Rattle.ppd_check.specs.Writing.{Wrote, AddedAll}
 use Rattle.ppd_check.proofs.First.{found_in_both, first_of_both_none}
-use Rattle.ppd_check.proofs.Flat.{length_flat, added_length}
-use Rattle.ppd_check.proofs.Joined.{flats_append, terms_join, numbers_join, stmts_join, weights_append}
+use Rattle.ppd_check.proofs.Flat.{length_flat}
+use Rattle.ppd_check.proofs.Joined.{flats_append, terms_join, numbers_join, stmts_join}
 
 pub length_flats : (m : ℕ) (ts : List Term) → length (flats m ts) ≡ weights ts
 length_flats m [] = refl

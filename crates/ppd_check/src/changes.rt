@@ -44,13 +44,7 @@ pub fn write_set(
     ensures { OnOk result (WroteSimple site (store (goal_said nodes.now goal.entry) (plain (operand_formula nodes.now operand))) frame.now out.old out.new row.old row.new) }
 {
     let place = place_of(goal);
-    let target = write_spot(
-        nodes,
-        &frame.scopes,
-        goal,
-        &mut out.exprs,
-        &mut out.found,
-    )?;
+    let target = write_spot(nodes, &frame.scopes, goal, &mut out.exprs, &mut out.found)?;
     let number = formula(
         nodes,
         &frame.scopes,
@@ -78,13 +72,7 @@ pub fn write_change(
     ensures { OnOk result (WroteSimple site (change (goal_said nodes.now goal.entry) op (operand_formula nodes.now operand)) frame.now out.old out.new row.old row.new) }
 {
     let place = place_of(goal);
-    let target = write_spot(
-        nodes,
-        &frame.scopes,
-        goal,
-        &mut out.exprs,
-        &mut out.found,
-    )?;
+    let target = write_spot(nodes, &frame.scopes, goal, &mut out.exprs, &mut out.found)?;
     let a = write_goal(nodes, &frame.scopes, goal, &mut out.exprs)?;
     let b = formula(
         nodes,

@@ -122,5 +122,11 @@ pub fn write_send(
         &mut out.exprs,
         &mut out.found,
     )?;
-    put_stmt(out, site, place_at(nodes, id, 0), Kind::Send(chan, number), row)
+    put_stmt(
+        out,
+        site,
+        place_at(nodes, id, 0),
+        Kind::Send(chan, number),
+        row,
+    )
 }

@@ -18,8 +18,8 @@ ghost use Rattle.ppd_check.specs.Writing.{WroteAct, WroteSimple};
 use crate::calls::{arguments, channel, function};
 use crate::fault::Fault;
 use crate::formulas::{element_expr, formula, put, scalar_expr, used};
-use crate::meaning::Meaning;
 use crate::frame::{Frame, declare};
+use crate::meaning::Meaning;
 use crate::nodes::{Label, label_at};
 use crate::scopes::Scopes;
 use crate::values::{Goal, Value};
@@ -46,14 +46,7 @@ pub fn write_call(
 {
     let name = label_at(nodes, id, 0);
     let mut args = Ids::new(alloc);
-    arguments(
-        nodes,
-        scopes,
-        id,
-        &mut out.exprs,
-        &mut args,
-        &mut out.found,
-    )?;
+    arguments(nodes, scopes, id, &mut out.exprs, &mut args, &mut out.found)?;
     let number = function(
         scopes,
         name.text,
@@ -94,7 +87,13 @@ pub fn write_put(
     match value {
         Value::Plain(operand) => {
             let number = formula(nodes, scopes, operand, &mut out.exprs, &mut out.found)?;
-            put_stmt(out, site, place, Kind::Set(Target::Local(cell), number), row)
+            put_stmt(
+                out,
+                site,
+                place,
+                Kind::Set(Target::Local(cell), number),
+                row,
+            )
         }
         Value::Result(id) => write_call(
             alloc,
