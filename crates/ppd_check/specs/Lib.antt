@@ -12,3 +12,5 @@ pub mod Table
 pub mod Sources
 pub mod Nodes
 pub mod Forms
+pub mod Placed
+pub mod Read

@@ -8,6 +8,8 @@ mod formulas;
 mod frame;
 mod meaning;
 mod nodes;
+mod parsed;
+mod places;
 mod scopes;
 
 pub use error::{CheckError, SourceError};
