@@ -1,8 +1,11 @@
+pub mod Arguments
 pub mod First
 pub mod Flat
+pub mod Joined
 pub mod Lookup
 pub mod PastMost
 pub mod RowsOfFaults
 pub mod RowsOfForms
 pub mod RowsOfPrograms
 pub mod Trees
+pub mod Writing

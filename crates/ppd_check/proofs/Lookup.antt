@@ -1,10 +1,10 @@
 -- Looking up a name in maps, the last map first.
-use Rattle.std.proofs.Common.{◌≡◌, refl, sym, ap, ◌∙◌, ℕ, ◌+◌, ◌<◌, ◌≤◌, ◌-◌, arith, Bool, true, false, cond, List, [], ◌∷◌, ◌++◌, map, reverse, take, length, get_or, Option, Some, nat_eq, Vec, is_some, if◌then◌else◌}
+use Rattle.std.proofs.Common.{◌≡◌, refl, sym, ap, ◌∙◌, ℕ, ◌+◌, ◌<◌, ◌≤◌, ◌-◌, arith, Bool, true, false, cond, List, [], ◌∷◌, ◌++◌, map, reverse, take, length, get_or, set, zero, suc, Result, Ok, Err, OnOk, Option, Some, nat_eq, Vec, is_some, if◌then◌else◌}
 use Rattle.std.specs.Cmp.Lexicographic.{pointwise}
 use Rattle.std.specs.Map.{lookup}
-use Rattle.std.proofs.lemmas.List.{take_more, map-append, reverse-append}
+use Rattle.std.proofs.lemmas.List.{take_more, map-append, reverse-append, length-reverse, length-map}
 use Rattle.indexmap.specs.IndexMap.{IndexMap, get_by, insert_entry}
-use Rattle.ppd_check.specs.Names.{Meaning, Scope, found, else_in, meaning, scope_of, declare}
+use Rattle.ppd_check.specs.Names.{Meaning, Scope, found, else_in, meaning, scope_of, declare, in_innermost}
 
 true_not_false : true ≡ false → ⊥
 true_not_false h = grind (arith, h)
@@ -22,6 +22,10 @@ declare_last s x v h = go (is_some (found s x)) h
     go : (b : Bool) → b ≡ false → s ++ (x, v) ∷ [] ≡ (if b then s else s ++ (x, v) ∷ [])
     go false e = refl
     go true e = absurd (true_not_false e)
+
+innermost_push : (g : Scope → Scope) (l : List Scope) (z : Scope) → 0 < length l → in_innermost g (l ++ z ∷ []) ≡ in_innermost g l ++ z ∷ []
+innermost_push g [] z h = absurd (omega (arith, h))
+innermost_push g (s ∷ ss) z h = refl
 
 module _ {A : Type 0} where
   abbrev pub is_key : List ℕ → Vec ℕ A → Bool
@@ -68,3 +72,22 @@ module _ {A : Type 0} where
       ∙ map-append (λ e. (e.0.items, e.1)) m.entries ((k, v) ∷ [])
       ∙ ap (λ y. scope_of m ++ (y, v) ∷ []) is
       ∙ declare_last (scope_of m) x v h
+
+  -- a change of the last map is one of the innermost scope
+  pub last_set : {S : Type 0} (g : Scope → Scope) (ms : List (IndexMap (Vec ℕ A) Meaning S)) (n : ℕ) (y d : IndexMap (Vec ℕ A) Meaning S) → n + 1 ≡ length ms
+      → scope_of y ≡ g (scope_of (get_or ms n d)) → reverse (map scope_of (set ms n y)) ≡ in_innermost g (reverse (map scope_of ms))
+  last_set g [] n y d h e = absurd (omega (arith, h))
+  last_set g (x ∷ []) zero y d h e = ap (λ s. s ∷ []) e
+  last_set g (x ∷ []) (suc n) y d h e = absurd (omega (arith, h))
+  last_set g (x ∷ (x' ∷ xs)) zero y d h e = absurd (omega (arith, h))
+  last_set g (x ∷ (x' ∷ xs)) (suc n) y d h e =
+      let long : length (reverse (map scope_of (x' ∷ xs))) ≡ length (x' ∷ xs) = length-reverse (map scope_of (x' ∷ xs)) ∙ length-map (x' ∷ xs) scope_of in
+      let rest : reverse (map scope_of (set (x' ∷ xs) n y)) ≡ in_innermost g (reverse (map scope_of (x' ∷ xs))) = last_set g (x' ∷ xs) n y d (omega (arith, h)) e in
+      reverse-append (scope_of x ∷ []) (map scope_of (set (x' ∷ xs) n y))
+      ∙ ap (λ l. l ++ scope_of x ∷ []) rest
+      ∙ sym (innermost_push g (reverse (map scope_of (x' ∷ xs))) (scope_of x) (omega (arith, long)))
+      ∙ ap (in_innermost g) (sym (reverse-append (scope_of x ∷ []) (map scope_of (x' ∷ xs))))
+
+pub ok_map : {X E : Type 0} (r : Result X E) (P Q : Type 0) → (P → Q) → OnOk r P → OnOk r Q
+ok_map (Ok x) P Q f p = f p
+ok_map (Err e) P Q f p = tt

@@ -10,7 +10,8 @@ use Rattle.ppd_parse.specs.Grammar.{forest}
 use Rattle.ppd_parse.specs.Table.{no_shape, shape_or}
 use Rattle.ppd_parse.specs.Tree.{trees_from, IsTable}
 use Rattle.ppd_parse.specs.declared.symbol.Rule.TheVariants as R
-use Rattle.ppd_check.specs.Reading.{Phrase, said, all_said, made, token, phrase, as_token, nowhere}
+use Rattle.ppd_check.specs.Reading.{Phrase, said, all_said, made, token, phrase, as_token, nowhere, as_formula, called, as_value, as_goal, name_of}
+use Rattle.ppd_check.specs.Syntax.{plain, scalar}
 use Rattle.ppd_check.specs.declared.nodes.Operand.{Operand}
 use Rattle.ppd_check.specs.declared.nodes.Operand.TheVariants.{Constant, At}
 use Rattle.ppd_check.specs.Nodes.{tree_at, phrase_of, phrases_below, children_of, no_node, SaysBy}
@@ -128,3 +129,25 @@ token_told ns c n (Some t) p table h is e s =
 abbrev pub left_at : List Node → Operand → ℕ
 left_at ns (Constant n) = 0
 left_at ns (At i) = 2 * (length ns - i) + 1
+
+pub child_said : (ns : List Node) (i k : ℕ) (o : Option ℕ) → o ≡ slice_get (children_of ns i) k
+    → MatchOption o (phrase (phrases_below ns i) k ≡ token nowhere) (λ c. phrase (phrases_below ns i) k ≡ phrase_of ns c)
+child_said ns i k None h = phrase_below ns i k None h
+child_said ns i k (Some c) h = phrase_below ns i k (Some c) h
+
+-- what is no call, no value and no place
+pub called_other : (r : Rule) (ps : List Phrase) (p : Phrase) → (r ≡ R.Call → ⊥) → SaysBy r ps p → called p ≡ plain (as_formula p)
+called_other R.Call ps p h e = absurd (h refl)
+called_other R.Leaf ps p h e = ap called e.1 ∙ sym (ap (λ q. plain (as_formula q)) e.1)
+called_other r ps p h e = ap called e ∙ sym (ap (λ q. plain (as_formula q)) e)
+
+pub value_other : (r : Rule) (ps : List Phrase) (p : Phrase) → (r ≡ R.Call → ⊥) → (r ≡ R.Value → ⊥) → SaysBy r ps p → as_value p ≡ plain (as_formula p)
+value_other R.Call ps p h i e = absurd (h refl)
+value_other R.Value ps p h i e = absurd (i refl)
+value_other R.Leaf ps p h i e = ap as_value e.1 ∙ sym (ap (λ q. plain (as_formula q)) e.1)
+value_other r ps p h i e = ap as_value e ∙ sym (ap (λ q. plain (as_formula q)) e)
+
+pub goal_other : (r : Rule) (ps : List Phrase) (p : Phrase) → (r ≡ R.Place → ⊥) → SaysBy r ps p → as_goal p ≡ scalar (name_of nowhere)
+goal_other R.Place ps p h e = absurd (h refl)
+goal_other R.Leaf ps p h e = ap as_goal e.1
+goal_other r ps p h e = ap as_goal e

@@ -14,3 +14,5 @@ pub mod Nodes
 pub mod Forms
 pub mod Placed
 pub mod Read
+pub mod Values
+pub mod Writing

@@ -26,6 +26,14 @@ meaning (scope ∷ scopes) x = else_in (found scope x) (meaning scopes x)
 abbrev pub declare : List ℕ → Meaning → Scope → Scope
 declare x m scope = if is_some (found scope x) then scope else scope ++ (x, m) ∷ []
 
+abbrev pub in_innermost : (Scope → Scope) → List Scope → List Scope
+in_innermost f [] = []
+in_innermost f (s ∷ ss) = f s ∷ ss
+
+abbrev pub innermost : List Scope → Scope
+innermost [] = []
+innermost (s ∷ ss) = s
+
 abbrev pub is_scalar : Meaning → Bool
 is_scalar (shared base None) = true
 is_scalar (local base None) = true

@@ -102,10 +102,14 @@ abbrev pub as_goal : Phrase → Goal
 as_goal (goal g) = g
 as_goal _ = scalar (name_of nowhere)
 
+-- a call or an expression
+abbrev pub called : Phrase → Value
+called (calling f args) = result f args
+called p = plain (as_formula p)
+
 abbrev pub as_value : Phrase → Value
 as_value (value v) = v
-as_value (calling f args) = result f args
-as_value p = plain (as_formula p)
+as_value p = called p
 
 abbrev pub as_row : Phrase → Row
 as_row (row r) = r
@@ -175,11 +179,14 @@ unary ps = go (kind (phrase ps 0))
     go K.Number = number (value_of (as_token (phrase ps 0)).kind)
     go _ = formula_at ps 0
 
+abbrev pub is_formula : Phrase → Bool
+is_formula (formula f) = true
+is_formula _ = false
+
 -- the expressions among the phrases
 abbrev pub formulas : List Phrase → List Formula
 formulas [] = []
-formulas (formula f ∷ ps) = f ∷ formulas ps
-formulas (p ∷ ps) = formulas ps
+formulas (p ∷ ps) = if is_formula p then as_formula p ∷ formulas ps else formulas ps
 
 -- Statements.
 
@@ -187,7 +194,7 @@ abbrev pub goal_of : List Phrase → Goal
 goal_of ps = if is_bracket (kind (phrase ps 1)) then item (name_at ps 0) (formula_at ps 2) else scalar (name_at ps 0)
 
 abbrev pub value_said : List Phrase → Value
-value_said ps = if is_recv (kind (phrase ps 0)) then received (name_at ps 2) else as_value (phrase ps 0)
+value_said ps = if is_recv (kind (phrase ps 0)) then received (name_at ps 2) else called (phrase ps 0)
 
 abbrev pub local_item : List Phrase → Simple
 local_item ps =

@@ -20,12 +20,12 @@ use Rattle.ppd_check.specs.declared.frame.Variable.{Variable}
 use Rattle.ppd_check.specs.declared.frame.Frame.{Frame}
 use Rattle.ppd_check.specs.Fitted.{as_byte, as_short, as_word}
 use Rattle.ppd_check.specs.Faults.{at, unless, if_so, by_then, first}
-use Rattle.ppd_check.specs.Names.{Meaning, Scope, declare}
+use Rattle.ppd_check.specs.Names.{Meaning, Scope, declare, innermost}
 use Rattle.ppd_check.specs.Names as N
 use Rattle.ppd_check.specs.Code.{Code, done, act, join, places}
 use Rattle.ppd_check.specs.Code as C
 use Rattle.ppd_check.specs.Table.{stmts, numbers, terms, flats, weights}
-use Rattle.ppd_check.specs.Statements.{after_cells, variable_of, innermost, declared, after_row, row_code, row_faults, twice_faults, size_faults}
+use Rattle.ppd_check.specs.Statements.{after_cells, variable_of, declared, after_row, row_code, row_faults, twice_faults, size_faults}
 use Rattle.ppd_check.specs.Syntax.{Name, Simple, Row, stop, simple, block, choice, repeat, count, give_back, Block, Item, shared, shared_array, semaphore, channel, function, process, Source}
 use Rattle.ppd_check.specs.Reading.{source_of}
 

@@ -10,7 +10,7 @@ use Rattle.ppd_check.specs.declared.frame.Variable.{Variable}
 use Rattle.ppd_check.specs.declared.frame.Frame.{Frame}
 use Rattle.ppd_check.specs.Fitted.{as_short}
 use Rattle.ppd_check.specs.Faults.{if_so, unless}
-use Rattle.ppd_check.specs.Names.{Meaning, Scope, meaning, found, declare, semaphore_of, channel_of, function_of, is_semaphore, is_channel}
+use Rattle.ppd_check.specs.Names.{Meaning, Scope, meaning, found, declare, innermost, in_innermost, semaphore_of, channel_of, function_of, is_semaphore, is_channel}
 use Rattle.ppd_check.specs.Names as N
 use Rattle.ppd_check.specs.Code.{Spot, Act, Code, done, act, loop, join, acts}
 use Rattle.ppd_check.specs.Code as C
@@ -31,14 +31,6 @@ after_cells n length = as_short (n + size length)
 
 abbrev pub variable_of : Name → Option ℕ → Variable
 variable_of x length = record { name = x.text; length = length; place = x.place }
-
-abbrev pub in_innermost : (Scope → Scope) → List Scope → List Scope
-in_innermost f [] = []
-in_innermost f (s ∷ ss) = f s ∷ ss
-
-abbrev pub innermost : List Scope → Scope
-innermost [] = []
-innermost (s ∷ ss) = s
 
 -- one more variable of the body, which its name means from here on
 abbrev pub declared : Name → Option ℕ → Frame → Frame

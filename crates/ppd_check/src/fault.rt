@@ -1,7 +1,6 @@
 // The rules that a source can break.
-ghost use Rattle.std.specs.Prelude.{◌≡◌};
-ghost use Rattle.ppd_check.specs.Faults.{is_before, rank, limit_rank, first_of_both};
-ghost use Rattle.std.specs.Prelude.{Some};
+ghost use Rattle.std.specs.Prelude.{◌≡◌, Some};
+ghost use Rattle.ppd_check.specs.Faults.{is_before, rank, limit_rank, first, first_of_both, unless, if_so};
 
 use ppd_ast::Place;
 
@@ -102,5 +101,25 @@ pub fn note(found: &mut Option<Fault>, place: Place, cause: Cause)
     match found {
         Some(old) if !fault.is_before(old) => {}
         _ => *found = Some(fault),
+    }
+}
+
+// Notes a rule unless the test holds.
+#[tactic(auto, using(crate::proofs::First::first_of_both_none))]
+pub fn note_unless(found: &mut Option<Fault>, holds: bool, place: Place, cause: Cause)
+    ensures { found.new ≡ first_of_both found.old (first (unless holds place cause)) }
+{
+    if !holds {
+        note(found, place, cause);
+    }
+}
+
+// Notes a rule where the test holds.
+#[tactic(auto, using(crate::proofs::First::first_of_both_none))]
+pub fn note_if(found: &mut Option<Fault>, holds: bool, place: Place, cause: Cause)
+    ensures { found.new ≡ first_of_both found.old (first (if_so holds place cause)) }
+{
+    if holds {
+        note(found, place, cause);
     }
 }

@@ -19,7 +19,7 @@ use ppd_ast::{Expr, Memory, Place, Seq};
 use ppd_parse::Node;
 
 // One more expression; its number.
-fn put(exprs: &mut Seq<Expr>, expr: Expr) -> Result<u32, Memory>
+pub fn put(exprs: &mut Seq<Expr>, expr: Expr) -> Result<u32, Memory>
     ensures added { OnOk result (exprs.new ≡ exprs.old ++ expr ∷ []) }
     ensures number { IfOk result (λ n. n ≡ length exprs.old) }
 {
@@ -32,7 +32,7 @@ fn put(exprs: &mut Seq<Expr>, expr: Expr) -> Result<u32, Memory>
 
 // What a variable's name means, with the fault of a name that is not used as what it is.
 #[tactic(auto, using(crate::proofs::First::first_of_both_none))]
-fn used(
+pub fn used(
     scopes: &Scopes,
     text: &[u8],
     place: Place,
@@ -55,7 +55,7 @@ fn used(
 }
 
 // The expression that reads a scalar.
-fn scalar_expr(meaning: Option<Meaning>) -> Expr
+pub fn scalar_expr(meaning: Option<Meaning>) -> Expr
     ensures { (m : ℕ) → flat m (read_scalar meaning) ≡ result ∷ [] }
 {
     match meaning {
@@ -66,7 +66,7 @@ fn scalar_expr(meaning: Option<Meaning>) -> Expr
 }
 
 // The expression that reads an element, whose index has number `at`.
-fn element_expr(meaning: Option<Meaning>, at: u32) -> Expr
+pub fn element_expr(meaning: Option<Meaning>, at: u32) -> Expr
     ensures { (m : ℕ) (i : Term) → at ≡ root m i → flat m (read_element meaning i) ≡ flat m i ++ result ∷ [] }
 {
     match meaning {

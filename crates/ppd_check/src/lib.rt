@@ -1,6 +1,7 @@
 //! The core form of a tree, or the first rule that its source breaks.
 #![tactic(auto)]
 
+mod calls;
 mod error;
 mod fault;
 mod forms;
@@ -11,6 +12,10 @@ mod nodes;
 mod parsed;
 mod places;
 mod scopes;
+mod simple;
+mod stores;
+mod values;
+mod writer;
 
 pub use error::{CheckError, SourceError};
 pub use fault::Limit;

@@ -1,8 +1,9 @@
 // What the nodes of a table say, by their numbers. Child numbers count from 0; a child that is missing says nothing.
 ghost use Rattle.std.specs.Prelude.{◌≡◌, ◌<◌, ◌≤◌, ◌^◌, length, MatchOption, IfSome, slice_get};
+ghost use Rattle.std.specs.List.{All};
 ghost use Rattle.ppd_parse.specs.Tree.{IsTable};
 ghost use Rattle.ppd_check.specs.Nodes.{phrase_of, phrases_below, children_of, SaysBy, label_name, operand_formula, IsOperand, IsAfter};
-ghost use Rattle.ppd_check.specs.Reading.{phrase, as_token, nowhere, kind, value_of, formula_at, place_at, name_at, text_of};
+ghost use Rattle.ppd_check.specs.Reading.{phrase, token, as_token, nowhere, kind, value_of, formula_at, place_at, name_at, text_of};
 
 use ppd_ast::Place;
 use ppd_lex::{Token, TokenKind};
@@ -22,8 +23,18 @@ pub struct Label<'a> {
     pub place: Place,
 }
 
+// The numbers of a node's children.
+pub fn children_of(nodes: &[Node], id: u32) -> &[u32]
+    requires table { IsTable nodes.now }
+    requires within { id < length nodes.now }
+    ensures children { result.now ≡ children_of nodes.now id }
+    ensures inside { All (λ c. (id < c) × (c < length nodes.now)) result.now }
+{
+    nodes[id as usize].children.as_slice()
+}
+
 // The number of the child.
-pub fn child_at(nodes: &[Node], id: u32, k: usize) -> Option<u32>
+fn child_id(nodes: &[Node], id: u32, k: usize) -> Option<u32>
     requires table { IsTable nodes.now }
     requires within { id < length nodes.now }
     ensures child { result ≡ slice_get (children_of nodes.now id) k }
@@ -31,6 +42,18 @@ pub fn child_at(nodes: &[Node], id: u32, k: usize) -> Option<u32>
     ensures after { IfSome result (λ c. id < c) }
 {
     nodes[id as usize].children.as_slice().get(k).copied()
+}
+
+// The number of the child, and what it says.
+pub fn child_at(nodes: &[Node], id: u32, k: usize) -> Option<u32>
+    requires table { IsTable nodes.now }
+    requires within { id < length nodes.now }
+    ensures child { result ≡ slice_get (children_of nodes.now id) k }
+    ensures within { IfSome result (λ c. c < length nodes.now) }
+    ensures after { IfSome result (λ c. id < c) }
+    ensures said { MatchOption result (phrase (phrases_below nodes.now id) k ≡ token nowhere) (λ c. phrase (phrases_below nodes.now id) k ≡ phrase_of nodes.now c) }
+{
+    child_id(nodes, id, k)
 }
 
 // The rule of a node, `Leaf` for a token.

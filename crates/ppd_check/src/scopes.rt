@@ -1,6 +1,6 @@
 // What names mean where they stand.
 ghost use Rattle.std.specs.Prelude.{◌≡◌, [], ◌∷◌, reverse, map, drop, is_some, OnOk, OnErr, IfOk};
-ghost use Rattle.ppd_check.specs.Names.{meaning, declare, found, scope_of};
+ghost use Rattle.ppd_check.specs.Names.{meaning, declare, found, scope_of, innermost, in_innermost};
 
 use crate::meaning::Meaning;
 use indexmap::IndexMap;
@@ -48,6 +48,18 @@ impl Scopes {
         ensures { self.new ≡ drop 1 self.old }
     {
         let _ = self.maps.pop();
+    }
+
+    // Declares a name in the innermost scope, and answers whether it was there before.
+    pub fn declare(&mut self, alloc: Global, name: &[u8], meaning: Meaning) -> Result<bool, Memory>
+        ensures twice { IfOk result (λ twice. twice ≡ is_some (found (innermost self.old) name.now)) }
+        ensures ok { OnOk result (self.new ≡ in_innermost (declare name.now meaning) self.old) }
+    {
+        let count = self.maps.len();
+        if count == 0 {
+            return Ok(false);
+        }
+        declare_in(alloc, &mut self.maps[count - 1], name, meaning)
     }
 
     // What a name means here: its declaration in the innermost scope that has one.
