@@ -16,3 +16,4 @@ pub mod Placed
 pub mod Read
 pub mod Values
 pub mod Writing
+pub mod Declaring

@@ -7,6 +7,7 @@ mod fault;
 mod forms;
 mod formulas;
 mod frame;
+mod globals;
 mod meaning;
 mod nodes;
 mod parsed;
