@@ -1,4 +1,5 @@
 pub mod Arguments
+pub mod Declarations
 pub mod First
 pub mod Flat
 pub mod Joined

@@ -17,3 +17,4 @@ pub mod Read
 pub mod Values
 pub mod Writing
 pub mod Declaring
+pub mod Holding
