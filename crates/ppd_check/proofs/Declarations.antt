@@ -13,7 +13,7 @@ use Rattle.ppd_check.specs.Faults.{first, first_of_both}
 use Rattle.ppd_check.specs.Fitted.{as_byte, as_short, as_word}
 use Rattle.ppd_check.specs.Names.{Meaning, Scope, innermost}
 use Rattle.ppd_check.specs.Names as N
-use Rattle.ppd_check.specs.Statements.{after_cells, twice_faults, size_faults}
+use Rattle.ppd_check.specs.Statements.{after_cells, variable_of, twice_faults, size_faults}
 use Rattle.ppd_check.specs.Syntax.{Name, Number, Block, Item, shared, shared_array, semaphore, channel, function, process}
 use Rattle.ppd_check.specs.Reading.{as_items}
 use Rattle.ppd_check.specs.Nodes.{phrase_of}
@@ -187,7 +187,7 @@ holds_shared ns x len more old s t h is =
     subst (λ u. Holds ns (with_shared x len more old) u) (sym is)
     (record {
       scopes = named_one x _ _ old.scopes s.scope h.scopes (ap (λ k. N.shared k len) h.cells);
-      shared = ap (λ l. l ++ _ ∷ []) h.shared;
+      shared = ap (λ l. l ++ variable_of x len ∷ []) h.shared;
       cells = ap (λ k. after_cells k len) h.cells;
       starts = λ few.
           ap (λ k. kept (after_cells k len) old.starts more) h.cells

@@ -8,6 +8,7 @@ mod forms;
 mod formulas;
 mod frame;
 mod globals;
+mod items;
 mod meaning;
 mod nodes;
 mod parsed;
