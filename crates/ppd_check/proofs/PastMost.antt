@@ -1,9 +1,9 @@
 -- The place past the most statements, among places of which it is known which come before it and which after.
-use Rattle.std.proofs.Common.{◌≡◌, refl, sym, ap, subst, ◌∙◌, ℕ, zero, suc, ◌+◌, ◌<◌, ◌≤◌, arith, Bool, true, false, cond, nat_lt, nat_le, List, [], ◌∷◌, ◌++◌, map, length, Option, Some, None, get_or, if◌then◌else◌}
-use Rattle.std.specs.List.{All, Contains, count_by, filter, sum_by}
+use Rattle.std.proofs.Common.{◌≡◌, refl, sym, ap, ◌∙◌, ℕ, zero, suc, ◌+◌, ◌<◌, ◌≤◌, arith, Bool, true, false, cond, nat_lt, nat_le, List, [], ◌∷◌, ◌++◌, map, length, Option, Some, None, if◌then◌else◌}
+use Rattle.std.specs.List.{All, Contains, count_by, filter}
 use Rattle.std.specs.List.Sorted.{IsPermutation}
 use Rattle.std.specs.Ordering.{is_lt, nat_cmp, ordering_then}
-use Rattle.std.proofs.lemmas.List.Elements.{All-head, All-tail, All-weaker, All-from_get_or, filter_passes, Contains-append_right}
+use Rattle.std.proofs.lemmas.List.Elements.{All-head, All-tail, All-weaker, filter_passes, Contains-append_right}
 use Rattle.std.proofs.lemmas.List.Sums.{sum_by-append, sum_by-cons, count_by-le-length}
 use Rattle.std.proofs.lemmas.List.Sorted.{sum_by-IsPermutation, Contains-permutation, IsPermutation-sym}
 use Rattle.ppd_ast.specs.declared.program.Place.{Place}
@@ -12,7 +12,7 @@ use Rattle.ppd_check.specs.declared.fault.Limit.TheVariants as L
 use Rattle.ppd_check.specs.declared.fault.Fault.{Fault}
 use Rattle.ppd_check.specs.Faults.{at, by_then, is_before, first, first_of_two, first_of_both}
 use Rattle.ppd_check.specs.Sources.{is_up_to}
-use Rattle.ppd_check.proofs.First.{first_of_both_assoc, first_of_both_swap, first_of_both_none}
+use Rattle.ppd_check.proofs.First.{first_of_both_assoc, first_of_both_swap}
 
 true_not_false : true ≡ false → ⊥
 true_not_false h = grind (arith, h)
@@ -157,7 +157,7 @@ first_past most ps front x back same count before after =
         let a : count_by (is_up_to q) front ≤ length front = count_by-le-length (is_up_to q) front in
         let b : once (is_up_to q x) ≡ 0 = ap once h in
         let d : count_by (is_up_to q) back ≡ 0 =
-            count_none (is_up_to q) back (All-weaker (λ p. is_up_to p x ≡ true) (λ p. is_up_to q p ≡ false) (λ p i. not_up_to p q x i h) back after) in
+        count_none (is_up_to q) back (All-weaker (λ p. is_up_to p x ≡ true) (λ p. is_up_to q p ≡ false) (λ p i. not_up_to p q x i h) back after) in
         let c : count_by (is_up_to q) ps ≡ count_by (is_up_to q) front + (once (is_up_to q x) + count_by (is_up_to q) back) = counted q in
         omega (arith, a, b, c, d, count)
 

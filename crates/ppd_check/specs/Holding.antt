@@ -1,5 +1,5 @@
 -- What the items of a source declare, as the code keeps it and as it is defined.
-use Rattle.std.specs.Prelude.{◌≡◌, ◌≤◌, ℕ, true, false, List, [], ◌∷◌, ◌++◌, map, length, Option, Some, None, nat_lt}
+use Rattle.std.specs.Prelude.{◌≡◌, ◌≤◌, ℕ, ℤ, pos, neg_ℤ, if◌then◌else◌, true, false, List, [], ◌∷◌, ◌++◌, map, length, Option, Some, None, nat_lt}
 use Rattle.ppd_ast.specs.declared.limits.TheConstants.{MOST_SHARED_CELLS, MOST_SEMAPHORES, MOST_CHANNELS, MOST_FUNCTIONS, MOST_PROCESSES}
 use Rattle.ppd_parse.specs.declared.node.Node.{Node}
 use Rattle.ppd_check.specs.declared.fault.Cause.TheVariants.{TooMany}
@@ -10,7 +10,7 @@ use Rattle.ppd_check.specs.Faults.{if_so, first, first_of_both}
 use Rattle.ppd_check.specs.Fitted.{as_short}
 use Rattle.ppd_check.specs.Statements.{after_cells, twice_faults}
 use Rattle.ppd_check.specs.Syntax.{stop, Item, shared, shared_array, semaphore, channel, function, process}
-use Rattle.ppd_check.specs.Reading.{nowhere, name_of, as_items}
+use Rattle.ppd_check.specs.Reading.{Phrase, phrase, kind, is_minus, number_at, value_of, as_token, nowhere, name_of, as_items}
 use Rattle.ppd_check.specs.Nodes.{phrase_of}
 use Rattle.ppd_check.specs.Declaring.{counted}
 use Rattle.ppd_check.specs.Sources as S
@@ -58,3 +58,7 @@ noted (i ∷ is) s = noted_at i s ++ noted is (with_item i s)
 pub record Declares (ns : List Node) (is : List Item) (old new : Globals) (found found' : Option Fault) : Type 0 where
   pub holds : (s : S.Globals) → Holds ns old s → Holds ns new (with_items is s)
   pub notes : (s : S.Globals) → Holds ns old s → found' ≡ first_of_both found (first (noted is s))
+
+-- the start value that a shared scalar's declaration says
+abbrev pub start_said : List Phrase → ℤ
+start_said ps = if is_minus (kind (phrase ps 2)) then neg_ℤ (pos (number_at ps 3).value) else value_of (as_token (phrase ps 2)).kind

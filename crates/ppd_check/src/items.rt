@@ -6,14 +6,14 @@ ghost use Rattle.ppd_check.specs.Reading.{number_at};
 ghost use Rattle.ppd_check.specs.Fitted.{as_byte, as_short, as_word};
 ghost use Rattle.ppd_check.specs.Nodes.{label_name, phrases_below};
 ghost use Rattle.ppd_check.specs.Syntax.{shared, shared_array, semaphore, channel};
-ghost use Rattle.ppd_check.specs.Holding.{Declares};
+ghost use Rattle.ppd_check.specs.Holding.{Declares, start_said};
 
 use crate::fault::{Cause, Fault, note_unless};
 use crate::globals::{Globals, add_array, add_channel, add_scalar, add_semaphore};
-use crate::nodes::{Label, value_at};
+use crate::nodes::{Label, kind_at, value_at};
 use ppd_ast::limits::{LEAST_CAPACITY, MOST_CAPACITY, MOST_SHARED_CELLS, MOST_START};
 use ppd_ast::{Memory, Place};
-use ppd_parse::Node;
+use ppd_parse::{Kind, Node};
 use std::alloc::Global;
 
 // A number in a field of 8 bits.
@@ -132,4 +132,16 @@ fn negative(number: i64) -> i64
     ensures { result ≡ neg_ℤ (pos (nat_abs number)) }
 {
     if 0 < number { -number } else { number }
+}
+
+// The start value that a shared scalar's declaration says.
+fn start_at(nodes: &[Node], id: u32) -> i64
+    requires table { IsTable nodes.now }
+    requires within { id < length nodes.now }
+    ensures { result ≡ start_said (phrases_below nodes.now id) }
+{
+    match kind_at(nodes, id, 2) {
+        Kind::MinusMark => negative(value_at(nodes, id, 3)),
+        _ => value_at(nodes, id, 2),
+    }
 }

@@ -17,8 +17,10 @@ pub fn note_past(places: &mut [Place], found: &mut Option<Fault>)
     if places.len() <= MOST_STATEMENTS {
         return;
     }
-    let (_, past, _) =
-        places.select_nth_unstable_by_key(MOST_STATEMENTS, |place| (place.line, place.column));
+    let (_, past, _) = places.select_nth_unstable_by_key(
+        MOST_STATEMENTS,
+        |place| (place.line, place.column),
+    );
     note(found, *past, Cause::TooMany(Limit::Statements));
 }
 

@@ -10,5 +10,5 @@ parse-requires-clause-short c =
 pub returns-in-Ok-parse-clause-few : goal.returns-in-Ok-parse-clause-few
 returns-in-Ok-parse-clause-few c =
     let short : length c.deref.result.now ≤ 2 ^ 30 =
-        subst (λ (ts : List Token). length ts ≤ 2 ^ 30) (sym c.deref.ensures.value) (short_tokens c.args.bytes.now c.in-Ok.tokens.items c.in-Ok.ensures.tokens c.in-Ok.ensures.formed) in
+    subst (λ (ts : List Token). length ts ≤ 2 ^ 30) (sym c.deref.ensures.value) (short_tokens c.args.bytes.now c.in-Ok.tokens.items c.in-Ok.ensures.tokens c.in-Ok.ensures.formed) in
     omega (arith, short, c.in-Ok-parse.ensures.few)
