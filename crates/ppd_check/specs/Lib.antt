@@ -12,5 +12,9 @@ pub mod Table
 pub mod Sources
 pub mod Nodes
 pub mod Forms
+pub mod Placed
+pub mod Read
 pub mod Values
 pub mod Writing
+pub mod Declaring
+pub mod Holding
