@@ -1,0 +1,15 @@
+pub mod Arguments
+pub mod Declarations
+pub mod First
+pub mod Flat
+pub mod Joined
+pub mod Lookup
+pub mod RowTables
+pub mod PastMost
+pub mod RowsOfForms
+pub mod RowsOfLoops
+pub mod RowsOfNames
+pub mod RowsOfPrograms
+pub mod RowsOfRules
+pub mod Trees
+pub mod Writing

@@ -1,0 +1,169 @@
+-- The place past the most statements, among places of which it is known which come before it and which after.
+use Rattle.std.proofs.Common.{◌≡◌, refl, sym, ap, ◌∙◌, ℕ, zero, suc, ◌+◌, ◌<◌, ◌≤◌, arith, Bool, true, false, cond, nat_lt, nat_le, List, [], ◌∷◌, ◌++◌, map, length, Option, Some, None, if◌then◌else◌}
+use Rattle.std.specs.List.{All, Contains, count_by, filter}
+use Rattle.std.specs.List.Sorted.{IsPermutation}
+use Rattle.std.specs.Ordering.{is_lt, nat_cmp, ordering_then}
+use Rattle.std.proofs.lemmas.List.Elements.{All-head, All-tail, All-weaker, filter_passes, Contains-append_right}
+use Rattle.std.proofs.lemmas.List.Sums.{sum_by-append, sum_by-cons, count_by-le-length}
+use Rattle.std.proofs.lemmas.List.Sorted.{sum_by-IsPermutation, Contains-permutation, IsPermutation-sym}
+use Rattle.ppd_ast.specs.declared.program.Place.{Place}
+use Rattle.ppd_check.specs.declared.fault.Cause.TheVariants.{TooMany}
+use Rattle.ppd_check.specs.declared.fault.Limit.TheVariants as L
+use Rattle.ppd_check.specs.declared.fault.Fault.{Fault}
+use Rattle.ppd_check.specs.Faults.{at, by_then, is_before, first, first_of_two, first_of_both}
+use Rattle.ppd_check.specs.Sources.{is_up_to}
+use Rattle.ppd_check.proofs.First.{first_of_both_assoc, first_of_both_swap}
+
+true_not_false : true ≡ false → ⊥
+true_not_false h = grind (arith, h)
+
+abbrev too_many : Place → Fault
+too_many p = at p (TooMany L.Statements)
+
+-- Places in order.
+
+up_to_itself : (p : Place) → is_up_to p p ≡ true
+up_to_itself p = go p.line p.column
+  where
+    go : (a b : ℕ) → by_then a a (nat_le b b) ≡ true
+    go a b = grind arith
+
+not_before : (x y : Place) → is_up_to y x ≡ true → is_before (too_many y) (too_many x) ≡ false
+not_before x y h = go x.line x.column y.line y.column h
+  where
+    go : (a b c d : ℕ) → by_then a c (nat_le b d) ≡ true → by_then c a (by_then d b false) ≡ false
+    go a b c d h = grind (arith, h)
+
+-- p is not before x, and x not up to q
+not_up_to : (p q x : Place) → is_up_to p x ≡ true → is_up_to q x ≡ false → is_up_to q p ≡ false
+not_up_to p q x h i = go p.line p.column q.line q.column x.line x.column h i
+  where
+    go : (a b c d e f : ℕ) → by_then e a (nat_le f b) ≡ true → by_then e c (nat_le f d) ≡ false → by_then a c (nat_le b d) ≡ false
+    go a b c d e f h i = grind (arith, h, i)
+
+pub from_key : (p q : Place) → is_lt (ordering_then (nat_cmp q.line p.line) (nat_cmp q.column p.column)) ≡ false → is_up_to q p ≡ true
+from_key p q h = go p.line p.column q.line q.column h
+  where
+    go : (a b c d : ℕ) → is_lt (ordering_then (nat_cmp c a) (nat_cmp d b)) ≡ false → by_then a c (nat_le b d) ≡ true
+    go a b c d h = grind (arith, h)
+
+-- Counts.
+
+-- 1 where a test holds, else 0
+abbrev once : Bool → ℕ
+once b = cond b 1 0
+
+count_all : (p : Place → Bool) (xs : List Place) → All (λ x. p x ≡ true) xs → count_by p xs ≡ length xs
+count_all p [] h = refl
+count_all p (x ∷ xs) h =
+    let e : once (p x) ≡ 1 = ap once (All-head (λ x. p x ≡ true) x xs h) in
+    let r : count_by p xs ≡ length xs = count_all p xs (All-tail (λ x. p x ≡ true) x xs h) in
+    let s : count_by p (x ∷ xs) ≡ once (p x) + count_by p xs = sum_by-cons (λ x. once (p x)) x xs in
+    omega (arith, e, r, s)
+
+count_none : (p : Place → Bool) (xs : List Place) → All (λ x. p x ≡ false) xs → count_by p xs ≡ 0
+count_none p [] h = refl
+count_none p (x ∷ xs) h =
+    let e : once (p x) ≡ 0 = ap once (All-head (λ x. p x ≡ false) x xs h) in
+    let r : count_by p xs ≡ 0 = count_none p xs (All-tail (λ x. p x ≡ false) x xs h) in
+    let s : count_by p (x ∷ xs) ≡ once (p x) + count_by p xs = sum_by-cons (λ x. once (p x)) x xs in
+    omega (arith, e, r, s)
+
+count_around : (p : Place → Bool) (front : List Place) (x : Place) (back : List Place)
+    → count_by p (front ++ x ∷ back) ≡ count_by p front + (once (p x) + count_by p back)
+count_around p front x back =
+    sum_by-append (λ x. once (p x)) front (x ∷ back) ∙ ap (λ n. count_by p front + n) (sum_by-cons (λ x. once (p x)) x back)
+
+-- The first fault at those of some places that pass a test, where one that passes comes before all that do.
+
+swap_to : (x y : Place) → is_up_to y x ≡ true → first_of_both (Some (too_many x)) (Some (too_many y)) ≡ Some (too_many x)
+swap_to x y h = ap (λ b. if b then Some (too_many y) else Some (too_many x)) (not_before x y h)
+
+least_after : (x : Place) (ys : List Place) → All (λ y. is_up_to y x ≡ true) ys → first_of_both (Some (too_many x)) (first (map too_many ys)) ≡ Some (too_many x)
+least_after x [] h = refl
+least_after x (y ∷ ys) h =
+    first_of_both_assoc (Some (too_many x)) (Some (too_many y)) (first (map too_many ys))
+    ∙ ap (λ f. first_of_both f (first (map too_many ys))) (swap_to x y (All-head (λ y. is_up_to y x ≡ true) y ys h))
+    ∙ least_after x ys (All-tail (λ y. is_up_to y x ≡ true) y ys h)
+
+abbrev IsLeast : (Place → Bool) → Place → Type 0
+IsLeast p x = (q : Place) → p q ≡ true → is_up_to q x ≡ true
+
+first_passing : (p : Place → Bool) (ps : List Place) (x : Place) → Contains ps x → p x ≡ true → IsLeast p x → first (map too_many (filter p ps)) ≡ Some (too_many x)
+first_passing p [] x (k, l, e) px least = absurd (omega (arith, l))
+first_passing p (y ∷ ys) x (zero, l, e) px least = go (p y) (ap p e ∙ px)
+  where
+    go : (b : Bool) → b ≡ true → first (map too_many (cond b (y ∷ filter p ys) (filter p ys))) ≡ Some (too_many x)
+    go false h = absurd (true_not_false (sym h))
+    go true h =
+        ap (λ z. first_of_both (Some (too_many z)) (first (map too_many (filter p ys)))) e
+        ∙ least_after x (filter p ys) (All-weaker (λ q. p q ≡ true) (λ q. is_up_to q x ≡ true) least (filter p ys) (filter_passes p ys))
+first_passing p (y ∷ ys) x (suc k, l, e) px least = go (first_passing p ys x (k, omega (arith, l), e) px least) (p y) refl
+  where
+    go : first (map too_many (filter p ys)) ≡ Some (too_many x) → (b : Bool) → p y ≡ b
+        → first (map too_many (cond b (y ∷ filter p ys) (filter p ys))) ≡ Some (too_many x)
+    go rest false h = rest
+    go rest true h =
+        ap (first_of_two (too_many y)) rest
+        ∙ first_of_both_swap (Some (too_many y)) (Some (too_many x))
+        ∙ swap_to x y (least y h)
+
+filter_none : (p : Place → Bool) (ps : List Place) → ((q : Place) → p q ≡ false) → filter p ps ≡ []
+filter_none p [] h = refl
+filter_none p (q ∷ ps) h = ap (λ b. cond b (q ∷ filter p ps) (filter p ps)) (h q) ∙ filter_none p ps h
+
+-- The places up to which more than some of them stand.
+
+abbrev is_past : ℕ → List Place → Place → Bool
+is_past most ps q = nat_lt most (count_by (is_up_to q) ps)
+
+abbrev past : ℕ → List Place → Option Fault
+past most ps = first (map too_many (filter (is_past most ps) ps))
+
+lt_false : (a b : ℕ) → b ≤ a → nat_lt a b ≡ false
+lt_false a b h = grind (arith, h)
+
+lt_true : (a b : ℕ) → a < b → nat_lt a b ≡ true
+lt_true a b h = grind (arith, h)
+
+true_lt : (a b : ℕ) → nat_lt a b ≡ true → a < b
+true_lt a b h = grind (arith, h)
+
+pub none_past : (most : ℕ) (ps : List Place) → length ps ≤ most → past most ps ≡ None
+none_past most ps h =
+    ap (λ l. first (map too_many l)) (filter_none (is_past most ps) ps
+    (λ q. lt_false most _ (omega (arith, h, count_by-le-length (is_up_to q) ps))))
+
+pub first_past : (most : ℕ) (ps front : List Place) (x : Place) (back : List Place) → IsPermutation ps (front ++ x ∷ back) → length front ≡ most
+    → All (λ p. is_up_to x p ≡ true) front → All (λ p. is_up_to p x ≡ true) back → past most ps ≡ Some (too_many x)
+first_past most ps front x back same count before after =
+    first_passing (is_past most ps) ps x inside passes least
+  where
+    inside : Contains ps x
+    inside = Contains-permutation (front ++ x ∷ back) ps x (IsPermutation-sym ps (front ++ x ∷ back) same) (Contains-append_right front (x ∷ back) x (zero, omega arith, refl))
+
+    counted : (q : Place) → count_by (is_up_to q) ps ≡ count_by (is_up_to q) front + (once (is_up_to q x) + count_by (is_up_to q) back)
+    counted q = sym (sum_by-IsPermutation (λ p. once (is_up_to q p)) ps (front ++ x ∷ back) same) ∙ count_around (is_up_to q) front x back
+
+    passes : is_past most ps x ≡ true
+    passes =
+        let a : count_by (is_up_to x) front ≡ length front = count_all (is_up_to x) front before in
+        let b : once (is_up_to x x) ≡ 1 = ap once (up_to_itself x) in
+        let c : count_by (is_up_to x) ps ≡ count_by (is_up_to x) front + (once (is_up_to x x) + count_by (is_up_to x) back) = counted x in
+        lt_true most _ (omega (arith, a, b, c, count))
+
+    few : (q : Place) → is_up_to q x ≡ false → count_by (is_up_to q) ps ≤ most
+    few q h =
+        let a : count_by (is_up_to q) front ≤ length front = count_by-le-length (is_up_to q) front in
+        let b : once (is_up_to q x) ≡ 0 = ap once h in
+        let d : count_by (is_up_to q) back ≡ 0 =
+        count_none (is_up_to q) back (All-weaker (λ p. is_up_to p x ≡ true) (λ p. is_up_to q p ≡ false) (λ p i. not_up_to p q x i h) back after) in
+        let c : count_by (is_up_to q) ps ≡ count_by (is_up_to q) front + (once (is_up_to q x) + count_by (is_up_to q) back) = counted q in
+        omega (arith, a, b, c, d, count)
+
+    least : IsLeast (is_past most ps) x
+    least q h = go (is_up_to q x) refl
+      where
+        go : (b : Bool) → is_up_to q x ≡ b → is_up_to q x ≡ true
+        go true e = e
+        go false e = absurd (omega (arith, true_lt most _ h, few q e))

@@ -1,0 +1,34 @@
+use Rattle.std.proofs.Common.{◌∙◌, refl, sym, ap, subst, ◌++◌, length, arith}
+use Rattle.ppd_ast.specs.declared.program.Kind.TheVariants as K
+use Rattle.ppd_ast.specs.declared.program.Expr.TheVariants as E
+use Rattle.ppd_ast.specs.Term as T
+use Rattle.ppd_check.specs.Code as C
+use Rattle.ppd_check.specs.Reading.{goal_formula}
+use Rattle.ppd_check.specs.Statements.{spot_of}
+use Rattle.ppd_check.specs.Table.{spot_terms, target}
+use Rattle.ppd_check.specs.Nodes.{operand_formula}
+use Rattle.ppd_check.specs.Values.{goal_said}
+use Rattle.ppd_check.specs.Expressions.{term_of, formula_faults}
+use Rattle.ppd_check.specs.Writing.{WroteAct}
+use Rattle.ppd_check.proofs.Flat.{added_over_two}
+use Rattle.ppd_check.proofs.First.{found_in_both}
+use Rattle.ppd_check.proofs.Writing.{both_ok, wrote_act, added_after}
+use Rattle.ppd_check.proofs.changes.write_change.Goals as goal
+
+pub returns : goal.returns
+returns c =
+    let s = c.args.frame.now.scopes in
+    let u = c.args.out.now in
+    let g = goal_said c.args.nodes.now c.args.goal in
+    let e = operand_formula c.args.nodes.now c.args.operand in
+    let v = T.two c.args.op (term_of s (goal_formula g)) (term_of s e) in
+    let value = added_over_two (T.two c.args.op) (E.Two c.args.op) (λ m a b. (refl, omega arith)) c.write_spot.new.exprs c.write_goal.new.exprs c.formula.new.exprs c.put.new.exprs (term_of s (goal_formula g)) (term_of s e) c.in_ok-a.a c.in_ok-b.b c.in_ok-number.number c.in_ok-a.ensures c.in_ok-b.ensures.added c.in_ok-number.ensures.added c.in_ok-number.ensures.number in
+    let fs = formula_faults s (goal_formula g) ++ formula_faults s e in
+    let all = added_after u.exprs c.write_spot.new.exprs c.put.new.exprs (spot_terms (spot_of s g)) v c.in_ok-number.number c.in_ok-target.ensures.added value in
+    both_ok c.put_stmt.result _ _ _ c.put_stmt.ensures.stmts c.put_stmt.ensures.row
+    (λ t o. subst (λ p. WroteAct c.args.site p (C.set (spot_of s g) v) fs u c.put_stmt.new.out c.args.row.now c.put_stmt.new.row) (sym (c.place_of-place.ensures c.args.nodes.now))
+    (wrote_act c.args.site.body c.args.site.parent c.place_of-place.result (C.set (spot_of s g) v) (K.Set c.in_ok-target.target c.in_ok-number.number) fs u c.put_stmt.new.out c.args.row.now c.put_stmt.new.row
+    (c.put_stmt.ensures.exprs ∙ all.table)
+    (ap (λ d. K.Set d c.in_ok-number.number) c.in_ok-target.ensures.target ∙ ap (λ n. K.Set (target (length u.exprs) (spot_of s g)) n) all.number)
+    t o
+    (c.put_stmt.ensures.found ∙ found_in_both u.found c.write_spot.new.found c.formula.new.found (formula_faults s (goal_formula g)) (formula_faults s e) c.in_ok-target.ensures.faults c.in_ok-b.ensures.faults)))

@@ -1,0 +1,14 @@
+use Rattle.std.proofs.Common.{◌∙◌, ap}
+use Rattle.ppd_check.specs.declared.fault.Cause.TheVariants.{BadSize}
+use Rattle.ppd_check.specs.Faults.{first, first_of_both, unless}
+use Rattle.ppd_check.specs.Declaring.{with_channel}
+use Rattle.ppd_check.specs.Nodes.{label_name}
+use Rattle.ppd_check.proofs.Declarations.{declares_channel}
+use Rattle.ppd_check.proofs.items.declare_channel.Goals as goal
+
+pub returns : goal.returns
+returns c = λ ns.
+    declares_channel ns (label_name c.args.label) (record { value = c.args.capacity; place = c.args.place }) c.args.globals.now c.add_channel.new.globals c.args.found.now c.add_channel.new.found c.note_unless.new.found
+    (c.in_ok-add_channel.ensures.globals ∙ ap (λ k. with_channel (label_name c.args.label) k c.args.globals.now) c.as_byte.ensures)
+    (c.in_ok-add_channel.ensures.faults)
+    (c.note_unless.ensures ∙ ap (λ b. first_of_both c.add_channel.new.found (first (unless b c.args.place BadSize))) c.is_within-fits.ensures)

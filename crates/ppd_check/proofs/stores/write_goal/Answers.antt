@@ -1,0 +1,16 @@
+use Rattle.std.proofs.Common.{sym, subst}
+use Rattle.ppd_check.specs.Reading.{goal_formula}
+use Rattle.ppd_check.specs.Nodes.{operand_formula}
+use Rattle.ppd_check.specs.Values.{goal_said}
+use Rattle.ppd_check.specs.Expressions.{term_of, read_element}
+use Rattle.ppd_check.specs.Forms.{Added}
+use Rattle.ppd_check.proofs.Flat.{added_element, with_ok}
+use Rattle.ppd_check.proofs.stores.write_goal.Goals as goal
+
+pub returns-in_ok-at-in-Item : goal.returns-in_ok-at-in-Item
+returns-in_ok-at-in-Item c =
+    with_ok c.put-in-Item.result _ _ _
+    (λ n new number. subst (λ g. Added c.args.exprs.now (term_of c.args.scopes.now (goal_formula (goal_said c.args.nodes.now g))) c.put-in-Item.new.exprs n) (sym c.in-Item.is)
+    (subst (λ m. Added c.args.exprs.now (read_element m (term_of c.args.scopes.now (operand_formula c.args.nodes.now c.in-Item.index))) c.put-in-Item.new.exprs n) c.used-meaning-in-Item.ensures.means
+    (added_element _ _ _ _ _ _ _ n c.element_expr.ensures c.in_ok-at-in-Item.ensures.added new number)))
+    c.put-in-Item.ensures.added c.put-in-Item.ensures.number

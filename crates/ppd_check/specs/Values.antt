@@ -1,0 +1,29 @@
+-- Places and values by their nodes, as the code sees them.
+use Rattle.std.specs.Prelude.{◌<◌, List, length}
+use Rattle.ppd_parse.specs.declared.node.Node.{Node}
+use Rattle.ppd_check.specs.declared.values.Goal.{Goal}
+use Rattle.ppd_check.specs.declared.values.Goal.TheVariants.{Scalar, Item}
+use Rattle.ppd_check.specs.declared.values.Value.{Value}
+use Rattle.ppd_check.specs.declared.values.Value.TheVariants.{Plain, Result, Received}
+use Rattle.ppd_check.specs.Syntax as S
+use Rattle.ppd_check.specs.Reading.{name_at, formulas}
+use Rattle.ppd_check.specs.Nodes.{label_name, operand_formula, phrases_below, IsOperand}
+
+abbrev pub goal_said : List Node → Goal → S.Goal
+goal_said ns (Scalar x) = S.scalar (label_name x)
+goal_said ns (Item x i) = S.item (label_name x) (operand_formula ns i)
+
+abbrev pub value_said_by : List Node → Value → S.Value
+value_said_by ns (Plain e) = S.plain (operand_formula ns e)
+value_said_by ns (Result i) = S.result (name_at (phrases_below ns i) 0) (formulas (phrases_below ns i))
+value_said_by ns (Received x) = S.received (label_name x)
+
+-- their nodes are in the table
+abbrev pub IsGoal : List Node → Goal → Type 0
+IsGoal ns (Scalar x) = Unit {0}
+IsGoal ns (Item x i) = IsOperand ns i
+
+abbrev pub IsValue : List Node → Value → Type 0
+IsValue ns (Plain e) = IsOperand ns e
+IsValue ns (Result i) = i < length ns
+IsValue ns (Received x) = Unit {0}

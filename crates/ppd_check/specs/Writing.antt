@@ -1,0 +1,46 @@
+-- What a walk of statements adds to the table.
+use Rattle.std.specs.Prelude.{◌≡◌, ℕ, List, ◌++◌, map, length, Option}
+use Rattle.std.specs.List.{flat_map}
+use Rattle.ppd_ast.specs.declared.program.Expr.{Expr}
+use Rattle.ppd_ast.specs.Term.{Term}
+use Rattle.ppd_check.specs.declared.fault.Fault.{Fault}
+use Rattle.ppd_check.specs.declared.writer.Writer.{Writer}
+use Rattle.ppd_check.specs.Faults.{first, first_of_both}
+use Rattle.ppd_parse.specs.declared.node.Node.{Node}
+use Rattle.ppd_check.specs.Names.{Scope}
+use Rattle.ppd_check.specs.Reading.{formulas}
+use Rattle.ppd_check.specs.Expressions.{term_of, formula_faults}
+use Rattle.ppd_check.specs.Nodes.{phrases_of}
+use Rattle.ppd_ast.specs.declared.program.Place.{Place}
+use Rattle.ppd_check.specs.declared.frame.Frame.{Frame}
+use Rattle.ppd_check.specs.declared.writer.Site.{Site}
+use Rattle.ppd_check.specs.Syntax.{Simple}
+use Rattle.ppd_check.specs.Statements.{code_of, faults_of}
+use Rattle.ppd_check.specs.Code.{Code, Act, done, act}
+use Rattle.ppd_check.specs.Table.{flats, roots, terms, numbers, stmts}
+
+-- Statements of a body that stand directly in `parent` were added with their expressions, and their numbers to a row; the
+-- rules that they break were noted.
+pub record Wrote (body : ℕ) (parent : Option ℕ) (code : Code) (faults : List Fault) (old new : Writer) (ids ids' : List ℕ) : Type 0 where
+  pub exprs : new.exprs ≡ old.exprs ++ flats (length old.exprs) (terms code)
+  pub stmts : new.stmts ≡ old.stmts ++ stmts body parent (length old.stmts) (length old.exprs) code
+  pub row : ids' ≡ ids ++ numbers (length old.stmts) code
+  pub found : new.found ≡ first_of_both old.found (first faults)
+
+-- a statement without statements inside it was added, in a frame
+abbrev pub WroteSimple : Site → Simple → Frame → (old new : Writer) (ids ids' : List ℕ) → Type 0
+WroteSimple site s f old new ids ids' = Wrote site.body site.parent (code_of s f) (faults_of s f) old new ids ids'
+
+-- one core statement was added
+abbrev pub WroteAct : Site → Place → Act → List Fault → (old new : Writer) (ids ids' : List ℕ) → Type 0
+WroteAct site p a faults old new ids ids' = Wrote site.body site.parent (act p a done) faults old new ids ids'
+
+-- the expressions of terms were added, and their numbers to a list
+pub record AddedAll (old : List Expr) (ts : List Term) (new : List Expr) (ids ids' : List ℕ) : Type 0 where
+  pub table : new ≡ old ++ flats (length old) ts
+  pub numbers : ids' ≡ ids ++ roots (length old) ts
+
+-- those of some nodes that are expressions were added as arguments, and the rules that they break were noted
+pub record Argued (ns : List Node) (scopes : List Scope) (nodes : List ℕ) (old new : List Expr) (ids ids' : List ℕ) (found found' : Option Fault) : Type 0 where
+  pub added : AddedAll old (map (term_of scopes) (formulas (phrases_of ns nodes))) new ids ids'
+  pub noted : found' ≡ first_of_both found (first (flat_map (formula_faults scopes) (formulas (phrases_of ns nodes))))

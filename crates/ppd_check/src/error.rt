@@ -1,0 +1,44 @@
+use crate::fault::Limit;
+use ppd_ast::Place;
+use ppd_lex::LexError;
+use ppd_parse::SyntaxError;
+
+/// Why a source has no core form: the first rule that it breaks, with its place.
+#[derive(Clone, Copy, PartialEq, Eq, Debug, Drop)]
+pub enum CheckError {
+    /// The second name: it is declared before in the same scope.
+    Twice(Place),
+    /// A name that is used and not declared in sight.
+    Unknown(Place),
+    /// A name that is used as what it is not.
+    WrongKind(Place),
+    /// The name of a function that is called with another count of arguments.
+    Arity(Place),
+    /// A `return` where none may stand, one with or without a value where the other is asked, or the
+    /// closing brace of a function that should end with one.
+    ReturnPlace(Place),
+    /// The name of a function without a value whose value is used.
+    VoidValue(Place),
+    /// The source's end: it has no process.
+    NoProcess(Place),
+    /// The first item past a limit.
+    TooMany(Place, Limit),
+    /// A length, a capacity or an initial value outside its range.
+    BadSize(Place),
+    /// Want of memory.
+    Memory,
+}
+
+/// Why a source has no program: its first lexical fault, else the first token that breaks the grammar or
+/// one of its limits, else the first rule that it breaks. Want of memory is the outer `Memory` alone.
+#[derive(Clone, Copy, PartialEq, Eq, Debug, Drop)]
+pub enum SourceError {
+    /// The first lexical fault.
+    Lex(LexError),
+    /// The first token that breaks the grammar or one of its limits.
+    Syntax(SyntaxError),
+    /// The first broken rule of the language.
+    Check(CheckError),
+    /// Want of memory.
+    Memory,
+}

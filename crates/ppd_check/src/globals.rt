@@ -1,0 +1,252 @@
+// What a source declares in the scope that all of it sees.
+ghost use Rattle.std.specs.Prelude.{◌≡◌, ◌++◌, OnOk, pos, [], ◌∷◌, replicate, length, None, Some};
+ghost use Rattle.ppd_ast.specs.declared.limits.TheConstants.{MOST_FUNCTIONS, MOST_PROCESSES, MOST_SEMAPHORES, MOST_CHANNELS};
+ghost use Rattle.ppd_check.specs.Faults.{first, first_of_both};
+ghost use Rattle.ppd_check.specs.Fitted.{as_byte, as_short};
+ghost use Rattle.ppd_check.specs.Names.{declare, innermost, in_innermost};
+ghost use Rattle.ppd_check.specs.Nodes.{label_name};
+ghost use Rattle.ppd_check.specs.Statements.{twice_faults};
+ghost use Rattle.ppd_check.specs.Declaring.{placed, with_shared, with_semaphore, with_channel, with_function, with_process, twice, counted, celled};
+ghost use Rattle.ppd_check.specs.declared.fault.Limit.TheVariants.{Functions, Processes, Semaphores, Channels};
+
+use crate::fault::{Cause, Fault, Limit, note_if};
+use crate::frame::{Variable, after_cells, bytes_of};
+use crate::meaning::Meaning;
+use crate::nodes::Label;
+use crate::scopes::Scopes;
+use ppd_ast::limits::{
+    MOST_CHANNELS, MOST_FUNCTIONS, MOST_PROCESSES, MOST_SEMAPHORES, MOST_SHARED_CELLS,
+};
+use ppd_ast::{Chan, Ids, Memory, Nums, Sem, Seq};
+use std::alloc::Global;
+
+// The one scope, the shared variables with the first cell after them and their start values, the semaphores and
+// channels, and the nodes of functions and processes.
+#[derive(Drop)]
+pub struct Globals {
+    pub scopes: Scopes,
+    pub shared: Seq<Variable>,
+    pub cells: u16,
+    pub starts: Nums,
+    pub sems: Seq<Sem>,
+    pub chans: Seq<Chan>,
+    pub functions: Ids,
+    pub processes: Ids,
+}
+
+// A count in a field of 8 bits.
+fn as_byte(count: usize) -> u8
+    ensures { result ≡ as_byte count }
+{
+    match u8::try_from(count) {
+        Ok(count) => count,
+        Err(_) => u8::MAX,
+    }
+}
+
+// A count in a field of 16 bits.
+fn as_short(count: usize) -> u16
+    ensures { result ≡ as_short count }
+{
+    match u16::try_from(count) {
+        Ok(count) => count,
+        Err(_) => u16::MAX,
+    }
+}
+
+// Gives a name its meaning, and notes it where it has one.
+fn name(
+    alloc: Global,
+    scopes: &mut Scopes,
+    name: Label<'_>,
+    meaning: Meaning,
+    found: &mut Option<Fault>,
+) -> Result<(), Memory>
+    ensures scopes { OnOk result (scopes.new ≡ in_innermost (declare (label_name name.entry).text meaning) scopes.old) }
+    ensures faults { OnOk result (found.new ≡ first_of_both found.old (first (twice_faults (innermost scopes.old) (label_name name.entry)))) }
+{
+    let twice = scopes.declare(alloc, name.text, meaning)?;
+    note_if(found, twice, name.place, Cause::Twice);
+    Ok(())
+}
+
+// Appends zeros.
+fn push_zeros(starts: &mut Nums, count: u16) -> Result<(), Memory>
+    ensures { OnOk result (starts.new ≡ starts.old ++ replicate count (pos 0)) }
+{
+    for _zero in 0..count {
+        starts.push(0)?;
+    }
+    Ok(())
+}
+
+// Adds a shared variable without its start values.
+#[tactic(auto, using(crate::proofs::First::found_in_both))]
+fn place_shared(
+    alloc: Global,
+    globals: &mut Globals,
+    label: Label<'_>,
+    length: Option<u16>,
+    found: &mut Option<Fault>,
+) -> Result<(), Memory>
+    ensures globals { OnOk result (globals.new ≡ placed (label_name label.entry) length globals.old) }
+    ensures faults { OnOk result (found.new ≡ first_of_both found.old (first (twice (label_name label.entry) globals.old ++ celled (label_name label.entry) length globals.old))) }
+{
+    let cells = globals.cells;
+    let after = after_cells(cells, length);
+    name(
+        alloc,
+        &mut globals.scopes,
+        label,
+        Meaning::Shared(cells, length),
+        found,
+    )?;
+    note_if(
+        found,
+        MOST_SHARED_CELLS < usize::from(after),
+        label.place,
+        Cause::TooMany(Limit::Shared),
+    );
+    globals.shared.push(Variable {
+        name: bytes_of(alloc, label.text)?,
+        length,
+        place: label.place,
+    })?;
+    globals.cells = after;
+    Ok(())
+}
+
+// Adds a shared scalar with its start value.
+pub fn add_scalar(
+    alloc: Global,
+    globals: &mut Globals,
+    label: Label<'_>,
+    start: i64,
+    found: &mut Option<Fault>,
+) -> Result<(), Memory>
+    ensures globals { OnOk result (globals.new ≡ with_shared (label_name label.entry) None (start ∷ []) globals.old) }
+    ensures faults { OnOk result (found.new ≡ first_of_both found.old (first (twice (label_name label.entry) globals.old ++ celled (label_name label.entry) None globals.old))) }
+{
+    place_shared(alloc, globals, label, None, found)?;
+    if usize::from(globals.cells) <= MOST_SHARED_CELLS {
+        return globals.starts.push(start);
+    }
+    Ok(())
+}
+
+// Adds a shared array, whose elements start at 0.
+pub fn add_array(
+    alloc: Global,
+    globals: &mut Globals,
+    label: Label<'_>,
+    length: u16,
+    found: &mut Option<Fault>,
+) -> Result<(), Memory>
+    ensures globals { OnOk result (globals.new ≡ with_shared (label_name label.entry) (Some length) (replicate length (pos 0)) globals.old) }
+    ensures faults { OnOk result (found.new ≡ first_of_both found.old (first (twice (label_name label.entry) globals.old ++ celled (label_name label.entry) (Some length) globals.old))) }
+{
+    place_shared(alloc, globals, label, Some(length), found)?;
+    if usize::from(globals.cells) <= MOST_SHARED_CELLS {
+        return push_zeros(&mut globals.starts, length);
+    }
+    Ok(())
+}
+
+// Adds a semaphore with its start value.
+#[tactic(auto, using(crate::proofs::First::found_in_both))]
+pub fn add_semaphore(
+    alloc: Global,
+    globals: &mut Globals,
+    label: Label<'_>,
+    start: u32,
+    found: &mut Option<Fault>,
+) -> Result<(), Memory>
+    ensures globals { OnOk result (globals.new ≡ with_semaphore (label_name label.entry) start globals.old) }
+    ensures faults { OnOk result (found.new ≡ first_of_both found.old (first (twice (label_name label.entry) globals.old ++ counted MOST_SEMAPHORES (length globals.old.sems) Semaphores (label_name label.entry).place))) }
+{
+    let count = globals.sems.len();
+    let meaning = Meaning::Semaphore(as_byte(count));
+    name(alloc, &mut globals.scopes, label, meaning, found)?;
+    note_if(
+        found,
+        MOST_SEMAPHORES <= count,
+        label.place,
+        Cause::TooMany(Limit::Semaphores),
+    );
+    let name = bytes_of(alloc, label.text)?;
+    globals.sems.push(Sem { name, start })
+}
+
+// Adds a channel with its capacity.
+#[tactic(auto, using(crate::proofs::First::found_in_both))]
+pub fn add_channel(
+    alloc: Global,
+    globals: &mut Globals,
+    label: Label<'_>,
+    capacity: u8,
+    found: &mut Option<Fault>,
+) -> Result<(), Memory>
+    ensures globals { OnOk result (globals.new ≡ with_channel (label_name label.entry) capacity globals.old) }
+    ensures faults { OnOk result (found.new ≡ first_of_both found.old (first (twice (label_name label.entry) globals.old ++ counted MOST_CHANNELS (length globals.old.chans) Channels (label_name label.entry).place))) }
+{
+    let count = globals.chans.len();
+    let meaning = Meaning::Channel(as_byte(count));
+    name(alloc, &mut globals.scopes, label, meaning, found)?;
+    note_if(
+        found,
+        MOST_CHANNELS <= count,
+        label.place,
+        Cause::TooMany(Limit::Channels),
+    );
+    let name = bytes_of(alloc, label.text)?;
+    globals.chans.push(Chan { name, capacity })
+}
+
+// Adds the function at a node, with so many parameters, which gives a value or none.
+#[tactic(auto, using(crate::proofs::First::found_in_both))]
+pub fn add_function(
+    alloc: Global,
+    globals: &mut Globals,
+    node: u32,
+    label: Label<'_>,
+    params: usize,
+    gives: bool,
+    found: &mut Option<Fault>,
+) -> Result<(), Memory>
+    ensures globals { OnOk result (globals.new ≡ with_function node (label_name label.entry) params gives globals.old) }
+    ensures faults { OnOk result (found.new ≡ first_of_both found.old (first (twice (label_name label.entry) globals.old ++ counted MOST_FUNCTIONS (length globals.old.functions) Functions (label_name label.entry).place))) }
+{
+    let count = globals.functions.len();
+    let meaning = Meaning::Function(as_short(count), params, gives);
+    name(alloc, &mut globals.scopes, label, meaning, found)?;
+    note_if(
+        found,
+        MOST_FUNCTIONS <= count,
+        label.place,
+        Cause::TooMany(Limit::Functions),
+    );
+    globals.functions.push(node)
+}
+
+// Adds the process at a node.
+#[tactic(auto, using(crate::proofs::First::found_in_both))]
+pub fn add_process(
+    alloc: Global,
+    globals: &mut Globals,
+    node: u32,
+    label: Label<'_>,
+    found: &mut Option<Fault>,
+) -> Result<(), Memory>
+    ensures globals { OnOk result (globals.new ≡ with_process node (label_name label.entry) globals.old) }
+    ensures faults { OnOk result (found.new ≡ first_of_both found.old (first (twice (label_name label.entry) globals.old ++ counted MOST_PROCESSES (length globals.old.processes) Processes (label_name label.entry).place))) }
+{
+    let count = globals.processes.len();
+    name(alloc, &mut globals.scopes, label, Meaning::Process, found)?;
+    note_if(
+        found,
+        MOST_PROCESSES <= count,
+        label.place,
+        Cause::TooMany(Limit::Processes),
+    );
+    globals.processes.push(node)
+}

@@ -1,0 +1,166 @@
+// What the nodes of a table say, by their numbers. Child numbers count from 0; a child that is missing says nothing.
+ghost use Rattle.std.specs.Prelude.{◌≡◌, ◌<◌, ◌≤◌, ◌^◌, length, MatchOption, IfSome, slice_get};
+ghost use Rattle.std.specs.List.{All};
+ghost use Rattle.ppd_parse.specs.Tree.{IsTable};
+ghost use Rattle.ppd_check.specs.Nodes.{phrase_of, phrases_below, children_of, SaysBy, label_name, operand_formula, IsOperand, IsAfter};
+ghost use Rattle.ppd_check.specs.Reading.{phrase, token, as_token, nowhere, kind, value_of, formula_at, place_at, name_at, text_of};
+
+use ppd_ast::Place;
+use ppd_lex::{Token, TokenKind};
+use ppd_parse::{Kind, Node, Rule, kind_of};
+
+// Where an expression stands, or a constant that is none of the source's.
+#[derive(Clone, Copy)]
+pub enum Operand {
+    Constant(i64),
+    At(u32),
+}
+
+// A name and its place.
+#[derive(Clone, Copy)]
+pub struct Label<'a> {
+    pub text: &'a [u8],
+    pub place: Place,
+}
+
+// The numbers of a node's children.
+pub fn children_of(nodes: &[Node], id: u32) -> &[u32]
+    requires table { IsTable nodes.now }
+    requires within { id < length nodes.now }
+    ensures children { result.now ≡ children_of nodes.now id }
+    ensures inside { All (λ c. (id < c) × (c < length nodes.now)) result.now }
+{
+    nodes[id as usize].children.as_slice()
+}
+
+// The number of the child.
+fn child_id(nodes: &[Node], id: u32, k: usize) -> Option<u32>
+    requires table { IsTable nodes.now }
+    requires within { id < length nodes.now }
+    ensures child { result ≡ slice_get (children_of nodes.now id) k }
+    ensures within { IfSome result (λ c. c < length nodes.now) }
+    ensures after { IfSome result (λ c. id < c) }
+{
+    nodes[id as usize].children.as_slice().get(k).copied()
+}
+
+// The number of the child, and what it says.
+pub fn child_at(nodes: &[Node], id: u32, k: usize) -> Option<u32>
+    requires table { IsTable nodes.now }
+    requires within { id < length nodes.now }
+    ensures child { result ≡ slice_get (children_of nodes.now id) k }
+    ensures within { IfSome result (λ c. c < length nodes.now) }
+    ensures after { IfSome result (λ c. id < c) }
+    ensures said { MatchOption result (phrase (phrases_below nodes.now id) k ≡ token nowhere) (λ c. phrase (phrases_below nodes.now id) k ≡ phrase_of nodes.now c) }
+{
+    child_id(nodes, id, k)
+}
+
+// The rule of a node, `Leaf` for a token.
+pub fn rule_of(nodes: &[Node], id: u32) -> Rule
+    requires table { IsTable nodes.now }
+    requires within { id < length nodes.now }
+    ensures { SaysBy result (phrases_below nodes.now id) (phrase_of nodes.now id) }
+{
+    nodes[id as usize].rule
+}
+
+// The child's token; none where it is none, or missing.
+fn token_at(nodes: &[Node], id: u32, k: usize) -> Option<&Token>
+    requires table { IsTable nodes.now }
+    requires within { id < length nodes.now }
+    ensures { MatchOption result (as_token (phrase (phrases_below nodes.now id) k) ≡ nowhere) (λ t. as_token (phrase (phrases_below nodes.now id) k) ≡ t.now) }
+{
+    match child_at(nodes, id, k) {
+        Some(child) => nodes[child as usize].token.as_ref(),
+        None => None,
+    }
+}
+
+// What the child is to the grammar, where it is a token.
+pub fn kind_at(nodes: &[Node], id: u32, k: usize) -> Kind
+    requires table { IsTable nodes.now }
+    requires within { id < length nodes.now }
+    ensures { result ≡ kind (phrase (phrases_below nodes.now id) k) }
+{
+    match token_at(nodes, id, k) {
+        Some(token) => kind_of(&token.kind),
+        None => Kind::End,
+    }
+}
+
+// The child's place, where it is a token.
+pub fn place_at(nodes: &[Node], id: u32, k: usize) -> Place
+    requires table { IsTable nodes.now }
+    requires within { id < length nodes.now }
+    ensures { result ≡ place_at (phrases_below nodes.now id) k }
+{
+    match token_at(nodes, id, k) {
+        Some(token) => token.place,
+        None => Place { line: 0, column: 0 },
+    }
+}
+
+// The child's value, where it is a number.
+pub fn value_at(nodes: &[Node], id: u32, k: usize) -> i64
+    requires table { IsTable nodes.now }
+    requires within { id < length nodes.now }
+    ensures { result ≡ value_of (as_token (phrase (phrases_below nodes.now id) k)).kind }
+{
+    match token_at(nodes, id, k) {
+        Some(token) => value_of(&token.kind),
+        None => 0,
+    }
+}
+
+// The child's name, where it is one.
+pub fn label_at(nodes: &[Node], id: u32, k: usize) -> Label<'_>
+    requires table { IsTable nodes.now }
+    requires within { id < length nodes.now }
+    ensures { label_name result ≡ name_at (phrases_below nodes.now id) k }
+{
+    match token_at(nodes, id, k) {
+        Some(token) => Label {
+            text: text_of(&token.kind),
+            place: token.place,
+        },
+        None => Label {
+            text: &[],
+            place: Place { line: 0, column: 0 },
+        },
+    }
+}
+
+// The child as an expression.
+pub fn operand_at(nodes: &[Node], id: u32, k: usize) -> Operand
+    requires table { IsTable nodes.now }
+    requires within { id < length nodes.now }
+    ensures formula { operand_formula nodes.now result ≡ formula_at (phrases_below nodes.now id) k }
+    ensures within { IsOperand nodes.now result }
+    ensures after { IsAfter id result }
+{
+    match child_at(nodes, id, k) {
+        Some(child) => Operand::At(child),
+        None => Operand::Constant(0),
+    }
+}
+
+// The value of a number.
+fn value_of(kind: &TokenKind) -> i64
+    ensures { result ≡ value_of kind.now }
+{
+    match kind {
+        TokenKind::Number(value) => *value,
+        _ => 0,
+    }
+}
+
+// The bytes of a name.
+fn text_of(kind: &TokenKind) -> &[u8]
+    ensures { result.now ≡ text_of kind.now }
+{
+    match kind {
+        TokenKind::Name(text) => text.as_slice(),
+        _ => &[],
+    }
+}

@@ -1,0 +1,46 @@
+// The tree of a source.
+ghost use Rattle.std.specs.Prelude.{◌≡◌, ◌≤◌, ◌*◌, ◌^◌, length, IfOk, IfErr};
+ghost use Rattle.ppd_parse.specs.Tree.{tree_of, IsTable};
+ghost use Rattle.ppd_check.specs.Read.{IsParsed, IsRefused, by_lex, by_parse};
+
+use crate::error::SourceError;
+use ppd_lex::{LexError, lex};
+use ppd_parse::{SyntaxError, Tree, parse};
+use std::alloc::Global;
+
+// Why a source has no program, by its lexical fault.
+fn by_lex(error: LexError) -> SourceError
+    ensures { result ≡ by_lex error }
+{
+    match error {
+        LexError::Memory => SourceError::Memory,
+        fault => SourceError::Lex(fault),
+    }
+}
+
+// Why a source has no program, by the token that breaks the grammar or a limit.
+fn by_parse(error: SyntaxError) -> SourceError
+    ensures { result ≡ by_parse error }
+{
+    match error {
+        SyntaxError::Memory => SourceError::Memory,
+        fault => SourceError::Syntax(fault),
+    }
+}
+
+// The tree of a source's bytes, or why it has none.
+pub fn read_tree(alloc: Global, bytes: &[u8]) -> Result<Tree, SourceError>
+    ensures parsed { IfOk result (λ tree. IsParsed bytes.now (tree_of tree.nodes)) }
+    ensures table { IfOk result (λ tree. IsTable tree.nodes) }
+    ensures few { IfOk result (λ tree. length tree.nodes ≤ 3 * 2 ^ 30) }
+    ensures refused { IfErr result (λ error. IsRefused bytes.now error) }
+{
+    let tokens = match lex(alloc, bytes) {
+        Ok(tokens) => tokens,
+        Err(error) => return Err(by_lex(error)),
+    };
+    match parse(alloc, &tokens) {
+        Ok(tree) => Ok(tree),
+        Err(error) => Err(by_parse(error)),
+    }
+}

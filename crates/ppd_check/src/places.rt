@@ -1,0 +1,38 @@
+// The statements past the most that there may be.
+ghost use Rattle.std.specs.Prelude.{◌≡◌, map, IfOk};
+ghost use Rattle.ppd_check.specs.Faults.{first, first_of_both};
+ghost use Rattle.ppd_check.specs.Sources.{past_statements};
+ghost use Rattle.ppd_check.specs.Placed.{place_of};
+
+use crate::fault::{Cause, Fault, Limit, note};
+use ppd_ast::limits::MOST_STATEMENTS;
+use ppd_ast::{Memory, Place, Stmt};
+use std::alloc::Global;
+
+// Keeps the first fault of those found so far and of the statements at these places: the place past the most in
+// source order, where there are more. The places are put in another order.
+pub fn note_past(places: &mut [Place], found: &mut Option<Fault>)
+    ensures { found.new ≡ first_of_both found.old (first (past_statements places.old)) }
+{
+    if places.len() <= MOST_STATEMENTS {
+        return;
+    }
+    let (_, past, _) = places.select_nth_unstable_by_key(
+        MOST_STATEMENTS,
+        |place| (place.line, place.column),
+    );
+    note(found, *past, Cause::TooMany(Limit::Statements));
+}
+
+// The places of statements.
+pub fn places_of(alloc: Global, stmts: &[Stmt]) -> Result<Vec<Place>, Memory>
+    ensures { IfOk result (λ places. places.items ≡ map place_of stmts.now) }
+{
+    let mut places = Vec::new(alloc);
+    for stmt in stmts {
+        if places.push(stmt.place).is_err() {
+            return Err(Memory);
+        }
+    }
+    Ok(places)
+}

@@ -1,0 +1,113 @@
+// What names mean where they stand.
+ghost use Rattle.std.specs.Prelude.{◌≡◌, [], ◌∷◌, reverse, map, drop, is_some, OnOk, OnErr, IfOk};
+ghost use Rattle.ppd_check.specs.Names.{meaning, declare, found, scope_of, innermost, in_innermost};
+
+use crate::meaning::Meaning;
+use indexmap::IndexMap;
+use ppd_ast::Memory;
+use std::alloc::Global;
+use std::marker::Model;
+
+// The scopes round a place, the outermost first; contracts see the innermost first.
+#[derive(Drop)]
+pub struct Scopes {
+    maps: Vec<IndexMap<Vec<u8>, Meaning>>,
+}
+
+impl Model for Scopes {
+    ghost use Rattle.std.specs.Prelude.{List, map, reverse};
+    ghost use Rattle.ppd_check.specs.Names.{Scope, scope_of};
+
+    ghost Value = { List Scope };
+
+    ghost view = { λ s. reverse (map scope_of s.maps.items) };
+}
+
+impl Scopes {
+    pub fn new(alloc: Global) -> Scopes
+        ensures { result ≡ [] }
+    {
+        Scopes {
+            maps: Vec::new(alloc),
+        }
+    }
+
+    // Opens a scope inside the others.
+    pub fn open(&mut self, alloc: Global) -> Result<(), Memory>
+        ensures ok { OnOk result (self.new ≡ [] ∷ self.old) }
+        ensures err { OnErr result (self.new ≡ self.old) }
+    {
+        match self.maps.push(IndexMap::new(alloc)) {
+            Ok(()) => Ok(()),
+            Err(_) => Err(Memory),
+        }
+    }
+
+    // Leaves the innermost scope.
+    pub fn close(&mut self)
+        ensures { self.new ≡ drop 1 self.old }
+    {
+        let _ = self.maps.pop();
+    }
+
+    // Declares a name in the innermost scope, and answers whether it was there before.
+    pub fn declare(&mut self, alloc: Global, name: &[u8], meaning: Meaning) -> Result<bool, Memory>
+        ensures twice { IfOk result (λ twice. twice ≡ is_some (found (innermost self.old) name.now)) }
+        ensures ok { OnOk result (self.new ≡ in_innermost (declare name.now meaning) self.old) }
+    {
+        let count = self.maps.len();
+        if count == 0 {
+            return Ok(false);
+        }
+        declare_in(alloc, &mut self.maps[count - 1], name, meaning)
+    }
+
+    // What a name means here: its declaration in the innermost scope that has one.
+    pub fn find(&self, name: &[u8]) -> Option<Meaning>
+        ensures { result ≡ meaning self.now name.now }
+    {
+        find_in(self.maps.as_slice(), name)
+    }
+}
+
+// The last map that has the name decides.
+fn find_in(maps: &[IndexMap<Vec<u8>, Meaning>], name: &[u8]) -> Option<Meaning>
+    ensures { result ≡ meaning (reverse (map scope_of maps.now)) name.now }
+{
+    for left in (0..maps.len()).rev() {
+        if let Some(found) = maps[left].get(name) {
+            return Some(*found);
+        }
+    }
+    None
+}
+
+// Declares a name in one scope, and answers whether it was there before.
+fn declare_in(
+    alloc: Global,
+    scope: &mut IndexMap<Vec<u8>, Meaning>,
+    name: &[u8],
+    meaning: Meaning,
+) -> Result<bool, Memory>
+    ensures twice { IfOk result (λ twice. twice ≡ is_some (found (scope_of scope.old) name.now)) }
+    ensures ok { OnOk result (scope_of scope.new ≡ declare name.now meaning (scope_of scope.old)) }
+    ensures err { OnErr result (scope_of scope.new ≡ scope_of scope.old) }
+{
+    if found_in(scope, name).is_some() {
+        return Ok(true);
+    }
+    let Ok(key) = Vec::from_slice(alloc, name) else {
+        return Err(Memory);
+    };
+    let Ok(_) = scope.insert(key, meaning) else {
+        return Err(Memory);
+    };
+    Ok(false)
+}
+
+// What a name means in one scope.
+fn found_in(scope: &IndexMap<Vec<u8>, Meaning>, name: &[u8]) -> Option<Meaning>
+    ensures { result ≡ found (scope_of scope.now) name.now }
+{
+    scope.get(name).copied()
+}
