@@ -9,5 +9,6 @@ pub mod RowsOfLoops
 pub mod RowsOfNames
 pub mod RowsOfPrograms
 pub mod RowsOfRules
+pub mod Through
 pub mod Trees
 pub mod Writing

@@ -9,6 +9,7 @@ mod fault;
 mod forms;
 mod formulas;
 mod frame;
+mod hidden;
 mod meaning;
 mod nodes;
 mod scopes;
