@@ -1,4 +1,5 @@
 pub mod Arguments
+pub mod Declaring
 pub mod First
 pub mod Flat
 pub mod Joined
@@ -11,4 +12,5 @@ pub mod RowsOfPrograms
 pub mod RowsOfRules
 pub mod Through
 pub mod Trees
+pub mod Walking
 pub mod Writing
