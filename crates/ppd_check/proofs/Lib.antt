@@ -4,13 +4,16 @@ pub mod First
 pub mod Flat
 pub mod Joined
 pub mod Lookup
+pub mod Nested
 pub mod RowTables
 pub mod RowsOfForms
 pub mod RowsOfLoops
 pub mod RowsOfNames
 pub mod RowsOfPrograms
 pub mod RowsOfRules
+pub mod Semicolons
 pub mod Through
 pub mod Trees
 pub mod Walking
+pub mod Worded
 pub mod Writing

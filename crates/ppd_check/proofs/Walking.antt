@@ -142,12 +142,12 @@ held b q p k e c fe fc u v w x y h n ids ve vf vs we wf ws num inside ye yf ys =
     let many : length w.stmts ≡ length u.stmts + 1 = ap length table ∙ length-append u.stmts (h ∷ []) in
     let rest : List Stmt = stmts b (Some (length u.stmts)) (length u.stmts + 1) (m + weight e) c in
     let full : x.stmts ≡ u.stmts ++ h ∷ rest =
-        inside.stmts
-        ∙ ap (λ j. w.stmts ++ stmts b (Some j) (length w.stmts) (length w.exprs) c) which
-        ∙ ap (λ j. w.stmts ++ stmts b (Some (length u.stmts)) j (length w.exprs) c) many
-        ∙ ap (λ j. w.stmts ++ stmts b (Some (length u.stmts)) (length u.stmts + 1) j c) long
-        ∙ ap (λ l. l ++ rest) table
-        ∙ append_assoc u.stmts (h ∷ []) rest in
+    inside.stmts
+    ∙ ap (λ j. w.stmts ++ stmts b (Some j) (length w.stmts) (length w.exprs) c) which
+    ∙ ap (λ j. w.stmts ++ stmts b (Some (length u.stmts)) j (length w.exprs) c) many
+    ∙ ap (λ j. w.stmts ++ stmts b (Some (length u.stmts)) (length u.stmts + 1) j c) long
+    ∙ ap (λ l. l ++ rest) table
+    ∙ append_assoc u.stmts (h ∷ []) rest in
     record {
       exprs =
           ye ∙ inside.exprs

@@ -14,3 +14,4 @@ pub mod Nodes
 pub mod Forms
 pub mod Values
 pub mod Writing
+pub mod Plain

@@ -6,12 +6,7 @@ use crate::writer::{Site, Writer, put_stmt};
 use ppd_ast::{Ids, Kind, Memory, Place, Stmt};
 
 // One more statement, whose place is held until the statements inside it are known; its number.
-pub fn hold_stmt(
-    out: &mut Writer,
-    site: Site,
-    place: Place,
-    row: &mut Ids,
-) -> Result<u32, Memory>
+pub fn hold_stmt(out: &mut Writer, site: Site, place: Place, row: &mut Ids) -> Result<u32, Memory>
     ensures exprs { out.new.exprs ≡ out.old.exprs }
     ensures found { out.new.found ≡ out.old.found }
     ensures stmts { OnOk result (out.new.stmts ≡ out.old.stmts ++ record { place = place; body = site.body; parent = site.parent; kind = End } ∷ []) }

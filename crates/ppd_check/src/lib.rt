@@ -14,11 +14,13 @@ mod hidden;
 mod locals;
 mod meaning;
 mod nodes;
+mod parts;
 mod scopes;
 mod simple;
 mod statements;
 mod stores;
 mod values;
+mod words;
 mod writer;
 
 pub use error::{CheckError, SourceError};

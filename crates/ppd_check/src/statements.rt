@@ -104,15 +104,5 @@ pub fn write_called(
     ensures { OnOk result (WroteSimple site (call (name_at (phrases_below nodes.now id) 0) (formulas (phrases_below nodes.now id))) frame.now out.old out.new row.old row.new) }
 {
     let place = label_at(nodes, id, 0).place;
-    write_call(
-        alloc,
-        nodes,
-        id,
-        &frame.scopes,
-        None,
-        place,
-        out,
-        site,
-        row,
-    )
+    write_call(alloc, nodes, id, &frame.scopes, None, place, out, site, row)
 }
