@@ -2,6 +2,7 @@ pub mod Arguments
 pub mod Declaring
 pub mod First
 pub mod Flat
+pub mod Inside
 pub mod Joined
 pub mod Lookup
 pub mod Nested

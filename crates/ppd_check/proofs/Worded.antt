@@ -6,7 +6,7 @@ use Rattle.ppd_parse.specs.declared.symbol.Rule.{Rule}
 use Rattle.ppd_parse.specs.declared.symbol.Rule.TheVariants as R
 use Rattle.ppd_check.specs.Nodes.{SaysBy}
 use Rattle.ppd_check.specs.Plain.{plain_word, plain_statement}
-use Rattle.ppd_check.specs.Reading.{Phrase}
+use Rattle.ppd_check.specs.Reading.{Phrase, statement}
 use Rattle.ppd_check.specs.Syntax.{stop, block}
 
 -- no word of a statement without statements inside it
@@ -29,3 +29,9 @@ statement_other R.Change qs p ps a b c d e = absurd (c refl)
 statement_other R.Litem qs p ps a b c d e = absurd (d refl)
 statement_other R.Leaf qs p ps a b c d e = ap (λ q. plain_statement q ps) e.1
 statement_other r qs p ps a b c d e = ap (λ q. plain_statement q ps) e
+
+-- the statement of a node whose first child is no token and no block
+pub named_statement : (r : Rule) (qs : List Phrase) (p : Phrase) (ps : List Phrase) → (r ≡ R.Leaf → ⊥) → (r ≡ R.Block → ⊥) → SaysBy r qs p → statement p ps ≡ plain_statement p ps
+named_statement R.Leaf qs p ps a b e = absurd (a refl)
+named_statement R.Block qs p ps a b e = absurd (b refl)
+named_statement r qs p ps a b e = ap (λ q. statement q ps) e ∙ sym (ap (λ q. plain_statement q ps) e)
