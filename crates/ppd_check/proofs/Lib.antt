@@ -1,9 +1,12 @@
 pub mod Arguments
 pub mod Declarations
+pub mod Declaring
 pub mod First
 pub mod Flat
+pub mod Inside
 pub mod Joined
 pub mod Lookup
+pub mod Nested
 pub mod RowTables
 pub mod PastMost
 pub mod RowsOfForms
@@ -11,5 +14,9 @@ pub mod RowsOfLoops
 pub mod RowsOfNames
 pub mod RowsOfPrograms
 pub mod RowsOfRules
+pub mod Semicolons
+pub mod Through
 pub mod Trees
+pub mod Walking
+pub mod Worded
 pub mod Writing

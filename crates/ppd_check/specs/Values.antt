@@ -1,5 +1,7 @@
 -- Places and values by their nodes, as the code sees them.
-use Rattle.std.specs.Prelude.{◌<◌, List, length}
+use Rattle.std.specs.Prelude.{ℕ, ◌<◌, List, [], ◌∷◌, length, Option, Some, None}
+use Rattle.ppd_ast.specs.declared.program.Place.{Place}
+use Rattle.ppd_ast.specs.Term as T
 use Rattle.ppd_parse.specs.declared.node.Node.{Node}
 use Rattle.ppd_check.specs.declared.values.Goal.{Goal}
 use Rattle.ppd_check.specs.declared.values.Goal.TheVariants.{Scalar, Item}
@@ -7,6 +9,10 @@ use Rattle.ppd_check.specs.declared.values.Value.{Value}
 use Rattle.ppd_check.specs.declared.values.Value.TheVariants.{Plain, Result, Received}
 use Rattle.ppd_check.specs.Syntax as S
 use Rattle.ppd_check.specs.Reading.{name_at, formulas}
+use Rattle.ppd_check.specs.declared.frame.Frame.{Frame}
+use Rattle.ppd_check.specs.Code as C
+use Rattle.ppd_check.specs.Code.{Spot, Act}
+use Rattle.ppd_check.specs.Statements.{put, with_hidden}
 use Rattle.ppd_check.specs.Nodes.{label_name, operand_formula, phrases_below, IsOperand}
 
 abbrev pub goal_said : List Node → Goal → S.Goal
@@ -27,3 +33,17 @@ abbrev pub IsValue : List Node → Value → Type 0
 IsValue ns (Plain e) = IsOperand ns e
 IsValue ns (Result i) = i < length ns
 IsValue ns (Received x) = Unit {0}
+
+-- the cell of a place that is a local scalar
+abbrev pub local_cell : Spot → Option ℕ
+local_cell (C.local c) = Some c
+local_cell m = None
+
+-- a value from a call or a channel into a place: straight into a local scalar, or through a hidden one
+abbrev pub through_acts : Option ℕ → Spot → S.Value → Frame → List Act
+through_acts (Some c) m v f = put f.scopes c v ∷ []
+through_acts None m v f = put f.scopes f.cells v ∷ C.set m (T.local f.cells) ∷ []
+
+abbrev pub through_frame : Option ℕ → Place → Frame → Frame
+through_frame (Some c) p f = f
+through_frame None p f = with_hidden p f

@@ -1,5 +1,5 @@
 -- What a walk of statements adds to the table.
-use Rattle.std.specs.Prelude.{◌≡◌, ℕ, List, ◌++◌, map, length, Option}
+use Rattle.std.specs.Prelude.{◌≡◌, ℕ, List, [], ◌++◌, map, length, Option}
 use Rattle.std.specs.List.{flat_map}
 use Rattle.ppd_ast.specs.declared.program.Expr.{Expr}
 use Rattle.ppd_ast.specs.Term.{Term}
@@ -14,8 +14,8 @@ use Rattle.ppd_check.specs.Nodes.{phrases_of}
 use Rattle.ppd_ast.specs.declared.program.Place.{Place}
 use Rattle.ppd_check.specs.declared.frame.Frame.{Frame}
 use Rattle.ppd_check.specs.declared.writer.Site.{Site}
-use Rattle.ppd_check.specs.Syntax.{Simple}
-use Rattle.ppd_check.specs.Statements.{code_of, faults_of}
+use Rattle.ppd_check.specs.Syntax.{Simple, Row, stop, simple}
+use Rattle.ppd_check.specs.Statements.{code_of, faults_of, row_code, row_faults, after_row}
 use Rattle.ppd_check.specs.Code.{Code, Act, done, act}
 use Rattle.ppd_check.specs.Table.{flats, roots, terms, numbers, stmts}
 
@@ -30,6 +30,16 @@ pub record Wrote (body : ℕ) (parent : Option ℕ) (code : Code) (faults : List
 -- a statement without statements inside it was added, in a frame
 abbrev pub WroteSimple : Site → Simple → Frame → (old new : Writer) (ids ids' : List ℕ) → Type 0
 WroteSimple site s f old new ids ids' = Wrote site.body site.parent (code_of s f) (faults_of s f) old new ids ids'
+
+-- a row was added, where a row of one statement is that statement
+abbrev pub WroteRow : Site → Row → Frame → (old new : Writer) (ids ids' : List ℕ) → Type 0
+WroteRow site (simple s stop) f old new ids ids' = WroteSimple site s f old new ids ids'
+WroteRow site r f old new ids ids' = Wrote site.body site.parent (row_code r f) (row_faults r f) old new ids ids'
+
+-- a row was added, with the frame before it and the one after it
+pub record Walked (site : Site) (r : Row) (f g : Frame) (old new : Writer) (ids ids' : List ℕ) : Type 0 where
+  pub wrote : Wrote site.body site.parent (row_code r f) (row_faults r f) old new ids ids'
+  pub frame : g ≡ after_row r f
 
 -- one core statement was added
 abbrev pub WroteAct : Site → Place → Act → List Fault → (old new : Writer) (ids ids' : List ℕ) → Type 0

@@ -19,7 +19,7 @@ use ppd_ast::{Expr, Ids, Kind, Memory, Op, Place};
 use ppd_parse::{Kind as Token, Node};
 
 // The place of the name.
-fn place_of(goal: Goal<'_>) -> Place
+pub fn place_of(goal: Goal<'_>) -> Place
     ensures { (ns : List Node) → (goal_name (goal_said ns goal.entry)).place ≡ result }
 {
     match goal {

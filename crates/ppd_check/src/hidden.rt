@@ -1,0 +1,229 @@
+// Values of calls and channels into places and returns, through hidden local scalars where need be.
+ghost use Rattle.std.specs.Prelude.{◌≡◌, ◌<◌, ◌++◌, [], ◌∷◌, OnOk, length, List, Some};
+ghost use Rattle.ppd_ast.specs.Term as T;
+ghost use Rattle.ppd_parse.specs.declared.node.Node.{Node};
+ghost use Rattle.ppd_parse.specs.Tree.{IsTable};
+ghost use Rattle.ppd_check.specs.Code as C;
+ghost use Rattle.ppd_check.specs.Code.{acts};
+ghost use Rattle.ppd_check.specs.Expressions.{formula_faults, read_scalar};
+ghost use Rattle.ppd_check.specs.Reading.{goal_formula};
+ghost use Rattle.ppd_check.specs.Syntax.{store, give_back};
+ghost use Rattle.ppd_check.specs.Statements.{after, put, spot, spot_of, goal_name, value_faults, with_hidden};
+ghost use Rattle.ppd_check.specs.Values.{goal_said, value_said_by, IsGoal, IsValue, local_cell, through_acts, through_frame};
+ghost use Rattle.ppd_check.specs.Writing.{Wrote, WroteAct, WroteSimple};
+
+use crate::arrays::write_return_of;
+use crate::changes::{place_of, write_set};
+use crate::formulas::put;
+use crate::frame::{Frame, hide};
+use crate::meaning::Meaning;
+use crate::scopes::Scopes;
+use crate::stores::{write_put, write_spot};
+use crate::values::{Goal, Value};
+use crate::writer::{Site, Writer, put_stmt};
+use ppd_ast::{Expr, Ids, Kind, Memory, Place};
+use ppd_parse::Node;
+use std::alloc::Global;
+
+// The cell of a local scalar.
+fn cell_of(meaning: Option<Meaning>) -> Option<u16>
+    ensures { local_cell (spot (read_scalar meaning)) ≡ result }
+{
+    match meaning {
+        Some(Meaning::Local(cell, None)) => Some(cell),
+        _ => None,
+    }
+}
+
+// The cell of a place that is a local scalar.
+fn local_cell(scopes: &Scopes, goal: Goal<'_>) -> Option<u16>
+    ensures { (ns : List Node) → local_cell (spot_of scopes.now (goal_said ns goal.entry)) ≡ result }
+{
+    match goal {
+        Goal::Scalar(name) => cell_of(scopes.find(name.text)),
+        Goal::Item(_, _) => None,
+    }
+}
+
+// The value of a local scalar into a place.
+fn write_move(
+    nodes: &[Node],
+    goal: Goal<'_>,
+    cell: u16,
+    scopes: &Scopes,
+    place: Place,
+    out: &mut Writer,
+    site: Site,
+    row: &mut Ids,
+) -> Result<(), Memory>
+    requires table { IsTable nodes.now }
+    requires within { IsGoal nodes.now goal }
+    ensures { OnOk result (WroteAct site place (C.set (spot_of scopes.now (goal_said nodes.now goal.entry)) (T.local cell)) (formula_faults scopes.now (goal_formula (goal_said nodes.now goal.entry))) out.old out.new row.old row.new) }
+{
+    let target = write_spot(nodes, scopes, goal, &mut out.exprs, &mut out.found)?;
+    let number = put(&mut out.exprs, Expr::Local(cell))?;
+    put_stmt(out, site, place, Kind::Set(target, number), row)
+}
+
+// The value of a call or a channel into a hidden local scalar, and from there into a place.
+fn write_hidden(
+    alloc: Global,
+    nodes: &[Node],
+    goal: Goal<'_>,
+    value: Value<'_>,
+    place: Place,
+    frame: &mut Frame,
+    out: &mut Writer,
+    site: Site,
+    row: &mut Ids,
+) -> Result<(), Memory>
+    requires table { IsTable nodes.now }
+    requires goal { IsGoal nodes.now goal }
+    requires within { IsValue nodes.now value }
+    ensures wrote { OnOk result (Wrote site.body site.parent (acts place (put frame.old.scopes frame.old.cells (value_said_by nodes.now value.entry) ∷ C.set (spot_of frame.old.scopes (goal_said nodes.now goal.entry)) (T.local frame.old.cells) ∷ [])) (formula_faults frame.old.scopes (goal_formula (goal_said nodes.now goal.entry)) ++ value_faults frame.old.scopes (value_said_by nodes.now value.entry)) out.old out.new row.old row.new) }
+    ensures frame { OnOk result (frame.new ≡ with_hidden place frame.old) }
+{
+    let cell = hide(alloc, frame, place)?;
+    write_put(
+        alloc,
+        nodes,
+        value,
+        &frame.scopes,
+        cell,
+        place,
+        out,
+        site,
+        row,
+    )?;
+    write_move(nodes, goal, cell, &frame.scopes, place, out, site, row)
+}
+
+// The value of a call or a channel into a place.
+fn write_through(
+    alloc: Global,
+    nodes: &[Node],
+    goal: Goal<'_>,
+    value: Value<'_>,
+    frame: &mut Frame,
+    out: &mut Writer,
+    site: Site,
+    row: &mut Ids,
+) -> Result<(), Memory>
+    requires table { IsTable nodes.now }
+    requires goal { IsGoal nodes.now goal }
+    requires within { IsValue nodes.now value }
+    ensures wrote { OnOk result (Wrote site.body site.parent (acts (goal_name (goal_said nodes.now goal.entry)).place (through_acts (local_cell (spot_of frame.old.scopes (goal_said nodes.now goal.entry))) (spot_of frame.old.scopes (goal_said nodes.now goal.entry)) (value_said_by nodes.now value.entry) frame.old)) (formula_faults frame.old.scopes (goal_formula (goal_said nodes.now goal.entry)) ++ value_faults frame.old.scopes (value_said_by nodes.now value.entry)) out.old out.new row.old row.new) }
+    ensures frame { OnOk result (frame.new ≡ through_frame (local_cell (spot_of frame.old.scopes (goal_said nodes.now goal.entry))) (goal_name (goal_said nodes.now goal.entry)).place frame.old) }
+{
+    let place = place_of(goal);
+    match local_cell(&frame.scopes, goal) {
+        Some(cell) => write_put(
+            alloc,
+            nodes,
+            value,
+            &frame.scopes,
+            cell,
+            place,
+            out,
+            site,
+            row,
+        ),
+        None => write_hidden(alloc, nodes, goal, value, place, frame, out, site, row),
+    }
+}
+
+// `p = v`
+pub fn write_store(
+    alloc: Global,
+    nodes: &[Node],
+    goal: Goal<'_>,
+    value: Value<'_>,
+    frame: &mut Frame,
+    out: &mut Writer,
+    site: Site,
+    row: &mut Ids,
+) -> Result<(), Memory>
+    requires table { IsTable nodes.now }
+    requires goal { IsGoal nodes.now goal }
+    requires within { IsValue nodes.now value }
+    ensures wrote { OnOk result (WroteSimple site (store (goal_said nodes.now goal.entry) (value_said_by nodes.now value.entry)) frame.old out.old out.new row.old row.new) }
+    ensures frame { OnOk result (frame.new ≡ after (store (goal_said nodes.now goal.entry) (value_said_by nodes.now value.entry)) frame.old) }
+{
+    match value {
+        Value::Plain(operand) => write_set(nodes, goal, operand, frame, out, site, row),
+        Value::Result(_) => write_through(alloc, nodes, goal, value, frame, out, site, row),
+        Value::Received(_) => write_through(alloc, nodes, goal, value, frame, out, site, row),
+    }
+}
+
+// The value of a local scalar, returned.
+fn write_return_cell(
+    cell: u16,
+    place: Place,
+    out: &mut Writer,
+    site: Site,
+    row: &mut Ids,
+) -> Result<(), Memory>
+    ensures { OnOk result (WroteAct site place (C.give_back (Some (T.local cell))) [] out.old out.new row.old row.new) }
+{
+    let number = put(&mut out.exprs, Expr::Local(cell))?;
+    put_stmt(out, site, place, Kind::Return(Some(number)), row)
+}
+
+// The value of a call or a channel into a hidden local scalar, which is returned.
+fn write_return_hidden(
+    alloc: Global,
+    nodes: &[Node],
+    value: Value<'_>,
+    place: Place,
+    frame: &mut Frame,
+    out: &mut Writer,
+    site: Site,
+    row: &mut Ids,
+) -> Result<(), Memory>
+    requires table { IsTable nodes.now }
+    requires within { IsValue nodes.now value }
+    ensures wrote { OnOk result (Wrote site.body site.parent (acts place (put frame.old.scopes frame.old.cells (value_said_by nodes.now value.entry) ∷ C.give_back (Some (T.local frame.old.cells)) ∷ [])) (value_faults frame.old.scopes (value_said_by nodes.now value.entry)) out.old out.new row.old row.new) }
+    ensures frame { OnOk result (frame.new ≡ with_hidden place frame.old) }
+{
+    let cell = hide(alloc, frame, place)?;
+    write_put(
+        alloc,
+        nodes,
+        value,
+        &frame.scopes,
+        cell,
+        place,
+        out,
+        site,
+        row,
+    )?;
+    write_return_cell(cell, place, out, site, row)
+}
+
+// `return v;`
+pub fn write_return_value(
+    alloc: Global,
+    nodes: &[Node],
+    value: Value<'_>,
+    place: Place,
+    frame: &mut Frame,
+    out: &mut Writer,
+    site: Site,
+    row: &mut Ids,
+) -> Result<(), Memory>
+    requires table { IsTable nodes.now }
+    requires within { IsValue nodes.now value }
+    ensures wrote { OnOk result (WroteSimple site (give_back place (Some (value_said_by nodes.now value.entry))) frame.old out.old out.new row.old row.new) }
+    ensures frame { OnOk result (frame.new ≡ after (give_back place (Some (value_said_by nodes.now value.entry))) frame.old) }
+{
+    match value {
+        Value::Plain(operand) => write_return_of(nodes, operand, place, frame, out, site, row),
+        Value::Result(_) => {
+            write_return_hidden(alloc, nodes, value, place, frame, out, site, row)
+        }
+        Value::Received(_) => {
+            write_return_hidden(alloc, nodes, value, place, frame, out, site, row)
+        }
+    }
+}
