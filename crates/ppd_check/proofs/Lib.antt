@@ -3,8 +3,10 @@ pub mod Declarations
 pub mod First
 pub mod Flat
 pub mod Joined
+pub mod Listing
 pub mod Lookup
 pub mod PastMost
+pub mod Placing
 pub mod RowsOfFaults
 pub mod RowsOfForms
 pub mod RowsOfPrograms

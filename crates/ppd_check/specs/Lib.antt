@@ -18,3 +18,4 @@ pub mod Values
 pub mod Writing
 pub mod Declaring
 pub mod Holding
+pub mod Items

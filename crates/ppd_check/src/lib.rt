@@ -11,6 +11,7 @@ mod globals;
 mod items;
 mod meaning;
 mod nodes;
+mod objects;
 mod parsed;
 mod places;
 mod scopes;
