@@ -1,14 +1,17 @@
 pub mod Arguments
+pub mod Counted
 pub mod Declarations
 pub mod First
 pub mod Flat
 pub mod Joined
 pub mod Listing
 pub mod Lookup
+pub mod Parameters
 pub mod PastMost
 pub mod Placing
 pub mod RowsOfFaults
 pub mod RowsOfForms
 pub mod RowsOfPrograms
 pub mod Trees
+pub mod Walks
 pub mod Writing

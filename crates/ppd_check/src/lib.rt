@@ -2,6 +2,7 @@
 #![tactic(auto)]
 
 mod calls;
+mod declare;
 mod error;
 mod fault;
 mod forms;
@@ -15,6 +16,7 @@ mod objects;
 mod parsed;
 mod places;
 mod scopes;
+mod signatures;
 mod simple;
 mod stores;
 mod values;
