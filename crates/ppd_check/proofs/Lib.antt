@@ -9,6 +9,7 @@ pub mod Lookup
 pub mod Parameters
 pub mod PastMost
 pub mod Placing
+pub mod Roots
 pub mod RowsOfFaults
 pub mod RowsOfForms
 pub mod RowsOfPrograms

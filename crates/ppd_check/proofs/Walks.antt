@@ -1,7 +1,7 @@
 -- Declarations, node after node.
 use Rattle.std.proofs.Common.{◌≡◌, refl, sym, ap, subst, ◌∙◌, ℕ, ◌+◌, ◌<◌, ◌≤◌, List, [], ◌∷◌, ◌++◌, map, take, length, get_or, Option}
 use Rattle.std.specs.List.{flat_map}
-use Rattle.std.proofs.lemmas.List.{take_more, take_all, map-append, append-nil}
+use Rattle.std.proofs.lemmas.List.{take_more, take_all, map-append, append-nil, length-map}
 use Rattle.std.proofs.lemmas.List.Concat.{flat_map-append}
 use Rattle.ppd_parse.specs.declared.node.Node.{Node}
 use Rattle.ppd_parse.specs.declared.symbol.Rule.{Rule}
@@ -13,7 +13,8 @@ use Rattle.ppd_check.specs.Syntax.{Item}
 use Rattle.ppd_check.specs.Reading.{Phrase, as_items}
 use Rattle.ppd_check.specs.Nodes.{phrase_of, phrases_of, phrases_below, children_of, SaysBy}
 use Rattle.ppd_check.specs.Declaring.{nothing}
-use Rattle.ppd_check.specs.Holding.{Holds, Declares}
+use Rattle.ppd_check.specs.Holding.{head_at, Holds, Declares}
+use Rattle.ppd_check.specs.Sources as S
 use Rattle.ppd_check.specs.Sources.{no_globals, with_items, items_faults, count_faults}
 use Rattle.ppd_check.proofs.Counted.{noted_all}
 use Rattle.ppd_check.proofs.Declarations.{declares_none, declares_both}
@@ -78,3 +79,7 @@ declared_all ns is old new f f' e a = a.holds no_globals (held_first ns old e)
 pub noted_source : (ns : List Node) (is : List Item) (old new : Globals) (f f' : Option Fault) → old ≡ nothing → Declares ns is old new f f'
     → f' ≡ first_of_both f (first (items_faults is no_globals ++ count_faults (with_items is no_globals)))
 noted_source ns is old new f f' e a = a.notes no_globals (held_first ns old e) ∙ ap (first_of_both f) (noted_all is)
+
+-- as many processes as nodes of them
+pub processes_held : (ns : List Node) (g : Globals) (s : S.Globals) → Holds ns g s → length g.processes ≡ length s.processes
+processes_held ns g s h = sym (length-map g.processes (head_at ns)) ∙ ap length h.processes
