@@ -2,7 +2,6 @@
 use Rattle.std.proofs.Common.{◌≡◌, refl, sym, ap, ◌∙◌, ℕ, zero, suc, ◌+◌, ◌≤◌, ◌<◌, arith, Bool, true, false, nat_le, nat_lt, List, [], ◌∷◌, ◌++◌, map, drop, length, Option, Some, None}
 use Rattle.std.proofs.lemmas.List.{map-append, append-nil, append_assoc, length-map, drop-append-le, length-append}
 use Rattle.ppd_ast.specs.declared.limits.TheConstants.{MOST_SHARED_CELLS, MOST_SEMAPHORES, MOST_CHANNELS, MOST_FUNCTIONS, MOST_PROCESSES}
-use Rattle.ppd_ast.specs.declared.program.Place.{Place}
 use Rattle.ppd_check.specs.declared.fault.Cause.TheVariants.{TooMany}
 use Rattle.ppd_check.specs.declared.fault.Fault.{Fault}
 use Rattle.ppd_check.specs.declared.fault.Limit.{Limit}

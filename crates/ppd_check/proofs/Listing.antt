@@ -12,7 +12,7 @@ use Rattle.std.proofs.lemmas.List.{length-map}
 use Rattle.ppd_check.specs.Nodes.{phrase_of, phrases_below, children_of}
 use Rattle.ppd_check.specs.Items.{number_after, numbered_at}
 use Rattle.ppd_check.specs.Holding.{Declares, start_said}
-use Rattle.ppd_check.proofs.Declarations.{declares_none, declares_both}
+use Rattle.ppd_check.proofs.Declarations.{declares_both}
 
 true_not_false : true ≡ false → ⊥
 true_not_false h = grind (arith, h)

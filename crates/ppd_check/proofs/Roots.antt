@@ -1,5 +1,5 @@
 -- The source of a table, by what its root says.
-use Rattle.std.proofs.Common.{◌≡◌, refl, sym, ap, ◌∙◌, ℕ, ◌-◌, List, map, length, get_or, Option, Some, None}
+use Rattle.std.proofs.Common.{◌≡◌, refl, sym, ap, ◌∙◌, ◌-◌, List, map, length, get_or, Option, Some, None}
 use Rattle.std.proofs.lemmas.List.{get_or_default, length-map}
 use Rattle.ppd_ast.specs.declared.program.Place.{Place}
 use Rattle.ppd_lex.specs.declared.token.Token.{Token}
