@@ -1,14 +1,19 @@
 pub mod Arguments
+pub mod Counted
 pub mod Declarations
 pub mod Declaring
 pub mod First
 pub mod Flat
 pub mod Inside
 pub mod Joined
+pub mod Listing
 pub mod Lookup
 pub mod Nested
-pub mod RowTables
+pub mod Parameters
 pub mod PastMost
+pub mod Placing
+pub mod Roots
+pub mod RowTables
 pub mod RowsOfForms
 pub mod RowsOfLoops
 pub mod RowsOfNames
@@ -18,5 +23,6 @@ pub mod Semicolons
 pub mod Through
 pub mod Trees
 pub mod Walking
+pub mod Walks
 pub mod Worded
 pub mod Writing

@@ -55,7 +55,7 @@ later_trees ns i (c ∷ cs) h =
 pub own_inside : (ns : List Node) (i : ℕ) (n : Node) → IsTable ns → i < length ns → n ≡ get_or ns i n → AreInside ns i n.children
 own_inside ns i n table h is = subst (λ m. AreInside ns i m.children) (sym is) (table.larger i n h)
 
-tree_step : (ns : List Node) (i : ℕ) (n : Node) → IsTable ns → i < length ns → n ≡ get_or ns i n
+pub tree_step : (ns : List Node) (i : ℕ) (n : Node) → IsTable ns → i < length ns → n ≡ get_or ns i n
     → tree_at ns i ≡ shape_or n.token n.rule (map (tree_at ns) n.children)
 tree_step ns i n table h is =
     let d : drop i ns ≡ n ∷ drop (i + 1) ns = drop_more ns i n h ∙ ap (λ m. m ∷ drop (i + 1) ns) (sym is) in
@@ -66,7 +66,7 @@ tree_step ns i n table h is =
     ∙ ap (λ l. get_or (trees_from i l) 0 no_shape) d
     ∙ ap (shape_or n.token n.rule) (later_trees ns i n.children (own_inside ns i n table h is))
 
-all_said_forest : (ns : List Node) (cs : List ℕ) → all_said (forest (map (tree_at ns) cs)) ≡ map (phrase_of ns) cs
+pub all_said_forest : (ns : List Node) (cs : List ℕ) → all_said (forest (map (tree_at ns) cs)) ≡ map (phrase_of ns) cs
 unfolding phrase_of
 all_said_forest ns [] = refl
 all_said_forest ns (c ∷ cs) = ap (λ ps. said (tree_at ns c) ∷ ps) (all_said_forest ns cs)

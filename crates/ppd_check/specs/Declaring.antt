@@ -15,6 +15,10 @@ use Rattle.ppd_check.specs.Names as N
 use Rattle.ppd_check.specs.Statements.{after_cells, variable_of, twice_faults}
 use Rattle.ppd_check.specs.Syntax.{Name}
 
+-- nothing yet, in one scope
+abbrev pub nothing : Globals
+nothing = record { scopes = [] ∷ []; shared = []; cells = 0; starts = []; sems = []; chans = []; functions = []; processes = [] }
+
 -- a name with its meaning
 abbrev pub named : Name → Meaning → List Scope → List Scope
 named x m scopes = in_innermost (declare x.text m) scopes

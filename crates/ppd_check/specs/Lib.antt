@@ -19,3 +19,4 @@ pub mod Writing
 pub mod Declaring
 pub mod Holding
 pub mod Plain
+pub mod Items

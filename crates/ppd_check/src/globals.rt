@@ -1,12 +1,12 @@
 // What a source declares in the scope that all of it sees.
-ghost use Rattle.std.specs.Prelude.{◌≡◌, ◌++◌, OnOk, pos, [], ◌∷◌, replicate, length, None, Some};
+ghost use Rattle.std.specs.Prelude.{◌≡◌, ◌++◌, OnOk, IfOk, pos, [], ◌∷◌, replicate, length, None, Some};
 ghost use Rattle.ppd_ast.specs.declared.limits.TheConstants.{MOST_FUNCTIONS, MOST_PROCESSES, MOST_SEMAPHORES, MOST_CHANNELS};
 ghost use Rattle.ppd_check.specs.Faults.{first, first_of_both};
 ghost use Rattle.ppd_check.specs.Fitted.{as_byte, as_short};
 ghost use Rattle.ppd_check.specs.Names.{declare, innermost, in_innermost};
 ghost use Rattle.ppd_check.specs.Nodes.{label_name};
 ghost use Rattle.ppd_check.specs.Statements.{twice_faults};
-ghost use Rattle.ppd_check.specs.Declaring.{placed, with_shared, with_semaphore, with_channel, with_function, with_process, twice, counted, celled};
+ghost use Rattle.ppd_check.specs.Declaring.{nothing, placed, with_shared, with_semaphore, with_channel, with_function, with_process, twice, counted, celled};
 ghost use Rattle.ppd_check.specs.declared.fault.Limit.TheVariants.{Functions, Processes, Semaphores, Channels};
 
 use crate::fault::{Cause, Fault, Limit, note_if};
@@ -32,6 +32,24 @@ pub struct Globals {
     pub chans: Seq<Chan>,
     pub functions: Ids,
     pub processes: Ids,
+}
+
+// Nothing yet, in one scope.
+pub fn no_globals(alloc: Global) -> Result<Globals, Memory>
+    ensures { IfOk result (λ globals. globals ≡ nothing) }
+{
+    let mut scopes = Scopes::new(alloc);
+    scopes.open(alloc)?;
+    Ok(Globals {
+        scopes,
+        shared: Seq::new(alloc),
+        cells: 0,
+        starts: Seq::new(alloc),
+        sems: Seq::new(alloc),
+        chans: Seq::new(alloc),
+        functions: Seq::new(alloc),
+        processes: Seq::new(alloc),
+    })
 }
 
 // A count in a field of 8 bits.

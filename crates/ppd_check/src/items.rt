@@ -2,7 +2,7 @@
 ghost use Rattle.std.specs.Prelude.{◌≡◌, ◌<◌, OnOk, [], ◌∷◌, List, length, nat_le, ◌&&◌, pos, neg_ℤ, nat_abs};
 ghost use Rattle.ppd_parse.specs.declared.node.Node.{Node as NodeOf};
 ghost use Rattle.ppd_parse.specs.Tree.{IsTable};
-ghost use Rattle.ppd_check.specs.Reading.{number_at};
+ghost use Rattle.ppd_check.specs.Reading.{number_at, shared_item};
 ghost use Rattle.ppd_check.specs.Fitted.{as_byte, as_short, as_word};
 ghost use Rattle.ppd_check.specs.Nodes.{label_name, phrases_below};
 ghost use Rattle.ppd_check.specs.Syntax.{shared, shared_array, semaphore, channel};
@@ -10,7 +10,7 @@ ghost use Rattle.ppd_check.specs.Holding.{Declares, start_said};
 
 use crate::fault::{Cause, Fault, note_unless};
 use crate::globals::{Globals, add_array, add_channel, add_scalar, add_semaphore};
-use crate::nodes::{Label, kind_at, value_at};
+use crate::nodes::{Label, kind_at, label_at, place_at, value_at};
 use ppd_ast::limits::{LEAST_CAPACITY, MOST_CAPACITY, MOST_SHARED_CELLS, MOST_START};
 use ppd_ast::{Memory, Place};
 use ppd_parse::{Kind, Node};
@@ -85,7 +85,7 @@ fn declare_array(
 }
 
 // Declares a semaphore, whose start value stands at a place.
-fn declare_semaphore(
+pub fn declare_semaphore(
     alloc: Global,
     label: Label<'_>,
     start: u64,
@@ -102,7 +102,7 @@ fn declare_semaphore(
 }
 
 // Declares a channel, whose capacity stands at a place.
-fn declare_channel(
+pub fn declare_channel(
     alloc: Global,
     label: Label<'_>,
     capacity: u64,
@@ -119,7 +119,7 @@ fn declare_channel(
 }
 
 // The number that the child says, without its sign, and 0 where it says none.
-fn size_at(nodes: &[Node], id: u32, k: usize) -> u64
+pub fn size_at(nodes: &[Node], id: u32, k: usize) -> u64
     requires table { IsTable nodes.now }
     requires within { id < length nodes.now }
     ensures { result ≡ (number_at (phrases_below nodes.now id) k).value }
@@ -143,5 +143,27 @@ fn start_at(nodes: &[Node], id: u32) -> i64
     match kind_at(nodes, id, 2) {
         Kind::MinusMark => negative(value_at(nodes, id, 3)),
         _ => value_at(nodes, id, 2),
+    }
+}
+
+// Declares the shared variable at a node.
+pub fn declare_shared(
+    alloc: Global,
+    nodes: &[Node],
+    id: u32,
+    globals: &mut Globals,
+    found: &mut Option<Fault>,
+) -> Result<(), Memory>
+    requires table { IsTable nodes.now }
+    requires within { id < length nodes.now }
+    ensures { OnOk result ((ns : List NodeOf) → Declares ns (shared_item (phrases_below nodes.now id) ∷ []) globals.old globals.new found.old found.new) }
+{
+    let label = label_at(nodes, id, 0);
+    match kind_at(nodes, id, 1) {
+        Kind::LeftBracket => {
+            let place = place_at(nodes, id, 2);
+            declare_array(alloc, label, size_at(nodes, id, 2), place, globals, found)
+        }
+        _ => declare_scalar(alloc, label, start_at(nodes, id), globals, found),
     }
 }

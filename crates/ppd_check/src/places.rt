@@ -1,7 +1,9 @@
 // The statements past the most that there may be.
-ghost use Rattle.std.specs.Prelude.{◌≡◌, map, IfOk};
+ghost use Rattle.std.specs.Prelude.{◌≡◌, map, List, OnOk, IfOk};
+ghost use Rattle.std.specs.List.{flat_map};
 ghost use Rattle.ppd_check.specs.Faults.{first, first_of_both};
-ghost use Rattle.ppd_check.specs.Sources.{past_statements};
+ghost use Rattle.ppd_check.specs.Sources.{past_statements, all_stmts};
+ghost use Rattle.ppd_check.specs.Code.{Code, places};
 ghost use Rattle.ppd_check.specs.Placed.{place_of};
 
 use crate::fault::{Cause, Fault, Limit, note};
@@ -35,4 +37,18 @@ pub fn places_of(alloc: Global, stmts: &[Stmt]) -> Result<Vec<Place>, Memory>
         }
     }
     Ok(places)
+}
+
+// Keeps the first fault of those found so far and of the statements of a table: the place past the most in source
+// order, where there are more.
+pub fn note_statements(
+    alloc: Global,
+    stmts: &[Stmt],
+    found: &mut Option<Fault>,
+) -> Result<(), Memory>
+    ensures { OnOk result ((cs : List Code) → stmts.now ≡ all_stmts 0 0 0 cs → found.new ≡ first_of_both found.old (first (past_statements (flat_map places cs)))) }
+{
+    let mut places = places_of(alloc, stmts)?;
+    note_past(places.as_mut_slice(), found);
+    Ok(())
 }

@@ -1,0 +1,17 @@
+use Rattle.std.proofs.Common.{◌-◌, ◌*◌, ◌+◌, length, take}
+use Rattle.std.specs.List.{flat_map}
+use Rattle.ppd_check.specs.Reading.{as_items}
+use Rattle.ppd_check.specs.Nodes.{phrases_of}
+use Rattle.ppd_check.specs.Holding.{Declares}
+use Rattle.ppd_check.proofs.declare.+declarations.Given as goal
+
+-- twice the nodes from this one on
+abbrev pub decreases-declare_node : goal.decreases-declare_node
+decreases-declare_node l = 2 * (length l.nodes.now - l.id) + 1
+
+abbrev pub decreases-declare_below : goal.decreases-declare_below
+decreases-declare_below l = 2 * (length l.nodes.now - l.id)
+
+-- the declarations of those before
+abbrev pub invariant-declare_below-loop-child : goal.invariant-declare_below-loop-child
+invariant-declare_below-loop-child l = Declares l.nodes (flat_map as_items (phrases_of l.nodes (take l.child-index l.child-items))) l.fn.globals l.globals l.fn.found l.found

@@ -1,0 +1,12 @@
+use Rattle.std.proofs.Common.{◌∙◌, ap, map}
+use Rattle.ppd_check.specs.Faults.{first, first_of_both}
+use Rattle.ppd_check.specs.Sources.{past_statements}
+use Rattle.ppd_check.specs.Placed.{place_of}
+use Rattle.ppd_check.proofs.Placing.{all_places}
+use Rattle.ppd_check.proofs.places.note_statements.Goals as goal
+
+pub returns : goal.returns
+returns c = λ cs e.
+    c.note_past.ensures
+    ∙ ap (λ ps. first_of_both c.args.found.now (first (past_statements ps)))
+    (c.as_mut_slice.ensures.value ∙ c.in_ok-places.ensures ∙ ap (map place_of) e ∙ all_places 0 0 0 cs)

@@ -1,0 +1,15 @@
+use Rattle.std.proofs.Common.{arith}
+use Rattle.ppd_check.specs.Nodes.{phrases_below}
+use Rattle.ppd_check.proofs.Parameters.{names_more, names_all, below_count}
+use Rattle.ppd_check.proofs.signatures.count_names.Goals as goal
+
+pub loop-k-preserved : goal.loop-k-preserved
+loop-k-preserved c =
+    names_more (phrases_below c.args.nodes.now c.args.id) c.loop-k.k c.loop-k.count c.names_at.result c.in_ok-count.count
+    (below_count c.args.nodes.now c.args.id c.loop-k.k c.children_of-k-end.result.now c.children_of-k-end.ensures.children (omega (arith, c.loop-k-test.true)))
+    c.loop-k.invariant c.names_at.ensures c.in_ok-count.ensures
+
+pub returns : goal.returns
+returns c =
+    names_all c.args.nodes.now c.args.id c.loop-k.k c.loop-k.count c.children_of-k-end.result.now c.children_of-k-end.ensures.children
+    (omega (arith, c.loop-k-test.false, c.loop-k.auto.k-end)) c.loop-k.invariant
