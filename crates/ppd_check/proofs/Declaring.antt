@@ -8,7 +8,8 @@ use Rattle.ppd_check.specs.declared.frame.Frame.{Frame}
 use Rattle.ppd_check.specs.declared.writer.Writer.{Writer}
 use Rattle.ppd_check.specs.declared.writer.Site.{Site}
 use Rattle.ppd_check.specs.Nodes.{phrase_of, phrases_of, SaysBy}
-use Rattle.ppd_check.specs.Reading.{Phrase, token, formula, goal, value, calling, changing, row, body, names, items, locals, followed}
+use Rattle.ppd_check.specs.Plain.{row_any}
+use Rattle.ppd_check.specs.Reading.{Phrase, token, formula, goal, value, calling, changing, row, body, names, items, nowhere, locals, some_change, followed}
 use Rattle.ppd_check.specs.Statements.{after_row, row_code, row_faults}
 use Rattle.ppd_check.specs.Syntax.{Row, stop, simple}
 use Rattle.ppd_check.specs.Writing.{Wrote, WroteRow, Walked}
@@ -60,3 +61,25 @@ locals_more site ns cs i c f g h u v w a b d l is x y z =
     let q : Row = locals (phrase_of ns c ∷ []) in
     subst (λ r. Walked site r f h u w a d) (sym (locals_append ps (phrase_of ns c ∷ [])) ∙ ap locals (phrases_more ns cs i c l is))
     (walked_followed site (locals ps) q f g h u v w a b d x (record { wrote = row_wrote site q g v w b d y; frame = z }))
+
+-- what a phrase changes or declares
+pub changing_row : (p : Phrase) → locals (p ∷ []) ≡ row_any (some_change p)
+changing_row (token t) = refl
+changing_row (formula f) = refl
+changing_row (goal g) = refl
+changing_row (value v) = refl
+changing_row (calling f args) = refl
+changing_row (changing s) = refl
+changing_row (row r) = refl
+changing_row (body b) = refl
+changing_row (names xs) = refl
+changing_row (items is) = refl
+
+pub walked_changing : (site : Site) (p q : Phrase) (f g : Frame) (u v : Writer) (a b : List ℕ) → p ≡ q
+    → WroteRow site (locals (q ∷ [])) f u v a b → g ≡ after_row (locals (q ∷ [])) f → Walked site (row_any (some_change p)) f g u v a b
+walked_changing site p q f g u v a b h w e =
+    subst (λ (r : Row). Walked site r f g u v a b) (changing_row q ∙ ap (λ (x : Phrase). row_any (some_change x)) (sym h)) (record { wrote = row_wrote site (locals (q ∷ [])) f u v a b w; frame = e })
+
+pub walked_unchanged : (site : Site) (p : Phrase) (f : Frame) (u : Writer) (a : List ℕ) → p ≡ token nowhere → Walked site (row_any (some_change p)) f f u u a a
+walked_unchanged site p f u a h =
+    subst (λ (x : Phrase). Walked site (row_any (some_change x)) f f u u a a) (sym h) (walked_none site f u a)

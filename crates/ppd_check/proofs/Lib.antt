@@ -20,6 +20,7 @@ pub mod RowsOfNames
 pub mod RowsOfPrograms
 pub mod RowsOfRules
 pub mod Semicolons
+pub mod Steps
 pub mod Through
 pub mod Trees
 pub mod Walking

@@ -35,7 +35,7 @@ rows_append : (ps qs : List Phrase) → rows (ps ++ qs) ≡ followed (rows ps) (
 rows_append [] qs = refl
 rows_append (p ∷ ps) qs = ap (followed (as_row p)) (rows_append ps qs) ∙ sym (followed_assoc (as_row p) (rows ps) (rows qs))
 
-join_done : (c : Code) → join c done ≡ c
+pub join_done : (c : Code) → join c done ≡ c
 join_done done = refl
 join_done (act p x c) = ap (act p x) (join_done c)
 join_done (choose p e x y c) = ap (choose p e x y) (join_done c)

@@ -1,9 +1,9 @@
 -- Statements without statements inside them, as the code sees them.
-use Rattle.std.specs.Prelude.{List}
+use Rattle.std.specs.Prelude.{List, Option, Some, None}
 use Rattle.ppd_parse.specs.declared.symbol.Kind.{Kind}
 use Rattle.ppd_parse.specs.declared.symbol.Kind.TheVariants as K
 use Rattle.ppd_check.specs.Reading.{Phrase, goal, calling, changing, phrase, place_at, name_at, formula_at, as_value, returned}
-use Rattle.ppd_check.specs.Syntax.{Row, stop, simple, block, store, call, give_back, take, give, send, print, assert}
+use Rattle.ppd_check.specs.Syntax.{Simple, Row, stop, simple, block, store, call, give_back, take, give, send, print, assert}
 
 -- the statement of a word that has none inside it, or the empty one
 abbrev pub plain_word : Kind → List Phrase → Row
@@ -21,3 +21,8 @@ plain_statement (changing s) ps = simple s stop
 plain_statement (goal g) ps = simple (store g (as_value (phrase ps 2))) stop
 plain_statement (calling f args) ps = simple (call f args) stop
 plain_statement _ ps = stop
+
+-- the row of a statement that may be missing
+abbrev pub row_any : Option Simple → Row
+row_any None = stop
+row_any (Some s) = simple s stop

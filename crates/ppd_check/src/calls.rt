@@ -108,7 +108,7 @@ pub fn function(
 }
 
 // Whether the node is an expression.
-fn is_formula(nodes: &[Node], id: u32) -> bool
+pub fn is_formula(nodes: &[Node], id: u32) -> bool
     requires table { IsTable nodes.now }
     requires within { id < length nodes.now }
     ensures { result ≡ is_formula (phrase_of nodes.now id) }

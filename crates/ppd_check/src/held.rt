@@ -1,9 +1,40 @@
 // Statements with statements inside them.
 ghost use Rattle.std.specs.Prelude.{◌≡◌, ◌++◌, [], ◌∷◌, OnOk, IfOk, length, slice_set};
+ghost use Rattle.ppd_parse.specs.Tree.{IsTable};
+ghost use Rattle.ppd_check.specs.Expressions.{term_of, formula_faults};
+ghost use Rattle.ppd_check.specs.Faults.{first, first_of_both};
+ghost use Rattle.ppd_check.specs.Forms.{Added};
+ghost use Rattle.ppd_check.specs.Nodes.{operand_formula, IsOperand};
 ghost use Rattle.ppd_ast.specs.declared.program.Kind.TheVariants.{End};
 
+use crate::formulas::formula;
+use crate::frame::Frame;
+use crate::nodes::Operand;
 use crate::writer::{Site, Writer, put_stmt};
 use ppd_ast::{Ids, Kind, Memory, Place, Stmt};
+use ppd_parse::Node;
+
+// The test of an `if` or a `while`; the number of its expression.
+pub fn write_test(
+    nodes: &[Node],
+    operand: Operand,
+    frame: &Frame,
+    out: &mut Writer,
+) -> Result<u32, Memory>
+    requires table { IsTable nodes.now }
+    requires within { IsOperand nodes.now operand }
+    ensures added { IfOk result (λ n. Added out.old.exprs (term_of frame.now.scopes (operand_formula nodes.now operand)) out.new.exprs n) }
+    ensures found { OnOk result (out.new.found ≡ first_of_both out.old.found (first (formula_faults frame.now.scopes (operand_formula nodes.now operand)))) }
+    ensures stmts { out.new.stmts ≡ out.old.stmts }
+{
+    formula(
+        nodes,
+        &frame.scopes,
+        operand,
+        &mut out.exprs,
+        &mut out.found,
+    )
+}
 
 // One more statement, whose place is held until the statements inside it are known; its number.
 pub fn hold_stmt(out: &mut Writer, site: Site, place: Place, row: &mut Ids) -> Result<u32, Memory>

@@ -26,6 +26,7 @@ mod signatures;
 mod simple;
 mod statements;
 mod stores;
+mod turns;
 mod values;
 mod words;
 mod writer;

@@ -16,7 +16,7 @@ use ppd_parse::{Node, Rule};
 use std::alloc::Global;
 
 // What a child of a declaration declares.
-fn write_local(
+pub fn write_local(
     alloc: Global,
     nodes: &[Node],
     id: u32,

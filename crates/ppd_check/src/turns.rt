@@ -1,0 +1,36 @@
+// What a `for` says before its first turn and after each.
+ghost use Rattle.std.specs.Prelude.{◌≡◌, ◌<◌, OnOk, length};
+ghost use Rattle.ppd_parse.specs.Tree.{IsTable};
+ghost use Rattle.ppd_check.specs.Nodes.{phrases_below};
+ghost use Rattle.ppd_check.specs.Plain.{row_any};
+ghost use Rattle.ppd_check.specs.Reading.{phrase, some_change};
+ghost use Rattle.ppd_check.specs.Writing.{Walked};
+
+use crate::frame::Frame;
+use crate::locals::write_local;
+use crate::nodes::child_at;
+use crate::writer::{Site, Writer};
+use ppd_ast::{Ids, Memory};
+use ppd_parse::Node;
+use std::alloc::Global;
+
+// What the child changes or declares, if anything.
+pub fn write_changing(
+    alloc: Global,
+    nodes: &[Node],
+    id: u32,
+    k: usize,
+    frame: &mut Frame,
+    out: &mut Writer,
+    site: Site,
+    row: &mut Ids,
+) -> Result<(), Memory>
+    requires table { IsTable nodes.now }
+    requires within { id < length nodes.now }
+    ensures { OnOk result (Walked site (row_any (some_change (phrase (phrases_below nodes.now id) k))) frame.old frame.new out.old out.new row.old row.new) }
+{
+    match child_at(nodes, id, k) {
+        None => Ok(()),
+        Some(child) => write_local(alloc, nodes, child, frame, out, site, row),
+    }
+}
