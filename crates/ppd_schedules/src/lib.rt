@@ -1,0 +1,11 @@
+//! Worked programs of several processes, driven by schedules: tests of the world.
+#![tactic(auto)]
+
+#[cfg(test)]
+mod parallel;
+#[cfg(test)]
+mod tables;
+#[cfg(test)]
+mod world_tests;
+#[cfg(test)]
+mod worlds;
