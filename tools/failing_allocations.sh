@@ -4,9 +4,10 @@
 # gate.
 cd "$(dirname "$0")/../crates/ppd" || exit 2
 usual="$(cat stdout)"
+said="$(mktemp)" || exit 2
 wrong=0
 for number in $(seq 1 200); do
-    written="$(rt try --fail-alloc "$number" -- flow data/row1.c 2>/tmp/ppd-fail-alloc.$$)"
+    written="$(rt try --fail-alloc "$number" -- flow data/row1.c 2>"$said")"
     status=$?
     if [ "$status" = 0 ] && [ "$written" = "$usual" ]; then
         answer="the usual answer"
@@ -21,5 +22,5 @@ for number in $(seq 1 200); do
     # after three usual answers in a row no allocation of that number was made
     [ "$usual_runs" -ge 3 ] && break
 done
-rm -f /tmp/ppd-fail-alloc.$$
+rm -f "$said"
 exit $wrong
