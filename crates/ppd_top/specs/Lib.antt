@@ -1,8 +1,2 @@
--- Sources of one process, their programs, the run and what is written of it.
-pub mod Form
-pub mod Lowered
-pub mod Reading
-pub mod Reached
-pub mod Running
-pub mod Summary
-pub mod Top
+-- What the words ask for, and what is written for a source and its run.
+pub mod Words
