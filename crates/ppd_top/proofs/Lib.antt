@@ -1,1 +1,3 @@
+pub mod Printed
+pub mod Processes
 pub mod Worded

@@ -2,6 +2,9 @@
 #![tactic(auto)]
 
 mod options;
+mod running;
+mod summary;
+mod text;
 mod words;
 
 pub use options::Options;

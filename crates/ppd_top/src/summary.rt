@@ -1,0 +1,89 @@
+// What is written of a run.
+ghost use Rattle.std.specs.Prelude.{◌≡◌, ◌++◌, ◌+◌, ◌<◌, ◌≤◌, ◌^◌, length, OnOk, IfOk, slice_get};
+ghost use Rattle.ppd_top.specs.Summary.{place_at as place_for, name_of, end_text, end_texts, race_text, summary_of};
+
+use crate::text::{put, put_number, put_prints, put_status};
+use ppd_ast::{Memory, Place, Program};
+use ppd_model::ProcEnd;
+use std::alloc::Global;
+
+fn place_at(program: &Program, stmt: u32) -> Place
+    ensures { result ≡ place_for (slice_get program.now.stmts stmt) }
+{
+    match program.stmts.as_slice().get(stmt as usize) {
+        Some(stmt) => stmt.place,
+        None => Place { line: 1, column: 1 },
+    }
+}
+
+/// The name of a body.
+fn name_at(program: &Program, body: usize) -> &[u8]
+    ensures { result.now ≡ name_of (slice_get program.now.bodies body) }
+{
+    match program.bodies.as_slice().get(body) {
+        Some(body) => body.name.as_slice(),
+        None => &[],
+    }
+}
+
+/// Appends how a process ended and what it printed.
+fn put_end(
+    text: &mut Vec<u8>,
+    program: &Program,
+    name: &[u8],
+    end: &ProcEnd,
+) -> Result<(), Memory>
+    ensures { OnOk result (text.new.items ≡ text.old.items ++ end_text program.now name.now end.now) }
+{
+    let place = place_at(program, end.stmt);
+    put(text, b"process ")?;
+    put(text, name)?;
+    put(text, b" ")?;
+    put_status(text, end.status, place)?;
+    put(text, b" steps ")?;
+    put_number(text, end.steps)?;
+    put(text, b"\n")?;
+    put_prints(text, name, end.prints.as_slice())
+}
+
+/// How the processes ended, and what they printed. Their bodies are those from number `first` on.
+fn put_ends(
+    text: &mut Vec<u8>,
+    program: &Program,
+    first: u16,
+    ends: &[ProcEnd],
+) -> Result<(), Memory>
+    requires { length ends.now < 2 ^ 62 }
+    ensures { OnOk result (text.new.items ≡ text.old.items ++ end_texts program.now first ends.now) }
+{
+    for index in 0..ends.len() {
+        let name = name_at(program, first as usize + index);
+        put_end(text, program, name, &ends[index])?;
+    }
+    Ok(())
+}
+
+/// The races of one process alone: none. Those of more are not written.
+fn put_races(text: &mut Vec<u8>, ends: &[ProcEnd]) -> Result<(), Memory>
+    ensures { OnOk result (text.new.items ≡ text.old.items ++ race_text ends.now) }
+{
+    if ends.len() == 1 {
+        return put(text, b"races 0\n");
+    }
+    Ok(())
+}
+
+/// The summary of a run whose processes ended so.
+pub(crate) fn summary(
+    alloc: Global,
+    program: &Program,
+    ends: &[ProcEnd],
+) -> Result<Vec<u8>, Memory>
+    requires { length ends.now < 2 ^ 62 }
+    ensures { IfOk result (λ text. text.items ≡ summary_of program.now ends.now) }
+{
+    let mut text = Vec::new(alloc);
+    put_ends(&mut text, program, program.functions, ends)?;
+    put_races(&mut text, ends)?;
+    Ok(text)
+}
