@@ -2,8 +2,10 @@
 #![tactic(auto)]
 
 mod arrays;
+mod begun;
 mod calls;
 mod changes;
+mod counts;
 mod declare;
 mod error;
 mod fault;
@@ -28,6 +30,7 @@ mod statements;
 mod stores;
 mod turns;
 mod values;
+mod walk;
 mod words;
 mod writer;
 
