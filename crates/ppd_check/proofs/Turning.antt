@@ -1,6 +1,5 @@
 -- What a `for` says after each turn declares nothing for the body.
-use Rattle.std.proofs.Common.{◌≡◌, refl, sym, ap, subst, ◌∙◌, ℕ, List, [], ◌∷◌, ◌++◌, take, drop, length, Bool, true, false, if◌then◌else◌, Option, Some, None}
-use Rattle.std.proofs.lemmas.List.{append-nil}
+use Rattle.std.proofs.Common.{◌≡◌, refl, ap, subst, ◌∙◌, ℕ, List, [], ◌∷◌, ◌++◌, take, drop, length, Bool, true, false, Option, Some, None}
 use Rattle.ppd_ast.specs.declared.program.Place.{Place}
 use Rattle.ppd_check.specs.declared.frame.Frame.{Frame}
 use Rattle.ppd_check.specs.declared.frame.Variable.{Variable}
@@ -10,8 +9,8 @@ use Rattle.ppd_check.specs.Code.{Code}
 use Rattle.ppd_check.specs.declared.fault.Fault.{Fault}
 use Rattle.ppd_check.specs.Names.{Scope}
 use Rattle.ppd_check.specs.Plain.{row_any}
-use Rattle.ppd_check.specs.Statements.{after, after_any, after_row, hidden_if, code_of_any, faults_of_any, row_code}
-use Rattle.ppd_check.specs.Syntax.{Name, Simple, fresh, array, store, change, call, give_back, take as take_sem, give, send, print, assert}
+use Rattle.ppd_check.specs.Statements.{after, after_row, hidden_if, code_of_any, faults_of_any, row_code}
+use Rattle.ppd_check.specs.Syntax.{Simple, fresh, array, store, change, call, give_back, take as take_sem, give, send, print, assert}
 use Rattle.ppd_check.specs.Writing.{Wrote, Walked}
 use Rattle.ppd_check.proofs.Nested.{outer_row}
 use Rattle.ppd_check.proofs.Steps.{code_any, faults_any}

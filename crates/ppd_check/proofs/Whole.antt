@@ -1,13 +1,11 @@
 -- The walk of statements, function by function.
-use Rattle.std.proofs.Common.{◌≡◌, refl, sym, ap, subst, ◌∙◌, ℕ, ◌≤◌, List, [], ◌∷◌, ◌++◌, take, drop, length, Option, Some, slice_set}
+use Rattle.std.proofs.Common.{◌≡◌, refl, sym, ap, subst, ◌∙◌, ℕ, ◌≤◌, List, [], take, drop, length, Option, Some}
 use Rattle.std.proofs.lemmas.List.{take_all}
-use Rattle.ppd_ast.specs.declared.program.Kind.{Kind}
 use Rattle.ppd_ast.specs.declared.program.Kind.TheVariants as K
 use Rattle.ppd_ast.specs.declared.program.Place.{Place}
 use Rattle.ppd_ast.specs.declared.program.Stmt.{Stmt}
 use Rattle.ppd_ast.specs.Term.{Term}
 use Rattle.ppd_parse.specs.declared.node.Node.{Node}
-use Rattle.ppd_parse.specs.declared.symbol.Kind.{Kind as Mark}
 use Rattle.ppd_parse.specs.declared.symbol.Kind.TheVariants as M
 use Rattle.ppd_parse.specs.declared.symbol.Rule.{Rule}
 use Rattle.ppd_parse.specs.declared.symbol.Rule.TheVariants as R

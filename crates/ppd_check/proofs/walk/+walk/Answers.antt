@@ -1,12 +1,12 @@
-use Rattle.std.proofs.Common.{◌∙◌, sym, ap, arith, get_or}
+use Rattle.std.proofs.Common.{sym, ap, arith, get_or}
 use Rattle.std.proofs.lemmas.List.{get_or_default}
 use Rattle.ppd_check.specs.Nodes.{phrase_of, phrases_below}
-use Rattle.ppd_check.specs.Reading.{as_row, phrase, last, place_at, formula_at, worded, statement}
+use Rattle.ppd_check.specs.Reading.{as_row, phrase, place_at, formula_at, worded, statement}
 use Rattle.ppd_check.specs.Plain.{plain_statement}
 use Rattle.ppd_check.proofs.Nested.{rows_more, walked_block}
 use Rattle.ppd_check.proofs.Steps.{row_walked}
 use Rattle.ppd_check.proofs.Through.{ok_map}
-use Rattle.ppd_check.proofs.Whole.{walked_below, walked_as, walked_stop, walked_alone, if_walked, while_walked, for_walked, worded_if, worded_while, worded_for, statement_none, statement_leaf, statement_block, row_locals, statement_named}
+use Rattle.ppd_check.proofs.Whole.{walked_below, walked_as, walked_stop, walked_alone, if_walked, while_walked, for_walked, worded_if, worded_while, worded_for, row_locals, statement_named}
 use Rattle.ppd_check.proofs.Writing.{both_ok}
 use Rattle.ppd_check.proofs.walk.+walk.Goals as goal
 
