@@ -11,7 +11,7 @@ use Rattle.ppd_check.specs.Names.{Scope, in_innermost}
 use Rattle.ppd_check.specs.Nodes.{phrase_of, phrases_of}
 use Rattle.ppd_check.specs.Reading.{Phrase, as_row, rows, followed}
 use Rattle.ppd_check.specs.Statements.{after, after_any, after_row, hidden_if, opened, closed, row_code, row_faults}
-use Rattle.ppd_check.specs.Syntax.{Name, Simple, fresh, array, store, change, call, give_back, take as take_sem, give, send, print, assert, Row, stop, simple, block, choice, repeat, count}
+use Rattle.ppd_check.specs.Syntax.{Simple, fresh, array, store, change, call, give_back, take as take_sem, give, send, print, assert, Row, stop, simple, block, choice, repeat, count}
 use Rattle.ppd_check.specs.Writing.{Wrote, Walked}
 use Rattle.ppd_check.proofs.Declaring.{walked_followed, phrases_more}
 

@@ -2,10 +2,12 @@
 #![tactic(auto)]
 
 mod arrays;
+mod begun;
 mod bodies;
 mod calls;
 mod changes;
 mod checking;
+mod counts;
 mod declare;
 mod endings;
 mod error;
