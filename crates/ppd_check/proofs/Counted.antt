@@ -111,15 +111,15 @@ past_objects n limit os o =
 -- One variable more.
 
 -- the first cell after variables of which the first begins at a cell
-abbrev end_cells : ℕ → List Variable → ℕ
+abbrev pub end_cells : ℕ → List Variable → ℕ
 end_cells n [] = n
 end_cells n (v ∷ vs) = end_cells (after_cells n v.length) vs
 
-end_cells_more : (n : ℕ) (vs : List Variable) (v : Variable) → end_cells n (vs ++ v ∷ []) ≡ after_cells (end_cells n vs) v.length
+pub end_cells_more : (n : ℕ) (vs : List Variable) (v : Variable) → end_cells n (vs ++ v ∷ []) ≡ after_cells (end_cells n vs) v.length
 end_cells_more n [] v = refl
 end_cells_more n (w ∷ vs) v = end_cells_more (after_cells n w.length) vs v
 
-past_cells_more : (most : ℕ) (limit : Limit) (n : ℕ) (vs : List Variable) (v : Variable)
+pub past_cells_more : (most : ℕ) (limit : Limit) (n : ℕ) (vs : List Variable) (v : Variable)
     → past_cells most limit n (vs ++ v ∷ []) ≡ past_cells most limit n vs ++ if_so (nat_lt most (after_cells (end_cells n vs) v.length)) v.place (TooMany limit)
 past_cells_more most limit n [] v = append-nil (if_so (nat_lt most (after_cells n v.length)) v.place (TooMany limit))
 past_cells_more most limit n (w ∷ vs) v =
@@ -128,10 +128,10 @@ past_cells_more most limit n (w ∷ vs) v =
     ∙ sym (append_assoc one (past_cells most limit (after_cells n w.length) vs) (if_so (nat_lt most (after_cells (end_cells (after_cells n w.length) vs) v.length)) v.place (TooMany limit)))
 
 -- the cells are those of the variables
-abbrev Celled : Globals → Type 0
+abbrev pub Celled : Globals → Type 0
 Celled s = s.cells ≡ end_cells 0 s.shared
 
-celled_item : (i : Item) (s : Globals) → Celled s → Celled (with_item i s)
+pub celled_item : (i : Item) (s : Globals) → Celled s → Celled (with_item i s)
 celled_item (shared x v) s h = ap (λ n. after_cells n None) h ∙ sym (end_cells_more 0 s.shared (variable_of x None))
 celled_item (shared_array x n) s h = ap (λ k. after_cells k (Some (as_short n.value))) h ∙ sym (end_cells_more 0 s.shared (variable_of x (Some (as_short n.value))))
 celled_item (semaphore x n) s h = h

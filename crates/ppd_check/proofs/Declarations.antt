@@ -1,6 +1,7 @@
 -- Items are declared one after another.
-use Rattle.std.proofs.Common.{◌≡◌, refl, sym, ap, subst, ◌∙◌, ℕ, ℤ, pos, ◌≤◌, arith, Bool, true, if◌then◌else◌, nat_le, List, [], ◌∷◌, ◌++◌, length, replicate, Option, Some, None}
+use Rattle.std.proofs.Common.{◌≡◌, refl, sym, ap, subst, ◌∙◌, ℕ, ℤ, pos, ◌≤◌, arith, Bool, true, false, if◌then◌else◌, nat_le, List, [], ◌∷◌, ◌++◌, length, replicate, Option, Some, None}
 use Rattle.std.proofs.lemmas.List.{map-append, append-nil, append_assoc, length-map}
+use Rattle.std.proofs.lemmas.List.Elements.{All-push}
 use Rattle.ppd_ast.specs.declared.limits.TheConstants.{MOST_SHARED_CELLS, MOST_SEMAPHORES, MOST_CHANNELS, MOST_FUNCTIONS, MOST_PROCESSES}
 use Rattle.ppd_ast.specs.declared.limits.TheConstants.{MOST_START, LEAST_CAPACITY, MOST_CAPACITY}
 use Rattle.ppd_parse.specs.declared.node.Node.{Node}
@@ -16,7 +17,7 @@ use Rattle.ppd_check.specs.Syntax.{Name, Number, Block, Item, shared, shared_arr
 use Rattle.ppd_check.specs.Reading.{as_items}
 use Rattle.ppd_check.specs.Nodes.{phrase_of}
 use Rattle.ppd_check.specs.Declaring.{named, kept, with_shared, with_semaphore, with_channel, with_function, with_process, twice, counted, celled}
-use Rattle.ppd_check.specs.Holding.{head_of, head_at, Holds, noted_at, noted, Declares}
+use Rattle.ppd_check.specs.Holding.{head_of, head_at, IsHeadAt, Holds, noted_at, noted, Declares}
 use Rattle.ppd_check.specs.Sources as S
 use Rattle.ppd_check.specs.Sources.{sem, chan, with_item, with_items}
 use Rattle.ppd_check.proofs.First.{found_in_both, first_of_both_none}
@@ -82,6 +83,8 @@ declares_semaphore ns x n old new f f' f'' e a b =
           chans = h.chans;
           functions = h.functions;
           processes = h.processes;
+          function_nodes = h.function_nodes;
+          process_nodes = h.process_nodes;
         }
 
 pub declares_channel : (ns : List Node) (x : Name) (n : Number) (old new : Globals) (f f' f'' : Option Fault)
@@ -109,13 +112,15 @@ declares_channel ns x n old new f f' f'' e a b =
           chans = ap (λ l. l ++ chan (record { name = x; number = n.value }) ∷ []) h.chans ∙ sym (map-append chan s.channels (record { name = x; number = n.value } ∷ []));
           functions = h.functions;
           processes = h.processes;
+          function_nodes = h.function_nodes;
+          process_nodes = h.process_nodes;
         }
 
 pub declares_function : (ns : List Node) (i : ℕ) (gives : Bool) (x : Name) (params : List Name) (b : Block) (old new : Globals) (f f' : Option Fault)
-    → as_items (phrase_of ns i) ≡ function gives x params b ∷ []
+    → IsHeadAt ns false i → as_items (phrase_of ns i) ≡ function gives x params b ∷ []
     → new ≡ with_function i x (length params) gives old → f' ≡ first_of_both f (first (twice x old ++ counted MOST_FUNCTIONS (length old.functions) L.Functions x.place))
     → Declares ns (function gives x params b ∷ []) old new f f'
-declares_function ns i gives x params b old new f f' is e a =
+declares_function ns i gives x params b old new f f' at is e a =
     record {
       holds = λ s h. subst (λ g. Holds ns g (with_item (function gives x params b) s)) (sym e) (kept_function s h);
       notes = λ s h.
@@ -137,13 +142,15 @@ declares_function ns i gives x params b old new f f' is e a =
           chans = h.chans;
           functions = map-append (head_at ns) old.functions (i ∷ []) ∙ ap (λ l. l ++ head_at ns i ∷ []) h.functions ∙ ap (λ l. s.functions ++ head_of l ∷ []) is;
           processes = h.processes;
+          function_nodes = All-push (IsHeadAt ns false) old.functions i h.function_nodes at;
+          process_nodes = h.process_nodes;
         }
 
 pub declares_process : (ns : List Node) (i : ℕ) (x : Name) (b : Block) (old new : Globals) (f f' : Option Fault)
-    → as_items (phrase_of ns i) ≡ process x b ∷ []
+    → IsHeadAt ns true i → as_items (phrase_of ns i) ≡ process x b ∷ []
     → new ≡ with_process i x old → f' ≡ first_of_both f (first (twice x old ++ counted MOST_PROCESSES (length old.processes) L.Processes x.place))
     → Declares ns (process x b ∷ []) old new f f'
-declares_process ns i x b old new f f' is e a =
+declares_process ns i x b old new f f' at is e a =
     record {
       holds = λ s h. subst (λ g. Holds ns g (with_item (process x b) s)) (sym e) (kept_process s h);
       notes = λ s h.
@@ -165,6 +172,8 @@ declares_process ns i x b old new f f' is e a =
           chans = h.chans;
           functions = h.functions;
           processes = map-append (head_at ns) old.processes (i ∷ []) ∙ ap (λ l. l ++ head_at ns i ∷ []) h.processes ∙ ap (λ l. s.processes ++ head_of l ∷ []) is;
+          function_nodes = h.function_nodes;
+          process_nodes = All-push (IsHeadAt ns true) old.processes i h.process_nodes at;
         }
 
 -- Shared cells: the start values are kept while the cells are not too many.
@@ -194,6 +203,8 @@ holds_shared ns x len more old s t h is =
       chans = h.chans;
       functions = h.functions;
       processes = h.processes;
+      function_nodes = h.function_nodes;
+      process_nodes = h.process_nodes;
     })
 
 pub declares_scalar : (ns : List Node) (x : Name) (v : ℤ) (old new : Globals) (f f' : Option Fault)

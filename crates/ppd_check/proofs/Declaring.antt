@@ -1,5 +1,5 @@
 -- The variables of a declaration, one after another.
-use Rattle.std.proofs.Common.{◌≡◌, refl, sym, ap, subst, ◌∙◌, ℕ, ◌+◌, ◌<◌, List, [], ◌∷◌, ◌++◌, map, take, length, get_or}
+use Rattle.std.proofs.Common.{◌≡◌, refl, sym, ap, subst, ◌∙◌, ℕ, ◌+◌, ◌<◌, List, [], ◌∷◌, ◌++◌, take, length, get_or}
 use Rattle.std.proofs.lemmas.List.{take_more, map-append}
 use Rattle.ppd_parse.specs.declared.node.Node.{Node}
 use Rattle.ppd_parse.specs.declared.symbol.Rule.{Rule}
@@ -23,7 +23,7 @@ locals_other R.Change ps p h i e = absurd (i refl)
 locals_other R.Leaf ps p h i e = ap (λ q. locals (q ∷ [])) e.1
 locals_other r ps p h i e = ap (λ q. locals (q ∷ [])) e
 
-locals_append : (ps qs : List Phrase) → locals (ps ++ qs) ≡ followed (locals ps) (locals qs)
+pub locals_append : (ps qs : List Phrase) → locals (ps ++ qs) ≡ followed (locals ps) (locals qs)
 locals_append [] qs = refl
 locals_append (token t ∷ ps) qs = locals_append ps qs
 locals_append (formula f ∷ ps) qs = locals_append ps qs

@@ -2,8 +2,12 @@ pub mod Arguments
 pub mod Counted
 pub mod Declarations
 pub mod Declaring
+pub mod Ended
+pub mod Errors
+pub mod Filling
 pub mod First
 pub mod Flat
+pub mod Heading
 pub mod Inside
 pub mod Joined
 pub mod Listing
@@ -12,6 +16,7 @@ pub mod Nested
 pub mod Parameters
 pub mod PastMost
 pub mod Placing
+pub mod Returned
 pub mod Roots
 pub mod RowTables
 pub mod RowsOfForms
@@ -20,10 +25,13 @@ pub mod RowsOfNames
 pub mod RowsOfPrograms
 pub mod RowsOfRules
 pub mod Semicolons
+pub mod Sourced
 pub mod Steps
 pub mod Through
 pub mod Trees
+pub mod Turning
 pub mod Walking
 pub mod Walks
+pub mod Whole
 pub mod Worded
 pub mod Writing

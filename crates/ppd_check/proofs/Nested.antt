@@ -11,11 +11,11 @@ use Rattle.ppd_check.specs.Names.{Scope, in_innermost}
 use Rattle.ppd_check.specs.Nodes.{phrase_of, phrases_of}
 use Rattle.ppd_check.specs.Reading.{Phrase, as_row, rows, followed}
 use Rattle.ppd_check.specs.Statements.{after, after_any, after_row, hidden_if, opened, closed, row_code, row_faults}
-use Rattle.ppd_check.specs.Syntax.{Name, Simple, fresh, array, store, change, call, give_back, take as take_sem, give, send, print, assert, Row, stop, simple, block, choice, repeat, count}
+use Rattle.ppd_check.specs.Syntax.{Simple, fresh, array, store, change, call, give_back, take as take_sem, give, send, print, assert, Row, stop, simple, block, choice, repeat, count}
 use Rattle.ppd_check.specs.Writing.{Wrote, Walked}
 use Rattle.ppd_check.proofs.Declaring.{walked_followed, phrases_more}
 
-followed_stop : (r : Row) → followed r stop ≡ r
+pub followed_stop : (r : Row) → followed r stop ≡ r
 followed_stop stop = refl
 followed_stop (simple s r) = ap (simple s) (followed_stop r)
 followed_stop (block b r) = ap (block b) (followed_stop r)
@@ -31,7 +31,7 @@ followed_assoc (choice p e a b q) r s = ap (choice p e a b) (followed_assoc q r 
 followed_assoc (repeat p e b q) r s = ap (repeat p e b) (followed_assoc q r s)
 followed_assoc (count p i e t b q) r s = ap (count p i e t b) (followed_assoc q r s)
 
-rows_append : (ps qs : List Phrase) → rows (ps ++ qs) ≡ followed (rows ps) (rows qs)
+pub rows_append : (ps qs : List Phrase) → rows (ps ++ qs) ≡ followed (rows ps) (rows qs)
 rows_append [] qs = refl
 rows_append (p ∷ ps) qs = ap (followed (as_row p)) (rows_append ps qs) ∙ sym (followed_assoc (as_row p) (rows ps) (rows qs))
 
@@ -55,7 +55,7 @@ rows_more site ns cs i c f g h u v w a b d l is x y =
 
 -- A row changes the innermost scope alone.
 
-outer_declared : (d : Scope → Scope) (s : List Scope) → drop 1 (in_innermost d s) ≡ drop 1 s
+pub outer_declared : (d : Scope → Scope) (s : List Scope) → drop 1 (in_innermost d s) ≡ drop 1 s
 outer_declared d [] = refl
 outer_declared d (x ∷ s) = refl
 

@@ -15,7 +15,7 @@ use Rattle.ppd_check.specs.Syntax.{Name}
 use Rattle.ppd_check.specs.Reading.{Phrase, token, nowhere, phrase, last, kind, is_name, is_int, as_token, as_names, as_block, as_items, name_of, name_at, params}
 use Rattle.ppd_check.specs.Nodes.{phrase_of, phrases_of, phrases_below, children_of, SaysBy}
 use Rattle.ppd_check.specs.Declaring.{with_function, with_process, twice, counted}
-use Rattle.ppd_check.specs.Holding.{Declares}
+use Rattle.ppd_check.specs.Holding.{head_of, Declares}
 use Rattle.ppd_check.proofs.Declarations.{declares_function, declares_process}
 
 -- Names among phrases.
@@ -25,7 +25,7 @@ params_cons : (q : Phrase) (ps qs : List Phrase) → params (ps ++ qs) ≡ param
 params_cons q ps qs e true = ap (λ l. name_of (as_token q) ∷ l) e
 params_cons q ps qs e false = e
 
-params_append : (ps qs : List Phrase) → params (ps ++ qs) ≡ params ps ++ params qs
+pub params_append : (ps qs : List Phrase) → params (ps ++ qs) ≡ params ps ++ params qs
 params_append [] qs = refl
 params_append (p ∷ ps) qs = params_cons p ps qs (params_append ps qs) (is_name (kind p))
 
@@ -63,7 +63,7 @@ names_other r ps p h e = ap as_names e
 
 -- Parameters of children.
 
-joined_names : (ns : List Node) (cs ds : List ℕ) → flat_map as_names (phrases_of ns (cs ++ ds)) ≡ flat_map as_names (phrases_of ns cs) ++ flat_map as_names (phrases_of ns ds)
+pub joined_names : (ns : List Node) (cs ds : List ℕ) → flat_map as_names (phrases_of ns (cs ++ ds)) ≡ flat_map as_names (phrases_of ns cs) ++ flat_map as_names (phrases_of ns ds)
 joined_names ns cs ds =
     ap (flat_map as_names) (map-append (phrase_of ns) cs ds) ∙ flat_map-append as_names (phrases_of ns cs) (phrases_of ns ds)
 
@@ -88,22 +88,29 @@ params_all ns i k m cs is h a = a ∙ ap (λ l. length (flat_map as_names (phras
 
 -- A function and a process at a node.
 
-pub declares_function_at : (ns : List Node) (i : ℕ) (ps : List Phrase) (g : Bool) (x : Name) (n : ℕ) (old new : Globals) (f f' : Option Fault)
-    → SaysBy R.Function ps (phrase_of ns i) → g ≡ is_int (kind (phrase ps 0)) → x ≡ name_at ps 1 → n ≡ length (flat_map as_names ps)
+pub declares_function_at : (ns : List Node) (i : ℕ) (g : Bool) (x : Name) (n : ℕ) (old new : Globals) (f f' : Option Fault)
+    → i < length ns → SaysBy R.Function (phrases_below ns i) (phrase_of ns i)
+    → g ≡ is_int (kind (phrase (phrases_below ns i) 0)) → x ≡ name_at (phrases_below ns i) 1 → n ≡ length (flat_map as_names (phrases_below ns i))
     → new ≡ with_function i x n g old → f' ≡ first_of_both f (first (twice x old ++ counted MOST_FUNCTIONS (length old.functions) L.Functions x.place))
     → Declares ns (as_items (phrase_of ns i)) old new f f'
-declares_function_at ns i ps g x n old new f f' says a b c e w =
+declares_function_at ns i g x n old new f f' l says a b c e w =
+    let ps : List Phrase = phrases_below ns i in
     subst (λ is. Declares ns is old new f f') (sym (ap as_items says))
-    (declares_function ns i (is_int (kind (phrase ps 0))) (name_at ps 1) (flat_map as_names ps) (as_block (last ps)) old new f f' (ap as_items says)
+    (declares_function ns i (is_int (kind (phrase ps 0))) (name_at ps 1) (flat_map as_names ps) (as_block (last ps)) old new f f'
+    (record { within = l; said = ap (λ p. head_of (as_items p)) says })
+    (ap as_items says)
     (e ∙ ap (λ y. with_function i y n g old) b ∙ ap (λ m. with_function i (name_at ps 1) m g old) c ∙ ap (λ t. with_function i (name_at ps 1) (length (flat_map as_names ps)) t old) a)
     (w ∙ ap (λ y. first_of_both f (first (twice y old ++ counted MOST_FUNCTIONS (length old.functions) L.Functions y.place))) b))
 
-pub declares_process_at : (ns : List Node) (i : ℕ) (ps : List Phrase) (x : Name) (old new : Globals) (f f' : Option Fault)
-    → SaysBy R.Process ps (phrase_of ns i) → x ≡ name_at ps 1
+pub declares_process_at : (ns : List Node) (i : ℕ) (x : Name) (old new : Globals) (f f' : Option Fault)
+    → i < length ns → SaysBy R.Process (phrases_below ns i) (phrase_of ns i) → x ≡ name_at (phrases_below ns i) 1
     → new ≡ with_process i x old → f' ≡ first_of_both f (first (twice x old ++ counted MOST_PROCESSES (length old.processes) L.Processes x.place))
     → Declares ns (as_items (phrase_of ns i)) old new f f'
-declares_process_at ns i ps x old new f f' says b e w =
+declares_process_at ns i x old new f f' l says b e w =
+    let ps : List Phrase = phrases_below ns i in
     subst (λ is. Declares ns is old new f f') (sym (ap as_items says))
-    (declares_process ns i (name_at ps 1) (as_block (last ps)) old new f f' (ap as_items says)
+    (declares_process ns i (name_at ps 1) (as_block (last ps)) old new f f'
+    (record { within = l; said = ap (λ p. head_of (as_items p)) says })
+    (ap as_items says)
     (e ∙ ap (λ y. with_process i y old) b)
     (w ∙ ap (λ y. first_of_both f (first (twice y old ++ counted MOST_PROCESSES (length old.processes) L.Processes y.place))) b))

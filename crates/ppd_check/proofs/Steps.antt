@@ -1,10 +1,9 @@
 -- The rows of statements by their nodes, and a `for` from its parts.
-use Rattle.std.proofs.Common.{◌≡◌, refl, sym, ap, subst, ◌∙◌, ℕ, ◌+◌, List, [], ◌∷◌, ◌++◌, drop, take, length, Option, Some, None}
+use Rattle.std.proofs.Common.{◌≡◌, refl, sym, ap, subst, ◌∙◌, ℕ, List, [], ◌++◌, drop, Option, Some, None}
 use Rattle.std.proofs.lemmas.List.{append-nil}
 use Rattle.ppd_ast.specs.declared.program.Kind.TheVariants as K
 use Rattle.ppd_ast.specs.declared.program.Stmt.{Stmt}
 use Rattle.ppd_ast.specs.declared.program.Place.{Place}
-use Rattle.ppd_parse.specs.declared.node.Node.{Node}
 use Rattle.ppd_parse.specs.declared.symbol.Rule.{Rule}
 use Rattle.ppd_parse.specs.declared.symbol.Rule.TheVariants as R
 use Rattle.ppd_check.specs.declared.fault.Fault.{Fault}
@@ -17,7 +16,7 @@ use Rattle.ppd_check.specs.Nodes.{SaysBy}
 use Rattle.ppd_check.specs.Plain.{row_any}
 use Rattle.ppd_check.specs.Reading.{Phrase, as_row, followed}
 use Rattle.ppd_check.specs.Statements.{after, after_any, after_row, code_of, code_of_any, faults_of, faults_of_any, row_code, row_faults, opened, closed}
-use Rattle.ppd_check.specs.Syntax.{Simple, Formula, Row, stop, simple, block, repeat, count}
+use Rattle.ppd_check.specs.Syntax.{Simple, Formula, Row, stop, repeat, count}
 use Rattle.ppd_check.specs.Writing.{Wrote, WroteRow, Walked}
 use Rattle.ppd_check.proofs.Inside.{Begun, Ended, inside, walked_repeat}
 use Rattle.ppd_check.proofs.Nested.{join_done, block_closed}
@@ -34,11 +33,11 @@ as_row_other r ps p h i e = ap as_row e
 pub row_walked : (site : Site) (r : Row) (f g : Frame) (u v : Writer) (a b : List ℕ) → WroteRow site r f u v a b → g ≡ after_row r f → Walked site r f g u v a b
 row_walked site r f g u v a b w e = record { wrote = row_wrote site r f u v a b w; frame = e }
 
-code_any : (o : Option Simple) (f : Frame) → row_code (row_any o) f ≡ code_of_any o f
+pub code_any : (o : Option Simple) (f : Frame) → row_code (row_any o) f ≡ code_of_any o f
 code_any None f = refl
 code_any (Some s) f = join_done (code_of s f)
 
-faults_any : (o : Option Simple) (f : Frame) → row_faults (row_any o) f ≡ faults_of_any o f
+pub faults_any : (o : Option Simple) (f : Frame) → row_faults (row_any o) f ≡ faults_of_any o f
 faults_any None f = refl
 faults_any (Some s) f = append-nil (faults_of s f)
 

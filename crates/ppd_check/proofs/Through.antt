@@ -9,7 +9,7 @@ use Rattle.ppd_check.specs.declared.writer.Writer.{Writer}
 use Rattle.ppd_check.specs.declared.writer.Site.{Site}
 use Rattle.ppd_check.specs.Code as C
 use Rattle.ppd_check.specs.Code.{Code, act, acts, done}
-use Rattle.ppd_check.specs.Faults.{first, first_of_both}
+use Rattle.ppd_check.specs.Faults.{first_of_both}
 use Rattle.ppd_check.specs.Expressions.{formula_faults}
 use Rattle.ppd_check.specs.Reading.{goal_formula}
 use Rattle.ppd_check.specs.Statements.{spot_of, with_hidden, put, value_faults}

@@ -1,8 +1,7 @@
 -- Rows one after another, and statements with rows inside them.
-use Rattle.std.proofs.Common.{◌≡◌, refl, sym, ap, subst, ◌∙◌, ℕ, suc, ◌+◌, arith, List, [], ◌∷◌, ◌++◌, length, Option, Some, None, slice_set}
+use Rattle.std.proofs.Common.{◌≡◌, refl, sym, ap, subst, ◌∙◌, ℕ, ◌+◌, List, [], ◌∷◌, ◌++◌, length, Option, Some, slice_set}
 use Rattle.std.proofs.lemmas.List.{append_assoc, append-nil, length-append}
 use Rattle.std.proofs.Math.Seq.{set-append_seam}
-use Rattle.ppd_ast.specs.declared.program.Expr.{Expr}
 use Rattle.ppd_ast.specs.declared.program.Kind.{Kind}
 use Rattle.ppd_ast.specs.declared.program.Kind.TheVariants as K
 use Rattle.ppd_ast.specs.declared.program.Stmt.{Stmt}
@@ -15,9 +14,7 @@ use Rattle.ppd_check.specs.declared.writer.Site.{Site}
 use Rattle.ppd_check.specs.Faults.{first, first_of_both}
 use Rattle.ppd_check.specs.Expressions.{term_of, formula_faults}
 use Rattle.ppd_check.specs.Code.{Code, done, act, choice, loop, join, count}
-use Rattle.ppd_check.specs.Code as C
 use Rattle.ppd_check.specs.Table.{weight, weights, flat, flats, root, terms, numbers, stmts}
-use Rattle.ppd_check.specs.Forms.{Added}
 use Rattle.ppd_check.specs.Reading.{followed}
 use Rattle.ppd_check.specs.Statements.{code_of, code_of_any, faults_of, faults_of_any, after, after_any, after_row, row_code, row_faults, opened, closed}
 use Rattle.ppd_check.specs.Syntax.{Row, stop, simple, block, repeat}
@@ -25,7 +22,7 @@ use Rattle.ppd_check.specs.Syntax as S
 use Rattle.ppd_check.specs.Writing.{Wrote, WroteRow}
 use Rattle.ppd_check.proofs.First.{found_in_both}
 use Rattle.ppd_check.proofs.Flat.{length_flat}
-use Rattle.ppd_check.proofs.Joined.{terms_join, stmts_join, numbers_join}
+use Rattle.ppd_check.proofs.Joined.{terms_join, stmts_join}
 use Rattle.ppd_check.proofs.Writing.{wrote_join, wrote_nothing}
 
 pub join_assoc : (a b c : Code) → join (join a b) c ≡ join a (join b c)

@@ -1,8 +1,9 @@
 -- Declarations, node after node.
-use Rattle.std.proofs.Common.{◌≡◌, refl, sym, ap, subst, ◌∙◌, ℕ, ◌+◌, ◌<◌, ◌≤◌, List, [], ◌∷◌, ◌++◌, take, length, get_or, Option}
+use Rattle.std.proofs.Common.{◌≡◌, refl, sym, ap, subst, ◌∙◌, ℕ, ◌+◌, ◌<◌, ◌≤◌, true, false, List, [], ◌∷◌, ◌++◌, take, length, get_or, Option}
 use Rattle.std.specs.List.{flat_map}
 use Rattle.std.proofs.lemmas.List.{take_more, take_all, map-append, append-nil, length-map}
 use Rattle.std.proofs.lemmas.List.Concat.{flat_map-append}
+use Rattle.std.proofs.lemmas.List.Elements.{All-nil}
 use Rattle.ppd_parse.specs.declared.node.Node.{Node}
 use Rattle.ppd_parse.specs.declared.symbol.Rule.{Rule}
 use Rattle.ppd_parse.specs.declared.symbol.Rule.TheVariants as R
@@ -13,7 +14,7 @@ use Rattle.ppd_check.specs.Syntax.{Item}
 use Rattle.ppd_check.specs.Reading.{Phrase, as_items}
 use Rattle.ppd_check.specs.Nodes.{phrase_of, phrases_of, phrases_below, children_of, SaysBy}
 use Rattle.ppd_check.specs.Declaring.{nothing}
-use Rattle.ppd_check.specs.Holding.{head_at, Holds, Declares}
+use Rattle.ppd_check.specs.Holding.{head_at, IsHeadAt, Holds, Declares}
 use Rattle.ppd_check.specs.Sources as S
 use Rattle.ppd_check.specs.Sources.{no_globals, with_items, items_faults, count_faults}
 use Rattle.ppd_check.proofs.Counted.{noted_all}
@@ -68,6 +69,8 @@ holds_none ns =
       chans = refl;
       functions = refl;
       processes = refl;
+      function_nodes = All-nil (IsHeadAt ns false);
+      process_nodes = All-nil (IsHeadAt ns true);
     }
 
 held_first : (ns : List Node) (g : Globals) → g ≡ nothing → Holds ns g no_globals

@@ -1,5 +1,6 @@
 -- What the items of a source declare, as the code keeps it and as it is defined.
-use Rattle.std.specs.Prelude.{◌≡◌, ◌≤◌, ℕ, ℤ, pos, neg_ℤ, if◌then◌else◌, true, false, List, [], ◌∷◌, ◌++◌, map, length, Option, Some, None, nat_lt}
+use Rattle.std.specs.Prelude.{◌≡◌, ◌≤◌, ◌<◌, ℕ, ℤ, pos, neg_ℤ, if◌then◌else◌, Bool, true, false, not, ◌&&◌, List, [], ◌∷◌, ◌++◌, map, length, Option, Some, None, nat_lt}
+use Rattle.std.specs.List.{All, flat_map}
 use Rattle.ppd_ast.specs.declared.limits.TheConstants.{MOST_SHARED_CELLS, MOST_SEMAPHORES, MOST_CHANNELS, MOST_FUNCTIONS, MOST_PROCESSES}
 use Rattle.ppd_parse.specs.declared.node.Node.{Node}
 use Rattle.ppd_check.specs.declared.fault.Cause.TheVariants.{TooMany}
@@ -10,8 +11,8 @@ use Rattle.ppd_check.specs.Faults.{if_so, first, first_of_both}
 use Rattle.ppd_check.specs.Fitted.{as_short}
 use Rattle.ppd_check.specs.Statements.{after_cells, twice_faults}
 use Rattle.ppd_check.specs.Syntax.{stop, Item, shared, shared_array, semaphore, channel, function, process}
-use Rattle.ppd_check.specs.Reading.{Phrase, phrase, kind, is_minus, number_at, value_of, as_token, nowhere, name_of, as_items}
-use Rattle.ppd_check.specs.Nodes.{phrase_of}
+use Rattle.ppd_check.specs.Reading.{Phrase, phrase, last, kind, is_minus, is_int, number_at, name_at, value_of, as_token, nowhere, name_of, as_names, as_block, as_items}
+use Rattle.ppd_check.specs.Nodes.{phrase_of, phrases_below}
 use Rattle.ppd_check.specs.Declaring.{counted}
 use Rattle.ppd_check.specs.Sources as S
 use Rattle.ppd_check.specs.Sources.{Head, sem, chan, item_name, item_size_faults, with_item, with_items}
@@ -26,6 +27,22 @@ head_of _ = record { process = false; gives = false; name = name_of nowhere; par
 abbrev pub head_at : List Node → ℕ → Head
 head_at ns i = head_of (as_items (phrase_of ns i))
 
+-- the function or process whose node has children that say this
+abbrev pub head_said : (is_process : Bool) → List Phrase → Head
+head_said is_process ps =
+    record {
+      process = is_process;
+      gives = not is_process && is_int (kind (phrase ps 0));
+      name = name_at ps 1;
+      params = if is_process then [] else flat_map as_names ps;
+      block = as_block (last ps);
+    }
+
+-- a function or a process stands at the node
+pub record IsHeadAt (ns : List Node) (is_process : Bool) (i : ℕ) : Type 0 where
+  pub within : i < length ns
+  pub said : head_at ns i ≡ head_said is_process (phrases_below ns i)
+
 -- the code keeps what is declared
 pub record Holds (ns : List Node) (g : Globals) (s : S.Globals) : Type 0 where
   pub scopes : g.scopes ≡ s.scope ∷ []
@@ -36,6 +53,8 @@ pub record Holds (ns : List Node) (g : Globals) (s : S.Globals) : Type 0 where
   pub chans : g.chans ≡ map chan s.channels
   pub functions : map (head_at ns) g.functions ≡ s.functions
   pub processes : map (head_at ns) g.processes ≡ s.processes
+  pub function_nodes : All (IsHeadAt ns false) g.functions
+  pub process_nodes : All (IsHeadAt ns true) g.processes
 
 -- whether an item is one too many
 abbrev pub item_counted : Item → S.Globals → List Fault

@@ -20,3 +20,5 @@ pub mod Declaring
 pub mod Holding
 pub mod Plain
 pub mod Items
+pub mod Endings
+pub mod Bodies

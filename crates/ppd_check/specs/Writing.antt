@@ -1,11 +1,13 @@
 -- What a walk of statements adds to the table.
-use Rattle.std.specs.Prelude.{◌≡◌, ℕ, List, [], ◌++◌, map, length, Option}
+use Rattle.std.specs.Prelude.{◌≡◌, ℕ, List, [], ◌++◌, ◌∷◌, map, length, Option}
 use Rattle.std.specs.List.{flat_map}
 use Rattle.ppd_ast.specs.declared.program.Expr.{Expr}
+use Rattle.ppd_ast.specs.declared.program.Kind.TheVariants.{End}
 use Rattle.ppd_ast.specs.Term.{Term}
 use Rattle.ppd_check.specs.declared.fault.Fault.{Fault}
 use Rattle.ppd_check.specs.declared.writer.Writer.{Writer}
 use Rattle.ppd_check.specs.Faults.{first, first_of_both}
+use Rattle.ppd_check.specs.Forms.{Added}
 use Rattle.ppd_parse.specs.declared.node.Node.{Node}
 use Rattle.ppd_check.specs.Names.{Scope}
 use Rattle.ppd_check.specs.Reading.{formulas}
@@ -40,6 +42,14 @@ WroteRow site r f old new ids ids' = Wrote site.body site.parent (row_code r f) 
 pub record Walked (site : Site) (r : Row) (f g : Frame) (old new : Writer) (ids ids' : List ℕ) : Type 0 where
   pub wrote : Wrote site.body site.parent (row_code r f) (row_faults r f) old new ids ids'
   pub frame : g ≡ after_row r f
+
+-- the test of a statement was added, then the statement, whose place is held
+pub record Began (site : Site) (place : Place) (t : Term) (faults : List Fault) (old new : Writer) (n number : ℕ) (ids ids' : List ℕ) : Type 0 where
+  pub test : Added old.exprs t new.exprs number
+  pub found : new.found ≡ first_of_both old.found (first faults)
+  pub stmts : new.stmts ≡ old.stmts ++ record { place = place; body = site.body; parent = site.parent; kind = End } ∷ []
+  pub which : n ≡ length old.stmts
+  pub row : ids' ≡ ids ++ length old.stmts ∷ []
 
 -- one core statement was added
 abbrev pub WroteAct : Site → Place → Act → List Fault → (old new : Writer) (ids ids' : List ℕ) → Type 0

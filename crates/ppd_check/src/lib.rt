@@ -2,9 +2,14 @@
 #![tactic(auto)]
 
 mod arrays;
+mod begun;
+mod bodies;
 mod calls;
 mod changes;
+mod checking;
+mod counts;
 mod declare;
+mod endings;
 mod error;
 mod fault;
 mod forms;
@@ -21,15 +26,20 @@ mod objects;
 mod parsed;
 mod parts;
 mod places;
+mod returns;
 mod scopes;
 mod signatures;
 mod simple;
+mod source;
 mod statements;
 mod stores;
 mod turns;
 mod values;
+mod walk;
 mod words;
 mod writer;
 
+pub use checking::check;
 pub use error::{CheckError, SourceError};
 pub use fault::Limit;
+pub use source::read_source;

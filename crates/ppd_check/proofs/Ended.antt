@@ -1,0 +1,193 @@
+-- How rows of statements end.
+use Rattle.std.proofs.Common.{◌≡◌, refl, sym, ap, ◌∙◌, ℕ, pos, not, ◌+◌, ◌<◌, ◌≤◌, Bool, true, false, if◌then◌else◌, is_some, List, [], ◌∷◌, ◌++◌, take, length, get_or, None, Some}
+use Rattle.std.proofs.lemmas.List.{take_all}
+use Rattle.ppd_ast.specs.declared.program.Place.{Place}
+use Rattle.ppd_parse.specs.declared.node.Node.{Node}
+use Rattle.ppd_parse.specs.declared.symbol.Kind.{Kind}
+use Rattle.ppd_parse.specs.declared.symbol.Kind.TheVariants as K
+use Rattle.ppd_parse.specs.declared.symbol.Rule.{Rule}
+use Rattle.ppd_parse.specs.declared.symbol.Rule.TheVariants as R
+use Rattle.ppd_check.specs.declared.endings.Ending.{Ending}
+use Rattle.ppd_check.specs.declared.endings.Ending.TheVariants.{Empty, Return, Other}
+use Rattle.ppd_check.specs.Code.{Code, done, act}
+use Rattle.ppd_check.specs.Code as C
+use Rattle.ppd_check.specs.Endings.{with_rest, simple_ending, ending, close_by}
+use Rattle.ppd_check.specs.Nodes.{phrase_of, phrases_of, phrases_below, children_of, SaysBy}
+use Rattle.ppd_check.specs.Reading.{Phrase, phrase, kind, place_at, is_semicolon, as_row, as_value, rows, locals, local_item, changed, returned, statement, worded, followed, is_bracket, is_assign, name_at, number_at}
+use Rattle.ppd_check.specs.Sources.{Head, ends_with_return, close_code}
+use Rattle.ppd_check.specs.Syntax.{number, plain, Simple, fresh, array, store, change, call, give_back, take as take_sem, give, send, print, assert, Row, stop, simple, block, choice, repeat, count}
+use Rattle.ppd_check.proofs.Declaring.{locals_append, phrases_more}
+use Rattle.ppd_check.proofs.Nested.{rows_append, followed_stop}
+
+with_empty : (e : Ending) → with_rest Empty e ≡ e
+with_empty Empty = refl
+with_empty (Return p v) = refl
+with_empty Other = refl
+
+with_assoc : (a b e : Ending) → with_rest (with_rest a b) e ≡ with_rest a (with_rest b e)
+with_assoc a b Empty = refl
+with_assoc a b (Return p v) = refl
+with_assoc a b Other = refl
+
+ending_followed : (q r : Row) → ending (followed q r) ≡ with_rest (ending q) (ending r)
+ending_followed stop r = sym (with_empty (ending r))
+ending_followed (simple s q) r = ap (with_rest (simple_ending s)) (ending_followed q r) ∙ sym (with_assoc (simple_ending s) (ending q) (ending r))
+ending_followed (block b q) r = ap (with_rest Other) (ending_followed q r) ∙ sym (with_assoc Other (ending q) (ending r))
+ending_followed (choice p e a b q) r = ap (with_rest Other) (ending_followed q r) ∙ sym (with_assoc Other (ending q) (ending r))
+ending_followed (repeat p e b q) r = ap (with_rest Other) (ending_followed q r) ∙ sym (with_assoc Other (ending q) (ending r))
+ending_followed (count p i e t b q) r = ap (with_rest Other) (ending_followed q r) ∙ sym (with_assoc Other (ending q) (ending r))
+
+-- Children one after another.
+
+pub rows_ended : (ns : List Node) (cs : List ℕ) (i c : ℕ) (e f : Ending) → i < length cs → c ≡ get_or cs i c → e ≡ ending (rows (phrases_of ns (take i cs)))
+    → f ≡ with_rest e (ending (as_row (phrase_of ns c))) → f ≡ ending (rows (phrases_of ns (take (i + 1) cs)))
+rows_ended ns cs i c e f l is a b =
+    let ps : List Phrase = phrases_of ns (take i cs) in
+    let q : Row = as_row (phrase_of ns c) in
+    b
+    ∙ ap (λ x. with_rest x (ending q)) a
+    ∙ ap (λ r. with_rest (ending (rows ps)) (ending r)) (sym (followed_stop q))
+    ∙ sym (ending_followed (rows ps) (rows (phrase_of ns c ∷ [])))
+    ∙ ap ending (sym (rows_append ps (phrase_of ns c ∷ [])) ∙ ap rows (phrases_more ns cs i c l is))
+
+pub rows_all : (ns : List Node) (i k : ℕ) (cs : List ℕ) (e : Ending) → cs ≡ children_of ns i → length cs ≤ k → e ≡ ending (rows (phrases_of ns (take k cs))) → e ≡ ending (rows (phrases_below ns i))
+unfolding phrases_below
+rows_all ns i k cs e is h a = a ∙ ap (λ l. ending (rows (phrases_of ns l))) (take_all k cs h ∙ is)
+
+pub locals_ended : (ns : List Node) (cs : List ℕ) (i c : ℕ) (e f : Ending) → i < length cs → c ≡ get_or cs i c → e ≡ ending (locals (phrases_of ns (take i cs)))
+    → f ≡ with_rest e (ending (locals (phrase_of ns c ∷ []))) → f ≡ ending (locals (phrases_of ns (take (i + 1) cs)))
+locals_ended ns cs i c e f l is a b =
+    let ps : List Phrase = phrases_of ns (take i cs) in
+    b
+    ∙ ap (λ x. with_rest x (ending (locals (phrase_of ns c ∷ [])))) a
+    ∙ sym (ending_followed (locals ps) (locals (phrase_of ns c ∷ [])))
+    ∙ ap ending (sym (locals_append ps (phrase_of ns c ∷ [])) ∙ ap locals (phrases_more ns cs i c l is))
+
+pub locals_all : (ns : List Node) (i k : ℕ) (cs : List ℕ) (e : Ending) → cs ≡ children_of ns i → length cs ≤ k → e ≡ ending (locals (phrases_of ns (take k cs))) → e ≡ ending (locals (phrases_below ns i))
+unfolding phrases_below
+locals_all ns i k cs e is h a = a ∙ ap (λ l. ending (locals (phrases_of ns l))) (take_all k cs h ∙ is)
+
+-- Statements and declarations by their rules.
+
+item_ending : (ps : List Phrase) → simple_ending (local_item ps) ≡ Other
+item_ending ps = go (is_bracket (kind (phrase ps 1))) (is_assign (kind (phrase ps 1)))
+  where
+    go : (b c : Bool) → simple_ending (if b then array (name_at ps 0) (number_at ps 2) else if c then fresh (name_at ps 0) (as_value (phrase ps 2)) else fresh (name_at ps 0) (plain (number (pos 0)))) ≡ Other
+    go true c = refl
+    go false true = refl
+    go false false = refl
+
+change_ending : (ps : List Phrase) (k : Kind) → kind (phrase ps 1) ≡ k → simple_ending (changed ps) ≡ Other
+change_ending ps K.AssignMark h = rw (h)
+change_ending ps K.AddMark h = rw (h)
+change_ending ps K.SubtractMark h = rw (h)
+change_ending ps K.IncreaseMark h = rw (h)
+change_ending ps k h = rw (h)
+
+pub ended_item : (ps : List Phrase) (p : Phrase) → SaysBy R.Litem ps p → Other ≡ ending (locals (p ∷ []))
+ended_item ps p e = sym (ap (λ q. ending (locals (q ∷ []))) e ∙ item_ending ps)
+
+pub ended_changed : (ps : List Phrase) (p : Phrase) → SaysBy R.Change ps p → Other ≡ ending (locals (p ∷ []))
+ended_changed ps p e = sym (ap (λ q. ending (locals (q ∷ []))) e ∙ change_ending ps (kind (phrase ps 1)) refl)
+
+-- the ending of a statement whose first child has this rule, where a word's is known
+abbrev pub rule_ending : Rule → Ending → Ending
+rule_ending R.Leaf e = e
+rule_ending R.Block e = Other
+rule_ending R.Place e = Other
+rule_ending R.Call e = Other
+rule_ending R.Change e = Other
+rule_ending R.Litem e = Other
+rule_ending _ e = Empty
+
+pub statement_ended : (r : Rule) (qs : List Phrase) (p : Phrase) (ps : List Phrase) → SaysBy r qs p → ending (statement p ps) ≡ rule_ending r (ending (worded ps))
+statement_ended R.Leaf qs p ps e = ap (λ q. ending (statement q ps)) e.1
+statement_ended R.Change qs p ps e = ap (λ q. ending (statement q ps)) e ∙ change_ending qs (kind (phrase qs 1)) refl
+statement_ended R.Litem qs p ps e = ap (λ q. ending (statement q ps)) e ∙ item_ending qs
+statement_ended r qs p ps e = ap (λ q. ending (statement q ps)) e
+
+pub rule_other : (r : Rule) (e : Ending) → (r ≡ R.Leaf → ⊥) → (r ≡ R.Block → ⊥) → (r ≡ R.Place → ⊥) → (r ≡ R.Call → ⊥) → (r ≡ R.Change → ⊥) → (r ≡ R.Litem → ⊥) → rule_ending r e ≡ Empty
+rule_other R.Leaf e a b c d f g = absurd (a refl)
+rule_other R.Block e a b c d f g = absurd (b refl)
+rule_other R.Place e a b c d f g = absurd (c refl)
+rule_other R.Call e a b c d f g = absurd (d refl)
+rule_other R.Change e a b c d f g = absurd (f refl)
+rule_other R.Litem e a b c d f g = absurd (g refl)
+rule_other r e a b c d f g = refl
+
+returned_some : (p : Phrase) (b : Bool) → is_some (if b then None else Some (as_value p)) ≡ not b
+returned_some p true = refl
+returned_some p false = refl
+
+pub value_given : (ps : List Phrase) → is_some (returned (phrase ps 1)) ≡ not (is_semicolon (kind (phrase ps 1)))
+value_given ps = returned_some (phrase ps 1) (is_semicolon (kind (phrase ps 1)))
+
+pub word_return : (ps : List Phrase) → kind (phrase ps 0) ≡ K.ReturnWord → ending (worded ps) ≡ Return (place_at ps 0) (is_some (returned (phrase ps 1)))
+word_return ps h = rw (h)
+
+pub word_other : (ps : List Phrase) (k : Kind) → kind (phrase ps 0) ≡ k → (k ≡ K.ReturnWord → ⊥) → ending (worded ps) ≡ Other
+word_other ps K.ReturnWord h a = absurd (a refl)
+word_other ps k h a = rw (h)
+
+-- What stands at the closing brace.
+
+abbrev is_return : Ending → Bool
+is_return (Return p v) = true
+is_return e = false
+
+other_rest : (e : Ending) → is_return e ≡ is_return (with_rest Other e)
+other_rest Empty = refl
+other_rest (Return p v) = refl
+other_rest Other = refl
+
+clash_other : Other ≡ Empty → ⊥
+clash_other h = cc
+
+clash_return : (p : Place) (v : Bool) → Return p v ≡ Empty → ⊥
+clash_return p v h = cc
+
+kept_rest : (a e : Ending) → (e ≡ Empty → ⊥) → is_return e ≡ is_return (with_rest a e)
+kept_rest a Empty h = absurd (h refl)
+kept_rest a (Return p v) h = refl
+kept_rest a Other h = refl
+
+pub full_other : (e : Ending) → with_rest Other e ≡ Empty → ⊥
+full_other Empty h = clash_other h
+full_other (Return p v) h = clash_return p v h
+full_other Other h = clash_other h
+
+full_return : (q : Place) (w : Bool) (e : Ending) → with_rest (Return q w) e ≡ Empty → ⊥
+full_return q w Empty h = clash_return q w h
+full_return q w (Return p v) h = clash_return p v h
+full_return q w Other h = clash_other h
+
+-- a row with a statement is not empty
+pub full_simple : (s : Simple) (r : Row) → ending (simple s r) ≡ Empty → ⊥
+full_simple (give_back p v) r h = full_return p (is_some v) (ending r) h
+full_simple s r h = full_other (ending r) h
+
+ends : (r : Row) → ends_with_return r ≡ is_return (ending r)
+ends stop = refl
+ends (simple (give_back p v) stop) = refl
+ends (simple (give_back p v) (simple s r)) = ends (simple s r) ∙ kept_rest (Return p (is_some v)) (ending (simple s r)) (full_simple s r)
+ends (simple (give_back p v) (block b r)) = ends (block b r) ∙ kept_rest (Return p (is_some v)) (ending (block b r)) (full_other (ending r))
+ends (simple (give_back p v) (choice q e a b r)) = ends (choice q e a b r) ∙ kept_rest (Return p (is_some v)) (ending (choice q e a b r)) (full_other (ending r))
+ends (simple (give_back p v) (repeat q e b r)) = ends (repeat q e b r) ∙ kept_rest (Return p (is_some v)) (ending (repeat q e b r)) (full_other (ending r))
+ends (simple (give_back p v) (count q i e t b r)) = ends (count q i e t b r) ∙ kept_rest (Return p (is_some v)) (ending (count q i e t b r)) (full_other (ending r))
+ends (simple s r) = ends r ∙ other_rest (ending r)
+ends (block b r) = ends r ∙ other_rest (ending r)
+ends (choice p e a b r) = ends r ∙ other_rest (ending r)
+ends (repeat p e b r) = ends r ∙ other_rest (ending r)
+ends (count p i e t b r) = ends r ∙ other_rest (ending r)
+
+close_ended : (e : Ending) (close : Place) → (if is_return e then done else act close (C.give_back None) done) ≡ close_by false e close
+close_ended Empty close = refl
+close_ended (Return p v) close = refl
+close_ended Other close = refl
+
+pub closed_by : (h : Head) → close_code h ≡ close_by h.process (ending h.block.row) h.block.close
+closed_by h = go h.process
+  where
+    go : (b : Bool) → (if b then act h.block.close C.finish done else if ends_with_return h.block.row then done else act h.block.close (C.give_back None) done) ≡ close_by b (ending h.block.row) h.block.close
+    go true = refl
+    go false = ap (λ b. if b then done else act h.block.close (C.give_back None) done) (ends h.block.row) ∙ close_ended (ending h.block.row) h.block.close

@@ -1,0 +1,10 @@
+use Rattle.std.proofs.Common.{take}
+use Rattle.std.specs.List.{flat_map}
+use Rattle.ppd_check.specs.Bodies.{Parametered}
+use Rattle.ppd_check.specs.Nodes.{phrases_of}
+use Rattle.ppd_check.specs.Reading.{as_names}
+use Rattle.ppd_check.proofs.bodies.declare_all.Given as goal
+
+-- the parameters that the children before say
+abbrev pub invariant-loop-child : goal.invariant-loop-child
+invariant-loop-child l = Parametered (flat_map as_names (phrases_of l.nodes (take l.child-index l.child-items))) l.fn.frame l.frame l.fn.found l.found

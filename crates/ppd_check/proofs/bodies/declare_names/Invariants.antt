@@ -1,0 +1,9 @@
+use Rattle.std.proofs.Common.{take}
+use Rattle.ppd_check.specs.Bodies.{Parametered}
+use Rattle.ppd_check.specs.Nodes.{phrases_below}
+use Rattle.ppd_check.specs.Reading.{params}
+use Rattle.ppd_check.proofs.bodies.declare_names.Given as goal
+
+-- the names among the children before
+abbrev pub invariant-loop-k : goal.invariant-loop-k
+invariant-loop-k l = Parametered (params (take l.k (phrases_below l.nodes l.id))) l.fn.frame l.frame l.fn.found l.found

@@ -1,0 +1,34 @@
+use Rattle.std.proofs.Common.{◌∙◌, ap, None}
+use Rattle.ppd_check.specs.Fitted.{as_short}
+use Rattle.ppd_check.specs.Faults.{first, first_of_both}
+use Rattle.ppd_check.specs.Holding.{head_said}
+use Rattle.ppd_check.specs.Nodes.{phrases_below}
+use Rattle.ppd_check.specs.Sources.{vars, past_cells}
+use Rattle.ppd_check.specs.Syntax.{Name}
+use Rattle.ppd_ast.specs.declared.limits.TheConstants.{MOST_LOCAL_CELLS}
+use Rattle.ppd_check.specs.declared.fault.Limit.TheVariants as L
+use Rattle.ppd_check.specs.declared.writer.Site.{Site}
+use Rattle.ppd_check.specs.declared.frame.Variable.{Variable}
+use Rattle.std.proofs.Common.{ℕ, List}
+use Rattle.ppd_check.proofs.Filling.{body_from, scopes_after}
+use Rattle.ppd_check.proofs.bodies.write_head.Goals as goal
+
+pub returns-clause-wrote : goal.returns-clause-wrote
+returns-clause-wrote c =
+    body_from c.args.scopes (head_said c.args.process (phrases_below c.args.nodes.now c.args.id)) (record { body = c.as_short.result; parent = None })
+    c.in_ok-frame.frame c.declare_params.new.frame c.fill.new.frame c.args.out.now c.fill.new.out c.declare_params.new.found c.note_cells.new.found
+    c.new-top.result c.fill.new.row c.args.bodies.now c.push.new.self c.as_short-params.result c.in_ok-first.first c.in_ok-end.end c.in_ok-name.name c.gives_at-value.result c.in_ok-locals.locals
+    c.requires.one c.in_ok-frame.ensures c.in_ok-declare_params.ensures c.new-top.ensures c.in_ok-fill.ensures
+    (c.note_cells.ensures ∙ ap (λ (l : List Variable). first_of_both c.fill.new.out.found (first (past_cells MOST_LOCAL_CELLS L.Locals 0 l))) c.as_slice.ensures)
+    (ap (λ (n : ℕ). record { body = n; parent = None }) (c.as_short.ensures ∙ ap as_short c.len.ensures))
+    (c.as_short-params.ensures ∙ ap as_short c.len-2.ensures)
+    c.in_ok-first.ensures c.in_ok-end.ensures
+    (c.in_ok-name.ensures ∙ ap (λ (x : Name). x.text) c.label_at.ensures)
+    c.gives_at-value.ensures
+    (c.in_ok-locals.ensures ∙ ap (vars 0) c.as_slice-2.ensures)
+    c.in_ok-push.ensures.ok
+
+pub returns-clause-scopes : goal.returns-clause-scopes
+returns-clause-scopes c =
+    scopes_after (head_said c.args.process (phrases_below c.args.nodes.now c.args.id)) c.args.scopes c.in_ok-frame.frame c.declare_params.new.frame c.fill.new.frame c.leave.result
+    c.in_ok-frame.ensures c.in_ok-declare_params.ensures.frame c.in_ok-fill.ensures.frame c.leave.ensures

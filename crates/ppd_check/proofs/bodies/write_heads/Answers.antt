@@ -1,0 +1,34 @@
+use Rattle.std.proofs.Common.{arith, get_or, ◌∙◌, ap, subst, sym, ◌∷◌, [], List}
+use Rattle.std.proofs.lemmas.List.{get_or_default}
+use Rattle.ppd_check.specs.Bodies.{WroteHeads}
+use Rattle.ppd_check.specs.Holding.{head_said}
+use Rattle.ppd_check.specs.Names.{innermost, Scope}
+use Rattle.ppd_check.specs.Nodes.{phrases_below}
+use Rattle.ppd_check.proofs.Heading.{heads_none, heads_next, heads_all}
+use Rattle.ppd_check.proofs.bodies.write_heads.Goals as goal
+
+pub loop-id-preserved : goal.loop-id-preserved
+loop-id-preserved c =
+    let d = get_or c.args.ids.now c.loop-id.id-index 0 in
+    record {
+      scopes = c.in_ok-scopes.ensures.scopes ∙ c.loop-id.invariant.scopes;
+      wrote =
+          heads_next (innermost c.args.scopes) c.args.nodes.now c.args.process c.args.ids.now c.loop-id.id-index d
+          c.args.out.now c.loop-id.out c.write_head.new.out c.args.bodies.now c.loop-id.bodies c.write_head.new.bodies
+          (omega (arith, c.loop-id-test.true))
+          (get_or_default c.args.ids.now c.loop-id.id-index 0 _ (omega (arith, c.loop-id-test.true)))
+          (c.requires.heads c.loop-id.id-index 0 (omega (arith, c.loop-id-test.true)))
+          c.loop-id.invariant.wrote
+          (subst (λ (s : List Scope). WroteHeads (innermost s) (head_said c.args.process (phrases_below c.args.nodes.now d) ∷ []) c.loop-id.out c.write_head.new.out c.loop-id.bodies c.write_head.new.bodies) c.loop-id.invariant.scopes c.in_ok-scopes.ensures.wrote);
+    }
+
+pub write_head-requires-clause-within : goal.write_head-requires-clause-within
+write_head-requires-clause-within c = (c.requires.heads c.loop-id.id-index 0 (omega (arith, c.loop-id-test.true))).within
+
+pub write_head-requires-clause-one : goal.write_head-requires-clause-one
+write_head-requires-clause-one c = c.loop-id.invariant.scopes ∙ c.requires.one ∙ ap (λ (s : List Scope). innermost s ∷ []) (sym c.loop-id.invariant.scopes)
+
+pub returns-clause-wrote : goal.returns-clause-wrote
+returns-clause-wrote c =
+    heads_all (innermost c.args.scopes) c.args.nodes.now c.args.ids.now c.loop-id.id-index c.args.out.now c.loop-id.out c.args.bodies.now c.loop-id.bodies
+    (omega (arith, c.loop-id-test.false)) c.loop-id.invariant.wrote

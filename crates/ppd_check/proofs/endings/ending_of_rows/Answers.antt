@@ -1,0 +1,18 @@
+use Rattle.std.proofs.Common.{◌∙◌, ap, arith, get_or}
+use Rattle.std.proofs.lemmas.List.{get_or_default}
+use Rattle.ppd_check.specs.Endings.{with_rest}
+use Rattle.ppd_check.proofs.Ended.{rows_ended, rows_all}
+use Rattle.ppd_check.proofs.endings.ending_of_rows.Goals as goal
+
+pub loop-child-preserved : goal.loop-child-preserved
+loop-child-preserved c =
+    rows_ended c.args.nodes.now c.children_of-child-items.result.now c.loop-child.child-index (get_or c.children_of-child-items.result.now c.loop-child.child-index 0)
+    c.loop-child.last c.with_rest-last.result
+    (omega (arith, c.loop-child-test.true))
+    (get_or_default c.children_of-child-items.result.now c.loop-child.child-index 0 _ (omega (arith, c.loop-child-test.true)))
+    c.loop-child.invariant (c.with_rest-last.ensures ∙ ap (with_rest c.loop-child.last) c.ending_of_node.ensures)
+
+pub returns : goal.returns
+returns c =
+    rows_all c.args.nodes.now c.args.id c.loop-child.child-index c.children_of-child-items.result.now c.loop-child.last c.children_of-child-items.ensures.children
+    (omega (arith, c.loop-child-test.false)) c.loop-child.invariant

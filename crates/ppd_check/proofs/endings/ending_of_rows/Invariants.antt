@@ -1,0 +1,9 @@
+use Rattle.std.proofs.Common.{◌≡◌, take}
+use Rattle.ppd_check.specs.Endings.{ending}
+use Rattle.ppd_check.specs.Nodes.{phrases_of}
+use Rattle.ppd_check.specs.Reading.{rows}
+use Rattle.ppd_check.proofs.endings.ending_of_rows.Given as goal
+
+-- that of the children before
+abbrev pub invariant-loop-child : goal.invariant-loop-child
+invariant-loop-child l = l.last ≡ ending (rows (phrases_of l.nodes (take l.child-index l.child-items)))

@@ -1,0 +1,10 @@
+use Rattle.ppd_check.specs.Nodes.{label_name}
+use Rattle.ppd_check.proofs.Parameters.{declares_process_at}
+use Rattle.ppd_check.proofs.Writing.{both_ok}
+use Rattle.ppd_check.proofs.signatures.declare_process.Goals as goal
+
+pub returns : goal.returns
+returns c =
+    both_ok c.add_process.result _ _ _ c.add_process.ensures.globals c.add_process.ensures.faults
+    (λ e w. declares_process_at c.args.nodes.now c.args.id (label_name c.label_at.result)
+    c.args.globals.now c.add_process.new.globals c.args.found.now c.add_process.new.found c.requires.within c.requires.says c.label_at.ensures e w)

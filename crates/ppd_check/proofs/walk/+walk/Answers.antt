@@ -1,0 +1,110 @@
+use Rattle.std.proofs.Common.{sym, ap, arith, get_or}
+use Rattle.std.proofs.lemmas.List.{get_or_default}
+use Rattle.ppd_check.specs.Nodes.{phrase_of, phrases_below}
+use Rattle.ppd_check.specs.Reading.{as_row, phrase, place_at, formula_at, worded, statement}
+use Rattle.ppd_check.specs.Plain.{plain_statement}
+use Rattle.ppd_check.proofs.Nested.{rows_more, walked_block}
+use Rattle.ppd_check.proofs.Steps.{row_walked}
+use Rattle.ppd_check.proofs.Through.{ok_map}
+use Rattle.ppd_check.proofs.Whole.{walked_below, walked_as, walked_stop, walked_alone, if_walked, while_walked, for_walked, worded_if, worded_while, worded_for, row_locals, statement_named}
+use Rattle.ppd_check.proofs.Writing.{both_ok}
+use Rattle.ppd_check.proofs.walk.+walk.Goals as goal
+
+pub write_rows-loop-child-preserved : goal.write_rows-loop-child-preserved
+write_rows-loop-child-preserved t c =
+    rows_more c.args.site c.args.nodes.now c.children_of-child-items.result.now c.loop-child.child-index (get_or c.children_of-child-items.result.now c.loop-child.child-index 0)
+    c.args.frame.now c.loop-child.frame c.write_statement.new.frame c.args.out.now c.loop-child.out c.write_statement.new.out c.args.row.now c.loop-child.row c.write_statement.new.row
+    (omega (arith, c.loop-child-test.true))
+    (get_or_default c.children_of-child-items.result.now c.loop-child.child-index 0 _ (omega (arith, c.loop-child-test.true)))
+    c.loop-child.invariant c.in_ok-write_statement.ensures
+
+pub write_rows-returns : goal.write_rows-returns
+write_rows-returns t c =
+    walked_below c.args.site c.args.nodes.now c.args.id c.loop-child.child-index c.children_of-child-items.result.now c.args.frame.now c.loop-child.frame c.args.out.now c.loop-child.out c.args.row.now c.loop-child.row
+    c.children_of-child-items.ensures.children (omega (arith, c.loop-child-test.false)) c.loop-child.invariant
+
+pub write_block-returns : goal.write_block-returns
+write_block-returns t c =
+    walked_block c.args.site _ c.args.frame.now c.open.new.frame c.write_rows.new.frame c.close.new.frame c.args.out.now c.write_rows.new.out c.args.row.now c.write_rows.new.row
+    c.in_ok-open.ensures c.in_ok-write_rows.ensures c.close.ensures
+
+pub write_child-returns-in-None : goal.write_child-returns-in-None
+write_child-returns-in-None t c = walked_stop c.args.site _ c.args.frame.now c.args.out.now c.args.row.now (ap as_row c.in-None.ensures.said)
+
+pub write_child-returns-in-Some : goal.write_child-returns-in-Some
+write_child-returns-in-Some t c =
+    ok_map c.write_statement.result _ _
+    (λ x. walked_as c.args.site (as_row (phrase_of c.args.nodes.now c.in-Some.child)) (as_row (phrase (phrases_below c.args.nodes.now c.args.id) c.args.k)) c.args.frame.now c.write_statement.new.frame c.args.out.now c.write_statement.new.out c.args.row.now c.write_statement.new.row
+    (sym (ap as_row c.in-Some.ensures.said)) x)
+    c.write_statement.ensures
+
+pub write_inside-returns : goal.write_inside-returns
+write_inside-returns t c =
+    walked_alone _ _ c.args.frame.now c.write_child.new.frame c.args.out.now c.write_child.new.out c.new-row.result c.write_child.new.row c.new-row.ensures c.in_ok-write_child.ensures
+
+pub write_if-returns : goal.write_if-returns
+write_if-returns t c =
+    let ps = phrases_below c.args.nodes.now c.args.id in
+    if_walked c.args.site (place_at ps 0) c.place_at-place.result (formula_at ps 2) _ (as_row (phrase ps 4)) (as_row (phrase ps 6))
+    c.args.frame.now c.write_inside.new.frame c.write_inside-2.new.frame c.args.out.now c.begin.new.out c.write_inside.new.out c.write_inside-2.new.out c.set_stmt.new.out
+    c.in_ok-begun.begun.at c.in_ok-begun.begun.test c.in_ok-yes.yes c.in_ok-no.no c.args.row.now c.begin.new.row
+    c.place_at-place.ensures c.operand_at-test.ensures.formula
+    c.in_ok-begun.ensures c.in_ok-yes.ensures c.in_ok-no.ensures
+    (record { exprs = c.set_stmt.ensures.exprs; found = c.set_stmt.ensures.found; stmts = c.set_stmt.ensures.stmts })
+
+pub write_while-returns : goal.write_while-returns
+write_while-returns t c =
+    let ps = phrases_below c.args.nodes.now c.args.id in
+    while_walked c.args.site (place_at ps 0) c.place_at-place.result (formula_at ps 2) _ (as_row (phrase ps 4))
+    c.args.frame.now c.write_inside.new.frame c.args.out.now c.begin.new.out c.write_inside.new.out c.set_stmt.new.out
+    c.in_ok-begun.begun.at c.in_ok-begun.begun.test c.in_ok-turn.turn c.args.row.now c.begin.new.row
+    c.place_at-place.ensures c.operand_at-test.ensures.formula
+    c.in_ok-begun.ensures c.in_ok-turn.ensures
+    (record { exprs = c.set_stmt.ensures.exprs; found = c.set_stmt.ensures.found; stmts = c.set_stmt.ensures.stmts })
+
+pub write_for-returns : goal.write_for-returns
+write_for-returns t c =
+    let ps = phrases_below c.args.nodes.now c.args.id in
+    for_walked c.args.site ps c.place_at-place.result _ (phrase ps c.last_of-last.result)
+    c.args.frame.now c.open.new.frame c.write_start.new.frame c.write_inside.new.frame c.write_step.new.frame c.close.new.frame
+    c.args.out.now c.write_start.new.out c.begin.new.out c.write_inside.new.out c.write_step.new.out c.set_stmt.new.out
+    c.in_ok-begun.begun.at c.in_ok-begun.begun.test c.in_ok-turn.turn c.write_step.new.row c.args.row.now c.write_start.new.row c.begin.new.row
+    c.place_at-place.ensures c.test_of-test.ensures.formula c.last_of-last.ensures
+    c.in_ok-open.ensures c.in_ok-write_start.ensures c.in_ok-begun.ensures c.in_ok-turn.ensures
+    c.in_ok-write_step.ensures.wrote c.in_ok-write_step.ensures.frame
+    (record { exprs = c.set_stmt.ensures.exprs; found = c.set_stmt.ensures.found; stmts = c.set_stmt.ensures.stmts })
+    c.close.ensures
+
+pub write_worded-returns-in-IfWord : goal.write_worded-returns-in-IfWord
+write_worded-returns-in-IfWord t c =
+    ok_map c.write_if.result _ _ (λ x. walked_as c.args.site _ (worded (phrases_below c.args.nodes.now c.args.id)) c.args.frame.now c.write_if.new.frame c.args.out.now c.write_if.new.out c.args.row.now c.write_if.new.row
+    (worded_if (phrases_below c.args.nodes.now c.args.id) (sym c.in-IfWord.ensures)) x)
+    c.write_if.ensures
+
+pub write_worded-returns-in-WhileWord : goal.write_worded-returns-in-WhileWord
+write_worded-returns-in-WhileWord t c =
+    ok_map c.write_while.result _ _ (λ x. walked_as c.args.site _ (worded (phrases_below c.args.nodes.now c.args.id)) c.args.frame.now c.write_while.new.frame c.args.out.now c.write_while.new.out c.args.row.now c.write_while.new.row
+    (worded_while (phrases_below c.args.nodes.now c.args.id) (sym c.in-WhileWord.ensures)) x)
+    c.write_while.ensures
+
+pub write_worded-returns-in-ForWord : goal.write_worded-returns-in-ForWord
+write_worded-returns-in-ForWord t c =
+    ok_map c.write_for.result _ _ (λ x. walked_as c.args.site _ (worded (phrases_below c.args.nodes.now c.args.id)) c.args.frame.now c.write_for.new.frame c.args.out.now c.write_for.new.out c.args.row.now c.write_for.new.row
+    (worded_for (phrases_below c.args.nodes.now c.args.id) (sym c.in-ForWord.ensures)) x)
+    c.write_for.ensures
+
+pub write_stmt-returns-in_default : goal.write_stmt-returns-in_default
+write_stmt-returns-in_default t c =
+    let ns = c.args.nodes.now in
+    let ps = phrases_below ns c.args.id in
+    let p = phrase_of ns c.in-Some.child in
+    both_ok c.write_named.result _ _ _ c.write_named.ensures.wrote c.write_named.ensures.frame
+    (λ w e. walked_as c.args.site (plain_statement (phrase ps 0) ps) (statement (phrase ps 0) ps) c.args.frame.now c.write_named.new.frame c.args.out.now c.write_named.new.out c.args.row.now c.write_named.new.row
+    (statement_named c.rule_of.result (phrases_below ns c.in-Some.child) (phrase ps 0) p ps c.in-Some.ensures.said c.in_default.not-Leaf c.in_default.not-Block c.rule_of.ensures)
+    (row_walked c.args.site (plain_statement (phrase ps 0) ps) c.args.frame.now c.write_named.new.frame c.args.out.now c.write_named.new.out c.args.row.now c.write_named.new.row w e))
+
+pub write_statement-returns-in-Local : goal.write_statement-returns-in-Local
+write_statement-returns-in-Local t c =
+    ok_map c.write_locals.result _ _ (λ x. walked_as c.args.site _ (as_row (phrase_of c.args.nodes.now c.args.id)) c.args.frame.now c.write_locals.new.frame c.args.out.now c.write_locals.new.out c.args.row.now c.write_locals.new.row
+    (row_locals c.args.nodes.now c.args.id c.in-Local.ensures) x)
+    c.write_locals.ensures

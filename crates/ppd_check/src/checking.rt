@@ -1,0 +1,125 @@
+// The table of a tree, or the first rule that its source breaks.
+ghost use Rattle.std.specs.Prelude.{◌≡◌, true, false, [], ◌∷◌, ◌++◌, Some, IfOk, IfErr, map};
+ghost use Rattle.std.specs.List.{All};
+ghost use Rattle.ppd_parse.specs.Grammar.{Shape};
+ghost use Rattle.ppd_parse.specs.Tree.{tree_of, IsTable};
+ghost use Rattle.ppd_check.specs.Bodies.{WroteHeads};
+ghost use Rattle.ppd_check.specs.Holding.{head_at, IsHeadAt};
+ghost use Rattle.ppd_check.specs.Names.{innermost};
+ghost use Rattle.ppd_check.specs.Sources.{Accepted, IsRefused, core, first_fault};
+
+use crate::bodies::{as_short, vars_of, write_heads};
+use crate::declare::{globals_of, note_no_process};
+use crate::error::CheckError;
+use crate::fault::{Cause, Fault};
+use crate::places::note_statements;
+use crate::scopes::Scopes;
+use crate::writer::Writer;
+use ppd_ast::{Body, Memory, Program, Seq};
+use ppd_parse::{Node, Tree};
+use std::alloc::Global;
+
+// The table, and the first broken rule.
+#[derive(Drop)]
+struct Checked {
+    program: Program,
+    found: Option<Fault>,
+}
+
+// Why a source is refused, by the first rule that it breaks.
+fn error_of(fault: Fault) -> CheckError
+    ensures { (tree : Shape) → first_fault tree ≡ Some fault → IsRefused tree result }
+{
+    let place = fault.place;
+    match fault.cause {
+        Cause::Twice => CheckError::Twice(place),
+        Cause::Unknown => CheckError::Unknown(place),
+        Cause::WrongKind => CheckError::WrongKind(place),
+        Cause::Arity => CheckError::Arity(place),
+        Cause::ReturnPlace => CheckError::ReturnPlace(place),
+        Cause::VoidValue => CheckError::VoidValue(place),
+        Cause::NoProcess => CheckError::NoProcess(place),
+        Cause::TooMany(limit) => CheckError::TooMany(place, limit),
+        Cause::BadSize => CheckError::BadSize(place),
+    }
+}
+
+// The functions, then the processes.
+fn write_all(
+    alloc: Global,
+    nodes: &[Node],
+    scopes: Scopes,
+    functions: &[u32],
+    processes: &[u32],
+    out: &mut Writer,
+) -> Result<Seq<Body>, Memory>
+    requires table { IsTable nodes.now }
+    requires functions { All (IsHeadAt nodes.now false) functions.now }
+    requires processes { All (IsHeadAt nodes.now true) processes.now }
+    requires one { scopes ≡ innermost scopes ∷ [] }
+    ensures { IfOk result (λ bodies. WroteHeads (innermost scopes) (map (head_at nodes.now) functions.now ++ map (head_at nodes.now) processes.now) out.old out.new [] bodies) }
+{
+    let mut bodies = Seq::new(alloc);
+    let scopes = write_heads(alloc, nodes, functions, false, scopes, out, &mut bodies)?;
+    write_heads(alloc, nodes, processes, true, scopes, out, &mut bodies)?;
+    Ok(bodies)
+}
+
+// The table of a tree's nodes, and the first rule that it breaks; where it breaks one, the table says nothing.
+fn check_nodes(alloc: Global, nodes: &[Node]) -> Result<Checked, Memory>
+    requires table { IsTable nodes.now }
+    ensures program { IfOk result (λ checked. Accepted (tree_of nodes.now) → checked.program ≡ core (tree_of nodes.now)) }
+    ensures found { IfOk result (λ checked. checked.found ≡ first_fault (tree_of nodes.now)) }
+{
+    let mut found = None;
+    let globals = globals_of(alloc, nodes, &mut found)?;
+    note_no_process(nodes, &globals, &mut found);
+    let mut out = Writer {
+        exprs: Seq::new(alloc),
+        stmts: Seq::new(alloc),
+        found,
+    };
+    let functions = as_short(globals.functions.len());
+    let shared = vars_of(alloc, globals.shared.as_slice())?;
+    let bodies = write_all(
+        alloc,
+        nodes,
+        globals.scopes,
+        globals.functions.as_slice(),
+        globals.processes.as_slice(),
+        &mut out,
+    )?;
+    note_statements(alloc, out.stmts.as_slice(), &mut out.found)?;
+    Ok(Checked {
+        program: Program {
+            exprs: out.exprs,
+            stmts: out.stmts,
+            bodies,
+            functions,
+            shared,
+            starts: globals.starts,
+            sems: globals.sems,
+            chans: globals.chans,
+        },
+        found: out.found,
+    })
+}
+
+/// The table of a tree that breaks no rule of the language: shared cells and the cells of a body in the order of their
+/// declarations, functions before processes, statements in pre-order.
+///
+/// Otherwise the first broken rule by its place, and at one place the one that `CheckError` lists first; `Memory` is want
+/// of memory.
+pub fn check(alloc: Global, tree: &Tree) -> Result<Program, CheckError>
+    requires table { IsTable tree.now.nodes }
+    ensures core { IfOk result (λ p. Accepted (tree_of tree.now.nodes) × (p ≡ core (tree_of tree.now.nodes))) }
+    ensures refused { IfErr result (λ e. IsRefused (tree_of tree.now.nodes) e) }
+{
+    let Ok(checked) = check_nodes(alloc, tree.nodes.as_slice()) else {
+        return Err(CheckError::Memory);
+    };
+    match checked.found {
+        None => Ok(checked.program),
+        Some(fault) => Err(error_of(fault)),
+    }
+}

@@ -1,0 +1,139 @@
+// Returns at the end of a body, and where none may stand.
+ghost use Rattle.std.specs.Prelude.{◌≡◌, ◌-◌, [], ◌++◌, OnOk, drop, length, take, not, ◌&&◌, ◌||◌};
+ghost use Rattle.std.specs.List.{flat_map};
+ghost use Rattle.ppd_check.specs.Endings.{returned, function_returns, body_returns, close_by};
+ghost use Rattle.ppd_check.specs.declared.fault.Cause.TheVariants.{ReturnPlace};
+ghost use Rattle.ppd_check.specs.Faults.{first, first_of_both, if_so, unless};
+ghost use Rattle.ppd_check.specs.Writing.{Wrote};
+
+use crate::endings::Ending;
+use crate::fault::{Cause, Fault, note, note_if, note_unless};
+use crate::writer::{Site, Writer, put_stmt};
+use ppd_ast::{Ids, Kind, Memory, Place, Stmt};
+
+// The items from a number on.
+pub fn from_on(stmts: &[Stmt], from: usize) -> &[Stmt]
+    ensures { result.now ≡ drop from stmts.now }
+{
+    if from <= stmts.len() {
+        &stmts[from..]
+    } else {
+        &[]
+    }
+}
+
+// The items but the last.
+fn but_last(stmts: &[Stmt]) -> &[Stmt]
+    ensures { result.now ≡ take (length stmts.now - 1) stmts.now }
+{
+    if stmts.is_empty() {
+        stmts
+    } else {
+        &stmts[..stmts.len() - 1]
+    }
+}
+
+// Notes a statement that is a `return`.
+fn note_return(stmt: &Stmt, found: &mut Option<Fault>)
+    ensures { found.new ≡ first_of_both found.old (first (returned stmt.now)) }
+{
+    match stmt.kind {
+        Kind::Return(_) => note(found, stmt.place, Cause::ReturnPlace),
+        _ => {}
+    }
+}
+
+// Notes each `return` among statements.
+fn note_returns(stmts: &[Stmt], found: &mut Option<Fault>)
+    ensures { found.new ≡ first_of_both found.old (first (flat_map returned stmts.now)) }
+{
+    for stmt in stmts {
+        note_return(stmt, found);
+    }
+}
+
+// Whether a `return` with a value or without one fits a function that gives a value or none.
+fn fits(value: bool, gives: bool) -> bool
+    ensures { result ≡ (value && gives || not value && not gives) }
+{
+    if value { gives } else { !gives }
+}
+
+// Notes the returns of a function but the last one, and that one with or without a value where the other is asked.
+#[tactic(auto, using(crate::proofs::First::found_in_both))]
+fn note_ended(
+    stmts: &[Stmt],
+    place: Place,
+    value: bool,
+    gives: bool,
+    found: &mut Option<Fault>,
+)
+    ensures { found.new ≡ first_of_both found.old (first (flat_map returned (take (length stmts.now - 1) stmts.now) ++ unless (value && gives || not value && not gives) place ReturnPlace)) }
+{
+    note_returns(but_last(stmts), found);
+    note_unless(found, fits(value, gives), place, Cause::ReturnPlace);
+}
+
+// Notes the returns of a function that does not end with one, and its closing brace where it should.
+#[tactic(auto, using(crate::proofs::First::found_in_both))]
+fn note_unended(stmts: &[Stmt], gives: bool, close: Place, found: &mut Option<Fault>)
+    ensures { found.new ≡ first_of_both found.old (first (flat_map returned stmts.now ++ if_so gives close ReturnPlace)) }
+{
+    note_returns(stmts, found);
+    note_if(found, gives, close, Cause::ReturnPlace);
+}
+
+// Notes the returns of a function that may not stand where they do.
+fn note_function(
+    stmts: &[Stmt],
+    ending: Ending,
+    gives: bool,
+    close: Place,
+    found: &mut Option<Fault>,
+)
+    ensures { found.new ≡ first_of_both found.old (first (function_returns gives close ending stmts.now)) }
+{
+    match ending {
+        Ending::Return(place, value) => note_ended(stmts, place, value, gives, found),
+        Ending::Empty => note_unended(stmts, gives, close, found),
+        Ending::Other => note_unended(stmts, gives, close, found),
+    }
+}
+
+// Notes the returns of a body that may not stand where they do; a process has none.
+pub fn note_body(
+    stmts: &[Stmt],
+    ending: Ending,
+    process: bool,
+    gives: bool,
+    close: Place,
+    found: &mut Option<Fault>,
+)
+    ensures { found.new ≡ first_of_both found.old (first (body_returns process gives close ending stmts.now)) }
+{
+    if process {
+        note_returns(stmts, found);
+    } else {
+        note_function(stmts, ending, gives, close, found);
+    }
+}
+
+// What stands at the closing brace: the end of a process, or a `return` where a function has none there.
+pub fn write_close(
+    process: bool,
+    ending: Ending,
+    close: Place,
+    out: &mut Writer,
+    site: Site,
+    row: &mut Ids,
+) -> Result<(), Memory>
+    ensures { OnOk result (Wrote site.body site.parent (close_by process ending close) [] out.old out.new row.old row.new) }
+{
+    if process {
+        return put_stmt(out, site, close, Kind::End, row);
+    }
+    match ending {
+        Ending::Return(_, _) => Ok(()),
+        _ => put_stmt(out, site, close, Kind::Return(None), row),
+    }
+}

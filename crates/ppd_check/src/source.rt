@@ -1,0 +1,34 @@
+ghost use Rattle.std.specs.Prelude.{◌≡◌, IfOk, IfErr};
+ghost use Rattle.ppd_check.specs.Read.{IsRead, IsRefused, by_check};
+
+use crate::checking::check;
+use crate::error::{CheckError, SourceError};
+use crate::parsed::read_tree;
+use ppd_ast::Program;
+use std::alloc::Global;
+
+// Why a source has no program, by the first rule that it breaks.
+fn by_check(error: CheckError) -> SourceError
+    ensures { result ≡ by_check error }
+{
+    match error {
+        CheckError::Memory => SourceError::Memory,
+        fault => SourceError::Check(fault),
+    }
+}
+
+/// The program of a source: its tokens, their tree, and the tree's table. It is answered for exactly the sources of the
+/// language.
+///
+/// Otherwise the first fault of the first part that finds one: `Lex`, `Syntax` and `Check`, in this order. `Memory` is
+/// want of memory, which no part answers itself.
+pub fn read_source(alloc: Global, bytes: &[u8]) -> Result<Program, SourceError>
+    ensures read { IfOk result (λ p. IsRead bytes.now p) }
+    ensures refused { IfErr result (λ e. IsRefused bytes.now e) }
+{
+    let tree = read_tree(alloc, bytes)?;
+    match check(alloc, &tree) {
+        Ok(program) => Ok(program),
+        Err(error) => Err(by_check(error)),
+    }
+}

@@ -1,0 +1,168 @@
+// Programs and refusals as text.
+
+use ppd_ast::{Body, Kind, Place, Program, Stmt, Var};
+use ppd_check::{CheckError, SourceError, read_source};
+use std::alloc::{AllocError, Global};
+
+// Numbers with blanks between them.
+fn list(alloc: Global, ids: &[u32]) -> Result<String, AllocError> {
+    let mut text = String::new(alloc);
+    for id in ids {
+        if !text.is_empty() {
+            text.push_str(" ")?;
+        }
+        text.push_str(&format!(in alloc; "{id}")?)?;
+    }
+    Ok(text)
+}
+
+fn name(alloc: Global, bytes: &[u8]) -> Result<String, AllocError> {
+    match std::str::from_utf8(bytes) {
+        Ok(text) => text.to_string(alloc),
+        Err(_) => format!(in alloc; "?"),
+    }
+}
+
+fn kind(alloc: Global, kind: &Kind) -> Result<String, AllocError> {
+    match kind {
+        Kind::Set(target, value) => format!(in alloc; "{target:?} = {value}"),
+        Kind::Zero { base, len } => format!(in alloc; "zero {base} {len}"),
+        Kind::If(test, yes, no) => {
+            let yes = list(alloc, yes.as_slice())?;
+            let no = list(alloc, no.as_slice())?;
+            format!(in alloc; "if {test} [{yes}] [{no}]")
+        }
+        Kind::While(test, inside) => {
+            let inside = list(alloc, inside.as_slice())?;
+            format!(in alloc; "while {test} [{inside}]")
+        }
+        Kind::Call { function, args, into } => {
+            let args = list(alloc, args.as_slice())?;
+            format!(in alloc; "call {function} ({args}) {into:?}")
+        }
+        Kind::Return(value) => format!(in alloc; "return {value:?}"),
+        Kind::P(sem) => format!(in alloc; "P {sem}"),
+        Kind::V(sem) => format!(in alloc; "V {sem}"),
+        Kind::Send(chan, value) => format!(in alloc; "send {chan} {value}"),
+        Kind::Recv(chan, cell) => format!(in alloc; "recv {chan} {cell}"),
+        Kind::Print(value) => format!(in alloc; "print {value}"),
+        Kind::Assert(value) => format!(in alloc; "assert {value}"),
+        Kind::End => format!(in alloc; "end"),
+    }
+}
+
+fn stmt(alloc: Global, stmt: &Stmt) -> Result<String, AllocError> {
+    let does = kind(alloc, &stmt.kind)?;
+    let place = stmt.place;
+    match stmt.parent {
+        Some(parent) => {
+            format!(in alloc; "{}:{} of {} in {parent} {does}\n", place.line, place.column, stmt.body)
+        }
+        None => format!(in alloc; "{}:{} of {} {does}\n", place.line, place.column, stmt.body),
+    }
+}
+
+fn var(alloc: Global, var: &Var) -> Result<String, AllocError> {
+    let text = name(alloc, var.name.as_slice())?;
+    match var.len {
+        Some(len) => format!(in alloc; " {text}[{len}]@{}", var.base),
+        None => format!(in alloc; " {text}@{}", var.base),
+    }
+}
+
+fn vars(alloc: Global, list: &[Var]) -> Result<String, AllocError> {
+    let mut text = String::new(alloc);
+    for item in list {
+        text.push_str(&var(alloc, item)?)?;
+    }
+    Ok(text)
+}
+
+// A process, or a function with its count of parameters and a star where it gives a value.
+fn body(alloc: Global, body: &Body) -> Result<String, AllocError> {
+    let text = name(alloc, body.name.as_slice())?;
+    let locals = vars(alloc, body.locals.as_slice())?;
+    let top = list(alloc, body.top.as_slice())?;
+    let sort = if body.process { "process" } else { "function" };
+    let value = if body.value { "*" } else { "" };
+    format!(
+        in alloc;
+        "{sort} {text}({}){value} {} cells{locals} [{top}] {}-{}\n",
+        body.params, body.cells, body.first, body.end
+    )
+}
+
+// The expressions of a table, one a line.
+pub fn exprs(alloc: Global, program: &Program) -> Result<String, AllocError> {
+    let mut text = String::new(alloc);
+    for expr in program.exprs.as_slice() {
+        text.push_str(&format!(in alloc; "{expr:?}\n")?)?;
+    }
+    Ok(text)
+}
+
+// Its statements.
+pub fn stmts(alloc: Global, program: &Program) -> Result<String, AllocError> {
+    let mut text = String::new(alloc);
+    for item in program.stmts.as_slice() {
+        text.push_str(&stmt(alloc, item)?)?;
+    }
+    Ok(text)
+}
+
+// Its bodies, with what is shared before them.
+pub fn bodies(alloc: Global, program: &Program) -> Result<String, AllocError> {
+    let shared = vars(alloc, program.shared.as_slice())?;
+    let mut text = format!(in alloc; "shared{shared}\n")?;
+    text.push_str("starts")?;
+    for start in program.starts.as_slice() {
+        text.push_str(&format!(in alloc; " {start}")?)?;
+    }
+    text.push_str("\n")?;
+    for sem in program.sems.as_slice() {
+        let label = name(alloc, sem.name.as_slice())?;
+        text.push_str(&format!(in alloc; "sem {label} {}\n", sem.start)?)?;
+    }
+    for chan in program.chans.as_slice() {
+        let label = name(alloc, chan.name.as_slice())?;
+        text.push_str(&format!(in alloc; "chan {label} {}\n", chan.capacity)?)?;
+    }
+    text.push_str(&format!(in alloc; "functions {}\n", program.functions)?)?;
+    for item in program.bodies.as_slice() {
+        text.push_str(&body(alloc, item)?)?;
+    }
+    Ok(text)
+}
+
+fn at(alloc: Global, word: &str, place: Place) -> Result<String, AllocError> {
+    format!(in alloc; "{word} {}:{}", place.line, place.column)
+}
+
+fn refusal(alloc: Global, error: CheckError) -> Result<String, AllocError> {
+    match error {
+        CheckError::Twice(place) => at(alloc, "Twice", place),
+        CheckError::Unknown(place) => at(alloc, "Unknown", place),
+        CheckError::WrongKind(place) => at(alloc, "WrongKind", place),
+        CheckError::Arity(place) => at(alloc, "Arity", place),
+        CheckError::ReturnPlace(place) => at(alloc, "ReturnPlace", place),
+        CheckError::VoidValue(place) => at(alloc, "VoidValue", place),
+        CheckError::NoProcess(place) => at(alloc, "NoProcess", place),
+        CheckError::TooMany(place, limit) => {
+            let told = at(alloc, "TooMany", place)?;
+            format!(in alloc; "{told} {limit:?}")
+        }
+        CheckError::BadSize(place) => at(alloc, "BadSize", place),
+        CheckError::Memory => format!(in alloc; "inner memory"),
+    }
+}
+
+// What comes of a source: that it is accepted, or the refusal.
+pub fn told(alloc: Global, source: &str) -> Result<String, AllocError> {
+    match read_source(alloc, source.as_bytes()) {
+        Ok(_) => format!(in alloc; "accepted"),
+        Err(SourceError::Lex(error)) => format!(in alloc; "lex {error:?}"),
+        Err(SourceError::Syntax(error)) => format!(in alloc; "syntax {error:?}"),
+        Err(SourceError::Check(error)) => refusal(alloc, error),
+        Err(SourceError::Memory) => format!(in alloc; "memory"),
+    }
+}
