@@ -1,3 +1,4 @@
+pub mod Comes
 pub mod Printed
 pub mod Processes
 pub mod Worded

@@ -1,10 +1,14 @@
 //! The top call: from words and bytes to the run of a program and its summary.
 #![tactic(auto)]
 
+mod answer;
+mod following;
 mod options;
+mod refusal;
 mod running;
 mod summary;
 mod text;
 mod words;
 
+pub use following::{FollowError, follow};
 pub use options::Options;
