@@ -1,13 +1,12 @@
 -- A whole source: what was found in its parts, and its table from them.
-use Rattle.std.proofs.Common.{◌≡◌, refl, sym, ap, subst, ◌∙◌, ℕ, ℤ, ◌+◌, ◌<◌, ◌≤◌, arith, Bool, true, false, nat_lt, nat_le, if◌then◌else◌, List, [], ◌∷◌, ◌++◌, map, length, Option, None, Some}
-use Rattle.std.specs.List.{All, flat_map}
-use Rattle.std.proofs.lemmas.List.{append_assoc, append-nil, length-map, map-append}
+use Rattle.std.proofs.Common.{◌≡◌, refl, sym, ap, subst, ◌∙◌, ℕ, ℤ, ◌≤◌, arith, Bool, true, false, nat_lt, if◌then◌else◌, List, [], ◌∷◌, ◌++◌, map, length, Option, None, Some}
+use Rattle.std.specs.List.{flat_map}
+use Rattle.std.proofs.lemmas.List.{append_assoc, length-map}
 use Rattle.ppd_ast.specs.declared.limits.TheConstants.{MOST_SHARED_CELLS, MOST_FUNCTIONS, MOST_PROCESSES, MOST_SEMAPHORES, MOST_CHANNELS}
 use Rattle.ppd_ast.specs.declared.program.Body.{Body}
 use Rattle.ppd_ast.specs.declared.program.Expr.{Expr}
 use Rattle.ppd_ast.specs.declared.program.Program.{Program}
 use Rattle.ppd_ast.specs.declared.program.Stmt.{Stmt}
-use Rattle.ppd_ast.specs.declared.program.Place.{Place}
 use Rattle.ppd_ast.specs.declared.program.Var.{Var}
 use Rattle.ppd_ast.specs.declared.program.Sem.{Sem}
 use Rattle.ppd_ast.specs.declared.program.Chan.{Chan}
@@ -25,8 +24,7 @@ use Rattle.ppd_check.specs.Code.{Code, places}
 use Rattle.ppd_check.specs.Faults.{at, unless, if_so, first_of_two, is_before, first, first_of_both}
 use Rattle.ppd_check.specs.Fitted.{as_short}
 use Rattle.ppd_check.specs.Holding.{head_at, Holds}
-use Rattle.ppd_check.specs.Names.{Scope, innermost}
-use Rattle.ppd_check.specs.Reading.{source_of}
+use Rattle.ppd_check.specs.Names.{innermost}
 use Rattle.ppd_check.specs.Sources as S
 use Rattle.ppd_check.specs.Sources.{no_globals, globals, with_item, with_items, items_faults, count_faults, past, past_cells, past_statements, head_code, head_faults, heads, codes, faults_in, vars, bodies, all_stmts, core_of, sem, chan, Accepted, core, faults, first_fault}
 use Rattle.ppd_check.specs.Statements.{after_cells}
