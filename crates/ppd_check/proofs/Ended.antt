@@ -1,5 +1,5 @@
 -- How rows of statements end.
-use Rattle.std.proofs.Common.{◌≡◌, refl, sym, ap, ◌∙◌, ℕ, pos, not, ◌+◌, ◌<◌, ◌≤◌, Bool, true, false, if◌then◌else◌, is_some, List, [], ◌∷◌, ◌++◌, take, length, get_or, None, Some}
+use Rattle.std.proofs.Common.{◌≡◌, refl, sym, ap, ◌∙◌, ℕ, pos, not, ◌+◌, ◌<◌, ◌≤◌, Bool, true, false, if◌then◌else◌, is_some, List, [], ◌∷◌, take, length, get_or, None, Some}
 use Rattle.std.proofs.lemmas.List.{take_all}
 use Rattle.ppd_ast.specs.declared.program.Place.{Place}
 use Rattle.ppd_parse.specs.declared.node.Node.{Node}
@@ -15,7 +15,7 @@ use Rattle.ppd_check.specs.Endings.{with_rest, simple_ending, ending, close_by}
 use Rattle.ppd_check.specs.Nodes.{phrase_of, phrases_of, phrases_below, children_of, SaysBy}
 use Rattle.ppd_check.specs.Reading.{Phrase, phrase, kind, place_at, is_semicolon, as_row, as_value, rows, locals, local_item, changed, returned, statement, worded, followed, is_bracket, is_assign, name_at, number_at}
 use Rattle.ppd_check.specs.Sources.{Head, ends_with_return, close_code}
-use Rattle.ppd_check.specs.Syntax.{number, plain, Simple, fresh, array, store, change, call, give_back, take as take_sem, give, send, print, assert, Row, stop, simple, block, choice, repeat, count}
+use Rattle.ppd_check.specs.Syntax.{number, plain, Simple, fresh, array, give_back, Row, stop, simple, block, choice, repeat, count}
 use Rattle.ppd_check.proofs.Declaring.{locals_append, phrases_more}
 use Rattle.ppd_check.proofs.Nested.{rows_append, followed_stop}
 

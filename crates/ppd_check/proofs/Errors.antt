@@ -1,5 +1,5 @@
 -- Why a tree and a source are refused.
-use Rattle.std.proofs.Common.{◌≡◌, refl, List, ℕ, Option, Some}
+use Rattle.std.proofs.Common.{List, ℕ}
 use Rattle.ppd_parse.specs.Grammar.{Shape}
 use Rattle.ppd_check.specs.declared.error.CheckError.{CheckError}
 use Rattle.ppd_check.specs.declared.error.CheckError.TheVariants as E

@@ -1,8 +1,8 @@
 -- A function or a process from its parts: its parameters, statements, returns, cells and entry.
-use Rattle.std.proofs.Common.{◌≡◌, refl, sym, ap, subst, ◌∙◌, ℕ, zero, suc, ◌+◌, ◌<◌, ◌≤◌, arith, ◌-◌, nat_lt, Bool, true, false, if◌then◌else◌, List, [], ◌∷◌, ◌++◌, map, take, drop, length, get_or, Option, None, Some, MatchOption}
+use Rattle.std.proofs.Common.{◌≡◌, refl, sym, ap, subst, ◌∙◌, ℕ, ◌+◌, ◌<◌, ◌≤◌, arith, ◌-◌, nat_lt, Bool, true, false, if◌then◌else◌, List, [], ◌∷◌, ◌++◌, take, drop, length, get_or, Option, None, Some, MatchOption}
 use Rattle.std.specs.List.{flat_map}
-use Rattle.std.proofs.lemmas.List.{append_assoc, append-nil, length-append, take_more, take_all, drop_at, map-append, length-map}
-use Rattle.std.proofs.lemmas.List.Concat.{flat_map-append, flat_map-cons}
+use Rattle.std.proofs.lemmas.List.{append_assoc, append-nil, length-append, take_more, take_all, drop_at, length-map}
+use Rattle.std.proofs.lemmas.List.Concat.{flat_map-cons}
 use Rattle.ppd_ast.specs.declared.limits.TheConstants.{MOST_LOCAL_CELLS}
 use Rattle.ppd_ast.specs.declared.program.Body.{Body}
 use Rattle.ppd_ast.specs.declared.program.Place.{Place}
@@ -15,22 +15,21 @@ use Rattle.ppd_check.specs.declared.endings.Ending.{Ending}
 use Rattle.ppd_check.specs.declared.endings.Ending.TheVariants.{Empty}
 use Rattle.ppd_check.specs.declared.fault.Cause.TheVariants.{TooMany}
 use Rattle.ppd_check.specs.declared.fault.Fault.{Fault}
-use Rattle.ppd_check.specs.declared.fault.Limit.{Limit}
 use Rattle.ppd_check.specs.declared.fault.Limit.TheVariants as L
 use Rattle.ppd_check.specs.declared.frame.Frame.{Frame}
 use Rattle.ppd_check.specs.declared.frame.Variable.{Variable}
 use Rattle.ppd_check.specs.declared.writer.Site.{Site}
 use Rattle.ppd_check.specs.declared.writer.Writer.{Writer}
 use Rattle.ppd_check.specs.Bodies.{block_at, entered, Parametered, Filled, WroteHeads}
-use Rattle.ppd_check.specs.Code.{Code, done, act, join, count}
+use Rattle.ppd_check.specs.Code.{Code, join, count}
 use Rattle.ppd_check.specs.Endings.{ending, body_returns, close_by}
 use Rattle.ppd_check.specs.Faults.{first, first_of_both, if_so}
 use Rattle.ppd_check.specs.Fitted.{as_short}
 use Rattle.ppd_check.specs.Holding.{head_said}
-use Rattle.ppd_check.specs.Names.{Scope, innermost, in_innermost}
+use Rattle.ppd_check.specs.Names.{Scope, innermost}
 use Rattle.ppd_check.specs.Nodes.{phrase_of, phrases_of, phrases_below, children_of, SaysBy}
 use Rattle.ppd_check.specs.Reading.{Phrase, token, nowhere, phrase, last, kind, is_name, as_token, as_names, as_block, name_of, params, rows}
-use Rattle.ppd_check.specs.Sources.{Head, with_params, params_faults, return_faults, close_code, head_code, head_frame, head_faults, entry, outer, past_cells, vars, body, bodies, all_stmts}
+use Rattle.ppd_check.specs.Sources.{Head, with_params, params_faults, return_faults, close_code, head_code, head_frame, head_faults, entry, outer, past_cells, vars}
 use Rattle.ppd_check.specs.Statements.{after_cells, declared, twice_faults, row_code, row_faults, after_row}
 use Rattle.ppd_check.specs.Syntax.{Name, Block}
 use Rattle.ppd_check.specs.Table.{flats, terms, stmts, numbers}
@@ -309,8 +308,8 @@ body_wrote scopes h site f g k u v x z top bs cs b p n e one begun pm fl cells a
         let code : Code = head_code scope h in
         let w : Wrote site.body site.parent code (row_faults h.block.row (entry scope h) ++ return_faults h) (record u { found = x }) v [] top = y.wrote in
         let long : length v.stmts ≡ length u.stmts + count code =
-            ap length w.stmts ∙ length-append u.stmts (stmts site.body site.parent (length u.stmts) (length u.exprs) code)
-            ∙ ap (λ i. length u.stmts + i) (length_stmts site.body site.parent (length u.stmts) (length u.exprs) code) in
+        ap length w.stmts ∙ length-append u.stmts (stmts site.body site.parent (length u.stmts) (length u.exprs) code)
+        ∙ ap (λ i. length u.stmts + i) (length_stmts site.body site.parent (length u.stmts) (length u.exprs) code) in
         record {
           exprs = w.exprs ∙ ap (λ ts. u.exprs ++ flats (length u.exprs) ts) (sym (flat_one terms code));
           stmts =

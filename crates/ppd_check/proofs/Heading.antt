@@ -1,17 +1,14 @@
 -- Functions and processes one after another, and one of them from its parts.
-use Rattle.std.proofs.Common.{◌≡◌, refl, sym, ap, subst, ◌∙◌, ℕ, zero, suc, ◌+◌, ◌<◌, ◌≤◌, arith, Bool, true, false, if◌then◌else◌, List, [], ◌∷◌, ◌++◌, map, take, drop, length, get_or, Option, None, Some}
-use Rattle.std.specs.List.{All, flat_map}
+use Rattle.std.proofs.Common.{◌≡◌, refl, sym, ap, subst, ◌∙◌, ℕ, suc, ◌+◌, ◌<◌, ◌≤◌, arith, Bool, List, [], ◌∷◌, ◌++◌, map, take, length, get_or, None}
+use Rattle.std.specs.List.{flat_map}
 use Rattle.std.proofs.lemmas.List.{append_assoc, append-nil, length-append, map-append, length-map, take_more, take_all}
 use Rattle.std.proofs.lemmas.List.Concat.{flat_map-append, flat_map-cons}
 use Rattle.ppd_ast.specs.declared.program.Body.{Body}
 use Rattle.ppd_ast.specs.declared.program.Stmt.{Stmt}
-use Rattle.ppd_ast.specs.Term.{Term}
 use Rattle.ppd_parse.specs.declared.node.Node.{Node}
-use Rattle.ppd_check.specs.declared.fault.Fault.{Fault}
-use Rattle.ppd_check.specs.declared.frame.Frame.{Frame}
 use Rattle.ppd_check.specs.declared.writer.Writer.{Writer}
-use Rattle.ppd_check.specs.Bodies.{entered, WroteHeads}
-use Rattle.ppd_check.specs.Code.{Code, done, act, join, count}
+use Rattle.ppd_check.specs.Bodies.{WroteHeads}
+use Rattle.ppd_check.specs.Code.{Code, count}
 use Rattle.ppd_check.specs.Faults.{first, first_of_both}
 use Rattle.ppd_check.specs.Fitted.{as_short}
 use Rattle.ppd_check.specs.Holding.{head_at, head_said, IsHeadAt}

@@ -1,5 +1,5 @@
 -- The returns of rows are those of the core statements that are written for them.
-use Rattle.std.proofs.Common.{◌≡◌, refl, sym, ap, subst, ◌∙◌, ℕ, pos, zero, suc, ◌+◌, ◌-◌, ◌<◌, arith, Bool, true, false, not, ◌&&◌, ◌||◌, if◌then◌else◌, is_some, List, [], ◌∷◌, ◌++◌, take, drop, length, get_or, map, Option, None, Some}
+use Rattle.std.proofs.Common.{◌≡◌, refl, sym, ap, subst, ◌∙◌, ℕ, pos, zero, suc, ◌+◌, ◌-◌, ◌<◌, arith, Bool, true, false, not, ◌&&◌, ◌||◌, if◌then◌else◌, is_some, List, [], ◌∷◌, ◌++◌, take, drop, length, get_or, Option, None, Some}
 use Rattle.std.specs.List.{flat_map}
 use Rattle.std.proofs.lemmas.List.{append_assoc, append-nil, length-append, take_at, take_more}
 use Rattle.std.proofs.lemmas.List.Concat.{flat_map-append, flat_map-cons}
@@ -26,10 +26,10 @@ use Rattle.ppd_check.specs.Endings.{with_rest, simple_ending, ending, kind_retur
 use Rattle.ppd_check.specs.Expressions.{term_of}
 use Rattle.ppd_check.specs.Faults.{at, unless, if_so, first, first_of_both}
 use Rattle.ppd_check.specs.Names.{Scope}
-use Rattle.ppd_check.specs.Nodes.{tree_at, phrase_of, phrases_of, phrases_below, children_of}
-use Rattle.ppd_check.specs.Reading.{Phrase, token, formula, goal, value, calling, changing, row, body, names, items, nowhere, phrase, last, kind, is_semicolon, is_int, is_bracket, is_assign, as_row, as_block, as_value, name_at, number_at, formula_at, rows, locals, local_item, changed, statement, worded, followed, before, beyond, for_start, for_test, for_row, formulas, some_change, block_of, made, said, all_said}
+use Rattle.ppd_check.specs.Nodes.{tree_at, phrase_of}
+use Rattle.ppd_check.specs.Reading.{Phrase, token, goal, calling, changing, row, body, phrase, last, kind, is_semicolon, is_int, is_bracket, is_assign, as_row, as_block, as_value, name_at, number_at, formula_at, rows, locals, local_item, changed, statement, worded, followed, before, beyond, for_start, for_row, some_change, made, said, all_said}
 use Rattle.ppd_check.specs.Sources.{Head, simple_returns, returns, last_return, return_faults}
-use Rattle.ppd_check.specs.Statements.{put, store_acts, return_acts, spot_of, code_of, code_of_any, after, after_any, after_row, row_code, opened, closed}
+use Rattle.ppd_check.specs.Statements.{put, store_acts, spot_of, code_of, code_of_any, after, after_any, after_row, row_code, opened, closed}
 use Rattle.ppd_check.specs.Syntax.{number, Value, plain, result, received, Simple, fresh, array, store, change, call, give_back, take as take_sem, give, send, print, assert, Row, stop, simple, block, repeat}
 use Rattle.ppd_check.specs.Syntax as S
 use Rattle.ppd_check.specs.Table.{weight, weights, root, terms, act_terms, numbers, stmts, kind as kind_of}
@@ -37,7 +37,6 @@ use Rattle.ppd_check.proofs.Ended.{full_simple, full_other}
 use Rattle.ppd_check.proofs.First.{found_in_both}
 use Rattle.ppd_check.proofs.Joined.{stmts_join}
 use Rattle.ppd_check.proofs.Walking.{join_assoc}
-use Rattle.ppd_check.proofs.Writing.{length_stmts}
 
 -- What a `for` says before its first turn and after each is no return.
 
@@ -123,11 +122,12 @@ plain_locals (p ∷ ps) = plain_locals ps
 
 plain_for : (ps : List Phrase) → ArePlain ps → PlainRow (for_row ps)
 plain_for ps h =
-    let inside : ArePlain (drop 2 ps) = plain_drop 2 ps h in
-    (plain_start (before (drop 2 ps)) (plain_before (drop 2 ps) inside),
-    plain_change (phrase (beyond (beyond (drop 2 ps))) 0) (plain_get (beyond (beyond (drop 2 ps))) 0 (plain_beyond (beyond (drop 2 ps)) (plain_beyond (drop 2 ps) inside))),
-    plain_as_row (last ps) (plain_get ps (length ps - 1) h),
-    tt)
+    let inside : ArePlain (drop 2 ps) = plain_drop 2 ps h in (
+      plain_start (before (drop 2 ps)) (plain_before (drop 2 ps) inside),
+      plain_change (phrase (beyond (beyond (drop 2 ps))) 0) (plain_get (beyond (beyond (drop 2 ps))) 0 (plain_beyond (beyond (drop 2 ps)) (plain_beyond (drop 2 ps) inside))),
+      plain_as_row (last ps) (plain_get ps (length ps - 1) h),
+      tt,
+    )
 
 plain_worded : (ps : List Phrase) (k : Kind) → kind (phrase ps 0) ≡ k → ArePlain ps → PlainRow (worded ps)
 plain_worded ps K.IfWord e h = rw (e) (plain_as_row (phrase ps 4) (plain_get ps 4 h), plain_as_row (phrase ps 6) (plain_get ps 6 h), tt)

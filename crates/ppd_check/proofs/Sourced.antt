@@ -1,18 +1,17 @@
 -- A whole source: what was found in its parts, and its table from them.
-use Rattle.std.proofs.Common.{◌≡◌, refl, sym, ap, subst, ◌∙◌, ℕ, ℤ, ◌+◌, ◌<◌, ◌≤◌, arith, Bool, true, false, nat_lt, nat_le, if◌then◌else◌, List, [], ◌∷◌, ◌++◌, map, length, Option, None, Some}
-use Rattle.std.specs.List.{All, flat_map}
-use Rattle.std.proofs.lemmas.List.{append_assoc, append-nil, length-map, map-append}
+use Rattle.std.proofs.Common.{◌≡◌, refl, sym, ap, subst, ◌∙◌, ℕ, ℤ, ◌≤◌, arith, Bool, true, false, nat_lt, if◌then◌else◌, List, [], ◌∷◌, ◌++◌, map, length, Option, None, Some}
+use Rattle.std.specs.List.{flat_map}
+use Rattle.std.proofs.lemmas.List.{append_assoc, length-map}
 use Rattle.ppd_ast.specs.declared.limits.TheConstants.{MOST_SHARED_CELLS, MOST_FUNCTIONS, MOST_PROCESSES, MOST_SEMAPHORES, MOST_CHANNELS}
 use Rattle.ppd_ast.specs.declared.program.Body.{Body}
 use Rattle.ppd_ast.specs.declared.program.Expr.{Expr}
 use Rattle.ppd_ast.specs.declared.program.Program.{Program}
 use Rattle.ppd_ast.specs.declared.program.Stmt.{Stmt}
-use Rattle.ppd_ast.specs.declared.program.Place.{Place}
 use Rattle.ppd_ast.specs.declared.program.Var.{Var}
 use Rattle.ppd_ast.specs.declared.program.Sem.{Sem}
 use Rattle.ppd_ast.specs.declared.program.Chan.{Chan}
 use Rattle.ppd_parse.specs.declared.node.Node.{Node}
-use Rattle.ppd_parse.specs.Grammar.{Shape}
+use Rattle.ppd_parse.specs.Tree.{tree_of}
 use Rattle.ppd_check.specs.declared.fault.Cause.TheVariants.{NoProcess, TooMany}
 use Rattle.ppd_check.specs.declared.fault.Fault.{Fault}
 use Rattle.ppd_check.specs.declared.fault.Limit.{Limit}
@@ -25,10 +24,9 @@ use Rattle.ppd_check.specs.Code.{Code, places}
 use Rattle.ppd_check.specs.Faults.{at, unless, if_so, first_of_two, is_before, first, first_of_both}
 use Rattle.ppd_check.specs.Fitted.{as_short}
 use Rattle.ppd_check.specs.Holding.{head_at, Holds}
-use Rattle.ppd_check.specs.Names.{Scope, innermost}
-use Rattle.ppd_check.specs.Reading.{source_of}
+use Rattle.ppd_check.specs.Names.{innermost}
 use Rattle.ppd_check.specs.Sources as S
-use Rattle.ppd_check.specs.Sources.{no_globals, globals, with_item, with_items, items_faults, count_faults, past, past_cells, past_statements, head_code, head_faults, heads, codes, faults_in, vars, bodies, all_stmts, core_of, sem, chan}
+use Rattle.ppd_check.specs.Sources.{no_globals, globals, with_item, with_items, items_faults, count_faults, past, past_cells, past_statements, head_code, head_faults, heads, codes, faults_in, vars, bodies, all_stmts, core_of, sem, chan, Accepted, core, faults, first_fault}
 use Rattle.ppd_check.specs.Statements.{after_cells}
 use Rattle.ppd_check.specs.Syntax.{Item, Source}
 use Rattle.ppd_check.specs.Table.{flats, terms}
@@ -192,3 +190,10 @@ parts_of ns s g w bs last o p fs qs es ts ss held declared some f q e t l wrote 
           (subst (λ (x : List ℕ). WroteHeads (innermost g.scopes) (map (head_at ns) x ++ map (head_at ns) qs) (record { exprs = es; stmts = ts; found = p }) w [] bs) f wrote)));
       counted = λ cs i. counted cs (l ∙ i);
     }
+
+-- where nothing was found, no rule is broken and the table is the tree's
+pub accepted_told : (ns ms : List Node) (p : Program) (f : Option Fault) → ms ≡ ns → f ≡ first_fault (tree_of ms) → (Accepted (tree_of ms) → p ≡ core (tree_of ms)) → f ≡ None
+    → Accepted (tree_of ns) × (p ≡ core (tree_of ns))
+accepted_told ns ms p f e g h n =
+    let a : Accepted (tree_of ms) = none_broken (faults (tree_of ms)) (sym g ∙ n) in
+    subst (λ (l : List Node). Accepted (tree_of l) × (p ≡ core (tree_of l))) e (a, h a)

@@ -1,5 +1,5 @@
 -- Functions and processes, as the code writes them.
-use Rattle.std.specs.Prelude.{◌≡◌, ℕ, Bool, List, [], ◌∷◌, ◌++◌, map, length, Option, Some, None}
+use Rattle.std.specs.Prelude.{◌≡◌, ℕ, List, [], ◌∷◌, ◌++◌, map, length, Option, Some, None}
 use Rattle.std.specs.List.{flat_map}
 use Rattle.ppd_ast.specs.declared.program.Body.{Body}
 use Rattle.ppd_parse.specs.declared.node.Node.{Node}

@@ -61,13 +61,7 @@ fn fits(value: bool, gives: bool) -> bool
 
 // Notes the returns of a function but the last one, and that one with or without a value where the other is asked.
 #[tactic(auto, using(crate::proofs::First::found_in_both))]
-fn note_ended(
-    stmts: &[Stmt],
-    place: Place,
-    value: bool,
-    gives: bool,
-    found: &mut Option<Fault>,
-)
+fn note_ended(stmts: &[Stmt], place: Place, value: bool, gives: bool, found: &mut Option<Fault>)
     ensures { found.new ≡ first_of_both found.old (first (flat_map returned (take (length stmts.now - 1) stmts.now) ++ unless (value && gives || not value && not gives) place ReturnPlace)) }
 {
     note_returns(but_last(stmts), found);

@@ -59,17 +59,29 @@ fn cells_at_their_limits(rt: HostRuntime) -> Result<(), Fail> {
     let alloc = rt.alloc();
     for (source, wanted) in [
         ("shared int b[1024]; process a { }", "accepted"),
-        ("shared int b[1023], x, y; process a { }", "TooMany 1:24 Shared"),
+        (
+            "shared int b[1023], x, y; process a { }",
+            "TooMany 1:24 Shared",
+        ),
         ("process a { int b[256]; }", "accepted"),
         ("process a { int b[257]; }", "TooMany 1:17 Locals"),
-        ("process a { int b[255]; int x; int y; }", "TooMany 1:36 Locals"),
+        (
+            "process a { int b[255]; int x; int y; }",
+            "TooMany 1:36 Locals",
+        ),
         ("void f(int n) { int b[255]; } process a { }", "accepted"),
-        ("void f(int n) { int b[256]; } process a { }", "TooMany 1:21 Locals"),
+        (
+            "void f(int n) { int b[256]; } process a { }",
+            "TooMany 1:21 Locals",
+        ),
         (
             "shared int x; int f() { return 1; } process a { int b[256]; x = f(); }",
             "TooMany 1:61 Locals",
         ),
-        ("int f() { int b[256]; return f(); } process a { }", "TooMany 1:23 Locals"),
+        (
+            "int f() { int b[256]; return f(); } process a { }",
+            "TooMany 1:23 Locals",
+        ),
     ] {
         let found = told(alloc, source)?;
         assert_eq!(rt; found.as_str(), wanted, "{source}");

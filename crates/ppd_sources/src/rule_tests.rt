@@ -24,12 +24,27 @@ fn each_rule_at_its_place(rt: HostRuntime) -> Result<(), Fail> {
         ("int f() { return; } process a { }", "ReturnPlace 1:11"),
         ("int f() { } process a { }", "ReturnPlace 1:11"),
         ("int f() { return 1; ; } process a { }", "ReturnPlace 1:11"),
-        ("int f() { return 1; { } } process a { }", "ReturnPlace 1:11"),
-        ("int f() { { return 1; } } process a { }", "ReturnPlace 1:13"),
-        ("void f() { if (1) return; } process a { }", "ReturnPlace 1:19"),
-        ("void f() { return; print(1); } process a { }", "ReturnPlace 1:12"),
+        (
+            "int f() { return 1; { } } process a { }",
+            "ReturnPlace 1:11",
+        ),
+        (
+            "int f() { { return 1; } } process a { }",
+            "ReturnPlace 1:13",
+        ),
+        (
+            "void f() { if (1) return; } process a { }",
+            "ReturnPlace 1:19",
+        ),
+        (
+            "void f() { return; print(1); } process a { }",
+            "ReturnPlace 1:12",
+        ),
         ("void f() { } process a { int x = f(); }", "VoidValue 1:34"),
-        ("void f() { } int g() { return f(); } process a { }", "VoidValue 1:31"),
+        (
+            "void f() { } int g() { return f(); } process a { }",
+            "VoidValue 1:31",
+        ),
         ("", "NoProcess 1:1"),
         ("void f() { }\n", "NoProcess 2:1"),
         ("shared int b[0]; process a { }", "BadSize 1:14"),
@@ -74,7 +89,10 @@ fn first_of_two_broken_rules(rt: HostRuntime) -> Result<(), Fail> {
     for (source, wanted) in [
         ("sem s; process a { s = 1; y = 1; }", "WrongKind 1:20"),
         ("sem s; process a { y = 1; s = 1; }", "Unknown 1:20"),
-        ("void f() { return 1; } process a { f(1); }", "ReturnPlace 1:12"),
+        (
+            "void f() { return 1; } process a { f(1); }",
+            "ReturnPlace 1:12",
+        ),
         ("process a { f(1); } void f() { return 1; }", "Arity 1:13"),
         ("process a { y = 1; } shared int b[0];", "Unknown 1:13"),
         ("shared int b[0]; process a { y = 1; }", "BadSize 1:14"),
@@ -94,7 +112,10 @@ fn names_out_of_sight(rt: HostRuntime) -> Result<(), Fail> {
     let alloc = rt.alloc();
     for (source, wanted) in [
         ("process a { { int x; } print(x); }", "Unknown 1:30"),
-        ("process a { for (int i = 0; ; ) ; print(i); }", "Unknown 1:41"),
+        (
+            "process a { for (int i = 0; ; ) ; print(i); }",
+            "Unknown 1:41",
+        ),
         ("process a { print(x); int x; }", "Unknown 1:19"),
         ("void f(int n) { int n; } process a { }", "Twice 1:21"),
         ("void f(int n) { } process a { print(n); }", "Unknown 1:37"),

@@ -25,8 +25,7 @@ fn hidden_inner_name(rt: HostRuntime) -> Result<(), Fail> {
     let source = "process a { int x; x = 1; { int x = x; print(x); } } /* */";
     let [exprs, stmts, bodies] = table(alloc, source)?;
     assert_eq!(rt; exprs.as_str(), "Const(0)\nConst(1)\nLocal(1)\nLocal(1)\n");
-    assert_eq!(
-        rt;
+    assert_eq!(rt;
         stmts.as_str(),
         "1:17 of 0 Local(0) = 0\n\
          1:20 of 0 Local(0) = 1\n\
@@ -34,8 +33,7 @@ fn hidden_inner_name(rt: HostRuntime) -> Result<(), Fail> {
          1:40 of 0 print 3\n\
          1:52 of 0 end\n"
     );
-    assert_eq!(
-        rt;
+    assert_eq!(rt;
         bodies.as_str(),
         "shared\n\
          starts\n\
@@ -51,8 +49,7 @@ fn callee_write(rt: HostRuntime) -> Result<(), Fail> {
     let source = "shared int x; void f() { x = 4; } process a { x = 1; f(); print(x); }";
     let [exprs, stmts, bodies] = table(alloc, source)?;
     assert_eq!(rt; exprs.as_str(), "Const(4)\nConst(1)\nShared(0)\n");
-    assert_eq!(
-        rt;
+    assert_eq!(rt;
         stmts.as_str(),
         "1:26 of 0 Shared(0) = 0\n\
          1:33 of 0 return None\n\
@@ -61,8 +58,7 @@ fn callee_write(rt: HostRuntime) -> Result<(), Fail> {
          1:59 of 1 print 2\n\
          1:69 of 1 end\n"
     );
-    assert_eq!(
-        rt;
+    assert_eq!(rt;
         bodies.as_str(),
         "shared x@0\n\
          starts 0\n\
@@ -89,8 +85,7 @@ process a {
 }
 ";
     let [exprs, stmts, bodies] = table(alloc, source)?;
-    assert_eq!(
-        rt;
+    assert_eq!(rt;
         exprs.as_str(),
         "Const(0)\n\
          Local(0)\n\
@@ -105,8 +100,7 @@ process a {
          Const(2)\n\
          Local(0)\n"
     );
-    assert_eq!(
-        rt;
+    assert_eq!(rt;
         stmts.as_str(),
         "2:7 of 0 Local(1) = 0\n\
          3:3 of 0 if 3 [2] []\n\
@@ -116,8 +110,7 @@ process a {
          10:3 of 1 print 11\n\
          11:1 of 1 end\n"
     );
-    assert_eq!(
-        rt;
+    assert_eq!(rt;
         bodies.as_str(),
         "shared\n\
          starts\n\
@@ -141,8 +134,7 @@ process p {
 }
 ";
     let [exprs, stmts, bodies] = table(alloc, source)?;
-    assert_eq!(
-        rt;
+    assert_eq!(rt;
         exprs.as_str(),
         "Const(0)\n\
          Const(0)\n\
@@ -162,8 +154,7 @@ process p {
          Two(Add, 13, 14)\n\
          Local(0)\n"
     );
-    assert_eq!(
-        rt;
+    assert_eq!(rt;
         stmts.as_str(),
         "3:7 of 0 Local(0) = 0\n\
          4:3 of 0 SharedAt { base: 0, len: 2, at: 1 } = 2\n\
@@ -173,8 +164,7 @@ process p {
          7:3 of 0 print 16\n\
          8:1 of 0 end\n"
     );
-    assert_eq!(
-        rt;
+    assert_eq!(rt;
         bodies.as_str(),
         "shared a[2]@0\n\
          starts 0 0\n\
@@ -228,8 +218,7 @@ process consumer {
 fn bounded_buffer_expressions(rt: HostRuntime) -> Result<(), Fail> {
     let alloc = rt.alloc();
     let [exprs, _, _] = table(alloc, BUFFER)?;
-    assert_eq!(
-        rt;
+    assert_eq!(rt;
         exprs.as_str(),
         "Shared(5)\n\
          Const(4)\n\
@@ -278,8 +267,7 @@ fn bounded_buffer_expressions(rt: HostRuntime) -> Result<(), Fail> {
 fn bounded_buffer(rt: HostRuntime) -> Result<(), Fail> {
     let alloc = rt.alloc();
     let [_, stmts, bodies] = table(alloc, BUFFER)?;
-    assert_eq!(
-        rt;
+    assert_eq!(rt;
         stmts.as_str(),
         "6:3 of 0 P 0\n\
          7:3 of 0 P 2\n\
@@ -311,8 +299,7 @@ fn bounded_buffer(rt: HostRuntime) -> Result<(), Fail> {
          34:28 of 3 in 24 Local(0) = 38\n\
          38:1 of 3 end\n"
     );
-    assert_eq!(
-        rt;
+    assert_eq!(rt;
         bodies.as_str(),
         "shared buf[4]@0 head@4 tail@5\n\
          starts 0 0 0 0 0 0\n\
@@ -333,10 +320,10 @@ fn bounded_buffer(rt: HostRuntime) -> Result<(), Fail> {
 #[test]
 fn hidden_locals(rt: HostRuntime) -> Result<(), Fail> {
     let alloc = rt.alloc();
-    let source = "shared int x; chan c[1]; int f() { return f(); } int g() { x = f(); return f(); } process a { int b[2]; b[x] += 2; x = recv(c); }";
+    let source =
+        "shared int x; chan c[1]; int f() { return f(); } int g() { x = f(); return f(); } process a { int b[2]; b[x] += 2; x = recv(c); }";
     let [exprs, stmts, bodies] = table(alloc, source)?;
-    assert_eq!(
-        rt;
+    assert_eq!(rt;
         exprs.as_str(),
         "Local(0)\n\
          Local(0)\n\
@@ -348,8 +335,7 @@ fn hidden_locals(rt: HostRuntime) -> Result<(), Fail> {
          Two(Add, 5, 6)\n\
          Local(2)\n"
     );
-    assert_eq!(
-        rt;
+    assert_eq!(rt;
         stmts.as_str(),
         "1:36 of 0 call 0 () Some(0)\n\
          1:36 of 0 return Some(0)\n\
@@ -363,8 +349,7 @@ fn hidden_locals(rt: HostRuntime) -> Result<(), Fail> {
          1:116 of 2 Shared(0) = 8\n\
          1:129 of 2 end\n"
     );
-    assert_eq!(
-        rt;
+    assert_eq!(rt;
         bodies.as_str(),
         "shared x@0\n\
          starts 0\n\

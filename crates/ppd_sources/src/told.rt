@@ -36,7 +36,11 @@ fn kind(alloc: Global, kind: &Kind) -> Result<String, AllocError> {
             let inside = list(alloc, inside.as_slice())?;
             format!(in alloc; "while {test} [{inside}]")
         }
-        Kind::Call { function, args, into } => {
+        Kind::Call {
+            function,
+            args,
+            into,
+        } => {
             let args = list(alloc, args.as_slice())?;
             format!(in alloc; "call {function} ({args}) {into:?}")
         }
@@ -56,7 +60,10 @@ fn stmt(alloc: Global, stmt: &Stmt) -> Result<String, AllocError> {
     let place = stmt.place;
     match stmt.parent {
         Some(parent) => {
-            format!(in alloc; "{}:{} of {} in {parent} {does}\n", place.line, place.column, stmt.body)
+            format!(in alloc;
+                "{}:{} of {} in {parent} {does}\n",
+                place.line, place.column, stmt.body
+            )
         }
         None => format!(in alloc; "{}:{} of {} {does}\n", place.line, place.column, stmt.body),
     }
@@ -85,8 +92,7 @@ fn body(alloc: Global, body: &Body) -> Result<String, AllocError> {
     let top = list(alloc, body.top.as_slice())?;
     let sort = if body.process { "process" } else { "function" };
     let value = if body.value { "*" } else { "" };
-    format!(
-        in alloc;
+    format!(in alloc;
         "{sort} {text}({}){value} {} cells{locals} [{top}] {}-{}\n",
         body.params, body.cells, body.first, body.end
     )

@@ -7,7 +7,6 @@ use Rattle.ppd_check.specs.Sources.{vars, past_cells}
 use Rattle.ppd_check.specs.Syntax.{Name}
 use Rattle.ppd_ast.specs.declared.limits.TheConstants.{MOST_LOCAL_CELLS}
 use Rattle.ppd_check.specs.declared.fault.Limit.TheVariants as L
-use Rattle.ppd_check.specs.declared.writer.Site.{Site}
 use Rattle.ppd_check.specs.declared.frame.Variable.{Variable}
 use Rattle.std.proofs.Common.{ℕ, List}
 use Rattle.ppd_check.proofs.Filling.{body_from, scopes_after}

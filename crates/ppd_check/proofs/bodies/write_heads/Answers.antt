@@ -4,7 +4,7 @@ use Rattle.ppd_check.specs.Bodies.{WroteHeads}
 use Rattle.ppd_check.specs.Holding.{head_said}
 use Rattle.ppd_check.specs.Names.{innermost, Scope}
 use Rattle.ppd_check.specs.Nodes.{phrases_below}
-use Rattle.ppd_check.proofs.Heading.{heads_none, heads_next, heads_all}
+use Rattle.ppd_check.proofs.Heading.{heads_next, heads_all}
 use Rattle.ppd_check.proofs.bodies.write_heads.Goals as goal
 
 pub loop-id-preserved : goal.loop-id-preserved

@@ -1,11 +1,9 @@
-use Rattle.std.proofs.Common.{◌∙◌, ap, sym, subst, List, ℕ, true, false}
-use Rattle.std.specs.List.{All}
+use Rattle.std.proofs.Common.{◌∙◌, ap}
 use Rattle.ppd_parse.specs.Tree.{tree_of}
 use Rattle.ppd_check.specs.Fitted.{as_short}
-use Rattle.ppd_check.specs.Holding.{IsHeadAt}
 use Rattle.ppd_check.specs.Reading.{source_of}
 use Rattle.ppd_check.specs.Sources.{globals, vars}
-use Rattle.ppd_check.proofs.Sourced.{Parts, parts_of, parts_found, parts_table, one_scope}
+use Rattle.ppd_check.proofs.Sourced.{parts_of, parts_found, parts_table}
 use Rattle.ppd_check.proofs.checking.check_nodes.Goals as goal
 
 pub returns-clause-found : goal.returns-clause-found

@@ -1,4 +1,4 @@
-use Rattle.std.proofs.Common.{◌∙◌, ap, subst, sym, ◌∷◌, [], List, map}
+use Rattle.std.proofs.Common.{subst, [], List, map}
 use Rattle.ppd_ast.specs.declared.program.Body.{Body}
 use Rattle.ppd_check.specs.Bodies.{WroteHeads}
 use Rattle.ppd_check.specs.Holding.{head_at}

@@ -1,7 +1,4 @@
-use Rattle.std.proofs.Common.{◌∙◌, ap, arith, take}
-use Rattle.std.specs.List.{flat_map}
-use Rattle.ppd_check.specs.Endings.{returned}
-use Rattle.ppd_check.specs.Faults.{first, first_of_both}
+use Rattle.std.proofs.Common.{arith}
 use Rattle.ppd_check.proofs.Returned.{returned_more}
 use Rattle.ppd_check.proofs.returns.note_returns.Goals as goal
 
