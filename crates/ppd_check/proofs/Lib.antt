@@ -23,7 +23,6 @@ pub mod Semicolons
 pub mod Steps
 pub mod Through
 pub mod Trees
-pub mod Turning
 pub mod Walking
 pub mod Walks
 pub mod Whole
