@@ -29,7 +29,6 @@ pub mod Sourced
 pub mod Steps
 pub mod Through
 pub mod Trees
-pub mod Turning
 pub mod Walking
 pub mod Walks
 pub mod Whole
