@@ -1,0 +1,5 @@
+//! Laws of the table.
+#![tactic(auto)]
+
+/// Nothing yet.
+pub const NOTHING: usize = 0;
