@@ -1,19 +1,21 @@
 -- The table of an accepted source is a valid program, where its names and limits are as they must be.
-use Rattle.std.proofs.Common.{◌≡◌, refl, sym, ap, ◌∙◌, subst, ℕ, zero, suc, ◌+◌, ◌<◌, ◌≤◌, nat_le, nat_eq, Bool, true, false, arith, List, [], ◌∷◌, ◌++◌, map, length, Option, Some, None, IsTrue}
+use Rattle.std.proofs.Common.{◌≡◌, refl, sym, ap, ◌∙◌, subst, ℕ, zero, suc, ◌+◌, ◌<◌, ◌≤◌, nat_lt, nat_le, nat_eq, Bool, true, false, arith, List, [], ◌∷◌, ◌++◌, map, length, Option, Some, None, IsTrue}
 use Rattle.std.specs.Prelude.{slice_get, ⊤}
 use Rattle.std.specs.List.{All, AllByRecursion, flat_map, count_by}
 use Rattle.std.proofs.lemmas.List.{length-append}
 use Rattle.std.proofs.lemmas.List.Elements.{recursion_from_All}
 use Rattle.std.proofs.lemmas.Bool.Decides.{nat_tests}
+use Rattle.ppd_ast.specs.declared.limits.TheConstants.{MOST_FUNCTIONS}
 use Rattle.ppd_ast.specs.declared.program.Program.{Program}
 use Rattle.ppd_ast.specs.Cells.{CoverCells}
 use Rattle.ppd_ast.specs.Table.{AreChildrenBelow}
-use Rattle.ppd_ast.specs.Valid.{AreWithinLimits, IsValid, IsValidBody, IsValidStmt}
+use Rattle.ppd_ast.specs.Valid.{Follow, AreWithinLimits, IsValid, IsValidBody, IsValidStmt}
 use Rattle.ppd_parse.specs.Grammar.{Shape}
 use Rattle.ppd_check.specs.declared.fault.Fault.{Fault}
 use Rattle.ppd_check.specs.declared.fault.Cause.TheVariants.{NoProcess}
 use Rattle.ppd_check.specs.declared.frame.Frame.{Frame}
 use Rattle.ppd_check.specs.Faults.{unless}
+use Rattle.ppd_check.specs.Fitted.{as_short}
 use Rattle.ppd_check.specs.Names.{Scope}
 use Rattle.ppd_check.specs.Code.{Code, places}
 use Rattle.ppd_check.specs.Syntax.{Item, shared, shared_array, semaphore, channel, function, process}
@@ -91,10 +93,10 @@ heads_unbroken t a =
     let g : Globals = globals (source_of t) in
     let bodies_part : List Fault = flat_map (head_faults g.scope) (heads g) in
     let table_part : List Fault = past_statements (flat_map places (codes g)) in
-    let end_part : List Fault = unless _ _ NoProcess in
+    let end_part : List Fault = unless (nat_lt 0 (length g.processes)) (source_of t).end NoProcess in
     let x = nil_parts (items_faults (source_of t).items no_globals) _ a in
     let y = nil_parts (count_faults g) _ x.1 in
-    let z = nil_parts _ (bodies_part ++ table_part) y.1 in
+    let z = nil_parts end_part (bodies_part ++ table_part) y.1 in
     flat_nil (head_faults g.scope) (heads g) (nil_parts bodies_part table_part z.1).0
 
 head_returns : (scope : Scope) (h : Head) → head_faults scope h ≡ [] → return_faults h ≡ []
@@ -105,7 +107,7 @@ head_returns scope h e =
 
 not_process : (b : Bool) → b ≡ false → IsTrue b → ⊥
 not_process true e t = cc
-not_process false e t = absurd t
+not_process false e t = cc
 
 functions_right : (p : Program) (scope : Scope) (hs : List Head) → AllByRecursion IsFunction hs → AllByRecursion (λ h. head_faults scope h ≡ []) hs → AllByRecursion (HeadFacts p scope) hs
     → AllByRecursion (IsRightHead p scope) hs
@@ -136,6 +138,9 @@ heads_right p scope g s e f =
 
 -- The whole table.
 
+small : (n : ℕ) → as_short n ≤ MOST_FUNCTIONS → n ≡ as_short n
+small n h = omega (arith, h)
+
 -- the premises on names and limits: of the whole program, and of each function and process
 pub record SourceFacts (t : Shape) : Type 0 where
   pub limits : AreWithinLimits (core t)
@@ -161,7 +166,7 @@ core_valid t a f =
       children = each_at AreChildrenBelow p.exprs (all_children_below 0 (flat_map terms cs));
       once = λ e h. used_once e cs (subst (λ n. e < n) (length_flats 0 (flat_map terms cs)) h);
       cells = f.cells;
-      ranges = follow g.scope hs 0 0 0;
+      ranges = subst (Follow 0 p.bodies) all (follow g.scope hs 0 0 0);
       bodies = each_at (IsValidBody p) p.bodies valid.0;
       stmts = each_at (IsValidStmt p) p.stmts valid.1;
     }

@@ -17,7 +17,7 @@ use Rattle.ppd_check.specs.Names.{Scope}
 use Rattle.ppd_check.specs.Code.{Code, Act, Spot, done, act, choice, loop, join, acts, count}
 use Rattle.ppd_check.specs.Code as C
 use Rattle.ppd_check.specs.Table.{weights, terms, act_terms, kind, numbers, stmts, some_root}
-use Rattle.ppd_check.specs.Statements.{put, store_acts, acts_of, code_of, code_of_any, row_code, opened, closed, after_row, after_any, after, place_of}
+use Rattle.ppd_check.specs.Statements.{declared, spot_of, put, store_acts, acts_of, code_of, code_of_any, row_code, opened, closed, after_row, after_any, after, place_of}
 use Rattle.ppd_check.specs.Syntax as S
 use Rattle.ppd_check.specs.Syntax.{Simple, Row, Value}
 use Rattle.ppd_check.specs.Sources.{Head, simple_returns, returns, last_return, return_faults, ends_with_return, close_code, head_code, entry}
@@ -43,7 +43,7 @@ IsInner (C.assert e) = ⊤
 IsInner C.finish = ⊥
 
 abbrev pub AreInner : List Act → Type 0
-AreInner as = AllByRecursion IsInner as
+AreInner list = AllByRecursion IsInner list
 
 inner_join : (xs ys : List Act) → AreInner xs → AreInner ys → AreInner (xs ++ ys)
 inner_join [] ys h i = i
@@ -63,9 +63,9 @@ acts_in_join (choice p e x y c) d =
 acts_in_join (loop p e x c) d =
     ap (λ l. acts_in x ++ l) (acts_in_join c d) ∙ sym (append_assoc (acts_in x) (acts_in c) (acts_in d))
 
-acts_in_acts : (p : Place) (as : List Act) → acts_in (acts p as) ≡ as
+acts_in_acts : (p : Place) (list : List Act) → acts_in (acts p list) ≡ list
 acts_in_acts p [] = refl
-acts_in_acts p (a ∷ as) = ap (λ l. a ∷ l) (acts_in_acts p as)
+acts_in_acts p (a ∷ list) = ap (λ l. a ∷ l) (acts_in_acts p list)
 
 code_join : (c d : Code) → AreInner (acts_in c) → AreInner (acts_in d) → AreInner (acts_in (join c d))
 code_join c d h i = subst AreInner (sym (acts_in_join c d)) (inner_join (acts_in c) (acts_in d) h i)
@@ -84,13 +84,13 @@ store_inner : (m : Spot) (v : Value) (f : Frame) → AreInner (store_acts m v f)
 store_inner m (S.plain e) f = (tt, tt)
 store_inner (C.local c) (S.result g args) f = (tt, tt)
 store_inner (C.local c) (S.received x) f = (tt, tt)
-store_inner m (S.result g args) f = (tt, tt, tt)
-store_inner m (S.received x) f = (tt, tt, tt)
+store_inner m (S.result g args) f = (tt, (tt, tt))
+store_inner m (S.received x) f = (tt, (tt, tt))
 
 acts_inner : (s : Simple) (f : Frame) → Passes s → AreInner (acts_of s f)
-acts_inner (S.fresh x v) f h = (put_inner _ _ v, tt)
+acts_inner (S.fresh x v) f h = (put_inner (declared x None f).scopes f.cells v, tt)
 acts_inner (S.array x n) f h = (tt, tt)
-acts_inner (S.store g v) f h = store_inner _ v f
+acts_inner (S.store g v) f h = store_inner (spot_of f.scopes g) v f
 acts_inner (S.change g op e) f h = (tt, tt)
 acts_inner (S.call g args) f h = (tt, tt)
 acts_inner (S.give_back p v) f h = absurd (cc)
