@@ -1,18 +1,15 @@
 -- The statements of a row stand in the table where their numbers say: in pre-order, each with its parent and its body.
-use Rattle.std.proofs.Common.{◌≡◌, refl, sym, ap, ◌∙◌, subst, ℕ, zero, suc, ◌+◌, ◌-◌, ◌≤◌, max, arith, List, [], ◌∷◌, ◌++◌, length, Option, Some, None}
+use Rattle.std.proofs.Common.{◌≡◌, refl, sym, ap, ◌∙◌, subst, ℕ, zero, suc, ◌+◌, ◌-◌, ◌≤◌, arith, List, [], ◌∷◌, ◌++◌, length, Option, Some}
 use Rattle.std.specs.Prelude.{slice_get, IsSomeAnd, ⊤}
 use Rattle.std.specs.List.{AllByRecursion, flat_map, range_with_len}
 use Rattle.std.proofs.lemmas.Grind.{flat_map-append}
 use Rattle.ppd_ast.specs.declared.program.Stmt.{Stmt}
-use Rattle.ppd_ast.specs.declared.program.Place.{Place}
-use Rattle.ppd_ast.specs.declared.program.Kind.TheVariants.{If, While}
-use Rattle.ppd_ast.specs.Term.{Term}
 use Rattle.ppd_ast.specs.Order.{inner, inner_of, inner_at, preorder}
 use Rattle.ppd_check.specs.Code.{Code, Act, done, act, choice, loop, count}
 use Rattle.ppd_check.specs.Code as C
-use Rattle.ppd_check.specs.Table.{weight, weights, root, terms, act_terms, kind, numbers, stmts}
+use Rattle.ppd_check.specs.Table.{weight, weights, terms, act_terms, kind, numbers, stmts}
 use Rattle.ppd_check.proofs.Writing.{length_stmts}
-use Rattle.ppd_lawtable.proofs.ValidFacts.{nesting}
+use Rattle.ppd_check.proofs.ValidFacts.{nesting}
 
 -- Parts of a table.
 

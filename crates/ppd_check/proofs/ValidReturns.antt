@@ -1,5 +1,5 @@
 -- A body's core statements end with a `Return` or an `End`, and none of those before is one.
-use Rattle.std.proofs.Common.{◌≡◌, refl, sym, ap, ◌∙◌, subst, ℕ, zero, suc, ◌+◌, ◌-◌, arith, Bool, true, false, not, ◌&&◌, ◌||◌, if◌then◌else◌, List, [], ◌∷◌, ◌++◌, length, Option, Some, None, is_some}
+use Rattle.std.proofs.Common.{◌≡◌, refl, sym, ap, ◌∙◌, subst, ℕ, ◌+◌, ◌-◌, arith, Bool, true, false, not, ◌&&◌, ◌||◌, if◌then◌else◌, List, [], ◌∷◌, ◌++◌, length, Option, Some, None, is_some}
 use Rattle.std.specs.Prelude.{slice_get, IsSomeAnd, ⊤}
 use Rattle.std.specs.List.{AllByRecursion}
 use Rattle.std.proofs.lemmas.List.{length-append, append_assoc}
@@ -8,24 +8,24 @@ use Rattle.ppd_ast.specs.declared.program.Body.{Body}
 use Rattle.ppd_ast.specs.declared.program.Stmt.{Stmt}
 use Rattle.ppd_ast.specs.Term.{Term}
 use Rattle.ppd_ast.specs.Valid.{EndsBody, IsEnding, last_of}
-use Rattle.ppd_check.specs.declared.fault.Cause.{Cause}
 use Rattle.ppd_check.specs.declared.fault.Cause.TheVariants.{ReturnPlace}
-use Rattle.ppd_check.specs.declared.fault.Fault.{Fault}
 use Rattle.ppd_check.specs.declared.frame.Frame.{Frame}
-use Rattle.ppd_check.specs.Faults.{at, unless, if_so}
+use Rattle.ppd_check.specs.Faults.{unless, if_so}
 use Rattle.ppd_check.specs.Names.{Scope}
 use Rattle.ppd_check.specs.Code.{Code, Act, Spot, done, act, choice, loop, join, acts, count}
 use Rattle.ppd_check.specs.Code as C
-use Rattle.ppd_check.specs.Table.{weights, terms, act_terms, kind, numbers, stmts, some_root}
+use Rattle.ppd_check.specs.Table.{weights, terms, kind, numbers, stmts, some_root}
 use Rattle.ppd_check.specs.Statements.{declared, spot_of, put, store_acts, acts_of, code_of, code_of_any, row_code, opened, closed, after_row, after_any, after, place_of}
 use Rattle.ppd_check.specs.Syntax as S
 use Rattle.ppd_check.specs.Syntax.{Simple, Row, Value}
-use Rattle.ppd_check.specs.Sources.{Head, simple_returns, returns, last_return, return_faults, ends_with_return, close_code, head_code, entry}
+use Rattle.ppd_check.specs.Sources.{Head, simple_returns, returns, last_return, return_faults, ends_with_return, head_code, entry}
 use Rattle.ppd_check.proofs.Joined.{numbers_join, stmts_join}
+use Rattle.ppd_check.proofs.Nested.{join_done}
+use Rattle.ppd_check.proofs.Walking.{join_assoc}
 use Rattle.ppd_check.proofs.Writing.{length_stmts}
-use Rattle.ppd_lawtable.proofs.ValidFacts.{acts_in}
-use Rattle.ppd_lawtable.proofs.ValidHeaders.{Passes, PassesIfAny, HeadersPass}
-use Rattle.ppd_lawtable.proofs.ValidOrder.{Stands, stands_append, some_and}
+use Rattle.ppd_check.proofs.ValidFacts.{acts_in}
+use Rattle.ppd_check.proofs.ValidHeaders.{Passes, PassesIfAny, HeadersPass}
+use Rattle.ppd_check.proofs.ValidOrder.{Stands, stands_append, some_and}
 
 -- Statements that end no body.
 
@@ -148,18 +148,6 @@ pub record EndsBy (Ends : Act → Type 0) (c : Code) : Type 0 where
   pub inside : AreInner (acts_in front)
   pub ends : Ends last
 
-join_assoc : (c d e : Code) → join (join c d) e ≡ join c (join d e)
-join_assoc done d e = refl
-join_assoc (act p a c) d e = ap (act p a) (join_assoc c d e)
-join_assoc (choice p t x y c) d e = ap (choice p t x y) (join_assoc c d e)
-join_assoc (loop p t x c) d e = ap (loop p t x) (join_assoc c d e)
-
-join_done : (c : Code) → join c done ≡ c
-join_done done = refl
-join_done (act p a c) = ap (act p a) (join_done c)
-join_done (choice p t x y c) = ap (choice p t x y) (join_done c)
-join_done (loop p t x c) = ap (loop p t x) (join_done c)
-
 ends_behind : (Ends : Act → Type 0) (c d : Code) → AreInner (acts_in c) → EndsBy Ends d → EndsBy Ends (join c d)
 ends_behind Ends c d h i = record {
   front = join c i.front;
@@ -240,10 +228,12 @@ row_open gives close (S.repeat p t b r) f h e l =
 row_open gives close (S.count p start t step b r) f h e l =
     let n = nil_parts (returns b) (last_return gives close r) e in
     let g : Frame = after_any start (opened f) in
-    let i = row_open gives close r (closed f (after_row b g)) h.3 n.1 l in
-    (code_join (code_of_any start (opened f)) _ (any_inner start (opened f) h.0)
-    (inner_join (acts_in (join (row_code b g) (code_of_any step (after_row b g)))) _
-    (code_join (row_code b g) (code_of_any step (after_row b g)) (row_inner b g h.2 n.0) (any_inner step (after_row b g) h.1)) i.0), i.1)
+    let i = row_open gives close r (closed f (after_row b g)) h.3 n.1 l in (
+      code_join (code_of_any start (opened f)) _ (any_inner start (opened f) h.0)
+          (inner_join (acts_in (join (row_code b g) (code_of_any step (after_row b g)))) _
+          (code_join (row_code b g) (code_of_any step (after_row b g)) (row_inner b g h.2 n.0) (any_inner step (after_row b g) h.1)) i.0),
+      i.1,
+    )
 
 ends_by : (process gives ends : Bool) (r : Row) (f : Frame) (close : Place) → HeadersPass r → (if process then returns r else last_return gives close r) ≡ [] → ends_with_return r ≡ ends
     → EndsBy (Closes process gives) (join (row_code r f) (if process then act close C.finish done else if ends then done else act close (C.give_back None) done))

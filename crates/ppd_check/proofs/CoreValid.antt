@@ -1,8 +1,6 @@
 -- The table of an accepted source is a valid program, where its names and limits are as they must be.
-use Rattle.std.proofs.Common.{◌≡◌, refl, sym, ap, ◌∙◌, subst, ℕ, zero, suc, ◌+◌, ◌<◌, ◌≤◌, nat_lt, nat_le, nat_eq, Bool, true, false, arith, List, [], ◌∷◌, ◌++◌, map, length, Option, Some, None, IsTrue}
-use Rattle.std.specs.Prelude.{slice_get, ⊤}
-use Rattle.std.specs.List.{All, AllByRecursion, flat_map, count_by}
-use Rattle.std.proofs.lemmas.List.{length-append}
+use Rattle.std.proofs.Common.{◌≡◌, refl, ◌∙◌, subst, ℕ, ◌+◌, ◌<◌, ◌≤◌, nat_lt, nat_le, Bool, true, false, arith, List, [], ◌∷◌, ◌++◌, length, IsTrue}
+use Rattle.std.specs.List.{All, AllByRecursion, flat_map}
 use Rattle.std.proofs.lemmas.List.Elements.{recursion_from_All}
 use Rattle.std.proofs.lemmas.Bool.Decides.{nat_tests}
 use Rattle.ppd_ast.specs.declared.limits.TheConstants.{MOST_FUNCTIONS}
@@ -13,24 +11,23 @@ use Rattle.ppd_ast.specs.Valid.{Follow, AreWithinLimits, IsValid, IsValidBody, I
 use Rattle.ppd_parse.specs.Grammar.{Shape}
 use Rattle.ppd_check.specs.declared.fault.Fault.{Fault}
 use Rattle.ppd_check.specs.declared.fault.Cause.TheVariants.{NoProcess}
-use Rattle.ppd_check.specs.declared.frame.Frame.{Frame}
 use Rattle.ppd_check.specs.Faults.{unless}
 use Rattle.ppd_check.specs.Fitted.{as_short}
 use Rattle.ppd_check.specs.Names.{Scope}
 use Rattle.ppd_check.specs.Code.{Code, places}
 use Rattle.ppd_check.specs.Syntax.{Item, shared, shared_array, semaphore, channel, function, process}
 use Rattle.ppd_check.specs.Reading.{source_of, said, as_items}
-use Rattle.ppd_check.specs.Table.{terms, flats, weights}
+use Rattle.ppd_check.specs.Table.{terms}
 use Rattle.ppd_check.specs.Statements.{row_faults}
-use Rattle.ppd_check.specs.Sources.{Head, Globals, no_globals, with_item, with_items, globals, items_faults, count_faults, head_faults, params_faults, return_faults, past_statements, heads, codes, bodies, all_stmts, head_code, outer, entry, core, Accepted}
+use Rattle.ppd_check.specs.Sources.{Head, Globals, no_globals, with_item, with_items, globals, items_faults, count_faults, head_faults, params_faults, return_faults, past_statements, heads, codes, bodies, all_stmts, outer, entry, core, Accepted}
 use Rattle.ppd_check.proofs.Writing.{length_flats}
-use Rattle.ppd_lawtable.proofs.ValidFacts.{HeadFacts}
-use Rattle.ppd_lawtable.proofs.ValidHeaders.{HeadersPass, ItemPasses, tree_passes}
-use Rattle.ppd_lawtable.proofs.ValidOrder.{Stands, stands_all}
-use Rattle.ppd_lawtable.proofs.ValidTerms.{EachFrom, each_append, each_at, all_children_below}
-use Rattle.ppd_lawtable.proofs.ValidUses.{used_once}
-use Rattle.ppd_lawtable.proofs.ValidReturns.{nil_parts}
-use Rattle.ppd_lawtable.proofs.ValidBodies.{IsRightHead, heads_valid, follow, length_bodies}
+use Rattle.ppd_check.proofs.ValidFacts.{HeadFacts}
+use Rattle.ppd_check.proofs.ValidHeaders.{HeadersPass, ItemPasses, tree_passes}
+use Rattle.ppd_check.proofs.ValidOrder.{stands_all}
+use Rattle.ppd_check.proofs.ValidTerms.{EachFrom, each_append, each_at, all_children_below}
+use Rattle.ppd_check.proofs.ValidUses.{used_once}
+use Rattle.ppd_check.proofs.ValidReturns.{nil_parts}
+use Rattle.ppd_check.proofs.ValidBodies.{all_parts, IsRightHead, heads_valid, follow, length_bodies}
 
 -- What the items declare: functions and processes.
 
@@ -124,10 +121,6 @@ processes_right p scope (x ∷ hs) h e f =
 all_join : {X : Type 0} (P : X → Type 0) (xs ys : List X) → AllByRecursion P xs → AllByRecursion P ys → AllByRecursion P (xs ++ ys)
 all_join P [] ys h i = i
 all_join P (x ∷ xs) ys h i = (h.0, all_join P xs ys h.1 i)
-
-all_parts : {X : Type 0} (P : X → Type 0) (xs ys : List X) → AllByRecursion P (xs ++ ys) → AllByRecursion P xs × AllByRecursion P ys
-all_parts P [] ys h = (tt, h)
-all_parts P (x ∷ xs) ys h = let p : AllByRecursion P xs × AllByRecursion P ys = all_parts P xs ys h.1 in ((h.0, p.0), p.1)
 
 heads_right : (p : Program) (scope : Scope) (g : Globals) → AreSorted g → AllByRecursion (λ h. head_faults scope h ≡ []) (heads g) → AllByRecursion (HeadFacts p scope) (heads g)
     → AllByRecursion (IsRightHead p scope) (heads g)

@@ -1,36 +1,35 @@
 -- The statements and bodies of the table are valid, where their terms and statements are before they are numbered.
-use Rattle.std.proofs.Common.{◌≡◌, refl, sym, ap, ◌∙◌, subst, ℕ, zero, suc, ◌+◌, ◌<◌, ◌≤◌, nat_le, Bool, true, false, arith, List, [], ◌∷◌, ◌++◌, map, length, Option, Some, None, IsTrue}
-use Rattle.std.specs.Prelude.{slice_get, IsSomeAnd, ⊤}
+use Rattle.std.proofs.Common.{◌≡◌, refl, sym, ap, subst, ℕ, suc, ◌+◌, ◌<◌, ◌≤◌, nat_le, false, arith, List, [], ◌∷◌, ◌++◌, map, length, Option, Some, None, IsTrue}
+use Rattle.std.specs.Prelude.{slice_get}
 use Rattle.std.specs.List.{All, AllByRecursion, flat_map}
-use Rattle.std.proofs.lemmas.List.{length-append, append_assoc}
+use Rattle.std.proofs.lemmas.List.{length-append}
 use Rattle.std.proofs.lemmas.List.Elements.{All-from_recursion, recursion_from_All, All-append, All-nil}
 use Rattle.ppd_ast.specs.declared.limits.TheConstants.{MOST_OPERATORS, MOST_EXPRESSION_DEPTH}
 use Rattle.ppd_ast.specs.declared.program.Expr.{Expr}
-use Rattle.ppd_ast.specs.declared.program.Stmt.{Stmt}
 use Rattle.ppd_ast.specs.declared.program.Var.{Var}
 use Rattle.ppd_ast.specs.declared.program.Kind.TheVariants.{If, While}
 use Rattle.ppd_ast.specs.declared.program.Body.{Body}
 use Rattle.ppd_ast.specs.declared.program.Program.{Program}
 use Rattle.ppd_ast.specs.Term.{Term, term}
-use Rattle.ppd_ast.specs.Order.{inner, StandIn}
+use Rattle.ppd_ast.specs.Order.{StandIn}
 use Rattle.ppd_ast.specs.Uses.{kind_uses, operators_of, depth_of}
 use Rattle.ppd_ast.specs.Cells.{NamesWhole, WritesWhole}
 use Rattle.ppd_ast.specs.Valid.{Follow, HasObject, CallsRightly, IsValidUse, IsValidKind, IsValidStmt, IsValidBody}
 use Rattle.ppd_check.specs.Fitted.{as_short}
 use Rattle.ppd_check.specs.Names.{Scope}
 use Rattle.ppd_check.specs.Code.{Code, Act, done, act, choice, loop, count}
-use Rattle.ppd_check.specs.Table.{weight, weights, root, roots, flat, flats, terms, act_terms, kind, numbers, stmts}
+use Rattle.ppd_check.specs.Table.{weight, weights, root, roots, flats, terms, act_terms, kind, numbers, stmts}
 use Rattle.ppd_check.specs.Sources.{Head, head_code, head_frame, return_faults, vars, body, bodies, all_stmts}
 use Rattle.ppd_check.proofs.Joined.{flats_append}
 use Rattle.ppd_check.proofs.Writing.{length_flats, length_stmts}
-use Rattle.ppd_lawtable.proofs.ValidFacts.{acts_in, CodeFacts, HeadFacts}
-use Rattle.ppd_lawtable.proofs.ValidHeaders.{HeadersPass}
-use Rattle.ppd_lawtable.proofs.ValidOrder.{Stands, stands_append, stands_stmts, some_and, IsIn, stand_in, no_inner, body_in_order}
-use Rattle.ppd_lawtable.proofs.ValidTerms.{EachFrom, each_append, stands_flat, each_root}
-use Rattle.ppd_lawtable.proofs.ValidUses.{act_uses}
-use Rattle.ppd_lawtable.proofs.ValidReturns.{EndsRight, head_ends, body_right, body_ending}
+use Rattle.ppd_check.proofs.ValidFacts.{acts_in, CodeFacts, HeadFacts}
+use Rattle.ppd_check.proofs.ValidHeaders.{HeadersPass}
+use Rattle.ppd_check.proofs.ValidOrder.{Stands, stands_append, stands_stmts, some_and, IsIn, stand_in, no_inner, body_in_order}
+use Rattle.ppd_check.proofs.ValidTerms.{EachFrom, each_append, stands_flat, each_root}
+use Rattle.ppd_check.proofs.ValidUses.{act_uses}
+use Rattle.ppd_check.proofs.ValidReturns.{EndsRight, head_ends, body_right, body_ending}
 
-all_parts : {X : Type 0} (P : X → Type 0) (xs ys : List X) → AllByRecursion P (xs ++ ys) → AllByRecursion P xs × AllByRecursion P ys
+pub all_parts : {X : Type 0} (P : X → Type 0) (xs ys : List X) → AllByRecursion P (xs ++ ys) → AllByRecursion P xs × AllByRecursion P ys
 all_parts P [] ys h = (tt, h)
 all_parts P (x ∷ xs) ys h = let p : AllByRecursion P xs × AllByRecursion P ys = all_parts P xs ys h.1 in ((h.0, p.0), p.1)
 
@@ -84,17 +83,16 @@ module _ (p : Program) (j : ℕ) (b : Body) (here : slice_get p.bodies j ≡ Som
   row_valid q n m done h x f a r = tt
   row_valid q n m (act w o c) h x f a r =
       let xs = stands_flats p.exprs m (act_terms o) (terms c) x in
-      let fs = all_parts (TermFits p b.locals) (act_terms o) (terms c) f in
-      (
+      let fs = all_parts (TermFits p b.locals) (act_terms o) (terms c) f in (
         record {
           kind = some_and (slice_get p.bodies j) b (λ d. IsValidKind p d n (kind m o)) here
-          (record {
-            uses = kind_valid m (act_terms o) (kind_uses (kind m o)) (act_uses m o) xs.0 fs.0;
-            writes = a.0.0 m;
-            object = a.0.1 m;
-            call = a.0.2 m;
-            ending = r.0 m;
-          });
+              (record {
+                uses = kind_valid m (act_terms o) (kind_uses (kind m o)) (act_uses m o) xs.0 fs.0;
+                writes = a.0.0 m;
+                object = a.0.1 m;
+                call = a.0.2 m;
+                ending = r.0 m;
+              });
           inside = subst (StandIn p.stmts (Some n) j) (sym (no_inner m o)) (All-nil (IsIn p.stmts (Some n) j));
         },
         row_valid q (n + 1) (m + weights (act_terms o)) c h.1 xs.1 fs.1 a.1 r.1,
@@ -114,20 +112,19 @@ module _ (p : Program) (j : ℕ) (b : Body) (here : slice_get p.bodies j ≡ Som
       let fy = all_parts (TermFits p b.locals) (terms y) (terms z ++ terms c) f.1 in
       let fz = all_parts (TermFits p b.locals) (terms z) (terms c) fy.1 in
       let ay = all_parts (ActFits p b.locals) (acts_in y) (acts_in z ++ acts_in c) a in
-      let az = all_parts (ActFits p b.locals) (acts_in z) (acts_in c) ay.1 in
-      (
+      let az = all_parts (ActFits p b.locals) (acts_in z) (acts_in c) ay.1 in (
         record {
           kind = some_and (slice_get p.bodies j) b (λ d. IsValidKind p d n (If (root m e) (numbers n1 y) (numbers n2 z))) here
-          (record { uses = one_valid m e (terms y ++ (terms z ++ terms c)) x f.0; writes = tt; object = tt; call = tt; ending = tt });
+              (record { uses = one_valid m e (terms y ++ (terms z ++ terms c)) x f.0; writes = tt; object = tt; call = tt; ending = tt });
           inside = All-append (IsIn p.stmts (Some n) j) (numbers n1 y) (numbers n2 z)
-          (All-from_recursion (IsIn p.stmts (Some n) j) (numbers n1 y) (stand_in p.stmts j (Some n) n1 m1 y ys.0))
-          (All-from_recursion (IsIn p.stmts (Some n) j) (numbers n2 z) (stand_in p.stmts j (Some n) n2 m2 z zs.0));
+              (All-from_recursion (IsIn p.stmts (Some n) j) (numbers n1 y) (stand_in p.stmts j (Some n) n1 m1 y ys.0))
+              (All-from_recursion (IsIn p.stmts (Some n) j) (numbers n2 z) (stand_in p.stmts j (Some n) n2 m2 z zs.0));
         },
         each_append (IsValidStmt p) n1 n2 (stmts j (Some n) n1 m1 y) (stmts j (Some n) n2 m2 z ++ stmts j q n3 m3 c) (ap (λ k. n1 + k) (length_stmts j (Some n) n1 m1 y))
-        (row_valid (Some n) n1 m1 y ys.0 xy.0 fy.0 ay.0 r.0)
-        (each_append (IsValidStmt p) n2 n3 (stmts j (Some n) n2 m2 z) (stmts j q n3 m3 c) (ap (λ k. n2 + k) (length_stmts j (Some n) n2 m2 z))
-        (row_valid (Some n) n2 m2 z zs.0 xz.0 fz.0 az.0 r.1)
-        (row_valid q n3 m3 c zs.1 xz.1 fz.1 az.1 r.2)),
+            (row_valid (Some n) n1 m1 y ys.0 xy.0 fy.0 ay.0 r.0)
+            (each_append (IsValidStmt p) n2 n3 (stmts j (Some n) n2 m2 z) (stmts j q n3 m3 c) (ap (λ k. n2 + k) (length_stmts j (Some n) n2 m2 z))
+            (row_valid (Some n) n2 m2 z zs.0 xz.0 fz.0 az.0 r.1)
+            (row_valid q n3 m3 c zs.1 xz.1 fz.1 az.1 r.2)),
       )
   row_valid q n m (loop w e y c) h x f a r =
       let n1 : ℕ = n + 1 in
@@ -138,16 +135,15 @@ module _ (p : Program) (j : ℕ) (b : Body) (here : slice_get p.bodies j ≡ Som
       let xe = stands_flat p.exprs m e (flats m1 (terms y ++ terms c)) x in
       let xy = stands_flats p.exprs m1 (terms y) (terms c) xe.1 in
       let fy = all_parts (TermFits p b.locals) (terms y) (terms c) f.1 in
-      let ay = all_parts (ActFits p b.locals) (acts_in y) (acts_in c) a in
-      (
+      let ay = all_parts (ActFits p b.locals) (acts_in y) (acts_in c) a in (
         record {
           kind = some_and (slice_get p.bodies j) b (λ d. IsValidKind p d n (While (root m e) (numbers n1 y))) here
-          (record { uses = one_valid m e (terms y ++ terms c) x f.0; writes = tt; object = tt; call = tt; ending = tt });
+              (record { uses = one_valid m e (terms y ++ terms c) x f.0; writes = tt; object = tt; call = tt; ending = tt });
           inside = All-from_recursion (IsIn p.stmts (Some n) j) (numbers n1 y) (stand_in p.stmts j (Some n) n1 m1 y ys.0);
         },
         each_append (IsValidStmt p) n1 n2 (stmts j (Some n) n1 m1 y) (stmts j q n2 m2 c) (ap (λ k. n1 + k) (length_stmts j (Some n) n1 m1 y))
-        (row_valid (Some n) n1 m1 y ys.0 xy.0 fy.0 ay.0 r.0)
-        (row_valid q n2 m2 c ys.1 xy.1 fy.1 ay.1 r.1),
+            (row_valid (Some n) n1 m1 y ys.0 xy.0 fy.0 ay.0 r.0)
+            (row_valid q n2 m2 c ys.1 xy.1 fy.1 ay.1 r.1),
       )
 
 -- Bodies.
@@ -199,11 +195,10 @@ module _ (p : Program) (scope : Scope) where
       let own : Stands p.stmts n (stmts j None n m c) = subst (λ i. Stands p.stmts n (stmts i None n m c)) is xs.0 in
       let ys = stands_flats p.exprs m (terms c) (flat_map terms cs) y in
       let rest = heads_valid hs (j + 1) n1 m1 (omega (arith, l)) b.1 xs.1 ys.1 r.1 e.1 in
-      let mine : EachFrom (IsValidStmt p) n (stmts j None n m c) = head_stmts h j n m b.0 own ys.0 r.0 in
-      (
+      let mine : EachFrom (IsValidStmt p) n (stmts j None n m c) = head_stmts h j n m b.0 own ys.0 r.0 in (
         (head_valid h j n m b.0 own r.0 e.0, rest.0),
         each_append (IsValidStmt p) n n1 (stmts (as_short j) None n m c) (all_stmts (j + 1) n1 m1 cs) (ap (λ k. n + k) (length_stmts (as_short j) None n m c))
-        (subst (λ i. EachFrom (IsValidStmt p) n (stmts i None n m c)) (sym is) mine) rest.1,
+            (subst (λ i. EachFrom (IsValidStmt p) n (stmts i None n m c)) (sym is) mine) rest.1,
       )
 
 -- the bodies' ranges follow one another

@@ -4,14 +4,13 @@ use Rattle.std.specs.Prelude.{slice_get, slice_index_or, ⊤}
 use Rattle.std.specs.List.{AllByRecursion}
 use Rattle.std.proofs.lemmas.Option.{slice_get_within}
 use Rattle.ppd_ast.specs.declared.program.Expr.{Expr}
-use Rattle.ppd_ast.specs.declared.program.Expr.TheVariants as E
 use Rattle.ppd_ast.specs.Term.{Term, const, local, local_at, shared, shared_at, neg, not, two, and, or, term}
 use Rattle.ppd_ast.specs.Term as T
 use Rattle.ppd_ast.specs.Table.{EachAt, AreChildrenBelow}
 use Rattle.ppd_ast.proofs.Terms.{term-node}
-use Rattle.ppd_check.specs.Table.{weight, weights, root, roots, flat, flats}
+use Rattle.ppd_check.specs.Table.{weight, root, roots, flat, flats}
 use Rattle.ppd_check.proofs.Flat.{length_flat}
-use Rattle.ppd_lawtable.proofs.ValidOrder.{Stands, stands_append}
+use Rattle.ppd_check.proofs.ValidOrder.{Stands, stands_append}
 
 -- What holds of each element and its number.
 

@@ -1,22 +1,22 @@
 -- Each expression of a table is used in one place.
-use Rattle.std.proofs.Common.{◌≡◌, refl, sym, ap, ◌∙◌, ℕ, zero, suc, ◌+◌, ◌<◌, ◌≤◌, cond, nat_eq, arith, List, [], ◌∷◌, ◌++◌, length, Option, Some, None, inl, inr}
+use Rattle.std.proofs.Common.{◌≡◌, refl, sym, ap, ◌∙◌, ℕ, zero, suc, ◌+◌, ◌<◌, ◌≤◌, cond, nat_eq, arith, List, [], ◌∷◌, ◌++◌, Option, Some, None, inl, inr}
 use Rattle.std.specs.List.{count_by, flat_map, range_with_len}
-use Rattle.std.proofs.lemmas.List.{append_assoc, append-nil}
+use Rattle.std.proofs.lemmas.List.{append-nil}
 use Rattle.std.proofs.lemmas.List.Sums.{sum_by-append}
-use Rattle.std.proofs.lemmas.Grind.{flat_map-append, common_steps}
+use Rattle.std.proofs.lemmas.Grind.{flat_map-append}
 use Rattle.std.proofs.lemmas.Bool.{cases_eq}
 use Rattle.std.proofs.lemmas.Bool.Decides.{nat_tests}
 use Rattle.ppd_ast.specs.declared.program.Expr.{Expr}
 use Rattle.ppd_ast.specs.declared.program.Stmt.{Stmt}
 use Rattle.ppd_ast.specs.Term.{Term, const, local, local_at, shared, shared_at, neg, not, two, and, or}
-use Rattle.ppd_ast.specs.Uses.{children, target_uses, kind_uses, stmt_uses}
+use Rattle.ppd_ast.specs.Uses.{children, kind_uses, stmt_uses}
 use Rattle.ppd_check.specs.Code.{Code, Act, Spot, done, act, choice, loop, count}
 use Rattle.ppd_check.specs.Code as C
 use Rattle.ppd_check.specs.Fitted.{as_short}
-use Rattle.ppd_check.specs.Table.{below, weight, weights, root, roots, flat, flats, terms, spot_terms, act_terms, target, kind, stmts}
+use Rattle.ppd_check.specs.Table.{weight, weights, root, roots, flat, flats, terms, act_terms, kind, stmts}
 use Rattle.ppd_check.specs.Sources.{all_stmts}
-use Rattle.ppd_check.proofs.Joined.{weights_append}
-use Rattle.ppd_lawtable.proofs.ValidOrder.{range_join}
+use Rattle.ppd_check.proofs.Writing.{roots_append}
+use Rattle.ppd_check.proofs.ValidOrder.{range_join}
 
 -- Numbers among numbers.
 
@@ -51,12 +51,12 @@ in_range : (e a n : ℕ) → a ≤ e → e < a + n → times e (range_with_len a
 in_range e a zero l h = absurd (omega (arith, l, h))
 in_range e a (suc n) l h =
     elim (cases_eq e a) [
-      inl g ↦
-        let one : times e (a ∷ []) ≡ 1 = (times_one e a).0 g in
-        omega (arith, one, times_cons e a (range_with_len (a + 1) n), before_range e (a + 1) n (omega (arith, g)))
-    | inr g ↦
-        let one : times e (a ∷ []) ≡ 0 = (times_one e a).1 g in
-        omega (arith, one, times_cons e a (range_with_len (a + 1) n), in_range e (a + 1) n (omega (arith, l, g)) (omega (arith, h)))
+      | inl g ↦
+          let one : times e (a ∷ []) ≡ 1 = (times_one e a).0 g in
+          omega (arith, one, times_cons e a (range_with_len (a + 1) n), before_range e (a + 1) n (omega (arith, g)))
+      | inr g ↦
+          let one : times e (a ∷ []) ≡ 0 = (times_one e a).1 g in
+          omega (arith, one, times_cons e a (range_with_len (a + 1) n), in_range e (a + 1) n (omega (arith, l, g)) (omega (arith, h)))
     ]
 
 -- The expressions below a term.
@@ -135,19 +135,13 @@ act_uses m (C.print e) = refl
 act_uses m (C.assert e) = refl
 act_uses m C.finish = refl
 
-roots_join : (m : ℕ) (ts us : List Term) → roots m (ts ++ us) ≡ roots m ts ++ roots (m + weights ts) us
-roots_join m [] us = let f : m ≡ m + 0 = omega arith in ap (λ k. roots k us) f
-roots_join m (t ∷ ts) us =
-    let f : m + weight t + weights ts ≡ m + (weight t + weights ts) = omega arith in
-    ap (λ l. root m t ∷ l) (roots_join (m + weight t) ts us ∙ ap (λ k. roots (m + weight t) ts ++ roots k us) f)
-
 -- the statements of a row use its terms, one after another
 row_uses : (b : ℕ) (q : Option ℕ) (n m : ℕ) (c : Code) → flat_map stmt_uses (stmts b q n m c) ≡ roots m (terms c)
 row_uses b q n m done = refl
 row_uses b q n m (act p a c) =
     ap (λ l. l ++ flat_map stmt_uses (stmts b q (n + 1) (m + weights (act_terms a)) c)) (act_uses m a)
     ∙ ap (λ l. roots m (act_terms a) ++ l) (row_uses b q (n + 1) (m + weights (act_terms a)) c)
-    ∙ sym (roots_join m (act_terms a) (terms c))
+    ∙ sym (roots_append m (act_terms a) (terms c))
 row_uses b q n m (choice p e x y c) =
     let n1 : ℕ = n + 1 in
     let n2 : ℕ = n1 + count x in
@@ -164,8 +158,8 @@ row_uses b q n m (choice p e x y c) =
     ∙ ap (λ l. l ++ (flat_map stmt_uses ys ++ flat_map stmt_uses zs)) (row_uses b (Some n) n1 m1 x)
     ∙ ap (λ l. roots m1 (terms x) ++ (l ++ flat_map stmt_uses zs)) (row_uses b (Some n) n2 m2 y)
     ∙ ap (λ l. roots m1 (terms x) ++ (roots m2 (terms y) ++ l)) (row_uses b q n3 m3 c)
-    ∙ ap (λ l. roots m1 (terms x) ++ l) (sym (roots_join m2 (terms y) (terms c)))
-    ∙ sym (roots_join m1 (terms x) (terms y ++ terms c)))
+    ∙ ap (λ l. roots m1 (terms x) ++ l) (sym (roots_append m2 (terms y) (terms c)))
+    ∙ sym (roots_append m1 (terms x) (terms y ++ terms c)))
 row_uses b q n m (loop p e x c) =
     let n1 : ℕ = n + 1 in
     let n2 : ℕ = n1 + count x in
@@ -177,7 +171,7 @@ row_uses b q n m (loop p e x c) =
     (flat_map-append stmt_uses xs zs
     ∙ ap (λ l. l ++ flat_map stmt_uses zs) (row_uses b (Some n) n1 m1 x)
     ∙ ap (λ l. roots m1 (terms x) ++ l) (row_uses b q n2 m2 c)
-    ∙ sym (roots_join m1 (terms x) (terms c)))
+    ∙ sym (roots_append m1 (terms x) (terms c)))
 
 bodies_uses : (b n m : ℕ) (cs : List Code) → flat_map stmt_uses (all_stmts b n m cs) ≡ roots m (flat_map terms cs)
 bodies_uses b n m [] = refl
@@ -186,7 +180,7 @@ bodies_uses b n m (c ∷ cs) =
     flat_map-append stmt_uses (stmts (as_short b) None n m c) rest
     ∙ ap (λ l. l ++ flat_map stmt_uses rest) (row_uses (as_short b) None n m c)
     ∙ ap (λ l. roots m (terms c) ++ l) (bodies_uses (b + 1) (n + count c) (m + weights (terms c)) cs)
-    ∙ sym (roots_join m (terms c) (flat_map terms cs))
+    ∙ sym (roots_append m (terms c) (flat_map terms cs))
 
 -- each expression of the rows is used once
 pub used_once : (e : ℕ) (cs : List Code) → e < weights (flat_map terms cs)
