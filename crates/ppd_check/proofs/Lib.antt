@@ -29,6 +29,7 @@ pub mod ValidFacts
 pub mod ValidHeaders
 pub mod ValidOrder
 pub mod ValidReturns
+pub mod ValidSizes
 pub mod ValidTerms
 pub mod ValidUses
 pub mod Walking
