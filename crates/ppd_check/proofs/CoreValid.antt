@@ -1,13 +1,12 @@
--- The table of an accepted source is a valid program, where its names and limits are as they must be.
-use Rattle.std.proofs.Common.{◌≡◌, refl, ◌∙◌, subst, ℕ, ◌+◌, ◌<◌, ◌≤◌, nat_lt, nat_le, Bool, true, false, arith, List, [], ◌∷◌, ◌++◌, length, IsTrue}
-use Rattle.std.specs.List.{All, AllByRecursion, flat_map}
+-- The table of an accepted source that is not too large is a valid program, by what its names give.
+use Rattle.std.proofs.Common.{◌≡◌, ◌∙◌, subst, ℕ, ◌+◌, ◌<◌, ◌≤◌, nat_lt, nat_le, Bool, true, false, arith, List, [], ◌∷◌, ◌++◌, length, IsTrue}
+use Rattle.std.specs.List.{AllByRecursion, flat_map}
 use Rattle.std.proofs.lemmas.List.Elements.{recursion_from_All}
 use Rattle.std.proofs.lemmas.Bool.Decides.{nat_tests}
 use Rattle.ppd_ast.specs.declared.limits.TheConstants.{MOST_FUNCTIONS}
 use Rattle.ppd_ast.specs.declared.program.Program.{Program}
-use Rattle.ppd_ast.specs.Cells.{CoverCells}
 use Rattle.ppd_ast.specs.Table.{AreChildrenBelow}
-use Rattle.ppd_ast.specs.Valid.{Follow, AreWithinLimits, IsValid, IsValidBody, IsValidStmt}
+use Rattle.ppd_ast.specs.Valid.{Follow, IsValid, IsValidBody, IsValidStmt}
 use Rattle.ppd_parse.specs.Grammar.{Shape}
 use Rattle.ppd_check.specs.declared.fault.Fault.{Fault}
 use Rattle.ppd_check.specs.declared.fault.Cause.TheVariants.{NoProcess}
@@ -15,50 +14,22 @@ use Rattle.ppd_check.specs.Faults.{unless}
 use Rattle.ppd_check.specs.Fitted.{as_short}
 use Rattle.ppd_check.specs.Names.{Scope}
 use Rattle.ppd_check.specs.Code.{Code, places}
-use Rattle.ppd_check.specs.Syntax.{Item, shared, shared_array, semaphore, channel, function, process}
-use Rattle.ppd_check.specs.Reading.{source_of, said, as_items}
+use Rattle.ppd_check.specs.Reading.{source_of}
 use Rattle.ppd_check.specs.Table.{terms}
 use Rattle.ppd_check.specs.Statements.{row_faults}
-use Rattle.ppd_check.specs.Sources.{Head, Globals, no_globals, with_item, with_items, globals, items_faults, count_faults, head_faults, params_faults, return_faults, past_statements, heads, codes, bodies, all_stmts, outer, entry, core, Accepted}
+use Rattle.ppd_check.specs.Sources.{Head, Globals, no_globals, globals, items_faults, count_faults, head_faults, params_faults, return_faults, past_statements, heads, codes, bodies, all_stmts, outer, entry, core, Accepted}
+use Rattle.ppd_check.specs.Sizes.{SourceFits}
 use Rattle.ppd_check.proofs.Writing.{length_flats}
-use Rattle.ppd_check.proofs.ValidFacts.{HeadFacts}
-use Rattle.ppd_check.proofs.ValidHeaders.{HeadersPass, ItemPasses, tree_passes}
+use Rattle.ppd_check.proofs.ValidFacts.{HeadNames, SourceNames}
+use Rattle.ppd_check.proofs.ValidItems.{IsFunction, IsProcess, AreSorted, tree_sorted, AreFit, source_fit, within_limits}
+use Rattle.ppd_check.proofs.ValidSizes.{HeadFits, head_sized, all_join}
 use Rattle.ppd_check.proofs.ValidOrder.{stands_all}
 use Rattle.ppd_check.proofs.ValidTerms.{EachFrom, each_append, each_at, all_children_below}
 use Rattle.ppd_check.proofs.ValidUses.{used_once}
 use Rattle.ppd_check.proofs.ValidReturns.{nil_parts}
 use Rattle.ppd_check.proofs.ValidBodies.{all_parts, IsRightHead, heads_valid, follow, length_bodies}
 
--- What the items declare: functions and processes.
-
-abbrev IsFunction : Head → Type 0
-IsFunction h = (h.process ≡ false) × HeadersPass h.block.row
-
-abbrev IsProcess : Head → Type 0
-IsProcess h = (h.process ≡ true) × (h.params ≡ []) × (h.gives ≡ false) × HeadersPass h.block.row
-
-record AreSorted (g : Globals) : Type 0 where
-  functions : AllByRecursion IsFunction g.functions
-  processes : AllByRecursion IsProcess g.processes
-
-all_push : {X : Type 0} (P : X → Type 0) (xs : List X) (x : X) → AllByRecursion P xs → P x → AllByRecursion P (xs ++ x ∷ [])
-all_push P [] x h i = (i, tt)
-all_push P (y ∷ xs) x h i = (h.0, all_push P xs x h.1 i)
-
-item_sorted : (i : Item) (g : Globals) → ItemPasses i → AreSorted g → AreSorted (with_item i g)
-item_sorted (shared x v) g h s = record { functions = s.functions; processes = s.processes }
-item_sorted (shared_array x n) g h s = record { functions = s.functions; processes = s.processes }
-item_sorted (semaphore x n) g h s = record { functions = s.functions; processes = s.processes }
-item_sorted (channel x n) g h s = record { functions = s.functions; processes = s.processes }
-item_sorted (function gives x params b) g h s = record { functions = all_push IsFunction g.functions _ s.functions (refl, h); processes = s.processes }
-item_sorted (process x b) g h s = record { functions = s.functions; processes = all_push IsProcess g.processes _ s.processes (refl, refl, refl, h) }
-
-items_sorted : (is : List Item) (g : Globals) → AllByRecursion ItemPasses is → AreSorted g → AreSorted (with_items is g)
-items_sorted [] g h s = s
-items_sorted (i ∷ is) g h s = items_sorted is (with_item i g) h.1 (item_sorted i g h.0 s)
-
-tree_sorted : (t : Shape) → AreSorted (globals (source_of t))
-tree_sorted t = items_sorted (as_items (said t)) no_globals (tree_passes t) (record { functions = tt; processes = tt })
+-- Functions and processes.
 
 -- the functions come first
 functions_first : (n j : ℕ) (hs : List Head) → j + length hs ≤ n → AllByRecursion IsFunction hs → EachFrom (λ i h. h.process ≡ nat_le n i) j hs
@@ -106,59 +77,51 @@ not_process : (b : Bool) → b ≡ false → IsTrue b → ⊥
 not_process true e t = cc
 not_process false e t = cc
 
-functions_right : (p : Program) (scope : Scope) (hs : List Head) → AllByRecursion IsFunction hs → AllByRecursion (λ h. head_faults scope h ≡ []) hs → AllByRecursion (HeadFacts p scope) hs
+functions_right : (p : Program) (scope : Scope) (hs : List Head) → AllByRecursion IsFunction hs → AllByRecursion (λ h. head_faults scope h ≡ []) hs → AllByRecursion (HeadNames p scope) hs → AllByRecursion HeadFits hs
     → AllByRecursion (IsRightHead p scope) hs
-functions_right p scope [] h e f = tt
-functions_right p scope (x ∷ hs) h e f =
-    (record { passes = h.0.1; returns = head_returns scope x e.0; plain = λ t. absurd (not_process x.process h.0.0 t); facts = f.0 }, functions_right p scope hs h.1 e.1 f.1)
+functions_right p scope [] h e f s = tt
+functions_right p scope (x ∷ hs) h e f s =
+    (record { passes = h.0.1; returns = head_returns scope x e.0; plain = λ t. absurd (not_process x.process h.0.0 t); names = f.0; sizes = head_sized scope x s.0 }, functions_right p scope hs h.1 e.1 f.1 s.1)
 
-processes_right : (p : Program) (scope : Scope) (hs : List Head) → AllByRecursion IsProcess hs → AllByRecursion (λ h. head_faults scope h ≡ []) hs → AllByRecursion (HeadFacts p scope) hs
+processes_right : (p : Program) (scope : Scope) (hs : List Head) → AllByRecursion IsProcess hs → AllByRecursion (λ h. head_faults scope h ≡ []) hs → AllByRecursion (HeadNames p scope) hs → AllByRecursion HeadFits hs
     → AllByRecursion (IsRightHead p scope) hs
-processes_right p scope [] h e f = tt
-processes_right p scope (x ∷ hs) h e f =
-    (record { passes = h.0.3; returns = head_returns scope x e.0; plain = λ t. (h.0.1, h.0.2); facts = f.0 }, processes_right p scope hs h.1 e.1 f.1)
+processes_right p scope [] h e f s = tt
+processes_right p scope (x ∷ hs) h e f s =
+    (record { passes = h.0.3; returns = head_returns scope x e.0; plain = λ t. (h.0.1, h.0.2); names = f.0; sizes = head_sized scope x s.0 }, processes_right p scope hs h.1 e.1 f.1 s.1)
 
-all_join : {X : Type 0} (P : X → Type 0) (xs ys : List X) → AllByRecursion P xs → AllByRecursion P ys → AllByRecursion P (xs ++ ys)
-all_join P [] ys h i = i
-all_join P (x ∷ xs) ys h i = (h.0, all_join P xs ys h.1 i)
-
-heads_right : (p : Program) (scope : Scope) (g : Globals) → AreSorted g → AllByRecursion (λ h. head_faults scope h ≡ []) (heads g) → AllByRecursion (HeadFacts p scope) (heads g)
+heads_right : (p : Program) (scope : Scope) (g : Globals) → AreSorted g → AreFit g → AllByRecursion (λ h. head_faults scope h ≡ []) (heads g) → AllByRecursion (HeadNames p scope) (heads g)
     → AllByRecursion (IsRightHead p scope) (heads g)
-heads_right p scope g s e f =
+heads_right p scope g s f e n =
     let es = all_parts (λ h. head_faults scope h ≡ []) g.functions g.processes e in
-    let fs = all_parts (HeadFacts p scope) g.functions g.processes f in
-    all_join (IsRightHead p scope) g.functions g.processes (functions_right p scope g.functions s.functions es.0 fs.0) (processes_right p scope g.processes s.processes es.1 fs.1)
+    let ns = all_parts (HeadNames p scope) g.functions g.processes n in
+    all_join (IsRightHead p scope) g.functions g.processes (functions_right p scope g.functions s.functions es.0 ns.0 f.functions) (processes_right p scope g.processes s.processes es.1 ns.1 f.processes)
 
 -- The whole table.
 
 small : (n : ℕ) → as_short n ≤ MOST_FUNCTIONS → n ≡ as_short n
 small n h = omega (arith, h)
 
--- the premises on names and limits: of the whole program, and of each function and process
-pub record SourceFacts (t : Shape) : Type 0 where
-  pub limits : AreWithinLimits (core t)
-  pub cells : CoverCells (core t).shared (length (core t).starts)
-  pub heads : All (HeadFacts (core t) (globals (source_of t)).scope) (heads (globals (source_of t)))
-
-pub core_valid : (t : Shape) → Accepted t → SourceFacts t → IsValid (core t)
-core_valid t a f =
+-- the law, from what names and sizes give
+pub core_valid : (t : Shape) → Accepted t → SourceNames t → SourceFits (source_of t) → IsValid (core t)
+core_valid t a n fits =
     let p : Program = core t in
     let g : Globals = globals (source_of t) in
     let hs : List Head = heads g in
     let cs : List Code = codes g in
-    let few : length g.functions ≡ p.functions = small (length g.functions) f.limits.functions in
+    let fit : AreFit g = source_fit (source_of t) fits in
+    let few : length g.functions ≡ p.functions = small (length g.functions) n.counted.functions in
     let many : length p.bodies ≡ length hs = length_bodies g.scope 0 hs in
-    let fit : 0 + length hs < 65536 = omega (arith, many, f.limits.processes, f.limits.functions) in
+    let short : 0 + length hs < 65536 = omega (arith, many, n.counted.processes, n.counted.functions) in
     let valid : EachFrom (IsValidBody p) 0 (bodies g.scope 0 hs) × EachFrom (IsValidStmt p) 0 (all_stmts 0 0 0 cs) =
-    heads_valid p g.scope hs 0 0 0 fit (stands_all p.bodies) (stands_all p.stmts) (stands_all p.exprs)
-    (heads_right p g.scope g (tree_sorted t) (heads_unbroken t a) (recursion_from_All (HeadFacts p g.scope) hs f.heads))
+    heads_valid p g.scope hs 0 0 0 short (stands_all p.bodies) (stands_all p.stmts) (stands_all p.exprs)
+    (heads_right p g.scope g (tree_sorted t) fit (heads_unbroken t a) (recursion_from_All (HeadNames p g.scope) hs n.heads))
     (heads_placed g p.functions (tree_sorted t) few) in
     let all : 0 + length p.stmts ≡ length p.stmts = omega arith in
     record {
-      limits = f.limits;
+      limits = within_limits t n.counted fit;
       children = each_at AreChildrenBelow p.exprs (all_children_below 0 (flat_map terms cs));
       once = λ e h. used_once e cs (subst (λ n. e < n) (length_flats 0 (flat_map terms cs)) h);
-      cells = f.cells;
+      cells = n.cells;
       ranges = subst (Follow 0 p.bodies) all (follow g.scope hs 0 0 0);
       bodies = each_at (IsValidBody p) p.bodies valid.0;
       stmts = each_at (IsValidStmt p) p.stmts valid.1;

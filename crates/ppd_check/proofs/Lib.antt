@@ -27,6 +27,7 @@ pub mod Trees
 pub mod ValidBodies
 pub mod ValidFacts
 pub mod ValidHeaders
+pub mod ValidItems
 pub mod ValidOrder
 pub mod ValidReturns
 pub mod ValidSizes

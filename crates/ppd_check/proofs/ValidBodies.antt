@@ -1,10 +1,9 @@
 -- The statements and bodies of the table are valid, where their terms and statements are before they are numbered.
-use Rattle.std.proofs.Common.{◌≡◌, refl, sym, ap, subst, ℕ, suc, ◌+◌, ◌<◌, ◌≤◌, nat_le, false, arith, List, [], ◌∷◌, ◌++◌, map, length, Option, Some, None, IsTrue}
+use Rattle.std.proofs.Common.{◌≡◌, refl, sym, ap, subst, ℕ, suc, ◌+◌, ◌<◌, nat_le, false, arith, List, [], ◌∷◌, ◌++◌, map, length, Option, Some, None, IsTrue}
 use Rattle.std.specs.Prelude.{slice_get}
 use Rattle.std.specs.List.{All, AllByRecursion, flat_map}
 use Rattle.std.proofs.lemmas.List.{length-append}
 use Rattle.std.proofs.lemmas.List.Elements.{All-from_recursion, recursion_from_All, All-append, All-nil}
-use Rattle.ppd_ast.specs.declared.limits.TheConstants.{MOST_OPERATORS, MOST_EXPRESSION_DEPTH}
 use Rattle.ppd_ast.specs.declared.program.Expr.{Expr}
 use Rattle.ppd_ast.specs.declared.program.Var.{Var}
 use Rattle.ppd_ast.specs.declared.program.Kind.TheVariants.{If, While}
@@ -12,7 +11,7 @@ use Rattle.ppd_ast.specs.declared.program.Body.{Body}
 use Rattle.ppd_ast.specs.declared.program.Program.{Program}
 use Rattle.ppd_ast.specs.Term.{Term, term}
 use Rattle.ppd_ast.specs.Order.{StandIn}
-use Rattle.ppd_ast.specs.Uses.{kind_uses, operators_of, depth_of}
+use Rattle.ppd_ast.specs.Uses.{kind_uses}
 use Rattle.ppd_ast.specs.Cells.{NamesWhole, WritesWhole}
 use Rattle.ppd_ast.specs.Valid.{Follow, HasObject, CallsRightly, IsValidUse, IsValidKind, IsValidStmt, IsValidBody}
 use Rattle.ppd_check.specs.Fitted.{as_short}
@@ -22,7 +21,7 @@ use Rattle.ppd_check.specs.Table.{weight, weights, root, roots, flats, terms, ac
 use Rattle.ppd_check.specs.Sources.{Head, head_code, head_frame, return_faults, vars, body, bodies, all_stmts}
 use Rattle.ppd_check.proofs.Joined.{flats_append}
 use Rattle.ppd_check.proofs.Writing.{length_flats, length_stmts}
-use Rattle.ppd_check.proofs.ValidFacts.{acts_in, CodeFacts, HeadFacts}
+use Rattle.ppd_check.proofs.ValidFacts.{TermSmall, acts_in, CodeNames, HeadNames, CodeSizes, HeadSizes}
 use Rattle.ppd_check.proofs.ValidHeaders.{HeadersPass}
 use Rattle.ppd_check.proofs.ValidOrder.{Stands, stands_append, stands_stmts, some_and, IsIn, stand_in, no_inner, body_in_order}
 use Rattle.ppd_check.proofs.ValidTerms.{EachFrom, each_append, stands_flat, each_root}
@@ -32,6 +31,10 @@ use Rattle.ppd_check.proofs.ValidReturns.{EndsRight, head_ends, body_right, body
 pub all_parts : {X : Type 0} (P : X → Type 0) (xs ys : List X) → AllByRecursion P (xs ++ ys) → AllByRecursion P xs × AllByRecursion P ys
 all_parts P [] ys h = (tt, h)
 all_parts P (x ∷ xs) ys h = let p : AllByRecursion P xs × AllByRecursion P ys = all_parts P xs ys h.1 in ((h.0, p.0), p.1)
+
+all_two : {X : Type 0} (P Q : X → Type 0) (xs : List X) → AllByRecursion P xs → AllByRecursion Q xs → AllByRecursion (λ x. P x × Q x) xs
+all_two P Q [] h i = tt
+all_two P Q (x ∷ xs) h i = ((h.0, i.0), all_two P Q xs h.1 i.1)
 
 all_three : {X : Type 0} (P Q R : X → Type 0) (xs : List X) → AllByRecursion P xs → AllByRecursion Q xs → AllByRecursion R xs → AllByRecursion (λ x. P x × Q x × R x) xs
 all_three P Q R [] h i j = tt
@@ -45,17 +48,15 @@ stands_flats all m ts us h =
 -- Rows.
 
 abbrev TermFits : Program → List Var → Term → Type 0
-TermFits p locals t = (depth_of t ≤ MOST_EXPRESSION_DEPTH) × (operators_of t ≤ MOST_OPERATORS) × NamesWhole p.shared locals t
+TermFits p locals t = TermSmall t × NamesWhole p.shared locals t
 
 abbrev ActFits : Program → List Var → Act → Type 0
 ActFits p locals a = ((m : ℕ) → WritesWhole p.shared locals (kind m a)) × ((m : ℕ) → HasObject p (kind m a)) × ((m : ℕ) → CallsRightly p (kind m a))
 
-terms_fit : (p : Program) (locals : List Var) (c : Code) → CodeFacts p locals c → AllByRecursion (TermFits p locals) (terms c)
-terms_fit p locals c h =
-    all_three _ _ _ (terms c) (recursion_from_All (λ t. depth_of t ≤ MOST_EXPRESSION_DEPTH) (terms c) h.depth)
-    (recursion_from_All (λ t. operators_of t ≤ MOST_OPERATORS) (terms c) h.operators) (recursion_from_All (NamesWhole p.shared locals) (terms c) h.names)
+terms_fit : (p : Program) (locals : List Var) (c : Code) → CodeSizes c → CodeNames p locals c → AllByRecursion (TermFits p locals) (terms c)
+terms_fit p locals c s h = all_two TermSmall (NamesWhole p.shared locals) (terms c) s.terms (recursion_from_All (NamesWhole p.shared locals) (terms c) h.names)
 
-acts_fit : (p : Program) (locals : List Var) (c : Code) → CodeFacts p locals c → AllByRecursion (ActFits p locals) (acts_in c)
+acts_fit : (p : Program) (locals : List Var) (c : Code) → CodeNames p locals c → AllByRecursion (ActFits p locals) (acts_in c)
 acts_fit p locals c h =
     all_three _ _ _ (acts_in c) (recursion_from_All (λ a. (m : ℕ) → WritesWhole p.shared locals (kind m a)) (acts_in c) h.writes)
     (recursion_from_All (λ a. (m : ℕ) → HasObject p (kind m a)) (acts_in c) h.objects) (recursion_from_All (λ a. (m : ℕ) → CallsRightly p (kind m a)) (acts_in c) h.calls)
@@ -67,7 +68,7 @@ module _ (p : Program) (j : ℕ) (b : Body) (here : slice_get p.bodies j ≡ Som
   uses_valid : (is : List ℕ) → AllByRecursion TreeFits is → AllByRecursion (IsValidUse p b) is
   uses_valid [] h = tt
   uses_valid (i ∷ is) h =
-      (record { there = h.0.0; depth = h.0.1.0; operators = h.0.1.1; names = h.0.1.2 }, uses_valid is h.1)
+      (record { there = h.0.0; depth = h.0.1.0.0; operators = h.0.1.0.1; names = h.0.1.1 }, uses_valid is h.1)
 
   -- the uses of a statement whose terms these are
   kind_valid : (m : ℕ) (ts : List Term) (is : List ℕ) → is ≡ roots m ts → Stands p.exprs m (flats m ts) → AllByRecursion (TermFits p b.locals) ts → All (IsValidUse p b) is
@@ -153,7 +154,8 @@ pub record IsRightHead (p : Program) (scope : Scope) (h : Head) : Type 0 where
   pub passes : HeadersPass h.block.row
   pub returns : return_faults h ≡ []
   pub plain : IsTrue h.process → (h.params ≡ []) × (h.gives ≡ false)
-  pub facts : HeadFacts p scope h
+  pub names : HeadNames p scope h
+  pub sizes : HeadSizes scope h
 
 short : (j : ℕ) → j < 65536 → as_short j ≡ j
 short j h = omega (arith, h)
@@ -164,12 +166,12 @@ module _ (p : Program) (scope : Scope) where
   head_valid h j n m here x r e = record {
     process = e;
     plain = λ t. (ap (λ l. as_short (length l)) (r.plain t).0, (r.plain t).1);
-    name = r.facts.name;
-    names = r.facts.names;
-    frame = r.facts.frame;
-    cells = r.facts.cells;
-    params = r.facts.params;
-    order = body_in_order p.stmts j None n m _ (head_code scope h) r.facts.code.nested x;
+    name = r.sizes.name;
+    names = r.sizes.names;
+    frame = r.names.frame;
+    cells = r.names.cells;
+    params = r.names.params;
+    order = body_in_order p.stmts j None n m _ (head_code scope h) r.sizes.code.nested x;
     top = All-from_recursion (IsIn p.stmts None j) (numbers n (head_code scope h)) (stand_in p.stmts j None n m (head_code scope h) x);
     ending = body_ending p.stmts j n m None h.process h.gives (head_code scope h) x (head_ends scope h r.passes r.returns);
   }
@@ -179,7 +181,7 @@ module _ (p : Program) (scope : Scope) where
   head_stmts h j n m here x y r =
       let c : Code = head_code scope h in
       let locals : List Var = vars 0 (head_frame scope h).variables in
-      row_valid p j (body scope n h) here None n m c x y (terms_fit p locals c r.facts.code) (acts_fit p locals c r.facts.code) (body_right (body scope n h) n c refl (head_ends scope h r.passes r.returns))
+      row_valid p j (body scope n h) here None n m c x y (terms_fit p locals c r.sizes.code r.names.code) (acts_fit p locals c r.names.code) (body_right (body scope n h) n c refl (head_ends scope h r.passes r.returns))
 
   pub heads_valid : (hs : List Head) (j n m : ℕ) → j + length hs < 65536 → Stands p.bodies j (bodies scope n hs) → Stands p.stmts n (all_stmts j n m (map (head_code scope) hs))
       → Stands p.exprs m (flats m (flat_map terms (map (head_code scope) hs))) → AllByRecursion (IsRightHead p scope) hs → EachFrom (λ i h. h.process ≡ nat_le p.functions i) j hs

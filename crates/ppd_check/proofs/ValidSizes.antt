@@ -1,11 +1,11 @@
--- How large the names, expressions and rows of a source are, and that its core statements are no larger.
-use Rattle.std.proofs.Common.{◌≡◌, refl, sym, ap, ◌∙◌, subst, ℕ, zero, suc, ◌+◌, ◌-◌, ◌<◌, ◌≤◌, ◌^◌, min, max, Bool, true, false, if◌then◌else◌, arith, List, [], ◌∷◌, ◌++◌, map, length, Option, Some, None}
-use Rattle.std.specs.Prelude.{decimal, ⊤}
+-- The core statements of a source are no larger than it.
+use Rattle.std.proofs.Common.{◌≡◌, refl, sym, ap, ◌∙◌, subst, ℕ, suc, ◌+◌, ◌<◌, ◌≤◌, ◌^◌, max, Bool, true, false, if◌then◌else◌, arith, List, [], ◌∷◌, ◌++◌, map, length, Option, Some, None}
+use Rattle.std.specs.Prelude.{decimal}
 use Rattle.std.specs.List.{AllByRecursion}
 use Rattle.std.proofs.lemmas.Fmt.{length-decimal-le}
-use Rattle.ppd_ast.specs.declared.limits.TheConstants.{MOST_NESTING, MOST_OPERATORS, MOST_EXPRESSION_DEPTH}
+use Rattle.std.proofs.lemmas.List.Elements.{All-from_recursion}
+use Rattle.ppd_ast.specs.declared.limits.TheConstants.{MOST_NESTING}
 use Rattle.ppd_ast.specs.declared.program.Place.{Place}
-use Rattle.ppd_ast.specs.declared.program.Var.{Var}
 use Rattle.ppd_ast.specs.Term.{Term}
 use Rattle.ppd_ast.specs.Term as T
 use Rattle.ppd_ast.specs.Uses.{operators_of, depth_of}
@@ -22,93 +22,11 @@ use Rattle.ppd_check.specs.Reading.{goal_formula}
 use Rattle.ppd_check.specs.Syntax.{Name, Formula, number, variable, element, negated, inverted, two, both, either, Goal, scalar, item, Value, plain, result, received, Simple, Row}
 use Rattle.ppd_check.specs.Syntax as S
 use Rattle.ppd_check.specs.Table.{spot_terms, act_terms, terms}
-use Rattle.ppd_check.specs.Statements.{spot, spot_of, put, store_acts, return_acts, acts_of, code_of, code_of_any, row_code, declared, with_hidden, hidden_name, hidden_if, via_hidden, return_via_hidden, goal_name, opened, closed, after, after_any, after_row, after_cells, place_of}
+use Rattle.ppd_check.specs.Statements.{spot, spot_of, put, store_acts, return_acts, acts_of, code_of, code_of_any, row_code, declared, hidden_name, hidden_if, via_hidden, return_via_hidden, goal_name, opened, closed, after, after_any, after_row, after_cells, place_of}
 use Rattle.ppd_check.specs.Sources.{Head, close_code, head_code, head_frame, outer, entry, with_params, ends_with_return, vars}
+use Rattle.ppd_check.specs.Sizes.{operators_in, depth_in, IsSmall, AreSmall, IsShort, GoalFits, ValueFits, ValueFitsIfAny, SimpleFits, SimpleFitsIfAny, RowFits, nested}
 use Rattle.ppd_check.proofs.Joined.{terms_join}
-use Rattle.ppd_check.proofs.ValidFacts.{nesting}
-
--- Expressions.
-
--- the operators of an expression, those in an index too
-abbrev pub operators_in : Formula → ℕ
-operators_in (number n) = 0
-operators_in (variable x) = 0
-operators_in (element x i) = operators_in i
-operators_in (negated e) = 1 + operators_in e
-operators_in (inverted e) = 1 + operators_in e
-operators_in (two op a b) = 1 + operators_in a + operators_in b
-operators_in (both a b) = 1 + operators_in a + operators_in b
-operators_in (either a b) = 1 + operators_in a + operators_in b
-
--- how deep its parts stand in one another, itself at 1
-abbrev pub depth_in : Formula → ℕ
-depth_in (number n) = 1
-depth_in (variable x) = 1
-depth_in (element x i) = 1 + depth_in i
-depth_in (negated e) = 1 + depth_in e
-depth_in (inverted e) = 1 + depth_in e
-depth_in (two op a b) = 1 + max (depth_in a) (depth_in b)
-depth_in (both a b) = 1 + max (depth_in a) (depth_in b)
-depth_in (either a b) = 1 + max (depth_in a) (depth_in b)
-
--- an expression of at most 256 operators, not too deep
-abbrev pub IsSmall : Formula → Type 0
-IsSmall f = (operators_in f ≤ 256) × (depth_in f ≤ 512)
-
-abbrev pub AreSmall : List Formula → Type 0
-AreSmall fs = AllByRecursion IsSmall fs
-
--- Statements: each of their expressions is small, and each name that they declare is short.
-
-abbrev pub IsShort : Name → Type 0
-IsShort x = IsName x.text
-
-abbrev pub GoalFits : Goal → Type 0
-GoalFits (scalar x) = ⊤
-GoalFits (item x i) = IsSmall i
-
-abbrev pub ValueFits : Value → Type 0
-ValueFits (plain e) = IsSmall e
-ValueFits (result f args) = AreSmall args
-ValueFits (received x) = ⊤
-
-abbrev pub ValueFitsIfAny : Option Value → Type 0
-ValueFitsIfAny None = ⊤
-ValueFitsIfAny (Some v) = ValueFits v
-
-abbrev pub SimpleFits : Simple → Type 0
-SimpleFits (S.fresh x v) = IsShort x × ValueFits v
-SimpleFits (S.array x n) = IsShort x
-SimpleFits (S.store g v) = GoalFits g × ValueFits v
-SimpleFits (S.change g op e) = GoalFits g × IsSmall e
-SimpleFits (S.call f args) = AreSmall args
-SimpleFits (S.give_back p v) = ValueFitsIfAny v
-SimpleFits (S.take p x) = ⊤
-SimpleFits (S.give p x) = ⊤
-SimpleFits (S.send p x e) = IsSmall e
-SimpleFits (S.print p e) = IsSmall e
-SimpleFits (S.assert p e) = IsSmall e
-
-abbrev pub SimpleFitsIfAny : Option Simple → Type 0
-SimpleFitsIfAny None = ⊤
-SimpleFitsIfAny (Some s) = SimpleFits s
-
-abbrev pub RowFits : Row → Type 0
-RowFits S.stop = ⊤
-RowFits (S.simple s r) = SimpleFits s × RowFits r
-RowFits (S.block b r) = RowFits b × RowFits r
-RowFits (S.choice p e a b r) = IsSmall e × RowFits a × RowFits b × RowFits r
-RowFits (S.repeat p e b r) = IsSmall e × RowFits b × RowFits r
-RowFits (S.count p start e step b r) = SimpleFitsIfAny start × IsSmall e × SimpleFitsIfAny step × RowFits b × RowFits r
-
--- how deep statements stand in one another, those of the row itself at 1; a block is none
-abbrev pub nested : Row → ℕ
-nested S.stop = 0
-nested (S.simple s r) = max 1 (nested r)
-nested (S.block b r) = max (nested b) (nested r)
-nested (S.choice p e a b r) = max (suc (max (nested a) (nested b))) (nested r)
-nested (S.repeat p e b r) = max (suc (nested b)) (nested r)
-nested (S.count p start e step b r) = max (suc (max 1 (nested b))) (nested r)
+use Rattle.ppd_check.proofs.ValidFacts.{TermSmall, nesting, HeadSizes}
 
 -- The terms of expressions are as large.
 
@@ -152,10 +70,6 @@ depth_term s (two op a b) = ap (λ n. 1 + max n (depth_of (term_of s b))) (depth
 depth_term s (both a b) = ap (λ n. 1 + max n (depth_of (term_of s b))) (depth_term s a) ∙ ap (λ n. 1 + max (depth_in a) n) (depth_term s b)
 depth_term s (either a b) = ap (λ n. 1 + max n (depth_of (term_of s b))) (depth_term s a) ∙ ap (λ n. 1 + max (depth_in a) n) (depth_term s b)
 
--- a term within the limits of an expression of the table
-abbrev pub TermSmall : Term → Type 0
-TermSmall t = (depth_of t ≤ MOST_EXPRESSION_DEPTH) × (operators_of t ≤ MOST_OPERATORS)
-
 abbrev TermsSmall : List Term → Type 0
 TermsSmall ts = AllByRecursion TermSmall ts
 
@@ -171,7 +85,7 @@ terms_small s (f ∷ fs) h = (term_small s f h.0, terms_small s fs h.1)
 
 -- The terms of statements.
 
-all_join : {X : Type 0} (P : X → Type 0) (xs ys : List X) → AllByRecursion P xs → AllByRecursion P ys → AllByRecursion P (xs ++ ys)
+pub all_join : {X : Type 0} (P : X → Type 0) (xs ys : List X) → AllByRecursion P xs → AllByRecursion P ys → AllByRecursion P (xs ++ ys)
 all_join P [] ys h i = i
 all_join P (x ∷ xs) ys h i = (h.0, all_join P xs ys h.1 i)
 
@@ -219,8 +133,7 @@ goal_size (item x i) h = (h.0, omega (arith, h.1))
 
 changed_small : (s : List Scope) (g : Goal) (op : _) (e : Formula) → GoalFits g → IsSmall e → TermSmall (T.two op (term_of s (goal_formula g)) (term_of s e))
 changed_small s g op e h i =
-    let k = goal_size g h in
-    (
+    let k = goal_size g h in (
       omega (arith, depth_term s (goal_formula g), depth_term s e, k.1, i.1),
       omega (arith, operators_term s (goal_formula g), operators_term s e, k.0, i.0),
     )
@@ -256,25 +169,27 @@ row_small (S.simple s r) f h =
     joined_small (code_of s f) (row_code r (after s f)) (listed_small (place_of s) (acts_of s f) (acts_small s f h.0)) (row_small r (after s f) h.1)
 row_small (S.block b r) f h =
     joined_small (row_code b (opened f)) (row_code r (closed f (after_row b (opened f)))) (row_small b (opened f) h.0) (row_small r (closed f (after_row b (opened f))) h.1)
-row_small (S.choice p e a b r) f h =
-    (term_small f.scopes e h.0,
-    all_join TermSmall (terms (row_code a f)) _ (row_small a f h.1)
-    (all_join TermSmall (terms (row_code b (after_row a f))) (terms (row_code r (after_row b (after_row a f)))) (row_small b (after_row a f) h.2) (row_small r (after_row b (after_row a f)) h.3)))
+row_small (S.choice p e a b r) f h = (
+  term_small f.scopes e h.0,
+  all_join TermSmall (terms (row_code a f)) _ (row_small a f h.1)
+      (all_join TermSmall (terms (row_code b (after_row a f))) (terms (row_code r (after_row b (after_row a f)))) (row_small b (after_row a f) h.2) (row_small r (after_row b (after_row a f)) h.3)),
+)
 row_small (S.repeat p e b r) f h =
     (term_small f.scopes e h.0, all_join TermSmall (terms (row_code b f)) (terms (row_code r (after_row b f))) (row_small b f h.1) (row_small r (after_row b f) h.2))
 row_small (S.count p start e step b r) f h =
     let g : Frame = after_any start (opened f) in
     let turn : Code = join (row_code b g) (code_of_any step (after_row b g)) in
     let rest : Code = row_code r (closed f (after_row b g)) in
-    joined_small (code_of_any start (opened f)) (loop p (term_of g.scopes e) turn rest) (any_small start (opened f) h.0)
-    (term_small g.scopes e h.1,
-    all_join TermSmall (terms turn) (terms rest) (joined_small (row_code b g) (code_of_any step (after_row b g)) (row_small b g h.3) (any_small step (after_row b g) h.2)) (row_small r (closed f (after_row b g)) h.4))
+    joined_small (code_of_any start (opened f)) (loop p (term_of g.scopes e) turn rest) (any_small start (opened f) h.0) (
+      term_small g.scopes e h.1,
+      all_join TermSmall (terms turn) (terms rest) (joined_small (row_code b g) (code_of_any step (after_row b g)) (row_small b g h.3) (any_small step (after_row b g) h.2)) (row_small r (closed f (after_row b g)) h.4),
+    )
 
 either_code : (P : Code → Type 0) (b : Bool) (c d : Code) → P c → P d → P (if b then c else d)
 either_code P true c d h i = h
 either_code P false c d h i = i
 
-pub head_small : (scope : Scope) (h : Head) → RowFits h.block.row → AllByRecursion TermSmall (terms (head_code scope h))
+head_small : (scope : Scope) (h : Head) → RowFits h.block.row → AllByRecursion TermSmall (terms (head_code scope h))
 head_small scope h r =
     joined_small (row_code h.block.row (entry scope h)) (close_code h) (row_small h.block.row (entry scope h) r)
     (either_code (λ c. TermsSmall (terms c)) h.process (act h.block.close C.finish done) (if ends_with_return h.block.row then done else act h.block.close (C.give_back None) done) tt
@@ -321,7 +236,7 @@ nesting_row (S.count p start e step b r) f =
     let k : ℕ = max (suc (max 1 (nested b))) (nested r) in
     nesting_join (code_of_any start (opened f)) (loop p (term_of g.scopes e) turn rest) k (omega (arith, nesting_any start (opened f))) (omega (arith, y, z))
 
-pub head_nesting : (scope : Scope) (h : Head) → nested h.block.row ≤ MOST_NESTING → nesting (head_code scope h) ≤ MOST_NESTING
+head_nesting : (scope : Scope) (h : Head) → nested h.block.row ≤ MOST_NESTING → nesting (head_code scope h) ≤ MOST_NESTING
 head_nesting scope h n =
     nesting_join (row_code h.block.row (entry scope h)) (close_code h) MOST_NESTING (omega (arith, n, nesting_row h.block.row (entry scope h)))
     (either_code (λ c. nesting c ≤ MOST_NESTING) h.process (act h.block.close C.finish done) (if ends_with_return h.block.row then done else act h.block.close (C.give_back None) done) (omega arith)
@@ -373,6 +288,18 @@ pub vars_short : (base : ℕ) (vs : List Variable) → AreShort vs → AllByRecu
 vars_short base [] h = tt
 vars_short base (v ∷ vs) h = (h.0, vars_short (after_cells base v.length) vs h.1)
 
-pub head_short : (scope : Scope) (h : Head) → AllByRecursion IsShort h.params → RowFits h.block.row → AllByRecursion (λ v. IsName v.name) (vars 0 (head_frame scope h).variables)
+head_short : (scope : Scope) (h : Head) → AllByRecursion IsShort h.params → RowFits h.block.row → AllByRecursion (λ v. IsName v.name) (vars 0 (head_frame scope h).variables)
 head_short scope h p r =
     vars_short 0 (head_frame scope h).variables (row_short h.block.row (entry scope h) r (params_short h.params (outer scope) p tt))
+
+-- Functions and processes.
+
+abbrev pub HeadFits : Head → Type 0
+HeadFits h = IsShort h.name × AllByRecursion IsShort h.params × RowFits h.block.row × (nested h.block.row ≤ MOST_NESTING)
+
+pub head_sized : (scope : Scope) (h : Head) → HeadFits h → HeadSizes scope h
+head_sized scope h f = record {
+  name = f.0;
+  names = All-from_recursion (λ v. IsName v.name) (vars 0 (head_frame scope h).variables) (head_short scope h f.1 f.2);
+  code = record { nested = head_nesting scope h f.3; terms = head_small scope h f.2 };
+}

@@ -20,3 +20,4 @@ pub mod Declaring
 pub mod Holding
 pub mod Plain
 pub mod Items
+pub mod Sizes
