@@ -22,12 +22,11 @@ use Rattle.ppd_check.specs.Sizes.{SourceFits}
 use Rattle.ppd_check.proofs.Writing.{length_flats}
 use Rattle.ppd_check.proofs.ValidFacts.{HeadNames, SourceNames}
 use Rattle.ppd_check.proofs.ValidItems.{IsFunction, IsProcess, AreSorted, tree_sorted, AreFit, source_fit, within_limits}
-use Rattle.ppd_check.proofs.ValidSizes.{HeadFits, head_sized, all_join}
-use Rattle.ppd_check.proofs.ValidOrder.{stands_all}
-use Rattle.ppd_check.proofs.ValidTerms.{EachFrom, each_append, each_at, all_children_below}
+use Rattle.ppd_check.proofs.ValidLists.{EachFrom, all_join, all_parts, each_append, each_at, nil_parts, stands_all}
+use Rattle.ppd_check.proofs.ValidSizes.{HeadFits, head_sized}
+use Rattle.ppd_check.proofs.ValidTerms.{all_children_below}
 use Rattle.ppd_check.proofs.ValidUses.{used_once}
-use Rattle.ppd_check.proofs.ValidReturns.{nil_parts}
-use Rattle.ppd_check.proofs.ValidBodies.{all_parts, IsRightHead, heads_valid, follow, length_bodies}
+use Rattle.ppd_check.proofs.ValidBodies.{IsRightHead, heads_valid, follow, length_bodies}
 
 -- Functions and processes.
 

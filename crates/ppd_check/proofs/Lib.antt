@@ -28,6 +28,7 @@ pub mod ValidBodies
 pub mod ValidFacts
 pub mod ValidHeaders
 pub mod ValidItems
+pub mod ValidLists
 pub mod ValidOrder
 pub mod ValidReturns
 pub mod ValidSizes

@@ -23,22 +23,11 @@ use Rattle.ppd_check.proofs.Joined.{flats_append}
 use Rattle.ppd_check.proofs.Writing.{length_flats, length_stmts}
 use Rattle.ppd_check.proofs.ValidFacts.{TermSmall, acts_in, CodeNames, HeadNames, CodeSizes, HeadSizes}
 use Rattle.ppd_check.proofs.ValidHeaders.{HeadersPass}
-use Rattle.ppd_check.proofs.ValidOrder.{Stands, stands_append, stands_stmts, some_and, IsIn, stand_in, no_inner, body_in_order}
-use Rattle.ppd_check.proofs.ValidTerms.{EachFrom, each_append, stands_flat, each_root}
+use Rattle.ppd_check.proofs.ValidLists.{EachFrom, Stands, all_parts, all_three, all_two, each_append, some_and, stands_append}
+use Rattle.ppd_check.proofs.ValidOrder.{stands_stmts, IsIn, stand_in, no_inner, body_in_order}
+use Rattle.ppd_check.proofs.ValidTerms.{stands_flat, each_root}
 use Rattle.ppd_check.proofs.ValidUses.{act_uses}
 use Rattle.ppd_check.proofs.ValidReturns.{EndsRight, head_ends, body_right, body_ending}
-
-pub all_parts : {X : Type 0} (P : X → Type 0) (xs ys : List X) → AllByRecursion P (xs ++ ys) → AllByRecursion P xs × AllByRecursion P ys
-all_parts P [] ys h = (tt, h)
-all_parts P (x ∷ xs) ys h = let p : AllByRecursion P xs × AllByRecursion P ys = all_parts P xs ys h.1 in ((h.0, p.0), p.1)
-
-all_two : {X : Type 0} (P Q : X → Type 0) (xs : List X) → AllByRecursion P xs → AllByRecursion Q xs → AllByRecursion (λ x. P x × Q x) xs
-all_two P Q [] h i = tt
-all_two P Q (x ∷ xs) h i = ((h.0, i.0), all_two P Q xs h.1 i.1)
-
-all_three : {X : Type 0} (P Q R : X → Type 0) (xs : List X) → AllByRecursion P xs → AllByRecursion Q xs → AllByRecursion R xs → AllByRecursion (λ x. P x × Q x × R x) xs
-all_three P Q R [] h i j = tt
-all_three P Q R (x ∷ xs) h i j = ((h.0, i.0, j.0), all_three P Q R xs h.1 i.1 j.1)
 
 stands_flats : (all : List Expr) (m : ℕ) (ts us : List Term) → Stands all m (flats m (ts ++ us)) → Stands all m (flats m ts) × Stands all (m + weights ts) (flats (m + weights ts) us)
 stands_flats all m ts us h =

@@ -1,5 +1,5 @@
 -- In what a tree says, the header of a `for` has no `return`.
-use Rattle.std.proofs.Common.{◌≡◌, refl, ℕ, zero, suc, Bool, true, false, if◌then◌else◌, List, [], ◌∷◌, ◌++◌, drop, Option, Some, None}
+use Rattle.std.proofs.Common.{◌≡◌, refl, ℕ, zero, suc, Bool, true, false, if◌then◌else◌, List, [], ◌∷◌, drop, Option, Some, None}
 use Rattle.std.specs.Prelude.{⊤}
 use Rattle.std.specs.List.{AllByRecursion, flat_map}
 use Rattle.ppd_parse.specs.declared.symbol.Kind.{Kind}
@@ -10,6 +10,7 @@ use Rattle.ppd_parse.specs.Grammar.{Shape, leaf, node, Shapes, no_shapes, shape_
 use Rattle.ppd_check.specs.Syntax.{Simple, Row, stop, simple, block, choice, repeat, count, Item, shared, shared_array, semaphore, channel, function, process, Name, Number}
 use Rattle.ppd_check.specs.Reading.{Phrase, token, formula, goal, value, calling, changing, row, body, names, items, phrase, as_row, as_block, as_items, before, beyond, is_semicolon, kind, is_name, is_bracket, is_assign, is_minus, is_int, followed, rows, locals, some_change, for_start, for_row, worded, statement, local_item, changed, shared_item, numbered, number_behind, name_of, as_token, made, said, all_said, last}
 use Rattle.ppd_check.specs.Sources.{simple_returns}
+use Rattle.ppd_check.proofs.ValidLists.{all_join}
 
 -- a statement that is no `return`
 abbrev pub Passes : Simple → Type 0
@@ -184,13 +185,9 @@ numbered_pass make h [] = tt
 numbered_pass make h (p ∷ ps) =
     either_items (is_name (kind p)) (make (name_of (as_token p)) (number_behind (name_of (as_token p)) ps) ∷ numbered make ps) (numbered make ps) (h _ _, numbered_pass make h ps) (numbered_pass make h ps)
 
-join_pass : (xs ys : List Item) → AllByRecursion ItemPasses xs → AllByRecursion ItemPasses ys → AllByRecursion ItemPasses (xs ++ ys)
-join_pass [] ys h i = i
-join_pass (x ∷ xs) ys h i = (h.0, join_pass xs ys h.1 i)
-
 all_items_pass : (ps : List Phrase) → AllPass ps → AllByRecursion ItemPasses (flat_map as_items ps)
 all_items_pass [] h = tt
-all_items_pass (p ∷ ps) h = join_pass (as_items p) (flat_map as_items ps) (items_pass p h.0) (all_items_pass ps h.1)
+all_items_pass (p ∷ ps) h = all_join ItemPasses (as_items p) (flat_map as_items ps) (items_pass p h.0) (all_items_pass ps h.1)
 
 -- Trees.
 

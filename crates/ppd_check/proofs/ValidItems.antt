@@ -13,7 +13,8 @@ use Rattle.ppd_check.specs.Sources.{Head, Object, Globals, no_globals, with_item
 use Rattle.ppd_check.specs.Sizes.{IsShort, ItemFits, SourceFits}
 use Rattle.ppd_check.proofs.ValidFacts.{AreCounted}
 use Rattle.ppd_check.proofs.ValidHeaders.{HeadersPass, ItemPasses, tree_passes}
-use Rattle.ppd_check.proofs.ValidSizes.{AreShort, HeadFits, all_join, vars_short}
+use Rattle.ppd_check.proofs.ValidLists.{all_join}
+use Rattle.ppd_check.proofs.ValidSizes.{AreShort, HeadFits, vars_short}
 
 -- Functions and processes.
 

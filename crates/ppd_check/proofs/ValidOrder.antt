@@ -1,6 +1,6 @@
 -- The statements of a row stand in the table where their numbers say: in pre-order, each with its parent and its body.
-use Rattle.std.proofs.Common.{◌≡◌, refl, sym, ap, ◌∙◌, subst, ℕ, zero, suc, ◌+◌, ◌-◌, ◌≤◌, arith, List, [], ◌∷◌, ◌++◌, length, Option, Some}
-use Rattle.std.specs.Prelude.{slice_get, IsSomeAnd, ⊤}
+use Rattle.std.proofs.Common.{◌≡◌, refl, ap, ◌∙◌, subst, ℕ, zero, suc, ◌+◌, ◌-◌, ◌≤◌, arith, List, [], ◌∷◌, ◌++◌, length, Option, Some}
+use Rattle.std.specs.Prelude.{slice_get, IsSomeAnd}
 use Rattle.std.specs.List.{AllByRecursion, flat_map, range_with_len}
 use Rattle.std.proofs.lemmas.Grind.{flat_map-append}
 use Rattle.ppd_ast.specs.declared.program.Stmt.{Stmt}
@@ -10,34 +10,7 @@ use Rattle.ppd_check.specs.Code as C
 use Rattle.ppd_check.specs.Table.{weight, weights, terms, act_terms, kind, numbers, stmts}
 use Rattle.ppd_check.proofs.Writing.{length_stmts}
 use Rattle.ppd_check.proofs.ValidFacts.{nesting}
-
--- Parts of a table.
-
--- these stand in the table one after another, the first of them with number n
-abbrev pub Stands : {X : Type 0} → List X → ℕ → List X → Type 0
-Stands all n [] = ⊤
-Stands all n (x ∷ xs) = (slice_get all n ≡ Some x) × Stands all (n + 1) xs
-
-pub stands_append : {X : Type 0} (all xs ys : List X) (n : ℕ) → Stands all n (xs ++ ys) → Stands all n xs × Stands all (n + length xs) ys
-stands_append all [] ys n h = let e : n ≡ n + 0 = omega arith in (tt, subst (λ k. Stands all k ys) e h)
-stands_append all (x ∷ xs) ys n h =
-    let parts : Stands all (n + 1) xs × Stands all (n + 1 + length xs) ys = stands_append all xs ys (n + 1) h.1 in
-    let e : n + 1 + length xs ≡ n + suc (length xs) = omega arith in
-    ((h.0, parts.0), subst (λ k. Stands all k ys) e parts.1)
-
-stands_behind : {X : Type 0} (x : X) (all xs : List X) (n : ℕ) → Stands all n xs → Stands (x ∷ all) (suc n) xs
-stands_behind x all [] n h = tt
-stands_behind x all (y ∷ ys) n h =
-    let e : suc (n + 1) ≡ suc n + 1 = omega arith in
-    (h.0, subst (λ k. Stands (x ∷ all) k ys) e (stands_behind x all ys (n + 1) h.1))
-
--- a table stands in itself
-pub stands_all : {X : Type 0} (all : List X) → Stands all 0 all
-stands_all [] = tt
-stands_all (x ∷ xs) = (refl, stands_behind x xs xs 0 (stands_all xs))
-
-pub some_and : {X : Type 0} (o : Option X) (x : X) (P : X → Type 0) → o ≡ Some x → P x → IsSomeAnd o P
-some_and o x P e h = subst (λ v. IsSomeAnd v P) (sym e) h
+use Rattle.ppd_check.proofs.ValidLists.{Stands, some_and, stands_append}
 
 -- statements of a row, then others
 pub stands_stmts : (all : List Stmt) (b : ℕ) (q : Option ℕ) (n m : ℕ) (c : Code) (ys : List Stmt) → Stands all n (stmts b q n m c ++ ys)

@@ -25,7 +25,7 @@ use Rattle.ppd_check.proofs.Walking.{join_assoc}
 use Rattle.ppd_check.proofs.Writing.{length_stmts}
 use Rattle.ppd_check.proofs.ValidFacts.{acts_in}
 use Rattle.ppd_check.proofs.ValidHeaders.{Passes, PassesIfAny, HeadersPass}
-use Rattle.ppd_check.proofs.ValidOrder.{Stands, stands_append, some_and}
+use Rattle.ppd_check.proofs.ValidLists.{Stands, all_join, all_parts, nil_parts, some_and, stands_append}
 
 -- Statements that end no body.
 
@@ -45,14 +45,6 @@ IsInner C.finish = ⊥
 abbrev pub AreInner : List Act → Type 0
 AreInner list = AllByRecursion IsInner list
 
-inner_join : (xs ys : List Act) → AreInner xs → AreInner ys → AreInner (xs ++ ys)
-inner_join [] ys h i = i
-inner_join (x ∷ xs) ys h i = (h.0, inner_join xs ys h.1 i)
-
-inner_parts : (xs ys : List Act) → AreInner (xs ++ ys) → AreInner xs × AreInner ys
-inner_parts [] ys h = (tt, h)
-inner_parts (x ∷ xs) ys h = let p : AreInner xs × AreInner ys = inner_parts xs ys h.1 in ((h.0, p.0), p.1)
-
 acts_in_join : (c d : Code) → acts_in (join c d) ≡ acts_in c ++ acts_in d
 acts_in_join done d = refl
 acts_in_join (act p a c) d = ap (λ l. a ∷ l) (acts_in_join c d)
@@ -68,12 +60,7 @@ acts_in_acts p [] = refl
 acts_in_acts p (a ∷ list) = ap (λ l. a ∷ l) (acts_in_acts p list)
 
 code_join : (c d : Code) → AreInner (acts_in c) → AreInner (acts_in d) → AreInner (acts_in (join c d))
-code_join c d h i = subst AreInner (sym (acts_in_join c d)) (inner_join (acts_in c) (acts_in d) h i)
-
--- no rule is broken in both of two parts
-pub nil_parts : {X : Type 0} (xs ys : List X) → xs ++ ys ≡ [] → (xs ≡ []) × (ys ≡ [])
-nil_parts [] ys h = (refl, h)
-nil_parts (x ∷ xs) ys h = absurd (cc)
+code_join c d h i = subst AreInner (sym (acts_in_join c d)) (all_join IsInner (acts_in c) (acts_in d) h i)
 
 put_inner : (s : List Scope) (c : ℕ) (v : Value) → IsInner (put s c v)
 put_inner s c (S.plain e) = tt
@@ -119,16 +106,16 @@ row_inner (S.block b r) f h e =
 row_inner (S.choice p t a b r) f h e =
     let n = nil_parts (returns a) (returns b ++ returns r) e in
     let m = nil_parts (returns b) (returns r) n.1 in
-    inner_join (acts_in (row_code a f)) _ (row_inner a f h.0 n.0)
-    (inner_join (acts_in (row_code b (after_row a f))) _ (row_inner b (after_row a f) h.1 m.0) (row_inner r (after_row b (after_row a f)) h.2 m.1))
+    all_join IsInner (acts_in (row_code a f)) _ (row_inner a f h.0 n.0)
+    (all_join IsInner (acts_in (row_code b (after_row a f))) _ (row_inner b (after_row a f) h.1 m.0) (row_inner r (after_row b (after_row a f)) h.2 m.1))
 row_inner (S.repeat p t b r) f h e =
     let n = nil_parts (returns b) (returns r) e in
-    inner_join (acts_in (row_code b f)) _ (row_inner b f h.0 n.0) (row_inner r (after_row b f) h.1 n.1)
+    all_join IsInner (acts_in (row_code b f)) _ (row_inner b f h.0 n.0) (row_inner r (after_row b f) h.1 n.1)
 row_inner (S.count p start t step b r) f h e =
     let n = nil_parts (returns b) (returns r) e in
     let g : Frame = after_any start (opened f) in
     code_join (code_of_any start (opened f)) _ (any_inner start (opened f) h.0)
-    (inner_join (acts_in (join (row_code b g) (code_of_any step (after_row b g)))) _
+    (all_join IsInner (acts_in (join (row_code b g) (code_of_any step (after_row b g)))) _
     (code_join (row_code b g) (code_of_any step (after_row b g)) (row_inner b g h.2 n.0) (any_inner step (after_row b g) h.1))
     (row_inner r (closed f (after_row b g)) h.3 n.1))
 
@@ -185,11 +172,11 @@ row_ends gives close (S.choice p t a b r) f h e l =
     let n = nil_parts (returns a) (returns b ++ last_return gives close r) e in
     let m = nil_parts (returns b) (last_return gives close r) n.1 in
     ends_behind (Closes false gives) (choice p _ (row_code a f) (row_code b (after_row a f)) done) _
-    (inner_join (acts_in (row_code a f)) _ (row_inner a f h.0 n.0) (inner_join (acts_in (row_code b (after_row a f))) [] (row_inner b (after_row a f) h.1 m.0) tt))
+    (all_join IsInner (acts_in (row_code a f)) _ (row_inner a f h.0 n.0) (all_join IsInner (acts_in (row_code b (after_row a f))) [] (row_inner b (after_row a f) h.1 m.0) tt))
     (row_ends gives close r (after_row b (after_row a f)) h.2 m.1 l)
 row_ends gives close (S.repeat p t b r) f h e l =
     let n = nil_parts (returns b) (last_return gives close r) e in
-    ends_behind (Closes false gives) (loop p _ (row_code b f) done) _ (inner_join (acts_in (row_code b f)) [] (row_inner b f h.0 n.0) tt)
+    ends_behind (Closes false gives) (loop p _ (row_code b f) done) _ (all_join IsInner (acts_in (row_code b f)) [] (row_inner b f h.0 n.0) tt)
     (row_ends gives close r (after_row b f) h.1 n.1 l)
 row_ends gives close (S.count p start t step b r) f h e l =
     let n = nil_parts (returns b) (last_return gives close r) e in
@@ -197,7 +184,7 @@ row_ends gives close (S.count p start t step b r) f h e l =
     let turn : Code = join (row_code b g) (code_of_any step (after_row b g)) in
     ends_behind (Closes false gives) (code_of_any start (opened f)) _ (any_inner start (opened f) h.0)
     (ends_behind (Closes false gives) (loop p _ turn done) _
-    (inner_join (acts_in turn) [] (code_join (row_code b g) (code_of_any step (after_row b g)) (row_inner b g h.2 n.0) (any_inner step (after_row b g) h.1)) tt)
+    (all_join IsInner (acts_in turn) [] (code_join (row_code b g) (code_of_any step (after_row b g)) (row_inner b g h.2 n.0) (any_inner step (after_row b g) h.1)) tt)
     (row_ends gives close r (closed f (after_row b g)) h.3 n.1 l))
 
 none_gives : (gives : Bool) (close : Place) → if_so gives close ReturnPlace ≡ [] → false ≡ gives
@@ -220,17 +207,17 @@ row_open gives close (S.choice p t a b r) f h e l =
     let n = nil_parts (returns a) (returns b ++ last_return gives close r) e in
     let m = nil_parts (returns b) (last_return gives close r) n.1 in
     let i = row_open gives close r (after_row b (after_row a f)) h.2 m.1 l in
-    (inner_join (acts_in (row_code a f)) _ (row_inner a f h.0 n.0) (inner_join (acts_in (row_code b (after_row a f))) _ (row_inner b (after_row a f) h.1 m.0) i.0), i.1)
+    (all_join IsInner (acts_in (row_code a f)) _ (row_inner a f h.0 n.0) (all_join IsInner (acts_in (row_code b (after_row a f))) _ (row_inner b (after_row a f) h.1 m.0) i.0), i.1)
 row_open gives close (S.repeat p t b r) f h e l =
     let n = nil_parts (returns b) (last_return gives close r) e in
     let i = row_open gives close r (after_row b f) h.1 n.1 l in
-    (inner_join (acts_in (row_code b f)) _ (row_inner b f h.0 n.0) i.0, i.1)
+    (all_join IsInner (acts_in (row_code b f)) _ (row_inner b f h.0 n.0) i.0, i.1)
 row_open gives close (S.count p start t step b r) f h e l =
     let n = nil_parts (returns b) (last_return gives close r) e in
     let g : Frame = after_any start (opened f) in
     let i = row_open gives close r (closed f (after_row b g)) h.3 n.1 l in (
       code_join (code_of_any start (opened f)) _ (any_inner start (opened f) h.0)
-          (inner_join (acts_in (join (row_code b g) (code_of_any step (after_row b g)))) _
+          (all_join IsInner (acts_in (join (row_code b g) (code_of_any step (after_row b g)))) _
           (code_join (row_code b g) (code_of_any step (after_row b g)) (row_inner b g h.2 n.0) (any_inner step (after_row b g) h.1)) i.0),
       i.1,
     )
@@ -273,11 +260,11 @@ front_right : (b : Body) (n : ℕ) (c : Code) → AreInner (acts_in c) → EndsR
 front_right b n done h = tt
 front_right b n (act p a c) h = (λ m. inner_right b n m a h.0, front_right b (n + 1) c h.1)
 front_right b n (choice p e x y c) h =
-    let i = inner_parts (acts_in x) (acts_in y ++ acts_in c) h in
-    let j = inner_parts (acts_in y) (acts_in c) i.1 in
+    let i = all_parts IsInner (acts_in x) (acts_in y ++ acts_in c) h in
+    let j = all_parts IsInner (acts_in y) (acts_in c) i.1 in
     (front_right b (n + 1) x i.0, front_right b (n + 1 + count x) y j.0, front_right b (n + 1 + count x + count y) c j.1)
 front_right b n (loop p e x c) h =
-    let i = inner_parts (acts_in x) (acts_in c) h in
+    let i = all_parts IsInner (acts_in x) (acts_in c) h in
     (front_right b (n + 1) x i.0, front_right b (n + 1 + count x) c i.1)
 
 right_join : (b : Body) (n k : ℕ) (c d : Code) → n + count c ≡ k → EndsRight b n c → EndsRight b k d → EndsRight b n (join c d)

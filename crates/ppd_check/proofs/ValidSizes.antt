@@ -1,5 +1,5 @@
 -- The core statements of a source are no larger than it.
-use Rattle.std.proofs.Common.{◌≡◌, refl, sym, ap, ◌∙◌, subst, ℕ, suc, ◌+◌, ◌<◌, ◌≤◌, ◌^◌, max, Bool, true, false, if◌then◌else◌, arith, List, [], ◌∷◌, ◌++◌, map, length, Option, Some, None}
+use Rattle.std.proofs.Common.{◌≡◌, refl, sym, ap, ◌∙◌, subst, ℕ, suc, ◌+◌, ◌<◌, ◌≤◌, ◌^◌, max, Bool, true, false, if◌then◌else◌, arith, List, [], ◌∷◌, map, length, Option, Some, None}
 use Rattle.std.specs.Prelude.{decimal}
 use Rattle.std.specs.List.{AllByRecursion}
 use Rattle.std.proofs.lemmas.Fmt.{length-decimal-le}
@@ -27,6 +27,7 @@ use Rattle.ppd_check.specs.Sources.{Head, close_code, head_code, head_frame, out
 use Rattle.ppd_check.specs.Sizes.{operators_in, depth_in, IsSmall, AreSmall, IsShort, GoalFits, ValueFits, ValueFitsIfAny, SimpleFits, SimpleFitsIfAny, RowFits, nested}
 use Rattle.ppd_check.proofs.Joined.{terms_join}
 use Rattle.ppd_check.proofs.ValidFacts.{TermSmall, nesting, HeadSizes}
+use Rattle.ppd_check.proofs.ValidLists.{all_join}
 
 -- The terms of expressions are as large.
 
@@ -84,10 +85,6 @@ terms_small s [] h = tt
 terms_small s (f ∷ fs) h = (term_small s f h.0, terms_small s fs h.1)
 
 -- The terms of statements.
-
-pub all_join : {X : Type 0} (P : X → Type 0) (xs ys : List X) → AllByRecursion P xs → AllByRecursion P ys → AllByRecursion P (xs ++ ys)
-all_join P [] ys h i = i
-all_join P (x ∷ xs) ys h i = (h.0, all_join P xs ys h.1 i)
 
 abbrev ActsSmall : List Act → Type 0
 ActsSmall list = AllByRecursion (λ a. TermsSmall (act_terms a)) list

@@ -1,36 +1,16 @@
 -- The expressions of a table have their children before them, and read back as the terms that they were made of.
-use Rattle.std.proofs.Common.{◌≡◌, refl, sym, ap, ◌∙◌, subst, ℕ, zero, suc, ◌+◌, ◌<◌, arith, List, [], ◌∷◌, ◌++◌, length, Some}
-use Rattle.std.specs.Prelude.{slice_get, slice_index_or, ⊤}
+use Rattle.std.proofs.Common.{◌≡◌, refl, sym, ap, ◌∙◌, subst, ℕ, ◌+◌, ◌<◌, arith, List, [], ◌∷◌, ◌++◌, length, Some}
+use Rattle.std.specs.Prelude.{slice_get}
 use Rattle.std.specs.List.{AllByRecursion}
 use Rattle.std.proofs.lemmas.Option.{slice_get_within}
 use Rattle.ppd_ast.specs.declared.program.Expr.{Expr}
 use Rattle.ppd_ast.specs.Term.{Term, const, local, local_at, shared, shared_at, neg, not, two, and, or, term}
 use Rattle.ppd_ast.specs.Term as T
-use Rattle.ppd_ast.specs.Table.{EachAt, AreChildrenBelow}
+use Rattle.ppd_ast.specs.Table.{AreChildrenBelow}
 use Rattle.ppd_ast.proofs.Terms.{term-node}
 use Rattle.ppd_check.specs.Table.{weight, root, roots, flat, flats}
 use Rattle.ppd_check.proofs.Flat.{length_flat}
-use Rattle.ppd_check.proofs.ValidOrder.{Stands, stands_append}
-
--- What holds of each element and its number.
-
-abbrev pub EachFrom : {X : Type 0} → (ℕ → X → Type 0) → ℕ → List X → Type 0
-EachFrom P n [] = ⊤
-EachFrom P n (x ∷ xs) = P n x × EachFrom P (n + 1) xs
-
-pub each_append : {X : Type 0} (P : ℕ → X → Type 0) (m n : ℕ) (xs ys : List X) → m + length xs ≡ n → EachFrom P m xs → EachFrom P n ys → EachFrom P m (xs ++ ys)
-each_append P m n [] ys h a b = let e : n ≡ m = omega (arith, h) in subst (λ k. EachFrom P k ys) e b
-each_append P m n (x ∷ xs) ys h a b = let e : m + 1 + length xs ≡ n = omega (arith, h) in (a.0, each_append P (m + 1) n xs ys e a.1 b)
-
-each_from : {X : Type 0} (P : ℕ → X → Type 0) (n : ℕ) (xs : List X) → EachFrom P n xs → (k : ℕ) (d : X) → k < length xs → P (n + k) (slice_index_or xs k d)
-each_from P n [] h k d l = absurd (omega (arith, l))
-each_from P n (x ∷ xs) h zero d l = let e : n ≡ n + 0 = omega arith in subst (λ i. P i x) e h.0
-each_from P n (x ∷ xs) h (suc k) d l =
-    let e : n + 1 + k ≡ n + suc k = omega arith in
-    subst (λ i. P i (slice_index_or xs k d)) e (each_from P (n + 1) xs h.1 k d (omega (arith, l)))
-
-pub each_at : {X : Type 0} (P : ℕ → X → Type 0) (xs : List X) → EachFrom P 0 xs → EachAt P xs
-each_at P xs h k d l = let e : 0 + k ≡ k = omega arith in subst (λ i. P i (slice_index_or xs k d)) e (each_from P 0 xs h k d l)
+use Rattle.ppd_check.proofs.ValidLists.{EachFrom, Stands, each_append, stands_append}
 
 -- Children.
 
