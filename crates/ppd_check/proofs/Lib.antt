@@ -1,4 +1,5 @@
 pub mod Arguments
+pub mod CoreValid
 pub mod Counted
 pub mod Declarations
 pub mod Declaring
@@ -29,6 +30,16 @@ pub mod Sourced
 pub mod Steps
 pub mod Through
 pub mod Trees
+pub mod ValidBodies
+pub mod ValidFacts
+pub mod ValidHeaders
+pub mod ValidItems
+pub mod ValidLists
+pub mod ValidOrder
+pub mod ValidReturns
+pub mod ValidSizes
+pub mod ValidTerms
+pub mod ValidUses
 pub mod Walking
 pub mod Walks
 pub mod Whole
