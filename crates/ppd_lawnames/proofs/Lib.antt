@@ -1,0 +1,3 @@
+pub mod NamedActs
+pub mod NamedRightly
+pub mod NamedTerms
