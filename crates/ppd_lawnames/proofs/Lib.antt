@@ -1,3 +1,5 @@
 pub mod NamedActs
+pub mod NamedFrames
 pub mod NamedRightly
+pub mod NamedRows
 pub mod NamedTerms
