@@ -1,4 +1,5 @@
 pub mod NamedActs
+pub mod NamedCells
 pub mod NamedFrames
 pub mod NamedRightly
 pub mod NamedRows

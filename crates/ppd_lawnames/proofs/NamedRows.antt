@@ -191,13 +191,18 @@ module _ (p : Program) (vs : List Variable) where
       let inner : IsOnTheWay p vs (opened f) = opened_on p vs f way in
       let begun : IsOnTheWay p vs g = after_any_on p vs start (opened f) inner n in
       let turned : IsOnTheWay p vs k = row_on p vs b g begun m in
-      let h1 : formula_faults g.scopes e ++ (row_faults b g ++ (faults_of_any step k ++ row_faults r (closed f k))) ≡ [] = nil_right (faults_of_any start (opened f)) _ h in
-      let h2 : row_faults b g ++ (faults_of_any step k ++ row_faults r (closed f k)) ≡ [] = nil_right (formula_faults g.scopes e) _ h1 in
-      let h3 : faults_of_any step k ++ row_faults r (closed f k) ≡ [] = nil_right (row_faults b g) _ h2 in
-      join_rightly p (vars 0 vs) (code_of_any start (opened f)) _
-      (any_rightly start (opened f) inner n (nil_left (faults_of_any start (opened f)) _ h))
-      (formula_whole p (vars 0 vs) g.scopes e begun.names (nil_left (formula_faults g.scopes e) _ h1),
+      let f4 : List Fault = row_faults r (closed f k) in
+      let f3 : List Fault = faults_of_any step k ++ f4 in
+      let f2 : List Fault = row_faults b g ++ f3 in
+      let f1 : List Fault = formula_faults g.scopes e ++ f2 in
+      let h1 : f1 ≡ [] = nil_right (faults_of_any start (opened f)) f1 h in
+      let h2 : f2 ≡ [] = nil_right (formula_faults g.scopes e) f2 h1 in
+      let h3 : f3 ≡ [] = nil_right (row_faults b g) f3 h2 in
+      let turn : Code = join (row_code b g) (code_of_any step k) in
+      join_rightly p (vars 0 vs) (code_of_any start (opened f)) (loop q (term_of g.scopes e) turn (row_code r (closed f k)))
+      (any_rightly start (opened f) inner n (nil_left (faults_of_any start (opened f)) f1 h))
+      (formula_whole p (vars 0 vs) g.scopes e begun.names (nil_left (formula_faults g.scopes e) f2 h1),
       join_rightly p (vars 0 vs) (row_code b g) (code_of_any step k)
-      (row_rightly b g begun m s.1 (nil_left (row_faults b g) _ h2))
-      (any_rightly step k turned (step_leads step k vs s.0 m) (nil_left (faults_of_any step k) _ h3)),
-      row_rightly r (closed f k) (closed_on p vs f k way turned) l s.2 (nil_right (faults_of_any step k) _ h3))
+      (row_rightly b g begun m s.1 (nil_left (row_faults b g) f3 h2))
+      (any_rightly step k turned (step_leads step k vs s.0 m) (nil_left (faults_of_any step k) f4 h3)),
+      row_rightly r (closed f k) (closed_on p vs f k way turned) l s.2 (nil_right (faults_of_any step k) f4 h3))
