@@ -170,17 +170,20 @@ module _ (p : Program) (vs : List Variable) where
       let m : LeadsTo k.variables vs = leads_further _ _ _ (row_leads r k) l in
       let n : LeadsTo g.variables vs = leads_further _ _ _ (row_leads b g) m in
       let between : IsOnTheWay p vs g = row_on p vs a f way n in
-      let h1 : row_faults a f ++ (row_faults b g ++ row_faults r k) ≡ [] = nil_right (formula_faults f.scopes e) _ h in
-      let h2 : row_faults b g ++ row_faults r k ≡ [] = nil_right (row_faults a f) _ h1 in
-      (formula_whole p (vars 0 vs) f.scopes e way.names (nil_left (formula_faults f.scopes e) _ h),
-      row_rightly a f way n s.0 (nil_left (row_faults a f) _ h1),
+      let f2 : List Fault = row_faults b g ++ row_faults r k in
+      let f1 : List Fault = row_faults a f ++ f2 in
+      let h1 : f1 ≡ [] = nil_right (formula_faults f.scopes e) f1 h in
+      let h2 : f2 ≡ [] = nil_right (row_faults a f) f2 h1 in
+      (formula_whole p (vars 0 vs) f.scopes e way.names (nil_left (formula_faults f.scopes e) f1 h),
+      row_rightly a f way n s.0 (nil_left (row_faults a f) f2 h1),
       row_rightly b g between m s.1 (nil_left (row_faults b g) (row_faults r k) h2),
       row_rightly r k (row_on p vs b g between m) l s.2 (nil_right (row_faults b g) (row_faults r k) h2))
   row_rightly (repeat q e b r) f way l s h =
       let g : Frame = after_row b f in
       let m : LeadsTo g.variables vs = leads_further _ _ _ (row_leads r g) l in
-      let h1 : row_faults b f ++ row_faults r g ≡ [] = nil_right (formula_faults f.scopes e) _ h in
-      (formula_whole p (vars 0 vs) f.scopes e way.names (nil_left (formula_faults f.scopes e) _ h),
+      let f1 : List Fault = row_faults b f ++ row_faults r g in
+      let h1 : f1 ≡ [] = nil_right (formula_faults f.scopes e) f1 h in
+      (formula_whole p (vars 0 vs) f.scopes e way.names (nil_left (formula_faults f.scopes e) f1 h),
       row_rightly b f way m s.0 (nil_left (row_faults b f) (row_faults r g) h1),
       row_rightly r g (row_on p vs b f way m) l s.1 (nil_right (row_faults b f) (row_faults r g) h1))
   row_rightly (count q start e step b r) f way l s h =
