@@ -1,7 +1,9 @@
 pub mod NamedActs
 pub mod NamedCells
+pub mod NamedCounts
 pub mod NamedFrames
 pub mod NamedItems
 pub mod NamedRightly
 pub mod NamedRows
+pub mod NamedSources
 pub mod NamedTerms

@@ -60,7 +60,7 @@ has_itself g =
       processes = leads_itself g.processes;
     }
 
-has_further : (g h k : Globals) → HasAll g h → HasAll h k → HasAll g k
+pub has_further : (g h k : Globals) → HasAll g h → HasAll h k → HasAll g k
 has_further g h k a b =
     record {
       shared = leads_further g.shared h.shared k.shared a.shared b.shared;
@@ -70,7 +70,7 @@ has_further g h k a b =
       processes = leads_further g.processes h.processes k.processes a.processes b.processes;
     }
 
-has_item : (i : Item) (g : Globals) → HasAll g (with_item i g)
+pub has_item : (i : Item) (g : Globals) → HasAll g (with_item i g)
 has_item (shared x v) g = let a : HasAll g g = has_itself g in record { shared = leads_on g.shared _; semaphores = a.semaphores; channels = a.channels; functions = a.functions; processes = a.processes }
 has_item (shared_array x n) g = let a : HasAll g g = has_itself g in record { shared = leads_on g.shared _; semaphores = a.semaphores; channels = a.channels; functions = a.functions; processes = a.processes }
 has_item (semaphore x n) g = let a : HasAll g g = has_itself g in record { shared = a.shared; semaphores = leads_on g.semaphores _; channels = a.channels; functions = a.functions; processes = a.processes }
@@ -84,7 +84,7 @@ has_items (i ∷ is) g = has_further g (with_item i g) (with_items is (with_item
 
 -- The cells of shared variables.
 
-item_cells : (i : Item) (g : Globals) → g.cells ≡ cells_after 0 g.shared → (with_item i g).cells ≡ cells_after 0 (with_item i g).shared
+pub item_cells : (i : Item) (g : Globals) → g.cells ≡ cells_after 0 g.shared → (with_item i g).cells ≡ cells_after 0 (with_item i g).shared
 item_cells (shared x v) g h = ap (λ c. after_cells c None) h ∙ sym (cells_push 0 g.shared (variable_of x None))
 item_cells (shared_array x n) g h = ap (λ c. after_cells c (Some (as_short n.value))) h ∙ sym (cells_push 0 g.shared (variable_of x (Some (as_short n.value))))
 item_cells (semaphore x n) g h = h
@@ -148,7 +148,7 @@ cells_faults scope h e =
     let f1 : List Fault = row_faults h.block.row (entry scope h) ++ f2 in
     nil_right (return_faults h) f3 (nil_right (row_faults h.block.row (entry scope h)) f2 (nil_right (params_faults h.params (outer scope)) f1 e))
 
-few_locals : MOST_LOCAL_CELLS < 2 ^ 16 - 1
+pub few_locals : MOST_LOCAL_CELLS < 2 ^ 16 - 1
 few_locals = omega arith
 
 pub few_params : (scope : Scope) (h : Head) → head_faults scope h ≡ [] → as_short (length h.params) ≡ length h.params
