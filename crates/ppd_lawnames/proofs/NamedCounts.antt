@@ -1,5 +1,5 @@
 -- An accepted source declares no more than the limits allow.
-use Rattle.std.proofs.Common.{◌≡◌, refl, sym, ap, subst, ◌∙◌, ℕ, zero, suc, ◌+◌, ◌-◌, ◌^◌, ◌<◌, ◌≤◌, min, arith, Bool, true, false, cond, ◌&&◌, nat_lt, nat_le, List, [], ◌∷◌, ◌++◌, map, drop, length, Option, Some, None}
+use Rattle.std.proofs.Common.{◌≡◌, refl, sym, ap, subst, ◌∙◌, ℕ, zero, suc, ◌+◌, ◌-◌, ◌^◌, ◌<◌, ◌≤◌, min, arith, Bool, true, false, cond, ◌&&◌, nat_lt, nat_le, List, [], ◌∷◌, ◌++◌, map, drop, length, Option, Some, None, ◌⊎◌, inl, inr}
 use Rattle.std.specs.List.{All, Contains, flat_map, filter, count_by}
 use Rattle.std.proofs.lemmas.List.{length-append, length-map, length-drop}
 use Rattle.std.proofs.lemmas.List.Elements.{All-nil, All-cons, All-head, All-tail, All-weaker, All-contains}
@@ -25,15 +25,31 @@ up_to_itself p = go p.line p.column
     go : (a b : ℕ) → by_then a a (nat_le b b) ≡ true
     go a b = grind arith
 
+-- a line and a column that are up to others, in words
+abbrev IsUpTo : (line column line' column' : ℕ) → Type 0
+IsUpTo a b c d = (a < c) ⊎ ((a ≡ c) × (b ≤ d))
+
+said_up : (a b c d : ℕ) → by_then a c (nat_le b d) ≡ true → IsUpTo a b c d
+said_up a b c d h = grind (arith, h)
+
+up_said : (a b c d : ℕ) → IsUpTo a b c d → by_then a c (nat_le b d) ≡ true
+up_said a b c d (inl h) = grind (arith, h)
+up_said a b c d (inr h) = grind (arith, h)
+
+said_past : (a b c d : ℕ) → by_then a c (nat_le b d) ≡ false → (c < a) ⊎ ((a ≡ c) × (d < b))
+said_past a b c d h = grind (arith, h)
+
 -- x comes after q, and p does not
 up_to_later : (q x p : Place) → is_up_to q x ≡ false → is_up_to q p ≡ true → is_up_to x p ≡ true
-up_to_later q x p h i = go q.line q.column x.line x.column p.line p.column h i
+up_to_later q x p h i =
+    up_said p.line p.column x.line x.column
+    (go q.line q.column x.line x.column p.line p.column (said_past x.line x.column q.line q.column h) (said_up p.line p.column q.line q.column i))
   where
-    go : (a b c d e f : ℕ) → by_then c a (nat_le d b) ≡ false → by_then e a (nat_le f b) ≡ true → by_then e c (nat_le f d) ≡ true
-    go a b c d e f h i = grind (arith, h, i)
-
-up_to_before : (q x : Place) → is_up_to q x ≡ false → is_up_to x q ≡ true
-up_to_before q x h = up_to_later q x q h (up_to_itself q)
+    go : (a b c d e f : ℕ) → (a < c) ⊎ ((c ≡ a) × (b < d)) → IsUpTo e f a b → IsUpTo e f c d
+    go a b c d e f (inl k) (inl l) = inl (omega (arith, k, l))
+    go a b c d e f (inl k) (inr l) = inl (omega (arith, k, l))
+    go a b c d e f (inr k) (inl l) = inl (omega (arith, k, l))
+    go a b c d e f (inr k) (inr l) = inr (omega (arith, k, l), omega (arith, k, l))
 
 abbrev AreUpTo : Place → List Place → Type 0
 AreUpTo q ps = All (λ p. is_up_to q p ≡ true) ps
@@ -57,12 +73,16 @@ last_place x (y ∷ ys) = go (last_place y ys)
 
 -- Counts.
 
+-- 1 where a test holds, else 0
+abbrev bit : Bool → ℕ
+bit b = cond b 1 0
+
 count_all : (t : Place → Bool) (xs : List Place) → All (λ x. t x ≡ true) xs → count_by t xs ≡ length xs
 count_all t [] h = refl
 count_all t (x ∷ xs) h =
-    let e : cond (t x) 1 0 ≡ 1 = ap (λ b. cond b 1 0) (All-head (λ x. t x ≡ true) x xs h) in
+    let e : bit (t x) ≡ 1 = ap bit (All-head (λ x. t x ≡ true) x xs h) in
     let r : count_by t xs ≡ length xs = count_all t xs (All-tail (λ x. t x ≡ true) x xs h) in
-    let s : count_by t (x ∷ xs) ≡ cond (t x) 1 0 + count_by t xs = sum_by-cons (λ x. cond (t x) 1 0) x xs in
+    let s : count_by t (x ∷ xs) ≡ bit (t x) + count_by t xs = sum_by-cons (λ x. bit (t x)) x xs in
     omega (arith, e, r, s)
 
 none_pass : (t : Place → Bool) (xs : List Place) → filter t xs ≡ [] → All (λ x. t x ≡ false) xs
