@@ -3,6 +3,7 @@ pub mod NamedCells
 pub mod NamedCounts
 pub mod NamedFrames
 pub mod NamedItems
+pub mod NamedLimits
 pub mod NamedRightly
 pub mod NamedRows
 pub mod NamedSources
