@@ -1,3 +1,4 @@
+pub mod NamedAccepted
 pub mod NamedActs
 pub mod NamedCells
 pub mod NamedCounts

@@ -9,7 +9,6 @@ use Rattle.ppd_ast.specs.declared.program.Chan.{Chan}
 use Rattle.ppd_ast.specs.declared.program.Body.{Body}
 use Rattle.ppd_ast.specs.declared.program.Program.{Program}
 use Rattle.ppd_ast.specs.Cells.{CoverCells}
-use Rattle.ppd_ast.specs.Valid.{IsName, AreNamed, AreWithinLimits}
 use Rattle.ppd_check.specs.declared.fault.Cause.TheVariants.{NoProcess, BadSize}
 use Rattle.ppd_check.specs.declared.fault.Fault.{Fault}
 use Rattle.ppd_check.specs.declared.fault.Limit.TheVariants as L
@@ -51,50 +50,26 @@ StartsWithin o = o.number ≤ MOST_START
 abbrev HoldsWithin : Object → Type 0
 HoldsWithin o = (LEAST_CAPACITY ≤ o.number) × (o.number ≤ MOST_CAPACITY)
 
-abbrev IsFunction : Head → Type 0
-IsFunction h = h.process ≡ false
-
-abbrev IsProcess : Head → Type 0
-IsProcess h = (h.process ≡ true) × (h.params ≡ []) × (h.gives ≡ false)
-
--- start values and capacities in their ranges, and heads of the sort of their list
+-- start values and capacities are in their ranges
 pub record AreSized (g : Globals) : Type 0 where
   pub semaphores : All StartsWithin g.semaphores
   pub channels : All HoldsWithin g.channels
-  pub functions : All IsFunction g.functions
-  pub processes : All IsProcess g.processes
 
 item_sized : (i : Item) (g : Globals) → item_size_faults i ≡ [] → AreSized g → AreSized (with_item i g)
-item_sized (shared x v) g h a = record { semaphores = a.semaphores; channels = a.channels; functions = a.functions; processes = a.processes }
-item_sized (shared_array x n) g h a = record { semaphores = a.semaphores; channels = a.channels; functions = a.functions; processes = a.processes }
+item_sized (shared x v) g h a = record { semaphores = a.semaphores; channels = a.channels }
+item_sized (shared_array x n) g h a = record { semaphores = a.semaphores; channels = a.channels }
 item_sized (semaphore x n) g h a =
     record {
       semaphores = All-push StartsWithin g.semaphores (record { name = x; number = n.value }) a.semaphores (sized 0 MOST_START n h).1;
       channels = a.channels;
-      functions = a.functions;
-      processes = a.processes;
     }
 item_sized (channel x n) g h a =
     record {
       semaphores = a.semaphores;
       channels = All-push HoldsWithin g.channels (record { name = x; number = n.value }) a.channels (sized LEAST_CAPACITY MOST_CAPACITY n h);
-      functions = a.functions;
-      processes = a.processes;
     }
-item_sized (function gives x params b) g h a =
-    record {
-      semaphores = a.semaphores;
-      channels = a.channels;
-      functions = All-push IsFunction g.functions (record { process = false; gives = gives; name = x; params = params; block = b }) a.functions refl;
-      processes = a.processes;
-    }
-item_sized (process x b) g h a =
-    record {
-      semaphores = a.semaphores;
-      channels = a.channels;
-      functions = a.functions;
-      processes = All-push IsProcess g.processes (record { process = true; gives = false; name = x; params = []; block = b }) a.processes (refl, refl, refl);
-    }
+item_sized (function gives x params b) g h a = record { semaphores = a.semaphores; channels = a.channels }
+item_sized (process x b) g h a = record { semaphores = a.semaphores; channels = a.channels }
 
 items_sized : (is : List Item) (g : Globals) → items_faults is g ≡ [] → AreSized g → AreSized (with_items is g)
 items_sized [] g h a = a
@@ -180,7 +155,7 @@ pub length_bodies : (scope : Scope) (n : ℕ) (hs : List Head) → length (bodie
 length_bodies scope n [] = refl
 length_bodies scope n (h ∷ hs) = ap suc (length_bodies scope (n + count (head_code scope h)) hs)
 
--- a number of a function is not capped, and no other is
+-- numbers within the limits are not capped
 pub functions_fit : (n : ℕ) → n ≤ MOST_FUNCTIONS → as_short n ≡ n
 functions_fit n h = omega (arith, h)
 
@@ -198,25 +173,30 @@ body_fits g j few h =
     let c : length g.processes ≤ MOST_PROCESSES = few.processes in
     omega (arith, a, b, c, h)
 
--- what the parser says of names: none is too long
-pub record AreShort (p : Program) : Type 0 where
-  pub shared : AreNamed p.shared
-  pub sems : All (λ s. IsName s.name) p.sems
-  pub chans : All (λ c. IsName c.name) p.chans
+-- the numbers of a program's parts, its start values and its capacities are as the limits have it
+pub record IsCounted (p : Program) : Type 0 where
+  pub stmts : length p.stmts ≤ MOST_STATEMENTS
+  pub functions : p.functions ≤ MOST_FUNCTIONS
+  pub process : p.functions < length p.bodies
+  pub processes : length p.bodies ≤ p.functions + MOST_PROCESSES
+  pub starts : length p.starts ≤ MOST_SHARED_CELLS
+  pub sem_count : length p.sems ≤ MOST_SEMAPHORES
+  pub sems : All (λ s. s.start ≤ MOST_START) p.sems
+  pub chan_count : length p.chans ≤ MOST_CHANNELS
+  pub chans : All (λ c. (LEAST_CAPACITY ≤ c.capacity) × (c.capacity ≤ MOST_CAPACITY)) p.chans
 
-pub within_limits : (s : Source) → BreaksNone s → AreShort (core_of s) → AreWithinLimits (core_of s)
-within_limits s none short =
+pub counted : (s : Source) → BreaksNone s → IsCounted (core_of s)
+counted s none =
     record {
       stmts = subst (λ n. n ≤ MOST_STATEMENTS) (sym (length_all_stmts 0 0 0 (codes (globals s)))) (few_statements (flat_map places (codes (globals s))) none.statements);
       functions = subst (λ n. n ≤ MOST_FUNCTIONS) (sym fit) few.functions;
       process = bounds.0;
       processes = bounds.1;
       starts = few_starts s few;
-      names = short.shared;
       sem_count = subst (λ n. n ≤ MOST_SEMAPHORES) (sym (length-map (globals s).semaphores sem)) few.semaphores;
-      sems = λ k d l. (short.sems k d l, starts k d l);
+      sems = starts;
       chan_count = subst (λ n. n ≤ MOST_CHANNELS) (sym (length-map (globals s).channels chan)) few.channels;
-      chans = λ k d l. (short.chans k d l, (holds k d l).0, (holds k d l).1);
+      chans = holds;
     }
   where
     few : AreFew (globals s)
@@ -225,7 +205,7 @@ within_limits s none short =
     sizes : AreSized (globals s)
     sizes =
         items_sized s.items no_globals none.items
-        (record { semaphores = All-nil StartsWithin; channels = All-nil HoldsWithin; functions = All-nil IsFunction; processes = All-nil IsProcess })
+        (record { semaphores = All-nil StartsWithin; channels = All-nil HoldsWithin })
 
     fit : as_short (length (globals s).functions) ≡ length (globals s).functions
     fit = functions_fit (length (globals s).functions) few.functions
@@ -249,18 +229,3 @@ within_limits s none short =
         All-map (λ x. (LEAST_CAPACITY ≤ x.capacity) × (x.capacity ≤ MOST_CAPACITY)) chan (globals s).channels
         (All-weaker HoldsWithin (λ o. (LEAST_CAPACITY ≤ as_byte o.number) × (as_byte o.number ≤ MOST_CAPACITY))
         (λ o h. subst (λ n. (LEAST_CAPACITY ≤ n) × (n ≤ MOST_CAPACITY)) (sym (capacity_fits o.number h.1)) h) (globals s).channels sizes.channels)
-
--- The sorts of the bodies.
-
--- a process has no parameters and gives no value
-abbrev pub IsPlain : Body → Type 0
-IsPlain b = IsTrue b.process → (b.params ≡ 0) × (b.value ≡ false)
-
-plain_function : (scope : Scope) (n : ℕ) (h : Head) → IsFunction h → IsPlain (body scope n h)
-plain_function scope n h e t = absurd (true_false (sym t ∙ e))
-  where
-    true_false : true ≡ false → ⊥
-    true_false h = cc
-
-plain_process : (scope : Scope) (n : ℕ) (h : Head) → IsProcess h → IsPlain (body scope n h)
-plain_process scope n h e t = (ap (λ l. as_short (length l)) e.1, e.2)

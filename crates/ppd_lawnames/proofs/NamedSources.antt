@@ -1,7 +1,6 @@
 -- The names of an accepted source mean what is there, and each of its bodies names only that.
 use Rattle.std.proofs.Common.{◌≡◌, refl, sym, ap, subst, ◌∙◌, ℕ, suc, ◌+◌, ◌-◌, ◌^◌, ◌<◌, ◌≤◌, min, arith, Bool, true, false, if◌then◌else◌, List, [], ◌∷◌, ◌++◌, map, length, Option, Some, None, IsSomeAnd, slice_get}
-use Rattle.std.specs.List.{All, flat_map}
-use Rattle.std.proofs.lemmas.List.Elements.{All-nil, All-cons, All-head, All-tail}
+use Rattle.std.specs.List.{flat_map}
 use Rattle.std.specs.Prelude.{⊤}
 use Rattle.std.proofs.lemmas.List.{append_assoc, length-append, length-map}
 use Rattle.ppd_ast.specs.declared.limits.TheConstants.{MOST_FUNCTIONS, MOST_LOCAL_CELLS}
@@ -145,11 +144,11 @@ head_rightly p scope h there steps e =
         let f1 : List Fault = row_faults h.block.row (entry scope h) ++ f2 in
         nil_left (row_faults h.block.row (entry scope h)) f2 (nil_right (params_faults h.params (outer scope)) f1 e)
 
--- a body's frame: its variables share no cell and cover its cells, which are few, and its parameters come first
-pub record HasFrame (b : Body) : Type 0 where
-  pub frame : b.cells ≤ MOST_LOCAL_CELLS
-  pub cells : CoverCells b.locals b.cells
-  pub params : AreParams b.locals b.params
+-- the frame of a function or a process: its variables share no cell and cover its cells, which are few, and its parameters come first
+pub record HasFrame (scope : Scope) (h : Head) : Type 0 where
+  pub frame : (head_frame scope h).cells ≤ MOST_LOCAL_CELLS
+  pub cells : CoverCells (vars 0 (head_frame scope h).variables) (head_frame scope h).cells
+  pub params : AreParams (vars 0 (head_frame scope h).variables) (as_short (length h.params))
 
 frame_of : (vs : List Variable) (cells n : ℕ) (xs : List Name) → cells ≡ cells_after 0 vs → n ≤ length xs → LeadsTo (map (λ x. variable_of x None) xs) vs → past_cells MOST_LOCAL_CELLS L.Locals 0 vs ≡ []
     → (cells ≤ MOST_LOCAL_CELLS) × CoverCells (vars 0 vs) cells × AreParams (vars 0 vs) n
@@ -165,28 +164,9 @@ frame_of vs cells n xs is few lead h =
 short_at_most : (n : ℕ) → as_short n ≤ n
 short_at_most n = omega arith
 
-pub head_has_frame : (p : Program) (scope : Scope) (n : ℕ) (h : Head) → AreThere p (vars 0 (head_frame scope h).variables) scope → head_faults scope h ≡ [] → HasFrame (body scope n h)
-head_has_frame p scope n h there e =
+pub head_has_frame : (p : Program) (scope : Scope) (h : Head) → AreThere p (vars 0 (head_frame scope h).variables) scope → head_faults scope h ≡ [] → HasFrame scope h
+head_has_frame p scope h there e =
     let way : IsOnTheWay p (head_frame scope h).variables (head_frame scope h) =
     row_on p (head_frame scope h).variables h.block.row (entry scope h) (entry_on p scope h there) (leads_itself (head_frame scope h).variables) in
     let facts = frame_of (head_frame scope h).variables (head_frame scope h).cells (as_short (length h.params)) h.params way.cells (short_at_most (length h.params)) (params_lead scope h) (cells_faults scope h e) in
     record { frame = facts.0; cells = facts.1; params = facts.2 }
-
--- All bodies.
-
-pub heads_rightly : (g : Globals) (hs : List Head) → ((locals : List Var) → AreThere (table_of g) locals g.scope) → All (λ h. HasSteps h.block.row) hs → flat_map (head_faults g.scope) hs ≡ []
-    → All (λ h. AreNamedRightly (table_of g) (vars 0 (head_frame g.scope h).variables) (head_code g.scope h)) hs
-heads_rightly g [] there steps e = All-nil (λ h. AreNamedRightly (table_of g) (vars 0 (head_frame g.scope h).variables) (head_code g.scope h))
-heads_rightly g (h ∷ hs) there steps e =
-    All-cons (λ h. AreNamedRightly (table_of g) (vars 0 (head_frame g.scope h).variables) (head_code g.scope h)) h hs
-    (head_rightly (table_of g) g.scope h (there (vars 0 (head_frame g.scope h).variables)) (All-head (λ h. HasSteps h.block.row) h hs steps)
-    (nil_left (head_faults g.scope h) (flat_map (head_faults g.scope) hs) e))
-    (heads_rightly g hs there (All-tail (λ h. HasSteps h.block.row) h hs steps) (nil_right (head_faults g.scope h) (flat_map (head_faults g.scope) hs) e))
-
-pub heads_have_frames : (p : Program) (scope : Scope) (n : ℕ) (hs : List Head) → ((locals : List Var) → AreThere p locals scope) → flat_map (head_faults scope) hs ≡ []
-    → All HasFrame (bodies scope n hs)
-heads_have_frames p scope n [] there e = All-nil HasFrame
-heads_have_frames p scope n (h ∷ hs) there e =
-    All-cons HasFrame (body scope n h) (bodies scope (n + C.count (head_code scope h)) hs)
-    (head_has_frame p scope n h (there (vars 0 (head_frame scope h).variables)) (nil_left (head_faults scope h) (flat_map (head_faults scope) hs) e))
-    (heads_have_frames p scope (n + C.count (head_code scope h)) hs there (nil_right (head_faults scope h) (flat_map (head_faults scope) hs) e))
