@@ -1,0 +1,11 @@
+pub mod NamedAccepted
+pub mod NamedActs
+pub mod NamedCells
+pub mod NamedCounts
+pub mod NamedFrames
+pub mod NamedItems
+pub mod NamedLimits
+pub mod NamedRightly
+pub mod NamedRows
+pub mod NamedSources
+pub mod NamedTerms

@@ -1,0 +1,2 @@
+//! Laws on the names of accepted sources.
+#![tactic(auto)]
