@@ -1,4 +1,5 @@
 pub mod Tables
+pub mod Showing
 pub mod Smallest
 pub mod UnguardedIncrement
 pub mod LockOrder
