@@ -98,11 +98,13 @@ pub log : (logs program plan 100000 schedule).lists ≡
 unfolding terms
 log = refl
 
-pub extents_p : extents program plan 100000 the_story 0 ≡ extent 0 [] 0 (Some 1) 2 ∷ []
+pub extents_p : extents program plan 100000 the_story 0 ≡
+    extent 0 [] 0 (Some 1) 2 ∷ []
 unfolding terms
 extents_p = refl
 
-pub extents_q : extents program plan 100000 the_story 1 ≡ extent 1 [] 0 (Some 1) 2 ∷ []
+pub extents_q : extents program plan 100000 the_story 1 ≡
+    extent 1 [] 0 (Some 1) 2 ∷ []
 unfolding terms
 extents_q = refl
 

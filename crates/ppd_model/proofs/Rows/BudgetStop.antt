@@ -94,7 +94,8 @@ pub log : (logs program plan 5 schedule).lists ≡
 unfolding terms
 log = refl
 
-pub extents_a : extents program plan 5 the_story 0 ≡ extent 0 [] 0 None 5 ∷ []
+pub extents_a : extents program plan 5 the_story 0 ≡
+    extent 0 [] 0 None 5 ∷ []
 unfolding terms
 extents_a = refl
 

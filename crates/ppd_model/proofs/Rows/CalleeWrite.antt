@@ -98,7 +98,9 @@ pub log : (logs program plan 100000 schedule).lists ≡
 unfolding terms
 log = refl
 
-pub extents_a : extents program plan 100000 the_story 0 ≡ extent 1 [] 0 (Some 6) 5 ∷ extent 0 (0 ∷ []) 1 (Some 3) 2 ∷ []
+pub extents_a : extents program plan 100000 the_story 0 ≡
+    extent 1 [] 0 (Some 6) 5
+    ∷ extent 0 (0 ∷ []) 1 (Some 3) 2 ∷ []
 unfolding terms
 extents_a = refl
 

@@ -95,11 +95,13 @@ pub log : (logs program plan 100000 schedule).lists ≡
 unfolding terms
 log = refl
 
-pub extents_a : extents program plan 100000 the_story 0 ≡ extent 0 [] 0 None 1 ∷ []
+pub extents_a : extents program plan 100000 the_story 0 ≡
+    extent 0 [] 0 None 1 ∷ []
 unfolding terms
 extents_a = refl
 
-pub extents_b : extents program plan 100000 the_story 1 ≡ extent 1 [] 0 None 1 ∷ []
+pub extents_b : extents program plan 100000 the_story 1 ≡
+    extent 1 [] 0 None 1 ∷ []
 unfolding terms
 extents_b = refl
 

@@ -103,7 +103,8 @@ pub logs_leaf : (logs program leaf_plan 100000 schedule).lists ≡
 unfolding terms
 logs_leaf = refl
 
-pub extents_a_leaf : extents program leaf_plan 100000 leaf_story 0 ≡ extent 0 [] 0 (Some 5) 6 ∷ []
+pub extents_a_leaf : extents program leaf_plan 100000 leaf_story 0 ≡
+    extent 0 [] 0 (Some 5) 6 ∷ []
 unfolding terms
 extents_a_leaf = refl
 
@@ -171,7 +172,9 @@ pub log : (logs program plan 100000 schedule).lists ≡
 unfolding terms
 log = refl
 
-pub extents_a : extents program plan 100000 the_story 0 ≡ extent 1 [] 0 (Some 5) 4 ∷ extent 0 (0 ∷ []) 0 (Some 2) 2 ∷ []
+pub extents_a : extents program plan 100000 the_story 0 ≡
+    extent 1 [] 0 (Some 5) 4
+    ∷ extent 0 (0 ∷ []) 0 (Some 2) 2 ∷ []
 unfolding terms
 extents_a = refl
 

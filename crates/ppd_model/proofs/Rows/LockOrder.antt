@@ -110,11 +110,13 @@ pub logs_first : (logs program plan 100000 first).lists ≡
 unfolding terms
 logs_first = refl
 
-pub extents_a_first : extents program plan 100000 story_first 0 ≡ extent 0 [] 0 (Some 4) 5 ∷ []
+pub extents_a_first : extents program plan 100000 story_first 0 ≡
+    extent 0 [] 0 (Some 4) 5 ∷ []
 unfolding terms
 extents_a_first = refl
 
-pub extents_b_first : extents program plan 100000 story_first 1 ≡ extent 1 [] 0 (Some 4) 5 ∷ []
+pub extents_b_first : extents program plan 100000 story_first 1 ≡
+    extent 1 [] 0 (Some 4) 5 ∷ []
 unfolding terms
 extents_b_first = refl
 
@@ -208,11 +210,13 @@ pub logs_second : (logs program plan 100000 second).lists ≡
 unfolding terms
 logs_second = refl
 
-pub extents_a_second : extents program plan 100000 story_second 0 ≡ extent 0 [] 0 (Some 4) 5 ∷ []
+pub extents_a_second : extents program plan 100000 story_second 0 ≡
+    extent 0 [] 0 (Some 4) 5 ∷ []
 unfolding terms
 extents_a_second = refl
 
-pub extents_b_second : extents program plan 100000 story_second 1 ≡ extent 1 [] 0 (Some 4) 5 ∷ []
+pub extents_b_second : extents program plan 100000 story_second 1 ≡
+    extent 1 [] 0 (Some 4) 5 ∷ []
 unfolding terms
 extents_b_second = refl
 

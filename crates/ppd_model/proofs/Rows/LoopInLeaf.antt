@@ -102,7 +102,9 @@ pub log : (logs program plan 100000 schedule).lists ≡
 unfolding terms
 log = refl
 
-pub extents_a : extents program plan 100000 the_story 0 ≡ extent 1 [] 0 (Some 15) 6 ∷ extent 0 (0 ∷ []) 1 (Some 11) 10 ∷ []
+pub extents_a : extents program plan 100000 the_story 0 ≡
+    extent 1 [] 0 (Some 15) 6
+    ∷ extent 0 (0 ∷ []) 1 (Some 11) 10 ∷ []
 unfolding terms
 extents_a = refl
 

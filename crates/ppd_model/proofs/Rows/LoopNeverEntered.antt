@@ -94,7 +94,9 @@ pub log : (logs program plan 100000 schedule).lists ≡
 unfolding terms
 log = refl
 
-pub extents_a : extents program plan 100000 the_story 0 ≡ extent 0 [] 0 (Some 4) 4 ∷ extent 1 (0 ∷ []) 1 (Some 2) 1 ∷ []
+pub extents_a : extents program plan 100000 the_story 0 ≡
+    extent 0 [] 0 (Some 4) 4
+    ∷ extent 1 (0 ∷ []) 1 (Some 2) 1 ∷ []
 unfolding terms
 extents_a = refl
 

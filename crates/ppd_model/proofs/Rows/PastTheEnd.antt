@@ -102,7 +102,8 @@ pub log : (logs program plan 100000 schedule).lists ≡
 unfolding terms
 log = refl
 
-pub extents_p : extents program plan 100000 the_story 0 ≡ extent 0 [] 0 None 10 ∷ []
+pub extents_p : extents program plan 100000 the_story 0 ≡
+    extent 0 [] 0 None 10 ∷ []
 unfolding terms
 extents_p = refl
 

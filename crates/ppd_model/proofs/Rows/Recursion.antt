@@ -107,7 +107,11 @@ pub log : (logs program plan 100000 schedule).lists ≡
 unfolding terms
 log = refl
 
-pub extents_a : extents program plan 100000 the_story 0 ≡ extent 1 [] 0 (Some 13) 3 ∷ extent 0 (0 ∷ []) 0 (Some 11) 4 ∷ extent 0 (1 ∷ 0 ∷ []) 3 (Some 10) 4 ∷ extent 0 (2 ∷ 1 ∷ 0 ∷ []) 6 (Some 9) 3 ∷ []
+pub extents_a : extents program plan 100000 the_story 0 ≡
+    extent 1 [] 0 (Some 13) 3
+    ∷ extent 0 (0 ∷ []) 0 (Some 11) 4
+    ∷ extent 0 (1 ∷ 0 ∷ []) 3 (Some 10) 4
+    ∷ extent 0 (2 ∷ 1 ∷ 0 ∷ []) 6 (Some 9) 3 ∷ []
 unfolding terms
 extents_a = refl
 

@@ -92,7 +92,8 @@ pub log : (logs program plan 100000 schedule).lists ≡
 unfolding terms
 log = refl
 
-pub extents_a : extents program plan 100000 the_story 0 ≡ extent 0 [] 0 (Some 3) 4 ∷ []
+pub extents_a : extents program plan 100000 the_story 0 ≡
+    extent 0 [] 0 (Some 3) 4 ∷ []
 unfolding terms
 extents_a = refl
 

@@ -105,7 +105,10 @@ pub log : (logs program plan 100000 schedule).lists ≡
 unfolding terms
 log = refl
 
-pub extents_a : extents program plan 100000 the_story 0 ≡ extent 2 [] 0 None 1 ∷ extent 0 (0 ∷ []) 0 None 2 ∷ extent 1 (1 ∷ 0 ∷ []) 2 None 6 ∷ []
+pub extents_a : extents program plan 100000 the_story 0 ≡
+    extent 2 [] 0 None 1
+    ∷ extent 0 (0 ∷ []) 0 None 2
+    ∷ extent 1 (1 ∷ 0 ∷ []) 2 None 6 ∷ []
 unfolding terms
 extents_a = refl
 

@@ -100,11 +100,13 @@ pub logs_first_a : (logs program plan 100000 first_a).lists ≡
 unfolding terms
 logs_first_a = refl
 
-pub extents_a_first_a : extents program plan 100000 story_first_a 0 ≡ extent 0 [] 0 (Some 2) 3 ∷ []
+pub extents_a_first_a : extents program plan 100000 story_first_a 0 ≡
+    extent 0 [] 0 (Some 2) 3 ∷ []
 unfolding terms
 extents_a_first_a = refl
 
-pub extents_b_first_a : extents program plan 100000 story_first_a 1 ≡ extent 1 [] 0 (Some 2) 3 ∷ []
+pub extents_b_first_a : extents program plan 100000 story_first_a 1 ≡
+    extent 1 [] 0 (Some 2) 3 ∷ []
 unfolding terms
 extents_b_first_a = refl
 
@@ -186,11 +188,13 @@ pub logs_first_b : (logs program plan 100000 first_b).lists ≡
 unfolding terms
 logs_first_b = refl
 
-pub extents_a_first_b : extents program plan 100000 story_first_b 0 ≡ extent 0 [] 0 (Some 2) 3 ∷ []
+pub extents_a_first_b : extents program plan 100000 story_first_b 0 ≡
+    extent 0 [] 0 (Some 2) 3 ∷ []
 unfolding terms
 extents_a_first_b = refl
 
-pub extents_b_first_b : extents program plan 100000 story_first_b 1 ≡ extent 1 [] 0 (Some 2) 3 ∷ []
+pub extents_b_first_b : extents program plan 100000 story_first_b 1 ≡
+    extent 1 [] 0 (Some 2) 3 ∷ []
 unfolding terms
 extents_b_first_b = refl
 
@@ -272,11 +276,13 @@ pub logs_in_turns : (logs program plan 100000 in_turns).lists ≡
 unfolding terms
 logs_in_turns = refl
 
-pub extents_a_in_turns : extents program plan 100000 story_in_turns 0 ≡ extent 0 [] 0 (Some 2) 3 ∷ []
+pub extents_a_in_turns : extents program plan 100000 story_in_turns 0 ≡
+    extent 0 [] 0 (Some 2) 3 ∷ []
 unfolding terms
 extents_a_in_turns = refl
 
-pub extents_b_in_turns : extents program plan 100000 story_in_turns 1 ≡ extent 1 [] 0 (Some 2) 3 ∷ []
+pub extents_b_in_turns : extents program plan 100000 story_in_turns 1 ≡
+    extent 1 [] 0 (Some 2) 3 ∷ []
 unfolding terms
 extents_b_in_turns = refl
 

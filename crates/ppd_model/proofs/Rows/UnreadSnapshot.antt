@@ -103,11 +103,13 @@ pub logs_first : (logs program plan 100000 first).lists ≡
 unfolding terms
 logs_first = refl
 
-pub extents_p_first : extents program plan 100000 story_first 0 ≡ extent 0 [] 0 (Some 3) 4 ∷ []
+pub extents_p_first : extents program plan 100000 story_first 0 ≡
+    extent 0 [] 0 (Some 3) 4 ∷ []
 unfolding terms
 extents_p_first = refl
 
-pub extents_q_first : extents program plan 100000 story_first 1 ≡ extent 1 [] 0 (Some 1) 2 ∷ []
+pub extents_q_first : extents program plan 100000 story_first 1 ≡
+    extent 1 [] 0 (Some 1) 2 ∷ []
 unfolding terms
 extents_q_first = refl
 
@@ -197,11 +199,13 @@ pub logs_second : (logs program plan 100000 second).lists ≡
 unfolding terms
 logs_second = refl
 
-pub extents_p_second : extents program plan 100000 story_second 0 ≡ extent 0 [] 0 (Some 3) 4 ∷ []
+pub extents_p_second : extents program plan 100000 story_second 0 ≡
+    extent 0 [] 0 (Some 3) 4 ∷ []
 unfolding terms
 extents_p_second = refl
 
-pub extents_q_second : extents program plan 100000 story_second 1 ≡ extent 1 [] 0 (Some 1) 2 ∷ []
+pub extents_q_second : extents program plan 100000 story_second 1 ≡
+    extent 1 [] 0 (Some 1) 2 ∷ []
 unfolding terms
 extents_q_second = refl
 
