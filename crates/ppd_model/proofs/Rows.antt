@@ -1,5 +1,6 @@
 pub mod Tables
 pub mod Showing
+pub mod Every
 pub mod Smallest
 pub mod UnguardedIncrement
 pub mod LockOrder
