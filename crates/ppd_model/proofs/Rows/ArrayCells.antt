@@ -14,8 +14,6 @@ use Rattle.ppd_entry.specs.declared.entry.Entry.TheVariants as entry
 use Rattle.ppd_sem.specs.declared.event.Spot.TheVariants.{Shared}
 use Rattle.ppd_model.specs.declared.flow.Item.TheVariants.{Own}
 use Rattle.ppd_model.specs.declared.flow.Origin.TheVariants.{Entry, Item as ItemAt}
-use Rattle.ppd_model.specs.declared.closed.ProcEnd.{ProcEnd}
-use Rattle.ppd_model.specs.declared.graph.Race.{Race}
 use Rattle.ppd_model.specs.declared.trace.TracedEvent.{TracedEvent}
 use Rattle.ppd_model.specs.World.{enabled}
 use Rattle.ppd_model.specs.Schedule.{IsWhole}
@@ -28,7 +26,7 @@ use Rattle.ppd_model.specs.Intervals.{items}
 use Rattle.ppd_model.specs.FlowbackEdges.{last}
 use Rattle.ppd_model.proofs.Rows.Tables.{stmt_in, array, body_of, block_of, unit_of, access, event, quiet, traced, ended, control_from}
 use Rattle.ppd_model.proofs.Rows.Showing.{extent, extents, whys}
-use Rattle.ppd_model.proofs.Rows.Every.{every_whole}
+use Rattle.ppd_model.proofs.Rows.Every.{outcome, every_whole}
 
 abbrev pub program : Program
 program = record {
@@ -145,10 +143,7 @@ pub final_a_1 : last program plan 100000 the_story 1 ≡ (pos 2, ItemAt 1 0 0)
 unfolding terms
 final_a_1 = refl
 
--- how the processes end and the races, the same in every schedule
-abbrev pub outcome : List ℕ → List ProcEnd × List Race
-outcome h = ((close program plan 100000 h).ends, races program plan 100000 h)
-
-pub every : (h : List ℕ) → IsWhole program plan 100000 h → outcome h ≡ (ended status.Ended 1 2 [] ∷ ended status.Ended 3 2 [] ∷ [], [])
+-- every schedule ends so, with these races
+pub every : (h : List ℕ) → IsWhole program plan 100000 h → outcome program plan 100000 h ≡ (ended status.Ended 1 2 [] ∷ ended status.Ended 3 2 [] ∷ [], [])
 unfolding terms
-every h whole = every_whole program plan 100000 5 6 outcome (ended status.Ended 1 2 [] ∷ ended status.Ended 3 2 [] ∷ [], []) refl refl h whole
+every h whole = every_whole program plan 100000 5 6 (outcome program plan 100000) _ refl refl h whole

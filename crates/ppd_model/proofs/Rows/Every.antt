@@ -6,10 +6,18 @@ use Rattle.ppd_ast.specs.declared.plan.Plan.{Plan}
 use Rattle.ppd_ast.specs.declared.program.Program.{Program}
 use Rattle.ppd_sem.specs.declared.proc.Proc.{Proc}
 use Rattle.ppd_sem.specs.Process.{act}
+use Rattle.ppd_model.specs.declared.closed.ProcEnd.{ProcEnd}
+use Rattle.ppd_model.specs.declared.graph.Race.{Race}
 use Rattle.ppd_model.specs.Schedule.{IsOver, IsWhole, run_from, started_world}
 use Rattle.ppd_model.specs.World.{World, answer, can, enabled, need, need_at, step}
+use Rattle.ppd_model.specs.Races.{races}
+use Rattle.ppd_model.specs.Logs.{close}
 use Rattle.ppd_model.proofs.Bounded.{Goes, goes, started_count}
 use Rattle.ppd_model.proofs.Changes.{length-change, some}
+
+-- how the processes of a whole schedule end, and its races
+abbrev pub outcome : Program → Plan → ℕ → List ℕ → List ProcEnd × List Race
+outcome program plan budget h = ((close program plan budget h).ends, races program plan budget h)
 
 -- ---- the ways that a world goes
 

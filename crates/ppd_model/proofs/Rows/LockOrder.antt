@@ -16,8 +16,6 @@ use Rattle.ppd_entry.specs.declared.entry.Entry.TheVariants as entry
 use Rattle.ppd_sem.specs.declared.event.Spot.TheVariants.{Shared}
 use Rattle.ppd_model.specs.declared.flow.Item.TheVariants.{Own}
 use Rattle.ppd_model.specs.declared.flow.Origin.TheVariants.{Initial, Entry, Item as ItemAt}
-use Rattle.ppd_model.specs.declared.closed.ProcEnd.{ProcEnd}
-use Rattle.ppd_model.specs.declared.graph.Race.{Race}
 use Rattle.ppd_model.specs.declared.trace.TracedEvent.{TracedEvent}
 use Rattle.ppd_model.specs.World.{enabled}
 use Rattle.ppd_model.specs.Schedule.{IsWhole}
@@ -32,7 +30,7 @@ use Rattle.ppd_model.specs.Intervals.{items}
 use Rattle.ppd_model.specs.FlowbackEdges.{last}
 use Rattle.ppd_model.proofs.Rows.Tables.{stmt_in, scalar, body_of, block_of, unit_of, access, event, quiet, id, traced, ended, read_from, sync_from, control_from}
 use Rattle.ppd_model.proofs.Rows.Showing.{synced, extent, extents, whys}
-use Rattle.ppd_model.proofs.Rows.Every.{every_whole}
+use Rattle.ppd_model.proofs.Rows.Every.{outcome, every_whole}
 
 abbrev pub program : Program
 program = record {
@@ -283,10 +281,7 @@ apart agree =
     let same : number_of_a (sync_record program plan 100000 first) ≡ number_of_a (sync_record program plan 100000 second) = ap number_of_a agree.records in
     omega (arith, same, number_first, number_second)
 
--- how the processes end and the races, the same in every schedule
-abbrev pub outcome : List ℕ → List ProcEnd × List Race
-outcome h = ((close program plan 100000 h).ends, races program plan 100000 h)
-
-pub every : (h : List ℕ) → IsWhole program plan 100000 h → outcome h ≡ (ended status.Ended 3 5 [] ∷ ended status.Ended 7 5 [] ∷ [], [])
+-- every schedule ends so, with these races
+pub every : (h : List ℕ) → IsWhole program plan 100000 h → outcome program plan 100000 h ≡ (ended status.Ended 3 5 [] ∷ ended status.Ended 7 5 [] ∷ [], [])
 unfolding terms
-every h whole = every_whole program plan 100000 11 12 outcome (ended status.Ended 3 5 [] ∷ ended status.Ended 7 5 [] ∷ [], []) refl refl h whole
+every h whole = every_whole program plan 100000 11 12 (outcome program plan 100000) _ refl refl h whole

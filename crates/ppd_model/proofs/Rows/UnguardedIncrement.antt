@@ -15,8 +15,6 @@ use Rattle.ppd_entry.specs.declared.entry.Entry.TheVariants as entry
 use Rattle.ppd_sem.specs.declared.event.Spot.TheVariants.{Shared}
 use Rattle.ppd_model.specs.declared.flow.Item.TheVariants.{Own}
 use Rattle.ppd_model.specs.declared.flow.Origin.TheVariants.{Initial, Entry, Item as ItemAt}
-use Rattle.ppd_model.specs.declared.closed.ProcEnd.{ProcEnd}
-use Rattle.ppd_model.specs.declared.graph.Race.{Race}
 use Rattle.ppd_model.specs.declared.graph.RaceKind.TheVariants.{ReadWrite, WriteRead, WriteWrite}
 use Rattle.ppd_model.specs.declared.trace.TracedEvent.{TracedEvent}
 use Rattle.ppd_model.specs.World.{enabled}
@@ -30,7 +28,7 @@ use Rattle.ppd_model.specs.Intervals.{items}
 use Rattle.ppd_model.specs.FlowbackEdges.{last}
 use Rattle.ppd_model.proofs.Rows.Tables.{stmt_in, scalar, body_of, block_of, unit_of, access, event, quiet, id, traced, ended, read_from, control_from}
 use Rattle.ppd_model.proofs.Rows.Showing.{extent, extents, whys}
-use Rattle.ppd_model.proofs.Rows.Every.{every_whole}
+use Rattle.ppd_model.proofs.Rows.Every.{outcome, every_whole}
 
 abbrev pub program : Program
 program = record {
@@ -319,10 +317,7 @@ pub final_x_in_turns : last program plan 100000 story_in_turns 0 ≡ (pos 1, Ite
 unfolding terms
 final_x_in_turns = refl
 
--- how the processes end and the races, the same in every schedule
-abbrev pub outcome : List ℕ → List ProcEnd × List Race
-outcome h = ((close program plan 100000 h).ends, races program plan 100000 h)
-
-pub every : (h : List ℕ) → IsWhole program plan 100000 h → outcome h ≡ (ended status.Ended 1 3 [] ∷ ended status.Ended 3 3 [] ∷ [], race 0 0 1 0 0 ReadWrite ∷ race 0 0 1 0 0 WriteRead ∷ race 0 0 1 0 0 WriteWrite ∷ [])
+-- every schedule ends so, with these races
+pub every : (h : List ℕ) → IsWhole program plan 100000 h → outcome program plan 100000 h ≡ (ended status.Ended 1 3 [] ∷ ended status.Ended 3 3 [] ∷ [], race 0 0 1 0 0 ReadWrite ∷ race 0 0 1 0 0 WriteRead ∷ race 0 0 1 0 0 WriteWrite ∷ [])
 unfolding terms
-every h whole = every_whole program plan 100000 7 20 outcome (ended status.Ended 1 3 [] ∷ ended status.Ended 3 3 [] ∷ [], race 0 0 1 0 0 ReadWrite ∷ race 0 0 1 0 0 WriteRead ∷ race 0 0 1 0 0 WriteWrite ∷ []) refl refl h whole
+every h whole = every_whole program plan 100000 7 20 (outcome program plan 100000) _ refl refl h whole
