@@ -19,13 +19,13 @@ use Rattle.ppd_model.specs.World.{enabled}
 use Rattle.ppd_model.specs.Schedule.{IsWhole}
 use Rattle.ppd_model.specs.Story.{Story, story, told}
 use Rattle.ppd_model.specs.FullTrace.{full_trace}
-use Rattle.ppd_model.specs.Record.{sync_record}
+use Rattle.ppd_model.specs.Record.{accesses, sync_record}
 use Rattle.ppd_model.specs.Races.{races}
 use Rattle.ppd_model.specs.Logs.{close, logs}
 use Rattle.ppd_model.specs.Intervals.{items}
 use Rattle.ppd_model.specs.FlowbackEdges.{last}
 use Rattle.ppd_model.proofs.Rows.Tables.{stmt_in, array, body_of, block_of, unit_of, access, event, quiet, traced, ended, control_from}
-use Rattle.ppd_model.proofs.Rows.Showing.{extent, extents, whys}
+use Rattle.ppd_model.proofs.Rows.Showing.{touched, extent, extents, whys, nears}
 use Rattle.ppd_model.proofs.Rows.Every.{outcome, every_whole}
 
 abbrev pub program : Program
@@ -89,6 +89,14 @@ pub synchronizations : sync_record program plan 100000 schedule ≡ [] ∷ [] �
 unfolding terms
 synchronizations = refl
 
+pub accesses_p : accesses the_story 0 ≡ touched 0 0 true ∷ []
+unfolding terms
+accesses_p = refl
+
+pub accesses_q : accesses the_story 1 ≡ touched 0 1 true ∷ []
+unfolding terms
+accesses_q = refl
+
 pub race_list : races program plan 100000 schedule ≡ []
 unfolding terms
 race_list = refl
@@ -134,6 +142,14 @@ pub whys_q_0 : whys program plan 100000 the_story 1 0 3 ≡
     ∷ None ∷ []
 unfolding terms
 whys_q_0 = refl
+
+pub nears_p_0 : nears program plan 100000 the_story 0 0 2 ≡ 2 ∷ 2 ∷ []
+unfolding terms
+nears_p_0 = refl
+
+pub nears_q_0 : nears program plan 100000 the_story 1 0 2 ≡ 2 ∷ 2 ∷ []
+unfolding terms
+nears_q_0 = refl
 
 pub final_a_0 : last program plan 100000 the_story 0 ≡ (pos 1, ItemAt 0 0 0)
 unfolding terms

@@ -20,13 +20,13 @@ use Rattle.ppd_model.specs.World.{enabled}
 use Rattle.ppd_model.specs.Schedule.{IsWhole}
 use Rattle.ppd_model.specs.Story.{Story, story, told}
 use Rattle.ppd_model.specs.FullTrace.{full_trace}
-use Rattle.ppd_model.specs.Record.{sync_record}
+use Rattle.ppd_model.specs.Record.{accesses, sync_record}
 use Rattle.ppd_model.specs.Races.{races}
 use Rattle.ppd_model.specs.Logs.{close, logs}
 use Rattle.ppd_model.specs.Intervals.{items}
 use Rattle.ppd_model.specs.FlowbackEdges.{last}
 use Rattle.ppd_model.proofs.Rows.Tables.{stmt_in, scalar, body_of, block_of, unit_of, access, event, quiet, id, traced, ended, read_from, sync_from, control_from}
-use Rattle.ppd_model.proofs.Rows.Showing.{synced, extent, extents, whys}
+use Rattle.ppd_model.proofs.Rows.Showing.{synced, touched, extent, extents, whys, nears}
 use Rattle.ppd_model.proofs.Rows.Every.{outcome, every_whole}
 
 abbrev pub program : Program
@@ -100,6 +100,14 @@ pub synchronizations : sync_record program plan 100000 schedule ≡ (synced sync
 unfolding terms
 synchronizations = refl
 
+pub accesses_a : accesses the_story 0 ≡ touched 2 0 true ∷ []
+unfolding terms
+accesses_a = refl
+
+pub accesses_b : accesses the_story 1 ≡ touched 0 0 false ∷ []
+unfolding terms
+accesses_b = refl
+
 pub race_list : races program plan 100000 schedule ≡ []
 unfolding terms
 race_list = refl
@@ -156,6 +164,14 @@ pub whys_b_0 : whys program plan 100000 the_story 1 0 6 ≡
     ∷ None ∷ []
 unfolding terms
 whys_b_0 = refl
+
+pub nears_a_0 : nears program plan 100000 the_story 0 0 4 ≡ 4 ∷ 10 ∷ 4 ∷ 4 ∷ []
+unfolding terms
+nears_a_0 = refl
+
+pub nears_b_0 : nears program plan 100000 the_story 1 0 5 ≡ 6 ∷ 6 ∷ 10 ∷ 10 ∷ 6 ∷ []
+unfolding terms
+nears_b_0 = refl
 
 pub final_x : last program plan 100000 the_story 0 ≡ (pos 2, ItemAt 0 0 2)
 unfolding terms

@@ -20,12 +20,12 @@ use Rattle.ppd_model.specs.World.{enabled}
 use Rattle.ppd_model.specs.Schedule.{IsWhole}
 use Rattle.ppd_model.specs.Story.{Story, story, told}
 use Rattle.ppd_model.specs.FullTrace.{full_trace}
-use Rattle.ppd_model.specs.Record.{sync_record}
+use Rattle.ppd_model.specs.Record.{accesses, sync_record}
 use Rattle.ppd_model.specs.Races.{races}
 use Rattle.ppd_model.specs.Logs.{close, logs}
 use Rattle.ppd_model.specs.Intervals.{items}
 use Rattle.ppd_model.proofs.Rows.Tables.{stmt_in, scalar, body_of, block_of, unit_of, access, event, id, traced, ended, read_from, control_from}
-use Rattle.ppd_model.proofs.Rows.Showing.{extent, extents, whys}
+use Rattle.ppd_model.proofs.Rows.Showing.{extent, extents, whys, nears}
 
 abbrev pub program : Program
 program = record {
@@ -85,6 +85,10 @@ pub synchronizations : sync_record program plan 5 schedule ≡ [] ∷ []
 unfolding terms
 synchronizations = refl
 
+pub accesses_a : accesses the_story 0 ≡ []
+unfolding terms
+accesses_a = refl
+
 pub race_list : races program plan 5 schedule ≡ []
 unfolding terms
 race_list = refl
@@ -117,3 +121,7 @@ pub whys_a_0 : whys program plan 5 the_story 0 0 6 ≡
     ∷ None ∷ []
 unfolding terms
 whys_a_0 = refl
+
+pub nears_a_0 : nears program plan 5 the_story 0 0 5 ≡ 5 ∷ 5 ∷ 5 ∷ 5 ∷ 5 ∷ []
+unfolding terms
+nears_a_0 = refl

@@ -19,14 +19,13 @@ use Rattle.ppd_model.specs.World.{enabled}
 use Rattle.ppd_model.specs.Schedule.{IsWhole}
 use Rattle.ppd_model.specs.Story.{Story, story, told}
 use Rattle.ppd_model.specs.FullTrace.{full_trace}
-use Rattle.ppd_model.specs.Record.{sync_record}
+use Rattle.ppd_model.specs.Record.{accesses, sync_record}
 use Rattle.ppd_model.specs.Races.{races}
 use Rattle.ppd_model.specs.Logs.{close, logs}
 use Rattle.ppd_model.specs.Intervals.{items}
 use Rattle.ppd_model.specs.FlowbackEdges.{last}
-use Rattle.ppd_model.specs.NearIntervals.{near_steps}
 use Rattle.ppd_model.proofs.Rows.Tables.{stmt_in, scalar, body_of, block_of, unit_of, access, event, quiet, id, traced, ended, read_from, control_from}
-use Rattle.ppd_model.proofs.Rows.Showing.{extent, extents, whys}
+use Rattle.ppd_model.proofs.Rows.Showing.{touched, extent, extents, whys, nears}
 
 abbrev pub program : Program
 program = record {
@@ -89,6 +88,10 @@ pub synchronizations : sync_record program plan 100000 schedule ≡ [] ∷ []
 unfolding terms
 synchronizations = refl
 
+pub accesses_a : accesses the_story 0 ≡ touched 0 0 true ∷ touched 0 0 true ∷ touched 0 0 false ∷ []
+unfolding terms
+accesses_a = refl
+
 pub race_list : races program plan 100000 schedule ≡ []
 unfolding terms
 race_list = refl
@@ -136,11 +139,14 @@ pub whys_a_1 : whys program plan 100000 the_story 0 1 3 ≡
 unfolding terms
 whys_a_1 = refl
 
+pub nears_a_0 : nears program plan 100000 the_story 0 0 5 ≡ 7 ∷ 7 ∷ 7 ∷ 7 ∷ 7 ∷ []
+unfolding terms
+nears_a_0 = refl
+
+pub nears_a_1 : nears program plan 100000 the_story 0 1 2 ≡ 7 ∷ 7 ∷ []
+unfolding terms
+nears_a_1 = refl
+
 pub final_x : last program plan 100000 the_story 0 ≡ (pos 4, ItemAt 0 1 0)
 unfolding terms
 final_x = refl
-
--- the call's interval is near to the print after it, since both lie in one edge
-pub near_a_0_3 : near_steps program plan 100000 the_story 0 0 3 ≡ 7
-unfolding terms
-near_a_0_3 = refl

@@ -17,12 +17,12 @@ use Rattle.ppd_model.specs.World.{enabled}
 use Rattle.ppd_model.specs.Schedule.{IsWhole, run}
 use Rattle.ppd_model.specs.Story.{Story, story, told}
 use Rattle.ppd_model.specs.FullTrace.{full_trace}
-use Rattle.ppd_model.specs.Record.{sync_record}
+use Rattle.ppd_model.specs.Record.{accesses, sync_record}
 use Rattle.ppd_model.specs.Races.{races}
 use Rattle.ppd_model.specs.Logs.{close, kept_logs, logs}
 use Rattle.ppd_model.specs.Intervals.{items}
 use Rattle.ppd_model.proofs.Rows.Tables.{stmt_in, body_of, block_of, unit_of, event, traced, ended, sync_from, control_from}
-use Rattle.ppd_model.proofs.Rows.Showing.{synced, extent, extents, whys}
+use Rattle.ppd_model.proofs.Rows.Showing.{synced, extent, extents, whys, nears}
 
 abbrev pub program : Program
 program = record {
@@ -85,6 +85,14 @@ pub synchronizations : sync_record program plan 100000 schedule ≡ (synced sync
 unfolding terms
 synchronizations = refl
 
+pub accesses_a : accesses the_story 0 ≡ []
+unfolding terms
+accesses_a = refl
+
+pub accesses_b : accesses the_story 1 ≡ []
+unfolding terms
+accesses_b = refl
+
 pub race_list : races program plan 100000 schedule ≡ []
 unfolding terms
 race_list = refl
@@ -126,6 +134,14 @@ pub whys_b_0 : whys program plan 100000 the_story 1 0 2 ≡
     ∷ None ∷ []
 unfolding terms
 whys_b_0 = refl
+
+pub nears_a_0 : nears program plan 100000 the_story 0 0 1 ≡ 1 ∷ []
+unfolding terms
+nears_a_0 = refl
+
+pub nears_b_0 : nears program plan 100000 the_story 1 0 1 ≡ 1 ∷ []
+unfolding terms
+nears_b_0 = refl
 
 -- before the run is closed
 pub kept : (kept_logs program plan 100000 schedule).lists ≡ (entry.Prelog 0 [] ∷ entry.Unit 0 [] ∷ entry.Sync sync.P 0 1 (pos 0) [] [] ∷ entry.Unit 1 [] ∷ []) ∷ (entry.Prelog 1 [] ∷ entry.Unit 3 [] ∷ entry.Sync sync.P 1 1 (pos 0) [] [] ∷ entry.Unit 4 [] ∷ []) ∷ []

@@ -19,13 +19,13 @@ use Rattle.ppd_model.specs.World.{enabled}
 use Rattle.ppd_model.specs.Schedule.{IsWhole}
 use Rattle.ppd_model.specs.Story.{Story, story, told}
 use Rattle.ppd_model.specs.FullTrace.{full_trace}
-use Rattle.ppd_model.specs.Record.{sync_record}
+use Rattle.ppd_model.specs.Record.{accesses, sync_record}
 use Rattle.ppd_model.specs.Races.{races}
 use Rattle.ppd_model.specs.Logs.{close, logs}
 use Rattle.ppd_model.specs.Intervals.{items}
 use Rattle.ppd_model.specs.FlowbackEdges.{last}
 use Rattle.ppd_model.proofs.Rows.Tables.{stmt_in, scalar, body_of, block_of, unit_of, access, event, quiet, id, traced, ended, read_from, control_from}
-use Rattle.ppd_model.proofs.Rows.Showing.{extent, extents, whys}
+use Rattle.ppd_model.proofs.Rows.Showing.{touched, extent, extents, whys, nears}
 
 abbrev pub program : Program
 program = record {
@@ -94,6 +94,10 @@ pub synchronizations_leaf : sync_record program leaf_plan 100000 schedule ≡ []
 unfolding terms
 synchronizations_leaf = refl
 
+pub accesses_a_leaf : accesses leaf_story 0 ≡ touched 0 0 true ∷ touched 0 0 false ∷ []
+unfolding terms
+accesses_a_leaf = refl
+
 pub races_leaf : races program leaf_plan 100000 schedule ≡ []
 unfolding terms
 races_leaf = refl
@@ -126,6 +130,10 @@ pub whys_a_0_leaf : whys program leaf_plan 100000 leaf_story 0 0 6 ≡
     ∷ None ∷ []
 unfolding terms
 whys_a_0_leaf = refl
+
+pub nears_a_0_leaf : nears program leaf_plan 100000 leaf_story 0 0 5 ≡ 6 ∷ 6 ∷ 6 ∷ 6 ∷ 6 ∷ []
+unfolding terms
+nears_a_0_leaf = refl
 
 pub final_x_leaf : last program leaf_plan 100000 leaf_story 0 ≡ (pos 9, ItemAt 0 0 1)
 unfolding terms
@@ -162,6 +170,10 @@ trace = refl
 pub synchronizations : sync_record program plan 100000 schedule ≡ [] ∷ []
 unfolding terms
 synchronizations = refl
+
+pub accesses_a : accesses the_story 0 ≡ touched 0 0 true ∷ touched 0 0 false ∷ []
+unfolding terms
+accesses_a = refl
 
 pub race_list : races program plan 100000 schedule ≡ []
 unfolding terms
@@ -207,6 +219,14 @@ pub whys_a_1 : whys program plan 100000 the_story 0 1 3 ≡
     ∷ None ∷ []
 unfolding terms
 whys_a_1 = refl
+
+pub nears_a_0 : nears program plan 100000 the_story 0 0 4 ≡ 6 ∷ 6 ∷ 6 ∷ 6 ∷ []
+unfolding terms
+nears_a_0 = refl
+
+pub nears_a_1 : nears program plan 100000 the_story 0 1 2 ≡ 6 ∷ 6 ∷ []
+unfolding terms
+nears_a_1 = refl
 
 pub final_x : last program plan 100000 the_story 0 ≡ (pos 9, ItemAt 0 1 0)
 unfolding terms

@@ -22,14 +22,14 @@ use Rattle.ppd_model.specs.Schedule.{IsWhole}
 use Rattle.ppd_model.specs.Story.{Story, story, told}
 use Rattle.ppd_model.specs.FullTrace.{full_trace}
 use Rattle.ppd_model.specs.Synchronizations.{Sync}
-use Rattle.ppd_model.specs.Record.{sync_record}
+use Rattle.ppd_model.specs.Record.{accesses, sync_record}
 use Rattle.ppd_model.specs.Races.{races}
 use Rattle.ppd_model.specs.Agreement.{Agree}
 use Rattle.ppd_model.specs.Logs.{close, logs}
 use Rattle.ppd_model.specs.Intervals.{items}
 use Rattle.ppd_model.specs.FlowbackEdges.{last}
 use Rattle.ppd_model.proofs.Rows.Tables.{stmt_in, scalar, body_of, block_of, unit_of, access, event, quiet, id, traced, ended, read_from, sync_from, control_from}
-use Rattle.ppd_model.proofs.Rows.Showing.{synced, extent, extents, whys}
+use Rattle.ppd_model.proofs.Rows.Showing.{synced, touched, extent, extents, whys, nears}
 use Rattle.ppd_model.proofs.Rows.Every.{outcome, every_whole}
 
 abbrev pub program : Program
@@ -101,6 +101,14 @@ pub synchronizations_first : sync_record program plan 100000 first ≡ (synced s
 unfolding terms
 synchronizations_first = refl
 
+pub accesses_a_first : accesses story_first 0 ≡ touched 1 0 false ∷ touched 1 0 true ∷ []
+unfolding terms
+accesses_a_first = refl
+
+pub accesses_b_first : accesses story_first 1 ≡ touched 1 0 false ∷ touched 1 0 true ∷ []
+unfolding terms
+accesses_b_first = refl
+
 pub races_first : races program plan 100000 first ≡ []
 unfolding terms
 races_first = refl
@@ -155,6 +163,14 @@ pub whys_b_0_first : whys program plan 100000 story_first 1 0 5 ≡
 unfolding terms
 whys_b_0_first = refl
 
+pub nears_a_0_first : nears program plan 100000 story_first 0 0 4 ≡ 5 ∷ 5 ∷ 5 ∷ 5 ∷ []
+unfolding terms
+nears_a_0_first = refl
+
+pub nears_b_0_first : nears program plan 100000 story_first 1 0 4 ≡ 10 ∷ 10 ∷ 5 ∷ 5 ∷ []
+unfolding terms
+nears_b_0_first = refl
+
 pub final_x_first : last program plan 100000 story_first 0 ≡ (pos 2, ItemAt 1 0 1)
 unfolding terms
 final_x_first = refl
@@ -200,6 +216,14 @@ trace_second = refl
 pub synchronizations_second : sync_record program plan 100000 second ≡ (synced sync.P 0 2 ∷ synced sync.V 0 3 ∷ []) ∷ (synced sync.P 0 1 ∷ synced sync.V 0 2 ∷ []) ∷ []
 unfolding terms
 synchronizations_second = refl
+
+pub accesses_a_second : accesses story_second 0 ≡ touched 1 0 false ∷ touched 1 0 true ∷ []
+unfolding terms
+accesses_a_second = refl
+
+pub accesses_b_second : accesses story_second 1 ≡ touched 1 0 false ∷ touched 1 0 true ∷ []
+unfolding terms
+accesses_b_second = refl
 
 pub races_second : races program plan 100000 second ≡ []
 unfolding terms
@@ -254,6 +278,14 @@ pub whys_b_0_second : whys program plan 100000 story_second 1 0 5 ≡
     ∷ None ∷ []
 unfolding terms
 whys_b_0_second = refl
+
+pub nears_a_0_second : nears program plan 100000 story_second 0 0 4 ≡ 10 ∷ 10 ∷ 5 ∷ 5 ∷ []
+unfolding terms
+nears_a_0_second = refl
+
+pub nears_b_0_second : nears program plan 100000 story_second 1 0 4 ≡ 5 ∷ 5 ∷ 5 ∷ 5 ∷ []
+unfolding terms
+nears_b_0_second = refl
 
 pub final_x_second : last program plan 100000 story_second 0 ≡ (pos 2, ItemAt 0 0 1)
 unfolding terms

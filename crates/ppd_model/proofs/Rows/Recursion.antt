@@ -21,12 +21,12 @@ use Rattle.ppd_model.specs.World.{enabled}
 use Rattle.ppd_model.specs.Schedule.{IsWhole}
 use Rattle.ppd_model.specs.Story.{Story, story, told}
 use Rattle.ppd_model.specs.FullTrace.{full_trace}
-use Rattle.ppd_model.specs.Record.{sync_record}
+use Rattle.ppd_model.specs.Record.{accesses, sync_record}
 use Rattle.ppd_model.specs.Races.{races}
 use Rattle.ppd_model.specs.Logs.{close, logs}
 use Rattle.ppd_model.specs.Intervals.{items}
 use Rattle.ppd_model.proofs.Rows.Tables.{stmt_in, scalar, body_of, block_of, unit_of, access, event, quiet, id, traced, ended, read_from, returned_from, control_from}
-use Rattle.ppd_model.proofs.Rows.Showing.{extent, extents, whys}
+use Rattle.ppd_model.proofs.Rows.Showing.{extent, extents, whys, nears}
 
 abbrev pub program : Program
 program = record {
@@ -97,6 +97,10 @@ trace = refl
 pub synchronizations : sync_record program plan 100000 schedule ≡ [] ∷ []
 unfolding terms
 synchronizations = refl
+
+pub accesses_a : accesses the_story 0 ≡ []
+unfolding terms
+accesses_a = refl
 
 pub race_list : races program plan 100000 schedule ≡ []
 unfolding terms
@@ -184,6 +188,22 @@ pub whys_a_3 : whys program plan 100000 the_story 0 3 4 ≡
     ∷ None ∷ []
 unfolding terms
 whys_a_3 = refl
+
+pub nears_a_0 : nears program plan 100000 the_story 0 0 4 ≡ 14 ∷ 14 ∷ 14 ∷ 14 ∷ []
+unfolding terms
+nears_a_0 = refl
+
+pub nears_a_1 : nears program plan 100000 the_story 0 1 5 ≡ 14 ∷ 14 ∷ 14 ∷ 14 ∷ 14 ∷ []
+unfolding terms
+nears_a_1 = refl
+
+pub nears_a_2 : nears program plan 100000 the_story 0 2 5 ≡ 14 ∷ 14 ∷ 14 ∷ 14 ∷ 14 ∷ []
+unfolding terms
+nears_a_2 = refl
+
+pub nears_a_3 : nears program plan 100000 the_story 0 3 3 ≡ 14 ∷ 14 ∷ 14 ∷ []
+unfolding terms
+nears_a_3 = refl
 
 -- with f(n) in place of f(2)
 abbrev pub deeper : ℕ → Program

@@ -21,13 +21,13 @@ use Rattle.ppd_model.specs.World.{enabled}
 use Rattle.ppd_model.specs.Schedule.{IsWhole}
 use Rattle.ppd_model.specs.Story.{Story, story, told}
 use Rattle.ppd_model.specs.FullTrace.{full_trace}
-use Rattle.ppd_model.specs.Record.{sync_record}
+use Rattle.ppd_model.specs.Record.{accesses, sync_record}
 use Rattle.ppd_model.specs.Races.{races}
 use Rattle.ppd_model.specs.Logs.{close, logs}
 use Rattle.ppd_model.specs.Intervals.{items}
 use Rattle.ppd_model.specs.FlowbackEdges.{last}
 use Rattle.ppd_model.proofs.Rows.Tables.{stmt_in, scalar, body_of, block_of, unit_of, access, event, id, traced, ended, read_from, control_from}
-use Rattle.ppd_model.proofs.Rows.Showing.{extent, extents, whys}
+use Rattle.ppd_model.proofs.Rows.Showing.{touched, extent, extents, whys, nears}
 
 abbrev pub program : Program
 program = record {
@@ -96,6 +96,10 @@ pub synchronizations : sync_record program plan 100000 schedule ≡ [] ∷ []
 unfolding terms
 synchronizations = refl
 
+pub accesses_a : accesses the_story 0 ≡ touched 0 0 true ∷ []
+unfolding terms
+accesses_a = refl
+
 pub race_list : races program plan 100000 schedule ≡ []
 unfolding terms
 race_list = refl
@@ -159,6 +163,18 @@ pub whys_a_2 : whys program plan 100000 the_story 0 2 7 ≡
     ∷ None ∷ []
 unfolding terms
 whys_a_2 = refl
+
+pub nears_a_0 : nears program plan 100000 the_story 0 0 2 ≡ 9 ∷ 9 ∷ []
+unfolding terms
+nears_a_0 = refl
+
+pub nears_a_1 : nears program plan 100000 the_story 0 1 2 ≡ 9 ∷ 9 ∷ []
+unfolding terms
+nears_a_1 = refl
+
+pub nears_a_2 : nears program plan 100000 the_story 0 2 6 ≡ 9 ∷ 9 ∷ 9 ∷ 9 ∷ 9 ∷ 9 ∷ []
+unfolding terms
+nears_a_2 = refl
 
 pub final_x : last program plan 100000 the_story 0 ≡ (pos 1, ItemAt 0 2 2)
 unfolding terms

@@ -21,13 +21,13 @@ use Rattle.ppd_model.specs.World.{enabled}
 use Rattle.ppd_model.specs.Schedule.{IsWhole}
 use Rattle.ppd_model.specs.Story.{Story, story, told}
 use Rattle.ppd_model.specs.FullTrace.{full_trace}
-use Rattle.ppd_model.specs.Record.{sync_record}
+use Rattle.ppd_model.specs.Record.{accesses, sync_record}
 use Rattle.ppd_model.specs.Races.{race, races}
 use Rattle.ppd_model.specs.Logs.{close, logs}
 use Rattle.ppd_model.specs.Intervals.{items}
 use Rattle.ppd_model.specs.FlowbackEdges.{last}
 use Rattle.ppd_model.proofs.Rows.Tables.{stmt_in, scalar, body_of, block_of, unit_of, access, event, quiet, id, traced, ended, read_from, control_from}
-use Rattle.ppd_model.proofs.Rows.Showing.{extent, extents, whys}
+use Rattle.ppd_model.proofs.Rows.Showing.{touched, extent, extents, whys, nears}
 use Rattle.ppd_model.proofs.Rows.Every.{outcome, every_whole}
 
 abbrev pub program : Program
@@ -91,6 +91,14 @@ pub synchronizations_first_a : sync_record program plan 100000 first_a ≡ [] �
 unfolding terms
 synchronizations_first_a = refl
 
+pub accesses_a_first_a : accesses story_first_a 0 ≡ touched 0 0 false ∷ touched 0 0 true ∷ []
+unfolding terms
+accesses_a_first_a = refl
+
+pub accesses_b_first_a : accesses story_first_a 1 ≡ touched 0 0 false ∷ touched 0 0 true ∷ []
+unfolding terms
+accesses_b_first_a = refl
+
 pub races_first_a : races program plan 100000 first_a ≡ race 0 0 1 0 0 ReadWrite ∷ race 0 0 1 0 0 WriteRead ∷ race 0 0 1 0 0 WriteWrite ∷ []
 unfolding terms
 races_first_a = refl
@@ -137,6 +145,14 @@ pub whys_b_0_first_a : whys program plan 100000 story_first_a 1 0 3 ≡
 unfolding terms
 whys_b_0_first_a = refl
 
+pub nears_a_0_first_a : nears program plan 100000 story_first_a 0 0 2 ≡ 3 ∷ 3 ∷ []
+unfolding terms
+nears_a_0_first_a = refl
+
+pub nears_b_0_first_a : nears program plan 100000 story_first_a 1 0 2 ≡ 6 ∷ 3 ∷ []
+unfolding terms
+nears_b_0_first_a = refl
+
 pub final_x_first_a : last program plan 100000 story_first_a 0 ≡ (pos 2, ItemAt 1 0 0)
 unfolding terms
 final_x_first_a = refl
@@ -178,6 +194,14 @@ trace_first_b = refl
 pub synchronizations_first_b : sync_record program plan 100000 first_b ≡ [] ∷ [] ∷ []
 unfolding terms
 synchronizations_first_b = refl
+
+pub accesses_a_first_b : accesses story_first_b 0 ≡ touched 0 0 false ∷ touched 0 0 true ∷ []
+unfolding terms
+accesses_a_first_b = refl
+
+pub accesses_b_first_b : accesses story_first_b 1 ≡ touched 0 0 false ∷ touched 0 0 true ∷ []
+unfolding terms
+accesses_b_first_b = refl
 
 pub races_first_b : races program plan 100000 first_b ≡ race 0 0 1 0 0 ReadWrite ∷ race 0 0 1 0 0 WriteRead ∷ race 0 0 1 0 0 WriteWrite ∷ []
 unfolding terms
@@ -225,6 +249,14 @@ pub whys_b_0_first_b : whys program plan 100000 story_first_b 1 0 3 ≡
 unfolding terms
 whys_b_0_first_b = refl
 
+pub nears_a_0_first_b : nears program plan 100000 story_first_b 0 0 2 ≡ 6 ∷ 3 ∷ []
+unfolding terms
+nears_a_0_first_b = refl
+
+pub nears_b_0_first_b : nears program plan 100000 story_first_b 1 0 2 ≡ 3 ∷ 3 ∷ []
+unfolding terms
+nears_b_0_first_b = refl
+
 pub final_x_first_b : last program plan 100000 story_first_b 0 ≡ (pos 2, ItemAt 0 0 0)
 unfolding terms
 final_x_first_b = refl
@@ -266,6 +298,14 @@ trace_in_turns = refl
 pub synchronizations_in_turns : sync_record program plan 100000 in_turns ≡ [] ∷ [] ∷ []
 unfolding terms
 synchronizations_in_turns = refl
+
+pub accesses_a_in_turns : accesses story_in_turns 0 ≡ touched 0 0 false ∷ touched 0 0 true ∷ []
+unfolding terms
+accesses_a_in_turns = refl
+
+pub accesses_b_in_turns : accesses story_in_turns 1 ≡ touched 0 0 false ∷ touched 0 0 true ∷ []
+unfolding terms
+accesses_b_in_turns = refl
 
 pub races_in_turns : races program plan 100000 in_turns ≡ race 0 0 1 0 0 ReadWrite ∷ race 0 0 1 0 0 WriteRead ∷ race 0 0 1 0 0 WriteWrite ∷ []
 unfolding terms
@@ -312,6 +352,14 @@ pub whys_b_0_in_turns : whys program plan 100000 story_in_turns 1 0 3 ≡
     ∷ None ∷ []
 unfolding terms
 whys_b_0_in_turns = refl
+
+pub nears_a_0_in_turns : nears program plan 100000 story_in_turns 0 0 2 ≡ 3 ∷ 3 ∷ []
+unfolding terms
+nears_a_0_in_turns = refl
+
+pub nears_b_0_in_turns : nears program plan 100000 story_in_turns 1 0 2 ≡ 3 ∷ 3 ∷ []
+unfolding terms
+nears_b_0_in_turns = refl
 
 pub final_x_in_turns : last program plan 100000 story_in_turns 0 ≡ (pos 1, ItemAt 1 0 0)
 unfolding terms

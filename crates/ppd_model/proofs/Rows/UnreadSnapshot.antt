@@ -20,14 +20,14 @@ use Rattle.ppd_model.specs.World.{enabled}
 use Rattle.ppd_model.specs.Schedule.{IsWhole}
 use Rattle.ppd_model.specs.Story.{Story, story, told}
 use Rattle.ppd_model.specs.FullTrace.{full_trace}
-use Rattle.ppd_model.specs.Record.{sync_record}
+use Rattle.ppd_model.specs.Record.{accesses, sync_record}
 use Rattle.ppd_model.specs.Races.{races}
 use Rattle.ppd_model.specs.Agreement.{Agree}
 use Rattle.ppd_model.specs.Logs.{close, logs}
 use Rattle.ppd_model.specs.Intervals.{items}
 use Rattle.ppd_model.specs.FlowbackEdges.{last}
 use Rattle.ppd_model.proofs.Rows.Tables.{stmt_in, scalar, body_of, block_of, unit_of, access, event, quiet, traced, ended, read_from, sync_from, control_from}
-use Rattle.ppd_model.proofs.Rows.Showing.{synced, extent, extents, whys}
+use Rattle.ppd_model.proofs.Rows.Showing.{synced, touched, extent, extents, whys, nears}
 use Rattle.ppd_model.proofs.Rows.Every.{outcome, every_whole}
 
 abbrev pub program : Program
@@ -94,6 +94,14 @@ pub synchronizations_first : sync_record program plan 100000 first ≡ (synced s
 unfolding terms
 synchronizations_first = refl
 
+pub accesses_p_first : accesses story_first 0 ≡ touched 1 1 false ∷ []
+unfolding terms
+accesses_p_first = refl
+
+pub accesses_q_first : accesses story_first 1 ≡ touched 0 0 true ∷ []
+unfolding terms
+accesses_q_first = refl
+
 pub races_first : races program plan 100000 first ≡ []
 unfolding terms
 races_first = refl
@@ -142,6 +150,14 @@ pub whys_q_0_first : whys program plan 100000 story_first 1 0 3 ≡
 unfolding terms
 whys_q_0_first = refl
 
+pub nears_p_0_first : nears program plan 100000 story_first 0 0 3 ≡ 4 ∷ 4 ∷ 4 ∷ []
+unfolding terms
+nears_p_0_first = refl
+
+pub nears_q_0_first : nears program plan 100000 story_first 1 0 2 ≡ 2 ∷ 2 ∷ []
+unfolding terms
+nears_q_0_first = refl
+
 pub final_x_first : last program plan 100000 story_first 0 ≡ (pos 5, ItemAt 1 0 0)
 unfolding terms
 final_x_first = refl
@@ -188,6 +204,14 @@ trace_second = refl
 pub synchronizations_second : sync_record program plan 100000 second ≡ (synced sync.P 0 1 ∷ []) ∷ [] ∷ []
 unfolding terms
 synchronizations_second = refl
+
+pub accesses_p_second : accesses story_second 0 ≡ touched 1 1 false ∷ []
+unfolding terms
+accesses_p_second = refl
+
+pub accesses_q_second : accesses story_second 1 ≡ touched 0 0 true ∷ []
+unfolding terms
+accesses_q_second = refl
 
 pub races_second : races program plan 100000 second ≡ []
 unfolding terms
@@ -237,6 +261,14 @@ pub whys_q_0_second : whys program plan 100000 story_second 1 0 3 ≡
     ∷ None ∷ []
 unfolding terms
 whys_q_0_second = refl
+
+pub nears_p_0_second : nears program plan 100000 story_second 0 0 3 ≡ 4 ∷ 4 ∷ 4 ∷ []
+unfolding terms
+nears_p_0_second = refl
+
+pub nears_q_0_second : nears program plan 100000 story_second 1 0 2 ≡ 2 ∷ 2 ∷ []
+unfolding terms
+nears_q_0_second = refl
 
 pub final_x_second : last program plan 100000 story_second 0 ≡ (pos 5, ItemAt 1 0 0)
 unfolding terms
