@@ -18,3 +18,6 @@ pub mod BudgetStop
 pub mod LeafFunction
 pub mod UnfinishedLoop
 pub mod LoopInLeaf
+pub mod NestedLoops
+pub mod LeafLoops
+pub mod NearByEdge
