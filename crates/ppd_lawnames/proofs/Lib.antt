@@ -8,4 +8,6 @@ pub mod NamedLimits
 pub mod NamedRightly
 pub mod NamedRows
 pub mod NamedSources
+pub mod NamedSteps
 pub mod NamedTerms
+pub mod NamedTrees
