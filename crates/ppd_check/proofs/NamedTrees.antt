@@ -1,14 +1,12 @@
 -- Statements of a program's tree hold no declared variable: those stand in declarations.
 use Rattle.std.proofs.Common.{◌≡◌, refl, Bool, true, false, not, ◌&&◌, List, [], ◌∷◌, ◌++◌}
 use Rattle.std.specs.Prelude.{⊤}
-use Rattle.ppd_lex.specs.declared.token.Token.{Token}
-use Rattle.ppd_parse.specs.declared.symbol.Level.{Level}
 use Rattle.ppd_parse.specs.declared.symbol.Level.TheVariants as L
 use Rattle.ppd_parse.specs.declared.symbol.Rule.{Rule}
 use Rattle.ppd_parse.specs.declared.symbol.Rule.TheVariants as R
 use Rattle.ppd_parse.specs.declared.symbol.At.{At}
 use Rattle.ppd_parse.specs.Grammar.{Shape, Shapes, leaf, node, no_shapes, shape_then, forest, Marked}
-use Rattle.ppd_parse.specs.Language.{Side, source_side, shared_side, shared_item_side, sems_side, chans_side, function_side, params_side, process_side, block_side, local_side, local_item_side, value_side, place_side, change_side, stmt_side, expr_side, tier, unary_side, Phrase, word, binary, the, ◌·◌, ◌∣◌, many, maybe, unless, opened, measured, made, phrase, Is, token, sign, side, both, left, right, done, more, absent, present, ended, within, counted, grouped, IsProgram}
+use Rattle.ppd_parse.specs.Language.{Side, source_side, shared_side, shared_item_side, sems_side, chans_side, function_side, params_side, process_side, block_side, local_side, local_item_side, value_side, place_side, change_side, stmt_side, expr_side, tier, unary_side, Phrase, the, ◌·◌, ◌∣◌, many, maybe, opened, measured, made, phrase, Is, token, sign, side, both, left, right, done, more, absent, present, ended, within, counted, grouped, IsProgram}
 
 -- Trees.
 

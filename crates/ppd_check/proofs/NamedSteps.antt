@@ -1,5 +1,5 @@
 -- What comes after each turn of a `for` of a program is a change of a variable, or nothing.
-use Rattle.std.proofs.Common.{◌≡◌, refl, ℕ, zero, suc, ◌-◌, Bool, true, false, List, [], ◌∷◌, ◌++◌, length, drop, Option, Some, None}
+use Rattle.std.proofs.Common.{◌≡◌, refl, ℕ, zero, suc, ◌-◌, Bool, true, false, List, [], ◌∷◌, ◌++◌, length, drop, Some}
 use Rattle.std.specs.Prelude.{⊤}
 use Rattle.std.specs.List.{All, AllByRecursion, flat_map}
 use Rattle.std.proofs.lemmas.List.Elements.{All-nil, All-push, All-append}
@@ -10,11 +10,11 @@ use Rattle.ppd_parse.specs.declared.symbol.Rule.{Rule}
 use Rattle.ppd_parse.specs.declared.symbol.Rule.TheVariants as R
 use Rattle.ppd_parse.specs.Grammar.{Shape, Shapes, leaf, node, no_shapes, shape_then}
 use Rattle.ppd_parse.specs.Limits.{IsTree}
-use Rattle.ppd_check.specs.Syntax.{Name, Number, Simple, Row, stop, simple, block, choice, repeat, count, Block, Item, shared, shared_array, semaphore, channel, function, process, Source}
-use Rattle.ppd_check.specs.Reading.{Phrase, token, formula, goal, value, calling, changing, row, body, names, items, phrase, last, as_row, as_block, as_items, kind, is_semicolon, is_name, is_bracket, is_minus, is_int, before, beyond, changed, followed, rows, locals, some_change, for_row, worded, statement, shared_item, numbered, made, said, all_said, source_of}
+use Rattle.ppd_check.specs.Syntax.{Name, Number, Row, stop, simple, block, choice, repeat, count, Item, shared, shared_array, semaphore, channel, function, process}
+use Rattle.ppd_check.specs.Reading.{Phrase, token, formula, goal, value, calling, changing, row, body, names, items, phrase, last, as_row, as_block, as_items, kind, is_semicolon, is_name, is_bracket, is_minus, beyond, changed, followed, rows, locals, some_change, for_row, worded, statement, shared_item, numbered, made, said, all_said, source_of}
 use Rattle.ppd_check.specs.Sources.{Head, Globals, no_globals, with_item, with_items, heads, globals}
-use Rattle.ppd_lawnames.proofs.NamedTrees.{is_item, NoItem, NoItems, OwnPlain, IsPlain, ArePlain, program_plain}
-use Rattle.ppd_lawnames.proofs.NamedRows.{IsStep, HasSteps}
+use Rattle.ppd_check.proofs.NamedTrees.{is_item, NoItem, NoItems, OwnPlain, IsPlain, ArePlain, program_plain}
+use Rattle.ppd_check.proofs.NamedRows.{IsStep, HasSteps}
 
 -- Phrases.
 
@@ -110,9 +110,11 @@ locals_steps (items is ∷ ps) = locals_steps ps
 
 for_steps : (ps : List Phrase) → AllByRecursion IsStepped ps → AllByRecursion IsChanged ps → HasSteps (for_row ps)
 for_steps ps h c =
-    let later : List Phrase = beyond (beyond (drop 2 ps)) in
-    (step_of (phrase later 0) (changed_at later 0 (changes_beyond (beyond (drop 2 ps)) (changes_beyond (drop 2 ps) (changes_drop 2 ps c)))),
-    row_of (last ps) (stepped_at ps (length ps - 1) h), tt)
+    let later : List Phrase = beyond (beyond (drop 2 ps)) in (
+      step_of (phrase later 0) (changed_at later 0 (changes_beyond (beyond (drop 2 ps)) (changes_beyond (drop 2 ps) (changes_drop 2 ps c)))),
+      row_of (last ps) (stepped_at ps (length ps - 1) h),
+      tt,
+    )
 
 worded_steps : (ps : List Phrase) (k : Kind) → kind (phrase ps 0) ≡ k → AllByRecursion IsStepped ps → AllByRecursion IsChanged ps → HasSteps (worded ps)
 worded_steps ps K.IfWord e h c = rw e (row_of (phrase ps 4) (stepped_at ps 4 h), row_of (phrase ps 6) (stepped_at ps 6 h), tt)
