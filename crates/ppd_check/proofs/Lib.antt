@@ -12,6 +12,7 @@ pub mod NamedAccepted
 pub mod NamedActs
 pub mod NamedCells
 pub mod NamedCounts
+pub mod NamedFields
 pub mod NamedFrames
 pub mod NamedItems
 pub mod NamedLimits

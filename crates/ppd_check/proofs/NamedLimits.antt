@@ -35,16 +35,16 @@ le_true a b h = grind (arith, h)
 lt_true : (a b : ℕ) → nat_lt a b ≡ true → a < b
 lt_true a b h = grind (arith, h)
 
-sized : (least most : ℕ) (n : Number) → size_faults least most n ≡ [] → (least ≤ n.value) × (n.value ≤ most)
+pub sized : (least most : ℕ) (n : Number) → size_faults least most n ≡ [] → (least ≤ n.value) × (n.value ≤ most)
 sized least most n h =
     let both : (nat_le least n.value ≡ true) × (nat_le n.value most ≡ true) =
     both_true (nat_le least n.value) (nat_le n.value most) (unless_true (nat_le least n.value && nat_le n.value most) n.place BadSize h) in
     (le_true least n.value both.0, le_true n.value most both.1)
 
-abbrev StartsWithin : Object → Type 0
+abbrev pub StartsWithin : Object → Type 0
 StartsWithin o = o.number ≤ MOST_START
 
-abbrev HoldsWithin : Object → Type 0
+abbrev pub HoldsWithin : Object → Type 0
 HoldsWithin o = (LEAST_CAPACITY ≤ o.number) × (o.number ≤ MOST_CAPACITY)
 
 -- start values and capacities are in their ranges
@@ -102,6 +102,9 @@ breaks_none s h =
       bodies = nil_left (flat_map (head_faults g.scope) (heads g)) f4 h3;
       statements = nil_right (flat_map (head_faults g.scope) (heads g)) f4 h3;
     }
+
+pub source_sized : (s : Source) → BreaksNone s → AreSized (globals s)
+source_sized s none = items_sized s.items no_globals none.items (record { semaphores = All-nil StartsWithin; channels = All-nil HoldsWithin })
 
 -- as many of each sort as there may be
 pub record AreFew (g : Globals) : Type 0 where
@@ -200,9 +203,7 @@ counted s none =
     few = are_few (globals s) none.counts
 
     sizes : AreSized (globals s)
-    sizes =
-        items_sized s.items no_globals none.items
-        (record { semaphores = All-nil StartsWithin; channels = All-nil HoldsWithin })
+    sizes = source_sized s none
 
     fit : as_short (length (globals s).functions) ≡ length (globals s).functions
     fit = functions_fit (length (globals s).functions) few.functions
