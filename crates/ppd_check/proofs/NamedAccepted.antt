@@ -1,33 +1,28 @@
 -- What the names of an accepted source give for its program.
-use Rattle.std.proofs.Common.{◌≡◌, refl, sym, subst, ℕ, ◌≤◌, List, [], ◌∷◌, length}
+use Rattle.std.proofs.Common.{◌≡◌, List, [], ◌∷◌, length}
 use Rattle.std.specs.List.{All, flat_map}
 use Rattle.std.proofs.lemmas.List.Elements.{All-nil, All-cons, All-head, All-tail}
-use Rattle.ppd_ast.specs.declared.limits.TheConstants.{MOST_LOCAL_CELLS}
 use Rattle.ppd_ast.specs.declared.program.Var.{Var}
 use Rattle.ppd_ast.specs.declared.program.Program.{Program}
-use Rattle.ppd_ast.specs.Cells.{CoverCells, AreParams}
+use Rattle.ppd_ast.specs.Cells.{CoverCells}
+use Rattle.ppd_lex.specs.declared.token.Token.{Token}
 use Rattle.ppd_parse.specs.Grammar.{Shape}
-use Rattle.ppd_check.specs.declared.fault.Fault.{Fault}
-use Rattle.ppd_check.specs.Fitted.{as_short}
+use Rattle.ppd_parse.specs.Limits.{IsTree}
 use Rattle.ppd_check.specs.Names.{Scope}
 use Rattle.ppd_check.specs.Reading.{source_of}
 use Rattle.ppd_check.specs.Syntax.{Source}
-use Rattle.ppd_check.specs.Sources.{Head, Globals, no_globals, globals, heads, head_faults, head_code, head_frame, vars, core, Accepted}
-use Rattle.ppd_lawnames.proofs.NamedRightly.{AreThere, AreNamedRightly}
-use Rattle.ppd_lawnames.proofs.NamedTerms.{nil_left, nil_right}
-use Rattle.ppd_lawnames.proofs.NamedRows.{HasSteps}
-use Rattle.ppd_lawnames.proofs.NamedItems.{table_of}
-use Rattle.ppd_lawnames.proofs.NamedLimits.{BreaksNone, breaks_none, AreFew, are_few, IsCounted, counted, shared_cells}
-use Rattle.ppd_lawnames.proofs.NamedSources.{IsAllowed, names_there, head_rightly, HasFrame, head_has_frame}
+use Rattle.ppd_check.specs.Sources.{Head, globals, heads, head_faults, head_code, head_frame, vars, core, Accepted}
+use Rattle.ppd_check.proofs.NamedRightly.{AreThere, AreNamedRightly}
+use Rattle.ppd_check.proofs.NamedTerms.{nil_left, nil_right}
+use Rattle.ppd_check.proofs.NamedRows.{HasSteps}
+use Rattle.ppd_check.proofs.NamedSteps.{tree_steps}
+use Rattle.ppd_check.proofs.NamedLimits.{BreaksNone, breaks_none, AreFew, are_few, IsCounted, counted, shared_cells}
+use Rattle.ppd_check.proofs.NamedSources.{IsAllowed, names_there, head_rightly, HasFrame, head_has_frame}
 
 -- a function or a process: its frame, and what its statements name
 pub record IsNamedHead (p : Program) (scope : Scope) (h : Head) : Type 0 where
   pub frame : HasFrame scope h
   pub code : AreNamedRightly p (vars 0 (head_frame scope h).variables) (head_code scope h)
-
--- each `for` of each body is as the grammar has it
-abbrev pub HaveSteps : Source → Type 0
-HaveSteps s = All (λ h. HasSteps h.block.row) (heads (globals s))
 
 each_named : (p : Program) (scope : Scope) (hs : List Head) → ((locals : List Var) → AreThere p locals scope) → All (λ h. HasSteps h.block.row) hs → flat_map (head_faults scope) hs ≡ []
     → All (IsNamedHead p scope) hs
@@ -45,13 +40,13 @@ each_named p scope (h ∷ hs) there steps e =
 source_allowed : (s : Source) → BreaksNone s → IsAllowed (globals s)
 source_allowed s none = let few : AreFew (globals s) = are_few (globals s) none.counts in record { functions = few.functions; bodies = none.bodies }
 
--- the statements of each body of an accepted source name whole variables of its frame and of the shared ones, objects that are there,
+-- the statements of each body of an accepted program name whole variables of its frame and of the shared ones, objects that are there,
 -- and functions with their parameters and values
-pub accepted_heads : (t : Shape) → Accepted t → HaveSteps (source_of t) → All (IsNamedHead (core t) (globals (source_of t)).scope) (heads (globals (source_of t)))
-accepted_heads t a steps =
+pub accepted_heads : (ts : List Token) (t : Shape) → IsTree ts (t ∷ []) → Accepted t → All (IsNamedHead (core t) (globals (source_of t)).scope) (heads (globals (source_of t)))
+accepted_heads ts t tree a =
     let s : Source = source_of t in
     let none : BreaksNone s = breaks_none s a in
-    each_named (core t) (globals s).scope (heads (globals s)) (λ locals. names_there s.items locals (source_allowed s none)) steps none.bodies
+    each_named (core t) (globals s).scope (heads (globals s)) (λ locals. names_there s.items locals (source_allowed s none)) (tree_steps ts t tree) none.bodies
 
 pub accepted_counted : (t : Shape) → Accepted t → IsCounted (core t)
 accepted_counted t a = counted (source_of t) (breaks_none (source_of t) a)

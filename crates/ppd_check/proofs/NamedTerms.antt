@@ -1,30 +1,21 @@
 -- Expressions and statements that break no rule name what is there.
-use Rattle.std.proofs.Common.{◌≡◌, refl, sym, ap, subst, ◌∙◌, ℕ, ◌+◌, ◌<◌, arith, Bool, true, false, if◌then◌else◌, ◌&&◌, not, nat_eq, List, [], ◌∷◌, ◌++◌, map, length, Option, Some, None, is_some, IsSomeAnd, IfSome, slice_get, IsSome, IsTrue}
+use Rattle.std.proofs.Common.{◌≡◌, refl, ℕ, Bool, true, false, if◌then◌else◌, List, [], ◌∷◌, ◌++◌, map, Option, Some, None, is_some, IfSome}
 use Rattle.std.specs.List.{All, flat_map}
-use Rattle.std.specs.Prelude.{bytes_eq, ⊤}
-use Rattle.std.proofs.lemmas.List.{length-map}
-use Rattle.std.proofs.lemmas.List.Elements.{All-nil, All-cons, All-append, All-map}
+use Rattle.std.specs.Prelude.{bytes_eq}
+use Rattle.std.proofs.lemmas.List.Elements.{All-nil, All-cons}
 use Rattle.ppd_ast.specs.declared.program.Place.{Place}
 use Rattle.ppd_ast.specs.declared.program.Var.{Var}
-use Rattle.ppd_ast.specs.declared.program.Body.{Body}
 use Rattle.ppd_ast.specs.declared.program.Program.{Program}
-use Rattle.ppd_ast.specs.Term as T
 use Rattle.ppd_ast.specs.Term.{Term}
-use Rattle.ppd_ast.specs.Cells.{IsScalarOf, IsArrayOf, NamesWhole}
-use Rattle.ppd_check.specs.declared.fault.Fault.{Fault}
+use Rattle.ppd_ast.specs.Cells.{NamesWhole}
 use Rattle.ppd_check.specs.declared.fault.Cause.{Cause}
-use Rattle.ppd_check.specs.Names.{Scope, found, else_in, meaning, declare, in_innermost, fits, is_semaphore, is_channel, semaphore_of, channel_of, function_of}
+use Rattle.ppd_check.specs.Names.{Scope, found, else_in, meaning, declare, in_innermost, fits}
 use Rattle.ppd_check.specs.declared.meaning.Meaning.{Meaning}
 use Rattle.ppd_check.specs.declared.meaning.Meaning.TheVariants as M
-use Rattle.ppd_check.specs.Faults.{at, unless, if_so}
-use Rattle.ppd_check.specs.Code as C
-use Rattle.ppd_check.specs.Code.{Spot, Act}
-use Rattle.ppd_check.specs.Table.{roots, spot_terms}
-use Rattle.ppd_check.specs.Syntax.{Name, Formula, number, variable, element, negated, inverted, two, both, either, Goal, scalar, item}
-use Rattle.ppd_check.specs.Reading.{goal_formula}
-use Rattle.ppd_check.specs.Expressions.{read_scalar, read_element, term_of, wrong_use, name_faults, formula_faults, wrong_call, call_faults}
-use Rattle.ppd_check.specs.Statements.{spot, spot_of}
-use Rattle.ppd_lawnames.proofs.NamedRightly.{IsThere, AreThere, AreAllThere, IsNamedRightly}
+use Rattle.ppd_check.specs.Faults.{unless, if_so}
+use Rattle.ppd_check.specs.Syntax.{Formula, number, variable, element, negated, inverted, two, both, either}
+use Rattle.ppd_check.specs.Expressions.{read_scalar, read_element, term_of, wrong_use, name_faults, formula_faults}
+use Rattle.ppd_check.proofs.NamedRightly.{IsThere, AreThere, AreAllThere}
 
 -- Lists of no faults.
 

@@ -1,11 +1,9 @@
 -- The names of an accepted source mean what is there, and each of its bodies names only that.
-use Rattle.std.proofs.Common.{◌≡◌, refl, sym, ap, subst, ◌∙◌, ℕ, suc, ◌+◌, ◌-◌, ◌^◌, ◌<◌, ◌≤◌, min, arith, Bool, true, false, if◌then◌else◌, List, [], ◌∷◌, ◌++◌, map, length, Option, Some, None, IsSomeAnd, slice_get}
+use Rattle.std.proofs.Common.{◌≡◌, refl, sym, ap, subst, ◌∙◌, ℕ, ◌+◌, ◌<◌, ◌≤◌, arith, Bool, true, false, if◌then◌else◌, List, [], ◌∷◌, ◌++◌, map, length, Some, None, IsSomeAnd, slice_get}
 use Rattle.std.specs.List.{flat_map}
-use Rattle.std.specs.Prelude.{⊤}
 use Rattle.std.proofs.lemmas.List.{append_assoc, length-append, length-map}
 use Rattle.ppd_ast.specs.declared.limits.TheConstants.{MOST_FUNCTIONS, MOST_LOCAL_CELLS}
 use Rattle.ppd_ast.specs.declared.program.Var.{Var}
-use Rattle.ppd_ast.specs.declared.program.Body.{Body}
 use Rattle.ppd_ast.specs.declared.program.Program.{Program}
 use Rattle.ppd_ast.specs.Cells.{CoverCells, AreParams}
 use Rattle.ppd_check.specs.declared.fault.Fault.{Fault}
@@ -17,16 +15,16 @@ use Rattle.ppd_check.specs.Fitted.{as_byte, as_short}
 use Rattle.ppd_check.specs.Names.{Scope}
 use Rattle.ppd_check.specs.Code as C
 use Rattle.ppd_check.specs.Code.{Code, act, done}
-use Rattle.ppd_check.specs.Syntax.{Name, Item, shared, shared_array, semaphore, channel, function, process, Row}
-use Rattle.ppd_check.specs.Statements.{variable_of, declared, after_row, row_code, row_faults}
-use Rattle.ppd_check.specs.Sources.{Head, Object, Globals, no_globals, item_name, item_meaning, with_item, with_items, past_cells, with_params, params_faults, outer, entry, ends_with_return, close_code, head_code, head_frame, return_faults, head_faults, heads, vars, body, bodies, sem, chan}
-use Rattle.ppd_lawnames.proofs.NamedRightly.{IsThere, AreThere, IsNamedRightly, AreNamedRightly}
-use Rattle.ppd_lawnames.proofs.NamedTerms.{nil_left, nil_right, declare_there}
-use Rattle.ppd_lawnames.proofs.NamedActs.{bare_back_rightly, finish_rightly}
-use Rattle.ppd_lawnames.proofs.NamedFrames.{LeadsTo, leads_itself, leads_further, cells_after, last_there, row_leads, IsOnTheWay, declared_on, row_on}
-use Rattle.ppd_lawnames.proofs.NamedRows.{HasSteps, row_rightly, join_rightly}
-use Rattle.ppd_lawnames.proofs.NamedCells.{total, cells_total, cells_within, cover_cells, params_first}
-use Rattle.ppd_lawnames.proofs.NamedItems.{table_of, HasAll, has_itself, has_items, has_further, has_item, item_cells, flat_map_at, body_at, params_lead, cells_faults, few_locals, few_params}
+use Rattle.ppd_check.specs.Syntax.{Name, Item, shared, shared_array, semaphore, channel, function, process}
+use Rattle.ppd_check.specs.Statements.{variable_of, declared, row_code, row_faults}
+use Rattle.ppd_check.specs.Sources.{Head, Globals, no_globals, item_name, item_meaning, with_item, with_items, past_cells, with_params, params_faults, outer, entry, ends_with_return, close_code, head_code, head_frame, return_faults, head_faults, heads, vars, body, bodies, sem, chan}
+use Rattle.ppd_check.proofs.NamedRightly.{IsThere, AreThere, AreNamedRightly}
+use Rattle.ppd_check.proofs.NamedTerms.{nil_left, nil_right, declare_there}
+use Rattle.ppd_check.proofs.NamedActs.{bare_back_rightly, finish_rightly}
+use Rattle.ppd_check.proofs.NamedFrames.{LeadsTo, leads_itself, leads_further, cells_after, last_there, row_leads, IsOnTheWay, declared_on, row_on}
+use Rattle.ppd_check.proofs.NamedRows.{HasSteps, row_rightly, join_rightly}
+use Rattle.ppd_check.proofs.NamedCells.{total, cells_total, cells_within, cover_cells, params_first}
+use Rattle.ppd_check.proofs.NamedItems.{table_of, HasAll, has_itself, has_items, has_further, item_cells, flat_map_at, body_at, params_lead, cells_faults, few_locals, few_params}
 
 -- Names of the whole source.
 
@@ -55,10 +53,11 @@ pub record IsAllowed (g : Globals) : Type 0 where
 -- a function's number is that of its body
 function_there : (g : Globals) (locals : List Var) (before : List Head) (h : Head) → IsAllowed g → LeadsTo (before ++ h ∷ []) g.functions
     → IsThere (table_of g) locals (M.Function (as_short (length before)) (length h.params) h.gives)
-function_there g locals before h allowed lead =
-    (capped_short (length before) (length g.functions) below allowed.functions,
-    subst (λ k. IsSomeAnd (slice_get (bodies g.scope 0 (heads g)) k) (λ b. (length h.params ≡ b.params) × (h.gives ≡ b.value)))
-    (sym (short_same (length before) (length g.functions) below allowed.functions)) there)
+function_there g locals before h allowed lead = (
+  capped_short (length before) (length g.functions) below allowed.functions,
+  subst (λ k. IsSomeAnd (slice_get (bodies g.scope 0 (heads g)) k) (λ b. (length h.params ≡ b.params) × (h.gives ≡ b.value)))
+      (sym (short_same (length before) (length g.functions) below allowed.functions)) there,
+)
   where
     below : length before < length g.functions
     below = longer before h g.functions lead
@@ -155,11 +154,12 @@ frame_of : (vs : List Variable) (cells n : ℕ) (xs : List Name) → cells ≡ c
 frame_of vs cells n xs is few lead h =
     let a : cells_after 0 vs ≤ MOST_LOCAL_CELLS = cells_within MOST_LOCAL_CELLS L.Locals few_locals 0 vs (omega arith) h in
     let b : cells_after 0 vs ≡ 0 + total vs = cells_total MOST_LOCAL_CELLS L.Locals few_locals 0 vs h in
-    let c : total vs ≡ cells = omega (arith, b, is) in
-    (subst (λ k. k ≤ MOST_LOCAL_CELLS) (sym is) a,
-    subst (λ k. CoverCells (vars 0 vs) k) c (cover_cells MOST_LOCAL_CELLS L.Locals few_locals vs h),
-    subst (λ l. AreParams (vars 0 l) n) (sym lead.1)
-    (params_first MOST_LOCAL_CELLS L.Locals few_locals xs lead.0 n few (subst (λ l. past_cells MOST_LOCAL_CELLS L.Locals 0 l ≡ []) lead.1 h)))
+    let c : total vs ≡ cells = omega (arith, b, is) in (
+      subst (λ k. k ≤ MOST_LOCAL_CELLS) (sym is) a,
+      subst (λ k. CoverCells (vars 0 vs) k) c (cover_cells MOST_LOCAL_CELLS L.Locals few_locals vs h),
+      subst (λ l. AreParams (vars 0 l) n) (sym lead.1)
+          (params_first MOST_LOCAL_CELLS L.Locals few_locals xs lead.0 n few (subst (λ l. past_cells MOST_LOCAL_CELLS L.Locals 0 l ≡ []) lead.1 h)),
+    )
 
 short_at_most : (n : ℕ) → as_short n ≤ n
 short_at_most n = omega arith

@@ -1,27 +1,23 @@
 -- What is declared in the scope of a whole source is there.
-use Rattle.std.proofs.Common.{◌≡◌, refl, sym, ap, subst, ◌∙◌, ℕ, ℤ, pos, zero, suc, ◌+◌, ◌-◌, ◌^◌, ◌<◌, ◌≤◌, min, arith, Bool, true, false, List, [], ◌∷◌, ◌++◌, map, replicate, length, Option, Some, None, IsSomeAnd, slice_get}
-use Rattle.std.specs.List.{All, flat_map}
-use Rattle.std.proofs.lemmas.List.{append_assoc, append-nil, length-append, length-map, length-replicate}
-use Rattle.ppd_ast.specs.declared.limits.TheConstants.{MOST_FUNCTIONS, MOST_LOCAL_CELLS}
-use Rattle.ppd_ast.specs.declared.program.Var.{Var}
-use Rattle.ppd_ast.specs.declared.program.Body.{Body}
+use Rattle.std.proofs.Common.{◌≡◌, refl, sym, ap, subst, ◌∙◌, ℕ, ℤ, pos, ◌+◌, ◌-◌, ◌^◌, ◌<◌, ◌≤◌, arith, List, [], ◌∷◌, ◌++◌, map, replicate, length, Some, None, slice_get}
+use Rattle.std.specs.List.{flat_map}
+use Rattle.std.proofs.lemmas.List.{append_assoc, append-nil, length-append, length-replicate}
+use Rattle.ppd_ast.specs.declared.limits.TheConstants.{MOST_LOCAL_CELLS}
 use Rattle.ppd_ast.specs.declared.program.Program.{Program}
 use Rattle.ppd_check.specs.declared.fault.Fault.{Fault}
 use Rattle.ppd_check.specs.declared.fault.Limit.TheVariants as L
 use Rattle.ppd_check.specs.declared.frame.Variable.{Variable}
 use Rattle.ppd_check.specs.declared.frame.Frame.{Frame}
-use Rattle.ppd_check.specs.declared.meaning.Meaning.TheVariants as M
-use Rattle.ppd_check.specs.Fitted.{as_byte, as_short}
+use Rattle.ppd_check.specs.Fitted.{as_short}
 use Rattle.ppd_check.specs.Names.{Scope}
 use Rattle.ppd_check.specs.Code.{count}
 use Rattle.ppd_check.specs.Table.{flats, terms}
-use Rattle.ppd_check.specs.Syntax.{Name, Number, Item, shared, shared_array, semaphore, channel, function, process, Source}
-use Rattle.ppd_check.specs.Statements.{size, after_cells, variable_of, declared, after_row, row_faults}
-use Rattle.ppd_check.specs.Sources.{Head, Object, Globals, no_globals, item_name, item_meaning, listed, with_item, with_items, globals, past_cells, with_params, params_faults, outer, entry, head_code, head_frame, return_faults, head_faults, heads, codes, vars, body, bodies, all_stmts, sem, chan, core_of}
-use Rattle.ppd_lawnames.proofs.NamedRightly.{IsThere, AreThere}
-use Rattle.ppd_lawnames.proofs.NamedTerms.{nil_left, nil_right, declare_there}
-use Rattle.ppd_lawnames.proofs.NamedFrames.{LeadsTo, leads_itself, leads_further, leads_on, cells_after, cells_push, last_there, row_leads}
-use Rattle.ppd_lawnames.proofs.NamedCells.{total, cells_total, cells_within}
+use Rattle.ppd_check.specs.Syntax.{Name, Item, shared, shared_array, semaphore, channel, function, process, Source}
+use Rattle.ppd_check.specs.Statements.{size, after_cells, variable_of, declared, row_faults}
+use Rattle.ppd_check.specs.Sources.{Head, Globals, with_item, with_items, globals, past_cells, with_params, params_faults, outer, entry, head_code, head_frame, return_faults, head_faults, heads, codes, vars, body, bodies, all_stmts, sem, chan, core_of}
+use Rattle.ppd_check.proofs.NamedTerms.{nil_left, nil_right}
+use Rattle.ppd_check.proofs.NamedFrames.{LeadsTo, leads_itself, leads_further, leads_on, cells_after, cells_push, row_leads}
+use Rattle.ppd_check.proofs.NamedCells.{total, cells_total, cells_within}
 
 -- the table of what is declared
 abbrev pub table_of : Globals → Program

@@ -1,31 +1,29 @@
 -- Rows that break no rule name what is there.
-use Rattle.std.proofs.Common.{◌≡◌, refl, sym, ap, subst, ◌∙◌, ℕ, Bool, true, false, List, [], ◌∷◌, ◌++◌, map, length, Option, Some, None}
-use Rattle.std.specs.List.{flat_map}
+use Rattle.std.proofs.Common.{◌≡◌, ℕ, true, List, [], ◌∷◌, ◌++◌, Option, Some, None}
 use Rattle.std.specs.Prelude.{⊤}
-use Rattle.ppd_ast.specs.declared.limits.TheConstants.{MOST_LOCAL_CELLS}
 use Rattle.ppd_ast.specs.declared.program.Place.{Place}
 use Rattle.ppd_ast.specs.declared.program.Var.{Var}
 use Rattle.ppd_ast.specs.declared.program.Program.{Program}
 use Rattle.ppd_ast.specs.Term as T
 use Rattle.ppd_ast.specs.Term.{Term}
-use Rattle.ppd_ast.specs.Cells.{IsScalarOf, NamesWhole}
+use Rattle.ppd_ast.specs.Cells.{IsScalarOf}
 use Rattle.ppd_check.specs.declared.fault.Fault.{Fault}
 use Rattle.ppd_check.specs.declared.frame.Variable.{Variable}
 use Rattle.ppd_check.specs.declared.frame.Frame.{Frame}
 use Rattle.ppd_check.specs.Fitted.{as_short}
-use Rattle.ppd_check.specs.Names.{Scope, innermost, is_channel}
+use Rattle.ppd_check.specs.Names.{innermost, is_channel}
 use Rattle.ppd_check.specs.Code as C
 use Rattle.ppd_check.specs.Code.{Spot, Act, Code, done, act, choice, loop, join, acts}
 use Rattle.ppd_check.specs.Syntax.{Name, Value, plain, result, received, Simple, fresh, array, store, change, call, give_back, take, give, send, print, assert, Row, stop, simple, block, repeat, count}
 use Rattle.ppd_check.specs.Syntax as S
 use Rattle.ppd_check.specs.Reading.{goal_formula}
 use Rattle.ppd_check.specs.Expressions.{term_of, name_faults, formula_faults}
-use Rattle.ppd_check.specs.Statements.{declared, opened, closed, goal_name, spot_of, via_hidden, hidden_if, after, after_any, after_row, put, store_acts, return_acts, place_of, acts_of, code_of, code_of_any, row_code, value_faults, twice_faults, size_faults, faults_of, faults_of_any, row_faults}
+use Rattle.ppd_check.specs.Statements.{declared, opened, closed, goal_name, spot_of, via_hidden, hidden_if, after, after_any, after_row, put, store_acts, place_of, acts_of, code_of, code_of_any, row_code, value_faults, twice_faults, faults_of, faults_of_any, row_faults}
 use Rattle.ppd_check.specs.Sources.{vars}
-use Rattle.ppd_lawnames.proofs.NamedRightly.{IsNamedRightly, AreNamedRightly}
-use Rattle.ppd_lawnames.proofs.NamedTerms.{nil_left, nil_right, formula_whole}
-use Rattle.ppd_lawnames.proofs.NamedActs.{IsWholeSpot, spot_whole, set_rightly, clear_rightly, back_rightly, bare_back_rightly, print_rightly, assert_rightly, take_rightly, give_rightly, send_rightly, call_rightly, put_rightly}
-use Rattle.ppd_lawnames.proofs.NamedFrames.{LeadsTo, leads_further, after_leads, row_leads, IsOnTheWay, local_there, declared_on, hidden_there, opened_on, closed_on, after_on, after_any_on, row_on}
+use Rattle.ppd_check.proofs.NamedRightly.{IsNamedRightly, AreNamedRightly}
+use Rattle.ppd_check.proofs.NamedTerms.{nil_left, nil_right, formula_whole}
+use Rattle.ppd_check.proofs.NamedActs.{IsWholeSpot, spot_whole, set_rightly, clear_rightly, back_rightly, bare_back_rightly, print_rightly, assert_rightly, take_rightly, give_rightly, send_rightly, call_rightly, put_rightly}
+use Rattle.ppd_check.proofs.NamedFrames.{LeadsTo, leads_further, row_leads, IsOnTheWay, local_there, declared_on, hidden_there, opened_on, closed_on, after_on, after_any_on, row_on}
 
 -- Statements at one place, and rows one after another.
 
@@ -111,10 +109,12 @@ module _ (p : Program) (vs : List Variable) where
 
   simple_rightly : (s : Simple) (f : Frame) → IsOnTheWay p vs f → LeadsTo (after s f).variables vs → faults_of s f ≡ [] → EachNamedRightly p (vars 0 vs) (acts_of s f)
   simple_rightly (fresh x v) f way l h =
-      let new : IsOnTheWay p vs (declared x None f) = declared_on p vs x None f way l in
-      (put_rightly p (vars 0 vs) (declared x None f).scopes f.cells v new.names
-      (nil_right (twice_faults (innermost f.scopes) x) (value_faults (declared x None f).scopes v) h)
-      (local_there p vs None x f way l), tt)
+      let new : IsOnTheWay p vs (declared x None f) = declared_on p vs x None f way l in (
+        put_rightly p (vars 0 vs) (declared x None f).scopes f.cells v new.names
+            (nil_right (twice_faults (innermost f.scopes) x) (value_faults (declared x None f).scopes v) h)
+            (local_there p vs None x f way l),
+        tt,
+      )
   simple_rightly (array x n) f way l h = (clear_rightly p (vars 0 vs) f.cells (as_short n.value) (local_there p vs (Some (as_short n.value)) x f way l), tt)
   simple_rightly (store g v) f way l h =
       store_rightly (spot_of f.scopes g) v (goal_name g).place f way l
@@ -122,10 +122,12 @@ module _ (p : Program) (vs : List Variable) where
       (nil_right (formula_faults f.scopes (goal_formula g)) (value_faults f.scopes v) h)
   simple_rightly (change g op e) f way l h =
       let a : formula_faults f.scopes (goal_formula g) ≡ [] = nil_left (formula_faults f.scopes (goal_formula g)) (formula_faults f.scopes e) h in
-      let b : formula_faults f.scopes e ≡ [] = nil_right (formula_faults f.scopes (goal_formula g)) (formula_faults f.scopes e) h in
-      (set_rightly p (vars 0 vs) (spot_of f.scopes g) (T.two op (term_of f.scopes (goal_formula g)) (term_of f.scopes e))
-      (spot_whole p (vars 0 vs) f.scopes g way.names a)
-      (formula_whole p (vars 0 vs) f.scopes (goal_formula g) way.names a, formula_whole p (vars 0 vs) f.scopes e way.names b), tt)
+      let b : formula_faults f.scopes e ≡ [] = nil_right (formula_faults f.scopes (goal_formula g)) (formula_faults f.scopes e) h in (
+        set_rightly p (vars 0 vs) (spot_of f.scopes g) (T.two op (term_of f.scopes (goal_formula g)) (term_of f.scopes e))
+            (spot_whole p (vars 0 vs) f.scopes g way.names a)
+            (formula_whole p (vars 0 vs) f.scopes (goal_formula g) way.names a, formula_whole p (vars 0 vs) f.scopes e way.names b),
+        tt,
+      )
   simple_rightly (call g args) f way l h = (call_rightly p (vars 0 vs) f.scopes g args None way.names h tt, tt)
   simple_rightly (give_back q None) f way l h = (bare_back_rightly p (vars 0 vs), tt)
   simple_rightly (give_back q (Some (plain e))) f way l h = (back_rightly p (vars 0 vs) (term_of f.scopes e) (formula_whole p (vars 0 vs) f.scopes e way.names h), tt)
@@ -133,9 +135,11 @@ module _ (p : Program) (vs : List Variable) where
   simple_rightly (give_back q (Some (received x))) f way l h = back_through_hidden (received x) q f way l h
   simple_rightly (take q x) f way l h = (take_rightly p (vars 0 vs) f.scopes x way.names h, tt)
   simple_rightly (give q x) f way l h = (give_rightly p (vars 0 vs) f.scopes x way.names h, tt)
-  simple_rightly (send q x e) f way l h =
-      (send_rightly p (vars 0 vs) f.scopes x (term_of f.scopes e) way.names (nil_left (name_faults is_channel f.scopes x) (formula_faults f.scopes e) h)
-      (formula_whole p (vars 0 vs) f.scopes e way.names (nil_right (name_faults is_channel f.scopes x) (formula_faults f.scopes e) h)), tt)
+  simple_rightly (send q x e) f way l h = (
+    send_rightly p (vars 0 vs) f.scopes x (term_of f.scopes e) way.names (nil_left (name_faults is_channel f.scopes x) (formula_faults f.scopes e) h)
+        (formula_whole p (vars 0 vs) f.scopes e way.names (nil_right (name_faults is_channel f.scopes x) (formula_faults f.scopes e) h)),
+    tt,
+  )
   simple_rightly (print q e) f way l h = (print_rightly p (vars 0 vs) (term_of f.scopes e) (formula_whole p (vars 0 vs) f.scopes e way.names h), tt)
   simple_rightly (assert q e) f way l h = (assert_rightly p (vars 0 vs) (term_of f.scopes e) (formula_whole p (vars 0 vs) f.scopes e way.names h), tt)
 
@@ -173,19 +177,21 @@ module _ (p : Program) (vs : List Variable) where
       let f2 : List Fault = row_faults b g ++ row_faults r k in
       let f1 : List Fault = row_faults a f ++ f2 in
       let h1 : f1 ≡ [] = nil_right (formula_faults f.scopes e) f1 h in
-      let h2 : f2 ≡ [] = nil_right (row_faults a f) f2 h1 in
-      (formula_whole p (vars 0 vs) f.scopes e way.names (nil_left (formula_faults f.scopes e) f1 h),
-      row_rightly a f way n s.0 (nil_left (row_faults a f) f2 h1),
-      row_rightly b g between m s.1 (nil_left (row_faults b g) (row_faults r k) h2),
-      row_rightly r k (row_on p vs b g between m) l s.2 (nil_right (row_faults b g) (row_faults r k) h2))
+      let h2 : f2 ≡ [] = nil_right (row_faults a f) f2 h1 in (
+        formula_whole p (vars 0 vs) f.scopes e way.names (nil_left (formula_faults f.scopes e) f1 h),
+        row_rightly a f way n s.0 (nil_left (row_faults a f) f2 h1),
+        row_rightly b g between m s.1 (nil_left (row_faults b g) (row_faults r k) h2),
+        row_rightly r k (row_on p vs b g between m) l s.2 (nil_right (row_faults b g) (row_faults r k) h2),
+      )
   row_rightly (repeat q e b r) f way l s h =
       let g : Frame = after_row b f in
       let m : LeadsTo g.variables vs = leads_further _ _ _ (row_leads r g) l in
       let f1 : List Fault = row_faults b f ++ row_faults r g in
-      let h1 : f1 ≡ [] = nil_right (formula_faults f.scopes e) f1 h in
-      (formula_whole p (vars 0 vs) f.scopes e way.names (nil_left (formula_faults f.scopes e) f1 h),
-      row_rightly b f way m s.0 (nil_left (row_faults b f) (row_faults r g) h1),
-      row_rightly r g (row_on p vs b f way m) l s.1 (nil_right (row_faults b f) (row_faults r g) h1))
+      let h1 : f1 ≡ [] = nil_right (formula_faults f.scopes e) f1 h in (
+        formula_whole p (vars 0 vs) f.scopes e way.names (nil_left (formula_faults f.scopes e) f1 h),
+        row_rightly b f way m s.0 (nil_left (row_faults b f) (row_faults r g) h1),
+        row_rightly r g (row_on p vs b f way m) l s.1 (nil_right (row_faults b f) (row_faults r g) h1),
+      )
   row_rightly (count q start e step b r) f way l s h =
       let g : Frame = after_any start (opened f) in
       let k : Frame = after_row b g in
@@ -203,9 +209,10 @@ module _ (p : Program) (vs : List Variable) where
       let h3 : f3 ≡ [] = nil_right (row_faults b g) f3 h2 in
       let turn : Code = join (row_code b g) (code_of_any step k) in
       join_rightly p (vars 0 vs) (code_of_any start (opened f)) (loop q (term_of g.scopes e) turn (row_code r (closed f k)))
-      (any_rightly start (opened f) inner n (nil_left (faults_of_any start (opened f)) f1 h))
-      (formula_whole p (vars 0 vs) g.scopes e begun.names (nil_left (formula_faults g.scopes e) f2 h1),
-      join_rightly p (vars 0 vs) (row_code b g) (code_of_any step k)
-      (row_rightly b g begun m s.1 (nil_left (row_faults b g) f3 h2))
-      (any_rightly step k turned (step_leads step k vs s.0 m) (nil_left (faults_of_any step k) f4 h3)),
-      row_rightly r (closed f k) (closed_on p vs f k way turned) l s.2 (nil_right (faults_of_any step k) f4 h3))
+      (any_rightly start (opened f) inner n (nil_left (faults_of_any start (opened f)) f1 h)) (
+        formula_whole p (vars 0 vs) g.scopes e begun.names (nil_left (formula_faults g.scopes e) f2 h1),
+        join_rightly p (vars 0 vs) (row_code b g) (code_of_any step k)
+            (row_rightly b g begun m s.1 (nil_left (row_faults b g) f3 h2))
+            (any_rightly step k turned (step_leads step k vs s.0 m) (nil_left (faults_of_any step k) f4 h3)),
+        row_rightly r (closed f k) (closed_on p vs f k way turned) l s.2 (nil_right (faults_of_any step k) f4 h3),
+      )

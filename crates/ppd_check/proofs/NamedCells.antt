@@ -1,5 +1,5 @@
 -- Variables that are within a limit share no cell and cover their cells.
-use Rattle.std.proofs.Common.{◌≡◌, refl, sym, ap, subst, ◌∙◌, ℕ, zero, suc, ◌+◌, ◌-◌, ◌^◌, ◌<◌, ◌≤◌, min, arith, Bool, true, false, cond, ◌&&◌, nat_lt, nat_le, List, [], ◌∷◌, ◌++◌, map, length, Option, Some, None, IsSomeAnd, slice_get, ◌⊎◌, inl, inr}
+use Rattle.std.proofs.Common.{◌≡◌, refl, sym, ap, subst, ◌∙◌, ℕ, zero, suc, ◌+◌, ◌-◌, ◌^◌, ◌<◌, ◌≤◌, arith, Bool, true, false, cond, ◌&&◌, nat_lt, nat_le, List, [], ◌∷◌, ◌++◌, map, length, Option, Some, None, IsSomeAnd, slice_get, ◌⊎◌, inl, inr}
 use Rattle.std.specs.List.{All, count_by}
 use Rattle.std.proofs.lemmas.List.Elements.{All-nil, All-cons}
 use Rattle.std.proofs.lemmas.List.Sums.{sum_by-cons}
@@ -14,13 +14,13 @@ use Rattle.ppd_check.specs.Fitted.{as_short}
 use Rattle.ppd_check.specs.Syntax.{Name}
 use Rattle.ppd_check.specs.Statements.{size, after_cells, variable_of}
 use Rattle.ppd_check.specs.Sources.{vars, past_cells}
-use Rattle.ppd_lawnames.proofs.NamedTerms.{nil_left, nil_right, if_so_false}
-use Rattle.ppd_lawnames.proofs.NamedFrames.{cells_after}
+use Rattle.ppd_check.proofs.NamedTerms.{nil_left, nil_right, if_so_false}
+use Rattle.ppd_check.proofs.NamedFrames.{cells_after}
 
 -- Numbers.
 
-lt_false : (a b : ℕ) → nat_lt a b ≡ false → b ≤ a
-lt_false a b h = grind (arith, h)
+pub not_less : (a b : ℕ) → nat_lt a b ≡ false → b ≤ a
+not_less a b h = grind (arith, h)
 
 short_is : (n most : ℕ) → most < 2 ^ 16 - 1 → as_short n ≤ most → as_short n ≡ n
 short_is n most small h = omega (arith, small, h)
@@ -63,7 +63,7 @@ module _ (most : ℕ) (limit : Limit) (small : most < 2 ^ 16 - 1) where
   first_within n v vs h =
       let a : nat_lt most (after_cells n v.length) ≡ false =
       if_so_false (nat_lt most (after_cells n v.length)) v.place (TooMany limit) (nil_left (if_so (nat_lt most (after_cells n v.length)) v.place (TooMany limit)) _ h) in
-      let b : after_cells n v.length ≤ most = lt_false most (after_cells n v.length) a in
+      let b : after_cells n v.length ≤ most = not_less most (after_cells n v.length) a in
       let c : after_cells n v.length ≡ n + size v.length = short_is (n + size v.length) most small b in
       (c, subst (λ k. k ≤ most) c b)
 

@@ -1,18 +1,15 @@
 -- Statements that break no rule name what is there.
-use Rattle.std.proofs.Common.{◌≡◌, refl, sym, ap, subst, ◌∙◌, ℕ, ◌+◌, ◌<◌, arith, Bool, true, false, ◌&&◌, not, nat_eq, List, [], ◌∷◌, ◌++◌, map, length, Option, Some, None, is_some, IsSomeAnd, IfSome, slice_get, IsSome, IsTrue}
+use Rattle.std.proofs.Common.{◌≡◌, refl, sym, subst, ◌∙◌, ℕ, ◌+◌, ◌<◌, arith, Bool, true, false, ◌&&◌, not, nat_eq, List, [], ◌∷◌, map, length, Option, Some, None, is_some, IsSomeAnd, IfSome, slice_get, IsSome, IsTrue}
 use Rattle.std.specs.List.{All, flat_map}
-use Rattle.std.specs.Prelude.{⊤}
 use Rattle.std.proofs.lemmas.List.{length-map}
 use Rattle.std.proofs.lemmas.List.Elements.{All-nil, All-cons, All-append}
 use Rattle.ppd_ast.specs.declared.program.Place.{Place}
 use Rattle.ppd_ast.specs.declared.program.Var.{Var}
 use Rattle.ppd_ast.specs.declared.program.Body.{Body}
 use Rattle.ppd_ast.specs.declared.program.Program.{Program}
-use Rattle.ppd_ast.specs.Term as T
 use Rattle.ppd_ast.specs.Term.{Term}
 use Rattle.ppd_ast.specs.Cells.{IsScalarOf, IsArrayOf, NamesWhole, IsWholeTarget, IsScalarIfAny}
 use Rattle.ppd_ast.specs.Valid.{CallsRightly}
-use Rattle.ppd_check.specs.declared.fault.Fault.{Fault}
 use Rattle.ppd_check.specs.declared.fault.Cause.TheVariants.{Arity, VoidValue}
 use Rattle.ppd_check.specs.Names.{Scope, meaning, fits, is_semaphore, is_channel, semaphore_of, channel_of, function_of}
 use Rattle.ppd_check.specs.declared.meaning.Meaning.{Meaning}
@@ -20,13 +17,13 @@ use Rattle.ppd_check.specs.declared.meaning.Meaning.TheVariants as M
 use Rattle.ppd_check.specs.Faults.{unless, if_so}
 use Rattle.ppd_check.specs.Code as C
 use Rattle.ppd_check.specs.Code.{Spot, Act}
-use Rattle.ppd_check.specs.Table.{root, roots, target, spot_terms, weight, kind}
+use Rattle.ppd_check.specs.Table.{roots, target, spot_terms, weight, kind}
 use Rattle.ppd_check.specs.Syntax.{Name, Formula, Goal, scalar, item, Value, plain, result, received}
 use Rattle.ppd_check.specs.Reading.{goal_formula}
 use Rattle.ppd_check.specs.Expressions.{read_scalar, read_element, term_of, wrong_use, name_faults, formula_faults, wrong_call, call_faults}
 use Rattle.ppd_check.specs.Statements.{spot, spot_of, put, value_faults}
-use Rattle.ppd_lawnames.proofs.NamedRightly.{IsThere, AreAllThere, IsNamedRightly}
-use Rattle.ppd_lawnames.proofs.NamedTerms.{nil_left, nil_right, not_nil, unless_true, if_so_false, meaning_there, formula_whole, formulas_whole}
+use Rattle.ppd_check.proofs.NamedRightly.{IsThere, AreAllThere, IsNamedRightly}
+use Rattle.ppd_check.proofs.NamedTerms.{nil_left, nil_right, not_nil, unless_true, if_so_false, meaning_there, formula_whole, formulas_whole}
 
 nat_eq_same : (a b : ℕ) → nat_eq a b ≡ true → a ≡ b
 nat_eq_same a b h = grind (arith, h)

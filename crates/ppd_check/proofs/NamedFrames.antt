@@ -1,20 +1,20 @@
 -- Frames on the way through a body: their variables are the first of the body's, and their names mean what is there.
-use Rattle.std.proofs.Common.{◌≡◌, refl, sym, ap, subst, ◌∙◌, ℕ, zero, suc, ◌+◌, ◌<◌, arith, Bool, true, false, List, [], ◌∷◌, ◌++◌, length, Option, Some, None}
+use Rattle.std.proofs.Common.{◌≡◌, refl, sym, ap, subst, ◌∙◌, ℕ, zero, suc, ◌<◌, arith, Bool, true, false, List, [], ◌∷◌, ◌++◌, length, Option, Some, None}
 use Rattle.std.specs.List.{Any}
 use Rattle.std.proofs.lemmas.List.{append_assoc, append-nil}
 use Rattle.ppd_ast.specs.declared.program.Place.{Place}
 use Rattle.ppd_ast.specs.declared.program.Var.{Var}
 use Rattle.ppd_ast.specs.declared.program.Program.{Program}
-use Rattle.ppd_ast.specs.Cells.{IsScalarOf, IsArrayOf}
+use Rattle.ppd_ast.specs.Cells.{IsScalarOf}
 use Rattle.ppd_check.specs.declared.frame.Variable.{Variable}
 use Rattle.ppd_check.specs.declared.frame.Frame.{Frame}
 use Rattle.ppd_check.specs.declared.meaning.Meaning.TheVariants as M
 use Rattle.ppd_check.specs.Fitted.{as_short}
-use Rattle.ppd_check.specs.Syntax.{Name, Value, plain, result, received, Simple, fresh, array, store, change, call, give_back, take, give, send, print, assert, Row, stop, simple, block, choice, repeat, count}
+use Rattle.ppd_check.specs.Syntax.{Name, Simple, fresh, array, store, change, call, give_back, take, give, send, print, assert, Row, stop, simple, block, choice, repeat, count}
 use Rattle.ppd_check.specs.Statements.{after_cells, variable_of, declared, with_hidden, opened, closed, goal_name, spot_of, via_hidden, return_via_hidden, hidden_if, after, after_any, after_row}
 use Rattle.ppd_check.specs.Sources.{vars}
-use Rattle.ppd_lawnames.proofs.NamedRightly.{IsThere, AreAllThere}
-use Rattle.ppd_lawnames.proofs.NamedTerms.{innermost_there}
+use Rattle.ppd_check.proofs.NamedRightly.{IsThere, AreAllThere}
+use Rattle.ppd_check.proofs.NamedTerms.{innermost_there}
 
 -- the second list is the first one and more
 abbrev pub LeadsTo : {X : Type 0} → (xs ys : List X) → Type 0

@@ -1,12 +1,9 @@
 -- The numbers of an accepted source are within the limits.
-use Rattle.std.proofs.Common.{◌≡◌, refl, sym, ap, subst, ◌∙◌, ℕ, zero, suc, ◌+◌, ◌-◌, ◌^◌, ◌<◌, ◌≤◌, min, arith, Bool, true, false, ◌&&◌, nat_lt, nat_le, List, [], ◌∷◌, ◌++◌, map, length, Option, Some, None, IsTrue}
+use Rattle.std.proofs.Common.{◌≡◌, refl, sym, ap, subst, ◌∙◌, ℕ, suc, ◌+◌, ◌-◌, ◌^◌, ◌<◌, ◌≤◌, arith, Bool, true, false, ◌&&◌, nat_lt, nat_le, List, [], ◌∷◌, ◌++◌, map, length}
 use Rattle.std.specs.List.{All, flat_map}
 use Rattle.std.proofs.lemmas.List.{length-append, length-map}
-use Rattle.std.proofs.lemmas.List.Elements.{All-nil, All-push, All-append, All-weaker, All-map}
+use Rattle.std.proofs.lemmas.List.Elements.{All-nil, All-push, All-weaker, All-map}
 use Rattle.ppd_ast.specs.declared.limits.TheConstants.{MOST_STATEMENTS, MOST_FUNCTIONS, MOST_PROCESSES, MOST_SHARED_CELLS, MOST_SEMAPHORES, MOST_CHANNELS, MOST_START, LEAST_CAPACITY, MOST_CAPACITY}
-use Rattle.ppd_ast.specs.declared.program.Sem.{Sem}
-use Rattle.ppd_ast.specs.declared.program.Chan.{Chan}
-use Rattle.ppd_ast.specs.declared.program.Body.{Body}
 use Rattle.ppd_ast.specs.declared.program.Program.{Program}
 use Rattle.ppd_ast.specs.Cells.{CoverCells}
 use Rattle.ppd_check.specs.declared.fault.Cause.TheVariants.{NoProcess, BadSize}
@@ -15,15 +12,15 @@ use Rattle.ppd_check.specs.declared.fault.Limit.TheVariants as L
 use Rattle.ppd_check.specs.Faults.{unless}
 use Rattle.ppd_check.specs.Fitted.{as_byte, as_short, as_word}
 use Rattle.ppd_check.specs.Names.{Scope}
-use Rattle.ppd_check.specs.Code.{Code, places, count}
+use Rattle.ppd_check.specs.Code.{places, count}
 use Rattle.ppd_check.specs.Syntax.{Number, Item, shared, shared_array, semaphore, channel, function, process, Source}
 use Rattle.ppd_check.specs.Statements.{twice_faults, size_faults}
-use Rattle.ppd_check.specs.Sources.{Head, Object, Globals, no_globals, item_name, item_size_faults, with_item, with_items, globals, items_faults, past, past_cells, past_statements, head_name, object_name, count_faults, head_faults, head_code, heads, codes, vars, body, bodies, all_stmts, sem, chan, core_of, faults_in}
-use Rattle.ppd_lawnames.proofs.NamedTerms.{nil_left, nil_right, unless_true}
-use Rattle.ppd_lawnames.proofs.NamedFrames.{cells_after}
-use Rattle.ppd_lawnames.proofs.NamedCells.{total, cells_total, cells_within, cover_cells}
-use Rattle.ppd_lawnames.proofs.NamedCounts.{few_statements, few_names, length_all_stmts}
-use Rattle.ppd_lawnames.proofs.NamedItems.{table_of, items_starts}
+use Rattle.ppd_check.specs.Sources.{Head, Object, Globals, no_globals, item_name, item_size_faults, with_item, with_items, globals, items_faults, past, past_cells, past_statements, head_name, object_name, count_faults, head_faults, head_code, heads, codes, vars, bodies, sem, chan, core_of, faults_in}
+use Rattle.ppd_check.proofs.NamedTerms.{nil_left, nil_right, unless_true}
+use Rattle.ppd_check.proofs.NamedFrames.{cells_after}
+use Rattle.ppd_check.proofs.NamedCells.{total, cells_total, cells_within, cover_cells}
+use Rattle.ppd_check.proofs.NamedCounts.{few_statements, few_names, length_all_stmts}
+use Rattle.ppd_check.proofs.NamedItems.{items_starts}
 
 -- Sizes.
 
@@ -38,16 +35,16 @@ le_true a b h = grind (arith, h)
 lt_true : (a b : ℕ) → nat_lt a b ≡ true → a < b
 lt_true a b h = grind (arith, h)
 
-sized : (least most : ℕ) (n : Number) → size_faults least most n ≡ [] → (least ≤ n.value) × (n.value ≤ most)
+pub sized : (least most : ℕ) (n : Number) → size_faults least most n ≡ [] → (least ≤ n.value) × (n.value ≤ most)
 sized least most n h =
     let both : (nat_le least n.value ≡ true) × (nat_le n.value most ≡ true) =
     both_true (nat_le least n.value) (nat_le n.value most) (unless_true (nat_le least n.value && nat_le n.value most) n.place BadSize h) in
     (le_true least n.value both.0, le_true n.value most both.1)
 
-abbrev StartsWithin : Object → Type 0
+abbrev pub StartsWithin : Object → Type 0
 StartsWithin o = o.number ≤ MOST_START
 
-abbrev HoldsWithin : Object → Type 0
+abbrev pub HoldsWithin : Object → Type 0
 HoldsWithin o = (LEAST_CAPACITY ≤ o.number) × (o.number ≤ MOST_CAPACITY)
 
 -- start values and capacities are in their ranges
@@ -105,6 +102,9 @@ breaks_none s h =
       bodies = nil_left (flat_map (head_faults g.scope) (heads g)) f4 h3;
       statements = nil_right (flat_map (head_faults g.scope) (heads g)) f4 h3;
     }
+
+pub source_sized : (s : Source) → BreaksNone s → AreSized (globals s)
+source_sized s none = items_sized s.items no_globals none.items (record { semaphores = All-nil StartsWithin; channels = All-nil HoldsWithin })
 
 -- as many of each sort as there may be
 pub record AreFew (g : Globals) : Type 0 where
@@ -203,9 +203,7 @@ counted s none =
     few = are_few (globals s) none.counts
 
     sizes : AreSized (globals s)
-    sizes =
-        items_sized s.items no_globals none.items
-        (record { semaphores = All-nil StartsWithin; channels = All-nil HoldsWithin })
+    sizes = source_sized s none
 
     fit : as_short (length (globals s).functions) ≡ length (globals s).functions
     fit = functions_fit (length (globals s).functions) few.functions

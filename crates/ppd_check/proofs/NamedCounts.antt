@@ -1,12 +1,10 @@
 -- An accepted source declares no more than the limits allow.
-use Rattle.std.proofs.Common.{◌≡◌, refl, sym, ap, subst, ◌∙◌, ℕ, zero, suc, ◌+◌, ◌-◌, ◌^◌, ◌<◌, ◌≤◌, min, arith, Bool, true, false, cond, ◌&&◌, nat_lt, nat_le, List, [], ◌∷◌, ◌++◌, map, drop, length, Option, Some, None, ◌⊎◌, inl, inr}
+use Rattle.std.proofs.Common.{◌≡◌, refl, sym, ap, subst, ◌∙◌, ℕ, zero, suc, ◌+◌, ◌-◌, ◌<◌, ◌≤◌, arith, Bool, true, false, cond, nat_lt, nat_le, List, [], ◌∷◌, ◌++◌, map, drop, length, Option, Some, None, ◌⊎◌, inl, inr}
 use Rattle.std.specs.List.{All, Contains, flat_map, filter, count_by}
-use Rattle.std.proofs.lemmas.List.{length-append, length-map, length-drop}
-use Rattle.std.proofs.lemmas.List.Elements.{All-nil, All-cons, All-head, All-tail, All-weaker, All-contains}
-use Rattle.std.proofs.lemmas.List.Sums.{sum_by-cons}
+use Rattle.std.proofs.lemmas.List.{length-append, length-drop}
+use Rattle.std.proofs.lemmas.List.Elements.{All-nil, All-cons, All-weaker, All-contains}
 use Rattle.ppd_ast.specs.declared.limits.TheConstants.{MOST_STATEMENTS}
 use Rattle.ppd_ast.specs.declared.program.Place.{Place}
-use Rattle.ppd_ast.specs.declared.program.Stmt.{Stmt}
 use Rattle.ppd_check.specs.declared.fault.Cause.TheVariants.{TooMany}
 use Rattle.ppd_check.specs.declared.fault.Limit.{Limit}
 use Rattle.ppd_check.specs.declared.fault.Limit.TheVariants as L
@@ -15,15 +13,11 @@ use Rattle.ppd_check.specs.Fitted.{as_short}
 use Rattle.ppd_check.specs.Syntax.{Name}
 use Rattle.ppd_check.specs.Code.{Code, done, act, choice, loop, places, count}
 use Rattle.ppd_check.specs.Table.{stmts, weight, weights, terms, act_terms}
+use Rattle.ppd_check.proofs.PastMost.{up_to_itself, count_all}
+use Rattle.ppd_check.proofs.NamedCells.{not_less}
 use Rattle.ppd_check.specs.Sources.{past, is_up_to, past_statements, all_stmts}
 
 -- Places in order.
-
-up_to_itself : (p : Place) → is_up_to p p ≡ true
-up_to_itself p = go p.line p.column
-  where
-    go : (a b : ℕ) → by_then a a (nat_le b b) ≡ true
-    go a b = grind arith
 
 -- a line and a column that are up to others, in words
 abbrev IsUpTo : (line column line' column' : ℕ) → Type 0
@@ -66,24 +60,14 @@ last_place x (y ∷ ys) = go (last_place y ys)
         choose true e =
             let l : r.1.0 < length (y ∷ ys) = r.1.1 in
             (r.0, (suc r.1.0, omega (arith, l), r.1.2), All-cons (λ p. is_up_to r.0 p ≡ true) x (y ∷ ys) e r.2)
-        choose false e =
-            (x, (zero, omega arith, refl),
-            All-cons (λ p. is_up_to x p ≡ true) x (y ∷ ys) (up_to_itself x)
-            (All-weaker (λ p. is_up_to r.0 p ≡ true) (λ p. is_up_to x p ≡ true) (λ p h. up_to_later r.0 x p e h) (y ∷ ys) r.2))
+        choose false e = (
+          x,
+          (zero, omega arith, refl),
+          All-cons (λ p. is_up_to x p ≡ true) x (y ∷ ys) (up_to_itself x)
+              (All-weaker (λ p. is_up_to r.0 p ≡ true) (λ p. is_up_to x p ≡ true) (λ p h. up_to_later r.0 x p e h) (y ∷ ys) r.2),
+        )
 
 -- Counts.
-
--- 1 where a test holds, else 0
-abbrev bit : Bool → ℕ
-bit b = cond b 1 0
-
-count_all : (t : Place → Bool) (xs : List Place) → All (λ x. t x ≡ true) xs → count_by t xs ≡ length xs
-count_all t [] h = refl
-count_all t (x ∷ xs) h =
-    let e : bit (t x) ≡ 1 = ap bit (All-head (λ x. t x ≡ true) x xs h) in
-    let r : count_by t xs ≡ length xs = count_all t xs (All-tail (λ x. t x ≡ true) x xs h) in
-    let s : count_by t (x ∷ xs) ≡ bit (t x) + count_by t xs = sum_by-cons (λ x. bit (t x)) x xs in
-    omega (arith, e, r, s)
 
 none_pass : (t : Place → Bool) (xs : List Place) → filter t xs ≡ [] → All (λ x. t x ≡ false) xs
 none_pass t [] h = All-nil (λ x. t x ≡ false)
@@ -101,9 +85,6 @@ map_nil : {X Y : Type 0} (f : X → Y) (xs : List X) → map f xs ≡ [] → xs 
 map_nil f [] h = refl
 map_nil f (x ∷ xs) h = cc
 
-lt_false : (a b : ℕ) → nat_lt a b ≡ false → b ≤ a
-lt_false a b h = grind (arith, h)
-
 pub few_statements : (ps : List Place) → past_statements ps ≡ [] → length ps ≤ MOST_STATEMENTS
 few_statements [] h = omega arith
 few_statements (x ∷ xs) h =
@@ -112,7 +93,7 @@ few_statements (x ∷ xs) h =
     let none : All (λ q. nat_lt MOST_STATEMENTS (count_by (is_up_to q) ps) ≡ false) ps =
     none_pass (λ q. nat_lt MOST_STATEMENTS (count_by (is_up_to q) ps)) ps (map_nil (λ q. at q (TooMany L.Statements)) (filter (λ q. nat_lt MOST_STATEMENTS (count_by (is_up_to q) ps)) ps) h) in
     let a : count_by (is_up_to top.0) ps ≤ MOST_STATEMENTS =
-    lt_false MOST_STATEMENTS (count_by (is_up_to top.0) ps) (All-contains (λ q. nat_lt MOST_STATEMENTS (count_by (is_up_to q) ps) ≡ false) ps top.0 none top.1) in
+    not_less MOST_STATEMENTS (count_by (is_up_to top.0) ps) (All-contains (λ q. nat_lt MOST_STATEMENTS (count_by (is_up_to q) ps) ≡ false) ps top.0 none top.1) in
     subst (λ n. n ≤ MOST_STATEMENTS) (count_all (is_up_to top.0) ps top.2) a
 
 pub few_names : (n : ℕ) (limit : Limit) (xs : List Name) → past n limit xs ≡ [] → length xs ≤ n

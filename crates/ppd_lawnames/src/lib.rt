@@ -1,2 +1,0 @@
-//! Laws on the names of accepted sources.
-#![tactic(auto)]
