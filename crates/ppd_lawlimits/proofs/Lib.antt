@@ -1,0 +1,3 @@
+pub mod LimitsGrammar
+pub mod LimitsSaid
+pub mod LimitsCore

@@ -1,0 +1,2 @@
+//! Laws on the limits of accepted sources.
+#![tactic(auto)]
