@@ -1,3 +1,4 @@
+pub mod AcceptedValid
 pub mod Arguments
 pub mod CoreValid
 pub mod Counted
@@ -11,6 +12,8 @@ pub mod Flat
 pub mod Heading
 pub mod Inside
 pub mod Joined
+pub mod LimitsGrammar
+pub mod LimitsSaid
 pub mod Listing
 pub mod Lookup
 pub mod NamedAccepted
@@ -48,7 +51,9 @@ pub mod ValidBodies
 pub mod ValidFacts
 pub mod ValidHeaders
 pub mod ValidItems
+pub mod ValidLimits
 pub mod ValidLists
+pub mod ValidNames
 pub mod ValidOrder
 pub mod ValidReturns
 pub mod ValidSizes

@@ -16,8 +16,9 @@ use Rattle.ppd_check.proofs.NamedRightly.{AreThere, AreNamedRightly}
 use Rattle.ppd_check.proofs.NamedTerms.{nil_left, nil_right}
 use Rattle.ppd_check.proofs.NamedRows.{HasSteps}
 use Rattle.ppd_check.proofs.NamedSteps.{tree_steps}
-use Rattle.ppd_check.proofs.NamedLimits.{BreaksNone, breaks_none, AreFew, are_few, IsCounted, counted, shared_cells}
+use Rattle.ppd_check.proofs.NamedLimits.{BreaksNone, breaks_none, AreFew, are_few, counted, shared_cells}
 use Rattle.ppd_check.proofs.NamedSources.{IsAllowed, names_there, head_rightly, HasFrame, head_has_frame}
+use Rattle.ppd_check.proofs.ValidFacts.{AreCounted}
 
 -- a function or a process: its frame, and what its statements name
 pub record IsNamedHead (p : Program) (scope : Scope) (h : Head) : Type 0 where
@@ -48,7 +49,7 @@ accepted_heads ts t tree a =
     let none : BreaksNone s = breaks_none s a in
     each_named (core t) (globals s).scope (heads (globals s)) (λ locals. names_there s.items locals (source_allowed s none)) (tree_steps ts t tree) none.bodies
 
-pub accepted_counted : (t : Shape) → Accepted t → IsCounted (core t)
+pub accepted_counted : (t : Shape) → Accepted t → AreCounted (core t)
 accepted_counted t a = counted (source_of t) (breaks_none (source_of t) a)
 
 pub accepted_cells : (t : Shape) → Accepted t → CoverCells (core t).shared (length (core t).starts)

@@ -21,6 +21,7 @@ use Rattle.ppd_check.proofs.NamedFrames.{cells_after}
 use Rattle.ppd_check.proofs.NamedCells.{total, cells_total, cells_within, cover_cells}
 use Rattle.ppd_check.proofs.NamedCounts.{few_statements, few_names, length_all_stmts}
 use Rattle.ppd_check.proofs.NamedItems.{items_starts}
+use Rattle.ppd_check.proofs.ValidFacts.{AreCounted}
 
 -- Sizes.
 
@@ -174,18 +175,7 @@ body_fits g j few h =
     omega (arith, a, b, c, h)
 
 -- the numbers of a program's parts, its start values and its capacities are as the limits have it
-pub record IsCounted (p : Program) : Type 0 where
-  pub stmts : length p.stmts ≤ MOST_STATEMENTS
-  pub functions : p.functions ≤ MOST_FUNCTIONS
-  pub process : p.functions < length p.bodies
-  pub processes : length p.bodies ≤ p.functions + MOST_PROCESSES
-  pub starts : length p.starts ≤ MOST_SHARED_CELLS
-  pub sem_count : length p.sems ≤ MOST_SEMAPHORES
-  pub sems : All (λ s. s.start ≤ MOST_START) p.sems
-  pub chan_count : length p.chans ≤ MOST_CHANNELS
-  pub chans : All (λ c. (LEAST_CAPACITY ≤ c.capacity) × (c.capacity ≤ MOST_CAPACITY)) p.chans
-
-pub counted : (s : Source) → BreaksNone s → IsCounted (core_of s)
+pub counted : (s : Source) → BreaksNone s → AreCounted (core_of s)
 counted s none =
     record {
       stmts = subst (λ n. n ≤ MOST_STATEMENTS) (sym (length_all_stmts 0 0 0 (codes (globals s)))) (few_statements (flat_map places (codes (globals s))) none.statements);

@@ -106,13 +106,15 @@ fn check_nodes(alloc: Global, nodes: &[Node]) -> Result<Checked, Memory>
 }
 
 /// The table of a tree that breaks no rule of the language: shared cells and the cells of a body in the order of their
-/// declarations, functions before processes, statements in pre-order.
+/// declarations, functions before processes, statements in pre-order. It is a valid program where the tree is that of a
+/// source's tokens.
 ///
 /// Otherwise the first broken rule by its place, and at one place the one that `CheckError` lists first; `Memory` is want
 /// of memory.
 pub fn check(alloc: Global, tree: &Tree) -> Result<Program, CheckError>
     requires table { IsTable tree.now.nodes }
     ensures core { IfOk result (λ p. Accepted (tree_of tree.now.nodes) × (p ≡ core (tree_of tree.now.nodes))) }
+    ensures valid { IfOk result (λ p. (bytes : List ℕ) → IsParsed bytes (tree_of tree.now.nodes) → IsValid p) }
     ensures refused { IfErr result (λ e. IsRefused (tree_of tree.now.nodes) e) }
 {
     let Ok(checked) = check_nodes(alloc, tree.nodes.as_slice()) else {
