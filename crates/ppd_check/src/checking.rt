@@ -1,5 +1,7 @@
 // The table of a tree, or the first rule that its source breaks.
-ghost use Rattle.std.specs.Prelude.{◌≡◌, true, false, [], ◌∷◌, ◌++◌, Some, IfOk, IfErr, map};
+ghost use Rattle.std.specs.Prelude.{◌≡◌, ℕ, List, true, false, [], ◌∷◌, ◌++◌, Some, IfOk, IfErr, map};
+ghost use Rattle.ppd_ast.specs.Valid.{IsValid};
+ghost use Rattle.ppd_check.specs.Read.{IsParsed};
 ghost use Rattle.std.specs.List.{All};
 ghost use Rattle.ppd_parse.specs.Grammar.{Shape};
 ghost use Rattle.ppd_parse.specs.Tree.{tree_of, IsTable};
