@@ -1,21 +1,17 @@
 -- How rows of statements end.
-use Rattle.std.proofs.Common.{◌≡◌, refl, sym, ap, ◌∙◌, ℕ, pos, not, ◌+◌, ◌<◌, ◌≤◌, Bool, true, false, if◌then◌else◌, is_some, List, [], ◌∷◌, take, length, get_or, None, Some}
+use Rattle.std.proofs.Common.{◌≡◌, refl, sym, ap, ◌∙◌, ℕ, ◌+◌, ◌<◌, ◌≤◌, Bool, true, false, if◌then◌else◌, is_some, List, [], ◌∷◌, take, length, get_or, None}
 use Rattle.std.proofs.lemmas.List.{take_all}
 use Rattle.ppd_ast.specs.declared.program.Place.{Place}
 use Rattle.ppd_parse.specs.declared.node.Node.{Node}
-use Rattle.ppd_parse.specs.declared.symbol.Kind.{Kind}
-use Rattle.ppd_parse.specs.declared.symbol.Kind.TheVariants as K
-use Rattle.ppd_parse.specs.declared.symbol.Rule.{Rule}
-use Rattle.ppd_parse.specs.declared.symbol.Rule.TheVariants as R
 use Rattle.ppd_check.specs.declared.endings.Ending.{Ending}
 use Rattle.ppd_check.specs.declared.endings.Ending.TheVariants.{Empty, Return, Other}
 use Rattle.ppd_check.specs.Code.{Code, done, act}
 use Rattle.ppd_check.specs.Code as C
 use Rattle.ppd_check.specs.Endings.{with_rest, simple_ending, ending, close_by}
-use Rattle.ppd_check.specs.Nodes.{phrase_of, phrases_of, phrases_below, children_of, SaysBy}
-use Rattle.ppd_check.specs.Reading.{Phrase, phrase, kind, place_at, is_semicolon, as_row, as_value, rows, locals, local_item, changed, returned, statement, worded, followed, is_bracket, is_assign, name_at, number_at}
+use Rattle.ppd_check.specs.Nodes.{phrase_of, phrases_of, phrases_below, children_of}
+use Rattle.ppd_check.specs.Reading.{Phrase, as_row, rows, locals, followed}
 use Rattle.ppd_check.specs.Sources.{Head, ends_with_return, close_code}
-use Rattle.ppd_check.specs.Syntax.{number, plain, Simple, fresh, array, give_back, Row, stop, simple, block, choice, repeat, count}
+use Rattle.ppd_check.specs.Syntax.{Simple, give_back, Row, stop, simple, block, choice, repeat, count}
 use Rattle.ppd_check.proofs.Declaring.{locals_append, phrases_more}
 use Rattle.ppd_check.proofs.Nested.{rows_append, followed_stop}
 
@@ -66,68 +62,6 @@ locals_ended ns cs i c e f l is a b =
 pub locals_all : (ns : List Node) (i k : ℕ) (cs : List ℕ) (e : Ending) → cs ≡ children_of ns i → length cs ≤ k → e ≡ ending (locals (phrases_of ns (take k cs))) → e ≡ ending (locals (phrases_below ns i))
 unfolding phrases_below
 locals_all ns i k cs e is h a = a ∙ ap (λ l. ending (locals (phrases_of ns l))) (take_all k cs h ∙ is)
-
--- Statements and declarations by their rules.
-
-item_ending : (ps : List Phrase) → simple_ending (local_item ps) ≡ Other
-item_ending ps = go (is_bracket (kind (phrase ps 1))) (is_assign (kind (phrase ps 1)))
-  where
-    go : (b c : Bool) → simple_ending (if b then array (name_at ps 0) (number_at ps 2) else if c then fresh (name_at ps 0) (as_value (phrase ps 2)) else fresh (name_at ps 0) (plain (number (pos 0)))) ≡ Other
-    go true c = refl
-    go false true = refl
-    go false false = refl
-
-change_ending : (ps : List Phrase) (k : Kind) → kind (phrase ps 1) ≡ k → simple_ending (changed ps) ≡ Other
-change_ending ps K.AssignMark h = rw (h)
-change_ending ps K.AddMark h = rw (h)
-change_ending ps K.SubtractMark h = rw (h)
-change_ending ps K.IncreaseMark h = rw (h)
-change_ending ps k h = rw (h)
-
-pub ended_item : (ps : List Phrase) (p : Phrase) → SaysBy R.Litem ps p → Other ≡ ending (locals (p ∷ []))
-ended_item ps p e = sym (ap (λ q. ending (locals (q ∷ []))) e ∙ item_ending ps)
-
-pub ended_changed : (ps : List Phrase) (p : Phrase) → SaysBy R.Change ps p → Other ≡ ending (locals (p ∷ []))
-ended_changed ps p e = sym (ap (λ q. ending (locals (q ∷ []))) e ∙ change_ending ps (kind (phrase ps 1)) refl)
-
--- the ending of a statement whose first child has this rule, where a word's is known
-abbrev pub rule_ending : Rule → Ending → Ending
-rule_ending R.Leaf e = e
-rule_ending R.Block e = Other
-rule_ending R.Place e = Other
-rule_ending R.Call e = Other
-rule_ending R.Change e = Other
-rule_ending R.Litem e = Other
-rule_ending _ e = Empty
-
-pub statement_ended : (r : Rule) (qs : List Phrase) (p : Phrase) (ps : List Phrase) → SaysBy r qs p → ending (statement p ps) ≡ rule_ending r (ending (worded ps))
-statement_ended R.Leaf qs p ps e = ap (λ q. ending (statement q ps)) e.1
-statement_ended R.Change qs p ps e = ap (λ q. ending (statement q ps)) e ∙ change_ending qs (kind (phrase qs 1)) refl
-statement_ended R.Litem qs p ps e = ap (λ q. ending (statement q ps)) e ∙ item_ending qs
-statement_ended r qs p ps e = ap (λ q. ending (statement q ps)) e
-
-pub rule_other : (r : Rule) (e : Ending) → (r ≡ R.Leaf → ⊥) → (r ≡ R.Block → ⊥) → (r ≡ R.Place → ⊥) → (r ≡ R.Call → ⊥) → (r ≡ R.Change → ⊥) → (r ≡ R.Litem → ⊥) → rule_ending r e ≡ Empty
-rule_other R.Leaf e a b c d f g = absurd (a refl)
-rule_other R.Block e a b c d f g = absurd (b refl)
-rule_other R.Place e a b c d f g = absurd (c refl)
-rule_other R.Call e a b c d f g = absurd (d refl)
-rule_other R.Change e a b c d f g = absurd (f refl)
-rule_other R.Litem e a b c d f g = absurd (g refl)
-rule_other r e a b c d f g = refl
-
-returned_some : (p : Phrase) (b : Bool) → is_some (if b then None else Some (as_value p)) ≡ not b
-returned_some p true = refl
-returned_some p false = refl
-
-pub value_given : (ps : List Phrase) → is_some (returned (phrase ps 1)) ≡ not (is_semicolon (kind (phrase ps 1)))
-value_given ps = returned_some (phrase ps 1) (is_semicolon (kind (phrase ps 1)))
-
-pub word_return : (ps : List Phrase) → kind (phrase ps 0) ≡ K.ReturnWord → ending (worded ps) ≡ Return (place_at ps 0) (is_some (returned (phrase ps 1)))
-word_return ps h = rw (h)
-
-pub word_other : (ps : List Phrase) (k : Kind) → kind (phrase ps 0) ≡ k → (k ≡ K.ReturnWord → ⊥) → ending (worded ps) ≡ Other
-word_other ps K.ReturnWord h a = absurd (a refl)
-word_other ps k h a = rw (h)
 
 -- What stands at the closing brace.
 

@@ -9,10 +9,7 @@ use Rattle.ppd_ast.specs.declared.program.Place.{Place}
 use Rattle.ppd_ast.specs.declared.program.Stmt.{Stmt}
 use Rattle.ppd_ast.specs.declared.program.Var.{Var}
 use Rattle.ppd_parse.specs.declared.node.Node.{Node}
-use Rattle.ppd_parse.specs.declared.symbol.Rule.{Rule}
-use Rattle.ppd_parse.specs.declared.symbol.Rule.TheVariants as R
 use Rattle.ppd_check.specs.declared.endings.Ending.{Ending}
-use Rattle.ppd_check.specs.declared.endings.Ending.TheVariants.{Empty}
 use Rattle.ppd_check.specs.declared.fault.Cause.TheVariants.{TooMany}
 use Rattle.ppd_check.specs.declared.fault.Fault.{Fault}
 use Rattle.ppd_check.specs.declared.fault.Limit.TheVariants as L
@@ -27,8 +24,8 @@ use Rattle.ppd_check.specs.Faults.{first, first_of_both, if_so}
 use Rattle.ppd_check.specs.Fitted.{as_short}
 use Rattle.ppd_check.specs.Holding.{head_said}
 use Rattle.ppd_check.specs.Names.{Scope, innermost}
-use Rattle.ppd_check.specs.Nodes.{phrase_of, phrases_of, phrases_below, children_of, SaysBy}
-use Rattle.ppd_check.specs.Reading.{Phrase, token, nowhere, phrase, last, kind, is_name, as_token, as_names, as_block, name_of, params, rows}
+use Rattle.ppd_check.specs.Nodes.{phrase_of, phrases_of, phrases_below, children_of}
+use Rattle.ppd_check.specs.Reading.{Phrase, token, nowhere, phrase, last, kind, is_name, as_token, as_names, as_block, name_of, params}
 use Rattle.ppd_check.specs.Sources.{Head, with_params, params_faults, return_faults, close_code, head_code, head_frame, head_faults, entry, outer, past_cells, vars}
 use Rattle.ppd_check.specs.Statements.{after_cells, declared, twice_faults, row_code, row_faults, after_row}
 use Rattle.ppd_check.specs.Syntax.{Name, Block}
@@ -71,15 +68,6 @@ parametered_both xs ys f g h o p q x y =
           ∙ ap (λ l. first_of_both o (first l)) (sym (faults_both xs ys f));
     }
 
-pub parametered_one : (b : Bool) (x : Name) (f g : Frame) (o p : Option Fault) → b ≡ true → g ≡ declared x None f → p ≡ first_of_both o (first (twice_faults (innermost f.scopes) x))
-    → Parametered (if b then x ∷ [] else []) f g o p
-parametered_one b x f g o p h e n =
-    subst (λ t. Parametered (if t then x ∷ [] else []) f g o p) (sym h)
-    (record { frame = e; notes = n ∙ ap (λ l. first_of_both o (first l)) (sym (append-nil (twice_faults (innermost f.scopes) x))) })
-
-pub parametered_no : (b : Bool) (x : Name) (f : Frame) (o : Option Fault) → b ≡ false → Parametered (if b then x ∷ [] else []) f f o o
-parametered_no b x f o h = subst (λ t. Parametered (if t then x ∷ [] else []) f f o o) (sym h) (parametered_none f o)
-
 one_param : (p : Phrase) (b : Bool) → (if b then name_of (as_token p) ∷ [] else []) ≡ (if b then name_of (as_token p) ∷ params [] else params [])
 one_param p true = refl
 one_param p false = refl
@@ -118,9 +106,6 @@ pub parametered_below : (ns : List Node) (i k : ℕ) (cs : List ℕ) (f g : Fram
 unfolding phrases_below
 parametered_below ns i k cs f g o p is h x = subst (λ l. Parametered (flat_map as_names (phrases_of ns l)) f g o p) (take_all k cs h ∙ is) x
 
-pub names_none : (ns : List Node) (i : ℕ) (f : Frame) (o : Option Fault) → as_names (phrase_of ns i) ≡ [] → Parametered (as_names (phrase_of ns i)) f f o o
-names_none ns i f o e = subst (λ xs. Parametered xs f f o o) (sym e) (parametered_none f o)
-
 -- Each parameter is a variable, and the scopes outside stay.
 
 pub params_count : (xs : List Name) (f : Frame) → length (with_params xs f).variables ≡ length f.variables + length xs
@@ -150,23 +135,6 @@ pub block_said : (ns : List Node) (i k : ℕ) (o : Option ℕ) → last (phrases
     → MatchOption o (phrase (phrases_below ns i) k ≡ token nowhere) (λ c. phrase (phrases_below ns i) k ≡ phrase_of ns c) → as_block (last (phrases_below ns i)) ≡ block_at ns o
 block_said ns i k None e h = ap as_block (e ∙ h)
 block_said ns i k (Some c) e h = ap as_block (e ∙ h)
-
--- what is no block
-pub close_other : (r : Rule) (ps : List Phrase) (p : Phrase) → (r ≡ R.Block → ⊥) → SaysBy r ps p → (as_block p).close ≡ nowhere.place
-close_other R.Block ps p h e = absurd (h refl)
-close_other R.Leaf ps p h e = ap (λ (q : Phrase). (as_block q).close) e.1
-close_other r ps p h e = ap (λ (q : Phrase). (as_block q).close) e
-
-pub ending_other : (r : Rule) (ps : List Phrase) (p : Phrase) → (r ≡ R.Block → ⊥) → SaysBy r ps p → ending (as_block p).row ≡ Empty
-ending_other R.Block ps p h e = absurd (h refl)
-ending_other R.Leaf ps p h e = ap (λ (q : Phrase). ending (as_block q).row) e.1
-ending_other r ps p h e = ap (λ (q : Phrase). ending (as_block q).row) e
-
-pub close_block : (ps : List Phrase) (p : Phrase) → SaysBy R.Block ps p → (as_block p).close ≡ (as_token (last ps)).place
-close_block ps p e = ap (λ (q : Phrase). (as_block q).close) e
-
-pub ending_block : (ps : List Phrase) (p : Phrase) → SaysBy R.Block ps p → ending (as_block p).row ≡ ending (rows ps)
-ending_block ps p e = ap (λ (q : Phrase). ending (as_block q).row) e
 
 -- the last child
 pub last_child : (ns : List Node) (i k : ℕ) (cs : List ℕ) → cs ≡ children_of ns i → k ≡ length cs - 1 → last (phrases_below ns i) ≡ phrase (phrases_below ns i) k

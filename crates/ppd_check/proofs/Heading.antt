@@ -1,7 +1,7 @@
 -- Functions and processes one after another, and one of them from its parts.
 use Rattle.std.proofs.Common.{◌≡◌, refl, sym, ap, subst, ◌∙◌, ℕ, suc, ◌+◌, ◌<◌, ◌≤◌, arith, Bool, List, [], ◌∷◌, ◌++◌, map, take, length, get_or, None}
 use Rattle.std.specs.List.{flat_map}
-use Rattle.std.proofs.lemmas.List.{append_assoc, append-nil, length-append, map-append, length-map, take_more, take_all}
+use Rattle.std.proofs.lemmas.List.{append_assoc, length-append, map-append, length-map, take_more, take_all}
 use Rattle.std.proofs.lemmas.List.Concat.{flat_map-append, flat_map-cons}
 use Rattle.ppd_ast.specs.declared.program.Body.{Body}
 use Rattle.ppd_ast.specs.declared.program.Stmt.{Stmt}
@@ -16,7 +16,7 @@ use Rattle.ppd_check.specs.Names.{Scope}
 use Rattle.ppd_check.specs.Nodes.{phrases_below}
 use Rattle.ppd_check.specs.Sources.{Head, head_code, head_faults, body, bodies, all_stmts}
 use Rattle.ppd_check.specs.Table.{flats, weights, terms, stmts}
-use Rattle.ppd_check.proofs.First.{found_in_both, first_of_both_none}
+use Rattle.ppd_check.proofs.First.{found_in_both}
 use Rattle.ppd_check.proofs.Joined.{flats_append, weights_append}
 use Rattle.ppd_check.proofs.Writing.{length_flats, length_stmts}
 
@@ -59,10 +59,6 @@ bodies_append scope n (h ∷ hs) gs =
     ap (λ l. body scope n h ∷ l)
     (bodies_append scope (n + c) hs gs
     ∙ ap (λ k. bodies scope (n + c) hs ++ bodies scope k gs) (omega arith))
-
-pub heads_none : (scope : Scope) (u : Writer) (bs : List Body) → WroteHeads scope [] u u bs bs
-heads_none scope u bs =
-    record { exprs = sym (append-nil u.exprs); stmts = sym (append-nil u.stmts); bodies = sym (append-nil bs); found = sym (first_of_both_none u.found) }
 
 pub heads_join : (scope : Scope) (hs gs : List Head) (u v w : Writer) (ps bs cs : List Body) → WroteHeads scope hs u v ps bs → WroteHeads scope gs v w bs cs
     → WroteHeads scope (hs ++ gs) u w ps cs

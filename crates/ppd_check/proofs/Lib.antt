@@ -5,7 +5,6 @@ pub mod Counted
 pub mod Declarations
 pub mod Declaring
 pub mod Ended
-pub mod Errors
 pub mod Filling
 pub mod First
 pub mod Flat

@@ -18,6 +18,7 @@ ghost use Rattle.ppd_check.specs.Writing.{Walked};
 use crate::endings::{Ending, ending_of_rows};
 use crate::fault::{Cause, Fault, Limit, note_if};
 use crate::frame::{Frame, Variable, after_cells, bytes_of, declare};
+use crate::globals::as_short;
 use crate::nodes::{Label, child_at, children_of, kind_at, label_at, place_at, rule_of};
 use crate::objects::is_name;
 use crate::returns::{from_on, note_body, write_close};
@@ -307,16 +308,6 @@ pub fn vars_of(alloc: Global, variables: &[Variable]) -> Result<Seq<Var>, Memory
         base = after_cells(base, len);
     }
     Ok(list)
-}
-
-// A count in a field of 16 bits.
-pub fn as_short(count: usize) -> u16
-    ensures { result ≡ as_short count }
-{
-    match u16::try_from(count) {
-        Ok(count) => count,
-        Err(_) => u16::MAX,
-    }
 }
 
 // How many statements there are.

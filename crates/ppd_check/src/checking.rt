@@ -10,10 +10,11 @@ ghost use Rattle.ppd_check.specs.Holding.{head_at, IsHeadAt};
 ghost use Rattle.ppd_check.specs.Names.{innermost};
 ghost use Rattle.ppd_check.specs.Sources.{Accepted, IsRefused, core, first_fault};
 
-use crate::bodies::{as_short, vars_of, write_heads};
+use crate::bodies::{vars_of, write_heads};
 use crate::declare::{globals_of, note_no_process};
 use crate::error::CheckError;
 use crate::fault::{Cause, Fault};
+use crate::globals::as_short;
 use crate::places::note_statements;
 use crate::scopes::Scopes;
 use crate::writer::Writer;

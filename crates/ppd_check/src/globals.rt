@@ -63,7 +63,7 @@ fn as_byte(count: usize) -> u8
 }
 
 // A count in a field of 16 bits.
-fn as_short(count: usize) -> u16
+pub fn as_short(count: usize) -> u16
     ensures { result ≡ as_short count }
 {
     match u16::try_from(count) {

@@ -11,7 +11,7 @@ use crate::fault::{Cause, Fault, note, note_if, note_unless};
 use crate::writer::{Site, Writer, put_stmt};
 use ppd_ast::{Ids, Kind, Memory, Place, Stmt};
 
-// The items from a number on.
+// The statements from a number on.
 pub fn from_on(stmts: &[Stmt], from: usize) -> &[Stmt]
     ensures { result.now ≡ drop from stmts.now }
 {
@@ -22,7 +22,7 @@ pub fn from_on(stmts: &[Stmt], from: usize) -> &[Stmt]
     }
 }
 
-// The items but the last.
+// The statements but the last.
 fn but_last(stmts: &[Stmt]) -> &[Stmt]
     ensures { result.now ≡ take (length stmts.now - 1) stmts.now }
 {
