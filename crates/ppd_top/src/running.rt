@@ -8,9 +8,9 @@ ghost use Rattle.ppd_world.specs.Running.{IsOf, IsReached, can_step};
 ghost use Rattle.ppd_top.specs.Ran.{RanTo};
 ghost use Rattle.ppd_top.specs.Top.{plan_of};
 
-use ppd_ast::limits::MOST_PROCESSES;
 use crate::options::Options;
 use crate::summary::summary;
+use ppd_ast::limits::MOST_PROCESSES;
 use ppd_ast::{Bytes, Memory, Plan, Program, Seq};
 use ppd_model::schedules_are_bounded;
 use ppd_world::World;

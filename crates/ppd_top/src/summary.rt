@@ -27,12 +27,7 @@ fn name_at(program: &Program, body: usize) -> &[u8]
 }
 
 /// Appends how a process ended and what it printed.
-fn put_end(
-    text: &mut Vec<u8>,
-    program: &Program,
-    name: &[u8],
-    end: &ProcEnd,
-) -> Result<(), Memory>
+fn put_end(text: &mut Vec<u8>, program: &Program, name: &[u8], end: &ProcEnd) -> Result<(), Memory>
     ensures { OnOk result (text.new.items ≡ text.old.items ++ end_text program.now name.now end.now) }
 {
     let place = place_at(program, end.stmt);
@@ -74,11 +69,7 @@ fn put_races(text: &mut Vec<u8>, ends: &[ProcEnd]) -> Result<(), Memory>
 }
 
 /// The summary of a run whose processes ended so.
-pub(crate) fn summary(
-    alloc: Global,
-    program: &Program,
-    ends: &[ProcEnd],
-) -> Result<Vec<u8>, Memory>
+pub(crate) fn summary(alloc: Global, program: &Program, ends: &[ProcEnd]) -> Result<Vec<u8>, Memory>
     requires { length ends.now < 2 ^ 62 }
     ensures { IfOk result (λ text. text.items ≡ summary_of program.now ends.now) }
 {

@@ -148,9 +148,21 @@ fn with_option<'a>(given: Given<'a>, choice: Choice, number: u64) -> Given<'a>
 {
     let waits = None;
     match choice {
-        Choice::Budget => Given { waits, budget: Some(number as u32), ..given },
-        Choice::Leaf => Given { waits, leaf: Some(number as u16), ..given },
-        Choice::Loops => Given { waits, loops: Some(number as u16), ..given },
+        Choice::Budget => Given {
+            waits,
+            budget: Some(number as u32),
+            ..given
+        },
+        Choice::Leaf => Given {
+            waits,
+            leaf: Some(number as u16),
+            ..given
+        },
+        Choice::Loops => Given {
+            waits,
+            loops: Some(number as u16),
+            ..given
+        },
     }
 }
 
@@ -172,15 +184,24 @@ fn with_name<'a>(given: Given<'a>, word: &'a str) -> Option<Given<'a>>
     if given.name.is_some() || word.is_empty() {
         return None;
     }
-    Some(Given { name: Some(word), ..given })
+    Some(Given {
+        name: Some(word),
+        ..given
+    })
 }
 
 fn with_word<'a>(given: Given<'a>, word: &'a str) -> Option<Given<'a>>
     ensures { result ≡ with_word_of (spelled_of word.now) word.entry given.entry }
 {
     match spelled(word.as_bytes()) {
-        Word::Ends => Some(Given { ended: true, ..given }),
-        Word::Waits(choice) => Some(Given { waits: Some(choice), ..given }),
+        Word::Ends => Some(Given {
+            ended: true,
+            ..given
+        }),
+        Word::Waits(choice) => Some(Given {
+            waits: Some(choice),
+            ..given
+        }),
         Word::Sets(choice, number) => with_number(given, choice, number),
         Word::Other => None,
         Word::Name => with_name(given, word),
