@@ -248,13 +248,13 @@ fn channels_of_least_and_most_capacity(rt: HostRuntime) -> Result<(), Fail> {
 #[test]
 fn channels_filled_and_emptied(rt: HostRuntime) -> Result<(), Fail> {
     let alloc = rt.alloc();
-    // a fills the channel in 1 + 2 * capacity steps, b empties it in 2 + 2 * capacity
-    for (capacity, steps) in [(1, 3), (64, 129)] {
+    // the steps in which a fills the channel and b empties it, and the number of b's step after them
+    for (capacity, fills, empties, after) in [(1, 3, 4, 7), (64, 129, 130, 259)] {
         let mut schedule = Vec::new(alloc);
-        for _ in 0..steps {
+        for _ in 0..fills {
             schedule.push(0)?;
         }
-        for _ in 0..steps + 1 {
+        for _ in 0..empties {
             schedule.push(1)?;
         }
         let empty = by_schedule(
@@ -268,7 +268,7 @@ fn channels_filled_and_emptied(rt: HostRuntime) -> Result<(), Fail> {
         let over = by_schedule(alloc, filling(alloc, capacity), BUDGET, schedule.as_slice()).expect(
             &rt, "valid",
         );
-        assert_eq!(rt; over.answer, Err(DriveError::NotEnabled(2 * steps + 1)));
+        assert_eq!(rt; over.answer, Err(DriveError::NotEnabled(after)));
     }
     Ok(())
 }
