@@ -16,13 +16,14 @@ use Rattle.ppd_model.specs.declared.flow.Item.TheVariants.{Own, Nested}
 use Rattle.ppd_model.specs.declared.flow.Origin.TheVariants.{Entry, Item as ItemAt}
 use Rattle.ppd_model.specs.World.{enabled}
 use Rattle.ppd_model.specs.Schedule.{IsWhole}
+use Rattle.ppd_model.specs.FullTrace.{full_trace}
 use Rattle.ppd_model.specs.Story.{Story, story, told}
 use Rattle.ppd_model.specs.Races.{races}
 use Rattle.ppd_model.specs.Logs.{close, logs}
 use Rattle.ppd_model.specs.Intervals.{intervals, items}
 use Rattle.ppd_model.specs.FlowbackEdges.{edges}
 use Rattle.ppd_model.specs.NearIntervals.{near_steps}
-use Rattle.ppd_model.proofs.Rows.Tables.{stmt_in, scalar, body_of, block_of, unit_of, access, event, ended, read_from, control_from}
+use Rattle.ppd_model.proofs.Rows.Tables.{stmt_in, scalar, body_of, block_of, unit_of, access, event, ended, read_from, control_from, id, quiet, traced}
 
 abbrev pub program : Program
 program = record {
@@ -109,3 +110,8 @@ near_a_0_3 = refl
 pub log : (logs program plan 100000 schedule).lists ≡ (entry.Prelog 1 [] ∷ entry.Unit 1 [] ∷ entry.Prelog 0 [] ∷ entry.Unit 0 [] ∷ entry.Postlog 0 [] ∷ entry.Unit 2 (pos 4 ∷ []) ∷ entry.Postlog 1 [] ∷ entry.End status.Ended 2 (0 ∷ []) (0 ∷ []) ∷ []) ∷ []
 unfolding terms
 log = refl
+
+-- the print reads what the callee wrote
+pub trace : full_trace program plan 100000 schedule ≡ record { events = (traced (event 2 [] (access (Shared 0) (pos 1) ∷ []) None None None) [] None None ∷ traced (quiet 3) [] None None ∷ traced (event 0 [] (access (Shared 0) (pos 4) ∷ []) None None None) [] (Some (id 0 1)) None ∷ traced (quiet 1) [] (Some (id 0 1)) None ∷ traced (event 4 (access (Shared 0) (pos 4) ∷ []) [] (Some (pos 4)) None None) (Some (id 0 2) ∷ []) None None ∷ traced (quiet 5) [] None None ∷ []) ∷ [] }
+unfolding terms
+trace = refl

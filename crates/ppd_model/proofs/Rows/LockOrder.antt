@@ -16,6 +16,7 @@ use Rattle.ppd_model.specs.declared.flow.Item.TheVariants.{Own}
 use Rattle.ppd_model.specs.declared.flow.Origin.TheVariants.{Initial, Entry, Item as ItemAt}
 use Rattle.ppd_model.specs.World.{enabled}
 use Rattle.ppd_model.specs.Schedule.{IsWhole}
+use Rattle.ppd_model.specs.FullTrace.{full_trace}
 use Rattle.ppd_model.specs.Story.{Story, story, told}
 use Rattle.ppd_model.specs.Synchronizations.{Sync}
 use Rattle.ppd_model.specs.Record.{sync_record}
@@ -24,7 +25,7 @@ use Rattle.ppd_model.specs.Agreement.{Agree}
 use Rattle.ppd_model.specs.Logs.{close}
 use Rattle.ppd_model.specs.Intervals.{items}
 use Rattle.ppd_model.specs.FlowbackEdges.{edges, last}
-use Rattle.ppd_model.proofs.Rows.Tables.{stmt_in, scalar, body_of, block_of, unit_of, access, event, ended, read_from, sync_from, control_from}
+use Rattle.ppd_model.proofs.Rows.Tables.{stmt_in, scalar, body_of, block_of, unit_of, access, event, ended, read_from, sync_from, control_from, id, quiet, traced}
 
 abbrev pub program : Program
 program = record {
@@ -154,3 +155,17 @@ pub apart : Agree program plan 100000 first second → ⊥
 apart agree =
     let same : number_of_a (sync_record program plan 100000 first) ≡ number_of_a (sync_record program plan 100000 second) = ap number_of_a agree.records in
     omega (arith, same, number_first, number_second)
+
+-- b's P follows a's V
+pub trace_first : full_trace program plan 100000 first ≡ record { events =
+    (traced (event 0 [] [] None (Some 1) None) [] None None ∷ traced (event 1 (access (Shared 0) (pos 0) ∷ []) (access (Shared 0) (pos 1) ∷ []) None None None) (None ∷ []) None None ∷ traced (event 2 [] [] None (Some 2) None) [] None None ∷ traced (quiet 3) [] None None ∷ [])
+    ∷ (traced (event 4 [] [] None (Some 2) None) [] None (Some (id 0 2)) ∷ traced (event 5 (access (Shared 0) (pos 1) ∷ []) (access (Shared 0) (pos 2) ∷ []) None None None) (Some (id 0 1) ∷ []) None None ∷ traced (event 6 [] [] None (Some 3) None) [] None None ∷ traced (quiet 7) [] None None ∷ []) ∷ [] }
+unfolding terms
+trace_first = refl
+
+-- a's P follows b's V
+pub trace_second : full_trace program plan 100000 second ≡ record { events =
+    (traced (event 0 [] [] None (Some 2) None) [] None (Some (id 1 2)) ∷ traced (event 1 (access (Shared 0) (pos 1) ∷ []) (access (Shared 0) (pos 2) ∷ []) None None None) (Some (id 1 1) ∷ []) None None ∷ traced (event 2 [] [] None (Some 3) None) [] None None ∷ traced (quiet 3) [] None None ∷ [])
+    ∷ (traced (event 4 [] [] None (Some 1) None) [] None None ∷ traced (event 5 (access (Shared 0) (pos 0) ∷ []) (access (Shared 0) (pos 1) ∷ []) None None None) (None ∷ []) None None ∷ traced (event 6 [] [] None (Some 2) None) [] None None ∷ traced (quiet 7) [] None None ∷ []) ∷ [] }
+unfolding terms
+trace_second = refl

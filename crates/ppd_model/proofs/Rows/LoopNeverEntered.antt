@@ -17,11 +17,12 @@ use Rattle.ppd_model.specs.declared.flow.Item.TheVariants.{Own, Nested}
 use Rattle.ppd_model.specs.declared.flow.Origin.TheVariants.{Entry, Item as ItemAt}
 use Rattle.ppd_model.specs.World.{enabled}
 use Rattle.ppd_model.specs.Schedule.{IsWhole}
+use Rattle.ppd_model.specs.FullTrace.{full_trace}
 use Rattle.ppd_model.specs.Story.{Story, story, told}
 use Rattle.ppd_model.specs.Logs.{close, logs}
 use Rattle.ppd_model.specs.Intervals.{items}
 use Rattle.ppd_model.specs.FlowbackEdges.{edges}
-use Rattle.ppd_model.proofs.Rows.Tables.{stmt_in, scalar, body_of, block_of, unit_of, access, event, ended, read_from, left_from, control_from}
+use Rattle.ppd_model.proofs.Rows.Tables.{stmt_in, scalar, body_of, block_of, unit_of, access, event, ended, read_from, left_from, control_from, id, quiet, traced}
 
 abbrev pub program : Program
 program = record {
@@ -89,3 +90,8 @@ why_a_1_0 = refl
 pub log : (logs program plan 100000 schedule).lists ≡ (entry.Prelog 0 [] ∷ entry.Unit 0 [] ∷ entry.Prelog 1 (pos 3 ∷ []) ∷ entry.Unit 1 [] ∷ entry.Postlog 1 (pos 3 ∷ []) ∷ entry.Unit 2 [] ∷ entry.Postlog 0 [] ∷ entry.End status.Ended 1 [] [] ∷ []) ∷ []
 unfolding terms
 log = refl
+
+-- the entry of the loop is no event
+pub trace : full_trace program plan 100000 schedule ≡ record { events = (traced (event 0 [] (access (Local 0 0) (pos 3) ∷ []) None None None) [] None None ∷ traced (event 1 (access (Local 0 0) (pos 3) ∷ []) [] (Some (pos 0)) None None) (Some (id 0 0) ∷ []) None None ∷ traced (event 3 (access (Local 0 0) (pos 3) ∷ []) [] (Some (pos 3)) None None) (Some (id 0 0) ∷ []) None None ∷ traced (quiet 4) [] None None ∷ []) ∷ [] }
+unfolding terms
+trace = refl
