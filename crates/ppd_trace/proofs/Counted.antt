@@ -7,9 +7,10 @@ use Rattle.ppd_ast.specs.Valid.{IsValid}
 use Rattle.ppd_ast.specs.declared.plan.Plan.{Plan}
 use Rattle.ppd_ast.specs.declared.program.Program.{Program}
 use Rattle.ppd_sem.specs.declared.proc.Proc.{Proc}
+use Rattle.ppd_model.specs.declared.tracing.Taken.{Taken}
 use Rattle.ppd_model.specs.Bounds.{steps_left}
 use Rattle.ppd_model.specs.Schedule.{run, started_procs, started_world}
-use Rattle.ppd_model.specs.Story.{Moment, Taken, Telling, begun, count_events, is_event, moment_of, steps_of, tell, told}
+use Rattle.ppd_model.specs.Story.{Moment, Telling, begun, count_events, is_event, moment_of, steps_of, tell, told}
 use Rattle.ppd_model.specs.World.{World, change}
 use Rattle.ppd_model.proofs.Bounded.{ArePaid, in_all, started_all, started_count, started_paid}
 use Rattle.ppd_model.proofs.Changes.{length-change}
@@ -78,7 +79,7 @@ none_yet n (s ∷ ss) = (omega arith, none_yet n ss)
 pub moments_within : (program : Program) (plan : Plan) (budget : ℕ) (h : List ℕ) → Every (λ (ms : List Moment). length ms ≤ length h) (told program plan budget h).moments
 moments_within program plan budget h = told_within program plan (begun (started_world program plan budget)) 0 h (none_yet 0 (started_world program plan budget).procs)
 
-length_none : (ps : List Proc) → length (map (λ (_ : Proc). [] {A = Moment}) ps) ≡ length ps
+length_none : (ps : List Proc) → length {A = List Moment} (map (λ _. []) ps) ≡ length ps
 length_none [] = refl
 length_none (s ∷ ss) = ap suc (length_none ss)
 
@@ -115,10 +116,10 @@ few_events_at program plan budget p h w v few e =
 
 -- ---- before the first step
 
-pub zero_counts : (ps : List Proc) → replicate (length ps) 0 ≡ map count_events (map (λ _. []) ps)
+pub zero_counts : (ps : List Proc) → ◌≡◌ {A = List ℕ} (replicate (length ps) 0) (map count_events (map (λ _. []) ps))
 zero_counts [] = refl
 zero_counts (s ∷ ss) = ap (λ (l : List ℕ). 0 ∷ l) (zero_counts ss)
 
-pub empty_steps : (ps : List Proc) → replicate (length ps) [] ≡ map steps_of (map (λ _. []) ps)
+pub empty_steps : (ps : List Proc) → ◌≡◌ {A = List (List Taken)} (replicate (length ps) []) (map steps_of (map (λ _. []) ps))
 empty_steps [] = refl
 empty_steps (s ∷ ss) = ap (λ (l : List (List Taken)). [] ∷ l) (empty_steps ss)

@@ -1,7 +1,7 @@
 -- A step of a process's trace from its parts.
-use Rattle.std.proofs.Common.{◌≡◌, ℕ, ◌+◌, ◌<◌, ◌≤◌, ℤ, Bool, true, false, cond, List, [], ◌∷◌, ◌++◌, length, map, take, drop, get_or, Option, Some, None, Result, Ok, Err, OnOk, refl, ap, sym, ◌∙◌, subst, arith, length-append}
-use Rattle.std.specs.Prelude.{fold, replicate, slice_get}
-use Rattle.std.specs.List.{find}
+use Rattle.std.proofs.Common.{◌≡◌, ℕ, zero, suc, ◌+◌, ◌<◌, ◌≤◌, ℤ, Bool, true, false, cond, List, [], ◌∷◌, ◌++◌, length, map, take, drop, get_or, Option, Some, None, Result, Ok, Err, OnOk, refl, ap, sym, ◌∙◌, subst, arith, length-append}
+use Rattle.std.specs.Prelude.{fold, nat_eq, replicate, slice_get}
+use Rattle.std.proofs.lemmas.Option.{slice_get-get_or}
 use Rattle.std.proofs.lemmas.Bool.{true≢false}
 use Rattle.std.proofs.lemmas.List.{drop_more, take_more}
 use Rattle.std.proofs.lemmas.List.Sums.{fold-append}
@@ -9,19 +9,41 @@ use Rattle.ppd_ast.specs.declared.plan.Plan.{Plan}
 use Rattle.ppd_ast.specs.declared.program.Program.{Program}
 use Rattle.ppd_sem.specs.declared.proc.Need.{Need}
 use Rattle.ppd_sem.specs.declared.proc.Need.TheVariants.{Read, Enter, Budget, Stopped}
-use Rattle.ppd_sem.specs.declared.asking.Pause.{Pause}
+use Rattle.ppd_sem.specs.declared.effect.Effect.{Effect}
 use Rattle.ppd_sem.specs.declared.proc.Proc.{Proc}
 use Rattle.ppd_sem.specs.declared.proc.Todo.{Todo}
 use Rattle.ppd_sem.specs.Asked.{Asked, outcome}
 use Rattle.ppd_sem.specs.Deed.{Deed, set_local, clear, invoke, back, receive}
 use Rattle.ppd_sem.specs.Described.{is_event}
-use Rattle.ppd_sem.specs.Passed.{arguments_at, arguments_by, deed_at, deed_by}
+use Rattle.ppd_sem.specs.Passed.{arguments_at, arguments_by, arguments_of_head, deed_at, deed_by, deed_if_there, deed_of_head}
 use Rattle.ppd_sem.specs.Process.{act, head_deed, need_of, started, top_call, top_cells}
-use Rattle.ppd_model.specs.FullTrace.{Activation, Tag, Test, Tracing, all_tagged, begun_tracing, called, event_of, into_at, latest, tagged, tagged_at, tagged_by, tagged_into, trace_by, trace_step, traced_by, with_event}
+use Rattle.ppd_model.specs.declared.tracing.Activation.{Activation}
+use Rattle.ppd_model.specs.declared.tracing.Story.{Story}
+use Rattle.ppd_model.specs.declared.tracing.Taken.{Taken}
+use Rattle.ppd_model.specs.declared.tracing.Test.{Test}
+use Rattle.ppd_model.specs.declared.tracing.Tracing.{Tracing}
+use Rattle.ppd_model.specs.FullTrace.{Tag, all_tagged, begun_tracing, called, event_of, into_at, latest, tagged, tagged_at, tagged_by, tagged_into, trace_by, trace_step, traced_by, with_event}
 use Rattle.ppd_model.specs.LocalTags.{AreOwn}
-use Rattle.ppd_model.specs.Story.{Story, Taken}
+use Rattle.ppd_model.proofs.Changes.{some}
 use Rattle.ppd_trace.specs.Tagging.{answers_by, begun_body, begun_call, tagged_deed}
 
+
+-- what follows from what an answer that is Ok tells
+pub ok_then : {T E P Q : Type 0} (r : Result T E) → (P → Q) → OnOk r P → OnOk r Q
+ok_then (Ok x) f h = f h
+ok_then (Err e) f h = h
+
+-- ---- tests, from the latest one
+
+pub some_there : {A : Type 0} (xs : List A) (i : ℕ) → i < length xs → None ≡ slice_get xs i → ⊥
+some_there [] i lt e = omega arith
+some_there (x ∷ xs) zero lt e = cc e
+some_there (x ∷ xs) (suc i) lt e = some_there xs i (omega arith) e
+
+pub test_at : (s i : ℕ) (tests : List Test) (x : Test) → i < length tests → Some x ≡ slice_get tests i → latest s (drop i tests) ≡ cond (nat_eq x.stmt s) (Some x) (latest s (drop (i + 1) tests))
+test_at s i tests x lt e =
+    let is : x ≡ get_or tests i x = some (e ∙ slice_get-get_or tests i x lt) in
+    ap (latest s) (drop_more tests i x lt) ∙ ap (λ (y : Test). cond (nat_eq y.stmt s) (Some y) (latest s (drop (i + 1) tests))) (sym is)
 
 -- ---- what a head statement writes
 
@@ -39,9 +61,18 @@ pub by_deed : (program : Program) (s : Proc) (me : Tag) (xs : List Activation) �
 by_deed program s me xs = at s.todo refl
   where
     at : (todo : List Todo) → s.todo ≡ todo → tagged_at program s me s.todo xs ≡ tagged_deed program s me (deed_at program s) xs
-    at [] e = rw e refl
-    at (t ∷ ts) e = let same : arguments_at program s ≡ arguments_by (outcome (head_deed program t s)) = rw e refl in
-        rw e (by_asked program s me (head_deed program t s) xs same)
+    at [] e =
+        ap (λ (l : List Todo). tagged_at program s me l xs) e
+        ∙ sym (ap (λ (l : List Todo). tagged_deed program s me (deed_of_head program s (slice_get l 0)) xs) e)
+    at (t ∷ ts) e =
+        let same : arguments_at program s ≡ arguments_by (outcome (head_deed program t s)) = ap (λ (l : List Todo). arguments_of_head program s (slice_get l 0)) e in
+        ap (λ (l : List Todo). tagged_at program s me l xs) e
+        ∙ by_asked program s me (head_deed program t s) xs same
+        ∙ sym (ap (λ (l : List Todo). tagged_deed program s me (deed_of_head program s (slice_get l 0)) xs) e)
+
+pub by_effect : (program : Program) (s : Proc) (me : Tag) (xs : List Activation) (effect : Option Effect) → deed_at program s ≡ deed_if_there program s (slice_get s.todo 0) effect
+    → tagged_deed program s me (deed_if_there program s (slice_get s.todo 0) effect) xs ≡ tagged_at program s me s.todo xs
+by_effect program s me xs effect e = sym (by_deed program s me xs ∙ ap (λ (d : Option Deed). tagged_deed program s me d xs) e)
 
 -- ---- a step with an event and one without
 
@@ -94,16 +125,16 @@ fold_next f a xs i x lt is =
 
 -- ---- the start
 
-none_tags : (cells : List ℤ) → replicate (length cells) None ≡ map (λ _. None {A = _}) cells
+none_tags : (cells : List ℤ) → ◌≡◌ {A = List Tag} (replicate (length cells) None) (map (λ _. None) cells)
 none_tags [] = refl
-none_tags (v ∷ vs) = ap (λ l. None ∷ l) (none_tags vs)
+none_tags (v ∷ vs) = ap (λ (l : List Tag). None ∷ l) (none_tags vs)
 
-tracing : Proc → List Activation → Tracing
+-- a process with its activations, before any event
+abbrev pub tracing : Proc → List Activation → Tracing
 tracing s as' = record { proc = s; activations = as'; answers = []; events = [] }
 
 pub begun_is : (program : Program) (plan : Plan) (p budget : ℕ) (s : Proc) (as' : List Activation) → s ≡ started program plan p budget → as' ≡ begun_body (length (top_cells s.frames))
-    → record { proc = s; activations = as'; answers = []; events = [] } ≡ begun_tracing (started program plan p budget)
-unfolding tracing
+    → tracing s as' ≡ begun_tracing (started program plan p budget)
 begun_is program plan p budget s as' s_is a_is =
     let first : List ℤ = top_cells (started program plan p budget).frames in
     ap (λ (x : Proc). tracing x as') s_is ∙ ap (λ (l : List Activation). tracing (started program plan p budget) l) (a_is ∙ ap (λ (x : Proc). begun_body (length (top_cells x.frames))) s_is)

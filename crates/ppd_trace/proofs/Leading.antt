@@ -6,8 +6,9 @@ use Rattle.ppd_ast.specs.declared.status.SyncKind.{SyncKind}
 use Rattle.ppd_sem.specs.declared.proc.Need.{Need}
 use Rattle.ppd_sem.specs.declared.proc.Need.TheVariants.{Read, Enter, Budget, Stopped}
 use Rattle.ppd_sem.specs.Described.{is_event as is_event_of}
+use Rattle.ppd_model.specs.declared.tracing.Taken.{Taken}
 use Rattle.ppd_model.specs.declared.trace.EventId.{EventId}
-use Rattle.ppd_model.specs.Story.{Taken, is_event}
+use Rattle.ppd_model.specs.Story.{is_event}
 use Rattle.ppd_model.specs.Synchronizations.{Sync, event_or, leading_from, leading_in, leads_at, numbered, sync_of}
 
 -- both words for an event say the same

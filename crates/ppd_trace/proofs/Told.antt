@@ -9,13 +9,14 @@ use Rattle.ppd_ast.specs.declared.program.Program.{Program}
 use Rattle.ppd_sem.specs.declared.proc.Need.{Need}
 use Rattle.ppd_sem.specs.declared.proc.Need.TheVariants.{Read, Write}
 use Rattle.ppd_sem.specs.declared.proc.Proc.{Proc}
+use Rattle.ppd_model.specs.declared.tracing.Taken.{Taken}
 use Rattle.ppd_model.specs.declared.state.Logging.{Logging}
 use Rattle.ppd_model.specs.declared.trace.EventId.{EventId}
 use Rattle.ppd_model.specs.FullTrace.{Tag}
 use Rattle.ppd_model.specs.Laws.{logged_moment}
 use Rattle.ppd_model.specs.Logs.{loggings}
 use Rattle.ppd_model.specs.Schedule.{run, started_procs, started_world}
-use Rattle.ppd_model.specs.Story.{Moment, Taken, Telling, count_events, moment_of, next_event, number_of, steps_of, taken_of, tell, told, writer_of, writers_after}
+use Rattle.ppd_model.specs.Story.{Moment, Telling, count_events, moment_of, next_event, number_of, steps_of, taken_of, tell, told, writer_of, writers_after}
 use Rattle.ppd_model.specs.World.{World, answer, change, need, step}
 use Rattle.ppd_model.proofs.Bounded.{started_count}
 use Rattle.ppd_model.proofs.Stories.{steps-change, told-append}
@@ -116,7 +117,7 @@ module _ (program : Program) (plan : Plan) (budget : ℕ) (h : List ℕ) (r : Ru
 
 -- ---- the start
 
-pub none_written : {A : Type 0} (xs : List A) → replicate (length xs) None ≡ map (λ _. None {A = EventId}) xs
+pub none_written : {A : Type 0} (xs : List A) → ◌≡◌ {A = List Tag} (replicate (length xs) None) (map (λ _. None) xs)
 none_written [] = refl
 none_written (x ∷ xs) = ap (λ (l : List Tag). None ∷ l) (none_written xs)
 
@@ -130,7 +131,7 @@ tells_none program plan budget n k r counts writers steps r_is n_is k_is c_is w_
     record {
       runs = refl;
       world = r_is;
-      counted = c_is ∙ ap (λ (i : ℕ). replicate i 0) many ∙ zero_counts ps;
-      written = w_is ∙ ap (λ (i : ℕ). replicate i None) cells ∙ none_written program.starts;
-      added = s_is ∙ ap (λ (i : ℕ). replicate i []) many ∙ empty_steps ps;
+      counted = c_is ∙ ap (λ (i : ℕ). replicate {A = ℕ} i 0) many ∙ zero_counts ps;
+      written = w_is ∙ ap (λ (i : ℕ). replicate {A = Tag} i None) cells ∙ none_written program.starts;
+      added = s_is ∙ ap (λ (i : ℕ). replicate {A = List Taken} i []) many ∙ empty_steps ps;
     }

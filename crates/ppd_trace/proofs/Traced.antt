@@ -6,12 +6,14 @@ use Rattle.ppd_ast.specs.Valid.{IsValid}
 use Rattle.ppd_ast.specs.declared.plan.Plan.{Plan}
 use Rattle.ppd_ast.specs.declared.program.Program.{Program}
 use Rattle.ppd_sem.specs.Process.{started}
+use Rattle.ppd_model.specs.declared.tracing.Story.{Story}
+use Rattle.ppd_model.specs.declared.tracing.Taken.{Taken}
 use Rattle.ppd_model.specs.declared.trace.DriveError.{DriveError}
 use Rattle.ppd_model.specs.declared.trace.DriveError.TheVariants.{NotEnabled, Memory}
 use Rattle.ppd_model.specs.declared.trace.TracedEvent.{TracedEvent}
 use Rattle.ppd_model.specs.FullTrace.{Tag, events_from, tracing_of}
 use Rattle.ppd_model.specs.LocalTags.{AreOwn}
-use Rattle.ppd_model.specs.Story.{Moment, Story, Taken, own_steps, steps_of, story, told}
+use Rattle.ppd_model.specs.Story.{Moment, own_steps, steps_of, story, told}
 use Rattle.ppd_model.specs.World.{World, enabled}
 use Rattle.ppd_model.proofs.LocalTags.{own_steps_told}
 use Rattle.ppd_world.specs.Running.{IsCause, Running, can_step}
@@ -79,7 +81,7 @@ module _ (program : Program) (plan : Plan) (budget : ℕ) where
       let functions : program.functions ≤ 256 = v.limits.functions in
       let process : program.functions < length program.bodies = v.limits.process in
       let processes : length program.bodies ≤ program.functions + 16 = v.limits.processes in
-      let many : length (map steps_of (told program plan budget h).moments) ≡ length program.bodies - program.functions = length-map (told program plan budget h).moments steps_of ∙ how_many program plan budget h in
+      let many : length (story program plan budget h).steps ≡ length program.bodies - program.functions = length-map (told program plan budget h).moments steps_of ∙ how_many program plan budget h in
       subst (λ (x : Story). IsTraceable program plan budget x) (sym e.1) record {
         own = λ p. own_steps_told program plan budget h p;
         few = few_steps h taken;

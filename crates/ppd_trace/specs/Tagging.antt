@@ -7,8 +7,10 @@ use Rattle.ppd_sem.specs.declared.proc.Proc.{Proc}
 use Rattle.ppd_sem.specs.Deed.{Deed, set_local, clear, invoke, back, receive}
 use Rattle.ppd_sem.specs.Passed.{arguments_at}
 use Rattle.ppd_sem.specs.Process.{top_call}
+use Rattle.ppd_model.specs.declared.tracing.Activation.{Activation}
+use Rattle.ppd_model.specs.declared.tracing.Test.{Test}
 use Rattle.ppd_model.specs.declared.trace.EventId.{EventId}
-use Rattle.ppd_model.specs.FullTrace.{Activation, Tag, Test, all_tagged, called, into_at, tagged, tagged_into}
+use Rattle.ppd_model.specs.FullTrace.{Tag, all_tagged, called, into_at, tagged, tagged_into}
 
 -- the event of a test whose value was true
 abbrev pub passed_event : Option Test → Option EventId

@@ -4,13 +4,14 @@ use Rattle.std.specs.List.{All}
 use Rattle.ppd_ast.specs.declared.plan.Plan.{Plan}
 use Rattle.ppd_ast.specs.declared.program.Program.{Program}
 use Rattle.ppd_sem.specs.Process.{started}
+use Rattle.ppd_model.specs.declared.tracing.Story.{Story}
 use Rattle.ppd_model.specs.declared.trace.DriveError.{DriveError}
 use Rattle.ppd_model.specs.declared.trace.DriveError.TheVariants.{NotEnabled, Memory}
 use Rattle.ppd_model.specs.declared.trace.Trace.{Trace}
 use Rattle.ppd_model.specs.FullTrace.{full_trace}
 use Rattle.ppd_model.specs.LocalTags.{AreOwn}
 use Rattle.ppd_model.specs.Schedule.{run}
-use Rattle.ppd_model.specs.Story.{Story, own_steps, story}
+use Rattle.ppd_model.specs.Story.{own_steps, story}
 use Rattle.ppd_model.specs.World.{World, enabled}
 
 -- each number of the schedule names a process that is enabled in its turn

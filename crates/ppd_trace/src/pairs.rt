@@ -52,6 +52,7 @@ fn is_number(led: Option<u64>, number: u32) -> bool
 }
 
 /// Whether the first step is a synchronization that leads to the second one.
+#[tactic(auto, using(crate::proofs::Leading::unnumbered, crate::proofs::Leading::none_leads, crate::proofs::Leading::leads_to_none))]
 fn leads(program: &Program, first: &Taken, second: &Taken) -> bool
     ensures { result ≡ leads_at program.now (sync_of first.now) (sync_of second.now) }
 {

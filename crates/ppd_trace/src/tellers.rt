@@ -95,11 +95,11 @@ impl<'a> Teller<'a> {
         ensures { OnOk result (HasTold self.old.world self.old.counts self.old.writers self.old.steps.items p self.new.world self.new.counts self.new.writers self.new.steps.items) }
     {
         let process = p as usize;
-        let taken = tagged(self.writers.as_slice(), self.world.next(p));
         let event = EventId {
             process: p,
             number: count_in(self.counts.as_slice(), process),
         };
+        let taken = tagged(self.writers.as_slice(), self.world.next(p));
         self.world.step(p)?;
         push_step(&mut self.steps, process, taken)?;
         set_writer(&mut self.writers, taken.need, event);

@@ -69,11 +69,9 @@ fn program(
     shared: &[&str],
     sem: Option<&str>,
 ) -> Result<Program, AllocError> {
-    let mut starts = Nums::new(alloc);
+    let mut starts = Vec::new(alloc);
     for _name in shared {
-        if starts.push(0).is_err() {
-            return Err(AllocError);
-        }
+        starts.push(0i64)?;
     }
     let mut sems = Vec::new(alloc);
     if let Some(text) = sem {
@@ -88,7 +86,7 @@ fn program(
         bodies: Seq::from_vec(bodies),
         functions,
         shared: scalars(alloc, shared)?,
-        starts,
+        starts: Nums::from_vec(starts),
         sems: Seq::from_vec(sems),
         chans: Seq::new(alloc),
     })
