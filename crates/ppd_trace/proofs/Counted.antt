@@ -77,7 +77,9 @@ none_yet n [] = tt
 none_yet n (s ∷ ss) = (omega arith, none_yet n ss)
 
 pub moments_within : (program : Program) (plan : Plan) (budget : ℕ) (h : List ℕ) → Every (λ (ms : List Moment). length ms ≤ length h) (told program plan budget h).moments
-moments_within program plan budget h = told_within program plan (begun (started_world program plan budget)) 0 h (none_yet 0 (started_world program plan budget).procs)
+moments_within program plan budget h =
+    every_more (λ (ms : List Moment). length ms ≤ 0 + length h) (λ (ms : List Moment). length ms ≤ length h) (told program plan budget h).moments (λ ms lt. omega arith)
+    (told_within program plan (begun (started_world program plan budget)) 0 h (none_yet 0 (started_world program plan budget).procs))
 
 length_none : (ps : List Proc) → length {A = List Moment} (map (λ _. []) ps) ≡ length ps
 length_none [] = refl

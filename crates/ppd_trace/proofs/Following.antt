@@ -1,9 +1,9 @@
 -- A step of a process's trace from its parts.
 use Rattle.std.proofs.Common.{◌≡◌, ℕ, zero, suc, ◌+◌, ◌<◌, ◌≤◌, ℤ, Bool, true, false, cond, List, [], ◌∷◌, ◌++◌, length, map, take, drop, get_or, Option, Some, None, Result, Ok, Err, OnOk, refl, ap, sym, ◌∙◌, subst, arith, length-append}
-use Rattle.std.specs.Prelude.{fold, nat_eq, replicate, slice_get}
+use Rattle.std.specs.Prelude.{fold, is_some, nat_eq, replicate, slice_get}
 use Rattle.std.proofs.lemmas.Option.{slice_get-get_or}
-use Rattle.std.proofs.lemmas.Bool.{true≢false}
-use Rattle.std.proofs.lemmas.List.{drop_more, take_more}
+use Rattle.std.proofs.lemmas.Bool.{false≢true}
+use Rattle.std.proofs.lemmas.List.{drop_more, take_all, take_more}
 use Rattle.std.proofs.lemmas.List.Sums.{fold-append}
 use Rattle.ppd_ast.specs.declared.plan.Plan.{Plan}
 use Rattle.ppd_ast.specs.declared.program.Program.{Program}
@@ -17,6 +17,7 @@ use Rattle.ppd_sem.specs.Deed.{Deed, set_local, clear, invoke, back, receive}
 use Rattle.ppd_sem.specs.Described.{is_event}
 use Rattle.ppd_sem.specs.Passed.{arguments_at, arguments_by, arguments_of_head, deed_at, deed_by, deed_if_there, deed_of_head}
 use Rattle.ppd_sem.specs.Process.{act, head_deed, need_of, started, top_call, top_cells}
+use Rattle.ppd_model.specs.declared.trace.TracedEvent.{TracedEvent}
 use Rattle.ppd_model.specs.declared.tracing.Activation.{Activation}
 use Rattle.ppd_model.specs.declared.tracing.Story.{Story}
 use Rattle.ppd_model.specs.declared.tracing.Taken.{Taken}
@@ -25,7 +26,7 @@ use Rattle.ppd_model.specs.declared.tracing.Tracing.{Tracing}
 use Rattle.ppd_model.specs.FullTrace.{Tag, all_tagged, begun_tracing, called, event_of, into_at, latest, tagged, tagged_at, tagged_by, tagged_into, trace_by, trace_step, traced_by, with_event}
 use Rattle.ppd_model.specs.LocalTags.{AreOwn}
 use Rattle.ppd_model.proofs.Changes.{some}
-use Rattle.ppd_trace.specs.Tagging.{answers_by, begun_body, begun_call, tagged_deed}
+use Rattle.ppd_trace.specs.Tagging.{answers_by, begun_body, begun_call, tagged_deed, test_of}
 
 
 -- what follows from what an answer that is Ok tells
@@ -44,6 +45,28 @@ pub test_at : (s i : ℕ) (tests : List Test) (x : Test) → i < length tests �
 test_at s i tests x lt e =
     let is : x ≡ get_or tests i x = some (e ∙ slice_get-get_or tests i x lt) in
     ap (latest s) (drop_more tests i x lt) ∙ ap (λ (y : Test). cond (nat_eq y.stmt s) (Some y) (latest s (drop (i + 1) tests))) (sym is)
+
+picked : (b : Bool) (x : Test) (rest o : Option Test) → o ≡ cond b (Some x) None → is_some o ≡ true → cond b (Some x) rest ≡ o
+picked true x rest o e t = sym e
+picked false x rest o e t = absurd (false≢true (sym (ap is_some e) ∙ t))
+
+passed_over : (b : Bool) (x : Test) (rest o : Option Test) → o ≡ cond b (Some x) None → is_some o ≡ false → cond b (Some x) rest ≡ rest
+passed_over true x rest o e t = absurd (false≢true (sym t ∙ ap is_some e))
+passed_over false x rest o e t = refl
+
+pub found_here : (s i : ℕ) (tests : List Test) (o : Option Test) → i < length tests → o ≡ test_of s (slice_get tests i) → is_some o ≡ true → latest s (drop i tests) ≡ o
+found_here s i tests o lt e t = by (slice_get tests i) refl
+  where
+    by : (q : Option Test) → slice_get tests i ≡ q → latest s (drop i tests) ≡ o
+    by None is = absurd (some_there tests i lt (sym is))
+    by (Some x) is = test_at s i tests x lt (sym is) ∙ picked (nat_eq x.stmt s) x (latest s (drop (i + 1) tests)) o (e ∙ ap (test_of s) is) t
+
+pub found_later : (s i : ℕ) (tests : List Test) (o : Option Test) → i < length tests → o ≡ test_of s (slice_get tests i) → is_some o ≡ false → latest s (drop i tests) ≡ latest s (drop (i + 1) tests)
+found_later s i tests o lt e t = by (slice_get tests i) refl
+  where
+    by : (q : Option Test) → slice_get tests i ≡ q → latest s (drop i tests) ≡ latest s (drop (i + 1) tests)
+    by None is = absurd (some_there tests i lt (sym is))
+    by (Some x) is = test_at s i tests x lt (sym is) ∙ passed_over (nat_eq x.stmt s) x (latest s (drop (i + 1) tests)) o (e ∙ ap (test_of s) is) t
 
 -- ---- what a head statement writes
 
@@ -129,9 +152,12 @@ none_tags : (cells : List ℤ) → ◌≡◌ {A = List Tag} (replicate (length c
 none_tags [] = refl
 none_tags (v ∷ vs) = ap (λ (l : List Tag). None ∷ l) (none_tags vs)
 
--- a process with its activations, before any event
-abbrev pub tracing : Proc → List Activation → Tracing
-tracing s as' = record { proc = s; activations = as'; answers = []; events = [] }
+-- a process with its activations, the tags of the answers and the events
+abbrev pub parts : Proc → List Activation → List Tag → List TracedEvent → Tracing
+parts s as' answers events = record { proc = s; activations = as'; answers = answers; events = events }
+
+abbrev tracing : Proc → List Activation → Tracing
+tracing s as' = parts s as' [] []
 
 pub begun_is : (program : Program) (plan : Plan) (p budget : ℕ) (s : Proc) (as' : List Activation) → s ≡ started program plan p budget → as' ≡ begun_body (length (top_cells s.frames))
     → tracing s as' ≡ begun_tracing (started program plan p budget)
@@ -139,3 +165,51 @@ begun_is program plan p budget s as' s_is a_is =
     let first : List ℤ = top_cells (started program plan p budget).frames in
     ap (λ (x : Proc). tracing x as') s_is ∙ ap (λ (l : List Activation). tracing (started program plan p budget) l) (a_is ∙ ap (λ (x : Proc). begun_body (length (top_cells x.frames))) s_is)
     ∙ ap (λ (l : List Tag). tracing (started program plan p budget) (record { call = None; tags = l; tests = [] } ∷ [])) (none_tags first)
+
+pub begun_all : (program : Program) (plan : Plan) (p budget : ℕ) (s : Proc) (cells : List ℤ) (as' : List Activation) (answers : List Tag) (events : List TracedEvent)
+    → s ≡ started program plan p budget → cells ≡ top_cells s.frames → as' ≡ begun_body (length cells) → answers ≡ [] → events ≡ []
+    → parts s as' answers events ≡ begun_tracing (started program plan p budget)
+begun_all program plan p budget s cells as' answers events s_is c_is a_is none no_events =
+    ap (λ (l : List Tag). parts s as' l events) none ∙ ap (λ (l : List TracedEvent). parts s as' [] l) no_events
+    ∙ begun_is program plan p budget s as' s_is (a_is ∙ ap (λ (l : List ℤ). begun_body (length l)) c_is)
+
+-- ---- a whole step, and the next one
+
+pub stepped_by : {E : Type 0} (r : Result (Unit {0}) E) (program : Program) (plan : Plan) (story : Story) (p : ℕ) (x : Taken) (t u : Tracing) (s : Proc)
+    → u ≡ trace_by program plan story p x x.need t → OnOk r (s ≡ act program plan u.proc x.answer) → OnOk r (record u { proc = s } ≡ trace_step program plan story p t x)
+stepped_by (Ok k) program plan story p x t u s e f =
+    ap (λ (v : Tracing). record v { proc = s }) e
+    ∙ ap (λ (q : Proc). record (trace_by program plan story p x x.need t) { proc = q })
+    (f ∙ ap (λ (q : Proc). act program plan q x.answer) (ap (λ (v : Tracing). v.proc) e ∙ same_proc program plan story p x x.need t))
+stepped_by (Err e) program plan story p x t u s is f = tt
+
+pub own_begun : (program : Program) (plan : Plan) (p budget : ℕ) (own : List Taken) (t : Tracing) → t ≡ begun_tracing (started program plan p budget) → AreOwn program plan (started program plan p budget) own
+    → AreOwn program plan t.proc (drop 0 own)
+own_begun program plan p budget own t e h = subst (λ (s : Proc). AreOwn program plan s own) (sym (ap (λ (v : Tracing). v.proc) e)) h
+
+pub none_begun : (program : Program) (plan : Plan) (p budget : ℕ) (t : Tracing) → t ≡ begun_tracing (started program plan p budget) → length t.events ≤ 0
+none_begun program plan p budget t e = let same : length t.events ≡ 0 = ap (λ (v : Tracing). length v.events) e in omega arith
+
+pub need_next : (program : Program) (plan : Plan) (s : Proc) (own : List Taken) (i : ℕ) (x : Taken) → i < length own → x ≡ get_or own i x → AreOwn program plan s (drop i own) → x.need ≡ need_of program plan s
+need_next program plan s own i x lt is h = (own_next program plan s own i x lt is h).0
+
+pub own_after : (program : Program) (plan : Plan) (story : Story) (p : ℕ) (own : List Taken) (i : ℕ) (x : Taken) (t u : Tracing) → i < length own → x ≡ get_or own i x → AreOwn program plan t.proc (drop i own)
+    → u ≡ trace_step program plan story p t x → AreOwn program plan u.proc (drop (i + 1) own)
+own_after program plan story p own i x t u lt is h e =
+    subst (λ (s : Proc). AreOwn program plan s (drop (i + 1) own)) (sym (ap (λ (v : Tracing). v.proc) e)) (own_next program plan t.proc own i x lt is h).1
+
+pub few_after : (program : Program) (plan : Plan) (story : Story) (p i : ℕ) (x : Taken) (t u : Tracing) → length t.events ≤ i → u ≡ trace_step program plan story p t x → length u.events ≤ i + 1
+few_after program plan story p i x t u lt e =
+    let same : length u.events ≡ length (trace_step program plan story p t x).events = ap (λ (v : Tracing). length v.events) e in
+    let one : length (trace_step program plan story p t x).events ≤ length t.events + 1 = few_events program plan story p t x in
+    omega arith
+
+pub traced_after : (program : Program) (plan : Plan) (story : Story) (p : ℕ) (first : Tracing) (own : List Taken) (i : ℕ) (x : Taken) (t u : Tracing) → i < length own → x ≡ get_or own i x
+    → t ≡ fold (trace_step program plan story p) first (take i own) → u ≡ trace_step program plan story p t x → u ≡ fold (trace_step program plan story p) first (take (i + 1) own)
+traced_after program plan story p first own i x t u lt is inv e =
+    e ∙ ap (λ (v : Tracing). trace_step program plan story p v x) inv ∙ sym (fold_next (trace_step program plan story p) first own i x lt is)
+
+pub traced_whole : (program : Program) (plan : Plan) (story : Story) (p : ℕ) (first : Tracing) (own : List Taken) (i : ℕ) (t : Tracing) → length own ≤ i
+    → t ≡ fold (trace_step program plan story p) first (take i own) → t.events ≡ (fold (trace_step program plan story p) first own).events
+traced_whole program plan story p first own i t lt e =
+    ap (λ (v : Tracing). v.events) (e ∙ ap (λ (l : List Taken). fold (trace_step program plan story p) first l) (take_all i own lt))

@@ -6,10 +6,11 @@ use Rattle.ppd_ast.specs.declared.status.SyncKind.{SyncKind}
 use Rattle.ppd_sem.specs.declared.proc.Need.{Need}
 use Rattle.ppd_sem.specs.declared.proc.Need.TheVariants.{Read, Enter, Budget, Stopped}
 use Rattle.ppd_sem.specs.Described.{is_event as is_event_of}
+use Rattle.ppd_model.specs.declared.tracing.Story.{Story}
 use Rattle.ppd_model.specs.declared.tracing.Taken.{Taken}
 use Rattle.ppd_model.specs.declared.trace.EventId.{EventId}
 use Rattle.ppd_model.specs.Story.{is_event}
-use Rattle.ppd_model.specs.Synchronizations.{Sync, event_or, leading_from, leading_in, leads_at, numbered, sync_of}
+use Rattle.ppd_model.specs.Synchronizations.{Sync, event_or, kind_of_sync, leading_from, leading_in, leads_at, numbered, paired_of, sync_of}
 
 -- both words for an event say the same
 pub same_event : (n : Need) → is_event_of n ≡ is_event n
@@ -48,6 +49,11 @@ none_from program p [] = refl
 none_from program p (steps ∷ rest) =
     ap (λ (o : Option ℕ). event_or p o (leading_from program None (p + 1) rest)) (none_in program 0 steps) ∙ none_from program (p + 1) rest
 
+pub unpaired : (program : Program) (story : Story) (x : Taken) → x.number ≡ None → None ≡ paired_of program story x
+unpaired program story x e =
+    sym (ap (λ (k : Option ℕ). leading_from program (numbered (kind_of_sync x.need) k) 0 story.steps) e
+    ∙ ap (λ (b : Option Sync). leading_from program b 0 story.steps) (unnumbered (kind_of_sync x.need)) ∙ none_from program 0 story.steps)
+
 -- ---- one step of the search
 
 module _ (program : Program) (b : Option Sync) where
@@ -60,15 +66,15 @@ module _ (program : Program) (b : Option Sync) where
       ap (λ (l : List Taken). leading_in program b n l) (drop_more xs i x lt) ∙ ap (λ (y : Taken). goes n y (drop (i + 1) xs)) (sym is)
 
   pub leads_here : (n i : ℕ) (xs : List Taken) (x : Taken) → i < length xs → x ≡ get_or xs i x → leads_at program (sync_of x) b ≡ true → leading_in program b n (drop i xs) ≡ Some n
-  leads_here n i xs x lt is yes =
+  leads_here n i xs x lt is e =
       opened n i xs x lt is
-      ∙ ap (λ (c : Bool). cond c (Some n) (leading_in program b (cond (is_event x.need) (n + 1) n) (drop (i + 1) xs))) yes
+      ∙ ap (λ (c : Bool). cond c (Some n) (leading_in program b (cond (is_event x.need) (n + 1) n) (drop (i + 1) xs))) e
 
   pub leads_later : (n m i : ℕ) (xs : List Taken) (x : Taken) → i < length xs → x ≡ get_or xs i x → leads_at program (sync_of x) b ≡ false → m ≡ cond (is_event x.need) (n + 1) n
       → leading_in program b n (drop i xs) ≡ leading_in program b m (drop (i + 1) xs)
-  leads_later n m i xs x lt is no next =
+  leads_later n m i xs x lt is e next =
       opened n i xs x lt is
-      ∙ ap (λ (c : Bool). cond c (Some n) (leading_in program b (cond (is_event x.need) (n + 1) n) (drop (i + 1) xs))) no
+      ∙ ap (λ (c : Bool). cond c (Some n) (leading_in program b (cond (is_event x.need) (n + 1) n) (drop (i + 1) xs))) e
       ∙ ap (λ (k : ℕ). leading_in program b k (drop (i + 1) xs)) (sym next)
 
   -- ---- one process of the search

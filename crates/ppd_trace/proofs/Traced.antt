@@ -101,14 +101,14 @@ module _ (program : Program) (plan : Plan) (budget : ℕ) where
   few_at s p own lt is h = subst (λ (xs : List Taken). length xs < 2 ^ 32) (sym is) (h.few p own lt)
 
   pub one_traced : (s : Story) (p : ℕ) (own : List Taken) (before now : List (List TracedEvent)) (events : List TracedEvent) (all : List (List TracedEvent)) → p < length s.steps → own ≡ get_or s.steps p own
-      → events ≡ (tracing_of program plan budget s p own).events → now ≡ before ++ events ∷ [] → before ++ events_from program plan budget p s (drop p s.steps) ≡ all
-      → now ++ events_from program plan budget (p + 1) s (drop (p + 1) s.steps) ≡ all
+      → events ≡ (tracing_of program plan budget s p own).events → now ≡ before ++ events ∷ [] → before ++ events_from program plan budget s p (drop p s.steps) ≡ all
+      → now ++ events_from program plan budget s (p + 1) (drop (p + 1) s.steps) ≡ all
   one_traced s p own before now events all lt is traced pushed inv =
-      let rest : List (List TracedEvent) = events_from program plan budget (p + 1) s (drop (p + 1) s.steps) in
+      let rest : List (List TracedEvent) = events_from program plan budget s (p + 1) (drop (p + 1) s.steps) in
       ap (λ (x : List (List TracedEvent)). x ++ rest) pushed ∙ append_assoc before (events ∷ []) rest
       ∙ ap (λ (x : List TracedEvent). before ++ x ∷ rest) (traced ∙ ap (λ (x : List Taken). (tracing_of program plan budget s p x).events) is)
-      ∙ ap (λ (l : List (List Taken)). before ++ events_from program plan budget p s l) (sym (drop_more s.steps p own lt)) ∙ inv
+      ∙ ap (λ (l : List (List Taken)). before ++ events_from program plan budget s p l) (sym (drop_more s.steps p own lt)) ∙ inv
 
-  pub all_traced : (s : Story) (p : ℕ) (before all : List (List TracedEvent)) → length s.steps ≤ p → before ++ events_from program plan budget p s (drop p s.steps) ≡ all → before ≡ all
+  pub all_traced : (s : Story) (p : ℕ) (before all : List (List TracedEvent)) → length s.steps ≤ p → before ++ events_from program plan budget s p (drop p s.steps) ≡ all → before ≡ all
   all_traced s p before all lt inv =
-      sym (append-nil before) ∙ ap (λ (l : List (List Taken)). before ++ events_from program plan budget p s l) (sym (drop_all p s.steps lt)) ∙ inv
+      sym (append-nil before) ∙ ap (λ (l : List (List Taken)). before ++ events_from program plan budget s p l) (sym (drop_all p s.steps lt)) ∙ inv

@@ -1,5 +1,5 @@
 -- The parts of a step of a trace.
-use Rattle.std.specs.Prelude.{ℕ, ℤ, List, [], ◌∷◌, ◌++◌, drop, length, replicate, Option, Some, None, if◌then◌else◌}
+use Rattle.std.specs.Prelude.{ℕ, nat_eq, ℤ, List, [], ◌∷◌, ◌++◌, drop, length, replicate, Option, Some, None, if◌then◌else◌}
 use Rattle.ppd_ast.specs.declared.program.Program.{Program}
 use Rattle.ppd_sem.specs.declared.proc.Need.{Need}
 use Rattle.ppd_sem.specs.declared.proc.Need.TheVariants.{Read}
@@ -16,6 +16,11 @@ use Rattle.ppd_model.specs.FullTrace.{Tag, all_tagged, called, into_at, tagged, 
 abbrev pub passed_event : Option Test → Option EventId
 passed_event None = None
 passed_event (Some x) = if x.passed then Some x.event else None
+
+-- a test that is there, where it is of statement s
+abbrev pub test_of : ℕ → Option Test → Option Test
+test_of s None = None
+test_of s (Some x) = if nat_eq x.stmt s then Some x else None
 
 -- the activations with that of function f, which the head statement calls
 abbrev pub begun_call : Program → Proc → ℕ → Tag → List Activation → List Activation

@@ -1,21 +1,36 @@
 ghost use Rattle.std.specs.Prelude.{◌≡◌, OnOk, slice_get};
 ghost use Rattle.ppd_model.specs.FullTrace.{is_passed as is_passed_of, latest as latest_of, of_outer as of_outer_tests, of_run as of_run_tests, or_else as or_else_of, parent_at as parent_at_todo, parent_if, parent_in as parent_in_activation, tests_after, with_test};
 ghost use Rattle.ppd_sem.specs.Process.{kind_of};
-ghost use Rattle.ppd_trace.specs.Tagging.{passed_event as passed_event_of};
+ghost use Rattle.ppd_trace.specs.Tagging.{passed_event as passed_event_of, test_of as test_of_stmt};
 
 use ppd_ast::{Kind, Memory, Program};
 use ppd_model::{Activation, EventId, Test};
 use ppd_sem::{Event, Proc, Stack, next_stmt};
+
+/// The test at this place, from the latest one, where it is of this statement.
+fn test_of(stmt: u32, tests: &Stack<Test>, place: usize) -> Option<Test>
+    ensures { result ≡ test_of_stmt stmt (slice_get tests.now place) }
+{
+    match tests.get(place) {
+        Some(test) => {
+            if test.stmt == stmt {
+                Some(*test)
+            } else {
+                None
+            }
+        }
+        None => None,
+    }
+}
 
 /// The latest test of a statement.
 fn latest(stmt: u32, tests: &Stack<Test>) -> Option<Test>
     ensures { result ≡ latest_of stmt tests.now }
 {
     for index in 0..tests.len() {
-        if let Some(test) = tests.get(index) {
-            if test.stmt == stmt {
-                return Some(*test);
-            }
+        let test = test_of(stmt, tests, index);
+        if test.is_some() {
+            return test;
         }
     }
     None

@@ -100,17 +100,12 @@ fn leading_in(program: &Program, step: &Taken, steps: &[Taken]) -> Option<u32>
     None
 }
 
-/// The event whose synchronization leads to that of the step, if the step is one and another leads
-/// to it: the first `V` of a `P`'s number, the send of a receive's number, and the receive that
-/// finds a send's place free.
-pub(crate) fn paired(program: &Program, story: &Story, step: &Taken) -> Option<EventId>
+/// The first event, process after process, whose synchronization leads to that of the step.
+fn leading_from(program: &Program, story: &Story, step: &Taken) -> Option<EventId>
     requires steps { All (λ steps. length steps < 2 ^ 32) story.now.steps }
     requires processes { length story.now.steps ≤ 2 ^ 8 }
     ensures { result ≡ paired_of program.now story.now step.now }
 {
-    if step.number.is_none() {
-        return None;
-    }
     let lists = story.steps.as_slice();
     for process in 0..lists.len() {
         if let Some(number) = leading_in(program, step, lists[process].as_slice()) {
@@ -121,4 +116,19 @@ pub(crate) fn paired(program: &Program, story: &Story, step: &Taken) -> Option<E
         }
     }
     None
+}
+
+/// The event whose synchronization leads to that of the step, if the step is one and another leads
+/// to it: the `V` of a `P`'s number, the send of a receive's number, and the receive that finds a
+/// send's place free.
+#[tactic(auto, using(crate::proofs::Leading::unpaired))]
+pub(crate) fn paired(program: &Program, story: &Story, step: &Taken) -> Option<EventId>
+    requires steps { All (λ steps. length steps < 2 ^ 32) story.now.steps }
+    requires processes { length story.now.steps ≤ 2 ^ 8 }
+    ensures { result ≡ paired_of program.now story.now step.now }
+{
+    match step.number {
+        Some(_) => leading_from(program, story, step),
+        None => None,
+    }
 }

@@ -24,6 +24,7 @@ fn keep_answer(taken: &Taken, answers: &mut Seq<Option<EventId>>) -> Result<(), 
 }
 
 /// What a step adds to the trace of its process. The state of the process stays.
+#[tactic(auto, using(crate::proofs::Following::by_event, crate::proofs::Following::without_event))]
 fn trace_by(
     alloc: Global,
     program: &Program,

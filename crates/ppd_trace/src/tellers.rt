@@ -209,7 +209,7 @@ fn push_values(values: &mut Nums, cells: &[i64]) -> Result<(), Memory>
 
 /// The story of the steps that were taken.
 fn close(alloc: Global, teller: Teller) -> Result<Story, Memory>
-    ensures { IfOk result (λ story. story ≡ record { steps = teller.steps.items; cells = teller.world.world.shared; writers = teller.writers }) }
+    ensures { IfOk result (λ story. story ≡ record { steps = teller.entry.steps.items; cells = teller.entry.world.world.shared; writers = teller.entry.writers }) }
 {
     let mut cells = Nums::new(alloc);
     push_values(&mut cells, teller.world.cells())?;
@@ -240,9 +240,7 @@ pub fn tell_story(
         Err(_) => return Err(DriveError::Memory),
     };
     for index in 0..schedule.len() {
-        if let Err(error) = teller.follow(schedule[index], index as u32) {
-            return Err(error);
-        }
+        teller.follow(schedule[index], index as u32)?;
     }
     match close(alloc, teller) {
         Ok(story) => Ok(story),

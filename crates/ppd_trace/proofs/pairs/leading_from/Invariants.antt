@@ -1,6 +1,6 @@
 use Rattle.std.proofs.Common.{◌≡◌, drop}
 use Rattle.ppd_model.specs.Synchronizations.{leading_from, sync_of}
-use Rattle.ppd_trace.proofs.pairs.paired.Given as goal
+use Rattle.ppd_trace.proofs.pairs.leading_from.Given as goal
 
 abbrev pub invariant-loop-process : goal.invariant-loop-process
 invariant-loop-process l =
