@@ -26,6 +26,7 @@ use Rattle.ppd_model.specs.declared.tracing.Tracing.{Tracing}
 use Rattle.ppd_model.specs.FullTrace.{Tag, all_tagged, begun_tracing, called, event_of, into_at, latest, tagged, tagged_at, tagged_by, tagged_into, trace_by, trace_step, traced_by, with_event}
 use Rattle.ppd_model.specs.LocalTags.{AreOwn}
 use Rattle.ppd_model.proofs.Changes.{some}
+use Rattle.ppd_world.proofs.Lists.{get_or_any}
 use Rattle.ppd_trace.specs.Tagging.{answers_by, begun_body, begun_call, tagged_deed, test_of}
 
 
@@ -213,3 +214,18 @@ pub traced_whole : (program : Program) (plan : Plan) (story : Story) (p : ℕ) (
     → t ≡ fold (trace_step program plan story p) first (take i own) → t.events ≡ (fold (trace_step program plan story p) first own).events
 traced_whole program plan story p first own i t lt e =
     ap (λ (v : Tracing). v.events) (e ∙ ap (λ (l : List Taken). fold (trace_step program plan story p) first l) (take_all i own lt))
+
+-- ---- the next step, as the element of the list whatever stands past its end
+
+module _ (program : Program) (plan : Plan) (story : Story) (p : ℕ) (own : List Taken) (i : ℕ) (d : Taken) (t u : Tracing) (lt : i < length own) (e : u ≡ trace_step program plan story p t (get_or own i d)) where
+  there : get_or own i d ≡ get_or own i (get_or own i d)
+  there = get_or_any own i d (get_or own i d) lt
+
+  pub traced_on : (first : Tracing) → t ≡ fold (trace_step program plan story p) first (take i own) → u ≡ fold (trace_step program plan story p) first (take (i + 1) own)
+  traced_on first inv = traced_after program plan story p first own i (get_or own i d) t u lt there inv e
+
+  pub own_on : AreOwn program plan t.proc (drop i own) → AreOwn program plan u.proc (drop (i + 1) own)
+  own_on h = own_after program plan story p own i (get_or own i d) t u lt there h e
+
+  pub few_on : length t.events ≤ i → length u.events ≤ i + 1
+  few_on few = few_after program plan story p i (get_or own i d) t u few e
