@@ -16,18 +16,18 @@ use Rattle.ppd_sem.specs.Asked.{Asked, outcome}
 use Rattle.ppd_sem.specs.Deed.{Deed, set_local, clear, invoke, back, receive}
 use Rattle.ppd_sem.specs.Described.{is_event}
 use Rattle.ppd_sem.specs.Passed.{arguments_at, arguments_by, arguments_of_head, deed_at, deed_by, deed_if_there, deed_of_head}
-use Rattle.ppd_sem.specs.Process.{act, head_deed, need_of, started, top_call, top_cells}
+use Rattle.ppd_sem.specs.Process.{act, head_deed, need_of, started, top_cells}
 use Rattle.ppd_model.specs.declared.trace.TracedEvent.{TracedEvent}
 use Rattle.ppd_model.specs.declared.tracing.Activation.{Activation}
 use Rattle.ppd_model.specs.declared.tracing.Story.{Story}
 use Rattle.ppd_model.specs.declared.tracing.Taken.{Taken}
 use Rattle.ppd_model.specs.declared.tracing.Test.{Test}
 use Rattle.ppd_model.specs.declared.tracing.Tracing.{Tracing}
-use Rattle.ppd_model.specs.FullTrace.{Tag, all_tagged, begun_tracing, called, event_of, into_at, latest, tagged, tagged_at, tagged_by, tagged_into, trace_by, trace_step, traced_by, with_event}
+use Rattle.ppd_model.specs.FullTrace.{Tag, begun_tracing, called, event_of, latest, tagged_at, tagged_by, trace_by, trace_step, traced_by, with_event}
 use Rattle.ppd_model.specs.LocalTags.{AreOwn}
 use Rattle.ppd_model.proofs.Changes.{some}
 use Rattle.ppd_world.proofs.Lists.{get_or_any}
-use Rattle.ppd_trace.specs.Tagging.{answers_by, begun_body, begun_call, tagged_deed, test_of}
+use Rattle.ppd_trace.specs.Tagging.{answers_by, begun_body, tagged_deed, test_of}
 
 
 -- what follows from what an answer that is Ok tells

@@ -8,7 +8,6 @@ use Rattle.ppd_sem.specs.declared.proc.Need.TheVariants.{Read, Enter, Budget, St
 use Rattle.ppd_sem.specs.Described.{is_event as is_event_of}
 use Rattle.ppd_model.specs.declared.tracing.Story.{Story}
 use Rattle.ppd_model.specs.declared.tracing.Taken.{Taken}
-use Rattle.ppd_model.specs.declared.trace.EventId.{EventId}
 use Rattle.ppd_model.specs.Story.{is_event}
 use Rattle.ppd_model.specs.Synchronizations.{Sync, event_or, kind_of_sync, leading_from, leading_in, leads_at, numbered, paired_of, sync_of}
 

@@ -1,7 +1,6 @@
 -- What is told of a schedule with one more step.
-use Rattle.std.proofs.Common.{◌≡◌, ℕ, ◌+◌, ◌-◌, ◌<◌, ◌≤◌, ◌^◌, true, false, List, [], ◌∷◌, ◌++◌, length, map, get_or, slice_set, take, Option, Some, None, Result, Ok, Err, refl, ap, sym, ◌∙◌, subst, arith}
-use Rattle.std.specs.Prelude.{replicate, slice_get}
-use Rattle.std.proofs.lemmas.List.{length-take-le, take_more}
+use Rattle.std.proofs.Common.{◌≡◌, ℕ, ◌+◌, ◌-◌, ◌<◌, ◌≤◌, ◌^◌, true, List, [], ◌∷◌, ◌++◌, length, map, get_or, slice_set, Some, None, refl, ap, sym, ◌∙◌, subst, arith}
+use Rattle.std.specs.Prelude.{replicate}
 use Rattle.ppd_ast.specs.Valid.{IsValid}
 use Rattle.ppd_ast.specs.ValidPlan.{IsValidPlan}
 use Rattle.ppd_ast.specs.declared.plan.Plan.{Plan}
@@ -13,16 +12,15 @@ use Rattle.ppd_model.specs.declared.tracing.Taken.{Taken}
 use Rattle.ppd_model.specs.declared.state.Logging.{Logging}
 use Rattle.ppd_model.specs.declared.trace.EventId.{EventId}
 use Rattle.ppd_model.specs.FullTrace.{Tag}
-use Rattle.ppd_model.specs.Laws.{logged_moment}
 use Rattle.ppd_model.specs.Logs.{loggings}
-use Rattle.ppd_model.specs.Schedule.{run, started_procs, started_world}
-use Rattle.ppd_model.specs.Story.{Moment, Telling, count_events, moment_of, next_event, number_of, steps_of, taken_of, tell, told, writer_of, writers_after}
+use Rattle.ppd_model.specs.Schedule.{run, started_procs}
+use Rattle.ppd_model.specs.Story.{Telling, count_events, moment_of, next_event, number_of, steps_of, taken_of, tell, told, writer_of, writers_after}
 use Rattle.ppd_model.specs.World.{World, answer, change, need, step}
 use Rattle.ppd_model.proofs.Bounded.{started_count}
 use Rattle.ppd_model.proofs.Stories.{steps-change, told-append}
 use Rattle.ppd_world.specs.Running.{IsOf, IsReached, Running, begun, can_step, stepped}
 use Rattle.ppd_world.proofs.Reached.{of_step}
-use Rattle.ppd_trace.specs.Telling.{HasTold, Tells, after, counts_after, next_of, next_taken, with_writer, writer_in, writers_set}
+use Rattle.ppd_trace.specs.Telling.{HasTold, Tells, after, counts_after, next_of, next_taken, writer_in, writers_set}
 use Rattle.ppd_trace.proofs.Counted.{count_at, counts_change, empty_steps, few_events_at, zero_counts}
 
 -- ---- the parts of a step

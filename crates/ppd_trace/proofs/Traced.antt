@@ -1,5 +1,5 @@
 -- The story and the trace of a schedule that was taken, and the number at which one ends.
-use Rattle.std.proofs.Common.{◌≡◌, ℕ, ℤ, ◌+◌, ◌-◌, ◌<◌, ◌≤◌, ◌^◌, true, false, List, [], ◌∷◌, ◌++◌, length, map, take, drop, get_or, Some, Ok, Err, refl, ap, sym, ◌∙◌, subst, arith}
+use Rattle.std.proofs.Common.{◌≡◌, ℕ, ℤ, ◌+◌, ◌-◌, ◌<◌, ◌≤◌, ◌^◌, true, false, List, [], ◌∷◌, ◌++◌, length, map, take, drop, get_or, Ok, ap, sym, ◌∙◌, subst, arith}
 use Rattle.std.specs.List.{All}
 use Rattle.std.proofs.lemmas.List.{append_assoc, append-nil, drop_all, drop_more, length-map, length-take-le, take_all, take_more}
 use Rattle.ppd_ast.specs.Valid.{IsValid}
@@ -14,13 +14,13 @@ use Rattle.ppd_model.specs.declared.trace.TracedEvent.{TracedEvent}
 use Rattle.ppd_model.specs.FullTrace.{Tag, events_from, tracing_of}
 use Rattle.ppd_model.specs.LocalTags.{AreOwn}
 use Rattle.ppd_model.specs.Story.{Moment, own_steps, steps_of, story, told}
-use Rattle.ppd_model.specs.World.{World, enabled}
+use Rattle.ppd_model.specs.World.{enabled}
 use Rattle.ppd_model.proofs.LocalTags.{own_steps_told}
 use Rattle.ppd_world.specs.Running.{IsCause, Running, can_step}
-use Rattle.ppd_world.proofs.Lists.{Every, every_all, every_map, every_more, get_or_any}
+use Rattle.ppd_world.proofs.Lists.{every_all, every_map, every_more, get_or_any}
 use Rattle.ppd_world.proofs.Reached.{at_place}
 use Rattle.ppd_trace.specs.Telling.{HasTold, Tells}
-use Rattle.ppd_trace.specs.Traced.{CanBeTaken, IsRefused, IsStoryOf, IsStuckAt, IsTraceable}
+use Rattle.ppd_trace.specs.Traced.{IsRefused, IsStoryOf, IsStuckAt, IsTraceable}
 use Rattle.ppd_trace.proofs.Counted.{few_taken, how_many, moments_within}
 use Rattle.ppd_trace.proofs.Told.{tells_more}
 
