@@ -29,7 +29,6 @@ use Rattle.ppd_model.proofs.Changes.{some}
 use Rattle.ppd_world.proofs.Lists.{get_or_any}
 use Rattle.ppd_trace.specs.Tagging.{answers_by, begun_body, tagged_deed, test_of}
 
-
 -- what follows from what an answer that is Ok tells
 pub ok_then : {T E P Q : Type 0} (r : Result T E) → (P → Q) → OnOk r P → OnOk r Q
 ok_then (Ok x) f h = f h

@@ -59,11 +59,12 @@ module _ (program : Program) (plan : Plan) (budget : ℕ) where
       → length h ≤ i → Tells program plan budget (take i h) r counts writers steps → s ≡ record { steps = steps; cells = r.world.shared; writers = writers } → IsStoryOf program plan budget h (Ok s)
   unfolding made
   story_is h i r counts writers steps s lt b e =
-      let whole : Tells program plan budget h r counts writers steps = subst (λ (l : List ℕ). Tells program plan budget l r counts writers steps) (take_all i h lt) b in
-      (record { last = (told program plan budget h).world; runs = whole.runs },
-      e ∙ ap (λ (x : List (List Taken)). made x r.world.shared writers) whole.added
-      ∙ ap (λ (x : Running). made (map steps_of (told program plan budget h).moments) x.world.shared writers) whole.world
-      ∙ ap (λ (x : List Tag). made (map steps_of (told program plan budget h).moments) (told program plan budget h).world.shared x) whole.written)
+      let whole : Tells program plan budget h r counts writers steps = subst (λ (l : List ℕ). Tells program plan budget l r counts writers steps) (take_all i h lt) b in (
+        record { last = (told program plan budget h).world; runs = whole.runs },
+        e ∙ ap (λ (x : List (List Taken)). made x r.world.shared writers) whole.added
+            ∙ ap (λ (x : Running). made (map steps_of (told program plan budget h).moments) x.world.shared writers) whole.world
+            ∙ ap (λ (x : List Tag). made (map steps_of (told program plan budget h).moments) (told program plan budget h).world.shared x) whole.written,
+      )
 
   -- ---- the story can be traced
 

@@ -12,13 +12,7 @@ fn test_of(stmt: u32, tests: &Stack<Test>, place: usize) -> Option<Test>
     ensures { result ≡ test_of_stmt stmt (slice_get tests.now place) }
 {
     match tests.get(place) {
-        Some(test) => {
-            if test.stmt == stmt {
-                Some(*test)
-            } else {
-                None
-            }
-        }
+        Some(test) => { if test.stmt == stmt { Some(*test) } else { None } }
         None => None,
     }
 }
@@ -41,13 +35,7 @@ fn passed_event(test: Option<Test>) -> Option<EventId>
     ensures { result ≡ passed_event_of test }
 {
     match test {
-        Some(test) => {
-            if test.passed {
-                Some(test.event)
-            } else {
-                None
-            }
-        }
+        Some(test) => { if test.passed { Some(test.event) } else { None } }
         None => None,
     }
 }

@@ -69,7 +69,10 @@ fn leads(program: &Program, first: &Taken, second: &Taken) -> bool
         return false;
     };
     object == other_object
-        && is_number(led_to(capacity_of(program, object), kind, other_kind, number), other_number)
+        && is_number(
+            led_to(capacity_of(program, object), kind, other_kind, number),
+            other_number,
+        )
 }
 
 /// The next event's number after a step.

@@ -36,11 +36,7 @@ fn first_tag(tags: &[Option<EventId>]) -> Option<EventId>
 }
 
 /// The tag of a place that is read: a shared one has the next answer's.
-fn tag_at(
-    locals: &[Option<EventId>],
-    answers: &[Option<EventId>],
-    spot: Spot,
-) -> Option<EventId>
+fn tag_at(locals: &[Option<EventId>], answers: &[Option<EventId>], spot: Spot) -> Option<EventId>
     ensures { result ≡ tag_at_spot locals.now answers.now spot }
 {
     match spot {

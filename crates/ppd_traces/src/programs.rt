@@ -165,7 +165,14 @@ pub fn recursion(alloc: Global, depth: i64) -> Result<Program, AllocError> {
     stmts.push(stmt(10, 3, 1, None, Kind::Print(11)))?;
     stmts.push(stmt(11, 1, 1, None, Kind::End))?;
     let mut bodies = Vec::new(alloc);
-    bodies.push(body(alloc, "f", (false, true, 1), &["n", "r"], &[0, 1, 3], (0, 4))?)?;
+    bodies.push(body(
+        alloc,
+        "f",
+        (false, true, 1),
+        &["n", "r"],
+        &[0, 1, 3],
+        (0, 4),
+    )?)?;
     bodies.push(body(alloc, "a", (true, false, 0), &["v"], &[4, 5, 6], (4, 7))?)?;
     let exprs = [
         Expr::Const(0),

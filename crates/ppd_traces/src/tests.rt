@@ -7,10 +7,12 @@ use std::alloc::{AllocError, Global};
 use std::test::Fail;
 
 const BUDGET: u32 = 100_000;
+
 const X: Spot = Spot::Shared(0);
 
 /// Cell 0 of the top frame, where its body is a block.
 const FIRST: Spot = Spot::Local { frame: 0, cell: 0 };
+
 const SECOND: Spot = Spot::Local { frame: 0, cell: 1 };
 
 /// Cell 0 of the frame that a call begins.
@@ -33,17 +35,30 @@ fn a_print_reads_what_the_callee_wrote(rt: HostRuntime) -> Result<(), Fail> {
     let call = Some((0, 1));
     let traced = by(alloc, callee_write(alloc), false, &[0; 7]).expect(&rt, "valid");
     let traced = traced.expect(&rt, "whole");
-    assert!(
-        rt;
+    assert!(rt;
         are_rows(
             &traced,
             0,
             &[
-                Row { writes: &[(X, 1)], ..plain(2) },
+                Row {
+                    writes: &[(X, 1)],
+                    ..plain(2)
+                },
                 plain(3),
-                Row { writes: &[(X, 4)], parent: call, ..plain(0) },
-                Row { parent: call, ..plain(1) },
-                Row { reads: &[(X, 4, Some((0, 2)))], value: Some(4), ..plain(4) },
+                Row {
+                    writes: &[(X, 4)],
+                    parent: call,
+                    ..plain(0)
+                },
+                Row {
+                    parent: call,
+                    ..plain(1)
+                },
+                Row {
+                    reads: &[(X, 4, Some((0, 2)))],
+                    value: Some(4),
+                    ..plain(4)
+                },
                 plain(5),
             ],
         )
@@ -67,15 +82,25 @@ fn a_loop_that_is_never_entered(rt: HostRuntime) -> Result<(), Fail> {
     let first = Some((0, 0));
     let traced = by(alloc, loop_from(alloc, 3), true, &[0; 5]).expect(&rt, "valid");
     let traced = traced.expect(&rt, "whole");
-    assert!(
-        rt;
+    assert!(rt;
         are_rows(
             &traced,
             0,
             &[
-                Row { writes: &[(FIRST, 3)], ..plain(0) },
-                Row { reads: &[(FIRST, 3, first)], value: Some(0), ..plain(1) },
-                Row { reads: &[(FIRST, 3, first)], value: Some(3), ..plain(3) },
+                Row {
+                    writes: &[(FIRST, 3)],
+                    ..plain(0)
+                },
+                Row {
+                    reads: &[(FIRST, 3, first)],
+                    value: Some(0),
+                    ..plain(1)
+                },
+                Row {
+                    reads: &[(FIRST, 3, first)],
+                    value: Some(3),
+                    ..plain(3)
+                },
                 plain(4),
             ],
         )
@@ -91,22 +116,37 @@ fn a_second_test_follows_the_first(rt: HostRuntime) -> Result<(), Fail> {
     let traced = traced.expect(&rt, "whole");
     let test = Some((0, 1));
     let counted = Some((0, 2));
-    assert!(
-        rt;
+    assert!(rt;
         are_rows(
             &traced,
             0,
             &[
-                Row { writes: &[(FIRST, 2)], ..plain(0) },
-                Row { reads: &[(FIRST, 2, Some((0, 0)))], value: Some(1), ..plain(1) },
+                Row {
+                    writes: &[(FIRST, 2)],
+                    ..plain(0)
+                },
+                Row {
+                    reads: &[(FIRST, 2, Some((0, 0)))],
+                    value: Some(1),
+                    ..plain(1)
+                },
                 Row {
                     reads: &[(FIRST, 2, Some((0, 0)))],
                     writes: &[(FIRST, 3)],
                     parent: test,
                     ..plain(2)
                 },
-                Row { reads: &[(FIRST, 3, counted)], value: Some(0), parent: test, ..plain(1) },
-                Row { reads: &[(FIRST, 3, counted)], value: Some(3), ..plain(3) },
+                Row {
+                    reads: &[(FIRST, 3, counted)],
+                    value: Some(0),
+                    parent: test,
+                    ..plain(1)
+                },
+                Row {
+                    reads: &[(FIRST, 3, counted)],
+                    value: Some(3),
+                    ..plain(3)
+                },
                 plain(4),
             ],
         )
@@ -121,31 +161,60 @@ fn a_recursion_with_2(rt: HostRuntime) -> Result<(), Fail> {
     let traced = by(alloc, recursion(alloc, 2), false, &[0; 14]).expect(&rt, "valid");
     let traced = traced.expect(&rt, "whole");
     let (outer, middle, inner) = (Some((0, 0)), Some((0, 3)), Some((0, 6)));
-    assert!(
-        rt;
+    assert!(rt;
         are_rows(
             &traced,
             0,
             &[
-                Row { writes: &[(CALLED, 2)], ..plain(4) },
-                Row { writes: &[(SECOND, 0)], parent: outer, ..plain(0) },
-                Row { reads: &[(FIRST, 2, outer)], value: Some(1), parent: outer, ..plain(1) },
+                Row {
+                    writes: &[(CALLED, 2)],
+                    ..plain(4)
+                },
+                Row {
+                    writes: &[(SECOND, 0)],
+                    parent: outer,
+                    ..plain(0)
+                },
+                Row {
+                    reads: &[(FIRST, 2, outer)],
+                    value: Some(1),
+                    parent: outer,
+                    ..plain(1)
+                },
                 Row {
                     reads: &[(FIRST, 2, outer)],
                     writes: &[(CALLED, 1)],
                     parent: Some((0, 2)),
                     ..plain(2)
                 },
-                Row { writes: &[(SECOND, 0)], parent: middle, ..plain(0) },
-                Row { reads: &[(FIRST, 1, middle)], value: Some(1), parent: middle, ..plain(1) },
+                Row {
+                    writes: &[(SECOND, 0)],
+                    parent: middle,
+                    ..plain(0)
+                },
+                Row {
+                    reads: &[(FIRST, 1, middle)],
+                    value: Some(1),
+                    parent: middle,
+                    ..plain(1)
+                },
                 Row {
                     reads: &[(FIRST, 1, middle)],
                     writes: &[(CALLED, 0)],
                     parent: Some((0, 5)),
                     ..plain(2)
                 },
-                Row { writes: &[(SECOND, 0)], parent: inner, ..plain(0) },
-                Row { reads: &[(FIRST, 0, inner)], value: Some(0), parent: inner, ..plain(1) },
+                Row {
+                    writes: &[(SECOND, 0)],
+                    parent: inner,
+                    ..plain(0)
+                },
+                Row {
+                    reads: &[(FIRST, 0, inner)],
+                    value: Some(0),
+                    parent: inner,
+                    ..plain(1)
+                },
                 Row {
                     reads: &[(SECOND, 0, Some((0, 7)))],
                     value: Some(1),
@@ -164,7 +233,11 @@ fn a_recursion_with_2(rt: HostRuntime) -> Result<(), Fail> {
                     parent: outer,
                     ..plain(3)
                 },
-                Row { reads: &[(FIRST, 3, Some((0, 11)))], value: Some(3), ..plain(5) },
+                Row {
+                    reads: &[(FIRST, 3, Some((0, 11)))],
+                    value: Some(3),
+                    ..plain(5)
+                },
                 plain(6),
             ],
         )
@@ -191,9 +264,20 @@ fn is_turn(traced: &Trace, p: usize, turn: Turn) -> bool {
         traced,
         p,
         &[
-            Row { number: Some(number), paired: turn.paired, ..plain(stmt) },
-            Row { reads: &[(X, turn.value, turn.writer)], writes: &[(X, next)], ..plain(stmt + 1) },
-            Row { number: Some(number + 1), ..plain(stmt + 2) },
+            Row {
+                number: Some(number),
+                paired: turn.paired,
+                ..plain(stmt)
+            },
+            Row {
+                reads: &[(X, turn.value, turn.writer)],
+                writes: &[(X, next)],
+                ..plain(stmt + 1)
+            },
+            Row {
+                number: Some(number + 1),
+                ..plain(stmt + 2)
+            },
             plain(stmt + 3),
         ],
     )
@@ -210,7 +294,13 @@ fn two_processes_under_one_lock(rt: HostRuntime) -> Result<(), Fail> {
     for (first, second, stmt, schedule) in schedules {
         let traced = by(alloc, locked(alloc), false, &schedule).expect(&rt, "valid");
         let traced = traced.expect(&rt, "whole");
-        let before = Turn { stmt, number: 1, paired: None, value: 0, writer: None };
+        let before = Turn {
+            stmt,
+            number: 1,
+            paired: None,
+            value: 0,
+            writer: None,
+        };
         let after = Turn {
             stmt: 4 - stmt,
             number: 2,

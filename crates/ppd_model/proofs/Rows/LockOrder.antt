@@ -157,15 +157,19 @@ apart agree =
     omega (arith, same, number_first, number_second)
 
 -- b's P follows a's V
-pub trace_first : full_trace program plan 100000 first ≡ record { events =
-    (traced (event 0 [] [] None (Some 1) None) [] None None ∷ traced (event 1 (access (Shared 0) (pos 0) ∷ []) (access (Shared 0) (pos 1) ∷ []) None None None) (None ∷ []) None None ∷ traced (event 2 [] [] None (Some 2) None) [] None None ∷ traced (quiet 3) [] None None ∷ [])
-    ∷ (traced (event 4 [] [] None (Some 2) None) [] None (Some (id 0 2)) ∷ traced (event 5 (access (Shared 0) (pos 1) ∷ []) (access (Shared 0) (pos 2) ∷ []) None None None) (Some (id 0 1) ∷ []) None None ∷ traced (event 6 [] [] None (Some 3) None) [] None None ∷ traced (quiet 7) [] None None ∷ []) ∷ [] }
+pub trace_first : full_trace program plan 100000 first ≡ record {
+  events =
+      (traced (event 0 [] [] None (Some 1) None) [] None None ∷ traced (event 1 (access (Shared 0) (pos 0) ∷ []) (access (Shared 0) (pos 1) ∷ []) None None None) (None ∷ []) None None ∷ traced (event 2 [] [] None (Some 2) None) [] None None ∷ traced (quiet 3) [] None None ∷ [])
+      ∷ (traced (event 4 [] [] None (Some 2) None) [] None (Some (id 0 2)) ∷ traced (event 5 (access (Shared 0) (pos 1) ∷ []) (access (Shared 0) (pos 2) ∷ []) None None None) (Some (id 0 1) ∷ []) None None ∷ traced (event 6 [] [] None (Some 3) None) [] None None ∷ traced (quiet 7) [] None None ∷ []) ∷ [];
+}
 unfolding terms
 trace_first = refl
 
 -- a's P follows b's V
-pub trace_second : full_trace program plan 100000 second ≡ record { events =
-    (traced (event 0 [] [] None (Some 2) None) [] None (Some (id 1 2)) ∷ traced (event 1 (access (Shared 0) (pos 1) ∷ []) (access (Shared 0) (pos 2) ∷ []) None None None) (Some (id 1 1) ∷ []) None None ∷ traced (event 2 [] [] None (Some 3) None) [] None None ∷ traced (quiet 3) [] None None ∷ [])
-    ∷ (traced (event 4 [] [] None (Some 1) None) [] None None ∷ traced (event 5 (access (Shared 0) (pos 0) ∷ []) (access (Shared 0) (pos 1) ∷ []) None None None) (None ∷ []) None None ∷ traced (event 6 [] [] None (Some 2) None) [] None None ∷ traced (quiet 7) [] None None ∷ []) ∷ [] }
+pub trace_second : full_trace program plan 100000 second ≡ record {
+  events =
+      (traced (event 0 [] [] None (Some 2) None) [] None (Some (id 1 2)) ∷ traced (event 1 (access (Shared 0) (pos 1) ∷ []) (access (Shared 0) (pos 2) ∷ []) None None None) (Some (id 1 1) ∷ []) None None ∷ traced (event 2 [] [] None (Some 3) None) [] None None ∷ traced (quiet 3) [] None None ∷ [])
+      ∷ (traced (event 4 [] [] None (Some 1) None) [] None None ∷ traced (event 5 (access (Shared 0) (pos 0) ∷ []) (access (Shared 0) (pos 1) ∷ []) None None None) (None ∷ []) None None ∷ traced (event 6 [] [] None (Some 2) None) [] None None ∷ traced (quiet 7) [] None None ∷ []) ∷ [];
+}
 unfolding terms
 trace_second = refl

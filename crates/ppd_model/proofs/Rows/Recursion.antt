@@ -107,21 +107,23 @@ unfolding terms
 ends_64 = refl
 
 -- each call's parameter is written by the call, and its result by the return
-pub trace : full_trace program plan 100000 schedule ≡ record { events = (
-  traced (event 4 [] (access (Local 1 0) (pos 2) ∷ []) None None None) [] None None
-  ∷ traced (event 0 [] (access (Local 0 1) (pos 0) ∷ []) None None None) [] (Some (id 0 0)) None
-  ∷ traced (event 1 (access (Local 0 0) (pos 2) ∷ []) [] (Some (pos 1)) None None) (Some (id 0 0) ∷ []) (Some (id 0 0)) None
-  ∷ traced (event 2 (access (Local 0 0) (pos 2) ∷ []) (access (Local 1 0) (pos 1) ∷ []) None None None) (Some (id 0 0) ∷ []) (Some (id 0 2)) None
-  ∷ traced (event 0 [] (access (Local 0 1) (pos 0) ∷ []) None None None) [] (Some (id 0 3)) None
-  ∷ traced (event 1 (access (Local 0 0) (pos 1) ∷ []) [] (Some (pos 1)) None None) (Some (id 0 3) ∷ []) (Some (id 0 3)) None
-  ∷ traced (event 2 (access (Local 0 0) (pos 1) ∷ []) (access (Local 1 0) (pos 0) ∷ []) None None None) (Some (id 0 3) ∷ []) (Some (id 0 5)) None
-  ∷ traced (event 0 [] (access (Local 0 1) (pos 0) ∷ []) None None None) [] (Some (id 0 6)) None
-  ∷ traced (event 1 (access (Local 0 0) (pos 0) ∷ []) [] (Some (pos 0)) None None) (Some (id 0 6) ∷ []) (Some (id 0 6)) None
-  ∷ traced (event 3 (access (Local 0 1) (pos 0) ∷ []) [] (Some (pos 1)) None None) (Some (id 0 7) ∷ []) (Some (id 0 6)) None
-  ∷ traced (event 3 (access (Local 0 1) (pos 1) ∷ []) [] (Some (pos 2)) None None) (Some (id 0 9) ∷ []) (Some (id 0 3)) None
-  ∷ traced (event 3 (access (Local 0 1) (pos 2) ∷ []) [] (Some (pos 3)) None None) (Some (id 0 10) ∷ []) (Some (id 0 0)) None
-  ∷ traced (event 5 (access (Local 0 0) (pos 3) ∷ []) [] (Some (pos 3)) None None) (Some (id 0 11) ∷ []) None None
-  ∷ traced (quiet 6) [] None None ∷ []
-) ∷ [] }
+pub trace : full_trace program plan 100000 schedule ≡ record {
+  events = (
+      traced (event 4 [] (access (Local 1 0) (pos 2) ∷ []) None None None) [] None None
+      ∷ traced (event 0 [] (access (Local 0 1) (pos 0) ∷ []) None None None) [] (Some (id 0 0)) None
+      ∷ traced (event 1 (access (Local 0 0) (pos 2) ∷ []) [] (Some (pos 1)) None None) (Some (id 0 0) ∷ []) (Some (id 0 0)) None
+      ∷ traced (event 2 (access (Local 0 0) (pos 2) ∷ []) (access (Local 1 0) (pos 1) ∷ []) None None None) (Some (id 0 0) ∷ []) (Some (id 0 2)) None
+      ∷ traced (event 0 [] (access (Local 0 1) (pos 0) ∷ []) None None None) [] (Some (id 0 3)) None
+      ∷ traced (event 1 (access (Local 0 0) (pos 1) ∷ []) [] (Some (pos 1)) None None) (Some (id 0 3) ∷ []) (Some (id 0 3)) None
+      ∷ traced (event 2 (access (Local 0 0) (pos 1) ∷ []) (access (Local 1 0) (pos 0) ∷ []) None None None) (Some (id 0 3) ∷ []) (Some (id 0 5)) None
+      ∷ traced (event 0 [] (access (Local 0 1) (pos 0) ∷ []) None None None) [] (Some (id 0 6)) None
+      ∷ traced (event 1 (access (Local 0 0) (pos 0) ∷ []) [] (Some (pos 0)) None None) (Some (id 0 6) ∷ []) (Some (id 0 6)) None
+      ∷ traced (event 3 (access (Local 0 1) (pos 0) ∷ []) [] (Some (pos 1)) None None) (Some (id 0 7) ∷ []) (Some (id 0 6)) None
+      ∷ traced (event 3 (access (Local 0 1) (pos 1) ∷ []) [] (Some (pos 2)) None None) (Some (id 0 9) ∷ []) (Some (id 0 3)) None
+      ∷ traced (event 3 (access (Local 0 1) (pos 2) ∷ []) [] (Some (pos 3)) None None) (Some (id 0 10) ∷ []) (Some (id 0 0)) None
+      ∷ traced (event 5 (access (Local 0 0) (pos 3) ∷ []) [] (Some (pos 3)) None None) (Some (id 0 11) ∷ []) None None
+      ∷ traced (quiet 6) [] None None ∷ []
+      ) ∷ [];
+}
 unfolding terms
 trace = refl
