@@ -22,33 +22,15 @@ use Rattle.ppd_sem.specs.Process.{act, head_deed, into_of, kind_of, started, top
 use Rattle.ppd_model.specs.declared.trace.EventId.{EventId}
 use Rattle.ppd_model.specs.declared.trace.Trace.{Trace}
 use Rattle.ppd_model.specs.declared.trace.TracedEvent.{TracedEvent}
+pub use Rattle.ppd_model.specs.declared.tracing.Activation.{Activation}
+pub use Rattle.ppd_model.specs.declared.tracing.Test.{Test}
+pub use Rattle.ppd_model.specs.declared.tracing.Tracing.{Tracing}
 use Rattle.ppd_model.specs.Story.{Taken, Story, story}
 use Rattle.ppd_model.specs.Synchronizations.{paired_of}
 
 -- the event that last wrote a place, and None for its start value
 abbrev pub Tag : Type 0
 Tag = Option EventId
-
--- an event of an `If` or `While`, and whether its value was true
-pub record Test : Type 0 where
-  pub stmt : ℕ
-  pub event : EventId
-  pub passed : Bool
-
--- a body's run: the event of the call that began it, none in a process, the tags of its local
--- cells, and its tests with the latest first
-pub record Activation : Type 0 where
-  pub call : Option EventId
-  pub tags : List Tag
-  pub tests : List Test
-
--- a process with its activations, the top one first, the tags of the head's answers, and the
--- events so far
-pub record Tracing : Type 0 where
-  pub proc : Proc
-  pub activations : List Activation
-  pub answers : List Tag
-  pub events : List TracedEvent
 
 -- ---- the tags of what is read
 

@@ -7,16 +7,10 @@ use Rattle.ppd_sem.specs.declared.proc.Need.{Need}
 use Rattle.ppd_sem.specs.declared.proc.Need.TheVariants.{Read, Write, Enter, Leave, Invoke, Back, P, V, Send, Recv, Budget, Stopped}
 use Rattle.ppd_sem.specs.declared.proc.Answer.{Answer}
 use Rattle.ppd_model.specs.declared.trace.EventId.{EventId}
+pub use Rattle.ppd_model.specs.declared.tracing.Story.{Story}
+pub use Rattle.ppd_model.specs.declared.tracing.Taken.{Taken}
 use Rattle.ppd_model.specs.World.{World, Counts, Channel, need, answer, step, change}
 use Rattle.ppd_model.specs.Schedule.{started_world}
-
--- a step that a process took: its need and answer, the event that last wrote the cell of a Read,
--- and the number of a synchronization
-pub record Taken : Type 0 where
-  pub need : Need
-  pub answer : Answer
-  pub writer : Option EventId
-  pub number : Option ℕ
 
 -- a step with the values of the unit that it starts, as they stand after it
 pub record Moment : Type 0 where
@@ -28,12 +22,6 @@ pub record Telling : Type 0 where
   pub world : World
   pub writers : List (Option EventId)
   pub moments : List (List Moment)
-
--- the steps of each process, and each shared cell's last value and writer
-pub record Story : Type 0 where
-  pub steps : List (List Taken)
-  pub cells : List ℤ
-  pub writers : List (Option EventId)
 
 -- ---- one step
 

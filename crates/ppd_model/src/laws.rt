@@ -1,4 +1,5 @@
 ghost use Rattle.ppd_model.specs.Bounds.{CountsAreBalanced, SchedulesAreBounded, StepsChangeTheirOwn};
+ghost use Rattle.ppd_model.specs.Earlier.{TracesNameEarlierEvents, TracesTellRuns};
 ghost use Rattle.ppd_model.specs.Laws.{IsTestOfBefore, IsTestOfEdges, LastEdgesAreOpen, LogsGrow, NoRaceMeansOrder, ProcessesFollowTheirSteps, StoriesAreOfRuns, StoriesGrow, StoriesTellAll, SynchronizationsAreCounted, TagsAreLastWrites};
 ghost use Rattle.ppd_model.specs.LocalTags.{LocalTagsAreLastWrites, ReadsAreOfTheTop, SchedulesTagLastWrites, StepsTagTheirWrites, StoriesTellOwnSteps};
 
@@ -61,6 +62,14 @@ pub fn local_tags_are_last_writes()
     ensures traces { LocalTagsAreLastWrites }
     ensures schedules { SchedulesTagLastWrites }
     ensures reads { ReadsAreOfTheTop }
+{}
+
+/// Law: the events of a process in a trace are its finished and trapped statements in order; without
+/// writers, parents and pairs they are what its steps did. The parent of an event, and the writer of
+/// each local cell that it reads, are events of the same process with smaller numbers.
+pub fn traces_are_of_runs()
+    ensures run { TracesTellRuns }
+    ensures earlier { TracesNameEarlierEvents }
 {}
 
 /// Law: the step of a process changes the process itself and what its need names, and nothing else.

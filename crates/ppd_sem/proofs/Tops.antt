@@ -1,8 +1,9 @@
 -- A change of a vector's last item is a change of the stack's top.
-use Rattle.std.proofs.Common.{◌≡◌, ℕ, zero, suc, ◌+◌, ◌<◌, ℤ, List, [], ◌∷◌, ◌++◌, length, drop, reverse, get_or, refl, ap, sym, ◌∙◌, arith}
-use Rattle.std.specs.Prelude.{slice_set}
+use Rattle.std.proofs.Common.{◌≡◌, ℕ, zero, suc, ◌+◌, ◌-◌, ◌<◌, ℤ, List, [], ◌∷◌, ◌++◌, length, drop, reverse, get_or, Some, refl, ap, sym, ◌∙◌, arith}
+use Rattle.std.specs.Prelude.{slice_get, slice_set}
 use Rattle.std.proofs.Math.ListN.{set}
-use Rattle.std.proofs.lemmas.List.{reverse-append, length-reverse}
+use Rattle.std.proofs.lemmas.List.{get_or-reverse, reverse-append, length-reverse}
+use Rattle.std.proofs.lemmas.Option.{slice_get-get_or}
 use Rattle.ppd_sem.specs.declared.proc.Frame.{Frame}
 use Rattle.ppd_sem.specs.Process.{clear_cells, clear_top, write_top}
 
@@ -54,3 +55,11 @@ cleared base len items n f cells h is new =
     let g : Frame → Frame = λ f. record f { cells = clear_cells base len f.cells } in
     let same : record { body = f.body; cells = cells; call = f.call } ≡ g (get_or items n f) = ap (λ l. record f { cells = l }) new ∙ ap g is in
     ap (λ x. reverse (set items n x)) same ∙ last_changed g items n f h ∙ clear_is base len (reverse items)
+
+-- an item by its number from the top
+pub numbered : {A : Type 0} (items all : List A) (i n : ℕ) (x : A) → reverse items ≡ all → n ≡ length items → i < n → x ≡ get_or items (n - 1 - i) x → Some x ≡ slice_get all i
+numbered items all i n x v e lt is =
+    let inside : i < length (reverse items) = omega (arith, length-reverse items) in
+    let there : length items - 1 - i ≡ n - 1 - i = omega arith in
+    let top : get_or (reverse items) i x ≡ x = get_or-reverse items i x (omega arith) ∙ ap (λ k. get_or items k x) there ∙ sym is in
+    ap Some (sym top) ∙ sym (slice_get-get_or (reverse items) i x inside) ∙ ap (λ l. slice_get l i) v

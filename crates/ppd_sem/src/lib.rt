@@ -22,6 +22,7 @@ mod todos;
 
 pub use asking::{Pause, ask};
 pub use describing::describe;
+pub use effect::Effect;
 pub use event::{Access, Event, Spot};
 pub use feeding::feed;
 pub use laws::{
@@ -29,7 +30,7 @@ pub use laws::{
     needs_are_there, steps_end, stops_early, valid_can_run, valid_is_numbered,
 };
 pub use looking::look;
-pub use passing::{call_values, local_cells, next_stmt, returned_value};
+pub use passing::{call_values, local_cells, next_effect, next_stmt, returned_value};
 pub use ppd_ast::{Status, SyncKind, Trap};
 pub use proc::{Answer, Frame, Need, Proc, Todo};
 pub use stack::Stack;

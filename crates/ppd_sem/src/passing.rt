@@ -1,5 +1,5 @@
 ghost use Rattle.std.specs.Prelude.{◌≡◌, ◌<◌, ◌^◌, length, slice_get, Some, IfOk, option_to_list};
-ghost use Rattle.ppd_sem.specs.Passed.{arguments_at, arguments_of_head, next_stmt_of, result_at, result_of_head};
+ghost use Rattle.ppd_sem.specs.Passed.{arguments_at, arguments_of_head, deed_at, deed_if_there, deed_of_head, next_stmt_of, result_at, result_of_head};
 ghost use Rattle.ppd_sem.specs.Process.{top_cells as top_cells_of};
 ghost use Rattle.ppd_sem.specs.Runs.{IsOver, IsRunnable, IsRunning};
 
@@ -31,6 +31,31 @@ fn head_result(program: &Program, todo: Todo, proc: &Proc) -> Option<i64>
     match head_effect(program, todo, proc) {
         Ok(Effect::Back(value)) => value,
         _ => None,
+    }
+}
+
+fn effect_of_head(program: &Program, todo: Todo, proc: &Proc) -> Option<Effect>
+    requires program { IsRunnable program.now }
+    requires cells { length (top_cells_of proc.now.frames) < 2 ^ 16 }
+    requires over { IsOver program.now (length (top_cells_of proc.now.frames)) todo.stmt }
+    ensures { deed_of_head program.now proc.now (Some todo) ≡ deed_if_there program.now proc.now (Some todo) result }
+{
+    match head_effect(program, todo, proc) {
+        Ok(effect) => Some(effect),
+        Err(_) => None,
+    }
+}
+
+/// What the step that comes next does, its cost and a call's depth aside; None where the statement
+/// still lacks a value or traps, and where none is to do.
+pub fn next_effect(program: &Program, proc: &Proc) -> Option<Effect>
+    requires program { IsRunnable program.now }
+    requires proc { IsRunning program.now proc.now }
+    ensures { deed_at program.now proc.now ≡ deed_if_there program.now proc.now (slice_get proc.now.todo 0) result }
+{
+    match head(proc) {
+        Some(todo) => effect_of_head(program, todo, proc),
+        None => None,
     }
 }
 

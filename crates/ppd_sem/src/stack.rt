@@ -96,6 +96,17 @@ impl<T: Drop> Stack<T> {
         self.items.last()
     }
 
+    /// The item with this number from the top, from 0, if there is one.
+    pub fn get(&self, index: usize) -> Option<&T>
+        ensures { option_copied result ≡ slice_get self.now index }
+    {
+        let count = self.items.len();
+        if index >= count {
+            return None;
+        }
+        Some(&self.items[count - 1 - index])
+    }
+
     /// How many items there are.
     pub fn len(&self) -> usize
         ensures { result ≡ length self.now }

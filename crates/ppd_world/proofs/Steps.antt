@@ -77,6 +77,9 @@ same_world a a' b b' c c' d d' ae be ce de = cc
 same_moment : (plan : Plan) (shared : List ℤ) (n m : Need) (a b : Answer) (k j : Option ℕ) → n ≡ m → a ≡ b → k ≡ j → moment_with plan shared n a k ≡ moment_with plan shared m b j
 same_moment plan shared n m a b k j e f g = rw (e, f, g) refl
 
+same_taken : (n m : Need) (a b : Answer) (k j : Option ℕ) → n ≡ m → a ≡ b → k ≡ j → taken_with n a k ≡ taken_with m b j
+same_taken n m a b k j e f g = rw (e, f, g) refl
+
 -- what the parts come to
 pub record IsStep (program : Program) (plan : Plan) (w now : World) (ls new : List Logging) (p : ℕ) : Type 0 where
   pub world : now ≡ step program plan w p
@@ -120,6 +123,26 @@ module _ (program : Program) (plan : Plan) (shared : List ℤ) (sems : List Coun
             (shared_is ∙ ap (λ (x : Need). shared_after shared x) nm) (sems_are ∙ ap (λ (x : Need). sems_after sems x) nm) both procs ∙ sym parted_step;
         logs = logs;
       }
+
+-- the next step in the parts of the world
+pub next_is : (program : Program) (plan : Plan) (shared : List ℤ) (sems : List Counts) (chans : List Channel) (ls : List Logging) (p : ℕ) (n : Need) (a : Answer) (k : Option ℕ)
+    → n ≡ need_of_logging program plan (slice_get ls p) → a ≡ answer (store shared [] chans) n → k ≡ number_of (store [] sems chans) n
+    → taken_with n a k ≡ (logged_moment program plan (world_of shared sems chans ls) p).taken
+next_is program plan shared sems chans ls p n a k n_is a_is k_is =
+    let w : World = world_of shared sems chans ls in
+    let m : Need = need program plan w p in
+    let nm : n ≡ m = n_is ∙ need_is program plan ls p in
+    let am : a ≡ answer w m = a_is ∙ answer_is shared sems chans ls n ∙ ap (λ (x : Need). answer w x) nm in
+    let km : k ≡ number_of w m = k_is ∙ number_is shared sems chans ls n ∙ ap (λ (x : Need). number_of w x) nm in
+    same_taken n m a (answer w m) k (number_of w m) nm am km
+
+pub next_parts : (program : Program) (plan : Plan) (a a' : List ℤ) (sems sems' : List Counts) (chans chans' : List Channel) (ls ls' : List Logging) (p : ℕ) → a' ≡ a → sems' ≡ sems → chans' ≡ chans → ls' ≡ ls
+    → (logged_moment program plan (world_of a' sems' chans' ls') p).taken ≡ (logged_moment program plan (world_of a sems chans ls) p).taken
+next_parts program plan a a' sems sems' chans chans' ls ls' p d e f g =
+    ap (λ (x : List ℤ). (logged_moment program plan (world_of x sems' chans' ls') p).taken) d
+    ∙ ap (λ (x : List Counts). (logged_moment program plan (world_of a x chans' ls') p).taken) e
+    ∙ ap (λ (x : List Channel). (logged_moment program plan (world_of a sems x ls') p).taken) f
+    ∙ ap (λ (x : List Logging). (logged_moment program plan (world_of a sems chans x) p).taken) g
 
 -- an enabled process, in the parts of the world
 pub enabled_is : (program : Program) (plan : Plan) (a b : List ℤ) (sems : List Counts) (chans : List Channel) (ps : List Proc) (p : ℕ)

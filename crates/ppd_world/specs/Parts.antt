@@ -8,11 +8,12 @@ use Rattle.ppd_sem.specs.declared.proc.Need.{Need}
 use Rattle.ppd_sem.specs.declared.proc.Need.TheVariants.{Write, P, V, Send, Recv, Stopped}
 use Rattle.ppd_sem.specs.Process.{act, need_of}
 use Rattle.ppd_sem.specs.Runs.{IsRunning}
+use Rattle.ppd_model.specs.declared.tracing.Taken.{Taken}
 use Rattle.ppd_model.specs.declared.state.Channel.{Channel}
 use Rattle.ppd_model.specs.declared.state.Counts.{Counts}
 use Rattle.ppd_model.specs.declared.state.Logging.{Logging}
 use Rattle.ppd_model.specs.Logs.{rest_after}
-use Rattle.ppd_model.specs.Story.{Moment, Taken, unit_started, values_at_start}
+use Rattle.ppd_model.specs.Story.{Moment, unit_started, values_at_start}
 use Rattle.ppd_model.specs.World.{World, change}
 use Rattle.ppd_world.specs.declared.note.Note.{Note}
 use Rattle.ppd_world.specs.declared.note.Note.TheVariants.{Nothing, Reads, Writes, Anew}

@@ -10,7 +10,7 @@ ghost use Rattle.ppd_world.specs.Parts.{IsSmallChan, IsSmallLogging, IsSmallSem,
 use crate::logging::{need_at, step_at};
 use crate::store::{answer_to, count, count_received, is_met, number_of, send, take_back, write};
 use ppd_ast::{Memory, Nums, Plan, Program};
-use ppd_model::{Channel, Counts, Logging};
+use ppd_model::{Channel, Counts, Logging, Taken};
 use ppd_sem::{Answer, Need};
 use std::alloc::Global;
 
@@ -50,6 +50,34 @@ pub(crate) fn is_over(
         }
     }
     true
+}
+
+/// The next step of the process at this place, without the writer of what it reads.
+pub(crate) fn next_step(
+    program: &Program,
+    plan: &Plan,
+    shared: &[i64],
+    sems: &[Counts],
+    chans: &[Channel],
+    loggings: &[Logging],
+    place: usize,
+) -> Taken
+    requires program { IsRunnable program.now }
+    requires plan { IsNumbered plan.now }
+    requires sems { All IsSmallSem sems.now }
+    requires chans { All IsSmallChan chans.now }
+    requires loggings { All (IsSmallLogging program.now) loggings.now }
+    ensures { result ≡ (logged_moment program.now plan.now (world_of shared.now sems.now chans.now loggings.now) place).taken }
+{
+    let need = need_at(program, plan, loggings, place);
+    let answer = answer_to(shared, chans, need);
+    let number = number_of(sems, chans, need);
+    Taken {
+        need,
+        answer,
+        writer: None,
+        number,
+    }
 }
 
 /// Sends what the step sends and takes the step of its process. `Memory` is want of memory: nothing

@@ -1,16 +1,17 @@
 ghost use Rattle.std.specs.Prelude.{◌≡◌, ◌+◌, ◌-◌, ◌≤◌, ◌↔◌, ◌∷◌, [], length, true, IsTrue, IfErr, IfOk, OnOk, OnErr, List, ℕ};
 ghost use Rattle.ppd_ast.specs.Valid.{IsValid};
 ghost use Rattle.ppd_ast.specs.ValidPlan.{IsValidPlan};
+ghost use Rattle.ppd_model.specs.Laws.{logged_moment};
 ghost use Rattle.ppd_model.specs.Logs.{close as close_of};
 ghost use Rattle.ppd_model.specs.Schedule.{IsOver};
 ghost use Rattle.ppd_world.specs.Running.{IsCause, IsDriven, IsFollowed, IsOf, IsReached, Takes, begun, can_step, closed as closed_of, stepped};
 
 use crate::closing::close_all;
 use crate::starting::{start_chans, start_logs, start_sems};
-use crate::stepping::{is_enabled, is_over, take_step};
+use crate::stepping::{is_enabled, is_over, next_step, take_step};
 use ppd_ast::limits::MOST_BUDGET;
 use ppd_ast::{Memory, Nums, Plan, Program};
-use ppd_model::{Channel, Closed, Counts, DriveError, Logging};
+use ppd_model::{Channel, Closed, Counts, DriveError, Logging, Taken};
 use std::alloc::Global;
 use std::marker::Model;
 
@@ -111,6 +112,30 @@ impl<'a> World<'a> {
             &self.chans,
             &self.loggings,
         )
+    }
+
+    /// What the next step of process `p` needs, `Stopped` for a number that is no process, what it is
+    /// given, and the number that it takes as a synchronization. The writer of a `Read` is left out.
+    pub fn next(&self, p: u8) -> Taken
+        requires { IsReached self.now }
+        ensures { result ≡ (logged_moment self.now.program self.now.plan self.now.world p).taken }
+    {
+        next_step(
+            self.program,
+            self.plan,
+            self.shared.as_slice(),
+            &self.sems,
+            &self.chans,
+            &self.loggings,
+            p as usize,
+        )
+    }
+
+    /// The values of the shared cells.
+    pub fn cells(&self) -> &[i64]
+        ensures { result.now ≡ self.now.world.shared }
+    {
+        self.shared.as_slice()
     }
 
     /// Takes the step of process `p`.

@@ -1,0 +1,127 @@
+-- How many events and steps there are in what is told, and how few.
+use Rattle.std.proofs.Common.{◌≡◌, ℕ, zero, suc, ◌+◌, ◌-◌, ◌*◌, ◌≤◌, Bool, true, false, cond, List, [], ◌∷◌, ◌++◌, length, map, get_or, slice_set, Some, refl, ap, sym, ◌∙◌, arith, length-append}
+use Rattle.std.specs.Prelude.{fold, replicate}
+use Rattle.std.proofs.lemmas.List.Sums.{count_by-le-length, sum_by-append}
+use Rattle.std.proofs.lemmas.Nat.{mul-le}
+use Rattle.ppd_ast.specs.Valid.{IsValid}
+use Rattle.ppd_ast.specs.declared.plan.Plan.{Plan}
+use Rattle.ppd_ast.specs.declared.program.Program.{Program}
+use Rattle.ppd_sem.specs.declared.proc.Proc.{Proc}
+use Rattle.ppd_model.specs.declared.tracing.Taken.{Taken}
+use Rattle.ppd_model.specs.Bounds.{steps_left}
+use Rattle.ppd_model.specs.Schedule.{run, started_procs, started_world}
+use Rattle.ppd_model.specs.Story.{Moment, Telling, begun, count_events, is_event, moment_of, steps_of, tell, told}
+use Rattle.ppd_model.specs.World.{World, change}
+use Rattle.ppd_model.proofs.Bounded.{ArePaid, in_all, started_all, started_count, started_paid}
+use Rattle.ppd_model.proofs.Changes.{length-change}
+use Rattle.ppd_trace.specs.Telling.{counts_after}
+use Rattle.ppd_world.proofs.Lists.{Every, every_change, every_more}
+
+-- ---- one more moment
+
+one_event : (m : Moment) (ms : List Moment) → is_event m.taken.need ≡ true → count_events (ms ++ m ∷ []) ≡ count_events ms + 1
+one_event m ms e =
+    let all : count_events (ms ++ m ∷ []) ≡ count_events ms + (0 + cond (is_event m.taken.need) 1 0) = sum_by-append (λ (x : Moment). cond (is_event x.taken.need) 1 0) ms (m ∷ []) in
+    let one : cond {A = ℕ} (is_event m.taken.need) 1 0 ≡ 1 = ap (λ (b : Bool). cond {A = ℕ} b 1 0) e in
+    omega arith
+
+no_event : (m : Moment) (ms : List Moment) → is_event m.taken.need ≡ false → count_events (ms ++ m ∷ []) ≡ count_events ms
+no_event m ms e =
+    let all : count_events (ms ++ m ∷ []) ≡ count_events ms + (0 + cond (is_event m.taken.need) 1 0) = sum_by-append (λ (x : Moment). cond (is_event x.taken.need) 1 0) ms (m ∷ []) in
+    let none : cond {A = ℕ} (is_event m.taken.need) 1 0 ≡ 0 = ap (λ (b : Bool). cond {A = ℕ} b 1 0) e in
+    omega arith
+
+more : (m : Moment) → is_event m.taken.need ≡ true → (p : ℕ) (moments : List (List Moment))
+    → map count_events (change (λ ms. ms ++ m ∷ []) p moments) ≡ slice_set (map count_events moments) p (get_or (map count_events moments) p 0 + 1)
+more m e zero [] = refl
+more m e (suc p) [] = refl
+more m e zero (ms ∷ rest) = ap (λ (k : ℕ). k ∷ map count_events rest) (one_event m ms e)
+more m e (suc p) (ms ∷ rest) = ap (λ (ks : List ℕ). count_events ms ∷ ks) (more m e p rest)
+
+same : (m : Moment) → is_event m.taken.need ≡ false → (p : ℕ) (moments : List (List Moment)) → map count_events (change (λ ms. ms ++ m ∷ []) p moments) ≡ map count_events moments
+same m e p [] = refl
+same m e zero (ms ∷ rest) = ap (λ (k : ℕ). k ∷ map count_events rest) (no_event m ms e)
+same m e (suc p) (ms ∷ rest) = ap (λ (ks : List ℕ). count_events ms ∷ ks) (same m e p rest)
+
+pub counts_change : (m : Moment) (p : ℕ) (moments : List (List Moment)) → counts_after (map count_events moments) p m.taken.need ≡ map count_events (change (λ ms. ms ++ m ∷ []) p moments)
+counts_change m p moments = by (is_event m.taken.need) refl
+  where
+    by : (b : Bool) → is_event m.taken.need ≡ b → counts_after (map count_events moments) p m.taken.need ≡ map count_events (change (λ ms. ms ++ m ∷ []) p moments)
+    by true e = ap (λ (c : Bool). cond c (slice_set (map count_events moments) p (get_or (map count_events moments) p 0 + 1)) (map count_events moments)) e ∙ sym (more m e p moments)
+    by false e = ap (λ (c : Bool). cond c (slice_set (map count_events moments) p (get_or (map count_events moments) p 0 + 1)) (map count_events moments)) e ∙ sym (same m e p moments)
+
+pub count_at : (p : ℕ) (moments : List (List Moment)) → get_or (map count_events moments) p 0 ≡ count_events (get_or moments p [])
+count_at p [] = refl
+count_at zero (ms ∷ rest) = refl
+count_at (suc p) (ms ∷ rest) = count_at p rest
+
+-- ---- how few they are
+
+module _ (program : Program) (plan : Plan) where
+  told_within : (t : Telling) (n : ℕ) (h : List ℕ) → Every (λ (ms : List Moment). length ms ≤ n) t.moments → Every (λ (ms : List Moment). length ms ≤ n + length h) (fold (tell program plan) t h).moments
+  told_within t n [] e = every_more (λ (ms : List Moment). length ms ≤ n) (λ (ms : List Moment). length ms ≤ n + 0) t.moments (λ ms lt. omega arith) e
+  told_within t n (p ∷ h) e =
+      let m : Moment = moment_of program plan t p in
+      let next : Every (λ (ms : List Moment). length ms ≤ n + 1) (tell program plan t p).moments =
+      every_change (λ (ms : List Moment). length ms ≤ n) (λ (ms : List Moment). length ms ≤ n + 1) (λ ms. ms ++ m ∷ []) p t.moments (λ ms lt. omega arith)
+      (λ ms is lt. let one : length (ms ++ m ∷ []) ≡ length ms + 1 = length-append ms (m ∷ []) in omega arith) e in
+      let all : Every (λ (ms : List Moment). length ms ≤ n + 1 + length h) (fold (tell program plan) (tell program plan t p) h).moments = told_within (tell program plan t p) (n + 1) h next in
+      every_more (λ (ms : List Moment). length ms ≤ n + 1 + length h) (λ (ms : List Moment). length ms ≤ n + length (p ∷ h)) (fold (tell program plan) (tell program plan t p) h).moments (λ ms lt. omega arith) all
+
+  same_length : (t : Telling) (h : List ℕ) → length (fold (tell program plan) t h).moments ≡ length t.moments
+  same_length t [] = refl
+  same_length t (p ∷ h) = same_length (tell program plan t p) h ∙ length-change (λ ms. ms ++ moment_of program plan t p ∷ []) p t.moments
+
+none_yet : (n : ℕ) (ps : List Proc) → Every (λ (ms : List Moment). length ms ≤ n) (map (λ _. []) ps)
+none_yet n [] = tt
+none_yet n (s ∷ ss) = (omega arith, none_yet n ss)
+
+pub moments_within : (program : Program) (plan : Plan) (budget : ℕ) (h : List ℕ) → Every (λ (ms : List Moment). length ms ≤ length h) (told program plan budget h).moments
+moments_within program plan budget h =
+    every_more (λ (ms : List Moment). length ms ≤ 0 + length h) (λ (ms : List Moment). length ms ≤ length h) (told program plan budget h).moments (λ ms lt. omega arith)
+    (told_within program plan (begun (started_world program plan budget)) 0 h (none_yet 0 (started_world program plan budget).procs))
+
+length_none : (ps : List Proc) → length {A = List Moment} (map (λ _. []) ps) ≡ length ps
+length_none [] = refl
+length_none (s ∷ ss) = ap suc (length_none ss)
+
+pub how_many : (program : Program) (plan : Plan) (budget : ℕ) (h : List ℕ) → length (told program plan budget h).moments ≡ length program.bodies - program.functions
+how_many program plan budget h =
+    same_length program plan (begun (started_world program plan budget)) h ∙ length_none (started_world program plan budget).procs
+    ∙ started_count program plan budget 0 (length program.bodies - program.functions)
+
+count_within : (k p : ℕ) (moments : List (List Moment)) → Every (λ (ms : List Moment). length ms ≤ k) moments → get_or (map count_events moments) p 0 ≤ k
+count_within k p [] e = omega arith
+count_within k zero (ms ∷ rest) e =
+    let within : count_events ms ≤ length ms = count_by-le-length (λ m. is_event m.taken.need) ms in
+    let few : length ms ≤ k = e.0 in
+    omega arith
+count_within k (suc p) (ms ∷ rest) e = count_within k p rest e.1
+
+-- the steps of 16 processes with the greatest budget
+pub few_taken : (program : Program) (plan : Plan) (budget : ℕ) (h : List ℕ) (w : World) → IsValid program → budget ≤ 500000 → run program plan budget h ≡ Some w → length h ≤ 8000016
+few_taken program plan budget h w v few e =
+    let n : ℕ = length program.bodies - program.functions in
+    let processes : length program.bodies ≤ program.functions + 16 = v.limits.processes in
+    let paid : ArePaid (started_procs program plan budget n) = started_paid program plan budget 0 n in
+    let all : length h + steps_left w.procs ≤ steps_left (started_procs program plan budget n) = in_all program plan (started_world program plan budget) w h paid e in
+    let left : steps_left (started_procs program plan budget n) ≡ n * (budget + 1) = started_all program plan budget 0 n in
+    let most : n * (budget + 1) ≤ 16 * 500001 = mul-le n (budget + 1) 16 500001 (omega arith) (omega arith) in
+    omega arith
+
+pub few_events_at : (program : Program) (plan : Plan) (budget p : ℕ) (h : List ℕ) (w : World) → IsValid program → budget ≤ 500000 → run program plan budget h ≡ Some w
+    → get_or (map count_events (told program plan budget h).moments) p 0 ≤ 8000016
+few_events_at program plan budget p h w v few e =
+    let taken : length h ≤ 8000016 = few_taken program plan budget h w v few e in
+    let within : get_or (map count_events (told program plan budget h).moments) p 0 ≤ length h = count_within (length h) p (told program plan budget h).moments (moments_within program plan budget h) in
+    omega arith
+
+-- ---- before the first step
+
+pub zero_counts : (ps : List Proc) → ◌≡◌ {A = List ℕ} (replicate (length ps) 0) (map count_events (map (λ _. []) ps))
+zero_counts [] = refl
+zero_counts (s ∷ ss) = ap (λ (l : List ℕ). 0 ∷ l) (zero_counts ss)
+
+pub empty_steps : (ps : List Proc) → ◌≡◌ {A = List (List Taken)} (replicate (length ps) []) (map steps_of (map (λ _. []) ps))
+empty_steps [] = refl
+empty_steps (s ∷ ss) = ap (λ (l : List (List Taken)). [] ∷ l) (empty_steps ss)

@@ -1,0 +1,5 @@
+pub mod Leading
+pub mod Following
+pub mod Counted
+pub mod Told
+pub mod Traced

@@ -1,0 +1,38 @@
+use Rattle.std.proofs.Common.{◌<◌, length, arith}
+use Rattle.ppd_sem.specs.Process.{started}
+use Rattle.ppd_model.specs.FullTrace.{begun_tracing}
+use Rattle.ppd_trace.proofs.Following.{few_on, none_begun, own_begun, own_on, traced_on, traced_whole}
+use Rattle.ppd_trace.proofs.steps.trace_process.Goals as goal
+
+pub loop-index-init : goal.loop-index-init
+loop-index-init c =
+    let begun = c.in_ok-tracing.ensures.begun in
+    record {
+      traced = begun;
+      own = own_begun c.args.program.now c.args.plan.now c.args.process c.args.budget c.args.own.now c.in_ok-tracing.tracing begun c.requires.own;
+      running = c.in_ok-tracing.ensures.running;
+      few = none_begun c.args.program.now c.args.plan.now c.args.process c.args.budget c.in_ok-tracing.tracing begun;
+    }
+
+pub loop-index-preserved : goal.loop-index-preserved
+loop-index-preserved c =
+    let program = c.args.program.now in
+    let plan = c.args.plan.now in
+    let story = c.args.story.now in
+    let p = c.args.process in
+    let own = c.args.own.now in
+    let i = c.loop-index.index in
+    let before = c.loop-index.tracing in
+    let now = c.trace_step.new.tracing in
+    let inside : i < length own = omega arith in
+    let e = c.in_ok-trace_step.ensures.ok in
+    record {
+      traced = traced_on program plan story p own i _ before now inside e (begun_tracing (started program plan p c.args.budget)) c.loop-index.invariant.traced;
+      own = own_on program plan story p own i _ before now inside e c.loop-index.invariant.own;
+      running = c.in_ok-trace_step.ensures.kept;
+      few = few_on program plan story p own i _ before now inside e c.loop-index.invariant.few;
+    }
+
+pub returns : goal.returns
+returns c =
+    traced_whole c.args.program.now c.args.plan.now c.args.story.now c.args.process (begun_tracing (started c.args.program.now c.args.plan.now c.args.process c.args.budget)) c.args.own.now c.loop-index.index c.loop-index.tracing (omega arith) c.loop-index.invariant.traced

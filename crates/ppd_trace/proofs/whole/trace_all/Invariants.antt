@@ -1,0 +1,7 @@
+use Rattle.std.proofs.Common.{◌≡◌, ◌++◌, drop}
+use Rattle.ppd_model.specs.FullTrace.{events_from}
+use Rattle.ppd_trace.proofs.whole.trace_all.Given as goal
+
+abbrev pub invariant-loop-process : goal.invariant-loop-process
+invariant-loop-process l =
+    l.events ++ events_from l.program l.plan l.budget l.story l.process (drop l.process l.story.steps) ≡ events_from l.program l.plan l.budget l.story 0 l.story.steps

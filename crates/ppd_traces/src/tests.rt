@@ -1,0 +1,329 @@
+use crate::events::{Row, are_rows, plain, trace};
+use crate::programs::{callee_write, locked, loop_from, recursion};
+use ppd_ast::Program;
+use ppd_model::{DriveError, Trace};
+use ppd_sem::{Spot, Trap};
+use std::alloc::{AllocError, Global};
+use std::test::Fail;
+
+const BUDGET: u32 = 100_000;
+
+const X: Spot = Spot::Shared(0);
+
+/// Cell 0 of the top frame, where its body is a block.
+const FIRST: Spot = Spot::Local { frame: 0, cell: 0 };
+
+const SECOND: Spot = Spot::Local { frame: 0, cell: 1 };
+
+/// Cell 0 of the frame that a call begins.
+const CALLED: Spot = Spot::Local { frame: 1, cell: 0 };
+
+/// The trace of a valid program by this schedule.
+fn by(
+    alloc: Global,
+    program: Result<Program, AllocError>,
+    loops: bool,
+    schedule: &[u8],
+) -> Option<Result<Trace, DriveError>> {
+    trace(alloc, &program.ok()?, loops, BUDGET, schedule)
+}
+
+// The print reads what the callee wrote, and the callee's events have the call as parent.
+#[test]
+fn a_print_reads_what_the_callee_wrote(rt: HostRuntime) -> Result<(), Fail> {
+    let alloc = rt.alloc();
+    let call = Some((0, 1));
+    let traced = by(alloc, callee_write(alloc), false, &[0; 7]).expect(&rt, "valid");
+    let traced = traced.expect(&rt, "whole");
+    assert!(rt;
+        are_rows(
+            &traced,
+            0,
+            &[
+                Row {
+                    writes: &[(X, 1)],
+                    ..plain(2)
+                },
+                plain(3),
+                Row {
+                    writes: &[(X, 4)],
+                    parent: call,
+                    ..plain(0)
+                },
+                Row {
+                    parent: call,
+                    ..plain(1)
+                },
+                Row {
+                    reads: &[(X, 4, Some((0, 2)))],
+                    value: Some(4),
+                    ..plain(4)
+                },
+                plain(5),
+            ],
+        )
+    );
+    Ok(())
+}
+
+// A step past the end names no enabled process.
+#[test]
+fn a_number_too_many_is_refused(rt: HostRuntime) -> Result<(), Fail> {
+    let alloc = rt.alloc();
+    let traced = by(alloc, callee_write(alloc), false, &[0; 9]).expect(&rt, "valid");
+    assert!(rt; matches!(traced, Err(DriveError::NotEnabled(7))));
+    Ok(())
+}
+
+// The entry of a loop is a step and no event; its test and the print read the first value.
+#[test]
+fn a_loop_that_is_never_entered(rt: HostRuntime) -> Result<(), Fail> {
+    let alloc = rt.alloc();
+    let first = Some((0, 0));
+    let traced = by(alloc, loop_from(alloc, 3), true, &[0; 5]).expect(&rt, "valid");
+    let traced = traced.expect(&rt, "whole");
+    assert!(rt;
+        are_rows(
+            &traced,
+            0,
+            &[
+                Row {
+                    writes: &[(FIRST, 3)],
+                    ..plain(0)
+                },
+                Row {
+                    reads: &[(FIRST, 3, first)],
+                    value: Some(0),
+                    ..plain(1)
+                },
+                Row {
+                    reads: &[(FIRST, 3, first)],
+                    value: Some(3),
+                    ..plain(3)
+                },
+                plain(4),
+            ],
+        )
+    );
+    Ok(())
+}
+
+// The second test of a loop has the first one as parent, and the statement after the loop has none.
+#[test]
+fn a_second_test_follows_the_first(rt: HostRuntime) -> Result<(), Fail> {
+    let alloc = rt.alloc();
+    let traced = by(alloc, loop_from(alloc, 2), false, &[0; 6]).expect(&rt, "valid");
+    let traced = traced.expect(&rt, "whole");
+    let test = Some((0, 1));
+    let counted = Some((0, 2));
+    assert!(rt;
+        are_rows(
+            &traced,
+            0,
+            &[
+                Row {
+                    writes: &[(FIRST, 2)],
+                    ..plain(0)
+                },
+                Row {
+                    reads: &[(FIRST, 2, Some((0, 0)))],
+                    value: Some(1),
+                    ..plain(1)
+                },
+                Row {
+                    reads: &[(FIRST, 2, Some((0, 0)))],
+                    writes: &[(FIRST, 3)],
+                    parent: test,
+                    ..plain(2)
+                },
+                Row {
+                    reads: &[(FIRST, 3, counted)],
+                    value: Some(0),
+                    parent: test,
+                    ..plain(1)
+                },
+                Row {
+                    reads: &[(FIRST, 3, counted)],
+                    value: Some(3),
+                    ..plain(3)
+                },
+                plain(4),
+            ],
+        )
+    );
+    Ok(())
+}
+
+// Parameters are written by the calls, and results by the returns.
+#[test]
+fn a_recursion_with_2(rt: HostRuntime) -> Result<(), Fail> {
+    let alloc = rt.alloc();
+    let traced = by(alloc, recursion(alloc, 2), false, &[0; 14]).expect(&rt, "valid");
+    let traced = traced.expect(&rt, "whole");
+    let (outer, middle, inner) = (Some((0, 0)), Some((0, 3)), Some((0, 6)));
+    assert!(rt;
+        are_rows(
+            &traced,
+            0,
+            &[
+                Row {
+                    writes: &[(CALLED, 2)],
+                    ..plain(4)
+                },
+                Row {
+                    writes: &[(SECOND, 0)],
+                    parent: outer,
+                    ..plain(0)
+                },
+                Row {
+                    reads: &[(FIRST, 2, outer)],
+                    value: Some(1),
+                    parent: outer,
+                    ..plain(1)
+                },
+                Row {
+                    reads: &[(FIRST, 2, outer)],
+                    writes: &[(CALLED, 1)],
+                    parent: Some((0, 2)),
+                    ..plain(2)
+                },
+                Row {
+                    writes: &[(SECOND, 0)],
+                    parent: middle,
+                    ..plain(0)
+                },
+                Row {
+                    reads: &[(FIRST, 1, middle)],
+                    value: Some(1),
+                    parent: middle,
+                    ..plain(1)
+                },
+                Row {
+                    reads: &[(FIRST, 1, middle)],
+                    writes: &[(CALLED, 0)],
+                    parent: Some((0, 5)),
+                    ..plain(2)
+                },
+                Row {
+                    writes: &[(SECOND, 0)],
+                    parent: inner,
+                    ..plain(0)
+                },
+                Row {
+                    reads: &[(FIRST, 0, inner)],
+                    value: Some(0),
+                    parent: inner,
+                    ..plain(1)
+                },
+                Row {
+                    reads: &[(SECOND, 0, Some((0, 7)))],
+                    value: Some(1),
+                    parent: inner,
+                    ..plain(3)
+                },
+                Row {
+                    reads: &[(SECOND, 1, Some((0, 9)))],
+                    value: Some(2),
+                    parent: middle,
+                    ..plain(3)
+                },
+                Row {
+                    reads: &[(SECOND, 2, Some((0, 10)))],
+                    value: Some(3),
+                    parent: outer,
+                    ..plain(3)
+                },
+                Row {
+                    reads: &[(FIRST, 3, Some((0, 11)))],
+                    value: Some(3),
+                    ..plain(5)
+                },
+                plain(6),
+            ],
+        )
+    );
+    Ok(())
+}
+
+/// The events of a process under the lock: the number and the pair of its `P`, the value that it
+/// reads, and who wrote it.
+#[derive(Clone, Copy)]
+struct Turn {
+    stmt: u32,
+    number: u32,
+    paired: Option<(u8, u32)>,
+    value: i64,
+    writer: Option<(u8, u32)>,
+}
+
+fn is_turn(traced: &Trace, p: usize, turn: Turn) -> bool {
+    let next = turn.value.saturating_add(1);
+    let stmt = turn.stmt.min(1000);
+    let number = turn.number.min(1000);
+    are_rows(
+        traced,
+        p,
+        &[
+            Row {
+                number: Some(number),
+                paired: turn.paired,
+                ..plain(stmt)
+            },
+            Row {
+                reads: &[(X, turn.value, turn.writer)],
+                writes: &[(X, next)],
+                ..plain(stmt + 1)
+            },
+            Row {
+                number: Some(number + 1),
+                ..plain(stmt + 2)
+            },
+            plain(stmt + 3),
+        ],
+    )
+}
+
+// The second process under one lock reads what the first one wrote, in both orders.
+#[test]
+fn two_processes_under_one_lock(rt: HostRuntime) -> Result<(), Fail> {
+    let alloc = rt.alloc();
+    let schedules = [
+        (0, 1, 0, [0, 0, 0, 0, 0, 1, 1, 1, 1, 1]),
+        (1, 0, 4, [1, 1, 1, 1, 1, 0, 0, 0, 0, 0]),
+    ];
+    for (first, second, stmt, schedule) in schedules {
+        let traced = by(alloc, locked(alloc), false, &schedule).expect(&rt, "valid");
+        let traced = traced.expect(&rt, "whole");
+        let before = Turn {
+            stmt,
+            number: 1,
+            paired: None,
+            value: 0,
+            writer: None,
+        };
+        let after = Turn {
+            stmt: 4 - stmt,
+            number: 2,
+            paired: Some((first, 2)),
+            value: 1,
+            writer: Some((first, 1)),
+        };
+        assert!(rt; is_turn(&traced, first as usize, before));
+        assert!(rt; is_turn(&traced, second, after));
+    }
+    Ok(())
+}
+
+// The statement that traps is the last event, and writes nothing.
+#[test]
+fn a_call_too_deep_is_an_event(rt: HostRuntime) -> Result<(), Fail> {
+    let alloc = rt.alloc();
+    let traced = by(alloc, recursion(alloc, 64), false, &[0; 193]).expect(&rt, "valid");
+    let traced = traced.expect(&rt, "whole");
+    let events = traced.events.as_slice().get(0).expect(&rt, "a process");
+    assert_eq!(rt; events.len(), 193);
+    let last = events.as_slice().get(192).expect(&rt, "an event");
+    assert_eq!(rt; last.event.trap, Some(Trap::Depth));
+    assert!(rt; last.event.writes.len() == 0);
+    Ok(())
+}
