@@ -1,6 +1,6 @@
 // The sources of examples/, each with what it gives.
 
-use crate::trials::{flow, followed, highest_first};
+use crate::trials::{call, flow, followed, highest_first};
 use std::test::Fail;
 
 const ROW1: &str = "shared int x; process a { x = 2; print(x + 3); }";
@@ -55,6 +55,18 @@ fn examples_give_their_summaries(rt: HostRuntime) -> Result<(), Fail> {
         assert_eq!(rt; trial.status, 0, "{source}");
         assert_eq!(rt; trial.text.as_slice(), text.as_bytes(), "{source}");
     }
+    Ok(())
+}
+
+// The call, its 79 steps and the 20 values that are returned in it cost 100.
+#[test]
+fn a_budget_ends_an_example(rt: HostRuntime) -> Result<(), Fail> {
+    let alloc = rt.alloc();
+    let words = ["flow", "--budget", "100", "row.c"];
+    let trial = call(alloc, &words, "row.c", RECURSION.as_bytes())?;
+    assert_eq!(rt; trial.status, 0);
+    let text = "process main budget 11:3 steps 80\nraces 0\n";
+    assert_eq!(rt; trial.text.as_slice(), text.as_bytes());
     Ok(())
 }
 
