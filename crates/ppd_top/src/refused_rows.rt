@@ -39,10 +39,7 @@ fn small_sources_that_are_refused(rt: HostRuntime) -> Result<(), Fail> {
             "refused lex 2 BadNumber 1:19\n",
         ),
         ("process a { } /*", "refused lex 3 OpenComment 1:15\n"),
-        (
-            "process a { 1; }",
-            "refused syntax 1 Unexpected 1:13\n",
-        ),
+        ("process a { 1; }", "refused syntax 1 Unexpected 1:13\n"),
         (
             "shared int x, x; process a { }",
             "refused check 1 Twice 1:15\n",
@@ -79,10 +76,7 @@ fn small_sources_that_are_refused(rt: HostRuntime) -> Result<(), Fail> {
             "refused check 9 BadSize 1:9\n",
         ),
         // a lexical fault comes before the grammar, and both before the rules
-        (
-            "process a { y = ; } $",
-            "refused lex 1 BadByte 1:21\n",
-        ),
+        ("process a { y = ; } $", "refused lex 1 BadByte 1:21\n"),
         (
             "process a { y = 1; } process",
             "refused syntax 1 Unexpected 1:29\n",

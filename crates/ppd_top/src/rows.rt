@@ -9,7 +9,8 @@ use std::test::Fail;
 
 /// A call of a function by itself, with this argument from outside.
 fn recursion(alloc: Global, argument: u32) -> Result<String, Fail> {
-    let front = "int f(int n) {\n  int r;\n  if (n > 0) {\n    r = f(n - 1);\n  }\n  return r + 1;\n}\n";
+    let front =
+        "int f(int n) {\n  int r;\n  if (n > 0) {\n    r = f(n - 1);\n  }\n  return r + 1;\n}\n";
     let text = format!(in alloc;
         "{front}process a {{\n  int v = f({argument});\n  print(v);\n}}\n"
     )?;
@@ -108,23 +109,76 @@ fn options_show_in_the_summary(rt: HostRuntime) -> Result<(), Fail> {
     let endless = "process a { int i; while (1) { i = i + 1; } }";
     let smallest = "shared int x; process a { x = 2; print(x + 3); }";
     let never = "process a { int i = 3; while (i < 3) { i = i + 1; } print(i); }";
-    let once = "int f() { return 7; } process a { int v; int i = 0; while (i < 1) { v = f(); i = i + 1; } print(v); }";
+    let once =
+        "int f() { return 7; } process a { int v; int i = 0; while (i < 1) { v = f(); i = i + 1; } print(v); }";
     let returns = "int f() { return 7; } process a { int v = f(); print(v); }";
     let rows: [(&[&str], &str, &str); 14] = [
-        (&["--budget", "5"], endless, "process a budget 1:20 steps 5\nraces 0\n"),
-        (&["--budget=5"], endless, "process a budget 1:20 steps 5\nraces 0\n"),
-        (&["--budget", "1"], endless, "process a budget 1:20 steps 1\nraces 0\n"),
-        (&["--budget", "4"], smallest, "process a ended steps 4\nprint a 5\nraces 0\n"),
-        (&["--budget", "3"], smallest, "process a budget 1:48 steps 3\nprint a 5\nraces 0\n"),
-        (&["--budget", "2"], smallest, "process a budget 1:34 steps 2\nraces 0\n"),
+        (
+            &["--budget", "5"],
+            endless,
+            "process a budget 1:20 steps 5\nraces 0\n",
+        ),
+        (
+            &["--budget=5"],
+            endless,
+            "process a budget 1:20 steps 5\nraces 0\n",
+        ),
+        (
+            &["--budget", "1"],
+            endless,
+            "process a budget 1:20 steps 1\nraces 0\n",
+        ),
+        (
+            &["--budget", "4"],
+            smallest,
+            "process a ended steps 4\nprint a 5\nraces 0\n",
+        ),
+        (
+            &["--budget", "3"],
+            smallest,
+            "process a budget 1:48 steps 3\nprint a 5\nraces 0\n",
+        ),
+        (
+            &["--budget", "2"],
+            smallest,
+            "process a budget 1:34 steps 2\nraces 0\n",
+        ),
         (&[], never, "process a ended steps 4\nprint a 3\nraces 0\n"),
-        (&["--loops", "1"], never, "process a ended steps 5\nprint a 3\nraces 0\n"),
-        (&["--loops", "2"], never, "process a ended steps 4\nprint a 3\nraces 0\n"),
-        (&["--loops", "1"], once, "process a ended steps 10\nprint a 7\nraces 0\n"),
-        (&["--loops=3"], once, "process a ended steps 9\nprint a 7\nraces 0\n"),
-        (&["--budget", "5"], returns, "process a ended steps 4\nprint a 7\nraces 0\n"),
-        (&["--leaf=1", "--budget=4"], returns, "process a budget 1:58 steps 3\nprint a 7\nraces 0\n"),
-        (&["--budget=4", "--leaf=2"], returns, "process a ended steps 4\nprint a 7\nraces 0\n"),
+        (
+            &["--loops", "1"],
+            never,
+            "process a ended steps 5\nprint a 3\nraces 0\n",
+        ),
+        (
+            &["--loops", "2"],
+            never,
+            "process a ended steps 4\nprint a 3\nraces 0\n",
+        ),
+        (
+            &["--loops", "1"],
+            once,
+            "process a ended steps 10\nprint a 7\nraces 0\n",
+        ),
+        (
+            &["--loops=3"],
+            once,
+            "process a ended steps 9\nprint a 7\nraces 0\n",
+        ),
+        (
+            &["--budget", "5"],
+            returns,
+            "process a ended steps 4\nprint a 7\nraces 0\n",
+        ),
+        (
+            &["--leaf=1", "--budget=4"],
+            returns,
+            "process a budget 1:58 steps 3\nprint a 7\nraces 0\n",
+        ),
+        (
+            &["--budget=4", "--leaf=2"],
+            returns,
+            "process a ended steps 4\nprint a 7\nraces 0\n",
+        ),
     ];
     for (options, source, text) in rows {
         let mut words = Vec::from_slice(alloc, &["flow"])?;
@@ -137,13 +191,17 @@ fn options_show_in_the_summary(rt: HostRuntime) -> Result<(), Fail> {
     Ok(())
 }
 
-const LOCKED: &str = "shared int x; sem m = 1; process a { P(m); x = x + 1; V(m); } process b { P(m); x = x + 1; V(m); }";
+const LOCKED: &str =
+    "shared int x; sem m = 1; process a { P(m); x = x + 1; V(m); } process b { P(m); x = x + 1; V(m); }";
 
-const COUNTED: &str = "shared int x; sem m = 2; process a { P(m); x = x + 1; V(m); } process b { P(m); x = x + 1; V(m); }";
+const COUNTED: &str =
+    "shared int x; sem m = 2; process a { P(m); x = x + 1; V(m); } process b { P(m); x = x + 1; V(m); }";
 
-const BOUNDED: &str = "shared int x; chan c[1]; process a { send(c, 7); send(c, 8); x = 2; } process b { int v; print(x); v = recv(c); v = recv(c); }";
+const BOUNDED: &str =
+    "shared int x; chan c[1]; process a { send(c, 7); send(c, 8); x = 2; } process b { int v; print(x); v = recv(c); v = recv(c); }";
 
-const UNREAD: &str = "shared int x, y; sem s = 1; process p { P(s); if (y) { print(x); } } process q { x = 5; }";
+const UNREAD: &str =
+    "shared int x, y; sem s = 1; process p { P(s); if (y) { print(x); } } process q { x = 5; }";
 
 const DEADLOCK: &str = "sem s = 1, t = 1; process a { P(s); P(t); } process b { P(t); P(s); }";
 
@@ -155,11 +213,23 @@ fn two_processes_are_summed_up(rt: HostRuntime) -> Result<(), Fail> {
     let alloc = rt.alloc();
     for (source, text) in [
         (LOCKED, "process a ended steps 5\nprocess b ended steps 5\n"),
-        (COUNTED, "process a ended steps 5\nprocess b ended steps 5\n"),
-        (BOUNDED, "process a ended steps 4\nprocess b ended steps 6\nprint b 0\n"),
+        (
+            COUNTED,
+            "process a ended steps 5\nprocess b ended steps 5\n",
+        ),
+        (
+            BOUNDED,
+            "process a ended steps 4\nprocess b ended steps 6\nprint b 0\n",
+        ),
         (UNREAD, "process p ended steps 4\nprocess q ended steps 2\n"),
-        (DEADLOCK, "process a ended steps 3\nprocess b blocked 1:57 steps 0\n"),
-        (UNGUARDED, "process a ended steps 5\nprint a 1\nprocess b ended steps 3\n"),
+        (
+            DEADLOCK,
+            "process a ended steps 3\nprocess b blocked 1:57 steps 0\n",
+        ),
+        (
+            UNGUARDED,
+            "process a ended steps 5\nprint a 1\nprocess b ended steps 3\n",
+        ),
         (
             "shared int a[2]; process p { a[0] = 1; } process q { a[1] = 2; }",
             "process p ended steps 2\nprocess q ended steps 2\n",
@@ -241,7 +311,10 @@ fn a_stop_is_scheduled(rt: HostRuntime) -> Result<(), Fail> {
     let Ok(written) = follow(alloc, endless, &options, &[], &[0, 0, 0, 0, 0, 0]) else {
         return Err(Fail::new("not followed"));
     };
-    assert_eq!(rt; written.as_slice(), b"process a budget 1:20 steps 5\nraces 0\n".as_slice());
+    assert_eq!(rt;
+        written.as_slice(),
+        b"process a budget 1:20 steps 5\nraces 0\n".as_slice()
+    );
     let early = follow(alloc, endless, &options, &[], &[0, 0, 0, 0, 0]);
     assert_eq!(rt; early.err(), Some(FollowError::NotWhole));
     let late = follow(alloc, endless, &options, &[], &[0, 0, 0, 0, 0, 0, 0]);
@@ -270,7 +343,10 @@ fn schedules_that_are_refused(rt: HostRuntime) -> Result<(), Fail> {
         (
             "",
             &[9],
-            FollowError::Refused(SourceError::Check(CheckError::NoProcess(Place { line: 1, column: 1 }))),
+            FollowError::Refused(SourceError::Check(CheckError::NoProcess(Place {
+                line: 1,
+                column: 1,
+            }))),
         ),
     ];
     for (source, schedule, error) in rows {
