@@ -22,7 +22,7 @@ too_many p = at p (TooMany L.Statements)
 
 -- Places in order.
 
-up_to_itself : (p : Place) → is_up_to p p ≡ true
+pub up_to_itself : (p : Place) → is_up_to p p ≡ true
 up_to_itself p = go p.line p.column
   where
     go : (a b : ℕ) → by_then a a (nat_le b b) ≡ true
@@ -53,7 +53,7 @@ from_key p q h = go p.line p.column q.line q.column h
 abbrev once : Bool → ℕ
 once b = cond b 1 0
 
-count_all : (p : Place → Bool) (xs : List Place) → All (λ x. p x ≡ true) xs → count_by p xs ≡ length xs
+pub count_all : (p : Place → Bool) (xs : List Place) → All (λ x. p x ≡ true) xs → count_by p xs ≡ length xs
 count_all p [] h = refl
 count_all p (x ∷ xs) h =
     let e : once (p x) ≡ 1 = ap once (All-head (λ x. p x ≡ true) x xs h) in

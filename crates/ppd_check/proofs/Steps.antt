@@ -33,11 +33,11 @@ as_row_other r ps p h i e = ap as_row e
 pub row_walked : (site : Site) (r : Row) (f g : Frame) (u v : Writer) (a b : List ℕ) → WroteRow site r f u v a b → g ≡ after_row r f → Walked site r f g u v a b
 row_walked site r f g u v a b w e = record { wrote = row_wrote site r f u v a b w; frame = e }
 
-pub code_any : (o : Option Simple) (f : Frame) → row_code (row_any o) f ≡ code_of_any o f
+code_any : (o : Option Simple) (f : Frame) → row_code (row_any o) f ≡ code_of_any o f
 code_any None f = refl
 code_any (Some s) f = join_done (code_of s f)
 
-pub faults_any : (o : Option Simple) (f : Frame) → row_faults (row_any o) f ≡ faults_of_any o f
+faults_any : (o : Option Simple) (f : Frame) → row_faults (row_any o) f ≡ faults_of_any o f
 faults_any None f = refl
 faults_any (Some s) f = append-nil (faults_of s f)
 

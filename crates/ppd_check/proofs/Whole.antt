@@ -15,10 +15,10 @@ use Rattle.ppd_check.specs.declared.writer.Writer.{Writer}
 use Rattle.ppd_check.specs.declared.writer.Site.{Site}
 use Rattle.ppd_check.specs.Expressions.{term_of, formula_faults}
 use Rattle.ppd_check.specs.Nodes.{phrase_of, phrases_of, phrases_below, children_of, SaysBy}
-use Rattle.ppd_check.specs.Reading.{Phrase, token, nowhere, as_block, as_row, before, beyond, for_row, for_start, for_test, formula_at, formulas, kind, last, locals, phrase, place_at, rows, some_change, statement, worded}
+use Rattle.ppd_check.specs.Reading.{Phrase, as_row, before, beyond, for_row, for_start, for_test, formula_at, formulas, kind, last, locals, phrase, place_at, rows, some_change, statement, worded}
 use Rattle.ppd_check.specs.Plain.{row_any, plain_statement}
 use Rattle.ppd_check.specs.Statements.{code_of_any, faults_of_any, opened}
-use Rattle.ppd_check.specs.Syntax.{Simple, Formula, Row, stop, block, choice, repeat, count}
+use Rattle.ppd_check.specs.Syntax.{Simple, Formula, Row, stop, choice, repeat, count}
 use Rattle.ppd_check.specs.Writing.{Began, Walked, Wrote}
 use Rattle.ppd_check.proofs.Declaring.{walked_none}
 use Rattle.ppd_check.proofs.Inside.{Begun, Ended, inside, walked_choice, walked_repeat}
@@ -116,15 +116,6 @@ worded_while ps h = sym (rw (h))
 pub worded_for : (ps : List Phrase) → kind (phrase ps 0) ≡ M.ForWord → for_row ps ≡ worded ps
 worded_for ps h = sym (rw (h))
 
-pub statement_none : (p : Phrase) (ps : List Phrase) → p ≡ token nowhere → worded ps ≡ statement p ps
-statement_none p ps h = sym (ap (λ (q : Phrase). statement q ps) h)
-
-pub statement_leaf : (p q : Phrase) (ps qs : List Phrase) → p ≡ q → SaysBy R.Leaf qs q → worded ps ≡ statement p ps
-statement_leaf p q ps qs h e = sym (ap (λ (x : Phrase). statement x ps) (h ∙ e.1))
-
-pub statement_block : (p q : Phrase) (ps qs : List Phrase) → p ≡ q → SaysBy R.Block qs q → block (rows qs) stop ≡ statement p ps
-statement_block p q ps qs h e = sym (ap (λ (x : Phrase). statement x ps) (h ∙ e))
-
 pub statement_named : (r : Rule) (qs : List Phrase) (p q : Phrase) (ps : List Phrase) → p ≡ q → (r ≡ R.Leaf → ⊥) → (r ≡ R.Block → ⊥) → SaysBy r qs q → plain_statement p ps ≡ statement p ps
 statement_named r qs p q ps h a b e =
     ap (λ (x : Phrase). plain_statement x ps) h ∙ sym (named_statement r qs q ps a b e) ∙ sym (ap (λ (x : Phrase). statement x ps) h)
@@ -132,14 +123,3 @@ statement_named r qs p q ps h a b e =
 pub row_locals : (ns : List Node) (i : ℕ) → SaysBy R.Local (phrases_below ns i) (phrase_of ns i) → locals (phrases_of ns (children_of ns i)) ≡ as_row (phrase_of ns i)
 unfolding phrases_below
 row_locals ns i e = sym (ap as_row e)
-
-pub row_statement : (ps : List Phrase) (p : Phrase) → SaysBy R.Stmt ps p → statement (phrase ps 0) ps ≡ as_row p
-row_statement ps p e = sym (ap as_row e)
-
-pub block_rows : (ps : List Phrase) (p : Phrase) → SaysBy R.Block ps p → rows ps ≡ (as_block p).row
-block_rows ps p e = sym (ap (λ (q : Phrase). (as_block q).row) e)
-
-pub block_other : (r : Rule) (ps : List Phrase) (p : Phrase) → (r ≡ R.Block → ⊥) → SaysBy r ps p → (as_block p).row ≡ stop
-block_other R.Block ps p h e = absurd (h refl)
-block_other R.Leaf ps p h e = ap (λ (q : Phrase). (as_block q).row) e.1
-block_other r ps p h e = ap (λ (q : Phrase). (as_block q).row) e

@@ -109,7 +109,7 @@ added_one old t new n a = a.table ∙ ap (λ l. old ++ l) (sym (append-nil (flat
 pub added_none : (old : List Expr) (ids : List ℕ) → AddedAll old [] old ids ids
 added_none old ids = record { table = sym (append-nil old); numbers = sym (append-nil ids) }
 
-roots_append : (m : ℕ) (ts us : List Term) → roots m (ts ++ us) ≡ roots m ts ++ roots (m + weights ts) us
+pub roots_append : (m : ℕ) (ts us : List Term) → roots m (ts ++ us) ≡ roots m ts ++ roots (m + weights ts) us
 roots_append m [] us = ap (λ k. roots k us) (omega arith)
 roots_append m (t ∷ ts) us = ap (λ l. root m t ∷ l) (roots_append (m + weight t) ts us ∙ ap (λ k. roots (m + weight t) ts ++ roots k us) (omega arith))
 

@@ -22,3 +22,4 @@ pub mod Plain
 pub mod Items
 pub mod Endings
 pub mod Bodies
+pub mod Sizes

@@ -1,5 +1,7 @@
 // The table of a tree, or the first rule that its source breaks.
-ghost use Rattle.std.specs.Prelude.{◌≡◌, true, false, [], ◌∷◌, ◌++◌, Some, IfOk, IfErr, map};
+ghost use Rattle.std.specs.Prelude.{◌≡◌, ℕ, List, true, false, [], ◌∷◌, ◌++◌, Some, IfOk, IfErr, map};
+ghost use Rattle.ppd_ast.specs.Valid.{IsValid};
+ghost use Rattle.ppd_check.specs.Read.{IsParsed};
 ghost use Rattle.std.specs.List.{All};
 ghost use Rattle.ppd_parse.specs.Grammar.{Shape};
 ghost use Rattle.ppd_parse.specs.Tree.{tree_of, IsTable};
@@ -106,13 +108,15 @@ fn check_nodes(alloc: Global, nodes: &[Node]) -> Result<Checked, Memory>
 }
 
 /// The table of a tree that breaks no rule of the language: shared cells and the cells of a body in the order of their
-/// declarations, functions before processes, statements in pre-order.
+/// declarations, functions before processes, statements in pre-order. It is a valid program where the tree is that of a
+/// source's tokens.
 ///
 /// Otherwise the first broken rule by its place, and at one place the one that `CheckError` lists first; `Memory` is want
 /// of memory.
 pub fn check(alloc: Global, tree: &Tree) -> Result<Program, CheckError>
     requires table { IsTable tree.now.nodes }
     ensures core { IfOk result (λ p. Accepted (tree_of tree.now.nodes) × (p ≡ core (tree_of tree.now.nodes))) }
+    ensures valid { IfOk result (λ p. (bytes : List ℕ) → IsParsed bytes (tree_of tree.now.nodes) → IsValid p) }
     ensures refused { IfErr result (λ e. IsRefused (tree_of tree.now.nodes) e) }
 {
     let Ok(checked) = check_nodes(alloc, tree.nodes.as_slice()) else {

@@ -114,11 +114,11 @@ fn write_undeclared(
     ensures wrote { OnOk result (Wrote site.body site.parent (code_of_any (some_change (phrase (phrases_below nodes.now id) k)) frame.old) (faults_of_any (some_change (phrase (phrases_below nodes.now id) k)) frame.old) out.old out.new row.old row.new) }
     ensures frame { OnOk result (record frame.new { scopes = drop 1 frame.new.scopes } ≡ record frame.old { scopes = drop 1 frame.old.scopes }) }
 {
-    let count = frame.variables.len();
+    let before = frame.variables.len();
     let cells = frame.cells;
     let hidden = frame.hidden;
     write_changing(alloc, nodes, id, k, frame, out, site, row)?;
-    frame.variables.truncate(count);
+    frame.variables.truncate(before);
     frame.cells = cells;
     frame.hidden = hidden;
     Ok(())

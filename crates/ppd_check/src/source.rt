@@ -1,4 +1,5 @@
 ghost use Rattle.std.specs.Prelude.{◌≡◌, IfOk, IfErr};
+ghost use Rattle.ppd_ast.specs.Valid.{IsValid};
 ghost use Rattle.ppd_check.specs.Read.{IsRead, IsRefused, by_check};
 
 use crate::checking::check;
@@ -18,12 +19,13 @@ fn by_check(error: CheckError) -> SourceError
 }
 
 /// The program of a source: its tokens, their tree, and the tree's table. It is answered for exactly the sources of the
-/// language.
+/// language, and is a valid program.
 ///
 /// Otherwise the first fault of the first part that finds one: `Lex`, `Syntax` and `Check`, in this order. `Memory` is
 /// want of memory, which no part answers itself.
 pub fn read_source(alloc: Global, bytes: &[u8]) -> Result<Program, SourceError>
     ensures read { IfOk result (λ p. IsRead bytes.now p) }
+    ensures valid { IfOk result (λ p. IsValid p) }
     ensures refused { IfErr result (λ e. IsRefused bytes.now e) }
 {
     let tree = read_tree(alloc, bytes)?;

@@ -5,9 +5,12 @@ pub mod BudgetStop
 pub mod CalleeWrite
 pub mod Deadlock
 pub mod LeafFunction
+pub mod LeafLoops
 pub mod LockOrder
 pub mod LoopInLeaf
 pub mod LoopNeverEntered
+pub mod NearByEdge
+pub mod NestedLoops
 pub mod PastTheEnd
 pub mod Recursion
 pub mod ShortCircuit

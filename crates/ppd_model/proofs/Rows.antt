@@ -1,4 +1,6 @@
 pub mod Tables
+pub mod Showing
+pub mod Every
 pub mod Smallest
 pub mod UnguardedIncrement
 pub mod LockOrder
@@ -16,3 +18,6 @@ pub mod BudgetStop
 pub mod LeafFunction
 pub mod UnfinishedLoop
 pub mod LoopInLeaf
+pub mod NestedLoops
+pub mod LeafLoops
+pub mod NearByEdge

@@ -17,7 +17,7 @@ use Rattle.ppd_parse.specs.Grammar.{Shape, leaf, close, Marked, kind_of, is_oper
 use Rattle.ppd_parse.specs.Choice.{Choice, chosen, refused, choose, expansion, parts_if, pushed, stack_with}
 use Rattle.ppd_parse.specs.Machine.{State, SameAt, IsDead, Shifts, Advanced, IsTerminal}
 use Rattle.ppd_parse.specs.Stack.{IsGood, IsOver}
-use Rattle.ppd_parse.proofs.Ranked.{ranked, read_exact, read_operator}
+use Rattle.ppd_parse.proofs.Ranked.{few, ranked, read_exact, read_operator}
 use Rattle.ppd_parse.proofs.Sample.{good_exact, good_unfolded}
 use Rattle.ppd_parse.proofs.Unfolded.{exact_to, operator_to, wrap_to, unfold_to, unfold_from, unfold_none}
 
@@ -30,7 +30,7 @@ close_moves token r b ws s t e good =
       to = λ x ts f k h. subst (λ u. ReadsAll ws u (x ∷ ts) f []) (sym e) (wrap_to h);
       from = λ x ts f k h. next wrap (subst (λ u. ReadsAll ws u (x ∷ ts) f []) e h);
     } in
-    (same, good, omega arith)
+    (same, good, omega arith, omega arith)
 
 marked_same : (x : Marked) (t : Token) (a : At) → x.token ≡ t → x.at ≡ a → x ≡ record { token = t; at = a }
 marked_same x t a e m =
@@ -45,7 +45,7 @@ exact_moves token k a b ws s t e new good =
       to = λ x ts f d h. let o = exact_to h in (marked_same x token a d o.1, subst (λ u. ReadsAll ws u ts f []) (ap (λ z. s ++ leaf z ∷ []) d ∙ sym new) o.2);
       from = λ ts f h. next (exact (sym e) refl) (subst (λ u. ReadsAll ws u ts f []) new h);
     } in
-    (shifts, good_exact k a b ws good, λ d. good_end k a b ws (e ∙ d) good, read_exact k a b ws)
+    (shifts, good_exact k a b ws good, λ d. good_end k a b ws (e ∙ d) good, read_exact k a b ws, omega arith)
 
 pub exact_refused : (token : Token) (k : Kind) (a : At) (b : ℕ) (ws : List Want) (s : List Shape) → (k ≡ kind_of token.kind → ⊥) → IsDead (kind_of token.kind) (record { wants = Get (S.Exact k) a b ∷ ws; shapes = s })
 exact_refused token k a b ws s other x ts f e h = other (sym (exact_to h).0 ∙ e)
@@ -63,7 +63,7 @@ operator_moves token l a b ws s t e new good =
       to = λ x ts f d h. let o = operator_to h in (marked_same x token a d o.1, subst (λ u. ReadsAll ws u ts f []) (ap (λ z. s ++ leaf z ∷ []) d ∙ sym new) o.2);
       from = λ ts f h. next (operator e refl) (subst (λ u. ReadsAll ws u ts f []) new h);
     } in
-    (shifts, good, λ d. absurd (no_operator l (kind_of token.kind) d e), read_operator l a b ws)
+    (shifts, good, λ d. absurd (no_operator l (kind_of token.kind) d e), read_operator l a b ws, omega arith)
 
 pub operator_refused : (token : Token) (l : Level) (a : At) (b : ℕ) (ws : List Want) (s : List Shape) → is_operator l (kind_of token.kind) ≡ false → IsDead (kind_of token.kind) (record { wants = Get (S.Operator l) a b ∷ ws; shapes = s })
 operator_refused token l a b ws s other x ts f e h =
@@ -80,7 +80,7 @@ module _ (token : Token) (y : Symbol) (a : At) (b c : ℕ) (olds : List Want) (s
         to = λ x ts f k h. subst (λ i. ReadsAll (wants_in a i (parts p) ++ reverse olds) s (x ∷ ts) f []) (sym base) (unfold_to y a b (reverse olds) s x ts f inner p (ap (choose y) k ∙ e) h);
         from = λ x ts f k h. unfold_from y a b (reverse olds) s x ts f p (ap (choose y) k ∙ e) (subst (λ i. ReadsAll (wants_in a i (parts p) ++ reverse olds) s (x ∷ ts) f []) base h);
       } in
-      (same, unfolded_good p good, ranked p a c b (reverse olds))
+      (same, unfolded_good p good, ranked p a c b (reverse olds), omega (arith, few p a c (reverse olds)))
 
   turned : (ws : List Want) → reverse (olds ++ reverse ws) ≡ ws ++ reverse olds
   turned ws = reverse-append olds (reverse ws) ∙ ap (λ z. z ++ reverse olds) (reverse-reverse ws)

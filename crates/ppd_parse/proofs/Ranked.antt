@@ -1,5 +1,5 @@
--- Each move leaves fewer to make, and a token that is read pays for 15.
-use Rattle.std.proofs.Common.{◌<◌, ◌≤◌, ◌+◌, ℕ, List, [], ◌∷◌, ◌++◌, arith}
+-- Each move leaves fewer to make, a token that is read pays for 15, and at most eight wants stand for one.
+use Rattle.std.proofs.Common.{◌<◌, ◌≤◌, ◌+◌, ℕ, List, [], ◌∷◌, ◌++◌, length, arith}
 use Rattle.ppd_parse.specs.declared.symbol.Level.{Level}
 use Rattle.ppd_parse.specs.declared.symbol.Level.TheVariants as L
 use Rattle.ppd_parse.specs.declared.symbol.Symbol.{Symbol}
@@ -39,6 +39,18 @@ ranked_operand L.Or a b c ws = omega arith
 pub ranked : {y : Symbol} (p : Production y) (a : At) (b c : ℕ) (ws : List Want) → rank (wants_in a b (parts p) ++ ws) < rank (Get y a c ∷ ws)
 ranked (operand l) a b c ws = omega (arith, ranked_operand l a b c ws)
 ranked _ a b c ws = omega (arith, lead_all_most ws)
+
+few_operand : (l : Level) (a : At) (b : ℕ) (ws : List Want) → length (wants_in a b (operand_parts l) ++ ws) ≤ length ws + 8
+few_operand L.Product a b ws = omega arith
+few_operand L.Sum a b ws = omega arith
+few_operand L.Compare a b ws = omega arith
+few_operand L.Equal a b ws = omega arith
+few_operand L.And a b ws = omega arith
+few_operand L.Or a b ws = omega arith
+
+pub few : {y : Symbol} (p : Production y) (a : At) (b : ℕ) (ws : List Want) → length (wants_in a b (parts p) ++ ws) ≤ length ws + 8
+few (operand l) a b ws = few_operand l a b ws
+few _ a b ws = omega arith
 
 pub read_exact : (k : Kind) (a : At) (b : ℕ) (ws : List Want) → rank ws + 1 ≤ rank (Get (S.Exact k) a b ∷ ws) + 15
 read_exact k a b ws = omega (arith, lead_all_most ws)

@@ -1,5 +1,5 @@
 -- What the parser's stack still wants, and what one token does to it.
-use Rattle.std.specs.Prelude.{◌≡◌, List, [], ◌∷◌, ◌++◌, reverse, Option, Some, None, ◌<◌, ◌≤◌, ◌+◌}
+use Rattle.std.specs.Prelude.{◌≡◌, List, [], ◌∷◌, ◌++◌, length, reverse, Option, Some, None, ◌<◌, ◌≤◌, ◌+◌}
 use Rattle.ppd_lex.specs.declared.token.Token.{Token}
 use Rattle.ppd_parse.specs.declared.symbol.Kind.{Kind}
 use Rattle.ppd_parse.specs.declared.symbol.Kind.TheVariants as K
@@ -51,10 +51,10 @@ wanting w a = record { wants = w ∷ a.wants; shapes = a.shapes }
 abbrev pub state_of : List Want → Grove → State
 state_of items grove = record { wants = reverse items; shapes = shapes_of grove.nodes.items grove.roots.items }
 
--- what came of a want on top, at this token
+-- what came of a want on top, at this token; at most eight wants stand for it then
 abbrev pub Advanced : Token → Step → State → State → Type 0
-Advanced token M.Moved a b = SameAt (kind_of token.kind) a b × IsGood b.wants × (rank b.wants < rank a.wants)
-Advanced token (M.Read at) a b = Shifts (record { token = token; at = at }) a b × IsGood b.wants × (kind_of token.kind ≡ K.End → IsOver b.wants) × (rank b.wants + 1 ≤ rank a.wants + 15)
+Advanced token M.Moved a b = SameAt (kind_of token.kind) a b × IsGood b.wants × (rank b.wants < rank a.wants) × (length b.wants ≤ length a.wants + 7)
+Advanced token (M.Read at) a b = Shifts (record { token = token; at = at }) a b × IsGood b.wants × (kind_of token.kind ≡ K.End → IsOver b.wants) × (rank b.wants + 1 ≤ rank a.wants + 15) × (length b.wants ≤ length a.wants)
 Advanced token M.Refused a b = IsDead (kind_of token.kind) a
 
 -- the token was read with this mark, or nothing goes on with it

@@ -78,3 +78,8 @@ rank ws = weight_all ws + lead_all ws
 abbrev pub Paid : Option At → ℕ → ℕ → List Want → List Want → Type 0
 Paid (Some at) before now olds news = now + rank news ≤ before + rank olds + 15
 Paid None before now olds news = Unit {0}
+
+-- where a token was read, the stack is within the peak
+abbrev pub Held : Option At → ℕ → ℕ → Type 0
+Held (Some at) height peak = height ≤ peak
+Held None height peak = Unit {0}

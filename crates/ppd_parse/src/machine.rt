@@ -1,7 +1,7 @@
 // What the parser does at a token.
-ghost use Rattle.std.specs.Prelude.{◌∷◌, ◌≤◌, ◌+◌, IfOk, reverse};
+ghost use Rattle.std.specs.Prelude.{◌∷◌, ◌≤◌, ◌+◌, ◌*◌, length, IfOk, reverse};
 ghost use Rattle.ppd_parse.specs.Machine.{Advanced, Taken, state_of, wanting};
-ghost use Rattle.ppd_parse.specs.Rank.{rank, Paid};
+ghost use Rattle.ppd_parse.specs.Rank.{rank, Held, Paid};
 ghost use Rattle.ppd_parse.specs.Stack.{IsGood};
 
 use crate::declarations::expand;
@@ -74,23 +74,38 @@ fn advance(
     }
 }
 
+// Raises the peak to a height of the stack that is at most seven above it.
+pub fn raise(peak: &mut usize, height: usize)
+    requires near { height ≤ peak.old + 7 }
+    ensures held { height ≤ peak.new }
+    ensures near { peak.new ≤ peak.old + 7 }
+{
+    if height > *peak {
+        *peak = height;
+    }
+}
+
 // Reads a token and answers where it stands, or none where no program goes on with it. A step is
-// dealing with one want.
+// dealing with one want, and leaves at most seven more on the stack than before.
 pub fn take<L: Ledger>(
     wants: &mut Vec<Want>,
     grove: &mut Grove,
     token: &Token,
     steps: &mut Steps<L>,
+    peak: &mut usize,
 ) -> Result<Option<At>, AllocError>
-    requires { IsGood (reverse wants.old.items) }
+    requires good { IsGood (reverse wants.old.items) }
+    requires held { length wants.old.items ≤ peak.old }
     ensures taken { IfOk result (λ at. Taken token.now at (state_of wants.old.items grove.old) (state_of wants.new.items grove.new)) }
     ensures cost { steps.new ≤ steps.old + rank (reverse wants.old.items) }
     ensures paid { IfOk result (λ at. Paid at steps.old steps.new (reverse wants.old.items) (reverse wants.new.items)) }
+    ensures held { IfOk result (λ at. Held at (length wants.new.items) peak.new) }
+    ensures room { peak.new + 7 * steps.old ≤ peak.old + 7 * steps.new }
 {
     while let Some(want) = wants.pop() {
         steps.tick();
         match advance(wants, grove, token, want)? {
-            Step::Moved => {}
+            Step::Moved => raise(peak, wants.len()),
             Step::Read(at) => return Ok(Some(at)),
             Step::Refused => return Ok(None),
         }

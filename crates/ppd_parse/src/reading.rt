@@ -12,7 +12,7 @@ ghost use Rattle.ppd_parse.specs.Tree.{tree_of, IsTable};
 use crate::error::SyntaxError;
 use crate::growth::Grove;
 use crate::kind::{is_operator, kind_of};
-use crate::machine::take;
+use crate::machine::{raise, take};
 use crate::node::Tree;
 use crate::numbering::renumber;
 use crate::symbol::{At, Kind, Level, Symbol, Want};
@@ -67,14 +67,18 @@ fn step<L: Ledger>(
     count: u16,
     token: &Token,
     steps: &mut Steps<L>,
+    peak: &mut usize,
 ) -> Result<u16, SyntaxError>
     requires good { IsGood (reverse wants.old.items) }
     requires few { count ≤ 256 }
+    requires held { length wants.old.items ≤ peak.old }
     ensures stepped { Stepped count token.now result (state_of wants.old.items grove.old) (state_of wants.new.items grove.new) }
     ensures cost { steps.new ≤ steps.old + rank (reverse wants.old.items) }
     ensures paid { OnOk result (steps.new + rank (reverse wants.new.items) ≤ steps.old + rank (reverse wants.old.items) + 15) }
+    ensures held { OnOk result (length wants.new.items ≤ peak.new) }
+    ensures room { peak.new + 7 * steps.old ≤ peak.old + 7 * steps.new }
 {
-    match take(wants, grove, token, steps) {
+    match take(wants, grove, token, steps, peak) {
         Err(_) => Err(SyntaxError::Memory),
         Ok(None) => Err(SyntaxError::Unexpected(token.place)),
         Ok(Some(at)) => {
@@ -115,9 +119,11 @@ fn grow<L: Ledger>(
     alloc: Global,
     tokens: &[Token],
     steps: &mut Steps<L>,
+    peak: &mut usize,
 ) -> Result<Grove, SyntaxError>
     requires ends { EndOnce tokens.now }
     ensures cost { steps.new ≤ steps.old + 15 * (length tokens.now + 1) }
+    ensures room { peak.new ≤ peak.old + 112 * (length tokens.now + 1) }
     ensures tree { IfOk result (λ grove. IsTree tokens.now (shapes_of grove.nodes.items grove.roots.items)) }
     ensures refused { IfErr result (λ error. IsRefused tokens.now error) }
 {
@@ -128,9 +134,10 @@ fn grow<L: Ledger>(
         inside: false,
     };
     wants.push(Want::Get(Symbol::Source, outside, 0))?;
+    raise(peak, 1);
     let mut count: u16 = 0;
     for token in tokens {
-        match step(&mut wants, &mut grove, count, token, steps) {
+        match step(&mut wants, &mut grove, count, token, steps, peak) {
             Ok(next) => count = next,
             Err(error) => return Err(error),
         }
@@ -142,10 +149,14 @@ fn grow<L: Ledger>(
 /// The tree of the tokens, as `parse` answers it, in at most 15 steps for each token and 15 more. A
 /// step is dealing with one part of the grammar that is wanted: a token, a symbol or the end of a
 /// node.
+///
+/// What is still wanted stands on a stack, and `peak` is raised to the most parts that stood there
+/// at one time: by at most 112 for each token and 112 more.
 pub fn parse_in<L: Ledger>(
     alloc: Global,
     tokens: &[Token],
     steps: &mut Steps<L>,
+    peak: &mut usize,
 ) -> Result<Tree, SyntaxError>
     requires ends { EndOnce tokens.now }
     requires short { length tokens.now ≤ 2 ^ 30 }
@@ -154,8 +165,9 @@ pub fn parse_in<L: Ledger>(
     ensures few { IfOk result (λ tree. length tree.nodes ≤ 3 * length tokens.now) }
     ensures refused { IfErr result (λ error. IsRefused tokens.now error) }
     ensures cost { steps.new ≤ steps.old + 15 * (length tokens.now + 1) }
+    ensures room { peak.new ≤ peak.old + 112 * (length tokens.now + 1) }
 {
-    match grow(alloc, tokens, steps) {
+    match grow(alloc, tokens, steps, peak) {
         Ok(grove) => {
             let tree = renumber(alloc, grove)?;
             Ok(tree)
@@ -164,7 +176,7 @@ pub fn parse_in<L: Ledger>(
     }
 }
 
-// The tree of the tokens, with steps of a ledger that nobody reads.
+// The tree of the tokens, with steps and a peak that nobody reads.
 fn parse_from<L: Ledger>(alloc: Global, tokens: &[Token], blank: Blank) -> Result<Tree, SyntaxError>
     requires name { blank.name ≡ L.name }
     requires parts { blank.parts ≡ L.parts }
@@ -177,7 +189,8 @@ fn parse_from<L: Ledger>(alloc: Global, tokens: &[Token], blank: Blank) -> Resul
     ensures refused { IfErr result (λ error. IsRefused tokens.now error) }
 {
     let mut steps: Steps<L> = Steps::new(blank);
-    parse_in(alloc, tokens, &mut steps)
+    let mut peak = 0;
+    parse_in(alloc, tokens, &mut steps, &mut peak)
 }
 
 /// The tree of the tokens of a source, as a table of nodes with the root first.

@@ -6,8 +6,6 @@ mod alone;
 #[cfg(test)]
 mod alone_tests;
 #[cfg(test)]
-mod buffer;
-#[cfg(test)]
 mod limits;
 #[cfg(test)]
 mod rows;

@@ -1,10 +1,10 @@
 //! Worked programs of one process, each a few lines over a table of expressions.
 
-use crate::buffer::{block, body, ids, name, scalars};
 use ppd_ast::{
     BlockKind, Body, Chan, Expr, Kind, Op, Place, Plan, Policy, Program, Sem, Seq, Start, Stmt,
     Target, Unit, Var,
 };
+use ppd_tables::parts::{block, body, ids, name, scalars};
 use std::alloc::{AllocError, Global};
 
 /// What a statement is, with its lists as slices.

@@ -1,6 +1,6 @@
-use crate::buffer::{plan, program};
 use crate::limits::{elements, loops, signs};
 use ppd_ast::{Chan, Kind, Place, Plan, Policy, Sem, Seq, Stmt};
+use ppd_tables::buffer::{plan, program};
 use std::process::Abort;
 use std::test::Fail;
 

@@ -1,7 +1,8 @@
 //! Worked programs of several processes, each with its plan.
 
-use crate::tables::{Does, Table, cells, name, program, scalars};
+use crate::tables::{Does, Table, program};
 use ppd_ast::{Chan, Expr, Nums, Op, Plan, Program, Sem, Seq, Start, Target, Unit};
+use ppd_tables::parts::{cells, name, scalars};
 use std::alloc::{AllocError, Global};
 
 fn with_shared(alloc: Global, program: &mut Program, names: &[&str]) -> Result<(), AllocError> {

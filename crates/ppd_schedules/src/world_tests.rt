@@ -2,9 +2,10 @@ use crate::parallel::{
     bounded, deadlock, draining, endless, filling, locked, unread, with_unread_cells,
 };
 use crate::worlds::{Driven, bare_plan, drive, drive_lowest};
-use ppd_ast::{Program, Status, SyncKind};
+use ppd_ast::{Program, Status, SyncKind, Trap};
 use ppd_entry::Entry;
 use ppd_model::{Closed, DriveError};
+use ppd_tables::buffer;
 use std::alloc::{AllocError, Global};
 use std::test::Fail;
 
@@ -240,6 +241,62 @@ fn channels_of_least_and_most_capacity(rt: HostRuntime) -> Result<(), Fail> {
     let closed = by_lowest(alloc, filling(alloc, 64), 1000, 3000).expect(&rt, "whole");
     assert!(rt; ends(&closed, 0, Status::Budget, 0, 1000));
     assert!(rt; ends(&closed, 1, Status::Budget, 5, 1000));
+    Ok(())
+}
+
+// What filled a channel is received up to the last value, and then there is none.
+#[test]
+fn channels_filled_and_emptied(rt: HostRuntime) -> Result<(), Fail> {
+    let alloc = rt.alloc();
+    // a fills the channel in 1 + 2 * capacity steps, b empties it in 2 + 2 * capacity
+    for (capacity, steps) in [(1, 3), (64, 129)] {
+        let mut schedule = Vec::new(alloc);
+        for _ in 0..steps {
+            schedule.push(0)?;
+        }
+        for _ in 0..steps + 1 {
+            schedule.push(1)?;
+        }
+        let empty = by_schedule(
+            alloc,
+            filling(alloc, capacity),
+            BUDGET,
+            schedule.as_slice(),
+        ).expect(&rt, "valid");
+        assert_eq!(rt; empty.answer, Ok(()));
+        schedule.push(1)?;
+        let over = by_schedule(alloc, filling(alloc, capacity), BUDGET, schedule.as_slice()).expect(
+            &rt, "valid",
+        );
+        assert_eq!(rt; over.answer, Err(DriveError::NotEnabled(2 * steps + 1)));
+    }
+    Ok(())
+}
+
+// The producer's fault shows as the consumer's trap, and the producer waits for ever, over the bare
+// plan and over one with cells.
+#[test]
+fn bounded_buffer(rt: HostRuntime) -> Result<(), Fail> {
+    let alloc = rt.alloc();
+    let program = buffer::program(alloc)?;
+    let plan = buffer::plan(alloc)?;
+    let bare = bare_plan(alloc, &program).expect(&rt, "valid");
+    for plan in [&bare, &plan] {
+        let closed = drive_lowest(alloc, &program, plan, BUDGET, 1800).expect(&rt, "whole");
+        assert!(rt; ends(&closed, 0, Status::Blocked, 0, 874));
+        assert!(rt; ends(&closed, 1, Status::Trap(Trap::Assert), 26, 870));
+    }
+    Ok(())
+}
+
+// A semaphore that starts at 65,535 lets so many in: the last `P` has that number, the next waits.
+#[test]
+fn largest_semaphore_drained(rt: HostRuntime) -> Result<(), Fail> {
+    let alloc = rt.alloc();
+    let closed = by_lowest(alloc, draining(alloc, 65_535), 200_000, 140_000).expect(&rt, "whole");
+    assert!(rt; ends(&closed, 0, Status::Blocked, 1, 131_071));
+    assert!(rt; is_sync(entry(&closed, 0, 131_070), SyncKind::P, 65_535, 0, &[], &[]));
+    assert!(rt; is_end(entry(&closed, 0, 131_072), Status::Blocked, 1, &[], &[]));
     Ok(())
 }
 

@@ -17,10 +17,11 @@ use Rattle.ppd_sem.specs.declared.proc.Todo.{Todo}
 use Rattle.ppd_sem.specs.Ask.{ask, checked, divided, element, fits, is_zero}
 use Rattle.ppd_sem.specs.Asked.{Asked, and_then, gives, once}
 use Rattle.ppd_sem.specs.Deed.{Deed, ask_all, ask_deed, ask_stored, invoke, set_local, set_shared}
-use Rattle.ppd_sem.specs.Laws.{ArgumentsComeFirst, ArithmeticIsExact, DividesTowardZero, Has64Bits, IndexComesFirst, IsExactOrOverflow, StepsEnd, StopsEarly, ValidCanRun, ValidIsNumbered, least}
+use Rattle.ppd_sem.specs.Laws.{ArgumentsComeFirst, ArithmeticIsExact, DividesTowardZero, Has64Bits, IndexComesFirst, IsExactOrOverflow, NeedsAreThere, StepsEnd, StopsEarly, ValidCanRun, ValidIsNumbered, least}
 use Rattle.ppd_sem.specs.Process.{act, entry_of, head_deed, kind_of, loop_of, need_by_entry, need_of_asked, need_of_call, need_of_head, top_cells}
 use Rattle.ppd_sem.specs.Reads.{ask_place, reads_of, reads_of_stored}
 use Rattle.ppd_sem.proofs.Progress.{act-falls, act-stopped, act-within}
+use Rattle.ppd_sem.proofs.Needs.{needs-there}
 use Rattle.ppd_sem.proofs.Validity.{valid-runnable, valid-numbered}
 
 -- ---- arithmetic
@@ -215,3 +216,6 @@ can_run = valid-runnable
 
 pub is_numbered : ValidIsNumbered
 is_numbered = valid-numbered
+
+pub named : NeedsAreThere
+named program plan s v = needs-there program plan s v

@@ -27,14 +27,14 @@ use Rattle.ppd_sem.proofs.Kept.{There, there_at}
 
 -- ---- cells
 
-scalar_in : (vs : List Var) (n c : ℕ) → CoverCells vs n → IsScalarOf vs c → c < n
+pub scalar_in : (vs : List Var) (n c : ℕ) → CoverCells vs n → IsScalarOf vs c → c < n
 scalar_in vs n c h g =
     let within : after g.1 ≤ n = subst (λ (v : Var). after v ≤ n) g.3 (h.within g.0 g.1 g.2) in
     let one : size g.1.len ≡ 1 = ap size g.4.1 in
     let base : g.1.base ≡ c = g.4.0 in
     omega arith
 
-array_in : (vs : List Var) (n base len : ℕ) → CoverCells vs n → IsArrayOf vs base len → base + len ≤ n
+pub array_in : (vs : List Var) (n base len : ℕ) → CoverCells vs n → IsArrayOf vs base len → base + len ≤ n
 array_in vs n base len h g =
     let within : after g.1 ≤ n = subst (λ (v : Var). after v ≤ n) g.3 (h.within g.0 g.1 g.2) in
     let all : size g.1.len ≡ len = ap size g.4.1 in
@@ -58,7 +58,7 @@ names_within ss ls m n (or a b) lt hs hl h = (names_within ss ls m n a lt hs hl 
 
 -- ---- lists
 
-some_at : {X : Type 0} (Q : X → Type 0) (o : Option X) → IsSomeAnd o Q → (x : X) × (o ≡ Some x) × Q x
+pub some_at : {X : Type 0} (Q : X → Type 0) (o : Option X) → IsSomeAnd o Q → (x : X) × (o ≡ Some x) × Q x
 some_at Q None h = absurd h
 some_at Q (Some x) h = (x, refl, h)
 
@@ -67,7 +67,7 @@ get_at Q [] m x h e = absurd cc
 get_at Q (y ∷ ys) zero x h e = let is : y ≡ x = cc in subst Q is (h 0 y (omega arith))
 get_at Q (y ∷ ys) (suc m) x h e = get_at Q ys m x (λ k d lt. h (suc k) d (omega arith)) e
 
-each_of : {X : Type 0} (Q R : X → Type 0) (xs : List X) → ((x : X) → Q x → R x) → All Q xs → All R xs
+pub each_of : {X : Type 0} (Q R : X → Type 0) (xs : List X) → ((x : X) → Q x → R x) → All Q xs → All R xs
 each_of Q R xs f h = λ k d lt. f (get_or xs k d) (h k d lt)
 
 front : {X : Type 0} (Q : X → Type 0) (xs ys : List X) → All Q (xs ++ ys) → All Q xs

@@ -1,5 +1,5 @@
 -- Laws of evaluation, of needs and of steps.
-use Rattle.std.specs.Prelude.{◌≡◌, ◌≢◌, ◌≤ℤ◌, ◌<◌, ◌≤◌, ◌+◌, ℕ, ℤ, pos, negsuc, ◌+ℤ◌, ◌-ℤ◌, ◌*ℤ◌, neg_ℤ, unsigned_abs, List, length, Result, Ok, Err, Option}
+use Rattle.std.specs.Prelude.{◌≡◌, ◌≢◌, ◌≤ℤ◌, ◌<◌, ◌≤◌, ◌+◌, ℕ, ℤ, pos, negsuc, ◌+ℤ◌, ◌-ℤ◌, ◌*ℤ◌, neg_ℤ, unsigned_abs, List, length, Result, Ok, Err, Option, ⊤}
 use Rattle.ppd_ast.specs.declared.plan.Plan.{Plan}
 use Rattle.ppd_ast.specs.declared.program.Expr.{Expr}
 use Rattle.ppd_ast.specs.declared.program.Kind.TheVariants as kind
@@ -14,6 +14,7 @@ use Rattle.ppd_ast.specs.ValidPlan.{IsValidPlan}
 use Rattle.ppd_sem.specs.declared.asking.Pause.{Pause}
 use Rattle.ppd_sem.specs.declared.asking.Pause.TheVariants.{Traps}
 use Rattle.ppd_sem.specs.declared.proc.Answer.{Answer}
+use Rattle.ppd_sem.specs.declared.proc.Need.{Need}
 use Rattle.ppd_sem.specs.declared.proc.Need.TheVariants as need
 use Rattle.ppd_sem.specs.declared.proc.Proc.{Proc}
 use Rattle.ppd_sem.specs.declared.proc.Todo.{Todo}
@@ -106,3 +107,17 @@ pub record StepsEnd : Type 0 where
 -- the blocks and units of a plan that is valid for a valid program have numbers of 16 bits
 abbrev pub ValidIsNumbered : Type 0
 ValidIsNumbered = (program : Program) (plan : Plan) → IsValid program → IsValidPlan program plan → IsNumbered plan
+
+-- the shared cell, semaphore or channel that the need names is there
+abbrev pub NamesThere : Program → Need → Type 0
+NamesThere program (need.Read c) = c < length program.starts
+NamesThere program (need.Write c v) = c < length program.starts
+NamesThere program (need.P s u) = s < length program.sems
+NamesThere program (need.V s u) = s < length program.sems
+NamesThere program (need.Send c v u) = c < length program.chans
+NamesThere program (need.Recv c u) = c < length program.chans
+NamesThere program n = ⊤
+
+-- in every state of a valid program a need names only what is there
+abbrev pub NeedsAreThere : Type 0
+NeedsAreThere = (program : Program) (plan : Plan) (s : Proc) → IsValid program → NamesThere program (need_of program plan s)

@@ -1,4 +1,4 @@
-ghost use Rattle.ppd_sem.specs.Laws.{ArgumentsComeFirst, ArithmeticIsExact, DividesTowardZero, IndexComesFirst, StepsEnd, StopsEarly, ValidCanRun, ValidIsNumbered};
+ghost use Rattle.ppd_sem.specs.Laws.{ArgumentsComeFirst, ArithmeticIsExact, DividesTowardZero, IndexComesFirst, NeedsAreThere, StepsEnd, StopsEarly, ValidCanRun, ValidIsNumbered};
 
 // Laws of what the other calls give: each is the contract of a function that does nothing.
 
@@ -48,4 +48,10 @@ pub fn valid_is_numbered()
 #[tactic(auto, using(crate::proofs::Lawful::ends))]
 pub fn steps_end()
     ensures { StepsEnd }
+{}
+
+/// In every state of a valid program a need names only cells, semaphores and channels that are there.
+#[tactic(auto, using(crate::proofs::Lawful::named))]
+pub fn needs_are_there()
+    ensures { NeedsAreThere }
 {}

@@ -25,8 +25,8 @@ pub use describing::describe;
 pub use event::{Access, Event, Spot};
 pub use feeding::feed;
 pub use laws::{
-    arguments_come_first, arithmetic_is_exact, divides_toward_zero, index_comes_first, steps_end,
-    stops_early, valid_can_run, valid_is_numbered,
+    arguments_come_first, arithmetic_is_exact, divides_toward_zero, index_comes_first,
+    needs_are_there, steps_end, stops_early, valid_can_run, valid_is_numbered,
 };
 pub use looking::look;
 pub use passing::{call_values, local_cells, next_stmt, returned_value};

@@ -1,4 +1,9 @@
+pub mod Allowed
+pub mod Answering
 pub mod Comes
+pub mod Excluded
+pub mod Followed
+pub mod Outcomes
 pub mod Printed
 pub mod Processes
 pub mod Worded

@@ -9,7 +9,7 @@ use Rattle.ppd_ast.specs.declared.program.Program.{Program}
 use Rattle.ppd_check.specs.declared.error.SourceError.{SourceError}
 use Rattle.ppd_check.specs.declared.error.SourceError.TheVariants as source
 use Rattle.ppd_check.specs.Read.{IsRead, IsRefused}
-use Rattle.ppd_model.specs.Schedule.{IsOver, IsWhole, run}
+use Rattle.ppd_model.specs.Schedule.{IsWhole, run as run_of}
 use Rattle.ppd_model.specs.World.{World, enabled}
 use Rattle.ppd_top.specs.declared.options.Options.{Options}
 use Rattle.ppd_top.specs.declared.following.FollowError.{FollowError}
@@ -137,7 +137,7 @@ pub record Follows (bytes : List ℕ) (options : Options) (schedule : List ℕ) 
 -- number n of the schedule, the first such, names no process that can take a step
 pub record IsStuckAt (program : Program) (options : Options) (schedule : List ℕ) (n : ℕ) : Type 0 where
   pub world : World
-  pub runs : run program (plan_of program options) options.budget (take n schedule) ≡ Some world
+  pub runs : run_of program (plan_of program options) options.budget (take n schedule) ≡ Some world
   pub process : ℕ
   pub next : slice_get schedule n ≡ Some process
   pub stuck : enabled program (plan_of program options) world process ≡ false
@@ -145,7 +145,7 @@ pub record IsStuckAt (program : Program) (options : Options) (schedule : List �
 -- the schedule can be taken, and some process can take a step after it
 pub record IsUnfinished (program : Program) (options : Options) (schedule : List ℕ) : Type 0 where
   pub world : World
-  pub runs : run program (plan_of program options) options.budget schedule ≡ Some world
+  pub runs : run_of program (plan_of program options) options.budget schedule ≡ Some world
   pub process : ℕ
   pub next : enabled program (plan_of program options) world process ≡ true
 

@@ -59,7 +59,7 @@ fn follow_world(
         Ok(()) => {}
         Err(error) => return Err(drive_error(error)),
     }
-    if lowest_enabled(&world).is_some() {
+    if let Some(_process) = lowest_enabled(&world) {
         return Err(FollowError::NotWhole);
     }
     match close_run(alloc, program, options, world, schedule) {

@@ -2,6 +2,7 @@
 #![tactic(auto)]
 
 mod answer;
+mod call;
 mod following;
 mod options;
 mod refusal;
@@ -10,5 +11,6 @@ mod summary;
 mod text;
 mod words;
 
+pub use call::{Outcome, ppd};
 pub use following::{FollowError, follow};
 pub use options::Options;

@@ -91,8 +91,16 @@ left_it (Err x) program plan budget a a' b b' c c' ls ks e f g h =
 
 -- ---- answers of a step
 
+takes_step : (old now : Running) (p : ℕ) → can_step old p ≡ true → now ≡ stepped old p → Takes old (p ∷ []) now
+takes_step old now p can e = record {
+  program = ap (λ (x : Running). x.program) e;
+  plan = ap (λ (x : Running). x.plan) e;
+  budget = ap (λ (x : Running). x.budget) e;
+  comes = λ g o. subst (λ (x : Running). IsOf (g ++ p ∷ []) x) (sym e) (of_step g old p can o);
+}
+
 pub comes_by : {E : Type 0} (r : Result (Unit {0}) E) (old now : Running) (p : ℕ) → can_step old p ≡ true → OnOk r (now ≡ stepped old p) → OnOk r (Takes old (p ∷ []) now)
-comes_by (Ok u) old now p can e = λ g o. subst (λ (x : Running). IsOf (g ++ p ∷ []) x) (sym e) (of_step g old p can o)
+comes_by (Ok u) old now p can e = takes_step old now p can e
 comes_by (Err x) old now p can e = tt
 
 pub kept_by : {E : Type 0} (r : Result (Unit {0}) E) (old now : Running) (p : ℕ) → can_step old p ≡ true → OnOk r (now ≡ stepped old p) → OnErr r (now ≡ old) → IsReached old → IsReached now
@@ -102,13 +110,18 @@ kept_by (Err x) old now p can e f h = subst (λ (x : Running). IsReached x) (sym
 -- ---- driving
 
 pub takes_none : (r : Running) (h : List ℕ) → Takes r (take 0 h) r
-takes_none r h = λ g o. subst (λ (l : List ℕ). IsOf l r) (sym (append-nil g)) o
+takes_none r h = record { program = refl; plan = refl; budget = refl; comes = λ g o. subst (λ (l : List ℕ). IsOf l r) (sym (append-nil g)) o }
 
 pub takes_more : (old now next : Running) (h : List ℕ) (i p : ℕ) → i < length h → p ≡ get_or h i p → Takes old (take i h) now → Takes now (p ∷ []) next → Takes old (take (i + 1) h) next
-takes_more old now next h i p lt is before after = λ g o.
-    let one : IsOf ((g ++ take i h) ++ p ∷ []) next = after (g ++ take i h) (before g o) in
-    let more : take (i + 1) h ≡ take i h ++ p ∷ [] = take_more h i p lt ∙ ap (λ (x : ℕ). take i h ++ x ∷ []) (sym is) in
-    subst (λ (l : List ℕ). IsOf l next) (append_assoc g (take i h) (p ∷ []) ∙ ap (λ (l : List ℕ). g ++ l) (sym more)) one
+takes_more old now next h i p lt is before after = record {
+  program = after.program ∙ before.program;
+  plan = after.plan ∙ before.plan;
+  budget = after.budget ∙ before.budget;
+  comes = λ g o.
+      let one : IsOf ((g ++ take i h) ++ p ∷ []) next = after.comes (g ++ take i h) (before.comes g o) in
+      let more : take (i + 1) h ≡ take i h ++ p ∷ [] = take_more h i p lt ∙ ap (λ (x : ℕ). take i h ++ x ∷ []) (sym is) in
+      subst (λ (l : List ℕ). IsOf l next) (append_assoc g (take i h) (p ∷ []) ∙ ap (λ (l : List ℕ). g ++ l) (sym more)) one;
+}
 
 pub fewer_left : (r now : Running) (p : ℕ) → IsReached r → can_step r p ≡ true → now ≡ stepped r p → steps_left now.world.procs + 1 ≤ steps_left r.world.procs
 fewer_left r now p h can e = subst (λ (x : Running). steps_left x.world.procs + 1 ≤ steps_left r.world.procs) (sym e) (left_less r p can (reached_sound r h))
@@ -132,7 +145,7 @@ pub driven_whole : (old now : Running) (h : List ℕ) (i : ℕ) → length h ≤
 driven_whole old now h i lt t = subst (λ (l : List ℕ). Takes old l now) (take_all i h lt) t
 
 pub takes_followed : (r now : Running) (p : ℕ) → IsFollowed r p now → Takes r (p ∷ []) now
-takes_followed r now p f = λ g o. subst (λ (x : Running). IsOf (g ++ p ∷ []) x) (sym f.stepped_to) (of_step g r p f.enabled o)
+takes_followed r now p f = takes_step r now p f.enabled f.stepped_to
 
 pub followed_by : (r : Result (Unit {0}) MemoryOf) (old now : Running) (p : ℕ) → can_step old p ≡ true → OnOk r (now ≡ stepped old p) → OnOk r (IsFollowed old p now)
 followed_by (Ok u) old now p can e = record { enabled = can; stepped_to = e }

@@ -61,8 +61,11 @@ abbrev pub can_step : Running → ℕ → Bool
 can_step r p = enabled r.program r.plan r.world p
 
 -- from the first to the second world the steps of this schedule were taken, each by an enabled process
-abbrev pub Takes : Running → List ℕ → Running → Type 0
-Takes before h after = (g : List ℕ) → IsOf g before → IsOf (g ++ h) after
+pub record Takes (before : Running) (h : List ℕ) (after : Running) : Type 0 where
+  pub program : after.program ≡ before.program
+  pub plan : after.plan ≡ before.plan
+  pub budget : after.budget ≡ before.budget
+  pub comes : (g : List ℕ) → IsOf g before → IsOf (g ++ h) after
 
 -- process p, which was enabled, took its step
 pub record IsFollowed (before : Running) (p : ℕ) (after : Running) : Type 0 where

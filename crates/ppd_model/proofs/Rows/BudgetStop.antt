@@ -1,6 +1,6 @@
 -- process a { int i; while (1) { i = i + 1; } } with a budget of 5
 use Rattle.std.proofs.Common.{◌≡◌, refl}
-use Rattle.std.specs.Prelude.{ℕ, zero, suc, pos, true, false, List, [], ◌∷◌, map, Some, None}
+use Rattle.std.specs.Prelude.{ℕ, zero, suc, pos, true, false, List, [], ◌∷◌, Some, None}
 use Rattle.ppd_ast.specs.Term.{terms}
 use Rattle.ppd_ast.specs.declared.plan.BlockKind.TheVariants as block
 use Rattle.ppd_ast.specs.declared.plan.Plan.{Plan}
@@ -14,13 +14,18 @@ use Rattle.ppd_ast.specs.declared.status.Status.TheVariants as status
 use Rattle.ppd_entry.specs.declared.entry.Entry.TheVariants as entry
 use Rattle.ppd_sem.specs.declared.event.Spot.TheVariants.{Local}
 use Rattle.ppd_model.specs.declared.flow.Item.TheVariants.{Own}
+use Rattle.ppd_model.specs.declared.flow.Origin.TheVariants.{Entry, Item as ItemAt}
+use Rattle.ppd_model.specs.declared.trace.TracedEvent.{TracedEvent}
 use Rattle.ppd_model.specs.World.{enabled}
 use Rattle.ppd_model.specs.Schedule.{IsWhole}
 use Rattle.ppd_model.specs.Story.{Story, story, told}
+use Rattle.ppd_model.specs.FullTrace.{full_trace}
+use Rattle.ppd_model.specs.Record.{accesses, sync_record}
 use Rattle.ppd_model.specs.Races.{races}
 use Rattle.ppd_model.specs.Logs.{close, logs}
-use Rattle.ppd_model.specs.Intervals.{intervals, items}
-use Rattle.ppd_model.proofs.Rows.Tables.{stmt_in, scalar, body_of, block_of, unit_of, access, event, ended}
+use Rattle.ppd_model.specs.Intervals.{items}
+use Rattle.ppd_model.proofs.Rows.Tables.{stmt_in, scalar, body_of, block_of, unit_of, access, event, id, traced, ended, read_from, control_from}
+use Rattle.ppd_model.proofs.Rows.Showing.{extent, extents, whys, nears}
 
 abbrev pub program : Program
 program = record {
@@ -64,18 +69,59 @@ pub ends : (close program plan 5 schedule).ends ≡ ended status.Budget 1 5 [] �
 unfolding terms
 ends = refl
 
+abbrev pub events_a : List TracedEvent
+events_a =
+    traced (event 0 [] (access (Local 0 0) (pos 0) ∷ []) None None None) [] None None
+    ∷ traced (event 1 [] [] (Some (pos 1)) None None) [] None None
+    ∷ traced (event 2 (access (Local 0 0) (pos 0) ∷ []) (access (Local 0 0) (pos 1) ∷ []) None None None) (Some (id 0 0) ∷ []) (Some (id 0 1)) None
+    ∷ traced (event 1 [] [] (Some (pos 1)) None None) [] (Some (id 0 1)) None
+    ∷ traced (event 2 (access (Local 0 0) (pos 1) ∷ []) (access (Local 0 0) (pos 2) ∷ []) None None None) (Some (id 0 2) ∷ []) (Some (id 0 3)) None ∷ []
+
+pub trace : full_trace program plan 5 schedule ≡ record { events = events_a ∷ [] }
+unfolding terms
+trace = refl
+
+pub synchronizations : sync_record program plan 5 schedule ≡ [] ∷ []
+unfolding terms
+synchronizations = refl
+
+pub accesses_a : accesses the_story 0 ≡ []
+unfolding terms
+accesses_a = refl
+
 pub race_list : races program plan 5 schedule ≡ []
 unfolding terms
 race_list = refl
 
-pub open_a_0 : items program plan 5 the_story 0 0 ≡ Some (Own (event 0 [] (access (Local 0 0) (pos 0) ∷ []) None None None) ∷ Own (event 1 [] [] (Some (pos 1)) None None) ∷ Own (event 2 (access (Local 0 0) (pos 0) ∷ []) (access (Local 0 0) (pos 1) ∷ []) None None None) ∷ Own (event 1 [] [] (Some (pos 1)) None None) ∷ Own (event 2 (access (Local 0 0) (pos 1) ∷ []) (access (Local 0 0) (pos 2) ∷ []) None None None) ∷ [])
+pub log : (logs program plan 5 schedule).lists ≡
+    (entry.Prelog 0 [] ∷ entry.Unit 0 [] ∷ entry.End status.Budget 5 [] [] ∷ []) ∷ []
+unfolding terms
+log = refl
+
+pub extents_a : extents program plan 5 the_story 0 ≡
+    extent 0 [] 0 None 5 ∷ []
+unfolding terms
+extents_a = refl
+
+pub open_a_0 : items program plan 5 the_story 0 0 ≡
+    Some (Own (event 0 [] (access (Local 0 0) (pos 0) ∷ []) None None None)
+    ∷ Own (event 1 [] [] (Some (pos 1)) None None)
+    ∷ Own (event 2 (access (Local 0 0) (pos 0) ∷ []) (access (Local 0 0) (pos 1) ∷ []) None None None)
+    ∷ Own (event 1 [] [] (Some (pos 1)) None None)
+    ∷ Own (event 2 (access (Local 0 0) (pos 1) ∷ []) (access (Local 0 0) (pos 2) ∷ []) None None None) ∷ [])
 unfolding terms
 open_a_0 = refl
 
-pub steps_a : map (λ i. i.steps) (intervals program plan 5 the_story 0) ≡ 5 ∷ []
+pub whys_a_0 : whys program plan 5 the_story 0 0 6 ≡
+    Some (control_from Entry ∷ [])
+    ∷ Some (control_from Entry ∷ [])
+    ∷ Some (read_from (Local 0 0) (pos 0) (ItemAt 0 0 0) ∷ control_from (ItemAt 0 0 1) ∷ [])
+    ∷ Some (control_from (ItemAt 0 0 1) ∷ [])
+    ∷ Some (read_from (Local 0 0) (pos 1) (ItemAt 0 0 2) ∷ control_from (ItemAt 0 0 3) ∷ [])
+    ∷ None ∷ []
 unfolding terms
-steps_a = refl
+whys_a_0 = refl
 
-pub log : (logs program plan 5 schedule).lists ≡ (entry.Prelog 0 [] ∷ entry.Unit 0 [] ∷ entry.End status.Budget 5 [] [] ∷ []) ∷ []
+pub nears_a_0 : nears program plan 5 the_story 0 0 5 ≡ 5 ∷ 5 ∷ 5 ∷ 5 ∷ 5 ∷ []
 unfolding terms
-log = refl
+nears_a_0 = refl

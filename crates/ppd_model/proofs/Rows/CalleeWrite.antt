@@ -1,6 +1,6 @@
 -- shared int x; void f() { x = 4; } process a { x = 1; f(); print(x); }
 use Rattle.std.proofs.Common.{◌≡◌, refl}
-use Rattle.std.specs.Prelude.{ℕ, zero, suc, pos, true, false, List, [], ◌∷◌, map, Some, None}
+use Rattle.std.specs.Prelude.{ℕ, zero, suc, pos, true, false, List, [], ◌∷◌, Some, None}
 use Rattle.ppd_ast.specs.Term.{terms}
 use Rattle.ppd_ast.specs.declared.plan.BlockKind.TheVariants as block
 use Rattle.ppd_ast.specs.declared.plan.Plan.{Plan}
@@ -14,15 +14,18 @@ use Rattle.ppd_entry.specs.declared.entry.Entry.TheVariants as entry
 use Rattle.ppd_sem.specs.declared.event.Spot.TheVariants.{Shared}
 use Rattle.ppd_model.specs.declared.flow.Item.TheVariants.{Own, Nested}
 use Rattle.ppd_model.specs.declared.flow.Origin.TheVariants.{Entry, Item as ItemAt}
+use Rattle.ppd_model.specs.declared.trace.TracedEvent.{TracedEvent}
 use Rattle.ppd_model.specs.World.{enabled}
 use Rattle.ppd_model.specs.Schedule.{IsWhole}
 use Rattle.ppd_model.specs.Story.{Story, story, told}
+use Rattle.ppd_model.specs.FullTrace.{full_trace}
+use Rattle.ppd_model.specs.Record.{accesses, sync_record}
 use Rattle.ppd_model.specs.Races.{races}
 use Rattle.ppd_model.specs.Logs.{close, logs}
-use Rattle.ppd_model.specs.Intervals.{intervals, items}
-use Rattle.ppd_model.specs.FlowbackEdges.{edges}
-use Rattle.ppd_model.specs.NearIntervals.{near_steps}
-use Rattle.ppd_model.proofs.Rows.Tables.{stmt_in, scalar, body_of, block_of, unit_of, access, event, ended, read_from, control_from}
+use Rattle.ppd_model.specs.Intervals.{items}
+use Rattle.ppd_model.specs.FlowbackEdges.{last}
+use Rattle.ppd_model.proofs.Rows.Tables.{stmt_in, scalar, body_of, block_of, unit_of, access, event, quiet, id, traced, ended, read_from, control_from}
+use Rattle.ppd_model.proofs.Rows.Showing.{touched, extent, extents, whys, nears}
 
 abbrev pub program : Program
 program = record {
@@ -68,44 +71,82 @@ pub ends : (close program plan 100000 schedule).ends ≡ ended status.Ended 5 7 
 unfolding terms
 ends = refl
 
+abbrev pub events_a : List TracedEvent
+events_a =
+    traced (event 2 [] (access (Shared 0) (pos 1) ∷ []) None None None) [] None None
+    ∷ traced (quiet 3) [] None None
+    ∷ traced (event 0 [] (access (Shared 0) (pos 4) ∷ []) None None None) [] (Some (id 0 1)) None
+    ∷ traced (quiet 1) [] (Some (id 0 1)) None
+    ∷ traced (event 4 (access (Shared 0) (pos 4) ∷ []) [] (Some (pos 4)) None None) (Some (id 0 2) ∷ []) None None
+    ∷ traced (quiet 5) [] None None ∷ []
+
+pub trace : full_trace program plan 100000 schedule ≡ record { events = events_a ∷ [] }
+unfolding terms
+trace = refl
+
+pub synchronizations : sync_record program plan 100000 schedule ≡ [] ∷ []
+unfolding terms
+synchronizations = refl
+
+pub accesses_a : accesses the_story 0 ≡ touched 0 0 true ∷ touched 0 0 true ∷ touched 0 0 false ∷ []
+unfolding terms
+accesses_a = refl
+
 pub race_list : races program plan 100000 schedule ≡ []
 unfolding terms
 race_list = refl
 
-pub blocks_a : map (λ i. i.block) (intervals program plan 100000 the_story 0) ≡ 1 ∷ 0 ∷ []
+pub log : (logs program plan 100000 schedule).lists ≡
+    (entry.Prelog 1 [] ∷ entry.Unit 1 [] ∷ entry.Prelog 0 [] ∷ entry.Unit 0 [] ∷ entry.Postlog 0 [] ∷ entry.Unit 2 (pos 4 ∷ []) ∷ entry.Postlog 1 [] ∷ entry.End status.Ended 2 (0 ∷ []) (0 ∷ []) ∷ []) ∷ []
 unfolding terms
-blocks_a = refl
+log = refl
 
--- the own steps of the two intervals
-pub steps_a : map (λ i. i.steps) (intervals program plan 100000 the_story 0) ≡ 5 ∷ 2 ∷ []
+pub extents_a : extents program plan 100000 the_story 0 ≡
+    extent 1 [] 0 (Some 6) 5
+    ∷ extent 0 (0 ∷ []) 1 (Some 3) 2 ∷ []
 unfolding terms
-steps_a = refl
+extents_a = refl
 
-pub open_a_0 : items program plan 100000 the_story 0 0 ≡ Some (Own (event 2 [] (access (Shared 0) (pos 1) ∷ []) None None None) ∷ Own (event 3 [] [] None None None) ∷ Nested 1 0 [] true ∷ Own (event 4 (access (Shared 0) (pos 4) ∷ []) [] (Some (pos 4)) None None) ∷ Own (event 5 [] [] None None None) ∷ [])
+pub open_a_0 : items program plan 100000 the_story 0 0 ≡
+    Some (Own (event 2 [] (access (Shared 0) (pos 1) ∷ []) None None None)
+    ∷ Own (quiet 3)
+    ∷ Nested 1 0 [] true
+    ∷ Own (event 4 (access (Shared 0) (pos 4) ∷ []) [] (Some (pos 4)) None None)
+    ∷ Own (quiet 5) ∷ [])
 unfolding terms
 open_a_0 = refl
 
-pub open_a_1 : items program plan 100000 the_story 0 1 ≡ Some (Own (event 0 [] (access (Shared 0) (pos 4) ∷ []) None None None) ∷ Own (event 1 [] [] None None None) ∷ [])
+pub open_a_1 : items program plan 100000 the_story 0 1 ≡
+    Some (Own (event 0 [] (access (Shared 0) (pos 4) ∷ []) None None None)
+    ∷ Own (quiet 1) ∷ [])
 unfolding terms
 open_a_1 = refl
 
-pub why_a_0_2 : edges program plan 100000 the_story 0 0 2 ≡ Some (control_from (ItemAt 0 0 1) ∷ [])
+pub whys_a_0 : whys program plan 100000 the_story 0 0 6 ≡
+    Some (control_from Entry ∷ [])
+    ∷ Some (control_from Entry ∷ [])
+    ∷ Some (control_from (ItemAt 0 0 1) ∷ [])
+    ∷ Some (read_from (Shared 0) (pos 4) (ItemAt 0 1 0) ∷ control_from Entry ∷ [])
+    ∷ Some (control_from Entry ∷ [])
+    ∷ None ∷ []
 unfolding terms
-why_a_0_2 = refl
+whys_a_0 = refl
 
-pub why_a_0_3 : edges program plan 100000 the_story 0 0 3 ≡ Some (read_from (Shared 0) (pos 4) (ItemAt 0 1 0) ∷ control_from Entry ∷ [])
+pub whys_a_1 : whys program plan 100000 the_story 0 1 3 ≡
+    Some (control_from (ItemAt 0 0 1) ∷ [])
+    ∷ Some (control_from (ItemAt 0 0 1) ∷ [])
+    ∷ None ∷ []
 unfolding terms
-why_a_0_3 = refl
+whys_a_1 = refl
 
-pub why_a_1_0 : edges program plan 100000 the_story 0 1 0 ≡ Some (control_from (ItemAt 0 0 1) ∷ [])
+pub nears_a_0 : nears program plan 100000 the_story 0 0 5 ≡ 7 ∷ 7 ∷ 7 ∷ 7 ∷ 7 ∷ []
 unfolding terms
-why_a_1_0 = refl
+nears_a_0 = refl
 
--- the call's interval is near to the print after it, since both lie in one edge
-pub near_a_0_3 : near_steps program plan 100000 the_story 0 0 3 ≡ 7
+pub nears_a_1 : nears program plan 100000 the_story 0 1 2 ≡ 7 ∷ 7 ∷ []
 unfolding terms
-near_a_0_3 = refl
+nears_a_1 = refl
 
-pub log : (logs program plan 100000 schedule).lists ≡ (entry.Prelog 1 [] ∷ entry.Unit 1 [] ∷ entry.Prelog 0 [] ∷ entry.Unit 0 [] ∷ entry.Postlog 0 [] ∷ entry.Unit 2 (pos 4 ∷ []) ∷ entry.Postlog 1 [] ∷ entry.End status.Ended 2 (0 ∷ []) (0 ∷ []) ∷ []) ∷ []
+pub final_x : last program plan 100000 the_story 0 ≡ (pos 4, ItemAt 0 1 0)
 unfolding terms
-log = refl
+final_x = refl

@@ -11,13 +11,18 @@ use Rattle.ppd_ast.specs.declared.status.Status.TheVariants as status
 use Rattle.ppd_ast.specs.declared.status.SyncKind.TheVariants as sync
 use Rattle.ppd_entry.specs.declared.entry.Entry.TheVariants as entry
 use Rattle.ppd_model.specs.declared.flow.Item.TheVariants.{Own}
+use Rattle.ppd_model.specs.declared.flow.Origin.TheVariants.{Initial, Entry}
+use Rattle.ppd_model.specs.declared.trace.TracedEvent.{TracedEvent}
 use Rattle.ppd_model.specs.World.{enabled}
 use Rattle.ppd_model.specs.Schedule.{IsWhole, run}
 use Rattle.ppd_model.specs.Story.{Story, story, told}
+use Rattle.ppd_model.specs.FullTrace.{full_trace}
+use Rattle.ppd_model.specs.Record.{accesses, sync_record}
 use Rattle.ppd_model.specs.Races.{races}
 use Rattle.ppd_model.specs.Logs.{close, kept_logs, logs}
 use Rattle.ppd_model.specs.Intervals.{items}
-use Rattle.ppd_model.proofs.Rows.Tables.{stmt_in, body_of, block_of, unit_of, event, ended}
+use Rattle.ppd_model.proofs.Rows.Tables.{stmt_in, body_of, block_of, unit_of, event, traced, ended, sync_from, control_from}
+use Rattle.ppd_model.proofs.Rows.Showing.{synced, extent, extents, whys, nears}
 
 abbrev pub program : Program
 program = record {
@@ -64,17 +69,79 @@ pub ends : (close program plan 100000 schedule).ends ≡ ended status.Blocked 1 
 unfolding terms
 ends = refl
 
+abbrev pub events_a : List TracedEvent
+events_a =
+    traced (event 0 [] [] None (Some 1) None) [] None None ∷ []
+
+abbrev pub events_b : List TracedEvent
+events_b =
+    traced (event 3 [] [] None (Some 1) None) [] None None ∷ []
+
+pub trace : full_trace program plan 100000 schedule ≡ record { events = events_a ∷ events_b ∷ [] }
+unfolding terms
+trace = refl
+
+pub synchronizations : sync_record program plan 100000 schedule ≡ (synced sync.P 0 1 ∷ []) ∷ (synced sync.P 1 1 ∷ []) ∷ []
+unfolding terms
+synchronizations = refl
+
+pub accesses_a : accesses the_story 0 ≡ []
+unfolding terms
+accesses_a = refl
+
+pub accesses_b : accesses the_story 1 ≡ []
+unfolding terms
+accesses_b = refl
+
 pub race_list : races program plan 100000 schedule ≡ []
 unfolding terms
 race_list = refl
 
-pub open_a_0 : items program plan 100000 the_story 0 0 ≡ Some (Own (event 0 [] [] None (Some 1) None) ∷ [])
+pub log : (logs program plan 100000 schedule).lists ≡
+    (entry.Prelog 0 [] ∷ entry.Unit 0 [] ∷ entry.Sync sync.P 0 1 (pos 0) [] [] ∷ entry.Unit 1 [] ∷ entry.End status.Blocked 0 [] [] ∷ [])
+    ∷ (entry.Prelog 1 [] ∷ entry.Unit 3 [] ∷ entry.Sync sync.P 1 1 (pos 0) [] [] ∷ entry.Unit 4 [] ∷ entry.End status.Blocked 0 [] [] ∷ []) ∷ []
+unfolding terms
+log = refl
+
+pub extents_a : extents program plan 100000 the_story 0 ≡
+    extent 0 [] 0 None 1 ∷ []
+unfolding terms
+extents_a = refl
+
+pub extents_b : extents program plan 100000 the_story 1 ≡
+    extent 1 [] 0 None 1 ∷ []
+unfolding terms
+extents_b = refl
+
+pub open_a_0 : items program plan 100000 the_story 0 0 ≡
+    Some (Own (event 0 [] [] None (Some 1) None) ∷ [])
 unfolding terms
 open_a_0 = refl
 
-pub log : (logs program plan 100000 schedule).lists ≡ (entry.Prelog 0 [] ∷ entry.Unit 0 [] ∷ entry.Sync sync.P 0 1 (pos 0) [] [] ∷ entry.Unit 1 [] ∷ entry.End status.Blocked 0 [] [] ∷ []) ∷ (entry.Prelog 1 [] ∷ entry.Unit 3 [] ∷ entry.Sync sync.P 1 1 (pos 0) [] [] ∷ entry.Unit 4 [] ∷ entry.End status.Blocked 0 [] [] ∷ []) ∷ []
+pub open_b_0 : items program plan 100000 the_story 1 0 ≡
+    Some (Own (event 3 [] [] None (Some 1) None) ∷ [])
 unfolding terms
-log = refl
+open_b_0 = refl
+
+pub whys_a_0 : whys program plan 100000 the_story 0 0 2 ≡
+    Some (sync_from Initial ∷ control_from Entry ∷ [])
+    ∷ None ∷ []
+unfolding terms
+whys_a_0 = refl
+
+pub whys_b_0 : whys program plan 100000 the_story 1 0 2 ≡
+    Some (sync_from Initial ∷ control_from Entry ∷ [])
+    ∷ None ∷ []
+unfolding terms
+whys_b_0 = refl
+
+pub nears_a_0 : nears program plan 100000 the_story 0 0 1 ≡ 1 ∷ []
+unfolding terms
+nears_a_0 = refl
+
+pub nears_b_0 : nears program plan 100000 the_story 1 0 1 ≡ 1 ∷ []
+unfolding terms
+nears_b_0 = refl
 
 -- before the run is closed
 pub kept : (kept_logs program plan 100000 schedule).lists ≡ (entry.Prelog 0 [] ∷ entry.Unit 0 [] ∷ entry.Sync sync.P 0 1 (pos 0) [] [] ∷ entry.Unit 1 [] ∷ []) ∷ (entry.Prelog 1 [] ∷ entry.Unit 3 [] ∷ entry.Sync sync.P 1 1 (pos 0) [] [] ∷ entry.Unit 4 [] ∷ []) ∷ []

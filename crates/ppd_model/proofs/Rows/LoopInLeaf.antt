@@ -1,6 +1,6 @@
 -- shared int x; void f(int k) { while (x < k) { x = x + 1; } } process a { f(2); print(x); }
 use Rattle.std.proofs.Common.{◌≡◌, refl}
-use Rattle.std.specs.Prelude.{ℕ, zero, suc, pos, true, false, List, [], ◌∷◌, map, Some, None}
+use Rattle.std.specs.Prelude.{ℕ, zero, suc, pos, true, false, List, [], ◌∷◌, Some, None}
 use Rattle.ppd_ast.specs.Term.{terms}
 use Rattle.ppd_ast.specs.declared.plan.BlockKind.TheVariants as block
 use Rattle.ppd_ast.specs.declared.plan.Plan.{Plan}
@@ -14,14 +14,19 @@ use Rattle.ppd_ast.specs.declared.status.Status.TheVariants as status
 use Rattle.ppd_entry.specs.declared.entry.Entry.TheVariants as entry
 use Rattle.ppd_sem.specs.declared.event.Spot.TheVariants.{Local, Shared}
 use Rattle.ppd_model.specs.declared.flow.Item.TheVariants.{Own, Nested}
-use Rattle.ppd_model.specs.declared.flow.Origin.TheVariants.{Entry, Item as ItemAt}
+use Rattle.ppd_model.specs.declared.flow.Origin.TheVariants.{Initial, Entry, Item as ItemAt}
+use Rattle.ppd_model.specs.declared.trace.TracedEvent.{TracedEvent}
 use Rattle.ppd_model.specs.World.{enabled}
 use Rattle.ppd_model.specs.Schedule.{IsWhole}
 use Rattle.ppd_model.specs.Story.{Story, story, told}
+use Rattle.ppd_model.specs.FullTrace.{full_trace}
+use Rattle.ppd_model.specs.Record.{accesses, sync_record}
+use Rattle.ppd_model.specs.Races.{races}
 use Rattle.ppd_model.specs.Logs.{close, logs}
-use Rattle.ppd_model.specs.Intervals.{intervals, items}
-use Rattle.ppd_model.specs.FlowbackEdges.{edges}
-use Rattle.ppd_model.proofs.Rows.Tables.{stmt_in, scalar, body_of, block_of, unit_of, access, event, ended, read_from, control_from}
+use Rattle.ppd_model.specs.Intervals.{items}
+use Rattle.ppd_model.specs.FlowbackEdges.{last}
+use Rattle.ppd_model.proofs.Rows.Tables.{stmt_in, scalar, body_of, block_of, unit_of, access, event, quiet, id, traced, ended, read_from, control_from}
+use Rattle.ppd_model.proofs.Rows.Showing.{touched, extent, extents, whys, nears}
 
 abbrev pub program : Program
 program = record {
@@ -68,30 +73,91 @@ pub ends : (close program plan 100000 schedule).ends ≡ ended status.Ended 5 16
 unfolding terms
 ends = refl
 
-pub open_a_0 : items program plan 100000 the_story 0 0 ≡ Some (Own (event 3 [] (access (Local 1 0) (pos 2) ∷ []) None None None) ∷ Nested 1 0 [] true ∷ Own (event 2 [] [] None None None) ∷ Own (event 4 (access (Shared 0) (pos 2) ∷ []) [] (Some (pos 2)) None None) ∷ Own (event 5 [] [] None None None) ∷ [])
+abbrev pub events_a : List TracedEvent
+events_a =
+    traced (event 3 [] (access (Local 1 0) (pos 2) ∷ []) None None None) [] None None
+    ∷ traced (event 0 (access (Shared 0) (pos 0) ∷ access (Local 0 0) (pos 2) ∷ []) [] (Some (pos 1)) None None) (None ∷ Some (id 0 0) ∷ []) (Some (id 0 0)) None
+    ∷ traced (event 1 (access (Shared 0) (pos 0) ∷ []) (access (Shared 0) (pos 1) ∷ []) None None None) (None ∷ []) (Some (id 0 1)) None
+    ∷ traced (event 0 (access (Shared 0) (pos 1) ∷ access (Local 0 0) (pos 2) ∷ []) [] (Some (pos 1)) None None) (Some (id 0 2) ∷ Some (id 0 0) ∷ []) (Some (id 0 1)) None
+    ∷ traced (event 1 (access (Shared 0) (pos 1) ∷ []) (access (Shared 0) (pos 2) ∷ []) None None None) (Some (id 0 2) ∷ []) (Some (id 0 3)) None
+    ∷ traced (event 0 (access (Shared 0) (pos 2) ∷ access (Local 0 0) (pos 2) ∷ []) [] (Some (pos 0)) None None) (Some (id 0 4) ∷ Some (id 0 0) ∷ []) (Some (id 0 3)) None
+    ∷ traced (quiet 2) [] (Some (id 0 0)) None
+    ∷ traced (event 4 (access (Shared 0) (pos 2) ∷ []) [] (Some (pos 2)) None None) (Some (id 0 4) ∷ []) None None
+    ∷ traced (quiet 5) [] None None ∷ []
+
+pub trace : full_trace program plan 100000 schedule ≡ record { events = events_a ∷ [] }
+unfolding terms
+trace = refl
+
+pub synchronizations : sync_record program plan 100000 schedule ≡ [] ∷ []
+unfolding terms
+synchronizations = refl
+
+pub accesses_a : accesses the_story 0 ≡ touched 0 0 false ∷ touched 0 0 false ∷ touched 0 0 true ∷ touched 0 0 false ∷ touched 0 0 false ∷ touched 0 0 true ∷ touched 0 0 false ∷ touched 0 0 false ∷ []
+unfolding terms
+accesses_a = refl
+
+pub race_list : races program plan 100000 schedule ≡ []
+unfolding terms
+race_list = refl
+
+pub log : (logs program plan 100000 schedule).lists ≡
+    (entry.Prelog 1 [] ∷ entry.Unit 3 [] ∷ entry.Unit 0 [] ∷ entry.Prelog 0 (pos 2 ∷ []) ∷ entry.Unit 1 (pos 0 ∷ []) ∷ entry.Postlog 0 [] ∷ entry.Unit 2 [] ∷ entry.Unit 4 (pos 2 ∷ []) ∷ entry.Postlog 1 [] ∷ entry.End status.Ended 2 (0 ∷ []) (0 ∷ []) ∷ []) ∷ []
+unfolding terms
+log = refl
+
+pub extents_a : extents program plan 100000 the_story 0 ≡
+    extent 1 [] 0 (Some 15) 6
+    ∷ extent 0 (0 ∷ []) 1 (Some 11) 10 ∷ []
+unfolding terms
+extents_a = refl
+
+pub open_a_0 : items program plan 100000 the_story 0 0 ≡
+    Some (Own (event 3 [] (access (Local 1 0) (pos 2) ∷ []) None None None)
+    ∷ Nested 1 0 [] true
+    ∷ Own (quiet 2)
+    ∷ Own (event 4 (access (Shared 0) (pos 2) ∷ []) [] (Some (pos 2)) None None)
+    ∷ Own (quiet 5) ∷ [])
 unfolding terms
 open_a_0 = refl
 
-pub open_a_1 : items program plan 100000 the_story 0 1 ≡ Some (Own (event 0 (access (Shared 0) (pos 0) ∷ access (Local 0 0) (pos 2) ∷ []) [] (Some (pos 1)) None None) ∷ Own (event 1 (access (Shared 0) (pos 0) ∷ []) (access (Shared 0) (pos 1) ∷ []) None None None) ∷ Own (event 0 (access (Shared 0) (pos 1) ∷ access (Local 0 0) (pos 2) ∷ []) [] (Some (pos 1)) None None) ∷ Own (event 1 (access (Shared 0) (pos 1) ∷ []) (access (Shared 0) (pos 2) ∷ []) None None None) ∷ Own (event 0 (access (Shared 0) (pos 2) ∷ access (Local 0 0) (pos 2) ∷ []) [] (Some (pos 0)) None None) ∷ [])
+pub open_a_1 : items program plan 100000 the_story 0 1 ≡
+    Some (Own (event 0 (access (Shared 0) (pos 0) ∷ access (Local 0 0) (pos 2) ∷ []) [] (Some (pos 1)) None None)
+    ∷ Own (event 1 (access (Shared 0) (pos 0) ∷ []) (access (Shared 0) (pos 1) ∷ []) None None None)
+    ∷ Own (event 0 (access (Shared 0) (pos 1) ∷ access (Local 0 0) (pos 2) ∷ []) [] (Some (pos 1)) None None)
+    ∷ Own (event 1 (access (Shared 0) (pos 1) ∷ []) (access (Shared 0) (pos 2) ∷ []) None None None)
+    ∷ Own (event 0 (access (Shared 0) (pos 2) ∷ access (Local 0 0) (pos 2) ∷ []) [] (Some (pos 0)) None None) ∷ [])
 unfolding terms
 open_a_1 = refl
 
-pub steps_a : map (λ i. i.steps) (intervals program plan 100000 the_story 0) ≡ 6 ∷ 10 ∷ []
+pub whys_a_0 : whys program plan 100000 the_story 0 0 6 ≡
+    Some (control_from Entry ∷ [])
+    ∷ Some (control_from (ItemAt 0 0 0) ∷ [])
+    ∷ Some (control_from (ItemAt 0 0 0) ∷ [])
+    ∷ Some (read_from (Shared 0) (pos 2) (ItemAt 0 1 3) ∷ control_from Entry ∷ [])
+    ∷ Some (control_from Entry ∷ [])
+    ∷ None ∷ []
 unfolding terms
-steps_a = refl
+whys_a_0 = refl
 
-pub why_a_0_1 : edges program plan 100000 the_story 0 0 1 ≡ Some (control_from (ItemAt 0 0 0) ∷ [])
+pub whys_a_1 : whys program plan 100000 the_story 0 1 6 ≡
+    Some (read_from (Shared 0) (pos 0) Initial ∷ read_from (Local 0 0) (pos 2) (ItemAt 0 0 0) ∷ control_from (ItemAt 0 0 0) ∷ [])
+    ∷ Some (read_from (Shared 0) (pos 0) Initial ∷ control_from (ItemAt 0 1 0) ∷ [])
+    ∷ Some (read_from (Shared 0) (pos 1) (ItemAt 0 1 1) ∷ read_from (Local 0 0) (pos 2) (ItemAt 0 0 0) ∷ control_from (ItemAt 0 1 0) ∷ [])
+    ∷ Some (read_from (Shared 0) (pos 1) (ItemAt 0 1 1) ∷ control_from (ItemAt 0 1 2) ∷ [])
+    ∷ Some (read_from (Shared 0) (pos 2) (ItemAt 0 1 3) ∷ read_from (Local 0 0) (pos 2) (ItemAt 0 0 0) ∷ control_from (ItemAt 0 1 2) ∷ [])
+    ∷ None ∷ []
 unfolding terms
-why_a_0_1 = refl
+whys_a_1 = refl
 
-pub why_a_0_3 : edges program plan 100000 the_story 0 0 3 ≡ Some (read_from (Shared 0) (pos 2) (ItemAt 0 1 3) ∷ control_from Entry ∷ [])
+pub nears_a_0 : nears program plan 100000 the_story 0 0 5 ≡ 16 ∷ 16 ∷ 16 ∷ 16 ∷ 16 ∷ []
 unfolding terms
-why_a_0_3 = refl
+nears_a_0 = refl
 
-pub why_a_1_4 : edges program plan 100000 the_story 0 1 4 ≡ Some (read_from (Shared 0) (pos 2) (ItemAt 0 1 3) ∷ read_from (Local 0 0) (pos 2) (ItemAt 0 0 0) ∷ control_from (ItemAt 0 1 2) ∷ [])
+pub nears_a_1 : nears program plan 100000 the_story 0 1 5 ≡ 16 ∷ 16 ∷ 16 ∷ 16 ∷ 16 ∷ []
 unfolding terms
-why_a_1_4 = refl
+nears_a_1 = refl
 
-pub log : (logs program plan 100000 schedule).lists ≡ (entry.Prelog 1 [] ∷ entry.Unit 3 [] ∷ entry.Unit 0 [] ∷ entry.Prelog 0 (pos 2 ∷ []) ∷ entry.Unit 1 (pos 0 ∷ []) ∷ entry.Postlog 0 [] ∷ entry.Unit 2 [] ∷ entry.Unit 4 (pos 2 ∷ []) ∷ entry.Postlog 1 [] ∷ entry.End status.Ended 2 (0 ∷ []) (0 ∷ []) ∷ []) ∷ []
+pub final_x : last program plan 100000 the_story 0 ≡ (pos 2, ItemAt 0 1 3)
 unfolding terms
-log = refl
+final_x = refl

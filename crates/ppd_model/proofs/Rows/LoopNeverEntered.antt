@@ -15,13 +15,17 @@ use Rattle.ppd_entry.specs.declared.entry.Entry.TheVariants as entry
 use Rattle.ppd_sem.specs.declared.event.Spot.TheVariants.{Local}
 use Rattle.ppd_model.specs.declared.flow.Item.TheVariants.{Own, Nested}
 use Rattle.ppd_model.specs.declared.flow.Origin.TheVariants.{Entry, Item as ItemAt}
+use Rattle.ppd_model.specs.declared.trace.TracedEvent.{TracedEvent}
 use Rattle.ppd_model.specs.World.{enabled}
 use Rattle.ppd_model.specs.Schedule.{IsWhole}
 use Rattle.ppd_model.specs.Story.{Story, story, told}
+use Rattle.ppd_model.specs.FullTrace.{full_trace}
+use Rattle.ppd_model.specs.Record.{accesses, sync_record}
+use Rattle.ppd_model.specs.Races.{races}
 use Rattle.ppd_model.specs.Logs.{close, logs}
 use Rattle.ppd_model.specs.Intervals.{items}
-use Rattle.ppd_model.specs.FlowbackEdges.{edges}
-use Rattle.ppd_model.proofs.Rows.Tables.{stmt_in, scalar, body_of, block_of, unit_of, access, event, ended, read_from, left_from, control_from}
+use Rattle.ppd_model.proofs.Rows.Tables.{stmt_in, scalar, body_of, block_of, unit_of, access, event, quiet, id, traced, ended, read_from, left_from, control_from}
+use Rattle.ppd_model.proofs.Rows.Showing.{extent, extents, whys, nears}
 
 abbrev pub program : Program
 program = record {
@@ -66,26 +70,72 @@ pub ends : (close program plan 100000 schedule).ends ≡ ended status.Ended 4 5 
 unfolding terms
 ends = refl
 
-pub open_a_0 : items program plan 100000 the_story 0 0 ≡ Some (Own (event 0 [] (access (Local 0 0) (pos 3) ∷ []) None None None) ∷ Nested 1 1 (pos 3 ∷ []) true ∷ Own (event 3 (access (Local 0 0) (pos 3) ∷ []) [] (Some (pos 3)) None None) ∷ Own (event 4 [] [] None None None) ∷ [])
+abbrev pub events_a : List TracedEvent
+events_a =
+    traced (event 0 [] (access (Local 0 0) (pos 3) ∷ []) None None None) [] None None
+    ∷ traced (event 1 (access (Local 0 0) (pos 3) ∷ []) [] (Some (pos 0)) None None) (Some (id 0 0) ∷ []) None None
+    ∷ traced (event 3 (access (Local 0 0) (pos 3) ∷ []) [] (Some (pos 3)) None None) (Some (id 0 0) ∷ []) None None
+    ∷ traced (quiet 4) [] None None ∷ []
+
+pub trace : full_trace program plan 100000 schedule ≡ record { events = events_a ∷ [] }
+unfolding terms
+trace = refl
+
+pub synchronizations : sync_record program plan 100000 schedule ≡ [] ∷ []
+unfolding terms
+synchronizations = refl
+
+pub accesses_a : accesses the_story 0 ≡ []
+unfolding terms
+accesses_a = refl
+
+pub race_list : races program plan 100000 schedule ≡ []
+unfolding terms
+race_list = refl
+
+pub log : (logs program plan 100000 schedule).lists ≡
+    (entry.Prelog 0 [] ∷ entry.Unit 0 [] ∷ entry.Prelog 1 (pos 3 ∷ []) ∷ entry.Unit 1 [] ∷ entry.Postlog 1 (pos 3 ∷ []) ∷ entry.Unit 2 [] ∷ entry.Postlog 0 [] ∷ entry.End status.Ended 1 [] [] ∷ []) ∷ []
+unfolding terms
+log = refl
+
+pub extents_a : extents program plan 100000 the_story 0 ≡
+    extent 0 [] 0 (Some 4) 4
+    ∷ extent 1 (0 ∷ []) 1 (Some 2) 1 ∷ []
+unfolding terms
+extents_a = refl
+
+pub open_a_0 : items program plan 100000 the_story 0 0 ≡
+    Some (Own (event 0 [] (access (Local 0 0) (pos 3) ∷ []) None None None)
+    ∷ Nested 1 1 (pos 3 ∷ []) true
+    ∷ Own (event 3 (access (Local 0 0) (pos 3) ∷ []) [] (Some (pos 3)) None None)
+    ∷ Own (quiet 4) ∷ [])
 unfolding terms
 open_a_0 = refl
 
-pub open_a_1 : items program plan 100000 the_story 0 1 ≡ Some (Own (event 1 (access (Local 0 0) (pos 3) ∷ []) [] (Some (pos 0)) None None) ∷ [])
+pub open_a_1 : items program plan 100000 the_story 0 1 ≡
+    Some (Own (event 1 (access (Local 0 0) (pos 3) ∷ []) [] (Some (pos 0)) None None) ∷ [])
 unfolding terms
 open_a_1 = refl
 
-pub why_a_0_1 : edges program plan 100000 the_story 0 0 1 ≡ Some (left_from (Local 0 0) (pos 3) (ItemAt 0 0 0) ∷ control_from Entry ∷ [])
+pub whys_a_0 : whys program plan 100000 the_story 0 0 5 ≡
+    Some (control_from Entry ∷ [])
+    ∷ Some (left_from (Local 0 0) (pos 3) (ItemAt 0 0 0) ∷ control_from Entry ∷ [])
+    ∷ Some (read_from (Local 0 0) (pos 3) (ItemAt 0 0 0) ∷ control_from Entry ∷ [])
+    ∷ Some (control_from Entry ∷ [])
+    ∷ None ∷ []
 unfolding terms
-why_a_0_1 = refl
+whys_a_0 = refl
 
-pub why_a_0_2 : edges program plan 100000 the_story 0 0 2 ≡ Some (read_from (Local 0 0) (pos 3) (ItemAt 0 0 0) ∷ control_from Entry ∷ [])
+pub whys_a_1 : whys program plan 100000 the_story 0 1 2 ≡
+    Some (read_from (Local 0 0) (pos 3) (ItemAt 0 0 0) ∷ control_from Entry ∷ [])
+    ∷ None ∷ []
 unfolding terms
-why_a_0_2 = refl
+whys_a_1 = refl
 
-pub why_a_1_0 : edges program plan 100000 the_story 0 1 0 ≡ Some (read_from (Local 0 0) (pos 3) (ItemAt 0 0 0) ∷ control_from Entry ∷ [])
+pub nears_a_0 : nears program plan 100000 the_story 0 0 4 ≡ 5 ∷ 5 ∷ 5 ∷ 5 ∷ []
 unfolding terms
-why_a_1_0 = refl
+nears_a_0 = refl
 
-pub log : (logs program plan 100000 schedule).lists ≡ (entry.Prelog 0 [] ∷ entry.Unit 0 [] ∷ entry.Prelog 1 (pos 3 ∷ []) ∷ entry.Unit 1 [] ∷ entry.Postlog 1 (pos 3 ∷ []) ∷ entry.Unit 2 [] ∷ entry.Postlog 0 [] ∷ entry.End status.Ended 1 [] [] ∷ []) ∷ []
+pub nears_a_1 : nears program plan 100000 the_story 0 1 1 ≡ 5 ∷ []
 unfolding terms
-log = refl
+nears_a_1 = refl

@@ -12,16 +12,21 @@ use Rattle.ppd_ast.specs.declared.program.Program.{Program}
 use Rattle.ppd_ast.specs.declared.program.Target.TheVariants as target
 use Rattle.ppd_ast.specs.declared.status.Status.TheVariants as status
 use Rattle.ppd_ast.specs.declared.status.Trap.TheVariants as trap
+use Rattle.ppd_entry.specs.declared.entry.Entry.TheVariants as entry
 use Rattle.ppd_sem.specs.declared.event.Spot.TheVariants.{Local}
 use Rattle.ppd_model.specs.declared.flow.Item.TheVariants.{Own, Nested}
 use Rattle.ppd_model.specs.declared.flow.Origin.TheVariants.{Entry, Item as ItemAt}
+use Rattle.ppd_model.specs.declared.trace.TracedEvent.{TracedEvent}
 use Rattle.ppd_model.specs.World.{enabled}
 use Rattle.ppd_model.specs.Schedule.{IsWhole}
 use Rattle.ppd_model.specs.Story.{Story, story, told}
-use Rattle.ppd_model.specs.Logs.{close}
+use Rattle.ppd_model.specs.FullTrace.{full_trace}
+use Rattle.ppd_model.specs.Record.{accesses, sync_record}
+use Rattle.ppd_model.specs.Races.{races}
+use Rattle.ppd_model.specs.Logs.{close, logs}
 use Rattle.ppd_model.specs.Intervals.{items}
-use Rattle.ppd_model.specs.FlowbackEdges.{edges}
-use Rattle.ppd_model.proofs.Rows.Tables.{stmt_in, scalar, body_of, block_of, unit_of, access, event, ended, read_from, returned_from, control_from}
+use Rattle.ppd_model.proofs.Rows.Tables.{stmt_in, scalar, body_of, block_of, unit_of, access, event, quiet, id, traced, ended, read_from, returned_from, control_from}
+use Rattle.ppd_model.proofs.Rows.Showing.{extent, extents, whys, nears}
 
 abbrev pub program : Program
 program = record {
@@ -68,29 +73,137 @@ pub ends : (close program plan 100000 schedule).ends ≡ ended status.Ended 6 14
 unfolding terms
 ends = refl
 
-pub open_a_0 : items program plan 100000 the_story 0 0 ≡ Some (Own (event 4 [] (access (Local 1 0) (pos 2) ∷ []) None None None) ∷ Nested 1 0 (pos 3 ∷ []) true ∷ Own (event 5 (access (Local 0 0) (pos 3) ∷ []) [] (Some (pos 3)) None None) ∷ Own (event 6 [] [] None None None) ∷ [])
+abbrev pub events_a : List TracedEvent
+events_a =
+    traced (event 4 [] (access (Local 1 0) (pos 2) ∷ []) None None None) [] None None
+    ∷ traced (event 0 [] (access (Local 0 1) (pos 0) ∷ []) None None None) [] (Some (id 0 0)) None
+    ∷ traced (event 1 (access (Local 0 0) (pos 2) ∷ []) [] (Some (pos 1)) None None) (Some (id 0 0) ∷ []) (Some (id 0 0)) None
+    ∷ traced (event 2 (access (Local 0 0) (pos 2) ∷ []) (access (Local 1 0) (pos 1) ∷ []) None None None) (Some (id 0 0) ∷ []) (Some (id 0 2)) None
+    ∷ traced (event 0 [] (access (Local 0 1) (pos 0) ∷ []) None None None) [] (Some (id 0 3)) None
+    ∷ traced (event 1 (access (Local 0 0) (pos 1) ∷ []) [] (Some (pos 1)) None None) (Some (id 0 3) ∷ []) (Some (id 0 3)) None
+    ∷ traced (event 2 (access (Local 0 0) (pos 1) ∷ []) (access (Local 1 0) (pos 0) ∷ []) None None None) (Some (id 0 3) ∷ []) (Some (id 0 5)) None
+    ∷ traced (event 0 [] (access (Local 0 1) (pos 0) ∷ []) None None None) [] (Some (id 0 6)) None
+    ∷ traced (event 1 (access (Local 0 0) (pos 0) ∷ []) [] (Some (pos 0)) None None) (Some (id 0 6) ∷ []) (Some (id 0 6)) None
+    ∷ traced (event 3 (access (Local 0 1) (pos 0) ∷ []) [] (Some (pos 1)) None None) (Some (id 0 7) ∷ []) (Some (id 0 6)) None
+    ∷ traced (event 3 (access (Local 0 1) (pos 1) ∷ []) [] (Some (pos 2)) None None) (Some (id 0 9) ∷ []) (Some (id 0 3)) None
+    ∷ traced (event 3 (access (Local 0 1) (pos 2) ∷ []) [] (Some (pos 3)) None None) (Some (id 0 10) ∷ []) (Some (id 0 0)) None
+    ∷ traced (event 5 (access (Local 0 0) (pos 3) ∷ []) [] (Some (pos 3)) None None) (Some (id 0 11) ∷ []) None None
+    ∷ traced (quiet 6) [] None None ∷ []
+
+pub trace : full_trace program plan 100000 schedule ≡ record { events = events_a ∷ [] }
+unfolding terms
+trace = refl
+
+pub synchronizations : sync_record program plan 100000 schedule ≡ [] ∷ []
+unfolding terms
+synchronizations = refl
+
+pub accesses_a : accesses the_story 0 ≡ []
+unfolding terms
+accesses_a = refl
+
+pub race_list : races program plan 100000 schedule ≡ []
+unfolding terms
+race_list = refl
+
+pub log : (logs program plan 100000 schedule).lists ≡
+    (entry.Prelog 1 [] ∷ entry.Unit 2 [] ∷ entry.Prelog 0 (pos 2 ∷ []) ∷ entry.Unit 0 [] ∷ entry.Prelog 0 (pos 1 ∷ []) ∷ entry.Unit 0 [] ∷ entry.Prelog 0 (pos 0 ∷ []) ∷ entry.Unit 0 [] ∷ entry.Postlog 0 (pos 1 ∷ []) ∷ entry.Unit 1 [] ∷ entry.Postlog 0 (pos 2 ∷ []) ∷ entry.Unit 1 [] ∷ entry.Postlog 0 (pos 3 ∷ []) ∷ entry.Unit 3 [] ∷ entry.Postlog 1 [] ∷ entry.End status.Ended 1 [] [] ∷ []) ∷ []
+unfolding terms
+log = refl
+
+pub extents_a : extents program plan 100000 the_story 0 ≡
+    extent 1 [] 0 (Some 13) 3
+    ∷ extent 0 (0 ∷ []) 0 (Some 11) 4
+    ∷ extent 0 (1 ∷ 0 ∷ []) 3 (Some 10) 4
+    ∷ extent 0 (2 ∷ 1 ∷ 0 ∷ []) 6 (Some 9) 3 ∷ []
+unfolding terms
+extents_a = refl
+
+pub open_a_0 : items program plan 100000 the_story 0 0 ≡
+    Some (Own (event 4 [] (access (Local 1 0) (pos 2) ∷ []) None None None)
+    ∷ Nested 1 0 (pos 3 ∷ []) true
+    ∷ Own (event 5 (access (Local 0 0) (pos 3) ∷ []) [] (Some (pos 3)) None None)
+    ∷ Own (quiet 6) ∷ [])
 unfolding terms
 open_a_0 = refl
 
-pub open_a_1 : items program plan 100000 the_story 0 1 ≡ Some (Own (event 0 [] (access (Local 0 1) (pos 0) ∷ []) None None None) ∷ Own (event 1 (access (Local 0 0) (pos 2) ∷ []) [] (Some (pos 1)) None None) ∷ Own (event 2 (access (Local 0 0) (pos 2) ∷ []) (access (Local 1 0) (pos 1) ∷ []) None None None) ∷ Nested 2 0 (pos 2 ∷ []) true ∷ Own (event 3 (access (Local 0 1) (pos 2) ∷ []) [] (Some (pos 3)) None None) ∷ [])
+pub open_a_1 : items program plan 100000 the_story 0 1 ≡
+    Some (Own (event 0 [] (access (Local 0 1) (pos 0) ∷ []) None None None)
+    ∷ Own (event 1 (access (Local 0 0) (pos 2) ∷ []) [] (Some (pos 1)) None None)
+    ∷ Own (event 2 (access (Local 0 0) (pos 2) ∷ []) (access (Local 1 0) (pos 1) ∷ []) None None None)
+    ∷ Nested 2 0 (pos 2 ∷ []) true
+    ∷ Own (event 3 (access (Local 0 1) (pos 2) ∷ []) [] (Some (pos 3)) None None) ∷ [])
 unfolding terms
 open_a_1 = refl
 
-pub why_a_0_1 : edges program plan 100000 the_story 0 0 1 ≡ Some (returned_from (pos 3) (ItemAt 0 1 4) ∷ control_from (ItemAt 0 0 0) ∷ [])
+pub open_a_2 : items program plan 100000 the_story 0 2 ≡
+    Some (Own (event 0 [] (access (Local 0 1) (pos 0) ∷ []) None None None)
+    ∷ Own (event 1 (access (Local 0 0) (pos 1) ∷ []) [] (Some (pos 1)) None None)
+    ∷ Own (event 2 (access (Local 0 0) (pos 1) ∷ []) (access (Local 1 0) (pos 0) ∷ []) None None None)
+    ∷ Nested 3 0 (pos 1 ∷ []) true
+    ∷ Own (event 3 (access (Local 0 1) (pos 1) ∷ []) [] (Some (pos 2)) None None) ∷ [])
 unfolding terms
-why_a_0_1 = refl
+open_a_2 = refl
 
-pub why_a_0_2 : edges program plan 100000 the_story 0 0 2 ≡ Some (read_from (Local 0 0) (pos 3) (ItemAt 0 1 4) ∷ control_from Entry ∷ [])
+pub open_a_3 : items program plan 100000 the_story 0 3 ≡
+    Some (Own (event 0 [] (access (Local 0 1) (pos 0) ∷ []) None None None)
+    ∷ Own (event 1 (access (Local 0 0) (pos 0) ∷ []) [] (Some (pos 0)) None None)
+    ∷ Own (event 3 (access (Local 0 1) (pos 0) ∷ []) [] (Some (pos 1)) None None) ∷ [])
 unfolding terms
-why_a_0_2 = refl
+open_a_3 = refl
 
-pub why_a_1_4 : edges program plan 100000 the_story 0 1 4 ≡ Some (read_from (Local 0 1) (pos 2) (ItemAt 0 2 4) ∷ control_from (ItemAt 0 0 0) ∷ [])
+pub whys_a_0 : whys program plan 100000 the_story 0 0 5 ≡
+    Some (control_from Entry ∷ [])
+    ∷ Some (returned_from (pos 3) (ItemAt 0 1 4) ∷ control_from (ItemAt 0 0 0) ∷ [])
+    ∷ Some (read_from (Local 0 0) (pos 3) (ItemAt 0 1 4) ∷ control_from Entry ∷ [])
+    ∷ Some (control_from Entry ∷ [])
+    ∷ None ∷ []
 unfolding terms
-why_a_1_4 = refl
+whys_a_0 = refl
 
-pub why_a_2_4 : edges program plan 100000 the_story 0 2 4 ≡ Some (read_from (Local 0 1) (pos 1) (ItemAt 0 3 2) ∷ control_from (ItemAt 0 1 2) ∷ [])
+pub whys_a_1 : whys program plan 100000 the_story 0 1 6 ≡
+    Some (control_from (ItemAt 0 0 0) ∷ [])
+    ∷ Some (read_from (Local 0 0) (pos 2) (ItemAt 0 0 0) ∷ control_from (ItemAt 0 0 0) ∷ [])
+    ∷ Some (read_from (Local 0 0) (pos 2) (ItemAt 0 0 0) ∷ control_from (ItemAt 0 1 1) ∷ [])
+    ∷ Some (returned_from (pos 2) (ItemAt 0 2 4) ∷ control_from (ItemAt 0 1 2) ∷ [])
+    ∷ Some (read_from (Local 0 1) (pos 2) (ItemAt 0 2 4) ∷ control_from (ItemAt 0 0 0) ∷ [])
+    ∷ None ∷ []
 unfolding terms
-why_a_2_4 = refl
+whys_a_1 = refl
+
+pub whys_a_2 : whys program plan 100000 the_story 0 2 6 ≡
+    Some (control_from (ItemAt 0 1 2) ∷ [])
+    ∷ Some (read_from (Local 0 0) (pos 1) (ItemAt 0 1 2) ∷ control_from (ItemAt 0 1 2) ∷ [])
+    ∷ Some (read_from (Local 0 0) (pos 1) (ItemAt 0 1 2) ∷ control_from (ItemAt 0 2 1) ∷ [])
+    ∷ Some (returned_from (pos 1) (ItemAt 0 3 2) ∷ control_from (ItemAt 0 2 2) ∷ [])
+    ∷ Some (read_from (Local 0 1) (pos 1) (ItemAt 0 3 2) ∷ control_from (ItemAt 0 1 2) ∷ [])
+    ∷ None ∷ []
+unfolding terms
+whys_a_2 = refl
+
+pub whys_a_3 : whys program plan 100000 the_story 0 3 4 ≡
+    Some (control_from (ItemAt 0 2 2) ∷ [])
+    ∷ Some (read_from (Local 0 0) (pos 0) (ItemAt 0 2 2) ∷ control_from (ItemAt 0 2 2) ∷ [])
+    ∷ Some (read_from (Local 0 1) (pos 0) (ItemAt 0 3 0) ∷ control_from (ItemAt 0 2 2) ∷ [])
+    ∷ None ∷ []
+unfolding terms
+whys_a_3 = refl
+
+pub nears_a_0 : nears program plan 100000 the_story 0 0 4 ≡ 14 ∷ 14 ∷ 14 ∷ 14 ∷ []
+unfolding terms
+nears_a_0 = refl
+
+pub nears_a_1 : nears program plan 100000 the_story 0 1 5 ≡ 14 ∷ 14 ∷ 14 ∷ 14 ∷ 14 ∷ []
+unfolding terms
+nears_a_1 = refl
+
+pub nears_a_2 : nears program plan 100000 the_story 0 2 5 ≡ 14 ∷ 14 ∷ 14 ∷ 14 ∷ 14 ∷ []
+unfolding terms
+nears_a_2 = refl
+
+pub nears_a_3 : nears program plan 100000 the_story 0 3 3 ≡ 14 ∷ 14 ∷ 14 ∷ []
+unfolding terms
+nears_a_3 = refl
 
 -- with f(n) in place of f(2)
 abbrev pub deeper : ℕ → Program

@@ -11,16 +11,22 @@ use Rattle.ppd_ast.specs.declared.program.Op.TheVariants as op
 use Rattle.ppd_ast.specs.declared.program.Program.{Program}
 use Rattle.ppd_ast.specs.declared.program.Target.TheVariants as target
 use Rattle.ppd_ast.specs.declared.status.Status.TheVariants as status
+use Rattle.ppd_entry.specs.declared.entry.Entry.TheVariants as entry
 use Rattle.ppd_sem.specs.declared.event.Spot.TheVariants.{Local, Shared}
 use Rattle.ppd_model.specs.declared.flow.Item.TheVariants.{Own}
-use Rattle.ppd_model.specs.declared.flow.Origin.TheVariants.{Item as ItemAt}
+use Rattle.ppd_model.specs.declared.flow.Origin.TheVariants.{Entry, Item as ItemAt}
+use Rattle.ppd_model.specs.declared.trace.TracedEvent.{TracedEvent}
 use Rattle.ppd_model.specs.World.{enabled}
 use Rattle.ppd_model.specs.Schedule.{IsWhole}
 use Rattle.ppd_model.specs.Story.{Story, story, told}
-use Rattle.ppd_model.specs.Logs.{close}
+use Rattle.ppd_model.specs.FullTrace.{full_trace}
+use Rattle.ppd_model.specs.Record.{accesses, sync_record}
+use Rattle.ppd_model.specs.Races.{races}
+use Rattle.ppd_model.specs.Logs.{close, logs}
 use Rattle.ppd_model.specs.Intervals.{items}
-use Rattle.ppd_model.specs.FlowbackEdges.{edges}
-use Rattle.ppd_model.proofs.Rows.Tables.{stmt_in, scalar, array, body_of, block_of, unit_of, access, event, ended, read_from, control_from}
+use Rattle.ppd_model.specs.FlowbackEdges.{last}
+use Rattle.ppd_model.proofs.Rows.Tables.{stmt_in, scalar, array, body_of, block_of, unit_of, access, event, quiet, id, traced, ended, read_from, control_from}
+use Rattle.ppd_model.proofs.Rows.Showing.{touched, extent, extents, whys, nears}
 
 abbrev pub program : Program
 program = record {
@@ -67,10 +73,82 @@ pub ends : (close program plan 100000 schedule).ends ≡ ended status.Ended 6 12
 unfolding terms
 ends = refl
 
-pub open_p_0 : items program plan 100000 the_story 0 0 ≡ Some (Own (event 0 [] (access (Local 0 0) (pos 0) ∷ []) None None None) ∷ Own (event 1 [] (access (Shared 0) (pos 5) ∷ []) None None None) ∷ Own (event 2 [] (access (Shared 1) (pos 6) ∷ []) None None None) ∷ Own (event 3 (access (Local 0 0) (pos 0) ∷ access (Local 0 0) (pos 0) ∷ access (Shared 0) (pos 5) ∷ []) [] (Some (pos 1)) None None) ∷ Own (event 4 (access (Local 0 0) (pos 0) ∷ []) (access (Local 0 0) (pos 1) ∷ []) None None None) ∷ Own (event 3 (access (Local 0 0) (pos 1) ∷ access (Local 0 0) (pos 1) ∷ access (Shared 1) (pos 6) ∷ []) [] (Some (pos 1)) None None) ∷ Own (event 4 (access (Local 0 0) (pos 1) ∷ []) (access (Local 0 0) (pos 2) ∷ []) None None None) ∷ Own (event 3 (access (Local 0 0) (pos 2) ∷ []) [] (Some (pos 0)) None None) ∷ Own (event 5 (access (Local 0 0) (pos 2) ∷ []) [] (Some (pos 2)) None None) ∷ Own (event 6 [] [] None None None) ∷ [])
+abbrev pub events_p : List TracedEvent
+events_p =
+    traced (event 0 [] (access (Local 0 0) (pos 0) ∷ []) None None None) [] None None
+    ∷ traced (event 1 [] (access (Shared 0) (pos 5) ∷ []) None None None) [] None None
+    ∷ traced (event 2 [] (access (Shared 1) (pos 6) ∷ []) None None None) [] None None
+    ∷ traced (event 3 (access (Local 0 0) (pos 0) ∷ access (Local 0 0) (pos 0) ∷ access (Shared 0) (pos 5) ∷ []) [] (Some (pos 1)) None None) (Some (id 0 0) ∷ Some (id 0 0) ∷ Some (id 0 1) ∷ []) None None
+    ∷ traced (event 4 (access (Local 0 0) (pos 0) ∷ []) (access (Local 0 0) (pos 1) ∷ []) None None None) (Some (id 0 0) ∷ []) (Some (id 0 3)) None
+    ∷ traced (event 3 (access (Local 0 0) (pos 1) ∷ access (Local 0 0) (pos 1) ∷ access (Shared 1) (pos 6) ∷ []) [] (Some (pos 1)) None None) (Some (id 0 4) ∷ Some (id 0 4) ∷ Some (id 0 2) ∷ []) (Some (id 0 3)) None
+    ∷ traced (event 4 (access (Local 0 0) (pos 1) ∷ []) (access (Local 0 0) (pos 2) ∷ []) None None None) (Some (id 0 4) ∷ []) (Some (id 0 5)) None
+    ∷ traced (event 3 (access (Local 0 0) (pos 2) ∷ []) [] (Some (pos 0)) None None) (Some (id 0 6) ∷ []) (Some (id 0 5)) None
+    ∷ traced (event 5 (access (Local 0 0) (pos 2) ∷ []) [] (Some (pos 2)) None None) (Some (id 0 6) ∷ []) None None
+    ∷ traced (quiet 6) [] None None ∷ []
+
+pub trace : full_trace program plan 100000 schedule ≡ record { events = events_p ∷ [] }
+unfolding terms
+trace = refl
+
+pub synchronizations : sync_record program plan 100000 schedule ≡ [] ∷ []
+unfolding terms
+synchronizations = refl
+
+pub accesses_p : accesses the_story 0 ≡ touched 0 0 true ∷ touched 0 1 true ∷ touched 0 0 false ∷ touched 0 1 false ∷ []
+unfolding terms
+accesses_p = refl
+
+pub race_list : races program plan 100000 schedule ≡ []
+unfolding terms
+race_list = refl
+
+pub log : (logs program plan 100000 schedule).lists ≡
+    (entry.Prelog 0 [] ∷ entry.Unit 0 (pos 0 ∷ pos 0 ∷ []) ∷ entry.Postlog 0 [] ∷ entry.End status.Ended 11 (0 ∷ 1 ∷ []) (0 ∷ 1 ∷ []) ∷ []) ∷ []
+unfolding terms
+log = refl
+
+pub extents_p : extents program plan 100000 the_story 0 ≡
+    extent 0 [] 0 (Some 11) 12 ∷ []
+unfolding terms
+extents_p = refl
+
+pub open_p_0 : items program plan 100000 the_story 0 0 ≡
+    Some (Own (event 0 [] (access (Local 0 0) (pos 0) ∷ []) None None None)
+    ∷ Own (event 1 [] (access (Shared 0) (pos 5) ∷ []) None None None)
+    ∷ Own (event 2 [] (access (Shared 1) (pos 6) ∷ []) None None None)
+    ∷ Own (event 3 (access (Local 0 0) (pos 0) ∷ access (Local 0 0) (pos 0) ∷ access (Shared 0) (pos 5) ∷ []) [] (Some (pos 1)) None None)
+    ∷ Own (event 4 (access (Local 0 0) (pos 0) ∷ []) (access (Local 0 0) (pos 1) ∷ []) None None None)
+    ∷ Own (event 3 (access (Local 0 0) (pos 1) ∷ access (Local 0 0) (pos 1) ∷ access (Shared 1) (pos 6) ∷ []) [] (Some (pos 1)) None None)
+    ∷ Own (event 4 (access (Local 0 0) (pos 1) ∷ []) (access (Local 0 0) (pos 2) ∷ []) None None None)
+    ∷ Own (event 3 (access (Local 0 0) (pos 2) ∷ []) [] (Some (pos 0)) None None)
+    ∷ Own (event 5 (access (Local 0 0) (pos 2) ∷ []) [] (Some (pos 2)) None None)
+    ∷ Own (quiet 6) ∷ [])
 unfolding terms
 open_p_0 = refl
 
-pub why_p_0_5 : edges program plan 100000 the_story 0 0 5 ≡ Some (read_from (Local 0 0) (pos 1) (ItemAt 0 0 4) ∷ read_from (Local 0 0) (pos 1) (ItemAt 0 0 4) ∷ read_from (Shared 1) (pos 6) (ItemAt 0 0 2) ∷ control_from (ItemAt 0 0 3) ∷ [])
+pub whys_p_0 : whys program plan 100000 the_story 0 0 11 ≡
+    Some (control_from Entry ∷ [])
+    ∷ Some (control_from Entry ∷ [])
+    ∷ Some (control_from Entry ∷ [])
+    ∷ Some (read_from (Local 0 0) (pos 0) (ItemAt 0 0 0) ∷ read_from (Local 0 0) (pos 0) (ItemAt 0 0 0) ∷ read_from (Shared 0) (pos 5) (ItemAt 0 0 1) ∷ control_from Entry ∷ [])
+    ∷ Some (read_from (Local 0 0) (pos 0) (ItemAt 0 0 0) ∷ control_from (ItemAt 0 0 3) ∷ [])
+    ∷ Some (read_from (Local 0 0) (pos 1) (ItemAt 0 0 4) ∷ read_from (Local 0 0) (pos 1) (ItemAt 0 0 4) ∷ read_from (Shared 1) (pos 6) (ItemAt 0 0 2) ∷ control_from (ItemAt 0 0 3) ∷ [])
+    ∷ Some (read_from (Local 0 0) (pos 1) (ItemAt 0 0 4) ∷ control_from (ItemAt 0 0 5) ∷ [])
+    ∷ Some (read_from (Local 0 0) (pos 2) (ItemAt 0 0 6) ∷ control_from (ItemAt 0 0 5) ∷ [])
+    ∷ Some (read_from (Local 0 0) (pos 2) (ItemAt 0 0 6) ∷ control_from Entry ∷ [])
+    ∷ Some (control_from Entry ∷ [])
+    ∷ None ∷ []
 unfolding terms
-why_p_0_5 = refl
+whys_p_0 = refl
+
+pub nears_p_0 : nears program plan 100000 the_story 0 0 10 ≡ 12 ∷ 12 ∷ 12 ∷ 12 ∷ 12 ∷ 12 ∷ 12 ∷ 12 ∷ 12 ∷ 12 ∷ []
+unfolding terms
+nears_p_0 = refl
+
+pub final_a_0 : last program plan 100000 the_story 0 ≡ (pos 5, ItemAt 0 0 1)
+unfolding terms
+final_a_0 = refl
+
+pub final_a_1 : last program plan 100000 the_story 1 ≡ (pos 6, ItemAt 0 0 2)
+unfolding terms
+final_a_1 = refl

@@ -15,15 +15,18 @@ use Rattle.ppd_entry.specs.declared.entry.Entry.TheVariants as entry
 use Rattle.ppd_sem.specs.declared.event.Spot.TheVariants.{Shared}
 use Rattle.ppd_model.specs.declared.flow.Item.TheVariants.{Own}
 use Rattle.ppd_model.specs.declared.flow.Origin.TheVariants.{Entry, Item as ItemAt}
+use Rattle.ppd_model.specs.declared.trace.TracedEvent.{TracedEvent}
 use Rattle.ppd_model.specs.World.{enabled}
 use Rattle.ppd_model.specs.Schedule.{IsWhole}
 use Rattle.ppd_model.specs.Story.{Story, story, told}
 use Rattle.ppd_model.specs.FullTrace.{full_trace}
+use Rattle.ppd_model.specs.Record.{accesses, sync_record}
 use Rattle.ppd_model.specs.Races.{races}
 use Rattle.ppd_model.specs.Logs.{close, logs}
 use Rattle.ppd_model.specs.Intervals.{items}
-use Rattle.ppd_model.specs.FlowbackEdges.{edges, last}
-use Rattle.ppd_model.proofs.Rows.Tables.{stmt_in, scalar, body_of, block_of, unit_of, access, event, id, traced, ended, read_from, control_from}
+use Rattle.ppd_model.specs.FlowbackEdges.{last}
+use Rattle.ppd_model.proofs.Rows.Tables.{stmt_in, scalar, body_of, block_of, unit_of, access, event, quiet, id, traced, ended, read_from, control_from}
+use Rattle.ppd_model.proofs.Rows.Showing.{touched, extent, extents, whys, nears}
 
 abbrev pub program : Program
 program = record {
@@ -66,29 +69,56 @@ pub ends : (close program plan 100000 schedule).ends ≡ ended status.Ended 2 4 
 unfolding terms
 ends = refl
 
+abbrev pub events_a : List TracedEvent
+events_a =
+    traced (event 0 [] (access (Shared 0) (pos 2) ∷ []) None None None) [] None None
+    ∷ traced (event 1 (access (Shared 0) (pos 2) ∷ []) [] (Some (pos 5)) None None) (Some (id 0 0) ∷ []) None None
+    ∷ traced (quiet 2) [] None None ∷ []
+
+pub trace : full_trace program plan 100000 schedule ≡ record { events = events_a ∷ [] }
+unfolding terms
+trace = refl
+
+pub synchronizations : sync_record program plan 100000 schedule ≡ [] ∷ []
+unfolding terms
+synchronizations = refl
+
+pub accesses_a : accesses the_story 0 ≡ touched 0 0 true ∷ touched 0 0 false ∷ []
+unfolding terms
+accesses_a = refl
+
 pub race_list : races program plan 100000 schedule ≡ []
 unfolding terms
 race_list = refl
 
-pub trace : full_trace program plan 100000 schedule ≡ record { events = (traced (event 0 [] (access (Shared 0) (pos 2) ∷ []) None None None) [] None None ∷ traced (event 1 (access (Shared 0) (pos 2) ∷ []) [] (Some (pos 5)) None None) (Some (id 0 0) ∷ []) None None ∷ traced (event 2 [] [] None None None) [] None None ∷ []) ∷ [] }
-unfolding terms
-trace = refl
-
-pub log : (logs program plan 100000 schedule).lists ≡ (entry.Prelog 0 [] ∷ entry.Unit 0 (pos 0 ∷ []) ∷ entry.Postlog 0 [] ∷ entry.End status.Ended 3 (0 ∷ []) (0 ∷ []) ∷ []) ∷ []
+pub log : (logs program plan 100000 schedule).lists ≡
+    (entry.Prelog 0 [] ∷ entry.Unit 0 (pos 0 ∷ []) ∷ entry.Postlog 0 [] ∷ entry.End status.Ended 3 (0 ∷ []) (0 ∷ []) ∷ []) ∷ []
 unfolding terms
 log = refl
 
-pub open_a_0 : items program plan 100000 the_story 0 0 ≡ Some (Own (event 0 [] (access (Shared 0) (pos 2) ∷ []) None None None) ∷ Own (event 1 (access (Shared 0) (pos 2) ∷ []) [] (Some (pos 5)) None None) ∷ Own (event 2 [] [] None None None) ∷ [])
+pub extents_a : extents program plan 100000 the_story 0 ≡
+    extent 0 [] 0 (Some 3) 4 ∷ []
+unfolding terms
+extents_a = refl
+
+pub open_a_0 : items program plan 100000 the_story 0 0 ≡
+    Some (Own (event 0 [] (access (Shared 0) (pos 2) ∷ []) None None None)
+    ∷ Own (event 1 (access (Shared 0) (pos 2) ∷ []) [] (Some (pos 5)) None None)
+    ∷ Own (quiet 2) ∷ [])
 unfolding terms
 open_a_0 = refl
 
-pub why_a_0_1 : edges program plan 100000 the_story 0 0 1 ≡ Some (read_from (Shared 0) (pos 2) (ItemAt 0 0 0) ∷ control_from Entry ∷ [])
+pub whys_a_0 : whys program plan 100000 the_story 0 0 4 ≡
+    Some (control_from Entry ∷ [])
+    ∷ Some (read_from (Shared 0) (pos 2) (ItemAt 0 0 0) ∷ control_from Entry ∷ [])
+    ∷ Some (control_from Entry ∷ [])
+    ∷ None ∷ []
 unfolding terms
-why_a_0_1 = refl
+whys_a_0 = refl
 
-pub no_item_3 : edges program plan 100000 the_story 0 0 3 ≡ None
+pub nears_a_0 : nears program plan 100000 the_story 0 0 3 ≡ 4 ∷ 4 ∷ 4 ∷ []
 unfolding terms
-no_item_3 = refl
+nears_a_0 = refl
 
 pub final_x : last program plan 100000 the_story 0 ≡ (pos 2, ItemAt 0 0 0)
 unfolding terms

@@ -1,6 +1,6 @@
 -- shared int x; int f(int n) { int i; while (i < n) { i = i + 1; x = 1 / (2 - i); } return i; } process a { int v = f(3); print(v); }
 use Rattle.std.proofs.Common.{◌≡◌, refl}
-use Rattle.std.specs.Prelude.{ℕ, zero, suc, pos, true, false, List, [], ◌∷◌, map, Some, None}
+use Rattle.std.specs.Prelude.{ℕ, zero, suc, pos, true, false, List, [], ◌∷◌, Some, None}
 use Rattle.ppd_ast.specs.Term.{terms}
 use Rattle.ppd_ast.specs.declared.plan.BlockKind.TheVariants as block
 use Rattle.ppd_ast.specs.declared.plan.Plan.{Plan}
@@ -15,14 +15,19 @@ use Rattle.ppd_ast.specs.declared.status.Trap.TheVariants as trap
 use Rattle.ppd_entry.specs.declared.entry.Entry.TheVariants as entry
 use Rattle.ppd_sem.specs.declared.event.Spot.TheVariants.{Local, Shared}
 use Rattle.ppd_model.specs.declared.flow.Item.TheVariants.{Own, Nested}
-use Rattle.ppd_model.specs.declared.flow.Origin.TheVariants.{Item as ItemAt}
+use Rattle.ppd_model.specs.declared.flow.Origin.TheVariants.{Entry, Item as ItemAt}
+use Rattle.ppd_model.specs.declared.trace.TracedEvent.{TracedEvent}
 use Rattle.ppd_model.specs.World.{enabled}
 use Rattle.ppd_model.specs.Schedule.{IsWhole}
 use Rattle.ppd_model.specs.Story.{Story, story, told}
+use Rattle.ppd_model.specs.FullTrace.{full_trace}
+use Rattle.ppd_model.specs.Record.{accesses, sync_record}
+use Rattle.ppd_model.specs.Races.{races}
 use Rattle.ppd_model.specs.Logs.{close, logs}
-use Rattle.ppd_model.specs.Intervals.{intervals, items}
-use Rattle.ppd_model.specs.FlowbackEdges.{edges}
-use Rattle.ppd_model.proofs.Rows.Tables.{stmt_in, scalar, body_of, block_of, unit_of, access, event, ended, read_from, control_from}
+use Rattle.ppd_model.specs.Intervals.{items}
+use Rattle.ppd_model.specs.FlowbackEdges.{last}
+use Rattle.ppd_model.proofs.Rows.Tables.{stmt_in, scalar, body_of, block_of, unit_of, access, event, id, traced, ended, read_from, control_from}
+use Rattle.ppd_model.proofs.Rows.Showing.{touched, extent, extents, whys, nears}
 
 abbrev pub program : Program
 program = record {
@@ -72,35 +77,105 @@ pub ends : (close program plan 100000 schedule).ends ≡ ended (status.Trap trap
 unfolding terms
 ends = refl
 
-pub open_a_0 : items program plan 100000 the_story 0 0 ≡ Some (Own (event 5 [] (access (Local 1 0) (pos 3) ∷ []) None None None) ∷ Nested 1 0 [] false ∷ [])
+abbrev pub events_a : List TracedEvent
+events_a =
+    traced (event 5 [] (access (Local 1 0) (pos 3) ∷ []) None None None) [] None None
+    ∷ traced (event 0 [] (access (Local 0 1) (pos 0) ∷ []) None None None) [] (Some (id 0 0)) None
+    ∷ traced (event 1 (access (Local 0 1) (pos 0) ∷ access (Local 0 0) (pos 3) ∷ []) [] (Some (pos 1)) None None) (Some (id 0 1) ∷ Some (id 0 0) ∷ []) (Some (id 0 0)) None
+    ∷ traced (event 2 (access (Local 0 1) (pos 0) ∷ []) (access (Local 0 1) (pos 1) ∷ []) None None None) (Some (id 0 1) ∷ []) (Some (id 0 2)) None
+    ∷ traced (event 3 (access (Local 0 1) (pos 1) ∷ []) (access (Shared 0) (pos 1) ∷ []) None None None) (Some (id 0 3) ∷ []) (Some (id 0 2)) None
+    ∷ traced (event 1 (access (Local 0 1) (pos 1) ∷ access (Local 0 0) (pos 3) ∷ []) [] (Some (pos 1)) None None) (Some (id 0 3) ∷ Some (id 0 0) ∷ []) (Some (id 0 2)) None
+    ∷ traced (event 2 (access (Local 0 1) (pos 1) ∷ []) (access (Local 0 1) (pos 2) ∷ []) None None None) (Some (id 0 3) ∷ []) (Some (id 0 5)) None
+    ∷ traced (event 3 (access (Local 0 1) (pos 2) ∷ []) [] None None (Some trap.Zero)) (Some (id 0 6) ∷ []) (Some (id 0 5)) None ∷ []
+
+pub trace : full_trace program plan 100000 schedule ≡ record { events = events_a ∷ [] }
+unfolding terms
+trace = refl
+
+pub synchronizations : sync_record program plan 100000 schedule ≡ [] ∷ []
+unfolding terms
+synchronizations = refl
+
+pub accesses_a : accesses the_story 0 ≡ touched 0 0 true ∷ []
+unfolding terms
+accesses_a = refl
+
+pub race_list : races program plan 100000 schedule ≡ []
+unfolding terms
+race_list = refl
+
+pub log : (logs program plan 100000 schedule).lists ≡
+    (entry.Prelog 2 [] ∷ entry.Unit 3 [] ∷ entry.Prelog 0 (pos 3 ∷ []) ∷ entry.Unit 0 [] ∷ entry.Prelog 1 (pos 3 ∷ pos 0 ∷ []) ∷ entry.Unit 1 [] ∷ entry.End (status.Trap trap.Zero) 5 [] (0 ∷ []) ∷ []) ∷ []
+unfolding terms
+log = refl
+
+pub extents_a : extents program plan 100000 the_story 0 ≡
+    extent 2 [] 0 None 1
+    ∷ extent 0 (0 ∷ []) 0 None 2
+    ∷ extent 1 (1 ∷ 0 ∷ []) 2 None 6 ∷ []
+unfolding terms
+extents_a = refl
+
+pub open_a_0 : items program plan 100000 the_story 0 0 ≡
+    Some (Own (event 5 [] (access (Local 1 0) (pos 3) ∷ []) None None None)
+    ∷ Nested 1 0 [] false ∷ [])
 unfolding terms
 open_a_0 = refl
 
-pub open_a_1 : items program plan 100000 the_story 0 1 ≡ Some (Own (event 0 [] (access (Local 0 1) (pos 0) ∷ []) None None None) ∷ Nested 2 1 [] false ∷ [])
+pub open_a_1 : items program plan 100000 the_story 0 1 ≡
+    Some (Own (event 0 [] (access (Local 0 1) (pos 0) ∷ []) None None None)
+    ∷ Nested 2 1 [] false ∷ [])
 unfolding terms
 open_a_1 = refl
 
-pub open_a_2 : items program plan 100000 the_story 0 2 ≡ Some (Own (event 1 (access (Local 0 1) (pos 0) ∷ access (Local 0 0) (pos 3) ∷ []) [] (Some (pos 1)) None None) ∷ Own (event 2 (access (Local 0 1) (pos 0) ∷ []) (access (Local 0 1) (pos 1) ∷ []) None None None) ∷ Own (event 3 (access (Local 0 1) (pos 1) ∷ []) (access (Shared 0) (pos 1) ∷ []) None None None) ∷ Own (event 1 (access (Local 0 1) (pos 1) ∷ access (Local 0 0) (pos 3) ∷ []) [] (Some (pos 1)) None None) ∷ Own (event 2 (access (Local 0 1) (pos 1) ∷ []) (access (Local 0 1) (pos 2) ∷ []) None None None) ∷ Own (event 3 (access (Local 0 1) (pos 2) ∷ []) [] None None (Some trap.Zero)) ∷ [])
+pub open_a_2 : items program plan 100000 the_story 0 2 ≡
+    Some (Own (event 1 (access (Local 0 1) (pos 0) ∷ access (Local 0 0) (pos 3) ∷ []) [] (Some (pos 1)) None None)
+    ∷ Own (event 2 (access (Local 0 1) (pos 0) ∷ []) (access (Local 0 1) (pos 1) ∷ []) None None None)
+    ∷ Own (event 3 (access (Local 0 1) (pos 1) ∷ []) (access (Shared 0) (pos 1) ∷ []) None None None)
+    ∷ Own (event 1 (access (Local 0 1) (pos 1) ∷ access (Local 0 0) (pos 3) ∷ []) [] (Some (pos 1)) None None)
+    ∷ Own (event 2 (access (Local 0 1) (pos 1) ∷ []) (access (Local 0 1) (pos 2) ∷ []) None None None)
+    ∷ Own (event 3 (access (Local 0 1) (pos 2) ∷ []) [] None None (Some trap.Zero)) ∷ [])
 unfolding terms
 open_a_2 = refl
 
-pub steps_a : map (λ i. i.steps) (intervals program plan 100000 the_story 0) ≡ 1 ∷ 2 ∷ 6 ∷ []
+-- an interval that was not left has the control edge alone
+pub whys_a_0 : whys program plan 100000 the_story 0 0 3 ≡
+    Some (control_from Entry ∷ [])
+    ∷ Some (control_from (ItemAt 0 0 0) ∷ [])
+    ∷ None ∷ []
 unfolding terms
-steps_a = refl
+whys_a_0 = refl
 
--- an unfinished loop has the control edge alone
-pub why_a_1_1 : edges program plan 100000 the_story 0 1 1 ≡ Some (control_from (ItemAt 0 0 0) ∷ [])
+pub whys_a_1 : whys program plan 100000 the_story 0 1 3 ≡
+    Some (control_from (ItemAt 0 0 0) ∷ [])
+    ∷ Some (control_from (ItemAt 0 0 0) ∷ [])
+    ∷ None ∷ []
 unfolding terms
-why_a_1_1 = refl
+whys_a_1 = refl
 
-pub why_a_2_3 : edges program plan 100000 the_story 0 2 3 ≡ Some (read_from (Local 0 1) (pos 1) (ItemAt 0 2 1) ∷ read_from (Local 0 0) (pos 3) (ItemAt 0 0 0) ∷ control_from (ItemAt 0 2 0) ∷ [])
+pub whys_a_2 : whys program plan 100000 the_story 0 2 7 ≡
+    Some (read_from (Local 0 1) (pos 0) (ItemAt 0 1 0) ∷ read_from (Local 0 0) (pos 3) (ItemAt 0 0 0) ∷ control_from (ItemAt 0 0 0) ∷ [])
+    ∷ Some (read_from (Local 0 1) (pos 0) (ItemAt 0 1 0) ∷ control_from (ItemAt 0 2 0) ∷ [])
+    ∷ Some (read_from (Local 0 1) (pos 1) (ItemAt 0 2 1) ∷ control_from (ItemAt 0 2 0) ∷ [])
+    ∷ Some (read_from (Local 0 1) (pos 1) (ItemAt 0 2 1) ∷ read_from (Local 0 0) (pos 3) (ItemAt 0 0 0) ∷ control_from (ItemAt 0 2 0) ∷ [])
+    ∷ Some (read_from (Local 0 1) (pos 1) (ItemAt 0 2 1) ∷ control_from (ItemAt 0 2 3) ∷ [])
+    ∷ Some (read_from (Local 0 1) (pos 2) (ItemAt 0 2 4) ∷ control_from (ItemAt 0 2 3) ∷ [])
+    ∷ None ∷ []
 unfolding terms
-why_a_2_3 = refl
+whys_a_2 = refl
 
-pub why_a_2_5 : edges program plan 100000 the_story 0 2 5 ≡ Some (read_from (Local 0 1) (pos 2) (ItemAt 0 2 4) ∷ control_from (ItemAt 0 2 3) ∷ [])
+pub nears_a_0 : nears program plan 100000 the_story 0 0 2 ≡ 9 ∷ 9 ∷ []
 unfolding terms
-why_a_2_5 = refl
+nears_a_0 = refl
 
-pub log : (logs program plan 100000 schedule).lists ≡ (entry.Prelog 2 [] ∷ entry.Unit 3 [] ∷ entry.Prelog 0 (pos 3 ∷ []) ∷ entry.Unit 0 [] ∷ entry.Prelog 1 (pos 3 ∷ pos 0 ∷ []) ∷ entry.Unit 1 [] ∷ entry.End (status.Trap trap.Zero) 5 [] (0 ∷ []) ∷ []) ∷ []
+pub nears_a_1 : nears program plan 100000 the_story 0 1 2 ≡ 9 ∷ 9 ∷ []
 unfolding terms
-log = refl
+nears_a_1 = refl
+
+pub nears_a_2 : nears program plan 100000 the_story 0 2 6 ≡ 9 ∷ 9 ∷ 9 ∷ 9 ∷ 9 ∷ 9 ∷ []
+unfolding terms
+nears_a_2 = refl
+
+pub final_x : last program plan 100000 the_story 0 ≡ (pos 1, ItemAt 0 2 2)
+unfolding terms
+final_x = refl

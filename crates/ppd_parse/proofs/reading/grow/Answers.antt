@@ -1,4 +1,4 @@
-use Rattle.std.proofs.Common.{◌≡◌, List, ◌∙◌, ap, subst, reverse, length, rules, ◌∷◌, [], ◌++◌, Ok, Err, arith}
+use Rattle.std.proofs.Common.{◌≡◌, ◌≤◌, List, sym, ◌∙◌, ap, subst, reverse, length, rules, ◌∷◌, [], ◌++◌, Ok, Err, arith}
 use Rattle.ppd_lex.specs.declared.token.Token.{Token}
 use Rattle.ppd_parse.specs.declared.symbol.Symbol.TheVariants as S
 use Rattle.ppd_parse.specs.declared.symbol.Want.{Want}
@@ -21,6 +21,8 @@ loop-token-init g c =
     record {
       read = start_read c.args.tokens.now c.requires.ends (state_of c.push.new.self.items c.new-grove.result) stack c.new-grove.ensures;
       spent = omega (arith, ap rank stack);
+      held = subst (λ (ws : List Want). length ws ≤ c.raise.new.peak) (sym (c.in_ok-push.ensures.items ∙ ap (λ (ws : List Want). ws ++ source ∷ []) c.new-wants.ensures.items)) c.raise.ensures.held;
+      room = omega (arith, c.raise.ensures.near);
     }
 
 pub loop-token-preserved : goal.loop-token-preserved
@@ -33,6 +35,8 @@ loop-token-preserved g c =
     record {
       read = read_next ts i c.loop-token.count a b c.loop-token-test.true c.loop-token.invariant.read c.in-Ok.next c.requires.ends (subst (λ (x : Token). Stepped c.loop-token.count x (Ok c.in-Ok.next) a b) t c.in-Ok.ensures.stepped);
       spent = omega (arith, c.loop-token.invariant.spent, c.in-Ok.ensures.paid);
+      held = c.in-Ok.ensures.held;
+      room = omega (arith, c.loop-token.invariant.room, c.in-Ok.ensures.room);
     }
 
 pub returns-in-Err-clause-refused : goal.returns-in-Err-clause-refused

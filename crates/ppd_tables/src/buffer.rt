@@ -12,26 +12,15 @@
 //! process consumer { for (int i = 0; i < 100; i++) { int v = get(); assert(v == i); } }
 //! ```
 
+use crate::parts::{block, body, cells, ids, name, scalars};
 use ppd_ast::{
-    Block, BlockKind, Body, Bytes, Cells, Expr, Ids, Kind, Op, Place, Plan, Policy, Program, Sem,
-    Seq, Start, Stmt, Target, Unit, Var,
+    Block, BlockKind, Body, Expr, Kind, Op, Place, Plan, Policy, Program, Sem, Seq, Start, Stmt,
+    Target, Unit, Var,
 };
 use std::alloc::{AllocError, Global};
 
 /// Which body the statement is of, in which statement it stands, and what it is.
-pub(crate) type Line = (u16, Option<u32>, Kind);
-
-pub(crate) fn name(alloc: Global, text: &str) -> Result<Bytes, AllocError> {
-    Ok(Seq::from_vec(Vec::from_slice(alloc, text.as_bytes())?))
-}
-
-pub(crate) fn ids(alloc: Global, items: &[u32]) -> Result<Ids, AllocError> {
-    Ok(Seq::from_vec(Vec::from_slice(alloc, items)?))
-}
-
-pub(crate) fn cells(alloc: Global, items: &[u16]) -> Result<Cells, AllocError> {
-    Ok(Seq::from_vec(Vec::from_slice(alloc, items)?))
-}
+type Line = (u16, Option<u32>, Kind);
 
 fn exprs(alloc: Global) -> Result<Seq<Expr>, AllocError> {
     let table = [
@@ -163,44 +152,6 @@ fn stmts(alloc: Global) -> Result<Seq<Stmt>, AllocError> {
     Ok(Seq::from_vec(stmts))
 }
 
-/// Scalars in the cells from `base` on.
-pub(crate) fn scalars(alloc: Global, base: u16, names: &[&str]) -> Result<Vec<Var>, AllocError> {
-    let mut vars = Vec::new(alloc);
-    let mut next = base;
-    for text in names {
-        vars.push(Var {
-            name: name(alloc, text)?,
-            base: next,
-            len: None,
-        })?;
-        next = next.saturating_add(1);
-    }
-    Ok(vars)
-}
-
-/// A body of this name, sort, parameters and locals, with the range of its statements.
-pub(crate) fn body(
-    alloc: Global,
-    text: &str,
-    (process, value, params): (bool, bool, u16),
-    locals: &[&str],
-    top: &[u32],
-    (first, end): (u32, u32),
-) -> Result<Body, AllocError> {
-    let vars = scalars(alloc, 0, locals)?;
-    Ok(Body {
-        name: name(alloc, text)?,
-        process,
-        params,
-        value,
-        cells: locals.len().min(256) as u16,
-        locals: Seq::from_vec(vars),
-        top: ids(alloc, top)?,
-        first,
-        end,
-    })
-}
-
 fn bodies(alloc: Global) -> Result<Seq<Body>, AllocError> {
     let mut bodies = Vec::new(alloc);
     let put: &[u32] = &[0, 1, 2, 3, 4, 5, 6];
@@ -257,20 +208,6 @@ pub fn program(alloc: Global) -> Result<Program, AllocError> {
         starts: Seq::from_vec(vec![in alloc; 0; 6]?),
         sems: sems(alloc)?,
         chans: Seq::new(alloc),
-    })
-}
-
-pub(crate) fn block(
-    alloc: Global,
-    kind: BlockKind,
-    prelog: &[u16],
-    value: bool,
-) -> Result<Block, AllocError> {
-    Ok(Block {
-        kind,
-        prelog: cells(alloc, prelog)?,
-        postlog: Seq::new(alloc),
-        value,
     })
 }
 

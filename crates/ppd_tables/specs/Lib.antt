@@ -1,0 +1,1 @@
+-- Tables have no definitions of their own.
