@@ -1,0 +1,357 @@
+// The summaries of worked programs: options, source and all that is written.
+
+use crate::trials::{call, flow, followed};
+use crate::{FollowError, Options, follow};
+use ppd_ast::{Place, Policy};
+use ppd_check::{CheckError, SourceError};
+use std::alloc::Global;
+use std::test::Fail;
+
+/// A call of a function by itself, with this argument from outside.
+fn recursion(alloc: Global, argument: u32) -> Result<String, Fail> {
+    let front =
+        "int f(int n) {\n  int r;\n  if (n > 0) {\n    r = f(n - 1);\n  }\n  return r + 1;\n}\n";
+    let text = format!(in alloc;
+        "{front}process a {{\n  int v = f({argument});\n  print(v);\n}}\n"
+    )?;
+    Ok(text)
+}
+
+// A source without options, and its whole summary.
+#[test]
+fn one_process_is_summed_up(rt: HostRuntime) -> Result<(), Fail> {
+    let alloc = rt.alloc();
+    for (source, text) in [
+        (
+            "shared int x; process a { x = 2; print(x + 3); }",
+            "process a ended steps 4\nprint a 5\nraces 0\n",
+        ),
+        // a function writes what the process reads
+        (
+            "shared int x; void f() { x = 4; } process a { x = 1; f(); print(x); }",
+            "process a ended steps 7\nprint a 4\nraces 0\n",
+        ),
+        (
+            "shared int x; void f(int k) { x = k; } process a { f(9); print(x); }",
+            "process a ended steps 6\nprint a 9\nraces 0\n",
+        ),
+        // the inner name is a cell of its own, seen from just after its name
+        (
+            "process a { int x; x = 1; { int x = x; print(x); } } /* */",
+            "process a ended steps 5\nprint a 0\nraces 0\n",
+        ),
+        // the right operand is not read where the left one settles the answer
+        (
+            "shared int a[2];\nprocess p {\n  int i;\n  a[0] = 5;\n  a[1] = 6;\n  while (i < 2 && a[i] != 0) { i = i + 1; }\n  print(i);\n}\n",
+            "process p ended steps 12\nprint p 2\nraces 0\n",
+        ),
+        (
+            "shared int a[2];\nprocess p {\n  int i;\n  a[0] = 5;\n  a[1] = 6;\n  while (a[i] != 0) { i = i + 1; }\n  print(i);\n}\n",
+            "process p trap index 6:3 steps 10\nraces 0\n",
+        ),
+        // numbers end at 64 bits
+        (
+            "process a { print(9223372036854775807 + 1); }",
+            "process a trap overflow 1:13 steps 1\nraces 0\n",
+        ),
+        (
+            "process a { print(-9223372036854775807 - 1); }",
+            "process a ended steps 2\nprint a -9223372036854775808\nraces 0\n",
+        ),
+        (
+            "process a { print((-9223372036854775807 - 1) / -1); }",
+            "process a trap overflow 1:13 steps 1\nraces 0\n",
+        ),
+        // the other traps
+        (
+            "process a { print(1 % 0); }",
+            "process a trap zero 1:13 steps 1\nraces 0\n",
+        ),
+        (
+            "process a { print(1); assert(2 < 1); print(2); }",
+            "process a trap assert 1:23 steps 2\nprint a 1\nraces 0\n",
+        ),
+        // nobody gives what is waited for
+        (
+            "sem s; process a { print(1); P(s); }",
+            "process a blocked 1:30 steps 1\nprint a 1\nraces 0\n",
+        ),
+        ("process a { }", "process a ended steps 1\nraces 0\n"),
+    ] {
+        let trial = flow(alloc, source.as_bytes())?;
+        assert_eq!(rt; trial.status, 0, "{source}");
+        assert_eq!(rt; trial.text.as_slice(), text.as_bytes(), "{source}");
+    }
+    Ok(())
+}
+
+// 64 calls may be open, and no more.
+#[test]
+fn calls_go_64_deep(rt: HostRuntime) -> Result<(), Fail> {
+    let alloc = rt.alloc();
+    for (argument, text) in [
+        (2, "process a ended steps 14\nprint a 3\nraces 0\n"),
+        (63, "process a ended steps 258\nprint a 64\nraces 0\n"),
+        (64, "process a trap depth 4:5 steps 193\nraces 0\n"),
+    ] {
+        let trial = flow(alloc, recursion(alloc, argument)?.as_bytes())?;
+        assert_eq!(rt; trial.status, 0, "{argument}");
+        assert_eq!(rt; trial.text.as_slice(), text.as_bytes(), "{argument}");
+    }
+    Ok(())
+}
+
+// What a budget ends, and what the policy adds: the entry of a loop that is a block, and the value that a
+// function that is a block returns, which costs 1.
+#[test]
+fn options_show_in_the_summary(rt: HostRuntime) -> Result<(), Fail> {
+    let alloc = rt.alloc();
+    let endless = "process a { int i; while (1) { i = i + 1; } }";
+    let smallest = "shared int x; process a { x = 2; print(x + 3); }";
+    let never = "process a { int i = 3; while (i < 3) { i = i + 1; } print(i); }";
+    let once =
+        "int f() { return 7; } process a { int v; int i = 0; while (i < 1) { v = f(); i = i + 1; } print(v); }";
+    let returns = "int f() { return 7; } process a { int v = f(); print(v); }";
+    let rows: [(&[&str], &str, &str); 14] = [
+        (
+            &["--budget", "5"],
+            endless,
+            "process a budget 1:20 steps 5\nraces 0\n",
+        ),
+        (
+            &["--budget=5"],
+            endless,
+            "process a budget 1:20 steps 5\nraces 0\n",
+        ),
+        (
+            &["--budget", "1"],
+            endless,
+            "process a budget 1:20 steps 1\nraces 0\n",
+        ),
+        (
+            &["--budget", "4"],
+            smallest,
+            "process a ended steps 4\nprint a 5\nraces 0\n",
+        ),
+        (
+            &["--budget", "3"],
+            smallest,
+            "process a budget 1:48 steps 3\nprint a 5\nraces 0\n",
+        ),
+        (
+            &["--budget", "2"],
+            smallest,
+            "process a budget 1:34 steps 2\nraces 0\n",
+        ),
+        (&[], never, "process a ended steps 4\nprint a 3\nraces 0\n"),
+        (
+            &["--loops", "1"],
+            never,
+            "process a ended steps 5\nprint a 3\nraces 0\n",
+        ),
+        (
+            &["--loops", "2"],
+            never,
+            "process a ended steps 4\nprint a 3\nraces 0\n",
+        ),
+        (
+            &["--loops", "1"],
+            once,
+            "process a ended steps 10\nprint a 7\nraces 0\n",
+        ),
+        (
+            &["--loops=3"],
+            once,
+            "process a ended steps 9\nprint a 7\nraces 0\n",
+        ),
+        (
+            &["--budget", "5"],
+            returns,
+            "process a ended steps 4\nprint a 7\nraces 0\n",
+        ),
+        (
+            &["--leaf=1", "--budget=4"],
+            returns,
+            "process a budget 1:58 steps 3\nprint a 7\nraces 0\n",
+        ),
+        (
+            &["--budget=4", "--leaf=2"],
+            returns,
+            "process a ended steps 4\nprint a 7\nraces 0\n",
+        ),
+    ];
+    for (options, source, text) in rows {
+        let mut words = Vec::from_slice(alloc, &["flow"])?;
+        words.extend_from_slice(options)?;
+        words.push("row.c")?;
+        let trial = call(alloc, &words, "row.c", source.as_bytes())?;
+        assert_eq!(rt; trial.status, 0, "{source}");
+        assert_eq!(rt; trial.text.as_slice(), text.as_bytes(), "{source}");
+    }
+    Ok(())
+}
+
+const LOCKED: &str =
+    "shared int x; sem m = 1; process a { P(m); x = x + 1; V(m); } process b { P(m); x = x + 1; V(m); }";
+
+const COUNTED: &str =
+    "shared int x; sem m = 2; process a { P(m); x = x + 1; V(m); } process b { P(m); x = x + 1; V(m); }";
+
+const BOUNDED: &str =
+    "shared int x; chan c[1]; process a { send(c, 7); send(c, 8); x = 2; } process b { int v; print(x); v = recv(c); v = recv(c); }";
+
+const UNREAD: &str =
+    "shared int x, y; sem s = 1; process p { P(s); if (y) { print(x); } } process q { x = 5; }";
+
+const DEADLOCK: &str = "sem s = 1, t = 1; process a { P(s); P(t); } process b { P(t); P(s); }";
+
+const UNGUARDED: &str = "shared int x; process a { x = x + 1; print(x); } process b { x = x + 1; }";
+
+// Of two processes the process lines and print lines alone, the lowest that can take a step first.
+#[test]
+fn two_processes_are_summed_up(rt: HostRuntime) -> Result<(), Fail> {
+    let alloc = rt.alloc();
+    for (source, text) in [
+        (LOCKED, "process a ended steps 5\nprocess b ended steps 5\n"),
+        (
+            COUNTED,
+            "process a ended steps 5\nprocess b ended steps 5\n",
+        ),
+        (
+            BOUNDED,
+            "process a ended steps 4\nprocess b ended steps 6\nprint b 0\n",
+        ),
+        (UNREAD, "process p ended steps 4\nprocess q ended steps 2\n"),
+        (
+            DEADLOCK,
+            "process a ended steps 3\nprocess b blocked 1:57 steps 0\n",
+        ),
+        (
+            UNGUARDED,
+            "process a ended steps 5\nprint a 1\nprocess b ended steps 3\n",
+        ),
+        (
+            "shared int a[2]; process p { a[0] = 1; } process q { a[1] = 2; }",
+            "process p ended steps 2\nprocess q ended steps 2\n",
+        ),
+    ] {
+        let trial = flow(alloc, source.as_bytes())?;
+        assert_eq!(rt; trial.status, 0, "{source}");
+        assert_eq!(rt; trial.text.as_slice(), text.as_bytes(), "{source}");
+    }
+    Ok(())
+}
+
+// A source, a whole schedule and the summary.
+#[test]
+fn whole_schedules_are_followed(rt: HostRuntime) -> Result<(), Fail> {
+    let alloc = rt.alloc();
+    let both = "process a ended steps 5\nprocess b ended steps 5\n";
+    let unread = "process p ended steps 4\nprocess q ended steps 2\n";
+    let bounded = "process a ended steps 4\nprocess b ended steps 6\nprint b 0\n";
+    let rows: [(&str, &[u8], &str); 13] = [
+        (LOCKED, &[0, 0, 0, 0, 0, 1, 1, 1, 1, 1], both),
+        (LOCKED, &[1, 1, 1, 1, 1, 0, 0, 0, 0, 0], both),
+        (COUNTED, &[0, 1, 0, 1, 0, 1, 0, 1, 0, 1], both),
+        (BOUNDED, &[0, 1, 1, 1, 1, 0, 0, 0, 1, 1], bounded),
+        (BOUNDED, &[1, 1, 1, 0, 1, 0, 1, 1, 0, 0], bounded),
+        (UNREAD, &[0, 0, 0, 0, 1, 1], unread),
+        (UNREAD, &[1, 1, 0, 0, 0, 0], unread),
+        (
+            DEADLOCK,
+            &[0, 1],
+            "process a blocked 1:37 steps 1\nprocess b blocked 1:63 steps 1\n",
+        ),
+        (
+            DEADLOCK,
+            &[1, 1, 1],
+            "process a blocked 1:31 steps 0\nprocess b ended steps 3\n",
+        ),
+        // one increment is lost where both read first
+        (
+            UNGUARDED,
+            &[0, 1, 0, 1, 0, 0, 0, 1],
+            "process a ended steps 5\nprint a 1\nprocess b ended steps 3\n",
+        ),
+        (
+            UNGUARDED,
+            &[0, 0, 1, 1, 0, 0, 0, 1],
+            "process a ended steps 5\nprint a 2\nprocess b ended steps 3\n",
+        ),
+        (
+            UNGUARDED,
+            &[1, 1, 1, 0, 0, 0, 0, 0],
+            "process a ended steps 5\nprint a 2\nprocess b ended steps 3\n",
+        ),
+        // one process alone has no races
+        (
+            "shared int x; process a { x = 2; print(x + 3); }",
+            &[0, 0, 0, 0],
+            "process a ended steps 4\nprint a 5\nraces 0\n",
+        ),
+    ];
+    for (source, schedule, text) in rows {
+        let Ok(written) = followed(alloc, source, schedule) else {
+            return Err(Fail::new("not followed"));
+        };
+        assert_eq!(rt; written.as_slice(), text.as_bytes(), "{source}");
+    }
+    Ok(())
+}
+
+// A stop for the budget is a number of the schedule and no step.
+#[test]
+fn a_stop_is_scheduled(rt: HostRuntime) -> Result<(), Fail> {
+    let alloc = rt.alloc();
+    let endless = "process a { int i; while (1) { i = i + 1; } }".as_bytes();
+    let options = Options {
+        budget: 5,
+        policy: Policy { leaf: 0, loops: 0 },
+    };
+    let Ok(written) = follow(alloc, endless, &options, &[], &[0, 0, 0, 0, 0, 0]) else {
+        return Err(Fail::new("not followed"));
+    };
+    assert_eq!(rt;
+        written.as_slice(),
+        b"process a budget 1:20 steps 5\nraces 0\n".as_slice()
+    );
+    let early = follow(alloc, endless, &options, &[], &[0, 0, 0, 0, 0]);
+    assert_eq!(rt; early.err(), Some(FollowError::NotWhole));
+    let late = follow(alloc, endless, &options, &[], &[0, 0, 0, 0, 0, 0, 0]);
+    assert_eq!(rt; late.err(), Some(FollowError::NotEnabled(6)));
+    Ok(())
+}
+
+// Why a schedule is not followed. A number that no process can take comes before want of numbers.
+#[test]
+fn schedules_that_are_refused(rt: HostRuntime) -> Result<(), Fail> {
+    let alloc = rt.alloc();
+    let rows: [(&str, &[u8], FollowError); 13] = [
+        (DEADLOCK, &[0, 1, 0], FollowError::NotEnabled(2)),
+        (DEADLOCK, &[0], FollowError::NotWhole),
+        (DEADLOCK, &[], FollowError::NotWhole),
+        (DEADLOCK, &[2], FollowError::NotEnabled(0)),
+        (DEADLOCK, &[0, 255], FollowError::NotEnabled(1)),
+        (DEADLOCK, &[0, 1, 1, 9], FollowError::NotEnabled(2)),
+        (BOUNDED, &[0, 0], FollowError::NotEnabled(1)),
+        (BOUNDED, &[1, 1, 1, 1], FollowError::NotEnabled(3)),
+        (LOCKED, &[0, 1], FollowError::NotEnabled(1)),
+        (LOCKED, &[0, 0, 0, 0, 0, 1, 1, 1, 1], FollowError::NotWhole),
+        ("process a { }", &[0, 0], FollowError::NotEnabled(1)),
+        ("process a { }", &[1], FollowError::NotEnabled(0)),
+        // the source is refused before any schedule
+        (
+            "",
+            &[9],
+            FollowError::Refused(SourceError::Check(CheckError::NoProcess(Place {
+                line: 1,
+                column: 1,
+            }))),
+        ),
+    ];
+    for (source, schedule, error) in rows {
+        let answer = followed(alloc, source, schedule);
+        assert_eq!(rt; answer.err(), Some(error), "{source}");
+    }
+    Ok(())
+}
