@@ -17,7 +17,6 @@ use Rattle.ppd_model.specs.declared.flow.Origin.TheVariants.{Entry, Item as Item
 use Rattle.ppd_model.specs.declared.trace.TracedEvent.{TracedEvent}
 use Rattle.ppd_model.specs.World.{enabled}
 use Rattle.ppd_model.specs.Schedule.{IsWhole}
-use Rattle.ppd_model.specs.FullTrace.{full_trace}
 use Rattle.ppd_model.specs.Story.{Story, story, told}
 use Rattle.ppd_model.specs.FullTrace.{full_trace}
 use Rattle.ppd_model.specs.Record.{accesses, sync_record}
@@ -27,10 +26,6 @@ use Rattle.ppd_model.specs.Intervals.{items}
 use Rattle.ppd_model.specs.FlowbackEdges.{last}
 use Rattle.ppd_model.proofs.Rows.Tables.{stmt_in, scalar, body_of, block_of, unit_of, access, event, quiet, id, traced, ended, read_from, control_from}
 use Rattle.ppd_model.proofs.Rows.Showing.{touched, extent, extents, whys, nears}
-use Rattle.ppd_model.specs.Intervals.{intervals, items}
-use Rattle.ppd_model.specs.FlowbackEdges.{edges}
-use Rattle.ppd_model.specs.NearIntervals.{near_steps}
-use Rattle.ppd_model.proofs.Rows.Tables.{stmt_in, scalar, body_of, block_of, unit_of, access, event, ended, read_from, control_from, id, quiet, traced}
 
 abbrev pub program : Program
 program = record {
@@ -155,9 +150,3 @@ nears_a_1 = refl
 pub final_x : last program plan 100000 the_story 0 ≡ (pos 4, ItemAt 0 1 0)
 unfolding terms
 final_x = refl
-log = refl
-
--- the print reads what the callee wrote
-pub trace : full_trace program plan 100000 schedule ≡ record { events = (traced (event 2 [] (access (Shared 0) (pos 1) ∷ []) None None None) [] None None ∷ traced (quiet 3) [] None None ∷ traced (event 0 [] (access (Shared 0) (pos 4) ∷ []) None None None) [] (Some (id 0 1)) None ∷ traced (quiet 1) [] (Some (id 0 1)) None ∷ traced (event 4 (access (Shared 0) (pos 4) ∷ []) [] (Some (pos 4)) None None) (Some (id 0 2) ∷ []) None None ∷ traced (quiet 5) [] None None ∷ []) ∷ [] }
-unfolding terms
-trace = refl

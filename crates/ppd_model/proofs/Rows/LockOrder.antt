@@ -19,7 +19,6 @@ use Rattle.ppd_model.specs.declared.flow.Origin.TheVariants.{Initial, Entry, Ite
 use Rattle.ppd_model.specs.declared.trace.TracedEvent.{TracedEvent}
 use Rattle.ppd_model.specs.World.{enabled}
 use Rattle.ppd_model.specs.Schedule.{IsWhole}
-use Rattle.ppd_model.specs.FullTrace.{full_trace}
 use Rattle.ppd_model.specs.Story.{Story, story, told}
 use Rattle.ppd_model.specs.FullTrace.{full_trace}
 use Rattle.ppd_model.specs.Synchronizations.{Sync}
@@ -32,8 +31,6 @@ use Rattle.ppd_model.specs.FlowbackEdges.{last}
 use Rattle.ppd_model.proofs.Rows.Tables.{stmt_in, scalar, body_of, block_of, unit_of, access, event, quiet, id, traced, ended, read_from, sync_from, control_from}
 use Rattle.ppd_model.proofs.Rows.Showing.{synced, touched, extent, extents, whys, nears}
 use Rattle.ppd_model.proofs.Rows.Every.{outcome, every_whole}
-use Rattle.ppd_model.specs.FlowbackEdges.{edges, last}
-use Rattle.ppd_model.proofs.Rows.Tables.{stmt_in, scalar, body_of, block_of, unit_of, access, event, ended, read_from, sync_from, control_from, id, quiet, traced}
 
 abbrev pub program : Program
 program = record {
@@ -320,18 +317,3 @@ apart agree =
 pub every : (h : List ℕ) → IsWhole program plan 100000 h → outcome program plan 100000 h ≡ (ended status.Ended 3 5 [] ∷ ended status.Ended 7 5 [] ∷ [], [])
 unfolding terms
 every h whole = every_whole program plan 100000 11 12 (outcome program plan 100000) _ refl refl h whole
--- b's P follows a's V
-pub trace_first : full_trace program plan 100000 first ≡ record {
-  events =
-      (traced (event 0 [] [] None (Some 1) None) [] None None ∷ traced (event 1 (access (Shared 0) (pos 0) ∷ []) (access (Shared 0) (pos 1) ∷ []) None None None) (None ∷ []) None None ∷ traced (event 2 [] [] None (Some 2) None) [] None None ∷ traced (quiet 3) [] None None ∷ [])
-      ∷ (traced (event 4 [] [] None (Some 2) None) [] None (Some (id 0 2)) ∷ traced (event 5 (access (Shared 0) (pos 1) ∷ []) (access (Shared 0) (pos 2) ∷ []) None None None) (Some (id 0 1) ∷ []) None None ∷ traced (event 6 [] [] None (Some 3) None) [] None None ∷ traced (quiet 7) [] None None ∷ []) ∷ [];
-}
-trace_first = refl
-
--- a's P follows b's V
-pub trace_second : full_trace program plan 100000 second ≡ record {
-  events =
-      (traced (event 0 [] [] None (Some 2) None) [] None (Some (id 1 2)) ∷ traced (event 1 (access (Shared 0) (pos 1) ∷ []) (access (Shared 0) (pos 2) ∷ []) None None None) (Some (id 1 1) ∷ []) None None ∷ traced (event 2 [] [] None (Some 3) None) [] None None ∷ traced (quiet 3) [] None None ∷ [])
-      ∷ (traced (event 4 [] [] None (Some 1) None) [] None None ∷ traced (event 5 (access (Shared 0) (pos 0) ∷ []) (access (Shared 0) (pos 1) ∷ []) None None None) (None ∷ []) None None ∷ traced (event 6 [] [] None (Some 2) None) [] None None ∷ traced (quiet 7) [] None None ∷ []) ∷ [];
-}
-trace_second = refl

@@ -18,7 +18,6 @@ use Rattle.ppd_model.specs.declared.flow.Origin.TheVariants.{Entry, Item as Item
 use Rattle.ppd_model.specs.declared.trace.TracedEvent.{TracedEvent}
 use Rattle.ppd_model.specs.World.{enabled}
 use Rattle.ppd_model.specs.Schedule.{IsWhole}
-use Rattle.ppd_model.specs.FullTrace.{full_trace}
 use Rattle.ppd_model.specs.Story.{Story, story, told}
 use Rattle.ppd_model.specs.FullTrace.{full_trace}
 use Rattle.ppd_model.specs.Record.{accesses, sync_record}
@@ -27,8 +26,6 @@ use Rattle.ppd_model.specs.Logs.{close, logs}
 use Rattle.ppd_model.specs.Intervals.{items}
 use Rattle.ppd_model.proofs.Rows.Tables.{stmt_in, scalar, body_of, block_of, unit_of, access, event, quiet, id, traced, ended, read_from, left_from, control_from}
 use Rattle.ppd_model.proofs.Rows.Showing.{extent, extents, whys, nears}
-use Rattle.ppd_model.specs.FlowbackEdges.{edges}
-use Rattle.ppd_model.proofs.Rows.Tables.{stmt_in, scalar, body_of, block_of, unit_of, access, event, ended, read_from, left_from, control_from, id, quiet, traced}
 
 abbrev pub program : Program
 program = record {
@@ -142,9 +139,3 @@ nears_a_0 = refl
 pub nears_a_1 : nears program plan 100000 the_story 0 1 1 ≡ 5 ∷ []
 unfolding terms
 nears_a_1 = refl
-log = refl
-
--- the entry of the loop is no event
-pub trace : full_trace program plan 100000 schedule ≡ record { events = (traced (event 0 [] (access (Local 0 0) (pos 3) ∷ []) None None None) [] None None ∷ traced (event 1 (access (Local 0 0) (pos 3) ∷ []) [] (Some (pos 0)) None None) (Some (id 0 0) ∷ []) None None ∷ traced (event 3 (access (Local 0 0) (pos 3) ∷ []) [] (Some (pos 3)) None None) (Some (id 0 0) ∷ []) None None ∷ traced (quiet 4) [] None None ∷ []) ∷ [] }
-unfolding terms
-trace = refl

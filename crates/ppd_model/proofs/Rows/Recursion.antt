@@ -19,7 +19,6 @@ use Rattle.ppd_model.specs.declared.flow.Origin.TheVariants.{Entry, Item as Item
 use Rattle.ppd_model.specs.declared.trace.TracedEvent.{TracedEvent}
 use Rattle.ppd_model.specs.World.{enabled}
 use Rattle.ppd_model.specs.Schedule.{IsWhole}
-use Rattle.ppd_model.specs.FullTrace.{full_trace}
 use Rattle.ppd_model.specs.Story.{Story, story, told}
 use Rattle.ppd_model.specs.FullTrace.{full_trace}
 use Rattle.ppd_model.specs.Record.{accesses, sync_record}
@@ -28,8 +27,6 @@ use Rattle.ppd_model.specs.Logs.{close, logs}
 use Rattle.ppd_model.specs.Intervals.{items}
 use Rattle.ppd_model.proofs.Rows.Tables.{stmt_in, scalar, body_of, block_of, unit_of, access, event, quiet, id, traced, ended, read_from, returned_from, control_from}
 use Rattle.ppd_model.proofs.Rows.Showing.{extent, extents, whys, nears}
-use Rattle.ppd_model.specs.FlowbackEdges.{edges}
-use Rattle.ppd_model.proofs.Rows.Tables.{stmt_in, scalar, body_of, block_of, unit_of, access, event, ended, read_from, returned_from, control_from, id, quiet, traced}
 
 abbrev pub program : Program
 program = record {
@@ -220,25 +217,3 @@ ends_63 = refl
 pub ends_64 : (close (deeper 64) plan 100000 (replicate 193 0)).ends ≡ ended (status.Trap trap.Depth) 2 193 [] ∷ []
 unfolding terms
 ends_64 = refl
-
--- each call's parameter is written by the call, and its result by the return
-pub trace : full_trace program plan 100000 schedule ≡ record {
-  events = (
-      traced (event 4 [] (access (Local 1 0) (pos 2) ∷ []) None None None) [] None None
-      ∷ traced (event 0 [] (access (Local 0 1) (pos 0) ∷ []) None None None) [] (Some (id 0 0)) None
-      ∷ traced (event 1 (access (Local 0 0) (pos 2) ∷ []) [] (Some (pos 1)) None None) (Some (id 0 0) ∷ []) (Some (id 0 0)) None
-      ∷ traced (event 2 (access (Local 0 0) (pos 2) ∷ []) (access (Local 1 0) (pos 1) ∷ []) None None None) (Some (id 0 0) ∷ []) (Some (id 0 2)) None
-      ∷ traced (event 0 [] (access (Local 0 1) (pos 0) ∷ []) None None None) [] (Some (id 0 3)) None
-      ∷ traced (event 1 (access (Local 0 0) (pos 1) ∷ []) [] (Some (pos 1)) None None) (Some (id 0 3) ∷ []) (Some (id 0 3)) None
-      ∷ traced (event 2 (access (Local 0 0) (pos 1) ∷ []) (access (Local 1 0) (pos 0) ∷ []) None None None) (Some (id 0 3) ∷ []) (Some (id 0 5)) None
-      ∷ traced (event 0 [] (access (Local 0 1) (pos 0) ∷ []) None None None) [] (Some (id 0 6)) None
-      ∷ traced (event 1 (access (Local 0 0) (pos 0) ∷ []) [] (Some (pos 0)) None None) (Some (id 0 6) ∷ []) (Some (id 0 6)) None
-      ∷ traced (event 3 (access (Local 0 1) (pos 0) ∷ []) [] (Some (pos 1)) None None) (Some (id 0 7) ∷ []) (Some (id 0 6)) None
-      ∷ traced (event 3 (access (Local 0 1) (pos 1) ∷ []) [] (Some (pos 2)) None None) (Some (id 0 9) ∷ []) (Some (id 0 3)) None
-      ∷ traced (event 3 (access (Local 0 1) (pos 2) ∷ []) [] (Some (pos 3)) None None) (Some (id 0 10) ∷ []) (Some (id 0 0)) None
-      ∷ traced (event 5 (access (Local 0 0) (pos 3) ∷ []) [] (Some (pos 3)) None None) (Some (id 0 11) ∷ []) None None
-      ∷ traced (quiet 6) [] None None ∷ []
-      ) ∷ [];
-}
-unfolding terms
-trace = refl
