@@ -50,7 +50,7 @@ for name in NAMES:
                 wrong.append(f"{name}:{number} names something outside: {line.strip()[:80]}")
 
 # an example is the data that a program is run on, or the very text of a test
-tests = "".join(text_of(name) for name in NAMES if name.startswith("crates/ppd_top/src/"))
+tests = "".join(text_of(name) for name in NAMES if name.startswith("crates/ppd_answers/src/"))
 for name in NAMES:
     if name.startswith("examples/") and name.endswith(".c"):
         source = text_of(name)

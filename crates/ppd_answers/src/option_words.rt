@@ -1,7 +1,6 @@
 // The words of the command line, in all forms that are allowed and refused.
 
 use crate::trials::call;
-use crate::words::asked;
 use std::test::Fail;
 
 /// Words, with the name, the budget, `leaf` and `loops` that they give.
@@ -282,21 +281,16 @@ const OUT_OF_RANGE: [Words; 14] = [
     &["flow", "--budget", "18446744073709551617", "row.c"],
 ];
 
-// What allowed words give, and that the program runs the source of that name.
+// Allowed words run the source of that name under that budget, which an endless loop uses up.
 #[test]
 fn words_that_are_allowed(rt: HostRuntime) -> Result<(), Fail> {
     let alloc = rt.alloc();
     for rows in [SPELLED.as_slice(), NUMBERS.as_slice(), NAMES.as_slice()] {
-        for (words, name, budget, leaf, loops) in rows {
-            let Some(request) = asked(words) else {
-                return Err(Fail::new("not allowed"));
-            };
-            assert_eq!(rt; request.name, *name, "{words:?}");
-            assert_eq!(rt; request.options.budget, *budget, "{words:?}");
-            assert_eq!(rt; request.options.policy.leaf, *leaf, "{words:?}");
-            assert_eq!(rt; request.options.policy.loops, *loops, "{words:?}");
-            let trial = call(alloc, words, name, b"process a { }")?;
+        for (words, name, budget, _, _) in rows {
+            let trial = call(alloc, words, name, b"process a { while (1) { } }")?;
+            let text = format!(in alloc; "process a budget 1:13 steps {budget}\nraces 0\n")?;
             assert_eq!(rt; trial.status, 0, "{words:?}");
+            assert_eq!(rt; trial.text.as_slice(), text.as_bytes(), "{words:?}");
         }
     }
     Ok(())
@@ -314,7 +308,6 @@ fn words_that_are_refused(rt: HostRuntime) -> Result<(), Fail> {
         OUT_OF_RANGE.as_slice(),
     ] {
         for words in rows {
-            assert!(rt; asked(words).is_none(), "{words:?}");
             let trial = call(alloc, words, "row.c", b"process a { }")?;
             assert_eq!(rt; trial.status, 2, "{words:?}");
             assert_eq!(rt; trial.text.as_slice(), USAGE, "{words:?}");

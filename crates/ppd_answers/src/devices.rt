@@ -1,9 +1,9 @@
 // Devices that fail, and devices that never do.
 
-use crate::ppd;
 use ppd_io::{
     FreeGate, MemoryShelf, MemorySink, MemorySource, Shelf, SteadyShelf, SteadySink, SteadySource,
 };
+use ppd_top::ppd;
 use std::alloc::Global;
 use std::test::Fail;
 

@@ -2,11 +2,11 @@
 ghost use Rattle.std.specs.Prelude.{◌≡◌, true, IfSome};
 ghost use Rattle.ppd_world.specs.Running.{IsReached, can_step};
 
-use crate::{FollowError, Options, follow, ppd};
 use ppd_ast::limits::MOST_PROCESSES;
 use ppd_ast::{Memory, Plan, Policy};
 use ppd_check::read_source;
 use ppd_io::{FreeGate, MemoryShelf, MemorySink, MemorySource};
+use ppd_top::{FollowError, Options, follow, ppd};
 use ppd_world::World;
 use std::alloc::Global;
 use std::test::Fail;

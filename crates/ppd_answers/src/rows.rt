@@ -1,9 +1,9 @@
 // The summaries of worked programs: options, source and all that is written.
 
 use crate::trials::{call, flow, followed};
-use crate::{FollowError, Options, follow};
 use ppd_ast::{Place, Policy};
 use ppd_check::{CheckError, SourceError};
+use ppd_top::{FollowError, Options, follow};
 use std::alloc::Global;
 use std::test::Fail;
 

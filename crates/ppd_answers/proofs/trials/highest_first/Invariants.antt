@@ -1,5 +1,5 @@
 use Rattle.ppd_world.specs.Running.{IsReached}
-use Rattle.ppd_top.proofs.trials.highest_first.Given as goal
+use Rattle.ppd_answers.proofs.trials.highest_first.Given as goal
 
 abbrev pub invariant-loop : goal.invariant-loop
 invariant-loop l = IsReached l.world

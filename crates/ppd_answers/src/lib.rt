@@ -1,0 +1,15 @@
+//! Worked rows, examples, words and devices: tests of what the program answers.
+#![tactic(auto)]
+
+#[cfg(test)]
+mod devices;
+#[cfg(test)]
+mod examples;
+#[cfg(test)]
+mod option_words;
+#[cfg(test)]
+mod refused_rows;
+#[cfg(test)]
+mod rows;
+#[cfg(test)]
+mod trials;
