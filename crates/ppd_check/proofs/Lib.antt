@@ -5,6 +5,7 @@ pub mod Counted
 pub mod Declarations
 pub mod Declaring
 pub mod Ended
+pub mod Excluded
 pub mod Filling
 pub mod First
 pub mod Flat

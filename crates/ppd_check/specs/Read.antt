@@ -54,3 +54,11 @@ by_parse e = S.Syntax e
 abbrev pub by_check : CheckError → SourceError
 by_check C.Memory = S.Memory
 by_check e = S.Check e
+
+-- bytes have one program at most
+abbrev pub HaveOneProgram : Type 0
+HaveOneProgram = (bytes : List ℕ) (p q : Program) → IsRead bytes p → IsRead bytes q → p ≡ q
+
+-- bytes that have a program are refused for want of memory alone
+abbrev pub AreReadOrRefused : Type 0
+AreReadOrRefused = (bytes : List ℕ) (p : Program) (e : SourceError) → IsRead bytes p → IsRefused bytes e → e ≡ S.Memory
