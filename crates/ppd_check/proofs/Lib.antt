@@ -6,6 +6,9 @@ pub mod First
 pub mod Flat
 pub mod Inside
 pub mod Joined
+pub mod LimitsCore
+pub mod LimitsGrammar
+pub mod LimitsSaid
 pub mod Listing
 pub mod Lookup
 pub mod Nested

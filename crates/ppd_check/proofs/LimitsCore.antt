@@ -34,8 +34,8 @@ use Rattle.ppd_check.specs.Fitted.{as_short}
 use Rattle.ppd_check.specs.Table.{act_terms, spot_terms, terms}
 use Rattle.ppd_check.specs.Statements.{after_cells, declared, with_hidden, hidden_name, hidden_if, via_hidden, return_via_hidden, opened, closed, spot, spot_of, goal_name, after, after_any, after_row, place_of, put, store_acts, return_acts, acts_of, code_of, code_of_any, row_code}
 use Rattle.ppd_check.specs.Sources.{Head, Object, Globals, no_globals, with_item, with_items, globals, ends_with_return, close_code, head_code, head_frame, entry, outer, with_params, heads, vars, sem, chan}
-use Rattle.ppd_lawlimits.proofs.LimitsGrammar.{levels, FitsAll, statement_in, place_in, fits_program, statements_program, places_program}
-use Rattle.ppd_lawlimits.proofs.LimitsSaid.{operators, indexes, IsSmall, IsShort, IsSmallValue, IsSmallIfAny, IsSmallSimple, IsSmallChange, IsSmallRow, IsSmallItem, AreShort, AreShortIn, small_source}
+use Rattle.ppd_check.proofs.LimitsGrammar.{levels, FitsAll, statement_in, place_in, fits_program, statements_program, places_program}
+use Rattle.ppd_check.proofs.LimitsSaid.{operators, indexes, IsSmall, IsShort, IsSmallValue, IsSmallIfAny, IsSmallSimple, IsSmallChange, IsSmallRow, IsSmallItem, AreShort, AreShortIn, small_source}
 
 -- how deep statements stand in one another, those of the row itself at 1
 abbrev pub nesting : Code → ℕ

@@ -1,3 +1,0 @@
-pub mod LimitsGrammar
-pub mod LimitsSaid
-pub mod LimitsCore

@@ -1,2 +1,0 @@
-//! Laws on the limits of accepted sources.
-#![tactic(auto)]
