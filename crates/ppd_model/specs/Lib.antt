@@ -18,3 +18,4 @@ pub mod NearIntervals
 pub mod Bounds
 pub mod Laws
 pub mod LocalTags
+pub mod Parents
