@@ -19,7 +19,7 @@ use Rattle.ppd_model.proofs.LocalSteps.{tags_its_writes}
 use Rattle.ppd_model.proofs.States.{states-begun, states-tell}
 use Rattle.ppd_model.proofs.Stories.{steps-change}
 
-has_all : (program : Program) (plan : Plan) (story : Story) (p : ℕ) (t : Tracing) (xs : List Taken) → HasTags t → AreOwn program plan t.proc xs → HasTags (fold (trace_step program plan story p) t xs)
+pub has_all : (program : Program) (plan : Plan) (story : Story) (p : ℕ) (t : Tracing) (xs : List Taken) → HasTags t → AreOwn program plan t.proc xs → HasTags (fold (trace_step program plan story p) t xs)
 has_all program plan story p t [] has own = has
 has_all program plan story p t (x ∷ xs) has own =
     has_all program plan story p (trace_step program plan story p t x) xs (tags_its_writes program plan story p t x has own.0).has_tags own.1
@@ -120,10 +120,10 @@ abbrev no_tag : Tag
 no_tag = None
 
 -- the activations of frames that have no tags
-abbrev begun_at : List Frame → List Activation
+abbrev pub begun_at : List Frame → List Activation
 begun_at frames = map (λ f. record { call = None; tags = map (λ _. None) f.cells; tests = [] }) frames
 
-has_begun : (frames : List Frame) → map length (locals (begun_at frames)) ≡ sizes frames
+pub has_begun : (frames : List Frame) → map length (locals (begun_at frames)) ≡ sizes frames
 has_begun [] = refl
 has_begun (f ∷ fs) = ap (λ n. n ∷ map length (locals (begun_at fs))) (length-map f.cells (λ _. no_tag)) ∙ ap (λ ns. length f.cells ∷ ns) (has_begun fs)
 

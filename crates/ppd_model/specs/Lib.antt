@@ -19,3 +19,4 @@ pub mod Bounds
 pub mod Laws
 pub mod LocalTags
 pub mod Earlier
+pub mod Parents

@@ -18,6 +18,9 @@ pub use laws::{
     no_race_means_order, processes_follow_their_steps, schedules_are_bounded,
     steps_change_their_own, stories_grow, stories_tell_all, synchronizations_are_counted,
     tags_are_last_writes, traces_are_of_runs,
+    no_race_means_order, parents_are_latest_tests, processes_follow_their_steps,
+    schedules_are_bounded, steps_change_their_own, stories_grow, stories_tell_all,
+    synchronizations_are_counted, tags_are_last_writes,
 };
 pub use state::{Channel, Counts, Logging};
 pub use trace::{DriveError, EventId, Trace, TracedEvent};
