@@ -51,21 +51,20 @@ fn is_id(event: Option<EventId>, id: Id) -> bool {
 }
 
 fn is_read(reads: &[Access], writers: &[Option<EventId>], row: Option<(Spot, i64, Id)>) -> bool {
-    match (reads, writers, row) {
-        ([], [], None) => true,
-        ([read], [writer], Some((spot, value, id))) => {
-            read.spot == spot && read.value == value && is_id(*writer, id)
-        }
-        _ => false,
+    let Some((spot, value, id)) = row else {
+        return reads.is_empty() && writers.is_empty();
+    };
+    if reads.len() != 1 || writers.len() != 1 {
+        return false;
     }
+    reads[0].spot == spot && reads[0].value == value && is_id(writers[0], id)
 }
 
 fn is_write(writes: &[Access], row: Option<(Spot, i64)>) -> bool {
-    match (writes, row) {
-        ([], None) => true,
-        ([write], Some((spot, value))) => write.spot == spot && write.value == value,
-        _ => false,
-    }
+    let Some((spot, value)) = row else {
+        return writes.is_empty();
+    };
+    writes.len() == 1 && writes[0].spot == spot && writes[0].value == value
 }
 
 fn is_row(traced: &TracedEvent, row: &Row) -> bool {
