@@ -12,13 +12,13 @@ use std::alloc::Global;
 /// An event by its process and number.
 pub type Id = Option<(u8, u32)>;
 
-/// An event: its statement, its reads with their writers, its writes, its value, its number, its trap,
-/// its parent and its pair.
+/// An event: its statement, its read with the writer, its write, its value, its number, its trap, its
+/// parent and its pair.
 #[derive(Clone, Copy)]
-pub struct Row<'a> {
+pub struct Row {
     pub stmt: u32,
-    pub reads: &'a [(Spot, i64, Id)],
-    pub writes: &'a [(Spot, i64)],
+    pub read: Option<(Spot, i64, Id)>,
+    pub write: Option<(Spot, i64)>,
     pub value: Option<i64>,
     pub number: Option<u32>,
     pub trap: Option<Trap>,
@@ -27,11 +27,11 @@ pub struct Row<'a> {
 }
 
 /// An event that reads and writes nothing and has no value, number and trap, in a process by itself.
-pub fn plain<'a>(stmt: u32) -> Row<'a> {
+pub fn plain(stmt: u32) -> Row {
     Row {
         stmt,
-        reads: &[],
-        writes: &[],
+        read: None,
+        write: None,
         value: None,
         number: None,
         trap: None,
@@ -50,40 +50,28 @@ fn is_id(event: Option<EventId>, id: Id) -> bool {
     }
 }
 
-fn are_reads(reads: &[Access], writers: &[Option<EventId>], rows: &[(Spot, i64, Id)]) -> bool {
-    if reads.len() != rows.len() || writers.len() != rows.len() {
+fn is_read(reads: &[Access], writers: &[Option<EventId>], row: Option<(Spot, i64, Id)>) -> bool {
+    let Some((spot, value, id)) = row else {
+        return reads.is_empty() && writers.is_empty();
+    };
+    if reads.len() != 1 || writers.len() != 1 {
         return false;
     }
-    for index in 0..rows.len() {
-        let (spot, value, writer) = rows[index];
-        if reads[index].spot != spot || reads[index].value != value {
-            return false;
-        }
-        if !is_id(writers[index], writer) {
-            return false;
-        }
-    }
-    true
+    reads[0].spot == spot && reads[0].value == value && is_id(writers[0], id)
 }
 
-fn are_writes(writes: &[Access], rows: &[(Spot, i64)]) -> bool {
-    if writes.len() != rows.len() {
-        return false;
-    }
-    for index in 0..rows.len() {
-        let (spot, value) = rows[index];
-        if writes[index].spot != spot || writes[index].value != value {
-            return false;
-        }
-    }
-    true
+fn is_write(writes: &[Access], row: Option<(Spot, i64)>) -> bool {
+    let Some((spot, value)) = row else {
+        return writes.is_empty();
+    };
+    writes.len() == 1 && writes[0].spot == spot && writes[0].value == value
 }
 
 fn is_row(traced: &TracedEvent, row: &Row) -> bool {
     let event = &traced.event;
     event.stmt == row.stmt
-        && are_reads(event.reads.as_slice(), traced.writers.as_slice(), row.reads)
-        && are_writes(event.writes.as_slice(), row.writes)
+        && is_read(event.reads.as_slice(), traced.writers.as_slice(), row.read)
+        && is_write(event.writes.as_slice(), row.write)
         && event.value == row.value
         && event.number == row.number
         && event.trap == row.trap

@@ -41,12 +41,12 @@ fn a_print_reads_what_the_callee_wrote(rt: HostRuntime) -> Result<(), Fail> {
             0,
             &[
                 Row {
-                    writes: &[(X, 1)],
+                    write: Some((X, 1)),
                     ..plain(2)
                 },
                 plain(3),
                 Row {
-                    writes: &[(X, 4)],
+                    write: Some((X, 4)),
                     parent: call,
                     ..plain(0)
                 },
@@ -55,7 +55,7 @@ fn a_print_reads_what_the_callee_wrote(rt: HostRuntime) -> Result<(), Fail> {
                     ..plain(1)
                 },
                 Row {
-                    reads: &[(X, 4, Some((0, 2)))],
+                    read: Some((X, 4, Some((0, 2)))),
                     value: Some(4),
                     ..plain(4)
                 },
@@ -88,16 +88,16 @@ fn a_loop_that_is_never_entered(rt: HostRuntime) -> Result<(), Fail> {
             0,
             &[
                 Row {
-                    writes: &[(FIRST, 3)],
+                    write: Some((FIRST, 3)),
                     ..plain(0)
                 },
                 Row {
-                    reads: &[(FIRST, 3, first)],
+                    read: Some((FIRST, 3, first)),
                     value: Some(0),
                     ..plain(1)
                 },
                 Row {
-                    reads: &[(FIRST, 3, first)],
+                    read: Some((FIRST, 3, first)),
                     value: Some(3),
                     ..plain(3)
                 },
@@ -122,28 +122,28 @@ fn a_second_test_follows_the_first(rt: HostRuntime) -> Result<(), Fail> {
             0,
             &[
                 Row {
-                    writes: &[(FIRST, 2)],
+                    write: Some((FIRST, 2)),
                     ..plain(0)
                 },
                 Row {
-                    reads: &[(FIRST, 2, Some((0, 0)))],
+                    read: Some((FIRST, 2, Some((0, 0)))),
                     value: Some(1),
                     ..plain(1)
                 },
                 Row {
-                    reads: &[(FIRST, 2, Some((0, 0)))],
-                    writes: &[(FIRST, 3)],
+                    read: Some((FIRST, 2, Some((0, 0)))),
+                    write: Some((FIRST, 3)),
                     parent: test,
                     ..plain(2)
                 },
                 Row {
-                    reads: &[(FIRST, 3, counted)],
+                    read: Some((FIRST, 3, counted)),
                     value: Some(0),
                     parent: test,
                     ..plain(1)
                 },
                 Row {
-                    reads: &[(FIRST, 3, counted)],
+                    read: Some((FIRST, 3, counted)),
                     value: Some(3),
                     ..plain(3)
                 },
@@ -167,74 +167,74 @@ fn a_recursion_with_2(rt: HostRuntime) -> Result<(), Fail> {
             0,
             &[
                 Row {
-                    writes: &[(CALLED, 2)],
+                    write: Some((CALLED, 2)),
                     ..plain(4)
                 },
                 Row {
-                    writes: &[(SECOND, 0)],
+                    write: Some((SECOND, 0)),
                     parent: outer,
                     ..plain(0)
                 },
                 Row {
-                    reads: &[(FIRST, 2, outer)],
+                    read: Some((FIRST, 2, outer)),
                     value: Some(1),
                     parent: outer,
                     ..plain(1)
                 },
                 Row {
-                    reads: &[(FIRST, 2, outer)],
-                    writes: &[(CALLED, 1)],
+                    read: Some((FIRST, 2, outer)),
+                    write: Some((CALLED, 1)),
                     parent: Some((0, 2)),
                     ..plain(2)
                 },
                 Row {
-                    writes: &[(SECOND, 0)],
+                    write: Some((SECOND, 0)),
                     parent: middle,
                     ..plain(0)
                 },
                 Row {
-                    reads: &[(FIRST, 1, middle)],
+                    read: Some((FIRST, 1, middle)),
                     value: Some(1),
                     parent: middle,
                     ..plain(1)
                 },
                 Row {
-                    reads: &[(FIRST, 1, middle)],
-                    writes: &[(CALLED, 0)],
+                    read: Some((FIRST, 1, middle)),
+                    write: Some((CALLED, 0)),
                     parent: Some((0, 5)),
                     ..plain(2)
                 },
                 Row {
-                    writes: &[(SECOND, 0)],
+                    write: Some((SECOND, 0)),
                     parent: inner,
                     ..plain(0)
                 },
                 Row {
-                    reads: &[(FIRST, 0, inner)],
+                    read: Some((FIRST, 0, inner)),
                     value: Some(0),
                     parent: inner,
                     ..plain(1)
                 },
                 Row {
-                    reads: &[(SECOND, 0, Some((0, 7)))],
+                    read: Some((SECOND, 0, Some((0, 7)))),
                     value: Some(1),
                     parent: inner,
                     ..plain(3)
                 },
                 Row {
-                    reads: &[(SECOND, 1, Some((0, 9)))],
+                    read: Some((SECOND, 1, Some((0, 9)))),
                     value: Some(2),
                     parent: middle,
                     ..plain(3)
                 },
                 Row {
-                    reads: &[(SECOND, 2, Some((0, 10)))],
+                    read: Some((SECOND, 2, Some((0, 10)))),
                     value: Some(3),
                     parent: outer,
                     ..plain(3)
                 },
                 Row {
-                    reads: &[(FIRST, 3, Some((0, 11)))],
+                    read: Some((FIRST, 3, Some((0, 11)))),
                     value: Some(3),
                     ..plain(5)
                 },
@@ -270,8 +270,8 @@ fn is_turn(traced: &Trace, p: usize, turn: Turn) -> bool {
                 ..plain(stmt)
             },
             Row {
-                reads: &[(X, turn.value, turn.writer)],
-                writes: &[(X, next)],
+                read: Some((X, turn.value, turn.writer)),
+                write: Some((X, next)),
                 ..plain(stmt + 1)
             },
             Row {
