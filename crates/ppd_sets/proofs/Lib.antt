@@ -6,3 +6,4 @@ pub mod Calling
 pub mod Meeting
 pub mod Gathering
 pub mod Chains
+pub mod Looping

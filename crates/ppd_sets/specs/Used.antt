@@ -127,3 +127,15 @@ pub record IsDefined (p : Program) (b : ℕ) (x : Var) : Type 0 where
   pub cell : ℕ
   pub written : IsTrue (has (writes_at true p stmt) cell)
   pub held : IsTrue (holds cell x)
+
+-- the loop's test or a statement inside it may read the local cell
+pub record IsLoopUsed (p : Program) (q c : ℕ) : Type 0 where
+  pub stmt : ℕ
+  pub inside : IsTrue (has (loop_stmts p q) stmt)
+  pub read : IsTrue (has (reads_at false p stmt) c)
+
+-- a statement inside the loop writes the local cell; the loop itself writes none
+pub record IsLoopDefined (p : Program) (q c : ℕ) : Type 0 where
+  pub stmt : ℕ
+  pub inside : IsTrue (has (loop_stmts p q) stmt)
+  pub written : IsTrue (has (writes_at false p stmt) c)

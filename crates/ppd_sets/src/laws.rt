@@ -1,4 +1,4 @@
-ghost use Rattle.ppd_sets.specs.Laws.{UsedByChains, DefinedByChains};
+ghost use Rattle.ppd_sets.specs.Laws.{UsedByChains, DefinedByChains, LoopUsedByStatements, LoopDefinedByStatements};
 
 // Laws of what the other calls give: each is the contract of a function that does nothing.
 
@@ -12,4 +12,16 @@ pub fn used_by_chains()
 /// chain of calls reaches from it writes one of its cells.
 pub fn defined_by_chains()
     ensures { DefinedByChains }
+{}
+
+/// In a valid program a local cell is among those that a `while` uses just where its test or a
+/// statement inside it may read the cell.
+pub fn loop_used_by_statements()
+    ensures { LoopUsedByStatements }
+{}
+
+/// In a valid program a local cell is among those that a `while` defines just where a statement
+/// inside it writes the cell.
+pub fn loop_defined_by_statements()
+    ensures { LoopDefinedByStatements }
 {}

@@ -9,5 +9,7 @@ mod rows;
 mod touched;
 mod var_sets;
 
-pub use laws::{defined_by_chains, used_by_chains};
+pub use laws::{
+    defined_by_chains, loop_defined_by_statements, loop_used_by_statements, used_by_chains,
+};
 pub use var_sets::{VarSets, sets};
