@@ -71,6 +71,8 @@ pub fn local_tags_are_last_writes()
 pub fn traces_are_of_runs()
     ensures run { TracesTellRuns }
     ensures earlier { TracesNameEarlierEvents }
+{}
+
 /// Law: the control parent of an event is the previous test of the loop run that goes on, where the
 /// statement is a `While` whose latest test in this activation was true; else the latest event, in
 /// this activation, of the `If` or `While` in which the statement directly stands; else the event of
