@@ -1,7 +1,6 @@
 pub mod Allowed
 pub mod Answering
 pub mod Comes
-pub mod Excluded
 pub mod Followed
 pub mod Outcomes
 pub mod Printed

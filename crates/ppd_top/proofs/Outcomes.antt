@@ -11,7 +11,7 @@ use Rattle.ppd_top.specs.Words.{Asks}
 use Rattle.ppd_top.specs.Top.{most_bytes, Answers, Writes, Finished, RanWhole, WasRefused, WriteFailed, MemoryRanOut, IsPromised}
 use Rattle.ppd_top.specs.Top.Answers.{refusal, run}
 use Rattle.ppd_top.specs.Top.Writes.{for_source}
-use Rattle.ppd_top.proofs.Excluded.{read_or_refused}
+use Rattle.ppd_check.proofs.Excluded.{read_or_refused}
 
 -- the words ask for one run at most
 same_request : (a b : Request) → Some a ≡ Some b → a ≡ b
@@ -48,7 +48,7 @@ module _ (words : List (Bor (List ℕ))) (held : Option (List ℕ → Option (Li
     ran h status text (run program _ accepted whole) is w = record { name = name; options = options; bytes = bytes; program = program; asked = asked; loaded = loads; accepted = accepted; whole = whole; written = w }
 
     refused : (h : List ℕ) (status : ℕ) (text : List ℕ) → Answers bytes options h status text → status ≡ 1 → Appends old new text → WasRefused words held old new
-    refused h status text (refusal error real cause) is w = record { name = name; options = options; bytes = bytes; error = error; asked = asked; loaded = loads; fault = real; cause = cause; no_program = λ p r. read_or_refused bytes p error r real cause; written = w }
+    refused h status text (refusal error real cause) is w = record { name = name; options = options; bytes = bytes; error = error; asked = asked; loaded = loads; fault = real; cause = cause; no_program = λ p r. absurd (real (read_or_refused bytes p error r cause)); written = w }
     refused h status text (run program _ accepted whole) is w = absurd (omega (arith, is))
 
     pub flow_ran : Flowed bytes options → result ≡ 0 → RanWhole words held schedule old new
@@ -80,7 +80,7 @@ module _ (words : List (Bor (List ℕ))) (held : Option (List ℕ → Option (Li
         subst Q (sym is) p.accepted
 
     succeeds : (h : List ℕ) (status : ℕ) (text : List ℕ) (program : Program) → Answers bytes options h status text → IsRead bytes program → status ≡ 0
-    succeeds h status text program (refusal error real cause) r = absurd (read_or_refused bytes program error r real cause)
+    succeeds h status text program (refusal error real cause) r = absurd (real (read_or_refused bytes program error r cause))
     succeeds h status text program (run _ _ accepted whole) r = refl
 
     pub flow_complete : (loads_before loads_now : List ℕ → ℕ) → Flowed bytes options → IsPromised words held loads_before loads_now before now → (result ≡ 0) ⊎ (result ≡ 5)
