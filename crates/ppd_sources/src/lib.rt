@@ -9,3 +9,5 @@ mod rule_tests;
 mod table_tests;
 #[cfg(test)]
 mod told;
+#[cfg(test)]
+mod valid_tests;
