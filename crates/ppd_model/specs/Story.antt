@@ -5,7 +5,6 @@ use Rattle.ppd_ast.specs.declared.plan.Plan.{Plan}
 use Rattle.ppd_ast.specs.declared.plan.Unit.{Unit as UnitOf}
 use Rattle.ppd_sem.specs.declared.proc.Need.{Need}
 use Rattle.ppd_sem.specs.declared.proc.Need.TheVariants.{Read, Write, Enter, Leave, Invoke, Back, P, V, Send, Recv, Budget, Stopped}
-use Rattle.ppd_sem.specs.declared.proc.Answer.{Answer}
 use Rattle.ppd_model.specs.declared.trace.EventId.{EventId}
 pub use Rattle.ppd_model.specs.declared.tracing.Story.{Story}
 pub use Rattle.ppd_model.specs.declared.tracing.Taken.{Taken}

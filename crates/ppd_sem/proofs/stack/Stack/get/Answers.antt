@@ -1,4 +1,4 @@
-use Rattle.std.proofs.Common.{◌<◌, length, sym, arith}
+use Rattle.std.proofs.Common.{arith}
 use Rattle.ppd_sem.proofs.Tops.{numbered}
 use Rattle.ppd_sem.proofs.stack.Stack.get.Goals as goal
 
