@@ -1,0 +1,3 @@
+mod Has
+mod Held
+mod Words

@@ -1,0 +1,2 @@
+-- Sets of cells as rising lists.
+pub mod CellSets

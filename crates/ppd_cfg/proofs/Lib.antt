@@ -1,0 +1,9 @@
+pub mod Has
+pub mod Leading
+pub mod Marks
+pub mod Those
+pub mod Searches
+pub mod Rows
+pub mod Depths
+pub mod Paths
+pub mod Following

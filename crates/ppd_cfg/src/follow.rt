@@ -1,0 +1,132 @@
+ghost use Rattle.std.specs.Prelude.{◌≡◌, IfOk};
+ghost use Rattle.ppd_cfg.specs.Lists.{has, first_or, rising};
+ghost use Rattle.ppd_cfg.specs.Flow.{next_in, follow_within, follow_at, successors, top_of, kind_of};
+
+use ppd_ast::{Ids, Kind, Memory, Program};
+use std::alloc::Global;
+
+#[tactic(auto, using(crate::proofs::Searches::has_here, crate::proofs::Searches::has_on, crate::proofs::Searches::nothing_left))]
+fn contains(list: &[u32], number: u32) -> bool
+    ensures { result ≡ has list.now number }
+{
+    for item in list {
+        if *item == number {
+            return true;
+        }
+    }
+    false
+}
+
+fn first(list: &[u32], after: Option<u32>) -> Option<u32>
+    ensures { result ≡ first_or list.now after }
+{
+    match list.first() {
+        Some(item) => Some(*item),
+        None => after,
+    }
+}
+
+// The statement behind this one in its list, or what follows the list.
+#[tactic(auto, using(crate::proofs::Searches::next_here, crate::proofs::Searches::next_on, crate::proofs::Searches::nothing_left))]
+fn next_in_list(list: &[u32], stmt: u32, after: Option<u32>) -> Option<u32>
+    ensures { result ≡ next_in list.now stmt after }
+{
+    for index in 0..list.len() {
+        if list[index] == stmt {
+            return first(&list[index + 1..], after);
+        }
+    }
+    None
+}
+
+fn top(program: &Program, body: u16) -> &[u32]
+    ensures { result.now ≡ top_of program.now body }
+{
+    match program.bodies.as_slice().get(body as usize) {
+        Some(found) => found.top.as_slice(),
+        None => &[],
+    }
+}
+
+// What follows a statement that stands directly in `outer`, which `after` follows.
+fn follow_inside(program: &Program, outer: u32, stmt: u32, after: Option<u32>) -> Option<u32>
+    ensures { result ≡ follow_within outer (kind_of program.now outer) stmt after }
+{
+    match program.stmts.as_slice().get(outer as usize) {
+        Some(found) => match &found.kind {
+            Kind::If(_, yes, no) => {
+                if contains(yes.as_slice(), stmt) {
+                    next_in_list(yes.as_slice(), stmt, after)
+                } else {
+                    next_in_list(no.as_slice(), stmt, after)
+                }
+            }
+            Kind::While(_, body) => next_in_list(body.as_slice(), stmt, Some(outer)),
+            _ => None,
+        },
+        None => None,
+    }
+}
+
+// What follows a statement, which stands in at most so many lists. It calls itself no deeper.
+pub(crate) fn follow(program: &Program, stmt: u32, depth: u32) -> Option<u32>
+    ensures { result ≡ follow_at depth program.now stmt }
+{
+    if depth == 0 {
+        return None;
+    }
+    match program.stmts.as_slice().get(stmt as usize) {
+        None => None,
+        Some(found) => match found.parent {
+            None => next_in_list(top(program, found.body), stmt, None),
+            Some(outer) => {
+                let after = follow(program, outer, depth - 1);
+                follow_inside(program, outer, stmt, after)
+            }
+        },
+    }
+}
+
+// The numbers, rising, each once.
+fn rising_list(alloc: Global, a: Option<u32>, b: Option<u32>) -> Result<Ids, Memory>
+    ensures { IfOk result (λ ids. ids ≡ rising a b) }
+{
+    let mut ids = Ids::new(alloc);
+    match (a, b) {
+        (None, None) => {}
+        (Some(x), None) | (None, Some(x)) => ids.push(x)?,
+        (Some(x), Some(y)) => {
+            if x < y {
+                ids.push(x)?;
+                ids.push(y)?;
+            } else if x == y {
+                ids.push(x)?;
+            } else {
+                ids.push(y)?;
+                ids.push(x)?;
+            }
+        }
+    }
+    Ok(ids)
+}
+
+// The successors of a statement of this kind, which `after` follows.
+pub(crate) fn successors_by(
+    alloc: Global,
+    stmt: u32,
+    kind: &Kind,
+    after: Option<u32>,
+) -> Result<Ids, Memory>
+    ensures { IfOk result (λ ids. ids ≡ successors stmt kind.now after) }
+{
+    match kind {
+        Kind::If(_, yes, no) => rising_list(
+            alloc,
+            first(yes.as_slice(), after),
+            first(no.as_slice(), after),
+        ),
+        Kind::While(_, body) => rising_list(alloc, first(body.as_slice(), Some(stmt)), after),
+        Kind::Return(_) | Kind::End => rising_list(alloc, None, None),
+        _ => rising_list(alloc, after, None),
+    }
+}

@@ -1,0 +1,187 @@
+use crate::tables::{arrays, call_in_loop, callee_write, loops_and_branches, round};
+use ppd_ast::Program;
+use ppd_bits::CellSet;
+use ppd_cfg::{Cfg, flow_graph};
+use ppd_sets::{VarSets, sets};
+use std::alloc::Global;
+use std::process::Abort;
+use std::test::Fail;
+
+/// Whether these are the successors of the body's statements, from its first one on.
+fn flows(alloc: Global, program: &Program, body: u16, first: u32, rows: &[&[u32]]) -> bool {
+    if body as usize >= program.bodies.len() {
+        return false;
+    }
+    match flow_graph(alloc, program, body) {
+        Err(_) => false,
+        Ok(graph) => are_rows(&graph, first, rows),
+    }
+}
+
+fn are_rows(graph: &Cfg, first: u32, rows: &[&[u32]]) -> bool {
+    let mut stmt = first;
+    for row in rows {
+        if !graph.has(stmt) || graph.next(stmt) != *row {
+            return false;
+        }
+        stmt = stmt.saturating_add(1);
+    }
+    !graph.has(stmt)
+}
+
+fn sets_of(alloc: Global, program: &Program) -> Option<VarSets> {
+    if !program.valid() {
+        return None;
+    }
+    match sets(alloc, program) {
+        Ok(found) => Some(found),
+        Err(_) => None,
+    }
+}
+
+/// Whether the body uses and defines these variables.
+fn uses(found: &Option<VarSets>, body: u16, used: &[u16], defined: &[u16]) -> bool {
+    match found {
+        None => false,
+        Some(sets) => {
+            sets.has_body(body) && sets.used(body) == used && sets.defined(body) == defined
+        }
+    }
+}
+
+/// Whether the loop uses and defines these cells.
+fn loop_uses(found: &Option<VarSets>, stmt: u32, used: &[u16], defined: &[u16]) -> bool {
+    match found {
+        None => false,
+        Some(sets) => {
+            sets.has_stmt(stmt)
+                && sets.loop_used(stmt) == used
+                && sets.loop_defined(stmt) == defined
+        }
+    }
+}
+
+fn set_of(cells: &[u16]) -> CellSet {
+    let mut set = CellSet::new();
+    for cell in cells {
+        if *cell < 1024 {
+            set.insert(*cell);
+        }
+    }
+    set
+}
+
+fn lists(alloc: Global, set: &CellSet, cells: &[u16]) -> bool {
+    match set.to_list(alloc) {
+        Ok(list) => list.as_slice() == cells,
+        Err(_) => false,
+    }
+}
+
+fn holds(set: &CellSet, cell: u16) -> bool {
+    cell < 1024 && set.contains(cell)
+}
+
+#[test]
+fn a_set_keeps_cells_at_the_ends_of_words(rt: HostRuntime) -> Result<(), Fail> {
+    let alloc = rt.alloc();
+    let mut set = set_of(&[64, 1023, 0, 63, 64]);
+    assert!(rt; lists(alloc, &set, &[0, 63, 64, 1023]));
+    for cell in [0, 63, 64, 1023] {
+        assert!(rt; holds(&set, cell), "{cell}");
+        let single = set_of(&[cell]);
+        assert!(rt; set.meets(&single), "{cell}");
+        assert!(rt; single.meets(&set), "{cell}");
+    }
+    for cell in [1, 62, 65, 127, 128, 1022] {
+        assert!(rt; !holds(&set, cell), "{cell}");
+        let single = set_of(&[cell]);
+        assert!(rt; !set.meets(&single), "{cell}");
+    }
+    let none = CellSet::new();
+    assert!(rt; !set.meets(&none));
+    assert!(rt; lists(alloc, &none, &[]));
+    let more = set_of(&[65, 63]);
+    set.insert_all(&more);
+    assert!(rt; lists(alloc, &set, &[0, 63, 64, 65, 1023]));
+    set.clear();
+    assert!(rt; lists(alloc, &set, &[]));
+    Ok(())
+}
+
+#[test]
+fn a_callee_writes(rt: HostRuntime) -> Result<(), Fail> {
+    let alloc = rt.alloc();
+    let program = callee_write(alloc)?;
+    assert!(rt; flows(alloc, &program, 0, 0, &[&[1], &[]]));
+    assert!(rt; flows(alloc, &program, 1, 2, &[&[3], &[4], &[5], &[]]));
+    let found = sets_of(alloc, &program);
+    assert!(rt; uses(&found, 0, &[], &[0]));
+    assert!(rt; uses(&found, 1, &[0], &[0]));
+    Ok(())
+}
+
+// An empty branch, an empty loop body, a loop in a loop, an `if` at the end of a loop body, a
+// `return` behind an `if`.
+#[test]
+fn loops_and_branches_flow(rt: HostRuntime) -> Result<(), Fail> {
+    let alloc = rt.alloc();
+    let program = loops_and_branches(alloc)?;
+    assert!(rt; program.valid());
+    assert!(rt; flows(alloc, &program, 0, 0, &[&[1, 2], &[2], &[]]));
+    let rows: [&[u32]; 10] = [
+        &[4],
+        &[5, 6],
+        &[6],
+        &[6, 7],
+        &[8, 12],
+        &[9, 10],
+        &[8],
+        &[7, 11],
+        &[7],
+        &[],
+    ];
+    assert!(rt; flows(alloc, &program, 1, 3, &rows));
+    let found = sets_of(alloc, &program);
+    assert!(rt; loop_uses(&found, 6, &[0], &[]));
+    for stmt in [7, 8] {
+        assert!(rt; loop_uses(&found, stmt, &[0], &[0]), "{stmt}");
+    }
+    // an `if` is no loop
+    assert!(rt; loop_uses(&found, 4, &[], &[]));
+    Ok(())
+}
+
+#[test]
+fn functions_call_each_other_round(rt: HostRuntime) -> Result<(), Fail> {
+    let alloc = rt.alloc();
+    let program = round(alloc)?;
+    let found = sets_of(alloc, &program);
+    for body in [0, 1, 2, 4] {
+        assert!(rt; uses(&found, body, &[2], &[0, 1]), "{body}");
+    }
+    assert!(rt; uses(&found, 3, &[0], &[]));
+    Ok(())
+}
+
+#[test]
+fn arrays_are_whole(rt: HostRuntime) -> Result<(), Fail> {
+    let alloc = rt.alloc();
+    let program = arrays(alloc)?;
+    let found = sets_of(alloc, &program);
+    assert!(rt; uses(&found, 0, &[0, 1, 2], &[1]));
+    assert!(rt; loop_uses(&found, 0, &[0, 1, 2, 3], &[0, 1]));
+    assert!(rt; loop_uses(&found, 1, &[], &[]));
+    Ok(())
+}
+
+#[test]
+fn a_call_writes_its_receiving_local(rt: HostRuntime) -> Result<(), Fail> {
+    let alloc = rt.alloc();
+    let program = call_in_loop(alloc)?;
+    let found = sets_of(alloc, &program);
+    assert!(rt; loop_uses(&found, 1, &[1], &[0]));
+    assert!(rt; uses(&found, 0, &[], &[]));
+    assert!(rt; flows(alloc, &program, 1, 1, &[&[2, 3], &[1], &[]]));
+    Ok(())
+}

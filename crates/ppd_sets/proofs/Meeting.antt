@@ -1,0 +1,125 @@
+-- Variables of which a cell is in a set.
+use Rattle.std.proofs.Common.{◌≡◌, ℕ, ◌+◌, ◌-◌, ◌<◌, ◌≤◌, ◌^◌, min, List, [], Bool, true, false, Option, Some, None, length, get_or, refl, sym, ap, ◌∙◌, subst, arith, true≢false, inl, inr}
+use Rattle.std.specs.Prelude.{IsTrue, nat_le, nat_lt, slice_get}
+use Rattle.std.specs.List.{All, flat_map, range_with_len, list_any}
+use Rattle.ppd_ast.specs.Numbered.{is_while}
+use Rattle.ppd_cfg.specs.Flow.{kind_of}
+use Rattle.std.proofs.lemmas.Bool.{and_parts, and_from, leb-true, ltb-true, le-leb, lt-ltb, cases_order, false_from_ne_true, cond-true, cond-false}
+use Rattle.std.proofs.lemmas.Option.{slice_get-get_or}
+use Rattle.ppd_ast.specs.declared.program.Var.{Var}
+use Rattle.ppd_ast.specs.declared.program.Program.{Program}
+use Rattle.ppd_ast.specs.Cells.{size, after, holds}
+use Rattle.ppd_ast.specs.Valid.{IsValid}
+use Rattle.ppd_ast.proofs.ValidLaws.{slice_get_below}
+use Rattle.ppd_cfg.specs.Lists.{has, those}
+use Rattle.ppd_cfg.proofs.Has.{any_from, any_gives, below_range, filter_same_in}
+use Rattle.ppd_sets.specs.Used.{is_met, vars_met, sorted, loop_stmts, loop_used_of, loop_defined_of, reads_at, writes_at, body_reads, body_writes, called_from, used_of, defined_of}
+use Rattle.ppd_sets.specs.Gained.{HasCells}
+
+-- what a variable's cells are
+held_is : (c : ℕ) (x : Var) → IsTrue (holds c x) → (x.base ≤ c) × (c < after x)
+held_is c x h = let parts = and_parts (nat_le x.base c) (nat_lt c (after x)) h in (leb-true x.base c parts.0, ltb-true c (after x) parts.1)
+
+held_from : (c : ℕ) (x : Var) → x.base ≤ c → c < after x → IsTrue (holds c x)
+held_from c x l h = and_from (nat_le x.base c) (nat_lt c (after x)) (le-leb x.base c l) (lt-ltb c (after x) h)
+
+-- ---- for the code
+
+-- a cell of the variable was found in the set
+pub met_here : (set : List ℕ) (x : Var) (place : ℕ) → place < size x.len → IsTrue (has set (x.base + place)) → IsTrue (list_any (λ c. holds c x) set)
+met_here set x place l h = any_from (λ c. holds c x) set (x.base + place) h (held_from (x.base + place) x (omega arith) (omega arith))
+
+-- none of the first cells is in the set
+pub Misses : (set : List ℕ) (base n : ℕ) → Type 0
+Misses set base n = (k : ℕ) → k < n → has set (base + k) ≡ false
+
+pub misses_none : (set : List ℕ) (base : ℕ) → Misses set base 0
+unfolding Misses
+misses_none set base k h = absurd (omega arith)
+
+pub misses_more : (set : List ℕ) (base n : ℕ) → Misses set base n → has set (base + n) ≡ false → Misses set base (n + 1)
+unfolding Misses
+misses_more set base n before e k h = elim (cases_order k n) [
+  | inl same ↦ ap (λ i. has set (base + i)) same ∙ e
+  | inr other ↦ elim other [ inl low ↦ before k low | inr up ↦ absurd (omega arith) ]
+]
+
+-- so the variable is not met
+pub not_met : (set : List ℕ) (x : Var) (n : ℕ) → n ≡ size x.len → Misses set x.base n → false ≡ list_any (λ c. holds c x) set
+unfolding Misses
+not_met set x n long misses =
+    sym (false_from_ne_true (list_any (λ c. holds c x) set) (λ t.
+    let c = any_gives (λ c. holds c x) set t in
+    let inside = held_is c.0 x c.2 in
+    let k : ℕ = c.0 - x.base in
+    let low : x.base ≤ c.0 = inside.0 in
+    let high : c.0 < after x = inside.1 in
+    let e : x.base + k ≡ c.0 = omega arith in
+    let none : has set c.0 ≡ false = ap (has set) (sym e) ∙ misses k (omega arith) in
+    true≢false (sym c.1 ∙ none)))
+
+-- ---- the same by other lists of the same cells
+
+met_by : (set cells : List ℕ) (x : Var) → after x ≤ 1024 → ((c : ℕ) → c < 1024 → has set c ≡ has cells c) → IsTrue (list_any (λ c. holds c x) set) → IsTrue (list_any (λ c. holds c x) cells)
+met_by set cells x few same t =
+    let c = any_gives (λ c. holds c x) set t in
+    let high : c.0 < after x = (held_is c.0 x c.2).1 in
+    any_from (λ c. holds c x) cells c.0 (sym (same c.0 (omega arith)) ∙ c.1) c.2
+
+both : (b c : Bool) → (IsTrue b → IsTrue c) → (IsTrue c → IsTrue b) → b ≡ c
+both true true f g = refl
+both true false f g = absurd (true≢false (sym (f refl)))
+both false true f g = absurd (true≢false (sym (g refl)))
+both false false f g = refl
+
+met_same : (set cells : List ℕ) (vars : List Var) (v : ℕ) (o : Option Var) → All (λ x. after x ≤ 1024) vars → HasCells set cells → slice_get vars v ≡ o → is_met set o ≡ is_met cells o
+met_same set cells vars v None all same at = refl
+met_same set cells vars v (Some x) all same at =
+    let below : v < length vars = slice_get_below vars v x at in
+    let is : Some (get_or vars v x) ≡ Some x = sym (slice_get-get_or vars v x below) ∙ at in
+    let x_is : get_or vars v x ≡ x = cc in
+    let few : after x ≤ 1024 = subst (λ (y : Var). after y ≤ 1024) x_is (all v x below) in
+    both (list_any (λ c. holds c x) set) (list_any (λ c. holds c x) cells) (met_by set cells x few same.each) (met_by cells set x few (λ c h. sym (same.each c h)))
+
+pub vars_same : (set cells : List ℕ) (vars : List Var) → All (λ x. after x ≤ 1024) vars → HasCells set cells → vars_met vars set ≡ vars_met vars cells
+vars_same set cells vars all same = filter_same_in (λ v. is_met set (slice_get vars v)) (λ v. is_met cells (slice_get vars v)) (range_with_len 0 (min (length vars) 65536)) (λ v h. met_same set cells vars v (slice_get vars v) all same refl)
+
+-- a valid program's shared variables have cells below 1024
+pub shared_small : (p : Program) → IsValid p → All (λ x. after x ≤ 1024) p.shared
+shared_small p v k d h = let within : after (get_or p.shared k d) ≤ length p.starts = v.cells.within k d h in let few = v.limits.starts in omega (arith, within, few)
+
+pub small_at : (p : Program) (vars : List Var) (k : ℕ) (x : Var) → IsValid p → vars ≡ p.shared → k < length vars → x ≡ get_or vars k x → after x ≤ 1024
+small_at p vars k x v same h is =
+    let few : after (get_or p.shared k x) ≤ 1024 = shared_small p v k x (subst (λ (ys : List Var). k < length ys) same h) in
+    let e : get_or p.shared k x ≡ x = ap (λ (ys : List Var). get_or ys k x) (sym same) ∙ sym is in
+    subst (λ (y : Var). after y ≤ 1024) e few
+
+-- the cells of a set, rising
+pub sorted_is : (set cells list : List ℕ) → list ≡ those 1024 (has set) → HasCells set cells → list ≡ sorted cells
+unfolding sorted
+sorted_is set cells list e same = e ∙ filter_same_in (has set) (has cells) (range_with_len 0 1024) (λ c h. same.each c (let inside = below_range 0 1024 c h in omega (arith, inside.1)))
+
+pub while_used : (p : Program) (q : ℕ) (list : List ℕ) → is_while (kind_of p q) ≡ true → list ≡ sorted (flat_map (reads_at false p) (loop_stmts p q)) → list ≡ loop_used_of p q
+while_used p q list is_one e = e ∙ sym (cond-true (is_while (kind_of p q)) (sorted (flat_map (reads_at false p) (loop_stmts p q))) [] is_one)
+
+pub while_defined : (p : Program) (q : ℕ) (list : List ℕ) → is_while (kind_of p q) ≡ true → list ≡ sorted (flat_map (writes_at false p) (loop_stmts p q)) → list ≡ loop_defined_of p q
+while_defined p q list is_one e = e ∙ sym (cond-true (is_while (kind_of p q)) (sorted (flat_map (writes_at false p) (loop_stmts p q))) [] is_one)
+
+pub other_used : (p : Program) (q : ℕ) (list : List ℕ) → is_while (kind_of p q) ≡ false → list ≡ [] → list ≡ loop_used_of p q
+other_used p q list none e = e ∙ sym (cond-false (is_while (kind_of p q)) (sorted (flat_map (reads_at false p) (loop_stmts p q))) [] none)
+
+pub other_defined : (p : Program) (q : ℕ) (list : List ℕ) → is_while (kind_of p q) ≡ false → list ≡ [] → list ≡ loop_defined_of p q
+other_defined p q list none e = e ∙ sym (cond-false (is_while (kind_of p q)) (sorted (flat_map (writes_at false p) (loop_stmts p q))) [] none)
+
+-- what a body uses, from the cells of the bodies that it reaches
+pub used_is : (p : Program) (b : ℕ) (set list : List ℕ) → IsValid p → list ≡ vars_met p.shared set → HasCells set (flat_map (body_reads p) (called_from p b)) → list ≡ used_of p b
+used_is p b set list v e same = e ∙ vars_same set (flat_map (body_reads p) (called_from p b)) p.shared (shared_small p v) same
+
+pub defined_is : (p : Program) (b : ℕ) (set list : List ℕ) → IsValid p → list ≡ vars_met p.shared set → HasCells set (flat_map (body_writes p) (called_from p b)) → list ≡ defined_of p b
+defined_is p b set list v e same = e ∙ vars_same set (flat_map (body_writes p) (called_from p b)) p.shared (shared_small p v) same
+
+pub bodies_fit : (p : Program) → IsValid p → length p.bodies < 2 ^ 32
+bodies_fit p v = let a = v.limits.processes in let b = v.limits.functions in omega (arith, a, b)
+
+pub stmts_fit : (p : Program) → IsValid p → length p.stmts < 2 ^ 32
+stmts_fit p v = let a = v.limits.stmts in omega (arith, a)

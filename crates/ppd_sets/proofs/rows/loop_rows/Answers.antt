@@ -1,0 +1,12 @@
+use Rattle.ppd_sets.specs.Used.{loop_used_of, loop_defined_of}
+use Rattle.ppd_sets.proofs.Calling.{map_more}
+use Rattle.ppd_sets.proofs.rows.loop_rows.Goals as goal
+
+pub loop-stmt-preserved : goal.loop-stmt-preserved
+loop-stmt-preserved c =
+    let p = c.args.program.now in
+    let k = c.loop-stmt.stmt in
+    record {
+      used = map_more (loop_used_of p) k c.loop-stmt.used c.push.new.self c.in_ok-row.row.used c.loop-stmt.invariant.used c.in_ok-row.ensures.used c.in_ok-push.ensures.ok;
+      defined = map_more (loop_defined_of p) k c.loop-stmt.defined c.push-in-loop-stmt.new.self c.in_ok-row.row.defined c.loop-stmt.invariant.defined c.in_ok-row.ensures.defined c.in_ok-push-2.ensures.ok;
+    }

@@ -1,0 +1,6 @@
+-- The variables that a body or a loop may read and write.
+pub mod Named
+pub mod Used
+pub mod Gained
+pub mod SetsOf
+pub mod Laws

@@ -1,0 +1,136 @@
+ghost use Rattle.std.specs.Prelude.{[], ◌∷◌};
+ghost use Rattle.ppd_ast.specs.Table.{EachAt, AreChildrenBelow};
+ghost use Rattle.ppd_ast.specs.Term.{term};
+ghost use Rattle.ppd_sets.specs.Named.{shared_cells, local_cells, cells_in, reads, target_cells, writes};
+ghost use Rattle.ppd_sets.specs.Gained.{Gains};
+ghost use Rattle.std.specs.List.{flat_map, range_with_len};
+
+use ppd_ast::{Expr, Kind, Target};
+use ppd_bits::CellSet;
+
+// Adds the cell. None of a valid program is 1,024 or more.
+fn add_cell(cells: &mut CellSet, cell: u32)
+    ensures { Gains cells.old cells.new (cell ∷ []) }
+{
+    if cell >= 1024 {
+        return;
+    }
+    cells.insert(cell as u16);
+}
+
+// Adds so many cells from this one on.
+fn add_range(cells: &mut CellSet, base: u16, len: u16)
+    ensures { Gains cells.old cells.new (range_with_len base len) }
+{
+    for place in 0..len {
+        add_cell(cells, base as u32 + place as u32);
+    }
+}
+
+fn add_shared(cells: &mut CellSet, wants_shared: bool, base: u16, len: u16)
+    ensures { Gains cells.old cells.new (shared_cells wants_shared base len) }
+{
+    if wants_shared {
+        add_range(cells, base, len);
+    }
+}
+
+fn add_local(cells: &mut CellSet, wants_shared: bool, base: u16, len: u16)
+    ensures { Gains cells.old cells.new (local_cells wants_shared base len) }
+{
+    if !wants_shared {
+        add_range(cells, base, len);
+    }
+}
+
+// Adds the shared cells that an expression may read, or the local ones. A child has a smaller
+// number, so that it comes to an end.
+#[tactic(auto, using(crate::proofs::Expressions::gains_past_end))]
+fn add_expr(cells: &mut CellSet, wants_shared: bool, exprs: &[Expr], number: u32)
+    requires { EachAt AreChildrenBelow exprs.now }
+    ensures { Gains cells.old cells.new (cells_in wants_shared (term exprs.now number)) }
+{
+    if number as usize >= exprs.len() {
+        return;
+    }
+    let expr = exprs[number as usize];
+    match expr {
+        Expr::Const(_) => {}
+        Expr::Local(cell) => add_local(cells, wants_shared, cell, 1),
+        Expr::LocalAt { base, len, at } => {
+            add_local(cells, wants_shared, base, len);
+            add_expr(cells, wants_shared, exprs, at);
+        }
+        Expr::Shared(cell) => add_shared(cells, wants_shared, cell, 1),
+        Expr::SharedAt { base, len, at } => {
+            add_shared(cells, wants_shared, base, len);
+            add_expr(cells, wants_shared, exprs, at);
+        }
+        Expr::Neg(a) | Expr::Not(a) => add_expr(cells, wants_shared, exprs, a),
+        Expr::Two(_, a, b) | Expr::And(a, b) | Expr::Or(a, b) => {
+            add_expr(cells, wants_shared, exprs, a);
+            add_expr(cells, wants_shared, exprs, b);
+        }
+    }
+}
+
+fn add_exprs(cells: &mut CellSet, wants_shared: bool, exprs: &[Expr], numbers: &[u32])
+    requires { EachAt AreChildrenBelow exprs.now }
+    ensures { Gains cells.old cells.new (flat_map (λ e. cells_in wants_shared (term exprs.now e)) numbers.now) }
+{
+    for number in numbers {
+        add_expr(cells, wants_shared, exprs, *number);
+    }
+}
+
+// Adds the cells that a statement's expressions may read.
+#[tactic(auto, using(crate::proofs::Gaining::gains_none))]
+pub(crate) fn add_reads(cells: &mut CellSet, wants_shared: bool, exprs: &[Expr], kind: &Kind)
+    requires { EachAt AreChildrenBelow exprs.now }
+    ensures { Gains cells.old cells.new (reads wants_shared exprs.now kind.now) }
+{
+    match kind {
+        Kind::Set(Target::LocalAt { at, .. } | Target::SharedAt { at, .. }, value) => {
+            add_exprs(cells, wants_shared, exprs, &[*at, *value])
+        }
+        Kind::Set(Target::Local(_) | Target::Shared(_), value) => {
+            add_exprs(cells, wants_shared, exprs, &[*value])
+        }
+        Kind::If(value, _, _) | Kind::While(value, _) | Kind::Send(_, value) => {
+            add_exprs(cells, wants_shared, exprs, &[*value])
+        }
+        Kind::Print(value) | Kind::Assert(value) | Kind::Return(Some(value)) => {
+            add_exprs(cells, wants_shared, exprs, &[*value])
+        }
+        Kind::Call { args, .. } => add_exprs(cells, wants_shared, exprs, args.as_slice()),
+        Kind::Return(None) | Kind::Zero { .. } | Kind::P(_) | Kind::V(_) => {}
+        Kind::Recv(_, _) | Kind::End => {}
+    }
+}
+
+fn add_target(cells: &mut CellSet, wants_shared: bool, target: &Target)
+    ensures { Gains cells.old cells.new (target_cells wants_shared target.now) }
+{
+    match *target {
+        Target::Local(cell) => add_local(cells, wants_shared, cell, 1),
+        Target::LocalAt { base, len, .. } => add_local(cells, wants_shared, base, len),
+        Target::Shared(cell) => add_shared(cells, wants_shared, cell, 1),
+        Target::SharedAt { base, len, .. } => add_shared(cells, wants_shared, base, len),
+    }
+}
+
+// Adds the cells that a statement writes. A call counts as writing its receiving local.
+pub(crate) fn add_writes(cells: &mut CellSet, wants_shared: bool, kind: &Kind)
+    ensures { Gains cells.old cells.new (writes wants_shared kind.now) }
+{
+    match kind {
+        Kind::Set(target, _) => add_target(cells, wants_shared, target),
+        Kind::Zero { base, len } => add_local(cells, wants_shared, *base, *len),
+        Kind::Call {
+            into: Some(into),
+            ..
+        }
+        | Kind::Recv(_, into) => { add_local(cells, wants_shared, *into, 1) }
+        _ => {}
+    }
+}

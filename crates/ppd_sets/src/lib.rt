@@ -1,0 +1,15 @@
+//! The shared variables that a body may read and write, and the local cells that a loop may.
+#![tactic(auto)]
+
+mod bodies;
+mod cells;
+mod laws;
+mod loops;
+mod rows;
+mod touched;
+mod var_sets;
+
+pub use laws::{
+    defined_by_chains, loop_defined_by_statements, loop_used_by_statements, used_by_chains,
+};
+pub use var_sets::{VarSets, sets};

@@ -1,0 +1,144 @@
+ghost use Rattle.std.specs.Prelude.{◌≡◌, ◌<◌, ◌≤◌, ◌^◌, false, map, length, IfOk};
+ghost use Rattle.std.specs.List.{flat_map, list_any, range_with_len};
+ghost use Rattle.ppd_ast.specs.Cells.{size, after, holds};
+ghost use Rattle.ppd_ast.specs.Table.{EachAt, AreChildrenBelow};
+ghost use Rattle.ppd_ast.specs.Valid.{IsValid};
+ghost use Rattle.ppd_ast.specs.Numbered.{is_while};
+ghost use Rattle.ppd_cfg.specs.Flow.{kind_of};
+ghost use Rattle.ppd_sets.specs.Used.{vars_met, used_of, defined_of, loop_used_of, loop_defined_of, loop_stmts, reads_at, writes_at, sorted};
+
+use crate::bodies::{calls, touched_by_bodies, touched_from};
+use crate::loops::loop_touched;
+use ppd_ast::{Cells, Kind, Memory, Program, Seq, Var};
+use ppd_bits::CellSet;
+use std::alloc::Global;
+
+// For each body or statement, by number, what it uses and what it defines.
+#[derive(Drop)]
+pub(crate) struct Rows {
+    pub(crate) used: Seq<Cells>,
+    pub(crate) defined: Seq<Cells>,
+}
+
+#[derive(Drop)]
+struct Row {
+    used: Cells,
+    defined: Cells,
+}
+
+// How many cells the variable has.
+fn size_of(var: &Var) -> u16
+    ensures { result ≡ size var.now.len }
+{
+    match var.len {
+        None => 1,
+        Some(len) => len,
+    }
+}
+
+// Whether a cell of the variable is in the set.
+fn does_meet(set: &CellSet, var: &Var) -> bool
+    requires { after var.now ≤ 1024 }
+    ensures { result ≡ list_any (λ c. holds c var.now) set.now }
+{
+    let len = size_of(var);
+    for place in 0..len {
+        if set.contains(var.base + place) {
+            return true;
+        }
+    }
+    false
+}
+
+// The shared variables of which a cell is in the set, by number, rising. Numbers have 16 bits.
+fn vars_in(alloc: Global, program: &Program, set: &CellSet) -> Result<Cells, Memory>
+    requires { IsValid program.now }
+    ensures { IfOk result (λ ids. ids ≡ vars_met program.now.shared set.now) }
+{
+    let vars = program.shared.as_slice();
+    let mut ids = Cells::new(alloc);
+    for number in 0..vars.len().min(65_536) {
+        if does_meet(set, &vars[number]) {
+            ids.push(number as u16)?;
+        }
+    }
+    Ok(ids)
+}
+
+// What each body uses and defines.
+pub(crate) fn body_rows(alloc: Global, program: &Program) -> Result<Rows, Memory>
+    requires valid { IsValid program.now }
+    requires count { length program.now.bodies < 2 ^ 32 }
+    ensures used { IfOk result (λ rows. rows.used ≡ map (used_of program.now) (range_with_len 0 (length program.now.bodies))) }
+    ensures defined { IfOk result (λ rows. rows.defined ≡ map (defined_of program.now) (range_with_len 0 (length program.now.bodies))) }
+{
+    let calls = calls(alloc, program)?;
+    let list = touched_by_bodies(alloc, program)?;
+    let mut used = Seq::new(alloc);
+    let mut defined = Seq::new(alloc);
+    for body in 0..program.bodies.len() {
+        let touched = touched_from(alloc, program, &calls, &list, body as u32)?;
+        let reads = vars_in(alloc, program, &touched.reads)?;
+        let writes = vars_in(alloc, program, &touched.writes)?;
+        used.push(reads)?;
+        defined.push(writes)?;
+    }
+    Ok(Rows { used, defined })
+}
+
+// What a loop uses and defines.
+fn loop_cells(alloc: Global, program: &Program, stmt: u32) -> Result<Row, Memory>
+    requires { EachAt AreChildrenBelow program.now.exprs }
+    ensures used { IfOk result (λ row. row.used ≡ sorted (flat_map (reads_at false program.now) (loop_stmts program.now stmt))) }
+    ensures defined { IfOk result (λ row. row.defined ≡ sorted (flat_map (writes_at false program.now) (loop_stmts program.now stmt))) }
+{
+    let touched = loop_touched(program, stmt);
+    let used = touched.reads.to_list(alloc)?;
+    let defined = touched.writes.to_list(alloc)?;
+    Ok(Row { used, defined })
+}
+
+// What a loop uses and defines, and nothing for another statement.
+fn loop_row(alloc: Global, program: &Program, stmt: u32) -> Result<Row, Memory>
+    requires { EachAt AreChildrenBelow program.now.exprs }
+    ensures used { IfOk result (λ row. row.used ≡ loop_used_of program.now stmt) }
+    ensures defined { IfOk result (λ row. row.defined ≡ loop_defined_of program.now stmt) }
+{
+    if is_while_at(program, stmt) {
+        let row = loop_cells(alloc, program, stmt)?;
+        return Ok(row);
+    }
+    Ok(Row {
+        used: Cells::new(alloc),
+        defined: Cells::new(alloc),
+    })
+}
+
+fn is_while_at(program: &Program, stmt: u32) -> bool
+    ensures { result ≡ is_while (kind_of program.now stmt) }
+{
+    match program.stmts.as_slice().get(stmt as usize) {
+        None => false,
+        Some(found) => match &found.kind {
+            Kind::While(_, _) => true,
+            _ => false,
+        },
+    }
+}
+
+// What each loop uses and defines.
+pub(crate) fn loop_rows(alloc: Global, program: &Program) -> Result<Rows, Memory>
+    requires valid { IsValid program.now }
+    requires count { length program.now.stmts < 2 ^ 32 }
+    ensures used { IfOk result (λ rows. rows.used ≡ map (loop_used_of program.now) (range_with_len 0 (length program.now.stmts))) }
+    ensures defined { IfOk result (λ rows. rows.defined ≡ map (loop_defined_of program.now) (range_with_len 0 (length program.now.stmts))) }
+{
+    let mut used = Seq::new(alloc);
+    let mut defined = Seq::new(alloc);
+    for stmt in 0..program.stmts.len() {
+        let row = loop_row(alloc, program, stmt as u32)?;
+        used.push(row.used)?;
+        defined.push(row.defined)?;
+    }
+    Ok(Rows { used, defined })
+}
