@@ -1,16 +1,17 @@
 -- The options that the words give are within their limits.
-use Rattle.std.specs.Prelude.{Option, Some, None, IfSome, ◌&&◌, not, is_none, is_some, nat_le, unwrap_or, if◌then◌else◌, codes}
+use Rattle.std.specs.Prelude.{Option, Some, None, IfSome, ◌&&◌, ◌||◌, not, is_none, is_some, nat_le, unwrap_or, if◌then◌else◌}
 use Rattle.std.specs.Borrow.{Bor}
 use Rattle.std.proofs.Common.{◌≡◌, ℕ, ◌≤◌, ◌≡◌, Bool, true, false, List, [], ◌∷◌, length, refl, sym, ◌∙◌, ap, subst, arith}
 use Rattle.std.proofs.lemmas.Bool.{leb-true}
 use Rattle.ppd_ast.specs.ValidPlan.{IsValidPolicy}
+use Rattle.ppd_top.specs.declared.words.Command.{Command}
 use Rattle.ppd_top.specs.declared.words.Choice.{Choice}
 use Rattle.ppd_top.specs.declared.words.Choice.TheVariants.{Budget, Leaf, Loops}
 use Rattle.ppd_top.specs.declared.words.Word.{Word}
 use Rattle.ppd_top.specs.declared.words.Word.TheVariants.{Ends, Waits, Sets, Other, Name}
 use Rattle.ppd_top.specs.declared.words.Given.{Given}
 use Rattle.ppd_top.specs.declared.words.Request.{Request}
-use Rattle.ppd_top.specs.Words.{is_allowed, given, with_option, with_number, with_name, with_word, after_wait, after_word, after_words, and_words, nothing_given, options_of, named, complete, and_complete, asked, spelled, number_in, same}
+use Rattle.ppd_top.specs.Words.{is_allowed, given, with_option, with_number, with_name, with_word, after_wait, after_word, after_words, and_words, nothing_given, options_of, named, complete, and_complete, command_of, has_options, after_command, asked, spelled, number_in}
 
 -- what was given keeps its limit
 record AreAllowed (g : Given) : Type 0 where
@@ -83,30 +84,30 @@ pub record IsWithin (r : Request) : Type 0 where
   pub budget : r.options.budget ≤ 500000
   pub policy : IsValidPolicy r.options.policy
 
-options_within : (g : Given) (o : Option (Bor (List ℕ))) (r : Request) → AreAllowed g → named g o ≡ Some r → IsWithin r
-options_within g None r a e = absurd (cc)
-options_within g (Some w) r a e =
-    let s : record { name = w; options = options_of g } ≡ r = cc in
+options_within : (c : Command) (g : Given) (o : Option (Bor (List ℕ))) (r : Request) → AreAllowed g → named c g o ≡ Some r → IsWithin r
+options_within c g None r a e = absurd (cc)
+options_within c g (Some w) r a e =
+    let s : record { command = c; name = w; options = options_of g } ≡ r = cc in
     subst IsWithin s (record {
       budget = unwrap_le g.budget 100000 500000 a.budget (omega arith);
       policy = record { leaf = unwrap_le g.leaf 0 4096 a.leaf (omega arith); loops = unwrap_le g.loops 0 4096 a.loops (omega arith) };
     })
 
-not_none : (b : Bool) (g : Given) (r : Request) → AreAllowed g → (if b then None else named g g.name) ≡ Some r → IsWithin r
-not_none true g r a e = absurd (cc)
-not_none false g r a e = options_within g g.name r a e
+not_none : (b : Bool) (c : Command) (g : Given) (r : Request) → AreAllowed g → (if b then None else named c g g.name) ≡ Some r → IsWithin r
+not_none true c g r a e = absurd (cc)
+not_none false c g r a e = options_within c g g.name r a e
 
-completed : (o : Option Given) (r : Request) → ((g : Given) → o ≡ Some g → AreAllowed g) → and_complete o ≡ Some r → IsWithin r
-completed None r f e = absurd (cc)
-completed (Some g) r f e = not_none (is_some g.waits) g r (f g refl) e
+completed : (c : Command) (o : Option Given) (r : Request) → ((g : Given) → o ≡ Some g → AreAllowed g) → and_complete c o ≡ Some r → IsWithin r
+completed c None r f e = absurd (cc)
+completed c (Some g) r f e = not_none (is_some g.waits || not (has_options c g)) c g r (f g refl) e
 
-from_flow : (b : Bool) (ws : List (Bor (List ℕ))) (r : Request) → (if b then and_complete (after_words nothing_given ws) else None) ≡ Some r → IsWithin r
-from_flow true ws r e = completed (after_words nothing_given ws) r (λ g is. words_allowed ws nothing_given g (record { budget = tt; leaf = tt; loops = tt }) is) e
-from_flow false ws r e = absurd (cc)
+from_command : (o : Option Command) (ws : List (Bor (List ℕ))) (r : Request) → after_command o ws ≡ Some r → IsWithin r
+from_command None ws r e = absurd (cc)
+from_command (Some c) ws r e = completed c (after_words nothing_given ws) r (λ g is. words_allowed ws nothing_given g (record { budget = tt; leaf = tt; loops = tt }) is) e
 
 pub asked_within : (ws : List (Bor (List ℕ))) (r : Request) → asked ws ≡ Some r → IsWithin r
 asked_within [] r e = absurd (cc)
-asked_within (w ∷ ws) r e = from_flow (same w.now (codes "flow")) ws r e
+asked_within (w ∷ ws) r e = from_command (command_of w.now) ws r e
 
 pub asked_budget : (ws : List (Bor (List ℕ))) (o : Option Request) → o ≡ asked ws → IfSome o (λ r. r.options.budget ≤ 500000)
 asked_budget ws None e = tt

@@ -4,18 +4,22 @@ use Rattle.ppd_ast.specs.declared.program.Program.{Program}
 use Rattle.ppd_check.specs.declared.error.SourceError.{SourceError}
 use Rattle.ppd_check.specs.declared.error.SourceError.TheVariants as S
 use Rattle.ppd_check.specs.Read.{IsRead, IsRefused}
+use Rattle.ppd_show.specs.Table.{table_of}
 use Rattle.ppd_top.specs.declared.options.Options.{Options}
-use Rattle.ppd_top.specs.Ran.{RanTo}
+use Rattle.ppd_top.specs.declared.words.Command.{Command}
+use Rattle.ppd_top.specs.declared.words.Command.TheVariants.{Flow, Show}
+use Rattle.ppd_top.specs.Ran.{RanTo, Gives}
 use Rattle.ppd_top.specs.Refusals.{refused}
 use Rattle.ppd_top.specs.Top.{summary_of_run, Answers}
-use Rattle.ppd_top.specs.Top.Answers.{refusal, run}
+use Rattle.ppd_top.specs.Top.Answers.{refusal, run, tables}
 
-answers_as : (bytes : List ℕ) (options : Options) (status : ℕ) (h k t u : List ℕ) → h ≡ k → t ≡ u → Answers bytes options k status u → Answers bytes options h status t
-answers_as bytes options status h k t u e f a =
-    subst (λ x. Answers bytes options h status x) (sym f) (subst (λ x. Answers bytes options x status u) (sym e) a)
+answers_as : (bytes : List ℕ) (options : Options) (command : Command) (status : ℕ) (h k t u : List ℕ) → h ≡ k → t ≡ u → Answers bytes options command k status u → Answers bytes options command h status t
+answers_as bytes options command status h k t u e f a =
+    subst (λ x. Answers bytes options command h status x) (sym f) (subst (λ x. Answers bytes options command x status u) (sym e) a)
 
-pub answers_refusal : (bytes : List ℕ) (options : Options) (h t : List ℕ) (error : SourceError) → h ≡ [] → t ≡ refused error → error ≢ S.Memory → IsRefused bytes error → Answers bytes options h 1 t
-answers_refusal bytes options h t error e f real cause = answers_as bytes options 1 h [] t (refused error) e f (refusal error real cause)
+pub answers_refusal : (bytes : List ℕ) (options : Options) (command : Command) (h t : List ℕ) (error : SourceError) → h ≡ [] → t ≡ refused error → error ≢ S.Memory → IsRefused bytes error → Answers bytes options command h 1 t
+answers_refusal bytes options command h t error e f real cause = answers_as bytes options command 1 h [] t (refused error) e f (refusal command error real cause)
 
-pub answers_run : (bytes : List ℕ) (options : Options) (program : Program) (h t : List ℕ) → IsRead bytes program → RanTo program options h t → Answers bytes options h 0 t
-answers_run bytes options program h t accepted ran = subst (λ x. Answers bytes options h 0 x) (sym ran.is) (run program h accepted ran.whole)
+pub answers_given : (bytes : List ℕ) (options : Options) (command : Command) (program : Program) (h t : List ℕ) → IsRead bytes program → Gives command program options h t → Answers bytes options command h 0 t
+answers_given bytes options Flow program h t accepted ran = subst (λ x. Answers bytes options Flow h 0 x) (sym ran.is) (run program h accepted ran.whole)
+answers_given bytes options Show program h t accepted shown = answers_as bytes options Show 0 h [] t (table_of program) shown.0 shown.1 (tables program accepted)

@@ -1,9 +1,12 @@
 -- What a program's run comes to, by the schedule that was taken or by one that is handed in.
-use Rattle.std.specs.Prelude.{◌≡◌, ℕ, List}
+use Rattle.std.specs.Prelude.{◌≡◌, ℕ, List, []}
 use Rattle.ppd_ast.specs.declared.program.Program.{Program}
 use Rattle.ppd_model.specs.declared.trace.DriveError.{DriveError}
 use Rattle.ppd_model.specs.declared.trace.DriveError.TheVariants as drive
+use Rattle.ppd_show.specs.Table.{table_of}
 use Rattle.ppd_top.specs.declared.options.Options.{Options}
+use Rattle.ppd_top.specs.declared.words.Command.{Command}
+use Rattle.ppd_top.specs.declared.words.Command.TheVariants.{Flow, Show}
 use Rattle.ppd_top.specs.declared.following.FollowError.{FollowError}
 use Rattle.ppd_top.specs.declared.following.FollowError.TheVariants.{Refused, NotEnabled, NotWhole, LongLine, ManyLines, Memory}
 use Rattle.ppd_top.specs.Top.{IsWholeRun, summary_of_run, IsStuckAt, IsUnfinished}
@@ -12,6 +15,11 @@ use Rattle.ppd_top.specs.Top.{IsWholeRun, summary_of_run, IsStuckAt, IsUnfinishe
 pub record RanTo (program : Program) (options : Options) (schedule text : List ℕ) : Type 0 where
   pub whole : IsWholeRun program options schedule
   pub is : text ≡ summary_of_run program options schedule
+
+-- what a command gives for a program: the schedule of its run, if it runs, and the text
+abbrev pub Gives : Command → Program → Options → (schedule text : List ℕ) → Type 0
+Gives Flow program options schedule text = RanTo program options schedule text
+Gives Show program options schedule text = (schedule ≡ []) × (text ≡ table_of program)
 
 -- why the schedule gives a program no text
 abbrev pub ScheduleFails : Program → Options → List ℕ → FollowError → Type 0

@@ -11,7 +11,7 @@ use Rattle.ppd_check.specs.declared.error.SourceError.{SourceError}
 use Rattle.ppd_check.specs.declared.error.SourceError.TheVariants as source
 use Rattle.ppd_check.specs.declared.fault.Limit.{Limit}
 use Rattle.ppd_check.specs.declared.fault.Limit.TheVariants as limit
-use Rattle.ppd_top.specs.Summary.{place_text}
+use Rattle.ppd_text.specs.Texts.{place_text}
 
 -- a refusal of this stage, number and name at a place
 abbrev pub refusal : List ℕ → Place → List ℕ

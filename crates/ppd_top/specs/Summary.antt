@@ -11,6 +11,7 @@ use Rattle.ppd_ast.specs.declared.status.Status.TheVariants as status
 use Rattle.ppd_ast.specs.declared.status.Trap.{Trap}
 use Rattle.ppd_ast.specs.declared.status.Trap.TheVariants as trap
 use Rattle.ppd_model.specs.declared.closed.ProcEnd.{ProcEnd}
+use Rattle.ppd_text.specs.Texts.{place_text}
 use Rattle.ppd_model.specs.Logs.{close}
 
 abbrev pub trap_word : Trap → List ℕ
@@ -19,9 +20,6 @@ trap_word trap.Zero = codes "zero"
 trap_word trap.Index = codes "index"
 trap_word trap.Assert = codes "assert"
 trap_word trap.Depth = codes "depth"
-
-abbrev pub place_text : Place → List ℕ
-place_text p = decimal p.line ++ codes ":" ++ decimal p.column
 
 abbrev pub status_text : Status → Place → List ℕ
 status_text status.Ended place = codes "ended"

@@ -11,7 +11,10 @@ use Rattle.ppd_check.specs.declared.error.SourceError.TheVariants as source
 use Rattle.ppd_check.specs.Read.{IsRead, IsRefused}
 use Rattle.ppd_model.specs.Schedule.{IsWhole, run as run_of}
 use Rattle.ppd_model.specs.World.{World, enabled}
+use Rattle.ppd_show.specs.Table.{table_of}
 use Rattle.ppd_top.specs.declared.options.Options.{Options}
+use Rattle.ppd_top.specs.declared.words.Command.{Command}
+use Rattle.ppd_top.specs.declared.words.Command.TheVariants.{Flow, Show}
 use Rattle.ppd_top.specs.declared.following.FollowError.{FollowError}
 use Rattle.ppd_top.specs.declared.following.FollowError.TheVariants.{Refused, NotEnabled, NotWhole, LongLine, ManyLines, Memory}
 use Rattle.ppd_top.specs.Refusals.{refused}
@@ -41,15 +44,16 @@ summary_of_run program options schedule = summary program (plan_of program optio
 abbrev pub usage : List ℕ
 usage = codes "usage: ppd flow|run|debug|show|drill\n"
 
--- what is written in all for a source, with which status and schedule
-pub data Answers (bytes : List ℕ) (options : Options) : (schedule : List ℕ) → ℕ → List ℕ → Type 0 where
-  refusal : (error : SourceError) → error ≢ source.Memory → IsRefused bytes error → Answers bytes options [] 1 (refused error)
-  run : (program : Program) (schedule : List ℕ) → IsRead bytes program → IsWholeRun program options schedule → Answers bytes options schedule 0 (summary_of_run program options schedule)
+-- what a command writes in all for a source, with which status and schedule
+pub data Answers (bytes : List ℕ) (options : Options) : (command : Command) (schedule : List ℕ) → ℕ → List ℕ → Type 0 where
+  refusal : (command : Command) (error : SourceError) → error ≢ source.Memory → IsRefused bytes error → Answers bytes options command [] 1 (refused error)
+  run : (program : Program) (schedule : List ℕ) → IsRead bytes program → IsWholeRun program options schedule → Answers bytes options Flow schedule 0 (summary_of_run program options schedule)
+  tables : (program : Program) → IsRead bytes program → Answers bytes options Show [] 0 (table_of program)
 
 -- what the command writes in all: said of the words, the shelf and the schedule
 pub data Writes (words : List (Bor (List ℕ))) (held : Option (List ℕ → Option (List ℕ))) (schedule : List ℕ) : ℕ → List ℕ → Type 0 where
-  for_words : ((name : List ℕ) (options : Options) → Asks words name options → ⊥) → schedule ≡ [] → Writes words held schedule 2 usage
-  for_source : (name : List ℕ) (options : Options) (bytes : List ℕ) → Asks words name options → Loads held name most_bytes bytes → (status : ℕ) (text : List ℕ) → Answers bytes options schedule status text → Writes words held schedule status text
+  for_words : ((command : Command) (name : List ℕ) (options : Options) → Asks words command name options → ⊥) → schedule ≡ [] → Writes words held schedule 2 usage
+  for_source : (command : Command) (name : List ℕ) (options : Options) (bytes : List ℕ) → Asks words command name options → Loads held name most_bytes bytes → (status : ℕ) (text : List ℕ) → Answers bytes options command schedule status text → Writes words held schedule status text
 
 -- what a text leaves: all of it with its status, or a proper prefix with status 4 and a rise of the count
 abbrev pub Finished : Option (List ℕ) → Option (List ℕ) → ℕ → ℕ → ℕ → ℕ → List ℕ → Type 0
@@ -57,25 +61,38 @@ Finished old new before now result status text = ((result ≡ status) × Appends
 
 -- ---- the clauses of the top call, with what the shelf holds and what the sink told before and after
 
--- status 0: the loaded source's program ran under this schedule until nobody could take a step, and its summary was written
+-- status 0 of `flow`: the loaded source's program ran under this schedule until nobody could take a step, and its summary was written
 pub record RanWhole (words : List (Bor (List ℕ))) (held : Option (List ℕ → Option (List ℕ))) (schedule : List ℕ) (old new : Option (List ℕ)) : Type 0 where
   pub name : List ℕ
   pub options : Options
   pub bytes : List ℕ
   pub program : Program
-  pub asked : Asks words name options
+  pub asked : Asks words Flow name options
   pub loaded : Loads held name most_bytes bytes
   pub accepted : IsRead bytes program
   pub whole : IsWholeRun program options schedule
   pub written : Appends old new (summary_of_run program options schedule)
 
+-- status 0 of `show`: the tables of the loaded source's program were written, and nothing ran
+pub record WasShown (words : List (Bor (List ℕ))) (held : Option (List ℕ → Option (List ℕ))) (schedule : List ℕ) (old new : Option (List ℕ)) : Type 0 where
+  pub name : List ℕ
+  pub options : Options
+  pub bytes : List ℕ
+  pub program : Program
+  pub asked : Asks words Show name options
+  pub loaded : Loads held name most_bytes bytes
+  pub accepted : IsRead bytes program
+  pub no_run : schedule ≡ []
+  pub written : Appends old new (table_of program)
+
 -- status 1: the loaded source has no program, and the line that says why was written
 pub record WasRefused (words : List (Bor (List ℕ))) (held : Option (List ℕ → Option (List ℕ))) (old new : Option (List ℕ)) : Type 0 where
+  pub command : Command
   pub name : List ℕ
   pub options : Options
   pub bytes : List ℕ
   pub error : SourceError
-  pub asked : Asks words name options
+  pub asked : Asks words command name options
   pub loaded : Loads held name most_bytes bytes
   pub fault : error ≢ source.Memory
   pub cause : IsRefused bytes error
@@ -84,14 +101,15 @@ pub record WasRefused (words : List (Bor (List ℕ))) (held : Option (List ℕ �
 
 -- status 2: the words ask for nothing, and the usage line was written
 pub record WasNotAsked (words : List (Bor (List ℕ))) (old new : Option (List ℕ)) : Type 0 where
-  pub none : (name : List ℕ) (options : Options) → Asks words name options → ⊥
+  pub none : (command : Command) (name : List ℕ) (options : Options) → Asks words command name options → ⊥
   pub written : Appends old new usage
 
 -- status 3: a load of the source's name failed, and nothing was written
 pub record ReadFailed (words : List (Bor (List ℕ))) (before now : List ℕ → ℕ) (old new : Option (List ℕ)) : Type 0 where
+  pub command : Command
   pub name : List ℕ
   pub options : Options
-  pub asked : Asks words name options
+  pub asked : Asks words command name options
   pub rose : Rose (before name) (now name)
   pub written : new ≡ old
 
@@ -105,20 +123,22 @@ pub record WriteFailed (words : List (Bor (List ℕ))) (held : Option (List ℕ 
 
 -- status 5: want of memory for a source that was asked for, and nothing was written
 pub record MemoryRanOut (words : List (Bor (List ℕ))) (schedule : List ℕ) (old new : Option (List ℕ)) : Type 0 where
+  pub command : Command
   pub name : List ℕ
   pub options : Options
-  pub asked : Asks words name options
+  pub asked : Asks words command name options
   pub no_run : schedule ≡ []
   pub written : new ≡ old
 
 -- A told source of the language succeeds, but for want of memory, where no load of its name and no write failed.
 pub record IsPromised (words : List (Bor (List ℕ))) (held : Option (List ℕ → Option (List ℕ))) (loads_before loads_now : List ℕ → ℕ) (before now : ℕ) : Type 0 where
+  pub command : Command
   pub name : List ℕ
   pub options : Options
   pub at : List ℕ → Option (List ℕ)
   pub all : List ℕ
   pub program : Program
-  pub asked : Asks words name options
+  pub asked : Asks words command name options
   pub told : held ≡ Some at
   pub there : at name ≡ Some all
   pub accepted : IsRead (take most_bytes all) program

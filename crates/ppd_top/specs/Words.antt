@@ -1,10 +1,12 @@
 -- The words after the program's name: the command that they give, with its options and the name of a source.
-use Rattle.std.specs.Prelude.{◌≡◌, ℕ, ◌+◌, ◌*◌, ◌-◌, Bool, true, false, ◌&&◌, nat_eq, nat_le, List, [], ◌∷◌, take, drop, length, Option, Some, None, is_none, is_some, unwrap_or, if◌then◌else◌, codes}
+use Rattle.std.specs.Prelude.{◌≡◌, ℕ, ◌+◌, ◌*◌, ◌-◌, Bool, true, false, not, ◌&&◌, ◌||◌, nat_eq, nat_le, List, [], ◌∷◌, take, drop, length, Option, Some, None, is_none, is_some, unwrap_or, if◌then◌else◌, codes}
 use Rattle.std.specs.List.{list_all}
 use Rattle.std.specs.Borrow.{Bor}
 use lib.Pointwise.{pointwise}
 use Rattle.ppd_ast.specs.declared.limits.TheConstants.{MOST_BUDGET, MOST_POLICY}
 use Rattle.ppd_top.specs.declared.options.Options.{Options}
+use Rattle.ppd_top.specs.declared.words.Command.{Command}
+use Rattle.ppd_top.specs.declared.words.Command.TheVariants.{Flow, Show}
 use Rattle.ppd_top.specs.declared.words.Choice.{Choice}
 use Rattle.ppd_top.specs.declared.words.Choice.TheVariants.{Budget, Leaf, Loops}
 use Rattle.ppd_top.specs.declared.words.Word.{Word}
@@ -118,26 +120,40 @@ options_of g = record {
   policy = record { leaf = unwrap_or g.leaf 0; loops = unwrap_or g.loops 0 };
 }
 
-abbrev pub named : Given → Option (Bor (List ℕ)) → Option Request
-named g None = None
-named g (Some w) = Some (record { name = w; options = options_of g })
+-- the commands that are built
+abbrev pub command_of : List ℕ → Option Command
+command_of w = if same w (codes "flow") then Some Flow else if same w (codes "show") then Some Show else None
 
--- no option waits for its number, and there is a name
-abbrev pub complete : Given → Option Request
-complete g = if is_some g.waits then None else named g g.name
+-- each option that was given is one of the command's: `show` has no budget
+abbrev pub has_options : Command → Given → Bool
+has_options Flow g = true
+has_options Show g = is_none g.budget
 
-abbrev pub and_complete : Option Given → Option Request
-and_complete None = None
-and_complete (Some g) = complete g
+abbrev pub named : Command → Given → Option (Bor (List ℕ)) → Option Request
+named c g None = None
+named c g (Some w) = Some (record { command = c; name = w; options = options_of g })
 
--- `flow`, then its options and its name
+-- no option waits for its number, each is the command's, and there is a name
+abbrev pub complete : Command → Given → Option Request
+complete c g = if is_some g.waits || not (has_options c g) then None else named c g g.name
+
+abbrev pub and_complete : Command → Option Given → Option Request
+and_complete c None = None
+and_complete c (Some g) = complete c g
+
+abbrev pub after_command : Option Command → List (Bor (List ℕ)) → Option Request
+after_command None ws = None
+after_command (Some c) ws = and_complete c (after_words nothing_given ws)
+
+-- a command, then its options and the name of a source
 abbrev pub asked : List (Bor (List ℕ)) → Option Request
 asked [] = None
-asked (w ∷ ws) = if same w.now (codes "flow") then and_complete (after_words nothing_given ws) else None
+asked (w ∷ ws) = after_command (command_of w.now) ws
 
--- the words ask for a run of the source of this name with these options
-pub record Asks (words : List (Bor (List ℕ))) (name : List ℕ) (options : Options) : Type 0 where
+-- the words ask for this command on the source of this name with these options
+pub record Asks (words : List (Bor (List ℕ))) (command : Command) (name : List ℕ) (options : Options) : Type 0 where
   pub request : Request
   pub is : asked words ≡ Some request
+  pub command_is : request.command ≡ command
   pub name_is : request.name.now ≡ name
   pub options_are : request.options ≡ options

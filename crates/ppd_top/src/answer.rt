@@ -1,18 +1,24 @@
 // What a source comes to.
 ghost use Rattle.std.specs.Prelude.{◌≡◌, ◌<◌, ◌≤◌, [], IfOk};
+ghost use Rattle.ppd_ast.specs.Valid.{IsValid};
 ghost use Rattle.ppd_ast.specs.ValidPlan.{IsValidPolicy};
 ghost use Rattle.ppd_ast.specs.declared.limits.TheConstants.{MOST_BUDGET};
+ghost use Rattle.ppd_show.specs.Table.{table_of};
+ghost use Rattle.ppd_top.specs.Ran.{Gives};
 ghost use Rattle.ppd_top.specs.Top.{Answers};
 
 use crate::options::Options;
 use crate::refusal::refusal_line;
 use crate::running::run_program;
-use ppd_ast::{Bytes, Memory, Seq};
+use crate::words::Command;
+use ppd_ast::{Bytes, Memory, Program, Seq};
 use ppd_check::read_source;
+use ppd_sets::sets;
+use ppd_show::table;
 use std::alloc::Global;
 
-/// What a source comes to: the schedule of its run, empty where none ran, and the text with its
-/// status.
+/// What a command comes to on a source: the schedule of its run, empty where none ran, and the text
+/// with its status.
 #[derive(Drop)]
 pub(crate) struct Answer {
     pub(crate) schedule: Bytes,
@@ -20,15 +26,46 @@ pub(crate) struct Answer {
     pub(crate) text: Vec<u8>,
 }
 
-/// What a source comes to under these options.
+/// The static tables of a program.
+fn show_program(alloc: Global, program: &Program) -> Result<Vec<u8>, Memory>
+    requires { IsValid program.now }
+    ensures { IfOk result (λ text. text.items ≡ table_of program.now) }
+{
+    let sets = sets(alloc, program)?;
+    table(alloc, program, &sets)
+}
+
+/// What a command gives for a program: the schedule of its run, empty where it runs nothing, and the text.
+fn give(
+    alloc: Global,
+    command: Command,
+    program: &Program,
+    options: &Options,
+) -> Result<(Bytes, Vec<u8>), Memory>
+    requires program { IsValid program.now }
+    requires budget { options.now.budget ≤ MOST_BUDGET }
+    requires policy { IsValidPolicy options.now.policy }
+    ensures { IfOk result (λ r. Gives command program.now options.now r.0 r.1.items) }
+{
+    match command {
+        Command::Flow => run_program(alloc, program, options),
+        Command::Show => {
+            let text = show_program(alloc, program)?;
+            Ok((Seq::new(alloc), text))
+        }
+    }
+}
+
+/// What a command comes to on a source under these options.
 pub(crate) fn answer_source(
     alloc: Global,
     source: &[u8],
+    command: Command,
     options: &Options,
 ) -> Result<Answer, Memory>
     requires budget { options.now.budget ≤ MOST_BUDGET }
     requires policy { IsValidPolicy options.now.policy }
-    ensures answers { IfOk result (λ a. Answers source.now options.now a.schedule a.status a.text.items) }
+    ensures answers { IfOk result (λ a. Answers source.now options.now command a.schedule a.status a.text.items) }
     ensures status { IfOk result (λ a. a.status < 2) }
 {
     match read_source(alloc, source) {
@@ -38,7 +75,7 @@ pub(crate) fn answer_source(
             text: refusal_line(alloc, error)?,
         }),
         Ok(program) => {
-            let (schedule, text) = run_program(alloc, &program, options)?;
+            let (schedule, text) = give(alloc, command, &program, options)?;
             Ok(Answer {
                 schedule,
                 status: 0,

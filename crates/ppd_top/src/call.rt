@@ -5,12 +5,13 @@ ghost use Rattle.ppd_ast.specs.declared.limits.TheConstants.{MOST_BUDGET};
 ghost use Rattle.ppd_io.specs.Causes.{Rose};
 ghost use Rattle.ppd_io.specs.Content.{Appends};
 ghost use Rattle.ppd_top.specs.declared.options.Options.{Options as OptionsOf};
-ghost use Rattle.ppd_top.specs.Top.{Answers, Finished, RanWhole, WasRefused, WasNotAsked, ReadFailed, WriteFailed, MemoryRanOut, IsPromised};
+ghost use Rattle.ppd_top.specs.declared.words.Command.{Command as CommandOf};
+ghost use Rattle.ppd_top.specs.Top.{Answers, Finished, RanWhole, WasShown, WasRefused, WasNotAsked, ReadFailed, WriteFailed, MemoryRanOut, IsPromised};
 ghost use Rattle.ppd_top.specs.Words.{Asks};
 
 use crate::answer::answer_source;
 use crate::options::Options;
-use crate::words::{Request, asked};
+use crate::words::{Command, Request, asked};
 use ppd_ast::{Bytes, Seq};
 use ppd_io::{Gate, Shelf, ShelfError, Sink, Source, put_all};
 use std::alloc::Global;
@@ -28,13 +29,14 @@ const USAGE: &[u8] = b"usage: ppd flow|run|debug|show|drill\n";
 /// One byte more than the longest source, so that a longer one is seen.
 const MOST_BYTES: usize = 262_145;
 
-/// Does all that the program does. The words are those after the program's name: `flow`, its options
-/// `--budget N`, `--leaf N` and `--loops N` in any order, each at most once and also as `--budget=N`, and
-/// the name of a source.
+/// Does all that the program does. The words are those after the program's name: `flow` or `show`, its
+/// options in any order, each at most once, and the name of a source. The options of `flow` are
+/// `--budget N`, `--leaf N` and `--loops N`, each also as `--budget=N`; `show` has the last two.
 ///
-/// The lowest process that can take a step takes it, until there is none.
+/// In `flow` the lowest process that can take a step takes it, until there is none.
 ///
-/// - 0: the source's program ran to its end, and its summary was written.
+/// - 0: in `flow` the source's program ran to its end, and its summary was written; in `show` the tables of
+///   the source's program were written.
 /// - 1: the source has no program, and the line that says why was written.
 /// - 2: the words are others, and the usage line was written.
 /// - 3: the shelf failed to load the source, and nothing was written.
@@ -51,7 +53,7 @@ pub fn ppd<F: Shelf, I: Source, O: Sink, G: Gate>(
     gate: &G,
 ) -> Outcome
     ensures range { result.status < 6 }
-    ensures run { result.status ≡ 0 → RanWhole words.now (F.held shelf.old) result.schedule (O.written output.old) (O.written output.new) }
+    ensures run { result.status ≡ 0 → RanWhole words.now (F.held shelf.old) result.schedule (O.written output.old) (O.written output.new) ⊎ WasShown words.now (F.held shelf.old) result.schedule (O.written output.old) (O.written output.new) }
     ensures refused { result.status ≡ 1 → WasRefused words.now (F.held shelf.old) (O.written output.old) (O.written output.new) }
     ensures usage { result.status ≡ 2 → WasNotAsked words.now (O.written output.old) (O.written output.new) }
     ensures read { result.status ≡ 3 → ReadFailed words.now (F.failed_loads shelf.old) (F.failed_loads shelf.new) (O.written output.old) (O.written output.new) }
@@ -72,7 +74,7 @@ pub fn ppd<F: Shelf, I: Source, O: Sink, G: Gate>(
     match shelf.load(alloc, request.name, MOST_BYTES) {
         Err(ShelfError::Failed) => ended(alloc, 3),
         Err(ShelfError::Memory) => ended(alloc, 5),
-        Ok(source) => flow(alloc, &source, &request.options, output),
+        Ok(source) => respond(alloc, &source, request.command, &request.options, output),
     }
 }
 
@@ -89,8 +91,8 @@ fn ended(alloc: Global, status: u8) -> Outcome
 
 /// What the words ask for.
 fn requested<'a>(words: &[&'a str]) -> Option<Request<'a>>
-    ensures none { IfNone result ((name : List ℕ) (options : OptionsOf) → Asks words.now name options → ⊥) }
-    ensures some { IfSome result (λ r. Asks words.now r.name.now r.options) }
+    ensures none { IfNone result ((command : CommandOf) (name : List ℕ) (options : OptionsOf) → Asks words.now command name options → ⊥) }
+    ensures some { IfSome result (λ r. Asks words.now r.command r.name.now r.options) }
     ensures budget { IfSome result (λ r. r.options.budget ≤ MOST_BUDGET) }
     ensures policy { IfSome result (λ r. IsValidPolicy r.options.policy) }
 {
@@ -107,15 +109,21 @@ fn finish<O: Sink>(output: &mut O, text: &[u8], status: u8) -> u8
     }
 }
 
-/// Runs a source and writes what it comes to.
-fn flow<O: Sink>(alloc: Global, source: &[u8], options: &Options, output: &mut O) -> Outcome
+/// Writes what a command comes to on a source.
+fn respond<O: Sink>(
+    alloc: Global,
+    source: &[u8],
+    command: Command,
+    options: &Options,
+    output: &mut O,
+) -> Outcome
     requires budget { options.now.budget ≤ MOST_BUDGET }
     requires policy { IsValidPolicy options.now.policy }
     ensures { ((result.status ≡ 5) × (O.written output.new ≡ O.written output.old) × (result.schedule ≡ []))
-        ⊎ ((status : ℕ) × (text : List ℕ) × (status < 2) × Answers source.now options.now result.schedule status text
+        ⊎ ((status : ℕ) × (text : List ℕ) × (status < 2) × Answers source.now options.now command result.schedule status text
         × Finished (O.written output.old) (O.written output.new) (O.faults output.old) (O.faults output.new) result.status status text) }
 {
-    match answer_source(alloc, source, options) {
+    match answer_source(alloc, source, command, options) {
         Err(_) => ended(alloc, 5),
         Ok(answer) => Outcome {
             status: finish(output, &answer.text, answer.status),

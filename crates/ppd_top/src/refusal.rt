@@ -1,14 +1,14 @@
 // The line that says why a source is refused.
 ghost use Rattle.std.specs.Prelude.{◌≡◌, ◌≢◌, ◌++◌, codes, OnOk, IfOk};
 ghost use Rattle.ppd_check.specs.declared.error.SourceError.TheVariants as source;
-ghost use Rattle.ppd_top.specs.Summary.{place_text};
+ghost use Rattle.ppd_text.specs.Texts.{place_text};
 ghost use Rattle.ppd_top.specs.Refusals.{refusal as refusal_of, limit_text, refused_lex, refused_syntax, refused_check, refused};
 
-use crate::text::{put, put_place};
 use ppd_ast::{Memory, Place};
 use ppd_check::{CheckError, Limit, SourceError};
 use ppd_lex::LexError;
 use ppd_parse::SyntaxError;
+use ppd_text::{put, put_place};
 use std::alloc::Global;
 
 /// A refusal of this stage, number and name at a place.

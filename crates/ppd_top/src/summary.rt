@@ -2,9 +2,10 @@
 ghost use Rattle.std.specs.Prelude.{◌≡◌, ◌++◌, ◌+◌, ◌<◌, ◌≤◌, ◌^◌, length, OnOk, IfOk, slice_get};
 ghost use Rattle.ppd_top.specs.Summary.{place_at as place_for, name_of, end_text, end_texts, race_text, summary_of};
 
-use crate::text::{put, put_number, put_prints, put_status};
+use crate::text::{put_prints, put_status};
 use ppd_ast::{Memory, Place, Program};
 use ppd_model::ProcEnd;
+use ppd_text::{put, put_number};
 use std::alloc::Global;
 
 fn place_at(program: &Program, stmt: u32) -> Place

@@ -1,42 +1,8 @@
-ghost use Rattle.std.specs.Prelude.{◌≡◌, ◌++◌, OnOk, codes, decimal};
-ghost use Rattle.std.specs.Fmt.{signed_decimal};
-ghost use Rattle.ppd_top.specs.Summary.{trap_word, place_text, status_text, print_text, print_texts};
+ghost use Rattle.std.specs.Prelude.{◌≡◌, ◌++◌, OnOk, codes};
+ghost use Rattle.ppd_top.specs.Summary.{trap_word, status_text, print_text, print_texts};
 
-use itoa::Buffer;
 use ppd_ast::{Memory, Place, Status, Trap};
-
-/// Appends bytes.
-pub(crate) fn put(text: &mut Vec<u8>, bytes: &[u8]) -> Result<(), Memory>
-    ensures { OnOk result (text.new.items ≡ text.old.items ++ bytes.now) }
-{
-    match text.extend_from_slice(bytes) {
-        Ok(()) => Ok(()),
-        Err(_) => Err(Memory),
-    }
-}
-
-/// Appends a number in decimal.
-pub(crate) fn put_number(text: &mut Vec<u8>, number: u32) -> Result<(), Memory>
-    ensures { OnOk result (text.new.items ≡ text.old.items ++ decimal number) }
-{
-    let mut buffer = Buffer::new();
-    put(text, buffer.format(number).as_bytes())
-}
-
-fn put_value(text: &mut Vec<u8>, value: i64) -> Result<(), Memory>
-    ensures { OnOk result (text.new.items ≡ text.old.items ++ signed_decimal value) }
-{
-    let mut buffer = Buffer::new();
-    put(text, buffer.format(value).as_bytes())
-}
-
-pub(crate) fn put_place(text: &mut Vec<u8>, place: Place) -> Result<(), Memory>
-    ensures { OnOk result (text.new.items ≡ text.old.items ++ place_text place) }
-{
-    put_number(text, place.line)?;
-    put(text, b":")?;
-    put_number(text, place.column)
-}
+use ppd_text::{put, put_place, put_value};
 
 fn put_trap(text: &mut Vec<u8>, trap: Trap) -> Result<(), Memory>
     ensures { OnOk result (text.new.items ≡ text.old.items ++ trap_word trap) }

@@ -1,7 +1,7 @@
 // The words of the command line.
 ghost use Rattle.std.specs.Prelude.{◌≡◌, ◌<◌, ◌≤◌, ◌^◌, true, is_some, length, IfSome, Some, None};
 ghost use Rattle.std.specs.List.{list_all};
-ghost use Rattle.ppd_top.specs.Words.{number_in as number_of, spelled as spelled_of, is_dashed as is_dashed_of, is_allowed as is_allowed_of, given as given_of, with_option as with_option_of, with_number as with_number_of, with_name as with_name_of, with_word as with_word_of, after_wait as after_wait_of, after_word as after_word_of, after_words as after_words_of, nothing_given, options_of as options_for, complete as complete_of, asked as asked_of, value_from, is_digit};
+ghost use Rattle.ppd_top.specs.Words.{number_in as number_of, spelled as spelled_of, is_dashed as is_dashed_of, is_allowed as is_allowed_of, given as given_of, with_option as with_option_of, with_number as with_number_of, with_name as with_name_of, with_word as with_word_of, after_wait as after_wait_of, after_word as after_word_of, after_words as after_words_of, nothing_given, options_of as options_for, command_of as command_for, has_options as has_options_of, complete as complete_of, asked as asked_of, value_from, is_digit};
 
 use crate::options::Options;
 use ppd_ast::Policy;
@@ -9,6 +9,15 @@ use ppd_ast::limits::{MOST_BUDGET, MOST_POLICY};
 
 /// The budget of a process where none is given, in steps and logged values.
 const DEFAULT_BUDGET: u32 = 100_000;
+
+/// What the first word asks for.
+#[derive(Clone, Copy, PartialEq, Eq, Debug)]
+pub(crate) enum Command {
+    /// A source is run, and its summary written.
+    Flow,
+    /// The static tables of a source are written.
+    Show,
+}
 
 /// An option that has a number.
 #[derive(Clone, Copy, PartialEq, Eq, Debug)]
@@ -45,9 +54,11 @@ pub(crate) struct Given<'a> {
     name: Option<&'a str>,
 }
 
-/// What the words ask for: the name of a source, and how it is run.
+/// What the words ask for: a command, the name of a source, and the options, of which each that was not
+/// given or is none of the command's has its default.
 #[derive(Clone, Copy)]
 pub(crate) struct Request<'a> {
+    pub(crate) command: Command,
     pub(crate) name: &'a str,
     pub(crate) options: Options,
 }
@@ -254,26 +265,53 @@ fn options_of(given: Given) -> Options
     }
 }
 
-fn complete<'a>(given: Given<'a>) -> Option<Request<'a>>
-    ensures { result ≡ complete_of given.entry }
+/// The command that a word names.
+fn command_of(word: &[u8]) -> Option<Command>
+    ensures { result ≡ command_for word.now }
 {
-    if given.waits.is_some() {
+    if word == b"flow".as_slice() {
+        Some(Command::Flow)
+    } else if word == b"show".as_slice() {
+        Some(Command::Show)
+    } else {
+        None
+    }
+}
+
+/// Whether each option that was given is one of the command's.
+fn has_options(command: Command, given: Given) -> bool
+    ensures { result ≡ has_options_of command given.entry }
+{
+    match command {
+        Command::Flow => true,
+        Command::Show => given.budget.is_none(),
+    }
+}
+
+fn complete<'a>(command: Command, given: Given<'a>) -> Option<Request<'a>>
+    ensures { result ≡ complete_of command given.entry }
+{
+    if given.waits.is_some() || !has_options(command, given) {
         return None;
     }
     let name = given.name?;
     Some(Request {
+        command,
         name,
         options: options_of(given),
     })
 }
 
-/// The run that the words ask for: `flow`, its options in any order, each at most once, and the name of a
+/// What the words ask for: `flow` or `show`, its options in any order, each at most once, and the name of a
 /// source. None where they ask for nothing.
 pub(crate) fn asked<'a>(words: &[&'a str]) -> Option<Request<'a>>
     ensures { result ≡ asked_of words.now }
 {
     match words {
-        [command, rest @ ..] if *command == "flow" => complete(after_words(rest)?),
+        [word, rest @ ..] => {
+            let command = command_of(word.as_bytes())?;
+            complete(command, after_words(rest)?)
+        }
         _ => None,
     }
 }

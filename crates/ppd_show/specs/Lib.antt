@@ -1,0 +1,4 @@
+-- The text of the static tables.
+pub mod Names
+pub mod Kinds
+pub mod Table

@@ -1,0 +1,2 @@
+-- What texts are made of.
+pub mod Texts

@@ -1,0 +1,41 @@
+ghost use Rattle.std.specs.Prelude.{◌≡◌, ◌++◌, OnOk, codes, decimal};
+ghost use Rattle.std.specs.Fmt.{signed_decimal};
+ghost use Rattle.ppd_text.specs.Texts.{place_text};
+
+use itoa::Buffer;
+use ppd_ast::{Memory, Place};
+
+/// Appends bytes. `Memory` is want of memory, here and below; what the text then holds is not said.
+pub fn put(text: &mut Vec<u8>, bytes: &[u8]) -> Result<(), Memory>
+    ensures { OnOk result (text.new.items ≡ text.old.items ++ bytes.now) }
+{
+    match text.extend_from_slice(bytes) {
+        Ok(()) => Ok(()),
+        Err(_) => Err(Memory),
+    }
+}
+
+/// Appends a number in decimal.
+pub fn put_number(text: &mut Vec<u8>, number: u32) -> Result<(), Memory>
+    ensures { OnOk result (text.new.items ≡ text.old.items ++ decimal number) }
+{
+    let mut buffer = Buffer::new();
+    put(text, buffer.format(number).as_bytes())
+}
+
+/// Appends a value in decimal, with `-` before one below 0.
+pub fn put_value(text: &mut Vec<u8>, value: i64) -> Result<(), Memory>
+    ensures { OnOk result (text.new.items ≡ text.old.items ++ signed_decimal value) }
+{
+    let mut buffer = Buffer::new();
+    put(text, buffer.format(value).as_bytes())
+}
+
+/// Appends a place: its line, `:`, and its column, both from 1.
+pub fn put_place(text: &mut Vec<u8>, place: Place) -> Result<(), Memory>
+    ensures { OnOk result (text.new.items ≡ text.old.items ++ place_text place) }
+{
+    put_number(text, place.line)?;
+    put(text, b":")?;
+    put_number(text, place.column)
+}
