@@ -49,11 +49,8 @@ module _ (words : List (Bor (List ℕ))) (held : Option (List ℕ → Option (Li
     ran k h status text a (run program _ accepted whole) is w = inl (record { name = name; options = options; bytes = bytes; program = program; asked = a; loaded = loads; accepted = accepted; whole = whole; written = w })
     ran k h status text a (tables program accepted) is w = inr (record { name = name; options = options; bytes = bytes; program = program; asked = a; loaded = loads; accepted = accepted; no_run = refl; written = w })
 
-    refused : (h : List ℕ) (status : ℕ) (text : List ℕ) → Answers bytes options h status text → status ≡ 1 → Appends old new text → WasRefused words held old new
-    refused h status text (refusal error real cause) is w = record { name = name; options = options; bytes = bytes; error = error; asked = asked; loaded = loads; fault = real; cause = cause; no_program = λ p r. absurd (real (read_or_refused bytes p error r cause)); written = w }
-    refused h status text (run program _ accepted whole) is w = absurd (omega (arith, is))
     refused : (k : Command) (h : List ℕ) (status : ℕ) (text : List ℕ) → Asks words k name options → Answers bytes options k h status text → status ≡ 1 → Appends old new text → WasRefused words held old new
-    refused k h status text asked (refusal _ error real cause) is w = record { command = k; name = name; options = options; bytes = bytes; error = error; asked = asked; loaded = loads; fault = real; cause = cause; no_program = λ p r. read_or_refused bytes p error r real cause; written = w }
+    refused k h status text asked (refusal _ error real cause) is w = record { command = k; name = name; options = options; bytes = bytes; error = error; asked = asked; loaded = loads; fault = real; cause = cause; no_program = λ p r. absurd (real (read_or_refused bytes p error r cause)); written = w }
     refused k h status text asked (run program _ accepted whole) is w = absurd (omega (arith, is))
     refused k h status text asked (tables program accepted) is w = absurd (omega (arith, is))
 
@@ -85,11 +82,8 @@ module _ (words : List (Bor (List ℕ))) (held : Option (List ℕ → Option (Li
         let Q : List ℕ → Type 0 = λ s. IsRead s p.program in
         subst Q (sym is) p.accepted
 
-    succeeds : (h : List ℕ) (status : ℕ) (text : List ℕ) (program : Program) → Answers bytes options h status text → IsRead bytes program → status ≡ 0
-    succeeds h status text program (refusal error real cause) r = absurd (real (read_or_refused bytes program error r cause))
-    succeeds h status text program (run _ _ accepted whole) r = refl
     succeeds : (k : Command) (h : List ℕ) (status : ℕ) (text : List ℕ) (program : Program) → Answers bytes options k h status text → IsRead bytes program → status ≡ 0
-    succeeds k h status text program (refusal _ error real cause) r = absurd (read_or_refused bytes program error r real cause)
+    succeeds k h status text program (refusal _ error real cause) r = absurd (real (read_or_refused bytes program error r cause))
     succeeds k h status text program (run _ _ accepted whole) r = refl
     succeeds k h status text program (tables _ accepted) r = refl
 
