@@ -1,6 +1,6 @@
 -- A source has a program or is refused, not both.
-use Rattle.std.specs.Prelude.{Some, None}
-use Rattle.std.proofs.Common.{◌≡◌, ◌≢◌, ℕ, List, [], ◌∷◌, refl, sym, ◌∙◌, ap, subst}
+use Rattle.std.specs.Prelude.{Some}
+use Rattle.std.proofs.Common.{◌≡◌, ◌≢◌, ℕ, List, [], ◌∷◌, refl, sym, subst}
 use Rattle.ppd_ast.specs.declared.program.Program.{Program}
 use Rattle.ppd_lex.specs.declared.token.Token.{Token}
 use Rattle.ppd_lex.specs.declared.token.LexError.{LexError}
