@@ -1,7 +1,7 @@
 -- The options that the words give are within their limits.
 use Rattle.std.specs.Prelude.{Option, Some, None, IfSome, ◌&&◌, ◌||◌, not, is_none, is_some, nat_le, unwrap_or, if◌then◌else◌}
 use Rattle.std.specs.Borrow.{Bor}
-use Rattle.std.proofs.Common.{◌≡◌, ℕ, ◌≤◌, ◌≡◌, Bool, true, false, List, [], ◌∷◌, length, refl, sym, ◌∙◌, ap, subst, arith}
+use Rattle.std.proofs.Common.{◌≡◌, ℕ, ◌≤◌, ◌≡◌, Bool, true, false, List, [], ◌∷◌, length, refl, sym, subst, arith}
 use Rattle.std.proofs.lemmas.Bool.{leb-true}
 use Rattle.ppd_ast.specs.ValidPlan.{IsValidPolicy}
 use Rattle.ppd_top.specs.declared.words.Command.{Command}
@@ -11,7 +11,7 @@ use Rattle.ppd_top.specs.declared.words.Word.{Word}
 use Rattle.ppd_top.specs.declared.words.Word.TheVariants.{Ends, Waits, Sets, Other, Name}
 use Rattle.ppd_top.specs.declared.words.Given.{Given}
 use Rattle.ppd_top.specs.declared.words.Request.{Request}
-use Rattle.ppd_top.specs.Words.{is_allowed, given, with_option, with_number, with_name, with_word, after_wait, after_word, after_words, and_words, nothing_given, options_of, named, complete, and_complete, command_of, has_options, after_command, asked, spelled, number_in}
+use Rattle.ppd_top.specs.Words.{is_allowed, given, with_option, with_number, with_name, with_word, after_wait, after_word, after_words, and_words, nothing_given, options_of, named, and_complete, command_of, has_options, after_command, asked, spelled, number_in}
 
 -- what was given keeps its limit
 record AreAllowed (g : Given) : Type 0 where

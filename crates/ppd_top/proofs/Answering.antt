@@ -8,9 +8,9 @@ use Rattle.ppd_show.specs.Table.{table_of}
 use Rattle.ppd_top.specs.declared.options.Options.{Options}
 use Rattle.ppd_top.specs.declared.words.Command.{Command}
 use Rattle.ppd_top.specs.declared.words.Command.TheVariants.{Flow, Show}
-use Rattle.ppd_top.specs.Ran.{RanTo, Gives}
+use Rattle.ppd_top.specs.Ran.{Gives}
 use Rattle.ppd_top.specs.Refusals.{refused}
-use Rattle.ppd_top.specs.Top.{summary_of_run, Answers}
+use Rattle.ppd_top.specs.Top.{Answers}
 use Rattle.ppd_top.specs.Top.Answers.{refusal, run, tables}
 
 answers_as : (bytes : List ℕ) (options : Options) (command : Command) (status : ℕ) (h k t u : List ℕ) → h ≡ k → t ≡ u → Answers bytes options command k status u → Answers bytes options command h status t

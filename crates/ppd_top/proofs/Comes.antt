@@ -1,7 +1,6 @@
 -- From a world that was reached to the run of its program.
 use Rattle.std.specs.Prelude.{Some}
-use Rattle.std.proofs.Common.{◌≡◌, ℕ, List, refl, sym, ◌∙◌, ap, subst}
-use Rattle.ppd_ast.specs.declared.plan.Plan.{Plan}
+use Rattle.std.proofs.Common.{◌≡◌, ℕ, List, ◌∙◌, ap, subst}
 use Rattle.ppd_ast.specs.declared.program.Program.{Program}
 use Rattle.ppd_model.specs.declared.closed.Closed.{Closed}
 use Rattle.ppd_model.specs.Logs.{close}
@@ -9,8 +8,8 @@ use Rattle.ppd_model.specs.Schedule.{IsOver, run}
 use Rattle.ppd_world.specs.Running.{Running, IsOf}
 use Rattle.ppd_top.specs.declared.options.Options.{Options}
 use Rattle.ppd_top.specs.Ran.{RanTo}
-use Rattle.ppd_top.specs.Summary.{summary, summary_of}
-use Rattle.ppd_top.specs.Top.{plan_of, IsWholeRun, summary_of_run}
+use Rattle.ppd_top.specs.Summary.{summary_of}
+use Rattle.ppd_top.specs.Top.{plan_of}
 
 module _ (program : Program) (options : Options) (r : Running) (is_program : r.program ≡ program) (is_plan : r.plan ≡ plan_of program options) (is_budget : r.budget ≡ options.budget) where
   pub runs_as : (h : List ℕ) → run r.program r.plan r.budget h ≡ Some r.world → run program (plan_of program options) options.budget h ≡ Some r.world

@@ -1,7 +1,6 @@
 -- A schedule that is handed in, taken from the start of a program.
 use Rattle.std.specs.Prelude.{Option, Some, None, IsSomeAnd, slice_get}
-use Rattle.std.proofs.Common.{◌≡◌, ℕ, List, [], take, true, false, Result, Ok, Err, refl, sym, ◌∙◌, ap, subst}
-use Rattle.ppd_ast.specs.declared.plan.Plan.{Plan}
+use Rattle.std.proofs.Common.{◌≡◌, ℕ, List, [], take, true, false, Ok, Err, refl, sym, ◌∙◌, ap, subst}
 use Rattle.ppd_ast.specs.declared.program.Program.{Program}
 use Rattle.ppd_model.specs.declared.trace.DriveError.{DriveError}
 use Rattle.ppd_model.specs.declared.trace.DriveError.TheVariants as drive

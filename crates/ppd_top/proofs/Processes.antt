@@ -1,6 +1,6 @@
 -- The processes of a world that was reached: how many there are, and how many steps they can take.
 use Rattle.std.specs.Prelude.{slice_get}
-use Rattle.std.proofs.Common.{◌≡◌, ℕ, zero, suc, ◌+◌, ◌-◌, ◌*◌, ◌<◌, ◌≤◌, List, [], ◌∷◌, ◌++◌, length, Option, Some, None, true, false, cond, refl, sym, ◌∙◌, ap, subst, arith, inl, inr, mul-le-mul_right}
+use Rattle.std.proofs.Common.{◌≡◌, ℕ, zero, suc, ◌+◌, ◌-◌, ◌*◌, ◌<◌, ◌≤◌, List, [], ◌∷◌, ◌++◌, length, Some, None, true, false, cond, refl, sym, ◌∙◌, ap, arith, inl, inr, mul-le-mul_right}
 use Rattle.std.proofs.lemmas.Bool.{cases_lt}
 use Rattle.std.proofs.lemmas.List.{length-append}
 use Rattle.std.proofs.lemmas.List.FromFn.{length-map-range_with_len}
@@ -9,7 +9,7 @@ use Rattle.ppd_ast.specs.declared.plan.Plan.{Plan}
 use Rattle.ppd_sem.specs.declared.proc.Proc.{Proc}
 use Rattle.ppd_sem.specs.Process.{started}
 use Rattle.ppd_model.specs.Bounds.{SchedulesAreBounded}
-use Rattle.ppd_model.specs.Schedule.{IsOver, run, run_from, started_world}
+use Rattle.ppd_model.specs.Schedule.{IsOver, run_from, started_world}
 use Rattle.ppd_model.specs.World.{World, can, change, enabled, need_at, step}
 use Rattle.ppd_world.specs.Running.{Running, IsOf, IsReached, can_step, stepped}
 

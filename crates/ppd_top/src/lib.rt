@@ -1,4 +1,4 @@
-//! The top call: from words and bytes to the run of a program and its summary.
+//! The top call: from words and bytes to the run of a program and its summary, or to its static tables.
 #![tactic(auto)]
 
 mod answer;

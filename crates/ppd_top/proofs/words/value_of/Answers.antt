@@ -1,4 +1,4 @@
-use Rattle.std.proofs.Common.{◌≡◌, ℕ, ◌+◌, ◌*◌, ◌^◌, ◌<◌, ◌∙◌, ap, arith, refl, get_or, Fits, w8, rules}
+use Rattle.std.proofs.Common.{arith, get_or, Fits, w8, rules}
 use Rattle.ppd_top.proofs.Worded.{value_from-taken, ten-more}
 use Rattle.ppd_top.proofs.words.value_of.Goals as goal
 
