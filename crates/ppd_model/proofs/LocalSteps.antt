@@ -28,10 +28,11 @@ use Rattle.ppd_model.proofs.LocalDeeds.{among, back_does, call_does, clear_does,
 
 -- ---- what a need tells of what is asked
 
--- a read is not of a statement that finishes, and a trap not of a return
+-- a read is not of a statement that finishes, and a trap not of a return or of a loop that goes on
 abbrev pub Fits : Need → Asked Deed → Type 0
 Fits (Read c) (Ok p) = ⊥
 Fits (Trap t) (Ok (back v, left)) = ⊥
+Fits (Trap t) (Ok (turn xs, left)) = ⊥
 Fits n asked = ⊤
 
 fits_leave : (plan : Plan) (t : ℕ) (b : Option ℕ) (left : List ℤ) → Fits (need_of_leaving plan t b) (Ok (leave, left))

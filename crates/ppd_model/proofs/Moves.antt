@@ -54,7 +54,7 @@ AreTop program (i ∷ []) = (parent_if (slice_get program.stmts i) ≡ None) × 
 AreTop program (i ∷ j ∷ is) = ((parent_if (slice_get program.stmts i) ≡ None) × (returns (kind_of program i) ≡ false)) × AreTop program (j ∷ is)
 
 -- where a statement leads
-abbrev Leads : Program → ℕ → Kind → Type 0
+abbrev pub Leads : Program → ℕ → Kind → Type 0
 Leads program s (kind.If e first second) = AllInner program s first × AllInner program s second
 Leads program s (kind.While e body) = AllInner program s body
 Leads program s (kind.Call f arguments into) = AreTop program (top_of (slice_get program.bodies f))
@@ -109,7 +109,7 @@ leads_of program s (Some x) v e =
     let on : LeadsOn program n (kind_of program s) = leads_at program n s (valid-runnable program v) (record { there = lt; size = refl }) in
     of_kind program n s x.body x.kind v (subst (λ k. LeadsOn program n k) (ap kind_or_end e) on) valid.inside
 
-leads : (program : Program) (s : ℕ) → IsValid program → Leads program s (kind_of program s)
+pub leads : (program : Program) (s : ℕ) → IsValid program → Leads program s (kind_of program s)
 leads program s v = leads_of program s (slice_get program.stmts s) v refl
 
 -- ---- what a statement's deed is
@@ -286,3 +286,30 @@ step_moves program plan story p u x t ts v own is =
           other_now program plan x.answer t ts u.proc (Some (me_in p u)) (views u.activations) (with_test program (me_in p u) (event_of program plan u.proc x u.proc.todo) u.activations) is x.need e
           ∙ ap views (sym (other_acts program plan story p x x.need u e))
     ]
+
+-- ---- a step that is no event
+
+-- the head is still the same statement, and the activations are as they were
+abbrev Idle : Tracing → List View → Todo → List Todo → List Todo → Type 0
+Idle u now t ts todo = (v : Todo) × (todo ≡ v ∷ ts) × (v.stmt ≡ t.stmt) × (now ≡ views u.activations)
+
+idle_asked : (program : Program) (a : Answer) (t : Todo) (ts : List Todo) (s : Proc) (c : ℕ) (asked : Asked Deed) → s.todo ≡ t ∷ ts → Fits (Read c) asked → (v : Todo) × ((act_by_asked program a t ts asked s).todo ≡ v ∷ ts) × (v.stmt ≡ t.stmt)
+idle_asked program a t ts s c (Ok q) is h = absurd h
+idle_asked program a t ts s c (Err (Wants x)) is h = (t, is, refl)
+idle_asked program a t ts s c (Err (Traps x)) is h = (t, is, refl)
+
+idle_need : (program : Program) (plan : Plan) (a : Answer) (t : Todo) (ts : List Todo) (s : Proc) (n : Need) → s.todo ≡ t ∷ ts → is_event n ≡ false → Fits n (head_deed program t s)
+    → (v : Todo) × ((act_by_need program plan a t ts n s).todo ≡ v ∷ ts) × (v.stmt ≡ t.stmt)
+idle_need program plan a t ts s (Read c) is e f = idle_asked program a t ts s c (head_deed program t s) is f
+idle_need program plan a t ts s (Enter b u) is e f = (record t { entered = true }, refl, refl)
+idle_need program plan a t ts s Budget is e f = (t, is, refl)
+idle_need program plan a t ts s Stopped is e f = (t, is, refl)
+idle_need program plan a t ts s n is e f = absurd (cc)
+
+pub idles : (program : Program) (plan : Plan) (story : Story) (p : ℕ) (u : Tracing) (x : Taken) (t : Todo) (ts : List Todo) → x.need ≡ need_of program plan u.proc → u.proc.todo ≡ t ∷ ts → is_event x.need ≡ false
+    → Idle u (views (trace_step program plan story p u x).activations) t ts (trace_step program plan story p u x).proc.todo
+idles program plan story p u x t ts own is e =
+    let fit : FitsHead program u.proc (need_of program plan u.proc) (t ∷ ts) = subst (λ todo. FitsHead program u.proc (need_of program plan u.proc) todo) is (fits program plan u.proc) in
+    let idle = idle_need program plan x.answer t ts u.proc (need_of program plan u.proc) is (ap is_event (sym own) ∙ e) fit in
+    let todo_is : (act program plan u.proc x.answer).todo ≡ (act_by_need program plan x.answer t ts (need_of program plan u.proc) u.proc).todo = ap (λ todo. (act_at program plan x.answer todo u.proc).todo) is in
+    (idle.0, todo_is ∙ idle.1, idle.2, ap views (other_acts program plan story p x x.need u e))

@@ -280,7 +280,7 @@ module _ (program : Program) (plan : Plan) (story : Story) (p : ℕ) (frames : L
     none_at : (s : ℕ) → latest_at (views t.activations) k s ≡ None
     none_at s = ap (λ acts. latest_at (views acts) k s) begun_is ∙ ap (λ (v : View). latest s v.1) (begun_views frames k)
 
-    to_latest : (s : ℕ) (y : Test) → latest_at (views u.activations) k s ≡ Some y → IsLatestTest program plan story p k s t xs y.event y.passed
+    pub to_latest : (s : ℕ) (y : Test) → latest_at (views u.activations) k s ≡ Some y → IsLatestTest program plan story p k s t xs y.event y.passed
     to_latest s y e = elim (found program plan story p k s t xs y has own lt e) [
       | inl w ↦ w
       | inr h ↦ absurd (none_some (sym (none_at s) ∙ h.0))

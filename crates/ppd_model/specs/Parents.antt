@@ -132,3 +132,46 @@ abbrev pub ParentsAreLatestTests : Type 0
 ParentsAreLatestTests =
     (program : Program) (plan : Plan) (budget : ℕ) (h : List ℕ) (p n : ℕ) (e : TracedEvent) → slice_get (get_or (full_trace program plan budget h).events p []) n ≡ Some e
     → HasParent program plan (story program plan budget h) p (begun_tracing (started program plan p budget)) (own_steps (story program plan budget h) p) n e
+
+-- ---- valid programs
+
+-- statement q stands in statement s, directly or in one that does
+pub data IsInside (program : Program) (s : ℕ) : ℕ → Type 0 where
+  directly : {q : ℕ} → parent_if (slice_get program.stmts q) ≡ Some s → IsInside program s q
+  deeper : {q : ℕ} (r : ℕ) → parent_if (slice_get program.stmts q) ≡ Some r → IsInside program s r → IsInside program s q
+
+-- each event of these steps in activation k is of a statement that stands in statement s
+abbrev pub StaysInside : Program → Plan → (k s : ℕ) → Proc → List Taken → Type 0
+StaysInside program plan k s proc [] = ⊤
+StaysInside program plan k s proc (x ∷ xs) =
+    (is_event x.need ≡ true → k + 1 ≡ length proc.frames → IsInside program s (event_of program plan proc x proc.todo).stmt)
+    × StaysInside program plan k s (act program plan proc x.answer) xs
+
+-- statement s was tested in activation k
+pub record IsTested (program : Program) (plan : Plan) (story : Story) (p k s : ℕ) (t : Tracing) (steps : List Taken) : Type 0 where
+  pub event : EventId
+  pub passed : Bool
+  pub latest : IsLatestTest program plan story p k s t steps event passed
+
+-- an event has an activation, in which the statement round the event's was tested before, if there is one
+pub record HasTestedOuter (program : Program) (plan : Plan) (story : Story) (p : ℕ) (t : Tracing) (before : List Taken) (taken : Taken) : Type 0 where
+  pub activation : 0 < length (traced_to program plan story p t before).proc.frames
+  pub tested : (k outer : ℕ) → k + 1 ≡ length (traced_to program plan story p t before).proc.frames
+      → parent_if (slice_get program.stmts (event_of program plan (traced_to program plan story p t before).proc taken (traced_to program plan story p t before).proc.todo).stmt) ≡ Some outer
+      → IsTested program plan story p k outer t before
+
+-- so it is of each event of a schedule of a valid program
+abbrev pub OutersAreTested : Type 0
+OutersAreTested =
+    (program : Program) (plan : Plan) (budget : ℕ) (h : List ℕ) (p : ℕ) (before : List Taken) (taken : Taken) (after : List Taken)
+    → IsValid program → own_steps (story program plan budget h) p ≡ before ++ taken ∷ after → is_event taken.need ≡ true
+    → HasTestedOuter program plan (story program plan budget h) p (begun_tracing (started program plan p budget)) before taken
+
+-- since a true test of a `While` that is the latest one, the events in its activation are all of
+-- statements inside the loop: the run of the loop goes on
+abbrev pub LoopRunsStayInside : Type 0
+LoopRunsStayInside =
+    (program : Program) (plan : Plan) (budget : ℕ) (h : List ℕ) (p : ℕ) (before after : List Taken) (k s : ℕ) (event : EventId)
+    → IsValid program → own_steps (story program plan budget h) p ≡ before ++ after → is_while (kind_of program s) ≡ true
+    → (l : IsLatestTest program plan (story program plan budget h) p k s (begun_tracing (started program plan p budget)) before event true)
+    → StaysInside program plan k s (act program plan (traced_to program plan (story program plan budget h) p (begun_tracing (started program plan p budget)) l.before).proc l.taken.answer) l.after
