@@ -20,7 +20,7 @@ use Rattle.ppd_sem.specs.declared.proc.Todo.{Todo}
 use Rattle.ppd_sem.specs.Ask.{ask, is_zero}
 use Rattle.ppd_sem.specs.Asked.{Asked, and_then, gives}
 use Rattle.ppd_sem.specs.Deed.{Deed, ask_deed, leave, turn}
-use Rattle.ppd_sem.specs.Described.{value_if}
+use Rattle.ppd_sem.specs.Described.{value_at, value_if, valued}
 use Rattle.ppd_sem.specs.Process.{act, act_at, act_by_asked, act_by_need, head_deed, kind_of, need_by_status, need_of, need_of_running, started, todos, top_cells}
 use Rattle.ppd_sem.specs.Runs.{returns}
 use Rattle.ppd_model.specs.declared.trace.EventId.{EventId}
@@ -30,7 +30,7 @@ use Rattle.ppd_model.specs.Parents.{IsInside, IsLatestTest, IsUntested, LoopRuns
 use Rattle.ppd_model.specs.Story.{Story, Taken, is_event, own_steps, story}
 use Rattle.ppd_model.proofs.LocalSteps.{Fits, FitsHead, fits, tags_its_writes}
 use Rattle.ppd_model.proofs.LocalTags.{has_all, has_begun, own_steps_told}
-use Rattle.ppd_model.proofs.Moves.{AllInner, AreTop, Move, backs, calls, chooses, idles, leads, passes, stays, step_moves, traps, turns}
+use Rattle.ppd_model.proofs.Moves.{AllInner, AreTop, Leads, Move, backs, calls, chooses, idles, leads, passes, stays, step_moves, traps, turns}
 use Rattle.ppd_model.proofs.Parents.{own_from, own_to}
 use Rattle.ppd_model.proofs.TestSteps.{View, acts_length, views, views_length}
 
@@ -201,3 +201,95 @@ module _ (program : Program) (plan : Plan) (story : Story) (p k s : ℕ) (valid 
     λ is top. at_step u x has h.1.0 r is top,
     stays_inside (next u x) xs (tags_its_writes program plan story p u x has own.0).has_tags own.1 h.1.1 (one_step u x has own.0 h.1.0 r),
   )
+
+-- ---- the test that begins it
+
+-- the asked deed of a loop whose value is true
+turned : (r : Asked ℤ) (body : List ℕ) → is_passed (value_if r) ≡ true → (left : List ℤ) × (and_then r (λ v left. gives left (if is_zero v then leave else turn body)) ≡ gives left (turn body))
+turned (Err pause) body e = absurd (cc)
+turned (Ok q) body e = (q.1, by (is_zero q.0) refl)
+  where
+    by : (b : Bool) → is_zero q.0 ≡ b → gives q.1 (if is_zero q.0 then leave else turn body) ≡ gives q.1 (turn body)
+    by true z = absurd (both_ways (not (is_zero q.0)) (ap not z) e)
+    by false z = ap (λ b. gives q.1 (if b then leave else turn body)) z
+
+turns_by : (program : Program) (plan : Plan) (a : Answer) (t : Todo) (ts : List Todo) (s : Proc) (body : List ℕ) (left : List ℤ) (n : Need) → head_deed program t s ≡ Ok (turn body, left) → is_event n ≡ true → Fits n (head_deed program t s)
+    → ((act_by_need program plan a t ts n s).todo ≡ todos body ++ t ∷ ts) × ((act_by_need program plan a t ts n s).frames ≡ s.frames)
+turns_by program plan a t ts s body left (Read c) asked e f = absurd (cc)
+turns_by program plan a t ts s body left (Enter b u) asked e f = absurd (cc)
+turns_by program plan a t ts s body left Budget asked e f = absurd (cc)
+turns_by program plan a t ts s body left Stopped asked e f = absurd (cc)
+turns_by program plan a t ts s body left (Trap x) asked e f = absurd (subst (λ r. Fits (Trap x) r) asked f)
+turns_by program plan a t ts s body left n asked e f = (ap (λ r. (act_by_asked program a t ts r s).todo) asked, ap (λ r. (act_by_asked program a t ts r s).frames) asked)
+
+-- the body of a loop
+record Loop (program : Program) (s : ℕ) (k : Kind) : Type 0 where
+  value : ℕ
+  body : List ℕ
+  kind_is : k ≡ kind.While value body
+  inner : AllInner program s body
+
+loop_of : (program : Program) (s : ℕ) (k : Kind) → is_while k ≡ true → Leads program s k → Loop program s k
+loop_of program s (kind.While e body) w h = record { value = e; body = body; kind_is = refl; inner = h }
+loop_of program s k w h = absurd (cc)
+
+module _ (program : Program) (plan : Plan) (story : Story) (p k s : ℕ) (valid : IsValid program) (loops : is_while (kind_of program s) ≡ true) where
+  abbrev u_next : Tracing → Taken → Tracing
+  u_next t x = trace_step program plan story p t x
+
+  abbrev RunsAt : Tracing → Type 0
+  RunsAt u = InLoop program k s (length (views u.activations)) u.proc.todo
+
+  -- the head is the loop
+  begins : (u : Tracing) (x : Taken) (t : Todo) (ts : List Todo) → x.need ≡ need_of program plan u.proc → u.proc.todo ≡ t ∷ ts → t.stmt ≡ s → is_event x.need ≡ true → HasTags u → k + 1 ≡ length u.proc.frames
+      → is_passed (event_of program plan u.proc x u.proc.todo).value ≡ true → RunsAt (u_next u x)
+  begins u x t ts own todo_is loop_is event has top passed =
+      let loop : Loop program s (kind_of program s) = loop_of program s (kind_of program s) loops (leads program s valid) in
+      let kind_is : kind_of program t.stmt ≡ kind.While loop.value loop.body = ap (λ i. kind_of program i) loop_is ∙ loop.kind_is in
+      let value : is_passed (value_if (ask (term program.exprs loop.value) (top_cells u.proc.frames) u.proc.answers)) ≡ true =
+      sym (ap (λ todo. is_passed (event_of program plan u.proc x todo).value) todo_is ∙ ap (λ w. is_passed (value_at program.exprs (top_cells u.proc.frames) u.proc.answers (valued w))) kind_is) ∙ passed in
+      let turn_is = turned (ask (term program.exprs loop.value) (top_cells u.proc.frames) u.proc.answers) loop.body value in
+      let asked : head_deed program t u.proc ≡ Ok (turn loop.body, turn_is.0) = ap (λ w. ask_deed program.exprs w (top_cells u.proc.frames) u.proc.answers) kind_is ∙ turn_is.1 in
+      let fit : FitsHead program u.proc (need_of program plan u.proc) (t ∷ ts) = subst (λ todo. FitsHead program u.proc (need_of program plan u.proc) todo) todo_is (fits program plan u.proc) in
+      let both = turns_by program plan x.answer t ts u.proc loop.body turn_is.0 (need_of program plan u.proc) asked (ap is_event (sym own) ∙ event) fit in
+      let after : (u_next u x).proc.todo ≡ todos loop.body ++ t ∷ ts = ap (λ todo. (act_at program plan x.answer todo u.proc).todo) todo_is ∙ both.0 in
+      let frames : (u_next u x).proc.frames ≡ u.proc.frames = ap (λ todo. (act_at program plan x.answer todo u.proc).frames) todo_is ∙ both.1 in
+      let has_tags : HasTags (u_next u x) = (tags_its_writes program plan story p u x has own).has_tags in
+      let count : length (views (u_next u x).activations) ≡ k + 1 = views_length (u_next u x).activations ∙ acts_length (u_next u x) has_tags ∙ ap length frames ∙ sym top in
+      record {
+        above = 0;
+        inside = todos loop.body;
+        loop = t;
+        rest = ts;
+        todo_is = after;
+        loop_is = loop_is;
+        count_is = count ∙ (let z : k + 1 ≡ k + 1 + 0 = omega arith in z);
+        all_in = body_in loop.body loop.inner;
+      }
+    where
+      body_in : (stmts : List ℕ) → AllInner program s stmts → AllIn program s zero (todos stmts)
+      body_in [] inner = refl
+      body_in (i ∷ is) inner = ((directly inner.0.parent, inner.0.stays), body_in is inner.1)
+
+  headed : (todo : List Todo) → is_test_at program s todo ≡ true → (t : Todo) × (ts : List Todo) × (todo ≡ t ∷ ts) × (t.stmt ≡ s)
+  headed [] e = absurd (cc)
+  headed (t ∷ ts) e = (t, ts, refl, eqb-true t.stmt s (and_parts (nat_eq t.stmt s) (is_choice (kind_of program t.stmt)) e).0)
+
+  by_test : (u : Tracing) (x : Taken) (xs : List Taken) → HasTags u → AreOwn program plan u.proc (x ∷ xs) → is_test program k s u.proc x ≡ true → is_passed (event_of program plan u.proc x u.proc.todo).value ≡ true
+      → IsUntested program plan k s (act program plan u.proc x.answer) xs → StaysInside program plan k s (act program plan u.proc x.answer) xs
+  by_test u x xs has own is passed steady =
+      let both : (is_event x.need ≡ true) × ((nat_eq (k + 1) (length u.proc.frames) && is_test_at program s u.proc.todo) ≡ true) = and_parts (is_event x.need) (nat_eq (k + 1) (length u.proc.frames) && is_test_at program s u.proc.todo) is in
+      let inner : (nat_eq (k + 1) (length u.proc.frames) ≡ true) × (is_test_at program s u.proc.todo ≡ true) = and_parts (nat_eq (k + 1) (length u.proc.frames)) (is_test_at program s u.proc.todo) both.1 in
+      let head = headed u.proc.todo inner.1 in
+      let runs : RunsAt (u_next u x) = begins u x head.0 head.1 own.0 head.2 head.3 both.0 has (eqb-true (k + 1) (length u.proc.frames) inner.0) passed in
+      stays_inside program plan story p k s valid loops (u_next u x) xs (tags_its_writes program plan story p u x has own.0).has_tags own.1 steady runs
+
+pub runs_inside : LoopRunsStayInside
+runs_inside program plan budget h p before after k s event valid steps loops l =
+    let st : Story = story program plan budget h in
+    let t : Tracing = begun_tracing (started program plan p budget) in
+    let u : Tracing = fold (trace_step program plan st p) t l.before in
+    let mine : AreOwn program plan t.proc (before ++ after) = subst (λ xs. AreOwn program plan t.proc xs) steps (own_steps_told program plan budget h p) in
+    let split : AreOwn program plan t.proc (l.before ++ l.taken ∷ l.after) = subst (λ xs. AreOwn program plan t.proc xs) l.steps_are (own_to program plan st p t.proc before after mine) in
+    let has : HasTags u = has_all program plan st p t l.before (has_begun (started program plan p budget).frames) (own_to program plan st p t.proc l.before (l.taken ∷ l.after) split) in
+    by_test program plan st p k s valid loops u l.taken l.after has (own_from program plan st p t l.before (l.taken ∷ l.after) split) l.tests (sym l.passed_is) l.steady
