@@ -1,16 +1,13 @@
 -- In a valid program, from a true test of a loop to its next test its activation has events of statements inside alone.
-use Rattle.std.proofs.Common.{◌≡◌, ℕ, zero, suc, ◌+◌, ◌<◌, ◌≤◌, ℤ, Bool, true, false, List, [], ◌∷◌, ◌++◌, Option, Some, None, Ok, Err, refl, ap, sym, subst, ◌∙◌, length, inl, inr, arith, if◌then◌else◌}
-use Rattle.std.specs.Prelude.{⊤, nat_eq, ◌&&◌, not, drop, fold, slice_get}
+use Rattle.std.proofs.Common.{◌≡◌, ℕ, zero, suc, ◌+◌, ℤ, Bool, true, false, List, [], ◌∷◌, ◌++◌, Some, Ok, Err, refl, ap, sym, subst, ◌∙◌, length, inl, inr, arith, if◌then◌else◌}
+use Rattle.std.specs.Prelude.{nat_eq, ◌&&◌, not, drop, fold, slice_get}
 use Rattle.std.proofs.lemmas.Bool.{and_from, and_parts, both_ways, cases_Bool, eq-eqb, eqb-true}
 use Rattle.ppd_ast.specs.declared.plan.Plan.{Plan}
-use Rattle.ppd_ast.specs.declared.program.Expr.{Expr}
 use Rattle.ppd_ast.specs.declared.program.Kind.{Kind}
 use Rattle.ppd_ast.specs.declared.program.Kind.TheVariants as kind
 use Rattle.ppd_ast.specs.declared.program.Program.{Program}
-use Rattle.ppd_ast.specs.declared.status.Status.{Status}
 use Rattle.ppd_ast.specs.Term.{term}
 use Rattle.ppd_ast.specs.Valid.{IsValid}
-use Rattle.ppd_sem.specs.declared.asking.Pause.TheVariants.{Wants, Traps}
 use Rattle.ppd_sem.specs.declared.event.Event.{Event}
 use Rattle.ppd_sem.specs.declared.proc.Answer.{Answer}
 use Rattle.ppd_sem.specs.declared.proc.Need.{Need}
@@ -19,15 +16,15 @@ use Rattle.ppd_sem.specs.declared.proc.Proc.{Proc}
 use Rattle.ppd_sem.specs.declared.proc.Todo.{Todo}
 use Rattle.ppd_sem.specs.Ask.{ask, is_zero}
 use Rattle.ppd_sem.specs.Asked.{Asked, and_then, gives}
-use Rattle.ppd_sem.specs.Deed.{Deed, ask_deed, leave, turn}
+use Rattle.ppd_sem.specs.Deed.{ask_deed, leave, turn}
 use Rattle.ppd_sem.specs.Described.{value_at, value_if, valued}
-use Rattle.ppd_sem.specs.Process.{act, act_at, act_by_asked, act_by_need, head_deed, kind_of, need_by_status, need_of, need_of_running, started, todos, top_cells}
+use Rattle.ppd_sem.specs.Process.{act, act_at, act_by_asked, act_by_need, head_deed, kind_of, need_of, started, todos, top_cells}
 use Rattle.ppd_sem.specs.Runs.{returns}
 use Rattle.ppd_model.specs.declared.trace.EventId.{EventId}
-use Rattle.ppd_model.specs.FullTrace.{Activation, Tag, Tracing, begun_tracing, event_of, is_passed, me_in, parent_if, trace_step, with_test}
+use Rattle.ppd_model.specs.FullTrace.{Activation, Tracing, begun_tracing, event_of, is_passed, me_in, parent_if, trace_step, with_test}
 use Rattle.ppd_model.specs.LocalTags.{AreOwn, HasTags}
-use Rattle.ppd_model.specs.Parents.{IsInside, IsLatestTest, IsUntested, LoopRunsStayInside, StaysInside, deeper, directly, is_choice, is_test, is_test_at, is_while}
-use Rattle.ppd_model.specs.Story.{Story, Taken, is_event, own_steps, story}
+use Rattle.ppd_model.specs.Parents.{IsInside, IsUntested, LoopRunsStayInside, StaysInside, deeper, directly, is_choice, is_test, is_test_at, is_while}
+use Rattle.ppd_model.specs.Story.{Story, Taken, is_event, story}
 use Rattle.ppd_model.proofs.LocalSteps.{Fits, FitsHead, fits, tags_its_writes}
 use Rattle.ppd_model.proofs.LocalTags.{has_all, has_begun, own_steps_told}
 use Rattle.ppd_model.proofs.Moves.{AllInner, AreTop, Leads, Move, backs, calls, chooses, idles, leads, passes, stays, step_moves, traps, turns}

@@ -30,7 +30,7 @@ use Rattle.ppd_sem.specs.Process.{act, act_at, act_by_asked, act_by_deed, act_by
 use Rattle.ppd_sem.specs.Runs.{AreOfFunction, IsInner, LeadsOn, returns, size_of, stmt_size}
 use Rattle.ppd_sem.proofs.Kept.{There, leads_at, there_at}
 use Rattle.ppd_sem.proofs.Validity.{valid-runnable}
-use Rattle.ppd_model.specs.FullTrace.{Activation, Tag, Tracing, event_of, me_in, parent_if, tagged_after, tagged_at, tagged_by, tagged_into, trace_by, trace_step, with_event, with_test}
+use Rattle.ppd_model.specs.FullTrace.{Activation, Tag, Tracing, event_of, me_in, parent_if, tagged_after, tagged_at, tagged_by, trace_step, with_test}
 use Rattle.ppd_model.specs.Parents.{is_choice}
 use Rattle.ppd_model.specs.Story.{Story, Taken, is_event}
 use Rattle.ppd_model.proofs.LocalSteps.{Fits, FitsHead, fits}

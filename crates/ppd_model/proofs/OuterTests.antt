@@ -1,6 +1,6 @@
 -- In a valid program the statement round that of an event was tested before it, in its activation.
 use Rattle.std.proofs.Common.{◌≡◌, ℕ, suc, ◌+◌, ◌<◌, ◌≤◌, ℤ, Bool, true, false, List, [], ◌∷◌, ◌++◌, Option, Some, None, refl, ap, sym, subst, ◌∙◌, length, inl, inr, arith}
-use Rattle.std.specs.Prelude.{⊤, nat_eq, ◌&&◌, drop, fold, slice_get}
+use Rattle.std.specs.Prelude.{⊤, nat_eq, ◌&&◌, fold, slice_get}
 use Rattle.std.specs.List.{All}
 use Rattle.std.proofs.lemmas.Bool.{and_from, cases_Bool, eq-eqb}
 use Rattle.std.proofs.lemmas.Option.{slice_get_within}
@@ -14,15 +14,15 @@ use Rattle.ppd_ast.specs.Valid.{IsValid}
 use Rattle.ppd_sem.specs.declared.event.Event.{Event}
 use Rattle.ppd_sem.specs.declared.proc.Proc.{Proc}
 use Rattle.ppd_sem.specs.declared.proc.Todo.{Todo}
-use Rattle.ppd_sem.specs.Process.{act, act_at, kind_of, need_by_status, need_of, need_of_running, started, todos, top_of}
+use Rattle.ppd_sem.specs.Process.{act_at, kind_of, need_by_status, need_of, need_of_running, started, todos, top_of}
 use Rattle.ppd_sem.specs.Runs.{IsInner, IsRunnableBody, returns}
 use Rattle.ppd_sem.proofs.Kept.{There, there_at}
 use Rattle.ppd_sem.proofs.Validity.{valid-runnable}
 use Rattle.ppd_model.specs.declared.trace.EventId.{EventId}
-use Rattle.ppd_model.specs.FullTrace.{Activation, Tag, Test, Tracing, begun_tracing, event_of, latest, me_in, parent_if, tests_after, trace_step, with_test}
+use Rattle.ppd_model.specs.FullTrace.{Activation, Test, Tracing, begun_tracing, event_of, latest, me_in, parent_if, tests_after, trace_step, with_test}
 use Rattle.ppd_model.specs.LocalTags.{AreOwn, HasTags, from_end}
-use Rattle.ppd_model.specs.Parents.{HasTestedOuter, IsLatestTest, IsTested, OutersAreTested, is_choice}
-use Rattle.ppd_model.specs.Story.{Story, Taken, is_event, own_steps, story}
+use Rattle.ppd_model.specs.Parents.{OutersAreTested, is_choice}
+use Rattle.ppd_model.specs.Story.{Story, Taken, is_event, story}
 use Rattle.ppd_model.proofs.FromEnd.{hit}
 use Rattle.ppd_model.proofs.LocalTags.{has_all, has_begun, own_steps_told}
 use Rattle.ppd_model.proofs.Moves.{AllInner, AreTop, Move, backs, body_top, calls, chooses, parent_is, passes, stays, step_moves, traps, turns}
@@ -151,7 +151,7 @@ process_stand program n body v [] over stands = tt
 process_stand program n body v (i ∷ is) over stands = (
   λ outer e. absurd (none_some (sym (parent_is (slice_get program.stmts i) None body (stands 0 i (omega arith))) ∙ e)),
   subst (λ b. AllStand program (left_by b v []) (todos is)) (sym (over 0 i (omega arith)).stays)
-  (process_stand program n body v is (λ k d lt. over (suc k) d (omega arith)) (λ k d lt. stands (suc k) d (omega arith))),
+      (process_stand program n body v is (λ k d lt. over (suc k) d (omega arith)) (λ k d lt. stands (suc k) d (omega arith))),
 )
 
 start_of : (program : Program) (f : ℕ) (v : View) (o : Option Body) → IsValid program → program.functions ≤ f → slice_get program.bodies f ≡ o → AllStand program (v ∷ []) (todos (top_of o))

@@ -1,6 +1,6 @@
 -- The control parent of an event is the latest test of its loop, else of the statement round it, else the call.
-use Rattle.std.proofs.Common.{◌≡◌, ℕ, zero, suc, ◌+◌, ◌<◌, ◌≤◌, ℤ, Bool, true, false, List, [], ◌∷◌, ◌++◌, Option, Some, None, refl, ap, sym, subst, ◌∙◌, length, map, inl, inr, ◌⊎◌, arith}
-use Rattle.std.specs.Prelude.{⊤, fold, get_or, slice_get, option_map}
+use Rattle.std.proofs.Common.{◌≡◌, ℕ, ◌+◌, ◌<◌, ℤ, Bool, true, false, List, [], ◌∷◌, ◌++◌, Option, Some, None, refl, ap, sym, subst, ◌∙◌, length, inl, inr, ◌⊎◌, arith}
+use Rattle.std.specs.Prelude.{fold, slice_get, option_map}
 use Rattle.std.proofs.lemmas.Bool.{cases_Bool, cases_eq, cases_lt, cond-false, cond-true, both_ways}
 use Rattle.std.proofs.lemmas.List.Sums.{fold-append}
 use Rattle.ppd_ast.specs.declared.plan.Plan.{Plan}
@@ -11,15 +11,15 @@ use Rattle.ppd_ast.specs.declared.status.Status.{Status}
 use Rattle.ppd_sem.specs.declared.proc.Frame.{Frame}
 use Rattle.ppd_sem.specs.declared.proc.Proc.{Proc}
 use Rattle.ppd_sem.specs.declared.proc.Todo.{Todo}
-use Rattle.ppd_sem.specs.Process.{act, kind_of, need_by_status, need_of, need_of_running, started}
+use Rattle.ppd_sem.specs.Process.{act, kind_of, need_by_status, need_of, need_of_running}
 use Rattle.ppd_model.specs.declared.trace.EventId.{EventId}
-use Rattle.ppd_model.specs.FullTrace.{Activation, Test, Tracing, begun_tracing, event_of, is_passed, latest, me_in, of_outer, of_run, or_else, parent_at, parent_if, parent_in, trace_step}
+use Rattle.ppd_model.specs.FullTrace.{Activation, Test, Tracing, event_of, latest, me_in, of_outer, of_run, or_else, parent_at, parent_if, parent_in, trace_step}
 use Rattle.ppd_model.specs.LocalTags.{AreOwn, HasTags, from_end}
 use Rattle.ppd_model.specs.Parents.{GoesOn, IsBegunBy, IsFirst, IsFromStart, IsLatestTest, IsOutermost, IsParent, IsUntested, Lasts, StandsIn, is_test, is_while}
 use Rattle.ppd_model.specs.Story.{Story, Taken, is_event}
 use Rattle.ppd_model.proofs.FromEnd.{hit, miss}
 use Rattle.ppd_model.proofs.LocalSteps.{tags_its_writes}
-use Rattle.ppd_model.proofs.LocalTags.{begun_at, has_all, has_begun}
+use Rattle.ppd_model.proofs.LocalTags.{begun_at, has_all}
 use Rattle.ppd_model.proofs.TestSteps.{StepTests, View, acts_length, call_at, latest_at, no_view, step_tests, test_by, views, views_length}
 
 pub some_is : {A : Type 0} {x y : A} → Some x ≡ Some y → x ≡ y

@@ -175,3 +175,24 @@ LoopRunsStayInside =
     → IsValid program → own_steps (story program plan budget h) p ≡ before ++ after → is_while (kind_of program s) ≡ true
     → (l : IsLatestTest program plan (story program plan budget h) p k s (begun_tracing (started program plan p budget)) before event true)
     → StaysInside program plan k s (act program plan (traced_to program plan (story program plan budget h) p (begun_tracing (started program plan p budget)) l.before).proc l.taken.answer) l.after
+
+-- the statement is of a top list, and the parent is the call, and none in a process
+pub record IsOfTopList (program : Program) (plan : Plan) (story : Story) (p k s : ℕ) (t : Tracing) (steps : List Taken) (parent : Option EventId) : Type 0 where
+  pub first : IsFirst program plan story p k s t steps
+  pub top : parent_if (slice_get program.stmts s) ≡ None
+  pub call : IsBegunBy program plan story p k t steps parent ⊎ IsFromStart program plan k t steps parent
+
+-- an event is of the top activation, and its parent is the test of a loop's run that goes on, or that of
+-- the statement round its own, or the call, where its statement is of a top list
+pub record HasValidParent (program : Program) (plan : Plan) (story : Story) (p : ℕ) (t : Tracing) (steps : List Taken) (n : ℕ) (e : TracedEvent) : Type 0 where
+  pub event : HasParent program plan story p t steps n e
+  pub activation : ℕ
+  pub is_top : activation + 1 ≡ length (traced_to program plan story p t event.before).proc.frames
+  pub parent : GoesOn program plan story p activation e.event.stmt t event.before e.parent
+      ⊎ (StandsIn program plan story p activation e.event.stmt t event.before e.parent ⊎ IsOfTopList program plan story p activation e.event.stmt t event.before e.parent)
+
+-- so it is of each event of the trace of a schedule of a valid program
+abbrev pub ValidParents : Type 0
+ValidParents =
+    (program : Program) (plan : Plan) (budget : ℕ) (h : List ℕ) (p n : ℕ) (e : TracedEvent) → IsValid program → slice_get (get_or (full_trace program plan budget h).events p []) n ≡ Some e
+    → HasValidParent program plan (story program plan budget h) p (begun_tracing (started program plan p budget)) (own_steps (story program plan budget h) p) n e

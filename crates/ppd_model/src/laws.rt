@@ -1,7 +1,7 @@
 ghost use Rattle.ppd_model.specs.Bounds.{CountsAreBalanced, SchedulesAreBounded, StepsChangeTheirOwn};
 ghost use Rattle.ppd_model.specs.Laws.{IsTestOfBefore, IsTestOfEdges, LastEdgesAreOpen, LogsGrow, NoRaceMeansOrder, ProcessesFollowTheirSteps, StoriesAreOfRuns, StoriesGrow, StoriesTellAll, SynchronizationsAreCounted, TagsAreLastWrites};
 ghost use Rattle.ppd_model.specs.LocalTags.{LocalTagsAreLastWrites, ReadsAreOfTheTop, SchedulesTagLastWrites, StepsTagTheirWrites, StoriesTellOwnSteps};
-ghost use Rattle.ppd_model.specs.Parents.{LoopRunsStayInside, OutersAreTested, ParentsAreLatestTests};
+ghost use Rattle.ppd_model.specs.Parents.{LoopRunsStayInside, OutersAreTested, ParentsAreLatestTests, ValidParents};
 
 /// Law: the story of a schedule with one more step is that of the schedule with this step, its
 /// writer and its cell; and the world of which a story is told is the one that the schedule
@@ -67,11 +67,13 @@ pub fn local_tags_are_last_writes()
 /// Law: the control parent of an event is the previous test of the loop run that goes on, where the
 /// statement is a `While` whose latest test in this activation was true; else the latest event, in
 /// this activation, of the `If` or `While` in which the statement directly stands; else the event of
-/// the call, and none in a process by itself. In a valid program each event has an activation, the
-/// `If` or `While` in which its statement directly stands was tested in it before, and since a true
-/// test of a `While` up to its next one the events of the activation are of statements inside it.
+/// the call, and none in a process by itself. In a valid program the call, or none, is the parent of
+/// statements of a top list alone; the `If` or `While` in which an event's statement directly stands
+/// was tested in its activation before; and since a true test of a `While` up to its next one the
+/// events of the activation are of statements inside it.
 pub fn parents_are_latest_tests()
     ensures parents { ParentsAreLatestTests }
+    ensures valid { ValidParents }
     ensures outers { OutersAreTested }
     ensures loops { LoopRunsStayInside }
 {}
