@@ -8,7 +8,6 @@ use Rattle.ppd_ast.specs.declared.program.Kind.TheVariants as kind
 use Rattle.ppd_ast.specs.declared.program.Program.{Program}
 use Rattle.ppd_ast.specs.Term.{term}
 use Rattle.ppd_ast.specs.Valid.{IsValid}
-use Rattle.ppd_sem.specs.declared.event.Event.{Event}
 use Rattle.ppd_sem.specs.declared.proc.Answer.{Answer}
 use Rattle.ppd_sem.specs.declared.proc.Need.{Need}
 use Rattle.ppd_sem.specs.declared.proc.Need.TheVariants.{Read, Enter, Trap, Budget, Stopped}
@@ -20,11 +19,11 @@ use Rattle.ppd_sem.specs.Deed.{ask_deed, leave, turn}
 use Rattle.ppd_sem.specs.Described.{value_at, value_if, valued}
 use Rattle.ppd_sem.specs.Process.{act, act_at, act_by_asked, act_by_need, head_deed, kind_of, need_of, started, todos, top_cells}
 use Rattle.ppd_sem.specs.Runs.{returns}
-use Rattle.ppd_model.specs.declared.trace.EventId.{EventId}
-use Rattle.ppd_model.specs.FullTrace.{Activation, Tracing, begun_tracing, event_of, is_passed, me_in, parent_if, trace_step, with_test}
+use Rattle.ppd_model.specs.FullTrace.{Tracing, begun_tracing, event_of, is_passed, me_in, parent_if, trace_step, with_test}
 use Rattle.ppd_model.specs.LocalTags.{AreOwn, HasTags}
 use Rattle.ppd_model.specs.Parents.{IsInside, IsUntested, LoopRunsStayInside, StaysInside, deeper, directly, is_choice, is_test, is_test_at, is_while}
 use Rattle.ppd_model.specs.Story.{Story, Taken, is_event, story}
+use Rattle.ppd_model.proofs.CallSteps.{tested_length}
 use Rattle.ppd_model.proofs.LocalSteps.{Fits, FitsHead, fits, tags_its_writes}
 use Rattle.ppd_model.proofs.LocalTags.{has_all, has_begun, own_steps_told}
 use Rattle.ppd_model.proofs.Moves.{AllInner, AreTop, Leads, Move, backs, calls, chooses, idles, leads, passes, stays, step_moves, traps, turns}
@@ -129,10 +128,6 @@ module _ (program : Program) (k s : ℕ) (y : Todo) (ys : List Todo) (loop : Tod
   by_depth : (n : ℕ) (todo : List Todo) (now : List View) → length old ≡ k + 1 + n → AllIn program s n (y ∷ ys) → Move program y ts old tested todo now → InLoop program k s (length now) todo
   by_depth zero todo now c h move = at_loop todo now (omega arith) h move
   by_depth (suc n) todo now c h move = above_loop n todo now c h move
-
-tested_length : (program : Program) (me : EventId) (e : Event) (acts : List Activation) → length (views (with_test program me e acts)) ≡ length (views acts)
-tested_length program me e [] = refl
-tested_length program me e (a ∷ as') = refl
 
 -- ---- the steps of a run of the loop
 

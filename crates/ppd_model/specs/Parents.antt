@@ -2,7 +2,7 @@
 use Rattle.std.specs.Prelude.{◌≡◌, ℕ, ◌+◌, ◌<◌, ◌≤◌, nat_eq, Bool, true, false, ◌&&◌, ◌⊎◌, List, [], ◌∷◌, ◌++◌, fold, length, get_or, slice_get, Option, Some, None, ⊤}
 use Rattle.ppd_ast.specs.declared.plan.Plan.{Plan}
 use Rattle.ppd_ast.specs.declared.program.Kind.{Kind}
-use Rattle.ppd_ast.specs.declared.program.Kind.TheVariants.{If, While}
+use Rattle.ppd_ast.specs.declared.program.Kind.TheVariants.{Call, If, While}
 use Rattle.ppd_ast.specs.declared.program.Program.{Program}
 use Rattle.ppd_ast.specs.Valid.{IsValid}
 use Rattle.ppd_sem.specs.declared.proc.Proc.{Proc}
@@ -18,6 +18,10 @@ use Rattle.ppd_model.specs.Story.{Story, Taken, is_event, own_steps, story}
 abbrev pub is_while : Kind → Bool
 is_while (While e body) = true
 is_while k = false
+
+abbrev pub is_call : Kind → Bool
+is_call (Call f arguments into) = true
+is_call k = false
 
 -- an `If` or a `While`
 abbrev pub is_choice : Kind → Bool
@@ -63,13 +67,14 @@ pub record IsLatestTest (program : Program) (plan : Plan) (story : Story) (p k s
   pub passed_is : passed ≡ is_passed (event_of program plan (traced_to program plan story p t before).proc taken (traced_to program plan story p t before).proc.todo).value
   pub steady : IsUntested program plan k s (act program plan (traced_to program plan story p t before).proc taken.answer) after
 
--- the activation is begun by the event of a step, and is there since
+-- the activation is begun by the event of a call, and is there since
 pub record IsBegunBy (program : Program) (plan : Plan) (story : Story) (p k : ℕ) (t : Tracing) (steps : List Taken) (call : Option EventId) : Type 0 where
   pub before : List Taken
   pub taken : Taken
   pub after : List Taken
   pub steps_are : steps ≡ before ++ taken ∷ after
   pub finishes : is_event taken.need ≡ true
+  pub calls : is_call (kind_of program (event_of program plan (traced_to program plan story p t before).proc taken (traced_to program plan story p t before).proc.todo).stmt) ≡ true
   pub is_new : length (traced_to program plan story p t before).proc.frames ≤ k
   pub call_is : call ≡ Some (me_in p (traced_to program plan story p t before))
   pub lasts : Lasts program plan k (act program plan (traced_to program plan story p t before).proc taken.answer) after
