@@ -28,10 +28,11 @@ use Rattle.ppd_model.proofs.LocalDeeds.{among, back_does, call_does, clear_does,
 
 -- ---- what a need tells of what is asked
 
--- a read is not of a statement that finishes, and a trap not of a return
-abbrev Fits : Need → Asked Deed → Type 0
+-- a read is not of a statement that finishes, and a trap not of a return or of a loop that goes on
+abbrev pub Fits : Need → Asked Deed → Type 0
 Fits (Read c) (Ok p) = ⊥
 Fits (Trap t) (Ok (back v, left)) = ⊥
+Fits (Trap t) (Ok (turn xs, left)) = ⊥
 Fits n asked = ⊤
 
 fits_leave : (plan : Plan) (t : ℕ) (b : Option ℕ) (left : List ℤ) → Fits (need_of_leaving plan t b) (Ok (leave, left))
@@ -70,7 +71,7 @@ fits_budget true n asked h = tt
 fits_budget false n asked h = h
 
 -- the same of the head, if there is one
-abbrev FitsHead : Program → Proc → Need → List Todo → Type 0
+abbrev pub FitsHead : Program → Proc → Need → List Todo → Type 0
 FitsHead program s n [] = ⊤
 FitsHead program s n (t ∷ ts) = Fits n (head_deed program t s)
 
@@ -87,7 +88,7 @@ fits_status : (program : Program) (plan : Plan) (s : Proc) (status : Option Stat
 fits_status program plan s None = fits_running program plan s s.todo
 fits_status program plan s (Some x) = fits_stopped program s s.todo
 
-fits : (program : Program) (plan : Plan) (s : Proc) → FitsHead program s (need_of program plan s) s.todo
+pub fits : (program : Program) (plan : Plan) (s : Proc) → FitsHead program s (need_of program plan s) s.todo
 fits program plan s = fits_status program plan s s.status
 
 -- ---- what the head does

@@ -1,5 +1,5 @@
 -- Each event of a trace is that of a step of its process, and has its parent from the steps before.
-use Rattle.std.proofs.Common.{◌≡◌, ℕ, zero, suc, ◌+◌, true, false, List, [], ◌∷◌, ◌++◌, Some, None, refl, ap, sym, subst, ◌∙◌, length, inl, inr, ◌⊎◌, arith}
+use Rattle.std.proofs.Common.{◌≡◌, ℕ, zero, suc, ◌+◌, true, false, List, [], ◌∷◌, ◌++◌, Some, refl, ap, sym, subst, ◌∙◌, length, inl, inr, ◌⊎◌, arith}
 use Rattle.std.specs.Prelude.{fold, get_or, slice_get}
 use Rattle.std.proofs.lemmas.Bool.{cases_Bool}
 use Rattle.ppd_ast.specs.declared.plan.Plan.{Plan}
@@ -8,11 +8,11 @@ use Rattle.ppd_sem.specs.declared.proc.Need.{Need}
 use Rattle.ppd_sem.specs.declared.proc.Need.TheVariants.{Read, Enter, Budget, Stopped}
 use Rattle.ppd_sem.specs.Process.{need_of, started}
 use Rattle.ppd_model.specs.declared.trace.TracedEvent.{TracedEvent}
-use Rattle.ppd_model.specs.FullTrace.{Tracing, begun_tracing, event_of, events_from, full_trace, parent_at, trace_by, trace_step, traced_by, tracing_of, with_event}
+use Rattle.ppd_model.specs.FullTrace.{Tracing, begun_tracing, event_of, events_from, full_trace, trace_by, trace_step, traced_by, tracing_of}
 use Rattle.ppd_model.specs.LocalTags.{AreOwn, HasTags}
 use Rattle.ppd_model.specs.Parents.{HasParent, IsParent, ParentsAreLatestTests}
 use Rattle.ppd_model.specs.Story.{Story, Taken, is_event, own_steps, story}
-use Rattle.ppd_model.proofs.LocalTags.{begun_at, has_begun, own_steps_told}
+use Rattle.ppd_model.proofs.LocalTags.{has_begun, own_steps_told}
 use Rattle.ppd_model.proofs.Parents.{none_some, own_from, own_to, parent_of, some_is}
 
 at_end : {A : Type 0} (xs : List A) (y : A) (n : ℕ) (z : A) → slice_get (xs ++ y ∷ []) n ≡ Some z → (slice_get xs n ≡ Some z) ⊎ ((n ≡ length xs) × (z ≡ y))

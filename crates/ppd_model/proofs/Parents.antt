@@ -1,6 +1,6 @@
 -- The control parent of an event is the latest test of its loop, else of the statement round it, else the call.
-use Rattle.std.proofs.Common.{◌≡◌, ℕ, zero, suc, ◌+◌, ◌<◌, ◌≤◌, ℤ, Bool, true, false, List, [], ◌∷◌, ◌++◌, Option, Some, None, refl, ap, sym, subst, ◌∙◌, length, map, inl, inr, ◌⊎◌, arith}
-use Rattle.std.specs.Prelude.{⊤, fold, get_or, slice_get, option_map}
+use Rattle.std.proofs.Common.{◌≡◌, ℕ, ◌+◌, ◌<◌, ◌≤◌, ℤ, Bool, true, false, List, [], ◌∷◌, ◌++◌, Option, Some, None, refl, ap, sym, subst, ◌∙◌, length, inl, inr, ◌⊎◌, arith}
+use Rattle.std.specs.Prelude.{fold, slice_get, option_map}
 use Rattle.std.proofs.lemmas.Bool.{cases_Bool, cases_eq, cases_lt, cond-false, cond-true, both_ways}
 use Rattle.std.proofs.lemmas.List.Sums.{fold-append}
 use Rattle.ppd_ast.specs.declared.plan.Plan.{Plan}
@@ -11,15 +11,16 @@ use Rattle.ppd_ast.specs.declared.status.Status.{Status}
 use Rattle.ppd_sem.specs.declared.proc.Frame.{Frame}
 use Rattle.ppd_sem.specs.declared.proc.Proc.{Proc}
 use Rattle.ppd_sem.specs.declared.proc.Todo.{Todo}
-use Rattle.ppd_sem.specs.Process.{act, kind_of, need_by_status, need_of, need_of_running, started}
+use Rattle.ppd_sem.specs.Process.{act, kind_of, need_by_status, need_of, need_of_running}
 use Rattle.ppd_model.specs.declared.trace.EventId.{EventId}
-use Rattle.ppd_model.specs.FullTrace.{Activation, Test, Tracing, begun_tracing, event_of, is_passed, latest, me_in, of_outer, of_run, or_else, parent_at, parent_if, parent_in, trace_step}
+use Rattle.ppd_model.specs.FullTrace.{Activation, Test, Tracing, event_of, latest, me_in, of_outer, of_run, or_else, parent_at, parent_if, parent_in, trace_step}
 use Rattle.ppd_model.specs.LocalTags.{AreOwn, HasTags, from_end}
-use Rattle.ppd_model.specs.Parents.{GoesOn, IsBegunBy, IsFirst, IsFromStart, IsLatestTest, IsOutermost, IsParent, IsUntested, Lasts, StandsIn, is_test, is_while}
+use Rattle.ppd_model.specs.Parents.{GoesOn, IsBegunBy, IsFirst, IsFromStart, IsLatestTest, IsOutermost, IsParent, IsUntested, Lasts, StandsIn, is_call, is_test, is_while}
 use Rattle.ppd_model.specs.Story.{Story, Taken, is_event}
+use Rattle.ppd_model.proofs.CallSteps.{begins_none}
 use Rattle.ppd_model.proofs.FromEnd.{hit, miss}
 use Rattle.ppd_model.proofs.LocalSteps.{tags_its_writes}
-use Rattle.ppd_model.proofs.LocalTags.{begun_at, has_all, has_begun}
+use Rattle.ppd_model.proofs.LocalTags.{begun_at, has_all}
 use Rattle.ppd_model.proofs.TestSteps.{StepTests, View, acts_length, call_at, latest_at, no_view, step_tests, test_by, views, views_length}
 
 pub some_is : {A : Type 0} {x y : A} → Some x ≡ Some y → x ≡ y
@@ -146,18 +147,29 @@ module _ (program : Program) (plan : Plan) (story : Story) (p : ℕ) where
       after = w.after;
       steps_are = ap (λ ys. x ∷ ys) w.steps_are;
       finishes = w.finishes;
+      calls = w.calls;
       is_new = w.is_new;
       call_is = w.call_is;
       lasts = w.lasts;
     }
 
-    first_begun : (t : Tracing) (x : Taken) (xs : List Taken) (call : Option EventId) → StepTests program plan p t x (views (next t x).activations) → k < length (views (next t x).activations)
+    is_calling : (t : Tracing) (x : Taken) → HasTags t → is_event x.need ≡ true → length t.proc.frames ≤ k → k < length (views (next t x).activations)
+        → is_call (kind_of program (event_of program plan t.proc x t.proc.todo).stmt) ≡ true
+    is_calling t x has is new lt = elim (cases_Bool (is_call (kind_of program (event_of program plan t.proc x t.proc.todo).stmt))) [
+      | inl calls ↦ calls
+      | inr isnt ↦
+          let le : length (views (next t x).activations) ≤ length (views t.activations) = begins_none program plan story p t x is isnt in
+          let n : length (views t.activations) ≡ length t.proc.frames = views_length t.activations ∙ acts_length t has in
+          absurd (omega arith)
+    ]
+
+    first_begun : (t : Tracing) (x : Taken) (xs : List Taken) (call : Option EventId) → HasTags t → StepTests program plan p t x (views (next t x).activations) → k < length (views (next t x).activations)
         → call ≡ call_at (views (next t x).activations) k → Lasts program plan k (next t x).proc xs → Begun t (x ∷ xs) call
-    first_begun t x xs call d lt e h = elim (cases_lt k (length t.proc.frames)) [
+    first_begun t x xs call has d lt e h = elim (cases_lt k (length t.proc.frames)) [
       | inl old ↦ inr (e ∙ d.old_call k old lt, (old, h))
       | inr new ↦
           let by : (is_event x.need ≡ true) × (call_at (views (next t x).activations) k ≡ Some (me_in p t)) = d.new_call k new lt in
-          inl (record { before = []; taken = x; after = xs; steps_are = refl; finishes = by.0; is_new = new; call_is = e ∙ by.1; lasts = h })
+          inl (record { before = []; taken = x; after = xs; steps_are = refl; finishes = by.0; calls = is_calling t x has by.0 new lt; is_new = new; call_is = e ∙ by.1; lasts = h })
     ]
 
     begun : (t : Tracing) (xs : List Taken) → HasTags t → AreOwn program plan t.proc xs → k < length (after_all t xs).proc.frames → Begun t xs (call_at (views (after_all t xs).activations) k)
@@ -166,7 +178,7 @@ module _ (program : Program) (plan : Plan) (story : Story) (p : ℕ) where
         let has_tags : HasTags (next t x) = has_next t x xs has own in
         elim (begun (next t x) xs has_tags own.1 lt) [
           | inl w ↦ inl (later_begun t x xs (call_at (views (after_all t (x ∷ xs)).activations) k) w)
-          | inr h ↦ first_begun t x xs (call_at (views (after_all t (x ∷ xs)).activations) k) (step_tests program plan story p t x has own.0)
+          | inr h ↦ first_begun t x xs (call_at (views (after_all t (x ∷ xs)).activations) k) has (step_tests program plan story p t x has own.0)
               (views_there (next t x) has_tags (lasting (next t x).proc xs h.1)) h.0 h.1
         ]
 
@@ -280,7 +292,7 @@ module _ (program : Program) (plan : Plan) (story : Story) (p : ℕ) (frames : L
     none_at : (s : ℕ) → latest_at (views t.activations) k s ≡ None
     none_at s = ap (λ acts. latest_at (views acts) k s) begun_is ∙ ap (λ (v : View). latest s v.1) (begun_views frames k)
 
-    to_latest : (s : ℕ) (y : Test) → latest_at (views u.activations) k s ≡ Some y → IsLatestTest program plan story p k s t xs y.event y.passed
+    pub to_latest : (s : ℕ) (y : Test) → latest_at (views u.activations) k s ≡ Some y → IsLatestTest program plan story p k s t xs y.event y.passed
     to_latest s y e = elim (found program plan story p k s t xs y has own lt e) [
       | inl w ↦ w
       | inr h ↦ absurd (none_some (sym (none_at s) ∙ h.0))

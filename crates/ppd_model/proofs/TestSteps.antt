@@ -63,15 +63,15 @@ latest_at vs k s = latest s (from_end no_view vs k).1
 abbrev pub call_at : List View → ℕ → Option EventId
 call_at vs k = (from_end no_view vs k).0
 
-tagged_views : (c : ℕ) (me : Tag) (xs : List Activation) → views (tagged c me xs) ≡ views xs
+pub tagged_views : (c : ℕ) (me : Tag) (xs : List Activation) → views (tagged c me xs) ≡ views xs
 tagged_views c me [] = refl
 tagged_views c me (x ∷ xs) = refl
 
-all_tagged_views : (base n : ℕ) (me : Tag) (xs : List Activation) → views (all_tagged base n me xs) ≡ views xs
+pub all_tagged_views : (base n : ℕ) (me : Tag) (xs : List Activation) → views (all_tagged base n me xs) ≡ views xs
 all_tagged_views base zero me xs = refl
 all_tagged_views base (suc n) me xs = tagged_views (base + n) me (all_tagged base n me xs) ∙ all_tagged_views base n me xs
 
-into_views : (into : Option ℕ) (value : Option ℤ) (me : Tag) (xs : List Activation) → views (tagged_into into value me xs) ≡ views xs
+pub into_views : (into : Option ℕ) (value : Option ℤ) (me : Tag) (xs : List Activation) → views (tagged_into into value me xs) ≡ views xs
 into_views None value me xs = refl
 into_views (Some c) None me xs = refl
 into_views (Some c) (Some v) me xs = tagged_views c me xs
@@ -108,7 +108,7 @@ by_need program s me n xs = by_todo program s me s.todo xs
 abbrev pub test_by : ℕ → EventId → Option ℤ → Test
 test_by s me value = record { stmt = s; event = me; passed = is_passed value }
 
-newest : (k : Kind) (q s : ℕ) (me : EventId) (value : Option ℤ) (tests : List Test) → (nat_eq q s && is_choice k) ≡ true → latest s (tests_after k q me value tests) ≡ Some (test_by s me value)
+pub newest : (k : Kind) (q s : ℕ) (me : EventId) (value : Option ℤ) (tests : List Test) → (nat_eq q s && is_choice k) ≡ true → latest s (tests_after k q me value tests) ≡ Some (test_by s me value)
 newest (If e first second) q s me value tests is =
     let both : (nat_eq q s ≡ true) × (true ≡ true) = and_parts (nat_eq q s) true is in
     cond-true (nat_eq q s) (Some (test_by q me value)) (latest s tests) both.0 ∙ ap (λ j. Some (test_by j me value)) (eqb-true q s both.0)
@@ -122,7 +122,7 @@ newest k q s me value tests is =
 other : (q s : ℕ) → (nat_eq q s && true) ≡ false → nat_eq q s ≡ false
 other q s e = elim (and_cases (nat_eq q s) true e) [ inl isnt ↦ isnt | inr h ↦ absurd (both_ways true h refl) ]
 
-older : (k : Kind) (q s : ℕ) (me : EventId) (value : Option ℤ) (tests : List Test) → (nat_eq q s && is_choice k) ≡ false → latest s (tests_after k q me value tests) ≡ latest s tests
+pub older : (k : Kind) (q s : ℕ) (me : EventId) (value : Option ℤ) (tests : List Test) → (nat_eq q s && is_choice k) ≡ false → latest s (tests_after k q me value tests) ≡ latest s tests
 older (If e first second) q s me value tests isnt = cond-false (nat_eq q s) (Some (test_by q me value)) (latest s tests) (other q s isnt)
 older (While e body) q s me value tests isnt = cond-false (nat_eq q s) (Some (test_by q me value)) (latest s tests) (other q s isnt)
 older k q s me value tests isnt = refl
@@ -201,7 +201,7 @@ pub record StepTests (program : Program) (plan : Plan) (p : ℕ) (t : Tracing) (
   pub old_call : (k : ℕ) → k < length t.proc.frames → k < length now → call_at now k ≡ call_at (views t.activations) k
   pub new_call : (k : ℕ) → length t.proc.frames ≤ k → k < length now → (is_event x.need ≡ true) × (call_at now k ≡ Some (me_in p t))
 
-event_acts : (program : Program) (plan : Plan) (story : Story) (p : ℕ) (x : Taken) (n : Need) (t : Tracing) → is_event n ≡ true → (trace_by program plan story p x n t).activations ≡ (with_event program plan story p x t).activations
+pub event_acts : (program : Program) (plan : Plan) (story : Story) (p : ℕ) (x : Taken) (n : Need) (t : Tracing) → is_event n ≡ true → (trace_by program plan story p x n t).activations ≡ (with_event program plan story p x t).activations
 event_acts program plan story p x (Read c) t e = absurd (cc)
 event_acts program plan story p x (Enter b u) t e = absurd (cc)
 event_acts program plan story p x Budget t e = absurd (cc)

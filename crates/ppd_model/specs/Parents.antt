@@ -2,7 +2,7 @@
 use Rattle.std.specs.Prelude.{◌≡◌, ℕ, ◌+◌, ◌<◌, ◌≤◌, nat_eq, Bool, true, false, ◌&&◌, ◌⊎◌, List, [], ◌∷◌, ◌++◌, fold, length, get_or, slice_get, Option, Some, None, ⊤}
 use Rattle.ppd_ast.specs.declared.plan.Plan.{Plan}
 use Rattle.ppd_ast.specs.declared.program.Kind.{Kind}
-use Rattle.ppd_ast.specs.declared.program.Kind.TheVariants.{If, While}
+use Rattle.ppd_ast.specs.declared.program.Kind.TheVariants.{Call, If, While}
 use Rattle.ppd_ast.specs.declared.program.Program.{Program}
 use Rattle.ppd_ast.specs.Valid.{IsValid}
 use Rattle.ppd_sem.specs.declared.proc.Proc.{Proc}
@@ -18,6 +18,10 @@ use Rattle.ppd_model.specs.Story.{Story, Taken, is_event, own_steps, story}
 abbrev pub is_while : Kind → Bool
 is_while (While e body) = true
 is_while k = false
+
+abbrev pub is_call : Kind → Bool
+is_call (Call f arguments into) = true
+is_call k = false
 
 -- an `If` or a `While`
 abbrev pub is_choice : Kind → Bool
@@ -63,13 +67,14 @@ pub record IsLatestTest (program : Program) (plan : Plan) (story : Story) (p k s
   pub passed_is : passed ≡ is_passed (event_of program plan (traced_to program plan story p t before).proc taken (traced_to program plan story p t before).proc.todo).value
   pub steady : IsUntested program plan k s (act program plan (traced_to program plan story p t before).proc taken.answer) after
 
--- the activation is begun by the event of a step, and is there since
+-- the activation is begun by the event of a call, and is there since
 pub record IsBegunBy (program : Program) (plan : Plan) (story : Story) (p k : ℕ) (t : Tracing) (steps : List Taken) (call : Option EventId) : Type 0 where
   pub before : List Taken
   pub taken : Taken
   pub after : List Taken
   pub steps_are : steps ≡ before ++ taken ∷ after
   pub finishes : is_event taken.need ≡ true
+  pub calls : is_call (kind_of program (event_of program plan (traced_to program plan story p t before).proc taken (traced_to program plan story p t before).proc.todo).stmt) ≡ true
   pub is_new : length (traced_to program plan story p t before).proc.frames ≤ k
   pub call_is : call ≡ Some (me_in p (traced_to program plan story p t before))
   pub lasts : Lasts program plan k (act program plan (traced_to program plan story p t before).proc taken.answer) after
@@ -132,3 +137,67 @@ abbrev pub ParentsAreLatestTests : Type 0
 ParentsAreLatestTests =
     (program : Program) (plan : Plan) (budget : ℕ) (h : List ℕ) (p n : ℕ) (e : TracedEvent) → slice_get (get_or (full_trace program plan budget h).events p []) n ≡ Some e
     → HasParent program plan (story program plan budget h) p (begun_tracing (started program plan p budget)) (own_steps (story program plan budget h) p) n e
+
+-- ---- valid programs
+
+-- statement q stands in statement s, directly or in one that does
+pub data IsInside (program : Program) (s : ℕ) : ℕ → Type 0 where
+  directly : {q : ℕ} → parent_if (slice_get program.stmts q) ≡ Some s → IsInside program s q
+  deeper : {q : ℕ} (r : ℕ) → parent_if (slice_get program.stmts q) ≡ Some r → IsInside program s r → IsInside program s q
+
+-- each event of these steps in activation k is of a statement that stands in statement s
+abbrev pub StaysInside : Program → Plan → (k s : ℕ) → Proc → List Taken → Type 0
+StaysInside program plan k s proc [] = ⊤
+StaysInside program plan k s proc (x ∷ xs) =
+    (is_event x.need ≡ true → k + 1 ≡ length proc.frames → IsInside program s (event_of program plan proc x proc.todo).stmt)
+    × StaysInside program plan k s (act program plan proc x.answer) xs
+
+-- statement s was tested in activation k
+pub record IsTested (program : Program) (plan : Plan) (story : Story) (p k s : ℕ) (t : Tracing) (steps : List Taken) : Type 0 where
+  pub event : EventId
+  pub passed : Bool
+  pub latest : IsLatestTest program plan story p k s t steps event passed
+
+-- an event has an activation, in which the statement round the event's was tested before, if there is one
+pub record HasTestedOuter (program : Program) (plan : Plan) (story : Story) (p : ℕ) (t : Tracing) (before : List Taken) (taken : Taken) : Type 0 where
+  pub activation : 0 < length (traced_to program plan story p t before).proc.frames
+  pub tested : (k outer : ℕ) → k + 1 ≡ length (traced_to program plan story p t before).proc.frames
+      → parent_if (slice_get program.stmts (event_of program plan (traced_to program plan story p t before).proc taken (traced_to program plan story p t before).proc.todo).stmt) ≡ Some outer
+      → IsTested program plan story p k outer t before
+
+-- so it is of each event of a schedule of a valid program
+abbrev pub OutersAreTested : Type 0
+OutersAreTested =
+    (program : Program) (plan : Plan) (budget : ℕ) (h : List ℕ) (p : ℕ) (before : List Taken) (taken : Taken) (after : List Taken)
+    → IsValid program → own_steps (story program plan budget h) p ≡ before ++ taken ∷ after → is_event taken.need ≡ true
+    → HasTestedOuter program plan (story program plan budget h) p (begun_tracing (started program plan p budget)) before taken
+
+-- since a true test of a `While` that is the latest one, the events in its activation are all of
+-- statements inside the loop: the run of the loop goes on
+abbrev pub LoopRunsStayInside : Type 0
+LoopRunsStayInside =
+    (program : Program) (plan : Plan) (budget : ℕ) (h : List ℕ) (p : ℕ) (before after : List Taken) (k s : ℕ) (event : EventId)
+    → IsValid program → own_steps (story program plan budget h) p ≡ before ++ after → is_while (kind_of program s) ≡ true
+    → (l : IsLatestTest program plan (story program plan budget h) p k s (begun_tracing (started program plan p budget)) before event true)
+    → StaysInside program plan k s (act program plan (traced_to program plan (story program plan budget h) p (begun_tracing (started program plan p budget)) l.before).proc l.taken.answer) l.after
+
+-- the statement is of a top list, and the parent is the call, and none in a process
+pub record IsOfTopList (program : Program) (plan : Plan) (story : Story) (p k s : ℕ) (t : Tracing) (steps : List Taken) (parent : Option EventId) : Type 0 where
+  pub first : IsFirst program plan story p k s t steps
+  pub top : parent_if (slice_get program.stmts s) ≡ None
+  pub call : IsBegunBy program plan story p k t steps parent ⊎ IsFromStart program plan k t steps parent
+
+-- an event is of the top activation, and its parent is the test of a loop's run that goes on, or that of
+-- the statement round its own, or the call, where its statement is of a top list
+pub record HasValidParent (program : Program) (plan : Plan) (story : Story) (p : ℕ) (t : Tracing) (steps : List Taken) (n : ℕ) (e : TracedEvent) : Type 0 where
+  pub event : HasParent program plan story p t steps n e
+  pub activation : ℕ
+  pub is_top : activation + 1 ≡ length (traced_to program plan story p t event.before).proc.frames
+  pub parent : GoesOn program plan story p activation e.event.stmt t event.before e.parent
+      ⊎ (StandsIn program plan story p activation e.event.stmt t event.before e.parent ⊎ IsOfTopList program plan story p activation e.event.stmt t event.before e.parent)
+
+-- so it is of each event of the trace of a schedule of a valid program
+abbrev pub ValidParents : Type 0
+ValidParents =
+    (program : Program) (plan : Plan) (budget : ℕ) (h : List ℕ) (p n : ℕ) (e : TracedEvent) → IsValid program → slice_get (get_or (full_trace program plan budget h).events p []) n ≡ Some e
+    → HasValidParent program plan (story program plan budget h) p (begun_tracing (started program plan p budget)) (own_steps (story program plan budget h) p) n e

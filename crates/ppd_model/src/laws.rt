@@ -2,7 +2,7 @@ ghost use Rattle.ppd_model.specs.Bounds.{CountsAreBalanced, SchedulesAreBounded,
 ghost use Rattle.ppd_model.specs.Earlier.{TracesNameEarlierEvents, TracesTellRuns};
 ghost use Rattle.ppd_model.specs.Laws.{IsTestOfBefore, IsTestOfEdges, LastEdgesAreOpen, LogsGrow, NoRaceMeansOrder, ProcessesFollowTheirSteps, StoriesAreOfRuns, StoriesGrow, StoriesTellAll, SynchronizationsAreCounted, TagsAreLastWrites};
 ghost use Rattle.ppd_model.specs.LocalTags.{LocalTagsAreLastWrites, ReadsAreOfTheTop, SchedulesTagLastWrites, StepsTagTheirWrites, StoriesTellOwnSteps};
-ghost use Rattle.ppd_model.specs.Parents.{ParentsAreLatestTests};
+ghost use Rattle.ppd_model.specs.Parents.{LoopRunsStayInside, OutersAreTested, ParentsAreLatestTests, ValidParents};
 
 /// Law: the story of a schedule with one more step is that of the schedule with this step, its
 /// writer and its cell; and the world of which a story is told is the one that the schedule
@@ -76,9 +76,15 @@ pub fn traces_are_of_runs()
 /// Law: the control parent of an event is the previous test of the loop run that goes on, where the
 /// statement is a `While` whose latest test in this activation was true; else the latest event, in
 /// this activation, of the `If` or `While` in which the statement directly stands; else the event of
-/// the call, and none in a process by itself.
+/// the call, and none in a process by itself. In a valid program the call, or none, is the parent of
+/// statements of a top list alone; the `If` or `While` in which an event's statement directly stands
+/// was tested in its activation before; and since a true test of a `While` up to its next one the
+/// events of the activation are of statements inside it.
 pub fn parents_are_latest_tests()
-    ensures { ParentsAreLatestTests }
+    ensures parents { ParentsAreLatestTests }
+    ensures valid { ValidParents }
+    ensures outers { OutersAreTested }
+    ensures loops { LoopRunsStayInside }
 {}
 
 /// Law: the step of a process changes the process itself and what its need names, and nothing else.

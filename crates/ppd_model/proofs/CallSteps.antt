@@ -1,0 +1,111 @@
+-- An activation is begun by the event of a call alone.
+use Rattle.std.proofs.Common.{◌≡◌, ℕ, ◌≤◌, ℤ, Bool, true, false, List, [], ◌∷◌, Option, Some, None, Ok, Err, refl, ap, sym, subst, length, arith, if◌then◌else◌}
+use Rattle.std.specs.Prelude.{⊤, drop}
+use Rattle.ppd_ast.specs.declared.plan.Plan.{Plan}
+use Rattle.ppd_ast.specs.declared.program.Expr.{Expr}
+use Rattle.ppd_ast.specs.declared.program.Kind.{Kind}
+use Rattle.ppd_ast.specs.declared.program.Kind.TheVariants as kind
+use Rattle.ppd_ast.specs.declared.program.Program.{Program}
+use Rattle.ppd_ast.specs.declared.program.Target.TheVariants as target
+use Rattle.ppd_ast.specs.declared.status.Trap.TheVariants as trap
+use Rattle.ppd_ast.specs.Term.{Term, term}
+use Rattle.ppd_sem.specs.declared.asking.Pause.TheVariants.{Traps}
+use Rattle.ppd_sem.specs.declared.event.Event.{Event}
+use Rattle.ppd_sem.specs.declared.proc.Need.{Need}
+use Rattle.ppd_sem.specs.declared.proc.Need.TheVariants.{Trap}
+use Rattle.ppd_sem.specs.declared.proc.Proc.{Proc}
+use Rattle.ppd_sem.specs.declared.proc.Todo.{Todo}
+use Rattle.ppd_sem.specs.Ask.{ask, element, is_zero}
+use Rattle.ppd_sem.specs.Asked.{Asked, and_then, gives, lift}
+use Rattle.ppd_sem.specs.Deed.{Deed, set_local, set_shared, clear, branch, turn, leave, invoke, back, send, receive, print, pass, ask_deed, ask_stored}
+use Rattle.ppd_sem.specs.Process.{head_deed, kind_of, top_cells}
+use Rattle.ppd_model.specs.declared.trace.EventId.{EventId}
+use Rattle.ppd_model.specs.FullTrace.{Activation, Tag, Tracing, all_tagged, event_of, me_in, tagged, tagged_after, tagged_at, tagged_by, tagged_into, trace_step, with_test}
+use Rattle.ppd_model.specs.Parents.{is_call}
+use Rattle.ppd_model.specs.Story.{Story, Taken, is_event}
+use Rattle.ppd_model.proofs.TestSteps.{all_tagged_views, event_acts, into_views, tagged_views, views}
+
+-- what is asked is no call
+abbrev NoCall : Asked Deed → Type 0
+NoCall (Ok (invoke f values into, left)) = ⊥
+NoCall asked = ⊤
+
+then_none : {A : Type 0} (r : Asked A) (go : A → List ℤ → Asked Deed) → ((x : A) (left : List ℤ) → NoCall (go x left)) → NoCall (and_then r go)
+then_none (Ok q) go h = h q.0 q.1
+then_none (Err pause) go h = tt
+
+stored_none : (i e : Term) (base len : ℕ) (store : ℕ → ℤ → Deed) (cells answers : List ℤ) → ((c : ℕ) (v : ℤ) (left : List ℤ) → NoCall (gives left (store c v))) → NoCall (ask_stored i e base len store cells answers)
+stored_none i e base len store cells answers h =
+    then_none (ask i cells answers) (λ at left. and_then (lift left (element base len at)) (λ c left. and_then (ask e cells left) (λ v left. gives left (store c v))))
+    (λ at left. then_none (lift left (element base len at)) (λ c left. and_then (ask e cells left) (λ v left. gives left (store c v)))
+    (λ c left. then_none (ask e cells left) (λ v left. gives left (store c v)) (h c)))
+
+turn_none : (b : Bool) (body : List ℕ) (left : List ℤ) → NoCall (gives left (if b then leave else turn body))
+turn_none true body left = tt
+turn_none false body left = tt
+
+assert_none : (b : Bool) (left : List ℤ) → NoCall (if b then Err (Traps trap.Assert) else gives left pass)
+assert_none true left = tt
+assert_none false left = tt
+
+no_call : (es : List Expr) (k : Kind) (cells answers : List ℤ) → is_call k ≡ false → NoCall (ask_deed es k cells answers)
+no_call es (kind.Set (target.Local c) e) cells answers h = then_none (ask (term es e) cells answers) (λ v left. gives left (set_local c v)) (λ v left. tt)
+no_call es (kind.Set (target.LocalAt base len i) e) cells answers h = stored_none (term es i) (term es e) base len set_local cells answers (λ c v left. tt)
+no_call es (kind.Set (target.Shared c) e) cells answers h = then_none (ask (term es e) cells answers) (λ v left. gives left (set_shared c v)) (λ v left. tt)
+no_call es (kind.Set (target.SharedAt base len i) e) cells answers h = stored_none (term es i) (term es e) base len set_shared cells answers (λ c v left. tt)
+no_call es (kind.Zero base len) cells answers h = tt
+no_call es (kind.If e first second) cells answers h = then_none (ask (term es e) cells answers) (λ v left. gives left (branch (if is_zero v then second else first))) (λ v left. tt)
+no_call es (kind.While e body) cells answers h = then_none (ask (term es e) cells answers) (λ v left. gives left (if is_zero v then leave else turn body)) (λ v left. turn_none (is_zero v) body left)
+no_call es (kind.Call f arguments into) cells answers h = absurd (cc)
+no_call es (kind.Return None) cells answers h = tt
+no_call es (kind.Return (Some e)) cells answers h = then_none (ask (term es e) cells answers) (λ v left. gives left (back (Some v))) (λ v left. tt)
+no_call es (kind.P x) cells answers h = tt
+no_call es (kind.V x) cells answers h = tt
+no_call es (kind.Send c e) cells answers h = then_none (ask (term es e) cells answers) (λ v left. gives left (send c v)) (λ v left. tt)
+no_call es (kind.Recv c into) cells answers h = tt
+no_call es (kind.Print e) cells answers h = then_none (ask (term es e) cells answers) (λ v left. gives left (print v)) (λ v left. tt)
+no_call es (kind.Assert e) cells answers h =
+    then_none (ask (term es e) cells answers) (λ v left. if is_zero v then Err (Traps trap.Assert) else gives left pass) (λ v left. assert_none (is_zero v) left)
+no_call es kind.End cells answers h = tt
+
+-- ---- no more activations
+
+abbrev Within : List Activation → List Activation → Type 0
+Within xs ys = length (views xs) ≤ length (views ys)
+
+same_within : (xs ys : List Activation) → views xs ≡ views ys → Within xs ys
+same_within xs ys e = let n : length (views xs) ≡ length (views ys) = ap length e in omega arith
+
+drop_within : (into : Option ℕ) (value : Option ℤ) (me : Tag) (xs : List Activation) → Within (tagged_into into value me (drop 1 xs)) xs
+drop_within into value me [] = same_within (tagged_into into value me []) [] (into_views into value me [])
+drop_within into value me (x ∷ xs) = let n : length (views (tagged_into into value me xs)) ≡ length (views xs) = ap length (into_views into value me xs) in omega arith
+
+by_deed : (program : Program) (s : Proc) (me : Tag) (asked : Asked Deed) (xs : List Activation) → NoCall asked → Within (tagged_by program s me asked xs) xs
+by_deed program s me (Ok (set_local c v, left)) xs h = same_within (tagged c me xs) xs (tagged_views c me xs)
+by_deed program s me (Ok (clear base len, left)) xs h = same_within (all_tagged base len me xs) xs (all_tagged_views base len me xs)
+by_deed program s me (Ok (invoke f values into, left)) xs h = absurd h
+by_deed program s me (Ok (back value, left)) xs h = drop_within _ value me xs
+by_deed program s me (Ok (receive chan into, left)) xs h = same_within (tagged into me xs) xs (tagged_views into me xs)
+by_deed program s me asked xs h = same_within xs xs refl
+
+by_todo : (program : Program) (plan : Plan) (s : Proc) (x : Taken) (me : Tag) (todo : List Todo) (xs : List Activation) → is_call (kind_of program (event_of program plan s x todo).stmt) ≡ false → Within (tagged_at program s me todo xs) xs
+by_todo program plan s x me [] xs h = same_within xs xs refl
+by_todo program plan s x me (t ∷ ts) xs h = by_deed program s me (head_deed program t s) xs (no_call program.exprs (kind_of program t.stmt) (top_cells s.frames) s.answers h)
+
+by_need : (program : Program) (plan : Plan) (s : Proc) (x : Taken) (me : Tag) (n : Need) (xs : List Activation) → is_call (kind_of program (event_of program plan s x s.todo).stmt) ≡ false → Within (tagged_after program s me n xs) xs
+by_need program plan s x me (Trap t) xs h = same_within xs xs refl
+by_need program plan s x me n xs h = by_todo program plan s x me s.todo xs h
+
+pub tested_length : (program : Program) (me : EventId) (e : Event) (acts : List Activation) → length (views (with_test program me e acts)) ≡ length (views acts)
+tested_length program me e [] = refl
+tested_length program me e (a ∷ as') = refl
+
+-- an event of another statement begins no activation
+pub begins_none : (program : Program) (plan : Plan) (story : Story) (p : ℕ) (u : Tracing) (x : Taken) → is_event x.need ≡ true → is_call (kind_of program (event_of program plan u.proc x u.proc.todo).stmt) ≡ false
+    → length (views (trace_step program plan story p u x).activations) ≤ length (views u.activations)
+begins_none program plan story p u x is isnt =
+    let e : Event = event_of program plan u.proc x u.proc.todo in
+    let tested : List Activation = with_test program (me_in p u) e u.activations in
+    let n : length (views tested) ≡ length (views u.activations) = tested_length program (me_in p u) e u.activations in
+    let le : length (views (tagged_after program u.proc (Some (me_in p u)) x.need tested)) ≤ length (views tested) = by_need program plan u.proc x (Some (me_in p u)) x.need tested isnt in
+    subst (λ acts. length (views acts) ≤ length (views u.activations)) (sym (event_acts program plan story p x x.need u is)) (omega arith)
