@@ -14,6 +14,11 @@ pub mod Inside
 pub mod Joined
 pub mod LimitsGrammar
 pub mod LimitsSaid
+pub mod Linear
+pub mod LinearNodes
+pub mod LinearRows
+pub mod LinearSaid
+pub mod LinearTable
 pub mod Listing
 pub mod Lookup
 pub mod NamedAccepted

@@ -23,3 +23,4 @@ pub mod Items
 pub mod Endings
 pub mod Bodies
 pub mod Sizes
+pub mod Elements

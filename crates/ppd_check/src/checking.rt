@@ -1,11 +1,12 @@
 // The table of a tree, or the first rule that its source breaks.
-ghost use Rattle.std.specs.Prelude.{◌≡◌, ℕ, List, true, false, [], ◌∷◌, ◌++◌, Some, IfOk, IfErr, map};
+ghost use Rattle.std.specs.Prelude.{◌≡◌, ◌≤◌, ◌*◌, ℕ, List, true, false, [], ◌∷◌, ◌++◌, length, Some, IfOk, IfErr, map};
 ghost use Rattle.ppd_ast.specs.Valid.{IsValid};
 ghost use Rattle.ppd_check.specs.Read.{IsParsed};
 ghost use Rattle.std.specs.List.{All};
 ghost use Rattle.ppd_parse.specs.Grammar.{Shape};
 ghost use Rattle.ppd_parse.specs.Tree.{tree_of, IsTable};
 ghost use Rattle.ppd_check.specs.Bodies.{WroteHeads};
+ghost use Rattle.ppd_check.specs.Elements.{elements_of};
 ghost use Rattle.ppd_check.specs.Holding.{head_at, IsHeadAt};
 ghost use Rattle.ppd_check.specs.Names.{innermost};
 ghost use Rattle.ppd_check.specs.Sources.{Accepted, IsRefused, core, first_fault};
@@ -110,7 +111,8 @@ fn check_nodes(alloc: Global, nodes: &[Node]) -> Result<Checked, Memory>
 
 /// The table of a tree that breaks no rule of the language: shared cells and the cells of a body in the order of their
 /// declarations, functions before processes, statements in pre-order. It is a valid program where the tree is that of a
-/// source's tokens.
+/// source's tokens. It is linear in the tree: its lists have at most nine elements for each node together, beside
+/// the start values of the shared cells.
 ///
 /// Otherwise the first broken rule by its place, and at one place the one that `CheckError` lists first; `Memory` is want
 /// of memory.
@@ -118,6 +120,7 @@ pub fn check(alloc: Global, tree: &Tree) -> Result<Program, CheckError>
     requires table { IsTable tree.now.nodes }
     ensures core { IfOk result (λ p. Accepted (tree_of tree.now.nodes) × (p ≡ core (tree_of tree.now.nodes))) }
     ensures valid { IfOk result (λ p. (bytes : List ℕ) → IsParsed bytes (tree_of tree.now.nodes) → IsValid p) }
+    ensures few { IfOk result (λ p. elements_of p ≤ 9 * length tree.now.nodes) }
     ensures refused { IfErr result (λ e. IsRefused (tree_of tree.now.nodes) e) }
 {
     let Ok(checked) = check_nodes(alloc, tree.nodes.as_slice()) else {
