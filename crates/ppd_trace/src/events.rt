@@ -1,16 +1,16 @@
-ghost use Rattle.std.specs.Prelude.{◌≡◌, ◌<◌, ◌≤◌, ◌^◌, true, length, IfOk, OnOk};
-ghost use Rattle.std.specs.List.{All};
+ghost use Rattle.std.specs.Prelude.{◌≡◌, ◌<◌, ◌^◌, true, length, IfOk, OnOk};
 ghost use Rattle.ppd_model.specs.FullTrace.{event_of as event_of_step, traced_by as traced_by_step, with_event};
 ghost use Rattle.ppd_sem.specs.Described.{is_event};
 ghost use Rattle.ppd_sem.specs.Process.{need_of};
 ghost use Rattle.ppd_sem.specs.Runs.{IsNumbered, IsRunnable, IsRunning};
+ghost use Rattle.ppd_trace.specs.Leading.{HavePairs};
 
 use crate::activations::tag_writes;
 use crate::control::{add_test, parent_at};
-use crate::pairs::paired;
+use crate::pairs::{PairedStory, paired};
 use crate::reads::{tags_of, top_tags};
 use ppd_ast::{Memory, Plan, Program};
-use ppd_model::{EventId, Story, Taken, TracedEvent, Tracing};
+use ppd_model::{EventId, Taken, TracedEvent, Tracing};
 use ppd_sem::{Event, Proc, describe};
 use std::alloc::Global;
 
@@ -38,14 +38,13 @@ fn event_of(
 fn traced_by(
     alloc: Global,
     program: &Program,
-    story: &Story,
+    told: &PairedStory,
     taken: &Taken,
     tracing: &Tracing,
     event: Event,
 ) -> Result<TracedEvent, Memory>
-    requires steps { All (λ steps. length steps < 2 ^ 32) story.now.steps }
-    requires processes { length story.now.steps ≤ 2 ^ 8 }
-    ensures { IfOk result (λ traced. traced ≡ traced_by_step program.now story.now taken.now tracing.now event) }
+    requires pairs { HavePairs program.now told.now.story told.now.takes told.now.receives told.now.sends }
+    ensures { IfOk result (λ traced. traced ≡ traced_by_step program.now told.now.story taken.now tracing.now event) }
 {
     let writers = tags_of(
         alloc,
@@ -57,7 +56,7 @@ fn traced_by(
         event,
         writers,
         parent: parent_at(program, &tracing.activations, &tracing.proc),
-        paired: paired(program, story, taken),
+        paired: paired(program, told, taken),
     })
 }
 
@@ -67,7 +66,7 @@ pub(crate) fn add_event(
     alloc: Global,
     program: &Program,
     plan: &Plan,
-    story: &Story,
+    told: &PairedStory,
     process: u8,
     taken: &Taken,
     tracing: &mut Tracing,
@@ -77,17 +76,16 @@ pub(crate) fn add_event(
     requires proc { IsRunning program.now tracing.old.proc }
     requires need { taken.now.need ≡ need_of program.now plan.now tracing.old.proc }
     requires event { is_event taken.now.need ≡ true }
-    requires steps { All (λ steps. length steps < 2 ^ 32) story.now.steps }
-    requires processes { length story.now.steps ≤ 2 ^ 8 }
+    requires pairs { HavePairs program.now told.now.story told.now.takes told.now.receives told.now.sends }
     requires few { length tracing.old.events < 2 ^ 32 }
-    ensures { OnOk result (tracing.new ≡ with_event program.now plan.now story.now process taken.now tracing.old) }
+    ensures { OnOk result (tracing.new ≡ with_event program.now plan.now told.now.story process taken.now tracing.old) }
 {
     let me = EventId {
         process,
         number: tracing.events.len() as u32,
     };
     let event = event_of(alloc, program, plan, &tracing.proc, taken)?;
-    let traced = traced_by(alloc, program, story, taken, tracing, event)?;
+    let traced = traced_by(alloc, program, told, taken, tracing, event)?;
     add_test(program, me, &traced.event, &mut tracing.activations)?;
     tag_writes(
         alloc,

@@ -1,11 +1,28 @@
-ghost use Rattle.std.specs.Prelude.{◌≡◌, ◌+◌, ◌<◌, ◌≤◌, ◌^◌, length, if◌then◌else◌};
+ghost use Rattle.std.specs.Prelude.{◌≡◌, ℕ, ◌+◌, ◌<◌, ◌≤◌, ◌^◌, length, None, Some, IfOk, OnOk, if◌then◌else◌};
 ghost use Rattle.std.specs.List.{All};
+ghost use Rattle.ppd_model.specs.FullTrace.{or_else};
+ghost use Rattle.ppd_model.specs.Numbers.{sync};
 ghost use Rattle.ppd_model.specs.Story.{is_event};
-ghost use Rattle.ppd_model.specs.Synchronizations.{capacity_of as capacity_in_program, is_number as is_number_of, kind_of_sync as kind_of, leading_in as leading_in_steps, leads_at, led_to as number_led_to, paired_of, sync_of};
+ghost use Rattle.ppd_model.specs.Synchronizations.{capacity_of as capacity_in_program, event_or, kind_of_sync as kind_of, leading_in, led_to as number_led_to, paired_of, sync_of};
+ghost use Rattle.ppd_trace.specs.Leading.{HavePairs, KeepsFirst, LeadTo, found_in, looked_up, target};
 
-use ppd_ast::{Program, SyncKind};
+use ppd_ast::{Memory, Program, SyncKind};
 use ppd_model::{EventId, Story, Taken};
 use ppd_sem::Need;
+use std::alloc::Global;
+use std::collections::HashMap;
+
+/// The first event that leads to a synchronization of one kind, by its object and its number.
+type Leads = HashMap<(u8, u64), EventId>;
+
+/// A story with the first events that lead to each `P`, each receive and each send.
+#[derive(Drop)]
+pub(crate) struct PairedStory {
+    pub(crate) story: Story,
+    takes: Leads,
+    receives: Leads,
+    sends: Leads,
+}
 
 /// How many values a channel holds at most, and 0 past the table.
 fn capacity_of(program: &Program, chan: u8) -> u8
@@ -42,37 +59,42 @@ fn led_to(capacity: u8, first: SyncKind, second: SyncKind, number: u32) -> Optio
     }
 }
 
-fn is_number(led: Option<u64>, number: u32) -> bool
-    ensures { result ≡ is_number_of led number }
+/// The object and the number of the synchronization of this kind to which a step leads.
+fn target_of(program: &Program, kind: SyncKind, step: &Taken) -> Option<(u8, u64)>
+    ensures { result ≡ target program.now kind (sync_of step.now) }
 {
-    match led {
-        Some(led) => led == u64::from(number),
-        None => false,
+    let Some((first, object)) = kind_of_sync(step.need) else {
+        return None;
+    };
+    let Some(number) = step.number else {
+        return None;
+    };
+    match led_to(capacity_of(program, object), first, kind, number) {
+        Some(led) => Some((object, led)),
+        None => None,
     }
 }
 
-/// Whether the first step is a synchronization that leads to the second one.
-#[tactic(auto, using(crate::proofs::Leading::unnumbered, crate::proofs::Leading::none_leads, crate::proofs::Leading::leads_to_none))]
-fn leads(program: &Program, first: &Taken, second: &Taken) -> bool
-    ensures { result ≡ leads_at program.now (sync_of first.now) (sync_of second.now) }
+fn found(leads: &Leads, object: u8, number: u64) -> Option<EventId>
+    ensures { result ≡ found_in leads.now object number }
 {
-    let Some((kind, object)) = kind_of_sync(first.need) else {
-        return false;
+    leads.get(&(object, number)).copied()
+}
+
+/// Keeps the event for its target, where there is no earlier one.
+fn keep_first(leads: &mut Leads, target: Option<(u8, u64)>, event: EventId) -> Result<(), Memory>
+    ensures { OnOk result (KeepsFirst leads.old leads.new target event) }
+{
+    let Some((object, number)) = target else {
+        return Ok(());
     };
-    let Some(number) = first.number else {
-        return false;
-    };
-    let Some((other_kind, other_object)) = kind_of_sync(second.need) else {
-        return false;
-    };
-    let Some(other_number) = second.number else {
-        return false;
-    };
-    object == other_object
-        && is_number(
-            led_to(capacity_of(program, object), kind, other_kind, number),
-            other_number,
-        )
+    if found(leads, object, number).is_some() {
+        return Ok(());
+    }
+    match leads.insert((object, number), event) {
+        Ok(_) => Ok(()),
+        Err(_) => Err(Memory),
+    }
 }
 
 /// The next event's number after a step.
@@ -87,51 +109,91 @@ fn number_after(number: u32, taken: &Taken) -> u32
     }
 }
 
-/// The number of the first event among these steps of a process that leads to the step.
-fn leading_in(program: &Program, step: &Taken, steps: &[Taken]) -> Option<u32>
+/// Keeps the first events among these steps of a process that lead to synchronizations of a kind.
+fn add_process(
+    program: &Program,
+    kind: SyncKind,
+    process: u8,
+    steps: &[Taken],
+    leads: &mut Leads,
+) -> Result<(), Memory>
     requires { length steps.now < 2 ^ 32 }
-    ensures { result ≡ leading_in_steps program.now (sync_of step.now) 0 steps.now }
+    ensures { OnOk result ((object number : ℕ) → found_in leads.new object number ≡ or_else (found_in leads.old object number) (event_or process (leading_in program.now (Some (sync kind object number)) 0 steps.now) None)) }
 {
     let mut number = 0;
     for index in 0..steps.len() {
         let taken = &steps[index];
-        if leads(program, taken, step) {
-            return Some(number);
-        }
+        let target = target_of(program, kind, taken);
+        keep_first(leads, target, EventId { process, number })?;
         number = number_after(number, taken);
     }
-    None
+    Ok(())
 }
 
-/// The first event, process after process, whose synchronization leads to that of the step.
-fn leading_from(program: &Program, story: &Story, step: &Taken) -> Option<EventId>
+/// The first events, process after process, that lead to the synchronizations of a kind.
+fn leads_to(
+    alloc: Global,
+    program: &Program,
+    kind: SyncKind,
+    story: &Story,
+) -> Result<Leads, Memory>
     requires steps { All (λ steps. length steps < 2 ^ 32) story.now.steps }
     requires processes { length story.now.steps ≤ 2 ^ 8 }
-    ensures { result ≡ paired_of program.now story.now step.now }
+    ensures { IfOk result (λ leads. LeadTo program.now kind story.now leads) }
 {
     let lists = story.steps.as_slice();
+    let mut leads = HashMap::new(alloc);
     for process in 0..lists.len() {
-        if let Some(number) = leading_in(program, step, lists[process].as_slice()) {
-            return Some(EventId {
-                process: process as u8,
-                number,
-            });
-        }
+        let own = lists[process].as_slice();
+        add_process(program, kind, process as u8, own, &mut leads)?;
     }
-    None
+    Ok(leads)
+}
+
+/// Finds the pairs of a story, in three passes over its steps. `Memory` is want of memory.
+pub(crate) fn find_pairs(
+    alloc: Global,
+    program: &Program,
+    story: Story,
+) -> Result<PairedStory, Memory>
+    requires steps { All (λ steps. length steps < 2 ^ 32) story.steps }
+    requires processes { length story.steps ≤ 2 ^ 8 }
+    ensures story { IfOk result (λ told. told.story ≡ story) }
+    ensures pairs { IfOk result (λ told. HavePairs program.now told.story told.takes told.receives told.sends) }
+{
+    let takes = leads_to(alloc, program, SyncKind::P, &story)?;
+    let receives = leads_to(alloc, program, SyncKind::Recv, &story)?;
+    let sends = leads_to(alloc, program, SyncKind::Send, &story)?;
+    Ok(PairedStory {
+        story,
+        takes,
+        receives,
+        sends,
+    })
+}
+
+/// The event that leads to a synchronization of this number.
+fn look_up(told: &PairedStory, need: Need, number: u64) -> Option<EventId>
+    ensures { result ≡ looked_up told.now.takes told.now.receives told.now.sends need number }
+{
+    match need {
+        Need::P { sem, .. } => found(&told.takes, sem, number),
+        Need::Recv { chan, .. } => found(&told.receives, chan, number),
+        Need::Send { chan, .. } => found(&told.sends, chan, number),
+        _ => None,
+    }
 }
 
 /// The event whose synchronization leads to that of the step, if the step is one and another leads
 /// to it: the `V` of a `P`'s number, the send of a receive's number, and the receive that finds a
 /// send's place free.
-#[tactic(auto, using(crate::proofs::Leading::unpaired))]
-pub(crate) fn paired(program: &Program, story: &Story, step: &Taken) -> Option<EventId>
-    requires steps { All (λ steps. length steps < 2 ^ 32) story.now.steps }
-    requires processes { length story.now.steps ≤ 2 ^ 8 }
-    ensures { result ≡ paired_of program.now story.now step.now }
+#[tactic(auto, using(crate::proofs::Leading::unpaired, crate::proofs::Leading::paired_as))]
+pub(crate) fn paired(program: &Program, told: &PairedStory, step: &Taken) -> Option<EventId>
+    requires { HavePairs program.now told.now.story told.now.takes told.now.receives told.now.sends }
+    ensures { result ≡ paired_of program.now told.now.story step.now }
 {
     match step.number {
-        Some(_) => leading_from(program, story, step),
+        Some(number) => look_up(told, step.need, u64::from(number)),
         None => None,
     }
 }

@@ -1,15 +1,16 @@
-ghost use Rattle.std.specs.Prelude.{◌≡◌, ◌+◌, ◌<◌, ◌≤◌, ◌^◌, length, IfOk, OnOk};
-ghost use Rattle.std.specs.List.{All};
+ghost use Rattle.std.specs.Prelude.{◌≡◌, ◌+◌, ◌<◌, ◌^◌, length, IfOk, OnOk};
 ghost use Rattle.ppd_model.specs.FullTrace.{begun_tracing, trace_by as trace_by_need, trace_step as trace_step_of, tracing_of};
 ghost use Rattle.ppd_model.specs.LocalTags.{AreOwn};
 ghost use Rattle.ppd_sem.specs.Process.{need_of, started};
 ghost use Rattle.ppd_sem.specs.Runs.{IsNumbered, IsRunnable, IsRunning};
+ghost use Rattle.ppd_trace.specs.Leading.{HavePairs};
 ghost use Rattle.ppd_trace.specs.Tagging.{answers_by};
 
 use crate::activations::begin_body;
 use crate::events::add_event;
+use crate::pairs::PairedStory;
 use ppd_ast::{Memory, Plan, Program, Seq};
-use ppd_model::{EventId, Story, Taken, TracedEvent, Tracing};
+use ppd_model::{EventId, Taken, TracedEvent, Tracing};
 use ppd_sem::{Need, Proc, feed, local_cells};
 use std::alloc::Global;
 
@@ -29,7 +30,7 @@ fn trace_by(
     alloc: Global,
     program: &Program,
     plan: &Plan,
-    story: &Story,
+    told: &PairedStory,
     process: u8,
     taken: &Taken,
     tracing: &mut Tracing,
@@ -38,13 +39,12 @@ fn trace_by(
     requires plan { IsNumbered plan.now }
     requires proc { IsRunning program.now tracing.old.proc }
     requires need { taken.now.need ≡ need_of program.now plan.now tracing.old.proc }
-    requires steps { All (λ steps. length steps < 2 ^ 32) story.now.steps }
-    requires processes { length story.now.steps ≤ 2 ^ 8 }
+    requires pairs { HavePairs program.now told.now.story told.now.takes told.now.receives told.now.sends }
     requires few { length tracing.old.events < 2 ^ 32 }
-    ensures { OnOk result (tracing.new ≡ trace_by_need program.now plan.now story.now process taken.now taken.now.need tracing.old) }
+    ensures { OnOk result (tracing.new ≡ trace_by_need program.now plan.now told.now.story process taken.now taken.now.need tracing.old) }
 {
     if taken.need.is_event() {
-        return add_event(alloc, program, plan, story, process, taken, tracing);
+        return add_event(alloc, program, plan, told, process, taken, tracing);
     }
     keep_answer(taken, &mut tracing.answers)
 }
@@ -54,7 +54,7 @@ fn trace_step(
     alloc: Global,
     program: &Program,
     plan: &Plan,
-    story: &Story,
+    told: &PairedStory,
     process: u8,
     taken: &Taken,
     tracing: &mut Tracing,
@@ -63,13 +63,12 @@ fn trace_step(
     requires plan { IsNumbered plan.now }
     requires proc { IsRunning program.now tracing.old.proc }
     requires need { taken.now.need ≡ need_of program.now plan.now tracing.old.proc }
-    requires steps { All (λ steps. length steps < 2 ^ 32) story.now.steps }
-    requires processes { length story.now.steps ≤ 2 ^ 8 }
+    requires pairs { HavePairs program.now told.now.story told.now.takes told.now.receives told.now.sends }
     requires few { length tracing.old.events < 2 ^ 32 }
-    ensures ok { OnOk result (tracing.new ≡ trace_step_of program.now plan.now story.now process tracing.old taken.now) }
+    ensures ok { OnOk result (tracing.new ≡ trace_step_of program.now plan.now told.now.story process tracing.old taken.now) }
     ensures kept { OnOk result (IsRunning program.now tracing.new.proc) }
 {
-    trace_by(alloc, program, plan, story, process, taken, tracing)?;
+    trace_by(alloc, program, plan, told, process, taken, tracing)?;
     feed(program, plan, &mut tracing.proc, &taken.answer)
 }
 
@@ -103,7 +102,7 @@ pub(crate) fn trace_process(
     program: &Program,
     plan: &Plan,
     budget: u32,
-    story: &Story,
+    told: &PairedStory,
     process: u8,
     own: &[Taken],
 ) -> Result<Seq<TracedEvent>, Memory>
@@ -111,16 +110,15 @@ pub(crate) fn trace_process(
     requires plan { IsNumbered plan.now }
     requires process { program.now.functions + process < length program.now.bodies }
     requires range { program.now.functions + process < 2 ^ 16 }
-    requires steps { All (λ steps. length steps < 2 ^ 32) story.now.steps }
-    requires processes { length story.now.steps ≤ 2 ^ 8 }
+    requires pairs { HavePairs program.now told.now.story told.now.takes told.now.receives told.now.sends }
     requires few { length own.now < 2 ^ 32 }
     requires own { AreOwn program.now plan.now (started program.now plan.now process budget) own.now }
-    ensures { IfOk result (λ events. events ≡ (tracing_of program.now plan.now budget story.now process own.now).events) }
+    ensures { IfOk result (λ events. events ≡ (tracing_of program.now plan.now budget told.now.story process own.now).events) }
 {
     let mut tracing = begin(alloc, program, plan, budget, process)?;
     for index in 0..own.len() {
         let taken = &own[index];
-        trace_step(alloc, program, plan, story, process, taken, &mut tracing)?;
+        trace_step(alloc, program, plan, told, process, taken, &mut tracing)?;
     }
     Ok(tracing.events)
 }

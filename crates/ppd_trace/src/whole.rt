@@ -3,8 +3,10 @@ ghost use Rattle.ppd_ast.specs.Valid.{IsValid};
 ghost use Rattle.ppd_ast.specs.ValidPlan.{IsValidPlan};
 ghost use Rattle.ppd_model.specs.FullTrace.{trace_of};
 ghost use Rattle.ppd_sem.specs.Runs.{IsNumbered, IsRunnable};
+ghost use Rattle.ppd_trace.specs.Leading.{HavePairs};
 ghost use Rattle.ppd_trace.specs.Traced.{IsTraceOf, IsTraceable};
 
+use crate::pairs::{PairedStory, find_pairs};
 use crate::steps::trace_process;
 use crate::tellers::tell_story;
 use ppd_ast::limits::MOST_BUDGET;
@@ -18,18 +20,19 @@ fn trace_all(
     program: &Program,
     plan: &Plan,
     budget: u32,
-    story: &Story,
+    told: &PairedStory,
 ) -> Result<Trace, Memory>
     requires program { IsRunnable program.now }
     requires plan { IsNumbered plan.now }
-    requires story { IsTraceable program.now plan.now budget story.now }
-    ensures { IfOk result (λ trace. trace ≡ trace_of program.now plan.now budget story.now) }
+    requires story { IsTraceable program.now plan.now budget told.now.story }
+    requires pairs { HavePairs program.now told.now.story told.now.takes told.now.receives told.now.sends }
+    ensures { IfOk result (λ trace. trace ≡ trace_of program.now plan.now budget told.now.story) }
 {
-    let lists = story.steps.as_slice();
+    let lists = told.story.steps.as_slice();
     let mut events = Seq::new(alloc);
     for process in 0..lists.len() {
         let own = lists[process].as_slice();
-        events.push(trace_process(alloc, program, plan, budget, story, process as u8, own)?)?;
+        events.push(trace_process(alloc, program, plan, budget, told, process as u8, own)?)?;
     }
     Ok(Trace { events })
 }
@@ -40,14 +43,15 @@ fn trace_story(
     program: &Program,
     plan: &Plan,
     budget: u32,
-    story: &Story,
+    story: Story,
 ) -> Result<Trace, Memory>
     requires program { IsValid program.now }
     requires plan { IsValidPlan program.now plan.now }
-    requires story { IsTraceable program.now plan.now budget story.now }
-    ensures { IfOk result (λ trace. trace ≡ trace_of program.now plan.now budget story.now) }
+    requires story { IsTraceable program.now plan.now budget story }
+    ensures { IfOk result (λ trace. trace ≡ trace_of program.now plan.now budget story) }
 {
-    trace_all(alloc, program, plan, budget, story)
+    let told = find_pairs(alloc, program, story)?;
+    trace_all(alloc, program, plan, budget, &told)
 }
 
 /// The full trace of a schedule of a valid program with a valid plan (Choi, Miller and Netzer 1991,
@@ -72,7 +76,7 @@ pub fn full_trace(
         Ok(story) => story,
         Err(error) => return Err(error),
     };
-    match trace_story(alloc, program, plan, budget, &story) {
+    match trace_story(alloc, program, plan, budget, story) {
         Ok(trace) => Ok(trace),
         Err(_) => Err(DriveError::Memory),
     }

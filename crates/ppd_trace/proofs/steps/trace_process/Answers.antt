@@ -18,7 +18,7 @@ pub loop-index-preserved : goal.loop-index-preserved
 loop-index-preserved c =
     let program = c.args.program.now in
     let plan = c.args.plan.now in
-    let story = c.args.story.now in
+    let story = c.args.told.now.story in
     let p = c.args.process in
     let own = c.args.own.now in
     let i = c.loop-index.index in
@@ -35,4 +35,4 @@ loop-index-preserved c =
 
 pub returns : goal.returns
 returns c =
-    traced_whole c.args.program.now c.args.plan.now c.args.story.now c.args.process (begun_tracing (started c.args.program.now c.args.plan.now c.args.process c.args.budget)) c.args.own.now c.loop-index.index c.loop-index.tracing (omega arith) c.loop-index.invariant.traced
+    traced_whole c.args.program.now c.args.plan.now c.args.told.now.story c.args.process (begun_tracing (started c.args.program.now c.args.plan.now c.args.process c.args.budget)) c.args.own.now c.loop-index.index c.loop-index.tracing (omega arith) c.loop-index.invariant.traced

@@ -8,7 +8,7 @@ use Rattle.ppd_trace.proofs.steps.trace_process.Given as goal
 
 abbrev pub invariant-loop-index : goal.invariant-loop-index
 invariant-loop-index l = record {
-  traced : l.tracing ≡ fold (trace_step l.program l.plan l.story l.process) (begun_tracing (started l.program l.plan l.process l.budget)) (take l.index l.own);
+  traced : l.tracing ≡ fold (trace_step l.program l.plan l.told.story l.process) (begun_tracing (started l.program l.plan l.process l.budget)) (take l.index l.own);
   own : AreOwn l.program l.plan l.tracing.proc (drop l.index l.own);
   running : IsRunning l.program l.tracing.proc;
   few : length l.tracing.events ≤ l.index;

@@ -1,0 +1,11 @@
+use Rattle.std.proofs.Common.{◌≡◌, ℕ, Some, drop}
+use Rattle.ppd_model.specs.FullTrace.{or_else}
+use Rattle.ppd_model.specs.Numbers.{sync}
+use Rattle.ppd_model.specs.Synchronizations.{leading_from}
+use Rattle.ppd_trace.specs.Leading.{found_in}
+use Rattle.ppd_trace.proofs.pairs.leads_to.Given as goal
+
+abbrev pub invariant-loop-process : goal.invariant-loop-process
+invariant-loop-process l =
+    (o k : ℕ) → or_else (found_in l.leads o k) (leading_from l.program (Some (sync l.kind o k)) l.process (drop l.process l.story.steps))
+    ≡ leading_from l.program (Some (sync l.kind o k)) 0 l.story.steps
