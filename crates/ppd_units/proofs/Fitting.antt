@@ -62,7 +62,7 @@ within_fits p q s (Some x) after v at f = kinds_fit (length p.stmts) q x.kind s 
 
 tops_are_below : (p : Program) (b : ℕ) (o : Option Body) → IsValid p → slice_get p.bodies b ≡ o → AreBelow (length p.stmts) (top_of_body o)
 tops_are_below p b None v at = none_below (length p.stmts)
-tops_are_below p b (Some body) v at y h = all_has (λ i. i < length p.stmts) body.top y (top_below p b body v at) h
+tops_are_below p b (Some body) v at = λ y h. all_has (λ i. i < length p.stmts) body.top y (top_below p b body v at) h
 
 under_fits : (p : Program) (outer : ℕ → Option ℕ) (body s : ℕ) (parent : Option ℕ) → IsValid p → ((q : ℕ) → Fits (length p.stmts) (outer q)) → Fits (length p.stmts) (follow_under p outer body s parent)
 under_fits p outer body s None v f = next_fits (length p.stmts) (top_of p body) s None (tops_are_below p body (slice_get p.bodies body) v refl) tt

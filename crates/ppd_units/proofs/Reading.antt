@@ -2,6 +2,7 @@
 use Rattle.std.proofs.Common.{◌≡◌, ℕ, ◌+◌, ◌<◌, ◌≤◌, List, [], ◌∷◌, ◌++◌, true, Option, Some, None, length, sym, ap, ◌∙◌, subst, refl, inl, inr, arith, true≢false}
 use Rattle.std.specs.Prelude.{IsTrue, slice_get}
 use Rattle.std.specs.List.{flat_map, range_with_len}
+use Rattle.std.proofs.lemmas.Bool.{cases_lt}
 use Rattle.ppd_ast.specs.declared.program.Stmt.{Stmt}
 use Rattle.ppd_ast.specs.declared.program.Program.{Program}
 use Rattle.ppd_ast.specs.Term.{Term, const, local, local_at, shared, shared_at, neg, not, two, and, or, term}
@@ -25,6 +26,13 @@ reads_past a p s at = gains_as [] (reads_at true p s) (sym (ap (λ (o : Option S
 
 pub reads_there : (a b : List ℕ) (p : Program) (s : ℕ) (x : Stmt) → slice_get p.stmts s ≡ Some x → Gains a b (reads true p.exprs x.kind) → Gains a b (reads_at true p s)
 reads_there a b p s x at g = gains_as (reads true p.exprs x.kind) (reads_at true p s) (sym (ap (λ (o : Option Stmt). reads true p.exprs (kind_of_stmt o)) at)) g
+
+-- only a statement that is there reads
+pub read_is_stmt : (p : Program) (s c : ℕ) → IsTrue (has (reads_at true p s) c) → s < length p.stmts
+read_is_stmt p s c h = elim (cases_lt s (length p.stmts)) [
+  | inl below ↦ below
+  | inr past ↦ absurd (true≢false (sym (subst (λ (o : Option Stmt). IsTrue (has (reads true p.exprs (kind_of_stmt o)) c)) (got_none p.stmts s past) h)))
+]
 
 -- the cells of the statements that the rows lead to
 pub along_is : (p : Program) (rows : List (List ℕ)) (starts stmts set cells : List ℕ) → length rows ≡ length p.stmts → stmts ≡ those (length rows) (leads (closed rows) starts) →

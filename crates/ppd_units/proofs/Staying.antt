@@ -46,18 +46,6 @@ unfolding stands_at
 stands_some zero stmts q s h = absurd (h refl)
 stands_some (suc d) stmts q s h = let e : d ≡ suc d - 1 = omega arith in ap (λ k. nat_eq s q || stands_at k stmts q (parent_of (slice_get stmts s))) e
 
--- ---- one more successor
-
-pub kept_more : (test : ℕ → Bool) (xs : List ℕ) (i : ℕ) (ids new : List ℕ) → i < length xs → test (get_or xs i 0) ≡ false → ids ≡ filter (λ t. not (test t)) (take i xs) → new ≡ ids ++ get_or xs i 0 ∷ [] → new ≡ filter (λ t. not (test t)) (take (i + 1) xs)
-kept_more test xs i ids new h no before now =
-    now ∙ ap (λ l. l ++ get_or xs i 0 ∷ []) before
-    ∙ sym (filter_more (λ t. not (test t)) xs i 0 h ∙ ap (λ b. filter (λ t. not (test t)) (take i xs) ++ cond (not b) (get_or xs i 0 ∷ []) []) no)
-
-pub left_more : (test : ℕ → Bool) (xs : List ℕ) (i : ℕ) (ids new : List ℕ) → i < length xs → test (get_or xs i 0) ≡ true → ids ≡ filter (λ t. not (test t)) (take i xs) → new ≡ ids → new ≡ filter (λ t. not (test t)) (take (i + 1) xs)
-left_more test xs i ids new h yes before now =
-    now ∙ before
-    ∙ sym (filter_more (λ t. not (test t)) xs i 0 h ∙ ap (λ b. filter (λ t. not (test t)) (take i xs) ++ cond (not b) (get_or xs i 0 ∷ []) []) yes ∙ append-nil (filter (λ t. not (test t)) (take i xs)))
-
 -- ---- the rows
 
 pub unit_rows_long : (p : Program) (loops : List ℕ) → length (unit_rows p loops) ≡ length p.stmts
