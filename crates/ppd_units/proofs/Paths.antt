@@ -50,7 +50,7 @@ chain p loops s t (next {a = a} r h) =
 
 -- ---- sorted cells
 
-sorted_gives : (cells : List ℕ) (c : ℕ) → IsTrue (has (sorted cells) c) → IsTrue (has cells c)
+pub sorted_gives : (cells : List ℕ) (c : ℕ) → IsTrue (has (sorted cells) c) → IsTrue (has cells c)
 unfolding sorted
 sorted_gives cells c h = (has_filter (has cells) (range_with_len 0 1024) c h).1
 
