@@ -3,7 +3,6 @@ ghost use Rattle.ppd_cfg.specs.Laws.{PathsAreChains, FollowsItsList};
 // Laws of what the other calls give: each is the contract of a function that does nothing.
 
 /// A flow path leads from one statement to another just where the successors of the one lead there.
-
 pub fn flow_paths_are_chains()
     ensures { PathsAreChains }
 {}

@@ -3,30 +3,117 @@
 use ppd_ast::{Body, Expr, Ids, Kind, Nums, Op, Place, Program, Seq, Stmt, Target, Var};
 use std::alloc::{AllocError, Global};
 
-// A body, which begins where the one before ends; its locals are scalars, but for the lengths given.
+// A statement's kind in a line of a table.
 #[derive(Clone, Copy)]
-pub(crate) struct Frame<'a> {
-    pub(crate) process: bool,
-    pub(crate) value: bool,
-    pub(crate) locals: &'a [Option<u16>],
-    pub(crate) top: &'a [u32],
-    pub(crate) first: u32,
-    pub(crate) end: u32,
+enum Act<'a> {
+    Set(Target, u32),
+    If(u32, &'a [u32], &'a [u32]),
+    While(u32, &'a [u32]),
+    Call(u16, Option<u16>),
+    Return(Option<u32>),
+    Print(u32),
+    End,
 }
 
-pub(crate) fn ids(alloc: Global, items: &[u32]) -> Result<Ids, AllocError> {
+#[derive(Clone, Copy)]
+struct Line<'a> {
+    body: u16,
+    parent: Option<u32>,
+    act: Act<'a>,
+}
+
+// A body; its locals are scalars, but for the lengths given.
+#[derive(Clone, Copy)]
+struct Frame<'a> {
+    process: bool,
+    value: bool,
+    locals: &'a [Option<u16>],
+    top: &'a [u32],
+    first: u32,
+    end: u32,
+}
+
+fn at(body: u16, parent: Option<u32>, act: Act) -> Line {
+    Line { body, parent, act }
+}
+
+fn process<'a>(locals: &'a [Option<u16>], top: &'a [u32], first: u32, end: u32) -> Frame<'a> {
+    Frame {
+        process: true,
+        value: false,
+        locals,
+        top,
+        first,
+        end,
+    }
+}
+
+fn function<'a>(locals: &'a [Option<u16>], top: &'a [u32], first: u32, end: u32) -> Frame<'a> {
+    Frame {
+        process: false,
+        value: false,
+        locals,
+        top,
+        first,
+        end,
+    }
+}
+
+fn ids(alloc: Global, items: &[u32]) -> Result<Ids, AllocError> {
     Ok(Seq::from_vec(Vec::from_slice(alloc, items)?))
 }
 
-fn cells_of(len: Option<u16>) -> u16 {
+fn kind_of(alloc: Global, act: Act) -> Result<Kind, AllocError> {
+    Ok(match act {
+        Act::Set(target, value) => Kind::Set(target, value),
+        Act::If(value, first, second) => {
+            let first = ids(alloc, first)?;
+            let second = ids(alloc, second)?;
+            Kind::If(value, first, second)
+        }
+        Act::While(value, list) => Kind::While(value, ids(alloc, list)?),
+        Act::Call(function, into) => Kind::Call {
+            function,
+            args: Seq::new(alloc),
+            into,
+        },
+        Act::Return(value) => Kind::Return(value),
+        Act::Print(value) => Kind::Print(value),
+        Act::End => Kind::End,
+    })
+}
+
+fn stmts_of(alloc: Global, lines: &[Line]) -> Result<Seq<Stmt>, AllocError> {
+    let mut stmts = Vec::new(alloc);
+    for line in lines {
+        let kind = kind_of(alloc, line.act)?;
+        stmts.push(Stmt {
+            place: Place { line: 1, column: 1 },
+            body: line.body,
+            parent: line.parent,
+            kind,
+        })?;
+    }
+    Ok(Seq::from_vec(stmts))
+}
+
+fn width(len: Option<u16>) -> u16 {
     match len {
         None => 1,
         Some(len) => len,
     }
 }
 
+fn cell_count(lens: &[Option<u16>]) -> u16 {
+    let mut count: u16 = 0;
+    for len in lens {
+        count = count.saturating_add(width(*len));
+    }
+    count
+}
+
 // Variables whose cells follow one another.
-fn vars(alloc: Global, lens: &[Option<u16>]) -> Result<(Seq<Var>, u16), AllocError> {
+fn vars_of(alloc: Global, lens: &[Option<u16>]) -> Result<Seq<Var>, AllocError> {
     let mut vars = Vec::new(alloc);
     let mut base: u16 = 0;
     for len in lens {
@@ -35,20 +122,20 @@ fn vars(alloc: Global, lens: &[Option<u16>]) -> Result<(Seq<Var>, u16), AllocErr
             base,
             len: *len,
         })?;
-        base = base.saturating_add(cells_of(*len));
+        base = base.saturating_add(width(*len));
     }
-    Ok((Seq::from_vec(vars), base))
+    Ok(Seq::from_vec(vars))
 }
 
-fn body(alloc: Global, frame: &Frame) -> Result<Body, AllocError> {
-    let (locals, cells) = vars(alloc, frame.locals)?;
+fn body_of(alloc: Global, frame: &Frame) -> Result<Body, AllocError> {
+    let locals = vars_of(alloc, frame.locals)?;
     let top = ids(alloc, frame.top)?;
     Ok(Body {
         name: Seq::new(alloc),
         process: frame.process,
         params: 0,
         value: frame.value,
-        cells,
+        cells: cell_count(frame.locals),
         locals,
         top,
         first: frame.first,
@@ -56,7 +143,16 @@ fn body(alloc: Global, frame: &Frame) -> Result<Body, AllocError> {
     })
 }
 
-fn starts(alloc: Global, count: u16) -> Result<Nums, AllocError> {
+fn bodies_of(alloc: Global, frames: &[Frame]) -> Result<Seq<Body>, AllocError> {
+    let mut bodies = Vec::new(alloc);
+    for frame in frames {
+        let body = body_of(alloc, frame)?;
+        bodies.push(body)?;
+    }
+    Ok(Seq::from_vec(bodies))
+}
+
+fn starts_of(alloc: Global, count: u16) -> Result<Nums, AllocError> {
     let mut starts = Vec::new(alloc);
     for _ in 0..count {
         starts.push(0)?;
@@ -64,81 +160,48 @@ fn starts(alloc: Global, count: u16) -> Result<Nums, AllocError> {
     Ok(Seq::from_vec(starts))
 }
 
-/// A statement of this body, inside that one.
-pub(crate) fn stmt(body: u16, parent: Option<u32>, kind: Kind) -> Stmt {
-    Stmt {
-        place: Place { line: 1, column: 1 },
-        body,
-        parent,
-        kind,
-    }
-}
-
-/// A program without semaphores and channels; its shared variables are scalars, but for the lengths
-/// given.
-pub(crate) fn program(
+// A program without semaphores and channels; its shared variables are scalars, but for the lengths
+// given.
+fn table(
     alloc: Global,
     shared: &[Option<u16>],
     exprs: &[Expr],
-    stmts: Vec<Stmt>,
+    lines: &[Line],
     frames: &[Frame],
     functions: u16,
 ) -> Result<Program, AllocError> {
-    let (shared, count) = vars(alloc, shared)?;
-    let starts = starts(alloc, count)?;
-    let mut bodies = Vec::new(alloc);
-    for frame in frames {
-        bodies.push(body(alloc, frame)?)?;
-    }
+    let stmts = stmts_of(alloc, lines)?;
+    let bodies = bodies_of(alloc, frames)?;
+    let vars = vars_of(alloc, shared)?;
+    let starts = starts_of(alloc, cell_count(shared))?;
     Ok(Program {
         exprs: Seq::from_vec(Vec::from_slice(alloc, exprs)?),
-        stmts: Seq::from_vec(stmts),
-        bodies: Seq::from_vec(bodies),
+        stmts,
+        bodies,
         functions,
-        shared,
+        shared: vars,
         starts,
         sems: Seq::new(alloc),
         chans: Seq::new(alloc),
     })
 }
 
-fn call(alloc: Global, function: u16) -> Kind {
-    Kind::Call {
-        function,
-        args: Seq::new(alloc),
-        into: None,
-    }
-}
-
 // shared int x; void f() { x = 4; } process a { x = 1; f(); print(x); }
 pub(crate) fn callee_write(alloc: Global) -> Result<Program, AllocError> {
     let exprs = [Expr::Const(4), Expr::Const(1), Expr::Shared(0)];
-    let mut stmts = Vec::new(alloc);
-    stmts.push(stmt(0, None, Kind::Set(Target::Shared(0), 0)))?;
-    stmts.push(stmt(0, None, Kind::Return(None)))?;
-    stmts.push(stmt(1, None, Kind::Set(Target::Shared(0), 1)))?;
-    stmts.push(stmt(1, None, call(alloc, 0)))?;
-    stmts.push(stmt(1, None, Kind::Print(2)))?;
-    stmts.push(stmt(1, None, Kind::End))?;
-    let frames = [
-        Frame {
-            process: false,
-            value: false,
-            locals: &[],
-            top: &[0, 1],
-            first: 0,
-            end: 2,
-        },
-        Frame {
-            process: true,
-            value: false,
-            locals: &[],
-            top: &[2, 3, 4, 5],
-            first: 2,
-            end: 6,
-        },
+    let lines = [
+        at(0, None, Act::Set(Target::Shared(0), 0)),
+        at(0, None, Act::Return(None)),
+        at(1, None, Act::Set(Target::Shared(0), 1)),
+        at(1, None, Act::Call(0, None)),
+        at(1, None, Act::Print(2)),
+        at(1, None, Act::End),
     ];
-    program(alloc, &[None], &exprs, stmts, &frames, 1)
+    let frames = [
+        function(&[], &[0, 1], 0, 2),
+        process(&[], &[2, 3, 4, 5], 2, 6),
+    ];
+    table(alloc, &[None], &exprs, &lines, &frames, 1)
 }
 
 // void g() { int k; if (k) { k = 1; } return; }
@@ -159,102 +222,55 @@ pub(crate) fn loops_and_branches(alloc: Global) -> Result<Program, AllocError> {
         local,
         Expr::Const(3),
     ];
-    let set = Target::Local(0);
-    let mut stmts = Vec::new(alloc);
-    stmts.push(stmt(0, None, Kind::If(0, ids(alloc, &[1])?, Seq::new(alloc))))?;
-    stmts.push(stmt(0, Some(0), Kind::Set(set, 1)))?;
-    stmts.push(stmt(0, None, Kind::Return(None)))?;
-    stmts.push(stmt(1, None, Kind::Set(set, 2)))?;
-    stmts.push(stmt(1, None, Kind::If(3, Seq::new(alloc), ids(alloc, &[5])?)))?;
-    stmts.push(stmt(1, Some(4), Kind::Set(set, 4)))?;
-    stmts.push(stmt(1, None, Kind::While(5, Seq::new(alloc))))?;
-    stmts.push(stmt(1, None, Kind::While(6, ids(alloc, &[8, 10])?)))?;
-    stmts.push(stmt(1, Some(7), Kind::While(7, ids(alloc, &[9])?)))?;
-    stmts.push(stmt(1, Some(8), Kind::Set(set, 8)))?;
-    stmts.push(stmt(1, Some(7), Kind::If(9, ids(alloc, &[11])?, Seq::new(alloc))))?;
-    stmts.push(stmt(1, Some(10), Kind::Set(set, 10)))?;
-    stmts.push(stmt(1, None, Kind::End))?;
-    let frames = [
-        Frame {
-            process: false,
-            value: false,
-            locals: &[None],
-            top: &[0, 2],
-            first: 0,
-            end: 3,
-        },
-        Frame {
-            process: true,
-            value: false,
-            locals: &[None],
-            top: &[3, 4, 6, 7, 12],
-            first: 3,
-            end: 13,
-        },
+    let cell = Target::Local(0);
+    let lines = [
+        at(0, None, Act::If(0, &[1], &[])),
+        at(0, Some(0), Act::Set(cell, 1)),
+        at(0, None, Act::Return(None)),
+        at(1, None, Act::Set(cell, 2)),
+        at(1, None, Act::If(3, &[], &[5])),
+        at(1, Some(4), Act::Set(cell, 4)),
+        at(1, None, Act::While(5, &[])),
+        at(1, None, Act::While(6, &[8, 10])),
+        at(1, Some(7), Act::While(7, &[9])),
+        at(1, Some(8), Act::Set(cell, 8)),
+        at(1, Some(7), Act::If(9, &[11], &[])),
+        at(1, Some(10), Act::Set(cell, 10)),
+        at(1, None, Act::End),
     ];
-    program(alloc, &[], &exprs, stmts, &frames, 1)
+    let frames = [
+        function(&[None], &[0, 2], 0, 3),
+        process(&[None], &[3, 4, 6, 7, 12], 3, 13),
+    ];
+    table(alloc, &[], &exprs, &lines, &frames, 1)
 }
 
 // shared int x, y, z; void f() { x = 1; g(); } void g() { h(); } void h() { y = z; f(); }
 // process p { print(x); } process q { g(); }
 pub(crate) fn round(alloc: Global) -> Result<Program, AllocError> {
     let exprs = [Expr::Const(1), Expr::Shared(2), Expr::Shared(0)];
-    let mut stmts = Vec::new(alloc);
-    stmts.push(stmt(0, None, Kind::Set(Target::Shared(0), 0)))?;
-    stmts.push(stmt(0, None, call(alloc, 1)))?;
-    stmts.push(stmt(0, None, Kind::Return(None)))?;
-    stmts.push(stmt(1, None, call(alloc, 2)))?;
-    stmts.push(stmt(1, None, Kind::Return(None)))?;
-    stmts.push(stmt(2, None, Kind::Set(Target::Shared(1), 1)))?;
-    stmts.push(stmt(2, None, call(alloc, 0)))?;
-    stmts.push(stmt(2, None, Kind::Return(None)))?;
-    stmts.push(stmt(3, None, Kind::Print(2)))?;
-    stmts.push(stmt(3, None, Kind::End))?;
-    stmts.push(stmt(4, None, call(alloc, 1)))?;
-    stmts.push(stmt(4, None, Kind::End))?;
-    let frames = [
-        Frame {
-            process: false,
-            value: false,
-            locals: &[],
-            top: &[0, 1, 2],
-            first: 0,
-            end: 3,
-        },
-        Frame {
-            process: false,
-            value: false,
-            locals: &[],
-            top: &[3, 4],
-            first: 3,
-            end: 5,
-        },
-        Frame {
-            process: false,
-            value: false,
-            locals: &[],
-            top: &[5, 6, 7],
-            first: 5,
-            end: 8,
-        },
-        Frame {
-            process: true,
-            value: false,
-            locals: &[],
-            top: &[8, 9],
-            first: 8,
-            end: 10,
-        },
-        Frame {
-            process: true,
-            value: false,
-            locals: &[],
-            top: &[10, 11],
-            first: 10,
-            end: 12,
-        },
+    let lines = [
+        at(0, None, Act::Set(Target::Shared(0), 0)),
+        at(0, None, Act::Call(1, None)),
+        at(0, None, Act::Return(None)),
+        at(1, None, Act::Call(2, None)),
+        at(1, None, Act::Return(None)),
+        at(2, None, Act::Set(Target::Shared(1), 1)),
+        at(2, None, Act::Call(0, None)),
+        at(2, None, Act::Return(None)),
+        at(3, None, Act::Print(2)),
+        at(3, None, Act::End),
+        at(4, None, Act::Call(1, None)),
+        at(4, None, Act::End),
     ];
-    program(alloc, &[None, None, None], &exprs, stmts, &frames, 3)
+    let frames = [
+        function(&[], &[0, 1, 2], 0, 3),
+        function(&[], &[3, 4], 3, 5),
+        function(&[], &[5, 6, 7], 5, 8),
+        process(&[], &[8, 9], 8, 10),
+        process(&[], &[10, 11], 10, 12),
+    ];
+    table(alloc, &[None, None, None], &exprs, &lines, &frames, 3)
 }
 
 // shared int u, a[3], v; process p { int b[2], i, k; while (a[i]) { b[1] = v; a[0] = b[k - u]; } }
@@ -288,52 +304,27 @@ pub(crate) fn arrays(alloc: Global) -> Result<Program, AllocError> {
         len: 3,
         at: 4,
     };
-    let mut stmts = Vec::new(alloc);
-    stmts.push(stmt(0, None, Kind::While(1, ids(alloc, &[1, 2])?)))?;
-    stmts.push(stmt(0, Some(0), Kind::Set(local, 3)))?;
-    stmts.push(stmt(0, Some(0), Kind::Set(shared, 8)))?;
-    stmts.push(stmt(0, None, Kind::End))?;
-    let frames = [Frame {
-        process: true,
-        value: false,
-        locals: &[Some(2), None, None],
-        top: &[0, 3],
-        first: 0,
-        end: 4,
-    }];
-    program(alloc, &[None, Some(3), None], &exprs, stmts, &frames, 0)
+    let lines = [
+        at(0, None, Act::While(1, &[1, 2])),
+        at(0, Some(0), Act::Set(local, 3)),
+        at(0, Some(0), Act::Set(shared, 8)),
+        at(0, None, Act::End),
+    ];
+    let frames = [process(&[Some(2), None, None], &[0, 3], 0, 4)];
+    table(alloc, &[None, Some(3), None], &exprs, &lines, &frames, 0)
 }
 
 // int f() { return 7; } process a { int v, i; while (i) { v = f(); } }
 pub(crate) fn call_in_loop(alloc: Global) -> Result<Program, AllocError> {
     let exprs = [Expr::Const(7), Expr::Local(1)];
-    let received = Kind::Call {
-        function: 0,
-        args: Seq::new(alloc),
-        into: Some(0),
-    };
-    let mut stmts = Vec::new(alloc);
-    stmts.push(stmt(0, None, Kind::Return(Some(0))))?;
-    stmts.push(stmt(1, None, Kind::While(1, ids(alloc, &[2])?)))?;
-    stmts.push(stmt(1, Some(1), received))?;
-    stmts.push(stmt(1, None, Kind::End))?;
-    let frames = [
-        Frame {
-            process: false,
-            value: true,
-            locals: &[],
-            top: &[0],
-            first: 0,
-            end: 1,
-        },
-        Frame {
-            process: true,
-            value: false,
-            locals: &[None, None],
-            top: &[1, 3],
-            first: 1,
-            end: 4,
-        },
+    let lines = [
+        at(0, None, Act::Return(Some(0))),
+        at(1, None, Act::While(1, &[2])),
+        at(1, Some(1), Act::Call(0, Some(0))),
+        at(1, None, Act::End),
     ];
-    program(alloc, &[], &exprs, stmts, &frames, 1)
+    let mut f = function(&[], &[0], 0, 1);
+    f.value = true;
+    let frames = [f, process(&[None, None], &[1, 3], 1, 4)];
+    table(alloc, &[], &exprs, &lines, &frames, 1)
 }
