@@ -110,8 +110,14 @@ fn a_leaf_function_is_no_block(rt: HostRuntime) -> Result<(), Fail> {
     for leaf in [0, 2] {
         let plan = plan_of(rt.alloc(), &program, leaf, 0);
         assert!(rt; counts(&plan, 2, 3), "{leaf}");
-        assert!(rt; has_block(&plan, 0, BlockKind::Function(0), &[0], &[]), "{leaf}");
-        assert!(rt; has_block(&plan, 1, BlockKind::Process(1), &[], &[]), "{leaf}");
+        assert!(rt;
+            has_block(&plan, 0, BlockKind::Function(0), &[0], &[]),
+            "{leaf}"
+        );
+        assert!(rt;
+            has_block(&plan, 1, BlockKind::Process(1), &[], &[]),
+            "{leaf}"
+        );
     }
     let plan = plan_of(rt.alloc(), &program, 3, 0);
     assert!(rt; counts(&plan, 1, 3));
@@ -136,7 +142,10 @@ fn units_end_at_the_borders_of_a_block_loop(rt: HostRuntime) -> Result<(), Fail>
     for loops in [0, 3] {
         let other = plan_of(rt.alloc(), &program, 0, loops);
         assert!(rt; counts(&other, 2, 3), "{loops}");
-        assert!(rt; has_unit(&other, 1, Start::Entry(1), &[0, 1, 2, 3]), "{loops}");
+        assert!(rt;
+            has_unit(&other, 1, Start::Entry(1), &[0, 1, 2, 3]),
+            "{loops}"
+        );
         assert!(rt; has_unit(&other, 2, Start::After(4), &[1, 2, 3]), "{loops}");
     }
     Ok(())

@@ -419,9 +419,6 @@ pub(crate) fn call_in_a_shared_loop(alloc: Global) -> Result<Program, AllocError
         at(1, None, Act::Print(3)),
         at(1, None, Act::End),
     ];
-    let frames = [
-        function(&[], &[0], 0, 1),
-        process(&[], &[1, 2, 5, 6], 1, 7),
-    ];
+    let frames = [function(&[], &[0], 0, 1), process(&[], &[1, 2, 5, 6], 1, 7)];
     table(alloc, &[None, None, None, None], &exprs, &lines, &frames, 1)
 }
