@@ -1,5 +1,5 @@
 ghost use Rattle.std.specs.Prelude.{◌≡◌, ◌↔◌, ◌<◌, length, IsTrue, IfOk};
-ghost use Rattle.ppd_cfg.specs.Flow.{next_of};
+ghost use Rattle.ppd_cfg.specs.Flow.{follow, next_of};
 ghost use Rattle.ppd_cfg.specs.Cfgs.{HasStmt, row_of, IsGraphOf};
 
 use crate::follow::{follow, successors_by};
@@ -32,8 +32,17 @@ impl Cfg {
     }
 }
 
-// The successors of a statement; none where there is no such statement.
-fn successors_of(alloc: Global, program: &Program, stmt: u32) -> Result<Ids, Memory>
+/// What follows a statement: the next of its list, or else what follows the list; after the last of
+/// a `while` body the `while`.
+pub fn next_after(program: &Program, stmt: u32) -> Option<u32>
+    ensures { result ≡ follow program.now stmt }
+{
+    follow(program, stmt, MOST_NESTING)
+}
+
+/// The successors of a statement, rising, each once; none where there is no such statement.
+/// `Memory` is want of memory.
+pub fn successors_of(alloc: Global, program: &Program, stmt: u32) -> Result<Ids, Memory>
     ensures { IfOk result (λ ids. ids ≡ next_of program.now stmt) }
 {
     match program.stmts.as_slice().get(stmt as usize) {

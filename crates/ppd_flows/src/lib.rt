@@ -1,6 +1,8 @@
-//! Flow graphs, sets of cells and sets of variables of worked programs: tests.
+//! Flow graphs, sets of cells, sets of variables and plans of worked programs: tests.
 #![tactic(auto)]
 
+#[cfg(test)]
+mod plans;
 #[cfg(test)]
 mod tables;
 #[cfg(test)]

@@ -9,7 +9,7 @@ enum Act<'a> {
     Set(Target, u32),
     If(u32, &'a [u32], &'a [u32]),
     While(u32, &'a [u32]),
-    Call(u16, Option<u16>),
+    Call(u16, &'a [u32], Option<u16>),
     Return(Option<u32>),
     Print(u32),
     End,
@@ -26,6 +26,7 @@ struct Line<'a> {
 #[derive(Clone, Copy)]
 struct Frame<'a> {
     process: bool,
+    params: u16,
     value: bool,
     locals: &'a [Option<u16>],
     top: &'a [u32],
@@ -40,6 +41,7 @@ fn at(body: u16, parent: Option<u32>, act: Act) -> Line {
 fn process<'a>(locals: &'a [Option<u16>], top: &'a [u32], first: u32, end: u32) -> Frame<'a> {
     Frame {
         process: true,
+        params: 0,
         value: false,
         locals,
         top,
@@ -51,6 +53,7 @@ fn process<'a>(locals: &'a [Option<u16>], top: &'a [u32], first: u32, end: u32) 
 fn function<'a>(locals: &'a [Option<u16>], top: &'a [u32], first: u32, end: u32) -> Frame<'a> {
     Frame {
         process: false,
+        params: 0,
         value: false,
         locals,
         top,
@@ -72,9 +75,9 @@ fn kind_of(alloc: Global, act: Act) -> Result<Kind, AllocError> {
             Kind::If(value, first, second)
         }
         Act::While(value, list) => Kind::While(value, ids(alloc, list)?),
-        Act::Call(function, into) => Kind::Call {
+        Act::Call(function, args, into) => Kind::Call {
             function,
-            args: Seq::new(alloc),
+            args: ids(alloc, args)?,
             into,
         },
         Act::Return(value) => Kind::Return(value),
@@ -133,7 +136,7 @@ fn body_of(alloc: Global, frame: &Frame) -> Result<Body, AllocError> {
     Ok(Body {
         name: Seq::new(alloc),
         process: frame.process,
-        params: 0,
+        params: frame.params,
         value: frame.value,
         cells: cell_count(frame.locals),
         locals,
@@ -193,7 +196,7 @@ pub(crate) fn callee_write(alloc: Global) -> Result<Program, AllocError> {
         at(0, None, Act::Set(Target::Shared(0), 0)),
         at(0, None, Act::Return(None)),
         at(1, None, Act::Set(Target::Shared(0), 1)),
-        at(1, None, Act::Call(0, None)),
+        at(1, None, Act::Call(0, &[], None)),
         at(1, None, Act::Print(2)),
         at(1, None, Act::End),
     ];
@@ -251,16 +254,16 @@ pub(crate) fn round(alloc: Global) -> Result<Program, AllocError> {
     let exprs = [Expr::Const(1), Expr::Shared(2), Expr::Shared(0)];
     let lines = [
         at(0, None, Act::Set(Target::Shared(0), 0)),
-        at(0, None, Act::Call(1, None)),
+        at(0, None, Act::Call(1, &[], None)),
         at(0, None, Act::Return(None)),
-        at(1, None, Act::Call(2, None)),
+        at(1, None, Act::Call(2, &[], None)),
         at(1, None, Act::Return(None)),
         at(2, None, Act::Set(Target::Shared(1), 1)),
-        at(2, None, Act::Call(0, None)),
+        at(2, None, Act::Call(0, &[], None)),
         at(2, None, Act::Return(None)),
         at(3, None, Act::Print(2)),
         at(3, None, Act::End),
-        at(4, None, Act::Call(1, None)),
+        at(4, None, Act::Call(1, &[], None)),
         at(4, None, Act::End),
     ];
     let frames = [
@@ -320,11 +323,102 @@ pub(crate) fn call_in_loop(alloc: Global) -> Result<Program, AllocError> {
     let lines = [
         at(0, None, Act::Return(Some(0))),
         at(1, None, Act::While(1, &[2])),
-        at(1, Some(1), Act::Call(0, Some(0))),
+        at(1, Some(1), Act::Call(0, &[], Some(0))),
         at(1, None, Act::End),
     ];
     let mut f = function(&[], &[0], 0, 1);
     f.value = true;
     let frames = [f, process(&[None, None], &[1, 3], 1, 4)];
     table(alloc, &[], &exprs, &lines, &frames, 1)
+}
+
+// int f() { return 7; } process a { int v; int i = 0; while (i < 1) { v = f(); i = i + 1; } print(v); }
+pub(crate) fn block_loop(alloc: Global) -> Result<Program, AllocError> {
+    let exprs = [
+        Expr::Const(7),
+        Expr::Const(0),
+        Expr::Const(0),
+        Expr::Local(1),
+        Expr::Const(1),
+        Expr::Two(Op::Lt, 3, 4),
+        Expr::Local(1),
+        Expr::Const(1),
+        Expr::Two(Op::Add, 6, 7),
+        Expr::Local(0),
+    ];
+    let lines = [
+        at(0, None, Act::Return(Some(0))),
+        at(1, None, Act::Set(Target::Local(0), 1)),
+        at(1, None, Act::Set(Target::Local(1), 2)),
+        at(1, None, Act::While(5, &[4, 5])),
+        at(1, Some(3), Act::Call(0, &[], Some(0))),
+        at(1, Some(3), Act::Set(Target::Local(1), 8)),
+        at(1, None, Act::Print(9)),
+        at(1, None, Act::End),
+    ];
+    let mut f = function(&[], &[0], 0, 1);
+    f.value = true;
+    let frames = [f, process(&[None, None], &[1, 2, 3, 6, 7], 1, 8)];
+    table(alloc, &[], &exprs, &lines, &frames, 1)
+}
+
+// process a { int i = 3; while (i < 3) { i = i + 1; } print(i); }
+pub(crate) fn loop_never_entered(alloc: Global) -> Result<Program, AllocError> {
+    let exprs = [
+        Expr::Const(3),
+        Expr::Local(0),
+        Expr::Const(3),
+        Expr::Two(Op::Lt, 1, 2),
+        Expr::Local(0),
+        Expr::Const(1),
+        Expr::Two(Op::Add, 4, 5),
+        Expr::Local(0),
+    ];
+    let lines = [
+        at(0, None, Act::Set(Target::Local(0), 0)),
+        at(0, None, Act::While(3, &[2])),
+        at(0, Some(1), Act::Set(Target::Local(0), 6)),
+        at(0, None, Act::Print(7)),
+        at(0, None, Act::End),
+    ];
+    let frames = [process(&[None], &[0, 1, 3, 4], 0, 5)];
+    table(alloc, &[], &exprs, &lines, &frames, 0)
+}
+
+// shared int x; void f(int k) { x = k; } process a { f(9); print(x); }
+pub(crate) fn leaf_function(alloc: Global) -> Result<Program, AllocError> {
+    let exprs = [Expr::Local(0), Expr::Const(9), Expr::Shared(0)];
+    let lines = [
+        at(0, None, Act::Set(Target::Shared(0), 0)),
+        at(0, None, Act::Return(None)),
+        at(1, None, Act::Call(0, &[1], None)),
+        at(1, None, Act::Print(2)),
+        at(1, None, Act::End),
+    ];
+    let mut f = function(&[None], &[0, 1], 0, 2);
+    f.params = 1;
+    let frames = [f, process(&[], &[2, 3, 4], 2, 5)];
+    table(alloc, &[None], &exprs, &lines, &frames, 1)
+}
+
+// shared int x, y, z, u; void f() { }
+// process p { print(x); while (y) { if (z) { f(); } } print(u); }
+pub(crate) fn call_in_a_shared_loop(alloc: Global) -> Result<Program, AllocError> {
+    let exprs = [
+        Expr::Shared(0),
+        Expr::Shared(1),
+        Expr::Shared(2),
+        Expr::Shared(3),
+    ];
+    let lines = [
+        at(0, None, Act::Return(None)),
+        at(1, None, Act::Print(0)),
+        at(1, None, Act::While(1, &[3])),
+        at(1, Some(2), Act::If(2, &[4], &[])),
+        at(1, Some(3), Act::Call(0, &[], None)),
+        at(1, None, Act::Print(3)),
+        at(1, None, Act::End),
+    ];
+    let frames = [function(&[], &[0], 0, 1), process(&[], &[1, 2, 5, 6], 1, 7)];
+    table(alloc, &[None, None, None, None], &exprs, &lines, &frames, 1)
 }

@@ -28,7 +28,7 @@ use Rattle.ppd_sets.specs.Laws.{LoopDefinedByStatements, LoopUsedByStatements}
 local_below : (base len n c : ℕ) → base + len ≤ n → IsTrue (has (local_cells false base len) c) → c < n
 local_below base len n c l h = let inside = below_range base len c h in omega (arith, l, inside.1)
 
-cells_below : (m n : ℕ) (t : Term) (c : ℕ) → AreBelow m n t → IsTrue (has (cells_in false t) c) → c < n
+pub cells_below : (m n : ℕ) (t : Term) (c : ℕ) → AreBelow m n t → IsTrue (has (cells_in false t) c) → c < n
 cells_below m n (const v) c b h = absurd (true≢false (sym h))
 cells_below m n (local x) c b h = local_below x 1 n c (omega (arith, b)) h
 cells_below m n (local_at base len i) c b h =
@@ -48,7 +48,7 @@ target_cells_below m n (T.Shared x) c b h = absurd (true≢false (sym h))
 target_cells_below m n (T.SharedAt base len i) c b h = absurd (true≢false (sym h))
 
 module _ (shareds locals : List Var) (m n : ℕ) (over : CoverCells shareds m) (under : CoverCells locals n) where
-  writes_below : (k : Kind) (c : ℕ) → WritesWhole shareds locals k → IsTrue (has (writes false k) c) → c < n
+  pub writes_below : (k : Kind) (c : ℕ) → WritesWhole shareds locals k → IsTrue (has (writes false k) c) → c < n
   writes_below (K.Set t e) c w h = target_cells_below m n t c (target_below shareds locals m n over under t w) h
   writes_below (K.Zero base len) c w h = local_below base len n c (array_below locals n base len under w) h
   writes_below (K.Call f args None) c w h = absurd (true≢false (sym h))

@@ -1,11 +1,12 @@
-ghost use Rattle.std.specs.Prelude.{[], ◌∷◌};
+ghost use Rattle.std.specs.Prelude.{[], ◌∷◌, true};
 ghost use Rattle.ppd_ast.specs.Table.{EachAt, AreChildrenBelow};
 ghost use Rattle.ppd_ast.specs.Term.{term};
+ghost use Rattle.ppd_ast.specs.Valid.{IsValid};
 ghost use Rattle.ppd_sets.specs.Named.{shared_cells, local_cells, cells_in, reads, target_cells, writes};
 ghost use Rattle.ppd_sets.specs.Gained.{Gains};
 ghost use Rattle.std.specs.List.{flat_map, range_with_len};
 
-use ppd_ast::{Expr, Kind, Target};
+use ppd_ast::{Expr, Kind, Program, Target};
 use ppd_bits::CellSet;
 
 // Adds the cell. None of a valid program is 1,024 or more.
@@ -106,6 +107,14 @@ pub(crate) fn add_reads(cells: &mut CellSet, wants_shared: bool, exprs: &[Expr],
         Kind::Return(None) | Kind::Zero { .. } | Kind::P(_) | Kind::V(_) => {}
         Kind::Recv(_, _) | Kind::End => {}
     }
+}
+
+/// Adds the shared cells that a statement's expressions may read, arrays whole.
+pub fn add_shared_reads(cells: &mut CellSet, program: &Program, kind: &Kind)
+    requires { IsValid program.now }
+    ensures { Gains cells.old cells.new (reads true program.now.exprs kind.now) }
+{
+    add_reads(cells, true, program.exprs.as_slice(), kind)
 }
 
 fn add_target(cells: &mut CellSet, wants_shared: bool, target: &Target)

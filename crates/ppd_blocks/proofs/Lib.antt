@@ -1,0 +1,4 @@
+pub mod Listing
+pub mod Looping
+pub mod Filling
+pub mod Validity

@@ -1,0 +1,119 @@
+-- The local cells of a loop are cells of its body's frame.
+use Rattle.std.proofs.Common.{◌≡◌, ℕ, zero, suc, ◌+◌, ◌<◌, ◌≤◌, List, [], ◌∷◌, ◌++◌, Bool, true, false, Option, Some, None, length, refl, sym, ap, ◌∙◌, subst, arith, inl, inr, true≢false}
+use Rattle.std.specs.Prelude.{IsTrue, IsSomeAnd, slice_get, if◌then◌else◌}
+use Rattle.std.specs.List.{flat_map}
+use Rattle.std.specs.List.Sorted.{IsStrictlyIncreasing}
+use Rattle.ppd_ast.specs.declared.program.Kind.{Kind}
+use Rattle.ppd_ast.specs.declared.program.Stmt.{Stmt}
+use Rattle.ppd_ast.specs.declared.program.Body.{Body}
+use Rattle.ppd_ast.specs.declared.program.Program.{Program}
+use Rattle.ppd_ast.specs.Numbered.{is_while}
+use Rattle.ppd_ast.specs.Order.{preorder, inner, inner_of, inner_at}
+use Rattle.ppd_ast.specs.Term.{term}
+use Rattle.ppd_ast.specs.Uses.{kind_uses}
+use Rattle.ppd_ast.specs.Valid.{IsValid}
+use Rattle.ppd_ast.specs.ValidPlan.{AreCells}
+use Rattle.ppd_ast.proofs.ValidLaws.{AreBelow, stmt_in_body, uses_below, valid_body, valid_stmt, some_and}
+use Rattle.ppd_cfg.specs.Flow.{kind_of, kind_of_stmt}
+use Rattle.ppd_cfg.specs.Lists.{has}
+use Rattle.ppd_cfg.proofs.Has.{all_has, flat_gives, has_cases, has_cons}
+use Rattle.ppd_sets.specs.Named.{cells_in, reads, writes}
+use Rattle.ppd_sets.proofs.Looping.{cells_below, writes_below}
+use Rattle.ppd_sets.specs.Used.{loop_defined_of, loop_stmts, loop_used_of, reads_at, sorted, writes_at}
+use Rattle.ppd_units.proofs.Paths.{sorted_rises, sorted_gives, all_from}
+
+-- ---- the statements inside a loop are of its body
+
+-- the statement is there and in this body
+InBody : Program → ℕ → ℕ → Type 0
+InBody p b t = (y : Stmt) × (slice_get p.stmts t ≡ Some y) × (y.body ≡ b)
+
+child_in : (p : Program) (t c b : ℕ) (o : Option Stmt) → IsValid p → slice_get p.stmts t ≡ o → IsTrue (has (inner_of o) c) → InBody p b t → InBody p b c
+unfolding InBody
+child_in p t c b None v at h k = absurd (true≢false (sym h))
+child_in p t c b (Some x) v at h k =
+    let stands = all_has (λ i. IsSomeAnd (slice_get p.stmts i) (λ s. (s.parent ≡ Some t) × (s.body ≡ x.body))) (inner x.kind) c (valid_stmt p t x v at).inside h in
+    let y = some_and (λ (s : Stmt). (s.parent ≡ Some t) × (s.body ≡ x.body)) (slice_get p.stmts c) stands in
+    let same : Some k.0 ≡ Some x = sym k.1 ∙ at in
+    let is : k.0 ≡ x = cc in
+    (y.0, y.1, y.2.1 ∙ ap (λ (s : Stmt). s.body) (sym is) ∙ k.2)
+
+inside_in : (d : ℕ) (p : Program) (t s b : ℕ) → IsValid p → InBody p b t → IsTrue (has (preorder d p.stmts t) s) → InBody p b s
+unfolding preorder
+inside_in zero p t s b v k h = absurd (true≢false (sym h))
+inside_in (suc d) p t s b v k h =
+    elim (has_cons t s (flat_map (preorder d p.stmts) (inner_at p.stmts t)) h) [
+      | inl same ↦ subst (InBody p b) same k
+      | inr later ↦
+          let c = flat_gives (preorder d p.stmts) (inner_at p.stmts t) s later in
+          inside_in d p c.0 s b v (child_in p t c.0 b (slice_get p.stmts t) v refl c.1 k) c.2
+    ]
+
+itself : (p : Program) (q : ℕ) (x : Stmt) → slice_get p.stmts q ≡ Some x → InBody p x.body q
+unfolding InBody
+itself p q x at = (x, at, refl)
+
+loop_in_body : (p : Program) (q s : ℕ) (x : Stmt) → IsValid p → slice_get p.stmts q ≡ Some x → IsTrue (has (loop_stmts p q) s) → InBody p x.body s
+loop_in_body p q s x v at h = inside_in 64 p q s x.body v (itself p q x at) h
+
+-- ---- what a statement names lies in its frame
+
+reads_in_frame : (p : Program) (s c : ℕ) (b : Body) (x : Stmt) → IsValid p → slice_get p.stmts s ≡ Some x → slice_get p.bodies x.body ≡ Some b → IsTrue (has (reads_at false p s) c) → c < b.cells
+reads_in_frame p s c b x v at is h =
+    let g = stmt_in_body p s x v at in
+    let same : Some g.0 ≡ Some b = sym g.1 ∙ is in
+    let body : g.0 ≡ b = cc in
+    let read : IsTrue (has (reads false p.exprs x.kind) c) = subst (λ (k : Kind). IsTrue (has (reads false p.exprs k) c)) (ap kind_of_stmt at) h in
+    let e = flat_gives (λ e. cells_in false (term p.exprs e)) (kind_uses x.kind) c read in
+    let below = all_has (λ e. AreBelow (length p.starts) g.0.cells (term p.exprs e)) (kind_uses x.kind) e.0 (uses_below p x.body s g.0 x.kind v g.1 g.2) e.1 in
+    subst (λ (y : Body). c < y.cells) body (cells_below (length p.starts) g.0.cells (term p.exprs e.0) c below e.2)
+
+writes_in_frame : (p : Program) (s c : ℕ) (b : Body) (x : Stmt) → IsValid p → slice_get p.stmts s ≡ Some x → slice_get p.bodies x.body ≡ Some b → IsTrue (has (writes_at false p s) c) → c < b.cells
+writes_in_frame p s c b x v at is h =
+    let g = stmt_in_body p s x v at in
+    let same : Some g.0 ≡ Some b = sym g.1 ∙ is in
+    let body : g.0 ≡ b = cc in
+    let written : IsTrue (has (writes false x.kind) c) = subst (λ (k : Kind). IsTrue (has (writes false k) c)) (ap kind_of_stmt at) h in
+    let valid = valid_body p x.body g.0 v g.1 in
+    subst (λ (y : Body). c < y.cells) body (writes_below p.shared g.0.locals (length p.starts) g.0.cells v.cells valid.cells x.kind c g.2.writes written)
+
+-- ---- so do the cells of a loop
+
+module _ (p : Program) (q : ℕ) (x : Stmt) (b : Body) (v : IsValid p) (at : slice_get p.stmts q ≡ Some x) (is : slice_get p.bodies x.body ≡ Some b) where
+  read_below_in : (s c : ℕ) → InBody p x.body s → IsTrue (has (reads_at false p s) c) → c < b.cells
+  unfolding InBody
+  read_below_in s c k h = reads_in_frame p s c b k.0 v k.1 (ap (slice_get p.bodies) k.2 ∙ is) h
+
+  read_below : (s c : ℕ) → IsTrue (has (loop_stmts p q) s) → IsTrue (has (reads_at false p s) c) → c < b.cells
+  read_below s c i h = read_below_in s c (loop_in_body p q s x v at i) h
+
+  written_below_in : (s c : ℕ) → InBody p x.body s → IsTrue (has (writes_at false p s) c) → c < b.cells
+  unfolding InBody
+  written_below_in s c k h = writes_in_frame p s c b k.0 v k.1 (ap (slice_get p.bodies) k.2 ∙ is) h
+
+  written_below : (s c : ℕ) → IsTrue (has (loop_stmts p q) s) → IsTrue (has (writes_at false p s) c) → c < b.cells
+  written_below s c i h = written_below_in s c (loop_in_body p q s x v at i) h
+
+  of_while : (f : ℕ → List ℕ) (test : Bool) (c : ℕ) → IsTrue (has (if test then sorted (flat_map f (loop_stmts p q)) else []) c) → IsTrue (has (flat_map f (loop_stmts p q)) c)
+  of_while f true c h = sorted_gives (flat_map f (loop_stmts p q)) c h
+  of_while f false c h = absurd (true≢false (sym h))
+
+  used_below : (c : ℕ) → IsTrue (has (loop_used_of p q) c) → c < b.cells
+  used_below c h = let t = flat_gives (reads_at false p) (loop_stmts p q) c (of_while (reads_at false p) (is_while (kind_of p q)) c h) in read_below t.0 c t.1 t.2
+
+  defined_below : (c : ℕ) → IsTrue (has (loop_defined_of p q) c) → c < b.cells
+  defined_below c h = let t = flat_gives (writes_at false p) (loop_stmts p q) c (of_while (writes_at false p) (is_while (kind_of p q)) c h) in written_below t.0 c t.1 t.2
+
+  defined_rises : (test : Bool) → IsStrictlyIncreasing (if test then sorted (flat_map (writes_at false p) (loop_stmts p q)) else [])
+  defined_rises true = sorted_rises (flat_map (writes_at false p) (loop_stmts p q))
+  defined_rises false = λ k h. absurd (omega (arith, h))
+
+  pub prelog_cells : AreCells b.cells (sorted (loop_used_of p q ++ loop_defined_of p q))
+  prelog_cells = record {
+    rising = sorted_rises (loop_used_of p q ++ loop_defined_of p q);
+    below = all_from (λ c. c < b.cells) (sorted (loop_used_of p q ++ loop_defined_of p q))
+        (λ c h. elim (has_cases (loop_used_of p q) (loop_defined_of p q) c (sorted_gives (loop_used_of p q ++ loop_defined_of p q) c h)) [ inl l ↦ used_below c l | inr r ↦ defined_below c r ]);
+  }
+
+  pub postlog_cells : AreCells b.cells (loop_defined_of p q)
+  postlog_cells = record { rising = defined_rises (is_while (kind_of p q)); below = all_from (λ c. c < b.cells) (loop_defined_of p q) defined_below }

@@ -1,0 +1,9 @@
+use Rattle.std.proofs.Common.{◌∙◌, sym}
+use Rattle.ppd_blocks.proofs.Filling.{defined_row, defined_none}
+use Rattle.ppd_blocks.proofs.blocks.loop_defined.Goals as goal
+
+pub returns-then-has_stmt : goal.returns-then-has_stmt
+returns-then-has_stmt c = c.loop_defined.ensures ∙ defined_row c.args.program.now c.args.sets.now c.args.stmt c.requires (c.has_stmt.ensures.0 c.if-has_stmt.true).1
+
+pub returns-else-has_stmt : goal.returns-else-has_stmt
+returns-else-has_stmt c = defined_none c.args.program.now c.args.sets.now c.args.stmt c.has_stmt.result c.requires c.has_stmt.ensures c.if-has_stmt.false

@@ -1,0 +1,2 @@
+-- The plan of a policy.
+pub mod Blocks

@@ -1,0 +1,4 @@
+pub mod Fitting
+pub mod Staying
+pub mod Reading
+pub mod Paths

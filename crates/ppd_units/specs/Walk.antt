@@ -1,0 +1,75 @@
+-- What the walk of a unit reaches, and the shared cells that it may read.
+use Rattle.std.specs.Prelude.{ℕ, zero, suc, nat_eq, Bool, true, false, not, ◌&&◌, ◌||◌, List, [], ◌∷◌, map, length, Option, Some, None, slice_get, if◌then◌else◌}
+use Rattle.std.specs.List.{flat_map, range_with_len, filter}
+use Rattle.ppd_ast.specs.declared.program.Stmt.{Stmt}
+use Rattle.ppd_ast.specs.declared.program.Program.{Program}
+use Rattle.ppd_ast.specs.declared.plan.Start.{Start}
+use Rattle.ppd_ast.specs.declared.plan.Start.TheVariants.{Entry, After, Enter, Exit}
+use Rattle.ppd_ast.specs.declared.limits.TheConstants.{MOST_NESTING}
+use Rattle.ppd_ast.specs.Numbered.{is_left}
+use Rattle.ppd_cfg.specs.Lists.{has, those, to_list, first_or}
+use Rattle.ppd_cfg.specs.Reach.{closed, leads}
+use Rattle.ppd_cfg.specs.Flow.{kind_of, top_of, follow, next_of}
+use Rattle.ppd_sets.specs.Used.{reads_at, sorted}
+
+-- ---- the ways of a unit
+
+abbrev pub parent_of : Option Stmt → Option ℕ
+parent_of None = None
+parent_of (Some x) = x.parent
+
+-- whether q is among this statement and those that it stands in, so many of them
+unfoldable pub stands_at : (depth : ℕ) → List Stmt → (q : ℕ) → Option ℕ → Bool
+stands_at zero stmts q o = false
+stands_at (suc d) stmts q None = false
+stands_at (suc d) stmts q (Some s) = nat_eq s q || stands_at d stmts q (parent_of (slice_get stmts s))
+
+-- whether statement s is q or stands in it
+abbrev pub stands_in : Program → (s q : ℕ) → Bool
+stands_in p s q = stands_at MOST_NESTING p.stmts q (Some s)
+
+-- whether the way from statement s to t enters t, a block loop
+abbrev pub enters : Program → (loops : List ℕ) → (s t : ℕ) → Bool
+enters p loops s t = has loops t && not (stands_in p s t)
+
+-- whether the way from statement s to t leaves s, a block loop
+abbrev pub leaves : Program → (loops : List ℕ) → (s t : ℕ) → Bool
+leaves p loops s t = has loops s && not (stands_in p t s)
+
+-- whether a unit starts between statement s and its successor t: after a call or a synchronization, at the
+-- entry of a block loop, or at its exit
+abbrev pub is_between : Program → (loops : List ℕ) → (s t : ℕ) → Bool
+is_between p loops s t = is_left (kind_of p s) || (enters p loops s t || leaves p loops s t)
+
+-- the successors of statement s that are in its unit
+abbrev pub unit_next : Program → (loops : List ℕ) → ℕ → List ℕ
+unit_next p loops s = filter (λ t. not (is_between p loops s t)) (next_of p s)
+
+-- the same of each statement
+abbrev pub unit_rows : Program → (loops : List ℕ) → List (List ℕ)
+unit_rows p loops = map (unit_next p loops) (range_with_len 0 (length p.stmts))
+
+-- ---- where a unit begins
+
+-- the number, but not where the test is true
+abbrev pub unless : (ℕ → Bool) → Option ℕ → Option ℕ
+unless test None = None
+unless test (Some x) = if test x then None else Some x
+
+-- the statement that a unit begins with: of a body's entry the first one, of a block loop's entry its test,
+-- else what follows; none where that is a block loop's entry
+abbrev pub begin_of : Program → (loops : List ℕ) → Start → Option ℕ
+begin_of p loops (Entry b) = unless (has loops) (first_or (top_of p b) None)
+begin_of p loops (After s) = unless (enters p loops s) (follow p s)
+begin_of p loops (Enter s) = Some s
+begin_of p loops (Exit s) = unless (enters p loops s) (follow p s)
+
+-- ---- what it reads
+
+-- the shared cells that the statements may read to which these rows lead from these starts, rising, each once
+abbrev pub cells_along : Program → (rows : List (List ℕ)) → (starts : List ℕ) → List ℕ
+cells_along p rows starts = sorted (flat_map (reads_at true p) (those (length p.stmts) (leads (closed rows) starts)))
+
+-- the shared cells that a unit may read
+abbrev pub unit_cells : Program → (loops : List ℕ) → Start → List ℕ
+unit_cells p loops start = cells_along p (unit_rows p loops) (to_list (begin_of p loops start))
