@@ -156,12 +156,7 @@ fn postlog_of(
 }
 
 // The block of that kind with its cells.
-fn filled(
-    alloc: Global,
-    program: &Program,
-    sets: &VarSets,
-    block: &Block,
-) -> Result<Block, Memory>
+fn filled(alloc: Global, program: &Program, sets: &VarSets, block: &Block) -> Result<Block, Memory>
     requires { AreSetsOf program.now sets.now }
     ensures { IfOk result (λ b. b ≡ filled program.now block.now) }
 {

@@ -106,11 +106,7 @@ fn unit_row(alloc: Global, program: &Program, loops: &[u32], stmt: u32) -> Resul
     Ok(ids)
 }
 
-pub(crate) fn unit_rows(
-    alloc: Global,
-    program: &Program,
-    loops: &[u32],
-) -> Result<Seq<Ids>, Memory>
+pub(crate) fn unit_rows(alloc: Global, program: &Program, loops: &[u32]) -> Result<Seq<Ids>, Memory>
     requires { IsValid program.now }
     ensures { IfOk result (λ rows. rows ≡ unit_rows program.now loops.now) }
 {
