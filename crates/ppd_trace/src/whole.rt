@@ -57,9 +57,10 @@ fn trace_story(
 /// The full trace of a schedule of a valid program with a valid plan (Choi, Miller and Netzer 1991,
 /// as a whole trace that is made at once): each event with the event that last wrote each place that
 /// it reads, the test or call that let it run, and the synchronization that leads to it. The budget,
-/// at most 500,000, is that of each process. The work grows with the steps, and for each
-/// synchronization with all steps again. `NotEnabled(n)`: the first `n` steps can be taken, and
-/// number `n`, from 0, is the first that names no enabled process. `Memory` is want of memory.
+/// at most 500,000, is that of each process. The pair of a synchronization is looked up by its
+/// object and number, in maps that three passes over the steps fill. `NotEnabled(n)`: the first `n`
+/// steps can be taken, and number `n`, from 0, is the first that names no enabled process. `Memory`
+/// is want of memory.
 pub fn full_trace(
     alloc: Global,
     program: &Program,
