@@ -97,9 +97,15 @@ fn step_highest(world: &mut World) -> Result<Option<u8>, Memory>
 /// The schedule of a source whose highest process that can take a step always takes it. None where it has
 /// more than so many numbers.
 pub(crate) fn highest_first(alloc: Global, source: &str, most: u32) -> Option<Vec<u8>> {
-    let program = read_source(alloc, source.as_bytes()).ok()?;
-    let plan = Plan::bare(alloc, &program, &USUAL.policy).ok()?;
-    let mut world = World::new(alloc, &program, &plan, USUAL.budget).ok()?;
+    let Ok(program) = read_source(alloc, source.as_bytes()) else {
+        return None;
+    };
+    let Ok(plan) = Plan::bare(alloc, &program, &USUAL.policy) else {
+        return None;
+    };
+    let Ok(mut world) = World::new(alloc, &program, &plan, USUAL.budget) else {
+        return None;
+    };
     let mut schedule = Vec::new(alloc);
     for _ in 0..=most {
         match step_highest(&mut world).ok()? {
