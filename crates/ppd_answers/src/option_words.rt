@@ -163,7 +163,7 @@ const NAMES: [Row; 20] = [
 type Words = &'static [&'static str];
 
 // No command that is built stands first.
-const NO_COMMAND: [Words; 21] = [
+const NO_COMMAND: [Words; 20] = [
     &[],
     &[""],
     &["flow"],
@@ -183,7 +183,6 @@ const NO_COMMAND: [Words; 21] = [
     &["run", "row.c"],
     &["run", "row.c", "row.rec"],
     &["debug", "row.rec"],
-    &["show", "row.c"],
     &["drill", "7"],
 ];
 
