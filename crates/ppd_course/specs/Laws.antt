@@ -1,0 +1,36 @@
+-- Laws of the course of a process.
+use Rattle.std.specs.Prelude.{◌≡◌, ◌+◌, IsTrue, ℕ, None, Some}
+use Rattle.ppd_ast.specs.declared.plan.Plan.{Plan}
+use Rattle.ppd_ast.specs.declared.program.Program.{Program}
+use Rattle.ppd_ast.specs.Valid.{IsValid}
+use Rattle.ppd_cfg.specs.Flow.{top_of}
+use Rattle.ppd_cfg.specs.Lists.{has}
+use Rattle.ppd_sem.specs.declared.proc.Answer.{Answer}
+use Rattle.ppd_sem.specs.declared.proc.Need.TheVariants.{Read}
+use Rattle.ppd_sem.specs.declared.proc.Proc.{Proc}
+use Rattle.ppd_sem.specs.Process.{act, need_of, started, top_call}
+use Rattle.ppd_sets.specs.Used.{reads_at}
+use Rattle.ppd_course.specs.Course.{BeginsList, IsOnCourse, LeadsTo, head_of}
+
+-- a process of a valid program begins on course, at the first statement of its body
+pub record BeginsOnCourse (program : Program) (plan : Plan) (p budget : ℕ) : Type 0 where
+  pub course : IsOnCourse program plan (started program plan p budget)
+  pub first : BeginsList (top_of program (program.functions + p)) (started program plan p budget).todo
+
+abbrev pub StartsOnCourse : Type 0
+StartsOnCourse = (program : Program) (plan : Plan) (p budget : ℕ) → IsValid program → BeginsOnCourse program plan p budget
+
+-- no step leaves the course, whatever answer it gets
+abbrev pub StaysOnCourse : Type 0
+StaysOnCourse = (program : Program) (plan : Plan) (s : Proc) (a : Answer) → IsValid program → IsOnCourse program plan s → IsOnCourse program plan (act program plan s a)
+
+-- each step goes along the flow graph, into a function or back behind its call, as its need says
+abbrev pub StepsLead : Type 0
+StepsLead =
+    (program : Program) (plan : Plan) (s : Proc) (a : Answer) (h : ℕ) → IsValid program → IsOnCourse program plan s → head_of s.todo ≡ Some h
+    → LeadsTo program plan (need_of program plan s) h (top_call s.frames) s (act program plan s a)
+
+-- a shared cell that a step reads is one that its statement may read
+abbrev pub ReadsItsCells : Type 0
+ReadsItsCells =
+    (program : Program) (plan : Plan) (s : Proc) (h c : ℕ) → head_of s.todo ≡ Some h → need_of program plan s ≡ Read c → IsTrue (has (reads_at true program h) c)
