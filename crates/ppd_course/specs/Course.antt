@@ -1,5 +1,5 @@
 -- What a process has to do lies along the flow graph, and where each step leads it there.
-use Rattle.std.specs.Prelude.{◌≡◌, IsTrue, ℕ, Bool, true, false, List, [], ◌∷◌, map, Option, Some, None, IsSome, ⊤, ⊥}
+use Rattle.std.specs.Prelude.{◌≡◌, IsTrue, ℕ, Bool, true, false, List, [], ◌∷◌, map, Option, Some, None, IsSome, ⊤}
 use Rattle.ppd_ast.specs.declared.plan.BlockKind.TheVariants.{Loop}
 use Rattle.ppd_ast.specs.declared.plan.Plan.{Plan}
 use Rattle.ppd_ast.specs.declared.plan.Start.TheVariants.{Entry, After, Enter as EntersAt, Exit}

@@ -1,5 +1,5 @@
 -- Laws of the course of a process.
-use Rattle.std.specs.Prelude.{◌≡◌, ◌+◌, IsTrue, ℕ, None, Some}
+use Rattle.std.specs.Prelude.{◌≡◌, ◌+◌, IsTrue, ℕ, Some, true}
 use Rattle.ppd_ast.specs.declared.plan.Plan.{Plan}
 use Rattle.ppd_ast.specs.declared.program.Program.{Program}
 use Rattle.ppd_ast.specs.Valid.{IsValid}
