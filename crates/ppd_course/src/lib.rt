@@ -2,3 +2,5 @@
 #![tactic(auto)]
 
 mod laws;
+
+pub use laws::{reads_its_cells, starts_on_course, stays_on_course, steps_lead};

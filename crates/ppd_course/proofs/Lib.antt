@@ -1,0 +1,12 @@
+mod Rising
+mod Standing
+mod Chains
+mod Outward
+mod Successors
+mod Ways
+mod Frames
+mod Deeds
+mod Steps
+mod Leading
+mod Beginning
+mod Reading
