@@ -1,12 +1,11 @@
 -- In a valid program each statement of a list is followed by the next one, and the last by what follows the list.
-use Rattle.std.proofs.Common.{◌≡◌, ◌≢◌, ℕ, zero, suc, ◌+◌, ◌-◌, ◌<◌, ◌≤◌, List, [], ◌∷◌, ◌++◌, Bool, true, false, Option, Some, None, refl, sym, subst, ap, ◌∙◌, arith, inl, inr, ◌⊎◌, ◌||◌, length, true≢false, cond}
-use Rattle.std.specs.Prelude.{IsTrue, nat_eq, slice_get, if◌then◌else◌, ⊤}
-use Rattle.std.proofs.lemmas.Bool.{cond-true, cond-false, eq-eqb, ne_eqb, cases_Bool}
+use Rattle.std.proofs.Common.{◌≡◌, ℕ, ◌+◌, ◌<◌, ◌≤◌, List, [], ◌∷◌, ◌++◌, false, Option, Some, None, refl, sym, subst, ap, ◌∙◌, arith, ◌||◌}
+use Rattle.std.specs.Prelude.{IsTrue, nat_eq, slice_get, ⊤}
+use Rattle.std.proofs.lemmas.Bool.{cond-true, cond-false, eq-eqb, ne_eqb}
 use Rattle.ppd_ast.specs.declared.program.Body.{Body}
 use Rattle.ppd_ast.specs.declared.program.Kind.{Kind}
 use Rattle.ppd_ast.specs.declared.program.Kind.TheVariants as K
 use Rattle.ppd_ast.specs.declared.program.Program.{Program}
-use Rattle.ppd_ast.specs.declared.program.Stmt.{Stmt}
 use Rattle.ppd_ast.specs.Order.{inner, inner_at}
 use Rattle.ppd_ast.specs.Valid.{IsValid}
 use Rattle.ppd_cfg.specs.Flow.{follow, follow_under, follow_within, kind_of, next_in, top_of, top_of_body}

@@ -1,5 +1,5 @@
 -- What each kind of statement does once its values are there.
-use Rattle.std.proofs.Common.{◌≡◌, ℕ, ℤ, Bool, true, false, List, [], ◌∷◌, Option, Some, None, Ok, Err, refl, inl, inr, ◌⊎◌, if◌then◌else◌}
+use Rattle.std.proofs.Common.{◌≡◌, ℕ, ℤ, Bool, true, false, List, Option, Some, None, Ok, Err, refl, inl, inr, ◌⊎◌, if◌then◌else◌}
 use Rattle.std.specs.Prelude.{⊤}
 use Rattle.ppd_ast.specs.declared.program.Expr.{Expr}
 use Rattle.ppd_ast.specs.declared.program.Kind.{Kind}
@@ -11,7 +11,7 @@ use Rattle.ppd_ast.specs.Numbered.{is_left, is_while}
 use Rattle.ppd_ast.specs.Term.{Term, term}
 use Rattle.ppd_cfg.specs.Flow.{successors}
 use Rattle.ppd_cfg.specs.Lists.{to_list}
-use Rattle.ppd_sem.specs.declared.asking.Pause.TheVariants.{Wants, Traps}
+use Rattle.ppd_sem.specs.declared.asking.Pause.TheVariants.{Traps}
 use Rattle.ppd_sem.specs.Ask.{ask, element, is_zero}
 use Rattle.ppd_sem.specs.Asked.{Asked, and_then, gives, lift}
 use Rattle.ppd_sem.specs.Deed.{Deed, set_local, set_shared, clear, branch, turn, leave, invoke, back, take, give, send, receive, print, pass, finish, ask_all, ask_deed, ask_stored}

@@ -1,6 +1,5 @@
 -- Each step keeps a process on course, and leads it where its need says.
-use Rattle.std.proofs.Common.{◌≡◌, ℕ, ◌+◌, ℤ, Bool, true, false, nat_lt, List, [], ◌∷◌, ◌++◌, length, Option, Some, None, Ok, Err, refl, sym, subst, ap, ◌∙◌, if◌then◌else◌, true≢false}
-use Rattle.std.specs.Prelude.{IsSome, slice_get}
+use Rattle.std.proofs.Common.{◌≡◌, ℕ, ◌+◌, ℤ, Bool, true, false, nat_lt, List, [], ◌∷◌, length, Option, Some, None, Ok, Err, refl, sym, subst, ap, ◌∙◌, if◌then◌else◌}
 use Rattle.ppd_ast.specs.declared.plan.BlockKind.TheVariants as block
 use Rattle.ppd_ast.specs.declared.plan.Plan.{Plan}
 use Rattle.ppd_ast.specs.declared.plan.Start.{Start}
@@ -22,13 +21,13 @@ use Rattle.ppd_sem.specs.declared.proc.Proc.{Proc}
 use Rattle.ppd_sem.specs.declared.proc.Todo.{Todo}
 use Rattle.ppd_sem.specs.Asked.{Asked}
 use Rattle.ppd_sem.specs.Deed.{Deed, set_local, set_shared, clear, branch, turn, leave, invoke, back, take, give, send, receive, print, pass, finish}
-use Rattle.ppd_sem.specs.Process.{act, act_at, act_by_asked, act_by_deed, act_by_need, call_unit, charged, clear_top, cost, entry_of, head_deed, kind_of as kind_at, loop_of, need_by_entry, need_by_status, need_of, need_of_asked, need_of_call, need_of_deed, need_of_head, need_of_leaving, need_of_running, returned, todos, top_call, top_cells, top_of as tops, value_of, within_budget, write_top}
-use Rattle.ppd_sem.specs.Runs.{AreOfFunction, returns}
+use Rattle.ppd_sem.specs.Process.{act, act_at, act_by_asked, act_by_need, call_unit, charged, clear_top, cost, entry_of, head_deed, kind_of as kind_at, loop_of, need_by_entry, need_of, need_of_asked, need_of_deed, need_of_head, need_of_leaving, returned, top_call, top_cells, value_of, within_budget, write_top}
+use Rattle.ppd_sem.specs.Runs.{returns}
 use Rattle.ppd_sem.specs.Tables.{block_of, unit_of}
 use Rattle.ppd_sem.proofs.Progress.{act-stopped, need_at_status, need_at_todo}
-use Rattle.ppd_course.specs.Course.{EntersLoop, GoesOn, IsBehind, IsOnCourse, IsWay, LeadsTo, ReturnsBehind, StartsBehind, StartsFunction, behind, calls_left, calls_of, head_of, top_call_of}
+use Rattle.ppd_course.specs.Course.{IsBehind, IsOnCourse, IsWay, LeadsTo, ReturnsBehind, StartsBehind, behind, calls_left, calls_of, head_of}
 use Rattle.ppd_course.specs.Laws.{StaysOnCourse, StepsLead}
-use Rattle.ppd_course.proofs.Deeds.{DeedFits, Fits, IsInvoke, IsLeaving, IsLocal, deed_fits}
+use Rattle.ppd_course.proofs.Deeds.{DeedFits, Fits, IsInvoke, IsLeaving, deed_fits}
 use Rattle.ppd_course.proofs.Frames.{calls_clear, calls_returned, calls_write, top_call_is}
 use Rattle.ppd_course.proofs.Outward.{none_some, some_is}
 use Rattle.ppd_course.proofs.Steps.{call_begins, call_way, called, choice_on, choice_way, leave_on, local_on, turn_on, turn_way}

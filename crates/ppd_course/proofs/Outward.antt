@@ -1,5 +1,5 @@
 -- In a valid program what follows a statement does not stand in it.
-use Rattle.std.proofs.Common.{◌≡◌, ◌≢◌, ℕ, zero, suc, ◌+◌, ◌<◌, ◌≤◌, List, [], ◌∷◌, ◌++◌, Bool, true, false, Option, Some, None, refl, sym, subst, ap, ◌∙◌, arith, inl, inr, ◌⊎◌, true≢false}
+use Rattle.std.proofs.Common.{◌≡◌, ℕ, zero, suc, ◌<◌, List, [], ◌∷◌, ◌++◌, Bool, true, false, Option, Some, None, refl, sym, subst, ap, ◌∙◌, arith, inl, inr, ◌⊎◌, true≢false}
 use Rattle.std.specs.Prelude.{IsTrue, nat_eq, slice_get, if◌then◌else◌}
 use Rattle.std.proofs.lemmas.Bool.{cond-true, cond-false, cases_Bool}
 use Rattle.ppd_ast.specs.declared.program.Body.{Body}
@@ -7,7 +7,7 @@ use Rattle.ppd_ast.specs.declared.program.Kind.{Kind}
 use Rattle.ppd_ast.specs.declared.program.Kind.TheVariants as K
 use Rattle.ppd_ast.specs.declared.program.Program.{Program}
 use Rattle.ppd_ast.specs.declared.program.Stmt.{Stmt}
-use Rattle.ppd_ast.specs.Order.{inner, inner_at}
+use Rattle.ppd_ast.specs.Order.{inner}
 use Rattle.ppd_ast.specs.Valid.{IsValid}
 use Rattle.ppd_cfg.specs.Flow.{follow, follow_under, follow_within, kind_of, next_in, top_of, top_of_body}
 use Rattle.ppd_cfg.specs.Lists.{first_or, has}

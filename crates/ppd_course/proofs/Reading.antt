@@ -1,7 +1,7 @@
 -- A shared cell that a statement wants is one that its expressions may read.
-use Rattle.std.proofs.Common.{◌≡◌, ℕ, ◌+◌, ◌<◌, ◌≤◌, ℤ, pos, negsuc, neg_ℤ, Bool, true, false, nat_lt, List, [], ◌∷◌, ◌++◌, length, Option, Some, None, Result, Ok, Err, refl, sym, subst, ap, ◌∙◌, arith, if◌then◌else◌}
-use Rattle.std.specs.Prelude.{IsTrue, not as negated, slice_get, ⊤}
-use Rattle.std.specs.List.{flat_map, range_with_len}
+use Rattle.std.proofs.Common.{◌≡◌, ℕ, ◌+◌, ◌<◌, ◌≤◌, ℤ, pos, negsuc, neg_ℤ, Bool, true, false, nat_lt, List, [], ◌∷◌, length, Option, Some, None, Result, Ok, Err, refl, subst, arith, if◌then◌else◌}
+use Rattle.std.specs.Prelude.{IsTrue, not as negated, ⊤}
+use Rattle.std.specs.List.{range_with_len}
 use Rattle.std.proofs.lemmas.Bool.Decides.{nat_tests}
 use Rattle.ppd_ast.specs.declared.plan.Plan.{Plan}
 use Rattle.ppd_ast.specs.declared.program.Expr.{Expr}
@@ -15,7 +15,6 @@ use Rattle.ppd_ast.specs.declared.status.Trap.TheVariants.{Index}
 use Rattle.ppd_ast.specs.declared.status.Trap.TheVariants as trap
 use Rattle.ppd_ast.specs.Term.{Term, const, local, local_at, shared, shared_at, neg, not, two, and, or, term}
 use Rattle.ppd_ast.specs.Uses.{kind_uses}
-use Rattle.ppd_cfg.specs.Flow.{kind_of}
 use Rattle.ppd_cfg.specs.Lists.{has}
 use Rattle.ppd_cfg.proofs.Has.{flat_from, has_first, has_later, has_left, has_right, in_bounds_has}
 use Rattle.ppd_sem.specs.declared.asking.Pause.TheVariants.{Wants, Traps}
@@ -26,7 +25,7 @@ use Rattle.ppd_sem.specs.declared.proc.Todo.{Todo}
 use Rattle.ppd_sem.specs.Ask.{ask, calc, cell_of, checked, element, is_zero, truth}
 use Rattle.ppd_sem.specs.Asked.{Asked, and_then, gives, lift, read_shared}
 use Rattle.ppd_sem.specs.Deed.{Deed, set_local, set_shared, clear, branch, turn, leave, invoke, back, take, give, send, receive, print, pass, finish, ask_all, ask_deed, ask_stored}
-use Rattle.ppd_sem.specs.Process.{cost, entry_of, head_deed, kind_of as kind_at, need_by_entry, need_by_status, need_of, need_of_asked, need_of_deed, need_of_head, need_of_leaving, need_of_running, top_cells}
+use Rattle.ppd_sem.specs.Process.{cost, entry_of, head_deed, kind_of as kind_at, need_by_entry, need_by_status, need_of_deed, need_of_head, need_of_leaving, need_of_running, top_cells}
 use Rattle.ppd_sets.specs.Named.{cells_in, reads}
 use Rattle.ppd_course.specs.Course.{head_of}
 use Rattle.ppd_course.specs.Laws.{ReadsItsCells}

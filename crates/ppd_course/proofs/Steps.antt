@@ -1,32 +1,31 @@
 -- Where each deed leads a process that is on course.
-use Rattle.std.proofs.Common.{◌≡◌, ◌≢◌, ℕ, ◌+◌, ◌<◌, ◌≤◌, ℤ, Bool, true, false, List, [], ◌∷◌, ◌++◌, length, Option, Some, None, refl, sym, subst, ap, ◌∙◌, arith, inl, inr, ◌⊎◌, true≢false, if◌then◌else◌}
-use Rattle.std.specs.Prelude.{IsTrue, IsSomeAnd, slice_get, ⊤}
+use Rattle.std.proofs.Common.{◌≡◌, ℕ, Bool, true, false, List, [], ◌∷◌, ◌++◌, length, Option, Some, None, refl, sym, subst, ap, ◌∙◌, inl, inr, ◌⊎◌, true≢false, if◌then◌else◌}
+use Rattle.std.specs.Prelude.{IsTrue, slice_get}
 use Rattle.std.specs.List.{All}
 use Rattle.ppd_ast.specs.declared.plan.BlockKind.TheVariants as block
 use Rattle.ppd_ast.specs.declared.plan.Plan.{Plan}
-use Rattle.ppd_ast.specs.declared.plan.Start.TheVariants as start
 use Rattle.ppd_ast.specs.declared.program.Body.{Body}
 use Rattle.ppd_ast.specs.declared.program.Kind.{Kind}
 use Rattle.ppd_ast.specs.declared.program.Kind.TheVariants as K
 use Rattle.ppd_ast.specs.declared.program.Program.{Program}
 use Rattle.ppd_ast.specs.declared.program.Stmt.{Stmt}
 use Rattle.ppd_ast.specs.Numbered.{is_left, is_while}
-use Rattle.ppd_ast.specs.Order.{inner, inner_at}
+use Rattle.ppd_ast.specs.Order.{inner}
 use Rattle.ppd_ast.specs.Valid.{IsValid}
 use Rattle.ppd_ast.proofs.ValidLaws.{slice_get_below}
 use Rattle.ppd_cfg.specs.Flow.{follow, kind_of, next_of, successors, top_of, top_of_body}
 use Rattle.ppd_cfg.specs.Lists.{first_or, has, rising, to_list}
 use Rattle.ppd_cfg.proofs.Has.{all_has, has_first, has_left, has_right}
 use Rattle.ppd_sem.specs.declared.proc.Todo.{Todo}
-use Rattle.ppd_sem.specs.Process.{entry_of, kind_of as kind_at, kind_or_end, loop_of, todos, top_of as tops}
+use Rattle.ppd_sem.specs.Process.{entry_of, kind_or_end, loop_of, todos, top_of as tops}
 use Rattle.ppd_sem.specs.Runs.{AreOfFunction, IsCallable, IsInner, IsRunnable, IsRunnableStmt, LeadsOn, returns, size_of}
 use Rattle.ppd_sem.specs.Tables.{block_of}
 use Rattle.ppd_sem.proofs.Kept.{there_at}
 use Rattle.ppd_sem.proofs.Validity.{valid-runnable}
 use Rattle.ppd_units.specs.Walk.{stands_in}
-use Rattle.ppd_course.specs.Course.{BeginsList, GoesAlong, GoesOn, IsBehind, IsMarkedBehind, IsWay, behind, calls_left, head_of}
+use Rattle.ppd_course.specs.Course.{BeginsList, GoesOn, IsBehind, IsMarkedBehind, IsWay, head_of}
 use Rattle.ppd_course.proofs.Chains.{IsChain, body_chain, first_chain, second_chain, top_chain}
-use Rattle.ppd_course.proofs.Deeds.{IsBranch, IsInvoke, IsLeaving, IsLocal, IsTurn}
+use Rattle.ppd_course.proofs.Deeds.{IsBranch, IsInvoke, IsLocal}
 use Rattle.ppd_course.proofs.Outward.{as_parent_behind, none_some, some_is}
 use Rattle.ppd_course.proofs.Rising.{child_stands, inner_kind, parent_below}
 use Rattle.ppd_course.proofs.Standing.{in_itself, in_parent, not_in_later}
