@@ -22,7 +22,7 @@ use Rattle.ppd_blocks.specs.Blocks.{loop_in, block_loops}
 
 module _ (p : Program) (policy : Policy) where
   -- statement k is a block loop
-  IsLoop : ℕ → Type 0
+  unfoldable pub IsLoop : ℕ → Type 0
   IsLoop k = (s : Stmt) × (slice_get p.stmts k ≡ Some s) × (is_block_loop p.stmts policy s ≡ true)
 
   -- the loops of the blocks of these numbers of statements, and of these bodies
@@ -127,7 +127,7 @@ module _ (p : Program) (policy : Policy) where
         ap (λ l. (Entry j ∷ l) ++ each_from (starts_in p loops) (j + 1) bs) (starts_of_numbers (numbers_of p.stmts b) (λ i h. there i (subst (λ xs. IsTrue (has xs i)) (sym both) (has_left (loops_in (numbers_of p.stmts b)) (loops_by (j + 1) bs) i h))))
         ∙ ap (λ l. body_starts p.stmts policy j b ++ l) (starts_of_bodies (j + 1) bs (λ i h. there i (subst (λ xs. IsTrue (has xs i)) (sym both) (has_right (loops_in (numbers_of p.stmts b)) (loops_by (j + 1) bs) i h))))
 
-  by_policy : (k : ℕ) → IsTrue (has (block_loops p policy) k) → IsLoop k
+  pub by_policy : (k : ℕ) → IsTrue (has (block_loops p policy) k) → IsLoop k
   unfolding loops_by
   by_policy k h = of_bodies 0 p.bodies k h
 

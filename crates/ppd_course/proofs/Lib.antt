@@ -7,6 +7,6 @@ mod Ways
 mod Frames
 mod Deeds
 mod Steps
-mod Leading
-mod Beginning
-mod Reading
+pub mod Leading
+pub mod Beginning
+pub mod Reading

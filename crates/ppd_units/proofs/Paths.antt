@@ -54,7 +54,7 @@ pub sorted_gives : (cells : List ℕ) (c : ℕ) → IsTrue (has (sorted cells) c
 unfolding sorted
 sorted_gives cells c h = (has_filter (has cells) (range_with_len 0 1024) c h).1
 
-sorted_from : (cells : List ℕ) (c : ℕ) → c < 1024 → IsTrue (has cells c) → IsTrue (has (sorted cells) c)
+pub sorted_from : (cells : List ℕ) (c : ℕ) → c < 1024 → IsTrue (has cells c) → IsTrue (has (sorted cells) c)
 unfolding sorted
 sorted_from cells c l h = filter_has (has cells) (range_with_len 0 1024) c (from_zero c 1024 l) h
 
