@@ -57,7 +57,7 @@ module _ (program : Program) (plan : Plan) (budget : ℕ) where
   log_proc l [] = refl
   log_proc l (m ∷ ms) = log_proc (log_step program plan l m) ms
 
-  logged : (p : ℕ) (moments : List (List Moment)) → map (λ l. l.proc) (logs_from program plan budget p moments) ≡ states_from program plan budget p (map steps_of moments)
+  pub logged : (p : ℕ) (moments : List (List Moment)) → map (λ l. l.proc) (logs_from program plan budget p moments) ≡ states_from program plan budget p (map steps_of moments)
   logged p [] = refl
   logged p (ms ∷ rest) =
       ap (λ s. s ∷ map (λ l. l.proc) (logs_from program plan budget (p + 1) rest)) (log_proc (begun_log program plan budget p) ms)

@@ -20,3 +20,4 @@ pub mod Laws
 pub mod LocalTags
 pub mod Earlier
 pub mod Parents
+pub mod Costs

@@ -1,4 +1,5 @@
 ghost use Rattle.ppd_model.specs.Bounds.{CountsAreBalanced, SchedulesAreBounded, StepsChangeTheirOwn};
+ghost use Rattle.ppd_model.specs.Costs.{LogsArePaid, StartsAreFree, StepsCostWhatTheyWrite};
 ghost use Rattle.ppd_model.specs.Earlier.{TracesNameEarlierEvents, TracesTellRuns};
 ghost use Rattle.ppd_model.specs.Laws.{IsTestOfBefore, IsTestOfEdges, LastEdgesAreOpen, LogsGrow, NoRaceMeansOrder, ProcessesFollowTheirSteps, StoriesAreOfRuns, StoriesGrow, StoriesTellAll, SynchronizationsAreCounted, TagsAreLastWrites};
 ghost use Rattle.ppd_model.specs.LocalTags.{LocalTagsAreLastWrites, ReadsAreOfTheTop, SchedulesTagLastWrites, StepsTagTheirWrites, StoriesTellOwnSteps};
@@ -102,4 +103,15 @@ pub fn schedules_are_bounded()
 /// capacity together.
 pub fn counts_are_balanced()
     ensures { CountsAreBalanced }
+{}
+
+/// Law: in a valid program, with a valid plan that lists all parameters of its functions' blocks, a step
+/// costs 1 and the count of the values in the prelog, unit and postlog entries that it writes. With that
+/// cost the budget is not overspent, and the step is counted. The stop for the budget costs nothing, writes
+/// no such value and is not counted. The entries written at the start cost nothing, so a process has spent
+/// its steps and the values of its other entries.
+pub fn steps_cost_what_they_write()
+    ensures steps { StepsCostWhatTheyWrite }
+    ensures start { StartsAreFree }
+    ensures logs { LogsArePaid }
 {}

@@ -5,3 +5,4 @@ pub mod Steps
 pub mod Sound
 pub mod Reached
 pub mod Closed
+pub mod Paid

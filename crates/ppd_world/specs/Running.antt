@@ -1,18 +1,21 @@
 -- A world with its logs, and the schedule that it comes from.
-use Rattle.std.specs.Prelude.{◌≡◌, ℕ, ◌≤◌, Bool, true, false, List, [], ◌++◌, length, take, Some, IsSomeAnd, slice_get, Result, Ok, Err, ⊤}
+use Rattle.std.specs.Prelude.{◌≡◌, ◌≢◌, ℕ, ◌+◌, ◌≤◌, Bool, true, false, List, [], ◌++◌, drop, length, take, Some, IsSomeAnd, slice_get, Result, Ok, Err, ⊤}
 use Rattle.ppd_ast.specs.Valid.{IsValid}
 use Rattle.ppd_ast.specs.ValidPlan.{IsValidPlan}
 use Rattle.ppd_ast.specs.declared.limits.TheConstants.{MOST_BUDGET}
 use Rattle.ppd_ast.specs.declared.plan.Plan.{Plan}
 use Rattle.ppd_ast.specs.declared.program.Program.{Program}
+use Rattle.ppd_sem.specs.declared.proc.Need.{Need}
+use Rattle.ppd_sem.specs.declared.proc.Need.TheVariants.{Budget}
 use Rattle.ppd_model.specs.declared.closed.Closed.{Closed}
 use Rattle.ppd_model.specs.declared.trace.DriveError.{DriveError}
 use Rattle.ppd_model.specs.declared.trace.DriveError.TheVariants.{NotEnabled, Memory}
+use Rattle.ppd_model.specs.Costs.{HasWholePrelogs, values_in}
 use Rattle.ppd_model.specs.Laws.{logged_moment}
 use Rattle.ppd_model.specs.declared.state.Logging.{Logging}
 use Rattle.ppd_model.specs.Logs.{ends_from, log_step, loggings, logs_of}
 use Rattle.ppd_model.specs.Schedule.{run, started_world}
-use Rattle.ppd_model.specs.World.{World, change, enabled, step}
+use Rattle.ppd_model.specs.World.{World, change, enabled, need, step}
 
 -- a program with its plan and its processes' budget, the world that it came to, and each process with its log
 pub record Running : Type 0 where
@@ -66,6 +69,19 @@ pub record Takes (before : Running) (h : List ℕ) (after : Running) : Type 0 wh
   pub plan : after.plan ≡ before.plan
   pub budget : after.budget ≡ before.budget
   pub comes : (g : List ℕ) → IsOf g before → IsOf (g ++ h) after
+
+-- a process's log before and after a step of this need: the cost spent rose by 1 and by the values of the entries
+-- that the log grew by, within the budget; for a stop for the budget it did not rise
+pub record HasPaid (budget : ℕ) (n : Need) (before after : Logging) : Type 0 where
+  pub cost : n ≢ Budget → after.proc.spent ≡ before.proc.spent + (1 + values_in (drop (length before.entries) after.entries))
+  pub within : n ≢ Budget → after.proc.spent ≤ budget
+  pub free : n ≡ Budget → after.proc.spent ≡ before.proc.spent
+
+-- so it is with process p, where the plan lists all parameters of its functions' blocks
+abbrev pub IsPaidStep : Running → ℕ → Running → Type 0
+IsPaidStep before p after =
+    HasWholePrelogs before.program before.plan → (l k : Logging) → slice_get before.loggings p ≡ Some l → slice_get after.loggings p ≡ Some k
+    → HasPaid before.budget (need before.program before.plan before.world p) l k
 
 -- process p, which was enabled, took its step
 pub record IsFollowed (before : Running) (p : ℕ) (after : Running) : Type 0 where

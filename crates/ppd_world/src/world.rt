@@ -4,7 +4,7 @@ ghost use Rattle.ppd_ast.specs.ValidPlan.{IsValidPlan};
 ghost use Rattle.ppd_model.specs.Laws.{logged_moment};
 ghost use Rattle.ppd_model.specs.Logs.{close as close_of};
 ghost use Rattle.ppd_model.specs.Schedule.{IsOver};
-ghost use Rattle.ppd_world.specs.Running.{IsCause, IsDriven, IsFollowed, IsOf, IsReached, Takes, begun, can_step, closed as closed_of, stepped};
+ghost use Rattle.ppd_world.specs.Running.{IsCause, IsDriven, IsFollowed, IsOf, IsPaidStep, IsReached, Takes, begun, can_step, closed as closed_of, stepped};
 
 use crate::closing::close_all;
 use crate::starting::{start_chans, start_logs, start_sems};
@@ -157,13 +157,16 @@ impl<'a> World<'a> {
         )
     }
 
-    /// Process `p`, which is enabled, takes its step and writes its entries. `Memory` is want of
-    /// memory: the world is as before.
+    /// Process `p`, which is enabled, takes its step and writes its entries. The step costs 1 and the count
+    /// of the values in the prelog, unit and postlog entries that it writes, and a stop for the budget
+    /// nothing, where the plan lists all parameters of its functions' blocks. `Memory` is want of memory:
+    /// the world is as before.
     pub fn step(&mut self, p: u8) -> Result<(), Memory>
         requires reached { IsReached self.old }
         requires enabled { can_step self.old p ≡ true }
         ensures ok { OnOk result (self.new ≡ stepped self.old p) }
         ensures comes { OnOk result (Takes self.old (p ∷ []) self.new) }
+        ensures cost { OnOk result (IsPaidStep self.old p self.new) }
         ensures err { OnErr result (self.new ≡ self.old) }
         ensures kept { IsReached self.new }
     {

@@ -1,0 +1,25 @@
+-- The costs of a run under the plan of a policy, which lists all parameters of its functions' blocks.
+use Rattle.std.specs.Prelude.{◌≡◌, ℕ, List, slice_get, Some}
+use Rattle.ppd_ast.specs.Valid.{IsValid}
+use Rattle.ppd_ast.specs.ValidPlan.{IsValidPolicy}
+use Rattle.ppd_ast.specs.declared.plan.Policy.{Policy}
+use Rattle.ppd_ast.specs.declared.program.Program.{Program}
+use Rattle.ppd_blocks.specs.Blocks.{plan_of}
+use Rattle.ppd_model.specs.Costs.{CostsWhatItWrites, HasSpent}
+use Rattle.ppd_model.specs.Laws.{logged_moment}
+use Rattle.ppd_model.specs.declared.state.Logging.{Logging}
+use Rattle.ppd_model.specs.Logs.{loggings}
+use Rattle.ppd_model.specs.Story.{told}
+
+-- the next step of each process after each schedule costs what it writes
+abbrev pub PolicyStepsCostWhatTheyWrite : Type 0
+PolicyStepsCostWhatTheyWrite =
+    (program : Program) (policy : Policy) (budget : ℕ) (h : List ℕ) (p : ℕ) (l : Logging) → IsValid program → IsValidPolicy policy
+    → slice_get (loggings program (plan_of program policy) budget h) p ≡ Some l
+    → CostsWhatItWrites program (plan_of program policy) budget l (logged_moment program (plan_of program policy) (told program (plan_of program policy) budget h).world p)
+
+-- each process has spent its steps and the values of its log, but for the entries of the start
+abbrev pub PolicyLogsArePaid : Type 0
+PolicyLogsArePaid =
+    (program : Program) (policy : Policy) (budget : ℕ) (h : List ℕ) (p : ℕ) (l : Logging) → IsValid program → IsValidPolicy policy
+    → slice_get (loggings program (plan_of program policy) budget h) p ≡ Some l → HasSpent l
