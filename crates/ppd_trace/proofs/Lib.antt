@@ -1,5 +1,10 @@
 pub mod Leading
 pub mod Following
+pub mod Kept
+pub mod Keeping
+pub mod Processes
+pub mod Costs
 pub mod Counted
+pub mod Spent
 pub mod Told
 pub mod Traced

@@ -1,5 +1,7 @@
--- The full trace in code: the tags of what a step writes, what is told of a schedule, the pairs by their numbers, and the answers.
+-- The full trace in code: what is kept while it is made, what is told of a schedule, the pairs by their numbers, the steps taken, and the answers.
 pub mod Leading
+pub mod Runs
+pub mod Spending
 pub mod Tagging
 pub mod Telling
 pub mod Traced

@@ -1,55 +1,71 @@
-ghost use Rattle.std.specs.Prelude.{◌≡◌, ◌++◌, drop, replicate, slice_get, Some, IfOk, OnOk};
-ghost use Rattle.ppd_model.specs.FullTrace.{all_tagged, called as called_of, into_at, size_if, tagged, tagged_after, tagged_at, tagged_into};
+ghost use Rattle.std.specs.Prelude.{◌≡◌, ◌+◌, ◌*◌, ◌≤◌, ◌++◌, drop, length, replicate, slice_get, Some, IfOk, OnOk};
+ghost use Rattle.ppd_model.specs.FullTrace.{into_at, size_if};
+ghost use Rattle.ppd_sem.specs.Passed.{arguments_at, deed_at};
 ghost use Rattle.ppd_sem.specs.Process.{top_call};
 ghost use Rattle.ppd_sem.specs.Runs.{IsRunnable, IsRunning};
-ghost use Rattle.ppd_trace.specs.Tagging.{begun_body, begun_call};
+ghost use Rattle.ppd_trace.specs.Runs.{all_tagged, begun_body, begun_call, called as called_of, tagged, tagged_after, tagged_deed, tagged_into};
+ghost use Rattle.ppd_trace.specs.Spending.{written_by};
 
-use ppd_ast::{Kind, Memory, Program, Seq};
-use ppd_model::{Activation, EventId};
+use crate::by_stmt::ByStmt;
+use crate::tracer::Run;
+use ppd_ast::{Kind, Memory, Program, Seq, Steps};
+use ppd_model::EventId;
 use ppd_sem::{Effect, Need, Proc, Stack, call_values, next_effect};
 use std::alloc::Global;
+use std::sync::ledger::Ledger;
 
-/// Writes the tag of a local cell of the running activation.
-fn set_tag(
-    activations: &mut Stack<Activation>,
+/// Writes the tag of a local cell of the top run.
+fn set_tag<L: Ledger>(
+    runs: &mut Stack<Run>,
     cell: usize,
     tag: Option<EventId>,
+    steps: &mut Steps<L>,
 ) -> Result<(), Memory>
-    ensures { OnOk result (activations.new ≡ tagged cell tag activations.old) }
+    ensures value { OnOk result (runs.new ≡ tagged cell tag runs.old) }
+    ensures cost { steps.new ≤ steps.old + 2 }
 {
-    match activations.pop() {
-        Some(mut activation) => {
-            activation.tags.set(cell, tag);
-            activations.push(activation)
+    match runs.pop() {
+        Some(mut own) => {
+            steps.tick();
+            own.tags.set(cell, tag);
+            steps.tick();
+            runs.push(own)
         }
         None => Ok(()),
     }
 }
 
 /// Writes the tag of each local cell of an array.
-fn set_tags(
-    activations: &mut Stack<Activation>,
+fn set_tags<L: Ledger>(
+    runs: &mut Stack<Run>,
     base: u16,
     len: u16,
     tag: Option<EventId>,
+    steps: &mut Steps<L>,
 ) -> Result<(), Memory>
-    ensures { OnOk result (activations.new ≡ all_tagged base len tag activations.old) }
+    ensures value { OnOk result (runs.new ≡ all_tagged base len tag runs.old) }
+    ensures cost { steps.new ≤ steps.old + 3 * len }
 {
     for index in 0..len {
-        set_tag(activations, base as usize + index as usize, tag)?;
+        steps.tick();
+        set_tag(runs, base as usize + index as usize, tag, steps)?;
     }
     Ok(())
 }
 
 /// Appends the tag so many times.
-pub(crate) fn push_copies(
+pub(crate) fn push_copies<L: Ledger>(
     tags: &mut Seq<Option<EventId>>,
     tag: Option<EventId>,
     count: usize,
+    steps: &mut Steps<L>,
 ) -> Result<(), Memory>
-    ensures { OnOk result (tags.new ≡ tags.old ++ replicate count tag) }
+    ensures value { OnOk result (tags.new ≡ tags.old ++ replicate count tag) }
+    ensures cost { steps.new ≤ steps.old + 2 * count }
 {
     for _index in 0..count {
+        steps.tick();
+        steps.tick();
         tags.push(tag)?;
     }
     Ok(())
@@ -65,24 +81,26 @@ fn size_of(program: &Program, body: u16) -> u16
     }
 }
 
-/// The activation that a call begins: its parameters, so many, have the call's tag.
-fn called(
+/// The run that a call begins: its parameters, so many, have the call's tag.
+fn called<L: Ledger>(
     alloc: Global,
     program: &Program,
     function: u16,
     count: usize,
     call: Option<EventId>,
-) -> Result<Activation, Memory>
-    ensures { IfOk result (λ activation. activation ≡ called_of program.now function count call) }
+    steps: &mut Steps<L>,
+) -> Result<Run, Memory>
+    ensures value { IfOk result (λ run. run ≡ called_of program.now function count call) }
+    ensures cost { steps.new ≤ steps.old + 2 * (count + size_if (slice_get program.now.bodies function)) }
 {
     let others = (size_of(program, function) as usize).saturating_sub(count);
     let mut tags = Seq::new(alloc);
-    push_copies(&mut tags, call, count)?;
-    push_copies(&mut tags, None, others)?;
-    Ok(Activation {
+    push_copies(&mut tags, call, count, steps)?;
+    push_copies(&mut tags, None, others, steps)?;
+    Ok(Run {
         call,
         tags,
-        tests: Stack::new(alloc),
+        latest: ByStmt::new(alloc),
     })
 }
 
@@ -111,109 +129,129 @@ fn call_of(proc: &Proc) -> Option<u32>
 }
 
 /// Writes the tag of the local that receives a value, where there are a local and a value.
-fn receive_tag(
-    activations: &mut Stack<Activation>,
+fn receive_tag<L: Ledger>(
+    runs: &mut Stack<Run>,
     into: Option<u16>,
     value: Option<i64>,
     tag: Option<EventId>,
+    steps: &mut Steps<L>,
 ) -> Result<(), Memory>
-    ensures { OnOk result (activations.new ≡ tagged_into into value tag activations.old) }
+    ensures value { OnOk result (runs.new ≡ tagged_into into value tag runs.old) }
+    ensures cost { steps.new ≤ steps.old + 2 }
 {
     match into {
         Some(cell) => match value {
-            Some(_) => set_tag(activations, cell as usize, tag),
+            Some(_) => set_tag(runs, cell as usize, tag, steps),
             None => Ok(()),
         },
         None => Ok(()),
     }
 }
 
-/// Ends the running activation; the one below receives the value.
-fn return_tag(
+/// Ends the top run; the one below receives the value.
+fn return_tag<L: Ledger>(
     program: &Program,
     proc: &Proc,
     value: Option<i64>,
     tag: Option<EventId>,
-    activations: &mut Stack<Activation>,
+    runs: &mut Stack<Run>,
+    steps: &mut Steps<L>,
 ) -> Result<(), Memory>
-    ensures { OnOk result (activations.new ≡ tagged_into (into_at program.now (top_call proc.now.frames)) value tag (drop 1 activations.old)) }
+    ensures value { OnOk result (runs.new ≡ tagged_into (into_at program.now (top_call proc.now.frames)) value tag (drop 1 runs.old)) }
+    ensures cost { steps.new ≤ steps.old + 2 }
 {
-    activations.pop();
-    receive_tag(activations, into_of(program, proc), value, tag)
+    runs.pop();
+    receive_tag(runs, into_of(program, proc), value, tag, steps)
 }
 
-/// Begins the activation of a function.
-fn begin_call(
+/// Begins the run of a function.
+fn begin_call<L: Ledger>(
     alloc: Global,
     program: &Program,
     proc: &Proc,
     function: u16,
     tag: Option<EventId>,
-    activations: &mut Stack<Activation>,
+    runs: &mut Stack<Run>,
+    steps: &mut Steps<L>,
 ) -> Result<(), Memory>
     requires program { IsRunnable program.now }
     requires proc { IsRunning program.now proc.now }
-    ensures { OnOk result (activations.new ≡ begun_call program.now proc.now function tag activations.old) }
+    ensures value { OnOk result (runs.new ≡ begun_call program.now proc.now function tag runs.old) }
+    ensures cost { steps.new ≤ steps.old + 2 + 2 * (length (arguments_at program.now proc.now) + size_if (slice_get program.now.bodies function)) }
 {
+    steps.tick();
     let values = call_values(alloc, program, proc)?;
-    activations.push(called(alloc, program, function, values.len(), tag)?)
+    let run = called(alloc, program, function, values.len(), tag, steps)?;
+    steps.tick();
+    runs.push(run)
 }
 
 /// Writes the tags of what the head statement writes, which finishes.
-fn tag_head(
+fn tag_head<L: Ledger>(
     alloc: Global,
     program: &Program,
     proc: &Proc,
     tag: Option<EventId>,
-    activations: &mut Stack<Activation>,
+    runs: &mut Stack<Run>,
+    steps: &mut Steps<L>,
 ) -> Result<(), Memory>
     requires program { IsRunnable program.now }
     requires proc { IsRunning program.now proc.now }
-    ensures { OnOk result (activations.new ≡ tagged_at program.now proc.now tag proc.now.todo activations.old) }
+    ensures value { OnOk result (runs.new ≡ tagged_deed program.now proc.now tag (deed_at program.now proc.now) runs.old) }
+    ensures cost { steps.new ≤ steps.old + 3 + 3 * written_by program.now proc.now (deed_at program.now proc.now) }
 {
+    steps.tick();
     match next_effect(program, proc) {
-        Some(Effect::SetLocal(cell, _)) => set_tag(activations, cell as usize, tag),
-        Some(Effect::Clear(base, len)) => set_tags(activations, base, len, tag),
+        Some(Effect::SetLocal(cell, _)) => set_tag(runs, cell as usize, tag, steps),
+        Some(Effect::Clear(base, len)) => set_tags(runs, base, len, tag, steps),
         Some(Effect::Invoke(function, _)) => {
-            begin_call(alloc, program, proc, function, tag, activations)
+            begin_call(alloc, program, proc, function, tag, runs, steps)
         }
-        Some(Effect::Back(value)) => return_tag(program, proc, value, tag, activations),
-        Some(Effect::Receive(_, into)) => set_tag(activations, into as usize, tag),
+        Some(Effect::Back(value)) => return_tag(program, proc, value, tag, runs, steps),
+        Some(Effect::Receive(_, into)) => set_tag(runs, into as usize, tag, steps),
         _ => Ok(()),
     }
 }
 
 /// Writes the tags of what an event writes; one that traps writes nothing. `Memory` is want of
 /// memory.
-pub(crate) fn tag_writes(
+pub(crate) fn tag_writes<L: Ledger>(
     alloc: Global,
     program: &Program,
     proc: &Proc,
     need: Need,
     me: EventId,
-    activations: &mut Stack<Activation>,
+    runs: &mut Stack<Run>,
+    steps: &mut Steps<L>,
 ) -> Result<(), Memory>
     requires program { IsRunnable program.now }
     requires proc { IsRunning program.now proc.now }
-    ensures { OnOk result (activations.new ≡ tagged_after program.now proc.now (Some me) need activations.old) }
+    ensures value { OnOk result (runs.new ≡ tagged_after program.now proc.now (Some me) need runs.old) }
+    ensures cost { steps.new ≤ steps.old + 3 + 3 * written_by program.now proc.now (deed_at program.now proc.now) }
 {
     match need {
         Need::Trap(_) => Ok(()),
-        _ => tag_head(alloc, program, proc, Some(me), activations),
+        _ => tag_head(alloc, program, proc, Some(me), runs, steps),
     }
 }
 
-/// The activation of a process's body before its first step: nothing is written.
-pub(crate) fn begin_body(alloc: Global, count: usize) -> Result<Stack<Activation>, Memory>
-    ensures { IfOk result (λ activations. activations ≡ begun_body count) }
+/// The run of a process's body before its first step: nothing is written.
+pub(crate) fn begin_body<L: Ledger>(
+    alloc: Global,
+    count: usize,
+    steps: &mut Steps<L>,
+) -> Result<Stack<Run>, Memory>
+    ensures value { IfOk result (λ runs. runs ≡ begun_body count) }
+    ensures cost { steps.new ≤ steps.old + 2 * count + 1 }
 {
     let mut tags = Seq::new(alloc);
-    push_copies(&mut tags, None, count)?;
-    let mut activations = Stack::new(alloc);
-    activations.push(Activation {
+    push_copies(&mut tags, None, count, steps)?;
+    let mut runs = Stack::new(alloc);
+    steps.tick();
+    runs.push(Run {
         call: None,
         tags,
-        tests: Stack::new(alloc),
+        latest: ByStmt::new(alloc),
     })?;
-    Ok(activations)
+    Ok(runs)
 }

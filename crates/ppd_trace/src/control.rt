@@ -1,34 +1,15 @@
-ghost use Rattle.std.specs.Prelude.{◌≡◌, OnOk, slice_get};
-ghost use Rattle.ppd_model.specs.FullTrace.{is_passed as is_passed_of, latest as latest_of, of_outer as of_outer_tests, of_run as of_run_tests, or_else as or_else_of, parent_at as parent_at_todo, parent_if, parent_in as parent_in_activation, tests_after, with_test};
+ghost use Rattle.std.specs.Prelude.{◌≡◌, ◌+◌, ◌≤◌, slice_get, OnOk};
+ghost use Rattle.ppd_model.specs.FullTrace.{is_passed as is_passed_of, of_run as of_run_tests, or_else as or_else_of, parent_if};
 ghost use Rattle.ppd_sem.specs.Process.{kind_of};
-ghost use Rattle.ppd_trace.specs.Tagging.{passed_event as passed_event_of, test_of as test_of_stmt};
+ghost use Rattle.ppd_trace.specs.Runs.{of_outer as of_outer_tests, parent_at as parent_at_todo, parent_in as parent_in_run, tests_after, with_test};
+ghost use Rattle.ppd_trace.specs.Tagging.{passed_event as passed_event_of};
 
-use ppd_ast::{Kind, Memory, Program};
-use ppd_model::{Activation, EventId, Test};
+use crate::by_stmt::ByStmt;
+use crate::tracer::Run;
+use ppd_ast::{Kind, Memory, Program, Steps};
+use ppd_model::{EventId, Test};
 use ppd_sem::{Event, Proc, Stack, next_stmt};
-
-/// The test at this place, from the latest one, where it is of this statement.
-fn test_of(stmt: u32, tests: &Stack<Test>, place: usize) -> Option<Test>
-    ensures { result ≡ test_of_stmt stmt (slice_get tests.now place) }
-{
-    match tests.get(place) {
-        Some(test) => { if test.stmt == stmt { Some(*test) } else { None } }
-        None => None,
-    }
-}
-
-/// The latest test of a statement.
-fn latest(stmt: u32, tests: &Stack<Test>) -> Option<Test>
-    ensures { result ≡ latest_of stmt tests.now }
-{
-    for index in 0..tests.len() {
-        let test = test_of(stmt, tests, index);
-        if test.is_some() {
-            return test;
-        }
-    }
-    None
-}
+use std::sync::ledger::Ledger;
 
 /// The event of a test whose value was true.
 fn passed_event(test: Option<Test>) -> Option<EventId>
@@ -64,11 +45,16 @@ fn parent_of(program: &Program, stmt: u32) -> Option<u32>
 }
 
 /// The latest test of this statement, if there is a statement.
-fn of_outer(stmt: Option<u32>, tests: &Stack<Test>) -> Option<EventId>
-    ensures { result ≡ of_outer_tests stmt tests.now }
+fn of_outer<L: Ledger>(
+    stmt: Option<u32>,
+    tests: &ByStmt<Test>,
+    steps: &mut Steps<L>,
+) -> Option<EventId>
+    ensures value { result ≡ of_outer_tests stmt tests.now }
+    ensures cost { steps.new ≤ steps.old + 1 }
 {
     match stmt {
-        Some(stmt) => match latest(stmt, tests) {
+        Some(stmt) => match tests.get(stmt, steps) {
             Some(test) => Some(test.event),
             None => None,
         },
@@ -86,29 +72,36 @@ fn or_else(first: Option<EventId>, second: Option<EventId>) -> Option<EventId>
     }
 }
 
-/// The control parent of a statement in its activation.
-fn parent_in(program: &Program, stmt: u32, activation: &Activation) -> Option<EventId>
-    ensures { result ≡ parent_in_activation program.now stmt activation.now }
+/// The control parent of a statement in its run.
+fn parent_in<L: Ledger>(
+    program: &Program,
+    stmt: u32,
+    own: &Run,
+    steps: &mut Steps<L>,
+) -> Option<EventId>
+    ensures value { result ≡ parent_in_run program.now stmt own.now }
+    ensures cost { steps.new ≤ steps.old + 2 }
 {
-    let tests = &activation.tests;
-    let run = of_run(program, stmt, latest(stmt, tests));
-    let outer = of_outer(parent_of(program, stmt), tests);
-    or_else(run, or_else(outer, activation.call))
+    let run = of_run(program, stmt, own.latest.get(stmt, steps));
+    let outer = of_outer(parent_of(program, stmt), &own.latest, steps);
+    or_else(run, or_else(outer, own.call))
 }
 
 /// The control parent of the event that comes next: the previous test of its loop, where it was
-/// true, or the latest test of the statement round it, or the call that began its activation, and
-/// None in a process by itself.
-pub(crate) fn parent_at(
+/// true, or the latest test of the statement round it, or the call that began its run, and None in a
+/// process by itself. It takes two look-ups.
+pub(crate) fn parent_at<L: Ledger>(
     program: &Program,
-    activations: &Stack<Activation>,
+    runs: &Stack<Run>,
     proc: &Proc,
+    steps: &mut Steps<L>,
 ) -> Option<EventId>
-    ensures { result ≡ parent_at_todo program.now activations.now proc.now.todo }
+    ensures value { result ≡ parent_at_todo program.now runs.now proc.now.todo }
+    ensures cost { steps.new ≤ steps.old + 2 }
 {
-    match activations.top() {
-        Some(activation) => match next_stmt(proc) {
-            Some(stmt) => parent_in(program, stmt, activation),
+    match runs.top() {
+        Some(own) => match next_stmt(proc) {
+            Some(stmt) => parent_in(program, stmt, own, steps),
             None => None,
         },
         None => None,
@@ -125,14 +118,16 @@ fn is_passed(value: Option<i64>) -> bool
     }
 }
 
-/// Puts the event on the tests, where its statement is an `If` or a `While`.
-fn push_test(
+/// The event is its statement's latest test, where that is an `If` or a `While`.
+fn set_test<L: Ledger>(
     program: &Program,
     me: EventId,
     event: &Event,
-    tests: &mut Stack<Test>,
+    tests: &mut ByStmt<Test>,
+    steps: &mut Steps<L>,
 ) -> Result<(), Memory>
-    ensures { OnOk result (tests.new ≡ tests_after (kind_of program.now event.now.stmt) event.now.stmt me event.now.value tests.old) }
+    ensures value { OnOk result (tests.new ≡ tests_after (kind_of program.now event.now.stmt) event.now.stmt me event.now.value tests.old) }
+    ensures cost { steps.new ≤ steps.old + 1 }
 {
     let test = Test {
         stmt: event.stmt,
@@ -141,28 +136,31 @@ fn push_test(
     };
     match program.stmts.as_slice().get(event.stmt as usize) {
         Some(stmt) => match stmt.kind {
-            Kind::If(..) => tests.push(test),
-            Kind::While(..) => tests.push(test),
+            Kind::If(..) => tests.set(event.stmt, test, steps),
+            Kind::While(..) => tests.set(event.stmt, test, steps),
             _ => Ok(()),
         },
         None => Ok(()),
     }
 }
 
-/// Puts the event on the tests of the running activation, where it is of a test. `Memory` is want of
-/// memory.
-pub(crate) fn add_test(
+/// The event is the latest test of its statement in the top run, where it is of a test. `Memory` is
+/// want of memory.
+pub(crate) fn add_test<L: Ledger>(
     program: &Program,
     me: EventId,
     event: &Event,
-    activations: &mut Stack<Activation>,
+    runs: &mut Stack<Run>,
+    steps: &mut Steps<L>,
 ) -> Result<(), Memory>
-    ensures { OnOk result (activations.new ≡ with_test program.now me event.now activations.old) }
+    ensures value { OnOk result (runs.new ≡ with_test program.now me event.now runs.old) }
+    ensures cost { steps.new ≤ steps.old + 2 }
 {
-    match activations.pop() {
-        Some(mut activation) => {
-            push_test(program, me, event, &mut activation.tests)?;
-            activations.push(activation)
+    match runs.pop() {
+        Some(mut own) => {
+            set_test(program, me, event, &mut own.latest, steps)?;
+            steps.tick();
+            runs.push(own)
         }
         None => Ok(()),
     }

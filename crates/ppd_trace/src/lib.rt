@@ -3,13 +3,15 @@
 #![tactic(auto)]
 
 mod activations;
+mod by_stmt;
 mod control;
 mod events;
 mod pairs;
 mod reads;
 mod steps;
 mod tellers;
+mod tracer;
 mod whole;
 
-pub use tellers::tell_story;
-pub use whole::full_trace;
+pub use tellers::{tell_story, tell_story_in};
+pub use whole::{full_trace, full_trace_in};

@@ -1,16 +1,18 @@
-ghost use Rattle.std.specs.Prelude.{◌≡◌, ℕ, ◌+◌, ◌<◌, ◌≤◌, ◌^◌, length, None, Some, IfOk, OnOk, if◌then◌else◌};
+ghost use Rattle.std.specs.Prelude.{◌≡◌, ℕ, ◌+◌, ◌*◌, ◌<◌, ◌≤◌, ◌^◌, length, None, Some, IfOk, OnOk, if◌then◌else◌};
 ghost use Rattle.std.specs.List.{All};
 ghost use Rattle.ppd_model.specs.FullTrace.{or_else};
 ghost use Rattle.ppd_model.specs.Numbers.{sync};
 ghost use Rattle.ppd_model.specs.Story.{is_event};
 ghost use Rattle.ppd_model.specs.Synchronizations.{capacity_of as capacity_in_program, event_or, kind_of_sync as kind_of, leading_in, led_to as number_led_to, paired_of, sync_of};
 ghost use Rattle.ppd_trace.specs.Leading.{HavePairs, KeepsFirst, LeadTo, found_in, looked_up, target};
+ghost use Rattle.ppd_trace.specs.Spending.{steps_in};
 
-use ppd_ast::{Memory, Program, SyncKind};
+use ppd_ast::{Memory, Program, Steps, SyncKind};
 use ppd_model::{EventId, Story, Taken};
 use ppd_sem::Need;
 use std::alloc::Global;
 use std::collections::HashMap;
+use std::sync::ledger::Ledger;
 
 /// The first event that leads to a synchronization of one kind, by its object and its number.
 type Leads = HashMap<(u8, u64), EventId>;
@@ -75,22 +77,31 @@ fn target_of(program: &Program, kind: SyncKind, step: &Taken) -> Option<(u8, u64
     }
 }
 
-fn found(leads: &Leads, object: u8, number: u64) -> Option<EventId>
-    ensures { result ≡ found_in leads.now object number }
+fn found<L: Ledger>(leads: &Leads, object: u8, number: u64, steps: &mut Steps<L>) -> Option<EventId>
+    ensures value { result ≡ found_in leads.now object number }
+    ensures cost { steps.new ≡ steps.old + 1 }
 {
+    steps.tick();
     leads.get(&(object, number)).copied()
 }
 
 /// Keeps the event for its target, where there is no earlier one.
-fn keep_first(leads: &mut Leads, target: Option<(u8, u64)>, event: EventId) -> Result<(), Memory>
-    ensures { OnOk result (KeepsFirst leads.old leads.new target event) }
+fn keep_first<L: Ledger>(
+    leads: &mut Leads,
+    target: Option<(u8, u64)>,
+    event: EventId,
+    steps: &mut Steps<L>,
+) -> Result<(), Memory>
+    ensures kept { OnOk result (KeepsFirst leads.old leads.new target event) }
+    ensures cost { steps.new ≤ steps.old + 2 }
 {
     let Some((object, number)) = target else {
         return Ok(());
     };
-    if found(leads, object, number).is_some() {
+    if found(leads, object, number, steps).is_some() {
         return Ok(());
     }
+    steps.tick();
     match leads.insert((object, number), event) {
         Ok(_) => Ok(()),
         Err(_) => Err(Memory),
@@ -110,60 +121,68 @@ fn number_after(number: u32, taken: &Taken) -> u32
 }
 
 /// Keeps the first events among these steps of a process that lead to synchronizations of a kind.
-fn add_process(
+fn add_process<L: Ledger>(
     program: &Program,
     kind: SyncKind,
     process: u8,
-    steps: &[Taken],
+    own: &[Taken],
     leads: &mut Leads,
+    steps: &mut Steps<L>,
 ) -> Result<(), Memory>
-    requires { length steps.now < 2 ^ 32 }
-    ensures { OnOk result ((object number : ℕ) → found_in leads.new object number ≡ or_else (found_in leads.old object number) (event_or process (leading_in program.now (Some (sync kind object number)) 0 steps.now) None)) }
+    requires { length own.now < 2 ^ 32 }
+    ensures kept { OnOk result ((object number : ℕ) → found_in leads.new object number ≡ or_else (found_in leads.old object number) (event_or process (leading_in program.now (Some (sync kind object number)) 0 own.now) None)) }
+    ensures cost { steps.new ≤ steps.old + 3 * length own.now }
 {
     let mut number = 0;
-    for index in 0..steps.len() {
-        let taken = &steps[index];
+    for index in 0..own.len() {
+        steps.tick();
+        let taken = &own[index];
         let target = target_of(program, kind, taken);
-        keep_first(leads, target, EventId { process, number })?;
+        keep_first(leads, target, EventId { process, number }, steps)?;
         number = number_after(number, taken);
     }
     Ok(())
 }
 
 /// The first events, process after process, that lead to the synchronizations of a kind.
-fn leads_to(
+fn leads_to<L: Ledger>(
     alloc: Global,
     program: &Program,
     kind: SyncKind,
     story: &Story,
+    steps: &mut Steps<L>,
 ) -> Result<Leads, Memory>
-    requires steps { All (λ steps. length steps < 2 ^ 32) story.now.steps }
+    requires few { All (λ own. length own < 2 ^ 32) story.now.steps }
     requires processes { length story.now.steps ≤ 2 ^ 8 }
-    ensures { IfOk result (λ leads. LeadTo program.now kind story.now leads) }
+    ensures leads { IfOk result (λ leads. LeadTo program.now kind story.now leads) }
+    ensures cost { steps.new ≤ steps.old + length story.now.steps + 3 * steps_in story.now }
 {
     let lists = story.steps.as_slice();
     let mut leads = HashMap::new(alloc);
     for process in 0..lists.len() {
+        steps.tick();
         let own = lists[process].as_slice();
-        add_process(program, kind, process as u8, own, &mut leads)?;
+        add_process(program, kind, process as u8, own, &mut leads, steps)?;
     }
     Ok(leads)
 }
 
 /// Finds the pairs of a story, in three passes over its steps. `Memory` is want of memory.
-pub(crate) fn find_pairs(
+pub(crate) fn find_pairs<L: Ledger>(
     alloc: Global,
     program: &Program,
     story: Story,
+    steps: &mut Steps<L>,
 ) -> Result<PairedStory, Memory>
-    requires steps { All (λ steps. length steps < 2 ^ 32) story.steps }
+    requires few { All (λ own. length own < 2 ^ 32) story.steps }
     requires processes { length story.steps ≤ 2 ^ 8 }
+    ensures cost { steps.new ≤ steps.old + 3 * length story.steps + 9 * steps_in story }
     ensures story { IfOk result (λ told. told.story ≡ story) }
     ensures pairs { IfOk result (λ told. HavePairs program.now told.story told.takes told.receives told.sends) }
 {
-    let takes = leads_to(alloc, program, SyncKind::P, &story)?;
-    let receives = leads_to(alloc, program, SyncKind::Recv, &story)?;
-    let sends = leads_to(alloc, program, SyncKind::Send, &story)?;
+    let takes = leads_to(alloc, program, SyncKind::P, &story, steps)?;
+    let receives = leads_to(alloc, program, SyncKind::Recv, &story, steps)?;
+    let sends = leads_to(alloc, program, SyncKind::Send, &story, steps)?;
     Ok(PairedStory {
         story,
         takes,
@@ -173,13 +192,19 @@ pub(crate) fn find_pairs(
 }
 
 /// The event that leads to a synchronization of this number.
-fn look_up(told: &PairedStory, need: Need, number: u64) -> Option<EventId>
-    ensures { result ≡ looked_up told.now.takes told.now.receives told.now.sends need number }
+fn look_up<L: Ledger>(
+    told: &PairedStory,
+    need: Need,
+    number: u64,
+    steps: &mut Steps<L>,
+) -> Option<EventId>
+    ensures cost { steps.new ≤ steps.old + 1 }
+    ensures value { result ≡ looked_up told.now.takes told.now.receives told.now.sends need number }
 {
     match need {
-        Need::P { sem, .. } => found(&told.takes, sem, number),
-        Need::Recv { chan, .. } => found(&told.receives, chan, number),
-        Need::Send { chan, .. } => found(&told.sends, chan, number),
+        Need::P { sem, .. } => found(&told.takes, sem, number, steps),
+        Need::Recv { chan, .. } => found(&told.receives, chan, number, steps),
+        Need::Send { chan, .. } => found(&told.sends, chan, number, steps),
         _ => None,
     }
 }
@@ -188,12 +213,18 @@ fn look_up(told: &PairedStory, need: Need, number: u64) -> Option<EventId>
 /// to it: the `V` of a `P`'s number, the send of a receive's number, and the receive that finds a
 /// send's place free.
 #[tactic(auto, using(crate::proofs::Leading::unpaired, crate::proofs::Leading::paired_as))]
-pub(crate) fn paired(program: &Program, told: &PairedStory, step: &Taken) -> Option<EventId>
+pub(crate) fn paired<L: Ledger>(
+    program: &Program,
+    told: &PairedStory,
+    step: &Taken,
+    steps: &mut Steps<L>,
+) -> Option<EventId>
     requires { HavePairs program.now told.now.story told.now.takes told.now.receives told.now.sends }
-    ensures { result ≡ paired_of program.now told.now.story step.now }
+    ensures cost { steps.new ≤ steps.old + 1 }
+    ensures value { result ≡ paired_of program.now told.now.story step.now }
 {
     match step.number {
-        Some(number) => look_up(told, step.need, u64::from(number)),
+        Some(number) => look_up(told, step.need, u64::from(number), steps),
         None => None,
     }
 }

@@ -1,17 +1,20 @@
-ghost use Rattle.std.specs.Prelude.{◌≡◌, ◌++◌, get_or, None, IfOk, OnOk};
-ghost use Rattle.ppd_model.specs.FullTrace.{answers_past as answers_past_spot, first_tag as first_tag_of, tag_at as tag_at_spot, tags_of as tags_of_reads, top_tags as top_tags_of};
+ghost use Rattle.std.specs.Prelude.{◌≡◌, ◌+◌, ◌*◌, ◌≤◌, ◌++◌, get_or, length, None, IfOk, OnOk};
+ghost use Rattle.ppd_model.specs.FullTrace.{answers_past as answers_past_spot, first_tag as first_tag_of, tag_at as tag_at_spot, tags_of as tags_of_reads};
+ghost use Rattle.ppd_trace.specs.Runs.{top_tags as top_tags_of};
 
-use ppd_ast::{Memory, Seq};
-use ppd_model::{Activation, EventId};
+use crate::tracer::Run;
+use ppd_ast::{Memory, Seq, Steps};
+use ppd_model::EventId;
 use ppd_sem::{Access, Spot, Stack};
 use std::alloc::Global;
+use std::sync::ledger::Ledger;
 
-/// The tags of the local cells of the running activation.
-pub(crate) fn top_tags(activations: &Stack<Activation>) -> &[Option<EventId>]
-    ensures { result.now ≡ top_tags_of activations.now }
+/// The tags of the local cells of the top run.
+pub(crate) fn top_tags(runs: &Stack<Run>) -> &[Option<EventId>]
+    ensures { result.now ≡ top_tags_of runs.now }
 {
-    match activations.top() {
-        Some(activation) => activation.tags.as_slice(),
+    match runs.top() {
+        Some(own) => own.tags.as_slice(),
         None => &[],
     }
 }
@@ -59,33 +62,39 @@ fn answers_past(answers: &[Option<EventId>], spot: Spot) -> &[Option<EventId>]
 }
 
 /// Appends the tags of reads in their order.
-fn push_tags(
+fn push_tags<L: Ledger>(
     tags: &mut Seq<Option<EventId>>,
     locals: &[Option<EventId>],
     answers: &[Option<EventId>],
     reads: &[Access],
+    steps: &mut Steps<L>,
 ) -> Result<(), Memory>
-    ensures { OnOk result (tags.new ≡ tags.old ++ tags_of_reads locals.now answers.now reads.now) }
+    ensures value { OnOk result (tags.new ≡ tags.old ++ tags_of_reads locals.now answers.now reads.now) }
+    ensures cost { steps.new ≤ steps.old + 2 * length reads.now }
 {
     match reads {
         [] => Ok(()),
         [first, rest @ ..] => {
+            steps.tick();
+            steps.tick();
             tags.push(tag_at(locals, answers, first.spot))?;
-            push_tags(tags, locals, answers_past(answers, first.spot), rest)
+            push_tags(tags, locals, answers_past(answers, first.spot), rest, steps)
         }
     }
 }
 
 /// The tags of reads in their order: a local one has its cell's, a shared one the next answer's.
-pub(crate) fn tags_of(
+pub(crate) fn tags_of<L: Ledger>(
     alloc: Global,
     locals: &[Option<EventId>],
     answers: &[Option<EventId>],
     reads: &[Access],
+    steps: &mut Steps<L>,
 ) -> Result<Seq<Option<EventId>>, Memory>
-    ensures { IfOk result (λ tags. tags ≡ tags_of_reads locals.now answers.now reads.now) }
+    ensures cost { steps.new ≤ steps.old + 2 * length reads.now }
+    ensures value { IfOk result (λ tags. tags ≡ tags_of_reads locals.now answers.now reads.now) }
 {
     let mut tags = Seq::new(alloc);
-    push_tags(&mut tags, locals, answers, reads)?;
+    push_tags(&mut tags, locals, answers, reads, steps)?;
     Ok(tags)
 }

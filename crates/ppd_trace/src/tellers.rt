@@ -1,4 +1,4 @@
-ghost use Rattle.std.specs.Prelude.{◌≡◌, ◌+◌, ◌-◌, ◌<◌, ◌≤◌, ◌^◌, ◌++◌, ◌∷◌, [], get_or, length, replicate, true, IfErr, IfOk, OnOk, None};
+ghost use Rattle.std.specs.Prelude.{◌≡◌, ◌+◌, ◌-◌, ◌*◌, ◌<◌, ◌≤◌, ◌^◌, ◌++◌, ◌∷◌, [], get_or, length, replicate, true, IfErr, IfOk, OnOk, None};
 ghost use Rattle.ppd_ast.specs.Valid.{IsValid};
 ghost use Rattle.ppd_ast.specs.ValidPlan.{IsValidPlan};
 ghost use Rattle.ppd_model.specs.World.{change};
@@ -9,11 +9,13 @@ ghost use Rattle.ppd_trace.specs.Traced.{IsStoryOf};
 use crate::activations::push_copies;
 use crate::reads::tag_in;
 use ppd_ast::limits::MOST_BUDGET;
-use ppd_ast::{Ids, Memory, Nums, Plan, Program, Seq};
+use ppd_ast::{Ids, Memory, Nums, Plan, Program, Seq, Steps};
 use ppd_model::{DriveError, EventId, Story, Taken};
 use ppd_sem::Need;
 use ppd_world::World;
 use std::alloc::Global;
+use std::marker::Brand;
+use std::sync::ledger::{Blank, Ledger};
 
 /// A world with how many events each process had, the event that last wrote each shared cell, and
 /// the steps of each process.
@@ -35,21 +37,30 @@ fn count_in(counts: &[u32], process: usize) -> u32
 }
 
 /// Counts the step of a process, where it is an event.
-fn count(counts: &mut Ids, process: usize, need: Need)
+fn count<L: Ledger>(counts: &mut Ids, process: usize, need: Need, steps: &mut Steps<L>)
     requires { get_or counts.old process 0 + 1 < 2 ^ 32 }
-    ensures { counts.new ≡ counts_after counts.old process need }
+    ensures value { counts.new ≡ counts_after counts.old process need }
+    ensures cost { steps.new ≤ steps.old + 1 }
 {
     if need.is_event() {
+        steps.tick();
         let count = count_in(counts.as_slice(), process);
         counts.set(process, count + 1);
     }
 }
 
 /// The event is the last one that wrote the cell, where the step writes one.
-fn set_writer(writers: &mut Seq<Option<EventId>>, need: Need, event: EventId)
-    ensures { writers.new ≡ writers_set writers.old event need }
+fn set_writer<L: Ledger>(
+    writers: &mut Seq<Option<EventId>>,
+    need: Need,
+    event: EventId,
+    steps: &mut Steps<L>,
+)
+    ensures cost { steps.new ≤ steps.old + 1 }
+    ensures value { writers.new ≡ writers_set writers.old event need }
 {
     if let Need::Write(cell, _) = need {
+        steps.tick();
         writers.set(cell as usize, Some(event));
     }
 }
@@ -70,55 +81,72 @@ fn tagged(writers: &[Option<EventId>], taken: Taken) -> Taken
     }
 }
 
-fn push_one(steps: &mut Seq<Taken>, taken: Taken) -> Result<(), Memory>
-    ensures { OnOk result (steps.new ≡ steps.old ++ taken ∷ []) }
+fn push_one(own: &mut Seq<Taken>, taken: Taken) -> Result<(), Memory>
+    ensures { OnOk result (own.new ≡ own.old ++ taken ∷ []) }
 {
-    steps.push(taken)
+    own.push(taken)
 }
 
 /// Appends a step to those of its process.
-fn push_step(steps: &mut Vec<Seq<Taken>>, process: usize, taken: Taken) -> Result<(), Memory>
-    ensures { OnOk result (steps.new.items ≡ change (λ xs. xs ++ taken ∷ []) process steps.old.items) }
+fn push_step<L: Ledger>(
+    lists: &mut Vec<Seq<Taken>>,
+    process: usize,
+    taken: Taken,
+    steps: &mut Steps<L>,
+) -> Result<(), Memory>
+    ensures value { OnOk result (lists.new.items ≡ change (λ xs. xs ++ taken ∷ []) process lists.old.items) }
+    ensures cost { steps.new ≤ steps.old + 1 }
 {
-    if process >= steps.len() {
+    if process >= lists.len() {
         return Ok(());
     }
-    push_one(&mut steps[process], taken)
+    steps.tick();
+    push_one(&mut lists[process], taken)
 }
 
 impl<'a> Teller<'a> {
     /// Takes the step of process `p`, which is enabled, and tells of it.
-    fn tell(&mut self, p: u8) -> Result<(), Memory>
+    fn tell<L: Ledger>(&mut self, p: u8, steps: &mut Steps<L>) -> Result<(), Memory>
         requires reached { IsReached self.old.world }
         requires enabled { can_step self.old.world p ≡ true }
         requires few { get_or self.old.counts p 0 + 1 < 2 ^ 32 }
-        ensures { OnOk result (HasTold self.old.world self.old.counts self.old.writers self.old.steps.items p self.new.world self.new.counts self.new.writers self.new.steps.items) }
+        ensures cost { steps.new ≤ steps.old + 5 }
+        ensures told { OnOk result (HasTold self.old.world self.old.counts self.old.writers self.old.steps.items p self.new.world self.new.counts self.new.writers self.new.steps.items) }
     {
         let process = p as usize;
         let event = EventId {
             process: p,
             number: count_in(self.counts.as_slice(), process),
         };
+        steps.tick();
         let taken = tagged(self.writers.as_slice(), self.world.next(p));
+        steps.tick();
         self.world.step(p)?;
-        push_step(&mut self.steps, process, taken)?;
-        set_writer(&mut self.writers, taken.need, event);
-        count(&mut self.counts, process, taken.need);
+        push_step(&mut self.steps, process, taken, steps)?;
+        set_writer(&mut self.writers, taken.need, event, steps);
+        count(&mut self.counts, process, taken.need, steps);
         Ok(())
     }
 
     /// Takes the step of process `p`, which is number `index` of a schedule, and tells of it.
-    fn follow(&mut self, p: u8, index: u32) -> Result<(), DriveError>
+    fn follow<L: Ledger>(
+        &mut self,
+        p: u8,
+        index: u32,
+        steps: &mut Steps<L>,
+    ) -> Result<(), DriveError>
         requires reached { IsReached self.old.world }
         requires few { get_or self.old.counts p 0 + 1 < 2 ^ 32 }
         ensures enabled { OnOk result (can_step self.old.world p ≡ true) }
         ensures told { OnOk result (HasTold self.old.world self.old.counts self.old.writers self.old.steps.items p self.new.world self.new.counts self.new.writers self.new.steps.items) }
         ensures cause { IfErr result (IsCause self.old.world p index) }
+        ensures cost { steps.new ≤ steps.old + 6 }
     {
+        steps.tick();
         if !self.world.enabled(p) {
             return Err(DriveError::NotEnabled(index));
         }
-        match self.tell(p) {
+        match self.tell(p, steps) {
             Ok(()) => Ok(()),
             Err(_) => Err(DriveError::Memory),
         }
@@ -126,42 +154,57 @@ impl<'a> Teller<'a> {
 }
 
 /// So many zeros.
-fn zeros(alloc: Global, count: usize) -> Result<Ids, Memory>
-    ensures { IfOk result (λ counts. counts ≡ replicate count 0) }
+fn zeros<L: Ledger>(alloc: Global, count: usize, steps: &mut Steps<L>) -> Result<Ids, Memory>
+    ensures cost { steps.new ≤ steps.old + 2 * count }
+    ensures value { IfOk result (λ counts. counts ≡ replicate count 0) }
 {
     let mut counts = Seq::new(alloc);
     for _index in 0..count {
+        steps.tick();
+        steps.tick();
         counts.push(0)?;
     }
     Ok(counts)
 }
 
-fn push_empty(steps: &mut Vec<Seq<Taken>>, alloc: Global) -> Result<(), Memory>
-    ensures { OnOk result (steps.new.items ≡ steps.old.items ++ [] ∷ []) }
+fn push_empty(lists: &mut Vec<Seq<Taken>>, alloc: Global) -> Result<(), Memory>
+    ensures { OnOk result (lists.new.items ≡ lists.old.items ++ [] ∷ []) }
 {
-    match steps.push(Seq::new(alloc)) {
+    match lists.push(Seq::new(alloc)) {
         Ok(()) => Ok(()),
         Err(_) => Err(Memory),
     }
 }
 
 /// So many empty lists.
-fn no_steps(alloc: Global, count: usize) -> Result<Vec<Seq<Taken>>, Memory>
-    ensures { IfOk result (λ steps. steps.items ≡ replicate count []) }
+fn no_steps<L: Ledger>(
+    alloc: Global,
+    count: usize,
+    steps: &mut Steps<L>,
+) -> Result<Vec<Seq<Taken>>, Memory>
+    ensures value { IfOk result (λ lists. lists.items ≡ replicate count []) }
+    ensures cost { steps.new ≤ steps.old + 2 * count }
 {
-    let mut steps = Vec::new(alloc);
+    let mut lists = Vec::new(alloc);
     for _index in 0..count {
-        push_empty(&mut steps, alloc)?;
+        steps.tick();
+        steps.tick();
+        push_empty(&mut lists, alloc)?;
     }
-    Ok(steps)
+    Ok(lists)
 }
 
 /// So many cells that nothing wrote.
-fn no_writers(alloc: Global, count: usize) -> Result<Seq<Option<EventId>>, Memory>
-    ensures { IfOk result (λ writers. writers ≡ replicate count None) }
+fn no_writers<L: Ledger>(
+    alloc: Global,
+    count: usize,
+    steps: &mut Steps<L>,
+) -> Result<Seq<Option<EventId>>, Memory>
+    ensures cost { steps.new ≤ steps.old + 2 * count }
+    ensures value { IfOk result (λ writers. writers ≡ replicate count None) }
 {
     let mut writers = Seq::new(alloc);
-    push_copies(&mut writers, None, count)?;
+    push_copies(&mut writers, None, count, steps)?;
     Ok(writers)
 }
 
@@ -174,45 +217,55 @@ fn process_count(program: &Program) -> usize
 }
 
 /// Before the first step nothing is told.
-fn begin<'a>(
+fn begin<'a, L: Ledger>(
     alloc: Global,
     program: &'a Program,
     plan: &'a Plan,
     budget: u32,
+    steps: &mut Steps<L>,
 ) -> Result<Teller<'a>, Memory>
     requires program { IsValid program.now }
     requires plan { IsValidPlan program.now plan.now }
     requires budget { budget ≤ MOST_BUDGET }
-    ensures { IfOk result (λ t. Tells program.now plan.now budget [] t.world t.counts t.writers t.steps.items) }
+    ensures cost { steps.new ≤ steps.old + 4 * (length program.now.starts + length program.now.bodies) }
+    ensures told { IfOk result (λ t. Tells program.now plan.now budget [] t.world t.counts t.writers t.steps.items) }
 {
     let world = World::new(alloc, program, plan, budget)?;
     let count = process_count(program);
     Ok(Teller {
-        counts: zeros(alloc, count)?,
-        writers: no_writers(alloc, world.cells().len())?,
-        steps: no_steps(alloc, count)?,
+        counts: zeros(alloc, count, steps)?,
+        writers: no_writers(alloc, world.cells().len(), steps)?,
+        steps: no_steps(alloc, count, steps)?,
         world,
     })
 }
 
-fn push_values(values: &mut Nums, cells: &[i64]) -> Result<(), Memory>
-    ensures { OnOk result (values.new ≡ values.old ++ cells.now) }
+fn push_values<L: Ledger>(
+    values: &mut Nums,
+    cells: &[i64],
+    steps: &mut Steps<L>,
+) -> Result<(), Memory>
+    ensures cost { steps.new ≤ steps.old + 2 * length cells.now }
+    ensures value { OnOk result (values.new ≡ values.old ++ cells.now) }
 {
     match cells {
         [] => Ok(()),
         [first, rest @ ..] => {
+            steps.tick();
+            steps.tick();
             values.push(*first)?;
-            push_values(values, rest)
+            push_values(values, rest, steps)
         }
     }
 }
 
 /// The story of the steps that were taken.
-fn close(alloc: Global, teller: Teller) -> Result<Story, Memory>
-    ensures { IfOk result (λ story. story ≡ record { steps = teller.entry.steps.items; cells = teller.entry.world.world.shared; writers = teller.entry.writers }) }
+fn close<L: Ledger>(alloc: Global, teller: Teller, steps: &mut Steps<L>) -> Result<Story, Memory>
+    ensures cost { steps.new ≤ steps.old + 2 * length teller.entry.world.world.shared }
+    ensures value { IfOk result (λ story. story ≡ record { steps = teller.entry.steps.items; cells = teller.entry.world.world.shared; writers = teller.entry.writers }) }
 {
     let mut cells = Nums::new(alloc);
-    push_values(&mut cells, teller.world.cells())?;
+    push_values(&mut cells, teller.world.cells(), steps)?;
     Ok(Story {
         steps: Seq::from_vec(teller.steps),
         cells,
@@ -220,9 +273,63 @@ fn close(alloc: Global, teller: Teller) -> Result<Story, Memory>
     })
 }
 
+/// The story, as `tell_story` answers it, in at most 7 steps for each number of the schedule and for
+/// each shared cell and body of the program. A step is a turn of a loop, an item that is put into a
+/// list, or a call that lets one statement be evaluated; so the memory that is taken is bounded by as
+/// much, but for what the world takes. The bound holds for an error too.
+pub fn tell_story_in<L: Ledger>(
+    alloc: Global,
+    program: &Program,
+    plan: &Plan,
+    budget: u32,
+    schedule: &[u8],
+    steps: &mut Steps<L>,
+) -> Result<Story, DriveError>
+    requires program { IsValid program.now }
+    requires plan { IsValidPlan program.now plan.now }
+    requires budget { budget ≤ MOST_BUDGET }
+    ensures story { IsStoryOf program.now plan.now budget schedule.now result }
+    ensures cost { steps.new ≤ steps.old + 7 * (length schedule.now + length program.now.starts + length program.now.bodies) }
+{
+    let mut teller = match begin(alloc, program, plan, budget, steps) {
+        Ok(teller) => teller,
+        Err(_) => return Err(DriveError::Memory),
+    };
+    for index in 0..schedule.len() {
+        steps.tick();
+        teller.follow(schedule[index], index as u32, steps)?;
+    }
+    match close(alloc, teller, steps) {
+        Ok(story) => Ok(story),
+        Err(_) => Err(DriveError::Memory),
+    }
+}
+
+/// The story, with steps that nobody reads.
+fn tell_story_from<L: Ledger>(
+    alloc: Global,
+    program: &Program,
+    plan: &Plan,
+    budget: u32,
+    schedule: &[u8],
+    blank: Blank,
+) -> Result<Story, DriveError>
+    requires name { blank.name ≡ L.name }
+    requires parts { blank.parts ≡ L.parts }
+    requires some { 0 < blank.parts }
+    requires program { IsValid program.now }
+    requires plan { IsValidPlan program.now plan.now }
+    requires budget { budget ≤ MOST_BUDGET }
+    ensures { IsStoryOf program.now plan.now budget schedule.now result }
+{
+    let mut steps: Steps<L> = Steps::new(blank);
+    tell_story_in(alloc, program, plan, budget, schedule, &mut steps)
+}
+
 /// The story of a schedule of a valid program with a valid plan. The budget, at most 500,000, is
 /// that of each process. `NotEnabled(n)`: the first `n` steps can be taken, and number `n`, from 0,
-/// is the first that names no enabled process. `Memory` is want of memory.
+/// is the first that names no enabled process. `Memory` is want of memory. It is told in the steps
+/// that `tell_story_in` counts.
 pub fn tell_story(
     alloc: Global,
     program: &Program,
@@ -235,15 +342,5 @@ pub fn tell_story(
     requires budget { budget ≤ MOST_BUDGET }
     ensures { IsStoryOf program.now plan.now budget schedule.now result }
 {
-    let mut teller = match begin(alloc, program, plan, budget) {
-        Ok(teller) => teller,
-        Err(_) => return Err(DriveError::Memory),
-    };
-    for index in 0..schedule.len() {
-        teller.follow(schedule[index], index as u32)?;
-    }
-    match close(alloc, teller) {
-        Ok(story) => Ok(story),
-        Err(_) => Err(DriveError::Memory),
-    }
+    tell_story_from::<Brand>(alloc, program, plan, budget, schedule, Blank::new(1))
 }

@@ -1,66 +1,138 @@
-ghost use Rattle.std.specs.Prelude.{◌≡◌, ◌≤◌, IfOk};
+ghost use Rattle.std.specs.Prelude.{◌≡◌, ◌+◌, ◌*◌, ◌<◌, ◌≤◌, length, IfOk};
+ghost use Rattle.std.specs.List.{sum_by};
 ghost use Rattle.ppd_ast.specs.Valid.{IsValid};
 ghost use Rattle.ppd_ast.specs.ValidPlan.{IsValidPlan};
 ghost use Rattle.ppd_model.specs.FullTrace.{trace_of};
 ghost use Rattle.ppd_sem.specs.Runs.{IsNumbered, IsRunnable};
 ghost use Rattle.ppd_trace.specs.Leading.{HavePairs};
+ghost use Rattle.ppd_trace.specs.Spending.{extent, most_cells, steps_in};
 ghost use Rattle.ppd_trace.specs.Traced.{IsTraceOf, IsTraceable};
 
 use crate::pairs::{PairedStory, find_pairs};
 use crate::steps::trace_process;
-use crate::tellers::tell_story;
+use crate::tellers::tell_story_in;
 use ppd_ast::limits::MOST_BUDGET;
-use ppd_ast::{Memory, Plan, Program, Seq};
+use ppd_ast::{Memory, Plan, Program, Seq, Steps};
 use ppd_model::{DriveError, Story, Trace};
 use std::alloc::Global;
+use std::marker::Brand;
+use std::sync::ledger::{Blank, Ledger};
 
 /// The trace of a story.
-fn trace_all(
+fn trace_all<L: Ledger>(
     alloc: Global,
     program: &Program,
     plan: &Plan,
     budget: u32,
     told: &PairedStory,
+    steps: &mut Steps<L>,
 ) -> Result<Trace, Memory>
     requires program { IsRunnable program.now }
     requires plan { IsNumbered plan.now }
     requires story { IsTraceable program.now plan.now budget told.now.story }
     requires pairs { HavePairs program.now told.now.story told.now.takes told.now.receives told.now.sends }
-    ensures { IfOk result (λ trace. trace ≡ trace_of program.now plan.now budget told.now.story) }
+    ensures trace { IfOk result (λ trace. trace ≡ trace_of program.now plan.now budget told.now.story) }
+    ensures cost { steps.new ≤ steps.old + 4 * length program.now.bodies + 2 * sum_by (λ b. b.cells) program.now.bodies + (3 * most_cells program.now + 12) * steps_in told.now.story }
 {
     let lists = told.story.steps.as_slice();
     let mut events = Seq::new(alloc);
     for process in 0..lists.len() {
+        steps.tick();
         let own = lists[process].as_slice();
-        events.push(trace_process(alloc, program, plan, budget, told, process as u8, own)?)?;
+        let traced = trace_process(
+            alloc,
+            program,
+            plan,
+            budget,
+            told,
+            process as u8,
+            own,
+            steps,
+        )?;
+        steps.tick();
+        events.push(traced)?;
     }
     Ok(Trace { events })
 }
 
 /// The trace of the story of a valid program's schedule.
-fn trace_story(
+fn trace_story<L: Ledger>(
     alloc: Global,
     program: &Program,
     plan: &Plan,
     budget: u32,
     story: Story,
+    steps: &mut Steps<L>,
 ) -> Result<Trace, Memory>
     requires program { IsValid program.now }
     requires plan { IsValidPlan program.now plan.now }
     requires story { IsTraceable program.now plan.now budget story }
-    ensures { IfOk result (λ trace. trace ≡ trace_of program.now plan.now budget story) }
+    ensures trace { IfOk result (λ trace. trace ≡ trace_of program.now plan.now budget story) }
+    ensures cost { steps.new ≤ steps.old + 7 * extent program.now + (3 * most_cells program.now + 21) * steps_in story }
 {
-    let told = find_pairs(alloc, program, story)?;
-    trace_all(alloc, program, plan, budget, &told)
+    let told = find_pairs(alloc, program, story, steps)?;
+    trace_all(alloc, program, plan, budget, &told, steps)
+}
+
+/// The full trace, as `full_trace` answers it, in a number of steps that is linear in the schedule. A
+/// step is a turn of a loop, an item that is put into a list or a map, a look-up in a map, or a call
+/// that lets one statement be evaluated; so the memory that is taken is linear in the schedule too.
+/// What one number of the schedule costs depends on the program alone, by the cells that one of its
+/// statements reads and writes at most. Beside it the shared cells, the bodies and the cells of their
+/// frames are counted once. The bound holds for an error too.
+pub fn full_trace_in<L: Ledger>(
+    alloc: Global,
+    program: &Program,
+    plan: &Plan,
+    budget: u32,
+    schedule: &[u8],
+    steps: &mut Steps<L>,
+) -> Result<Trace, DriveError>
+    requires program { IsValid program.now }
+    requires plan { IsValidPlan program.now plan.now }
+    requires budget { budget ≤ MOST_BUDGET }
+    ensures trace { IsTraceOf program.now plan.now budget schedule.now result }
+    ensures cost { steps.new ≤ steps.old + (3 * most_cells program.now + 28) * (length schedule.now + extent program.now) }
+{
+    let story = match tell_story_in(alloc, program, plan, budget, schedule, steps) {
+        Ok(story) => story,
+        Err(error) => return Err(error),
+    };
+    match trace_story(alloc, program, plan, budget, story, steps) {
+        Ok(trace) => Ok(trace),
+        Err(_) => Err(DriveError::Memory),
+    }
+}
+
+/// The full trace, with steps that nobody reads.
+fn full_trace_from<L: Ledger>(
+    alloc: Global,
+    program: &Program,
+    plan: &Plan,
+    budget: u32,
+    schedule: &[u8],
+    blank: Blank,
+) -> Result<Trace, DriveError>
+    requires name { blank.name ≡ L.name }
+    requires parts { blank.parts ≡ L.parts }
+    requires some { 0 < blank.parts }
+    requires program { IsValid program.now }
+    requires plan { IsValidPlan program.now plan.now }
+    requires budget { budget ≤ MOST_BUDGET }
+    ensures { IsTraceOf program.now plan.now budget schedule.now result }
+{
+    let mut steps: Steps<L> = Steps::new(blank);
+    full_trace_in(alloc, program, plan, budget, schedule, &mut steps)
 }
 
 /// The full trace of a schedule of a valid program with a valid plan (Choi, Miller and Netzer 1991,
 /// as a whole trace that is made at once): each event with the event that last wrote each place that
 /// it reads, the test or call that let it run, and the synchronization that leads to it. The budget,
 /// at most 500,000, is that of each process. The pair of a synchronization is looked up by its
-/// object and number, in maps that three passes over the steps fill. `NotEnabled(n)`: the first `n`
-/// steps can be taken, and number `n`, from 0, is the first that names no enabled process. `Memory`
-/// is want of memory.
+/// object and number, in maps that three passes over the steps fill, and the latest test of a
+/// statement in a map of its body's run. `NotEnabled(n)`: the first `n` steps can be taken, and number
+/// `n`, from 0, is the first that names no enabled process. `Memory` is want of memory. It is made
+/// in the steps that `full_trace_in` counts.
 pub fn full_trace(
     alloc: Global,
     program: &Program,
@@ -73,12 +145,5 @@ pub fn full_trace(
     requires budget { budget ≤ MOST_BUDGET }
     ensures { IsTraceOf program.now plan.now budget schedule.now result }
 {
-    let story = match tell_story(alloc, program, plan, budget, schedule) {
-        Ok(story) => story,
-        Err(error) => return Err(error),
-    };
-    match trace_story(alloc, program, plan, budget, story) {
-        Ok(trace) => Ok(trace),
-        Err(_) => Err(DriveError::Memory),
-    }
+    full_trace_from::<Brand>(alloc, program, plan, budget, schedule, Blank::new(1))
 }

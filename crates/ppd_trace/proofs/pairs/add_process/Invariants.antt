@@ -1,4 +1,4 @@
-use Rattle.std.proofs.Common.{◌≡◌, ℕ, ◌≤◌, Some, None, drop}
+use Rattle.std.proofs.Common.{◌≡◌, ℕ, ◌≤◌, ◌+◌, ◌*◌, Some, None, drop}
 use Rattle.ppd_model.specs.FullTrace.{or_else}
 use Rattle.ppd_model.specs.Numbers.{sync}
 use Rattle.ppd_model.specs.Synchronizations.{event_or, leading_in}
@@ -6,8 +6,9 @@ use Rattle.ppd_trace.specs.Leading.{found_in}
 use Rattle.ppd_trace.proofs.pairs.add_process.Given as goal
 
 abbrev pub invariant-loop-index : goal.invariant-loop-index
-invariant-loop-index l = record {
-  kept : (o k : ℕ) → or_else (found_in l.leads o k) (event_or l.process (leading_in l.program (Some (sync l.kind o k)) l.number (drop l.index l.steps)) None)
-      ≡ or_else (found_in l.initial.leads o k) (event_or l.process (leading_in l.program (Some (sync l.kind o k)) 0 l.steps) None);
+invariant-loop-index g l = record {
+  kept : (o k : ℕ) → or_else (found_in l.leads o k) (event_or l.process (leading_in l.program (Some (sync l.kind o k)) l.number (drop l.index l.own)) None)
+      ≡ or_else (found_in l.initial.leads o k) (event_or l.process (leading_in l.program (Some (sync l.kind o k)) 0 l.own) None);
   few : l.number ≤ l.index;
+  spent : l.steps ≤ l.fn.steps + 3 * l.index;
 }

@@ -1,29 +1,32 @@
-use Rattle.std.proofs.Common.{◌<◌, length, arith}
+use Rattle.std.proofs.Common.{◌+◌, ◌*◌, ◌<◌, length, arith}
 use Rattle.ppd_sem.specs.Process.{started}
 use Rattle.ppd_model.specs.FullTrace.{begun_tracing}
-use Rattle.ppd_trace.proofs.Following.{few_on, none_begun, own_begun, own_on, traced_on, traced_whole}
+use Rattle.ppd_trace.specs.Spending.{most_cells}
+use Rattle.ppd_trace.proofs.Costs.{turn_on}
+use Rattle.ppd_trace.proofs.Processes.{few_on, none_begun, own_begun, own_on, traced_on, traced_whole}
 use Rattle.ppd_trace.proofs.steps.trace_process.Goals as goal
 
 pub loop-index-init : goal.loop-index-init
-loop-index-init c =
-    let begun = c.in_ok-tracing.ensures.begun in
+loop-index-init g c =
+    let begun = c.in_ok-tracer.ensures.begun in
     record {
       traced = begun;
-      own = own_begun c.args.program.now c.args.plan.now c.args.process c.args.budget c.args.own.now c.in_ok-tracing.tracing begun c.requires.own;
-      running = c.in_ok-tracing.ensures.running;
-      few = none_begun c.args.program.now c.args.plan.now c.args.process c.args.budget c.in_ok-tracing.tracing begun;
+      own = own_begun c.args.program.now c.args.plan.now c.args.process c.args.budget c.args.own.now c.in_ok-tracer.tracer begun c.requires.own;
+      running = c.in_ok-tracer.ensures.running;
+      few = none_begun c.args.program.now c.args.plan.now c.args.process c.args.budget c.in_ok-tracer.tracer begun;
+      spent = omega (arith, c.in_ok-tracer.ensures.cost);
     }
 
 pub loop-index-preserved : goal.loop-index-preserved
-loop-index-preserved c =
+loop-index-preserved g c =
     let program = c.args.program.now in
     let plan = c.args.plan.now in
     let story = c.args.told.now.story in
     let p = c.args.process in
     let own = c.args.own.now in
     let i = c.loop-index.index in
-    let before = c.loop-index.tracing in
-    let now = c.trace_step.new.tracing in
+    let before = c.loop-index.tracer in
+    let now = c.trace_step.new.tracer in
     let inside : i < length own = omega arith in
     let e = c.in_ok-trace_step.ensures.ok in
     record {
@@ -31,8 +34,9 @@ loop-index-preserved c =
       own = own_on program plan story p own i _ before now inside e c.loop-index.invariant.own;
       running = c.in_ok-trace_step.ensures.kept;
       few = few_on program plan story p own i _ before now inside e c.loop-index.invariant.few;
+      spent = turn_on _ (3 * most_cells program + 12) i c.loop-index.steps c.trace_step.new.steps c.loop-index.invariant.spent (omega (arith, c.tick.ensures, c.in_ok-trace_step.ensures.cost));
     }
 
-pub returns : goal.returns
-returns c =
-    traced_whole c.args.program.now c.args.plan.now c.args.told.now.story c.args.process (begun_tracing (started c.args.program.now c.args.plan.now c.args.process c.args.budget)) c.args.own.now c.loop-index.index c.loop-index.tracing (omega arith) c.loop-index.invariant.traced
+pub returns-clause-events : goal.returns-clause-events
+returns-clause-events g c =
+    traced_whole c.args.program.now c.args.plan.now c.args.told.now.story c.args.process (begun_tracing (started c.args.program.now c.args.plan.now c.args.process c.args.budget)) c.args.own.now c.loop-index.index c.loop-index.tracer (omega arith) c.loop-index.invariant.traced

@@ -1,15 +1,23 @@
-use Rattle.std.proofs.Common.{ap, sym, subst, ◌∙◌}
+use Rattle.std.proofs.Common.{ap, sym, subst, ◌∙◌, arith}
 use Rattle.ppd_sem.specs.declared.proc.Proc.{Proc}
 use Rattle.ppd_sem.specs.Runs.{IsRunning}
-use Rattle.ppd_model.specs.declared.tracing.Tracing.{Tracing}
-use Rattle.ppd_trace.proofs.Following.{same_proc, stepped_by}
+use Rattle.ppd_trace.specs.declared.tracer.Tracer.{Tracer}
+use Rattle.ppd_trace.proofs.Processes.{stepped_by}
+use Rattle.ppd_trace.proofs.Keeping.{same_proc}
+use Rattle.ppd_trace.proofs.Spent.{cells_within}
 use Rattle.ppd_trace.proofs.steps.trace_step.Goals as goal
 
 pub feed-requires-clause-proc : goal.feed-requires-clause-proc
-feed-requires-clause-proc c =
+feed-requires-clause-proc g c =
     subst (λ (s : Proc). IsRunning c.args.program.now s)
-    (sym (ap (λ (t : Tracing). t.proc) c.in_ok-trace_by.ensures ∙ same_proc c.args.program.now c.args.plan.now c.args.told.now.story c.args.process c.args.taken.now c.args.taken.now.need c.args.tracing.now)) c.requires.proc
+    (sym (ap (λ (t : Tracer). t.proc) c.in_ok-trace_by.ensures.value ∙ same_proc c.args.program.now c.args.plan.now c.args.told.now.story c.args.process c.args.taken.now c.args.tracer.now)) c.requires.proc
 
 pub returns-clause-ok : goal.returns-clause-ok
-returns-clause-ok c =
-    stepped_by c.feed.result c.args.program.now c.args.plan.now c.args.told.now.story c.args.process c.args.taken.now c.args.tracing.now c.trace_by.new.tracing c.feed.new.proc c.in_ok-trace_by.ensures c.feed.ensures.ok
+returns-clause-ok g c =
+    stepped_by c.feed.result c.args.program.now c.args.plan.now c.args.told.now.story c.args.process c.args.taken.now c.args.tracer.now c.trace_by.new.tracer c.feed.new.proc c.in_ok-trace_by.ensures.value c.feed.ensures.ok
+
+pub returns-in_err-trace_by-clause-cost : goal.returns-in_err-trace_by-clause-cost
+returns-in_err-trace_by-clause-cost g c = omega (arith, c.in_err-trace_by.ensures.cost, cells_within c.args.program.now c.args.plan.now c.args.tracer.now.proc c.args.taken.now)
+
+pub returns-clause-cost : goal.returns-clause-cost
+returns-clause-cost g c = omega (arith, c.in_ok-trace_by.ensures.cost, c.tick.ensures, cells_within c.args.program.now c.args.plan.now c.args.tracer.now.proc c.args.taken.now)

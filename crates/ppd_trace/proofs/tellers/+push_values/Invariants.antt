@@ -2,4 +2,4 @@ use Rattle.std.proofs.Common.{length}
 use Rattle.ppd_trace.proofs.tellers.+push_values.Given as goal
 
 abbrev pub decreases-push_values : goal.decreases-push_values
-decreases-push_values l = length l.cells.now
+decreases-push_values g l = length l.cells.now

@@ -2,7 +2,7 @@ use Rattle.std.proofs.Common.{length, ap}
 use Rattle.ppd_trace.proofs.Told.{tells_none}
 use Rattle.ppd_trace.proofs.tellers.begin.Goals as goal
 
-pub returns : goal.returns
-returns c =
+pub returns-clause-told : goal.returns-clause-told
+returns-clause-told g c =
     tells_none c.args.program.now c.args.plan.now c.args.budget c.process_count-count.result (length c.cells.result.now) c.in_ok-world.world c.in_ok-zeros.field-0 c.in_ok-no_writers.field-0 c.in_ok-no_steps.field-0.items
-    c.in_ok-world.ensures.world c.process_count-count.ensures (ap length c.cells.ensures) c.in_ok-zeros.ensures c.in_ok-no_writers.ensures c.in_ok-no_steps.ensures
+    c.in_ok-world.ensures.world c.process_count-count.ensures (ap length c.cells.ensures) c.in_ok-zeros.ensures.value c.in_ok-no_writers.ensures.value c.in_ok-no_steps.ensures.value

@@ -1,23 +1,24 @@
-use Rattle.std.proofs.Common.{ℕ, ◌+◌, ◌<◌, length, get_or, take, arith}
+use Rattle.std.proofs.Common.{ℕ, ◌+◌, ◌<◌, ◌≤◌, length, get_or, take, arith}
 use Rattle.std.proofs.lemmas.Result.{err_from_is_err_and}
 use Rattle.ppd_trace.specs.Telling.{Tells}
 use Rattle.ppd_world.proofs.Lists.{get_or_any}
+use Rattle.ppd_trace.proofs.Spent.{cells_told}
 use Rattle.ppd_trace.proofs.Told.{few_more, reached}
 use Rattle.ppd_trace.proofs.Traced.{few_numbers, refused_at, story_is, tells_next}
-use Rattle.ppd_trace.proofs.tellers.tell_story.Goals as goal
+use Rattle.ppd_trace.proofs.tellers.tell_story_in.Goals as goal
 
 pub follow-requires-clause-reached : goal.follow-requires-clause-reached
-follow-requires-clause-reached c =
+follow-requires-clause-reached g c =
     let t = c.loop-index.teller in
     reached c.args.program.now c.args.plan.now c.args.budget (take c.loop-index.index c.args.schedule.now) t.world t.counts t.writers t.steps.items c.requires.program c.requires.plan c.requires.budget c.loop-index.invariant.tells
 
 pub follow-requires-clause-few : goal.follow-requires-clause-few
-follow-requires-clause-few c =
+follow-requires-clause-few g c =
     let t = c.loop-index.teller in
     few_more c.args.program.now c.args.plan.now c.args.budget (take c.loop-index.index c.args.schedule.now) t.world t.counts t.writers t.steps.items (get_or c.args.schedule.now c.loop-index.index 0) c.requires.program c.requires.budget c.loop-index.invariant.tells
 
 pub loop-index-preserved : goal.loop-index-preserved
-loop-index-preserved c =
+loop-index-preserved g c =
     let t = c.loop-index.teller in
     let u = c.follow.new.self in
     let h = c.args.schedule.now in
@@ -29,10 +30,11 @@ loop-index-preserved c =
     record {
       tells = next;
       few = few_numbers c.args.program.now c.args.plan.now c.args.budget h (i + 1) u.world u.counts u.writers u.steps.items (omega arith) c.requires.program c.requires.budget next;
+      spent = omega (arith, c.loop-index.invariant.spent, c.tick.ensures, c.in_ok-follow.ensures.cost);
     }
 
-pub returns-in_err-follow : goal.returns-in_err-follow
-returns-in_err-follow c =
+pub returns-in_err-follow-clause-story : goal.returns-in_err-follow-clause-story
+returns-in_err-follow-clause-story g c =
     let t = c.loop-index.teller in
     let h = c.args.schedule.now in
     let i = c.loop-index.index in
@@ -41,7 +43,29 @@ returns-in_err-follow c =
     let e = err_from_is_err_and c.from_residual.result c.from_residual.ensures.1 in
     rw (e.1, e.2) (refused_at c.args.program.now c.args.plan.now c.args.budget h i p t.world t.counts t.writers t.steps.items c.in_err-follow.field-0.0 inside (get_or_any h i 0 p inside) c.loop-index.invariant.tells c.in_err-follow.ensures.cause)
 
-pub returns-in-Ok-close : goal.returns-in-Ok-close
-returns-in-Ok-close c =
+pub returns-in-Ok-close-clause-story : goal.returns-in-Ok-close-clause-story
+returns-in-Ok-close-clause-story g c =
     let t = c.loop-index.teller in
-    story_is c.args.program.now c.args.plan.now c.args.budget c.args.schedule.now c.loop-index.index t.world t.counts t.writers t.steps.items c.in-Ok-close.story (omega arith) c.loop-index.invariant.tells c.in-Ok-close.ensures
+    story_is c.args.program.now c.args.plan.now c.args.budget c.args.schedule.now c.loop-index.index t.world t.counts t.writers t.steps.items c.in-Ok-close.story (omega arith) c.loop-index.invariant.tells c.in-Ok-close.ensures.value
+
+pub returns-in-Ok-close-clause-cost : goal.returns-in-Ok-close-clause-cost
+returns-in-Ok-close-clause-cost g c =
+    let t = c.loop-index.teller in
+    let within : c.loop-index.index ≤ length c.args.schedule.now = omega arith in
+    omega (
+      arith,
+      c.loop-index.invariant.spent,
+      c.in-Ok-close.ensures.cost,
+      cells_told c.args.program.now c.args.plan.now c.args.budget (take c.loop-index.index c.args.schedule.now) t.world t.counts t.writers t.steps.items c.loop-index.invariant.tells,
+    )
+
+pub returns-in-Err-close-clause-cost : goal.returns-in-Err-close-clause-cost
+returns-in-Err-close-clause-cost g c =
+    let t = c.loop-index.teller in
+    let within : c.loop-index.index ≤ length c.args.schedule.now = omega arith in
+    omega (
+      arith,
+      c.loop-index.invariant.spent,
+      c.in-Err-close.ensures.cost,
+      cells_told c.args.program.now c.args.plan.now c.args.budget (take c.loop-index.index c.args.schedule.now) t.world t.counts t.writers t.steps.items c.loop-index.invariant.tells,
+    )

@@ -1,0 +1,178 @@
+-- What is kept of a trace goes on as the trace does.
+use Rattle.std.proofs.Common.{◌≡◌, ℕ, zero, suc, ◌+◌, ◌≤◌, ℤ, Bool, true, false, cond, List, [], ◌∷◌, ◌++◌, length, map, drop, Option, Some, None, Ok, Err, refl, ap, sym, ◌∙◌, arith, length-append}
+use Rattle.std.specs.Prelude.{nat_eq, option_map, slice_get}
+use Rattle.std.specs.Cmp.{nat_cmp_total}
+use Rattle.std.specs.FinMap.{get, get-empty, get-insert}
+use Rattle.std.specs.Ordering.{nat_cmp}
+use Rattle.ppd_ast.specs.declared.plan.Plan.{Plan}
+use Rattle.ppd_ast.specs.declared.program.Kind.{Kind}
+use Rattle.ppd_ast.specs.declared.program.Kind.TheVariants.{If, While}
+use Rattle.ppd_ast.specs.declared.program.Program.{Program}
+use Rattle.ppd_sem.specs.declared.event.Event.{Event}
+use Rattle.ppd_sem.specs.declared.proc.Need.{Need}
+use Rattle.ppd_sem.specs.declared.proc.Need.TheVariants.{Trap}
+use Rattle.ppd_sem.specs.declared.proc.Proc.{Proc}
+use Rattle.ppd_sem.specs.declared.proc.Todo.{Todo}
+use Rattle.ppd_sem.specs.Asked.{Asked, outcome}
+use Rattle.ppd_sem.specs.Deed.{Deed, set_local, clear, invoke, back, receive}
+use Rattle.ppd_sem.specs.Described.{is_event}
+use Rattle.ppd_sem.specs.Passed.{arguments_at, arguments_by, arguments_of_head, deed_at, deed_by, deed_of_head}
+use Rattle.ppd_sem.specs.Process.{act, head_deed, kind_of, top_call}
+use Rattle.ppd_model.specs.declared.trace.EventId.{EventId}
+use Rattle.ppd_model.specs.declared.trace.TracedEvent.{TracedEvent}
+use Rattle.ppd_model.specs.declared.tracing.Activation.{Activation}
+use Rattle.ppd_model.specs.declared.tracing.Story.{Story}
+use Rattle.ppd_model.specs.declared.tracing.Taken.{Taken}
+use Rattle.ppd_model.specs.declared.tracing.Test.{Test}
+use Rattle.ppd_model.specs.declared.tracing.Tracing.{Tracing}
+use Rattle.ppd_model.specs.FullTrace as trace
+use Rattle.ppd_model.specs.FullTrace.{Tag, event_of, into_at, latest, of_run, or_else, parent_if, tags_of}
+use Rattle.ppd_model.specs.Synchronizations.{paired_of}
+use Rattle.ppd_trace.specs.declared.tracer.Run.{Run}
+use Rattle.ppd_trace.specs.declared.tracer.Tracer.{Tracer}
+use Rattle.ppd_trace.specs.Runs.{all_tagged, called, latest_of, of_outer, parent_at, parent_in, run_of, tagged, tagged_after, tagged_deed, tagged_into, tests_after, top_tags, trace_by, trace_step, traced_by, tracer_of, with_event, with_test}
+use Rattle.ppd_trace.specs.Tagging.{answers_by}
+use Rattle.ppd_trace.proofs.Following.{by_event, without_event}
+use Rattle.ppd_trace.proofs.Kept.{same_number}
+
+-- ---- tests
+
+-- the look-up finds the latest test
+pub found_latest : (s : ℕ) (tests : List Test) → get (latest_of tests) s ≡ latest s tests
+found_latest s [] = get-empty nat_cmp s
+found_latest s (x ∷ xs) =
+    get-insert nat_cmp_total (latest_of xs) x.stmt x s ∙ ap (λ (b : Bool). cond b (Some x) (get (latest_of xs) s)) (same_number s x.stmt)
+    ∙ ap (λ (o : Option Test). cond (nat_eq x.stmt s) (Some x) o) (found_latest s xs)
+
+-- ---- tags
+
+tagged_as : (c : ℕ) (me : Tag) (xs : List Activation) → map run_of (trace.tagged c me xs) ≡ tagged c me (map run_of xs)
+tagged_as c me [] = refl
+tagged_as c me (x ∷ xs) = refl
+
+all_tagged_as : (base n : ℕ) (me : Tag) (xs : List Activation) → map run_of (trace.all_tagged base n me xs) ≡ all_tagged base n me (map run_of xs)
+all_tagged_as base zero me xs = refl
+all_tagged_as base (suc n) me xs = tagged_as (base + n) me (trace.all_tagged base n me xs) ∙ ap (λ (l : List Run). tagged (base + n) me l) (all_tagged_as base n me xs)
+
+tagged_into_as : (into : Option ℕ) (value : Option ℤ) (me : Tag) (xs : List Activation) → map run_of (trace.tagged_into into value me xs) ≡ tagged_into into value me (map run_of xs)
+tagged_into_as (Some c) (Some v) me xs = tagged_as c me xs
+tagged_into_as (Some c) None me xs = refl
+tagged_into_as None value me xs = refl
+
+below_as : (xs : List Activation) → map run_of (drop 1 xs) ≡ drop 1 (map run_of xs)
+below_as [] = refl
+below_as (x ∷ xs) = refl
+
+by_asked : (program : Program) (s : Proc) (me : Tag) (asked : Asked Deed) (xs : List Activation) → arguments_at program s ≡ arguments_by (outcome asked)
+    → map run_of (trace.tagged_by program s me asked xs) ≡ tagged_deed program s me (deed_by (outcome asked)) (map run_of xs)
+by_asked program s me (Ok (set_local c v, left)) xs e = tagged_as c me xs
+by_asked program s me (Ok (clear base len, left)) xs e = all_tagged_as base len me xs
+by_asked program s me (Ok (invoke f values into, left)) xs e = ap (λ (vs : List ℤ). called program f (length vs) me ∷ map run_of xs) (sym e)
+by_asked program s me (Ok (back value, left)) xs e =
+    tagged_into_as (into_at program (top_call s.frames)) value me (drop 1 xs) ∙ ap (λ (l : List Run). tagged_into (into_at program (top_call s.frames)) value me l) (below_as xs)
+by_asked program s me (Ok (receive chan into, left)) xs e = tagged_as into me xs
+by_asked program s me (Ok (deed, left)) xs e = refl
+by_asked program s me (Err pause) xs e = refl
+
+by_deed : (program : Program) (s : Proc) (me : Tag) (xs : List Activation) → map run_of (trace.tagged_at program s me s.todo xs) ≡ tagged_deed program s me (deed_at program s) (map run_of xs)
+by_deed program s me xs = at s.todo refl
+  where
+    at : (todo : List Todo) → s.todo ≡ todo → map run_of (trace.tagged_at program s me s.todo xs) ≡ tagged_deed program s me (deed_at program s) (map run_of xs)
+    at [] e =
+        ap (λ (l : List Todo). map run_of (trace.tagged_at program s me l xs)) e
+        ∙ sym (ap (λ (l : List Todo). tagged_deed program s me (deed_of_head program s (slice_get l 0)) (map run_of xs)) e)
+    at (t ∷ ts) e =
+        let same : arguments_at program s ≡ arguments_by (outcome (head_deed program t s)) = ap (λ (l : List Todo). arguments_of_head program s (slice_get l 0)) e in
+        ap (λ (l : List Todo). map run_of (trace.tagged_at program s me l xs)) e
+        ∙ by_asked program s me (head_deed program t s) xs same
+        ∙ sym (ap (λ (l : List Todo). tagged_deed program s me (deed_of_head program s (slice_get l 0)) (map run_of xs)) e)
+
+tagged_after_as : (program : Program) (s : Proc) (me : Tag) (n : Need) (xs : List Activation) → map run_of (trace.tagged_after program s me n xs) ≡ tagged_after program s me n (map run_of xs)
+tagged_after_as program s me (Trap t) xs = refl
+tagged_after_as program s me n xs = by_deed program s me xs
+
+top_tags_as : (xs : List Activation) → trace.top_tags xs ≡ top_tags (map run_of xs)
+top_tags_as [] = refl
+top_tags_as (x ∷ xs) = refl
+
+-- ---- control
+
+tests_as : (k : Kind) (s : ℕ) (me : EventId) (value : Option ℤ) (tests : List Test) → latest_of (trace.tests_after k s me value tests) ≡ tests_after k s me value (latest_of tests)
+tests_as (If e first second) s me value tests = refl
+tests_as (While e body) s me value tests = refl
+tests_as k s me value tests = refl
+
+with_test_as : (program : Program) (me : EventId) (e : Event) (xs : List Activation) → map run_of (trace.with_test program me e xs) ≡ with_test program me e (map run_of xs)
+with_test_as program me e [] = refl
+with_test_as program me e (x ∷ xs) = ap (λ l. record { call = x.call; tags = x.tags; latest = l } ∷ map run_of xs) (tests_as (kind_of program e.stmt) e.stmt me e.value x.tests)
+
+outer_as : (s : Option ℕ) (tests : List Test) → of_outer s (latest_of tests) ≡ trace.of_outer s tests
+outer_as None tests = refl
+outer_as (Some s) tests = ap (λ (o : Option Test). option_map (λ x. x.event) o) (found_latest s tests)
+
+parent_in_as : (program : Program) (s : ℕ) (x : Activation) → parent_in program s (run_of x) ≡ trace.parent_in program s x
+parent_in_as program s x =
+    let outer : Option EventId = of_outer (parent_if (slice_get program.stmts s)) (latest_of x.tests) in
+    ap (λ (o : Option Test). or_else (of_run (kind_of program s) o) (or_else outer x.call)) (found_latest s x.tests)
+    ∙ ap (λ (o : Option EventId). or_else (of_run (kind_of program s) (latest s x.tests)) (or_else o x.call)) (outer_as (parent_if (slice_get program.stmts s)) x.tests)
+
+parent_at_as : (program : Program) (xs : List Activation) (todo : List Todo) → parent_at program (map run_of xs) todo ≡ trace.parent_at program xs todo
+parent_at_as program [] todo = refl
+parent_at_as program (x ∷ xs) [] = refl
+parent_at_as program (x ∷ xs) (t ∷ ts) = parent_in_as program t.stmt x
+
+-- ---- one step
+
+traced : Event → List Tag → Option EventId → Option EventId → TracedEvent
+traced e writers parent paired = record { event = e; writers = writers; parent = parent; paired = paired }
+
+traced_by_as : (program : Program) (story : Story) (x : Taken) (t : Tracing) (e : Event) → trace.traced_by program story x t e ≡ traced_by program story x (tracer_of t) e
+unfolding traced
+traced_by_as program story x t e =
+    ap (λ (l : List Tag). traced e (tags_of l t.answers e.reads) (trace.parent_at program t.activations t.proc.todo) (paired_of program story x)) (top_tags_as t.activations)
+    ∙ ap (λ (o : Option EventId). traced e (tags_of (top_tags (map run_of t.activations)) t.answers e.reads) o (paired_of program story x)) (sym (parent_at_as program t.activations t.proc.todo))
+
+-- a process with its runs, the tags of the answers and the events
+abbrev pub parts : Proc → List Run → List Tag → List TracedEvent → Tracer
+parts s runs answers events = record { proc = s; runs = runs; answers = answers; events = events }
+
+with_event_as : (program : Program) (plan : Plan) (story : Story) (p : ℕ) (x : Taken) (t : Tracing) → tracer_of (trace.with_event program plan story p x t) ≡ with_event program plan story p x (tracer_of t)
+with_event_as program plan story p x t =
+    let e : Event = event_of program plan t.proc x t.proc.todo in
+    let me : EventId = trace.me_in p t in
+    let before : List Activation = trace.with_test program me e t.activations in
+    ap (λ (l : List Run). parts t.proc l [] (t.events ++ trace.traced_by program story x t e ∷ [])) (tagged_after_as program t.proc (Some me) x.need before)
+    ∙ ap (λ (l : List Run). parts t.proc (tagged_after program t.proc (Some me) x.need l) [] (t.events ++ trace.traced_by program story x t e ∷ [])) (with_test_as program me e t.activations)
+    ∙ ap (λ (y : TracedEvent). parts t.proc (tagged_after program t.proc (Some me) x.need (with_test program me e (map run_of t.activations))) [] (t.events ++ y ∷ [])) (traced_by_as program story x t e)
+
+trace_by_as : (program : Program) (plan : Plan) (story : Story) (p : ℕ) (x : Taken) (t : Tracing) → tracer_of (trace.trace_by program plan story p x x.need t) ≡ trace_by program plan story p x (tracer_of t)
+trace_by_as program plan story p x t = by (is_event x.need) refl
+  where
+    by : (b : Bool) → is_event x.need ≡ b → tracer_of (trace.trace_by program plan story p x x.need t) ≡ trace_by program plan story p x (tracer_of t)
+    by true e =
+        ap tracer_of (by_event program plan story p x x.need t e) ∙ with_event_as program plan story p x t
+        ∙ sym (ap (λ (b : Bool). cond b (with_event program plan story p x (tracer_of t)) (record (tracer_of t) { answers = answers_by x.need x.writer t.answers })) e)
+    by false e =
+        ap tracer_of (without_event program plan story p x x.need t e)
+        ∙ sym (ap (λ (b : Bool). cond b (with_event program plan story p x (tracer_of t)) (record (tracer_of t) { answers = answers_by x.need x.writer t.answers })) e)
+
+pub step_as : (program : Program) (plan : Plan) (story : Story) (p : ℕ) (t : Tracing) (x : Taken) → tracer_of (trace.trace_step program plan story p t x) ≡ trace_step program plan story p (tracer_of t) x
+step_as program plan story p t x = ap (λ (v : Tracer). record v { proc = act program plan t.proc x.answer }) (trace_by_as program plan story p x t)
+
+-- ---- the state of the process stays in an event, and there is one event more at most
+
+pub same_proc : (program : Program) (plan : Plan) (story : Story) (p : ℕ) (x : Taken) (t : Tracer) → (trace_by program plan story p x t).proc ≡ t.proc
+same_proc program plan story p x t = by (is_event x.need)
+  where
+    by : (b : Bool) → (cond b (with_event program plan story p x t) (record t { answers = answers_by x.need x.writer t.answers })).proc ≡ t.proc
+    by true = refl
+    by false = refl
+
+pub few_events : (program : Program) (plan : Plan) (story : Story) (p : ℕ) (t : Tracer) (x : Taken) → length (trace_step program plan story p t x).events ≤ length t.events + 1
+few_events program plan story p t x = by (is_event x.need)
+  where
+    by : (b : Bool) → length (cond b (with_event program plan story p x t) (record t { answers = answers_by x.need x.writer t.answers })).events ≤ length t.events + 1
+    by true =
+        let more : length (t.events ++ traced_by program story x t (event_of program plan t.proc x t.proc.todo) ∷ []) ≡ length t.events + 1 = length-append t.events (traced_by program story x t (event_of program plan t.proc x t.proc.todo) ∷ []) in
+        omega arith
+    by false = omega arith
