@@ -2,6 +2,10 @@
 #![tactic(auto)]
 
 #[cfg(test)]
+mod log_tests;
+#[cfg(test)]
+mod logged;
+#[cfg(test)]
 mod parallel;
 #[cfg(test)]
 mod tables;

@@ -1,8 +1,8 @@
-//! Worked programs of several processes, each with its plan.
+//! Worked programs of several processes.
 
 use crate::tables::{Does, Table, program};
-use ppd_ast::{Chan, Expr, Nums, Op, Plan, Program, Sem, Seq, Start, Target, Unit};
-use ppd_tables::parts::{cells, name, scalars};
+use ppd_ast::{Chan, Expr, Nums, Op, Program, Sem, Seq, Target};
+use ppd_tables::parts::{name, scalars};
 use std::alloc::{AllocError, Global};
 
 fn with_shared(alloc: Global, program: &mut Program, names: &[&str]) -> Result<(), AllocError> {
@@ -202,70 +202,4 @@ pub fn draining(alloc: Global, start: u32) -> Result<Program, AllocError> {
     )?;
     with_sems(alloc, &mut row, &[("s", start)])?;
     Ok(row)
-}
-
-/// ```text
-/// shared int x, y; sem s = 1;
-/// process p { P(s); if (y) { print(x); } }
-/// process q { x = 5; }
-/// ```
-pub fn unread(alloc: Global) -> Result<Program, AllocError> {
-    let exprs = [Expr::Shared(1), Expr::Shared(0), Expr::Const(5)];
-    let mut row = program(
-        alloc,
-        Table {
-            exprs: &exprs,
-            lines: &[
-                (1, 41, 0, None, Does::P(0)),
-                (1, 47, 0, None, Does::If(0, &[2])),
-                (1, 56, 0, Some(1), Does::Print(1)),
-                (1, 68, 0, None, Does::End),
-                (1, 82, 1, None, Does::Set(Target::Shared(0), 2)),
-                (1, 89, 1, None, Does::End),
-            ],
-            functions: 0,
-            bodies: &[
-                ("p", (true, false, 0), &[], &[0, 1, 3], (0, 4)),
-                ("q", (true, false, 0), &[], &[4, 5], (4, 6)),
-            ],
-        },
-    )?;
-    with_shared(alloc, &mut row, &["x", "y"])?;
-    with_sems(alloc, &mut row, &[("s", 1)])?;
-    Ok(row)
-}
-
-/// Gives the unit after the `P` of the unread cell's program both shared cells.
-pub fn with_unread_cells(alloc: Global, plan: &mut Plan) -> Result<(), AllocError> {
-    let unit = Unit {
-        start: Start::After(0),
-        cells: cells(alloc, &[0, 1])?,
-    };
-    plan.units.set(1, unit);
-    Ok(())
-}
-
-/// `process a { int i; while (1) { i = i + 1; } }`
-pub fn endless(alloc: Global) -> Result<Program, AllocError> {
-    let exprs = [
-        Expr::Const(0),
-        Expr::Const(1),
-        Expr::Local(0),
-        Expr::Const(1),
-        Expr::Two(Op::Add, 2, 3),
-    ];
-    program(
-        alloc,
-        Table {
-            exprs: &exprs,
-            lines: &[
-                (1, 17, 0, None, Does::Set(Target::Local(0), 0)),
-                (1, 20, 0, None, Does::While(1, &[2])),
-                (1, 32, 0, Some(1), Does::Set(Target::Local(0), 4)),
-                (1, 45, 0, None, Does::End),
-            ],
-            functions: 0,
-            bodies: &[("a", (true, false, 0), &["i"], &[0, 1, 3], (0, 4))],
-        },
-    )
 }

@@ -8,7 +8,6 @@ use std::alloc::{AllocError, Global};
 #[derive(Clone, Copy)]
 pub enum Does<'a> {
     Set(Target, u32),
-    If(u32, &'a [u32]),
     While(u32, &'a [u32]),
     P(u8),
     V(u8),
@@ -43,7 +42,6 @@ pub struct Table<'a> {
 fn kind(alloc: Global, does: Does) -> Result<Kind, AllocError> {
     Ok(match does {
         Does::Set(target, value) => Kind::Set(target, value),
-        Does::If(test, inside) => Kind::If(test, ids(alloc, inside)?, Seq::new(alloc)),
         Does::While(test, inside) => Kind::While(test, ids(alloc, inside)?),
         Does::P(sem) => Kind::P(sem),
         Does::V(sem) => Kind::V(sem),

@@ -1,6 +1,4 @@
-use crate::parallel::{
-    bounded, deadlock, draining, endless, filling, locked, unread, with_unread_cells,
-};
+use crate::parallel::{bounded, deadlock, draining, filling, locked};
 use crate::worlds::{Driven, bare_plan, drive, drive_lowest};
 use ppd_ast::{Program, Status, SyncKind, Trap};
 use ppd_entry::Entry;
@@ -21,14 +19,6 @@ fn by_schedule(
     let program = program.ok()?;
     let plan = bare_plan(alloc, &program)?;
     drive(alloc, &program, &plan, budget, schedule)
-}
-
-/// The program of the unread cell, driven by the schedule.
-fn unread_by(alloc: Global, schedule: &[u8]) -> Option<Closed> {
-    let program = unread(alloc).ok()?;
-    let mut plan = bare_plan(alloc, &program)?;
-    with_unread_cells(alloc, &mut plan).ok()?;
-    drive(alloc, &program, &plan, BUDGET, schedule)?.closed
 }
 
 /// The program driven by its lowest enabled process with its bare plan.
@@ -117,16 +107,6 @@ fn is_end(
                 && *rest == is_rest
                 && reads.as_slice() == is_reads
                 && writes.as_slice() == is_writes
-        }
-        _ => false,
-    }
-}
-
-/// Whether the entry is the unit with this number and these values.
-fn is_unit(entry: Option<&Entry>, is_number: u16, is_values: &[i64]) -> bool {
-    match entry {
-        Some(Entry::Unit { unit, values }) => {
-            *unit == is_number && values.as_slice() == is_values
         }
         _ => false,
     }
@@ -319,34 +299,5 @@ fn budget_ends_at_a_wait(rt: HostRuntime) -> Result<(), Fail> {
     let closed = by_lowest(alloc, draining(alloc, 0), 1, 10).expect(&rt, "whole");
     assert!(rt; ends(&closed, 0, Status::Budget, 1, 1));
     assert!(rt; is_end(entry(&closed, 0, 2), Status::Budget, 1, &[], &[]));
-    Ok(())
-}
-
-// The log of a run that stops for its budget: prelog, unit, end.
-#[test]
-fn log_of_a_budget_stop(rt: HostRuntime) -> Result<(), Fail> {
-    let alloc = rt.alloc();
-    let closed = by_lowest(alloc, endless(alloc), 5, 10).expect(&rt, "whole");
-    assert!(rt; ends(&closed, 0, Status::Budget, 1, 5));
-    assert!(rt; is_unit(entry(&closed, 0, 1), 0, &[]));
-    assert!(rt; is_end(entry(&closed, 0, 2), Status::Budget, 5, &[], &[]));
-    assert!(rt; entry(&closed, 0, 3).is_none());
-    Ok(())
-}
-
-// The unit after the `P` holds the cells as they stand then, whether they are read or not.
-#[test]
-fn log_of_an_unread_cell(rt: HostRuntime) -> Result<(), Fail> {
-    let alloc = rt.alloc();
-    for (schedule, x) in [([0, 0, 0, 0, 1, 1], 0), ([1, 1, 0, 0, 0, 0], 5)] {
-        let closed = unread_by(alloc, &schedule).expect(&rt, "whole");
-        assert!(rt; ends(&closed, 0, Status::Ended, 3, 4));
-        assert!(rt; ends(&closed, 1, Status::Ended, 5, 2));
-        assert!(rt; is_unit(entry(&closed, 0, 1), 0, &[]));
-        assert!(rt; is_sync(entry(&closed, 0, 2), SyncKind::P, 1, 0, &[], &[]));
-        assert!(rt; is_unit(entry(&closed, 0, 3), 1, &[x, 0]));
-        assert!(rt; is_end(entry(&closed, 0, 5), Status::Ended, 2, &[1], &[]));
-        assert!(rt; entry(&closed, 0, 6).is_none());
-    }
     Ok(())
 }
