@@ -10,3 +10,4 @@ mod Steps
 mod Leading
 mod Beginning
 mod Reading
+mod Ending
