@@ -276,7 +276,8 @@ fn close<L: Ledger>(alloc: Global, teller: Teller, steps: &mut Steps<L>) -> Resu
 /// The story, as `tell_story` answers it, in at most 7 steps for each number of the schedule and for
 /// each shared cell and body of the program. A step is a turn of a loop, an item that is put into a
 /// list, or a call that lets one statement be evaluated; so the memory that is taken is bounded by as
-/// much, but for what the world takes. The bound holds for an error too.
+/// much, but for what the world takes. The bound holds for an error too. The budget is at most
+/// 500,000, and the errors are those of `tell_story`.
 pub fn tell_story_in<L: Ledger>(
     alloc: Global,
     program: &Program,

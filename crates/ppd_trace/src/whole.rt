@@ -79,7 +79,8 @@ fn trace_story<L: Ledger>(
 /// that lets one statement be evaluated; so the memory that is taken is linear in the schedule too.
 /// What one number of the schedule costs depends on the program alone, by the cells that one of its
 /// statements reads and writes at most. Beside it the shared cells, the bodies and the cells of their
-/// frames are counted once. The bound holds for an error too.
+/// frames are counted once. The bound holds for an error too. The budget is at most 500,000, and the
+/// errors are those of `full_trace`.
 pub fn full_trace_in<L: Ledger>(
     alloc: Global,
     program: &Program,
