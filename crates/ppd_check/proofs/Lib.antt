@@ -1,6 +1,9 @@
 pub mod AcceptedValid
 pub mod Arguments
 pub mod CoreValid
+pub mod CheckCosts
+pub mod Costs
+pub mod HeadCosts
 pub mod Counted
 pub mod Declarations
 pub mod Declaring

@@ -392,3 +392,10 @@ mutual
 -- what the items of a tree say
 pub items_few : (t : Shape) → items_size (as_items (said t)) + 1 ≤ 9 * weigh 1 (λ r. 1) t
 items_few t = omega (arith, items_size_of (said t), said_size t)
+
+-- what the children of a function or a process say, by their nodes
+pub children_said : (ts : Shapes) → length (flat_map as_names (all_said ts)) + row_size (as_block (last (all_said ts))).row ≤ 9 * weigh_in 1 (λ r. 1) ts
+children_said ts = omega (arith, all_names (all_said ts), block_size (last (all_said ts)), last_rows (all_said ts), all_size ts)
+  where
+    last_rows : (ps : List Phrase) → rows_of (last ps) ≤ all_rows ps
+    last_rows ps = rows_at ps _

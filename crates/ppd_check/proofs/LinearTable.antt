@@ -51,7 +51,7 @@ elements_append [] ys = omega arith
 elements_append (s ∷ xs) ys = omega (arith, elements_append xs ys)
 
 -- the statements of a row hold what it has
-row_holds : (b : ℕ) (q : Option ℕ) (n m : ℕ) (c : Code) → weights (terms c) + stmts_elements (stmts b q n m c) + length (numbers n c) ≡ load c
+pub row_holds : (b : ℕ) (q : Option ℕ) (n m : ℕ) (c : Code) → weights (terms c) + stmts_elements (stmts b q n m c) + length (numbers n c) ≡ load c
 row_holds b q n m done = refl
 row_holds b q n m (act p a c) =
     omega (arith, weights_append (act_terms a) (terms c), listed_act m a, row_holds b q (n + 1) (m + weights (act_terms a)) c)

@@ -147,6 +147,9 @@ parts_found ns s g w bs last x =
     (x.counted (codes (globals s)) y.stmts)
     ∙ ap first (found_whole i c n h p)
 
+pub parts_stmts : (ns : List Node) (s : Source) (g : Globals) (w : Writer) (bs : List Body) (last : Option Fault) → Parts ns s g w bs last → w.stmts ≡ all_stmts 0 0 0 (codes (globals s))
+parts_stmts ns s g w bs last x = (all_wrote ns s g w bs last x).stmts
+
 abbrev table_of : List Expr → List Stmt → List Body → ℕ → List Var → List ℤ → List Sem → List Chan → Program
 table_of e t b f v z m d = record { exprs = e; stmts = t; bodies = b; functions = f; shared = v; starts = z; sems = m; chans = d }
 

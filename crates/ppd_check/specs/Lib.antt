@@ -11,6 +11,7 @@ pub mod Statements
 pub mod Table
 pub mod Sources
 pub mod Nodes
+pub mod Cost
 pub mod Forms
 pub mod Placed
 pub mod Read

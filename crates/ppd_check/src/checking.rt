@@ -1,5 +1,5 @@
 // The table of a tree, or the first rule that its source breaks.
-ghost use Rattle.std.specs.Prelude.{◌≡◌, ◌≤◌, ◌*◌, ℕ, List, true, false, [], ◌∷◌, ◌++◌, length, Some, IfOk, IfErr, map};
+ghost use Rattle.std.specs.Prelude.{◌≡◌, ◌<◌, ◌≤◌, ◌*◌, ℕ, List, true, false, [], ◌∷◌, ◌++◌, length, Some, IfOk, IfErr, map, ◌+◌};
 ghost use Rattle.ppd_ast.specs.Valid.{IsValid};
 ghost use Rattle.ppd_check.specs.Read.{IsParsed};
 ghost use Rattle.std.specs.List.{All};
@@ -10,6 +10,7 @@ ghost use Rattle.ppd_check.specs.Elements.{elements_of};
 ghost use Rattle.ppd_check.specs.Holding.{head_at, IsHeadAt};
 ghost use Rattle.ppd_check.specs.Names.{innermost};
 ghost use Rattle.ppd_check.specs.Sources.{Accepted, IsRefused, core, first_fault};
+ghost use Rattle.ppd_check.specs.Cost.{nodes_at, total};
 
 use crate::bodies::{vars_of, write_heads};
 use crate::declare::{globals_of, note_no_process};
@@ -19,9 +20,11 @@ use crate::globals::as_short;
 use crate::places::note_statements;
 use crate::scopes::Scopes;
 use crate::writer::Writer;
-use ppd_ast::{Body, Memory, Program, Seq};
+use ppd_ast::{Body, Memory, Program, Seq, Steps};
 use ppd_parse::{Node, Tree};
 use std::alloc::Global;
+use std::marker::Brand;
+use std::sync::ledger::{Blank, Ledger};
 
 // The table, and the first broken rule.
 #[derive(Drop)]
@@ -49,42 +52,67 @@ fn error_of(fault: Fault) -> CheckError
 }
 
 // The functions, then the processes.
-fn write_all(
+fn write_all<L: Ledger>(
     alloc: Global,
     nodes: &[Node],
     scopes: Scopes,
     functions: &[u32],
     processes: &[u32],
     out: &mut Writer,
+    steps: &mut Steps<L>,
 ) -> Result<Seq<Body>, Memory>
     requires table { IsTable nodes.now }
     requires functions { All (IsHeadAt nodes.now false) functions.now }
     requires processes { All (IsHeadAt nodes.now true) processes.now }
     requires one { scopes ≡ innermost scopes ∷ [] }
-    ensures { IfOk result (λ bodies. WroteHeads (innermost scopes) (map (head_at nodes.now) functions.now ++ map (head_at nodes.now) processes.now) out.old out.new [] bodies) }
+    ensures wrote { IfOk result (λ bodies. WroteHeads (innermost scopes) (map (head_at nodes.now) functions.now ++ map (head_at nodes.now) processes.now) out.old out.new [] bodies) }
+    ensures cost { steps.new ≤ steps.old + 113 * total (nodes_at nodes.now) functions.now + 113 * total (nodes_at nodes.now) processes.now }
 {
     let mut bodies = Seq::new(alloc);
-    let scopes = write_heads(alloc, nodes, functions, false, scopes, out, &mut bodies)?;
-    write_heads(alloc, nodes, processes, true, scopes, out, &mut bodies)?;
+    let scopes = write_heads(
+        alloc,
+        nodes,
+        functions,
+        false,
+        scopes,
+        out,
+        &mut bodies,
+        steps,
+    )?;
+    write_heads(
+        alloc,
+        nodes,
+        processes,
+        true,
+        scopes,
+        out,
+        &mut bodies,
+        steps,
+    )?;
     Ok(bodies)
 }
 
 // The table of a tree's nodes, and the first rule that it breaks; where it breaks one, the table says nothing.
-fn check_nodes(alloc: Global, nodes: &[Node]) -> Result<Checked, Memory>
+fn check_nodes<L: Ledger>(
+    alloc: Global,
+    nodes: &[Node],
+    steps: &mut Steps<L>,
+) -> Result<Checked, Memory>
     requires table { IsTable nodes.now }
     ensures program { IfOk result (λ checked. Accepted (tree_of nodes.now) → checked.program ≡ core (tree_of nodes.now)) }
     ensures found { IfOk result (λ checked. checked.found ≡ first_fault (tree_of nodes.now)) }
+    ensures cost { steps.new ≤ steps.old + 150 * length nodes.now + 2048 }
 {
     let mut found = None;
-    let globals = globals_of(alloc, nodes, &mut found)?;
+    let globals = globals_of(alloc, nodes, &mut found, steps)?;
     note_no_process(nodes, &globals, &mut found);
     let mut out = Writer {
         exprs: Seq::new(alloc),
         stmts: Seq::new(alloc),
         found,
     };
-    let functions = as_short(globals.functions.len());
-    let shared = vars_of(alloc, globals.shared.as_slice())?;
+    let count = as_short(globals.functions.len());
+    let shared = vars_of(alloc, globals.shared.as_slice(), steps)?;
     let bodies = write_all(
         alloc,
         nodes,
@@ -92,14 +120,15 @@ fn check_nodes(alloc: Global, nodes: &[Node]) -> Result<Checked, Memory>
         globals.functions.as_slice(),
         globals.processes.as_slice(),
         &mut out,
+        steps,
     )?;
-    note_statements(alloc, out.stmts.as_slice(), &mut out.found)?;
+    note_statements(alloc, out.stmts.as_slice(), &mut out.found, steps)?;
     Ok(Checked {
         program: Program {
             exprs: out.exprs,
             stmts: out.stmts,
             bodies,
-            functions,
+            functions: count,
             shared,
             starts: globals.starts,
             sems: globals.sems,
@@ -107,6 +136,47 @@ fn check_nodes(alloc: Global, nodes: &[Node]) -> Result<Checked, Memory>
         },
         found: out.found,
     })
+}
+
+/// The table of a tree, as `check` answers it, in at most 150 steps for each node of the tree and 2,048 more for the
+/// start values of the shared cells. A step is one turn of a loop, one visit of a node, or one element that is put into
+/// a list or a map; the look-up of a name and the copy of one are a step each, however long they take, and so is the
+/// choice of the first statement past the most. So the bound holds too for the elements that stand in the checker's
+/// lists and maps at any time.
+pub fn check_in<L: Ledger>(
+    alloc: Global,
+    tree: &Tree,
+    steps: &mut Steps<L>,
+) -> Result<Program, CheckError>
+    requires table { IsTable tree.now.nodes }
+    ensures core { IfOk result (λ p. Accepted (tree_of tree.now.nodes) × (p ≡ core (tree_of tree.now.nodes))) }
+    ensures valid { IfOk result (λ p. (bytes : List ℕ) → IsParsed bytes (tree_of tree.now.nodes) → IsValid p) }
+    ensures few { IfOk result (λ p. elements_of p ≤ 9 * length tree.now.nodes) }
+    ensures refused { IfErr result (λ e. IsRefused (tree_of tree.now.nodes) e) }
+    ensures cost { steps.new ≤ steps.old + 150 * length tree.now.nodes + 2048 }
+{
+    let Ok(checked) = check_nodes(alloc, tree.nodes.as_slice(), steps) else {
+        return Err(CheckError::Memory);
+    };
+    match checked.found {
+        None => Ok(checked.program),
+        Some(fault) => Err(error_of(fault)),
+    }
+}
+
+// The table of a tree, with a count of steps that begins at a blank.
+fn check_from<L: Ledger>(alloc: Global, tree: &Tree, blank: Blank) -> Result<Program, CheckError>
+    requires name { blank.name ≡ L.name }
+    requires parts { blank.parts ≡ L.parts }
+    requires some { 0 < blank.parts }
+    requires table { IsTable tree.now.nodes }
+    ensures core { IfOk result (λ p. Accepted (tree_of tree.now.nodes) × (p ≡ core (tree_of tree.now.nodes))) }
+    ensures valid { IfOk result (λ p. (bytes : List ℕ) → IsParsed bytes (tree_of tree.now.nodes) → IsValid p) }
+    ensures few { IfOk result (λ p. elements_of p ≤ 9 * length tree.now.nodes) }
+    ensures refused { IfErr result (λ e. IsRefused (tree_of tree.now.nodes) e) }
+{
+    let mut steps: Steps<L> = Steps::new(blank);
+    check_in(alloc, tree, &mut steps)
 }
 
 /// The table of a tree that breaks no rule of the language: shared cells and the cells of a body in the order of their
@@ -123,11 +193,5 @@ pub fn check(alloc: Global, tree: &Tree) -> Result<Program, CheckError>
     ensures few { IfOk result (λ p. elements_of p ≤ 9 * length tree.now.nodes) }
     ensures refused { IfErr result (λ e. IsRefused (tree_of tree.now.nodes) e) }
 {
-    let Ok(checked) = check_nodes(alloc, tree.nodes.as_slice()) else {
-        return Err(CheckError::Memory);
-    };
-    match checked.found {
-        None => Ok(checked.program),
-        Some(fault) => Err(error_of(fault)),
-    }
+    check_from::<Brand>(alloc, tree, Blank::new(1))
 }

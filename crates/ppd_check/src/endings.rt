@@ -1,13 +1,15 @@
 // How the statements of a block end.
-ghost use Rattle.std.specs.Prelude.{◌≡◌, ◌<◌, [], ◌∷◌, length, is_some};
+ghost use Rattle.std.specs.Prelude.{◌≡◌, ◌<◌, [], ◌∷◌, length, is_some, ◌≤◌, ◌+◌, ◌*◌};
 ghost use Rattle.ppd_parse.specs.Tree.{IsTable};
 ghost use Rattle.ppd_check.specs.Endings.{with_rest, ending};
-ghost use Rattle.ppd_check.specs.Nodes.{phrase_of, phrases_below};
+ghost use Rattle.ppd_check.specs.Nodes.{children_of, phrase_of, phrases_below};
 ghost use Rattle.ppd_check.specs.Reading.{phrase, as_row, locals, returned, rows, statement, worded};
+ghost use Rattle.ppd_check.specs.Cost.{nested_at, nested_below, plain_below};
 
 use crate::nodes::{child_at, children_of, kind_at, place_at, rule_of};
-use ppd_ast::Place;
+use ppd_ast::{Place, Steps};
 use ppd_parse::{Kind, Node, Rule};
+use std::sync::ledger::Ledger;
 
 // The last statement of a row.
 #[derive(Clone, Copy)]
@@ -87,40 +89,45 @@ fn ending_of_local(nodes: &[Node], id: u32) -> Ending
 }
 
 // That of a declaration.
-fn ending_of_locals(nodes: &[Node], id: u32) -> Ending
+fn ending_of_locals<L: Ledger>(nodes: &[Node], id: u32, steps: &mut Steps<L>) -> Ending
     requires table { IsTable nodes.now }
     requires within { id < length nodes.now }
-    ensures { result ≡ ending (locals (phrases_below nodes.now id)) }
+    ensures ending { result ≡ ending (locals (phrases_below nodes.now id)) }
+    ensures cost { steps.new ≤ steps.old + length (children_of nodes.now id) }
 {
     let mut last = Ending::Empty;
     for child in children_of(nodes, id) {
+        steps.tick();
         last = with_rest(last, ending_of_local(nodes, *child));
     }
     last
 }
 
 // That of what a node says.
-fn ending_of_node(nodes: &[Node], id: u32) -> Ending
+fn ending_of_node<L: Ledger>(nodes: &[Node], id: u32, steps: &mut Steps<L>) -> Ending
     requires table { IsTable nodes.now }
     requires within { id < length nodes.now }
-    ensures { result ≡ ending (as_row (phrase_of nodes.now id)) }
+    ensures ending { result ≡ ending (as_row (phrase_of nodes.now id)) }
+    ensures cost { steps.new ≤ steps.old + nested_at nodes.now id }
 {
     match rule_of(nodes, id) {
-        Rule::Local => ending_of_locals(nodes, id),
+        Rule::Local => ending_of_locals(nodes, id, steps),
         Rule::Stmt => ending_of_statement(nodes, id),
         _ => Ending::Empty,
     }
 }
 
 // That of what the children of a node say.
-pub fn ending_of_rows(nodes: &[Node], id: u32) -> Ending
+pub fn ending_of_rows<L: Ledger>(nodes: &[Node], id: u32, steps: &mut Steps<L>) -> Ending
     requires table { IsTable nodes.now }
     requires within { id < length nodes.now }
-    ensures { result ≡ ending (rows (phrases_below nodes.now id)) }
+    ensures ending { result ≡ ending (rows (phrases_below nodes.now id)) }
+    ensures cost { steps.new ≤ steps.old + plain_below nodes.now id + 2 * nested_below nodes.now id }
 {
     let mut last = Ending::Empty;
     for child in children_of(nodes, id) {
-        last = with_rest(last, ending_of_node(nodes, *child));
+        steps.tick();
+        last = with_rest(last, ending_of_node(nodes, *child, steps));
     }
     last
 }

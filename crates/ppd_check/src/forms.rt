@@ -1,9 +1,10 @@
 // What a node says as an expression.
-ghost use Rattle.std.specs.Prelude.{◌≡◌, ◌<◌, length};
+ghost use Rattle.std.specs.Prelude.{◌≡◌, ◌+◌, ◌<◌, ◌≤◌, length};
 ghost use Rattle.ppd_parse.specs.Tree.{IsTable};
 ghost use Rattle.ppd_check.specs.Nodes.{phrase_of, phrases_below, IsOperand};
 ghost use Rattle.ppd_check.specs.Reading.{as_formula, unary, joined, kind, phrase, formula_at, goal_of, goal_formula};
 ghost use Rattle.ppd_check.specs.Forms.{operator_of, form_formula, ArePartsAfter};
+ghost use Rattle.ppd_check.specs.Cost.{plain_at, nested_below, plain_below, form_nodes};
 
 use crate::nodes::{Label, Operand, kind_at, label_at, operand_at, rule_of, value_at};
 use ppd_ast::Op;
@@ -56,6 +57,7 @@ fn unary_form<'a>(nodes: &'a [Node], id: u32) -> Form<'a>
     requires within { id < length nodes.now }
     ensures formula { form_formula nodes.now result ≡ unary (phrases_below nodes.now id) }
     ensures parts { ArePartsAfter nodes.now id result }
+    ensures nodes { form_nodes nodes.now result ≤ 1 + plain_below nodes.now id + nested_below nodes.now id }
 {
     match kind_at(nodes, id, 0) {
         Kind::LeftParen => Form::Inside(operand_at(nodes, id, 1)),
@@ -72,6 +74,7 @@ fn place_form<'a>(nodes: &'a [Node], id: u32) -> Form<'a>
     requires within { id < length nodes.now }
     ensures formula { form_formula nodes.now result ≡ goal_formula (goal_of (phrases_below nodes.now id)) }
     ensures parts { ArePartsAfter nodes.now id result }
+    ensures nodes { form_nodes nodes.now result ≤ 1 + plain_below nodes.now id + nested_below nodes.now id }
 {
     let name = label_at(nodes, id, 0);
     match kind_at(nodes, id, 1) {
@@ -86,6 +89,7 @@ fn binary_form<'a>(nodes: &'a [Node], id: u32) -> Form<'a>
     requires within { id < length nodes.now }
     ensures formula { form_formula nodes.now result ≡ joined (kind (phrase (phrases_below nodes.now id) 1)) (formula_at (phrases_below nodes.now id) 0) (formula_at (phrases_below nodes.now id) 2) }
     ensures parts { ArePartsAfter nodes.now id result }
+    ensures nodes { form_nodes nodes.now result ≤ 1 + plain_below nodes.now id + nested_below nodes.now id }
 {
     Form::Joined(
         operator_of(kind_at(nodes, id, 1)),
@@ -100,6 +104,7 @@ pub fn form_at<'a>(nodes: &'a [Node], id: u32) -> Form<'a>
     requires within { id < length nodes.now }
     ensures formula { form_formula nodes.now result ≡ as_formula (phrase_of nodes.now id) }
     ensures parts { ArePartsAfter nodes.now id result }
+    ensures nodes { form_nodes nodes.now result ≤ plain_at nodes.now id }
 {
     match rule_of(nodes, id) {
         Rule::Unary => unary_form(nodes, id),

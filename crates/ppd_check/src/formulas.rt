@@ -1,5 +1,5 @@
 // Expressions into the table.
-ghost use Rattle.std.specs.Prelude.{◌≡◌, ◌<◌, ◌++◌, [], ◌∷◌, OnOk, IfOk, length, Some, ℕ};
+ghost use Rattle.std.specs.Prelude.{◌≡◌, ◌<◌, ◌++◌, [], ◌∷◌, OnOk, IfOk, length, Some, ℕ, ◌≤◌, ◌+◌, ◌*◌};
 ghost use Rattle.ppd_parse.specs.Tree.{IsTable};
 ghost use Rattle.ppd_check.specs.Nodes.{phrase_of, operand_formula, IsOperand};
 ghost use Rattle.ppd_check.specs.Reading.{as_formula};
@@ -9,40 +9,50 @@ ghost use Rattle.ppd_check.specs.Expressions.{term_of, formula_faults, name_faul
 ghost use Rattle.ppd_check.specs.Forms.{joined_expr, Added};
 ghost use Rattle.ppd_check.specs.Table.{flat, root};
 ghost use Rattle.ppd_ast.specs.Term.{Term};
+ghost use Rattle.ppd_check.specs.Cost.{plain_at, operand_nodes};
 
 use crate::fault::{Cause, Fault, note};
 use crate::forms::{Form, Operator, form_at};
 use crate::meaning::Meaning;
 use crate::nodes::Operand;
 use crate::scopes::Scopes;
-use ppd_ast::{Expr, Memory, Place, Seq};
+use ppd_ast::{Expr, Memory, Place, Seq, Steps};
 use ppd_parse::Node;
+use std::sync::ledger::Ledger;
 
 // One more expression; its number.
-pub fn put(exprs: &mut Seq<Expr>, expr: Expr) -> Result<u32, Memory>
+pub fn put<L: Ledger>(
+    exprs: &mut Seq<Expr>,
+    expr: Expr,
+    steps: &mut Steps<L>,
+) -> Result<u32, Memory>
     ensures added { OnOk result (exprs.new ≡ exprs.old ++ expr ∷ []) }
     ensures number { IfOk result (λ n. n ≡ length exprs.old) }
+    ensures cost { steps.new ≤ steps.old + 1 }
 {
     let Ok(number) = u32::try_from(exprs.len()) else {
         return Err(Memory);
     };
+    steps.tick();
     exprs.push(expr)?;
     Ok(number)
 }
 
 // What a variable's name means, with the fault of a name that is not used as what it is.
 #[tactic(auto, using(crate::proofs::First::first_of_both_none))]
-pub fn used(
+pub fn used<L: Ledger>(
     scopes: &Scopes,
     text: &[u8],
     place: Place,
     indexed: bool,
     found: &mut Option<Fault>,
+    steps: &mut Steps<L>,
 ) -> Option<Meaning>
     ensures means { result ≡ meaning scopes.now text.now }
     ensures faults { found.new ≡ first_of_both found.old (first (name_faults (fits indexed) scopes.now (record { text = text.now; place = place }))) }
+    ensures cost { steps.new ≤ steps.old + 1 }
 {
-    let meaning = scopes.find(text);
+    let meaning = scopes.find(text, steps);
     match meaning {
         None => note(found, place, Cause::Unknown),
         Some(meaning) => {
@@ -93,62 +103,68 @@ fn joined_expr(operator: Operator, a: u32, b: u32) -> Expr
 
 // Adds the expressions of an operand, and keeps the first fault. Gives the number of the last.
 #[cycle(formula)]
-pub fn formula(
+pub fn formula<L: Ledger>(
     nodes: &[Node],
     scopes: &Scopes,
     operand: Operand,
     exprs: &mut Seq<Expr>,
     found: &mut Option<Fault>,
+    steps: &mut Steps<L>,
 ) -> Result<u32, Memory>
     requires table { IsTable nodes.now }
     requires inside { IsOperand nodes.now operand }
     ensures added { IfOk result (λ n. Added exprs.old (term_of scopes.now (operand_formula nodes.now operand)) exprs.new n) }
     ensures faults { OnOk result (found.new ≡ first_of_both found.old (first (formula_faults scopes.now (operand_formula nodes.now operand)))) }
+    ensures cost { steps.new ≤ steps.old + 6 * operand_nodes nodes.now operand + 3 }
 {
+    steps.tick();
     match operand {
-        Operand::Constant(value) => put(exprs, Expr::Const(value)),
-        Operand::At(id) => formula_at(nodes, scopes, id, exprs, found),
+        Operand::Constant(value) => put(exprs, Expr::Const(value), steps),
+        Operand::At(id) => formula_at(nodes, scopes, id, exprs, found, steps),
     }
 }
 
 // Adds the expressions of a node.
 #[cycle(formula)]
-fn formula_at(
+fn formula_at<L: Ledger>(
     nodes: &[Node],
     scopes: &Scopes,
     id: u32,
     exprs: &mut Seq<Expr>,
     found: &mut Option<Fault>,
+    steps: &mut Steps<L>,
 ) -> Result<u32, Memory>
     requires table { IsTable nodes.now }
     requires inside { id < length nodes.now }
     ensures added { IfOk result (λ n. Added exprs.old (term_of scopes.now (as_formula (phrase_of nodes.now id))) exprs.new n) }
     ensures faults { OnOk result (found.new ≡ first_of_both found.old (first (formula_faults scopes.now (as_formula (phrase_of nodes.now id))))) }
+    ensures cost { steps.new ≤ steps.old + 6 * plain_at nodes.now id + 2 }
 {
+    steps.tick();
     match form_at(nodes, id) {
-        Form::Number(value) => put(exprs, Expr::Const(value)),
+        Form::Number(value) => put(exprs, Expr::Const(value), steps),
         Form::Variable(name) => {
-            let meaning = used(scopes, name.text, name.place, false, found);
-            put(exprs, scalar_expr(meaning))
+            let meaning = used(scopes, name.text, name.place, false, found, steps);
+            put(exprs, scalar_expr(meaning), steps)
         }
         Form::Element(name, index) => {
-            let meaning = used(scopes, name.text, name.place, true, found);
-            let at = formula(nodes, scopes, index, exprs, found)?;
-            put(exprs, element_expr(meaning, at))
+            let meaning = used(scopes, name.text, name.place, true, found, steps);
+            let at = formula(nodes, scopes, index, exprs, found, steps)?;
+            put(exprs, element_expr(meaning, at), steps)
         }
         Form::Negated(operand) => {
-            let a = formula(nodes, scopes, operand, exprs, found)?;
-            put(exprs, Expr::Neg(a))
+            let a = formula(nodes, scopes, operand, exprs, found, steps)?;
+            put(exprs, Expr::Neg(a), steps)
         }
         Form::Inverted(operand) => {
-            let a = formula(nodes, scopes, operand, exprs, found)?;
-            put(exprs, Expr::Not(a))
+            let a = formula(nodes, scopes, operand, exprs, found, steps)?;
+            put(exprs, Expr::Not(a), steps)
         }
-        Form::Inside(inner) => formula(nodes, scopes, inner, exprs, found),
+        Form::Inside(inner) => formula(nodes, scopes, inner, exprs, found, steps),
         Form::Joined(operator, left, right) => {
-            let a = formula(nodes, scopes, left, exprs, found)?;
-            let b = formula(nodes, scopes, right, exprs, found)?;
-            put(exprs, joined_expr(operator, a, b))
+            let a = formula(nodes, scopes, left, exprs, found, steps)?;
+            let b = formula(nodes, scopes, right, exprs, found, steps)?;
+            put(exprs, joined_expr(operator, a, b), steps)
         }
     }
 }

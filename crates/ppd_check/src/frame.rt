@@ -1,5 +1,5 @@
 // What a body has declared so far.
-ghost use Rattle.std.specs.Prelude.{◌≡◌, ◌++◌, [], ◌∷◌, OnOk, IfOk, Some, None, is_some, decimal};
+ghost use Rattle.std.specs.Prelude.{◌≡◌, ◌++◌, [], ◌∷◌, OnOk, IfOk, Some, None, is_some, decimal, ◌≤◌, ◌+◌};
 ghost use Rattle.ppd_check.specs.Faults.{first, first_of_both};
 ghost use Rattle.ppd_check.specs.Names.{innermost};
 ghost use Rattle.ppd_check.specs.Statements.{after_cells, declared, hidden_name, opened, closed, twice_faults, with_hidden};
@@ -9,8 +9,9 @@ use crate::meaning::Meaning;
 use crate::nodes::Label;
 use crate::scopes::Scopes;
 use itoa::Buffer;
-use ppd_ast::{Bytes, Memory, Place, Seq};
+use ppd_ast::{Bytes, Memory, Place, Seq, Steps};
 use std::alloc::Global;
+use std::sync::ledger::Ledger;
 
 // A variable with its length, where it is an array, and the place of its name or, of a hidden one, of its statement.
 #[derive(Drop)]
@@ -41,9 +42,15 @@ pub fn after_cells(cell: u16, length: Option<u16>) -> u16
 }
 
 // A list of bytes.
-pub fn bytes_of(alloc: Global, bytes: &[u8]) -> Result<Bytes, Memory>
-    ensures { IfOk result (λ list. list ≡ bytes.now) }
+pub fn bytes_of<L: Ledger>(
+    alloc: Global,
+    bytes: &[u8],
+    steps: &mut Steps<L>,
+) -> Result<Bytes, Memory>
+    ensures value { IfOk result (λ list. list ≡ bytes.now) }
+    ensures cost { steps.new ≤ steps.old + 1 }
 {
+    steps.tick();
     match Vec::from_slice(alloc, bytes) {
         Ok(items) => Ok(Seq::from_vec(items)),
         Err(_) => Err(Memory),
@@ -51,9 +58,11 @@ pub fn bytes_of(alloc: Global, bytes: &[u8]) -> Result<Bytes, Memory>
 }
 
 // The name of a body's hidden variable with this number.
-fn hidden_name(alloc: Global, number: u16) -> Result<Bytes, Memory>
-    ensures { IfOk result (λ name. name ≡ hidden_name number) }
+fn hidden_name<L: Ledger>(alloc: Global, number: u16, steps: &mut Steps<L>) -> Result<Bytes, Memory>
+    ensures value { IfOk result (λ name. name ≡ hidden_name number) }
+    ensures cost { steps.new ≤ steps.old + 1 }
 {
+    steps.tick();
     let mut items = Vec::new(alloc);
     if items.push(b'%').is_err() {
         return Err(Memory);
@@ -69,23 +78,26 @@ fn hidden_name(alloc: Global, number: u16) -> Result<Bytes, Memory>
 }
 
 // One more variable, which its name means from here on.
-pub fn declare(
+pub fn declare<L: Ledger>(
     alloc: Global,
     frame: &mut Frame,
     text: &[u8],
     place: Place,
     length: Option<u16>,
     found: &mut Option<Fault>,
+    steps: &mut Steps<L>,
 ) -> Result<(), Memory>
     ensures frame { OnOk result (frame.new ≡ declared (record { text = text.now; place = place }) length frame.old) }
     ensures faults { OnOk result (found.new ≡ first_of_both found.old (first (twice_faults (innermost frame.old.scopes) (record { text = text.now; place = place })))) }
+    ensures cost { steps.new ≤ steps.old + 5 }
 {
     let meaning = Meaning::Local(frame.cells, length);
-    if frame.scopes.declare(alloc, text, meaning)? {
+    if frame.scopes.declare(alloc, text, meaning, steps)? {
         note(found, place, Cause::Twice);
     }
+    steps.tick();
     frame.variables.push(Variable {
-        name: bytes_of(alloc, text)?,
+        name: bytes_of(alloc, text, steps)?,
         length,
         place,
     })?;
@@ -94,14 +106,21 @@ pub fn declare(
 }
 
 // One more variable, which no name means; its cell.
-pub fn hide(alloc: Global, frame: &mut Frame, place: Place) -> Result<u16, Memory>
+pub fn hide<L: Ledger>(
+    alloc: Global,
+    frame: &mut Frame,
+    place: Place,
+    steps: &mut Steps<L>,
+) -> Result<u16, Memory>
     ensures frame { OnOk result (frame.new ≡ with_hidden place frame.old) }
     ensures cell { IfOk result (λ cell. cell ≡ frame.old.cells) }
+    ensures cost { steps.new ≤ steps.old + 2 }
 {
     let cell = frame.cells;
     let number = frame.hidden.saturating_add(1);
+    steps.tick();
     frame.variables.push(Variable {
-        name: hidden_name(alloc, number)?,
+        name: hidden_name(alloc, number, steps)?,
         length: None,
         place,
     })?;

@@ -40,7 +40,7 @@ mod walk;
 mod words;
 mod writer;
 
-pub use checking::check;
+pub use checking::{check, check_in};
 pub use error::{CheckError, SourceError};
 pub use fault::Limit;
 pub use laws::one_answer;

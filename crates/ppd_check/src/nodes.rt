@@ -1,8 +1,9 @@
 // What the nodes of a table say, by their numbers. Child numbers count from 0; a child that is missing says nothing.
-ghost use Rattle.std.specs.Prelude.{◌≡◌, ◌<◌, ◌≤◌, ◌^◌, length, MatchOption, IfSome, slice_get};
+ghost use Rattle.std.specs.Prelude.{◌≡◌, ◌+◌, ◌<◌, ◌≤◌, ◌^◌, length, MatchOption, IfSome, slice_get};
 ghost use Rattle.std.specs.List.{All};
 ghost use Rattle.ppd_parse.specs.Tree.{IsTable};
 ghost use Rattle.ppd_check.specs.Nodes.{phrase_of, phrases_below, children_of, SaysBy, label_name, operand_formula, IsOperand, IsAfter};
+ghost use Rattle.ppd_check.specs.Cost.{nested_at, plain_at, nested_by, plain_by, if_there, nested_child, plain_child, nested_below, plain_below, operand_nodes};
 ghost use Rattle.ppd_check.specs.Reading.{phrase, token, as_token, nowhere, kind, value_of, formula_at, place_at, name_at, text_of};
 
 use ppd_ast::Place;
@@ -29,6 +30,7 @@ pub fn children_of(nodes: &[Node], id: u32) -> &[u32]
     requires within { id < length nodes.now }
     ensures children { result.now ≡ children_of nodes.now id }
     ensures inside { All (λ c. (id < c) × (c < length nodes.now)) result.now }
+    ensures few { length result.now ≤ plain_below nodes.now id + nested_below nodes.now id }
 {
     nodes[id as usize].children.as_slice()
 }
@@ -51,6 +53,10 @@ pub fn child_at(nodes: &[Node], id: u32, k: usize) -> Option<u32>
     ensures child { result ≡ slice_get (children_of nodes.now id) k }
     ensures within { IfSome result (λ c. c < length nodes.now) }
     ensures after { IfSome result (λ c. id < c) }
+    ensures plain { if_there (plain_at nodes.now) result ≡ plain_child nodes.now id k }
+    ensures nested { if_there (nested_at nodes.now) result ≡ nested_child nodes.now id k }
+    ensures plain_few { plain_child nodes.now id k ≤ plain_below nodes.now id }
+    ensures nested_few { nested_child nodes.now id k ≤ nested_below nodes.now id }
     ensures said { MatchOption result (phrase (phrases_below nodes.now id) k ≡ token nowhere) (λ c. phrase (phrases_below nodes.now id) k ≡ phrase_of nodes.now c) }
 {
     child_id(nodes, id, k)
@@ -60,7 +66,9 @@ pub fn child_at(nodes: &[Node], id: u32, k: usize) -> Option<u32>
 pub fn rule_of(nodes: &[Node], id: u32) -> Rule
     requires table { IsTable nodes.now }
     requires within { id < length nodes.now }
-    ensures { SaysBy result (phrases_below nodes.now id) (phrase_of nodes.now id) }
+    ensures said { SaysBy result (phrases_below nodes.now id) (phrase_of nodes.now id) }
+    ensures plain { plain_at nodes.now id ≡ plain_by result (1 + plain_below nodes.now id + nested_below nodes.now id) }
+    ensures nested { nested_at nodes.now id ≡ nested_by result (1 + plain_below nodes.now id + nested_below nodes.now id) }
 {
     nodes[id as usize].rule
 }
@@ -138,6 +146,8 @@ pub fn operand_at(nodes: &[Node], id: u32, k: usize) -> Operand
     ensures formula { operand_formula nodes.now result ≡ formula_at (phrases_below nodes.now id) k }
     ensures within { IsOperand nodes.now result }
     ensures after { IsAfter id result }
+    ensures nodes { operand_nodes nodes.now result ≡ plain_child nodes.now id k }
+    ensures few { operand_nodes nodes.now result ≤ plain_below nodes.now id }
 {
     match child_at(nodes, id, k) {
         Some(child) => Operand::At(child),

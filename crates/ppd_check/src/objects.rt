@@ -1,5 +1,5 @@
 // The semaphores and channels of a declaration.
-ghost use Rattle.std.specs.Prelude.{◌≡◌, ◌<◌, ◌||◌, OnOk, IfOk, List, length};
+ghost use Rattle.std.specs.Prelude.{◌≡◌, ◌<◌, ◌||◌, OnOk, IfOk, List, length, ◌≤◌, ◌+◌, ◌*◌};
 ghost use Rattle.ppd_parse.specs.declared.node.Node.{Node as NodeOf};
 ghost use Rattle.ppd_parse.specs.Tree.{IsTable};
 ghost use Rattle.ppd_check.specs.Reading.{is_name, is_assign, is_bracket, numbered};
@@ -7,14 +7,16 @@ ghost use Rattle.ppd_check.specs.Nodes.{phrases_below};
 ghost use Rattle.ppd_check.specs.Syntax.{semaphore, channel};
 ghost use Rattle.ppd_check.specs.Items.{size_number, number_after, numbered_at};
 ghost use Rattle.ppd_check.specs.Holding.{Declares};
+ghost use Rattle.ppd_check.specs.Cost.{SameHeads};
 
 use crate::fault::Fault;
 use crate::globals::Globals;
 use crate::items::{declare_channel, declare_semaphore, size_at};
 use crate::nodes::{children_of, kind_at, label_at, place_at};
-use ppd_ast::{Memory, Place};
+use ppd_ast::{Memory, Place, Steps};
 use ppd_parse::{Kind, Node};
 use std::alloc::Global;
+use std::sync::ledger::Ledger;
 
 // A number without its sign, and its place.
 #[derive(Clone, Copy)]
@@ -56,45 +58,69 @@ fn size_after(nodes: &[Node], id: u32, k: u32, name: Place) -> Size
 }
 
 // Declares the semaphore that a child names, where it is a name.
-fn semaphore_at(
+fn semaphore_at<L: Ledger>(
     alloc: Global,
     nodes: &[Node],
     id: u32,
     k: u32,
     globals: &mut Globals,
     found: &mut Option<Fault>,
+    steps: &mut Steps<L>,
 ) -> Result<(), Memory>
     requires table { IsTable nodes.now }
     requires within { id < length nodes.now }
-    ensures { OnOk result ((ns : List NodeOf) → Declares ns (numbered_at semaphore (phrases_below nodes.now id) k) globals.old globals.new found.old found.new) }
+    ensures declares { OnOk result ((ns : List NodeOf) → Declares ns (numbered_at semaphore (phrases_below nodes.now id) k) globals.old globals.new found.old found.new) }
+    ensures cost { steps.new ≤ steps.old + 5 }
+    ensures cells { globals.new.cells ≡ globals.old.cells }
+    ensures heads { SameHeads globals.old globals.new }
 {
     if !is_name(kind_at(nodes, id, k as usize)) {
         return Ok(());
     }
     let label = label_at(nodes, id, k as usize);
     let start = size_after(nodes, id, k, label.place);
-    declare_semaphore(alloc, label, start.value, start.place, globals, found)
+    declare_semaphore(
+        alloc,
+        label,
+        start.value,
+        start.place,
+        globals,
+        found,
+        steps,
+    )
 }
 
 // Declares the channel that a child names, where it is a name.
-fn channel_at(
+fn channel_at<L: Ledger>(
     alloc: Global,
     nodes: &[Node],
     id: u32,
     k: u32,
     globals: &mut Globals,
     found: &mut Option<Fault>,
+    steps: &mut Steps<L>,
 ) -> Result<(), Memory>
     requires table { IsTable nodes.now }
     requires within { id < length nodes.now }
-    ensures { OnOk result ((ns : List NodeOf) → Declares ns (numbered_at channel (phrases_below nodes.now id) k) globals.old globals.new found.old found.new) }
+    ensures declares { OnOk result ((ns : List NodeOf) → Declares ns (numbered_at channel (phrases_below nodes.now id) k) globals.old globals.new found.old found.new) }
+    ensures cost { steps.new ≤ steps.old + 5 }
+    ensures cells { globals.new.cells ≡ globals.old.cells }
+    ensures heads { SameHeads globals.old globals.new }
 {
     if !is_name(kind_at(nodes, id, k as usize)) {
         return Ok(());
     }
     let label = label_at(nodes, id, k as usize);
     let capacity = size_after(nodes, id, k, label.place);
-    declare_channel(alloc, label, capacity.value, capacity.place, globals, found)
+    declare_channel(
+        alloc,
+        label,
+        capacity.value,
+        capacity.place,
+        globals,
+        found,
+        steps,
+    )
 }
 
 // The count of a node's children.
@@ -110,39 +136,49 @@ fn count_children(nodes: &[Node], id: u32) -> Result<u32, Memory>
 }
 
 // Declares the semaphores of a node.
-pub fn declare_semaphores(
+pub fn declare_semaphores<L: Ledger>(
     alloc: Global,
     nodes: &[Node],
     id: u32,
     globals: &mut Globals,
     found: &mut Option<Fault>,
+    steps: &mut Steps<L>,
 ) -> Result<(), Memory>
     requires table { IsTable nodes.now }
     requires within { id < length nodes.now }
-    ensures { OnOk result ((ns : List NodeOf) → Declares ns (numbered semaphore (phrases_below nodes.now id)) globals.old globals.new found.old found.new) }
+    ensures declares { OnOk result ((ns : List NodeOf) → Declares ns (numbered semaphore (phrases_below nodes.now id)) globals.old globals.new found.old found.new) }
+    ensures cost { steps.new ≤ steps.old + 6 * length (phrases_below nodes.now id) }
+    ensures cells { globals.new.cells ≡ globals.old.cells }
+    ensures heads { SameHeads globals.old globals.new }
 {
     let count = count_children(nodes, id)?;
     for k in 0..count {
-        semaphore_at(alloc, nodes, id, k, globals, found)?;
+        steps.tick();
+        semaphore_at(alloc, nodes, id, k, globals, found, steps)?;
     }
     Ok(())
 }
 
 // Declares the channels of a node.
-pub fn declare_channels(
+pub fn declare_channels<L: Ledger>(
     alloc: Global,
     nodes: &[Node],
     id: u32,
     globals: &mut Globals,
     found: &mut Option<Fault>,
+    steps: &mut Steps<L>,
 ) -> Result<(), Memory>
     requires table { IsTable nodes.now }
     requires within { id < length nodes.now }
-    ensures { OnOk result ((ns : List NodeOf) → Declares ns (numbered channel (phrases_below nodes.now id)) globals.old globals.new found.old found.new) }
+    ensures declares { OnOk result ((ns : List NodeOf) → Declares ns (numbered channel (phrases_below nodes.now id)) globals.old globals.new found.old found.new) }
+    ensures cost { steps.new ≤ steps.old + 6 * length (phrases_below nodes.now id) }
+    ensures cells { globals.new.cells ≡ globals.old.cells }
+    ensures heads { SameHeads globals.old globals.new }
 {
     let count = count_children(nodes, id)?;
     for k in 0..count {
-        channel_at(alloc, nodes, id, k, globals, found)?;
+        steps.tick();
+        channel_at(alloc, nodes, id, k, globals, found, steps)?;
     }
     Ok(())
 }

@@ -1,5 +1,5 @@
 // Returns at the end of a body, and where none may stand.
-ghost use Rattle.std.specs.Prelude.{◌≡◌, ◌-◌, [], ◌++◌, OnOk, drop, length, take, not, ◌&&◌, ◌||◌};
+ghost use Rattle.std.specs.Prelude.{◌≡◌, ◌-◌, [], ◌++◌, OnOk, drop, length, take, not, ◌&&◌, ◌||◌, ◌≤◌, ◌+◌};
 ghost use Rattle.std.specs.List.{flat_map};
 ghost use Rattle.ppd_check.specs.Endings.{returned, function_returns, body_returns, close_by};
 ghost use Rattle.ppd_check.specs.declared.fault.Cause.TheVariants.{ReturnPlace};
@@ -9,7 +9,8 @@ ghost use Rattle.ppd_check.specs.Writing.{Wrote};
 use crate::endings::Ending;
 use crate::fault::{Cause, Fault, note, note_if, note_unless};
 use crate::writer::{Site, Writer, put_stmt};
-use ppd_ast::{Ids, Kind, Memory, Place, Stmt};
+use ppd_ast::{Ids, Kind, Memory, Place, Steps, Stmt};
+use std::sync::ledger::Ledger;
 
 // The statements from a number on.
 pub fn from_on(stmts: &[Stmt], from: usize) -> &[Stmt]
@@ -44,10 +45,12 @@ fn note_return(stmt: &Stmt, found: &mut Option<Fault>)
 }
 
 // Notes each `return` among statements.
-fn note_returns(stmts: &[Stmt], found: &mut Option<Fault>)
-    ensures { found.new ≡ first_of_both found.old (first (flat_map returned stmts.now)) }
+fn note_returns<L: Ledger>(stmts: &[Stmt], found: &mut Option<Fault>, steps: &mut Steps<L>)
+    ensures faults { found.new ≡ first_of_both found.old (first (flat_map returned stmts.now)) }
+    ensures cost { steps.new ≤ steps.old + length stmts.now }
 {
     for stmt in stmts {
+        steps.tick();
         note_return(stmt, found);
     }
 }
@@ -61,73 +64,94 @@ fn fits(value: bool, gives: bool) -> bool
 
 // Notes the returns of a function but the last one, and that one with or without a value where the other is asked.
 #[tactic(auto, using(crate::proofs::First::found_in_both))]
-fn note_ended(stmts: &[Stmt], place: Place, value: bool, gives: bool, found: &mut Option<Fault>)
-    ensures { found.new ≡ first_of_both found.old (first (flat_map returned (take (length stmts.now - 1) stmts.now) ++ unless (value && gives || not value && not gives) place ReturnPlace)) }
+fn note_ended<L: Ledger>(
+    stmts: &[Stmt],
+    place: Place,
+    value: bool,
+    gives: bool,
+    found: &mut Option<Fault>,
+    steps: &mut Steps<L>,
+)
+    ensures faults { found.new ≡ first_of_both found.old (first (flat_map returned (take (length stmts.now - 1) stmts.now) ++ unless (value && gives || not value && not gives) place ReturnPlace)) }
+    ensures cost { steps.new ≤ steps.old + length stmts.now }
 {
-    note_returns(but_last(stmts), found);
+    note_returns(but_last(stmts), found, steps);
     note_unless(found, fits(value, gives), place, Cause::ReturnPlace);
 }
 
 // Notes the returns of a function that does not end with one, and its closing brace where it should.
 #[tactic(auto, using(crate::proofs::First::found_in_both))]
-fn note_unended(stmts: &[Stmt], gives: bool, close: Place, found: &mut Option<Fault>)
-    ensures { found.new ≡ first_of_both found.old (first (flat_map returned stmts.now ++ if_so gives close ReturnPlace)) }
+fn note_unended<L: Ledger>(
+    stmts: &[Stmt],
+    gives: bool,
+    close: Place,
+    found: &mut Option<Fault>,
+    steps: &mut Steps<L>,
+)
+    ensures faults { found.new ≡ first_of_both found.old (first (flat_map returned stmts.now ++ if_so gives close ReturnPlace)) }
+    ensures cost { steps.new ≤ steps.old + length stmts.now }
 {
-    note_returns(stmts, found);
+    note_returns(stmts, found, steps);
     note_if(found, gives, close, Cause::ReturnPlace);
 }
 
 // Notes the returns of a function that may not stand where they do.
-fn note_function(
+fn note_function<L: Ledger>(
     stmts: &[Stmt],
     ending: Ending,
     gives: bool,
     close: Place,
     found: &mut Option<Fault>,
+    steps: &mut Steps<L>,
 )
-    ensures { found.new ≡ first_of_both found.old (first (function_returns gives close ending stmts.now)) }
+    ensures faults { found.new ≡ first_of_both found.old (first (function_returns gives close ending stmts.now)) }
+    ensures cost { steps.new ≤ steps.old + length stmts.now }
 {
     match ending {
-        Ending::Return(place, value) => note_ended(stmts, place, value, gives, found),
-        Ending::Empty => note_unended(stmts, gives, close, found),
-        Ending::Other => note_unended(stmts, gives, close, found),
+        Ending::Return(place, value) => note_ended(stmts, place, value, gives, found, steps),
+        Ending::Empty => note_unended(stmts, gives, close, found, steps),
+        Ending::Other => note_unended(stmts, gives, close, found, steps),
     }
 }
 
 // Notes the returns of a body that may not stand where they do; a process has none.
-pub fn note_body(
+pub fn note_body<L: Ledger>(
     stmts: &[Stmt],
     ending: Ending,
     process: bool,
     gives: bool,
     close: Place,
     found: &mut Option<Fault>,
+    steps: &mut Steps<L>,
 )
-    ensures { found.new ≡ first_of_both found.old (first (body_returns process gives close ending stmts.now)) }
+    ensures faults { found.new ≡ first_of_both found.old (first (body_returns process gives close ending stmts.now)) }
+    ensures cost { steps.new ≤ steps.old + length stmts.now }
 {
     if process {
-        note_returns(stmts, found);
+        note_returns(stmts, found, steps);
     } else {
-        note_function(stmts, ending, gives, close, found);
+        note_function(stmts, ending, gives, close, found, steps);
     }
 }
 
 // What stands at the closing brace: the end of a process, or a `return` where a function has none there.
-pub fn write_close(
+pub fn write_close<L: Ledger>(
     process: bool,
     ending: Ending,
     close: Place,
     out: &mut Writer,
     site: Site,
     row: &mut Ids,
+    steps: &mut Steps<L>,
 ) -> Result<(), Memory>
-    ensures { OnOk result (Wrote site.body site.parent (close_by process ending close) [] out.old out.new row.old row.new) }
+    ensures wrote { OnOk result (Wrote site.body site.parent (close_by process ending close) [] out.old out.new row.old row.new) }
+    ensures cost { steps.new ≤ steps.old + 2 }
 {
     if process {
-        return put_stmt(out, site, close, Kind::End, row);
+        return put_stmt(out, site, close, Kind::End, row, steps);
     }
     match ending {
         Ending::Return(_, _) => Ok(()),
-        _ => put_stmt(out, site, close, Kind::Return(None), row),
+        _ => put_stmt(out, site, close, Kind::Return(None), row, steps),
     }
 }

@@ -1,12 +1,13 @@
 // What names mean where they stand.
-ghost use Rattle.std.specs.Prelude.{◌≡◌, [], ◌∷◌, reverse, map, drop, is_some, OnOk, OnErr, IfOk};
+ghost use Rattle.std.specs.Prelude.{◌≡◌, [], ◌∷◌, reverse, map, drop, is_some, OnOk, OnErr, IfOk, ◌≤◌, ◌+◌};
 ghost use Rattle.ppd_check.specs.Names.{meaning, declare, found, scope_of, innermost, in_innermost};
 
 use crate::meaning::Meaning;
 use indexmap::IndexMap;
-use ppd_ast::Memory;
+use ppd_ast::{Memory, Steps};
 use std::alloc::Global;
 use std::marker::Model;
+use std::sync::ledger::Ledger;
 
 // The scopes round a place, the outermost first; contracts see the innermost first.
 #[derive(Drop)]
@@ -33,10 +34,12 @@ impl Scopes {
     }
 
     // Opens a scope inside the others.
-    pub fn open(&mut self, alloc: Global) -> Result<(), Memory>
+    pub fn open<L: Ledger>(&mut self, alloc: Global, steps: &mut Steps<L>) -> Result<(), Memory>
         ensures ok { OnOk result (self.new ≡ [] ∷ self.old) }
         ensures err { OnErr result (self.new ≡ self.old) }
+        ensures cost { steps.new ≤ steps.old + 1 }
     {
+        steps.tick();
         match self.maps.push(IndexMap::new(alloc)) {
             Ok(()) => Ok(()),
             Err(_) => Err(Memory),
@@ -51,21 +54,30 @@ impl Scopes {
     }
 
     // Declares a name in the innermost scope, and answers whether it was there before.
-    pub fn declare(&mut self, alloc: Global, name: &[u8], meaning: Meaning) -> Result<bool, Memory>
+    pub fn declare<L: Ledger>(
+        &mut self,
+        alloc: Global,
+        name: &[u8],
+        meaning: Meaning,
+        steps: &mut Steps<L>,
+    ) -> Result<bool, Memory>
         ensures twice { IfOk result (λ twice. twice ≡ is_some (found (innermost self.old) name.now)) }
         ensures ok { OnOk result (self.new ≡ in_innermost (declare name.now meaning) self.old) }
+        ensures cost { steps.new ≤ steps.old + 3 }
     {
         let count = self.maps.len();
         if count == 0 {
             return Ok(false);
         }
-        declare_in(alloc, &mut self.maps[count - 1], name, meaning)
+        declare_in(alloc, &mut self.maps[count - 1], name, meaning, steps)
     }
 
     // What a name means here: its declaration in the innermost scope that has one.
-    pub fn find(&self, name: &[u8]) -> Option<Meaning>
-        ensures { result ≡ meaning self.now name.now }
+    pub fn find<L: Ledger>(&self, name: &[u8], steps: &mut Steps<L>) -> Option<Meaning>
+        ensures value { result ≡ meaning self.now name.now }
+        ensures cost { steps.new ≤ steps.old + 1 }
     {
+        steps.tick();
         find_in(self.maps.as_slice(), name)
     }
 }
@@ -83,22 +95,27 @@ fn find_in(maps: &[IndexMap<Vec<u8>, Meaning>], name: &[u8]) -> Option<Meaning>
 }
 
 // Declares a name in one scope, and answers whether it was there before.
-fn declare_in(
+fn declare_in<L: Ledger>(
     alloc: Global,
     scope: &mut IndexMap<Vec<u8>, Meaning>,
     name: &[u8],
     meaning: Meaning,
+    steps: &mut Steps<L>,
 ) -> Result<bool, Memory>
     ensures twice { IfOk result (λ twice. twice ≡ is_some (found (scope_of scope.old) name.now)) }
     ensures ok { OnOk result (scope_of scope.new ≡ declare name.now meaning (scope_of scope.old)) }
     ensures err { OnErr result (scope_of scope.new ≡ scope_of scope.old) }
+    ensures cost { steps.new ≤ steps.old + 3 }
 {
+    steps.tick();
     if found_in(scope, name).is_some() {
         return Ok(true);
     }
+    steps.tick();
     let Ok(key) = Vec::from_slice(alloc, name) else {
         return Err(Memory);
     };
+    steps.tick();
     let Ok(_) = scope.insert(key, meaning) else {
         return Err(Memory);
     };

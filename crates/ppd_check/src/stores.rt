@@ -1,5 +1,5 @@
 // Values into local scalars and other places.
-ghost use Rattle.std.specs.Prelude.{◌≡◌, ◌<◌, ◌++◌, [], ◌∷◌, OnOk, IfOk, length, map, Some, None, is_some, ℕ};
+ghost use Rattle.std.specs.Prelude.{◌≡◌, ◌<◌, ◌++◌, [], ◌∷◌, OnOk, IfOk, length, map, Some, None, is_some, ℕ, ◌≤◌, ◌+◌, ◌*◌};
 ghost use Rattle.ppd_parse.specs.Tree.{IsTable};
 ghost use Rattle.ppd_check.specs.Nodes.{phrases_below, label_name, operand_formula, IsOperand};
 ghost use Rattle.ppd_check.specs.Reading.{name_at, formulas, goal_formula};
@@ -14,6 +14,7 @@ ghost use Rattle.ppd_check.specs.Table.{flats, root, spot_terms, target};
 ghost use Rattle.ppd_check.specs.Forms.{Added};
 ghost use Rattle.ppd_check.specs.Values.{goal_said, value_said_by, IsGoal, IsValue};
 ghost use Rattle.ppd_check.specs.Writing.{WroteAct, WroteSimple};
+ghost use Rattle.ppd_check.specs.Cost.{nested_below, plain_below, goal_nodes, value_nodes};
 
 use crate::calls::{arguments, channel, function};
 use crate::fault::Fault;
@@ -24,12 +25,13 @@ use crate::nodes::{Label, label_at};
 use crate::scopes::Scopes;
 use crate::values::{Goal, Value};
 use crate::writer::{Site, Writer, put_stmt};
-use ppd_ast::{Expr, Ids, Kind, Memory, Place, Seq, Target};
+use ppd_ast::{Expr, Ids, Kind, Memory, Place, Seq, Steps, Target};
 use ppd_parse::Node;
 use std::alloc::Global;
+use std::sync::ledger::Ledger;
 
 // The call at a node, whose value is used where a cell receives it.
-pub fn write_call(
+pub fn write_call<L: Ledger>(
     alloc: Global,
     nodes: &[Node],
     id: u32,
@@ -39,14 +41,24 @@ pub fn write_call(
     out: &mut Writer,
     site: Site,
     row: &mut Ids,
+    steps: &mut Steps<L>,
 ) -> Result<(), Memory>
     requires table { IsTable nodes.now }
     requires within { id < length nodes.now }
-    ensures { OnOk result (WroteAct site place (C.call (function_of (meaning scopes.now (name_at (phrases_below nodes.now id) 0).text)) (map (term_of scopes.now) (formulas (phrases_below nodes.now id))) into) (call_faults scopes.now (is_some into) (name_at (phrases_below nodes.now id) 0) (formulas (phrases_below nodes.now id))) out.old out.new row.old row.new) }
+    ensures wrote { OnOk result (WroteAct site place (C.call (function_of (meaning scopes.now (name_at (phrases_below nodes.now id) 0).text)) (map (term_of scopes.now) (formulas (phrases_below nodes.now id))) into) (call_faults scopes.now (is_some into) (name_at (phrases_below nodes.now id) 0) (formulas (phrases_below nodes.now id))) out.old out.new row.old row.new) }
+    ensures cost { steps.new ≤ steps.old + 11 * plain_below nodes.now id + 11 * nested_below nodes.now id + 3 }
 {
     let name = label_at(nodes, id, 0);
     let mut args = Ids::new(alloc);
-    arguments(nodes, scopes, id, &mut out.exprs, &mut args, &mut out.found)?;
+    arguments(
+        nodes,
+        scopes,
+        id,
+        &mut out.exprs,
+        &mut args,
+        &mut out.found,
+        steps,
+    )?;
     let number = function(
         scopes,
         name.text,
@@ -54,6 +66,7 @@ pub fn write_call(
         args.len(),
         into.is_some(),
         &mut out.found,
+        steps,
     );
     put_stmt(
         out,
@@ -65,11 +78,12 @@ pub fn write_call(
             into,
         },
         row,
+        steps,
     )
 }
 
 // A value into a local scalar.
-pub fn write_put(
+pub fn write_put<L: Ledger>(
     alloc: Global,
     nodes: &[Node],
     value: Value<'_>,
@@ -79,20 +93,30 @@ pub fn write_put(
     out: &mut Writer,
     site: Site,
     row: &mut Ids,
+    steps: &mut Steps<L>,
 ) -> Result<(), Memory>
     requires table { IsTable nodes.now }
     requires within { IsValue nodes.now value }
-    ensures { OnOk result (WroteAct site place (put scopes.now cell (value_said_by nodes.now value.entry)) (value_faults scopes.now (value_said_by nodes.now value.entry)) out.old out.new row.old row.new) }
+    ensures wrote { OnOk result (WroteAct site place (put scopes.now cell (value_said_by nodes.now value.entry)) (value_faults scopes.now (value_said_by nodes.now value.entry)) out.old out.new row.old row.new) }
+    ensures cost { steps.new ≤ steps.old + 11 * value_nodes nodes.now value.entry + 5 }
 {
     match value {
         Value::Plain(operand) => {
-            let number = formula(nodes, scopes, operand, &mut out.exprs, &mut out.found)?;
+            let number = formula(
+                nodes,
+                scopes,
+                operand,
+                &mut out.exprs,
+                &mut out.found,
+                steps,
+            )?;
             put_stmt(
                 out,
                 site,
                 place,
                 Kind::Set(Target::Local(cell), number),
                 row,
+                steps,
             )
         }
         Value::Result(id) => write_call(
@@ -105,17 +129,18 @@ pub fn write_put(
             out,
             site,
             row,
+            steps,
         ),
         Value::Received(name) => {
-            let number = channel(scopes, name.text, name.place, &mut out.found);
-            put_stmt(out, site, place, Kind::Recv(number, cell), row)
+            let number = channel(scopes, name.text, name.place, &mut out.found, steps);
+            put_stmt(out, site, place, Kind::Recv(number, cell), row, steps)
         }
     }
 }
 
 // A declared scalar with its value.
 #[tactic(auto, using(crate::proofs::First::found_in_both))]
-pub fn write_fresh(
+pub fn write_fresh<L: Ledger>(
     alloc: Global,
     nodes: &[Node],
     text: &[u8],
@@ -125,14 +150,16 @@ pub fn write_fresh(
     out: &mut Writer,
     site: Site,
     row: &mut Ids,
+    steps: &mut Steps<L>,
 ) -> Result<(), Memory>
     requires table { IsTable nodes.now }
     requires within { IsValue nodes.now value }
     ensures wrote { OnOk result (WroteSimple site (fresh (record { text = text.now; place = place }) (value_said_by nodes.now value.entry)) frame.old out.old out.new row.old row.new) }
     ensures frame { OnOk result (frame.new ≡ after (fresh (record { text = text.now; place = place }) (value_said_by nodes.now value.entry)) frame.old) }
+    ensures cost { steps.new ≤ steps.old + 11 * value_nodes nodes.now value.entry + 10 }
 {
     let cell = frame.cells;
-    declare(alloc, frame, text, place, None, &mut out.found)?;
+    declare(alloc, frame, text, place, None, &mut out.found, steps)?;
     write_put(
         alloc,
         nodes,
@@ -143,31 +170,34 @@ pub fn write_fresh(
         out,
         site,
         row,
+        steps,
     )
 }
 
 // The place that a value is stored to, whose index has its expressions added.
-pub fn write_spot(
+pub fn write_spot<L: Ledger>(
     nodes: &[Node],
     scopes: &Scopes,
     goal: Goal<'_>,
     exprs: &mut Seq<Expr>,
     found: &mut Option<Fault>,
+    steps: &mut Steps<L>,
 ) -> Result<Target, Memory>
     requires table { IsTable nodes.now }
     requires within { IsGoal nodes.now goal }
     ensures added { OnOk result (exprs.new ≡ exprs.old ++ flats (length exprs.old) (spot_terms (spot_of scopes.now (goal_said nodes.now goal.entry)))) }
     ensures target { IfOk result (λ t. t ≡ target (length exprs.old) (spot_of scopes.now (goal_said nodes.now goal.entry))) }
     ensures faults { OnOk result (found.new ≡ first_of_both found.old (first (formula_faults scopes.now (goal_formula (goal_said nodes.now goal.entry))))) }
+    ensures cost { steps.new ≤ steps.old + 6 * goal_nodes nodes.now goal.entry + 4 }
 {
     match goal {
         Goal::Scalar(name) => {
-            let meaning = used(scopes, name.text, name.place, false, found);
+            let meaning = used(scopes, name.text, name.place, false, found, steps);
             Ok(scalar_target(meaning))
         }
         Goal::Item(name, index) => {
-            let meaning = used(scopes, name.text, name.place, true, found);
-            let at = formula(nodes, scopes, index, exprs, found)?;
+            let meaning = used(scopes, name.text, name.place, true, found, steps);
+            let at = formula(nodes, scopes, index, exprs, found, steps)?;
             Ok(element_target(meaning, at))
         }
     }
@@ -202,26 +232,28 @@ fn element_target(meaning: Option<Meaning>, at: u32) -> Target
 }
 
 // The expression that reads a place where a value is stored; what is wrong with it is noted where it is written.
-pub fn write_goal(
+pub fn write_goal<L: Ledger>(
     nodes: &[Node],
     scopes: &Scopes,
     goal: Goal<'_>,
     exprs: &mut Seq<Expr>,
+    steps: &mut Steps<L>,
 ) -> Result<u32, Memory>
     requires table { IsTable nodes.now }
     requires within { IsGoal nodes.now goal }
-    ensures { IfOk result (λ n. Added exprs.old (term_of scopes.now (goal_formula (goal_said nodes.now goal.entry))) exprs.new n) }
+    ensures added { IfOk result (λ n. Added exprs.old (term_of scopes.now (goal_formula (goal_said nodes.now goal.entry))) exprs.new n) }
+    ensures cost { steps.new ≤ steps.old + 6 * goal_nodes nodes.now goal.entry + 5 }
 {
     let mut again = None;
     match goal {
         Goal::Scalar(name) => {
-            let meaning = used(scopes, name.text, name.place, false, &mut again);
-            put(exprs, scalar_expr(meaning))
+            let meaning = used(scopes, name.text, name.place, false, &mut again, steps);
+            put(exprs, scalar_expr(meaning), steps)
         }
         Goal::Item(name, index) => {
-            let meaning = used(scopes, name.text, name.place, true, &mut again);
-            let at = formula(nodes, scopes, index, exprs, &mut again)?;
-            put(exprs, element_expr(meaning, at))
+            let meaning = used(scopes, name.text, name.place, true, &mut again, steps);
+            let at = formula(nodes, scopes, index, exprs, &mut again, steps)?;
+            put(exprs, element_expr(meaning, at), steps)
         }
     }
 }

@@ -1,9 +1,10 @@
 // Places where values are stored, and what is stored there.
-ghost use Rattle.std.specs.Prelude.{◌≡◌, ◌<◌, length};
+ghost use Rattle.std.specs.Prelude.{◌≡◌, ◌<◌, ◌≤◌, length};
 ghost use Rattle.ppd_parse.specs.Tree.{IsTable};
 ghost use Rattle.ppd_check.specs.Nodes.{phrases_below};
 ghost use Rattle.ppd_check.specs.Reading.{phrase, as_goal, as_value, called, goal_of, value_said};
 ghost use Rattle.ppd_check.specs.Values.{goal_said, value_said_by, IsGoal, IsValue};
+ghost use Rattle.ppd_check.specs.Cost.{plain_below, goal_nodes, value_nodes};
 
 use crate::nodes::{Label, Operand, child_at, kind_at, label_at, operand_at, rule_of};
 use ppd_ast::Place;
@@ -30,6 +31,7 @@ fn goal_in<'a>(nodes: &'a [Node], id: u32) -> Goal<'a>
     requires within { id < length nodes.now }
     ensures goal { goal_said nodes.now result ≡ goal_of (phrases_below nodes.now id) }
     ensures within { IsGoal nodes.now result }
+    ensures nodes { goal_nodes nodes.now result ≤ plain_below nodes.now id }
 {
     let name = label_at(nodes, id, 0);
     match kind_at(nodes, id, 1) {
@@ -44,6 +46,7 @@ pub fn goal_at<'a>(nodes: &'a [Node], id: u32, k: usize) -> Goal<'a>
     requires within { id < length nodes.now }
     ensures goal { goal_said nodes.now result ≡ as_goal (phrase (phrases_below nodes.now id) k) }
     ensures within { IsGoal nodes.now result }
+    ensures nodes { goal_nodes nodes.now result ≤ plain_below nodes.now id }
 {
     let nowhere = Goal::Scalar(Label {
         text: &[],
@@ -64,6 +67,7 @@ fn value_in<'a>(nodes: &'a [Node], id: u32) -> Value<'a>
     requires within { id < length nodes.now }
     ensures value { value_said_by nodes.now result ≡ value_said (phrases_below nodes.now id) }
     ensures within { IsValue nodes.now result }
+    ensures nodes { value_nodes nodes.now result ≤ plain_below nodes.now id }
 {
     match kind_at(nodes, id, 0) {
         Kind::RecvWord => Value::Received(label_at(nodes, id, 2)),
@@ -77,6 +81,7 @@ fn called_at<'a>(nodes: &'a [Node], id: u32, k: usize) -> Value<'a>
     requires within { id < length nodes.now }
     ensures value { value_said_by nodes.now result ≡ called (phrase (phrases_below nodes.now id) k) }
     ensures within { IsValue nodes.now result }
+    ensures nodes { value_nodes nodes.now result ≤ plain_below nodes.now id }
 {
     match child_at(nodes, id, k) {
         None => Value::Plain(Operand::Constant(0)),
@@ -93,6 +98,7 @@ pub fn value_at<'a>(nodes: &'a [Node], id: u32, k: usize) -> Value<'a>
     requires within { id < length nodes.now }
     ensures value { value_said_by nodes.now result ≡ as_value (phrase (phrases_below nodes.now id) k) }
     ensures within { IsValue nodes.now result }
+    ensures nodes { value_nodes nodes.now result ≤ plain_below nodes.now id }
 {
     match child_at(nodes, id, k) {
         None => Value::Plain(Operand::Constant(0)),

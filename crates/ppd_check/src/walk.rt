@@ -1,10 +1,11 @@
 // Statements with all that stand inside them, by their nodes.
-ghost use Rattle.std.specs.Prelude.{◌≡◌, ◌<◌, [], OnOk, IfOk, length, Some};
+ghost use Rattle.std.specs.Prelude.{◌≡◌, ◌<◌, [], OnOk, IfOk, length, Some, ◌≤◌, ◌+◌, ◌*◌, ◌-◌};
 ghost use Rattle.ppd_parse.specs.Tree.{IsTable};
 ghost use Rattle.ppd_check.specs.Nodes.{phrase_of, phrases_below};
 ghost use Rattle.ppd_check.specs.Reading.{as_block, as_row, for_row, formula_at, phrase, place_at, rows, statement, worded};
 ghost use Rattle.ppd_check.specs.Syntax.{stop, block, choice, repeat};
 ghost use Rattle.ppd_check.specs.Writing.{Walked};
+ghost use Rattle.ppd_check.specs.Cost.{nested_at, nested_child, nested_below, plain_below};
 
 use crate::begun::{begin, close, open};
 use crate::counts::{last_of, test_of, write_start, write_step};
@@ -14,13 +15,14 @@ use crate::locals::write_locals;
 use crate::nodes::{child_at, children_of, kind_at, operand_at, place_at, rule_of};
 use crate::words::{write_named, write_word};
 use crate::writer::{Site, Writer};
-use ppd_ast::{Ids, Kind, Memory};
+use ppd_ast::{Ids, Kind, Memory, Steps};
 use ppd_parse::{Kind as Token, Node, Rule};
 use std::alloc::Global;
+use std::sync::ledger::Ledger;
 
 // The statements that the children of a node are, one after another.
 #[cycle(walk)]
-fn write_rows(
+fn write_rows<L: Ledger>(
     alloc: Global,
     nodes: &[Node],
     id: u32,
@@ -28,20 +30,24 @@ fn write_rows(
     out: &mut Writer,
     site: Site,
     row: &mut Ids,
+    steps: &mut Steps<L>,
 ) -> Result<(), Memory>
     requires table { IsTable nodes.now }
     requires within { id < length nodes.now }
-    ensures { OnOk result (Walked site (rows (phrases_below nodes.now id)) frame.old frame.new out.old out.new row.old row.new) }
+    ensures walked { OnOk result (Walked site (rows (phrases_below nodes.now id)) frame.old frame.new out.old out.new row.old row.new) }
+    ensures cost { steps.new ≤ steps.old + 48 * nested_below nodes.now id + 2 * plain_below nodes.now id + 1 }
 {
+    steps.tick();
     for child in children_of(nodes, id) {
-        write_statement(alloc, nodes, *child, frame, out, site, row)?;
+        steps.tick();
+        write_statement(alloc, nodes, *child, frame, out, site, row, steps)?;
     }
     Ok(())
 }
 
 // The statements of a block inside a body.
 #[cycle(walk)]
-fn write_block(
+fn write_block<L: Ledger>(
     alloc: Global,
     nodes: &[Node],
     id: u32,
@@ -49,20 +55,23 @@ fn write_block(
     out: &mut Writer,
     site: Site,
     row: &mut Ids,
+    steps: &mut Steps<L>,
 ) -> Result<(), Memory>
     requires table { IsTable nodes.now }
     requires within { id < length nodes.now }
-    ensures { OnOk result (Walked site (block (rows (phrases_below nodes.now id)) stop) frame.old frame.new out.old out.new row.old row.new) }
+    ensures walked { OnOk result (Walked site (block (rows (phrases_below nodes.now id)) stop) frame.old frame.new out.old out.new row.old row.new) }
+    ensures cost { steps.new ≤ steps.old + 48 * nested_below nodes.now id + 2 * plain_below nodes.now id + 3 }
 {
-    open(alloc, frame)?;
-    write_rows(alloc, nodes, id, frame, out, site, row)?;
+    steps.tick();
+    open(alloc, frame, steps)?;
+    write_rows(alloc, nodes, id, frame, out, site, row, steps)?;
     close(frame);
     Ok(())
 }
 
 // The statements that the child is, where there is one.
 #[cycle(walk)]
-fn write_child(
+fn write_child<L: Ledger>(
     alloc: Global,
     nodes: &[Node],
     id: u32,
@@ -71,20 +80,23 @@ fn write_child(
     out: &mut Writer,
     site: Site,
     row: &mut Ids,
+    steps: &mut Steps<L>,
 ) -> Result<(), Memory>
     requires table { IsTable nodes.now }
     requires within { id < length nodes.now }
-    ensures { OnOk result (Walked site (as_row (phrase (phrases_below nodes.now id) k)) frame.old frame.new out.old out.new row.old row.new) }
+    ensures walked { OnOk result (Walked site (as_row (phrase (phrases_below nodes.now id) k)) frame.old frame.new out.old out.new row.old row.new) }
+    ensures cost { steps.new ≤ steps.old + 48 * nested_child nodes.now id k + 2 }
 {
+    steps.tick();
     match child_at(nodes, id, k) {
         None => Ok(()),
-        Some(child) => write_statement(alloc, nodes, child, frame, out, site, row),
+        Some(child) => write_statement(alloc, nodes, child, frame, out, site, row, steps),
     }
 }
 
 // The statements that the child is, inside statement `at`; their numbers.
 #[cycle(walk)]
-fn write_inside(
+fn write_inside<L: Ledger>(
     alloc: Global,
     nodes: &[Node],
     id: u32,
@@ -93,23 +105,26 @@ fn write_inside(
     out: &mut Writer,
     site: Site,
     at: u32,
+    steps: &mut Steps<L>,
 ) -> Result<Ids, Memory>
     requires table { IsTable nodes.now }
     requires within { id < length nodes.now }
-    ensures { IfOk result (λ ids. Walked (record { body = site.body; parent = Some at }) (as_row (phrase (phrases_below nodes.now id) k)) frame.old frame.new out.old out.new [] ids) }
+    ensures walked { IfOk result (λ ids. Walked (record { body = site.body; parent = Some at }) (as_row (phrase (phrases_below nodes.now id) k)) frame.old frame.new out.old out.new [] ids) }
+    ensures cost { steps.new ≤ steps.old + 48 * nested_child nodes.now id k + 3 }
 {
+    steps.tick();
     let inner = Site {
         body: site.body,
         parent: Some(at),
     };
     let mut row = Ids::new(alloc);
-    write_child(alloc, nodes, id, k, frame, out, inner, &mut row)?;
+    write_child(alloc, nodes, id, k, frame, out, inner, &mut row, steps)?;
     Ok(row)
 }
 
 // `if (e) s else t`
 #[cycle(walk)]
-fn write_if(
+fn write_if<L: Ledger>(
     alloc: Global,
     nodes: &[Node],
     id: u32,
@@ -117,23 +132,26 @@ fn write_if(
     out: &mut Writer,
     site: Site,
     row: &mut Ids,
+    steps: &mut Steps<L>,
 ) -> Result<(), Memory>
     requires table { IsTable nodes.now }
     requires within { id < length nodes.now }
-    ensures { OnOk result (Walked site (choice (place_at (phrases_below nodes.now id) 0) (formula_at (phrases_below nodes.now id) 2) (as_row (phrase (phrases_below nodes.now id) 4)) (as_row (phrase (phrases_below nodes.now id) 6)) stop) frame.old frame.new out.old out.new row.old row.new) }
+    ensures walked { OnOk result (Walked site (choice (place_at (phrases_below nodes.now id) 0) (formula_at (phrases_below nodes.now id) 2) (as_row (phrase (phrases_below nodes.now id) 4)) (as_row (phrase (phrases_below nodes.now id) 6)) stop) frame.old frame.new out.old out.new row.old row.new) }
+    ensures cost { steps.new ≤ steps.old + 48 * nested_below nodes.now id + 6 * plain_below nodes.now id + 12 }
 {
+    steps.tick();
     let place = place_at(nodes, id, 0);
     let test = operand_at(nodes, id, 2);
-    let begun = begin(nodes, test, place, frame, out, site, row)?;
-    let yes = write_inside(alloc, nodes, id, 4, frame, out, site, begun.at)?;
-    let no = write_inside(alloc, nodes, id, 6, frame, out, site, begun.at)?;
+    let begun = begin(nodes, test, place, frame, out, site, row, steps)?;
+    let yes = write_inside(alloc, nodes, id, 4, frame, out, site, begun.at, steps)?;
+    let no = write_inside(alloc, nodes, id, 6, frame, out, site, begun.at, steps)?;
     set_stmt(out, site, place, begun.at, Kind::If(begun.test, yes, no));
     Ok(())
 }
 
 // `while (e) s`
 #[cycle(walk)]
-fn write_while(
+fn write_while<L: Ledger>(
     alloc: Global,
     nodes: &[Node],
     id: u32,
@@ -141,22 +159,25 @@ fn write_while(
     out: &mut Writer,
     site: Site,
     row: &mut Ids,
+    steps: &mut Steps<L>,
 ) -> Result<(), Memory>
     requires table { IsTable nodes.now }
     requires within { id < length nodes.now }
-    ensures { OnOk result (Walked site (repeat (place_at (phrases_below nodes.now id) 0) (formula_at (phrases_below nodes.now id) 2) (as_row (phrase (phrases_below nodes.now id) 4)) stop) frame.old frame.new out.old out.new row.old row.new) }
+    ensures walked { OnOk result (Walked site (repeat (place_at (phrases_below nodes.now id) 0) (formula_at (phrases_below nodes.now id) 2) (as_row (phrase (phrases_below nodes.now id) 4)) stop) frame.old frame.new out.old out.new row.old row.new) }
+    ensures cost { steps.new ≤ steps.old + 48 * nested_below nodes.now id + 6 * plain_below nodes.now id + 9 }
 {
+    steps.tick();
     let place = place_at(nodes, id, 0);
     let test = operand_at(nodes, id, 2);
-    let begun = begin(nodes, test, place, frame, out, site, row)?;
-    let turn = write_inside(alloc, nodes, id, 4, frame, out, site, begun.at)?;
+    let begun = begin(nodes, test, place, frame, out, site, row, steps)?;
+    let turn = write_inside(alloc, nodes, id, 4, frame, out, site, begun.at, steps)?;
     set_stmt(out, site, place, begun.at, Kind::While(begun.test, turn));
     Ok(())
 }
 
 // `for (s; e; t) u`
 #[cycle(walk)]
-fn write_for(
+fn write_for<L: Ledger>(
     alloc: Global,
     nodes: &[Node],
     id: u32,
@@ -164,23 +185,26 @@ fn write_for(
     out: &mut Writer,
     site: Site,
     row: &mut Ids,
+    steps: &mut Steps<L>,
 ) -> Result<(), Memory>
     requires table { IsTable nodes.now }
     requires within { id < length nodes.now }
-    ensures { OnOk result (Walked site (for_row (phrases_below nodes.now id)) frame.old frame.new out.old out.new row.old row.new) }
+    ensures walked { OnOk result (Walked site (for_row (phrases_below nodes.now id)) frame.old frame.new out.old out.new row.old row.new) }
+    ensures cost { steps.new ≤ steps.old + 48 * nested_below nodes.now id + 48 * plain_below nodes.now id + 26 }
 {
+    steps.tick();
     let place = place_at(nodes, id, 0);
-    let test = test_of(nodes, id);
+    let test = test_of(nodes, id, steps);
     let last = last_of(nodes, id);
-    open(alloc, frame)?;
-    write_start(alloc, nodes, id, frame, out, site, row)?;
-    let begun = begin(nodes, test, place, frame, out, site, row)?;
-    let mut turn = write_inside(alloc, nodes, id, last, frame, out, site, begun.at)?;
+    open(alloc, frame, steps)?;
+    write_start(alloc, nodes, id, frame, out, site, row, steps)?;
+    let begun = begin(nodes, test, place, frame, out, site, row, steps)?;
+    let mut turn = write_inside(alloc, nodes, id, last, frame, out, site, begun.at, steps)?;
     let inner = Site {
         body: site.body,
         parent: Some(begun.at),
     };
-    write_step(alloc, nodes, id, frame, out, inner, &mut turn)?;
+    write_step(alloc, nodes, id, frame, out, inner, &mut turn, steps)?;
     set_stmt(out, site, place, begun.at, Kind::While(begun.test, turn));
     close(frame);
     Ok(())
@@ -188,7 +212,7 @@ fn write_for(
 
 // A statement that begins with a word, or the empty one.
 #[cycle(walk)]
-fn write_worded(
+fn write_worded<L: Ledger>(
     alloc: Global,
     nodes: &[Node],
     id: u32,
@@ -196,22 +220,25 @@ fn write_worded(
     out: &mut Writer,
     site: Site,
     row: &mut Ids,
+    steps: &mut Steps<L>,
 ) -> Result<(), Memory>
     requires table { IsTable nodes.now }
     requires within { id < length nodes.now }
-    ensures { OnOk result (Walked site (worded (phrases_below nodes.now id)) frame.old frame.new out.old out.new row.old row.new) }
+    ensures walked { OnOk result (Walked site (worded (phrases_below nodes.now id)) frame.old frame.new out.old out.new row.old row.new) }
+    ensures cost { steps.new ≤ steps.old + 48 * nested_below nodes.now id + 48 * plain_below nodes.now id + 27 }
 {
+    steps.tick();
     match kind_at(nodes, id, 0) {
-        Token::IfWord => write_if(alloc, nodes, id, frame, out, site, row),
-        Token::WhileWord => write_while(alloc, nodes, id, frame, out, site, row),
-        Token::ForWord => write_for(alloc, nodes, id, frame, out, site, row),
-        _ => write_word(alloc, nodes, id, frame, out, site, row),
+        Token::IfWord => write_if(alloc, nodes, id, frame, out, site, row, steps),
+        Token::WhileWord => write_while(alloc, nodes, id, frame, out, site, row, steps),
+        Token::ForWord => write_for(alloc, nodes, id, frame, out, site, row, steps),
+        _ => write_word(alloc, nodes, id, frame, out, site, row, steps),
     }
 }
 
 // A statement that is no declaration.
 #[cycle(walk)]
-fn write_stmt(
+fn write_stmt<L: Ledger>(
     alloc: Global,
     nodes: &[Node],
     id: u32,
@@ -219,24 +246,27 @@ fn write_stmt(
     out: &mut Writer,
     site: Site,
     row: &mut Ids,
+    steps: &mut Steps<L>,
 ) -> Result<(), Memory>
     requires table { IsTable nodes.now }
     requires within { id < length nodes.now }
-    ensures { OnOk result (Walked site (statement (phrase (phrases_below nodes.now id) 0) (phrases_below nodes.now id)) frame.old frame.new out.old out.new row.old row.new) }
+    ensures walked { OnOk result (Walked site (statement (phrase (phrases_below nodes.now id) 0) (phrases_below nodes.now id)) frame.old frame.new out.old out.new row.old row.new) }
+    ensures cost { steps.new ≤ steps.old + 48 * nested_below nodes.now id + 48 * plain_below nodes.now id + 28 }
 {
+    steps.tick();
     match child_at(nodes, id, 0) {
-        None => write_worded(alloc, nodes, id, frame, out, site, row),
+        None => write_worded(alloc, nodes, id, frame, out, site, row, steps),
         Some(child) => match rule_of(nodes, child) {
-            Rule::Leaf => write_worded(alloc, nodes, id, frame, out, site, row),
-            Rule::Block => write_block(alloc, nodes, child, frame, out, site, row),
-            _ => write_named(alloc, nodes, id, frame, out, site, row),
+            Rule::Leaf => write_worded(alloc, nodes, id, frame, out, site, row, steps),
+            Rule::Block => write_block(alloc, nodes, child, frame, out, site, row, steps),
+            _ => write_named(alloc, nodes, id, frame, out, site, row, steps),
         },
     }
 }
 
 // The statements that a node is. Calls stand in one another as deep as statements do.
 #[cycle(walk)]
-pub fn write_statement(
+pub fn write_statement<L: Ledger>(
     alloc: Global,
     nodes: &[Node],
     id: u32,
@@ -244,20 +274,23 @@ pub fn write_statement(
     out: &mut Writer,
     site: Site,
     row: &mut Ids,
+    steps: &mut Steps<L>,
 ) -> Result<(), Memory>
     requires table { IsTable nodes.now }
     requires within { id < length nodes.now }
-    ensures { OnOk result (Walked site (as_row (phrase_of nodes.now id)) frame.old frame.new out.old out.new row.old row.new) }
+    ensures walked { OnOk result (Walked site (as_row (phrase_of nodes.now id)) frame.old frame.new out.old out.new row.old row.new) }
+    ensures cost { steps.new ≤ steps.old + (48 * nested_at nodes.now id - 2) + 1 }
 {
+    steps.tick();
     match rule_of(nodes, id) {
-        Rule::Local => write_locals(alloc, nodes, id, frame, out, site, row),
-        Rule::Stmt => write_stmt(alloc, nodes, id, frame, out, site, row),
+        Rule::Local => write_locals(alloc, nodes, id, frame, out, site, row, steps),
+        Rule::Stmt => write_stmt(alloc, nodes, id, frame, out, site, row, steps),
         _ => Ok(()),
     }
 }
 
 // The statements of the block that a node is, as of a body.
-pub fn write_body(
+pub fn write_body<L: Ledger>(
     alloc: Global,
     nodes: &[Node],
     id: u32,
@@ -265,13 +298,15 @@ pub fn write_body(
     out: &mut Writer,
     site: Site,
     row: &mut Ids,
+    steps: &mut Steps<L>,
 ) -> Result<(), Memory>
     requires table { IsTable nodes.now }
     requires within { id < length nodes.now }
-    ensures { OnOk result (Walked site (as_block (phrase_of nodes.now id)).row frame.old frame.new out.old out.new row.old row.new) }
+    ensures walked { OnOk result (Walked site (as_block (phrase_of nodes.now id)).row frame.old frame.new out.old out.new row.old row.new) }
+    ensures cost { steps.new ≤ steps.old + 48 * nested_at nodes.now id }
 {
     match rule_of(nodes, id) {
-        Rule::Block => write_rows(alloc, nodes, id, frame, out, site, row),
+        Rule::Block => write_rows(alloc, nodes, id, frame, out, site, row, steps),
         _ => Ok(()),
     }
 }

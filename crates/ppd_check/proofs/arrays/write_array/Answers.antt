@@ -12,7 +12,7 @@ use Rattle.ppd_check.proofs.Writing.{both_ok, wrote_act}
 use Rattle.ppd_check.proofs.arrays.write_array.Goals as goal
 
 pub returns-clause-wrote : goal.returns-clause-wrote
-returns-clause-wrote c =
+returns-clause-wrote g c =
     let u = c.args.out.now in
     let twice = twice_faults (innermost c.args.frame.now.scopes) (record { text = c.args.text.now; place = c.args.place }) in
     let size = size_faults 1 256 (record { value = c.args.value; place = c.args.value_place }) in

@@ -6,7 +6,7 @@ use Rattle.ppd_check.proofs.Filling.{cells_more, cells_on}
 use Rattle.ppd_check.proofs.bodies.note_cells.Goals as goal
 
 pub loop-variable-preserved : goal.loop-variable-preserved
-loop-variable-preserved c =
+loop-variable-preserved g c =
     record {
       cells =
           cells_on c.args.variables.now c.loop-variable.variable-index c.loop-variable.cells c.after_cells-cells.result c.variable-item.result
@@ -15,4 +15,5 @@ loop-variable-preserved c =
           cells_more c.args.variables.now c.loop-variable.variable-index c.loop-variable.cells c.after_cells-cells.result c.variable-item.result c.args.found.now c.loop-variable.found c.note_if.new.found
           (omega (arith, c.loop-variable-test.true)) c.variable-item.is c.loop-variable.invariant.cells c.after_cells-cells.ensures c.loop-variable.invariant.found
           (c.note_if.ensures ∙ ap (λ (b : Bool). first_of_both c.loop-variable.found (first (if_so b c.variable-item.result.place (TooMany Locals)))) c.is_past.ensures);
+      cost = omega (arith, c.loop-variable.invariant.cost, c.tick.ensures);
     }

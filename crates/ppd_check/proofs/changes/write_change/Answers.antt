@@ -15,14 +15,14 @@ use Rattle.ppd_check.proofs.First.{found_in_both}
 use Rattle.ppd_check.proofs.Writing.{both_ok, wrote_act, added_after}
 use Rattle.ppd_check.proofs.changes.write_change.Goals as goal
 
-pub returns : goal.returns
-returns c =
+pub returns-clause-wrote : goal.returns-clause-wrote
+returns-clause-wrote g c =
     let s = c.args.frame.now.scopes in
     let u = c.args.out.now in
     let g = goal_said c.args.nodes.now c.args.goal in
     let e = operand_formula c.args.nodes.now c.args.operand in
     let v = T.two c.args.op (term_of s (goal_formula g)) (term_of s e) in
-    let value = added_over_two (T.two c.args.op) (E.Two c.args.op) (λ m a b. (refl, omega arith)) c.write_spot.new.exprs c.write_goal.new.exprs c.formula.new.exprs c.put.new.exprs (term_of s (goal_formula g)) (term_of s e) c.in_ok-a.a c.in_ok-b.b c.in_ok-number.number c.in_ok-a.ensures c.in_ok-b.ensures.added c.in_ok-number.ensures.added c.in_ok-number.ensures.number in
+    let value = added_over_two (T.two c.args.op) (E.Two c.args.op) (λ m a b. (refl, omega arith)) c.write_spot.new.exprs c.write_goal.new.exprs c.formula.new.exprs c.put.new.exprs (term_of s (goal_formula g)) (term_of s e) c.in_ok-a.a c.in_ok-b.b c.in_ok-number.number c.in_ok-a.ensures.added c.in_ok-b.ensures.added c.in_ok-number.ensures.added c.in_ok-number.ensures.number in
     let fs = formula_faults s (goal_formula g) ++ formula_faults s e in
     let all = added_after u.exprs c.write_spot.new.exprs c.put.new.exprs (spot_terms (spot_of s g)) v c.in_ok-number.number c.in_ok-target.ensures.added value in
     both_ok c.put_stmt.result _ _ _ c.put_stmt.ensures.stmts c.put_stmt.ensures.row

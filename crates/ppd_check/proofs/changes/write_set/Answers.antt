@@ -12,8 +12,8 @@ use Rattle.ppd_check.proofs.First.{found_in_both}
 use Rattle.ppd_check.proofs.Writing.{both_ok, wrote_act, added_after}
 use Rattle.ppd_check.proofs.changes.write_set.Goals as goal
 
-pub returns : goal.returns
-returns c =
+pub returns-clause-wrote : goal.returns-clause-wrote
+returns-clause-wrote g c =
     let s = c.args.frame.now.scopes in
     let u = c.args.out.now in
     let g = goal_said c.args.nodes.now c.args.goal in

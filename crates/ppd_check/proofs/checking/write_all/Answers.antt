@@ -6,8 +6,8 @@ use Rattle.ppd_check.specs.Names.{innermost, Scope}
 use Rattle.ppd_check.proofs.Heading.{heads_join}
 use Rattle.ppd_check.proofs.checking.write_all.Goals as goal
 
-pub returns : goal.returns
-returns c =
+pub returns-clause-wrote : goal.returns-clause-wrote
+returns-clause-wrote g c =
     let ns = c.args.nodes.now in
     let fs = map (head_at ns) c.args.functions.now in
     let ps = map (head_at ns) c.args.processes.now in

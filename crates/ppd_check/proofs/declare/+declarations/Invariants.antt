@@ -1,17 +1,22 @@
-use Rattle.std.proofs.Common.{◌-◌, ◌*◌, ◌+◌, length, take}
+use Rattle.std.proofs.Common.{◌-◌, ◌*◌, ◌+◌, length, take, ◌≤◌}
 use Rattle.std.specs.List.{flat_map}
 use Rattle.ppd_check.specs.Reading.{as_items}
 use Rattle.ppd_check.specs.Nodes.{phrases_of}
 use Rattle.ppd_check.specs.Holding.{Declares}
+use Rattle.ppd_check.specs.Cost.{total, plain_at, nested_at, starts_left, heads_nodes}
 use Rattle.ppd_check.proofs.declare.+declarations.Given as goal
 
 -- twice the nodes from this one on
 abbrev pub decreases-declare_node : goal.decreases-declare_node
-decreases-declare_node l = 2 * (length l.nodes.now - l.id) + 1
+decreases-declare_node g l = 2 * (length l.nodes.now - l.id) + 1
 
 abbrev pub decreases-declare_below : goal.decreases-declare_below
-decreases-declare_below l = 2 * (length l.nodes.now - l.id)
+decreases-declare_below g l = 2 * (length l.nodes.now - l.id)
 
 -- the declarations of those before
 abbrev pub invariant-declare_below-loop-child : goal.invariant-declare_below-loop-child
-invariant-declare_below-loop-child l = Declares l.nodes (flat_map as_items (phrases_of l.nodes (take l.child-index l.child-items))) l.fn.globals l.globals l.fn.found l.found
+invariant-declare_below-loop-child g l = record {
+  declares : Declares l.nodes (flat_map as_items (phrases_of l.nodes (take l.child-index l.child-items))) l.fn.globals l.globals l.fn.found l.found;
+  cost : l.steps + starts_left l.globals ≤ l.fn.steps + starts_left l.fn.globals + 8 * total (plain_at l.nodes) (take l.child-index l.child-items) + 8 * total (nested_at l.nodes) (take l.child-index l.child-items) + 1;
+  heads : heads_nodes l.nodes l.globals ≤ heads_nodes l.nodes l.fn.globals + total (plain_at l.nodes) (take l.child-index l.child-items) + total (nested_at l.nodes) (take l.child-index l.child-items);
+}

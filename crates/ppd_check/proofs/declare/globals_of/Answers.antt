@@ -7,10 +7,10 @@ use Rattle.ppd_check.proofs.Roots.{items_root}
 use Rattle.ppd_check.proofs.declare.globals_of.Goals as goal
 
 pub returns-clause-holds : goal.returns-clause-holds
-returns-clause-holds c =
+returns-clause-holds g c =
     subst (λ (is : List Item). IfOk c.declare_source.result (λ held. Holds c.args.nodes.now held (with_items is no_globals))) (items_root c.args.nodes.now) c.declare_source.ensures.holds
 
 pub returns-clause-faults : goal.returns-clause-faults
-returns-clause-faults c =
+returns-clause-faults g c =
     subst (λ (is : List Item). OnOk c.declare_source.result (c.declare_source.new.found ≡ first_of_both c.args.found.now (first (items_faults is no_globals ++ count_faults (with_items is no_globals))))) (items_root c.args.nodes.now)
     c.declare_source.ensures.faults

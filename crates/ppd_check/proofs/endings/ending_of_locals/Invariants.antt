@@ -1,4 +1,4 @@
-use Rattle.std.proofs.Common.{◌≡◌, take}
+use Rattle.std.proofs.Common.{◌≡◌, take, ◌≤◌, ◌+◌}
 use Rattle.ppd_check.specs.Endings.{ending}
 use Rattle.ppd_check.specs.Nodes.{phrases_of}
 use Rattle.ppd_check.specs.Reading.{locals}
@@ -6,4 +6,7 @@ use Rattle.ppd_check.proofs.endings.ending_of_locals.Given as goal
 
 -- that of the children before
 abbrev pub invariant-loop-child : goal.invariant-loop-child
-invariant-loop-child l = l.last ≡ ending (locals (phrases_of l.nodes (take l.child-index l.child-items)))
+invariant-loop-child g l = record {
+  ending : l.last ≡ ending (locals (phrases_of l.nodes (take l.child-index l.child-items)));
+  cost : l.steps ≤ l.fn.steps + l.child-index;
+}

@@ -10,8 +10,8 @@ use Rattle.ppd_check.specs.Expressions.{formula_faults}
 use Rattle.ppd_check.proofs.Writing.{both_ok, wrote_act, added_after}
 use Rattle.ppd_check.proofs.hidden.write_move.Goals as goal
 
-pub returns : goal.returns
-returns c =
+pub returns-clause-wrote : goal.returns-clause-wrote
+returns-clause-wrote g c =
     let s = c.args.scopes.now in
     let u = c.args.out.now in
     let g = goal_said c.args.nodes.now c.args.goal in

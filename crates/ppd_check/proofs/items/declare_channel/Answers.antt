@@ -6,8 +6,8 @@ use Rattle.ppd_check.specs.Nodes.{label_name}
 use Rattle.ppd_check.proofs.Declarations.{declares_channel}
 use Rattle.ppd_check.proofs.items.declare_channel.Goals as goal
 
-pub returns : goal.returns
-returns c = λ ns.
+pub returns-clause-declares : goal.returns-clause-declares
+returns-clause-declares g c = λ ns.
     declares_channel ns (label_name c.args.label) (record { value = c.args.capacity; place = c.args.place }) c.args.globals.now c.add_channel.new.globals c.args.found.now c.add_channel.new.found c.note_unless.new.found
     (c.in_ok-add_channel.ensures.globals ∙ ap (λ k. with_channel (label_name c.args.label) k c.args.globals.now) c.as_byte.ensures)
     (c.in_ok-add_channel.ensures.faults)

@@ -6,8 +6,8 @@ use Rattle.ppd_check.specs.Nodes.{label_name}
 use Rattle.ppd_check.proofs.Declarations.{declares_semaphore}
 use Rattle.ppd_check.proofs.items.declare_semaphore.Goals as goal
 
-pub returns : goal.returns
-returns c = λ ns.
+pub returns-clause-declares : goal.returns-clause-declares
+returns-clause-declares g c = λ ns.
     declares_semaphore ns (label_name c.args.label) (record { value = c.args.start; place = c.args.place }) c.args.globals.now c.add_semaphore.new.globals c.args.found.now c.add_semaphore.new.found c.note_unless.new.found
     (c.in_ok-add_semaphore.ensures.globals ∙ ap (λ k. with_semaphore (label_name c.args.label) k c.args.globals.now) c.as_word.ensures)
     (c.in_ok-add_semaphore.ensures.faults)

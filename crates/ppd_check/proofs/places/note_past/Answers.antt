@@ -7,12 +7,12 @@ use Rattle.ppd_check.proofs.First.{first_of_both_none}
 use Rattle.ppd_check.proofs.PastMost.{none_past, first_past, from_key}
 use Rattle.ppd_check.proofs.places.note_past.Goals as goal
 
-pub returns-then-places-le-MOST_STATEMENTS : goal.returns-then-places-le-MOST_STATEMENTS
-returns-then-places-le-MOST_STATEMENTS c =
+pub returns-then-places-le-MOST_STATEMENTS-clause-faults : goal.returns-then-places-le-MOST_STATEMENTS-clause-faults
+returns-then-places-le-MOST_STATEMENTS-clause-faults g c =
     sym (ap (first_of_both c.args.found.now) (none_past MOST_STATEMENTS c.args.places.now c.if-places-le-MOST_STATEMENTS.true) ∙ first_of_both_none c.args.found.now)
 
-pub returns : goal.returns
-returns c =
+pub returns-clause-faults : goal.returns-clause-faults
+returns-clause-faults g c =
     let split = c.select_nth_unstable_by_key-past.result in
     let parts = c.select_nth_unstable_by_key-past.ensures.partitioned (λ (p : Place). (p.line, p.column)) (answers_always _ _ _ (λ f a r g h. search rules)) in
     c.note.ensures

@@ -9,8 +9,8 @@ use Rattle.ppd_check.proofs.First.{found_in_both}
 use Rattle.ppd_check.proofs.Writing.{both_ok, added_one}
 use Rattle.ppd_check.proofs.simple.write_send.Goals as goal
 
-pub returns : goal.returns
-returns c =
+pub returns-clause-wrote : goal.returns-clause-wrote
+returns-clause-wrote g c =
     both_ok c.put_stmt.result _ _ _ c.put_stmt.ensures.stmts c.put_stmt.ensures.row (λ t o. record {
       exprs = c.put_stmt.ensures.exprs ∙ added_one _ _ _ _ c.in_ok-number.ensures.added ∙ ap (λ f. c.args.out.now.exprs ++ flats (length c.args.out.now.exprs) (term_of c.args.frame.now.scopes f ∷ [])) c.operand_at-operand.ensures.formula;
       stmts = search rules;

@@ -11,11 +11,11 @@ use Rattle.ppd_check.proofs.Arguments.{argued_call, argued_count}
 use Rattle.ppd_check.proofs.Writing.{both_ok, wrote_act}
 use Rattle.ppd_check.proofs.stores.write_call.Goals as goal
 
-pub returns : goal.returns
-returns c =
+pub returns-clause-wrote : goal.returns-clause-wrote
+returns-clause-wrote g c =
     let s = c.args.scopes.now in
     let ps = phrases_below c.args.nodes.now c.args.id in
-    let argued = subst (λ l. Argued c.args.nodes.now s (children_of c.args.nodes.now c.args.id) c.args.out.now.exprs c.arguments.new.exprs l c.arguments.new.args c.args.out.now.found c.arguments.new.found) c.new-args.ensures c.in_ok-arguments.ensures in
+    let argued = subst (λ l. Argued c.args.nodes.now s (children_of c.args.nodes.now c.args.id) c.args.out.now.exprs c.arguments.new.exprs l c.arguments.new.args c.args.out.now.found c.arguments.new.found) c.new-args.ensures c.in_ok-arguments.ensures.argued in
     let fs = wrong_call (meaning s (name_at ps 0).text) (name_at ps 0).place (length (formulas ps)) (is_some c.args.into) in
     let label = c.label_at-name.ensures in
     let count = c.len.ensures ∙ argued_count c.args.nodes.now s c.args.id c.args.out.now.exprs c.arguments.new.exprs c.arguments.new.args c.args.out.now.found c.arguments.new.found argued in

@@ -7,8 +7,8 @@ use Rattle.ppd_check.specs.Forms.{Added}
 use Rattle.ppd_check.proofs.Flat.{added_element, with_ok}
 use Rattle.ppd_check.proofs.stores.write_goal.Goals as goal
 
-pub returns-in_ok-at-in-Item : goal.returns-in_ok-at-in-Item
-returns-in_ok-at-in-Item c =
+pub returns-in_ok-at-in-Item-clause-added : goal.returns-in_ok-at-in-Item-clause-added
+returns-in_ok-at-in-Item-clause-added g c =
     with_ok c.put-in-Item.result _ _ _
     (λ n new number. subst (λ g. Added c.args.exprs.now (term_of c.args.scopes.now (goal_formula (goal_said c.args.nodes.now g))) c.put-in-Item.new.exprs n) (sym c.in-Item.is)
     (subst (λ m. Added c.args.exprs.now (read_element m (term_of c.args.scopes.now (operand_formula c.args.nodes.now c.in-Item.index))) c.put-in-Item.new.exprs n) c.used-meaning-in-Item.ensures.means

@@ -9,7 +9,7 @@ use Rattle.ppd_check.proofs.First.{found_in_both}
 use Rattle.ppd_check.proofs.stores.write_spot.Goals as goal
 
 pub returns-in_ok-at-in-Item-clause-faults : goal.returns-in_ok-at-in-Item-clause-faults
-returns-in_ok-at-in-Item-clause-faults c =
+returns-in_ok-at-in-Item-clause-faults g c =
     found_in_both c.args.found.now c.used-meaning-in-Item.new.found c.formula.new.found
     (name_faults (fits true) c.args.scopes.now (label_name c.in-Item.name)) (formula_faults c.args.scopes.now (operand_formula c.args.nodes.now c.in-Item.index))
     c.used-meaning-in-Item.ensures.faults c.in_ok-at-in-Item.ensures.faults

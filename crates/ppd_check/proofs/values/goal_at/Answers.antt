@@ -4,10 +4,7 @@ use Rattle.ppd_check.specs.Nodes.{phrase_of, phrases_below}
 use Rattle.ppd_check.proofs.Trees.{goal_other}
 use Rattle.ppd_check.proofs.values.goal_at.Goals as goal
 
-pub returns-in_default : goal.returns-in_default
-returns-in_default c = record {
-  goal =
-      sym (goal_other c.rule_of.result (phrases_below c.args.nodes.now c.in-Some.child) (phrase_of c.args.nodes.now c.in-Some.child) c.in_default.not-Place c.rule_of.ensures)
-      ∙ sym (ap as_goal c.in-Some.ensures.said);
-  within = tt;
-}
+pub returns-in_default-clause-goal : goal.returns-in_default-clause-goal
+returns-in_default-clause-goal c =
+    sym (goal_other c.rule_of.result (phrases_below c.args.nodes.now c.in-Some.child) (phrase_of c.args.nodes.now c.in-Some.child) c.in_default.not-Place c.rule_of.ensures.said)
+    ∙ sym (ap as_goal c.in-Some.ensures.said)

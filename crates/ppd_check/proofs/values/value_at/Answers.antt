@@ -4,10 +4,7 @@ use Rattle.ppd_check.specs.Nodes.{phrase_of, phrases_below}
 use Rattle.ppd_check.proofs.Trees.{value_other}
 use Rattle.ppd_check.proofs.values.value_at.Goals as goal
 
-pub returns-in_default : goal.returns-in_default
-returns-in_default c = record {
-  value =
-      sym (value_other c.rule_of.result (phrases_below c.args.nodes.now c.in-Some.child) (phrase_of c.args.nodes.now c.in-Some.child) c.in_default.not-Call c.in_default.not-Value c.rule_of.ensures)
-      ∙ sym (ap as_value c.in-Some.ensures.said);
-  within = c.in-Some.ensures.within;
-}
+pub returns-in_default-clause-value : goal.returns-in_default-clause-value
+returns-in_default-clause-value c =
+    sym (value_other c.rule_of.result (phrases_below c.args.nodes.now c.in-Some.child) (phrase_of c.args.nodes.now c.in-Some.child) c.in_default.not-Call c.in_default.not-Value c.rule_of.ensures.said)
+    ∙ sym (ap as_value c.in-Some.ensures.said)

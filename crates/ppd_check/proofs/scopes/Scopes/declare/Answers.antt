@@ -4,7 +4,7 @@ use Rattle.ppd_check.proofs.Lookup.{last_set, ok_map}
 use Rattle.ppd_check.proofs.scopes.Scopes.declare.Goals as goal
 
 pub returns-clause-ok : goal.returns-clause-ok
-returns-clause-ok c =
+returns-clause-ok g c =
     ok_map c.declare_in.result _ _
     (λ e. last_set (declare c.args.name.now c.args.meaning) c.self.inside.maps.items (c.len-count.result - 1) c.declare_in.new.scope c.index_mut.result.now (omega (arith, c.len-count.ensures, c.if-count-eq0.false))
     (e ∙ ap (λ m. declare c.args.name.now c.args.meaning (scope_of m)) c.index_mut.ensures.value)
