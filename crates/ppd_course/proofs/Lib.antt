@@ -10,3 +10,4 @@ mod Steps
 pub mod Leading
 pub mod Beginning
 pub mod Reading
+mod Ending

@@ -4,6 +4,7 @@ use Rattle.ppd_ast.specs.declared.plan.BlockKind.TheVariants.{Loop}
 use Rattle.ppd_ast.specs.declared.plan.Plan.{Plan}
 use Rattle.ppd_ast.specs.declared.plan.Start.TheVariants.{Entry, After, Enter as EntersAt, Exit}
 use Rattle.ppd_ast.specs.declared.plan.Start.{Start}
+use Rattle.ppd_ast.specs.declared.program.Kind.TheVariants as ends
 use Rattle.ppd_ast.specs.declared.program.Program.{Program}
 use Rattle.ppd_ast.specs.Numbered.{is_left, is_while}
 use Rattle.ppd_cfg.specs.Flow.{follow, kind_of, next_of, top_of}
@@ -137,3 +138,15 @@ LeadsTo program plan (End b) s call before after = IsSome after.status
 LeadsTo program plan (Trap t) s call before after = IsSome after.status
 LeadsTo program plan Budget s call before after = IsSome after.status
 LeadsTo program plan Stopped s call before after = after ≡ before
+
+-- ---- until the end
+
+-- the last statement that is to do is an `End`
+abbrev pub EndsWithEnd : Program → List Todo → Type 0
+EndsWithEnd program [] = ⊥
+EndsWithEnd program (t ∷ []) = kind_of program t.stmt ≡ ends.End
+EndsWithEnd program (t ∷ u ∷ us) = EndsWithEnd program (u ∷ us)
+
+-- the process has stopped, or goes on until an `End`
+abbrev pub GoesUntilEnd : Program → Proc → Type 0
+GoesUntilEnd program s = s.status ≡ None → EndsWithEnd program s.todo

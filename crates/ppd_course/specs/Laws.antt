@@ -1,16 +1,16 @@
 -- Laws of the course of a process.
-use Rattle.std.specs.Prelude.{◌≡◌, ◌+◌, IsTrue, ℕ, Some, true}
+use Rattle.std.specs.Prelude.{◌≡◌, ◌≢◌, ◌+◌, ◌<◌, IsTrue, ℕ, length, None, Some, true}
 use Rattle.ppd_ast.specs.declared.plan.Plan.{Plan}
 use Rattle.ppd_ast.specs.declared.program.Program.{Program}
 use Rattle.ppd_ast.specs.Valid.{IsValid}
 use Rattle.ppd_cfg.specs.Flow.{top_of}
 use Rattle.ppd_cfg.specs.Lists.{has}
 use Rattle.ppd_sem.specs.declared.proc.Answer.{Answer}
-use Rattle.ppd_sem.specs.declared.proc.Need.TheVariants.{Read}
+use Rattle.ppd_sem.specs.declared.proc.Need.TheVariants.{Read, Stopped}
 use Rattle.ppd_sem.specs.declared.proc.Proc.{Proc}
 use Rattle.ppd_sem.specs.Process.{act, need_of, started, top_call}
 use Rattle.ppd_sets.specs.Used.{reads_at}
-use Rattle.ppd_course.specs.Course.{BeginsList, IsOnCourse, LeadsTo, head_of}
+use Rattle.ppd_course.specs.Course.{BeginsList, GoesUntilEnd, IsOnCourse, LeadsTo, head_of}
 
 -- a process of a valid program begins on course, at the first statement of its body
 pub record BeginsOnCourse (program : Program) (plan : Plan) (p budget : ℕ) : Type 0 where
@@ -34,3 +34,10 @@ StepsLead =
 abbrev pub ReadsItsCells : Type 0
 ReadsItsCells =
     (program : Program) (plan : Plan) (s : Proc) (h c : ℕ) → head_of s.todo ≡ Some h → need_of program plan s ≡ Read c → IsTrue (has (reads_at true program h) c)
+
+-- a process of a valid program never runs out of statements: until it stops there is its `End` to come
+pub record NeverRunsOut : Type 0 where
+  pub starts : (program : Program) (plan : Plan) (p budget : ℕ) → IsValid program → program.functions + p < length program.bodies → GoesUntilEnd program (started program plan p budget)
+  pub stays : (program : Program) (plan : Plan) (s : Proc) (a : Answer) → GoesUntilEnd program s → GoesUntilEnd program (act program plan s a)
+  -- so until it stops it needs something
+  pub needs : (program : Program) (plan : Plan) (s : Proc) → GoesUntilEnd program s → s.status ≡ None → need_of program plan s ≢ Stopped

@@ -1,4 +1,4 @@
-ghost use Rattle.ppd_course.specs.Laws.{ReadsItsCells, StartsOnCourse, StaysOnCourse, StepsLead};
+ghost use Rattle.ppd_course.specs.Laws.{NeverRunsOut, ReadsItsCells, StartsOnCourse, StaysOnCourse, StepsLead};
 
 // Laws of what the other calls give: each is the contract of a function that does nothing.
 
@@ -25,4 +25,10 @@ pub fn steps_lead()
 /// A shared cell that a step reads is one that its statement may read.
 pub fn reads_its_cells()
     ensures { ReadsItsCells }
+{}
+
+/// A process of a valid program never runs out of statements: until it ends, traps or has spent its
+/// budget, the last statement that it has to do is its `End`, and it needs something.
+pub fn never_runs_out()
+    ensures { NeverRunsOut }
 {}
