@@ -2,12 +2,13 @@
 """Runs the program over a folder of cases and compares what it writes, byte for byte, and its status.
 
 A case is a folder with `source.c`, `options` (words), `flow` (what `ppd flow OPTIONS source.c` writes
-without input) and `status`. Where a case also has `flow-bare`, that is the answer while log entries cost
-nothing, which is so today: it is taken in place of `flow`, unless `--costs` is given. The folders of cases
-stand in folders of their kind, as `run` and `refused`; each kind is counted by itself.
+without input), `status` (its status), and perhaps `show` (what `ppd show` writes for an accepted source, with
+the same options but the budget). The folders of cases stand in folders of their kind, as `run` and `refused`;
+each kind is counted by itself. With `--command show` the tables are compared, and a refused source has the
+line of `flow` there too; a case of an accepted source without `show` is left out.
 
-With `--part summary` only the lines `process` and `print` of an accepted source are compared, and the race
-list only where there is one process; what is written for a refused source is compared whole all the same.
+With `--part summary` only the lines `process` and `print` of a run are compared, and the race list only where
+there is one process; tables and refusals are compared whole all the same.
 
 Prints each difference and how many cases of each kind are alike. Ends with status 0 where all are, 1 where
 one differs, 2 where there is nothing to compare. It stands outside the gate."""
@@ -26,7 +27,7 @@ def arguments():
     parser.add_argument("folder", help="the folder that holds a folder for each kind of case")
     parser.add_argument("--kind", action="append", help="only this kind of case (may be given again)")
     parser.add_argument("--part", choices=("whole", "summary"), default="whole", help="what is compared (default: whole)")
-    parser.add_argument("--costs", action="store_true", help="log entries cost: take `flow` where `flow-bare` stands too")
+    parser.add_argument("--command", choices=("flow", "show"), default="flow", help="what is run (default: flow)")
     parser.add_argument("--seconds", type=float, default=20.0, help="the most that one run may take (default: 20)")
     return parser.parse_args()
 
@@ -42,15 +43,28 @@ def folders_in(folder):
     return sorted(names, key=lambda name: [int(part) if part.isdigit() else part for part in name.split("-")])
 
 
-def wanted_of(case, costs):
-    bare = not costs and os.path.isfile(os.path.join(case, "flow-bare"))
-    return int(bytes_of(case, "status")), bytes_of(case, "flow-bare" if bare else "flow")
+def wanted_of(case, command):
+    """The status and what is to be written, or None where the case does not say."""
+    status = int(bytes_of(case, "status"))
+    if command == "flow" or status != 0:
+        return status, bytes_of(case, "flow")
+    if not os.path.isfile(os.path.join(case, "show")):
+        return None
+    return status, bytes_of(case, "show")
 
 
-def answer_of(program, case, seconds):
-    """The status and what is written, or None where the time is over."""
+def words_of(case, command):
+    """The options of the command: `show` has no budget."""
     words = bytes_of(case, "options").decode().split()
-    command = [program, "flow", *words, "source.c"]
+    if command == "flow" or "--budget" not in words:
+        return words
+    at = words.index("--budget")
+    return words[:at] + words[at + 2:]
+
+
+def answer_of(program, case, command, seconds):
+    """The status and what is written, or None where the time is over."""
+    command = [program, command, *words_of(case, command), "source.c"]
     try:
         done = subprocess.run(command, cwd=case, stdin=subprocess.DEVNULL, capture_output=True, timeout=seconds, check=False)
     except subprocess.TimeoutExpired:
@@ -84,12 +98,13 @@ def differences(wanted, answer, part):
 
 def compare_kind(kind, folder, given):
     """How many cases of a kind there are, and how many are alike."""
-    names = folders_in(folder)
+    cases = {name: wanted_of(os.path.join(folder, name), given.command) for name in folders_in(folder)}
+    names = [name for name, wanted in cases.items() if wanted is not None]
+    part = given.part if given.command == "flow" else "whole"
     alike = 0
     for name in names:
-        case = os.path.join(folder, name)
-        answer = answer_of(given.program, case, given.seconds)
-        told = differences(wanted_of(case, given.costs), answer, given.part)
+        answer = answer_of(given.program, os.path.join(folder, name), given.command, given.seconds)
+        told = differences(cases[name], answer, part)
         if told:
             print(f"{kind}/{name} differs:")
             print("".join(f"    {line}\n" for line in told), end="")

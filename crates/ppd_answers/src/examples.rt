@@ -57,15 +57,21 @@ fn examples_give_their_summaries(rt: HostRuntime) -> Result<(), Fail> {
     Ok(())
 }
 
-// The call, its 79 steps and the 20 values that are returned in it cost 100.
+// The first call's 80 steps, the 20 parameters and the 20 values that are returned cost 120. What is done
+// before the returns costs 80, and each return 2.
 #[test]
 fn a_budget_ends_an_example(rt: HostRuntime) -> Result<(), Fail> {
     let alloc = rt.alloc();
-    let words = ["flow", "--budget", "100", "row.c"];
-    let trial = call(alloc, &words, "row.c", RECURSION.as_bytes())?;
-    assert_eq!(rt; trial.status, 0);
-    let text = "process main budget 11:3 steps 80\nraces 0\n";
-    assert_eq!(rt; trial.text.as_slice(), text.as_bytes());
+    for (budget, text) in [
+        ("120", "process main budget 11:3 steps 80\nraces 0\n"),
+        ("119", "process main budget 6:3 steps 79\nraces 0\n"),
+        ("100", "process main budget 6:3 steps 70\nraces 0\n"),
+    ] {
+        let words = ["flow", "--budget", budget, "row.c"];
+        let trial = call(alloc, &words, "row.c", RECURSION.as_bytes())?;
+        assert_eq!(rt; trial.status, 0);
+        assert_eq!(rt; trial.text.as_slice(), text.as_bytes(), "{budget}");
+    }
     Ok(())
 }
 

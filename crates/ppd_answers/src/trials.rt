@@ -3,7 +3,8 @@ ghost use Rattle.std.specs.Prelude.{◌≡◌, true, IfSome};
 ghost use Rattle.ppd_world.specs.Running.{IsReached, can_step};
 
 use ppd_ast::limits::MOST_PROCESSES;
-use ppd_ast::{Memory, Plan, Policy};
+use ppd_ast::{Memory, Policy};
+use ppd_blocks::partition;
 use ppd_check::read_source;
 use ppd_io::{FreeGate, MemoryShelf, MemorySink, MemorySource};
 use ppd_top::{FollowError, Options, follow, ppd};
@@ -100,7 +101,7 @@ pub(crate) fn highest_first(alloc: Global, source: &str, most: u32) -> Option<Ve
     let Ok(program) = read_source(alloc, source.as_bytes()) else {
         return None;
     };
-    let Ok(plan) = Plan::bare(alloc, &program, &USUAL.policy) else {
+    let Ok(plan) = partition(alloc, &program, &USUAL.policy) else {
         return None;
     };
     let Ok(mut world) = World::new(alloc, &program, &plan, USUAL.budget) else {

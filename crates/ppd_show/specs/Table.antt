@@ -1,15 +1,17 @@
--- The lines of the static tables: bodies with what they use and define, and their statements.
+-- The static tables: bodies with what they use and define and their statements, then the blocks and units of a plan.
 use Rattle.std.specs.Prelude.{ℕ, List, [], ◌++◌, Option, Some, None, codes, decimal, length, slice_get, if◌then◌else◌}
 use Rattle.std.specs.List.{flat_map, range_with_len}
 use Rattle.ppd_ast.specs.declared.program.Stmt.{Stmt}
 use Rattle.ppd_ast.specs.declared.program.Body.{Body}
 use Rattle.ppd_ast.specs.declared.program.Var.{Var}
 use Rattle.ppd_ast.specs.declared.program.Program.{Program}
+use Rattle.ppd_ast.specs.declared.plan.Plan.{Plan}
 use Rattle.ppd_ast.specs.Numbered.{numbers_of}
 use Rattle.ppd_sets.specs.Used.{used_of, defined_of}
 use Rattle.ppd_text.specs.Texts.{place_text}
 use Rattle.ppd_show.specs.Names.{names_text}
 use Rattle.ppd_show.specs.Kinds.{kind_text}
+use Rattle.ppd_show.specs.Plans.{block_at, unit_at}
 
 -- ---- statements
 
@@ -53,5 +55,16 @@ body_at p k = body_text p k (slice_get p.bodies k)
 -- ---- the tables
 
 -- all bodies in order
-abbrev pub table_of : Program → List ℕ
-table_of p = flat_map (body_at p) (range_with_len 0 (length p.bodies))
+abbrev pub bodies_text : Program → List ℕ
+bodies_text p = flat_map (body_at p) (range_with_len 0 (length p.bodies))
+
+-- all blocks in order
+abbrev pub blocks_text : Program → Plan → List ℕ
+blocks_text p plan = flat_map (block_at p plan) (range_with_len 0 (length plan.blocks))
+
+-- all units in order
+abbrev pub units_text : Program → Plan → List ℕ
+units_text p plan = flat_map (unit_at p plan) (range_with_len 0 (length plan.units))
+
+abbrev pub table_of : Program → Plan → List ℕ
+table_of p plan = bodies_text p ++ blocks_text p plan ++ units_text p plan

@@ -4,11 +4,12 @@ ghost use Rattle.std.specs.List.{flat_map, range_with_len};
 ghost use Rattle.ppd_ast.specs.Numbered.{numbers_of};
 ghost use Rattle.ppd_ast.specs.Valid.{IsValid};
 ghost use Rattle.ppd_sets.specs.SetsOf.{AreSetsOf};
-ghost use Rattle.ppd_show.specs.Table.{what_text, uses_text, sets_text, body_line, stmt_line, stmt_at, body_at, table_of};
+ghost use Rattle.ppd_show.specs.Table.{what_text, uses_text, sets_text, body_line, stmt_line, stmt_at, body_at, bodies_text, blocks_text, units_text, table_of};
 
 use crate::kinds::put_kind;
 use crate::names::put_names;
-use ppd_ast::{Body, Memory, Program, Stmt, Var};
+use crate::plans::{put_blocks, put_units};
+use ppd_ast::{Body, Memory, Plan, Program, Stmt, Var};
 use ppd_sets::VarSets;
 use ppd_text::{put, put_number, put_place};
 use std::alloc::Global;
@@ -142,7 +143,7 @@ fn put_body_at(
 fn put_bodies(text: &mut Vec<u8>, program: &Program, sets: &VarSets) -> Result<(), Memory>
     requires sets { AreSetsOf program.now sets.now }
     requires count { length program.now.bodies < 2 ^ 16 }
-    ensures { OnOk result (text.new.items ≡ text.old.items ++ table_of program.now) }
+    ensures { OnOk result (text.new.items ≡ text.old.items ++ bodies_text program.now) }
 {
     for number in 0..program.bodies.len() {
         put_body_at(text, program, sets, number as u16)?;
@@ -150,15 +151,25 @@ fn put_bodies(text: &mut Vec<u8>, program: &Program, sets: &VarSets) -> Result<(
     Ok(())
 }
 
-/// The static tables of a program with its sets, as `ppd show` writes them: for each body, from 0, its
-/// line `body B WHAT used NAMES defined NAMES` and a line `stmt S PLACE KIND` for each of its statements.
+/// The static tables of a program with its sets and a plan of it, as `ppd show` writes them. For each
+/// body, from 0, its line `body B WHAT used NAMES defined NAMES` and a line `stmt S PLACE KIND` for each of
+/// its statements; then for each block of the plan, from 0, its line `block B WHAT prelog NAMES postlog
+/// NAMES`, where a returned value stands as `value`; then for each unit, from 0, its line `unit U START
+/// reads NAMES`. NAMES are those of the variables that have a cell in the list, each variable once, or `-`.
 /// `Memory` is want of memory.
-pub fn table(alloc: Global, program: &Program, sets: &VarSets) -> Result<Vec<u8>, Memory>
+pub fn table(
+    alloc: Global,
+    program: &Program,
+    sets: &VarSets,
+    plan: &Plan,
+) -> Result<Vec<u8>, Memory>
     requires program { IsValid program.now }
     requires sets { AreSetsOf program.now sets.now }
-    ensures { IfOk result (λ text. text.items ≡ table_of program.now) }
+    ensures { IfOk result (λ text. text.items ≡ table_of program.now plan.now) }
 {
     let mut text = Vec::new(alloc);
     put_bodies(&mut text, program, sets)?;
+    put_blocks(alloc, &mut text, program, plan)?;
+    put_units(alloc, &mut text, program, plan)?;
     Ok(text)
 }

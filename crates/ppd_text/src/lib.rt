@@ -3,4 +3,4 @@
 
 mod text;
 
-pub use text::{put, put_number, put_place, put_value};
+pub use text::{put, put_count, put_number, put_place, put_value};

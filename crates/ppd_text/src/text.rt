@@ -23,6 +23,14 @@ pub fn put_number(text: &mut Vec<u8>, number: u32) -> Result<(), Memory>
     put(text, buffer.format(number).as_bytes())
 }
 
+/// Appends a count in decimal.
+pub fn put_count(text: &mut Vec<u8>, count: usize) -> Result<(), Memory>
+    ensures { OnOk result (text.new.items ≡ text.old.items ++ decimal count) }
+{
+    let mut buffer = Buffer::new();
+    put(text, buffer.format(count).as_bytes())
+}
+
 /// Appends a value in decimal, with `-` before one below 0.
 pub fn put_value(text: &mut Vec<u8>, value: i64) -> Result<(), Memory>
     ensures { OnOk result (text.new.items ≡ text.old.items ++ signed_decimal value) }

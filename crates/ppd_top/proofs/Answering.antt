@@ -10,7 +10,7 @@ use Rattle.ppd_top.specs.declared.words.Command.{Command}
 use Rattle.ppd_top.specs.declared.words.Command.TheVariants.{Flow, Show}
 use Rattle.ppd_top.specs.Ran.{Gives}
 use Rattle.ppd_top.specs.Refusals.{refused}
-use Rattle.ppd_top.specs.Top.{Answers}
+use Rattle.ppd_top.specs.Top.{plan_of, Answers}
 use Rattle.ppd_top.specs.Top.Answers.{refusal, run, tables}
 
 answers_as : (bytes : List ℕ) (options : Options) (command : Command) (status : ℕ) (h k t u : List ℕ) → h ≡ k → t ≡ u → Answers bytes options command k status u → Answers bytes options command h status t
@@ -22,4 +22,4 @@ answers_refusal bytes options command h t error e f real cause = answers_as byte
 
 pub answers_given : (bytes : List ℕ) (options : Options) (command : Command) (program : Program) (h t : List ℕ) → IsRead bytes program → Gives command program options h t → Answers bytes options command h 0 t
 answers_given bytes options Flow program h t accepted ran = subst (λ x. Answers bytes options Flow h 0 x) (sym ran.is) (run program h accepted ran.whole)
-answers_given bytes options Show program h t accepted shown = answers_as bytes options Show 0 h [] t (table_of program) shown.0 shown.1 (tables program accepted)
+answers_given bytes options Show program h t accepted shown = answers_as bytes options Show 0 h [] t (table_of program (plan_of program options)) shown.0 shown.1 (tables program accepted)

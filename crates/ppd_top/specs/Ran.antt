@@ -9,7 +9,7 @@ use Rattle.ppd_top.specs.declared.words.Command.{Command}
 use Rattle.ppd_top.specs.declared.words.Command.TheVariants.{Flow, Show}
 use Rattle.ppd_top.specs.declared.following.FollowError.{FollowError}
 use Rattle.ppd_top.specs.declared.following.FollowError.TheVariants.{Refused, NotEnabled, NotWhole, LongLine, ManyLines, Memory}
-use Rattle.ppd_top.specs.Top.{IsWholeRun, summary_of_run, IsStuckAt, IsUnfinished}
+use Rattle.ppd_top.specs.Top.{plan_of, IsWholeRun, summary_of_run, IsStuckAt, IsUnfinished}
 
 -- a whole schedule with its summary
 pub record RanTo (program : Program) (options : Options) (schedule text : List ℕ) : Type 0 where
@@ -19,7 +19,7 @@ pub record RanTo (program : Program) (options : Options) (schedule text : List �
 -- what a command gives for a program: the schedule of its run, if it runs, and the text
 abbrev pub Gives : Command → Program → Options → (schedule text : List ℕ) → Type 0
 Gives Flow program options schedule text = RanTo program options schedule text
-Gives Show program options schedule text = (schedule ≡ []) × (text ≡ table_of program)
+Gives Show program options schedule text = (schedule ≡ []) × (text ≡ table_of program (plan_of program options))
 
 -- why the schedule gives a program no text
 abbrev pub ScheduleFails : Program → Options → List ℕ → FollowError → Type 0

@@ -3,9 +3,9 @@ use Rattle.std.specs.Prelude.{◌≡◌, ◌≢◌, ◌⊎◌, ℕ, false, true,
 use Rattle.std.specs.Borrow.{Bor}
 use Rattle.ppd_io.specs.Causes.{Rose}
 use Rattle.ppd_io.specs.Content.{Loads, Appends, AppendsPart}
-use Rattle.ppd_ast.specs.Bare.{bare}
 use Rattle.ppd_ast.specs.declared.plan.Plan.{Plan}
 use Rattle.ppd_ast.specs.declared.program.Program.{Program}
+use Rattle.ppd_blocks.specs.Blocks.{plan_of as plan_by_policy}
 use Rattle.ppd_check.specs.declared.error.SourceError.{SourceError}
 use Rattle.ppd_check.specs.declared.error.SourceError.TheVariants as source
 use Rattle.ppd_check.specs.Read.{IsRead, IsRefused}
@@ -27,9 +27,9 @@ use Rattle.ppd_top.specs.Words.{Asks}
 abbrev pub most_bytes : ℕ
 most_bytes = 262145
 
--- the plan that a program runs with: its blocks and units, whose lists of cells are empty
+-- the plan that a program runs with: the blocks and units of the policy, with their cells
 abbrev pub plan_of : Program → Options → Plan
-plan_of program options = bare program options.policy
+plan_of program options = plan_by_policy program options.policy
 
 -- the schedule is one that the processes take until nobody can take a step
 abbrev pub IsWholeRun : Program → Options → List ℕ → Type 0
@@ -48,7 +48,7 @@ usage = codes "usage: ppd flow|run|debug|show|drill\n"
 pub data Answers (bytes : List ℕ) (options : Options) : (command : Command) (schedule : List ℕ) → ℕ → List ℕ → Type 0 where
   refusal : (command : Command) (error : SourceError) → error ≢ source.Memory → IsRefused bytes error → Answers bytes options command [] 1 (refused error)
   run : (program : Program) (schedule : List ℕ) → IsRead bytes program → IsWholeRun program options schedule → Answers bytes options Flow schedule 0 (summary_of_run program options schedule)
-  tables : (program : Program) → IsRead bytes program → Answers bytes options Show [] 0 (table_of program)
+  tables : (program : Program) → IsRead bytes program → Answers bytes options Show [] 0 (table_of program (plan_of program options))
 
 -- what the command writes in all: said of the words, the shelf and the schedule
 pub data Writes (words : List (Bor (List ℕ))) (held : Option (List ℕ → Option (List ℕ))) (schedule : List ℕ) : ℕ → List ℕ → Type 0 where
@@ -73,7 +73,7 @@ pub record RanWhole (words : List (Bor (List ℕ))) (held : Option (List ℕ →
   pub whole : IsWholeRun program options schedule
   pub written : Appends old new (summary_of_run program options schedule)
 
--- status 0 of `show`: the tables of the loaded source's program were written, and nothing ran
+-- status 0 of `show`: the tables of the loaded source's program and its plan were written, and nothing ran
 pub record WasShown (words : List (Bor (List ℕ))) (held : Option (List ℕ → Option (List ℕ))) (schedule : List ℕ) (old new : Option (List ℕ)) : Type 0 where
   pub name : List ℕ
   pub options : Options
@@ -83,7 +83,7 @@ pub record WasShown (words : List (Bor (List ℕ))) (held : Option (List ℕ →
   pub loaded : Loads held name most_bytes bytes
   pub accepted : IsRead bytes program
   pub no_run : schedule ≡ []
-  pub written : Appends old new (table_of program)
+  pub written : Appends old new (table_of program (plan_of program options))
 
 -- status 1: the loaded source has no program, and the line that says why was written
 pub record WasRefused (words : List (Bor (List ℕ))) (held : Option (List ℕ → Option (List ℕ))) (old new : Option (List ℕ)) : Type 0 where

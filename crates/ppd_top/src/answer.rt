@@ -5,13 +5,14 @@ ghost use Rattle.ppd_ast.specs.ValidPlan.{IsValidPolicy};
 ghost use Rattle.ppd_ast.specs.declared.limits.TheConstants.{MOST_BUDGET};
 ghost use Rattle.ppd_show.specs.Table.{table_of};
 ghost use Rattle.ppd_top.specs.Ran.{Gives};
-ghost use Rattle.ppd_top.specs.Top.{Answers};
+ghost use Rattle.ppd_top.specs.Top.{plan_of, Answers};
 
 use crate::options::Options;
 use crate::refusal::refusal_line;
 use crate::running::run_program;
 use crate::words::Command;
 use ppd_ast::{Bytes, Memory, Program, Seq};
+use ppd_blocks::partition;
 use ppd_check::read_source;
 use ppd_sets::sets;
 use ppd_show::table;
@@ -26,13 +27,15 @@ pub(crate) struct Answer {
     pub(crate) text: Vec<u8>,
 }
 
-/// The static tables of a program.
-fn show_program(alloc: Global, program: &Program) -> Result<Vec<u8>, Memory>
-    requires { IsValid program.now }
-    ensures { IfOk result (λ text. text.items ≡ table_of program.now) }
+/// The static tables of a program and of its plan.
+fn show_program(alloc: Global, program: &Program, options: &Options) -> Result<Vec<u8>, Memory>
+    requires program { IsValid program.now }
+    requires policy { IsValidPolicy options.now.policy }
+    ensures { IfOk result (λ text. text.items ≡ table_of program.now (plan_of program.now options.now)) }
 {
     let sets = sets(alloc, program)?;
-    table(alloc, program, &sets)
+    let plan = partition(alloc, program, &options.policy)?;
+    table(alloc, program, &sets, &plan)
 }
 
 /// What a command gives for a program: the schedule of its run, empty where it runs nothing, and the text.
@@ -50,7 +53,7 @@ fn give(
     match command {
         Command::Flow => run_program(alloc, program, options),
         Command::Show => {
-            let text = show_program(alloc, program)?;
+            let text = show_program(alloc, program, options)?;
             Ok((Seq::new(alloc), text))
         }
     }

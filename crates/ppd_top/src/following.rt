@@ -9,7 +9,8 @@ ghost use Rattle.ppd_world.specs.Running.{IsOf, IsReached, begun};
 
 use crate::options::Options;
 use crate::running::{close_run, lowest_enabled};
-use ppd_ast::{Memory, Plan, Program};
+use ppd_ast::{Memory, Program};
+use ppd_blocks::partition;
 use ppd_check::{SourceError, read_source};
 use ppd_model::DriveError;
 use ppd_world::World;
@@ -81,7 +82,7 @@ fn follow_program(
     ensures text { IfOk result (λ text. RanTo program.now options.now schedule.now text.items) }
     ensures error { IfErr result (λ e. ScheduleFails program.now options.now schedule.now e) }
 {
-    let Ok(plan) = Plan::bare(alloc, program, &options.policy) else {
+    let Ok(plan) = partition(alloc, program, &options.policy) else {
         return Err(FollowError::Memory);
     };
     let Ok(world) = World::new(alloc, program, &plan, options.budget) else {

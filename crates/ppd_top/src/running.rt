@@ -11,7 +11,8 @@ ghost use Rattle.ppd_top.specs.Top.{plan_of};
 use crate::options::Options;
 use crate::summary::summary;
 use ppd_ast::limits::MOST_PROCESSES;
-use ppd_ast::{Bytes, Memory, Plan, Program, Seq};
+use ppd_ast::{Bytes, Memory, Program, Seq};
+use ppd_blocks::partition;
 use ppd_model::schedules_are_bounded;
 use ppd_world::World;
 use std::alloc::Global;
@@ -81,7 +82,7 @@ pub(crate) fn run_program(
     requires policy { IsValidPolicy options.now.policy }
     ensures { IfOk result (λ r. RanTo program.now options.now r.0 r.1.items) }
 {
-    let plan = Plan::bare(alloc, program, &options.policy)?;
+    let plan = partition(alloc, program, &options.policy)?;
     let mut world = World::new(alloc, program, &plan, options.budget)?;
     let schedule = run_lowest(alloc, &mut world)?;
     let text = close_run(alloc, program, options, world, schedule.as_slice())?;

@@ -1,0 +1,233 @@
+// What the values of log entries cost: the budget with which a run just ends, and less.
+
+use crate::trials::call;
+use ppd_ast::Policy;
+use ppd_top::{FollowError, Options, follow};
+use std::alloc::Global;
+use std::test::Fail;
+
+const LEAF: &str = "shared int x; void f(int k) { x = k; } process a { f(9); print(x); }";
+
+const NEVER: &str = "process a { int i = 3; while (i < 3) { i = i + 1; } print(i); }";
+
+const ONCE: &str =
+    "int f() { return 7; } process a { int v; int i = 0; while (i < 1) { v = f(); i = i + 1; } print(v); }";
+
+const SNAPSHOT: &str = "shared int x, y; sem s = 1; process p { P(s); if (y) { print(x); } }";
+
+const UNREAD: &str =
+    "shared int x, y; sem s = 1; process p { P(s); if (y) { print(x); } } process q { x = 5; }";
+
+const ARRAY: &str = "shared int a[4]; sem s; process p { V(s); print(a[0]); }";
+
+const READS: &str = "shared int x; process p { int i; while (i < 1) { i = i + x + 1; } print(x); }";
+
+type Row = (&'static [&'static str], &'static str, &'static str);
+
+/// What `flow` with these options writes for a source that it runs.
+fn written(alloc: Global, options: &[&'static str], source: &str) -> Result<Vec<u8>, Fail> {
+    let mut words = Vec::from_slice(alloc, &["flow"])?;
+    words.extend_from_slice(options)?;
+    words.push("row.c")?;
+    let trial = call(alloc, &words, "row.c", source.as_bytes())?;
+    if trial.status != 0 {
+        return Err(Fail::new("another status"));
+    }
+    Ok(trial.text)
+}
+
+// A function's block costs its parameter at the call, and a value at the return; without the block they
+// cost nothing. A process that reads x after the call has it in the unit that the return starts.
+#[test]
+fn a_function_costs_its_entries(rt: HostRuntime) -> Result<(), Fail> {
+    let alloc = rt.alloc();
+    let ended = "process a ended steps 6\nprint a 9\nraces 0\n";
+    let stopped = "process a budget 1:68 steps 5\nprint a 9\nraces 0\n";
+    let rows: [Row; 7] = [
+        (&[], LEAF, ended),
+        (&["--leaf", "3"], LEAF, ended),
+        // 2 for the call, 1, 2 for the return, 2 for the print, 1
+        (&["--budget", "8"], LEAF, ended),
+        (&["--budget", "7"], LEAF, stopped),
+        // of two statements, so a block still
+        (&["--budget", "7", "--leaf", "2"], LEAF, stopped),
+        (&["--budget", "7", "--leaf", "3"], LEAF, ended),
+        (&["--budget", "6", "--leaf", "3"], LEAF, stopped),
+    ];
+    for (options, source, text) in rows {
+        let found = written(alloc, options, source)?;
+        assert_eq!(rt; found.as_slice(), text.as_bytes(), "{options:?}");
+    }
+    Ok(())
+}
+
+// A loop's block costs a value for each local that it may read or write at its entry, and for each that it
+// may write at the test that ends it.
+#[test]
+fn a_loop_costs_its_entries(rt: HostRuntime) -> Result<(), Fail> {
+    let alloc = rt.alloc();
+    let rows: [Row; 12] = [
+        (
+            &["--loops", "1"],
+            NEVER,
+            "process a ended steps 5\nprint a 3\nraces 0\n",
+        ),
+        // 1, 2 for the entry, 2 for the test, 1, 1
+        (
+            &["--loops", "1", "--budget", "7"],
+            NEVER,
+            "process a ended steps 5\nprint a 3\nraces 0\n",
+        ),
+        (
+            &["--loops", "1", "--budget", "6"],
+            NEVER,
+            "process a budget 1:63 steps 4\nprint a 3\nraces 0\n",
+        ),
+        (
+            &["--budget", "4"],
+            NEVER,
+            "process a ended steps 4\nprint a 3\nraces 0\n",
+        ),
+        (
+            &["--loops", "1"],
+            ONCE,
+            "process a ended steps 10\nprint a 7\nraces 0\n",
+        ),
+        // 1, 1, 3 for the entry, 1, 1 for the call, 2 for the return, 1, 3 for the test, 1, 1
+        (
+            &["--loops=1", "--budget=15"],
+            ONCE,
+            "process a ended steps 10\nprint a 7\nraces 0\n",
+        ),
+        (
+            &["--loops=1", "--budget=14"],
+            ONCE,
+            "process a budget 1:101 steps 9\nprint a 7\nraces 0\n",
+        ),
+        // the entry itself is too dear
+        (
+            &["--loops=1", "--budget=4"],
+            ONCE,
+            "process a budget 1:53 steps 2\nraces 0\n",
+        ),
+        // 1, 3 for the entry with its unit, 1, 1, 1, 3 for the test with its unit, 2, 1
+        (
+            &["--loops=1", "--budget=13"],
+            READS,
+            "process p ended steps 9\nprint p 0\nraces 0\n",
+        ),
+        (
+            &["--loops=1", "--budget=12"],
+            READS,
+            "process p budget 1:77 steps 8\nprint p 0\nraces 0\n",
+        ),
+        (
+            &["--loops=1", "--budget=9"],
+            READS,
+            "process p budget 1:34 steps 5\nraces 0\n",
+        ),
+        (
+            &["--loops=1", "--budget=3"],
+            READS,
+            "process p budget 1:34 steps 1\nraces 0\n",
+        ),
+    ];
+    for (options, source, text) in rows {
+        let found = written(alloc, options, source)?;
+        assert_eq!(rt; found.as_slice(), text.as_bytes(), "{options:?} {source}");
+    }
+    Ok(())
+}
+
+// A synchronization costs the cells of the unit that it starts, those of arrays whole. So a process may stop
+// before a `P` that it could take.
+#[test]
+fn a_unit_costs_its_cells(rt: HostRuntime) -> Result<(), Fail> {
+    let alloc = rt.alloc();
+    let rows: [Row; 7] = [
+        // 3 for the P, 1, 1, 1
+        (
+            &["--budget", "6"],
+            SNAPSHOT,
+            "process p ended steps 4\nraces 0\n",
+        ),
+        (
+            &["--budget", "5"],
+            SNAPSHOT,
+            "process p budget 1:68 steps 3\nraces 0\n",
+        ),
+        (
+            &["--budget", "3"],
+            SNAPSHOT,
+            "process p budget 1:47 steps 1\nraces 0\n",
+        ),
+        (
+            &["--budget", "2"],
+            SNAPSHOT,
+            "process p budget 1:41 steps 0\nraces 0\n",
+        ),
+        // 5 for the V, 2, 1
+        (
+            &["--budget", "8"],
+            ARRAY,
+            "process p ended steps 4\nprint p 0\nraces 0\n",
+        ),
+        (
+            &["--budget", "5"],
+            ARRAY,
+            "process p budget 1:43 steps 1\nraces 0\n",
+        ),
+        (
+            &["--budget", "4"],
+            ARRAY,
+            "process p budget 1:37 steps 0\nraces 0\n",
+        ),
+    ];
+    for (options, source, text) in rows {
+        let found = written(alloc, options, source)?;
+        assert_eq!(rt; found.as_slice(), text.as_bytes(), "{options:?} {source}");
+    }
+    Ok(())
+}
+
+// The same by schedules that are handed in: a stop is a number of the schedule.
+#[test]
+fn schedules_pay_for_entries(rt: HostRuntime) -> Result<(), Fail> {
+    let alloc = rt.alloc();
+    let rows: [(u32, &[u8], &str); 3] = [
+        (
+            6,
+            &[0, 0, 0, 0, 1, 1],
+            "process p ended steps 4\nprocess q ended steps 2\n",
+        ),
+        (
+            5,
+            &[0, 1, 1, 0, 0, 0],
+            "process p budget 1:68 steps 3\nprocess q ended steps 2\n",
+        ),
+        (
+            2,
+            &[1, 0, 1],
+            "process p budget 1:41 steps 0\nprocess q ended steps 2\n",
+        ),
+    ];
+    for (budget, schedule, text) in rows {
+        let options = Options {
+            budget,
+            policy: Policy { leaf: 0, loops: 0 },
+        };
+        let Ok(found) = follow(alloc, UNREAD.as_bytes(), &options, &[], schedule) else {
+            return Err(Fail::new("not followed"));
+        };
+        assert_eq!(rt; found.as_slice(), text.as_bytes(), "{budget}");
+    }
+    let options = Options {
+        budget: 7,
+        policy: Policy { leaf: 0, loops: 1 },
+    };
+    let late = follow(alloc, NEVER.as_bytes(), &options, &[], &[0, 0, 0, 0, 0, 0]);
+    assert_eq!(rt; late.err(), Some(FollowError::NotEnabled(5)));
+    let early = follow(alloc, NEVER.as_bytes(), &options, &[], &[0, 0, 0, 0]);
+    assert_eq!(rt; early.err(), Some(FollowError::NotWhole));
+    Ok(())
+}

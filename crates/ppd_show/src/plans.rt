@@ -1,0 +1,208 @@
+// The lines of a plan's blocks and units.
+ghost use Rattle.std.specs.Prelude.{◌≡◌, ◌++◌, length, decimal, OnOk, slice_get};
+ghost use Rattle.std.specs.List.{flat_map, range_with_len};
+ghost use Rattle.ppd_show.specs.Plans.{stmt_place, block_what, locals_of as locals_of_body, locals_round as locals_round_stmt, block_locals as locals_of_block, postlog_text, logs_text, block_line, block_at, start_text, unit_line, unit_at};
+ghost use Rattle.ppd_show.specs.Names.{body_name};
+ghost use Rattle.ppd_show.specs.Table.{blocks_text, units_text};
+
+use crate::met::put_cells;
+use crate::names::function_name;
+use ppd_ast::{Block, BlockKind, Memory, Plan, Program, Start, Unit, Var};
+use ppd_text::{put, put_count, put_number, put_place};
+use std::alloc::Global;
+
+fn put_body(text: &mut Vec<u8>, word: &[u8], program: &Program, body: u16) -> Result<(), Memory>
+    ensures { OnOk result (text.new.items ≡ text.old.items ++ (word.now ++ body_name (slice_get program.now.bodies body))) }
+{
+    put(text, word)?;
+    put(text, function_name(program, body))
+}
+
+fn put_stmt_place(text: &mut Vec<u8>, program: &Program, stmt: u32) -> Result<(), Memory>
+    ensures { OnOk result (text.new.items ≡ text.old.items ++ stmt_place (slice_get program.now.stmts stmt)) }
+{
+    match program.stmts.as_slice().get(stmt as usize) {
+        Some(stmt) => put_place(text, stmt.place),
+        None => Ok(()),
+    }
+}
+
+// Appends what a block is the code of.
+fn put_what(text: &mut Vec<u8>, program: &Program, kind: BlockKind) -> Result<(), Memory>
+    ensures { OnOk result (text.new.items ≡ text.old.items ++ block_what program.now kind) }
+{
+    match kind {
+        BlockKind::Function(body) => put_body(text, b"function ", program, body),
+        BlockKind::Process(body) => put_body(text, b"process ", program, body),
+        BlockKind::Loop(stmt) => {
+            put(text, b"loop ")?;
+            put_stmt_place(text, program, stmt)
+        }
+    }
+}
+
+fn locals_of(program: &Program, body: u16) -> &[Var]
+    ensures { result.now ≡ locals_of_body (slice_get program.now.bodies body) }
+{
+    match program.bodies.as_slice().get(body as usize) {
+        Some(body) => body.locals.as_slice(),
+        None => &[],
+    }
+}
+
+fn locals_round(program: &Program, stmt: u32) -> &[Var]
+    ensures { result.now ≡ locals_round_stmt program.now (slice_get program.now.stmts stmt) }
+{
+    match program.stmts.as_slice().get(stmt as usize) {
+        Some(stmt) => locals_of(program, stmt.body),
+        None => &[],
+    }
+}
+
+// The variables of the body that a block is, or in which its loop stands.
+fn block_locals(program: &Program, kind: BlockKind) -> &[Var]
+    ensures { result.now ≡ locals_of_block program.now kind }
+{
+    match kind {
+        BlockKind::Function(body) | BlockKind::Process(body) => locals_of(program, body),
+        BlockKind::Loop(stmt) => locals_round(program, stmt),
+    }
+}
+
+fn put_postlog(alloc: Global, text: &mut Vec<u8>, vars: &[Var], block: &Block) -> Result<(), Memory>
+    ensures { OnOk result (text.new.items ≡ text.old.items ++ postlog_text vars.now block.now) }
+{
+    if block.value {
+        return put(text, b" value");
+    }
+    put_cells(alloc, text, vars, block.postlog.as_slice())
+}
+
+// Appends what the prelog and the postlog of a block hold.
+fn put_logs(alloc: Global, text: &mut Vec<u8>, vars: &[Var], block: &Block) -> Result<(), Memory>
+    ensures { OnOk result (text.new.items ≡ text.old.items ++ logs_text vars.now block.now) }
+{
+    put(text, b" prelog")?;
+    put_cells(alloc, text, vars, block.prelog.as_slice())?;
+    put(text, b" postlog")?;
+    put_postlog(alloc, text, vars, block)
+}
+
+fn put_block(
+    alloc: Global,
+    text: &mut Vec<u8>,
+    program: &Program,
+    number: usize,
+    block: &Block,
+) -> Result<(), Memory>
+    ensures { OnOk result (text.new.items ≡ text.old.items ++ block_line program.now number block.now) }
+{
+    put(text, b"block ")?;
+    put_count(text, number)?;
+    put(text, b" ")?;
+    put_what(text, program, block.kind)?;
+    put_logs(alloc, text, block_locals(program, block.kind), block)?;
+    put(text, b"\n")
+}
+
+fn put_block_at(
+    alloc: Global,
+    text: &mut Vec<u8>,
+    program: &Program,
+    plan: &Plan,
+    number: usize,
+) -> Result<(), Memory>
+    ensures { OnOk result (text.new.items ≡ text.old.items ++ block_at program.now plan.now number) }
+{
+    match plan.blocks.as_slice().get(number) {
+        Some(block) => put_block(alloc, text, program, number, block),
+        None => Ok(()),
+    }
+}
+
+/// Appends the lines of all blocks.
+pub(crate) fn put_blocks(
+    alloc: Global,
+    text: &mut Vec<u8>,
+    program: &Program,
+    plan: &Plan,
+) -> Result<(), Memory>
+    ensures { OnOk result (text.new.items ≡ text.old.items ++ blocks_text program.now plan.now) }
+{
+    for number in 0..plan.blocks.len() {
+        put_block_at(alloc, text, program, plan, number)?;
+    }
+    Ok(())
+}
+
+// Appends where a unit starts.
+fn put_start(text: &mut Vec<u8>, program: &Program, start: Start) -> Result<(), Memory>
+    ensures { OnOk result (text.new.items ≡ text.old.items ++ start_text program.now start) }
+{
+    match start {
+        Start::Entry(body) => put_body(text, b"entry ", program, body),
+        Start::After(stmt) => put_numbered(text, b"after ", stmt),
+        Start::Enter(stmt) => put_numbered(text, b"enter ", stmt),
+        Start::Exit(stmt) => put_numbered(text, b"exit ", stmt),
+    }
+}
+
+fn put_numbered(text: &mut Vec<u8>, word: &[u8], number: u32) -> Result<(), Memory>
+    ensures { OnOk result (text.new.items ≡ text.old.items ++ (word.now ++ decimal number)) }
+{
+    put(text, word)?;
+    put_number(text, number)
+}
+
+fn put_unit(
+    alloc: Global,
+    text: &mut Vec<u8>,
+    program: &Program,
+    number: usize,
+    unit: &Unit,
+) -> Result<(), Memory>
+    ensures { OnOk result (text.new.items ≡ text.old.items ++ unit_line program.now number unit.now) }
+{
+    put(text, b"unit ")?;
+    put_count(text, number)?;
+    put(text, b" ")?;
+    put_start(text, program, unit.start)?;
+    put(text, b" reads")?;
+    put_cells(
+        alloc,
+        text,
+        program.shared.as_slice(),
+        unit.cells.as_slice(),
+    )?;
+    put(text, b"\n")
+}
+
+fn put_unit_at(
+    alloc: Global,
+    text: &mut Vec<u8>,
+    program: &Program,
+    plan: &Plan,
+    number: usize,
+) -> Result<(), Memory>
+    ensures { OnOk result (text.new.items ≡ text.old.items ++ unit_at program.now plan.now number) }
+{
+    match plan.units.as_slice().get(number) {
+        Some(unit) => put_unit(alloc, text, program, number, unit),
+        None => Ok(()),
+    }
+}
+
+/// Appends the lines of all units.
+pub(crate) fn put_units(
+    alloc: Global,
+    text: &mut Vec<u8>,
+    program: &Program,
+    plan: &Plan,
+) -> Result<(), Memory>
+    ensures { OnOk result (text.new.items ≡ text.old.items ++ units_text program.now plan.now) }
+{
+    for number in 0..plan.units.len() {
+        put_unit_at(alloc, text, program, plan, number)?;
+    }
+    Ok(())
+}
