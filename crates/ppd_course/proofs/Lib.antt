@@ -11,3 +11,4 @@ mod Leading
 mod Beginning
 mod Reading
 mod Ending
+mod Last
