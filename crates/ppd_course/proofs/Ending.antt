@@ -1,5 +1,5 @@
 -- A process of a valid program never runs out of statements.
-use Rattle.std.proofs.Common.{◌≡◌, ◌≢◌, ℕ, zero, suc, ◌+◌, ◌-◌, ◌<◌, ◌≤◌, ℤ, Bool, true, false, nat_le, nat_lt, List, [], ◌∷◌, ◌++◌, length, Option, Some, None, Ok, Err, refl, sym, subst, ap, ◌∙◌, arith, inl, inr, ◌⊎◌, true≢false, if◌then◌else◌}
+use Rattle.std.proofs.Common.{◌≡◌, ◌≢◌, ℕ, zero, suc, ◌+◌, ◌-◌, ◌<◌, ◌≤◌, Bool, true, false, nat_le, nat_lt, List, [], ◌∷◌, ◌++◌, length, Option, Some, None, Ok, Err, refl, sym, subst, ap, ◌∙◌, arith, inl, inr, ◌⊎◌, true≢false, if◌then◌else◌}
 use Rattle.std.specs.Prelude.{IsSomeAnd, IsTrue, slice_get}
 use Rattle.std.proofs.lemmas.Bool.Decides.{nat_tests}
 use Rattle.ppd_ast.specs.declared.plan.BlockKind.TheVariants as block
@@ -13,7 +13,7 @@ use Rattle.ppd_ast.specs.declared.program.Stmt.{Stmt}
 use Rattle.ppd_ast.specs.declared.status.Status.{Status}
 use Rattle.ppd_ast.specs.declared.status.Status.TheVariants as status
 use Rattle.ppd_ast.specs.declared.status.Trap.TheVariants as trap
-use Rattle.ppd_ast.specs.Valid.{EndsBody, IsEnding, IsValid, IsValidBody, IsValidKind, last_of}
+use Rattle.ppd_ast.specs.Valid.{EndsBody, IsEnding, IsValid, IsValidBody, last_of}
 use Rattle.ppd_ast.proofs.ValidLaws.{slice_get_there, some_and, stmt_in_body, valid_body}
 use Rattle.ppd_cfg.specs.Flow.{kind_of, kind_of_stmt}
 use Rattle.ppd_cfg.specs.Lists.{has}
@@ -26,7 +26,7 @@ use Rattle.ppd_sem.specs.declared.proc.Proc.{Proc}
 use Rattle.ppd_sem.specs.declared.proc.Todo.{Todo}
 use Rattle.ppd_sem.specs.Asked.{Asked, gives}
 use Rattle.ppd_sem.specs.Deed.{Deed, set_local, set_shared, clear, branch, turn, leave, invoke, back, take, give, send, receive, print, pass, finish, ask_deed}
-use Rattle.ppd_sem.specs.Process.{act, act_at, act_by_asked, act_by_deed, act_by_need, charged, cost, entry_of, head_deed, kind_of as kind_at, need_by_entry, need_of, need_of_asked, need_of_deed, need_of_head, need_of_leaving, need_of_running, started, todos, top_cells, top_of as tops, within_budget}
+use Rattle.ppd_sem.specs.Process.{act, act_at, act_by_asked, act_by_deed, act_by_need, cost, entry_of, head_deed, need_by_entry, need_of, need_of_deed, need_of_head, need_of_leaving, need_of_running, todos, top_cells, top_of as tops}
 use Rattle.ppd_sem.specs.Tables.{block_of, unit_of}
 use Rattle.ppd_sem.proofs.Progress.{act-stopped, need_at_status, need_at_todo}
 use Rattle.ppd_course.specs.Course.{EndsWithEnd, GoesUntilEnd}
@@ -125,9 +125,9 @@ module _ (p : Program) where
   leaves_some plan t None e = cc
   leaves_some plan t (Some b) e = cc
 
-  calls_some : (b u : ℕ) (o : Option ℕ) (deep : Bool) → (if deep then Trap trap.Depth else Invoke o u) ≢ Stopped
-  calls_some b u o true e = cc
-  calls_some b u o false e = cc
+  calls_some : (u : ℕ) (o : Option ℕ) (deep : Bool) → (if deep then Trap trap.Depth else Invoke o u) ≢ Stopped
+  calls_some u o true e = cc
+  calls_some u o false e = cc
 
   deed_needs : (plan : Plan) (t : ℕ) (s : Proc) (d : Deed) → need_of_deed plan t s d ≢ Stopped
   deed_needs plan t s (set_local c v) e = cc
@@ -137,7 +137,7 @@ module _ (p : Program) where
   deed_needs plan t s (turn stmts) e = cc
   deed_needs plan t s leave e = leaves_some plan t (block_of plan (block.Loop t)) e
   deed_needs plan t s (invoke f values into) e =
-      calls_some 0 (unit_of plan (start.Entry f)) (block_of plan (block.Function f)) (nat_lt 64 (s.below + length s.frames)) e
+      calls_some (unit_of plan (start.Entry f)) (block_of plan (block.Function f)) (nat_lt 64 (s.below + length s.frames)) e
   deed_needs plan t s (back value) e = cc
   deed_needs plan t s (take sem) e = cc
   deed_needs plan t s (give sem) e = cc

@@ -11,3 +11,4 @@ pub mod Leading
 pub mod Beginning
 pub mod Reading
 mod Ending
+mod Last

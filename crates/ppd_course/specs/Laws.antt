@@ -2,8 +2,8 @@
 use Rattle.std.specs.Prelude.{◌≡◌, ◌≢◌, ◌+◌, ◌<◌, IsTrue, ℕ, length, None, Some, true}
 use Rattle.ppd_ast.specs.declared.plan.Plan.{Plan}
 use Rattle.ppd_ast.specs.declared.program.Program.{Program}
-use Rattle.ppd_ast.specs.Valid.{IsValid}
-use Rattle.ppd_cfg.specs.Flow.{top_of}
+use Rattle.ppd_ast.specs.Valid.{IsEnding, IsValid}
+use Rattle.ppd_cfg.specs.Flow.{follow, kind_of, top_of}
 use Rattle.ppd_cfg.specs.Lists.{has}
 use Rattle.ppd_sem.specs.declared.proc.Answer.{Answer}
 use Rattle.ppd_sem.specs.declared.proc.Need.TheVariants.{Read, Stopped}
@@ -34,6 +34,10 @@ StepsLead =
 abbrev pub ReadsItsCells : Type 0
 ReadsItsCells =
     (program : Program) (plan : Plan) (s : Proc) (h c : ℕ) → head_of s.todo ≡ Some h → need_of program plan s ≡ Read c → IsTrue (has (reads_at true program h) c)
+
+-- in a valid program nothing follows a `Return` or an `End`
+abbrev pub EndsAreLast : Type 0
+EndsAreLast = (program : Program) (s : ℕ) → IsValid program → IsEnding (kind_of program s) → follow program s ≡ None
 
 -- a process of a valid program never runs out of statements: until it stops there is its `End` to come
 pub record NeverRunsOut : Type 0 where

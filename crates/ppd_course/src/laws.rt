@@ -1,4 +1,4 @@
-ghost use Rattle.ppd_course.specs.Laws.{NeverRunsOut, ReadsItsCells, StartsOnCourse, StaysOnCourse, StepsLead};
+ghost use Rattle.ppd_course.specs.Laws.{EndsAreLast, NeverRunsOut, ReadsItsCells, StartsOnCourse, StaysOnCourse, StepsLead};
 
 // Laws of what the other calls give: each is the contract of a function that does nothing.
 
@@ -31,4 +31,9 @@ pub fn reads_its_cells()
 /// budget, the last statement that it has to do is its `End`, and it needs something.
 pub fn never_runs_out()
     ensures { NeverRunsOut }
+{}
+
+/// In a valid program nothing follows a `Return` or an `End`.
+pub fn ends_are_last()
+    ensures { EndsAreLast }
 {}

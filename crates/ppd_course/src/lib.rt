@@ -3,4 +3,6 @@
 
 mod laws;
 
-pub use laws::{never_runs_out, reads_its_cells, starts_on_course, stays_on_course, steps_lead};
+pub use laws::{
+    ends_are_last, never_runs_out, reads_its_cells, starts_on_course, stays_on_course, steps_lead,
+};
