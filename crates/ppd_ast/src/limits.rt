@@ -19,7 +19,7 @@ pub const MOST_NAME_BYTES: usize = 64;
 /// The greatest initial value of a semaphore.
 pub const MOST_START: u32 = 65_535;
 /// The smallest capacity of a channel.
-pub const LEAST_CAPACITY: u8 = 1;
+pub const LEAST_CAPACITY: u8 = 0;
 /// The greatest capacity of a channel.
 pub const MOST_CAPACITY: u8 = 64;
 /// Statements that stand in one another, at most; one in a top list is the first.

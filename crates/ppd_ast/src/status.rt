@@ -31,6 +31,9 @@ pub enum Status {
 pub enum SyncKind {
     P,
     V,
+    /// A send; on a channel of capacity 0 the offer.
     Send,
     Recv,
+    /// The completion of a send on a channel of capacity 0.
+    Done,
 }

@@ -25,7 +25,7 @@ begins : (xs : List ℕ) → BeginsList xs (todos xs)
 begins [] = record { first = refl; unmarked = λ u us same. absurd cc }
 begins (x ∷ xs) = record {
   first = refl;
-  unmarked = λ u us same. let one : (record { stmt = x; entered = false }) ≡ u = some_is (ap (λ l. slice_get l 0) same) in sym (ap (λ (z : Todo). z.entered) one);
+  unmarked = λ u us same. let one : (record { stmt = x; entered = false; offered = false }) ≡ u = some_is (ap (λ l. slice_get l 0) same) in sym (ap (λ (z : Todo). z.entered) one);
 }
 
 way_of : (p : Program) (plan : Plan) (f : ℕ) (o : Option Body) → IsValid p → p.functions ≤ f → slice_get p.bodies f ≡ o → IsWay p plan (None ∷ []) (todos (tops o))

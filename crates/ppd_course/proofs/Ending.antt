@@ -1,5 +1,5 @@
 -- A process of a valid program never runs out of statements.
-use Rattle.std.proofs.Common.{◌≡◌, ◌≢◌, ℕ, zero, suc, ◌+◌, ◌-◌, ◌<◌, ◌≤◌, Bool, true, false, nat_le, nat_lt, List, [], ◌∷◌, ◌++◌, length, Option, Some, None, Ok, Err, refl, sym, subst, ap, ◌∙◌, arith, inl, inr, ◌⊎◌, true≢false, if◌then◌else◌}
+use Rattle.std.proofs.Common.{◌≡◌, ◌≢◌, ℕ, zero, suc, ℤ, ◌+◌, ◌-◌, ◌<◌, ◌≤◌, Bool, true, false, nat_le, nat_lt, List, [], ◌∷◌, ◌++◌, length, Option, Some, None, Ok, Err, refl, sym, subst, ap, ◌∙◌, arith, inl, inr, ◌⊎◌, true≢false, if◌then◌else◌}
 use Rattle.std.specs.Prelude.{IsSomeAnd, IsTrue, slice_get}
 use Rattle.std.proofs.lemmas.Bool.Decides.{nat_tests}
 use Rattle.ppd_ast.specs.declared.plan.BlockKind.TheVariants as block
@@ -21,13 +21,14 @@ use Rattle.ppd_cfg.proofs.Has.{has_first, has_later}
 use Rattle.ppd_sem.specs.declared.asking.Pause.TheVariants.{Wants, Traps}
 use Rattle.ppd_sem.specs.declared.proc.Answer.{Answer}
 use Rattle.ppd_sem.specs.declared.proc.Need.{Need}
-use Rattle.ppd_sem.specs.declared.proc.Need.TheVariants.{Read, Write, Plain, Enter, Leave, Invoke, Back, P, V, Send, Recv, End, Trap, Budget, Stopped}
+use Rattle.ppd_sem.specs.declared.proc.Need.TheVariants.{Read, Write, Plain, Enter, Leave, Invoke, Back, P, V, Send, Offer, Done, Recv, End, Trap, Budget, Stopped}
 use Rattle.ppd_sem.specs.declared.proc.Proc.{Proc}
 use Rattle.ppd_sem.specs.declared.proc.Todo.{Todo}
 use Rattle.ppd_sem.specs.Asked.{Asked, gives}
 use Rattle.ppd_sem.specs.Deed.{Deed, set_local, set_shared, clear, branch, turn, leave, invoke, back, take, give, send, receive, print, pass, finish, ask_deed}
-use Rattle.ppd_sem.specs.Process.{act, act_at, act_by_asked, act_by_deed, act_by_need, cost, entry_of, head_deed, need_by_entry, need_of, need_of_deed, need_of_head, need_of_leaving, need_of_running, todos, top_cells, top_of as tops}
-use Rattle.ppd_sem.specs.Tables.{block_of, unit_of}
+use Rattle.ppd_sem.proofs.Offers.{CompletesSend, completes}
+use Rattle.ppd_sem.specs.Process.{chan_of, need_by_offer, need_of_send, offer_of, act, act_at, act_by_asked, act_by_deed, act_by_need, cost, entry_of, head_deed, need_by_entry, need_of, need_of_deed, need_of_head, need_of_leaving, need_of_running, todos, top_cells, top_of as tops}
+use Rattle.ppd_sem.specs.Tables.{capacity_of, block_of, unit_of}
 use Rattle.ppd_sem.proofs.Progress.{act-stopped, need_at_status, need_at_todo}
 use Rattle.ppd_course.specs.Course.{EndsWithEnd, GoesUntilEnd}
 use Rattle.ppd_course.specs.Laws.{NeverRunsOut}
@@ -44,11 +45,15 @@ module _ (p : Program) where
 
   more_behind : (xs : List ℕ) (ts : List Todo) → EndsWithEnd p ts → EndsWithEnd p (todos xs ++ ts)
   more_behind [] ts h = h
-  more_behind (x ∷ xs) ts h = more_with (record { stmt = x; entered = false }) (todos xs ++ ts) (more_behind xs ts h)
+  more_behind (x ∷ xs) ts h = more_with (record { stmt = x; entered = false; offered = false }) (todos xs ++ ts) (more_behind xs ts h)
 
   marked_more : (t : Todo) (ts : List Todo) → EndsWithEnd p (t ∷ ts) → EndsWithEnd p (record t { entered = true } ∷ ts)
   marked_more t [] h = h
   marked_more t (u ∷ us) h = h
+
+  offered_more : (t : Todo) (ts : List Todo) → EndsWithEnd p (t ∷ ts) → EndsWithEnd p (record t { offered = true } ∷ ts)
+  offered_more t [] h = h
+  offered_more t (u ∷ us) h = h
 
   -- the head is the `End`, or it is still to come
   last_or : (t : Todo) (ts : List Todo) → EndsWithEnd p (t ∷ ts) → (kind_of p t.stmt ≡ K.End) ⊎ EndsWithEnd p ts
@@ -94,26 +99,32 @@ module _ (p : Program) where
         | inr more ↦ asked_more a t ts (head_deed p t s) s is h more
       ]
 
-  need_more : (plan : Plan) (a : Answer) (t : Todo) (ts : List Todo) (n : Need) (s : Proc) → s.todo ≡ t ∷ ts → EndsWithEnd p (t ∷ ts) → GoesUntilEnd p (act_by_need p plan a t ts n s)
-  need_more plan a t ts (Read c) s is h = head_more a t ts s is h
-  need_more plan a t ts (Write c v) s is h = head_more a t ts s is h
-  need_more plan a t ts Plain s is h = head_more a t ts s is h
-  need_more plan a t ts (Enter b u) s is h = λ none. marked_more t ts h
-  need_more plan a t ts (Leave b u) s is h = head_more a t ts s is h
-  need_more plan a t ts (Invoke b u) s is h = head_more a t ts s is h
-  need_more plan a t ts (Back b u) s is h = head_more a t ts s is h
-  need_more plan a t ts (P x u) s is h = head_more a t ts s is h
-  need_more plan a t ts (V x u) s is h = head_more a t ts s is h
-  need_more plan a t ts (Send c v u) s is h = head_more a t ts s is h
-  need_more plan a t ts (Recv c u) s is h = head_more a t ts s is h
-  need_more plan a t ts (End b) s is h = head_more a t ts s is h
-  need_more plan a t ts (Trap x) s is h = λ none. absurd (none_some (sym none))
-  need_more plan a t ts Budget s is h = λ none. absurd (none_some (sym none))
-  need_more plan a t ts Stopped s is h = λ none. subst (EndsWithEnd p) (sym is) h
+  need_more : (plan : Plan) (a : Answer) (t : Todo) (ts : List Todo) (n : Need) (s : Proc) → CompletesSend p t.stmt n → s.todo ≡ t ∷ ts → EndsWithEnd p (t ∷ ts) → GoesUntilEnd p (act_by_need p plan a t ts n s)
+  need_more plan a t ts (Read c) s o is h = head_more a t ts s is h
+  need_more plan a t ts (Write c v) s o is h = head_more a t ts s is h
+  need_more plan a t ts Plain s o is h = head_more a t ts s is h
+  need_more plan a t ts (Enter b u) s o is h = λ none. marked_more t ts h
+  need_more plan a t ts (Leave b u) s o is h = head_more a t ts s is h
+  need_more plan a t ts (Invoke b u) s o is h = head_more a t ts s is h
+  need_more plan a t ts (Back b u) s o is h = head_more a t ts s is h
+  need_more plan a t ts (P x u) s o is h = head_more a t ts s is h
+  need_more plan a t ts (V x u) s o is h = head_more a t ts s is h
+  need_more plan a t ts (Send c v u) s o is h = head_more a t ts s is h
+  need_more plan a t ts (Offer c v) s o is h = λ none. offered_more t ts h
+  need_more plan a t ts (Done c u) s o is h =
+      elim (last_or t ts h) [
+        | inl last ↦ λ none. absurd (none_some (sym (ap chan_of (same_kind p t.stmt ∙ last)) ∙ o))
+        | inr more ↦ λ none. more
+      ]
+  need_more plan a t ts (Recv c u) s o is h = head_more a t ts s is h
+  need_more plan a t ts (End b) s o is h = head_more a t ts s is h
+  need_more plan a t ts (Trap x) s o is h = λ none. absurd (none_some (sym none))
+  need_more plan a t ts Budget s o is h = λ none. absurd (none_some (sym none))
+  need_more plan a t ts Stopped s o is h = λ none. subst (EndsWithEnd p) (sym is) h
 
   todo_more : (plan : Plan) (a : Answer) (s : Proc) (todo : List Todo) → s.todo ≡ todo → EndsWithEnd p todo → GoesUntilEnd p (act p plan s a)
   todo_more plan a s [] is h = absurd h
-  todo_more plan a s (t ∷ ts) is h = subst (λ (after : Proc). GoesUntilEnd p after) (sym (ap (λ l. act_at p plan a l s) is)) (need_more plan a t ts (need_of p plan s) s is h)
+  todo_more plan a s (t ∷ ts) is h = subst (λ (after : Proc). GoesUntilEnd p after) (sym (ap (λ l. act_at p plan a l s) is)) (need_more plan a t ts (need_of p plan s) s (completes p plan s t ts is) is h)
 
   step_more : (plan : Plan) (a : Answer) (s : Proc) (o : Option Status) → s.status ≡ o → GoesUntilEnd p s → GoesUntilEnd p (act p plan s a)
   step_more plan a s None is h = todo_more plan a s s.todo refl (h is)
@@ -129,7 +140,11 @@ module _ (p : Program) where
   calls_some u o true e = cc
   calls_some u o false e = cc
 
-  deed_needs : (plan : Plan) (t : ℕ) (s : Proc) (d : Deed) → need_of_deed plan t s d ≢ Stopped
+  sends_some : (plan : Plan) (t n c : ℕ) (v : ℤ) → need_of_send plan t n c v ≢ Stopped
+  sends_some plan t zero c v e = cc
+  sends_some plan t (suc n) c v e = cc
+
+  deed_needs : (plan : Plan) (t : ℕ) (s : Proc) (d : Deed) → need_of_deed p plan t s d ≢ Stopped
   deed_needs plan t s (set_local c v) e = cc
   deed_needs plan t s (set_shared c v) e = cc
   deed_needs plan t s (clear base len) e = cc
@@ -141,17 +156,21 @@ module _ (p : Program) where
   deed_needs plan t s (back value) e = cc
   deed_needs plan t s (take sem) e = cc
   deed_needs plan t s (give sem) e = cc
-  deed_needs plan t s (send chan value) e = cc
+  deed_needs plan t s (send chan value) e = sends_some plan t (capacity_of p chan) chan value e
   deed_needs plan t s (receive chan into) e = cc
   deed_needs plan t s (print v) e = cc
   deed_needs plan t s pass e = cc
   deed_needs plan t s finish e = cc
 
-  entry_needs : (plan : Plan) (t : ℕ) (s : Proc) (o : Option ℕ) (asked : Asked Deed) → need_by_entry plan t s o asked ≢ Stopped
+  entry_needs : (plan : Plan) (t : ℕ) (s : Proc) (o : Option ℕ) (asked : Asked Deed) → need_by_entry p plan t s o asked ≢ Stopped
   entry_needs plan t s (Some b) asked e = cc
   entry_needs plan t s None (Ok q) e = deed_needs plan t s q.0 e
   entry_needs plan t s None (Err (Wants c)) e = cc
   entry_needs plan t s None (Err (Traps x)) e = cc
+
+  offer_needs : (plan : Plan) (t : ℕ) (o : Option ℕ) (n : Need) → n ≢ Stopped → need_by_offer plan t o n ≢ Stopped
+  offer_needs plan t (Some c) n h e = cc
+  offer_needs plan t None n h e = h e
 
   paid_needs : (poor : Bool) (n : Need) → n ≢ Stopped → (if poor then Budget else n) ≢ Stopped
   paid_needs true n h e = cc
@@ -160,7 +179,8 @@ module _ (p : Program) where
   todo_needs : (plan : Plan) (s : Proc) (todo : List Todo) → EndsWithEnd p todo → need_of_running p plan todo s ≢ Stopped
   todo_needs plan s [] h e = absurd h
   todo_needs plan s (t ∷ ts) h e =
-      paid_needs (nat_lt s.budget (s.spent + cost plan (need_of_head p plan t s))) (need_of_head p plan t s) (entry_needs plan t.stmt s (entry_of p plan t) (head_deed p t s)) e
+      paid_needs (nat_lt s.budget (s.spent + cost plan (need_of_head p plan t s))) (need_of_head p plan t s)
+      (offer_needs plan t.stmt (offer_of p t) (need_by_entry p plan t.stmt s (entry_of p plan t) (head_deed p t s)) (entry_needs plan t.stmt s (entry_of p plan t) (head_deed p t s))) e
 
 -- ---- the start
 

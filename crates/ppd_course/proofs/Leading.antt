@@ -1,5 +1,5 @@
 -- Each step keeps a process on course, and leads it where its need says.
-use Rattle.std.proofs.Common.{◌≡◌, ℕ, ◌+◌, ℤ, Bool, true, false, nat_lt, List, [], ◌∷◌, length, Option, Some, None, Ok, Err, refl, sym, subst, ap, ◌∙◌, if◌then◌else◌}
+use Rattle.std.proofs.Common.{◌≡◌, ℕ, zero, suc, ◌+◌, ℤ, Bool, true, false, nat_lt, List, [], ◌∷◌, length, Option, Some, None, Ok, Err, refl, sym, subst, ap, ◌∙◌, if◌then◌else◌}
 use Rattle.ppd_ast.specs.declared.plan.BlockKind.TheVariants as block
 use Rattle.ppd_ast.specs.declared.plan.Plan.{Plan}
 use Rattle.ppd_ast.specs.declared.plan.Start.{Start}
@@ -16,14 +16,15 @@ use Rattle.ppd_sem.specs.declared.asking.Pause.TheVariants.{Wants, Traps}
 use Rattle.ppd_sem.specs.declared.proc.Answer.{Answer}
 use Rattle.ppd_sem.specs.declared.proc.Frame.{Frame}
 use Rattle.ppd_sem.specs.declared.proc.Need.{Need}
-use Rattle.ppd_sem.specs.declared.proc.Need.TheVariants.{Read, Write, Plain, Enter, Leave, Invoke, Back, P, V, Send, Recv, End, Trap, Budget, Stopped}
+use Rattle.ppd_sem.specs.declared.proc.Need.TheVariants.{Read, Write, Plain, Enter, Leave, Invoke, Back, P, V, Send, Offer, Done, Recv, End, Trap, Budget, Stopped}
 use Rattle.ppd_sem.specs.declared.proc.Proc.{Proc}
 use Rattle.ppd_sem.specs.declared.proc.Todo.{Todo}
 use Rattle.ppd_sem.specs.Asked.{Asked}
 use Rattle.ppd_sem.specs.Deed.{Deed, set_local, set_shared, clear, branch, turn, leave, invoke, back, take, give, send, receive, print, pass, finish}
-use Rattle.ppd_sem.specs.Process.{act, act_at, act_by_asked, act_by_need, call_unit, charged, clear_top, cost, entry_of, head_deed, kind_of as kind_at, loop_of, need_by_entry, need_of, need_of_asked, need_of_deed, need_of_head, need_of_leaving, returned, top_call, top_cells, value_of, within_budget, write_top}
+use Rattle.ppd_sem.proofs.Offers.{offer_there, send_stays}
+use Rattle.ppd_sem.specs.Process.{chan_of, need_by_offer, need_of_send, offer_of, act, act_at, act_by_asked, act_by_need, call_unit, charged, clear_top, cost, entry_of, head_deed, kind_of as kind_at, loop_of, need_by_entry, need_of, need_of_asked, need_of_deed, need_of_head, need_of_leaving, returned, top_call, top_cells, value_of, within_budget, write_top}
 use Rattle.ppd_sem.specs.Runs.{returns}
-use Rattle.ppd_sem.specs.Tables.{block_of, unit_of}
+use Rattle.ppd_sem.specs.Tables.{capacity_of, block_of, unit_of}
 use Rattle.ppd_sem.proofs.Progress.{act-stopped, need_at_status, need_at_todo}
 use Rattle.ppd_course.specs.Course.{IsBehind, IsOnCourse, IsWay, LeadsTo, ReturnsBehind, StartsBehind, behind, calls_left, calls_of, head_of}
 use Rattle.ppd_course.specs.Laws.{StaysOnCourse, StepsLead}
@@ -38,6 +39,8 @@ abbrev acts : Program → Plan → Answer → Todo → List Todo → Asked Deed 
 acts p plan a t ts asked Stopped s = s
 acts p plan a t ts asked Budget s = record s { status = Some status.Budget }
 acts p plan a t ts asked (Enter b u) s = charged plan (Enter b u) (record s { todo = record t { entered = true } ∷ ts })
+acts p plan a t ts asked (Offer c v) s = charged plan (Offer c v) (record s { todo = record t { offered = true } ∷ ts; answers = [] })
+acts p plan a t ts asked (Done c u) s = charged plan (Done c u) (record s { todo = ts; answers = [] })
 acts p plan a t ts asked (Trap x) s = charged plan (Trap x) (record s { status = Some (status.Trap x) })
 acts p plan a t ts asked need s = charged plan need (act_by_asked p a t ts asked s)
 
@@ -52,6 +55,8 @@ acts_is p plan a t ts (Back b u) s = refl
 acts_is p plan a t ts (P x u) s = refl
 acts_is p plan a t ts (V x u) s = refl
 acts_is p plan a t ts (Send c v u) s = refl
+acts_is p plan a t ts (Offer c v) s = refl
+acts_is p plan a t ts (Done c u) s = refl
 acts_is p plan a t ts (Recv c u) s = refl
 acts_is p plan a t ts (End b) s = refl
 acts_is p plan a t ts (Trap x) s = refl
@@ -127,9 +132,14 @@ module _ (p : Program) (plan : Plan) (v : IsValid p) (a : Answer) (t : Todo) (ts
         leads = record { function = f; goes = call_begins p plan v t ts f _ c.1.top; unit_is = refl };
       }
 
+  sending : (chan : ℕ) (x : ℤ) (n : ℕ) → returns k ≡ false → (left : List ℤ)
+      → Led p plan (need_of_send plan t.stmt n chan x) t.stmt s (acts p plan a t ts (Ok (send chan x, left)) (need_of_send plan t.stmt n chan x) s)
+  sending chan x zero e left = record { course = way; leads = record { head = t; rest = ts; before_is = is_todo; after_is = refl; stmt_is = refl } }
+  sending chan x (suc n) e left = record { course = rest_way e; leads = starts (start.After t.stmt) e }
+
   -- ---- each deed
 
-  by_deed : (d : Deed) (left : List ℤ) → entry_of p plan t ≡ None → DeedFits k d → Led p plan (need_of_deed plan t.stmt s d) t.stmt s (acts p plan a t ts (Ok (d, left)) (need_of_deed plan t.stmt s d) s)
+  by_deed : (d : Deed) (left : List ℤ) → entry_of p plan t ≡ None → DeedFits k d → Led p plan (need_of_deed p plan t.stmt s d) t.stmt s (acts p plan a t ts (Ok (d, left)) (need_of_deed p plan t.stmt s d) s)
   by_deed (set_local c x) left none l =
       record { course = with_calls (write_top c x s.frames) ts (calls_write c x s.frames) (rest_way l.stays); leads = local_on p plan v t ts l (behind_it l.stays) }
   by_deed (set_shared c x) left none l = record { course = rest_way l.stays; leads = local_on p plan v t ts l (behind_it l.stays) }
@@ -145,14 +155,14 @@ module _ (p : Program) (plan : Plan) (v : IsValid p) (a : Answer) (t : Todo) (ts
   by_deed (back value) left none e = record { course = back_way value e; leads = goes_back (top_call s.frames) (is_back e) }
   by_deed (take sem) left none e = record { course = rest_way e; leads = starts (start.After t.stmt) e }
   by_deed (give sem) left none e = record { course = rest_way e; leads = starts (start.After t.stmt) e }
-  by_deed (send chan x) left none e = record { course = rest_way e; leads = starts (start.After t.stmt) e }
+  by_deed (send chan x) left none e = sending chan x (capacity_of p chan) e left
   by_deed (receive chan into) left none e =
       record { course = with_calls (write_top into (value_of a) s.frames) ts (calls_write into (value_of a) s.frames) (rest_way e); leads = starts (start.After t.stmt) e }
   by_deed (print x) left none l = record { course = rest_way l.stays; leads = local_on p plan v t ts l (behind_it l.stays) }
   by_deed pass left none l = record { course = rest_way l.stays; leads = local_on p plan v t ts l (behind_it l.stays) }
   by_deed finish left none e = record { course = rest_way e; leads = refl }
 
-  by_asked : (asked : Asked Deed) → entry_of p plan t ≡ None → Fits k asked → Led p plan (need_of_asked plan t.stmt s asked) t.stmt s (acts p plan a t ts asked (need_of_asked plan t.stmt s asked) s)
+  by_asked : (asked : Asked Deed) → entry_of p plan t ≡ None → Fits k asked → Led p plan (need_of_asked p plan t.stmt s asked) t.stmt s (acts p plan a t ts asked (need_of_asked p plan t.stmt s asked) s)
   by_asked (Ok q) none fits = by_deed q.0 q.1 none fits
   by_asked (Err (Wants c)) none fits = record { course = on_course (acts p plan a t ts (Err (Wants c)) (Read c) s) is_todo refl; leads = refl }
   by_asked (Err (Traps x)) none fits = record { course = on_course (acts p plan a t ts (Err (Traps x)) (Trap x) s) is_todo refl; leads = refl }
@@ -173,13 +183,21 @@ module _ (p : Program) (plan : Plan) (v : IsValid p) (a : Answer) (t : Todo) (ts
       of_kind (K.While e body) h = h
       of_kind kind h = absurd (none_some h)
 
-  by_entry : (o : Option ℕ) (asked : Asked Deed) → entry_of p plan t ≡ o → Fits k asked → Led p plan (need_by_entry plan t.stmt s o asked) t.stmt s (acts p plan a t ts asked (need_by_entry plan t.stmt s o asked) s)
+  by_entry : (o : Option ℕ) (asked : Asked Deed) → entry_of p plan t ≡ o → Fits k asked → Led p plan (need_by_entry p plan t.stmt s o asked) t.stmt s (acts p plan a t ts asked (need_by_entry p plan t.stmt s o asked) s)
   by_entry None asked is fits = by_asked asked is fits
   by_entry (Some b) asked is fits =
       record {
         course = way;
         leads = record { head = t; rest = ts; before_is = is_todo; after_is = refl; stmt_is = refl; unmarked = entered_not b is; block_is = loop_block b is; unit_is = refl };
       }
+
+  by_offer : (o : Option ℕ) (n : Need) (asked : Asked Deed) → ((c : ℕ) → o ≡ Some c → returns k ≡ false) → Led p plan n t.stmt s (acts p plan a t ts asked n s)
+      → Led p plan (need_by_offer plan t.stmt o n) t.stmt s (acts p plan a t ts asked (need_by_offer plan t.stmt o n) s)
+  by_offer None n asked h led = led
+  by_offer (Some c) n asked h led = record { course = rest_way (h c refl); leads = starts (start.After t.stmt) (h c refl) }
+
+  offer_stays : (c : ℕ) → offer_of p t ≡ Some c → returns k ≡ false
+  offer_stays c is = subst (λ (kind : Kind). returns kind ≡ false) (same_kind p t.stmt) (send_stays (kind_at p t.stmt) c (offer_there t.offered (chan_of (kind_at p t.stmt)) c is))
 
   by_purse : (poor : Bool) (n : Need) (asked : Asked Deed) → Led p plan n t.stmt s (acts p plan a t ts asked n s) → Led p plan (if poor then Budget else n) t.stmt s (acts p plan a t ts asked (if poor then Budget else n) s)
   by_purse true n asked led = record { course = on_course (acts p plan a t ts asked Budget s) is_todo refl; leads = refl }
@@ -191,7 +209,8 @@ module _ (p : Program) (plan : Plan) (v : IsValid p) (a : Answer) (t : Todo) (ts
       let n : Need = need_of_head p plan t s in
       let fits : Fits k asked = subst (λ (kind : Kind). Fits kind asked) (same_kind p t.stmt) (deed_fits p.exprs (top_cells s.frames) s.answers (kind_at p t.stmt)) in
       subst (λ (after : Proc). Led p plan (within_budget plan s n) t.stmt s after) (acts_is p plan a t ts (within_budget plan s n) s)
-      (by_purse (nat_lt s.budget (s.spent + cost plan n)) n asked (by_entry (entry_of p plan t) asked refl fits))
+      (by_purse (nat_lt s.budget (s.spent + cost plan n)) n asked
+      (by_offer (offer_of p t) (need_by_entry p plan t.stmt s (entry_of p plan t) asked) asked offer_stays (by_entry (entry_of p plan t) asked refl fits)))
 
 -- ---- each step
 

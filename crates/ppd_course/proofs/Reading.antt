@@ -1,5 +1,5 @@
 -- A shared cell that a statement wants is one that its expressions may read.
-use Rattle.std.proofs.Common.{◌≡◌, ℕ, ◌+◌, ◌<◌, ◌≤◌, ℤ, pos, negsuc, neg_ℤ, Bool, true, false, nat_lt, List, [], ◌∷◌, length, Option, Some, None, Result, Ok, Err, refl, subst, arith, if◌then◌else◌}
+use Rattle.std.proofs.Common.{◌≡◌, ℕ, zero, suc, ◌+◌, ◌<◌, ◌≤◌, ℤ, pos, negsuc, neg_ℤ, Bool, true, false, nat_lt, List, [], ◌∷◌, length, Option, Some, None, Result, Ok, Err, refl, subst, arith, if◌then◌else◌}
 use Rattle.std.specs.Prelude.{IsTrue, not as negated, ⊤}
 use Rattle.std.specs.List.{range_with_len}
 use Rattle.std.proofs.lemmas.Bool.Decides.{nat_tests}
@@ -25,7 +25,8 @@ use Rattle.ppd_sem.specs.declared.proc.Todo.{Todo}
 use Rattle.ppd_sem.specs.Ask.{ask, calc, cell_of, checked, element, is_zero, truth}
 use Rattle.ppd_sem.specs.Asked.{Asked, and_then, gives, lift, read_shared}
 use Rattle.ppd_sem.specs.Deed.{Deed, set_local, set_shared, clear, branch, turn, leave, invoke, back, take, give, send, receive, print, pass, finish, ask_all, ask_deed, ask_stored}
-use Rattle.ppd_sem.specs.Process.{cost, entry_of, head_deed, kind_of as kind_at, need_by_entry, need_by_status, need_of_deed, need_of_head, need_of_leaving, need_of_running, top_cells}
+use Rattle.ppd_sem.specs.Tables.{capacity_of}
+use Rattle.ppd_sem.specs.Process.{need_by_offer, need_of_send, offer_of, cost, entry_of, head_deed, kind_of as kind_at, need_by_entry, need_by_status, need_of_deed, need_of_head, need_of_leaving, need_of_running, top_cells}
 use Rattle.ppd_sets.specs.Named.{cells_in, reads}
 use Rattle.ppd_course.specs.Course.{head_of}
 use Rattle.ppd_course.specs.Laws.{ReadsItsCells}
@@ -153,35 +154,44 @@ leaving : (W : ℕ → Type 0) (plan : Plan) (t : ℕ) (o : Option ℕ) → Read
 leaving W plan t None = tt
 leaving W plan t (Some b) = tt
 
-deed_need : (W : ℕ → Type 0) (plan : Plan) (t : ℕ) (s : Proc) (d : Deed) → ReadsSuch W (need_of_deed plan t s d)
-deed_need W plan t s (set_local c v) = tt
-deed_need W plan t s (set_shared c v) = tt
-deed_need W plan t s (clear base len) = tt
-deed_need W plan t s (branch stmts) = tt
-deed_need W plan t s (turn stmts) = tt
-deed_need W plan t s leave = leaving W plan t _
-deed_need W plan t s (invoke f values into) = if_reads W (nat_lt 64 (s.below + length s.frames)) (need.Trap trap.Depth) (need.Invoke _ _) tt tt
-deed_need W plan t s (back value) = tt
-deed_need W plan t s (take sem) = tt
-deed_need W plan t s (give sem) = tt
-deed_need W plan t s (send chan value) = tt
-deed_need W plan t s (receive chan into) = tt
-deed_need W plan t s (print v) = tt
-deed_need W plan t s pass = tt
-deed_need W plan t s finish = tt
+sending : (W : ℕ → Type 0) (plan : Plan) (t n c : ℕ) (v : ℤ) → ReadsSuch W (need_of_send plan t n c v)
+sending W plan t zero c v = tt
+sending W plan t (suc n) c v = tt
 
-entered_need : (W : ℕ → Type 0) (plan : Plan) (t : ℕ) (s : Proc) (o : Option ℕ) (asked : Asked Deed) → Gives W free asked → ReadsSuch W (need_by_entry plan t s o asked)
-entered_need W plan t s (Some b) asked h = tt
-entered_need W plan t s None (Ok q) h = deed_need W plan t s q.0
-entered_need W plan t s None (Err (Wants c)) h = h
-entered_need W plan t s None (Err (Traps x)) h = tt
+offered_need : (W : ℕ → Type 0) (plan : Plan) (t : ℕ) (o : Option ℕ) (n : Need) → ReadsSuch W n → ReadsSuch W (need_by_offer plan t o n)
+offered_need W plan t (Some c) n h = tt
+offered_need W plan t None n h = h
+
+deed_need : (W : ℕ → Type 0) (p : Program) (plan : Plan) (t : ℕ) (s : Proc) (d : Deed) → ReadsSuch W (need_of_deed p plan t s d)
+deed_need W p plan t s (set_local c v) = tt
+deed_need W p plan t s (set_shared c v) = tt
+deed_need W p plan t s (clear base len) = tt
+deed_need W p plan t s (branch stmts) = tt
+deed_need W p plan t s (turn stmts) = tt
+deed_need W p plan t s leave = leaving W plan t _
+deed_need W p plan t s (invoke f values into) = if_reads W (nat_lt 64 (s.below + length s.frames)) (need.Trap trap.Depth) (need.Invoke _ _) tt tt
+deed_need W p plan t s (back value) = tt
+deed_need W p plan t s (take sem) = tt
+deed_need W p plan t s (give sem) = tt
+deed_need W p plan t s (send chan value) = sending W plan t (capacity_of p chan) chan value
+deed_need W p plan t s (receive chan into) = tt
+deed_need W p plan t s (print v) = tt
+deed_need W p plan t s pass = tt
+deed_need W p plan t s finish = tt
+
+entered_need : (W : ℕ → Type 0) (p : Program) (plan : Plan) (t : ℕ) (s : Proc) (o : Option ℕ) (asked : Asked Deed) → Gives W free asked → ReadsSuch W (need_by_entry p plan t s o asked)
+entered_need W p plan t s (Some b) asked h = tt
+entered_need W p plan t s None (Ok q) h = deed_need W p plan t s q.0
+entered_need W p plan t s None (Err (Wants c)) h = h
+entered_need W p plan t s None (Err (Traps x)) h = tt
 
 head_need : (p : Program) (plan : Plan) (t : Todo) (s : Proc) → ReadsSuch (λ c. IsTrue (has (reads true p.exprs (kind_at p t.stmt)) c)) (need_of_head p plan t s)
 head_need p plan t s =
     let k : Kind = kind_at p t.stmt in
-    entered_need (λ c. IsTrue (has (reads true p.exprs k) c)) plan t.stmt s (entry_of p plan t) (head_deed p t s)
+    offered_need (λ c. IsTrue (has (reads true p.exprs k) c)) plan t.stmt (offer_of p t) (need_by_entry p plan t.stmt s (entry_of p plan t) (head_deed p t s))
+    (entered_need (λ c. IsTrue (has (reads true p.exprs k) c)) p plan t.stmt s (entry_of p plan t) (head_deed p t s)
     (deeds (λ c. IsTrue (has (reads true p.exprs k) c)) p.exprs (top_cells s.frames) s.answers k
-    (λ e u c h. flat_from (λ e. cells_in true (term p.exprs e)) (kind_uses k) e c u h))
+    (λ e u c h. flat_from (λ e. cells_in true (term p.exprs e)) (kind_uses k) e c u h)))
 
 running_need : (p : Program) (plan : Plan) (ts : List Todo) (s : Proc) (h : ℕ) → head_of ts ≡ Some h → ReadsSuch (λ c. IsTrue (has (reads true p.exprs (kind_at p h)) c)) (need_of_running p plan ts s)
 running_need p plan [] s h e = absurd (none_some e)

@@ -118,7 +118,7 @@ module _ (p : Program) (plan : Plan) (v : IsValid p) (t : Todo) (ts : List Todo)
         → (b : ℕ) → block_of plan (block.Loop u.stmt) ≡ Some b → u.entered ≡ stands_in p t.stmt u.stmt
     choice_begins [] c h u us same = marks_of t.stmt u us ts same h.marks
     choice_begins (x ∷ xs) c h u us same =
-        let one : (record { stmt = x; entered = false }) ≡ u = some_is (ap (λ l. slice_get l 0) same) in
+        let one : (record { stmt = x; entered = false; offered = false }) ≡ u = some_is (ap (λ l. slice_get l 0) same) in
         let no : stands_in p t.stmt x ≡ false = not_round (K.If e first second) x is_if (part (x ∷ xs) c x (has_first x xs)) in
         λ b is. subst (λ (z : Todo). z.entered ≡ stands_in p t.stmt z.stmt) one (sym no)
 
@@ -171,7 +171,7 @@ module _ (p : Program) (plan : Plan) (v : IsValid p) (t : Todo) (ts : List Todo)
         subst (λ (z : Todo). ((b : ℕ) → block_of plan (block.Loop z.stmt) ≡ Some b → z.entered ≡ stands_in p t.stmt z.stmt) × (stands_in p z.stmt t.stmt ≡ true)) one
         (λ b is. is_entered b is ∙ sym (in_itself p t.stmt), in_itself p t.stmt)
     turn_begins (x ∷ xs) c u us same =
-        let one : (record { stmt = x; entered = false }) ≡ u = some_is (ap (λ l. slice_get l 0) same) in
+        let one : (record { stmt = x; entered = false; offered = false }) ≡ u = some_is (ap (λ l. slice_get l 0) same) in
         let i : IsTrue (has body x) = subst (λ l. IsTrue (has l x)) (sym c) (has_first x xs) in
         let y = child (K.While e body) x is_while_of i in
         let no : stands_in p t.stmt x ≡ false = not_round (K.While e body) x is_while_of i in
@@ -220,7 +220,7 @@ module _ (p : Program) (plan : Plan) (v : IsValid p) (t : Todo) (ts : List Todo)
       where
         list : (xs : List ℕ) → AreOfFunction p n xs → BeginsList xs (todos xs ++ ts)
         list [] ends = absurd ends
-        list (x ∷ xs) ends = record { first = refl; unmarked = λ u us same. let one : (record { stmt = x; entered = false }) ≡ u = some_is (ap (λ l. slice_get l 0) same) in sym (ap (λ (z : Todo). z.entered) one) }
+        list (x ∷ xs) ends = record { first = refl; unmarked = λ u us same. let one : (record { stmt = x; entered = false; offered = false }) ≡ u = some_is (ap (λ l. slice_get l 0) same) in sym (ap (λ (z : Todo). z.entered) one) }
 
         by : (o : Option Body) → AreOfFunction p n (tops o) → BeginsList (top_of_body o) (todos (tops o) ++ ts)
         by None ends = absurd ends

@@ -31,8 +31,8 @@ module _ (p : Program) (plan : Plan) where
   behind_next x [] ts after head f apart marks = record { follows = head ∙ sym f; marks = marks }
   behind_next x (y ∷ ys) ts after head f apart marks = record { follows = sym f; marks = λ b is. sym apart }
 
-  stays_way : (calls : List (Option ℕ)) (x : ℕ) (e : Bool) (rest : List Todo) → returns (kind_of p x) ≡ false → IsBehind p plan (Some x) rest → IsWay p plan calls rest → IsWay p plan calls ((record { stmt = x; entered = e }) ∷ rest)
-  stays_way calls x e rest is h way = (
+  stays_way : (calls : List (Option ℕ)) (x : ℕ) (e o : Bool) (rest : List Todo) → returns (kind_of p x) ≡ false → IsBehind p plan (Some x) rest → IsWay p plan calls rest → IsWay p plan calls ((record { stmt = x; entered = e; offered = o }) ∷ rest)
+  stays_way calls x e o rest is h way = (
     subst (λ r. IsBehind p plan (behind r x calls) rest) (sym is) h,
     subst (λ r. IsWay p plan (calls_left r calls) rest) (sym is) way,
   )
@@ -42,7 +42,7 @@ module _ (p : Program) (plan : Plan) where
       → head_of ts ≡ after → ((x : ℕ) → IsTrue (has xs x) → IsMarkedBehind p plan (Some x) ts) → IsWay p plan calls ts → IsWay p plan calls (todos xs ++ ts)
   list_way calls [] ts after chain stays head marks way = way
   list_way calls (x ∷ xs) ts after chain stays head marks way =
-      stays_way calls x false (todos xs ++ ts) (stays x (has_first x xs)) (behind_next x xs ts after head chain.0 chain.1 (marks x (has_first x xs)))
+      stays_way calls x false false (todos xs ++ ts) (stays x (has_first x xs)) (behind_next x xs ts after head chain.0 chain.1 (marks x (has_first x xs)))
       (list_way calls xs ts after chain.2 (λ y h. stays y (has_later x y xs h)) head (λ y h. marks y (has_later x y xs h)) way)
 
   -- a function's outermost statements, in a new frame
@@ -52,6 +52,6 @@ module _ (p : Program) (plan : Plan) where
       let is : returns (kind_of p x) ≡ true = sym (ap returns (same_kind p x)) ∙ ends.1 in
       (subst (λ r. IsBehind p plan (behind r x (c ∷ calls)) ts) (sym is) h, subst (λ r. IsWay p plan (calls_left r (c ∷ calls)) ts) (sym is) way)
   function_way c calls n (x ∷ y ∷ xs) ts chain ends h way =
-      stays_way (c ∷ calls) x false (todos (y ∷ xs) ++ ts) (sym (ap returns (same_kind p x)) ∙ ends.0.stays)
+      stays_way (c ∷ calls) x false false (todos (y ∷ xs) ++ ts) (sym (ap returns (same_kind p x)) ∙ ends.0.stays)
       record { follows = sym chain.0; marks = λ b is. sym chain.1 }
       (function_way c calls n (y ∷ xs) ts chain.2 ends.1 h way)

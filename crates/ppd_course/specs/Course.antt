@@ -11,7 +11,7 @@ use Rattle.ppd_cfg.specs.Flow.{follow, kind_of, next_of, top_of}
 use Rattle.ppd_cfg.specs.Lists.{first_or, has}
 use Rattle.ppd_sem.specs.declared.proc.Frame.{Frame}
 use Rattle.ppd_sem.specs.declared.proc.Need.{Need}
-use Rattle.ppd_sem.specs.declared.proc.Need.TheVariants.{Read, Write, Plain, Enter, Leave, Invoke, Back, P, V, Send, Recv, End, Trap, Budget, Stopped}
+use Rattle.ppd_sem.specs.declared.proc.Need.TheVariants.{Read, Write, Plain, Enter, Leave, Invoke, Back, P, V, Send, Offer, Done, Recv, End, Trap, Budget, Stopped}
 use Rattle.ppd_sem.specs.declared.proc.Proc.{Proc}
 use Rattle.ppd_sem.specs.declared.proc.Todo.{Todo}
 use Rattle.ppd_sem.specs.Runs.{returns}
@@ -103,6 +103,14 @@ pub record EntersLoop (plan : Plan) (s b u : ℕ) (before after : List Todo) : T
   pub block_is : block_of plan (Loop s) ≡ Some b
   pub unit_is : u ≡ unit_of plan (EntersAt s)
 
+-- the step offers what the send s sends, which stays the head: no unit starts
+pub record OffersSend (s : ℕ) (before after : List Todo) : Type 0 where
+  pub head : Todo
+  pub rest : List Todo
+  pub before_is : before ≡ head ∷ rest
+  pub after_is : after ≡ (record head { offered = true }) ∷ rest
+  pub stmt_is : head.stmt ≡ s
+
 -- the process goes on behind statement s, where unit u starts, by this start
 pub record StartsBehind (program : Program) (plan : Plan) (s : ℕ) (start : Start) (u : ℕ) (todo : List Todo) : Type 0 where
   pub goes : IsBehind program plan (Some s) todo
@@ -133,6 +141,8 @@ LeadsTo program plan (Back b unit) s call before after = ReturnsBehind program p
 LeadsTo program plan (P sem u) s call before after = StartsBehind program plan s (After s) u after.todo
 LeadsTo program plan (V sem u) s call before after = StartsBehind program plan s (After s) u after.todo
 LeadsTo program plan (Send chan v u) s call before after = StartsBehind program plan s (After s) u after.todo
+LeadsTo program plan (Offer chan v) s call before after = OffersSend s before.todo after.todo
+LeadsTo program plan (Done chan u) s call before after = StartsBehind program plan s (After s) u after.todo
 LeadsTo program plan (Recv chan u) s call before after = StartsBehind program plan s (After s) u after.todo
 LeadsTo program plan (End b) s call before after = IsSome after.status
 LeadsTo program plan (Trap t) s call before after = IsSome after.status

@@ -14,7 +14,7 @@ use Rattle.ppd_ast.specs.declared.status.Trap.{Trap as TrapOf}
 use Rattle.ppd_entry.specs.IntervalLogs.{IntervalLog}
 use Rattle.ppd_entry.specs.Pieces.{Piece, unit, sync, nested, unfinished, postlog, finish}
 use Rattle.ppd_sem.specs.declared.proc.Need.{Need}
-use Rattle.ppd_sem.specs.declared.proc.Need.TheVariants.{Read, Write, Plain, Enter, Leave, Invoke, Back, P, V, Send, Recv, End, Trap, Budget, Stopped}
+use Rattle.ppd_sem.specs.declared.proc.Need.TheVariants.{Read, Write, Plain, Enter, Leave, Invoke, Back, P, V, Send, Offer, Done, Recv, End, Trap, Budget, Stopped}
 use Rattle.ppd_sem.specs.declared.proc.Proc.{Proc}
 use Rattle.ppd_emul.specs.Blocks.{block_unit, skipped, unit_past}
 use Rattle.ppd_sem.specs.Described.{trap_of}
@@ -49,6 +49,7 @@ kind_self sync_kind.P = refl
 kind_self sync_kind.V = refl
 kind_self sync_kind.Send = refl
 kind_self sync_kind.Recv = refl
+kind_self sync_kind.Done = refl
 
 -- any end
 abbrev IsEnd : Wanted → Type 0
@@ -101,6 +102,8 @@ module _ (program : Program) (plan : Plan) where
   ends_trap s (P o u) w e = trap_by _ w e (λ z. z)
   ends_trap s (V o u) w e = trap_by _ w e (λ z. z)
   ends_trap s (Send c v u) w e = trap_by _ w e (λ z. z)
+  ends_trap s (Offer c v) w e = trap_by _ w e (λ z. z)
+  ends_trap s (Done c u) w e = trap_by _ w e (λ z. z)
   ends_trap s (Recv c u) w e = trap_by _ w e (λ z. z)
   ends_trap s (End b) w e = trap_by _ w e (λ z. z)
   ends_trap s (Trap t) w e = trap_by (wanted.End (status.Trap t)) w e (λ z. z)
@@ -162,6 +165,8 @@ module _ (program : Program) (plan : Plan) where
   without_clear (P o u) r = plain_clear (P o u) r
   without_clear (V o u) r = plain_clear (V o u) r
   without_clear (Send c v u) r = plain_clear (Send c v u) r
+  without_clear (Offer c v) r = plain_clear (Offer c v) r
+  without_clear (Done c u) r = plain_clear (Done c u) r
   without_clear (Recv c u) r = plain_clear (Recv c u) r
   without_clear (End b) r = plain_clear (End b) r
   without_clear (Trap t) r = plain_clear (Trap t) r

@@ -11,7 +11,7 @@ use Rattle.ppd_entry.specs.Pieces.{Piece, unit, sync, nested, unfinished, postlo
 use Rattle.ppd_sem.specs.declared.proc.Answer.{Answer}
 use Rattle.ppd_sem.specs.declared.proc.Answer.TheVariants.{Value, Go}
 use Rattle.ppd_sem.specs.declared.proc.Need.{Need}
-use Rattle.ppd_sem.specs.declared.proc.Need.TheVariants.{Read, Write, Plain, Enter, Leave, Invoke, Back, P, V, Send, Recv, End, Trap, Budget, Stopped}
+use Rattle.ppd_sem.specs.declared.proc.Need.TheVariants.{Read, Write, Plain, Enter, Leave, Invoke, Back, P, V, Send, Offer, Done, Recv, End, Trap, Budget, Stopped}
 use Rattle.ppd_sem.specs.declared.proc.Proc.{Proc}
 use Rattle.ppd_sem.specs.declared.proc.Todo.{Todo}
 use Rattle.ppd_emul.specs.Blocks.{block_unit, skipped, unit_past}
@@ -53,6 +53,8 @@ module _ (program : Program) (plan : Plan) where
   need_pays a t ts (P o u) s x y = asked_pays a t ts (P o u) s
   need_pays a t ts (V o u) s x y = asked_pays a t ts (V o u) s
   need_pays a t ts (Send c v u) s x y = asked_pays a t ts (Send c v u) s
+  need_pays a t ts (Offer c v) s x y = record { budget = refl; spent = refl; steps = refl }
+  need_pays a t ts (Done c u) s x y = record { budget = refl; spent = refl; steps = refl }
   need_pays a t ts (Recv c u) s x y = asked_pays a t ts (Recv c u) s
   need_pays a t ts (End b) s x y = asked_pays a t ts (End b) s
   need_pays a t ts (Trap o) s x y = record { budget = refl; spent = refl; steps = refl }
@@ -98,6 +100,8 @@ module _ (program : Program) (plan : Plan) where
   call_same (P o u) r = record { proc = refl; steps = refl }
   call_same (V o u) r = record { proc = refl; steps = refl }
   call_same (Send c v u) r = record { proc = refl; steps = refl }
+  call_same (Offer c v) r = record { proc = refl; steps = refl }
+  call_same (Done c u) r = record { proc = refl; steps = refl }
   call_same (Recv c u) r = record { proc = refl; steps = refl }
   call_same (End b) r = record { proc = refl; steps = refl }
   call_same (Trap o) r = record { proc = refl; steps = refl }
@@ -207,6 +211,8 @@ module _ (program : Program) (plan : Plan) where
   without_goes (P o u) r is y = plain_goes (P o u) r is (λ e. cc) y
   without_goes (V o u) r is y = plain_goes (V o u) r is (λ e. cc) y
   without_goes (Send c v u) r is y = plain_goes (Send c v u) r is (λ e. cc) y
+  without_goes (Offer c v) r is y = plain_goes (Offer c v) r is (λ e. cc) y
+  without_goes (Done c u) r is y = plain_goes (Done c u) r is (λ e. cc) y
   without_goes (Recv c u) r is y = plain_goes (Recv c u) r is (λ e. cc) y
   without_goes (End b) r is y = plain_goes (End b) r is (λ e. cc) y
   without_goes (Trap o) r is y = plain_goes (Trap o) r is (λ e. cc) y

@@ -1,5 +1,5 @@
 -- A process state that begins at a block, and one that goes past a block without running it.
-use Rattle.std.specs.Prelude.{ℕ, ℤ, true, List, [], ◌∷◌, drop, slice_set, slice_get, Option, Some, None}
+use Rattle.std.specs.Prelude.{ℕ, ℤ, true, false, List, [], ◌∷◌, drop, slice_set, slice_get, Option, Some, None}
 use Rattle.ppd_entry.specs.Blocks.{block_kind, prelog_cells, postlog_cells}
 use Rattle.ppd_ast.specs.declared.plan.BlockKind.{BlockKind}
 use Rattle.ppd_ast.specs.declared.plan.BlockKind.TheVariants as block
@@ -35,7 +35,7 @@ block_body program (block.Loop s) = body_in (slice_get program.stmts s)
 
 -- what is to do in the block: its body's statements, or the loop, which is entered
 abbrev pub block_todo : Program → BlockKind → List Todo
-block_todo program (block.Loop s) = record { stmt = s; entered = true } ∷ []
+block_todo program (block.Loop s) = record { stmt = s; entered = true; offered = false } ∷ []
 block_todo program kind = todos (top_of (slice_get program.bodies (block_body program kind)))
 
 -- the unit of the block's own start

@@ -11,7 +11,7 @@ use Rattle.ppd_ast.specs.declared.status.Trap.{Trap as TrapOf}
 use Rattle.ppd_ast.specs.declared.status.Trap.TheVariants as trap
 use Rattle.ppd_entry.specs.Pieces.{Piece, unit, sync, nested, unfinished, postlog, finish}
 use Rattle.ppd_sem.specs.declared.proc.Need.{Need}
-use Rattle.ppd_sem.specs.declared.proc.Need.TheVariants.{Enter, Invoke, P, V, Send, Recv, Trap}
+use Rattle.ppd_sem.specs.declared.proc.Need.TheVariants.{Enter, Invoke, P, V, Send, Offer, Done, Recv, Trap}
 use Rattle.ppd_sem.specs.declared.proc.Proc.{Proc}
 use Rattle.ppd_model.specs.Marks.{Mark, closed}
 use Rattle.ppd_emul.specs.declared.wanted.Found.{Found}
@@ -48,6 +48,8 @@ abbrev pub wanted_of : Program → Plan → Proc → Need → Option Wanted
 wanted_of program plan s (P o u) = Some (wanted.Sync sync_kind.P o (pos 0))
 wanted_of program plan s (V o u) = Some (wanted.Sync sync_kind.V o (pos 0))
 wanted_of program plan s (Send o v u) = Some (wanted.Sync sync_kind.Send o v)
+wanted_of program plan s (Offer o v) = Some (wanted.Sync sync_kind.Send o v)
+wanted_of program plan s (Done o u) = Some (wanted.Sync sync_kind.Done o (pos 0))
 wanted_of program plan s (Recv o u) = Some (wanted.Sync sync_kind.Recv o (pos 0))
 wanted_of program plan s (Enter b u) = nested_wanted (Some b)
 wanted_of program plan s (Invoke b u) = nested_wanted b
@@ -62,6 +64,7 @@ same_kind sync_kind.P sync_kind.P = true
 same_kind sync_kind.V sync_kind.V = true
 same_kind sync_kind.Send sync_kind.Send = true
 same_kind sync_kind.Recv sync_kind.Recv = true
+same_kind sync_kind.Done sync_kind.Done = true
 same_kind a b = false
 
 -- the traps are one

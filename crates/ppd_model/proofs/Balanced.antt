@@ -7,10 +7,10 @@ use Rattle.ppd_ast.specs.declared.program.Chan.{Chan}
 use Rattle.ppd_ast.specs.declared.program.Program.{Program}
 use Rattle.ppd_ast.specs.declared.program.Sem.{Sem}
 use Rattle.ppd_sem.specs.declared.proc.Need.{Need}
-use Rattle.ppd_sem.specs.declared.proc.Need.TheVariants.{Write, P, V, Send, Recv}
+use Rattle.ppd_sem.specs.declared.proc.Need.TheVariants.{Write, P, V, Send, Offer, Done, Recv}
 use Rattle.ppd_model.specs.Bounds.{AreEach, CountsAreBalanced, IsBalanced, IsBalancedChan, IsBalancedSem}
 use Rattle.ppd_model.specs.Schedule.{run_from, started_world}
-use Rattle.ppd_model.specs.World.{World, Channel, Counts, can, can_receive, can_send, can_take, change, effect, need, step}
+use Rattle.ppd_model.specs.World.{World, Channel, Counts, can, can_complete, can_receive, can_send, can_take, change, effect, need, room, room_of, step}
 use Rattle.ppd_model.proofs.Bounded.{Goes, goes}
 use Rattle.ppd_model.proofs.Changes.{some}
 
@@ -34,16 +34,38 @@ given s x b =
 
 sent : (c : Chan) (x : Channel) (v : ℤ) → can_send (Some x) ≡ true → IsBalancedChan c x → IsBalancedChan c (record x { sent = x.sent ++ v ∷ [] })
 sent c x v e b =
-    let less : length x.sent < x.received + x.capacity = grind (arith, nat_tests) in
+    let less : length x.sent < room x = grind (arith, nat_tests) in
     let within : x.received ≤ length x.sent = b.received in
     let more : length (x.sent ++ v ∷ []) ≡ length x.sent + 1 = length-append x.sent (v ∷ []) in
-    record { capacity = b.capacity; received = omega arith; sent = omega arith }
+    let same : room (record x { sent = x.sent ++ v ∷ [] }) ≡ room x = same_room x.capacity in
+    record { capacity = b.capacity; completed = b.completed; received = omega arith; sent = omega arith }
+  where
+    same_room : (n : ℕ) → room_of n (record x { sent = x.sent ++ v ∷ [] }) ≡ room_of n x
+    same_room zero = refl
+    same_room (suc n) = refl
 
 received : (c : Chan) (x : Channel) → can_receive (Some x) ≡ true → IsBalancedChan c x → IsBalancedChan c (record x { received = x.received + 1 })
 received c x e b =
     let less : x.received < length x.sent = grind (arith, nat_tests) in
-    let within : length x.sent ≤ x.received + x.capacity = b.sent in
-    record { capacity = b.capacity; received = omega arith; sent = omega arith }
+    let within : length x.sent ≤ room x = b.sent in
+    let below : x.completed ≤ x.received = b.completed in
+    let more : room x ≤ room (record x { received = x.received + 1 }) = more_room x.capacity in
+    record { capacity = b.capacity; completed = omega arith; received = omega arith; sent = omega arith }
+  where
+    more_room : (n : ℕ) → room_of n x ≤ room_of n (record x { received = x.received + 1 })
+    more_room zero = omega arith
+    more_room (suc n) = omega arith
+
+completed : (c : Chan) (x : Channel) → can_complete (Some x) ≡ true → IsBalancedChan c x → IsBalancedChan c (record x { completed = x.completed + 1 })
+completed c x e b =
+    let less : x.completed < x.received = grind (arith, nat_tests) in
+    let within : length x.sent ≤ room x = b.sent in
+    let more : room x ≤ room (record x { completed = x.completed + 1 }) = more_room x.capacity in
+    record { capacity = b.capacity; completed = omega arith; received = b.received; sent = omega arith }
+  where
+    more_room : (n : ℕ) → room_of n x ≤ room_of n (record x { completed = x.completed + 1 })
+    more_room zero = omega arith
+    more_room (suc n) = omega arith
 
 pub effect_balanced : (program : Program) (w : World) (n : Need) → can w n ≡ true → IsBalanced program w → IsBalanced program (effect w n)
 effect_balanced program w (P s u) e b = record {
@@ -57,6 +79,14 @@ effect_balanced program w (V s u) e b = record {
 effect_balanced program w (Send c v u) e b = record {
   sems = b.sems;
   chans = each_change IsBalancedChan (λ x. record x { sent = x.sent ++ v ∷ [] }) c program.chans w.chans (λ x y is h. sent x y v (sym (ap can_send is) ∙ e) h) b.chans;
+}
+effect_balanced program w (Offer c v) e b = record {
+  sems = b.sems;
+  chans = each_change IsBalancedChan (λ x. record x { sent = x.sent ++ v ∷ [] }) c program.chans w.chans (λ x y is h. sent x y v (sym (ap can_send is) ∙ e) h) b.chans;
+}
+effect_balanced program w (Done c u) e b = record {
+  sems = b.sems;
+  chans = each_change IsBalancedChan (λ x. record x { completed = x.completed + 1 }) c program.chans w.chans (λ x y is h. completed x y (sym (ap can_complete is) ∙ e) h) b.chans;
 }
 effect_balanced program w (Recv c u) e b = record {
   sems = b.sems;
@@ -74,9 +104,13 @@ started_sems : (sems : List Sem) → AreEach IsBalancedSem sems (map (λ s. reco
 started_sems [] = tt
 started_sems (s ∷ ss) = (record { first = omega arith; taken = omega arith }, started_sems ss)
 
-started_chans : (chans : List Chan) → AreEach IsBalancedChan chans (map (λ c. record { capacity = c.capacity; sent = []; received = 0 }) chans)
+started_chans : (chans : List Chan) → AreEach IsBalancedChan chans (map (λ c. record { capacity = c.capacity; sent = []; received = 0; completed = 0 }) chans)
 started_chans [] = tt
-started_chans (c ∷ cs) = (record { capacity = refl; received = omega arith; sent = omega arith }, started_chans cs)
+started_chans (c ∷ cs) = (record { capacity = refl; completed = omega arith; received = omega arith; sent = empty c.capacity }, started_chans cs)
+  where
+    empty : (n : ℕ) → 0 ≤ room_of n (record { capacity = c.capacity; sent = []; received = 0; completed = 0 })
+    empty zero = omega arith
+    empty (suc n) = omega arith
 
 pub started_balanced : (program : Program) (plan : Plan) (budget : ℕ) → IsBalanced program (started_world program plan budget)
 started_balanced program plan budget = record { sems = started_sems program.sems; chans = started_chans program.chans }

@@ -3,7 +3,7 @@ use Rattle.std.proofs.Common.{◌≡◌, ℕ, zero, suc, ◌+◌, true, false, n
 use Rattle.std.specs.Prelude.{slice_get, slice_set}
 use Rattle.std.proofs.lemmas.Bool.Decides.{nat_tests}
 use Rattle.ppd_sem.specs.declared.proc.Need.{Need}
-use Rattle.ppd_sem.specs.declared.proc.Need.TheVariants.{Write, P, V, Send, Recv}
+use Rattle.ppd_sem.specs.declared.proc.Need.TheVariants.{Write, P, V, Send, Offer, Done, Recv}
 use Rattle.ppd_sem.specs.Process.{act}
 use Rattle.ppd_model.specs.Bounds.{StepsChangeTheirOwn, names_chan, names_sem, writes_cell}
 use Rattle.ppd_model.specs.World.{World, answer, effect, need}
@@ -24,6 +24,8 @@ cells w (Write d v) c e = set-else w.shared d c v (other d c e)
 cells w (P s u) c e = refl
 cells w (V s u) c e = refl
 cells w (Send o v u) c e = refl
+cells w (Offer o v) c e = refl
+cells w (Done o u) c e = refl
 cells w (Recv o u) c e = refl
 cells w n c e = refl
 
@@ -32,6 +34,8 @@ sems w (Write d v) s e = refl
 sems w (P o u) s e = change-else (λ x. record x { taken = x.taken + 1 }) o s w.sems (other o s e)
 sems w (V o u) s e = change-else (λ x. record x { given = x.given + 1 }) o s w.sems (other o s e)
 sems w (Send o v u) s e = refl
+sems w (Offer o v) s e = refl
+sems w (Done o u) s e = refl
 sems w (Recv o u) s e = refl
 sems w n s e = refl
 
@@ -40,6 +44,8 @@ chans w (Write d v) c e = refl
 chans w (P o u) c e = refl
 chans w (V o u) c e = refl
 chans w (Send o v u) c e = change-else (λ x. record x { sent = x.sent ++ v ∷ [] }) o c w.chans (other o c e)
+chans w (Offer o v) c e = change-else (λ x. record x { sent = x.sent ++ v ∷ [] }) o c w.chans (other o c e)
+chans w (Done o u) c e = change-else (λ x. record x { completed = x.completed + 1 }) o c w.chans (other o c e)
 chans w (Recv o u) c e = change-else (λ x. record x { received = x.received + 1 }) o c w.chans (other o c e)
 chans w n c e = refl
 

@@ -24,15 +24,15 @@ use Rattle.ppd_sem.specs.declared.asking.Pause.TheVariants.{Wants, Traps}
 use Rattle.ppd_sem.specs.declared.proc.Answer.{Answer}
 use Rattle.ppd_sem.specs.declared.proc.Frame.{Frame}
 use Rattle.ppd_sem.specs.declared.proc.Need.{Need}
-use Rattle.ppd_sem.specs.declared.proc.Need.TheVariants.{Read, Write, Plain, Enter, Leave, Invoke, Back, P, V, Send, Recv, End, Trap, Budget, Stopped}
+use Rattle.ppd_sem.specs.declared.proc.Need.TheVariants.{Read, Write, Plain, Enter, Leave, Invoke, Back, P, V, Send, Offer, Done, Recv, End, Trap, Budget, Stopped}
 use Rattle.ppd_sem.specs.declared.proc.Proc.{Proc}
 use Rattle.ppd_sem.specs.declared.proc.Todo.{Todo}
 use Rattle.ppd_sem.specs.Ask.{cell_of}
 use Rattle.ppd_sem.specs.Asked.{Asked, outcome}
 use Rattle.ppd_sem.specs.Deed.{Deed, set_local, set_shared, clear, branch, turn, leave, invoke, back, take, give, send, receive, print, pass, finish}
 use Rattle.ppd_sem.specs.Passed.{arguments_at, arguments_by, arguments_of_head, result_at, result_by, result_of_head}
-use Rattle.ppd_sem.specs.Process.{act, act_at, act_by_asked, act_by_need, charged, cost, entry_of, head_deed, kind_of, need_by_entry, need_by_status, need_of, need_of_asked, need_of_head, need_of_leaving, need_of_running, top_body, top_cells, values_of}
-use Rattle.ppd_sem.specs.Tables.{block_of, length_of, postlog_length, prelog_length, returned_length, same_block, unit_length, unit_of}
+use Rattle.ppd_sem.specs.Process.{act, act_at, act_by_asked, act_by_need, charged, cost, entry_of, head_deed, kind_of, need_by_entry, need_by_offer, need_by_status, need_of, need_of_asked, need_of_head, need_of_leaving, need_of_running, need_of_send, offer_of, top_body, top_cells, values_of}
+use Rattle.ppd_sem.specs.Tables.{block_of, capacity_of, length_of, postlog_length, prelog_length, returned_length, same_block, unit_length, unit_of}
 use Rattle.ppd_sem.proofs.Paid.{need-paid}
 use Rattle.ppd_sem.proofs.Progress.{IsWithinBudget, SamePurse, act-stopped, act-within, asked_purse, need_at_status, need_at_todo}
 use Rattle.ppd_model.specs.Costs.{CostsWhatItWrites, HasSpentNothing, HasWholePrelogs, IsWholeBlock, LogsArePaid, StartsAreFree, StepsCostWhatTheyWrite, values_in}
@@ -185,7 +185,11 @@ module _ (program : Program) (plan : Plan) (valid : IsValidPlan program plan) (w
   told_leaving t None = tt
   told_leaving t (Some b) = tt
 
-  told_asked : (t : Todo) (ts : List Todo) (asked : Asked Deed) → s.todo ≡ t ∷ ts → head_deed program t s ≡ asked → AskedOf program (top_body s.frames) (kind_of program t.stmt) asked → Tells program plan s (need_of_asked plan t.stmt s asked)
+  told_send : (t n c : ℕ) (v : ℤ) → Tells program plan s (need_of_send plan t n c v)
+  told_send t zero c v = tt
+  told_send t (suc n) c v = tt
+
+  told_asked : (t : Todo) (ts : List Todo) (asked : Asked Deed) → s.todo ≡ t ∷ ts → head_deed program t s ≡ asked → AskedOf program (top_body s.frames) (kind_of program t.stmt) asked → Tells program plan s (need_of_asked program plan t.stmt s asked)
   told_asked t ts (Err (Wants c)) is e h = tt
   told_asked t ts (Err (Traps x)) is e h = tt
   told_asked t ts (Ok (set_local c v, left)) is e h = tt
@@ -203,21 +207,25 @@ module _ (program : Program) (plan : Plan) (valid : IsValidPlan program plan) (w
       (ap (λ todo. option_to_list (result_of_head program s (slice_get todo 0))) is ∙ ap (λ x. option_to_list (result_by (outcome x))) e) h.1
   told_asked t ts (Ok (take x, left)) is e h = tt
   told_asked t ts (Ok (give x, left)) is e h = tt
-  told_asked t ts (Ok (send x v, left)) is e h = tt
+  told_asked t ts (Ok (send x v, left)) is e h = told_send t.stmt (capacity_of program x) x v
   told_asked t ts (Ok (receive x into, left)) is e h = tt
   told_asked t ts (Ok (print v, left)) is e h = tt
   told_asked t ts (Ok (pass, left)) is e h = tt
   told_asked t ts (Ok (finish, left)) is e h = tt
 
-  told_entry : (t : Todo) (ts : List Todo) (o : Option ℕ) → s.todo ≡ t ∷ ts → AskedOf program (top_body s.frames) (kind_of program t.stmt) (head_deed program t s) → Tells program plan s (need_by_entry plan t.stmt s o (head_deed program t s))
+  told_entry : (t : Todo) (ts : List Todo) (o : Option ℕ) → s.todo ≡ t ∷ ts → AskedOf program (top_body s.frames) (kind_of program t.stmt) (head_deed program t s) → Tells program plan s (need_by_entry program plan t.stmt s o (head_deed program t s))
   told_entry t ts None is h = told_asked t ts (head_deed program t s) is refl h
   told_entry t ts (Some b) is h = tt
+
+  told_offer : (t : ℕ) (o : Option ℕ) (n : Need) → Tells program plan s n → Tells program plan s (need_by_offer plan t o n)
+  told_offer t None n h = h
+  told_offer t (Some c) n h = tt
 
   told_todo : (todo : List Todo) → s.todo ≡ todo → IsHome program s → IsValid program → Tells program plan s (need_of_running program plan todo s)
   told_todo [] is home v = tt
   told_todo (t ∷ ts) is home v =
-      told_depth _ Budget (need_of_head program plan t s) tt (told_entry t ts (entry_of program plan t) is
-      (subst (λ b. AskedOf program b (kind_of program t.stmt) (head_deed program t s)) (head_home program s.frames t ts (subst (λ l. AreHome program (bodies_of s.frames) l) is home)) (head_of program t s v)))
+      told_depth _ Budget (need_of_head program plan t s) tt (told_offer t.stmt (offer_of program t) _ (told_entry t ts (entry_of program plan t) is
+      (subst (λ b. AskedOf program b (kind_of program t.stmt) (head_deed program t s)) (head_home program s.frames t ts (subst (λ l. AreHome program (bodies_of s.frames) l) is home)) (head_of program t s v))))
 
   told_status : (o : Option Status) → IsHome program s → IsValid program → Tells program plan s (need_by_status program plan o s)
   told_status (Some x) home v = tt
@@ -272,6 +280,8 @@ module _ (program : Program) (plan : Plan) (shared : List ℤ) (s : Proc) where
   counted (P x u) h = omega (arith, unit_values u)
   counted (V x u) h = omega (arith, unit_values u)
   counted (Send x v u) h = omega (arith, unit_values u)
+  counted (Offer x v) h = refl
+  counted (Done x u) h = omega (arith, unit_values u)
   counted (Recv x u) h = omega (arith, unit_values u)
   counted (End b) h = refl
   counted (Read c) h = refl
@@ -298,6 +308,8 @@ charged_spends plan n s t same = record { spent = ap (λ x. x + cost plan n) sam
 
 spends_by : (program : Program) (plan : Plan) (a : Answer) (t : Todo) (ts : List Todo) (n : Need) (s : Proc) → n ≢ Stopped → n ≢ Budget → Spends plan n s (act_by_need program plan a t ts n s)
 spends_by program plan a t ts (Enter b u) s r d = record { spent = refl; steps = refl }
+spends_by program plan a t ts (Offer c v) s r d = record { spent = refl; steps = refl }
+spends_by program plan a t ts (Done c u) s r d = record { spent = refl; steps = refl }
 spends_by program plan a t ts (Trap x) s r d = record { spent = refl; steps = refl }
 spends_by program plan a t ts Budget s r d = absurd (d refl)
 spends_by program plan a t ts Stopped s r d = absurd (r refl)

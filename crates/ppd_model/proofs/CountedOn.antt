@@ -4,7 +4,7 @@ use Rattle.std.specs.Prelude.{slice_get}
 use Rattle.std.proofs.lemmas.Bool.{cases_lt, cases_eq}
 use Rattle.std.proofs.lemmas.Option.{none-some}
 use Rattle.ppd_ast.specs.declared.status.SyncKind.{SyncKind}
-use Rattle.ppd_ast.specs.declared.status.SyncKind.TheVariants.{P, V, Send, Recv}
+use Rattle.ppd_ast.specs.declared.status.SyncKind.TheVariants.{P, V, Send, Recv, Done}
 use Rattle.ppd_model.specs.declared.graph.NodeId.{NodeId}
 use Rattle.ppd_model.specs.Synchronizations.{Sync}
 use Rattle.ppd_model.specs.HappenedBefore.{node, sync_at}
@@ -24,12 +24,14 @@ code P = 0
 code V = 1
 code Send = 2
 code Recv = 3
+code Done = 4
 
 decode : ℕ → SyncKind
 decode zero = P
 decode (suc zero) = V
 decode (suc (suc zero)) = Send
-decode (suc (suc (suc n))) = Recv
+decode (suc (suc (suc zero))) = Recv
+decode (suc (suc (suc (suc n)))) = Done
 
 decoded : (k : SyncKind) → k ≡ decode (code k)
 unfolding code decode
@@ -37,6 +39,7 @@ decoded P = refl
 decoded V = refl
 decoded Send = refl
 decoded Recv = refl
+decoded Done = refl
 
 cases_kind : (a b : SyncKind) → (a ≡ b) ⊎ (a ≡ b → ⊥)
 cases_kind a b = elim (cases_eq (code a) (code b)) [

@@ -7,7 +7,7 @@ use Rattle.ppd_sem.specs.declared.proc.Need.{Need}
 use Rattle.ppd_sem.specs.declared.proc.Need.TheVariants as n
 use Rattle.ppd_model.specs.World.{World, Counts, Channel, change, effect}
 use Rattle.ppd_ast.specs.declared.status.SyncKind.{SyncKind}
-use Rattle.ppd_ast.specs.declared.status.SyncKind.TheVariants.{P, V, Send, Recv}
+use Rattle.ppd_ast.specs.declared.status.SyncKind.TheVariants.{P, V, Send, Recv, Done}
 use Rattle.ppd_model.specs.Story.{number_after, number_of}
 use Rattle.ppd_model.specs.Synchronizations.{Sync, kind_of_sync, numbered}
 use Rattle.ppd_model.specs.Numbers.{count_of, count_in}
@@ -55,6 +55,7 @@ counting_P w o u k e = record {
     others V o' d = as_before (λ (x : Counts). x.given) (λ x. record x { taken = x.taken + 1 }) w.sems o o' (λ e x. refl)
     others Send o' d = refl
     others Recv o' d = refl
+    others Done o' d = refl
 
 counting_V : (w : World) (o u k : ℕ) → number_of w (n.V o u) ≡ Some k → IsCounting w (n.V o u) (record { kind = V; object = o; number = k })
 counting_V w o u k e = record {
@@ -68,6 +69,7 @@ counting_V w o u k e = record {
     others V o' d = as_before (λ (x : Counts). x.given) (λ x. record x { given = x.given + 1 }) w.sems o o' (λ e. absurd (d refl e))
     others Send o' d = refl
     others Recv o' d = refl
+    others Done o' d = refl
 
 counting_Send : (w : World) (o : ℕ) (v : ℤ) (u k : ℕ) → number_of w (n.Send o v u) ≡ Some k → IsCounting w (n.Send o v u) (record { kind = Send; object = o; number = k })
 counting_Send w o v u k e = record {
@@ -81,6 +83,21 @@ counting_Send w o v u k e = record {
     others V o' d = refl
     others Send o' d = as_before (λ (x : Channel). length x.sent) (λ x. record x { sent = x.sent ++ v ∷ [] }) w.chans o o' (λ e. absurd (d refl e))
     others Recv o' d = as_before (λ (x : Channel). x.received) (λ x. record x { sent = x.sent ++ v ∷ [] }) w.chans o o' (λ e x. refl)
+    others Done o' d = as_before (λ (x : Channel). x.completed) (λ x. record x { sent = x.sent ++ v ∷ [] }) w.chans o o' (λ e x. refl)
+
+counting_Offer : (w : World) (o : ℕ) (v : ℤ) (k : ℕ) → number_of w (n.Offer o v) ≡ Some k → IsCounting w (n.Offer o v) (record { kind = Send; object = o; number = k })
+counting_Offer w o v k e = record {
+  number = next_number (λ (x : Channel). length x.sent) (slice_get w.chans o) k e;
+  counted = raised (λ (x : Channel). length x.sent) (λ x. record x { sent = x.sent ++ v ∷ [] }) (λ x. length-append x.sent (v ∷ [])) w.chans o k e;
+  unchanged = others;
+}
+  where
+    others : (kind : SyncKind) (object : ℕ) → (kind ≡ Send → object ≡ o → ⊥) → count_of (effect w (n.Offer o v)) kind object ≡ count_of w kind object
+    others P o' d = refl
+    others V o' d = refl
+    others Send o' d = as_before (λ (x : Channel). length x.sent) (λ x. record x { sent = x.sent ++ v ∷ [] }) w.chans o o' (λ e. absurd (d refl e))
+    others Recv o' d = as_before (λ (x : Channel). x.received) (λ x. record x { sent = x.sent ++ v ∷ [] }) w.chans o o' (λ e x. refl)
+    others Done o' d = as_before (λ (x : Channel). x.completed) (λ x. record x { sent = x.sent ++ v ∷ [] }) w.chans o o' (λ e x. refl)
 
 counting_Recv : (w : World) (o u k : ℕ) → number_of w (n.Recv o u) ≡ Some k → IsCounting w (n.Recv o u) (record { kind = Recv; object = o; number = k })
 counting_Recv w o u k e = record {
@@ -94,11 +111,28 @@ counting_Recv w o u k e = record {
     others V o' d = refl
     others Send o' d = as_before (λ (x : Channel). length x.sent) (λ x. record x { received = x.received + 1 }) w.chans o o' (λ e x. refl)
     others Recv o' d = as_before (λ (x : Channel). x.received) (λ x. record x { received = x.received + 1 }) w.chans o o' (λ e. absurd (d refl e))
+    others Done o' d = as_before (λ (x : Channel). x.completed) (λ x. record x { received = x.received + 1 }) w.chans o o' (λ e x. refl)
+
+counting_Done : (w : World) (o u k : ℕ) → number_of w (n.Done o u) ≡ Some k → IsCounting w (n.Done o u) (record { kind = Done; object = o; number = k })
+counting_Done w o u k e = record {
+  number = next_number (λ (x : Channel). x.completed) (slice_get w.chans o) k e;
+  counted = raised (λ (x : Channel). x.completed) (λ x. record x { completed = x.completed + 1 }) (λ x. refl) w.chans o k e;
+  unchanged = others;
+}
+  where
+    others : (kind : SyncKind) (object : ℕ) → (kind ≡ Done → object ≡ o → ⊥) → count_of (effect w (n.Done o u)) kind object ≡ count_of w kind object
+    others P o' d = refl
+    others V o' d = refl
+    others Send o' d = as_before (λ (x : Channel). length x.sent) (λ x. record x { completed = x.completed + 1 }) w.chans o o' (λ e x. refl)
+    others Recv o' d = as_before (λ (x : Channel). x.received) (λ x. record x { completed = x.completed + 1 }) w.chans o o' (λ e x. refl)
+    others Done o' d = as_before (λ (x : Channel). x.completed) (λ x. record x { completed = x.completed + 1 }) w.chans o o' (λ e. absurd (d refl e))
 
 -- a synchronization takes the next number of its kind and object, and no other count changes
 pub counting : (w : World) (need : Need) (k : ℕ) (s : Sync) → number_of w need ≡ Some k → numbered (kind_of_sync need) (Some k) ≡ Some s → IsCounting w need s
 counting w (n.P o u) k s e f = subst (λ z. IsCounting w (n.P o u) z) (some f) (counting_P w o u k e)
 counting w (n.V o u) k s e f = subst (λ z. IsCounting w (n.V o u) z) (some f) (counting_V w o u k e)
 counting w (n.Send o v u) k s e f = subst (λ z. IsCounting w (n.Send o v u) z) (some f) (counting_Send w o v u k e)
+counting w (n.Offer o v) k s e f = subst (λ z. IsCounting w (n.Offer o v) z) (some f) (counting_Offer w o v k e)
+counting w (n.Done o u) k s e f = subst (λ z. IsCounting w (n.Done o u) z) (some f) (counting_Done w o u k e)
 counting w (n.Recv o u) k s e f = subst (λ z. IsCounting w (n.Recv o u) z) (some f) (counting_Recv w o u k e)
 counting w need k s e f = absurd (none-some s f)

@@ -21,13 +21,14 @@ use Rattle.ppd_sem.specs.declared.asking.Pause.TheVariants.{Wants, Traps}
 use Rattle.ppd_sem.specs.declared.proc.Answer.{Answer}
 use Rattle.ppd_sem.specs.declared.proc.Frame.{Frame}
 use Rattle.ppd_sem.specs.declared.proc.Need.{Need}
-use Rattle.ppd_sem.specs.declared.proc.Need.TheVariants.{Enter, Trap, Budget, Stopped}
+use Rattle.ppd_sem.specs.declared.proc.Need.TheVariants.{Enter, Offer, Done, Trap, Budget, Stopped}
 use Rattle.ppd_sem.specs.declared.proc.Proc.{Proc}
 use Rattle.ppd_sem.specs.declared.proc.Todo.{Todo}
 use Rattle.ppd_sem.specs.Ask.{ask, element, is_zero}
 use Rattle.ppd_sem.specs.Asked.{Asked, and_then, gives, lift}
 use Rattle.ppd_sem.specs.Deed.{Deed, set_local, set_shared, clear, branch, turn, leave, invoke, back, take, give, send, receive, print, pass, finish, ask_all, ask_deed, ask_stored}
 use Rattle.ppd_sem.specs.Process.{act, act_at, act_by_asked, act_by_deed, act_by_need, clear_top, head_deed, into_of, kind_of, kind_or_end, need_of, receive_at, returned, returned_from, started, todos, top_cells, top_of, write_top}
+use Rattle.ppd_sem.proofs.Offers.{CompletesSend, completes, send_stays}
 use Rattle.ppd_sem.specs.Runs.{AreOfFunction, IsInner, IsRunnableBody, LeadsOn, left_by, returns, size_of, stmt_size}
 use Rattle.ppd_sem.proofs.Kept.{There, leads_at, there_at}
 use Rattle.ppd_sem.proofs.Validity.{some_at, valid-runnable}
@@ -303,17 +304,19 @@ module _ (program : Program) (a : Answer) (t : Todo) (ts : List Todo) (b : ℕ) 
   by_asked (Err (Wants c)) s e is h = unchanged s s.todo e is
   by_asked (Err (Traps x)) s e is h = unchanged s s.todo e is
 
-  by_need : (plan : Plan) (n : Need) (s : Proc) → bodies_of s.frames ≡ b ∷ bs → s.todo ≡ t ∷ ts → AskedOf program b (kind_of program t.stmt) (head_deed program t s) → IsHome program (act_by_need program plan a t ts n s)
-  by_need plan (Enter x u) s e is h = put (bodies_of s.frames) (b ∷ bs) (record t { entered = true } ∷ ts) e home
-  by_need plan (Trap x) s e is h = unchanged s s.todo e is
-  by_need plan Budget s e is h = unchanged s s.todo e is
-  by_need plan Stopped s e is h = unchanged s s.todo e is
-  by_need plan n s e is h = by_asked (head_deed program t s) s e is h
+  by_need : (plan : Plan) (n : Need) (s : Proc) → bodies_of s.frames ≡ b ∷ bs → s.todo ≡ t ∷ ts → CompletesSend program t.stmt n → AskedOf program b (kind_of program t.stmt) (head_deed program t s) → IsHome program (act_by_need program plan a t ts n s)
+  by_need plan (Enter x u) s e is o h = put (bodies_of s.frames) (b ∷ bs) (record t { entered = true } ∷ ts) e home
+  by_need plan (Trap x) s e is o h = unchanged s s.todo e is
+  by_need plan Budget s e is o h = unchanged s s.todo e is
+  by_need plan Stopped s e is o h = unchanged s s.todo e is
+  by_need plan (Offer c v) s e is o h = put (bodies_of s.frames) (b ∷ bs) (record t { offered = true } ∷ ts) e home
+  by_need plan (Done c u) s e is o h = put (bodies_of s.frames) (b ∷ bs) ts e (rest false (send_stays (kind_of program t.stmt) c o))
+  by_need plan n s e is o h = by_asked (head_deed program t s) s e is h
 
 by_bodies : (program : Program) (plan : Plan) (a : Answer) (t : Todo) (ts : List Todo) (s : Proc) (bs : List ℕ) → IsValid program → bodies_of s.frames ≡ bs → s.todo ≡ t ∷ ts → AreHome program bs (t ∷ ts) → IsHome program (act_by_need program plan a t ts (need_of program plan s) s)
 by_bodies program plan a t ts s [] v e is home = absurd home
 by_bodies program plan a t ts s (b ∷ bs) v e is home =
-    by_need program a t ts b bs home plan (need_of program plan s) s e is (subst (λ (x : ℕ). AskedOf program x (kind_of program t.stmt) (head_deed program t s)) home.0 (head_of program t s v))
+    by_need program a t ts b bs home plan (need_of program plan s) s e is (completes program plan s t ts is) (subst (λ (x : ℕ). AskedOf program x (kind_of program t.stmt) (head_deed program t s)) home.0 (head_of program t s v))
 
 by_todo : (program : Program) (plan : Plan) (a : Answer) (s : Proc) (todo : List Todo) → IsValid program → s.todo ≡ todo → IsHome program s → IsHome program (act_at program plan a todo s)
 by_todo program plan a s [] v is home = home

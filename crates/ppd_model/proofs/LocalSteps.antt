@@ -1,5 +1,5 @@
 -- One step of a process: it tags the local cells that its event writes, and keeps the other tags.
-use Rattle.std.proofs.Common.{◌≡◌, ℕ, ◌<◌, ◌≤◌, ℤ, Bool, true, false, ◌&&◌, ◌||◌, List, [], ◌∷◌, Option, Some, None, Ok, Err, refl, ap, sym, subst, ◌∙◌, cond, length, map}
+use Rattle.std.proofs.Common.{◌≡◌, ℕ, zero, suc, ◌<◌, ◌≤◌, ℤ, Bool, true, false, ◌&&◌, ◌||◌, List, [], ◌∷◌, Option, Some, None, Ok, Err, refl, ap, sym, subst, ◌∙◌, cond, length, map}
 use Rattle.std.specs.Prelude.{⊤}
 use Rattle.ppd_ast.specs.declared.plan.Plan.{Plan}
 use Rattle.ppd_ast.specs.declared.program.Program.{Program}
@@ -11,13 +11,21 @@ use Rattle.ppd_sem.specs.declared.event.Event.{Event}
 use Rattle.ppd_sem.specs.declared.proc.Answer.{Answer}
 use Rattle.ppd_sem.specs.declared.proc.Frame.{Frame}
 use Rattle.ppd_sem.specs.declared.proc.Need.{Need}
-use Rattle.ppd_sem.specs.declared.proc.Need.TheVariants.{Read, Enter, Invoke, Trap, Budget, Stopped}
+use Rattle.ppd_sem.specs.declared.proc.Need.TheVariants.{Read, Enter, Invoke, Offer, Done, Trap, Budget, Stopped}
 use Rattle.ppd_sem.specs.declared.proc.Proc.{Proc}
 use Rattle.ppd_sem.specs.declared.proc.Todo.{Todo}
-use Rattle.ppd_sem.specs.Asked.{Asked}
-use Rattle.ppd_sem.specs.Deed.{Deed, set_local, set_shared, clear, branch, turn, leave, invoke, back, take, give, send, receive, print, pass, finish}
+use Rattle.ppd_ast.specs.declared.program.Expr.{Expr}
+use Rattle.ppd_ast.specs.declared.program.Kind.{Kind}
+use Rattle.ppd_ast.specs.declared.program.Kind.TheVariants as kind
+use Rattle.ppd_ast.specs.Term.{term}
+use Rattle.std.proofs.lemmas.Option.{none-some}
+use Rattle.ppd_sem.specs.Ask.{ask}
+use Rattle.ppd_sem.specs.Asked.{Asked, and_then, gives}
+use Rattle.ppd_sem.specs.Deed.{Deed, set_local, set_shared, clear, branch, turn, leave, invoke, back, take, give, send, receive, print, pass, finish, ask_deed}
 use Rattle.ppd_sem.specs.Described.{frame_of, trap_of, writes_by, writes_of_asked}
-use Rattle.ppd_sem.specs.Process.{act, act_by_asked, act_by_need, entry_of, head_deed, need_by_entry, need_by_status, need_of, need_of_asked, need_of_leaving, need_of_running, value_of}
+use Rattle.ppd_sem.specs.Process.{act, act_by_asked, act_by_need, chan_of, entry_of, head_deed, kind_of, need_by_entry, need_by_offer, need_by_status, need_of, need_of_asked, need_of_head, need_of_leaving, need_of_running, need_of_send, offer_of, top_cells, value_of}
+use Rattle.ppd_sem.specs.Tables.{capacity_of}
+use Rattle.ppd_sem.proofs.Offers.{offer_there}
 use Rattle.ppd_model.specs.declared.trace.EventId.{EventId}
 use Rattle.ppd_model.specs.declared.trace.TracedEvent.{TracedEvent}
 use Rattle.ppd_model.specs.FullTrace.{Activation, Tag, Tracing, event_of, me_in, tagged_by, trace_by, trace_step, with_test}
@@ -28,9 +36,17 @@ use Rattle.ppd_model.proofs.LocalDeeds.{among, back_does, call_does, clear_does,
 
 -- ---- what a need tells of what is asked
 
--- a read is not of a statement that finishes, and a trap not of a return or of a loop that goes on
+-- a read is not of a statement that finishes, and a trap not of a return or of a loop that goes on; an offer
+-- and a completion are of a send, as far as it is evaluated
+abbrev pub IsSend : Asked Deed → Type 0
+IsSend (Ok (send c v, left)) = ⊤
+IsSend (Ok p) = ⊥
+IsSend (Err pause) = ⊤
+
 abbrev pub Fits : Need → Asked Deed → Type 0
 Fits (Read c) (Ok p) = ⊥
+Fits (Offer c v) asked = IsSend asked
+Fits (Done c u) asked = IsSend asked
 Fits (Trap t) (Ok (back v, left)) = ⊥
 Fits (Trap t) (Ok (turn xs, left)) = ⊥
 Fits n asked = ⊤
@@ -43,28 +59,44 @@ fits_call : (b : Bool) (n : Option ℕ) (u f : ℕ) (values : List ℤ) (into : 
 fits_call true n u f values into left = tt
 fits_call false n u f values into left = tt
 
-fits_asked : (plan : Plan) (t : ℕ) (s : Proc) (asked : Asked Deed) → Fits (need_of_asked plan t s asked) asked
-fits_asked plan t s (Err (Wants c)) = tt
-fits_asked plan t s (Err (Traps x)) = tt
-fits_asked plan t s (Ok (leave, left)) = fits_leave plan t _ left
-fits_asked plan t s (Ok (invoke f values into, left)) = fits_call _ _ _ f values into left
-fits_asked plan t s (Ok (set_local c v, left)) = tt
-fits_asked plan t s (Ok (set_shared c v, left)) = tt
-fits_asked plan t s (Ok (clear base len, left)) = tt
-fits_asked plan t s (Ok (branch xs, left)) = tt
-fits_asked plan t s (Ok (turn xs, left)) = tt
-fits_asked plan t s (Ok (back v, left)) = tt
-fits_asked plan t s (Ok (take x, left)) = tt
-fits_asked plan t s (Ok (give x, left)) = tt
-fits_asked plan t s (Ok (send x v, left)) = tt
-fits_asked plan t s (Ok (receive x into, left)) = tt
-fits_asked plan t s (Ok (print v, left)) = tt
-fits_asked plan t s (Ok (pass, left)) = tt
-fits_asked plan t s (Ok (finish, left)) = tt
+fits_send : (plan : Plan) (t n c : ℕ) (v : ℤ) (left : List ℤ) → Fits (need_of_send plan t n c v) (Ok (send c v, left))
+fits_send plan t zero c v left = tt
+fits_send plan t (suc n) c v left = tt
 
-fits_entry : (plan : Plan) (t : ℕ) (s : Proc) (entry : Option ℕ) (asked : Asked Deed) → Fits (need_by_entry plan t s entry asked) asked
-fits_entry plan t s None asked = fits_asked plan t s asked
-fits_entry plan t s (Some b) asked = tt
+fits_asked : (program : Program) (plan : Plan) (t : ℕ) (s : Proc) (asked : Asked Deed) → Fits (need_of_asked program plan t s asked) asked
+fits_asked program plan t s (Err (Wants c)) = tt
+fits_asked program plan t s (Err (Traps x)) = tt
+fits_asked program plan t s (Ok (leave, left)) = fits_leave plan t _ left
+fits_asked program plan t s (Ok (invoke f values into, left)) = fits_call _ _ _ f values into left
+fits_asked program plan t s (Ok (set_local c v, left)) = tt
+fits_asked program plan t s (Ok (set_shared c v, left)) = tt
+fits_asked program plan t s (Ok (clear base len, left)) = tt
+fits_asked program plan t s (Ok (branch xs, left)) = tt
+fits_asked program plan t s (Ok (turn xs, left)) = tt
+fits_asked program plan t s (Ok (back v, left)) = tt
+fits_asked program plan t s (Ok (take x, left)) = tt
+fits_asked program plan t s (Ok (give x, left)) = tt
+fits_asked program plan t s (Ok (send x v, left)) = fits_send plan t (capacity_of program x) x v left
+fits_asked program plan t s (Ok (receive x into, left)) = tt
+fits_asked program plan t s (Ok (print v, left)) = tt
+fits_asked program plan t s (Ok (pass, left)) = tt
+fits_asked program plan t s (Ok (finish, left)) = tt
+
+fits_entry : (program : Program) (plan : Plan) (t : ℕ) (s : Proc) (entry : Option ℕ) (asked : Asked Deed) → Fits (need_by_entry program plan t s entry asked) asked
+fits_entry program plan t s None asked = fits_asked program plan t s asked
+fits_entry program plan t s (Some b) asked = tt
+
+asks_send : (r : Asked ℤ) (c : ℕ) → IsSend (and_then r (λ v left. gives left (send c v)))
+asks_send (Ok p) c = tt
+asks_send (Err pause) c = tt
+
+of_chan : (es : List Expr) (k : Kind) (cells answers : List ℤ) (c : ℕ) → chan_of k ≡ Some c → IsSend (ask_deed es k cells answers)
+of_chan es (kind.Send d e) cells answers c is = asks_send (ask (term es e) cells answers) d
+of_chan es k cells answers c is = absurd (none-some c is)
+
+fits_offer : (plan : Plan) (t : ℕ) (o : Option ℕ) (n : Need) (asked : Asked Deed) → ((c : ℕ) → o ≡ Some c → IsSend asked) → Fits n asked → Fits (need_by_offer plan t o n) asked
+fits_offer plan t (Some c) n asked h g = h c refl
+fits_offer plan t None n asked h g = g
 
 fits_budget : (b : Bool) (n : Need) (asked : Asked Deed) → Fits n asked → Fits (cond b Budget n) asked
 fits_budget true n asked h = tt
@@ -78,7 +110,10 @@ FitsHead program s n (t ∷ ts) = Fits n (head_deed program t s)
 fits_running : (program : Program) (plan : Plan) (s : Proc) (todo : List Todo) → FitsHead program s (need_of_running program plan todo s) todo
 fits_running program plan s [] = tt
 fits_running program plan s (t ∷ ts) =
-    fits_budget _ (need_by_entry plan t.stmt s (entry_of program plan t) (head_deed program t s)) (head_deed program t s) (fits_entry plan t.stmt s (entry_of program plan t) (head_deed program t s))
+    fits_budget _ (need_of_head program plan t s) (head_deed program t s)
+    (fits_offer plan t.stmt (offer_of program t) (need_by_entry program plan t.stmt s (entry_of program plan t) (head_deed program t s)) (head_deed program t s)
+    (λ c e. of_chan program.exprs (kind_of program t.stmt) (top_cells s.frames) s.answers c (offer_there t.offered (chan_of (kind_of program t.stmt)) c e))
+    (fits_entry program plan t.stmt s (entry_of program plan t) (head_deed program t s)))
 
 fits_stopped : (program : Program) (s : Proc) (todo : List Todo) → FitsHead program s Stopped todo
 fits_stopped program s [] = tt
@@ -110,6 +145,13 @@ paused_frames : (program : Program) (a : Answer) (t : Todo) (ts : List Todo) (s 
 paused_frames program a t ts s c (Ok p) h = absurd h
 paused_frames program a t ts s c (Err (Wants x)) h = refl
 paused_frames program a t ts s c (Err (Traps x)) h = refl
+
+-- a send tags nothing
+send_does : (program : Program) (a : Answer) (s : Proc) (frame : ℕ) (acts : List Activation) (me : Tag) (asked : Asked Deed) → map length (locals acts) ≡ sizes s.frames → IsSend asked
+    → Outcome (locals acts) (locals (tagged_by program s me asked acts)) (sizes s.frames) (λ k c. among frame (length s.frames) k c (writes_of_asked frame a asked) || is_received_by program s.frames k c asked) me
+send_does program a s frame acts me (Ok (send c v, left)) e h = same (locals acts) _ _ me e (λ k c lt. refl)
+send_does program a s frame acts me (Err pause) e h = same (locals acts) _ _ me e (λ k c lt. refl)
+send_does program a s frame acts me (Ok p) e h = absurd h
 
 -- what traps returns nothing
 no_return : (program : Program) (x : TrapOf) (frames : List Frame) (k c : ℕ) (asked : Asked Deed) → Fits (Trap x) asked → is_received_by program frames k c asked ≡ false
@@ -145,6 +187,16 @@ module _ (program : Program) (plan : Plan) (story : Story) (p : ℕ) (frames : L
         (deed_does program a t ts (proc (t ∷ ts)) (frame_of program plan (proc (t ∷ ts))) (with_test program id e acts) (Some id) (head_deed program t (proc (t ∷ ts)))
         (ap (λ xs. map length xs) (test_locals program id e acts) ∙ shape))
 
+    sends : (t : Todo) (ts : List Todo) (id : EventId) (e : Event) → IsSend (head_deed program t (proc (t ∷ ts)))
+        → Outcome (locals acts) (locals (tagged_by program (proc (t ∷ ts)) (Some id) (head_deed program t (proc (t ∷ ts))) (with_test program id e acts))) (sizes frames)
+        (λ k c. among (frame_of program plan (proc (t ∷ ts))) (length frames) k c (writes_of_asked (frame_of program plan (proc (t ∷ ts))) a (head_deed program t (proc (t ∷ ts)))) || is_received_by program frames k c (head_deed program t (proc (t ∷ ts)))) (Some id)
+    sends t ts id e h =
+        subst (λ old. Outcome old (locals (tagged_by program (proc (t ∷ ts)) (Some id) (head_deed program t (proc (t ∷ ts))) (with_test program id e acts))) (sizes frames)
+        (λ k c. among (frame_of program plan (proc (t ∷ ts))) (length frames) k c (writes_of_asked (frame_of program plan (proc (t ∷ ts))) a (head_deed program t (proc (t ∷ ts)))) || is_received_by program frames k c (head_deed program t (proc (t ∷ ts)))) (Some id))
+        (test_locals program id e acts)
+        (send_does program a (proc (t ∷ ts)) (frame_of program plan (proc (t ∷ ts))) (with_test program id e acts) (Some id) (head_deed program t (proc (t ∷ ts)))
+        (ap (λ xs. map length xs) (test_locals program id e acts) ∙ shape) h)
+
     -- the cells that a step of this need writes
     abbrev writes : Todo → List Todo → Need → ℕ → ℕ → Bool
     writes t ts n k c =
@@ -162,6 +214,8 @@ module _ (program : Program) (plan : Plan) (story : Story) (p : ℕ) (frames : L
         subst (λ new. Outcome (locals acts) new (sizes frames) (writes t ts (Trap x)) (Some (me_in p (at (t ∷ ts)))))
         (sym (test_locals program (me_in p (at (t ∷ ts))) (event_of program plan (proc (t ∷ ts)) (taken (Trap x)) (t ∷ ts)) acts))
         (same (locals acts) (sizes frames) (writes t ts (Trap x)) _ shape (λ k d lt. no_return program x frames k d (head_deed program t (proc (t ∷ ts))) h))
+    by_need t ts (Offer d v) h = sends t ts (me_in p (at (t ∷ ts))) (event_of program plan (proc (t ∷ ts)) (taken (Offer d v)) (t ∷ ts)) h
+    by_need t ts (Done d u) h = sends t ts (me_in p (at (t ∷ ts))) (event_of program plan (proc (t ∷ ts)) (taken (Done d u)) (t ∷ ts)) h
     by_need t ts n h = ordinary t ts (me_in p (at (t ∷ ts))) (event_of program plan (proc (t ∷ ts)) (taken n) (t ∷ ts))
 
     empty : (n : Need)

@@ -1,5 +1,5 @@
 -- In a valid program, from a true test of a loop to its next test its activation has events of statements inside alone.
-use Rattle.std.proofs.Common.{◌≡◌, ℕ, zero, suc, ◌+◌, ℤ, Bool, true, false, List, [], ◌∷◌, ◌++◌, Some, Ok, Err, refl, ap, sym, subst, ◌∙◌, length, inl, inr, arith, if◌then◌else◌}
+use Rattle.std.proofs.Common.{◌≡◌, ℕ, zero, suc, ◌+◌, ℤ, Bool, true, false, List, [], ◌∷◌, ◌++◌, Option, Some, None, Ok, Err, refl, ap, sym, subst, ◌∙◌, length, inl, inr, arith, if◌then◌else◌}
 use Rattle.std.specs.Prelude.{nat_eq, ◌&&◌, not, drop, fold, slice_get}
 use Rattle.std.proofs.lemmas.Bool.{and_from, and_parts, both_ways, cases_Bool, eq-eqb, eqb-true}
 use Rattle.ppd_ast.specs.declared.plan.Plan.{Plan}
@@ -10,13 +10,13 @@ use Rattle.ppd_ast.specs.Term.{term}
 use Rattle.ppd_ast.specs.Valid.{IsValid}
 use Rattle.ppd_sem.specs.declared.proc.Answer.{Answer}
 use Rattle.ppd_sem.specs.declared.proc.Need.{Need}
-use Rattle.ppd_sem.specs.declared.proc.Need.TheVariants.{Read, Enter, Trap, Budget, Stopped}
+use Rattle.ppd_sem.specs.declared.proc.Need.TheVariants.{Read, Enter, Offer, Done, Trap, Budget, Stopped}
 use Rattle.ppd_sem.specs.declared.proc.Proc.{Proc}
 use Rattle.ppd_sem.specs.declared.proc.Todo.{Todo}
 use Rattle.ppd_sem.specs.Ask.{ask, is_zero}
 use Rattle.ppd_sem.specs.Asked.{Asked, and_then, gives}
 use Rattle.ppd_sem.specs.Deed.{ask_deed, leave, turn}
-use Rattle.ppd_sem.specs.Described.{value_at, value_if, valued}
+use Rattle.ppd_sem.specs.Described.{evaluates, value_at, value_if, valued}
 use Rattle.ppd_sem.specs.Process.{act, act_at, act_by_asked, act_by_need, head_deed, kind_of, need_of, started, todos, top_cells}
 use Rattle.ppd_sem.specs.Runs.{returns}
 use Rattle.ppd_model.specs.FullTrace.{Tracing, begun_tracing, event_of, is_passed, me_in, parent_if, trace_step, with_test}
@@ -87,7 +87,9 @@ module _ (program : Program) (k s : ℕ) (y : Todo) (ys : List Todo) (loop : Tod
   at_loop todo now c h (stays u e t v) =
       build 0 (u ∷ ys) todo now t (ap length v ∙ c ∙ (let z : k + 1 ≡ k + 1 + 0 = omega arith in z))
       (subst (λ i. (IsInside program s i × (returns (kind_of program i) ≡ false)) × AllIn program s zero ys) (sym e) h)
-  at_loop todo now c h (traps t v) = build 0 (y ∷ ys) todo now t (ap length v ∙ same ∙ c ∙ (let z : k + 1 ≡ k + 1 + 0 = omega arith in z)) h
+  at_loop todo now c h (traps u e t v) =
+      build 0 (u ∷ ys) todo now t (ap length v ∙ same ∙ c ∙ (let z : k + 1 ≡ k + 1 + 0 = omega arith in z))
+      (subst (λ i. (IsInside program s i × (returns (kind_of program i) ≡ false)) × AllIn program s zero ys) (sym e) h)
   at_loop todo now c h (passes r t v) = build 0 ys todo now t (ap length v ∙ same ∙ c ∙ (let z : k + 1 ≡ k + 1 + 0 = omega arith in z)) h.1
   at_loop todo now c h (chooses stmts r choice inner t v) =
       build 0 (todos stmts ++ ys) todo now (t ∙ append_assoc (todos stmts) ys (loop ∷ rest)) (ap length v ∙ same ∙ c ∙ (let z : k + 1 ≡ k + 1 + 0 = omega arith in z))
@@ -111,7 +113,8 @@ module _ (program : Program) (k s : ℕ) (y : Todo) (ys : List Todo) (loop : Tod
   above_loop : (n : ℕ) (todo : List Todo) (now : List View) → length old ≡ k + 1 + suc n → AllIn program s (suc n) (y ∷ ys) → Move program y ts old tested todo now → InLoop program k s (length now) todo
   above_loop n todo now c h (stays u e t v) =
       build (suc n) (u ∷ ys) todo now t (ap length v ∙ c) (subst (λ i. AllIn program s (depth_after (returns (kind_of program i)) n) ys) (sym e) h)
-  above_loop n todo now c h (traps t v) = build (suc n) (y ∷ ys) todo now t (ap length v ∙ same ∙ c) h
+  above_loop n todo now c h (traps u e t v) =
+      build (suc n) (u ∷ ys) todo now t (ap length v ∙ same ∙ c) (subst (λ i. AllIn program s (depth_after (returns (kind_of program i)) n) ys) (sym e) h)
   above_loop n todo now c h (passes r t v) = build (suc n) ys todo now t (ap length v ∙ same ∙ c) (by_return n false r h)
   above_loop n todo now c h (chooses stmts r choice inner t v) =
       build (suc n) (todos stmts ++ ys) todo now (t ∙ append_assoc (todos stmts) ys (loop ∷ rest)) (ap length v ∙ same ∙ c)
@@ -205,6 +208,11 @@ turned (Ok q) body e = (q.1, by (is_zero q.0) refl)
     by true z = absurd (both_ways (not (is_zero q.0)) (ap not z) e)
     by false z = ap (λ b. gives q.1 (if b then leave else turn body)) z
 
+-- what is there and not 0 was evaluated
+passed_value : (b : Bool) (v : Option ℤ) → is_passed (if b then v else None) ≡ true → is_passed v ≡ true
+passed_value true v e = e
+passed_value false v e = absurd (cc)
+
 turns_by : (program : Program) (plan : Plan) (a : Answer) (t : Todo) (ts : List Todo) (s : Proc) (body : List ℕ) (left : List ℤ) (n : Need) → head_deed program t s ≡ Ok (turn body, left) → is_event n ≡ true → Fits n (head_deed program t s)
     → ((act_by_need program plan a t ts n s).todo ≡ todos body ++ t ∷ ts) × ((act_by_need program plan a t ts n s).frames ≡ s.frames)
 turns_by program plan a t ts s body left (Read c) asked e f = absurd (cc)
@@ -212,6 +220,8 @@ turns_by program plan a t ts s body left (Enter b u) asked e f = absurd (cc)
 turns_by program plan a t ts s body left Budget asked e f = absurd (cc)
 turns_by program plan a t ts s body left Stopped asked e f = absurd (cc)
 turns_by program plan a t ts s body left (Trap x) asked e f = absurd (subst (λ r. Fits (Trap x) r) asked f)
+turns_by program plan a t ts s body left (Offer c v) asked e f = absurd (subst (λ r. Fits (Offer c v) r) asked f)
+turns_by program plan a t ts s body left (Done c u) asked e f = absurd (subst (λ r. Fits (Done c u) r) asked f)
 turns_by program plan a t ts s body left n asked e f = (ap (λ r. (act_by_asked program a t ts r s).todo) asked, ap (λ r. (act_by_asked program a t ts r s).frames) asked)
 
 -- the body of a loop
@@ -239,7 +249,9 @@ module _ (program : Program) (plan : Plan) (story : Story) (p k s : ℕ) (valid 
       let loop : Loop program s (kind_of program s) = loop_of program s (kind_of program s) loops (leads program s valid) in
       let kind_is : kind_of program t.stmt ≡ kind.While loop.value loop.body = ap (λ i. kind_of program i) loop_is ∙ loop.kind_is in
       let value : is_passed (value_if (ask (term program.exprs loop.value) (top_cells u.proc.frames) u.proc.answers)) ≡ true =
-      sym (ap (λ todo. is_passed (event_of program plan u.proc x todo).value) todo_is ∙ ap (λ w. is_passed (value_at program.exprs (top_cells u.proc.frames) u.proc.answers (valued w))) kind_is) ∙ passed in
+      sym (ap (λ w. is_passed (value_at program.exprs (top_cells u.proc.frames) u.proc.answers (valued w))) kind_is)
+      ∙ passed_value (evaluates (need_of program plan u.proc)) (value_at program.exprs (top_cells u.proc.frames) u.proc.answers (valued (kind_of program t.stmt)))
+      (sym (ap (λ todo. is_passed (event_of program plan u.proc x todo).value) todo_is) ∙ passed) in
       let turn_is = turned (ask (term program.exprs loop.value) (top_cells u.proc.frames) u.proc.answers) loop.body value in
       let asked : head_deed program t u.proc ≡ Ok (turn loop.body, turn_is.0) = ap (λ w. ask_deed program.exprs w (top_cells u.proc.frames) u.proc.answers) kind_is ∙ turn_is.1 in
       let fit : FitsHead program u.proc (need_of program plan u.proc) (t ∷ ts) = subst (λ todo. FitsHead program u.proc (need_of program plan u.proc) todo) todo_is (fits program plan u.proc) in

@@ -20,7 +20,7 @@ use Rattle.ppd_ast.proofs.Standing.{All-append_parts}
 use Rattle.ppd_sem.specs.declared.asking.Pause.TheVariants.{Wants, Traps}
 use Rattle.ppd_sem.specs.declared.proc.Answer.{Answer}
 use Rattle.ppd_sem.specs.declared.proc.Need.{Need}
-use Rattle.ppd_sem.specs.declared.proc.Need.TheVariants.{Read, Enter, Trap, Budget, Stopped}
+use Rattle.ppd_sem.specs.declared.proc.Need.TheVariants.{Read, Enter, Offer, Done, Trap, Budget, Stopped}
 use Rattle.ppd_sem.specs.declared.proc.Proc.{Proc}
 use Rattle.ppd_sem.specs.declared.proc.Todo.{Todo}
 use Rattle.ppd_sem.specs.Ask.{ask, element, is_zero}
@@ -33,7 +33,8 @@ use Rattle.ppd_sem.proofs.Validity.{valid-runnable}
 use Rattle.ppd_model.specs.FullTrace.{Activation, Tag, Tracing, event_of, me_in, parent_if, tagged_after, tagged_at, tagged_by, trace_step, with_test}
 use Rattle.ppd_model.specs.Parents.{is_choice}
 use Rattle.ppd_model.specs.Story.{Story, Taken, is_event}
-use Rattle.ppd_model.proofs.LocalSteps.{Fits, FitsHead, fits}
+use Rattle.ppd_model.proofs.LocalSteps.{IsSend, Fits, FitsHead, fits}
+use Rattle.ppd_sem.proofs.Offers.{CompletesSend, completes, send_stays}
 use Rattle.ppd_model.proofs.TestSteps.{View, all_tagged_views, event_acts, into_views, other_acts, tagged_views, views}
 
 -- ---- where the statements of a valid program stand
@@ -186,7 +187,7 @@ asked_of program s es kind.End cells answers h = refl
 -- after the test of its event
 pub data Move (program : Program) (t : Todo) (ts : List Todo) (old tested : List View) (todo : List Todo) (now : List View) : Type 0 where
   stays : (u : Todo) → u.stmt ≡ t.stmt → todo ≡ u ∷ ts → now ≡ old → Move program t ts old tested todo now
-  traps : todo ≡ t ∷ ts → now ≡ tested → Move program t ts old tested todo now
+  traps : (u : Todo) → u.stmt ≡ t.stmt → todo ≡ u ∷ ts → now ≡ tested → Move program t ts old tested todo now
   passes : returns (kind_of program t.stmt) ≡ false → todo ≡ ts → now ≡ tested → Move program t ts old tested todo now
   chooses : (stmts : List ℕ) → returns (kind_of program t.stmt) ≡ false → is_choice (kind_of program t.stmt) ≡ true → AllInner program t.stmt stmts → todo ≡ todos stmts ++ ts → now ≡ tested → Move program t ts old tested todo now
   turns : (stmts : List ℕ) → returns (kind_of program t.stmt) ≡ false → is_choice (kind_of program t.stmt) ≡ true → AllInner program t.stmt stmts → todo ≡ todos stmts ++ t ∷ ts → now ≡ tested → Move program t ts old tested todo now
@@ -220,8 +221,8 @@ module _ (program : Program) (plan : Plan) (a : Answer) (t : Todo) (ts : List To
 
   by_asked : (asked : Asked Deed) → AskedOf program t.stmt (kind_of program t.stmt) asked → Moves (act_by_asked program a t ts asked s).todo (views (tagged_by program s me asked acts))
   by_asked (Ok q) h = by_deed q.0 q.1 h
-  by_asked (Err (Wants c)) h = traps is refl
-  by_asked (Err (Traps x)) h = traps is refl
+  by_asked (Err (Wants c)) h = traps t refl is refl
+  by_asked (Err (Traps x)) h = traps t refl is refl
 
   waits : (c : ℕ) (asked : Asked Deed) → Fits (Read c) asked → Moves (act_by_asked program a t ts asked s).todo old
   waits c (Ok q) h = absurd h
@@ -254,13 +255,23 @@ module _ (program : Program) (plan : Plan) (a : Answer) (t : Todo) (ts : List To
   finishes h =
       subst (λ todo. Moves (act_by_asked program a t ts (head_deed program t s) s).todo (views (tagged_at program s me todo acts))) (sym is) (by_asked (head_deed program t s) h)
 
-  by_need : (n : Need) → Fits n (head_deed program t s) → AskedOf program t.stmt (kind_of program t.stmt) (head_deed program t s) → Moves (act_by_need program plan a t ts n s).todo (now_by n)
-  by_need (Read c) f h = waits c (head_deed program t s) f
-  by_need (Enter b u) f h = stays (record t { entered = true }) refl refl refl
-  by_need Budget f h = stays t refl is refl
-  by_need Stopped f h = stays t refl is refl
-  by_need (Trap x) f h = traps is refl
-  by_need n f h = finishes h
+  send_views : (asked : Asked Deed) → IsSend asked → views (tagged_by program s me asked acts) ≡ views acts
+  send_views (Ok (send c v, left)) h = refl
+  send_views (Ok q) h = absurd h
+  send_views (Err p) h = refl
+
+  sends : IsSend (head_deed program t s) → views (tagged_at program s me s.todo acts) ≡ views acts
+  sends h = ap (λ todo. views (tagged_at program s me todo acts)) is ∙ send_views (head_deed program t s) h
+
+  by_need : (n : Need) → CompletesSend program t.stmt n → Fits n (head_deed program t s) → AskedOf program t.stmt (kind_of program t.stmt) (head_deed program t s) → Moves (act_by_need program plan a t ts n s).todo (now_by n)
+  by_need (Read c) o f h = waits c (head_deed program t s) f
+  by_need (Enter b u) o f h = stays (record t { entered = true }) refl refl refl
+  by_need Budget o f h = stays t refl is refl
+  by_need Stopped o f h = stays t refl is refl
+  by_need (Trap x) o f h = traps t refl is refl
+  by_need (Offer c v) o f h = traps (record t { offered = true }) refl refl (sends f)
+  by_need (Done c u) o f h = passes (send_stays (kind_of program t.stmt) c o) refl (sends f)
+  by_need n o f h = finishes h
 
 pub step_moves : (program : Program) (plan : Plan) (story : Story) (p : ℕ) (u : Tracing) (x : Taken) (t : Todo) (ts : List Todo) → IsValid program → x.need ≡ need_of program plan u.proc → u.proc.todo ≡ t ∷ ts
     → Move program t ts (views u.activations) (views (with_test program (me_in p u) (event_of program plan u.proc x u.proc.todo) u.activations)) (trace_step program plan story p u x).proc.todo (views (trace_step program plan story p u x).activations)
@@ -271,7 +282,7 @@ step_moves program plan story p u x t ts v own is =
     let fit : FitsHead program s (need_of program plan s) (t ∷ ts) = subst (λ todo. FitsHead program s (need_of program plan s) todo) is (fits program plan s) in
     let asked : AskedOf program t.stmt (kind_of program t.stmt) (head_deed program t s) = asked_of program t.stmt program.exprs (kind_of program t.stmt) (top_cells s.frames) s.answers (leads program t.stmt v) in
     let move : Move program t ts (views u.activations) (views acts) (act_by_need program plan x.answer t ts (need_of program plan s) s).todo (now_by program plan x.answer t ts s me (views u.activations) acts is (need_of program plan s)) =
-    by_need program plan x.answer t ts s me (views u.activations) acts is (need_of program plan s) fit asked in
+    by_need program plan x.answer t ts s me (views u.activations) acts is (need_of program plan s) (completes program plan s t ts is) fit asked in
     let todo_is : (act_by_need program plan x.answer t ts (need_of program plan s) s).todo ≡ (act program plan s x.answer).todo = ap (λ todo. (act_at program plan x.answer todo s).todo) (sym is) in
     subst (λ todo. Move program t ts (views u.activations) (views acts) todo (views (trace_step program plan story p u x).activations)) todo_is
     (subst (λ now. Move program t ts (views u.activations) (views acts) (act_by_need program plan x.answer t ts (need_of program plan s) s).todo now)

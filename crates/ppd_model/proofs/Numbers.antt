@@ -8,7 +8,7 @@ use Rattle.std.specs.Prelude.{fold, option_map, option_to_list, slice_get}
 use Rattle.ppd_ast.specs.declared.plan.Plan.{Plan}
 use Rattle.ppd_ast.specs.declared.program.Program.{Program}
 use Rattle.ppd_ast.specs.declared.status.SyncKind.{SyncKind}
-use Rattle.ppd_ast.specs.declared.status.SyncKind.TheVariants.{P, V, Send, Recv}
+use Rattle.ppd_ast.specs.declared.status.SyncKind.TheVariants.{P, V, Send, Recv, Done}
 use Rattle.ppd_sem.specs.declared.proc.Need.{Need}
 use Rattle.ppd_sem.specs.declared.proc.Need.TheVariants as n
 use Rattle.ppd_sem.specs.declared.proc.Proc.{Proc}
@@ -71,22 +71,37 @@ uncounted w (n.P o u) e P o' = not_there (λ (x : Counts). x.taken) (λ x. recor
 uncounted w (n.P o u) e V o' = not_there (λ (x : Counts). x.given) (λ x. record x { taken = x.taken + 1 }) w.sems o o' (no_sem (λ x. x.taken) w o (P, o) e)
 uncounted w (n.P o u) e Send o' = refl
 uncounted w (n.P o u) e Recv o' = refl
+uncounted w (n.P o u) e Done o' = refl
 uncounted w (n.V o u) e P o' = not_there (λ (x : Counts). x.taken) (λ x. record x { given = x.given + 1 }) w.sems o o' (no_sem (λ x. x.given) w o (V, o) e)
 uncounted w (n.V o u) e V o' = not_there (λ (x : Counts). x.given) (λ x. record x { given = x.given + 1 }) w.sems o o' (no_sem (λ x. x.given) w o (V, o) e)
 uncounted w (n.V o u) e Send o' = refl
 uncounted w (n.V o u) e Recv o' = refl
+uncounted w (n.V o u) e Done o' = refl
 uncounted w (n.Send o v u) e P o' = refl
 uncounted w (n.Send o v u) e V o' = refl
 uncounted w (n.Send o v u) e Send o' = not_there (λ (x : Channel). length x.sent) (λ x. record x { sent = x.sent ++ v ∷ [] }) w.chans o o' (no_chan (λ x. length x.sent) w o (Send, o) e)
 uncounted w (n.Send o v u) e Recv o' = not_there (λ (x : Channel). x.received) (λ x. record x { sent = x.sent ++ v ∷ [] }) w.chans o o' (no_chan (λ x. length x.sent) w o (Send, o) e)
+uncounted w (n.Send o v u) e Done o' = not_there (λ (x : Channel). x.completed) (λ x. record x { sent = x.sent ++ v ∷ [] }) w.chans o o' (no_chan (λ x. length x.sent) w o (Send, o) e)
+uncounted w (n.Offer o v) e P o' = refl
+uncounted w (n.Offer o v) e V o' = refl
+uncounted w (n.Offer o v) e Send o' = not_there (λ (x : Channel). length x.sent) (λ x. record x { sent = x.sent ++ v ∷ [] }) w.chans o o' (no_chan (λ x. length x.sent) w o (Send, o) e)
+uncounted w (n.Offer o v) e Recv o' = not_there (λ (x : Channel). x.received) (λ x. record x { sent = x.sent ++ v ∷ [] }) w.chans o o' (no_chan (λ x. length x.sent) w o (Send, o) e)
+uncounted w (n.Offer o v) e Done o' = not_there (λ (x : Channel). x.completed) (λ x. record x { sent = x.sent ++ v ∷ [] }) w.chans o o' (no_chan (λ x. length x.sent) w o (Send, o) e)
+uncounted w (n.Done o u) e P o' = refl
+uncounted w (n.Done o u) e V o' = refl
+uncounted w (n.Done o u) e Send o' = not_there (λ (x : Channel). length x.sent) (λ x. record x { completed = x.completed + 1 }) w.chans o o' (no_chan (λ x. x.completed) w o (Done, o) e)
+uncounted w (n.Done o u) e Recv o' = not_there (λ (x : Channel). x.received) (λ x. record x { completed = x.completed + 1 }) w.chans o o' (no_chan (λ x. x.completed) w o (Done, o) e)
+uncounted w (n.Done o u) e Done o' = not_there (λ (x : Channel). x.completed) (λ x. record x { completed = x.completed + 1 }) w.chans o o' (no_chan (λ x. x.completed) w o (Done, o) e)
 uncounted w (n.Recv o u) e P o' = refl
 uncounted w (n.Recv o u) e V o' = refl
 uncounted w (n.Recv o u) e Send o' = not_there (λ (x : Channel). length x.sent) (λ x. record x { received = x.received + 1 }) w.chans o o' (no_chan (λ x. x.received) w o (Recv, o) e)
 uncounted w (n.Recv o u) e Recv o' = not_there (λ (x : Channel). x.received) (λ x. record x { received = x.received + 1 }) w.chans o o' (no_chan (λ x. x.received) w o (Recv, o) e)
+uncounted w (n.Recv o u) e Done o' = not_there (λ (x : Channel). x.completed) (λ x. record x { received = x.received + 1 }) w.chans o o' (no_chan (λ x. x.received) w o (Recv, o) e)
 uncounted w step e P o' = refl
 uncounted w step e V o' = refl
 uncounted w step e Send o' = refl
 uncounted w step e Recv o' = refl
+uncounted w step e Done o' = refl
 
 -- the same counts and the same record
 module _ (first count count' : Counting) (syncs syncs' : List (List Sync)) (same : (kind : SyncKind) (object : ℕ) → count' kind object ≡ count kind object) (record_is : syncs' ≡ syncs) (c : IsCounted first count syncs) where

@@ -8,7 +8,7 @@ use Rattle.ppd_ast.specs.declared.status.Status.TheVariants as status
 use Rattle.ppd_entry.specs.declared.entry.Entry.{Entry}
 use Rattle.ppd_entry.specs.declared.entry.Entry.TheVariants as entry
 use Rattle.ppd_sem.specs.declared.proc.Need.{Need}
-use Rattle.ppd_sem.specs.declared.proc.Need.TheVariants.{Read, Write, P, V, Send, Recv}
+use Rattle.ppd_sem.specs.declared.proc.Need.TheVariants.{Read, Write, P, V, Send, Offer, Done, Recv}
 use Rattle.ppd_sem.specs.declared.proc.Proc.{Proc}
 use Rattle.ppd_sem.specs.Process.{act}
 use Rattle.ppd_model.specs.Story.{Moment, Taken, steps_of, story, told, unit_started}
@@ -75,6 +75,8 @@ reads_bare (Write c v) l = refl
 reads_bare (P s u) l = refl
 reads_bare (V s u) l = refl
 reads_bare (Send c v u) l = refl
+reads_bare (Offer c v) l = refl
+reads_bare (Done c u) l = refl
 reads_bare (Recv c u) l = refl
 reads_bare n l = refl
 
@@ -84,6 +86,8 @@ writes_bare (Write c v) l = refl
 writes_bare (P s u) l = refl
 writes_bare (V s u) l = refl
 writes_bare (Send c v u) l = refl
+writes_bare (Offer c v) l = refl
+writes_bare (Done c u) l = refl
 writes_bare (Recv c u) l = refl
 writes_bare n l = refl
 

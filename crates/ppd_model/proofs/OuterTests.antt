@@ -106,7 +106,8 @@ module _ (program : Program) (t : Todo) (ts : List Todo) (v w : View) (vs : List
   by_move : (todo : List Todo) (now : List View) → Move program t ts (v ∷ vs) (w ∷ vs) todo now → AllStand program now todo
   by_move todo now (stays u e todo_is now_is) =
       put todo (u ∷ ts) now (v ∷ vs) todo_is now_is (subst (λ (s : ℕ). Stands program v.1 s × AllStand program (left_by (returns (kind_of program s)) v vs) ts) (sym e) h)
-  by_move todo now (traps todo_is now_is) = put todo (t ∷ ts) now (w ∷ vs) todo_is now_is after
+  by_move todo now (traps u e todo_is now_is) =
+      put todo (u ∷ ts) now (w ∷ vs) todo_is now_is (subst (λ (s : ℕ). Stands program w.1 s × AllStand program (left_by (returns (kind_of program s)) w vs) ts) (sym e) after)
   by_move todo now (passes no_return todo_is now_is) = put todo ts now (w ∷ vs) todo_is now_is (rest false no_return)
   by_move todo now (chooses stmts no_return choice inner todo_is now_is) =
       put todo (todos stmts ++ ts) now (w ∷ vs) todo_is now_is (inner_stand program t.stmt w vs stmts ts (new choice) inner (rest false no_return))

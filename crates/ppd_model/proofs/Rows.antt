@@ -6,6 +6,7 @@ pub mod UnguardedIncrement
 pub mod LockOrder
 pub mod CountingSemaphore
 pub mod BoundedChannel
+pub mod RendezvousOrder
 pub mod ArrayCells
 pub mod UnreadSnapshot
 pub mod CalleeWrite

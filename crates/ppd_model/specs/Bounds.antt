@@ -5,11 +5,11 @@ use Rattle.ppd_ast.specs.declared.program.Chan.{Chan}
 use Rattle.ppd_ast.specs.declared.program.Program.{Program}
 use Rattle.ppd_ast.specs.declared.program.Sem.{Sem}
 use Rattle.ppd_sem.specs.declared.proc.Need.{Need}
-use Rattle.ppd_sem.specs.declared.proc.Need.TheVariants.{Write, P, V, Send, Recv}
+use Rattle.ppd_sem.specs.declared.proc.Need.TheVariants.{Write, P, V, Send, Offer, Done, Recv}
 use Rattle.ppd_sem.specs.declared.proc.Proc.{Proc}
 use Rattle.ppd_sem.specs.Measure.{measure}
 use Rattle.ppd_model.specs.Schedule.{run}
-use Rattle.ppd_model.specs.World.{World, Channel, Counts, need, step}
+use Rattle.ppd_model.specs.World.{World, Channel, Counts, need, room, step}
 
 -- ---- what a step changes
 
@@ -24,9 +24,11 @@ names_sem s (P o u) = nat_eq o s
 names_sem s (V o u) = nat_eq o s
 names_sem s need = false
 
--- a step of this need sends to channel c or receives from it
+-- a step of this need sends to channel c, receives from it or completes a send to it
 abbrev pub names_chan : ℕ → Need → Bool
 names_chan c (Send o v u) = nat_eq o c
+names_chan c (Offer o v) = nat_eq o c
+names_chan c (Done o u) = nat_eq o c
 names_chan c (Recv o u) = nat_eq o c
 names_chan c need = false
 
@@ -72,11 +74,13 @@ pub record IsBalancedSem (s : Sem) (x : Counts) : Type 0 where
   pub first : s.start ≤ x.given
   pub taken : x.taken ≤ x.given
 
--- from a channel no more was received than sent, and to it no more sent than received and its capacity together
+-- of a channel no more was completed than received and no more received than sent, and to it no more sent
+-- than there is room for: the received and the capacity together, and for capacity 0 one more than completed
 pub record IsBalancedChan (c : Chan) (x : Channel) : Type 0 where
   pub capacity : x.capacity ≡ c.capacity
+  pub completed : x.completed ≤ x.received
   pub received : x.received ≤ length x.sent
-  pub sent : length x.sent ≤ x.received + x.capacity
+  pub sent : length x.sent ≤ room x
 
 -- the counts of all semaphores and channels of the program
 pub record IsBalanced (program : Program) (w : World) : Type 0 where

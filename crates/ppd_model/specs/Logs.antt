@@ -12,7 +12,7 @@ use Rattle.ppd_entry.specs.declared.entry.Entry.TheVariants as entry
 use Rattle.ppd_entry.specs.declared.entry.Logs.{Logs}
 use Rattle.ppd_sem.specs.declared.proc.Answer.{Answer}
 use Rattle.ppd_sem.specs.declared.proc.Need.{Need}
-use Rattle.ppd_sem.specs.declared.proc.Need.TheVariants.{Read, Write, P, V, Send, Recv, End, Trap, Budget}
+use Rattle.ppd_sem.specs.declared.proc.Need.TheVariants.{Read, Write, P, V, Send, Offer, Done, Recv, End, Trap, Budget}
 use Rattle.ppd_sem.specs.declared.proc.Proc.{Proc}
 use Rattle.ppd_sem.specs.declared.proc.Todo.{Todo}
 use Rattle.ppd_sem.specs.Process.{act, started, value_of}
@@ -46,9 +46,10 @@ abbrev pub units : Option ℕ → List ℤ → List Entry
 units None values = []
 units (Some u) values = entry.Unit u values ∷ []
 
--- what was sent or received, and 0 for a semaphore
+-- what was sent or received, and 0 for a semaphore and a completion
 abbrev pub passed : Need → Answer → ℤ
 passed (Send c v u) a = v
+passed (Offer c v) a = v
 passed (Recv c u) a = value_of a
 passed need a = pos 0
 
@@ -87,6 +88,8 @@ with_access (Write c v) l = record l { writes = with_cell c l.writes }
 with_access (P s u) l = record l { reads = []; writes = [] }
 with_access (V s u) l = record l { reads = []; writes = [] }
 with_access (Send c v u) l = record l { reads = []; writes = [] }
+with_access (Offer c v) l = record l { reads = []; writes = [] }
+with_access (Done c u) l = record l { reads = []; writes = [] }
 with_access (Recv c u) l = record l { reads = []; writes = [] }
 with_access need l = l
 

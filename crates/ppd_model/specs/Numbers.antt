@@ -1,7 +1,7 @@
 -- The numbers of synchronizations: those of one kind and object go up by one, each once.
 use Rattle.std.specs.Prelude.{◌≡◌, ℕ, ◌<◌, ◌≤◌, List, length, slice_get, Option, Some, None}
 use Rattle.ppd_ast.specs.declared.status.SyncKind.{SyncKind}
-use Rattle.ppd_ast.specs.declared.status.SyncKind.TheVariants.{P, V, Send, Recv}
+use Rattle.ppd_ast.specs.declared.status.SyncKind.TheVariants.{P, V, Send, Recv, Done}
 use Rattle.ppd_model.specs.declared.graph.NodeId.{NodeId}
 use Rattle.ppd_model.specs.World.{World, Counts, Channel}
 use Rattle.ppd_model.specs.Synchronizations.{Sync}
@@ -22,6 +22,7 @@ count_of w P o = count_in (λ (x : Counts). x.taken) (slice_get w.sems o)
 count_of w V o = count_in (λ (x : Counts). x.given) (slice_get w.sems o)
 count_of w Send o = count_in (λ (x : Channel). length x.sent) (slice_get w.chans o)
 count_of w Recv o = count_in (λ (x : Channel). x.received) (slice_get w.chans o)
+count_of w Done o = count_in (λ (x : Channel). x.completed) (slice_get w.chans o)
 
 -- the synchronization of this kind, object and number
 abbrev pub sync : SyncKind → ℕ → ℕ → Sync

@@ -21,7 +21,7 @@ abbrev pub started_world : Program → Plan → ℕ → World
 started_world program plan budget = record {
   shared = program.starts;
   sems = map (λ s. record { given = s.start; taken = 0 }) program.sems;
-  chans = map (λ c. record { capacity = c.capacity; sent = []; received = 0 }) program.chans;
+  chans = map (λ c. record { capacity = c.capacity; sent = []; received = 0; completed = 0 }) program.chans;
   procs = started_procs program plan budget (length program.bodies - program.functions);
 }
 

@@ -4,7 +4,7 @@ use Rattle.ppd_ast.specs.declared.program.Program.{Program}
 use Rattle.ppd_ast.specs.declared.plan.Plan.{Plan}
 use Rattle.ppd_ast.specs.declared.plan.Unit.{Unit as UnitOf}
 use Rattle.ppd_sem.specs.declared.proc.Need.{Need}
-use Rattle.ppd_sem.specs.declared.proc.Need.TheVariants.{Read, Write, Enter, Leave, Invoke, Back, P, V, Send, Recv, Budget, Stopped}
+use Rattle.ppd_sem.specs.declared.proc.Need.TheVariants.{Read, Write, Enter, Leave, Invoke, Back, P, V, Send, Offer, Done, Recv, Budget, Stopped}
 use Rattle.ppd_model.specs.declared.trace.EventId.{EventId}
 pub use Rattle.ppd_model.specs.declared.tracing.Story.{Story}
 pub use Rattle.ppd_model.specs.declared.tracing.Taken.{Taken}
@@ -57,6 +57,8 @@ abbrev pub number_of : World → Need → Option ℕ
 number_of w (P s u) = number_after (λ (x : Counts). x.taken) (slice_get w.sems s)
 number_of w (V s u) = number_after (λ (x : Counts). x.given) (slice_get w.sems s)
 number_of w (Send c v u) = number_after (λ (x : Channel). length x.sent) (slice_get w.chans c)
+number_of w (Offer c v) = number_after (λ (x : Channel). length x.sent) (slice_get w.chans c)
+number_of w (Done c u) = number_after (λ (x : Channel). x.completed) (slice_get w.chans c)
 number_of w (Recv c u) = number_after (λ (x : Channel). x.received) (slice_get w.chans c)
 number_of w need = None
 
@@ -74,6 +76,7 @@ unit_started (Back b u) = u
 unit_started (P s u) = Some u
 unit_started (V s u) = Some u
 unit_started (Send c v u) = Some u
+unit_started (Done c u) = Some u
 unit_started (Recv c u) = Some u
 unit_started need = None
 

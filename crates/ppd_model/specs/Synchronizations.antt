@@ -1,9 +1,9 @@
 -- The synchronizations of each process, and which of them lead to which by their numbers.
-use Rattle.std.specs.Prelude.{ℕ, ◌+◌, nat_eq, Bool, false, ◌&&◌, List, [], ◌∷◌, filter_map, slice_get, Option, Some, None, if◌then◌else◌}
-use Rattle.ppd_ast.specs.declared.program.Chan.{Chan}
+use Rattle.std.specs.Prelude.{ℕ, zero, suc, ◌+◌, nat_eq, Bool, false, ◌&&◌, List, [], ◌∷◌, filter_map, slice_get, Option, Some, None, if◌then◌else◌}
 use Rattle.ppd_ast.specs.declared.program.Program.{Program}
 use Rattle.ppd_ast.specs.declared.status.SyncKind.{SyncKind}
-use Rattle.ppd_ast.specs.declared.status.SyncKind.TheVariants.{P, V, Send, Recv}
+use Rattle.ppd_ast.specs.declared.status.SyncKind.TheVariants.{P, V, Send, Recv, Done}
+use Rattle.ppd_sem.specs.Tables.{capacity_of}
 use Rattle.ppd_sem.specs.declared.proc.Need.{Need}
 use Rattle.ppd_sem.specs.declared.proc.Need.TheVariants as need
 use Rattle.ppd_model.specs.declared.trace.EventId.{EventId}
@@ -20,6 +20,8 @@ abbrev pub kind_of_sync : Need → Option (SyncKind × ℕ)
 kind_of_sync (need.P s u) = Some (P, s)
 kind_of_sync (need.V s u) = Some (V, s)
 kind_of_sync (need.Send c v u) = Some (Send, c)
+kind_of_sync (need.Offer c v) = Some (Send, c)
+kind_of_sync (need.Done c u) = Some (Done, c)
 kind_of_sync (need.Recv c u) = Some (Recv, c)
 kind_of_sync n = None
 
@@ -38,21 +40,15 @@ syncs_of steps = filter_map sync_of steps
 
 -- ---- pairs
 
--- the capacity of a channel that is there
-abbrev pub capacity_in : Option Chan → ℕ
-capacity_in None = 0
-capacity_in (Some c) = c.capacity
-
--- the capacity of channel c
-abbrev pub capacity_of : Program → ℕ → ℕ
-capacity_of program c = capacity_in (slice_get program.chans c)
-
 -- the number of the second kind to which number k of the first kind leads: V k to P k, send k to
--- receive k, and receive k to the send that finds its place free
+-- receive k, and receive k to the send that finds its place free; for capacity 0 receive k to
+-- completion k, and completion k to the next send
 abbrev pub led_to : ℕ → SyncKind → SyncKind → ℕ → Option ℕ
 led_to capacity V P k = Some k
 led_to capacity Send Recv k = Some k
-led_to capacity Recv Send k = Some (k + capacity)
+led_to zero Recv Done k = Some k
+led_to zero Done Send k = Some (k + 1)
+led_to (suc n) Recv Send k = Some (k + suc n)
 led_to capacity a b k = None
 
 -- there is a number, and it is k

@@ -3,7 +3,7 @@ use Rattle.std.specs.Prelude.{ℕ, zero, suc, ◌+◌, nat_lt, ℤ, pos, Bool, t
 use Rattle.ppd_ast.specs.declared.program.Program.{Program}
 use Rattle.ppd_ast.specs.declared.plan.Plan.{Plan}
 use Rattle.ppd_sem.specs.declared.proc.Need.{Need}
-use Rattle.ppd_sem.specs.declared.proc.Need.TheVariants.{Read, Write, P, V, Send, Recv, Stopped}
+use Rattle.ppd_sem.specs.declared.proc.Need.TheVariants.{Read, Write, P, V, Send, Offer, Done, Recv, Stopped}
 use Rattle.ppd_sem.specs.declared.proc.Answer.{Answer}
 use Rattle.ppd_sem.specs.declared.proc.Answer.TheVariants.{Value, Go}
 use Rattle.ppd_sem.specs.declared.proc.Proc.{Proc}
@@ -25,10 +25,23 @@ abbrev pub can_take : Option Counts → Bool
 can_take None = false
 can_take (Some s) = nat_lt s.taken s.given
 
--- fewer were sent than received and the capacity together
+-- how many may have been sent: the received and the capacity together, and for capacity 0 one more than are completed
+abbrev pub room_of : ℕ → Channel → ℕ
+room_of zero c = c.completed + 1
+room_of (suc n) c = c.received + suc n
+
+abbrev pub room : Channel → ℕ
+room c = room_of c.capacity c
+
+-- there is room for one more
 abbrev pub can_send : Option Channel → Bool
 can_send None = false
-can_send (Some c) = nat_lt (length c.sent) (c.received + c.capacity)
+can_send (Some c) = nat_lt (length c.sent) (room c)
+
+-- fewer were completed than received
+abbrev pub can_complete : Option Channel → Bool
+can_complete None = false
+can_complete (Some c) = nat_lt c.completed c.received
 
 -- fewer were received than sent
 abbrev pub can_receive : Option Channel → Bool
@@ -40,6 +53,8 @@ abbrev pub can : World → Need → Bool
 can w Stopped = false
 can w (P s u) = can_take (slice_get w.sems s)
 can w (Send c v u) = can_send (slice_get w.chans c)
+can w (Offer c v) = can_send (slice_get w.chans c)
+can w (Done c u) = can_complete (slice_get w.chans c)
 can w (Recv c u) = can_receive (slice_get w.chans c)
 can w need = true
 
@@ -81,6 +96,8 @@ effect w (Write c v) = record w { shared = slice_set w.shared c v }
 effect w (P s u) = record w { sems = change (λ x. record x { taken = x.taken + 1 }) s w.sems }
 effect w (V s u) = record w { sems = change (λ x. record x { given = x.given + 1 }) s w.sems }
 effect w (Send c v u) = record w { chans = change (λ x. record x { sent = x.sent ++ v ∷ [] }) c w.chans }
+effect w (Offer c v) = record w { chans = change (λ x. record x { sent = x.sent ++ v ∷ [] }) c w.chans }
+effect w (Done c u) = record w { chans = change (λ x. record x { completed = x.completed + 1 }) c w.chans }
 effect w (Recv c u) = record w { chans = change (λ x. record x { received = x.received + 1 }) c w.chans }
 effect w need = w
 

@@ -9,12 +9,14 @@ pub struct Counts {
     pub taken: u32,
 }
 
-/// The values sent to a channel so far, and how many of them were received.
+/// The values sent to a channel so far, how many of them were received, and how many sends were
+/// completed, which is 0 where the capacity is not 0.
 #[derive(Drop, Debug)]
 pub struct Channel {
     pub capacity: u8,
     pub sent: Nums,
     pub received: u32,
+    pub completed: u32,
 }
 
 /// A process with its entries so far, the shared cells that it accessed since its last

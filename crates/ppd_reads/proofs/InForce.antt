@@ -1,6 +1,6 @@
 -- The head of what a process has to do is reached in the unit in force, or is a block loop that is yet to be entered.
 use Rattle.std.proofs.Common.{◌≡◌, ℕ, ◌<◌, true, false, List, [], ◌∷◌, Option, Some, None, refl, ap, sym, subst, ◌∙◌, inl, inr, ◌⊎◌, length, true≢false}
-use Rattle.std.specs.Prelude.{⊤, IsSome, not, ◌&&◌, ◌||◌, slice_get, unwrap_or}
+use Rattle.std.specs.Prelude.{⊤, get_or, IsSome, not, ◌&&◌, ◌||◌, slice_get, unwrap_or}
 use Rattle.std.proofs.lemmas.Bool.{cases_Bool}
 use Rattle.std.proofs.lemmas.Option.{slice_get_within}
 use Rattle.ppd_ast.specs.declared.program.Body.{Body}
@@ -25,14 +25,14 @@ use Rattle.ppd_units.proofs.Staying.{row_from, unless_no}
 use Rattle.ppd_blocks.specs.Blocks.{block_loops, plan_of}
 use Rattle.ppd_sem.specs.declared.proc.Answer.{Answer}
 use Rattle.ppd_sem.specs.declared.proc.Need.{Need}
-use Rattle.ppd_sem.specs.declared.proc.Need.TheVariants.{Read, Write, Plain, Enter, Leave, Invoke, Back, P, V, Send, Recv, End, Trap, Budget, Stopped}
+use Rattle.ppd_sem.specs.declared.proc.Need.TheVariants.{Read, Write, Plain, Enter, Leave, Invoke, Back, P, V, Send, Offer, Done, Recv, End, Trap, Budget, Stopped}
 use Rattle.ppd_sem.specs.declared.proc.Proc.{Proc}
 use Rattle.ppd_sem.specs.declared.proc.Todo.{Todo}
 use Rattle.ppd_sem.specs.Process.{act, kind_or_end, need_of, top_call}
 use Rattle.ppd_sem.specs.Process.{kind_of as kind_at}
 use Rattle.ppd_sem.specs.Tables.{block_of, unit_of}
 use Rattle.ppd_model.specs.Story.{unit_started}
-use Rattle.ppd_course.specs.Course.{BeginsList, EntersLoop, GoesAlong, GoesOn, LeadsTo, ReturnsBehind, StartsBehind}
+use Rattle.ppd_course.specs.Course.{OffersSend, BeginsList, EntersLoop, GoesAlong, GoesOn, LeadsTo, ReturnsBehind, StartsBehind}
 use Rattle.ppd_reads.proofs.Listed.{IsListed}
 use Rattle.ppd_reads.proofs.Needs.{AreCalled, IsCallIf, IsEntering, Tells, need_enters, need_tells, top_called}
 use Rattle.ppd_reads.proofs.Numbers.{after_listed, block_loop, enter_listed, entry_listed, exit_listed, loop_block, loop_is_while}
@@ -212,6 +212,12 @@ module _ (program : Program) (policy : Policy) where
     behind : (w : ℕ) → is_left (kind_at program t.stmt) ≡ true → StartsBehind program plan t.stmt (start.After t.stmt) w now.todo → IsInForce w now
     behind w left g = inr (starts_behind t.stmt (start.After t.stmt) w now.todo refl (call_listed t.stmt v left) g)
 
+    offers : OffersSend t.stmt s.todo now.todo → HasHeadOf u now.todo
+    offers g = subst (HasHeadOf u) (sym g.after_is) (marked g.head (ap (λ l. get_or l 0 t) (sym g.before_is ∙ is)))
+      where
+        marked : (w : Todo) → w ≡ t → HasHead u (record w { offered = true })
+        marked w e = subst (λ z. HasHead u (record z { offered = true })) (sym e) (record { origin = h.origin; unit_is = h.unit_is; listed = h.listed; head = h.head })
+
     by_need : (n : Need) → need_of program plan s ≡ n → Tells program plan t.stmt n → LeadsTo program plan n t.stmt (top_call s.frames) s now → IsInForce (unwrap_or (unit_started n) u) now
     by_need (Read c) e tells g = inr (subst (HasHeadOf u) (sym (g ∙ is)) h)
     by_need (Write c x) e tells g = plainly (λ k. subst IsEntering e k) g
@@ -223,6 +229,8 @@ module _ (program : Program) (policy : Policy) where
     by_need (P x w) e tells g = behind w tells g
     by_need (V x w) e tells g = behind w tells g
     by_need (Send x y w) e tells g = behind w tells g
+    by_need (Offer x y) e tells g = inr (offers g)
+    by_need (Done x w) e tells g = behind w tells g
     by_need (Recv x w) e tells g = behind w tells g
     by_need (End b) e tells g = inl g
     by_need (Trap x) e tells g = inl g

@@ -1,5 +1,5 @@
 -- What a need tells of its statement, and the calls that began a process's frames.
-use Rattle.std.proofs.Common.{◌≡◌, ℕ, ℤ, Bool, true, false, List, [], ◌∷◌, Option, Some, None, Ok, Err, refl, ap, sym, subst, ◌∙◌, cond, true≢false}
+use Rattle.std.proofs.Common.{◌≡◌, ℕ, zero, suc, ℤ, Bool, true, false, List, [], ◌∷◌, Option, Some, None, Ok, Err, refl, ap, sym, subst, ◌∙◌, cond, true≢false}
 use Rattle.std.specs.Prelude.{⊤, IsSome, if◌then◌else◌}
 use Rattle.ppd_ast.specs.declared.plan.BlockKind.TheVariants.{Loop}
 use Rattle.ppd_ast.specs.declared.plan.Plan.{Plan}
@@ -16,14 +16,16 @@ use Rattle.ppd_sem.specs.declared.asking.Pause.TheVariants.{Wants, Traps}
 use Rattle.ppd_sem.specs.declared.proc.Answer.{Answer}
 use Rattle.ppd_sem.specs.declared.proc.Frame.{Frame}
 use Rattle.ppd_sem.specs.declared.proc.Need.{Need}
-use Rattle.ppd_sem.specs.declared.proc.Need.TheVariants.{Read, Enter, Leave, Invoke, P, V, Send, Recv, Trap, Budget, Stopped}
+use Rattle.ppd_sem.specs.declared.proc.Need.TheVariants.{Read, Enter, Leave, Invoke, P, V, Send, Offer, Done, Recv, Trap, Budget, Stopped}
 use Rattle.ppd_sem.specs.declared.proc.Proc.{Proc}
 use Rattle.ppd_sem.specs.declared.proc.Todo.{Todo}
 use Rattle.ppd_sem.specs.Ask.{ask, element, is_zero}
 use Rattle.ppd_sem.specs.Asked.{Asked, and_then, gives, lift}
 use Rattle.ppd_sem.specs.Deed.{Deed, set_local, set_shared, clear, branch, turn, leave, invoke, back, take, give, send, receive, print, pass, finish, ask_all, ask_deed, ask_stored}
-use Rattle.ppd_sem.specs.Process.{act, act_at, act_by_asked, act_by_deed, act_by_need, clear_top, entry_of, head_deed, into_of, kind_of, loop_of, need_by_entry, need_by_status, need_of, need_of_asked, need_of_leaving, need_of_running, receive_at, returned, returned_from, started, top_call, write_top}
-use Rattle.ppd_sem.specs.Tables.{block_of}
+use Rattle.ppd_sem.proofs.Offers.{offer_there}
+use Rattle.std.proofs.lemmas.Option.{none-some}
+use Rattle.ppd_sem.specs.Process.{chan_of, need_by_offer, need_of_send, offer_of, act, act_at, act_by_asked, act_by_deed, act_by_need, clear_top, entry_of, head_deed, into_of, kind_of, loop_of, need_by_entry, need_by_status, need_of, need_of_asked, need_of_leaving, need_of_running, receive_at, returned, returned_from, started, top_call, write_top}
+use Rattle.ppd_sem.specs.Tables.{capacity_of, block_of}
 
 -- ---- a deed that starts a unit is of a call or a synchronization
 
@@ -102,6 +104,7 @@ Tells program plan s (Leave b u) = block_of plan (Loop s) ≡ Some b
 Tells program plan s (P x u) = is_left (kind_of program s) ≡ true
 Tells program plan s (V x u) = is_left (kind_of program s) ≡ true
 Tells program plan s (Send x v u) = is_left (kind_of program s) ≡ true
+Tells program plan s (Done x u) = is_left (kind_of program s) ≡ true
 Tells program plan s (Recv x u) = is_left (kind_of program s) ≡ true
 Tells program plan s n = ⊤
 
@@ -113,7 +116,11 @@ call_tells : (program : Program) (plan : Plan) (t : ℕ) (b : Bool) (f : Option 
 call_tells program plan t true f u = tt
 call_tells program plan t false f u = tt
 
-asked_tells : (program : Program) (plan : Plan) (t : ℕ) (s : Proc) (asked : Asked Deed) → FitsAsked (kind_of program t) asked → Tells program plan t (need_of_asked plan t s asked)
+send_tells : (program : Program) (plan : Plan) (t n c : ℕ) (v : ℤ) → is_left (kind_of program t) ≡ true → Tells program plan t (need_of_send plan t n c v)
+send_tells program plan t zero c v h = tt
+send_tells program plan t (suc n) c v h = h
+
+asked_tells : (program : Program) (plan : Plan) (t : ℕ) (s : Proc) (asked : Asked Deed) → FitsAsked (kind_of program t) asked → Tells program plan t (need_of_asked program plan t s asked)
 asked_tells program plan t s (Err (Wants c)) h = tt
 asked_tells program plan t s (Err (Traps x)) h = tt
 asked_tells program plan t s (Ok (set_local c v, left)) h = tt
@@ -126,15 +133,23 @@ asked_tells program plan t s (Ok (invoke f values into, left)) h = call_tells pr
 asked_tells program plan t s (Ok (back v, left)) h = tt
 asked_tells program plan t s (Ok (take x, left)) h = h refl
 asked_tells program plan t s (Ok (give x, left)) h = h refl
-asked_tells program plan t s (Ok (send x v, left)) h = h refl
+asked_tells program plan t s (Ok (send x v, left)) h = send_tells program plan t (capacity_of program x) x v (h refl)
 asked_tells program plan t s (Ok (receive x into, left)) h = h refl
 asked_tells program plan t s (Ok (print v, left)) h = tt
 asked_tells program plan t s (Ok (pass, left)) h = tt
 asked_tells program plan t s (Ok (finish, left)) h = tt
 
-entry_tells : (program : Program) (plan : Plan) (t : ℕ) (s : Proc) (entry : Option ℕ) (asked : Asked Deed) → FitsAsked (kind_of program t) asked → Tells program plan t (need_by_entry plan t s entry asked)
+entry_tells : (program : Program) (plan : Plan) (t : ℕ) (s : Proc) (entry : Option ℕ) (asked : Asked Deed) → FitsAsked (kind_of program t) asked → Tells program plan t (need_by_entry program plan t s entry asked)
 entry_tells program plan t s None asked h = asked_tells program plan t s asked h
 entry_tells program plan t s (Some b) asked h = tt
+
+send_left : (k : Kind) (c : ℕ) → chan_of k ≡ Some c → is_left k ≡ true
+send_left (kind.Send d e) c is = refl
+send_left k c is = absurd (none-some c is)
+
+offer_tells : (program : Program) (plan : Plan) (t : ℕ) (o : Option ℕ) (n : Need) → ((c : ℕ) → o ≡ Some c → is_left (kind_of program t) ≡ true) → Tells program plan t n → Tells program plan t (need_by_offer plan t o n)
+offer_tells program plan t (Some c) n h g = h c refl
+offer_tells program plan t None n h g = g
 
 budget_tells : (program : Program) (plan : Plan) (t : ℕ) (b : Bool) (n : Need) → Tells program plan t n → Tells program plan t (cond b Budget n)
 budget_tells program plan t true n h = tt
@@ -146,7 +161,9 @@ need_tells program plan s t ts is = by_status s.status
     by_head : Tells program plan t.stmt (need_of_running program plan (t ∷ ts) s)
     by_head =
         budget_tells program plan t.stmt _ _
-        (entry_tells program plan t.stmt s (entry_of program plan t) (head_deed program t s) (asked_fits program.exprs (kind_of program t.stmt) _ s.answers))
+        (offer_tells program plan t.stmt (offer_of program t) (need_by_entry program plan t.stmt s (entry_of program plan t) (head_deed program t s))
+        (λ c e. send_left (kind_of program t.stmt) c (offer_there t.offered (chan_of (kind_of program t.stmt)) c e))
+        (entry_tells program plan t.stmt s (entry_of program plan t) (head_deed program t s) (asked_fits program.exprs (kind_of program t.stmt) _ s.answers)))
 
     by_status : (status : Option Status) → Tells program plan t.stmt (need_by_status program plan status s)
     by_status (Some st) = tt
@@ -166,6 +183,12 @@ entry_is program plan t (kind.While e body) false b isnt is at = at
 entry_is program plan t (kind.While e body) true b isnt is at = absurd (true≢false isnt)
 entry_is program plan t k entered b isnt is at = absurd (cc)
 
+-- a loop is no send
+no_offer : (k : Kind) (offered : Bool) → is_while k ≡ true → (if offered then chan_of k else None) ≡ None
+no_offer (kind.While e body) false is = refl
+no_offer (kind.While e body) true is = refl
+no_offer k offered is = absurd (cc)
+
 budget_enters : (b : Bool) (n : Need) → IsEntering n → IsEntering (cond b Budget n)
 budget_enters true n h = tt
 budget_enters false n h = h
@@ -178,7 +201,9 @@ need_enters program plan s t ts b is isnt loop at = by_status s.status
     entry = entry_is program plan t.stmt (kind_of program t.stmt) t.entered b isnt loop at
 
     by_head : IsEntering (need_of_running program plan (t ∷ ts) s)
-    by_head = budget_enters _ _ (subst (λ o. IsEntering (need_by_entry plan t.stmt s o (head_deed program t s))) (sym entry) tt)
+    by_head =
+        budget_enters _ _ (subst (λ o. IsEntering (need_by_offer plan t.stmt o (need_by_entry program plan t.stmt s (entry_of program plan t) (head_deed program t s)))) (sym (no_offer (kind_of program t.stmt) t.offered loop))
+        (subst (λ o. IsEntering (need_by_entry program plan t.stmt s o (head_deed program t s))) (sym entry) tt))
 
     by_status : (status : Option Status) → IsEntering (need_by_status program plan status s)
     by_status (Some st) = tt
@@ -279,6 +304,8 @@ module _ (program : Program) (plan : Plan) (a : Answer) (t : Todo) (ts : List To
   need_called Stopped = h
   need_called Budget = h
   need_called (Enter b u) = h
+  need_called (Offer c v) = h
+  need_called (Done c u) = h
   need_called (Trap x) = h
   need_called n = head_called
 

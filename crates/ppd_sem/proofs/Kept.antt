@@ -20,7 +20,7 @@ use Rattle.ppd_sem.specs.declared.asking.Pause.TheVariants.{Wants, Traps}
 use Rattle.ppd_sem.specs.declared.proc.Answer.{Answer}
 use Rattle.ppd_sem.specs.declared.proc.Frame.{Frame}
 use Rattle.ppd_sem.specs.declared.proc.Need.{Need}
-use Rattle.ppd_sem.specs.declared.proc.Need.TheVariants.{Read, Write, Plain, Enter, Leave, Invoke, Back, P, V, Send, Recv, End, Trap, Budget, Stopped}
+use Rattle.ppd_sem.specs.declared.proc.Need.TheVariants.{Read, Write, Plain, Enter, Leave, Invoke, Back, P, V, Send, Offer, Done, Recv, End, Trap, Budget, Stopped}
 use Rattle.ppd_sem.specs.declared.proc.Proc.{Proc}
 use Rattle.ppd_sem.specs.declared.proc.Todo.{Todo}
 use Rattle.ppd_sem.specs.Ask.{ask, element, is_zero}
@@ -28,6 +28,7 @@ use Rattle.ppd_sem.specs.Asked.{Asked, and_then, gives, lift}
 use Rattle.ppd_sem.specs.Deed.{Deed, set_local, set_shared, clear, branch, turn, leave, invoke, back, take, give, send, receive, print, pass, finish, ask_all, ask_deed, ask_stored}
 use Rattle.ppd_sem.specs.Process.{act, act_at, act_by_asked, act_by_deed, act_by_need, cells_for, charged, clear_cells, clear_top, cost, head_deed, into_of, kind_of, kind_or_end, need_of, need_of_head, receive_at, returned, returned_from, todos, top_cells, top_of, within_budget, write_top}
 use Rattle.ppd_sem.specs.Runs.{AreOfFunction, AreOver, IsCallable, IsInner, IsOver, IsRunnable, IsRunnableStmt, IsRunning, LeadsOn, left_by, returns, size_if, size_of, sizes, stmt_size}
+use Rattle.ppd_sem.proofs.Offers.{CompletesSend, head_completes, send_stays}
 use Rattle.ppd_sem.proofs.Progress.{SamePurse, asked_purse, need_at_status, need_at_todo, stays_at}
 
 -- ---- what a statement's deed is
@@ -278,11 +279,11 @@ asked_runs p plan a t ts n s prog run d paid =
     let whole : Shape p (sizes s.frames) (t ∷ ts) = record { todo = subst (λ (l : List Todo). AreOver p (sizes s.frames) l) d run.todo; sizes = run.frames } in
     paid_runs p plan n s (act_by_asked p a t ts (head_deed p t s) s) run (asked_purse p a t ts (head_deed p t s) s) (head_shape p a t ts s s.frames prog refl d whole) paid
 
-need_runs : (p : Program) (plan : Plan) (a : Answer) (t : Todo) (ts : List Todo) (n : Need) (s : Proc) → IsRunnable p → IsRunning p s → s.todo ≡ t ∷ ts → s.spent + cost plan n ≤ s.budget → IsRunning p (act_by_need p plan a t ts n s)
-need_runs p plan a t ts (Read c) s prog run d h = asked_runs p plan a t ts (Read c) s prog run d h
-need_runs p plan a t ts (Write c v) s prog run d h = asked_runs p plan a t ts (Write c v) s prog run d h
-need_runs p plan a t ts Plain s prog run d h = asked_runs p plan a t ts Plain s prog run d h
-need_runs p plan a t ts (Enter b u) s prog run d h =
+need_runs : (p : Program) (plan : Plan) (a : Answer) (t : Todo) (ts : List Todo) (n : Need) (s : Proc) → CompletesSend p t.stmt n → IsRunnable p → IsRunning p s → s.todo ≡ t ∷ ts → s.spent + cost plan n ≤ s.budget → IsRunning p (act_by_need p plan a t ts n s)
+need_runs p plan a t ts (Read c) s is prog run d h = asked_runs p plan a t ts (Read c) s prog run d h
+need_runs p plan a t ts (Write c v) s is prog run d h = asked_runs p plan a t ts (Write c v) s prog run d h
+need_runs p plan a t ts Plain s is prog run d h = asked_runs p plan a t ts Plain s prog run d h
+need_runs p plan a t ts (Enter b u) s is prog run d h =
     let over : AreOver p (sizes s.frames) (t ∷ ts) = subst (λ (l : List Todo). AreOver p (sizes s.frames) l) d run.todo in
     let entered : Shape p (sizes s.frames) (record t { entered = true } ∷ ts) = record { todo = entered_over (sizes s.frames) over; sizes = run.frames } in
     paid_runs p plan (Enter b u) s (record s { todo = record t { entered = true } ∷ ts }) run record { budget = refl; spent = refl; steps = refl; below = refl } entered h
@@ -290,24 +291,40 @@ need_runs p plan a t ts (Enter b u) s prog run d h =
     entered_over : (ns : List ℕ) → AreOver p ns (t ∷ ts) → AreOver p ns (record t { entered = true } ∷ ts)
     entered_over [] h = h
     entered_over (n ∷ ns) h = h
-need_runs p plan a t ts (Leave b u) s prog run d h = asked_runs p plan a t ts (Leave b u) s prog run d h
-need_runs p plan a t ts (Invoke b u) s prog run d h = asked_runs p plan a t ts (Invoke b u) s prog run d h
-need_runs p plan a t ts (Back b u) s prog run d h = asked_runs p plan a t ts (Back b u) s prog run d h
-need_runs p plan a t ts (P x u) s prog run d h = asked_runs p plan a t ts (P x u) s prog run d h
-need_runs p plan a t ts (V x u) s prog run d h = asked_runs p plan a t ts (V x u) s prog run d h
-need_runs p plan a t ts (Send c v u) s prog run d h = asked_runs p plan a t ts (Send c v u) s prog run d h
-need_runs p plan a t ts (Recv c u) s prog run d h = asked_runs p plan a t ts (Recv c u) s prog run d h
-need_runs p plan a t ts (End b) s prog run d h = asked_runs p plan a t ts (End b) s prog run d h
-need_runs p plan a t ts (Trap x) s prog run d h =
+need_runs p plan a t ts (Leave b u) s is prog run d h = asked_runs p plan a t ts (Leave b u) s prog run d h
+need_runs p plan a t ts (Invoke b u) s is prog run d h = asked_runs p plan a t ts (Invoke b u) s prog run d h
+need_runs p plan a t ts (Back b u) s is prog run d h = asked_runs p plan a t ts (Back b u) s prog run d h
+need_runs p plan a t ts (P x u) s is prog run d h = asked_runs p plan a t ts (P x u) s prog run d h
+need_runs p plan a t ts (V x u) s is prog run d h = asked_runs p plan a t ts (V x u) s prog run d h
+need_runs p plan a t ts (Send c v u) s is prog run d h = asked_runs p plan a t ts (Send c v u) s prog run d h
+need_runs p plan a t ts (Offer c v) s is prog run d h =
+    let over : AreOver p (sizes s.frames) (t ∷ ts) = subst (λ (l : List Todo). AreOver p (sizes s.frames) l) d run.todo in
+    let offered : Shape p (sizes s.frames) (record t { offered = true } ∷ ts) = record { todo = offered_over (sizes s.frames) over; sizes = run.frames } in
+    paid_runs p plan (Offer c v) s (record s { todo = record t { offered = true } ∷ ts; answers = [] }) run record { budget = refl; spent = refl; steps = refl; below = refl } offered h
+  where
+    offered_over : (ns : List ℕ) → AreOver p ns (t ∷ ts) → AreOver p ns (record t { offered = true } ∷ ts)
+    offered_over [] h = h
+    offered_over (n ∷ ns) h = h
+need_runs p plan a t ts (Done c u) s is prog run d h =
+    let over : AreOver p (sizes s.frames) (t ∷ ts) = subst (λ (l : List Todo). AreOver p (sizes s.frames) l) d run.todo in
+    let after : Shape p (sizes s.frames) ts = record { todo = past_over (sizes s.frames) (send_stays (kind_of p t.stmt) c is) over; sizes = run.frames } in
+    paid_runs p plan (Done c u) s (record s { todo = ts; answers = [] }) run record { budget = refl; spent = refl; steps = refl; below = refl } after h
+  where
+    past_over : (ns : List ℕ) → returns (kind_of p t.stmt) ≡ false → AreOver p ns (t ∷ ts) → AreOver p ns ts
+    past_over [] e h = absurd h
+    past_over (n ∷ ns) e h = subst (λ (x : Bool). AreOver p (left_by x n ns) ts) e h.1
+need_runs p plan a t ts (Recv c u) s is prog run d h = asked_runs p plan a t ts (Recv c u) s prog run d h
+need_runs p plan a t ts (End b) s is prog run d h = asked_runs p plan a t ts (End b) s prog run d h
+need_runs p plan a t ts (Trap x) s is prog run d h =
     paid_runs p plan (Trap x) s (record s { status = Some (status.Trap x) }) run record { budget = refl; spent = refl; steps = refl; below = refl } record { todo = run.todo; sizes = run.frames } h
-need_runs p plan a t ts Budget s prog run d h = record { todo = run.todo; frames = run.frames; below = run.below; steps = run.steps; spent = run.spent }
-need_runs p plan a t ts Stopped s prog run d h = run
+need_runs p plan a t ts Budget s is prog run d h = record { todo = run.todo; frames = run.frames; below = run.below; steps = run.steps; spent = run.spent }
+need_runs p plan a t ts Stopped s is prog run d h = run
 
-by_budget : (p : Program) (plan : Plan) (a : Answer) (t : Todo) (ts : List Todo) (n : Need) (s : Proc) (poor : Bool) → nat_lt s.budget (s.spent + cost plan n) ≡ poor → IsRunnable p → IsRunning p s → s.todo ≡ t ∷ ts → IsRunning p (act_by_need p plan a t ts (if poor then Budget else n) s)
-by_budget p plan a t ts n s true test prog run d = record { todo = run.todo; frames = run.frames; below = run.below; steps = run.steps; spent = run.spent }
-by_budget p plan a t ts n s false test prog run d =
+by_budget : (p : Program) (plan : Plan) (a : Answer) (t : Todo) (ts : List Todo) (n : Need) (s : Proc) (poor : Bool) → nat_lt s.budget (s.spent + cost plan n) ≡ poor → CompletesSend p t.stmt n → IsRunnable p → IsRunning p s → s.todo ≡ t ∷ ts → IsRunning p (act_by_need p plan a t ts (if poor then Budget else n) s)
+by_budget p plan a t ts n s true test is prog run d = record { todo = run.todo; frames = run.frames; below = run.below; steps = run.steps; spent = run.spent }
+by_budget p plan a t ts n s false test is prog run d =
     let paid : s.spent + cost plan n ≤ s.budget = grind (arith, nat_tests) in
-    need_runs p plan a t ts n s prog run d paid
+    need_runs p plan a t ts n s is prog run d paid
 
 runs_at : (p : Program) (plan : Plan) (a : Answer) (s : Proc) (o : Option Status) (ts : List Todo) → s.status ≡ o → s.todo ≡ ts → IsRunnable p → IsRunning p s → IsRunning p (act_at p plan a ts s)
 runs_at p plan a s (Some x) ts r d prog run = subst (λ (t : Proc). IsRunning p t) (sym (stays_at p plan a s ts (need_at_status p plan s (Some x) r))) run
@@ -315,7 +332,7 @@ runs_at p plan a s None [] r d prog run = run
 runs_at p plan a s None (t ∷ ts) r d prog run =
     let head : Need = need_of_head p plan t s in
     let is : need_of p plan s ≡ within_budget plan s head = need_at_todo p plan s (t ∷ ts) r d in
-    let runs : IsRunning p (act_by_need p plan a t ts (within_budget plan s head) s) = by_budget p plan a t ts head s (nat_lt s.budget (s.spent + cost plan head)) refl prog run d in
+    let runs : IsRunning p (act_by_need p plan a t ts (within_budget plan s head) s) = by_budget p plan a t ts head s (nat_lt s.budget (s.spent + cost plan head)) refl (head_completes p plan t s) prog run d in
     subst (λ (x : Need). IsRunning p (act_by_need p plan a t ts x s)) (sym is) runs
 
 -- each step leaves a process state of the program

@@ -18,7 +18,7 @@ use Rattle.ppd_sem.specs.Ask.{ask, checked, divided, element, fits, is_zero}
 use Rattle.ppd_sem.specs.Asked.{Asked, and_then, gives, once}
 use Rattle.ppd_sem.specs.Deed.{Deed, ask_all, ask_deed, ask_stored, invoke, set_local, set_shared}
 use Rattle.ppd_sem.specs.Laws.{ArgumentsComeFirst, ArithmeticIsExact, DividesTowardZero, Has64Bits, IndexComesFirst, IsExactOrOverflow, NeedsAreThere, StepsEnd, StopsEarly, ValidCanRun, ValidIsNumbered, least}
-use Rattle.ppd_sem.specs.Process.{act, entry_of, head_deed, kind_of, loop_of, need_by_entry, need_of_asked, need_of_call, need_of_head, top_cells}
+use Rattle.ppd_sem.specs.Process.{act, chan_of, entry_of, head_deed, kind_of, loop_of, need_by_entry, need_by_offer, need_of_asked, need_of_call, need_of_head, offer_of, top_cells}
 use Rattle.ppd_sem.specs.Reads.{ask_place, reads_of, reads_of_stored}
 use Rattle.ppd_sem.proofs.Progress.{act-falls, act-stopped, act-within}
 use Rattle.ppd_sem.proofs.Needs.{needs-there}
@@ -181,14 +181,25 @@ no_entry program plan t f arguments into k = ap (λ k. if t.entered then None el
     same true = refl
     same false = refl
 
+no_offer : (program : Program) (t : Todo) (f : ℕ) (arguments : List ℕ) (into : Option ℕ) → kind_of program t.stmt ≡ kind.Call f arguments into → offer_of program t ≡ None
+no_offer program t f arguments into k = ap (λ k. if t.offered then chan_of k else None) k ∙ same t.offered
+  where
+    none : Option ℕ
+    none = None
+
+    same : (b : Bool) → (if b then none else none) ≡ none
+    same true = refl
+    same false = refl
+
 call_deed : (program : Program) (t : Todo) (s : Proc) (f : ℕ) (arguments : List ℕ) (into : Option ℕ) (r : Asked (List ℤ)) → kind_of program t.stmt ≡ kind.Call f arguments into → ask_all program.exprs arguments (top_cells s.frames) s.answers ≡ r → head_deed program t s ≡ and_then r (λ vs left. gives left (invoke f vs into))
 call_deed program t s f arguments into r k h =
     ap (λ k. ask_deed program.exprs k (top_cells s.frames) s.answers) k ∙ ap (λ r. and_then r (λ vs left. gives left (invoke f vs into))) h
 
-call_need : (program : Program) (plan : Plan) (t : Todo) (s : Proc) (f : ℕ) (arguments : List ℕ) (into : Option ℕ) (r : Asked (List ℤ)) → kind_of program t.stmt ≡ kind.Call f arguments into → ask_all program.exprs arguments (top_cells s.frames) s.answers ≡ r → need_of_head program plan t s ≡ need_of_asked plan t.stmt s (and_then r (λ vs left. gives left (invoke f vs into)))
+call_need : (program : Program) (plan : Plan) (t : Todo) (s : Proc) (f : ℕ) (arguments : List ℕ) (into : Option ℕ) (r : Asked (List ℤ)) → kind_of program t.stmt ≡ kind.Call f arguments into → ask_all program.exprs arguments (top_cells s.frames) s.answers ≡ r → need_of_head program plan t s ≡ need_of_asked program plan t.stmt s (and_then r (λ vs left. gives left (invoke f vs into)))
 call_need program plan t s f arguments into r k h =
-    ap (λ o. need_by_entry plan t.stmt s o (head_deed program t s)) (no_entry program plan t f arguments into k) ∙
-    ap (λ d. need_of_asked plan t.stmt s d) (call_deed program t s f arguments into r k h)
+    ap (λ o. need_by_offer plan t.stmt o (need_by_entry program plan t.stmt s (entry_of program plan t) (head_deed program t s))) (no_offer program t f arguments into k) ∙
+    ap (λ o. need_by_entry program plan t.stmt s o (head_deed program t s)) (no_entry program plan t f arguments into k) ∙
+    ap (λ d. need_of_asked program plan t.stmt s d) (call_deed program t s f arguments into r k h)
 
 deep_call : (plan : Plan) (f : ℕ) (s : Proc) → 64 < s.below + length s.frames → need_of_call plan f s ≡ need.Trap Depth
 deep_call plan f s h = let test : nat_lt 64 (s.below + length s.frames) ≡ true = grind (arith, nat_tests) in rw test refl

@@ -1,9 +1,9 @@
 -- The cell or object that a need of a valid program names is there.
-use Rattle.std.proofs.Common.{◌≡◌, ℕ, suc, ◌+◌, ◌<◌, ◌≤◌, ℤ, pos, negsuc, neg_ℤ, Bool, true, false, nat_lt, List, [], ◌∷◌, length, Option, Some, None, Result, Ok, Err, refl, subst, arith, if◌then◌else◌}
+use Rattle.std.proofs.Common.{◌≡◌, ℕ, zero, suc, ◌+◌, ◌<◌, ◌≤◌, ℤ, pos, negsuc, neg_ℤ, Bool, true, false, nat_lt, List, [], ◌∷◌, length, Option, Some, None, Result, Ok, Err, refl, subst, arith, if◌then◌else◌}
 use Rattle.std.specs.Prelude.{not as negated, slice_get, ⊤}
 use Rattle.std.specs.List.{All}
 use Rattle.std.proofs.lemmas.Bool.Decides.{nat_tests}
-use Rattle.std.proofs.lemmas.Option.{slice_get_within}
+use Rattle.std.proofs.lemmas.Option.{none-some, slice_get_within}
 use Rattle.ppd_ast.specs.declared.plan.Plan.{Plan}
 use Rattle.ppd_ast.specs.declared.program.Body.{Body}
 use Rattle.ppd_ast.specs.declared.program.Expr.{Expr}
@@ -30,7 +30,9 @@ use Rattle.ppd_sem.specs.Ask.{ask, calc, cell_of, checked, element, is_zero, tru
 use Rattle.ppd_sem.specs.Asked.{Asked, and_then, gives, lift, read_shared}
 use Rattle.ppd_sem.specs.Deed.{Deed, set_local, set_shared, clear, branch, turn, leave, invoke, back, take, give, send, receive, print, pass, finish, ask_all, ask_deed, ask_stored}
 use Rattle.ppd_sem.specs.Laws.{NamesThere}
-use Rattle.ppd_sem.specs.Process.{cost, entry_of, head_deed, kind_of, kind_or_end, need_by_entry, need_by_status, need_of, need_of_asked, need_of_deed, need_of_head, need_of_leaving, need_of_running, top_cells}
+use Rattle.ppd_sem.specs.Process.{chan_of, cost, entry_of, head_deed, kind_of, kind_or_end, need_by_entry, need_by_offer, need_by_status, need_of, need_of_asked, need_of_deed, need_of_head, need_of_leaving, need_of_running, need_of_send, offer_of, top_cells}
+use Rattle.ppd_sem.specs.Tables.{capacity_of}
+use Rattle.ppd_sem.proofs.Offers.{offer_there}
 use Rattle.ppd_sem.proofs.Kept.{There, there_at}
 use Rattle.ppd_sem.proofs.Validity.{array_in, each_of, scalar_in, some_at}
 
@@ -229,7 +231,11 @@ leaving : (p : Program) (plan : Plan) (t : ℕ) (o : Option ℕ) → NamesThere 
 leaving p plan t None = tt
 leaving p plan t (Some b) = tt
 
-deed_need : (p : Program) (plan : Plan) (t : ℕ) (s : Proc) (d : Deed) → DeedThere p d → NamesThere p (need_of_deed plan t s d)
+sending : (p : Program) (plan : Plan) (t n c : ℕ) (v : ℤ) → c < length p.chans → NamesThere p (need_of_send plan t n c v)
+sending p plan t zero c v h = h
+sending p plan t (suc n) c v h = h
+
+deed_need : (p : Program) (plan : Plan) (t : ℕ) (s : Proc) (d : Deed) → DeedThere p d → NamesThere p (need_of_deed p plan t s d)
 deed_need p plan t s (set_local c v) h = tt
 deed_need p plan t s (set_shared c v) h = h
 deed_need p plan t s (clear base len) h = tt
@@ -240,23 +246,36 @@ deed_need p plan t s (invoke f values into) h = if_there p (nat_lt 64 (s.below +
 deed_need p plan t s (back value) h = tt
 deed_need p plan t s (take sem) h = h
 deed_need p plan t s (give sem) h = h
-deed_need p plan t s (send chan value) h = h
+deed_need p plan t s (send chan value) h = sending p plan t (capacity_of p chan) chan value h
 deed_need p plan t s (receive chan into) h = h
 deed_need p plan t s (print v) h = tt
 deed_need p plan t s pass h = tt
 deed_need p plan t s finish h = tt
 
-asked_need : (p : Program) (plan : Plan) (t : ℕ) (s : Proc) (asked : Asked Deed) → Gives (length p.starts) (DeedThere p) asked → NamesThere p (need_of_asked plan t s asked)
+asked_need : (p : Program) (plan : Plan) (t : ℕ) (s : Proc) (asked : Asked Deed) → Gives (length p.starts) (DeedThere p) asked → NamesThere p (need_of_asked p plan t s asked)
 asked_need p plan t s (Ok q) h = deed_need p plan t s q.0 h
 asked_need p plan t s (Err (Wants c)) h = h
 asked_need p plan t s (Err (Traps x)) h = tt
 
-entered_need : (p : Program) (plan : Plan) (t : ℕ) (s : Proc) (o : Option ℕ) (asked : Asked Deed) → Gives (length p.starts) (DeedThere p) asked → NamesThere p (need_by_entry plan t s o asked)
+entered_need : (p : Program) (plan : Plan) (t : ℕ) (s : Proc) (o : Option ℕ) (asked : Asked Deed) → Gives (length p.starts) (DeedThere p) asked → NamesThere p (need_by_entry p plan t s o asked)
 entered_need p plan t s (Some b) asked h = tt
 entered_need p plan t s None asked h = asked_need p plan t s asked h
 
+some : {x y : ℕ} → Some x ≡ Some y → x ≡ y
+some e = cc
+
+offered_need : (p : Program) (plan : Plan) (t : ℕ) (o : Option ℕ) (n : Need) → ((c : ℕ) → o ≡ Some c → c < length p.chans) → NamesThere p n → NamesThere p (need_by_offer plan t o n)
+offered_need p plan t (Some c) n h g = h c refl
+offered_need p plan t None n h g = g
+
+send_there : (p : Program) (k : Kind) (c : ℕ) → chan_of k ≡ Some c → HasObject p k → c < length p.chans
+send_there p (kind.Send d e) c is h = subst (λ (x : ℕ). x < length p.chans) (some is) h
+send_there p k c is h = absurd (none-some c is)
+
 head_need : (p : Program) (plan : Plan) (t : Todo) (s : Proc) → IsValid p → NamesThere p (need_of_head p plan t s)
-head_need p plan t s v = entered_need p plan t.stmt s (entry_of p plan t) (head_deed p t s) (deeds p (top_cells s.frames) s.answers (kind_of p t.stmt) (kind_at p t.stmt (slice_get p.stmts t.stmt) v refl))
+head_need p plan t s v =
+    offered_need p plan t.stmt (offer_of p t) _ (λ c e. send_there p (kind_of p t.stmt) c (offer_there t.offered (chan_of (kind_of p t.stmt)) c e) (kind_at p t.stmt (slice_get p.stmts t.stmt) v refl).object)
+    (entered_need p plan t.stmt s (entry_of p plan t) (head_deed p t s) (deeds p (top_cells s.frames) s.answers (kind_of p t.stmt) (kind_at p t.stmt (slice_get p.stmts t.stmt) v refl)))
 
 running_need : (p : Program) (plan : Plan) (ts : List Todo) (s : Proc) → IsValid p → NamesThere p (need_of_running p plan ts s)
 running_need p plan [] s v = tt

@@ -8,7 +8,7 @@ use Rattle.ppd_ast.specs.declared.status.Status.TheVariants as status
 use Rattle.ppd_sem.specs.declared.asking.Pause.TheVariants.{Wants, Traps}
 use Rattle.ppd_sem.specs.declared.proc.Answer.{Answer}
 use Rattle.ppd_sem.specs.declared.proc.Need.{Need}
-use Rattle.ppd_sem.specs.declared.proc.Need.TheVariants.{Read, Write, Plain, Enter, Leave, Invoke, Back, P, V, Send, Recv, End, Trap, Budget, Stopped}
+use Rattle.ppd_sem.specs.declared.proc.Need.TheVariants.{Read, Write, Plain, Enter, Leave, Invoke, Back, P, V, Send, Offer, Done, Recv, End, Trap, Budget, Stopped}
 use Rattle.ppd_sem.specs.declared.proc.Proc.{Proc}
 use Rattle.ppd_sem.specs.declared.proc.Todo.{Todo}
 use Rattle.ppd_sem.specs.Asked.{Asked}
@@ -93,6 +93,10 @@ need_goes program plan a t ts (Back b u) s r e h = asked_goes program plan a t t
 need_goes program plan a t ts (P x u) s r e h = asked_goes program plan a t ts (P x u) s r h
 need_goes program plan a t ts (V x u) s r e h = asked_goes program plan a t ts (V x u) s r h
 need_goes program plan a t ts (Send c v u) s r e h = asked_goes program plan a t ts (Send c v u) s r h
+need_goes program plan a t ts (Offer c v) s r e h =
+    charged_goes plan (Offer c v) s (record s { todo = record t { offered = true } ∷ ts; answers = [] }) record { budget = refl; spent = refl; steps = refl; below = refl } r h
+need_goes program plan a t ts (Done c u) s r e h =
+    charged_goes plan (Done c u) s (record s { todo = ts; answers = [] }) record { budget = refl; spent = refl; steps = refl; below = refl } r h
 need_goes program plan a t ts (Recv c u) s r e h = asked_goes program plan a t ts (Recv c u) s r h
 need_goes program plan a t ts (End b) s r e h = asked_goes program plan a t ts (End b) s r h
 need_goes program plan a t ts (Trap x) s r e h =

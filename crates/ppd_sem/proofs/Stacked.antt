@@ -7,7 +7,7 @@ use Rattle.ppd_sem.specs.Process.{todos}
 todos-reverse : (stmts : List ℕ) → todos (reverse stmts) ≡ reverse (todos stmts)
 todos-reverse [] = refl
 todos-reverse (x ∷ xs) =
-    let head : ℕ → Todo = λ s. record { stmt = s; entered = false } in
+    let head : ℕ → Todo = λ s. record { stmt = s; entered = false; offered = false } in
     ap todos (reverse-append (x ∷ []) xs) ∙ map-append head (reverse xs) (x ∷ []) ∙
     ap (λ ts. ts ++ head x ∷ []) (todos-reverse xs) ∙ sym (reverse-append (head x ∷ []) (todos xs))
 

@@ -10,7 +10,7 @@ use Rattle.ppd_ast.specs.declared.plan.Plan.{Plan}
 use Rattle.ppd_ast.specs.declared.status.Trap.{Trap as TrapOf}
 use Rattle.ppd_ast.specs.Term.{term}
 use Rattle.ppd_sem.specs.declared.proc.Need.{Need}
-use Rattle.ppd_sem.specs.declared.proc.Need.TheVariants.{Read, Enter, Trap, Budget, Stopped}
+use Rattle.ppd_sem.specs.declared.proc.Need.TheVariants.{Read, Enter, Done, Trap, Budget, Stopped}
 use Rattle.ppd_sem.specs.declared.proc.Answer.{Answer}
 use Rattle.ppd_sem.specs.declared.proc.Proc.{Proc}
 use Rattle.ppd_sem.specs.declared.proc.Todo.{Todo}
@@ -114,12 +114,17 @@ is_event Budget = false
 is_event Stopped = false
 is_event need = true
 
+-- a step of this need evaluates its statement; a completion does not
+abbrev pub evaluates : Need → Bool
+evaluates (Done c u) = false
+evaluates need = true
+
 abbrev pub event_at : Program → Plan → Answer → Need → Proc → Todo → Event
 event_at program plan a need s t = record {
   stmt = t.stmt;
-  reads = reads_of_kind (frame_of program plan s) program.exprs (kind_of program t.stmt) (top_cells s.frames) s.answers;
+  reads = if evaluates need then reads_of_kind (frame_of program plan s) program.exprs (kind_of program t.stmt) (top_cells s.frames) s.answers else [];
   writes = writes_by (trap_of need) (frame_of program plan s) a (head_deed program t s);
-  value = value_at program.exprs (top_cells s.frames) s.answers (valued (kind_of program t.stmt));
+  value = if evaluates need then value_at program.exprs (top_cells s.frames) s.answers (valued (kind_of program t.stmt)) else None;
   number = None;
   trap = trap_of need;
 }

@@ -115,6 +115,8 @@ NamesThere program (need.Write c v) = c < length program.starts
 NamesThere program (need.P s u) = s < length program.sems
 NamesThere program (need.V s u) = s < length program.sems
 NamesThere program (need.Send c v u) = c < length program.chans
+NamesThere program (need.Offer c v) = c < length program.chans
+NamesThere program (need.Done c u) = c < length program.chans
 NamesThere program (need.Recv c u) = c < length program.chans
 NamesThere program n = ⊤
 

@@ -12,7 +12,7 @@ use Rattle.ppd_ast.specs.declared.status.Trap.TheVariants as trap
 use Rattle.ppd_ast.specs.declared.status.Status.{Status}
 use Rattle.ppd_ast.specs.declared.status.Status.TheVariants as status
 use Rattle.ppd_sem.specs.declared.proc.Need.{Need}
-use Rattle.ppd_sem.specs.declared.proc.Need.TheVariants.{Read, Write, Plain, Enter, Leave, Invoke, Back, P, V, Send, Recv, End, Trap, Budget, Stopped}
+use Rattle.ppd_sem.specs.declared.proc.Need.TheVariants.{Read, Write, Plain, Enter, Leave, Invoke, Back, P, V, Send, Offer, Done, Recv, End, Trap, Budget, Stopped}
 use Rattle.ppd_sem.specs.declared.proc.Answer.{Answer}
 use Rattle.ppd_sem.specs.declared.proc.Answer.TheVariants.{Value, Go}
 use Rattle.ppd_sem.specs.declared.proc.Frame.{Frame}
@@ -22,7 +22,7 @@ use Rattle.ppd_sem.specs.declared.asking.Pause.{Pause}
 use Rattle.ppd_sem.specs.declared.asking.Pause.TheVariants.{Wants, Traps}
 use Rattle.ppd_sem.specs.Asked.{Asked}
 use Rattle.ppd_sem.specs.Deed.{Deed, set_local, set_shared, clear, branch, turn, leave, invoke, back, take, give, send, receive, print, finish, ask_deed}
-use Rattle.ppd_sem.specs.Tables.{block_of, unit_of, or_zero, prelog_length, postlog_length, unit_length, returned_length}
+use Rattle.ppd_sem.specs.Tables.{capacity_of, block_of, unit_of, or_zero, prelog_length, postlog_length, unit_length, returned_length}
 
 -- ---- the head
 
@@ -69,27 +69,32 @@ abbrev pub need_of_leaving : Plan → ℕ → Option ℕ → Need
 need_of_leaving plan t None = Plain
 need_of_leaving plan t (Some b) = Leave b (unit_of plan (start.Exit t))
 
+-- a send, which on a channel of capacity 0 begins with its offer
+abbrev pub need_of_send : Plan → ℕ → (capacity chan : ℕ) → ℤ → Need
+need_of_send plan t zero chan value = Offer chan value
+need_of_send plan t (suc n) chan value = Send chan value (unit_of plan (start.After t))
+
 -- t is the statement
-abbrev pub need_of_deed : Plan → ℕ → Proc → Deed → Need
-need_of_deed plan t s (set_shared c v) = Write c v
-need_of_deed plan t s leave = need_of_leaving plan t (block_of plan (block.Loop t))
-need_of_deed plan t s (invoke f values into) = need_of_call plan f s
-need_of_deed plan t s (back value) =
+abbrev pub need_of_deed : Program → Plan → ℕ → Proc → Deed → Need
+need_of_deed program plan t s (set_shared c v) = Write c v
+need_of_deed program plan t s leave = need_of_leaving plan t (block_of plan (block.Loop t))
+need_of_deed program plan t s (invoke f values into) = need_of_call plan f s
+need_of_deed program plan t s (back value) =
     Back (block_of plan (block.Function (top_body s.frames))) (call_unit plan (top_call s.frames))
-need_of_deed plan t s (take sem) = P sem (unit_of plan (start.After t))
-need_of_deed plan t s (give sem) = V sem (unit_of plan (start.After t))
-need_of_deed plan t s (send chan value) = Send chan value (unit_of plan (start.After t))
-need_of_deed plan t s (receive chan into) = Recv chan (unit_of plan (start.After t))
-need_of_deed plan t s finish = End (or_zero (block_of plan (block.Process (top_body s.frames))))
-need_of_deed plan t s deed = Plain
+need_of_deed program plan t s (take sem) = P sem (unit_of plan (start.After t))
+need_of_deed program plan t s (give sem) = V sem (unit_of plan (start.After t))
+need_of_deed program plan t s (send chan value) = need_of_send plan t (capacity_of program chan) chan value
+need_of_deed program plan t s (receive chan into) = Recv chan (unit_of plan (start.After t))
+need_of_deed program plan t s finish = End (or_zero (block_of plan (block.Process (top_body s.frames))))
+need_of_deed program plan t s deed = Plain
 
 abbrev pub need_of_pause : Pause → Need
 need_of_pause (Wants cell) = Read cell
 need_of_pause (Traps t) = Trap t
 
-abbrev pub need_of_asked : Plan → ℕ → Proc → Asked Deed → Need
-need_of_asked plan t s (Ok p) = need_of_deed plan t s p.0
-need_of_asked plan t s (Err pause) = need_of_pause pause
+abbrev pub need_of_asked : Program → Plan → ℕ → Proc → Asked Deed → Need
+need_of_asked program plan t s (Ok p) = need_of_deed program plan t s p.0
+need_of_asked program plan t s (Err pause) = need_of_pause pause
 
 -- the block of a loop that the process has yet to enter
 abbrev pub loop_of : Plan → ℕ → Kind → Option ℕ
@@ -100,12 +105,27 @@ abbrev pub entry_of : Program → Plan → Todo → Option ℕ
 entry_of program plan t = if t.entered then None else loop_of plan t.stmt (kind_of program t.stmt)
 
 -- a block that is yet to be entered comes first
-abbrev pub need_by_entry : Plan → ℕ → Proc → Option ℕ → Asked Deed → Need
-need_by_entry plan t s (Some b) asked = Enter b (unit_of plan (start.Enter t))
-need_by_entry plan t s None asked = need_of_asked plan t s asked
+abbrev pub need_by_entry : Program → Plan → ℕ → Proc → Option ℕ → Asked Deed → Need
+need_by_entry program plan t s (Some b) asked = Enter b (unit_of plan (start.Enter t))
+need_by_entry program plan t s None asked = need_of_asked program plan t s asked
+
+-- the channel of a send
+abbrev pub chan_of : Kind → Option ℕ
+chan_of (kind.Send chan e) = Some chan
+chan_of k = None
+
+-- the channel of a send whose offer was taken
+abbrev pub offer_of : Program → Todo → Option ℕ
+offer_of program t = if t.offered then chan_of (kind_of program t.stmt) else None
+
+-- a send whose offer was taken is completed, and asks for nothing more
+abbrev pub need_by_offer : Plan → ℕ → Option ℕ → Need → Need
+need_by_offer plan t (Some chan) need = Done chan (unit_of plan (start.After t))
+need_by_offer plan t None need = need
 
 abbrev pub need_of_head : Program → Plan → Todo → Proc → Need
-need_of_head program plan t s = need_by_entry plan t.stmt s (entry_of program plan t) (head_deed program t s)
+need_of_head program plan t s =
+    need_by_offer plan t.stmt (offer_of program t) (need_by_entry program plan t.stmt s (entry_of program plan t) (head_deed program t s))
 
 -- the values in the prelog, postlog and unit entries that the step writes
 abbrev pub values_of : Plan → Need → ℕ
@@ -118,6 +138,7 @@ values_of plan (Back b (Some u)) = returned_length plan b + unit_length plan u
 values_of plan (P s u) = unit_length plan u
 values_of plan (V s u) = unit_length plan u
 values_of plan (Send c v u) = unit_length plan u
+values_of plan (Done c u) = unit_length plan u
 values_of plan (Recv c u) = unit_length plan u
 values_of plan need = 0
 
@@ -143,7 +164,7 @@ need_of program plan s = need_by_status program plan s.status s
 -- ---- frames and statements
 
 abbrev pub todos : List ℕ → List Todo
-todos stmts = map (λ s. record { stmt = s; entered = false }) stmts
+todos stmts = map (λ s. record { stmt = s; entered = false; offered = false }) stmts
 
 abbrev pub write_top : ℕ → ℤ → List Frame → List Frame
 write_top c v [] = []
@@ -223,6 +244,9 @@ act_by_need program plan a t ts Stopped s = s
 act_by_need program plan a t ts Budget s = record s { status = Some status.Budget }
 act_by_need program plan a t ts (Enter b u) s =
     charged plan (Enter b u) (record s { todo = record t { entered = true } ∷ ts })
+act_by_need program plan a t ts (Offer c v) s =
+    charged plan (Offer c v) (record s { todo = record t { offered = true } ∷ ts; answers = [] })
+act_by_need program plan a t ts (Done c u) s = charged plan (Done c u) (record s { todo = ts; answers = [] })
 act_by_need program plan a t ts (Trap trap) s = charged plan (Trap trap) (record s { status = Some (status.Trap trap) })
 act_by_need program plan a t ts need s = charged plan need (act_by_asked program a t ts (head_deed program t s) s)
 

@@ -1,4 +1,4 @@
--- Look-ups in the plan.
+-- Look-ups in the plan, and of a channel in the program.
 use Rattle.std.specs.Prelude.{ℕ, nat_eq, Bool, false, List, length, Option, Some, None, slice_get, if◌then◌else◌}
 use Rattle.std.specs.List.{position}
 use Rattle.ppd_ast.specs.declared.plan.Block.{Block}
@@ -7,6 +7,8 @@ use Rattle.ppd_ast.specs.declared.plan.BlockKind.TheVariants as block
 use Rattle.ppd_ast.specs.declared.plan.Plan.{Plan}
 use Rattle.ppd_ast.specs.declared.plan.Start.{Start}
 use Rattle.ppd_ast.specs.declared.plan.Start.TheVariants as start
+use Rattle.ppd_ast.specs.declared.program.Chan.{Chan}
+use Rattle.ppd_ast.specs.declared.program.Program.{Program}
 
 abbrev pub same_start : Start → Start → Bool
 same_start (start.Entry a) (start.Entry b) = nat_eq a b
@@ -54,3 +56,12 @@ value_length (Some b) = if b.value then 1 else 0
 abbrev pub returned_length : Plan → Option ℕ → ℕ
 returned_length plan None = 0
 returned_length plan (Some b) = value_length (slice_get plan.blocks b)
+
+-- the capacity of a channel that is there
+abbrev pub capacity_in : Option Chan → ℕ
+capacity_in None = 0
+capacity_in (Some c) = c.capacity
+
+-- the capacity of channel c
+abbrev pub capacity_of : Program → ℕ → ℕ
+capacity_of program c = capacity_in (slice_get program.chans c)

@@ -71,6 +71,7 @@ fn value_count(plan: &Plan, need: Need) -> u128
         Need::P { unit, .. }
         | Need::V { unit, .. }
         | Need::Send { unit, .. }
+        | Need::Done { unit, .. }
         | Need::Recv { unit, .. } => unit_length(plan, unit),
         _ => 0,
     }

@@ -1,5 +1,5 @@
-ghost use Rattle.std.specs.Prelude.{◌≡◌, ◌+◌, ◌<◌, ◌≤◌, ◌^◌, true, Some, [], ◌∷◌, length, slice_get, IfOk, IsSomeAnd};
-ghost use Rattle.ppd_sem.specs.Described.{cleared as cleared_of, described, ends_body as ends_body_of, frame_of as frame_number, is_block as is_block_of, is_event as is_event_of, is_in_loop as is_in_loop_of, local_write as local_write_of, parameters as parameters_of, trap_of as trap_of_need, value_at, valued as valued_of, writes_by, writes_of_deed};
+ghost use Rattle.std.specs.Prelude.{◌≡◌, ◌+◌, ◌<◌, ◌≤◌, ◌^◌, true, Some, None, if◌then◌else◌, [], ◌∷◌, length, slice_get, IfOk, IsSomeAnd};
+ghost use Rattle.ppd_sem.specs.Described.{cleared as cleared_of, described, evaluates as evaluates_of, ends_body as ends_body_of, frame_of as frame_number, is_block as is_block_of, is_event as is_event_of, is_in_loop as is_in_loop_of, local_write as local_write_of, parameters as parameters_of, trap_of as trap_of_need, value_at, valued as valued_of, writes_by, writes_of_deed};
 ghost use Rattle.ppd_sem.specs.Effects.{HasRange, head_deed_of};
 ghost use Rattle.ppd_sem.specs.Process.{head_deed, kind_of, need_of, top_cells as top_cells_of};
 ghost use Rattle.ppd_sem.specs.Reads.{reads_of_kind};
@@ -249,6 +249,48 @@ fn trap_of(need: Need) -> Option<Trap>
     }
 }
 
+/// Whether a step of this need evaluates its statement; a completion does not.
+fn evaluates(need: Need) -> bool
+    ensures { result ≡ evaluates_of need }
+{
+    !matches!(need, Need::Done { .. })
+}
+
+/// The reads of a step of this need.
+fn step_reads(
+    alloc: Global,
+    program: &Program,
+    proc: &Proc,
+    frame: u8,
+    todo: Todo,
+    need: Need,
+) -> Result<Seq<Access>, Memory>
+    requires program { IsRunnable program.now }
+    requires cells { length (top_cells_of proc.now.frames) < 2 ^ 16 }
+    requires over { IsOver program.now (length (top_cells_of proc.now.frames)) todo.stmt }
+    ensures { IfOk result (λ reads. reads ≡ (if evaluates_of need then reads_of_kind frame program.now.exprs (kind_of program.now todo.stmt) (top_cells_of proc.now.frames) proc.now.answers else [])) }
+{
+    if evaluates(need) {
+        head_reads(alloc, program, proc, frame, todo)
+    } else {
+        Ok(Seq::new(alloc))
+    }
+}
+
+/// The value of a step of this need.
+fn step_value(program: &Program, proc: &Proc, todo: Todo, need: Need) -> Option<i64>
+    requires program { IsRunnable program.now }
+    requires cells { length (top_cells_of proc.now.frames) < 2 ^ 16 }
+    requires over { IsOver program.now (length (top_cells_of proc.now.frames)) todo.stmt }
+    ensures { result ≡ (if evaluates_of need then value_at program.now.exprs (top_cells_of proc.now.frames) proc.now.answers (valued_of (kind_of program.now todo.stmt)) else None) }
+{
+    if evaluates(need) {
+        head_value(program, proc, todo)
+    } else {
+        None
+    }
+}
+
 /// The event of the head statement's step.
 fn event_at(
     alloc: Global,
@@ -264,15 +306,16 @@ fn event_at(
     requires head { slice_get proc.now.todo 0 ≡ Some todo }
     ensures { IfOk result (λ event. event ≡ described program.now plan.now proc.now todo answer.now) }
 {
-    let trap = trap_of(look(program, plan, proc));
+    let need = look(program, plan, proc);
+    let trap = trap_of(need);
     let frame = frame_of(program, plan, proc);
-    let reads = head_reads(alloc, program, proc, frame, todo)?;
+    let reads = step_reads(alloc, program, proc, frame, todo, need)?;
     let writes = head_writes(alloc, program, proc, frame, todo, trap, answer)?;
     Ok(Event {
         stmt: todo.stmt,
         reads,
         writes,
-        value: head_value(program, proc, todo),
+        value: step_value(program, proc, todo, need),
         number: None,
         trap,
     })

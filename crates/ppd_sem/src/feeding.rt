@@ -192,9 +192,21 @@ fn enter(todo: Todo, proc: &mut Proc)
     ensures { proc.new ≡ record proc.old { todo = record todo { entered = true } ∷ drop 1 proc.old.todo } }
 {
     proc.todo.set_top(Todo {
-        stmt: todo.stmt,
         entered: true,
+        ..todo
     });
+}
+
+/// Marks the head statement, a send, as offered, and drops its answers.
+fn offer(todo: Todo, proc: &mut Proc)
+    requires { 0 < length proc.old.todo }
+    ensures { proc.new ≡ record proc.old { todo = record todo { offered = true } ∷ drop 1 proc.old.todo; answers = [] } }
+{
+    proc.todo.set_top(Todo {
+        offered: true,
+        ..todo
+    });
+    proc.answers.clear();
 }
 
 /// Takes the step of a need that is there to be met.
@@ -221,6 +233,16 @@ fn step(
         }
         Need::Enter { .. } => {
             enter(todo, proc);
+            charge(plan, need, proc);
+            Ok(())
+        }
+        Need::Offer { .. } => {
+            offer(todo, proc);
+            charge(plan, need, proc);
+            Ok(())
+        }
+        Need::Done { .. } => {
+            finish(proc);
             charge(plan, need, proc);
             Ok(())
         }

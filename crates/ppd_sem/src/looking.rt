@@ -3,8 +3,8 @@ ghost use Rattle.ppd_ast.specs.declared.plan.BlockKind.TheVariants.{Function, Lo
 ghost use Rattle.ppd_sem.specs.declared.proc.Need.TheVariants.{Back, End};
 ghost use Rattle.ppd_sem.specs.Asked.{outcome};
 ghost use Rattle.ppd_sem.specs.Effects.{HasRange, head_deed_if, head_deed_of};
-ghost use Rattle.ppd_sem.specs.Process.{call_unit as call_unit_of, entry_of, head_deed, need_of, need_of_call, need_of_deed, need_of_head, need_of_leaving, need_of_pause, top_body, top_call, top_cells as top_cells_of};
-ghost use Rattle.ppd_sem.specs.Tables.{block_of, or_zero};
+ghost use Rattle.ppd_sem.specs.Process.{call_unit as call_unit_of, entry_of, head_deed, need_of, need_of_call, need_of_deed, need_of_head, need_of_leaving, need_of_pause, need_of_send, chan_of, offer_of, top_body, top_call, top_cells as top_cells_of};
+ghost use Rattle.ppd_sem.specs.Tables.{block_of, capacity_of, or_zero};
 ghost use Rattle.ppd_sem.specs.Runs.{IsNumbered, IsOver, IsRunnable, IsRunning};
 
 use crate::asking::Pause;
@@ -139,10 +139,34 @@ fn ending_need(plan: &Plan, body: u16) -> Need
     }
 }
 
+/// The capacity of a channel, and 0 where there is none.
+fn capacity(program: &Program, chan: u8) -> u8
+    ensures { result ≡ capacity_of program.now chan }
+{
+    match program.chans.as_slice().get(chan as usize) {
+        Some(chan) => chan.capacity,
+        None => 0,
+    }
+}
+
+fn send_need(plan: &Plan, stmt: u32, capacity: u8, chan: u8, value: i64) -> Need
+    requires plan { IsNumbered plan.now }
+    ensures { result ≡ need_of_send plan.now stmt capacity chan value }
+{
+    if capacity == 0 {
+        return Need::Offer { chan, value };
+    }
+    Need::Send {
+        chan,
+        value,
+        unit: find_unit(plan, Start::After(stmt)),
+    }
+}
+
 /// What a statement needs whose values are all there.
 fn effect_need(program: &Program, plan: &Plan, todo: Todo, proc: &Proc, effect: Effect) -> Need
     requires plan { IsNumbered plan.now }
-    ensures { result ≡ need_of_deed plan.now todo.stmt proc.now (head_deed_of program.now todo proc.now effect) }
+    ensures { result ≡ need_of_deed program.now plan.now todo.stmt proc.now (head_deed_of program.now todo proc.now effect) }
 {
     let after = Start::After(todo.stmt);
     match effect {
@@ -158,11 +182,9 @@ fn effect_need(program: &Program, plan: &Plan, todo: Todo, proc: &Proc, effect: 
             sem,
             unit: find_unit(plan, after),
         },
-        Effect::Send(chan, value) => Need::Send {
-            chan,
-            value,
-            unit: find_unit(plan, after),
-        },
+        Effect::Send(chan, value) => {
+            send_need(plan, todo.stmt, capacity(program, chan), chan, value)
+        }
         Effect::Receive(chan, _) => Need::Recv {
             chan,
             unit: find_unit(plan, after),
@@ -192,6 +214,20 @@ fn entry_block(program: &Program, plan: &Plan, todo: Todo) -> Option<u16>
     }
 }
 
+/// The channel of a send whose offer was taken.
+fn offered_chan(program: &Program, todo: Todo) -> Option<u8>
+    requires todo { todo.stmt < length program.now.stmts }
+    ensures { result ≡ offer_of program.now todo }
+{
+    if !todo.offered {
+        return None;
+    }
+    match kind_at(program, todo.stmt) {
+        Kind::Send(chan, _) => Some(*chan),
+        _ => None,
+    }
+}
+
 /// What the head statement needs.
 fn head_need(program: &Program, plan: &Plan, todo: Todo, proc: &Proc) -> Need
     requires program { IsRunnable program.now }
@@ -200,6 +236,12 @@ fn head_need(program: &Program, plan: &Plan, todo: Todo, proc: &Proc) -> Need
     requires over { IsOver program.now (length (top_cells_of proc.now.frames)) todo.stmt }
     ensures { result ≡ need_of_head program.now plan.now todo proc.now }
 {
+    if let Some(chan) = offered_chan(program, todo) {
+        return Need::Done {
+            chan,
+            unit: find_unit(plan, Start::After(todo.stmt)),
+        };
+    }
     if let Some(block) = entry_block(program, plan, todo) {
         return Need::Enter {
             block,

@@ -47,6 +47,16 @@ pub enum Need {
         value: i64,
         unit: u16,
     },
+    /// To offer a value on a channel of capacity 0.
+    Offer {
+        chan: u8,
+        value: i64,
+    },
+    /// To complete a send on a channel of capacity 0, once its value was received.
+    Done {
+        chan: u8,
+        unit: u16,
+    },
     /// To receive from a channel.
     Recv {
         chan: u8,
@@ -81,11 +91,13 @@ pub struct Frame {
     pub call: Option<u32>,
 }
 
-/// A statement that is still to do; a running block loop is marked as entered.
+/// A statement that is still to do; a running block loop is marked as entered, a send whose offer
+/// was taken as offered.
 #[derive(Clone, Copy, PartialEq, Eq, Debug)]
 pub struct Todo {
     pub stmt: u32,
     pub entered: bool,
+    pub offered: bool,
 }
 
 /// The state of one process, without any shared value. `todo` holds the statements still to do,

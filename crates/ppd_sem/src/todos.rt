@@ -16,6 +16,7 @@ fn listed(alloc: Global, stmts: &[u32]) -> Result<Vec<Todo>, AllocError>
         .map(|stmt| Todo {
             stmt: *stmt,
             entered: false,
+            offered: false,
         })
         .collect(alloc)
 }

@@ -92,29 +92,29 @@ module _ (lists : List (List Taken)) (old i : ℕ) (own : List Taken) (before no
 
 -- ---- the whole
 
-pub story_cost : (program : Program) (s : Story) (m old pairs now : ℕ) → program.functions + length s.steps ≤ length program.bodies → pairs ≤ old + 3 * length s.steps + 9 * steps_in s
-    → now ≤ pairs + 4 * length program.bodies + 2 * sum_by (λ b. b.cells) program.bodies + (3 * m + 12) * steps_in s → now ≤ old + 7 * extent program + (3 * m + 21) * steps_in s
+pub story_cost : (program : Program) (s : Story) (m old pairs now : ℕ) → program.functions + length s.steps ≤ length program.bodies → pairs ≤ old + 4 * length s.steps + 12 * steps_in s
+    → now ≤ pairs + 4 * length program.bodies + 2 * sum_by (λ b. b.cells) program.bodies + (3 * m + 12) * steps_in s → now ≤ old + 8 * extent program + (3 * m + 24) * steps_in s
 story_cost program s m old pairs now few h g =
-    let apart : (3 * m + 12 + 9) * steps_in s ≡ (3 * m + 12) * steps_in s + 9 * steps_in s = add-mul (3 * m + 12) 9 (steps_in s) in
-    let same : 3 * m + 21 ≡ 3 * m + 12 + 9 = omega arith in
-    let all : (3 * m + 21) * steps_in s ≡ (3 * m + 12 + 9) * steps_in s = ap (λ (n : ℕ). n * steps_in s) same in
+    let apart : (3 * m + 12 + 12) * steps_in s ≡ (3 * m + 12) * steps_in s + 12 * steps_in s = add-mul (3 * m + 12) 12 (steps_in s) in
+    let same : 3 * m + 24 ≡ 3 * m + 12 + 12 = omega arith in
+    let all : (3 * m + 24) * steps_in s ≡ (3 * m + 12 + 12) * steps_in s = ap (λ (n : ℕ). n * steps_in s) same in
     omega arith
 
-pub pairs_cost : (program : Program) (s : Story) (m old now : ℕ) → program.functions + length s.steps ≤ length program.bodies → now ≤ old + 3 * length s.steps + 9 * steps_in s
-    → now ≤ old + 7 * extent program + (3 * m + 21) * steps_in s
+pub pairs_cost : (program : Program) (s : Story) (m old now : ℕ) → program.functions + length s.steps ≤ length program.bodies → now ≤ old + 4 * length s.steps + 12 * steps_in s
+    → now ≤ old + 8 * extent program + (3 * m + 24) * steps_in s
 pairs_cost program s m old now few h = story_cost program s m old now now few h (omega arith)
 
-pub told_cost : (program : Program) (m n old now : ℕ) → now ≤ old + 7 * (n + length program.starts + length program.bodies) → now ≤ old + (3 * m + 28) * (n + extent program)
+pub told_cost : (program : Program) (m n old now : ℕ) → now ≤ old + 7 * (n + length program.starts + length program.bodies) → now ≤ old + (3 * m + 31) * (n + extent program)
 told_cost program m n old now h =
-    let least : 7 * (n + extent program) ≤ (3 * m + 28) * (n + extent program) = mul-le 7 (n + extent program) (3 * m + 28) (n + extent program) (omega arith) (omega arith) in
+    let least : 7 * (n + extent program) ≤ (3 * m + 31) * (n + extent program) = mul-le 7 (n + extent program) (3 * m + 31) (n + extent program) (omega arith) (omega arith) in
     omega arith
 
 pub whole_cost : (program : Program) (s : Story) (m n old told now : ℕ) → steps_in s ≤ n → told ≤ old + 7 * (n + length program.starts + length program.bodies)
-    → now ≤ told + 7 * extent program + (3 * m + 21) * steps_in s → now ≤ old + (3 * m + 28) * (n + extent program)
+    → now ≤ told + 8 * extent program + (3 * m + 24) * steps_in s → now ≤ old + (3 * m + 31) * (n + extent program)
 whole_cost program s m n old told now few h g =
-    let steps : (3 * m + 21) * steps_in s ≤ (3 * m + 21) * n = mul-le (3 * m + 21) (steps_in s) (3 * m + 21) n (omega arith) few in
-    let apart : (3 * m + 28) * (n + extent program) ≡ (3 * m + 28) * n + (3 * m + 28) * extent program = mul-add (3 * m + 28) n (extent program) in
-    let seven : (3 * m + 21 + 7) * n ≡ (3 * m + 21) * n + 7 * n = add-mul (3 * m + 21) 7 n in
-    let same : (3 * m + 28) * n ≡ (3 * m + 21 + 7) * n = ap (λ (k : ℕ). k * n) (omega arith) in
-    let least : 28 * extent program ≤ (3 * m + 28) * extent program = mul-le 28 (extent program) (3 * m + 28) (extent program) (omega arith) (omega arith) in
+    let steps : (3 * m + 24) * steps_in s ≤ (3 * m + 24) * n = mul-le (3 * m + 24) (steps_in s) (3 * m + 24) n (omega arith) few in
+    let apart : (3 * m + 31) * (n + extent program) ≡ (3 * m + 31) * n + (3 * m + 31) * extent program = mul-add (3 * m + 31) n (extent program) in
+    let seven : (3 * m + 24 + 7) * n ≡ (3 * m + 24) * n + 7 * n = add-mul (3 * m + 24) 7 n in
+    let same : (3 * m + 31) * n ≡ (3 * m + 24 + 7) * n = ap (λ (k : ℕ). k * n) (omega arith) in
+    let least : 31 * extent program ≤ (3 * m + 31) * extent program = mul-le 31 (extent program) (3 * m + 31) (extent program) (omega arith) (omega arith) in
     omega arith

@@ -1,12 +1,12 @@
 -- A search through the steps of a story, step by step, and maps that answer it.
-use Rattle.std.proofs.Common.{◌≡◌, ℕ, ◌+◌, ◌<◌, ◌≤◌, Bool, true, false, cond, List, [], ◌∷◌, length, drop, get_or, Option, Some, None, refl, ap, sym, ◌∙◌, subst, arith}
+use Rattle.std.proofs.Common.{◌≡◌, ℕ, zero, suc, ◌+◌, ◌<◌, ◌≤◌, Bool, true, false, cond, List, [], ◌∷◌, length, drop, get_or, Option, Some, None, refl, ap, sym, ◌∙◌, subst, arith}
 use Rattle.std.specs.Prelude.{◌&&◌, is_some, nat_eq}
 use Rattle.std.specs.HashMap.{HashMap, get}
 use Rattle.std.proofs.lemmas.Bool.{false≢true}
 use Rattle.std.proofs.lemmas.List.{drop_all, drop_more}
 use Rattle.ppd_ast.specs.declared.program.Program.{Program}
 use Rattle.ppd_ast.specs.declared.status.SyncKind.{SyncKind}
-use Rattle.ppd_ast.specs.declared.status.SyncKind.TheVariants.{P, V, Send, Recv}
+use Rattle.ppd_ast.specs.declared.status.SyncKind.TheVariants.{P, V, Send, Recv, Done}
 use Rattle.ppd_sem.specs.declared.proc.Need.{Need}
 use Rattle.ppd_sem.specs.declared.proc.Need.TheVariants.{Read, Enter, Budget, Stopped}
 use Rattle.ppd_sem.specs.declared.proc.Need.TheVariants as need
@@ -17,7 +17,8 @@ use Rattle.ppd_model.specs.declared.tracing.Taken.{Taken}
 use Rattle.ppd_model.specs.FullTrace.{or_else}
 use Rattle.ppd_model.specs.Numbers.{sync}
 use Rattle.ppd_model.specs.Story.{is_event}
-use Rattle.ppd_model.specs.Synchronizations.{Sync, capacity_of, event_or, is_number, kind_of_sync, leading_from, leading_in, leads_at, led_to, numbered, paired_of, sync_of}
+use Rattle.ppd_sem.specs.Tables.{capacity_of}
+use Rattle.ppd_model.specs.Synchronizations.{Sync, event_or, is_number, kind_of_sync, leading_from, leading_in, leads_at, led_to, numbered, paired_of, sync_of}
 use Rattle.ppd_world.proofs.Lists.{get_or_any}
 use Rattle.ppd_trace.specs.Leading.{HavePairs, KeepsFirst, found_in, is_target, looked_up, target, with_number}
 
@@ -101,10 +102,16 @@ leads_target program kind (Some a) o k = by_led (led_to (capacity_of program a.o
 
 -- nothing leads to a `V`
 no_given : (c n : ℕ) (kind : SyncKind) → led_to c kind V n ≡ None
-no_given c n P = refl
-no_given c n V = refl
-no_given c n Send = refl
-no_given c n Recv = refl
+no_given zero n P = refl
+no_given zero n V = refl
+no_given zero n Send = refl
+no_given zero n Recv = refl
+no_given zero n Done = refl
+no_given (suc c) n P = refl
+no_given (suc c) n V = refl
+no_given (suc c) n Send = refl
+no_given (suc c) n Recv = refl
+no_given (suc c) n Done = refl
 
 given_alone : (program : Program) (o k : ℕ) (a : Option Sync) → leads_at program a (Some (sync V o k)) ≡ false
 given_alone program o k None = refl
@@ -218,15 +225,17 @@ module _ {S : Type 0} where
 
   -- ---- looking a synchronization up
 
-  by_need : (program : Program) (story : Story) (takes receives sends : HashMap (ℕ × ℕ) EventId S) → HavePairs program story takes receives sends → (n : Need) (k : ℕ)
-      → looked_up takes receives sends n k ≡ leading_from program (numbered (kind_of_sync n) (Some k)) 0 story.steps
-  by_need program story takes receives sends h (need.P s u) k = h.of_takes s k
-  by_need program story takes receives sends h (need.Recv c u) k = h.of_receives c k
-  by_need program story takes receives sends h (need.Send c v u) k = h.of_sends c k
-  by_need program story takes receives sends h (need.V s u) k = sym (nothing_from program (Some (sync V s k)) (given_alone program s k) 0 story.steps)
-  by_need program story takes receives sends h n k = sym (none_from program 0 story.steps)
+  by_need : (program : Program) (story : Story) (takes receives sends completes : HashMap (ℕ × ℕ) EventId S) → HavePairs program story takes receives sends completes → (n : Need) (k : ℕ)
+      → looked_up takes receives sends completes n k ≡ leading_from program (numbered (kind_of_sync n) (Some k)) 0 story.steps
+  by_need program story takes receives sends completes h (need.P s u) k = h.of_takes s k
+  by_need program story takes receives sends completes h (need.Recv c u) k = h.of_receives c k
+  by_need program story takes receives sends completes h (need.Send c v u) k = h.of_sends c k
+  by_need program story takes receives sends completes h (need.Offer c v) k = h.of_sends c k
+  by_need program story takes receives sends completes h (need.Done c u) k = h.of_completes c k
+  by_need program story takes receives sends completes h (need.V s u) k = sym (nothing_from program (Some (sync V s k)) (given_alone program s k) 0 story.steps)
+  by_need program story takes receives sends completes h n k = sym (none_from program 0 story.steps)
 
-  pub paired_as : (program : Program) (story : Story) (takes receives sends : HashMap (ℕ × ℕ) EventId S) (x : Taken) (k : ℕ) (r : Option EventId) → HavePairs program story takes receives sends → x.number ≡ Some k
-      → r ≡ looked_up takes receives sends x.need k → r ≡ paired_of program story x
-  paired_as program story takes receives sends x k r h e found =
-      found ∙ by_need program story takes receives sends h x.need k ∙ ap (λ (number : Option ℕ). leading_from program (numbered (kind_of_sync x.need) number) 0 story.steps) (sym e)
+  pub paired_as : (program : Program) (story : Story) (takes receives sends completes : HashMap (ℕ × ℕ) EventId S) (x : Taken) (k : ℕ) (r : Option EventId) → HavePairs program story takes receives sends completes → x.number ≡ Some k
+      → r ≡ looked_up takes receives sends completes x.need k → r ≡ paired_of program story x
+  paired_as program story takes receives sends completes x k r h e found =
+      found ∙ by_need program story takes receives sends completes h x.need k ∙ ap (λ (number : Option ℕ). leading_from program (numbered (kind_of_sync x.need) number) 0 story.steps) (sym e)

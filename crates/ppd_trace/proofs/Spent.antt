@@ -23,7 +23,9 @@ use Rattle.ppd_sem.specs.Ask.{ask, element, is_zero}
 use Rattle.ppd_sem.specs.Asked.{Asked, and_then, gives, lift, once, outcome}
 use Rattle.ppd_sem.specs.Deed.{Deed, ask_all, ask_deed, clear, invoke, leave, pass, turn}
 use Rattle.ppd_sem.specs.Passed.{arguments_at, arguments_by, arguments_of_head, deed_at, deed_by, deed_of_head, kind_if}
-use Rattle.ppd_sem.specs.Process.{head_deed, kind_of, kind_or_end, top_cells}
+use Rattle.ppd_sem.specs.Process.{head_deed, kind_of, kind_or_end, need_of, top_cells}
+use Rattle.ppd_sem.specs.Described.{evaluates}
+use Rattle.ppd_sem.specs.declared.event.Access.{Access}
 use Rattle.ppd_sem.specs.Reads.{ask_place, local_read, reads_of, reads_of_all, reads_of_kind, reads_of_stored, shared_read}
 use Rattle.ppd_model.specs.declared.tracing.Taken.{Taken}
 use Rattle.ppd_model.specs.FullTrace.{Tag, event_of, size_if}
@@ -204,9 +206,14 @@ few_of_head program s (t ∷ ts) e =
     ∙ ap (λ (l : List Todo). written_with program (arguments_of_head program s (slice_get l 0)) (deed_of_head program s (slice_get l 0))) e in
     subst (λ (n : ℕ). n ≤ writes_in program (kind_of program t.stmt)) (sym same) (few_of_deed program program.exprs (top_cells s.frames) (kind_of program t.stmt) s.answers)
 
+few_evaluated : (b : Bool) (xs : List Access) (n : ℕ) → length xs ≤ n → length (cond b xs []) ≤ n
+few_evaluated true xs n h = h
+few_evaluated false xs n h = zero_le n
+
 few_of_event : (program : Program) (plan : Plan) (s : Proc) (x : Taken) (todo : List Todo) → length (event_of program plan s x todo).reads ≤ reads_in_all program.exprs (kind_uses (kind_if program (slice_get todo 0)))
 few_of_event program plan s x [] = zero_le 0
-few_of_event program plan s x (t ∷ ts) = few_of_kind _ (top_cells s.frames) program.exprs (kind_of program t.stmt) s.answers
+few_of_event program plan s x (t ∷ ts) =
+    few_evaluated (evaluates (need_of program plan s)) _ _ (few_of_kind _ (top_cells s.frames) program.exprs (kind_of program t.stmt) s.answers)
 
 most_at : (program : Program) (ss : List Stmt) (i : ℕ) → cells_in program (kind_or_end (slice_get ss i)) ≤ most (map (λ s. cells_in program s.kind) ss)
 most_at program [] i = zero_le 0

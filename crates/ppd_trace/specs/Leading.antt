@@ -3,14 +3,15 @@ use Rattle.std.specs.Prelude.{◌≡◌, ℕ, nat_eq, Bool, false, ◌&&◌, Opt
 use Rattle.std.specs.HashMap.{HashMap, get}
 use Rattle.ppd_ast.specs.declared.program.Program.{Program}
 use Rattle.ppd_ast.specs.declared.status.SyncKind.{SyncKind}
-use Rattle.ppd_ast.specs.declared.status.SyncKind.TheVariants.{P, Send, Recv}
+use Rattle.ppd_ast.specs.declared.status.SyncKind.TheVariants.{P, Send, Recv, Done}
 use Rattle.ppd_sem.specs.declared.proc.Need.{Need}
 use Rattle.ppd_sem.specs.declared.proc.Need.TheVariants as need
 use Rattle.ppd_model.specs.declared.trace.EventId.{EventId}
 use Rattle.ppd_model.specs.declared.tracing.Story.{Story}
 use Rattle.ppd_model.specs.FullTrace.{or_else}
 use Rattle.ppd_model.specs.Numbers.{sync}
-use Rattle.ppd_model.specs.Synchronizations.{Sync, capacity_of, leading_from, led_to}
+use Rattle.ppd_sem.specs.Tables.{capacity_of}
+use Rattle.ppd_model.specs.Synchronizations.{Sync, leading_from, led_to}
 
 -- an object with a number that is there
 abbrev pub with_number : ℕ → Option ℕ → Option (ℕ × ℕ)
@@ -42,15 +43,18 @@ module _ {S : Type 0} where
   LeadTo program kind story leads =
       (object number : ℕ) → found_in leads object number ≡ leading_from program (Some (sync kind object number)) 0 story.steps
 
-  -- three maps have the first events that lead to each `P`, each receive and each send
-  pub record HavePairs (program : Program) (story : Story) (takes receives sends : HashMap (ℕ × ℕ) EventId S) : Type 0 where
+  -- four maps have the first events that lead to each `P`, each receive, each send and each completion
+  pub record HavePairs (program : Program) (story : Story) (takes receives sends completes : HashMap (ℕ × ℕ) EventId S) : Type 0 where
     pub of_takes : LeadTo program P story takes
     pub of_receives : LeadTo program Recv story receives
     pub of_sends : LeadTo program Send story sends
+    pub of_completes : LeadTo program Done story completes
 
   -- the event that the maps have for a synchronization of this number
-  abbrev pub looked_up : HashMap (ℕ × ℕ) EventId S → HashMap (ℕ × ℕ) EventId S → HashMap (ℕ × ℕ) EventId S → Need → ℕ → Option EventId
-  looked_up takes receives sends (need.P s u) number = found_in takes s number
-  looked_up takes receives sends (need.Recv c u) number = found_in receives c number
-  looked_up takes receives sends (need.Send c v u) number = found_in sends c number
-  looked_up takes receives sends n number = None
+  abbrev pub looked_up : HashMap (ℕ × ℕ) EventId S → HashMap (ℕ × ℕ) EventId S → HashMap (ℕ × ℕ) EventId S → HashMap (ℕ × ℕ) EventId S → Need → ℕ → Option EventId
+  looked_up takes receives sends completes (need.P s u) number = found_in takes s number
+  looked_up takes receives sends completes (need.Recv c u) number = found_in receives c number
+  looked_up takes receives sends completes (need.Send c v u) number = found_in sends c number
+  looked_up takes receives sends completes (need.Offer c v) number = found_in sends c number
+  looked_up takes receives sends completes (need.Done c u) number = found_in completes c number
+  looked_up takes receives sends completes n number = None

@@ -3,7 +3,8 @@ ghost use Rattle.std.specs.List.{All};
 ghost use Rattle.ppd_model.specs.FullTrace.{or_else};
 ghost use Rattle.ppd_model.specs.Numbers.{sync};
 ghost use Rattle.ppd_model.specs.Story.{is_event};
-ghost use Rattle.ppd_model.specs.Synchronizations.{capacity_of as capacity_in_program, event_or, kind_of_sync as kind_of, leading_in, led_to as number_led_to, paired_of, sync_of};
+ghost use Rattle.ppd_model.specs.Synchronizations.{event_or, kind_of_sync as kind_of, leading_in, led_to as number_led_to, paired_of, sync_of};
+ghost use Rattle.ppd_sem.specs.Tables.{capacity_of as capacity_in_program};
 ghost use Rattle.ppd_trace.specs.Leading.{HavePairs, KeepsFirst, LeadTo, found_in, looked_up, target};
 ghost use Rattle.ppd_trace.specs.Spending.{steps_in};
 
@@ -17,13 +18,14 @@ use std::sync::ledger::Ledger;
 /// The first event that leads to a synchronization of one kind, by its object and its number.
 type Leads = HashMap<(u8, u64), EventId>;
 
-/// A story with the first events that lead to each `P`, each receive and each send.
+/// A story with the first events that lead to each `P`, each receive, each send and each completion.
 #[derive(Drop)]
 pub(crate) struct PairedStory {
     pub(crate) story: Story,
     takes: Leads,
     receives: Leads,
     sends: Leads,
+    completes: Leads,
 }
 
 /// How many values a channel holds at most, and 0 past the table.
@@ -43,7 +45,8 @@ fn kind_of_sync(need: Need) -> Option<(SyncKind, u8)>
     match need {
         Need::P { sem, .. } => Some((SyncKind::P, sem)),
         Need::V { sem, .. } => Some((SyncKind::V, sem)),
-        Need::Send { chan, .. } => Some((SyncKind::Send, chan)),
+        Need::Send { chan, .. } | Need::Offer { chan, .. } => Some((SyncKind::Send, chan)),
+        Need::Done { chan, .. } => Some((SyncKind::Done, chan)),
         Need::Recv { chan, .. } => Some((SyncKind::Recv, chan)),
         _ => None,
     }
@@ -56,7 +59,11 @@ fn led_to(capacity: u8, first: SyncKind, second: SyncKind, number: u32) -> Optio
     match (first, second) {
         (SyncKind::V, SyncKind::P) => Some(u64::from(number)),
         (SyncKind::Send, SyncKind::Recv) => Some(u64::from(number)),
-        (SyncKind::Recv, SyncKind::Send) => Some(u64::from(number) + u64::from(capacity)),
+        (SyncKind::Recv, SyncKind::Done) if capacity == 0 => Some(u64::from(number)),
+        (SyncKind::Done, SyncKind::Send) if capacity == 0 => Some(u64::from(number) + 1),
+        (SyncKind::Recv, SyncKind::Send) if capacity != 0 => {
+            Some(u64::from(number) + u64::from(capacity))
+        }
         _ => None,
     }
 }
@@ -167,7 +174,7 @@ fn leads_to<L: Ledger>(
     Ok(leads)
 }
 
-/// Finds the pairs of a story, in three passes over its steps. `Memory` is want of memory.
+/// Finds the pairs of a story, in four passes over its steps. `Memory` is want of memory.
 pub(crate) fn find_pairs<L: Ledger>(
     alloc: Global,
     program: &Program,
@@ -176,18 +183,20 @@ pub(crate) fn find_pairs<L: Ledger>(
 ) -> Result<PairedStory, Memory>
     requires few { All (λ own. length own < 2 ^ 32) story.steps }
     requires processes { length story.steps ≤ 2 ^ 8 }
-    ensures cost { steps.new ≤ steps.old + 3 * length story.steps + 9 * steps_in story }
+    ensures cost { steps.new ≤ steps.old + 4 * length story.steps + 12 * steps_in story }
     ensures story { IfOk result (λ told. told.story ≡ story) }
-    ensures pairs { IfOk result (λ told. HavePairs program.now told.story told.takes told.receives told.sends) }
+    ensures pairs { IfOk result (λ told. HavePairs program.now told.story told.takes told.receives told.sends told.completes) }
 {
     let takes = leads_to(alloc, program, SyncKind::P, &story, steps)?;
     let receives = leads_to(alloc, program, SyncKind::Recv, &story, steps)?;
     let sends = leads_to(alloc, program, SyncKind::Send, &story, steps)?;
+    let completes = leads_to(alloc, program, SyncKind::Done, &story, steps)?;
     Ok(PairedStory {
         story,
         takes,
         receives,
         sends,
+        completes,
     })
 }
 
@@ -199,19 +208,22 @@ fn look_up<L: Ledger>(
     steps: &mut Steps<L>,
 ) -> Option<EventId>
     ensures cost { steps.new ≤ steps.old + 1 }
-    ensures value { result ≡ looked_up told.now.takes told.now.receives told.now.sends need number }
+    ensures value { result ≡ looked_up told.now.takes told.now.receives told.now.sends told.now.completes need number }
 {
     match need {
         Need::P { sem, .. } => found(&told.takes, sem, number, steps),
         Need::Recv { chan, .. } => found(&told.receives, chan, number, steps),
-        Need::Send { chan, .. } => found(&told.sends, chan, number, steps),
+        Need::Send { chan, .. } | Need::Offer { chan, .. } => {
+            found(&told.sends, chan, number, steps)
+        }
+        Need::Done { chan, .. } => found(&told.completes, chan, number, steps),
         _ => None,
     }
 }
 
 /// The event whose synchronization leads to that of the step, if the step is one and another leads
-/// to it: the `V` of a `P`'s number, the send of a receive's number, and the receive that finds a
-/// send's place free.
+/// to it: the `V` of a `P`'s number, the send of a receive's number, the receive or the completion
+/// that finds a send's place free, and the receive of a completion's number.
 #[tactic(auto, using(crate::proofs::Leading::unpaired, crate::proofs::Leading::paired_as))]
 pub(crate) fn paired<L: Ledger>(
     program: &Program,
@@ -219,7 +231,7 @@ pub(crate) fn paired<L: Ledger>(
     step: &Taken,
     steps: &mut Steps<L>,
 ) -> Option<EventId>
-    requires { HavePairs program.now told.now.story told.now.takes told.now.receives told.now.sends }
+    requires { HavePairs program.now told.now.story told.now.takes told.now.receives told.now.sends told.now.completes }
     ensures cost { steps.new ≤ steps.old + 1 }
     ensures value { result ≡ paired_of program.now told.now.story step.now }
 {

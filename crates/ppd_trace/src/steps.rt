@@ -51,7 +51,7 @@ fn trace_by<L: Ledger>(
     requires plan { IsNumbered plan.now }
     requires proc { IsRunning program.now tracer.old.proc }
     requires need { taken.now.need ≡ need_of program.now plan.now tracer.old.proc }
-    requires pairs { HavePairs program.now told.now.story told.now.takes told.now.receives told.now.sends }
+    requires pairs { HavePairs program.now told.now.story told.now.takes told.now.receives told.now.sends told.now.completes }
     requires few { length tracer.old.events < 2 ^ 32 }
     ensures value { OnOk result (tracer.new ≡ trace_by_need program.now plan.now told.now.story process taken.now tracer.old) }
     ensures cost { steps.new ≤ steps.old + 10 + 3 * cells_of_step program.now plan.now tracer.old.proc taken.now }
@@ -77,7 +77,7 @@ fn trace_step<L: Ledger>(
     requires plan { IsNumbered plan.now }
     requires proc { IsRunning program.now tracer.old.proc }
     requires need { taken.now.need ≡ need_of program.now plan.now tracer.old.proc }
-    requires pairs { HavePairs program.now told.now.story told.now.takes told.now.receives told.now.sends }
+    requires pairs { HavePairs program.now told.now.story told.now.takes told.now.receives told.now.sends told.now.completes }
     requires few { length tracer.old.events < 2 ^ 32 }
     ensures ok { OnOk result (tracer.new ≡ trace_step_of program.now plan.now told.now.story process tracer.old taken.now) }
     ensures kept { OnOk result (IsRunning program.now tracer.new.proc) }
@@ -130,7 +130,7 @@ pub(crate) fn trace_process<L: Ledger>(
     requires plan { IsNumbered plan.now }
     requires process { program.now.functions + process < length program.now.bodies }
     requires range { program.now.functions + process < 2 ^ 16 }
-    requires pairs { HavePairs program.now told.now.story told.now.takes told.now.receives told.now.sends }
+    requires pairs { HavePairs program.now told.now.story told.now.takes told.now.receives told.now.sends told.now.completes }
     requires few { length own.now < 2 ^ 32 }
     requires own { AreOwn program.now plan.now (started program.now plan.now process budget) own.now }
     ensures events { IfOk result (λ events. events ≡ (tracing_of program.now plan.now budget told.now.story process own.now).events) }

@@ -30,7 +30,7 @@ fn trace_all<L: Ledger>(
     requires program { IsRunnable program.now }
     requires plan { IsNumbered plan.now }
     requires story { IsTraceable program.now plan.now budget told.now.story }
-    requires pairs { HavePairs program.now told.now.story told.now.takes told.now.receives told.now.sends }
+    requires pairs { HavePairs program.now told.now.story told.now.takes told.now.receives told.now.sends told.now.completes }
     ensures trace { IfOk result (λ trace. trace ≡ trace_of program.now plan.now budget told.now.story) }
     ensures cost { steps.new ≤ steps.old + 4 * length program.now.bodies + 2 * sum_by (λ b. b.cells) program.now.bodies + (3 * most_cells program.now + 12) * steps_in told.now.story }
 {
@@ -68,7 +68,7 @@ fn trace_story<L: Ledger>(
     requires plan { IsValidPlan program.now plan.now }
     requires story { IsTraceable program.now plan.now budget story }
     ensures trace { IfOk result (λ trace. trace ≡ trace_of program.now plan.now budget story) }
-    ensures cost { steps.new ≤ steps.old + 7 * extent program.now + (3 * most_cells program.now + 21) * steps_in story }
+    ensures cost { steps.new ≤ steps.old + 8 * extent program.now + (3 * most_cells program.now + 24) * steps_in story }
 {
     let told = find_pairs(alloc, program, story, steps)?;
     trace_all(alloc, program, plan, budget, &told, steps)
@@ -93,7 +93,7 @@ pub fn full_trace_in<L: Ledger>(
     requires plan { IsValidPlan program.now plan.now }
     requires budget { budget ≤ MOST_BUDGET }
     ensures trace { IsTraceOf program.now plan.now budget schedule.now result }
-    ensures cost { steps.new ≤ steps.old + (3 * most_cells program.now + 28) * (length schedule.now + extent program.now) }
+    ensures cost { steps.new ≤ steps.old + (3 * most_cells program.now + 31) * (length schedule.now + extent program.now) }
 {
     let story = match tell_story_in(alloc, program, plan, budget, schedule, steps) {
         Ok(story) => story,
@@ -130,7 +130,7 @@ fn full_trace_from<L: Ledger>(
 /// as a whole trace that is made at once): each event with the event that last wrote each place that
 /// it reads, the test or call that let it run, and the synchronization that leads to it. The budget,
 /// at most 500,000, is that of each process. The pair of a synchronization is looked up by its
-/// object and number, in maps that three passes over the steps fill, and the latest test of a
+/// object and number, in maps that four passes over the steps fill, and the latest test of a
 /// statement in a map of its body's run. `NotEnabled(n)`: the first `n` steps can be taken, and number
 /// `n`, from 0, is the first that names no enabled process. `Memory` is want of memory. It is made
 /// in the steps that `full_trace_in` counts.

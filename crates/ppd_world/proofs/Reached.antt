@@ -163,7 +163,8 @@ small_chan : (left : ℕ) (x : Channel) → IsSoundChan left x → IsSmallChan x
 small_chan left x s =
     let sent : length x.sent + left ≤ most = s.sent in
     let received : x.received ≤ length x.sent = s.received in
-    record { sent = omega arith; received = omega arith }
+    let completed : x.completed ≤ x.received = s.completed in
+    record { sent = omega arith; received = omega arith; completed = omega arith }
 
 small_logging : (program : Program) (l : Logging) → IsSoundLogging program l → IsSmallLogging program l
 small_logging program l s = let rest : l.rest + measure l.proc ≤ 500001 = s.rest in record { proc = s.proc; rest = omega arith }

@@ -11,7 +11,7 @@ use Rattle.ppd_ast.specs.declared.program.Program.{Program}
 use Rattle.ppd_ast.specs.declared.program.Sem.{Sem}
 use Rattle.ppd_entry.specs.declared.entry.Entry.{Entry}
 use Rattle.ppd_sem.specs.declared.proc.Need.{Need}
-use Rattle.ppd_sem.specs.declared.proc.Need.TheVariants.{Write, P, V, Send, Recv}
+use Rattle.ppd_sem.specs.declared.proc.Need.TheVariants.{Write, P, V, Send, Offer, Done, Recv}
 use Rattle.ppd_sem.specs.declared.proc.Proc.{Proc}
 use Rattle.ppd_sem.specs.Measure.{measure}
 use Rattle.ppd_sem.specs.Process.{act, need_of}
@@ -28,7 +28,7 @@ use Rattle.ppd_model.specs.Laws.{logged_moment}
 use Rattle.ppd_model.specs.Logs.{begun_log, entries_of, log_step, loggings, logs_from, rest_after}
 use Rattle.ppd_model.specs.Schedule.{run, run_from, started_procs, started_world}
 use Rattle.ppd_model.specs.Story.{Moment, Telling, begun, moment_of, tell, told}
-use Rattle.ppd_model.specs.World.{World, answer, can, can_receive, can_take, change, effect, need, need_at, step}
+use Rattle.ppd_model.specs.World.{World, answer, can, can_complete, can_receive, can_take, change, effect, need, need_at, step}
 use Rattle.ppd_model.proofs.Bounded.{ArePaid, Goes, all_falls, goes, not_stopped, started_all}
 use Rattle.ppd_model.proofs.States.{logs-change}
 use Rattle.ppd_model.proofs.Stories.{stories_are_of_runs}
@@ -54,6 +54,7 @@ pub record IsSoundSem (left : ℕ) (x : Counts) : Type 0 where
 pub record IsSoundChan (left : ℕ) (x : Channel) : Type 0 where
   pub sent : length x.sent + left ≤ most
   pub received : x.received ≤ length x.sent
+  pub completed : x.completed ≤ x.received
 
 pub record IsSound (r : Running) : Type 0 where
   pub same : map (λ l. l.proc) r.loggings ≡ r.world.procs
@@ -76,7 +77,7 @@ fewer_sem : (j k : ℕ) (x : Counts) → k ≤ j → IsSoundSem j x → IsSoundS
 fewer_sem j k x h s = let given : x.given + j ≤ most = s.given in record { given = omega arith; taken = s.taken }
 
 fewer_chan : (j k : ℕ) (x : Channel) → k ≤ j → IsSoundChan j x → IsSoundChan k x
-fewer_chan j k x h s = let sent : length x.sent + j ≤ most = s.sent in record { sent = omega arith; received = s.received }
+fewer_chan j k x h s = let sent : length x.sent + j ≤ most = s.sent in record { sent = omega arith; received = s.received; completed = s.completed }
 
 taken_sound : (j k : ℕ) (x : Counts) → k + 1 ≤ j → can_take (Some x) ≡ true → IsSoundSem j x → IsSoundSem k (record x { taken = x.taken + 1 })
 taken_sound j k x h e s =
@@ -95,13 +96,20 @@ sent_sound j k x v h s =
     let sent : length x.sent + j ≤ most = s.sent in
     let received : x.received ≤ length x.sent = s.received in
     let more : length (x.sent ++ v ∷ []) ≡ length x.sent + 1 = length-append x.sent (v ∷ []) in
-    record { sent = omega arith; received = omega arith }
+    record { sent = omega arith; received = omega arith; completed = s.completed }
 
 received_sound : (j k : ℕ) (x : Channel) → k + 1 ≤ j → can_receive (Some x) ≡ true → IsSoundChan j x → IsSoundChan k (record x { received = x.received + 1 })
 received_sound j k x h e s =
     let sent : length x.sent + j ≤ most = s.sent in
     let less : x.received < length x.sent = grind (arith, nat_tests) in
-    record { sent = omega arith; received = omega arith }
+    let within : x.completed ≤ x.received = s.completed in
+    record { sent = omega arith; received = omega arith; completed = omega arith }
+
+completed_sound : (j k : ℕ) (x : Channel) → k + 1 ≤ j → can_complete (Some x) ≡ true → IsSoundChan j x → IsSoundChan k (record x { completed = x.completed + 1 })
+completed_sound j k x h e s =
+    let sent : length x.sent + j ≤ most = s.sent in
+    let less : x.completed < x.received = grind (arith, nat_tests) in
+    record { sent = omega arith; received = s.received; completed = omega arith }
 
 module _ (w : World) (j k : ℕ) (less : k + 1 ≤ j) where
   weak_sem : (x : Counts) → IsSoundSem j x → IsSoundSem k x
@@ -115,11 +123,15 @@ module _ (w : World) (j k : ℕ) (less : k + 1 ≤ j) where
   sems_sound (V s u) e h = every_change (IsSoundSem j) (IsSoundSem k) (λ x. record x { given = x.given + 1 }) s w.sems weak_sem (λ x is b. given_sound j k x less b) h
   sems_sound (Write c v) e h = every_more (IsSoundSem j) (IsSoundSem k) w.sems weak_sem h
   sems_sound (Send c v u) e h = every_more (IsSoundSem j) (IsSoundSem k) w.sems weak_sem h
+  sems_sound (Offer c v) e h = every_more (IsSoundSem j) (IsSoundSem k) w.sems weak_sem h
+  sems_sound (Done c u) e h = every_more (IsSoundSem j) (IsSoundSem k) w.sems weak_sem h
   sems_sound (Recv c u) e h = every_more (IsSoundSem j) (IsSoundSem k) w.sems weak_sem h
   sems_sound n e h = every_more (IsSoundSem j) (IsSoundSem k) w.sems weak_sem h
 
   chans_sound : (n : Need) → can w n ≡ true → Every (IsSoundChan j) w.chans → Every (IsSoundChan k) (effect w n).chans
   chans_sound (Send c v u) e h = every_change (IsSoundChan j) (IsSoundChan k) (λ x. record x { sent = x.sent ++ v ∷ [] }) c w.chans weak_chan (λ x is b. sent_sound j k x v less b) h
+  chans_sound (Offer c v) e h = every_change (IsSoundChan j) (IsSoundChan k) (λ x. record x { sent = x.sent ++ v ∷ [] }) c w.chans weak_chan (λ x is b. sent_sound j k x v less b) h
+  chans_sound (Done c u) e h = every_change (IsSoundChan j) (IsSoundChan k) (λ x. record x { completed = x.completed + 1 }) c w.chans weak_chan (λ x is b. completed_sound j k x less (sym (ap can_complete is) ∙ e) b) h
   chans_sound (Recv c u) e h = every_change (IsSoundChan j) (IsSoundChan k) (λ x. record x { received = x.received + 1 }) c w.chans weak_chan (λ x is b. received_sound j k x less (sym (ap can_receive is) ∙ e) b) h
   chans_sound (Write c v) e h = every_more (IsSoundChan j) (IsSoundChan k) w.chans weak_chan h
   chans_sound (P s u) e h = every_more (IsSoundChan j) (IsSoundChan k) w.chans weak_chan h
@@ -168,9 +180,9 @@ sems_begun : (left : ℕ) (sems : List Sem) → left ≤ 8000016 → Every (λ s
 sems_begun left [] few h = tt
 sems_begun left (s ∷ ss) few h = let start : s.start ≤ 65535 = h.0 in (record { given = omega arith; taken = omega arith }, sems_begun left ss few h.1)
 
-chans_begun : (left : ℕ) (chans : List Chan) → left ≤ 8000016 → Every (IsSoundChan left) (map (λ c. record { capacity = c.capacity; sent = []; received = 0 }) chans)
+chans_begun : (left : ℕ) (chans : List Chan) → left ≤ 8000016 → Every (IsSoundChan left) (map (λ c. record { capacity = c.capacity; sent = []; received = 0; completed = 0 }) chans)
 chans_begun left [] few = tt
-chans_begun left (c ∷ cs) few = (record { sent = omega arith; received = omega arith }, chans_begun left cs few)
+chans_begun left (c ∷ cs) few = (record { sent = omega arith; received = omega arith; completed = omega arith }, chans_begun left cs few)
 
 few_steps : (n budget : ℕ) → n ≤ 16 → budget ≤ 500000 → n * (budget + 1) ≤ 8000016
 few_steps n budget h k = mul-le n (budget + 1) 16 500001 h (omega arith)

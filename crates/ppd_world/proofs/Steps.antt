@@ -8,7 +8,7 @@ use Rattle.ppd_ast.specs.declared.plan.Plan.{Plan}
 use Rattle.ppd_ast.specs.declared.program.Program.{Program}
 use Rattle.ppd_sem.specs.declared.proc.Answer.{Answer}
 use Rattle.ppd_sem.specs.declared.proc.Need.{Need}
-use Rattle.ppd_sem.specs.declared.proc.Need.TheVariants.{Read, Write, P, V, Send, Recv}
+use Rattle.ppd_sem.specs.declared.proc.Need.TheVariants.{Read, Write, P, V, Send, Offer, Done, Recv}
 use Rattle.ppd_sem.specs.declared.proc.Proc.{Proc}
 use Rattle.ppd_sem.specs.Process.{act}
 use Rattle.ppd_model.specs.declared.state.Channel.{Channel}
@@ -32,6 +32,8 @@ effect_is w (Write c v) = refl
 effect_is w (P s u) = refl
 effect_is w (V s u) = refl
 effect_is w (Send c v u) = refl
+effect_is w (Offer c v) = refl
+effect_is w (Done c u) = refl
 effect_is w (Recv c u) = refl
 effect_is w n = refl
 
@@ -44,12 +46,16 @@ pub number_is : (shared : List ℤ) (sems : List Counts) (chans : List Channel) 
 number_is shared sems chans ls (P s u) = refl
 number_is shared sems chans ls (V s u) = refl
 number_is shared sems chans ls (Send c v u) = refl
+number_is shared sems chans ls (Offer c v) = refl
+number_is shared sems chans ls (Done c u) = refl
 number_is shared sems chans ls (Recv c u) = refl
 number_is shared sems chans ls n = refl
 
 pub can_is : (a b : List ℤ) (sems : List Counts) (chans : List Channel) (ps qs : List Proc) (n : Need) → can (record { shared = a; sems = sems; chans = chans; procs = ps }) n ≡ can (record { shared = b; sems = sems; chans = chans; procs = qs }) n
 can_is a b sems chans ps qs (P s u) = refl
 can_is a b sems chans ps qs (Send c v u) = refl
+can_is a b sems chans ps qs (Offer c v) = refl
+can_is a b sems chans ps qs (Done c u) = refl
 can_is a b sems chans ps qs (Recv c u) = refl
 can_is a b sems chans ps qs n = refl
 
@@ -64,6 +70,8 @@ unit_is plan w (Write c v) = refl
 unit_is plan w (P s u) = refl
 unit_is plan w (V s u) = refl
 unit_is plan w (Send c v u) = refl
+unit_is plan w (Offer c v) = refl
+unit_is plan w (Done c u) = refl
 unit_is plan w (Recv c u) = refl
 unit_is plan w n = refl
 
@@ -158,6 +166,7 @@ without_with v x =
 
 pub unsent_is : (chans : List Channel) (n : Need) → unsent_after (sent_after chans n) n ≡ chans
 unsent_is chans (Send c v u) = change_back (with_value v) without_last c chans (λ x. without_with v x)
+unsent_is chans (Offer c v) = change_back (with_value v) without_last c chans (λ x. without_with v x)
 unsent_is chans n = refl
 
 pub if_refused : {T E Held : Type 0} (r : Result T E) → Held → OnErr r Held
@@ -187,7 +196,7 @@ still_none Held i below here q lt = elim (cases_lt q i) [
 
 -- what is sent changes no count of receives
 receivable : (x : Channel) → IsSmallChan x → IsReceivable x
-receivable x h = record { received = h.received }
+receivable x h = record { received = h.received; completed = h.completed }
 
 pub receivable_after : (chans now : List Channel) (n : Need) → All IsSmallChan chans → now ≡ sent_after chans n → All IsReceivable now
 receivable_after chans now n h e = subst (λ (cs : List Channel). All IsReceivable cs) (sym e) (every_all IsReceivable (sent_after chans n) (by n))
@@ -196,7 +205,8 @@ receivable_after chans now n h e = subst (λ (cs : List Channel). All IsReceivab
     before = all_every IsSmallChan chans h
 
     by : (n : Need) → Every IsReceivable (sent_after chans n)
-    by (Send c v u) = every_change IsSmallChan IsReceivable (with_value v) c chans receivable (λ x is s. record { received = s.received }) before
+    by (Send c v u) = every_change IsSmallChan IsReceivable (with_value v) c chans receivable (λ x is s. record { received = s.received; completed = s.completed }) before
+    by (Offer c v) = every_change IsSmallChan IsReceivable (with_value v) c chans receivable (λ x is s. record { received = s.received; completed = s.completed }) before
     by n = every_more IsSmallChan IsReceivable chans receivable before
 
 pub enabled_parts : (program : Program) (plan : Plan) (shared : List ℤ) (sems sems' : List Counts) (chans chans' : List Channel) (ls ls' : List Logging) (p : ℕ) → sems' ≡ sems → chans' ≡ chans → ls' ≡ ls

@@ -5,7 +5,7 @@ use Rattle.ppd_ast.specs.declared.program.Program.{Program}
 use Rattle.ppd_entry.specs.declared.entry.Entry.{Entry}
 use Rattle.ppd_sem.specs.declared.proc.Answer.{Answer}
 use Rattle.ppd_sem.specs.declared.proc.Need.{Need}
-use Rattle.ppd_sem.specs.declared.proc.Need.TheVariants.{Write, P, V, Send, Recv, Stopped}
+use Rattle.ppd_sem.specs.declared.proc.Need.TheVariants.{Write, P, V, Send, Offer, Done, Recv, Stopped}
 use Rattle.ppd_sem.specs.Process.{act, need_of}
 use Rattle.ppd_sem.specs.Runs.{IsRunning}
 use Rattle.ppd_model.specs.declared.tracing.Taken.{Taken}
@@ -28,11 +28,13 @@ pub record IsSmallSem (x : Counts) : Type 0 where
 -- one more can be received within 32 bits
 pub record IsReceivable (x : Channel) : Type 0 where
   pub received : x.received + 1 < 2 ^ 32
+  pub completed : x.completed + 1 < 2 ^ 32
 
 -- one more can be sent and received within 32 bits
 pub record IsSmallChan (x : Channel) : Type 0 where
   pub sent : length x.sent + 1 < 2 ^ 32
   pub received : x.received + 1 < 2 ^ 32
+  pub completed : x.completed + 1 < 2 ^ 32
 
 -- a process of the program, and one more step can be counted within 32 bits
 pub record IsSmallLogging (program : Program) (l : Logging) : Type 0 where
@@ -88,16 +90,23 @@ one_received x = record x { received = x.received + 1 }
 -- the channels with what a step of this need sends
 abbrev pub sent_after : List Channel → Need → List Channel
 sent_after chans (Send c v u) = change (with_value v) c chans
+sent_after chans (Offer c v) = change (with_value v) c chans
 sent_after chans need = chans
 
 -- the channels without what was sent last
 abbrev pub unsent_after : List Channel → Need → List Channel
 unsent_after chans (Send c v u) = change without_last c chans
+unsent_after chans (Offer c v) = change without_last c chans
 unsent_after chans need = chans
 
--- the channels with what a step of this need receives
+-- a channel on which one more send was completed
+abbrev pub one_completed : Channel → Channel
+one_completed x = record x { completed = x.completed + 1 }
+
+-- the channels with what a step of this need receives or completes
 abbrev pub received_after : List Channel → Need → List Channel
 received_after chans (Recv c u) = change one_received c chans
+received_after chans (Done c u) = change one_completed c chans
 received_after chans need = chans
 
 -- ---- a process with its log

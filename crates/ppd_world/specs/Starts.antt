@@ -32,7 +32,7 @@ begun_sems program = map (λ s. record { given = s.start; taken = 0 }) program.s
 
 -- the channels
 abbrev pub begun_chans : Program → List Channel
-begun_chans program = map (λ c. record { capacity = c.capacity; sent = []; received = 0 }) program.chans
+begun_chans program = map (λ c. record { capacity = c.capacity; sent = []; received = 0; completed = 0 }) program.chans
 
 -- a process that is still running when nobody can take a step is blocked
 abbrev pub blocked_of : Option Status → Option Status

@@ -166,12 +166,12 @@ fn value_in(answer: Answer) -> i64
     }
 }
 
-/// What a synchronization passes, and 0 for a semaphore.
+/// What a synchronization passes, and 0 for a semaphore and a completion.
 fn passed(need: Need, answer: Answer) -> i64
     ensures { result ≡ passed_of need answer }
 {
     match need {
-        Need::Send { value, .. } => value,
+        Need::Send { value, .. } | Need::Offer { value, .. } => value,
         Need::Recv { .. } => value_in(answer),
         _ => 0,
     }
@@ -190,7 +190,8 @@ fn push_sync(
     let (kind, object) = match need {
         Need::P { sem, .. } => (SyncKind::P, sem),
         Need::V { sem, .. } => (SyncKind::V, sem),
-        Need::Send { chan, .. } => (SyncKind::Send, chan),
+        Need::Send { chan, .. } | Need::Offer { chan, .. } => (SyncKind::Send, chan),
+        Need::Done { chan, .. } => (SyncKind::Done, chan),
         Need::Recv { chan, .. } => (SyncKind::Recv, chan),
         _ => return Ok(()),
     };
@@ -224,6 +225,7 @@ fn unit_started(need: Need) -> Option<u16>
         | Need::P { unit, .. }
         | Need::V { unit, .. }
         | Need::Send { unit, .. }
+        | Need::Done { unit, .. }
         | Need::Recv { unit, .. } => Some(unit),
         Need::Back { unit, .. } => unit,
         _ => None,

@@ -86,7 +86,12 @@ pub(crate) fn note_of(alloc: Global, logging: &Logging, need: Need) -> Result<No
     match need {
         Need::Read(cell) => note_read(alloc, logging, cell),
         Need::Write(cell, _) => note_write(alloc, logging, cell),
-        Need::P { .. } | Need::V { .. } | Need::Send { .. } | Need::Recv { .. } => Ok(Note::Anew),
+        Need::P { .. }
+        | Need::V { .. }
+        | Need::Send { .. }
+        | Need::Offer { .. }
+        | Need::Done { .. }
+        | Need::Recv { .. } => Ok(Note::Anew),
         _ => Ok(Note::Nothing),
     }
 }

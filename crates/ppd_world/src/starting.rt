@@ -128,6 +128,7 @@ pub(crate) fn start_chans(alloc: Global, program: &Program) -> Result<Vec<Channe
             capacity: chan.capacity,
             sent: Nums::new(alloc),
             received: 0,
+            completed: 0,
         };
         if chans.push(channel).is_err() {
             return Err(Memory);

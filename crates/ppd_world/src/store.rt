@@ -1,8 +1,8 @@
 ghost use Rattle.std.specs.Prelude.{◌≡◌, ◌+◌, [], get_or, nat_lt, pos, slice_get, OnOk, OnErr};
 ghost use Rattle.std.specs.List.{All};
 ghost use Rattle.ppd_model.specs.Story.{number_of as number_of_need};
-ghost use Rattle.ppd_model.specs.World.{answer as answer_of, can, can_receive as can_receive_of, can_send as can_send_of, can_take as can_take_of, change, next_value as next_value_of};
-ghost use Rattle.ppd_world.specs.Parts.{IsReceivable, IsSmallChan, IsSmallSem, one_given, one_received, one_taken, received_after, sems_after, sent_after, shared_after, store, unsent_after, with_value, without_last};
+ghost use Rattle.ppd_model.specs.World.{answer as answer_of, can, can_complete as can_complete_of, can_receive as can_receive_of, can_send as can_send_of, can_take as can_take_of, change, next_value as next_value_of, room as room_of_channel};
+ghost use Rattle.ppd_world.specs.Parts.{IsReceivable, IsSmallChan, IsSmallSem, one_completed, one_given, one_received, one_taken, received_after, sems_after, sent_after, shared_after, store, unsent_after, with_value, without_last};
 
 use ppd_ast::{Memory, Nums};
 use ppd_model::{Channel, Counts};
@@ -27,17 +27,31 @@ fn can_take(sems: &[Counts], sem: u8) -> bool
     }
 }
 
-fn has_room(sent: usize, received: u32, capacity: u8) -> bool
-    ensures { result ≡ nat_lt sent (received + capacity) }
+/// How many may have been sent.
+fn room(channel: &Channel) -> u64
+    ensures { result ≡ room_of_channel channel.now }
 {
-    (sent as u64) < u64::from(received) + u64::from(capacity)
+    if channel.capacity == 0 {
+        u64::from(channel.completed) + 1
+    } else {
+        u64::from(channel.received) + u64::from(channel.capacity)
+    }
 }
 
 fn can_send(chans: &[Channel], chan: u8) -> bool
     ensures { result ≡ can_send_of (slice_get chans.now chan) }
 {
     match chans.get(chan as usize) {
-        Some(channel) => has_room(channel.sent.len(), channel.received, channel.capacity),
+        Some(channel) => (channel.sent.len() as u64) < room(channel),
+        None => false,
+    }
+}
+
+fn can_complete(chans: &[Channel], chan: u8) -> bool
+    ensures { result ≡ can_complete_of (slice_get chans.now chan) }
+{
+    match chans.get(chan as usize) {
+        Some(channel) => channel.completed < channel.received,
         None => false,
     }
 }
@@ -58,7 +72,8 @@ pub(crate) fn is_met(sems: &[Counts], chans: &[Channel], need: Need) -> bool
     match need {
         Need::Stopped => false,
         Need::P { sem, .. } => can_take(sems, sem),
-        Need::Send { chan, .. } => can_send(chans, chan),
+        Need::Send { chan, .. } | Need::Offer { chan, .. } => can_send(chans, chan),
+        Need::Done { chan, .. } => can_complete(chans, chan),
         Need::Recv { chan, .. } => can_receive(chans, chan),
         _ => true,
     }
@@ -93,7 +108,10 @@ pub(crate) fn number_of(sems: &[Counts], chans: &[Channel], need: Need) -> Optio
     match need {
         Need::P { sem, .. } => Some(sems.get(sem as usize)?.taken + 1),
         Need::V { sem, .. } => Some(sems.get(sem as usize)?.given + 1),
-        Need::Send { chan, .. } => Some(chans.get(chan as usize)?.sent.len() as u32 + 1),
+        Need::Send { chan, .. } | Need::Offer { chan, .. } => {
+            Some(chans.get(chan as usize)?.sent.len() as u32 + 1)
+        }
+        Need::Done { chan, .. } => Some(chans.get(chan as usize)?.completed + 1),
         Need::Recv { chan, .. } => Some(chans.get(chan as usize)?.received + 1),
         _ => None,
     }
@@ -204,6 +222,23 @@ fn receive(chans: &mut Vec<Channel>, chan: u8)
     receive_one(&mut chans[chan as usize]);
 }
 
+fn complete_one(channel: &mut Channel)
+    requires { IsReceivable channel.old }
+    ensures { channel.new ≡ one_completed channel.old }
+{
+    channel.completed += 1;
+}
+
+fn complete(chans: &mut Vec<Channel>, chan: u8)
+    requires { All IsReceivable chans.old.items }
+    ensures { chans.new.items ≡ change one_completed chan chans.old.items }
+{
+    if chan as usize >= chans.len() {
+        return;
+    }
+    complete_one(&mut chans[chan as usize]);
+}
+
 /// Appends the value that the step sends, where it sends one. `Memory` is want of memory: nothing
 /// changes.
 pub(crate) fn send(chans: &mut Vec<Channel>, need: Need) -> Result<(), Memory>
@@ -212,6 +247,7 @@ pub(crate) fn send(chans: &mut Vec<Channel>, need: Need) -> Result<(), Memory>
 {
     match need {
         Need::Send { chan, value, .. } => push_value(chans, chan, value),
+        Need::Offer { chan, value } => push_value(chans, chan, value),
         _ => Ok(()),
     }
 }
@@ -220,17 +256,20 @@ pub(crate) fn send(chans: &mut Vec<Channel>, need: Need) -> Result<(), Memory>
 pub(crate) fn take_back(chans: &mut Vec<Channel>, need: Need)
     ensures { chans.new.items ≡ unsent_after chans.old.items need }
 {
-    if let Need::Send { chan, .. } = need {
-        drop_last(chans, chan);
+    match need {
+        Need::Send { chan, .. } | Need::Offer { chan, .. } => drop_last(chans, chan),
+        _ => {}
     }
 }
 
-/// Counts the value that the step receives, where it receives one.
+/// Counts the value that the step receives, or the send that it completes, where it does so.
 pub(crate) fn count_received(chans: &mut Vec<Channel>, need: Need)
     requires { All IsReceivable chans.old.items }
     ensures { chans.new.items ≡ received_after chans.old.items need }
 {
-    if let Need::Recv { chan, .. } = need {
-        receive(chans, chan);
+    match need {
+        Need::Recv { chan, .. } => receive(chans, chan),
+        Need::Done { chan, .. } => complete(chans, chan),
+        _ => {}
     }
 }
