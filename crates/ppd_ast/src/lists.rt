@@ -1,11 +1,28 @@
-ghost use Rattle.std.specs.Prelude.{◌≡◌, [], ◌∷◌, ◌++◌, OnOk, OnErr, length, slice_set, take};
+ghost use Rattle.std.specs.Prelude.{◌≡◌, ◌<◌, ◌==◌, ◌^◌, [], ◌∷◌, ◌++◌, OnOk, OnErr, length, option_copied, slice_get, slice_index_or, slice_set, take};
+ghost use Rattle.std.specs.Iterator.Adapters.{IterYieldsInOrder, IterYieldsInReverse};
+ghost use Rattle.std.specs.Slice.{IsItemAt};
+ghost use Rattle.std.specs.Slice.Iter.{iter_rest};
 
-use std::alloc::Global;
+use std::alloc::{AllocError, AllocFailed, Global};
 use std::marker::Model;
+use std::ops::Index;
+use std::slice::Iter;
 
 /// Want of memory.
 #[derive(Clone, Copy, PartialEq, Eq, Debug)]
 pub struct Memory;
+
+impl From<AllocError> for Memory {
+    fn from(_error: AllocError) -> Memory {
+        Memory
+    }
+}
+
+impl<T: Drop> From<AllocFailed<T>> for Memory {
+    fn from(_error: AllocFailed<T>) -> Memory {
+        Memory
+    }
+}
 
 /// A list of items, which contracts see as that list.
 #[derive(Drop, Debug, Clone)]
@@ -59,10 +76,8 @@ impl<T: Drop> Seq<T> {
         ensures ok { OnOk result (self.new ≡ self.old ++ item ∷ []) }
         ensures err { OnErr result (self.new ≡ self.old) }
     {
-        match self.items.push(item) {
-            Ok(()) => Ok(()),
-            Err(_) => Err(Memory),
-        }
+        self.items.push(item)?;
+        Ok(())
     }
 
     /// Appends the vector's items. `Memory` is want of memory: the list is as before and the items
@@ -71,10 +86,8 @@ impl<T: Drop> Seq<T> {
         ensures ok { OnOk result (self.new ≡ self.old ++ items.items) }
         ensures err { OnErr result (self.new ≡ self.old) }
     {
-        match self.items.append(&mut items) {
-            Ok(()) => Ok(()),
-            Err(_) => Err(Memory),
-        }
+        self.items.append(&mut items)?;
+        Ok(())
     }
 
     /// Leaves the first items, so many.
@@ -112,6 +125,56 @@ impl<T: Drop> Seq<T> {
         ensures { result ≡ length self.now }
     {
         self.items.len()
+    }
+
+    /// Whether there is no item.
+    pub fn is_empty(&self) -> bool
+        ensures { result ≡ (length self.now == 0) }
+    {
+        self.items.len() == 0
+    }
+
+    /// The item with this number, from 0, and none past the list's end.
+    pub fn get(&self, index: usize) -> Option<&T>
+        ensures item { IsItemAt self.now index result }
+        ensures value { option_copied result ≡ slice_get self.now index }
+    {
+        self.items.as_slice().get(index)
+    }
+
+    /// The items one by one, in order or from the end.
+    pub fn iter(&self) -> Iter<'_, T>
+        ensures rest { iter_rest result ≡ self.now }
+        ensures len { length (iter_rest result) ≡ length self.now }
+        ensures bound { length (iter_rest result) < 2 ^ 64 }
+        ensures runs { IterYieldsInOrder T }
+        ensures runs_back { IterYieldsInReverse T }
+    {
+        self.items.as_slice().iter()
+    }
+}
+
+impl<T: Drop> Index<usize> for Seq<T> {
+    type Output = T;
+
+    ghost can_index = { λ list index. index < length list };
+
+    ghost index_gives = { λ list index item. item ≡ slice_index_or list index item };
+
+    fn index(&self, index: usize) -> &T {
+        &self.items.as_slice()[index]
+    }
+}
+
+impl<'a, T: Drop> IntoIterator for &'a Seq<T> {
+    type Item = &'a T;
+
+    type IntoIter = Iter<'a, T>;
+
+    ghost into_iter_gives = { λ list it. (iter_rest it ≡ list.now) × (length (iter_rest it) < 2 ^ 64) × IterYieldsInOrder T };
+
+    fn into_iter(self) -> Iter<'a, T> {
+        self.iter()
     }
 }
 

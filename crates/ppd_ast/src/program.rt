@@ -1,3 +1,6 @@
+ghost use Rattle.std.specs.Prelude.{◌≡◌, ◌+◌, option_copied, slice_get};
+ghost use Rattle.std.specs.Slice.{IsItemAt};
+
 use crate::lists::{Bytes, Ids, Nums, Seq};
 
 /// A place in the source: a line and a column in bytes, both from 1.
@@ -133,4 +136,31 @@ pub struct Program {
     pub starts: Nums,
     pub sems: Seq<Sem>,
     pub chans: Seq<Chan>,
+}
+
+impl Program {
+    /// The statement with this number, from 0, and none past the table.
+    pub fn stmt(&self, number: u32) -> Option<&Stmt>
+        ensures item { IsItemAt self.now.stmts number result }
+        ensures value { option_copied result ≡ slice_get self.now.stmts number }
+    {
+        self.stmts.get(number as usize)
+    }
+
+    /// The body with this number, from 0, and none past the table.
+    pub fn body(&self, number: u16) -> Option<&Body>
+        ensures item { IsItemAt self.now.bodies number result }
+        ensures value { option_copied result ≡ slice_get self.now.bodies number }
+    {
+        self.bodies.get(number as usize)
+    }
+
+    /// The body of the process with this number, from 0, and none where there are fewer processes: the
+    /// processes' bodies come after those of the functions.
+    pub fn body_of_process(&self, process: u8) -> Option<&Body>
+        ensures item { IsItemAt self.now.bodies (self.now.functions + process) result }
+        ensures value { option_copied result ≡ slice_get self.now.bodies (self.now.functions + process) }
+    {
+        self.bodies.get(self.functions as usize + process as usize)
+    }
 }

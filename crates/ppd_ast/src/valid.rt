@@ -60,7 +60,7 @@ fn are_valid_chans(chans: &[Chan]) -> bool
 fn is_capacity(capacity: u8) -> bool
     ensures { IsTrue result ↔ ((LEAST_CAPACITY ≤ capacity) × (capacity ≤ MOST_CAPACITY)) }
 {
-    LEAST_CAPACITY <= capacity && capacity <= MOST_CAPACITY
+    (LEAST_CAPACITY..=MOST_CAPACITY).contains(&capacity)
 }
 
 // Whether the bodies' ranges follow one another from `from` up to `end`.
