@@ -58,7 +58,7 @@ kept_at [] ys i x e = absurd (none-some x e)
 kept_at (z ∷ xs) ys zero x e = e
 kept_at (z ∷ xs) ys (suc i) x e = kept_at xs ys i x e
 
-last_at : {A : Type 0} (xs : List A) (y : A) → slice_get (xs ++ y ∷ []) (length xs) ≡ Some y
+pub last_at : {A : Type 0} (xs : List A) (y : A) → slice_get (xs ++ y ∷ []) (length xs) ≡ Some y
 last_at [] y = refl
 last_at (x ∷ xs) y = last_at xs y
 

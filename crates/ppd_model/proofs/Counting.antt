@@ -21,7 +21,7 @@ pub record IsCounting (w : World) (need : Need) (s : Sync) : Type 0 where
   pub unchanged : (kind : SyncKind) (object : ℕ) → (kind ≡ s.kind → object ≡ s.object → ⊥) → count_of (effect w need) kind object ≡ count_of w kind object
 
 -- one count of one object goes up
-raised : {A : Type 0} (count : A → ℕ) (f : A → A) → ((x : A) → count (f x) ≡ count x + 1) → (xs : List A) (o k : ℕ) → number_after count (slice_get xs o) ≡ Some k → count_in count (slice_get (change f o xs) o) ≡ count_in count (slice_get xs o) + 1
+pub raised : {A : Type 0} (count : A → ℕ) (f : A → A) → ((x : A) → count (f x) ≡ count x + 1) → (xs : List A) (o k : ℕ) → number_after count (slice_get xs o) ≡ Some k → count_in count (slice_get (change f o xs) o) ≡ count_in count (slice_get xs o) + 1
 raised {A} count f up xs o k e = ap (λ x. count_in count x) (change-at f o xs) ∙ of_one (slice_get xs o) e
   where
     of_one : (x : Option A) → number_after count x ≡ Some k → count_in count (option_map f x) ≡ count_in count x + 1
@@ -33,7 +33,7 @@ next_number count None k e = absurd (none-some k e)
 next_number count (Some y) k e = sym (some e)
 
 -- of another object, or another count of the same
-as_before : {A : Type 0} (count : A → ℕ) (f : A → A) (xs : List A) (o o' : ℕ) → (o' ≡ o → (x : A) → count (f x) ≡ count x) → count_in count (slice_get (change f o xs) o') ≡ count_in count (slice_get xs o')
+pub as_before : {A : Type 0} (count : A → ℕ) (f : A → A) (xs : List A) (o o' : ℕ) → (o' ≡ o → (x : A) → count (f x) ≡ count x) → count_in count (slice_get (change f o xs) o') ≡ count_in count (slice_get xs o')
 as_before {A} count f xs o o' same = elim (cases_eq o' o) [
   | inl e ↦ subst (λ z. count_in count (slice_get (change f o xs) z) ≡ count_in count (slice_get xs z)) (sym e) (ap (λ x. count_in count x) (change-at f o xs) ∙ of_one (same e) (slice_get xs o))
   | inr d ↦ ap (λ x. count_in count x) (change-else f o o' xs d)

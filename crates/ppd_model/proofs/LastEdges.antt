@@ -37,7 +37,7 @@ direct_from program syncs a b h = elim (or_cases (is_next syncs a b) (leads_at p
   | inr leads ↦ first_there program (sync_at syncs a) (sync_at syncs b) leads
 ]
 
-before_from : (program : Program) (syncs : List (List Sync)) (a b : NodeId) → Before program syncs a b → IsTrue (is_some (sync_at syncs a))
+pub before_from : (program : Program) (syncs : List (List Sync)) (a b : NodeId) → Before program syncs a b → IsTrue (is_some (sync_at syncs a))
 before_from program syncs a b (direct d) = direct_from program syncs a b d
 before_from program syncs a b (through {b = m} h k) = before_from program syncs a m h
 

@@ -196,7 +196,7 @@ own_steps_told program plan budget h p =
     subst (λ n. AreOwn program plan (started program plan n budget) (own_steps (story program plan budget h) p)) (let e : 0 + p ≡ p = omega arith in e)
     (own_at program plan budget 0 p (map steps_of (told program plan budget h).moments) (all_own program plan budget h))
 
-own-before : (program : Program) (plan : Plan) (s : Proc) (before after : List Taken) → AreOwn program plan s (before ++ after) → AreOwn program plan s before
+pub own-before : (program : Program) (plan : Plan) (s : Proc) (before after : List Taken) → AreOwn program plan s (before ++ after) → AreOwn program plan s before
 own-before program plan s [] after own = tt
 own-before program plan s (x ∷ xs) after own = (own.0, own-before program plan (act program plan s x.answer) xs after own.1)
 

@@ -25,7 +25,7 @@ use Rattle.ppd_model.proofs.Stories.{steps-change}
 
 -- ---- the record with one more step
 
-syncs-append : (xs : List Taken) (x : Taken) → syncs_of (xs ++ x ∷ []) ≡ syncs_of xs ++ option_to_list (sync_of x)
+pub syncs-append : (xs : List Taken) (x : Taken) → syncs_of (xs ++ x ∷ []) ≡ syncs_of xs ++ option_to_list (sync_of x)
 syncs-append [] x = one (sync_of x)
   where
     one : (o : Option Sync) → cons_option o [] ≡ option_to_list o
@@ -37,7 +37,7 @@ syncs-append (y ∷ ys) x = ap (λ zs. cons_option (sync_of y) zs) (syncs-append
     grouped None ss ts = refl
     grouped (Some s) ss ts = refl
 
-record-change : (x : Taken) (p : ℕ) (steps : List (List Taken)) → map syncs_of (change (λ xs. xs ++ x ∷ []) p steps) ≡ change (λ ss. ss ++ option_to_list (sync_of x)) p (map syncs_of steps)
+pub record-change : (x : Taken) (p : ℕ) (steps : List (List Taken)) → map syncs_of (change (λ xs. xs ++ x ∷ []) p steps) ≡ change (λ ss. ss ++ option_to_list (sync_of x)) p (map syncs_of steps)
 record-change x p [] = refl
 record-change x zero (xs ∷ rest) = ap (λ ss. ss ∷ map syncs_of rest) (syncs-append xs x)
 record-change x (suc p) (xs ∷ rest) = ap (λ ss. syncs_of xs ∷ ss) (record-change x p rest)

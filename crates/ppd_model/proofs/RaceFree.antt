@@ -50,7 +50,7 @@ any_at test (y ∷ xs) (suc m) x h e = or_right (test y) (list_any test xs) (any
 
 -- ---- the edge of an access is one of its process
 
-edge_shift : (o : Option Sync) (e : ℕ) (ys : List Sync) → e + length (cons_option o ys) ≡ cond (is_some o) (e + 1) e + length ys
+pub edge_shift : (o : Option Sync) (e : ℕ) (ys : List Sync) → e + length (cons_option o ys) ≡ cond (is_some o) (e + 1) e + length ys
 edge_shift None e ys = refl
 edge_shift (Some k) e ys = omega arith
 
@@ -61,7 +61,7 @@ access_edge e (Write c v) rest zero a h = inl (ap (λ o. elim o [ None ↦ e | S
 access_edge e (Write c v) rest (suc m) a h = inr (m, h)
 access_edge e n rest m a h = inr (m, h)
 
-edge_below : (xs : List Taken) (e m : ℕ) (a : SharedAccess) → slice_get (accesses_from e xs) m ≡ Some a → a.edge ≤ e + length (syncs_of xs)
+pub edge_below : (xs : List Taken) (e m : ℕ) (a : SharedAccess) → slice_get (accesses_from e xs) m ≡ Some a → a.edge ≤ e + length (syncs_of xs)
 edge_below [] e m a h = absurd (none-some a h)
 edge_below (x ∷ xs) e m a h = elim (access_edge e x.need (accesses_from (edge_after e x) xs) m a h) [
   | inl same ↦ omega (arith, same)

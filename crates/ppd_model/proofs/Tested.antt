@@ -118,19 +118,19 @@ is_node syncs a h = let e : 0 + a.process ≡ a.process = omega arith in subst (
 
 -- ---- both ways
 
-leads_there : (program : Program) (a b : Option Sync) → IsTrue (leads_at program a b) → IsTrue (is_some b)
+pub leads_there : (program : Program) (a b : Option Sync) → IsTrue (leads_at program a b) → IsTrue (is_some b)
 leads_there program (Some a) (Some b) h = refl
 leads_there program (Some a) None h = h
 leads_there program None b h = absurd (true≢false (sym h))
 
-direct_there : (program : Program) (syncs : List (List Sync)) (a b : NodeId) → IsTrue (is_direct program syncs a b) → IsTrue (is_some (sync_at syncs b))
+pub direct_there : (program : Program) (syncs : List (List Sync)) (a b : NodeId) → IsTrue (is_direct program syncs a b) → IsTrue (is_some (sync_at syncs b))
 direct_there program syncs a b h =
     elim (or_cases (is_next syncs a b) (leads_at program (sync_at syncs a) (sync_at syncs b)) h) [
       | inl next ↦ (and_parts (nat_eq a.process b.process && nat_eq (a.sync + 1) b.sync) (is_some (sync_at syncs b)) next).1
       | inr leads ↦ leads_there program (sync_at syncs a) (sync_at syncs b) leads
     ]
 
-before_there : (program : Program) (syncs : List (List Sync)) (a b : NodeId) → Before program syncs a b → IsTrue (is_some (sync_at syncs b))
+pub before_there : (program : Program) (syncs : List (List Sync)) (a b : NodeId) → Before program syncs a b → IsTrue (is_some (sync_at syncs b))
 before_there program syncs a b (direct d) = direct_there program syncs a b d
 before_there program syncs a b (through {b = m} h k) = before_there program syncs m b k
 

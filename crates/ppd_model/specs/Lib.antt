@@ -21,3 +21,7 @@ pub mod LocalTags
 pub mod Earlier
 pub mod Parents
 pub mod Costs
+pub mod Ends
+pub mod Prefixes
+pub mod Forward
+pub mod SharedReads

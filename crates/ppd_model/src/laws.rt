@@ -1,9 +1,13 @@
 ghost use Rattle.ppd_model.specs.Bounds.{CountsAreBalanced, SchedulesAreBounded, StepsChangeTheirOwn};
 ghost use Rattle.ppd_model.specs.Costs.{LogsArePaid, StartsAreFree, StepsCostWhatTheyWrite};
 ghost use Rattle.ppd_model.specs.Earlier.{TracesNameEarlierEvents, TracesTellRuns};
+ghost use Rattle.ppd_model.specs.Ends.{StoriesTellEnds};
+ghost use Rattle.ppd_model.specs.Forward.{EdgesGoForward, RecordsAreClosed};
 ghost use Rattle.ppd_model.specs.Laws.{IsTestOfBefore, IsTestOfEdges, LastEdgesAreOpen, LogsGrow, NoRaceMeansOrder, ProcessesFollowTheirSteps, StoriesAreOfRuns, StoriesGrow, StoriesTellAll, SynchronizationsAreCounted, TagsAreLastWrites};
 ghost use Rattle.ppd_model.specs.LocalTags.{LocalTagsAreLastWrites, ReadsAreOfTheTop, SchedulesTagLastWrites, StepsTagTheirWrites, StoriesTellOwnSteps};
 ghost use Rattle.ppd_model.specs.Parents.{LoopRunsStayInside, OutersAreTested, ParentsAreLatestTests, ValidParents};
+ghost use Rattle.ppd_model.specs.Prefixes.{ObjectsStay, SchedulesGoByPrefixes};
+ghost use Rattle.ppd_model.specs.SharedReads.{ConflictsGoForward, LastWritesAreGreatest, SharedReadsAreFound, StepsAreAccesses, WritesAreSteps};
 
 /// Law: the story of a schedule with one more step is that of the schedule with this step, its
 /// writer and its cell; and the world of which a story is told is the one that the schedule
@@ -114,4 +118,41 @@ pub fn steps_cost_what_they_write()
     ensures steps { StepsCostWhatTheyWrite }
     ensures start { StartsAreFree }
     ensures logs { LogsArePaid }
+{}
+
+/// Law: how each process ended is found in the story alone.
+pub fn ends_are_told()
+    ensures { StoriesTellEnds }
+{}
+
+/// Law: after each schedule there are as many shared cells, each with its writer, semaphores, channels and
+/// processes as the program has, and each channel has its capacity.
+pub fn objects_stay()
+    ensures { ObjectsStay }
+{}
+
+/// Law: a schedule that can be taken goes by its beginnings: each of its steps is of a process that is
+/// enabled then, and leads from what is told of the steps before it to what is told with it.
+pub fn schedules_go_by_prefixes()
+    ensures { SchedulesGoByPrefixes }
+{}
+
+/// Law: what happened before goes forward in the schedule: of a beginning of a schedule the record has all
+/// that happened before what it has, and a step in an edge that is before another edge comes before each
+/// step in that one.
+pub fn happened_before_goes_forward()
+    ensures records { RecordsAreClosed }
+    ensures edges { EdgesGoForward }
+{}
+
+/// Law: each access is a step, and each step that accesses a cell is an access. In a schedule without a
+/// race, of two steps that conflict the earlier one's edge is before the other's; the writer of a shared
+/// read is the last write of its own edge, else the write in the greatest edge before it that writes the
+/// cell, else none; and the last write of a cell is in the greatest edge that writes it.
+pub fn shared_reads_are_found()
+    ensures steps { StepsAreAccesses }
+    ensures writes { WritesAreSteps }
+    ensures conflicts { ConflictsGoForward }
+    ensures reads { SharedReadsAreFound }
+    ensures last { LastWritesAreGreatest }
 {}
