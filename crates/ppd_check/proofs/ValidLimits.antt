@@ -9,7 +9,7 @@ use Rattle.ppd_lex.specs.Formed.{AreFormed, IsFormed, IsKind}
 use Rattle.ppd_parse.specs.Grammar.{Shape, leaf, node, Shapes, no_shapes, shape_then}
 use Rattle.ppd_parse.specs.Leaves.{leaves, leaves_in, leaves_of}
 use Rattle.ppd_parse.specs.Limits.{IsTree}
-use Rattle.ppd_parse.proofs.Laws.{program_leaves}
+use Rattle.ppd_parse.proofs.TreeLeaves.{program_leaves}
 use Rattle.ppd_check.specs.Reading.{text_of, source_of, said, as_items}
 use Rattle.ppd_check.proofs.ValidLists.{all_parts}
 use Rattle.ppd_check.proofs.LimitsGrammar.{levels, FitsAll, statement_in, place_in, fits_program, statements_program, places_program}

@@ -155,9 +155,7 @@ pub fn check_in<L: Ledger>(
     ensures refused { IfErr result (λ e. IsRefused (tree_of tree.now.nodes) e) }
     ensures cost { steps.new ≤ steps.old + 150 * length tree.now.nodes + 2048 }
 {
-    let Ok(checked) = check_nodes(alloc, tree.nodes.as_slice(), steps) else {
-        return Err(CheckError::Memory);
-    };
+    let checked = check_nodes(alloc, tree.nodes.as_slice(), steps)?;
     match checked.found {
         None => Ok(checked.program),
         Some(fault) => Err(error_of(fault)),

@@ -1,3 +1,7 @@
+ghost use Rattle.std.specs.Prelude.{◌≡◌};
+ghost use Rattle.ppd_check.specs.declared.error.CheckError.TheVariants as C;
+ghost use Rattle.ppd_check.specs.declared.error.SourceError.TheVariants as S;
+
 use crate::fault::Limit;
 use ppd_ast::Place;
 use ppd_lex::LexError;
@@ -41,4 +45,20 @@ pub enum SourceError {
     Check(CheckError),
     /// Want of memory.
     Memory,
+}
+
+impl From<ppd_ast::Memory> for CheckError {
+    ghost from_gives = { λ _ e. e ≡ C.Memory };
+
+    fn from(_error: ppd_ast::Memory) -> Self {
+        CheckError::Memory
+    }
+}
+
+impl From<ppd_ast::Memory> for SourceError {
+    ghost from_gives = { λ _ e. e ≡ S.Memory };
+
+    fn from(_error: ppd_ast::Memory) -> Self {
+        SourceError::Memory
+    }
 }

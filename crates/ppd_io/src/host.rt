@@ -1,9 +1,10 @@
-ghost use Rattle.std.specs.Prelude.{◌≡◌, ◌≤◌, ℕ, List, vec_len, IfOk};
+ghost use Rattle.std.specs.Prelude.{◌≡◌, ◌≤◌, ◌↔◌, ℕ, IsTrue, List, vec_len, IfOk};
+ghost use Rattle.std.specs.IoError.{error_kind};
 
 use crate::shelf::{Shelf, ShelfError};
 use std::alloc::Global;
 use std::fs::File;
-use std::io::Read;
+use std::io::{ErrorKind, Read};
 use std::rt::Files;
 use std::{fs, io};
 
@@ -42,8 +43,11 @@ fn first_bytes<R: Files>(rt: &R, alloc: Global, name: &str, most: usize) -> io::
     Ok(bytes)
 }
 
-fn is_want_of_memory(error: &io::Error) -> bool {
-    error.kind() == io::ErrorKind::OutOfMemory
+// Whether it is the system's want of memory, and no fault of the shelf.
+fn is_want_of_memory(error: &io::Error) -> bool
+    ensures { IsTrue result ↔ (error_kind error.now ≡ ErrorKind.OutOfMemory) }
+{
+    error.kind() == ErrorKind::OutOfMemory
 }
 
 impl<'a, R: Files> Shelf for HostShelf<'a, R> {

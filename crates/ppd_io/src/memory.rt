@@ -95,15 +95,13 @@ impl MemorySink {
     pub fn new(alloc: Global, room: usize, fails: Vec<u32>) -> Result<MemorySink, Memory>
         ensures { IfOk result (λ s. s ≡ record { kept = []; room = room; calls = record { fails = fails.items; next = 0 }; faults = 0 }) }
     {
-        match Vec::with_capacity(alloc, room) {
-            Ok(kept) => Ok(MemorySink {
-                kept,
-                room,
-                calls: ListedCalls::new(fails),
-                faults: 0,
-            }),
-            Err(_) => Err(Memory),
-        }
+        let kept = Vec::with_capacity(alloc, room)?;
+        Ok(MemorySink {
+            kept,
+            room,
+            calls: ListedCalls::new(fails),
+            faults: 0,
+        })
     }
 
     /// The bytes that the sink keeps.
@@ -235,9 +233,7 @@ impl Shelf for MemoryShelf {
             self.failed_stores = self.failed_stores.saturating_add(1);
             return Err(ShelfError::Failed);
         }
-        let Ok(()) = self.entries.put(alloc, name, bytes) else {
-            return Err(ShelfError::Memory);
-        };
+        self.entries.put(alloc, name, bytes)?;
         Ok(())
     }
 }

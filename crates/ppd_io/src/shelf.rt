@@ -3,7 +3,7 @@ ghost use Rattle.std.specs.declared.option.Option.{Option};
 ghost use Rattle.ppd_io.specs.Causes.{Rose};
 ghost use Rattle.ppd_io.specs.Content.{Loads, Stores, StoreFails};
 
-use std::alloc::Global;
+use std::alloc::{AllocError, Global};
 
 /// Why a load or a store was not done.
 #[derive(Clone, Copy, Debug, PartialEq, Eq)]
@@ -12,6 +12,26 @@ pub enum ShelfError {
     Failed,
     /// Want of memory.
     Memory,
+}
+
+impl From<ppd_ast::Memory> for ShelfError {
+    ghost use Rattle.ppd_io.specs.declared.shelf.ShelfError.TheVariants.{Memory};
+
+    ghost from_gives = { λ _ e. e ≡ Memory };
+
+    fn from(_error: ppd_ast::Memory) -> ShelfError {
+        ShelfError::Memory
+    }
+}
+
+impl From<AllocError> for ShelfError {
+    ghost use Rattle.ppd_io.specs.declared.shelf.ShelfError.TheVariants.{Memory};
+
+    ghost from_gives = { λ _ e. e ≡ Memory };
+
+    fn from(_error: AllocError) -> ShelfError {
+        ShelfError::Memory
+    }
 }
 
 /// Bytes by name.

@@ -102,14 +102,12 @@ impl SteadySink {
     pub fn new(alloc: Global, room: usize) -> Result<SteadySink, Memory>
         ensures { IfOk result (λ s. s ≡ record { kept = []; room = room; told = true }) }
     {
-        match Vec::with_capacity(alloc, room) {
-            Ok(kept) => Ok(SteadySink {
-                kept,
-                room,
-                told: true,
-            }),
-            Err(_) => Err(Memory),
-        }
+        let kept = Vec::with_capacity(alloc, room)?;
+        Ok(SteadySink {
+            kept,
+            room,
+            told: true,
+        })
     }
 
     /// The bytes that the sink keeps.
@@ -188,9 +186,7 @@ impl Shelf for SteadyShelf {
     }
 
     fn store(&mut self, alloc: Global, name: &str, bytes: &[u8]) -> Result<(), ShelfError> {
-        let Ok(()) = self.entries.put(alloc, name, bytes) else {
-            return Err(ShelfError::Memory);
-        };
+        self.entries.put(alloc, name, bytes)?;
         Ok(())
     }
 }
@@ -201,8 +197,6 @@ pub(crate) fn copy_of_first(alloc: Global, bytes: &[u8], most: usize) -> Result<
     ensures bytes { IfOk result (λ v. v.items ≡ take most bytes.now) }
     ensures memory { OnErr result (IsErrOf result ShelfError.Memory) }
 {
-    match Vec::from_slice(alloc, &bytes[..most.min(bytes.len())]) {
-        Ok(copy) => Ok(copy),
-        Err(_) => Err(ShelfError::Memory),
-    }
+    let copy = Vec::from_slice(alloc, &bytes[..most.min(bytes.len())])?;
+    Ok(copy)
 }

@@ -1,5 +1,5 @@
 -- Every source has its tokens or a first fault.
-use Rattle.std.proofs.Common.{◌≡◌, ◌<◌, ◌≤◌, ℕ, zero, suc, ◌+◌, List, [], ◌∷◌, length, drop, refl, sym, arith, Bool, true, false, nat_lt}
+use Rattle.std.proofs.Common.{◌≡◌, ◌≢◌, ◌<◌, ◌≤◌, ◌^◌, ◌⊎◌, ℕ, zero, suc, ◌+◌, List, [], ◌∷◌, length, drop, refl, sym, arith, Bool, true, false, nat_lt, nat_le, inl, inr}
 use Rattle.std.proofs.lemmas.Bool.Decides.{nat_tests}
 use Rattle.ppd_lex.specs.declared.token.Token.{Token}
 use Rattle.ppd_lex.specs.declared.scan.Fault.{Fault}
@@ -8,13 +8,25 @@ use Rattle.ppd_lex.specs.declared.scan.Piece.TheVariants.{Gap, Read, Bad}
 use Rattle.ppd_lex.specs.declared.token.TokenKind.{TokenKind}
 use Rattle.ppd_lex.specs.declared.token.TokenKind.TheVariants.{End}
 use Rattle.ppd_lex.specs.Front.{front}
-use Rattle.ppd_lex.specs.Tokens.{token_at, Lexes, end, gap, token, Faults, here, after_gap, after_token}
+use Rattle.ppd_ast.specs.declared.program.Place.{Place}
+use Rattle.ppd_lex.specs.declared.scan.Fault.TheVariants as F
+use Rattle.ppd_lex.specs.declared.token.LexError.{LexError}
+use Rattle.ppd_lex.specs.declared.token.LexError.TheVariants as E
+use Rattle.ppd_lex.specs.Tokens.{token_at, place_of, origin, Lexes, end, gap, token, Faults, here, after_gap, after_token, error_of, IsTokens, IsRefused}
 use Rattle.ppd_lex.proofs.FormedTokens.{proper_at}
+use Rattle.ppd_lex.proofs.Lexed.{refused}
 
 -- from byte i on there are tokens, or there is a fault
 pub data Outcome (bs : List ℕ) (i : ℕ) : Type 0 where
   tokens : (ts : List Token) → Lexes bs i ts → Outcome bs i
   fault : (j : ℕ) (f : Fault) → Faults bs i j f → Outcome bs i
+
+-- a fault is no want of memory
+real : (f : Fault) (p : Place) → error_of f p ≢ E.Memory
+real F.BadByte p e = cc
+real F.BadNumber p e = cc
+real F.OpenComment p e = cc
+real F.LongName p e = cc
 
 module _ (bs : List ℕ) where
   past_gap : (i n : ℕ) → i < length bs → front (drop i bs) ≡ Gap n → Outcome bs (i + n) → Outcome bs i
@@ -41,3 +53,15 @@ module _ (bs : List ℕ) where
 
   pub covered : Outcome bs 0
   covered = from_left (length bs) 0 (omega arith) (omega arith)
+
+  -- the answer to these bytes, where memory lasts
+  pub read_or_faulty : ((ts : List Token) × IsTokens bs ts) ⊎ ((e : LexError) × (e ≢ E.Memory) × IsRefused bs e)
+  read_or_faulty = go (nat_le (length bs) (2 ^ 18)) refl
+    where
+      by_outcome : length bs ≤ 2 ^ 18 → Outcome bs 0 → ((ts : List Token) × IsTokens bs ts) ⊎ ((e : LexError) × (e ≢ E.Memory) × IsRefused bs e)
+      by_outcome s (tokens ts h) = inl (ts, record { short = s; lexes = h })
+      by_outcome s (fault j f h) = inr (error_of f (place_of bs j), real f (place_of bs j), refused bs j f s h)
+
+      go : (t : Bool) → t ≡ nat_le (length bs) (2 ^ 18) → ((ts : List Token) × IsTokens bs ts) ⊎ ((e : LexError) × (e ≢ E.Memory) × IsRefused bs e)
+      go true e = by_outcome (grind (arith, nat_tests)) covered
+      go false e = inr (E.TooLong origin, (λ d. cc), (grind (arith, nat_tests), refl))

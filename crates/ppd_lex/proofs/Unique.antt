@@ -88,3 +88,12 @@ module _ (bs : List ℕ) where
       go (too_long l f) (first g) = let s = g.short in absurd (omega (arith, s))
       go (first f) (too_long l' g) = let s = f.short in absurd (omega (arith, s))
       go (first f) (first g) = same_first d e f g
+
+  -- bytes that are tokens are refused for want of memory alone
+  pub read_or_refused : (ts : List Token) (e : LexError) → IsTokens bs ts → IsRefused bs e → e ≡ E.Memory
+  read_or_refused ts E.Memory h k = refl
+  read_or_refused ts (E.TooLong p) h k = absurd (tokens_or_fault ts (E.TooLong p) h k (λ e. cc))
+  read_or_refused ts (E.BadByte p) h k = absurd (tokens_or_fault ts (E.BadByte p) h k (λ e. cc))
+  read_or_refused ts (E.BadNumber p) h k = absurd (tokens_or_fault ts (E.BadNumber p) h k (λ e. cc))
+  read_or_refused ts (E.OpenComment p) h k = absurd (tokens_or_fault ts (E.OpenComment p) h k (λ e. cc))
+  read_or_refused ts (E.LongName p) h k = absurd (tokens_or_fault ts (E.LongName p) h k (λ e. cc))

@@ -2,4 +2,5 @@
 pub mod Front
 pub mod Formed
 pub mod Gaps
+pub mod Laws
 pub mod Tokens

@@ -1,21 +1,21 @@
 //! The tokens of a source, or its first lexical fault.
 #![tactic(auto)]
 
-ghost use Rattle.std.specs.Prelude.{◌≡◌, ◌<◌, ◌≤◌, ◌+◌, ◌^◌, length, IfOk, IfErr};
-ghost use Rattle.ppd_lex.specs.Tokens.{after_byte, after_bytes, IsTokens, IsRefused, error_of};
+ghost use Rattle.std.specs.Prelude.{◌≡◌, ◌<◌, ◌≤◌, ◌+◌, ◌^◌, length, IfOk, IfErr, IsErrOf};
+ghost use Rattle.ppd_lex.specs.Tokens.{after_byte, after_bytes, origin, IsTokens, IsRefused, error_of};
 ghost use Rattle.ppd_lex.specs.Formed.{AreFormed};
 
+mod laws;
 mod scan;
 mod text;
 mod token;
 
+pub use laws::{gaps_are_blank, longest_is_taken, one_answer};
 use ppd_ast::Place;
+use ppd_ast::limits::MOST_SOURCE_BYTES;
 use scan::{Fault, Piece, front};
 use std::alloc::Global;
 pub use token::{LexError, Token, TokenKind};
-
-// The most bytes of a source.
-const MOST_BYTES: usize = 262_144;
 
 // The place after a byte.
 fn after_byte(place: Place, b: u8) -> Place
@@ -65,15 +65,16 @@ fn error_at(fault: Fault, place: Place) -> LexError
 /// `End`, just after the last byte. Offsets count bytes from 0; lines and columns count from 1, the
 /// columns in bytes, and byte 10 ends a line. Of marks, names and numbers the longest is taken.
 ///
-/// `TooLong`, at 1:1, is answered before every other fault; `BadByte`, `BadNumber`, `OpenComment`
-/// and `LongName` where they stand first in the source; `Memory` is want of memory.
+/// `TooLong`, at 1:1, is answered before every other fault, and no memory is taken for it; `BadByte`,
+/// `BadNumber`, `OpenComment` and `LongName` where they stand first in the source; `Memory` is want of memory.
 pub fn lex(alloc: Global, bytes: &[u8]) -> Result<Vec<Token>, LexError>
     ensures tokens { IfOk result (λ tokens. IsTokens bytes.now tokens.items) }
     ensures formed { IfOk result (λ tokens. AreFormed (length bytes.now) tokens.items) }
     ensures fault { IfErr result (λ error. IsRefused bytes.now error) }
+    ensures long { 2 ^ 18 < length bytes.now → IsErrOf result (LexError.TooLong origin) }
 {
     let mut place = Place { line: 1, column: 1 };
-    if bytes.len() > MOST_BYTES {
+    if bytes.len() > MOST_SOURCE_BYTES {
         return Err(LexError::TooLong(place));
     }
     let mut tokens = Vec::new(alloc);

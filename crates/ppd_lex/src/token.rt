@@ -60,3 +60,11 @@ impl<T: Drop> From<AllocFailed<T>> for LexError {
         LexError::Memory
     }
 }
+
+impl From<ppd_ast::Memory> for LexError {
+    ghost from_gives = { λ _ e. e ≡ Memory };
+
+    fn from(_error: ppd_ast::Memory) -> Self {
+        LexError::Memory
+    }
+}

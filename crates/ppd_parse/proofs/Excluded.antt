@@ -35,3 +35,14 @@ module _ (ts : List Token) (trees : List Shape) (t : IsTree ts trees) where
   tree_or_refused (E.Deep place) real r = let k = limits_at BreaksDepth place r in let b : 65 ≤ r.last.at.depth = r.breaks in omega (arith, k.0)
   tree_or_refused (E.Wide place) real r = let k = limits_at BreaksWidth place r in let b = r.breaks in omega (arith, k.1, b.1)
   tree_or_refused E.Memory real r = absurd (real refl)
+
+  -- the only refusal of tokens that have a tree
+  pub tree_or_memory : (e : SyntaxError) → IsRefused ts e → e ≡ E.Memory
+  tree_or_memory (E.Unexpected place) r = absurd (tree_or_refused (E.Unexpected place) (λ d. cc) r)
+  tree_or_memory (E.Deep place) r = absurd (tree_or_refused (E.Deep place) (λ d. cc) r)
+  tree_or_memory (E.Wide place) r = absurd (tree_or_refused (E.Wide place) (λ d. cc) r)
+  tree_or_memory E.Memory r = refl
+
+-- tokens have one tree at most
+pub tree_unique : (ts : List Token) (f g : List Shape) → IsTree ts f → IsTree ts g → f ≡ g
+tree_unique ts f g h k = (k.only h.marked f h.program h.tokens).1

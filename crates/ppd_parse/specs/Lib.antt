@@ -4,6 +4,7 @@ pub mod Choice
 pub mod Grammar
 pub mod Grown
 pub mod Language
+pub mod Laws
 pub mod Leaves
 pub mod Limits
 pub mod Machine

@@ -32,3 +32,11 @@ impl<T: Drop> From<AllocFailed<T>> for SyntaxError {
         SyntaxError::Memory
     }
 }
+
+impl From<ppd_ast::Memory> for SyntaxError {
+    ghost from_gives = { λ _ e. e ≡ Memory };
+
+    fn from(_error: ppd_ast::Memory) -> Self {
+        SyntaxError::Memory
+    }
+}

@@ -7,6 +7,7 @@ mod expressions;
 mod grove;
 mod growth;
 mod kind;
+mod laws;
 mod machine;
 mod node;
 mod numbering;
@@ -17,6 +18,7 @@ mod want;
 
 pub use error::SyntaxError;
 pub use kind::kind_of;
+pub use laws::{leaves_are_tokens, one_answer};
 pub use node::{Node, Tree};
 pub use reading::{parse, parse_in};
 pub use symbol::{Kind, Rule};

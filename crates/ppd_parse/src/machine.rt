@@ -79,6 +79,7 @@ pub fn raise(peak: &mut usize, height: usize)
     requires near { height ≤ peak.old + 7 }
     ensures held { height ≤ peak.new }
     ensures near { peak.new ≤ peak.old + 7 }
+    ensures later { peak.old ≤ peak.new }
 {
     if height > *peak {
         *peak = height;
@@ -101,6 +102,7 @@ pub fn take<L: Ledger>(
     ensures paid { IfOk result (λ at. Paid at steps.old steps.new (reverse wants.old.items) (reverse wants.new.items)) }
     ensures held { IfOk result (λ at. Held at (length wants.new.items) peak.new) }
     ensures room { peak.new + 7 * steps.old ≤ peak.old + 7 * steps.new }
+    ensures later { peak.old ≤ peak.new }
 {
     while let Some(want) = wants.pop() {
         steps.tick();

@@ -17,15 +17,11 @@ use crate::node::Tree;
 use crate::numbering::renumber;
 use crate::symbol::{At, Kind, Level, Symbol, Want};
 use ppd_ast::Steps;
+use ppd_ast::limits::{MOST_OPEN, MOST_SOURCE_OPERATORS};
 use ppd_lex::Token;
 use std::alloc::{AllocError, Global};
 use std::marker::Brand;
 use std::sync::ledger::{Blank, Ledger};
-
-// The most constructs open at a token, and the most operators of an expression.
-const MOST_OPEN: u8 = 64;
-
-const MOST_OPERATORS: u16 = 256;
 
 // Whether the kind is an operator where it stands in an expression.
 fn is_sign(kind: Kind) -> bool
@@ -77,6 +73,7 @@ fn step<L: Ledger>(
     ensures paid { OnOk result (steps.new + rank (reverse wants.new.items) ≤ steps.old + rank (reverse wants.old.items) + 15) }
     ensures held { OnOk result (length wants.new.items ≤ peak.new) }
     ensures room { peak.new + 7 * steps.old ≤ peak.old + 7 * steps.new }
+    ensures later { peak.old ≤ peak.new }
 {
     match take(wants, grove, token, steps, peak) {
         Err(_) => Err(SyntaxError::Memory),
@@ -85,7 +82,7 @@ fn step<L: Ledger>(
             let count = count_with(count, token, at);
             if at.depth > MOST_OPEN {
                 Err(SyntaxError::Deep(token.place))
-            } else if count > MOST_OPERATORS {
+            } else if count > MOST_SOURCE_OPERATORS {
                 Err(SyntaxError::Wide(token.place))
             } else {
                 Ok(count)
@@ -124,6 +121,7 @@ fn grow<L: Ledger>(
     requires ends { EndOnce tokens.now }
     ensures cost { steps.new ≤ steps.old + 15 * (length tokens.now + 1) }
     ensures room { peak.new ≤ peak.old + 112 * (length tokens.now + 1) }
+    ensures later { peak.old ≤ peak.new }
     ensures tree { IfOk result (λ grove. IsTree tokens.now (shapes_of grove.nodes.items grove.roots.items)) }
     ensures refused { IfErr result (λ error. IsRefused tokens.now error) }
 {
@@ -151,7 +149,7 @@ fn grow<L: Ledger>(
 /// node.
 ///
 /// What is still wanted stands on a stack, and `peak` is raised to the most parts that stood there
-/// at one time: by at most 112 for each token and 112 more.
+/// at one time: by at most 112 for each token and 112 more. It never falls.
 pub fn parse_in<L: Ledger>(
     alloc: Global,
     tokens: &[Token],
@@ -166,6 +164,7 @@ pub fn parse_in<L: Ledger>(
     ensures refused { IfErr result (λ error. IsRefused tokens.now error) }
     ensures cost { steps.new ≤ steps.old + 15 * (length tokens.now + 1) }
     ensures room { peak.new ≤ peak.old + 112 * (length tokens.now + 1) }
+    ensures later { peak.old ≤ peak.new }
 {
     match grow(alloc, tokens, steps, peak) {
         Ok(grove) => {

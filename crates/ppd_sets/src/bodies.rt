@@ -41,8 +41,8 @@ fn calls_in(alloc: Global, program: &Program, body: &Body) -> Result<Ids, Memory
     Ok(ids)
 }
 
-// The functions that each body calls.
-pub(crate) fn calls(alloc: Global, program: &Program) -> Result<Seq<Ids>, Memory>
+/// The functions that each body calls, as a row of numbers for each body. `Memory` is want of memory.
+pub fn calls(alloc: Global, program: &Program) -> Result<Seq<Ids>, Memory>
     ensures { IfOk result (λ rows. rows ≡ call_rows program.now) }
 {
     let mut rows = Seq::new(alloc);

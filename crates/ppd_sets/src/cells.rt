@@ -84,9 +84,9 @@ fn add_exprs(cells: &mut CellSet, wants_shared: bool, exprs: &[Expr], numbers: &
     }
 }
 
-// Adds the cells that a statement's expressions may read.
+/// Adds the cells that a statement's expressions may read, arrays whole: the shared ones, or those of the frame.
 #[tactic(auto, using(crate::proofs::Gaining::gains_none))]
-pub(crate) fn add_reads(cells: &mut CellSet, wants_shared: bool, exprs: &[Expr], kind: &Kind)
+pub fn add_reads(cells: &mut CellSet, wants_shared: bool, exprs: &[Expr], kind: &Kind)
     requires { EachAt AreChildrenBelow exprs.now }
     ensures { Gains cells.old cells.new (reads wants_shared exprs.now kind.now) }
 {
@@ -128,8 +128,9 @@ fn add_target(cells: &mut CellSet, wants_shared: bool, target: &Target)
     }
 }
 
-// Adds the cells that a statement writes. A call counts as writing its receiving local.
-pub(crate) fn add_writes(cells: &mut CellSet, wants_shared: bool, kind: &Kind)
+/// Adds the cells that a statement writes, arrays whole: the shared ones, or those of the frame. A call counts as
+/// writing its receiving local.
+pub fn add_writes(cells: &mut CellSet, wants_shared: bool, kind: &Kind)
     ensures { Gains cells.old cells.new (writes wants_shared kind.now) }
 {
     match kind {

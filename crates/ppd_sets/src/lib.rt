@@ -9,7 +9,8 @@ mod rows;
 mod touched;
 mod var_sets;
 
-pub use cells::add_shared_reads;
+pub use bodies::calls;
+pub use cells::{add_reads, add_shared_reads, add_writes};
 pub use laws::{
     defined_by_chains, loop_defined_by_statements, loop_used_by_statements, used_by_chains,
 };

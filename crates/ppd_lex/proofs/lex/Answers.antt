@@ -15,7 +15,7 @@ slice_bounds-after-end c =
 
 pub after-place-requires-clause-sum : goal.after-place-requires-clause-sum
 after-place-requires-clause-sum c =
-    let w = gap_within c.args.bytes.now c.loop-at.at c.loop-at-test.true c.in-Gap.n (sym c.in-Gap.is ∙ c.in_ok-n.ensures) in place_fits c.args.bytes.now c.loop-at.at c.loop-at-test.true c.loop-at.place c.in-Gap.n c.loop-at.invariant.place w.1 c.if-bytes-gt-MOST_BYTES.false
+    let w = gap_within c.args.bytes.now c.loop-at.at c.loop-at-test.true c.in-Gap.n (sym c.in-Gap.is ∙ c.in_ok-n.ensures) in place_fits c.args.bytes.now c.loop-at.at c.loop-at-test.true c.loop-at.place c.in-Gap.n c.loop-at.invariant.place w.1 c.if-bytes-gt-MOST_SOURCE_BYTES.false
 
 pub after-place-requires-clause-column : goal.after-place-requires-clause-column
 after-place-requires-clause-column c =
@@ -58,7 +58,7 @@ slice_bounds-after-end-in-Read c =
 
 pub after-place-requires-in-Read-clause-sum : goal.after-place-requires-in-Read-clause-sum
 after-place-requires-in-Read-clause-sum c =
-    let w = read_within c.args.bytes.now c.loop-at.at c.loop-at-test.true c.in-Read.n c.in-Read.kind (sym c.in-Read.is ∙ c.in_ok-n.ensures) in place_fits c.args.bytes.now c.loop-at.at c.loop-at-test.true c.loop-at.place c.in-Read.n c.loop-at.invariant.place w.1 c.if-bytes-gt-MOST_BYTES.false
+    let w = read_within c.args.bytes.now c.loop-at.at c.loop-at-test.true c.in-Read.n c.in-Read.kind (sym c.in-Read.is ∙ c.in_ok-n.ensures) in place_fits c.args.bytes.now c.loop-at.at c.loop-at-test.true c.loop-at.place c.in-Read.n c.loop-at.invariant.place w.1 c.if-bytes-gt-MOST_SOURCE_BYTES.false
 
 pub after-place-requires-in-Read-clause-column : goal.after-place-requires-in-Read-clause-column
 after-place-requires-in-Read-clause-column c =
@@ -90,7 +90,7 @@ returns-in-Bad-clause-fault c =
     let inv = c.loop-at.invariant in
     let f = c.in-Bad.fault in
     let h = fault_here bs i c.loop-at-test.true c.loop-at.tokens.items inv.tokens inv.faults f (sym c.in-Bad.is ∙ c.in_ok-n.ensures) in
-    subst (IsRefused bs) (sym (c.error_at.ensures ∙ ap (error_of f) inv.place)) (refused bs i f c.if-bytes-gt-MOST_BYTES.false h)
+    subst (IsRefused bs) (sym (c.error_at.ensures ∙ ap (error_of f) inv.place)) (refused bs i f c.if-bytes-gt-MOST_SOURCE_BYTES.false h)
 
 pub returns-clause-tokens : goal.returns-clause-tokens
 returns-clause-tokens c =
@@ -98,7 +98,7 @@ returns-clause-tokens c =
     let i = c.loop-at.at in
     let inv = c.loop-at.invariant in
     let last : i ≡ length bs = omega arith in
-    ended bs i c.loop-at.tokens.items c.if-bytes-gt-MOST_BYTES.false inv.tokens last c.push-2.new.self.items c.loop-at.place c.in_ok-push.ensures.items inv.place
+    ended bs i c.loop-at.tokens.items c.if-bytes-gt-MOST_SOURCE_BYTES.false inv.tokens last c.push-2.new.self.items c.loop-at.place c.in_ok-push.ensures.items inv.place
 
 pub returns-clause-formed : goal.returns-clause-formed
 returns-clause-formed c = formed c.args.bytes.now c.push-2.new.self.items (returns-clause-tokens c)

@@ -12,6 +12,7 @@ invariant-loop-want g l = record {
   spent : l.steps + rank (reverse l.wants.items) ≤ l.fn.steps + rank (reverse l.fn.wants.items);
   held : length l.wants.items ≤ l.peak;
   room : l.peak + 7 * l.fn.steps ≤ l.fn.peak + 7 * l.steps;
+  later : l.fn.peak ≤ l.peak;
 }
 
 abbrev pub decreases-loop-want : goal.decreases-loop-want

@@ -23,6 +23,7 @@ loop-token-init g c =
       spent = omega (arith, ap rank stack);
       held = subst (λ (ws : List Want). length ws ≤ c.raise.new.peak) (sym (c.in_ok-push.ensures.items ∙ ap (λ (ws : List Want). ws ++ source ∷ []) c.new-wants.ensures.items)) c.raise.ensures.held;
       room = omega (arith, c.raise.ensures.near);
+      later = c.raise.ensures.later;
     }
 
 pub loop-token-preserved : goal.loop-token-preserved
@@ -37,6 +38,7 @@ loop-token-preserved g c =
       spent = omega (arith, c.loop-token.invariant.spent, c.in-Ok.ensures.paid);
       held = c.in-Ok.ensures.held;
       room = omega (arith, c.loop-token.invariant.room, c.in-Ok.ensures.room);
+      later = omega (arith, c.loop-token.invariant.later, c.in-Ok.ensures.later);
     }
 
 pub returns-in-Err-clause-refused : goal.returns-in-Err-clause-refused

@@ -10,4 +10,5 @@ invariant-loop-token g l = record {
   spent : l.steps + rank (reverse l.wants.items) ≤ l.fn.steps + 15 * (l.token-index + 1);
   held : length l.wants.items ≤ l.peak;
   room : l.peak + 7 * l.fn.steps ≤ l.fn.peak + 7 * l.steps + 7;
+  later : l.fn.peak ≤ l.peak;
 }

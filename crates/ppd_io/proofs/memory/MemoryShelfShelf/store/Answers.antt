@@ -5,8 +5,8 @@ use Rattle.ppd_io.proofs.memory.MemoryShelfShelf.store.Goals as goal
 
 pub returns-clause-bytes : goal.returns-clause-bytes
 returns-clause-bytes c =
-    ap (λ es. find_entry es c.args.name.now) c.in-Ok.ensures.ok ∙ find-put_same c.self.inside.entries c.args.name.now c.args.bytes.now
+    ap (λ es. find_entry es c.args.name.now) c.in_ok-put.ensures.ok ∙ find-put_same c.self.inside.entries c.args.name.now c.args.bytes.now
 
 pub returns-clause-others : goal.returns-clause-others
 returns-clause-others c = λ n ne.
-    ap (λ es. find_entry es n) c.in-Ok.ensures.ok ∙ (find-put_other c.self.inside.entries c.args.name.now c.args.bytes.now n ne ∙ ap (λ s. find_entry s.entries n) c.self.view_is)
+    ap (λ es. find_entry es n) c.in_ok-put.ensures.ok ∙ (find-put_other c.self.inside.entries c.args.name.now c.args.bytes.now n ne ∙ ap (λ s. find_entry s.entries n) c.self.view_is)

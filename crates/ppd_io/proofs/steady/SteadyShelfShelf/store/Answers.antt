@@ -6,8 +6,8 @@ use Rattle.ppd_io.proofs.steady.SteadyShelfShelf.store.Goals as goal
 
 pub returns-clause-bytes : goal.returns-clause-bytes
 returns-clause-bytes c =
-    ap (λ es. Some (unwrap_or (find_entry es c.args.name.now) [])) c.in-Ok.ensures.ok ∙ ap (λ o. Some (unwrap_or o [])) (find-put_same c.self.inside.entries c.args.name.now c.args.bytes.now)
+    ap (λ es. Some (unwrap_or (find_entry es c.args.name.now) [])) c.in_ok-put.ensures.ok ∙ ap (λ o. Some (unwrap_or o [])) (find-put_same c.self.inside.entries c.args.name.now c.args.bytes.now)
 
 pub returns-clause-others : goal.returns-clause-others
 returns-clause-others c = λ n ne.
-    ap (λ es. Some (unwrap_or (find_entry es n) [])) c.in-Ok.ensures.ok ∙ (ap (λ o. Some (unwrap_or o [])) (find-put_other c.self.inside.entries c.args.name.now c.args.bytes.now n ne) ∙ ap (λ es. Some (unwrap_or (find_entry es n) [])) c.self.view_is)
+    ap (λ es. Some (unwrap_or (find_entry es n) [])) c.in_ok-put.ensures.ok ∙ (ap (λ o. Some (unwrap_or o [])) (find-put_other c.self.inside.entries c.args.name.now c.args.bytes.now n ne) ∙ ap (λ es. Some (unwrap_or (find_entry es n) [])) c.self.view_is)
