@@ -1,8 +1,8 @@
 use crate::*;
-use std::io;
 use std::io::{Read, Write};
 use std::process::Abort;
 use std::test::Fail;
+use std::{fs, io};
 
 /// A reader, and a writer, of which nothing works.
 #[derive(Drop)]
@@ -35,6 +35,29 @@ impl Write for Unflushed {
 
     fn flush(&mut self) -> io::Result<()> {
         Err(io::Error::from(io::ErrorKind::BrokenPipe))
+    }
+}
+
+/// A writer that takes one byte of a piece, or the greater half of it, and keeps what it takes.
+#[derive(Drop)]
+struct Short {
+    kept: Vec<u8>,
+    halves: bool,
+}
+
+impl Write for Short {
+    fn write(&mut self, buf: &[u8]) -> io::Result<usize> {
+        let count = if self.halves {
+            buf.len() - buf.len() / 2
+        } else {
+            buf.len().min(1)
+        };
+        self.kept.extend_from_slice(&buf[..count])?;
+        Ok(count)
+    }
+
+    fn flush(&mut self) -> io::Result<()> {
+        Ok(())
     }
 }
 
@@ -105,6 +128,24 @@ fn sinks_take_what_fits_and_fail_at_the_listed_calls(rt: HostRuntime) -> Result<
     Ok(())
 }
 
+// A writer may take less than it is given: what it did not take is given again, and nothing twice.
+#[test]
+fn short_writes_are_gone_on_with(rt: HostRuntime) -> Result<(), Fail> {
+    let alloc = rt.alloc();
+    for halves in [false, true] {
+        let mut short = Short {
+            kept: Vec::new(alloc),
+            halves,
+        };
+        let mut sink = StdSink::new(&mut short);
+        assert_eq!(rt; put_all(&mut sink, b"abcdefg"), Ok(()));
+        assert_eq!(rt; put_all(&mut sink, b""), Ok(()));
+        assert_eq!(rt; put_all(&mut sink, b"h"), Ok(()));
+        assert_eq!(rt; short.kept.as_slice(), b"abcdefgh".as_slice());
+    }
+    Ok(())
+}
+
 // What a load gives, where "!" stands for `Failed`.
 fn loaded<F: Shelf>(
     rt: &(impl Abort + AllocGlobal),
@@ -155,5 +196,26 @@ fn shelves_hold_bytes_by_name(rt: HostRuntime) -> Result<(), Fail> {
     );
     assert_eq!(rt; host.store(alloc, "/dev/null", b"a"), Ok(()));
     FreeGate.pass(0, 0);
+    Ok(())
+}
+
+// A source of the greatest length is loaded whole, and of a longer one the byte that shows it is longer.
+#[test]
+fn files_of_the_greatest_source(rt: HostRuntime) -> Result<(), Fail> {
+    let alloc = rt.alloc();
+    let mut host = HostShelf::new(&rt);
+    for (name, len) in [
+        ("ppd_io_longest_source", 262_144),
+        ("ppd_io_too_long_source", 262_145),
+    ] {
+        let mut bytes = Vec::new(alloc);
+        bytes.resize(len, b'x')?;
+        assert_eq!(rt; host.store(alloc, name, &bytes), Ok(()));
+        for most in [262_144, 262_145, 262_146] {
+            let loaded = host.load(alloc, name, most);
+            assert_eq!(rt; loaded.map(|found| found.len()), Ok(len.min(most)));
+        }
+        fs::remove_file(&rt, name)?;
+    }
     Ok(())
 }

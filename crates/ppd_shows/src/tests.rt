@@ -200,6 +200,28 @@ unit 2 exit 3 reads -
 unit 3 after 8 reads a z
 ";
 
+// A send on a channel of capacity 0 is a `send` as a statement, and has one unit, which its completion starts.
+const RENDEZVOUS: &str =
+    "shared int x; chan c[0]; process a { send(c, 7); x = 2; } process b { int v; print(x); v = recv(c); }";
+
+const RENDEZVOUS_TABLE: &str = "\
+body 0 process a used - defined x
+stmt 0 1:38 send c
+stmt 1 1:50 set
+stmt 2 1:57 end
+body 1 process b used x defined -
+stmt 3 1:75 set
+stmt 4 1:78 print
+stmt 5 1:88 recv c
+stmt 6 1:101 end
+block 0 process a prelog - postlog -
+block 1 process b prelog - postlog -
+unit 0 entry a reads -
+unit 1 after 0 reads -
+unit 2 entry b reads x
+unit 3 after 5 reads -
+";
+
 /// The room of the tests' output, in bytes.
 const ROOM: usize = 2_048;
 
@@ -232,6 +254,7 @@ fn tables_are_written_byte_for_byte(rt: HostRuntime) -> Result<(), Fail> {
     for (source, status, text) in [
         (CALLEE_WRITE, 0, CALLEE_WRITE_TABLE),
         (ALL_KINDS, 0, ALL_KINDS_TABLE),
+        (RENDEZVOUS, 0, RENDEZVOUS_TABLE),
         ("", 1, "refused check 7 NoProcess 1:1\n"),
     ] {
         let (found, steps, bytes) = call(alloc, &["show", "row.c"], source, ROOM)?;

@@ -49,7 +49,6 @@ fn each_rule_at_its_place(rt: HostRuntime) -> Result<(), Fail> {
         ("void f() { }\n", "NoProcess 2:1"),
         ("shared int b[0]; process a { }", "BadSize 1:14"),
         ("process a { int b[0]; }", "BadSize 1:19"),
-        ("chan c[0]; process a { }", "BadSize 1:8"),
         ("chan c[65]; process a { }", "BadSize 1:8"),
         ("sem s = 65536; process a { }", "BadSize 1:9"),
     ] {
@@ -76,6 +75,7 @@ fn what_breaks_no_rule(rt: HostRuntime) -> Result<(), Fail> {
         "int f() { ; return f(); } process a { }",
         "sem s = 65535; process a { P(s); V(s); }",
         "chan c[1]; chan d[64]; process a { send(c, 1); int x = recv(d); }",
+        "chan c[0]; process a { send(c, 1); } process b { int x = recv(c); }",
     ] {
         let found = told(alloc, source)?;
         assert_eq!(rt; found.as_str(), "accepted", "{source}");
