@@ -7,6 +7,7 @@ use crate::text::{
 };
 use crate::token::TokenKind;
 use ppd_ast::Bytes;
+use ppd_ast::limits::MOST_NAME_BYTES;
 use std::alloc::{AllocError, Global};
 
 /// What is wrong at a byte.
@@ -33,7 +34,7 @@ pub enum Piece {
 fn read_word(alloc: Global, text: &[u8]) -> Result<Piece, AllocError>
     ensures { IfOk result (λ found. found ≡ read_word text.now) }
 {
-    if text.len() > 64 {
+    if text.len() > MOST_NAME_BYTES {
         return Ok(Piece::Bad(Fault::LongName));
     }
     match keyword(text) {
