@@ -1,0 +1,5 @@
+pub mod Machine
+pub mod Instance
+pub mod Schedules
+pub mod Agreeing
+pub mod Examples
