@@ -245,11 +245,11 @@ top_home program b bs (i ∷ []) ts h home = (h.0, subst (λ (x : Bool). AreHome
 top_home program b bs (i ∷ j ∷ is) ts h home =
     (h.0.of_body, subst (λ (x : Bool). AreHome program (left_by x b bs) (todos (j ∷ is) ++ ts)) (sym h.0.stays) (top_home program b bs (j ∷ is) ts h.1 home))
 
-bodies-write : (c : ℕ) (v : ℤ) (frames : List Frame) → bodies_of (write_top c v frames) ≡ bodies_of frames
+pub bodies-write : (c : ℕ) (v : ℤ) (frames : List Frame) → bodies_of (write_top c v frames) ≡ bodies_of frames
 bodies-write c v [] = refl
 bodies-write c v (f ∷ fs) = refl
 
-bodies-clear : (base len : ℕ) (frames : List Frame) → bodies_of (clear_top base len frames) ≡ bodies_of frames
+pub bodies-clear : (base len : ℕ) (frames : List Frame) → bodies_of (clear_top base len frames) ≡ bodies_of frames
 bodies-clear base len [] = refl
 bodies-clear base len (f ∷ fs) = refl
 
@@ -262,7 +262,7 @@ bodies-from : (program : Program) (call : Option ℕ) (value : Option ℤ) (fram
 bodies-from program None value frames = refl
 bodies-from program (Some c) value frames = bodies-receive (into_of (kind_of program c)) value frames
 
-bodies-returned : (program : Program) (value : Option ℤ) (frames : List Frame) → bodies_of (returned program value frames) ≡ drop 1 (bodies_of frames)
+pub bodies-returned : (program : Program) (value : Option ℤ) (frames : List Frame) → bodies_of (returned program value frames) ≡ drop 1 (bodies_of frames)
 bodies-returned program value [] = refl
 bodies-returned program value (f ∷ fs) = bodies-from program f.call value fs
 

@@ -25,3 +25,5 @@ pub mod Ends
 pub mod Prefixes
 pub mod Forward
 pub mod SharedReads
+pub mod RecordedSets
+pub mod Rendezvous

@@ -11,7 +11,7 @@ use Rattle.ppd_model.specs.declared.flow.Origin.{Origin}
 use Rattle.ppd_model.specs.declared.flow.Origin.TheVariants as origin
 use Rattle.ppd_model.specs.Story.{Story}
 use Rattle.ppd_model.specs.Intervals.{Part, own, Span, Split, splits}
-use Rattle.ppd_model.specs.FlowbackEdges.{edges, part_at}
+use Rattle.ppd_model.specs.FlowbackEdges.{edges, last, part_at}
 
 -- ---- open in an edge
 
@@ -100,3 +100,24 @@ near_intervals program plan budget story p k j =
 -- the own steps of all of them
 abbrev pub near_steps : Program → Plan → ℕ → Story → ℕ → ℕ → ℕ → ℕ
 near_steps program plan budget story p k j = sum_by (λ i. i.steps) (near_intervals program plan budget story p k j)
+
+-- ---- the last value of a cell
+
+-- the intervals of a process that are open in the edge of the event that item j of interval k is
+abbrev pub open_beside : Option Split → ℕ → ℕ → List Span
+open_beside None k j = []
+open_beside (Some x) k j = passing (λ m i. is_open_at x (part_at x k j) i) 0 x.spans
+
+-- those of the origin's process that are open in the origin's edge
+abbrev pub open_at_origin : List Split → Origin → List Span
+open_at_origin xs origin.Initial = []
+open_at_origin xs origin.Entry = []
+open_at_origin xs (origin.Item p k j) = open_beside (slice_get xs p) k j
+
+-- the intervals that are open where the last value of shared cell c was written
+abbrev pub last_intervals : Program → Plan → ℕ → Story → ℕ → List Span
+last_intervals program plan budget story c = open_at_origin (splits program plan budget story) (last program plan budget story c).1
+
+-- the own steps of all of them
+abbrev pub last_steps : Program → Plan → ℕ → Story → ℕ → ℕ
+last_steps program plan budget story c = sum_by (λ i. i.steps) (last_intervals program plan budget story c)

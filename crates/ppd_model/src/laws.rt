@@ -7,6 +7,8 @@ ghost use Rattle.ppd_model.specs.Laws.{IsTestOfBefore, IsTestOfEdges, LastEdgesA
 ghost use Rattle.ppd_model.specs.LocalTags.{LocalTagsAreLastWrites, ReadsAreOfTheTop, SchedulesTagLastWrites, StepsTagTheirWrites, StoriesTellOwnSteps};
 ghost use Rattle.ppd_model.specs.Parents.{LoopRunsStayInside, OutersAreTested, ParentsAreLatestTests, ValidParents};
 ghost use Rattle.ppd_model.specs.Prefixes.{ObjectsStay, SchedulesGoByPrefixes};
+ghost use Rattle.ppd_model.specs.RecordedSets.{AccessesAreOfCells, CellsAreOfAccesses, LogsRecordAccesses, LogsRecordSynchronizations};
+ghost use Rattle.ppd_model.specs.Rendezvous.{ChannelsAreInTurn, CompletionsAreLedTo, CompletionsAreReceived, CompletionsLead, CompletionsWereOffered, OffersAreCompleted};
 ghost use Rattle.ppd_model.specs.SharedReads.{ConflictsGoForward, LastWritesAreGreatest, SharedReadsAreFound, StepsAreAccesses, WritesAreSteps};
 
 /// Law: the story of a schedule with one more step is that of the schedule with this step, its
@@ -155,4 +157,29 @@ pub fn shared_reads_are_found()
     ensures conflicts { ConflictsGoForward }
     ensures reads { SharedReadsAreFound }
     ensures last { LastWritesAreGreatest }
+{}
+
+/// Law: the synchronizations that the logs of a schedule tell are its record. In a valid program the reads
+/// and the writes that a synchronization records are the cells of the accesses of the edge that it ends,
+/// rising, and those of the only end, the last entry, are the cells of the last edge; each is one of the
+/// program's shared cells.
+pub fn logs_record_runs()
+    ensures synchronizations { LogsRecordSynchronizations }
+    ensures accesses { LogsRecordAccesses }
+    ensures cells { CellsAreOfAccesses }
+    ensures there { AccessesAreOfCells }
+{}
+
+/// Law: of a channel completions never exceed receives, receives never exceed sends, and where its capacity
+/// is 0 sends never exceed the completions by more than one. A completion leads to the next send alone, and
+/// the receive of its number alone leads to it, which is there; both on channels of capacity 0 alone. A
+/// process that took an offer completes it by its next step, or stops for its budget; and a completion
+/// follows its offer straight, of the same statement.
+pub fn completions_follow_offers()
+    ensures counts { ChannelsAreInTurn }
+    ensures leads { CompletionsLead }
+    ensures led { CompletionsAreLedTo }
+    ensures received { CompletionsAreReceived }
+    ensures offers { OffersAreCompleted }
+    ensures completions { CompletionsWereOffered }
 {}

@@ -15,12 +15,13 @@ use Rattle.ppd_entry.specs.declared.entry.Entry.TheVariants as entry
 use Rattle.ppd_sem.specs.declared.event.Spot.TheVariants.{Local, Shared}
 use Rattle.ppd_model.specs.declared.flow.Origin.TheVariants.{Entry, Item as ItemAt}
 use Rattle.ppd_model.specs.declared.trace.TracedEvent.{TracedEvent}
+use Rattle.ppd_model.specs.declared.graph.RaceKind.TheVariants.{WriteRead}
 use Rattle.ppd_model.specs.World.{enabled}
 use Rattle.ppd_model.specs.Schedule.{IsWhole}
 use Rattle.ppd_model.specs.Story.{Story, story, told}
 use Rattle.ppd_model.specs.FullTrace.{full_trace}
 use Rattle.ppd_model.specs.Record.{accesses, sync_record}
-use Rattle.ppd_model.specs.Races.{races}
+use Rattle.ppd_model.specs.Races.{race, races}
 use Rattle.ppd_model.specs.Logs.{close, logs}
 use Rattle.ppd_model.specs.FlowbackEdges.{last}
 use Rattle.ppd_model.proofs.Rows.Tables.{stmt_in, scalar, body_of, block_of, unit_of, access, event, quiet, id, traced, ended, sync_from, control_from}
@@ -136,3 +137,13 @@ final_x = refl
 pub every : (h : List ℕ) → IsWhole program plan 100000 h → outcome program plan 100000 h ≡ (ended status.Ended 2 4 [] ∷ ended status.Ended 6 5 (pos 0 ∷ []) ∷ [], [])
 unfolding terms
 every h whole = every_whole program plan 100000 10 16 (outcome program plan 100000) _ refl refl h whole
+
+-- ---- with capacity 1
+
+abbrev pub buffered : Program
+buffered = record program { chans = record { name = 99 ∷ []; capacity = 1 } ∷ [] }
+
+-- every schedule has the one race
+pub every_buffered : (h : List ℕ) → IsWhole buffered plan 100000 h → races buffered plan 100000 h ≡ race 0 1 1 0 0 WriteRead ∷ []
+unfolding terms
+every_buffered h whole = every_whole buffered plan 100000 9 52 (races buffered plan 100000) _ refl refl h whole

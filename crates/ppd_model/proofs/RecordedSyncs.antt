@@ -1,0 +1,106 @@
+-- The synchronizations that logs tell are the record.
+use Rattle.std.proofs.Common.{◌≡◌, ℕ, ◌+◌, ℤ, List, [], ◌∷◌, ◌++◌, Option, Some, None, Bool, true, false, refl, ap, ap₂, sym, ◌∙◌, map, if◌then◌else◌}
+use Rattle.std.specs.Prelude.{filter_map, fold, is_none, option_map, option_to_list}
+use Rattle.std.specs.List.{cons_option}
+use Rattle.std.proofs.lemmas.List.{append-nil, append_assoc}
+use Rattle.std.proofs.lemmas.List.Elements.{filter_map-append}
+use Rattle.ppd_ast.specs.declared.plan.Plan.{Plan}
+use Rattle.ppd_ast.specs.declared.program.Program.{Program}
+use Rattle.ppd_ast.specs.declared.status.Status.{Status}
+use Rattle.ppd_ast.specs.declared.status.Status.TheVariants as status
+use Rattle.ppd_entry.specs.declared.entry.Entry.{Entry}
+use Rattle.ppd_entry.specs.declared.entry.Entry.TheVariants as entry
+use Rattle.ppd_model.specs.Logs.{Logging, begun_log, closed_log, ends, entries_of, log_of, log_step, logs_from, postlogs, prelogs, status_of, syncs, units}
+use Rattle.ppd_model.specs.Marks.{Mark, closed, opened}
+use Rattle.ppd_model.specs.RecordedSets.{LogsRecordSynchronizations, sync_in}
+use Rattle.ppd_model.specs.Story.{Moment, Taken, steps_of, told, unit_started}
+use Rattle.ppd_model.specs.Synchronizations.{Sync, sync_of, syncs_of}
+
+-- ---- a choice of entries that takes synchronizations alone
+
+pub record IsOfSyncs {B : Type 0} (f : Entry → Option B) : Type 0 where
+  pub prelog : (m : Option Mark) → filter_map f (prelogs m) ≡ []
+  pub postlog : (m : Option Mark) → filter_map f (postlogs m) ≡ []
+  pub unit : (u : Option ℕ) (values : List ℤ) → filter_map f (units u values) ≡ []
+  pub end : (l : Logging) (s : Option Status) → filter_map f (ends l s) ≡ []
+
+module _ {B : Type 0} (f : Entry → Option B) (only : IsOfSyncs f) (program : Program) (plan : Plan) where
+  -- what it takes of the entries of a step is what it takes of the synchronization
+  pub of_step : (l : Logging) (m : Moment) → filter_map f (entries_of program plan l m) ≡ filter_map f (syncs l m.taken (sync_of m.taken))
+  of_step l m =
+      let a : List Entry = prelogs (opened program plan l.proc m.taken.need) in
+      let b : List Entry = syncs l m.taken (sync_of m.taken) in
+      let c : List Entry = postlogs (closed program plan l.proc m.taken.need) in
+      let d : List Entry = units (unit_started m.taken.need) m.unit_values in
+      let e : List Entry = ends l (status_of m.taken.need) in
+      filter_map-append f (a ++ b ++ c ++ d) e
+      ∙ ap₂ (λ x y. x ++ y)
+      (filter_map-append f (a ++ b ++ c) d
+      ∙ ap₂ (λ x y. x ++ y)
+      (filter_map-append f (a ++ b) c
+      ∙ ap₂ (λ x y. x ++ y) (filter_map-append f a b ∙ ap (λ x. x ++ filter_map f b) (only.prelog (opened program plan l.proc m.taken.need))) (only.postlog (closed program plan l.proc m.taken.need)))
+      (only.unit (unit_started m.taken.need) m.unit_values))
+      (only.end l (status_of m.taken.need))
+      ∙ append-nil ((filter_map f b ++ []) ++ []) ∙ append-nil (filter_map f b ++ []) ∙ append-nil (filter_map f b)
+
+-- ---- the record
+
+syncs_only : IsOfSyncs sync_in
+syncs_only = record { prelog = prelog; postlog = postlog; unit = unit; end = end }
+  where
+    prelog : (m : Option Mark) → filter_map sync_in (prelogs m) ≡ []
+    prelog None = refl
+    prelog (Some m) = refl
+
+    postlog : (m : Option Mark) → filter_map sync_in (postlogs m) ≡ []
+    postlog None = refl
+    postlog (Some m) = refl
+
+    unit : (u : Option ℕ) (values : List ℤ) → filter_map sync_in (units u values) ≡ []
+    unit None values = refl
+    unit (Some u) values = refl
+
+    end : (l : Logging) (s : Option Status) → filter_map sync_in (ends l s) ≡ []
+    end l None = refl
+    end l (Some s) = refl
+
+module _ (program : Program) (plan : Plan) (budget : ℕ) where
+  one : (l : Logging) (x : Taken) (o : Option Sync) → filter_map sync_in (syncs l x o) ≡ option_to_list o
+  one l x None = refl
+  one l x (Some s) = refl
+
+  joined : (ss : List Sync) (o : Option Sync) (ts : List Sync) → (ss ++ option_to_list o) ++ ts ≡ ss ++ cons_option o ts
+  joined ss None ts = ap (λ xs. xs ++ ts) (append-nil ss)
+  joined ss (Some s) ts = append_assoc ss (s ∷ []) ts
+
+  told_by : (l : Logging) (ms : List Moment) → filter_map sync_in (fold (log_step program plan) l ms).entries ≡ filter_map sync_in l.entries ++ syncs_of (steps_of ms)
+  told_by l [] = sym (append-nil (filter_map sync_in l.entries))
+  told_by l (m ∷ ms) =
+      told_by (log_step program plan l m) ms
+      ∙ ap (λ ss. ss ++ syncs_of (steps_of ms))
+      (filter_map-append sync_in l.entries (entries_of program plan l m)
+      ∙ ap (λ ss. filter_map sync_in l.entries ++ ss) (of_step sync_in syncs_only program plan l m ∙ one l m.taken (sync_of m.taken)))
+      ∙ joined (filter_map sync_in l.entries) (sync_of m.taken) (syncs_of (steps_of ms))
+
+  closing : (l : Logging) → filter_map sync_in (closed_log l) ≡ filter_map sync_in l.entries
+  closing l =
+      filter_map-append sync_in l.entries (if is_none l.proc.status then entry.End status.Blocked l.rest l.reads l.writes ∷ [] else [])
+      ∙ ap (λ ss. filter_map sync_in l.entries ++ ss) (by (is_none l.proc.status)) ∙ append-nil (filter_map sync_in l.entries)
+    where
+      by : (b : Bool) → filter_map sync_in (if b then entry.End status.Blocked l.rest l.reads l.writes ∷ [] else []) ≡ []
+      by true = refl
+      by false = refl
+
+  kept_all : (p : ℕ) (moments : List (List Moment)) → map (filter_map sync_in) (map (λ l. l.entries) (logs_from program plan budget p moments)) ≡ map syncs_of (map steps_of moments)
+  kept_all p [] = refl
+  kept_all p (ms ∷ rest) = ap₂ (λ s ss. s ∷ ss) (told_by (begun_log program plan budget p) ms) (kept_all (p + 1) rest)
+
+  closed_all : (p : ℕ) (moments : List (List Moment)) → map (filter_map sync_in) (map closed_log (logs_from program plan budget p moments)) ≡ map syncs_of (map steps_of moments)
+  closed_all p [] = refl
+  closed_all p (ms ∷ rest) = ap₂ (λ s ss. s ∷ ss) (closing (log_of program plan budget p ms) ∙ told_by (begun_log program plan budget p) ms) (closed_all (p + 1) rest)
+
+pub record_syncs : LogsRecordSynchronizations
+record_syncs program plan budget h = record {
+  closed = closed_all program plan budget 0 (told program plan budget h).moments;
+  kept = kept_all program plan budget 0 (told program plan budget h).moments;
+}

@@ -1,0 +1,102 @@
+-- What logs record of a run: its synchronizations, and the shared cells that each internal edge accesses.
+use Rattle.std.specs.Prelude.{◌≡◌, ℕ, ◌<◌, nat_eq, Bool, true, false, ◌&&◌, List, [], ◌∷◌, ◌++◌, map, filter, filter_map, fold, length, slice_get, Option, Some, None}
+use Rattle.std.specs.List.{list_any, range_with_len}
+use Rattle.std.specs.List.Sorted.{IsStrictlyIncreasing}
+use Rattle.ppd_ast.specs.Valid.{IsValid}
+use Rattle.ppd_ast.specs.declared.plan.Plan.{Plan}
+use Rattle.ppd_ast.specs.declared.program.Program.{Program}
+use Rattle.ppd_ast.specs.declared.status.Status.{Status}
+use Rattle.ppd_entry.specs.declared.entry.Entry.{Entry}
+use Rattle.ppd_entry.specs.declared.entry.Entry.TheVariants as entry
+use Rattle.ppd_entry.specs.declared.entry.Logs.{Logs}
+use Rattle.ppd_model.specs.Story.{Story, own_steps, story}
+use Rattle.ppd_model.specs.Synchronizations.{Sync, syncs_of}
+use Rattle.ppd_model.specs.Record.{SharedAccess, accesses, sync_record}
+use Rattle.ppd_model.specs.Numbers.{sync}
+use Rattle.ppd_model.specs.Races.{has_access, writes_or_not}
+use Rattle.ppd_model.specs.Logs.{kept_logs, logs, with_cell}
+
+-- ---- synchronizations
+
+-- the synchronization that an entry is, if it is one
+abbrev pub sync_in : Entry → Option Sync
+sync_in (entry.Sync kind object number value reads writes) = Some (sync kind object number)
+sync_in e = None
+
+-- the synchronizations of each process in order
+abbrev pub record_in : Logs → List (List Sync)
+record_in logs = map (filter_map sync_in) logs.lists
+
+-- the synchronizations that the logs of a schedule tell, closed or not, are its record
+pub record RecordsSynchronizations (program : Program) (plan : Plan) (budget : ℕ) (h : List ℕ) : Type 0 where
+  pub closed : record_in (logs program plan budget h) ≡ sync_record program plan budget h
+  pub kept : record_in (kept_logs program plan budget h) ≡ sync_record program plan budget h
+
+-- so it is with each schedule
+abbrev pub LogsRecordSynchronizations : Type 0
+LogsRecordSynchronizations = (program : Program) (plan : Plan) (budget : ℕ) (h : List ℕ) → RecordsSynchronizations program plan budget h
+
+-- ---- the cells of an internal edge
+
+-- these cells rising, each once
+abbrev pub rising : List ℕ → List ℕ
+rising cells = fold (λ set c. with_cell c set) [] cells
+
+-- the cells of the accesses of one edge that are reads, or that are writes
+abbrev pub cells_of : List SharedAccess → ℕ → Bool → List ℕ
+cells_of xs i writes = rising (map (λ a. a.cell) (filter (λ a. nat_eq a.edge i && writes_or_not a writes) xs))
+
+-- the cells that process p reads, or writes, in its edge i
+abbrev pub cells_in : Story → ℕ → ℕ → Bool → List ℕ
+cells_in s p i writes = cells_of (accesses s p) i writes
+
+-- both
+abbrev pub sets_in : Story → ℕ → ℕ → List ℕ × List ℕ
+sets_in s p i = (cells_in s p i false, cells_in s p i true)
+
+-- rising, they are the cells that the edge has an access of
+pub record AreCellsOf (s : Story) (p i : ℕ) (writes : Bool) : Type 0 where
+  pub rises : IsStrictlyIncreasing (cells_in s p i writes)
+  pub are : (c : ℕ) → list_any (λ d. nat_eq d c) (cells_in s p i writes) ≡ has_access s p i c writes
+
+-- so it is in each edge
+abbrev pub CellsAreOfAccesses : Type 0
+CellsAreOfAccesses = (s : Story) (p i : ℕ) (writes : Bool) → AreCellsOf s p i writes
+
+-- in a valid program each of them is one of its shared cells
+abbrev pub AccessesAreOfCells : Type 0
+AccessesAreOfCells =
+    (program : Program) (plan : Plan) (budget : ℕ) (h : List ℕ) (p m : ℕ) (a : SharedAccess) → IsValid program
+    → slice_get (accesses (story program plan budget h) p) m ≡ Some a → a.cell < length program.starts
+
+-- ---- recorded sets
+
+-- the cells read and the cells written that the entry of a synchronization records
+abbrev pub sets_at_sync : Entry → Option (List ℕ × List ℕ)
+sets_at_sync (entry.Sync kind object number value reads writes) = Some (reads, writes)
+sets_at_sync e = None
+
+-- the entry is the end of the process
+abbrev pub is_end : Entry → Bool
+is_end (entry.End status rest reads writes) = true
+is_end e = false
+
+-- the last edge of process p: as many as it did synchronizations
+abbrev pub last_edge : Story → ℕ → ℕ
+last_edge s p = length (syncs_of (own_steps s p))
+
+-- the synchronizations have the sets of the edges that they end, in order, and the only End, which
+-- stands last, those of the last edge
+pub record RecordsAccesses (s : Story) (p : ℕ) (entries : List Entry) : Type 0 where
+  pub before : List Entry
+  pub status : Status
+  pub rest : ℕ
+  pub entries_are : entries ≡ before ++ entry.End status rest (cells_in s p (last_edge s p) false) (cells_in s p (last_edge s p) true) ∷ []
+  pub syncs_are : filter_map sets_at_sync before ≡ map (sets_in s p) (range_with_len 0 (last_edge s p))
+  pub no_end : list_any is_end before ≡ false
+
+-- so it is with each log of a schedule of a valid program
+abbrev pub LogsRecordAccesses : Type 0
+LogsRecordAccesses =
+    (program : Program) (plan : Plan) (budget : ℕ) (h : List ℕ) (p : ℕ) (entries : List Entry) → IsValid program
+    → slice_get (logs program plan budget h).lists p ≡ Some entries → RecordsAccesses (story program plan budget h) p entries
