@@ -1,17 +1,15 @@
 -- The processes of a world that was reached: how many there are, and which of them can take a step.
 use Rattle.std.specs.Prelude.{slice_get}
-use Rattle.std.proofs.Common.{◌≡◌, ℕ, zero, suc, ◌+◌, ◌-◌, ◌*◌, ◌<◌, ◌≤◌, List, [], ◌∷◌, ◌++◌, length, Some, None, true, false, cond, refl, sym, ◌∙◌, ap, arith, inl, inr, mul-le-mul_right}
+use Rattle.std.proofs.Common.{◌≡◌, ℕ, zero, suc, ◌-◌, ◌<◌, ◌≤◌, List, [], ◌∷◌, length, Some, None, true, false, cond, refl, sym, ◌∙◌, ap, arith, inl, inr}
 use Rattle.std.proofs.lemmas.Bool.{cases_lt}
-use Rattle.std.proofs.lemmas.List.{length-append}
 use Rattle.std.proofs.lemmas.List.FromFn.{length-map-range_with_len}
 use Rattle.ppd_ast.specs.declared.program.Program.{Program}
 use Rattle.ppd_ast.specs.declared.plan.Plan.{Plan}
 use Rattle.ppd_sem.specs.declared.proc.Proc.{Proc}
 use Rattle.ppd_sem.specs.Process.{started}
-use Rattle.ppd_model.specs.Bounds.{SchedulesAreBounded}
 use Rattle.ppd_model.specs.Schedule.{IsOver, run_from, started_world}
 use Rattle.ppd_model.specs.World.{World, can, change, enabled, need_at, step}
-use Rattle.ppd_world.specs.Running.{Running, IsOf, IsReached, can_step, stepped}
+use Rattle.ppd_world.specs.Running.{Running, IsReached, can_step}
 
 length-change : {A : Type 0} (f : A → A) (i : ℕ) (xs : List A) → length (change f i xs) ≡ length xs
 length-change f i [] = refl

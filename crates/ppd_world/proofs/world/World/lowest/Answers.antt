@@ -1,4 +1,4 @@
-use Rattle.std.proofs.Common.{◌≡◌, length, sym, ◌∙◌, arith}
+use Rattle.std.proofs.Common.{arith}
 use Rattle.ppd_world.proofs.Processes.{none_of_all}
 use Rattle.ppd_world.proofs.world.World.lowest.Goals as goal
 
