@@ -118,3 +118,25 @@ module _ (es : List Expr) (cells answers : List ℤ) where
       one_fits (K.Print e) (ask (term es e) cells answers) (λ v. print v) (λ v. record { stays = refl; goes = λ s after. refl; same_unit = refl; no_loop = refl })
   deed_fits (K.Assert e) = then_fits (K.Assert e) (ask (term es e) cells answers) (λ v left. if is_zero v then Err (Traps trap.Assert) else gives left pass) (λ v left. asserted e left (is_zero v))
   deed_fits K.End = refl
+
+-- ---- a loop's test leaves it or begins a turn
+
+abbrev pub IsLoopDeed : List ℕ → Deed → Type 0
+IsLoopDeed body leave = ⊤
+IsLoopDeed body (turn stmts) = stmts ≡ body
+IsLoopDeed body d = ⊥
+
+abbrev pub DoesLoop : List ℕ → Asked Deed → Type 0
+DoesLoop body (Ok q) = IsLoopDeed body q.0
+DoesLoop body (Err pause) = ⊤
+
+tested : (body : List ℕ) (b : Bool) → IsLoopDeed body (if b then leave else turn body)
+tested body true = tt
+tested body false = refl
+
+tests_loop : (body : List ℕ) (r : Asked ℤ) → DoesLoop body (and_then r (λ v left. gives left (if is_zero v then leave else turn body)))
+tests_loop body (Ok q) = tested body (is_zero q.0)
+tests_loop body (Err pause) = tt
+
+pub loop_deed : (es : List Expr) (e : ℕ) (body : List ℕ) (cells answers : List ℤ) → DoesLoop body (ask_deed es (K.While e body) cells answers)
+loop_deed es e body cells answers = tests_loop body (ask (term es e) cells answers)

@@ -144,7 +144,8 @@ module _ (p : Program) where
   sends_some plan t zero c v e = cc
   sends_some plan t (suc n) c v e = cc
 
-  deed_needs : (plan : Plan) (t : ℕ) (s : Proc) (d : Deed) → need_of_deed p plan t s d ≢ Stopped
+  -- what a statement needs is never Stopped
+  pub deed_needs : (plan : Plan) (t : ℕ) (s : Proc) (d : Deed) → need_of_deed p plan t s d ≢ Stopped
   deed_needs plan t s (set_local c v) e = cc
   deed_needs plan t s (set_shared c v) e = cc
   deed_needs plan t s (clear base len) e = cc
@@ -162,13 +163,13 @@ module _ (p : Program) where
   deed_needs plan t s pass e = cc
   deed_needs plan t s finish e = cc
 
-  entry_needs : (plan : Plan) (t : ℕ) (s : Proc) (o : Option ℕ) (asked : Asked Deed) → need_by_entry p plan t s o asked ≢ Stopped
+  pub entry_needs : (plan : Plan) (t : ℕ) (s : Proc) (o : Option ℕ) (asked : Asked Deed) → need_by_entry p plan t s o asked ≢ Stopped
   entry_needs plan t s (Some b) asked e = cc
   entry_needs plan t s None (Ok q) e = deed_needs plan t s q.0 e
   entry_needs plan t s None (Err (Wants c)) e = cc
   entry_needs plan t s None (Err (Traps x)) e = cc
 
-  offer_needs : (plan : Plan) (t : ℕ) (o : Option ℕ) (n : Need) → n ≢ Stopped → need_by_offer plan t o n ≢ Stopped
+  pub offer_needs : (plan : Plan) (t : ℕ) (o : Option ℕ) (n : Need) → n ≢ Stopped → need_by_offer plan t o n ≢ Stopped
   offer_needs plan t (Some c) n h e = cc
   offer_needs plan t None n h e = h e
 
@@ -176,11 +177,13 @@ module _ (p : Program) where
   paid_needs true n h e = cc
   paid_needs false n h e = h e
 
-  todo_needs : (plan : Plan) (s : Proc) (todo : List Todo) → EndsWithEnd p todo → need_of_running p plan todo s ≢ Stopped
+  pub head_needs : (plan : Plan) (t : Todo) (s : Proc) → need_of_head p plan t s ≢ Stopped
+  head_needs plan t s =
+      offer_needs plan t.stmt (offer_of p t) (need_by_entry p plan t.stmt s (entry_of p plan t) (head_deed p t s)) (entry_needs plan t.stmt s (entry_of p plan t) (head_deed p t s))
+
+  pub todo_needs : (plan : Plan) (s : Proc) (todo : List Todo) → EndsWithEnd p todo → need_of_running p plan todo s ≢ Stopped
   todo_needs plan s [] h e = absurd h
-  todo_needs plan s (t ∷ ts) h e =
-      paid_needs (nat_lt s.budget (s.spent + cost plan (need_of_head p plan t s))) (need_of_head p plan t s)
-      (offer_needs plan t.stmt (offer_of p t) (need_by_entry p plan t.stmt s (entry_of p plan t) (head_deed p t s)) (entry_needs plan t.stmt s (entry_of p plan t) (head_deed p t s))) e
+  todo_needs plan s (t ∷ ts) h e = paid_needs (nat_lt s.budget (s.spent + cost plan (need_of_head p plan t s))) (need_of_head p plan t s) (head_needs plan t s) e
 
 -- ---- the start
 

@@ -1,14 +1,14 @@
-mod Rising
-mod Standing
-mod Chains
-mod Outward
-mod Successors
-mod Ways
-mod Frames
-mod Deeds
-mod Steps
+pub mod Rising
+pub mod Standing
+pub mod Chains
+pub mod Outward
+pub mod Successors
+pub mod Ways
+pub mod Frames
+pub mod Deeds
+pub mod Steps
 pub mod Leading
 pub mod Beginning
 pub mod Reading
-mod Ending
-mod Last
+pub mod Ending
+pub mod Last

@@ -3,7 +3,6 @@ use Rattle.std.proofs.Common.{◌≡◌, ℕ, zero, suc, ◌+◌, nat_eq, Bool, 
 use Rattle.std.specs.Prelude.{⊤}
 use Rattle.std.specs.Ordering.{int_eq}
 use Rattle.std.proofs.lemmas.Cmp.{int_eq_equiv, lists_equiv, nat_eq_equiv}
-use Rattle.ppd_entry.specs.Blocks.{block_kind}
 use Rattle.ppd_ast.specs.declared.plan.Plan.{Plan}
 use Rattle.ppd_ast.specs.declared.program.Program.{Program}
 use Rattle.ppd_ast.specs.declared.status.Status.{Status}
@@ -16,7 +15,7 @@ use Rattle.ppd_entry.specs.Pieces.{Piece, unit, sync, nested, unfinished, postlo
 use Rattle.ppd_sem.specs.declared.proc.Need.{Need}
 use Rattle.ppd_sem.specs.declared.proc.Need.TheVariants.{Read, Write, Plain, Enter, Leave, Invoke, Back, P, V, Send, Offer, Done, Recv, End, Trap, Budget, Stopped}
 use Rattle.ppd_sem.specs.declared.proc.Proc.{Proc}
-use Rattle.ppd_emul.specs.Blocks.{block_unit, skipped, unit_past}
+use Rattle.ppd_sem.specs.Blocks.{block_kind, block_unit, skipped, unit_past}
 use Rattle.ppd_sem.specs.Described.{trap_of}
 use Rattle.ppd_sem.specs.Process.{need_of}
 use Rattle.ppd_model.specs.declared.flow.Item.TheVariants as item

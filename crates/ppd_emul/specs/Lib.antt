@@ -1,5 +1,4 @@
 -- The replay of one interval from its own log: no schedule and no other process is known to it.
-pub mod Blocks
 pub mod Fits
 pub mod Replay
 pub mod Laws

@@ -1,6 +1,5 @@
 -- The replay of an interval: steps of a process state at its block, which take the pieces of its log in order.
 use Rattle.std.specs.Prelude.{ℕ, zero, suc, ◌+◌, nat_eq, ℤ, pos, Bool, true, false, List, [], ◌∷◌, ◌++◌, zip, drop, get_or, slice_get, Option, Some, None, is_some, unwrap_or, Result, Ok, Err, if◌then◌else◌}
-use Rattle.ppd_entry.specs.Blocks.{block_kind}
 use Rattle.ppd_ast.specs.declared.plan.Plan.{Plan}
 use Rattle.ppd_ast.specs.declared.program.Program.{Program}
 use Rattle.ppd_ast.specs.declared.status.Status.{Status}
@@ -14,7 +13,7 @@ use Rattle.ppd_sem.specs.declared.proc.Need.{Need}
 use Rattle.ppd_sem.specs.declared.proc.Need.TheVariants.{Read, Write, Invoke, Recv, Budget, Stopped}
 use Rattle.ppd_sem.specs.declared.proc.Proc.{Proc}
 use Rattle.ppd_sem.specs.declared.proc.Todo.{Todo}
-use Rattle.ppd_emul.specs.Blocks.{at_block, block_unit, skipped, unit_past}
+use Rattle.ppd_sem.specs.Blocks.{at_block, block_kind, block_unit, skipped, unit_past}
 use Rattle.ppd_sem.specs.Described.{described, trap_of}
 use Rattle.ppd_sem.specs.Process.{act, need_of}
 use Rattle.ppd_model.specs.declared.flow.Item.{Item}

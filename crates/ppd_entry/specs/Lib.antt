@@ -1,4 +1,3 @@
 -- The log of each interval, from the log of its process.
-pub mod Blocks
 pub mod Pieces
 pub mod IntervalLogs

@@ -1,6 +1,6 @@
 -- The flowback edges of an item: where what it read, was left, was given and was let run by came from.
 use Rattle.std.specs.Prelude.{ℕ, ℤ, pos, List, [], ◌∷◌, ◌++◌, map, zip, get_or, slice_get, Option, Some, None, option_map}
-use Rattle.ppd_entry.specs.Blocks.{block_kind, postlog_cells}
+use Rattle.ppd_sem.specs.Blocks.{block_kind, postlog_cells}
 use Rattle.ppd_ast.specs.declared.plan.BlockKind.{BlockKind}
 use Rattle.ppd_ast.specs.declared.plan.BlockKind.TheVariants as block
 use Rattle.ppd_ast.specs.declared.plan.Plan.{Plan}

@@ -1,7 +1,7 @@
 -- The log intervals of a process and their items, from the process's own steps.
 use Rattle.std.specs.Prelude.{ℕ, ◌+◌, nat_eq, ℤ, Bool, false, List, [], ◌∷◌, ◌++◌, map, fold, drop, length, get_or, slice_get, count_by, position, Option, Some, None, is_some, if◌then◌else◌}
 use Rattle.std.specs.List.{flat_map}
-use Rattle.ppd_entry.specs.Blocks.{block_kind, is_function, postlog_cells}
+use Rattle.ppd_sem.specs.Blocks.{block_kind, is_function, postlog_cells}
 use Rattle.ppd_ast.specs.declared.plan.BlockKind.TheVariants as block
 use Rattle.ppd_ast.specs.declared.plan.Plan.{Plan}
 use Rattle.ppd_ast.specs.declared.program.Program.{Program}

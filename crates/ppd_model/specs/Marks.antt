@@ -1,6 +1,6 @@
 -- The interval that a step of a process opens or closes, with the values of its prelog or postlog.
 use Rattle.std.specs.Prelude.{ℕ, ℤ, List, [], map, Option, Some, None}
-use Rattle.ppd_entry.specs.Blocks.{prelog_cells, postlog_cells}
+use Rattle.ppd_sem.specs.Blocks.{prelog_cells, postlog_cells}
 use Rattle.ppd_ast.specs.declared.plan.Plan.{Plan}
 use Rattle.ppd_ast.specs.declared.program.Program.{Program}
 use Rattle.ppd_sem.specs.declared.proc.Need.{Need}

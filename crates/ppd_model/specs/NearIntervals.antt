@@ -1,7 +1,7 @@
 -- The intervals near to an item: those of its own surroundings and of the origins of its edges.
 use Rattle.std.specs.Prelude.{ℕ, ◌+◌, nat_eq, Bool, true, false, ◌&&◌, ◌||◌, List, [], ◌∷◌, ◌++◌, drop, take, slice_get, count_by, sum_by, Option, Some, None, is_some, if◌then◌else◌}
 use Rattle.std.specs.List.{list_any}
-use Rattle.ppd_entry.specs.Blocks.{block_kind}
+use Rattle.ppd_sem.specs.Blocks.{block_kind}
 use Rattle.ppd_ast.specs.declared.plan.BlockKind.{BlockKind}
 use Rattle.ppd_ast.specs.declared.plan.BlockKind.TheVariants as block
 use Rattle.ppd_ast.specs.declared.plan.Plan.{Plan}

@@ -1,26 +1,28 @@
+//! Rows of one process, run alone under the plan of a policy whose lists of cells are empty.
+
 use crate::alone::{Ran, run};
-use crate::rows::{
-    Does, each_need, each_need_plan, endless, leaf, leaf_plan, never_entered, never_entered_plan,
-    of_value, recursion, recursion_plan, short_circuit, short_circuit_unguarded, single_plan,
-};
-use ppd_ast::{Expr, Op, Plan, Program};
+use ppd_ast::limits::MOST_POLICY;
+use ppd_ast::{Plan, Policy};
+use ppd_check::read_source;
 use ppd_sem::{Access, Need, Spot, Status, Trap};
-use std::alloc::{AllocError, Global};
+use std::alloc::Global;
 
 const BUDGET: u32 = 100_000;
 
-/// The process of a row, run for so many steps. None where the row is not valid.
-fn row(
-    alloc: Global,
-    program: Result<Program, AllocError>,
-    plan: Result<Plan, AllocError>,
-    budget: u32,
-    steps: usize,
-) -> Option<Ran> {
-    match (program, plan) {
-        (Ok(program), Ok(plan)) => run(alloc, &program, &plan, budget, steps),
-        _ => None,
+/// The policy under which each function is an e-block and no loop.
+const PLAIN: Policy = Policy { leaf: 0, loops: 0 };
+
+/// The same where each outermost loop is one too.
+const LOOPS: Policy = Policy { leaf: 0, loops: 1 };
+
+/// The process of a source, run for so many steps. None where the source is refused.
+fn row(alloc: Global, source: &str, policy: Policy, budget: u32, steps: usize) -> Option<Ran> {
+    let program = read_source(alloc, source.as_bytes()).ok()?;
+    if policy.leaf > MOST_POLICY || policy.loops > MOST_POLICY {
+        return None;
     }
+    let plan = Plan::bare(alloc, &program, &policy).ok()?;
+    run(alloc, &program, &plan, budget, steps)
 }
 
 /// A local cell of this frame, with its value.
@@ -83,18 +85,24 @@ fn is_need(ran: &Ran, number: usize, need: Need) -> bool {
 #[test]
 fn recursion_to_its_depth(rt: HostRuntime) {
     let alloc = rt.alloc();
-    for (depth, printed, steps) in [(2, 3, 14), (63, 64, 258)] {
-        let ran = row(
-            alloc,
-            recursion(alloc, depth),
-            recursion_plan(alloc),
-            BUDGET,
-            300,
-        )
-        .expect(&rt, "a valid row");
+    for (source, printed, steps) in [
+        (
+            "int f(int n) { int r; if (n > 0) { r = f(n - 1); } return r + 1; } \
+                process a { int v = f(2); print(v); }",
+            3,
+            14,
+        ),
+        (
+            "int f(int n) { int r; if (n > 0) { r = f(n - 1); } return r + 1; } \
+                process a { int v = f(63); print(v); }",
+            64,
+            258,
+        ),
+    ] {
+        let ran = row(alloc, source, PLAIN, BUDGET, 300).expect(&rt, "a source");
         assert!(rt;
             ends(&ran, Status::Ended, steps, &[printed]),
-            "at depth {depth}"
+            "after {steps} steps"
         );
     }
 }
@@ -103,14 +111,9 @@ fn recursion_to_its_depth(rt: HostRuntime) {
 #[test]
 fn events_of_a_recursion(rt: HostRuntime) {
     let alloc = rt.alloc();
-    let ran = row(
-        alloc,
-        recursion(alloc, 2),
-        recursion_plan(alloc),
-        BUDGET,
-        300,
-    )
-    .expect(&rt, "a valid row");
+    let source = "int f(int n) { int r; if (n > 0) { r = f(n - 1); } return r + 1; } \
+        process a { int v = f(2); print(v); }";
+    let ran = row(alloc, source, PLAIN, BUDGET, 300).expect(&rt, "a source");
     assert_eq!(rt; ran.events.len(), 14);
     assert!(rt; is_event(&ran, 0, 4, &[], &[local(1, 0, 2)], None));
     assert!(rt; is_event(&ran, 1, 0, &[], &[local(0, 1, 0)], None));
@@ -121,18 +124,13 @@ fn events_of_a_recursion(rt: HostRuntime) {
     assert!(rt; is_event(&ran, 13, 6, &[], &[], None));
 }
 
-// The call that is too deep stands at 4:5; it reads its argument and writes nothing.
+// The call that is too deep reads its argument and writes nothing.
 #[test]
 fn recursion_past_its_depth(rt: HostRuntime) {
     let alloc = rt.alloc();
-    let ran = row(
-        alloc,
-        recursion(alloc, 64),
-        recursion_plan(alloc),
-        BUDGET,
-        300,
-    )
-    .expect(&rt, "a valid row");
+    let source = "int f(int n) { int r; if (n > 0) { r = f(n - 1); } return r + 1; } \
+        process a { int v = f(64); print(v); }";
+    let ran = row(alloc, source, PLAIN, BUDGET, 300).expect(&rt, "a source");
     assert!(rt; ends(&ran, Status::Trap(Trap::Depth), 193, &[]));
     assert!(rt; is_need(&ran, 192, Need::Trap(Trap::Depth)));
     assert!(rt; is_trap(&ran, 2, &[local(0, 0, 1)], None, Trap::Depth));
@@ -142,10 +140,9 @@ fn recursion_past_its_depth(rt: HostRuntime) {
 #[test]
 fn short_circuit_with_its_guard(rt: HostRuntime) {
     let alloc = rt.alloc();
-    let ran = row(alloc, short_circuit(alloc), single_plan(alloc), BUDGET, 20).expect(
-        &rt,
-        "a valid row",
-    );
+    let source = "shared int a[2]; process p { int i; a[0] = 5; a[1] = 6; \
+        while (i < 2 && a[i] != 0) { i = i + 1; } print(i); }";
+    let ran = row(alloc, source, PLAIN, BUDGET, 20).expect(&rt, "a source");
     let i = local(0, 0, 1);
     assert!(rt; ends(&ran, Status::Ended, 12, &[2]));
     assert!(rt; is_event(&ran, 1, 1, &[], &[shared(0, 5)], None));
@@ -157,70 +154,48 @@ fn short_circuit_with_its_guard(rt: HostRuntime) {
 #[test]
 fn short_circuit_without_its_guard(rt: HostRuntime) {
     let alloc = rt.alloc();
-    let ran = row(
-        alloc,
-        short_circuit_unguarded(alloc),
-        single_plan(alloc),
-        BUDGET,
-        20,
-    )
-    .expect(&rt, "a valid row");
+    let source = "shared int a[2]; process p { int i; a[0] = 5; a[1] = 6; \
+        while (a[i] != 0) { i = i + 1; } print(i); }";
+    let ran = row(alloc, source, PLAIN, BUDGET, 20).expect(&rt, "a source");
     assert!(rt; ends(&ran, Status::Trap(Trap::Index), 10, &[]));
     assert_eq!(rt; ran.events.len(), 8);
     assert!(rt; is_trap(&ran, 3, &[local(0, 0, 2)], None, Trap::Index));
 }
 
-/// The least number of 64 bits, and it by -1.
-const LEAST: [Expr; 7] = [
-    Expr::Const(i64::MAX),
-    Expr::Neg(0),
-    Expr::Const(1),
-    Expr::Two(Op::Sub, 1, 2),
-    Expr::Const(1),
-    Expr::Neg(4),
-    Expr::Two(Op::Div, 3, 5),
-];
-
-#[test]
-fn number_limits(rt: HostRuntime) {
-    let alloc = rt.alloc();
-    let sum = [
-        Expr::Const(i64::MAX),
-        Expr::Const(1),
-        Expr::Two(Op::Add, 0, 1),
-    ];
-    for (exprs, root) in [(sum.as_slice(), 2), (LEAST.as_slice(), 6)] {
-        let program = of_value(alloc, exprs, Does::Print(root));
-        let ran = row(alloc, program, single_plan(alloc), BUDGET, 5).expect(&rt, "a valid row");
-        assert!(rt; ends(&ran, Status::Trap(Trap::Overflow), 1, &[]));
-        assert!(rt; is_trap(&ran, 0, &[], None, Trap::Overflow));
-    }
-    let program = of_value(alloc, &LEAST[..4], Does::Print(3));
-    let ran = row(alloc, program, single_plan(alloc), BUDGET, 5).expect(&rt, "a valid row");
-    assert!(rt; ends(&ran, Status::Ended, 2, &[i64::MIN]));
-}
-
-// A zero divisor, and an assertion, whose trapped event has its value.
+// A sum past the greatest number, the least number by -1, a zero divisor, and an assertion, whose
+// trapped event has its value.
 #[test]
 fn traps_of_values(rt: HostRuntime) {
     let alloc = rt.alloc();
-    let zero = [Expr::Const(1), Expr::Const(0), Expr::Two(Op::Rem, 0, 1)];
-    let program = of_value(alloc, &zero, Does::Print(2));
-    let ran = row(alloc, program, single_plan(alloc), BUDGET, 5).expect(&rt, "a valid row");
-    assert!(rt; is_trap(&ran, 0, &[], None, Trap::Zero));
-    let program = of_value(alloc, &zero[1..2], Does::Assert(0));
-    let ran = row(alloc, program, single_plan(alloc), BUDGET, 5).expect(&rt, "a valid row");
-    assert!(rt; is_trap(&ran, 0, &[], Some(0), Trap::Assert));
-    let program = of_value(alloc, &zero[..1], Does::Assert(0));
-    let ran = row(alloc, program, single_plan(alloc), BUDGET, 5).expect(&rt, "a valid row");
-    assert!(rt; is_event(&ran, 0, 0, &[], &[], Some(1)));
+    for (source, value, trap) in [
+        (
+            "process a { print(9223372036854775807 + 1); }",
+            None,
+            Trap::Overflow,
+        ),
+        (
+            "process a { print((-9223372036854775807 - 1) / -1); }",
+            None,
+            Trap::Overflow,
+        ),
+        ("process a { print(1 % 0); }", None, Trap::Zero),
+        ("process a { assert(0); }", Some(0), Trap::Assert),
+    ] {
+        let ran = row(alloc, source, PLAIN, BUDGET, 5).expect(&rt, "a source");
+        assert!(rt; ends(&ran, Status::Trap(trap), 1, &[]), "{source}");
+        assert!(rt; is_trap(&ran, 0, &[], value, trap), "{source}");
+    }
+    let least = "process a { print(-9223372036854775807 - 1); }";
+    let ran = row(alloc, least, PLAIN, BUDGET, 5).expect(&rt, "a source");
+    assert!(rt; ends(&ran, Status::Ended, 2, &[i64::MIN]));
 }
 
 // Five steps, then the stop for the budget, which is no step and has no event.
 #[test]
 fn budget_stop_after_five_steps(rt: HostRuntime) {
     let alloc = rt.alloc();
-    let ran = row(alloc, endless(alloc), single_plan(alloc), 5, 9).expect(&rt, "a valid row");
+    let source = "process a { int i; while (1) { i = i + 1; } }";
+    let ran = row(alloc, source, PLAIN, 5, 9).expect(&rt, "a source");
     assert!(rt; ends(&ran, Status::Budget, 5, &[]));
     assert!(rt; is_need(&ran, 4, Need::Plain));
     assert!(rt; is_need(&ran, 5, Need::Budget));
@@ -234,14 +209,8 @@ fn budget_stop_after_five_steps(rt: HostRuntime) {
 #[test]
 fn loop_never_entered(rt: HostRuntime) {
     let alloc = rt.alloc();
-    let ran = row(
-        alloc,
-        never_entered(alloc),
-        never_entered_plan(alloc),
-        BUDGET,
-        9,
-    )
-    .expect(&rt, "a valid row");
+    let source = "process a { int i = 3; while (i < 3) { i = i + 1; } print(i); }";
+    let ran = row(alloc, source, LOOPS, BUDGET, 9).expect(&rt, "a source");
     assert!(rt; ends(&ran, Status::Ended, 5, &[3]));
     assert!(rt; is_need(&ran, 1, Need::Enter { block: 1, unit: 1 }));
     assert!(rt; is_need(&ran, 2, Need::Leave { block: 1, unit: 2 }));
@@ -253,11 +222,9 @@ fn loop_never_entered(rt: HostRuntime) {
 #[test]
 fn leaf_function_in_its_callers_interval(rt: HostRuntime) {
     let alloc = rt.alloc();
-    for (is_block, frame) in [(false, 1), (true, 0)] {
-        let ran = row(alloc, leaf(alloc), leaf_plan(alloc, is_block), BUDGET, 9).expect(
-            &rt,
-            "a valid row",
-        );
+    let source = "shared int x; void f(int k) { x = k; } process a { f(9); print(x); }";
+    for (leaf, frame) in [(3, 1), (0, 0)] {
+        let ran = row(alloc, source, Policy { leaf, loops: 0 }, BUDGET, 9).expect(&rt, "a source");
         assert!(rt; ends(&ran, Status::Ended, 6, &[9]));
         assert!(rt; is_event(&ran, 0, 2, &[], &[local(1, 0, 9)], None));
         assert!(rt; is_event(&ran, 1, 0, &[local(frame, 0, 9)], &[shared(0, 9)], None));
@@ -266,7 +233,7 @@ fn leaf_function_in_its_callers_interval(rt: HostRuntime) {
     }
 }
 
-/// The needs of `each_need`: each need that is no trap and no stop for the budget.
+/// Each need that is no trap and no stop for the budget, but for those of a channel of capacity 0.
 const NEEDS: [Need; 14] = [
     Need::Plain,
     Need::Write(0, 1),
@@ -297,10 +264,9 @@ const NEEDS: [Need; 14] = [
 #[test]
 fn each_need_in_turn(rt: HostRuntime) {
     let alloc = rt.alloc();
-    let ran = row(alloc, each_need(alloc), each_need_plan(alloc), BUDGET, 14).expect(
-        &rt,
-        "a valid row",
-    );
+    let source = "shared int x; sem s = 1; chan c[1]; int f() { return 1; } process a { int i; \
+        x = 1; print(x); P(s); V(s); send(c, 5); i = recv(c); while (i < 1) { i = 1; } i = f(); }";
+    let ran = row(alloc, source, LOOPS, BUDGET, 14).expect(&rt, "a source");
     assert!(rt; ends(&ran, Status::Ended, 13, &[1]));
     assert!(rt; ran.needs.as_slice().starts_with(&NEEDS));
     assert_eq!(rt; ran.events.len(), 11);
@@ -308,4 +274,24 @@ fn each_need_in_turn(rt: HostRuntime) {
     assert!(rt; is_event(&ran, 5, 6, &[], &[], Some(5)));
     assert!(rt; is_event(&ran, 6, 7, &[], &[local(0, 0, 7)], None));
     assert!(rt; is_event(&ran, 9, 0, &[], &[], Some(1)));
+}
+
+// On a channel of capacity 0 the offer has the reads and the value, and the completion neither; the
+// completion asks for nothing again, and starts the unit after the send.
+#[test]
+fn an_offer_and_its_completion(rt: HostRuntime) {
+    let alloc = rt.alloc();
+    let source = "shared int x; chan c[0]; process a { send(c, x + 5); print(1); }";
+    let ran = row(alloc, source, PLAIN, BUDGET, 6).expect(&rt, "a source");
+    assert!(rt; ends(&ran, Status::Ended, 5, &[1]));
+    let needs = [
+        Need::Read(0),
+        Need::Offer { chan: 0, value: 5 },
+        Need::Done { chan: 0, unit: 1 },
+        Need::Plain,
+    ];
+    assert!(rt; ran.needs.as_slice().starts_with(&needs));
+    assert_eq!(rt; ran.events.len(), 4);
+    assert!(rt; is_event(&ran, 0, 0, &[shared(0, 0)], &[], Some(5)));
+    assert!(rt; is_event(&ran, 1, 0, &[], &[], None));
 }

@@ -1,4 +1,5 @@
-//! Worked programs as tables: tests of the crates that speak of programs and plans.
+//! Worked programs of one process, and tables that are valid or not: tests of the crates that speak of
+//! programs and plans.
 #![tactic(auto)]
 
 #[cfg(test)]
@@ -7,8 +8,6 @@ mod alone;
 mod alone_tests;
 #[cfg(test)]
 mod limits;
-#[cfg(test)]
-mod rows;
 #[cfg(test)]
 mod tables;
 #[cfg(test)]

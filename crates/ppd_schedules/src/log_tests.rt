@@ -1,6 +1,7 @@
 use crate::logged::Wrote::{End, Postlog, Prelog, Sync, Unit};
-use crate::logged::{Row, by_lowest, by_schedule, ends, has_log, plain};
+use crate::logged::{Row, answer_to, by_lowest, by_schedule, ends, has_log, plain, prints};
 use ppd_ast::{Status, SyncKind, Trap};
+use ppd_model::DriveError;
 use std::test::Fail;
 
 const BUDGET: u32 = 100_000;
@@ -13,6 +14,9 @@ const LOCKED: &str = "shared int x; sem m = 1; \
 
 const BOUNDED: &str = "shared int x; chan c[1]; process a { send(c, 7); send(c, 8); x = 2; } \
     process b { int v; print(x); v = recv(c); v = recv(c); }";
+
+const RENDEZVOUS: &str = "shared int x; chan c[0]; process a { send(c, 7); x = 2; } \
+    process b { int v; print(x); v = recv(c); }";
 
 const ENDLESS: &str = "process a { int i; while (1) { i = i + 1; } }";
 
@@ -450,5 +454,78 @@ fn stops_before_dear_steps(rt: HostRuntime) -> Result<(), Fail> {
             ]
         )
     );
+    Ok(())
+}
+
+// On a channel of capacity 0 the offer starts no unit. The completion waits for the receive; it has no
+// value, and the unit after the send starts with it.
+#[test]
+fn rendezvous_order(rt: HostRuntime) -> Result<(), Fail> {
+    let alloc = rt.alloc();
+    let early = answer_to(alloc, plain(RENDEZVOUS), BUDGET, &[0, 0]);
+    assert_eq!(rt; early, Some(Err(DriveError::NotEnabled(1))));
+    let schedule = [0, 1, 1, 1, 1, 0, 0, 0, 1];
+    let closed = by_schedule(alloc, plain(RENDEZVOUS), BUDGET, &schedule).expect(&rt, "whole");
+    assert!(rt; ends(&closed, 0, Status::Ended, 4));
+    assert!(rt; ends(&closed, 1, Status::Ended, 5));
+    assert!(rt; prints(&closed, 1, &[0]));
+    assert!(rt;
+        has_log(
+            &closed,
+            0,
+            &[
+                Prelog(0, &[]),
+                Unit(0, &[]),
+                Sync(SyncKind::Send, 0, 1, 7, &[], &[]),
+                Sync(SyncKind::Done, 0, 1, 0, &[], &[]),
+                Unit(1, &[]),
+                Postlog(0, &[]),
+                End(Status::Ended, 1, &[], &[0]),
+            ]
+        )
+    );
+    assert!(rt;
+        has_log(
+            &closed,
+            1,
+            &[
+                Prelog(1, &[]),
+                Unit(2, &[0]),
+                Sync(SyncKind::Recv, 0, 1, 7, &[0], &[]),
+                Unit(3, &[]),
+                Postlog(1, &[]),
+                End(Status::Ended, 0, &[], &[]),
+            ]
+        )
+    );
+    Ok(())
+}
+
+// An offer that nobody receives: its process waits for ever, and no second offer can be made.
+#[test]
+fn offer_alone(rt: HostRuntime) -> Result<(), Fail> {
+    let alloc = rt.alloc();
+    let alone = "chan c[0]; process a { send(c, 1); }";
+    let closed = by_lowest(alloc, plain(alone), BUDGET).expect(&rt, "whole");
+    assert!(rt; ends(&closed, 0, Status::Blocked, 1));
+    assert!(rt;
+        has_log(
+            &closed,
+            0,
+            &[
+                Prelog(0, &[]),
+                Unit(0, &[]),
+                Sync(SyncKind::Send, 0, 1, 1, &[], &[]),
+                End(Status::Blocked, 0, &[], &[]),
+            ]
+        )
+    );
+    let both = "chan c[0]; process a { send(c, 1); } process b { send(c, 2); } \
+        process r { int v; v = recv(c); }";
+    // after the receive and before the completion there is still an offer open
+    let received = answer_to(alloc, plain(both), BUDGET, &[0, 2, 2, 1]);
+    assert_eq!(rt; received, Some(Err(DriveError::NotEnabled(3))));
+    let completed = answer_to(alloc, plain(both), BUDGET, &[0, 2, 2, 0, 1]);
+    assert_eq!(rt; completed, Some(Ok(())));
     Ok(())
 }

@@ -6,7 +6,7 @@ use ppd_ast::{Plan, Policy, Program, Status, SyncKind};
 use ppd_blocks::partition;
 use ppd_check::read_source;
 use ppd_entry::Entry;
-use ppd_model::Closed;
+use ppd_model::{Closed, DriveError};
 use std::alloc::Global;
 
 /// An entry with its lists as slices.
@@ -61,6 +61,17 @@ fn parts(alloc: Global, row: Row) -> Option<(Program, Plan)> {
 pub fn by_schedule(alloc: Global, row: Row, budget: u32, schedule: &[u8]) -> Option<Closed> {
     let (program, plan) = parts(alloc, row)?;
     drive(alloc, &program, &plan, budget, schedule)?.closed
+}
+
+/// What `drive` answers to the schedule from the row's first step on.
+pub fn answer_to(
+    alloc: Global,
+    row: Row,
+    budget: u32,
+    schedule: &[u8],
+) -> Option<Result<(), DriveError>> {
+    let (program, plan) = parts(alloc, row)?;
+    Some(drive(alloc, &program, &plan, budget, schedule)?.answer)
 }
 
 /// The row driven by its lowest enabled process for at most 100 steps, after which it is whole.
@@ -145,6 +156,14 @@ pub fn has_log(closed: &Closed, p: usize, wrote: &[Wrote]) -> bool {
         }
     }
     true
+}
+
+/// Whether process `p` printed this.
+pub fn prints(closed: &Closed, p: usize, values: &[i64]) -> bool {
+    match closed.ends.as_slice().get(p) {
+        Some(end) => end.prints.as_slice() == values,
+        None => false,
+    }
 }
 
 /// Whether process `p` ended like this, after so many steps.

@@ -1,9 +1,9 @@
 //! Worlds of worked programs, driven by a schedule or by the lowest enabled process.
 
-ghost use Rattle.std.specs.Prelude.{◌≡◌, true, IfOk, IfSome, OnOk};
+ghost use Rattle.std.specs.Prelude.{IfSome};
 ghost use Rattle.ppd_ast.specs.Valid.{IsValid};
 ghost use Rattle.ppd_ast.specs.ValidPlan.{IsValidPlan};
-ghost use Rattle.ppd_world.specs.Running.{IsReached, can_step};
+ghost use Rattle.ppd_world.specs.Running.{IsReached};
 
 use ppd_ast::limits::MOST_BUDGET;
 use ppd_ast::{Memory, Plan, Policy, Program};
@@ -61,25 +61,12 @@ pub fn drive(
     Some(Driven { answer, closed })
 }
 
-/// The lowest process that is enabled.
-fn lowest(world: &World) -> Option<u8>
-    requires { IsReached world.now }
-    ensures { IfSome result (λ p. can_step world.now p ≡ true) }
-{
-    for p in 0..16 {
-        if world.enabled(p) {
-            return Some(p);
-        }
-    }
-    None
-}
-
 /// Takes the step of the lowest process that is enabled, if one is.
 fn step_lowest(world: &mut World) -> Result<(), Memory>
     requires { IsReached world.old }
     ensures { IsReached world.new }
 {
-    match lowest(world) {
+    match world.lowest() {
         Some(p) => world.step(p),
         None => Ok(()),
     }

@@ -1,5 +1,5 @@
 -- A completion is of a send: what follows its statement runs over the same frames.
-use Rattle.std.proofs.Common.{◌≡◌, ℕ, zero, suc, ◌+◌, ℤ, Bool, true, false, nat_lt, List, [], ◌∷◌, length, Option, Some, None, Ok, Err, refl, sym, subst, if◌then◌else◌}
+use Rattle.std.proofs.Common.{◌≡◌, ℕ, zero, suc, ◌+◌, ℤ, Bool, true, false, nat_lt, List, ◌∷◌, length, Option, Some, None, Ok, Err, refl, sym, subst, if◌then◌else◌}
 use Rattle.std.specs.Prelude.{⊤}
 use Rattle.std.proofs.lemmas.Option.{none-some}
 use Rattle.ppd_ast.specs.declared.plan.Plan.{Plan}
@@ -19,48 +19,53 @@ use Rattle.ppd_sem.specs.Process.{chan_of, cost, entry_of, head_deed, kind_of, n
 use Rattle.ppd_sem.specs.Runs.{returns}
 use Rattle.ppd_sem.specs.Tables.{capacity_of}
 
+-- where a need is that of a completion, its channel is such
+abbrev pub DoneSuch : (ℕ → Type 0) → Need → Type 0
+DoneSuch W (need.Done c u) = W c
+DoneSuch W n = ⊤
+
 -- a completion is of a send on its channel
 abbrev pub CompletesSend : Program → ℕ → Need → Type 0
-CompletesSend p t (need.Done c u) = chan_of (kind_of p t) ≡ Some c
-CompletesSend p t n = ⊤
+CompletesSend p t n = DoneSuch (λ c. chan_of (kind_of p t) ≡ Some c) n
 
-if_completes : (p : Program) (t : ℕ) (b : Bool) (x y : Need) → CompletesSend p t x → CompletesSend p t y → CompletesSend p t (if b then x else y)
-if_completes p t true x y h g = h
-if_completes p t false x y h g = g
+pub if_done : (W : ℕ → Type 0) (b : Bool) (x y : Need) → DoneSuch W x → DoneSuch W y → DoneSuch W (if b then x else y)
+if_done W true x y h g = h
+if_done W false x y h g = g
 
-send_completes : (p : Program) (plan : Plan) (t n c : ℕ) (v : ℤ) → CompletesSend p t (need_of_send plan t n c v)
-send_completes p plan t zero c v = tt
-send_completes p plan t (suc n) c v = tt
+send_done : (W : ℕ → Type 0) (plan : Plan) (t n c : ℕ) (v : ℤ) → DoneSuch W (need_of_send plan t n c v)
+send_done W plan t zero c v = tt
+send_done W plan t (suc n) c v = tt
 
-leaving_completes : (p : Program) (plan : Plan) (t : ℕ) (o : Option ℕ) → CompletesSend p t (need_of_leaving plan t o)
-leaving_completes p plan t None = tt
-leaving_completes p plan t (Some b) = tt
+leaving_done : (W : ℕ → Type 0) (plan : Plan) (t : ℕ) (o : Option ℕ) → DoneSuch W (need_of_leaving plan t o)
+leaving_done W plan t None = tt
+leaving_done W plan t (Some b) = tt
 
-deed_completes : (p : Program) (plan : Plan) (t : ℕ) (s : Proc) (d : Deed) → CompletesSend p t (need_of_deed p plan t s d)
-deed_completes p plan t s (set_local c v) = tt
-deed_completes p plan t s (set_shared c v) = tt
-deed_completes p plan t s (clear base len) = tt
-deed_completes p plan t s (branch stmts) = tt
-deed_completes p plan t s (turn stmts) = tt
-deed_completes p plan t s leave = leaving_completes p plan t _
-deed_completes p plan t s (invoke f values into) = if_completes p t (nat_lt 64 (s.below + length s.frames)) (need.Trap trap.Depth) (need.Invoke _ _) tt tt
-deed_completes p plan t s (back value) = tt
-deed_completes p plan t s (take sem) = tt
-deed_completes p plan t s (give sem) = tt
-deed_completes p plan t s (send chan value) = send_completes p plan t (capacity_of p chan) chan value
-deed_completes p plan t s (receive chan into) = tt
-deed_completes p plan t s (print v) = tt
-deed_completes p plan t s pass = tt
-deed_completes p plan t s finish = tt
+deed_done : (W : ℕ → Type 0) (p : Program) (plan : Plan) (t : ℕ) (s : Proc) (d : Deed) → DoneSuch W (need_of_deed p plan t s d)
+deed_done W p plan t s (set_local c v) = tt
+deed_done W p plan t s (set_shared c v) = tt
+deed_done W p plan t s (clear base len) = tt
+deed_done W p plan t s (branch stmts) = tt
+deed_done W p plan t s (turn stmts) = tt
+deed_done W p plan t s leave = leaving_done W plan t _
+deed_done W p plan t s (invoke f values into) = if_done W (nat_lt 64 (s.below + length s.frames)) (need.Trap trap.Depth) (need.Invoke _ _) tt tt
+deed_done W p plan t s (back value) = tt
+deed_done W p plan t s (take sem) = tt
+deed_done W p plan t s (give sem) = tt
+deed_done W p plan t s (send chan value) = send_done W plan t (capacity_of p chan) chan value
+deed_done W p plan t s (receive chan into) = tt
+deed_done W p plan t s (print v) = tt
+deed_done W p plan t s pass = tt
+deed_done W p plan t s finish = tt
 
-asked_completes : (p : Program) (plan : Plan) (t : ℕ) (s : Proc) (asked : Asked Deed) → CompletesSend p t (need_of_asked p plan t s asked)
-asked_completes p plan t s (Ok q) = deed_completes p plan t s q.0
-asked_completes p plan t s (Err (Wants c)) = tt
-asked_completes p plan t s (Err (Traps x)) = tt
+asked_done : (W : ℕ → Type 0) (p : Program) (plan : Plan) (t : ℕ) (s : Proc) (asked : Asked Deed) → DoneSuch W (need_of_asked p plan t s asked)
+asked_done W p plan t s (Ok q) = deed_done W p plan t s q.0
+asked_done W p plan t s (Err (Wants c)) = tt
+asked_done W p plan t s (Err (Traps x)) = tt
 
-entry_completes : (p : Program) (plan : Plan) (t : ℕ) (s : Proc) (o : Option ℕ) (asked : Asked Deed) → CompletesSend p t (need_by_entry p plan t s o asked)
-entry_completes p plan t s (Some b) asked = tt
-entry_completes p plan t s None asked = asked_completes p plan t s asked
+-- what is asked for is no completion
+pub entry_done : (W : ℕ → Type 0) (p : Program) (plan : Plan) (t : ℕ) (s : Proc) (o : Option ℕ) (asked : Asked Deed) → DoneSuch W (need_by_entry p plan t s o asked)
+entry_done W p plan t s (Some b) asked = tt
+entry_done W p plan t s None asked = asked_done W p plan t s asked
 
 offer_completes : (p : Program) (plan : Plan) (t : ℕ) (o : Option ℕ) (n : Need) → ((c : ℕ) → o ≡ Some c → chan_of (kind_of p t) ≡ Some c) → CompletesSend p t n → CompletesSend p t (need_by_offer plan t o n)
 offer_completes p plan t (Some c) n h g = h c refl
@@ -74,7 +79,7 @@ pub head_completes : (p : Program) (plan : Plan) (t : Todo) (s : Proc) → Compl
 head_completes p plan t s =
     offer_completes p plan t.stmt (offer_of p t) (need_by_entry p plan t.stmt s (entry_of p plan t) (head_deed p t s))
     (λ c e. offer_there t.offered (chan_of (kind_of p t.stmt)) c e)
-    (entry_completes p plan t.stmt s (entry_of p plan t) (head_deed p t s))
+    (entry_done (λ c. chan_of (kind_of p t.stmt) ≡ Some c) p plan t.stmt s (entry_of p plan t) (head_deed p t s))
 
 -- a send returns nothing
 pub send_stays : (k : Kind) (c : ℕ) → chan_of k ≡ Some c → returns k ≡ false
@@ -89,4 +94,4 @@ completes p plan s t ts is = by_status s.status
     by_status (Some x) = tt
     by_status None =
         subst (λ todo. CompletesSend p t.stmt (need_of_running p plan todo s)) (sym is)
-        (if_completes p t.stmt (nat_lt s.budget (s.spent + cost plan (need_of_head p plan t s))) need.Budget (need_of_head p plan t s) tt (head_completes p plan t s))
+        (if_done (λ c. chan_of (kind_of p t.stmt) ≡ Some c) (nat_lt s.budget (s.spent + cost plan (need_of_head p plan t s))) need.Budget (need_of_head p plan t s) tt (head_completes p plan t s))

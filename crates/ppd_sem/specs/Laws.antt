@@ -1,7 +1,9 @@
 -- Laws of evaluation, of needs and of steps.
-use Rattle.std.specs.Prelude.{◌≡◌, ◌≢◌, ◌≤ℤ◌, ◌<◌, ◌≤◌, ◌+◌, ℕ, ℤ, pos, negsuc, ◌+ℤ◌, ◌-ℤ◌, ◌*ℤ◌, neg_ℤ, unsigned_abs, List, length, Result, Ok, Err, Option, ⊤}
+use Rattle.std.specs.Prelude.{◌≡◌, ◌≢◌, ◌≤ℤ◌, ◌<◌, ◌≤◌, ◌+◌, ℕ, ℤ, pos, negsuc, ◌+ℤ◌, ◌-ℤ◌, ◌*ℤ◌, neg_ℤ, unsigned_abs, List, drop, length, Result, Ok, Err, Option, Some, ⊤}
 use Rattle.ppd_ast.specs.declared.plan.Plan.{Plan}
+use Rattle.ppd_ast.specs.declared.plan.Start.TheVariants as start
 use Rattle.ppd_ast.specs.declared.program.Expr.{Expr}
+use Rattle.ppd_ast.specs.declared.program.Kind.{Kind}
 use Rattle.ppd_ast.specs.declared.program.Kind.TheVariants as kind
 use Rattle.ppd_ast.specs.declared.program.Op.TheVariants.{Mul, Div, Rem, Add, Sub}
 use Rattle.ppd_ast.specs.declared.program.Program.{Program}
@@ -20,10 +22,14 @@ use Rattle.ppd_sem.specs.declared.proc.Proc.{Proc}
 use Rattle.ppd_sem.specs.declared.proc.Todo.{Todo}
 use Rattle.ppd_sem.specs.Ask.{ask, calc, checked, element}
 use Rattle.ppd_sem.specs.Deed.{ask_all, ask_deed}
+use Rattle.ppd_sem.specs.Consumed.{Takes, shared_of}
 use Rattle.ppd_sem.specs.Measure.{measure}
-use Rattle.ppd_sem.specs.Process.{act, kind_of, need_of, need_of_head, need_of_pause, top_cells}
+use Rattle.ppd_sem.specs.Offers.{Completes, HasNoOffer, IsAtOneStatement, Offers, OffersAtHead}
+use Rattle.ppd_sem.specs.Process.{act, kind_of, need_of, need_of_head, need_of_pause, started, top_cells}
 use Rattle.ppd_sem.specs.Reads.{reads_of, reads_of_kind}
+use Rattle.ppd_sem.specs.Passed.{next_stmt_of}
 use Rattle.ppd_sem.specs.Runs.{IsNumbered, IsRunnable}
+use Rattle.ppd_sem.specs.Tables.{unit_of}
 
 -- ---- arithmetic
 
@@ -84,6 +90,13 @@ pub record StopsEarly : Type 0 where
   pub or_value : (a b : Term) (cells answers left : List ℤ) (x : ℤ) → x ≢ pos 0 → ask a cells answers ≡ Ok (x, left) → ask (or a b) cells answers ≡ Ok (pos 1, left)
   pub or_reads : (frame : ℕ) (a b : Term) (cells answers left : List ℤ) (x : ℤ) → x ≢ pos 0 → ask a cells answers ≡ Ok (x, left) → reads_of frame (or a b) cells answers ≡ reads_of frame a cells answers
 
+-- ---- shared reads
+
+-- the shared reads of an expression or of a statement are exactly the answers that its evaluation takes, in order
+pub record ReadsAreAnswers : Type 0 where
+  pub expression : (frame : ℕ) (t : Term) (cells answers : List ℤ) → Takes (ask t cells) answers (shared_of (reads_of frame t cells answers))
+  pub statement : (frame : ℕ) (es : List Expr) (k : Kind) (cells answers : List ℤ) → Takes (ask_deed es k cells) answers (shared_of (reads_of_kind frame es k cells answers))
+
 -- ---- calls
 
 -- a call asks for what its arguments lack; only with all of them there is its depth tested
@@ -123,3 +136,19 @@ NamesThere program n = ⊤
 -- in every state of a valid program a need names only what is there
 abbrev pub NeedsAreThere : Type 0
 NeedsAreThere = (program : Program) (plan : Plan) (s : Proc) → IsValid program → NamesThere program (need_of program plan s)
+
+-- ---- sends on channels of capacity 0
+
+-- an offer and its completion are two steps of one statement, with no step of its process between them
+pub record OffersAreCompleted : Type 0 where
+  -- a process begins with no offer taken, and only the statement that is next can be one whose offer was
+  pub starts : (program : Program) (plan : Plan) (p budget : ℕ) → HasNoOffer (started program plan p budget).todo
+  pub stays : (program : Program) (plan : Plan) (s : Proc) (a : Answer) → OffersAtHead program s.todo → OffersAtHead program (act program plan s a).todo
+  -- an offer leaves its statement, whose completion is the next step, or it stops for its budget
+  pub completed : (program : Program) (plan : Plan) (s : Proc) (a : Answer) (t c : ℕ) (v : ℤ) → next_stmt_of s.todo ≡ Some t → need_of program plan s ≡ need.Offer c v
+      → IsAtOneStatement s (act program plan s a) × Completes c (unit_of plan (start.After t)) (need_of program plan (act program plan s a))
+  -- the step before a completion is the offer of the same statement
+  pub offered : (program : Program) (plan : Plan) (s : Proc) (a : Answer) (c u : ℕ) → OffersAtHead program s.todo → need_of program plan (act program plan s a) ≡ need.Done c u
+      → IsAtOneStatement s (act program plan s a) × Offers c (need_of program plan s)
+  -- a completion removes its statement
+  pub removed : (program : Program) (plan : Plan) (s : Proc) (a : Answer) (c u : ℕ) → need_of program plan s ≡ need.Done c u → (act program plan s a).todo ≡ drop 1 s.todo

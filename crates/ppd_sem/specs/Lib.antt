@@ -1,6 +1,8 @@
 -- What one process needs next, and the step that it takes.
 pub mod Ask
 pub mod Asked
+pub mod Blocks
+pub mod Consumed
 pub mod Deed
 pub mod Described
 pub mod Effects
@@ -9,6 +11,7 @@ pub mod Feeding
 pub mod First
 pub mod Laws
 pub mod Measure
+pub mod Offers
 pub mod Passed
 pub mod Process
 pub mod Reads

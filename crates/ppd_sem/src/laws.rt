@@ -1,4 +1,4 @@
-ghost use Rattle.ppd_sem.specs.Laws.{ArgumentsComeFirst, ArithmeticIsExact, DividesTowardZero, IndexComesFirst, NeedsAreThere, StepsEnd, StopsEarly, ValidCanRun, ValidIsNumbered};
+ghost use Rattle.ppd_sem.specs.Laws.{ArgumentsComeFirst, ArithmeticIsExact, DividesTowardZero, IndexComesFirst, NeedsAreThere, OffersAreCompleted, ReadsAreAnswers, StepsEnd, StopsEarly, ValidCanRun, ValidIsNumbered};
 
 // Laws of what the other calls give: each is the contract of a function that does nothing.
 
@@ -54,4 +54,19 @@ pub fn steps_end()
 #[tactic(auto, using(crate::proofs::Lawful::named))]
 pub fn needs_are_there()
     ensures { NeedsAreThere }
+{}
+
+/// The shared reads of an expression or a statement are exactly the answers that its evaluation
+/// takes, each of the cell that was wanted, in order.
+#[tactic(auto, using(crate::proofs::Consumed::reads_taken))]
+pub fn reads_are_answers()
+    ensures { ReadsAreAnswers }
+{}
+
+/// An offer and its completion, on a channel of capacity 0, are steps of one statement with no step
+/// of its process between them. After the offer the process needs the completion of the same
+/// statement, or its budget is too small for it; the step before a completion was the offer.
+#[tactic(auto, using(crate::proofs::Offering::offers_completed))]
+pub fn offers_are_completed()
+    ensures { OffersAreCompleted }
 {}

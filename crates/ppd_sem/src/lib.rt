@@ -27,7 +27,8 @@ pub use event::{Access, Event, Spot};
 pub use feeding::feed;
 pub use laws::{
     arguments_come_first, arithmetic_is_exact, divides_toward_zero, index_comes_first,
-    needs_are_there, steps_end, stops_early, valid_can_run, valid_is_numbered,
+    needs_are_there, offers_are_completed, reads_are_answers, steps_end, stops_early,
+    valid_can_run, valid_is_numbered,
 };
 pub use looking::look;
 pub use passing::{call_values, local_cells, next_effect, next_stmt, returned_value};

@@ -13,10 +13,8 @@ use crate::effect::{Effect, effect_of};
 use crate::proc::{Frame, Need, Proc, Todo};
 use crate::stack::Stack;
 use crate::tables::{find_block, find_unit, kind_at};
+use ppd_ast::limits::MOST_CALLS;
 use ppd_ast::{BlockKind, Kind, Plan, Program, Start, Trap};
-
-/// The most calls of a process that are open at once.
-const MOST_CALLS: usize = 64;
 
 /// The body of the top frame.
 pub(crate) fn body_of(frames: &Stack<Frame>) -> u16

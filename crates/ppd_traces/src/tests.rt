@@ -1,6 +1,7 @@
 use crate::events::{Row, are_rows, plain, trace};
 use crate::programs::{callee_write, locked, loop_from, recursion};
 use ppd_ast::Program;
+use ppd_check::read_source;
 use ppd_model::{DriveError, Trace};
 use ppd_sem::{Spot, Trap};
 use std::alloc::{AllocError, Global};
@@ -26,6 +27,12 @@ fn by(
     schedule: &[u8],
 ) -> Option<Result<Trace, DriveError>> {
     trace(alloc, &program.ok()?, loops, BUDGET, schedule)
+}
+
+/// The trace of a source by this schedule.
+fn of_source(alloc: Global, source: &str, schedule: &[u8]) -> Option<Result<Trace, DriveError>> {
+    let program = read_source(alloc, source.as_bytes()).ok()?;
+    trace(alloc, &program, false, BUDGET, schedule)
 }
 
 // The print reads what the callee wrote, and the callee's events have the call as parent.
@@ -325,5 +332,77 @@ fn a_call_too_deep_is_an_event(rt: HostRuntime) -> Result<(), Fail> {
     let last = events.as_slice().get(192).expect(&rt, "an event");
     assert_eq!(rt; last.event.trap, Some(Trap::Depth));
     assert!(rt; last.event.writes.len() == 0);
+    Ok(())
+}
+
+// A send on a channel of capacity 0 is two events: the offer with its value, and the completion, which
+// the receive leads to.
+#[test]
+fn an_offer_and_its_completion(rt: HostRuntime) -> Result<(), Fail> {
+    let alloc = rt.alloc();
+    let source = "shared int x; chan c[0]; process a { send(c, 7); x = 2; } \
+        process b { int v; print(x); v = recv(c); }";
+    let traced = of_source(alloc, source, &[0, 1, 1, 1, 1, 0, 0, 0, 1]).expect(&rt, "valid");
+    let traced = traced.expect(&rt, "whole");
+    assert!(rt;
+        are_rows(
+            &traced,
+            0,
+            &[
+                Row {
+                    value: Some(7),
+                    number: Some(1),
+                    ..plain(0)
+                },
+                Row {
+                    number: Some(1),
+                    paired: Some((1, 2)),
+                    ..plain(0)
+                },
+                Row {
+                    write: Some((X, 2)),
+                    ..plain(1)
+                },
+                plain(2),
+            ],
+        )
+    );
+    assert!(rt;
+        are_rows(
+            &traced,
+            1,
+            &[
+                Row {
+                    write: Some((FIRST, 0)),
+                    ..plain(3)
+                },
+                Row {
+                    read: Some((X, 0, None)),
+                    value: Some(0),
+                    ..plain(4)
+                },
+                Row {
+                    write: Some((FIRST, 7)),
+                    number: Some(1),
+                    paired: Some((0, 0)),
+                    ..plain(5)
+                },
+                plain(6),
+            ],
+        )
+    );
+    let alone = of_source(alloc, "chan c[0]; process a { send(c, 1); }", &[0]).expect(&rt, "valid");
+    let alone = alone.expect(&rt, "offered");
+    assert!(rt;
+        are_rows(
+            &alone,
+            0,
+            &[Row {
+                value: Some(1),
+                number: Some(1),
+                ..plain(0)
+            },],
+        )
+    );
     Ok(())
 }

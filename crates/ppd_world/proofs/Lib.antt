@@ -4,5 +4,6 @@ pub mod Begun
 pub mod Steps
 pub mod Sound
 pub mod Reached
+pub mod Processes
 pub mod Closed
 pub mod Paid

@@ -1,5 +1,5 @@
 -- A world with its logs, and the schedule that it comes from.
-use Rattle.std.specs.Prelude.{◌≡◌, ◌≢◌, ℕ, ◌+◌, ◌≤◌, Bool, true, false, List, [], ◌++◌, drop, length, take, Some, IsSomeAnd, slice_get, Result, Ok, Err, ⊤}
+use Rattle.std.specs.Prelude.{◌≡◌, ◌≢◌, ℕ, ◌+◌, ◌<◌, ◌≤◌, Bool, true, false, List, [], ◌++◌, drop, length, take, Some, IsSomeAnd, slice_get, Result, Ok, Err, ⊤}
 use Rattle.ppd_ast.specs.Valid.{IsValid}
 use Rattle.ppd_ast.specs.ValidPlan.{IsValidPlan}
 use Rattle.ppd_ast.specs.declared.limits.TheConstants.{MOST_BUDGET}
@@ -59,9 +59,22 @@ pub record IsReached (r : Running) : Type 0 where
   pub schedule : List ℕ
   pub comes : IsOf schedule r
 
+-- so it is in the run of this program, plan and budget, and the schedule is this one
+pub record IsHeld (program : Program) (plan : Plan) (budget : ℕ) (r : Running) (h : List ℕ) : Type 0 where
+  pub is_program : r.program ≡ program
+  pub is_plan : r.plan ≡ plan
+  pub is_budget : r.budget ≡ budget
+  pub comes : IsOf h r
+  pub reached : IsReached r
+
 -- process p can take a step
 abbrev pub can_step : Running → ℕ → Bool
 can_step r p = enabled r.program r.plan r.world p
+
+-- process p can take a step, and none below it
+pub record IsLowest (r : Running) (p : ℕ) : Type 0 where
+  pub can : can_step r p ≡ true
+  pub first : (q : ℕ) → q < p → can_step r q ≡ false
 
 -- from the first to the second world the steps of this schedule were taken, each by an enabled process
 pub record Takes (before : Running) (h : List ℕ) (after : Running) : Type 0 where

@@ -1,6 +1,6 @@
 ghost use Rattle.std.specs.Prelude.{◌≡◌, ◌++◌, ◌∷◌, [], map, option_to_list, slice_get, IfOk, OnOk};
 ghost use Rattle.ppd_model.specs.Logs.{ends, entries_of as entries_of_step, passed as passed_of, postlogs, prelogs, status_of as status_of_need, syncs, units};
-ghost use Rattle.ppd_entry.specs.Blocks.{postlog_cells as postlog_cells_of, prelog_cells as prelog_cells_of};
+ghost use Rattle.ppd_sem.specs.Blocks.{postlog_cells as postlog_cells_of, prelog_cells as prelog_cells_of};
 ghost use Rattle.ppd_model.specs.Marks.{closed, opened};
 ghost use Rattle.ppd_model.specs.Story.{cells_of_unit as cells_of_unit_in, unit_started as unit_started_of, values_at_start, values_of_unit};
 ghost use Rattle.ppd_model.specs.Synchronizations.{kind_of_sync, numbered};

@@ -1,10 +1,10 @@
-ghost use Rattle.std.specs.Prelude.{◌≡◌, ◌+◌, ◌-◌, ◌≤◌, ◌↔◌, ◌∷◌, [], length, true, IsTrue, IfErr, IfOk, OnOk, OnErr, List, ℕ};
+ghost use Rattle.std.specs.Prelude.{◌≡◌, ◌+◌, ◌-◌, ◌≤◌, ◌↔◌, ◌∷◌, [], length, true, IsTrue, IfErr, IfNone, IfOk, IfSome, OnOk, OnErr, List, ℕ};
 ghost use Rattle.ppd_ast.specs.Valid.{IsValid};
 ghost use Rattle.ppd_ast.specs.ValidPlan.{IsValidPlan};
 ghost use Rattle.ppd_model.specs.Laws.{logged_moment};
 ghost use Rattle.ppd_model.specs.Logs.{close as close_of};
 ghost use Rattle.ppd_model.specs.Schedule.{IsOver};
-ghost use Rattle.ppd_world.specs.Running.{IsCause, IsDriven, IsFollowed, IsOf, IsPaidStep, IsReached, Takes, begun, can_step, closed as closed_of, stepped};
+ghost use Rattle.ppd_world.specs.Running.{IsCause, IsDriven, IsFollowed, IsLowest, IsOf, IsPaidStep, IsReached, Takes, begun, can_step, closed as closed_of, stepped};
 
 use crate::closing::close_all;
 use crate::starting::{start_chans, start_logs, start_sems};
@@ -98,6 +98,29 @@ impl<'a> World<'a> {
             &self.loggings,
             p as usize,
         )
+    }
+
+    /// How many processes there are, at most 16: those of the program.
+    pub fn process_count(&self) -> u8
+        requires { IsReached self.now }
+        ensures procs { result ≡ length self.now.world.procs }
+        ensures program { result ≡ length self.now.program.bodies - self.now.program.functions }
+    {
+        process_count(self.program)
+    }
+
+    /// The lowest process that can take a step, and none where nobody can.
+    pub fn lowest(&self) -> Option<u8>
+        requires { IsReached self.now }
+        ensures some { IfSome result (IsLowest self.now) }
+        ensures none { IfNone result (IsOver self.now.program self.now.plan self.now.world) }
+    {
+        for p in 0..self.process_count() {
+            if self.enabled(p) {
+                return Some(p);
+            }
+        }
+        None
     }
 
     /// Whether no process can take a step.

@@ -1,6 +1,7 @@
--- A process state that begins at a block, and one that goes past a block without running it.
-use Rattle.std.specs.Prelude.{ℕ, ℤ, true, false, List, [], ◌∷◌, drop, slice_set, slice_get, Option, Some, None}
-use Rattle.ppd_entry.specs.Blocks.{block_kind, prelog_cells, postlog_cells}
+-- Look-ups of a block in a plan, a process state that begins at a block, and one that goes past a block
+-- without running it.
+use Rattle.std.specs.Prelude.{ℕ, ℤ, Bool, true, false, List, [], ◌∷◌, drop, slice_set, slice_get, Option, Some, None}
+use Rattle.ppd_ast.specs.declared.plan.Block.{Block}
 use Rattle.ppd_ast.specs.declared.plan.BlockKind.{BlockKind}
 use Rattle.ppd_ast.specs.declared.plan.BlockKind.TheVariants as block
 use Rattle.ppd_ast.specs.declared.plan.Plan.{Plan}
@@ -15,12 +16,46 @@ use Rattle.ppd_sem.specs.declared.proc.Todo.{Todo}
 use Rattle.ppd_sem.specs.Process.{charged, into_of, kind_of, need_of, new_frame, receive_at, todos, top_of}
 use Rattle.ppd_sem.specs.Tables.{unit_of}
 
+-- ---- look-ups
+
+-- what a block that is there is the code of
+abbrev pub kind_in : Option Block → BlockKind
+kind_in None = block.Process 0
+kind_in (Some b) = b.kind
+
+-- what block b of the plan is the code of
+abbrev pub block_kind : Plan → ℕ → BlockKind
+block_kind plan b = kind_in (slice_get plan.blocks b)
+
+-- the block is a function's body
+abbrev pub is_function : BlockKind → Bool
+is_function (block.Function f) = true
+is_function kind = false
+
+-- the local cells of a block's prelog
+abbrev pub prelog_in : Option Block → List ℕ
+prelog_in None = []
+prelog_in (Some b) = b.prelog
+
+-- the local cells of a block's postlog
+abbrev pub postlog_in : Option Block → List ℕ
+postlog_in None = []
+postlog_in (Some b) = b.postlog
+
+-- the local cells of the prelog of block b
+abbrev pub prelog_cells : Plan → ℕ → List ℕ
+prelog_cells plan b = prelog_in (slice_get plan.blocks b)
+
+-- the local cells of the postlog of block b
+abbrev pub postlog_cells : Plan → ℕ → List ℕ
+postlog_cells plan b = postlog_in (slice_get plan.blocks b)
+
+-- ---- at a block
+
 -- the cells with these values written at these numbers
 abbrev pub with_values : List ℕ → List ℤ → List ℤ → List ℤ
 with_values (c ∷ cs) (v ∷ vs) cells = with_values cs vs (slice_set cells c v)
 with_values cs vs cells = cells
-
--- ---- at a block
 
 -- the body of a statement that is there
 abbrev pub body_in : Option Stmt → ℕ

@@ -1,0 +1,14 @@
+use Rattle.std.proofs.Common.{◌≡◌, ◌-◌, length, sym, ◌∙◌, ap, subst}
+use Rattle.ppd_ast.specs.Valid.{IsValid}
+use Rattle.ppd_world.specs.Running.{Running}
+use Rattle.ppd_world.proofs.Processes.{reached_count}
+use Rattle.ppd_world.proofs.world.World.process_count.Goals as goal
+
+pub process_count-requires : goal.process_count-requires
+process_count-requires c = subst (λ (r : Running). IsValid r.program) (sym c.self.view_is) c.requires.program
+
+pub returns : goal.returns
+returns c =
+    let count : c.process_count.result ≡ length c.args.self.now.program.bodies - c.args.self.now.program.functions =
+    c.process_count.ensures.is ∙ ap (λ (r : Running). length r.program.bodies - r.program.functions) c.self.view_is in
+    record { procs = count ∙ sym (reached_count c.args.self.now c.requires); program = count }
