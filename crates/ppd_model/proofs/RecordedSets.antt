@@ -378,7 +378,7 @@ module _ (program : Program) (plan : Plan) (budget : ℕ) where
       let r = log_found (q + 1) rest p entries e in
       (r.0, r.1, (let z : q + suc p ≡ (q + 1) + p = omega arith in ap (λ k. closed_log (log_of program plan budget k r.0)) z) ∙ r.2)
 
-  steps_found : (moments : List (List Moment)) (p : ℕ) (ms : List Moment) → slice_get moments p ≡ Some ms → get_or (map steps_of moments) p [] ≡ steps_of ms
+  pub steps_found : (moments : List (List Moment)) (p : ℕ) (ms : List Moment) → slice_get moments p ≡ Some ms → get_or (map steps_of moments) p [] ≡ steps_of ms
   steps_found [] p ms e = absurd (none-some ms e)
   steps_found (xs ∷ rest) zero ms e = ap steps_of (some e)
   steps_found (xs ∷ rest) (suc p) ms e = steps_found rest p ms e

@@ -27,3 +27,5 @@ pub mod Forward
 pub mod SharedReads
 pub mod RecordedSets
 pub mod Rendezvous
+pub mod Items
+pub mod Extents

@@ -2,7 +2,9 @@ ghost use Rattle.ppd_model.specs.Bounds.{CountsAreBalanced, SchedulesAreBounded,
 ghost use Rattle.ppd_model.specs.Costs.{LogsArePaid, StartsAreFree, StepsCostWhatTheyWrite};
 ghost use Rattle.ppd_model.specs.Earlier.{TracesNameEarlierEvents, TracesTellRuns};
 ghost use Rattle.ppd_model.specs.Ends.{StoriesTellEnds};
+ghost use Rattle.ppd_model.specs.Extents.{ExtentsAreIndexed, ExtentsMatch, IntervalsAreOfLogs};
 ghost use Rattle.ppd_model.specs.Forward.{EdgesGoForward, RecordsAreClosed};
+ghost use Rattle.ppd_model.specs.Items.{ItemsAreWhole};
 ghost use Rattle.ppd_model.specs.Laws.{IsTestOfBefore, IsTestOfEdges, LastEdgesAreOpen, LogsGrow, NoRaceMeansOrder, ProcessesFollowTheirSteps, StoriesAreOfRuns, StoriesGrow, StoriesTellAll, SynchronizationsAreCounted, TagsAreLastWrites};
 ghost use Rattle.ppd_model.specs.LocalTags.{LocalTagsAreLastWrites, ReadsAreOfTheTop, SchedulesTagLastWrites, StepsTagTheirWrites, StoriesTellOwnSteps};
 ghost use Rattle.ppd_model.specs.Parents.{LoopRunsStayInside, OutersAreTested, ParentsAreLatestTests, ValidParents};
@@ -182,4 +184,20 @@ pub fn completions_follow_offers()
     ensures received { CompletionsAreReceived }
     ensures offers { OffersAreCompleted }
     ensures completions { CompletionsWereOffered }
+{}
+
+/// Law: after each schedule of a valid program every part of an interval is an item of it, and every event
+/// of a process is an item of exactly one interval, at the place at which it is referred to: no item is
+/// dropped, and no event is referred to as the process itself.
+pub fn items_are_whole()
+    ensures { ItemsAreWhole }
+{}
+
+/// Law: an interval of a log that is left goes from its prelog to the postlog that matches it, with matching
+/// prelogs and postlogs between them; the prelog of another has no postlog. They are the intervals of which
+/// the interval logs are found, and after each schedule those of each process's own steps.
+pub fn extents_match()
+    ensures matched { ExtentsMatch }
+    ensures indexed { ExtentsAreIndexed }
+    ensures steps { IntervalsAreOfLogs }
 {}

@@ -1,0 +1,139 @@
+-- Where the intervals of a process stand in its log: a prelog and its postlog, properly nested.
+use Rattle.std.specs.Prelude.{◌≡◌, ℕ, ◌+◌, ℤ, Bool, true, false, List, [], ◌∷◌, ◌++◌, drop, fold, length, map, slice_get, Option, Some, None}
+use Rattle.ppd_ast.specs.declared.plan.Plan.{Plan}
+use Rattle.ppd_ast.specs.declared.program.Program.{Program}
+use Rattle.ppd_entry.specs.declared.entry.Entry.{Entry}
+use Rattle.ppd_entry.specs.declared.entry.Entry.TheVariants as entry
+use Rattle.ppd_entry.specs.IntervalLogs.{indexed}
+use Rattle.ppd_model.specs.World.{change}
+use Rattle.ppd_model.specs.Story.{story}
+use Rattle.ppd_model.specs.Bounds.{AreEach}
+use Rattle.ppd_model.specs.Logs.{Logging, closed_log, loggings}
+use Rattle.ppd_model.specs.Intervals.{Span, Split, is_closed, splits}
+
+-- ---- what matches
+
+-- the entry neither enters nor leaves a block
+abbrev pub is_within : Entry → Bool
+is_within (entry.Prelog b values) = false
+is_within (entry.Postlog b values) = false
+is_within e = true
+
+-- each prelog of these has its postlog, and each postlog its prelog, properly nested
+pub data AreMatched : List Entry → Type 0 where
+  none : AreMatched []
+  within : {e : Entry} {es : List Entry} → is_within e ≡ true → AreMatched es → AreMatched (e ∷ es)
+  pair : {b : ℕ} {vs : List ℤ} {es : List Entry} (c : ℕ) (ws : List ℤ) (inner rest : List Entry) → es ≡ inner ++ entry.Postlog c ws ∷ rest → AreMatched inner → AreMatched rest → AreMatched (entry.Prelog b vs ∷ es)
+
+-- and some prelogs that have none
+pub data AreOpen : List Entry → Type 0 where
+  matched : {es : List Entry} → AreMatched es → AreOpen es
+  opened : {es : List Entry} (b : ℕ) (vs : List ℤ) (inner rest : List Entry) → es ≡ inner ++ entry.Prelog b vs ∷ rest → AreMatched inner → AreOpen rest → AreOpen es
+
+-- entry i is a prelog, and entry j is its postlog: what stands between them matches
+pub record IsLeftAt (entries : List Entry) (i j : ℕ) : Type 0 where
+  pub before : List Entry
+  pub block : ℕ
+  pub values : List ℤ
+  pub inner : List Entry
+  pub left : ℕ
+  pub result : List ℤ
+  pub after : List Entry
+  pub entries_are : entries ≡ before ++ entry.Prelog block values ∷ (inner ++ entry.Postlog left result ∷ after)
+  pub first : i ≡ length before
+  pub last : j ≡ length before + 1 + length inner
+  pub between : AreMatched inner
+
+-- entry i is a prelog that has no postlog
+pub record IsNotLeft (entries : List Entry) (i : ℕ) : Type 0 where
+  pub before : List Entry
+  pub block : ℕ
+  pub values : List ℤ
+  pub rest : List Entry
+  pub entries_are : entries ≡ before ++ entry.Prelog block values ∷ rest
+  pub first : i ≡ length before
+  pub since : AreOpen rest
+
+-- ---- the intervals of a log
+
+-- an interval: its block, the interval directly round it, the numbers of the entries that are its prelog
+-- and its postlog, or the last end inside it, and whether it is left
+pub record Extent : Type 0 where
+  pub block : ℕ
+  pub parent : Option ℕ
+  pub prelog : ℕ
+  pub last : Option ℕ
+  pub closed : Bool
+
+-- the intervals so far, the numbers of those that are running with the innermost first, and the number
+-- of the next entry
+pub record Extending : Type 0 where
+  pub extents : List Extent
+  pub running : List ℕ
+  pub entry : ℕ
+
+abbrev pub first_of : List ℕ → Option ℕ
+first_of [] = None
+first_of (k ∷ ks) = Some k
+
+-- interval k is left by this entry
+abbrev pub left_by : ℕ → List ℕ → List Extent → List Extent
+left_by j [] xs = xs
+left_by j (k ∷ ks) xs = change (λ x. record x { last = Some j; closed = true }) k xs
+
+-- the process ended by this entry inside these intervals
+abbrev pub ended_by : ℕ → List ℕ → List Extent → List Extent
+ended_by j [] xs = xs
+ended_by j (k ∷ ks) xs = ended_by j ks (change (λ x. record x { last = Some j }) k xs)
+
+-- what an entry adds
+abbrev pub extend_by : Extending → Entry → Extending
+extend_by x (entry.Prelog b values) =
+    record x { extents = x.extents ++ (record { block = b; parent = first_of x.running; prelog = x.entry; last = None; closed = false }) ∷ []; running = length x.extents ∷ x.running }
+extend_by x (entry.Postlog b values) = record x { extents = left_by x.entry x.running x.extents; running = drop 1 x.running }
+extend_by x (entry.End status rest reads writes) = record x { extents = ended_by x.entry x.running x.extents }
+extend_by x e = x
+
+-- one more entry
+abbrev pub extend : Extending → Entry → Extending
+extend x e = record (extend_by x e) { entry = x.entry + 1 }
+
+-- before the first entry
+abbrev pub begun_extents : Extending
+begun_extents = record { extents = []; running = []; entry = 0 }
+
+-- the intervals of a process's entries
+abbrev pub extents : List Entry → List Extent
+extents entries = (fold extend begun_extents entries).extents
+
+-- ---- what they are
+
+-- an interval that is left goes from its prelog to the postlog that matches; the prelog of another has none
+pub record IsExtent (entries : List Entry) (x : Extent) : Type 0 where
+  pub left : x.closed ≡ true → (j : ℕ) × (x.last ≡ Some j) × IsLeftAt entries x.prelog j
+  pub going : x.closed ≡ false → IsNotLeft entries x.prelog
+
+-- so it is with each interval of every list of entries
+abbrev pub ExtentsMatch : Type 0
+ExtentsMatch = (entries : List Entry) (k : ℕ) (x : Extent) → slice_get (extents entries) k ≡ Some x → IsExtent entries x
+
+-- and they are the intervals of which the logs are found
+abbrev pub ExtentsAreIndexed : Type 0
+ExtentsAreIndexed = (plan : Plan) (entries : List Entry) → map (λ x. x.prelog) (extents entries) ≡ map (λ i. i.first) (indexed plan entries)
+
+-- an interval of a story and one of a log: of one block, directly inside the same interval, and both left or not
+pub record IsSameInterval (i : Span) (x : Extent) : Type 0 where
+  pub block : i.block ≡ x.block
+  pub round : first_of i.round ≡ x.parent
+  pub closed : is_closed i ≡ x.closed
+
+-- the intervals of a process's own steps are those of its log, in order
+pub record AreOfLog (x : Split) (kept closed : List Entry) : Type 0 where
+  pub kept_are : AreEach IsSameInterval x.spans (extents kept)
+  pub closed_are : AreEach IsSameInterval x.spans (extents closed)
+
+-- so it is after each schedule
+abbrev pub IntervalsAreOfLogs : Type 0
+IntervalsAreOfLogs =
+    (program : Program) (plan : Plan) (budget : ℕ) (h : List ℕ) (p : ℕ) (x : Split) (l : Logging) → slice_get (splits program plan budget (story program plan budget h)) p ≡ Some x
+    → slice_get (loggings program plan budget h) p ≡ Some l → AreOfLog x l.entries (closed_log l)
