@@ -1,5 +1,5 @@
 -- The cells of an edge's accesses, rising.
-use Rattle.std.proofs.Common.{◌≡◌, ℕ, zero, suc, ◌+◌, ◌<◌, ◌≤◌, Bool, true, false, cond, not, ◌&&◌, ◌||◌, List, [], ◌∷◌, ◌++◌, Option, Some, None, refl, ap, sym, subst, ◌∙◌, arith, length, map, get_or, nat_eq, nat_lt, inl, inr, ◌⊎◌, eq-eqb, eqb-true, ne_eqb, ltb-true}
+use Rattle.std.proofs.Common.{◌≡◌, ℕ, zero, suc, ◌+◌, ◌<◌, ◌≤◌, Bool, true, false, cond, ◌&&◌, ◌||◌, List, [], ◌∷◌, ◌++◌, Some, refl, ap, sym, subst, ◌∙◌, arith, length, map, get_or, nat_eq, nat_lt, eqb-true, ne_eqb, ltb-true}
 use Rattle.std.specs.Prelude.{filter, fold, slice_get, ⊤}
 use Rattle.std.specs.List.{list_any}
 use Rattle.std.specs.List.Sorted.{IsStrictlyIncreasing}
@@ -15,13 +15,13 @@ use Rattle.ppd_sem.specs.declared.proc.Need.{Need}
 use Rattle.ppd_sem.specs.declared.proc.Need.TheVariants as n
 use Rattle.ppd_sem.specs.declared.proc.Proc.{Proc}
 use Rattle.ppd_sem.specs.Laws.{NamesThere}
-use Rattle.ppd_sem.specs.Process.{act, need_of, started}
+use Rattle.ppd_sem.specs.Process.{act, started}
 use Rattle.ppd_sem.proofs.Lawful.{named}
 use Rattle.ppd_model.specs.LocalTags.{AreOwn}
 use Rattle.ppd_model.specs.Logs.{with_cell}
-use Rattle.ppd_model.specs.Races.{has_access, writes_or_not}
+use Rattle.ppd_model.specs.Races.{writes_or_not}
 use Rattle.ppd_model.specs.Record.{SharedAccess, access_at, accesses, accesses_from, edge_after}
-use Rattle.ppd_model.specs.RecordedSets.{AccessesAreOfCells, AreCellsOf, CellsAreOfAccesses, cells_of, rising}
+use Rattle.ppd_model.specs.RecordedSets.{AccessesAreOfCells, CellsAreOfAccesses, cells_of, rising}
 use Rattle.ppd_model.specs.Story.{Taken, own_steps, story}
 use Rattle.ppd_model.proofs.Changes.{some}
 use Rattle.ppd_model.proofs.LocalTags.{own_steps_told}

@@ -1,15 +1,15 @@
 -- The intervals of a log go from their prelogs to the postlogs that match.
-use Rattle.std.proofs.Common.{◌≡◌, ℕ, zero, suc, ◌+◌, ◌<◌, ◌≤◌, ℤ, Bool, true, false, List, [], ◌∷◌, ◌++◌, Option, Some, None, refl, ap, ap₂, sym, subst, ◌∙◌, arith, length, map, inl, inr, ◌⊎◌, length-append, true≢false}
+use Rattle.std.proofs.Common.{◌≡◌, ℕ, zero, suc, ◌+◌, ◌<◌, ℤ, true, false, List, [], ◌∷◌, ◌++◌, Option, Some, None, refl, ap, ap₂, sym, subst, ◌∙◌, arith, length, map, inl, inr, ◌⊎◌, length-append, true≢false}
 use Rattle.std.specs.Prelude.{drop, fold, option_map, slice_get, ⊤}
 use Rattle.std.proofs.lemmas.Bool.{cases_eq}
 use Rattle.std.proofs.lemmas.List.{append-nil, append_assoc, map-append}
 use Rattle.std.proofs.lemmas.Option.{none-some}
 use Rattle.ppd_ast.specs.declared.plan.Plan.{Plan}
 use Rattle.ppd_entry.specs.Pieces.{Piece, finish, nested, postlog, sync, unfinished, unit}
-use Rattle.ppd_entry.specs.IntervalLogs.{Indexed, Indexing, add_piece, add_piece_at, begun_indexing, index_by, index_step, inner as index_inner, interval_at, left as index_left, left_open}
+use Rattle.ppd_entry.specs.IntervalLogs.{Indexed, Indexing, add_piece, add_piece_at, begun_indexing, index_step, inner as index_inner, interval_at, left as index_left, left_open}
 use Rattle.ppd_entry.specs.declared.entry.Entry.{Entry}
 use Rattle.ppd_entry.specs.declared.entry.Entry.TheVariants as entry
-use Rattle.ppd_model.specs.Extents.{AreMatched, none, within, pair, AreOpen, matched, opened, Extending, Extent, ExtentsAreIndexed, ExtentsMatch, IsExtent, IsLeftAt, IsNotLeft, begun_extents, ended_by, extend, extend_by, first_of, is_within, left_by}
+use Rattle.ppd_model.specs.Extents.{AreMatched, none, within, pair, AreOpen, matched, opened, Extending, Extent, ExtentsAreIndexed, ExtentsMatch, IsLeftAt, IsNotLeft, begun_extents, ended_by, extend, first_of, is_within, left_by}
 use Rattle.ppd_model.specs.World.{change}
 use Rattle.ppd_model.proofs.Changes.{change-at, change-else, length-change, some}
 use Rattle.ppd_model.proofs.CountedOn.{kept_at, last_at}

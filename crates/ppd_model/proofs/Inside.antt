@@ -1,5 +1,5 @@
 -- Each step of a process of a valid program is taken inside some interval.
-use Rattle.std.proofs.Common.{◌≡◌, ℕ, zero, suc, ◌+◌, ◌<◌, ◌≤◌, ℤ, Bool, true, false, nat_lt, List, [], ◌∷◌, ◌++◌, map, length, Option, Some, None, Ok, Err, refl, ap, sym, subst, ◌∙◌, arith, if◌then◌else◌, inl, inr, ◌⊎◌, true≢false}
+use Rattle.std.proofs.Common.{◌≡◌, ℕ, zero, suc, ◌+◌, ◌<◌, ◌≤◌, ℤ, Bool, true, false, nat_lt, List, [], ◌∷◌, ◌++◌, length, Option, Some, None, Ok, Err, refl, ap, sym, subst, ◌∙◌, arith, if◌then◌else◌, true≢false}
 use Rattle.std.specs.Prelude.{◌-◌, drop, nat_le, slice_get}
 use Rattle.std.proofs.lemmas.Bool.Decides.{nat_tests}
 use Rattle.std.proofs.lemmas.Option.{none-some, slice_get_within}
@@ -25,7 +25,7 @@ use Rattle.ppd_sem.specs.declared.proc.Proc.{Proc}
 use Rattle.ppd_sem.specs.declared.proc.Todo.{Todo}
 use Rattle.ppd_sem.specs.Asked.{Asked}
 use Rattle.ppd_sem.specs.Deed.{Deed, set_local, set_shared, clear, branch, turn, leave, invoke, back, take, give, send, receive, print, pass, finish}
-use Rattle.ppd_sem.specs.Process.{act, act_at, act_by_asked, act_by_deed, act_by_need, call_unit, chan_of, cost, entry_of, head_deed, kind_of, kind_or_end, loop_of, need_by_entry, need_by_offer, need_of, need_of_asked, need_of_deed, need_of_head, need_of_leaving, need_of_running, need_of_send, offer_of, started, todos, top_body, top_call, top_cells, top_of, value_of}
+use Rattle.ppd_sem.specs.Process.{act, act_at, act_by_asked, act_by_deed, act_by_need, call_unit, cost, entry_of, head_deed, kind_of, kind_or_end, loop_of, need_by_entry, need_by_offer, need_of, need_of_asked, need_of_deed, need_of_head, need_of_leaving, need_of_running, need_of_send, offer_of, started, todos, top_body, top_call, top_cells, top_of, value_of}
 use Rattle.ppd_sem.specs.Runs.{returns}
 use Rattle.ppd_sem.specs.Tables.{block_of, capacity_of, or_zero, unit_of}
 use Rattle.ppd_sem.proofs.Kept.{There, there_at}

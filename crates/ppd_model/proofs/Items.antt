@@ -1,5 +1,5 @@
 -- Items are whole.
-use Rattle.std.proofs.Common.{◌≡◌, ℕ, zero, suc, ◌+◌, ◌<◌, ◌≤◌, Bool, true, false, cond, List, [], ◌∷◌, ◌++◌, Option, Some, None, refl, ap, ap₂, sym, subst, ◌∙◌, arith, length, map, get_or, inl, inr, ◌⊎◌, length-append, true≢false, eq-eqb, eqb-true, if◌then◌else◌}
+use Rattle.std.proofs.Common.{◌≡◌, ℕ, zero, suc, ◌+◌, ◌<◌, ◌≤◌, Bool, true, false, cond, List, [], ◌∷◌, ◌++◌, Option, Some, None, refl, ap, ap₂, sym, subst, ◌∙◌, arith, length, map, get_or, length-append, true≢false, eq-eqb, eqb-true, if◌then◌else◌}
 use Rattle.std.specs.Prelude.{◌-◌, drop, fold, position, slice_get, ⊤}
 use Rattle.std.specs.List.{flat_map, position_from}
 use Rattle.std.proofs.lemmas.Iterator.Adapters.{position_from-zero}
@@ -17,20 +17,17 @@ use Rattle.ppd_sem.specs.declared.proc.Need.TheVariants as n
 use Rattle.ppd_sem.specs.declared.proc.Proc.{Proc}
 use Rattle.ppd_sem.proofs.Progress.{need_at_status}
 use Rattle.ppd_ast.specs.declared.status.Status.{Status}
-use Rattle.ppd_model.specs.declared.flow.Item.{Item}
-use Rattle.ppd_model.specs.declared.flow.Origin.TheVariants as origin
 use Rattle.ppd_model.specs.declared.trace.EventId.{EventId}
-use Rattle.ppd_model.specs.declared.trace.TracedEvent.{TracedEvent}
-use Rattle.ppd_model.specs.FlowbackEdges.{part_at, part_in}
+use Rattle.ppd_model.specs.FlowbackEdges.{part_in}
 use Rattle.ppd_model.specs.FullTrace.{Tag, Tracing, begun_tracing, me_in, top_tags, trace_by}
-use Rattle.ppd_model.specs.Intervals.{Part, own, nested, Span, Split, begin_if, begin_span, begun_split, change_first, control_by, end_if, end_span, innermost, is_own, item_at, item_of, item_of_event, item_of_span, items_of, left_by, new_span, place_in, place_or, ref, ref_in, split_of, split_step, splits, splits_from, with_marks, with_own, with_part, with_step}
-use Rattle.ppd_model.specs.Items.{HasWholeItems, IsItemOnce, IsReferred, IsWhole, ItemsAreWhole}
+use Rattle.ppd_model.specs.Intervals.{Part, own, nested, Span, Split, begin_if, begin_span, begun_split, change_first, control_by, end_if, innermost, is_own, item_at, item_of, item_of_event, item_of_span, left_by, new_span, place_in, place_or, ref_in, split_of, split_step, splits_from, with_marks, with_own, with_part, with_step}
+use Rattle.ppd_model.specs.Items.{ItemsAreWhole}
 use Rattle.ppd_model.specs.LocalTags.{AreOwn}
 use Rattle.ppd_model.specs.Marks.{Mark, closed, opened}
 use Rattle.ppd_model.specs.Story.{Story, Taken, is_event, own_steps, story}
 use Rattle.ppd_model.specs.World.{change}
 use Rattle.ppd_model.proofs.Changes.{length-change, some}
-use Rattle.ppd_model.proofs.Inside.{IsInside, begins_by, ends_by, inside_begun, inside_step, one_if, running_after}
+use Rattle.ppd_model.proofs.Inside.{IsInside, begins_by, ends_by, inside_begun, inside_step, running_after}
 use Rattle.ppd_model.proofs.Lists.{at_below}
 use Rattle.ppd_model.proofs.LocalTags.{own_steps_told}
 use Rattle.ppd_model.proofs.Parts.{AreParts, IsOnce, Parts, at, put, with_event, with_list, with_nested}

@@ -1,6 +1,6 @@
 -- The intervals of a process's own steps are those of its log.
 use Rattle.std.proofs.Common.{◌≡◌, ℕ, zero, suc, ◌+◌, ℤ, Bool, true, false, List, [], ◌∷◌, ◌++◌, Option, Some, None, refl, ap, ap₂, sym, subst, ◌∙◌, arith, length, map, get_or, if◌then◌else◌}
-use Rattle.std.specs.Prelude.{drop, fold, is_none, is_some, slice_get}
+use Rattle.std.specs.Prelude.{drop, fold, is_none, slice_get}
 use Rattle.std.proofs.lemmas.List.{append-nil, length-map, map-append}
 use Rattle.std.proofs.lemmas.List.Sums.{fold-append}
 use Rattle.std.proofs.lemmas.Option.{none-some}
@@ -17,10 +17,10 @@ use Rattle.ppd_sem.specs.declared.proc.Need.TheVariants as n
 use Rattle.ppd_sem.specs.declared.proc.Proc.{Proc}
 use Rattle.ppd_model.specs.declared.trace.EventId.{EventId}
 use Rattle.ppd_model.specs.Bounds.{AreEach}
-use Rattle.ppd_model.specs.Extents.{AreOfLog, Extending, Extent, IntervalsAreOfLogs, IsSameInterval, begun_extents, ended_by, extend, extents, first_of, left_by as extents_left}
-use Rattle.ppd_model.specs.FullTrace.{Tag, Tracing, me_in, top_tags, trace_step}
-use Rattle.ppd_model.specs.Intervals.{Part, own, Span, Split, begin_if, begun_split, change_first, control_by, end_if, innermost, is_closed, left_by, new_span, split_of, split_step, splits, splits_from, with_marks, with_own, with_part, with_step}
-use Rattle.ppd_model.specs.Logs.{Logging, begun_log, closed_log, ends, entries_of, log_of, log_step, loggings, logs_from, postlogs, prelogs, status_of, syncs, units}
+use Rattle.ppd_model.specs.Extents.{Extending, Extent, IntervalsAreOfLogs, IsSameInterval, begun_extents, ended_by, extend, extents, first_of, left_by as extents_left}
+use Rattle.ppd_model.specs.FullTrace.{Tag, Tracing, me_in, top_tags}
+use Rattle.ppd_model.specs.Intervals.{own, Span, Split, begin_if, begun_split, change_first, control_by, end_if, innermost, is_closed, left_by, split_of, split_step, with_marks, with_own, with_part, with_step}
+use Rattle.ppd_model.specs.Logs.{Logging, begun_log, closed_log, ends, entries_of, log_of, log_step, logs_from, postlogs, prelogs, status_of, syncs, units}
 use Rattle.ppd_model.specs.Marks.{Mark, closed, opened}
 use Rattle.ppd_model.specs.Story.{Moment, Story, Taken, is_event, steps_of, story, told, unit_started}
 use Rattle.ppd_model.specs.Synchronizations.{Sync, sync_of}

@@ -1,5 +1,5 @@
 -- In a schedule of a valid program each synchronization has a number.
-use Rattle.std.proofs.Common.{◌≡◌, ℕ, zero, suc, ◌+◌, ◌<◌, ◌≤◌, List, [], ◌∷◌, ◌++◌, Option, Some, None, refl, ap, sym, subst, ◌∙◌, arith, length, map, get_or}
+use Rattle.std.proofs.Common.{◌≡◌, ℕ, zero, suc, ◌+◌, ◌<◌, List, [], ◌∷◌, ◌++◌, Option, Some, None, refl, sym, subst, arith, length, map, get_or}
 use Rattle.std.specs.Prelude.{fold, slice_get, ⊤}
 use Rattle.std.proofs.lemmas.Option.{none-some}
 use Rattle.ppd_ast.specs.Valid.{IsValid}
@@ -15,7 +15,7 @@ use Rattle.ppd_sem.proofs.Lawful.{named}
 use Rattle.ppd_model.specs.Laws.{begins}
 use Rattle.ppd_model.specs.Prefixes.{Good, Sizes}
 use Rattle.ppd_model.specs.Schedule.{started_world}
-use Rattle.ppd_model.specs.Story.{Moment, Taken, Telling, moment_of, number_after, number_of, own_steps, steps_of, story, taken_of, tell}
+use Rattle.ppd_model.specs.Story.{Taken, Telling, moment_of, number_after, number_of, own_steps, steps_of, story, taken_of, tell}
 use Rattle.ppd_model.specs.Synchronizations.{kind_of_sync, numbered, sync_of}
 use Rattle.ppd_model.specs.World.{Channel, Counts, change, need, need_at}
 use Rattle.ppd_model.proofs.Prefixes.{good_next, good_start}

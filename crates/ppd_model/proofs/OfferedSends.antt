@@ -1,5 +1,5 @@
 -- An offer is of a send on its channel.
-use Rattle.std.proofs.Common.{◌≡◌, ℕ, zero, suc, ◌+◌, ℤ, Bool, true, false, nat_lt, List, [], ◌∷◌, length, Option, Some, None, Ok, Err, refl, sym, subst, if◌then◌else◌}
+use Rattle.std.proofs.Common.{◌≡◌, ℕ, zero, suc, ◌+◌, ℤ, Bool, true, false, nat_lt, List, ◌∷◌, length, Option, Some, None, Ok, Err, if◌then◌else◌}
 use Rattle.std.specs.Prelude.{⊤}
 use Rattle.ppd_ast.specs.declared.plan.BlockKind.TheVariants as block
 use Rattle.ppd_ast.specs.declared.plan.Plan.{Plan}
@@ -13,7 +13,7 @@ use Rattle.ppd_sem.specs.declared.proc.Proc.{Proc}
 use Rattle.ppd_sem.specs.declared.proc.Todo.{Todo}
 use Rattle.ppd_sem.specs.Asked.{Asked}
 use Rattle.ppd_sem.specs.Deed.{Deed, set_local, set_shared, clear, branch, turn, leave, invoke, back, take, give, send, receive, print, pass, finish}
-use Rattle.ppd_sem.specs.Process.{chan_of, cost, entry_of, head_deed, kind_of, need_by_entry, need_by_offer, need_of_asked, need_of_call, need_of_deed, need_of_head, need_of_leaving, need_of_running, need_of_send, offer_of, top_cells}
+use Rattle.ppd_sem.specs.Process.{chan_of, cost, entry_of, head_deed, kind_of, need_by_entry, need_by_offer, need_of_asked, need_of_deed, need_of_head, need_of_leaving, need_of_running, need_of_send, offer_of, top_cells}
 use Rattle.ppd_model.proofs.Deeds.{AskedOf, DeedOf, asked_of}
 use Rattle.ppd_sem.specs.Tables.{block_of, capacity_of, unit_of}
 

@@ -1,5 +1,5 @@
 -- What is told of the first steps of a schedule, and what holds after each of them.
-use Rattle.std.proofs.Common.{◌≡◌, ℕ, zero, suc, ◌+◌, ◌<◌, List, [], ◌∷◌, ◌++◌, Some, None, true, refl, ap, sym, ◌∙◌, arith, length, map, get_or, take, length-set}
+use Rattle.std.proofs.Common.{◌≡◌, ℕ, zero, suc, ◌+◌, ◌<◌, List, [], ◌∷◌, ◌++◌, Some, None, true, refl, sym, ◌∙◌, arith, length, map, get_or, take, length-set}
 use Rattle.std.specs.Prelude.{◌-◌, fold, slice_get}
 use Rattle.std.proofs.lemmas.List.{length-map}
 use Rattle.ppd_ast.specs.declared.plan.Plan.{Plan}

@@ -1,7 +1,7 @@
 -- The sets that logs record are the cells of the accesses.
-use Rattle.std.proofs.Common.{◌≡◌, ℕ, zero, suc, ◌+◌, ◌<◌, ◌≤◌, ℤ, Bool, true, false, cond, not, ◌&&◌, ◌||◌, List, [], ◌∷◌, ◌++◌, Option, Some, None, refl, ap, ap₂, sym, subst, ◌∙◌, arith, length, length-append, map, get_or, nat_eq, inl, inr, ◌⊎◌, eq-eqb, if◌then◌else◌}
-use Rattle.std.specs.Prelude.{filter, filter_map, fold, is_none, is_some, option_map, option_to_list, slice_get}
-use Rattle.std.specs.List.{cons_option, list_any, range_with_len}
+use Rattle.std.proofs.Common.{◌≡◌, ℕ, zero, suc, ◌+◌, ◌<◌, ◌≤◌, ℤ, Bool, true, false, cond, ◌&&◌, ◌||◌, List, [], ◌∷◌, ◌++◌, Option, Some, None, refl, ap, ap₂, sym, subst, ◌∙◌, arith, length, length-append, map, get_or, inl, inr, ◌⊎◌, eq-eqb, if◌then◌else◌}
+use Rattle.std.specs.Prelude.{filter_map, fold, is_none, option_to_list, slice_get}
+use Rattle.std.specs.List.{list_any, range_with_len}
 use Rattle.std.proofs.lemmas.List.{append-nil, append_assoc}
 use Rattle.std.proofs.lemmas.List.Elements.{filter_map-append}
 use Rattle.std.proofs.lemmas.List.Folds.{list_any-append}
@@ -20,7 +20,7 @@ use Rattle.ppd_sem.specs.declared.proc.Proc.{Proc}
 use Rattle.ppd_sem.specs.Process.{act, need_of, started}
 use Rattle.ppd_sem.proofs.Progress.{act-stopped, need_at_status}
 use Rattle.ppd_model.specs.LocalTags.{AreOwn}
-use Rattle.ppd_model.specs.Logs.{Logging, begun_log, closed_log, ends, entries_of, log_of, log_step, loggings, logs_from, postlogs, prelogs, status_of, syncs, units, with_access, with_cell}
+use Rattle.ppd_model.specs.Logs.{Logging, begun_log, closed_log, ends, entries_of, log_of, log_step, loggings, logs_from, postlogs, prelogs, status_of, syncs, units, with_access}
 use Rattle.ppd_model.specs.Marks.{Mark, closed, opened}
 use Rattle.ppd_model.specs.Races.{writes_or_not}
 use Rattle.ppd_model.specs.Record.{SharedAccess, access_at, accesses_from}

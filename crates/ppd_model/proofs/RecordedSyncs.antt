@@ -1,6 +1,6 @@
 -- The synchronizations that logs tell are the record.
 use Rattle.std.proofs.Common.{◌≡◌, ℕ, ◌+◌, ℤ, List, [], ◌∷◌, ◌++◌, Option, Some, None, Bool, true, false, refl, ap, ap₂, sym, ◌∙◌, map, if◌then◌else◌}
-use Rattle.std.specs.Prelude.{filter_map, fold, is_none, option_map, option_to_list}
+use Rattle.std.specs.Prelude.{filter_map, fold, is_none, option_to_list}
 use Rattle.std.specs.List.{cons_option}
 use Rattle.std.proofs.lemmas.List.{append-nil, append_assoc}
 use Rattle.std.proofs.lemmas.List.Elements.{filter_map-append}

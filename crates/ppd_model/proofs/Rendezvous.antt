@@ -1,5 +1,5 @@
 -- Channels of capacity 0: counts, pairs, and the two steps of a send.
-use Rattle.std.proofs.Common.{◌≡◌, ℕ, zero, suc, ◌+◌, ◌<◌, ◌≤◌, ℤ, List, [], ◌∷◌, ◌++◌, Option, Some, None, refl, ap, ap₂, sym, subst, ◌∙◌, arith, length, map, inl, inr, ◌⊎◌, true≢false, eq-eqb, eqb-true, ◌&&◌}
+use Rattle.std.proofs.Common.{◌≡◌, ℕ, zero, suc, ◌+◌, ◌<◌, ◌≤◌, ℤ, List, [], ◌∷◌, ◌++◌, Some, refl, ap, sym, subst, ◌∙◌, arith, length, map, inl, inr, ◌⊎◌, true≢false, eq-eqb, eqb-true}
 use Rattle.std.specs.Prelude.{IsTrue, fold, nat_eq, slice_get}
 use Rattle.std.proofs.lemmas.Bool.{and_from, and_parts}
 use Rattle.std.proofs.lemmas.List.{append-nil, append_assoc}
@@ -20,9 +20,9 @@ use Rattle.ppd_model.specs.Bounds.{AreEach, IsBalanced, IsBalancedChan}
 use Rattle.ppd_model.specs.LocalTags.{AreOwn}
 use Rattle.ppd_model.specs.Numbers.{count_in, count_of, sync}
 use Rattle.ppd_model.specs.Rendezvous.{ChannelsAreInTurn, Completes, CompletionsAreLedTo, CompletionsAreReceived, CompletionsLead, CompletionsWereOffered, IsInTurn, OffersAreCompleted, first_stmt}
-use Rattle.ppd_model.specs.Schedule.{run, started_world}
+use Rattle.ppd_model.specs.Schedule.{started_world}
 use Rattle.ppd_model.specs.States.{act_on, state_of}
-use Rattle.ppd_model.specs.Story.{Taken, own_steps, story, told}
+use Rattle.ppd_model.specs.Story.{Taken, told}
 use Rattle.ppd_model.specs.Synchronizations.{Sync, is_number, leads, led_to}
 use Rattle.ppd_model.specs.World.{World, room_of}
 use Rattle.ppd_model.proofs.Balanced.{balanced}
@@ -30,7 +30,7 @@ use Rattle.ppd_model.proofs.Changes.{some}
 use Rattle.ppd_model.proofs.Forward.{completed_below}
 use Rattle.ppd_model.proofs.LocalTags.{own-before, own_steps_told}
 use Rattle.ppd_model.proofs.Numbers.{are_counted}
-use Rattle.ppd_model.proofs.OfferMarks.{AreUnmarked, IsMarked, IsOver, IsUnmarked, TakesOffer, marked_step, no_completion, offer_step, over_step, unmarked_step}
+use Rattle.ppd_model.proofs.OfferMarks.{AreUnmarked, IsOver, IsUnmarked, TakesOffer, marked_step, no_completion, offer_step, over_step, unmarked_step}
 use Rattle.ppd_model.proofs.Stories.{stories_are_of_runs}
 
 -- ---- counts

@@ -1,11 +1,10 @@
 -- Where no race is listed, a shared read is answered by the greatest write before it.
-use Rattle.std.proofs.Common.{◌≡◌, ℕ, zero, suc, ◌+◌, ◌<◌, ◌≤◌, ℤ, pos, Bool, true, false, cond, List, [], ◌∷◌, ◌++◌, length, map, get_or, Option, Some, None, refl, ap, sym, ◌∙◌, subst, arith, inl, inr, ◌⊎◌, true≢false, eq-eqb}
+use Rattle.std.proofs.Common.{◌≡◌, ℕ, zero, suc, ◌+◌, ◌<◌, ◌≤◌, ℤ, pos, Bool, true, false, List, [], ◌∷◌, ◌++◌, length, map, get_or, Option, Some, None, refl, ap, sym, ◌∙◌, subst, arith, inl, inr, ◌⊎◌, true≢false, eq-eqb}
 use Rattle.std.proofs.lemmas.Bool.{cases_eq, cases_lt}
-use Rattle.std.proofs.lemmas.List.{append-nil, append_assoc, length-set}
+use Rattle.std.proofs.lemmas.List.{append-nil, append_assoc}
 use Rattle.std.proofs.lemmas.List.Sums.{fold-append}
 use Rattle.std.proofs.lemmas.Option.{none-some}
-use Rattle.std.specs.List.{cons_option}
-use Rattle.std.specs.Prelude.{IsTrue, fold, is_some, slice_get}
+use Rattle.std.specs.Prelude.{IsTrue, fold, slice_get}
 use Rattle.ppd_ast.specs.declared.plan.Plan.{Plan}
 use Rattle.ppd_ast.specs.declared.program.Program.{Program}
 use Rattle.ppd_sem.specs.declared.proc.Need.{Need}
@@ -13,12 +12,12 @@ use Rattle.ppd_sem.specs.declared.proc.Need.TheVariants.{Read, Write, Stopped}
 use Rattle.ppd_sem.specs.declared.proc.Proc.{Proc}
 use Rattle.ppd_model.specs.declared.trace.EventId.{EventId}
 use Rattle.ppd_model.specs.declared.tracing.Taken.{Taken}
-use Rattle.ppd_model.specs.World.{World, change, effect, need, need_at}
+use Rattle.ppd_model.specs.World.{World, change, need, need_at}
 use Rattle.ppd_model.specs.Schedule.{run, started_world}
 use Rattle.ppd_model.specs.Story.{Telling, begun, moment_of, own_steps, steps_of, story, tell, told}
 use Rattle.ppd_model.specs.States.{states_from}
-use Rattle.ppd_model.specs.Synchronizations.{Sync, sync_of, syncs_of}
-use Rattle.ppd_model.specs.Record.{SharedAccess, access_at, accesses, accesses_from, edge_after, sync_record}
+use Rattle.ppd_model.specs.Synchronizations.{Sync, syncs_of}
+use Rattle.ppd_model.specs.Record.{SharedAccess, access_at, accesses, accesses_from, sync_record}
 use Rattle.ppd_model.specs.Races.{races}
 use Rattle.ppd_model.specs.HappenedBefore.{EdgeBefore, earlier, edge}
 use Rattle.ppd_model.specs.Laws.{DoConflict, IsAtStart, IsTagged, IsUnwritten, begins, is_write_of}

@@ -5,7 +5,7 @@ use Rattle.ppd_ast.specs.declared.plan.Plan.{Plan}
 use Rattle.ppd_ast.specs.declared.program.Program.{Program}
 use Rattle.ppd_model.specs.declared.flow.Origin.TheVariants as origin
 use Rattle.ppd_model.specs.Story.{story}
-use Rattle.ppd_model.specs.Intervals.{Part, own, Span, Split, items_of, ref, splits}
+use Rattle.ppd_model.specs.Intervals.{own, Span, Split, items_of, ref, splits}
 use Rattle.ppd_model.specs.FlowbackEdges.{part_at}
 
 -- each part of the interval is an item
