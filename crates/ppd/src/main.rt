@@ -6,6 +6,8 @@ use ppd_io::{FreeGate, HostShelf, StdSink, StdSource};
 use ppd_top::ppd;
 use std::alloc::Global;
 use std::process::ExitCode;
+use std::sync::Wait;
+use std::thread::Threads;
 use std::{env, io};
 
 /// The words after the program's name. Words that cannot be decoded are none that the program
@@ -22,7 +24,8 @@ fn words_given(alloc: Global, rt: &HostRuntime) -> Result<Vec<String>, Memory> {
     }
 }
 
-fn run(rt: &HostRuntime) -> Result<u8, Memory> {
+/// Runs the program over what the runtime gives, its threads by `threads`.
+fn run<R: Threads + Wait + Sync>(rt: &HostRuntime, threads: &R) -> Result<u8, Memory> {
     let alloc = rt.alloc();
     let given = words_given(alloc, rt)?;
     let Ok(words) = given.iter().map(|word| word.as_str()).collect(alloc) else {
@@ -33,6 +36,7 @@ fn run(rt: &HostRuntime) -> Result<u8, Memory> {
     let mut input = StdSource::new(rt.reader());
     let mut output = StdSink::new(io::writer(rt));
     let outcome = ppd(
+        threads,
         alloc,
         &words,
         &mut shelf,
@@ -44,7 +48,7 @@ fn run(rt: &HostRuntime) -> Result<u8, Memory> {
 }
 
 fn main(rt: HostRuntime) -> ExitCode {
-    match run(&rt) {
+    match run(&rt, &rt) {
         Ok(status) => ExitCode::from(status),
         Err(Memory) => ExitCode::from(5),
     }

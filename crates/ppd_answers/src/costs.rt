@@ -4,7 +4,9 @@ use crate::trials::call;
 use ppd_ast::Policy;
 use ppd_top::{FollowError, Options, follow};
 use std::alloc::Global;
+use std::sync::Wait;
 use std::test::Fail;
+use std::thread::Threads;
 
 const LEAF: &str = "shared int x; void f(int k) { x = k; } process a { f(9); print(x); }";
 
@@ -25,11 +27,16 @@ const READS: &str = "shared int x; process p { int i; while (i < 1) { i = i + x 
 type Row = (&'static [&'static str], &'static str, &'static str);
 
 /// What `flow` with these options writes for a source that it runs.
-fn written(alloc: Global, options: &[&'static str], source: &str) -> Result<Vec<u8>, Fail> {
+fn written<R: Threads + Wait + Sync>(
+    rt: &R,
+    alloc: Global,
+    options: &[&'static str],
+    source: &str,
+) -> Result<Vec<u8>, Fail> {
     let mut words = Vec::from_slice(alloc, &["flow"])?;
     words.extend_from_slice(options)?;
     words.push("row.c")?;
-    let trial = call(alloc, &words, "row.c", source.as_bytes())?;
+    let trial = call(rt, alloc, &words, "row.c", source.as_bytes())?;
     if trial.status != 0 {
         return Err(Fail::new("another status"));
     }
@@ -55,7 +62,7 @@ fn a_function_costs_its_entries(rt: HostRuntime) -> Result<(), Fail> {
         (&["--budget", "6", "--leaf", "3"], LEAF, stopped),
     ];
     for (options, source, text) in rows {
-        let found = written(alloc, options, source)?;
+        let found = written(&rt, alloc, options, source)?;
         assert_eq!(rt; found.as_slice(), text.as_bytes(), "{options:?}");
     }
     Ok(())
@@ -133,7 +140,7 @@ fn a_loop_costs_its_entries(rt: HostRuntime) -> Result<(), Fail> {
         ),
     ];
     for (options, source, text) in rows {
-        let found = written(alloc, options, source)?;
+        let found = written(&rt, alloc, options, source)?;
         assert_eq!(rt; found.as_slice(), text.as_bytes(), "{options:?} {source}");
     }
     Ok(())
@@ -184,7 +191,7 @@ fn a_unit_costs_its_cells(rt: HostRuntime) -> Result<(), Fail> {
         ),
     ];
     for (options, source, text) in rows {
-        let found = written(alloc, options, source)?;
+        let found = written(&rt, alloc, options, source)?;
         assert_eq!(rt; found.as_slice(), text.as_bytes(), "{options:?} {source}");
     }
     Ok(())

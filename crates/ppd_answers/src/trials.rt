@@ -10,7 +10,9 @@ use ppd_io::{FreeGate, MemoryShelf, MemorySink, MemorySource};
 use ppd_top::{FollowError, Options, follow, ppd};
 use ppd_world::World;
 use std::alloc::Global;
+use std::sync::Wait;
 use std::test::Fail;
+use std::thread::Threads;
 
 /// The room of the tests' output, in bytes.
 const ROOM: usize = 16_384;
@@ -30,7 +32,8 @@ pub(crate) struct Trial {
 }
 
 /// What the top call answers for these words, where the shelf holds the source under this name alone.
-pub(crate) fn call(
+pub(crate) fn call<R: Threads + Wait + Sync>(
+    rt: &R,
     alloc: Global,
     words: &[&str],
     name: &str,
@@ -44,7 +47,15 @@ pub(crate) fn call(
     let Ok(mut output) = MemorySink::new(alloc, ROOM, Vec::new(alloc)) else {
         return Err(Fail::new("no answer"));
     };
-    let outcome = ppd(alloc, words, &mut shelf, &mut input, &mut output, &FreeGate);
+    let outcome = ppd(
+        rt,
+        alloc,
+        words,
+        &mut shelf,
+        &mut input,
+        &mut output,
+        &FreeGate,
+    );
     let text = Vec::from_slice(alloc, output.bytes())?;
     Ok(Trial {
         status: outcome.status,
@@ -54,8 +65,12 @@ pub(crate) fn call(
 }
 
 /// What `flow` answers for a source without options.
-pub(crate) fn flow(alloc: Global, source: &[u8]) -> Result<Trial, Fail> {
-    call(alloc, &["flow", "row.c"], "row.c", source)
+pub(crate) fn flow<R: Threads + Wait + Sync>(
+    rt: &R,
+    alloc: Global,
+    source: &[u8],
+) -> Result<Trial, Fail> {
+    call(rt, alloc, &["flow", "row.c"], "row.c", source)
 }
 
 /// What a source and a schedule come to without options.

@@ -1,7 +1,9 @@
 use ppd_io::{FreeGate, MemoryShelf, MemorySink, MemorySource};
 use ppd_top::ppd;
 use std::alloc::Global;
+use std::sync::Wait;
 use std::test::Fail;
+use std::thread::Threads;
 
 const CALLEE_WRITE: &str = "shared int x; void f() { x = 4; } process a { x = 1; f(); print(x); }";
 
@@ -229,7 +231,8 @@ const USAGE: &str = "usage: ppd flow|run|debug|show|drill\n";
 
 // What the top call answers for these words over a shelf that holds a source as `row.c`, and a sink of
 // this room: the status, the length of the schedule, and the bytes.
-fn call(
+fn call<R: Threads + Wait + Sync>(
+    rt: &R,
     alloc: Global,
     words: &[&str],
     source: &str,
@@ -243,7 +246,15 @@ fn call(
     let Ok(mut output) = MemorySink::new(alloc, room, Vec::new(alloc)) else {
         return Err(Fail::new("no answer"));
     };
-    let outcome = ppd(alloc, words, &mut shelf, &mut input, &mut output, &FreeGate);
+    let outcome = ppd(
+        rt,
+        alloc,
+        words,
+        &mut shelf,
+        &mut input,
+        &mut output,
+        &FreeGate,
+    );
     let bytes = Vec::from_slice(alloc, output.bytes())?;
     Ok((outcome.status, outcome.schedule.len(), bytes))
 }
@@ -257,7 +268,7 @@ fn tables_are_written_byte_for_byte(rt: HostRuntime) -> Result<(), Fail> {
         (RENDEZVOUS, 0, RENDEZVOUS_TABLE),
         ("", 1, "refused check 7 NoProcess 1:1\n"),
     ] {
-        let (found, steps, bytes) = call(alloc, &["show", "row.c"], source, ROOM)?;
+        let (found, steps, bytes) = call(&rt, alloc, &["show", "row.c"], source, ROOM)?;
         assert_eq!(rt; found, status, "{source}");
         assert_eq!(rt; steps, 0, "{source}");
         assert_eq!(rt; bytes.as_slice(), text.as_bytes(), "{source}");
@@ -288,7 +299,7 @@ fn tables_are_of_the_policy(rt: HostRuntime) -> Result<(), Fail> {
         let mut words = Vec::from_slice(alloc, &["show"])?;
         words.extend_from_slice(options)?;
         words.push("row.c")?;
-        let (found, steps, bytes) = call(alloc, &words, source, ROOM)?;
+        let (found, steps, bytes) = call(&rt, alloc, &words, source, ROOM)?;
         assert_eq!(rt; found, 0, "{words:?}");
         assert_eq!(rt; steps, 0, "{words:?}");
         assert_eq!(rt; bytes.as_slice(), text.as_bytes(), "{words:?}");
@@ -299,7 +310,7 @@ fn tables_are_of_the_policy(rt: HostRuntime) -> Result<(), Fail> {
 #[test]
 fn a_table_that_does_not_fit_is_cut_off(rt: HostRuntime) -> Result<(), Fail> {
     let alloc = rt.alloc();
-    let (status, steps, bytes) = call(alloc, &["show", "row.c"], CALLEE_WRITE, 40)?;
+    let (status, steps, bytes) = call(&rt, alloc, &["show", "row.c"], CALLEE_WRITE, 40)?;
     assert_eq!(rt; status, 4);
     assert_eq!(rt; steps, 0);
     let begun = "body 0 function f used - defined x\nstmt ";
@@ -331,7 +342,7 @@ fn show_has_the_options_of_a_policy_alone(rt: HostRuntime) -> Result<(), Fail> {
         (&["show", "-"], 3, ""),
     ];
     for (words, status, text) in rows {
-        let (found, steps, bytes) = call(alloc, words, CALLEE_WRITE, ROOM)?;
+        let (found, steps, bytes) = call(&rt, alloc, words, CALLEE_WRITE, ROOM)?;
         assert_eq!(rt; found, status, "{words:?}");
         assert_eq!(rt; steps, 0, "{words:?}");
         assert_eq!(rt; bytes.as_slice(), text.as_bytes(), "{words:?}");

@@ -4,5 +4,5 @@ pub mod Comes
 pub mod Followed
 pub mod Outcomes
 pub mod Printed
-pub mod Processes
+pub mod Threaded
 pub mod Worded

@@ -14,9 +14,12 @@ use crate::words::Command;
 use ppd_ast::{Bytes, Memory, Program, Seq};
 use ppd_blocks::partition;
 use ppd_check::read_source;
+use ppd_io::Gate;
 use ppd_sets::sets;
 use ppd_show::table;
 use std::alloc::Global;
+use std::sync::Wait;
+use std::thread::Threads;
 
 /// What a command comes to on a source: the schedule of its run, empty where none ran, and the text
 /// with its status.
@@ -39,11 +42,13 @@ fn show_program(alloc: Global, program: &Program, options: &Options) -> Result<V
 }
 
 /// What a command gives for a program: the schedule of its run, empty where it runs nothing, and the text.
-fn give(
+fn give<G: Gate, R: Threads + Wait + Sync>(
+    rt: &R,
     alloc: Global,
     command: Command,
     program: &Program,
     options: &Options,
+    gate: &G,
 ) -> Result<(Bytes, Vec<u8>), Memory>
     requires program { IsValid program.now }
     requires budget { options.now.budget ≤ MOST_BUDGET }
@@ -51,7 +56,7 @@ fn give(
     ensures { IfOk result (λ r. Gives command program.now options.now r.0 r.1.items) }
 {
     match command {
-        Command::Flow => run_program(alloc, program, options),
+        Command::Flow => run_program(rt, alloc, program, options, gate),
         Command::Show => {
             let text = show_program(alloc, program, options)?;
             Ok((Seq::new(alloc), text))
@@ -60,11 +65,13 @@ fn give(
 }
 
 /// What a command comes to on a source under these options.
-pub(crate) fn answer_source(
+pub(crate) fn answer_source<G: Gate, R: Threads + Wait + Sync>(
+    rt: &R,
     alloc: Global,
     source: &[u8],
     command: Command,
     options: &Options,
+    gate: &G,
 ) -> Result<Answer, Memory>
     requires budget { options.now.budget ≤ MOST_BUDGET }
     requires policy { IsValidPolicy options.now.policy }
@@ -78,7 +85,7 @@ pub(crate) fn answer_source(
             text: refusal_line(alloc, error)?,
         }),
         Ok(program) => {
-            let (schedule, text) = give(alloc, command, &program, options)?;
+            let (schedule, text) = give(rt, alloc, command, &program, options, gate)?;
             Ok(Answer {
                 schedule,
                 status: 0,

@@ -10,11 +10,13 @@ ghost use Rattle.ppd_top.specs.Top.{Answers, Finished, RanWhole, WasShown, WasRe
 ghost use Rattle.ppd_top.specs.Words.{Asks};
 
 use crate::answer::answer_source;
-use crate::options::Options;
-use crate::words::{Command, Request, asked};
+use crate::words::{Request, asked};
+use ppd_ast::limits::MOST_SOURCE_BYTES;
 use ppd_ast::{Bytes, Seq};
 use ppd_io::{Gate, Shelf, ShelfError, Sink, Source, put_all};
 use std::alloc::Global;
+use std::sync::Wait;
+use std::thread::Threads;
 
 /// How the program ended: its status, and the numbers of the processes that were stepped, empty
 /// where no run came to its end.
@@ -27,13 +29,14 @@ pub struct Outcome {
 const USAGE: &[u8] = b"usage: ppd flow|run|debug|show|drill\n";
 
 /// One byte more than the longest source, so that a longer one is seen.
-const MOST_BYTES: usize = 262_145;
+const MOST_BYTES: usize = MOST_SOURCE_BYTES + 1;
 
 /// Does all that the program does. The words are those after the program's name: `flow` or `show`, its
 /// options in any order, each at most once, and the name of a source. The options of `flow` are
 /// `--budget N`, `--leaf N` and `--loops N`, each also as `--budget=N`; `show` has the last two.
 ///
-/// In `flow` the lowest process that can take a step takes it, until there is none.
+/// In `flow` each process has a thread, which passes the gate before each of its turns. The schedule is the
+/// one that the threads took.
 ///
 /// - 0: in `flow` the source's program ran to its end, and its summary was written; in `show` the tables of
 ///   the source's program were written.
@@ -43,8 +46,9 @@ const MOST_BYTES: usize = 262_145;
 /// - 4: the output failed, and a proper prefix of what belongs there was written.
 /// - 5: want of memory, and nothing was written.
 ///
-/// The input is not read, and the gate is not called.
-pub fn ppd<F: Shelf, I: Source, O: Sink, G: Gate>(
+/// The input is not read, and in `show` the gate is not called.
+pub fn ppd<F: Shelf, I: Source, O: Sink, G: Gate, R: Threads + Wait + Sync>(
+    rt: &R,
     alloc: Global,
     words: &[&str],
     shelf: &mut F,
@@ -74,7 +78,7 @@ pub fn ppd<F: Shelf, I: Source, O: Sink, G: Gate>(
     match shelf.load(alloc, request.name, MOST_BYTES) {
         Err(ShelfError::Failed) => ended(alloc, 3),
         Err(ShelfError::Memory) => ended(alloc, 5),
-        Ok(source) => respond(alloc, &source, request.command, &request.options, output),
+        Ok(source) => respond(rt, alloc, &source, &request, output, gate),
     }
 }
 
@@ -110,20 +114,21 @@ fn finish<O: Sink>(output: &mut O, text: &[u8], status: u8) -> u8
 }
 
 /// Writes what a command comes to on a source.
-fn respond<O: Sink>(
+fn respond<O: Sink, G: Gate, R: Threads + Wait + Sync>(
+    rt: &R,
     alloc: Global,
     source: &[u8],
-    command: Command,
-    options: &Options,
+    request: &Request<'_>,
     output: &mut O,
+    gate: &G,
 ) -> Outcome
-    requires budget { options.now.budget ≤ MOST_BUDGET }
-    requires policy { IsValidPolicy options.now.policy }
+    requires budget { request.now.options.budget ≤ MOST_BUDGET }
+    requires policy { IsValidPolicy request.now.options.policy }
     ensures { ((result.status ≡ 5) × (O.written output.new ≡ O.written output.old) × (result.schedule ≡ []))
-        ⊎ ((status : ℕ) × (text : List ℕ) × (status < 2) × Answers source.now options.now command result.schedule status text
+        ⊎ ((status : ℕ) × (text : List ℕ) × (status < 2) × Answers source.now request.now.options request.now.command result.schedule status text
         × Finished (O.written output.old) (O.written output.new) (O.faults output.old) (O.faults output.new) result.status status text) }
 {
-    match answer_source(alloc, source, command, options) {
+    match answer_source(rt, alloc, source, request.command, &request.options, gate) {
         Err(_) => ended(alloc, 5),
         Ok(answer) => Outcome {
             status: finish(output, &answer.text, answer.status),

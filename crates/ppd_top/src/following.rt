@@ -5,10 +5,11 @@ ghost use Rattle.ppd_ast.specs.ValidPlan.{IsValidPolicy};
 ghost use Rattle.ppd_ast.specs.declared.limits.TheConstants.{MOST_BUDGET};
 ghost use Rattle.ppd_top.specs.Ran.{RanTo, ScheduleFails, drive_error as drive_error_of};
 ghost use Rattle.ppd_top.specs.Top.{Follows, FollowFails, plan_of};
+ghost use Rattle.ppd_model.specs.Schedule.{IsOver};
 ghost use Rattle.ppd_world.specs.Running.{IsOf, IsReached, begun};
 
 use crate::options::Options;
-use crate::running::{close_run, lowest_enabled};
+use crate::summary::summary;
 use ppd_ast::{Memory, Program};
 use ppd_blocks::partition;
 use ppd_check::{SourceError, read_source};
@@ -42,6 +43,26 @@ fn drive_error(error: DriveError) -> FollowError
     }
 }
 
+/// The summary of a world in which nobody can take a step, and to which this schedule came.
+fn close_run(
+    alloc: Global,
+    program: &Program,
+    options: &Options,
+    world: World,
+    schedule: &[u8],
+) -> Result<Vec<u8>, Memory>
+    requires reached { IsReached world }
+    requires comes { IsOf schedule.now world }
+    requires over { IsOver world.program world.plan world.world }
+    requires program { world.program ≡ program.now }
+    requires plan { world.plan ≡ plan_of program.now options.now }
+    requires budget { world.budget ≡ options.now.budget }
+    ensures { IfOk result (λ text. RanTo program.now options.now schedule.now text.items) }
+{
+    let closed = world.close()?;
+    summary(alloc, program, closed.ends.as_slice())
+}
+
 /// Takes the schedule in the first world of a program, and answers the summary.
 fn follow_world(
     alloc: Global,
@@ -60,7 +81,7 @@ fn follow_world(
         Ok(()) => {}
         Err(error) => return Err(drive_error(error)),
     }
-    if let Some(_process) = lowest_enabled(&world) {
+    if let Some(_process) = world.lowest() {
         return Err(FollowError::NotWhole);
     }
     match close_run(alloc, program, options, world, schedule) {

@@ -5,10 +5,7 @@ ghost use Rattle.ppd_top.specs.Words.{number_in as number_of, spelled as spelled
 
 use crate::options::Options;
 use ppd_ast::Policy;
-use ppd_ast::limits::{MOST_BUDGET, MOST_POLICY};
-
-/// The budget of a process where none is given, in steps and logged values.
-const DEFAULT_BUDGET: u32 = 100_000;
+use ppd_ast::limits::{DEFAULT_BUDGET, MOST_BUDGET, MOST_POLICY};
 
 /// What the first word asks for.
 #[derive(Clone, Copy, PartialEq, Eq, Debug)]

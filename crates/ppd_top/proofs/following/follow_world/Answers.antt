@@ -5,7 +5,7 @@ pub returns-in-Err-clause-error : goal.returns-in-Err-clause-error
 returns-in-Err-clause-error c = fails_at c.args.program.now c.args.options.now c.args.world c.drive.new.self c.args.schedule.now c.in-Err.error c.drive_error.result c.requires.first c.requires.comes c.in-Err.ensures.driven c.drive_error.ensures
 
 pub returns-in-Some-clause-error : goal.returns-in-Some-clause-error
-returns-in-Some-clause-error c = unfinished c.args.program.now c.args.options.now c.args.world c.drive.new.self c.requires.first c.requires.comes c.args.schedule.now c.in-Ok.ensures.driven c.in-Some._process c.in-Some.ensures.some
+returns-in-Some-clause-error c = unfinished c.args.program.now c.args.options.now c.args.world c.drive.new.self c.requires.first c.requires.comes c.args.schedule.now c.in-Ok.ensures.driven c.in-Some._process c.in-Some.ensures.some.can
 
 pub close_run-requires-clause-comes : goal.close_run-requires-clause-comes
 close_run-requires-clause-comes c = comes_to c.args.program.now c.args.options.now c.args.world c.drive.new.self c.requires.first c.requires.comes c.args.schedule.now c.in-Ok.ensures.driven

@@ -1,0 +1,38 @@
+-- One more turn, and the last one.
+use Rattle.std.proofs.Common.{◌≡◌, ℕ, List, [], ◌∷◌, ◌++◌, length, take, refl, ap, sym, ◌∙◌, subst}
+use Rattle.std.proofs.Math.Seq.{take-append_seam}
+use Rattle.std.proofs.lemmas.List.{append_assoc, append-nil}
+use Rattle.ppd_model.specs.Schedule.{IsOver}
+use Rattle.ppd_world.specs.Running.{Running, IsLowest, stepped}
+use Rattle.ppd_book.specs.Turns.{GoesLowest}
+
+pub goes_more : (r last : Running) (h : List ℕ) (p : ℕ) → GoesLowest r h last → IsLowest last p → GoesLowest r (h ++ p ∷ []) (stepped last p)
+goes_more r last [] p g l = (subst (λ (x : Running). IsLowest x p) (sym g) l, ap (λ (x : Running). stepped x p) g)
+goes_more r last (q ∷ h) p g l = (g.0, goes_more (stepped r q) last h p g.1 l)
+
+-- what was pushed is taken back
+pub taken_back : (old new now : List ℕ) (p count : ℕ) → count ≡ length old → new ≡ old ++ p ∷ [] → now ≡ take count new → now ≡ old
+taken_back old new now p count c e t = t ∙ ap (λ (n : ℕ). take n new) c ∙ ap (λ (xs : List ℕ). take (length old) xs) e ∙ take-append_seam old (p ∷ [])
+
+-- what has been done by now in a close: the turns since it began
+pub record HasTaken (first : Running) (before : List ℕ) (now : Running) (after : List ℕ) : Type 0 where
+  pub rest : List ℕ
+  pub grew : after ≡ before ++ rest
+  pub goes : GoesLowest first rest now
+
+pub none_taken : (r : Running) (h : List ℕ) → HasTaken r h r h
+none_taken r h = record { rest = []; grew = sym (append-nil h); goes = refl }
+
+pub one_taken : (first now next : Running) (before after then : List ℕ) (p : ℕ) → HasTaken first before now after → IsLowest now p → next ≡ stepped now p → then ≡ after ++ p ∷ [] → HasTaken first before next then
+one_taken first now next before after then p t l e f = record {
+  rest = t.rest ++ p ∷ [];
+  grew = f ∙ ap (λ (xs : List ℕ). xs ++ p ∷ []) t.grew ∙ append_assoc before t.rest (p ∷ []);
+  goes = subst (λ (x : Running). GoesLowest first (t.rest ++ p ∷ []) x) (sym e) (goes_more first now t.rest p t.goes l);
+}
+
+-- where nobody could take a step, none was taken
+pub none_left : (first now : Running) (before after : List ℕ) → HasTaken first before now after → IsOver first.program first.plan first.world → after ≡ before
+none_left first now before after t over = nothing t.rest t.grew t.goes where
+  nothing : (rest : List ℕ) → after ≡ before ++ rest → GoesLowest first rest now → after ≡ before
+  nothing [] e g = e ∙ append-nil before
+  nothing (p ∷ rest) e g = absurd (let can = g.0.can in let none = over.nobody p in cc)

@@ -1,0 +1,50 @@
+ghost use Rattle.std.specs.Prelude.{◌≡◌, [], IfOk};
+ghost use Rattle.ppd_world.specs.Running.{IsOf, IsReached};
+
+use crate::job::Job;
+use crate::kept::Kept;
+use crate::turn::{Ran, Turn};
+use ppd_ast::Memory;
+use ppd_world::World;
+use std::alloc::Global;
+use std::sync::{Mutex, Wait};
+
+/// A world with its schedule, under a lock.
+pub struct Book<'a, J: Job> {
+    kept: Mutex<Kept<'a, J>>,
+}
+
+impl<'a, J: Job> Book<'a, J> {
+    ghost use Rattle.ppd_book.specs.Turns.{IsOfProcess, KeepsBudget, RanToEnd};
+
+    /// A world before its first step, under a lock that is free. Its program, plan and budget are those
+    /// that `J` names.
+    pub fn new(alloc: Global, world: World<'a>) -> Book<'a, J>
+        requires program { world.program ≡ J.program }
+        requires plan { world.plan ≡ J.plan }
+        requires budget { world.budget ≡ J.budget }
+        requires first { IsOf [] world }
+        requires reached { IsReached world }
+    {
+        Book {
+            kept: Mutex::new(Kept::new(alloc, world)),
+        }
+    }
+
+    /// One turn of this worker, under the lock: `Kept::turn`. `Memory` is want of memory.
+    pub fn turn<R: Wait>(&self, rt: &R, worker: u8) -> Result<Turn, Memory>
+        ensures { IfOk result (IsOfProcess J.program) }
+    {
+        self.kept.lock(rt).turn(worker)
+    }
+
+    /// Takes the turns that are left, lowest process first, and hands out the schedule with its closed
+    /// state: `Kept::close`. `Memory` is want of memory: the book is gone.
+    pub fn close(self) -> Result<Ran, Memory>
+        ensures end { IfOk result (RanToEnd J.program J.plan J.budget) }
+        ensures bounded { IfOk result (λ ran. KeepsBudget J.program J.budget ran.schedule) }
+    {
+        let Book { kept } = self;
+        kept.into_inner().close()
+    }
+}

@@ -1,0 +1,122 @@
+ghost use Rattle.std.specs.Prelude.{◌≡◌, ◌++◌, ◌∷◌, [], true, IfNone, IfOk, IfSome, OnErr, OnOk};
+ghost use Rattle.ppd_model.specs.Schedule.{IsOver};
+ghost use Rattle.ppd_world.specs.Running.{IsHeld, IsLowest, IsOf, IsReached, can_step, stepped};
+
+use crate::job::Job;
+use crate::turn::{Ran, Turn};
+use ppd_ast::{Bytes, Memory};
+use ppd_model::schedules_are_bounded;
+use ppd_world::World;
+use std::alloc::Global;
+use std::marker::{Model, PhantomData};
+
+/// What lies under the lock: a world of the run that `J` names, and the schedule that led to it: the
+/// numbers of the processes that were stepped. The world and its logs are always those of this schedule.
+#[derive(Drop)]
+pub struct Kept<'a, J: Job> {
+    pub world: World<'a>,
+    pub schedule: Bytes,
+    of: PhantomData<J>,
+}
+
+impl<'a, J: Job> Model for Kept<'a, J> {
+    ghost use Rattle.ppd_book.specs.Held.{Held};
+    ghost use Rattle.ppd_world.specs.Running.{IsHeld};
+
+    ghost Value = { Held };
+
+    ghost view = { λ k. record { world = k.world; schedule = k.schedule } };
+
+    ghost invariant = { λ k. IsHeld J.program J.plan J.budget k.world k.schedule };
+}
+
+impl<'a, J: Job> Kept<'a, J> {
+    ghost use Rattle.ppd_book.specs.Turns.{ClosesFrom, IsOfProcess, IsTurn, KeepsBudget};
+
+    /// A world before its first step, with the empty schedule. Its program, plan and budget are those
+    /// that `J` names.
+    pub fn new(alloc: Global, world: World<'a>) -> Kept<'a, J>
+        requires program { world.program ≡ J.program }
+        requires plan { world.plan ≡ J.plan }
+        requires budget { world.budget ≡ J.budget }
+        requires first { IsOf [] world }
+        requires reached { IsReached world }
+        ensures schedule { result.schedule ≡ [] }
+        ensures world { result.world ≡ world.entry }
+    {
+        Kept {
+            world,
+            schedule: Bytes::new(alloc),
+            of: PhantomData,
+        }
+    }
+
+    /// The lowest process that can take a step.
+    fn lowest(&self) -> Option<u8>
+        ensures some { IfSome result (IsLowest self.now.world) }
+        ensures none { IfNone result (IsOver self.now.world.program self.now.world.plan self.now.world.world) }
+        ensures held { IsHeld J.program J.plan J.budget self.now.world self.now.schedule }
+    {
+        self.world.lowest()
+    }
+
+    /// Takes the step of process `p`, which can take one, and writes its number down. `Memory` is want
+    /// of memory: nothing changes.
+    fn take(&mut self, p: u8) -> Result<(), Memory>
+        requires { can_step self.old.world p ≡ true }
+        ensures world { OnOk result (self.new.world ≡ stepped self.old.world p) }
+        ensures schedule { OnOk result (self.new.schedule ≡ self.old.schedule ++ p ∷ []) }
+        ensures same { OnErr result (self.new ≡ self.old) }
+        ensures held { IsHeld J.program J.plan J.budget self.new.world self.new.schedule }
+    {
+        let count = self.schedule.len();
+        self.schedule.push(p)?;
+        match self.world.step(p) {
+            Ok(()) => Ok(()),
+            Err(_) => {
+                self.schedule.truncate(count);
+                Err(Memory)
+            }
+        }
+    }
+
+    /// Steps the worker's process where that can take a step, else the lowest process that can.
+    /// `Memory` is want of memory: nothing changes.
+    pub fn turn(&mut self, worker: u8) -> Result<Turn, Memory>
+        ensures turn { IfOk result (IsTurn self.old self.new worker) }
+        ensures process { IfOk result (IsOfProcess J.program) }
+        ensures same { OnErr result (self.new ≡ self.old) }
+    {
+        if self.world.enabled(worker) {
+            self.take(worker)?;
+            return Ok(Turn::Stepped(worker));
+        }
+        match self.lowest() {
+            Some(p) => {
+                self.take(p)?;
+                Ok(Turn::Stepped(p))
+            }
+            None => Ok(Turn::Over),
+        }
+    }
+
+    /// Takes the turns that are left, lowest process first, and hands out the schedule with its closed
+    /// state. Where nobody can take a step, none are left. `Memory` is want of memory: the value is gone.
+    pub fn close(mut self) -> Result<Ran, Memory>
+        ensures closes { IfOk result (ClosesFrom J.program J.plan J.budget self.entry) }
+        ensures bounded { IfOk result (λ ran. KeepsBudget J.program J.budget ran.schedule) }
+        ensures none_left { IfOk result (λ ran. IsOver self.entry.world.program self.entry.world.plan self.entry.world.world → ran.schedule ≡ self.entry.schedule) }
+    {
+        schedules_are_bounded();
+        while let Some(p) = self.lowest() {
+            self.take(p)?;
+        }
+        let Kept {
+            world,
+            schedule,
+            of: _,
+        } = self;
+        let closed = world.close()?;
+        Ok(Ran { schedule, closed })
+    }
+}

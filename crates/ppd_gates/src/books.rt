@@ -1,0 +1,118 @@
+// Turns by hand, without and with the lock.
+ghost use Rattle.std.specs.Prelude.{◌≡◌, ◌≤◌};
+ghost use Rattle.ppd_ast.specs.Valid.{IsValid};
+ghost use Rattle.ppd_ast.specs.ValidPlan.{IsValidPlan};
+ghost use Rattle.ppd_ast.specs.declared.limits.TheConstants.{MOST_BUDGET};
+
+use ppd_ast::{Memory, Plan, Policy, Program};
+use ppd_blocks::partition;
+use ppd_book::{Book, Job, Kept, Ran, Turn};
+use ppd_check::read_source;
+use ppd_world::World;
+use std::alloc::Global;
+use std::marker::Brand;
+use std::sync::Wait;
+use std::test::Fail;
+use std::thread;
+use std::thread::Threads;
+
+const SOURCE: &str = "sem s; process a { P(s); print(1); } process b { V(s); print(2); }";
+
+/// What these workers' turns do one after the other, and the run after them.
+fn keep<J: Job>(
+    alloc: Global,
+    program: &Program,
+    plan: &Plan,
+    budget: u32,
+    workers: &[u8],
+) -> Result<(Vec<Turn>, Ran), Memory>
+    requires program { IsValid program.now }
+    requires plan { IsValidPlan program.now plan.now }
+    requires budget { budget ≤ MOST_BUDGET }
+    requires of_program { program.now ≡ J.program }
+    requires of_plan { plan.now ≡ J.plan }
+    requires of_budget { budget ≡ J.budget }
+{
+    let world = World::new(alloc, program, plan, budget)?;
+    let mut kept: Kept<'_, J> = Kept::new(alloc, world);
+    let mut turns = Vec::new(alloc);
+    for worker in workers {
+        let turn = kept.turn(*worker)?;
+        if turns.push(turn).is_err() {
+            return Err(Memory);
+        }
+    }
+    let ran = kept.close()?;
+    Ok((turns, ran))
+}
+
+/// Two turns of a worker in a thread of its own, and the run after them.
+fn lend<J: Job + Send + Sync, R: Threads + Wait + Sync>(
+    rt: &R,
+    alloc: Global,
+    program: &Program,
+    plan: &Plan,
+    budget: u32,
+    worker: u8,
+) -> Result<Ran, Memory>
+    requires program { IsValid program.now }
+    requires plan { IsValidPlan program.now plan.now }
+    requires budget { budget ≤ MOST_BUDGET }
+    requires of_program { program.now ≡ J.program }
+    requires of_plan { plan.now ≡ J.plan }
+    requires of_budget { budget ≡ J.budget }
+{
+    let world = World::new(alloc, program, plan, budget)?;
+    let book: Book<'_, J> = Book::new(alloc, world);
+    take_two(rt, &book, worker);
+    book.close()
+}
+
+fn take_two<'x, 'a, J: Job + Send + Sync, R: Threads + Wait + Sync>(
+    rt: &'x R,
+    book: &'x Book<'a, J>,
+    worker: u8,
+) {
+    thread::scope(thread::scope_env(), rt, |scope| {
+        let started = scope.spawn(move || {
+            let _ = book.turn(rt, worker).is_err();
+            let _ = book.turn(rt, worker).is_err();
+        });
+        let _ = started.is_err();
+    });
+}
+
+// The worker's own process where that can take a step, else the lowest that can. Process a waits for b.
+#[test]
+fn turns_take_the_lowest(rt: HostRuntime) -> Result<(), Fail> {
+    let alloc = rt.alloc();
+    let program = read_source(alloc, SOURCE.as_bytes())?;
+    let plan = partition(alloc, &program, &Policy { leaf: 0, loops: 0 })?;
+    let workers = [0, 1, 0, 1, 9, 1, 0];
+    let (turns, ran) = keep::<Brand>(alloc, &program, &plan, 1_000, &workers)?;
+    let taken = [1, 1, 0, 1, 0, 0];
+    let [first @ .., last] = turns.as_slice() else {
+        panic!(rt; "seven turns");
+    };
+    assert_eq!(rt; *last, Turn::Over);
+    assert_eq!(rt; first.len(), taken.len());
+    for index in 0..taken.len() {
+        assert_eq!(rt; first[index], Turn::Stepped(taken[index]), "{index}");
+    }
+    assert_eq!(rt; ran.schedule.as_slice(), taken.as_slice());
+    let (turns, ran) = keep::<Brand>(alloc, &program, &plan, 1_000, &[])?;
+    assert_eq!(rt; turns.len(), 0);
+    assert_eq!(rt; ran.schedule.as_slice(), [1, 0, 0, 0, 1, 1].as_slice());
+    Ok(())
+}
+
+// A book that is lent to one thread, and closed by the caller.
+#[test]
+fn a_thread_takes_turns(rt: HostRuntime) -> Result<(), Fail> {
+    let alloc = rt.alloc();
+    let program = read_source(alloc, SOURCE.as_bytes())?;
+    let plan = partition(alloc, &program, &Policy { leaf: 0, loops: 0 })?;
+    let ran = lend::<Brand, HostRuntime>(&rt, alloc, &program, &plan, 1_000, 1)?;
+    assert_eq!(rt; ran.schedule.as_slice(), [1, 1, 0, 0, 0, 1].as_slice());
+    Ok(())
+}

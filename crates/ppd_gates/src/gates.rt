@@ -1,0 +1,105 @@
+// Workers beside each other: a gate holds them, so that one schedule is possible alone.
+
+use ppd_ast::Policy;
+use ppd_blocks::partition;
+use ppd_check::read_source;
+use ppd_io::{FreeGate, Gate, MemoryShelf, MemorySink, MemorySource};
+use ppd_run::run;
+use ppd_top::ppd;
+use std::sync::atomic::{AtomicU64, Ordering};
+use std::test::Fail;
+use std::thread;
+
+const SOURCE: &str = "process a { print(1); } process b { print(2); }";
+
+/// Holds worker 1 at its first pass until worker 0 has come to its first, and worker 0 there until worker 1
+/// has come to its fifth. Each waits for 1,000,000 yields at most.
+#[derive(Drop)]
+struct Held {
+    zero: AtomicU64,
+    one: AtomicU64,
+    gave_up: AtomicU64,
+}
+
+impl Held {
+    fn new() -> Held {
+        Held {
+            zero: AtomicU64::new(0),
+            one: AtomicU64::new(0),
+            gave_up: AtomicU64::new(0),
+        }
+    }
+
+    /// Waits until this worker has come to so many passes.
+    fn wait_for(&self, passes: &AtomicU64, least: u64) {
+        for _ in 0..1_000_000 {
+            if passes.load(Ordering::SeqCst) >= least {
+                return;
+            }
+            thread::yield_now();
+        }
+        self.gave_up.store(1, Ordering::SeqCst);
+    }
+}
+
+impl Gate for Held {
+    fn pass(&self, worker: u8, turn: u32) {
+        let own = if worker == 0 { &self.zero } else { &self.one };
+        own.store(u64::from(turn) + 1, Ordering::SeqCst);
+        if turn == 0 && worker == 0 {
+            self.wait_for(&self.one, 5);
+        } else if turn == 0 {
+            self.wait_for(&self.zero, 1);
+        }
+    }
+}
+
+// Worker 1 takes its own two steps and, with nothing left of its own, those of process 0, which is held:
+// all by the threads, since the caller waits for both. It is the schedule that the program answers.
+#[test]
+fn workers_run_beside_each_other(rt: HostRuntime) -> Result<(), Fail> {
+    let alloc = rt.alloc();
+    let mut shelf = MemoryShelf::new(alloc, Vec::new(alloc));
+    assert!(rt; shelf.put("row.c", SOURCE.as_bytes()).is_ok());
+    let mut input = MemorySource::new(Vec::new(alloc), 1, Vec::new(alloc));
+    let Ok(mut output) = MemorySink::new(alloc, 256, Vec::new(alloc)) else {
+        return Err(Fail::new("no room"));
+    };
+    let gate = Held::new();
+    let words = ["flow", "row.c"];
+    let outcome = ppd(
+        &rt,
+        alloc,
+        &words,
+        &mut shelf,
+        &mut input,
+        &mut output,
+        &gate,
+    );
+    assert_eq!(rt; gate.gave_up.load(Ordering::SeqCst), 0);
+    assert_eq!(rt; outcome.status, 0);
+    assert_eq!(rt; outcome.schedule.as_slice(), [1, 1, 0, 0].as_slice());
+    assert_eq!(rt;
+        output.bytes(),
+        b"process a ended steps 2\nprint a 1\nprocess b ended steps 2\nprint b 2\n".as_slice()
+    );
+    Ok(())
+}
+
+// A process alone has one schedule.
+#[test]
+fn a_free_worker_ends(rt: HostRuntime) -> Result<(), Fail> {
+    let alloc = rt.alloc();
+    let source = "shared int x; process a { x = 2; print(x + 3); }";
+    let program = read_source(alloc, source.as_bytes())?;
+    let plan = partition(alloc, &program, &Policy { leaf: 0, loops: 0 })?;
+    let ran = run(&rt, alloc, &program, &plan, 1_000, &FreeGate)?;
+    assert_eq!(rt; ran.schedule.as_slice(), [0, 0, 0, 0].as_slice());
+    let [end] = ran.closed.ends.as_slice() else {
+        panic!(rt; "one process");
+    };
+    assert_eq!(rt; end.steps, 4);
+    assert_eq!(rt; end.prints.as_slice(), [5].as_slice());
+    assert_eq!(rt; ran.closed.logs.lists.len(), 1);
+    Ok(())
+}

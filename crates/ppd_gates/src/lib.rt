@@ -1,0 +1,7 @@
+//! Tests of the book, of its workers, and of a gate that holds them.
+#![tactic(auto)]
+
+#[cfg(test)]
+mod books;
+#[cfg(test)]
+mod gates;

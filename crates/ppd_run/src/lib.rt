@@ -1,0 +1,6 @@
+//! Threads that run the processes of a program over one book.
+#![tactic(auto)]
+
+mod threads;
+
+pub use threads::run;
