@@ -6,3 +6,4 @@ pub mod Outcomes
 pub mod Printed
 pub mod Processes
 pub mod Worded
+pub mod Agreeing
