@@ -6,3 +6,4 @@ pub mod Outcomes
 pub mod Printed
 pub mod Threaded
 pub mod Worded
+pub mod Agreeing

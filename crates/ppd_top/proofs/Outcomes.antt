@@ -9,7 +9,8 @@ use Rattle.ppd_top.specs.declared.options.Options.{Options}
 use Rattle.ppd_top.specs.declared.words.Command.{Command}
 use Rattle.ppd_top.specs.declared.words.Request.{Request}
 use Rattle.ppd_top.specs.Words.{Asks}
-use Rattle.ppd_top.specs.Top.{most_bytes, Answers, Writes, Finished, RanWhole, WasShown, WasRefused, WriteFailed, MemoryRanOut, IsPromised}
+use Rattle.ppd_top.proofs.Agreeing.{of_agreeing}
+use Rattle.ppd_top.specs.Top.{most_bytes, summary_of_run, Answers, Writes, Finished, RanWhole, WasShown, WasRefused, WriteFailed, MemoryRanOut, IsPromised}
 use Rattle.ppd_top.specs.Top.Answers.{refusal, run, tables}
 use Rattle.ppd_top.specs.Top.Writes.{for_source}
 use Rattle.ppd_check.proofs.Excluded.{read_or_refused}
@@ -46,7 +47,7 @@ module _ (words : List (Bor (List ℕ))) (held : Option (List ℕ → Option (Li
   module _ (command : Command) (name : List ℕ) (options : Options) (bytes : List ℕ) (asked : Asks words command name options) (loads : Loads held name most_bytes bytes) where
     ran : (k : Command) (h : List ℕ) (status : ℕ) (text : List ℕ) → Asks words k name options → Answers bytes options k h status text → status ≡ 0 → Appends old new text → RanWhole words held h old new ⊎ WasShown words held h old new
     ran k h status text a (refusal _ error real cause) is w = absurd (omega (arith, is))
-    ran k h status text a (run program _ accepted whole) is w = inl (record { name = name; options = options; bytes = bytes; program = program; asked = a; loaded = loads; accepted = accepted; whole = whole; written = w })
+    ran k h status text a (run program _ accepted whole) is w = inl (record { name = name; options = options; bytes = bytes; program = program; asked = a; loaded = loads; accepted = accepted; whole = whole; written = w; agreeing = of_agreeing program options h (summary_of_run program options h) refl })
     ran k h status text a (tables program accepted) is w = inr (record { name = name; options = options; bytes = bytes; program = program; asked = a; loaded = loads; accepted = accepted; no_run = refl; written = w })
 
     refused : (k : Command) (h : List ℕ) (status : ℕ) (text : List ℕ) → Asks words k name options → Answers bytes options k h status text → status ≡ 1 → Appends old new text → WasRefused words held old new

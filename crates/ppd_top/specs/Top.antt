@@ -9,6 +9,8 @@ use Rattle.ppd_blocks.specs.Blocks.{plan_of as plan_by_policy}
 use Rattle.ppd_check.specs.declared.error.SourceError.{SourceError}
 use Rattle.ppd_check.specs.declared.error.SourceError.TheVariants as source
 use Rattle.ppd_check.specs.Read.{IsRead, IsRefused}
+use Rattle.ppd_model.specs.Agreement.{Agree}
+use Rattle.ppd_model.specs.Races.{races}
 use Rattle.ppd_model.specs.Schedule.{IsWhole, run as run_of}
 use Rattle.ppd_model.specs.World.{World, enabled}
 use Rattle.ppd_show.specs.Table.{table_of}
@@ -38,6 +40,11 @@ IsWholeRun program options schedule = IsWhole program (plan_of program options) 
 -- the summary of that run
 abbrev pub summary_of_run : Program → Options → List ℕ → List ℕ
 summary_of_run program options schedule = summary program (plan_of program options) options.budget schedule
+
+-- where this schedule has no race, each schedule that agrees with it has the text as its summary
+abbrev pub IsOfAgreeing : Program → Options → (schedule text : List ℕ) → Type 0
+IsOfAgreeing program options schedule text =
+    races program (plan_of program options) options.budget schedule ≡ [] → (h' : List ℕ) → Agree program (plan_of program options) options.budget schedule h' → text ≡ summary_of_run program options h'
 
 -- ---- what is written
 
@@ -72,6 +79,7 @@ pub record RanWhole (words : List (Bor (List ℕ))) (held : Option (List ℕ →
   pub accepted : IsRead bytes program
   pub whole : IsWholeRun program options schedule
   pub written : Appends old new (summary_of_run program options schedule)
+  pub agreeing : IsOfAgreeing program options schedule (summary_of_run program options schedule)
 
 -- status 0 of `show`: the tables of the loaded source's program and its plan were written, and nothing ran
 pub record WasShown (words : List (Bor (List ℕ))) (held : Option (List ℕ → Option (List ℕ))) (schedule : List ℕ) (old new : Option (List ℕ)) : Type 0 where
@@ -153,6 +161,7 @@ pub record Follows (bytes : List ℕ) (options : Options) (schedule : List ℕ) 
   pub accepted : IsRead bytes program
   pub whole : IsWholeRun program options schedule
   pub is : text ≡ summary_of_run program options schedule
+  pub agreeing : IsOfAgreeing program options schedule text
 
 -- number n of the schedule, the first such, names no process that can take a step
 pub record IsStuckAt (program : Program) (options : Options) (schedule : List ℕ) (n : ℕ) : Type 0 where

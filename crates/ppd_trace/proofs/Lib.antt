@@ -8,3 +8,4 @@ pub mod Counted
 pub mod Spent
 pub mod Told
 pub mod Traced
+pub mod Agreeing

@@ -6,7 +6,7 @@ ghost use Rattle.ppd_model.specs.FullTrace.{trace_of};
 ghost use Rattle.ppd_sem.specs.Runs.{IsNumbered, IsRunnable};
 ghost use Rattle.ppd_trace.specs.Leading.{HavePairs};
 ghost use Rattle.ppd_trace.specs.Spending.{extent, most_cells, steps_in};
-ghost use Rattle.ppd_trace.specs.Traced.{IsTraceOf, IsTraceable};
+ghost use Rattle.ppd_trace.specs.Traced.{IsTraceOf, IsTraceOfAgreeing, IsTraceable};
 
 use crate::pairs::{PairedStory, find_pairs};
 use crate::steps::trace_process;
@@ -144,7 +144,8 @@ pub fn full_trace(
     requires program { IsValid program.now }
     requires plan { IsValidPlan program.now plan.now }
     requires budget { budget ≤ MOST_BUDGET }
-    ensures { IsTraceOf program.now plan.now budget schedule.now result }
+    ensures trace { IsTraceOf program.now plan.now budget schedule.now result }
+    ensures agreeing { IsTraceOfAgreeing program.now plan.now budget schedule.now result }
 {
     full_trace_from::<Brand>(alloc, program, plan, budget, schedule, Blank::new(1))
 }
