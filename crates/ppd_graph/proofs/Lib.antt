@@ -1,0 +1,14 @@
+pub mod Timed
+pub mod Rows
+pub mod Order
+pub mod Waiting
+pub mod RowsOfRefusals
+pub mod Leads
+pub mod Once
+pub mod Turned
+pub mod Closing
+pub mod Walked
+pub mod Kept
+pub mod Partnered
+pub mod Built
+pub mod Searched

@@ -1,0 +1,8 @@
+use Rattle.std.proofs.Common.{◌≡◌, ℕ, get_or, length}
+use Rattle.ppd_graph.proofs.greatest.no_numbers.Given as goal
+
+abbrev pub invariant-loop-object : goal.invariant-loop-object
+invariant-loop-object l = record {
+  long : length l.numbers ≡ l._object;
+  none : (o : ℕ) → get_or l.numbers o 0 ≡ 0;
+}

@@ -1,0 +1,84 @@
+-- The synchronization that leads to one by their numbers, and where it stands.
+use Rattle.std.specs.Prelude.{◌≡◌, ℕ, zero, suc, ◌+◌, ◌-◌, nat_le, List, [], ◌∷◌, map, Option, Some, None, if◌then◌else◌}
+use Rattle.ppd_ast.specs.declared.program.Program.{Program}
+use Rattle.ppd_ast.specs.declared.status.SyncKind.{SyncKind}
+use Rattle.ppd_ast.specs.declared.status.SyncKind.TheVariants.{P, V, Send, Recv, Done}
+use Rattle.ppd_entry.specs.declared.entry.Logs.{Logs}
+use Rattle.ppd_model.specs.declared.graph.NodeId.{NodeId}
+use Rattle.ppd_model.specs.FullTrace.{or_else}
+use Rattle.ppd_model.specs.HappenedBefore.{node, sync_at}
+use Rattle.ppd_model.specs.Numbers.{sync}
+use Rattle.ppd_model.specs.Synchronizations.{Sync}
+use Rattle.ppd_sem.specs.Tables.{capacity_of}
+use Rattle.ppd_graph.specs.declared.paired.Paired.{Paired}
+use Rattle.ppd_graph.specs.declared.paired.Paired.TheVariants.{Nothing, Initial, Node}
+use Rattle.ppd_graph.specs.LogRecord.{record_in}
+use Rattle.ppd_graph.specs.Refusals.{placed, same_sync, twice_after}
+use Rattle.ppd_graph.specs.Times.{ArePartners}
+
+-- the one that leads to a synchronization by its number, by the capacity of its object: to a `P` the `V`, to
+-- a receive the send, to a send the receive that freed its place; of a channel of capacity 0, to a
+-- completion the receive, and to a send the completion before it
+abbrev pub wanted_by : ℕ → SyncKind → ℕ → ℕ → Option Sync
+wanted_by capacity P o k = Some (sync V o k)
+wanted_by capacity V o k = None
+wanted_by capacity Recv o k = Some (sync Send o k)
+wanted_by zero Done o k = Some (sync Recv o k)
+wanted_by (suc c) Done o k = None
+wanted_by zero Send o zero = None
+wanted_by zero Send o (suc k) = Some (sync Done o k)
+wanted_by (suc c) Send o k = if nat_le (suc c) k then Some (sync Recv o (k - suc c)) else None
+
+-- the synchronization that leads to this one, if one does
+abbrev pub wanted : Program → Sync → Option Sync
+wanted program s = wanted_by (capacity_of program s.object) s.kind s.object s.number
+
+-- the synchronization of this object, by a kind and a number
+abbrev pub named : ℕ → Option (SyncKind × ℕ) → Option Sync
+named o None = None
+named o (Some w) = Some (sync w.0 o w.1)
+
+abbrev pub listed : Option Sync → List Sync
+listed None = []
+listed (Some s) = s ∷ []
+
+-- where it stands among those of process p from number i on
+abbrev pub found_in_row : Sync → ℕ → ℕ → List Sync → Option NodeId
+found_in_row s p i [] = None
+found_in_row s p i (x ∷ xs) = if same_sync x s then Some (node p i) else found_in_row s p (i + 1) xs
+
+abbrev pub found_from : Sync → ℕ → List (List Sync) → Option NodeId
+found_from s p [] = None
+found_from s p (row ∷ rows) = or_else (found_in_row s p 0 row) (found_from s (p + 1) rows)
+
+-- where one that is wanted stands, if it is there
+abbrev pub found : List (List Sync) → Option Sync → Option NodeId
+found syncs None = None
+found syncs (Some s) = found_from s 0 syncs
+
+abbrev pub paired_by : SyncKind → Option NodeId → Paired
+paired_by kind (Some a) = Node a
+paired_by P None = Initial
+paired_by kind None = Nothing
+
+-- the partner of a synchronization
+abbrev pub partner_of : Program → List (List Sync) → Sync → Paired
+partner_of program syncs s = paired_by s.kind (found syncs (wanted program s))
+
+-- the partners of all
+abbrev pub pairs_of : Program → List (List Sync) → List (List Paired)
+pairs_of program syncs = map (map (partner_of program syncs)) syncs
+
+-- each synchronization stands once
+abbrev pub IsOnce : List (List Sync) → Type 0
+IsOnce syncs = (a b : NodeId) (s : Sync) → sync_at syncs a ≡ Some s → sync_at syncs b ≡ Some s → a ≡ b
+
+-- ---- law
+
+-- where each stands once, the partners found by numbers are those that lead to each
+abbrev pub PartnersAreFound : Type 0
+PartnersAreFound = (program : Program) (syncs : List (List Sync)) → IsOnce syncs → ArePartners program syncs (pairs_of program syncs)
+
+-- where no number stands twice, each synchronization stands once
+abbrev pub NoneTwiceMeansOnce : Type 0
+NoneTwiceMeansOnce = (program : Program) (logs : Logs) → twice_after program [] (placed logs) ≡ None → IsOnce (record_in logs)

@@ -1,0 +1,121 @@
+ghost use Rattle.std.specs.Prelude.{◌≡◌, ◌<◌, ◌≤◌, ◌+◌, ◌^◌, ℕ, [], length, get_or, IsTrue, IfOk, OnOk, IfErr};
+ghost use Rattle.ppd_graph.specs.ByNumber.{KeepsAll};
+ghost use Rattle.ppd_graph.specs.Graphs.{IsGraphOf};
+ghost use Rattle.ppd_graph.specs.LogRecord.{AreFew, record_in};
+ghost use Rattle.ppd_graph.specs.Partners.{pairs_of};
+ghost use Rattle.ppd_graph.specs.Refusals.{AreNumbered, AreOrdered, IsRefused, IsRefusedFor, has_object as has_object_in, placed as placed_in, without_object};
+
+use crate::by_number::keep_all;
+use crate::greatest::Greatest;
+use crate::missing::{Numbers, capacity_of};
+use crate::paired::Paired;
+use crate::partners::all_pairs;
+use crate::placed::{Placed, all_placed};
+use crate::refusal::BadSync;
+use crate::rounds::{cycle, first_stuck};
+use crate::sets::all_sets;
+use crate::sync_graph::SyncGraph;
+use crate::times::all_times;
+use ppd_ast::{Memory, Program, Seq, SyncKind};
+use ppd_entry::{At, Entry, Logs};
+use std::alloc::Global;
+
+// Whether the program has an object of this kind; only a channel of capacity 0 has completions.
+fn has_object(program: &Program, kind: SyncKind, object: u8) -> bool
+    ensures { result ≡ has_object_in program.now kind object }
+{
+    let place = object as usize;
+    match kind {
+        SyncKind::P | SyncKind::V => place < program.sems.len(),
+        SyncKind::Send | SyncKind::Recv => place < program.chans.len(),
+        SyncKind::Done => place < program.chans.len() && capacity_of(program, object) == 0,
+    }
+}
+
+// The place of the first synchronization without its object.
+fn first_without_object(program: &Program, placed: &[Placed]) -> Option<At>
+    ensures { result ≡ without_object program.now placed.now }
+{
+    for one in placed {
+        if !has_object(program, one.kind, one.object) {
+            return Some(one.at);
+        }
+    }
+    None
+}
+
+// The synchronizations by their numbers, or the first of the three tests on them that fails.
+fn number_all(alloc: Global, program: &Program, placed: &[Placed]) -> Result<Numbers, BadSync>
+    requires sems { length program.now.sems ≤ 256 }
+    requires chans { length program.now.chans ≤ 256 }
+    ensures kept { IfOk result (λ numbers. KeepsAll numbers.nodes placed.now) }
+    ensures passed { OnOk result (AreNumbered program.now placed.now) }
+    ensures refused { IfErr result (IsRefusedFor program.now placed.now) }
+{
+    if let Some(at) = first_without_object(program, placed) {
+        return Err(BadSync::NoObject(at));
+    }
+    let nodes = keep_all(alloc, program, placed)?;
+    let greatest = Greatest::among(alloc, placed)?;
+    let numbers = Numbers { nodes, greatest };
+    if let Some((kind, object, number)) = numbers.missing(program) {
+        return Err(BadSync::NumberMissing(kind, object, number));
+    }
+    Ok(numbers)
+}
+
+// What led to each synchronization of the logs.
+fn pair_all(alloc: Global, program: &Program, logs: &Logs) -> Result<Seq<Seq<Paired>>, BadSync>
+    requires sems { length program.now.sems ≤ 256 }
+    requires chans { length program.now.chans ≤ 256 }
+    requires processes { length logs.now.lists ≤ 256 }
+    requires few { AreFew logs.now.lists }
+    ensures pairs { IfOk result (λ pairs. pairs ≡ pairs_of program.now (record_in logs.now)) }
+    ensures passed { OnOk result (AreNumbered program.now (placed_in logs.now)) }
+    ensures refused { IfErr result (IsRefusedFor program.now (placed_in logs.now)) }
+{
+    let lists = logs.lists.as_slice();
+    let placed = all_placed(alloc, lists)?;
+    let numbers = number_all(alloc, program, placed.as_slice())?;
+    let pairs = all_pairs(alloc, program, &numbers.nodes, lists)?;
+    Ok(pairs)
+}
+
+// Whether the entries of each list have 32-bit numbers, and one is left.
+fn are_few(lists: &[Seq<Entry>]) -> bool
+    ensures { IsTrue result → AreFew lists.now }
+{
+    for list in lists {
+        if list.len() >= 0xffff_ffff {
+            return false;
+        }
+    }
+    true
+}
+
+/// The graph of the logs, or the first reason why they have none. `Memory` is want of memory, also for a log
+/// whose entries have no 32-bit numbers.
+pub fn graph(alloc: Global, program: &Program, logs: &Logs) -> Result<SyncGraph, BadSync>
+    requires sems { length program.now.sems ≤ 256 }
+    requires chans { length program.now.chans ≤ 256 }
+    requires processes { length logs.now.lists ≤ 256 }
+    ensures graph { IfOk result (IsGraphOf program.now logs.now) }
+    ensures passed { OnOk result (AreOrdered program.now logs.now) }
+    ensures refused { IfErr result (IsRefused program.now logs.now) }
+{
+    if !are_few(logs.lists.as_slice()) {
+        return Err(BadSync::Memory);
+    }
+    let pairs = pair_all(alloc, program, logs)?;
+    let times = all_times(alloc, pairs.as_slice())?;
+    if let Some(start) = first_stuck(pairs.as_slice(), times.as_slice()) {
+        let nodes = cycle(alloc, pairs.as_slice(), times.as_slice(), start)?;
+        return Err(BadSync::Cycle(nodes));
+    }
+    let edges = all_sets(alloc, logs.lists.as_slice())?;
+    Ok(SyncGraph {
+        edges,
+        times: Seq::from_vec(times),
+        pairs,
+    })
+}

@@ -1,0 +1,108 @@
+ghost use Rattle.std.specs.Prelude.{◌≡◌, ℕ, ◌∷◌, [], get_or, length, IfOk};
+ghost use Rattle.ppd_graph.specs.ByNumber.{AllGreatest, AreGreatest, greatest_kept};
+ghost use Rattle.ppd_graph.specs.Refusals.{greatest as greatest_among, numbers_of, same_kind as is_same_kind, sync_placed};
+
+use crate::placed::Placed;
+use ppd_ast::{Ids, Memory, SyncKind};
+use std::alloc::Global;
+
+/// The greatest numbers of the synchronizations of each kind, by object, for all 256 that an entry can name.
+#[derive(Drop)]
+pub(crate) struct Greatest {
+    takes: Ids,
+    gives: Ids,
+    sends: Ids,
+    receives: Ids,
+    completions: Ids,
+}
+
+fn same_kind(a: SyncKind, b: SyncKind) -> bool
+    ensures { result ≡ is_same_kind a b }
+{
+    matches!(
+        (a, b),
+        (SyncKind::P, SyncKind::P)
+            | (SyncKind::V, SyncKind::V)
+            | (SyncKind::Send, SyncKind::Send)
+            | (SyncKind::Recv, SyncKind::Recv)
+            | (SyncKind::Done, SyncKind::Done)
+    )
+}
+
+#[tactic(auto, using(crate::proofs::Searched::zero_more))]
+fn no_numbers(alloc: Global, count: usize) -> Result<Ids, Memory>
+    ensures long { IfOk result (λ numbers. length numbers ≡ count) }
+    ensures none { IfOk result (λ numbers. (o : ℕ) → get_or numbers o 0 ≡ 0) }
+{
+    let mut numbers = Ids::new(alloc);
+    for _object in 0..count {
+        numbers.push(0)?;
+    }
+    Ok(numbers)
+}
+
+// The number of a synchronization of this kind raises that of its object.
+fn raise(numbers: &mut Ids, kind: SyncKind, one: &Placed)
+    requires { length numbers.old ≡ 256 }
+    ensures long { length numbers.new ≡ 256 }
+    ensures raised { (o : ℕ) → get_or numbers.new o 0 ≡ greatest_among (get_or numbers.old o 0) (numbers_of kind o (sync_placed one.now ∷ [])) }
+{
+    if !same_kind(one.kind, kind) {
+        return;
+    }
+    let place = one.object as usize;
+    let number = numbers.as_slice()[place].max(one.number);
+    numbers.set(place, number);
+}
+
+// The greatest numbers of one kind.
+fn greatest_of(alloc: Global, placed: &[Placed], kind: SyncKind) -> Result<Ids, Memory>
+    ensures { IfOk result (AreGreatest kind placed.now) }
+{
+    let mut numbers = no_numbers(alloc, 256)?;
+    for one in placed {
+        raise(&mut numbers, kind, one);
+    }
+    Ok(numbers)
+}
+
+fn number_at(numbers: &Ids, object: u8) -> u32
+    ensures { result ≡ get_or numbers.now object 0 }
+{
+    match numbers.as_slice().get(object as usize) {
+        Some(number) => *number,
+        None => 0,
+    }
+}
+
+impl Greatest {
+    pub(crate) fn among(alloc: Global, placed: &[Placed]) -> Result<Greatest, Memory>
+        ensures { IfOk result (AllGreatest placed.now) }
+    {
+        let takes = greatest_of(alloc, placed, SyncKind::P)?;
+        let gives = greatest_of(alloc, placed, SyncKind::V)?;
+        let sends = greatest_of(alloc, placed, SyncKind::Send)?;
+        let receives = greatest_of(alloc, placed, SyncKind::Recv)?;
+        let completions = greatest_of(alloc, placed, SyncKind::Done)?;
+        Ok(Greatest {
+            takes,
+            gives,
+            sends,
+            receives,
+            completions,
+        })
+    }
+
+    /// The greatest number of this kind and object, 0 where there is none.
+    pub(crate) fn of(&self, kind: SyncKind, object: u8) -> u32
+        ensures { result ≡ greatest_kept self.now kind object }
+    {
+        match kind {
+            SyncKind::P => number_at(&self.takes, object),
+            SyncKind::V => number_at(&self.gives, object),
+            SyncKind::Send => number_at(&self.sends, object),
+            SyncKind::Recv => number_at(&self.receives, object),
+            SyncKind::Done => number_at(&self.completions, object),
+        }
+    }
+}

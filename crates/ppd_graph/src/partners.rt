@@ -1,0 +1,129 @@
+ghost use Rattle.std.specs.Prelude.{◌≡◌, ◌++◌, ◌∷◌, [], ℕ, None, IfOk, OnOk, filter_map, map};
+ghost use Rattle.ppd_graph.specs.ByNumber.{partner_kept};
+ghost use Rattle.ppd_graph.specs.LogRecord.{sync_in};
+ghost use Rattle.ppd_graph.specs.Partners.{listed, named, paired_by as paired_as, wanted_by};
+ghost use Rattle.ppd_model.specs.Numbers.{sync};
+
+use crate::by_number::ByNumber;
+use crate::missing::capacity_of;
+use crate::paired::Paired;
+use ppd_ast::{Memory, Program, Seq, SyncKind};
+use ppd_entry::Entry;
+use std::alloc::Global;
+
+/// The kind and the number of a synchronization of some object.
+type KindAndNumber = (SyncKind, u32);
+
+// What leads to a send: the receive that freed its place, or for capacity 0 the completion before it.
+fn wanted_by_send(capacity: u8, number: u32) -> Option<KindAndNumber>
+    ensures { (object : ℕ) → named object result ≡ wanted_by capacity SyncKind.Send object number }
+{
+    if capacity == 0 {
+        if number == 0 {
+            return None;
+        }
+        return Some((SyncKind::Done, number - 1));
+    }
+    let capacity = u32::from(capacity);
+    if capacity <= number {
+        return Some((SyncKind::Recv, number - capacity));
+    }
+    None
+}
+
+// What leads to a completion.
+fn wanted_by_done(capacity: u8, number: u32) -> Option<KindAndNumber>
+    ensures { (object : ℕ) → named object result ≡ wanted_by capacity SyncKind.Done object number }
+{
+    if capacity == 0 {
+        return Some((SyncKind::Recv, number));
+    }
+    None
+}
+
+// What leads to a synchronization by its number, of one object with this capacity.
+fn wanted(capacity: u8, kind: SyncKind, number: u32) -> Option<KindAndNumber>
+    ensures { (object : ℕ) → named object result ≡ wanted_by capacity kind object number }
+{
+    match kind {
+        SyncKind::P => Some((SyncKind::V, number)),
+        SyncKind::V => None,
+        SyncKind::Recv => Some((SyncKind::Send, number)),
+        SyncKind::Done => wanted_by_done(capacity, number),
+        SyncKind::Send => wanted_by_send(capacity, number),
+    }
+}
+
+// Where none leads to it.
+fn unpaired(kind: SyncKind) -> Paired
+    ensures { result ≡ paired_as kind None }
+{
+    match kind {
+        SyncKind::P => Paired::Initial,
+        _ => Paired::Nothing,
+    }
+}
+
+// What led to a synchronization.
+fn partner(program: &Program, nodes: &ByNumber, kind: SyncKind, object: u8, number: u32) -> Paired
+    ensures { result ≡ partner_kept program.now nodes.now (sync kind object number) }
+{
+    let Some((other, of)) = wanted(capacity_of(program, object), kind, number) else {
+        return unpaired(kind);
+    };
+    match nodes.find(other, object, of) {
+        Some(node) => Paired::Node(node),
+        None => unpaired(kind),
+    }
+}
+
+fn take_entry(
+    program: &Program,
+    nodes: &ByNumber,
+    pairs: &mut Seq<Paired>,
+    entry: &Entry,
+) -> Result<(), Memory>
+    ensures { OnOk result (pairs.new ≡ pairs.old ++ map (partner_kept program.now nodes.now) (listed (sync_in entry.now))) }
+{
+    match entry {
+        Entry::Sync {
+            kind,
+            object,
+            number,
+            ..
+        } => pairs.push(partner(program, nodes, *kind, *object, *number)),
+        _ => Ok(()),
+    }
+}
+
+fn own_pairs(
+    alloc: Global,
+    program: &Program,
+    nodes: &ByNumber,
+    entries: &[Entry],
+) -> Result<Seq<Paired>, Memory>
+    ensures { IfOk result (λ pairs. pairs ≡ map (partner_kept program.now nodes.now) (filter_map sync_in entries.now)) }
+{
+    let mut pairs = Seq::new(alloc);
+    for entry in entries {
+        take_entry(program, nodes, &mut pairs, entry)?;
+    }
+    Ok(pairs)
+}
+
+/// What led to each synchronization, a list for each process.
+pub(crate) fn all_pairs(
+    alloc: Global,
+    program: &Program,
+    nodes: &ByNumber,
+    lists: &[Seq<Entry>],
+) -> Result<Seq<Seq<Paired>>, Memory>
+    ensures { IfOk result (λ all. all ≡ map (map (partner_kept program.now nodes.now)) (map (filter_map sync_in) lists.now)) }
+{
+    let mut all = Seq::new(alloc);
+    for list in lists {
+        let pairs = own_pairs(alloc, program, nodes, list.as_slice())?;
+        all.push(pairs)?;
+    }
+    Ok(all)
+}

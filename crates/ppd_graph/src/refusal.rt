@@ -1,0 +1,29 @@
+use ppd_ast::{Memory, Seq, SyncKind};
+use ppd_entry::At;
+use ppd_model::NodeId;
+
+/// Why logs have no graph.
+#[derive(Drop)]
+pub enum BadSync {
+    /// The number of this synchronization stood before, or is one that a semaphore has from the start.
+    NumberTwice(At),
+    /// The synchronization of this kind, object and number is missing.
+    NumberMissing(SyncKind, u8, u32),
+    /// Synchronizations each of which leads to the next, and the last to the first.
+    Cycle(Seq<NodeId>),
+    /// This synchronization's object is no semaphore or channel of its kind.
+    NoObject(At),
+    /// Want of memory.
+    Memory,
+}
+
+impl From<Memory> for BadSync {
+    ghost use Rattle.std.specs.Prelude.{◌≡◌};
+    ghost use Rattle.ppd_graph.specs.declared.refusal.BadSync.TheVariants as bad;
+
+    ghost from_gives = { λ _ e. e ≡ bad.Memory };
+
+    fn from(_memory: Memory) -> BadSync {
+        BadSync::Memory
+    }
+}

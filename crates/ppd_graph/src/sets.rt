@@ -1,0 +1,106 @@
+ghost use Rattle.std.specs.Prelude.{◌≡◌, ◌++◌, ◌∷◌, [], None, IfOk, map, unwrap_or};
+ghost use Rattle.ppd_graph.specs.LogRecord.{edge_sets, ended_by, found_after, no_sets, sets_from};
+
+use ppd_ast::{Cells, Memory, Seq};
+use ppd_entry::Entry;
+use std::alloc::Global;
+
+/// The shared cells that an internal edge accesses, rising.
+#[derive(Drop)]
+pub struct EdgeSets {
+    pub reads: Cells,
+    pub writes: Cells,
+}
+
+fn copy_of(alloc: Global, cells: &[u16]) -> Result<Cells, Memory>
+    ensures { IfOk result (λ copy. copy ≡ cells.now) }
+{
+    match Vec::from_slice(alloc, cells) {
+        Ok(items) => Ok(Cells::from_vec(items)),
+        Err(_) => Err(Memory),
+    }
+}
+
+fn copy_sets(alloc: Global, reads: &Cells, writes: &Cells) -> Result<EdgeSets, Memory>
+    ensures { IfOk result (λ sets. sets ≡ edge_sets reads.now writes.now) }
+{
+    let reads = copy_of(alloc, reads.as_slice())?;
+    let writes = copy_of(alloc, writes.as_slice())?;
+    Ok(EdgeSets { reads, writes })
+}
+
+// The sets found before, or else these.
+fn first_of(
+    alloc: Global,
+    found: Option<EdgeSets>,
+    reads: &Cells,
+    writes: &Cells,
+) -> Result<EdgeSets, Memory>
+    ensures { IfOk result (λ sets. sets ≡ unwrap_or found (edge_sets reads.now writes.now)) }
+{
+    match found {
+        Some(sets) => Ok(sets),
+        None => copy_sets(alloc, reads, writes),
+    }
+}
+
+// Adds the edge that an entry ends, if it ends one. The answer is what is found of the next edge.
+fn take_entry(
+    alloc: Global,
+    edges: &mut Seq<EdgeSets>,
+    found: Option<EdgeSets>,
+    entry: &Entry,
+) -> Result<Option<EdgeSets>, Memory>
+    ensures edges { IfOk result (λ now. edges.new ≡ edges.old ++ ended_by entry.now) }
+    ensures found { IfOk result (λ now. now ≡ found_after found entry.now) }
+{
+    match entry {
+        Entry::Sync { reads, writes, .. } => {
+            let sets = copy_sets(alloc, reads, writes)?;
+            edges.push(sets)?;
+            Ok(None)
+        }
+        Entry::End { reads, writes, .. } => {
+            let sets = first_of(alloc, found, reads, writes)?;
+            Ok(Some(sets))
+        }
+        _ => Ok(found),
+    }
+}
+
+fn or_none(alloc: Global, found: Option<EdgeSets>) -> EdgeSets
+    ensures { result ≡ unwrap_or found no_sets }
+{
+    match found {
+        Some(sets) => sets,
+        None => EdgeSets {
+            reads: Cells::new(alloc),
+            writes: Cells::new(alloc),
+        },
+    }
+}
+
+// The sets of each edge of a process.
+fn own_sets(alloc: Global, entries: &[Entry]) -> Result<Seq<EdgeSets>, Memory>
+    ensures { IfOk result (λ edges. edges ≡ sets_from None entries.now) }
+{
+    let mut edges = Seq::new(alloc);
+    let mut found = None;
+    for entry in entries {
+        found = take_entry(alloc, &mut edges, found, entry)?;
+    }
+    edges.push(or_none(alloc, found))?;
+    Ok(edges)
+}
+
+/// The sets of each edge of each process.
+pub(crate) fn all_sets(alloc: Global, lists: &[Seq<Entry>]) -> Result<Seq<Seq<EdgeSets>>, Memory>
+    ensures { IfOk result (λ all. all ≡ map (sets_from None) lists.now) }
+{
+    let mut all = Seq::new(alloc);
+    for list in lists {
+        let edges = own_sets(alloc, list.as_slice())?;
+        all.push(edges)?;
+    }
+    Ok(all)
+}
