@@ -19,7 +19,8 @@ use Rattle.ppd_graph.specs.declared.sync_graph.SyncGraph.{SyncGraph}
 use Rattle.ppd_graph.specs.ByNumber.{IsTwice}
 use Rattle.ppd_graph.specs.Cycles.{AllWait, IsCycle, IsRoundsCycle}
 use Rattle.ppd_graph.specs.Graphs.{IsGraphOf}
-use Rattle.ppd_graph.specs.LogRecord.{AreFew, ended_by, found_after, record_in, sets_from, sets_in, sync_in}
+use Rattle.ppd_model.specs.RecordedSets.{record_in, sync_in}
+use Rattle.ppd_graph.specs.LogRecord.{AreFew, ended_by, found_after, sets_from, sets_in}
 use Rattle.ppd_graph.specs.Partners.{pairs_of, partner_of}
 use Rattle.ppd_graph.specs.Refusals.{AreNumbered, AreOrdered, IsRefused, IsRefusedFor, placed, without_object}
 use Rattle.ppd_graph.specs.Times.{ArePartners, AreTimed, HasAll, IsReady, own_pairs, own_times}

@@ -6,7 +6,8 @@ use Rattle.ppd_model.specs.declared.graph.EdgeId.{EdgeId}
 use Rattle.ppd_model.specs.HappenedBefore.{Before, EdgeBefore, node, own_syncs}
 use Rattle.ppd_graph.specs.declared.sync_graph.SyncGraph.{SyncGraph}
 use Rattle.ppd_graph.specs.declared.sets.EdgeSets.{EdgeSets}
-use Rattle.ppd_graph.specs.LogRecord.{no_sets, record_in, sets_in}
+use Rattle.ppd_model.specs.RecordedSets.{record_in}
+use Rattle.ppd_graph.specs.LogRecord.{no_sets, sets_in}
 use Rattle.ppd_model.specs.declared.graph.NodeId.{NodeId}
 use Rattle.ppd_model.specs.Synchronizations.{Sync}
 use Rattle.ppd_graph.specs.declared.paired.Paired.{Paired}

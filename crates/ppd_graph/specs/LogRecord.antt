@@ -1,20 +1,9 @@
--- The synchronizations that logs tell, and the cells that they say each internal edge accesses.
-use Rattle.std.specs.Prelude.{ℕ, ◌+◌, ◌<◌, ◌^◌, get_or, length, List, [], ◌∷◌, ◌++◌, map, filter_map, unwrap_or, Option, Some, None}
+-- The cells that logs say each internal edge accesses.
+use Rattle.std.specs.Prelude.{ℕ, ◌+◌, ◌<◌, ◌^◌, get_or, length, List, [], ◌∷◌, ◌++◌, map, unwrap_or, Option, Some, None}
 use Rattle.ppd_entry.specs.declared.entry.Entry.{Entry}
 use Rattle.ppd_entry.specs.declared.entry.Entry.TheVariants as entry
 use Rattle.ppd_entry.specs.declared.entry.Logs.{Logs}
-use Rattle.ppd_model.specs.Numbers.{sync}
-use Rattle.ppd_model.specs.Synchronizations.{Sync}
 use Rattle.ppd_graph.specs.declared.sets.EdgeSets.{EdgeSets}
-
--- the synchronization that an entry is, if it is one
-abbrev pub sync_in : Entry → Option Sync
-sync_in (entry.Sync kind object number value reads writes) = Some (sync kind object number)
-sync_in e = None
-
--- the synchronizations of each process in order
-abbrev pub record_in : Logs → List (List Sync)
-record_in logs = map (filter_map sync_in) logs.lists
 
 -- ---- recorded sets
 

@@ -12,7 +12,7 @@ use Rattle.ppd_model.specs.Synchronizations.{Sync}
 use Rattle.ppd_sem.specs.Tables.{capacity_of}
 use Rattle.ppd_graph.specs.declared.paired.Paired.{Paired}
 use Rattle.ppd_graph.specs.declared.paired.Paired.TheVariants.{Nothing, Initial, Node}
-use Rattle.ppd_graph.specs.LogRecord.{record_in}
+use Rattle.ppd_model.specs.RecordedSets.{record_in}
 use Rattle.ppd_graph.specs.Refusals.{placed, same_sync, twice_after}
 use Rattle.ppd_graph.specs.Times.{ArePartners}
 

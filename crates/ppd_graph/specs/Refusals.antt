@@ -19,7 +19,7 @@ use Rattle.ppd_graph.specs.declared.placed.Placed.{Placed}
 use Rattle.ppd_graph.specs.declared.refusal.BadSync.{BadSync}
 use Rattle.ppd_graph.specs.declared.refusal.BadSync.TheVariants.{NumberTwice, NumberMissing, Cycle, NoObject, Memory}
 use Rattle.ppd_graph.specs.Cycles.{IsCycle}
-use Rattle.ppd_graph.specs.LogRecord.{record_in, sync_in}
+use Rattle.ppd_model.specs.RecordedSets.{record_in, sync_in}
 
 -- ---- the synchronizations with their places
 

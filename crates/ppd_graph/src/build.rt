@@ -1,7 +1,8 @@
 ghost use Rattle.std.specs.Prelude.{◌≡◌, ◌<◌, ◌≤◌, ◌+◌, ◌^◌, ℕ, [], length, get_or, IsTrue, IfOk, OnOk, IfErr};
 ghost use Rattle.ppd_graph.specs.ByNumber.{KeepsAll};
 ghost use Rattle.ppd_graph.specs.Graphs.{IsGraphOf};
-ghost use Rattle.ppd_graph.specs.LogRecord.{AreFew, record_in};
+ghost use Rattle.ppd_model.specs.RecordedSets.{record_in};
+ghost use Rattle.ppd_graph.specs.LogRecord.{AreFew};
 ghost use Rattle.ppd_graph.specs.Partners.{pairs_of};
 ghost use Rattle.ppd_graph.specs.Refusals.{AreNumbered, AreOrdered, IsRefused, IsRefusedFor, has_object as has_object_in, placed as placed_in, without_object};
 

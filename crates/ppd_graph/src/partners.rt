@@ -1,6 +1,6 @@
 ghost use Rattle.std.specs.Prelude.{◌≡◌, ◌++◌, ◌∷◌, [], ℕ, None, IfOk, OnOk, filter_map, map};
 ghost use Rattle.ppd_graph.specs.ByNumber.{partner_kept};
-ghost use Rattle.ppd_graph.specs.LogRecord.{sync_in};
+ghost use Rattle.ppd_model.specs.RecordedSets.{sync_in};
 ghost use Rattle.ppd_graph.specs.Partners.{listed, named, paired_by as paired_as, wanted_by};
 ghost use Rattle.ppd_model.specs.Numbers.{sync};
 

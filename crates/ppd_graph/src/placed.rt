@@ -1,6 +1,6 @@
 ghost use Rattle.std.specs.Prelude.{◌≡◌, ◌<◌, ◌≤◌, ◌+◌, ◌^◌, ◌++◌, ℕ, [], length, get_or, IfOk, OnOk};
 ghost use Rattle.ppd_graph.specs.LogRecord.{AreFew};
-ghost use Rattle.ppd_graph.specs.LogRecord.{sync_in};
+ghost use Rattle.ppd_model.specs.RecordedSets.{sync_in};
 ghost use Rattle.ppd_graph.specs.Refusals.{count_on, place, placed_from, placed_lists};
 
 use ppd_ast::{Memory, Seq, SyncKind};

@@ -1,6 +1,6 @@
 use Rattle.std.proofs.Common.{ap, sym, subst, ◌∙◌, filter_map, map}
 use Rattle.ppd_graph.specs.ByNumber.{KeepsAll, partner_kept}
-use Rattle.ppd_graph.specs.LogRecord.{sync_in}
+use Rattle.ppd_model.specs.RecordedSets.{sync_in}
 use Rattle.ppd_graph.specs.Refusals.{placed_lists}
 use Rattle.ppd_graph.proofs.Partnered.{pairs_same}
 use Rattle.ppd_graph.proofs.build.pair_all.Goals as goal

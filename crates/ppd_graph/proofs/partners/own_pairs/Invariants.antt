@@ -1,6 +1,6 @@
 use Rattle.std.proofs.Common.{◌≡◌, ◌++◌, drop, filter_map, map}
 use Rattle.ppd_graph.specs.ByNumber.{partner_kept}
-use Rattle.ppd_graph.specs.LogRecord.{sync_in}
+use Rattle.ppd_model.specs.RecordedSets.{sync_in}
 use Rattle.ppd_graph.proofs.partners.own_pairs.Given as goal
 
 abbrev pub invariant-loop-entry : goal.invariant-loop-entry
