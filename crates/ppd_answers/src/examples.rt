@@ -16,6 +16,9 @@ const COMMENTS: &str =
 const RECURSION: &str =
     "int factorial(int n) {\n  int rest = 1;\n  if (n > 1) {\n    rest = factorial(n - 1);\n  }\n  return n * rest;\n}\n\nprocess main {\n  int value = factorial(20);\n  print(value);\n  value = factorial(21);\n  print(value);\n}\n";
 
+const RENDEZVOUS: &str =
+    "// A channel without a place: the sender goes on only when its number was received.\nshared int x;\nchan c[0];\n\nprocess a {\n  send(c, 7);\n  x = 2;\n}\n\nprocess b {\n  int v;\n  print(x);\n  v = recv(c);\n  print(v);\n}\n";
+
 const PING_PONG: &str =
     "// Two processes hand a number to and fro, each time one larger.\nchan ping[1], pong[1];\n\nprocess left {\n  int ball = 0;\n  while (ball < 6) {\n    send(ping, ball + 1);\n    ball = recv(pong);\n  }\n  print(ball);\n}\n\nprocess right {\n  int ball = 0;\n  while (ball < 5) {\n    ball = recv(ping);\n    send(pong, ball + 1);\n  }\n  print(ball);\n}\n";
 
@@ -40,6 +43,10 @@ fn examples_give_their_summaries(rt: HostRuntime) -> Result<(), Fail> {
         (
             RECURSION,
             "process main trap overflow 6:3 steps 165\nprint main 2432902008176640000\nraces 0\n",
+        ),
+        (
+            RENDEZVOUS,
+            "process a ended steps 4\nprocess b ended steps 6\nprint b 0\nprint b 7\n",
         ),
         (
             PING_PONG,
@@ -80,7 +87,7 @@ fn a_budget_ends_an_example(rt: HostRuntime) -> Result<(), Fail> {
 #[test]
 fn other_schedules_end_alike(rt: HostRuntime) -> Result<(), Fail> {
     let alloc = rt.alloc();
-    for source in [PING_PONG, BOUNDED_BUFFER] {
+    for source in [RENDEZVOUS, PING_PONG, BOUNDED_BUFFER] {
         let trial = flow(&rt, alloc, source.as_bytes())?;
         let Some(highest) = highest_first(alloc, source, 2_000) else {
             return Err(Fail::new("no schedule"));
