@@ -4,6 +4,5 @@ pub mod Comes
 pub mod Followed
 pub mod Outcomes
 pub mod Printed
-pub mod Threaded
 pub mod Worded
 pub mod Agreeing
