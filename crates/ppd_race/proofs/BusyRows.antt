@@ -1,0 +1,172 @@
+-- The busy edges of processes.
+use Rattle.std.proofs.Common.{◌≡◌, ℕ, zero, suc, ◌+◌, ◌<◌, ◌≤◌, List, [], ◌∷◌, ◌++◌, Bool, true, false, cond, not, refl, ap, sym, subst, ◌∙◌, arith, length, drop, map, get_or, inl, inr, ◌&&◌, ◌||◌, eq-eqb, ne_eqb}
+use Rattle.std.specs.Prelude.{IsTrue, nat_eq, if◌then◌else◌}
+use Rattle.std.specs.List.{filter, range_with_len}
+use Rattle.std.proofs.lemmas.Bool.{cases_eq}
+use Rattle.std.proofs.lemmas.List.{drop_more}
+use Rattle.ppd_bits.specs.CellSets.{RisesFrom, has, those}
+use Rattle.ppd_model.specs.declared.graph.EdgeId.{EdgeId}
+use Rattle.ppd_model.specs.HappenedBefore.{edge}
+use Rattle.ppd_graph.specs.declared.sets.EdgeSets.{EdgeSets}
+use Rattle.ppd_graph.specs.declared.sync_graph.SyncGraph.{SyncGraph}
+use Rattle.ppd_graph.specs.LogRecord.{no_sets}
+use Rattle.ppd_graph.proofs.Timed.{at_end, at_front, length_more}
+use Rattle.ppd_race.specs.declared.busy.Busy.{Busy}
+use Rattle.ppd_race.specs.Busy.{AreBelow, AreBusyRows, EachBusyIn, IsAhead, IsBusyIn, IsBusyOf, IsBusyPart, IsBusyRow, IsLaterRow, Takes, is_busy, is_busy_in, is_none, numbers}
+use Rattle.ppd_race.proofs.Adding.{at_any}
+
+-- ---- one edge
+
+pub none_len : (xs : List ℕ) → nat_eq (length xs) 0 ≡ is_none xs
+none_len [] = refl
+none_len (x ∷ xs) = ne_eqb (length (x ∷ xs)) 0 (λ e. absurd (omega (arith, e)))
+
+pub takes_none : (sets : EdgeSets) (old : List Busy) (name : EdgeId) (t : Bool) → t ≡ (is_none sets.reads && is_none sets.writes) → t ≡ true → Takes (is_busy sets) old old name sets
+takes_none sets old name t is idle = subst (λ b. Takes (not b) old old name sets) (sym (sym is ∙ idle)) refl
+
+pub takes_one : (sets : EdgeSets) (old new : List Busy) (name : EdgeId) (t : Bool) → t ≡ (is_none sets.reads && is_none sets.writes) → t ≡ false → (b : Busy) → new ≡ old ++ b ∷ [] → IsBusyOf name sets b → Takes (is_busy sets) old new name sets
+takes_one sets old new name t is busy b e h = subst (λ s. Takes (not s) old new name sets) (sym (sym is ∙ busy)) (b, e, h)
+
+-- ---- one more edge of a process
+
+range_more : (a n : ℕ) → range_with_len a (suc n) ≡ range_with_len a n ++ (a + n) ∷ []
+range_more a zero = let e : a ≡ a + zero = omega arith in ap (λ x. x ∷ []) e
+range_more a (suc n) =
+    let e : (a + 1) + n ≡ a + suc n = omega arith in
+    ap (λ xs. a ∷ xs) (range_more (a + 1) n ∙ ap (λ x. range_with_len (a + 1) n ++ x ∷ []) e)
+
+filter_last : (t : ℕ → Bool) (xs : List ℕ) (x : ℕ) → filter t (xs ++ x ∷ []) ≡ filter t xs ++ (if t x then x ∷ [] else [])
+filter_last t [] x = refl
+filter_last t (y ∷ xs) x = by (t y) (filter_last t xs x)
+  where
+    by : (b : Bool) → filter t (xs ++ x ∷ []) ≡ filter t xs ++ (if t x then x ∷ [] else []) → cond b (y ∷ filter t (xs ++ x ∷ [])) (filter t (xs ++ x ∷ [])) ≡ cond b (y ∷ filter t xs) (filter t xs) ++ (if t x then x ∷ [] else [])
+    by true h = ap (λ r. y ∷ r) h
+    by false h = h
+
+those_more : (t : ℕ → Bool) (n : ℕ) (b : Bool) → t n ≡ b → those (n + 1) t ≡ those n t ++ (if b then n ∷ [] else [])
+those_more t n b e =
+    let more : n + 1 ≡ suc n = omega arith in
+    let z : 0 + n ≡ n = omega arith in
+    ap (λ k. filter t (range_with_len 0 k)) more ∙ ap (filter t) (range_more 0 n ∙ ap (λ x. range_with_len 0 n ++ x ∷ []) z)
+    ∙ filter_last t (range_with_len 0 n) n ∙ ap (λ k. those n t ++ (if k then n ∷ [] else [])) e
+
+numbers_more : (row : List Busy) (b : Busy) → numbers (row ++ b ∷ []) ≡ numbers row ++ b.edge.edge ∷ []
+numbers_more [] b = refl
+numbers_more (x ∷ row) b = ap (λ r. x.edge.edge ∷ r) (numbers_more row b)
+
+append_none : (xs : List ℕ) → xs ++ [] ≡ xs
+append_none [] = refl
+append_none (x ∷ xs) = ap (λ r. x ∷ r) (append_none xs)
+
+each_more : (q : ℕ) (own : List EdgeSets) (row : List Busy) (b : Busy) → EachBusyIn q own row → IsBusyIn q own b → EachBusyIn q own (row ++ b ∷ [])
+each_more q own [] b h k = (k, tt)
+each_more q own (x ∷ row) b h k = (h.0, each_more q own row b h.1 k)
+
+busy_in : (q n : ℕ) (own : List EdgeSets) (b : Busy) → n < length own → IsBusyOf (edge q n) (get_or own n no_sets) b → IsBusyIn q own b
+busy_in q n own b lt h =
+    let number : n ≡ b.edge.edge = ap (λ (e : EdgeId). e.edge) (sym h.edge_is) in
+    let sets = ap (λ k. get_or own k no_sets) number in
+    record {
+      process = ap (λ (e : EdgeId). e.process) h.edge_is;
+      there = subst (λ k. k < length own) number lt;
+      busy = subst (λ s. IsBusyOf b.edge s b) sets (record { edge_is = refl; reads = h.reads; writes = h.writes; rises = h.rises; below = h.below; all = h.all });
+    }
+
+pub part_more : (q n : ℕ) (own : List EdgeSets) (row after : List Busy) (x : EdgeSets) → n < length own → x ≡ get_or own n x → Takes (is_busy x) row after (edge q n) x → IsBusyPart q own n row → IsBusyPart q own (n + 1) after
+part_more q n own row after x lt is takes part = by (is_busy x) refl takes
+  where
+    at : x ≡ get_or own n no_sets
+    at = is ∙ at_any own n x no_sets lt
+
+    by : (t : Bool) → is_busy x ≡ t → Takes t row after (edge q n) x → IsBusyPart q own (n + 1) after
+    by true e t =
+        let b = t.0 in
+        let grows = t.1 in
+        let busy = t.2 in
+        let number : b.edge.edge ≡ n = ap (λ (k : EdgeId). k.edge) busy.edge_is in
+        record {
+          each = subst (EachBusyIn q own) (sym grows) (each_more q own row b part.each (busy_in q n own b lt (subst (λ s. IsBusyOf (edge q n) s b) at busy)));
+          names = ap numbers grows ∙ numbers_more row b ∙ ap (λ k. numbers row ++ k ∷ []) number ∙ ap (λ ns. ns ++ n ∷ []) part.names ∙ sym (those_more (is_busy_in own) n true (ap is_busy (sym at) ∙ e));
+        }
+    by false e same = record {
+      each = subst (EachBusyIn q own) (sym same) part.each;
+      names = ap numbers same ∙ part.names ∙ sym (append_none (those n (is_busy_in own))) ∙ sym (those_more (is_busy_in own) n false (ap is_busy (sym at) ∙ e));
+    }
+
+-- ---- one more process
+
+pub rows_more : (sets : List (List EdgeSets)) (n : ℕ) (rows after : List (List Busy)) (row : List Busy) (seen own : List EdgeSets) → n < length sets → length rows ≡ n → after ≡ rows ++ row ∷ [] → IsBusyRow n seen row → seen ≡ own → own ≡ get_or sets n own
+    → ((q : ℕ) → q < n → IsBusyRow q (get_or sets q []) (get_or rows q [])) → (length after ≡ n + 1) × ((q : ℕ) → q < n + 1 → IsBusyRow q (get_or sets q []) (get_or after q []))
+rows_more sets n rows after row seen own lt long grows busy is at before = (ap length grows ∙ length_more rows row ∙ ap (λ k. k + 1) long, each)
+  where
+    each : (q : ℕ) → q < n + 1 → IsBusyRow q (get_or sets q []) (get_or after q [])
+    each q less = elim (cases_eq q n) [
+      | inl e ↦
+          let row_is : row ≡ get_or after q [] = sym (at_end rows row []) ∙ ap (λ k. get_or (rows ++ row ∷ []) k []) (long ∙ sym e) ∙ ap (λ rs. get_or rs q []) (sym grows) in
+          let own_is : seen ≡ get_or sets q [] = is ∙ at ∙ at_any sets n own [] lt ∙ ap (λ k. get_or sets k []) (sym e) in
+          let here : IsBusyRow n (get_or sets q []) row = subst (λ s. IsBusyRow n s row) own_is busy in
+          let there : IsBusyRow q (get_or sets q []) row = subst (λ k. IsBusyRow k (get_or sets q []) row) (sym e) here in
+          subst (IsBusyRow q (get_or sets q [])) row_is there
+      | inr d ↦
+          let inside : q < n = omega (arith, less, d) in
+          let row_is : get_or rows q [] ≡ get_or after q [] = sym (at_front rows row [] q (subst (λ k. q < k) (sym long) inside)) ∙ ap (λ rs. get_or rs q []) (sym grows) in
+          subst (IsBusyRow q (get_or sets q [])) row_is (before q inside)
+    ]
+
+-- ---- what stands in a row
+
+pub not_here : (x c : ℕ) (b : Bool) → 1024 ≤ x → c < 1024 → b ≡ (nat_eq x c || b)
+not_here x c b le lt = ap (λ e. e || b) (sym (ne_eqb x c (λ e. absurd (omega (arith, e, le, lt)))))
+
+swapped : (x s r : Bool) → ((x || s) || r) ≡ (s || (x || r))
+swapped true true r = refl
+swapped true false r = refl
+swapped false true r = refl
+swapped false false r = refl
+
+pub or_none : (b : Bool) → (b || false) ≡ b
+or_none true = refl
+or_none false = refl
+
+-- one more of the cells is in the set
+pub set_more : (xs : List ℕ) (i d : ℕ) (s s' : List ℕ) → i < length xs → ((c : ℕ) → c < 1024 → has s' c ≡ (nat_eq (get_or xs i d) c || has s c)) → ((c : ℕ) → c < 1024 → (has s c || has (drop i xs) c) ≡ has xs c)
+    → (c : ℕ) → c < 1024 → (has s' c || has (drop (i + 1) xs) c) ≡ has xs c
+set_more xs i d s s' lt puts inv c less =
+    ap (λ b. b || has (drop (i + 1) xs) c) (puts c less) ∙ swapped (nat_eq (get_or xs i d) c) (has s c) (has (drop (i + 1) xs) c)
+    ∙ ap (λ ys. has s c || has ys c) (sym (drop_more xs i d lt)) ∙ inv c less
+
+pub each_at : (q : ℕ) (own : List EdgeSets) (row : List Busy) → EachBusyIn q own row → (k : ℕ) (d : Busy) → k < length row → IsBusyIn q own (get_or row k d)
+each_at q own [] h k d lt = absurd (omega (arith, lt))
+each_at q own (b ∷ bs) h zero d lt = h.0
+each_at q own (b ∷ bs) h (suc k) d lt = each_at q own bs h.1 k d (omega (arith, lt))
+
+pub below_at : (m : ℕ) (xs seen : List ℕ) (i d : ℕ) → seen ≡ xs → AreBelow m xs → i < length seen → get_or seen i d < m
+below_at m xs seen i d e below lt = below (get_or seen i d) (subst (λ ys. IsTrue (has ys (get_or seen i d))) e (has_at seen i d lt))
+  where
+    self : (x : ℕ) → nat_eq x x ≡ true
+    self x = eq-eqb x x refl
+
+    later : (b : Bool) (c : Bool) → IsTrue c → (b || c) ≡ true
+    later true c h = refl
+    later false c h = h
+
+    has_at : (ys : List ℕ) (i d : ℕ) → i < length ys → IsTrue (has ys (get_or ys i d))
+    has_at [] i d h = absurd (omega (arith, h))
+    has_at (y ∷ ys) zero d h = ap (λ b. b || has ys y) (self y)
+    has_at (y ∷ ys) (suc i) d h = later (nat_eq y (get_or ys i d)) (has ys (get_or ys i d)) (has_at ys i d (omega (arith, h)))
+
+module _ (g : SyncGraph) (rows : List (List Busy)) (are : AreBusyRows g.edges rows) (p : ℕ) (there : p < length rows) (own : List Busy) (own_is : own ≡ get_or rows p []) where
+  item_in : (i : ℕ) (d : Busy) → i < length own → IsBusyIn p (get_or g.edges p []) (get_or own i d)
+  item_in i d lt = each_at p (get_or g.edges p []) own (subst (EachBusyIn p (get_or g.edges p [])) (sym own_is) (are.row p there).each) i d lt
+
+  pub cells_below : (i : ℕ) (d : Busy) → i < length own → AreBelow 1024 (get_or own i d).cells
+  cells_below i d lt = (item_in i d lt).busy.below
+
+  pub is_ahead : (i : ℕ) (d : Busy) → i < length own → IsAhead g rows p (get_or own i d)
+  is_ahead i d lt q less inside =
+      let at : (get_or own i d).edge.process ≡ p = (item_in i d lt).process in
+      record {
+        first = subst (λ k. k < length g.edges) (sym at) (subst (λ n. p < n) are.processes there);
+        after = subst (λ k. k < q) (sym at) less;
+        busy = are.row q inside;
+      }

@@ -1,0 +1,9 @@
+pub mod ByPairs
+pub mod Cells
+pub mod Alike
+pub mod Adding
+pub mod BusyRows
+pub mod Window
+pub mod Joined
+pub mod Whole
+pub mod OfRuns

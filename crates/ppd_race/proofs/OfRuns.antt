@@ -1,0 +1,157 @@
+-- The races of the logs of a run are those of the run.
+use Rattle.std.proofs.Common.{◌≡◌, ℕ, zero, suc, ◌+◌, ◌<◌, ◌≤◌, List, [], ◌∷◌, ◌++◌, Option, Some, None, Bool, true, false, refl, ap, sym, subst, ◌∙◌, arith, length, map, get_or, filter_map, true≢false, ne_eqb, inl, inr, ◌&&◌, ◌||◌}
+use Rattle.std.specs.Prelude.{nat_eq, slice_get}
+use Rattle.std.specs.List.{cons_option, list_any, range_with_len}
+use Rattle.std.proofs.lemmas.Bool.{cases_eq}
+use Rattle.ppd_ast.specs.Valid.{IsValid}
+use Rattle.ppd_ast.specs.declared.plan.Plan.{Plan}
+use Rattle.ppd_ast.specs.declared.program.Program.{Program}
+use Rattle.ppd_ast.specs.declared.status.Status.{Status}
+use Rattle.ppd_bits.specs.CellSets.{has}
+use Rattle.ppd_entry.specs.declared.entry.Entry.{Entry}
+use Rattle.ppd_entry.specs.declared.entry.Entry.TheVariants as entry
+use Rattle.ppd_model.specs.declared.graph.EdgeId.{EdgeId}
+use Rattle.ppd_model.specs.HappenedBefore.{is_edge_before}
+use Rattle.ppd_model.specs.Logs.{logs}
+use Rattle.ppd_model.specs.Races.{has_access, races, writes_or_not}
+use Rattle.ppd_model.specs.Record.{SharedAccess, accesses, record_of}
+use Rattle.ppd_model.specs.RecordedSets as recorded
+use Rattle.ppd_model.specs.RecordedSets.{RecordsAccesses, cells_in, is_end, last_edge, record_in, sets_at_sync, sync_in}
+use Rattle.ppd_model.specs.Story.{story}
+use Rattle.ppd_model.specs.Synchronizations.{syncs_of}
+use Rattle.ppd_model.proofs.AccessSets.{accesses_there, cells_are}
+use Rattle.ppd_model.proofs.Prefixes.{objects_stay}
+use Rattle.ppd_model.proofs.RecordedSets.{record_sets}
+use Rattle.ppd_model.proofs.RecordedSyncs.{record_syncs}
+use Rattle.ppd_graph.specs.declared.sets.EdgeSets.{EdgeSets}
+use Rattle.ppd_graph.specs.Graphs.{sets_at}
+use Rattle.ppd_graph.specs.LogRecord.{edge_sets, ended_by, found_after, no_sets, sets_from, sets_in}
+use Rattle.ppd_graph.proofs.Timed.{at_end, at_front, length_more}
+use Rattle.ppd_race.specs.Races.{AreCellsThere, IsThere, RunRacesAreOfLogs, cells_by, edges_of_logs, edges_of_story, races_of_logs}
+use Rattle.ppd_race.proofs.Alike.{alike_race, length_mapped}
+use Rattle.ppd_race.proofs.ByPairs.{story_races}
+
+-- ---- the sets of a closed log
+
+ended : List ℕ × List ℕ → EdgeSets
+ended t = edge_sets t.0 t.1
+
+closed_sets : (before : List Entry) (status : Status) (rest : ℕ) (r w : List ℕ) → list_any is_end before ≡ false → sets_from None (before ++ entry.End status rest r w ∷ []) ≡ map ended (filter_map sets_at_sync before) ++ edge_sets r w ∷ []
+unfolding ended
+closed_sets [] status rest r w h = refl
+closed_sets (e ∷ es) status rest r w h = by e h (closed_sets es status rest r w)
+  where
+    by : (e : Entry) → (is_end e || list_any is_end es) ≡ false
+        → (list_any is_end es ≡ false → sets_from None (es ++ entry.End status rest r w ∷ []) ≡ map ended (filter_map sets_at_sync es) ++ edge_sets r w ∷ [])
+        → ended_by e ++ sets_from (found_after None e) (es ++ entry.End status rest r w ∷ []) ≡ map ended (cons_option (sets_at_sync e) (filter_map sets_at_sync es)) ++ edge_sets r w ∷ []
+    by (entry.Sync kind object number value reads writes) k later = ap (λ x. edge_sets reads writes ∷ x) (later k)
+    by (entry.Prelog block values) k later = later k
+    by (entry.Unit unit values) k later = later k
+    by (entry.Postlog block values) k later = later k
+    by (entry.End status' rest' reads writes) k later = absurd (true≢false k)
+
+map_both : {A B C : Type 0} (f : B → C) (g : A → B) (xs : List A) → map f (map g xs) ≡ map (λ x. f (g x)) xs
+map_both f g [] = refl
+map_both f g (x ∷ xs) = ap (λ r. f (g x) ∷ r) (map_both f g xs)
+
+count_range : {A : Type 0} (f : ℕ → A) (a n : ℕ) → length (map f (range_with_len a n)) ≡ n
+count_range f a zero = refl
+count_range f a (suc n) = ap suc (count_range f (a + 1) n)
+
+at_range_from : {A : Type 0} (f : ℕ → A) (d : A) (a n i : ℕ) → i < n → get_or (map f (range_with_len a n)) i d ≡ f (a + i)
+at_range_from f d a zero i h = absurd (omega (arith, h))
+at_range_from f d a (suc n) zero h = let e : a ≡ a + zero = omega arith in ap f e
+at_range_from f d a (suc n) (suc i) h = let e : (a + 1) + i ≡ a + suc i = omega arith in at_range_from f d (a + 1) n i (omega (arith, h)) ∙ ap f e
+
+-- all of the first n and the one after them
+at_through : {A : Type 0} (f : ℕ → A) (d : A) (n i : ℕ) → i < n + 1 → get_or (map f (range_with_len 0 n) ++ f n ∷ []) i d ≡ f i
+at_through f d n i h = elim (cases_eq i n) [
+  | inl e ↦ ap (λ k. get_or (map f (range_with_len 0 n) ++ f n ∷ []) k d) (e ∙ sym (count_range f 0 n)) ∙ at_end (map f (range_with_len 0 n)) (f n) d ∙ ap f (sym e)
+  | inr other ↦
+      let less : i < n = omega (arith, h, other) in
+      let z : 0 + i ≡ i = omega arith in
+      let long = count_range f 0 n in
+      at_front (map f (range_with_len 0 n)) (f n) d i (subst (λ k. i < k) (sym long) less) ∙ at_range_from f d 0 n i less ∙ ap f z
+]
+
+got : {A : Type 0} (xs : List A) (i : ℕ) (d : A) → i < length xs → slice_get xs i ≡ Some (get_or xs i d)
+got [] i d h = absurd (omega (arith, h))
+got (x ∷ xs) zero d h = refl
+got (x ∷ xs) (suc i) d h = got xs i d (omega (arith, h))
+
+at_there : {A B : Type 0} (f : List A → List B) (rows : List (List A)) (q : ℕ) → q < length rows → get_or (map f rows) q [] ≡ f (get_or rows q [])
+at_there f [] q lt = absurd (omega (arith, lt))
+at_there f (row ∷ rows) zero lt = refl
+at_there f (row ∷ rows) (suc q) lt = at_there f rows q (omega (arith, lt))
+
+none_any : {A : Type 0} (t : A → Bool) (xs : List A) → ((m : ℕ) (a : A) → slice_get xs m ≡ Some a → t a ≡ false) → list_any t xs ≡ false
+none_any t [] h = refl
+none_any t (x ∷ xs) h = ap (λ b. b || list_any t xs) (h 0 x refl) ∙ none_any t xs (λ m a e. h (suc m) a e)
+
+and_between : (a c : Bool) → (a && false && c) ≡ false
+and_between true c = refl
+and_between false c = refl
+
+module _ (program : Program) (plan : Plan) (budget : ℕ) (h : List ℕ) (valid : IsValid program) where
+  sets_of : ℕ → ℕ → EdgeSets
+  sets_of p i = edge_sets (cells_in (story program plan budget h) p i false) (cells_in (story program plan budget h) p i true)
+
+  row : (p : ℕ) → p < length (logs program plan budget h).lists
+      → get_or (sets_in (logs program plan budget h)) p [] ≡ map (sets_of p) (range_with_len 0 (last_edge (story program plan budget h) p)) ++ sets_of p (last_edge (story program plan budget h) p) ∷ []
+  unfolding sets_of ended
+  row p lt =
+      let s = story program plan budget h in
+      let entries = get_or (logs program plan budget h).lists p [] in
+      let r : RecordsAccesses s p entries = record_sets program plan budget h p entries valid (got (logs program plan budget h).lists p [] lt) in
+      at_there (sets_from None) (logs program plan budget h).lists p lt
+      ∙ ap (sets_from None) r.entries_are ∙ closed_sets r.before r.status r.rest (cells_in s p (last_edge s p) false) (cells_in s p (last_edge s p) true) r.no_end
+      ∙ ap (λ x. map ended x ++ edge_sets (cells_in s p (last_edge s p) false) (cells_in s p (last_edge s p) true) ∷ []) r.syncs_are
+      ∙ ap (λ x. x ++ edge_sets (cells_in s p (last_edge s p) false) (cells_in s p (last_edge s p) true) ∷ []) (map_both ended (recorded.sets_in s p) (range_with_len 0 (last_edge s p)))
+
+  count : (p : ℕ) → p < length (logs program plan budget h).lists → length (get_or (sets_in (logs program plan budget h)) p []) ≡ last_edge (story program plan budget h) p + 1
+  count p lt =
+      let n = last_edge (story program plan budget h) p in
+      ap length (row p lt) ∙ length_more (map (sets_of p) (range_with_len 0 n)) (sets_of p n) ∙ ap (λ k. k + 1) (count_range (sets_of p) 0 n)
+
+  by_kind : (p i : ℕ) (w : Bool) → cells_by w (sets_of p i) ≡ cells_in (story program plan budget h) p i w
+  unfolding sets_of
+  by_kind p i true = refl
+  by_kind p i false = refl
+
+  access : (a : EdgeId) (c : ℕ) (w : Bool) → IsThere (edges_of_logs program (logs program plan budget h)) a
+      → has (cells_by w (sets_at (sets_in (logs program plan budget h)) a)) c ≡ has_access (story program plan budget h) a.process a.edge c w
+  access a c w x =
+      let n = last_edge (story program plan budget h) a.process in
+      let inside : a.edge < n + 1 = subst (λ k. a.edge < k) (count a.process x.0) x.1 in
+      ap (λ sets. has (cells_by w (get_or sets a.edge no_sets)) c) (row a.process x.0)
+      ∙ ap (λ sets. has (cells_by w sets) c) (at_through (sets_of a.process) no_sets n a.edge inside)
+      ∙ ap (λ cells. has cells c) (by_kind a.process a.edge w) ∙ (cells_are (story program plan budget h) a.process a.edge w).are c
+
+  size : length (story program plan budget h).cells ≡ length program.starts
+  size = (objects_stay program plan budget h).cells
+
+  beyond : (p i c : ℕ) (w : Bool) → length program.starts ≤ c → has_access (story program plan budget h) p i c w ≡ false
+  beyond p i c w le = none_any (λ (a : SharedAccess). nat_eq a.edge i && nat_eq a.cell c && writes_or_not a w) (accesses (story program plan budget h) p) (λ m a e.
+      let below = accesses_there program plan budget h p m a valid e in
+      ap (λ b. nat_eq a.edge i && b && writes_or_not a w) (ne_eqb a.cell c (λ same. absurd (omega (arith, same, below, le)))) ∙ and_between (nat_eq a.edge i) (writes_or_not a w))
+
+  records : record_in (logs program plan budget h) ≡ record_of (story program plan budget h)
+  records = (record_syncs program plan budget h).closed
+
+  pub cells_there : AreCellsThere program (logs program plan budget h)
+  cells_there a c w le x = access a c w x ∙ beyond a.process a.edge c w le
+
+  pub run_races : races_of_logs program (logs program plan budget h) ≡ races program plan budget h
+  run_races =
+      alike_race (edges_of_logs program (logs program plan budget h)) (edges_of_story program (story program plan budget h)) (record {
+        processes = sym (length_mapped (filter_map sync_in) (logs program plan budget h).lists) ∙ ap length records ∙ length_mapped syncs_of (story program plan budget h).steps;
+        count = count;
+        accesses = access;
+        before = λ a b x y. ap (λ r. is_edge_before program r a b) records;
+        cells = (let e = size in omega (arith, e));
+        none = λ a c w le x. access a c w x ∙ beyond a.process a.edge c w (let e = size in omega (arith, e, le));
+      })
+      ∙ sym (story_races program (story program plan budget h))
+
+pub of_runs : RunRacesAreOfLogs
+of_runs program plan budget h valid = (run_races program plan budget h valid, cells_there program plan budget h valid)

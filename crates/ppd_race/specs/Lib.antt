@@ -1,0 +1,3 @@
+-- The races of a graph.
+pub mod Races
+pub mod Busy
