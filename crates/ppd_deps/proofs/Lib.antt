@@ -1,0 +1,9 @@
+pub mod Added
+pub mod Arriving
+pub mod Bodies
+pub mod Graphs
+pub mod Invented
+pub mod Naming
+pub mod Reaching
+pub mod Rows
+pub mod Tabled

@@ -1,0 +1,63 @@
+-- The variables that statements read and write.
+use Rattle.std.proofs.Common.{◌≡◌, ℕ, ◌+◌, ◌<◌, ◌≤◌, List, [], ◌∷◌, ◌++◌, Bool, true, false, Option, Some, None, length, drop, get_or, refl, sym, ap, ◌∙◌, subst, arith, inl, inr, true≢false}
+use Rattle.std.specs.Prelude.{IsTrue, nat_eq, slice_get, ◌&&◌}
+use Rattle.std.specs.List.{All, filter, flat_map, range_with_len}
+use Rattle.ppd_ast.specs.declared.program.Body.{Body}
+use Rattle.ppd_ast.specs.declared.program.Program.{Program}
+use Rattle.ppd_ast.specs.declared.program.Stmt.{Stmt}
+use Rattle.ppd_ast.specs.declared.program.Var.{Var}
+use Rattle.ppd_ast.specs.Cells.{after}
+use Rattle.ppd_ast.specs.Valid.{IsValid}
+use Rattle.ppd_ast.proofs.ValidLaws.{valid_body}
+use Rattle.ppd_cfg.specs.Flow.{kind_of_stmt}
+use Rattle.ppd_cfg.specs.Lists.{has}
+use Rattle.ppd_cfg.proofs.Searches as S
+use Rattle.ppd_sets.specs.Gained.{Gains, HasCells}
+use Rattle.ppd_sets.specs.Named.{reads, writes}
+use Rattle.ppd_sets.specs.Used.{reads_at, vars_met, writes_at}
+use Rattle.ppd_sets.proofs.Gaining.{gains_as, gains_none}
+use Rattle.ppd_sets.proofs.Meeting.{shared_small, vars_same}
+use Rattle.ppd_deps.specs.Named.{body_of, local_reads, local_writes, locals_of, locals_of_body}
+use Rattle.ppd_deps.specs.Tables.{AreSmall}
+
+-- ---- a search
+
+pub nothing_left : (xs : List ℕ) (i : ℕ) → length xs ≤ i → drop i xs ≡ []
+nothing_left xs i h = S.nothing_left xs i h
+
+pub has_here : (xs : List ℕ) (i n : ℕ) → i < length xs → nat_eq (get_or xs i 0) n ≡ true → has (drop i xs) n ≡ true
+has_here xs i n h e = S.has_here xs i n h e
+
+pub has_on : (xs : List ℕ) (i n : ℕ) → i < length xs → nat_eq (get_or xs i 0) n ≡ false → has (drop i xs) n ≡ has (drop (i + 1) xs) n
+has_on xs i n h e = S.has_on xs i n h e
+
+-- ---- cells
+
+pub reads_past : (a : List ℕ) (w : Bool) (p : Program) (s : ℕ) → slice_get p.stmts s ≡ None → Gains a a (reads_at w p s)
+reads_past a w p s at = gains_as [] (reads_at w p s) (sym (ap (λ (o : Option Stmt). reads w p.exprs (kind_of_stmt o)) at)) (gains_none a)
+
+pub writes_past : (a : List ℕ) (w : Bool) (p : Program) (s : ℕ) → slice_get p.stmts s ≡ None → Gains a a (writes_at w p s)
+writes_past a w p s at = gains_as [] (writes_at w p s) (sym (ap (λ (o : Option Stmt). writes w (kind_of_stmt o)) at)) (gains_none a)
+
+pub all_gained : (old new cells : List ℕ) → old ≡ [] → Gains old new cells → HasCells new cells
+all_gained old new cells e g = let h : Gains [] new cells = subst (λ xs. Gains xs new cells) e g in record { each = h.each }
+
+-- ---- variables
+
+local_small : (p : Program) (b : ℕ) (o : Option Body) → IsValid p → slice_get p.bodies b ≡ o → AreSmall (locals_of_body o)
+local_small p b None v at = λ k d h. absurd (omega arith)
+local_small p b (Some x) v at = λ k d h.
+    let body = valid_body p b x v at in
+    let within : after (get_or x.locals k d) ≤ x.cells = body.cells.within k d h in
+    let few = body.frame in
+    omega (arith, within, few)
+
+pub locals_small : (p : Program) (b : ℕ) → IsValid p → AreSmall (locals_of p b)
+locals_small p b v = local_small p b (slice_get p.bodies b) v refl
+
+pub shareds_small : (p : Program) → IsValid p → AreSmall p.shared
+shareds_small p v = shared_small p v
+
+-- the variables of the right cells
+pub met_as : (vars : List Var) (set cells list : List ℕ) → AreSmall vars → HasCells set cells → list ≡ vars_met vars set → list ≡ vars_met vars cells
+met_as vars set cells list small same is = is ∙ vars_same set cells vars small same

@@ -1,0 +1,20 @@
+use Rattle.std.proofs.Common.{◌≡◌, ◌∙◌, ◌<◌, ◌≤◌, ◌+◌, ◌++◌, ◌∷◌, [], ℕ, List, sym, ap, subst, arith, length, map, refl, Some, get_or, true, false, append_assoc}
+use Rattle.std.specs.Prelude.{min, ◌&&◌}
+use Rattle.ppd_cfg.specs.Lists.{those}
+use Rattle.ppd_deps.proofs.Added.{adds_as, adds_then}
+use Rattle.ppd_deps.proofs.Arriving.{body_edges, one_more}
+use Rattle.ppd_deps.specs.Edges.{comes_to, local_edge}
+use Rattle.ppd_deps.specs.Named.{locals_of}
+use Rattle.ppd_deps.specs.Rows.{is_reader}
+use Rattle.ppd_deps.proofs.adding.add_locals.Goals as goal
+
+pub loop-var-preserved : goal.loop-var-preserved
+loop-var-preserved c = adds_as _ _ _ _ (λ t lt. one_more c.args.program.now c.args.body c.args.stmt t c.loop-var.var) (adds_then _ _ _ _ _ c.loop-var.invariant c.in_ok-add_local_edges.ensures)
+
+pub returns : goal.returns
+returns c =
+    let p = c.args.program.now in
+    let b = c.args.body in
+    let s = c.args.stmt in
+    let all : c.loop-var.var ≡ min (length (locals_of p b)) 65536 = omega (arith, c.loop-var-test.false, c.loop-var.auto.var-end, c.min-var-end.ensures, ap length c.locals.ensures) in
+    adds_as _ _ _ _ (λ t lt. ap (λ n. map (local_edge s) (those n (λ v. is_reader p b v t && comes_to p b s v t))) all ∙ body_edges p b s t) c.loop-var.invariant

@@ -1,0 +1,22 @@
+use Rattle.std.proofs.Common.{◌≡◌, ◌∙◌, ◌<◌, ◌≤◌, ◌+◌, ◌++◌, ◌∷◌, [], ℕ, List, sym, ap, subst, arith, length, map, refl, Some, get_or, true, false, append_assoc}
+use Rattle.ppd_ast.specs.declared.program.Kind.{Kind}
+use Rattle.ppd_cfg.specs.Flow.{kind_of_stmt}
+use Rattle.ppd_deps.proofs.Added.{adds_as}
+use Rattle.ppd_deps.proofs.Arriving.{call_edges, own_by, own_edges}
+use Rattle.ppd_deps.proofs.Tabled.{stmt_got}
+use Rattle.ppd_deps.proofs.adding.add_locals_from.Goals as goal
+
+pub returns-in_ok-add_locals-in-Call : goal.returns-in_ok-add_locals-in-Call
+returns-in_ok-add_locals-in-Call c =
+    let p = c.args.program.now in
+    let s = c.args.stmt in
+    let at = stmt_got p c.as_slice.result.now s c.index-as_slice-stmt.result c.as_slice.ensures c.requires.there c.index-as_slice-stmt.is in
+    adds_as _ _ _ _ (λ t lt. call_edges p s t c.in-Call.function c.in-Call.args c.in-Call.into (ap kind_of_stmt at ∙ c.in-Call.is)) c.in_ok-add_locals-in-Call.ensures
+
+pub returns-in_ok-add_locals-in_default : goal.returns-in_ok-add_locals-in_default
+returns-in_ok-add_locals-in_default c =
+    let p = c.args.program.now in
+    let s = c.args.stmt in
+    let x = c.index-as_slice-stmt.result in
+    let at = stmt_got p c.as_slice.result.now s x c.as_slice.ensures c.requires.there c.index-as_slice-stmt.is in
+    adds_as _ _ _ _ (λ t lt. own_edges p s t x x.kind at (own_by p x.kind c.in_default.not-Call c.in_default.not-Return)) c.in_ok-add_locals-in_default.ensures

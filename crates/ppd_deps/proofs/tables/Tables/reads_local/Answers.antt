@@ -1,0 +1,14 @@
+use Rattle.std.proofs.Common.{◌≡◌, ◌∙◌, ◌<◌, ◌≤◌, ◌+◌, ◌++◌, ◌∷◌, [], ℕ, List, sym, ap, subst, arith, length, map, refl, Some, get_or, true, false, append_assoc}
+use Rattle.ppd_cfg.specs.Lists.{has}
+use Rattle.ppd_deps.proofs.Tabled.{table_at, table_long}
+use Rattle.ppd_deps.specs.Named.{local_reads}
+use Rattle.ppd_deps.proofs.tables.Tables.reads_local.Goals as goal
+
+pub bounds-as_slice-stmt : goal.bounds-as_slice-stmt
+bounds-as_slice-stmt c = table_long (local_reads c.args.program.now) c.as_slice.result.now (length c.args.program.now.stmts) c.args.stmt (c.as_slice.ensures ∙ c.requires.tables.local) c.requires.there
+
+pub returns : goal.returns
+returns c =
+    c.contains.ensures
+    ∙ ap (λ l. has l c.args.var)
+    (c.as_slice-2.ensures ∙ table_at (local_reads c.args.program.now) c.as_slice.result.now (length c.args.program.now.stmts) c.args.stmt c.index-as_slice-stmt.result (c.as_slice.ensures ∙ c.requires.tables.local) c.requires.there c.index-as_slice-stmt.is)

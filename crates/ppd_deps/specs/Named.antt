@@ -1,0 +1,82 @@
+-- The variables that a statement reads and writes, by their numbers.
+use Rattle.std.specs.Prelude.{ℕ, ◌-◌, nat_eq, nat_lt, Bool, true, false, ◌&&◌, List, [], ◌∷◌, length, Option, Some, None, slice_get, if◌then◌else◌}
+use Rattle.std.specs.List.{filter, range_with_len}
+use Rattle.ppd_ast.specs.declared.program.Body.{Body}
+use Rattle.ppd_ast.specs.declared.program.Kind.{Kind}
+use Rattle.ppd_ast.specs.declared.program.Kind.TheVariants as K
+use Rattle.ppd_ast.specs.declared.program.Program.{Program}
+use Rattle.ppd_ast.specs.declared.program.Stmt.{Stmt}
+use Rattle.ppd_ast.specs.declared.program.Var.{Var}
+use Rattle.ppd_cfg.specs.Flow.{kind_of}
+use Rattle.ppd_cfg.specs.Lists.{has, those}
+use Rattle.ppd_cfg.specs.Reach.{closed, leads}
+use Rattle.ppd_sets.specs.Used.{call_rows, callee, reads_at, stmts_at, vars_met, writes_at}
+
+-- ---- bodies
+
+abbrev pub body_of_stmt : Option Stmt → ℕ
+body_of_stmt None = 0
+body_of_stmt (Some x) = x.body
+
+-- the body of statement s, and 0 past the last
+abbrev pub body_of : Program → ℕ → ℕ
+body_of p s = body_of_stmt (slice_get p.stmts s)
+
+abbrev pub locals_of_body : Option Body → List Var
+locals_of_body None = []
+locals_of_body (Some b) = b.locals
+
+-- the local variables of body b
+abbrev pub locals_of : Program → ℕ → List Var
+locals_of p b = locals_of_body (slice_get p.bodies b)
+
+abbrev pub params_of_body : Option Body → ℕ
+params_of_body None = 0
+params_of_body (Some b) = b.params
+
+-- how many parameters body b has: the first ones of its local variables
+abbrev pub params_of : Program → ℕ → ℕ
+params_of p b = params_of_body (slice_get p.bodies b)
+
+abbrev pub processes : Program → List ℕ
+processes p = range_with_len p.functions (length p.bodies - p.functions)
+
+-- the bodies that run: a chain of calls reaches them from a process
+abbrev pub running : Program → List ℕ
+running p = those (length p.bodies) (leads (closed (call_rows p)) (processes p))
+
+-- ---- variables
+
+-- the shared variables that statement t may read
+abbrev pub shared_reads : Program → ℕ → List ℕ
+shared_reads p t = vars_met p.shared (reads_at true p t)
+
+-- the local variables of its body that statement t may read
+abbrev pub local_reads : Program → ℕ → List ℕ
+local_reads p t = vars_met (locals_of p (body_of p t)) (reads_at false p t)
+
+-- the shared variables that statement s writes, where its body runs
+abbrev pub shared_writes : Program → ℕ → List ℕ
+shared_writes p s = if has (running p) (body_of p s) then vars_met p.shared (writes_at true p s) else []
+
+-- the local variables of its body that are written at statement s; at a call its receiving local
+abbrev pub local_writes : Program → ℕ → List ℕ
+local_writes p s = vars_met (locals_of p (body_of p s)) (writes_at false p s)
+
+-- whether statement s calls body b
+abbrev pub calls : Program → (s b : ℕ) → Bool
+calls p s b = has (callee (kind_of p s)) b
+
+-- the statements of body b at which statement s of this kind writes local variables: a `Return` at the calls of its
+-- function, another one at itself; what a call passes is written at no statement
+abbrev pub places_by : Program → (b s : ℕ) → Kind → List ℕ
+places_by p b s (K.Call f args into) = []
+places_by p b s (K.Return e) = filter (λ c. calls p c (body_of p s)) (stmts_at p b)
+places_by p b s k = if nat_eq (body_of p s) b then s ∷ [] else []
+
+abbrev pub places : Program → (b s : ℕ) → List ℕ
+places p b s = places_by p b s (kind_of p s)
+
+-- whether statement s calls body b, of which variable v is a parameter
+abbrev pub passes : Program → (b s v : ℕ) → Bool
+passes p b s v = calls p s b && nat_lt v (params_of p b)

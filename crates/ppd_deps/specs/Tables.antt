@@ -1,0 +1,27 @@
+-- What the search for static edges is given.
+use Rattle.std.specs.Prelude.{◌≡◌, ◌≤◌, List, length, map}
+use Rattle.std.specs.List.{All, range_with_len}
+use Rattle.ppd_ast.specs.Cells.{after}
+use Rattle.ppd_ast.specs.declared.program.Program.{Program}
+use Rattle.ppd_ast.specs.declared.program.Var.{Var}
+use Rattle.ppd_cfg.specs.Flow.{flow_rows}
+use Rattle.ppd_deps.specs.declared.edges.DepGraph.{DepGraph}
+use Rattle.ppd_deps.specs.declared.tables.Tables.{Tables}
+use Rattle.ppd_deps.specs.Edges.{edges_of}
+use Rattle.ppd_deps.specs.Named.{local_reads, local_writes, running, shared_reads}
+
+-- the cells of each of these variables are below 1024
+abbrev pub AreSmall : List Var → Type 0
+AreSmall vars = All (λ x. after x ≤ 1024) vars
+
+-- the successors of each statement, the bodies that run, and the variables that each statement may read and writes
+pub record AreTables (p : Program) (t : Tables) : Type 0 where
+  pub next : t.next ≡ flow_rows p
+  pub running : t.running ≡ running p
+  pub shared : t.shared ≡ map (shared_reads p) (range_with_len 0 (length p.stmts))
+  pub local : t.local ≡ map (local_reads p) (range_with_len 0 (length p.stmts))
+  pub written : t.written ≡ map (local_writes p) (range_with_len 0 (length p.stmts))
+
+-- the graph has for each statement the static edges into it
+pub record IsDepGraph (p : Program) (g : DepGraph) : Type 0 where
+  pub rows : g.rows ≡ map (edges_of p) (range_with_len 0 (length p.stmts))

@@ -1,0 +1,349 @@
+// Adding edges to the rows of the statements into which they lead.
+ghost use Rattle.std.specs.Prelude.{◌≡◌, ◌<◌, ◌^◌, ◌&&◌, [], ◌∷◌, ◌++◌, map, length, OnOk, IfOk, if◌then◌else◌};
+ghost use Rattle.std.specs.List.{filter};
+ghost use Rattle.ppd_ast.specs.Numbered.{is_while};
+ghost use Rattle.ppd_ast.specs.Valid.{IsValid};
+ghost use Rattle.ppd_cfg.specs.Lists.{AreBelow, has};
+ghost use Rattle.ppd_cfg.specs.WorkList.{is_marked};
+ghost use Rattle.ppd_deps.specs.Edges.{comes_to, control_into, data_from, data_into, edges_of, local_edge, locals_from, outer_edge, shared_edge};
+ghost use Rattle.ppd_deps.specs.Named.{places, shared_reads, shared_writes};
+ghost use Rattle.ppd_deps.specs.Rows.{Adds, at_body, is_reader};
+ghost use Rattle.ppd_deps.specs.Tables.{AreTables};
+
+use crate::edges::StaticEdge;
+use crate::locals::{Local, Writer, arrivals, begins, places};
+use crate::tables::Tables;
+use crate::vars::{body_at, locals, vars_in, written_cells};
+use ppd_ast::{Cells, Kind, Memory, Program, Seq};
+use std::alloc::Global;
+
+// Adds the edge to the row, if it is wanted.
+fn add_if(row: &mut Seq<StaticEdge>, edge: StaticEdge, is_wanted: bool) -> Result<(), Memory>
+    ensures { OnOk result (row.new ≡ row.old ++ (if is_wanted then edge ∷ [] else [])) }
+{
+    if is_wanted {
+        row.push(edge)?;
+    }
+    Ok(())
+}
+
+// Adds the edge from the statement to each that reads the shared variable.
+fn add_shared_edge(
+    rows: &mut [Seq<StaticEdge>],
+    program: &Program,
+    tables: &Tables,
+    stmt: u32,
+    var: u16,
+) -> Result<(), Memory>
+    requires valid { IsValid program.now }
+    requires tables { AreTables program.now tables.now }
+    requires long { length rows.old ≡ length program.now.stmts }
+    ensures { OnOk result (Adds rows.old rows.new (λ t. if has (shared_reads program.now t) var then shared_edge stmt var ∷ [] else [])) }
+{
+    let edge = StaticEdge::Data {
+        from: stmt,
+        shared: true,
+        var,
+    };
+    for number in 0..rows.len() {
+        let is_wanted = tables.reads_shared(program, number as u32, var);
+        add_if(&mut rows[number], edge, is_wanted)?;
+    }
+    Ok(())
+}
+
+// Adds the edges from the statement for these shared variables.
+fn add_shared_edges(
+    rows: &mut [Seq<StaticEdge>],
+    program: &Program,
+    tables: &Tables,
+    stmt: u32,
+    vars: &[u16],
+) -> Result<(), Memory>
+    requires valid { IsValid program.now }
+    requires tables { AreTables program.now tables.now }
+    requires long { length rows.old ≡ length program.now.stmts }
+    ensures { OnOk result (Adds rows.old rows.new (λ t. map (shared_edge stmt) (filter (has (shared_reads program.now t)) vars.now))) }
+{
+    for index in 0..vars.len() {
+        add_shared_edge(rows, program, tables, stmt, vars[index])?;
+    }
+    Ok(())
+}
+
+#[tactic(auto, using(crate::proofs::Naming::has_here, crate::proofs::Naming::has_on, crate::proofs::Naming::nothing_left))]
+fn has_number(list: &[u32], number: u32) -> bool
+    ensures { result ≡ has list.now number }
+{
+    for item in list {
+        if *item == number {
+            return true;
+        }
+    }
+    false
+}
+
+// The shared variables that the statement writes, where its body runs.
+fn shared_written(
+    alloc: Global,
+    program: &Program,
+    tables: &Tables,
+    stmt: u32,
+) -> Result<Cells, Memory>
+    requires valid { IsValid program.now }
+    requires tables { AreTables program.now tables.now }
+    ensures { IfOk result (λ ids. ids ≡ shared_writes program.now stmt) }
+{
+    if has_number(tables.running.as_slice(), body_at(program, stmt) as u32) {
+        let cells = written_cells(program, true, stmt);
+        let vars = vars_in(alloc, program.shared.as_slice(), &cells)?;
+        return Ok(vars);
+    }
+    Ok(Cells::new(alloc))
+}
+
+// Whether the statement, of the variable's body, may read it and has a mark.
+fn is_wanted(program: &Program, tables: &Tables, local: Local, marks: &[bool], stmt: u32) -> bool
+    requires tables { AreTables program.now tables.now }
+    requires marks { length marks.now ≡ length program.now.stmts }
+    requires there { stmt < length program.now.stmts }
+    ensures { result ≡ (is_reader program.now local.body local.var stmt && is_marked marks.now stmt) }
+{
+    body_at(program, stmt) == local.body
+        && tables.reads_local(program, stmt, local.var)
+        && marks[stmt as usize]
+}
+
+// Adds the edge from the statement to each statement with a mark that reads the local variable.
+fn add_local_edge(
+    rows: &mut [Seq<StaticEdge>],
+    program: &Program,
+    tables: &Tables,
+    stmt: u32,
+    local: Local,
+    marks: &[bool],
+) -> Result<(), Memory>
+    requires valid { IsValid program.now }
+    requires tables { AreTables program.now tables.now }
+    requires long { length rows.old ≡ length program.now.stmts }
+    requires marks { length marks.now ≡ length program.now.stmts }
+    ensures { OnOk result (Adds rows.old rows.new (λ t.
+        if is_reader program.now local.body local.var t && is_marked marks.now t then local_edge stmt local.var ∷ [] else [])) }
+{
+    let edge = StaticEdge::Data {
+        from: stmt,
+        shared: false,
+        var: local.var,
+    };
+    for number in 0..rows.len() {
+        let is_wanted = is_wanted(program, tables, local, marks, number as u32);
+        add_if(&mut rows[number], edge, is_wanted)?;
+    }
+    Ok(())
+}
+
+// Adds the edges for what the statement writes to the local variable.
+fn add_local_edges(
+    rows: &mut [Seq<StaticEdge>],
+    alloc: Global,
+    program: &Program,
+    tables: &Tables,
+    writer: &Writer,
+    local: Local,
+) -> Result<(), Memory>
+    requires valid { IsValid program.now }
+    requires tables { AreTables program.now tables.now }
+    requires long { length rows.old ≡ length program.now.stmts }
+    requires places { writer.now.places ≡ places program.now local.body writer.now.stmt }
+    requires there { AreBelow (length program.now.stmts) writer.now.places }
+    ensures { OnOk result (Adds rows.old rows.new (λ t.
+        if is_reader program.now local.body local.var t && comes_to program.now local.body writer.now.stmt local.var t
+        then local_edge writer.now.stmt local.var ∷ [] else [])) }
+{
+    let starts = begins(alloc, program, tables, local, writer)?;
+    if starts.len() == 0 {
+        return Ok(());
+    }
+    let marks = arrivals(alloc, program, tables, local, starts.as_slice())?;
+    add_local_edge(rows, program, tables, writer.stmt, local, marks.as_slice())?;
+    Ok(())
+}
+
+// Adds the edges for what the statement writes to the local variables of the body.
+fn add_locals(
+    rows: &mut [Seq<StaticEdge>],
+    alloc: Global,
+    program: &Program,
+    tables: &Tables,
+    stmt: u32,
+    body: u16,
+) -> Result<(), Memory>
+    requires valid { IsValid program.now }
+    requires tables { AreTables program.now tables.now }
+    requires long { length rows.old ≡ length program.now.stmts }
+    requires there { stmt < length program.now.stmts }
+    ensures { OnOk result (Adds rows.old rows.new (λ t. at_body program.now body t (map (local_edge stmt) (locals_from program.now stmt t)))) }
+{
+    let places = places(alloc, program, stmt, body)?;
+    let writer = Writer { stmt, places };
+    for var in 0..locals(program, body).len().min(65_536) {
+        let local = Local {
+            body,
+            var: var as u16,
+        };
+        add_local_edges(rows, alloc, program, tables, &writer, local)?;
+    }
+    Ok(())
+}
+
+// Adds the edges for what the statement writes to the local variables of all bodies.
+fn add_all_locals(
+    rows: &mut [Seq<StaticEdge>],
+    alloc: Global,
+    program: &Program,
+    tables: &Tables,
+    stmt: u32,
+) -> Result<(), Memory>
+    requires valid { IsValid program.now }
+    requires tables { AreTables program.now tables.now }
+    requires long { length rows.old ≡ length program.now.stmts }
+    requires there { stmt < length program.now.stmts }
+    ensures { OnOk result (Adds rows.old rows.new (λ t. map (local_edge stmt) (locals_from program.now stmt t))) }
+{
+    for body in 0..program.bodies.len() {
+        add_locals(rows, alloc, program, tables, stmt, body as u16)?;
+    }
+    Ok(())
+}
+
+// Adds the edges for what the statement writes to local variables: a `return` writes those of its
+// callers, a call those of the function, and another statement those of its own body.
+fn add_locals_from(
+    rows: &mut [Seq<StaticEdge>],
+    alloc: Global,
+    program: &Program,
+    tables: &Tables,
+    stmt: u32,
+) -> Result<(), Memory>
+    requires valid { IsValid program.now }
+    requires tables { AreTables program.now tables.now }
+    requires long { length rows.old ≡ length program.now.stmts }
+    requires there { stmt < length program.now.stmts }
+    ensures { OnOk result (Adds rows.old rows.new (λ t. map (local_edge stmt) (locals_from program.now stmt t))) }
+{
+    let found = &program.stmts.as_slice()[stmt as usize];
+    match &found.kind {
+        Kind::Return(_) => {
+            add_all_locals(rows, alloc, program, tables, stmt)?;
+            Ok(())
+        }
+        Kind::Call { function, .. } => {
+            add_locals(rows, alloc, program, tables, stmt, *function)?;
+            Ok(())
+        }
+        _ => {
+            add_locals(rows, alloc, program, tables, stmt, found.body)?;
+            Ok(())
+        }
+    }
+}
+
+// Adds the data edges from the statement.
+fn add_from(
+    rows: &mut [Seq<StaticEdge>],
+    alloc: Global,
+    program: &Program,
+    tables: &Tables,
+    stmt: u32,
+) -> Result<(), Memory>
+    requires valid { IsValid program.now }
+    requires tables { AreTables program.now tables.now }
+    requires long { length rows.old ≡ length program.now.stmts }
+    requires there { stmt < length program.now.stmts }
+    ensures { OnOk result (Adds rows.old rows.new (data_from program.now stmt)) }
+{
+    let vars = shared_written(alloc, program, tables, stmt)?;
+    add_shared_edges(rows, program, tables, stmt, vars.as_slice())?;
+    add_locals_from(rows, alloc, program, tables, stmt)?;
+    Ok(())
+}
+
+// Adds the data edges.
+fn add_data(
+    rows: &mut [Seq<StaticEdge>],
+    alloc: Global,
+    program: &Program,
+    tables: &Tables,
+) -> Result<(), Memory>
+    requires valid { IsValid program.now }
+    requires tables { AreTables program.now tables.now }
+    requires long { length rows.old ≡ length program.now.stmts }
+    ensures { OnOk result (Adds rows.old rows.new (data_into program.now)) }
+{
+    for stmt in 0..rows.len() {
+        add_from(rows, alloc, program, tables, stmt as u32)?;
+    }
+    Ok(())
+}
+
+// The edge from the statement round this one, or from the entry.
+fn outer_edge(parent: Option<u32>) -> StaticEdge
+    ensures { result ≡ outer_edge parent }
+{
+    match parent {
+        None => StaticEdge::ControlEntry,
+        Some(outer) => StaticEdge::Control(outer),
+    }
+}
+
+fn is_while(kind: &Kind) -> bool
+    ensures { result ≡ is_while kind.now }
+{
+    match kind {
+        Kind::While(_, _) => true,
+        _ => false,
+    }
+}
+
+// Adds the control edges into a statement to its row.
+fn add_control_at(row: &mut Seq<StaticEdge>, program: &Program, stmt: u32) -> Result<(), Memory>
+    requires { stmt < length program.now.stmts }
+    ensures { OnOk result (row.new ≡ row.old ++ control_into program.now stmt) }
+{
+    let found = &program.stmts.as_slice()[stmt as usize];
+    row.push(outer_edge(found.parent))?;
+    if is_while(&found.kind) {
+        row.push(StaticEdge::Control(stmt))?;
+        return Ok(());
+    }
+    Ok(())
+}
+
+// Adds the control edges.
+fn add_control(rows: &mut [Seq<StaticEdge>], program: &Program) -> Result<(), Memory>
+    requires long { length rows.old ≡ length program.now.stmts }
+    requires count { length program.now.stmts < 2 ^ 32 }
+    ensures { OnOk result (Adds rows.old rows.new (control_into program.now)) }
+{
+    for stmt in 0..rows.len() {
+        add_control_at(&mut rows[stmt], program, stmt as u32)?;
+    }
+    Ok(())
+}
+
+// Adds all edges.
+pub(crate) fn fill(
+    rows: &mut [Seq<StaticEdge>],
+    alloc: Global,
+    program: &Program,
+    tables: &Tables,
+) -> Result<(), Memory>
+    requires valid { IsValid program.now }
+    requires tables { AreTables program.now tables.now }
+    requires long { length rows.old ≡ length program.now.stmts }
+    ensures { OnOk result (Adds rows.old rows.new (edges_of program.now)) }
+{
+    add_data(rows, alloc, program, tables)?;
+    add_control(rows, program)?;
+    Ok(())
+}

@@ -1,0 +1,179 @@
+// The variables of bodies, and which of them a statement reads and writes.
+ghost use Rattle.std.specs.Prelude.{◌≡◌, ◌≤◌, slice_get, IfOk};
+ghost use Rattle.std.specs.List.{filter, list_any};
+ghost use Rattle.ppd_ast.specs.Cells.{size, after, holds};
+ghost use Rattle.ppd_ast.specs.Valid.{IsValid};
+ghost use Rattle.ppd_cfg.specs.Lists.{has};
+ghost use Rattle.ppd_sets.specs.Gained.{Gains, HasCells};
+ghost use Rattle.ppd_sets.specs.Used.{is_met, reads_at, vars_met, writes_at};
+ghost use Rattle.ppd_deps.specs.Named.{body_of, calls, locals_of, params_of};
+ghost use Rattle.ppd_deps.specs.Tables.{AreSmall};
+
+use ppd_ast::{Cells, Kind, Memory, Program, Var};
+use ppd_bits::CellSet;
+use ppd_sets::{add_reads, add_writes};
+use std::alloc::Global;
+
+pub(crate) fn body_at(program: &Program, stmt: u32) -> u16
+    ensures { result ≡ body_of program.now stmt }
+{
+    match program.stmts.as_slice().get(stmt as usize) {
+        None => 0,
+        Some(found) => found.body,
+    }
+}
+
+pub(crate) fn locals(program: &Program, body: u16) -> &[Var]
+    ensures { result.now ≡ locals_of program.now body }
+{
+    match program.bodies.as_slice().get(body as usize) {
+        None => &[],
+        Some(found) => found.locals.as_slice(),
+    }
+}
+
+pub(crate) fn params(program: &Program, body: u16) -> u16
+    ensures { result ≡ params_of program.now body }
+{
+    match program.bodies.as_slice().get(body as usize) {
+        None => 0,
+        Some(found) => found.params,
+    }
+}
+
+// Whether the statement calls the body.
+pub(crate) fn does_call(program: &Program, stmt: u32, body: u16) -> bool
+    ensures { result ≡ calls program.now stmt body }
+{
+    match program.stmts.as_slice().get(stmt as usize) {
+        None => false,
+        Some(found) => match &found.kind {
+            Kind::Call { function, .. } => *function == body,
+            _ => false,
+        },
+    }
+}
+
+#[tactic(auto, using(crate::proofs::Naming::has_here, crate::proofs::Naming::has_on, crate::proofs::Naming::nothing_left))]
+pub(crate) fn contains(list: &[u16], number: u16) -> bool
+    ensures { result ≡ has list.now number }
+{
+    for item in list {
+        if *item == number {
+            return true;
+        }
+    }
+    false
+}
+
+// How many cells the variable has.
+fn size_of(var: &Var) -> u16
+    ensures { result ≡ size var.now.len }
+{
+    match var.len {
+        None => 1,
+        Some(len) => len,
+    }
+}
+
+// Whether a cell of the variable is in the set.
+pub(crate) fn does_meet(set: &CellSet, var: &Var) -> bool
+    requires { after var.now ≤ 1024 }
+    ensures { result ≡ list_any (λ c. holds c var.now) set.now }
+{
+    let len = size_of(var);
+    for place in 0..len {
+        if set.contains(var.base + place) {
+            return true;
+        }
+    }
+    false
+}
+
+// The variables of which a cell is in the set, by number, rising. Numbers have 16 bits.
+pub(crate) fn vars_in(alloc: Global, vars: &[Var], set: &CellSet) -> Result<Cells, Memory>
+    requires { AreSmall vars.now }
+    ensures { IfOk result (λ ids. ids ≡ vars_met vars.now set.now) }
+{
+    let mut ids = Cells::new(alloc);
+    for number in 0..vars.len().min(65_536) {
+        if does_meet(set, &vars[number]) {
+            ids.push(number as u16)?;
+        }
+    }
+    Ok(ids)
+}
+
+// Those of the variables of which a cell is in the set.
+pub(crate) fn vars_of(
+    alloc: Global,
+    numbers: &[u16],
+    vars: &[Var],
+    set: &CellSet,
+) -> Result<Cells, Memory>
+    requires { AreSmall vars.now }
+    ensures { IfOk result (λ ids. ids ≡ filter (λ v. is_met set.now (slice_get vars.now v)) numbers.now) }
+{
+    let mut ids = Cells::new(alloc);
+    for index in 0..numbers.len() {
+        if is_met_at(set, vars, numbers[index]) {
+            ids.push(numbers[index])?;
+        }
+    }
+    Ok(ids)
+}
+
+// Whether a cell of the variable with this number is in the set.
+pub(crate) fn is_met_at(set: &CellSet, vars: &[Var], number: u16) -> bool
+    requires { AreSmall vars.now }
+    ensures { result ≡ is_met set.now (slice_get vars.now number) }
+{
+    match vars.get(number as usize) {
+        None => false,
+        Some(var) => does_meet(set, var),
+    }
+}
+
+// Adds the shared or the local cells that a statement may read, if it is there.
+#[tactic(auto, using(crate::proofs::Naming::reads_past))]
+fn add_reads_at(set: &mut CellSet, wants_shared: bool, program: &Program, stmt: u32)
+    requires { IsValid program.now }
+    ensures { Gains set.old set.new (reads_at wants_shared program.now stmt) }
+{
+    match program.stmts.as_slice().get(stmt as usize) {
+        None => {}
+        Some(found) => add_reads(set, wants_shared, program.exprs.as_slice(), &found.kind),
+    }
+}
+
+// The shared or the local cells that a statement may read.
+#[tactic(auto, using(crate::proofs::Naming::all_gained))]
+pub(crate) fn read_cells(program: &Program, wants_shared: bool, stmt: u32) -> CellSet
+    requires { IsValid program.now }
+    ensures { HasCells result (reads_at wants_shared program.now stmt) }
+{
+    let mut set = CellSet::new();
+    add_reads_at(&mut set, wants_shared, program, stmt);
+    set
+}
+
+// Adds the shared or the local cells that a statement writes, if it is there.
+#[tactic(auto, using(crate::proofs::Naming::writes_past))]
+fn add_writes_at(set: &mut CellSet, wants_shared: bool, program: &Program, stmt: u32)
+    ensures { Gains set.old set.new (writes_at wants_shared program.now stmt) }
+{
+    match program.stmts.as_slice().get(stmt as usize) {
+        None => {}
+        Some(found) => add_writes(set, wants_shared, &found.kind),
+    }
+}
+
+// The shared or the local cells that a statement writes.
+#[tactic(auto, using(crate::proofs::Naming::all_gained))]
+pub(crate) fn written_cells(program: &Program, wants_shared: bool, stmt: u32) -> CellSet
+    ensures { HasCells result (writes_at wants_shared program.now stmt) }
+{
+    let mut set = CellSet::new();
+    add_writes_at(&mut set, wants_shared, program, stmt);
+    set
+}

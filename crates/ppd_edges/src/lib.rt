@@ -1,0 +1,5 @@
+//! Static edges of worked sources: tests.
+#![tactic(auto)]
+
+#[cfg(test)]
+mod tests;
