@@ -1,8 +1,8 @@
 -- The local variables of which a value may come from one statement to another.
-use Rattle.std.proofs.Common.{◌≡◌, ℕ, ◌+◌, ◌<◌, ◌≤◌, min, List, [], ◌∷◌, ◌++◌, Bool, true, false, Option, Some, None, length, map, refl, sym, ap, ◌∙◌, subst, arith, inl, inr, ◌⊎◌, true≢false, cond, append-nil}
-use Rattle.std.specs.Prelude.{IsTrue, nat_eq, nat_lt, not, ◌&&◌, ◌||◌, slice_get, if◌then◌else◌}
+use Rattle.std.proofs.Common.{◌≡◌, ℕ, ◌+◌, ◌<◌, min, List, [], ◌∷◌, ◌++◌, Bool, true, false, Option, Some, None, length, map, refl, sym, ap, ◌∙◌, subst, arith, inl, inr, cond, append-nil}
+use Rattle.std.specs.Prelude.{IsTrue, nat_eq, nat_lt, ◌&&◌, ◌||◌, slice_get, if◌then◌else◌}
 use Rattle.std.specs.List.{filter, flat_map, range_with_len}
-use Rattle.std.proofs.lemmas.Bool.{cases_Bool, cases_order, cond-true, cond-false, eq-eqb, eqb-true, eqb-false, lt-ltb, ltb-true, ltb-false, false_from_ne_true}
+use Rattle.std.proofs.lemmas.Bool.{cases_Bool, cases_order, cond-true, cond-false, eq-eqb, eqb-true, eqb-false, lt-ltb, ltb-true, false_from_ne_true}
 use Rattle.ppd_ast.specs.Valid.{IsValid}
 use Rattle.ppd_ast.specs.declared.program.Kind.{Kind}
 use Rattle.ppd_ast.specs.declared.program.Kind.TheVariants as K
@@ -12,7 +12,7 @@ use Rattle.ppd_ast.proofs.ValidLaws.{slice_get_below, slice_get_there, stmt_in_b
 use Rattle.ppd_cfg.specs.Flow.{kind_of, kind_of_stmt, next_of, top_of}
 use Rattle.ppd_cfg.specs.Lists.{first_or, has, those, to_list}
 use Rattle.ppd_cfg.specs.Reach.{closed, leads}
-use Rattle.ppd_cfg.proofs.Has.{below_range, filter_has, filter_same_in, from_zero, has_filter}
+use Rattle.ppd_cfg.proofs.Has.{filter_has, filter_same_in, has_filter}
 use Rattle.ppd_cfg.proofs.Those.{those_no, those_yes}
 use Rattle.ppd_sets.specs.Used.{callee, is_met, reads_at}
 use Rattle.ppd_deps.specs.declared.edges.StaticEdge.{StaticEdge}

@@ -1,7 +1,7 @@
 -- Each statement is among those of its body, and what it may read is among what its body uses.
-use Rattle.std.proofs.Common.{◌≡◌, ℕ, zero, suc, ◌+◌, ◌-◌, ◌<◌, ◌≤◌, min, List, [], ◌∷◌, Bool, true, false, Option, Some, None, length, map, refl, sym, ap, ◌∙◌, subst, arith, inl, inr, true≢false}
+use Rattle.std.proofs.Common.{◌≡◌, ℕ, zero, suc, ◌+◌, ◌-◌, ◌<◌, ◌≤◌, min, List, [], Bool, true, Option, Some, None, length, refl, sym, ap, ◌∙◌, subst, arith, inl, inr, true≢false}
 use Rattle.std.specs.Prelude.{IsSomeAnd, IsTrue, slice_get, ◌&&◌}
-use Rattle.std.specs.List.{filter, flat_map, list_any, range_with_len}
+use Rattle.std.specs.List.{filter, flat_map, range_with_len}
 use Rattle.std.proofs.lemmas.Bool.{and_from, and_parts}
 use Rattle.ppd_ast.specs.Cells.{holds}
 use Rattle.ppd_ast.specs.Numbered.{numbers_of}
@@ -11,7 +11,7 @@ use Rattle.ppd_ast.specs.declared.program.Body.{Body}
 use Rattle.ppd_ast.specs.declared.program.Program.{Program}
 use Rattle.ppd_ast.specs.declared.program.Stmt.{Stmt}
 use Rattle.ppd_ast.specs.declared.program.Var.{Var}
-use Rattle.ppd_ast.proofs.ValidLaws.{each_at, slice_get_below, some_and, valid_body, valid_stmt}
+use Rattle.ppd_ast.proofs.ValidLaws.{some_and, valid_body, valid_stmt}
 use Rattle.ppd_cfg.proofs.Following.{in_some}
 use Rattle.ppd_cfg.proofs.Has.{all_has, any_from, any_gives, filter_same_in, flat_from, flat_gives, has_cons, has_first, in_bounds_has}
 use Rattle.ppd_cfg.proofs.Rows.{length_rows, row_at}
@@ -21,7 +21,7 @@ use Rattle.ppd_sets.proofs.Chains.{called_law}
 use Rattle.ppd_sets.proofs.Meeting.{vars_same}
 use Rattle.ppd_sets.specs.Gained.{HasCells}
 use Rattle.ppd_sets.specs.SetsOf.{AreSetsOf}
-use Rattle.ppd_sets.specs.Used.{body_reads, call_rows, called_from, is_met, numbers_in, reads_at, stmts_at, used_of, vars_met}
+use Rattle.ppd_sets.specs.Used.{body_reads, called_from, is_met, numbers_in, reads_at, stmts_at, used_of}
 use Rattle.ppd_sets.specs.declared.var_sets.VarSets.{VarSets}
 use Rattle.ppd_deps.proofs.Arriving.{body_there, filter_twice, has_those}
 use Rattle.ppd_deps.proofs.Naming.{shareds_small}

@@ -1,5 +1,6 @@
 -- From the rows to the graph.
-use Rattle.std.proofs.Common.{◌≡◌, ℕ, zero, suc, ◌+◌, ◌-◌, get_or, ◌<◌, ◌≤◌, Bool, true, false, cond, take, if◌then◌else◌, List, [], ◌∷◌, ◌++◌, length, map, replicate, append-nil, sym, refl, ap, ◌∙◌, arith}
+use Rattle.std.proofs.Common.{◌≡◌, drop, ℕ, zero, suc, ◌+◌, ◌-◌, get_or, ◌<◌, ◌≤◌, Bool, true, false, cond, take, if◌then◌else◌, List, [], ◌∷◌, ◌++◌, length, map, replicate, append-nil, sym, refl, ap, ◌∙◌, arith}
+use Rattle.std.proofs.Math.ListN.{drop_of_length-le}
 use Rattle.std.proofs.lemmas.List.{length-replicate, take_all, take_more}
 use Rattle.std.proofs.lemmas.List.Elements.{filter-append}
 use Rattle.std.proofs.lemmas.Grind.{flat_map-append}
@@ -41,6 +42,12 @@ graph_is p g none all empty adds is =
       rows = is ∙ by_rows (edges_of p) 0 n all long (λ t lt.
           adds.each t (omega (arith, start, lt)) ∙ ap (λ rows. row_at rows t ++ edges_of p t) empty ∙ ap (λ r. r ++ edges_of p t) (none_at n t) ∙ ap (edges_of p) (let z : t ≡ 0 + t = omega arith in z));
     }
+
+-- a front that was lent and given back as long leaves nothing of what stood there
+pub refilled : {A : Type 0} (old new : List A) (n : ℕ) → length new ≡ length old → n ≡ length old → take n (new ++ drop (length new) old) ≡ new
+refilled old new n long count =
+    ap (λ r. take n (new ++ r)) (drop_of_length-le old (let le : length old ≤ length new = omega (arith, long) in le)) ∙ ap (take n) (append-nil new)
+    ∙ take_all n new (let le : length new ≤ n = omega (arith, long, count) in le)
 
 counting : (s : ℕ) → range_with_len 0 (s + 1) ≡ range_with_len 0 s ++ s ∷ []
 counting s =

@@ -1,8 +1,8 @@
 -- No data edge is invented.
-use Rattle.std.proofs.Common.{◌≡◌, ℕ, zero, suc, ◌+◌, ◌<◌, List, [], ◌∷◌, ◌++◌, Bool, true, false, Option, Some, None, length, map, get_or, refl, sym, ap, ◌∙◌, subst, arith, inl, inr, ◌⊎◌, true≢false}
-use Rattle.std.specs.Prelude.{IsTrue, nat_eq, not, slice_get, ◌&&◌, if◌then◌else◌}
-use Rattle.std.specs.List.{Contains, filter, flat_map, range_with_len}
-use Rattle.std.proofs.lemmas.Bool.{and_parts, eqb-true, false_from_ne_true}
+use Rattle.std.proofs.Common.{◌≡◌, ℕ, zero, suc, ◌<◌, List, [], ◌∷◌, ◌++◌, Bool, true, false, Option, Some, None, length, map, get_or, refl, sym, ap, ◌∙◌, subst, arith, inl, inr, ◌⊎◌, true≢false}
+use Rattle.std.specs.Prelude.{IsTrue, nat_eq, not, slice_get, if◌then◌else◌}
+use Rattle.std.specs.List.{Contains, flat_map, range_with_len}
+use Rattle.std.proofs.lemmas.Bool.{and_parts, eqb-true}
 use Rattle.ppd_ast.specs.Numbered.{is_while}
 use Rattle.ppd_ast.specs.declared.program.Program.{Program}
 use Rattle.ppd_ast.specs.declared.program.Stmt.{Stmt}
@@ -16,7 +16,7 @@ use Rattle.ppd_deps.proofs.Reaching.{row_gives}
 use Rattle.ppd_deps.specs.declared.edges.StaticEdge.{StaticEdge}
 use Rattle.ppd_deps.specs.declared.edges.StaticEdge.TheVariants.{Data, ControlEntry, Control}
 use Rattle.ppd_deps.specs.Edges.{begins, comes_to, control_into, control_of, data_from, data_into, edges_of, ends_paths, kept_rows, local_edge, locals_from, outer_edge, shared_edge, shared_from}
-use Rattle.ppd_deps.specs.Laws.{HasPath, IsKeptPath, IsShared, NoEdgeIsInvented}
+use Rattle.ppd_deps.specs.Laws.{IsKeptPath, NoEdgeIsInvented}
 use Rattle.ppd_deps.specs.Named.{body_of, local_reads, locals_of, shared_reads, shared_writes}
 
 -- ---- paths

@@ -1,7 +1,6 @@
 -- The variables that statements read and write.
-use Rattle.std.proofs.Common.{◌≡◌, ℕ, ◌+◌, ◌<◌, ◌≤◌, List, [], ◌∷◌, ◌++◌, Bool, true, false, Option, Some, None, length, drop, get_or, refl, sym, ap, ◌∙◌, subst, arith, inl, inr, true≢false}
-use Rattle.std.specs.Prelude.{IsTrue, nat_eq, slice_get, ◌&&◌}
-use Rattle.std.specs.List.{All, filter, flat_map, range_with_len}
+use Rattle.std.proofs.Common.{◌≡◌, ℕ, ◌+◌, ◌<◌, ◌≤◌, List, [], Bool, true, false, Option, Some, None, length, drop, get_or, refl, sym, ap, ◌∙◌, subst, arith}
+use Rattle.std.specs.Prelude.{nat_eq, slice_get}
 use Rattle.ppd_ast.specs.declared.program.Body.{Body}
 use Rattle.ppd_ast.specs.declared.program.Program.{Program}
 use Rattle.ppd_ast.specs.declared.program.Stmt.{Stmt}
@@ -17,7 +16,7 @@ use Rattle.ppd_sets.specs.Named.{reads, writes}
 use Rattle.ppd_sets.specs.Used.{reads_at, vars_met, writes_at}
 use Rattle.ppd_sets.proofs.Gaining.{gains_as, gains_none}
 use Rattle.ppd_sets.proofs.Meeting.{shared_small, vars_same}
-use Rattle.ppd_deps.specs.Named.{body_of, local_reads, local_writes, locals_of, locals_of_body}
+use Rattle.ppd_deps.specs.Named.{locals_of, locals_of_body}
 use Rattle.ppd_deps.specs.Tables.{AreSmall}
 
 -- ---- a search

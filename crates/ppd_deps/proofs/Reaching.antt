@@ -1,8 +1,7 @@
 -- The rows along which a local variable's values are kept, and where they come.
-use Rattle.std.proofs.Common.{◌≡◌, ◌↔◌, ℕ, ◌+◌, ◌<◌, List, [], ◌∷◌, ◌++◌, Bool, true, false, Option, Some, None, length, map, refl, sym, ap, ◌∙◌, subst, arith, inl, inr, true≢false}
-use Rattle.std.specs.Prelude.{IsTrue, nat_eq, nat_lt, not, ◌&&◌, slice_get, if◌then◌else◌}
-use Rattle.std.specs.List.{filter, flat_map, list_any, range_with_len}
-use Rattle.std.proofs.lemmas.Bool.{cases_Bool, cond-true, cond-false}
+use Rattle.std.proofs.Common.{◌≡◌, ◌↔◌, ℕ, ◌+◌, ◌<◌, List, [], Bool, true, false, Option, None, length, refl, sym, ap, ◌∙◌, subst, arith, inl, inr, true≢false}
+use Rattle.std.specs.Prelude.{IsTrue, nat_eq, not, ◌&&◌, if◌then◌else◌}
+use Rattle.std.specs.List.{filter, flat_map}
 use Rattle.ppd_ast.specs.Valid.{IsValid}
 use Rattle.ppd_ast.specs.declared.program.Program.{Program}
 use Rattle.ppd_ast.specs.declared.program.Var.{Var}
@@ -10,10 +9,10 @@ use Rattle.ppd_cfg.specs.Flow.{kind_of, next_of, top_of}
 use Rattle.ppd_cfg.specs.Lists.{AreBelow, first_or, has, row, to_list}
 use Rattle.ppd_cfg.specs.Reach.{Reached, closed, leads}
 use Rattle.ppd_cfg.specs.WorkList.{AreRowsBelow, is_marked}
-use Rattle.ppd_cfg.proofs.Has.{flat_gives, has_cases, has_filter, row_there}
+use Rattle.ppd_cfg.proofs.Has.{flat_gives, has_cases, row_there}
 use Rattle.ppd_cfg.proofs.Leading.{leads-tests}
 use Rattle.ppd_cfg.proofs.Rows.{length_rows, row_at}
-use Rattle.ppd_units.proofs.Fitting.{first_of_body_fits, listed_below, next_below, none_below}
+use Rattle.ppd_units.proofs.Fitting.{first_of_body_fits, listed_below, next_below}
 use Rattle.ppd_deps.specs.Edges.{begins, ends_paths, kept_next, kept_rows}
 use Rattle.ppd_deps.specs.Named.{body_of, local_writes, passes, places}
 

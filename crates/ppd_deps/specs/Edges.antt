@@ -1,5 +1,5 @@
 -- The static edges into a statement.
-use Rattle.std.specs.Prelude.{ℕ, min, nat_eq, Bool, true, false, not, is_some, ◌&&◌, List, [], ◌∷◌, ◌++◌, map, length, Option, Some, None, slice_get, if◌then◌else◌}
+use Rattle.std.specs.Prelude.{ℕ, nat_eq, Bool, true, false, not, is_some, ◌&&◌, List, [], ◌∷◌, ◌++◌, map, length, Option, Some, None, slice_get, if◌then◌else◌}
 use Rattle.std.specs.List.{filter, flat_map, range_with_len}
 use Rattle.ppd_ast.specs.Numbered.{is_while}
 use Rattle.ppd_ast.specs.declared.program.Kind.{Kind}
@@ -10,7 +10,7 @@ use Rattle.ppd_ast.specs.declared.program.Target.{Target}
 use Rattle.ppd_ast.specs.declared.program.Target.TheVariants as T
 use Rattle.ppd_ast.specs.declared.program.Var.{Var}
 use Rattle.ppd_cfg.specs.Flow.{kind_of, next_of, top_of}
-use Rattle.ppd_cfg.specs.Lists.{first_or, has, those, to_list}
+use Rattle.ppd_cfg.specs.Lists.{first_or, has, to_list}
 use Rattle.ppd_cfg.specs.Reach.{closed, leads}
 use Rattle.ppd_deps.specs.declared.edges.StaticEdge.{StaticEdge}
 use Rattle.ppd_deps.specs.declared.edges.StaticEdge.TheVariants.{Data, ControlEntry, Control}

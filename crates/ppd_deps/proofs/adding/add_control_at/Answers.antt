@@ -1,7 +1,4 @@
-use Rattle.std.proofs.Common.{◌≡◌, ◌∙◌, ◌<◌, ◌≤◌, ◌+◌, ◌++◌, ◌∷◌, [], ℕ, List, sym, ap, subst, arith, length, map, refl, Some, get_or, true, false, append_assoc}
-use Rattle.std.proofs.lemmas.Option.{slice_get-get_or}
-use Rattle.std.specs.Prelude.{slice_get, if◌then◌else◌}
-use Rattle.ppd_ast.specs.declared.program.Stmt.{Stmt}
+use Rattle.std.proofs.Common.{◌∙◌, sym}
 use Rattle.ppd_deps.proofs.Tabled.{control_other, control_while, stmt_got}
 use Rattle.ppd_deps.proofs.adding.add_control_at.Goals as goal
 

@@ -1,5 +1,3 @@
-use Rattle.std.proofs.Common.{◌≡◌, ◌∙◌, ◌<◌, ◌≤◌, ◌+◌, ◌++◌, ◌∷◌, [], ℕ, List, sym, ap, subst, arith, length, map, refl, Some, get_or, true, false, append_assoc}
-use Rattle.std.specs.List.{flat_map, range_with_len}
 use Rattle.ppd_deps.proofs.Added.{adds_as, adds_then}
 use Rattle.ppd_deps.proofs.Graphs.{data_more}
 use Rattle.ppd_deps.proofs.adding.add_data.Goals as goal

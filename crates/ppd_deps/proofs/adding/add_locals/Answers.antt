@@ -1,4 +1,4 @@
-use Rattle.std.proofs.Common.{◌≡◌, ◌∙◌, ◌<◌, ◌≤◌, ◌+◌, ◌++◌, ◌∷◌, [], ℕ, List, sym, ap, subst, arith, length, map, refl, Some, get_or, true, false, append_assoc}
+use Rattle.std.proofs.Common.{◌≡◌, ◌∙◌, ap, arith, length, map}
 use Rattle.std.specs.Prelude.{min, ◌&&◌}
 use Rattle.ppd_cfg.specs.Lists.{those}
 use Rattle.ppd_deps.proofs.Added.{adds_as, adds_then}

@@ -1,5 +1,5 @@
 use Rattle.std.proofs.Common.{map}
-use Rattle.ppd_cfg.specs.Lists.{has, those}
+use Rattle.ppd_cfg.specs.Lists.{those}
 use Rattle.std.specs.Prelude.{◌&&◌}
 use Rattle.ppd_deps.specs.Edges.{comes_to, local_edge}
 use Rattle.ppd_deps.specs.Rows.{Adds, is_reader}

@@ -1,5 +1,4 @@
-use Rattle.std.proofs.Common.{◌≡◌, ◌∙◌, ◌<◌, ◌≤◌, ◌+◌, ◌++◌, ◌∷◌, [], ℕ, List, sym, ap, subst, arith, length, map, refl, Some, get_or, true, false, append_assoc}
-use Rattle.ppd_ast.specs.declared.program.Kind.{Kind}
+use Rattle.std.proofs.Common.{◌∙◌, ap}
 use Rattle.ppd_cfg.specs.Flow.{kind_of_stmt}
 use Rattle.ppd_deps.proofs.Added.{adds_as}
 use Rattle.ppd_deps.proofs.Arriving.{call_edges, own_by, own_edges}

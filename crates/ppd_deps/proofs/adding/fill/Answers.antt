@@ -1,4 +1,3 @@
-use Rattle.std.proofs.Common.{◌≡◌, ◌∙◌, ◌<◌, ◌≤◌, ◌+◌, ◌++◌, ◌∷◌, [], ℕ, List, sym, ap, subst, arith, length, map, refl, Some, get_or, true, false, append_assoc}
 use Rattle.ppd_deps.proofs.Added.{adds_then}
 use Rattle.ppd_deps.proofs.adding.fill.Goals as goal
 

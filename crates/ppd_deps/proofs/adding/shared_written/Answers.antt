@@ -1,4 +1,4 @@
-use Rattle.std.proofs.Common.{◌≡◌, ◌∙◌, ◌<◌, ◌≤◌, ◌+◌, ◌++◌, ◌∷◌, [], ℕ, List, sym, ap, subst, arith, length, map, refl, Some, get_or, true, false, append_assoc}
+use Rattle.std.proofs.Common.{◌∙◌, [], sym, ap, true}
 use Rattle.std.proofs.lemmas.Bool.{cond-true}
 use Rattle.ppd_cfg.specs.Lists.{has}
 use Rattle.ppd_sets.specs.Used.{vars_met, writes_at}

@@ -1,10 +1,9 @@
-use Rattle.std.proofs.Common.{◌≡◌, ◌∙◌, ◌<◌, ◌≤◌, ◌+◌, ◌++◌, ◌∷◌, [], ℕ, List, sym, ap, subst, arith, length, map, refl, Some, get_or, true, false, append_assoc}
+use Rattle.std.proofs.Common.{◌∙◌, sym, ap, subst, length}
 use Rattle.std.specs.Prelude.{slice_get}
 use Rattle.ppd_cfg.specs.Lists.{AreBelow}
 use Rattle.ppd_cfg.specs.Reach.{closed, leads}
 use Rattle.ppd_cfg.specs.WorkList.{AreRowsBelow}
 use Rattle.ppd_deps.proofs.Reaching.{kept_below, kept_long, marks_lead}
-use Rattle.ppd_deps.specs.Edges.{kept_rows}
 use Rattle.ppd_deps.specs.Named.{locals_of}
 use Rattle.ppd_deps.proofs.locals.arrivals.Goals as goal
 

@@ -1,4 +1,4 @@
-use Rattle.std.proofs.Common.{◌≡◌, ◌∙◌, ◌<◌, ◌≤◌, ◌+◌, ◌++◌, ◌∷◌, [], ℕ, List, sym, ap, subst, arith, length, map, refl, Some, get_or, true, false, append_assoc}
+use Rattle.std.proofs.Common.{◌∙◌, ◌++◌, sym, ap}
 use Rattle.std.proofs.Common.{take}
 use Rattle.std.specs.List.{filter, flat_map}
 use Rattle.ppd_cfg.specs.Flow.{next_of}

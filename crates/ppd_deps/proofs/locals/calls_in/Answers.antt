@@ -1,4 +1,4 @@
-use Rattle.std.proofs.Common.{◌≡◌, ◌∙◌, ◌<◌, ◌≤◌, ◌+◌, ◌++◌, ◌∷◌, [], ℕ, List, sym, ap, subst, arith, length, map, refl, Some, get_or, true, false, append_assoc}
+use Rattle.std.proofs.Common.{◌∙◌, ◌≤◌, ◌++◌, ◌∷◌, [], ℕ, sym, ap, arith}
 use Rattle.ppd_deps.proofs.Tabled.{range_no, range_yes}
 use Rattle.ppd_deps.specs.Named.{calls}
 use Rattle.ppd_deps.proofs.locals.calls_in.Goals as goal

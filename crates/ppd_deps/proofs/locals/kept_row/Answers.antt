@@ -1,4 +1,4 @@
-use Rattle.std.proofs.Common.{◌≡◌, ◌∙◌, ◌<◌, ◌≤◌, ◌+◌, ◌++◌, ◌∷◌, [], ℕ, List, sym, ap, subst, arith, length, map, refl, Some, get_or, true, false, append_assoc}
+use Rattle.std.proofs.Common.{◌∙◌, [], sym}
 use Rattle.std.specs.Prelude.{not, nat_eq, slice_get, ◌&&◌}
 use Rattle.std.proofs.lemmas.Bool.{cond-true}
 use Rattle.ppd_cfg.specs.Flow.{kind_of, next_of}

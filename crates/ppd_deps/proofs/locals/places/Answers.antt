@@ -1,4 +1,4 @@
-use Rattle.std.proofs.Common.{◌≡◌, ◌∙◌, ◌<◌, ◌≤◌, ◌+◌, ◌++◌, ◌∷◌, [], ℕ, List, sym, ap, subst, arith, length, map, refl, Some, get_or, true, false, append_assoc}
+use Rattle.std.proofs.Common.{◌≡◌, sym, subst, length, Some}
 use Rattle.std.specs.Prelude.{slice_get}
 use Rattle.ppd_cfg.specs.Lists.{AreBelow}
 use Rattle.ppd_deps.proofs.Arriving.{own_by}

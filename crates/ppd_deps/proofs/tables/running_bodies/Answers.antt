@@ -1,4 +1,4 @@
-use Rattle.std.proofs.Common.{◌≡◌, ◌∙◌, ◌<◌, ◌≤◌, ◌+◌, ◌++◌, ◌∷◌, [], ℕ, List, sym, ap, subst, arith, length, map, refl, Some, get_or, true, false, append_assoc}
+use Rattle.std.proofs.Common.{◌≡◌, ◌∙◌, ℕ, List, sym, ap, subst, arith, length}
 use Rattle.ppd_cfg.specs.Lists.{AreBelow, those}
 use Rattle.ppd_cfg.specs.Reach.{closed, leads}
 use Rattle.ppd_cfg.specs.WorkList.{AreRowsBelow}

@@ -1,4 +1,4 @@
-use Rattle.std.proofs.Common.{◌≡◌, ◌∙◌, ◌<◌, ◌≤◌, ◌+◌, ◌++◌, ◌∷◌, [], ℕ, List, sym, ap, subst, arith, length, map, refl, Some, get_or, true, false, append_assoc}
+use Rattle.std.proofs.Common.{◌∙◌, ap, false}
 use Rattle.ppd_sets.specs.Used.{writes_at, vars_met}
 use Rattle.ppd_deps.proofs.Naming.{locals_small, met_as}
 use Rattle.ppd_deps.specs.Named.{body_of, locals_of}

@@ -1,4 +1,4 @@
-use Rattle.std.proofs.Common.{◌≡◌, ◌∙◌, ◌<◌, ◌≤◌, ◌+◌, ◌++◌, ◌∷◌, [], ℕ, List, sym, ap, subst, arith, length, map, refl, Some, get_or, true, false, append_assoc}
+use Rattle.std.proofs.Common.{◌∙◌, length}
 use Rattle.ppd_cfg.specs.Flow.{next_of}
 use Rattle.ppd_deps.proofs.Tabled.{table_at, table_long}
 use Rattle.ppd_deps.proofs.tables.Tables.next_at.Goals as goal

@@ -1,4 +1,4 @@
-use Rattle.std.proofs.Common.{◌≡◌, ◌∙◌, ◌<◌, ◌≤◌, ◌+◌, ◌++◌, ◌∷◌, [], ℕ, List, sym, ap, subst, arith, length, map, refl, Some, get_or, true, false, append_assoc}
+use Rattle.std.proofs.Common.{◌∙◌, ap, length}
 use Rattle.ppd_cfg.specs.Lists.{has}
 use Rattle.ppd_deps.proofs.Tabled.{table_at, table_long}
 use Rattle.ppd_deps.specs.Named.{local_reads}
