@@ -1,0 +1,85 @@
+//! Recordings put together by their parts, and what a schedule of the recorded program logs.
+
+ghost use Rattle.std.specs.Prelude.{◌≤◌, IfSome};
+ghost use Rattle.ppd_ast.specs.declared.limits.TheConstants.{MOST_BUDGET};
+
+use ppd_ast::limits::MOST_BUDGET;
+use ppd_codec::{Recording, decode, encode};
+use ppd_model::Closed;
+use ppd_world::World;
+use std::alloc::Global;
+
+/// The source of the smallest run, 48 bytes.
+pub const SMALLEST: &str = "shared int x; process a { x = 2; print(x + 3); }";
+
+/// The recording of a source under the policy of which both numbers are 0: its version, its budget, and what stands
+/// after the source. None where memory is wanting.
+pub fn recorded(
+    alloc: Global,
+    version: u8,
+    budget: u32,
+    source: &str,
+    logs: &[u8],
+) -> Option<Vec<u8>> {
+    let mut bytes = Vec::from_slice(alloc, b"PPDR").ok()?;
+    bytes.push(version).ok()?;
+    bytes.extend_from_slice(&budget.to_be_bytes()).ok()?;
+    bytes.extend_from_slice(&[0, 0, 0, 0]).ok()?;
+    bytes
+        .extend_from_slice(&(source.len() as u32).to_be_bytes())
+        .ok()?;
+    bytes.extend_from_slice(source.as_bytes()).ok()?;
+    bytes.extend_from_slice(logs).ok()?;
+    Some(bytes)
+}
+
+/// The recording of the smallest run, 107 bytes.
+pub fn smallest(alloc: Global) -> Option<Vec<u8>> {
+    let logs = [
+        1, 0, 0, 0, 4, 1, 0, 0, 0, 0, 2, 0, 0, 0, 1, 0, 0, 0, 0, 0, 0, 0, 0, 4, 0, 0, 0, 0, 5, 0,
+        0, 0, 0, 3, 0, 1, 0, 0, 0, 1, 0, 0,
+    ];
+    recorded(alloc, 1, 100_000, SMALLEST, &logs)
+}
+
+// The recorded program, driven by the schedule and closed where nobody is enabled then.
+fn driven(alloc: Global, recording: &Recording, schedule: &[u8]) -> Option<Closed> {
+    if recording.header.budget > MOST_BUDGET
+        || !recording.program.valid()
+        || !recording.plan.valid(&recording.program)
+    {
+        return None;
+    }
+    let mut world = World::new(
+        alloc,
+        &recording.program,
+        &recording.plan,
+        recording.header.budget,
+    )
+    .ok()?;
+    world.drive(schedule).ok()?;
+    if world.over() {
+        world.close().ok()
+    } else {
+        None
+    }
+}
+
+/// Whether the bytes record what the schedule logs, and are what is encoded of it again.
+pub fn records(alloc: Global, bytes: &[u8], schedule: &[u8]) -> bool {
+    let Ok(recording) = decode(alloc, bytes) else {
+        return false;
+    };
+    let Some(closed) = driven(alloc, &recording, schedule) else {
+        return false;
+    };
+    let Ok(again) = encode(
+        alloc,
+        recording.source.as_slice(),
+        &recording.header,
+        &recording.logs,
+    ) else {
+        return false;
+    };
+    closed.logs == recording.logs && again.as_slice() == bytes
+}
