@@ -11,9 +11,9 @@ const FIELDS: [u32; 26] = [
 // The first byte of the field that the byte at this offset is of.
 fn field_at(offset: u32) -> u32 {
     let mut field = 0;
-    for first in FIELDS {
-        if first <= offset {
-            field = first;
+    for first in FIELDS.iter() {
+        if *first <= offset {
+            field = *first;
         }
     }
     field
@@ -48,17 +48,28 @@ fn each_prefix(rt: HostRuntime) {
 #[test]
 fn each_damage(rt: HostRuntime) {
     let alloc = rt.alloc();
-    for (at, new, bad) in [
-        (0, &[0x51][..], BadBytes::Magic(0)),
-        (4, &[3][..], BadBytes::Version(4)),
-        (5, &[0, 0, 0, 0][..], BadBytes::Range(5, Field::Budget)),
-        (65, &[2][..], BadBytes::Range(65, Field::Processes)),
-        (70, &[9][..], BadBytes::Range(70, Field::Tag)),
-        (94, &[8][..], BadBytes::Range(94, Field::Status)),
-        (102, &[1][..], BadBytes::Range(101, Field::Cells)),
-    ] {
-        assert_eq!(rt; changed(alloc, at, new), Some(bad));
-    }
+    assert_eq!(rt; changed(alloc, 0, &[0x51]), Some(BadBytes::Magic(0)));
+    assert_eq!(rt; changed(alloc, 4, &[3]), Some(BadBytes::Version(4)));
+    assert_eq!(rt;
+        changed(alloc, 5, &[0, 0, 0, 0]),
+        Some(BadBytes::Range(5, Field::Budget))
+    );
+    assert_eq!(rt;
+        changed(alloc, 65, &[2]),
+        Some(BadBytes::Range(65, Field::Processes))
+    );
+    assert_eq!(rt;
+        changed(alloc, 70, &[9]),
+        Some(BadBytes::Range(70, Field::Tag))
+    );
+    assert_eq!(rt;
+        changed(alloc, 94, &[8]),
+        Some(BadBytes::Range(94, Field::Status))
+    );
+    assert_eq!(rt;
+        changed(alloc, 102, &[1]),
+        Some(BadBytes::Range(101, Field::Cells))
+    );
 }
 
 #[test]

@@ -1,7 +1,7 @@
 //! Recordings put together by their parts, and what a schedule of the recorded program logs.
 
-ghost use Rattle.std.specs.Prelude.{◌≤◌, IfSome};
-ghost use Rattle.ppd_ast.specs.declared.limits.TheConstants.{MOST_BUDGET};
+ghost use Rattle.std.specs.Prelude.{IfSome};
+ghost use Rattle.ppd_world.specs.Running.{IsReached};
 
 use ppd_ast::limits::MOST_BUDGET;
 use ppd_codec::{Recording, decode, encode};
@@ -42,27 +42,34 @@ pub fn smallest(alloc: Global) -> Option<Vec<u8>> {
     recorded(alloc, 1, 100_000, SMALLEST, &logs)
 }
 
-// The recorded program, driven by the schedule and closed where nobody is enabled then.
-fn driven(alloc: Global, recording: &Recording, schedule: &[u8]) -> Option<Closed> {
-    if recording.header.budget > MOST_BUDGET
-        || !recording.program.valid()
-        || !recording.plan.valid(&recording.program)
-    {
+// The recorded program before its first step. None where it, its plan or its budget is not valid.
+fn start(alloc: Global, recording: &Recording) -> Option<World>
+    ensures { IfSome result (λ world. IsReached world) }
+{
+    let program = &recording.program;
+    let budget = recording.header.budget;
+    if budget > MOST_BUDGET || !program.valid() || !recording.plan.valid(program) {
         return None;
     }
-    let mut world = World::new(
-        alloc,
-        &recording.program,
-        &recording.plan,
-        recording.header.budget,
-    )
-    .ok()?;
-    world.drive(schedule).ok()?;
+    World::new(alloc, program, &recording.plan, budget).ok()
+}
+
+// The closed run, where nobody is enabled.
+fn close(world: World) -> Option<Closed>
+    requires { IsReached world }
+{
     if world.over() {
         world.close().ok()
     } else {
         None
     }
+}
+
+// The recorded program, driven by the schedule and closed where nobody is enabled then.
+fn driven(alloc: Global, recording: &Recording, schedule: &[u8]) -> Option<Closed> {
+    let mut world = start(alloc, recording)?;
+    world.drive(schedule).ok()?;
+    close(world)
 }
 
 /// Whether the bytes record what the schedule logs, and are what is encoded of it again.

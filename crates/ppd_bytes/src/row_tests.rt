@@ -1,5 +1,6 @@
 use crate::pieces::{recorded, records, smallest};
 use ppd_codec::{BadBytes, Field, decode};
+use std::alloc::Global;
 
 #[test]
 fn smallest_run(rt: HostRuntime) {
@@ -14,26 +15,30 @@ fn smallest_run(rt: HostRuntime) {
 const UNREAD: &str =
     "shared int x, y; sem s = 1; process p { P(s); if (y) { print(x); } } process q { x = 5; }";
 
+// The recording of a run of this source, in which Unit 1 holds this value of x.
+fn unread(alloc: Global, x: u8) -> Option<Vec<u8>> {
+    let logs = [
+        2, 0, 0, 0, 6, 1, 0, 0, 0, 0, 2, 0, 0, 0, 0, 3, 1, 0, 0, 0, 0, 1, 0, 0, 0, 0, 0, 0, 0, 0,
+        0, 0, 0, 0,
+        // Unit 1
+        2, 0, 1, 0, 2, 0, 0, 0, 0, 0, 0, 0, x, 0, 0, 0, 0, 0, 0, 0, 0,
+        // the end of p, which read y
+        4, 0, 0, 0, 0, 5, 0, 0, 0, 0, 2, 0, 1, 0, 1, 0, 0,
+        // q, which wrote x
+        0, 0, 0, 4, 1, 0, 1, 0, 0, 2, 0, 2, 0, 0, 4, 0, 1, 0, 0, 5, 0, 0, 0, 0, 1, 0, 0, 0, 1, 0,
+        0,
+    ];
+    recorded(alloc, 1, 100_000, UNREAD, &logs)
+}
+
 #[test]
 fn unread_snapshot(rt: HostRuntime) {
     let alloc = rt.alloc();
-    for (x, schedule) in [(0, [0, 0, 0, 0, 1, 1]), (5, [1, 1, 0, 0, 0, 0])] {
-        let logs = [
-            2, 0, 0, 0, 6, 1, 0, 0, 0, 0, 2, 0, 0, 0, 0, 3, 1, 0, 0, 0, 0, 1, 0, 0, 0, 0, 0, 0, 0,
-            0, 0, 0, 0, 0,
-            // Unit 1
-            2, 0, 1, 0, 2, 0, 0, 0, 0, 0, 0, 0, x, 0, 0, 0, 0, 0, 0, 0, 0,
-            // the end of p, which read y
-            4, 0, 0, 0, 0, 5, 0, 0, 0, 0, 2, 0, 1, 0, 1, 0, 0,
-            // q, which wrote x
-            0, 0, 0, 4, 1, 0, 1, 0, 0, 2, 0, 2, 0, 0, 4, 0, 1, 0, 0, 5, 0, 0, 0, 0, 1, 0, 0, 0, 1,
-            0, 0,
-        ];
-        let Some(bytes) = recorded(alloc, 1, 100_000, UNREAD, &logs) else {
-            panic!(rt; "memory");
-        };
-        assert!(rt; records(alloc, bytes.as_slice(), &schedule));
-    }
+    let (Some(before), Some(after)) = (unread(alloc, 0), unread(alloc, 5)) else {
+        panic!(rt; "memory");
+    };
+    assert!(rt; records(alloc, before.as_slice(), &[0, 0, 0, 0, 1, 1]));
+    assert!(rt; records(alloc, after.as_slice(), &[1, 1, 0, 0, 0, 0]));
 }
 
 #[test]

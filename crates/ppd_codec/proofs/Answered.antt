@@ -19,7 +19,7 @@ use Rattle.ppd_codec.specs.Came.{Came}
 use Rattle.ppd_codec.specs.Form.{Form}
 use Rattle.ppd_codec.specs.Format.{Front, back, front, recording}
 use Rattle.ppd_codec.specs.Reader.{Got, Reader, after, done}
-use Rattle.ppd_codec.specs.Recordings.{ComesToSource, IsBad, IsDecoded, IsJudged, IsLawfulBy, IsMade, Judged, all_of, back_by, facts_of, fields_of, front_of, nothing_left, reading, refusal, spelled, version_of}
+use Rattle.ppd_codec.specs.Recordings.{AreLawful, ComesToSource, IsBad, IsDecoded, IsJudged, IsLawfulBy, IsMade, Judged, all_of, back_by, facts_of, fields_of, front_of, nothing_left, reading, refusal, spelled, version_of}
 use Rattle.ppd_codec.proofs.Inverts.{AreBytes, Wrote, got, ok_is}
 use Rattle.ppd_codec.proofs.Built.{Holds}
 use Rattle.ppd_codec.proofs.Parts.{recording_holds}
@@ -168,3 +168,7 @@ made_decoded bytes v header s now rest p lists r short b came is n m =
           ∙ ap (λ (h : Header). spelled r.program r.source h logs) (sym m.header) ∙ ap (λ (l : Logs). spelled r.program r.source r.header l) same;
       plan = m.plan ∙ ap (λ (q : Program). plan_of q header.policy) (sym m.program) ∙ ap (λ (h : Header). plan_of r.program h.policy) (sym m.header);
     }
+
+-- what was decoded can be encoded again
+pub lawful_again : (bytes : List ℕ) (r : Recording) → IsDecoded bytes r → AreLawful r.source r.header r.logs
+lawful_again bytes r d = (r.program, d.lawful)

@@ -3,7 +3,7 @@ ghost use Rattle.ppd_ast.specs.Valid.{IsValid};
 ghost use Rattle.ppd_ast.specs.ValidPlan.{IsValidPlan, IsValidPolicy};
 ghost use Rattle.ppd_codec.specs.Came.{Came, Refuses};
 ghost use Rattle.ppd_codec.specs.Format.{back as back_form};
-ghost use Rattle.ppd_codec.specs.Recordings.{IsBad, IsDecoded, IsMade, nothing_left, refusal as refusal_of};
+ghost use Rattle.ppd_codec.specs.Recordings.{AreLawful, IsBad, IsDecoded, IsMade, nothing_left, refusal as refusal_of};
 
 use crate::bad::{BadBytes, Field};
 use crate::cursor::Cursor;
@@ -106,6 +106,7 @@ pub fn decode_in<L: Ledger>(
     steps: &mut Steps<L>,
 ) -> Result<Recording, BadBytes>
     ensures ok { IfOk result (IsDecoded bytes.now) }
+    ensures again { IfOk result (λ r. AreLawful r.source r.header r.logs) }
     ensures valid { IfOk result (λ r. IsValid r.program) }
     ensures plan { IfOk result (λ r. IsValidPlan r.program r.plan) }
     ensures err { IfErr result (λ e. e ≢ BadBytes.Memory → IsBad bytes.now e) }
@@ -131,6 +132,7 @@ fn decode_from<L: Ledger>(alloc: Global, bytes: &[u8], blank: Blank) -> Result<R
     requires parts { blank.parts ≡ L.parts }
     requires some { 0 < blank.parts }
     ensures ok { IfOk result (IsDecoded bytes.now) }
+    ensures again { IfOk result (λ r. AreLawful r.source r.header r.logs) }
     ensures valid { IfOk result (λ r. IsValid r.program) }
     ensures plan { IfOk result (λ r. IsValidPlan r.program r.plan) }
     ensures err { IfErr result (λ e. e ≢ BadBytes.Memory → IsBad bytes.now e) }
@@ -148,6 +150,7 @@ fn decode_from<L: Ledger>(alloc: Global, bytes: &[u8], blank: Blank) -> Result<R
 /// last. `Memory` is want of memory.
 pub fn decode(alloc: Global, bytes: &[u8]) -> Result<Recording, BadBytes>
     ensures ok { IfOk result (IsDecoded bytes.now) }
+    ensures again { IfOk result (λ r. AreLawful r.source r.header r.logs) }
     ensures valid { IfOk result (λ r. IsValid r.program) }
     ensures plan { IfOk result (λ r. IsValidPlan r.program r.plan) }
     ensures err { IfErr result (λ e. e ≢ BadBytes.Memory → IsBad bytes.now e) }

@@ -13,6 +13,6 @@ returns-clause-rec g c =
     let begun = c.new-writer.result.out.items in
     let first = c.front.new.self.out.items in
     let last : c.from_vec.result ≡ first ++ (logs f).bytes c.args.logs.now.lists =
-        c.from_vec.ensures ∙ c.in_ok-logs.ensures.ok f ∙ ap (λ (ls : _). first ++ (logs f).bytes ls) c.as_slice.ensures in
+    c.from_vec.ensures ∙ c.in_ok-logs.ensures.ok f ∙ ap (λ (ls : _). first ++ (logs f).bytes ls) c.as_slice.ensures in
     recorded c.requires.lawful.0 c.args.source.now c.args.header.now c.args.logs.now c.requires.lawful.1 q c.facts_of.result.version begun first c.from_vec.result
-        c.in-Ok.ensures.read same c.new-writer.ensures c.in_ok-front.ensures.ok last
+    c.in-Ok.ensures.read same c.new-writer.ensures c.in_ok-front.ensures.ok last
