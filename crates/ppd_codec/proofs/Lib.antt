@@ -1,0 +1,11 @@
+pub mod Inverts
+pub mod Widths
+pub mod Built
+pub mod Parts
+pub mod Coming
+pub mod Several
+pub mod Writing
+pub mod Answered
+pub mod Spelling
+pub mod Spelled
+pub mod Mapped

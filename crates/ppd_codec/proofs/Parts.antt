@@ -1,0 +1,176 @@
+-- The parts of a recording, both ways.
+use Rattle.std.specs.Prelude.{⊤, FitsSigned}
+use Rattle.std.specs.Int.{cast_signed, cast_unsigned, w16, w32, w64, to_be_bytes, from_be_bytes}
+use Rattle.std.proofs.Common.{Fits, ◌≡◌, ℕ, ◌<◌, ◌^◌, ℤ, List, [], ◌∷◌, Option, Some, None, refl, ap, sym, ◌∙◌}
+use Rattle.std.proofs.lemmas.Nat.{be_bytes_8, from_be_bytes-to_be_bytes_8}
+use Rattle.std.proofs.Math.Facts.{Fits-lt-pow, Fits-of_lt, Fits-of_z, of_z-to_z, sfits_to_z, to_z-of_z}
+use Rattle.ppd_entry.specs.declared.entry.Entry.{Entry}
+use Rattle.ppd_entry.specs.declared.entry.Entry.TheVariants as entry
+use Rattle.ppd_codec.specs.declared.bad.Field.TheVariants as F
+use Rattle.ppd_codec.specs.declared.bad.BadBytes.TheVariants as bad
+use Rattle.ppd_codec.specs.declared.facts.Facts.{Facts}
+use Rattle.ppd_codec.specs.declared.tag.Tag.{Tag}
+use Rattle.ppd_codec.specs.declared.tag.Tag.TheVariants as T
+use Rattle.ppd_codec.specs.Form.{Form, byte, first, number_2, number_4, value, value_bytes, value_of}
+use Rattle.ppd_codec.specs.Format.{End, Front, Sync, an_entry, back, budget, cells, end_of, end_parts, end_status, ended, front, is_next, kind_code, kinds, leaf, log, logs, loops, magic, magic_code, numbered, out_of, past, postlog_of, postlog_parts, prelog_of, prelog_parts, process_count, recording, row, source, source_length, status_code, statuses, sync_kind, sync_number, sync_of, sync_parts, sync_value, synced, tag, tag_code, tag_of, tags, unit_of, unit_parts, values, version}
+use Rattle.ppd_codec.proofs.Widths.{IsWidth, bound_8, byte_at, field_inverts, width_1, width_2, width_4}
+use Rattle.ppd_codec.proofs.Built.{Holds, block_holds, listed_along_holds, listed_holds, named_holds, one_of_holds, only_holds, pair_holds, ranged_holds, tagged_holds}
+
+-- ---- numbers
+
+pub byte_holds : Holds byte
+byte_holds = field_inverts 1 first byte.bytes byte.Lawful width_1
+
+pub number_2_holds : Holds number_2
+number_2_holds = field_inverts 2 (from_be_bytes w16) (to_be_bytes w16) number_2.Lawful width_2
+
+pub number_4_holds : Holds number_4
+number_4_holds = field_inverts 4 (from_be_bytes w32) (to_be_bytes w32) number_4.Lawful width_4
+
+small : {v : ℤ} → FitsSigned w64 v → cast_unsigned w64 v < 2 ^ 64
+small f = Fits-lt-pow (Fits-of_z f)
+
+fits : {n : ℕ} → n < 2 ^ 64 → Fits w64 n
+fits h = Fits-of_lt h
+
+width_8 : IsWidth 8 value_of value_bytes (FitsSigned w64)
+width_8 = record {
+  long = λ v. refl;
+  there = λ v f. ap (cast_signed w64) (from_be_bytes-to_be_bytes_8 (cast_unsigned w64 v) (small f)) ∙ to_z-of_z f;
+  lawful = λ bs l h. sfits_to_z (fits (bound_8 bs l h));
+  back = λ bs l h. ap (to_be_bytes w64) (of_z-to_z (fits (bound_8 bs l h))) ∙ be_bytes_8 bs (from_be_bytes w64 bs) l (byte_at bs h) refl;
+}
+
+pub value_holds : Holds value
+value_holds = field_inverts 8 value_of value_bytes (FitsSigned w64) width_8
+
+-- ---- the front
+
+magic_holds : Holds magic
+magic_holds = one_of_holds bad.Magic magic_code (tt ∷ []) number_4 number_4_holds
+
+source_holds : Holds source
+source_holds = block_holds source_length (ranged_holds _ _ number_4 number_4_holds)
+
+pub front_holds : Holds front
+front_holds =
+    pair_holds magic _ magic_holds (λ m.
+    pair_holds version _ (ranged_holds _ _ byte byte_holds) (λ v.
+    pair_holds budget _ (ranged_holds _ _ number_4 number_4_holds) (λ b.
+    pair_holds leaf _ (ranged_holds _ _ number_2 number_2_holds) (λ l.
+    pair_holds loops _ (ranged_holds _ _ number_2 number_2_holds) (λ p. source_holds)))))
+
+-- ---- rows
+
+values_hold : Holds values
+values_hold = listed_holds number_2 value number_2_holds value_holds
+
+cells_hold : (shared : ℕ) → Holds (cells shared)
+cells_hold shared = listed_along_holds number_2 (out_of F.Cells) (is_next shared) past 0 number_2 number_2_holds number_2_holds
+
+numbered_holds : Holds numbered
+numbered_holds = pair_holds number_2 (λ b. values) number_2_holds (λ b. values_hold)
+
+synced_holds : (f : Facts) → Holds (synced f)
+synced_holds f =
+    pair_holds (sync_kind f.version) _ (one_of_holds (out_of F.Kind) kind_code (kinds f.version) byte byte_holds) (λ k.
+    pair_holds byte _ byte_holds (λ o.
+    pair_holds sync_number _ (ranged_holds _ _ number_4 number_4_holds) (λ n.
+    pair_holds (sync_value k) _ (ranged_holds _ _ value value_holds) (λ v.
+    pair_holds (cells f.shared) _ (cells_hold f.shared) (λ r. cells_hold f.shared)))))
+
+ended_holds : (f : Facts) → Holds (ended f)
+ended_holds f =
+    pair_holds end_status _ (one_of_holds (out_of F.Status) status_code statuses byte byte_holds) (λ s.
+    pair_holds number_4 _ number_4_holds (λ n.
+    pair_holds (cells f.shared) _ (cells_hold f.shared) (λ r. cells_hold f.shared)))
+
+tag_holds : Holds tag
+tag_holds = one_of_holds (out_of F.Tag) tag_code tags byte byte_holds
+
+prelog_back : (x : _) (y : Entry) → prelog_parts y ≡ Some x → prelog_of x ≡ y
+prelog_back x (entry.Prelog b vs) e = let same : (b, vs) ≡ x = cc in ap prelog_of (sym same)
+prelog_back x (entry.Unit b vs) e = absurd (cc)
+prelog_back x (entry.Sync k o n v r w) e = absurd (cc)
+prelog_back x (entry.Postlog b vs) e = absurd (cc)
+prelog_back x (entry.End s n r w) e = absurd (cc)
+
+unit_back : (x : _) (y : Entry) → unit_parts y ≡ Some x → unit_of x ≡ y
+unit_back x (entry.Prelog b vs) e = absurd (cc)
+unit_back x (entry.Unit b vs) e = let same : (b, vs) ≡ x = cc in ap unit_of (sym same)
+unit_back x (entry.Sync k o n v r w) e = absurd (cc)
+unit_back x (entry.Postlog b vs) e = absurd (cc)
+unit_back x (entry.End s n r w) e = absurd (cc)
+
+postlog_back : (x : _) (y : Entry) → postlog_parts y ≡ Some x → postlog_of x ≡ y
+postlog_back x (entry.Prelog b vs) e = absurd (cc)
+postlog_back x (entry.Unit b vs) e = absurd (cc)
+postlog_back x (entry.Sync k o n v r w) e = absurd (cc)
+postlog_back x (entry.Postlog b vs) e = let same : (b, vs) ≡ x = cc in ap postlog_of (sym same)
+postlog_back x (entry.End s n r w) e = absurd (cc)
+
+sync_back : (x : Sync) (y : Entry) → sync_parts y ≡ Some x → sync_of x ≡ y
+sync_back x (entry.Prelog b vs) e = absurd (cc)
+sync_back x (entry.Unit b vs) e = absurd (cc)
+sync_back x (entry.Sync k o n v r w) e = let same : (k, (o, (n, (v, (r, w))))) ≡ x = cc in ap sync_of (sym same)
+sync_back x (entry.Postlog b vs) e = absurd (cc)
+sync_back x (entry.End s n r w) e = absurd (cc)
+
+end_back : (x : End) (y : Entry) → end_parts y ≡ Some x → end_of x ≡ y
+end_back x (entry.Prelog b vs) e = absurd (cc)
+end_back x (entry.Unit b vs) e = absurd (cc)
+end_back x (entry.Sync k o n v r w) e = absurd (cc)
+end_back x (entry.Postlog b vs) e = absurd (cc)
+end_back x (entry.End s n r w) e = let same : (s, (n, (r, w))) ≡ x = cc in ap end_of (sym same)
+
+row_holds : (f : Facts) (t : Tag) → Holds (row f t)
+row_holds f T.Prelog = named_holds prelog_of prelog_parts numbered (λ x. refl) prelog_back numbered_holds
+row_holds f T.Unit = named_holds unit_of unit_parts numbered (λ x. refl) unit_back numbered_holds
+row_holds f T.Sync = named_holds sync_of sync_parts (synced f) (λ x. refl) sync_back (synced_holds f)
+row_holds f T.Postlog = named_holds postlog_of postlog_parts numbered (λ x. refl) postlog_back numbered_holds
+row_holds f T.End = named_holds end_of end_parts (ended f) (λ x. refl) end_back (ended_holds f)
+
+-- a row is lawful for the entries of its tag alone
+row_tag : (f : Facts) (t : Tag) (y : Entry) → (row f t).Lawful y → tag_of y ≡ t
+row_tag f T.Prelog (entry.Prelog b vs) l = refl
+row_tag f T.Prelog (entry.Unit b vs) l = absurd l
+row_tag f T.Prelog (entry.Sync k o n v r w) l = absurd l
+row_tag f T.Prelog (entry.Postlog b vs) l = absurd l
+row_tag f T.Prelog (entry.End s n r w) l = absurd l
+row_tag f T.Unit (entry.Prelog b vs) l = absurd l
+row_tag f T.Unit (entry.Unit b vs) l = refl
+row_tag f T.Unit (entry.Sync k o n v r w) l = absurd l
+row_tag f T.Unit (entry.Postlog b vs) l = absurd l
+row_tag f T.Unit (entry.End s n r w) l = absurd l
+row_tag f T.Sync (entry.Prelog b vs) l = absurd l
+row_tag f T.Sync (entry.Unit b vs) l = absurd l
+row_tag f T.Sync (entry.Sync k o n v r w) l = refl
+row_tag f T.Sync (entry.Postlog b vs) l = absurd l
+row_tag f T.Sync (entry.End s n r w) l = absurd l
+row_tag f T.Postlog (entry.Prelog b vs) l = absurd l
+row_tag f T.Postlog (entry.Unit b vs) l = absurd l
+row_tag f T.Postlog (entry.Sync k o n v r w) l = absurd l
+row_tag f T.Postlog (entry.Postlog b vs) l = refl
+row_tag f T.Postlog (entry.End s n r w) l = absurd l
+row_tag f T.End (entry.Prelog b vs) l = absurd l
+row_tag f T.End (entry.Unit b vs) l = absurd l
+row_tag f T.End (entry.Sync k o n v r w) l = absurd l
+row_tag f T.End (entry.Postlog b vs) l = absurd l
+row_tag f T.End (entry.End s n r w) l = refl
+
+-- ---- entries, logs, the whole
+
+entry_holds : (f : Facts) → Holds (an_entry f)
+entry_holds f = tagged_holds tag tag_of (row f) (row_tag f) tag_holds (row_holds f)
+
+log_holds : (f : Facts) → Holds (log f)
+log_holds f = listed_holds number_4 (an_entry f) number_4_holds (entry_holds f)
+
+logs_hold : (f : Facts) → Holds (logs f)
+logs_hold f = listed_holds (process_count f) (log f) (ranged_holds _ _ byte byte_holds) (log_holds f)
+
+pub back_holds : (v : ℕ) (f : Facts) → Holds (back v f)
+back_holds v f = only_holds _ _ (logs f) (logs_hold f)
+
+pub recording_holds : (f : Facts) → Holds (recording f)
+recording_holds f = pair_holds front (λ h. back h.1.0 f) front_holds (λ h. back_holds h.1.0 f)

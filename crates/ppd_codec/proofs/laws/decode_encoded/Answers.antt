@@ -1,0 +1,32 @@
+use Rattle.std.proofs.Common.{◌≡◌, ◌≢◌, List, ℕ, Result, Ok, Err, IfErr, IfOk, sym, subst}
+use Rattle.ppd_codec.specs.declared.bad.BadBytes.{BadBytes}
+use Rattle.ppd_codec.specs.declared.bad.BadBytes.TheVariants as bad
+use Rattle.ppd_codec.specs.declared.recording.Recording.{Recording}
+use Rattle.ppd_codec.specs.Recordings.{IsBad, IsDecoded, IsRecordingOf}
+use Rattle.ppd_codec.proofs.Spelling.{memory_alone, no_recording_is_bad, same_three}
+use Rattle.ppd_codec.proofs.Mapped.{map_err, map_ok}
+use Rattle.ppd_codec.proofs.laws.decode_encoded.Goals as goal
+
+pub returns-clause-source : goal.returns-clause-source
+returns-clause-source c =
+    map_ok c.decode.result
+    (λ r d. let x : IsDecoded c.in-Ok.bytes r = subst (λ (bs : List ℕ). IsDecoded bs r) c.as_slice.ensures d in sym (same_three _ _ _ c.in-Ok.bytes r c.in-Ok.ensures.rec x).0)
+    c.decode.ensures.ok
+
+pub returns-clause-header : goal.returns-clause-header
+returns-clause-header c =
+    map_ok c.decode.result
+    (λ r d. let x : IsDecoded c.in-Ok.bytes r = subst (λ (bs : List ℕ). IsDecoded bs r) c.as_slice.ensures d in sym (same_three _ _ _ c.in-Ok.bytes r c.in-Ok.ensures.rec x).1)
+    c.decode.ensures.ok
+
+pub returns-clause-logs : goal.returns-clause-logs
+returns-clause-logs c =
+    map_ok c.decode.result
+    (λ r d. let x : IsDecoded c.in-Ok.bytes r = subst (λ (bs : List ℕ). IsDecoded bs r) c.as_slice.ensures d in sym (same_three _ _ _ c.in-Ok.bytes r c.in-Ok.ensures.rec x).2)
+    c.decode.ensures.ok
+
+pub returns-clause-err : goal.returns-clause-err
+returns-clause-err c =
+    map_err c.decode.result
+    (λ e h. memory_alone e (λ m. no_recording_is_bad _ _ _ c.in-Ok.bytes e c.in-Ok.ensures.rec (subst (λ (bs : List ℕ). IsBad bs e) c.as_slice.ensures (h m))))
+    c.decode.ensures.err

@@ -1,0 +1,129 @@
+-- The form of a part of a recording, from which three things follow: which values are lawful, how each is spelled, and
+-- how bytes are read. A form is built of fields by the words below.
+use Rattle.std.specs.Prelude.{◌≡◌, ℕ, ◌+◌, ◌<◌, ◌^◌, nat_eq, ℤ, Bool, true, List, [], ◌∷◌, ◌++◌, length, get_or, Option, Some, None, if◌then◌else◌, ⊤, FitsSigned}
+use Rattle.std.specs.Int.{cast_signed, cast_unsigned, w16, w32, w64, to_be_bytes, from_be_bytes}
+use Rattle.std.specs.List.{AllByRecursion, flat_map}
+use Rattle.ppd_codec.specs.declared.bad.BadBytes.{BadBytes}
+use Rattle.ppd_codec.specs.Reader.{Reader, as_a, both, checked, field, kept, next, refuse, several}
+
+pub record Form (A : Type 0) : Type 1 where
+  pub Lawful : A → Type 0
+  pub bytes : A → List ℕ
+  pub read : Reader A
+
+-- ---- numbers, big-endian
+
+abbrev pub first : List ℕ → ℕ
+first bytes = get_or bytes 0 0
+
+abbrev pub byte : Form ℕ
+byte = record { Lawful = λ n. n < 2 ^ 8; bytes = λ n. n ∷ []; read = field 1 first }
+
+abbrev pub number_2 : Form ℕ
+number_2 = record { Lawful = λ n. n < 2 ^ 16; bytes = to_be_bytes w16; read = field 2 (from_be_bytes w16) }
+
+abbrev pub number_4 : Form ℕ
+number_4 = record { Lawful = λ n. n < 2 ^ 32; bytes = to_be_bytes w32; read = field 4 (from_be_bytes w32) }
+
+abbrev pub value_of : List ℕ → ℤ
+value_of bytes = cast_signed w64 (from_be_bytes w64 bytes)
+
+abbrev pub value_bytes : ℤ → List ℕ
+value_bytes v = to_be_bytes w64 (cast_unsigned w64 v)
+
+-- in two's complement
+abbrev pub value : Form ℤ
+value = record { Lawful = FitsSigned w64; bytes = value_bytes; read = field 8 value_of }
+
+-- ---- what is lawful in a field
+
+-- those that pass the test
+abbrev pub ranged : {A : Type 0} → (ℕ → BadBytes) → (A → Bool) → Form A → Form A
+ranged bad test f = record {
+  Lawful = λ x. f.Lawful x × (test x ≡ true);
+  bytes = f.bytes;
+  read = checked (kept test) bad f.read;
+}
+
+-- the first of these that has the code
+abbrev pub coded : {A : Type 0} → (A → ℕ) → List A → ℕ → Option A
+coded code [] n = None
+coded code (x ∷ xs) n = if nat_eq (code x) n then Some x else coded code xs n
+
+-- one of these, by its code
+abbrev pub one_of : {A : Type 0} → (ℕ → BadBytes) → (A → ℕ) → List A → Form ℕ → Form A
+one_of bad code all f = record {
+  Lawful = λ x. f.Lawful (code x) × (coded code all (code x) ≡ Some x);
+  bytes = λ x. f.bytes (code x);
+  read = checked (coded code all) bad f.read;
+}
+
+-- ---- one after the other
+
+abbrev pub pair : {A B : Type 0} → Form A → (A → Form B) → Form (A × B)
+pair f g = record {
+  Lawful = λ p. f.Lawful p.0 × (g p.0).Lawful p.1;
+  bytes = λ p. f.bytes p.0 ++ (g p.0).bytes p.1;
+  read = both f.read (λ x. (g x).read);
+}
+
+abbrev pub IsLawfulIn : {A : Type 0} → (A → Type 0) → Option A → Type 0
+IsLawfulIn Lawful None = ⊥
+IsLawfulIn Lawful (Some x) = Lawful x
+
+abbrev pub bytes_in : {A : Type 0} → (A → List ℕ) → Option A → List ℕ
+bytes_in bytes None = []
+bytes_in bytes (Some x) = bytes x
+
+-- the parts by the name of the whole; `parts` gives them back
+abbrev pub named : {A B : Type 0} → (A → B) → (B → Option A) → Form A → Form B
+named whole parts f = record {
+  Lawful = λ y. IsLawfulIn f.Lawful (parts y);
+  bytes = λ y. bytes_in f.bytes (parts y);
+  read = as_a whole f.read;
+}
+
+-- a tag, and what it announces
+abbrev pub tagged : {T A : Type 0} → Form T → (A → T) → (T → Form A) → Form A
+tagged tag tag_of row = record {
+  Lawful = λ y. tag.Lawful (tag_of y) × (row (tag_of y)).Lawful y;
+  bytes = λ y. tag.bytes (tag_of y) ++ (row (tag_of y)).bytes y;
+  read = next tag.read (λ t. (row t).read);
+}
+
+-- nothing but a condition, and then the form
+abbrev pub only : {A : Type 0} → Bool → BadBytes → Form A → Form A
+only test bad f = record {
+  Lawful = λ x. (test ≡ true) × f.Lawful x;
+  bytes = f.bytes;
+  read = if test then f.read else refuse bad;
+}
+
+-- ---- lists, after their count
+
+-- bytes that are one field
+abbrev pub block : Form ℕ → Form (List ℕ)
+block count = record {
+  Lawful = λ bs. count.Lawful (length bs);
+  bytes = λ bs. count.bytes (length bs) ++ bs;
+  read = next count.read (λ n. field n (λ bs. bs));
+}
+
+abbrev pub listed : {A : Type 0} → Form ℕ → Form A → Form (List A)
+listed count f = record {
+  Lawful = λ xs. count.Lawful (length xs) × AllByRecursion f.Lawful xs;
+  bytes = λ xs. count.bytes (length xs) ++ flat_map f.bytes xs;
+  read = next count.read (several (λ t. f.read) (λ x. tt {0}) (tt {0}));
+}
+
+-- each element passes the test at what the one before it leaves
+abbrev pub Along : {S A : Type 0} → (S → A → Bool) → (A → S) → S → List A → Type 0
+Along fits leaves s [] = ⊤
+Along fits leaves s (x ∷ xs) = (fits s x ≡ true) × Along fits leaves (leaves x) xs
+
+abbrev pub listed_along : {S A : Type 0} → Form ℕ → (ℕ → BadBytes) → (S → A → Bool) → (A → S) → S → Form A → Form (List A)
+listed_along count bad fits leaves s f = record {
+  Lawful = λ xs. count.Lawful (length xs) × AllByRecursion f.Lawful xs × Along fits leaves s xs;
+  bytes = λ xs. count.bytes (length xs) ++ flat_map f.bytes xs;
+  read = next count.read (several (λ t. (ranged bad (fits t) f).read) leaves s);
+}

@@ -1,0 +1,229 @@
+-- The form of a recording: its fields in order, and what is lawful in each.
+use Rattle.std.specs.Prelude.{ℕ, zero, suc, ◌+◌, nat_eq, nat_le, nat_lt, ℤ, pos, Bool, true, false, ◌&&◌, List, [], ◌∷◌, ◌++◌, Option, Some, None, if◌then◌else◌, ⊤}
+use Rattle.ppd_ast.specs.declared.limits.TheConstants.{MOST_BUDGET, MOST_POLICY, MOST_SOURCE_BYTES}
+use Rattle.ppd_ast.specs.declared.status.Status.{Status}
+use Rattle.ppd_ast.specs.declared.status.Status.TheVariants as status
+use Rattle.ppd_ast.specs.declared.status.SyncKind.{SyncKind}
+use Rattle.ppd_ast.specs.declared.status.SyncKind.TheVariants as kind
+use Rattle.ppd_ast.specs.declared.status.Trap.TheVariants as trap
+use Rattle.ppd_entry.specs.declared.entry.Entry.{Entry}
+use Rattle.ppd_entry.specs.declared.entry.Entry.TheVariants as entry
+use Rattle.ppd_codec.specs.declared.bad.BadBytes.{BadBytes}
+use Rattle.ppd_codec.specs.declared.bad.BadBytes.TheVariants as bad
+use Rattle.ppd_codec.specs.declared.bad.Field.{Field}
+use Rattle.ppd_codec.specs.declared.bad.Field.TheVariants as F
+use Rattle.ppd_codec.specs.declared.facts.Facts.{Facts}
+use Rattle.ppd_codec.specs.declared.tag.Tag.{Tag}
+use Rattle.ppd_codec.specs.declared.tag.Tag.TheVariants as T
+use Rattle.ppd_codec.specs.Form.{Form, block, byte, listed, listed_along, named, number_2, number_4, one_of, only, pair, ranged, tagged, value}
+
+abbrev pub out_of : Field → ℕ → BadBytes
+out_of f at = bad.Range at f
+
+abbrev pub within : ℕ → ℕ → ℕ → Bool
+within low high n = nat_le low n && nat_le n high
+
+-- ---- the header and the source
+
+-- 50 50 44 52
+abbrev pub magic_code : ⊤ → ℕ
+magic_code t = 0x5050_4452
+
+abbrev pub magic : Form ⊤
+magic = one_of bad.Magic magic_code (tt ∷ []) number_4
+
+abbrev pub version : Form ℕ
+version = ranged bad.Version (within 1 2) byte
+
+abbrev pub budget : Form ℕ
+budget = ranged (out_of F.Budget) (within 1 MOST_BUDGET) number_4
+
+abbrev pub leaf : Form ℕ
+leaf = ranged (out_of F.Leaf) (within 0 MOST_POLICY) number_2
+
+abbrev pub loops : Form ℕ
+loops = ranged (out_of F.Loops) (within 0 MOST_POLICY) number_2
+
+abbrev pub source_length : Form ℕ
+source_length = ranged (out_of F.Source) (within 0 MOST_SOURCE_BYTES) number_4
+
+abbrev pub source : Form (List ℕ)
+source = block source_length
+
+-- magic, version, budget, leaf, loops, source
+abbrev pub Front : Type 0
+Front = ⊤ × (ℕ × (ℕ × (ℕ × (ℕ × List ℕ))))
+
+abbrev pub front : Form Front
+front = pair magic (λ m. pair version (λ v. pair budget (λ b. pair leaf (λ l. pair loops (λ p. source)))))
+
+-- ---- values and cells
+
+abbrev pub values : Form (List ℤ)
+values = listed number_2 value
+
+-- a cell is at least `low` and below the count of shared cells
+abbrev pub is_next : ℕ → ℕ → ℕ → Bool
+is_next shared low c = nat_le low c && nat_lt c shared
+
+abbrev pub past : ℕ → ℕ
+past c = c + 1
+
+abbrev pub cell : ℕ → ℕ → Form ℕ
+cell shared low = ranged (out_of F.Cells) (is_next shared low) number_2
+
+-- rising
+abbrev pub cells : ℕ → Form (List ℕ)
+cells shared = listed_along number_2 (out_of F.Cells) (is_next shared) past 0 number_2
+
+-- ---- entries
+
+-- a block or a unit with its values
+abbrev pub numbered : Form (ℕ × List ℤ)
+numbered = pair number_2 (λ b. values)
+
+abbrev pub kind_code : SyncKind → ℕ
+kind_code kind.P = 1
+kind_code kind.V = 2
+kind_code kind.Send = 3
+kind_code kind.Recv = 4
+kind_code kind.Done = 5
+
+-- the kinds of version 1, and of version 2
+abbrev pub kinds : ℕ → List SyncKind
+kinds v = if nat_eq v 2 then kind.P ∷ kind.V ∷ kind.Send ∷ kind.Recv ∷ kind.Done ∷ [] else kind.P ∷ kind.V ∷ kind.Send ∷ kind.Recv ∷ []
+
+abbrev pub sync_kind : ℕ → Form SyncKind
+sync_kind v = one_of (out_of F.Kind) kind_code (kinds v) byte
+
+abbrev pub sync_number : Form ℕ
+sync_number = ranged (out_of F.Number) (λ n. nat_le 1 n) number_4
+
+abbrev pub is_zero : ℤ → Bool
+is_zero (pos zero) = true
+is_zero v = false
+
+-- 0 but for what is sent and received
+abbrev pub fits_kind : SyncKind → ℤ → Bool
+fits_kind kind.P v = is_zero v
+fits_kind kind.V v = is_zero v
+fits_kind kind.Send v = true
+fits_kind kind.Recv v = true
+fits_kind kind.Done v = is_zero v
+
+abbrev pub sync_value : SyncKind → Form ℤ
+sync_value k = ranged (out_of F.Value) (fits_kind k) value
+
+-- kind, object, number, value, reads, writes
+abbrev pub Sync : Type 0
+Sync = SyncKind × (ℕ × (ℕ × (ℤ × (List ℕ × List ℕ))))
+
+abbrev pub synced : Facts → Form Sync
+synced f = pair (sync_kind f.version) (λ k. pair byte (λ o. pair sync_number (λ n. pair (sync_value k) (λ v. pair (cells f.shared) (λ r. cells f.shared)))))
+
+abbrev pub status_code : Status → ℕ
+status_code status.Ended = 0
+status_code (status.Trap trap.Overflow) = 1
+status_code (status.Trap trap.Zero) = 2
+status_code (status.Trap trap.Index) = 3
+status_code (status.Trap trap.Assert) = 4
+status_code (status.Trap trap.Depth) = 5
+status_code status.Budget = 6
+status_code status.Blocked = 7
+
+abbrev pub statuses : List Status
+statuses = status.Ended ∷ status.Trap trap.Overflow ∷ status.Trap trap.Zero ∷ status.Trap trap.Index ∷ status.Trap trap.Assert ∷ status.Trap trap.Depth ∷ status.Budget ∷ status.Blocked ∷ []
+
+abbrev pub end_status : Form Status
+end_status = one_of (out_of F.Status) status_code statuses byte
+
+-- status, rest, reads, writes
+abbrev pub End : Type 0
+End = Status × (ℕ × (List ℕ × List ℕ))
+
+abbrev pub ended : Facts → Form End
+ended f = pair end_status (λ s. pair number_4 (λ n. pair (cells f.shared) (λ r. cells f.shared)))
+
+abbrev pub tag_code : Tag → ℕ
+tag_code T.Prelog = 1
+tag_code T.Unit = 2
+tag_code T.Sync = 3
+tag_code T.Postlog = 4
+tag_code T.End = 5
+
+abbrev pub tags : List Tag
+tags = T.Prelog ∷ T.Unit ∷ T.Sync ∷ T.Postlog ∷ T.End ∷ []
+
+abbrev pub tag : Form Tag
+tag = one_of (out_of F.Tag) tag_code tags byte
+
+abbrev pub tag_of : Entry → Tag
+tag_of (entry.Prelog b vs) = T.Prelog
+tag_of (entry.Unit u vs) = T.Unit
+tag_of (entry.Sync k o n v r w) = T.Sync
+tag_of (entry.Postlog b vs) = T.Postlog
+tag_of (entry.End s n r w) = T.End
+
+abbrev pub prelog_of : ℕ × List ℤ → Entry
+prelog_of p = entry.Prelog p.0 p.1
+
+abbrev pub prelog_parts : Entry → Option (ℕ × List ℤ)
+prelog_parts (entry.Prelog b vs) = Some (b, vs)
+prelog_parts e = None
+
+abbrev pub unit_of : ℕ × List ℤ → Entry
+unit_of p = entry.Unit p.0 p.1
+
+abbrev pub unit_parts : Entry → Option (ℕ × List ℤ)
+unit_parts (entry.Unit b vs) = Some (b, vs)
+unit_parts e = None
+
+abbrev pub postlog_of : ℕ × List ℤ → Entry
+postlog_of p = entry.Postlog p.0 p.1
+
+abbrev pub postlog_parts : Entry → Option (ℕ × List ℤ)
+postlog_parts (entry.Postlog b vs) = Some (b, vs)
+postlog_parts e = None
+
+abbrev pub sync_of : Sync → Entry
+sync_of p = entry.Sync p.0 p.1.0 p.1.1.0 p.1.1.1.0 p.1.1.1.1.0 p.1.1.1.1.1
+
+abbrev pub sync_parts : Entry → Option Sync
+sync_parts (entry.Sync k o n v r w) = Some (k, (o, (n, (v, (r, w)))))
+sync_parts e = None
+
+abbrev pub end_of : End → Entry
+end_of p = entry.End p.0 p.1.0 p.1.1.0 p.1.1.1
+
+abbrev pub end_parts : Entry → Option End
+end_parts (entry.End s n r w) = Some (s, (n, (r, w)))
+end_parts e = None
+
+abbrev pub row : Facts → Tag → Form Entry
+row f T.Prelog = named prelog_of prelog_parts numbered
+row f T.Unit = named unit_of unit_parts numbered
+row f T.Sync = named sync_of sync_parts (synced f)
+row f T.Postlog = named postlog_of postlog_parts numbered
+row f T.End = named end_of end_parts (ended f)
+
+abbrev pub an_entry : Facts → Form Entry
+an_entry f = tagged tag tag_of (row f)
+
+-- ---- the logs, and the whole
+
+abbrev pub log : Facts → Form (List Entry)
+log f = listed number_4 (an_entry f)
+
+abbrev pub process_count : Facts → Form ℕ
+process_count f = ranged (out_of F.Processes) (λ n. nat_eq n f.processes) byte
+
+abbrev pub logs : Facts → Form (List (List Entry))
+logs f = listed (process_count f) (log f)
+
+-- the version, at offset 4, is the one that the source asks for
+abbrev pub back : ℕ → Facts → Form (List (List Entry))
+back v f = only (nat_eq v f.version) (bad.Range 4 F.Version) (logs f)
+
+-- a recording whose source has these facts
+abbrev pub recording : Facts → Form (Front × List (List Entry))
+recording f = pair front (λ h. back h.1.0 f)

@@ -1,0 +1,40 @@
+use ppd_check::SourceError;
+
+/// The field of a recording that has no lawful value.
+#[derive(Clone, Copy, PartialEq, Eq, Debug, Drop)]
+pub enum Field {
+    Budget,
+    Leaf,
+    Loops,
+    Source,
+    Processes,
+    Tag,
+    Kind,
+    Number,
+    Value,
+    Cells,
+    Status,
+    Version,
+}
+
+/// Why bytes are no recording: the first field, in their order, that is not whole or not lawful. A number is an
+/// offset in bytes, from 0, mostly that of the field.
+#[derive(Clone, Copy, PartialEq, Eq, Debug, Drop)]
+pub enum BadBytes {
+    /// The first four bytes are not `PPDR`.
+    Magic(u32),
+    /// The version is neither 1 nor 2.
+    Version(u32),
+    /// The bytes end before this field does.
+    Short(u32),
+    /// The field has no lawful value. `Version` is at 4: it is not the one that the source asks for.
+    Range(u32, Field),
+    /// A byte follows the last entry.
+    Trailing(u32),
+    /// The source is not accepted: its first fault, which is never want of memory.
+    Source(SourceError),
+    /// There are more than 268,435,456 bytes; tested first.
+    TooLong,
+    /// Want of memory.
+    Memory,
+}

@@ -1,0 +1,159 @@
+ghost use Rattle.std.specs.Prelude.{◌≡◌, ◌≢◌, ◌+◌, ◌<◌, ◌≤◌, ◌^◌, length, Ok, Err, IfErr, IfOk};
+ghost use Rattle.ppd_ast.specs.Valid.{IsValid};
+ghost use Rattle.ppd_ast.specs.ValidPlan.{IsValidPlan, IsValidPolicy};
+ghost use Rattle.ppd_codec.specs.Came.{Came, Refuses};
+ghost use Rattle.ppd_codec.specs.Format.{back as back_form};
+ghost use Rattle.ppd_codec.specs.Recordings.{AreLawful, IsBad, IsDecoded, IsMade, nothing_left, refusal as refusal_of};
+
+use crate::bad::{BadBytes, Field};
+use crate::cursor::Cursor;
+use crate::facts::{Facts, facts_of};
+use crate::front::Front;
+use crate::recording::Recording;
+use ppd_ast::limits::MOST_RECORDING_BYTES;
+use ppd_ast::{Bytes, Program, Seq, Steps};
+use ppd_blocks::partition;
+use ppd_check::{SourceError, read_source};
+use ppd_entry::{Entry, Logs};
+use std::alloc::Global;
+use std::marker::Brand;
+use std::sync::ledger::{Blank, Ledger};
+
+fn refusal(error: SourceError) -> BadBytes
+    ensures { result ≡ refusal_of error }
+{
+    match error {
+        SourceError::Memory => BadBytes::Memory,
+        fault => BadBytes::Source(fault),
+    }
+}
+
+impl<'a> Cursor<'a> {
+    // What stands after the source: the logs, where the version is the one that the source asks for.
+    fn back<L: Ledger>(
+        &mut self,
+        alloc: Global,
+        version: u8,
+        facts: Facts,
+        steps: &mut Steps<L>,
+    ) -> Result<Seq<Seq<Entry>>, BadBytes>
+        requires { self.old.at + length self.old.rest.now < 2 ^ 32 }
+        ensures ok { IfOk result (Came (back_form version facts).read self.old.at self.old.rest.now self.new.at self.new.rest.now) }
+        ensures err { IfErr result (Refuses (back_form version facts).read self.old.at self.old.rest.now) }
+        ensures within { self.new.at + length self.new.rest.now ≤ self.old.at + length self.old.rest.now }
+        ensures cost { steps.new + length self.new.rest.now ≤ steps.old + length self.old.rest.now }
+    {
+        if version == facts.version {
+            return self.logs(alloc, facts, steps);
+        }
+        Err(BadBytes::Range(4, Field::Version))
+    }
+
+    // The same, after which nothing is left.
+    fn last<L: Ledger>(
+        &mut self,
+        alloc: Global,
+        version: u8,
+        facts: Facts,
+        steps: &mut Steps<L>,
+    ) -> Result<Seq<Seq<Entry>>, BadBytes>
+        requires { self.old.at + length self.old.rest.now < 2 ^ 32 }
+        ensures ok { IfOk result (λ lists. nothing_left ((back_form version facts).read self.old.at self.old.rest.now) ≡ Ok lists) }
+        ensures err { IfErr result (λ e. e ≢ BadBytes.Memory → nothing_left ((back_form version facts).read self.old.at self.old.rest.now) ≡ Err e) }
+        ensures cost { steps.new ≤ steps.old + length self.old.rest.now }
+    {
+        let lists = self.back(alloc, version, facts, steps)?;
+        if self.rest.is_empty() {
+            return Ok(lists);
+        }
+        Err(BadBytes::Trailing(self.at))
+    }
+}
+
+// The recording of parts that were read.
+fn made(
+    alloc: Global,
+    front: &Front,
+    program: Program,
+    lists: Seq<Seq<Entry>>,
+) -> Result<Recording, BadBytes>
+    requires program { IsValid program }
+    requires policy { IsValidPolicy front.now.header.policy }
+    ensures ok { IfOk result (IsMade front.now.header front.now.source.now program lists) }
+    ensures valid { IfOk result (λ r. IsValidPlan r.program r.plan) }
+    ensures err { IfErr result (λ e. e ≡ BadBytes.Memory) }
+{
+    let Ok(plan) = partition(alloc, &program, &front.header.policy) else {
+        return Err(BadBytes::Memory);
+    };
+    let Ok(source) = Vec::from_slice(alloc, front.source) else {
+        return Err(BadBytes::Memory);
+    };
+    Ok(Recording {
+        source: Bytes::from_vec(source),
+        program,
+        plan,
+        header: front.header,
+        logs: Logs { lists },
+    })
+}
+
+/// What the bytes record, as `decode` answers it, in at most one step for each byte. A step is taking a field
+/// of the header or of the logs; reading the source, and the plan, are not counted.
+pub fn decode_in<L: Ledger>(
+    alloc: Global,
+    bytes: &[u8],
+    steps: &mut Steps<L>,
+) -> Result<Recording, BadBytes>
+    ensures ok { IfOk result (IsDecoded bytes.now) }
+    ensures again { IfOk result (λ r. AreLawful r.source r.header r.logs) }
+    ensures valid { IfOk result (λ r. IsValid r.program) }
+    ensures plan { IfOk result (λ r. IsValidPlan r.program r.plan) }
+    ensures err { IfErr result (λ e. e ≢ BadBytes.Memory → IsBad bytes.now e) }
+    ensures cost { steps.new ≤ steps.old + length bytes.now }
+{
+    if bytes.len() > MOST_RECORDING_BYTES {
+        return Err(BadBytes::TooLong);
+    }
+    let mut cursor = Cursor { rest: bytes, at: 0 };
+    let front = cursor.front(steps)?;
+    let program = match read_source(alloc, front.source) {
+        Ok(program) => program,
+        Err(error) => return Err(refusal(error)),
+    };
+    let facts = facts_of(&program);
+    let lists = cursor.last(alloc, front.version, facts, steps)?;
+    made(alloc, &front, program, lists)
+}
+
+// The same, with steps that nobody reads.
+fn decode_from<L: Ledger>(alloc: Global, bytes: &[u8], blank: Blank) -> Result<Recording, BadBytes>
+    requires name { blank.name ≡ L.name }
+    requires parts { blank.parts ≡ L.parts }
+    requires some { 0 < blank.parts }
+    ensures ok { IfOk result (IsDecoded bytes.now) }
+    ensures again { IfOk result (λ r. AreLawful r.source r.header r.logs) }
+    ensures valid { IfOk result (λ r. IsValid r.program) }
+    ensures plan { IfOk result (λ r. IsValidPlan r.program r.plan) }
+    ensures err { IfErr result (λ e. e ≢ BadBytes.Memory → IsBad bytes.now e) }
+{
+    let mut steps: Steps<L> = Steps::new(blank);
+    decode_in(alloc, bytes, &mut steps)
+}
+
+/// The source, the header and the logs of which the bytes are the recording, with the source's program and the
+/// plan of the policy. It is answered for exactly the bytes that `encode` answers for lawful ones.
+///
+/// Otherwise the first test that fails: `TooLong` first; then field by field in order `Short` where the bytes
+/// end before the field does, else its own refusal; right after the source's bytes `Source` where it is not
+/// accepted, then `Range` with `Version`, at 4, where the version is not the one that it asks for; `Trailing`
+/// last. `Memory` is want of memory.
+pub fn decode(alloc: Global, bytes: &[u8]) -> Result<Recording, BadBytes>
+    ensures ok { IfOk result (IsDecoded bytes.now) }
+    ensures again { IfOk result (λ r. AreLawful r.source r.header r.logs) }
+    ensures valid { IfOk result (λ r. IsValid r.program) }
+    ensures plan { IfOk result (λ r. IsValidPlan r.program r.plan) }
+    ensures err { IfErr result (λ e. e ≢ BadBytes.Memory → IsBad bytes.now e) }
+{
+    decode_from::<Brand>(alloc, bytes, Blank::new(1))
+}

@@ -1,0 +1,187 @@
+ghost use Rattle.std.specs.Prelude.{◌≡◌, ◌+◌, ◌<◌, ◌≤◌, ◌^◌, ◌++◌, ◌∷◌, [], length, IfErr, IfOk, OnOk};
+ghost use Rattle.ppd_codec.specs.Came.{Came, Refuses};
+ghost use Rattle.ppd_codec.specs.Format.{numbered as numbered_form, synced as synced_form, ended as ended_form, an_entry, log as log_form, logs as logs_form, row, sync_of, end_of};
+
+use crate::bad::BadBytes;
+use crate::cursor::Cursor;
+use crate::facts::Facts;
+use crate::lists::push;
+use crate::tag::Tag;
+use ppd_ast::{Nums, Seq, Steps};
+use ppd_entry::Entry;
+use std::alloc::Global;
+use std::sync::ledger::Ledger;
+
+impl<'a> Cursor<'a> {
+    /// The number of a block or a unit, and its values.
+    pub fn numbered<L: Ledger>(
+        &mut self,
+        alloc: Global,
+        steps: &mut Steps<L>,
+    ) -> Result<(u16, Nums), BadBytes>
+        requires { self.old.at + length self.old.rest.now < 2 ^ 32 }
+        ensures ok { IfOk result (Came numbered_form.read self.old.at self.old.rest.now self.new.at self.new.rest.now) }
+        ensures err { IfErr result (Refuses numbered_form.read self.old.at self.old.rest.now) }
+        ensures within { self.new.at + length self.new.rest.now ≤ self.old.at + length self.old.rest.now }
+        ensures cost { steps.new + length self.new.rest.now ≤ steps.old + length self.old.rest.now }
+    {
+        let number = self.number_2(steps)?;
+        let values = self.values(alloc, steps)?;
+        Ok((number, values))
+    }
+
+    /// A synchronization, after its tag.
+    pub fn sync<L: Ledger>(
+        &mut self,
+        alloc: Global,
+        facts: Facts,
+        steps: &mut Steps<L>,
+    ) -> Result<Entry, BadBytes>
+        requires { self.old.at + length self.old.rest.now < 2 ^ 32 }
+        ensures ok { IfOk result (Came (row facts Tag.Sync).read self.old.at self.old.rest.now self.new.at self.new.rest.now) }
+        ensures err { IfErr result (Refuses (row facts Tag.Sync).read self.old.at self.old.rest.now) }
+        ensures within { self.new.at + length self.new.rest.now ≤ self.old.at + length self.old.rest.now }
+        ensures cost { steps.new + length self.new.rest.now ≤ steps.old + length self.old.rest.now }
+    {
+        let kind = self.sync_kind(facts.version, steps)?;
+        let object = self.byte(steps)?;
+        let number = self.sync_number(steps)?;
+        let value = self.sync_value(kind, steps)?;
+        let reads = self.cells(alloc, facts.shared, steps)?;
+        let writes = self.cells(alloc, facts.shared, steps)?;
+        Ok(Entry::Sync {
+            kind,
+            object,
+            number,
+            value,
+            reads,
+            writes,
+        })
+    }
+
+    /// The end of a process, after its tag.
+    pub fn end<L: Ledger>(
+        &mut self,
+        alloc: Global,
+        facts: Facts,
+        steps: &mut Steps<L>,
+    ) -> Result<Entry, BadBytes>
+        requires { self.old.at + length self.old.rest.now < 2 ^ 32 }
+        ensures ok { IfOk result (Came (row facts Tag.End).read self.old.at self.old.rest.now self.new.at self.new.rest.now) }
+        ensures err { IfErr result (Refuses (row facts Tag.End).read self.old.at self.old.rest.now) }
+        ensures within { self.new.at + length self.new.rest.now ≤ self.old.at + length self.old.rest.now }
+        ensures cost { steps.new + length self.new.rest.now ≤ steps.old + length self.old.rest.now }
+    {
+        let status = self.status(steps)?;
+        let rest = self.number_4(steps)?;
+        let reads = self.cells(alloc, facts.shared, steps)?;
+        let writes = self.cells(alloc, facts.shared, steps)?;
+        Ok(Entry::End {
+            status,
+            rest,
+            reads,
+            writes,
+        })
+    }
+
+    /// What stands after this tag.
+    pub fn row<L: Ledger>(
+        &mut self,
+        alloc: Global,
+        facts: Facts,
+        tag: Tag,
+        steps: &mut Steps<L>,
+    ) -> Result<Entry, BadBytes>
+        requires { self.old.at + length self.old.rest.now < 2 ^ 32 }
+        ensures ok { IfOk result (Came (row facts tag).read self.old.at self.old.rest.now self.new.at self.new.rest.now) }
+        ensures err { IfErr result (Refuses (row facts tag).read self.old.at self.old.rest.now) }
+        ensures within { self.new.at + length self.new.rest.now ≤ self.old.at + length self.old.rest.now }
+        ensures cost { steps.new + length self.new.rest.now ≤ steps.old + length self.old.rest.now }
+    {
+        match tag {
+            Tag::Prelog => {
+                let (block, values) = self.numbered(alloc, steps)?;
+                Ok(Entry::Prelog { block, values })
+            }
+            Tag::Unit => {
+                let (unit, values) = self.numbered(alloc, steps)?;
+                Ok(Entry::Unit { unit, values })
+            }
+            Tag::Sync => self.sync(alloc, facts, steps),
+            Tag::Postlog => {
+                let (block, values) = self.numbered(alloc, steps)?;
+                Ok(Entry::Postlog { block, values })
+            }
+            Tag::End => self.end(alloc, facts, steps),
+        }
+    }
+
+    /// An entry.
+    pub fn entry<L: Ledger>(
+        &mut self,
+        alloc: Global,
+        facts: Facts,
+        steps: &mut Steps<L>,
+    ) -> Result<Entry, BadBytes>
+        requires { self.old.at + length self.old.rest.now < 2 ^ 32 }
+        ensures ok { IfOk result (Came (an_entry facts).read self.old.at self.old.rest.now self.new.at self.new.rest.now) }
+        ensures err { IfErr result (Refuses (an_entry facts).read self.old.at self.old.rest.now) }
+        ensures within { self.new.at + length self.new.rest.now ≤ self.old.at + length self.old.rest.now }
+        ensures cost { steps.new + length self.new.rest.now ≤ steps.old + length self.old.rest.now }
+    {
+        let tag = self.tag(steps)?;
+        self.row(alloc, facts, tag, steps)
+    }
+
+    /// The log of a process, with the count of its entries before them. No memory is taken by the count.
+    pub fn log<L: Ledger>(
+        &mut self,
+        alloc: Global,
+        facts: Facts,
+        steps: &mut Steps<L>,
+    ) -> Result<Seq<Entry>, BadBytes>
+        requires { self.old.at + length self.old.rest.now < 2 ^ 32 }
+        ensures ok { IfOk result (Came (log_form facts).read self.old.at self.old.rest.now self.new.at self.new.rest.now) }
+        ensures err { IfErr result (Refuses (log_form facts).read self.old.at self.old.rest.now) }
+        ensures within { self.new.at + length self.new.rest.now ≤ self.old.at + length self.old.rest.now }
+        ensures cost { steps.new + length self.new.rest.now ≤ steps.old + length self.old.rest.now }
+    {
+        let mut left = self.number_4(steps)?;
+        let mut found = Seq::new(alloc);
+        while left > 0 {
+            let item = match self.entry(alloc, facts, steps) {
+                Ok(item) => item,
+                Err(bad) => return Err(bad),
+            };
+            push(&mut found, item)?;
+            left -= 1;
+        }
+        Ok(found)
+    }
+
+    /// The logs of all processes, with their count before them.
+    pub fn logs<L: Ledger>(
+        &mut self,
+        alloc: Global,
+        facts: Facts,
+        steps: &mut Steps<L>,
+    ) -> Result<Seq<Seq<Entry>>, BadBytes>
+        requires { self.old.at + length self.old.rest.now < 2 ^ 32 }
+        ensures ok { IfOk result (Came (logs_form facts).read self.old.at self.old.rest.now self.new.at self.new.rest.now) }
+        ensures err { IfErr result (Refuses (logs_form facts).read self.old.at self.old.rest.now) }
+        ensures within { self.new.at + length self.new.rest.now ≤ self.old.at + length self.old.rest.now }
+        ensures cost { steps.new + length self.new.rest.now ≤ steps.old + length self.old.rest.now }
+    {
+        let mut left = self.process_count(facts, steps)?;
+        let mut found = Seq::new(alloc);
+        while left > 0 {
+            let item = match self.log(alloc, facts, steps) {
+                Ok(item) => item,
+                Err(bad) => return Err(bad),
+            };
+            push(&mut found, item)?;
+            left -= 1;
+        }
+        Ok(found)
+    }
+}

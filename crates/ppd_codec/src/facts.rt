@@ -1,0 +1,41 @@
+ghost use Rattle.std.specs.Prelude.{◌≡◌, ◌<◌, ◌≤◌, length};
+ghost use Rattle.ppd_ast.specs.Valid.{IsValid};
+ghost use Rattle.ppd_codec.specs.Recordings.{facts_of as facts_in, is_rendezvous, version_of as version_in};
+ghost use Rattle.std.specs.List.{list_any};
+
+use ppd_ast::{Chan, Program};
+
+/// What the form of a recording takes from its source.
+#[derive(Clone, Copy)]
+pub(crate) struct Facts {
+    /// The version that it asks for: 2 where a channel has capacity 0, else 1.
+    pub version: u8,
+    /// How many processes there are.
+    pub processes: u8,
+    /// How many shared cells there are.
+    pub shared: u32,
+}
+
+fn has_rendezvous(chans: &[Chan]) -> bool
+    ensures { result ≡ list_any is_rendezvous chans.now }
+{
+    chans.iter().any(|chan| chan.capacity == 0)
+}
+
+fn version_of(chans: &[Chan]) -> u8
+    ensures { result ≡ version_in chans.now }
+{
+    if has_rendezvous(chans) { 2 } else { 1 }
+}
+
+/// The facts of a program.
+pub(crate) fn facts_of(program: &Program) -> Facts
+    requires { IsValid program.now }
+    ensures { result ≡ facts_in program.now }
+{
+    Facts {
+        version: version_of(program.chans.as_slice()),
+        processes: (program.bodies.len() - program.functions as usize) as u8,
+        shared: program.starts.len() as u32,
+    }
+}

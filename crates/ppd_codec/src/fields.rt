@@ -1,0 +1,297 @@
+ghost use Rattle.std.specs.Prelude.{◌≡◌, ◌+◌, ◌<◌, ◌≤◌, ◌^◌, length, IfErr, IfOk};
+ghost use Rattle.ppd_codec.specs.Came.{Came, Refuses};
+ghost use Rattle.ppd_codec.specs.Form.{coded};
+ghost use Rattle.ppd_codec.specs.Format.{budget as budget_form, leaf as leaf_form, loops as loops_form, magic as magic_form, version as version_form, source_length as source_length_form, process_count as process_count_form, tag as tag_form, tags, tag_code, sync_kind as sync_kind_form, sync_number as sync_number_form, sync_value as sync_value_form, end_status, cell as cell_form, is_next as is_next_of, fits_kind as fits_kind_of, kinds, kind_code, statuses, status_code};
+
+use crate::bad::{BadBytes, Field};
+use crate::cursor::Cursor;
+use crate::facts::Facts;
+use crate::tag::Tag;
+use ppd_ast::limits::{MOST_BUDGET, MOST_POLICY, MOST_SOURCE_BYTES};
+use ppd_ast::{Status, Steps, SyncKind, Trap};
+use std::sync::ledger::Ledger;
+
+// The fields that not every value is lawful in. Each is refused at its own offset.
+impl<'a> Cursor<'a> {
+    /// The first four bytes of every recording, `PPDR`.
+    pub fn magic<L: Ledger>(&mut self, steps: &mut Steps<L>) -> Result<(), BadBytes>
+        requires { self.old.at + length self.old.rest.now < 2 ^ 32 }
+        ensures ok { IfOk result (Came magic_form.read self.old.at self.old.rest.now self.new.at self.new.rest.now) }
+        ensures err { IfErr result (Refuses magic_form.read self.old.at self.old.rest.now) }
+        ensures within { self.new.at + length self.new.rest.now ≤ self.old.at + length self.old.rest.now }
+        ensures cost { steps.new + length self.new.rest.now ≤ steps.old + length self.old.rest.now }
+    {
+        let at = self.at;
+        if self.number_4(steps)? == 0x5050_4452 {
+            return Ok(());
+        }
+        Err(BadBytes::Magic(at))
+    }
+
+    /// The version, 1 or 2.
+    pub fn version<L: Ledger>(&mut self, steps: &mut Steps<L>) -> Result<u8, BadBytes>
+        requires { self.old.at + length self.old.rest.now < 2 ^ 32 }
+        ensures ok { IfOk result (Came version_form.read self.old.at self.old.rest.now self.new.at self.new.rest.now) }
+        ensures err { IfErr result (Refuses version_form.read self.old.at self.old.rest.now) }
+        ensures within { self.new.at + length self.new.rest.now ≤ self.old.at + length self.old.rest.now }
+        ensures cost { steps.new + length self.new.rest.now ≤ steps.old + length self.old.rest.now }
+    {
+        let at = self.at;
+        let found = self.byte(steps)?;
+        if 1 <= found && found <= 2 {
+            return Ok(found);
+        }
+        Err(BadBytes::Version(at))
+    }
+
+    /// The budget, 1 to 500,000.
+    pub fn budget<L: Ledger>(&mut self, steps: &mut Steps<L>) -> Result<u32, BadBytes>
+        requires { self.old.at + length self.old.rest.now < 2 ^ 32 }
+        ensures ok { IfOk result (Came budget_form.read self.old.at self.old.rest.now self.new.at self.new.rest.now) }
+        ensures most { IfOk result (λ n. n ≤ MOST_BUDGET) }
+        ensures err { IfErr result (Refuses budget_form.read self.old.at self.old.rest.now) }
+        ensures within { self.new.at + length self.new.rest.now ≤ self.old.at + length self.old.rest.now }
+        ensures cost { steps.new + length self.new.rest.now ≤ steps.old + length self.old.rest.now }
+    {
+        let at = self.at;
+        let found = self.number_4(steps)?;
+        if 1 <= found && found <= MOST_BUDGET {
+            return Ok(found);
+        }
+        Err(BadBytes::Range(at, Field::Budget))
+    }
+
+    /// The policy's leaf number, at most 4,096.
+    pub fn leaf<L: Ledger>(&mut self, steps: &mut Steps<L>) -> Result<u16, BadBytes>
+        requires { self.old.at + length self.old.rest.now < 2 ^ 32 }
+        ensures ok { IfOk result (Came leaf_form.read self.old.at self.old.rest.now self.new.at self.new.rest.now) }
+        ensures most { IfOk result (λ n. n ≤ MOST_POLICY) }
+        ensures err { IfErr result (Refuses leaf_form.read self.old.at self.old.rest.now) }
+        ensures within { self.new.at + length self.new.rest.now ≤ self.old.at + length self.old.rest.now }
+        ensures cost { steps.new + length self.new.rest.now ≤ steps.old + length self.old.rest.now }
+    {
+        let at = self.at;
+        let found = self.number_2(steps)?;
+        if found <= MOST_POLICY {
+            return Ok(found);
+        }
+        Err(BadBytes::Range(at, Field::Leaf))
+    }
+
+    /// The policy's loops number, at most 4,096.
+    pub fn loops<L: Ledger>(&mut self, steps: &mut Steps<L>) -> Result<u16, BadBytes>
+        requires { self.old.at + length self.old.rest.now < 2 ^ 32 }
+        ensures ok { IfOk result (Came loops_form.read self.old.at self.old.rest.now self.new.at self.new.rest.now) }
+        ensures most { IfOk result (λ n. n ≤ MOST_POLICY) }
+        ensures err { IfErr result (Refuses loops_form.read self.old.at self.old.rest.now) }
+        ensures within { self.new.at + length self.new.rest.now ≤ self.old.at + length self.old.rest.now }
+        ensures cost { steps.new + length self.new.rest.now ≤ steps.old + length self.old.rest.now }
+    {
+        let at = self.at;
+        let found = self.number_2(steps)?;
+        if found <= MOST_POLICY {
+            return Ok(found);
+        }
+        Err(BadBytes::Range(at, Field::Loops))
+    }
+
+    /// The length of the source, at most 262,144.
+    pub fn source_length<L: Ledger>(&mut self, steps: &mut Steps<L>) -> Result<u32, BadBytes>
+        requires { self.old.at + length self.old.rest.now < 2 ^ 32 }
+        ensures ok { IfOk result (Came source_length_form.read self.old.at self.old.rest.now self.new.at self.new.rest.now) }
+        ensures most { IfOk result (λ n. n ≤ MOST_SOURCE_BYTES) }
+        ensures err { IfErr result (Refuses source_length_form.read self.old.at self.old.rest.now) }
+        ensures within { self.new.at + length self.new.rest.now ≤ self.old.at + length self.old.rest.now }
+        ensures cost { steps.new + length self.new.rest.now ≤ steps.old + length self.old.rest.now }
+    {
+        let at = self.at;
+        let found = self.number_4(steps)?;
+        if found as usize <= MOST_SOURCE_BYTES {
+            return Ok(found);
+        }
+        Err(BadBytes::Range(at, Field::Source))
+    }
+
+    /// The count of processes, which is the source's.
+    pub fn process_count<L: Ledger>(
+        &mut self,
+        facts: Facts,
+        steps: &mut Steps<L>,
+    ) -> Result<u8, BadBytes>
+        requires { self.old.at + length self.old.rest.now < 2 ^ 32 }
+        ensures ok { IfOk result (Came (process_count_form facts).read self.old.at self.old.rest.now self.new.at self.new.rest.now) }
+        ensures err { IfErr result (Refuses (process_count_form facts).read self.old.at self.old.rest.now) }
+        ensures within { self.new.at + length self.new.rest.now ≤ self.old.at + length self.old.rest.now }
+        ensures cost { steps.new + length self.new.rest.now ≤ steps.old + length self.old.rest.now }
+    {
+        let at = self.at;
+        let found = self.byte(steps)?;
+        if found == facts.processes {
+            return Ok(found);
+        }
+        Err(BadBytes::Range(at, Field::Processes))
+    }
+
+    /// What the next entry is.
+    pub fn tag<L: Ledger>(&mut self, steps: &mut Steps<L>) -> Result<Tag, BadBytes>
+        requires { self.old.at + length self.old.rest.now < 2 ^ 32 }
+        ensures ok { IfOk result (Came tag_form.read self.old.at self.old.rest.now self.new.at self.new.rest.now) }
+        ensures err { IfErr result (Refuses tag_form.read self.old.at self.old.rest.now) }
+        ensures within { self.new.at + length self.new.rest.now ≤ self.old.at + length self.old.rest.now }
+        ensures cost { steps.new + length self.new.rest.now ≤ steps.old + length self.old.rest.now }
+    {
+        let at = self.at;
+        match tag_at(self.byte(steps)?) {
+            Some(found) => Ok(found),
+            None => Err(BadBytes::Range(at, Field::Tag)),
+        }
+    }
+
+    /// A kind of synchronization that this version has.
+    pub fn sync_kind<L: Ledger>(
+        &mut self,
+        version: u8,
+        steps: &mut Steps<L>,
+    ) -> Result<SyncKind, BadBytes>
+        requires { self.old.at + length self.old.rest.now < 2 ^ 32 }
+        ensures ok { IfOk result (Came (sync_kind_form version).read self.old.at self.old.rest.now self.new.at self.new.rest.now) }
+        ensures err { IfErr result (Refuses (sync_kind_form version).read self.old.at self.old.rest.now) }
+        ensures within { self.new.at + length self.new.rest.now ≤ self.old.at + length self.old.rest.now }
+        ensures cost { steps.new + length self.new.rest.now ≤ steps.old + length self.old.rest.now }
+    {
+        let at = self.at;
+        match kind_at(version, self.byte(steps)?) {
+            Some(found) => Ok(found),
+            None => Err(BadBytes::Range(at, Field::Kind)),
+        }
+    }
+
+    /// A synchronization's number, at least 1.
+    pub fn sync_number<L: Ledger>(&mut self, steps: &mut Steps<L>) -> Result<u32, BadBytes>
+        requires { self.old.at + length self.old.rest.now < 2 ^ 32 }
+        ensures ok { IfOk result (Came sync_number_form.read self.old.at self.old.rest.now self.new.at self.new.rest.now) }
+        ensures err { IfErr result (Refuses sync_number_form.read self.old.at self.old.rest.now) }
+        ensures within { self.new.at + length self.new.rest.now ≤ self.old.at + length self.old.rest.now }
+        ensures cost { steps.new + length self.new.rest.now ≤ steps.old + length self.old.rest.now }
+    {
+        let at = self.at;
+        let found = self.number_4(steps)?;
+        if found >= 1 {
+            return Ok(found);
+        }
+        Err(BadBytes::Range(at, Field::Number))
+    }
+
+    /// The value of a synchronization of this kind: 0 but for what is sent and received.
+    pub fn sync_value<L: Ledger>(
+        &mut self,
+        kind: SyncKind,
+        steps: &mut Steps<L>,
+    ) -> Result<i64, BadBytes>
+        requires { self.old.at + length self.old.rest.now < 2 ^ 32 }
+        ensures ok { IfOk result (Came (sync_value_form kind).read self.old.at self.old.rest.now self.new.at self.new.rest.now) }
+        ensures err { IfErr result (Refuses (sync_value_form kind).read self.old.at self.old.rest.now) }
+        ensures within { self.new.at + length self.new.rest.now ≤ self.old.at + length self.old.rest.now }
+        ensures cost { steps.new + length self.new.rest.now ≤ steps.old + length self.old.rest.now }
+    {
+        let at = self.at;
+        let found = self.value(steps)?;
+        if fits_kind(kind, found) {
+            return Ok(found);
+        }
+        Err(BadBytes::Range(at, Field::Value))
+    }
+
+    /// How a process ended.
+    pub fn status<L: Ledger>(&mut self, steps: &mut Steps<L>) -> Result<Status, BadBytes>
+        requires { self.old.at + length self.old.rest.now < 2 ^ 32 }
+        ensures ok { IfOk result (Came end_status.read self.old.at self.old.rest.now self.new.at self.new.rest.now) }
+        ensures err { IfErr result (Refuses end_status.read self.old.at self.old.rest.now) }
+        ensures within { self.new.at + length self.new.rest.now ≤ self.old.at + length self.old.rest.now }
+        ensures cost { steps.new + length self.new.rest.now ≤ steps.old + length self.old.rest.now }
+    {
+        let at = self.at;
+        match status_at(self.byte(steps)?) {
+            Some(found) => Ok(found),
+            None => Err(BadBytes::Range(at, Field::Status)),
+        }
+    }
+
+    /// A shared cell, at least `low`.
+    pub fn cell<L: Ledger>(
+        &mut self,
+        shared: u32,
+        low: u32,
+        steps: &mut Steps<L>,
+    ) -> Result<u16, BadBytes>
+        requires { self.old.at + length self.old.rest.now < 2 ^ 32 }
+        ensures ok { IfOk result (Came (cell_form shared low).read self.old.at self.old.rest.now self.new.at self.new.rest.now) }
+        ensures err { IfErr result (Refuses (cell_form shared low).read self.old.at self.old.rest.now) }
+        ensures within { self.new.at + length self.new.rest.now ≤ self.old.at + length self.old.rest.now }
+        ensures cost { steps.new + length self.new.rest.now ≤ steps.old + length self.old.rest.now }
+    {
+        let at = self.at;
+        let found = self.number_2(steps)?;
+        if is_next(shared, low, found) {
+            return Ok(found);
+        }
+        Err(BadBytes::Range(at, Field::Cells))
+    }
+}
+
+fn tag_at(byte: u8) -> Option<Tag>
+    ensures { result ≡ coded tag_code tags byte }
+{
+    match byte {
+        1 => Some(Tag::Prelog),
+        2 => Some(Tag::Unit),
+        3 => Some(Tag::Sync),
+        4 => Some(Tag::Postlog),
+        5 => Some(Tag::End),
+        _ => None,
+    }
+}
+
+fn kind_at(version: u8, byte: u8) -> Option<SyncKind>
+    ensures { result ≡ coded kind_code (kinds version) byte }
+{
+    match byte {
+        1 => Some(SyncKind::P),
+        2 => Some(SyncKind::V),
+        3 => Some(SyncKind::Send),
+        4 => Some(SyncKind::Recv),
+        5 if version == 2 => Some(SyncKind::Done),
+        _ => None,
+    }
+}
+
+fn status_at(byte: u8) -> Option<Status>
+    ensures { result ≡ coded status_code statuses byte }
+{
+    match byte {
+        0 => Some(Status::Ended),
+        1 => Some(Status::Trap(Trap::Overflow)),
+        2 => Some(Status::Trap(Trap::Zero)),
+        3 => Some(Status::Trap(Trap::Index)),
+        4 => Some(Status::Trap(Trap::Assert)),
+        5 => Some(Status::Trap(Trap::Depth)),
+        6 => Some(Status::Budget),
+        7 => Some(Status::Blocked),
+        _ => None,
+    }
+}
+
+fn fits_kind(kind: SyncKind, value: i64) -> bool
+    ensures { result ≡ fits_kind_of kind value }
+{
+    match kind {
+        SyncKind::P | SyncKind::V | SyncKind::Done => value == 0,
+        SyncKind::Send | SyncKind::Recv => true,
+    }
+}
+
+fn is_next(shared: u32, low: u32, cell: u16) -> bool
+    ensures { result ≡ is_next_of shared low cell }
+{
+    low <= u32::from(cell) && u32::from(cell) < shared
+}

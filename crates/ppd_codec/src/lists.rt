@@ -1,0 +1,75 @@
+ghost use Rattle.std.specs.Prelude.{◌≡◌, ◌+◌, ◌<◌, ◌≤◌, ◌^◌, ◌++◌, ◌∷◌, [], length, IfErr, IfOk, OnOk};
+ghost use Rattle.ppd_codec.specs.Came.{Came, Refuses};
+ghost use Rattle.ppd_codec.specs.Format.{cells as cells_form, values as values_form};
+
+use crate::bad::BadBytes;
+use crate::cursor::Cursor;
+use ppd_ast::{Cells, Nums, Seq, Steps};
+use std::alloc::Global;
+use std::sync::ledger::Ledger;
+
+impl<'a> Cursor<'a> {
+    /// Values, with their count before them.
+    pub fn values<L: Ledger>(
+        &mut self,
+        alloc: Global,
+        steps: &mut Steps<L>,
+    ) -> Result<Nums, BadBytes>
+        requires { self.old.at + length self.old.rest.now < 2 ^ 32 }
+        ensures ok { IfOk result (Came values_form.read self.old.at self.old.rest.now self.new.at self.new.rest.now) }
+        ensures err { IfErr result (Refuses values_form.read self.old.at self.old.rest.now) }
+        ensures within { self.new.at + length self.new.rest.now ≤ self.old.at + length self.old.rest.now }
+        ensures cost { steps.new + length self.new.rest.now ≤ steps.old + length self.old.rest.now }
+    {
+        let mut left = self.number_2(steps)?;
+        let mut found = Nums::new(alloc);
+        while left > 0 {
+            let item = match self.value(steps) {
+                Ok(item) => item,
+                Err(bad) => return Err(bad),
+            };
+            push(&mut found, item)?;
+            left -= 1;
+        }
+        Ok(found)
+    }
+
+    /// Rising shared cells, with their count before them.
+    pub fn cells<L: Ledger>(
+        &mut self,
+        alloc: Global,
+        shared: u32,
+        steps: &mut Steps<L>,
+    ) -> Result<Cells, BadBytes>
+        requires { self.old.at + length self.old.rest.now < 2 ^ 32 }
+        ensures ok { IfOk result (Came (cells_form shared).read self.old.at self.old.rest.now self.new.at self.new.rest.now) }
+        ensures err { IfErr result (Refuses (cells_form shared).read self.old.at self.old.rest.now) }
+        ensures within { self.new.at + length self.new.rest.now ≤ self.old.at + length self.old.rest.now }
+        ensures cost { steps.new + length self.new.rest.now ≤ steps.old + length self.old.rest.now }
+    {
+        let mut left = self.number_2(steps)?;
+        let mut found = Cells::new(alloc);
+        let mut low: u32 = 0;
+        while left > 0 {
+            let cell = match self.cell(shared, low, steps) {
+                Ok(cell) => cell,
+                Err(bad) => return Err(bad),
+            };
+            push(&mut found, cell)?;
+            low = u32::from(cell) + 1;
+            left -= 1;
+        }
+        Ok(found)
+    }
+}
+
+/// Appends the item; the error is want of memory.
+pub(crate) fn push<T: Drop>(items: &mut Seq<T>, item: T) -> Result<(), BadBytes>
+    ensures ok { OnOk result (items.new ≡ items.old ++ item ∷ []) }
+    ensures err { IfErr result (λ e. e ≡ BadBytes.Memory) }
+{
+    match items.push(item) {
+        Ok(()) => Ok(()),
+        Err(_) => Err(BadBytes::Memory),
+    }
+}
