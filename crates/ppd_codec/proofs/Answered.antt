@@ -18,8 +18,8 @@ use Rattle.ppd_blocks.specs.Blocks.{plan_of}
 use Rattle.ppd_codec.specs.Came.{Came}
 use Rattle.ppd_codec.specs.Form.{Form}
 use Rattle.ppd_codec.specs.Format.{Front, back, front, recording}
-use Rattle.ppd_codec.specs.Reader.{Got, Reader, after, done}
-use Rattle.ppd_codec.specs.Recordings.{AreLawful, ComesToSource, IsBad, IsDecoded, IsJudged, IsLawfulBy, IsMade, Judged, all_of, back_by, facts_of, fields_of, front_of, nothing_left, reading, refusal, spelled, version_of}
+use Rattle.ppd_codec.specs.Reader.{Got, after, done}
+use Rattle.ppd_codec.specs.Recordings.{AreLawful, ComesToSource, IsBad, IsDecoded, IsJudged, IsLawfulBy, IsMade, Judged, all_of, back_by, facts_of, front_of, nothing_left, reading, refusal, spelled, version_of}
 use Rattle.ppd_codec.proofs.Inverts.{AreBytes, Wrote, got, ok_is}
 use Rattle.ppd_codec.proofs.Built.{Holds}
 use Rattle.ppd_codec.proofs.Parts.{recording_holds}

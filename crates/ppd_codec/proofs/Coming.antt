@@ -1,9 +1,9 @@
 -- A field read in code.
 use Rattle.std.specs.Prelude.{nat_le}
-use Rattle.std.proofs.Common.{◌≡◌, ℕ, ◌+◌, List, length, take, drop, Bool, true, false, cond, Result, Ok, Err, Option, refl, ap}
+use Rattle.std.proofs.Common.{◌≡◌, ℕ, ◌+◌, List, length, take, drop, Bool, true, false, cond, Result, Ok, Err, refl, ap}
 use Rattle.ppd_codec.specs.declared.bad.BadBytes.{BadBytes}
 use Rattle.ppd_codec.specs.declared.bad.BadBytes.TheVariants.{Short}
-use Rattle.ppd_codec.specs.Reader.{Got, Reader, after, checked, field, next, or_refuse}
+use Rattle.ppd_codec.specs.Reader.{Got, Reader, after, field, next}
 use Rattle.ppd_codec.specs.Came.{Came, Refuses}
 use Rattle.ppd_codec.proofs.Inverts.{got, ok_is}
 

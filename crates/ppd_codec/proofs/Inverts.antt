@@ -4,7 +4,6 @@ use Rattle.std.proofs.Common.{◌≡◌, ℕ, ◌+◌, ◌<◌, List, [], ◌∷
 use Rattle.std.proofs.lemmas.List.{append_assoc}
 use Rattle.ppd_codec.specs.declared.bad.BadBytes.{BadBytes}
 use Rattle.ppd_codec.specs.Reader.{Got, Reader, after, checked, done, kept, or_refuse, next}
-use Rattle.ppd_codec.specs.Form.{Form}
 
 abbrev pub AreBytes : List ℕ → Type 0
 AreBytes [] = ⊤

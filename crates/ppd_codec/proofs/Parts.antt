@@ -1,7 +1,7 @@
 -- The parts of a recording, both ways.
-use Rattle.std.specs.Prelude.{⊤, FitsSigned}
+use Rattle.std.specs.Prelude.{FitsSigned}
 use Rattle.std.specs.Int.{cast_signed, cast_unsigned, w16, w32, w64, to_be_bytes, from_be_bytes}
-use Rattle.std.proofs.Common.{Fits, ◌≡◌, ℕ, ◌<◌, ◌^◌, ℤ, List, [], ◌∷◌, Option, Some, None, refl, ap, sym, ◌∙◌}
+use Rattle.std.proofs.Common.{Fits, ◌≡◌, ℕ, ◌<◌, ◌^◌, ℤ, [], ◌∷◌, Some, refl, ap, sym, ◌∙◌}
 use Rattle.std.proofs.lemmas.Nat.{be_bytes_8, from_be_bytes-to_be_bytes_8}
 use Rattle.std.proofs.Math.Facts.{Fits-lt-pow, Fits-of_lt, Fits-of_z, of_z-to_z, sfits_to_z, to_z-of_z}
 use Rattle.ppd_entry.specs.declared.entry.Entry.{Entry}
@@ -11,8 +11,8 @@ use Rattle.ppd_codec.specs.declared.bad.BadBytes.TheVariants as bad
 use Rattle.ppd_codec.specs.declared.facts.Facts.{Facts}
 use Rattle.ppd_codec.specs.declared.tag.Tag.{Tag}
 use Rattle.ppd_codec.specs.declared.tag.Tag.TheVariants as T
-use Rattle.ppd_codec.specs.Form.{Form, byte, first, number_2, number_4, value, value_bytes, value_of}
-use Rattle.ppd_codec.specs.Format.{End, Front, Sync, an_entry, back, budget, cells, end_of, end_parts, end_status, ended, front, is_next, kind_code, kinds, leaf, log, logs, loops, magic, magic_code, numbered, out_of, past, postlog_of, postlog_parts, prelog_of, prelog_parts, process_count, recording, row, source, source_length, status_code, statuses, sync_kind, sync_number, sync_of, sync_parts, sync_value, synced, tag, tag_code, tag_of, tags, unit_of, unit_parts, values, version}
+use Rattle.ppd_codec.specs.Form.{byte, first, number_2, number_4, value, value_bytes, value_of}
+use Rattle.ppd_codec.specs.Format.{End, Sync, an_entry, back, budget, cells, end_of, end_parts, end_status, ended, front, is_next, kind_code, kinds, leaf, log, logs, loops, magic, magic_code, numbered, out_of, past, postlog_of, postlog_parts, prelog_of, prelog_parts, process_count, recording, row, source, source_length, status_code, statuses, sync_kind, sync_number, sync_of, sync_parts, sync_value, synced, tag, tag_code, tag_of, tags, unit_of, unit_parts, values, version}
 use Rattle.ppd_codec.proofs.Widths.{IsWidth, bound_8, byte_at, field_inverts, width_1, width_2, width_4}
 use Rattle.ppd_codec.proofs.Built.{Holds, block_holds, listed_along_holds, listed_holds, named_holds, one_of_holds, only_holds, pair_holds, ranged_holds, tagged_holds}
 

@@ -1,8 +1,8 @@
 -- A list read element by element in code.
-use Rattle.std.proofs.Common.{◌≡◌, ℕ, zero, suc, ◌+◌, ◌-◌, ◌<◌, List, [], ◌∷◌, ◌++◌, Result, Ok, Err, refl, ap, sym, ◌∙◌, arith}
+use Rattle.std.proofs.Common.{◌≡◌, ℕ, zero, suc, ◌-◌, ◌<◌, List, [], ◌∷◌, ◌++◌, Result, Ok, Err, refl, ap, sym, ◌∙◌, arith}
 use Rattle.std.proofs.lemmas.List.{append_assoc}
 use Rattle.ppd_codec.specs.declared.bad.BadBytes.{BadBytes}
-use Rattle.ppd_codec.specs.Reader.{Got, Reader, after, as_a, both, done, next, several}
+use Rattle.ppd_codec.specs.Reader.{Got, Reader, after, done, next, several}
 use Rattle.ppd_codec.specs.Came.{Came, Refuses}
 
 -- what was found goes before what is to come

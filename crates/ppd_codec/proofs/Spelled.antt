@@ -1,7 +1,6 @@
 -- What lawful three need of their parts, and that what is written is their recording.
-use Rattle.std.specs.Prelude.{nat_le}
 use Rattle.std.specs.List.{All, AllByRecursion}
-use Rattle.std.proofs.Common.{◌≡◌, ℕ, ◌<◌, ◌≤◌, ◌^◌, List, [], ◌∷◌, ◌++◌, length, get_or, true, refl, ap, sym, ◌∙◌, subst, arith}
+use Rattle.std.proofs.Common.{◌≡◌, ℕ, ◌<◌, ◌≤◌, ◌^◌, List, [], ◌∷◌, ◌++◌, length, true, ap, ◌∙◌, subst, arith}
 use Rattle.std.proofs.lemmas.Bool.Decides.{nat_tests}
 use Rattle.std.proofs.lemmas.List.Elements.{All-from_recursion}
 use Rattle.ppd_ast.specs.declared.limits.TheConstants.{MOST_SOURCE_BYTES}
@@ -15,7 +14,7 @@ use Rattle.ppd_codec.specs.declared.facts.Facts.{Facts}
 use Rattle.ppd_codec.specs.declared.recording.Header.{Header}
 use Rattle.ppd_codec.specs.Counted.{IsCounted, IsCountedLog}
 use Rattle.ppd_codec.specs.Format.{an_entry, front, log, logs as logs_form, within}
-use Rattle.ppd_codec.specs.Recordings.{IsLawfulBy, IsRecordingOf, facts_of, front_of, spelled, version_of}
+use Rattle.ppd_codec.specs.Recordings.{IsLawfulBy, IsRecordingOf, facts_of, front_of, version_of}
 
 within_is : (low high n : ℕ) → within low high n ≡ true → n ≤ high
 within_is low high n e = grind (arith, nat_tests)

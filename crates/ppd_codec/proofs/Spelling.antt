@@ -1,9 +1,8 @@
 -- Each recording has one spelling, and each spelling is of one recording.
-use Rattle.std.proofs.Common.{◌≡◌, ◌≢◌, ℕ, ◌+◌, ◌≤◌, List, [], ◌∷◌, ◌++◌, length, Result, Ok, Err, refl, ap, sym, ◌∙◌, subst}
+use Rattle.std.proofs.Common.{◌≡◌, ◌≢◌, ℕ, ◌+◌, ◌≤◌, List, length, Ok, Err, refl, ap, sym, ◌∙◌, subst}
 use Rattle.ppd_ast.specs.declared.limits.TheConstants.{MOST_RECORDING_BYTES}
 use Rattle.ppd_ast.specs.declared.program.Program.{Program}
 use Rattle.ppd_check.specs.Read.{IsRead}
-use Rattle.ppd_check.specs.declared.error.SourceError.TheVariants as source
 use Rattle.ppd_check.proofs.Excluded.{program_unique, read_or_refused}
 use Rattle.ppd_entry.specs.declared.entry.Entry.{Entry}
 use Rattle.ppd_entry.specs.declared.entry.Logs.{Logs}
@@ -14,7 +13,7 @@ use Rattle.ppd_codec.specs.declared.recording.Recording.{Recording}
 use Rattle.ppd_codec.specs.Format.{Front, front, recording}
 use Rattle.ppd_codec.specs.Laws.{NoRecordingIsBad, OneReading, OneSpelling}
 use Rattle.ppd_codec.specs.Reader.{Got}
-use Rattle.ppd_codec.specs.Recordings.{ComesToSource, IsBad, IsDecoded, IsJudged, IsRecordingOf, Judged, all_of, facts_of, fields_of, front_of, reading, spelled, version_of}
+use Rattle.ppd_codec.specs.Recordings.{IsDecoded, IsJudged, IsRecordingOf, Judged, all_of, facts_of, fields_of, front_of, reading, spelled, version_of}
 use Rattle.ppd_codec.proofs.Inverts.{got, ok_is}
 use Rattle.ppd_codec.proofs.Parts.{front_holds, recording_holds}
 use Rattle.ppd_codec.proofs.Answered.{all_there}

@@ -1,5 +1,5 @@
 -- The form of a recording: its fields in order, and what is lawful in each.
-use Rattle.std.specs.Prelude.{ℕ, zero, suc, ◌+◌, nat_eq, nat_le, nat_lt, ℤ, pos, Bool, true, false, ◌&&◌, List, [], ◌∷◌, ◌++◌, Option, Some, None, if◌then◌else◌, ⊤}
+use Rattle.std.specs.Prelude.{ℕ, zero, ◌+◌, nat_eq, nat_le, nat_lt, ℤ, pos, Bool, true, false, ◌&&◌, List, [], ◌∷◌, Option, Some, None, if◌then◌else◌, ⊤}
 use Rattle.ppd_ast.specs.declared.limits.TheConstants.{MOST_BUDGET, MOST_POLICY, MOST_SOURCE_BYTES}
 use Rattle.ppd_ast.specs.declared.status.Status.{Status}
 use Rattle.ppd_ast.specs.declared.status.Status.TheVariants as status

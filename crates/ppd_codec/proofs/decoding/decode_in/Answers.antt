@@ -1,13 +1,11 @@
-use Rattle.std.proofs.Common.{◌≡◌, ◌≢◌, ◌<◌, ◌≤◌, ℕ, List, length, get_or, Result, Ok, Err, IfErr, IfOk, arith, ap, sym, ◌∙◌, subst, rules}
+use Rattle.std.proofs.Common.{◌≡◌, ◌≢◌, ◌≤◌, length, Ok, Err, arith, subst, rules}
 use Rattle.ppd_ast.specs.declared.limits.TheConstants.{MOST_RECORDING_BYTES}
-use Rattle.ppd_ast.specs.declared.program.Program.{Program}
-use Rattle.ppd_entry.specs.declared.entry.Entry.{Entry}
 use Rattle.ppd_codec.specs.declared.bad.BadBytes.{BadBytes}
 use Rattle.ppd_codec.specs.declared.bad.BadBytes.TheVariants as bad
 use Rattle.ppd_codec.specs.declared.facts.Facts.{Facts}
 use Rattle.ppd_codec.specs.Came.{Came}
 use Rattle.ppd_codec.specs.Format.{back, front}
-use Rattle.ppd_codec.specs.Recordings.{IsBad, IsDecoded, facts_of, front_of, nothing_left}
+use Rattle.ppd_codec.specs.Recordings.{IsBad, facts_of, front_of, nothing_left}
 use Rattle.ppd_codec.proofs.Answered.{are_bytes, bad_back, bad_front, bad_long, lawful_again, made_decoded}
 use Rattle.ppd_codec.proofs.Mapped.{handed_on, map_ok}
 use Rattle.ppd_codec.proofs.decoding.decode_in.Goals as goal

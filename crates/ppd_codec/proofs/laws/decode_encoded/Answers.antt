@@ -1,8 +1,5 @@
-use Rattle.std.proofs.Common.{◌≡◌, ◌≢◌, List, ℕ, Result, Ok, Err, IfErr, IfOk, sym, subst}
-use Rattle.ppd_codec.specs.declared.bad.BadBytes.{BadBytes}
-use Rattle.ppd_codec.specs.declared.bad.BadBytes.TheVariants as bad
-use Rattle.ppd_codec.specs.declared.recording.Recording.{Recording}
-use Rattle.ppd_codec.specs.Recordings.{IsBad, IsDecoded, IsRecordingOf}
+use Rattle.std.proofs.Common.{List, ℕ, sym, subst}
+use Rattle.ppd_codec.specs.Recordings.{IsBad, IsDecoded}
 use Rattle.ppd_codec.proofs.Spelling.{memory_alone, no_recording_is_bad, same_three}
 use Rattle.ppd_codec.proofs.Mapped.{map_err, map_ok}
 use Rattle.ppd_codec.proofs.laws.decode_encoded.Goals as goal

@@ -1,5 +1,4 @@
-use Rattle.std.proofs.Common.{◌∙◌, ◌+◌, ap, refl, arith}
-use Rattle.std.specs.Prelude.{⊤}
+use Rattle.std.proofs.Common.{◌∙◌, ap, arith}
 use Rattle.ppd_codec.specs.Reader.{several}
 use Rattle.ppd_codec.specs.Form.{number_2}
 use Rattle.ppd_codec.specs.Format.{cell, past}

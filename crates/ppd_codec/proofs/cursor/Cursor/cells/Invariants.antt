@@ -1,5 +1,4 @@
 use Rattle.std.proofs.Common.{◌≡◌, ◌+◌, ◌≤◌, length}
-use Rattle.std.specs.Prelude.{⊤}
 use Rattle.ppd_codec.specs.Reader.{next, several}
 use Rattle.ppd_codec.specs.Format.{cell, past}
 use Rattle.ppd_codec.proofs.Several.{onto}

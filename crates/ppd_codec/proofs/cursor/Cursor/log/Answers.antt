@@ -1,4 +1,4 @@
-use Rattle.std.proofs.Common.{◌∙◌, ◌+◌, ap, refl, arith}
+use Rattle.std.proofs.Common.{◌∙◌, refl, arith}
 use Rattle.std.specs.Prelude.{⊤}
 use Rattle.ppd_codec.specs.Reader.{several}
 use Rattle.ppd_codec.specs.Form.{number_4}
