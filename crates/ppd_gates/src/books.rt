@@ -82,26 +82,64 @@ fn take_two<'x, 'a, J: Job + Send + Sync, R: Threads + Wait + Sync>(
     });
 }
 
+/// The same in a run whose job is named by `Brand`.
+fn kept(
+    alloc: Global,
+    program: &Program,
+    plan: &Plan,
+    budget: u32,
+    workers: &[u8],
+) -> Result<(Vec<Turn>, Ran), Memory>
+    requires program { IsValid program.now }
+    requires plan { IsValidPlan program.now plan.now }
+    requires budget { budget ≤ MOST_BUDGET }
+{
+    keep::<Brand>(alloc, program, plan, budget, workers)
+}
+
+fn lent<R: Threads + Wait + Sync>(
+    rt: &R,
+    alloc: Global,
+    program: &Program,
+    plan: &Plan,
+    budget: u32,
+    worker: u8,
+) -> Result<Ran, Memory>
+    requires program { IsValid program.now }
+    requires plan { IsValidPlan program.now plan.now }
+    requires budget { budget ≤ MOST_BUDGET }
+{
+    lend::<Brand, R>(rt, alloc, program, plan, budget, worker)
+}
+
 // The worker's own process where that can take a step, else the lowest that can. Process a waits for b.
 #[test]
 fn turns_take_the_lowest(rt: HostRuntime) -> Result<(), Fail> {
     let alloc = rt.alloc();
     let program = read_source(alloc, SOURCE.as_bytes())?;
     let plan = partition(alloc, &program, &Policy { leaf: 0, loops: 0 })?;
-    let workers = [0, 1, 0, 1, 9, 1, 0];
-    let (turns, ran) = keep::<Brand>(alloc, &program, &plan, 1_000, &workers)?;
-    let taken = [1, 1, 0, 1, 0, 0];
-    let [first @ .., last] = turns.as_slice() else {
-        panic!(rt; "seven turns");
-    };
-    assert_eq!(rt; *last, Turn::Over);
-    assert_eq!(rt; first.len(), taken.len());
-    for index in 0..taken.len() {
-        assert_eq!(rt; first[index], Turn::Stepped(taken[index]), "{index}");
-    }
-    assert_eq!(rt; ran.schedule.as_slice(), taken.as_slice());
-    let (turns, ran) = keep::<Brand>(alloc, &program, &plan, 1_000, &[])?;
-    assert_eq!(rt; turns.len(), 0);
+    let (turns, ran) = kept(alloc, &program, &plan, 1_000, &[0, 1, 0, 1, 9, 1, 0])?;
+    let told = [
+        Turn::Stepped(1),
+        Turn::Stepped(1),
+        Turn::Stepped(0),
+        Turn::Stepped(1),
+        Turn::Stepped(0),
+        Turn::Stepped(0),
+        Turn::Over,
+    ];
+    assert_eq!(rt; turns.as_slice(), told.as_slice());
+    assert_eq!(rt; ran.schedule.as_slice(), [1, 1, 0, 1, 0, 0].as_slice());
+    Ok(())
+}
+
+// No turn before the close.
+#[test]
+fn a_close_takes_what_is_left(rt: HostRuntime) -> Result<(), Fail> {
+    let alloc = rt.alloc();
+    let program = read_source(alloc, SOURCE.as_bytes())?;
+    let plan = partition(alloc, &program, &Policy { leaf: 0, loops: 0 })?;
+    let (_, ran) = kept(alloc, &program, &plan, 1_000, &[])?;
     assert_eq!(rt; ran.schedule.as_slice(), [1, 0, 0, 0, 1, 1].as_slice());
     Ok(())
 }
@@ -112,7 +150,7 @@ fn a_thread_takes_turns(rt: HostRuntime) -> Result<(), Fail> {
     let alloc = rt.alloc();
     let program = read_source(alloc, SOURCE.as_bytes())?;
     let plan = partition(alloc, &program, &Policy { leaf: 0, loops: 0 })?;
-    let ran = lend::<Brand, HostRuntime>(&rt, alloc, &program, &plan, 1_000, 1)?;
+    let ran = lent(&rt, alloc, &program, &plan, 1_000, 1)?;
     assert_eq!(rt; ran.schedule.as_slice(), [1, 1, 0, 0, 0, 1].as_slice());
     Ok(())
 }
