@@ -1,0 +1,70 @@
+-- Look-ups and changes of lists.
+use Rattle.std.proofs.Common.{◌≡◌, ℕ, zero, suc, ◌+◌, ◌<◌, ◌≤◌, List, [], ◌∷◌, ◌++◌, Some, None, length, get_or, map, drop, slice_set, refl, ap, sym, ◌∙◌, arith}
+use Rattle.std.specs.Prelude.{slice_get}
+use Rattle.std.specs.List.{All}
+use Rattle.ppd_model.specs.Extents.{first_of}
+use Rattle.ppd_model.specs.World.{change}
+use Rattle.ppd_index.specs.declared.row.Row.{Row}
+use Rattle.ppd_index.specs.Tables.{open_one, open_rows}
+
+pub change_past : {A : Type 0} (f : A → A) (i : ℕ) (xs : List A) → length xs ≤ i → change f i xs ≡ xs
+change_past f i [] h = refl
+change_past f zero (x ∷ xs) h = absurd (omega arith)
+change_past f (suc i) (x ∷ xs) h = ap (λ ys. x ∷ ys) (change_past f i xs (omega arith))
+
+pub set_is_change : {A : Type 0} (f : A → A) (i : ℕ) (xs : List A) (d y : A) → i < length xs → y ≡ f (get_or xs i d) → slice_set xs i y ≡ change f i xs
+set_is_change f i [] d y h e = absurd (omega arith)
+set_is_change f zero (x ∷ xs) d y h e = ap (λ z. z ∷ xs) e
+set_is_change f (suc i) (x ∷ xs) d y h e = ap (λ ys. x ∷ ys) (set_is_change f i xs d y (omega arith) e)
+
+pub map_get : {A B : Type 0} (f : A → B) (xs : List A) (k : ℕ) (x : A) → slice_get xs k ≡ Some x → slice_get (map f xs) k ≡ Some (f x)
+map_get f [] k x e = absurd (cc e)
+map_get f (y ∷ ys) zero x e = let is : y ≡ x = cc e in ap (λ z. Some (f z)) is
+map_get f (y ∷ ys) (suc k) x e = map_get f ys k x e
+
+pub get_is : {A : Type 0} (xs : List A) (k : ℕ) (x : A) → k < length xs → x ≡ get_or xs k x → slice_get xs k ≡ Some x
+get_is [] k x h e = absurd (omega arith)
+get_is (y ∷ ys) zero x h e = ap (λ z. Some z) (sym e)
+get_is (y ∷ ys) (suc k) x h e = get_is ys k x (omega arith) e
+
+pub all_more : {A : Type 0} (P : A → Type 0) (xs : List A) (y : A) → All P xs → P y → All P (xs ++ y ∷ [])
+all_more P [] y h is zero d lt = is
+all_more P [] y h is (suc k) d lt = absurd (omega arith)
+all_more P (x ∷ xs) y h is zero d lt = h 0 d (omega arith)
+all_more P (x ∷ xs) y h is (suc k) d lt = all_more P xs y (λ i e l. h (suc i) e (omega (arith, l))) is k d (omega arith)
+
+-- ---- the intervals that run
+
+pub first_is_get : (ks : List ℕ) → first_of ks ≡ slice_get ks 0
+first_is_get [] = refl
+first_is_get (k ∷ ks) = refl
+
+pub first_of_drop : (ks : List ℕ) (i : ℕ) → first_of (drop i ks) ≡ slice_get ks i
+first_of_drop [] zero = refl
+first_of_drop [] (suc i) = refl
+first_of_drop (k ∷ ks) zero = refl
+first_of_drop (k ∷ ks) (suc i) = first_of_drop ks i
+
+next_of : (n : ℕ) (ks : List ℕ) (i k : ℕ) (rows : List Row) → slice_get ks i ≡ Some k → open_rows n (drop i ks) rows ≡ open_rows n (drop (suc i) ks) (open_one n k (slice_get ks (suc i)) rows)
+next_of n [] i k rows e = absurd (cc e)
+next_of n (m ∷ ks) zero k rows e =
+    let is : m ≡ k = cc e in
+    ap (λ j. open_rows n ks (open_one n j (first_of ks) rows)) is ∙ ap (λ o. open_rows n ks (open_one n k o rows)) (first_is_get ks)
+next_of n (m ∷ ks) (suc i) k rows e = next_of n ks i k rows e
+
+pub open_next : (n : ℕ) (ks : List ℕ) (i k : ℕ) (rows : List Row) → slice_get ks i ≡ Some k → open_rows n (drop i ks) rows ≡ open_rows n (drop (i + 1) ks) (open_one n k (slice_get ks (i + 1)) rows)
+open_next n ks i k rows e =
+    let on : suc i ≡ i + 1 = omega arith in
+    next_of n ks i k rows e ∙ ap (λ j. open_rows n (drop j ks) (open_one n k (slice_get ks j) rows)) on
+
+-- where there is no interval of this number none is left
+past_of : (n : ℕ) (ks : List ℕ) (i : ℕ) (rows : List Row) → slice_get ks i ≡ None → open_rows n (drop (suc i) ks) rows ≡ open_rows n (drop i ks) rows
+past_of n [] zero rows e = refl
+past_of n [] (suc i) rows e = refl
+past_of n (m ∷ ks) zero rows e = absurd (cc e)
+past_of n (m ∷ ks) (suc i) rows e = past_of n ks i rows e
+
+pub open_past : (n : ℕ) (ks : List ℕ) (i : ℕ) (rows : List Row) → slice_get ks i ≡ None → open_rows n (drop (i + 1) ks) rows ≡ open_rows n (drop i ks) rows
+open_past n ks i rows e =
+    let on : i + 1 ≡ suc i = omega arith in
+    ap (λ j. open_rows n (drop j ks) rows) on ∙ past_of n ks i rows e

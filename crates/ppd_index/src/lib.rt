@@ -1,0 +1,20 @@
+//! The index of logs: the intervals of each process, and the log of each interval, lent.
+#![tactic(auto)]
+
+mod build;
+mod interval;
+mod interval_log;
+mod log_index;
+mod refusal;
+mod row;
+mod standing;
+mod table;
+#[cfg(test)]
+mod tests;
+
+pub use build::index;
+pub use interval::Interval;
+pub use interval_log::IntervalLog;
+pub use log_index::LogIndex;
+pub use ppd_entry::{At, Piece};
+pub use refusal::BadLog;

@@ -1,0 +1,32 @@
+use ppd_ast::Memory;
+use ppd_entry::At;
+
+/// Why logs have no index. The tests go through the processes and their entries in order, and of each entry
+/// AfterEnd comes first, then Unpaired, then WrongValues.
+#[derive(Clone, Copy, PartialEq, Eq, Debug)]
+pub enum BadLog {
+    /// The entry stands where it cannot: entry 0 is no prelog of the process's own block, a later prelog names a
+    /// process's block or is a function's while 64 intervals of functions run, a postlog names another block
+    /// than the innermost running interval's, an entry other than an End with status ended stands where no
+    /// interval runs, or that End where one does.
+    Unpaired(At),
+    /// The list is over without an End; the number is the count of its entries.
+    NoEnd(At),
+    /// The entry stands after an End.
+    AfterEnd(At),
+    /// The plan has no such block or unit, or another count of values for it.
+    WrongValues(At),
+    /// Want of memory, also for a log whose entries have no 32-bit numbers.
+    Memory,
+}
+
+impl From<Memory> for BadLog {
+    ghost use Rattle.std.specs.Prelude.{◌≡◌};
+    ghost use Rattle.ppd_index.specs.declared.refusal.BadLog.TheVariants as bad;
+
+    ghost from_gives = { λ _ e. e ≡ bad.Memory };
+
+    fn from(_memory: Memory) -> BadLog {
+        BadLog::Memory
+    }
+}
