@@ -23,8 +23,9 @@ fn field_at(offset: u32) -> u32 {
 fn changed(alloc: Global, at: usize, new: &[u8]) -> Option<BadBytes> {
     let mut bytes = smallest(alloc)?;
     for (offset, byte) in new.iter().enumerate() {
-        if at + offset < bytes.len() {
-            bytes[at + offset] = *byte;
+        let place = at.checked_add(offset)?;
+        if place < bytes.len() {
+            bytes[place] = *byte;
         }
     }
     decode(alloc, bytes.as_slice()).err()

@@ -13,7 +13,7 @@ use std::alloc::Global;
 pub const SMALLEST: &str = "shared int x; process a { x = 2; print(x + 3); }";
 
 /// The recording of a source under the policy of which both numbers are 0: its version, its budget, and what stands
-/// after the source. None where memory is wanting.
+/// after the source. None where memory is wanting, or the source has no 32-bit length.
 pub fn recorded(
     alloc: Global,
     version: u8,
@@ -21,13 +21,14 @@ pub fn recorded(
     source: &str,
     logs: &[u8],
 ) -> Option<Vec<u8>> {
+    let Ok(count) = u32::try_from(source.len()) else {
+        return None;
+    };
     let mut bytes = Vec::from_slice(alloc, b"PPDR").ok()?;
     bytes.push(version).ok()?;
     bytes.extend_from_slice(&budget.to_be_bytes()).ok()?;
     bytes.extend_from_slice(&[0, 0, 0, 0]).ok()?;
-    bytes
-        .extend_from_slice(&(source.len() as u32).to_be_bytes())
-        .ok()?;
+    bytes.extend_from_slice(&count.to_be_bytes()).ok()?;
     bytes.extend_from_slice(source.as_bytes()).ok()?;
     bytes.extend_from_slice(logs).ok()?;
     Some(bytes)
