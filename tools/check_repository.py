@@ -49,6 +49,9 @@ for name in NAMES:
             if OUTSIDE.search(line):
                 wrong.append(f"{name}:{number} names something outside: {line.strip()[:80]}")
 
+if subprocess.run([sys.executable, "tools/index_definitions.py", "--check"], check=False).returncode != 0:
+    wrong.append("the index of docs/definitions.md is stale")
+
 # an example is the data that a program is run on, or the very text of a test
 tests = "".join(text_of(name) for name in NAMES if name.startswith("crates/ppd_answers/src/"))
 for name in NAMES:

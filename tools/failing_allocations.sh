@@ -1,13 +1,15 @@
 #!/usr/bin/env bash
-# The stored run with each allocation failing in turn, up to the first number at which none fails: it
+# The run of the first example with each allocation failing in turn, up to the first number at which none fails: it
 # gives its usual answer, or status 5 with nothing written. It proves nothing, and stands outside the
 # gate.
 cd "$(dirname "$0")/../crates/ppd" || exit 2
-usual="$(cat stdout)"
+usual="process a ended steps 4
+print a 5
+races 0"
 said="$(mktemp)" || exit 2
 wrong=0
 for number in $(seq 1 200); do
-    written="$(rt try --fail-alloc "$number" -- flow data/row1.c 2>"$said")"
+    written="$(rt try --fail-alloc "$number" -- flow ../../examples/row1.c 2>"$said")"
     status=$?
     if [ "$status" = 0 ] && [ "$written" = "$usual" ]; then
         answer="the usual answer"

@@ -2,4 +2,3 @@ pub mod Machine
 pub mod Instance
 pub mod Schedules
 pub mod Agreeing
-pub mod Examples

@@ -205,17 +205,17 @@ fn schedules_pay_for_entries(rt: HostRuntime) -> Result<(), Fail> {
         (
             6,
             &[0, 0, 0, 0, 1, 1],
-            "process p ended steps 4\nprocess q ended steps 2\n",
+            "process p ended steps 4\nprocess q ended steps 2\nraces 0\n",
         ),
         (
             5,
             &[0, 1, 1, 0, 0, 0],
-            "process p budget 1:68 steps 3\nprocess q ended steps 2\n",
+            "process p budget 1:68 steps 3\nprocess q ended steps 2\nraces 0\n",
         ),
         (
             2,
             &[1, 0, 1],
-            "process p budget 1:41 steps 0\nprocess q ended steps 2\n",
+            "process p budget 1:41 steps 0\nprocess q ended steps 2\nraces 0\n",
         ),
     ];
     for (budget, schedule, text) in rows {
@@ -223,7 +223,7 @@ fn schedules_pay_for_entries(rt: HostRuntime) -> Result<(), Fail> {
             budget,
             policy: Policy { leaf: 0, loops: 0 },
         };
-        let Ok(found) = follow(alloc, UNREAD.as_bytes(), &options, &[], schedule) else {
+        let Ok(found) = follow(&rt, alloc, UNREAD.as_bytes(), &options, &[], schedule) else {
             return Err(Fail::new("not followed"));
         };
         assert_eq!(rt; found.as_slice(), text.as_bytes(), "{budget}");
@@ -232,9 +232,16 @@ fn schedules_pay_for_entries(rt: HostRuntime) -> Result<(), Fail> {
         budget: 7,
         policy: Policy { leaf: 0, loops: 1 },
     };
-    let late = follow(alloc, NEVER.as_bytes(), &options, &[], &[0, 0, 0, 0, 0, 0]);
+    let late = follow(
+        &rt,
+        alloc,
+        NEVER.as_bytes(),
+        &options,
+        &[],
+        &[0, 0, 0, 0, 0, 0],
+    );
     assert_eq!(rt; late.err(), Some(FollowError::NotEnabled(5)));
-    let early = follow(alloc, NEVER.as_bytes(), &options, &[], &[0, 0, 0, 0]);
+    let early = follow(&rt, alloc, NEVER.as_bytes(), &options, &[], &[0, 0, 0, 0]);
     assert_eq!(rt; early.err(), Some(FollowError::NotWhole));
     Ok(())
 }

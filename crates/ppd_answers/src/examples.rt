@@ -46,15 +46,15 @@ fn examples_give_their_summaries(rt: HostRuntime) -> Result<(), Fail> {
         ),
         (
             RENDEZVOUS,
-            "process a ended steps 4\nprocess b ended steps 6\nprint b 0\nprint b 7\n",
+            "process a ended steps 4\nprocess b ended steps 6\nprint b 0\nprint b 7\nraces 0\n",
         ),
         (
             PING_PONG,
-            "process left ended steps 13\nprint left 6\nprocess right ended steps 13\nprint right 5\n",
+            "process left ended steps 13\nprint left 6\nprocess right ended steps 13\nprint right 5\nraces 0\n",
         ),
         (
             BOUNDED_BUFFER,
-            "process producer blocked 6:3 steps 874\nprocess consumer trap assert 36:5 steps 870\n",
+            "process producer blocked 6:3 steps 874\nprocess consumer trap assert 36:5 steps 870\nraces 0\n",
         ),
     ] {
         let trial = flow(&rt, alloc, source.as_bytes())?;
@@ -92,7 +92,7 @@ fn other_schedules_end_alike(rt: HostRuntime) -> Result<(), Fail> {
         let Some(highest) = highest_first(alloc, source, 2_000) else {
             return Err(Fail::new("no schedule"));
         };
-        let Ok(other) = followed(alloc, source, &highest) else {
+        let Ok(other) = followed(&rt, alloc, source, &highest) else {
             return Err(Fail::new("not followed"));
         };
         assert_eq!(rt; other.as_slice(), trial.text.as_slice(), "{source}");

@@ -8,7 +8,13 @@ mod devices;
 #[cfg(test)]
 mod examples;
 #[cfg(test)]
+mod input_lines;
+#[cfg(test)]
+mod openings;
+#[cfg(test)]
 mod option_words;
+#[cfg(test)]
+mod questions;
 #[cfg(test)]
 mod refused_rows;
 #[cfg(test)]

@@ -181,8 +181,8 @@ const NO_COMMAND: [Words; 20] = [
     &["--", "flow", "row.c"],
     &["--budget", "5", "flow", "row.c"],
     &["run", "row.c"],
-    &["run", "row.c", "row.rec"],
-    &["debug", "row.rec"],
+    &["run", "row.c", ""],
+    &["debug", ""],
     &["drill", "7"],
 ];
 

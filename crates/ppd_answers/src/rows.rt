@@ -215,28 +215,34 @@ const DEADLOCK: &str = "sem s = 1, t = 1; process a { P(s); P(t); } process b { 
 
 const UNGUARDED: &str = "shared int x; process a { x = x + 1; print(x); } process b { x = x + 1; }";
 
-// Of two processes the process lines and print lines alone, where they are the same in every schedule.
+// Of two processes, where the summary is the same in every schedule.
 #[test]
 fn two_processes_are_summed_up(rt: HostRuntime) -> Result<(), Fail> {
     let alloc = rt.alloc();
     for (source, text) in [
-        (LOCKED, "process a ended steps 5\nprocess b ended steps 5\n"),
+        (
+            LOCKED,
+            "process a ended steps 5\nprocess b ended steps 5\nraces 0\n",
+        ),
         (
             COUNTED,
-            "process a ended steps 5\nprocess b ended steps 5\n",
+            "process a ended steps 5\nprocess b ended steps 5\nraces 3\nrace a 1 b 1 x read-write\nrace a 1 b 1 x write-read\nrace a 1 b 1 x write-write\n",
         ),
         (
             BOUNDED,
-            "process a ended steps 4\nprocess b ended steps 6\nprint b 0\n",
+            "process a ended steps 4\nprocess b ended steps 6\nprint b 0\nraces 0\n",
         ),
         (
             RENDEZVOUS,
-            "process a ended steps 4\nprocess b ended steps 5\nprint b 0\n",
+            "process a ended steps 4\nprocess b ended steps 5\nprint b 0\nraces 0\n",
         ),
-        (UNREAD, "process p ended steps 4\nprocess q ended steps 2\n"),
+        (
+            UNREAD,
+            "process p ended steps 4\nprocess q ended steps 2\nraces 0\n",
+        ),
         (
             "shared int a[2]; process p { a[0] = 1; } process q { a[1] = 2; }",
-            "process p ended steps 2\nprocess q ended steps 2\n",
+            "process p ended steps 2\nprocess q ended steps 2\nraces 0\n",
         ),
     ] {
         let trial = flow(&rt, alloc, source.as_bytes())?;
@@ -250,48 +256,50 @@ fn two_processes_are_summed_up(rt: HostRuntime) -> Result<(), Fail> {
 #[test]
 fn whole_schedules_are_followed(rt: HostRuntime) -> Result<(), Fail> {
     let alloc = rt.alloc();
-    let both = "process a ended steps 5\nprocess b ended steps 5\n";
-    let unread = "process p ended steps 4\nprocess q ended steps 2\n";
-    let bounded = "process a ended steps 4\nprocess b ended steps 6\nprint b 0\n";
+    let both = "process a ended steps 5\nprocess b ended steps 5\nraces 0\n";
+    let counted =
+        "process a ended steps 5\nprocess b ended steps 5\nraces 3\nrace a 1 b 1 x read-write\nrace a 1 b 1 x write-read\nrace a 1 b 1 x write-write\n";
+    let unread = "process p ended steps 4\nprocess q ended steps 2\nraces 0\n";
+    let bounded = "process a ended steps 4\nprocess b ended steps 6\nprint b 0\nraces 0\n";
     let rows: [(&str, &[u8], &str); 14] = [
         (LOCKED, &[0, 0, 0, 0, 0, 1, 1, 1, 1, 1], both),
         (LOCKED, &[1, 1, 1, 1, 1, 0, 0, 0, 0, 0], both),
-        (COUNTED, &[0, 1, 0, 1, 0, 1, 0, 1, 0, 1], both),
+        (COUNTED, &[0, 1, 0, 1, 0, 1, 0, 1, 0, 1], counted),
         (BOUNDED, &[0, 1, 1, 1, 1, 0, 0, 0, 1, 1], bounded),
         (BOUNDED, &[1, 1, 1, 0, 1, 0, 1, 1, 0, 0], bounded),
         // the offer, then the receive, then the completion
         (
             RENDEZVOUS,
             &[0, 1, 1, 1, 1, 0, 0, 0, 1],
-            "process a ended steps 4\nprocess b ended steps 5\nprint b 0\n",
+            "process a ended steps 4\nprocess b ended steps 5\nprint b 0\nraces 0\n",
         ),
         (UNREAD, &[0, 0, 0, 0, 1, 1], unread),
         (UNREAD, &[1, 1, 0, 0, 0, 0], unread),
         (
             DEADLOCK,
             &[0, 1],
-            "process a blocked 1:37 steps 1\nprocess b blocked 1:63 steps 1\n",
+            "process a blocked 1:37 steps 1\nprocess b blocked 1:63 steps 1\nraces 0\n",
         ),
         (
             DEADLOCK,
             &[1, 1, 1],
-            "process a blocked 1:31 steps 0\nprocess b ended steps 3\n",
+            "process a blocked 1:31 steps 0\nprocess b ended steps 3\nraces 0\n",
         ),
         // one increment is lost where both read first
         (
             UNGUARDED,
             &[0, 1, 0, 1, 0, 0, 0, 1],
-            "process a ended steps 5\nprint a 1\nprocess b ended steps 3\n",
+            "process a ended steps 5\nprint a 1\nprocess b ended steps 3\nraces 3\nrace a 0 b 0 x read-write\nrace a 0 b 0 x write-read\nrace a 0 b 0 x write-write\n",
         ),
         (
             UNGUARDED,
             &[0, 0, 1, 1, 0, 0, 0, 1],
-            "process a ended steps 5\nprint a 2\nprocess b ended steps 3\n",
+            "process a ended steps 5\nprint a 2\nprocess b ended steps 3\nraces 3\nrace a 0 b 0 x read-write\nrace a 0 b 0 x write-read\nrace a 0 b 0 x write-write\n",
         ),
         (
             UNGUARDED,
             &[1, 1, 1, 0, 0, 0, 0, 0],
-            "process a ended steps 5\nprint a 2\nprocess b ended steps 3\n",
+            "process a ended steps 5\nprint a 2\nprocess b ended steps 3\nraces 3\nrace a 0 b 0 x read-write\nrace a 0 b 0 x write-read\nrace a 0 b 0 x write-write\n",
         ),
         // one process alone has no races
         (
@@ -301,7 +309,7 @@ fn whole_schedules_are_followed(rt: HostRuntime) -> Result<(), Fail> {
         ),
     ];
     for (source, schedule, text) in rows {
-        let Ok(written) = followed(alloc, source, schedule) else {
+        let Ok(written) = followed(&rt, alloc, source, schedule) else {
             return Err(Fail::new("not followed"));
         };
         assert_eq!(rt; written.as_slice(), text.as_bytes(), "{source}");
@@ -318,16 +326,16 @@ fn a_stop_is_scheduled(rt: HostRuntime) -> Result<(), Fail> {
         budget: 5,
         policy: Policy { leaf: 0, loops: 0 },
     };
-    let Ok(written) = follow(alloc, endless, &options, &[], &[0, 0, 0, 0, 0, 0]) else {
+    let Ok(written) = follow(&rt, alloc, endless, &options, &[], &[0, 0, 0, 0, 0, 0]) else {
         return Err(Fail::new("not followed"));
     };
     assert_eq!(rt;
         written.as_slice(),
         b"process a budget 1:20 steps 5\nraces 0\n".as_slice()
     );
-    let early = follow(alloc, endless, &options, &[], &[0, 0, 0, 0, 0]);
+    let early = follow(&rt, alloc, endless, &options, &[], &[0, 0, 0, 0, 0]);
     assert_eq!(rt; early.err(), Some(FollowError::NotWhole));
-    let late = follow(alloc, endless, &options, &[], &[0, 0, 0, 0, 0, 0, 0]);
+    let late = follow(&rt, alloc, endless, &options, &[], &[0, 0, 0, 0, 0, 0, 0]);
     assert_eq!(rt; late.err(), Some(FollowError::NotEnabled(6)));
     Ok(())
 }
@@ -361,7 +369,7 @@ fn schedules_that_are_refused(rt: HostRuntime) -> Result<(), Fail> {
         ),
     ];
     for (source, schedule, error) in rows {
-        let answer = followed(alloc, source, schedule);
+        let answer = followed(&rt, alloc, source, schedule);
         assert_eq!(rt; answer.err(), Some(error), "{source}");
     }
     Ok(())

@@ -64,6 +64,44 @@ pub(crate) fn call<R: Threads + Wait + Sync>(
     })
 }
 
+/// What `flow` answers for a source without options and for these bytes of input, which come in chunks of at most
+/// so many, at least 1, with reads of these numbers that fail.
+pub(crate) fn asked<R: Threads + Wait + Sync>(
+    rt: &R,
+    alloc: Global,
+    source: &str,
+    bytes: &[u8],
+    chunk: usize,
+    fails: &[u32],
+) -> Result<Trial, Fail> {
+    let mut shelf = MemoryShelf::new(alloc, Vec::new(alloc));
+    if shelf.put("row.c", source.as_bytes()).is_err() {
+        return Err(Fail::new("no answer"));
+    }
+    let bytes = Vec::from_slice(alloc, bytes)?;
+    let fails = Vec::from_slice(alloc, fails)?;
+    let mut input = MemorySource::new(bytes, chunk.max(1), fails);
+    let Ok(mut output) = MemorySink::new(alloc, ROOM, Vec::new(alloc)) else {
+        return Err(Fail::new("no answer"));
+    };
+    let words = ["flow", "row.c"];
+    let outcome = ppd(
+        rt,
+        alloc,
+        &words,
+        &mut shelf,
+        &mut input,
+        &mut output,
+        &FreeGate,
+    );
+    let text = Vec::from_slice(alloc, output.bytes())?;
+    Ok(Trial {
+        status: outcome.status,
+        text,
+        schedule: outcome.schedule.into_vec(),
+    })
+}
+
 /// What `flow` answers for a source without options.
 pub(crate) fn flow<R: Threads + Wait + Sync>(
     rt: &R,
@@ -75,11 +113,12 @@ pub(crate) fn flow<R: Threads + Wait + Sync>(
 
 /// What a source and a schedule come to without options.
 pub(crate) fn followed(
+    rt: &(impl Threads + Sync),
     alloc: Global,
     source: &str,
     schedule: &[u8],
 ) -> Result<Vec<u8>, FollowError> {
-    follow(alloc, source.as_bytes(), &USUAL, &[], schedule)
+    follow(rt, alloc, source.as_bytes(), &USUAL, &[], schedule)
 }
 
 /// The highest process that can take a step.

@@ -29,11 +29,13 @@ inner_of (Some s) = inner s.kind
 abbrev pub inner_at : List Stmt → ℕ → List ℕ
 inner_at stmts i = inner_of (slice_get stmts i)
 
--- a statement and those inside it, each before what stands in it: those that stand at most `depth` deep, itself the first
+-- a statement and those inside it, each before what stands in it: those that stand at most `depth` deep, itself the
+-- first
 unfoldable pub preorder : (depth : ℕ) → List Stmt → ℕ → List ℕ
 preorder zero stmts i = []
 preorder (suc depth) stmts i = i ∷ flat_map (preorder depth stmts) (inner_at stmts i)
 
 -- each statement of the list stands directly in `parent`, in this body
 abbrev pub StandIn : List Stmt → Option ℕ → (body : ℕ) → List ℕ → Type 0
-StandIn stmts parent body list = All (λ i. IsSomeAnd (slice_get stmts i) (λ s. (s.parent ≡ parent) × (s.body ≡ body))) list
+StandIn stmts parent body list =
+    All (λ i. IsSomeAnd (slice_get stmts i) (λ s. (s.parent ≡ parent) × (s.body ≡ body))) list

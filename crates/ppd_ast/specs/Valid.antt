@@ -99,7 +99,9 @@ CallsRightly p (K.Set t e) = ⊤
 CallsRightly p (K.Zero base len) = ⊤
 CallsRightly p (K.If e first second) = ⊤
 CallsRightly p (K.While e body) = ⊤
-CallsRightly p (K.Call f args into) = (f < p.functions) × IsSomeAnd (slice_get p.bodies f) (λ g. (length args ≡ g.params) × (IsSome into → IsTrue g.value))
+CallsRightly p (K.Call f args into) =
+    (f < p.functions)
+    × IsSomeAnd (slice_get p.bodies f) (λ g. (length args ≡ g.params) × (IsSome into → IsTrue g.value))
 CallsRightly p (K.Return v) = ⊤
 CallsRightly p (K.P s) = ⊤
 CallsRightly p (K.V s) = ⊤

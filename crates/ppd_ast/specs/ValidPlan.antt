@@ -42,7 +42,8 @@ pub record IsLoopBlock (cells : ℕ) (block : Block) : Type 0 where
 abbrev pub IsBlockOf : Program → BlockKind → Block → Type 0
 IsBlockOf p (Function f) block = IsSomeAnd (slice_get p.bodies f) (λ b. IsFunctionBlock b block)
 IsBlockOf p (Process f) block = IsProcessBlock block
-IsBlockOf p (Loop k) block = IsSomeAnd (slice_get p.stmts k) (λ s. IsSomeAnd (slice_get p.bodies s.body) (λ b. IsLoopBlock b.cells block))
+IsBlockOf p (Loop k) block =
+    IsSomeAnd (slice_get p.stmts k) (λ s. IsSomeAnd (slice_get p.bodies s.body) (λ b. IsLoopBlock b.cells block))
 
 abbrev pub IsValidBlock : Program → Block → Type 0
 IsValidBlock p block = IsBlockOf p block.kind block

@@ -59,7 +59,8 @@ fn add_loop(
     number: u32,
 ) -> Result<(), Memory>
     requires { number < length program.now.stmts }
-    ensures { OnOk result (blocks.new ≡ blocks.old ++ map (bare_block program.now.bodies) (loops_at program.now.stmts policy number)) }
+    ensures { OnOk result
+        (blocks.new ≡ blocks.old ++ map (bare_block program.now.bodies) (loops_at program.now.stmts policy number)) }
 {
     let stmts = program.stmts.as_slice();
     if is_block_loop(stmts, policy, &stmts[number as usize]) {
@@ -82,7 +83,10 @@ fn add_loops(
     policy: Policy,
     body: &Body,
 ) -> Result<(), Memory>
-    ensures { OnOk result (blocks.new ≡ blocks.old ++ map (bare_block program.now.bodies) (flat_map (loops_at program.now.stmts policy) (numbers_of program.now.stmts body.now))) }
+    ensures { OnOk result
+        (blocks.new ≡ blocks.old
+        ++ map (bare_block program.now.bodies)
+        (flat_map (loops_at program.now.stmts policy) (numbers_of program.now.stmts body.now))) }
 {
     for number in body.first..end_of(program.stmts.as_slice(), body) {
         add_loop(blocks, alloc, program, policy, number)?;
@@ -109,7 +113,9 @@ fn add_blocks(
     number: u16,
     body: &Body,
 ) -> Result<(), Memory>
-    ensures { OnOk result (blocks.new ≡ blocks.old ++ map (bare_block program.now.bodies) (blocks_of program.now.stmts policy number body.now)) }
+    ensures { OnOk result
+        (blocks.new ≡ blocks.old
+        ++ map (bare_block program.now.bodies) (blocks_of program.now.stmts policy number body.now)) }
 {
     if is_block_body(program.stmts.as_slice(), policy, body) {
         let kind = kind_of_body(number, body);
@@ -120,7 +126,9 @@ fn add_blocks(
 
 fn bare_blocks(alloc: Global, program: &Program, policy: Policy) -> Result<Seq<Block>, Memory>
     requires { length program.now.bodies < 2 ^ 16 }
-    ensures { IfOk result (λ blocks. blocks ≡ map (bare_block program.now.bodies) (blocks_by program.now.stmts policy program.now.bodies)) }
+    ensures { IfOk result
+        (λ blocks. blocks
+        ≡ map (bare_block program.now.bodies) (blocks_by program.now.stmts policy program.now.bodies)) }
 {
     let mut blocks = Seq::new(alloc);
     let bodies = program.bodies.as_slice();
@@ -168,7 +176,9 @@ fn add_starts_in(
     policy: Policy,
     body: &Body,
 ) -> Result<(), Memory>
-    ensures { OnOk result (units.new ≡ units.old ++ map bare_unit (flat_map (starts_at program.now.stmts policy) (numbers_of program.now.stmts body.now))) }
+    ensures { OnOk result
+        (units.new ≡ units.old
+        ++ map bare_unit (flat_map (starts_at program.now.stmts policy) (numbers_of program.now.stmts body.now))) }
 {
     for number in body.first..end_of(program.stmts.as_slice(), body) {
         add_starts(units, alloc, program, policy, number)?;
@@ -185,7 +195,8 @@ fn add_units(
     number: u16,
     body: &Body,
 ) -> Result<(), Memory>
-    ensures { OnOk result (units.new ≡ units.old ++ map bare_unit (body_starts program.now.stmts policy number body.now)) }
+    ensures { OnOk result
+        (units.new ≡ units.old ++ map bare_unit (body_starts program.now.stmts policy number body.now)) }
 {
     add_unit(units, alloc, Start::Entry(number))?;
     add_starts_in(units, alloc, program, policy, body)

@@ -186,7 +186,8 @@ fn starts_of_stmts(
     policy: Policy,
     body: &Body,
 ) -> Option<usize>
-    ensures { Begins result (map (λ unit. unit.start) units.now) place (flat_map (starts_at stmts.now policy) (numbers_of stmts.now body.now)) }
+    ensures { Begins result (map (λ unit. unit.start) units.now) place
+        (flat_map (starts_at stmts.now policy) (numbers_of stmts.now body.now)) }
 {
     let mut next = place;
     for number in body.first..end_of(stmts, body) {
@@ -299,7 +300,8 @@ fn loops_of_stmts(
     policy: Policy,
     body: &Body,
 ) -> Option<usize>
-    ensures { Begins result (map (λ block. block.kind) blocks.now) place (flat_map (loops_at stmts.now policy) (numbers_of stmts.now body.now)) }
+    ensures { Begins result (map (λ block. block.kind) blocks.now) place
+        (flat_map (loops_at stmts.now policy) (numbers_of stmts.now body.now)) }
 {
     let mut next = place;
     for number in body.first..end_of(stmts, body) {

@@ -114,7 +114,8 @@ fn tally_stmts(marks: &mut [u8], start: usize, stmts: &[Stmt])
 
 fn is_window_used_once(exprs: &[Expr], stmts: &[Stmt], start: usize) -> bool
     requires { start < length exprs.now }
-    ensures { IsTrue result ↔ ((n : ℕ) → start ≤ n → n < start + WINDOW → n < length exprs.now → IsOnce (uses_of exprs.now stmts.now) n) }
+    ensures { IsTrue result ↔
+        ((n : ℕ) → start ≤ n → n < start + WINDOW → n < length exprs.now → IsOnce (uses_of exprs.now stmts.now) n) }
 {
     let mut marks = [0u8; WINDOW];
     tally_exprs(&mut marks, start, exprs);

@@ -46,7 +46,8 @@ fn are_valid_sems(sems: &[Sem]) -> bool
 }
 
 fn are_valid_chans(chans: &[Chan]) -> bool
-    ensures { IsTrue result ↔ All (λ c. IsName c.name × (LEAST_CAPACITY ≤ c.capacity) × (c.capacity ≤ MOST_CAPACITY)) chans.now }
+    ensures { IsTrue result ↔ All
+        (λ c. IsName c.name × (LEAST_CAPACITY ≤ c.capacity) × (c.capacity ≤ MOST_CAPACITY)) chans.now }
 {
     for index in 0..chans.len() {
         let chan = &chans[index];
@@ -117,7 +118,9 @@ impl Body {
     }
 
     fn has_valid_frame(&self) -> bool
-        ensures { IsTrue result ↔ ((self.now.cells ≤ MOST_LOCAL_CELLS) × CoverCells self.now.locals self.now.cells × AreParams self.now.locals self.now.params) }
+        ensures { IsTrue result ↔
+            ((self.now.cells ≤ MOST_LOCAL_CELLS) × CoverCells self.now.locals self.now.cells
+            × AreParams self.now.locals self.now.params) }
     {
         self.cells as usize <= MOST_LOCAL_CELLS
             && do_cover(self.locals.as_slice(), self.cells as usize)
@@ -139,7 +142,8 @@ fn is_ending_at(stmts: &[Stmt], number: Option<u32>) -> bool
 
 // Whether the body takes so many arguments and gives a value if one is received.
 fn is_call_of(bodies: &[Body], function: u16, count: usize, into: Option<u16>) -> bool
-    ensures { IsTrue result ↔ IsSomeAnd (slice_get bodies.now function) (λ g. (count ≡ g.params) × (IsSome into → IsTrue g.value)) }
+    ensures { IsTrue result ↔ IsSomeAnd (slice_get bodies.now function)
+        (λ g. (count ≡ g.params) × (IsSome into → IsTrue g.value)) }
 {
     match bodies.get(function as usize) {
         None => false,
@@ -231,7 +235,8 @@ impl Program {
 
     fn is_kind_valid_in(&self, body: u16, number: u32, kind: &Kind) -> bool
         requires { EachAt AreChildrenBelow self.now.exprs }
-        ensures { IsTrue result ↔ IsSomeAnd (slice_get self.now.bodies body) (λ b. IsValidKind self.now b number kind.now) }
+        ensures { IsTrue result ↔ IsSomeAnd (slice_get self.now.bodies body)
+            (λ b. IsValidKind self.now b number kind.now) }
     {
         match self.bodies.as_slice().get(body as usize) {
             None => false,
@@ -263,7 +268,9 @@ impl Program {
 
     fn is_body_in_order(&self, body: &Body) -> bool
         requires { body.now.first ≤ body.now.end }
-        ensures { IsTrue result ↔ (flat_map (preorder MOST_NESTING self.now.stmts) body.now.top ≡ range_with_len body.now.first (body.now.end - body.now.first)) }
+        ensures { IsTrue result ↔
+            (flat_map (preorder MOST_NESTING self.now.stmts) body.now.top
+            ≡ range_with_len body.now.first (body.now.end - body.now.first)) }
     {
         let stmts = self.stmts.as_slice();
         let first = body.first as usize;
@@ -272,7 +279,10 @@ impl Program {
 
     // What stands of the body itself: of which sort it is, and its names.
     fn has_valid_head(&self, number: u16, body: &Body) -> bool
-        ensures { IsTrue result ↔ ((body.now.process ≡ nat_le self.now.functions number) × (IsTrue body.now.process → (body.now.params ≡ 0) × (body.now.value ≡ false)) × IsName body.now.name × AreNamed body.now.locals) }
+        ensures { IsTrue result ↔
+            ((body.now.process ≡ nat_le self.now.functions number)
+            × (IsTrue body.now.process → (body.now.params ≡ 0) × (body.now.value ≡ false)) × IsName body.now.name
+            × AreNamed body.now.locals) }
     {
         body.process == (self.functions <= number)
             && body.is_plain_process()
@@ -283,7 +293,11 @@ impl Program {
     // Its statements: their order, the top list, and the last one.
     fn has_valid_list(&self, number: u16, body: &Body) -> bool
         requires { body.now.first ≤ body.now.end }
-        ensures { IsTrue result ↔ ((flat_map (preorder MOST_NESTING self.now.stmts) body.now.top ≡ range_with_len body.now.first (body.now.end - body.now.first)) × StandIn self.now.stmts None number body.now.top × IsSomeAnd (last_of body.now.top) (λ i. IsSomeAnd (slice_get self.now.stmts i) (λ s. IsEnding s.kind))) }
+        ensures { IsTrue result ↔
+            ((flat_map (preorder MOST_NESTING self.now.stmts) body.now.top
+            ≡ range_with_len body.now.first (body.now.end - body.now.first))
+            × StandIn self.now.stmts None number body.now.top
+            × IsSomeAnd (last_of body.now.top) (λ i. IsSomeAnd (slice_get self.now.stmts i) (λ s. IsEnding s.kind))) }
     {
         let stmts = self.stmts.as_slice();
         self.is_body_in_order(body)

@@ -81,7 +81,8 @@ impl Block {
     }
 
     fn is_block_of_loop(&self, stmts: &[Stmt], bodies: &[Body], number: u32) -> bool
-        ensures { IsTrue result ↔ IsSomeAnd (slice_get stmts.now number) (λ s. IsSomeAnd (slice_get bodies.now s.body) (λ b. IsLoopBlock b.cells self.now)) }
+        ensures { IsTrue result ↔ IsSomeAnd (slice_get stmts.now number)
+            (λ s. IsSomeAnd (slice_get bodies.now s.body) (λ b. IsLoopBlock b.cells self.now)) }
     {
         match stmts.get(number as usize) {
             None => false,

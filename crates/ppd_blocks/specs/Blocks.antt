@@ -30,11 +30,18 @@ postlog_of p (Process f) = []
 postlog_of p (Loop q) = loop_defined_of p q
 
 abbrev pub block_of : Program → BlockKind → Block
-block_of p kind = record { kind = kind; prelog = prelog_of p kind; postlog = postlog_of p kind; value = gives_value p.bodies kind }
+block_of p kind =
+    record { kind = kind; prelog = prelog_of p kind; postlog = postlog_of p kind; value = gives_value p.bodies kind }
 
 -- a block with its cells in place of those that it has
 abbrev pub filled : Program → Block → Block
-filled p block = record { kind = block.kind; prelog = prelog_of p block.kind; postlog = postlog_of p block.kind; value = block.value }
+filled p block =
+    record {
+      kind = block.kind;
+      prelog = prelog_of p block.kind;
+      postlog = postlog_of p block.kind;
+      value = block.value;
+    }
 
 abbrev pub loop_in : BlockKind → List ℕ
 loop_in (Function f) = []

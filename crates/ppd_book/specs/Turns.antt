@@ -16,9 +16,11 @@ use Rattle.ppd_book.specs.Held.{Held}
 abbrev pub IsPicked : Running → ℕ → ℕ → Type 0
 IsPicked r worker p = MatchBool (can_step r worker) (p ≡ worker) (IsLowest r p)
 
--- the process that was picked took its step, and the schedule grew by it; or nobody can take a step, and nothing changed
+-- the process that was picked took its step, and the schedule grew by it; or nobody can take a step, and nothing
+-- changed
 abbrev pub IsTurn : Held → Held → ℕ → Turn → Type 0
-IsTurn old new worker (Stepped p) = IsPicked old.world worker p × (new.world ≡ stepped old.world p) × (new.schedule ≡ old.schedule ++ p ∷ [])
+IsTurn old new worker (Stepped p) =
+    IsPicked old.world worker p × (new.world ≡ stepped old.world p) × (new.schedule ≡ old.schedule ++ p ∷ [])
 IsTurn old new worker Over = IsOver old.world.program old.world.plan old.world.world × (new ≡ old)
 
 -- who was stepped is a process of the program

@@ -105,7 +105,9 @@ impl<'a, J: Job> Kept<'a, J> {
     pub fn close(mut self) -> Result<Ran, Memory>
         ensures closes { IfOk result (ClosesFrom J.program J.plan J.budget self.entry) }
         ensures bounded { IfOk result (λ ran. KeepsBudget J.program J.budget ran.schedule) }
-        ensures none_left { IfOk result (λ ran. IsOver self.entry.world.program self.entry.world.plan self.entry.world.world → ran.schedule ≡ self.entry.schedule) }
+        ensures none_left { IfOk result
+            (λ ran. IsOver self.entry.world.program self.entry.world.plan self.entry.world.world
+            → ran.schedule ≡ self.entry.schedule) }
     {
         schedules_are_bounded();
         while let Some(p) = self.lowest() {

@@ -12,4 +12,6 @@ PathsAreChains = (p : Program) (s t : ℕ) → FlowsTo p s t ↔ Reached (flow_r
 
 -- in a valid program what follows a statement is what stands behind it in its list, or what follows that list
 abbrev pub FollowsItsList : Type 0
-FollowsItsList = (p : Program) (s : ℕ) (x : Stmt) → IsValid p → slice_get p.stmts s ≡ Some x → follow p s ≡ follow_under p (follow p) x.body s x.parent
+FollowsItsList =
+    (p : Program) (s : ℕ) (x : Stmt) → IsValid p → slice_get p.stmts s ≡ Some x
+    → follow p s ≡ follow_under p (follow p) x.body s x.parent

@@ -84,7 +84,8 @@ pub fn reach(alloc: Global, next: &[Ids], starts: &[u32]) -> Result<Vec<bool>, M
     requires rows { AreRowsBelow next.now }
     requires starts { AreBelow (length next.now) starts.now }
     ensures long { IfOk result (λ marks. length marks.items ≡ length next.now) }
-    ensures reached { IfOk result (λ marks. (x : ℕ) → IsTrue (is_marked marks.items x) ↔ Reached next.now starts.now x) }
+    ensures reached { IfOk result
+        (λ marks. (x : ℕ) → IsTrue (is_marked marks.items x) ↔ Reached next.now starts.now x) }
 {
     let mut work = Work::new(alloc, next.len())?;
     work.mark_all(starts)?;

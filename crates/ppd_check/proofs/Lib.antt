@@ -44,12 +44,6 @@ pub mod PastMost
 pub mod Placing
 pub mod Returned
 pub mod Roots
-pub mod RowTables
-pub mod RowsOfForms
-pub mod RowsOfLoops
-pub mod RowsOfNames
-pub mod RowsOfPrograms
-pub mod RowsOfRules
 pub mod Semicolons
 pub mod Sourced
 pub mod Steps

@@ -34,12 +34,14 @@ pub record Parametered (xs : List Name) (f g : Frame) (found found' : Option Fau
 
 -- a body's statements were written through its closing brace, with the rules that they and its returns break
 pub record Filled (site : Site) (h : Head) (f g : Frame) (old new : Writer) (ids ids' : List ℕ) : Type 0 where
-  pub wrote : Wrote site.body site.parent (join (row_code h.block.row f) (close_code h)) (row_faults h.block.row f ++ return_faults h) old new ids ids'
+  pub wrote : Wrote site.body site.parent (join (row_code h.block.row f) (close_code h))
+      (row_faults h.block.row f ++ return_faults h) old new ids ids'
   pub frame : g ≡ after_row h.block.row f
 
 -- functions and processes were written, and the rules that they break were noted
 pub record WroteHeads (scope : Scope) (hs : List Head) (old new : Writer) (bs bs' : List Body) : Type 0 where
   pub exprs : new.exprs ≡ old.exprs ++ flats (length old.exprs) (flat_map terms (map (head_code scope) hs))
-  pub stmts : new.stmts ≡ old.stmts ++ all_stmts (length bs) (length old.stmts) (length old.exprs) (map (head_code scope) hs)
+  pub stmts : new.stmts ≡ old.stmts
+      ++ all_stmts (length bs) (length old.stmts) (length old.exprs) (map (head_code scope) hs)
   pub bodies : bs' ≡ bs ++ bodies scope (length old.stmts) hs
   pub found : new.found ≡ first_of_both old.found (first (flat_map (head_faults scope) hs))

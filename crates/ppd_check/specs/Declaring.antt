@@ -1,4 +1,5 @@
--- What a source has declared so far, as the code keeps it: semaphores and channels as in the table, functions and processes by
+-- What a source has declared so far, as the code keeps it: semaphores and channels as in the table, functions and
+-- processes by
 -- their nodes. Start values are kept as far as the shared cells are not too many.
 use Rattle.std.specs.Prelude.{ℕ, ℤ, Bool, nat_le, nat_lt, List, [], ◌∷◌, ◌++◌, length, Option, if◌then◌else◌}
 use Rattle.ppd_ast.specs.declared.limits.TheConstants.{MOST_SHARED_CELLS}
@@ -17,7 +18,16 @@ use Rattle.ppd_check.specs.Syntax.{Name}
 
 -- nothing yet, in one scope
 abbrev pub nothing : Globals
-nothing = record { scopes = [] ∷ []; shared = []; cells = 0; starts = []; sems = []; chans = []; functions = []; processes = [] }
+nothing = record {
+  scopes = [] ∷ [];
+  shared = [];
+  cells = 0;
+  starts = [];
+  sems = [];
+  chans = [];
+  functions = [];
+  processes = [];
+}
 
 -- a name with its meaning
 abbrev pub named : Name → Meaning → List Scope → List Scope
@@ -26,7 +36,11 @@ named x m scopes = in_innermost (declare x.text m) scopes
 -- a shared variable without its start values, and one with them
 abbrev pub placed : Name → Option ℕ → Globals → Globals
 placed x n g =
-    record g { scopes = named x (N.shared g.cells n) g.scopes; shared = g.shared ++ variable_of x n ∷ []; cells = after_cells g.cells n }
+    record g {
+      scopes = named x (N.shared g.cells n) g.scopes;
+      shared = g.shared ++ variable_of x n ∷ [];
+      cells = after_cells g.cells n;
+    }
 
 abbrev pub kept : ℕ → List ℤ → List ℤ → List ℤ
 kept cells starts more = if nat_le cells MOST_SHARED_CELLS then starts ++ more else starts
@@ -36,15 +50,24 @@ with_shared x n more g = record (placed x n g) { starts = kept (after_cells g.ce
 
 abbrev pub with_semaphore : Name → ℕ → Globals → Globals
 with_semaphore x n g =
-    record g { scopes = named x (N.semaphore (as_byte (length g.sems))) g.scopes; sems = g.sems ++ record { name = x.text; start = n } ∷ [] }
+    record g {
+      scopes = named x (N.semaphore (as_byte (length g.sems))) g.scopes;
+      sems = g.sems ++ record { name = x.text; start = n } ∷ [];
+    }
 
 abbrev pub with_channel : Name → ℕ → Globals → Globals
 with_channel x n g =
-    record g { scopes = named x (N.channel (as_byte (length g.chans))) g.scopes; chans = g.chans ++ record { name = x.text; capacity = n } ∷ [] }
+    record g {
+      scopes = named x (N.channel (as_byte (length g.chans))) g.scopes;
+      chans = g.chans ++ record { name = x.text; capacity = n } ∷ [];
+    }
 
 abbrev pub with_function : ℕ → Name → ℕ → Bool → Globals → Globals
 with_function i x params gives g =
-    record g { scopes = named x (N.function (as_short (length g.functions)) params gives) g.scopes; functions = g.functions ++ i ∷ [] }
+    record g {
+      scopes = named x (N.function (as_short (length g.functions)) params gives) g.scopes;
+      functions = g.functions ++ i ∷ [];
+    }
 
 abbrev pub with_process : ℕ → Name → Globals → Globals
 with_process i x g = record g { scopes = named x N.process g.scopes; processes = g.processes ++ i ∷ [] }

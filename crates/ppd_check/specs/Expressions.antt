@@ -10,7 +10,8 @@ use Rattle.ppd_check.specs.Faults.{at, unless, if_so}
 use Rattle.ppd_check.specs.Names.{Meaning, shared, local, function, Scope, meaning, fits}
 use Rattle.ppd_check.specs.Syntax.{Name, Formula, number, variable, element, negated, inverted, two, both, either}
 
--- a variable's term, and 0 where the name is none. An index is kept also where the name is no array, so that a fault changes no count.
+-- a variable's term, and 0 where the name is none. An index is kept also where the name is no array, so that a fault
+-- changes no count.
 abbrev pub read_scalar : Option Meaning → Term
 read_scalar (Some (local c None)) = T.local c
 read_scalar (Some (shared c None)) = T.shared c

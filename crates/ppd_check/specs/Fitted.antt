@@ -1,4 +1,5 @@
--- A number in a field of 8, 16 or 32 bits: the greatest number of the field, where it is larger. In an accepted source none is.
+-- A number in a field of 8, 16 or 32 bits: the greatest number of the field, where it is larger. In an accepted
+-- source none is.
 use Rattle.std.specs.Prelude.{ℕ, ◌-◌, ◌^◌, min}
 
 abbrev pub as_byte : ℕ → ℕ

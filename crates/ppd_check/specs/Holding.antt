@@ -19,9 +19,16 @@ use Rattle.ppd_check.specs.Sources.{Head, sem, chan, item_name, item_size_faults
 
 -- the function or process that an item is
 abbrev pub head_of : List Item → Head
-head_of (function gives x params b ∷ is) = record { process = false; gives = gives; name = x; params = params; block = b }
+head_of (function gives x params b ∷ is) =
+    record { process = false; gives = gives; name = x; params = params; block = b }
 head_of (process x b ∷ is) = record { process = true; gives = false; name = x; params = []; block = b }
-head_of _ = record { process = false; gives = false; name = name_of nowhere; params = []; block = record { row = stop; close = nowhere.place } }
+head_of _ = record {
+  process = false;
+  gives = false;
+  name = name_of nowhere;
+  params = [];
+  block = record { row = stop; close = nowhere.place };
+}
 
 -- the function or process at a node
 abbrev pub head_at : List Node → ℕ → Head
@@ -59,7 +66,8 @@ pub record Holds (ns : List Node) (g : Globals) (s : S.Globals) : Type 0 where
 -- whether an item is one too many
 abbrev pub item_counted : Item → S.Globals → List Fault
 item_counted (shared x v) s = if_so (nat_lt MOST_SHARED_CELLS (after_cells s.cells None)) x.place (TooMany L.Shared)
-item_counted (shared_array x n) s = if_so (nat_lt MOST_SHARED_CELLS (after_cells s.cells (Some (as_short n.value)))) x.place (TooMany L.Shared)
+item_counted (shared_array x n) s =
+    if_so (nat_lt MOST_SHARED_CELLS (after_cells s.cells (Some (as_short n.value)))) x.place (TooMany L.Shared)
 item_counted (semaphore x n) s = counted MOST_SEMAPHORES (length s.semaphores) L.Semaphores x.place
 item_counted (channel x n) s = counted MOST_CHANNELS (length s.channels) L.Channels x.place
 item_counted (function gives x params b) s = counted MOST_FUNCTIONS (length s.functions) L.Functions x.place
@@ -80,4 +88,6 @@ pub record Declares (ns : List Node) (is : List Item) (old new : Globals) (found
 
 -- the start value that a shared scalar's declaration says
 abbrev pub start_said : List Phrase → ℤ
-start_said ps = if is_minus (kind (phrase ps 2)) then neg_ℤ (pos (number_at ps 3).value) else value_of (as_token (phrase ps 2)).kind
+start_said ps =
+    if is_minus (kind (phrase ps 2)) then neg_ℤ (pos (number_at ps 3).value)
+    else value_of (as_token (phrase ps 2)).kind

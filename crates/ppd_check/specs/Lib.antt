@@ -1,4 +1,5 @@
--- The core form of a tree: what the tree says, what its names mean, its statements without and with numbers, and the rules that
+-- The core form of a tree: what the tree says, what its names mean, its statements without and with numbers, and the
+-- rules that
 -- it breaks.
 pub mod Syntax
 pub mod Reading

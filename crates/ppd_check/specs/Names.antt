@@ -2,7 +2,14 @@
 use Rattle.std.specs.Prelude.{ℕ, Bool, true, false, if◌then◌else◌, List, [], ◌∷◌, ◌++◌, Option, Some, None, is_some, bytes_eq, map, Vec}
 use Rattle.indexmap.specs.IndexMap.{IndexMap}
 pub use Rattle.ppd_check.specs.declared.meaning.Meaning.{Meaning}
-pub use Rattle.ppd_check.specs.declared.meaning.Meaning.TheVariants.{Shared as shared, Local as local, Semaphore as semaphore, Channel as channel, Function as function, Process as process}
+pub use Rattle.ppd_check.specs.declared.meaning.Meaning.TheVariants.{
+  Shared as shared,
+  Local as local,
+  Semaphore as semaphore,
+  Channel as channel,
+  Function as function,
+  Process as process,
+}
 
 -- names with what they mean, in the order of their declarations
 abbrev pub Scope : Type 0

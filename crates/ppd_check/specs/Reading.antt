@@ -231,7 +231,8 @@ locals [] = stop
 locals (changing s ∷ ps) = simple s (locals ps)
 locals (p ∷ ps) = locals ps
 
--- The parts of a `for` after its parenthesis: what comes first, up to a semicolon; the test, up to another, 1 where it is
+-- The parts of a `for` after its parenthesis: what comes first, up to a semicolon; the test, up to another, 1 where
+-- it is
 -- empty; and what comes after each turn.
 
 abbrev pub some_change : Phrase → Option Simple
@@ -239,7 +240,9 @@ some_change (changing s) = Some s
 some_change _ = None
 
 abbrev pub for_start : List Phrase → Option Simple
-for_start ps = if is_int (kind (phrase ps 0)) then Some (fresh (name_at ps 1) (plain (formula_at ps 3))) else some_change (phrase ps 0)
+for_start ps =
+    if is_int (kind (phrase ps 0)) then Some (fresh (name_at ps 1) (plain (formula_at ps 3)))
+    else some_change (phrase ps 0)
 
 abbrev pub for_test : List Formula → Formula
 for_test [] = number (pos 1)
@@ -249,7 +252,8 @@ abbrev pub for_row : List Phrase → Row
 for_row ps =
     let inside : List Phrase = drop 2 ps in
     let later : List Phrase = beyond inside in
-    count (place_at ps 0) (for_start (before inside)) (for_test (formulas (before later))) (some_change (phrase (beyond later) 0)) (as_row (last ps)) stop
+    count (place_at ps 0) (for_start (before inside)) (for_test (formulas (before later)))
+    (some_change (phrase (beyond later) 0)) (as_row (last ps)) stop
 
 abbrev pub returned : Phrase → Option Value
 returned p = if is_semicolon (kind p) then None else Some (as_value p)
@@ -318,7 +322,8 @@ made R.Shared ps = items (flat_map as_items ps)
 made R.Sitem ps = items (shared_item ps ∷ [])
 made R.Sems ps = items (numbered semaphore ps)
 made R.Chans ps = items (numbered channel ps)
-made R.Function ps = items (function (is_int (kind (phrase ps 0))) (name_at ps 1) (flat_map as_names ps) (as_block (last ps)) ∷ [])
+made R.Function ps =
+    items (function (is_int (kind (phrase ps 0))) (name_at ps 1) (flat_map as_names ps) (as_block (last ps)) ∷ [])
 made R.Params ps = names (params ps)
 made R.Process ps = items (process (name_at ps 1) (as_block (last ps)) ∷ [])
 made R.Block ps = body (block_of ps)

@@ -1,4 +1,5 @@
--- How large a source is: its names, its expressions, and how deep its statements stand in one another. The limits of tokens and
+-- How large a source is: its names, its expressions, and how deep its statements stand in one another. The limits of
+-- tokens and
 -- of the grammar keep these sizes.
 use Rattle.std.specs.Prelude.{ℕ, suc, ◌+◌, ◌≤◌, max, List, Option, Some, None, ⊤}
 use Rattle.std.specs.List.{AllByRecursion}
@@ -98,7 +99,8 @@ ItemFits (shared x v) = IsShort x
 ItemFits (shared_array x n) = IsShort x
 ItemFits (semaphore x n) = IsShort x
 ItemFits (channel x n) = IsShort x
-ItemFits (function gives x params b) = IsShort x × AllByRecursion IsShort params × RowFits b.row × (nested b.row ≤ MOST_NESTING)
+ItemFits (function gives x params b) =
+    IsShort x × AllByRecursion IsShort params × RowFits b.row × (nested b.row ≤ MOST_NESTING)
 ItemFits (process x b) = IsShort x × RowFits b.row × (nested b.row ≤ MOST_NESTING)
 
 -- so of each item: what the limits of tokens and of the grammar give

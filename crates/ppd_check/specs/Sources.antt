@@ -56,7 +56,17 @@ pub record Globals : Type 0 where
   pub processes : List Head
 
 abbrev pub no_globals : Globals
-no_globals = record { scope = []; shared = []; cells = 0; starts = []; semaphores = []; channels = []; functions = []; processes = [] }
+no_globals =
+    record {
+      scope = [];
+      shared = [];
+      cells = 0;
+      starts = [];
+      semaphores = [];
+      channels = [];
+      functions = [];
+      processes = [];
+    }
 
 abbrev pub item_name : Item → Name
 item_name (shared x v) = x
@@ -77,15 +87,27 @@ item_meaning g (process x b) = N.process
 
 abbrev pub with_shared : Name → Option ℕ → List ℤ → Globals → Globals
 with_shared x length starts g =
-    record g { shared = g.shared ++ variable_of x length ∷ []; cells = after_cells g.cells length; starts = g.starts ++ starts }
+    record g {
+      shared = g.shared ++ variable_of x length ∷ [];
+      cells = after_cells g.cells length;
+      starts = g.starts ++ starts;
+    }
 
 abbrev pub listed : Item → Globals → Globals
 listed (shared x v) g = with_shared x None (v ∷ []) g
 listed (shared_array x n) g = with_shared x (Some (as_short n.value)) (replicate (as_short n.value) (pos 0)) g
 listed (semaphore x n) g = record g { semaphores = g.semaphores ++ record { name = x; number = n.value } ∷ [] }
 listed (channel x n) g = record g { channels = g.channels ++ record { name = x; number = n.value } ∷ [] }
-listed (function gives x params b) g = record g { functions = g.functions ++ record { process = false; gives = gives; name = x; params = params; block = b } ∷ [] }
-listed (process x b) g = record g { processes = g.processes ++ record { process = true; gives = false; name = x; params = []; block = b } ∷ [] }
+listed (function gives x params b) g =
+    record g {
+      functions = g.functions
+          ++ record { process = false; gives = gives; name = x; params = params; block = b } ∷ [];
+    }
+listed (process x b) g =
+    record g {
+      processes = g.processes ++ record { process = true; gives = false; name = x; params = []; block = b }
+          ∷ [];
+    }
 
 abbrev pub with_item : Item → Globals → Globals
 with_item i g = record (listed i g) { scope = declare (item_name i).text (item_meaning g i) g.scope }
@@ -117,7 +139,8 @@ past n limit names = map (λ x. at x.place (TooMany limit)) (drop n names)
 abbrev pub past_cells : (most : ℕ) → Limit → (n : ℕ) → List Variable → List Fault
 past_cells most limit n [] = []
 past_cells most limit n (v ∷ vs) =
-    if_so (nat_lt most (after_cells n v.length)) v.place (TooMany limit) ++ past_cells most limit (after_cells n v.length) vs
+    if_so (nat_lt most (after_cells n v.length)) v.place (TooMany limit)
+    ++ past_cells most limit (after_cells n v.length) vs
 
 abbrev pub is_up_to : Place → Place → Bool
 is_up_to q p = by_then p.line q.line (nat_le p.column q.column)
@@ -156,11 +179,13 @@ returns (choice p e a b r) = returns a ++ (returns b ++ returns r)
 returns (repeat p e b r) = returns b ++ returns r
 returns (count p start e step b r) = returns b ++ returns r
 
--- The outermost row of a function that gives a value or none, up to its closing brace. A `return` that anything follows is
+-- The outermost row of a function that gives a value or none, up to its closing brace. A `return` that anything
+-- follows is
 -- not last.
 abbrev pub last_return : (gives : Bool) → (close : Place) → Row → List Fault
 last_return gives close stop = if_so gives close ReturnPlace
-last_return gives close (simple (give_back p v) stop) = unless (is_some v && gives || not (is_some v) && not gives) p ReturnPlace
+last_return gives close (simple (give_back p v) stop) =
+    unless (is_some v && gives || not (is_some v) && not gives) p ReturnPlace
 last_return gives close (simple s r) = simple_returns s ++ last_return gives close r
 last_return gives close (block b r) = returns b ++ last_return gives close r
 last_return gives close (choice p e a b r) = returns a ++ (returns b ++ last_return gives close r)

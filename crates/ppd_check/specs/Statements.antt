@@ -154,7 +154,8 @@ abbrev pub acts_of : Simple → Frame → List Act
 acts_of (fresh x v) f = put (declared x None f).scopes f.cells v ∷ []
 acts_of (array x n) f = C.clear f.cells (as_short n.value) ∷ []
 acts_of (store g v) f = store_acts (spot_of f.scopes g) v f
-acts_of (change g op e) f = C.set (spot_of f.scopes g) (T.two op (term_of f.scopes (goal_formula g)) (term_of f.scopes e)) ∷ []
+acts_of (change g op e) f =
+    C.set (spot_of f.scopes g) (T.two op (term_of f.scopes (goal_formula g)) (term_of f.scopes e)) ∷ []
 acts_of (call g args) f = C.call (function_of (meaning f.scopes g.text)) (map (term_of f.scopes) args) None ∷ []
 acts_of (give_back p v) f = return_acts v f
 acts_of (take p x) f = C.take (semaphore_of (meaning f.scopes x.text)) ∷ []
@@ -177,7 +178,8 @@ row_code (simple s r) f = join (code_of s f) (row_code r (after s f))
 row_code (block b r) f =
     join (row_code b (opened f)) (row_code r (closed f (after_row b (opened f))))
 row_code (choice p e a b r) f =
-    C.choice p (term_of f.scopes e) (row_code a f) (row_code b (after_row a f)) (row_code r (after_row b (after_row a f)))
+    C.choice p (term_of f.scopes e) (row_code a f) (row_code b (after_row a f))
+    (row_code r (after_row b (after_row a f)))
 row_code (repeat p e b r) f =
     loop p (term_of f.scopes e) (row_code b f) (row_code r (after_row b f))
 row_code (count p start e step b r) f =
@@ -223,7 +225,8 @@ row_faults (simple s r) f = faults_of s f ++ row_faults r (after s f)
 row_faults (block b r) f =
     row_faults b (opened f) ++ row_faults r (closed f (after_row b (opened f)))
 row_faults (choice p e a b r) f =
-    formula_faults f.scopes e ++ (row_faults a f ++ (row_faults b (after_row a f) ++ row_faults r (after_row b (after_row a f))))
+    formula_faults f.scopes e
+    ++ (row_faults a f ++ (row_faults b (after_row a f) ++ row_faults r (after_row b (after_row a f))))
 row_faults (repeat p e b r) f =
     formula_faults f.scopes e ++ (row_faults b f ++ row_faults r (after_row b f))
 row_faults (count p start e step b r) f =

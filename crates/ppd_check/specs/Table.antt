@@ -119,7 +119,8 @@ numbers n (act p a c) = n ∷ numbers (n + 1) c
 numbers n (choice p e a b c) = n ∷ numbers (n + 1 + count a + count b) c
 numbers n (loop p e inside c) = n ∷ numbers (n + 1 + count inside) c
 
--- Pre-order, from statement n and expression m on. The statements of a row belong to body b, and stand directly in `parent`.
+-- Pre-order, from statement n and expression m on. The statements of a row belong to body b, and stand directly in
+-- `parent`.
 abbrev pub stmts : (b : ℕ) → (parent : Option ℕ) → (n m : ℕ) → Code → List Stmt
 stmts b parent n m done = []
 stmts b parent n m (act p a c) =

@@ -21,9 +21,11 @@ use Rattle.ppd_check.specs.Statements.{code_of, faults_of, row_code, row_faults,
 use Rattle.ppd_check.specs.Code.{Code, Act, done, act}
 use Rattle.ppd_check.specs.Table.{flats, roots, terms, numbers, stmts}
 
--- Statements of a body that stand directly in `parent` were added with their expressions, and their numbers to a row; the
+-- Statements of a body that stand directly in `parent` were added with their expressions, and their numbers to a row;
+-- the
 -- rules that they break were noted.
-pub record Wrote (body : ℕ) (parent : Option ℕ) (code : Code) (faults : List Fault) (old new : Writer) (ids ids' : List ℕ) : Type 0 where
+pub record Wrote (body : ℕ) (parent : Option ℕ) (code : Code) (faults : List Fault) (old new : Writer)
+    (ids ids' : List ℕ) : Type 0 where
   pub exprs : new.exprs ≡ old.exprs ++ flats (length old.exprs) (terms code)
   pub stmts : new.stmts ≡ old.stmts ++ stmts body parent (length old.stmts) (length old.exprs) code
   pub row : ids' ≡ ids ++ numbers (length old.stmts) code
@@ -44,7 +46,8 @@ pub record Walked (site : Site) (r : Row) (f g : Frame) (old new : Writer) (ids 
   pub frame : g ≡ after_row r f
 
 -- the test of a statement was added, then the statement, whose place is held
-pub record Began (site : Site) (place : Place) (t : Term) (faults : List Fault) (old new : Writer) (n number : ℕ) (ids ids' : List ℕ) : Type 0 where
+pub record Began (site : Site) (place : Place) (t : Term) (faults : List Fault) (old new : Writer) (n number : ℕ)
+    (ids ids' : List ℕ) : Type 0 where
   pub test : Added old.exprs t new.exprs number
   pub found : new.found ≡ first_of_both old.found (first faults)
   pub stmts : new.stmts ≡ old.stmts ++ record { place = place; body = site.body; parent = site.parent; kind = End } ∷ []
@@ -61,6 +64,7 @@ pub record AddedAll (old : List Expr) (ts : List Term) (new : List Expr) (ids id
   pub numbers : ids' ≡ ids ++ roots (length old) ts
 
 -- those of some nodes that are expressions were added as arguments, and the rules that they break were noted
-pub record Argued (ns : List Node) (scopes : List Scope) (nodes : List ℕ) (old new : List Expr) (ids ids' : List ℕ) (found found' : Option Fault) : Type 0 where
+pub record Argued (ns : List Node) (scopes : List Scope) (nodes : List ℕ) (old new : List Expr) (ids ids' : List ℕ)
+    (found found' : Option Fault) : Type 0 where
   pub added : AddedAll old (map (term_of scopes) (formulas (phrases_of ns nodes))) new ids ids'
   pub noted : found' ≡ first_of_both found (first (flat_map (formula_faults scopes) (formulas (phrases_of ns nodes))))

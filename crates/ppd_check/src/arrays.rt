@@ -46,8 +46,14 @@ pub fn write_array<L: Ledger>(
     row: &mut Ids,
     steps: &mut Steps<L>,
 ) -> Result<(), Memory>
-    ensures wrote { OnOk result (WroteSimple site (array (record { text = text.now; place = place }) (record { value = value; place = value_place })) frame.old out.old out.new row.old row.new) }
-    ensures frame { OnOk result (frame.new ≡ after (array (record { text = text.now; place = place }) (record { value = value; place = value_place })) frame.old) }
+    ensures wrote { OnOk result
+        (WroteSimple site
+        (array (record { text = text.now; place = place })
+        (record { value = value; place = value_place })) frame.old out.old out.new row.old row.new) }
+    ensures frame { OnOk result
+        (frame.new ≡ after
+        (array (record { text = text.now; place = place })
+        (record { value = value; place = value_place })) frame.old) }
     ensures cost { steps.new ≤ steps.old + 7 }
 {
     let base = frame.cells;
@@ -86,7 +92,10 @@ pub fn write_return_of<L: Ledger>(
 ) -> Result<(), Memory>
     requires table { IsTable nodes.now }
     requires within { IsOperand nodes.now operand }
-    ensures wrote { OnOk result (WroteSimple site (give_back place (Some (plain (operand_formula nodes.now operand)))) frame.now out.old out.new row.old row.new) }
+    ensures wrote { OnOk result
+        (WroteSimple site
+        (give_back place
+        (Some (plain (operand_formula nodes.now operand)))) frame.now out.old out.new row.old row.new) }
     ensures cost { steps.new ≤ steps.old + 6 * operand_nodes nodes.now operand + 5 }
 {
     let number = formula(

@@ -36,7 +36,10 @@ pub fn begin<L: Ledger>(
 ) -> Result<Begun, Memory>
     requires table { IsTable nodes.now }
     requires within { IsOperand nodes.now operand }
-    ensures began { IfOk result (λ begun. Began site place (term_of frame.now.scopes (operand_formula nodes.now operand)) (formula_faults frame.now.scopes (operand_formula nodes.now operand)) out.old out.new begun.at begun.test row.old row.new) }
+    ensures began { IfOk result
+        (λ begun. Began site place (term_of frame.now.scopes (operand_formula nodes.now operand))
+        (formula_faults frame.now.scopes
+        (operand_formula nodes.now operand)) out.old out.new begun.at begun.test row.old row.new) }
     ensures cost { steps.new ≤ steps.old + 6 * operand_nodes nodes.now operand + 5 }
 {
     let test = write_test(nodes, operand, frame, out, steps)?;

@@ -71,7 +71,10 @@ fn declare_name<L: Ledger>(
 ) -> Result<(), Memory>
     requires table { IsTable nodes.now }
     requires within { id < length nodes.now }
-    ensures declares { OnOk result (Parametered (if is_name (kind (phrase (phrases_below nodes.now id) k)) then name_at (phrases_below nodes.now id) k ∷ [] else []) frame.old frame.new found.old found.new) }
+    ensures declares { OnOk result
+        (Parametered
+        (if is_name (kind (phrase (phrases_below nodes.now id) k)) then name_at (phrases_below nodes.now id) k ∷ []
+        else []) frame.old frame.new found.old found.new) }
     ensures cost { steps.new ≤ steps.old + 5 }
 {
     if !is_name(kind_at(nodes, id, k)) {
@@ -92,7 +95,8 @@ fn declare_names<L: Ledger>(
 ) -> Result<(), Memory>
     requires table { IsTable nodes.now }
     requires within { id < length nodes.now }
-    ensures declares { OnOk result (Parametered (params (phrases_below nodes.now id)) frame.old frame.new found.old found.new) }
+    ensures declares { OnOk result
+        (Parametered (params (phrases_below nodes.now id)) frame.old frame.new found.old found.new) }
     ensures cost { steps.new ≤ steps.old + 6 * plain_below nodes.now id + 6 * nested_below nodes.now id }
 {
     for k in 0..children_of(nodes, id).len() {
@@ -113,7 +117,8 @@ fn declare_said<L: Ledger>(
 ) -> Result<(), Memory>
     requires table { IsTable nodes.now }
     requires within { id < length nodes.now }
-    ensures declares { OnOk result (Parametered (as_names (phrase_of nodes.now id)) frame.old frame.new found.old found.new) }
+    ensures declares { OnOk result
+        (Parametered (as_names (phrase_of nodes.now id)) frame.old frame.new found.old found.new) }
     ensures cost { steps.new ≤ steps.old + 6 * plain_at nodes.now id }
 {
     match rule_of(nodes, id) {
@@ -133,7 +138,8 @@ fn declare_all<L: Ledger>(
 ) -> Result<(), Memory>
     requires table { IsTable nodes.now }
     requires within { id < length nodes.now }
-    ensures declares { OnOk result (Parametered (flat_map as_names (phrases_below nodes.now id)) frame.old frame.new found.old found.new) }
+    ensures declares { OnOk result
+        (Parametered (flat_map as_names (phrases_below nodes.now id)) frame.old frame.new found.old found.new) }
     ensures cost { steps.new ≤ steps.old + 7 * plain_below nodes.now id + 7 * nested_below nodes.now id }
 {
     for child in children_of(nodes, id) {
@@ -155,7 +161,9 @@ fn declare_params<L: Ledger>(
 ) -> Result<(), Memory>
     requires table { IsTable nodes.now }
     requires within { id < length nodes.now }
-    ensures declares { OnOk result (Parametered (head_said process (phrases_below nodes.now id)).params frame.old frame.new found.old found.new) }
+    ensures declares { OnOk result
+        (Parametered
+        (head_said process (phrases_below nodes.now id)).params frame.old frame.new found.old found.new) }
     ensures cost { steps.new ≤ steps.old + 7 * plain_below nodes.now id + 7 * nested_below nodes.now id }
 {
     if process {
@@ -258,7 +266,8 @@ fn write_block<L: Ledger>(
 ) -> Result<(), Memory>
     requires table { IsTable nodes.now }
     requires within { IfSome block (λ block. block < length nodes.now) }
-    ensures walked { OnOk result (Walked site (block_at nodes.now block).row frame.old frame.new out.old out.new row.old row.new) }
+    ensures walked { OnOk result
+        (Walked site (block_at nodes.now block).row frame.old frame.new out.old out.new row.old row.new) }
     ensures cost { steps.new ≤ steps.old + 48 * if_there (nested_at nodes.now) block }
 {
     match block {
@@ -281,8 +290,11 @@ fn fill<L: Ledger>(
 ) -> Result<(), Memory>
     requires table { IsTable nodes.now }
     requires within { id < length nodes.now }
-    ensures filled { OnOk result (Filled site (head_said process (phrases_below nodes.now id)) frame.old frame.new out.old out.new row.old row.new) }
-    ensures cost { steps.new ≤ steps.old + 9 * plain_below nodes.now id + 59 * nested_below nodes.now id + length frame.old.variables + 2 }
+    ensures filled { OnOk result
+        (Filled site
+        (head_said process (phrases_below nodes.now id)) frame.old frame.new out.old out.new row.old row.new) }
+    ensures cost { steps.new
+        ≤ steps.old + 9 * plain_below nodes.now id + 59 * nested_below nodes.now id + length frame.old.variables + 2 }
 {
     let block = block_of(nodes, id);
     let start = out.stmts.len();
@@ -371,7 +383,9 @@ fn write_head<L: Ledger>(
     requires within { id < length nodes.now }
     requires one { scopes ≡ innermost scopes ∷ [] }
     ensures scopes { IfOk result (λ after. after ≡ scopes) }
-    ensures wrote { OnOk result (WroteHeads (innermost scopes) (head_said process (phrases_below nodes.now id) ∷ []) out.old out.new bodies.old bodies.new) }
+    ensures wrote { OnOk result
+        (WroteHeads (innermost scopes)
+        (head_said process (phrases_below nodes.now id) ∷ []) out.old out.new bodies.old bodies.new) }
     ensures cost { steps.new ≤ steps.old + 112 * nodes_at nodes.now id }
 {
     let first = count_of(&out.stmts)?;
@@ -421,7 +435,8 @@ pub fn write_heads<L: Ledger>(
     requires heads { All (IsHeadAt nodes.now process) ids.now }
     requires one { scopes ≡ innermost scopes ∷ [] }
     ensures scopes { IfOk result (λ after. after ≡ scopes) }
-    ensures wrote { OnOk result (WroteHeads (innermost scopes) (map (head_at nodes.now) ids.now) out.old out.new bodies.old bodies.new) }
+    ensures wrote { OnOk result
+        (WroteHeads (innermost scopes) (map (head_at nodes.now) ids.now) out.old out.new bodies.old bodies.new) }
     ensures cost { steps.new ≤ steps.old + 113 * total (nodes_at nodes.now) ids.now }
 {
     for id in ids {

@@ -29,7 +29,9 @@ pub fn semaphore<L: Ledger>(
     steps: &mut Steps<L>,
 ) -> u8
     ensures number { result ≡ semaphore_of (meaning scopes.now text.now) }
-    ensures faults { found.new ≡ first_of_both found.old (first (name_faults is_semaphore scopes.now (record { text = text.now; place = place }))) }
+    ensures faults { found.new
+        ≡ first_of_both found.old
+        (first (name_faults is_semaphore scopes.now (record { text = text.now; place = place }))) }
     ensures cost { steps.new ≤ steps.old + 1 }
 {
     match scopes.find(text, steps) {
@@ -55,7 +57,9 @@ pub fn channel<L: Ledger>(
     steps: &mut Steps<L>,
 ) -> u8
     ensures number { result ≡ channel_of (meaning scopes.now text.now) }
-    ensures faults { found.new ≡ first_of_both found.old (first (name_faults is_channel scopes.now (record { text = text.now; place = place }))) }
+    ensures faults { found.new
+        ≡ first_of_both found.old
+        (first (name_faults is_channel scopes.now (record { text = text.now; place = place }))) }
     ensures cost { steps.new ≤ steps.old + 1 }
 {
     match scopes.find(text, steps) {
@@ -88,7 +92,9 @@ fn fit_call(
     used: bool,
     found: &mut Option<Fault>,
 )
-    ensures { found.new ≡ first_of_both found.old (first (unless (nat_eq count params) place Arity ++ if_so (used && not gives) place VoidValue)) }
+    ensures { found.new
+        ≡ first_of_both found.old
+        (first (unless (nat_eq count params) place Arity ++ if_so (used && not gives) place VoidValue)) }
 {
     note_unless(found, count == params, place, Cause::Arity);
     note_if(found, lacks(used, gives), place, Cause::VoidValue);
@@ -106,7 +112,8 @@ pub fn function<L: Ledger>(
     steps: &mut Steps<L>,
 ) -> u16
     ensures number { result ≡ function_of (meaning scopes.now text.now) }
-    ensures faults { found.new ≡ first_of_both found.old (first (wrong_call (meaning scopes.now text.now) place count used)) }
+    ensures faults { found.new
+        ≡ first_of_both found.old (first (wrong_call (meaning scopes.now text.now) place count used)) }
     ensures cost { steps.new ≤ steps.old + 1 }
 {
     match scopes.find(text, steps) {
@@ -150,7 +157,8 @@ fn argument<L: Ledger>(
 ) -> Result<(), Memory>
     requires table { IsTable nodes.now }
     requires within { id < length nodes.now }
-    ensures argued { OnOk result (Argued nodes.now scopes.now (id ∷ []) exprs.old exprs.new args.old args.new found.old found.new) }
+    ensures argued { OnOk result
+        (Argued nodes.now scopes.now (id ∷ []) exprs.old exprs.new args.old args.new found.old found.new) }
     ensures cost { steps.new ≤ steps.old + 6 * plain_at nodes.now id + 4 }
 {
     if !is_formula(nodes, id) {
@@ -173,7 +181,9 @@ pub fn arguments<L: Ledger>(
 ) -> Result<(), Memory>
     requires table { IsTable nodes.now }
     requires within { id < length nodes.now }
-    ensures argued { OnOk result (Argued nodes.now scopes.now (children_of nodes.now id) exprs.old exprs.new args.old args.new found.old found.new) }
+    ensures argued { OnOk result
+        (Argued nodes.now scopes.now
+        (children_of nodes.now id) exprs.old exprs.new args.old args.new found.old found.new) }
     ensures cost { steps.new ≤ steps.old + 11 * plain_below nodes.now id + 11 * nested_below nodes.now id }
 {
     for child in children_of(nodes, id) {

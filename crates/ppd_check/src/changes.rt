@@ -44,8 +44,12 @@ pub fn write_set<L: Ledger>(
     requires table { IsTable nodes.now }
     requires goal { IsGoal nodes.now goal }
     requires within { IsOperand nodes.now operand }
-    ensures wrote { OnOk result (WroteSimple site (store (goal_said nodes.now goal.entry) (plain (operand_formula nodes.now operand))) frame.now out.old out.new row.old row.new) }
-    ensures cost { steps.new ≤ steps.old + 6 * goal_nodes nodes.now goal.entry + 6 * operand_nodes nodes.now operand + 9 }
+    ensures wrote { OnOk result
+        (WroteSimple site
+        (store (goal_said nodes.now goal.entry)
+        (plain (operand_formula nodes.now operand))) frame.now out.old out.new row.old row.new) }
+    ensures cost { steps.new
+        ≤ steps.old + 6 * goal_nodes nodes.now goal.entry + 6 * operand_nodes nodes.now operand + 9 }
 {
     let place = place_of(goal);
     let target = write_spot(
@@ -82,8 +86,12 @@ pub fn write_change<L: Ledger>(
     requires table { IsTable nodes.now }
     requires goal { IsGoal nodes.now goal }
     requires within { IsOperand nodes.now operand }
-    ensures wrote { OnOk result (WroteSimple site (change (goal_said nodes.now goal.entry) op (operand_formula nodes.now operand)) frame.now out.old out.new row.old row.new) }
-    ensures cost { steps.new ≤ steps.old + 12 * goal_nodes nodes.now goal.entry + 6 * operand_nodes nodes.now operand + 15 }
+    ensures wrote { OnOk result
+        (WroteSimple site
+        (change (goal_said nodes.now goal.entry) op
+        (operand_formula nodes.now operand)) frame.now out.old out.new row.old row.new) }
+    ensures cost { steps.new
+        ≤ steps.old + 12 * goal_nodes nodes.now goal.entry + 6 * operand_nodes nodes.now operand + 15 }
 {
     let place = place_of(goal);
     let target = write_spot(
@@ -119,7 +127,8 @@ pub fn write_changed<L: Ledger>(
 ) -> Result<(), Memory>
     requires table { IsTable nodes.now }
     requires within { id < length nodes.now }
-    ensures wrote { OnOk result (WroteSimple site (changed (phrases_below nodes.now id)) frame.now out.old out.new row.old row.new) }
+    ensures wrote { OnOk result
+        (WroteSimple site (changed (phrases_below nodes.now id)) frame.now out.old out.new row.old row.new) }
     ensures cost { steps.new ≤ steps.old + 18 * plain_below nodes.now id + 15 }
 {
     let goal = goal_at(nodes, id, 0);

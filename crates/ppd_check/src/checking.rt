@@ -65,8 +65,12 @@ fn write_all<L: Ledger>(
     requires functions { All (IsHeadAt nodes.now false) functions.now }
     requires processes { All (IsHeadAt nodes.now true) processes.now }
     requires one { scopes ≡ innermost scopes ∷ [] }
-    ensures wrote { IfOk result (λ bodies. WroteHeads (innermost scopes) (map (head_at nodes.now) functions.now ++ map (head_at nodes.now) processes.now) out.old out.new [] bodies) }
-    ensures cost { steps.new ≤ steps.old + 113 * total (nodes_at nodes.now) functions.now + 113 * total (nodes_at nodes.now) processes.now }
+    ensures wrote { IfOk result
+        (λ bodies. WroteHeads (innermost scopes)
+        (map (head_at nodes.now) functions.now ++ map (head_at nodes.now) processes.now) out.old out.new [] bodies) }
+    ensures cost { steps.new
+        ≤ steps.old + 113 * total (nodes_at nodes.now) functions.now + 113 * total
+        (nodes_at nodes.now) processes.now }
 {
     let mut bodies = Seq::new(alloc);
     let scopes = write_heads(
@@ -99,7 +103,8 @@ fn check_nodes<L: Ledger>(
     steps: &mut Steps<L>,
 ) -> Result<Checked, Memory>
     requires table { IsTable nodes.now }
-    ensures program { IfOk result (λ checked. Accepted (tree_of nodes.now) → checked.program ≡ core (tree_of nodes.now)) }
+    ensures program { IfOk result
+        (λ checked. Accepted (tree_of nodes.now) → checked.program ≡ core (tree_of nodes.now)) }
     ensures found { IfOk result (λ checked. checked.found ≡ first_fault (tree_of nodes.now)) }
     ensures cost { steps.new ≤ steps.old + 150 * length nodes.now + 2048 }
 {
@@ -182,7 +187,8 @@ fn check_from<L: Ledger>(alloc: Global, tree: &Tree, blank: Blank) -> Result<Pro
 /// source's tokens. It is linear in the tree: its lists have at most nine elements for each node together, beside
 /// the start values of the shared cells.
 ///
-/// Otherwise the first broken rule by its place, and at one place the one that `CheckError` lists first; `Memory` is want
+/// Otherwise the first broken rule by its place, and at one place the one that `CheckError` lists first; `Memory` is
+/// want
 /// of memory.
 pub fn check(alloc: Global, tree: &Tree) -> Result<Program, CheckError>
     requires table { IsTable tree.now.nodes }

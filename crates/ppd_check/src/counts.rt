@@ -46,7 +46,11 @@ fn write_first<L: Ledger>(
     requires table { IsTable nodes.now }
     requires within { id < length nodes.now }
     requires past { from ≤ end }
-    ensures walked { OnOk result (Walked site (row_any (for_start (take (end - from) (drop from (phrases_below nodes.now id))))) frame.old frame.new out.old out.new row.old row.new) }
+    ensures walked { OnOk result
+        (Walked site
+        (row_any (for_start
+        (take (end - from)
+        (drop from (phrases_below nodes.now id))))) frame.old frame.new out.old out.new row.old row.new) }
     ensures cost { steps.new ≤ steps.old + 18 * plain_below nodes.now id + 10 }
 {
     let first = part_of(nodes, id, from, end, 0);
@@ -75,7 +79,10 @@ pub fn write_start<L: Ledger>(
 ) -> Result<(), Memory>
     requires table { IsTable nodes.now }
     requires within { id < length nodes.now }
-    ensures walked { OnOk result (Walked site (row_any (for_start (before (drop 2 (phrases_below nodes.now id))))) frame.old frame.new out.old out.new row.old row.new) }
+    ensures walked { OnOk result
+        (Walked site
+        (row_any (for_start
+        (before (drop 2 (phrases_below nodes.now id))))) frame.old frame.new out.old out.new row.old row.new) }
     ensures cost { steps.new ≤ steps.old + length (phrases_below nodes.now id) + 18 * plain_below nodes.now id + 10 }
 {
     let end = semicolon_from(nodes, id, 2, steps);
@@ -86,7 +93,8 @@ pub fn write_start<L: Ledger>(
 pub fn test_of<L: Ledger>(nodes: &[Node], id: u32, steps: &mut Steps<L>) -> Operand
     requires table { IsTable nodes.now }
     requires within { id < length nodes.now }
-    ensures formula { operand_formula nodes.now result ≡ for_test (formulas (before (beyond (drop 2 (phrases_below nodes.now id))))) }
+    ensures formula { operand_formula nodes.now result
+        ≡ for_test (formulas (before (beyond (drop 2 (phrases_below nodes.now id))))) }
     ensures within { IsOperand nodes.now result }
     ensures nodes { operand_nodes nodes.now result ≤ plain_below nodes.now id }
     ensures cost { steps.new ≤ steps.old + 3 * length (phrases_below nodes.now id) }
@@ -100,7 +108,8 @@ pub fn test_of<L: Ledger>(nodes: &[Node], id: u32, steps: &mut Steps<L>) -> Oper
 fn step_of<L: Ledger>(nodes: &[Node], id: u32, steps: &mut Steps<L>) -> usize
     requires table { IsTable nodes.now }
     requires within { id < length nodes.now }
-    ensures value { phrase (phrases_below nodes.now id) result ≡ phrase (beyond (beyond (drop 2 (phrases_below nodes.now id)))) 0 }
+    ensures value { phrase (phrases_below nodes.now id) result
+        ≡ phrase (beyond (beyond (drop 2 (phrases_below nodes.now id)))) 0 }
     ensures cost { steps.new ≤ steps.old + 2 * length (phrases_below nodes.now id) }
 {
     let from = past_semicolon(nodes, id, 2, steps);
@@ -121,8 +130,13 @@ fn write_undeclared<L: Ledger>(
 ) -> Result<(), Memory>
     requires table { IsTable nodes.now }
     requires within { id < length nodes.now }
-    ensures wrote { OnOk result (Wrote site.body site.parent (code_of_any (some_change (phrase (phrases_below nodes.now id) k)) frame.old) (faults_of_any (some_change (phrase (phrases_below nodes.now id) k)) frame.old) out.old out.new row.old row.new) }
-    ensures frame { OnOk result (record frame.new { scopes = drop 1 frame.new.scopes } ≡ record frame.old { scopes = drop 1 frame.old.scopes }) }
+    ensures wrote { OnOk result
+        (Wrote site.body site.parent (code_of_any (some_change (phrase (phrases_below nodes.now id) k)) frame.old)
+        (faults_of_any
+        (some_change (phrase (phrases_below nodes.now id) k)) frame.old) out.old out.new row.old row.new) }
+    ensures frame { OnOk result
+        (record frame.new { scopes = drop 1 frame.new.scopes }
+        ≡ record frame.old { scopes = drop 1 frame.old.scopes }) }
     ensures cost { steps.new ≤ steps.old + 18 * plain_below nodes.now id }
 {
     let before = frame.variables.len();
@@ -148,8 +162,16 @@ pub fn write_step<L: Ledger>(
 ) -> Result<(), Memory>
     requires table { IsTable nodes.now }
     requires within { id < length nodes.now }
-    ensures wrote { OnOk result (Wrote site.body site.parent (code_of_any (some_change (phrase (beyond (beyond (drop 2 (phrases_below nodes.now id)))) 0)) frame.old) (faults_of_any (some_change (phrase (beyond (beyond (drop 2 (phrases_below nodes.now id)))) 0)) frame.old) out.old out.new row.old row.new) }
-    ensures frame { OnOk result (record frame.new { scopes = drop 1 frame.new.scopes } ≡ record frame.old { scopes = drop 1 frame.old.scopes }) }
+    ensures wrote { OnOk result
+        (Wrote site.body site.parent
+        (code_of_any (some_change (phrase (beyond (beyond (drop 2 (phrases_below nodes.now id)))) 0)) frame.old)
+        (faults_of_any
+        (some_change
+        (phrase (beyond
+        (beyond (drop 2 (phrases_below nodes.now id)))) 0)) frame.old) out.old out.new row.old row.new) }
+    ensures frame { OnOk result
+        (record frame.new { scopes = drop 1 frame.new.scopes }
+        ≡ record frame.old { scopes = drop 1 frame.old.scopes }) }
     ensures cost { steps.new ≤ steps.old + 2 * length (phrases_below nodes.now id) + 18 * plain_below nodes.now id }
 {
     let step = step_of(nodes, id, steps);

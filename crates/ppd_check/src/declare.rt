@@ -34,9 +34,12 @@ fn declare_node<L: Ledger>(
 ) -> Result<(), Memory>
     requires table { IsTable nodes.now }
     requires within { id < length nodes.now }
-    ensures declares { OnOk result (Declares nodes.now (as_items (phrase_of nodes.now id)) globals.old globals.new found.old found.new) }
-    ensures cost { steps.new + starts_left globals.new + 1 ≤ steps.old + starts_left globals.old + 8 * nodes_at nodes.now id }
-    ensures heads { OnOk result (heads_nodes nodes.now globals.new ≤ heads_nodes nodes.now globals.old + nodes_at nodes.now id) }
+    ensures declares { OnOk result
+        (Declares nodes.now (as_items (phrase_of nodes.now id)) globals.old globals.new found.old found.new) }
+    ensures cost { steps.new + starts_left globals.new + 1
+        ≤ steps.old + starts_left globals.old + 8 * nodes_at nodes.now id }
+    ensures heads { OnOk result
+        (heads_nodes nodes.now globals.new ≤ heads_nodes nodes.now globals.old + nodes_at nodes.now id) }
 {
     steps.tick();
     match rule_of(nodes, id) {
@@ -63,9 +66,14 @@ fn declare_below<L: Ledger>(
 ) -> Result<(), Memory>
     requires table { IsTable nodes.now }
     requires within { id < length nodes.now }
-    ensures declares { OnOk result (Declares nodes.now (flat_map as_items (phrases_below nodes.now id)) globals.old globals.new found.old found.new) }
-    ensures cost { steps.new + starts_left globals.new ≤ steps.old + starts_left globals.old + 8 * plain_below nodes.now id + 8 * nested_below nodes.now id + 1 }
-    ensures heads { OnOk result (heads_nodes nodes.now globals.new ≤ heads_nodes nodes.now globals.old + plain_below nodes.now id + nested_below nodes.now id) }
+    ensures declares { OnOk result
+        (Declares nodes.now
+        (flat_map as_items (phrases_below nodes.now id)) globals.old globals.new found.old found.new) }
+    ensures cost { steps.new + starts_left globals.new
+        ≤ steps.old + starts_left globals.old + 8 * plain_below nodes.now id + 8 * nested_below nodes.now id + 1 }
+    ensures heads { OnOk result
+        (heads_nodes nodes.now globals.new
+        ≤ heads_nodes nodes.now globals.old + plain_below nodes.now id + nested_below nodes.now id) }
 {
     steps.tick();
     for child in children_of(nodes, id) {
@@ -83,8 +91,12 @@ fn declare_source<L: Ledger>(
     steps: &mut Steps<L>,
 ) -> Result<Globals, Memory>
     requires table { IsTable nodes.now }
-    ensures holds { IfOk result (λ globals. Holds nodes.now globals (with_items (as_items (phrase_of nodes.now 0)) no_globals)) }
-    ensures faults { OnOk result (found.new ≡ first_of_both found.old (first (items_faults (as_items (phrase_of nodes.now 0)) no_globals ++ count_faults (with_items (as_items (phrase_of nodes.now 0)) no_globals)))) }
+    ensures holds { IfOk result
+        (λ globals. Holds nodes.now globals (with_items (as_items (phrase_of nodes.now 0)) no_globals)) }
+    ensures faults { OnOk result
+        (found.new ≡ first_of_both found.old
+        (first (items_faults (as_items (phrase_of nodes.now 0)) no_globals
+        ++ count_faults (with_items (as_items (phrase_of nodes.now 0)) no_globals)))) }
     ensures cost { steps.new ≤ steps.old + 8 * nodes_at nodes.now 0 + 2048 + 1 }
     ensures heads { IfOk result (λ globals. heads_nodes nodes.now globals ≤ nodes_at nodes.now 0) }
 {
@@ -121,7 +133,10 @@ pub fn globals_of<L: Ledger>(
 ) -> Result<Globals, Memory>
     requires table { IsTable nodes.now }
     ensures holds { IfOk result (λ held. Holds nodes.now held (globals (source_of (tree_of nodes.now)))) }
-    ensures faults { OnOk result (found.new ≡ first_of_both found.old (first (items_faults (source_of (tree_of nodes.now)).items no_globals ++ count_faults (globals (source_of (tree_of nodes.now)))))) }
+    ensures faults { OnOk result
+        (found.new ≡ first_of_both found.old
+        (first (items_faults (source_of (tree_of nodes.now)).items no_globals
+        ++ count_faults (globals (source_of (tree_of nodes.now)))))) }
     ensures cost { steps.new ≤ steps.old + 8 * nodes_at nodes.now 0 + 2048 + 1 }
     ensures heads { IfOk result (λ globals. heads_nodes nodes.now globals ≤ nodes_at nodes.now 0) }
 {
@@ -138,7 +153,9 @@ fn has_process(globals: &Globals) -> bool
 // Notes a source that declares no process, at its end.
 pub fn note_no_process(nodes: &[Node], globals: &Globals, found: &mut Option<Fault>)
     requires table { IsTable nodes.now }
-    ensures { (held : Held) → Holds nodes.now globals.now held → found.new ≡ first_of_both found.old (first (unless (nat_lt 0 (length held.processes)) (end_of (tree_of nodes.now)) NoProcess)) }
+    ensures { (held : Held) → Holds nodes.now globals.now held
+        → found.new ≡ first_of_both found.old
+        (first (unless (nat_lt 0 (length held.processes)) (end_of (tree_of nodes.now)) NoProcess)) }
 {
     let end = end_at(nodes);
     note_unless(found, has_process(globals), end, Cause::NoProcess);

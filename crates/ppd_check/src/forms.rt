@@ -87,7 +87,9 @@ fn place_form<'a>(nodes: &'a [Node], id: u32) -> Form<'a>
 fn binary_form<'a>(nodes: &'a [Node], id: u32) -> Form<'a>
     requires table { IsTable nodes.now }
     requires within { id < length nodes.now }
-    ensures formula { form_formula nodes.now result ≡ joined (kind (phrase (phrases_below nodes.now id) 1)) (formula_at (phrases_below nodes.now id) 0) (formula_at (phrases_below nodes.now id) 2) }
+    ensures formula { form_formula nodes.now result
+        ≡ joined (kind (phrase (phrases_below nodes.now id) 1)) (formula_at (phrases_below nodes.now id) 0)
+        (formula_at (phrases_below nodes.now id) 2) }
     ensures parts { ArePartsAfter nodes.now id result }
     ensures nodes { form_nodes nodes.now result ≤ 1 + plain_below nodes.now id + nested_below nodes.now id }
 {

@@ -49,7 +49,9 @@ pub fn used<L: Ledger>(
     steps: &mut Steps<L>,
 ) -> Option<Meaning>
     ensures means { result ≡ meaning scopes.now text.now }
-    ensures faults { found.new ≡ first_of_both found.old (first (name_faults (fits indexed) scopes.now (record { text = text.now; place = place }))) }
+    ensures faults { found.new
+        ≡ first_of_both found.old
+        (first (name_faults (fits indexed) scopes.now (record { text = text.now; place = place }))) }
     ensures cost { steps.new ≤ steps.old + 1 }
 {
     let meaning = scopes.find(text, steps);
@@ -113,8 +115,11 @@ pub fn formula<L: Ledger>(
 ) -> Result<u32, Memory>
     requires table { IsTable nodes.now }
     requires inside { IsOperand nodes.now operand }
-    ensures added { IfOk result (λ n. Added exprs.old (term_of scopes.now (operand_formula nodes.now operand)) exprs.new n) }
-    ensures faults { OnOk result (found.new ≡ first_of_both found.old (first (formula_faults scopes.now (operand_formula nodes.now operand)))) }
+    ensures added { IfOk result
+        (λ n. Added exprs.old (term_of scopes.now (operand_formula nodes.now operand)) exprs.new n) }
+    ensures faults { OnOk result
+        (found.new ≡ first_of_both found.old
+        (first (formula_faults scopes.now (operand_formula nodes.now operand)))) }
     ensures cost { steps.new ≤ steps.old + 6 * operand_nodes nodes.now operand + 3 }
 {
     steps.tick();
@@ -136,8 +141,11 @@ fn formula_at<L: Ledger>(
 ) -> Result<u32, Memory>
     requires table { IsTable nodes.now }
     requires inside { id < length nodes.now }
-    ensures added { IfOk result (λ n. Added exprs.old (term_of scopes.now (as_formula (phrase_of nodes.now id))) exprs.new n) }
-    ensures faults { OnOk result (found.new ≡ first_of_both found.old (first (formula_faults scopes.now (as_formula (phrase_of nodes.now id))))) }
+    ensures added { IfOk result
+        (λ n. Added exprs.old (term_of scopes.now (as_formula (phrase_of nodes.now id))) exprs.new n) }
+    ensures faults { OnOk result
+        (found.new ≡ first_of_both found.old
+        (first (formula_faults scopes.now (as_formula (phrase_of nodes.now id))))) }
     ensures cost { steps.new ≤ steps.old + 6 * plain_at nodes.now id + 2 }
 {
     steps.tick();

@@ -88,7 +88,9 @@ pub fn declare<L: Ledger>(
     steps: &mut Steps<L>,
 ) -> Result<(), Memory>
     ensures frame { OnOk result (frame.new ≡ declared (record { text = text.now; place = place }) length frame.old) }
-    ensures faults { OnOk result (found.new ≡ first_of_both found.old (first (twice_faults (innermost frame.old.scopes) (record { text = text.now; place = place })))) }
+    ensures faults { OnOk result
+        (found.new ≡ first_of_both found.old
+        (first (twice_faults (innermost frame.old.scopes) (record { text = text.now; place = place })))) }
     ensures cost { steps.new ≤ steps.old + 5 }
 {
     let meaning = Meaning::Local(frame.cells, length);

@@ -85,7 +85,8 @@ fn name<L: Ledger>(
     steps: &mut Steps<L>,
 ) -> Result<(), Memory>
     ensures scopes { OnOk result (scopes.new ≡ in_innermost (declare (label_name name.entry).text meaning) scopes.old) }
-    ensures faults { OnOk result (found.new ≡ first_of_both found.old (first (twice_faults (innermost scopes.old) (label_name name.entry)))) }
+    ensures faults { OnOk result
+        (found.new ≡ first_of_both found.old (first (twice_faults (innermost scopes.old) (label_name name.entry)))) }
     ensures cost { steps.new ≤ steps.old + 3 }
 {
     let twice = scopes.declare(alloc, name.text, meaning, steps)?;
@@ -117,7 +118,9 @@ fn place_shared<L: Ledger>(
     steps: &mut Steps<L>,
 ) -> Result<(), Memory>
     ensures globals { OnOk result (globals.new ≡ placed (label_name label.entry) length globals.old) }
-    ensures faults { OnOk result (found.new ≡ first_of_both found.old (first (twice (label_name label.entry) globals.old ++ celled (label_name label.entry) length globals.old))) }
+    ensures faults { OnOk result
+        (found.new ≡ first_of_both found.old
+        (first (twice (label_name label.entry) globals.old ++ celled (label_name label.entry) length globals.old))) }
     ensures cost { steps.new ≤ steps.old + 5 }
     ensures cells { globals.old.cells ≤ globals.new.cells }
     ensures heads { SameHeads globals.old globals.new }
@@ -158,7 +161,9 @@ pub fn add_scalar<L: Ledger>(
     steps: &mut Steps<L>,
 ) -> Result<(), Memory>
     ensures globals { OnOk result (globals.new ≡ with_shared (label_name label.entry) None (start ∷ []) globals.old) }
-    ensures faults { OnOk result (found.new ≡ first_of_both found.old (first (twice (label_name label.entry) globals.old ++ celled (label_name label.entry) None globals.old))) }
+    ensures faults { OnOk result
+        (found.new ≡ first_of_both found.old
+        (first (twice (label_name label.entry) globals.old ++ celled (label_name label.entry) None globals.old))) }
     ensures cost { steps.new ≤ steps.old + 6 }
     ensures cells { globals.old.cells ≤ globals.new.cells }
     ensures heads { SameHeads globals.old globals.new }
@@ -180,8 +185,12 @@ pub fn add_array<L: Ledger>(
     found: &mut Option<Fault>,
     steps: &mut Steps<L>,
 ) -> Result<(), Memory>
-    ensures globals { OnOk result (globals.new ≡ with_shared (label_name label.entry) (Some length) (replicate length (pos 0)) globals.old) }
-    ensures faults { OnOk result (found.new ≡ first_of_both found.old (first (twice (label_name label.entry) globals.old ++ celled (label_name label.entry) (Some length) globals.old))) }
+    ensures globals { OnOk result
+        (globals.new ≡ with_shared (label_name label.entry) (Some length) (replicate length (pos 0)) globals.old) }
+    ensures faults { OnOk result
+        (found.new ≡ first_of_both found.old
+        (first (twice (label_name label.entry) globals.old
+        ++ celled (label_name label.entry) (Some length) globals.old))) }
     ensures cost { steps.new + starts_left globals.new ≤ steps.old + starts_left globals.old + 5 }
     ensures heads { SameHeads globals.old globals.new }
 {
@@ -203,7 +212,10 @@ pub fn add_semaphore<L: Ledger>(
     steps: &mut Steps<L>,
 ) -> Result<(), Memory>
     ensures globals { OnOk result (globals.new ≡ with_semaphore (label_name label.entry) start globals.old) }
-    ensures faults { OnOk result (found.new ≡ first_of_both found.old (first (twice (label_name label.entry) globals.old ++ counted MOST_SEMAPHORES (length globals.old.sems) Semaphores (label_name label.entry).place))) }
+    ensures faults { OnOk result
+        (found.new ≡ first_of_both found.old
+        (first (twice (label_name label.entry) globals.old
+        ++ counted MOST_SEMAPHORES (length globals.old.sems) Semaphores (label_name label.entry).place))) }
     ensures cost { steps.new ≤ steps.old + 5 }
     ensures cells { globals.new.cells ≡ globals.old.cells }
     ensures heads { SameHeads globals.old globals.new }
@@ -233,7 +245,10 @@ pub fn add_channel<L: Ledger>(
     steps: &mut Steps<L>,
 ) -> Result<(), Memory>
     ensures globals { OnOk result (globals.new ≡ with_channel (label_name label.entry) capacity globals.old) }
-    ensures faults { OnOk result (found.new ≡ first_of_both found.old (first (twice (label_name label.entry) globals.old ++ counted MOST_CHANNELS (length globals.old.chans) Channels (label_name label.entry).place))) }
+    ensures faults { OnOk result
+        (found.new ≡ first_of_both found.old
+        (first (twice (label_name label.entry) globals.old
+        ++ counted MOST_CHANNELS (length globals.old.chans) Channels (label_name label.entry).place))) }
     ensures cost { steps.new ≤ steps.old + 5 }
     ensures cells { globals.new.cells ≡ globals.old.cells }
     ensures heads { SameHeads globals.old globals.new }
@@ -265,7 +280,10 @@ pub fn add_function<L: Ledger>(
     steps: &mut Steps<L>,
 ) -> Result<(), Memory>
     ensures globals { OnOk result (globals.new ≡ with_function node (label_name label.entry) params gives globals.old) }
-    ensures faults { OnOk result (found.new ≡ first_of_both found.old (first (twice (label_name label.entry) globals.old ++ counted MOST_FUNCTIONS (length globals.old.functions) Functions (label_name label.entry).place))) }
+    ensures faults { OnOk result
+        (found.new ≡ first_of_both found.old
+        (first (twice (label_name label.entry) globals.old
+        ++ counted MOST_FUNCTIONS (length globals.old.functions) Functions (label_name label.entry).place))) }
     ensures cost { steps.new ≤ steps.old + 4 }
     ensures cells { globals.new.cells ≡ globals.old.cells }
 {
@@ -293,7 +311,10 @@ pub fn add_process<L: Ledger>(
     steps: &mut Steps<L>,
 ) -> Result<(), Memory>
     ensures globals { OnOk result (globals.new ≡ with_process node (label_name label.entry) globals.old) }
-    ensures faults { OnOk result (found.new ≡ first_of_both found.old (first (twice (label_name label.entry) globals.old ++ counted MOST_PROCESSES (length globals.old.processes) Processes (label_name label.entry).place))) }
+    ensures faults { OnOk result
+        (found.new ≡ first_of_both found.old
+        (first (twice (label_name label.entry) globals.old
+        ++ counted MOST_PROCESSES (length globals.old.processes) Processes (label_name label.entry).place))) }
     ensures cost { steps.new ≤ steps.old + 4 }
     ensures cells { globals.new.cells ≡ globals.old.cells }
 {

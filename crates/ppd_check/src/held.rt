@@ -26,8 +26,11 @@ pub fn write_test<L: Ledger>(
 ) -> Result<u32, Memory>
     requires table { IsTable nodes.now }
     requires within { IsOperand nodes.now operand }
-    ensures added { IfOk result (λ n. Added out.old.exprs (term_of frame.now.scopes (operand_formula nodes.now operand)) out.new.exprs n) }
-    ensures found { OnOk result (out.new.found ≡ first_of_both out.old.found (first (formula_faults frame.now.scopes (operand_formula nodes.now operand)))) }
+    ensures added { IfOk result
+        (λ n. Added out.old.exprs (term_of frame.now.scopes (operand_formula nodes.now operand)) out.new.exprs n) }
+    ensures found { OnOk result
+        (out.new.found
+        ≡ first_of_both out.old.found (first (formula_faults frame.now.scopes (operand_formula nodes.now operand)))) }
     ensures stmts { out.new.stmts ≡ out.old.stmts }
     ensures cost { steps.new ≤ steps.old + 6 * operand_nodes nodes.now operand + 3 }
 {
@@ -51,7 +54,9 @@ pub fn hold_stmt<L: Ledger>(
 ) -> Result<u32, Memory>
     ensures exprs { out.new.exprs ≡ out.old.exprs }
     ensures found { out.new.found ≡ out.old.found }
-    ensures stmts { OnOk result (out.new.stmts ≡ out.old.stmts ++ record { place = place; body = site.body; parent = site.parent; kind = End } ∷ []) }
+    ensures stmts { OnOk result
+        (out.new.stmts ≡ out.old.stmts
+        ++ record { place = place; body = site.body; parent = site.parent; kind = End } ∷ []) }
     ensures row { OnOk result (row.new ≡ row.old ++ length out.old.stmts ∷ []) }
     ensures number { IfOk result (λ n. n ≡ length out.old.stmts) }
     ensures cost { steps.new ≤ steps.old + 2 }
@@ -67,7 +72,9 @@ pub fn hold_stmt<L: Ledger>(
 pub fn set_stmt(out: &mut Writer, site: Site, place: Place, number: u32, kind: Kind)
     ensures exprs { out.new.exprs ≡ out.old.exprs }
     ensures found { out.new.found ≡ out.old.found }
-    ensures stmts { out.new.stmts ≡ slice_set out.old.stmts number (record { place = place; body = site.body; parent = site.parent; kind = kind }) }
+    ensures stmts { out.new.stmts
+        ≡ slice_set out.old.stmts number
+        (record { place = place; body = site.body; parent = site.parent; kind = kind }) }
 {
     out.stmts.set(
         number as usize,

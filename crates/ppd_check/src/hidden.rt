@@ -62,7 +62,9 @@ fn write_move<L: Ledger>(
 ) -> Result<(), Memory>
     requires table { IsTable nodes.now }
     requires within { IsGoal nodes.now goal }
-    ensures wrote { OnOk result (WroteAct site place (C.set (spot_of scopes.now (goal_said nodes.now goal.entry)) (T.local cell)) (formula_faults scopes.now (goal_formula (goal_said nodes.now goal.entry))) out.old out.new row.old row.new) }
+    ensures wrote { OnOk result
+        (WroteAct site place (C.set (spot_of scopes.now (goal_said nodes.now goal.entry)) (T.local cell))
+        (formula_faults scopes.now (goal_formula (goal_said nodes.now goal.entry))) out.old out.new row.old row.new) }
     ensures cost { steps.new ≤ steps.old + 6 * goal_nodes nodes.now goal.entry + 7 }
 {
     let target = write_spot(nodes, scopes, goal, &mut out.exprs, &mut out.found, steps)?;
@@ -86,9 +88,15 @@ fn write_hidden<L: Ledger>(
     requires table { IsTable nodes.now }
     requires goal { IsGoal nodes.now goal }
     requires within { IsValue nodes.now value }
-    ensures wrote { OnOk result (Wrote site.body site.parent (acts place (put frame.old.scopes frame.old.cells (value_said_by nodes.now value.entry) ∷ C.set (spot_of frame.old.scopes (goal_said nodes.now goal.entry)) (T.local frame.old.cells) ∷ [])) (formula_faults frame.old.scopes (goal_formula (goal_said nodes.now goal.entry)) ++ value_faults frame.old.scopes (value_said_by nodes.now value.entry)) out.old out.new row.old row.new) }
+    ensures wrote { OnOk result
+        (Wrote site.body site.parent
+        (acts place (put frame.old.scopes frame.old.cells (value_said_by nodes.now value.entry)
+        ∷ C.set (spot_of frame.old.scopes (goal_said nodes.now goal.entry)) (T.local frame.old.cells) ∷ []))
+        (formula_faults frame.old.scopes (goal_formula (goal_said nodes.now goal.entry))
+        ++ value_faults frame.old.scopes (value_said_by nodes.now value.entry)) out.old out.new row.old row.new) }
     ensures frame { OnOk result (frame.new ≡ with_hidden place frame.old) }
-    ensures cost { steps.new ≤ steps.old + 6 * goal_nodes nodes.now goal.entry + 11 * value_nodes nodes.now value.entry + 14 }
+    ensures cost { steps.new
+        ≤ steps.old + 6 * goal_nodes nodes.now goal.entry + 11 * value_nodes nodes.now value.entry + 14 }
 {
     let cell = hide(alloc, frame, place, steps)?;
     write_put(
@@ -131,9 +139,18 @@ fn write_through<L: Ledger>(
     requires table { IsTable nodes.now }
     requires goal { IsGoal nodes.now goal }
     requires within { IsValue nodes.now value }
-    ensures wrote { OnOk result (Wrote site.body site.parent (acts (goal_name (goal_said nodes.now goal.entry)).place (through_acts (local_cell (spot_of frame.old.scopes (goal_said nodes.now goal.entry))) (spot_of frame.old.scopes (goal_said nodes.now goal.entry)) (value_said_by nodes.now value.entry) frame.old)) (formula_faults frame.old.scopes (goal_formula (goal_said nodes.now goal.entry)) ++ value_faults frame.old.scopes (value_said_by nodes.now value.entry)) out.old out.new row.old row.new) }
-    ensures frame { OnOk result (frame.new ≡ through_frame (local_cell (spot_of frame.old.scopes (goal_said nodes.now goal.entry))) (goal_name (goal_said nodes.now goal.entry)).place frame.old) }
-    ensures cost { steps.new ≤ steps.old + 6 * goal_nodes nodes.now goal.entry + 11 * value_nodes nodes.now value.entry + 15 }
+    ensures wrote { OnOk result
+        (Wrote site.body site.parent
+        (acts (goal_name (goal_said nodes.now goal.entry)).place
+        (through_acts (local_cell (spot_of frame.old.scopes (goal_said nodes.now goal.entry)))
+        (spot_of frame.old.scopes (goal_said nodes.now goal.entry)) (value_said_by nodes.now value.entry) frame.old))
+        (formula_faults frame.old.scopes (goal_formula (goal_said nodes.now goal.entry))
+        ++ value_faults frame.old.scopes (value_said_by nodes.now value.entry)) out.old out.new row.old row.new) }
+    ensures frame { OnOk result
+        (frame.new ≡ through_frame (local_cell (spot_of frame.old.scopes (goal_said nodes.now goal.entry)))
+        (goal_name (goal_said nodes.now goal.entry)).place frame.old) }
+    ensures cost { steps.new
+        ≤ steps.old + 6 * goal_nodes nodes.now goal.entry + 11 * value_nodes nodes.now value.entry + 15 }
 {
     let place = place_of(goal);
     match local_cell(&frame.scopes, goal, steps) {
@@ -170,9 +187,14 @@ pub fn write_store<L: Ledger>(
     requires table { IsTable nodes.now }
     requires goal { IsGoal nodes.now goal }
     requires within { IsValue nodes.now value }
-    ensures wrote { OnOk result (WroteSimple site (store (goal_said nodes.now goal.entry) (value_said_by nodes.now value.entry)) frame.old out.old out.new row.old row.new) }
-    ensures frame { OnOk result (frame.new ≡ after (store (goal_said nodes.now goal.entry) (value_said_by nodes.now value.entry)) frame.old) }
-    ensures cost { steps.new ≤ steps.old + 6 * goal_nodes nodes.now goal.entry + 11 * value_nodes nodes.now value.entry + 15 }
+    ensures wrote { OnOk result
+        (WroteSimple site
+        (store (goal_said nodes.now goal.entry)
+        (value_said_by nodes.now value.entry)) frame.old out.old out.new row.old row.new) }
+    ensures frame { OnOk result
+        (frame.new ≡ after (store (goal_said nodes.now goal.entry) (value_said_by nodes.now value.entry)) frame.old) }
+    ensures cost { steps.new
+        ≤ steps.old + 6 * goal_nodes nodes.now goal.entry + 11 * value_nodes nodes.now value.entry + 15 }
 {
     match value {
         Value::Plain(operand) => write_set(nodes, goal, operand, frame, out, site, row, steps),
@@ -192,7 +214,8 @@ fn write_return_cell<L: Ledger>(
     row: &mut Ids,
     steps: &mut Steps<L>,
 ) -> Result<(), Memory>
-    ensures wrote { OnOk result (WroteAct site place (C.give_back (Some (T.local cell))) [] out.old out.new row.old row.new) }
+    ensures wrote { OnOk result
+        (WroteAct site place (C.give_back (Some (T.local cell))) [] out.old out.new row.old row.new) }
     ensures cost { steps.new ≤ steps.old + 3 }
 {
     let number = put(&mut out.exprs, Expr::Local(cell), steps)?;
@@ -213,7 +236,11 @@ fn write_return_hidden<L: Ledger>(
 ) -> Result<(), Memory>
     requires table { IsTable nodes.now }
     requires within { IsValue nodes.now value }
-    ensures wrote { OnOk result (Wrote site.body site.parent (acts place (put frame.old.scopes frame.old.cells (value_said_by nodes.now value.entry) ∷ C.give_back (Some (T.local frame.old.cells)) ∷ [])) (value_faults frame.old.scopes (value_said_by nodes.now value.entry)) out.old out.new row.old row.new) }
+    ensures wrote { OnOk result
+        (Wrote site.body site.parent
+        (acts place (put frame.old.scopes frame.old.cells (value_said_by nodes.now value.entry)
+        ∷ C.give_back (Some (T.local frame.old.cells)) ∷ []))
+        (value_faults frame.old.scopes (value_said_by nodes.now value.entry)) out.old out.new row.old row.new) }
     ensures frame { OnOk result (frame.new ≡ with_hidden place frame.old) }
     ensures cost { steps.new ≤ steps.old + 11 * value_nodes nodes.now value.entry + 10 }
 {
@@ -247,8 +274,11 @@ pub fn write_return_value<L: Ledger>(
 ) -> Result<(), Memory>
     requires table { IsTable nodes.now }
     requires within { IsValue nodes.now value }
-    ensures wrote { OnOk result (WroteSimple site (give_back place (Some (value_said_by nodes.now value.entry))) frame.old out.old out.new row.old row.new) }
-    ensures frame { OnOk result (frame.new ≡ after (give_back place (Some (value_said_by nodes.now value.entry))) frame.old) }
+    ensures wrote { OnOk result
+        (WroteSimple site
+        (give_back place (Some (value_said_by nodes.now value.entry))) frame.old out.old out.new row.old row.new) }
+    ensures frame { OnOk result
+        (frame.new ≡ after (give_back place (Some (value_said_by nodes.now value.entry))) frame.old) }
     ensures cost { steps.new ≤ steps.old + 11 * value_nodes nodes.now value.entry + 10 }
 {
     match value {

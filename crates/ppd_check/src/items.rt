@@ -64,7 +64,9 @@ fn declare_scalar<L: Ledger>(
     found: &mut Option<Fault>,
     steps: &mut Steps<L>,
 ) -> Result<(), Memory>
-    ensures declares { OnOk result ((ns : List NodeOf) → Declares ns (shared (label_name label.entry) start ∷ []) globals.old globals.new found.old found.new) }
+    ensures declares { OnOk result
+        ((ns : List NodeOf)
+        → Declares ns (shared (label_name label.entry) start ∷ []) globals.old globals.new found.old found.new) }
     ensures cost { steps.new ≤ steps.old + 6 }
     ensures cells { globals.old.cells ≤ globals.new.cells }
     ensures heads { SameHeads globals.old globals.new }
@@ -83,7 +85,11 @@ fn declare_array<L: Ledger>(
     found: &mut Option<Fault>,
     steps: &mut Steps<L>,
 ) -> Result<(), Memory>
-    ensures declares { OnOk result ((ns : List NodeOf) → Declares ns (shared_array (label_name label.entry) (record { value = length; place = place }) ∷ []) globals.old globals.new found.old found.new) }
+    ensures declares { OnOk result
+        ((ns : List NodeOf)
+        → Declares ns
+        (shared_array (label_name label.entry) (record { value = length; place = place })
+        ∷ []) globals.old globals.new found.old found.new) }
     ensures cost { steps.new + starts_left globals.new ≤ steps.old + starts_left globals.old + 5 }
     ensures heads { SameHeads globals.old globals.new }
 {
@@ -103,7 +109,11 @@ pub fn declare_semaphore<L: Ledger>(
     found: &mut Option<Fault>,
     steps: &mut Steps<L>,
 ) -> Result<(), Memory>
-    ensures declares { OnOk result ((ns : List NodeOf) → Declares ns (semaphore (label_name label.entry) (record { value = start; place = place }) ∷ []) globals.old globals.new found.old found.new) }
+    ensures declares { OnOk result
+        ((ns : List NodeOf)
+        → Declares ns
+        (semaphore (label_name label.entry) (record { value = start; place = place })
+        ∷ []) globals.old globals.new found.old found.new) }
     ensures cost { steps.new ≤ steps.old + 5 }
     ensures cells { globals.new.cells ≡ globals.old.cells }
     ensures heads { SameHeads globals.old globals.new }
@@ -124,7 +134,11 @@ pub fn declare_channel<L: Ledger>(
     found: &mut Option<Fault>,
     steps: &mut Steps<L>,
 ) -> Result<(), Memory>
-    ensures declares { OnOk result ((ns : List NodeOf) → Declares ns (channel (label_name label.entry) (record { value = capacity; place = place }) ∷ []) globals.old globals.new found.old found.new) }
+    ensures declares { OnOk result
+        ((ns : List NodeOf)
+        → Declares ns
+        (channel (label_name label.entry) (record { value = capacity; place = place })
+        ∷ []) globals.old globals.new found.old found.new) }
     ensures cost { steps.new ≤ steps.old + 5 }
     ensures cells { globals.new.cells ≡ globals.old.cells }
     ensures heads { SameHeads globals.old globals.new }
@@ -174,7 +188,9 @@ pub fn declare_shared<L: Ledger>(
 ) -> Result<(), Memory>
     requires table { IsTable nodes.now }
     requires within { id < length nodes.now }
-    ensures declares { OnOk result ((ns : List NodeOf) → Declares ns (shared_item (phrases_below nodes.now id) ∷ []) globals.old globals.new found.old found.new) }
+    ensures declares { OnOk result
+        ((ns : List NodeOf)
+        → Declares ns (shared_item (phrases_below nodes.now id) ∷ []) globals.old globals.new found.old found.new) }
     ensures cost { steps.new + starts_left globals.new ≤ steps.old + starts_left globals.old + 6 }
     ensures heads { SameHeads globals.old globals.new }
 {

@@ -30,7 +30,8 @@ pub fn write_local<L: Ledger>(
 ) -> Result<(), Memory>
     requires table { IsTable nodes.now }
     requires within { id < length nodes.now }
-    ensures wrote { OnOk result (WroteRow site (locals (phrase_of nodes.now id ∷ [])) frame.old out.old out.new row.old row.new) }
+    ensures wrote { OnOk result
+        (WroteRow site (locals (phrase_of nodes.now id ∷ [])) frame.old out.old out.new row.old row.new) }
     ensures frame { OnOk result (frame.new ≡ after_row (locals (phrase_of nodes.now id ∷ [])) frame.old) }
     ensures cost { steps.new ≤ steps.old + 18 * plain_at nodes.now id }
 {
@@ -54,7 +55,10 @@ pub fn write_locals<L: Ledger>(
 ) -> Result<(), Memory>
     requires table { IsTable nodes.now }
     requires within { id < length nodes.now }
-    ensures walked { OnOk result (Walked site (locals (phrases_of nodes.now (children_of nodes.now id))) frame.old frame.new out.old out.new row.old row.new) }
+    ensures walked { OnOk result
+        (Walked site
+        (locals (phrases_of nodes.now
+        (children_of nodes.now id))) frame.old frame.new out.old out.new row.old row.new) }
     ensures cost { steps.new ≤ steps.old + 19 * plain_below nodes.now id + 19 * nested_below nodes.now id }
 {
     for child in children_of(nodes, id) {

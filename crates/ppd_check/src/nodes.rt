@@ -57,7 +57,8 @@ pub fn child_at(nodes: &[Node], id: u32, k: usize) -> Option<u32>
     ensures nested { if_there (nested_at nodes.now) result ≡ nested_child nodes.now id k }
     ensures plain_few { plain_child nodes.now id k ≤ plain_below nodes.now id }
     ensures nested_few { nested_child nodes.now id k ≤ nested_below nodes.now id }
-    ensures said { MatchOption result (phrase (phrases_below nodes.now id) k ≡ token nowhere) (λ c. phrase (phrases_below nodes.now id) k ≡ phrase_of nodes.now c) }
+    ensures said { MatchOption result (phrase (phrases_below nodes.now id) k ≡ token nowhere)
+        (λ c. phrase (phrases_below nodes.now id) k ≡ phrase_of nodes.now c) }
 {
     child_id(nodes, id, k)
 }
@@ -68,7 +69,8 @@ pub fn rule_of(nodes: &[Node], id: u32) -> Rule
     requires within { id < length nodes.now }
     ensures said { SaysBy result (phrases_below nodes.now id) (phrase_of nodes.now id) }
     ensures plain { plain_at nodes.now id ≡ plain_by result (1 + plain_below nodes.now id + nested_below nodes.now id) }
-    ensures nested { nested_at nodes.now id ≡ nested_by result (1 + plain_below nodes.now id + nested_below nodes.now id) }
+    ensures nested { nested_at nodes.now id
+        ≡ nested_by result (1 + plain_below nodes.now id + nested_below nodes.now id) }
 {
     nodes[id as usize].rule
 }
@@ -77,7 +79,8 @@ pub fn rule_of(nodes: &[Node], id: u32) -> Rule
 fn token_at(nodes: &[Node], id: u32, k: usize) -> Option<&Token>
     requires table { IsTable nodes.now }
     requires within { id < length nodes.now }
-    ensures { MatchOption result (as_token (phrase (phrases_below nodes.now id) k) ≡ nowhere) (λ t. as_token (phrase (phrases_below nodes.now id) k) ≡ t.now) }
+    ensures { MatchOption result (as_token (phrase (phrases_below nodes.now id) k) ≡ nowhere)
+        (λ t. as_token (phrase (phrases_below nodes.now id) k) ≡ t.now) }
 {
     match child_at(nodes, id, k) {
         Some(child) => nodes[child as usize].token.as_ref(),

@@ -69,7 +69,10 @@ fn semaphore_at<L: Ledger>(
 ) -> Result<(), Memory>
     requires table { IsTable nodes.now }
     requires within { id < length nodes.now }
-    ensures declares { OnOk result ((ns : List NodeOf) → Declares ns (numbered_at semaphore (phrases_below nodes.now id) k) globals.old globals.new found.old found.new) }
+    ensures declares { OnOk result
+        ((ns : List NodeOf)
+        → Declares ns
+        (numbered_at semaphore (phrases_below nodes.now id) k) globals.old globals.new found.old found.new) }
     ensures cost { steps.new ≤ steps.old + 5 }
     ensures cells { globals.new.cells ≡ globals.old.cells }
     ensures heads { SameHeads globals.old globals.new }
@@ -102,7 +105,10 @@ fn channel_at<L: Ledger>(
 ) -> Result<(), Memory>
     requires table { IsTable nodes.now }
     requires within { id < length nodes.now }
-    ensures declares { OnOk result ((ns : List NodeOf) → Declares ns (numbered_at channel (phrases_below nodes.now id) k) globals.old globals.new found.old found.new) }
+    ensures declares { OnOk result
+        ((ns : List NodeOf)
+        → Declares ns
+        (numbered_at channel (phrases_below nodes.now id) k) globals.old globals.new found.old found.new) }
     ensures cost { steps.new ≤ steps.old + 5 }
     ensures cells { globals.new.cells ≡ globals.old.cells }
     ensures heads { SameHeads globals.old globals.new }
@@ -146,7 +152,9 @@ pub fn declare_semaphores<L: Ledger>(
 ) -> Result<(), Memory>
     requires table { IsTable nodes.now }
     requires within { id < length nodes.now }
-    ensures declares { OnOk result ((ns : List NodeOf) → Declares ns (numbered semaphore (phrases_below nodes.now id)) globals.old globals.new found.old found.new) }
+    ensures declares { OnOk result
+        ((ns : List NodeOf)
+        → Declares ns (numbered semaphore (phrases_below nodes.now id)) globals.old globals.new found.old found.new) }
     ensures cost { steps.new ≤ steps.old + 6 * length (phrases_below nodes.now id) }
     ensures cells { globals.new.cells ≡ globals.old.cells }
     ensures heads { SameHeads globals.old globals.new }
@@ -170,7 +178,9 @@ pub fn declare_channels<L: Ledger>(
 ) -> Result<(), Memory>
     requires table { IsTable nodes.now }
     requires within { id < length nodes.now }
-    ensures declares { OnOk result ((ns : List NodeOf) → Declares ns (numbered channel (phrases_below nodes.now id)) globals.old globals.new found.old found.new) }
+    ensures declares { OnOk result
+        ((ns : List NodeOf)
+        → Declares ns (numbered channel (phrases_below nodes.now id)) globals.old globals.new found.old found.new) }
     ensures cost { steps.new ≤ steps.old + 6 * length (phrases_below nodes.now id) }
     ensures cells { globals.new.cells ≡ globals.old.cells }
     ensures heads { SameHeads globals.old globals.new }

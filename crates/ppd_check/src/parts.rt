@@ -44,7 +44,8 @@ pub fn semicolon_from<L: Ledger>(
     requires within { id < length nodes.now }
     ensures past { from ≤ result }
     ensures few { result ≤ from + length (phrases_below nodes.now id) }
-    ensures before { before (drop from (phrases_below nodes.now id)) ≡ take (result - from) (drop from (phrases_below nodes.now id)) }
+    ensures before { before (drop from (phrases_below nodes.now id))
+        ≡ take (result - from) (drop from (phrases_below nodes.now id)) }
     ensures beyond { beyond (drop from (phrases_below nodes.now id)) ≡ drop (result + 1) (phrases_below nodes.now id) }
     ensures cost { steps.new ≤ steps.old + length (phrases_below nodes.now id) }
 {
@@ -84,7 +85,8 @@ pub fn part_of(nodes: &[Node], id: u32, from: usize, end: usize, k: usize) -> us
     requires table { IsTable nodes.now }
     requires within { id < length nodes.now }
     requires past { from ≤ end }
-    ensures { phrase (phrases_below nodes.now id) result ≡ phrase (take (end - from) (drop from (phrases_below nodes.now id))) k }
+    ensures { phrase (phrases_below nodes.now id) result
+        ≡ phrase (take (end - from) (drop from (phrases_below nodes.now id))) k }
 {
     if k < end - from {
         from + k
@@ -105,7 +107,8 @@ pub fn test_among<L: Ledger>(
     requires table { IsTable nodes.now }
     requires within { id < length nodes.now }
     requires past { from ≤ end }
-    ensures formula { operand_formula nodes.now result ≡ for_test (formulas (take (end - from) (drop from (phrases_below nodes.now id)))) }
+    ensures formula { operand_formula nodes.now result
+        ≡ for_test (formulas (take (end - from) (drop from (phrases_below nodes.now id)))) }
     ensures within { IsOperand nodes.now result }
     ensures nodes { operand_nodes nodes.now result ≤ plain_below nodes.now id }
     ensures cost { steps.new + from ≤ steps.old + end }

@@ -57,7 +57,9 @@ pub fn note_statements<L: Ledger>(
     found: &mut Option<Fault>,
     steps: &mut Steps<L>,
 ) -> Result<(), Memory>
-    ensures faults { OnOk result ((cs : List Code) → stmts.now ≡ all_stmts 0 0 0 cs → found.new ≡ first_of_both found.old (first (past_statements (flat_map places cs)))) }
+    ensures faults { OnOk result
+        ((cs : List Code) → stmts.now ≡ all_stmts 0 0 0 cs
+        → found.new ≡ first_of_both found.old (first (past_statements (flat_map places cs)))) }
     ensures cost { steps.new ≤ steps.old + 2 * length stmts.now + 1 }
 {
     let mut places = places_of(alloc, stmts, steps)?;

@@ -72,7 +72,10 @@ fn note_ended<L: Ledger>(
     found: &mut Option<Fault>,
     steps: &mut Steps<L>,
 )
-    ensures faults { found.new ≡ first_of_both found.old (first (flat_map returned (take (length stmts.now - 1) stmts.now) ++ unless (value && gives || not value && not gives) place ReturnPlace)) }
+    ensures faults { found.new
+        ≡ first_of_both found.old
+        (first (flat_map returned (take (length stmts.now - 1) stmts.now)
+        ++ unless (value && gives || not value && not gives) place ReturnPlace)) }
     ensures cost { steps.new ≤ steps.old + length stmts.now }
 {
     note_returns(but_last(stmts), found, steps);
@@ -88,7 +91,8 @@ fn note_unended<L: Ledger>(
     found: &mut Option<Fault>,
     steps: &mut Steps<L>,
 )
-    ensures faults { found.new ≡ first_of_both found.old (first (flat_map returned stmts.now ++ if_so gives close ReturnPlace)) }
+    ensures faults { found.new
+        ≡ first_of_both found.old (first (flat_map returned stmts.now ++ if_so gives close ReturnPlace)) }
     ensures cost { steps.new ≤ steps.old + length stmts.now }
 {
     note_returns(stmts, found, steps);
@@ -144,7 +148,8 @@ pub fn write_close<L: Ledger>(
     row: &mut Ids,
     steps: &mut Steps<L>,
 ) -> Result<(), Memory>
-    ensures wrote { OnOk result (Wrote site.body site.parent (close_by process ending close) [] out.old out.new row.old row.new) }
+    ensures wrote { OnOk result
+        (Wrote site.body site.parent (close_by process ending close) [] out.old out.new row.old row.new) }
     ensures cost { steps.new ≤ steps.old + 2 }
 {
     if process {

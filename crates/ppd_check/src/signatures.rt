@@ -98,10 +98,13 @@ pub fn declare_function<L: Ledger>(
     requires table { IsTable nodes.now }
     requires within { id < length nodes.now }
     requires says { SaysBy Function (phrases_below nodes.now id) (phrase_of nodes.now id) }
-    ensures declares { OnOk result (Declares nodes.now (as_items (phrase_of nodes.now id)) globals.old globals.new found.old found.new) }
+    ensures declares { OnOk result
+        (Declares nodes.now (as_items (phrase_of nodes.now id)) globals.old globals.new found.old found.new) }
     ensures cost { steps.new ≤ steps.old + 2 * plain_below nodes.now id + 2 * nested_below nodes.now id + 4 }
     ensures cells { globals.new.cells ≡ globals.old.cells }
-    ensures heads { OnOk result ((globals.new.functions ≡ globals.old.functions ++ id ∷ []) × (globals.new.processes ≡ globals.old.processes)) }
+    ensures heads { OnOk result
+        ((globals.new.functions ≡ globals.old.functions ++ id ∷ [])
+        × (globals.new.processes ≡ globals.old.processes)) }
 {
     let gives = is_int(kind_at(nodes, id, 0));
     let params = count_params(nodes, id, steps)?;
@@ -121,10 +124,13 @@ pub fn declare_process<L: Ledger>(
     requires table { IsTable nodes.now }
     requires within { id < length nodes.now }
     requires says { SaysBy Process (phrases_below nodes.now id) (phrase_of nodes.now id) }
-    ensures declares { OnOk result (Declares nodes.now (as_items (phrase_of nodes.now id)) globals.old globals.new found.old found.new) }
+    ensures declares { OnOk result
+        (Declares nodes.now (as_items (phrase_of nodes.now id)) globals.old globals.new found.old found.new) }
     ensures cost { steps.new ≤ steps.old + 4 }
     ensures cells { globals.new.cells ≡ globals.old.cells }
-    ensures heads { OnOk result ((globals.new.functions ≡ globals.old.functions) × (globals.new.processes ≡ globals.old.processes ++ id ∷ [])) }
+    ensures heads { OnOk result
+        ((globals.new.functions ≡ globals.old.functions)
+        × (globals.new.processes ≡ globals.old.processes ++ id ∷ [])) }
 {
     add_process(alloc, globals, id, label_at(nodes, id, 1), found, steps)
 }

@@ -28,7 +28,10 @@ pub fn write_take<L: Ledger>(
 ) -> Result<(), Memory>
     requires table { IsTable nodes.now }
     requires within { id < length nodes.now }
-    ensures wrote { OnOk result (WroteSimple site (take (place_at (phrases_below nodes.now id) 0) (name_at (phrases_below nodes.now id) 2)) frame.now out.old out.new row.old row.new) }
+    ensures wrote { OnOk result
+        (WroteSimple site
+        (take (place_at (phrases_below nodes.now id) 0)
+        (name_at (phrases_below nodes.now id) 2)) frame.now out.old out.new row.old row.new) }
     ensures cost { steps.new ≤ steps.old + 3 }
 {
     let name = label_at(nodes, id, 2);
@@ -55,7 +58,10 @@ pub fn write_give<L: Ledger>(
 ) -> Result<(), Memory>
     requires table { IsTable nodes.now }
     requires within { id < length nodes.now }
-    ensures wrote { OnOk result (WroteSimple site (give (place_at (phrases_below nodes.now id) 0) (name_at (phrases_below nodes.now id) 2)) frame.now out.old out.new row.old row.new) }
+    ensures wrote { OnOk result
+        (WroteSimple site
+        (give (place_at (phrases_below nodes.now id) 0)
+        (name_at (phrases_below nodes.now id) 2)) frame.now out.old out.new row.old row.new) }
     ensures cost { steps.new ≤ steps.old + 3 }
 {
     let name = label_at(nodes, id, 2);
@@ -82,7 +88,10 @@ pub fn write_print<L: Ledger>(
 ) -> Result<(), Memory>
     requires table { IsTable nodes.now }
     requires within { id < length nodes.now }
-    ensures wrote { OnOk result (WroteSimple site (print (place_at (phrases_below nodes.now id) 0) (formula_at (phrases_below nodes.now id) 2)) frame.now out.old out.new row.old row.new) }
+    ensures wrote { OnOk result
+        (WroteSimple site
+        (print (place_at (phrases_below nodes.now id) 0)
+        (formula_at (phrases_below nodes.now id) 2)) frame.now out.old out.new row.old row.new) }
     ensures cost { steps.new ≤ steps.old + 6 * plain_below nodes.now id + 5 }
 {
     let operand = operand_at(nodes, id, 2);
@@ -116,7 +125,10 @@ pub fn write_assert<L: Ledger>(
 ) -> Result<(), Memory>
     requires table { IsTable nodes.now }
     requires within { id < length nodes.now }
-    ensures wrote { OnOk result (WroteSimple site (assert (place_at (phrases_below nodes.now id) 0) (formula_at (phrases_below nodes.now id) 2)) frame.now out.old out.new row.old row.new) }
+    ensures wrote { OnOk result
+        (WroteSimple site
+        (assert (place_at (phrases_below nodes.now id) 0)
+        (formula_at (phrases_below nodes.now id) 2)) frame.now out.old out.new row.old row.new) }
     ensures cost { steps.new ≤ steps.old + 6 * plain_below nodes.now id + 5 }
 {
     let operand = operand_at(nodes, id, 2);
@@ -151,7 +163,10 @@ pub fn write_send<L: Ledger>(
 ) -> Result<(), Memory>
     requires table { IsTable nodes.now }
     requires within { id < length nodes.now }
-    ensures wrote { OnOk result (WroteSimple site (send (place_at (phrases_below nodes.now id) 0) (name_at (phrases_below nodes.now id) 2) (formula_at (phrases_below nodes.now id) 4)) frame.now out.old out.new row.old row.new) }
+    ensures wrote { OnOk result
+        (WroteSimple site
+        (send (place_at (phrases_below nodes.now id) 0) (name_at (phrases_below nodes.now id) 2)
+        (formula_at (phrases_below nodes.now id) 4)) frame.now out.old out.new row.old row.new) }
     ensures cost { steps.new ≤ steps.old + 6 * plain_below nodes.now id + 6 }
 {
     let name = label_at(nodes, id, 2);

@@ -42,7 +42,8 @@ pub fn write_local_item<L: Ledger>(
 ) -> Result<(), Memory>
     requires table { IsTable nodes.now }
     requires within { id < length nodes.now }
-    ensures wrote { OnOk result (WroteSimple site (local_item (phrases_below nodes.now id)) frame.old out.old out.new row.old row.new) }
+    ensures wrote { OnOk result
+        (WroteSimple site (local_item (phrases_below nodes.now id)) frame.old out.old out.new row.old row.new) }
     ensures frame { OnOk result (frame.new ≡ after (local_item (phrases_below nodes.now id)) frame.old) }
     ensures cost { steps.new ≤ steps.old + 11 * plain_below nodes.now id + 10 }
 {
@@ -81,8 +82,14 @@ pub fn write_returned<L: Ledger>(
 ) -> Result<(), Memory>
     requires table { IsTable nodes.now }
     requires within { id < length nodes.now }
-    ensures wrote { OnOk result (WroteSimple site (give_back (place_at (phrases_below nodes.now id) 0) (returned (phrase (phrases_below nodes.now id) 1))) frame.old out.old out.new row.old row.new) }
-    ensures frame { OnOk result (frame.new ≡ after (give_back (place_at (phrases_below nodes.now id) 0) (returned (phrase (phrases_below nodes.now id) 1))) frame.old) }
+    ensures wrote { OnOk result
+        (WroteSimple site
+        (give_back (place_at (phrases_below nodes.now id) 0)
+        (returned (phrase (phrases_below nodes.now id) 1))) frame.old out.old out.new row.old row.new) }
+    ensures frame { OnOk result
+        (frame.new ≡ after
+        (give_back (place_at (phrases_below nodes.now id) 0)
+        (returned (phrase (phrases_below nodes.now id) 1))) frame.old) }
     ensures cost { steps.new ≤ steps.old + 11 * plain_below nodes.now id + 10 }
 {
     let place = place_at(nodes, id, 0);
@@ -108,7 +115,10 @@ pub fn write_called<L: Ledger>(
 ) -> Result<(), Memory>
     requires table { IsTable nodes.now }
     requires within { id < length nodes.now }
-    ensures wrote { OnOk result (WroteSimple site (call (name_at (phrases_below nodes.now id) 0) (formulas (phrases_below nodes.now id))) frame.now out.old out.new row.old row.new) }
+    ensures wrote { OnOk result
+        (WroteSimple site
+        (call (name_at (phrases_below nodes.now id) 0)
+        (formulas (phrases_below nodes.now id))) frame.now out.old out.new row.old row.new) }
     ensures cost { steps.new ≤ steps.old + 11 * plain_below nodes.now id + 11 * nested_below nodes.now id + 3 }
 {
     let place = label_at(nodes, id, 0).place;

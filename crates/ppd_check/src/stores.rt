@@ -45,7 +45,12 @@ pub fn write_call<L: Ledger>(
 ) -> Result<(), Memory>
     requires table { IsTable nodes.now }
     requires within { id < length nodes.now }
-    ensures wrote { OnOk result (WroteAct site place (C.call (function_of (meaning scopes.now (name_at (phrases_below nodes.now id) 0).text)) (map (term_of scopes.now) (formulas (phrases_below nodes.now id))) into) (call_faults scopes.now (is_some into) (name_at (phrases_below nodes.now id) 0) (formulas (phrases_below nodes.now id))) out.old out.new row.old row.new) }
+    ensures wrote { OnOk result
+        (WroteAct site place
+        (C.call (function_of (meaning scopes.now (name_at (phrases_below nodes.now id) 0).text))
+        (map (term_of scopes.now) (formulas (phrases_below nodes.now id))) into)
+        (call_faults scopes.now (is_some into) (name_at (phrases_below nodes.now id) 0)
+        (formulas (phrases_below nodes.now id))) out.old out.new row.old row.new) }
     ensures cost { steps.new ≤ steps.old + 11 * plain_below nodes.now id + 11 * nested_below nodes.now id + 3 }
 {
     let name = label_at(nodes, id, 0);
@@ -97,7 +102,9 @@ pub fn write_put<L: Ledger>(
 ) -> Result<(), Memory>
     requires table { IsTable nodes.now }
     requires within { IsValue nodes.now value }
-    ensures wrote { OnOk result (WroteAct site place (put scopes.now cell (value_said_by nodes.now value.entry)) (value_faults scopes.now (value_said_by nodes.now value.entry)) out.old out.new row.old row.new) }
+    ensures wrote { OnOk result
+        (WroteAct site place (put scopes.now cell (value_said_by nodes.now value.entry))
+        (value_faults scopes.now (value_said_by nodes.now value.entry)) out.old out.new row.old row.new) }
     ensures cost { steps.new ≤ steps.old + 11 * value_nodes nodes.now value.entry + 5 }
 {
     match value {
@@ -154,8 +161,13 @@ pub fn write_fresh<L: Ledger>(
 ) -> Result<(), Memory>
     requires table { IsTable nodes.now }
     requires within { IsValue nodes.now value }
-    ensures wrote { OnOk result (WroteSimple site (fresh (record { text = text.now; place = place }) (value_said_by nodes.now value.entry)) frame.old out.old out.new row.old row.new) }
-    ensures frame { OnOk result (frame.new ≡ after (fresh (record { text = text.now; place = place }) (value_said_by nodes.now value.entry)) frame.old) }
+    ensures wrote { OnOk result
+        (WroteSimple site
+        (fresh (record { text = text.now; place = place })
+        (value_said_by nodes.now value.entry)) frame.old out.old out.new row.old row.new) }
+    ensures frame { OnOk result
+        (frame.new ≡ after
+        (fresh (record { text = text.now; place = place }) (value_said_by nodes.now value.entry)) frame.old) }
     ensures cost { steps.new ≤ steps.old + 11 * value_nodes nodes.now value.entry + 10 }
 {
     let cell = frame.cells;
@@ -185,9 +197,14 @@ pub fn write_spot<L: Ledger>(
 ) -> Result<Target, Memory>
     requires table { IsTable nodes.now }
     requires within { IsGoal nodes.now goal }
-    ensures added { OnOk result (exprs.new ≡ exprs.old ++ flats (length exprs.old) (spot_terms (spot_of scopes.now (goal_said nodes.now goal.entry)))) }
-    ensures target { IfOk result (λ t. t ≡ target (length exprs.old) (spot_of scopes.now (goal_said nodes.now goal.entry))) }
-    ensures faults { OnOk result (found.new ≡ first_of_both found.old (first (formula_faults scopes.now (goal_formula (goal_said nodes.now goal.entry))))) }
+    ensures added { OnOk result
+        (exprs.new ≡ exprs.old
+        ++ flats (length exprs.old) (spot_terms (spot_of scopes.now (goal_said nodes.now goal.entry)))) }
+    ensures target { IfOk result
+        (λ t. t ≡ target (length exprs.old) (spot_of scopes.now (goal_said nodes.now goal.entry))) }
+    ensures faults { OnOk result
+        (found.new ≡ first_of_both found.old
+        (first (formula_faults scopes.now (goal_formula (goal_said nodes.now goal.entry))))) }
     ensures cost { steps.new ≤ steps.old + 6 * goal_nodes nodes.now goal.entry + 4 }
 {
     match goal {
@@ -241,7 +258,8 @@ pub fn write_goal<L: Ledger>(
 ) -> Result<u32, Memory>
     requires table { IsTable nodes.now }
     requires within { IsGoal nodes.now goal }
-    ensures added { IfOk result (λ n. Added exprs.old (term_of scopes.now (goal_formula (goal_said nodes.now goal.entry))) exprs.new n) }
+    ensures added { IfOk result
+        (λ n. Added exprs.old (term_of scopes.now (goal_formula (goal_said nodes.now goal.entry))) exprs.new n) }
     ensures cost { steps.new ≤ steps.old + 6 * goal_nodes nodes.now goal.entry + 5 }
 {
     let mut again = None;

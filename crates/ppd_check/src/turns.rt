@@ -30,7 +30,10 @@ pub fn write_changing<L: Ledger>(
 ) -> Result<(), Memory>
     requires table { IsTable nodes.now }
     requires within { id < length nodes.now }
-    ensures walked { OnOk result (Walked site (row_any (some_change (phrase (phrases_below nodes.now id) k))) frame.old frame.new out.old out.new row.old row.new) }
+    ensures walked { OnOk result
+        (Walked site
+        (row_any (some_change
+        (phrase (phrases_below nodes.now id) k))) frame.old frame.new out.old out.new row.old row.new) }
     ensures cost { steps.new ≤ steps.old + 18 * plain_below nodes.now id }
 {
     match child_at(nodes, id, k) {

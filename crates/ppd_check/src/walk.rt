@@ -34,7 +34,8 @@ fn write_rows<L: Ledger>(
 ) -> Result<(), Memory>
     requires table { IsTable nodes.now }
     requires within { id < length nodes.now }
-    ensures walked { OnOk result (Walked site (rows (phrases_below nodes.now id)) frame.old frame.new out.old out.new row.old row.new) }
+    ensures walked { OnOk result
+        (Walked site (rows (phrases_below nodes.now id)) frame.old frame.new out.old out.new row.old row.new) }
     ensures cost { steps.new ≤ steps.old + 48 * nested_below nodes.now id + 2 * plain_below nodes.now id + 1 }
 {
     steps.tick();
@@ -59,7 +60,9 @@ fn write_block<L: Ledger>(
 ) -> Result<(), Memory>
     requires table { IsTable nodes.now }
     requires within { id < length nodes.now }
-    ensures walked { OnOk result (Walked site (block (rows (phrases_below nodes.now id)) stop) frame.old frame.new out.old out.new row.old row.new) }
+    ensures walked { OnOk result
+        (Walked site
+        (block (rows (phrases_below nodes.now id)) stop) frame.old frame.new out.old out.new row.old row.new) }
     ensures cost { steps.new ≤ steps.old + 48 * nested_below nodes.now id + 2 * plain_below nodes.now id + 3 }
 {
     steps.tick();
@@ -84,7 +87,9 @@ fn write_child<L: Ledger>(
 ) -> Result<(), Memory>
     requires table { IsTable nodes.now }
     requires within { id < length nodes.now }
-    ensures walked { OnOk result (Walked site (as_row (phrase (phrases_below nodes.now id) k)) frame.old frame.new out.old out.new row.old row.new) }
+    ensures walked { OnOk result
+        (Walked site
+        (as_row (phrase (phrases_below nodes.now id) k)) frame.old frame.new out.old out.new row.old row.new) }
     ensures cost { steps.new ≤ steps.old + 48 * nested_child nodes.now id k + 2 }
 {
     steps.tick();
@@ -109,7 +114,9 @@ fn write_inside<L: Ledger>(
 ) -> Result<Ids, Memory>
     requires table { IsTable nodes.now }
     requires within { id < length nodes.now }
-    ensures walked { IfOk result (λ ids. Walked (record { body = site.body; parent = Some at }) (as_row (phrase (phrases_below nodes.now id) k)) frame.old frame.new out.old out.new [] ids) }
+    ensures walked { IfOk result
+        (λ ids. Walked (record { body = site.body; parent = Some at })
+        (as_row (phrase (phrases_below nodes.now id) k)) frame.old frame.new out.old out.new [] ids) }
     ensures cost { steps.new ≤ steps.old + 48 * nested_child nodes.now id k + 3 }
 {
     steps.tick();
@@ -136,7 +143,11 @@ fn write_if<L: Ledger>(
 ) -> Result<(), Memory>
     requires table { IsTable nodes.now }
     requires within { id < length nodes.now }
-    ensures walked { OnOk result (Walked site (choice (place_at (phrases_below nodes.now id) 0) (formula_at (phrases_below nodes.now id) 2) (as_row (phrase (phrases_below nodes.now id) 4)) (as_row (phrase (phrases_below nodes.now id) 6)) stop) frame.old frame.new out.old out.new row.old row.new) }
+    ensures walked { OnOk result
+        (Walked site
+        (choice (place_at (phrases_below nodes.now id) 0) (formula_at (phrases_below nodes.now id) 2)
+        (as_row (phrase (phrases_below nodes.now id) 4))
+        (as_row (phrase (phrases_below nodes.now id) 6)) stop) frame.old frame.new out.old out.new row.old row.new) }
     ensures cost { steps.new ≤ steps.old + 48 * nested_below nodes.now id + 6 * plain_below nodes.now id + 12 }
 {
     steps.tick();
@@ -163,7 +174,10 @@ fn write_while<L: Ledger>(
 ) -> Result<(), Memory>
     requires table { IsTable nodes.now }
     requires within { id < length nodes.now }
-    ensures walked { OnOk result (Walked site (repeat (place_at (phrases_below nodes.now id) 0) (formula_at (phrases_below nodes.now id) 2) (as_row (phrase (phrases_below nodes.now id) 4)) stop) frame.old frame.new out.old out.new row.old row.new) }
+    ensures walked { OnOk result
+        (Walked site
+        (repeat (place_at (phrases_below nodes.now id) 0) (formula_at (phrases_below nodes.now id) 2)
+        (as_row (phrase (phrases_below nodes.now id) 4)) stop) frame.old frame.new out.old out.new row.old row.new) }
     ensures cost { steps.new ≤ steps.old + 48 * nested_below nodes.now id + 6 * plain_below nodes.now id + 9 }
 {
     steps.tick();
@@ -189,7 +203,8 @@ fn write_for<L: Ledger>(
 ) -> Result<(), Memory>
     requires table { IsTable nodes.now }
     requires within { id < length nodes.now }
-    ensures walked { OnOk result (Walked site (for_row (phrases_below nodes.now id)) frame.old frame.new out.old out.new row.old row.new) }
+    ensures walked { OnOk result
+        (Walked site (for_row (phrases_below nodes.now id)) frame.old frame.new out.old out.new row.old row.new) }
     ensures cost { steps.new ≤ steps.old + 48 * nested_below nodes.now id + 48 * plain_below nodes.now id + 26 }
 {
     steps.tick();
@@ -224,7 +239,8 @@ fn write_worded<L: Ledger>(
 ) -> Result<(), Memory>
     requires table { IsTable nodes.now }
     requires within { id < length nodes.now }
-    ensures walked { OnOk result (Walked site (worded (phrases_below nodes.now id)) frame.old frame.new out.old out.new row.old row.new) }
+    ensures walked { OnOk result
+        (Walked site (worded (phrases_below nodes.now id)) frame.old frame.new out.old out.new row.old row.new) }
     ensures cost { steps.new ≤ steps.old + 48 * nested_below nodes.now id + 48 * plain_below nodes.now id + 27 }
 {
     steps.tick();
@@ -250,7 +266,10 @@ fn write_stmt<L: Ledger>(
 ) -> Result<(), Memory>
     requires table { IsTable nodes.now }
     requires within { id < length nodes.now }
-    ensures walked { OnOk result (Walked site (statement (phrase (phrases_below nodes.now id) 0) (phrases_below nodes.now id)) frame.old frame.new out.old out.new row.old row.new) }
+    ensures walked { OnOk result
+        (Walked site
+        (statement (phrase (phrases_below nodes.now id) 0)
+        (phrases_below nodes.now id)) frame.old frame.new out.old out.new row.old row.new) }
     ensures cost { steps.new ≤ steps.old + 48 * nested_below nodes.now id + 48 * plain_below nodes.now id + 28 }
 {
     steps.tick();
@@ -278,7 +297,8 @@ pub fn write_statement<L: Ledger>(
 ) -> Result<(), Memory>
     requires table { IsTable nodes.now }
     requires within { id < length nodes.now }
-    ensures walked { OnOk result (Walked site (as_row (phrase_of nodes.now id)) frame.old frame.new out.old out.new row.old row.new) }
+    ensures walked { OnOk result
+        (Walked site (as_row (phrase_of nodes.now id)) frame.old frame.new out.old out.new row.old row.new) }
     ensures cost { steps.new ≤ steps.old + (48 * nested_at nodes.now id - 2) + 1 }
 {
     steps.tick();
@@ -302,7 +322,8 @@ pub fn write_body<L: Ledger>(
 ) -> Result<(), Memory>
     requires table { IsTable nodes.now }
     requires within { id < length nodes.now }
-    ensures walked { OnOk result (Walked site (as_block (phrase_of nodes.now id)).row frame.old frame.new out.old out.new row.old row.new) }
+    ensures walked { OnOk result
+        (Walked site (as_block (phrase_of nodes.now id)).row frame.old frame.new out.old out.new row.old row.new) }
     ensures cost { steps.new ≤ steps.old + 48 * nested_at nodes.now id }
 {
     match rule_of(nodes, id) {

@@ -34,8 +34,13 @@ pub fn write_word<L: Ledger>(
 ) -> Result<(), Memory>
     requires table { IsTable nodes.now }
     requires within { id < length nodes.now }
-    ensures wrote { OnOk result (WroteRow site (plain_word (kind (phrase (phrases_below nodes.now id) 0)) (phrases_below nodes.now id)) frame.old out.old out.new row.old row.new) }
-    ensures frame { OnOk result (frame.new ≡ after_row (plain_word (kind (phrase (phrases_below nodes.now id) 0)) (phrases_below nodes.now id)) frame.old) }
+    ensures wrote { OnOk result
+        (WroteRow site
+        (plain_word (kind (phrase (phrases_below nodes.now id) 0))
+        (phrases_below nodes.now id)) frame.old out.old out.new row.old row.new) }
+    ensures frame { OnOk result
+        (frame.new ≡ after_row
+        (plain_word (kind (phrase (phrases_below nodes.now id) 0)) (phrases_below nodes.now id)) frame.old) }
     ensures cost { steps.new ≤ steps.old + 11 * plain_below nodes.now id + 10 }
 {
     match kind_at(nodes, id, 0) {
@@ -62,8 +67,13 @@ pub fn write_named<L: Ledger>(
 ) -> Result<(), Memory>
     requires table { IsTable nodes.now }
     requires within { id < length nodes.now }
-    ensures wrote { OnOk result (WroteRow site (plain_statement (phrase (phrases_below nodes.now id) 0) (phrases_below nodes.now id)) frame.old out.old out.new row.old row.new) }
-    ensures frame { OnOk result (frame.new ≡ after_row (plain_statement (phrase (phrases_below nodes.now id) 0) (phrases_below nodes.now id)) frame.old) }
+    ensures wrote { OnOk result
+        (WroteRow site
+        (plain_statement (phrase (phrases_below nodes.now id) 0)
+        (phrases_below nodes.now id)) frame.old out.old out.new row.old row.new) }
+    ensures frame { OnOk result
+        (frame.new ≡ after_row
+        (plain_statement (phrase (phrases_below nodes.now id) 0) (phrases_below nodes.now id)) frame.old) }
     ensures cost { steps.new ≤ steps.old + 18 * plain_below nodes.now id + 15 }
 {
     match child_at(nodes, id, 0) {

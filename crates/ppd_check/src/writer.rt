@@ -31,7 +31,9 @@ pub fn put_stmt<L: Ledger>(
 ) -> Result<(), Memory>
     ensures exprs { out.new.exprs ≡ out.old.exprs }
     ensures found { out.new.found ≡ out.old.found }
-    ensures stmts { OnOk result (out.new.stmts ≡ out.old.stmts ++ record { place = place; body = site.body; parent = site.parent; kind = kind } ∷ []) }
+    ensures stmts { OnOk result
+        (out.new.stmts ≡ out.old.stmts
+        ++ record { place = place; body = site.body; parent = site.parent; kind = kind } ∷ []) }
     ensures row { OnOk result (row.new ≡ row.old ++ length out.old.stmts ∷ []) }
     ensures cost { steps.new ≤ steps.old + 2 }
 {

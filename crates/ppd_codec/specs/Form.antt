@@ -121,7 +121,8 @@ abbrev pub Along : {S A : Type 0} → (S → A → Bool) → (A → S) → S →
 Along fits leaves s [] = ⊤
 Along fits leaves s (x ∷ xs) = (fits s x ≡ true) × Along fits leaves (leaves x) xs
 
-abbrev pub listed_along : {S A : Type 0} → Form ℕ → (ℕ → BadBytes) → (S → A → Bool) → (A → S) → S → Form A → Form (List A)
+abbrev pub listed_along : {S A : Type 0} → Form ℕ → (ℕ → BadBytes) → (S → A → Bool) → (A → S) → S → Form A
+    → Form (List A)
 listed_along count bad fits leaves s f = record {
   Lawful = λ xs. count.Lawful (length xs) × AllByRecursion f.Lawful xs × Along fits leaves s xs;
   bytes = λ xs. count.bytes (length xs) ++ flat_map f.bytes xs;

@@ -91,7 +91,8 @@ kind_code kind.Done = 5
 
 -- the kinds of version 1, and of version 2
 abbrev pub kinds : ℕ → List SyncKind
-kinds v = if nat_eq v 2 then kind.P ∷ kind.V ∷ kind.Send ∷ kind.Recv ∷ kind.Done ∷ [] else kind.P ∷ kind.V ∷ kind.Send ∷ kind.Recv ∷ []
+kinds v = if nat_eq v 2 then kind.P ∷ kind.V ∷ kind.Send ∷ kind.Recv ∷ kind.Done ∷ []
+    else kind.P ∷ kind.V ∷ kind.Send ∷ kind.Recv ∷ []
 
 abbrev pub sync_kind : ℕ → Form SyncKind
 sync_kind v = one_of (out_of F.Kind) kind_code (kinds v) byte
@@ -119,7 +120,9 @@ abbrev pub Sync : Type 0
 Sync = SyncKind × (ℕ × (ℕ × (ℤ × (List ℕ × List ℕ))))
 
 abbrev pub synced : Facts → Form Sync
-synced f = pair (sync_kind f.version) (λ k. pair byte (λ o. pair sync_number (λ n. pair (sync_value k) (λ v. pair (cells f.shared) (λ r. cells f.shared)))))
+synced f = pair (sync_kind f.version)
+    (λ k. pair byte
+    (λ o. pair sync_number (λ n. pair (sync_value k) (λ v. pair (cells f.shared) (λ r. cells f.shared)))))
 
 abbrev pub status_code : Status → ℕ
 status_code status.Ended = 0
@@ -132,7 +135,8 @@ status_code status.Budget = 6
 status_code status.Blocked = 7
 
 abbrev pub statuses : List Status
-statuses = status.Ended ∷ status.Trap trap.Overflow ∷ status.Trap trap.Zero ∷ status.Trap trap.Index ∷ status.Trap trap.Assert ∷ status.Trap trap.Depth ∷ status.Budget ∷ status.Blocked ∷ []
+statuses = status.Ended ∷ status.Trap trap.Overflow ∷ status.Trap trap.Zero ∷ status.Trap trap.Index
+    ∷ status.Trap trap.Assert ∷ status.Trap trap.Depth ∷ status.Budget ∷ status.Blocked ∷ []
 
 abbrev pub end_status : Form Status
 end_status = one_of (out_of F.Status) status_code statuses byte

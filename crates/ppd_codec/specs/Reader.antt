@@ -29,7 +29,9 @@ next r more at bytes = after (r at bytes) more
 
 -- a field of so many bytes, which is whole
 abbrev pub field : {A : Type 0} → ℕ → (List ℕ → A) → Reader A
-field w of at bytes = if nat_le w (length bytes) then Ok (record { value = of (take w bytes); at = at + w; rest = drop w bytes }) else Err (Short at)
+field w of at bytes =
+    if nat_le w (length bytes) then Ok (record { value = of (take w bytes); at = at + w; rest = drop w bytes })
+    else Err (Short at)
 
 abbrev pub or_refuse : {B : Type 0} → BadBytes → Option B → Reader B
 or_refuse bad None = refuse bad

@@ -28,7 +28,8 @@ abbrev pub version_of : List Chan → ℕ
 version_of chans = if list_any is_rendezvous chans then 2 else 1
 
 abbrev pub facts_of : Program → Facts
-facts_of p = record { version = version_of p.chans; processes = length p.bodies - p.functions; shared = length p.starts }
+facts_of p =
+    record { version = version_of p.chans; processes = length p.bodies - p.functions; shared = length p.starts }
 
 -- ---- the three as the fields of the form
 

@@ -1,3 +1,4 @@
+use ppd_ast::Memory;
 use ppd_check::SourceError;
 
 /// The field of a recording that has no lawful value.
@@ -37,4 +38,15 @@ pub enum BadBytes {
     TooLong,
     /// Want of memory.
     Memory,
+}
+
+impl From<Memory> for BadBytes {
+    ghost use Rattle.std.specs.Prelude.{◌≡◌};
+    ghost use Rattle.ppd_codec.specs.declared.bad.BadBytes.TheVariants as bad;
+
+    ghost from_gives = { λ _ e. e ≡ bad.Memory };
+
+    fn from(_memory: Memory) -> BadBytes {
+        BadBytes::Memory
+    }
 }

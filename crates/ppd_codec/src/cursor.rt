@@ -20,7 +20,8 @@ impl<'a> Cursor<'a> {
     fn take<const N: usize, L: Ledger>(&mut self, steps: &mut Steps<L>) -> Result<[u8; N], BadBytes>
         requires some { 1 ≤ N }
         requires room { self.old.at + length self.old.rest.now < 2 ^ 32 }
-        ensures ok { IfOk result (λ bytes. Came (field N (λ bs. bs)) self.old.at self.old.rest.now self.new.at self.new.rest.now bytes) }
+        ensures ok { IfOk result
+            (λ bytes. Came (field N (λ bs. bs)) self.old.at self.old.rest.now self.new.at self.new.rest.now bytes) }
         ensures err { IfErr result (Refuses (field N (λ bs. bs)) self.old.at self.old.rest.now) }
         ensures within { self.new.at + length self.new.rest.now ≤ self.old.at + length self.old.rest.now }
         ensures cost { steps.new + length self.new.rest.now ≤ steps.old + length self.old.rest.now }

@@ -38,7 +38,8 @@ impl<'a> Cursor<'a> {
         steps: &mut Steps<L>,
     ) -> Result<Seq<Seq<Entry>>, BadBytes>
         requires { self.old.at + length self.old.rest.now < 2 ^ 32 }
-        ensures ok { IfOk result (Came (back_form version facts).read self.old.at self.old.rest.now self.new.at self.new.rest.now) }
+        ensures ok { IfOk result
+            (Came (back_form version facts).read self.old.at self.old.rest.now self.new.at self.new.rest.now) }
         ensures err { IfErr result (Refuses (back_form version facts).read self.old.at self.old.rest.now) }
         ensures within { self.new.at + length self.new.rest.now ≤ self.old.at + length self.old.rest.now }
         ensures cost { steps.new + length self.new.rest.now ≤ steps.old + length self.old.rest.now }
@@ -58,8 +59,11 @@ impl<'a> Cursor<'a> {
         steps: &mut Steps<L>,
     ) -> Result<Seq<Seq<Entry>>, BadBytes>
         requires { self.old.at + length self.old.rest.now < 2 ^ 32 }
-        ensures ok { IfOk result (λ lists. nothing_left ((back_form version facts).read self.old.at self.old.rest.now) ≡ Ok lists) }
-        ensures err { IfErr result (λ e. e ≢ BadBytes.Memory → nothing_left ((back_form version facts).read self.old.at self.old.rest.now) ≡ Err e) }
+        ensures ok { IfOk result
+            (λ lists. nothing_left ((back_form version facts).read self.old.at self.old.rest.now) ≡ Ok lists) }
+        ensures err { IfErr result
+            (λ e. e ≢ BadBytes.Memory
+            → nothing_left ((back_form version facts).read self.old.at self.old.rest.now) ≡ Err e) }
         ensures cost { steps.new ≤ steps.old + length self.old.rest.now }
     {
         let lists = self.back(alloc, version, facts, steps)?;

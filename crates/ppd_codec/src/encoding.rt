@@ -36,7 +36,8 @@ impl Writer {
         steps: &mut Steps<L>,
     ) -> Result<(), Memory>
         requires { length source.now ≤ MOST_SOURCE_BYTES }
-        ensures ok { OnOk result (self.new.out.items ≡ self.old.out.items ++ front_form.bytes (front_of version header.now source.now)) }
+        ensures ok { OnOk result
+            (self.new.out.items ≡ self.old.out.items ++ front_form.bytes (front_of version header.now source.now)) }
         ensures cost { steps.new + length self.old.out.items ≤ steps.old + length self.new.out.items }
     {
         self.number_4(0x5050_4452, steps)?;

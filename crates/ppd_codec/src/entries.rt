@@ -38,7 +38,8 @@ impl<'a> Cursor<'a> {
         steps: &mut Steps<L>,
     ) -> Result<Entry, BadBytes>
         requires { self.old.at + length self.old.rest.now < 2 ^ 32 }
-        ensures ok { IfOk result (Came (row facts Tag.Sync).read self.old.at self.old.rest.now self.new.at self.new.rest.now) }
+        ensures ok { IfOk result
+            (Came (row facts Tag.Sync).read self.old.at self.old.rest.now self.new.at self.new.rest.now) }
         ensures err { IfErr result (Refuses (row facts Tag.Sync).read self.old.at self.old.rest.now) }
         ensures within { self.new.at + length self.new.rest.now ≤ self.old.at + length self.old.rest.now }
         ensures cost { steps.new + length self.new.rest.now ≤ steps.old + length self.old.rest.now }
@@ -67,7 +68,8 @@ impl<'a> Cursor<'a> {
         steps: &mut Steps<L>,
     ) -> Result<Entry, BadBytes>
         requires { self.old.at + length self.old.rest.now < 2 ^ 32 }
-        ensures ok { IfOk result (Came (row facts Tag.End).read self.old.at self.old.rest.now self.new.at self.new.rest.now) }
+        ensures ok { IfOk result
+            (Came (row facts Tag.End).read self.old.at self.old.rest.now self.new.at self.new.rest.now) }
         ensures err { IfErr result (Refuses (row facts Tag.End).read self.old.at self.old.rest.now) }
         ensures within { self.new.at + length self.new.rest.now ≤ self.old.at + length self.old.rest.now }
         ensures cost { steps.new + length self.new.rest.now ≤ steps.old + length self.old.rest.now }
@@ -93,7 +95,8 @@ impl<'a> Cursor<'a> {
         steps: &mut Steps<L>,
     ) -> Result<Entry, BadBytes>
         requires { self.old.at + length self.old.rest.now < 2 ^ 32 }
-        ensures ok { IfOk result (Came (row facts tag).read self.old.at self.old.rest.now self.new.at self.new.rest.now) }
+        ensures ok { IfOk result
+            (Came (row facts tag).read self.old.at self.old.rest.now self.new.at self.new.rest.now) }
         ensures err { IfErr result (Refuses (row facts tag).read self.old.at self.old.rest.now) }
         ensures within { self.new.at + length self.new.rest.now ≤ self.old.at + length self.old.rest.now }
         ensures cost { steps.new + length self.new.rest.now ≤ steps.old + length self.old.rest.now }
@@ -124,7 +127,8 @@ impl<'a> Cursor<'a> {
         steps: &mut Steps<L>,
     ) -> Result<Entry, BadBytes>
         requires { self.old.at + length self.old.rest.now < 2 ^ 32 }
-        ensures ok { IfOk result (Came (an_entry facts).read self.old.at self.old.rest.now self.new.at self.new.rest.now) }
+        ensures ok { IfOk result
+            (Came (an_entry facts).read self.old.at self.old.rest.now self.new.at self.new.rest.now) }
         ensures err { IfErr result (Refuses (an_entry facts).read self.old.at self.old.rest.now) }
         ensures within { self.new.at + length self.new.rest.now ≤ self.old.at + length self.old.rest.now }
         ensures cost { steps.new + length self.new.rest.now ≤ steps.old + length self.old.rest.now }
@@ -141,7 +145,8 @@ impl<'a> Cursor<'a> {
         steps: &mut Steps<L>,
     ) -> Result<Seq<Entry>, BadBytes>
         requires { self.old.at + length self.old.rest.now < 2 ^ 32 }
-        ensures ok { IfOk result (Came (log_form facts).read self.old.at self.old.rest.now self.new.at self.new.rest.now) }
+        ensures ok { IfOk result
+            (Came (log_form facts).read self.old.at self.old.rest.now self.new.at self.new.rest.now) }
         ensures err { IfErr result (Refuses (log_form facts).read self.old.at self.old.rest.now) }
         ensures within { self.new.at + length self.new.rest.now ≤ self.old.at + length self.old.rest.now }
         ensures cost { steps.new + length self.new.rest.now ≤ steps.old + length self.old.rest.now }
@@ -167,7 +172,8 @@ impl<'a> Cursor<'a> {
         steps: &mut Steps<L>,
     ) -> Result<Seq<Seq<Entry>>, BadBytes>
         requires { self.old.at + length self.old.rest.now < 2 ^ 32 }
-        ensures ok { IfOk result (Came (logs_form facts).read self.old.at self.old.rest.now self.new.at self.new.rest.now) }
+        ensures ok { IfOk result
+            (Came (logs_form facts).read self.old.at self.old.rest.now self.new.at self.new.rest.now) }
         ensures err { IfErr result (Refuses (logs_form facts).read self.old.at self.old.rest.now) }
         ensures within { self.new.at + length self.new.rest.now ≤ self.old.at + length self.old.rest.now }
         ensures cost { steps.new + length self.new.rest.now ≤ steps.old + length self.old.rest.now }

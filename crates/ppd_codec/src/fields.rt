@@ -98,7 +98,8 @@ impl<'a> Cursor<'a> {
     /// The length of the source, at most 262,144.
     pub fn source_length<L: Ledger>(&mut self, steps: &mut Steps<L>) -> Result<u32, BadBytes>
         requires { self.old.at + length self.old.rest.now < 2 ^ 32 }
-        ensures ok { IfOk result (Came source_length_form.read self.old.at self.old.rest.now self.new.at self.new.rest.now) }
+        ensures ok { IfOk result
+            (Came source_length_form.read self.old.at self.old.rest.now self.new.at self.new.rest.now) }
         ensures most { IfOk result (λ n. n ≤ MOST_SOURCE_BYTES) }
         ensures err { IfErr result (Refuses source_length_form.read self.old.at self.old.rest.now) }
         ensures within { self.new.at + length self.new.rest.now ≤ self.old.at + length self.old.rest.now }
@@ -119,7 +120,8 @@ impl<'a> Cursor<'a> {
         steps: &mut Steps<L>,
     ) -> Result<u8, BadBytes>
         requires { self.old.at + length self.old.rest.now < 2 ^ 32 }
-        ensures ok { IfOk result (Came (process_count_form facts).read self.old.at self.old.rest.now self.new.at self.new.rest.now) }
+        ensures ok { IfOk result
+            (Came (process_count_form facts).read self.old.at self.old.rest.now self.new.at self.new.rest.now) }
         ensures err { IfErr result (Refuses (process_count_form facts).read self.old.at self.old.rest.now) }
         ensures within { self.new.at + length self.new.rest.now ≤ self.old.at + length self.old.rest.now }
         ensures cost { steps.new + length self.new.rest.now ≤ steps.old + length self.old.rest.now }
@@ -154,7 +156,8 @@ impl<'a> Cursor<'a> {
         steps: &mut Steps<L>,
     ) -> Result<SyncKind, BadBytes>
         requires { self.old.at + length self.old.rest.now < 2 ^ 32 }
-        ensures ok { IfOk result (Came (sync_kind_form version).read self.old.at self.old.rest.now self.new.at self.new.rest.now) }
+        ensures ok { IfOk result
+            (Came (sync_kind_form version).read self.old.at self.old.rest.now self.new.at self.new.rest.now) }
         ensures err { IfErr result (Refuses (sync_kind_form version).read self.old.at self.old.rest.now) }
         ensures within { self.new.at + length self.new.rest.now ≤ self.old.at + length self.old.rest.now }
         ensures cost { steps.new + length self.new.rest.now ≤ steps.old + length self.old.rest.now }
@@ -169,7 +172,8 @@ impl<'a> Cursor<'a> {
     /// A synchronization's number, at least 1.
     pub fn sync_number<L: Ledger>(&mut self, steps: &mut Steps<L>) -> Result<u32, BadBytes>
         requires { self.old.at + length self.old.rest.now < 2 ^ 32 }
-        ensures ok { IfOk result (Came sync_number_form.read self.old.at self.old.rest.now self.new.at self.new.rest.now) }
+        ensures ok { IfOk result
+            (Came sync_number_form.read self.old.at self.old.rest.now self.new.at self.new.rest.now) }
         ensures err { IfErr result (Refuses sync_number_form.read self.old.at self.old.rest.now) }
         ensures within { self.new.at + length self.new.rest.now ≤ self.old.at + length self.old.rest.now }
         ensures cost { steps.new + length self.new.rest.now ≤ steps.old + length self.old.rest.now }
@@ -189,7 +193,8 @@ impl<'a> Cursor<'a> {
         steps: &mut Steps<L>,
     ) -> Result<i64, BadBytes>
         requires { self.old.at + length self.old.rest.now < 2 ^ 32 }
-        ensures ok { IfOk result (Came (sync_value_form kind).read self.old.at self.old.rest.now self.new.at self.new.rest.now) }
+        ensures ok { IfOk result
+            (Came (sync_value_form kind).read self.old.at self.old.rest.now self.new.at self.new.rest.now) }
         ensures err { IfErr result (Refuses (sync_value_form kind).read self.old.at self.old.rest.now) }
         ensures within { self.new.at + length self.new.rest.now ≤ self.old.at + length self.old.rest.now }
         ensures cost { steps.new + length self.new.rest.now ≤ steps.old + length self.old.rest.now }
@@ -225,7 +230,8 @@ impl<'a> Cursor<'a> {
         steps: &mut Steps<L>,
     ) -> Result<u16, BadBytes>
         requires { self.old.at + length self.old.rest.now < 2 ^ 32 }
-        ensures ok { IfOk result (Came (cell_form shared low).read self.old.at self.old.rest.now self.new.at self.new.rest.now) }
+        ensures ok { IfOk result
+            (Came (cell_form shared low).read self.old.at self.old.rest.now self.new.at self.new.rest.now) }
         ensures err { IfErr result (Refuses (cell_form shared low).read self.old.at self.old.rest.now) }
         ensures within { self.new.at + length self.new.rest.now ≤ self.old.at + length self.old.rest.now }
         ensures cost { steps.new + length self.new.rest.now ≤ steps.old + length self.old.rest.now }

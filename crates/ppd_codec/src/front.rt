@@ -23,7 +23,8 @@ impl<'a> Cursor<'a> {
     // The source's bytes, one field after their count.
     fn source<L: Ledger>(&mut self, steps: &mut Steps<L>) -> Result<&'a [u8], BadBytes>
         requires { self.old.at + length self.old.rest.now < 2 ^ 32 }
-        ensures ok { IfOk result (λ s. Came source_form.read self.old.at self.old.rest.now self.new.at self.new.rest.now s.now) }
+        ensures ok { IfOk result
+            (λ s. Came source_form.read self.old.at self.old.rest.now self.new.at self.new.rest.now s.now) }
         ensures err { IfErr result (Refuses source_form.read self.old.at self.old.rest.now) }
         ensures within { self.new.at + length self.new.rest.now ≤ self.old.at + length self.old.rest.now }
         ensures cost { steps.new + length self.new.rest.now ≤ steps.old + length self.old.rest.now }
@@ -41,7 +42,9 @@ impl<'a> Cursor<'a> {
     /// All that stands before the logs.
     pub fn front<L: Ledger>(&mut self, steps: &mut Steps<L>) -> Result<Front<'a>, BadBytes>
         requires { self.old.at + length self.old.rest.now < 2 ^ 32 }
-        ensures ok { IfOk result (λ f. Came front_form.read self.old.at self.old.rest.now self.new.at self.new.rest.now (front_of f.version f.header f.source.now)) }
+        ensures ok { IfOk result
+            (λ f. Came front_form.read self.old.at self.old.rest.now self.new.at self.new.rest.now
+            (front_of f.version f.header f.source.now)) }
         ensures policy { IfOk result (λ f. IsValidPolicy f.header.policy) }
         ensures budget { IfOk result (λ f. f.header.budget ≤ MOST_BUDGET) }
         ensures err { IfErr result (Refuses front_form.read self.old.at self.old.rest.now) }

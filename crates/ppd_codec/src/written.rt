@@ -54,7 +54,8 @@ impl Writer {
     /// Cells, with their count before them.
     pub fn cells<L: Ledger>(&mut self, cells: &[u16], steps: &mut Steps<L>) -> Result<(), Memory>
         requires { length cells.now < 2 ^ 16 }
-        ensures ok { OnOk result ((shared : ℕ) → self.new.out.items ≡ self.old.out.items ++ (cells_form shared).bytes cells.now) }
+        ensures ok { OnOk result
+            ((shared : ℕ) → self.new.out.items ≡ self.old.out.items ++ (cells_form shared).bytes cells.now) }
         ensures cost { steps.new + length self.old.out.items ≤ steps.old + length self.new.out.items }
     {
         self.number_2(cells.len() as u16, steps)?;
@@ -73,7 +74,9 @@ impl Writer {
         steps: &mut Steps<L>,
     ) -> Result<(), Memory>
         requires { length values.now < 2 ^ 16 }
-        ensures ok { OnOk result (self.new.out.items ≡ self.old.out.items ++ (byte_form.bytes tag ++ (number_2_form.bytes number ++ values_form.bytes values.now))) }
+        ensures ok { OnOk result
+            (self.new.out.items ≡ self.old.out.items
+            ++ (byte_form.bytes tag ++ (number_2_form.bytes number ++ values_form.bytes values.now))) }
         ensures cost { steps.new + length self.old.out.items ≤ steps.old + length self.new.out.items }
     {
         self.byte(tag, steps)?;
@@ -84,7 +87,8 @@ impl Writer {
     /// An entry; its bytes are the same whatever the source is.
     pub fn entry<L: Ledger>(&mut self, entry: &Entry, steps: &mut Steps<L>) -> Result<(), Memory>
         requires { IsCounted entry.now }
-        ensures ok { OnOk result ((f : Facts) → self.new.out.items ≡ self.old.out.items ++ (an_entry f).bytes entry.now) }
+        ensures ok { OnOk result
+            ((f : Facts) → self.new.out.items ≡ self.old.out.items ++ (an_entry f).bytes entry.now) }
         ensures cost { steps.new + length self.old.out.items ≤ steps.old + length self.new.out.items }
     {
         match entry {
@@ -125,7 +129,8 @@ impl Writer {
     /// The log of a process, with the count of its entries before them.
     pub fn log<L: Ledger>(&mut self, entries: &[Entry], steps: &mut Steps<L>) -> Result<(), Memory>
         requires { IsCountedLog entries.now }
-        ensures ok { OnOk result ((f : Facts) → self.new.out.items ≡ self.old.out.items ++ (log_form f).bytes entries.now) }
+        ensures ok { OnOk result
+            ((f : Facts) → self.new.out.items ≡ self.old.out.items ++ (log_form f).bytes entries.now) }
         ensures cost { steps.new + length self.old.out.items ≤ steps.old + length self.new.out.items }
     {
         self.number_4(entries.len() as u32, steps)?;
@@ -143,7 +148,8 @@ impl Writer {
     ) -> Result<(), Memory>
         requires few { length logs.now < 2 ^ 8 }
         requires each { All IsCountedLog logs.now }
-        ensures ok { OnOk result ((f : Facts) → self.new.out.items ≡ self.old.out.items ++ (logs_form f).bytes logs.now) }
+        ensures ok { OnOk result
+            ((f : Facts) → self.new.out.items ≡ self.old.out.items ++ (logs_form f).bytes logs.now) }
         ensures cost { steps.new + length self.old.out.items ≤ steps.old + length self.new.out.items }
     {
         self.byte(logs.len() as u8, steps)?;

@@ -1,1 +1,1 @@
-mod Policies
+pub mod Policies

@@ -33,7 +33,7 @@ all_whole p (kind ∷ kinds) all =
     All-cons (λ x. IsWholeBlock p x x.kind) (block_of p kind) (map (block_of p) kinds) (one_whole p kind (all 0 (block_of p kind) (omega arith)))
     (all_whole p kinds (λ k d h. all (suc k) d (omega arith)))
 
-whole : (p : Program) (policy : Policy) → IsValidPlan p (plan_of p policy) → HasWholePrelogs p (plan_of p policy)
+pub whole : (p : Program) (policy : Policy) → IsValidPlan p (plan_of p policy) → HasWholePrelogs p (plan_of p policy)
 whole p policy v = all_whole p (blocks_by p.stmts policy p.bodies) v.blocks
 
 pub policy_steps : PolicyStepsCostWhatTheyWrite

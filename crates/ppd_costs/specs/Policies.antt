@@ -14,12 +14,15 @@ use Rattle.ppd_model.specs.Story.{told}
 -- the next step of each process after each schedule costs what it writes
 abbrev pub PolicyStepsCostWhatTheyWrite : Type 0
 PolicyStepsCostWhatTheyWrite =
-    (program : Program) (policy : Policy) (budget : ℕ) (h : List ℕ) (p : ℕ) (l : Logging) → IsValid program → IsValidPolicy policy
+    (program : Program) (policy : Policy) (budget : ℕ) (h : List ℕ) (p : ℕ) (l : Logging) → IsValid program
+    → IsValidPolicy policy
     → slice_get (loggings program (plan_of program policy) budget h) p ≡ Some l
-    → CostsWhatItWrites program (plan_of program policy) budget l (logged_moment program (plan_of program policy) (told program (plan_of program policy) budget h).world p)
+    → CostsWhatItWrites program (plan_of program policy) budget l
+    (logged_moment program (plan_of program policy) (told program (plan_of program policy) budget h).world p)
 
 -- each process has spent its steps and the values of its log, but for the entries of the start
 abbrev pub PolicyLogsArePaid : Type 0
 PolicyLogsArePaid =
-    (program : Program) (policy : Policy) (budget : ℕ) (h : List ℕ) (p : ℕ) (l : Logging) → IsValid program → IsValidPolicy policy
+    (program : Program) (policy : Policy) (budget : ℕ) (h : List ℕ) (p : ℕ) (l : Logging) → IsValid program
+    → IsValidPolicy policy
     → slice_get (loggings program (plan_of program policy) budget h) p ≡ Some l → HasSpent l

@@ -55,7 +55,8 @@ follow_if program (Some s) = follow program s
 abbrev pub IsMarkedBehind : Program → Plan → (s : Option ℕ) → List Todo → Type 0
 IsMarkedBehind program plan None ts = ⊤
 IsMarkedBehind program plan (Some s) [] = ⊤
-IsMarkedBehind program plan (Some s) (t ∷ ts) = (b : ℕ) → block_of plan (Loop t.stmt) ≡ Some b → t.entered ≡ stands_in program s t.stmt
+IsMarkedBehind program plan (Some s) (t ∷ ts) =
+    (b : ℕ) → block_of plan (Loop t.stmt) ≡ Some b → t.entered ≡ stands_in program s t.stmt
 
 -- these are to do behind statement s: first what follows it
 pub record IsBehind (program : Program) (plan : Plan) (s : Option ℕ) (todo : List Todo) : Type 0 where
@@ -86,7 +87,8 @@ pub record GoesAlong (program : Program) (plan : Plan) (s : ℕ) (t : Todo) : Ty
   pub next : IsTrue (has (next_of program s) t.stmt)
   pub same_unit : is_left (kind_of program s) ≡ false
   pub marks : (b : ℕ) → block_of plan (Loop t.stmt) ≡ Some b → t.entered ≡ stands_in program s t.stmt
-  pub inside : (b : ℕ) → is_while (kind_of program s) ≡ true → block_of plan (Loop s) ≡ Some b → stands_in program t.stmt s ≡ true
+  pub inside : (b : ℕ) → is_while (kind_of program s) ≡ true → block_of plan (Loop s) ≡ Some b
+      → stands_in program t.stmt s ≡ true
 
 -- the same, if the process still has something to do
 abbrev pub GoesOn : Program → Plan → ℕ → List Todo → Type 0
@@ -112,7 +114,8 @@ pub record OffersSend (s : ℕ) (before after : List Todo) : Type 0 where
   pub stmt_is : head.stmt ≡ s
 
 -- the process goes on behind statement s, where unit u starts, by this start
-pub record StartsBehind (program : Program) (plan : Plan) (s : ℕ) (start : Start) (u : ℕ) (todo : List Todo) : Type 0 where
+pub record StartsBehind (program : Program) (plan : Plan) (s : ℕ) (start : Start) (u : ℕ)
+    (todo : List Todo) : Type 0 where
   pub goes : IsBehind program plan (Some s) todo
   pub unit_is : u ≡ unit_of plan start
 

@@ -18,22 +18,27 @@ pub record BeginsOnCourse (program : Program) (plan : Plan) (p budget : ℕ) : T
   pub first : BeginsList (top_of program (program.functions + p)) (started program plan p budget).todo
 
 abbrev pub StartsOnCourse : Type 0
-StartsOnCourse = (program : Program) (plan : Plan) (p budget : ℕ) → IsValid program → BeginsOnCourse program plan p budget
+StartsOnCourse =
+    (program : Program) (plan : Plan) (p budget : ℕ) → IsValid program → BeginsOnCourse program plan p budget
 
 -- no step leaves the course, whatever answer it gets
 abbrev pub StaysOnCourse : Type 0
-StaysOnCourse = (program : Program) (plan : Plan) (s : Proc) (a : Answer) → IsValid program → IsOnCourse program plan s → IsOnCourse program plan (act program plan s a)
+StaysOnCourse =
+    (program : Program) (plan : Plan) (s : Proc) (a : Answer) → IsValid program → IsOnCourse program plan s
+    → IsOnCourse program plan (act program plan s a)
 
 -- each step goes along the flow graph, into a function or back behind its call, as its need says
 abbrev pub StepsLead : Type 0
 StepsLead =
-    (program : Program) (plan : Plan) (s : Proc) (a : Answer) (h : ℕ) → IsValid program → IsOnCourse program plan s → head_of s.todo ≡ Some h
+    (program : Program) (plan : Plan) (s : Proc) (a : Answer) (h : ℕ) → IsValid program → IsOnCourse program plan s
+    → head_of s.todo ≡ Some h
     → LeadsTo program plan (need_of program plan s) h (top_call s.frames) s (act program plan s a)
 
 -- a shared cell that a step reads is one that its statement may read
 abbrev pub ReadsItsCells : Type 0
 ReadsItsCells =
-    (program : Program) (plan : Plan) (s : Proc) (h c : ℕ) → head_of s.todo ≡ Some h → need_of program plan s ≡ Read c → IsTrue (has (reads_at true program h) c)
+    (program : Program) (plan : Plan) (s : Proc) (h c : ℕ) → head_of s.todo ≡ Some h
+    → need_of program plan s ≡ Read c → IsTrue (has (reads_at true program h) c)
 
 -- in a valid program nothing follows a `Return` or an `End`
 abbrev pub EndsAreLast : Type 0
@@ -41,7 +46,10 @@ EndsAreLast = (program : Program) (s : ℕ) → IsValid program → IsEnding (ki
 
 -- a process of a valid program never runs out of statements: until it stops there is its `End` to come
 pub record NeverRunsOut : Type 0 where
-  pub starts : (program : Program) (plan : Plan) (p budget : ℕ) → IsValid program → program.functions + p < length program.bodies → GoesUntilEnd program (started program plan p budget)
-  pub stays : (program : Program) (plan : Plan) (s : Proc) (a : Answer) → GoesUntilEnd program s → GoesUntilEnd program (act program plan s a)
+  pub starts : (program : Program) (plan : Plan) (p budget : ℕ) → IsValid program
+      → program.functions + p < length program.bodies → GoesUntilEnd program (started program plan p budget)
+  pub stays : (program : Program) (plan : Plan) (s : Proc) (a : Answer) → GoesUntilEnd program s
+      → GoesUntilEnd program (act program plan s a)
   -- so until it stops it needs something
-  pub needs : (program : Program) (plan : Plan) (s : Proc) → GoesUntilEnd program s → s.status ≡ None → need_of program plan s ≢ Stopped
+  pub needs : (program : Program) (plan : Plan) (s : Proc) → GoesUntilEnd program s → s.status ≡ None
+      → need_of program plan s ≢ Stopped

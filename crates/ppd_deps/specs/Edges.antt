@@ -61,7 +61,8 @@ kept_rows p b x = map (kept_next p b x) (range_with_len 0 (length p.stmts))
 -- at the entry of b, where s calls b and v is a parameter
 abbrev pub begins : Program → (b s v : ℕ) → List ℕ
 begins p b s v =
-    flat_map (next_of p) (filter (λ c. has (local_writes p c) v) (places p b s)) ++ (if passes p b s v then to_list (first_or (top_of p b) None) else [])
+    flat_map (next_of p) (filter (λ c. has (local_writes p c) v) (places p b s))
+    ++ (if passes p b s v then to_list (first_or (top_of p b) None) else [])
 
 -- whether what s writes to variable v of body b may come to statement t
 abbrev pub comes_to : Program → (b s v t : ℕ) → Bool

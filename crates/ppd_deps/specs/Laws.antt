@@ -9,11 +9,14 @@ use Rattle.ppd_deps.specs.declared.edges.StaticEdge.TheVariants.{Data}
 use Rattle.ppd_deps.specs.Edges.{begins, edges_of, ends_paths}
 use Rattle.ppd_deps.specs.Named.{body_of, local_reads, locals_of, shared_reads, shared_writes}
 
--- statement u and then this list are a flow path of body b that ends with t, and no statement before t ends the paths of
+-- statement u and then this list are a flow path of body b that ends with t, and no statement before t ends the paths
+-- of
 -- the variable
 abbrev pub IsKeptPath : Program → (b : ℕ) → Option Var → ℕ → List ℕ → ℕ → Type 0
 IsKeptPath p b x u [] t = u ≡ t
-IsKeptPath p b x u (w ∷ rest) t = IsTrue (has (next_of p u) w) × ((body_of p u ≡ b) × ((ends_paths x (kind_of p u) ≡ false) × IsKeptPath p b x w rest t))
+IsKeptPath p b x u (w ∷ rest) t =
+    IsTrue (has (next_of p u) w)
+    × ((body_of p u ≡ b) × ((ends_paths x (kind_of p u) ≡ false) × IsKeptPath p b x w rest t))
 
 -- t reads the local variable v of its body, and such a path leads to t from where the paths of what s writes to v begin
 pub record HasPath (p : Program) (s v t : ℕ) : Type 0 where

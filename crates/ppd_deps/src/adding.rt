@@ -38,7 +38,9 @@ fn add_shared_edge(
     requires valid { IsValid program.now }
     requires tables { AreTables program.now tables.now }
     requires long { length rows.old ≡ length program.now.stmts }
-    ensures { OnOk result (Adds rows.old rows.new (λ t. if has (shared_reads program.now t) var then shared_edge stmt var ∷ [] else [])) }
+    ensures { OnOk result
+        (Adds rows.old rows.new
+        (λ t. if has (shared_reads program.now t) var then shared_edge stmt var ∷ [] else [])) }
 {
     let edge = StaticEdge::Data {
         from: stmt,
@@ -63,7 +65,8 @@ fn add_shared_edges(
     requires valid { IsValid program.now }
     requires tables { AreTables program.now tables.now }
     requires long { length rows.old ≡ length program.now.stmts }
-    ensures { OnOk result (Adds rows.old rows.new (λ t. map (shared_edge stmt) (filter (has (shared_reads program.now t)) vars.now))) }
+    ensures { OnOk result
+        (Adds rows.old rows.new (λ t. map (shared_edge stmt) (filter (has (shared_reads program.now t)) vars.now))) }
 {
     for index in 0..vars.len() {
         add_shared_edge(rows, program, tables, stmt, vars[index])?;
@@ -182,7 +185,9 @@ fn add_locals(
     requires tables { AreTables program.now tables.now }
     requires long { length rows.old ≡ length program.now.stmts }
     requires there { stmt < length program.now.stmts }
-    ensures { OnOk result (Adds rows.old rows.new (λ t. at_body program.now body t (map (local_edge stmt) (locals_from program.now stmt t)))) }
+    ensures { OnOk result
+        (Adds rows.old rows.new
+        (λ t. at_body program.now body t (map (local_edge stmt) (locals_from program.now stmt t)))) }
 {
     let places = places(alloc, program, stmt, body)?;
     let writer = Writer { stmt, places };

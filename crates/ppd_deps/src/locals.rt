@@ -60,7 +60,9 @@ fn does_end(vars: &[Var], number: u16, kind: &Kind) -> bool
 // Whether a value of the variable is still there behind the statement.
 fn is_kept(program: &Program, local: Local, stmt: u32) -> bool
     requires { stmt < length program.now.stmts }
-    ensures { result ≡ (nat_eq (body_of program.now stmt) local.body && not (ends_paths (slice_get (locals_of program.now local.body) local.var) (kind_of program.now stmt))) }
+    ensures { result
+        ≡ (nat_eq (body_of program.now stmt) local.body
+        && not (ends_paths (slice_get (locals_of program.now local.body) local.var) (kind_of program.now stmt))) }
 {
     let found = &program.stmts.as_slice()[stmt as usize];
     found.body == local.body && !does_end(locals(program, local.body), local.var, &found.kind)
@@ -85,7 +87,9 @@ fn kept_row(
 ) -> Result<Ids, Memory>
     requires tables { AreTables program.now tables.now }
     requires there { stmt < length program.now.stmts }
-    ensures { IfOk result (λ ids. ids ≡ kept_next program.now local.body (slice_get (locals_of program.now local.body) local.var) stmt) }
+    ensures { IfOk result
+        (λ ids. ids ≡ kept_next program.now local.body
+        (slice_get (locals_of program.now local.body) local.var) stmt) }
 {
     if is_kept(program, local, stmt) {
         return copy(alloc, tables.next_at(program, stmt));
@@ -101,7 +105,8 @@ fn kept_rows(
 ) -> Result<Seq<Ids>, Memory>
     requires tables { AreTables program.now tables.now }
     requires count { length program.now.stmts < 2 ^ 32 }
-    ensures { IfOk result (λ rows. rows ≡ kept_rows program.now local.body (slice_get (locals_of program.now local.body) local.var)) }
+    ensures { IfOk result
+        (λ rows. rows ≡ kept_rows program.now local.body (slice_get (locals_of program.now local.body) local.var)) }
 {
     let mut rows = Seq::new(alloc);
     for stmt in 0..program.stmts.len() {
@@ -141,7 +146,9 @@ fn begins_at(
 ) -> Result<Ids, Memory>
     requires tables { AreTables program.now tables.now }
     requires there { AreBelow (length program.now.stmts) places.now }
-    ensures { IfOk result (λ ids. ids ≡ flat_map (next_of program.now) (filter (λ c. has (local_writes program.now c) local.var) places.now)) }
+    ensures { IfOk result
+        (λ ids. ids ≡ flat_map (next_of program.now)
+        (filter (λ c. has (local_writes program.now c) local.var) places.now)) }
 {
     let mut starts = Ids::new(alloc);
     for place in places {
@@ -183,7 +190,8 @@ fn end_of(stmts: &[Stmt], body: &Body) -> u32
 
 // The calls of the function among the body's statements.
 fn calls_in(alloc: Global, program: &Program, function: u16, body: &Body) -> Result<Ids, Memory>
-    ensures { IfOk result (λ ids. ids ≡ filter (λ c. calls program.now c function) (numbers_of program.now.stmts body.now)) }
+    ensures { IfOk result
+        (λ ids. ids ≡ filter (λ c. calls program.now c function) (numbers_of program.now.stmts body.now)) }
 {
     let mut ids = Ids::new(alloc);
     for stmt in body.first..end_of(program.stmts.as_slice(), body) {
@@ -247,7 +255,11 @@ pub(crate) fn arrivals(
     requires tables { AreTables program.now tables.now }
     requires starts { AreBelow (length program.now.stmts) starts.now }
     ensures long { IfOk result (λ marks. length marks.items ≡ length program.now.stmts) }
-    ensures reached { IfOk result (λ marks. (t : ℕ) → is_marked marks.items t ≡ leads (closed (kept_rows program.now local.body (slice_get (locals_of program.now local.body) local.var))) starts.now t) }
+    ensures reached { IfOk result
+        (λ marks. (t : ℕ)
+        → is_marked marks.items t
+        ≡ leads (closed
+        (kept_rows program.now local.body (slice_get (locals_of program.now local.body) local.var))) starts.now t) }
 {
     let rows = kept_rows(alloc, program, tables, local)?;
     let marks = reach(alloc, rows.as_slice(), starts)?;

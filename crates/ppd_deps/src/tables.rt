@@ -114,7 +114,8 @@ fn shared_rows(alloc: Global, program: &Program, sets: &VarSets) -> Result<Seq<C
     requires valid { IsValid program.now }
     requires sets { AreSetsOf program.now sets.now }
     requires count { length program.now.stmts < 2 ^ 32 }
-    ensures { IfOk result (λ rows. rows ≡ map (shared_reads program.now) (range_with_len 0 (length program.now.stmts))) }
+    ensures { IfOk result
+        (λ rows. rows ≡ map (shared_reads program.now) (range_with_len 0 (length program.now.stmts))) }
 {
     let mut rows = Seq::new(alloc);
     for stmt in 0..program.stmts.len() {
@@ -160,7 +161,8 @@ fn written_row(alloc: Global, program: &Program, stmt: u32) -> Result<Cells, Mem
 fn written_rows(alloc: Global, program: &Program) -> Result<Seq<Cells>, Memory>
     requires valid { IsValid program.now }
     requires count { length program.now.stmts < 2 ^ 32 }
-    ensures { IfOk result (λ rows. rows ≡ map (local_writes program.now) (range_with_len 0 (length program.now.stmts))) }
+    ensures { IfOk result
+        (λ rows. rows ≡ map (local_writes program.now) (range_with_len 0 (length program.now.stmts))) }
 {
     let mut rows = Seq::new(alloc);
     for stmt in 0..program.stmts.len() {

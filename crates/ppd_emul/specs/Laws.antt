@@ -34,12 +34,14 @@ TurnsAreSteps = (program : Program) (plan : Plan) (r : Replaying) → TakesOneSt
 
 -- a replay takes no more steps than its budget has
 abbrev pub ReplaysAreWithinBudget : Type 0
-ReplaysAreWithinBudget = (program : Program) (plan : Plan) (l : IntervalLog) (budget : ℕ) → (replay program plan l budget).steps ≤ budget
+ReplaysAreWithinBudget =
+    (program : Program) (plan : Plan) (l : IntervalLog) (budget : ℕ) → (replay program plan l budget).steps ≤ budget
 
 -- two counts of turns that are both more than what is left of the budget come to the same
 abbrev pub TurnsSuffice : Type 0
 TurnsSuffice = (program : Program) (plan : Plan) (m n : ℕ) (r : Replaying) → r.proc.spent ≤ r.proc.budget
-    → r.proc.budget < r.proc.spent + m → r.proc.budget < r.proc.spent + n → replay_from program plan m r ≡ replay_from program plan n r
+    → r.proc.budget < r.proc.spent + m → r.proc.budget < r.proc.spent + n
+    → replay_from program plan m r ≡ replay_from program plan n r
 
 -- ---- failures
 

@@ -2,3 +2,4 @@
 pub mod Fits
 pub mod Replay
 pub mod Laws
+pub mod Ending

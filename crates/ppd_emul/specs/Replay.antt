@@ -68,7 +68,8 @@ past_piece r = record r { pieces = drop 1 r.pieces; since = 0 }
 
 -- the start of a unit sets the values in force
 abbrev pub unit_taken : Plan → ℕ → Piece → Replaying → Replaying
-unit_taken plan u (unit v values) r = record (past_piece r) { in_force = zip (cells_of_unit (slice_get plan.units u)) values }
+unit_taken plan u (unit v values) r =
+    record (past_piece r) { in_force = zip (cells_of_unit (slice_get plan.units u)) values }
 unit_taken plan u piece r = r
 
 -- unit u starts: the next piece has to be that
@@ -132,7 +133,8 @@ with_call program plan need r = r
 abbrev pub synchronize : Program → Plan → Need → ℕ → ℤ → Replaying → Turn
 synchronize program plan need number value r =
     let a = received need value in
-    take_unit_if plan (unit_started need) (past_piece (stepped program plan a (with_event program plan a (Some number) r)))
+    take_unit_if plan (unit_started need)
+    (past_piece (stepped program plan a (with_event program plan a (Some number) r)))
 
 -- a nested interval that was left: its postlog is applied in its place, and the unit after it starts
 abbrev pub skip_nested : Program → Plan → Need → ℕ → ℕ → List ℤ → Replaying → Turn
@@ -156,7 +158,8 @@ abbrev pub step_without : Program → Plan → Need → Replaying → Turn
 step_without program plan (Read c) r = more (stepped program plan (Value (value_in_force r.in_force c)) r)
 step_without program plan Stopped r = fail r wanted.Fewer
 step_without program plan need r =
-    take_unit_if plan (unit_started need) (stepped program plan Go (with_write need (with_event program plan Go None r)))
+    take_unit_if plan (unit_started need)
+    (stepped program plan Go (with_write need (with_event program plan Go None r)))
 
 -- ---- one turn
 
@@ -174,7 +177,8 @@ goes_on program plan need r = fail r (unwrap_or (wanted_of program plan r.proc n
 abbrev pub turn_at_trap : Program → Plan → TrapOf → Option TrapOf → Need → Replaying → Turn
 turn_at_trap program plan t None need r = goes_on program plan need r
 turn_at_trap program plan t (Some t') need r =
-    if same_trap t t' then finished (counted (with_event program plan Go None r)) else fail r (wanted.End (status.Trap t'))
+    if same_trap t t' then finished (counted (with_event program plan Go None r))
+    else fail r (wanted.End (status.Trap t'))
 
 -- the process ends here, after its steps: it traps, or was blocked at a synchronization
 abbrev pub turn_at_end : Program → Plan → Status → Need → Replaying → Turn
@@ -217,7 +221,8 @@ go_on (done x) next = x
 
 -- a replay that is out of turns
 abbrev pub out_of_turns : Replaying → Replayed
-out_of_turns r = record { steps = r.steps; answer = Err (Diverged (next_piece r).0 wanted.Fewer (found_of (next_piece r).1)) }
+out_of_turns r =
+    record { steps = r.steps; answer = Err (Diverged (next_piece r).0 wanted.Fewer (found_of (next_piece r).1)) }
 
 -- so many turns at most; each that goes on costs at least 1, so one more than the budget are enough
 abbrev pub replay_from : Program → Plan → ℕ → Replaying → Replayed

@@ -1,3 +1,4 @@
+ghost use Rattle.ppd_emul.specs.Ending.{ReplaysEndByTurns, TurnsEnd};
 ghost use Rattle.ppd_emul.specs.Laws.{FailuresDiffer, ReplaysAreWithinBudget, TurnsAreSteps, TurnsSuffice};
 
 /// Law: each turn of a replay that goes on takes exactly one step of its process, which the
@@ -18,4 +19,11 @@ pub fn replays_are_within_budget()
 /// one trap.
 pub fn failures_differ()
     ensures { FailuresDiffer }
+{}
+
+/// Law: a replay is never out of turns. It is over with its first unit, or some turns go on and the one
+/// after them ends it; so it is with any count of turns that is more than what is left of the budget.
+pub fn replays_end_by_turns()
+    ensures replays { ReplaysEndByTurns }
+    ensures turns { TurnsEnd }
 {}

@@ -5,7 +5,9 @@ mod laws;
 mod trace;
 mod wanted;
 
-pub use laws::{failures_differ, replays_are_within_budget, replays_count_their_steps};
+pub use laws::{
+    failures_differ, replays_are_within_budget, replays_count_their_steps, replays_end_by_turns,
+};
 pub use ppd_entry::Piece;
 pub use ppd_model::Item;
 pub use trace::{BlockTrace, EmulError};

@@ -15,7 +15,8 @@ use std::thread::Threads;
 
 const SOURCE: &str = "process a { print(1); } process b { print(2); }";
 
-const WRITTEN: &[u8] = b"process a ended steps 2\nprint a 1\nprocess b ended steps 2\nprint b 2\n";
+const WRITTEN: &[u8] =
+    b"process a ended steps 2\nprint a 1\nprocess b ended steps 2\nprint b 2\nraces 0\n";
 
 /// Holds worker 1 at its first pass until worker 0 has come to its first, and worker 0 there until worker 1
 /// has come to its fifth. Each waits for 1,000,000 yields at most.

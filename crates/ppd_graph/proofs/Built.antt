@@ -20,7 +20,7 @@ use Rattle.ppd_graph.specs.ByNumber.{IsTwice}
 use Rattle.ppd_graph.specs.Cycles.{AllWait, IsCycle, IsRoundsCycle}
 use Rattle.ppd_graph.specs.Graphs.{IsGraphOf}
 use Rattle.ppd_model.specs.RecordedSets.{record_in, sync_in}
-use Rattle.ppd_graph.specs.LogRecord.{AreFew, ended_by, found_after, sets_from, sets_in}
+use Rattle.ppd_graph.specs.LogRecord.{AreFew, ended_by, found_after, sets_from, edge_sets_in}
 use Rattle.ppd_graph.specs.Partners.{pairs_of, partner_of}
 use Rattle.ppd_graph.specs.Refusals.{AreNumbered, AreOrdered, IsRefused, IsRefusedFor, placed, without_object}
 use Rattle.ppd_graph.specs.Times.{ArePartners, AreTimed, HasAll, IsReady, own_pairs, own_times}
@@ -73,20 +73,20 @@ module _ (logs : Logs) where
       let small = few q in
       omega (arith, same, less, small)
 
-  edges_there : (q j : ℕ) → j < length (get_or (sets_in logs) q []) → (q < length logs.lists) × (j ≤ length (own_syncs (record_in logs) q))
+  edges_there : (q j : ℕ) → j < length (get_or (edge_sets_in logs) q []) → (q < length logs.lists) × (j ≤ length (own_syncs (record_in logs) q))
   edges_there q j lt =
-      let inside : q < length logs.lists = subst (λ n. q < n) (length_mapped (sets_from None) logs.lists) (own_below (sets_in logs) q j lt) in
+      let inside : q < length logs.lists = subst (λ n. q < n) (length_mapped (sets_from None) logs.lists) (own_below (edge_sets_in logs) q j lt) in
       let count = ap length (at_there (sets_from None) logs.lists q inside) ∙ sets_count None (get_or logs.lists q []) in
       let same = ap length (own_syncs_are q) in
       (inside, omega (arith, lt, count, same))
 
-  pub edges_few : AreFew logs.lists → (q : ℕ) → length (get_or (sets_in logs) q []) < 2 ^ 32
-  edges_few few q = by (length (get_or (sets_in logs) q [])) refl
+  pub edges_few : AreFew logs.lists → (q : ℕ) → length (get_or (edge_sets_in logs) q []) < 2 ^ 32
+  edges_few few q = by (length (get_or (edge_sets_in logs) q [])) refl
     where
-      by : (n : ℕ) → length (get_or (sets_in logs) q []) ≡ n → n < 2 ^ 32
+      by : (n : ℕ) → length (get_or (edge_sets_in logs) q []) ≡ n → n < 2 ^ 32
       by zero e = omega arith
       by (suc n) e =
-          let last : n < length (get_or (sets_in logs) q []) = omega (arith, e) in
+          let last : n < length (get_or (edge_sets_in logs) q []) = omega (arith, e) in
           let there = edges_there q n last in
           let small = syncs_few few q in
           let le : n ≤ length (own_syncs (record_in logs) q) = there.1 in
@@ -128,7 +128,7 @@ module _ (program : Program) (logs : Logs) (pairs : List (List Paired)) (are : p
         acyclic = none_before_itself program (record_in logs) pairs partners times (timed program (record_in logs) partners) all;
       }
 
-      pub graph_is : ((q : ℕ) → HasAll pairs times q) → AreFew logs.lists → (edges : List (List EdgeSets)) → edges ≡ sets_in logs → IsGraphOf program logs (record { edges = edges; times = times; pairs = pairs })
+      pub graph_is : ((q : ℕ) → HasAll pairs times q) → AreFew logs.lists → (edges : List (List EdgeSets)) → edges ≡ edge_sets_in logs → IsGraphOf program logs (record { edges = edges; times = times; pairs = pairs })
       graph_is all few edges sets = record {
         sets = sets;
         few = λ p. subst (λ rows. length (get_or rows p []) < 2 ^ 32) (sym sets) (edges_few logs few p);

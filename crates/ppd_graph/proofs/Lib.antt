@@ -12,3 +12,5 @@ pub mod Kept
 pub mod Partnered
 pub mod Built
 pub mod Searched
+pub mod Counted
+pub mod Numbered

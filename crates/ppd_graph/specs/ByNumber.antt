@@ -42,7 +42,9 @@ KeepsNone t = (kind : SyncKind) (o n : ℕ) → node_kept t kind o n ≡ None
 -- one more is kept
 abbrev pub KeepsMore : ByNumber → ByNumber → Placed → Type 0
 KeepsMore old new x =
-    (kind : SyncKind) (o n : ℕ) → node_kept new kind o n ≡ (if same_sync (sync_placed x) (sync kind o n) then Some x.node else node_kept old kind o n)
+    (kind : SyncKind) (o n : ℕ)
+    → node_kept new kind o n
+    ≡ (if same_sync (sync_placed x) (sync kind o n) then Some x.node else node_kept old kind o n)
 
 -- where the first of these that is this synchronization stands
 abbrev pub node_among : Sync → List Placed → Option NodeId
@@ -89,7 +91,8 @@ greatest_kept g Recv o = get_or g.receives o 0
 greatest_kept g Done o = get_or g.completions o 0
 
 abbrev pub AllGreatest : List Placed → Greatest → Type 0
-AllGreatest xs g = (kind : SyncKind) (o : ℕ) → greatest_kept g kind o ≡ greatest 0 (numbers_of kind o (map sync_placed xs))
+AllGreatest xs g =
+    (kind : SyncKind) (o : ℕ) → greatest_kept g kind o ≡ greatest 0 (numbers_of kind o (map sync_placed xs))
 
 -- which numbers are kept, and the greatest
 abbrev pub numbered_kept : ByNumber → Greatest → SyncKind → ℕ → Numbered

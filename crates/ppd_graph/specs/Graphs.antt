@@ -7,7 +7,7 @@ use Rattle.ppd_model.specs.HappenedBefore.{Before, EdgeBefore, node, own_syncs}
 use Rattle.ppd_graph.specs.declared.sync_graph.SyncGraph.{SyncGraph}
 use Rattle.ppd_graph.specs.declared.sets.EdgeSets.{EdgeSets}
 use Rattle.ppd_model.specs.RecordedSets.{record_in}
-use Rattle.ppd_graph.specs.LogRecord.{no_sets, sets_in}
+use Rattle.ppd_graph.specs.LogRecord.{no_sets, edge_sets_in}
 use Rattle.ppd_model.specs.declared.graph.NodeId.{NodeId}
 use Rattle.ppd_model.specs.Synchronizations.{Sync}
 use Rattle.ppd_graph.specs.declared.paired.Paired.{Paired}
@@ -30,7 +30,8 @@ count_at times q (suc j) p = time_at times (node q j) p
 -- whether edge a is before edge b by these times
 abbrev pub before_by : List (List (List ℕ)) → EdgeId → EdgeId → Bool
 before_by times a b =
-    if nat_eq a.process b.process then nat_lt a.edge b.edge else nat_lt a.edge (count_at times b.process b.edge a.process)
+    if nat_eq a.process b.process then nat_lt a.edge b.edge
+    else nat_lt a.edge (count_at times b.process b.edge a.process)
 
 -- whether edge a is before edge b
 abbrev pub is_before_by : SyncGraph → EdgeId → EdgeId → Bool
@@ -50,10 +51,12 @@ writes_in g e = (sets_at g.edges e).writes
 -- the graph of logs: its edges have their recorded sets, and are ordered as their synchronizations are; each
 -- synchronization has its direct partner
 pub record IsGraphOf (program : Program) (logs : Logs) (g : SyncGraph) : Type 0 where
-  pub sets : g.edges ≡ sets_in logs
+  pub sets : g.edges ≡ edge_sets_in logs
   pub few : (p : ℕ) → edge_count g p < 2 ^ 32
-  pub order : (a b : EdgeId) → IsEdge g a → IsEdge g b → IsTrue (is_before_by g a b) ↔ EdgeBefore program (record_in logs) a b
-  pub rising : (p q j k : ℕ) → p < length g.edges → j ≤ k → k < edge_count g q → count_at g.times q j p ≤ count_at g.times q k p
+  pub order : (a b : EdgeId) → IsEdge g a → IsEdge g b
+      → IsTrue (is_before_by g a b) ↔ EdgeBefore program (record_in logs) a b
+  pub rising : (p q j k : ℕ) → p < length g.edges → j ≤ k → k < edge_count g q
+      → count_at g.times q j p ≤ count_at g.times q k p
   pub pairs : g.pairs ≡ pairs_of program (record_in logs)
   pub partners : ArePartners program (record_in logs) g.pairs
 
@@ -63,4 +66,5 @@ TimesOrderEdges =
     (program : Program) (syncs : List (List Sync)) (pairs : List (List Paired)) (times : List (List (List ℕ)))
     → ArePartners program syncs pairs → AreTimed pairs times → ((q : ℕ) → HasAll pairs times q)
     → ((a : NodeId) → Before program syncs a a → ⊥)
-    × ((a b : EdgeId) → a.process < length syncs → b.edge ≤ length (own_syncs syncs b.process) → IsTrue (before_by times a b) ↔ EdgeBefore program syncs a b)
+    × ((a b : EdgeId) → a.process < length syncs → b.edge ≤ length (own_syncs syncs b.process)
+    → IsTrue (before_by times a b) ↔ EdgeBefore program syncs a b)

@@ -6,3 +6,4 @@ pub mod ByNumber
 pub mod Times
 pub mod Cycles
 pub mod Graphs
+pub mod Spending

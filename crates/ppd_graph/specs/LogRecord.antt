@@ -31,8 +31,8 @@ sets_from found [] = unwrap_or found no_sets ∷ []
 sets_from found (e ∷ es) = ended_by e ++ sets_from (found_after found e) es
 
 -- the sets of each edge of each process
-abbrev pub sets_in : Logs → List (List EdgeSets)
-sets_in logs = map (sets_from None) logs.lists
+abbrev pub edge_sets_in : Logs → List (List EdgeSets)
+edge_sets_in logs = map (sets_from None) logs.lists
 
 -- each list's entries have 32-bit numbers, and one is left
 abbrev pub AreFew : List (List Entry) → Type 0

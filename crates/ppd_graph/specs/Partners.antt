@@ -77,8 +77,10 @@ IsOnce syncs = (a b : NodeId) (s : Sync) → sync_at syncs a ≡ Some s → sync
 
 -- where each stands once, the partners found by numbers are those that lead to each
 abbrev pub PartnersAreFound : Type 0
-PartnersAreFound = (program : Program) (syncs : List (List Sync)) → IsOnce syncs → ArePartners program syncs (pairs_of program syncs)
+PartnersAreFound =
+    (program : Program) (syncs : List (List Sync)) → IsOnce syncs → ArePartners program syncs (pairs_of program syncs)
 
 -- where no number stands twice, each synchronization stands once
 abbrev pub NoneTwiceMeansOnce : Type 0
-NoneTwiceMeansOnce = (program : Program) (logs : Logs) → twice_after program [] (placed logs) ≡ None → IsOnce (record_in logs)
+NoneTwiceMeansOnce =
+    (program : Program) (logs : Logs) → twice_after program [] (placed logs) ≡ None → IsOnce (record_in logs)

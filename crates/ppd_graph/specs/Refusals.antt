@@ -33,7 +33,8 @@ sync_placed x = sync x.kind x.object x.number
 -- the synchronization that an entry is, if it is one, as number i of process p
 abbrev pub place : ℕ → ℕ → ℕ → Option Sync → List Placed
 place p e i None = []
-place p e i (Some s) = record { at = at_entry p e; node = node p i; kind = s.kind; object = s.object; number = s.number } ∷ []
+place p e i (Some s) =
+    record { at = at_entry p e; node = node p i; kind = s.kind; object = s.object; number = s.number } ∷ []
 
 -- one more where the entry is one
 abbrev pub count_on : ℕ → Option Sync → ℕ
@@ -182,7 +183,8 @@ abbrev pub sem_misses : Program → (SyncKind → ℕ → Numbered) → ℕ → 
 sem_misses program numbered o = missing_of_sem o (start_of program o) (numbered P o) (numbered V o)
 
 abbrev pub chan_misses : Program → (SyncKind → ℕ → Numbered) → ℕ → Option Missing
-chan_misses program numbered o = missing_of_chan o (capacity_of program o) (numbered Send o) (numbered Recv o) (numbered Done o)
+chan_misses program numbered o =
+    missing_of_chan o (capacity_of program o) (numbered Send o) (numbered Recv o) (numbered Done o)
 
 -- the first missing synchronization, semaphores before channels
 abbrev pub missing_by : Program → (SyncKind → ℕ → Numbered) → Option Missing
@@ -205,9 +207,11 @@ pub record AreNumbered (program : Program) (syncs : List Placed) : Type 0 where
 -- this is the first of the three tests that fails
 abbrev pub IsRefusedFor : Program → List Placed → BadSync → Type 0
 IsRefusedFor program syncs (NoObject at) = without_object program syncs ≡ Some at
-IsRefusedFor program syncs (NumberTwice at) = (without_object program syncs ≡ None) × (twice_after program [] syncs ≡ Some at)
+IsRefusedFor program syncs (NumberTwice at) =
+    (without_object program syncs ≡ None) × (twice_after program [] syncs ≡ Some at)
 IsRefusedFor program syncs (NumberMissing kind object number) =
-    (without_object program syncs ≡ None) × (twice_after program [] syncs ≡ None) × (missing program (map sync_placed syncs) ≡ Some (kind, object, number))
+    (without_object program syncs ≡ None) × (twice_after program [] syncs ≡ None)
+    × (missing program (map sync_placed syncs) ≡ Some (kind, object, number))
 IsRefusedFor program syncs (Cycle nodes) = ⊥
 IsRefusedFor program syncs Memory = ⊤
 

@@ -1,9 +1,10 @@
-ghost use Rattle.std.specs.Prelude.{◌≡◌, ◌<◌, ◌≤◌, ◌+◌, ◌^◌, ℕ, [], length, get_or, IsTrue, IfOk, OnOk, IfErr};
+ghost use Rattle.std.specs.Prelude.{◌≡◌, ◌<◌, ◌≤◌, ◌+◌, ◌*◌, ◌^◌, ℕ, [], length, get_or, IsTrue, IfOk, OnOk, IfErr};
 ghost use Rattle.ppd_graph.specs.ByNumber.{KeepsAll};
 ghost use Rattle.ppd_graph.specs.Graphs.{IsGraphOf};
 ghost use Rattle.ppd_model.specs.RecordedSets.{record_in};
 ghost use Rattle.ppd_graph.specs.LogRecord.{AreFew};
 ghost use Rattle.ppd_graph.specs.Partners.{pairs_of};
+ghost use Rattle.ppd_graph.specs.Spending.{graph_cost, pairing_cost};
 ghost use Rattle.ppd_graph.specs.Refusals.{AreNumbered, AreOrdered, IsRefused, IsRefusedFor, has_object as has_object_in, placed as placed_in, without_object};
 
 use crate::by_number::keep_all;
@@ -17,9 +18,11 @@ use crate::rounds::{cycle, first_stuck};
 use crate::sets::all_sets;
 use crate::sync_graph::SyncGraph;
 use crate::times::all_times;
-use ppd_ast::{Memory, Program, Seq, SyncKind};
+use ppd_ast::{Memory, Program, Seq, Steps, SyncKind};
 use ppd_entry::{At, Entry, Logs};
 use std::alloc::Global;
+use std::marker::Brand;
+use std::sync::ledger::{Blank, Ledger};
 
 // Whether the program has an object of this kind; only a channel of capacity 0 has completions.
 fn has_object(program: &Program, kind: SyncKind, object: u8) -> bool
@@ -34,10 +37,16 @@ fn has_object(program: &Program, kind: SyncKind, object: u8) -> bool
 }
 
 // The place of the first synchronization without its object.
-fn first_without_object(program: &Program, placed: &[Placed]) -> Option<At>
-    ensures { result ≡ without_object program.now placed.now }
+fn first_without_object<L: Ledger>(
+    program: &Program,
+    placed: &[Placed],
+    steps: &mut Steps<L>,
+) -> Option<At>
+    ensures cost { steps.new ≤ steps.old + length placed.now }
+    ensures value { result ≡ without_object program.now placed.now }
 {
     for one in placed {
+        steps.tick();
         if !has_object(program, one.kind, one.object) {
             return Some(one.at);
         }
@@ -46,47 +55,63 @@ fn first_without_object(program: &Program, placed: &[Placed]) -> Option<At>
 }
 
 // The synchronizations by their numbers, or the first of the three tests on them that fails.
-fn number_all(alloc: Global, program: &Program, placed: &[Placed]) -> Result<Numbers, BadSync>
+fn number_all<L: Ledger>(
+    alloc: Global,
+    program: &Program,
+    placed: &[Placed],
+    steps: &mut Steps<L>,
+) -> Result<Numbers, BadSync>
     requires sems { length program.now.sems ≤ 256 }
     requires chans { length program.now.chans ≤ 256 }
+    ensures cost { IfOk result
+        (λ numbers. steps.new
+        ≤ steps.old + 12 * length placed.now + 1280 + length program.now.sems + length program.now.chans) }
     ensures kept { IfOk result (λ numbers. KeepsAll numbers.nodes placed.now) }
     ensures passed { OnOk result (AreNumbered program.now placed.now) }
     ensures refused { IfErr result (IsRefusedFor program.now placed.now) }
 {
-    if let Some(at) = first_without_object(program, placed) {
+    if let Some(at) = first_without_object(program, placed, steps) {
         return Err(BadSync::NoObject(at));
     }
-    let nodes = keep_all(alloc, program, placed)?;
-    let greatest = Greatest::among(alloc, placed)?;
+    let nodes = keep_all(alloc, program, placed, steps)?;
+    let greatest = Greatest::among(alloc, placed, steps)?;
     let numbers = Numbers { nodes, greatest };
-    if let Some((kind, object, number)) = numbers.missing(program) {
+    if let Some((kind, object, number)) = numbers.missing(program, steps) {
         return Err(BadSync::NumberMissing(kind, object, number));
     }
     Ok(numbers)
 }
 
 // What led to each synchronization of the logs.
-fn pair_all(alloc: Global, program: &Program, logs: &Logs) -> Result<Seq<Seq<Paired>>, BadSync>
+fn pair_all<L: Ledger>(
+    alloc: Global,
+    program: &Program,
+    logs: &Logs,
+    steps: &mut Steps<L>,
+) -> Result<Seq<Seq<Paired>>, BadSync>
     requires sems { length program.now.sems ≤ 256 }
     requires chans { length program.now.chans ≤ 256 }
     requires processes { length logs.now.lists ≤ 256 }
     requires few { AreFew logs.now.lists }
+    ensures cost { IfOk result (λ pairs. steps.new ≤ steps.old + pairing_cost program.now logs.now) }
     ensures pairs { IfOk result (λ pairs. pairs ≡ pairs_of program.now (record_in logs.now)) }
     ensures passed { OnOk result (AreNumbered program.now (placed_in logs.now)) }
     ensures refused { IfErr result (IsRefusedFor program.now (placed_in logs.now)) }
 {
     let lists = logs.lists.as_slice();
-    let placed = all_placed(alloc, lists)?;
-    let numbers = number_all(alloc, program, placed.as_slice())?;
-    let pairs = all_pairs(alloc, program, &numbers.nodes, lists)?;
+    let placed = all_placed(alloc, lists, steps)?;
+    let numbers = number_all(alloc, program, placed.as_slice(), steps)?;
+    let pairs = all_pairs(alloc, program, &numbers.nodes, lists, steps)?;
     Ok(pairs)
 }
 
 // Whether the entries of each list have 32-bit numbers, and one is left.
-fn are_few(lists: &[Seq<Entry>]) -> bool
-    ensures { IsTrue result → AreFew lists.now }
+fn are_few<L: Ledger>(lists: &[Seq<Entry>], steps: &mut Steps<L>) -> bool
+    ensures cost { steps.new ≤ steps.old + length lists.now }
+    ensures few { IsTrue result → AreFew lists.now }
 {
     for list in lists {
+        steps.tick();
         if list.len() >= 0xffff_ffff {
             return false;
         }
@@ -94,8 +119,63 @@ fn are_few(lists: &[Seq<Entry>]) -> bool
     true
 }
 
+/// The graph of the logs, as `graph` answers it. It is made in steps that are linear in the entries times the
+/// processes:
+/// a vector time has a count for each process.
+pub fn graph_in<L: Ledger>(
+    alloc: Global,
+    program: &Program,
+    logs: &Logs,
+    steps: &mut Steps<L>,
+) -> Result<SyncGraph, BadSync>
+    requires sems { length program.now.sems ≤ 256 }
+    requires chans { length program.now.chans ≤ 256 }
+    requires processes { length logs.now.lists ≤ 256 }
+    ensures graph { IfOk result (IsGraphOf program.now logs.now) }
+    ensures passed { OnOk result (AreOrdered program.now logs.now) }
+    ensures refused { IfErr result (IsRefused program.now logs.now) }
+    ensures cost { IfOk result (λ graph. steps.new ≤ steps.old + graph_cost program.now logs.now) }
+{
+    if !are_few(logs.lists.as_slice(), steps) {
+        return Err(BadSync::Memory);
+    }
+    let pairs = pair_all(alloc, program, logs, steps)?;
+    let times = all_times(alloc, pairs.as_slice(), steps)?;
+    if let Some(start) = first_stuck(pairs.as_slice(), times.as_slice(), steps) {
+        let nodes = cycle(alloc, pairs.as_slice(), times.as_slice(), start)?;
+        return Err(BadSync::Cycle(nodes));
+    }
+    let edges = all_sets(alloc, logs.lists.as_slice(), steps)?;
+    Ok(SyncGraph {
+        edges,
+        times: Seq::from_vec(times),
+        pairs,
+    })
+}
+
+// The graph of the logs, with steps that nobody reads.
+fn graph_from<L: Ledger>(
+    alloc: Global,
+    program: &Program,
+    logs: &Logs,
+    blank: Blank,
+) -> Result<SyncGraph, BadSync>
+    requires name { blank.name ≡ L.name }
+    requires parts { blank.parts ≡ L.parts }
+    requires some { 0 < blank.parts }
+    requires sems { length program.now.sems ≤ 256 }
+    requires chans { length program.now.chans ≤ 256 }
+    requires processes { length logs.now.lists ≤ 256 }
+    ensures graph { IfOk result (IsGraphOf program.now logs.now) }
+    ensures passed { OnOk result (AreOrdered program.now logs.now) }
+    ensures refused { IfErr result (IsRefused program.now logs.now) }
+{
+    let mut steps: Steps<L> = Steps::new(blank);
+    graph_in(alloc, program, logs, &mut steps)
+}
+
 /// The graph of the logs, or the first reason why they have none. `Memory` is want of memory, also for a log
-/// whose entries have no 32-bit numbers.
+/// whose entries have no 32-bit numbers. It is made in the steps that `graph_in` counts.
 pub fn graph(alloc: Global, program: &Program, logs: &Logs) -> Result<SyncGraph, BadSync>
     requires sems { length program.now.sems ≤ 256 }
     requires chans { length program.now.chans ≤ 256 }
@@ -104,19 +184,5 @@ pub fn graph(alloc: Global, program: &Program, logs: &Logs) -> Result<SyncGraph,
     ensures passed { OnOk result (AreOrdered program.now logs.now) }
     ensures refused { IfErr result (IsRefused program.now logs.now) }
 {
-    if !are_few(logs.lists.as_slice()) {
-        return Err(BadSync::Memory);
-    }
-    let pairs = pair_all(alloc, program, logs)?;
-    let times = all_times(alloc, pairs.as_slice())?;
-    if let Some(start) = first_stuck(pairs.as_slice(), times.as_slice()) {
-        let nodes = cycle(alloc, pairs.as_slice(), times.as_slice(), start)?;
-        return Err(BadSync::Cycle(nodes));
-    }
-    let edges = all_sets(alloc, logs.lists.as_slice())?;
-    Ok(SyncGraph {
-        edges,
-        times: Seq::from_vec(times),
-        pairs,
-    })
+    graph_from::<Brand>(alloc, program, logs, Blank::new(1))
 }

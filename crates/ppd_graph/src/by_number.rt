@@ -1,13 +1,14 @@
-ghost use Rattle.std.specs.Prelude.{◌≡◌, [], None, IfOk, IfErr, OnOk};
+ghost use Rattle.std.specs.Prelude.{◌≡◌, ◌≤◌, ◌+◌, [], None, IfOk, IfErr, OnOk, length};
 ghost use Rattle.ppd_graph.specs.ByNumber.{IsTwice, KeepsAll, KeepsMore, KeepsNone, Puts, found_in, is_twice as is_twice_of, node_kept};
 ghost use Rattle.ppd_graph.specs.Refusals.{is_from_start as is_from_start_of, start_of as start_in_program, sync_placed, twice_after};
 
 use crate::placed::Placed;
 use crate::refusal::BadSync;
-use ppd_ast::{Memory, Program, SyncKind};
+use ppd_ast::{Memory, Program, Steps, SyncKind};
 use ppd_model::NodeId;
 use std::alloc::Global;
 use std::collections::HashMap;
+use std::sync::ledger::Ledger;
 
 /// The synchronizations of one kind by object and number.
 type Nodes = HashMap<(u8, u32), NodeId>;
@@ -105,17 +106,20 @@ impl ByNumber {
 
 /// Keeps the synchronizations by their numbers. `NumberTwice` is the first whose number stood before, or is one
 /// that a semaphore has from the start.
-pub(crate) fn keep_all(
+pub(crate) fn keep_all<L: Ledger>(
     alloc: Global,
     program: &Program,
     placed: &[Placed],
+    steps: &mut Steps<L>,
 ) -> Result<ByNumber, BadSync>
+    ensures cost { steps.new ≤ steps.old + length placed.now }
     ensures kept { IfOk result (λ numbers. KeepsAll numbers placed.now) }
     ensures once { IfOk result (λ numbers. twice_after program.now [] placed.now ≡ None) }
     ensures twice { IfErr result (IsTwice program.now placed.now) }
 {
     let mut numbers = ByNumber::new(alloc);
     for one in placed {
+        steps.tick();
         if numbers.is_twice(program, one) {
             return Err(BadSync::NumberTwice(one.at));
         }

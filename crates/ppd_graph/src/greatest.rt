@@ -1,10 +1,11 @@
-ghost use Rattle.std.specs.Prelude.{◌≡◌, ℕ, ◌∷◌, [], get_or, length, IfOk};
+ghost use Rattle.std.specs.Prelude.{◌≡◌, ◌≤◌, ◌+◌, ◌*◌, ℕ, ◌∷◌, [], get_or, length, IfOk};
 ghost use Rattle.ppd_graph.specs.ByNumber.{AllGreatest, AreGreatest, greatest_kept};
 ghost use Rattle.ppd_graph.specs.Refusals.{greatest as greatest_among, numbers_of, same_kind as is_same_kind, sync_placed};
 
 use crate::placed::Placed;
-use ppd_ast::{Ids, Memory, SyncKind};
+use ppd_ast::{Ids, Memory, Steps, SyncKind};
 use std::alloc::Global;
+use std::sync::ledger::Ledger;
 
 /// The greatest numbers of the synchronizations of each kind, by object, for all 256 that an entry can name.
 #[derive(Drop)]
@@ -30,12 +31,14 @@ fn same_kind(a: SyncKind, b: SyncKind) -> bool
 }
 
 #[tactic(auto, using(crate::proofs::Searched::zero_more))]
-fn no_numbers(alloc: Global, count: usize) -> Result<Ids, Memory>
+fn no_numbers<L: Ledger>(alloc: Global, count: usize, steps: &mut Steps<L>) -> Result<Ids, Memory>
+    ensures cost { steps.new ≤ steps.old + count }
     ensures long { IfOk result (λ numbers. length numbers ≡ count) }
     ensures none { IfOk result (λ numbers. (o : ℕ) → get_or numbers o 0 ≡ 0) }
 {
     let mut numbers = Ids::new(alloc);
     for _object in 0..count {
+        steps.tick();
         numbers.push(0)?;
     }
     Ok(numbers)
@@ -45,7 +48,9 @@ fn no_numbers(alloc: Global, count: usize) -> Result<Ids, Memory>
 fn raise(numbers: &mut Ids, kind: SyncKind, one: &Placed)
     requires { length numbers.old ≡ 256 }
     ensures long { length numbers.new ≡ 256 }
-    ensures raised { (o : ℕ) → get_or numbers.new o 0 ≡ greatest_among (get_or numbers.old o 0) (numbers_of kind o (sync_placed one.now ∷ [])) }
+    ensures raised { (o : ℕ)
+        → get_or numbers.new o 0
+        ≡ greatest_among (get_or numbers.old o 0) (numbers_of kind o (sync_placed one.now ∷ [])) }
 {
     if !same_kind(one.kind, kind) {
         return;
@@ -56,11 +61,18 @@ fn raise(numbers: &mut Ids, kind: SyncKind, one: &Placed)
 }
 
 // The greatest numbers of one kind.
-fn greatest_of(alloc: Global, placed: &[Placed], kind: SyncKind) -> Result<Ids, Memory>
-    ensures { IfOk result (AreGreatest kind placed.now) }
+fn greatest_of<L: Ledger>(
+    alloc: Global,
+    placed: &[Placed],
+    kind: SyncKind,
+    steps: &mut Steps<L>,
+) -> Result<Ids, Memory>
+    ensures cost { steps.new ≤ steps.old + 256 + length placed.now }
+    ensures greatest { IfOk result (AreGreatest kind placed.now) }
 {
-    let mut numbers = no_numbers(alloc, 256)?;
+    let mut numbers = no_numbers(alloc, 256, steps)?;
     for one in placed {
+        steps.tick();
         raise(&mut numbers, kind, one);
     }
     Ok(numbers)
@@ -76,14 +88,19 @@ fn number_at(numbers: &Ids, object: u8) -> u32
 }
 
 impl Greatest {
-    pub(crate) fn among(alloc: Global, placed: &[Placed]) -> Result<Greatest, Memory>
-        ensures { IfOk result (AllGreatest placed.now) }
+    pub(crate) fn among<L: Ledger>(
+        alloc: Global,
+        placed: &[Placed],
+        steps: &mut Steps<L>,
+    ) -> Result<Greatest, Memory>
+        ensures cost { steps.new ≤ steps.old + 5 * (256 + length placed.now) }
+        ensures greatest { IfOk result (AllGreatest placed.now) }
     {
-        let takes = greatest_of(alloc, placed, SyncKind::P)?;
-        let gives = greatest_of(alloc, placed, SyncKind::V)?;
-        let sends = greatest_of(alloc, placed, SyncKind::Send)?;
-        let receives = greatest_of(alloc, placed, SyncKind::Recv)?;
-        let completions = greatest_of(alloc, placed, SyncKind::Done)?;
+        let takes = greatest_of(alloc, placed, SyncKind::P, steps)?;
+        let gives = greatest_of(alloc, placed, SyncKind::V, steps)?;
+        let sends = greatest_of(alloc, placed, SyncKind::Send, steps)?;
+        let receives = greatest_of(alloc, placed, SyncKind::Recv, steps)?;
+        let completions = greatest_of(alloc, placed, SyncKind::Done, steps)?;
         Ok(Greatest {
             takes,
             gives,

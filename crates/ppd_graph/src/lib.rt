@@ -16,7 +16,7 @@ mod sets;
 mod sync_graph;
 mod times;
 
-pub use build::graph;
+pub use build::{graph, graph_in};
 pub use laws::{partners_are_found, rounds_are_cycles, times_order_edges};
 pub use paired::Paired;
 pub use ppd_entry::At;

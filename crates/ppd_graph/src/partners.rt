@@ -1,4 +1,6 @@
-ghost use Rattle.std.specs.Prelude.{◌≡◌, ◌++◌, ◌∷◌, [], ℕ, None, IfOk, OnOk, filter_map, map};
+ghost use Rattle.std.specs.Prelude.{◌≡◌, ◌++◌, ◌∷◌, [], ℕ, None, IfOk, OnOk, ◌≤◌, ◌+◌, filter_map, length, map};
+ghost use Rattle.std.specs.List.{sum_by};
+ghost use Rattle.ppd_graph.specs.Spending.{list_cost};
 ghost use Rattle.ppd_graph.specs.ByNumber.{partner_kept};
 ghost use Rattle.ppd_model.specs.RecordedSets.{sync_in};
 ghost use Rattle.ppd_graph.specs.Partners.{listed, named, paired_by as paired_as, wanted_by};
@@ -7,9 +9,10 @@ ghost use Rattle.ppd_model.specs.Numbers.{sync};
 use crate::by_number::ByNumber;
 use crate::missing::capacity_of;
 use crate::paired::Paired;
-use ppd_ast::{Memory, Program, Seq, SyncKind};
+use ppd_ast::{Memory, Program, Seq, Steps, SyncKind};
 use ppd_entry::Entry;
 use std::alloc::Global;
+use std::sync::ledger::Ledger;
 
 /// The kind and the number of a synchronization of some object.
 type KindAndNumber = (SyncKind, u32);
@@ -83,7 +86,8 @@ fn take_entry(
     pairs: &mut Seq<Paired>,
     entry: &Entry,
 ) -> Result<(), Memory>
-    ensures { OnOk result (pairs.new ≡ pairs.old ++ map (partner_kept program.now nodes.now) (listed (sync_in entry.now))) }
+    ensures { OnOk result
+        (pairs.new ≡ pairs.old ++ map (partner_kept program.now nodes.now) (listed (sync_in entry.now))) }
 {
     match entry {
         Entry::Sync {
@@ -96,33 +100,41 @@ fn take_entry(
     }
 }
 
-fn own_pairs(
+fn own_pairs<L: Ledger>(
     alloc: Global,
     program: &Program,
     nodes: &ByNumber,
     entries: &[Entry],
+    steps: &mut Steps<L>,
 ) -> Result<Seq<Paired>, Memory>
-    ensures { IfOk result (λ pairs. pairs ≡ map (partner_kept program.now nodes.now) (filter_map sync_in entries.now)) }
+    ensures cost { steps.new ≤ steps.old + length entries.now }
+    ensures pairs { IfOk result
+        (λ pairs. pairs ≡ map (partner_kept program.now nodes.now) (filter_map sync_in entries.now)) }
 {
     let mut pairs = Seq::new(alloc);
     for entry in entries {
+        steps.tick();
         take_entry(program, nodes, &mut pairs, entry)?;
     }
     Ok(pairs)
 }
 
 /// What led to each synchronization, a list for each process.
-pub(crate) fn all_pairs(
+pub(crate) fn all_pairs<L: Ledger>(
     alloc: Global,
     program: &Program,
     nodes: &ByNumber,
     lists: &[Seq<Entry>],
+    steps: &mut Steps<L>,
 ) -> Result<Seq<Seq<Paired>>, Memory>
-    ensures { IfOk result (λ all. all ≡ map (map (partner_kept program.now nodes.now)) (map (filter_map sync_in) lists.now)) }
+    ensures cost { steps.new ≤ steps.old + sum_by list_cost lists.now }
+    ensures pairs { IfOk result
+        (λ all. all ≡ map (map (partner_kept program.now nodes.now)) (map (filter_map sync_in) lists.now)) }
 {
     let mut all = Seq::new(alloc);
     for list in lists {
-        let pairs = own_pairs(alloc, program, nodes, list.as_slice())?;
+        steps.tick();
+        let pairs = own_pairs(alloc, program, nodes, list.as_slice(), steps)?;
         all.push(pairs)?;
     }
     Ok(all)

@@ -1,12 +1,15 @@
 ghost use Rattle.std.specs.Prelude.{◌≡◌, ◌<◌, ◌≤◌, ◌+◌, ◌^◌, ◌++◌, ℕ, [], length, get_or, IfOk, OnOk};
 ghost use Rattle.ppd_graph.specs.LogRecord.{AreFew};
 ghost use Rattle.ppd_model.specs.RecordedSets.{sync_in};
+ghost use Rattle.std.specs.List.{sum_by};
+ghost use Rattle.ppd_graph.specs.Spending.{list_cost};
 ghost use Rattle.ppd_graph.specs.Refusals.{count_on, place, placed_from, placed_lists};
 
-use ppd_ast::{Memory, Seq, SyncKind};
+use ppd_ast::{Memory, Seq, Steps, SyncKind};
 use ppd_entry::{At, Entry};
 use ppd_model::NodeId;
 use std::alloc::Global;
+use std::sync::ledger::Ledger;
 
 /// A synchronization of logs, with the place of its entry.
 #[derive(Clone, Copy)]
@@ -53,26 +56,39 @@ fn place_one(
     }
 }
 
-fn place_own(placed: &mut Seq<Placed>, process: u8, entries: &[Entry]) -> Result<(), Memory>
+fn place_own<L: Ledger>(
+    placed: &mut Seq<Placed>,
+    process: u8,
+    entries: &[Entry],
+    steps: &mut Steps<L>,
+) -> Result<(), Memory>
     requires { length entries.now + 1 < 2 ^ 32 }
-    ensures { OnOk result (placed.new ≡ placed.old ++ placed_from process 0 0 entries.now) }
+    ensures cost { steps.new ≤ steps.old + length entries.now }
+    ensures placed { OnOk result (placed.new ≡ placed.old ++ placed_from process 0 0 entries.now) }
 {
     let mut sync = 0;
     for index in 0..entries.len() {
+        steps.tick();
         sync = place_one(placed, process, index as u32, sync, &entries[index])?;
     }
     Ok(())
 }
 
 /// All synchronizations of the logs, in order of process and entry.
-pub(crate) fn all_placed(alloc: Global, lists: &[Seq<Entry>]) -> Result<Seq<Placed>, Memory>
+pub(crate) fn all_placed<L: Ledger>(
+    alloc: Global,
+    lists: &[Seq<Entry>],
+    steps: &mut Steps<L>,
+) -> Result<Seq<Placed>, Memory>
     requires processes { length lists.now ≤ 256 }
     requires few { AreFew lists.now }
-    ensures { IfOk result (λ placed. placed ≡ placed_lists 0 lists.now) }
+    ensures placed { IfOk result (λ placed. placed ≡ placed_lists 0 lists.now) }
+    ensures cost { steps.new ≤ steps.old + sum_by list_cost lists.now }
 {
     let mut placed = Seq::new(alloc);
     for process in 0..lists.len() {
-        place_own(&mut placed, process as u8, lists[process].as_slice())?;
+        steps.tick();
+        place_own(&mut placed, process as u8, lists[process].as_slice(), steps)?;
     }
     Ok(placed)
 }

@@ -6,16 +6,23 @@ ghost use Rattle.ppd_graph.specs.Times.{HasAll, next_of, own_pairs, own_times};
 
 use crate::paired::Paired;
 use crate::times::{done_count, pair_count, partner_at};
-use ppd_ast::{Ids, Memory, Seq};
+use ppd_ast::{Ids, Memory, Seq, Steps};
 use ppd_model::NodeId;
 use std::alloc::Global;
+use std::sync::ledger::Ledger;
 
 /// The first process with a synchronization that has no time.
-pub(crate) fn first_stuck(pairs: &[Seq<Paired>], times: &[Seq<Ids>]) -> Option<u8>
+pub(crate) fn first_stuck<L: Ledger>(
+    pairs: &[Seq<Paired>],
+    times: &[Seq<Ids>],
+    steps: &mut Steps<L>,
+) -> Option<u8>
     requires { length pairs.now ≤ 256 }
-    ensures { MatchOption result ((q : ℕ) → HasAll pairs.now times.now q) (λ q. IsStuck pairs.now times.now q) }
+    ensures cost { steps.new ≤ steps.old + length pairs.now }
+    ensures stuck { MatchOption result ((q : ℕ) → HasAll pairs.now times.now q) (λ q. IsStuck pairs.now times.now q) }
 {
     for q in 0..pairs.len() {
+        steps.tick();
         if done_count(times, q) < pair_count(pairs, q) {
             return Some(q as u8);
         }

@@ -1,9 +1,12 @@
-ghost use Rattle.std.specs.Prelude.{◌≡◌, ◌++◌, ◌∷◌, [], None, IfOk, map, unwrap_or};
+ghost use Rattle.std.specs.Prelude.{◌≡◌, ◌++◌, ◌∷◌, [], None, IfOk, ◌≤◌, ◌+◌, length, map, unwrap_or};
+ghost use Rattle.std.specs.List.{sum_by};
+ghost use Rattle.ppd_graph.specs.Spending.{list_cost};
 ghost use Rattle.ppd_graph.specs.LogRecord.{edge_sets, ended_by, found_after, no_sets, sets_from};
 
-use ppd_ast::{Cells, Memory, Seq};
+use ppd_ast::{Cells, Memory, Seq, Steps};
 use ppd_entry::Entry;
 use std::alloc::Global;
+use std::sync::ledger::Ledger;
 
 /// The shared cells that an internal edge accesses, rising.
 #[derive(Drop)]
@@ -81,12 +84,18 @@ fn or_none(alloc: Global, found: Option<EdgeSets>) -> EdgeSets
 }
 
 // The sets of each edge of a process.
-fn own_sets(alloc: Global, entries: &[Entry]) -> Result<Seq<EdgeSets>, Memory>
-    ensures { IfOk result (λ edges. edges ≡ sets_from None entries.now) }
+fn own_sets<L: Ledger>(
+    alloc: Global,
+    entries: &[Entry],
+    steps: &mut Steps<L>,
+) -> Result<Seq<EdgeSets>, Memory>
+    ensures cost { steps.new ≤ steps.old + length entries.now }
+    ensures edges { IfOk result (λ edges. edges ≡ sets_from None entries.now) }
 {
     let mut edges = Seq::new(alloc);
     let mut found = None;
     for entry in entries {
+        steps.tick();
         found = take_entry(alloc, &mut edges, found, entry)?;
     }
     edges.push(or_none(alloc, found))?;
@@ -94,12 +103,18 @@ fn own_sets(alloc: Global, entries: &[Entry]) -> Result<Seq<EdgeSets>, Memory>
 }
 
 /// The sets of each edge of each process.
-pub(crate) fn all_sets(alloc: Global, lists: &[Seq<Entry>]) -> Result<Seq<Seq<EdgeSets>>, Memory>
-    ensures { IfOk result (λ all. all ≡ map (sets_from None) lists.now) }
+pub(crate) fn all_sets<L: Ledger>(
+    alloc: Global,
+    lists: &[Seq<Entry>],
+    steps: &mut Steps<L>,
+) -> Result<Seq<Seq<EdgeSets>>, Memory>
+    ensures cost { steps.new ≤ steps.old + sum_by list_cost lists.now }
+    ensures edges { IfOk result (λ all. all ≡ map (sets_from None) lists.now) }
 {
     let mut all = Seq::new(alloc);
     for list in lists {
-        let edges = own_sets(alloc, list.as_slice())?;
+        steps.tick();
+        let edges = own_sets(alloc, list.as_slice(), steps)?;
         all.push(edges)?;
     }
     Ok(all)

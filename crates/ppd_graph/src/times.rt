@@ -1,12 +1,14 @@
 ghost use Rattle.std.specs.Prelude.{◌≡◌, ◌↔◌, ◌<◌, ◌≤◌, ◌^◌, ℕ, ◌+◌, [], ◌∷◌, ◌++◌, length, get_or, replicate, IsTrue, IfOk, OnOk, OnErr, MatchOption};
 ghost use Rattle.ppd_model.specs.HappenedBefore.{node};
 ghost use Rattle.ppd_model.specs.World.{change};
+ghost use Rattle.ppd_graph.specs.Spending.{times_cost};
 ghost use Rattle.ppd_graph.specs.Times.{AreTimed, HasAll, IsDone, IsReady, next_of, next_count, next_time as next_time_of, node_of as node_in, own_pairs, own_times, pair_at, time_at, time_before, time_of, time_paired, with_time};
 
 use crate::paired::Paired;
-use ppd_ast::{Ids, Memory, Seq};
+use ppd_ast::{Ids, Memory, Seq, Steps};
 use ppd_model::NodeId;
 use std::alloc::Global;
+use std::sync::ledger::Ledger;
 
 /// The vector times of the processes' synchronizations, a list for each process.
 pub(crate) type Times = Vec<Seq<Ids>>;
@@ -67,10 +69,17 @@ fn is_ready(pairs: &[Seq<Paired>], times: &[Seq<Ids>], q: usize) -> bool
 }
 
 // A process whose next synchronization is ready.
-fn ready(pairs: &[Seq<Paired>], times: &[Seq<Ids>]) -> Option<usize>
-    ensures { MatchOption result ((q : ℕ) → IsReady pairs.now times.now q → ⊥) (λ q. IsReady pairs.now times.now q) }
+fn ready<L: Ledger>(
+    pairs: &[Seq<Paired>],
+    times: &[Seq<Ids>],
+    steps: &mut Steps<L>,
+) -> Option<usize>
+    ensures cost { steps.new ≤ steps.old + length pairs.now }
+    ensures ready { MatchOption result ((q : ℕ) → IsReady pairs.now times.now q → ⊥)
+        (λ q. IsReady pairs.now times.now q) }
 {
     for q in 0..pairs.len() {
+        steps.tick();
         if is_ready(pairs, times, q) {
             return Some(q);
         }
@@ -79,18 +88,21 @@ fn ready(pairs: &[Seq<Paired>], times: &[Seq<Ids>]) -> Option<usize>
 }
 
 // The time of the next of process q, whose partner has its time.
-fn next_time(
+fn next_time<L: Ledger>(
     alloc: Global,
     pairs: &[Seq<Paired>],
     times: &[Seq<Ids>],
     q: usize,
+    steps: &mut Steps<L>,
 ) -> Result<Ids, Memory>
     requires few { length (own_times times.now q) + 1 < 2 ^ 32 }
-    ensures { IfOk result (λ time. time ≡ next_time_of pairs.now times.now q) }
+    ensures cost { steps.new ≤ steps.old + length pairs.now }
+    ensures time { IfOk result (λ time. time ≡ next_time_of pairs.now times.now q) }
 {
     let done = done_count(times, q);
     let mut time = Ids::new(alloc);
     for p in 0..pairs.len() {
+        steps.tick();
         let count = count_next(pairs, times, q, done, p);
         time.push(count)?;
     }
@@ -136,7 +148,9 @@ fn count_paired(times: &[Seq<Ids>], partner: Paired, p: usize) -> u32
 // The count for process p of the next of process q, which has this number.
 fn count_next(pairs: &[Seq<Paired>], times: &[Seq<Ids>], q: usize, j: usize, p: usize) -> u32
     requires few { j + 1 < 2 ^ 32 }
-    ensures { result ≡ next_count q j (time_before times.now q j) (time_paired times.now (node_in (pair_at pairs.now (node q j)))) p }
+    ensures { result
+        ≡ next_count q j (time_before times.now q j)
+        (time_paired times.now (node_in (pair_at pairs.now (node q j)))) p }
 {
     if p == q {
         return j as u32 + 1;
@@ -171,25 +185,33 @@ fn push_empty(times: &mut Times, alloc: Global) -> Result<(), Memory>
     }
 }
 
-fn no_times(alloc: Global, count: usize) -> Result<Times, Memory>
-    ensures { IfOk result (λ times. times.items ≡ replicate count []) }
+fn no_times<L: Ledger>(alloc: Global, count: usize, steps: &mut Steps<L>) -> Result<Times, Memory>
+    ensures cost { steps.new ≤ steps.old + count }
+    ensures none { IfOk result (λ times. times.items ≡ replicate count []) }
 {
     let mut times = Vec::new(alloc);
     for _index in 0..count {
+        steps.tick();
         push_empty(&mut times, alloc)?;
     }
     Ok(times)
 }
 
 /// The vector times, as far as they go: of no process the next is ready.
-pub(crate) fn all_times(alloc: Global, pairs: &[Seq<Paired>]) -> Result<Times, Memory>
+pub(crate) fn all_times<L: Ledger>(
+    alloc: Global,
+    pairs: &[Seq<Paired>],
+    steps: &mut Steps<L>,
+) -> Result<Times, Memory>
     requires few { (q : ℕ) → length (own_pairs pairs.now q) + 1 < 2 ^ 32 }
     ensures timed { IfOk result (λ times. AreTimed pairs.now times.items) }
+    ensures cost { IfOk result (λ times. steps.new ≤ steps.old + times_cost pairs.now) }
     ensures stopped { IfOk result (λ times. (q : ℕ) → IsReady pairs.now times.items q → ⊥) }
 {
-    let mut times = no_times(alloc, pairs.len())?;
-    while let Some(q) = ready(pairs, times.as_slice()) {
-        let time = next_time(alloc, pairs, times.as_slice(), q)?;
+    let mut times = no_times(alloc, pairs.len(), steps)?;
+    while let Some(q) = ready(pairs, times.as_slice(), steps) {
+        steps.tick();
+        let time = next_time(alloc, pairs, times.as_slice(), q, steps)?;
         push_time(&mut times, q, time)?;
     }
     Ok(times)

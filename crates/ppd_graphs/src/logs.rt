@@ -27,6 +27,18 @@ pub fn with_sem(alloc: Global, start: u32) -> Result<Program, Memory> {
     Ok(program)
 }
 
+/// Semaphores with these initial values.
+pub fn with_sems(alloc: Global, starts: &[u32]) -> Result<Program, Memory> {
+    let mut program = bare(alloc);
+    for start in starts {
+        program.sems.push(Sem {
+            name: Bytes::new(alloc),
+            start: *start,
+        })?;
+    }
+    Ok(program)
+}
+
 /// One channel of this capacity.
 pub fn with_chan(alloc: Global, capacity: u8) -> Result<Program, Memory> {
     let mut program = bare(alloc);
@@ -62,6 +74,18 @@ pub fn sync(
         reads,
         writes,
     })
+}
+
+/// A synchronization that accesses nothing.
+pub fn silent_one(alloc: Global, kind: SyncKind, object: u8, number: u32) -> Entry {
+    Entry::Sync {
+        kind,
+        object,
+        number,
+        value: 0,
+        reads: Cells::new(alloc),
+        writes: Cells::new(alloc),
+    }
 }
 
 /// The end of a process, with what its last edge reads and writes.

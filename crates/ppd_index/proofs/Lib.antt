@@ -6,4 +6,3 @@ pub mod Found
 pub mod Passed
 pub mod Fitting
 pub mod Lent
-pub mod RowsOfRefusals

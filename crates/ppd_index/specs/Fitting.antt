@@ -30,4 +30,5 @@ pub record IsFittingLog (plan : Plan) (log : IntervalLog) : Type 0 where
 
 -- so it is with each interval of these logs
 abbrev pub AreFittingLogs : Plan → Logs → Type 0
-AreFittingLogs plan logs = (p k : ℕ) (log : IntervalLog) → interval_log plan (entries_at logs p) k ≡ Some log → IsFittingLog plan log
+AreFittingLogs plan logs =
+    (p k : ℕ) (log : IntervalLog) → interval_log plan (entries_at logs p) k ≡ Some log → IsFittingLog plan log

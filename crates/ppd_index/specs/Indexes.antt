@@ -26,7 +26,15 @@ abbrev pub rows_at : List (List Row) → ℕ → List Row
 rows_at tables p = get_or tables p []
 
 abbrev pub interval_of : Row → Interval
-interval_of r = record { block = r.block; parent = r.parent; first = r.first; last = unwrap_or r.last 0; closed = r.closed; depth = r.depth }
+interval_of r =
+    record {
+      block = r.block;
+      parent = r.parent;
+      first = r.first;
+      last = unwrap_or r.last 0;
+      closed = r.closed;
+      depth = r.depth;
+    }
 
 -- the entries of process p, and none past the processes
 abbrev pub entries_at : Logs → ℕ → List Entry
@@ -34,7 +42,8 @@ entries_at logs p = get_or logs.lists p []
 
 -- this log is that of interval k of process p, wherever the index is that of the logs
 abbrev pub IsLogOf : Logs → List (List Row) → ℕ → ℕ → IntervalLog → Type 0
-IsLogOf logs tables p k log = (plan : Plan) → IsIndexOf plan logs tables → interval_log plan (entries_at logs p) k ≡ Some log
+IsLogOf logs tables p k log =
+    (plan : Plan) → IsIndexOf plan logs tables → interval_log plan (entries_at logs p) k ≡ Some log
 
 -- the number of piece n's entry, and the piece
 abbrev pub entry_of : IntervalLog → ℕ → Option ℕ

@@ -3,3 +3,4 @@ pub mod Tables
 pub mod Refusals
 pub mod Indexes
 pub mod Fitting
+pub mod Spending

@@ -90,7 +90,8 @@ ends_there s innermost = is_some innermost
 -- stands outside all
 abbrev pub continues : Plan → Standing → Entry → Bool
 continues plan s (entry.Prelog b values) =
-    is_some s.innermost && not (is_process (kind_at plan b)) && not (is_of_function (kind_at plan b) && nat_le 64 s.functions)
+    is_some s.innermost && not (is_process (kind_at plan b))
+    && not (is_of_function (kind_at plan b) && nat_le 64 s.functions)
 continues plan s (entry.Unit u values) = is_some s.innermost
 continues plan s (entry.Sync kind object number value reads writes) = is_some s.innermost
 continues plan s (entry.Postlog b values) = is_same b s.innermost
@@ -143,7 +144,8 @@ unended p n ended = if ended then None else Some (NoEnd (at_entry p n))
 abbrev pub first_from : Plan → ℕ → ℕ → Indexing → Bool → List Entry → Option BadLog
 first_from plan body p x ended [] = unended p x.entry ended
 first_from plan body p x ended (e ∷ es) =
-    or_else (refusal plan body p (standing x ended) e) (first_from plan body p (index_step plan x e) (ended || is_end e) es)
+    or_else (refusal plan body p (standing x ended) e)
+    (first_from plan body p (index_step plan x e) (ended || is_end e) es)
 
 -- the first refusal of a process's entries
 abbrev pub first_bad : Program → Plan → ℕ → List Entry → Option BadLog
@@ -152,7 +154,8 @@ first_bad program plan p entries = first_from plan (program.functions + p) p beg
 -- the first refusal of these lists, the first of which is process p's
 abbrev pub first_in_lists : Program → Plan → ℕ → List (List Entry) → Option BadLog
 first_in_lists program plan p [] = None
-first_in_lists program plan p (es ∷ lists) = or_else (first_bad program plan p es) (first_in_lists program plan (p + 1) lists)
+first_in_lists program plan p (es ∷ lists) =
+    or_else (first_bad program plan p es) (first_in_lists program plan (p + 1) lists)
 
 -- this is the refusal that was found; want of memory is free
 abbrev pub IsRefused : Option BadLog → BadLog → Type 0

@@ -58,7 +58,13 @@ number_of (mark.Open k b first) = first
 
 -- the log of a row's interval among these entries
 abbrev pub log_of : List Entry → Row → IntervalLog
-log_of entries r = record { block = r.block; values = values_at entries r.first; depth = r.depth; pieces = map (piece_at entries) r.marks }
+log_of entries r =
+    record {
+      block = r.block;
+      values = values_at entries r.first;
+      depth = r.depth;
+      pieces = map (piece_at entries) r.marks;
+    }
 
 abbrev pub indexed_of : List Entry → Row → Indexed
 indexed_of entries r = record { first = r.first; log = log_of entries r }
@@ -139,7 +145,8 @@ new_row plan n b running rows = record {
 abbrev pub left_one : ℕ → ℕ → Option ℕ → List Row → List Row
 left_one n k outer rows =
     let r = slice_get rows k in
-    add_mark_to (mark.Left k (block_in r) (first_in r) n) outer (change (closed_by n) k (change (with_mark (mark.Own n)) k rows))
+    add_mark_to (mark.Left k (block_in r) (first_in r) n) outer
+    (change (closed_by n) k (change (with_mark (mark.Own n)) k rows))
 
 -- the innermost interval is left by entry n
 abbrev pub left_rows : ℕ → List ℕ → List Row → List Row
@@ -162,8 +169,10 @@ abbrev pub table_by : Plan → Tabled → Entry → Tabled
 table_by plan t (entry.Prelog b values) =
     record t { rows = t.rows ++ new_row plan t.entry b t.running t.rows ∷ []; running = length t.rows ∷ t.running }
 table_by plan t (entry.Unit u values) = record t { rows = add_mark (mark.Own t.entry) t.running t.rows }
-table_by plan t (entry.Sync kind object number value reads writes) = record t { rows = add_mark (mark.Own t.entry) t.running t.rows }
-table_by plan t (entry.Postlog b values) = record t { rows = left_rows t.entry t.running t.rows; running = drop 1 t.running }
+table_by plan t (entry.Sync kind object number value reads writes) =
+    record t { rows = add_mark (mark.Own t.entry) t.running t.rows }
+table_by plan t (entry.Postlog b values) =
+    record t { rows = left_rows t.entry t.running t.rows; running = drop 1 t.running }
 table_by plan t (entry.End status rest reads writes) =
     record t { rows = open_rows t.entry t.running (add_mark (mark.Own t.entry) t.running t.rows) }
 

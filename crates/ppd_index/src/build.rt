@@ -1,7 +1,8 @@
-ghost use Rattle.std.specs.Prelude.{◌≡◌, ◌+◌, ◌≤◌, ◌<◌, ◌^◌, [], None, length, IfOk, IfErr, OnOk};
+ghost use Rattle.std.specs.Prelude.{◌≡◌, ◌+◌, ◌*◌, ◌≤◌, ◌<◌, ◌^◌, ◌||◌, [], None, length, IfOk, IfErr, OnOk};
 ghost use Rattle.ppd_index.specs.Fitting.{AreFittingLogs};
 ghost use Rattle.ppd_index.specs.Indexes.{IsIndexOf};
-ghost use Rattle.ppd_index.specs.Refusals.{IsRefused, bad as bad_at, first_bad, first_in_lists, refusal, unended};
+ghost use Rattle.ppd_index.specs.Refusals.{IsRefused, bad as bad_at, first_bad, first_in_lists, is_end, refusal, unended};
+ghost use Rattle.ppd_index.specs.Spending.{index_cost, still_open};
 ghost use Rattle.ppd_index.specs.Tables.{rows_of, standing_in, table_step, tabled};
 
 use crate::log_index::LogIndex;
@@ -9,9 +10,11 @@ use crate::refusal::BadLog;
 use crate::row::Row;
 use crate::standing::{Fault, first_fault, is_over};
 use crate::table::{Table, number};
-use ppd_ast::{Plan, Program, Seq};
+use ppd_ast::{Plan, Program, Seq, Steps};
 use ppd_entry::{At, Entry, Logs};
 use std::alloc::Global;
+use std::marker::Brand;
+use std::sync::ledger::{Blank, Ledger};
 
 /// A process by its number, and by that of its body.
 #[derive(Clone, Copy)]
@@ -32,24 +35,33 @@ fn bad(process: u8, entry: u32, fault: Fault) -> BadLog
 }
 
 /// Takes entry `n` after those of the table, or refuses it; `ended` says whether an End stood before.
-fn take_entry(
-    alloc: Global,
+fn take_entry<L: Ledger>(
     plan: &Plan,
     owner: Owner,
     table: &mut Table,
     place: (u32, bool),
     entry: &Entry,
+    steps: &mut Steps<L>,
 ) -> Result<(), BadLog>
-    ensures passed { OnOk result (refusal plan.now owner.body owner.process (standing_in place.1 (tabled place.0 table.old)) entry.now ≡ None) }
-    ensures table { OnOk result (tabled (place.0 + 1) table.new ≡ table_step plan.now (tabled place.0 table.old) entry.now) }
-    ensures refused { IfErr result (IsRefused (refusal plan.now owner.body owner.process (standing_in place.1 (tabled place.0 table.old)) entry.now)) }
+    ensures passed { OnOk result
+        (refusal plan.now owner.body owner.process (standing_in place.1 (tabled place.0 table.old)) entry.now
+        ≡ None) }
+    ensures table { OnOk result
+        (tabled (place.0 + 1) table.new ≡ table_step plan.now (tabled place.0 table.old) entry.now) }
+    ensures refused { IfErr result
+        (IsRefused (refusal plan.now owner.body owner.process
+        (standing_in place.1 (tabled place.0 table.old)) entry.now)) }
+    ensures cost { OnOk result
+        (steps.new + still_open (place.1 || is_end entry.now) table.new.running
+        ≤ steps.old + still_open place.1 table.old.running + 1) }
+    ensures most { steps.new ≤ steps.old + still_open place.1 table.old.running }
 {
     let (n, ended) = place;
     let standing = table.standing(n, ended);
     if let Some(fault) = first_fault(plan, owner.body, &standing, entry) {
         return Err(bad(owner.process, n, fault));
     }
-    match table.take(alloc, plan, n, entry) {
+    match table.take(plan, n, entry, steps) {
         Ok(()) => Ok(()),
         Err(_) => Err(BadLog::Memory),
     }
@@ -70,16 +82,18 @@ fn check_end(process: u8, entries: usize, ended: bool) -> Result<(), BadLog>
 }
 
 /// The intervals of a process's entries, or the first refusal.
-fn own_rows(
+fn own_rows<L: Ledger>(
     alloc: Global,
     program: &Program,
     plan: &Plan,
     process: u8,
     entries: &[Entry],
+    steps: &mut Steps<L>,
 ) -> Result<Vec<Row>, BadLog>
     ensures rows { IfOk result (λ rows. rows.items ≡ rows_of plan.now entries.now) }
     ensures passed { OnOk result (first_bad program.now plan.now process entries.now ≡ None) }
     ensures refused { IfErr result (IsRefused (first_bad program.now plan.now process entries.now)) }
+    ensures cost { steps.new ≤ steps.old + 2 * length entries.now }
 {
     let owner = Owner {
         process,
@@ -88,10 +102,11 @@ fn own_rows(
     let mut table = Table::new(alloc);
     let mut ended = false;
     for (i, entry) in entries.iter().enumerate() {
+        steps.tick();
         let Ok(n) = number(i) else {
             return Err(BadLog::Memory);
         };
-        if let Err(bad) = take_entry(alloc, plan, owner, &mut table, (n, ended), entry) {
+        if let Err(bad) = take_entry(plan, owner, &mut table, (n, ended), entry, steps) {
             return Err(bad);
         }
         ended = is_over(ended, entry);
@@ -103,19 +118,21 @@ fn own_rows(
 }
 
 /// The same as a list of at most 2^32 - 1 intervals.
-fn few_rows(
+fn few_rows<L: Ledger>(
     alloc: Global,
     program: &Program,
     plan: &Plan,
     process: u8,
     entries: &[Entry],
+    steps: &mut Steps<L>,
 ) -> Result<Seq<Row>, BadLog>
     ensures rows { IfOk result (λ rows. rows ≡ rows_of plan.now entries.now) }
     ensures few { IfOk result (λ rows. length rows < 2 ^ 32) }
     ensures passed { OnOk result (first_bad program.now plan.now process entries.now ≡ None) }
     ensures refused { IfErr result (IsRefused (first_bad program.now plan.now process entries.now)) }
+    ensures cost { steps.new ≤ steps.old + 2 * length entries.now }
 {
-    match own_rows(alloc, program, plan, process, entries) {
+    match own_rows(alloc, program, plan, process, entries, steps) {
         Ok(rows) => match number(rows.len()) {
             Ok(_) => Ok(Seq::from_vec(rows)),
             Err(_) => Err(BadLog::Memory),
@@ -124,19 +141,27 @@ fn few_rows(
     }
 }
 
-/// The index of the logs, or the first reason why they have none: one pass over the entries. Each process is
-/// that of a list, and a process without a list is not looked at.
-pub fn index(alloc: Global, program: &Program, plan: &Plan, logs: &Logs) -> Result<LogIndex, BadLog>
+/// The index of the logs, as `index` answers it. It is made in steps that are linear in the entries and the
+/// processes, also where the logs have none.
+pub fn index_in<L: Ledger>(
+    alloc: Global,
+    program: &Program,
+    plan: &Plan,
+    logs: &Logs,
+    steps: &mut Steps<L>,
+) -> Result<LogIndex, BadLog>
     requires processes { length logs.now.lists ≤ 256 }
     ensures index { IfOk result (λ index. IsIndexOf plan.now logs.now index.tables) }
     ensures fitting { OnOk result (AreFittingLogs plan.now logs.now) }
     ensures passed { OnOk result (first_in_lists program.now plan.now 0 logs.now.lists ≡ None) }
     ensures refused { IfErr result (IsRefused (first_in_lists program.now plan.now 0 logs.now.lists)) }
+    ensures cost { steps.new ≤ steps.old + index_cost logs.now }
 {
     let mut tables = Seq::new(alloc);
     let lists = logs.lists.as_slice();
     for (p, list) in lists.iter().enumerate() {
-        let rows = match few_rows(alloc, program, plan, p as u8, list.as_slice()) {
+        steps.tick();
+        let rows = match few_rows(alloc, program, plan, p as u8, list.as_slice(), steps) {
             Ok(rows) => rows,
             Err(bad) => return Err(bad),
         };
@@ -145,4 +170,37 @@ pub fn index(alloc: Global, program: &Program, plan: &Plan, logs: &Logs) -> Resu
         }
     }
     Ok(LogIndex { tables })
+}
+
+/// The index of the logs, with steps that nobody reads.
+fn index_from<L: Ledger>(
+    alloc: Global,
+    program: &Program,
+    plan: &Plan,
+    logs: &Logs,
+    blank: Blank,
+) -> Result<LogIndex, BadLog>
+    requires name { blank.name ≡ L.name }
+    requires parts { blank.parts ≡ L.parts }
+    requires some { 0 < blank.parts }
+    requires processes { length logs.now.lists ≤ 256 }
+    ensures index { IfOk result (λ index. IsIndexOf plan.now logs.now index.tables) }
+    ensures fitting { OnOk result (AreFittingLogs plan.now logs.now) }
+    ensures passed { OnOk result (first_in_lists program.now plan.now 0 logs.now.lists ≡ None) }
+    ensures refused { IfErr result (IsRefused (first_in_lists program.now plan.now 0 logs.now.lists)) }
+{
+    let mut steps: Steps<L> = Steps::new(blank);
+    index_in(alloc, program, plan, logs, &mut steps)
+}
+
+/// The index of the logs, or the first reason why they have none: one pass over the entries, in the steps that
+/// `index_in` counts. Each process is that of a list, and a process without a list is not looked at.
+pub fn index(alloc: Global, program: &Program, plan: &Plan, logs: &Logs) -> Result<LogIndex, BadLog>
+    requires processes { length logs.now.lists ≤ 256 }
+    ensures index { IfOk result (λ index. IsIndexOf plan.now logs.now index.tables) }
+    ensures fitting { OnOk result (AreFittingLogs plan.now logs.now) }
+    ensures passed { OnOk result (first_in_lists program.now plan.now 0 logs.now.lists ≡ None) }
+    ensures refused { IfErr result (IsRefused (first_in_lists program.now plan.now 0 logs.now.lists)) }
+{
+    index_from::<Brand>(alloc, program, plan, logs, Blank::new(1))
 }

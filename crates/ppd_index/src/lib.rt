@@ -12,7 +12,7 @@ mod table;
 #[cfg(test)]
 mod tests;
 
-pub use build::index;
+pub use build::{index, index_in};
 pub use interval::Interval;
 pub use interval_log::IntervalLog;
 pub use log_index::LogIndex;

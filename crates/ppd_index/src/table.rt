@@ -1,20 +1,25 @@
-ghost use Rattle.std.specs.Prelude.{◌≡◌, ◌+◌, ◌++◌, ◌∷◌, [], drop, IfOk, length, slice_get, if◌then◌else◌, OnOk};
+ghost use Rattle.std.specs.Prelude.{◌≡◌, ◌+◌, ◌≤◌, ◌++◌, ◌∷◌, [], drop, IfOk, length, slice_get, if◌then◌else◌, OnOk};
 ghost use Rattle.ppd_sem.specs.Blocks.{block_kind, is_function};
 ghost use Rattle.ppd_model.specs.Extents.{first_of};
 ghost use Rattle.ppd_model.specs.World.{change};
 ghost use Rattle.ppd_index.specs.declared.row.Mark.TheVariants as mark;
+ghost use Rattle.ppd_index.specs.Refusals.{is_end};
+ghost use Rattle.ppd_index.specs.Spending.{still_open};
 ghost use Rattle.ppd_index.specs.Tables.{HasRoom, HasRoomFor, add_mark, add_mark_to as adds_mark, begun_table, block_in, block_there, closed_by, depth_at, depth_there, ended_by, first_in, left_one as leaves_one, left_rows, new_row as row_of, open_one as opens_one, open_rows, standing_in, table_step, tabled, with_mark};
 
 use crate::row::{Mark, Row};
 use crate::standing::Standing;
-use ppd_ast::{BlockKind, Memory, Plan, Seq};
+use ppd_ast::{BlockKind, Memory, Plan, Seq, Steps};
 use ppd_entry::Entry;
 use ppd_sem::Stack;
 use std::alloc::Global;
+use std::sync::ledger::Ledger;
 
-/// The intervals of a process so far, and the numbers of those that run, the innermost at the top.
+/// The intervals of a process so far, and the numbers of those that run, the innermost at the top, with where
+/// their memory comes from.
 #[derive(Drop)]
 pub struct Table {
+    alloc: Global,
     pub(crate) rows: Vec<Row>,
     pub(crate) running: Stack<u32>,
 }
@@ -143,10 +148,17 @@ fn open_one(rows: &mut Vec<Row>, place: u32, outer: Option<u32>, last: u32) -> R
 }
 
 /// The process came to its end inside the intervals that run.
-fn open_all(rows: &mut Vec<Row>, running: &Stack<u32>, last: u32) -> Result<(), Memory>
-    ensures { OnOk result (rows.new.items ≡ open_rows last running.now rows.old.items) }
+fn open_all<L: Ledger>(
+    rows: &mut Vec<Row>,
+    running: &Stack<u32>,
+    last: u32,
+    steps: &mut Steps<L>,
+) -> Result<(), Memory>
+    ensures rows { OnOk result (rows.new.items ≡ open_rows last running.now rows.old.items) }
+    ensures cost { steps.new ≤ steps.old + length running.now }
 {
     for place in 0..running.len() {
+        steps.tick();
         if let Some(interval) = item_at(running, place) {
             open_one(rows, interval, item_at(running, place + 1), last)?;
         }
@@ -168,7 +180,7 @@ fn one_if_function(plan: &Plan, block: u16) -> u8
 }
 
 /// The interval that this entry begins.
-fn new_row(alloc: Global, plan: &Plan, table: &Table, first: u32, block: u16) -> Row
+fn new_row(plan: &Plan, table: &Table, first: u32, block: u16) -> Row
     requires { HasRoomFor plan.now (depth_at table.now.running table.now.rows.items) block }
     ensures { result ≡ row_of plan.now first block table.now.running table.now.rows.items }
 {
@@ -181,7 +193,7 @@ fn new_row(alloc: Global, plan: &Plan, table: &Table, first: u32, block: u16) ->
         last: None,
         closed: false,
         depth: depth + one_if_function(plan, block),
-        marks: Seq::new(alloc),
+        marks: Seq::new(table.alloc),
     }
 }
 
@@ -201,6 +213,7 @@ impl Table {
         ensures { tabled 0 result ≡ begun_table }
     {
         Table {
+            alloc,
             rows: Vec::new(alloc),
             running: Stack::new(alloc),
         }
@@ -220,13 +233,15 @@ impl Table {
     }
 
     /// An interval begins by this entry.
-    fn enter(&mut self, alloc: Global, plan: &Plan, entry: u32, block: u16) -> Result<(), Memory>
+    fn enter(&mut self, plan: &Plan, entry: u32, block: u16) -> Result<(), Memory>
         requires { HasRoomFor plan.now (depth_at self.old.running self.old.rows.items) block }
-        ensures rows { OnOk result (self.new.rows.items ≡ self.old.rows.items ++ row_of plan.now entry block self.old.running self.old.rows.items ∷ []) }
+        ensures rows { OnOk result
+            (self.new.rows.items ≡ self.old.rows.items
+            ++ row_of plan.now entry block self.old.running self.old.rows.items ∷ []) }
         ensures running { OnOk result (self.new.running ≡ length self.old.rows.items ∷ self.old.running) }
     {
         let interval = number(self.rows.len())?;
-        let row = new_row(alloc, plan, self, entry, block);
+        let row = new_row(plan, self, entry, block);
         if self.rows.push(row).is_err() {
             return Err(Memory);
         }
@@ -256,30 +271,37 @@ impl Table {
     }
 
     /// The process came to its end by this entry.
-    fn end(&mut self, entry: u32) -> Result<(), Memory>
-        ensures rows { OnOk result (self.new.rows.items ≡ open_rows entry self.old.running (add_mark (mark.Own entry) self.old.running self.old.rows.items)) }
+    fn end<L: Ledger>(&mut self, entry: u32, steps: &mut Steps<L>) -> Result<(), Memory>
+        ensures rows { OnOk result
+            (self.new.rows.items
+            ≡ open_rows entry self.old.running (add_mark (mark.Own entry) self.old.running self.old.rows.items)) }
         ensures running { OnOk result (self.new.running ≡ self.old.running) }
+        ensures cost { steps.new ≤ steps.old + length self.old.running }
     {
         self.add_mark(Mark::Own(entry))?;
-        open_all(&mut self.rows, &self.running, entry)
+        open_all(&mut self.rows, &self.running, entry, steps)
     }
 
     /// Takes entry `n`.
-    pub(crate) fn take(
+    pub(crate) fn take<L: Ledger>(
         &mut self,
-        alloc: Global,
         plan: &Plan,
         n: u32,
         entry: &Entry,
+        steps: &mut Steps<L>,
     ) -> Result<(), Memory>
         requires { HasRoom plan.now (depth_at self.old.running self.old.rows.items) entry.now }
-        ensures { OnOk result (tabled (n + 1) self.new ≡ table_step plan.now (tabled n self.old) entry.now) }
+        ensures table { OnOk result (tabled (n + 1) self.new ≡ table_step plan.now (tabled n self.old) entry.now) }
+        ensures cost { OnOk result
+            (steps.new + still_open (is_end entry.now) self.new.running
+            ≤ steps.old + length self.old.running + 1) }
+        ensures most { steps.new ≤ steps.old + length self.old.running }
     {
         match entry {
-            Entry::Prelog { block, .. } => self.enter(alloc, plan, n, *block),
+            Entry::Prelog { block, .. } => self.enter(plan, n, *block),
             Entry::Unit { .. } | Entry::Sync { .. } => self.add_mark(Mark::Own(n)),
             Entry::Postlog { .. } => self.leave(n),
-            Entry::End { .. } => self.end(n),
+            Entry::End { .. } => self.end(n, steps),
         }
     }
 }

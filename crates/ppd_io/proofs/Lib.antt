@@ -1,2 +1,3 @@
 pub mod EntryPlaces
+pub mod Lining
 pub mod Prefixes

@@ -3,3 +3,4 @@ pub mod Causes
 pub mod Content
 pub mod Entries
 pub mod Forms
+pub mod Lines

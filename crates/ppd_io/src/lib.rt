@@ -1,12 +1,14 @@
 //! Bytes in and out: where they are read, written and kept by name, with counts of faults,
-//! over the system, over memory, and over memory with faults at chosen calls.
+//! over the system, over memory, and over memory with faults at chosen calls; and the lines of a source.
 #![tactic(auto)]
 
 mod adapters;
+mod bytes;
 mod calls;
 mod entries;
 mod gate;
 mod host;
+mod lines;
 mod memory;
 mod put;
 mod shelf;
@@ -17,6 +19,7 @@ mod steady;
 pub use adapters::{StdSink, StdSource};
 pub use gate::{FreeGate, Gate};
 pub use host::HostShelf;
+pub use lines::{LineError, LineReader};
 pub use memory::{MemoryShelf, MemorySink, MemorySource};
 pub use put::put_all;
 pub use shelf::{Shelf, ShelfError};
@@ -24,5 +27,7 @@ pub use sink::{Failed, Sink};
 pub use source::Source;
 pub use steady::{SteadyShelf, SteadySink, SteadySource};
 
+#[cfg(test)]
+mod line_tests;
 #[cfg(test)]
 mod tests;

@@ -24,11 +24,16 @@ is_name_byte b = is_letter b || is_digit b
 -- the keywords and the marks, each at its number
 abbrev pub keywords : List (List ℕ)
 keywords =
-    codes "shared" ∷ codes "int" ∷ codes "void" ∷ codes "sem" ∷ codes "chan" ∷ codes "process" ∷ codes "if" ∷ codes "else" ∷ codes "while" ∷ codes "for" ∷ codes "return" ∷ codes "P" ∷ codes "V" ∷ codes "send" ∷ codes "recv" ∷ codes "print" ∷ codes "assert" ∷ []
+    codes "shared" ∷ codes "int" ∷ codes "void" ∷ codes "sem" ∷ codes "chan" ∷ codes "process" ∷ codes "if"
+    ∷ codes "else" ∷ codes "while" ∷ codes "for" ∷ codes "return" ∷ codes "P" ∷ codes "V" ∷ codes "send"
+    ∷ codes "recv" ∷ codes "print" ∷ codes "assert" ∷ []
 
 abbrev pub marks : List (List ℕ)
 marks =
-    codes "||" ∷ codes "&&" ∷ codes "==" ∷ codes "!=" ∷ codes "<=" ∷ codes ">=" ∷ codes "<" ∷ codes ">" ∷ codes "+" ∷ codes "-" ∷ codes "*" ∷ codes "/" ∷ codes "%" ∷ codes "!" ∷ codes "=" ∷ codes "+=" ∷ codes "-=" ∷ codes "++" ∷ codes "--" ∷ codes "(" ∷ codes ")" ∷ codes "{" ∷ codes "}" ∷ codes "[" ∷ codes "]" ∷ codes ";" ∷ codes "," ∷ []
+    codes "||" ∷ codes "&&" ∷ codes "==" ∷ codes "!=" ∷ codes "<=" ∷ codes ">=" ∷ codes "<" ∷ codes ">" ∷ codes "+"
+    ∷ codes "-" ∷ codes "*" ∷ codes "/" ∷ codes "%" ∷ codes "!" ∷ codes "=" ∷ codes "+=" ∷ codes "-="
+    ∷ codes "++" ∷ codes "--" ∷ codes "(" ∷ codes ")" ∷ codes "{" ∷ codes "}" ∷ codes "[" ∷ codes "]" ∷ codes ";"
+    ∷ codes "," ∷ []
 
 -- at which number of the table the text stands
 abbrev pub number_in : List (List ℕ) → List ℕ → Option ℕ
@@ -61,7 +66,8 @@ word_kind None text = Name text
 
 -- letters, digits and _ that begin with no digit
 abbrev pub read_word : List ℕ → Piece
-read_word text = if nat_lt 64 (length text) then Bad LongName else Read (length text) (word_kind (number_in keywords text) text)
+read_word text =
+    if nat_lt 64 (length text) then Bad LongName else Read (length text) (word_kind (number_in keywords text) text)
 
 -- a number of n bytes
 abbrev pub read_value : ℕ → Option ℕ → Piece

@@ -29,4 +29,5 @@ IsToken text kind = front text ≡ Read (length text) kind
 -- The token is the text that it covers, and no longer text from its first byte on is a token.
 pub record IsLongest (bytes : List ℕ) (t : Token) : Type 0 where
   pub is : IsToken (slice_range bytes t.from t.to) t.kind
-  pub longest : (to : ℕ) (kind : TokenKind) → t.to < to → to ≤ length bytes → IsToken (slice_range bytes t.from to) kind → ⊥
+  pub longest : (to : ℕ) (kind : TokenKind) → t.to < to → to ≤ length bytes
+      → IsToken (slice_range bytes t.from to) kind → ⊥

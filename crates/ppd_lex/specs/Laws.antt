@@ -13,15 +13,18 @@ HaveOneReading = (bytes : List ℕ) (ts us : List Token) → IsTokens bytes ts �
 
 -- bytes have one fault at most, want of memory aside
 abbrev pub HaveOneFault : Type 0
-HaveOneFault = (bytes : List ℕ) (d e : LexError) → IsRefused bytes d → IsRefused bytes e → d ≢ Memory → e ≢ Memory → d ≡ e
+HaveOneFault =
+    (bytes : List ℕ) (d e : LexError) → IsRefused bytes d → IsRefused bytes e → d ≢ Memory → e ≢ Memory → d ≡ e
 
 -- bytes that are tokens are refused for want of memory alone
 abbrev pub AreReadOrRefused : Type 0
-AreReadOrRefused = (bytes : List ℕ) (ts : List Token) (e : LexError) → IsTokens bytes ts → IsRefused bytes e → e ≡ Memory
+AreReadOrRefused =
+    (bytes : List ℕ) (ts : List Token) (e : LexError) → IsTokens bytes ts → IsRefused bytes e → e ≡ Memory
 
 -- all bytes are tokens or have a fault
 abbrev pub AreReadOrFaulty : Type 0
-AreReadOrFaulty = (bytes : List ℕ) → ((ts : List Token) × IsTokens bytes ts) ⊎ ((e : LexError) × (e ≢ Memory) × IsRefused bytes e)
+AreReadOrFaulty =
+    (bytes : List ℕ) → ((ts : List Token) × IsTokens bytes ts) ⊎ ((e : LexError) × (e ≢ Memory) × IsRefused bytes e)
 
 -- no longer text from the first byte of a token on is a token
 abbrev pub AreLongest : Type 0

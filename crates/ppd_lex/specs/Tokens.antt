@@ -16,7 +16,8 @@ origin = record { line = 1; column = 1 }
 
 -- the place after a byte, and after bytes: byte 10 ends a line
 abbrev pub after_byte : Place → ℕ → Place
-after_byte p b = if nat_eq b 10 then record { line = p.line + 1; column = 1 } else record { line = p.line; column = p.column + 1 }
+after_byte p b =
+    if nat_eq b 10 then record { line = p.line + 1; column = 1 } else record { line = p.line; column = p.column + 1 }
 
 abbrev pub after_bytes : Place → List ℕ → Place
 after_bytes p [] = p
@@ -33,14 +34,18 @@ token_at bytes i n kind = record { kind = kind; from = i; to = i + n; place = pl
 -- From byte i on, the bytes are these tokens.
 pub data Lexes (bytes : List ℕ) : ℕ → List Token → Type 0 where
   end : {i : ℕ} → i ≡ length bytes → Lexes bytes i (token_at bytes i 0 End ∷ [])
-  gap : {i n : ℕ} {ts : List Token} → i < length bytes → front (drop i bytes) ≡ Gap n → Lexes bytes (i + n) ts → Lexes bytes i ts
-  token : {i n : ℕ} {kind : TokenKind} {ts : List Token} → i < length bytes → front (drop i bytes) ≡ Read n kind → Lexes bytes (i + n) ts → Lexes bytes i (token_at bytes i n kind ∷ ts)
+  gap : {i n : ℕ} {ts : List Token} → i < length bytes → front (drop i bytes) ≡ Gap n → Lexes bytes (i + n) ts
+      → Lexes bytes i ts
+  token : {i n : ℕ} {kind : TokenKind} {ts : List Token} → i < length bytes → front (drop i bytes) ≡ Read n kind
+      → Lexes bytes (i + n) ts → Lexes bytes i (token_at bytes i n kind ∷ ts)
 
 -- From byte i on, the first fault is at byte j.
 pub data Faults (bytes : List ℕ) : ℕ → ℕ → Fault → Type 0 where
   here : {i : ℕ} {fault : Fault} → i < length bytes → front (drop i bytes) ≡ Bad fault → Faults bytes i i fault
-  after_gap : {i n j : ℕ} {fault : Fault} → i < length bytes → front (drop i bytes) ≡ Gap n → Faults bytes (i + n) j fault → Faults bytes i j fault
-  after_token : {i n j : ℕ} {kind : TokenKind} {fault : Fault} → i < length bytes → front (drop i bytes) ≡ Read n kind → Faults bytes (i + n) j fault → Faults bytes i j fault
+  after_gap : {i n j : ℕ} {fault : Fault} → i < length bytes → front (drop i bytes) ≡ Gap n
+      → Faults bytes (i + n) j fault → Faults bytes i j fault
+  after_token : {i n j : ℕ} {kind : TokenKind} {fault : Fault} → i < length bytes
+      → front (drop i bytes) ≡ Read n kind → Faults bytes (i + n) j fault → Faults bytes i j fault
 
 -- These are the tokens of a source of these bytes.
 pub record IsTokens (bytes : List ℕ) (tokens : List Token) : Type 0 where

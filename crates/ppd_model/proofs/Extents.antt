@@ -53,7 +53,7 @@ abbrev Fall : ℕ → List ℕ → Type 0
 Fall n [] = ⊤
 Fall n (k ∷ ks) = (k < n) × Fall k ks
 
-abbrev IsIn : ℕ → List ℕ → Type 0
+abbrev pub IsIn : ℕ → List ℕ → Type 0
 IsIn k [] = ⊥
 IsIn k (m ∷ ms) = (k ≡ m) ⊎ IsIn k ms
 
@@ -99,9 +99,9 @@ stack_grow xs done more [] m h = tt
 stack_grow xs done more (k ∷ ks) m h = (level_grow xs done more k m h.0, h.1)
 
 -- with other intervals, where each that runs is as before but for its last entry
-record IsLike (e f : Extent) : Type 0 where
-  prelog : f.prelog ≡ e.prelog
-  closed : f.closed ≡ e.closed
+pub record IsLike (e f : Extent) : Type 0 where
+  pub prelog : f.prelog ≡ e.prelog
+  pub closed : f.closed ≡ e.closed
 
 abbrev AreLike : List Extent → List Extent → List ℕ → Type 0
 AreLike xs ys ks = (k : ℕ) (e : Extent) → IsIn k ks → slice_get xs k ≡ Some e → (f : Extent) × (slice_get ys k ≡ Some f) × IsLike e f
@@ -205,20 +205,20 @@ entered done b vs x h =
 
 -- ---- an end
 
-record WasBefore (j : ℕ) (ks : List ℕ) (xs : List Extent) (k : ℕ) (f : Extent) : Type 0 where
-  extent : Extent
-  there : slice_get xs k ≡ Some extent
-  like : IsLike extent f
-  same : (extent ≡ f) ⊎ IsIn k ks
+pub record WasBefore (j : ℕ) (ks : List ℕ) (xs : List Extent) (k : ℕ) (f : Extent) : Type 0 where
+  pub extent : Extent
+  pub there : slice_get xs k ≡ Some extent
+  pub like : IsLike extent f
+  pub same : (extent ≡ f) ⊎ IsIn k ks
 
-abbrev last_by : ℕ → Extent → Extent
+abbrev pub last_by : ℕ → Extent → Extent
 last_by j e = record e { last = Some j }
 
 option_is : (f : Extent → Extent) (o : Option Extent) (y : Extent) → option_map f o ≡ Some y → (e : Extent) × (o ≡ Some e) × (f e ≡ y)
 option_is f None y e = absurd (none-some y e)
 option_is f (Some x) y e = (x, refl, some e)
 
-ended_before : (j : ℕ) (ks : List ℕ) (xs : List Extent) (k : ℕ) (f : Extent) → slice_get (ended_by j ks xs) k ≡ Some f → WasBefore j ks xs k f
+pub ended_before : (j : ℕ) (ks : List ℕ) (xs : List Extent) (k : ℕ) (f : Extent) → slice_get (ended_by j ks xs) k ≡ Some f → WasBefore j ks xs k f
 ended_before j [] xs k f at = record { extent = f; there = at; like = record { prelog = refl; closed = refl }; same = inl refl }
 ended_before j (m ∷ ms) xs k f at =
     let w : WasBefore j ms (change (last_by j) m xs) k f = ended_before j ms (change (last_by j) m xs) k f at in
@@ -360,10 +360,19 @@ all_entries : (done : List Entry) (x : Extending) (es : List Entry) → IsSound 
 all_entries done x [] h = subst (λ l. IsSound l x) (sym (append-nil done)) h
 all_entries done x (e ∷ es) h = subst (λ l. IsSound l (fold extend (extend x e) es)) (append_assoc done (e ∷ []) es) (all_entries (done ++ e ∷ []) (extend x e) es (one_more done e x h))
 
+sound_at : (entries : List Entry) → IsSound entries (fold extend begun_extents entries)
+sound_at entries = all_entries [] begun_extents entries (record { entry_is = refl; stack = tt; falls = tt; left = λ k e f. absurd (none-some e f); runs = λ k e f. absurd (none-some e f) })
+
+pub entry_number : (entries : List Entry) → (fold extend begun_extents entries).entry ≡ length entries
+entry_number entries = (sound_at entries).entry_is
+
+-- an interval that runs is not left
+pub running_going : (entries : List Entry) (k : ℕ) (e : Extent) → IsIn k (fold extend begun_extents entries).running → slice_get (fold extend begun_extents entries).extents k ≡ Some e → e.closed ≡ false
+running_going entries k e i at = let x : Extending = fold extend begun_extents entries in stack_going x.extents entries x.running k e (sound_at entries).stack i at
+
 pub extents_match : ExtentsMatch
 extents_match entries k x at =
-    let h : IsSound entries (fold extend begun_extents entries) =
-    all_entries [] begun_extents entries (record { entry_is = refl; stack = tt; falls = tt; left = λ k e f. absurd (none-some e f); runs = λ k e f. absurd (none-some e f) }) in
+    let h : IsSound entries (fold extend begun_extents entries) = sound_at entries in
     record {
       left = λ is. h.left k x at is;
       going = λ is. subst (λ es. IsNotLeft es x.prelog) (append-nil entries) (not_left (fold extend begun_extents entries).extents entries [] (fold extend begun_extents entries).running k x (matched none) h.stack (h.runs k x at is) at);

@@ -35,9 +35,12 @@ names_chan c need = false
 -- process p's step changes p itself and what its need names, and nothing else
 pub record ChangesItsOwn (program : Program) (plan : Plan) (w : World) (p : ℕ) : Type 0 where
   pub procs : (q : ℕ) → (q ≡ p → ⊥) → slice_get (step program plan w p).procs q ≡ slice_get w.procs q
-  pub cells : (c : ℕ) → writes_cell c (need program plan w p) ≡ false → slice_get (step program plan w p).shared c ≡ slice_get w.shared c
-  pub sems : (s : ℕ) → names_sem s (need program plan w p) ≡ false → slice_get (step program plan w p).sems s ≡ slice_get w.sems s
-  pub chans : (c : ℕ) → names_chan c (need program plan w p) ≡ false → slice_get (step program plan w p).chans c ≡ slice_get w.chans c
+  pub cells : (c : ℕ) → writes_cell c (need program plan w p) ≡ false
+      → slice_get (step program plan w p).shared c ≡ slice_get w.shared c
+  pub sems : (s : ℕ) → names_sem s (need program plan w p) ≡ false
+      → slice_get (step program plan w p).sems s ≡ slice_get w.sems s
+  pub chans : (c : ℕ) → names_chan c (need program plan w p) ≡ false
+      → slice_get (step program plan w p).chans c ≡ slice_get w.chans c
 
 -- so it is with each step
 abbrev pub StepsChangeTheirOwn : Type 0
@@ -58,7 +61,8 @@ pub record IsBounded (budget : ℕ) (w : World) (h : List ℕ) : Type 0 where
 -- so it is with each schedule
 abbrev pub SchedulesAreBounded : Type 0
 SchedulesAreBounded =
-    (program : Program) (plan : Plan) (budget : ℕ) (h : List ℕ) (w : World) → run program plan budget h ≡ Some w → IsBounded budget w h
+    (program : Program) (plan : Plan) (budget : ℕ) (h : List ℕ) (w : World) → run program plan budget h ≡ Some w
+    → IsBounded budget w h
 
 -- ---- counts
 
@@ -90,4 +94,5 @@ pub record IsBalanced (program : Program) (w : World) : Type 0 where
 -- so it is after each schedule
 abbrev pub CountsAreBalanced : Type 0
 CountsAreBalanced =
-    (program : Program) (plan : Plan) (budget : ℕ) (h : List ℕ) (w : World) → run program plan budget h ≡ Some w → IsBalanced program w
+    (program : Program) (plan : Plan) (budget : ℕ) (h : List ℕ) (w : World) → run program plan budget h ≡ Some w
+    → IsBalanced program w

@@ -62,8 +62,10 @@ pub record CostsWhatItWrites (program : Program) (plan : Plan) (budget : ℕ) (l
 -- so it is with the next step of each process after each schedule
 abbrev pub StepsCostWhatTheyWrite : Type 0
 StepsCostWhatTheyWrite =
-    (program : Program) (plan : Plan) (budget : ℕ) (h : List ℕ) (p : ℕ) (l : Logging) → IsValid program → IsValidPlan program plan → HasWholePrelogs program plan
-    → slice_get (loggings program plan budget h) p ≡ Some l → CostsWhatItWrites program plan budget l (logged_moment program plan (told program plan budget h).world p)
+    (program : Program) (plan : Plan) (budget : ℕ) (h : List ℕ) (p : ℕ) (l : Logging) → IsValid program
+    → IsValidPlan program plan → HasWholePrelogs program plan
+    → slice_get (loggings program plan budget h) p ≡ Some l
+    → CostsWhatItWrites program plan budget l (logged_moment program plan (told program plan budget h).world p)
 
 -- ---- a whole log
 
@@ -79,10 +81,12 @@ pub record HasSpentNothing (l : Logging) : Type 0 where
 -- whatever the entries written at the start hold, they cost nothing
 abbrev pub StartsAreFree : Type 0
 StartsAreFree =
-    (program : Program) (plan : Plan) (budget p : ℕ) (l : Logging) → slice_get (loggings program plan budget []) p ≡ Some l → HasSpentNothing l
+    (program : Program) (plan : Plan) (budget p : ℕ) (l : Logging)
+    → slice_get (loggings program plan budget []) p ≡ Some l → HasSpentNothing l
 
 -- so it is with each process after each schedule
 abbrev pub LogsArePaid : Type 0
 LogsArePaid =
-    (program : Program) (plan : Plan) (budget : ℕ) (h : List ℕ) (p : ℕ) (l : Logging) → IsValid program → IsValidPlan program plan → HasWholePrelogs program plan
+    (program : Program) (plan : Plan) (budget : ℕ) (h : List ℕ) (p : ℕ) (l : Logging) → IsValid program
+    → IsValidPlan program plan → HasWholePrelogs program plan
     → slice_get (loggings program plan budget h) p ≡ Some l → HasSpent l

@@ -25,7 +25,8 @@ own_events program plan s (x ∷ xs) =
 abbrev pub TracesTellRuns : Type 0
 TracesTellRuns =
     (program : Program) (plan : Plan) (budget : ℕ) (story : Story) (p : ℕ) (steps : List Taken)
-    → map (λ e. e.event) (tracing_of program plan budget story p steps).events ≡ own_events program plan (started program plan p budget) steps
+    → map (λ e. e.event) (tracing_of program plan budget story p steps).events
+    ≡ own_events program plan (started program plan p budget) steps
 
 -- ---- earlier events
 
@@ -59,4 +60,5 @@ EachNamesEarlier p k (e ∷ es) = NamesEarlier p k e × EachNamesEarlier p (k + 
 -- so it is with each event of a trace
 abbrev pub TracesNameEarlierEvents : Type 0
 TracesNameEarlierEvents =
-    (program : Program) (plan : Plan) (budget : ℕ) (story : Story) (p : ℕ) (steps : List Taken) → EachNamesEarlier p 0 (tracing_of program plan budget story p steps).events
+    (program : Program) (plan : Plan) (budget : ℕ) (story : Story) (p : ℕ) (steps : List Taken)
+    → EachNamesEarlier p 0 (tracing_of program plan budget story p steps).events

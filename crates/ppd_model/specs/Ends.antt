@@ -20,4 +20,5 @@ ends_of program plan budget s = ends_by program program.functions (states progra
 -- a closed run has the ends of its story
 abbrev pub StoriesTellEnds : Type 0
 StoriesTellEnds =
-    (program : Program) (plan : Plan) (budget : ℕ) (h : List ℕ) → (close program plan budget h).ends ≡ ends_of program plan budget (story program plan budget h)
+    (program : Program) (plan : Plan) (budget : ℕ) (h : List ℕ)
+    → (close program plan budget h).ends ≡ ends_of program plan budget (story program plan budget h)

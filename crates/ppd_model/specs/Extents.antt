@@ -23,12 +23,15 @@ is_within e = true
 pub data AreMatched : List Entry → Type 0 where
   none : AreMatched []
   within : {e : Entry} {es : List Entry} → is_within e ≡ true → AreMatched es → AreMatched (e ∷ es)
-  pair : {b : ℕ} {vs : List ℤ} {es : List Entry} (c : ℕ) (ws : List ℤ) (inner rest : List Entry) → es ≡ inner ++ entry.Postlog c ws ∷ rest → AreMatched inner → AreMatched rest → AreMatched (entry.Prelog b vs ∷ es)
+  pair : {b : ℕ} {vs : List ℤ} {es : List Entry} (c : ℕ) (ws : List ℤ) (inner rest : List Entry)
+      → es ≡ inner ++ entry.Postlog c ws ∷ rest → AreMatched inner → AreMatched rest
+      → AreMatched (entry.Prelog b vs ∷ es)
 
 -- and some prelogs that have none
 pub data AreOpen : List Entry → Type 0 where
   matched : {es : List Entry} → AreMatched es → AreOpen es
-  opened : {es : List Entry} (b : ℕ) (vs : List ℤ) (inner rest : List Entry) → es ≡ inner ++ entry.Prelog b vs ∷ rest → AreMatched inner → AreOpen rest → AreOpen es
+  opened : {es : List Entry} (b : ℕ) (vs : List ℤ) (inner rest : List Entry) → es ≡ inner ++ entry.Prelog b vs ∷ rest
+      → AreMatched inner → AreOpen rest → AreOpen es
 
 -- entry i is a prelog, and entry j is its postlog: what stands between them matches
 pub record IsLeftAt (entries : List Entry) (i j : ℕ) : Type 0 where
@@ -89,8 +92,13 @@ ended_by j (k ∷ ks) xs = ended_by j ks (change (λ x. record x { last = Some j
 -- what an entry adds
 abbrev pub extend_by : Extending → Entry → Extending
 extend_by x (entry.Prelog b values) =
-    record x { extents = x.extents ++ (record { block = b; parent = first_of x.running; prelog = x.entry; last = None; closed = false }) ∷ []; running = length x.extents ∷ x.running }
-extend_by x (entry.Postlog b values) = record x { extents = left_by x.entry x.running x.extents; running = drop 1 x.running }
+    record x {
+      extents = x.extents
+          ++ (record { block = b; parent = first_of x.running; prelog = x.entry; last = None; closed = false }) ∷ [];
+      running = length x.extents ∷ x.running;
+    }
+extend_by x (entry.Postlog b values) =
+    record x { extents = left_by x.entry x.running x.extents; running = drop 1 x.running }
 extend_by x (entry.End status rest reads writes) = record x { extents = ended_by x.entry x.running x.extents }
 extend_by x e = x
 
@@ -119,7 +127,9 @@ ExtentsMatch = (entries : List Entry) (k : ℕ) (x : Extent) → slice_get (exte
 
 -- and they are the intervals of which the logs are found
 abbrev pub ExtentsAreIndexed : Type 0
-ExtentsAreIndexed = (plan : Plan) (entries : List Entry) → map (λ x. x.prelog) (extents entries) ≡ map (λ i. i.first) (indexed plan entries)
+ExtentsAreIndexed =
+    (plan : Plan) (entries : List Entry)
+    → map (λ x. x.prelog) (extents entries) ≡ map (λ i. i.first) (indexed plan entries)
 
 -- an interval of a story and one of a log: of one block, directly inside the same interval, and both left or not
 pub record IsSameInterval (i : Span) (x : Extent) : Type 0 where
@@ -135,5 +145,6 @@ pub record AreOfLog (x : Split) (kept closed : List Entry) : Type 0 where
 -- so it is after each schedule
 abbrev pub IntervalsAreOfLogs : Type 0
 IntervalsAreOfLogs =
-    (program : Program) (plan : Plan) (budget : ℕ) (h : List ℕ) (p : ℕ) (x : Split) (l : Logging) → slice_get (splits program plan budget (story program plan budget h)) p ≡ Some x
+    (program : Program) (plan : Plan) (budget : ℕ) (h : List ℕ) (p : ℕ) (x : Split) (l : Logging)
+    → slice_get (splits program plan budget (story program plan budget h)) p ≡ Some x
     → slice_get (loggings program plan budget h) p ≡ Some l → AreOfLog x l.entries (closed_log l)

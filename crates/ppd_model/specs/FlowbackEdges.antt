@@ -59,12 +59,14 @@ edges_of_event program xs e =
 -- one for each local cell of a loop's postlog
 abbrev pub left_edges : List Split → ℕ → List ℕ → List ℤ → List Tag → List FlowEdge
 left_edges xs frame (c ∷ cs) (v ∷ vs) (w ∷ ws) =
-    record { kind = Left; spot = Some (Local frame c); value = Some v; from = from_writer xs w } ∷ left_edges xs frame cs vs ws
+    record { kind = Left; spot = Some (Local frame c); value = Some v; from = from_writer xs w }
+    ∷ left_edges xs frame cs vs ws
 left_edges xs frame cs vs ws = []
 
 -- one for a returned value
 abbrev pub returned_edges : List Split → List ℤ → List Tag → List FlowEdge
-returned_edges xs (v ∷ vs) (w ∷ ws) = record { kind = Returned; spot = None; value = Some v; from = from_writer xs w } ∷ []
+returned_edges xs (v ∷ vs) (w ∷ ws) =
+    record { kind = Returned; spot = None; value = Some v; from = from_writer xs w } ∷ []
 returned_edges xs vs ws = []
 
 -- what a loop left, or what a function returned

@@ -99,7 +99,8 @@ abbrev pub tagged_by : Program → Proc → Tag → Asked Deed → List Activati
 tagged_by program s me (Ok (set_local c v, left)) xs = tagged c me xs
 tagged_by program s me (Ok (clear base len, left)) xs = all_tagged base len me xs
 tagged_by program s me (Ok (invoke f values into, left)) xs = called program f (length values) me ∷ xs
-tagged_by program s me (Ok (back value, left)) xs = tagged_into (into_at program (top_call s.frames)) value me (drop 1 xs)
+tagged_by program s me (Ok (back value, left)) xs =
+    tagged_into (into_at program (top_call s.frames)) value me (drop 1 xs)
 tagged_by program s me (Ok (receive chan into, left)) xs = tagged into me xs
 tagged_by program s me asked xs = xs
 
@@ -142,7 +143,8 @@ or_else (Some x) y = Some x
 -- the control parent of statement s in its activation
 abbrev pub parent_in : Program → ℕ → Activation → Option EventId
 parent_in program s x =
-    or_else (of_run (kind_of program s) (latest s x.tests)) (or_else (of_outer (parent_if (slice_get program.stmts s)) x.tests) x.call)
+    or_else (of_run (kind_of program s) (latest s x.tests))
+    (or_else (of_outer (parent_if (slice_get program.stmts s)) x.tests) x.call)
 
 -- the control parent of an event of the head: the previous test of its loop run, or the latest
 -- test of the statement round it, or else the call; and None in a process by itself
@@ -165,7 +167,8 @@ tests_after k s me value tests = tests
 -- the top activation with the event, if it is of a test
 abbrev pub with_test : Program → EventId → Event → List Activation → List Activation
 with_test program me e [] = []
-with_test program me e (x ∷ xs) = record x { tests = tests_after (kind_of program e.stmt) e.stmt me e.value x.tests } ∷ xs
+with_test program me e (x ∷ xs) =
+    record x { tests = tests_after (kind_of program e.stmt) e.stmt me e.value x.tests } ∷ xs
 
 -- ---- one step
 
@@ -196,7 +199,8 @@ abbrev pub with_event : Program → Plan → Story → ℕ → Taken → Tracing
 with_event program plan story p x t =
     let e = event_of program plan t.proc x t.proc.todo in
     record t {
-      activations = tagged_after program t.proc (Some (me_in p t)) x.need (with_test program (me_in p t) e t.activations);
+      activations =
+          tagged_after program t.proc (Some (me_in p t)) x.need (with_test program (me_in p t) e t.activations);
       answers = [];
       events = t.events ++ traced_by program story x t e ∷ [];
     }
@@ -211,7 +215,8 @@ trace_by program plan story p x need t = with_event program plan story p x t
 
 -- the state goes on by the step's answer
 abbrev pub trace_step : Program → Plan → Story → ℕ → Tracing → Taken → Tracing
-trace_step program plan story p t x = record (trace_by program plan story p x x.need t) { proc = act program plan t.proc x.answer }
+trace_step program plan story p t x =
+    record (trace_by program plan story p x x.need t) { proc = act program plan t.proc x.answer }
 
 -- ---- a process, and all of them
 

@@ -39,7 +39,8 @@ pub data Before (program : Program) (syncs : List (List Sync)) : NodeId → Node
 -- the first edge is before the beginning of the second
 pub data EdgeBefore (program : Program) (syncs : List (List Sync)) (a b : EdgeId) : Type 0 where
   earlier : a.process ≡ b.process → a.edge < b.edge → EdgeBefore program syncs a b
-  across : (a.process ≡ b.process → ⊥) → (j : ℕ) → b.edge ≡ j + 1 → Before program syncs (node a.process a.edge) (node b.process j) → EdgeBefore program syncs a b
+  across : (a.process ≡ b.process → ⊥) → (j : ℕ) → b.edge ≡ j + 1
+      → Before program syncs (node a.process a.edge) (node b.process j) → EdgeBefore program syncs a b
 
 -- ---- tests of them
 

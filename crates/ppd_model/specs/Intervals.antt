@@ -129,8 +129,10 @@ control_by program p t need = Some (me_in p t)
 -- a step that leaves a block ends its interval, and one that enters a block begins an interval
 abbrev pub with_marks : Program → Plan → ℕ → Need → Split → Split
 with_marks program plan p need x =
-    begin_if (opened program plan x.trace.proc need) (frame_of program plan x.trace.proc) (control_by program p x.trace need)
-    (end_if (closed program plan x.trace.proc need) (left_by plan (me_in p x.trace) (top_tags x.trace.activations) need) x)
+    begin_if (opened program plan x.trace.proc need) (frame_of program plan x.trace.proc)
+    (control_by program p x.trace need)
+    (end_if (closed program plan x.trace.proc need)
+    (left_by plan (me_in p x.trace) (top_tags x.trace.activations) need) x)
 
 -- one more step: its own interval, its event, the intervals that it ends and begins, and its edge
 abbrev pub split_step : Program → Plan → Story → ℕ → Split → Taken → Split

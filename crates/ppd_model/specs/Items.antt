@@ -33,4 +33,5 @@ pub record HasWholeItems (xs : List Split) (x : Split) (p : ℕ) : Type 0 where
 abbrev pub ItemsAreWhole : Type 0
 ItemsAreWhole =
     (program : Program) (plan : Plan) (budget : ℕ) (h : List ℕ) (p : ℕ) (x : Split) → IsValid program
-    → slice_get (splits program plan budget (story program plan budget h)) p ≡ Some x → HasWholeItems (splits program plan budget (story program plan budget h)) x p
+    → slice_get (splits program plan budget (story program plan budget h)) p ≡ Some x
+    → HasWholeItems (splits program plan budget (story program plan budget h)) x p

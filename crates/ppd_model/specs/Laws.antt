@@ -19,7 +19,7 @@ use Rattle.ppd_model.specs.Record.{SharedAccess, accesses, record_of, sync_recor
 use Rattle.ppd_model.specs.HappenedBefore.{Before, EdgeBefore, edge, is_before, is_edge_before, node, own_syncs, sync_at}
 use Rattle.ppd_model.specs.Numbers.{IsCounted, count_of}
 use Rattle.ppd_model.specs.Races.{races, races_of}
-use Rattle.ppd_model.specs.Logs.{close, log_step, loggings, logs}
+use Rattle.ppd_model.specs.Logs.{close, closed_logs, log_step, loggings}
 use Rattle.ppd_model.specs.Intervals.{intervals, items, split_of}
 use Rattle.ppd_model.specs.FlowbackEdges.{edges, last}
 use Rattle.ppd_model.specs.NearIntervals.{near_intervals}
@@ -29,31 +29,41 @@ use Rattle.ppd_model.specs.NearIntervals.{near_intervals}
 -- the story of the schedule with a step of p after it
 pub record HasOneMoreStep (program : Program) (plan : Plan) (budget : ℕ) (h : List ℕ) (p : ℕ) : Type 0 where
   pub told_is : told program plan budget (h ++ p ∷ []) ≡ tell program plan (told program plan budget h) p
-  pub steps_are : (story program plan budget (h ++ p ∷ [])).steps ≡ change (λ xs. xs ++ (moment_of program plan (told program plan budget h) p).taken ∷ []) p (story program plan budget h).steps
-  pub cells_are : (story program plan budget (h ++ p ∷ [])).cells ≡ (step program plan (told program plan budget h).world p).shared
-  pub writers_are : (story program plan budget (h ++ p ∷ [])).writers ≡ writers_after (told program plan budget h) p (need program plan (told program plan budget h).world p)
+  pub steps_are : (story program plan budget (h ++ p ∷ [])).steps
+      ≡ change (λ xs. xs ++ (moment_of program plan (told program plan budget h) p).taken ∷ []) p
+      (story program plan budget h).steps
+  pub cells_are : (story program plan budget (h ++ p ∷ [])).cells
+      ≡ (step program plan (told program plan budget h).world p).shared
+  pub writers_are : (story program plan budget (h ++ p ∷ [])).writers
+      ≡ writers_after (told program plan budget h) p (need program plan (told program plan budget h).world p)
 
 -- each story grows by what the step is
 abbrev pub StoriesGrow : Type 0
-StoriesGrow = (program : Program) (plan : Plan) (budget : ℕ) (h : List ℕ) (p : ℕ) → HasOneMoreStep program plan budget h p
+StoriesGrow =
+    (program : Program) (plan : Plan) (budget : ℕ) (h : List ℕ) (p : ℕ) → HasOneMoreStep program plan budget h p
 
 -- the world of which a story is told is the one that the schedule comes to
 abbrev pub StoriesAreOfRuns : Type 0
 StoriesAreOfRuns =
-    (program : Program) (plan : Plan) (budget : ℕ) (h : List ℕ) (w : World) → run program plan budget h ≡ Some w → (told program plan budget h).world ≡ w
+    (program : Program) (plan : Plan) (budget : ℕ) (h : List ℕ) (w : World) → run program plan budget h ≡ Some w
+    → (told program plan budget h).world ≡ w
 
 -- ---- a process by its own steps
 
 -- the states of the processes, as the world, the traces, the intervals and the logs of a story have them
 pub record HasOneState (program : Program) (plan : Plan) (budget : ℕ) (h : List ℕ) : Type 0 where
   pub worlds : (told program plan budget h).world.procs ≡ states program plan budget (story program plan budget h)
-  pub logged : map (λ l. l.proc) (loggings program plan budget h) ≡ states program plan budget (story program plan budget h)
-  pub traced : (s : Story) (p : ℕ) (steps : List Taken) → (tracing_of program plan budget s p steps).proc ≡ state_of program plan budget p steps
-  pub split : (s : Story) (p : ℕ) (steps : List Taken) → (split_of program plan budget s p steps).trace ≡ tracing_of program plan budget s p steps
+  pub logged : map (λ l. l.proc) (loggings program plan budget h)
+      ≡ states program plan budget (story program plan budget h)
+  pub traced : (s : Story) (p : ℕ) (steps : List Taken)
+      → (tracing_of program plan budget s p steps).proc ≡ state_of program plan budget p steps
+  pub split : (s : Story) (p : ℕ) (steps : List Taken)
+      → (split_of program plan budget s p steps).trace ≡ tracing_of program plan budget s p steps
 
 -- each process comes to what its own steps lead to
 abbrev pub ProcessesFollowTheirSteps : Type 0
-ProcessesFollowTheirSteps = (program : Program) (plan : Plan) (budget : ℕ) (h : List ℕ) → HasOneState program plan budget h
+ProcessesFollowTheirSteps =
+    (program : Program) (plan : Plan) (budget : ℕ) (h : List ℕ) → HasOneState program plan budget h
 
 -- ---- logs
 
@@ -70,7 +80,9 @@ logged_moment program plan w p =
 abbrev pub LogsGrow : Type 0
 LogsGrow =
     (program : Program) (plan : Plan) (budget : ℕ) (h : List ℕ) (p : ℕ)
-    → loggings program plan budget (h ++ p ∷ []) ≡ change (λ l. log_step program plan l (logged_moment program plan (told program plan budget h).world p)) p (loggings program plan budget h)
+    → loggings program plan budget (h ++ p ∷ [])
+    ≡ change (λ l. log_step program plan l (logged_moment program plan (told program plan budget h).world p)) p
+    (loggings program plan budget h)
 
 -- ---- equal stories
 
@@ -85,35 +97,50 @@ pub record HasOneHistory (program : Program) (plan : Plan) (budget : ℕ) (h h' 
   pub records : sync_record program plan budget h ≡ sync_record program plan budget h'
   pub all_accesses : (p : ℕ) → accesses (story program plan budget h) p ≡ accesses (story program plan budget h') p
   pub all_races : races program plan budget h ≡ races program plan budget h'
-  pub all_intervals : (p : ℕ) → intervals program plan budget (story program plan budget h) p ≡ intervals program plan budget (story program plan budget h') p
-  pub all_items : (p k : ℕ) → items program plan budget (story program plan budget h) p k ≡ items program plan budget (story program plan budget h') p k
-  pub all_edges : (p k j : ℕ) → edges program plan budget (story program plan budget h) p k j ≡ edges program plan budget (story program plan budget h') p k j
-  pub last_values : (c : ℕ) → last program plan budget (story program plan budget h) c ≡ last program plan budget (story program plan budget h') c
-  pub near : (p k j : ℕ) → near_intervals program plan budget (story program plan budget h) p k j ≡ near_intervals program plan budget (story program plan budget h') p k j
-  pub all_logs : map (map without_values) (logs program plan budget h).lists ≡ map (map without_values) (logs program plan budget h').lists
+  pub all_intervals : (p : ℕ)
+      → intervals program plan budget (story program plan budget h) p
+      ≡ intervals program plan budget (story program plan budget h') p
+  pub all_items : (p k : ℕ)
+      → items program plan budget (story program plan budget h) p k
+      ≡ items program plan budget (story program plan budget h') p k
+  pub all_edges : (p k j : ℕ)
+      → edges program plan budget (story program plan budget h) p k j
+      ≡ edges program plan budget (story program plan budget h') p k j
+  pub last_values : (c : ℕ)
+      → last program plan budget (story program plan budget h) c
+      ≡ last program plan budget (story program plan budget h') c
+  pub near : (p k j : ℕ)
+      → near_intervals program plan budget (story program plan budget h) p k j
+      ≡ near_intervals program plan budget (story program plan budget h') p k j
+  pub all_logs : map (map without_values) (closed_logs program plan budget h).lists
+      ≡ map (map without_values) (closed_logs program plan budget h').lists
   pub all_ends : (close program plan budget h).ends ≡ (close program plan budget h').ends
 
 -- two schedules with one story have one history
 abbrev pub StoriesTellAll : Type 0
 StoriesTellAll =
-    (program : Program) (plan : Plan) (budget : ℕ) (h h' : List ℕ) → story program plan budget h ≡ story program plan budget h' → HasOneHistory program plan budget h h'
+    (program : Program) (plan : Plan) (budget : ℕ) (h h' : List ℕ)
+    → story program plan budget h ≡ story program plan budget h' → HasOneHistory program plan budget h h'
 
 -- ---- happened before
 
 -- the tests answer true exactly where the relations hold
 abbrev pub IsTestOfBefore : Type 0
 IsTestOfBefore =
-    (program : Program) (syncs : List (List Sync)) (a b : NodeId) → IsTrue (is_before program syncs a b) ↔ Before program syncs a b
+    (program : Program) (syncs : List (List Sync)) (a b : NodeId)
+    → IsTrue (is_before program syncs a b) ↔ Before program syncs a b
 
 -- the same of edges
 abbrev pub IsTestOfEdges : Type 0
 IsTestOfEdges =
-    (program : Program) (syncs : List (List Sync)) (a b : EdgeId) → IsTrue (is_edge_before program syncs a b) ↔ EdgeBefore program syncs a b
+    (program : Program) (syncs : List (List Sync)) (a b : EdgeId)
+    → IsTrue (is_edge_before program syncs a b) ↔ EdgeBefore program syncs a b
 
 -- no synchronization ends the last edge of process p, which is before no edge
 pub record IsOpenEnded (program : Program) (syncs : List (List Sync)) (p : ℕ) : Type 0 where
   pub no_end : sync_at syncs (node p (length (own_syncs syncs p))) ≡ None
-  pub before_none : (q j : ℕ) → j ≤ length (own_syncs syncs q) → EdgeBefore program syncs (edge p (length (own_syncs syncs p))) (edge q j) → ⊥
+  pub before_none : (q j : ℕ) → j ≤ length (own_syncs syncs q)
+      → EdgeBefore program syncs (edge p (length (own_syncs syncs p))) (edge q j) → ⊥
 
 -- so it is with the last edge of every process
 abbrev pub LastEdgesAreOpen : Type 0
@@ -125,7 +152,8 @@ LastEdgesAreOpen = (program : Program) (syncs : List (List Sync)) (p : ℕ) → 
 abbrev pub SynchronizationsAreCounted : Type 0
 SynchronizationsAreCounted =
     (program : Program) (plan : Plan) (budget : ℕ) (h : List ℕ)
-    → IsCounted (count_of (started_world program plan budget)) (count_of (told program plan budget h).world) (sync_record program plan budget h)
+    → IsCounted (count_of (started_world program plan budget)) (count_of (told program plan budget h).world)
+    (sync_record program plan budget h)
 
 -- ---- races
 
@@ -142,7 +170,8 @@ pub record DoConflict (s : Story) (p q : ℕ) (a b : SharedAccess) : Type 0 wher
 abbrev pub NoRaceMeansOrder : Type 0
 NoRaceMeansOrder =
     (program : Program) (s : Story) → races_of program s ≡ [] → (p q : ℕ) (a b : SharedAccess) → DoConflict s p q a b
-    → EdgeBefore program (record_of s) (edge p a.edge) (edge q b.edge) ⊎ EdgeBefore program (record_of s) (edge q b.edge) (edge p a.edge)
+    → EdgeBefore program (record_of s) (edge p a.edge) (edge q b.edge)
+    ⊎ EdgeBefore program (record_of s) (edge q b.edge) (edge p a.edge)
 
 -- ---- tags
 
@@ -162,7 +191,8 @@ IsUnwritten program plan c t (p ∷ h) =
     (is_write_of c (need program plan t.world p) ≡ false) × IsUnwritten program plan c (tell program plan t p) h
 
 -- in the schedule from t on, the event is that of the last step that writes the cell, and writes this value
-pub record IsLastWrite (program : Program) (plan : Plan) (c : ℕ) (t : Telling) (h : List ℕ) (value : ℤ) (e : EventId) : Type 0 where
+pub record IsLastWrite (program : Program) (plan : Plan) (c : ℕ) (t : Telling) (h : List ℕ) (value : ℤ)
+    (e : EventId) : Type 0 where
   pub before : List ℕ
   pub process : ℕ
   pub after : List ℕ
@@ -191,4 +221,5 @@ begins program plan budget = begun (started_world program plan budget)
 abbrev pub TagsAreLastWrites : Type 0
 TagsAreLastWrites =
     (program : Program) (plan : Plan) (budget : ℕ) (h : List ℕ) (c : ℕ) → c < length program.starts
-    → IsAtStart program plan c (begins program plan budget) (told program plan budget h) h ⊎ IsTagged program plan c (begins program plan budget) (told program plan budget h) h
+    → IsAtStart program plan c (begins program plan budget) (told program plan budget h) h
+    ⊎ IsTagged program plan c (begins program plan budget) (told program plan budget h) h

@@ -29,3 +29,4 @@ pub mod RecordedSets
 pub mod Rendezvous
 pub mod Items
 pub mod Extents
+pub mod Written

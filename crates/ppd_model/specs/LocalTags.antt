@@ -48,7 +48,8 @@ is_cell frame n k c (Shared d) = false
 -- the cell is among the writes of the step's event
 abbrev pub is_in_writes : Program → Plan → Proc → Taken → ℕ → ℕ → Bool
 is_in_writes program plan s x k c =
-    list_any (λ a. is_cell (frame_of program plan s) (length s.frames) k c a.spot) (event_of program plan s x s.todo).writes
+    list_any (λ a. is_cell (frame_of program plan s) (length s.frames) k c a.spot)
+    (event_of program plan s x s.todo).writes
 
 -- the cell is the local that receives the value, where there are a local and a value
 abbrev pub is_into : Option ℕ → Option ℤ → ℕ → Bool
@@ -57,7 +58,8 @@ is_into into value c = false
 
 -- the statement returns a value, which the cell of the activation below the top one receives
 abbrev pub is_received_by : Program → List Frame → ℕ → ℕ → Asked Deed → Bool
-is_received_by program frames k c (Ok (back value, left)) = nat_eq (k + 2) (length frames) && is_into (into_at program (top_call frames)) value c
+is_received_by program frames k c (Ok (back value, left)) =
+    nat_eq (k + 2) (length frames) && is_into (into_at program (top_call frames)) value c
 is_received_by program frames k c asked = false
 
 -- the head statement does so
@@ -67,7 +69,8 @@ is_received program s k c (t ∷ ts) = is_received_by program s.frames k c (head
 
 -- the step's event writes cell c of activation k, as a write of its own or by the value that it returns
 abbrev pub is_local_write : Program → Plan → ℕ → ℕ → Proc → Taken → Bool
-is_local_write program plan k c s x = is_event x.need && (is_in_writes program plan s x k c || is_received program s k c s.todo)
+is_local_write program plan k c s x =
+    is_event x.need && (is_in_writes program plan s x k c || is_received program s k c s.todo)
 
 -- ---- one step
 
@@ -75,18 +78,24 @@ is_local_write program plan k c s x = is_event x.need && (is_in_writes program p
 abbrev pub HasTags : Tracing → Type 0
 HasTags t = map length (locals t.activations) ≡ sizes t.proc.frames
 
--- a step tags each cell that it writes with its event and keeps the other tags; a new activation's other cells have none
+-- a step tags each cell that it writes with its event and keeps the other tags; a new activation's other cells have
+-- none
 pub record TagsItsWrites (program : Program) (plan : Plan) (p : ℕ) (t now : Tracing) (x : Taken) : Type 0 where
   pub has_tags : HasTags now
-  pub same_cells : (k : ℕ) → k < length t.proc.frames → k < length now.proc.frames → cells_in now.proc.frames k ≡ cells_in t.proc.frames k
-  pub written : (k c : ℕ) → is_local_write program plan k c t.proc x ≡ true → c < cells_in now.proc.frames k → local_tag now.activations k c ≡ Some (me_in p t)
-  pub kept : (k c : ℕ) → is_local_write program plan k c t.proc x ≡ false → k < length t.proc.frames → k < length now.proc.frames → local_tag now.activations k c ≡ local_tag t.activations k c
-  pub fresh : (k c : ℕ) → is_local_write program plan k c t.proc x ≡ false → length t.proc.frames ≤ k → local_tag now.activations k c ≡ None
+  pub same_cells : (k : ℕ) → k < length t.proc.frames → k < length now.proc.frames
+      → cells_in now.proc.frames k ≡ cells_in t.proc.frames k
+  pub written : (k c : ℕ) → is_local_write program plan k c t.proc x ≡ true → c < cells_in now.proc.frames k
+      → local_tag now.activations k c ≡ Some (me_in p t)
+  pub kept : (k c : ℕ) → is_local_write program plan k c t.proc x ≡ false → k < length t.proc.frames
+      → k < length now.proc.frames → local_tag now.activations k c ≡ local_tag t.activations k c
+  pub fresh : (k c : ℕ) → is_local_write program plan k c t.proc x ≡ false → length t.proc.frames ≤ k
+      → local_tag now.activations k c ≡ None
 
 -- so does each step that the process itself takes
 abbrev pub StepsTagTheirWrites : Type 0
 StepsTagTheirWrites =
-    (program : Program) (plan : Plan) (story : Story) (p : ℕ) (t : Tracing) (x : Taken) → HasTags t → x.need ≡ need_of program plan t.proc
+    (program : Program) (plan : Plan) (story : Story) (p : ℕ) (t : Tracing) (x : Taken) → HasTags t
+    → x.need ≡ need_of program plan t.proc
     → TagsItsWrites program plan p t (trace_step program plan story p t x) x
 
 -- ---- all steps
@@ -94,31 +103,38 @@ StepsTagTheirWrites =
 -- the process's own steps: each has the need of the state that it is taken from
 abbrev pub AreOwn : Program → Plan → Proc → List Taken → Type 0
 AreOwn program plan s [] = ⊤
-AreOwn program plan s (x ∷ xs) = (x.need ≡ need_of program plan s) × AreOwn program plan (act program plan s x.answer) xs
+AreOwn program plan s (x ∷ xs) =
+    (x.need ≡ need_of program plan s) × AreOwn program plan (act program plan s x.answer) xs
 
 -- the steps that a story tells of a process are its own
 abbrev pub StoriesTellOwnSteps : Type 0
 StoriesTellOwnSteps =
-    (program : Program) (plan : Plan) (budget : ℕ) (h : List ℕ) (p : ℕ) → AreOwn program plan (started program plan p budget) (own_steps (story program plan budget h) p)
+    (program : Program) (plan : Plan) (budget : ℕ) (h : List ℕ) (p : ℕ)
+    → AreOwn program plan (started program plan p budget) (own_steps (story program plan budget h) p)
 
 -- through these steps the activation goes on, and none writes the cell
 abbrev pub IsSteady : Program → Plan → ℕ → ℕ → Proc → List Taken → Type 0
 IsSteady program plan k c s [] = ⊤
 IsSteady program plan k c s (x ∷ xs) =
-    (is_local_write program plan k c s x ≡ false) × ((k < length (act program plan s x.answer).frames) × IsSteady program plan k c (act program plan s x.answer) xs)
+    (is_local_write program plan k c s x ≡ false)
+    × ((k < length (act program plan s x.answer).frames)
+    × IsSteady program plan k c (act program plan s x.answer) xs)
 
 -- the event is that of the last step that writes the cell in this activation
-pub record IsLastLocalWrite (program : Program) (plan : Plan) (story : Story) (p k c : ℕ) (t : Tracing) (steps : List Taken) (tag : Tag) : Type 0 where
+pub record IsLastLocalWrite (program : Program) (plan : Plan) (story : Story) (p k c : ℕ) (t : Tracing)
+    (steps : List Taken) (tag : Tag) : Type 0 where
   pub before : List Taken
   pub taken : Taken
   pub after : List Taken
   pub steps_are : steps ≡ before ++ taken ∷ after
   pub writes : is_local_write program plan k c (fold (trace_step program plan story p) t before).proc taken ≡ true
   pub tag_is : tag ≡ Some (me_in p (fold (trace_step program plan story p) t before))
-  pub steady : IsSteady program plan k c (act program plan (fold (trace_step program plan story p) t before).proc taken.answer) after
+  pub steady : IsSteady program plan k c
+      (act program plan (fold (trace_step program plan story p) t before).proc taken.answer) after
 
 -- a step begins the activation and does not write the cell, and no later one does: there is no tag
-pub record IsUnwrittenSinceCall (program : Program) (plan : Plan) (story : Story) (p k c : ℕ) (t : Tracing) (steps : List Taken) (tag : Tag) : Type 0 where
+pub record IsUnwrittenSinceCall (program : Program) (plan : Plan) (story : Story) (p k c : ℕ) (t : Tracing)
+    (steps : List Taken) (tag : Tag) : Type 0 where
   pub before : List Taken
   pub taken : Taken
   pub after : List Taken
@@ -127,10 +143,12 @@ pub record IsUnwrittenSinceCall (program : Program) (plan : Plan) (story : Story
   pub begins : k < length (act program plan (fold (trace_step program plan story p) t before).proc taken.answer).frames
   pub no_write : is_local_write program plan k c (fold (trace_step program plan story p) t before).proc taken ≡ false
   pub tag_is : tag ≡ None
-  pub steady : IsSteady program plan k c (act program plan (fold (trace_step program plan story p) t before).proc taken.answer) after
+  pub steady : IsSteady program plan k c
+      (act program plan (fold (trace_step program plan story p) t before).proc taken.answer) after
 
 -- the activation was there before the first step, and no step writes the cell: there is no tag
-pub record IsUnwrittenSinceStart (program : Program) (plan : Plan) (k c : ℕ) (t : Tracing) (steps : List Taken) (tag : Tag) : Type 0 where
+pub record IsUnwrittenSinceStart (program : Program) (plan : Plan) (k c : ℕ) (t : Tracing) (steps : List Taken)
+    (tag : Tag) : Type 0 where
   pub is_there : k < length t.proc.frames
   pub tag_is : tag ≡ None
   pub steady : IsSteady program plan k c t.proc steps
@@ -142,23 +160,30 @@ IsLocalTag program plan story p k c t steps tag =
     ⊎ (IsUnwrittenSinceCall program plan story p k c t steps tag ⊎ IsUnwrittenSinceStart program plan k c t steps tag)
 
 -- the traces of a process's own steps have a tag for each local cell, which is the event that last wrote it
-pub record HasLocalTags (program : Program) (plan : Plan) (story : Story) (p : ℕ) (t now : Tracing) (steps : List Taken) : Type 0 where
+pub record HasLocalTags (program : Program) (plan : Plan) (story : Story) (p : ℕ) (t now : Tracing)
+    (steps : List Taken) : Type 0 where
   pub has_tags : HasTags now
-  pub tags_are : (k c : ℕ) → c < cells_in now.proc.frames k → IsLocalTag program plan story p k c t steps (local_tag now.activations k c)
+  pub tags_are : (k c : ℕ) → c < cells_in now.proc.frames k
+      → IsLocalTag program plan story p k c t steps (local_tag now.activations k c)
 
 -- so it is after all steps of the process's own, from its start
 abbrev pub LocalTagsAreLastWrites : Type 0
 LocalTagsAreLastWrites =
-    (program : Program) (plan : Plan) (budget : ℕ) (story : Story) (p : ℕ) (steps : List Taken) → AreOwn program plan (started program plan p budget) steps
-    → HasLocalTags program plan story p (begun_tracing (started program plan p budget)) (tracing_of program plan budget story p steps) steps
+    (program : Program) (plan : Plan) (budget : ℕ) (story : Story) (p : ℕ) (steps : List Taken)
+    → AreOwn program plan (started program plan p budget) steps
+    → HasLocalTags program plan story p (begun_tracing (started program plan p budget))
+    (tracing_of program plan budget story p steps) steps
 
 -- so it is at each time of a schedule, after the steps that the process took before it
 abbrev pub SchedulesTagLastWrites : Type 0
 SchedulesTagLastWrites =
-    (program : Program) (plan : Plan) (budget : ℕ) (h : List ℕ) (p : ℕ) (before after : List Taken) → own_steps (story program plan budget h) p ≡ before ++ after
-    → HasLocalTags program plan (story program plan budget h) p (begun_tracing (started program plan p budget)) (tracing_of program plan budget (story program plan budget h) p before) before
+    (program : Program) (plan : Plan) (budget : ℕ) (h : List ℕ) (p : ℕ) (before after : List Taken)
+    → own_steps (story program plan budget h) p ≡ before ++ after
+    → HasLocalTags program plan (story program plan budget h) p (begun_tracing (started program plan p budget))
+    (tracing_of program plan budget (story program plan budget h) p before) before
 
 -- a local cell that an event reads is one of the top activation, and its tag is that cell's
 abbrev pub ReadsAreOfTheTop : Type 0
 ReadsAreOfTheTop =
-    (xs : List Activation) (answers : List Tag) (frame c : ℕ) → tag_at (top_tags xs) answers (Local frame c) ≡ local_tag xs (length xs - 1) c
+    (xs : List Activation) (answers : List Tag) (frame c : ℕ)
+    → tag_at (top_tags xs) answers (Local frame c) ≡ local_tag xs (length xs - 1) c

@@ -120,7 +120,8 @@ begun_log program plan budget p =
       reads = [];
       writes = [];
       rest = 0;
-      entries = entry.Prelog (or_zero (block_of plan (block.Process body))) [] ∷ entry.Unit u (values_of_unit plan program.starts u) ∷ [];
+      entries = entry.Prelog (or_zero (block_of plan (block.Process body))) []
+          ∷ entry.Unit u (values_of_unit plan program.starts u) ∷ [];
     }
 
 -- process p with its log, by its own steps and the values of their units
@@ -130,7 +131,8 @@ log_of program plan budget p moments = fold (log_step program plan) (begun_log p
 -- the processes from number p on, with their logs
 abbrev pub logs_from : Program → Plan → ℕ → ℕ → List (List Moment) → List Logging
 logs_from program plan budget p [] = []
-logs_from program plan budget p (moments ∷ rest) = log_of program plan budget p moments ∷ logs_from program plan budget (p + 1) rest
+logs_from program plan budget p (moments ∷ rest) =
+    log_of program plan budget p moments ∷ logs_from program plan budget (p + 1) rest
 
 -- each process with its log
 abbrev pub loggings : Program → Plan → ℕ → List ℕ → List Logging
@@ -144,15 +146,16 @@ kept_logs program plan budget h = record { lists = map (λ l. l.entries) (loggin
 
 -- a process that is still running when the run is whole is blocked
 abbrev pub closed_log : Logging → List Entry
-closed_log l = l.entries ++ (if is_none l.proc.status then entry.End status.Blocked l.rest l.reads l.writes ∷ [] else [])
+closed_log l =
+    l.entries ++ (if is_none l.proc.status then entry.End status.Blocked l.rest l.reads l.writes ∷ [] else [])
 
 -- closed logs
-abbrev pub logs_of : List Logging → Logs
-logs_of ls = record { lists = map closed_log ls }
+abbrev pub closed_logs_of : List Logging → Logs
+closed_logs_of ls = record { lists = map closed_log ls }
 
 -- the logs of a whole schedule
-abbrev pub logs : Program → Plan → ℕ → List ℕ → Logs
-logs program plan budget h = logs_of (loggings program plan budget h)
+abbrev pub closed_logs : Program → Plan → ℕ → List ℕ → Logs
+closed_logs program plan budget h = closed_logs_of (loggings program plan budget h)
 
 -- the last statement of a body
 abbrev pub last_of : Option Body → ℕ
@@ -166,7 +169,13 @@ stmt_of body (t ∷ ts) = t.stmt
 
 -- how a process ended: one that is still running is blocked
 abbrev pub end_of : Option Body → Proc → ProcEnd
-end_of body s = record { status = unwrap_or s.status status.Blocked; stmt = stmt_of body s.todo; steps = s.steps; prints = s.prints }
+end_of body s =
+    record {
+      status = unwrap_or s.status status.Blocked;
+      stmt = stmt_of body s.todo;
+      steps = s.steps;
+      prints = s.prints;
+    }
 
 -- how each process ended; the first one's body has number b
 abbrev pub ends_from : Program → ℕ → List Logging → List ProcEnd
@@ -176,6 +185,6 @@ ends_from program b (l ∷ ls) = end_of (slice_get program.bodies b) l.proc ∷ 
 -- the logs of a whole schedule with how each process ended
 abbrev pub close : Program → Plan → ℕ → List ℕ → Closed
 close program plan budget h = record {
-  logs = logs program plan budget h;
+  logs = closed_logs program plan budget h;
   ends = ends_from program program.functions (loggings program plan budget h);
 }

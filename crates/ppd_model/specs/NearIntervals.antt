@@ -116,7 +116,8 @@ open_at_origin xs (origin.Item p k j) = open_beside (slice_get xs p) k j
 
 -- the intervals that are open where the last value of shared cell c was written
 abbrev pub last_intervals : Program → Plan → ℕ → Story → ℕ → List Span
-last_intervals program plan budget story c = open_at_origin (splits program plan budget story) (last program plan budget story c).1
+last_intervals program plan budget story c =
+    open_at_origin (splits program plan budget story) (last program plan budget story c).1
 
 -- the own steps of all of them
 abbrev pub last_steps : Program → Plan → ℕ → Story → ℕ → ℕ

@@ -31,6 +31,8 @@ sync kind object number = record { kind = kind; object = object; number = number
 -- the synchronizations have the numbers after the first counts through the last ones, each once
 pub record IsCounted (first count : Counting) (syncs : List (List Sync)) : Type 0 where
   pub begun : (kind : SyncKind) (object : ℕ) → first kind object ≤ count kind object
-  pub numbers : (a : NodeId) (s : Sync) → sync_at syncs a ≡ Some s → (first s.kind s.object < s.number) × (s.number ≤ count s.kind s.object)
-  pub found : (kind : SyncKind) (object number : ℕ) → first kind object < number → number ≤ count kind object → (a : NodeId) × (sync_at syncs a ≡ Some (sync kind object number))
+  pub numbers : (a : NodeId) (s : Sync) → sync_at syncs a ≡ Some s
+      → (first s.kind s.object < s.number) × (s.number ≤ count s.kind s.object)
+  pub found : (kind : SyncKind) (object number : ℕ) → first kind object < number → number ≤ count kind object
+      → (a : NodeId) × (sync_at syncs a ≡ Some (sync kind object number))
   pub once : (a b : NodeId) (s : Sync) → sync_at syncs a ≡ Some s → sync_at syncs b ≡ Some s → a ≡ b

@@ -49,7 +49,8 @@ Lasts program plan k proc (x ∷ xs) = (k < length proc.frames) × Lasts program
 abbrev pub IsUntested : Program → Plan → (k s : ℕ) → Proc → List Taken → Type 0
 IsUntested program plan k s proc [] = k < length proc.frames
 IsUntested program plan k s proc (x ∷ xs) =
-    (k < length proc.frames) × ((is_test program k s proc x ≡ false) × IsUntested program plan k s (act program plan proc x.answer) xs)
+    (k < length proc.frames)
+    × ((is_test program k s proc x ≡ false) × IsUntested program plan k s (act program plan proc x.answer) xs)
 
 -- the process p, traced by these steps
 abbrev pub traced_to : Program → Plan → Story → ℕ → Tracing → List Taken → Tracing
@@ -57,37 +58,47 @@ traced_to program plan story p t steps = fold (trace_step program plan story p) 
 
 -- the event is that of the last step that tests statement s in activation k, which is there since; and
 -- whether its value was true
-pub record IsLatestTest (program : Program) (plan : Plan) (story : Story) (p k s : ℕ) (t : Tracing) (steps : List Taken) (event : EventId) (passed : Bool) : Type 0 where
+pub record IsLatestTest (program : Program) (plan : Plan) (story : Story) (p k s : ℕ) (t : Tracing)
+    (steps : List Taken) (event : EventId) (passed : Bool) : Type 0 where
   pub before : List Taken
   pub taken : Taken
   pub after : List Taken
   pub steps_are : steps ≡ before ++ taken ∷ after
   pub tests : is_test program k s (traced_to program plan story p t before).proc taken ≡ true
   pub event_is : event ≡ me_in p (traced_to program plan story p t before)
-  pub passed_is : passed ≡ is_passed (event_of program plan (traced_to program plan story p t before).proc taken (traced_to program plan story p t before).proc.todo).value
-  pub steady : IsUntested program plan k s (act program plan (traced_to program plan story p t before).proc taken.answer) after
+  pub passed_is : passed
+      ≡ is_passed (event_of program plan (traced_to program plan story p t before).proc taken
+      (traced_to program plan story p t before).proc.todo).value
+  pub steady : IsUntested program plan k s
+      (act program plan (traced_to program plan story p t before).proc taken.answer) after
 
 -- the activation is begun by the event of a call, and is there since
-pub record IsBegunBy (program : Program) (plan : Plan) (story : Story) (p k : ℕ) (t : Tracing) (steps : List Taken) (call : Option EventId) : Type 0 where
+pub record IsBegunBy (program : Program) (plan : Plan) (story : Story) (p k : ℕ) (t : Tracing) (steps : List Taken)
+    (call : Option EventId) : Type 0 where
   pub before : List Taken
   pub taken : Taken
   pub after : List Taken
   pub steps_are : steps ≡ before ++ taken ∷ after
   pub finishes : is_event taken.need ≡ true
-  pub calls : is_call (kind_of program (event_of program plan (traced_to program plan story p t before).proc taken (traced_to program plan story p t before).proc.todo).stmt) ≡ true
+  pub calls : is_call
+      (kind_of program
+      (event_of program plan (traced_to program plan story p t before).proc taken
+      (traced_to program plan story p t before).proc.todo).stmt) ≡ true
   pub is_new : length (traced_to program plan story p t before).proc.frames ≤ k
   pub call_is : call ≡ Some (me_in p (traced_to program plan story p t before))
   pub lasts : Lasts program plan k (act program plan (traced_to program plan story p t before).proc taken.answer) after
 
 -- the activation was there before the first step, and is there since: no call began it
-pub record IsFromStart (program : Program) (plan : Plan) (k : ℕ) (t : Tracing) (steps : List Taken) (call : Option EventId) : Type 0 where
+pub record IsFromStart (program : Program) (plan : Plan) (k : ℕ) (t : Tracing) (steps : List Taken)
+    (call : Option EventId) : Type 0 where
   pub call_is : call ≡ None
   pub lasts : Lasts program plan k t.proc steps
 
 -- ---- the parent of an event of statement s in activation k, after these steps
 
 -- a run of the loop goes on: the latest test of this `While` was true, and is the parent
-pub record GoesOn (program : Program) (plan : Plan) (story : Story) (p k s : ℕ) (t : Tracing) (steps : List Taken) (parent : Option EventId) : Type 0 where
+pub record GoesOn (program : Program) (plan : Plan) (story : Story) (p k s : ℕ) (t : Tracing) (steps : List Taken)
+    (parent : Option EventId) : Type 0 where
   pub loops : is_while (kind_of program s) ≡ true
   pub event : EventId
   pub latest : IsLatestTest program plan story p k s t steps event true
@@ -96,10 +107,12 @@ pub record GoesOn (program : Program) (plan : Plan) (story : Story) (p k s : ℕ
 -- no run of a loop goes on: a `While` was not tested in this activation, or its latest test was not true
 abbrev pub IsFirst : Program → Plan → Story → (p k s : ℕ) → Tracing → List Taken → Type 0
 IsFirst program plan story p k s t steps =
-    is_while (kind_of program s) ≡ true → (event : EventId) → IsLatestTest program plan story p k s t steps event true → ⊥
+    is_while (kind_of program s) ≡ true → (event : EventId)
+    → IsLatestTest program plan story p k s t steps event true → ⊥
 
 -- the parent is the latest event of the `If` or `While` in which the statement directly stands
-pub record StandsIn (program : Program) (plan : Plan) (story : Story) (p k s : ℕ) (t : Tracing) (steps : List Taken) (parent : Option EventId) : Type 0 where
+pub record StandsIn (program : Program) (plan : Plan) (story : Story) (p k s : ℕ) (t : Tracing) (steps : List Taken)
+    (parent : Option EventId) : Type 0 where
   pub first : IsFirst program plan story p k s t steps
   pub outer : ℕ
   pub outer_is : parent_if (slice_get program.stmts s) ≡ Some outer
@@ -109,9 +122,11 @@ pub record StandsIn (program : Program) (plan : Plan) (story : Story) (p k s : �
   pub parent_is : parent ≡ Some event
 
 -- neither: the parent is the call, and none in a process
-pub record IsOutermost (program : Program) (plan : Plan) (story : Story) (p k s : ℕ) (t : Tracing) (steps : List Taken) (parent : Option EventId) : Type 0 where
+pub record IsOutermost (program : Program) (plan : Plan) (story : Story) (p k s : ℕ) (t : Tracing)
+    (steps : List Taken) (parent : Option EventId) : Type 0 where
   pub first : IsFirst program plan story p k s t steps
-  pub untested : (outer : ℕ) → parent_if (slice_get program.stmts s) ≡ Some outer → (event : EventId) (passed : Bool) → IsLatestTest program plan story p k outer t steps event passed → ⊥
+  pub untested : (outer : ℕ) → parent_if (slice_get program.stmts s) ≡ Some outer → (event : EventId) (passed : Bool)
+      → IsLatestTest program plan story p k outer t steps event passed → ⊥
   pub call : IsBegunBy program plan story p k t steps parent ⊎ IsFromStart program plan k t steps parent
 
 abbrev pub IsParent : Program → Plan → Story → (p k s : ℕ) → Tracing → List Taken → Option EventId → Type 0
@@ -122,82 +137,107 @@ IsParent program plan story p k s t steps parent =
 -- ---- the events of a trace
 
 -- event n of process p is that of one of the process's steps, and its parent is found from those before
-pub record HasParent (program : Program) (plan : Plan) (story : Story) (p : ℕ) (t : Tracing) (steps : List Taken) (n : ℕ) (e : TracedEvent) : Type 0 where
+pub record HasParent (program : Program) (plan : Plan) (story : Story) (p : ℕ) (t : Tracing) (steps : List Taken)
+    (n : ℕ) (e : TracedEvent) : Type 0 where
   pub before : List Taken
   pub taken : Taken
   pub after : List Taken
   pub steps_are : steps ≡ before ++ taken ∷ after
   pub finishes : is_event taken.need ≡ true
   pub number_is : n ≡ length (traced_to program plan story p t before).events
-  pub event_is : e.event ≡ event_of program plan (traced_to program plan story p t before).proc taken (traced_to program plan story p t before).proc.todo
-  pub parent : (k : ℕ) → k + 1 ≡ length (traced_to program plan story p t before).proc.frames → IsParent program plan story p k e.event.stmt t before e.parent
+  pub event_is : e.event
+      ≡ event_of program plan (traced_to program plan story p t before).proc taken
+      (traced_to program plan story p t before).proc.todo
+  pub parent : (k : ℕ) → k + 1 ≡ length (traced_to program plan story p t before).proc.frames
+      → IsParent program plan story p k e.event.stmt t before e.parent
 
 -- so it is of each event of the trace of a schedule
 abbrev pub ParentsAreLatestTests : Type 0
 ParentsAreLatestTests =
-    (program : Program) (plan : Plan) (budget : ℕ) (h : List ℕ) (p n : ℕ) (e : TracedEvent) → slice_get (get_or (full_trace program plan budget h).events p []) n ≡ Some e
-    → HasParent program plan (story program plan budget h) p (begun_tracing (started program plan p budget)) (own_steps (story program plan budget h) p) n e
+    (program : Program) (plan : Plan) (budget : ℕ) (h : List ℕ) (p n : ℕ) (e : TracedEvent)
+    → slice_get (get_or (full_trace program plan budget h).events p []) n ≡ Some e
+    → HasParent program plan (story program plan budget h) p (begun_tracing (started program plan p budget))
+    (own_steps (story program plan budget h) p) n e
 
 -- ---- valid programs
 
 -- statement q stands in statement s, directly or in one that does
 pub data IsInside (program : Program) (s : ℕ) : ℕ → Type 0 where
   directly : {q : ℕ} → parent_if (slice_get program.stmts q) ≡ Some s → IsInside program s q
-  deeper : {q : ℕ} (r : ℕ) → parent_if (slice_get program.stmts q) ≡ Some r → IsInside program s r → IsInside program s q
+  deeper : {q : ℕ} (r : ℕ) → parent_if (slice_get program.stmts q) ≡ Some r → IsInside program s r
+      → IsInside program s q
 
 -- each event of these steps in activation k is of a statement that stands in statement s
 abbrev pub StaysInside : Program → Plan → (k s : ℕ) → Proc → List Taken → Type 0
 StaysInside program plan k s proc [] = ⊤
 StaysInside program plan k s proc (x ∷ xs) =
-    (is_event x.need ≡ true → k + 1 ≡ length proc.frames → IsInside program s (event_of program plan proc x proc.todo).stmt)
+    (is_event x.need ≡ true → k + 1 ≡ length proc.frames
+    → IsInside program s (event_of program plan proc x proc.todo).stmt)
     × StaysInside program plan k s (act program plan proc x.answer) xs
 
 -- statement s was tested in activation k
-pub record IsTested (program : Program) (plan : Plan) (story : Story) (p k s : ℕ) (t : Tracing) (steps : List Taken) : Type 0 where
+pub record IsTested (program : Program) (plan : Plan) (story : Story) (p k s : ℕ) (t : Tracing)
+    (steps : List Taken) : Type 0 where
   pub event : EventId
   pub passed : Bool
   pub latest : IsLatestTest program plan story p k s t steps event passed
 
 -- an event has an activation, in which the statement round the event's was tested before, if there is one
-pub record HasTestedOuter (program : Program) (plan : Plan) (story : Story) (p : ℕ) (t : Tracing) (before : List Taken) (taken : Taken) : Type 0 where
+pub record HasTestedOuter (program : Program) (plan : Plan) (story : Story) (p : ℕ) (t : Tracing)
+    (before : List Taken) (taken : Taken) : Type 0 where
   pub activation : 0 < length (traced_to program plan story p t before).proc.frames
   pub tested : (k outer : ℕ) → k + 1 ≡ length (traced_to program plan story p t before).proc.frames
-      → parent_if (slice_get program.stmts (event_of program plan (traced_to program plan story p t before).proc taken (traced_to program plan story p t before).proc.todo).stmt) ≡ Some outer
+      → parent_if (slice_get program.stmts
+      (event_of program plan (traced_to program plan story p t before).proc taken
+      (traced_to program plan story p t before).proc.todo).stmt) ≡ Some outer
       → IsTested program plan story p k outer t before
 
 -- so it is of each event of a schedule of a valid program
 abbrev pub OutersAreTested : Type 0
 OutersAreTested =
-    (program : Program) (plan : Plan) (budget : ℕ) (h : List ℕ) (p : ℕ) (before : List Taken) (taken : Taken) (after : List Taken)
+    (program : Program) (plan : Plan) (budget : ℕ) (h : List ℕ) (p : ℕ) (before : List Taken) (taken : Taken)
+    (after : List Taken)
     → IsValid program → own_steps (story program plan budget h) p ≡ before ++ taken ∷ after → is_event taken.need ≡ true
-    → HasTestedOuter program plan (story program plan budget h) p (begun_tracing (started program plan p budget)) before taken
+    → HasTestedOuter program plan (story program plan budget h) p
+    (begun_tracing (started program plan p budget)) before taken
 
 -- since a true test of a `While` that is the latest one, the events in its activation are all of
 -- statements inside the loop: the run of the loop goes on
 abbrev pub LoopRunsStayInside : Type 0
 LoopRunsStayInside =
-    (program : Program) (plan : Plan) (budget : ℕ) (h : List ℕ) (p : ℕ) (before after : List Taken) (k s : ℕ) (event : EventId)
-    → IsValid program → own_steps (story program plan budget h) p ≡ before ++ after → is_while (kind_of program s) ≡ true
-    → (l : IsLatestTest program plan (story program plan budget h) p k s (begun_tracing (started program plan p budget)) before event true)
-    → StaysInside program plan k s (act program plan (traced_to program plan (story program plan budget h) p (begun_tracing (started program plan p budget)) l.before).proc l.taken.answer) l.after
+    (program : Program) (plan : Plan) (budget : ℕ) (h : List ℕ) (p : ℕ) (before after : List Taken) (k s : ℕ)
+    (event : EventId)
+    → IsValid program → own_steps (story program plan budget h) p ≡ before ++ after
+    → is_while (kind_of program s) ≡ true
+    → (l : IsLatestTest program plan (story program plan budget h) p k s
+    (begun_tracing (started program plan p budget)) before event true)
+    → StaysInside program plan k s
+    (act program plan
+    (traced_to program plan (story program plan budget h) p
+    (begun_tracing (started program plan p budget)) l.before).proc l.taken.answer) l.after
 
 -- the statement is of a top list, and the parent is the call, and none in a process
-pub record IsOfTopList (program : Program) (plan : Plan) (story : Story) (p k s : ℕ) (t : Tracing) (steps : List Taken) (parent : Option EventId) : Type 0 where
+pub record IsOfTopList (program : Program) (plan : Plan) (story : Story) (p k s : ℕ) (t : Tracing)
+    (steps : List Taken) (parent : Option EventId) : Type 0 where
   pub first : IsFirst program plan story p k s t steps
   pub top : parent_if (slice_get program.stmts s) ≡ None
   pub call : IsBegunBy program plan story p k t steps parent ⊎ IsFromStart program plan k t steps parent
 
 -- an event is of the top activation, and its parent is the test of a loop's run that goes on, or that of
 -- the statement round its own, or the call, where its statement is of a top list
-pub record HasValidParent (program : Program) (plan : Plan) (story : Story) (p : ℕ) (t : Tracing) (steps : List Taken) (n : ℕ) (e : TracedEvent) : Type 0 where
+pub record HasValidParent (program : Program) (plan : Plan) (story : Story) (p : ℕ) (t : Tracing)
+    (steps : List Taken) (n : ℕ) (e : TracedEvent) : Type 0 where
   pub event : HasParent program plan story p t steps n e
   pub activation : ℕ
   pub is_top : activation + 1 ≡ length (traced_to program plan story p t event.before).proc.frames
   pub parent : GoesOn program plan story p activation e.event.stmt t event.before e.parent
-      ⊎ (StandsIn program plan story p activation e.event.stmt t event.before e.parent ⊎ IsOfTopList program plan story p activation e.event.stmt t event.before e.parent)
+      ⊎ (StandsIn program plan story p activation e.event.stmt t event.before e.parent
+      ⊎ IsOfTopList program plan story p activation e.event.stmt t event.before e.parent)
 
 -- so it is of each event of the trace of a schedule of a valid program
 abbrev pub ValidParents : Type 0
 ValidParents =
-    (program : Program) (plan : Plan) (budget : ℕ) (h : List ℕ) (p n : ℕ) (e : TracedEvent) → IsValid program → slice_get (get_or (full_trace program plan budget h).events p []) n ≡ Some e
-    → HasValidParent program plan (story program plan budget h) p (begun_tracing (started program plan p budget)) (own_steps (story program plan budget h) p) n e
+    (program : Program) (plan : Plan) (budget : ℕ) (h : List ℕ) (p n : ℕ) (e : TracedEvent) → IsValid program
+    → slice_get (get_or (full_trace program plan budget h).events p []) n ≡ Some e
+    → HasValidParent program plan (story program plan budget h) p (begun_tracing (started program plan p budget))
+    (own_steps (story program plan budget h) p) n e

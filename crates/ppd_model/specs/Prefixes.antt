@@ -45,4 +45,5 @@ pub record IsStepAt (program : Program) (plan : Plan) (budget : ℕ) (h : List �
 -- so it is with each step of a schedule that can be taken
 abbrev pub SchedulesGoByPrefixes : Type 0
 SchedulesGoByPrefixes =
-    (program : Program) (plan : Plan) (budget : ℕ) (h : List ℕ) (w : World) → run program plan budget h ≡ Some w → (i : ℕ) → i < length h → IsStepAt program plan budget h i
+    (program : Program) (plan : Plan) (budget : ℕ) (h : List ℕ) (w : World) → run program plan budget h ≡ Some w
+    → (i : ℕ) → i < length h → IsStepAt program plan budget h i

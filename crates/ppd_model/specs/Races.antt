@@ -31,7 +31,8 @@ writes_or_not a false = not a.writes
 
 -- process p has an access of this cell in edge i, a write or a read
 abbrev pub has_access : Story → ℕ → ℕ → ℕ → Bool → Bool
-has_access s p i cell writes = list_any (λ a. nat_eq a.edge i && nat_eq a.cell cell && writes_or_not a writes) (accesses s p)
+has_access s p i cell writes =
+    list_any (λ a. nat_eq a.edge i && nat_eq a.cell cell && writes_or_not a writes) (accesses s p)
 
 -- one of the two edges is before the other
 abbrev pub are_ordered : Program → Story → EdgeId → EdgeId → Bool

@@ -14,7 +14,7 @@ use Rattle.ppd_model.specs.Synchronizations.{Sync, syncs_of}
 use Rattle.ppd_model.specs.Record.{SharedAccess, accesses, sync_record}
 use Rattle.ppd_model.specs.Numbers.{sync}
 use Rattle.ppd_model.specs.Races.{has_access, writes_or_not}
-use Rattle.ppd_model.specs.Logs.{kept_logs, logs, with_cell}
+use Rattle.ppd_model.specs.Logs.{closed_logs, kept_logs, with_cell}
 
 -- ---- synchronizations
 
@@ -29,12 +29,13 @@ record_in logs = map (filter_map sync_in) logs.lists
 
 -- the synchronizations that the logs of a schedule tell, closed or not, are its record
 pub record RecordsSynchronizations (program : Program) (plan : Plan) (budget : ℕ) (h : List ℕ) : Type 0 where
-  pub closed : record_in (logs program plan budget h) ≡ sync_record program plan budget h
+  pub closed : record_in (closed_logs program plan budget h) ≡ sync_record program plan budget h
   pub kept : record_in (kept_logs program plan budget h) ≡ sync_record program plan budget h
 
 -- so it is with each schedule
 abbrev pub LogsRecordSynchronizations : Type 0
-LogsRecordSynchronizations = (program : Program) (plan : Plan) (budget : ℕ) (h : List ℕ) → RecordsSynchronizations program plan budget h
+LogsRecordSynchronizations =
+    (program : Program) (plan : Plan) (budget : ℕ) (h : List ℕ) → RecordsSynchronizations program plan budget h
 
 -- ---- the cells of an internal edge
 
@@ -91,7 +92,8 @@ pub record RecordsAccesses (s : Story) (p : ℕ) (entries : List Entry) : Type 0
   pub before : List Entry
   pub status : Status
   pub rest : ℕ
-  pub entries_are : entries ≡ before ++ entry.End status rest (cells_in s p (last_edge s p) false) (cells_in s p (last_edge s p) true) ∷ []
+  pub entries_are : entries ≡ before
+      ++ entry.End status rest (cells_in s p (last_edge s p) false) (cells_in s p (last_edge s p) true) ∷ []
   pub syncs_are : filter_map sets_at_sync before ≡ map (sets_in s p) (range_with_len 0 (last_edge s p))
   pub no_end : list_any is_end before ≡ false
 
@@ -99,4 +101,5 @@ pub record RecordsAccesses (s : Story) (p : ℕ) (entries : List Entry) : Type 0
 abbrev pub LogsRecordAccesses : Type 0
 LogsRecordAccesses =
     (program : Program) (plan : Plan) (budget : ℕ) (h : List ℕ) (p : ℕ) (entries : List Entry) → IsValid program
-    → slice_get (logs program plan budget h).lists p ≡ Some entries → RecordsAccesses (story program plan budget h) p entries
+    → slice_get (closed_logs program plan budget h).lists p ≡ Some entries
+    → RecordsAccesses (story program plan budget h) p entries

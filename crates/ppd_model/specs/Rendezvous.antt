@@ -29,25 +29,30 @@ pub record IsInTurn (x : Channel) : Type 0 where
 -- so it is with each channel after each schedule
 abbrev pub ChannelsAreInTurn : Type 0
 ChannelsAreInTurn =
-    (program : Program) (plan : Plan) (budget : ℕ) (h : List ℕ) (w : World) (c : ℕ) (x : Channel) → run program plan budget h ≡ Some w → slice_get w.chans c ≡ Some x → IsInTurn x
+    (program : Program) (plan : Plan) (budget : ℕ) (h : List ℕ) (w : World) (c : ℕ) (x : Channel)
+    → run program plan budget h ≡ Some w → slice_get w.chans c ≡ Some x → IsInTurn x
 
 -- ---- pairs
 
 -- completion k leads to the send k + 1 of its channel, of capacity 0, and to nothing else
 abbrev pub CompletionsLead : Type 0
 CompletionsLead =
-    (program : Program) (k o : ℕ) (b : Sync) → IsTrue (leads program (sync Done o k) b) ↔ ((capacity_of program o ≡ 0) × (b ≡ sync Send o (k + 1)))
+    (program : Program) (k o : ℕ) (b : Sync)
+    → IsTrue (leads program (sync Done o k) b) ↔ ((capacity_of program o ≡ 0) × (b ≡ sync Send o (k + 1)))
 
 -- to completion k leads receive k of its channel, of capacity 0, and nothing else
 abbrev pub CompletionsAreLedTo : Type 0
 CompletionsAreLedTo =
-    (program : Program) (k o : ℕ) (a : Sync) → IsTrue (leads program a (sync Done o k)) ↔ ((capacity_of program o ≡ 0) × (a ≡ sync Recv o k))
+    (program : Program) (k o : ℕ) (a : Sync)
+    → IsTrue (leads program a (sync Done o k)) ↔ ((capacity_of program o ≡ 0) × (a ≡ sync Recv o k))
 
 -- in a schedule each completion has its receive
 abbrev pub CompletionsAreReceived : Type 0
 CompletionsAreReceived =
-    (program : Program) (plan : Plan) (budget : ℕ) (h : List ℕ) (w : World) (k o : ℕ) (b : NodeId) → run program plan budget h ≡ Some w
-    → sync_at (sync_record program plan budget h) b ≡ Some (sync Done o k) → (a : NodeId) × (sync_at (sync_record program plan budget h) a ≡ Some (sync Recv o k))
+    (program : Program) (plan : Plan) (budget : ℕ) (h : List ℕ) (w : World) (k o : ℕ) (b : NodeId)
+    → run program plan budget h ≡ Some w
+    → sync_at (sync_record program plan budget h) b ≡ Some (sync Done o k)
+    → (a : NodeId) × (sync_at (sync_record program plan budget h) a ≡ Some (sync Recv o k))
 
 -- ---- one statement, two steps
 
@@ -61,7 +66,8 @@ abbrev pub statement_after : Program → Plan → ℕ → ℕ → List Taken →
 statement_after program plan budget p steps = first_stmt (state_of program plan budget p steps).todo
 
 -- step y is the completion of the offer that step x took just before it, and both are of one statement
-pub record Completes (program : Program) (plan : Plan) (budget p : ℕ) (before : List Taken) (x y : Taken) (c : ℕ) : Type 0 where
+pub record Completes (program : Program) (plan : Plan) (budget p : ℕ) (before : List Taken) (x y : Taken)
+    (c : ℕ) : Type 0 where
   pub value : ℤ
   pub unit : ℕ
   pub stmt : ℕ
@@ -73,13 +79,16 @@ pub record Completes (program : Program) (plan : Plan) (budget p : ℕ) (before 
 -- after an offer the process completes it, or stops for its budget
 abbrev pub OffersAreCompleted : Type 0
 OffersAreCompleted =
-    (program : Program) (plan : Plan) (budget : ℕ) (h : List ℕ) (p : ℕ) (before : List Taken) (x y : Taken) (after : List Taken) (c : ℕ) (v : ℤ)
+    (program : Program) (plan : Plan) (budget : ℕ) (h : List ℕ) (p : ℕ) (before : List Taken) (x y : Taken)
+    (after : List Taken) (c : ℕ) (v : ℤ)
     → own_steps (story program plan budget h) p ≡ before ++ x ∷ y ∷ after → x.need ≡ need.Offer c v
     → Completes program plan budget p before x y c ⊎ (y.need ≡ need.Budget)
 
 -- before a completion the process took its offer
 abbrev pub CompletionsWereOffered : Type 0
 CompletionsWereOffered =
-    (program : Program) (plan : Plan) (budget : ℕ) (h : List ℕ) (p : ℕ) (before : List Taken) (y : Taken) (after : List Taken) (c u : ℕ)
+    (program : Program) (plan : Plan) (budget : ℕ) (h : List ℕ) (p : ℕ) (before : List Taken) (y : Taken)
+    (after : List Taken) (c u : ℕ)
     → own_steps (story program plan budget h) p ≡ before ++ y ∷ after → y.need ≡ need.Done c u
-    → (earlier : List Taken) × (x : Taken) × (before ≡ earlier ++ x ∷ []) × Completes program plan budget p earlier x y c
+    → (earlier : List Taken) × (x : Taken) × (before ≡ earlier ++ x ∷ [])
+    × Completes program plan budget p earlier x y c

@@ -10,7 +10,8 @@ use Rattle.ppd_model.specs.World.{World, enabled, step}
 -- the world after the steps of the schedule, or none where a process was not enabled in its turn
 abbrev pub run_from : Program → Plan → World → List ℕ → Option World
 run_from program plan w [] = Some w
-run_from program plan w (p ∷ h) = if enabled program plan w p then run_from program plan (step program plan w p) h else None
+run_from program plan w (p ∷ h) =
+    if enabled program plan w p then run_from program plan (step program plan w p) h else None
 
 -- the first n processes before their first steps
 abbrev pub started_procs : Program → Plan → ℕ → ℕ → List Proc

@@ -17,7 +17,8 @@ state_of program plan budget p steps = fold (act_on program plan) (started progr
 -- the processes from number p on after their steps
 abbrev pub states_from : Program → Plan → ℕ → ℕ → List (List Taken) → List Proc
 states_from program plan budget p [] = []
-states_from program plan budget p (steps ∷ rest) = state_of program plan budget p steps ∷ states_from program plan budget (p + 1) rest
+states_from program plan budget p (steps ∷ rest) =
+    state_of program plan budget p steps ∷ states_from program plan budget (p + 1) rest
 
 -- the processes of a story after their steps
 abbrev pub states : Program → Plan → ℕ → Story → List Proc

@@ -81,7 +81,8 @@ event_or p (Some n) otherwise = Some (record { process = p; number = n })
 -- the same among the steps of the processes from number p on
 abbrev pub leading_from : Program → Option Sync → ℕ → List (List Taken) → Option EventId
 leading_from program b p [] = None
-leading_from program b p (steps ∷ rest) = event_or p (leading_in program b 0 steps) (leading_from program b (p + 1) rest)
+leading_from program b p (steps ∷ rest) =
+    event_or p (leading_in program b 0 steps) (leading_from program b (p + 1) rest)
 
 -- the event whose synchronization leads to that of a step, found by the numbers
 abbrev pub paired_of : Program → Story → Taken → Option EventId

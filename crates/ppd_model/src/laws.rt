@@ -12,6 +12,7 @@ ghost use Rattle.ppd_model.specs.Prefixes.{ObjectsStay, SchedulesGoByPrefixes};
 ghost use Rattle.ppd_model.specs.RecordedSets.{AccessesAreOfCells, CellsAreOfAccesses, LogsRecordAccesses, LogsRecordSynchronizations};
 ghost use Rattle.ppd_model.specs.Rendezvous.{ChannelsAreInTurn, CompletionsAreLedTo, CompletionsAreReceived, CompletionsLead, CompletionsWereOffered, OffersAreCompleted};
 ghost use Rattle.ppd_model.specs.SharedReads.{ConflictsGoForward, LastWritesAreGreatest, SharedReadsAreFound, StepsAreAccesses, WritesAreSteps};
+ghost use Rattle.ppd_model.specs.Written.{IntervalsAreOfSteps};
 
 /// Law: the story of a schedule with one more step is that of the schedule with this step, its
 /// writer and its cell; and the world of which a story is told is the one that the schedule
@@ -200,4 +201,12 @@ pub fn extents_match()
     ensures matched { ExtentsMatch }
     ensures indexed { ExtentsAreIndexed }
     ensures steps { IntervalsAreOfLogs }
+{}
+
+/// Law: after each schedule the step that opened an interval of a process wrote its prelog, but that of the
+/// process itself, which is there before the first step; the step that left it wrote its postlog; and the last
+/// entry of an interval that is not left, where there is one, is an end, which a step wrote or which closes the
+/// log of a blocked process.
+pub fn intervals_are_of_steps()
+    ensures { IntervalsAreOfSteps }
 {}

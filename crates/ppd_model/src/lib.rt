@@ -15,9 +15,9 @@ pub use flow::{EdgeKind, FlowEdge, Item, Origin};
 pub use graph::{EdgeId, NodeId, Race, RaceKind};
 pub use laws::{
     completions_follow_offers, counts_are_balanced, ends_are_told, extents_match,
-    happened_before_goes_forward, happened_before_is_tested, items_are_whole,
-    local_tags_are_last_writes, logs_grow, logs_record_runs, no_race_means_order, objects_stay,
-    parents_are_latest_tests, processes_follow_their_steps, schedules_are_bounded,
+    happened_before_goes_forward, happened_before_is_tested, intervals_are_of_steps,
+    items_are_whole, local_tags_are_last_writes, logs_grow, logs_record_runs, no_race_means_order,
+    objects_stay, parents_are_latest_tests, processes_follow_their_steps, schedules_are_bounded,
     schedules_go_by_prefixes, shared_reads_are_found, steps_change_their_own,
     steps_cost_what_they_write, stories_grow, stories_tell_all, synchronizations_are_counted,
     tags_are_last_writes, traces_are_of_runs,

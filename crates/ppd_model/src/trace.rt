@@ -1,4 +1,4 @@
-use ppd_ast::Seq;
+use ppd_ast::{Memory, Seq};
 use ppd_sem::Event;
 
 /// An event of a run by its process and its number among that process's events, both from 0.
@@ -34,4 +34,15 @@ pub enum DriveError {
     NotEnabled(u32),
     /// Want of memory.
     Memory,
+}
+
+impl From<Memory> for DriveError {
+    ghost use Rattle.std.specs.Prelude.{◌≡◌};
+    ghost use Rattle.ppd_model.specs.declared.trace.DriveError.TheVariants as drive;
+
+    ghost from_gives = { λ _ e. e ≡ drive.Memory };
+
+    fn from(_memory: Memory) -> DriveError {
+        DriveError::Memory
+    }
 }

@@ -15,7 +15,7 @@ split_at (t ∷ ts) zero h = refl
 split_at (t ∷ ts) (suc i) h = ap (λ w. t ∷ w) (split_at ts i (omega arith))
 
 -- what a token within the limits keeps
-kept_at : (n : ℕ) (zs : List Marked) (x : Marked) (os : List Marked) → KeepLimits n (zs ++ x ∷ os) → (x.at.depth ≤ 64) × (count_with (count_after n zs) x ≤ 256)
+pub kept_at : (n : ℕ) (zs : List Marked) (x : Marked) (os : List Marked) → KeepLimits n (zs ++ x ∷ os) → (x.at.depth ≤ 64) × (count_with (count_after n zs) x ≤ 256)
 kept_at n [] x os h = (h.0, h.1)
 kept_at n (z ∷ zs) x os h = kept_at (count_with n z) zs x os h.2
 

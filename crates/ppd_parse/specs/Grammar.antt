@@ -7,7 +7,25 @@
 -- these are read first, and the rest (StmtRest, PlaceRest, Assigned, AssignedRest, NamedRest) wraps
 -- them as what they turned out to be. A binary operator wraps what its level has read so far as its
 -- left operand, so every level groups to the left. It reads what the language's grammar reads.
-pub use Rattle.ppd_parse.specs.Trees.{words, marks, kind_of, Shape, Shapes, leaf, node, no_shapes, shape_then, forest, Marked, kind_at, is_operator, deeper, inside, outside, tokens_of}
+pub use Rattle.ppd_parse.specs.Trees.{
+  words,
+  marks,
+  kind_of,
+  Shape,
+  Shapes,
+  leaf,
+  node,
+  no_shapes,
+  shape_then,
+  forest,
+  Marked,
+  kind_at,
+  is_operator,
+  deeper,
+  inside,
+  outside,
+  tokens_of,
+}
 use Rattle.std.specs.Prelude.{◌≡◌, ◌≢◌, ◌-◌, ℕ, true, false, List, [], ◌∷◌, ◌++◌, map, length, take, drop}
 use Rattle.ppd_parse.specs.declared.symbol.Kind.{Kind}
 use Rattle.ppd_parse.specs.declared.symbol.Kind.TheVariants as K
@@ -145,9 +163,14 @@ abbrev pub operand_parts : Level → List Part
 operand_parts L.Product = P.Here S.Unary ∷ []
 operand_parts L.Sum = P.Here S.Unary ∷ P.Here (S.Chain L.Product) ∷ []
 operand_parts L.Compare = P.Here S.Unary ∷ P.Here (S.Chain L.Product) ∷ P.Here (S.Chain L.Sum) ∷ []
-operand_parts L.Equal = P.Here S.Unary ∷ P.Here (S.Chain L.Product) ∷ P.Here (S.Chain L.Sum) ∷ P.Here (S.Chain L.Compare) ∷ []
-operand_parts L.And = P.Here S.Unary ∷ P.Here (S.Chain L.Product) ∷ P.Here (S.Chain L.Sum) ∷ P.Here (S.Chain L.Compare) ∷ P.Here (S.Chain L.Equal) ∷ []
-operand_parts L.Or = P.Here S.Unary ∷ P.Here (S.Chain L.Product) ∷ P.Here (S.Chain L.Sum) ∷ P.Here (S.Chain L.Compare) ∷ P.Here (S.Chain L.Equal) ∷ P.Here (S.Chain L.And) ∷ []
+operand_parts L.Equal =
+    P.Here S.Unary ∷ P.Here (S.Chain L.Product) ∷ P.Here (S.Chain L.Sum) ∷ P.Here (S.Chain L.Compare) ∷ []
+operand_parts L.And =
+    P.Here S.Unary ∷ P.Here (S.Chain L.Product) ∷ P.Here (S.Chain L.Sum) ∷ P.Here (S.Chain L.Compare)
+    ∷ P.Here (S.Chain L.Equal) ∷ []
+operand_parts L.Or =
+    P.Here S.Unary ∷ P.Here (S.Chain L.Product) ∷ P.Here (S.Chain L.Sum) ∷ P.Here (S.Chain L.Compare)
+    ∷ P.Here (S.Chain L.Equal) ∷ P.Here (S.Chain L.And) ∷ []
 
 -- the parts of a production, in order
 abbrev pub parts : {s : Symbol} → Production s → List Part
@@ -158,31 +181,44 @@ parts items_sems = P.Here S.Sems ∷ P.Here S.Items ∷ []
 parts items_chans = P.Here S.Chans ∷ P.Here S.Items ∷ []
 parts items_function = P.Here S.Function ∷ P.Here S.Items ∷ []
 parts items_process = P.Here S.Process ∷ P.Here S.Items ∷ []
-parts shared = P.Here (S.Exact K.SharedWord) ∷ P.Here (S.Exact K.IntWord) ∷ P.Here S.SharedItem ∷ P.Here S.SharedItems ∷ P.Wrap R.Shared ∷ []
+parts shared =
+    P.Here (S.Exact K.SharedWord) ∷ P.Here (S.Exact K.IntWord) ∷ P.Here S.SharedItem ∷ P.Here S.SharedItems
+    ∷ P.Wrap R.Shared ∷ []
 parts shared_end = P.Here (S.Exact K.Semicolon) ∷ []
 parts shared_more = P.Here (S.Exact K.Comma) ∷ P.Here S.SharedItem ∷ P.Here S.SharedItems ∷ []
 parts shared_item = P.Here (S.Exact K.Name) ∷ P.Here S.SharedStart ∷ P.Wrap R.Sitem ∷ []
 parts no_start = []
 parts start = P.Here (S.Exact K.AssignMark) ∷ P.Here S.StartValue ∷ []
-parts shared_length = P.Deeper (S.Exact K.LeftBracket) ∷ P.Deeper (S.Exact K.Number) ∷ P.Deeper (S.Exact K.RightBracket) ∷ []
+parts shared_length =
+    P.Deeper (S.Exact K.LeftBracket) ∷ P.Deeper (S.Exact K.Number) ∷ P.Deeper (S.Exact K.RightBracket) ∷ []
 parts start_plain = P.Here (S.Exact K.Number) ∷ []
 parts start_minus = P.Here (S.Exact K.MinusMark) ∷ P.Here (S.Exact K.Number) ∷ []
-parts sems = P.Here (S.Exact K.SemWord) ∷ P.Here (S.Exact K.Name) ∷ P.Here S.SemStart ∷ P.Here S.SemItems ∷ P.Wrap R.Sems ∷ []
+parts sems =
+    P.Here (S.Exact K.SemWord) ∷ P.Here (S.Exact K.Name) ∷ P.Here S.SemStart ∷ P.Here S.SemItems ∷ P.Wrap R.Sems ∷ []
 parts no_sem_start = []
 parts sem_start = P.Here (S.Exact K.AssignMark) ∷ P.Here (S.Exact K.Number) ∷ []
 parts sems_end = P.Here (S.Exact K.Semicolon) ∷ []
 parts sems_more = P.Here (S.Exact K.Comma) ∷ P.Here (S.Exact K.Name) ∷ P.Here S.SemStart ∷ P.Here S.SemItems ∷ []
-parts chans = P.Here (S.Exact K.ChanWord) ∷ P.Here (S.Exact K.Name) ∷ P.Deeper (S.Exact K.LeftBracket) ∷ P.Deeper (S.Exact K.Number) ∷ P.Deeper (S.Exact K.RightBracket) ∷ P.Here S.ChanItems ∷ P.Wrap R.Chans ∷ []
+parts chans =
+    P.Here (S.Exact K.ChanWord) ∷ P.Here (S.Exact K.Name) ∷ P.Deeper (S.Exact K.LeftBracket)
+    ∷ P.Deeper (S.Exact K.Number) ∷ P.Deeper (S.Exact K.RightBracket) ∷ P.Here S.ChanItems ∷ P.Wrap R.Chans ∷ []
 parts chans_end = P.Here (S.Exact K.Semicolon) ∷ []
-parts chans_more = P.Here (S.Exact K.Comma) ∷ P.Here (S.Exact K.Name) ∷ P.Deeper (S.Exact K.LeftBracket) ∷ P.Deeper (S.Exact K.Number) ∷ P.Deeper (S.Exact K.RightBracket) ∷ P.Here S.ChanItems ∷ []
-parts function_int = P.Here (S.Exact K.IntWord) ∷ P.Here (S.Exact K.Name) ∷ P.Deeper (S.Exact K.LeftParen) ∷ P.Deeper S.ParamsEnd ∷ P.Here S.Block ∷ P.Wrap R.Function ∷ []
-parts function_void = P.Here (S.Exact K.VoidWord) ∷ P.Here (S.Exact K.Name) ∷ P.Deeper (S.Exact K.LeftParen) ∷ P.Deeper S.ParamsEnd ∷ P.Here S.Block ∷ P.Wrap R.Function ∷ []
+parts chans_more =
+    P.Here (S.Exact K.Comma) ∷ P.Here (S.Exact K.Name) ∷ P.Deeper (S.Exact K.LeftBracket)
+    ∷ P.Deeper (S.Exact K.Number) ∷ P.Deeper (S.Exact K.RightBracket) ∷ P.Here S.ChanItems ∷ []
+parts function_int =
+    P.Here (S.Exact K.IntWord) ∷ P.Here (S.Exact K.Name) ∷ P.Deeper (S.Exact K.LeftParen) ∷ P.Deeper S.ParamsEnd
+    ∷ P.Here S.Block ∷ P.Wrap R.Function ∷ []
+parts function_void =
+    P.Here (S.Exact K.VoidWord) ∷ P.Here (S.Exact K.Name) ∷ P.Deeper (S.Exact K.LeftParen) ∷ P.Deeper S.ParamsEnd
+    ∷ P.Here S.Block ∷ P.Wrap R.Function ∷ []
 parts no_params = P.Here (S.Exact K.RightParen) ∷ []
 parts some_params = P.Here S.Params ∷ P.Here (S.Exact K.RightParen) ∷ []
 parts params_void = P.Here (S.Exact K.VoidWord) ∷ P.Wrap R.Params ∷ []
 parts params_int = P.Here (S.Exact K.IntWord) ∷ P.Here (S.Exact K.Name) ∷ P.Here S.ParamItems ∷ P.Wrap R.Params ∷ []
 parts params_end = []
-parts params_more = P.Here (S.Exact K.Comma) ∷ P.Here (S.Exact K.IntWord) ∷ P.Here (S.Exact K.Name) ∷ P.Here S.ParamItems ∷ []
+parts params_more =
+    P.Here (S.Exact K.Comma) ∷ P.Here (S.Exact K.IntWord) ∷ P.Here (S.Exact K.Name) ∷ P.Here S.ParamItems ∷ []
 parts process = P.Here (S.Exact K.ProcessWord) ∷ P.Here (S.Exact K.Name) ∷ P.Here S.Block ∷ P.Wrap R.Process ∷ []
 parts block = P.Deeper (S.Exact K.LeftBrace) ∷ P.Deeper S.Stmts ∷ P.Wrap R.Block ∷ []
 parts stmts_end = P.Here (S.Exact K.RightBrace) ∷ []
@@ -194,8 +230,11 @@ parts local_more = P.Here (S.Exact K.Comma) ∷ P.Here S.LocalItem ∷ P.Here S.
 parts local_item = P.Here (S.Exact K.Name) ∷ P.Here S.LocalStart ∷ P.Wrap R.Litem ∷ []
 parts no_local_start = []
 parts local_start = P.Here (S.Exact K.AssignMark) ∷ P.Here S.Value ∷ []
-parts local_length = P.Deeper (S.Exact K.LeftBracket) ∷ P.Deeper (S.Exact K.Number) ∷ P.Deeper (S.Exact K.RightBracket) ∷ []
-parts value_recv = P.Here (S.Exact K.RecvWord) ∷ P.Deeper (S.Exact K.LeftParen) ∷ P.Deeper (S.Exact K.Name) ∷ P.Deeper (S.Exact K.RightParen) ∷ P.Wrap R.Value ∷ []
+parts local_length =
+    P.Deeper (S.Exact K.LeftBracket) ∷ P.Deeper (S.Exact K.Number) ∷ P.Deeper (S.Exact K.RightBracket) ∷ []
+parts value_recv =
+    P.Here (S.Exact K.RecvWord) ∷ P.Deeper (S.Exact K.LeftParen) ∷ P.Deeper (S.Exact K.Name)
+    ∷ P.Deeper (S.Exact K.RightParen) ∷ P.Wrap R.Value ∷ []
 parts value_plain = P.Here S.CallOrExpr ∷ P.Wrap R.Value ∷ []
 parts call_or_name = P.Inside (S.Exact K.Name) ∷ P.Here S.NamedRest ∷ []
 parts other_expr = P.Inside S.OtherUnary ∷ P.Inside S.ExprRest ∷ []
@@ -215,7 +254,9 @@ parts subtract = P.Here (S.Exact K.SubtractMark) ∷ P.Here S.Expr ∷ []
 parts increase = P.Here (S.Exact K.IncreaseMark) ∷ []
 parts decrease = P.Here (S.Exact K.DecreaseMark) ∷ []
 parts expr = P.Inside S.Unary ∷ P.Inside S.ExprRest ∷ []
-parts expr_rest = P.Here (S.Chain L.Product) ∷ P.Here (S.Chain L.Sum) ∷ P.Here (S.Chain L.Compare) ∷ P.Here (S.Chain L.Equal) ∷ P.Here (S.Chain L.And) ∷ P.Here (S.Chain L.Or) ∷ []
+parts expr_rest =
+    P.Here (S.Chain L.Product) ∷ P.Here (S.Chain L.Sum) ∷ P.Here (S.Chain L.Compare) ∷ P.Here (S.Chain L.Equal)
+    ∷ P.Here (S.Chain L.And) ∷ P.Here (S.Chain L.Or) ∷ []
 parts unary_place = P.Here S.Place ∷ P.Wrap R.Unary ∷ []
 parts unary_other = P.Here S.OtherUnary ∷ []
 parts minus = P.Deeper (S.Exact K.MinusMark) ∷ P.Deeper S.Unary ∷ P.Wrap R.Unary ∷ []
@@ -225,32 +266,68 @@ parts number = P.Here (S.Exact K.Number) ∷ P.Wrap R.Unary ∷ []
 parts stmt_block = P.Here S.Block ∷ P.Wrap R.Stmt ∷ []
 parts stmt_empty = P.Here (S.Exact K.Semicolon) ∷ P.Wrap R.Stmt ∷ []
 parts stmt_name = P.Here (S.Exact K.Name) ∷ P.Here S.StmtRest ∷ []
-parts stmt_if = P.Here (S.Exact K.IfWord) ∷ P.Deeper (S.Exact K.LeftParen) ∷ P.Deeper S.Expr ∷ P.Deeper (S.Exact K.RightParen) ∷ P.Deeper S.Stmt ∷ P.Here S.ElsePart ∷ P.Wrap R.Stmt ∷ []
-parts stmt_while = P.Here (S.Exact K.WhileWord) ∷ P.Deeper (S.Exact K.LeftParen) ∷ P.Deeper S.Expr ∷ P.Deeper (S.Exact K.RightParen) ∷ P.Deeper S.Stmt ∷ P.Wrap R.Stmt ∷ []
-parts stmt_for = P.Here (S.Exact K.ForWord) ∷ P.Deeper (S.Exact K.LeftParen) ∷ P.Deeper S.ForStart ∷ P.Deeper S.ForTest ∷ P.Deeper S.ForStep ∷ P.Deeper S.Stmt ∷ P.Wrap R.Stmt ∷ []
+parts stmt_if =
+    P.Here (S.Exact K.IfWord) ∷ P.Deeper (S.Exact K.LeftParen) ∷ P.Deeper S.Expr ∷ P.Deeper (S.Exact K.RightParen)
+    ∷ P.Deeper S.Stmt ∷ P.Here S.ElsePart ∷ P.Wrap R.Stmt ∷ []
+parts stmt_while =
+    P.Here (S.Exact K.WhileWord) ∷ P.Deeper (S.Exact K.LeftParen) ∷ P.Deeper S.Expr ∷ P.Deeper (S.Exact K.RightParen)
+    ∷ P.Deeper S.Stmt ∷ P.Wrap R.Stmt ∷ []
+parts stmt_for =
+    P.Here (S.Exact K.ForWord) ∷ P.Deeper (S.Exact K.LeftParen) ∷ P.Deeper S.ForStart ∷ P.Deeper S.ForTest
+    ∷ P.Deeper S.ForStep ∷ P.Deeper S.Stmt ∷ P.Wrap R.Stmt ∷ []
 parts stmt_return = P.Here (S.Exact K.ReturnWord) ∷ P.Here S.ReturnEnd ∷ P.Wrap R.Stmt ∷ []
-parts stmt_take = P.Here (S.Exact K.TakeWord) ∷ P.Deeper (S.Exact K.LeftParen) ∷ P.Deeper (S.Exact K.Name) ∷ P.Deeper (S.Exact K.RightParen) ∷ P.Here (S.Exact K.Semicolon) ∷ P.Wrap R.Stmt ∷ []
-parts stmt_give = P.Here (S.Exact K.GiveWord) ∷ P.Deeper (S.Exact K.LeftParen) ∷ P.Deeper (S.Exact K.Name) ∷ P.Deeper (S.Exact K.RightParen) ∷ P.Here (S.Exact K.Semicolon) ∷ P.Wrap R.Stmt ∷ []
-parts stmt_send = P.Here (S.Exact K.SendWord) ∷ P.Deeper (S.Exact K.LeftParen) ∷ P.Deeper (S.Exact K.Name) ∷ P.Deeper (S.Exact K.Comma) ∷ P.Deeper S.Expr ∷ P.Deeper (S.Exact K.RightParen) ∷ P.Here (S.Exact K.Semicolon) ∷ P.Wrap R.Stmt ∷ []
-parts stmt_print = P.Here (S.Exact K.PrintWord) ∷ P.Deeper (S.Exact K.LeftParen) ∷ P.Deeper S.Expr ∷ P.Deeper (S.Exact K.RightParen) ∷ P.Here (S.Exact K.Semicolon) ∷ P.Wrap R.Stmt ∷ []
-parts stmt_assert = P.Here (S.Exact K.AssertWord) ∷ P.Deeper (S.Exact K.LeftParen) ∷ P.Deeper S.Expr ∷ P.Deeper (S.Exact K.RightParen) ∷ P.Here (S.Exact K.Semicolon) ∷ P.Wrap R.Stmt ∷ []
-parts rest_call = P.Deeper (S.Exact K.LeftParen) ∷ P.Deeper S.Args ∷ P.Wrap R.Call ∷ P.Here (S.Exact K.Semicolon) ∷ P.Wrap R.Stmt ∷ []
-parts rest_element = P.Deeper (S.Exact K.LeftBracket) ∷ P.Deeper S.Expr ∷ P.Deeper (S.Exact K.RightBracket) ∷ P.Wrap R.Place ∷ P.Here S.PlaceRest ∷ []
+parts stmt_take =
+    P.Here (S.Exact K.TakeWord) ∷ P.Deeper (S.Exact K.LeftParen) ∷ P.Deeper (S.Exact K.Name)
+    ∷ P.Deeper (S.Exact K.RightParen) ∷ P.Here (S.Exact K.Semicolon) ∷ P.Wrap R.Stmt ∷ []
+parts stmt_give =
+    P.Here (S.Exact K.GiveWord) ∷ P.Deeper (S.Exact K.LeftParen) ∷ P.Deeper (S.Exact K.Name)
+    ∷ P.Deeper (S.Exact K.RightParen) ∷ P.Here (S.Exact K.Semicolon) ∷ P.Wrap R.Stmt ∷ []
+parts stmt_send =
+    P.Here (S.Exact K.SendWord) ∷ P.Deeper (S.Exact K.LeftParen) ∷ P.Deeper (S.Exact K.Name)
+    ∷ P.Deeper (S.Exact K.Comma) ∷ P.Deeper S.Expr ∷ P.Deeper (S.Exact K.RightParen) ∷ P.Here (S.Exact K.Semicolon)
+    ∷ P.Wrap R.Stmt ∷ []
+parts stmt_print =
+    P.Here (S.Exact K.PrintWord) ∷ P.Deeper (S.Exact K.LeftParen) ∷ P.Deeper S.Expr ∷ P.Deeper (S.Exact K.RightParen)
+    ∷ P.Here (S.Exact K.Semicolon) ∷ P.Wrap R.Stmt ∷ []
+parts stmt_assert =
+    P.Here (S.Exact K.AssertWord) ∷ P.Deeper (S.Exact K.LeftParen) ∷ P.Deeper S.Expr
+    ∷ P.Deeper (S.Exact K.RightParen) ∷ P.Here (S.Exact K.Semicolon) ∷ P.Wrap R.Stmt ∷ []
+parts rest_call =
+    P.Deeper (S.Exact K.LeftParen) ∷ P.Deeper S.Args ∷ P.Wrap R.Call ∷ P.Here (S.Exact K.Semicolon) ∷ P.Wrap R.Stmt
+    ∷ []
+parts rest_element =
+    P.Deeper (S.Exact K.LeftBracket) ∷ P.Deeper S.Expr ∷ P.Deeper (S.Exact K.RightBracket) ∷ P.Wrap R.Place
+    ∷ P.Here S.PlaceRest ∷ []
 parts rest_scalar = P.Wrap R.Place ∷ P.Here S.PlaceRest ∷ []
 parts rest_assign = P.Here (S.Exact K.AssignMark) ∷ P.Here S.Assigned ∷ []
-parts rest_add = P.Here (S.Exact K.AddMark) ∷ P.Here S.Expr ∷ P.Wrap R.Change ∷ P.Here (S.Exact K.Semicolon) ∷ P.Wrap R.Stmt ∷ []
-parts rest_subtract = P.Here (S.Exact K.SubtractMark) ∷ P.Here S.Expr ∷ P.Wrap R.Change ∷ P.Here (S.Exact K.Semicolon) ∷ P.Wrap R.Stmt ∷ []
-parts rest_increase = P.Here (S.Exact K.IncreaseMark) ∷ P.Wrap R.Change ∷ P.Here (S.Exact K.Semicolon) ∷ P.Wrap R.Stmt ∷ []
-parts rest_decrease = P.Here (S.Exact K.DecreaseMark) ∷ P.Wrap R.Change ∷ P.Here (S.Exact K.Semicolon) ∷ P.Wrap R.Stmt ∷ []
-parts assigned_recv = P.Here (S.Exact K.RecvWord) ∷ P.Deeper (S.Exact K.LeftParen) ∷ P.Deeper (S.Exact K.Name) ∷ P.Deeper (S.Exact K.RightParen) ∷ P.Wrap R.Value ∷ P.Here (S.Exact K.Semicolon) ∷ P.WrapBack R.Stmt ∷ []
+parts rest_add =
+    P.Here (S.Exact K.AddMark) ∷ P.Here S.Expr ∷ P.Wrap R.Change ∷ P.Here (S.Exact K.Semicolon) ∷ P.Wrap R.Stmt ∷ []
+parts rest_subtract =
+    P.Here (S.Exact K.SubtractMark) ∷ P.Here S.Expr ∷ P.Wrap R.Change ∷ P.Here (S.Exact K.Semicolon) ∷ P.Wrap R.Stmt
+    ∷ []
+parts rest_increase =
+    P.Here (S.Exact K.IncreaseMark) ∷ P.Wrap R.Change ∷ P.Here (S.Exact K.Semicolon) ∷ P.Wrap R.Stmt ∷ []
+parts rest_decrease =
+    P.Here (S.Exact K.DecreaseMark) ∷ P.Wrap R.Change ∷ P.Here (S.Exact K.Semicolon) ∷ P.Wrap R.Stmt ∷ []
+parts assigned_recv =
+    P.Here (S.Exact K.RecvWord) ∷ P.Deeper (S.Exact K.LeftParen) ∷ P.Deeper (S.Exact K.Name)
+    ∷ P.Deeper (S.Exact K.RightParen) ∷ P.Wrap R.Value ∷ P.Here (S.Exact K.Semicolon) ∷ P.WrapBack R.Stmt ∷ []
 parts assigned_name = P.Inside (S.Exact K.Name) ∷ P.Here S.AssignedRest ∷ []
-parts assigned_other = P.Inside S.OtherUnary ∷ P.Inside S.ExprRest ∷ P.WrapBack R.Change ∷ P.Here (S.Exact K.Semicolon) ∷ P.WrapBack R.Stmt ∷ []
-parts assigned_call = P.Deeper (S.Exact K.LeftParen) ∷ P.Deeper S.Args ∷ P.Wrap R.Call ∷ P.Wrap R.Value ∷ P.Here (S.Exact K.Semicolon) ∷ P.WrapBack R.Stmt ∷ []
-parts assigned_expr = P.Inside S.PlaceEnd ∷ P.Wrap R.Place ∷ P.Wrap R.Unary ∷ P.Inside S.ExprRest ∷ P.WrapBack R.Change ∷ P.Here (S.Exact K.Semicolon) ∷ P.WrapBack R.Stmt ∷ []
+parts assigned_other =
+    P.Inside S.OtherUnary ∷ P.Inside S.ExprRest ∷ P.WrapBack R.Change ∷ P.Here (S.Exact K.Semicolon)
+    ∷ P.WrapBack R.Stmt ∷ []
+parts assigned_call =
+    P.Deeper (S.Exact K.LeftParen) ∷ P.Deeper S.Args ∷ P.Wrap R.Call ∷ P.Wrap R.Value ∷ P.Here (S.Exact K.Semicolon)
+    ∷ P.WrapBack R.Stmt ∷ []
+parts assigned_expr =
+    P.Inside S.PlaceEnd ∷ P.Wrap R.Place ∷ P.Wrap R.Unary ∷ P.Inside S.ExprRest ∷ P.WrapBack R.Change
+    ∷ P.Here (S.Exact K.Semicolon) ∷ P.WrapBack R.Stmt ∷ []
 parts no_else = []
 parts some_else = P.Here (S.Exact K.ElseWord) ∷ P.Deeper S.Stmt ∷ []
 parts for_plain = P.Here (S.Exact K.Semicolon) ∷ []
-parts for_local = P.Here (S.Exact K.IntWord) ∷ P.Here (S.Exact K.Name) ∷ P.Here (S.Exact K.AssignMark) ∷ P.Here S.Expr ∷ P.Here (S.Exact K.Semicolon) ∷ []
+parts for_local =
+    P.Here (S.Exact K.IntWord) ∷ P.Here (S.Exact K.Name) ∷ P.Here (S.Exact K.AssignMark) ∷ P.Here S.Expr
+    ∷ P.Here (S.Exact K.Semicolon) ∷ []
 parts for_change = P.Here S.Change ∷ P.Here (S.Exact K.Semicolon) ∷ []
 parts for_ever = P.Here (S.Exact K.Semicolon) ∷ []
 parts for_while = P.Here S.Expr ∷ P.Here (S.Exact K.Semicolon) ∷ []
@@ -262,7 +339,8 @@ parts (operand l) = operand_parts l
 parts (chain_end l) = []
 parts (chain_more l) = P.Here (S.Operator l) ∷ P.Here (S.Operand l) ∷ P.Wrap R.Binary ∷ P.Here (S.Chain l) ∷ []
 
--- An optional part is left out only where the next token does not begin it: so an else belongs to the nearest open if. A name
+-- An optional part is left out only where the next token does not begin it: so an else belongs to the nearest open
+-- if. A name
 -- before a parenthesis is a call, and no expression.
 abbrev pub Stands : {s : Symbol} → Production s → Kind → Type 0
 Stands no_start k = (k ≢ K.AssignMark) × (k ≢ K.LeftBracket)
@@ -301,17 +379,24 @@ base_in S.AssignedRest b n = b
 base_in (S.Chain l) b n = b
 base_in _ b n = n
 
--- Reads w s ts t rest: with the trees s before it, the tokens ts begin with what is wanted and go on with rest, and t are the trees then.
+-- Reads w s ts t rest: with the trees s before it, the tokens ts begin with what is wanted and go on with rest, and t
+-- are the trees then.
 mutual
   pub data Reads : Want → List Shape → List Marked → List Shape → List Marked → Type 0 where
-    exact : {k : Kind} {a : At} {b : ℕ} {s : List Shape} {x : Marked} {rest : List Marked} → kind_at x ≡ k → x.at ≡ a → Reads (Get (S.Exact k) a b) s (x ∷ rest) (s ++ leaf x.token ∷ []) rest
-    operator : {l : Level} {a : At} {b : ℕ} {s : List Shape} {x : Marked} {rest : List Marked} → is_operator l (kind_at x) ≡ true → x.at ≡ a → Reads (Get (S.Operator l) a b) s (x ∷ rest) (s ++ leaf x.token ∷ []) rest
+    exact : {k : Kind} {a : At} {b : ℕ} {s : List Shape} {x : Marked} {rest : List Marked} → kind_at x ≡ k → x.at ≡ a
+        → Reads (Get (S.Exact k) a b) s (x ∷ rest) (s ++ leaf x.token ∷ []) rest
+    operator : {l : Level} {a : At} {b : ℕ} {s : List Shape} {x : Marked} {rest : List Marked}
+        → is_operator l (kind_at x) ≡ true → x.at ≡ a
+        → Reads (Get (S.Operator l) a b) s (x ∷ rest) (s ++ leaf x.token ∷ []) rest
     wrap : {r : Rule} {b : ℕ} {s : List Shape} {ts : List Marked} → Reads (Close r b) s ts (close r b s) ts
-    by : {y : Symbol} {a : At} {b : ℕ} {s t : List Shape} {ts rest : List Marked} → (p : Production y) → MayStand p ts → ReadsAll (wants_in a (base_in y b (length s)) (parts p)) s ts t rest → Reads (Get y a b) s ts t rest
+    by : {y : Symbol} {a : At} {b : ℕ} {s t : List Shape} {ts rest : List Marked} → (p : Production y)
+        → MayStand p ts → ReadsAll (wants_in a (base_in y b (length s)) (parts p)) s ts t rest
+        → Reads (Get y a b) s ts t rest
 
   pub data ReadsAll : List Want → List Shape → List Marked → List Shape → List Marked → Type 0 where
     nothing : {s : List Shape} {ts : List Marked} → ReadsAll [] s ts s ts
-    next : {w : Want} {ws : List Want} {s t u : List Shape} {ts mid rest : List Marked} → Reads w s ts t mid → ReadsAll ws t mid u rest → ReadsAll (w ∷ ws) s ts u rest
+    next : {w : Want} {ws : List Want} {s t u : List Shape} {ts mid rest : List Marked} → Reads w s ts t mid
+        → ReadsAll ws t mid u rest → ReadsAll (w ∷ ws) s ts u rest
 
 -- the parser reads the marked tokens as this tree
 abbrev pub IsParsed : List Marked → List Shape → Type 0

@@ -31,7 +31,8 @@ AreLeafy ns = (k : ℕ) (d : Growth) → k < length ns → IsLeafy (slice_index_
 
 -- no node is outside the trees: they have as many of each kind
 abbrev pub AreCounted : List Growth → List ℕ → Type 0
-AreCounted ns roots = (m : ℕ) (w : Rule → ℕ) → sum_by (λ n. weigh_node m w n.token n.rule) ns ≡ weigh_all m w (shapes_of ns roots)
+AreCounted ns roots =
+    (m : ℕ) (w : Rule → ℕ) → sum_by (λ n. weigh_node m w n.token n.rule) ns ≡ weigh_all m w (shapes_of ns roots)
 
 abbrev pub IsGrown : List Growth → List ℕ → Type 0
 IsGrown ns roots = AreBelow (length ns) roots × AreRising ns × AreOnce ns roots × AreLeafy ns × AreCounted ns roots

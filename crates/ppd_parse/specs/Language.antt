@@ -91,24 +91,47 @@ else_part = word K.ElseWord · opened (the stmt_side) ∣ unless K.ElseWord
 
 -- what the parentheses of a for hold
 abbrev pub heading : Phrase
-heading = maybe (word K.IntWord · word K.Name · word K.AssignMark · the expr_side ∣ the change_side) · word K.Semicolon · maybe (the expr_side) · word K.Semicolon · maybe (the change_side)
+heading = maybe (word K.IntWord · word K.Name · word K.AssignMark · the expr_side ∣ the change_side)
+    · word K.Semicolon · maybe (the expr_side) · word K.Semicolon · maybe (the change_side)
 
 -- The right sides. An else belongs to the nearest open if: an if stands without one only where no else is next.
 abbrev pub phrase : Side → Phrase
-phrase source_side = made R.Source (many (the shared_side ∣ the sems_side ∣ the chans_side ∣ the function_side ∣ the process_side) · word K.End)
-phrase shared_side = made R.Shared (word K.SharedWord · word K.IntWord · the shared_item_side · many (word K.Comma · the shared_item_side) · word K.Semicolon)
-phrase shared_item_side = made R.Sitem (word K.Name · maybe (word K.AssignMark · maybe (word K.MinusMark) · word K.Number) ∣ word K.Name · brackets (word K.Number))
-phrase sems_side = made R.Sems (word K.SemWord · word K.Name · maybe (word K.AssignMark · word K.Number) · many (word K.Comma · word K.Name · maybe (word K.AssignMark · word K.Number)) · word K.Semicolon)
-phrase chans_side = made R.Chans (word K.ChanWord · word K.Name · brackets (word K.Number) · many (word K.Comma · word K.Name · brackets (word K.Number)) · word K.Semicolon)
-phrase function_side = made R.Function ((word K.IntWord ∣ word K.VoidWord) · word K.Name · parens (maybe (the params_side)) · the block_side)
-phrase params_side = made R.Params (word K.VoidWord ∣ word K.IntWord · word K.Name · many (word K.Comma · word K.IntWord · word K.Name))
+phrase source_side =
+    made R.Source
+    (many (the shared_side ∣ the sems_side ∣ the chans_side ∣ the function_side ∣ the process_side) · word K.End)
+phrase shared_side =
+    made R.Shared
+    (word K.SharedWord · word K.IntWord · the shared_item_side · many (word K.Comma · the shared_item_side)
+    · word K.Semicolon)
+phrase shared_item_side =
+    made R.Sitem
+    (word K.Name · maybe (word K.AssignMark · maybe (word K.MinusMark) · word K.Number) ∣ word K.Name
+    · brackets (word K.Number))
+phrase sems_side =
+    made R.Sems (word K.SemWord · word K.Name · maybe (word K.AssignMark · word K.Number)
+    · many (word K.Comma · word K.Name · maybe (word K.AssignMark · word K.Number)) · word K.Semicolon)
+phrase chans_side =
+    made R.Chans
+    (word K.ChanWord · word K.Name · brackets (word K.Number)
+    · many (word K.Comma · word K.Name · brackets (word K.Number)) · word K.Semicolon)
+phrase function_side =
+    made R.Function
+    ((word K.IntWord ∣ word K.VoidWord) · word K.Name · parens (maybe (the params_side)) · the block_side)
+phrase params_side =
+    made R.Params
+    (word K.VoidWord ∣ word K.IntWord · word K.Name · many (word K.Comma · word K.IntWord · word K.Name))
 phrase process_side = made R.Process (word K.ProcessWord · word K.Name · the block_side)
 phrase block_side = made R.Block (opened (word K.LeftBrace · many (the local_side ∣ the stmt_side) · word K.RightBrace))
-phrase local_side = made R.Local (word K.IntWord · the local_item_side · many (word K.Comma · the local_item_side) · word K.Semicolon)
-phrase local_item_side = made R.Litem (word K.Name · maybe (word K.AssignMark · the value_side) ∣ word K.Name · brackets (word K.Number))
+phrase local_side =
+    made R.Local (word K.IntWord · the local_item_side · many (word K.Comma · the local_item_side) · word K.Semicolon)
+phrase local_item_side =
+    made R.Litem (word K.Name · maybe (word K.AssignMark · the value_side) ∣ word K.Name · brackets (word K.Number))
 phrase value_side = made R.Value (received ∣ called ∣ the expr_side)
 phrase place_side = made R.Place (word K.Name · maybe (brackets (the expr_side)))
-phrase change_side = made R.Change (the place_side · (word K.AssignMark ∣ word K.AddMark ∣ word K.SubtractMark) · the expr_side ∣ the place_side · (word K.IncreaseMark ∣ word K.DecreaseMark))
+phrase change_side =
+    made R.Change
+    (the place_side · (word K.AssignMark ∣ word K.AddMark ∣ word K.SubtractMark) · the expr_side ∣ the place_side
+    · (word K.IncreaseMark ∣ word K.DecreaseMark))
 phrase stmt_side = made R.Stmt (
     the block_side
     ∣ word K.Semicolon
@@ -126,7 +149,10 @@ phrase stmt_side = made R.Stmt (
     ∣ word K.AssertWord · parens (the expr_side) · word K.Semicolon)
 phrase expr_side = measured (the (tier L.Or))
 phrase (tier l) = the (below l) ∣ made R.Binary (the (tier l) · binary l · the (below l))
-phrase unary_side = made R.Unary (opened ((word K.NotMark ∣ word K.MinusMark) · the unary_side) ∣ parens (the expr_side) ∣ word K.Number ∣ the place_side)
+phrase unary_side =
+    made R.Unary
+    (opened ((word K.NotMark ∣ word K.MinusMark) · the unary_side) ∣ parens (the expr_side) ∣ word K.Number
+    ∣ the place_side)
 
 -- the next token, if there is one, is not of the kind
 abbrev pub NextIsNot : Kind → List Marked → Type 0
@@ -135,20 +161,28 @@ NextIsNot k (x ∷ ts) = kind_at x ≢ k
 
 -- Is f a ts t rest: the tokens ts begin with the phrase f, at a place a, and go on with rest; t are its trees.
 pub data Is : Phrase → At → List Marked → List Shape → List Marked → Type 0 where
-  token : {k : Kind} {a : At} {x : Marked} {rest : List Marked} → kind_at x ≡ k → x.at ≡ a → Is (word k) a (x ∷ rest) (leaf x.token ∷ []) rest
-  sign : {l : Level} {a : At} {x : Marked} {rest : List Marked} → is_operator l (kind_at x) ≡ true → x.at ≡ a → Is (binary l) a (x ∷ rest) (leaf x.token ∷ []) rest
-  side : {y : Side} {a : At} {t : List Shape} {ts rest : List Marked} → Is (phrase y) a ts t rest → Is (the y) a ts t rest
-  both : {f g : Phrase} {a : At} {t u : List Shape} {ts mid rest : List Marked} → Is f a ts t mid → Is g a mid u rest → Is (f · g) a ts (t ++ u) rest
+  token : {k : Kind} {a : At} {x : Marked} {rest : List Marked} → kind_at x ≡ k → x.at ≡ a
+      → Is (word k) a (x ∷ rest) (leaf x.token ∷ []) rest
+  sign : {l : Level} {a : At} {x : Marked} {rest : List Marked} → is_operator l (kind_at x) ≡ true → x.at ≡ a
+      → Is (binary l) a (x ∷ rest) (leaf x.token ∷ []) rest
+  side : {y : Side} {a : At} {t : List Shape} {ts rest : List Marked} → Is (phrase y) a ts t rest
+      → Is (the y) a ts t rest
+  both : {f g : Phrase} {a : At} {t u : List Shape} {ts mid rest : List Marked} → Is f a ts t mid → Is g a mid u rest
+      → Is (f · g) a ts (t ++ u) rest
   left : {f g : Phrase} {a : At} {t : List Shape} {ts rest : List Marked} → Is f a ts t rest → Is (f ∣ g) a ts t rest
   right : {f g : Phrase} {a : At} {t : List Shape} {ts rest : List Marked} → Is g a ts t rest → Is (f ∣ g) a ts t rest
   done : {f : Phrase} {a : At} {ts : List Marked} → Is (many f) a ts [] ts
-  more : {f : Phrase} {a : At} {t u : List Shape} {ts mid rest : List Marked} → Is f a ts t mid → Is (many f) a mid u rest → Is (many f) a ts (t ++ u) rest
+  more : {f : Phrase} {a : At} {t u : List Shape} {ts mid rest : List Marked} → Is f a ts t mid
+      → Is (many f) a mid u rest → Is (many f) a ts (t ++ u) rest
   absent : {f : Phrase} {a : At} {ts : List Marked} → Is (maybe f) a ts [] ts
   present : {f : Phrase} {a : At} {t : List Shape} {ts rest : List Marked} → Is f a ts t rest → Is (maybe f) a ts t rest
   ended : {k : Kind} {a : At} {ts : List Marked} → NextIsNot k ts → Is (unless k) a ts [] ts
-  within : {f : Phrase} {a : At} {t : List Shape} {ts rest : List Marked} → Is f (deeper a) ts t rest → Is (opened f) a ts t rest
-  counted : {f : Phrase} {a : At} {t : List Shape} {ts rest : List Marked} → Is f (inside a) ts t rest → Is (measured f) a ts t rest
-  grouped : {r : Rule} {f : Phrase} {a : At} {t : List Shape} {ts rest : List Marked} → Is f a ts t rest → Is (made r f) a ts (node r (forest t) ∷ []) rest
+  within : {f : Phrase} {a : At} {t : List Shape} {ts rest : List Marked} → Is f (deeper a) ts t rest
+      → Is (opened f) a ts t rest
+  counted : {f : Phrase} {a : At} {t : List Shape} {ts rest : List Marked} → Is f (inside a) ts t rest
+      → Is (measured f) a ts t rest
+  grouped : {r : Rule} {f : Phrase} {a : At} {t : List Shape} {ts rest : List Marked} → Is f a ts t rest
+      → Is (made r f) a ts (node r (forest t) ∷ []) rest
 
 -- the marked tokens are a program with this tree
 abbrev pub IsProgram : List Marked → List Shape → Type 0

@@ -1,6 +1,7 @@
 -- What holds of the trees and the refusals of all tokens.
-use Rattle.std.specs.Prelude.{◌≡◌, List}
+use Rattle.std.specs.Prelude.{◌≡◌, ◌≢◌, ◌⊎◌, List}
 use Rattle.ppd_lex.specs.declared.token.Token.{Token}
+use Rattle.ppd_lex.specs.Formed.{EndOnce}
 use Rattle.ppd_parse.specs.declared.error.SyntaxError.{SyntaxError}
 use Rattle.ppd_parse.specs.declared.error.SyntaxError.TheVariants.{Memory}
 use Rattle.ppd_parse.specs.Grammar.{Shape}
@@ -18,3 +19,14 @@ AreTreeOrRefused = (ts : List Token) (f : List Shape) (e : SyntaxError) → IsTr
 -- the leaves of a tree are the tokens, in order
 abbrev pub HaveTokensAsLeaves : Type 0
 HaveTokensAsLeaves = (ts : List Token) (f : List Shape) → IsTree ts f → leaves_of f ≡ ts
+
+-- tokens that end as those of a source do have a tree, or a refusal that is no want of memory
+abbrev pub HaveAnAnswer : Type 0
+HaveAnAnswer =
+    (ts : List Token) → EndOnce ts
+    → ((f : List Shape) × IsTree ts f) ⊎ ((e : SyntaxError) × (e ≢ Memory) × IsRefused ts e)
+
+-- they have one such refusal at most
+abbrev pub HaveOneRefusal : Type 0
+HaveOneRefusal =
+    (ts : List Token) (d e : SyntaxError) → d ≢ Memory → e ≢ Memory → IsRefused ts d → IsRefused ts e → d ≡ e

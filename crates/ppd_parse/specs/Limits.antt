@@ -37,7 +37,8 @@ no_token = record { kind = T.End; from = 0; to = 0; place = record { line = 1; c
 abbrev pub token_at : List Token → ℕ → Token
 token_at ts i = slice_index_or ts i no_token
 
--- The tokens are a program within the limits, and this is its tree, as a list of one; they have no other tree and no other marks.
+-- The tokens are a program within the limits, and this is its tree, as a list of one; they have no other tree and no
+-- other marks.
 pub record IsTree (ts : List Token) (trees : List Shape) : Type 0 where
   pub marked : List Marked
   pub tokens : tokens_of marked ≡ ts
@@ -56,9 +57,11 @@ pub record IsUnexpected (ts : List Token) (place : Place) : Type 0 where
   pub tree : List Shape
   pub program : IsProgram (marked ++ rest) tree
   pub limits : KeepLimits 0 marked
-  pub none : (qs : List Marked) (f : List Shape) (more : List Token) → IsProgram qs f → tokens_of qs ≡ take i ts ++ token_at ts i ∷ more → ⊥
+  pub none : (qs : List Marked) (f : List Shape) (more : List Token) → IsProgram qs f
+      → tokens_of qs ≡ take i ts ++ token_at ts i ∷ more → ⊥
 
--- Some program begins with the tokens through token i; in each, the tokens before it keep the limits, and it breaks one.
+-- Some program begins with the tokens through token i; in each, the tokens before it keep the limits, and it breaks
+-- one.
 pub record IsPast (Breaks : ℕ → Marked → Type 0) (ts : List Token) (place : Place) : Type 0 where
   pub i : ℕ
   pub within : i < length ts
@@ -72,7 +75,8 @@ pub record IsPast (Breaks : ℕ → Marked → Type 0) (ts : List Token) (place 
   pub program : IsProgram (marked ++ last ∷ rest) tree
   pub limits : KeepLimits 0 marked
   pub breaks : Breaks (count_after 0 marked) last
-  pub only : (qs : List Marked) (f : List Shape) (more : List Token) → IsProgram qs f → tokens_of qs ≡ take i ts ++ token_at ts i ∷ more → (others : List Marked) × (qs ≡ marked ++ last ∷ others)
+  pub only : (qs : List Marked) (f : List Shape) (more : List Token) → IsProgram qs f
+      → tokens_of qs ≡ take i ts ++ token_at ts i ∷ more → (others : List Marked) × (qs ≡ marked ++ last ∷ others)
 
 -- the token makes 65 constructs open
 abbrev pub BreaksDepth : ℕ → Marked → Type 0
@@ -91,10 +95,17 @@ IsRefused ts E.Memory = Unit {0}
 
 -- what one token comes to, after n operators of an expression
 abbrev pub Stepped : ℕ → Token → Result ℕ SyntaxError → State → State → Type 0
-Stepped n t (Ok m) a b = (at : At) × Shifts (record { token = t; at = at }) a b × IsGood b.wants × (kind_of t.kind ≡ K.End → IsOver b.wants) × (at.depth ≤ 64) × (m ≡ count_with n (record { token = t; at = at })) × (m ≤ 256)
+Stepped n t (Ok m) a b =
+    (at : At) × Shifts (record { token = t; at = at }) a b × IsGood b.wants
+    × (kind_of t.kind ≡ K.End → IsOver b.wants) × (at.depth ≤ 64)
+    × (m ≡ count_with n (record { token = t; at = at })) × (m ≤ 256)
 Stepped n t (Err (E.Unexpected place)) a b = (place ≡ t.place) × IsDead (kind_of t.kind) a
-Stepped n t (Err (E.Deep place)) a b = (place ≡ t.place) × ((at : At) × Shifts (record { token = t; at = at }) a b × IsGood b.wants × (65 ≤ at.depth))
-Stepped n t (Err (E.Wide place)) a b = (place ≡ t.place) × ((at : At) × Shifts (record { token = t; at = at }) a b × IsGood b.wants × (at.depth ≤ 64) × (257 ≤ count_with n (record { token = t; at = at })))
+Stepped n t (Err (E.Deep place)) a b =
+    (place ≡ t.place) × ((at : At) × Shifts (record { token = t; at = at }) a b × IsGood b.wants × (65 ≤ at.depth))
+Stepped n t (Err (E.Wide place)) a b =
+    (place ≡ t.place)
+    × ((at : At) × Shifts (record { token = t; at = at }) a b × IsGood b.wants × (at.depth ≤ 64)
+    × (257 ≤ count_with n (record { token = t; at = at })))
 Stepped n t (Err E.Memory) a b = Unit {0}
 
 -- i tokens are read: the state that they lead to, and their marks, which keep the limits

@@ -26,8 +26,10 @@ Completed a ts f = ReadsAll a.wants a.shapes ts f []
 
 -- from a token of kind k on, the same programs complete both
 pub record SameAt (k : Kind) (a b : State) : Type 0 where
-  pub to : (x : Marked) (ts : List Marked) (f : List Shape) → kind_at x ≡ k → Completed a (x ∷ ts) f → Completed b (x ∷ ts) f
-  pub from : (x : Marked) (ts : List Marked) (f : List Shape) → kind_at x ≡ k → Completed b (x ∷ ts) f → Completed a (x ∷ ts) f
+  pub to : (x : Marked) (ts : List Marked) (f : List Shape) → kind_at x ≡ k → Completed a (x ∷ ts) f
+      → Completed b (x ∷ ts) f
+  pub from : (x : Marked) (ts : List Marked) (f : List Shape) → kind_at x ≡ k → Completed b (x ∷ ts) f
+      → Completed a (x ∷ ts) f
 
 -- from a token of kind k on, nothing completes it
 abbrev pub IsDead : Kind → State → Type 0
@@ -35,13 +37,15 @@ IsDead k a = (x : Marked) (ts : List Marked) (f : List Shape) → kind_at x ≡ 
 
 -- the token was read, so marked
 pub record Shifts (z : Marked) (a b : State) : Type 0 where
-  pub to : (x : Marked) (ts : List Marked) (f : List Shape) → x.token ≡ z.token → Completed a (x ∷ ts) f → (x ≡ z) × Completed b ts f
+  pub to : (x : Marked) (ts : List Marked) (f : List Shape) → x.token ≡ z.token → Completed a (x ∷ ts) f
+      → (x ≡ z) × Completed b ts f
   pub from : (ts : List Marked) (f : List Shape) → Completed b ts f → Completed a (z ∷ ts) f
 
 -- the tokens so marked lead to the state: what completes it completes a program, and the tokens have no other marks
 pub record Follows (ts : List Token) (zs : List Marked) (a : State) : Type 0 where
   pub tokens : tokens_of zs ≡ ts
-  pub to : (qs : List Marked) (f : List Shape) (more : List Token) → IsParsed qs f → tokens_of qs ≡ ts ++ more → (rest : List Marked) × (qs ≡ zs ++ rest) × Completed a rest f
+  pub to : (qs : List Marked) (f : List Shape) (more : List Token) → IsParsed qs f → tokens_of qs ≡ ts ++ more
+      → (rest : List Marked) × (qs ≡ zs ++ rest) × Completed a rest f
   pub from : (rest : List Marked) (f : List Shape) → Completed a rest f → IsParsed (zs ++ rest) f
 
 abbrev pub wanting : Want → State → State
@@ -53,13 +57,18 @@ state_of items grove = record { wants = reverse items; shapes = shapes_of grove.
 
 -- what came of a want on top, at this token; at most eight wants stand for it then
 abbrev pub Advanced : Token → Step → State → State → Type 0
-Advanced token M.Moved a b = SameAt (kind_of token.kind) a b × IsGood b.wants × (rank b.wants < rank a.wants) × (length b.wants ≤ length a.wants + 7)
-Advanced token (M.Read at) a b = Shifts (record { token = token; at = at }) a b × IsGood b.wants × (kind_of token.kind ≡ K.End → IsOver b.wants) × (rank b.wants + 1 ≤ rank a.wants + 15) × (length b.wants ≤ length a.wants)
+Advanced token M.Moved a b =
+    SameAt (kind_of token.kind) a b × IsGood b.wants × (rank b.wants < rank a.wants)
+    × (length b.wants ≤ length a.wants + 7)
+Advanced token (M.Read at) a b =
+    Shifts (record { token = token; at = at }) a b × IsGood b.wants × (kind_of token.kind ≡ K.End → IsOver b.wants)
+    × (rank b.wants + 1 ≤ rank a.wants + 15) × (length b.wants ≤ length a.wants)
 Advanced token M.Refused a b = IsDead (kind_of token.kind) a
 
 -- the token was read with this mark, or nothing goes on with it
 abbrev pub Taken : Token → Option At → State → State → Type 0
-Taken token (Some at) a b = Shifts (record { token = token; at = at }) a b × IsGood b.wants × (kind_of token.kind ≡ K.End → IsOver b.wants)
+Taken token (Some at) a b =
+    Shifts (record { token = token; at = at }) a b × IsGood b.wants × (kind_of token.kind ≡ K.End → IsOver b.wants)
 Taken token None a b = IsDead (kind_of token.kind) a
 
 -- symbols that are one token

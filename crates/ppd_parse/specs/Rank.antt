@@ -1,4 +1,5 @@
--- How many moves the parser still makes for what it wants: those before it reads a token, and those for what may be empty.
+-- How many moves the parser still makes for what it wants: those before it reads a token, and those for what may be
+-- empty.
 -- What begins with a token for sure costs nothing until it is next: its token pays for it.
 use Rattle.std.specs.Prelude.{◌+◌, ◌≤◌, ℕ, List, [], ◌∷◌, Option, Some, None}
 use Rattle.ppd_parse.specs.declared.symbol.Symbol.{Symbol}

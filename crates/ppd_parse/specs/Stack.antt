@@ -78,7 +78,10 @@ lead (Get y a b ∷ ws) = kind_or (lead_of y) (lead ws)
 lead (Close r b ∷ ws) = lead ws
 
 abbrev pub is_binary : Kind → Bool
-is_binary k = is_operator L.Product k || (is_operator L.Sum k || (is_operator L.Compare k || (is_operator L.Equal k || (is_operator L.And k || is_operator L.Or k))))
+is_binary k =
+    is_operator L.Product k
+    || (is_operator L.Sum k
+    || (is_operator L.Compare k || (is_operator L.Equal k || (is_operator L.And k || is_operator L.Or k))))
 
 abbrev pub is_comma : Kind → Bool
 is_comma K.Comma = true

@@ -8,7 +8,8 @@ use Rattle.ppd_parse.specs.declared.node.Node.{Node}
 use Rattle.ppd_parse.specs.Grammar.{Shape}
 use Rattle.ppd_parse.specs.Table.{no_shape, shape_or}
 
--- the trees of the nodes from number i on: a leaf's is its token, another's its rule over its children's; child c of node i
+-- the trees of the nodes from number i on: a leaf's is its token, another's its rule over its children's; child c of
+-- node i
 -- stands in place c - (i + 1) of the nodes after it
 abbrev pub trees_from : ℕ → List Node → List Shape
 trees_from i [] = []
@@ -24,11 +25,15 @@ tree_of ns = slice_index_or (trees_from 0 ns) 0 no_shape
 abbrev pub children_of : List Node → List ℕ
 children_of ns = flat_map (λ n. n.children) ns
 
--- Node 0 is the root. The children of a node are nodes with larger numbers, and each node but the root is the child of one
+-- Node 0 is the root. The children of a node are nodes with larger numbers, and each node but the root is the child
+-- of one
 -- node, once: none is shared, none is stray. The leaves are the nodes with a token, and have no children.
 pub record IsTable (ns : List Node) : Type 0 where
   pub some : 0 < length ns
-  pub larger : (i : ℕ) (d : Node) → i < length ns → All (λ c. (i < c) × (c < length ns)) (slice_index_or ns i d).children
+  pub larger : (i : ℕ) (d : Node) → i < length ns
+      → All (λ c. (i < c) × (c < length ns)) (slice_index_or ns i d).children
   pub once : (c : ℕ) → 0 < c → c < length ns → IsOnce (children_of ns) c
-  pub leaves : (i : ℕ) (d : Node) (x : Token) → i < length ns → (slice_index_or ns i d).token ≡ Some x → ((slice_index_or ns i d).rule ≡ R.Leaf) × ((slice_index_or ns i d).children ≡ [])
-  pub inner : (i : ℕ) (d : Node) → i < length ns → (slice_index_or ns i d).token ≡ None → (slice_index_or ns i d).rule ≢ R.Leaf
+  pub leaves : (i : ℕ) (d : Node) (x : Token) → i < length ns → (slice_index_or ns i d).token ≡ Some x
+      → ((slice_index_or ns i d).rule ≡ R.Leaf) × ((slice_index_or ns i d).children ≡ [])
+  pub inner : (i : ℕ) (d : Node) → i < length ns → (slice_index_or ns i d).token ≡ None
+      → (slice_index_or ns i d).rule ≢ R.Leaf

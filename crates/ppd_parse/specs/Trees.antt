@@ -12,10 +12,15 @@ use Rattle.ppd_parse.specs.declared.symbol.At.{At}
 
 -- the keywords and the marks by their numbers
 abbrev pub words : List Kind
-words = K.SharedWord ∷ K.IntWord ∷ K.VoidWord ∷ K.SemWord ∷ K.ChanWord ∷ K.ProcessWord ∷ K.IfWord ∷ K.ElseWord ∷ K.WhileWord ∷ K.ForWord ∷ K.ReturnWord ∷ K.TakeWord ∷ K.GiveWord ∷ K.SendWord ∷ K.RecvWord ∷ K.PrintWord ∷ K.AssertWord ∷ []
+words = K.SharedWord ∷ K.IntWord ∷ K.VoidWord ∷ K.SemWord ∷ K.ChanWord ∷ K.ProcessWord ∷ K.IfWord ∷ K.ElseWord
+    ∷ K.WhileWord ∷ K.ForWord ∷ K.ReturnWord ∷ K.TakeWord ∷ K.GiveWord ∷ K.SendWord ∷ K.RecvWord ∷ K.PrintWord
+    ∷ K.AssertWord ∷ []
 
 abbrev pub marks : List Kind
-marks = K.OrMark ∷ K.AndMark ∷ K.EqualMark ∷ K.UnequalMark ∷ K.AtMostMark ∷ K.AtLeastMark ∷ K.LessMark ∷ K.MoreMark ∷ K.PlusMark ∷ K.MinusMark ∷ K.StarMark ∷ K.SlashMark ∷ K.PercentMark ∷ K.NotMark ∷ K.AssignMark ∷ K.AddMark ∷ K.SubtractMark ∷ K.IncreaseMark ∷ K.DecreaseMark ∷ K.LeftParen ∷ K.RightParen ∷ K.LeftBrace ∷ K.RightBrace ∷ K.LeftBracket ∷ K.RightBracket ∷ K.Semicolon ∷ K.Comma ∷ []
+marks = K.OrMark ∷ K.AndMark ∷ K.EqualMark ∷ K.UnequalMark ∷ K.AtMostMark ∷ K.AtLeastMark ∷ K.LessMark ∷ K.MoreMark
+    ∷ K.PlusMark ∷ K.MinusMark ∷ K.StarMark ∷ K.SlashMark ∷ K.PercentMark ∷ K.NotMark ∷ K.AssignMark ∷ K.AddMark
+    ∷ K.SubtractMark ∷ K.IncreaseMark ∷ K.DecreaseMark ∷ K.LeftParen ∷ K.RightParen ∷ K.LeftBrace ∷ K.RightBrace
+    ∷ K.LeftBracket ∷ K.RightBracket ∷ K.Semicolon ∷ K.Comma ∷ []
 
 -- what a token is to the grammar
 abbrev pub kind_of : TokenKind → Kind

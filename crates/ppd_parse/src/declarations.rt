@@ -9,7 +9,9 @@ use std::alloc::AllocError;
 
 // What stands for `Source` where a token of this kind is next.
 fn expand_source(wants: &mut Vec<Want>, kind: Kind, at: At, base: usize) -> Result<bool, AllocError>
-    ensures { IfOk result (λ done. stack_with wants.old.items at base (expansion Symbol.Source kind) ≡ (if done then Some wants.new.items else None)) }
+    ensures { IfOk result
+        (λ done. stack_with wants.old.items at base (expansion Symbol.Source kind)
+        ≡ (if done then Some wants.new.items else None)) }
 {
     want(
         wants,
@@ -21,7 +23,9 @@ fn expand_source(wants: &mut Vec<Want>, kind: Kind, at: At, base: usize) -> Resu
 
 // What stands for `Items` where a token of this kind is next.
 fn expand_items(wants: &mut Vec<Want>, kind: Kind, at: At, base: usize) -> Result<bool, AllocError>
-    ensures { IfOk result (λ done. stack_with wants.old.items at base (expansion Symbol.Items kind) ≡ (if done then Some wants.new.items else None)) }
+    ensures { IfOk result
+        (λ done. stack_with wants.old.items at base (expansion Symbol.Items kind)
+        ≡ (if done then Some wants.new.items else None)) }
 {
     match kind {
         Kind::End => want(wants, at, base, &[Part::Here(Symbol::Exact(Kind::End))]),
@@ -61,7 +65,9 @@ fn expand_items(wants: &mut Vec<Want>, kind: Kind, at: At, base: usize) -> Resul
 
 // What stands for `Shared` where a token of this kind is next.
 fn expand_shared(wants: &mut Vec<Want>, kind: Kind, at: At, base: usize) -> Result<bool, AllocError>
-    ensures { IfOk result (λ done. stack_with wants.old.items at base (expansion Symbol.Shared kind) ≡ (if done then Some wants.new.items else None)) }
+    ensures { IfOk result
+        (λ done. stack_with wants.old.items at base (expansion Symbol.Shared kind)
+        ≡ (if done then Some wants.new.items else None)) }
 {
     match kind {
         Kind::SharedWord => want(
@@ -87,7 +93,9 @@ fn expand_shared_items(
     at: At,
     base: usize,
 ) -> Result<bool, AllocError>
-    ensures { IfOk result (λ done. stack_with wants.old.items at base (expansion Symbol.SharedItems kind) ≡ (if done then Some wants.new.items else None)) }
+    ensures { IfOk result
+        (λ done. stack_with wants.old.items at base (expansion Symbol.SharedItems kind)
+        ≡ (if done then Some wants.new.items else None)) }
 {
     match kind {
         Kind::Semicolon => want(
@@ -117,7 +125,9 @@ fn expand_shared_item(
     at: At,
     base: usize,
 ) -> Result<bool, AllocError>
-    ensures { IfOk result (λ done. stack_with wants.old.items at base (expansion Symbol.SharedItem kind) ≡ (if done then Some wants.new.items else None)) }
+    ensures { IfOk result
+        (λ done. stack_with wants.old.items at base (expansion Symbol.SharedItem kind)
+        ≡ (if done then Some wants.new.items else None)) }
 {
     want(
         wants,
@@ -138,7 +148,9 @@ fn expand_shared_start(
     at: At,
     base: usize,
 ) -> Result<bool, AllocError>
-    ensures { IfOk result (λ done. stack_with wants.old.items at base (expansion Symbol.SharedStart kind) ≡ (if done then Some wants.new.items else None)) }
+    ensures { IfOk result
+        (λ done. stack_with wants.old.items at base (expansion Symbol.SharedStart kind)
+        ≡ (if done then Some wants.new.items else None)) }
 {
     match kind {
         Kind::AssignMark => want(
@@ -171,7 +183,9 @@ fn expand_start_value(
     at: At,
     base: usize,
 ) -> Result<bool, AllocError>
-    ensures { IfOk result (λ done. stack_with wants.old.items at base (expansion Symbol.StartValue kind) ≡ (if done then Some wants.new.items else None)) }
+    ensures { IfOk result
+        (λ done. stack_with wants.old.items at base (expansion Symbol.StartValue kind)
+        ≡ (if done then Some wants.new.items else None)) }
 {
     match kind {
         Kind::Number => want(wants, at, base, &[Part::Here(Symbol::Exact(Kind::Number))]),
@@ -190,7 +204,9 @@ fn expand_start_value(
 
 // What stands for `Sems` where a token of this kind is next.
 fn expand_sems(wants: &mut Vec<Want>, kind: Kind, at: At, base: usize) -> Result<bool, AllocError>
-    ensures { IfOk result (λ done. stack_with wants.old.items at base (expansion Symbol.Sems kind) ≡ (if done then Some wants.new.items else None)) }
+    ensures { IfOk result
+        (λ done. stack_with wants.old.items at base (expansion Symbol.Sems kind)
+        ≡ (if done then Some wants.new.items else None)) }
 {
     match kind {
         Kind::SemWord => want(
@@ -216,7 +232,9 @@ fn expand_sem_start(
     at: At,
     base: usize,
 ) -> Result<bool, AllocError>
-    ensures { IfOk result (λ done. stack_with wants.old.items at base (expansion Symbol.SemStart kind) ≡ (if done then Some wants.new.items else None)) }
+    ensures { IfOk result
+        (λ done. stack_with wants.old.items at base (expansion Symbol.SemStart kind)
+        ≡ (if done then Some wants.new.items else None)) }
 {
     match kind {
         Kind::AssignMark => want(
@@ -239,7 +257,9 @@ fn expand_sem_items(
     at: At,
     base: usize,
 ) -> Result<bool, AllocError>
-    ensures { IfOk result (λ done. stack_with wants.old.items at base (expansion Symbol.SemItems kind) ≡ (if done then Some wants.new.items else None)) }
+    ensures { IfOk result
+        (λ done. stack_with wants.old.items at base (expansion Symbol.SemItems kind)
+        ≡ (if done then Some wants.new.items else None)) }
 {
     match kind {
         Kind::Semicolon => want(
@@ -265,7 +285,9 @@ fn expand_sem_items(
 
 // What stands for `Chans` where a token of this kind is next.
 fn expand_chans(wants: &mut Vec<Want>, kind: Kind, at: At, base: usize) -> Result<bool, AllocError>
-    ensures { IfOk result (λ done. stack_with wants.old.items at base (expansion Symbol.Chans kind) ≡ (if done then Some wants.new.items else None)) }
+    ensures { IfOk result
+        (λ done. stack_with wants.old.items at base (expansion Symbol.Chans kind)
+        ≡ (if done then Some wants.new.items else None)) }
 {
     match kind {
         Kind::ChanWord => want(
@@ -293,7 +315,9 @@ fn expand_chan_items(
     at: At,
     base: usize,
 ) -> Result<bool, AllocError>
-    ensures { IfOk result (λ done. stack_with wants.old.items at base (expansion Symbol.ChanItems kind) ≡ (if done then Some wants.new.items else None)) }
+    ensures { IfOk result
+        (λ done. stack_with wants.old.items at base (expansion Symbol.ChanItems kind)
+        ≡ (if done then Some wants.new.items else None)) }
 {
     match kind {
         Kind::Semicolon => want(
@@ -326,7 +350,9 @@ fn expand_function(
     at: At,
     base: usize,
 ) -> Result<bool, AllocError>
-    ensures { IfOk result (λ done. stack_with wants.old.items at base (expansion Symbol.Function kind) ≡ (if done then Some wants.new.items else None)) }
+    ensures { IfOk result
+        (λ done. stack_with wants.old.items at base (expansion Symbol.Function kind)
+        ≡ (if done then Some wants.new.items else None)) }
 {
     match kind {
         Kind::IntWord => want(
@@ -366,7 +392,9 @@ fn expand_params_end(
     at: At,
     base: usize,
 ) -> Result<bool, AllocError>
-    ensures { IfOk result (λ done. stack_with wants.old.items at base (expansion Symbol.ParamsEnd kind) ≡ (if done then Some wants.new.items else None)) }
+    ensures { IfOk result
+        (λ done. stack_with wants.old.items at base (expansion Symbol.ParamsEnd kind)
+        ≡ (if done then Some wants.new.items else None)) }
 {
     match kind {
         Kind::RightParen => want(
@@ -390,7 +418,9 @@ fn expand_params_end(
 
 // What stands for `Params` where a token of this kind is next.
 fn expand_params(wants: &mut Vec<Want>, kind: Kind, at: At, base: usize) -> Result<bool, AllocError>
-    ensures { IfOk result (λ done. stack_with wants.old.items at base (expansion Symbol.Params kind) ≡ (if done then Some wants.new.items else None)) }
+    ensures { IfOk result
+        (λ done. stack_with wants.old.items at base (expansion Symbol.Params kind)
+        ≡ (if done then Some wants.new.items else None)) }
 {
     match kind {
         Kind::VoidWord => want(
@@ -424,7 +454,9 @@ fn expand_param_items(
     at: At,
     base: usize,
 ) -> Result<bool, AllocError>
-    ensures { IfOk result (λ done. stack_with wants.old.items at base (expansion Symbol.ParamItems kind) ≡ (if done then Some wants.new.items else None)) }
+    ensures { IfOk result
+        (λ done. stack_with wants.old.items at base (expansion Symbol.ParamItems kind)
+        ≡ (if done then Some wants.new.items else None)) }
 {
     match kind {
         Kind::Comma => want(
@@ -449,7 +481,9 @@ fn expand_process(
     at: At,
     base: usize,
 ) -> Result<bool, AllocError>
-    ensures { IfOk result (λ done. stack_with wants.old.items at base (expansion Symbol.Process kind) ≡ (if done then Some wants.new.items else None)) }
+    ensures { IfOk result
+        (λ done. stack_with wants.old.items at base (expansion Symbol.Process kind)
+        ≡ (if done then Some wants.new.items else None)) }
 {
     match kind {
         Kind::ProcessWord => want(
@@ -475,7 +509,9 @@ pub fn expand(
     at: At,
     base: usize,
 ) -> Result<bool, AllocError>
-    ensures { IfOk result (λ done. stack_with wants.old.items at base (expansion symbol kind) ≡ (if done then Some wants.new.items else None)) }
+    ensures { IfOk result
+        (λ done. stack_with wants.old.items at base (expansion symbol kind)
+        ≡ (if done then Some wants.new.items else None)) }
 {
     match symbol {
         Symbol::Source => expand_source(wants, kind, at, base),

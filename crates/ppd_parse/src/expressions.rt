@@ -10,7 +10,9 @@ use std::alloc::AllocError;
 
 // What stands for `Value` where a token of this kind is next.
 fn expand_value(wants: &mut Vec<Want>, kind: Kind, at: At, base: usize) -> Result<bool, AllocError>
-    ensures { IfOk result (λ done. stack_with wants.old.items at base (expansion Symbol.Value kind) ≡ (if done then Some wants.new.items else None)) }
+    ensures { IfOk result
+        (λ done. stack_with wants.old.items at base (expansion Symbol.Value kind)
+        ≡ (if done then Some wants.new.items else None)) }
 {
     match kind {
         Kind::RecvWord => want(
@@ -42,7 +44,9 @@ fn expand_call_or_expr(
     at: At,
     base: usize,
 ) -> Result<bool, AllocError>
-    ensures { IfOk result (λ done. stack_with wants.old.items at base (expansion Symbol.CallOrExpr kind) ≡ (if done then Some wants.new.items else None)) }
+    ensures { IfOk result
+        (λ done. stack_with wants.old.items at base (expansion Symbol.CallOrExpr kind)
+        ≡ (if done then Some wants.new.items else None)) }
 {
     match kind {
         Kind::Name => want(
@@ -74,7 +78,9 @@ fn expand_named_rest(
     at: At,
     base: usize,
 ) -> Result<bool, AllocError>
-    ensures { IfOk result (λ done. stack_with wants.old.items at base (expansion Symbol.NamedRest kind) ≡ (if done then Some wants.new.items else None)) }
+    ensures { IfOk result
+        (λ done. stack_with wants.old.items at base (expansion Symbol.NamedRest kind)
+        ≡ (if done then Some wants.new.items else None)) }
 {
     match kind {
         Kind::LeftParen => want(
@@ -103,7 +109,9 @@ fn expand_named_rest(
 
 // What stands for `Args` where a token of this kind is next.
 fn expand_args(wants: &mut Vec<Want>, kind: Kind, at: At, base: usize) -> Result<bool, AllocError>
-    ensures { IfOk result (λ done. stack_with wants.old.items at base (expansion Symbol.Args kind) ≡ (if done then Some wants.new.items else None)) }
+    ensures { IfOk result
+        (λ done. stack_with wants.old.items at base (expansion Symbol.Args kind)
+        ≡ (if done then Some wants.new.items else None)) }
 {
     match kind {
         Kind::RightParen => want(
@@ -129,7 +137,9 @@ fn expand_args_more(
     at: At,
     base: usize,
 ) -> Result<bool, AllocError>
-    ensures { IfOk result (λ done. stack_with wants.old.items at base (expansion Symbol.ArgsMore kind) ≡ (if done then Some wants.new.items else None)) }
+    ensures { IfOk result
+        (λ done. stack_with wants.old.items at base (expansion Symbol.ArgsMore kind)
+        ≡ (if done then Some wants.new.items else None)) }
 {
     match kind {
         Kind::RightParen => want(
@@ -154,7 +164,9 @@ fn expand_args_more(
 
 // What stands for `Place` where a token of this kind is next.
 fn expand_place(wants: &mut Vec<Want>, kind: Kind, at: At, base: usize) -> Result<bool, AllocError>
-    ensures { IfOk result (λ done. stack_with wants.old.items at base (expansion Symbol.Place kind) ≡ (if done then Some wants.new.items else None)) }
+    ensures { IfOk result
+        (λ done. stack_with wants.old.items at base (expansion Symbol.Place kind)
+        ≡ (if done then Some wants.new.items else None)) }
 {
     match kind {
         Kind::Name => want(
@@ -178,7 +190,9 @@ fn expand_place_end(
     at: At,
     base: usize,
 ) -> Result<bool, AllocError>
-    ensures { IfOk result (λ done. stack_with wants.old.items at base (expansion Symbol.PlaceEnd kind) ≡ (if done then Some wants.new.items else None)) }
+    ensures { IfOk result
+        (λ done. stack_with wants.old.items at base (expansion Symbol.PlaceEnd kind)
+        ≡ (if done then Some wants.new.items else None)) }
 {
     match kind {
         Kind::LeftBracket => want(
@@ -197,7 +211,9 @@ fn expand_place_end(
 
 // What stands for `Change` where a token of this kind is next.
 fn expand_change(wants: &mut Vec<Want>, kind: Kind, at: At, base: usize) -> Result<bool, AllocError>
-    ensures { IfOk result (λ done. stack_with wants.old.items at base (expansion Symbol.Change kind) ≡ (if done then Some wants.new.items else None)) }
+    ensures { IfOk result
+        (λ done. stack_with wants.old.items at base (expansion Symbol.Change kind)
+        ≡ (if done then Some wants.new.items else None)) }
 {
     match kind {
         Kind::Name => want(
@@ -221,7 +237,9 @@ fn expand_change_end(
     at: At,
     base: usize,
 ) -> Result<bool, AllocError>
-    ensures { IfOk result (λ done. stack_with wants.old.items at base (expansion Symbol.ChangeEnd kind) ≡ (if done then Some wants.new.items else None)) }
+    ensures { IfOk result
+        (λ done. stack_with wants.old.items at base (expansion Symbol.ChangeEnd kind)
+        ≡ (if done then Some wants.new.items else None)) }
 {
     match kind {
         Kind::AssignMark => want(
@@ -269,7 +287,9 @@ fn expand_change_end(
 
 // What stands for `Expr` where a token of this kind is next.
 fn expand_expr(wants: &mut Vec<Want>, kind: Kind, at: At, base: usize) -> Result<bool, AllocError>
-    ensures { IfOk result (λ done. stack_with wants.old.items at base (expansion Symbol.Expr kind) ≡ (if done then Some wants.new.items else None)) }
+    ensures { IfOk result
+        (λ done. stack_with wants.old.items at base (expansion Symbol.Expr kind)
+        ≡ (if done then Some wants.new.items else None)) }
 {
     match kind {
         Kind::MinusMark | Kind::NotMark | Kind::LeftParen | Kind::Number | Kind::Name => want(
@@ -289,7 +309,9 @@ fn expand_expr_rest(
     at: At,
     base: usize,
 ) -> Result<bool, AllocError>
-    ensures { IfOk result (λ done. stack_with wants.old.items at base (expansion Symbol.ExprRest kind) ≡ (if done then Some wants.new.items else None)) }
+    ensures { IfOk result
+        (λ done. stack_with wants.old.items at base (expansion Symbol.ExprRest kind)
+        ≡ (if done then Some wants.new.items else None)) }
 {
     want(
         wants,
@@ -308,7 +330,9 @@ fn expand_expr_rest(
 
 // What stands for `Unary` where a token of this kind is next.
 fn expand_unary(wants: &mut Vec<Want>, kind: Kind, at: At, base: usize) -> Result<bool, AllocError>
-    ensures { IfOk result (λ done. stack_with wants.old.items at base (expansion Symbol.Unary kind) ≡ (if done then Some wants.new.items else None)) }
+    ensures { IfOk result
+        (λ done. stack_with wants.old.items at base (expansion Symbol.Unary kind)
+        ≡ (if done then Some wants.new.items else None)) }
 {
     match kind {
         Kind::Name => want(
@@ -334,7 +358,9 @@ fn expand_other_unary(
     at: At,
     base: usize,
 ) -> Result<bool, AllocError>
-    ensures { IfOk result (λ done. stack_with wants.old.items at base (expansion Symbol.OtherUnary kind) ≡ (if done then Some wants.new.items else None)) }
+    ensures { IfOk result
+        (λ done. stack_with wants.old.items at base (expansion Symbol.OtherUnary kind)
+        ≡ (if done then Some wants.new.items else None)) }
 {
     match kind {
         Kind::MinusMark => want(
@@ -388,7 +414,9 @@ fn expand_operand(
     at: At,
     base: usize,
 ) -> Result<bool, AllocError>
-    ensures { IfOk result (λ done. stack_with wants.old.items at base (Some (operand_parts level)) ≡ (if done then Some wants.new.items else None)) }
+    ensures { IfOk result
+        (λ done. stack_with wants.old.items at base (Some (operand_parts level))
+        ≡ (if done then Some wants.new.items else None)) }
 {
     match level {
         Level::Product => want(wants, at, base, &[Part::Here(Symbol::Unary)]),
@@ -458,7 +486,9 @@ fn expand_chain(
     at: At,
     base: usize,
 ) -> Result<bool, AllocError>
-    ensures { IfOk result (λ done. stack_with wants.old.items at base (expansion (Symbol.Chain level) kind) ≡ (if done then Some wants.new.items else None)) }
+    ensures { IfOk result
+        (λ done. stack_with wants.old.items at base (expansion (Symbol.Chain level) kind)
+        ≡ (if done then Some wants.new.items else None)) }
 {
     if is_operator(level, kind) {
         want(
@@ -487,7 +517,9 @@ pub fn expand_in_expr(
 ) -> Result<bool, AllocError>
     requires declaration { in_declarations symbol ≡ false }
     requires statement { in_statements symbol ≡ false }
-    ensures { IfOk result (λ done. stack_with wants.old.items at base (expansion symbol kind) ≡ (if done then Some wants.new.items else None)) }
+    ensures { IfOk result
+        (λ done. stack_with wants.old.items at base (expansion symbol kind)
+        ≡ (if done then Some wants.new.items else None)) }
 {
     match symbol {
         Symbol::Operand(level) => expand_operand(wants, level, at, base),

@@ -56,7 +56,8 @@ impl Grove {
         requires children { growth.children.items ≡ drop base self.old.roots.items }
         requires leafy { IsLeafy growth }
         ensures nodes { OnOk result (self.new.nodes.items ≡ self.old.nodes.items ++ growth ∷ []) }
-        ensures roots { OnOk result (self.new.roots.items ≡ take base self.old.roots.items ++ length self.old.nodes.items ∷ []) }
+        ensures roots { OnOk result
+            (self.new.roots.items ≡ take base self.old.roots.items ++ length self.old.nodes.items ∷ []) }
     {
         let id = self.nodes.len();
         self.nodes.push(growth)?;
@@ -73,7 +74,9 @@ impl Grove {
 
     // Adds a leaf.
     pub fn leaf(&mut self, token: &Token) -> Result<(), AllocError>
-        ensures { OnOk result (shapes_of self.new.nodes.items self.new.roots.items ≡ shapes_of self.old.nodes.items self.old.roots.items ++ leaf token.now ∷ []) }
+        ensures { OnOk result
+            (shapes_of self.new.nodes.items self.new.roots.items
+            ≡ shapes_of self.old.nodes.items self.old.roots.items ++ leaf token.now ∷ []) }
     {
         let base = self.roots.len();
         let children = Vec::new(self.alloc);
@@ -89,7 +92,9 @@ impl Grove {
 
     // Makes one node of the trees from the base on.
     pub fn close(&mut self, rule: Rule, base: usize) -> Result<(), AllocError>
-        ensures { OnOk result (shapes_of self.new.nodes.items self.new.roots.items ≡ close rule base (shapes_of self.old.nodes.items self.old.roots.items)) }
+        ensures { OnOk result
+            (shapes_of self.new.nodes.items self.new.roots.items
+            ≡ close rule base (shapes_of self.old.nodes.items self.old.roots.items)) }
     {
         let base = base.min(self.roots.len());
         let children = Vec::from_slice(self.alloc, &self.roots[base..])?;

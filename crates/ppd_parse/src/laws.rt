@@ -1,8 +1,11 @@
-ghost use Rattle.ppd_parse.specs.Laws.{AreTreeOrRefused, HaveOneTree, HaveTokensAsLeaves};
+ghost use Rattle.ppd_parse.specs.Laws.{AreTreeOrRefused, HaveAnAnswer, HaveOneRefusal, HaveOneTree, HaveTokensAsLeaves};
 
-/// Law: tokens have one tree at most, and tokens that have one are refused for want of memory alone.
+/// Law: tokens that end as a source's do have a tree or a refusal. They have one tree at most and, want of
+/// memory aside, one refusal at most; and tokens that have a tree are refused for want of memory alone.
 pub fn one_answer()
+    ensures some { HaveAnAnswer }
     ensures tree { HaveOneTree }
+    ensures refusal { HaveOneRefusal }
     ensures refused { AreTreeOrRefused }
 {}
 

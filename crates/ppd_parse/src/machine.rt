@@ -24,7 +24,9 @@ fn meet(
     base: usize,
 ) -> Result<Step, AllocError>
     requires { IsGood (Want.Get symbol at base ∷ reverse wants.old.items) }
-    ensures { IfOk result (λ step. Advanced token.now step (wanting (Want.Get symbol at base) (state_of wants.old.items grove.old)) (state_of wants.new.items grove.new)) }
+    ensures { IfOk result
+        (λ step. Advanced token.now step (wanting (Want.Get symbol at base) (state_of wants.old.items grove.old))
+        (state_of wants.new.items grove.new)) }
 {
     let kind = kind_of(&token.kind);
     match symbol {
@@ -63,7 +65,9 @@ fn advance(
     want: Want,
 ) -> Result<Step, AllocError>
     requires { IsGood (want ∷ reverse wants.old.items) }
-    ensures { IfOk result (λ step. Advanced token.now step (wanting want (state_of wants.old.items grove.old)) (state_of wants.new.items grove.new)) }
+    ensures { IfOk result
+        (λ step. Advanced token.now step (wanting want (state_of wants.old.items grove.old))
+        (state_of wants.new.items grove.new)) }
 {
     match want {
         Want::Close(rule, base) => {
@@ -97,7 +101,8 @@ pub fn take<L: Ledger>(
 ) -> Result<Option<At>, AllocError>
     requires good { IsGood (reverse wants.old.items) }
     requires held { length wants.old.items ≤ peak.old }
-    ensures taken { IfOk result (λ at. Taken token.now at (state_of wants.old.items grove.old) (state_of wants.new.items grove.new)) }
+    ensures taken { IfOk result
+        (λ at. Taken token.now at (state_of wants.old.items grove.old) (state_of wants.new.items grove.new)) }
     ensures cost { steps.new ≤ steps.old + rank (reverse wants.old.items) }
     ensures paid { IfOk result (λ at. Paid at steps.old steps.new (reverse wants.old.items) (reverse wants.new.items)) }
     ensures held { IfOk result (λ at. Held at (length wants.new.items) peak.new) }

@@ -68,9 +68,11 @@ fn step<L: Ledger>(
     requires good { IsGood (reverse wants.old.items) }
     requires few { count ≤ 256 }
     requires held { length wants.old.items ≤ peak.old }
-    ensures stepped { Stepped count token.now result (state_of wants.old.items grove.old) (state_of wants.new.items grove.new) }
+    ensures stepped { Stepped count token.now result (state_of wants.old.items grove.old)
+        (state_of wants.new.items grove.new) }
     ensures cost { steps.new ≤ steps.old + rank (reverse wants.old.items) }
-    ensures paid { OnOk result (steps.new + rank (reverse wants.new.items) ≤ steps.old + rank (reverse wants.old.items) + 15) }
+    ensures paid { OnOk result
+        (steps.new + rank (reverse wants.new.items) ≤ steps.old + rank (reverse wants.old.items) + 15) }
     ensures held { OnOk result (length wants.new.items ≤ peak.new) }
     ensures room { peak.new + 7 * steps.old ≤ peak.old + 7 * steps.new }
     ensures later { peak.old ≤ peak.new }
@@ -99,7 +101,8 @@ fn finish<L: Ledger>(
 ) -> Result<(), AllocError>
     requires { IsOver (reverse wants.old.items) }
     ensures cost { steps.new ≤ steps.old + rank (reverse wants.old.items) }
-    ensures ends { OnOk result (EndsAs (state_of wants.old.items grove.old) (shapes_of grove.new.nodes.items grove.new.roots.items)) }
+    ensures ends { OnOk result
+        (EndsAs (state_of wants.old.items grove.old) (shapes_of grove.new.nodes.items grove.new.roots.items)) }
 {
     while let Some(want) = wants.pop() {
         steps.tick();

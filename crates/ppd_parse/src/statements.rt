@@ -9,7 +9,9 @@ use std::alloc::AllocError;
 
 // What stands for `Block` where a token of this kind is next.
 fn expand_block(wants: &mut Vec<Want>, kind: Kind, at: At, base: usize) -> Result<bool, AllocError>
-    ensures { IfOk result (λ done. stack_with wants.old.items at base (expansion Symbol.Block kind) ≡ (if done then Some wants.new.items else None)) }
+    ensures { IfOk result
+        (λ done. stack_with wants.old.items at base (expansion Symbol.Block kind)
+        ≡ (if done then Some wants.new.items else None)) }
 {
     match kind {
         Kind::LeftBrace => want(
@@ -28,7 +30,9 @@ fn expand_block(wants: &mut Vec<Want>, kind: Kind, at: At, base: usize) -> Resul
 
 // What stands for `Stmts` where a token of this kind is next.
 fn expand_stmts(wants: &mut Vec<Want>, kind: Kind, at: At, base: usize) -> Result<bool, AllocError>
-    ensures { IfOk result (λ done. stack_with wants.old.items at base (expansion Symbol.Stmts kind) ≡ (if done then Some wants.new.items else None)) }
+    ensures { IfOk result
+        (λ done. stack_with wants.old.items at base (expansion Symbol.Stmts kind)
+        ≡ (if done then Some wants.new.items else None)) }
 {
     match kind {
         Kind::RightBrace => want(
@@ -66,7 +70,9 @@ fn expand_stmts(wants: &mut Vec<Want>, kind: Kind, at: At, base: usize) -> Resul
 
 // What stands for `Local` where a token of this kind is next.
 fn expand_local(wants: &mut Vec<Want>, kind: Kind, at: At, base: usize) -> Result<bool, AllocError>
-    ensures { IfOk result (λ done. stack_with wants.old.items at base (expansion Symbol.Local kind) ≡ (if done then Some wants.new.items else None)) }
+    ensures { IfOk result
+        (λ done. stack_with wants.old.items at base (expansion Symbol.Local kind)
+        ≡ (if done then Some wants.new.items else None)) }
 {
     match kind {
         Kind::IntWord => want(
@@ -91,7 +97,9 @@ fn expand_local_items(
     at: At,
     base: usize,
 ) -> Result<bool, AllocError>
-    ensures { IfOk result (λ done. stack_with wants.old.items at base (expansion Symbol.LocalItems kind) ≡ (if done then Some wants.new.items else None)) }
+    ensures { IfOk result
+        (λ done. stack_with wants.old.items at base (expansion Symbol.LocalItems kind)
+        ≡ (if done then Some wants.new.items else None)) }
 {
     match kind {
         Kind::Semicolon => want(
@@ -121,7 +129,9 @@ fn expand_local_item(
     at: At,
     base: usize,
 ) -> Result<bool, AllocError>
-    ensures { IfOk result (λ done. stack_with wants.old.items at base (expansion Symbol.LocalItem kind) ≡ (if done then Some wants.new.items else None)) }
+    ensures { IfOk result
+        (λ done. stack_with wants.old.items at base (expansion Symbol.LocalItem kind)
+        ≡ (if done then Some wants.new.items else None)) }
 {
     want(
         wants,
@@ -142,7 +152,9 @@ fn expand_local_start(
     at: At,
     base: usize,
 ) -> Result<bool, AllocError>
-    ensures { IfOk result (λ done. stack_with wants.old.items at base (expansion Symbol.LocalStart kind) ≡ (if done then Some wants.new.items else None)) }
+    ensures { IfOk result
+        (λ done. stack_with wants.old.items at base (expansion Symbol.LocalStart kind)
+        ≡ (if done then Some wants.new.items else None)) }
 {
     match kind {
         Kind::AssignMark => want(
@@ -170,7 +182,9 @@ fn expand_local_start(
 
 // What stands for `Stmt` where a token of this kind is next.
 fn expand_stmt(wants: &mut Vec<Want>, kind: Kind, at: At, base: usize) -> Result<bool, AllocError>
-    ensures { IfOk result (λ done. stack_with wants.old.items at base (expansion Symbol.Stmt kind) ≡ (if done then Some wants.new.items else None)) }
+    ensures { IfOk result
+        (λ done. stack_with wants.old.items at base (expansion Symbol.Stmt kind)
+        ≡ (if done then Some wants.new.items else None)) }
 {
     match kind {
         Kind::LeftBrace => want(
@@ -326,7 +340,9 @@ fn expand_stmt_rest(
     at: At,
     base: usize,
 ) -> Result<bool, AllocError>
-    ensures { IfOk result (λ done. stack_with wants.old.items at base (expansion Symbol.StmtRest kind) ≡ (if done then Some wants.new.items else None)) }
+    ensures { IfOk result
+        (λ done. stack_with wants.old.items at base (expansion Symbol.StmtRest kind)
+        ≡ (if done then Some wants.new.items else None)) }
 {
     match kind {
         Kind::LeftParen => want(
@@ -374,7 +390,9 @@ fn expand_place_rest(
     at: At,
     base: usize,
 ) -> Result<bool, AllocError>
-    ensures { IfOk result (λ done. stack_with wants.old.items at base (expansion Symbol.PlaceRest kind) ≡ (if done then Some wants.new.items else None)) }
+    ensures { IfOk result
+        (λ done. stack_with wants.old.items at base (expansion Symbol.PlaceRest kind)
+        ≡ (if done then Some wants.new.items else None)) }
 {
     match kind {
         Kind::AssignMark => want(
@@ -443,7 +461,9 @@ fn expand_assigned(
     at: At,
     base: usize,
 ) -> Result<bool, AllocError>
-    ensures { IfOk result (λ done. stack_with wants.old.items at base (expansion Symbol.Assigned kind) ≡ (if done then Some wants.new.items else None)) }
+    ensures { IfOk result
+        (λ done. stack_with wants.old.items at base (expansion Symbol.Assigned kind)
+        ≡ (if done then Some wants.new.items else None)) }
 {
     match kind {
         Kind::RecvWord => want(
@@ -492,7 +512,9 @@ fn expand_assigned_rest(
     at: At,
     base: usize,
 ) -> Result<bool, AllocError>
-    ensures { IfOk result (λ done. stack_with wants.old.items at base (expansion Symbol.AssignedRest kind) ≡ (if done then Some wants.new.items else None)) }
+    ensures { IfOk result
+        (λ done. stack_with wants.old.items at base (expansion Symbol.AssignedRest kind)
+        ≡ (if done then Some wants.new.items else None)) }
 {
     match kind {
         Kind::LeftParen => want(
@@ -532,7 +554,9 @@ fn expand_else_part(
     at: At,
     base: usize,
 ) -> Result<bool, AllocError>
-    ensures { IfOk result (λ done. stack_with wants.old.items at base (expansion Symbol.ElsePart kind) ≡ (if done then Some wants.new.items else None)) }
+    ensures { IfOk result
+        (λ done. stack_with wants.old.items at base (expansion Symbol.ElsePart kind)
+        ≡ (if done then Some wants.new.items else None)) }
 {
     match kind {
         Kind::ElseWord => want(
@@ -555,7 +579,9 @@ fn expand_for_start(
     at: At,
     base: usize,
 ) -> Result<bool, AllocError>
-    ensures { IfOk result (λ done. stack_with wants.old.items at base (expansion Symbol.ForStart kind) ≡ (if done then Some wants.new.items else None)) }
+    ensures { IfOk result
+        (λ done. stack_with wants.old.items at base (expansion Symbol.ForStart kind)
+        ≡ (if done then Some wants.new.items else None)) }
 {
     match kind {
         Kind::Semicolon => want(
@@ -596,7 +622,9 @@ fn expand_for_test(
     at: At,
     base: usize,
 ) -> Result<bool, AllocError>
-    ensures { IfOk result (λ done. stack_with wants.old.items at base (expansion Symbol.ForTest kind) ≡ (if done then Some wants.new.items else None)) }
+    ensures { IfOk result
+        (λ done. stack_with wants.old.items at base (expansion Symbol.ForTest kind)
+        ≡ (if done then Some wants.new.items else None)) }
 {
     match kind {
         Kind::Semicolon => want(
@@ -625,7 +653,9 @@ fn expand_for_step(
     at: At,
     base: usize,
 ) -> Result<bool, AllocError>
-    ensures { IfOk result (λ done. stack_with wants.old.items at base (expansion Symbol.ForStep kind) ≡ (if done then Some wants.new.items else None)) }
+    ensures { IfOk result
+        (λ done. stack_with wants.old.items at base (expansion Symbol.ForStep kind)
+        ≡ (if done then Some wants.new.items else None)) }
 {
     match kind {
         Kind::RightParen => want(
@@ -654,7 +684,9 @@ fn expand_return_end(
     at: At,
     base: usize,
 ) -> Result<bool, AllocError>
-    ensures { IfOk result (λ done. stack_with wants.old.items at base (expansion Symbol.ReturnEnd kind) ≡ (if done then Some wants.new.items else None)) }
+    ensures { IfOk result
+        (λ done. stack_with wants.old.items at base (expansion Symbol.ReturnEnd kind)
+        ≡ (if done then Some wants.new.items else None)) }
 {
     match kind {
         Kind::Semicolon => want(
@@ -685,7 +717,9 @@ pub fn expand_in_block(
     base: usize,
 ) -> Result<bool, AllocError>
     requires { in_declarations symbol ≡ false }
-    ensures { IfOk result (λ done. stack_with wants.old.items at base (expansion symbol kind) ≡ (if done then Some wants.new.items else None)) }
+    ensures { IfOk result
+        (λ done. stack_with wants.old.items at base (expansion symbol kind)
+        ≡ (if done then Some wants.new.items else None)) }
 {
     match symbol {
         Symbol::Block => expand_block(wants, kind, at, base),

@@ -1,5 +1,5 @@
 -- The busy edges of processes.
-use Rattle.std.proofs.Common.{◌≡◌, ℕ, zero, suc, ◌+◌, ◌<◌, ◌≤◌, List, [], ◌∷◌, ◌++◌, Bool, true, false, cond, not, refl, ap, sym, subst, ◌∙◌, arith, length, drop, map, get_or, inl, inr, ◌&&◌, ◌||◌, eq-eqb, ne_eqb}
+use Rattle.std.proofs.Common.{◌≡◌, ℕ, zero, suc, ◌+◌, ◌<◌, ◌≤◌, List, [], ◌∷◌, ◌++◌, Bool, true, false, cond, not, refl, ap, sym, subst, ◌∙◌, arith, length, drop, get_or, inl, inr, ◌&&◌, ◌||◌, eq-eqb, ne_eqb, true≢false}
 use Rattle.std.specs.Prelude.{IsTrue, nat_eq, if◌then◌else◌}
 use Rattle.std.specs.List.{filter, range_with_len}
 use Rattle.std.proofs.lemmas.Bool.{cases_eq}
@@ -8,12 +8,11 @@ use Rattle.ppd_bits.specs.CellSets.{RisesFrom, has, those}
 use Rattle.ppd_model.specs.declared.graph.EdgeId.{EdgeId}
 use Rattle.ppd_model.specs.HappenedBefore.{edge}
 use Rattle.ppd_graph.specs.declared.sets.EdgeSets.{EdgeSets}
-use Rattle.ppd_graph.specs.declared.sync_graph.SyncGraph.{SyncGraph}
 use Rattle.ppd_graph.specs.LogRecord.{no_sets}
 use Rattle.ppd_graph.proofs.Timed.{at_end, at_front, length_more}
 use Rattle.ppd_race.specs.declared.busy.Busy.{Busy}
-use Rattle.ppd_race.specs.Busy.{AreBelow, AreBusyRows, EachBusyIn, IsAhead, IsBusyIn, IsBusyOf, IsBusyPart, IsBusyRow, IsLaterRow, Takes, is_busy, is_busy_in, is_none, numbers}
-use Rattle.ppd_race.proofs.Adding.{at_any}
+use Rattle.ppd_race.specs.Busy.{AreBelow, EachBusyIn, IsBusyIn, IsBusyOf, IsBusyPart, IsBusyRow, Takes, is_busy, is_busy_in, is_none, numbers}
+use Rattle.ppd_race.proofs.Grown.{at_any}
 
 -- ---- one edge
 
@@ -43,7 +42,7 @@ filter_last t (y ∷ xs) x = by (t y) (filter_last t xs x)
     by true h = ap (λ r. y ∷ r) h
     by false h = h
 
-those_more : (t : ℕ → Bool) (n : ℕ) (b : Bool) → t n ≡ b → those (n + 1) t ≡ those n t ++ (if b then n ∷ [] else [])
+pub those_more : (t : ℕ → Bool) (n : ℕ) (b : Bool) → t n ≡ b → those (n + 1) t ≡ those n t ++ (if b then n ∷ [] else [])
 those_more t n b e =
     let more : n + 1 ≡ suc n = omega arith in
     let z : 0 + n ≡ n = omega arith in
@@ -155,18 +154,30 @@ below_at m xs seen i d e below lt = below (get_or seen i d) (subst (λ ys. IsTru
     has_at (y ∷ ys) zero d h = ap (λ b. b || has ys y) (self y)
     has_at (y ∷ ys) (suc i) d h = later (nat_eq y (get_or ys i d)) (has ys (get_or ys i d)) (has_at ys i d (omega (arith, h)))
 
-module _ (g : SyncGraph) (rows : List (List Busy)) (are : AreBusyRows g.edges rows) (p : ℕ) (there : p < length rows) (own : List Busy) (own_is : own ≡ get_or rows p []) where
-  item_in : (i : ℕ) (d : Busy) → i < length own → IsBusyIn p (get_or g.edges p []) (get_or own i d)
-  item_in i d lt = each_at p (get_or g.edges p []) own (subst (EachBusyIn p (get_or g.edges p [])) (sym own_is) (are.row p there).each) i d lt
+-- ---- the numbers of a row rise
 
-  pub cells_below : (i : ℕ) (d : Busy) → i < length own → AreBelow 1024 (get_or own i d).cells
-  cells_below i d lt = (item_in i d lt).busy.below
+weaker : (m n : ℕ) (xs : List ℕ) → m ≤ n → RisesFrom n xs → RisesFrom m xs
+weaker m n [] le h = tt
+weaker m n (x ∷ xs) le h = (omega (arith, le, h.0), h.1)
 
-  pub is_ahead : (i : ℕ) (d : Busy) → i < length own → IsAhead g rows p (get_or own i d)
-  is_ahead i d lt q less inside =
-      let at : (get_or own i d).edge.process ≡ p = (item_in i d lt).process in
-      record {
-        first = subst (λ k. k < length g.edges) (sym at) (subst (λ n. p < n) are.processes there);
-        after = subst (λ k. k < q) (sym at) less;
-        busy = are.row q inside;
-      }
+pub rises_filtered : (t : ℕ → Bool) (a n : ℕ) → RisesFrom a (filter t (range_with_len a n))
+rises_filtered t a zero = tt
+rises_filtered t a (suc n) = by (t a) (rises_filtered t (a + 1) n)
+  where
+    by : (b : Bool) → RisesFrom (a + 1) (filter t (range_with_len (a + 1) n)) → RisesFrom a (if b then a ∷ filter t (range_with_len (a + 1) n) else filter t (range_with_len (a + 1) n))
+    by true h = (omega arith, h)
+    by false h = weaker a (a + 1) (filter t (range_with_len (a + 1) n)) (omega arith) h
+
+pub names_rise : (q : ℕ) (own : List EdgeSets) (row : List Busy) → IsBusyRow q own row → RisesFrom 0 (numbers row)
+names_rise q own row busy = subst (RisesFrom 0) (sym busy.names) (rises_filtered (is_busy_in own) 0 (length own))
+
+-- ---- sets below a number
+
+pub none_below : AreBelow 1024 []
+none_below c t = absurd (true≢false (sym t))
+
+pub one_below : (cell : ℕ) (old new : List ℕ) → cell < 1024 → ((c : ℕ) → has new c ≡ (nat_eq cell c || has old c)) → AreBelow 1024 old → AreBelow 1024 new
+one_below cell old new lt puts below c t = elim (cases_eq cell c) [
+  | inl same ↦ omega (arith, same, lt)
+  | inr other ↦ below c (ap (λ b. b || has old c) (sym (ne_eqb cell c other)) ∙ sym (puts c) ∙ t)
+]

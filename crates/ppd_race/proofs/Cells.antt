@@ -1,20 +1,19 @@
 -- The races of two busy edges are those of their cells; an edge that accesses nothing has none.
-use Rattle.std.proofs.Common.{◌≡◌, ℕ, zero, suc, ◌+◌, ◌<◌, ◌≤◌, List, [], ◌∷◌, ◌++◌, Bool, true, false, cond, not, refl, ap, ap₂, sym, subst, ◌∙◌, arith, length, map, filter, get_or, true≢false, eq-eqb, ne_eqb, inl, inr, ◌&&◌, ◌||◌}
+use Rattle.std.proofs.Common.{◌≡◌, ℕ, zero, suc, ◌+◌, ◌<◌, ◌≤◌, List, [], ◌∷◌, ◌++◌, Bool, true, false, cond, not, refl, ap, ap₂, sym, subst, ◌∙◌, arith, map, filter, true≢false, eq-eqb, ne_eqb, inl, inr, ◌&&◌, ◌||◌}
 use Rattle.std.specs.Prelude.{IsTrue, nat_eq, if◌then◌else◌}
 use Rattle.std.specs.List.{flat_map, range_with_len}
 use Rattle.std.proofs.lemmas.Bool.{and_left, and_right, cases_eq, or_parts}
 use Rattle.ppd_bits.specs.CellSets.{RisesFrom, has}
 use Rattle.ppd_model.specs.declared.graph.EdgeId.{EdgeId}
+use Rattle.ppd_model.specs.declared.graph.Race.{Race}
 use Rattle.ppd_model.specs.declared.graph.RaceKind.{RaceKind}
 use Rattle.ppd_model.specs.declared.graph.RaceKind.TheVariants.{ReadWrite, WriteRead, WriteWrite}
 use Rattle.ppd_model.specs.HappenedBefore.{edge}
 use Rattle.ppd_model.specs.Races.{first_writes, kinds, race, second_writes}
-use Rattle.ppd_graph.specs.declared.sets.EdgeSets.{EdgeSets}
 use Rattle.ppd_graph.specs.declared.sync_graph.SyncGraph.{SyncGraph}
 use Rattle.ppd_graph.specs.Graphs.{is_before_by, reads_in, sets_at, writes_in}
-use Rattle.ppd_graph.specs.LogRecord.{no_sets}
 use Rattle.ppd_race.specs.declared.busy.Busy.{Busy}
-use Rattle.ppd_race.specs.Busy.{AreBelow, IsBusyOf, can_race, is_busy, is_none, race_if, race_of, races_all, races_at, races_between}
+use Rattle.ppd_race.specs.Busy.{AreBelow, IsBusyOf, is_busy, is_none, race_if, race_of, races_all, races_at, races_between}
 use Rattle.ppd_race.specs.Races.{Edges, are_apart, candidates_at, edges_of_graph, is_race_in, most_cells}
 use Rattle.ppd_race.proofs.ByPairs.{filter_flat, flat_none, none_if_ordered}
 
@@ -24,7 +23,7 @@ flat_range_same f g a (suc n) m e h = ap₂ (λ r s. r ++ s) (h a (omega (arith,
 
 -- ---- a rising list in place of all numbers
 
-not_below : (n c : ℕ) (xs : List ℕ) → RisesFrom n xs → c < n → has xs c ≡ false
+pub not_below : (n c : ℕ) (xs : List ℕ) → RisesFrom n xs → c < n → has xs c ≡ false
 not_below n c [] r lt = refl
 not_below n c (x ∷ xs) r lt =
     ap₂ (λ a b. a || b) (ne_eqb x c (λ e. absurd (omega (arith, e, lt, r.0)))) (not_below (x + 1) c xs r.1 (omega (arith, lt, r.0)))
@@ -32,10 +31,10 @@ not_below n c (x ∷ xs) r lt =
 rises_more : (n : ℕ) (x : ℕ) (xs : List ℕ) → RisesFrom n (x ∷ xs) → n < x → RisesFrom (n + 1) (x ∷ xs)
 rises_more n x xs r lt = (omega (arith, lt), r.1)
 
-has_first : (x : ℕ) (xs : List ℕ) → IsTrue (has (x ∷ xs) x)
+pub has_first : (x : ℕ) (xs : List ℕ) → IsTrue (has (x ∷ xs) x)
 has_first x xs = ap (λ b. b || has xs x) (eq-eqb x x refl)
 
-below_rest : (m x : ℕ) (xs : List ℕ) → AreBelow m (x ∷ xs) → AreBelow m xs
+pub below_rest : (m x : ℕ) (xs : List ℕ) → AreBelow m (x ∷ xs) → AreBelow m xs
 below_rest m x xs h c t = h c (later (nat_eq x c) t)
   where
     later : (b : Bool) → IsTrue (has xs c) → (b || has xs c) ≡ true
@@ -101,11 +100,16 @@ module _ (g : SyncGraph) where
 
   -- ---- one pair
 
-  no_race : (a b : Busy) (c : ℕ) → (has a.reads c || has a.writes c) ≡ false → races_at a b c ≡ []
+  no_race : (a b : Busy) (c : ℕ) → (has b.reads c || has b.writes c) ≡ false → races_at a b c ≡ []
   no_race a b c e =
-      let parts = or_parts (has a.reads c) (has a.writes c) e in
-      ap₂ (λ r s. r ++ s) (ap (λ t. race_if (t && has b.writes c) (race_of a.edge b.edge c ReadWrite)) parts.0)
-      (ap₂ (λ r s. r ++ s) (ap (λ t. race_if (t && has b.reads c) (race_of a.edge b.edge c WriteRead)) parts.1) (ap (λ t. race_if (t && has b.writes c) (race_of a.edge b.edge c WriteWrite)) parts.1))
+      let parts = or_parts (has b.reads c) (has b.writes c) e in
+      ap₂ (λ r s. r ++ s) (none (has a.reads c) (has b.writes c) (race_of a.edge b.edge c ReadWrite) parts.1)
+      (ap₂ (λ r s. r ++ s) (none (has a.writes c) (has b.reads c) (race_of a.edge b.edge c WriteRead) parts.0) (none (has a.writes c) (has b.writes c) (race_of a.edge b.edge c WriteWrite) parts.1))
+    where
+      none : (s t : Bool) (r : Race) → t ≡ false → race_if (s && t) r ≡ []
+      none true true r e = absurd (true≢false e)
+      none true false r e = refl
+      none false t r e = refl
 
   pub pair_races : (a b : Busy) → IsBusyOf a.edge (sets_at g.edges a.edge) a → IsBusyOf b.edge (sets_at g.edges b.edge) b
       → races_between g a b ≡ filter (is_race_in (edges_of_graph g)) (candidates_at (edges_of_graph g) a.edge.process a.edge.edge b.edge.process b.edge.edge)
@@ -117,7 +121,7 @@ module _ (g : SyncGraph) where
       by false true e f = sym (none_if_ordered (edges_of_graph g) a.edge.process a.edge.edge b.edge.process b.edge.edge (ap₂ (λ t w. not (t || w)) e f))
       by false false e f =
           let apart : are_apart (edges_of_graph g) a.edge b.edge ≡ true = ap₂ (λ t w. not (t || w)) e f in
-          sym (rising_cells (races_at a b) 0 most_cells most_cells a.cells (omega arith) x.rises (below_most a.cells x.below) (λ c le none. no_race a b c (sym (x.all c) ∙ none)))
+          sym (rising_cells (races_at a b) 0 most_cells most_cells b.cells (omega arith) y.rises (below_most b.cells y.below) (λ c le none. no_race a b c (sym (y.all c) ∙ none)))
           ∙ sym (filter_flat (is_race_in (edges_of_graph g)) (λ cell. map (race a.edge.process a.edge.edge b.edge.process b.edge.edge cell) kinds) (range_with_len 0 most_cells)
           ∙ flat_range_same (λ cell. filter (is_race_in (edges_of_graph g)) (map (race a.edge.process a.edge.edge b.edge.process b.edge.edge cell) kinds)) (races_at a b) 0 most_cells most_cells (omega arith) (λ c lt. cell_races a b c lt x y apart))
 

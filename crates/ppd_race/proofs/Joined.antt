@@ -1,5 +1,5 @@
 -- Parts that were all made are the parts wanted, where that is so of each on some condition.
-use Rattle.std.proofs.Common.{◌≡◌, ℕ, List, [], ◌∷◌, map, Result, Ok, Err, IfOk, MatchResult, Contains, refl, ap, ap₂, subst, sym, ◌∙◌}
+use Rattle.std.proofs.Common.{◌≡◌, ℕ, List, [], ◌∷◌, map, Result, Ok, Err, IfOk, MatchResult, Contains, refl, ap, ap₂, subst, ◌∙◌}
 use Rattle.std.specs.List.{AllZip}
 
 first_is : {A : Type 0} (x y : A) (xs ys : List A) → x ∷ xs ≡ y ∷ ys → x ≡ y

@@ -1,9 +1,14 @@
 pub mod ByPairs
 pub mod Cells
 pub mod Alike
-pub mod Adding
+pub mod Grown
+pub mod Halves
+pub mod Listed
+pub mod Merged
+pub mod Over
+pub mod Picked
+pub mod Spent
 pub mod BusyRows
-pub mod Window
 pub mod Joined
 pub mod Whole
 pub mod OfRuns

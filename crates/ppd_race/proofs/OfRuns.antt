@@ -1,5 +1,5 @@
 -- The races of the logs of a run are those of the run.
-use Rattle.std.proofs.Common.{◌≡◌, ℕ, zero, suc, ◌+◌, ◌<◌, ◌≤◌, List, [], ◌∷◌, ◌++◌, Option, Some, None, Bool, true, false, refl, ap, sym, subst, ◌∙◌, arith, length, map, get_or, filter_map, true≢false, ne_eqb, inl, inr, ◌&&◌, ◌||◌}
+use Rattle.std.proofs.Common.{◌≡◌, ℕ, zero, suc, ◌+◌, ◌<◌, ◌≤◌, List, [], ◌∷◌, ◌++◌, Some, None, Bool, true, false, refl, ap, sym, subst, ◌∙◌, arith, length, map, get_or, filter_map, true≢false, ne_eqb, inl, inr, ◌&&◌, ◌||◌}
 use Rattle.std.specs.Prelude.{nat_eq, slice_get}
 use Rattle.std.specs.List.{cons_option, list_any, range_with_len}
 use Rattle.std.proofs.lemmas.Bool.{cases_eq}
@@ -12,7 +12,7 @@ use Rattle.ppd_entry.specs.declared.entry.Entry.{Entry}
 use Rattle.ppd_entry.specs.declared.entry.Entry.TheVariants as entry
 use Rattle.ppd_model.specs.declared.graph.EdgeId.{EdgeId}
 use Rattle.ppd_model.specs.HappenedBefore.{is_edge_before}
-use Rattle.ppd_model.specs.Logs.{logs}
+use Rattle.ppd_model.specs.Logs.{closed_logs}
 use Rattle.ppd_model.specs.Races.{has_access, races, writes_or_not}
 use Rattle.ppd_model.specs.Record.{SharedAccess, accesses, record_of}
 use Rattle.ppd_model.specs.RecordedSets as recorded
@@ -25,7 +25,7 @@ use Rattle.ppd_model.proofs.RecordedSets.{record_sets}
 use Rattle.ppd_model.proofs.RecordedSyncs.{record_syncs}
 use Rattle.ppd_graph.specs.declared.sets.EdgeSets.{EdgeSets}
 use Rattle.ppd_graph.specs.Graphs.{sets_at}
-use Rattle.ppd_graph.specs.LogRecord.{edge_sets, ended_by, found_after, no_sets, sets_from, sets_in}
+use Rattle.ppd_graph.specs.LogRecord.{edge_sets, ended_by, found_after, no_sets, sets_from, edge_sets_in}
 use Rattle.ppd_graph.proofs.Timed.{at_end, at_front, length_more}
 use Rattle.ppd_race.specs.Races.{AreCellsThere, IsThere, RunRacesAreOfLogs, cells_by, edges_of_logs, edges_of_story, races_of_logs}
 use Rattle.ppd_race.proofs.Alike.{alike_race, length_mapped}
@@ -96,19 +96,19 @@ module _ (program : Program) (plan : Plan) (budget : ℕ) (h : List ℕ) (valid 
   sets_of : ℕ → ℕ → EdgeSets
   sets_of p i = edge_sets (cells_in (story program plan budget h) p i false) (cells_in (story program plan budget h) p i true)
 
-  row : (p : ℕ) → p < length (logs program plan budget h).lists
-      → get_or (sets_in (logs program plan budget h)) p [] ≡ map (sets_of p) (range_with_len 0 (last_edge (story program plan budget h) p)) ++ sets_of p (last_edge (story program plan budget h) p) ∷ []
+  row : (p : ℕ) → p < length (closed_logs program plan budget h).lists
+      → get_or (edge_sets_in (closed_logs program plan budget h)) p [] ≡ map (sets_of p) (range_with_len 0 (last_edge (story program plan budget h) p)) ++ sets_of p (last_edge (story program plan budget h) p) ∷ []
   unfolding sets_of ended
   row p lt =
       let s = story program plan budget h in
-      let entries = get_or (logs program plan budget h).lists p [] in
-      let r : RecordsAccesses s p entries = record_sets program plan budget h p entries valid (got (logs program plan budget h).lists p [] lt) in
-      at_there (sets_from None) (logs program plan budget h).lists p lt
+      let entries = get_or (closed_logs program plan budget h).lists p [] in
+      let r : RecordsAccesses s p entries = record_sets program plan budget h p entries valid (got (closed_logs program plan budget h).lists p [] lt) in
+      at_there (sets_from None) (closed_logs program plan budget h).lists p lt
       ∙ ap (sets_from None) r.entries_are ∙ closed_sets r.before r.status r.rest (cells_in s p (last_edge s p) false) (cells_in s p (last_edge s p) true) r.no_end
       ∙ ap (λ x. map ended x ++ edge_sets (cells_in s p (last_edge s p) false) (cells_in s p (last_edge s p) true) ∷ []) r.syncs_are
       ∙ ap (λ x. x ++ edge_sets (cells_in s p (last_edge s p) false) (cells_in s p (last_edge s p) true) ∷ []) (map_both ended (recorded.sets_in s p) (range_with_len 0 (last_edge s p)))
 
-  count : (p : ℕ) → p < length (logs program plan budget h).lists → length (get_or (sets_in (logs program plan budget h)) p []) ≡ last_edge (story program plan budget h) p + 1
+  count : (p : ℕ) → p < length (closed_logs program plan budget h).lists → length (get_or (edge_sets_in (closed_logs program plan budget h)) p []) ≡ last_edge (story program plan budget h) p + 1
   count p lt =
       let n = last_edge (story program plan budget h) p in
       ap length (row p lt) ∙ length_more (map (sets_of p) (range_with_len 0 n)) (sets_of p n) ∙ ap (λ k. k + 1) (count_range (sets_of p) 0 n)
@@ -118,8 +118,8 @@ module _ (program : Program) (plan : Plan) (budget : ℕ) (h : List ℕ) (valid 
   by_kind p i true = refl
   by_kind p i false = refl
 
-  access : (a : EdgeId) (c : ℕ) (w : Bool) → IsThere (edges_of_logs program (logs program plan budget h)) a
-      → has (cells_by w (sets_at (sets_in (logs program plan budget h)) a)) c ≡ has_access (story program plan budget h) a.process a.edge c w
+  access : (a : EdgeId) (c : ℕ) (w : Bool) → IsThere (edges_of_logs program (closed_logs program plan budget h)) a
+      → has (cells_by w (sets_at (edge_sets_in (closed_logs program plan budget h)) a)) c ≡ has_access (story program plan budget h) a.process a.edge c w
   access a c w x =
       let n = last_edge (story program plan budget h) a.process in
       let inside : a.edge < n + 1 = subst (λ k. a.edge < k) (count a.process x.0) x.1 in
@@ -135,16 +135,16 @@ module _ (program : Program) (plan : Plan) (budget : ℕ) (h : List ℕ) (valid 
       let below = accesses_there program plan budget h p m a valid e in
       ap (λ b. nat_eq a.edge i && b && writes_or_not a w) (ne_eqb a.cell c (λ same. absurd (omega (arith, same, below, le)))) ∙ and_between (nat_eq a.edge i) (writes_or_not a w))
 
-  records : record_in (logs program plan budget h) ≡ record_of (story program plan budget h)
+  records : record_in (closed_logs program plan budget h) ≡ record_of (story program plan budget h)
   records = (record_syncs program plan budget h).closed
 
-  pub cells_there : AreCellsThere program (logs program plan budget h)
+  pub cells_there : AreCellsThere program (closed_logs program plan budget h)
   cells_there a c w le x = access a c w x ∙ beyond a.process a.edge c w le
 
-  pub run_races : races_of_logs program (logs program plan budget h) ≡ races program plan budget h
+  pub run_races : races_of_logs program (closed_logs program plan budget h) ≡ races program plan budget h
   run_races =
-      alike_race (edges_of_logs program (logs program plan budget h)) (edges_of_story program (story program plan budget h)) (record {
-        processes = sym (length_mapped (filter_map sync_in) (logs program plan budget h).lists) ∙ ap length records ∙ length_mapped syncs_of (story program plan budget h).steps;
+      alike_race (edges_of_logs program (closed_logs program plan budget h)) (edges_of_story program (story program plan budget h)) (record {
+        processes = sym (length_mapped (filter_map sync_in) (closed_logs program plan budget h).lists) ∙ ap length records ∙ length_mapped syncs_of (story program plan budget h).steps;
         count = count;
         accesses = access;
         before = λ a b x y. ap (λ r. is_edge_before program r a b) records;

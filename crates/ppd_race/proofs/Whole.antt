@@ -1,20 +1,17 @@
 -- The races of the busy edges are all races of the graph.
 use Rattle.std.proofs.Common.{◌≡◌, ℕ, zero, suc, ◌+◌, ◌-◌, ◌<◌, ◌≤◌, List, [], ◌∷◌, ◌++◌, Bool, true, false, cond, refl, ap, ap₂, sym, subst, ◌∙◌, arith, length, map, filter, get_or}
 use Rattle.std.specs.List.{flat_map, range_with_len}
-use Rattle.ppd_entry.specs.declared.entry.Logs.{Logs}
-use Rattle.ppd_ast.specs.declared.program.Program.{Program}
-use Rattle.ppd_model.specs.declared.graph.EdgeId.{EdgeId}
 use Rattle.ppd_model.specs.declared.graph.Race.{Race}
 use Rattle.ppd_model.specs.HappenedBefore.{edge}
 use Rattle.ppd_graph.specs.declared.sets.EdgeSets.{EdgeSets}
 use Rattle.ppd_graph.specs.declared.sync_graph.SyncGraph.{SyncGraph}
-use Rattle.ppd_graph.specs.Graphs.{IsGraphOf, sets_at}
+use Rattle.ppd_graph.specs.Graphs.{sets_at}
 use Rattle.ppd_race.specs.declared.busy.Busy.{Busy}
-use Rattle.ppd_race.specs.Busy.{AreBusyRows, EachBusyIn, IsBusyIn, IsBusyOf, IsBusyRow, IsRising, is_busy_in, numbers, races_between, races_by_rows, races_from, races_with_later}
+use Rattle.ppd_race.specs.Busy.{AreBusyRows, EachBusyIn, IsBusyIn, IsBusyOf, IsBusyRow, IsRising, is_busy_in, races_between, races_by_rows, races_from, races_with_later}
 use Rattle.ppd_race.specs.Races.{AreRacesOf, candidates_at, edges_of_graph, is_race_in, own_edges, races_among}
 use Rattle.ppd_race.proofs.Alike.{graph_races}
 use Rattle.ppd_race.proofs.Cells.{first_none, pair_races, second_none}
-use Rattle.ppd_race.proofs.ByPairs.{filtered, flat_none, flat_of_map, flat_same}
+use Rattle.ppd_race.proofs.ByPairs.{filtered, flat_none, flat_of_map}
 
 -- ---- kept numbers in place of all
 
@@ -84,6 +81,9 @@ module _ (g : SyncGraph) (rows : List (List Busy)) (are : AreBusyRows g.edges ro
 flat_mapped : {A : Type 0} (f : ℕ → List A) (xs : List ℕ) → flat_map (λ part. part) (map f xs) ≡ flat_map f xs
 flat_mapped f [] = refl
 flat_mapped f (x ∷ xs) = ap (λ r. f x ++ r) (flat_mapped f xs)
+
+pub found_by_rows : (g : SyncGraph) (rows : List (List Busy)) (races : List Race) → AreBusyRows g.edges rows → (IsRising g → races ≡ races_by_rows g rows) → AreRacesOf g races
+found_by_rows g rows races are found program logs is few cells = found is.rising ∙ rows_all g rows are ∙ graph_races program logs g is few cells
 
 pub found_all : (g : SyncGraph) (rows : List (List Busy)) (parts : List (List Race)) (races : List Race) → AreBusyRows g.edges rows → (IsRising g → parts ≡ map (races_from g rows) (range_with_len 0 (length rows)))
     → races ≡ flat_map (λ part. part) parts → AreRacesOf g races

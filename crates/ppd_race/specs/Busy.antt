@@ -30,9 +30,9 @@ races_at a b cell =
     ++ (race_if (has a.writes cell && has b.reads cell) (race_of a.edge b.edge cell WriteRead)
     ++ race_if (has a.writes cell && has b.writes cell) (race_of a.edge b.edge cell WriteWrite))
 
--- their races over the cells of the first
+-- their races over the cells of the second
 abbrev pub races_all : Busy → Busy → List Race
-races_all a b = flat_map (races_at a b) a.cells
+races_all a b = flat_map (races_at a b) b.cells
 
 -- neither is before the other
 abbrev pub can_race : SyncGraph → Busy → Busy → Bool
@@ -110,11 +110,13 @@ pub record AreBusyRows (sets : List (List EdgeSets)) (rows : List (List Busy)) :
 
 -- the more edges of a process, the more are before them
 abbrev pub IsRising : SyncGraph → Type 0
-IsRising g = (p q j k : ℕ) → p < length g.edges → j ≤ k → k < edge_count g q → count_at g.times q j p ≤ count_at g.times q k p
+IsRising g =
+    (p q j k : ℕ) → p < length g.edges → j ≤ k → k < edge_count g q → count_at g.times q j p ≤ count_at g.times q k p
 
 -- the races of a busy edge with the busy edges of the processes after p
 abbrev pub races_with_later : SyncGraph → List (List Busy) → ℕ → Busy → List Race
-races_with_later g rows p a = flat_map (λ q. flat_map (races_between g a) (get_or rows q [])) (range_with_len (p + 1) (length rows - (p + 1)))
+races_with_later g rows p a =
+    flat_map (λ q. flat_map (races_between g a) (get_or rows q [])) (range_with_len (p + 1) (length rows - (p + 1)))
 
 -- the races of process p with the later processes
 abbrev pub races_from : SyncGraph → List (List Busy) → ℕ → List Race
@@ -123,13 +125,3 @@ races_from g rows p = flat_map (races_with_later g rows p) (get_or rows p [])
 -- those of all processes
 abbrev pub races_by_rows : SyncGraph → List (List Busy) → List Race
 races_by_rows g rows = flat_map (races_from g rows) (range_with_len 0 (length rows))
-
--- these are busy edges of process q of the graph, in order, and q comes after the process of a
-pub record IsLaterRow (g : SyncGraph) (a : Busy) (q : ℕ) (row : List Busy) : Type 0 where
-  pub first : a.edge.process < length g.edges
-  pub after : a.edge.process < q
-  pub busy : IsBusyRow q (get_or g.edges q []) row
-
--- a comes before the processes after p, of which these are rows
-abbrev pub IsAhead : SyncGraph → List (List Busy) → ℕ → Busy → Type 0
-IsAhead g rows p a = (q : ℕ) → p < q → q < length rows → IsLaterRow g a q (get_or rows q [])

@@ -10,7 +10,7 @@ use Rattle.ppd_model.specs.HappenedBefore.{edge, is_edge_before}
 use Rattle.ppd_model.specs.Races.{first_writes, kinds, race, second_writes}
 use Rattle.ppd_model.specs.Record.{record_of}
 use Rattle.ppd_model.specs.Races.{has_access, races, races_of}
-use Rattle.ppd_model.specs.Logs.{logs}
+use Rattle.ppd_model.specs.Logs.{closed_logs}
 use Rattle.ppd_ast.specs.declared.plan.Plan.{Plan}
 use Rattle.ppd_ast.specs.Valid.{IsValid}
 use Rattle.ppd_model.specs.declared.tracing.Story.{Story}
@@ -20,7 +20,7 @@ use Rattle.ppd_graph.specs.declared.sync_graph.SyncGraph.{SyncGraph}
 use Rattle.ppd_graph.specs.declared.sets.EdgeSets.{EdgeSets}
 use Rattle.ppd_graph.specs.Graphs.{IsGraphOf, edge_count, is_before_by, sets_at}
 use Rattle.ppd_model.specs.RecordedSets.{record_in}
-use Rattle.ppd_graph.specs.LogRecord.{sets_in}
+use Rattle.ppd_graph.specs.LogRecord.{edge_sets_in}
 
 -- edges of processes: how many each process has, how many cells there are, whether an edge writes a cell or
 -- reads it, and which edge is before which
@@ -54,7 +54,9 @@ candidates_at e p i q j = flat_map (λ cell. map (race p i q j cell) kinds) (ran
 -- edge, the cell and the kind
 abbrev pub candidates_in : Edges → List Race
 candidates_in e =
-    flat_map (λ p. flat_map (λ i. flat_map (λ q. flat_map (λ j. candidates_at e p i q j) (own_edges e q)) (range_with_len (p + 1) (e.processes - (p + 1)))) (own_edges e p))
+    flat_map (λ p. flat_map
+    (λ i. flat_map (λ q. flat_map (λ j. candidates_at e p i q j) (own_edges e q))
+    (range_with_len (p + 1) (e.processes - (p + 1)))) (own_edges e p))
     (range_with_len 0 e.processes)
 
 -- the races
@@ -83,8 +85,8 @@ abbrev pub edges_of_logs : Program → Logs → Edges
 edges_of_logs program logs = record {
   processes = length logs.lists;
   cells = length program.starts;
-  count = λ p. length (get_or (sets_in logs) p []);
-  accesses = λ a cell writes. has (cells_by writes (sets_at (sets_in logs) a)) cell;
+  count = λ p. length (get_or (edge_sets_in logs) p []);
+  accesses = λ a cell writes. has (cells_by writes (sets_at (edge_sets_in logs) a)) cell;
   before = is_edge_before program (record_in logs);
 }
 
@@ -150,12 +152,14 @@ AlikeRace = (e f : Edges) → AreAlike e f → races_among e ≡ races_among f
 -- each cell that the logs name for an edge is one of the program's
 abbrev pub AreCellsThere : Program → Logs → Type 0
 AreCellsThere program logs =
-    (a : EdgeId) (c : ℕ) (w : Bool) → length program.starts ≤ c → IsThere (edges_of_logs program logs) a → has (cells_by w (sets_at (sets_in logs) a)) c ≡ false
+    (a : EdgeId) (c : ℕ) (w : Bool) → length program.starts ≤ c → IsThere (edges_of_logs program logs) a
+    → has (cells_by w (sets_at (edge_sets_in logs) a)) c ≡ false
 
 -- the races of the graph of logs are those of their record and sets
 abbrev pub GraphRacesAreOfLogs : Type 0
 GraphRacesAreOfLogs =
-    (program : Program) (logs : Logs) (g : SyncGraph) → IsGraphOf program logs g → length program.starts ≤ most_cells → AreCellsThere program logs
+    (program : Program) (logs : Logs) (g : SyncGraph) → IsGraphOf program logs g → length program.starts ≤ most_cells
+    → AreCellsThere program logs
     → races_among (edges_of_graph g) ≡ races_among (edges_of_logs program logs)
 
 -- the races of logs, all and only, in order
@@ -165,10 +169,13 @@ races_of_logs program logs = races_among (edges_of_logs program logs)
 -- the list is that of every logs of which the graph is the graph
 abbrev pub AreRacesOf : SyncGraph → List Race → Type 0
 AreRacesOf g races =
-    (program : Program) (logs : Logs) → IsGraphOf program logs g → length program.starts ≤ most_cells → AreCellsThere program logs → races ≡ races_of_logs program logs
+    (program : Program) (logs : Logs) → IsGraphOf program logs g → length program.starts ≤ most_cells
+    → AreCellsThere program logs → races ≡ races_of_logs program logs
 
--- the races of the logs of a schedule, whole or not, are those of the schedule, and its logs name cells of the program alone
+-- the races of the logs of a schedule, whole or not, are those of the schedule, and its logs name cells of the
+-- program alone
 abbrev pub RunRacesAreOfLogs : Type 0
 RunRacesAreOfLogs =
     (program : Program) (plan : Plan) (budget : ℕ) (h : List ℕ) → IsValid program
-    → (races_of_logs program (logs program plan budget h) ≡ races program plan budget h) × AreCellsThere program (logs program plan budget h)
+    → (races_of_logs program (closed_logs program plan budget h) ≡ races program plan budget h)
+    × AreCellsThere program (closed_logs program plan budget h)

@@ -1,149 +1,165 @@
-ghost use Rattle.std.specs.Prelude.{◌≡◌, ◌<◌, ◌≤◌, ◌++◌, ℕ, [], IfOk, OnOk, get_or, length, map, not, nat_lt};
-ghost use Rattle.std.specs.List.{flat_map, range_with_len};
-ghost use Rattle.ppd_graph.specs.Graphs.{is_before_by};
-ghost use Rattle.ppd_race.specs.Busy.{AreBelow, AreBusyRows, IsAhead, IsLaterRow, IsRising, races_between, races_from, races_with_later};
-ghost use Rattle.ppd_race.specs.Races.{AreRacesOf};
+ghost use Rattle.std.specs.Prelude.{◌≡◌, ◌<◌, ◌≤◌, ◌+◌, ◌*◌, ◌++◌, ℕ, [], OnOk, get_or, length};
+ghost use Rattle.std.specs.List.{flat_map, sum_by};
+ghost use Rattle.ppd_race.specs.Busy.{AreBelow, IsRising, race_of};
+ghost use Rattle.ppd_race.specs.ByCell.{AreOfCells};
+ghost use Rattle.ppd_race.specs.Lists.{GrowsBy, total};
+ghost use Rattle.ppd_race.specs.Search.{AreElsewhere, AreInOrder, CanSearch, IsElsewhere, IsWhole, against as against_of, edge_cost, found_against, found_if, found_in, found_over, found_with};
 
-use crate::busy::Busy;
-use crate::pairs::add_between;
-use crate::rows::{are_few, busy_rows};
-use ppd_ast::{Memory, Seq};
+use crate::apart::window;
+use crate::busy::{Accessor, Against, Busy};
+use crate::by_cell::ByCell;
+use crate::lists::{Lists, push_at};
+use ppd_ast::{Memory, Steps};
 use ppd_graph::SyncGraph;
-use ppd_model::Race;
-use rayon::prelude::*;
-use std::alloc::{AllocError, Global};
-use std::thread::Threads;
+use ppd_model::{EdgeId, Race, RaceKind};
+use std::sync::ledger::Ledger;
 
-// Of the busy edges of process q, which comes after that of `a`, those that are neither before `a` nor after it: since
-// what is before an edge is before the later ones of its process, they stand together.
-fn window<'a>(graph: &SyncGraph, a: &Busy, q: u8, row: &'a [Busy]) -> &'a [Busy]
-    ensures { IsRising graph.now → IsLaterRow graph.now a.now q row.now → flat_map (races_between graph.now a.now) result.now ≡ flat_map (races_between graph.now a.now) row.now }
+/// The races of each busy edge of a process.
+pub(crate) type Found = Lists<Race>;
+
+fn race(a: EdgeId, against: Against) -> Race
+    ensures { result ≡ race_of a against.edge against.cell against.kind }
 {
-    let count = graph.edges_before(a.edge, q);
-    let from = row.partition_point(
-        |b: &Busy| -> bool
-            ensures { result ≡ nat_lt b.now.edge.edge count }
-        { b.edge.edge < count },
-    );
-    let to = row.partition_point(
-        |b: &Busy| -> bool
-            ensures { result ≡ not (is_before_by graph.entry.now a.entry.now.edge b.now.edge) }
-        { !graph.before(a.edge, b.edge) },
-    );
-    let begin = from.min(to);
-    &row[begin..to]
+    Race {
+        p: a.process,
+        i: a.edge,
+        q: against.edge.process,
+        j: against.edge.edge,
+        cell: against.cell,
+        kind: against.kind,
+    }
 }
 
-// Adds the races of an edge with those of a later process.
-fn add_row(
-    races: &mut Seq<Race>,
+fn against(edge: EdgeId, cell: u16, kind: RaceKind) -> Against
+    ensures { result ≡ against_of edge cell kind }
+{
+    Against { edge, cell, kind }
+}
+
+// Adds to each edge of the list its race, where it is neither before the other edge nor after it.
+fn add_against<L: Ledger>(
+    found: &mut Found,
     graph: &SyncGraph,
-    a: &Busy,
-    q: u8,
+    list: &[Accessor],
+    against: Against,
+    steps: &mut Steps<L>,
+) -> Result<(), Memory>
+    ensures long { OnOk result (length found.new.items ≡ length found.old.items) }
+    ensures grows { OnOk result
+        (IsRising graph.now → (p : ℕ) → AreInOrder graph.now p list.now → IsElsewhere graph.now p against.edge
+        → GrowsBy (found_against graph.now list.now against) found.old.items found.new.items) }
+    ensures cost { OnOk result (steps.new + total found.old.items ≤ steps.old + total found.new.items + 128) }
+{
+    let apart = window(graph, list, against.edge, steps);
+    for one in apart {
+        push_at(found, one.place, race(one.edge, against), steps)?;
+    }
+    Ok(())
+}
+
+fn add_if<L: Ledger>(
+    found: &mut Found,
+    holds: bool,
+    graph: &SyncGraph,
+    list: &[Accessor],
+    against: Against,
+    steps: &mut Steps<L>,
+) -> Result<(), Memory>
+    ensures long { OnOk result (length found.new.items ≡ length found.old.items) }
+    ensures grows { OnOk result
+        (IsRising graph.now → (p : ℕ) → AreInOrder graph.now p list.now → IsElsewhere graph.now p against.edge
+        → GrowsBy (found_if holds graph.now list.now against) found.old.items found.new.items) }
+    ensures cost { OnOk result (steps.new + total found.old.items ≤ steps.old + total found.new.items + 128) }
+{
+    if holds {
+        return add_against(found, graph, list, against, steps);
+    }
+    Ok(())
+}
+
+// The edges listed for a cell.
+fn listed(lists: &Lists<Accessor>, cell: u16) -> &[Accessor]
+    requires { cell < length lists.now.items }
+    ensures { result.now ≡ get_or lists.now.items cell [] }
+{
+    lists[cell as usize].as_slice()
+}
+
+// The races over a cell with an edge of a later process.
+fn add_cell<L: Ledger>(
+    found: &mut Found,
+    graph: &SyncGraph,
+    lists: &ByCell,
+    b: &Busy,
+    cell: u16,
+    steps: &mut Steps<L>,
+) -> Result<(), Memory>
+    requires whole { IsWhole lists.now }
+    requires cell { cell < 1024 }
+    ensures long { OnOk result (length found.new.items ≡ length found.old.items) }
+    ensures grows { OnOk result
+        ((p : ℕ) → CanSearch graph.now p lists.now → IsElsewhere graph.now p b.now.edge
+        → GrowsBy (found_over graph.now lists.now b.now cell) found.old.items found.new.items) }
+    ensures cost { OnOk result (steps.new + total found.old.items ≤ steps.old + total found.new.items + 384) }
+{
+    let reads = b.reads.contains(cell);
+    let writes = b.writes.contains(cell);
+    let readers = listed(&lists.readers, cell);
+    let writers = listed(&lists.writers, cell);
+    let read_write = against(b.edge, cell, RaceKind::ReadWrite);
+    let write_read = against(b.edge, cell, RaceKind::WriteRead);
+    let write_write = against(b.edge, cell, RaceKind::WriteWrite);
+    add_if(found, writes, graph, readers, read_write, steps)?;
+    add_if(found, reads, graph, writers, write_read, steps)?;
+    add_if(found, writes, graph, writers, write_write, steps)?;
+    Ok(())
+}
+
+// The races with an edge of a later process.
+fn add_edge<L: Ledger>(
+    found: &mut Found,
+    graph: &SyncGraph,
+    lists: &ByCell,
+    b: &Busy,
+    steps: &mut Steps<L>,
+) -> Result<(), Memory>
+    requires whole { IsWhole lists.now }
+    requires below { AreBelow 1024 b.now.cells }
+    ensures long { OnOk result (length found.new.items ≡ length found.old.items) }
+    ensures grows { OnOk result
+        ((p : ℕ) → CanSearch graph.now p lists.now → IsElsewhere graph.now p b.now.edge
+        → GrowsBy (found_with graph.now lists.now b.now) found.old.items found.new.items) }
+    ensures cost { OnOk result
+        (steps.new + total found.old.items ≤ steps.old + total found.new.items + 385 * length b.now.cells) }
+{
+    let cells = b.cells.as_slice();
+    for cell in cells {
+        steps.tick();
+        add_cell(found, graph, lists, b, *cell, steps)?;
+    }
+    Ok(())
+}
+
+/// The races with the busy edges of a later process.
+pub(crate) fn add_row<L: Ledger>(
+    found: &mut Found,
+    graph: &SyncGraph,
+    lists: &ByCell,
     row: &[Busy],
+    steps: &mut Steps<L>,
 ) -> Result<(), Memory>
-    requires { AreBelow 1024 a.now.cells }
-    ensures { OnOk result (IsRising graph.now → IsLaterRow graph.now a.now q row.now → races.new ≡ races.old ++ flat_map (races_between graph.now a.now) row.now) }
+    requires whole { IsWhole lists.now }
+    requires cells { AreOfCells row.now }
+    ensures long { OnOk result (length found.new.items ≡ length found.old.items) }
+    ensures grows { OnOk result
+        ((p : ℕ) → CanSearch graph.now p lists.now → AreElsewhere graph.now p row.now
+        → GrowsBy (found_in graph.now lists.now row.now) found.old.items found.new.items) }
+    ensures cost { OnOk result
+        (steps.new + total found.old.items ≤ steps.old + total found.new.items + sum_by edge_cost row.now) }
 {
-    let unordered = window(graph, a, q, row);
-    for b in unordered {
-        add_between(races, graph, a, b)?;
+    for b in row {
+        steps.tick();
+        add_edge(found, graph, lists, b, steps)?;
     }
     Ok(())
-}
-
-// Adds the races of an edge with those of the processes after p.
-fn add_edge(
-    races: &mut Seq<Race>,
-    graph: &SyncGraph,
-    rows: &[Seq<Busy>],
-    p: usize,
-    a: &Busy,
-) -> Result<(), Memory>
-    requires few { length rows.now ≤ 256 }
-    requires there { p < length rows.now }
-    requires cells { AreBelow 1024 a.now.cells }
-    ensures { OnOk result (IsRising graph.now → IsAhead graph.now rows.now p a.now → races.new ≡ races.old ++ races_with_later graph.now rows.now p a.now) }
-{
-    for q in p + 1..rows.len() {
-        add_row(races, graph, a, q as u8, rows[q].as_slice())?;
-    }
-    Ok(())
-}
-
-// The races of process p with the later ones.
-fn races_of_process(
-    alloc: Global,
-    graph: &SyncGraph,
-    rows: &[Seq<Busy>],
-    p: usize,
-) -> Result<Seq<Race>, Memory>
-    requires few { length rows.now ≤ 256 }
-    requires there { p < length rows.now }
-    requires rows { AreBusyRows graph.now.edges rows.now }
-    ensures { IfOk result (λ races. IsRising graph.now → races ≡ races_from graph.now rows.now p) }
-{
-    let mut races = Seq::new(alloc);
-    let own = rows[p].as_slice();
-    for a in own {
-        add_edge(&mut races, graph, rows, p, a)?;
-    }
-    Ok(races)
-}
-
-// The races of each process with the later ones, each found in whatever thread.
-fn races_of_processes(
-    rt: &(impl Threads + Sync),
-    alloc: Global,
-    graph: &SyncGraph,
-    rows: &[Seq<Busy>],
-) -> Result<Vec<Seq<Race>>, Memory>
-    requires few { length rows.now ≤ 256 }
-    requires rows { AreBusyRows graph.now.edges rows.now }
-    ensures { IfOk result (λ all. IsRising graph.now → all.items ≡ map (races_from graph.now rows.now) (range_with_len 0 (length rows.now))) }
-{
-    let all: Result<Result<Vec<Seq<Race>>, Memory>, AllocError> = (0..rows.len())
-        .into_par_iter()
-        .with_min_len(1)
-        .map(
-            |p: usize| -> Result<Seq<Race>, Memory>
-                requires { (p < length rows.now) × (length rows.now ≤ 256) × AreBusyRows graph.now.edges rows.now }
-                ensures { IfOk result (λ races. IsRising graph.entry.now → races ≡ races_from graph.entry.now rows.entry.now p) }
-            { races_of_process(alloc, graph, rows, p) },
-        )
-        .collect(rt, alloc);
-    match all {
-        Ok(parts) => parts,
-        Err(_) => Err(Memory),
-    }
-}
-
-fn joined(alloc: Global, parts: Vec<Seq<Race>>) -> Result<Seq<Race>, Memory>
-    ensures { IfOk result (λ races. races ≡ flat_map (λ part. part) parts.items) }
-{
-    let mut races = Seq::new(alloc);
-    for part in parts {
-        races.append(part.into_vec())?;
-    }
-    Ok(races)
-}
-
-/// The races of a graph: every pair of internal edges of two processes, neither before the other, with each cell that both
-/// access and one of them writes, rising by the first process, its edge, the second process, its edge, the cell and
-/// the kind. It is the same list for every number of workers. `Memory` is want of memory.
-pub fn races(
-    rt: &(impl Threads + Sync),
-    alloc: Global,
-    graph: &SyncGraph,
-) -> Result<Seq<Race>, Memory>
-    ensures { IfOk result (AreRacesOf graph.now) }
-{
-    let sets = graph.edge_sets();
-    if !are_few(sets) {
-        return Err(Memory);
-    }
-    let rows = busy_rows(alloc, sets)?;
-    let parts = races_of_processes(rt, alloc, graph, rows.as_slice())?;
-    let races = joined(alloc, parts)?;
-    Ok(races)
 }

@@ -2,12 +2,16 @@
 //! access and one of them writes.
 #![tactic(auto)]
 
+mod apart;
 mod busy;
+mod by_cell;
 mod found;
 mod laws;
-mod pairs;
+mod lists;
 mod rows;
+mod search;
+mod union;
 
-pub use found::races;
 pub use laws::{graph_races_are_of_logs, run_races_are_of_logs, story_races_are_among};
 pub use ppd_model::{Race, RaceKind};
+pub use search::{races, races_in};

@@ -52,6 +52,8 @@ pub record IsCellOf (plan : Plan) (unit c : ℕ) : Type 0 where
 -- each shared cell that a process reads is a cell of the unit in force
 abbrev pub ReadsLieInCells : Type 0
 ReadsLieInCells =
-    (program : Program) (policy : Policy) (budget : ℕ) (h : List ℕ) (p : ℕ) (before : List Taken) (taken : Taken) (after : List Taken) (c : ℕ)
-    → IsValid program → own_steps (story program (plan_of program policy) budget h) p ≡ before ++ taken ∷ after → taken.need ≡ Read c
+    (program : Program) (policy : Policy) (budget : ℕ) (h : List ℕ) (p : ℕ) (before : List Taken) (taken : Taken)
+    (after : List Taken) (c : ℕ)
+    → IsValid program → own_steps (story program (plan_of program policy) budget h) p ≡ before ++ taken ∷ after
+    → taken.need ≡ Read c
     → IsCellOf (plan_of program policy) (unit_in_force program (plan_of program policy) p before) c

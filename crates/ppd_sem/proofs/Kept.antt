@@ -146,11 +146,11 @@ size_small p f h = body_small p.bodies f (λ k d lt. (h.bodies k d lt).cells)
 
 -- ---- frames and what is to do over them
 
-record Shape (p : Program) (ns : List ℕ) (ts : List Todo) : Type 0 where
+pub record Shape (p : Program) (ns : List ℕ) (ts : List Todo) : Type 0 where
   pub todo : AreOver p ns ts
   pub sizes : All (λ n. n < 2 ^ 16) ns
 
-sized : (p : Program) (ms ns : List ℕ) (ts : List Todo) → ns ≡ ms → Shape p ms ts → Shape p ns ts
+pub sized : (p : Program) (ms ns : List ℕ) (ts : List Todo) → ns ≡ ms → Shape p ms ts → Shape p ns ts
 sized p ms ns ts e h = subst (λ (l : List ℕ). Shape p l ts) (sym e) h
 
 sizes-write : (c : ℕ) (v : ℤ) (frames : List Frame) → sizes (write_top c v frames) ≡ sizes frames
@@ -165,7 +165,7 @@ sizes-clear : (base len : ℕ) (frames : List Frame) → sizes (clear_top base l
 sizes-clear base len [] = refl
 sizes-clear base len (f ∷ fs) = ap (λ n. n ∷ sizes fs) (length-clear base len f.cells)
 
-sizes-receive : (into : Option ℕ) (value : Option ℤ) (frames : List Frame) → sizes (receive_at into value frames) ≡ sizes frames
+pub sizes-receive : (into : Option ℕ) (value : Option ℤ) (frames : List Frame) → sizes (receive_at into value frames) ≡ sizes frames
 sizes-receive None value frames = refl
 sizes-receive (Some c) None frames = refl
 sizes-receive (Some c) (Some v) frames = sizes-write c v frames
@@ -187,7 +187,7 @@ inner_over p n ns (s ∷ ss) ts h over =
     let rest : AreOver p (n ∷ ns) (todos ss ++ ts) = inner_over p n ns ss ts (λ k d b. h (suc k) d (omega arith)) over in
     (inner.over, subst (λ (b : Bool). AreOver p (left_by b n ns) (todos ss ++ ts)) (sym inner.stays) rest)
 
-function_over : (p : Program) (n : ℕ) (ns : List ℕ) (ss : List ℕ) (ts : List Todo) → AreOfFunction p n ss → AreOver p ns ts → AreOver p (n ∷ ns) (todos ss ++ ts)
+pub function_over : (p : Program) (n : ℕ) (ns : List ℕ) (ss : List ℕ) (ts : List Todo) → AreOfFunction p n ss → AreOver p ns ts → AreOver p (n ∷ ns) (todos ss ++ ts)
 function_over p n ns [] ts h over = absurd h
 function_over p n ns (s ∷ []) ts h over = (h.0, subst (λ (b : Bool). AreOver p (left_by b n ns) ts) (sym h.1) over)
 function_over p n ns (s ∷ t ∷ ss) ts h over =
@@ -198,7 +198,7 @@ function_over p n ns (s ∷ t ∷ ss) ts h over =
 left : (p : Program) (n : ℕ) (ns : List ℕ) (t : Todo) (ts : List Todo) (b : Bool) → returns (kind_of p t.stmt) ≡ b → Shape p (n ∷ ns) (t ∷ ts) → AreOver p (left_by b n ns) ts
 left p n ns t ts b e h = subst (λ (x : Bool). AreOver p (left_by x n ns) ts) e h.todo.1
 
-stays : (p : Program) (n : ℕ) (ns : List ℕ) (t : Todo) (ts : List Todo) → returns (kind_of p t.stmt) ≡ false → Shape p (n ∷ ns) (t ∷ ts) → Shape p (n ∷ ns) ts
+pub stays : (p : Program) (n : ℕ) (ns : List ℕ) (t : Todo) (ts : List Todo) → returns (kind_of p t.stmt) ≡ false → Shape p (n ∷ ns) (t ∷ ts) → Shape p (n ∷ ns) ts
 stays p n ns t ts e h = record { todo = left p n ns t ts false e h; sizes = h.sizes }
 
 deed_shape : (p : Program) (a : Answer) (t : Todo) (ts : List Todo) (d : Deed) (s : Proc) (f : Frame) (fs : List Frame) → IsRunnable p → s.frames ≡ f ∷ fs → DeedFits p (length f.cells) (kind_of p t.stmt) d → Shape p (sizes s.frames) (t ∷ ts)
@@ -264,7 +264,7 @@ head_shape p a t ts s (f ∷ fs) run e d shape =
     let fit : Fits p (length f.cells) k (ask_deed p.exprs k (top_cells s.frames) s.answers) = fits p (length f.cells) p.exprs k (top_cells s.frames) s.answers leads in
     asked_shape p a t ts (head_deed p t s) s f fs run e d fit (sized p (sizes (f ∷ fs)) (sizes s.frames) (t ∷ ts) (ap sizes e) shape)
 
-paid_runs : (p : Program) (plan : Plan) (n : Need) (s t : Proc) → IsRunning p s → SamePurse s t → Shape p (sizes t.frames) t.todo → s.spent + cost plan n ≤ s.budget → IsRunning p (charged plan n t)
+pub paid_runs : (p : Program) (plan : Plan) (n : Need) (s t : Proc) → IsRunning p s → SamePurse s t → Shape p (sizes t.frames) t.todo → s.spent + cost plan n ≤ s.budget → IsRunning p (charged plan n t)
 paid_runs p plan n s t run same shape paid =
     let budget : t.budget ≡ s.budget = same.budget in
     let spent : t.spent ≡ s.spent = same.spent in

@@ -11,7 +11,7 @@ use Rattle.ppd_sem.specs.Process.{cells_for, new_frame, started_in, todos, top_o
 use Rattle.ppd_sem.specs.Runs.{AreOver, IsInner, IsRunnable, IsRunnableBody, IsRunning, size_if, size_of, sizes}
 use Rattle.ppd_sem.proofs.Kept.{There, there_at, inner_over, cells_count, size_small}
 
-started_over : (p : Program) (f : ℕ) → IsRunnable p → p.functions ≤ f → f < length p.bodies → AreOver p (size_of p f ∷ []) (todos (top_of (slice_get p.bodies f)))
+pub started_over : (p : Program) (f : ℕ) → IsRunnable p → p.functions ≤ f → f < length p.bodies → AreOver p (size_of p f ∷ []) (todos (top_of (slice_get p.bodies f)))
 started_over p f h from lt =
     let found : There (λ i b. IsRunnableBody p i b) p.bodies f = there_at (λ i b. IsRunnableBody p i b) p.bodies f h.bodies lt in
     let inner : All (IsInner p found.0.cells) found.0.top = found.2.top from in

@@ -5,6 +5,7 @@ use Rattle.std.proofs.Math.ListN.{set}
 use Rattle.std.proofs.lemmas.List.{get_or-reverse, reverse-append, length-reverse}
 use Rattle.std.proofs.lemmas.Option.{slice_get-get_or}
 use Rattle.ppd_sem.specs.declared.proc.Frame.{Frame}
+use Rattle.ppd_sem.specs.Blocks.{with_values, write_all}
 use Rattle.ppd_sem.specs.Process.{clear_cells, clear_top, write_top}
 
 abbrev change : {A : Type 0} → (A → A) → List A → List A
@@ -55,6 +56,16 @@ cleared base len items n f cells h is new =
     let g : Frame → Frame = λ f. record f { cells = clear_cells base len f.cells } in
     let same : record { body = f.body; cells = cells; call = f.call } ≡ g (get_or items n f) = ap (λ l. record f { cells = l }) new ∙ ap g is in
     ap (λ x. reverse (set items n x)) same ∙ last_changed g items n f h ∙ clear_is base len (reverse items)
+
+all_is : (cs : List ℕ) (vs : List ℤ) (frames : List Frame) → change (λ f. record f { cells = with_values cs vs f.cells }) frames ≡ write_all cs vs frames
+all_is cs vs [] = refl
+all_is cs vs (f ∷ fs) = refl
+
+pub all_written : (cs : List ℕ) (vs : List ℤ) (items : List Frame) (n : ℕ) (f : Frame) (cells : List ℤ) → n + 1 ≡ length items → f ≡ get_or items n f → cells ≡ with_values cs vs f.cells → reverse (set items n record { body = f.body; cells = cells; call = f.call }) ≡ write_all cs vs (reverse items)
+all_written cs vs items n f cells h is new =
+    let g : Frame → Frame = λ f. record f { cells = with_values cs vs f.cells } in
+    let same : record { body = f.body; cells = cells; call = f.call } ≡ g (get_or items n f) = ap (λ l. record f { cells = l }) new ∙ ap g is in
+    ap (λ x. reverse (set items n x)) same ∙ last_changed g items n f h ∙ all_is cs vs (reverse items)
 
 -- an item by its number from the top
 pub numbered : {A : Type 0} (items all : List A) (i n : ℕ) (x : A) → reverse items ≡ all → n ≡ length items → i < n → x ≡ get_or items (n - 1 - i) x → Some x ≡ slice_get all i

@@ -62,7 +62,7 @@ pub some_at : {X : Type 0} (Q : X → Type 0) (o : Option X) → IsSomeAnd o Q �
 some_at Q None h = absurd h
 some_at Q (Some x) h = (x, refl, h)
 
-get_at : {X : Type 0} (Q : X → Type 0) (xs : List X) (m : ℕ) (x : X) → All Q xs → slice_get xs m ≡ Some x → Q x
+pub get_at : {X : Type 0} (Q : X → Type 0) (xs : List X) (m : ℕ) (x : X) → All Q xs → slice_get xs m ≡ Some x → Q x
 get_at Q [] m x h e = absurd cc
 get_at Q (y ∷ ys) zero x h e = let is : y ≡ x = cc in subst Q is (h 0 y (omega arith))
 get_at Q (y ∷ ys) (suc m) x h e = get_at Q ys m x (λ k d lt. h (suc k) d (omega arith)) e
@@ -254,7 +254,7 @@ some_and : {X : Type 0} (Q : X → Type 0) (o : Option X) (x : X) → o ≡ Some
 some_and Q o x e h = subst (λ (y : Option _). IsSomeAnd y Q) (sym e) h
 
 -- body j, a function, as its statements stand in it
-function_top : (p : Program) (j : ℕ) (b : Body) → IsValid p → slice_get p.bodies j ≡ Some b → b.process ≡ false → IsValidBody p j b → AreOfFunction p b.cells b.top
+pub function_top : (p : Program) (j : ℕ) (b : Body) → IsValid p → slice_get p.bodies j ≡ Some b → b.process ≡ false → IsValidBody p j b → AreOfFunction p b.cells b.top
 function_top p j b v e pr h = of_function p b.cells b.top over rets once last
   where
     size : size_of p j ≡ b.cells
@@ -340,7 +340,7 @@ params_fit locals (suc k) n h ls =
     omega arith
 
 -- the body with this number
-body_at : (p : Program) (j : ℕ) (b : Body) → IsValid p → slice_get p.bodies j ≡ Some b → IsValidBody p j b
+pub body_at : (p : Program) (j : ℕ) (b : Body) → IsValid p → slice_get p.bodies j ≡ Some b → IsValidBody p j b
 body_at p j b v e =
     let body : There (IsValidBody p) p.bodies j = there_at (IsValidBody p) p.bodies j v.bodies (slice_get_within p.bodies j b e) in
     let one : body.0 ≡ b = cc (body.1) in

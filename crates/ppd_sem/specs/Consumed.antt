@@ -27,7 +27,8 @@ values_read reads = map (λ r. r.1) reads
 -- with the answers before, the cell of the first read is wanted, and with its value behind them that of the next
 abbrev pub WantsInTurn : {A : Type 0} → (List ℤ → Asked A) → List ℤ → List (ℕ × ℤ) → Type 0
 WantsInTurn evaluate before [] = ⊤
-WantsInTurn evaluate before (r ∷ rs) = (evaluate before ≡ Err (Wants r.0)) × WantsInTurn evaluate (before ++ r.1 ∷ []) rs
+WantsInTurn evaluate before (r ∷ rs) =
+    (evaluate before ≡ Err (Wants r.0)) × WantsInTurn evaluate (before ++ r.1 ∷ []) rs
 
 -- a value or a trap comes of the taken answers whatever stands behind them, a wanted cell only where none is left
 abbrev pub ComesOf : {A : Type 0} → (List ℤ → Asked A) → (taken left : List ℤ) → Asked A → Type 0

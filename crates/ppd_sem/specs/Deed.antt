@@ -42,19 +42,25 @@ ask_stored i e base len store cells answers =
     and_then (ask e cells left) (λ v left. gives left (store c v))))
 
 abbrev pub ask_deed : List Expr → Kind → List ℤ → List ℤ → Asked Deed
-ask_deed es (Set (Local c) e) cells answers = and_then (ask (term es e) cells answers) (λ v left. gives left (set_local c v))
-ask_deed es (Set (LocalAt base len i) e) cells answers = ask_stored (term es i) (term es e) base len set_local cells answers
-ask_deed es (Set (Shared c) e) cells answers = and_then (ask (term es e) cells answers) (λ v left. gives left (set_shared c v))
-ask_deed es (Set (SharedAt base len i) e) cells answers = ask_stored (term es i) (term es e) base len set_shared cells answers
+ask_deed es (Set (Local c) e) cells answers =
+    and_then (ask (term es e) cells answers) (λ v left. gives left (set_local c v))
+ask_deed es (Set (LocalAt base len i) e) cells answers =
+    ask_stored (term es i) (term es e) base len set_local cells answers
+ask_deed es (Set (Shared c) e) cells answers =
+    and_then (ask (term es e) cells answers) (λ v left. gives left (set_shared c v))
+ask_deed es (Set (SharedAt base len i) e) cells answers =
+    ask_stored (term es i) (term es e) base len set_shared cells answers
 ask_deed es (Zero base len) cells answers = gives answers (clear base len)
 ask_deed es (If e then_list else_list) cells answers =
-    and_then (ask (term es e) cells answers) (λ v left. gives left (branch (if is_zero v then else_list else then_list)))
+    and_then (ask (term es e) cells answers)
+    (λ v left. gives left (branch (if is_zero v then else_list else then_list)))
 ask_deed es (While e body) cells answers =
     and_then (ask (term es e) cells answers) (λ v left. gives left (if is_zero v then leave else turn body))
 ask_deed es (Call function arguments into) cells answers =
     and_then (ask_all es arguments cells answers) (λ vs left. gives left (invoke function vs into))
 ask_deed es (Return None) cells answers = gives answers (back None)
-ask_deed es (Return (Some e)) cells answers = and_then (ask (term es e) cells answers) (λ v left. gives left (back (Some v)))
+ask_deed es (Return (Some e)) cells answers =
+    and_then (ask (term es e) cells answers) (λ v left. gives left (back (Some v)))
 ask_deed es (P s) cells answers = gives answers (take s)
 ask_deed es (V s) cells answers = gives answers (give s)
 ask_deed es (Send c e) cells answers = and_then (ask (term es e) cells answers) (λ v left. gives left (send c v))

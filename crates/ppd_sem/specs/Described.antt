@@ -122,9 +122,12 @@ evaluates need = true
 abbrev pub event_at : Program → Plan → Answer → Need → Proc → Todo → Event
 event_at program plan a need s t = record {
   stmt = t.stmt;
-  reads = if evaluates need then reads_of_kind (frame_of program plan s) program.exprs (kind_of program t.stmt) (top_cells s.frames) s.answers else [];
+  reads = if evaluates need
+      then reads_of_kind (frame_of program plan s) program.exprs (kind_of program t.stmt)
+      (top_cells s.frames) s.answers else [];
   writes = writes_by (trap_of need) (frame_of program plan s) a (head_deed program t s);
-  value = if evaluates need then value_at program.exprs (top_cells s.frames) s.answers (valued (kind_of program t.stmt)) else None;
+  value = if evaluates need
+      then value_at program.exprs (top_cells s.frames) s.answers (valued (kind_of program t.stmt)) else None;
   number = None;
   trap = trap_of need;
 }

@@ -38,7 +38,8 @@ abbrev pub deed_of : List Expr → Kind → List ℤ → List ℤ → Effect →
 deed_of es k cells answers (effect.SetLocal c v) = set_local c v
 deed_of es k cells answers (effect.SetShared c v) = set_shared c v
 deed_of es k cells answers (effect.Clear base len) = clear base len
-deed_of es k cells answers (effect.Branch holds) = branch (branch_of k (λ first second. if holds then first else second))
+deed_of es k cells answers (effect.Branch holds) =
+    branch (branch_of k (λ first second. if holds then first else second))
 deed_of es k cells answers effect.Turn = turn (body_of k)
 deed_of es k cells answers effect.Leave = leave
 deed_of es k cells answers (effect.Invoke f into) = invoke f (given es (arguments_of k) cells answers) into

@@ -17,7 +17,17 @@ abbrev pub program_of : List Expr → Kind → Kind → Program
 program_of exprs first second = record {
   exprs = exprs;
   stmts = stmt first ∷ stmt second ∷ stmt kind.End ∷ [];
-  bodies = record { name = 97 ∷ []; process = true; params = 0; value = false; cells = 0; locals = []; top = 0 ∷ 1 ∷ 2 ∷ []; first = 0; end = 3 } ∷ [];
+  bodies = record {
+    name = 97 ∷ [];
+    process = true;
+    params = 0;
+    value = false;
+    cells = 0;
+    locals = [];
+    top = 0 ∷ 1 ∷ 2 ∷ [];
+    first = 0;
+    end = 3;
+  } ∷ [];
   functions = 0;
   shared = record { name = 120 ∷ []; base = 0; len = None } ∷ [];
   starts = pos 0 ∷ [];
@@ -28,4 +38,5 @@ program_of exprs first second = record {
 -- shared int x; process a { x = 2; print(x + 3); }
 abbrev pub printing : Program
 printing =
-    program_of (expr.Const (pos 2) ∷ expr.Shared 0 ∷ expr.Const (pos 3) ∷ expr.Two op.Add 1 2 ∷ []) (kind.Set (target.Shared 0) 0) (kind.Print 3)
+    program_of (expr.Const (pos 2) ∷ expr.Shared 0 ∷ expr.Const (pos 3) ∷ expr.Two op.Add 1 2 ∷ [])
+    (kind.Set (target.Shared 0) 0) (kind.Print 3)

@@ -71,38 +71,61 @@ pub record IsTruncated (x y : ℤ) (divided remaining : Result ℤ Trap) : Type 
 pub record DividesTowardZero : Type 0 where
   pub zero : (x : ℤ) → (calc Div x (pos 0) ≡ Err Zero) × (calc Rem x (pos 0) ≡ Err Zero)
   pub overflow : (calc Div least (negsuc 0) ≡ Err Overflow) × (calc Rem least (negsuc 0) ≡ Err Overflow)
-  pub others : (x y : ℤ) → Has64Bits x → y ≢ pos 0 → ((x ≡ least) × (y ≡ negsuc 0) → ⊥) → IsTruncated x y (calc Div x y) (calc Rem x y)
+  pub others : (x y : ℤ) → Has64Bits x → y ≢ pos 0 → ((x ≡ least) × (y ≡ negsuc 0) → ⊥)
+      → IsTruncated x y (calc Div x y) (calc Rem x y)
 
 -- ---- order of evaluation
 
 -- once an index is tested and is none of the array, the stored value is not evaluated
 pub record IndexComesFirst : Type 0 where
-  pub local : (es : List Expr) (base len i e : ℕ) (cells answers left : List ℤ) (at : ℤ) → ask (term es i) cells answers ≡ Ok (at, left) → element base len at ≡ Err Index → ask_deed es (kind.Set (target.LocalAt base len i) e) cells answers ≡ Err (Traps Index)
-  pub shared : (es : List Expr) (base len i e : ℕ) (cells answers left : List ℤ) (at : ℤ) → ask (term es i) cells answers ≡ Ok (at, left) → element base len at ≡ Err Index → ask_deed es (kind.Set (target.SharedAt base len i) e) cells answers ≡ Err (Traps Index)
+  pub local : (es : List Expr) (base len i e : ℕ) (cells answers left : List ℤ) (at : ℤ)
+      → ask (term es i) cells answers ≡ Ok (at, left) → element base len at ≡ Err Index
+      → ask_deed es (kind.Set (target.LocalAt base len i) e) cells answers ≡ Err (Traps Index)
+  pub shared : (es : List Expr) (base len i e : ℕ) (cells answers left : List ℤ) (at : ℤ)
+      → ask (term es i) cells answers ≡ Ok (at, left) → element base len at ≡ Err Index
+      → ask_deed es (kind.Set (target.SharedAt base len i) e) cells answers ≡ Err (Traps Index)
   -- nor is anything read for it
-  pub local_reads : (frame : ℕ) (es : List Expr) (base len i e : ℕ) (cells answers left : List ℤ) (at : ℤ) → ask (term es i) cells answers ≡ Ok (at, left) → element base len at ≡ Err Index → reads_of_kind frame es (kind.Set (target.LocalAt base len i) e) cells answers ≡ reads_of frame (term es i) cells answers
-  pub shared_reads : (frame : ℕ) (es : List Expr) (base len i e : ℕ) (cells answers left : List ℤ) (at : ℤ) → ask (term es i) cells answers ≡ Ok (at, left) → element base len at ≡ Err Index → reads_of_kind frame es (kind.Set (target.SharedAt base len i) e) cells answers ≡ reads_of frame (term es i) cells answers
+  pub local_reads : (frame : ℕ) (es : List Expr) (base len i e : ℕ) (cells answers left : List ℤ) (at : ℤ)
+      → ask (term es i) cells answers ≡ Ok (at, left) → element base len at ≡ Err Index
+      → reads_of_kind frame es (kind.Set (target.LocalAt base len i) e) cells answers
+      ≡ reads_of frame (term es i) cells answers
+  pub shared_reads : (frame : ℕ) (es : List Expr) (base len i e : ℕ) (cells answers left : List ℤ) (at : ℤ)
+      → ask (term es i) cells answers ≡ Ok (at, left) → element base len at ≡ Err Index
+      → reads_of_kind frame es (kind.Set (target.SharedAt base len i) e) cells answers
+      ≡ reads_of frame (term es i) cells answers
 
 -- `&&` at 0 and `||` at any other value take no further answer and read nothing more
 pub record StopsEarly : Type 0 where
-  pub and_value : (a b : Term) (cells answers left : List ℤ) → ask a cells answers ≡ Ok (pos 0, left) → ask (and a b) cells answers ≡ Ok (pos 0, left)
-  pub and_reads : (frame : ℕ) (a b : Term) (cells answers left : List ℤ) → ask a cells answers ≡ Ok (pos 0, left) → reads_of frame (and a b) cells answers ≡ reads_of frame a cells answers
-  pub or_value : (a b : Term) (cells answers left : List ℤ) (x : ℤ) → x ≢ pos 0 → ask a cells answers ≡ Ok (x, left) → ask (or a b) cells answers ≡ Ok (pos 1, left)
-  pub or_reads : (frame : ℕ) (a b : Term) (cells answers left : List ℤ) (x : ℤ) → x ≢ pos 0 → ask a cells answers ≡ Ok (x, left) → reads_of frame (or a b) cells answers ≡ reads_of frame a cells answers
+  pub and_value : (a b : Term) (cells answers left : List ℤ) → ask a cells answers ≡ Ok (pos 0, left)
+      → ask (and a b) cells answers ≡ Ok (pos 0, left)
+  pub and_reads : (frame : ℕ) (a b : Term) (cells answers left : List ℤ) → ask a cells answers ≡ Ok (pos 0, left)
+      → reads_of frame (and a b) cells answers ≡ reads_of frame a cells answers
+  pub or_value : (a b : Term) (cells answers left : List ℤ) (x : ℤ) → x ≢ pos 0 → ask a cells answers ≡ Ok (x, left)
+      → ask (or a b) cells answers ≡ Ok (pos 1, left)
+  pub or_reads : (frame : ℕ) (a b : Term) (cells answers left : List ℤ) (x : ℤ) → x ≢ pos 0
+      → ask a cells answers ≡ Ok (x, left) → reads_of frame (or a b) cells answers ≡ reads_of frame a cells answers
 
 -- ---- shared reads
 
 -- the shared reads of an expression or of a statement are exactly the answers that its evaluation takes, in order
 pub record ReadsAreAnswers : Type 0 where
-  pub expression : (frame : ℕ) (t : Term) (cells answers : List ℤ) → Takes (ask t cells) answers (shared_of (reads_of frame t cells answers))
-  pub statement : (frame : ℕ) (es : List Expr) (k : Kind) (cells answers : List ℤ) → Takes (ask_deed es k cells) answers (shared_of (reads_of_kind frame es k cells answers))
+  pub expression : (frame : ℕ) (t : Term) (cells answers : List ℤ)
+      → Takes (ask t cells) answers (shared_of (reads_of frame t cells answers))
+  pub statement : (frame : ℕ) (es : List Expr) (k : Kind) (cells answers : List ℤ)
+      → Takes (ask_deed es k cells) answers (shared_of (reads_of_kind frame es k cells answers))
 
 -- ---- calls
 
 -- a call asks for what its arguments lack; only with all of them there is its depth tested
 pub record ArgumentsComeFirst : Type 0 where
-  pub lacking : (program : Program) (plan : Plan) (t : Todo) (s : Proc) (f : ℕ) (arguments : List ℕ) (into : Option ℕ) (p : Pause) → kind_of program t.stmt ≡ kind.Call f arguments into → ask_all program.exprs arguments (top_cells s.frames) s.answers ≡ Err p → need_of_head program plan t s ≡ need_of_pause p
-  pub too_deep : (program : Program) (plan : Plan) (t : Todo) (s : Proc) (f : ℕ) (arguments : List ℕ) (into : Option ℕ) (values left : List ℤ) → kind_of program t.stmt ≡ kind.Call f arguments into → ask_all program.exprs arguments (top_cells s.frames) s.answers ≡ Ok (values, left) → 64 < s.below + length s.frames → need_of_head program plan t s ≡ need.Trap Depth
+  pub lacking : (program : Program) (plan : Plan) (t : Todo) (s : Proc) (f : ℕ) (arguments : List ℕ)
+      (into : Option ℕ) (p : Pause) → kind_of program t.stmt ≡ kind.Call f arguments into
+      → ask_all program.exprs arguments (top_cells s.frames) s.answers ≡ Err p
+      → need_of_head program plan t s ≡ need_of_pause p
+  pub too_deep : (program : Program) (plan : Plan) (t : Todo) (s : Proc) (f : ℕ) (arguments : List ℕ)
+      (into : Option ℕ) (values left : List ℤ) → kind_of program t.stmt ≡ kind.Call f arguments into
+      → ask_all program.exprs arguments (top_cells s.frames) s.answers ≡ Ok (values, left)
+      → 64 < s.below + length s.frames → need_of_head program plan t s ≡ need.Trap Depth
 
 -- ---- programs and steps
 
@@ -112,10 +135,14 @@ ValidCanRun = (program : Program) → IsValid program → IsRunnable program
 
 -- each step keeps the budget, overspends nothing, and leaves fewer steps to take, so that a process comes to its end
 pub record StepsEnd : Type 0 where
-  pub falls : (program : Program) (plan : Plan) (s : Proc) (a : Answer) → need_of program plan s ≢ need.Stopped → s.spent ≤ s.budget → measure (act program plan s a) < measure s
-  pub stays : (program : Program) (plan : Plan) (s : Proc) (a : Answer) → need_of program plan s ≡ need.Stopped → act program plan s a ≡ s
-  pub budget : (program : Program) (plan : Plan) (s : Proc) (a : Answer) → s.spent ≤ s.budget → (act program plan s a).budget ≡ s.budget
-  pub within : (program : Program) (plan : Plan) (s : Proc) (a : Answer) → s.spent ≤ s.budget → (act program plan s a).spent ≤ s.budget
+  pub falls : (program : Program) (plan : Plan) (s : Proc) (a : Answer) → need_of program plan s ≢ need.Stopped
+      → s.spent ≤ s.budget → measure (act program plan s a) < measure s
+  pub stays : (program : Program) (plan : Plan) (s : Proc) (a : Answer) → need_of program plan s ≡ need.Stopped
+      → act program plan s a ≡ s
+  pub budget : (program : Program) (plan : Plan) (s : Proc) (a : Answer) → s.spent ≤ s.budget
+      → (act program plan s a).budget ≡ s.budget
+  pub within : (program : Program) (plan : Plan) (s : Proc) (a : Answer) → s.spent ≤ s.budget
+      → (act program plan s a).spent ≤ s.budget
 
 -- the blocks and units of a plan that is valid for a valid program have numbers of 16 bits
 abbrev pub ValidIsNumbered : Type 0
@@ -135,7 +162,8 @@ NamesThere program n = ⊤
 
 -- in every state of a valid program a need names only what is there
 abbrev pub NeedsAreThere : Type 0
-NeedsAreThere = (program : Program) (plan : Plan) (s : Proc) → IsValid program → NamesThere program (need_of program plan s)
+NeedsAreThere =
+    (program : Program) (plan : Plan) (s : Proc) → IsValid program → NamesThere program (need_of program plan s)
 
 -- ---- sends on channels of capacity 0
 
@@ -143,12 +171,17 @@ NeedsAreThere = (program : Program) (plan : Plan) (s : Proc) → IsValid program
 pub record OffersAreCompleted : Type 0 where
   -- a process begins with no offer taken, and only the statement that is next can be one whose offer was
   pub starts : (program : Program) (plan : Plan) (p budget : ℕ) → HasNoOffer (started program plan p budget).todo
-  pub stays : (program : Program) (plan : Plan) (s : Proc) (a : Answer) → OffersAtHead program s.todo → OffersAtHead program (act program plan s a).todo
+  pub stays : (program : Program) (plan : Plan) (s : Proc) (a : Answer) → OffersAtHead program s.todo
+      → OffersAtHead program (act program plan s a).todo
   -- an offer leaves its statement, whose completion is the next step, or it stops for its budget
-  pub completed : (program : Program) (plan : Plan) (s : Proc) (a : Answer) (t c : ℕ) (v : ℤ) → next_stmt_of s.todo ≡ Some t → need_of program plan s ≡ need.Offer c v
-      → IsAtOneStatement s (act program plan s a) × Completes c (unit_of plan (start.After t)) (need_of program plan (act program plan s a))
+  pub completed : (program : Program) (plan : Plan) (s : Proc) (a : Answer) (t c : ℕ) (v : ℤ)
+      → next_stmt_of s.todo ≡ Some t → need_of program plan s ≡ need.Offer c v
+      → IsAtOneStatement s (act program plan s a)
+      × Completes c (unit_of plan (start.After t)) (need_of program plan (act program plan s a))
   -- the step before a completion is the offer of the same statement
-  pub offered : (program : Program) (plan : Plan) (s : Proc) (a : Answer) (c u : ℕ) → OffersAtHead program s.todo → need_of program plan (act program plan s a) ≡ need.Done c u
+  pub offered : (program : Program) (plan : Plan) (s : Proc) (a : Answer) (c u : ℕ) → OffersAtHead program s.todo
+      → need_of program plan (act program plan s a) ≡ need.Done c u
       → IsAtOneStatement s (act program plan s a) × Offers c (need_of program plan s)
   -- a completion removes its statement
-  pub removed : (program : Program) (plan : Plan) (s : Proc) (a : Answer) (c u : ℕ) → need_of program plan s ≡ need.Done c u → (act program plan s a).todo ≡ drop 1 s.todo
+  pub removed : (program : Program) (plan : Plan) (s : Proc) (a : Answer) (c u : ℕ)
+      → need_of program plan s ≡ need.Done c u → (act program plan s a).todo ≡ drop 1 s.todo

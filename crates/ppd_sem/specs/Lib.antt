@@ -6,6 +6,7 @@ pub mod Consumed
 pub mod Deed
 pub mod Described
 pub mod Effects
+pub mod Entries
 pub mod Example
 pub mod Feeding
 pub mod First

@@ -125,7 +125,8 @@ need_by_offer plan t None need = need
 
 abbrev pub need_of_head : Program → Plan → Todo → Proc → Need
 need_of_head program plan t s =
-    need_by_offer plan t.stmt (offer_of program t) (need_by_entry program plan t.stmt s (entry_of program plan t) (head_deed program t s))
+    need_by_offer plan t.stmt (offer_of program t)
+    (need_by_entry program plan t.stmt s (entry_of program plan t) (head_deed program t s))
 
 -- the values in the prelog, postlog and unit entries that the step writes
 abbrev pub values_of : Plan → Need → ℕ
@@ -188,7 +189,8 @@ cells_for (Some b) values = values ++ replicate (b.cells - length values) (pos 0
 
 -- the parameters' values, and zeros
 abbrev pub new_frame : Program → ℕ → List ℤ → Option ℕ → Frame
-new_frame program f values call = record { body = f; cells = cells_for (slice_get program.bodies f) values; call = call }
+new_frame program f values call =
+    record { body = f; cells = cells_for (slice_get program.bodies f) values; call = call }
 
 abbrev pub into_of : Kind → Option ℕ
 into_of (kind.Call f arguments into) = into

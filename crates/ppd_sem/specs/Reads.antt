@@ -36,15 +36,18 @@ reads_of frame (not a) cells answers = reads_of frame a cells answers
 reads_of frame (two op a b) cells answers =
     reads_of frame a cells answers ++ once (ask a cells answers) (λ x left. reads_of frame b cells left)
 reads_of frame (and a b) cells answers =
-    reads_of frame a cells answers ++ once (ask a cells answers) (λ x left. if is_zero x then [] else reads_of frame b cells left)
+    reads_of frame a cells answers
+    ++ once (ask a cells answers) (λ x left. if is_zero x then [] else reads_of frame b cells left)
 reads_of frame (or a b) cells answers =
-    reads_of frame a cells answers ++ once (ask a cells answers) (λ x left. if is_zero x then reads_of frame b cells left else [])
+    reads_of frame a cells answers
+    ++ once (ask a cells answers) (λ x left. if is_zero x then reads_of frame b cells left else [])
 
 -- the arguments, left to right
 abbrev pub reads_of_all : ℕ → List Expr → List ℕ → List ℤ → List ℤ → List Access
 reads_of_all frame es [] cells answers = []
 reads_of_all frame es (a ∷ as') cells answers =
-    reads_of frame (term es a) cells answers ++ once (ask (term es a) cells answers) (λ v left. reads_of_all frame es as' cells left)
+    reads_of frame (term es a) cells answers
+    ++ once (ask (term es a) cells answers) (λ v left. reads_of_all frame es as' cells left)
 
 -- an index, tested first, and then the value that is stored
 abbrev pub reads_of_stored : ℕ → Term → Term → ℕ → ℕ → List ℤ → List ℤ → List Access

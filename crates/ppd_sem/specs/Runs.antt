@@ -127,7 +127,8 @@ left_by false n ns = n ∷ ns
 abbrev pub AreOver : Program → List ℕ → List Todo → Type 0
 AreOver program ns [] = ⊤
 AreOver program [] (t ∷ ts) = ⊥
-AreOver program (n ∷ ns) (t ∷ ts) = IsOver program n t.stmt × AreOver program (left_by (returns (kind_of program t.stmt)) n ns) ts
+AreOver program (n ∷ ns) (t ∷ ts) =
+    IsOver program n t.stmt × AreOver program (left_by (returns (kind_of program t.stmt)) n ns) ts
 
 -- a process state of the program: what is to do runs over its frames, each step cost at least 1, and
 -- the budget is not overspent

@@ -120,7 +120,8 @@ fn effect_writes(
     requires over { IsOver program.now (length (top_cells_of proc.now.frames)) todo.stmt }
     requires frame { frame < 2 }
     requires range { HasRange effect }
-    ensures { IfOk result (λ writes. writes ≡ writes_of_deed frame answer.now (head_deed_of program.now todo proc.now effect)) }
+    ensures { IfOk result
+        (λ writes. writes ≡ writes_of_deed frame answer.now (head_deed_of program.now todo proc.now effect)) }
 {
     match effect {
         Effect::SetLocal(cell, value) => one(alloc, local_write(frame, cell, value)),
@@ -184,7 +185,10 @@ fn head_reads(
     requires program { IsRunnable program.now }
     requires cells { length (top_cells_of proc.now.frames) < 2 ^ 16 }
     requires over { IsOver program.now (length (top_cells_of proc.now.frames)) todo.stmt }
-    ensures { IfOk result (λ reads. reads ≡ reads_of_kind frame program.now.exprs (kind_of program.now todo.stmt) (top_cells_of proc.now.frames) proc.now.answers) }
+    ensures { IfOk result
+        (λ reads. reads
+        ≡ reads_of_kind frame program.now.exprs (kind_of program.now todo.stmt)
+        (top_cells_of proc.now.frames) proc.now.answers) }
 {
     let mut reads = Seq::new(alloc);
     push_kind_reads(
@@ -225,7 +229,9 @@ fn head_value(program: &Program, proc: &Proc, todo: Todo) -> Option<i64>
     requires program { IsRunnable program.now }
     requires cells { length (top_cells_of proc.now.frames) < 2 ^ 16 }
     requires over { IsOver program.now (length (top_cells_of proc.now.frames)) todo.stmt }
-    ensures { result ≡ value_at program.now.exprs (top_cells_of proc.now.frames) proc.now.answers (valued_of (kind_of program.now todo.stmt)) }
+    ensures { result
+        ≡ value_at program.now.exprs (top_cells_of proc.now.frames) proc.now.answers
+        (valued_of (kind_of program.now todo.stmt)) }
 {
     let value = valued(kind_at(program, todo.stmt))?;
     let exprs = program.exprs.as_slice();
@@ -268,7 +274,11 @@ fn step_reads(
     requires program { IsRunnable program.now }
     requires cells { length (top_cells_of proc.now.frames) < 2 ^ 16 }
     requires over { IsOver program.now (length (top_cells_of proc.now.frames)) todo.stmt }
-    ensures { IfOk result (λ reads. reads ≡ (if evaluates_of need then reads_of_kind frame program.now.exprs (kind_of program.now todo.stmt) (top_cells_of proc.now.frames) proc.now.answers else [])) }
+    ensures { IfOk result
+        (λ reads. reads
+        ≡ (if evaluates_of need
+        then reads_of_kind frame program.now.exprs (kind_of program.now todo.stmt)
+        (top_cells_of proc.now.frames) proc.now.answers else [])) }
 {
     if evaluates(need) {
         head_reads(alloc, program, proc, frame, todo)
@@ -282,7 +292,10 @@ fn step_value(program: &Program, proc: &Proc, todo: Todo, need: Need) -> Option<
     requires program { IsRunnable program.now }
     requires cells { length (top_cells_of proc.now.frames) < 2 ^ 16 }
     requires over { IsOver program.now (length (top_cells_of proc.now.frames)) todo.stmt }
-    ensures { result ≡ (if evaluates_of need then value_at program.now.exprs (top_cells_of proc.now.frames) proc.now.answers (valued_of (kind_of program.now todo.stmt)) else None) }
+    ensures { result
+        ≡ (if evaluates_of need
+        then value_at program.now.exprs (top_cells_of proc.now.frames) proc.now.answers
+        (valued_of (kind_of program.now todo.stmt)) else None) }
 {
     if evaluates(need) {
         head_value(program, proc, todo)
@@ -346,7 +359,9 @@ pub fn describe(
     requires plan { IsNumbered plan.now }
     requires proc { IsRunning program.now proc.now }
     requires event { is_event_of (need_of program.now plan.now proc.now) ≡ true }
-    ensures { IfOk result (λ event. IsSomeAnd (slice_get proc.now.todo 0) (λ todo. event ≡ described program.now plan.now proc.now todo answer.now)) }
+    ensures { IfOk result
+        (λ event. IsSomeAnd (slice_get proc.now.todo 0)
+        (λ todo. event ≡ described program.now plan.now proc.now todo answer.now)) }
 {
     match head(proc) {
         Some(todo) => event_at(alloc, program, plan, proc, todo, answer),

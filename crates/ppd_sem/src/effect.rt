@@ -54,8 +54,13 @@ fn stored<'a>(
     requires index { IsUse exprs.now (length cells.now) at }
     requires range { base + len < 2 ^ 16 }
     requires value { IsUse exprs.now (length cells.now) value }
-    ensures ok { IfOk result (λ r. (store : ℕ → ℤ → Deed) → ask_stored (term exprs.now at) (term exprs.now value) base len store cells.now answers.now ≡ Ok (store r.0 r.1, r.2.now)) }
-    ensures err { IfErr result (λ p. (store : ℕ → ℤ → Deed) → ask_stored (term exprs.now at) (term exprs.now value) base len store cells.now answers.now ≡ Err p) }
+    ensures ok { IfOk result
+        (λ r. (store : ℕ → ℤ → Deed)
+        → ask_stored (term exprs.now at) (term exprs.now value) base len store cells.now answers.now
+        ≡ Ok (store r.0 r.1, r.2.now)) }
+    ensures err { IfErr result
+        (λ p. (store : ℕ → ℤ → Deed)
+        → ask_stored (term exprs.now at) (term exprs.now value) base len store cells.now answers.now ≡ Err p) }
 {
     let (index, rest) = ask(exprs, at, cells, answers)?;
     let cell = element(base, len, index)?;
@@ -68,7 +73,8 @@ fn check_all(exprs: &[Expr], arguments: &[u32], cells: &[i64], answers: &[i64]) 
     requires children { EachAt AreChildrenBelow exprs.now }
     requires limit { length cells.now < 2 ^ 16 }
     requires uses { All (IsUse exprs.now (length cells.now)) arguments.now }
-    ensures { outcome (ask_all exprs.now arguments.now cells.now answers.now) ≡ given_if (given exprs.now arguments.now cells.now answers.now) result }
+    ensures { outcome (ask_all exprs.now arguments.now cells.now answers.now)
+        ≡ given_if (given exprs.now arguments.now cells.now answers.now) result }
 {
     match arguments {
         [] => Ok(()),
@@ -91,7 +97,8 @@ fn assigned(
     requires limit { length cells.now < 2 ^ 16 }
     requires target { IsTargetWithin exprs.now (length cells.now) target }
     requires value { IsUse exprs.now (length cells.now) value }
-    ensures deed { outcome (ask_deed exprs.now (Set target value) cells.now answers.now) ≡ deed_if exprs.now (Set target value) cells.now answers.now result }
+    ensures deed { outcome (ask_deed exprs.now (Set target value) cells.now answers.now)
+        ≡ deed_if exprs.now (Set target value) cells.now answers.now result }
     ensures range { IfOk result HasRange }
 {
     match target {
@@ -124,7 +131,8 @@ pub(crate) fn effect_of(
     requires children { EachAt AreChildrenBelow exprs.now }
     requires limit { length cells.now < 2 ^ 16 }
     requires uses { AreUses exprs.now (length cells.now) kind.now }
-    ensures deed { outcome (ask_deed exprs.now kind.now cells.now answers.now) ≡ deed_if exprs.now kind.now cells.now answers.now result }
+    ensures deed { outcome (ask_deed exprs.now kind.now cells.now answers.now)
+        ≡ deed_if exprs.now kind.now cells.now answers.now result }
     ensures range { IfOk result HasRange }
 {
     match kind {

@@ -27,7 +27,7 @@ pub(crate) fn value_in(answer: &Answer) -> i64
 }
 
 /// Takes the head statement off, with its answers.
-fn finish(proc: &mut Proc)
+pub(crate) fn finish(proc: &mut Proc)
     ensures { proc.new ≡ finished proc.old }
 {
     proc.todo.pop();
@@ -41,7 +41,10 @@ pub(crate) fn argument_values(program: &Program, todo: Todo, proc: &Proc) -> Res
     requires cells { length (top_cells_of proc.now.frames) < 2 ^ 16 }
     requires over { IsOver program.now (length (top_cells_of proc.now.frames)) todo.stmt }
     ensures few { IfOk result (λ values. length values < 2 ^ 16) }
-    ensures values { IfOk result (λ values. values ≡ given program.now.exprs (arguments_of (kind_of program.now todo.stmt)) (top_cells_of proc.now.frames) proc.now.answers) }
+    ensures values { IfOk result
+        (λ values. values
+        ≡ given program.now.exprs (arguments_of (kind_of program.now todo.stmt))
+        (top_cells_of proc.now.frames) proc.now.answers) }
 {
     let mut values = Nums::new(proc.frames.allocator());
     push_values(
@@ -79,7 +82,8 @@ fn invoke(
 /// Goes on with the statements in the head's place.
 fn go_on(proc: &mut Proc, stmts: &[u32]) -> Result<(), Memory>
     requires { 0 < length proc.old.todo }
-    ensures ok { OnOk result (proc.new ≡ record proc.old { todo = todos stmts.now ++ drop 1 proc.old.todo; answers = [] }) }
+    ensures ok { OnOk result
+        (proc.new ≡ record proc.old { todo = todos stmts.now ++ drop 1 proc.old.todo; answers = [] }) }
     ensures err { OnErr result (proc.new ≡ proc.old) }
 {
     put_in_place(&mut proc.todo, stmts)?;
@@ -118,7 +122,9 @@ fn do_effect(
     requires head { slice_get proc.old.todo 0 ≡ Some todo }
     requires cells { length (top_cells_of proc.old.frames) < 2 ^ 16 }
     requires over { IsOver program.now (length (top_cells_of proc.old.frames)) todo.stmt }
-    ensures ok { OnOk result (proc.new ≡ act_by_deed program.now answer.now todo (drop 1 proc.old.todo) (head_deed_of program.now todo proc.old effect) (record proc.old { answers = [] })) }
+    ensures ok { OnOk result
+        (proc.new ≡ act_by_deed program.now answer.now todo (drop 1 proc.old.todo)
+        (head_deed_of program.now todo proc.old effect) (record proc.old { answers = [] })) }
     ensures err { OnErr result (proc.new ≡ proc.old) }
 {
     match effect {
@@ -166,7 +172,9 @@ fn act_on_head(
     requires head { slice_get proc.old.todo 0 ≡ Some todo }
     requires cells { length (top_cells_of proc.old.frames) < 2 ^ 16 }
     requires over { IsOver program.now (length (top_cells_of proc.old.frames)) todo.stmt }
-    ensures ok { OnOk result (proc.new ≡ act_by_asked program.now answer.now todo (drop 1 proc.old.todo) (head_deed program.now todo proc.old) proc.old) }
+    ensures ok { OnOk result
+        (proc.new ≡ act_by_asked program.now answer.now todo (drop 1 proc.old.todo)
+        (head_deed program.now todo proc.old) proc.old) }
     ensures err { OnErr result (proc.new ≡ proc.old) }
 {
     match head_effect(program, todo, proc) {
@@ -176,7 +184,7 @@ fn act_on_head(
 }
 
 /// Counts a step and its cost.
-fn charge(plan: &Plan, need: Need, proc: &mut Proc)
+pub(crate) fn charge(plan: &Plan, need: Need, proc: &mut Proc)
     requires paid { proc.old.spent + cost_of plan.now need ≤ proc.old.budget }
     requires steps { proc.old.steps ≤ proc.old.spent }
     ensures { proc.new ≡ charged plan.now need proc.old }
@@ -200,7 +208,8 @@ fn enter(todo: Todo, proc: &mut Proc)
 /// Marks the head statement, a send, as offered, and drops its answers.
 fn offer(todo: Todo, proc: &mut Proc)
     requires { 0 < length proc.old.todo }
-    ensures { proc.new ≡ record proc.old { todo = record todo { offered = true } ∷ drop 1 proc.old.todo; answers = [] } }
+    ensures { proc.new
+        ≡ record proc.old { todo = record todo { offered = true } ∷ drop 1 proc.old.todo; answers = [] } }
 {
     proc.todo.set_top(Todo {
         offered: true,
@@ -221,7 +230,9 @@ fn step(
     requires plan { IsNumbered plan.now }
     requires proc { IsRunning program.now proc.old }
     requires head { slice_get proc.old.todo 0 ≡ Some todo }
-    ensures ok { OnOk result (proc.new ≡ act_by_need program.now plan.now answer.now todo (drop 1 proc.old.todo) (need_of program.now plan.now proc.old) proc.old) }
+    ensures ok { OnOk result
+        (proc.new ≡ act_by_need program.now plan.now answer.now todo (drop 1 proc.old.todo)
+        (need_of program.now plan.now proc.old) proc.old) }
     ensures err { OnErr result (proc.new ≡ proc.old) }
 {
     let need = look(program, plan, proc);

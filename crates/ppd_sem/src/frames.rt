@@ -34,7 +34,7 @@ pub(crate) fn clear_top(frames: &mut Stack<Frame>, base: u16, len: u16)
 }
 
 /// The cell in which a call receives its value.
-fn into_at(program: &Program, call: u32) -> Option<u16>
+pub(crate) fn into_at(program: &Program, call: u32) -> Option<u16>
     ensures { result ≡ into_of (kind_of program.now call) }
 {
     match program.stmts.as_slice().get(call as usize) {
@@ -46,7 +46,7 @@ fn into_at(program: &Program, call: u32) -> Option<u16>
     }
 }
 
-fn receive_at(frames: &mut Stack<Frame>, into: Option<u16>, value: Option<i64>)
+pub(crate) fn receive_at(frames: &mut Stack<Frame>, into: Option<u16>, value: Option<i64>)
     ensures { frames.new ≡ receive_at_of into value frames.old }
 {
     if let (Some(cell), Some(value)) = (into, value) {

@@ -2,6 +2,8 @@
 #![tactic(auto)]
 
 mod asking;
+mod at_block;
+mod blocks;
 mod cost;
 mod describing;
 mod effect;
@@ -15,12 +17,14 @@ mod looking;
 mod passing;
 mod proc;
 mod reading;
+mod skipping;
 mod stack;
 mod starting;
 mod tables;
 mod todos;
 
 pub use asking::{Pause, ask};
+pub use blocks::{block_kind, block_unit, postlog_cells, prelog_cells};
 pub use describing::describe;
 pub use effect::Effect;
 pub use event::{Access, Event, Spot};
@@ -34,6 +38,7 @@ pub use looking::look;
 pub use passing::{call_values, local_cells, next_effect, next_stmt, returned_value};
 pub use ppd_ast::{Status, SyncKind, Trap};
 pub use proc::{Answer, Frame, Need, Proc, Todo};
+pub use skipping::skip;
 pub use stack::Stack;
 pub use tables::{find_block, find_unit};
 

@@ -119,7 +119,8 @@ fn call_unit(plan: &Plan, call: Option<u32>) -> Option<u16>
 
 fn return_need(plan: &Plan, frames: &Stack<Frame>) -> Need
     requires plan { IsNumbered plan.now }
-    ensures { result ≡ Back (block_of plan.now (Function (top_body frames.now))) (call_unit_of plan.now (top_call frames.now)) }
+    ensures { result
+        ≡ Back (block_of plan.now (Function (top_body frames.now))) (call_unit_of plan.now (top_call frames.now)) }
 {
     Need::Back {
         block: find_block(plan, BlockKind::Function(body_of(frames))),
@@ -164,7 +165,8 @@ fn send_need(plan: &Plan, stmt: u32, capacity: u8, chan: u8, value: i64) -> Need
 /// What a statement needs whose values are all there.
 fn effect_need(program: &Program, plan: &Plan, todo: Todo, proc: &Proc, effect: Effect) -> Need
     requires plan { IsNumbered plan.now }
-    ensures { result ≡ need_of_deed program.now plan.now todo.stmt proc.now (head_deed_of program.now todo proc.now effect) }
+    ensures { result
+        ≡ need_of_deed program.now plan.now todo.stmt proc.now (head_deed_of program.now todo proc.now effect) }
 {
     let after = Start::After(todo.stmt);
     match effect {

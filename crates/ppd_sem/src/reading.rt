@@ -160,7 +160,8 @@ fn push_assigned(
     requires limit { length cells.now < 2 ^ 16 }
     requires target { IsTargetWithin exprs.now (length cells.now) target }
     requires value { IsUse exprs.now (length cells.now) value }
-    ensures { OnOk result (reads.new ≡ reads.old ++ reads_of_kind frame exprs.now (Set target value) cells.now answers.now) }
+    ensures { OnOk result
+        (reads.new ≡ reads.old ++ reads_of_kind frame exprs.now (Set target value) cells.now answers.now) }
 {
     match target {
         Target::Local(_) | Target::Shared(_) => {

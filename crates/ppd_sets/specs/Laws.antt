@@ -10,16 +10,24 @@ use Rattle.ppd_sets.specs.Used.{used_of, defined_of, loop_used_of, loop_defined_
 
 -- the list holds just the variables that some statement of a called body may read
 abbrev pub UsedByChains : Type 0
-UsedByChains = (p : Program) (b v : ℕ) (x : Var) → v < 65536 → slice_get p.shared v ≡ Some x → IsTrue (has (used_of p b) v) ↔ IsUsed p b x
+UsedByChains =
+    (p : Program) (b v : ℕ) (x : Var) → v < 65536 → slice_get p.shared v ≡ Some x
+    → IsTrue (has (used_of p b) v) ↔ IsUsed p b x
 
 -- and just those that some statement of a called body writes
 abbrev pub DefinedByChains : Type 0
-DefinedByChains = (p : Program) (b v : ℕ) (x : Var) → v < 65536 → slice_get p.shared v ≡ Some x → IsTrue (has (defined_of p b) v) ↔ IsDefined p b x
+DefinedByChains =
+    (p : Program) (b v : ℕ) (x : Var) → v < 65536 → slice_get p.shared v ≡ Some x
+    → IsTrue (has (defined_of p b) v) ↔ IsDefined p b x
 
 -- the list of a loop holds just the local cells that its test or a statement inside may read
 abbrev pub LoopUsedByStatements : Type 0
-LoopUsedByStatements = (p : Program) (q c : ℕ) → IsValid p → IsTrue (is_while (kind_of p q)) → IsTrue (has (loop_used_of p q) c) ↔ IsLoopUsed p q c
+LoopUsedByStatements =
+    (p : Program) (q c : ℕ) → IsValid p → IsTrue (is_while (kind_of p q))
+    → IsTrue (has (loop_used_of p q) c) ↔ IsLoopUsed p q c
 
 -- and just those that a statement inside writes
 abbrev pub LoopDefinedByStatements : Type 0
-LoopDefinedByStatements = (p : Program) (q c : ℕ) → IsValid p → IsTrue (is_while (kind_of p q)) → IsTrue (has (loop_defined_of p q) c) ↔ IsLoopDefined p q c
+LoopDefinedByStatements =
+    (p : Program) (q c : ℕ) → IsValid p → IsTrue (is_while (kind_of p q))
+    → IsTrue (has (loop_defined_of p q) c) ↔ IsLoopDefined p q c

@@ -31,7 +31,8 @@ fn push_call(ids: &mut Ids, kind: &Kind) -> Result<(), Memory>
 
 // The functions that a body's statements call.
 fn calls_in(alloc: Global, program: &Program, body: &Body) -> Result<Ids, Memory>
-    ensures { IfOk result (λ ids. ids ≡ flat_map (λ s. callee (kind_of program.now s)) (numbers_of program.now.stmts body.now)) }
+    ensures { IfOk result
+        (λ ids. ids ≡ flat_map (λ s. callee (kind_of program.now s)) (numbers_of program.now.stmts body.now)) }
 {
     let stmts = program.stmts.as_slice();
     let mut ids = Ids::new(alloc);
@@ -73,7 +74,8 @@ fn touched_in(program: &Program, body: &Body) -> Touched
 pub(crate) fn touched_by_bodies(alloc: Global, program: &Program) -> Result<Seq<Touched>, Memory>
     requires { EachAt AreChildrenBelow program.now.exprs }
     ensures long { IfOk result (λ list. length list ≡ length program.now.bodies) }
-    ensures each { IfOk result (λ list. EachAt (λ k t. HasBoth t (body_reads program.now k) (body_writes program.now k)) list) }
+    ensures each { IfOk result
+        (λ list. EachAt (λ k t. HasBoth t (body_reads program.now k) (body_writes program.now k)) list) }
 {
     let mut list = Seq::new(alloc);
     let bodies = program.bodies.as_slice();

@@ -69,8 +69,10 @@ fn vars_in(alloc: Global, program: &Program, set: &CellSet) -> Result<Cells, Mem
 pub(crate) fn body_rows(alloc: Global, program: &Program) -> Result<Rows, Memory>
     requires valid { IsValid program.now }
     requires count { length program.now.bodies < 2 ^ 32 }
-    ensures used { IfOk result (λ rows. rows.used ≡ map (used_of program.now) (range_with_len 0 (length program.now.bodies))) }
-    ensures defined { IfOk result (λ rows. rows.defined ≡ map (defined_of program.now) (range_with_len 0 (length program.now.bodies))) }
+    ensures used { IfOk result
+        (λ rows. rows.used ≡ map (used_of program.now) (range_with_len 0 (length program.now.bodies))) }
+    ensures defined { IfOk result
+        (λ rows. rows.defined ≡ map (defined_of program.now) (range_with_len 0 (length program.now.bodies))) }
 {
     let calls = calls(alloc, program)?;
     let list = touched_by_bodies(alloc, program)?;
@@ -89,8 +91,10 @@ pub(crate) fn body_rows(alloc: Global, program: &Program) -> Result<Rows, Memory
 // What a loop uses and defines.
 fn loop_cells(alloc: Global, program: &Program, stmt: u32) -> Result<Row, Memory>
     requires { EachAt AreChildrenBelow program.now.exprs }
-    ensures used { IfOk result (λ row. row.used ≡ sorted (flat_map (reads_at false program.now) (loop_stmts program.now stmt))) }
-    ensures defined { IfOk result (λ row. row.defined ≡ sorted (flat_map (writes_at false program.now) (loop_stmts program.now stmt))) }
+    ensures used { IfOk result
+        (λ row. row.used ≡ sorted (flat_map (reads_at false program.now) (loop_stmts program.now stmt))) }
+    ensures defined { IfOk result
+        (λ row. row.defined ≡ sorted (flat_map (writes_at false program.now) (loop_stmts program.now stmt))) }
 {
     let touched = loop_touched(program, stmt);
     let used = touched.reads.to_list(alloc)?;
@@ -130,8 +134,10 @@ fn is_while_at(program: &Program, stmt: u32) -> bool
 pub(crate) fn loop_rows(alloc: Global, program: &Program) -> Result<Rows, Memory>
     requires valid { IsValid program.now }
     requires count { length program.now.stmts < 2 ^ 32 }
-    ensures used { IfOk result (λ rows. rows.used ≡ map (loop_used_of program.now) (range_with_len 0 (length program.now.stmts))) }
-    ensures defined { IfOk result (λ rows. rows.defined ≡ map (loop_defined_of program.now) (range_with_len 0 (length program.now.stmts))) }
+    ensures used { IfOk result
+        (λ rows. rows.used ≡ map (loop_used_of program.now) (range_with_len 0 (length program.now.stmts))) }
+    ensures defined { IfOk result
+        (λ rows. rows.defined ≡ map (loop_defined_of program.now) (range_with_len 0 (length program.now.stmts))) }
 {
     let mut used = Seq::new(alloc);
     let mut defined = Seq::new(alloc);

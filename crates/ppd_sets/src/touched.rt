@@ -28,7 +28,8 @@ impl Touched {
     // Adds the shared cells of a statement, or the local ones.
     pub(crate) fn add(&mut self, wants_shared: bool, program: &Program, kind: &Kind)
         requires { EachAt AreChildrenBelow program.now.exprs }
-        ensures { GainsBoth self.old self.new (reads wants_shared program.now.exprs kind.now) (writes wants_shared kind.now) }
+        ensures { GainsBoth self.old self.new (reads wants_shared program.now.exprs kind.now)
+            (writes wants_shared kind.now) }
     {
         let exprs = program.exprs.as_slice();
         add_reads(&mut self.reads, wants_shared, exprs, kind);

@@ -1,4 +1,5 @@
--- The lines of a plan: its blocks with the variables of their prelogs and postlogs, and its units with those that they may read.
+-- The lines of a plan: its blocks with the variables of their prelogs and postlogs, and its units with those that
+-- they may read.
 use Rattle.std.specs.Prelude.{ℕ, List, [], ◌++◌, Option, Some, None, codes, decimal, slice_get, if◌then◌else◌}
 use Rattle.ppd_ast.specs.declared.program.Stmt.{Stmt}
 use Rattle.ppd_ast.specs.declared.program.Body.{Body}
@@ -55,7 +56,9 @@ logs_text vars b = codes " prelog" ++ cells_text vars b.prelog ++ codes " postlo
 
 -- the line of block k
 abbrev pub block_line : Program → (k : ℕ) → Block → List ℕ
-block_line p k b = codes "block " ++ decimal k ++ codes " " ++ block_what p b.kind ++ logs_text (block_locals p b.kind) b ++ codes "\n"
+block_line p k b =
+    codes "block " ++ decimal k ++ codes " " ++ block_what p b.kind ++ logs_text (block_locals p b.kind) b
+    ++ codes "\n"
 
 abbrev pub block_text : Program → (k : ℕ) → Option Block → List ℕ
 block_text p k None = []
@@ -75,7 +78,9 @@ start_text p (Exit s) = codes "exit " ++ decimal s
 
 -- the line of unit k
 abbrev pub unit_line : Program → (k : ℕ) → UnitOf → List ℕ
-unit_line p k u = codes "unit " ++ decimal k ++ codes " " ++ start_text p u.start ++ codes " reads" ++ cells_text p.shared u.cells ++ codes "\n"
+unit_line p k u =
+    codes "unit " ++ decimal k ++ codes " " ++ start_text p u.start ++ codes " reads" ++ cells_text p.shared u.cells
+    ++ codes "\n"
 
 abbrev pub unit_text : Program → (k : ℕ) → Option UnitOf → List ℕ
 unit_text p k None = []

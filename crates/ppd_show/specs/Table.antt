@@ -17,7 +17,8 @@ use Rattle.ppd_show.specs.Plans.{block_at, unit_at}
 
 -- the line of statement s
 abbrev pub stmt_line : Program → (s : ℕ) → Stmt → List ℕ
-stmt_line p s x = codes "stmt " ++ decimal s ++ codes " " ++ place_text x.place ++ codes " " ++ kind_text p x.kind ++ codes "\n"
+stmt_line p s x =
+    codes "stmt " ++ decimal s ++ codes " " ++ place_text x.place ++ codes " " ++ kind_text p x.kind ++ codes "\n"
 
 abbrev pub stmt_text : Program → (s : ℕ) → Option Stmt → List ℕ
 stmt_text p s None = []

@@ -7,4 +7,6 @@ mod met;
 mod names;
 mod plans;
 
-pub use lines::table;
+pub use lines::{put_stmt_at, table};
+pub use names::body_name;
+pub use plans::put_block_what;

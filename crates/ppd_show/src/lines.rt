@@ -26,7 +26,9 @@ fn put_stmt(text: &mut Vec<u8>, program: &Program, number: u32, stmt: &Stmt) -> 
     put(text, b"\n")
 }
 
-fn put_stmt_at(text: &mut Vec<u8>, program: &Program, number: u32) -> Result<(), Memory>
+/// Appends the line `stmt S PLACE KIND` of a statement, or nothing where there is none of this number. `Memory` is
+/// want of memory; what the text then holds is not said.
+pub fn put_stmt_at(text: &mut Vec<u8>, program: &Program, number: u32) -> Result<(), Memory>
     ensures { OnOk result (text.new.items ≡ text.old.items ++ stmt_at program.now number) }
 {
     match program.stmts.as_slice().get(number as usize) {
@@ -43,7 +45,8 @@ fn end_of(program: &Program, body: &Body) -> u32
 }
 
 fn put_stmts(text: &mut Vec<u8>, program: &Program, body: &Body) -> Result<(), Memory>
-    ensures { OnOk result (text.new.items ≡ text.old.items ++ flat_map (stmt_at program.now) (numbers_of program.now.stmts body.now)) }
+    ensures { OnOk result
+        (text.new.items ≡ text.old.items ++ flat_map (stmt_at program.now) (numbers_of program.now.stmts body.now)) }
 {
     for number in body.first..end_of(program, body) {
         put_stmt_at(text, program, number)?;
@@ -117,7 +120,10 @@ fn put_lines(
 ) -> Result<(), Memory>
     requires sets { AreSetsOf program.now sets.now }
     requires there { number < length program.now.bodies }
-    ensures { OnOk result (text.new.items ≡ text.old.items ++ (body_line program.now number body.now ++ flat_map (stmt_at program.now) (numbers_of program.now.stmts body.now))) }
+    ensures { OnOk result
+        (text.new.items ≡ text.old.items
+        ++ (body_line program.now number body.now
+        ++ flat_map (stmt_at program.now) (numbers_of program.now.stmts body.now))) }
 {
     put_body(text, program, sets, number, body)?;
     put_stmts(text, program, body)?;

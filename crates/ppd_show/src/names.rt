@@ -1,18 +1,25 @@
 // The names of a program's parts.
 ghost use Rattle.std.specs.Prelude.{◌≡◌, ◌++◌, OnOk, slice_get};
 ghost use Rattle.std.specs.List.{flat_map};
-ghost use Rattle.ppd_show.specs.Names.{body_name, sem_name as sem_name_of, chan_name as chan_name_of, var_name as var_name_of, spaced, names_text};
+ghost use Rattle.ppd_show.specs.Names.{body_name as name_of_body, sem_name as sem_name_of, chan_name as chan_name_of, var_name as var_name_of, spaced, names_text};
 
 use ppd_ast::{Memory, Program, Var};
 use ppd_text::put;
 
-pub(crate) fn function_name(program: &Program, function: u16) -> &[u8]
-    ensures { result.now ≡ body_name (slice_get program.now.bodies function) }
+/// The name of a body, empty where there is none of this number.
+pub fn body_name(program: &Program, body: usize) -> &[u8]
+    ensures { result.now ≡ name_of_body (slice_get program.now.bodies body) }
 {
-    match program.bodies.as_slice().get(function as usize) {
+    match program.bodies.as_slice().get(body) {
         Some(body) => body.name.as_slice(),
         None => &[],
     }
+}
+
+pub(crate) fn function_name(program: &Program, function: u16) -> &[u8]
+    ensures { result.now ≡ name_of_body (slice_get program.now.bodies function) }
+{
+    body_name(program, function as usize)
 }
 
 pub(crate) fn sem_name(program: &Program, sem: u8) -> &[u8]

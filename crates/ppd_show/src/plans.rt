@@ -12,7 +12,8 @@ use ppd_text::{put, put_count, put_number, put_place};
 use std::alloc::Global;
 
 fn put_body(text: &mut Vec<u8>, word: &[u8], program: &Program, body: u16) -> Result<(), Memory>
-    ensures { OnOk result (text.new.items ≡ text.old.items ++ (word.now ++ body_name (slice_get program.now.bodies body))) }
+    ensures { OnOk result
+        (text.new.items ≡ text.old.items ++ (word.now ++ body_name (slice_get program.now.bodies body))) }
 {
     put(text, word)?;
     put(text, function_name(program, body))
@@ -27,8 +28,9 @@ fn put_stmt_place(text: &mut Vec<u8>, program: &Program, stmt: u32) -> Result<()
     }
 }
 
-// Appends what a block is the code of.
-fn put_what(text: &mut Vec<u8>, program: &Program, kind: BlockKind) -> Result<(), Memory>
+/// Appends what a block is the code of: `process NAME`, `function NAME` or `loop PLACE`. `Memory` is want of memory;
+/// what the text then holds is not said.
+pub fn put_block_what(text: &mut Vec<u8>, program: &Program, kind: BlockKind) -> Result<(), Memory>
     ensures { OnOk result (text.new.items ≡ text.old.items ++ block_what program.now kind) }
 {
     match kind {
@@ -100,7 +102,7 @@ fn put_block(
     put(text, b"block ")?;
     put_count(text, number)?;
     put(text, b" ")?;
-    put_what(text, program, block.kind)?;
+    put_block_what(text, program, block.kind)?;
     put_logs(alloc, text, block_locals(program, block.kind), block)?;
     put(text, b"\n")
 }

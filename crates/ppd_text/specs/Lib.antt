@@ -1,2 +1,3 @@
--- What texts are made of.
+-- What texts are made of, and numbers in them.
+pub mod Numbers
 pub mod Texts

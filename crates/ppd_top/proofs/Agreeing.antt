@@ -1,27 +1,21 @@
--- The text of a schedule with no race is that of each schedule that agrees with it.
-use Rattle.std.proofs.Common.{◌≡◌, ℕ, List, Ok, Err, ap, ◌∙◌}
-use Rattle.std.specs.Prelude.{IfOk, Result}
+-- The output of a schedule with no race is that of each schedule that agrees with it.
+use Rattle.std.proofs.Common.{◌≡◌, ℕ, List, ap, ◌∙◌}
 use Rattle.ppd_ast.specs.declared.program.Program.{Program}
-use Rattle.ppd_check.specs.Read.{IsRead}
-use Rattle.ppd_agree.proofs.Agreeing.{agreeing_histories}
+use Rattle.ppd_agree.proofs.Agreeing.{agreeing_histories, agreeing_stories}
+use Rattle.ppd_model.specs.Logs.{close}
+use Rattle.ppd_session.specs.Known.{Known, known_of_story}
 use Rattle.ppd_top.specs.declared.options.Options.{Options}
-use Rattle.ppd_top.specs.Ran.{RanTo}
+use Rattle.ppd_top.specs.Output.{answers, before}
 use Rattle.ppd_top.specs.Summary.{summary_of}
-use Rattle.ppd_top.specs.Top.{Follows, IsOfAgreeing, plan_of, summary_of_run}
+use Rattle.ppd_top.specs.Top.{IsOfAgreeing, known_of, out_of, plan_of, summary_of_run}
 
-pub of_agreeing : (program : Program) (options : Options) (schedule text : List ℕ) → text ≡ summary_of_run program options schedule → IsOfAgreeing program options schedule text
-of_agreeing program options schedule text is = λ none h' a.
-    is ∙ ap (summary_of program) (agreeing_histories program (plan_of program options) options.budget schedule h' a none).all_ends
-
-pub follows : (bytes : List ℕ) (options : Options) (schedule text : List ℕ) (program : Program) → IsRead bytes program → RanTo program options schedule text → Follows bytes options schedule text
-follows bytes options schedule text program accepted ran = record {
-  program = program;
-  accepted = accepted;
-  whole = ran.whole;
-  is = ran.is;
-  agreeing = of_agreeing program options schedule text ran.is;
-}
-
-pub follows_ok : {T E : Type 0} (bytes : List ℕ) (options : Options) (schedule : List ℕ) (program : Program) (r : Result T E) (items : T → List ℕ) → IsRead bytes program → IfOk r (λ t. RanTo program options schedule (items t)) → IfOk r (λ t. Follows bytes options schedule (items t))
-follows_ok bytes options schedule program (Ok t) items accepted ran = follows bytes options schedule (items t) program accepted ran
-follows_ok bytes options schedule program (Err e) items accepted ran = tt
+pub of_agreeing : (program : Program) (options : Options) (schedule commands : List ℕ) → IsOfAgreeing program options schedule commands (out_of program options schedule commands)
+of_agreeing program options schedule commands = λ none h' a.
+    let one = agreeing_stories program (plan_of program options) options.budget schedule h' a none in
+    let all = agreeing_histories program (plan_of program options) options.budget schedule h' a none in
+    let known : known_of program options schedule ≡ known_of program options h' = ap (known_of_story program (plan_of program options) options.budget) one in
+    let summary : summary_of_run program options schedule ≡ summary_of_run program options h' =
+    ap (λ es. summary_of program es (known_of program options schedule).races) all.all_ends
+    ∙ ap (λ (x : Known). summary_of program (close program (plan_of program options) options.budget h').ends x.races) known in
+    ap (λ text. before text (answers (known_of program options schedule) commands)) summary
+    ∙ ap (λ (x : Known). before (summary_of_run program options h') (answers x commands)) known

@@ -7,8 +7,7 @@ use Rattle.ppd_model.specs.Logs.{close}
 use Rattle.ppd_model.specs.Schedule.{IsOver, run}
 use Rattle.ppd_world.specs.Running.{Running, IsOf}
 use Rattle.ppd_top.specs.declared.options.Options.{Options}
-use Rattle.ppd_top.specs.Ran.{RanTo}
-use Rattle.ppd_top.specs.Summary.{summary_of}
+use Rattle.ppd_top.specs.Ran.{IsClosed}
 use Rattle.ppd_top.specs.Top.{plan_of}
 
 module _ (program : Program) (options : Options) (r : Running) (is_program : r.program ≡ program) (is_plan : r.plan ≡ plan_of program options) (is_budget : r.budget ≡ options.budget) where
@@ -27,9 +26,9 @@ module _ (program : Program) (options : Options) (r : Running) (is_program : r.p
       ∙ ap (λ q. close program q r.budget h) is_plan
       ∙ ap (λ b. close program (plan_of program options) b h) is_budget
 
-  -- nobody can take a step: the schedule is whole, and the text is its summary
-  pub ran_to : (h text : List ℕ) (closed : Closed) → IsOf h r → IsOver r.program r.plan r.world → closed ≡ close r.program r.plan r.budget h → text ≡ summary_of program closed.ends → RanTo program options h text
-  ran_to h text closed is over c t = record {
+  -- nobody can take a step: the schedule is whole, and this is what it leaves
+  pub closed_to : (h : List ℕ) (closed : Closed) → IsOf h r → IsOver r.program r.plan r.world → closed ≡ close r.program r.plan r.budget h → IsClosed program options h closed
+  closed_to h closed is over c = record {
     whole = record { last = r.world; runs = runs_as h is.runs; over = over_as over };
-    is = t ∙ ap (λ (x : Closed). summary_of program x.ends) (c ∙ closed_as h);
+    is = c ∙ closed_as h;
   }

@@ -8,7 +8,7 @@ use Rattle.ppd_model.specs.World.{enabled}
 use Rattle.ppd_world.specs.Running.{Running, IsOf, IsDriven, Takes, begun, can_step}
 use Rattle.ppd_top.specs.declared.options.Options.{Options}
 use Rattle.ppd_top.specs.declared.following.FollowError.{FollowError}
-use Rattle.ppd_top.specs.Ran.{ScheduleFails, drive_error}
+use Rattle.ppd_top.specs.Ran.{StopsAt, drive_error}
 use Rattle.ppd_top.specs.Top.{plan_of, IsStuckAt, IsUnfinished}
 use Rattle.ppd_top.proofs.Comes.{runs_as}
 
@@ -51,10 +51,10 @@ module _ (program : Program) (options : Options) (w v : Running) (first : w ≡ 
     next = step_as p true e;
   }
 
-pub fails_at : (program : Program) (options : Options) (w v : Running) (schedule : List ℕ) (d : DriveError) (e : FollowError) → w ≡ begun program (plan_of program options) options.budget → IsOf [] w → IsDriven w schedule v (Err d) → e ≡ drive_error d → ScheduleFails program options schedule e
+pub fails_at : (program : Program) (options : Options) (w v : Running) (schedule : List ℕ) (d : DriveError) (e : FollowError) → w ≡ begun program (plan_of program options) options.budget → IsOf [] w → IsDriven w schedule v (Err d) → e ≡ drive_error d → StopsAt program options schedule e
 fails_at program options w v schedule (drive.NotEnabled n) e first none driven is =
-    subst (ScheduleFails program options schedule) (sym is) (stuck_at program options w v first none (take n schedule) driven.0 schedule n refl driven.1)
-fails_at program options w v schedule drive.Memory e first none driven is = subst (ScheduleFails program options schedule) (sym is) tt
+    subst (StopsAt program options schedule) (sym is) (stuck_at program options w v first none (take n schedule) driven.0 schedule n refl driven.1)
+fails_at program options w v schedule drive.Memory e first none driven is = subst (StopsAt program options schedule) (sym is) tt
 
 pub driven_ok : (w v : Running) (schedule : List ℕ) (u : _) → IsDriven w schedule v (Ok u) → Takes w schedule v
 driven_ok w v schedule u d = d

@@ -1,94 +1,234 @@
--- From what was written last to the clauses of the top call.
+-- From what a command comes to to the clauses of the top call.
 use Rattle.std.specs.Prelude.{Option, Some, None, ◌⊎◌, take}
 use Rattle.std.specs.Borrow.{Bor}
-use Rattle.std.proofs.Common.{◌≡◌, ℕ, ◌<◌, List, [], arith, inl, inr, refl, subst, sym, ◌∙◌, ap}
+use Rattle.std.proofs.Common.{◌≡◌, ℕ, List, [], ◌∷◌, arith, inl, inr, refl, subst, sym, ◌∙◌, ap}
+use Rattle.std.proofs.lemmas.Option.{none-some}
+use Rattle.ppd_io.specs.Causes.{Rose}
 use Rattle.ppd_io.specs.Content.{Loads, Appends}
 use Rattle.ppd_ast.specs.declared.program.Program.{Program}
-use Rattle.ppd_check.specs.Read.{IsRead}
+use Rattle.ppd_check.specs.declared.error.SourceError.{SourceError}
+use Rattle.ppd_check.specs.declared.error.SourceError.TheVariants as source
+use Rattle.ppd_check.specs.Read.{IsRead, IsRefused}
+use Rattle.ppd_check.proofs.Excluded.{read_or_refused}
+use Rattle.ppd_show.specs.Table.{table_of}
+use Rattle.ppd_session.specs.Texts.{failure_of}
+use Rattle.ppd_session.proofs.Answered.{run_answered}
 use Rattle.ppd_top.specs.declared.options.Options.{Options}
-use Rattle.ppd_top.specs.declared.words.Command.{Command}
-use Rattle.ppd_top.specs.declared.words.Request.{Request}
-use Rattle.ppd_top.specs.Words.{Asks}
-use Rattle.ppd_top.proofs.Agreeing.{of_agreeing}
-use Rattle.ppd_top.specs.Top.{most_bytes, summary_of_run, Answers, Writes, Finished, RanWhole, WasShown, WasRefused, WriteFailed, MemoryRanOut, IsPromised}
+use Rattle.ppd_top.specs.Output.{AreCommands, Output, Standing, output}
+use Rattle.ppd_top.specs.Ran.{DidNothing, Flows, Refuses, Shows, WasTold}
+use Rattle.ppd_top.specs.Refusals.{refused}
+use Rattle.ppd_top.specs.Top.{most_bytes, known_of, out_of, plan_of, summary_of_run, Answers, Writes, Finished, InputFailed, IsFineInput, IsPromised, MemoryRanOut, RanWhole, WasCutOff, WasRefused, WasShown, WriteFailed}
 use Rattle.ppd_top.specs.Top.Answers.{refusal, run, tables}
 use Rattle.ppd_top.specs.Top.Writes.{for_source}
-use Rattle.ppd_check.proofs.Excluded.{read_or_refused}
+use Rattle.ppd_words.specs.Reads.{texts_in}
+use Rattle.ppd_top.specs.Words.{Asks, AsksDebug, Command, IsNotAsked, Request, asked}
+use Rattle.ppd_top.specs.Words.Command.{Flow, Run, Show}
+use Rattle.ppd_top.specs.Words.Request.{on_source, on_recording}
+use Rattle.ppd_top.proofs.Agreeing.{of_agreeing}
+use Rattle.ppd_top.proofs.Conversing.{same_input}
+use Rattle.ppd_top.proofs.Statuses.{IsIn, any_in, but_six, other_than}
+use Rattle.ppd_top.proofs.Talked.{IsEnd, talks_any, talks_broken, talks_cut_off, talks_fine, talks_not_refused, talks_unwritten, talks_whole}
 
 -- the words ask for one thing at most
-same_request : (a b : Request) → Some a ≡ Some b → a ≡ b
-same_request a b e = cc
-
-one_request : (words : List (Bor (List ℕ))) (command than : Command) (name other : List ℕ) (options others : Options) (a : Asks words command name options) (b : Asks words than other others) → a.request ≡ b.request
-one_request words command than name other options others a b = same_request a.request b.request (sym a.is ∙ b.is)
+one_request : (a b : Request) (o : Option Request) → o ≡ Some a → o ≡ Some b → a ≡ b
+one_request a b o e f = let s : Some a ≡ Some b = sym e ∙ f in cc
 
 pub one_name : (words : List (Bor (List ℕ))) (command than : Command) (name other : List ℕ) (options others : Options) → Asks words command name options → Asks words than other others → name ≡ other
-one_name words command than name other options others a b = sym a.name_is ∙ (ap (λ (r : Request). r.name.now) (one_request words command than name other options others a b) ∙ b.name_is)
+one_name words command than name other options others a b =
+    let s : on_source command name options ≡ on_source than other others = one_request _ _ (asked (texts_in words)) a b in cc
+
+pub one_command : (words : List (Bor (List ℕ))) (command than : Command) (name other : List ℕ) (options others : Options) → Asks words command name options → Asks words than other others → command ≡ than
+one_command words command than name other options others a b =
+    let s : on_source command name options ≡ on_source than other others = one_request _ _ (asked (texts_in words)) a b in cc
+
+-- and not for both a source and a recording
+pub not_both : (words : List (Bor (List ℕ))) (command : Command) (name other : List ℕ) (options : Options) → Asks words command name options → AsksDebug words other → ⊥
+not_both words command name other options a b =
+    let s : on_source command name options ≡ on_recording other = one_request _ _ (asked (texts_in words)) a b in cc
+
+pub one_recording_name : (words : List (Bor (List ℕ))) (name other : List ℕ) → AsksDebug words name → AsksDebug words other → name ≡ other
+one_recording_name words name other a b =
+    let s : on_recording name ≡ on_recording other = one_request _ _ (asked (texts_in words)) a b in cc
+
+-- the recording of `run` is one
+pub one_run : (words : List (Bor (List ℕ))) (recording than : List ℕ) (name other : List ℕ) (options others : Options) → Asks words (Run recording) name options → Asks words (Run than) other others → recording ≡ than
+one_run words recording than name other options others a b =
+    let s : on_source (Run recording) name options ≡ on_source (Run than) other others = one_request _ _ (asked (texts_in words)) a b in cc
+
+-- words that ask for nothing do not ask for this
+pub ask_nothing : (words : List (Bor (List ℕ))) (command : Command) (name : List ℕ) (options : Options) → IsNotAsked words → Asks words command name options → ⊥
+ask_nothing words command name options none a = none-some (on_source command name options) (sym none ∙ a)
+
+pub debug_nothing : (words : List (Bor (List ℕ))) (name : List ℕ) → IsNotAsked words → AsksDebug words name → ⊥
+debug_nothing words name none a = none-some (on_recording name) (sym none ∙ a)
 
 -- what was loaded where the shelf tells
-loaded : (held : Option (List ℕ → Option (List ℕ))) (at : List ℕ → Option (List ℕ)) (name all bytes : List ℕ) → held ≡ Some at → at name ≡ Some all → Loads held name most_bytes bytes → bytes ≡ take most_bytes all
-loaded None at name all bytes e there l = cc
-loaded (Some f) at name all bytes e there l =
+pub loaded : (held : Option (List ℕ → Option (List ℕ))) (at : List ℕ → Option (List ℕ)) (most : ℕ) (name all bytes : List ℕ) → held ≡ Some at → at name ≡ Some all → Loads held name most bytes → bytes ≡ take most all
+loaded None at most name all bytes e there l = cc
+loaded (Some f) at most name all bytes e there l =
     let same : f ≡ at = cc in
     let found : Some l.0 ≡ Some all = sym l.1 ∙ (ap (λ (g : List ℕ → Option (List ℕ)). g name) same ∙ there) in
     let is : l.0 ≡ all = cc in
-    l.2 ∙ ap (take most_bytes) is
+    l.2 ∙ ap (take most) is
 
-module _ (words : List (Bor (List ℕ))) (held : Option (List ℕ → Option (List ℕ))) (schedule : List ℕ) (old new : Option (List ℕ)) (before now result : ℕ) where
-  pub write_failed : (status : ℕ) (text : List ℕ) → Writes words held schedule status text → status < 4 → Finished old new before now result status text → result ≡ 4 → WriteFailed words held schedule before now old new
-  write_failed status text w small (inl h) is = absurd (omega (arith, h.0))
-  write_failed status text w small (inr h) is = record { rose = h.1; status = status; text = text; writes = w; written = h.2 }
+end_not_5 : (n : ℕ) → n ≡ 5 → IsEnd n → ⊥
+end_not_5 n e (inl h) = omega arith
+end_not_5 n e (inr (inl h)) = omega arith
+end_not_5 n e (inr (inr h)) = omega arith
 
-  -- what a command on a loaded source comes to
-  abbrev Responded : List ℕ → Options → Command → Type 0
-  Responded bytes options command = ((result ≡ 5) × (new ≡ old) × (schedule ≡ []))
-      ⊎ ((status : ℕ) × (text : List ℕ) × (status < 2) × Answers bytes options command schedule status text × Finished old new before now result status text)
+-- a text that was not written whole
+pub write_failed : (words : List (Bor (List ℕ))) (held : Option (List ℕ → Option (List ℕ))) (schedule commands : List ℕ) (a b : Standing) (result status : ℕ) (text : List ℕ)
+    → AreCommands a.left b.left commands → Writes words held schedule commands (output status text) → (status ≡ 4 → ⊥) → Finished a.written b.written a.writes b.writes result status text → result ≡ 4 → WriteFailed words held schedule a b
+write_failed words held schedule commands a b result status text told w other (inl h) is = absurd (other (sym h.0 ∙ is))
+write_failed words held schedule commands a b result status text told w other (inr h) is = record { rose = h.1; commands = commands; told = told; out = output status text; writes = w; written = h.2 }
 
-  module _ (command : Command) (name : List ℕ) (options : Options) (bytes : List ℕ) (asked : Asks words command name options) (loads : Loads held name most_bytes bytes) where
-    ran : (k : Command) (h : List ℕ) (status : ℕ) (text : List ℕ) → Asks words k name options → Answers bytes options k h status text → status ≡ 0 → Appends old new text → RanWhole words held h old new ⊎ WasShown words held h old new
-    ran k h status text a (refusal _ error real cause) is w = absurd (omega (arith, is))
-    ran k h status text a (run program _ accepted whole) is w = inl (record { name = name; options = options; bytes = bytes; program = program; asked = a; loaded = loads; accepted = accepted; whole = whole; written = w; agreeing = of_agreeing program options h (summary_of_run program options h) refl })
-    ran k h status text a (tables program accepted) is w = inr (record { name = name; options = options; bytes = bytes; program = program; asked = a; loaded = loads; accepted = accepted; no_run = refl; written = w })
+-- of a run no replay fails
+pub no_failure : (program : Program) (options : Options) (schedule line : List ℕ) → failure_of (known_of program options schedule) line ≡ None
+no_failure program options schedule line = run_answered program (plan_of program options) options.budget schedule line
 
-    refused : (k : Command) (h : List ℕ) (status : ℕ) (text : List ℕ) → Asks words k name options → Answers bytes options k h status text → status ≡ 1 → Appends old new text → WasRefused words held old new
-    refused k h status text asked (refusal _ error real cause) is w = record { command = k; name = name; options = options; bytes = bytes; error = error; asked = asked; loaded = loads; fault = real; cause = cause; no_program = λ p r. absurd (real (read_or_refused bytes p error r cause)); written = w }
-    refused k h status text asked (run program _ accepted whole) is w = absurd (omega (arith, is))
-    refused k h status text asked (tables program accepted) is w = absurd (omega (arith, is))
+-- what `flow` comes to has one of these
+pub flows_in : (program : Program) (options : Options) (schedule : List ℕ) (a b : Standing) (result : ℕ) → Flows program options schedule a b result → IsIn result (0 ∷ 7 ∷ 8 ∷ 3 ∷ 4 ∷ 5 ∷ [])
+flows_in program options schedule a b result (inl h) = inr (inr (inr (inr (inr (inl h.0)))))
+flows_in program options schedule a b result (inr t) =
+    let x = known_of program options schedule in
+    let head = summary_of_run program options schedule in
+    but_six result (talks_not_refused x (no_failure program options schedule) head a b result t.talks) (any_in x head a b result (talks_any x head a b result t.talks))
 
-    pub responded_whole : Responded bytes options command → result ≡ 0 → RanWhole words held schedule old new ⊎ WasShown words held schedule old new
-    responded_whole (inl h) is = absurd (omega (arith, h.0))
-    responded_whole (inr (status, text, small, answers, inl h)) is = ran command schedule status text asked answers (sym h.0 ∙ is) h.1
-    responded_whole (inr (status, text, small, answers, inr h)) is = absurd (omega (arith, h.0))
+-- it is no refusal
+pub flow_not_early : (N : Type 0) (program : Program) (options : Options) (schedule : List ℕ) (a b : Standing) (result : ℕ) → Flows program options schedule a b result → (N → ⊥) → (result ≡ 1) ⊎ ((result ≡ 2) ⊎ N) → ⊥
+flow_not_early N program options schedule a b result f none (inl e) = other_than 1 result (0 ∷ 7 ∷ 8 ∷ 3 ∷ 4 ∷ 5 ∷ []) refl e (flows_in program options schedule a b result f)
+flow_not_early N program options schedule a b result f none (inr (inl e)) = other_than 2 result (0 ∷ 7 ∷ 8 ∷ 3 ∷ 4 ∷ 5 ∷ []) refl e (flows_in program options schedule a b result f)
+flow_not_early N program options schedule a b result f none (inr (inr n)) = none n
 
-    pub responded_refused : Responded bytes options command → result ≡ 1 → WasRefused words held old new
-    responded_refused (inl h) is = absurd (omega (arith, h.0))
-    responded_refused (inr (status, text, small, answers, inl h)) is = refused command schedule status text asked answers (sym h.0 ∙ is) h.1
-    responded_refused (inr (status, text, small, answers, inr h)) is = absurd (omega (arith, h.0))
+-- a refusal has one of these
+pub refused_any : (error : SourceError) (a b : Standing) (result : ℕ) → Refuses error a.written b.written a.writes b.writes result → IsIn result (1 ∷ 4 ∷ 5 ∷ [])
+refused_any error a b result (inl h) = inr (inr (inl h.0))
+refused_any error a b result (inr (real, inl h)) = inl h.0
+refused_any error a b result (inr (real, inr h)) = inr (inl h.0)
 
-    pub responded_failed : Responded bytes options command → result ≡ 4 → WriteFailed words held schedule before now old new
-    responded_failed (inl h) is = absurd (omega (arith, h.0))
-    responded_failed (inr (status, text, small, answers, f)) is = write_failed status text (for_source command name options bytes asked loads status text answers) (omega arith) f is
+-- a command on a loaded source
+module _ (words : List (Bor (List ℕ))) (held : Option (List ℕ → Option (List ℕ))) (name : List ℕ) (options : Options) (bytes : List ℕ) (loads : Loads held name most_bytes bytes) where
+  -- a source that is promised is accepted
+  accepted_as : (command : Command) (l m s t : List ℕ → ℕ) (a b : Standing) → Asks words command name options → (p : IsPromised words held l m s t a b) → IsRead bytes p.program
+  accepted_as command l m s t a b asked p =
+      let same = one_name words command p.command name p.name options p.options asked p.asked in
+      let P : List ℕ → Type 0 = λ n. Loads held n most_bytes bytes in
+      let is = loaded held p.at most_bytes p.name p.all bytes p.told p.there (subst P same loads) in
+      let Q : List ℕ → Type 0 = λ s. IsRead s p.program in
+      subst Q (sym is) p.accepted
 
-    pub responded_out : Responded bytes options command → result ≡ 5 → MemoryRanOut words schedule old new
-    responded_out (inl h) is = record { command = command; name = name; options = options; asked = asked; no_run = h.2; written = h.1 }
-    responded_out (inr (status, text, small, answers, inl h)) is = absurd (omega (arith, h.0))
-    responded_out (inr (status, text, small, answers, inr h)) is = absurd (omega (arith, h.0))
+  -- ---- a refused source
 
-    -- a source that is promised is accepted
-    accepted_as : (loads_before loads_now : List ℕ → ℕ) (p : IsPromised words held loads_before loads_now before now) → IsRead bytes p.program
-    accepted_as loads_before loads_now p =
-        let same = one_name words command p.command name p.name options p.options asked p.asked in
-        let P : List ℕ → Type 0 = λ n. Loads held n most_bytes bytes in
-        let is = loaded held p.at p.name p.all bytes p.told p.there (subst P same loads) in
-        let Q : List ℕ → Type 0 = λ s. IsRead s p.program in
-        subst Q (sym is) p.accepted
+  module _ (command : Command) (error : SourceError) (asked : Asks words command name options) (cause : IsRefused bytes error) (schedule : List ℕ) (no_run : schedule ≡ []) (a b : Standing) (result : ℕ) where
+    pub refused_so : Refuses error a.written b.written a.writes b.writes result → result ≡ 1 → WasRefused words held a.written b.written
+    refused_so (inl h) is = absurd (omega (arith, h.0))
+    refused_so (inr (real, inl h)) is = record { command = command; name = name; options = options; bytes = bytes; error = error; asked = asked; loaded = loads; fault = real; cause = cause; no_program = λ p r. absurd (real (read_or_refused bytes p error r cause)); written = h.1 }
+    refused_so (inr (real, inr h)) is = absurd (omega (arith, h.0))
 
-    succeeds : (k : Command) (h : List ℕ) (status : ℕ) (text : List ℕ) (program : Program) → Answers bytes options k h status text → IsRead bytes program → status ≡ 0
-    succeeds k h status text program (refusal _ error real cause) r = absurd (real (read_or_refused bytes program error r cause))
-    succeeds k h status text program (run _ _ accepted whole) r = refl
-    succeeds k h status text program (tables _ accepted) r = refl
+    pub refused_unwritten : b.left ≡ a.left → Refuses error a.written b.written a.writes b.writes result → result ≡ 4 → WriteFailed words held schedule a b
+    refused_unwritten same (inl h) is = absurd (omega (arith, h.0))
+    refused_unwritten same (inr (real, f)) is =
+        let c = same_input a.left b.left same in
+        let w : Writes words held [] c.0 (output 1 (refused error)) = for_source command name options bytes asked loads (output 1 (refused error)) (refusal command error real cause) in
+        write_failed words held schedule c.0 a b result 1 (refused error) c.1 (subst (λ h. Writes words held h c.0 (output 1 (refused error))) (sym no_run) w) (λ e. omega arith) f is
 
-    pub responded_complete : (loads_before loads_now : List ℕ → ℕ) → Responded bytes options command → IsPromised words held loads_before loads_now before now → (result ≡ 0) ⊎ (result ≡ 5)
-    responded_complete loads_before loads_now (inl h) p = inr h.0
-    responded_complete loads_before loads_now (inr (status, text, small, answers, inl h)) p = inl (h.0 ∙ succeeds command schedule status text p.program answers (accepted_as loads_before loads_now p))
-    responded_complete loads_before loads_now (inr (status, text, small, answers, inr h)) p = absurd (p.no_write_fault h.1)
+    pub refused_out : (now : Option (List ℕ → Option (List ℕ))) → now ≡ held → Refuses error a.written b.written a.writes b.writes result → result ≡ 5 → MemoryRanOut held now schedule a.written b.written
+    refused_out now kept (inl h) is = record { kept = kept; no_run = no_run; written = h.1 }
+    refused_out now kept (inr (real, inl h)) is = absurd (omega (arith, h.0))
+    refused_out now kept (inr (real, inr h)) is = absurd (omega (arith, h.0))
+
+    -- a source that is promised is not refused
+    pub refused_complete : (l m s t : List ℕ → ℕ) → Refuses error a.written b.written a.writes b.writes result → IsPromised words held l m s t a b → (result ≡ 0) ⊎ (result ≡ 5)
+    refused_complete l m s t (inl h) p = inr h.0
+    refused_complete l m s t (inr (real, f)) p =
+        absurd (real (read_or_refused bytes p.program error (accepted_as command l m s t a b asked p) cause))
+
+  -- ---- `flow`
+
+  module _ (asked : Asks words Flow name options) (program : Program) (accepted : IsRead bytes program) (schedule : List ℕ) (a b : Standing) (result : ℕ) where
+    whole_as : WasTold program options schedule a b result → IsEnd result → RanWhole words held schedule a b result
+    whole_as t e =
+        let w = talks_whole (known_of program options schedule) (summary_of_run program options schedule) a b result t.talks (inl e) in
+        record {
+          name = name;
+          options = options;
+          bytes = bytes;
+          program = program;
+          commands = w.commands;
+          asked = asked;
+          loaded = loads;
+          accepted = accepted;
+          whole = t.whole;
+          told = w.told;
+          unread = w.unread;
+          status_is = w.status_is;
+          written = w.written;
+          agreeing = of_agreeing program options schedule w.commands;
+        }
+
+    pub flow_whole : Flows program options schedule a b result → IsEnd result → RanWhole words held schedule a b result
+    flow_whole (inl h) is = absurd (end_not_5 result h.0 is)
+    flow_whole (inr t) is = whole_as t is
+
+    pub flow_broken : Flows program options schedule a b result → result ≡ 3 → InputFailed words held schedule a b
+    flow_broken (inl h) is = absurd (omega (arith, h.0))
+    flow_broken (inr t) is = record { name = name; options = options; bytes = bytes; program = program; asked = asked; loaded = loads; accepted = accepted; whole = t.whole; broken = talks_broken (known_of program options schedule) (summary_of_run program options schedule) a b result t.talks is }
+
+    pub flow_unwritten : Flows program options schedule a b result → result ≡ 4 → WriteFailed words held schedule a b
+    flow_unwritten (inl h) is = absurd (omega (arith, h.0))
+    flow_unwritten (inr t) is =
+        let u = talks_unwritten (known_of program options schedule) (summary_of_run program options schedule) a b result t.talks is in
+        record {
+          rose = u.rose;
+          commands = u.commands;
+          told = u.told;
+          out = out_of program options schedule u.commands;
+          writes = for_source Flow name options bytes asked loads (out_of program options schedule u.commands) (run program schedule accepted t.whole);
+          written = u.written;
+        }
+
+    pub flow_out : (now : Option (List ℕ → Option (List ℕ))) → now ≡ held → Flows program options schedule a b result → result ≡ 5 → MemoryRanOut held now schedule a.written b.written ⊎ WasCutOff words held schedule a b
+    flow_out now kept (inl h) is = inl (record { kept = kept; no_run = h.1.no_run; written = h.1.written })
+    flow_out now kept (inr t) is =
+        let c = talks_cut_off (known_of program options schedule) (summary_of_run program options schedule) a b result t.talks is in
+        inr (record { name = name; options = options; bytes = bytes; program = program; commands = c.commands; asked = asked; loaded = loads; accepted = accepted; whole = t.whole; told = c.told; written = c.written })
+
+    pub flow_any : Flows program options schedule a b result → IsIn result (0 ∷ 7 ∷ 8 ∷ 3 ∷ 4 ∷ 5 ∷ [])
+    flow_any f = flows_in program options schedule a b result f
+
+    pub flow_complete : (l m s t : List ℕ → ℕ) → Flows program options schedule a b result → IsPromised words held l m s t a b → (result ≡ 0) ⊎ (result ≡ 5)
+    flow_complete l m s t (inl h) p = inr h.0
+    flow_complete l m s t (inr u) p =
+        let f = p.fine (sym (one_command words Flow p.command name p.name options p.options asked p.asked)) in
+        talks_fine (known_of program options schedule) (no_failure program options schedule) (summary_of_run program options schedule) a b result f.commands f.rest u.talks f.told f.told_still f.fine f.no_read_fault p.no_write_fault
+
+  -- ---- `show`
+
+  module _ (asked : Asks words Show name options) (program : Program) (accepted : IsRead bytes program) (schedule : List ℕ) (a b : Standing) (result : ℕ) where
+    pub show_done : Shows program options schedule a b result → result ≡ 0 → WasShown words held schedule a.written b.written
+    show_done (inl h) is = absurd (omega (arith, h.0))
+    show_done (inr (none, inl h)) is = record { name = name; options = options; bytes = bytes; program = program; asked = asked; loaded = loads; accepted = accepted; no_run = none; written = h.1 }
+    show_done (inr (none, inr h)) is = absurd (omega (arith, h.0))
+
+    pub show_unwritten : b.left ≡ a.left → Shows program options schedule a b result → result ≡ 4 → WriteFailed words held schedule a b
+    show_unwritten same (inl h) is = absurd (omega (arith, h.0))
+    show_unwritten same (inr (none, f)) is =
+        let c = same_input a.left b.left same in
+        let text = table_of program (plan_of program options) in
+        let w : Writes words held [] c.0 (output 0 text) = for_source Show name options bytes asked loads (output 0 text) (tables program accepted) in
+        write_failed words held schedule c.0 a b result 0 text c.1 (subst (λ h. Writes words held h c.0 (output 0 text)) (sym none) w) (λ e. omega arith) f is
+
+    pub show_out : (now : Option (List ℕ → Option (List ℕ))) → now ≡ held → Shows program options schedule a b result → result ≡ 5 → MemoryRanOut held now schedule a.written b.written
+    show_out now kept (inl h) is = record { kept = kept; no_run = h.1.no_run; written = h.1.written }
+    show_out now kept (inr (none, inl h)) is = absurd (omega (arith, h.0))
+    show_out now kept (inr (none, inr h)) is = absurd (omega (arith, h.0))
+
+    pub show_any : Shows program options schedule a b result → IsIn result (0 ∷ 4 ∷ 5 ∷ [])
+    show_any (inl h) = inr (inr (inl h.0))
+    show_any (inr (none, inl h)) = inl h.0
+    show_any (inr (none, inr h)) = inr (inl h.0)
+
+    pub show_complete : (l m s t : List ℕ → ℕ) → Shows program options schedule a b result → IsPromised words held l m s t a b → (result ≡ 0) ⊎ (result ≡ 5)
+    show_complete l m s t (inl h) p = inr h.0
+    show_complete l m s t (inr (none, inl h)) p = inl h.0
+    show_complete l m s t (inr (none, inr h)) p = absurd (p.no_write_fault h.1)

@@ -1,6 +1,10 @@
--- What the words ask for, and what is written for a source and its run.
+-- What the words ask for, and what is written for a source, its run and the commands.
+pub mod Asking
+pub mod Kept
+pub mod Output
 pub mod Ran
 pub mod Refusals
+pub mod Runs
 pub mod Summary
 pub mod Top
 pub mod Words

@@ -1,34 +1,191 @@
 -- What a program's run comes to, by the schedule that was taken or by one that is handed in.
-use Rattle.std.specs.Prelude.{◌≡◌, ℕ, List, []}
+use Rattle.std.specs.Prelude.{◌≡◌, ◌≢◌, ◌⊎◌, ℕ, List, [], Option}
+use Rattle.std.specs.Borrow.{Bor}
 use Rattle.ppd_ast.specs.declared.program.Program.{Program}
+use Rattle.ppd_check.specs.Read.{IsRead, IsRefused}
+use Rattle.ppd_io.specs.Causes.{Rose}
+use Rattle.ppd_io.specs.Content.{Loads, StoreFails, Stores}
+use Rattle.ppd_io.specs.declared.shelf.ShelfError.{ShelfError}
+use Rattle.ppd_io.specs.declared.shelf.ShelfError.TheVariants as shelf
+use Rattle.ppd_check.specs.declared.error.SourceError.{SourceError}
+use Rattle.ppd_check.specs.declared.error.SourceError.TheVariants as source
 use Rattle.ppd_model.specs.declared.trace.DriveError.{DriveError}
 use Rattle.ppd_model.specs.declared.trace.DriveError.TheVariants as drive
+use Rattle.ppd_model.specs.declared.closed.Closed.{Closed}
+use Rattle.ppd_model.specs.Logs.{close}
 use Rattle.ppd_show.specs.Table.{table_of}
 use Rattle.ppd_top.specs.declared.options.Options.{Options}
-use Rattle.ppd_top.specs.declared.words.Command.{Command}
-use Rattle.ppd_top.specs.declared.words.Command.TheVariants.{Flow, Show}
 use Rattle.ppd_top.specs.declared.following.FollowError.{FollowError}
 use Rattle.ppd_top.specs.declared.following.FollowError.TheVariants.{Refused, NotEnabled, NotWhole, LongLine, ManyLines, Memory}
-use Rattle.ppd_top.specs.Top.{plan_of, IsWholeRun, summary_of_run, IsStuckAt, IsUnfinished}
+use Rattle.ppd_top.specs.Output.{Output, Standing, Talks, output}
+use Rattle.ppd_top.specs.Refusals.{refused}
+use Rattle.ppd_top.specs.Top.{EndsWith, Finished, IsStuckAt, IsUnfinished, IsWholeRun, known_of, most_bytes, out_of, plan_of, summary_of_run, usage, most_recording, IsRecordingOfRun}
+use Rattle.ppd_top.specs.Words.{Asks, AsksDebug, Command, IsNotAsked}
+use Rattle.ppd_top.specs.Words.Command.{Flow, Run, Show}
+use Rattle.ppd_codec.specs.declared.recording.Recording.{Recording}
+use Rattle.ppd_stored.specs.Recordings.{IsAccepted, IsRefusedBy, known_of as known_of_recording}
 
--- a whole schedule with its summary
-pub record RanTo (program : Program) (options : Options) (schedule text : List ℕ) : Type 0 where
+-- ---- a command
+
+-- nothing came to its end, and nothing was read or written
+pub record DidNothing (schedule : List ℕ) (a b : Standing) : Type 0 where
+  pub no_run : schedule ≡ []
+  pub written : b.written ≡ a.written
+
+-- a whole schedule was told
+pub record WasTold (program : Program) (options : Options) (schedule : List ℕ) (a b : Standing) (status : ℕ) : Type 0 where
   pub whole : IsWholeRun program options schedule
-  pub is : text ≡ summary_of_run program options schedule
+  pub talks : Talks (known_of program options schedule) (summary_of_run program options schedule) a b status
 
--- what a command gives for a program: the schedule of its run, if it runs, and the text
-abbrev pub Gives : Command → Program → Options → (schedule text : List ℕ) → Type 0
-Gives Flow program options schedule text = RanTo program options schedule text
-Gives Show program options schedule text = (schedule ≡ []) × (text ≡ table_of program (plan_of program options))
+-- what `flow` comes to for a program: want of memory before there was anything to write, or what it writes
+abbrev pub Flows : Program → Options → (schedule : List ℕ) → (a b : Standing) → (status : ℕ) → Type 0
+Flows program options schedule a b status =
+    ((status ≡ 5) × DidNothing schedule a b) ⊎ WasTold program options schedule a b status
+
+-- the same of `show`
+abbrev pub Shows : Program → Options → (schedule : List ℕ) → (a b : Standing) → (status : ℕ) → Type 0
+Shows program options schedule a b status =
+    ((status ≡ 5) × DidNothing schedule a b)
+    ⊎ ((schedule ≡ []) × Finished a.written b.written a.writes b.writes status 0 (table_of program (plan_of program options)))
+
+-- how a shelf and an output stand: what they are told to hold, and their counts of stores and writes that failed
+pub record Keeping : Type 0 where
+  pub held : Option (List ℕ → Option (List ℕ))
+  pub stores : List ℕ → ℕ
+  pub written : Option (List ℕ)
+  pub writes : ℕ
+
+abbrev pub keeping : Option (List ℕ → Option (List ℕ)) → (List ℕ → ℕ) → Option (List ℕ) → ℕ → Keeping
+keeping held stores written writes = record { held = held; stores = stores; written = written; writes = writes }
+
+-- a recording was to be stored under a name, and then a summary written: memory ran out, or the store failed, and
+-- nothing was written; or the recording was stored
+pub data Keeps (IsRecording : List ℕ → Type 0) (name summary : List ℕ) (x y : Keeping) (status : ℕ) : Type 0 where
+  not_kept : status ≡ 5 → StoreFails x.held y.held name → y.written ≡ x.written → Keeps IsRecording name summary x y status
+  store_failed : status ≡ 4 → Rose (x.stores name) (y.stores name) → StoreFails x.held y.held name → y.written ≡ x.written → Keeps IsRecording name summary x y status
+  kept : (bytes : List ℕ) → IsRecording bytes → Stores x.held y.held name bytes → StoreFails x.held y.held name
+      → Finished x.written y.written x.writes y.writes status 0 summary → Keeps IsRecording name summary x y status
+
+-- a whole schedule was recorded
+pub record WasRecorded (source : List ℕ) (program : Program) (options : Options) (name schedule : List ℕ) (x y : Keeping) (status : ℕ) : Type 0 where
+  pub whole : IsWholeRun program options schedule
+  pub keeps : Keeps (IsRecordingOfRun source program options schedule) name (summary_of_run program options schedule) x y status
+
+-- nothing came to its end, and nothing was stored or written
+pub record KeptNothing (schedule : List ℕ) (x y : Keeping) : Type 0 where
+  pub no_run : schedule ≡ []
+  pub held : y.held ≡ x.held
+  pub stores : (n : List ℕ) → y.stores n ≡ x.stores n
+  pub written : y.written ≡ x.written
+
+-- what `run` comes to for a program
+abbrev pub Records : (source : List ℕ) → Program → Options → (name schedule : List ℕ) → (x y : Keeping) → (status : ℕ) → Type 0
+Records source program options name schedule x y status =
+    ((status ≡ 5) × KeptNothing schedule x y) ⊎ WasRecorded source program options name schedule x y status
+
+-- what `debug` comes to for the bytes of a recording: want of memory, a refusal, or answers
+pub data Debugs (bytes : List ℕ) (a b : Standing) (status : ℕ) : Type 0 where
+  no_recall : status ≡ 5 → b.written ≡ a.written → Debugs bytes a b status
+  recording_refused : (line : List ℕ) → IsRefusedBy bytes line → b.left ≡ a.left → Finished a.written b.written a.writes b.writes status 6 line → Debugs bytes a b status
+  recalled : (r : Recording) → IsAccepted bytes r → Talks (known_of_recording r) [] a b status → Debugs bytes a b status
+
+-- the status of a load that was not done
+abbrev pub IsUnloaded : ShelfError → ℕ → Type 0
+IsUnloaded shelf.Failed status = status ≡ 3
+IsUnloaded shelf.Memory status = status ≡ 5
+
+-- why a source is refused was written, or memory ran out before
+abbrev pub Refuses : SourceError → Option (List ℕ) → Option (List ℕ) → ℕ → ℕ → ℕ → Type 0
+Refuses error old new before now status =
+    ((status ≡ 5) × (new ≡ old)) ⊎ ((error ≢ source.Memory) × Finished old new before now status 1 (refused error))
+
+-- ---- the top call
+
+-- how the devices stand: what the shelf is told to hold, its counts of loads and of stores that failed, and input and
+-- output
+pub record Around : Type 0 where
+  pub held : Option (List ℕ → Option (List ℕ))
+  pub loads : List ℕ → ℕ
+  pub stores : List ℕ → ℕ
+  pub io : Standing
+
+abbrev pub around : Option (List ℕ → Option (List ℕ)) → (loads stores : List ℕ → ℕ) → Standing → Around
+around held loads stores io = record { held = held; loads = loads; stores = stores; io = io }
+
+-- shelf and output of them
+abbrev pub kept_in : Around → Keeping
+kept_in x = keeping x.held x.stores x.io.written x.io.writes
+
+-- nothing was stored
+pub record LeftShelf (x y : Around) : Type 0 where
+  pub held : y.held ≡ x.held
+  pub stores : (n : List ℕ) → y.stores n ≡ x.stores n
+
+-- what a call comes to, by how far it came: to words that ask for nothing, to want of memory, to a load that failed, to
+-- a refused source, to a program, or to a recording
+pub data Comes (words : List (Bor (List ℕ))) (x y : Around) (schedule : List ℕ) (status : ℕ) : Type 0 where
+  not_asked : IsNotAsked words → LeftShelf x y → schedule ≡ [] → y.io.left ≡ x.io.left
+      → Finished x.io.written y.io.written x.io.writes y.io.writes status 2 usage → Comes words x y schedule status
+  no_memory : status ≡ 5 → LeftShelf x y → DidNothing schedule x.io y.io → Comes words x y schedule status
+  not_loaded : (command : Command) (name : List ℕ) (options : Options) → Asks words command name options → LeftShelf x y
+      → status ≡ 3 → Rose (x.loads name) (y.loads name) → DidNothing schedule x.io y.io → Comes words x y schedule status
+  refusal : (command : Command) (name : List ℕ) (options : Options) (bytes : List ℕ) (error : SourceError)
+      → Asks words command name options → Loads x.held name most_bytes bytes → IsRefused bytes error → LeftShelf x y
+      → schedule ≡ [] → y.io.left ≡ x.io.left → Refuses error x.io.written y.io.written x.io.writes y.io.writes status
+      → Comes words x y schedule status
+  flow_done : (name : List ℕ) (options : Options) (bytes : List ℕ) (program : Program)
+      → Asks words Flow name options → Loads x.held name most_bytes bytes → IsRead bytes program → LeftShelf x y
+      → Flows program options schedule x.io y.io status → Comes words x y schedule status
+  show_done : (name : List ℕ) (options : Options) (bytes : List ℕ) (program : Program)
+      → Asks words Show name options → Loads x.held name most_bytes bytes → IsRead bytes program → LeftShelf x y
+      → y.io.left ≡ x.io.left → Shows program options schedule x.io y.io status → Comes words x y schedule status
+  run_done : (name recording : List ℕ) (options : Options) (bytes : List ℕ) (program : Program)
+      → Asks words (Run recording) name options → Loads x.held name most_bytes bytes → IsRead bytes program
+      → y.io.left ≡ x.io.left → Records bytes program options recording schedule (kept_in x) (kept_in y) status
+      → Comes words x y schedule status
+  recording_not_loaded : (name : List ℕ) → AsksDebug words name → LeftShelf x y → status ≡ 3
+      → Rose (x.loads name) (y.loads name) → DidNothing schedule x.io y.io → Comes words x y schedule status
+  debug_done : (name bytes : List ℕ) → AsksDebug words name → Loads x.held name most_recording bytes → LeftShelf x y
+      → schedule ≡ [] → Debugs bytes x.io y.io status → Comes words x y schedule status
+
+-- ---- a schedule that is handed in
+
+-- the text of a whole schedule and of these commands
+pub record RanTo (program : Program) (options : Options) (commands schedule text : List ℕ) : Type 0 where
+  pub whole : IsWholeRun program options schedule
+  pub is : out_of program options schedule commands ≡ output 0 text
+
+-- a whole schedule, and what it leaves
+pub record IsClosed (program : Program) (options : Options) (schedule : List ℕ) (closed : Closed) : Type 0 where
+  pub whole : IsWholeRun program options schedule
+  pub is : closed ≡ close program (plan_of program options) options.budget schedule
+
+-- why a schedule cannot be taken to a whole run
+abbrev pub StopsAt : Program → Options → List ℕ → FollowError → Type 0
+StopsAt program options schedule (Refused error) = ⊥
+StopsAt program options schedule (NotEnabled n) = IsStuckAt program options schedule n
+StopsAt program options schedule NotWhole = IsUnfinished program options schedule
+StopsAt program options schedule LongLine = ⊥
+StopsAt program options schedule ManyLines = ⊥
+StopsAt program options schedule Memory = Unit {0}
+
+-- why answers that end with this status are no text
+abbrev pub FailsBy : ℕ → FollowError → Type 0
+FailsBy status (Refused error) = ⊥
+FailsBy status (NotEnabled n) = ⊥
+FailsBy status NotWhole = ⊥
+FailsBy status LongLine = status ≡ 7
+FailsBy status ManyLines = status ≡ 8
+FailsBy status Memory = Unit {0}
 
 -- why the schedule gives a program no text
-abbrev pub ScheduleFails : Program → Options → List ℕ → FollowError → Type 0
-ScheduleFails program options schedule (Refused error) = ⊥
-ScheduleFails program options schedule (NotEnabled n) = IsStuckAt program options schedule n
-ScheduleFails program options schedule NotWhole = IsUnfinished program options schedule
-ScheduleFails program options schedule LongLine = ⊥
-ScheduleFails program options schedule ManyLines = ⊥
-ScheduleFails program options schedule Memory = Unit {0}
+abbrev pub ScheduleFails : Program → Options → (commands schedule : List ℕ) → FollowError → Type 0
+ScheduleFails program options commands schedule (Refused error) = ⊥
+ScheduleFails program options commands schedule (NotEnabled n) = IsStuckAt program options schedule n
+ScheduleFails program options commands schedule NotWhole = IsUnfinished program options schedule
+ScheduleFails program options commands schedule LongLine = EndsWith program options commands schedule 7
+ScheduleFails program options commands schedule ManyLines = EndsWith program options commands schedule 8
+ScheduleFails program options commands schedule Memory = Unit {0}
 
 -- why a schedule was not taken
 abbrev pub drive_error : DriveError → FollowError

@@ -1,5 +1,5 @@
--- What is written of a run: how each process ended and what it printed, and of one process alone the races.
-use Rattle.std.specs.Prelude.{ℕ, ◌+◌, nat_eq, ℤ, List, [], ◌∷◌, ◌++◌, length, Option, Some, None, codes, decimal, slice_get, if◌then◌else◌}
+-- What is written of a run: how each process ended and what it printed, and the races.
+use Rattle.std.specs.Prelude.{ℕ, ◌+◌, ℤ, List, [], ◌∷◌, ◌++◌, Option, Some, None, codes, decimal, slice_get}
 use Rattle.std.specs.Fmt.{signed_decimal}
 use Rattle.ppd_ast.specs.declared.program.Place.{Place}
 use Rattle.ppd_ast.specs.declared.program.Stmt.{Stmt}
@@ -12,7 +12,10 @@ use Rattle.ppd_ast.specs.declared.status.Trap.{Trap}
 use Rattle.ppd_ast.specs.declared.status.Trap.TheVariants as trap
 use Rattle.ppd_model.specs.declared.closed.ProcEnd.{ProcEnd}
 use Rattle.ppd_text.specs.Texts.{place_text}
+use Rattle.ppd_model.specs.declared.graph.Race.{Race}
 use Rattle.ppd_model.specs.Logs.{close}
+use Rattle.ppd_model.specs.Races.{races}
+use Rattle.ppd_session.specs.Texts.{races_text}
 
 abbrev pub trap_word : Trap → List ℕ
 trap_word trap.Overflow = codes "overflow"
@@ -53,13 +56,10 @@ abbrev pub end_texts : Program → ℕ → List ProcEnd → List ℕ
 end_texts program b [] = []
 end_texts program b (e ∷ es) = end_text program (name_of (slice_get program.bodies b)) e ++ end_texts program (b + 1) es
 
--- a race is between two processes, so one alone has none
-abbrev pub race_text : List ProcEnd → List ℕ
-race_text ends = if nat_eq (length ends) 1 then codes "races 0\n" else []
-
-abbrev pub summary_of : Program → List ProcEnd → List ℕ
-summary_of program ends = end_texts program program.functions ends ++ race_text ends
+-- how the processes ended, then the race list
+abbrev pub summary_of : Program → List ProcEnd → List Race → List ℕ
+summary_of program ends races = end_texts program program.functions ends ++ races_text program races
 
 -- the summary of a whole schedule
 abbrev pub summary : Program → Plan → ℕ → List ℕ → List ℕ
-summary program plan budget h = summary_of program (close program plan budget h).ends
+summary program plan budget h = summary_of program (close program plan budget h).ends (races program plan budget h)

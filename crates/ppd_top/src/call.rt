@@ -1,19 +1,24 @@
 // The top call.
-ghost use Rattle.std.specs.Prelude.{◌≡◌, ◌<◌, ◌≤◌, ◌⊎◌, ℕ, List, [], true, IfNone, IfSome};
-ghost use Rattle.ppd_ast.specs.ValidPlan.{IsValidPolicy};
-ghost use Rattle.ppd_ast.specs.declared.limits.TheConstants.{MOST_BUDGET};
-ghost use Rattle.ppd_io.specs.Causes.{Rose};
-ghost use Rattle.ppd_io.specs.Content.{Appends};
+ghost use Rattle.std.specs.Prelude.{◌≡◌, ◌<◌, ◌≤◌, ◌⊎◌, ℕ, List, []};
+ghost use Rattle.std.specs.Borrow.{Bor};
+ghost use Rattle.ppd_io.specs.Content.{StoreFails};
 ghost use Rattle.ppd_top.specs.declared.options.Options.{Options as OptionsOf};
-ghost use Rattle.ppd_top.specs.declared.words.Command.{Command as CommandOf};
-ghost use Rattle.ppd_top.specs.Top.{Answers, Finished, RanWhole, WasShown, WasRefused, WasNotAsked, ReadFailed, WriteFailed, MemoryRanOut, IsPromised};
-ghost use Rattle.ppd_top.specs.Words.{Asks};
+ghost use Rattle.ppd_top.specs.Output.{standing};
+ghost use Rattle.ppd_top.specs.Ran.{Comes, IsUnloaded, Refuses, around};
+ghost use Rattle.ppd_top.specs.Top.{AnswersCutOff, InputFailed, IsPromised, IsPromisedAnswers, LinesFailed, LoadFailed, MemoryRanOut, RanWhole, RecordingUnread, ReplayRefused, StoreFailed, WasAnswered, WasCutOff, WasNotAsked, WasNotRecalled, WasNotStored, WasRefused, WasShown, WasStored, WriteFailed};
+ghost use Rattle.ppd_top.specs.Words.{AreInRange, Asks, AsksDebug, command_of};
+ghost use Rattle.ppd_top.specs.Words.Command.{Flow, Run};
 
-use crate::answer::answer_source;
-use crate::words::{Request, asked};
-use ppd_ast::limits::MOST_SOURCE_BYTES;
-use ppd_ast::{Bytes, Seq};
-use ppd_io::{Gate, Shelf, ShelfError, Sink, Source, put_all};
+use crate::asking::finish;
+use crate::debugging::debug;
+use crate::flow::{Task, flow, show};
+use crate::refusal::refusal_line;
+use crate::storing::{RecordTask, record_run};
+use crate::words::{Command, Request, SourceRequest, asked};
+use ppd_ast::limits::{MOST_RECORDING_BYTES, MOST_SOURCE_BYTES};
+use ppd_ast::{Bytes, Memory, Seq};
+use ppd_check::{SourceError, read_source};
+use ppd_io::{Gate, Shelf, ShelfError, Sink, Source};
 use std::alloc::Global;
 use std::sync::Wait;
 use std::thread::Threads;
@@ -31,22 +36,35 @@ const USAGE: &[u8] = b"usage: ppd flow|run|debug|show|drill\n";
 /// One byte more than the longest source, so that a longer one is seen.
 const MOST_BYTES: usize = MOST_SOURCE_BYTES + 1;
 
-/// Does all that the program does. The words are those after the program's name: `flow` or `show`, its
-/// options in any order, each at most once, and the name of a source. The options of `flow` are
-/// `--budget N`, `--leaf N` and `--loops N`, each also as `--budget=N`; `show` has the last two.
+/// The same of recordings.
+const MOST_RECORDING: usize = MOST_RECORDING_BYTES + 1;
+
+/// Does all that the program does. The words are those after the program's name: a command, its options in any order,
+/// each at most once, and its names. The options of `flow` and `run` are `--budget N`, `--leaf N` and `--loops N`, each
+/// also as `--budget=N`; `show` has the last two, and `debug` none.
 ///
-/// In `flow` each process has a thread, which passes the gate before each of its turns. The schedule is the
-/// one that the threads took.
+/// In `flow` and `run` each process has a thread, which passes the gate before each of its turns. The schedule is the
+/// one that the threads took. Then `run` stores the recording of the run and writes the summary; `flow` writes the
+/// summary, and then answers the lines of the input, each before the next is read, through the first `quit` or else to
+/// the end. `debug` tests the bytes of a recording, then its logs, then their synchronization, and answers the lines.
 ///
-/// - 0: in `flow` the source's program ran to its end, and its summary was written; in `show` the tables of
-///   the source's program were written.
+/// - 0: in `flow` the source's program ran to its end, and its summary and all answers were written; in `run` its
+///   recording was stored and its summary written; in `show` the tables of the source's program were written; in `debug`
+///   all answers.
 /// - 1: the source has no program, and the line that says why was written.
 /// - 2: the words are others, and the usage line was written.
-/// - 3: the shelf failed to load the source, and nothing was written.
-/// - 4: the output failed, and a proper prefix of what belongs there was written.
-/// - 5: want of memory, and nothing was written.
+/// - 3: the shelf failed to load the source or the recording, and nothing was written; or in `flow` and `debug` a read of
+///   the input failed, and in `flow` the summary, in both the answers to the whole lines before were written.
+/// - 4: the output failed, and a proper prefix of what belongs there was written; or in `run` the store failed.
+/// - 5: want of memory, and a prefix of what belongs there was written; nothing where no run came to its end. It may
+///   come whatever the words are.
+/// - 6: in `debug` the recording is refused, and the line that says why was written; or a replay failed that the answer
+///   to a line needs, and the answers before it and the line that says so were written.
+/// - 7: in `flow` or `debug` a line has more than 4,096 bytes, and `long line` was written in place of its answer.
+/// - 8: in `flow` or `debug` there is a line number 65,537 and no `quit` before it, and `many lines` was written.
 ///
-/// The input is not read, and in `show` the gate is not called.
+/// In `run` and `show` the input is not read; in `show` and `debug` the gate is not called. But for a store of `run` the
+/// shelf holds what it held.
 pub fn ppd<F: Shelf, I: Source, O: Sink, G: Gate, R: Threads + Wait + Sync>(
     rt: &R,
     alloc: Global,
@@ -56,34 +74,186 @@ pub fn ppd<F: Shelf, I: Source, O: Sink, G: Gate, R: Threads + Wait + Sync>(
     output: &mut O,
     gate: &G,
 ) -> Outcome
-    ensures range { result.status < 6 }
-    ensures run { result.status ≡ 0 → RanWhole words.now (F.held shelf.old) result.schedule (O.written output.old) (O.written output.new) ⊎ WasShown words.now (F.held shelf.old) result.schedule (O.written output.old) (O.written output.new) }
+    ensures range { result.status < 9 }
+    ensures run { result.status ≡ 0 → RanWhole words.now (F.held shelf.old) result.schedule
+        (standing (I.left input.old) (I.faults input.old) (O.written output.old) (O.faults output.old))
+        (standing (I.left input.new) (I.faults input.new) (O.written output.new) (O.faults output.new)) 0
+        ⊎ (WasShown words.now (F.held shelf.old) result.schedule (O.written output.old) (O.written output.new)
+        ⊎ (WasStored words.now (F.held shelf.old) (F.held shelf.new) result.schedule (O.written output.old) (O.written output.new)
+        ⊎ WasAnswered words.now (F.held shelf.old) result.schedule
+        (standing (I.left input.old) (I.faults input.old) (O.written output.old) (O.faults output.old))
+        (standing (I.left input.new) (I.faults input.new) (O.written output.new) (O.faults output.new)) 0)) }
+    ensures lines { (result.status ≡ 7) ⊎ (result.status ≡ 8) → RanWhole words.now (F.held shelf.old) result.schedule
+        (standing (I.left input.old) (I.faults input.old) (O.written output.old) (O.faults output.old))
+        (standing (I.left input.new) (I.faults input.new) (O.written output.new) (O.faults output.new)) result.status
+        ⊎ WasAnswered words.now (F.held shelf.old) result.schedule
+        (standing (I.left input.old) (I.faults input.old) (O.written output.old) (O.faults output.old))
+        (standing (I.left input.new) (I.faults input.new) (O.written output.new) (O.faults output.new)) result.status }
     ensures refused { result.status ≡ 1 → WasRefused words.now (F.held shelf.old) (O.written output.old) (O.written output.new) }
     ensures usage { result.status ≡ 2 → WasNotAsked words.now (O.written output.old) (O.written output.new) }
-    ensures read { result.status ≡ 3 → ReadFailed words.now (F.failed_loads shelf.old) (F.failed_loads shelf.new) (O.written output.old) (O.written output.new) }
-    ensures write { result.status ≡ 4 → WriteFailed words.now (F.held shelf.old) result.schedule (O.faults output.old) (O.faults output.new) (O.written output.old) (O.written output.new) }
-    ensures memory { result.status ≡ 5 → MemoryRanOut words.now result.schedule (O.written output.old) (O.written output.new) }
-    ensures complete { IsPromised words.now (F.held shelf.old) (F.failed_loads shelf.old) (F.failed_loads shelf.new) (O.faults output.old) (O.faults output.new) → (result.status ≡ 0) ⊎ (result.status ≡ 5) }
-    ensures no_run { (result.status ≡ 1) ⊎ (result.status ≡ 2) ⊎ (result.status ≡ 3) → result.schedule ≡ [] }
-    ensures shelf { F.held shelf.new ≡ F.held shelf.old }
-    ensures stores { (n : List ℕ) → F.failed_stores shelf.new n ≡ F.failed_stores shelf.old n }
-    ensures input { input.new ≡ input.old }
+    ensures read { result.status ≡ 3
+        → LoadFailed words.now (F.failed_loads shelf.old) (F.failed_loads shelf.new) result.schedule (O.written output.old) (O.written output.new)
+        ⊎ (InputFailed words.now (F.held shelf.old) result.schedule
+        (standing (I.left input.old) (I.faults input.old) (O.written output.old) (O.faults output.old))
+        (standing (I.left input.new) (I.faults input.new) (O.written output.new) (O.faults output.new))
+        ⊎ (RecordingUnread words.now (F.failed_loads shelf.old) (F.failed_loads shelf.new) result.schedule (O.written output.old) (O.written output.new)
+        ⊎ LinesFailed words.now (F.held shelf.old) result.schedule
+        (standing (I.left input.old) (I.faults input.old) (O.written output.old) (O.faults output.old))
+        (standing (I.left input.new) (I.faults input.new) (O.written output.new) (O.faults output.new)))) }
+    ensures write { result.status ≡ 4 → WriteFailed words.now (F.held shelf.old) result.schedule
+        (standing (I.left input.old) (I.faults input.old) (O.written output.old) (O.faults output.old))
+        (standing (I.left input.new) (I.faults input.new) (O.written output.new) (O.faults output.new))
+        ⊎ StoreFailed words.now (F.held shelf.old) (F.held shelf.new) (F.failed_stores shelf.old) (F.failed_stores shelf.new) result.schedule (O.written output.old) (O.written output.new) }
+    ensures memory { result.status ≡ 5
+        → MemoryRanOut (F.held shelf.old) (F.held shelf.new) result.schedule (O.written output.old) (O.written output.new)
+        ⊎ (WasCutOff words.now (F.held shelf.old) result.schedule
+        (standing (I.left input.old) (I.faults input.old) (O.written output.old) (O.faults output.old))
+        (standing (I.left input.new) (I.faults input.new) (O.written output.new) (O.faults output.new))
+        ⊎ (WasNotStored words.now (F.held shelf.old) (F.held shelf.new) result.schedule (O.written output.old) (O.written output.new)
+        ⊎ AnswersCutOff words.now (F.held shelf.old) result.schedule
+        (standing (I.left input.old) (I.faults input.old) (O.written output.old) (O.faults output.old))
+        (standing (I.left input.new) (I.faults input.new) (O.written output.new) (O.faults output.new)))) }
+    ensures recording { result.status ≡ 6 → WasNotRecalled words.now (F.held shelf.old) result.schedule
+        (standing (I.left input.old) (I.faults input.old) (O.written output.old) (O.faults output.old))
+        (standing (I.left input.new) (I.faults input.new) (O.written output.new) (O.faults output.new))
+        ⊎ ReplayRefused words.now (F.held shelf.old) result.schedule
+        (standing (I.left input.old) (I.faults input.old) (O.written output.old) (O.faults output.old))
+        (standing (I.left input.new) (I.faults input.new) (O.written output.new) (O.faults output.new)) }
+    ensures complete { IsPromised words.now (F.held shelf.old) (F.failed_loads shelf.old) (F.failed_loads shelf.new)
+        (F.failed_stores shelf.old) (F.failed_stores shelf.new)
+        (standing (I.left input.old) (I.faults input.old) (O.written output.old) (O.faults output.old))
+        (standing (I.left input.new) (I.faults input.new) (O.written output.new) (O.faults output.new))
+        → (result.status ≡ 0) ⊎ (result.status ≡ 5) }
+    ensures answers { IsPromisedAnswers words.now (F.held shelf.old) (F.failed_loads shelf.old) (F.failed_loads shelf.new)
+        (standing (I.left input.old) (I.faults input.old) (O.written output.old) (O.faults output.old))
+        (standing (I.left input.new) (I.faults input.new) (O.written output.new) (O.faults output.new))
+        → (result.status ≡ 0) ⊎ (result.status ≡ 5) }
+    ensures no_run { (result.status ≡ 1) ⊎ (result.status ≡ 2) → result.schedule ≡ [] }
+    ensures shelf { (result.status ≡ 1) ⊎ ((result.status ≡ 2) ⊎ ((result.status ≡ 3)
+        ⊎ ((name recording : List ℕ) (options : OptionsOf) → Asks words.now (Run recording) name options → ⊥)))
+        → F.held shelf.new ≡ F.held shelf.old }
+    ensures others { (name recording : List ℕ) (options : OptionsOf) → Asks words.now (Run recording) name options
+        → StoreFails (F.held shelf.old) (F.held shelf.new) recording }
+    ensures stores { (result.status ≡ 1) ⊎ ((result.status ≡ 2) ⊎ ((result.status ≡ 3)
+        ⊎ ((name recording : List ℕ) (options : OptionsOf) → Asks words.now (Run recording) name options → ⊥)))
+        → (n : List ℕ) → F.failed_stores shelf.new n ≡ F.failed_stores shelf.old n }
+    ensures input { (result.status ≡ 1) ⊎ ((result.status ≡ 2)
+        ⊎ (((name : List ℕ) (options : OptionsOf) → Asks words.now Flow name options → ⊥)
+        × ((name : List ℕ) → AsksDebug words.now name → ⊥))) → input.new ≡ input.old }
 {
-    let Some(request) = requested(words) else {
+    answer(rt, alloc, words, shelf, input, output, gate)
+}
+
+/// Does what the words ask for; the parameters are those of the top call.
+fn answer<F: Shelf, I: Source, O: Sink, G: Gate, R: Threads + Wait + Sync>(
+    rt: &R,
+    alloc: Global,
+    words: &[&str],
+    shelf: &mut F,
+    input: &mut I,
+    output: &mut O,
+    gate: &G,
+) -> Outcome
+    ensures comes { Comes words.now
+        (around (F.held shelf.old) (F.failed_loads shelf.old) (F.failed_stores shelf.old)
+        (standing (I.left input.old) (I.faults input.old) (O.written output.old) (O.faults output.old)))
+        (around (F.held shelf.new) (F.failed_loads shelf.new) (F.failed_stores shelf.new)
+        (standing (I.left input.new) (I.faults input.new) (O.written output.new) (O.faults output.new)))
+        result.schedule result.status }
+    ensures input { (result.status ≡ 1) ⊎ ((result.status ≡ 2)
+        ⊎ (((name : List ℕ) (options : OptionsOf) → Asks words.now Flow name options → ⊥)
+        × ((name : List ℕ) → AsksDebug words.now name → ⊥))) → input.new ≡ input.old }
+{
+    let Ok(asked) = asked(alloc, words) else {
+        return ended(alloc, 5);
+    };
+    let Some(request) = asked else {
         return Outcome {
             status: finish(output, USAGE, 2),
             schedule: Seq::new(alloc),
         };
     };
+    match request {
+        Request::Source(request) => on_source(rt, alloc, &request, shelf, input, output, gate),
+        Request::Recording(name) => on_recording(rt, alloc, name, shelf, input, output),
+    }
+}
+
+/// Does what is asked for with a source.
+fn on_source<F: Shelf, I: Source, O: Sink, G: Gate, R: Threads + Wait + Sync>(
+    rt: &R,
+    alloc: Global,
+    request: &SourceRequest<'_>,
+    shelf: &mut F,
+    input: &mut I,
+    output: &mut O,
+    gate: &G,
+) -> Outcome
+    requires range { AreInRange request.now.options }
+    ensures comes { (words : List (Bor (List ℕ))) → Asks words (command_of request.now.command) request.now.name.now request.now.options → Comes words
+        (around (F.held shelf.old) (F.failed_loads shelf.old) (F.failed_stores shelf.old)
+        (standing (I.left input.old) (I.faults input.old) (O.written output.old) (O.faults output.old)))
+        (around (F.held shelf.new) (F.failed_loads shelf.new) (F.failed_stores shelf.new)
+        (standing (I.left input.new) (I.faults input.new) (O.written output.new) (O.faults output.new)))
+        result.schedule result.status }
+    ensures input { (result.status ≡ 1) ⊎ ((result.status ≡ 2) ⊎ (command_of request.now.command ≡ Flow → ⊥)) → input.new ≡ input.old }
+{
     match shelf.load(alloc, request.name, MOST_BYTES) {
-        Err(ShelfError::Failed) => ended(alloc, 3),
-        Err(ShelfError::Memory) => ended(alloc, 5),
-        Ok(source) => respond(rt, alloc, &source, &request, output, gate),
+        Err(error) => unloaded(alloc, error),
+        Ok(source) => match read_source(alloc, &source) {
+            Err(error) => refuse(alloc, error, output),
+            Ok(program) => {
+                let options = request.options;
+                let task = Task {
+                    program: &program,
+                    options,
+                };
+                match request.command {
+                    Command::Flow => flow(rt, alloc, &task, input, output, gate),
+                    Command::Show => show(alloc, &task, output),
+                    Command::Run(recording) => {
+                        let task = RecordTask {
+                            program: &program,
+                            options,
+                            source: &source,
+                            recording,
+                        };
+                        record_run(rt, alloc, &task, shelf, output, gate)
+                    }
+                }
+            }
+        },
+    }
+}
+
+/// Answers the lines of the input on the recording of this name.
+fn on_recording<F: Shelf, I: Source, O: Sink>(
+    rt: &(impl Threads + Sync),
+    alloc: Global,
+    name: &str,
+    shelf: &mut F,
+    input: &mut I,
+    output: &mut O,
+) -> Outcome
+    ensures comes { (words : List (Bor (List ℕ))) → AsksDebug words name.now → Comes words
+        (around (F.held shelf.old) (F.failed_loads shelf.old) (F.failed_stores shelf.old)
+        (standing (I.left input.old) (I.faults input.old) (O.written output.old) (O.faults output.old)))
+        (around (F.held shelf.new) (F.failed_loads shelf.new) (F.failed_stores shelf.new)
+        (standing (I.left input.new) (I.faults input.new) (O.written output.new) (O.faults output.new)))
+        result.schedule result.status }
+    ensures status { (result.status ≡ 1) ⊎ (result.status ≡ 2) → ⊥ }
+{
+    match shelf.load(alloc, name, MOST_RECORDING) {
+        Err(error) => unloaded(alloc, error),
+        Ok(recording) => Outcome {
+            status: debug(rt, alloc, &recording, input, output),
+            schedule: Seq::new(alloc),
+        },
     }
 }
 
 /// An end before any run.
-fn ended(alloc: Global, status: u8) -> Outcome
+pub(crate) fn ended(alloc: Global, status: u8) -> Outcome
     ensures status { result.status ≡ status }
     ensures schedule { result.schedule ≡ [] }
 {
@@ -93,46 +263,27 @@ fn ended(alloc: Global, status: u8) -> Outcome
     }
 }
 
-/// What the words ask for.
-fn requested<'a>(words: &[&'a str]) -> Option<Request<'a>>
-    ensures none { IfNone result ((command : CommandOf) (name : List ℕ) (options : OptionsOf) → Asks words.now command name options → ⊥) }
-    ensures some { IfSome result (λ r. Asks words.now r.command r.name.now r.options) }
-    ensures budget { IfSome result (λ r. r.options.budget ≤ MOST_BUDGET) }
-    ensures policy { IfSome result (λ r. IsValidPolicy r.options.policy) }
+/// An end by a load that was not done.
+fn unloaded(alloc: Global, error: ShelfError) -> Outcome
+    ensures status { IsUnloaded error result.status }
+    ensures schedule { result.schedule ≡ [] }
 {
-    asked(words)
-}
-
-/// Writes all that there is to write, and answers the status.
-fn finish<O: Sink>(output: &mut O, text: &[u8], status: u8) -> u8
-    ensures { Finished (O.written output.old) (O.written output.new) (O.faults output.old) (O.faults output.new) result status text.now }
-{
-    match put_all(output, text) {
-        Ok(()) => status,
-        Err(_) => 4,
+    match error {
+        ShelfError::Failed => ended(alloc, 3),
+        ShelfError::Memory => ended(alloc, 5),
     }
 }
 
-/// Writes what a command comes to on a source.
-fn respond<O: Sink, G: Gate, R: Threads + Wait + Sync>(
-    rt: &R,
-    alloc: Global,
-    source: &[u8],
-    request: &Request<'_>,
-    output: &mut O,
-    gate: &G,
-) -> Outcome
-    requires budget { request.now.options.budget ≤ MOST_BUDGET }
-    requires policy { IsValidPolicy request.now.options.policy }
-    ensures { ((result.status ≡ 5) × (O.written output.new ≡ O.written output.old) × (result.schedule ≡ []))
-        ⊎ ((status : ℕ) × (text : List ℕ) × (status < 2) × Answers source.now request.now.options request.now.command result.schedule status text
-        × Finished (O.written output.old) (O.written output.new) (O.faults output.old) (O.faults output.new) result.status status text) }
+/// Writes why a source is refused.
+fn refuse<O: Sink>(alloc: Global, error: SourceError, output: &mut O) -> Outcome
+    ensures refused { Refuses error (O.written output.old) (O.written output.new) (O.faults output.old) (O.faults output.new) result.status }
+    ensures schedule { result.schedule ≡ [] }
 {
-    match answer_source(rt, alloc, source, request.command, &request.options, gate) {
-        Err(_) => ended(alloc, 5),
-        Ok(answer) => Outcome {
-            status: finish(output, &answer.text, answer.status),
-            schedule: answer.schedule,
+    match refusal_line(alloc, error) {
+        Err(Memory) => ended(alloc, 5),
+        Ok(line) => Outcome {
+            status: finish(output, &line, 1),
+            schedule: Seq::new(alloc),
         },
     }
 }

@@ -1,21 +1,30 @@
 // A run by a schedule that is handed in.
 ghost use Rattle.std.specs.Prelude.{◌≡◌, ◌≤◌, [], IfOk, IfErr};
 ghost use Rattle.ppd_ast.specs.Valid.{IsValid};
-ghost use Rattle.ppd_ast.specs.ValidPlan.{IsValidPolicy};
+ghost use Rattle.ppd_ast.specs.ValidPlan.{IsValidPlan, IsValidPolicy};
 ghost use Rattle.ppd_ast.specs.declared.limits.TheConstants.{MOST_BUDGET};
-ghost use Rattle.ppd_top.specs.Ran.{RanTo, ScheduleFails, drive_error as drive_error_of};
-ghost use Rattle.ppd_top.specs.Top.{Follows, FollowFails, plan_of};
+ghost use Rattle.ppd_race.specs.Races.{races_of_logs};
+ghost use Rattle.ppd_session.specs.Known.{known_of_logs};
 ghost use Rattle.ppd_model.specs.Schedule.{IsOver};
+ghost use Rattle.ppd_top.specs.Output.{answers, before, output};
+ghost use Rattle.ppd_top.specs.Ran.{FailsBy, IsClosed, RanTo, ScheduleFails, StopsAt, drive_error as drive_error_of};
+ghost use Rattle.ppd_top.specs.Runs.{CanBeTold};
+ghost use Rattle.ppd_top.specs.Summary.{summary_of};
+ghost use Rattle.ppd_top.specs.Top.{Follows, FollowFails, plan_of};
 ghost use Rattle.ppd_world.specs.Running.{IsOf, IsReached, begun};
 
 use crate::options::Options;
-use crate::summary::summary;
-use ppd_ast::{Memory, Program};
+use crate::run::ClosedRun;
+use crate::telling::tell;
+use crate::text_sink::TextSink;
+use ppd_ast::{Memory, Plan, Program};
 use ppd_blocks::partition;
 use ppd_check::{SourceError, read_source};
-use ppd_model::DriveError;
+use ppd_io::SteadySource;
+use ppd_model::{Closed, DriveError};
 use ppd_world::World;
 use std::alloc::Global;
+use std::thread::Threads;
 
 /// Why there is no text for a source and a schedule.
 #[derive(Clone, Copy, PartialEq, Eq, Debug, Drop)]
@@ -26,9 +35,9 @@ pub enum FollowError {
     NotEnabled(u32),
     /// Every number could be taken, and some process can take a step afterwards.
     NotWhole,
-    /// A command line of more than 4,096 bytes; it does not arise while no command is read.
+    /// A command line of more than 4,096 bytes, with no `quit` line before it.
     LongLine,
-    /// More than 65,536 command lines; it does not arise while no command is read.
+    /// More than 65,536 command lines, with no `quit` line among the first ones.
     ManyLines,
     /// Want of memory.
     Memory,
@@ -43,39 +52,40 @@ fn drive_error(error: DriveError) -> FollowError
     }
 }
 
-/// The summary of a world in which nobody can take a step, and to which this schedule came.
-fn close_run(
-    alloc: Global,
+/// Closes a world in which nobody can take a step, and to which this schedule came.
+fn close_world(
     program: &Program,
     options: &Options,
     world: World,
     schedule: &[u8],
-) -> Result<Vec<u8>, Memory>
+) -> Result<Closed, FollowError>
     requires reached { IsReached world }
     requires comes { IsOf schedule.now world }
     requires over { IsOver world.program world.plan world.world }
     requires program { world.program ≡ program.now }
     requires plan { world.plan ≡ plan_of program.now options.now }
     requires budget { world.budget ≡ options.now.budget }
-    ensures { IfOk result (λ text. RanTo program.now options.now schedule.now text.items) }
+    ensures closed { IfOk result (λ closed. IsClosed program.now options.now schedule.now closed) }
+    ensures error { IfErr result (λ e. StopsAt program.now options.now schedule.now e) }
 {
-    let closed = world.close()?;
-    summary(alloc, program, closed.ends.as_slice())
+    match world.close() {
+        Ok(closed) => Ok(closed),
+        Err(Memory) => Err(FollowError::Memory),
+    }
 }
 
-/// Takes the schedule in the first world of a program, and answers the summary.
+/// Takes the schedule in the first world of a program, and closes the world.
 fn follow_world(
-    alloc: Global,
     program: &Program,
     options: &Options,
     mut world: World,
     schedule: &[u8],
-) -> Result<Vec<u8>, FollowError>
+) -> Result<Closed, FollowError>
     requires reached { IsReached world }
     requires first { world ≡ begun program.now (plan_of program.now options.now) options.now.budget }
     requires comes { IsOf [] world }
-    ensures text { IfOk result (λ text. RanTo program.now options.now schedule.now text.items) }
-    ensures error { IfErr result (λ e. ScheduleFails program.now options.now schedule.now e) }
+    ensures closed { IfOk result (λ closed. IsClosed program.now options.now schedule.now closed) }
+    ensures error { IfErr result (λ e. StopsAt program.now options.now schedule.now e) }
 {
     match world.drive(schedule) {
         Ok(()) => {}
@@ -84,40 +94,94 @@ fn follow_world(
     if let Some(_process) = world.lowest() {
         return Err(FollowError::NotWhole);
     }
-    match close_run(alloc, program, options, world, schedule) {
-        Ok(text) => Ok(text),
-        Err(Memory) => Err(FollowError::Memory),
+    close_world(program, options, world, schedule)
+}
+
+/// The text of a run and of these commands.
+fn tell_all(
+    rt: &(impl Threads + Sync),
+    alloc: Global,
+    run: &ClosedRun<'_>,
+    commands: &[u8],
+) -> Result<Vec<u8>, FollowError>
+    requires { CanBeTold run.now.program.now run.now.plan.now run.now.budget run.now.closed.now }
+    ensures text { IfOk result (λ text. before (summary_of run.now.program.now run.now.closed.now.ends (races_of_logs run.now.program.now run.now.closed.now.logs))
+        (answers (known_of_logs run.now.program.now run.now.plan.now run.now.budget run.now.closed.now.logs) commands.now) ≡ output 0 text.items) }
+    ensures error { IfErr result (λ e. FailsBy (answers (known_of_logs run.now.program.now run.now.plan.now run.now.budget run.now.closed.now.logs) commands.now).status e) }
+{
+    let Ok(bytes) = Vec::from_slice(alloc, commands) else {
+        return Err(FollowError::Memory);
+    };
+    let mut input = SteadySource::new(bytes, 4096);
+    let mut output = TextSink::new(alloc);
+    match tell(rt, alloc, run, &mut input, &mut output) {
+        0 => Ok(output.into_text()),
+        7 => Err(FollowError::LongLine),
+        8 => Err(FollowError::ManyLines),
+        _ => Err(FollowError::Memory),
     }
 }
 
-/// Takes the schedule from the start of a program.
+/// Takes the schedule from the start of a program with its plan, and closes the world that it comes to.
+fn close_by(
+    alloc: Global,
+    program: &Program,
+    plan: &Plan,
+    options: &Options,
+    schedule: &[u8],
+) -> Result<Closed, FollowError>
+    requires program { IsValid program.now }
+    requires plan { plan.now ≡ plan_of program.now options.now }
+    requires plan_ok { IsValidPlan program.now plan.now }
+    requires budget { options.now.budget ≤ MOST_BUDGET }
+    ensures closed { IfOk result (λ closed. IsClosed program.now options.now schedule.now closed) }
+    ensures error { IfErr result (λ e. StopsAt program.now options.now schedule.now e) }
+{
+    let Ok(world) = World::new(alloc, program, plan, options.budget) else {
+        return Err(FollowError::Memory);
+    };
+    follow_world(program, options, world, schedule)
+}
+
+/// Takes the schedule from the start of a program, and tells of it and of the commands.
 fn follow_program(
+    rt: &(impl Threads + Sync),
     alloc: Global,
     program: &Program,
     options: &Options,
+    commands: &[u8],
     schedule: &[u8],
 ) -> Result<Vec<u8>, FollowError>
     requires program { IsValid program.now }
     requires budget { options.now.budget ≤ MOST_BUDGET }
     requires policy { IsValidPolicy options.now.policy }
-    ensures text { IfOk result (λ text. RanTo program.now options.now schedule.now text.items) }
-    ensures error { IfErr result (λ e. ScheduleFails program.now options.now schedule.now e) }
+    ensures text { IfOk result (λ text. RanTo program.now options.now commands.now schedule.now text.items) }
+    ensures error { IfErr result (λ e. ScheduleFails program.now options.now commands.now schedule.now e) }
 {
     let Ok(plan) = partition(alloc, program, &options.policy) else {
         return Err(FollowError::Memory);
     };
-    let Ok(world) = World::new(alloc, program, &plan, options.budget) else {
-        return Err(FollowError::Memory);
-    };
-    follow_world(alloc, program, options, world, schedule)
+    match close_by(alloc, program, &plan, options, schedule) {
+        Err(error) => Err(error),
+        Ok(closed) => {
+            let run = ClosedRun {
+                program,
+                plan: &plan,
+                budget: options.budget,
+                closed: &closed,
+            };
+            tell_all(rt, alloc, &run, commands)
+        }
+    }
 }
 
-/// The bytes that `ppd flow` writes for a source whose processes take this schedule. The budget of the
-/// options is at most 500,000 and their policy's numbers are at most 4,096.
+/// The bytes that `ppd flow` writes for a source whose processes take this schedule, with these bytes as its input.
+/// The budget of the options is at most 500,000 and their policy's numbers are at most 4,096.
 ///
-/// `Refused` comes first, where the source has no program; then `NotEnabled` and `NotWhole`, by the
-/// schedule. `Memory` is want of memory.
+/// `Refused` comes first, where the source has no program; then `NotEnabled` and `NotWhole`, by the schedule; then
+/// `LongLine` and `ManyLines`, by the commands. `Memory` is want of memory.
 pub fn follow(
+    rt: &(impl Threads + Sync),
     alloc: Global,
     source: &[u8],
     options: &Options,
@@ -126,13 +190,12 @@ pub fn follow(
 ) -> Result<Vec<u8>, FollowError>
     requires budget { options.now.budget ≤ MOST_BUDGET }
     requires policy { IsValidPolicy options.now.policy }
-    requires commands { commands.now ≡ [] }
-    ensures text { IfOk result (λ text. Follows source.now options.now schedule.now text.items) }
-    ensures error { IfErr result (λ e. FollowFails source.now options.now schedule.now e) }
+    ensures text { IfOk result (λ text. Follows source.now options.now commands.now schedule.now text.items) }
+    ensures error { IfErr result (λ e. FollowFails source.now options.now commands.now schedule.now e) }
 {
     match read_source(alloc, source) {
         Err(SourceError::Memory) => Err(FollowError::Memory),
         Err(error) => Err(FollowError::Refused(error)),
-        Ok(program) => follow_program(alloc, &program, options, schedule),
+        Ok(program) => follow_program(rt, alloc, &program, options, commands, schedule),
     }
 }

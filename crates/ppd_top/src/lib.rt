@@ -1,14 +1,20 @@
-//! The top call: from words and bytes to the run of a program and its summary, or to its static tables.
+//! The top call: from words and bytes to the run of a program, its summary and the answers to questions about it, or to
+//! the program's static tables.
 #![tactic(auto)]
 
-mod answer;
+mod asking;
 mod call;
+mod debugging;
+mod flow;
 mod following;
 mod options;
 mod refusal;
-mod running;
+mod run;
+mod storing;
 mod summary;
+mod telling;
 mod text;
+mod text_sink;
 mod words;
 
 pub use call::{Outcome, ppd};

@@ -1,10 +1,11 @@
 // What is written of a run.
 ghost use Rattle.std.specs.Prelude.{◌≡◌, ◌++◌, ◌+◌, ◌<◌, ◌≤◌, ◌^◌, length, OnOk, IfOk, slice_get};
-ghost use Rattle.ppd_top.specs.Summary.{place_at as place_for, name_of, end_text, end_texts, race_text, summary_of};
+ghost use Rattle.ppd_top.specs.Summary.{place_at as place_for, name_of, end_text, end_texts, summary_of};
 
 use crate::text::{put_prints, put_status};
 use ppd_ast::{Memory, Place, Program};
 use ppd_model::ProcEnd;
+use ppd_session::Session;
 use ppd_text::{put, put_number};
 use std::alloc::Global;
 
@@ -59,23 +60,20 @@ fn put_ends(
     Ok(())
 }
 
-/// The races of one process alone: none. Those of more are not written.
-fn put_races(text: &mut Vec<u8>, ends: &[ProcEnd]) -> Result<(), Memory>
-    ensures { OnOk result (text.new.items ≡ text.old.items ++ race_text ends.now) }
-{
-    if ends.len() == 1 {
-        return put(text, b"races 0\n");
-    }
-    Ok(())
-}
-
-/// The summary of a run whose processes ended so.
-pub(crate) fn summary(alloc: Global, program: &Program, ends: &[ProcEnd]) -> Result<Vec<u8>, Memory>
-    requires { length ends.now < 2 ^ 62 }
-    ensures { IfOk result (λ text. text.items ≡ summary_of program.now ends.now) }
+/// The summary of a run whose processes ended so, with the races that a session found.
+pub(crate) fn summary(
+    alloc: Global,
+    program: &Program,
+    ends: &[ProcEnd],
+    session: &Session<'_>,
+) -> Result<Vec<u8>, Memory>
+    requires program { session.now.program ≡ program.now }
+    requires few { length ends.now < 2 ^ 62 }
+    ensures { IfOk result (λ text. text.items ≡ summary_of program.now ends.now session.now.races) }
 {
     let mut text = Vec::new(alloc);
     put_ends(&mut text, program, program.functions, ends)?;
-    put_races(&mut text, ends)?;
+    let races = session.summary_races()?;
+    put(&mut text, &races)?;
     Ok(text)
 }

@@ -1,314 +1,148 @@
-// The words of the command line.
-ghost use Rattle.std.specs.Prelude.{◌≡◌, ◌<◌, ◌≤◌, ◌^◌, true, is_some, length, IfSome, Some, None};
-ghost use Rattle.std.specs.List.{list_all};
-ghost use Rattle.ppd_top.specs.Words.{number_in as number_of, spelled as spelled_of, is_dashed as is_dashed_of, is_allowed as is_allowed_of, given as given_of, with_option as with_option_of, with_number as with_number_of, with_name as with_name_of, with_word as with_word_of, after_wait as after_wait_of, after_word as after_word_of, after_words as after_words_of, nothing_given, options_of as options_for, command_of as command_for, has_options as has_options_of, complete as complete_of, asked as asked_of, value_from, is_digit};
+// What the words of the command line ask for.
+ghost use Rattle.std.specs.Prelude.{◌≡◌, ◌<◌, ◌≤◌, IfOk, IfSome, option_map};
+ghost use Rattle.ppd_words.specs.Reads.{texts_in};
+ghost use Rattle.ppd_words.specs.declared.commands.Command.TheVariants as word;
+ghost use Rattle.clap.specs.Matches.{first_value, found_of};
+ghost use Rattle.ppd_top.specs.Words.{AreInRange, IsInRange, asked as asked_for, asked_by, asked_of, command_of, name_in, number_in as number_for, options_in as options_for, request_of, run_in};
 
 use crate::options::Options;
-use ppd_ast::Policy;
 use ppd_ast::limits::{DEFAULT_BUDGET, MOST_BUDGET, MOST_POLICY};
+use ppd_ast::{Memory, Policy};
+use ppd_text::number_in;
+use ppd_words::{Command as Word, CommandWords, read_command};
+use std::alloc::Global;
 
-/// What the first word asks for.
-#[derive(Clone, Copy, PartialEq, Eq, Debug)]
-pub(crate) enum Command {
-    /// A source is run, and its summary written.
+/// What a source is loaded for.
+#[derive(Clone, Copy)]
+pub(crate) enum Command<'a> {
+    /// The source is run, its summary written, and the lines of the input are answered.
     Flow,
-    /// The static tables of a source are written.
+    /// The source is run, its recording stored under this name, and its summary written.
+    Run(&'a str),
+    /// The static tables of the source are written.
     Show,
 }
 
-/// An option that has a number.
-#[derive(Clone, Copy, PartialEq, Eq, Debug)]
-pub(crate) enum Choice {
-    Budget,
-    Leaf,
-    Loops,
-}
-
-/// What a word is where options may stand.
-#[derive(Clone, Copy, PartialEq, Eq, Debug)]
-pub(crate) enum Word {
-    /// The end of the options.
-    Ends,
-    /// An option whose number is the next word.
-    Waits(Choice),
-    /// An option with its number, where it is one.
-    Sets(Choice, Option<u64>),
-    /// Another word that begins with `-`.
-    Other,
-    Name,
-}
-
-/// What the words gave so far.
+/// A command on a source, its name, and the options, of which each that was not given or is none of the command's
+/// has its default.
 #[derive(Clone, Copy)]
-pub(crate) struct Given<'a> {
-    /// The option that waits for its number.
-    waits: Option<Choice>,
-    /// Whether the options are over.
-    ended: bool,
-    budget: Option<u32>,
-    leaf: Option<u16>,
-    loops: Option<u16>,
-    name: Option<&'a str>,
-}
-
-/// What the words ask for: a command, the name of a source, and the options, of which each that was not
-/// given or is none of the command's has its default.
-#[derive(Clone, Copy)]
-pub(crate) struct Request<'a> {
-    pub(crate) command: Command,
+pub(crate) struct SourceRequest<'a> {
+    pub(crate) command: Command<'a>,
     pub(crate) name: &'a str,
     pub(crate) options: Options,
 }
 
-/// The value of digits, at most 9.
-fn value_of(digits: &[u8]) -> u64
-    requires { length digits.now ≤ 9 }
-    ensures { result ≡ value_from 0 digits.now }
+/// What the words ask for.
+#[derive(Clone, Copy)]
+pub(crate) enum Request<'a> {
+    /// A command on a source.
+    Source(SourceRequest<'a>),
+    /// The lines of the input are answered on the recording of this name.
+    Recording(&'a str),
+}
+
+/// An option's number, from `least` to `most`: that of its word, or the usual one where it has none.
+fn number_of(word: Option<&str>, usual: u32, least: u32, most: u32) -> Option<u32>
+    requires least { least ≤ usual }
+    requires most { usual ≤ most }
+    ensures number { result ≡ number_for usual least most (option_map (λ s. s.now) word.entry) }
+    ensures least { IfSome result (λ n. least ≤ n) }
+    ensures most { IfSome result (λ n. n ≤ most) }
 {
-    let mut value: u64 = 0;
-    for digit in digits {
-        value = value * 10 + u64::from(digit.saturating_sub(b'0'));
+    let Some(word) = word else {
+        return Some(usual);
+    };
+    let number = number_in(word.as_bytes())?;
+    if u64::from(least) <= number && number <= u64::from(most) {
+        return Some(number as u32);
     }
-    value
+    None
 }
 
-fn is_digit(byte: u8) -> bool
-    ensures { result ≡ is_digit byte }
+/// The options, each with its default where it was not given.
+fn options_of(given: &CommandWords<'_>) -> Option<Options>
+    ensures options { result ≡ options_for (first_value (found_of given.now.matches)) }
+    ensures range { IfSome result AreInRange }
 {
-    b'0' <= byte && byte <= b'9'
-}
-
-fn are_digits(word: &[u8]) -> bool
-    ensures { result ≡ list_all is_digit word.now }
-{
-    word.iter().all(|byte| is_digit(*byte))
-}
-
-/// The number that a word is, in 1 to 9 digits.
-fn number_in(word: &[u8]) -> Option<u64>
-    ensures { result ≡ number_of word.now }
-{
-    if word.is_empty() || word.len() > 9 {
-        return None;
-    }
-    if !are_digits(word) {
-        return None;
-    }
-    Some(value_of(word))
-}
-
-fn is_dashed(word: &[u8]) -> bool
-    ensures { result ≡ is_dashed_of word.now }
-{
-    match word {
-        [first, _, ..] => *first == b'-',
-        _ => false,
-    }
-}
-
-/// What a word is where options may stand.
-fn spelled(word: &[u8]) -> Word
-    ensures { result ≡ spelled_of word.now }
-{
-    if word == b"--".as_slice() {
-        Word::Ends
-    } else if word == b"--budget".as_slice() {
-        Word::Waits(Choice::Budget)
-    } else if word == b"--leaf".as_slice() {
-        Word::Waits(Choice::Leaf)
-    } else if word == b"--loops".as_slice() {
-        Word::Waits(Choice::Loops)
-    } else if let Some(number) = word.strip_prefix(b"--budget=") {
-        Word::Sets(Choice::Budget, number_in(number))
-    } else if let Some(number) = word.strip_prefix(b"--leaf=") {
-        Word::Sets(Choice::Leaf, number_in(number))
-    } else if let Some(number) = word.strip_prefix(b"--loops=") {
-        Word::Sets(Choice::Loops, number_in(number))
-    } else if is_dashed(word) {
-        Word::Other
-    } else {
-        Word::Name
-    }
-}
-
-fn is_allowed(choice: Choice, number: u64) -> bool
-    ensures { result ≡ is_allowed_of choice number }
-{
-    match choice {
-        Choice::Budget => 1 <= number && number <= u64::from(MOST_BUDGET),
-        Choice::Leaf | Choice::Loops => number <= u64::from(MOST_POLICY),
-    }
-}
-
-fn is_given(given: Given, choice: Choice) -> bool
-    ensures { result ≡ is_some (given_of choice given.entry) }
-{
-    match choice {
-        Choice::Budget => given.budget.is_some(),
-        Choice::Leaf => given.leaf.is_some(),
-        Choice::Loops => given.loops.is_some(),
-    }
-}
-
-fn with_option<'a>(given: Given<'a>, choice: Choice, number: u64) -> Given<'a>
-    requires { is_allowed_of choice number ≡ true }
-    ensures { result ≡ with_option_of choice number given.entry }
-{
-    let waits = None;
-    match choice {
-        Choice::Budget => Given {
-            waits,
-            budget: Some(number as u32),
-            ..given
+    let budget = number_of(given.value("budget"), DEFAULT_BUDGET, 1, MOST_BUDGET)?;
+    let leaf = number_of(given.value("leaf"), 0, 0, u32::from(MOST_POLICY))?;
+    let loops = number_of(given.value("loops"), 0, 0, u32::from(MOST_POLICY))?;
+    Some(Options {
+        budget,
+        policy: Policy {
+            leaf: leaf as u16,
+            loops: loops as u16,
         },
-        Choice::Leaf => Given {
-            waits,
-            leaf: Some(number as u16),
-            ..given
-        },
-        Choice::Loops => Given {
-            waits,
-            loops: Some(number as u16),
-            ..given
-        },
-    }
-}
-
-/// An option's number, which is allowed and was not given before.
-fn with_number<'a>(given: Given<'a>, choice: Choice, number: Option<u64>) -> Option<Given<'a>>
-    ensures { result ≡ with_number_of choice number given.entry }
-{
-    let number = number?;
-    if is_given(given, choice) || !is_allowed(choice, number) {
-        return None;
-    }
-    Some(with_option(given, choice, number))
-}
-
-/// The name, which is not empty and was not given before.
-fn with_name<'a>(given: Given<'a>, word: &'a str) -> Option<Given<'a>>
-    ensures { result ≡ with_name_of word.entry given.entry }
-{
-    if given.name.is_some() || word.is_empty() {
-        return None;
-    }
-    Some(Given {
-        name: Some(word),
-        ..given
     })
 }
 
-fn with_word<'a>(given: Given<'a>, word: &'a str) -> Option<Given<'a>>
-    ensures { result ≡ with_word_of (spelled_of word.now) word.entry given.entry }
+/// The word of a name, which is not empty.
+fn name_of<'a>(given: &CommandWords<'a>, id: &str) -> Option<&'a str>
+    ensures { option_map (λ s. s.now) result ≡ name_in (first_value (found_of given.now.matches) id.now) }
 {
-    match spelled(word.as_bytes()) {
-        Word::Ends => Some(Given {
-            ended: true,
-            ..given
-        }),
-        Word::Waits(choice) => Some(Given {
-            waits: Some(choice),
-            ..given
-        }),
-        Word::Sets(choice, number) => with_number(given, choice, number),
-        Word::Other => None,
-        Word::Name => with_name(given, word),
-    }
-}
-
-/// One more word.
-fn after_word<'a>(given: Given<'a>, word: &'a str) -> Option<Given<'a>>
-    ensures { result ≡ after_word_of given.entry word.entry }
-{
-    if given.ended {
-        return with_name(given, word);
-    }
-    match given.waits {
-        Some(choice) => with_number(given, choice, number_in(word.as_bytes())),
-        None => with_word(given, word),
-    }
-}
-
-/// What all words give.
-fn after_words<'a>(words: &[&'a str]) -> Option<Given<'a>>
-    ensures { result ≡ after_words_of nothing_given words.now }
-{
-    let mut given = Given {
-        waits: None,
-        ended: false,
-        budget: None,
-        leaf: None,
-        loops: None,
-        name: None,
-    };
-    let mut rest = words;
-    while let [word, more @ ..] = rest {
-        given = after_word(given, word)?;
-        rest = more;
-    }
-    Some(given)
-}
-
-/// The options of a run, each with its default where it was not given.
-fn options_of(given: Given) -> Options
-    ensures { result ≡ options_for given.entry }
-{
-    Options {
-        budget: given.budget.unwrap_or(DEFAULT_BUDGET),
-        policy: Policy {
-            leaf: given.leaf.unwrap_or(0),
-            loops: given.loops.unwrap_or(0),
-        },
-    }
-}
-
-/// The command that a word names.
-fn command_of(word: &[u8]) -> Option<Command>
-    ensures { result ≡ command_for word.now }
-{
-    if word == b"flow".as_slice() {
-        Some(Command::Flow)
-    } else if word == b"show".as_slice() {
-        Some(Command::Show)
-    } else {
-        None
-    }
-}
-
-/// Whether each option that was given is one of the command's.
-fn has_options(command: Command, given: Given) -> bool
-    ensures { result ≡ has_options_of command given.entry }
-{
-    match command {
-        Command::Flow => true,
-        Command::Show => given.budget.is_none(),
-    }
-}
-
-fn complete<'a>(command: Command, given: Given<'a>) -> Option<Request<'a>>
-    ensures { result ≡ complete_of command given.entry }
-{
-    if given.waits.is_some() || !has_options(command, given) {
+    let name = given.value(id)?;
+    if name.is_empty() {
         return None;
     }
-    let name = given.name?;
-    Some(Request {
+    Some(name)
+}
+
+/// The command `run`, with the name of its recording.
+fn run_of<'a>(given: &CommandWords<'a>) -> Option<Command<'a>>
+    ensures { option_map command_of result ≡ run_in (first_value (found_of given.now.matches)) }
+{
+    let recording = name_of(given, "recording")?;
+    Some(Command::Run(recording))
+}
+
+/// A command on a source, if there is one.
+fn on_source<'a>(command: Option<Command<'a>>, given: &CommandWords<'a>) -> Option<Request<'a>>
+    ensures request { option_map request_of result ≡ asked_by (option_map command_of command.entry) (first_value (found_of given.now.matches)) }
+    ensures range { IfSome result IsInRange }
+{
+    let command = command?;
+    let name = name_of(given, "source")?;
+    let options = options_of(given)?;
+    Some(Request::Source(SourceRequest {
         command,
         name,
-        options: options_of(given),
-    })
+        options,
+    }))
 }
 
-/// What the words ask for: `flow` or `show`, its options in any order, each at most once, and the name of a
-/// source. None where they ask for nothing.
-pub(crate) fn asked<'a>(words: &[&'a str]) -> Option<Request<'a>>
-    ensures { result ≡ asked_of words.now }
+/// The command `debug`, with the name of its recording.
+fn on_recording<'a>(given: &CommandWords<'a>) -> Option<Request<'a>>
+    ensures request { option_map request_of result ≡ asked_of word.Debug (first_value (found_of given.now.matches)) }
+    ensures range { IfSome result IsInRange }
 {
-    match words {
-        [word, rest @ ..] => {
-            let command = command_of(word.as_bytes())?;
-            complete(command, after_words(rest)?)
-        }
-        _ => None,
+    let name = name_of(given, "recording")?;
+    Some(Request::Recording(name))
+}
+
+/// The request of a command with its words, if its numbers and names are right and it is built.
+fn request_in<'a>(given: &CommandWords<'a>) -> Option<Request<'a>>
+    ensures request { option_map request_of result ≡ asked_of given.now.command (first_value (found_of given.now.matches)) }
+    ensures range { IfSome result IsInRange }
+{
+    match given.command {
+        Word::Flow => on_source(Some(Command::Flow), given),
+        Word::Run => on_source(run_of(given), given),
+        Word::Debug => on_recording(given),
+        Word::Show => on_source(Some(Command::Show), given),
+        Word::Drill => None,
+    }
+}
+
+/// What the words ask for: `flow`, `run` or `show`, its options in any order, each at most once, and its names; or
+/// `debug` and its name. None where they ask for nothing. The error is want of memory, and may come whatever the
+/// words are.
+pub(crate) fn asked<'a>(alloc: Global, words: &'a [&'a str]) -> Result<Option<Request<'a>>, Memory>
+    ensures is { IfOk result (λ o. option_map request_of o ≡ asked_for (texts_in words.entry.now)) }
+    ensures range { IfOk result (λ o. IfSome o IsInRange) }
+{
+    match read_command(alloc, words) {
+        Err(Memory) => Err(Memory),
+        Ok(None) => Ok(None),
+        Ok(Some(given)) => Ok(request_in(&given)),
     }
 }

@@ -1,4 +1,5 @@
--- The synchronizations to which steps lead, by object and number, and maps from these to the first events that lead to them.
+-- The synchronizations to which steps lead, by object and number, and maps from these to the first events that lead
+-- to them.
 use Rattle.std.specs.Prelude.{◌≡◌, ℕ, nat_eq, Bool, false, ◌&&◌, Option, Some, None, if◌then◌else◌}
 use Rattle.std.specs.HashMap.{HashMap, get}
 use Rattle.ppd_ast.specs.declared.program.Program.{Program}
@@ -36,22 +37,27 @@ module _ {S : Type 0} where
   -- the event is put into a map for this target, if there is one, where the map has none for it
   abbrev pub KeepsFirst : HashMap (ℕ × ℕ) EventId S → HashMap (ℕ × ℕ) EventId S → Option (ℕ × ℕ) → EventId → Type 0
   KeepsFirst old new t event =
-      (object number : ℕ) → found_in new object number ≡ or_else (found_in old object number) (if is_target t object number then Some event else None)
+      (object number : ℕ)
+      → found_in new object number
+      ≡ or_else (found_in old object number) (if is_target t object number then Some event else None)
 
   -- a map has the first event that leads to each synchronization of this kind
   abbrev pub LeadTo : Program → SyncKind → Story → HashMap (ℕ × ℕ) EventId S → Type 0
   LeadTo program kind story leads =
-      (object number : ℕ) → found_in leads object number ≡ leading_from program (Some (sync kind object number)) 0 story.steps
+      (object number : ℕ)
+      → found_in leads object number ≡ leading_from program (Some (sync kind object number)) 0 story.steps
 
   -- four maps have the first events that lead to each `P`, each receive, each send and each completion
-  pub record HavePairs (program : Program) (story : Story) (takes receives sends completes : HashMap (ℕ × ℕ) EventId S) : Type 0 where
+  pub record HavePairs (program : Program) (story : Story)
+      (takes receives sends completes : HashMap (ℕ × ℕ) EventId S) : Type 0 where
     pub of_takes : LeadTo program P story takes
     pub of_receives : LeadTo program Recv story receives
     pub of_sends : LeadTo program Send story sends
     pub of_completes : LeadTo program Done story completes
 
   -- the event that the maps have for a synchronization of this number
-  abbrev pub looked_up : HashMap (ℕ × ℕ) EventId S → HashMap (ℕ × ℕ) EventId S → HashMap (ℕ × ℕ) EventId S → HashMap (ℕ × ℕ) EventId S → Need → ℕ → Option EventId
+  abbrev pub looked_up : HashMap (ℕ × ℕ) EventId S → HashMap (ℕ × ℕ) EventId S → HashMap (ℕ × ℕ) EventId S
+      → HashMap (ℕ × ℕ) EventId S → Need → ℕ → Option EventId
   looked_up takes receives sends completes (need.P s u) number = found_in takes s number
   looked_up takes receives sends completes (need.Recv c u) number = found_in receives c number
   looked_up takes receives sends completes (need.Send c v u) number = found_in sends c number

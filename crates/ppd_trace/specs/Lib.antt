@@ -1,4 +1,5 @@
--- The full trace in code: what is kept while it is made, what is told of a schedule, the pairs by their numbers, the steps taken, and the answers.
+-- The full trace in code: what is kept while it is made, what is told of a schedule, the pairs by their numbers, the
+-- steps taken, and the answers.
 pub mod Leading
 pub mod Runs
 pub mod Spending

@@ -107,7 +107,8 @@ of_outer (Some s) tests = option_map (λ x. x.event) (get tests s)
 -- the control parent of statement s in its run
 abbrev pub parent_in : Program → ℕ → Run → Option EventId
 parent_in program s x =
-    or_else (of_run (kind_of program s) (get x.latest s)) (or_else (of_outer (parent_if (slice_get program.stmts s)) x.latest) x.call)
+    or_else (of_run (kind_of program s) (get x.latest s))
+    (or_else (of_outer (parent_if (slice_get program.stmts s)) x.latest) x.call)
 
 -- the control parent of an event of the head, and None in a process by itself
 abbrev pub parent_at : Program → List Run → List Todo → Option EventId
@@ -117,14 +118,16 @@ parent_at program (x ∷ xs) (t ∷ ts) = parent_in program t.stmt x
 
 -- the latest tests with one more, where the statement is an `If` or a `While`
 abbrev pub tests_after : Kind → ℕ → EventId → Option ℤ → Tests → Tests
-tests_after (If e first second) s me value tests = insert tests s (record { stmt = s; event = me; passed = is_passed value })
+tests_after (If e first second) s me value tests =
+    insert tests s (record { stmt = s; event = me; passed = is_passed value })
 tests_after (While e body) s me value tests = insert tests s (record { stmt = s; event = me; passed = is_passed value })
 tests_after k s me value tests = tests
 
 -- the top run with the event, if it is of a test
 abbrev pub with_test : Program → EventId → Event → List Run → List Run
 with_test program me e [] = []
-with_test program me e (x ∷ xs) = record x { latest = tests_after (kind_of program e.stmt) e.stmt me e.value x.latest } ∷ xs
+with_test program me e (x ∷ xs) =
+    record x { latest = tests_after (kind_of program e.stmt) e.stmt me e.value x.latest } ∷ xs
 
 -- ---- one step
 
@@ -154,8 +157,10 @@ with_event program plan story p x t =
 -- a read keeps its tag for the event that it is of; an entry of a loop and a stop are no events
 abbrev pub trace_by : Program → Plan → Story → ℕ → Taken → Tracer → Tracer
 trace_by program plan story p x t =
-    if is_event x.need then with_event program plan story p x t else record t { answers = answers_by x.need x.writer t.answers }
+    if is_event x.need then with_event program plan story p x t
+    else record t { answers = answers_by x.need x.writer t.answers }
 
 -- the state goes on by the step's answer
 abbrev pub trace_step : Program → Plan → Story → ℕ → Tracer → Taken → Tracer
-trace_step program plan story p t x = record (trace_by program plan story p x t) { proc = act program plan t.proc x.answer }
+trace_step program plan story p t x =
+    record (trace_by program plan story p x t) { proc = act program plan t.proc x.answer }

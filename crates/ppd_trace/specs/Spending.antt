@@ -62,12 +62,14 @@ extent program = length program.starts + length program.bodies + sum_by (λ b. b
 -- the cells that a deed clears, or that a call writes
 abbrev pub written_by : Program → Proc → Option Deed → ℕ
 written_by program s (Some (clear base len)) = len
-written_by program s (Some (invoke f values into)) = length (arguments_at program s) + size_if (slice_get program.bodies f)
+written_by program s (Some (invoke f values into)) =
+    length (arguments_at program s) + size_if (slice_get program.bodies f)
 written_by program s deed = 0
 
 -- the cells of the event of a process's next step
 abbrev pub cells_of_step : Program → Plan → Proc → Taken → ℕ
-cells_of_step program plan s x = length (event_of program plan s x s.todo).reads + written_by program s (deed_at program s)
+cells_of_step program plan s x =
+    length (event_of program plan s x s.todo).reads + written_by program s (deed_at program s)
 
 -- the steps of a story
 abbrev pub steps_in : Story → ℕ

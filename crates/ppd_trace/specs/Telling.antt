@@ -30,7 +30,8 @@ writer_in writers need = None
 
 -- a step with the event that last wrote the cell of a Read
 abbrev pub with_writer : List Tag → Taken → Taken
-with_writer writers x = record { need = x.need; answer = x.answer; writer = writer_in writers x.need; number = x.number }
+with_writer writers x =
+    record { need = x.need; answer = x.answer; writer = writer_in writers x.need; number = x.number }
 
 -- the next event of process p
 abbrev pub next_of : List ℕ → ℕ → EventId
@@ -41,7 +42,8 @@ abbrev pub next_taken : Running → List Tag → ℕ → Taken
 next_taken r writers p = with_writer writers (logged_moment r.program r.plan r.world p).taken
 
 -- a world, the counts of events, the last writers and the steps, after the next step of process p
-pub record HasTold (r : Running) (counts : List ℕ) (writers : List Tag) (steps : List (List Taken)) (p : ℕ) (r' : Running) (counts' : List ℕ) (writers' : List Tag) (steps' : List (List Taken)) : Type 0 where
+pub record HasTold (r : Running) (counts : List ℕ) (writers : List Tag) (steps : List (List Taken)) (p : ℕ)
+    (r' : Running) (counts' : List ℕ) (writers' : List Tag) (steps' : List (List Taken)) : Type 0 where
   pub world : r' ≡ stepped r p
   pub counted : counts' ≡ counts_after counts p (next_taken r writers p).need
   pub written : writers' ≡ writers_set writers (next_of counts p) (next_taken r writers p).need
@@ -57,8 +59,10 @@ after program plan budget h = record {
   loggings = loggings program plan budget h;
 }
 
--- the schedule was taken, and the world, the counts of events, the last writers and the steps are those that are told of it
-pub record Tells (program : Program) (plan : Plan) (budget : ℕ) (h : List ℕ) (r : Running) (counts : List ℕ) (writers : List Tag) (steps : List (List Taken)) : Type 0 where
+-- the schedule was taken, and the world, the counts of events, the last writers and the steps are those that are told
+-- of it
+pub record Tells (program : Program) (plan : Plan) (budget : ℕ) (h : List ℕ) (r : Running) (counts : List ℕ)
+    (writers : List Tag) (steps : List (List Taken)) : Type 0 where
   pub runs : run program plan budget h ≡ Some (told program plan budget h).world
   pub world : r ≡ after program plan budget h
   pub counted : counts ≡ map count_events (told program plan budget h).moments

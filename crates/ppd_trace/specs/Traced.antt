@@ -45,7 +45,8 @@ IsTraceOf program plan budget h (Err e) = IsRefused program plan budget h e
 -- where the schedule has no race, the trace is that of each schedule that agrees with it, which has its story
 abbrev pub IsTraceOfAgreeing : Program → Plan → ℕ → List ℕ → Result Trace DriveError → Type 0
 IsTraceOfAgreeing program plan budget h (Ok t) =
-    (h' : List ℕ) → Agree program plan budget h h' → races program plan budget h ≡ [] → (story program plan budget h' ≡ story program plan budget h) × (t ≡ full_trace program plan budget h')
+    (h' : List ℕ) → Agree program plan budget h h' → races program plan budget h ≡ []
+    → (story program plan budget h' ≡ story program plan budget h) × (t ≡ full_trace program plan budget h')
 IsTraceOfAgreeing program plan budget h (Err e) = ⊤
 
 -- the steps of each process are its own, and few enough for 32 bits, and the processes those of the program

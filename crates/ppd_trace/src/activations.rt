@@ -157,7 +157,8 @@ fn return_tag<L: Ledger>(
     runs: &mut Stack<Run>,
     steps: &mut Steps<L>,
 ) -> Result<(), Memory>
-    ensures value { OnOk result (runs.new ≡ tagged_into (into_at program.now (top_call proc.now.frames)) value tag (drop 1 runs.old)) }
+    ensures value { OnOk result
+        (runs.new ≡ tagged_into (into_at program.now (top_call proc.now.frames)) value tag (drop 1 runs.old)) }
     ensures cost { steps.new ≤ steps.old + 2 }
 {
     runs.pop();
@@ -177,7 +178,9 @@ fn begin_call<L: Ledger>(
     requires program { IsRunnable program.now }
     requires proc { IsRunning program.now proc.now }
     ensures value { OnOk result (runs.new ≡ begun_call program.now proc.now function tag runs.old) }
-    ensures cost { steps.new ≤ steps.old + 2 + 2 * (length (arguments_at program.now proc.now) + size_if (slice_get program.now.bodies function)) }
+    ensures cost { steps.new
+        ≤ steps.old + 2
+        + 2 * (length (arguments_at program.now proc.now) + size_if (slice_get program.now.bodies function)) }
 {
     steps.tick();
     let values = call_values(alloc, program, proc)?;
@@ -197,7 +200,8 @@ fn tag_head<L: Ledger>(
 ) -> Result<(), Memory>
     requires program { IsRunnable program.now }
     requires proc { IsRunning program.now proc.now }
-    ensures value { OnOk result (runs.new ≡ tagged_deed program.now proc.now tag (deed_at program.now proc.now) runs.old) }
+    ensures value { OnOk result
+        (runs.new ≡ tagged_deed program.now proc.now tag (deed_at program.now proc.now) runs.old) }
     ensures cost { steps.new ≤ steps.old + 3 + 3 * written_by program.now proc.now (deed_at program.now proc.now) }
 {
     steps.tick();

@@ -126,7 +126,8 @@ fn set_test<L: Ledger>(
     tests: &mut ByStmt<Test>,
     steps: &mut Steps<L>,
 ) -> Result<(), Memory>
-    ensures value { OnOk result (tests.new ≡ tests_after (kind_of program.now event.now.stmt) event.now.stmt me event.now.value tests.old) }
+    ensures value { OnOk result
+        (tests.new ≡ tests_after (kind_of program.now event.now.stmt) event.now.stmt me event.now.value tests.old) }
     ensures cost { steps.new ≤ steps.old + 1 }
 {
     let test = Test {

@@ -52,7 +52,8 @@ fn traced_by<L: Ledger>(
     steps: &mut Steps<L>,
 ) -> Result<TracedEvent, Memory>
     requires pairs { HavePairs program.now told.now.story told.now.takes told.now.receives told.now.sends told.now.completes }
-    ensures value { IfOk result (λ traced. traced ≡ traced_by_step program.now told.now.story taken.now tracer.now event) }
+    ensures value { IfOk result
+        (λ traced. traced ≡ traced_by_step program.now told.now.story taken.now tracer.now event) }
     ensures cost { steps.new ≤ steps.old + 3 + 2 * length event.reads }
 {
     let writers = tags_of(
@@ -91,7 +92,8 @@ pub(crate) fn add_event<L: Ledger>(
     requires event { is_event taken.now.need ≡ true }
     requires pairs { HavePairs program.now told.now.story told.now.takes told.now.receives told.now.sends told.now.completes }
     requires few { length tracer.old.events < 2 ^ 32 }
-    ensures value { OnOk result (tracer.new ≡ with_event program.now plan.now told.now.story process taken.now tracer.old) }
+    ensures value { OnOk result
+        (tracer.new ≡ with_event program.now plan.now told.now.story process taken.now tracer.old) }
     ensures cost { steps.new ≤ steps.old + 10 + 3 * cells_of_step program.now plan.now tracer.old.proc taken.now }
 {
     let me = EventId {

@@ -137,7 +137,11 @@ fn add_process<L: Ledger>(
     steps: &mut Steps<L>,
 ) -> Result<(), Memory>
     requires { length own.now < 2 ^ 32 }
-    ensures kept { OnOk result ((object number : ℕ) → found_in leads.new object number ≡ or_else (found_in leads.old object number) (event_or process (leading_in program.now (Some (sync kind object number)) 0 own.now) None)) }
+    ensures kept { OnOk result
+        ((object number : ℕ)
+        → found_in leads.new object number
+        ≡ or_else (found_in leads.old object number)
+        (event_or process (leading_in program.now (Some (sync kind object number)) 0 own.now) None)) }
     ensures cost { steps.new ≤ steps.old + 3 * length own.now }
 {
     let mut number = 0;
@@ -185,7 +189,8 @@ pub(crate) fn find_pairs<L: Ledger>(
     requires processes { length story.steps ≤ 2 ^ 8 }
     ensures cost { steps.new ≤ steps.old + 4 * length story.steps + 12 * steps_in story }
     ensures story { IfOk result (λ told. told.story ≡ story) }
-    ensures pairs { IfOk result (λ told. HavePairs program.now told.story told.takes told.receives told.sends told.completes) }
+    ensures pairs { IfOk result
+        (λ told. HavePairs program.now told.story told.takes told.receives told.sends told.completes) }
 {
     let takes = leads_to(alloc, program, SyncKind::P, &story, steps)?;
     let receives = leads_to(alloc, program, SyncKind::Recv, &story, steps)?;

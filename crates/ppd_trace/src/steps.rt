@@ -53,7 +53,8 @@ fn trace_by<L: Ledger>(
     requires need { taken.now.need ≡ need_of program.now plan.now tracer.old.proc }
     requires pairs { HavePairs program.now told.now.story told.now.takes told.now.receives told.now.sends told.now.completes }
     requires few { length tracer.old.events < 2 ^ 32 }
-    ensures value { OnOk result (tracer.new ≡ trace_by_need program.now plan.now told.now.story process taken.now tracer.old) }
+    ensures value { OnOk result
+        (tracer.new ≡ trace_by_need program.now plan.now told.now.story process taken.now tracer.old) }
     ensures cost { steps.new ≤ steps.old + 10 + 3 * cells_of_step program.now plan.now tracer.old.proc taken.now }
 {
     if taken.need.is_event() {
@@ -79,7 +80,8 @@ fn trace_step<L: Ledger>(
     requires need { taken.now.need ≡ need_of program.now plan.now tracer.old.proc }
     requires pairs { HavePairs program.now told.now.story told.now.takes told.now.receives told.now.sends told.now.completes }
     requires few { length tracer.old.events < 2 ^ 32 }
-    ensures ok { OnOk result (tracer.new ≡ trace_step_of program.now plan.now told.now.story process tracer.old taken.now) }
+    ensures ok { OnOk result
+        (tracer.new ≡ trace_step_of program.now plan.now told.now.story process tracer.old taken.now) }
     ensures kept { OnOk result (IsRunning program.now tracer.new.proc) }
     ensures cost { steps.new ≤ steps.old + 11 + 3 * most_cells program.now }
 {
@@ -100,9 +102,11 @@ fn begin<L: Ledger>(
     requires program { IsRunnable program.now }
     requires process { program.now.functions + process < length program.now.bodies }
     requires range { program.now.functions + process < 2 ^ 16 }
-    ensures begun { IfOk result (λ tracer. tracer ≡ tracer_of (begun_tracing (started program.now plan.now process budget))) }
+    ensures begun { IfOk result
+        (λ tracer. tracer ≡ tracer_of (begun_tracing (started program.now plan.now process budget))) }
     ensures running { IfOk result (λ tracer. IsRunning program.now tracer.proc) }
-    ensures cost { steps.new ≤ steps.old + 2 + 2 * size_if (slice_get program.now.bodies (program.now.functions + process)) }
+    ensures cost { steps.new
+        ≤ steps.old + 2 + 2 * size_if (slice_get program.now.bodies (program.now.functions + process)) }
 {
     steps.tick();
     let proc = Proc::start(alloc, program, plan, process, budget)?;
@@ -133,8 +137,11 @@ pub(crate) fn trace_process<L: Ledger>(
     requires pairs { HavePairs program.now told.now.story told.now.takes told.now.receives told.now.sends told.now.completes }
     requires few { length own.now < 2 ^ 32 }
     requires own { AreOwn program.now plan.now (started program.now plan.now process budget) own.now }
-    ensures events { IfOk result (λ events. events ≡ (tracing_of program.now plan.now budget told.now.story process own.now).events) }
-    ensures cost { steps.new ≤ steps.old + 2 + 2 * size_if (slice_get program.now.bodies (program.now.functions + process)) + (3 * most_cells program.now + 12) * length own.now }
+    ensures events { IfOk result
+        (λ events. events ≡ (tracing_of program.now plan.now budget told.now.story process own.now).events) }
+    ensures cost { steps.new
+        ≤ steps.old + 2 + 2 * size_if (slice_get program.now.bodies (program.now.functions + process))
+        + (3 * most_cells program.now + 12) * length own.now }
 {
     let mut tracer = begin(alloc, program, plan, budget, process, steps)?;
     for index in 0..own.len() {

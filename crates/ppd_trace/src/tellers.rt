@@ -262,7 +262,13 @@ fn push_values<L: Ledger>(
 /// The story of the steps that were taken.
 fn close<L: Ledger>(alloc: Global, teller: Teller, steps: &mut Steps<L>) -> Result<Story, Memory>
     ensures cost { steps.new ≤ steps.old + 2 * length teller.entry.world.world.shared }
-    ensures value { IfOk result (λ story. story ≡ record { steps = teller.entry.steps.items; cells = teller.entry.world.world.shared; writers = teller.entry.writers }) }
+    ensures value { IfOk result
+        (λ story. story
+        ≡ record {
+          steps = teller.entry.steps.items;
+          cells = teller.entry.world.world.shared;
+          writers = teller.entry.writers;
+        }) }
 {
     let mut cells = Nums::new(alloc);
     push_values(&mut cells, teller.world.cells(), steps)?;
@@ -290,7 +296,8 @@ pub fn tell_story_in<L: Ledger>(
     requires plan { IsValidPlan program.now plan.now }
     requires budget { budget ≤ MOST_BUDGET }
     ensures story { IsStoryOf program.now plan.now budget schedule.now result }
-    ensures cost { steps.new ≤ steps.old + 7 * (length schedule.now + length program.now.starts + length program.now.bodies) }
+    ensures cost { steps.new
+        ≤ steps.old + 7 * (length schedule.now + length program.now.starts + length program.now.bodies) }
 {
     let mut teller = match begin(alloc, program, plan, budget, steps) {
         Ok(teller) => teller,

@@ -32,7 +32,9 @@ fn trace_all<L: Ledger>(
     requires story { IsTraceable program.now plan.now budget told.now.story }
     requires pairs { HavePairs program.now told.now.story told.now.takes told.now.receives told.now.sends told.now.completes }
     ensures trace { IfOk result (λ trace. trace ≡ trace_of program.now plan.now budget told.now.story) }
-    ensures cost { steps.new ≤ steps.old + 4 * length program.now.bodies + 2 * sum_by (λ b. b.cells) program.now.bodies + (3 * most_cells program.now + 12) * steps_in told.now.story }
+    ensures cost { steps.new
+        ≤ steps.old + 4 * length program.now.bodies + 2 * sum_by (λ b. b.cells) program.now.bodies
+        + (3 * most_cells program.now + 12) * steps_in told.now.story }
 {
     let lists = told.story.steps.as_slice();
     let mut events = Seq::new(alloc);
@@ -93,7 +95,8 @@ pub fn full_trace_in<L: Ledger>(
     requires plan { IsValidPlan program.now plan.now }
     requires budget { budget ≤ MOST_BUDGET }
     ensures trace { IsTraceOf program.now plan.now budget schedule.now result }
-    ensures cost { steps.new ≤ steps.old + (3 * most_cells program.now + 31) * (length schedule.now + extent program.now) }
+    ensures cost { steps.new
+        ≤ steps.old + (3 * most_cells program.now + 31) * (length schedule.now + extent program.now) }
 {
     let story = match tell_story_in(alloc, program, plan, budget, schedule, steps) {
         Ok(story) => story,

@@ -42,7 +42,8 @@ fn add_at(
     requires valid { IsValid program.now }
     requires rows { rows.now ≡ unit_rows program.now loops.now }
     requires there { stmt < length program.now.stmts }
-    ensures { OnOk result (units.new ≡ units.old ++ map (unit_of program.now loops.now) (starts_at program.now loops.now stmt)) }
+    ensures { OnOk result
+        (units.new ≡ units.old ++ map (unit_of program.now loops.now) (starts_at program.now loops.now stmt)) }
 {
     if is_left_at(program, stmt) {
         return add_unit(units, alloc, program, loops, rows, Start::After(stmt));
@@ -72,7 +73,10 @@ fn add_at_stmts(
 ) -> Result<(), Memory>
     requires valid { IsValid program.now }
     requires rows { rows.now ≡ unit_rows program.now loops.now }
-    ensures { OnOk result (units.new ≡ units.old ++ map (unit_of program.now loops.now) (flat_map (starts_at program.now loops.now) (numbers_of program.now.stmts body.now))) }
+    ensures { OnOk result
+        (units.new ≡ units.old
+        ++ map (unit_of program.now loops.now)
+        (flat_map (starts_at program.now loops.now) (numbers_of program.now.stmts body.now))) }
 {
     for number in body.first..end_of(program.stmts.as_slice(), body) {
         add_at(units, alloc, program, loops, rows, number)?;
@@ -92,7 +96,9 @@ fn add_in(
 ) -> Result<(), Memory>
     requires valid { IsValid program.now }
     requires rows { rows.now ≡ unit_rows program.now loops.now }
-    ensures { OnOk result (units.new ≡ units.old ++ map (unit_of program.now loops.now) (starts_in program.now loops.now number body.now)) }
+    ensures { OnOk result
+        (units.new ≡ units.old
+        ++ map (unit_of program.now loops.now) (starts_in program.now loops.now number body.now)) }
 {
     add_unit(units, alloc, program, loops, rows, Start::Entry(number))?;
     add_at_stmts(units, alloc, program, loops, rows, body)

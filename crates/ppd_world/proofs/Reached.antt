@@ -22,7 +22,7 @@ use Rattle.ppd_model.specs.declared.state.Counts.{Counts}
 use Rattle.ppd_model.specs.declared.state.Logging.{Logging}
 use Rattle.ppd_model.specs.Bounds.{steps_left}
 use Rattle.ppd_model.specs.Laws.{logged_moment}
-use Rattle.ppd_model.specs.Logs.{close, ends_from, log_step, loggings, logs_of}
+use Rattle.ppd_model.specs.Logs.{close, closed_logs_of, ends_from, log_step, loggings}
 use Rattle.ppd_model.specs.Schedule.{run_from, started_procs, started_world}
 use Rattle.ppd_model.specs.Story.{told}
 use Rattle.ppd_model.specs.World.{World, change, enabled, step}
@@ -187,7 +187,7 @@ small_loggings r h = every_all (IsSmallLogging r.program) r.loggings (every_more
 -- ---- the end
 
 pub closed_is : (r : Running) (c : Closed) → c ≡ closed r → (h : List ℕ) → IsOf h r → c ≡ close r.program r.plan r.budget h
-closed_is r c e h o = e ∙ ap (λ (ls : List Logging). record { logs = logs_of ls; ends = ends_from r.program r.program.functions ls }) o.logs
+closed_is r c e h o = e ∙ ap (λ (ls : List Logging). record { logs = closed_logs_of ls; ends = ends_from r.program r.program.functions ls }) o.logs
 
 -- ---- the start
 

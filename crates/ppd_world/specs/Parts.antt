@@ -49,7 +49,8 @@ store shared sems chans = record { shared = shared; sems = sems; chans = chans; 
 
 -- a shared state with the processes that have these logs
 abbrev pub world_of : List ℤ → List Counts → List Channel → List Logging → World
-world_of shared sems chans loggings = record { shared = shared; sems = sems; chans = chans; procs = map (λ l. l.proc) loggings }
+world_of shared sems chans loggings =
+    record { shared = shared; sems = sems; chans = chans; procs = map (λ l. l.proc) loggings }
 
 -- what a process that is there needs
 abbrev pub need_of_logging : Program → Plan → Option Logging → Need

@@ -13,7 +13,7 @@ use Rattle.ppd_model.specs.declared.trace.DriveError.TheVariants.{NotEnabled, Me
 use Rattle.ppd_model.specs.Costs.{HasWholePrelogs, values_in}
 use Rattle.ppd_model.specs.Laws.{logged_moment}
 use Rattle.ppd_model.specs.declared.state.Logging.{Logging}
-use Rattle.ppd_model.specs.Logs.{ends_from, log_step, loggings, logs_of}
+use Rattle.ppd_model.specs.Logs.{closed_logs_of, ends_from, log_step, loggings}
 use Rattle.ppd_model.specs.Schedule.{run, started_world}
 use Rattle.ppd_model.specs.World.{World, change, enabled, need, step}
 
@@ -44,7 +44,7 @@ stepped r p = record r {
 
 -- what is left when nobody can take a step
 abbrev pub closed : Running → Closed
-closed r = record { logs = logs_of r.loggings; ends = ends_from r.program r.program.functions r.loggings }
+closed r = record { logs = closed_logs_of r.loggings; ends = ends_from r.program r.program.functions r.loggings }
 
 -- the world and the logs are those of this schedule
 pub record IsOf (h : List ℕ) (r : Running) : Type 0 where
@@ -86,14 +86,16 @@ pub record Takes (before : Running) (h : List ℕ) (after : Running) : Type 0 wh
 -- a process's log before and after a step of this need: the cost spent rose by 1 and by the values of the entries
 -- that the log grew by, within the budget; for a stop for the budget it did not rise
 pub record HasPaid (budget : ℕ) (n : Need) (before after : Logging) : Type 0 where
-  pub cost : n ≢ Budget → after.proc.spent ≡ before.proc.spent + (1 + values_in (drop (length before.entries) after.entries))
+  pub cost : n ≢ Budget
+      → after.proc.spent ≡ before.proc.spent + (1 + values_in (drop (length before.entries) after.entries))
   pub within : n ≢ Budget → after.proc.spent ≤ budget
   pub free : n ≡ Budget → after.proc.spent ≡ before.proc.spent
 
 -- so it is with process p, where the plan lists all parameters of its functions' blocks
 abbrev pub IsPaidStep : Running → ℕ → Running → Type 0
 IsPaidStep before p after =
-    HasWholePrelogs before.program before.plan → (l k : Logging) → slice_get before.loggings p ≡ Some l → slice_get after.loggings p ≡ Some k
+    HasWholePrelogs before.program before.plan → (l k : Logging) → slice_get before.loggings p ≡ Some l
+    → slice_get after.loggings p ≡ Some k
     → HasPaid before.budget (need before.program before.plan before.world p) l k
 
 -- process p, which was enabled, took its step
@@ -110,5 +112,6 @@ IsCause r p n Memory = ⊤
 -- for want of memory, some first numbers
 abbrev pub IsDriven : Running → List ℕ → Running → Result (Unit {0}) DriveError → Type 0
 IsDriven before h after (Ok u) = Takes before h after
-IsDriven before h after (Err (NotEnabled n)) = Takes before (take n h) after × IsSomeAnd (slice_get h n) (λ p. can_step after p ≡ false)
+IsDriven before h after (Err (NotEnabled n)) =
+    Takes before (take n h) after × IsSomeAnd (slice_get h n) (λ p. can_step after p ≡ false)
 IsDriven before h after (Err Memory) = (n : ℕ) × (n ≤ length h) × Takes before (take n h) after

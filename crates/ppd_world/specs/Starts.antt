@@ -20,7 +20,8 @@ use Rattle.ppd_model.specs.Story.{values_of_unit}
 abbrev pub first_entries : Program → Plan → ℕ → List Entry
 first_entries program plan body =
     let u = unit_of plan (start.Entry body) in
-    entry.Prelog (or_zero (block_of plan (block.Process body))) [] ∷ entry.Unit u (values_of_unit plan program.starts u) ∷ []
+    entry.Prelog (or_zero (block_of plan (block.Process body))) []
+    ∷ entry.Unit u (values_of_unit plan program.starts u) ∷ []
 
 -- the first n processes with their logs
 abbrev pub begun_logs : Program → Plan → ℕ → ℕ → List Logging

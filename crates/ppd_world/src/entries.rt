@@ -95,7 +95,8 @@ fn push_opened(
 ) -> Result<(), Memory>
     requires program { IsRunnable program.now }
     requires proc { IsRunning program.now proc.now }
-    ensures { OnOk result (entries.new.items ≡ entries.old.items ++ prelogs (opened program.now plan.now proc.now need)) }
+    ensures { OnOk result
+        (entries.new.items ≡ entries.old.items ++ prelogs (opened program.now plan.now proc.now need)) }
 {
     match need {
         Need::Enter { block, .. } => {
@@ -135,7 +136,8 @@ fn push_closed(
 ) -> Result<(), Memory>
     requires program { IsRunnable program.now }
     requires proc { IsRunning program.now proc.now }
-    ensures { OnOk result (entries.new.items ≡ entries.old.items ++ postlogs (closed program.now plan.now proc.now need)) }
+    ensures { OnOk result
+        (entries.new.items ≡ entries.old.items ++ postlogs (closed program.now plan.now proc.now need)) }
 {
     match need {
         Need::Leave { block, .. } => {
@@ -185,7 +187,9 @@ fn push_sync(
     answer: Answer,
     number: Option<u32>,
 ) -> Result<(), Memory>
-    ensures { OnOk result (entries.new.items ≡ entries.old.items ++ syncs logging.now (taken_with need answer number) (numbered (kind_of_sync need) number)) }
+    ensures { OnOk result
+        (entries.new.items ≡ entries.old.items
+        ++ syncs logging.now (taken_with need answer number) (numbered (kind_of_sync need) number)) }
 {
     let (kind, object) = match need {
         Need::P { sem, .. } => (SyncKind::P, sem),
@@ -240,7 +244,9 @@ fn push_unit(
     shared: &[i64],
     need: Need,
 ) -> Result<(), Memory>
-    ensures { OnOk result (entries.new.items ≡ entries.old.items ++ units (unit_started_of need) (values_at_start plan.now shared.now (unit_started_of need))) }
+    ensures { OnOk result
+        (entries.new.items ≡ entries.old.items
+        ++ units (unit_started_of need) (values_at_start plan.now shared.now (unit_started_of need))) }
 {
     match unit_started(need) {
         Some(unit) => {
@@ -301,7 +307,9 @@ pub(crate) fn entries_of(
 ) -> Result<Vec<Entry>, Memory>
     requires program { IsRunnable program.now }
     requires proc { IsRunning program.now logging.now.proc }
-    ensures { IfOk result (λ entries. entries.items ≡ entries_of_step program.now plan.now logging.now (moment_with plan.now shared.now need answer number)) }
+    ensures { IfOk result
+        (λ entries. entries.items
+        ≡ entries_of_step program.now plan.now logging.now (moment_with plan.now shared.now need answer number)) }
 {
     let mut entries = Vec::new(alloc);
     push_opened(&mut entries, alloc, program, plan, &logging.proc, need)?;

@@ -95,7 +95,9 @@ fn step_one(
     requires program { IsRunnable program.now }
     requires plan { IsNumbered plan.now }
     requires logging { IsSmallLogging program.now logging.old }
-    ensures ok { OnOk result (logging.new ≡ log_step program.now plan.now logging.old (moment_with plan.now shared.now need answer number)) }
+    ensures ok { OnOk result
+        (logging.new
+        ≡ log_step program.now plan.now logging.old (moment_with plan.now shared.now need answer number)) }
     ensures err { OnErr result (logging.new ≡ logging.old) }
 {
     let new = entries_of(alloc, program, plan, logging, shared, need, answer, number)?;
@@ -119,7 +121,10 @@ pub(crate) fn step_at(
     requires program { IsRunnable program.now }
     requires plan { IsNumbered plan.now }
     requires loggings { All (IsSmallLogging program.now) loggings.old.items }
-    ensures ok { OnOk result (loggings.new.items ≡ change (λ l. log_step program.now plan.now l (moment_with plan.now shared.now need answer number)) place loggings.old.items) }
+    ensures ok { OnOk result
+        (loggings.new.items
+        ≡ change (λ l. log_step program.now plan.now l
+        (moment_with plan.now shared.now need answer number)) place loggings.old.items) }
     ensures err { OnErr result (loggings.new.items ≡ loggings.old.items) }
 {
     if place >= loggings.len() {

@@ -23,7 +23,8 @@ pub(crate) enum Note {
 /// The place at which a cell is missing in a rising list, and None where it is there.
 fn missing_at(cells: &[u16], cell: u16) -> Option<usize>
     ensures within { IfSome result (λ place. place ≤ length cells.now) }
-    ensures some { IfSome result (λ place. with_cell cell cells.now ≡ take place cells.now ++ cell ∷ drop place cells.now) }
+    ensures some { IfSome result
+        (λ place. with_cell cell cells.now ≡ take place cells.now ++ cell ∷ drop place cells.now) }
     ensures none { IfNone result (with_cell cell cells.now ≡ cells.now) }
 {
     for index in 0..cells.len() {
@@ -60,7 +61,8 @@ fn with_cell_at(alloc: Global, cells: &[u16], place: usize, cell: u16) -> Result
 }
 
 fn note_read(alloc: Global, logging: &Logging, cell: u16) -> Result<Note, Memory>
-    ensures { IfOk result (λ note. noted note logging.now ≡ record logging.now { reads = with_cell cell logging.now.reads }) }
+    ensures { IfOk result
+        (λ note. noted note logging.now ≡ record logging.now { reads = with_cell cell logging.now.reads }) }
 {
     let cells = logging.reads.as_slice();
     match missing_at(cells, cell) {
@@ -70,7 +72,8 @@ fn note_read(alloc: Global, logging: &Logging, cell: u16) -> Result<Note, Memory
 }
 
 fn note_write(alloc: Global, logging: &Logging, cell: u16) -> Result<Note, Memory>
-    ensures { IfOk result (λ note. noted note logging.now ≡ record logging.now { writes = with_cell cell logging.now.writes }) }
+    ensures { IfOk result
+        (λ note. noted note logging.now ≡ record logging.now { writes = with_cell cell logging.now.writes }) }
 {
     let cells = logging.writes.as_slice();
     match missing_at(cells, cell) {

@@ -67,7 +67,8 @@ pub(crate) fn next_step(
     requires sems { All IsSmallSem sems.now }
     requires chans { All IsSmallChan chans.now }
     requires loggings { All (IsSmallLogging program.now) loggings.now }
-    ensures { result ≡ (logged_moment program.now plan.now (world_of shared.now sems.now chans.now loggings.now) place).taken }
+    ensures { result
+        ≡ (logged_moment program.now plan.now (world_of shared.now sems.now chans.now loggings.now) place).taken }
 {
     let need = need_at(program, plan, loggings, place);
     let answer = answer_to(shared, chans, need);
@@ -98,7 +99,10 @@ fn send_and_step(
     requires plan { IsNumbered plan.now }
     requires loggings { All (IsSmallLogging program.now) loggings.old.items }
     ensures chans { OnOk result (chans.new.items ≡ sent_after chans.old.items need) }
-    ensures loggings { OnOk result (loggings.new.items ≡ change (λ l. log_step program.now plan.now l (moment_with plan.now shared.now need answer number)) place loggings.old.items) }
+    ensures loggings { OnOk result
+        (loggings.new.items
+        ≡ change (λ l. log_step program.now plan.now l
+        (moment_with plan.now shared.now need answer number)) place loggings.old.items) }
     ensures same_chans { OnErr result (chans.new.items ≡ chans.old.items) }
     ensures same_loggings { OnErr result (loggings.new.items ≡ loggings.old.items) }
 {
@@ -128,8 +132,15 @@ pub(crate) fn take_step(
     requires sems { All IsSmallSem sems.old.items }
     requires chans { All IsSmallChan chans.old.items }
     requires loggings { All (IsSmallLogging program.now) loggings.old.items }
-    ensures world { OnOk result (world_of shared.new sems.new.items chans.new.items loggings.new.items ≡ step_of program.now plan.now (world_of shared.old sems.old.items chans.old.items loggings.old.items) place) }
-    ensures loggings { OnOk result (loggings.new.items ≡ change (λ l. log_step program.now plan.now l (logged_moment program.now plan.now (world_of shared.old sems.old.items chans.old.items loggings.old.items) place)) place loggings.old.items) }
+    ensures world { OnOk result
+        (world_of shared.new sems.new.items chans.new.items loggings.new.items
+        ≡ step_of program.now plan.now
+        (world_of shared.old sems.old.items chans.old.items loggings.old.items) place) }
+    ensures loggings { OnOk result
+        (loggings.new.items
+        ≡ change (λ l. log_step program.now plan.now l
+        (logged_moment program.now plan.now
+        (world_of shared.old sems.old.items chans.old.items loggings.old.items) place)) place loggings.old.items) }
     ensures same_shared { OnErr result (shared.new ≡ shared.old) }
     ensures same_sems { OnErr result (sems.new.items ≡ sems.old.items) }
     ensures same_chans { OnErr result (chans.new.items ≡ chans.old.items) }

@@ -234,7 +234,9 @@ impl<'a> World<'a> {
         requires reached { IsReached self }
         requires over { IsOver self.program self.plan self.world }
         ensures closed { IfOk result (λ closed. closed ≡ closed_of self.entry) }
-        ensures whole { IfOk result (λ closed. (h : List ℕ) → IsOf h self.entry → closed ≡ close_of self.entry.program self.entry.plan self.entry.budget h) }
+        ensures whole { IfOk result
+            (λ closed. (h : List ℕ) → IsOf h self.entry
+            → closed ≡ close_of self.entry.program self.entry.plan self.entry.budget h) }
     {
         close_all(self.alloc, self.program, self.loggings)
     }

@@ -1,16 +1,33 @@
-use Rattle.std.proofs.Common.{◌≡◌, ◌++◌, ◌+◌, ◌≤◌, ◌<◌, ◌∙◌, [], arith, ap, sym, subst, flat_map, get_or, length}
-use Rattle.ppd_race.specs.Busy.{IsLaterRow, races_between}
-use Rattle.ppd_race.proofs.Adding.{at_any, grown_from}
+use Rattle.std.proofs.Common.{refl, ◌∙◌, ap, arith, length}
+use Rattle.std.specs.List.{flat_map}
+use Rattle.ppd_race.specs.Search.{found_over, found_with}
+use Rattle.ppd_race.proofs.BusyRows.{below_at}
+use Rattle.ppd_race.proofs.Grown.{grown_as, past_all, past_more, past_none}
 use Rattle.ppd_race.proofs.found.add_edge.Goals as goal
 
-pub loop-q-preserved : goal.loop-q-preserved
-loop-q-preserved c = λ rising ahead.
-    let rows = c.args.rows.now in
-    let q = c.loop-q.q in
-    let above : c.args.p + 1 ≤ q = omega (arith, c.loop-q.auto.q) in
-    let inside : q < length rows = omega (arith, c.loop-q-test.true) in
-    let row_is : c.as_slice.result.now ≡ get_or rows q [] = c.as_slice.ensures ∙ c.index-rows-q.is ∙ at_any rows q c.index-rows-q.result [] inside in
-    let later : IsLaterRow c.args.graph.now c.args.a.now q c.as_slice.result.now = subst (IsLaterRow c.args.graph.now c.args.a.now q) (sym row_is) (ahead q (omega (arith, above)) inside) in
-    let f = races_between c.args.graph.now c.args.a.now in
-    grown_from (λ r. flat_map f (get_or rows r [])) (c.args.p + 1) q c.args.races.now c.loop-q.races c.add_row.new.races above (c.loop-q.invariant rising ahead)
-    (c.in_ok-add_row.ensures rising later ∙ ap (λ row. c.loop-q.races ++ flat_map f row) row_is)
+pub add_cell-requires-clause-cell : goal.add_cell-requires-clause-cell
+add_cell-requires-clause-cell g c = below_at 1024 c.args.b.now.cells c.as_slice-cells.result.now c.loop-cell.cell-index _ c.as_slice-cells.ensures c.requires.below c.loop-cell-test.true
+
+pub loop-cell-init : goal.loop-cell-init
+loop-cell-init g c = record {
+  long = refl;
+  grown = λ p can elsewhere. past_none (λ m k. found_over c.args.graph.now c.args.lists.now c.args.b.now k m) c.as_slice-cells.result.now c.args.found.now.items;
+  spent = omega arith;
+}
+
+pub loop-cell-preserved : goal.loop-cell-preserved
+loop-cell-preserved g c = record {
+  long = c.in_ok-add_cell.ensures.long ∙ c.loop-cell.invariant.long;
+  grown = λ p can elsewhere.
+      past_more (λ m k. found_over c.args.graph.now c.args.lists.now c.args.b.now k m) c.loop-cell.cell-index c.as_slice-cells.result.now _ c.args.found.now.items c.loop-cell.found.items c.add_cell.new.found.items c.loop-cell-test.true
+      (c.loop-cell.invariant.grown p can elsewhere) (c.in_ok-add_cell.ensures.grows p can elsewhere);
+  spent = omega (arith, c.tick.ensures, c.in_ok-add_cell.ensures.cost, c.loop-cell.invariant.spent);
+}
+
+pub returns-clause-grows : goal.returns-clause-grows
+returns-clause-grows g c = λ p can elsewhere.
+    grown_as (λ m. flat_map (λ k. found_over c.args.graph.now c.args.lists.now c.args.b.now k m) c.as_slice-cells.result.now) (found_with c.args.graph.now c.args.lists.now c.args.b.now) c.args.found.now.items c.loop-cell.found.items (λ m. ap (flat_map (λ k. found_over c.args.graph.now c.args.lists.now c.args.b.now k m)) c.as_slice-cells.ensures)
+    (past_all (λ m k. found_over c.args.graph.now c.args.lists.now c.args.b.now k m) c.loop-cell.cell-index c.as_slice-cells.result.now c.args.found.now.items c.loop-cell.found.items c.loop-cell-test.false (c.loop-cell.invariant.grown p can elsewhere))
+
+pub returns-clause-cost : goal.returns-clause-cost
+returns-clause-cost g c = let same = ap length c.as_slice-cells.ensures in omega (arith, same, c.loop-cell.invariant.spent)

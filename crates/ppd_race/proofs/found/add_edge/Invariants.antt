@@ -1,8 +1,12 @@
-use Rattle.std.proofs.Common.{◌≡◌, ◌++◌, ◌+◌, ◌-◌, [], flat_map, get_or}
-use Rattle.std.specs.List.{range_with_len}
-use Rattle.ppd_race.specs.Busy.{IsAhead, IsRising, races_between}
+use Rattle.std.proofs.Common.{ℕ, ◌≤◌, ◌+◌, ◌*◌, ◌≡◌, length}
+use Rattle.ppd_race.specs.Lists.{total}
+use Rattle.ppd_race.specs.Search.{CanSearch, IsElsewhere, found_over}
+use Rattle.ppd_race.proofs.Grown.{GrownPast}
 use Rattle.ppd_race.proofs.found.add_edge.Given as goal
 
-abbrev pub invariant-loop-q : goal.invariant-loop-q
-invariant-loop-q l =
-    IsRising l.graph → IsAhead l.graph l.rows l.p l.a → l.races ≡ l.fn.races ++ flat_map (λ q. flat_map (races_between l.graph l.a) (get_or l.rows q [])) (range_with_len (l.p + 1) (l.q - (l.p + 1)))
+abbrev pub invariant-loop-cell : goal.invariant-loop-cell
+invariant-loop-cell g l = record {
+  long : length l.found.items ≡ length l.fn.found.items;
+  grown : (p : ℕ) → CanSearch l.graph p l.lists → IsElsewhere l.graph p l.b.edge → GrownPast (λ m c. found_over l.graph l.lists l.b c m) l.cell-index l.cells l.fn.found.items l.found.items;
+  spent : l.steps + total l.fn.found.items ≤ l.fn.steps + total l.found.items + 385 * l.cell-index;
+}

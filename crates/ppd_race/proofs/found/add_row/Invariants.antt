@@ -1,6 +1,13 @@
-use Rattle.std.proofs.Common.{◌≡◌, ◌++◌, drop, flat_map}
-use Rattle.ppd_race.specs.Busy.{races_between}
+use Rattle.std.proofs.Common.{ℕ, ◌≤◌, ◌+◌, take, ◌≡◌, length}
+use Rattle.std.specs.List.{sum_by}
+use Rattle.ppd_race.specs.Lists.{total}
+use Rattle.ppd_race.specs.Search.{AreElsewhere, CanSearch, edge_cost, found_with}
+use Rattle.ppd_race.proofs.Grown.{GrownPast}
 use Rattle.ppd_race.proofs.found.add_row.Given as goal
 
 abbrev pub invariant-loop-b : goal.invariant-loop-b
-invariant-loop-b l = l.races ++ flat_map (races_between l.graph l.a) (drop l.b-index l.unordered) ≡ l.fn.races ++ flat_map (races_between l.graph l.a) l.unordered
+invariant-loop-b g l = record {
+  long : length l.found.items ≡ length l.fn.found.items;
+  grown : (p : ℕ) → CanSearch l.graph p l.lists → AreElsewhere l.graph p l.row → GrownPast (λ m b. found_with l.graph l.lists b m) l.b-index l.row l.fn.found.items l.found.items;
+  spent : l.steps + total l.fn.found.items ≤ l.fn.steps + total l.found.items + sum_by edge_cost (take l.b-index l.row);
+}

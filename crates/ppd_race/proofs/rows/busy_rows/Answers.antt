@@ -1,8 +1,27 @@
+use Rattle.std.proofs.Common.{◌∙◌, ap, arith}
+use Rattle.std.specs.List.{sum_by}
+use Rattle.std.proofs.lemmas.List.Sums.{sum_by-take-le, sum_by_more, sum_by_push}
+use Rattle.ppd_race.specs.Search.{row_cost}
+use Rattle.ppd_race.specs.Spending.{sets_cost}
 use Rattle.ppd_race.proofs.BusyRows.{rows_more}
 use Rattle.ppd_race.proofs.rows.busy_rows.Goals as goal
 
 pub loop-process-preserved : goal.loop-process-preserved
-loop-process-preserved c =
+loop-process-preserved g c =
     let now = rows_more c.args.sets.now c.loop-process.process c.loop-process.rows c.push.new.self c.in_ok-row.row c.as_slice.result.now c.index-sets-process.result c.loop-process-test.true c.loop-process.invariant.long
-    c.in_ok-push.ensures.ok c.in_ok-row.ensures c.as_slice.ensures c.index-sets-process.is c.loop-process.invariant.row in
-    record { long = now.0; row = now.1 }
+    c.in_ok-push.ensures.ok c.in_ok-row.ensures.busy c.as_slice.ensures c.index-sets-process.is c.loop-process.invariant.row in
+    let more = sum_by_more sets_cost c.args.sets.now c.loop-process.process c.index-sets-process.result c.loop-process-test.true in
+    let same = ap sets_cost (c.as_slice.ensures ∙ c.index-sets-process.is) in
+    let pushed = ap (sum_by row_cost) c.in_ok-push.ensures.ok ∙ sum_by_push row_cost c.loop-process.rows c.in_ok-row.row in
+    record {
+      long = now.0;
+      row = now.1;
+      size = omega (arith, more, same, pushed, c.in_ok-row.ensures.size, c.loop-process.invariant.size);
+      spent = omega (arith, more, same, c.tick.ensures, c.in_ok-row.ensures.cost, c.loop-process.invariant.spent);
+    }
+
+pub returns-clause-size : goal.returns-clause-size
+returns-clause-size g c = let less = sum_by-take-le sets_cost c.args.sets.now c.loop-process.process in omega (arith, less, c.loop-process.invariant.size)
+
+pub returns-clause-cost : goal.returns-clause-cost
+returns-clause-cost g c = let less = sum_by-take-le sets_cost c.args.sets.now c.loop-process.process in omega (arith, less, c.loop-process.invariant.spent)

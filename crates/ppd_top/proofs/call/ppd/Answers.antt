@@ -1,26 +1,47 @@
-use Rattle.std.proofs.Common.{lit<}
-use Rattle.ppd_top.specs.Top.{usage}
-use Rattle.ppd_top.specs.Top.Writes.{for_words}
-use Rattle.ppd_top.proofs.Outcomes.{write_failed, responded_whole, responded_refused, responded_failed, responded_out, responded_complete}
+use Rattle.ppd_top.proofs.Clauses.{has_no_run, in_range, is_answered, is_complete, keeps_others, keeps_shelf, keeps_stores, was_done, was_ended, was_not_asked, was_not_recalled, was_out, was_refused, was_unread, was_unwritten}
 use Rattle.ppd_top.proofs.call.ppd.Goals as goal
 
-pub returns-in_default-clause-write : goal.returns-in_default-clause-write
-returns-in_default-clause-write g c = write_failed _ _ _ _ _ _ _ _ 2 usage (for_words c.in_default.ensures.none c.new.ensures) (lit< tt) c.finish.ensures
+pub returns-clause-range : goal.returns-clause-range
+returns-clause-range g c = in_range _ _ _ _ _ c.answer.ensures.comes
 
-pub returns-in-Ok-clause-run : goal.returns-in-Ok-clause-run
-returns-in-Ok-clause-run g c = responded_whole c.args.words.now (g.F.Shelf.held c.args.shelf.now) c.respond.result.schedule (g.O.Sink.written c.args.output.now) (g.O.Sink.written c.respond.new.output) (g.O.Sink.faults c.args.output.now) (g.O.Sink.faults c.respond.new.output) c.respond.result.status c.in-Some.request.command c.in-Some.request.name.now c.in-Some.request.options c.deref.result.now c.in-Some.ensures.some (rw c.deref.ensures.value c.in-Ok.ensures.bytes) c.respond.ensures
+pub returns-clause-run : goal.returns-clause-run
+returns-clause-run g c = was_done _ _ _ _ _ c.answer.ensures.comes
 
-pub returns-in-Ok-clause-refused : goal.returns-in-Ok-clause-refused
-returns-in-Ok-clause-refused g c = responded_refused c.args.words.now (g.F.Shelf.held c.args.shelf.now) c.respond.result.schedule (g.O.Sink.written c.args.output.now) (g.O.Sink.written c.respond.new.output) (g.O.Sink.faults c.args.output.now) (g.O.Sink.faults c.respond.new.output) c.respond.result.status c.in-Some.request.command c.in-Some.request.name.now c.in-Some.request.options c.deref.result.now c.in-Some.ensures.some (rw c.deref.ensures.value c.in-Ok.ensures.bytes) c.respond.ensures
+pub returns-clause-lines : goal.returns-clause-lines
+returns-clause-lines g c = was_ended _ _ _ _ _ c.answer.ensures.comes
 
-pub returns-in-Ok-clause-write : goal.returns-in-Ok-clause-write
-returns-in-Ok-clause-write g c = responded_failed c.args.words.now (g.F.Shelf.held c.args.shelf.now) c.respond.result.schedule (g.O.Sink.written c.args.output.now) (g.O.Sink.written c.respond.new.output) (g.O.Sink.faults c.args.output.now) (g.O.Sink.faults c.respond.new.output) c.respond.result.status c.in-Some.request.command c.in-Some.request.name.now c.in-Some.request.options c.deref.result.now c.in-Some.ensures.some (rw c.deref.ensures.value c.in-Ok.ensures.bytes) c.respond.ensures
+pub returns-clause-refused : goal.returns-clause-refused
+returns-clause-refused g c = was_refused _ _ _ _ _ c.answer.ensures.comes
 
-pub returns-in-Ok-clause-memory : goal.returns-in-Ok-clause-memory
-returns-in-Ok-clause-memory g c = responded_out c.args.words.now (g.F.Shelf.held c.args.shelf.now) c.respond.result.schedule (g.O.Sink.written c.args.output.now) (g.O.Sink.written c.respond.new.output) (g.O.Sink.faults c.args.output.now) (g.O.Sink.faults c.respond.new.output) c.respond.result.status c.in-Some.request.command c.in-Some.request.name.now c.in-Some.request.options c.deref.result.now c.in-Some.ensures.some (rw c.deref.ensures.value c.in-Ok.ensures.bytes) c.respond.ensures
+pub returns-clause-usage : goal.returns-clause-usage
+returns-clause-usage g c = was_not_asked _ _ _ _ _ c.answer.ensures.comes
 
-pub returns-in-Ok-clause-complete : goal.returns-in-Ok-clause-complete
-returns-in-Ok-clause-complete g c = responded_complete c.args.words.now (g.F.Shelf.held c.args.shelf.now) c.respond.result.schedule (g.O.Sink.written c.args.output.now) (g.O.Sink.written c.respond.new.output) (g.O.Sink.faults c.args.output.now) (g.O.Sink.faults c.respond.new.output) c.respond.result.status c.in-Some.request.command c.in-Some.request.name.now c.in-Some.request.options c.deref.result.now c.in-Some.ensures.some (rw c.deref.ensures.value c.in-Ok.ensures.bytes) (g.F.Shelf.failed_loads c.args.shelf.now) (g.F.Shelf.failed_loads c.load.new.self) c.respond.ensures
+pub returns-clause-read : goal.returns-clause-read
+returns-clause-read g c = was_unread _ _ _ _ _ c.answer.ensures.comes
 
-pub returns-in_default-clause-complete : goal.returns-in_default-clause-complete
-returns-in_default-clause-complete g c = λ p. absurd (c.in_default.ensures.none p.command p.name p.options p.asked)
+pub returns-clause-write : goal.returns-clause-write
+returns-clause-write g c = was_unwritten _ _ _ _ _ c.answer.ensures.comes
+
+pub returns-clause-memory : goal.returns-clause-memory
+returns-clause-memory g c = was_out _ _ _ _ _ c.answer.ensures.comes
+
+pub returns-clause-recording : goal.returns-clause-recording
+returns-clause-recording g c = was_not_recalled _ _ _ _ _ c.answer.ensures.comes
+
+pub returns-clause-complete : goal.returns-clause-complete
+returns-clause-complete g c = is_complete _ _ _ _ _ c.answer.ensures.comes
+
+pub returns-clause-answers : goal.returns-clause-answers
+returns-clause-answers g c = is_answered _ _ _ _ _ c.answer.ensures.comes
+
+pub returns-clause-no_run : goal.returns-clause-no_run
+returns-clause-no_run g c = has_no_run _ _ _ _ _ c.answer.ensures.comes
+
+pub returns-clause-shelf : goal.returns-clause-shelf
+returns-clause-shelf g c = keeps_shelf _ _ _ _ _ c.answer.ensures.comes
+
+pub returns-clause-others : goal.returns-clause-others
+returns-clause-others g c = keeps_others _ _ _ _ _ c.answer.ensures.comes
+
+pub returns-clause-stores : goal.returns-clause-stores
+returns-clause-stores g c = keeps_stores _ _ _ _ _ c.answer.ensures.comes

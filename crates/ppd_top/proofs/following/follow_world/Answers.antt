@@ -7,14 +7,14 @@ returns-in-Err-clause-error c = fails_at c.args.program.now c.args.options.now c
 pub returns-in-Some-clause-error : goal.returns-in-Some-clause-error
 returns-in-Some-clause-error c = unfinished c.args.program.now c.args.options.now c.args.world c.drive.new.self c.requires.first c.requires.comes c.args.schedule.now c.in-Ok.ensures.driven c.in-Some._process c.in-Some.ensures.some.can
 
-pub close_run-requires-clause-comes : goal.close_run-requires-clause-comes
-close_run-requires-clause-comes c = comes_to c.args.program.now c.args.options.now c.args.world c.drive.new.self c.requires.first c.requires.comes c.args.schedule.now c.in-Ok.ensures.driven
+pub close_world-requires-clause-comes : goal.close_world-requires-clause-comes
+close_world-requires-clause-comes c = comes_to c.args.program.now c.args.options.now c.args.world c.drive.new.self c.requires.first c.requires.comes c.args.schedule.now c.in-Ok.ensures.driven
 
-pub close_run-requires-clause-program : goal.close_run-requires-clause-program
-close_run-requires-clause-program c = same_program c.args.program.now c.args.options.now c.args.world c.drive.new.self c.requires.first c.requires.comes c.args.schedule.now c.in-Ok.ensures.driven
+pub close_world-requires-clause-program : goal.close_world-requires-clause-program
+close_world-requires-clause-program c = same_program c.args.program.now c.args.options.now c.args.world c.drive.new.self c.requires.first c.requires.comes c.args.schedule.now c.in-Ok.ensures.driven
 
-pub close_run-requires-clause-plan : goal.close_run-requires-clause-plan
-close_run-requires-clause-plan c = same_plan c.args.program.now c.args.options.now c.args.world c.drive.new.self c.requires.first c.requires.comes c.args.schedule.now c.in-Ok.ensures.driven
+pub close_world-requires-clause-plan : goal.close_world-requires-clause-plan
+close_world-requires-clause-plan c = same_plan c.args.program.now c.args.options.now c.args.world c.drive.new.self c.requires.first c.requires.comes c.args.schedule.now c.in-Ok.ensures.driven
 
-pub close_run-requires-clause-budget : goal.close_run-requires-clause-budget
-close_run-requires-clause-budget c = same_budget c.args.program.now c.args.options.now c.args.world c.drive.new.self c.requires.first c.requires.comes c.args.schedule.now c.in-Ok.ensures.driven
+pub close_world-requires-clause-budget : goal.close_world-requires-clause-budget
+close_world-requires-clause-budget c = same_budget c.args.program.now c.args.options.now c.args.world c.drive.new.self c.requires.first c.requires.comes c.args.schedule.now c.in-Ok.ensures.driven

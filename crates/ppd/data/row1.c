@@ -1,1 +1,0 @@
-shared int x; process a { x = 2; print(x + 3); }

@@ -1,0 +1,9 @@
+pub mod Events
+pub mod Turns
+pub mod Goals
+pub mod Moved
+pub mod Own
+pub mod Synchronized
+pub mod Last
+pub mod Inside
+pub mod Both

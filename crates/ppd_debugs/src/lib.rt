@@ -1,0 +1,11 @@
+//! The commands `run` and `debug` on worked recordings and failing devices: tests.
+#![tactic(auto)]
+
+#[cfg(test)]
+mod calls;
+#[cfg(test)]
+mod recordings;
+#[cfg(test)]
+mod refusals;
+#[cfg(test)]
+mod replays;

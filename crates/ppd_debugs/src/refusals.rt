@@ -1,0 +1,107 @@
+// Bytes that are no recording, or whose logs have no index or no graph.
+
+use crate::calls::{SMALLEST, SMALLEST_LOGS, debugged, recorded};
+use std::test::Fail;
+
+const LOCK_ORDER: &str = "shared int x; sem m = 1; \
+process a { P(m); x = x + 1; V(m); } process b { P(m); x = x + 1; V(m); }";
+
+// The logs of the schedule 0 0 0 0 0 1 1 1 1 1, but b's `V` has number 2 in place of 3.
+const TWICE: [u8; 179] = [
+    2, 0, 0, 0, 8, 1, 0, 0, 0, 0, 2, 0, 0, 0, 0, 3, 1, 0, 0, 0, 0, 1, 0, 0, 0, 0, 0, 0, 0, 0, 0, 0,
+    0, 0, 2, 0, 1, 0, 1, 0, 0, 0, 0, 0, 0, 0, 0, 3, 2, 0, 0, 0, 0, 2, 0, 0, 0, 0, 0, 0, 0, 0, 0, 1,
+    0, 0, 0, 1, 0, 0, 2, 0, 2, 0, 0, 4, 0, 0, 0, 0, 5, 0, 0, 0, 0, 0, 0, 0, 0, 0, 0, 0, 0, 8, 1, 0,
+    1, 0, 0, 2, 0, 3, 0, 0, 3, 1, 0, 0, 0, 0, 2, 0, 0, 0, 0, 0, 0, 0, 0, 0, 0, 0, 0, 2, 0, 4, 0, 1,
+    0, 0, 0, 0, 0, 0, 0, 1, 3, 2, 0, 0, 0, 0, 2, 0, 0, 0, 0, 0, 0, 0, 0, 0, 1, 0, 0, 0, 1, 0, 0, 2,
+    0, 5, 0, 0, 4, 0, 1, 0, 0, 5, 0, 0, 0, 0, 0, 0, 0, 0, 0,
+];
+
+const CROSSED: &str = "sem s, t; process a { P(s); V(t); } process b { P(t); V(s); }";
+
+// Each of the four has number 1.
+const CYCLE: [u8; 155] = [
+    2, 0, 0, 0, 8, 1, 0, 0, 0, 0, 2, 0, 0, 0, 0, 3, 1, 0, 0, 0, 0, 1, 0, 0, 0, 0, 0, 0, 0, 0, 0, 0,
+    0, 0, 2, 0, 1, 0, 0, 3, 2, 1, 0, 0, 0, 1, 0, 0, 0, 0, 0, 0, 0, 0, 0, 0, 0, 0, 2, 0, 2, 0, 0, 4,
+    0, 0, 0, 0, 5, 0, 0, 0, 0, 0, 0, 0, 0, 0, 0, 0, 0, 8, 1, 0, 1, 0, 0, 2, 0, 3, 0, 0, 3, 1, 1, 0,
+    0, 0, 1, 0, 0, 0, 0, 0, 0, 0, 0, 0, 0, 0, 0, 2, 0, 4, 0, 0, 3, 2, 0, 0, 0, 0, 1, 0, 0, 0, 0, 0,
+    0, 0, 0, 0, 0, 0, 0, 2, 0, 5, 0, 0, 4, 0, 1, 0, 0, 5, 0, 0, 0, 0, 0, 0, 0, 0, 0,
+];
+
+const GIVEN: &str = "sem s; process a { P(s); }";
+
+// The one `P` has number 2.
+const MISSING: [u8; 54] = [
+    1, 0, 0, 0, 6, 1, 0, 0, 0, 0, 2, 0, 0, 0, 0, 3, 1, 0, 0, 0, 0, 2, 0, 0, 0, 0, 0, 0, 0, 0, 0, 0,
+    0, 0, 2, 0, 1, 0, 0, 4, 0, 0, 0, 0, 5, 0, 0, 0, 0, 0, 0, 0, 0, 0,
+];
+
+// A place in the smallest run's recording, the byte that stands there instead, and the line.
+const CHANGES: [(usize, u8, &str); 8] = [
+    (0, 0x51, "bytes 1 Magic 0"),
+    (4, 3, "bytes 2 Version 4"),
+    (65, 2, "bytes 4 Range 65 processes"),
+    (70, 9, "bytes 4 Range 70 tag"),
+    (33, 63, "bytes 6 Source lex 1 BadByte 1:17"),
+    (77, 1, "log 4 WrongValues a 1"),
+    (94, 6, "log 1 Unpaired a 3"),
+    (69, 3, "bytes 5 Trailing 93"),
+];
+
+// A recording that is refused ends with status 6 and its line, before a line of the input is answered.
+#[test]
+fn bad_recordings_are_refused(rt: HostRuntime) -> Result<(), Fail> {
+    let alloc = rt.alloc();
+    for (place, byte, line) in CHANGES {
+        let mut bytes = recorded(alloc, 100_000, SMALLEST, &SMALLEST_LOGS)?;
+        if place < bytes.len() {
+            bytes[place] = byte;
+        }
+        let (status, text) = debugged(&rt, alloc, &bytes, "races\n")?;
+        let mut wanted = Vec::from_slice(alloc, b"recording refused ")?;
+        wanted.extend_from_slice(line.as_bytes())?;
+        wanted.extend_from_slice(b"\n")?;
+        assert_eq!(rt; status, 6, "{line}");
+        assert_eq!(rt; text.as_slice(), wanted.as_slice(), "{line}");
+    }
+    Ok(())
+}
+
+// Too few bytes and too many; a number twice, one that is missing, and a cycle.
+#[test]
+fn bad_logs_are_refused(rt: HostRuntime) -> Result<(), Fail> {
+    let alloc = rt.alloc();
+    let rows: [(&str, &[u8], &str); 5] = [
+        (
+            SMALLEST,
+            &SMALLEST_LOGS[..41],
+            "recording refused bytes 3 Short 105\n",
+        ),
+        (
+            SMALLEST,
+            &SMALLEST_LOGS[..28],
+            "recording refused bytes 3 Short 93\n",
+        ),
+        (
+            LOCK_ORDER,
+            &TWICE,
+            "recording refused sync 1 NumberTwice b 4\n",
+        ),
+        (
+            GIVEN,
+            &MISSING,
+            "recording refused sync 2 NumberMissing P s 1\n",
+        ),
+        (
+            CROSSED,
+            &CYCLE,
+            "recording refused sync 3 Cycle a 0 a 1 b 0 b 1\n",
+        ),
+    ];
+    for (source, logs, line) in rows {
+        let bytes = recorded(alloc, 100_000, source, logs)?;
+        let (status, text) = debugged(&rt, alloc, &bytes, "races\n")?;
+        assert_eq!(rt; status, 6, "{line}");
+        assert_eq!(rt; text.as_slice(), line.as_bytes(), "{line}");
+    }
+    Ok(())
+}

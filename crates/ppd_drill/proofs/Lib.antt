@@ -1,0 +1,2 @@
+-- Texts line by line.
+pub mod Lines

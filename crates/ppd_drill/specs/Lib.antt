@@ -1,0 +1,2 @@
+-- The sources that drills run.
+pub mod Drills

@@ -1,0 +1,14 @@
+//! The replay of one log interval from its own log.
+#![tactic(auto)]
+
+mod emulating;
+mod fitting;
+mod in_force;
+mod pieces;
+mod replayer;
+mod stepping;
+mod turning;
+mod wanting;
+
+pub use emulating::{Counters, emulate, emulate_in};
+pub use ppd_emul::{BlockTrace, EmulError, Found, Item, Piece, Wanted};

@@ -1,0 +1,109 @@
+-- The times of a past's graph order its edges as happened-before does, also to an edge that is none of its.
+use Rattle.std.proofs.Common.{◌≡◌, ◌↔◌, ℕ, zero, suc, ◌+◌, ◌<◌, ◌≤◌, IsTrue, Bool, true, false, ◌&&◌, ◌||◌, List, [], ◌∷◌, Option, Some, None, inl, inr, ◌⊎◌, refl, ap, ap₂, sym, subst, ◌∙◌, arith, length, get_or, map}
+use Rattle.std.specs.Prelude.{filter_map, is_some, nat_eq, nat_lt, if◌then◌else◌}
+use Rattle.std.proofs.lemmas.Option.{slice_get_past}
+use Rattle.ppd_ast.specs.declared.program.Program.{Program}
+use Rattle.ppd_entry.specs.declared.entry.Entry.{Entry}
+use Rattle.ppd_entry.specs.declared.entry.Entry.TheVariants as entry
+use Rattle.ppd_entry.specs.declared.entry.Logs.{Logs}
+use Rattle.ppd_graph.specs.declared.sets.EdgeSets.{EdgeSets}
+use Rattle.ppd_graph.specs.declared.sync_graph.SyncGraph.{SyncGraph}
+use Rattle.ppd_graph.specs.Graphs.{IsEdge, IsGraphOf, edge_count, is_before_by}
+use Rattle.ppd_graph.specs.LogRecord.{found_after, sets_from}
+use Rattle.ppd_model.specs.declared.graph.EdgeId.{EdgeId}
+use Rattle.ppd_model.specs.declared.graph.NodeId.{NodeId}
+use Rattle.ppd_model.specs.HappenedBefore.{closed_through, ends_before, is_direct, is_edge_before, node, nodes, own_syncs, sync_at}
+use Rattle.ppd_model.specs.RecordedSets.{record_in, sync_in}
+use Rattle.ppd_model.specs.Synchronizations.{Sync, leads_at}
+use Rattle.ppd_model.proofs.Tested.{tests_edges}
+
+-- ---- nothing is before a synchronization that is not there
+
+no_lead : (program : Program) (o : Option Sync) → leads_at program o None ≡ false
+no_lead program None = refl
+no_lead program (Some a) = refl
+
+and_false : (b : Bool) → (b && false) ≡ false
+and_false true = refl
+and_false false = refl
+
+no_direct : (program : Program) (syncs : List (List Sync)) (a b : NodeId) → sync_at syncs b ≡ None
+    → is_direct program syncs a b ≡ false
+no_direct program syncs a b e =
+    ap₂ (λ x y. x || y)
+    (ap (λ o. (nat_eq a.process b.process && nat_eq (a.sync + 1) b.sync) && is_some o) e ∙ and_false _)
+    (ap (leads_at program (sync_at syncs a)) e ∙ no_lead program (sync_at syncs a))
+
+no_way : (program : Program) (syncs : List (List Sync)) (ns : List NodeId) (a b : NodeId) → sync_at syncs b ≡ None
+    → closed_through (is_direct program syncs) ns a b ≡ false
+no_way program syncs [] a b e = no_direct program syncs a b e
+no_way program syncs (n ∷ ns) a b e =
+    ap₂ (λ x y. x || (closed_through (is_direct program syncs) ns a n && y)) (no_way program syncs ns a b e)
+    (no_way program syncs ns n b e)
+    ∙ and_false (closed_through (is_direct program syncs) ns a n)
+
+none_before : (program : Program) (syncs : List (List Sync)) (p i q j : ℕ) → length (own_syncs syncs q) < j
+    → ends_before program syncs p i q j ≡ false
+none_before program syncs p i q zero lt = refl
+none_before program syncs p i q (suc j) lt =
+    no_way program syncs (nodes syncs) (node p i) (node q j) (slice_get_past (own_syncs syncs q) j (omega arith))
+
+-- ---- how many edges there are
+
+sets_count : (found : Option EdgeSets) (es : List Entry)
+    → length (sets_from found es) ≡ length (filter_map sync_in es) + 1
+sets_count found [] = refl
+sets_count found (entry.Prelog b values ∷ es) = sets_count found es
+sets_count found (entry.Unit u values ∷ es) = sets_count found es
+sets_count found (entry.Sync kind object number value reads writes ∷ es) =
+    let rest = sets_count (found_after found (entry.Sync kind object number value reads writes)) es in omega
+    (arith, rest)
+sets_count found (entry.Postlog b values ∷ es) = sets_count found es
+sets_count found (entry.End status rest' reads writes ∷ es) = sets_count (found_after found
+    (entry.End status rest' reads writes)) es
+
+few_syncs : (lists : List (List Entry)) (q : ℕ)
+    → length (get_or (map (filter_map sync_in) lists) q []) ≤ length (get_or (map (sets_from None) lists) q [])
+few_syncs [] q = omega arith
+few_syncs (es ∷ lists) zero = let count = sets_count None es in omega (arith, count)
+few_syncs (es ∷ lists) (suc q) = few_syncs lists q
+
+there_or_none : (lists : List (List Entry)) (q j : ℕ) → length (get_or (map (sets_from None) lists) q []) ≤ j
+    → (length (get_or (map (filter_map sync_in) lists) q []) < j) ⊎ (j ≡ 0)
+there_or_none [] q zero le = inr refl
+there_or_none [] q (suc j) le = inl (omega arith)
+there_or_none (es ∷ lists) zero j le = let count = sets_count None es in inl (omega (arith, count))
+there_or_none (es ∷ lists) (suc q) j le = there_or_none lists q j le
+
+bool_same : (a b : Bool) → IsTrue a ↔ IsTrue b → a ≡ b
+bool_same true b h = sym (h.0 refl)
+bool_same false true h = h.1 refl
+bool_same false false h = refl
+
+module _ (program : Program) (logs : Logs) (g : SyncGraph) (is : IsGraphOf program logs g) where
+  pub before_is : (a b : EdgeId) → IsEdge g a → IsEdge g b
+      → is_before_by g a b ≡ is_edge_before program (record_in logs) a b
+  before_is a b x y =
+      bool_same (is_before_by g a b) (is_edge_before program (record_in logs) a b) (
+        (λ h. (tests_edges program (record_in logs) a b).1 ((is.order a b x y).0 h)),
+        (λ h. (is.order a b x y).1
+            ((tests_edges program (record_in logs) a b).0 h)),
+      )
+
+  -- to an edge that is not there only those of its own process are
+  pub before_none : (a b : EdgeId) → edge_count g b.process ≤ b.edge
+      → (nat_eq a.process b.process && nat_lt a.edge b.edge) ≡ is_edge_before program (record_in logs) a b
+  before_none a b le =
+      by (nat_eq a.process b.process) (none b.edge (there_or_none logs.lists b.process b.edge (subst (λ sets. length
+      (get_or sets b.process []) ≤ b.edge) is.sets le)))
+    where
+      none : (j : ℕ) → (length (own_syncs (record_in logs) b.process) < j) ⊎ (j ≡ 0)
+          → ends_before program (record_in logs) a.process a.edge b.process j ≡ false
+      none j (inl lt) = none_before program (record_in logs) a.process a.edge b.process j lt
+      none j (inr e) = ap (ends_before program (record_in logs) a.process a.edge b.process) e
+
+      by : (s : Bool) → ends_before program (record_in logs) a.process a.edge b.process b.edge ≡ false
+          → (s && nat_lt a.edge b.edge) ≡ (if s then nat_lt a.edge b.edge else ends_before program
+          (record_in logs) a.process a.edge b.process b.edge)
+      by true e = refl
+      by false e = sym e

@@ -1,0 +1,6 @@
+mod Counted
+mod Standing
+mod Before
+mod WritingEdges
+mod RecordedWrites
+mod MissingWrites

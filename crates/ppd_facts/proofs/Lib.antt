@@ -1,0 +1,16 @@
+pub mod Within
+pub mod Keeping
+pub mod Planned
+pub mod Placed
+pub mod BlockOpens
+pub mod Named
+pub mod Entered
+pub mod Called
+pub mod Sized
+pub mod Bodies
+pub mod Loops
+pub mod Counted
+pub mod State
+pub mod Ended
+pub mod Fine
+pub mod FunctionBlocks

@@ -1,0 +1,131 @@
+-- The edges of an event: those of its reads, then that of its pair, then control.
+use Rattle.std.proofs.Common.{◌≡◌, ℕ, List, [], ◌∷◌, ◌++◌, Option, Some, None, Result, Ok, Err, refl, ap, sym, ◌∙◌, subst}
+use Rattle.std.specs.Prelude.{option_to_list}
+use Rattle.ppd_sem.specs.declared.event.Access.{Access}
+use Rattle.ppd_sem.specs.declared.event.Event.{Event}
+use Rattle.ppd_model.specs.declared.flow.EdgeKind.TheVariants.{Control}
+use Rattle.ppd_model.specs.declared.flow.FlowEdge.{FlowEdge}
+use Rattle.ppd_model.specs.declared.flow.Origin.{Origin}
+use Rattle.ppd_model.specs.FlowbackEdges.{bare_edge}
+use Rattle.ppd_past.specs.declared.flow_error.FlowError.{FlowError}
+use Rattle.ppd_past.specs.declared.flow_error.FlowError.TheVariants.{Diverged, NoEvent, Sets, Memory}
+use Rattle.ppd_past.specs.declared.past.Past.{Past}
+use Rattle.ppd_past.specs.ByReplays.{IsFoundBy}
+use Rattle.ppd_past.proofs.Found.{found_err, found_then}
+use Rattle.ppd_search.specs.Control.{control_origin, control_replays}
+use Rattle.ppd_search.specs.Found.{and_more, event_edges, event_replays, if_found, pair_edges, sync_edges}
+use Rattle.ppd_search.specs.Seen.{Seen}
+use Rattle.ppd_search.specs.Shared.{Missing, of_process, pair_origin, seen_at}
+use Rattle.ppd_walk.specs.SharedCells.{answer_of, seens_in}
+use Rattle.ppd_local.specs.declared.search.Place.{Place}
+use Rattle.ppd_local.specs.declared.search.Search.{Search}
+use Rattle.ppd_local.specs.Searches.{IsFound, control_origin_at, control_replays_at}
+use Rattle.ppd_flow.specs.Answers.{pair_edge_at, pair_edge_if, pair_replays_at, reads_at, reads_replays_at}
+use Rattle.ppd_flow.proofs.Answered.{found_is, not_found, so_found}
+use Rattle.ppd_flow.proofs.Seens.{same_seen}
+
+-- it failed, whatever would have been found
+pub err_any : {A B : Type 0} (past : Past) (ms : List (ℕ × ℕ)) (v : A) (b : Result B FlowError) (n m : ℕ) (e : FlowError)
+    → IsFoundBy {A = A} past ms (Ok v) n m (Err e) → IsFoundBy {A = B} past ms b n m (Err e)
+err_any past ms v b n m NoEvent f = absurd (cc f.1)
+err_any past ms v b n m (Sets p k c) f = absurd (cc f.1)
+err_any past ms v b n m (Diverged p k) f = f
+err_any past ms v b n m Memory f = tt
+
+assoc : (xs ys zs : List FlowEdge) → (xs ++ ys) ++ zs ≡ xs ++ (ys ++ zs)
+assoc [] ys zs = refl
+assoc (x ∷ xs) ys zs = ap (λ (es : List FlowEdge). x ∷ es) (assoc xs ys zs)
+
+by_pair : (o : Option Origin) (number : ℕ) → pair_edges o ≡ option_to_list (pair_edge_if (Some number) o)
+by_pair None number = refl
+by_pair (Some from) number = refl
+
+abbrev ok_in : {A : Type 0} → A → Result A FlowError → A
+ok_in d (Ok x) = x
+ok_in d (Err e) = d
+
+module _ (s : Search) (place : Place) (e : Event) where
+  abbrev past : Past
+  past = s.past.now
+
+  abbrev reads_here : Result (List FlowEdge) Missing
+  reads_here = reads_at s place e.reads
+
+  abbrev read_list : List (ℕ × ℕ)
+  read_list = reads_replays_at s place e.reads
+
+  abbrev pair_list : List (ℕ × ℕ)
+  pair_list = pair_replays_at s place e.number
+
+  abbrev its_seen : Seen
+  its_seen = seen_at (seens_in past) s.process
+
+  abbrev control_list : List (ℕ × ℕ)
+  control_list = of_process s.process (control_replays past.program.now past.plan.now its_seen s.process place.interval place.item e.stmt)
+
+  abbrev control : Origin
+  control = control_origin past.program.now past.plan.now its_seen s.process place.interval place.item e.stmt
+
+  abbrev syncs : List FlowEdge
+  syncs = sync_edges past.program.now past.logs.now (seens_in past) s.process place.interval place.item e.number
+
+  abbrev more : List FlowEdge
+  more = syncs ++ bare_edge Control control ∷ []
+
+  abbrev IsEvent : (n o : ℕ) → Result (List FlowEdge) FlowError → Type 0
+  IsEvent n o r =
+      IsFoundBy past (event_replays past.program.now past.plan.now past.logs.now (seens_in past) s.process place.interval place.item e)
+      (answer_of (event_edges past.program.now past.plan.now past.logs.now (seens_in past) s.process place.interval place.item e)) n o r
+
+  pub read_here : (reads : List Access) (n m : ℕ) (r : Result (List FlowEdge) FlowError) → reads ≡ e.reads
+      → IsFoundBy past (reads_replays_at s place reads) (answer_of (reads_at s place reads)) n m r → IsFoundBy past read_list (answer_of reads_here) n m r
+  read_here reads n m r is f = subst (λ (z : List Access). IsFoundBy past (reads_replays_at s place z) (answer_of (reads_at s place z)) n m r) is f
+
+  control_here : (m o : ℕ) (r : Result Origin FlowError) → IsFound s (control_replays_at s place e.stmt) (control_origin_at s place e.stmt) m o r
+      → IsFoundBy past control_list (Ok control) m o r
+  control_here m o r f =
+      subst (λ (x : Seen). IsFoundBy past (of_process s.process (control_replays past.program.now past.plan.now x s.process place.interval place.item e.stmt))
+      (Ok (control_origin past.program.now past.plan.now x s.process place.interval place.item e.stmt)) m o r) (same_seen past s.process) f
+
+  syncs_are : (number : Option ℕ) → sync_edges past.program.now past.logs.now (seens_in past) s.process place.interval place.item number ≡ option_to_list (pair_edge_at s place number)
+  syncs_are None = refl
+  syncs_are (Some number) = by_pair (pair_origin past.program.now past.logs.now (seens_in past) s.process place.interval place.item) number
+
+  after_reads : (rs : List FlowEdge) (n m o : ℕ) (r : Result (List FlowEdge) FlowError) → IsFoundBy past read_list (answer_of reads_here) n m (Ok rs)
+      → IsFoundBy past (pair_list ++ control_list) (Ok (rs ++ more)) m o r → IsEvent n o r
+  after_reads rs n m o r f g =
+      subst (λ (q : Result (List FlowEdge) Missing). IsFoundBy past (read_list ++ if_found q (pair_list ++ control_list)) (answer_of (and_more q more)) n o r) (sym (found_is reads_here rs f.1))
+      (found_then past read_list (pair_list ++ control_list) (answer_of reads_here) (Ok (rs ++ more)) rs n m o r f g)
+
+  pub reads_failed : (n m : ℕ) (x : FlowError) → IsFoundBy past read_list (answer_of reads_here) n m (Err x) → IsEvent n m (Err x)
+  reads_failed n m x f =
+      not_found past read_list (pair_list ++ control_list) [] reads_here (answer_of (and_more reads_here more)) n m x
+      (λ k is. ap (λ (q : Result (List FlowEdge) Missing). answer_of (and_more q more)) is) f
+
+  module _ (rs : List FlowEdge) (n m : ℕ) (reads : IsFoundBy past read_list (answer_of reads_here) n m (Ok rs)) where
+    pub pair_failed : (k : ℕ) (x : FlowError) → IsFoundBy past pair_list (Ok (pair_edge_at s place e.number)) m k (Err x) → IsEvent n k (Err x)
+    pair_failed k x f =
+        after_reads rs n m k (Err x) reads (found_err past pair_list control_list (pair_edge_at s place e.number) (Ok (rs ++ more)) m k x f)
+
+    module _ (pe : Option FlowEdge) (k o : ℕ) (pair : IsFoundBy past pair_list (Ok (pair_edge_at s place e.number)) m k (Ok pe)) where
+      pub control_failed : (x : FlowError) → IsFound s (control_replays_at s place e.stmt) (control_origin_at s place e.stmt) k o (Err x) → IsEvent n o (Err x)
+      control_failed x f =
+          after_reads rs n m o (Err x) reads
+          (found_then past pair_list control_list (Ok (pair_edge_at s place e.number)) (Ok (rs ++ more)) pe m k o (Err x) pair
+          (err_any past control_list control (Ok (rs ++ more)) k o x (control_here k o (Err x) f)))
+
+      pub event_found : (co : Origin) (now : List FlowEdge) → IsFound s (control_replays_at s place e.stmt) (control_origin_at s place e.stmt) k o (Ok co)
+          → now ≡ (rs ++ option_to_list pe) ++ bare_edge Control co ∷ [] → IsEvent n o (Ok now)
+      event_found co now f is =
+          let c : IsFoundBy past control_list (Ok control) k o (Ok co) = control_here k o (Ok co) f in
+          let pairs : pair_edge_at s place e.number ≡ pe = ap (λ (z : Result (Option FlowEdge) FlowError). ok_in (pair_edge_at s place e.number) z) pair.1 in
+          let controls : control ≡ co = ap (λ (z : Result Origin FlowError). ok_in control z) c.1 in
+          let sync : syncs ≡ option_to_list pe = syncs_are e.number ∙ ap (λ (z : Option FlowEdge). option_to_list z) pairs in
+          let all : rs ++ more ≡ now =
+          ap (λ (z : List FlowEdge). rs ++ (z ++ bare_edge Control control ∷ [])) sync
+          ∙ (ap (λ (z : Origin). rs ++ (option_to_list pe ++ bare_edge Control z ∷ [])) controls
+          ∙ (sym (assoc rs (option_to_list pe) (bare_edge Control co ∷ [])) ∙ sym is)) in
+          after_reads rs n m o (Ok now) reads
+          (so_found past (pair_list ++ control_list) (Ok control) (Ok (rs ++ more)) co now m o
+          (found_then past pair_list control_list (Ok (pair_edge_at s place e.number)) (Ok control) pe m k o (Ok co) pair c)
+          (ap (λ (z : List FlowEdge). answer_of (Ok z)) all))

@@ -1,0 +1,6 @@
+mod Answered
+mod Events
+mod ItemEdges
+pub mod OfRuns
+mod ReadEdges
+mod Seens

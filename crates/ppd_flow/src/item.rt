@@ -1,0 +1,214 @@
+ghost use Rattle.std.specs.Prelude.{◌≡◌, ◌<◌, ◌∷◌, ◌++◌, [], length, Ok, OnOk, Some, option_to_list};
+ghost use Rattle.ppd_flow.specs.Answers.{IsEdges, pair_edge_at, pair_replays_at};
+ghost use Rattle.ppd_flow.specs.Runs.{GivesEdges};
+ghost use Rattle.ppd_local.specs.Searches.{IsPlace};
+ghost use Rattle.ppd_model.specs.declared.flow.EdgeKind.TheVariants as edge_kind;
+ghost use Rattle.ppd_model.specs.FlowbackEdges.{bare_edge};
+ghost use Rattle.ppd_past.specs.ByReplays.{IsFoundBy};
+ghost use Rattle.ppd_past.specs.Pasts.{IsPast};
+ghost use Rattle.ppd_search.specs.Found.{event_edges as event_edges_of, event_replays, item_edges as item_edges_of, item_replays};
+ghost use Rattle.ppd_walk.specs.SharedCells.{answer_of, seens_in};
+
+use crate::reads::read_edges;
+use ppd_ast::{Memory, Seq, Steps};
+use ppd_local::{Place, Search, control_edge};
+use ppd_model::{EdgeKind, FlowEdge, Item, Origin};
+use ppd_own_loops::all_own_parts_are_found;
+use ppd_past::{FlowError, Past, replays_are_seen};
+use ppd_sem::Event;
+use ppd_shared_edges::edges_are_found;
+use ppd_walk::{Place as PairPlace, pair_origin};
+use std::alloc::Global;
+use std::sync::ledger::Ledger;
+
+/// The edge from the synchronization that leads to an item.
+fn sync_edge(from: Origin) -> FlowEdge
+    ensures { result ≡ bare_edge edge_kind.Sync from }
+{
+    FlowEdge {
+        kind: EdgeKind::Sync,
+        spot: None,
+        value: None,
+        from,
+    }
+}
+
+/// The edge from the pair of the synchronization with this number at a place, where it has one.
+fn pair_edge<L: Ledger>(
+    search: &Search,
+    place: &Place,
+    number: Option<u32>,
+    steps: &mut Steps<L>,
+) -> Result<Option<FlowEdge>, FlowError>
+    requires past { IsPast search.now.past.now }
+    requires place { IsPlace search.now place.now }
+    ensures { IsFoundBy search.now.past.now (pair_replays_at search.now place.now number)
+        (Ok (pair_edge_at search.now place.now number)) steps.old steps.new result }
+{
+    if number.is_none() {
+        return Ok(None);
+    }
+    let at = PairPlace {
+        process: search.process,
+        interval: place.interval,
+        item: place.item,
+    };
+    match pair_origin(search.alloc, search.past, at, place.items, steps) {
+        Ok(Some(from)) => Ok(Some(sync_edge(from))),
+        Ok(None) => Ok(None),
+        Err(error) => Err(error),
+    }
+}
+
+/// Puts the edge behind these, if there is one.
+fn push_if(edges: &mut Seq<FlowEdge>, edge: Option<FlowEdge>) -> Result<(), Memory>
+    ensures { OnOk result (edges.new ≡ edges.old ++ option_to_list edge) }
+{
+    match edge {
+        Some(edge) => edges.push(edge),
+        None => Ok(()),
+    }
+}
+
+/// Puts the edge from the pair, if there is one, and that of control behind these.
+fn push_rest(
+    edges: &mut Seq<FlowEdge>,
+    pair: Option<FlowEdge>,
+    control: FlowEdge,
+) -> Result<(), Memory>
+    ensures { OnOk result (edges.new ≡ (edges.old ++ option_to_list pair) ++ control ∷ []) }
+{
+    push_if(edges, pair)?;
+    edges.push(control)
+}
+
+/// The edges of an event at a place: its reads in order, its pair, and what let it run.
+fn event_edges<L: Ledger>(
+    search: &Search,
+    place: &Place,
+    event: &Event,
+    steps: &mut Steps<L>,
+) -> Result<Seq<FlowEdge>, FlowError>
+    requires past { IsPast search.now.past.now }
+    requires place { IsPlace search.now place.now }
+    ensures { IsFoundBy search.now.past.now
+        (event_replays search.now.past.now.program.now search.now.past.now.plan.now search.now.past.now.logs.now
+        (seens_in search.now.past.now) search.now.process place.now.interval place.now.item event.now)
+        (answer_of (event_edges_of search.now.past.now.program.now search.now.past.now.plan.now
+        search.now.past.now.logs.now (seens_in search.now.past.now) search.now.process place.now.interval
+        place.now.item event.now))
+        steps.old steps.new result }
+{
+    let mut edges = match read_edges(search, place, event.reads.as_slice(), steps) {
+        Ok(edges) => edges,
+        Err(error) => return Err(error),
+    };
+    let pair = match pair_edge(search, place, event.number, steps) {
+        Ok(pair) => pair,
+        Err(error) => return Err(error),
+    };
+    let control = match search.control_origin(place, event.stmt, steps) {
+        Ok(from) => control_edge(from),
+        Err(error) => return Err(error),
+    };
+    match push_rest(&mut edges, pair, control) {
+        Ok(()) => Ok(edges),
+        Err(_) => Err(FlowError::Memory),
+    }
+}
+
+/// The edges of the item at a place.
+fn item_edges<L: Ledger>(
+    search: &Search,
+    place: &Place,
+    item: &Item,
+    steps: &mut Steps<L>,
+) -> Result<Seq<FlowEdge>, FlowError>
+    requires past { IsPast search.now.past.now }
+    requires place { IsPlace search.now place.now }
+    requires item { place.now.item < length place.now.items.now }
+    ensures { IsFoundBy search.now.past.now
+        (item_replays search.now.past.now.program.now search.now.past.now.plan.now search.now.past.now.logs.now
+        (seens_in search.now.past.now) search.now.process place.now.interval place.now.item (Some item.now))
+        (answer_of (item_edges_of search.now.past.now.program.now search.now.past.now.plan.now
+        search.now.past.now.logs.now (seens_in search.now.past.now) search.now.process place.now.interval
+        place.now.item item.now))
+        steps.old steps.new result }
+{
+    match item {
+        Item::Own(event) => event_edges(search, place, event, steps),
+        Item::Nested {
+            interval,
+            block,
+            values,
+            ..
+        } => search.nested_edges(place, *interval, *block, values.as_slice(), steps),
+    }
+}
+
+/// The flowback edges of an item, as they are defined.
+fn edges_found<L: Ledger>(
+    alloc: Global,
+    past: &Past,
+    process: u8,
+    interval: u32,
+    item: u32,
+    steps: &mut Steps<L>,
+) -> Result<Seq<FlowEdge>, FlowError>
+    requires { IsPast past.now }
+    ensures { IsEdges past.now process interval item steps.old steps.new result }
+{
+    let search = Search {
+        alloc,
+        past,
+        process,
+    };
+    let items = match search.items(interval, steps) {
+        Ok(items) => items,
+        Err(error) => return Err(error),
+    };
+    let items = items.as_slice();
+    let item = item as usize;
+    if item >= items.len() {
+        return Err(FlowError::NoEvent);
+    }
+    let place = Place {
+        interval,
+        items,
+        item,
+    };
+    item_edges(&search, &place, &items[item], steps)
+}
+
+/// The flowback edges of an item of an interval, in order: of an event one for each read from where what is read was
+/// written last, one from the synchronization that leads to it, and one from what let it run; of an interval inside
+/// one for each local cell that its loop left, or for the value that its function returned, and one from what let it
+/// run. They are found by replays of single intervals alone (Choi, Miller and Netzer 1991), from nothing but the
+/// program, its plan, the logs, their index and their graph.
+///
+/// The counter rises by the own steps of the intervals that are replayed: this one first, and then for each edge those
+/// that it needs, in order.
+///
+/// `Diverged`: the replay of one of these intervals fails, the first that does, at this entry. `NoEvent`: the interval
+/// has no item of this number. `Sets`: the write set of this entry has the cell, and the replay of the internal edge
+/// that it ends writes it nowhere. `Memory` is want of memory, also for items that have no 32-bit numbers.
+///
+/// Of what is kept of a whole run without a race, under the plan of a policy, the answer is the
+/// item's edges in the run, or `NoEvent` exactly where there is no such item, or `Memory`.
+pub fn edges<L: Ledger>(
+    alloc: Global,
+    past: &Past,
+    process: u8,
+    interval: u32,
+    item: u32,
+    steps: &mut Steps<L>,
+) -> Result<Seq<FlowEdge>, FlowError>
+    requires { IsPast past.now }
+    ensures found { IsEdges past.now process interval item steps.old steps.new result }
+    ensures run { GivesEdges past.now process interval item result }
+{
+    replays_are_seen();
+    edges_are_found();
+    all_own_parts_are_found();
+    edges_found(alloc, past, process, interval, item, steps)
+}

@@ -1,0 +1,13 @@
+//! Flowback: where each value that an item read, was left or was given came from, and what let it run.
+#![tactic(auto)]
+
+mod item;
+mod laws;
+mod reads;
+mod value;
+
+pub use item::edges;
+pub use laws::answers_are_of_runs;
+pub use ppd_model::{EdgeKind, FlowEdge, Origin};
+pub use ppd_past::{FlowError, Past};
+pub use value::last;

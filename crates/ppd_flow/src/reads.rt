@@ -1,0 +1,81 @@
+ghost use Rattle.std.specs.Prelude.{◌≡◌};
+ghost use Rattle.ppd_flow.specs.Answers.{reads_at, reads_replays_at, spot_origin, spot_replays};
+ghost use Rattle.ppd_local.specs.Searches.{IsPlace};
+ghost use Rattle.ppd_past.specs.ByReplays.{IsFoundBy};
+ghost use Rattle.ppd_past.specs.Pasts.{IsPast};
+ghost use Rattle.ppd_search.specs.Own.{read_from};
+ghost use Rattle.ppd_walk.specs.SharedCells.{answer_of};
+
+use ppd_ast::{Seq, Steps};
+use ppd_local::{LocalCell, Place, Search};
+use ppd_model::{EdgeKind, FlowEdge, Origin};
+use ppd_past::FlowError;
+use ppd_sem::{Access, Spot};
+use ppd_walk::CellSearch;
+use std::sync::ledger::Ledger;
+
+/// The edge of a read, from where what is read was written.
+fn read_edge(read: &Access, from: Origin) -> FlowEdge
+    ensures { result ≡ read_from read.now from }
+{
+    FlowEdge {
+        kind: EdgeKind::Read,
+        spot: Some(read.spot),
+        value: Some(read.value),
+        from,
+    }
+}
+
+/// Where a spot that is read at a place was written.
+fn read_origin<L: Ledger>(
+    search: &Search,
+    place: &Place,
+    spot: Spot,
+    steps: &mut Steps<L>,
+) -> Result<Origin, FlowError>
+    requires past { IsPast search.now.past.now }
+    requires place { IsPlace search.now place.now }
+    ensures { IsFoundBy search.now.past.now (spot_replays search.now place.now spot)
+        (answer_of (spot_origin search.now place.now spot)) steps.old steps.new result }
+{
+    match spot {
+        Spot::Local { frame, cell } => {
+            search.local_origin(place, LocalCell { frame, cell }, steps)
+        }
+        Spot::Shared(cell) => {
+            let cells = CellSearch {
+                alloc: search.alloc,
+                past: search.past,
+                process: search.process,
+                cell,
+            };
+            cells.shared_origin(place.interval, place.items, place.item, steps)
+        }
+    }
+}
+
+/// The edges of these reads at a place, in order.
+pub(crate) fn read_edges<L: Ledger>(
+    search: &Search,
+    place: &Place,
+    reads: &[Access],
+    steps: &mut Steps<L>,
+) -> Result<Seq<FlowEdge>, FlowError>
+    requires past { IsPast search.now.past.now }
+    requires place { IsPlace search.now place.now }
+    ensures { IsFoundBy search.now.past.now (reads_replays_at search.now place.now reads.now)
+        (answer_of (reads_at search.now place.now reads.now)) steps.old steps.new result }
+{
+    let mut edges = Seq::new(search.alloc);
+    for read in reads {
+        let from = match read_origin(search, place, read.spot, steps) {
+            Ok(from) => from,
+            Err(error) => return Err(error),
+        };
+        match edges.push(read_edge(read, from)) {
+            Ok(()) => {}
+            Err(_) => return Err(FlowError::Memory),
+        }
+    }
+    Ok(edges)
+}

@@ -1,0 +1,6 @@
+pub mod RowTables
+pub mod RowsOfForms
+pub mod RowsOfLoops
+pub mod RowsOfNames
+pub mod RowsOfPrograms
+pub mod RowsOfRules

@@ -1,0 +1,23 @@
+use Rattle.std.proofs.Common.{◌∙◌, ◌∷◌, ◌++◌, [], None, ap, arith, filter_map, map, take}
+use Rattle.std.specs.List.{sum_by}
+use Rattle.std.proofs.lemmas.List.Sums.{sum_by-take-le, sum_by_more}
+use Rattle.ppd_graph.specs.LogRecord.{sets_from}
+use Rattle.ppd_graph.specs.Spending.{list_cost}
+use Rattle.ppd_graph.proofs.Counted.{mapped_more}
+use Rattle.ppd_graph.proofs.sets.all_sets.Goals as goal
+
+pub loop-list-preserved : goal.loop-list-preserved
+loop-list-preserved g c =
+    let lists = c.args.lists.now in
+    let i = c.loop-list.list-index in
+    let is = c.as_slice.ensures ∙ c.list-item.is in
+    let more = sum_by_more list_cost lists i c.list-item.result c.loop-list-test.true in
+    let same = ap list_cost is in
+    record {
+      holds = mapped_more (sets_from None) lists i c.list-item.result c.loop-list.all c.push.new.self _ c.loop-list-test.true c.loop-list.invariant.holds
+          (c.in_ok-push.ensures.ok ∙ ap (λ e. c.loop-list.all ++ e ∷ []) (c.in_ok-edges.ensures.edges ∙ ap (sets_from None) is));
+      spent = omega (arith, more, same, c.tick.ensures, c.in_ok-edges.ensures.cost, c.loop-list.invariant.spent);
+    }
+
+pub returns-clause-cost : goal.returns-clause-cost
+returns-clause-cost g c = let less = sum_by-take-le list_cost c.args.lists.now c.loop-list.list-index in omega (arith, less, c.loop-list.invariant.spent)

@@ -1,0 +1,10 @@
+pub mod Offered
+pub mod Direct
+pub mod Earlier
+pub mod Flat
+pub mod Once
+pub mod Numbers
+pub mod Complete
+pub mod Standing
+pub mod Lacking
+pub mod Ordered

@@ -1,0 +1,2 @@
+-- The logs of a run have a graph.
+pub mod Accepted

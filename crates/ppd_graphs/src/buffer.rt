@@ -1,0 +1,132 @@
+ghost use Rattle.std.specs.Prelude.{◌<◌};
+
+use crate::logs::{end, graph_of, logs_of, silent_one, with_sems};
+use ppd_ast::{Cells, Memory, Seq, SyncKind};
+use ppd_entry::Entry;
+use ppd_graph::{EdgeId, NodeId, Paired, SyncGraph};
+use ppd_race::races;
+use std::alloc::Global;
+use std::test::Fail;
+
+// A buffer of four cells, 0 to 3, its head, 4, and its tail, 5, under semaphores of free places, of full ones and of the
+// lock. The consumer stops after 58 values, and the producer then finds no place for value 62: the lowest process goes
+// first, so that it puts four values before each further one waits for a place.
+const FREE: u8 = 0;
+
+const FULL: u8 = 1;
+
+const LOCK: u8 = 2;
+
+const PUTS: u32 = 62;
+
+const GETS: u32 = 58;
+
+const HEAD: u16 = 4;
+
+const TAIL: u16 = 5;
+
+// The number of the lock's `P` around a put and a get.
+fn lock_of_put(put: u32) -> u32
+    requires { put < 100 }
+    ensures { result < 1000 }
+{
+    if put < 4 { put + 1 } else { 2 * put - 2 }
+}
+
+fn lock_of_get(get: u32) -> u32
+    requires { get < 100 }
+    ensures { result < 1000 }
+{
+    2 * get + 5
+}
+
+// The end of a critical section with what it accessed.
+fn unlock(alloc: Global, number: u32, reads: &[u16], writes: &[u16]) -> Result<Entry, Memory> {
+    let reads = Cells::from_vec(Vec::from_slice(alloc, reads)?);
+    let writes = Cells::from_vec(Vec::from_slice(alloc, writes)?);
+    Ok(Entry::Sync {
+        kind: SyncKind::V,
+        object: LOCK,
+        number,
+        value: 0,
+        reads,
+        writes,
+    })
+}
+
+fn produced(alloc: Global) -> Result<Seq<Entry>, Memory> {
+    let mut own = Seq::new(alloc);
+    for put in 0..PUTS {
+        let lock = lock_of_put(put);
+        own.push(silent_one(alloc, SyncKind::P, FREE, put + 1))?;
+        own.push(silent_one(alloc, SyncKind::P, LOCK, lock))?;
+        own.push(unlock(alloc, lock + 1, &[TAIL], &[(put % 4) as u16, TAIL])?)?;
+        own.push(silent_one(alloc, SyncKind::V, FULL, put + 1))?;
+    }
+    own.push(end(alloc, &[], &[])?)?;
+    Ok(own)
+}
+
+fn consumed(alloc: Global) -> Result<Seq<Entry>, Memory> {
+    let mut own = Seq::new(alloc);
+    for get in 0..GETS {
+        let lock = lock_of_get(get);
+        own.push(silent_one(alloc, SyncKind::P, FULL, get + 1))?;
+        own.push(silent_one(alloc, SyncKind::P, LOCK, lock))?;
+        own.push(unlock(alloc, lock + 1, &[(get % 4) as u16, HEAD], &[HEAD])?)?;
+        own.push(silent_one(alloc, SyncKind::V, FREE, get + 5))?;
+    }
+    own.push(end(alloc, &[], &[])?)?;
+    Ok(own)
+}
+
+// The edge in which a process has the lock for a value.
+fn critical(process: u8, value: u32) -> EdgeId
+    requires { value < 100 }
+{
+    EdgeId {
+        process,
+        edge: 4 * value + 2,
+    }
+}
+
+// Value 57 is put before it is got, and its place is free again before value 61 is put.
+fn orders(graph: &SyncGraph) -> bool {
+    let put = critical(0, 57);
+    let got = critical(1, 57);
+    graph.before(put, got) && graph.before(got, critical(0, 61)) && !graph.before(got, put)
+}
+
+fn led_by(graph: &SyncGraph, process: u8, sync: u32) -> Paired {
+    graph.paired(NodeId { process, sync })
+}
+
+// The first place is free from the start, the fifth put waits for the first get, and a get for its put.
+fn pairs(graph: &SyncGraph) -> bool {
+    let first_get = NodeId {
+        process: 1,
+        sync: 3,
+    };
+    let put = NodeId {
+        process: 0,
+        sync: 4 * 57 + 3,
+    };
+    led_by(graph, 0, 0) == Paired::Initial
+        && led_by(graph, 0, 4 * 4) == Paired::Node(first_get)
+        && led_by(graph, 1, 4 * 57) == Paired::Node(put)
+}
+
+// The lock orders what the buffer's places do not, and no two accesses race.
+#[test]
+fn bounded_buffer(rt: HostRuntime) -> Result<(), Fail> {
+    let alloc = rt.alloc();
+    let logs = logs_of(alloc, produced(alloc)?, consumed(alloc)?)?;
+    let program = with_sems(alloc, &[4, 0, 1])?;
+    let Ok(graph) = graph_of(alloc, &program, &logs) else {
+        panic!(rt; "the logs have no graph");
+    };
+    assert!(rt; orders(&graph));
+    assert!(rt; pairs(&graph));
+    assert_eq!(rt; races(&rt, alloc, &graph)?.len(), 0);
+    Ok(())
+}

@@ -1,0 +1,2 @@
+-- The logs of a run have an index.
+pub mod Accepted

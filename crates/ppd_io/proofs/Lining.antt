@@ -1,0 +1,100 @@
+-- What is taken from a source in several reads, and how lines come out of bytes.
+use Rattle.std.specs.Prelude.{None, Some, Option, Bool, true, false, if◌then◌else◌, ◌==◌, Result, Ok, Err}
+use Rattle.std.proofs.Common.{◌≡◌, ◌≢◌, ◌<◌, ◌≤◌, ℕ, List, [], ◌∷◌, ◌++◌, length, ap, sym, ◌∙◌, refl, append_assoc, append-nil, arith, inl, inr}
+use Rattle.std.proofs.lemmas.Bool.{eqb-true, false_from_ne_true}
+use Rattle.ppd_ast.specs.declared.limits.TheConstants.{MOST_LINE_BYTES}
+use Rattle.ppd_io.specs.Content.{Takes}
+use Rattle.ppd_io.specs.Lines.{Took, HasNoNewline, lines_of, before_lines, Lined, EndsLine, GivesLine, TellsLine, IsLong}
+use Rattle.ppd_io.specs.declared.lines.LineError.{LineError}
+use Rattle.ppd_io.specs.declared.lines.LineError.TheVariants.{Failed, LongLine}
+
+pub takes_nothing : (a : Option (List ℕ)) → Takes a a []
+takes_nothing None = tt
+takes_nothing (Some xs) = refl
+
+pub takes_twice : (a b c : Option (List ℕ)) (xs ys : List ℕ) → Takes a b xs → Takes b c ys → Takes a c (xs ++ ys)
+takes_twice a b None xs ys h k = tt
+takes_twice a None (Some zs) xs ys h k = absurd k
+takes_twice None (Some us) (Some zs) xs ys h k = absurd h
+takes_twice (Some vs) (Some us) (Some zs) xs ys h k = h ∙ (ap (λ w. xs ++ w) k ∙ sym (append_assoc xs ys zs))
+
+-- what was taken at first, and what came for the bytes still held
+pub took_twice : (a b c : Option (List ℕ)) (was line held more : List ℕ) → Took a b was (line ++ held) → Took b c held more → Took a c was (line ++ more)
+took_twice a b c was line held more h k = record {
+  read = h.read ++ k.read;
+  takes = takes_twice a b c h.read k.read h.takes k.takes;
+  whole = sym (append_assoc was h.read k.read) ∙ (ap (λ w. w ++ k.read) h.whole ∙ (append_assoc line held k.read ∙ ap (λ w. line ++ w) k.whole));
+}
+
+pub took_nothing : (a : Option (List ℕ)) (was : List ℕ) → Took a a was was
+took_nothing a was = record { read = []; takes = takes_nothing a; whole = append-nil was }
+
+-- one byte more
+pub took_byte : (a b c : Option (List ℕ)) (was line held later : List ℕ) (byte : ℕ) → Took a b was (line ++ held) → Took b c held (byte ∷ later) → Took a c was ((line ++ byte ∷ []) ++ later)
+took_byte a b c was line held later byte h k =
+    let t = took_twice a b c was line held (byte ∷ later) h k in
+    rw (append_assoc line (byte ∷ []) later) t
+
+pub plain_byte : (line : List ℕ) (byte : ℕ) → HasNoNewline line → byte ≢ 10 → HasNoNewline (line ++ byte ∷ [])
+plain_byte [] byte h ne = (ne, tt)
+plain_byte (b ∷ line) byte h ne = (h.0, plain_byte line byte h.1 ne)
+
+plain_is : (b : ℕ) → b ≢ 10 → (b == 10) ≡ false
+plain_is b ne = false_from_ne_true (b == 10) (λ h. ne (eqb-true b 10 h))
+
+-- a whole line, and those after it
+pub line_whole : (line rest : List ℕ) → HasNoNewline line → lines_of (line ++ 10 ∷ rest) ≡ line ∷ lines_of rest
+line_whole [] rest h = refl
+line_whole (b ∷ line) rest h =
+    let e = line_whole line rest h.1 in
+    rw (plain_is b h.0, e)
+
+-- the first line begins with the bytes that have no newline
+pub line_front : (line rest : List ℕ) → HasNoNewline line → line ≢ [] → (first : List ℕ) × (more : List (List ℕ)) × (lines_of (line ++ rest) ≡ first ∷ more) × (length line ≤ length first)
+line_front [] rest h ne = absurd (ne refl)
+line_front (b ∷ []) rest h ne =
+    elim (lines_of rest) as (λ v. (first : List ℕ) × (more : List (List ℕ)) × ((if b == 10 then [] ∷ v else before_lines b v) ≡ first ∷ more) × (1 ≤ length first)) [
+      | [] ↦ (b ∷ [], [], rw (plain_is b h.0), omega arith)
+      | l ∷ ls ↦ (b ∷ l, ls, rw (plain_is b h.0), omega arith)
+    ]
+line_front (b ∷ c ∷ line) rest h ne =
+    let i = line_front (c ∷ line) rest h.1 (λ e. absurd (cc)) in
+    let e : lines_of ((c ∷ line) ++ rest) ≡ i.0 ∷ i.1 = i.2 in
+    let few : length (c ∷ line) ≤ length i.0 = i.3 in
+    (b ∷ i.0, i.1, rw (plain_is b h.0, e), omega arith)
+
+-- the last line
+pub line_last : (line : List ℕ) → HasNoNewline line → line ≢ [] → lines_of line ≡ line ∷ []
+line_last [] h ne = absurd (ne refl)
+line_last (b ∷ []) h ne = rw (plain_is b h.0)
+line_last (b ∷ c ∷ line) h ne =
+    let e = line_last (c ∷ line) h.1 (λ e. absurd (cc)) in
+    rw (plain_is b h.0, e)
+
+-- all bytes at hand, before and after
+pub took_all : (xs ys held all : List ℕ) → Took (Some xs) (Some ys) held all → held ++ xs ≡ all ++ ys
+took_all xs ys held all t = ap (λ w. held ++ w) t.takes ∙ (sym (append_assoc held t.read ys) ∙ ap (λ w. w ++ ys) t.whole)
+
+told_line : (xs ys held : List ℕ) (now : Lined) → HasNoNewline now.line → EndsLine (Some xs) (Some ys) held now → lines_of (held ++ xs) ≡ now.line ∷ lines_of (now.held ++ ys)
+told_line xs ys held now plain (inl t) =
+    ap lines_of (took_all xs ys held _ t.0 ∙ append_assoc now.line (10 ∷ now.held) ys) ∙ line_whole now.line (now.held ++ ys) plain
+told_line xs ys held now plain (inr t) =
+    let e : held ++ xs ≡ now.line = took_all xs ys held _ t.0 ∙ (ap (λ w. now.line ++ w) t.2.left ∙ append-nil now.line) in
+    let rest : now.held ++ ys ≡ [] = ap (λ w. w ++ ys) t.2.held ∙ t.2.left in
+    ap lines_of e ∙ (line_last now.line plain t.1 ∙ ap (λ w. now.line ∷ lines_of w) (sym rest))
+
+told_long : (xs ys held : List ℕ) (now : Lined) → HasNoNewline now.line → MOST_LINE_BYTES < length now.line → Took (Some xs) (Some ys) held (now.line ++ now.held) → IsLong (lines_of (held ++ xs))
+told_long xs ys held now plain long t =
+    let f = line_front now.line (now.held ++ ys) plain (λ e. let n = ap length e in absurd (omega arith)) in
+    let e : lines_of (held ++ xs) ≡ f.0 ∷ f.1 = ap lines_of (took_all xs ys held _ t ∙ append_assoc now.line now.held ys) ∙ f.2 in
+    let l : MOST_LINE_BYTES < length f.0 = omega (arith, f.3) in
+    rw e l
+
+-- what a call gives, by the lines of all bytes at hand
+pub told : (old new : Option (List ℕ)) (held : List ℕ) (now : Lined) (result : Result Bool LineError) → GivesLine old new held now result → TellsLine old new held now result
+told None new held now result h = tt
+told (Some xs) None held now result h = tt
+told (Some xs) (Some ys) held now (Ok true) h = (told_line xs ys held now h.0 h.2, h.1)
+told (Some xs) (Some ys) held now (Ok false) h = took_all xs ys held [] h.0 ∙ h.2.left
+told (Some xs) (Some ys) held now (Err LongLine) h = told_long xs ys held now h.0 h.1 h.2
+told (Some xs) (Some ys) held now (Err Failed) h = tt

@@ -1,0 +1,16 @@
+use Rattle.std.proofs.Common.{◌++◌, length, ◌≤◌, ◌<◌, ◌-◌, vec_len, vec_capacity}
+use Rattle.ppd_io.specs.Lines.{Took, HasNoNewline}
+use Rattle.ppd_io.proofs.lines.fill_line.Given as goal
+
+abbrev pub invariant-loop-bytes : goal.invariant-loop-bytes
+invariant-loop-bytes g l = record {
+  took : Took (g.I.Source.left l.initial.source) (g.I.Source.left l.source) l.initial.bytes (l.line.items ++ l.bytes);
+  plain : HasNoNewline l.line.items;
+  later : g.I.Source.faults l.initial.source ≤ g.I.Source.faults l.source;
+  room : 4096 < vec_capacity l.line;
+  within : vec_len l.line ≤ 4097;
+  few : length l.bytes < 4096;
+}
+
+abbrev pub decreases-loop-bytes : goal.decreases-loop-bytes
+decreases-loop-bytes g l = 4097 - vec_len l.line

@@ -1,0 +1,7 @@
+mod Controls
+mod Joined
+mod Lefts
+mod Loops
+mod Nested
+mod Rounds
+mod Scanned

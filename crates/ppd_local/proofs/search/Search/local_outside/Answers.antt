@@ -1,0 +1,9 @@
+use Rattle.ppd_local.proofs.Joined.{else_origin, failed}
+use Rattle.ppd_local.proofs.search.Search.local_outside.Goals as goal
+
+pub returns-in-Ok-None : goal.returns-in-Ok-None
+returns-in-Ok-None g c =
+    else_origin c.args.self.now _ _ _ _ c.args.steps.now c.local_in.new.steps c.parameter.new.steps c.parameter.result (rw c.in-Ok-None.field-0-is at c.in-Ok-None.ensures) c.parameter.ensures
+
+pub returns-in-Err : goal.returns-in-Err
+returns-in-Err g c = failed c.args.self.now _ _ _ _ c.args.steps.now c.local_in.new.steps c.in-Err.error c.in-Err.ensures

@@ -1,0 +1,3 @@
+-- The searches for origins within one process, in code.
+pub mod Scans
+pub mod Searches

@@ -1,0 +1,2 @@
+-- The control edges of a process's items are found within the process.
+pub mod Found

@@ -1,0 +1,7 @@
+mod Lists
+mod Rounds
+pub mod Runs
+pub mod Parents
+pub mod Outward
+pub mod Found
+mod Given

@@ -1,0 +1,17 @@
+pub mod Levels
+pub mod Later
+pub mod Opened
+pub mod Calling
+pub mod Moves
+pub mod Scans
+pub mod Begins
+pub mod Whole
+pub mod Opening
+pub mod Steps
+pub mod NoLeaf
+pub mod Telling
+pub mod Told
+pub mod Following
+pub mod ProcessBlocks
+pub mod Frames
+pub mod LeafTells

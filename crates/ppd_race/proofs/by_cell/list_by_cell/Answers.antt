@@ -1,0 +1,50 @@
+use Rattle.std.proofs.Common.{◌∙◌, ◌++◌, [], ap, sym, subst, arith, get_or, length}
+use Rattle.std.proofs.lemmas.List.Sums.{sum_by-take-le, sum_by_more}
+use Rattle.ppd_bits.specs.CellSets.{has}
+use Rattle.ppd_graph.proofs.Rows.{length_replicated, no_items, none_at}
+use Rattle.ppd_race.specs.declared.busy.Accessor.{Accessor}
+use Rattle.ppd_race.specs.declared.busy.Busy.{Busy}
+use Rattle.ppd_race.specs.ByCell.{IsOfCells, accessor, accessors_from, listed_in, listing_cost}
+use Rattle.ppd_race.proofs.Listed.{edge_listed, edges_listed, reads_listed, writes_listed}
+use Rattle.ppd_race.proofs.by_cell.list_by_cell.Goals as goal
+
+pub loop-place-init : goal.loop-place-init
+loop-place-init g c = record {
+  long_readers = ap length c.in_ok-no_lists.ensures.none ∙ length_replicated 1024 (no_items Accessor);
+  long_writers = ap length c.in_ok-no_lists-2.ensures.none ∙ length_replicated 1024 (no_items Accessor);
+  readers = λ k lt. ap (λ lists. get_or lists k [] ++ accessors_from 0 (λ a. has a.reads k) c.args.own.now) c.in_ok-no_lists.ensures.none ∙ ap (λ list. list ++ accessors_from 0 (λ a. has a.reads k) c.args.own.now) (none_at 1024 k);
+  writers = λ k lt. ap (λ lists. get_or lists k [] ++ accessors_from 0 (λ a. has a.writes k) c.args.own.now) c.in_ok-no_lists-2.ensures.none ∙ ap (λ list. list ++ accessors_from 0 (λ a. has a.writes k) c.args.own.now) (none_at 1024 k);
+  spent = omega (arith, c.no_lists.ensures.cost, c.no_lists-2.ensures.cost);
+}
+
+pub list_edge-requires : goal.list_edge-requires
+list_edge-requires g c = record { below = (subst IsOfCells (sym c.index-own-place.is) (c.requires.cells c.loop-place.place c.index-own-place.result c.loop-place-test.true)).below }
+
+pub loop-place-preserved : goal.loop-place-preserved
+loop-place-preserved g c =
+    let a : Busy = c.index-own-place.result in
+    let is : IsOfCells a = subst IsOfCells (sym c.index-own-place.is) (c.requires.cells c.loop-place.place c.index-own-place.result c.loop-place-test.true) in
+    let read = c.in_ok-list_edge.ensures.readers is.rises in
+    let wrote = c.in_ok-list_edge.ensures.writers is.rises in
+    let more = sum_by_more listing_cost c.args.own.now c.loop-place.place c.index-own-place.result c.loop-place-test.true in
+    let same = ap listing_cost c.index-own-place.is in
+    record {
+      long_readers = read.long ∙ c.loop-place.invariant.long_readers;
+      long_writers = wrote.long ∙ c.loop-place.invariant.long_writers;
+      readers = edge_listed (λ k x. has x.reads k) c.args.own.now c.loop-place.place a c.loop-place.lists.readers.items c.list_edge.new.lists.readers.items (listed_in a.reads a.cells (accessor c.loop-place.place a)) c.loop-place-test.true c.index-own-place.is
+          c.loop-place.invariant.long_readers read (λ k. reads_listed a (accessor c.loop-place.place a) k (is.all k)) c.loop-place.invariant.readers;
+      writers = edge_listed (λ k x. has x.writes k) c.args.own.now c.loop-place.place a c.loop-place.lists.writers.items c.list_edge.new.lists.writers.items (listed_in a.writes a.cells (accessor c.loop-place.place a)) c.loop-place-test.true c.index-own-place.is
+          c.loop-place.invariant.long_writers wrote (λ k. writes_listed a (accessor c.loop-place.place a) k (is.all k)) c.loop-place.invariant.writers;
+      spent = omega (arith, more, same, c.tick.ensures, c.in_ok-list_edge.ensures.cost, c.loop-place.invariant.spent);
+    }
+
+pub returns-clause-lists : goal.returns-clause-lists
+returns-clause-lists g c = record {
+  long_readers = c.loop-place.invariant.long_readers;
+  long_writers = c.loop-place.invariant.long_writers;
+  readers = edges_listed (λ k x. has x.reads k) c.args.own.now c.loop-place.place c.loop-place.lists.readers.items c.loop-place-test.false c.loop-place.invariant.readers;
+  writers = edges_listed (λ k x. has x.writes k) c.args.own.now c.loop-place.place c.loop-place.lists.writers.items c.loop-place-test.false c.loop-place.invariant.writers;
+}
+
+pub returns-clause-cost : goal.returns-clause-cost
+returns-clause-cost g c = let less = sum_by-take-le listing_cost c.args.own.now c.loop-place.place in omega (arith, less, c.loop-place.invariant.spent)

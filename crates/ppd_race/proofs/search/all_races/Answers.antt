@@ -1,0 +1,35 @@
+use Rattle.std.proofs.Common.{◌≡◌, ◌+◌, ◌*◌, ◌≤◌, ◌∙◌, [], ◌++◌, ap, ap₂, arith, length}
+use Rattle.std.specs.List.{flat_map, range_with_len, sum_by}
+use Rattle.std.proofs.Math.Nat.{add-mul}
+use Rattle.std.proofs.lemmas.List.{length-append}
+use Rattle.std.proofs.lemmas.List.Sums.{sum_by-take-le, sum_by_more}
+use Rattle.std.proofs.lemmas.Nat.{mul-le}
+use Rattle.ppd_race.specs.Busy.{races_from}
+use Rattle.ppd_race.specs.Search.{own_cost, row_cost}
+use Rattle.ppd_race.proofs.Over.{from_zero}
+use Rattle.ppd_race.proofs.search.all_races.Goals as goal
+
+pub loop-p-preserved : goal.loop-p-preserved
+loop-p-preserved g c =
+    let rows = c.args.rows.now in
+    let p = c.loop-p.p in
+    let each = 2049 + sum_by row_cost rows in
+    let more = sum_by_more own_cost rows p [] c.loop-p-test.true in
+    let times : (p + 1) * each ≡ p * each + 1 * each = add-mul p 1 each in
+    let long = ap length (c.in_ok-append.ensures.ok ∙ ap (λ xs. c.loop-p.races ++ xs) c.into_vec.ensures) ∙ length-append c.loop-p.races c.in_ok-part.part in
+    record {
+      found = λ rising.
+          c.in_ok-append.ensures.ok ∙ ap (λ xs. c.loop-p.races ++ xs) c.into_vec.ensures ∙ ap₂ (λ xs ys. xs ++ ys) (c.loop-p.invariant.found rising) (c.in_ok-part.ensures.races rising) ∙ from_zero (races_from c.args.graph.now rows) p;
+      spent = omega (arith, more, times, long, c.tick.ensures, c.in_ok-part.ensures.cost, c.loop-p.invariant.spent);
+    }
+
+pub returns-clause-races : goal.returns-clause-races
+returns-clause-races g c = λ rising. c.loop-p.invariant.found rising ∙ ap (λ n. flat_map (races_from c.args.graph.now c.args.rows.now) (range_with_len 0 n)) (omega (arith, c.loop-p-test.false, c.loop-p.auto.p-end))
+
+pub returns-clause-cost : goal.returns-clause-cost
+returns-clause-cost g c =
+    let rows = c.args.rows.now in
+    let each = 2049 + sum_by row_cost rows in
+    let less = sum_by-take-le own_cost rows c.loop-p.p in
+    let times : c.loop-p.p * each ≤ length rows * each = mul-le c.loop-p.p each (length rows) each (omega (arith, c.loop-p-test.false, c.loop-p.auto.p-end)) (omega arith) in
+    omega (arith, less, times, c.loop-p.invariant.spent)

@@ -1,0 +1,45 @@
+-- The busy edges of a process by the cells that they access.
+use Rattle.std.specs.Prelude.{◌≡◌, ℕ, ◌+◌, ◌*◌, ◌<◌, Bool, ◌&&◌, ◌||◌, List, [], ◌∷◌, ◌++◌, get_or, length, if◌then◌else◌}
+use Rattle.ppd_bits.specs.CellSets.{RisesFrom, has}
+use Rattle.ppd_race.specs.declared.busy.Accessor.{Accessor}
+use Rattle.ppd_race.specs.declared.busy.Busy.{Busy}
+use Rattle.ppd_race.specs.declared.by_cell.ByCell.{ByCell}
+use Rattle.ppd_race.specs.Busy.{AreBelow}
+use Rattle.ppd_race.specs.Lists.{one_at}
+
+-- a busy edge at its place
+abbrev pub accessor : ℕ → Busy → Accessor
+accessor place a = record { place = place; edge = a.edge }
+
+-- those of these busy edges, the first at place m, that pass the test
+abbrev pub accessors_from : ℕ → (Busy → Bool) → List Busy → List Accessor
+accessors_from m test [] = []
+accessors_from m test (a ∷ rest) = (if test a then accessor m a ∷ [] else []) ++ accessors_from (m + 1) test rest
+
+-- by each cell those that read it, and those that write it
+pub record IsByCell (own : List Busy) (t : ByCell) : Type 0 where
+  pub long_readers : length t.readers.items ≡ 1024
+  pub long_writers : length t.writers.items ≡ 1024
+  pub readers : (c : ℕ) → c < 1024 → get_or t.readers.items c [] ≡ accessors_from 0 (λ a. has a.reads c) own
+  pub writers : (c : ℕ) → c < 1024 → get_or t.writers.items c [] ≡ accessors_from 0 (λ a. has a.writes c) own
+
+-- the cells of each rise, are below 1,024, and have those that it reads and writes
+pub record IsOfCells (a : Busy) : Type 0 where
+  pub rises : RisesFrom 0 a.cells
+  pub below : AreBelow 1024 a.cells
+  pub all : (c : ℕ) → has a.cells c ≡ (has a.reads c || has a.writes c)
+
+abbrev pub AreOfCells : List Busy → Type 0
+AreOfCells own = (k : ℕ) (d : Busy) → k < length own → IsOfCells (get_or own k d)
+
+-- ---- as they are listed
+
+abbrev pub listed_if : Bool → ℕ → Accessor → ℕ → List Accessor
+listed_if holds cell one c = if holds then one_at cell one c else []
+
+-- one more at each of these cells that is in the set
+abbrev pub listed_in : List ℕ → List ℕ → Accessor → ℕ → List Accessor
+listed_in set cells one c = if has cells c && has set c then one ∷ [] else []
+
+abbrev pub listing_cost : Busy → ℕ
+listing_cost a = 1 + 4 * length a.cells

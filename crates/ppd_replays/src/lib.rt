@@ -1,0 +1,13 @@
+//! Intervals of worked programs, replayed from their logs: tests of the index of logs and of the replay.
+#![tactic(auto)]
+
+#[cfg(test)]
+mod damaged_tests;
+#[cfg(test)]
+mod row_tests;
+#[cfg(test)]
+mod runs;
+#[cfg(test)]
+mod shown;
+#[cfg(test)]
+mod written;

@@ -1,0 +1,7 @@
+/// The call of an activation that has no interval of its own and goes on: its item in the interval, and its
+/// statement.
+#[derive(Clone, Copy, PartialEq, Eq, Debug)]
+pub struct LeafCall {
+    pub item: u32,
+    pub stmt: u32,
+}

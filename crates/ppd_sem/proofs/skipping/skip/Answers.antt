@@ -1,0 +1,14 @@
+use Rattle.std.proofs.Common.{◌≡◌, sym, subst, arith}
+use Rattle.ppd_sem.specs.Blocks.{skipped}
+use Rattle.ppd_sem.specs.Runs.{IsRunning}
+use Rattle.ppd_sem.specs.declared.proc.Proc.{Proc}
+use Rattle.ppd_sem.proofs.Skips.{skipped_runs}
+use Rattle.ppd_sem.proofs.skipping.skip.Goals as goal
+
+pub returns-clause-kept : goal.returns-clause-kept
+returns-clause-kept c =
+    let program = c.args.program.now in
+    let plan = c.args.plan.now in
+    let before : Proc = c.args.proc.now in
+    let is : c.charge.new.proc ≡ skipped program plan c.args.values.now before = grind arith in
+    subst (λ (s : Proc). IsRunning program s) (sym is) (skipped_runs program plan c.args.values.now before c.requires.proc c.requires.begins)

@@ -1,0 +1,11 @@
+-- Texts piece by piece, and that the logs of a run tell what the run does.
+pub mod Positions
+pub mod Lines
+pub mod Static
+pub mod Indexed
+pub mod Honest
+pub mod Replayed
+pub mod Answered
+pub mod Keeping
+pub mod LastValues
+pub mod Flows

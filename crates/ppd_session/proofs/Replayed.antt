@@ -1,0 +1,170 @@
+-- What the replay of an interval of a past tells, and why it fails.
+use Rattle.std.specs.Prelude.{◌==◌, None, OnOk, Some, option_map, slice_get}
+use Rattle.std.proofs.Common.{◌≡◌, ℕ, zero, suc, ◌<◌, ◌≤◌, List, [], ◌∷◌, ◌++◌, Option, Result, Ok, Err, true, get_or, length, map, refl, ap, sym, subst, ◌∙◌, arith}
+use Rattle.std.proofs.lemmas.Bool.Decides.{nat_tests}
+use Rattle.std.proofs.lemmas.List.{length-map}
+use Rattle.ppd_ast.specs.declared.plan.Plan.{Plan}
+use Rattle.ppd_ast.specs.declared.program.Program.{Program}
+use Rattle.ppd_emul.specs.declared.trace.BlockTrace.{BlockTrace}
+use Rattle.ppd_emul.specs.declared.trace.EmulError.{EmulError}
+use Rattle.ppd_emul.specs.declared.trace.EmulError.TheVariants.{Diverged, Memory}
+use Rattle.ppd_emul.specs.Replay.{replay}
+use Rattle.ppd_entry.specs.declared.entry.Entry.{Entry}
+use Rattle.ppd_entry.specs.IntervalLogs.{Indexed, indexed, log_in}
+use Rattle.ppd_index.specs.declared.row.Row.{Row}
+use Rattle.ppd_index.specs.Indexes.{AreIntervals, IsIndexOf, entries_at, rows_at}
+use Rattle.ppd_index.specs.Tables.{indexed_of}
+use Rattle.ppd_model.specs.Bounds.{AreEach}
+use Rattle.ppd_model.specs.declared.flow.Item.{Item}
+use Rattle.ppd_past.specs.declared.flow_error.FlowError.{FlowError}
+use Rattle.ppd_past.specs.declared.flow_error.FlowError.TheVariants as flow_error
+use Rattle.ppd_past.specs.declared.past.Past.{Past}
+use Rattle.ppd_past.specs.ByReplays.{IsFoundBy, failure_or, first_failure}
+use Rattle.ppd_past.specs.SeenBy.{failure_by, failure_of, items_by, items_in}
+use Rattle.ppd_replay.specs.Laws.{replay_of}
+use Rattle.ppd_session.specs.Known.{Known, Told, told_by, told_of_entries}
+use Rattle.ppd_session.specs.Sessions.{IsCause, IsWhy, error_of, known_by}
+use Rattle.ppd_session.specs.Texts.{failure_at, failure_in, item_failure, items_text, told_at, told_failure, told_text}
+use Rattle.ppd_session.specs.declared.reply.SessionError.{SessionError}
+use Rattle.ppd_session.specs.declared.reply.SessionError.TheVariants as session_error
+
+slice_get-map : {A B : Type 0} (f : A → B) (xs : List A) (k : ℕ) → slice_get (map f xs) k ≡ option_map f (slice_get xs k)
+slice_get-map f [] zero = refl
+slice_get-map f [] (suc k) = refl
+slice_get-map f (x ∷ xs) zero = refl
+slice_get-map f (x ∷ xs) (suc k) = slice_get-map f xs k
+
+past_end : {A : Type 0} (xs : List A) (k : ℕ) → length xs ≤ k → slice_get xs k ≡ None
+past_end [] zero le = refl
+past_end [] (suc k) le = refl
+past_end (x ∷ xs) zero le = absurd (omega arith)
+past_end (x ∷ xs) (suc k) le = past_end xs k (omega arith)
+
+module _ (program : Program) (plan : Plan) (budget : ℕ) where
+  abbrev answer_of : Indexed → Result BlockTrace EmulError
+  answer_of i = (replay program plan i.log budget).answer
+
+  abbrev told_of : Indexed → Told
+  told_of i = told_by (answer_of i)
+
+  -- ---- of a process that is there, and of none
+
+  told_entries : (lists : List (List Entry)) (q : ℕ)
+      → get_or (map (told_of_entries program plan budget) lists) q [] ≡ told_of_entries program plan budget (get_or lists q [])
+  told_entries [] q = refl
+  told_entries (es ∷ lists) zero = refl
+  told_entries (es ∷ lists) (suc q) = told_entries lists q
+
+  -- ---- one replay
+
+  fails_as : (q : ℕ) (r : Result BlockTrace EmulError) → failure_or q (failure_by r) None ≡ failure_in q (Some (told_by r))
+  fails_as q (Ok trace) = refl
+  fails_as q (Err (Diverged n w f)) = refl
+  fails_as q (Err Memory) = refl
+
+  failure_as : (q : ℕ) (o : Option Indexed) → failure_or q (failure_of (replay_of program plan budget (log_in o))) None ≡ failure_in q (option_map told_of o)
+  failure_as q None = refl
+  failure_as q (Some i) = fails_as q (answer_of i)
+
+  tells_as : (q : ℕ) (r : Result BlockTrace EmulError) → failure_or q (failure_by r) None ≡ None → told_by r ≡ Ok (items_by r)
+  tells_as q (Ok trace) e = refl
+  tells_as q (Err (Diverged n w f)) e = absurd (cc)
+  tells_as q (Err Memory) e = refl
+
+  told_as : (q : ℕ) (is : List Indexed) (k : ℕ) → k < length is → failure_or q (failure_of (replay_of program plan budget (log_in (slice_get is k)))) None ≡ None
+      → slice_get (map told_of is) k ≡ Some (Ok (get_or (map (λ i. items_by (answer_of i)) is) k []))
+  told_as q [] k lt e = absurd (omega arith)
+  told_as q (i ∷ is) zero lt e = ap Some (tells_as q (answer_of i) e)
+  told_as q (i ∷ is) (suc k) lt e = told_as q is k (omega arith) e
+
+-- ---- how many
+
+each_count : (plan : Plan) (tables : List (List Row)) (lists : List (List Entry)) (q : ℕ) → AreEach (AreIntervals plan) tables lists
+    → length (get_or tables q []) ≡ length (indexed plan (get_or lists q []))
+each_count plan [] [] q h = refl
+each_count plan [] (es ∷ lists) q h = absurd h
+each_count plan (r ∷ tables) [] q h = absurd h
+each_count plan (r ∷ tables) (es ∷ lists) zero h = sym (length-map r (indexed_of es)) ∙ ap length h.0.logs_are
+each_count plan (r ∷ tables) (es ∷ lists) (suc q) h = each_count plan tables lists q h.1
+
+-- ---- texts
+
+-- what is shown of items that are told
+module _ (x : Known) (q k : ℕ) (j : Option ℕ) (t : Option Told) (items shown : List Item) (e : t ≡ Some (Ok items)) (s : shown ≡ items) where
+  same_told : t ≡ Some (Ok shown)
+  same_told = e ∙ ap (λ (is : List Item). Some (Ok is)) (sym s)
+
+  pub told_texts : (old new : List ℕ) → new ≡ old ++ items_text x q k j shown → new ≡ old ++ told_text x q k j t
+  told_texts old new h = subst (λ (t : Option Told). new ≡ old ++ told_text x q k j t) (sym same_told) h
+
+  pub told_none : item_failure x q k j shown ≡ None → told_failure x q k j t ≡ None
+  told_none h = subst (λ (t : Option Told). told_failure x q k j t ≡ None) (sym same_told) h
+
+  pub told_why : (error : SessionError) → IsWhy (item_failure x q k j shown) error → IsWhy (told_failure x q k j t) error
+  told_why error h = subst (λ (t : Option Told). IsWhy (told_failure x q k j t) error) (sym same_told) h
+
+-- why a replay that fails leaves no text
+pub why_failed : (x : Known) (q k : ℕ) (j : Option ℕ) (t : Option Told) (error : SessionError) → IsCause (failure_in q t) error → IsWhy (told_failure x q k j t) error
+why_failed x q k j None (session_error.Diverged at) h = let never : None ≡ Some at = h in absurd (cc)
+why_failed x q k j (Some (Ok items)) (session_error.Diverged at) h = let never : None ≡ Some at = h in absurd (cc)
+why_failed x q k j (Some (Err n)) (session_error.Diverged at) h = ap (option_map session_error.Diverged) h
+why_failed x q k j t (session_error.Sets at) h = absurd h
+why_failed x q k j t session_error.Memory h = tt
+
+-- ---- lists and answers
+
+pub none_there : {A : Type 0} (xs : List A) → true ≡ (length xs == 0) → xs ≡ []
+none_there [] e = refl
+none_there (x ∷ xs) e = grind (arith, nat_tests)
+
+pub on_ok : {T E P : Type 0} (r : Result T E) → P → OnOk r P
+on_ok (Ok x) p = p
+on_ok (Err e) p = tt
+
+-- ---- of a past
+
+module _ (past : Past) (q k : ℕ) where
+  abbrev entries : List Entry
+  entries = entries_at past.logs.now q
+
+  told_here : told_at (known_by past []) q k ≡ slice_get (told_of_entries past.program.now past.plan.now past.budget entries) k
+  told_here = ap (λ ts. slice_get ts k) (told_entries past.program.now past.plan.now past.budget past.logs.now.lists q)
+
+  -- the failure of the replay is the one that is told
+  pub same_failure : first_failure past ((q, k) ∷ []) ≡ failure_at (known_by past []) (Some q) k
+  same_failure =
+      failure_as past.program.now past.plan.now past.budget q (slice_get (indexed past.plan.now entries) k)
+      ∙ ap (failure_in q) (sym (told_here ∙ slice_get-map _ (indexed past.plan.now entries) k))
+
+  -- of an interval that is not there nothing is told
+  pub not_told : IsIndexOf past.plan.now past.logs.now past.index.now.tables → length (rows_at past.index.now.tables q) ≤ k → told_at (known_by past []) q k ≡ None
+  not_told h le =
+      let count = each_count past.plan.now past.index.now.tables past.logs.now.lists q h in
+      let long : length (told_of_entries past.program.now past.plan.now past.budget entries) ≤ k =
+      omega (arith, length-map (indexed past.plan.now entries) (told_of past.program.now past.plan.now past.budget), count) in
+      told_here ∙ past_end (told_of_entries past.program.now past.plan.now past.budget entries) k long
+
+  -- a replay that does not fail tells its items
+  pub tells : (items : List Item) (b e : ℕ) → IsIndexOf past.plan.now past.logs.now past.index.now.tables → k < length (rows_at past.index.now.tables q)
+      → IsFoundBy past ((q, k) ∷ []) (Ok (items_in past q k)) b e (Ok items) → told_at (known_by past []) q k ≡ Some (Ok items)
+  tells items b e h lt f =
+      let is : ◌≡◌ {A = Result (List Item) FlowError} (Ok (items_in past q k)) (Ok items) = f.1 in
+      let count = each_count past.plan.now past.index.now.tables past.logs.now.lists q h in
+      let there : k < length (indexed past.plan.now entries) = omega (arith, count) in
+      let same : items_in past q k ≡ items = cc in
+      told_here
+      ∙ (told_as past.program.now past.plan.now past.budget q (indexed past.plan.now entries) k there f.0
+      ∙ ap (λ (i : List Item). Some (Ok i)) same)
+
+  -- and else why
+  pub causes : (b e : ℕ) (error : FlowError) → IsFoundBy past ((q, k) ∷ []) (Ok (items_in past q k)) b e (Err error) → IsCause (failure_at (known_by past []) (Some q) k) (error_of error)
+  causes b e (flow_error.Diverged p n) f = sym same_failure ∙ f
+  causes b e flow_error.NoEvent f = tt
+  causes b e (flow_error.Sets p n c) f = let never : Ok (items_in past q k) ≡ Err (flow_error.Sets p n c) = f.1 in absurd (cc)
+  causes b e flow_error.Memory f = tt
+
+  pub no_event : (b e : ℕ) (error : FlowError) → IsFoundBy past ((q, k) ∷ []) (Ok (items_in past q k)) b e (Err error) → error ≡ flow_error.NoEvent → ⊥
+  no_event b e (flow_error.Diverged p n) f is = cc
+  no_event b e flow_error.NoEvent f is = let never : Ok (items_in past q k) ≡ Err flow_error.NoEvent = f.1 in cc
+  no_event b e (flow_error.Sets p n c) f is = cc
+  no_event b e flow_error.Memory f is = cc

@@ -1,0 +1,19 @@
+use Rattle.std.proofs.Common.{◌<◌, arith, length}
+use Rattle.ppd_session.specs.Known.{last_by}
+use Rattle.ppd_session.proofs.LastValues.{next, why}
+use Rattle.ppd_session.proofs.lasts.put_lines.Goals as goal
+
+pub returns-in-Err-clause-error : goal.returns-in-Err-clause-error
+returns-in-Err-clause-error c =
+    let past = c.args.past.now in
+    let lt : c.loop-cell.cell < length past.program.now.starts = omega (arith, c.loop-cell-test.true, c.len-cell-end.ensures) in
+    why (last_by past.program.now past.plan.now past.budget past.logs.now) c.loop-cell.cell
+    (length past.program.now.starts) c.in-Err.error lt c.loop-cell.invariant.none c.in-Err.ensures.error
+
+pub loop-cell-preserved : goal.loop-cell-preserved
+loop-cell-preserved c =
+    let past = c.args.past.now in
+    let n = next (last_by past.program.now past.plan.now past.budget past.logs.now) past.program.now c.loop-cell.cell
+    c.args.text.now.items c.loop-cell.text.items c.put_cell_line.new.text.items c.loop-cell.invariant.text
+    c.loop-cell.invariant.none c.in-Ok.ensures.told in
+    record { text = n.text; none = n.none }

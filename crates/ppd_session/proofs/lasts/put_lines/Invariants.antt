@@ -1,0 +1,15 @@
+use Rattle.std.proofs.Common.{◌≡◌, ◌++◌, None}
+use Rattle.ppd_session.specs.Known.{last_by, of_cells}
+use Rattle.ppd_session.specs.Texts.{first_unfound, lasts_text}
+use Rattle.ppd_session.proofs.lasts.put_lines.Given as goal
+
+abbrev pub invariant-loop-cell : goal.invariant-loop-cell
+invariant-loop-cell l = record {
+  text : l.text.items
+      ≡ l.initial.text.items
+      ++ lasts_text l.past.program.now 0
+      (of_cells (last_by l.past.program.now l.past.plan.now l.past.budget l.past.logs.now) 0 l.cell);
+  none : first_unfound
+      (of_cells (last_by l.past.program.now l.past.plan.now l.past.budget l.past.logs.now) 0 l.cell)
+      ≡ None;
+}

@@ -1,0 +1,24 @@
+use Rattle.std.specs.Prelude.{IfErr, None, OnOk}
+use Rattle.std.proofs.Common.{◌≡◌, ◌++◌, List, subst, sym}
+use Rattle.ppd_model.specs.declared.graph.Race.{Race}
+use Rattle.ppd_session.specs.Sessions.{AreTold, IsWhy, known_by}
+use Rattle.ppd_session.specs.Texts.{opening_failure}
+use Rattle.ppd_session.proofs.Replayed.{none_there}
+use Rattle.ppd_session.proofs.opening.put_open.Goals as goal
+
+pub put_interval-requires-clause-kept : goal.put_interval-requires-clause-kept
+put_interval-requires-clause-kept c =
+    subst (λ (rs : List Race). AreTold (known_by c.args.past.now rs) c.args.kept.now)
+    (none_there c.args.races.now c.if-not-is_empty.ensures) c.requires.kept
+
+pub returns-clause-error : goal.returns-clause-error
+returns-clause-error c =
+    subst
+    (λ (rs : List Race). IfErr c.put_interval.result
+    (IsWhy (opening_failure (known_by c.args.past.now rs) c.args.opening.process c.args.opening.interval c.args.opening.item)))
+    (sym (none_there c.args.races.now c.if-not-is_empty.ensures)) c.put_interval.ensures.error
+
+pub returns-clause-kept : goal.returns-clause-kept
+returns-clause-kept c =
+    subst (λ (rs : List Race). AreTold (known_by c.args.past.now rs) c.put_interval.new.kept)
+    (sym (none_there c.args.races.now c.if-not-is_empty.ensures)) c.put_interval.ensures.kept

@@ -1,0 +1,190 @@
+-- What is known of a run or of a recording: its program and plan, its races, and the intervals of each process with
+-- their items.
+use Rattle.std.specs.Prelude.{ℕ, zero, suc, ◌+◌, nat_eq, ℤ, Bool, if◌then◌else◌, List, [], ◌∷◌, map, length, Option, Some, None, Result, Ok, Err}
+use Rattle.ppd_ast.specs.declared.plan.Plan.{Plan}
+use Rattle.ppd_ast.specs.declared.program.Program.{Program}
+use Rattle.ppd_emul.specs.declared.trace.BlockTrace.{BlockTrace}
+use Rattle.ppd_emul.specs.declared.trace.EmulError.{EmulError}
+use Rattle.ppd_emul.specs.declared.trace.EmulError.TheVariants.{Diverged, Memory}
+use Rattle.ppd_emul.specs.Replay.{replay}
+use Rattle.ppd_entry.specs.declared.entry.At.{At}
+use Rattle.ppd_entry.specs.declared.entry.Entry.{Entry}
+use Rattle.ppd_entry.specs.declared.entry.Logs.{Logs}
+use Rattle.ppd_entry.specs.IntervalLogs.{indexed}
+use Rattle.ppd_index.specs.Indexes.{entries_at}
+use Rattle.ppd_flow.specs.Answers.{answer_if}
+use Rattle.ppd_flow.specs.Runs.{edges_or_none}
+use Rattle.ppd_model.specs.declared.flow.FlowEdge.{FlowEdge}
+use Rattle.ppd_model.specs.declared.flow.Item.{Item}
+use Rattle.ppd_model.specs.declared.flow.Origin.{Origin}
+use Rattle.ppd_model.specs.declared.graph.Race.{Race}
+use Rattle.ppd_model.specs.FlowbackEdges.{edges, last}
+use Rattle.ppd_model.specs.Extents.{Extent, extents, first_of}
+use Rattle.ppd_model.specs.Intervals.{Span, Split, is_closed, items_of, splits}
+use Rattle.ppd_model.specs.Races.{races_of}
+use Rattle.ppd_model.specs.declared.tracing.Story.{Story}
+use Rattle.ppd_model.specs.Story.{story}
+use Rattle.ppd_past.specs.declared.flow_error.FlowError.{FlowError}
+use Rattle.ppd_past.specs.declared.flow_error.FlowError.TheVariants as flow_error
+use Rattle.ppd_past.specs.ByReplays.{failure_or}
+use Rattle.ppd_past.specs.SeenBy.{failed_at, seen_by}
+use Rattle.ppd_race.specs.Races.{races_of_logs}
+use Rattle.ppd_search.specs.Found.{edges_replays, found_edges}
+use Rattle.ppd_search.specs.Seen.{Seen}
+use Rattle.ppd_search.specs.Shared.{found_last, last_replays}
+use Rattle.ppd_walk.specs.SharedCells.{answer_of}
+
+-- an interval: its block, the interval directly round it, and whether it was left
+pub record Interval : Type 0 where
+  pub block : ℕ
+  pub parent : Option ℕ
+  pub closed : Bool
+
+-- what is told of an interval: its items, or the number of the entry with which its replay cannot go on
+abbrev pub Told : Type 0
+Told = Result (List Item) ℕ
+
+-- what is told of a shared cell: its last value with the write of it, or why that is not found
+abbrev pub Last : Type 0
+Last = Result (ℤ × Origin) FlowError
+
+-- what is told of an item: its flowback edges, that there is no such item, or why they are not found
+abbrev pub Flow : Type 0
+Flow = Result (List FlowEdge) FlowError
+
+pub record Known : Type 0 where
+  pub program : Program
+  pub plan : Plan
+  pub races : List Race
+  pub intervals : List (List Interval)
+  pub items : List (List Told)
+  pub lasts : List Last
+  pub flow : List (List (List Flow))
+
+-- what may depend on the order of shared accesses is not told where there is a race
+abbrev pub unless_raced : {A : Type 0} → List Race → List A → List A
+unless_raced [] xs = xs
+unless_raced (r ∷ rs) xs = []
+
+-- of n cells from number c on
+abbrev pub of_cells : {A : Type 0} → (ℕ → A) → (c n : ℕ) → List A
+of_cells f c zero = []
+of_cells f c (suc n) = f c ∷ of_cells f (c + 1) n
+
+-- of each item that is told of an interval
+abbrev pub of_items : (ℕ → Flow) → Told → List Flow
+of_items f (Ok items) = of_cells f 0 (length items)
+of_items f (Err n) = []
+
+-- of each interval of a process from number k on
+abbrev pub of_intervals : (ℕ → ℕ → Flow) → (k : ℕ) → List Told → List (List Flow)
+of_intervals f k [] = []
+of_intervals f k (t ∷ ts) = of_items (f k) t ∷ of_intervals f (k + 1) ts
+
+-- of each process from number p on
+abbrev pub of_processes : (ℕ → ℕ → ℕ → Flow) → (p : ℕ) → List (List Told) → List (List (List Flow))
+of_processes f p [] = []
+of_processes f p (ts ∷ rest) = of_intervals (f p) 0 ts ∷ of_processes f (p + 1) rest
+
+-- ---- of a run
+
+abbrev pub of_span : Span → Interval
+of_span i = record { block = i.block; parent = first_of i.round; closed = is_closed i }
+
+-- the intervals of a process
+abbrev pub of_split : Split → List Interval
+of_split x = map of_span x.spans
+
+-- the items of each interval of a process
+abbrev pub told_of_split : Split → List Told
+told_of_split x = map (λ i. Ok (items_of x i)) x.spans
+
+-- the last value of a cell, with the write of it
+abbrev pub last_told : Program → Plan → ℕ → Story → ℕ → Last
+last_told program plan budget s c = Ok (last program plan budget s c)
+
+-- the edges of item j of interval k of process p
+abbrev pub flow_told : Program → Plan → ℕ → Story → ℕ → ℕ → ℕ → Flow
+flow_told program plan budget s p k j = edges_or_none (edges program plan budget s p k j)
+
+-- what is known of a story
+abbrev pub known_of_story : Program → Plan → ℕ → Story → Known
+known_of_story program plan budget s = record {
+  program = program;
+  plan = plan;
+  races = races_of program s;
+  intervals = map of_split (splits program plan budget s);
+  items = unless_raced (races_of program s) (map told_of_split (splits program plan budget s));
+  lasts = unless_raced (races_of program s) (of_cells (last_told program plan budget s) 0 (length program.starts));
+  flow = of_processes (flow_told program plan budget s) 0
+      (unless_raced (races_of program s) (map told_of_split (splits program plan budget s)));
+}
+
+-- what is known of the run by a schedule
+abbrev pub known_of_run : Program → Plan → ℕ → List ℕ → Known
+known_of_run program plan budget h = known_of_story program plan budget (story program plan budget h)
+
+-- ---- of logs
+
+abbrev pub of_extent : Extent → Interval
+of_extent x = record { block = x.block; parent = x.parent; closed = x.closed }
+
+-- what is told by a replay
+abbrev pub told_by : Result BlockTrace EmulError → Told
+told_by (Ok trace) = Ok trace.items
+told_by (Err (Diverged n w f)) = Err n
+told_by (Err Memory) = Ok []
+
+-- the items of each interval of a process, by its replay from its own log
+abbrev pub told_of_entries : Program → Plan → ℕ → List Entry → List Told
+told_of_entries program plan budget entries =
+    map (λ i. told_by (replay program plan i.log budget).answer) (indexed plan entries)
+
+-- what the replays of each process give
+abbrev pub seens : Program → Plan → ℕ → Logs → List Seen
+seens program plan budget logs = map (λ entries. seen_by program plan budget entries) logs.lists
+
+-- the failure of the first that fails of the replays of these intervals, each by its process
+abbrev pub first_failed : Program → Plan → ℕ → Logs → List (ℕ × ℕ) → Option At
+first_failed program plan budget logs [] = None
+first_failed program plan budget logs (m ∷ ms) =
+    failure_or m.0 (failed_at program plan budget (entries_at logs m.0) m.1)
+    (first_failed program plan budget logs ms)
+
+-- this is found, where no replay fails
+abbrev pub unless_failed : {A : Type 0} → Option At → Result A FlowError → Result A FlowError
+unless_failed None found = found
+unless_failed (Some at) found = Err (flow_error.Diverged at.process at.entry)
+
+-- the last value of a cell by the replays that the search for its last write needs
+abbrev pub last_by : Program → Plan → ℕ → Logs → ℕ → Last
+last_by program plan budget logs c =
+    unless_failed
+    (first_failed program plan budget logs (last_replays program logs (seens program plan budget logs) c))
+    (answer_of (found_last program logs (seens program plan budget logs) c))
+
+-- the edges of item j of interval k of process p by the replays that the search for them needs
+abbrev pub flow_by : Program → Plan → ℕ → Logs → ℕ → ℕ → ℕ → Flow
+flow_by program plan budget logs p k j =
+    unless_failed
+    (first_failed program plan budget logs
+    (edges_replays program plan logs (seens program plan budget logs) p k j))
+    (answer_if (found_edges program plan logs (seens program plan budget logs) p k j))
+
+-- what is known of logs that have these races: the intervals of their entries, and by replay their items, the last
+-- values of shared cells and the edges of items
+abbrev pub known_with : Program → Plan → (budget : ℕ) → Logs → List Race → Known
+known_with program plan budget logs races = record {
+  program = program;
+  plan = plan;
+  races = races;
+  intervals = map (λ entries. map of_extent (extents entries)) logs.lists;
+  items = unless_raced races (map (told_of_entries program plan budget) logs.lists);
+  lasts = unless_raced races (of_cells (last_by program plan budget logs) 0 (length program.starts));
+  flow = of_processes (flow_by program plan budget logs) 0
+      (unless_raced races (map (told_of_entries program plan budget) logs.lists));
+}
+
+-- what is known of logs: the races are those of their record and sets
+abbrev pub known_of_logs : Program → Plan → (budget : ℕ) → Logs → Known
+known_of_logs program plan budget logs = known_with program plan budget logs (races_of_logs program logs)

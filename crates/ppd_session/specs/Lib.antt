@@ -1,0 +1,7 @@
+-- What command lines ask, and what is answered.
+pub mod Questions
+pub mod Known
+pub mod Texts
+pub mod Rows
+pub mod Sessions
+pub mod Laws

@@ -1,0 +1,244 @@
+-- The text with which each command line is answered.
+use Rattle.std.specs.Prelude.{ℕ, ◌+◌, nat_eq, nat_lt, Bool, true, false, List, [], ◌∷◌, ◌++◌, get_or, length, slice_get, Option, Some, None, Ok, Err, codes, decimal, if◌then◌else◌}
+use Rattle.std.specs.List.{flat_map}
+use Rattle.ppd_ast.specs.declared.plan.Plan.{Plan}
+use Rattle.ppd_ast.specs.declared.program.Program.{Program}
+use Rattle.ppd_ast.specs.declared.program.Var.{Var}
+use Rattle.ppd_deps.specs.declared.edges.StaticEdge.{StaticEdge}
+use Rattle.ppd_deps.specs.declared.edges.StaticEdge.TheVariants.{Data, ControlEntry, Control}
+use Rattle.ppd_deps.specs.Edges.{edges_of}
+use Rattle.ppd_deps.specs.Named.{body_of, locals_of}
+use Rattle.ppd_entry.specs.declared.entry.At.{At}
+use Rattle.ppd_model.specs.declared.flow.Item.{Item}
+use Rattle.ppd_model.specs.declared.graph.Race.{Race}
+use Rattle.ppd_model.specs.declared.graph.RaceKind.{RaceKind}
+use Rattle.ppd_model.specs.declared.graph.RaceKind.TheVariants.{ReadWrite, WriteRead, WriteWrite}
+use Rattle.ppd_show.specs.Names.{var_name}
+use Rattle.ppd_show.specs.Table.{stmt_at}
+use Rattle.ppd_session.specs.declared.question.Opening.{Opening}
+use Rattle.ppd_session.specs.declared.question.Question.{Question}
+use Rattle.ppd_session.specs.declared.question.Question.TheVariants.{Nothing, Unknown, Races, Final, Blocks, Open, Why, Deps, Quit}
+use Rattle.ppd_session.specs.Known.{Flow, Interval, Known, Last, Told}
+use Rattle.ppd_session.specs.Questions.{question}
+use Rattle.ppd_past.specs.declared.flow_error.FlowError.{FlowError}
+use Rattle.ppd_past.specs.declared.flow_error.FlowError.TheVariants as flow_error
+use Rattle.ppd_why.specs.Edges.{last_line, why_text}
+use Rattle.ppd_why.specs.Items.{open_text}
+use Rattle.ppd_why.specs.Names.{cell_text, process_name, what_text}
+
+-- ---- races
+
+abbrev pub race_word : RaceKind → List ℕ
+race_word ReadWrite = codes "read-write"
+race_word WriteRead = codes "write-read"
+race_word WriteWrite = codes "write-write"
+
+abbrev pub race_line : Program → Race → List ℕ
+race_line p r =
+    codes "race " ++ process_name p r.p ++ codes " " ++ decimal r.i ++ codes " " ++ process_name p r.q ++ codes " " ++ decimal r.j
+    ++ codes " " ++ cell_text p.shared r.cell ++ codes " " ++ race_word r.kind ++ codes "\n"
+
+-- the race list
+abbrev pub races_text : Program → List Race → List ℕ
+races_text p races = codes "races " ++ decimal (length races) ++ codes "\n" ++ flat_map (race_line p) races
+
+-- ---- intervals
+
+abbrev pub parent_text : Option ℕ → List ℕ
+parent_text None = codes "-"
+parent_text (Some k) = decimal k
+
+abbrev pub state_text : Bool → List ℕ
+state_text true = codes "closed"
+state_text false = codes "open"
+
+abbrev pub interval_line : Program → Plan → (k : ℕ) → Interval → List ℕ
+interval_line p plan k i =
+    codes "block " ++ decimal k ++ codes " in " ++ parent_text i.parent ++ codes " "
+    ++ what_text p (slice_get plan.blocks i.block) ++ codes " " ++ state_text i.closed ++ codes "\n"
+
+-- the intervals from number k on
+abbrev pub interval_lines : Program → Plan → (k : ℕ) → List Interval → List ℕ
+interval_lines p plan k [] = []
+interval_lines p plan k (i ∷ is) = interval_line p plan k i ++ interval_lines p plan (k + 1) is
+
+-- the intervals of process q
+abbrev pub intervals_at : Known → ℕ → List Interval
+intervals_at x q = get_or x.intervals q []
+
+-- ---- static edges
+
+-- a shared variable, or a local one of the body in which statement s stands
+abbrev pub variables_at : Program → (s : ℕ) → Bool → List Var
+variables_at p s true = p.shared
+variables_at p s false = locals_of p (body_of p s)
+
+-- an edge into statement s
+abbrev pub edge_line : Program → (s : ℕ) → StaticEdge → List ℕ
+edge_line p s (Data from shared v) = codes "data " ++ decimal from ++ codes " " ++ var_name (slice_get (variables_at p s shared) v) ++ codes "\n"
+edge_line p s ControlEntry = codes "control entry\n"
+edge_line p s (Control from) = codes "control " ++ decimal from ++ codes "\n"
+
+-- a statement's line, then the edges into it
+abbrev pub deps_text : Program → (s : ℕ) → List ℕ
+deps_text p s = stmt_at p s ++ flat_map (edge_line p s) (edges_of p s)
+
+-- ---- answers
+
+-- how many races there are, where there are some: then what depends on the order of shared accesses is not told
+abbrev pub raced : List Race → List ℕ → List ℕ
+raced [] text = text
+raced (r ∷ rs) text = codes "? races " ++ decimal (length (r ∷ rs)) ++ codes "\n"
+
+abbrev pub no_process : List ℕ
+no_process = codes "? process\n"
+
+-- an answer about an interval of a process, if both are there
+abbrev pub at_interval : Known → Option ℕ → ℕ → (ℕ → List ℕ) → List ℕ
+at_interval x None k text = no_process
+at_interval x (Some q) k text = if nat_lt k (length (intervals_at x q)) then text q else codes "? block\n"
+
+-- what is told of interval k of process q
+abbrev pub told_at : Known → (q k : ℕ) → Option Told
+told_at x q k = slice_get (get_or x.items q []) k
+
+abbrev pub no_event : List ℕ
+no_event = codes "? event\n"
+
+-- item j with these edges into it
+abbrev pub flow_text : Program → Plan → (j : ℕ) → Item → Flow → List ℕ
+flow_text p plan j i (Ok edges) = why_text p plan j i edges
+flow_text p plan j i (Err flow_error.NoEvent) = no_event
+flow_text p plan j i (Err e) = []
+
+-- the edges of item j of interval k of process q
+abbrev pub flow_at : Known → (q k j : ℕ) → Flow
+flow_at x q k j = get_or (get_or (get_or x.flow q []) k []) j (Err flow_error.NoEvent)
+
+-- item j of interval k of process q, if it is there
+abbrev pub item_text_of : Known → (q k j : ℕ) → Option Item → List ℕ
+item_text_of x q k j None = no_event
+item_text_of x q k j (Some i) = flow_text x.program x.plan j i (flow_at x q k j)
+
+-- all items of an interval, or one of them with its edges
+abbrev pub items_text : Known → (q k : ℕ) → Option ℕ → List Item → List ℕ
+items_text x q k None items = open_text x.program x.plan items
+items_text x q k (Some j) items = item_text_of x q k j (slice_get items j)
+
+-- what is told of these, where it is; where the replay fails there is no text
+abbrev pub told_text : Known → (q k : ℕ) → Option ℕ → Option Told → List ℕ
+told_text x q k j (Some (Ok items)) = items_text x q k j items
+told_text x q k j told = []
+
+-- what is asked of an interval, if its process and the interval are there
+abbrev pub opened_text : Known → Opening → List ℕ
+opened_text x o =
+    raced x.races
+    (at_interval x o.process o.interval (λ q. told_text x q o.interval o.item (told_at x q o.interval)))
+
+-- the shared cells from number c on, up to one whose last write is not found
+abbrev pub lasts_text : Program → (c : ℕ) → List Last → List ℕ
+lasts_text p c [] = []
+lasts_text p c (Ok x ∷ xs) = last_line p c x ++ lasts_text p (c + 1) xs
+lasts_text p c (Err e ∷ xs) = []
+
+-- why the first is not found that is not
+abbrev pub first_unfound : List Last → Option FlowError
+first_unfound [] = None
+first_unfound (Ok x ∷ xs) = first_unfound xs
+first_unfound (Err e ∷ xs) = Some e
+
+abbrev pub blocks_text : Known → Option ℕ → List ℕ
+blocks_text x None = no_process
+blocks_text x (Some q) = interval_lines x.program x.plan 0 (intervals_at x q)
+
+abbrev pub statement_text : Program → (s : ℕ) → List ℕ
+statement_text p s = if nat_lt s (length p.stmts) then deps_text p s else codes "? statement\n"
+
+-- the answer to a question that replays nothing
+abbrev pub plain_text : Known → Question → List ℕ
+plain_text x Nothing = []
+plain_text x Unknown = codes "? command\n"
+plain_text x Quit = []
+plain_text x Races = races_text x.program x.races
+plain_text x Final = []
+plain_text x (Blocks q) = blocks_text x q
+plain_text x (Open q k) = []
+plain_text x (Why q k j) = []
+plain_text x (Deps s) = statement_text x.program s
+
+-- what a question asks of an interval, if it does
+abbrev pub opening_of : Question → Option Opening
+opening_of (Open q k) = Some (record { process = q; interval = k; item = None })
+opening_of (Why q k j) = Some (record { process = q; interval = k; item = Some j })
+opening_of asked = None
+
+-- the last values are asked
+abbrev pub is_final : Question → Bool
+is_final Final = true
+is_final asked = false
+
+-- what is asked of an interval, else this answer
+abbrev pub opened_or : Known → List ℕ → Option Opening → List ℕ
+opened_or x text None = text
+opened_or x text (Some o) = opened_text x o
+
+-- the answer to a question
+abbrev pub answer_text : Known → Question → List ℕ
+answer_text x asked =
+    if is_final asked then raced x.races (lasts_text x.program 0 x.lasts)
+    else opened_or x (plain_text x asked) (opening_of asked)
+
+-- the answer to a line
+abbrev pub text_of : Known → List ℕ → List ℕ
+text_of x line = answer_text x (question x.program line)
+
+-- ---- replays that fail
+
+-- the entry of process q at which a replay fails, if it does
+abbrev pub failure_in : (q : ℕ) → Option Told → Option At
+failure_in q (Some (Err n)) = Some (record { process = q; entry = n })
+failure_in q told = None
+
+-- the failure of the replay of interval k of a process that is there
+abbrev pub failure_at : Known → Option ℕ → (k : ℕ) → Option At
+failure_at x None k = None
+failure_at x (Some q) k = failure_in q (told_at x q k)
+
+-- why edges are not found of an item that is there
+abbrev pub unfound_flow : Flow → Option FlowError
+unfound_flow (Ok edges) = None
+unfound_flow (Err flow_error.NoEvent) = None
+unfound_flow (Err e) = Some e
+
+abbrev pub item_failure_of : Known → (q k j : ℕ) → Option Item → Option FlowError
+item_failure_of x q k j None = None
+item_failure_of x q k j (Some i) = unfound_flow (flow_at x q k j)
+
+abbrev pub item_failure : Known → (q k : ℕ) → Option ℕ → List Item → Option FlowError
+item_failure x q k None items = None
+item_failure x q k (Some j) items = item_failure_of x q k j (slice_get items j)
+
+-- why there is no text of an interval's items, or of one of them
+abbrev pub told_failure : Known → (q k : ℕ) → Option ℕ → Option Told → Option FlowError
+told_failure x q k j (Some (Ok items)) = item_failure x q k j items
+told_failure x q k j (Some (Err n)) = Some (flow_error.Diverged q n)
+told_failure x q k j None = None
+
+abbrev pub opening_failure : Known → Option ℕ → (k : ℕ) → Option ℕ → Option FlowError
+opening_failure x None k j = None
+opening_failure x (Some q) k j = told_failure x q k j (told_at x q k)
+
+-- why there is no answer to what is asked of an interval
+abbrev pub failure_if : Known → Option Opening → Option FlowError
+failure_if x None = None
+failure_if x (Some o) = opening_failure x o.process o.interval o.item
+
+-- the failure that leaves a question without an answer
+abbrev pub failure : Known → Question → Option FlowError
+failure x asked =
+    if is_final asked then first_unfound x.lasts else failure_if x (opening_of asked)
+
+-- the failure that leaves a line without an answer
+abbrev pub failure_of : Known → List ℕ → Option FlowError
+failure_of x line = failure x (question x.program line)

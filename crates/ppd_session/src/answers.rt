@@ -1,0 +1,124 @@
+// The answer to each question.
+ghost use Rattle.std.specs.Prelude.{◌≡◌, ◌++◌, None, OnOk, IfErr};
+ghost use Rattle.ppd_past.specs.Pasts.{IsPast};
+ghost use Rattle.ppd_session.specs.Sessions.{AreTold, IsWhy, known_by};
+ghost use Rattle.ppd_session.specs.Texts.{answer_text, blocks_text, failure, failure_if, opened_or, opening_of as opening_in, plain_text, statement_text};
+
+use crate::blocks::put_intervals;
+use crate::deps::put_deps;
+use crate::kept::Kept;
+use crate::lasts::put_final;
+use crate::opening::put_open;
+use crate::question::{Question, is_final, opening_of};
+use crate::races::put_races;
+use crate::reply::SessionError;
+use ppd_ast::Memory;
+use ppd_model::Race;
+use ppd_past::Past;
+use ppd_text::put;
+use std::alloc::Global;
+
+fn put_blocks(
+    text: &mut Vec<u8>,
+    past: &Past,
+    races: &[Race],
+    process: Option<u8>,
+) -> Result<(), Memory>
+    requires { IsPast past.now }
+    ensures { OnOk result (text.new.items ≡ text.old.items ++ blocks_text (known_by past.now races.now) process) }
+{
+    let Some(process) = process else {
+        return put(text, b"? process\n");
+    };
+    put_intervals(text, past.program, past.plan, past.index, process)
+}
+
+fn put_statement(
+    alloc: Global,
+    text: &mut Vec<u8>,
+    past: &Past,
+    statement: u64,
+) -> Result<(), Memory>
+    requires { IsPast past.now }
+    ensures { OnOk result (text.new.items ≡ text.old.items ++ statement_text past.now.program.now statement) }
+{
+    if statement >= past.program.stmts.len() as u64 {
+        return put(text, b"? statement\n");
+    }
+    put_deps(alloc, text, past.program, statement as u32)
+}
+
+/// Appends the answer to a question that replays nothing.
+fn put_plain(
+    alloc: Global,
+    text: &mut Vec<u8>,
+    past: &Past,
+    races: &[Race],
+    question: Question,
+) -> Result<(), Memory>
+    requires { IsPast past.now }
+    ensures { OnOk result (text.new.items ≡ text.old.items ++ plain_text (known_by past.now races.now) question) }
+{
+    match question {
+        Question::Nothing | Question::Quit => Ok(()),
+        Question::Unknown => put(text, b"? command\n"),
+        Question::Races => put_races(text, past.program, races),
+        Question::Final => Ok(()),
+        Question::Blocks(process) => put_blocks(text, past, races, process),
+        Question::Open(_, _) | Question::Why(_, _, _) => Ok(()),
+        Question::Deps(statement) => put_statement(alloc, text, past, statement),
+    }
+}
+
+/// Appends the answer to a question that is not for the last values.
+fn put_answer_of(
+    alloc: Global,
+    text: &mut Vec<u8>,
+    past: &Past,
+    races: &[Race],
+    kept: &mut Kept,
+    question: Question,
+) -> Result<(), SessionError>
+    requires past { IsPast past.now }
+    requires kept { AreTold (known_by past.now races.now) kept.old }
+    ensures text { OnOk result
+        (text.new.items
+        ≡ text.old.items
+        ++ opened_or (known_by past.now races.now) (plain_text (known_by past.now races.now) question)
+        (opening_in question)) }
+    ensures told { OnOk result (failure_if (known_by past.now races.now) (opening_in question) ≡ None) }
+    ensures error { IfErr result (IsWhy (failure_if (known_by past.now races.now) (opening_in question))) }
+    ensures kept { AreTold (known_by past.now races.now) kept.new }
+{
+    if let Some(opening) = opening_of(question) {
+        return put_open(alloc, text, past, races, kept, opening);
+    }
+    match put_plain(alloc, text, past, races, question) {
+        Ok(()) => Ok(()),
+        Err(Memory) => Err(SessionError::Memory),
+    }
+}
+
+/// Appends the answer to a question about a past with these races, of which these blocks are kept. It fails where a
+/// replay fails, or for want of memory.
+pub(crate) fn put_answer(
+    alloc: Global,
+    text: &mut Vec<u8>,
+    past: &Past,
+    races: &[Race],
+    kept: &mut Kept,
+    question: Question,
+) -> Result<(), SessionError>
+    requires past { IsPast past.now }
+    requires kept { AreTold (known_by past.now races.now) kept.old }
+    ensures text { OnOk result
+        (text.new.items ≡ text.old.items ++ answer_text (known_by past.now races.now) question) }
+    ensures told { OnOk result (failure (known_by past.now races.now) question ≡ None) }
+    ensures error { IfErr result (IsWhy (failure (known_by past.now races.now) question)) }
+    ensures kept { AreTold (known_by past.now races.now) kept.new }
+{
+    if is_final(question) {
+        return put_final(alloc, text, past, races);
+    }
+    put_answer_of(alloc, text, past, races, kept, question)
+}

@@ -1,0 +1,25 @@
+//! Questions about a run, and their answers: its races, the intervals of its processes with their items, and static
+//! edges.
+#![tactic(auto)]
+
+mod answers;
+mod blocks;
+mod deps;
+mod kept;
+mod lasts;
+mod laws;
+mod opening;
+mod place;
+mod question;
+mod races;
+mod refusing;
+mod reply;
+mod session;
+mod why;
+mod words;
+
+pub use laws::{logs_tell_runs, runs_are_answered};
+pub use ppd_entry::At;
+pub use ppd_past::Past;
+pub use reply::{Reply, SessionError};
+pub use session::Session;

@@ -1,0 +1,187 @@
+// What a command line asks.
+ghost use Rattle.std.specs.Prelude.{◌≡◌, map};
+ghost use Rattle.ppd_ast.specs.Valid.{IsValid};
+ghost use Rattle.ppd_session.specs.Questions.{alone as alone_of, asked as asked_of, deps_of as deps_in, open_of as open_in, process_bodies as bodies_of, process_named as process_by_name, quits as quits_of, why_of as why_in, with_one as with_one_of, with_three as with_three_of, with_two as with_two_of};
+ghost use Rattle.ppd_session.specs.Texts.{is_final as is_final_of, opening_of as opening_in};
+
+use ppd_ast::{Body, Program};
+use ppd_text::number_in;
+
+/// What a line asks. A process is none where no process has the name.
+#[derive(Clone, Copy, PartialEq, Eq, Debug)]
+pub(crate) enum Question {
+    /// The line has no word.
+    Nothing,
+    /// The line is none of the commands.
+    Unknown,
+    Races,
+    Final,
+    Blocks(Option<u8>),
+    Open(Option<u8>, u64),
+    Why(Option<u8>, u64, u64),
+    Deps(u64),
+    Quit,
+}
+
+/// What a line asks of an interval of a process: all its items, or one of them. A process is none where no process has
+/// the name.
+#[derive(Clone, Copy)]
+pub(crate) struct Opening {
+    pub(crate) process: Option<u8>,
+    pub(crate) interval: u64,
+    pub(crate) item: Option<u64>,
+}
+
+/// What a question asks of an interval, if it does.
+pub(crate) fn opening_of(question: Question) -> Option<Opening>
+    ensures { result ≡ opening_in question }
+{
+    match question {
+        Question::Open(process, interval) => Some(Opening {
+            process,
+            interval,
+            item: None,
+        }),
+        Question::Why(process, interval, item) => Some(Opening {
+            process,
+            interval,
+            item: Some(item),
+        }),
+        _ => None,
+    }
+}
+
+/// Whether the last values are asked.
+pub(crate) fn is_final(question: Question) -> bool
+    ensures { result ≡ is_final_of question }
+{
+    match question {
+        Question::Final => true,
+        _ => false,
+    }
+}
+
+/// The bodies of the processes of a valid program.
+fn process_bodies(program: &Program) -> &[Body]
+    requires { IsValid program.now }
+    ensures { result.now ≡ bodies_of program.now }
+{
+    &program.bodies.as_slice()[program.functions as usize..]
+}
+
+fn process_named(program: &Program, name: &[u8]) -> Option<u8>
+    requires { IsValid program.now }
+    ensures { result ≡ process_by_name program.now name.now }
+{
+    let bodies = process_bodies(program);
+    for number in 0..bodies.len() {
+        if bodies[number].name.as_slice() == name {
+            return Some(number as u8);
+        }
+    }
+    None
+}
+
+fn alone(word: &[u8]) -> Question
+    ensures { result ≡ alone_of word.now }
+{
+    if word == b"races".as_slice() {
+        Question::Races
+    } else if word == b"final".as_slice() {
+        Question::Final
+    } else if word == b"quit".as_slice() {
+        Question::Quit
+    } else {
+        Question::Unknown
+    }
+}
+
+fn deps_of(statement: Option<u64>) -> Question
+    ensures { result ≡ deps_in statement }
+{
+    match statement {
+        Some(statement) => Question::Deps(statement),
+        None => Question::Unknown,
+    }
+}
+
+fn with_one(program: &Program, word: &[u8], a: &[u8]) -> Question
+    requires { IsValid program.now }
+    ensures { result ≡ with_one_of program.now word.now a.now }
+{
+    if word == b"blocks".as_slice() {
+        Question::Blocks(process_named(program, a))
+    } else if word == b"deps".as_slice() {
+        deps_of(number_in(a))
+    } else {
+        Question::Unknown
+    }
+}
+
+fn open_of(process: Option<u8>, interval: Option<u64>) -> Question
+    ensures { result ≡ open_in process interval }
+{
+    match interval {
+        Some(interval) => Question::Open(process, interval),
+        None => Question::Unknown,
+    }
+}
+
+fn with_two(program: &Program, word: &[u8], a: &[u8], b: &[u8]) -> Question
+    requires { IsValid program.now }
+    ensures { result ≡ with_two_of program.now word.now a.now b.now }
+{
+    if word == b"open".as_slice() {
+        open_of(process_named(program, a), number_in(b))
+    } else {
+        Question::Unknown
+    }
+}
+
+fn why_of(process: Option<u8>, interval: Option<u64>, item: Option<u64>) -> Question
+    ensures { result ≡ why_in process interval item }
+{
+    match interval {
+        Some(interval) => match item {
+            Some(item) => Question::Why(process, interval, item),
+            None => Question::Unknown,
+        },
+        None => Question::Unknown,
+    }
+}
+
+fn with_three(program: &Program, word: &[u8], a: &[u8], b: &[u8], c: &[u8]) -> Question
+    requires { IsValid program.now }
+    ensures { result ≡ with_three_of program.now word.now a.now b.now c.now }
+{
+    if word == b"why".as_slice() {
+        why_of(process_named(program, a), number_in(b), number_in(c))
+    } else {
+        Question::Unknown
+    }
+}
+
+/// What these words ask of a program's run.
+pub(crate) fn asked(program: &Program, words: &[&[u8]]) -> Question
+    requires { IsValid program.now }
+    ensures { result ≡ asked_of program.now (map (λ w. w.now) words.now) }
+{
+    match words {
+        [] => Question::Nothing,
+        [word] => alone(word),
+        [word, a] => with_one(program, word, a),
+        [word, a, b] => with_two(program, word, a, b),
+        [word, a, b, c] => with_three(program, word, a, b, c),
+        _ => Question::Unknown,
+    }
+}
+
+/// Whether these words end the session.
+pub(crate) fn quits(words: &[&[u8]]) -> bool
+    ensures { result ≡ quits_of (map (λ w. w.now) words.now) }
+{
+    match words {
+        [word] => *word == b"quit".as_slice(),
+        _ => false,
+    }
+}

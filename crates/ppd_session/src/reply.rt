@@ -1,0 +1,20 @@
+use ppd_ast::Bytes;
+use ppd_entry::At;
+
+/// The answer to a line, and whether the line ends the session.
+#[derive(Drop)]
+pub struct Reply {
+    pub text: Bytes,
+    pub quit: bool,
+}
+
+/// Why a line has no answer.
+#[derive(Clone, Copy, PartialEq, Eq, Debug)]
+pub enum SessionError {
+    /// The replay of the interval that holds this entry cannot go on with it.
+    Diverged(At),
+    /// The write set of this entry has a cell that the replays of its internal edge write nowhere.
+    Sets(At),
+    /// Want of memory.
+    Memory,
+}

@@ -1,0 +1,147 @@
+ghost use Rattle.std.specs.Prelude.{◌≡◌, None, IfOk, IfErr, OnOk};
+ghost use Rattle.ppd_past.specs.Pasts.{IsPast};
+ghost use Rattle.ppd_session.specs.Known.{known_of_logs};
+ghost use Rattle.ppd_session.specs.Sessions.{AreTold, IsWhy, known_by};
+ghost use Rattle.ppd_session.specs.Questions.{is_quit};
+ghost use Rattle.ppd_session.specs.Texts.{failure_of, races_text, text_of};
+
+use crate::answers::put_answer;
+use crate::kept::Kept;
+use crate::question::{asked, quits};
+use crate::races::put_races;
+use crate::reply::{Reply, SessionError};
+use crate::words::words_of;
+use ppd_ast::{Memory, Seq};
+use ppd_model::Race;
+use ppd_past::Past;
+use ppd_race::races;
+use std::alloc::Global;
+use std::marker::Model;
+use std::thread::Threads;
+
+/// How many replayed blocks a session keeps where nothing else is said.
+const USUAL_BLOCKS: u32 = 8;
+
+/// A past with its races, of which questions are answered, and the blocks that were replayed last.
+#[derive(Drop)]
+pub struct Session<'a> {
+    alloc: Global,
+    past: Past<'a>,
+    races: Seq<Race>,
+    kept: Kept,
+}
+
+impl<'a> Model for Session<'a> {
+    ghost use Rattle.ppd_past.specs.Pasts.{IsPast};
+    ghost use Rattle.ppd_session.specs.Known.{Known};
+    ghost use Rattle.ppd_session.specs.Sessions.{AreTold, known_by};
+
+    ghost Value = { Known };
+
+    ghost view = { λ s. known_by s.past s.races };
+
+    ghost invariant = { λ s. IsPast s.past × AreTold (known_by s.past s.races) s.kept };
+}
+
+fn reply(
+    alloc: Global,
+    past: &Past,
+    races: &[Race],
+    kept: &mut Kept,
+    line: &[u8],
+) -> Result<Reply, SessionError>
+    requires past { IsPast past.now }
+    requires kept { AreTold (known_by past.now races.now) kept.old }
+    ensures text { IfOk result (λ r. r.text ≡ text_of (known_by past.now races.now) line.now) }
+    ensures quit { IfOk result (λ r. r.quit ≡ is_quit line.now) }
+    ensures told { OnOk result (failure_of (known_by past.now races.now) line.now ≡ None) }
+    ensures error { IfErr result (IsWhy (failure_of (known_by past.now races.now) line.now)) }
+    ensures kept { AreTold (known_by past.now races.now) kept.new }
+{
+    let words = match words_of(alloc, line) {
+        Ok(words) => words,
+        Err(Memory) => return Err(SessionError::Memory),
+    };
+    let question = asked(past.program, words.as_slice());
+    let mut text = Vec::new(alloc);
+    match put_answer(alloc, &mut text, past, races, kept, question) {
+        Ok(()) => Ok(Reply {
+            text: Seq::from_vec(text),
+            quit: quits(words.as_slice()),
+        }),
+        Err(error) => Err(error),
+    }
+}
+
+impl<'a> Session<'a> {
+    /// Finds the races of a past, and keeps the 8 blocks that were replayed last. `Memory` is want of memory.
+    pub fn new(
+        rt: &(impl Threads + Sync),
+        alloc: Global,
+        past: Past<'a>,
+    ) -> Result<Session<'a>, Memory>
+        requires { IsPast past }
+        ensures { IfOk result
+            (λ s. s
+            ≡ known_of_logs past.entry.program.now past.entry.plan.now past.entry.budget past.entry.logs.now) }
+    {
+        Session::cached(rt, alloc, past, USUAL_BLOCKS)
+    }
+
+    /// The same with at most so many blocks, 0 for none. No answer depends on how many are kept.
+    pub fn cached(
+        rt: &(impl Threads + Sync),
+        alloc: Global,
+        past: Past<'a>,
+        blocks: u32,
+    ) -> Result<Session<'a>, Memory>
+        requires { IsPast past }
+        ensures { IfOk result
+            (λ s. s
+            ≡ known_of_logs past.entry.program.now past.entry.plan.now past.entry.budget past.entry.logs.now) }
+    {
+        let races = races(rt, alloc, past.graph)?;
+        let kept = Kept::new(alloc, blocks)?;
+        Ok(Session {
+            alloc,
+            past,
+            races,
+            kept,
+        })
+    }
+
+    /// The text of the race list: how many races there are, and a line for each. `Memory` is want of memory.
+    pub fn summary_races(&self) -> Result<Vec<u8>, Memory>
+        ensures { IfOk result (λ text. text.items ≡ races_text self.now.program self.now.races) }
+    {
+        let mut text = Vec::new(self.alloc);
+        put_races(&mut text, self.past.program, self.races.as_slice())?;
+        Ok(text)
+    }
+
+    /// The answer to a command line, without its newline: `races`, `final`, `blocks P`, `open P K`, `why P K J`,
+    /// `deps S` or `quit`. In its place stands the first of `? command`, `? races N`, `? process`, `? block`,
+    /// `? event` and `? statement` that applies.
+    ///
+    /// An interval is opened by its replay from its own log, or by a kept block; the edges of an item and a last value
+    /// are found by replays of single intervals.
+    /// `Diverged` comes exactly where such a replay fails, the first that does, at its entry; `Sets` exactly where the
+    /// write set of this entry has a cell that the replays write nowhere. Neither comes of the logs of a whole run, and
+    /// after them the session is not asked again. `Memory` is want of memory: the session is as before, and the line can be
+    /// asked again.
+    pub fn answer(&mut self, line: &[u8]) -> Result<Reply, SessionError>
+        ensures text { IfOk result (λ r. r.text ≡ text_of self.old line.now) }
+        ensures quit { IfOk result (λ r. r.quit ≡ is_quit line.now) }
+        ensures told { OnOk result (failure_of self.old line.now ≡ None) }
+        ensures error { IfErr result (IsWhy (failure_of self.old line.now)) }
+        ensures same { self.new ≡ self.old }
+    {
+        reply(
+            self.alloc,
+            &self.past,
+            self.races.as_slice(),
+            &mut self.kept,
+            line,
+        )
+    }
+}

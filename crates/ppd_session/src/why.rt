@@ -1,0 +1,162 @@
+// An item with its flowback edges.
+ghost use Rattle.std.specs.Prelude.{◌≡◌, ◌<◌, ◌++◌, [], List, Some, None, Ok, OnOk, IfErr, length, slice_get};
+ghost use Rattle.ppd_past.specs.Pasts.{IsPast};
+ghost use Rattle.ppd_session.specs.Known.{flow_by};
+ghost use Rattle.ppd_session.specs.Sessions.{IsItemThere, IsWhy, known_by};
+ghost use Rattle.ppd_session.specs.Texts.{flow_at, flow_text, item_failure_of, item_text_of, told_at, unfound_flow};
+ghost use Rattle.ppd_session.specs.declared.reply.SessionError.TheVariants as session_error;
+ghost use Rattle.ppd_walk.specs.SharedCells.{IsMemoryOr};
+ghost use Rattle.ppd_why.specs.Edges.{why_text};
+
+use crate::place::Place;
+use crate::refusing::put_refusal;
+use crate::reply::SessionError;
+use ppd_ast::{Memory, Seq, Steps};
+use ppd_entry::At;
+use ppd_flow::edges;
+use ppd_model::{FlowEdge, Item};
+use ppd_past::{FlowError, Past, number};
+use ppd_why::put_why;
+use std::alloc::Global;
+use std::marker::Brand;
+use std::sync::ledger::{Blank, Ledger};
+
+fn edges_in<L: Ledger>(
+    alloc: Global,
+    past: &Past,
+    place: Place,
+    item: u32,
+    blank: Blank,
+) -> Result<Seq<FlowEdge>, FlowError>
+    requires name { blank.name ≡ L.name }
+    requires parts { blank.parts ≡ L.parts }
+    requires some { 0 < blank.parts }
+    requires past { IsPast past.now }
+    ensures { IsMemoryOr
+        (flow_by past.now.program.now past.now.plan.now past.now.budget past.now.logs.now place.process place.interval item)
+        result }
+{
+    let mut steps: Steps<L> = Steps::new(blank);
+    edges(alloc, past, place.process, place.interval, item, &mut steps)
+}
+
+/// The edges of an item, by replays.
+fn edges_of(alloc: Global, past: &Past, place: Place, item: u32) -> Result<Seq<FlowEdge>, FlowError>
+    requires { IsPast past.now }
+    ensures { IsMemoryOr
+        (flow_by past.now.program.now past.now.plan.now past.now.budget past.now.logs.now place.process place.interval item)
+        result }
+{
+    edges_in::<Brand>(alloc, past, place, item, Blank::new(1))
+}
+
+fn put_edges(
+    text: &mut Vec<u8>,
+    past: &Past,
+    item: u32,
+    shown: &Item,
+    edges: &[FlowEdge],
+) -> Result<(), SessionError>
+    ensures text { OnOk result
+        (text.new.items ≡ text.old.items ++ why_text past.now.program.now past.now.plan.now item shown.now edges.now) }
+    ensures error { IfErr result (λ e. e ≡ session_error.Memory) }
+{
+    match put_why(text, past.program, past.plan, item as usize, shown, edges) {
+        Ok(()) => Ok(()),
+        Err(Memory) => Err(SessionError::Memory),
+    }
+}
+
+/// Appends an item with its edges, or that there is no such item.
+fn put_flow(
+    alloc: Global,
+    text: &mut Vec<u8>,
+    past: &Past,
+    place: Place,
+    item: u32,
+    shown: &Item,
+) -> Result<(), SessionError>
+    requires { IsPast past.now }
+    ensures text { OnOk result
+        (text.new.items
+        ≡ text.old.items
+        ++ flow_text past.now.program.now past.now.plan.now item shown.now
+        (flow_by past.now.program.now past.now.plan.now past.now.budget past.now.logs.now place.process place.interval
+        item)) }
+    ensures told { OnOk result
+        (unfound_flow
+        (flow_by past.now.program.now past.now.plan.now past.now.budget past.now.logs.now place.process place.interval
+        item)
+        ≡ None) }
+    ensures error { IfErr result
+        (IsWhy
+        (unfound_flow
+        (flow_by past.now.program.now past.now.plan.now past.now.budget past.now.logs.now place.process place.interval
+        item))) }
+{
+    match edges_of(alloc, past, place, item) {
+        Ok(edges) => put_edges(text, past, item, shown, edges.as_slice()),
+        Err(FlowError::NoEvent) => put_refusal(text, b"? event\n"),
+        Err(FlowError::Diverged { process, entry }) => {
+            Err(SessionError::Diverged(At { process, entry }))
+        }
+        Err(FlowError::Sets { process, entry, .. }) => {
+            Err(SessionError::Sets(At { process, entry }))
+        }
+        Err(FlowError::Memory) => Err(SessionError::Memory),
+    }
+}
+
+/// The same of one of the items that are told of the interval.
+fn put_told(
+    alloc: Global,
+    text: &mut Vec<u8>,
+    past: &Past,
+    place: Place,
+    item: u32,
+    shown: &Item,
+) -> Result<(), SessionError>
+    requires past { IsPast past.now }
+    requires there { IsItemThere (known_by past.now []) place.process place.interval item }
+    ensures text { OnOk result
+        (text.new.items
+        ≡ text.old.items
+        ++ flow_text past.now.program.now past.now.plan.now item shown.now
+        (flow_at (known_by past.now []) place.process place.interval item)) }
+    ensures told { OnOk result
+        (unfound_flow (flow_at (known_by past.now []) place.process place.interval item) ≡ None) }
+    ensures error { IfErr result
+        (IsWhy (unfound_flow (flow_at (known_by past.now []) place.process place.interval item))) }
+{
+    put_flow(alloc, text, past, place, item, shown)
+}
+
+/// Appends item `item` of these, the items of an interval, with its edges, if it is there.
+pub(crate) fn put_item_of(
+    alloc: Global,
+    text: &mut Vec<u8>,
+    past: &Past,
+    place: Place,
+    item: u64,
+    items: &[Item],
+) -> Result<(), SessionError>
+    requires past { IsPast past.now }
+    requires told { told_at (known_by past.now []) place.process place.interval ≡ Some (Ok items.now) }
+    ensures text { OnOk result
+        (text.new.items
+        ≡ text.old.items
+        ++ item_text_of (known_by past.now []) place.process place.interval item (slice_get items.now item)) }
+    ensures told { OnOk result
+        (item_failure_of (known_by past.now []) place.process place.interval item (slice_get items.now item)
+        ≡ None) }
+    ensures error { IfErr result
+        (IsWhy (item_failure_of (known_by past.now []) place.process place.interval item (slice_get items.now item))) }
+{
+    let Some(shown) = items.get(item as usize) else {
+        return put_refusal(text, b"? event\n");
+    };
+    match number(item as usize) {
+        Ok(item) => put_told(alloc, text, past, place, item, shown),
+        Err(Memory) => Err(SessionError::Memory),
+    }
+}

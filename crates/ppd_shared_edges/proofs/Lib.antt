@@ -1,0 +1,9 @@
+pub mod Spans
+pub mod LogPlaces
+pub mod Back
+pub mod StepEvents
+pub mod Sources
+pub mod PairPlaces
+pub mod Assembled
+pub mod Within
+pub mod Near

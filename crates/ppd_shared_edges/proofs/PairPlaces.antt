@@ -1,0 +1,4 @@
+-- The pairs of synchronizations.
+pub mod PairKinds
+pub mod Leading
+pub mod Pairs

@@ -1,0 +1,147 @@
+-- A `P` is the synchronization of a `P`, and of no other statement.
+use Rattle.std.proofs.Common.{◌≡◌, ℕ, zero, suc, ℤ, Bool, true, false, nat_lt, List, ◌∷◌, length, ◌+◌, Option, Some, None, Ok, Err, refl, sym, subst, ◌∙◌, true≢false, if◌then◌else◌}
+use Rattle.std.proofs.lemmas.Option.{none-some}
+use Rattle.ppd_ast.specs.declared.plan.BlockKind.TheVariants as block
+use Rattle.ppd_ast.specs.declared.plan.Plan.{Plan}
+use Rattle.ppd_ast.specs.declared.plan.Start.TheVariants as start
+use Rattle.ppd_ast.specs.declared.program.Expr.{Expr}
+use Rattle.ppd_ast.specs.declared.program.Kind.{Kind}
+use Rattle.ppd_ast.specs.declared.program.Kind.TheVariants as kind
+use Rattle.ppd_ast.specs.declared.program.Program.{Program}
+use Rattle.ppd_ast.specs.declared.program.Target.TheVariants as target
+use Rattle.ppd_ast.specs.declared.status.Status.{Status}
+use Rattle.ppd_ast.specs.declared.status.Trap.TheVariants as trap
+use Rattle.ppd_ast.specs.Term.{Term, term}
+use Rattle.ppd_sem.specs.declared.asking.Pause.TheVariants.{Wants, Traps}
+use Rattle.ppd_sem.specs.declared.proc.Need.{Need}
+use Rattle.ppd_sem.specs.declared.proc.Need.TheVariants as need
+use Rattle.ppd_sem.specs.declared.proc.Proc.{Proc}
+use Rattle.ppd_sem.specs.declared.proc.Todo.{Todo}
+use Rattle.ppd_sem.specs.Ask.{ask, element, is_zero}
+use Rattle.ppd_sem.specs.Asked.{Asked, and_then, gives, lift}
+use Rattle.ppd_sem.specs.Deed.{Deed, set_local, set_shared, branch, turn, leave, invoke, back, take, send, print, pass, ask_all, ask_deed, ask_stored}
+use Rattle.ppd_sem.specs.Process.{chan_of, cost, entry_of, head_deed, kind_of, need_by_entry, need_by_offer, need_by_status, need_of, need_of_call, need_of_deed, need_of_head, need_of_leaving, need_of_running, need_of_send, offer_of, top_cells}
+use Rattle.ppd_sem.specs.Tables.{block_of, capacity_of, unit_of}
+use Rattle.ppd_model.specs.Story.{is_event}
+
+-- a statement by its kind
+abbrev pub is_take : Kind → Bool
+is_take (kind.P s) = true
+is_take k = false
+
+-- a need by its kind
+abbrev pub takes : Need → Bool
+takes (need.P s u) = true
+takes n = false
+
+abbrev taking : Deed → Bool
+taking (take s) = true
+taking d = false
+
+-- a statement of another kind does not take
+abbrev Others : Kind → Asked Deed → Type 0
+Others k (Ok q) = taking q.0 ≡ is_take k
+Others k (Err pause) = is_take k ≡ false
+
+module _ (k : Kind) (plain : is_take k ≡ false) where
+  then_other : {A : Type 0} (r : Asked A) (next : A → List ℤ → Asked Deed) → ((x : A) (left : List ℤ) → Others k (next x left)) → Others k (and_then r next)
+  then_other (Ok q) next h = h q.0 q.1
+  then_other (Err pause) next h = plain
+
+  one_other : {A : Type 0} (r : Asked A) (deed : A → Deed) → ((x : A) → taking (deed x) ≡ false) → Others k (and_then r (λ x left. gives left (deed x)))
+  one_other (Ok q) deed h = h q.0 ∙ sym plain
+  one_other (Err pause) deed h = plain
+
+  stored_other : (i e : Term) (base len : ℕ) (store : ℕ → ℤ → Deed) (cells answers : List ℤ) → ((c : ℕ) (v : ℤ) → taking (store c v) ≡ false) → Others k (ask_stored i e base len store cells answers)
+  stored_other i e base len store cells answers h =
+      then_other (ask i cells answers) (λ at left. and_then (lift left (element base len at)) (λ c left. and_then (ask e cells left) (λ v left. gives left (store c v))))
+      (λ at left. then_other (lift left (element base len at)) (λ c left. and_then (ask e cells left) (λ v left. gives left (store c v)))
+      (λ c left. one_other (ask e cells left) (store c) (h c)))
+
+  turned : (b : Bool) (stmts : List ℕ) → taking (if b then leave else turn stmts) ≡ false
+  turned true stmts = refl
+  turned false stmts = refl
+
+  asserted : (b : Bool) (left : List ℤ) → Others k (if b then Err (Traps trap.Assert) else gives left pass)
+  asserted true left = plain
+  asserted false left = sym plain
+
+others : (es : List Expr) (k : Kind) (cells answers : List ℤ) → Others k (ask_deed es k cells answers)
+others es (kind.Set (target.Local c) e) cells answers = one_other (kind.Set (target.Local c) e) refl (ask (term es e) cells answers) (λ v. set_local c v) (λ v. refl)
+others es (kind.Set (target.LocalAt base len i) e) cells answers = stored_other (kind.Set (target.LocalAt base len i) e) refl (term es i) (term es e) base len set_local cells answers (λ c v. refl)
+others es (kind.Set (target.Shared c) e) cells answers = one_other (kind.Set (target.Shared c) e) refl (ask (term es e) cells answers) (λ v. set_shared c v) (λ v. refl)
+others es (kind.Set (target.SharedAt base len i) e) cells answers = stored_other (kind.Set (target.SharedAt base len i) e) refl (term es i) (term es e) base len set_shared cells answers (λ c v. refl)
+others es (kind.Zero base len) cells answers = refl
+others es (kind.If e first second) cells answers = one_other (kind.If e first second) refl (ask (term es e) cells answers) (λ v. branch (if is_zero v then second else first)) (λ v. refl)
+others es (kind.While e body) cells answers = one_other (kind.While e body) refl (ask (term es e) cells answers) (λ v. if is_zero v then leave else turn body) (λ v. turned (kind.While e body) refl (is_zero v) body)
+others es (kind.Call f arguments into) cells answers = one_other (kind.Call f arguments into) refl (ask_all es arguments cells answers) (λ vs. invoke f vs into) (λ vs. refl)
+others es (kind.Return None) cells answers = refl
+others es (kind.Return (Some e)) cells answers = one_other (kind.Return (Some e)) refl (ask (term es e) cells answers) (λ v. back (Some v)) (λ v. refl)
+others es (kind.P x) cells answers = refl
+others es (kind.V x) cells answers = refl
+others es (kind.Send c e) cells answers = one_other (kind.Send c e) refl (ask (term es e) cells answers) (λ v. send c v) (λ v. refl)
+others es (kind.Recv c into) cells answers = refl
+others es (kind.Print e) cells answers = one_other (kind.Print e) refl (ask (term es e) cells answers) (λ v. print v) (λ v. refl)
+others es (kind.Assert e) cells answers =
+    then_other (kind.Assert e) refl (ask (term es e) cells answers) (λ v left. if is_zero v then Err (Traps trap.Assert) else gives left pass) (λ v left. asserted (kind.Assert e) refl (is_zero v) left)
+others es kind.End cells answers = refl
+
+-- ---- needs
+
+-- the step of an event takes exactly where its statement does
+abbrev Fits : Kind → Need → Type 0
+Fits k n = is_event n ≡ true → takes n ≡ is_take k
+
+leaving : (plan : Plan) (t : ℕ) (o : Option ℕ) → takes (need_of_leaving plan t o) ≡ false
+leaving plan t None = refl
+leaving plan t (Some b) = refl
+
+calling : (plan : Plan) (f : ℕ) (s : Proc) → takes (need_of_call plan f s) ≡ false
+calling plan f s = by (nat_lt 64 (s.below + length s.frames))
+  where
+    by : (b : Bool) → takes (if b then need.Trap trap.Depth else need.Invoke (block_of plan (block.Function f)) (unit_of plan (start.Entry f))) ≡ false
+    by true = refl
+    by false = refl
+
+sending : (plan : Plan) (t n c : ℕ) (x : ℤ) → takes (need_of_send plan t n c x) ≡ false
+sending plan t zero c x = refl
+sending plan t (suc n) c x = refl
+
+deed_takes : (p : Program) (plan : Plan) (t : ℕ) (s : Proc) (d : Deed) → takes (need_of_deed p plan t s d) ≡ taking d
+deed_takes p plan t s (set_shared c x) = refl
+deed_takes p plan t s leave = leaving plan t (block_of plan (block.Loop t))
+deed_takes p plan t s (invoke f values into) = calling plan f s
+deed_takes p plan t s (send chan x) = sending plan t (capacity_of p chan) chan x
+deed_takes p plan t s (take x) = refl
+deed_takes p plan t s d = refl
+
+asked_fits : (p : Program) (plan : Plan) (t : ℕ) (s : Proc) (k : Kind) (o : Option ℕ) (asked : Asked Deed) → Others k asked → Fits k (need_by_entry p plan t s o asked)
+asked_fits p plan t s k (Some b) asked h e = absurd (true≢false (sym e))
+asked_fits p plan t s k None (Ok q) h e = deed_takes p plan t s q.0 ∙ h
+asked_fits p plan t s k None (Err (Wants c)) h e = absurd (true≢false (sym e))
+asked_fits p plan t s k None (Err (Traps x)) h e = sym h
+
+-- only a send has an offer
+offer_fits : (p : Program) (plan : Plan) (t : Todo) (o : Option ℕ) → offer_of p t ≡ o → (m : Need) → Fits (kind_of p t.stmt) m → Fits (kind_of p t.stmt) (need_by_offer plan t.stmt o m)
+offer_fits p plan t None is m h e = h e
+offer_fits p plan t (Some c) is m h e = by t.offered (kind_of p t.stmt) is
+  where
+    by : (b : Bool) (k : Kind) → (if b then chan_of k else None) ≡ Some c → false ≡ is_take k
+    by false k f = absurd (none-some c f)
+    by true (kind.P x) f = absurd (none-some c f)
+    by true k f = refl
+
+budget_fits : (k : Kind) (b : Bool) (m : Need) → Fits k m → Fits k (if b then need.Budget else m)
+budget_fits k true m h e = absurd (true≢false (sym e))
+budget_fits k false m h e = h e
+
+status_fits : (p : Program) (plan : Plan) (s : Proc) (o : Option Status) (t : Todo) (ts : List Todo) → s.todo ≡ t ∷ ts → Fits (kind_of p t.stmt) (need_by_status p plan o s)
+status_fits p plan s (Some x) t ts is = λ e. absurd (true≢false (sym e))
+status_fits p plan s None t ts is =
+    subst (λ todo. Fits (kind_of p t.stmt) (need_of_running p plan todo s)) (sym is)
+    (budget_fits (kind_of p t.stmt) (nat_lt s.budget (s.spent + cost plan (need_of_head p plan t s))) (need_of_head p plan t s)
+    (offer_fits p plan t (offer_of p t) refl (need_by_entry p plan t.stmt s (entry_of p plan t) (head_deed p t s))
+    (asked_fits p plan t.stmt s (kind_of p t.stmt) (entry_of p plan t) (head_deed p t s) (others p.exprs (kind_of p t.stmt) (top_cells s.frames) s.answers))))
+
+pub takes_is : (p : Program) (plan : Plan) (s : Proc) (t : Todo) (ts : List Todo) → s.todo ≡ t ∷ ts → is_event (need_of p plan s) ≡ true → takes (need_of p plan s) ≡ is_take (kind_of p t.stmt)
+takes_is p plan s t ts is e = status_fits p plan s s.status t ts is e

@@ -1,0 +1,13 @@
+pub mod Lists
+pub mod Events
+pub mod States
+pub mod Control
+pub mod Vars
+pub mod Reading
+pub mod Frames
+pub mod Edges
+pub mod OwnCells
+pub mod SharedCells
+pub mod AllReads
+pub mod Few
+pub mod Came

@@ -1,0 +1,1 @@
+-- The intervals of a story have the items and the steps that are to come: a law alone.

@@ -1,0 +1,14 @@
+//! Recordings of runs: what is stored of a run, and what is taken from bytes that were loaded, or why they are refused.
+#![tactic(auto)]
+
+mod laws;
+mod recalling;
+mod refusal;
+mod stage;
+mod storing;
+
+pub use laws::{recalled_runs, refused_or_accepted};
+pub use recalling::{NoRecall, Recalled, recall};
+pub use refusal::replay_line;
+pub use stage::put_stage;
+pub use storing::record;

@@ -1,0 +1,28 @@
+-- What the words ask for, by the request that was read of them.
+use Rattle.std.specs.Prelude.{Option, Some, None, IfSome, option_map}
+use Rattle.std.proofs.Common.{◌≡◌, List, sym, ◌∙◌, ap, subst}
+use Rattle.ppd_words.specs.Words.{Text}
+use Rattle.ppd_top.specs.declared.words.Request.{Request as GivenRequest}
+use Rattle.ppd_top.specs.declared.words.Request.TheVariants.{Source, Recording}
+use Rattle.ppd_top.specs.declared.words.SourceRequest.{SourceRequest}
+use Rattle.std.specs.Borrow.{Bor}
+use Rattle.ppd_top.specs.Words.{AreInRange, Command, IsInRange, Request, asked, command_of, request_of}
+use Rattle.ppd_top.specs.Words.Request.{on_source, on_recording}
+
+module _ (words : List Text) (o : Option GivenRequest) (is : option_map request_of o ≡ asked words) where
+  pub asks_none : o ≡ None → asked words ≡ None
+  asks_none e = sym is ∙ ap (λ (p : Option GivenRequest). option_map request_of p) e
+
+  asks_some : (q : GivenRequest) → o ≡ Some q → asked words ≡ Some (request_of q)
+  asks_some q e = sym is ∙ ap (λ (p : Option GivenRequest). option_map request_of p) e
+
+  pub asks_source : (q : GivenRequest) (r : SourceRequest) (c : Command) → o ≡ Some q → q ≡ Source r → command_of r.command ≡ c → asked words ≡ Some (on_source c r.name.now r.options)
+  asks_source q r c e f g =
+      asks_some q e ∙ (ap (λ (p : GivenRequest). Some (request_of p)) f ∙ ap (λ (d : Command). Some (on_source d r.name.now r.options)) g)
+
+  pub asks_recording : (q : GivenRequest) (n : Bor Text) → o ≡ Some q → q ≡ Recording n → asked words ≡ Some (on_recording n.now)
+  asks_recording q n e f = asks_some q e ∙ ap (λ (p : GivenRequest). Some (request_of p)) f
+
+-- the options of a request are in their range
+pub range_of : (o : Option GivenRequest) (q : GivenRequest) (r : SourceRequest) → IfSome o IsInRange → o ≡ Some q → q ≡ Source r → AreInRange r.options
+range_of o q r h e f = subst IsInRange f (subst (λ (p : Option GivenRequest). IfSome p IsInRange) e h)

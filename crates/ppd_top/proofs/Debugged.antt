@@ -1,0 +1,161 @@
+-- What `debug` comes to, by its status.
+use Rattle.std.specs.Prelude.{Option, Some, None, ◌⊎◌, take}
+use Rattle.std.specs.Borrow.{Bor}
+use Rattle.std.proofs.Common.{◌≡◌, ℕ, List, [], ◌∷◌, arith, inl, inr, refl, subst, sym, ◌∙◌, ap}
+use Rattle.ppd_ast.specs.declared.program.Program.{Program}
+use Rattle.ppd_blocks.specs.Blocks.{plan_of}
+use Rattle.ppd_codec.specs.declared.recording.Header.{Header}
+use Rattle.ppd_codec.specs.declared.recording.Recording.{Recording}
+use Rattle.ppd_io.specs.Lines.{lines_of}
+use Rattle.ppd_session.specs.Known.{Known}
+use Rattle.ppd_session.specs.Texts.{failure_of}
+use Rattle.ppd_session.proofs.Answered.{run_answered}
+use Rattle.ppd_io.specs.Causes.{Rose}
+use Rattle.ppd_io.specs.Content.{Loads}
+use Rattle.ppd_stored.specs.Recordings.{IsAccepted, IsRefusedBy, IsRunRecorded, known_of as known_of_recording}
+use Rattle.ppd_stored.proofs.Runs.{no_run_is_refused, runs_are_recalled}
+use Rattle.ppd_stored.proofs.Same.{refused_or_accepted}
+use Rattle.ppd_top.specs.Output.{Output, Standing, Talks, answers, output}
+use Rattle.ppd_top.specs.Ran.{Debugs}
+use Rattle.ppd_top.specs.Ran.Debugs.{no_recall, recording_refused, recalled}
+use Rattle.ppd_top.specs.Top.{AnswersCutOff, IsPromisedAnswers, IsRecalledFrom, LinesFailed, MemoryRanOut, ReplayRefused, Writes, WasAnswered, WasNotRecalled, WriteFailed, most_recording}
+use Rattle.ppd_top.specs.Top.Recalls.{refused_recording, answered}
+use Rattle.ppd_top.specs.Top.Writes.{for_recording}
+use Rattle.ppd_top.specs.Words.{AsksDebug}
+use Rattle.ppd_top.proofs.Conversing.{same_input}
+use Rattle.ppd_top.proofs.Outcomes.{loaded, one_recording_name, write_failed}
+use Rattle.ppd_top.proofs.Statuses.{IsIn, any_in, other_than}
+use Rattle.ppd_top.proofs.Talked.{IsEnd, IsLast, answers_whole, talks_any, talks_broken, talks_cut_off, talks_fine, talks_unwritten, talks_whole}
+
+-- of the recording of a run no replay fails
+no_failure : (bytes : List ℕ) (r : Recording) → IsAccepted bytes r → (source : List ℕ) (header : Header) (program : Program) (h : List ℕ) → IsRunRecorded source header program h bytes → (line : List ℕ) → failure_of (known_of_recording r) line ≡ None
+no_failure bytes r accepted source header program h run line =
+    let known = (runs_are_recalled bytes r accepted source header program h run).0 in
+    subst (λ (x : Known). failure_of x line ≡ None) (sym known) (run_answered program (plan_of program header.policy) header.budget h line)
+
+-- what `debug` comes to has one of these
+debugs_in : (bytes : List ℕ) (a b : Standing) (status : ℕ) → Debugs bytes a b status → IsIn status (0 ∷ 7 ∷ 8 ∷ 3 ∷ 4 ∷ 5 ∷ 6 ∷ [])
+debugs_in bytes a b status (no_recall is written) = inr (inr (inr (inr (inr (inl is)))))
+debugs_in bytes a b status (recording_refused line why same (inl h)) = inr (inr (inr (inr (inr (inr (inl h.0))))))
+debugs_in bytes a b status (recording_refused line why same (inr h)) = inr (inr (inr (inr (inl h.0))))
+debugs_in bytes a b status (recalled r accepted t) = any_in (known_of_recording r) [] a b status (talks_any (known_of_recording r) [] a b status t)
+
+end_not_6 : (n : ℕ) → IsEnd n → n ≡ 6 → ⊥
+end_not_6 n (inl h) e = omega arith
+end_not_6 n (inr (inl h)) e = omega arith
+end_not_6 n (inr (inr h)) e = omega arith
+
+-- it is neither status 1 nor status 2
+pub debug_not_early : (bytes : List ℕ) (a b : Standing) (status : ℕ) → Debugs bytes a b status → (status ≡ 1) ⊎ (status ≡ 2) → ⊥
+debug_not_early bytes a b status d (inl e) = other_than 1 status (0 ∷ 7 ∷ 8 ∷ 3 ∷ 4 ∷ 5 ∷ 6 ∷ []) refl e (debugs_in bytes a b status d)
+debug_not_early bytes a b status d (inr e) = other_than 2 status (0 ∷ 7 ∷ 8 ∷ 3 ∷ 4 ∷ 5 ∷ 6 ∷ []) refl e (debugs_in bytes a b status d)
+
+module _ (words : List (Bor (List ℕ))) (held : Option (List ℕ → Option (List ℕ))) (name bytes : List ℕ) (asks : AsksDebug words name) (loads : Loads held name most_recording bytes) (schedule : List ℕ) (no_run : schedule ≡ []) (a b : Standing) (status : ℕ) where
+  from : (r : Recording) → IsAccepted bytes r → IsRecalledFrom words held r
+  from r accepted = record { name = name; bytes = bytes; asked = asks; loaded = loads; accepted = accepted; of_runs = runs_are_recalled bytes r accepted }
+
+  pub debug_any : Debugs bytes a b status → IsIn status (0 ∷ 7 ∷ 8 ∷ 3 ∷ 4 ∷ 5 ∷ 6 ∷ [])
+  debug_any d = debugs_in bytes a b status d
+
+  not_end : IsEnd status → (n : ℕ) → status ≡ n → (n ≡ 4) ⊎ ((n ≡ 5) ⊎ (n ≡ 6)) → ⊥
+  not_end (inl e) n is (inl k) = omega arith
+  not_end (inl e) n is (inr (inl k)) = omega arith
+  not_end (inl e) n is (inr (inr k)) = omega arith
+  not_end (inr (inl e)) n is (inl k) = omega arith
+  not_end (inr (inl e)) n is (inr (inl k)) = omega arith
+  not_end (inr (inl e)) n is (inr (inr k)) = omega arith
+  not_end (inr (inr e)) n is (inl k) = omega arith
+  not_end (inr (inr e)) n is (inr (inl k)) = omega arith
+  not_end (inr (inr e)) n is (inr (inr k)) = omega arith
+
+  answered_so : (r : Recording) → IsAccepted bytes r → Talks (known_of_recording r) [] a b status → IsLast status → WasAnswered words held schedule a b status
+  answered_so r accepted t e =
+      let w = talks_whole (known_of_recording r) [] a b status t e in
+      record {
+        recording = r;
+        commands = w.commands;
+        recalled = from r accepted;
+        no_run = no_run;
+        told = w.told;
+        unread = w.unread;
+        status_is = w.status_is;
+        written = w.written;
+      }
+
+  pub debug_whole : Debugs bytes a b status → IsEnd status → WasAnswered words held schedule a b status
+  debug_whole (no_recall is written) e = absurd (not_end e 5 is (inr (inl refl)))
+  debug_whole (recording_refused line why same (inl h)) e = absurd (not_end e 6 h.0 (inr (inr refl)))
+  debug_whole (recording_refused line why same (inr h)) e = absurd (not_end e 4 h.0 (inl refl))
+  debug_whole (recalled r accepted t) e = answered_so r accepted t (inl e)
+
+  pub debug_broken : Debugs bytes a b status → status ≡ 3 → LinesFailed words held schedule a b
+  debug_broken (no_recall is written) e = absurd (omega arith)
+  debug_broken (recording_refused line why same (inl h)) e = absurd (omega (arith, h.0))
+  debug_broken (recording_refused line why same (inr h)) e = absurd (omega (arith, h.0))
+  debug_broken (recalled r accepted t) e = record { recording = r; recalled = from r accepted; no_run = no_run; broken = talks_broken (known_of_recording r) [] a b status t e }
+
+  pub debug_unwritten : Debugs bytes a b status → status ≡ 4 → WriteFailed words held schedule a b
+  debug_unwritten (no_recall is written) e = absurd (omega arith)
+  debug_unwritten (recording_refused line why same f) e =
+      let c = same_input a.left b.left same in
+      write_failed words held schedule c.0 a b status 6 line c.1
+      (for_recording name bytes asks loads no_run (output 6 line) (refused_recording line why)) (λ k. omega arith) f e
+  debug_unwritten (recalled r accepted t) e =
+      let u = talks_unwritten (known_of_recording r) [] a b status t e in
+      record {
+        rose = u.rose;
+        commands = u.commands;
+        told = u.told;
+        out = answers (known_of_recording r) u.commands;
+        writes = for_recording name bytes asks loads no_run (answers (known_of_recording r) u.commands) (answered r accepted);
+        written = u.written;
+      }
+
+  pub debug_out : (now : Option (List ℕ → Option (List ℕ))) → now ≡ held → Debugs bytes a b status → status ≡ 5 → MemoryRanOut held now schedule a.written b.written ⊎ AnswersCutOff words held schedule a b
+  debug_out now kept (no_recall is written) e = inl (record { kept = kept; no_run = no_run; written = written })
+  debug_out now kept (recording_refused line why same (inl h)) e = absurd (omega (arith, h.0))
+  debug_out now kept (recording_refused line why same (inr h)) e = absurd (omega (arith, h.0))
+  debug_out now kept (recalled r accepted t) e =
+      let c = talks_cut_off (known_of_recording r) [] a b status t e in
+      inr (record { recording = r; commands = c.commands; recalled = from r accepted; no_run = no_run; told = c.told; written = c.written })
+
+  -- the recording of a run has no replay that fails
+  of_no_run : (w : WasAnswered words held schedule a b 6) (source : List ℕ) (header : Header) (program : Program) (h : List ℕ) → IsRunRecorded source header program h w.recalled.bytes → ⊥
+  of_no_run w source header program h run =
+      end_not_6 _ (answers_whole (known_of_recording w.recording) (no_failure w.recalled.bytes w.recording w.recalled.accepted source header program h run) 0 (lines_of w.commands)) (sym w.status_is)
+
+  pub debug_refused : Debugs bytes a b status → status ≡ 6 → WasNotRecalled words held schedule a b ⊎ ReplayRefused words held schedule a b
+  debug_refused (no_recall is written) e = absurd (omega arith)
+  debug_refused (recording_refused line why same (inl h)) e = inl (record {
+    name = name;
+    bytes = bytes;
+    line = line;
+    asked = asks;
+    loaded = loads;
+    cause = why;
+    not_accepted = λ r accepted. refused_or_accepted bytes line r accepted why;
+    of_no_run = λ source header program h run. no_run_is_refused source header program h bytes line run why;
+    no_run = no_run;
+    unread = same;
+    written = h.1;
+  })
+  debug_refused (recording_refused line why same (inr h)) e = absurd (omega (arith, h.0))
+  debug_refused (recalled r accepted t) e =
+      let w : WasAnswered words held schedule a b 6 = subst (WasAnswered words held schedule a b) e (answered_so r accepted t (inr e)) in
+      inr (record { answered = w; of_no_run = of_no_run w })
+
+  pub debug_complete : (l m : List ℕ → ℕ) → Debugs bytes a b status → IsPromisedAnswers words held l m a b → (status ≡ 0) ⊎ (status ≡ 5)
+  debug_complete l m (no_recall is written) p = inr is
+  debug_complete l m (recording_refused line why same f) p =
+      let names = one_recording_name words name p.name asks p.asked in
+      let P : List ℕ → Type 0 = λ n. Loads held n most_recording bytes in
+      let is = loaded held p.at most_recording p.name p.all bytes p.told p.there (subst P names loads) in
+      let Q : List ℕ → Type 0 = λ s. IsRunRecorded p.source p.header p.program p.schedule s in
+      absurd (no_run_is_refused p.source p.header p.program p.schedule bytes line (subst Q (sym is) p.of_run) why)
+  debug_complete l m (recalled r accepted t) p =
+      let f = p.fine in
+      let names = one_recording_name words name p.name asks p.asked in
+      let P : List ℕ → Type 0 = λ n. Loads held n most_recording bytes in
+      let is = loaded held p.at most_recording p.name p.all bytes p.told p.there (subst P names loads) in
+      let Q : List ℕ → Type 0 = λ s. IsRunRecorded p.source p.header p.program p.schedule s in
+      talks_fine (known_of_recording r) (no_failure bytes r accepted p.source p.header p.program p.schedule (subst Q (sym is) p.of_run)) [] a b status f.commands f.rest t f.told f.told_still f.fine f.no_read_fault p.no_write_fault

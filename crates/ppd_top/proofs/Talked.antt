@@ -1,0 +1,200 @@
+-- What comes of asking, by its status, and of a run by its logs.
+use Rattle.std.specs.Prelude.{Option, Some, None, ◌⊎◌, true, false, nat_le, nat_lt, codes, if◌then◌else◌}
+use Rattle.std.proofs.Common.{◌≡◌, ℕ, ◌+◌, ◌<◌, ◌≤◌, List, [], ◌∷◌, ◌++◌, length, Bool, arith, rules, inl, inr, refl, subst, sym, ◌∙◌, ap}
+use Rattle.std.proofs.lemmas.Bool.{lt-leb, le-ltb}
+use Rattle.ppd_ast.specs.Valid.{IsValid}
+use Rattle.ppd_ast.specs.declared.limits.TheConstants.{MOST_INPUT_LINES, MOST_LINE_BYTES}
+use Rattle.ppd_ast.specs.declared.plan.Plan.{Plan}
+use Rattle.ppd_ast.specs.declared.program.Program.{Program}
+use Rattle.ppd_io.specs.Causes.{Rose}
+use Rattle.ppd_io.specs.Content.{Appends, AppendsPart}
+use Rattle.ppd_io.specs.Lines.{lines_of}
+use Rattle.ppd_model.specs.declared.closed.Closed.{Closed}
+use Rattle.ppd_model.specs.Logs.{close}
+use Rattle.ppd_race.specs.Races.{races_of_logs}
+use Rattle.ppd_race.proofs.OfRuns.{of_runs}
+use Rattle.ppd_session.specs.Known.{Known, known_of_logs, known_of_run}
+use Rattle.ppd_session.specs.Questions.{is_quit}
+use Rattle.ppd_past.specs.declared.flow_error.FlowError.{FlowError}
+use Rattle.ppd_session.specs.Texts.{failure_of, text_of}
+use Rattle.ppd_stored.specs.Refusals.{refused_replay}
+use Rattle.ppd_session.proofs.Honest.{known_as}
+use Rattle.ppd_top.specs.declared.options.Options.{Options}
+use Rattle.ppd_top.specs.Output.{AppendsFront, AreCommands, AreFine, IsBroken, IsReadNoFurther, Output, Standing, Talks, answered, answers, answers_from, before, output}
+use Rattle.ppd_top.specs.Output.Talks.{whole, unread, unwritten, unfinished}
+use Rattle.ppd_top.specs.Summary.{summary_of}
+use Rattle.ppd_top.specs.Top.{IsWholeRun, known_of, plan_of, summary_of_run}
+
+-- ---- statuses of answers
+
+-- done, a line too long, or too many lines
+abbrev pub IsEnd : ℕ → Type 0
+IsEnd status = (status ≡ 0) ⊎ ((status ≡ 7) ⊎ (status ≡ 8))
+
+-- or a replay that failed
+abbrev pub IsLast : ℕ → Type 0
+IsLast status = IsEnd status ⊎ (status ≡ 6)
+
+pub answers_end : (x : Known) (n : ℕ) (ls : List (List ℕ)) → IsLast (answers_from x n ls).status
+answers_end x n [] = inl (inl refl)
+answers_end x n (l ∷ ls) = by (nat_le MOST_INPUT_LINES n) (nat_lt MOST_LINE_BYTES (length l)) (is_quit l) (failure_of x l) (answers_end x (n + 1) ls)
+  where
+    by : (many long quits : Bool) (failure : Option FlowError) → IsLast (answers_from x (n + 1) ls).status
+        → IsLast (if many then output 8 (codes "many lines\n") else if long then output 7 (codes "long line\n") else answered x l quits failure (answers_from x (n + 1) ls)).status
+    by true long quits failure h = inl (inr (inr refl))
+    by false true quits failure h = inl (inr (inl refl))
+    by false false true None h = inl (inl refl)
+    by false false false None h = h
+    by false false quits (Some at) h = inr refl
+
+-- where no replay fails, none is refused
+pub answers_whole : (x : Known) → ((l : List ℕ) → failure_of x l ≡ None) → (n : ℕ) (ls : List (List ℕ)) → IsEnd (answers_from x n ls).status
+answers_whole x none n [] = inl refl
+answers_whole x none n (l ∷ ls) = by (nat_le MOST_INPUT_LINES n) (nat_lt MOST_LINE_BYTES (length l)) (is_quit l) (failure_of x l) (none l) (answers_whole x none (n + 1) ls)
+  where
+    by : (many long quits : Bool) (failure : Option FlowError) → failure ≡ None → IsEnd (answers_from x (n + 1) ls).status
+        → IsEnd (if many then output 8 (codes "many lines\n") else if long then output 7 (codes "long line\n") else answered x l quits failure (answers_from x (n + 1) ls)).status
+    by true long quits failure e h = inr (inr refl)
+    by false true quits failure e h = inr (inl refl)
+    by false false true None e h = inl refl
+    by false false false None e h = h
+    by false false quits (Some at) e h = absurd (cc)
+
+-- lines that are few and short enough end well
+pub fine_end : (x : Known) → ((l : List ℕ) → failure_of x l ≡ None) → (n : ℕ) (ls : List (List ℕ)) → AreFine n ls → (answers_from x n ls).status ≡ 0
+fine_end x none n [] h = refl
+fine_end x none n (l ∷ ls) h =
+    let few : nat_le MOST_INPUT_LINES n ≡ false = lt-leb MOST_INPUT_LINES n h.0 in
+    let short : nat_lt MOST_LINE_BYTES (length l) ≡ false = le-ltb MOST_LINE_BYTES (length l) h.1 in
+    let whole = none l in
+    let by : (b : Bool) → is_quit l ≡ b → (if b then output 0 (text_of x l) else before (text_of x l) (answers_from x (n + 1) ls)).status ≡ 0 =
+    λ b. elim b as (λ c. is_quit l ≡ c → (if c then output 0 (text_of x l) else before (text_of x l) (answers_from x (n + 1) ls)).status ≡ 0) [
+      | true ↦ λ e. refl
+      | false ↦ λ e. fine_end x none (n + 1) ls (h.2 e)
+    ] in
+    rw (few, short, whole) (by (is_quit l) refl)
+
+not_last : (status : ℕ) → IsLast status → (status ≡ 3) ⊎ ((status ≡ 4) ⊎ (status ≡ 5)) → ⊥
+not_last status (inl (inl h)) (inl k) = omega arith
+not_last status (inl (inl h)) (inr (inl k)) = omega arith
+not_last status (inl (inl h)) (inr (inr k)) = omega arith
+not_last status (inl (inr (inl h))) (inl k) = omega arith
+not_last status (inl (inr (inl h))) (inr (inl k)) = omega arith
+not_last status (inl (inr (inl h))) (inr (inr k)) = omega arith
+not_last status (inl (inr (inr h))) (inl k) = omega arith
+not_last status (inl (inr (inr h))) (inr (inl k)) = omega arith
+not_last status (inl (inr (inr h))) (inr (inr k)) = omega arith
+not_last status (inr h) (inl k) = omega arith
+not_last status (inr h) (inr (inl k)) = omega arith
+not_last status (inr h) (inr (inr k)) = omega arith
+
+-- ---- what comes of asking, by its status
+
+module _ (x : Known) (head : List ℕ) (a b : Standing) where
+  pub record IsWhole (status : ℕ) : Type 0 where
+    pub commands : List ℕ
+    pub told : AreCommands a.left b.left commands
+    pub unread : IsReadNoFurther x commands b.left
+    pub status_is : status ≡ (answers x commands).status
+    pub written : Appends a.written b.written (head ++ (answers x commands).text)
+
+  pub talks_whole : (status : ℕ) → Talks x head a b status → IsLast status → IsWhole status
+  talks_whole status (whole commands told further written) e = record { commands = commands; told = told; unread = further; status_is = refl; written = written }
+  talks_whole status (unread broken) e = absurd (not_last 3 e (inl refl))
+  talks_whole status (unwritten commands told rose part) e = absurd (not_last 4 e (inr (inl refl)))
+  talks_whole status (unfinished commands told part) e = absurd (not_last 5 e (inr (inr refl)))
+
+  pub talks_broken : (status : ℕ) → Talks x head a b status → status ≡ 3 → IsBroken x head a b
+  talks_broken status (whole commands told further written) e = absurd (not_last (answers x commands).status (answers_end x 0 (lines_of commands)) (inl e))
+  talks_broken status (unread broken) e = broken
+  talks_broken status (unwritten commands told rose part) e = absurd (omega arith)
+  talks_broken status (unfinished commands told part) e = absurd (omega arith)
+
+  pub record IsUnwritten : Type 0 where
+    pub commands : List ℕ
+    pub told : AreCommands a.left b.left commands
+    pub rose : Rose a.writes b.writes
+    pub written : AppendsPart a.written b.written (head ++ (answers x commands).text)
+
+  pub talks_unwritten : (status : ℕ) → Talks x head a b status → status ≡ 4 → IsUnwritten
+  talks_unwritten status (whole commands told further written) e = absurd (not_last (answers x commands).status (answers_end x 0 (lines_of commands)) (inr (inl e)))
+  talks_unwritten status (unread broken) e = absurd (omega arith)
+  talks_unwritten status (unwritten commands told rose part) e = record { commands = commands; told = told; rose = rose; written = part }
+  talks_unwritten status (unfinished commands told part) e = absurd (omega arith)
+
+  pub record IsCutOff : Type 0 where
+    pub commands : List ℕ
+    pub told : AreCommands a.left b.left commands
+    pub written : AppendsFront a.written b.written (head ++ (answers x commands).text)
+
+  pub talks_cut_off : (status : ℕ) → Talks x head a b status → status ≡ 5 → IsCutOff
+  talks_cut_off status (whole commands told further written) e = absurd (not_last (answers x commands).status (answers_end x 0 (lines_of commands)) (inr (inr e)))
+  talks_cut_off status (unread broken) e = absurd (omega arith)
+  talks_cut_off status (unwritten commands told rose part) e = absurd (omega arith)
+  talks_cut_off status (unfinished commands told part) e = record { commands = commands; told = told; written = part }
+
+  -- the status is one of these
+  abbrev pub IsAny : ℕ → Type 0
+  IsAny status = IsLast status ⊎ ((status ≡ 3) ⊎ ((status ≡ 4) ⊎ (status ≡ 5)))
+
+  pub talks_any : (status : ℕ) → Talks x head a b status → IsAny status
+  talks_any status (whole commands told further written) = inl (answers_end x 0 (lines_of commands))
+  talks_any status (unread broken) = inr (inl refl)
+  talks_any status (unwritten commands told rose part) = inr (inr (inl refl))
+  talks_any status (unfinished commands told part) = inr (inr (inr refl))
+
+same_commands : (old new : Option (List ℕ)) (commands rest given : List ℕ) → old ≡ Some commands → new ≡ Some rest → AreCommands old new given → given ≡ commands
+same_commands None new commands rest given e f h = absurd (cc)
+same_commands (Some xs) None commands rest given e f h = absurd (cc)
+same_commands (Some xs) (Some ys) commands rest given e f h = let s : xs ≡ commands = cc in h ∙ s
+
+-- the commands of a told input end with this status, where all was written
+pub talks_end : (x : Known) (head : List ℕ) (a b : Standing) (status k : ℕ) (commands rest : List ℕ) → Talks x head a b status → status ≡ k → IsEnd k → a.left ≡ Some commands → b.left ≡ Some rest → (answers x commands).status ≡ k
+talks_end x head a b status k commands rest t s e f g =
+    let w = talks_whole x head a b status t (inl (subst IsEnd (sym s) e)) in
+    ap (λ cs. (answers x cs).status) (sym (same_commands a.left b.left commands rest w.commands f g w.told)) ∙ (sym w.status_is ∙ s)
+
+-- the commands of a told input that are fine end well, or a count rose
+pub talks_fine : (x : Known) → ((l : List ℕ) → failure_of x l ≡ None) → (head : List ℕ) (a b : Standing) (status : ℕ) (commands rest : List ℕ) → Talks x head a b status → a.left ≡ Some commands → b.left ≡ Some rest → AreFine 0 (lines_of commands)
+    → (Rose a.reads b.reads → ⊥) → (Rose a.writes b.writes → ⊥) → (status ≡ 0) ⊎ (status ≡ 5)
+talks_fine x none head a b status commands rest (whole given told further written) e f fine reads writes =
+    let same : given ≡ commands = same_commands a.left b.left commands rest given e f told in
+    inl (ap (λ cs. (answers x cs).status) same ∙ fine_end x none 0 (lines_of commands) fine)
+talks_fine x none head a b status commands rest (unread broken) e f fine reads writes = absurd (reads broken.rose)
+talks_fine x none head a b status commands rest (unwritten given told rose part) e f fine reads writes = absurd (writes rose)
+talks_fine x none head a b status commands rest (unfinished given told part) e f fine reads writes = inr refl
+
+-- where no replay fails, none is refused
+pub talks_not_refused : (x : Known) → ((l : List ℕ) → failure_of x l ≡ None) → (head : List ℕ) (a b : Standing) (status : ℕ) → Talks x head a b status → status ≡ 6 → ⊥
+talks_not_refused x none head a b status (whole commands told further written) e = by (answers_whole x none 0 (lines_of commands)) e
+  where
+    by : IsEnd (answers x commands).status → (answers x commands).status ≡ 6 → ⊥
+    by (inl h) k = omega arith
+    by (inr (inl h)) k = omega arith
+    by (inr (inr h)) k = omega arith
+talks_not_refused x none head a b status (unread broken) e = omega arith
+talks_not_refused x none head a b status (unwritten commands told rose part) e = omega arith
+talks_not_refused x none head a b status (unfinished commands told part) e = omega arith
+
+-- ---- of a run, by its logs
+
+pub races_as : (program : Program) (options : Options) (closed : Closed) (h : List ℕ) → IsValid program → closed ≡ close program (plan_of program options) options.budget h → races_of_logs program closed.logs ≡ (known_of program options h).races
+races_as program options closed h valid is = ap (λ (c : Closed). races_of_logs program c.logs) is ∙ (of_runs program (plan_of program options) options.budget h valid).0
+
+pub known_from : (program : Program) (options : Options) (plan : Plan) (closed : Closed) (h : List ℕ) → IsValid program → plan ≡ plan_of program options → IsWholeRun program options h → closed ≡ close program (plan_of program options) options.budget h
+    → known_of_logs program plan options.budget closed.logs ≡ known_of program options h
+known_from program options plan closed h valid p w is =
+    ap (λ (q : Plan). known_of_logs program q options.budget closed.logs) p
+    ∙ (ap (λ (c : Closed). known_of_logs program (plan_of program options) options.budget c.logs) is ∙ known_as program options.policy options.budget h valid w)
+
+pub summary_from : (program : Program) (options : Options) (closed : Closed) (h : List ℕ) → IsValid program → closed ≡ close program (plan_of program options) options.budget h
+    → summary_of program closed.ends (races_of_logs program closed.logs) ≡ summary_of_run program options h
+summary_from program options closed h valid is =
+    ap (summary_of program closed.ends) (races_as program options closed h valid is)
+    ∙ ap (λ (c : Closed). summary_of program c.ends (known_of program options h).races) is
+
+pub talks_of_run : (program : Program) (options : Options) (plan : Plan) (closed : Closed) (h : List ℕ) (a b : Standing) (status : ℕ) → IsValid program → plan ≡ plan_of program options → IsWholeRun program options h → closed ≡ close program (plan_of program options) options.budget h
+    → Talks (known_of_logs program plan options.budget closed.logs) (summary_of program closed.ends (races_of_logs program closed.logs)) a b status → Talks (known_of program options h) (summary_of_run program options h) a b status
+talks_of_run program options plan closed h a b status valid p w is t =
+    subst (λ head. Talks (known_of program options h) head a b status) (summary_from program options closed h valid is)
+    (subst (λ (x : Known). Talks x (summary_of program closed.ends (races_of_logs program closed.logs)) a b status) (known_from program options plan closed h valid p w is) t)

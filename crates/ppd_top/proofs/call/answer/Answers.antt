@@ -1,0 +1,24 @@
+use Rattle.std.proofs.Common.{inl, inr, refl, subst, ◌≡◌}
+use Rattle.ppd_words.specs.Reads.{texts_in}
+use Rattle.ppd_top.specs.Words.{Asks, AsksDebug, command_of}
+use Rattle.ppd_top.proofs.Asked.{asks_recording, asks_source, range_of}
+use Rattle.ppd_top.proofs.Inputs.{source_input, recording_input}
+use Rattle.ppd_top.proofs.call.answer.Goals as goal
+
+pub returns-in-Source-clause-comes : goal.returns-in-Source-clause-comes
+returns-in-Source-clause-comes g c =
+    c.on_source.ensures.comes c.args.words.now (asks_source (texts_in c.args.words.now) c.in-Ok.asked c.in-Ok.ensures.is c.in-Some.request c.in-Source.request (command_of c.in-Source.request.command) c.in-Some.is c.in-Source.is refl)
+
+pub returns-in-Source-clause-input : goal.returns-in-Source-clause-input
+returns-in-Source-clause-input g c = λ e.
+    c.on_source.ensures.input (source_input c.args.words.now (command_of c.in-Source.request.command) c.in-Source.request.name.now c.in-Source.request.options c.on_source.result.status
+    (asks_source (texts_in c.args.words.now) c.in-Ok.asked c.in-Ok.ensures.is c.in-Some.request c.in-Source.request (command_of c.in-Source.request.command) c.in-Some.is c.in-Source.is refl) e)
+
+pub returns-in-Recording-clause-comes : goal.returns-in-Recording-clause-comes
+returns-in-Recording-clause-comes g c =
+    c.on_recording.ensures.comes c.args.words.now (asks_recording (texts_in c.args.words.now) c.in-Ok.asked c.in-Ok.ensures.is c.in-Some.request c.in-Recording.name c.in-Some.is c.in-Recording.is)
+
+pub returns-in-Recording-clause-input : goal.returns-in-Recording-clause-input
+returns-in-Recording-clause-input g c = λ e.
+    absurd (recording_input c.args.words.now c.in-Recording.name.now c.on_recording.result.status
+    (asks_recording (texts_in c.args.words.now) c.in-Ok.asked c.in-Ok.ensures.is c.in-Some.request c.in-Recording.name c.in-Some.is c.in-Recording.is) c.on_recording.ensures.status e)

@@ -1,0 +1,95 @@
+// What the commands come to for a program.
+ghost use Rattle.std.specs.Prelude.{◌≡◌, ◌≤◌, ℕ, List, [], IfOk, Option};
+ghost use Rattle.ppd_ast.specs.Valid.{IsValid};
+ghost use Rattle.ppd_ast.specs.ValidPlan.{IsValidPolicy};
+ghost use Rattle.ppd_ast.specs.declared.limits.TheConstants.{MOST_BUDGET};
+ghost use Rattle.ppd_show.specs.Table.{table_of};
+ghost use Rattle.ppd_top.specs.Output.{standing};
+ghost use Rattle.ppd_top.specs.Ran.{Flows, Shows};
+ghost use Rattle.ppd_top.specs.Top.{plan_of};
+
+use crate::asking::finish;
+use crate::call::{Outcome, ended};
+use crate::options::Options;
+use crate::run::ClosedRun;
+use crate::telling::tell;
+use ppd_ast::{Memory, Program, Seq};
+use ppd_blocks::partition;
+use ppd_io::{Gate, Sink, Source};
+use ppd_run::run;
+use ppd_sets::sets;
+use ppd_show::table;
+use std::alloc::Global;
+use std::sync::Wait;
+use std::thread::Threads;
+
+/// A program with its options.
+#[derive(Clone, Copy)]
+pub(crate) struct Task<'a> {
+    pub(crate) program: &'a Program,
+    pub(crate) options: Options,
+}
+
+/// The static tables of a program and of its plan.
+fn tables(alloc: Global, program: &Program, options: &Options) -> Result<Vec<u8>, Memory>
+    requires program { IsValid program.now }
+    requires policy { IsValidPolicy options.now.policy }
+    ensures { IfOk result (λ text. text.items ≡ table_of program.now (plan_of program.now options.now)) }
+{
+    let sets = sets(alloc, program)?;
+    let plan = partition(alloc, program, &options.policy)?;
+    table(alloc, program, &sets, &plan)
+}
+
+/// Writes the tables of a program.
+pub(crate) fn show<O: Sink>(alloc: Global, task: &Task<'_>, output: &mut O) -> Outcome
+    requires program { IsValid task.now.program.now }
+    requires policy { IsValidPolicy task.now.options.policy }
+    ensures { (left : Option (List ℕ)) (reads : ℕ) → Shows task.now.program.now task.now.options result.schedule
+        (standing left reads (O.written output.old) (O.faults output.old))
+        (standing left reads (O.written output.new) (O.faults output.new)) result.status }
+{
+    match tables(alloc, task.program, &task.options) {
+        Err(Memory) => ended(alloc, 5),
+        Ok(text) => Outcome {
+            status: finish(output, &text, 0),
+            schedule: Seq::new(alloc),
+        },
+    }
+}
+
+/// Runs a program by threads from its start to its end, writes the summary, and answers the lines of the input.
+pub(crate) fn flow<I: Source, O: Sink, G: Gate, R: Threads + Wait + Sync>(
+    rt: &R,
+    alloc: Global,
+    task: &Task<'_>,
+    input: &mut I,
+    output: &mut O,
+    gate: &G,
+) -> Outcome
+    requires program { IsValid task.now.program.now }
+    requires budget { task.now.options.budget ≤ MOST_BUDGET }
+    requires policy { IsValidPolicy task.now.options.policy }
+    ensures { Flows task.now.program.now task.now.options result.schedule
+        (standing (I.left input.old) (I.faults input.old) (O.written output.old) (O.faults output.old))
+        (standing (I.left input.new) (I.faults input.new) (O.written output.new) (O.faults output.new)) result.status }
+{
+    let program = task.program;
+    let Ok(plan) = partition(alloc, program, &task.options.policy) else {
+        return ended(alloc, 5);
+    };
+    let Ok(ran) = run(rt, alloc, program, &plan, task.options.budget, gate) else {
+        return ended(alloc, 5);
+    };
+    let run = ClosedRun {
+        program,
+        plan: &plan,
+        budget: task.options.budget,
+        closed: &ran.closed,
+    };
+    let status = tell(rt, alloc, &run, input, output);
+    Outcome {
+        status,
+        schedule: ran.schedule,
+    }
+}

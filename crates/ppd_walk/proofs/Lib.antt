@@ -1,0 +1,4 @@
+mod Leads
+mod Over
+mod Steps
+pub mod SharedFound

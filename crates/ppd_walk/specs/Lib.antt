@@ -1,0 +1,3 @@
+-- The walk back over an internal edge, part by part.
+pub mod Items
+pub mod SharedCells

@@ -1,0 +1,51 @@
+-- What the search for where a shared cell was written answers.
+use Rattle.std.specs.Prelude.{◌≡◌, ℕ, List, [], ◌∷◌, map, Result, Ok, Err, ⊤}
+use Rattle.ppd_model.specs.declared.flow.Origin.{Origin}
+use Rattle.ppd_model.specs.declared.flow.Origin.TheVariants as origin
+use Rattle.ppd_model.specs.declared.graph.EdgeId.{EdgeId}
+use Rattle.ppd_model.specs.declared.graph.NodeId.{NodeId}
+use Rattle.ppd_past.specs.declared.flow_error.FlowError.{FlowError}
+use Rattle.ppd_past.specs.declared.flow_error.FlowError.TheVariants.{Sets, Memory}
+use Rattle.ppd_past.specs.declared.past.Past.{Past}
+use Rattle.ppd_past.specs.ByReplays.{IsFoundBy}
+use Rattle.ppd_past.specs.SeenBy.{items_in, seen_by, seen_in}
+use Rattle.ppd_search.specs.Ends.{end_interval, end_item}
+use Rattle.ppd_search.specs.Seen.{Seen}
+use Rattle.ppd_search.specs.Shared.{Missing, entries_of}
+use Rattle.ppd_walk.specs.declared.edge_end.EdgeEnd.{EdgeEnd}
+
+-- what the replays of each process of a past give
+abbrev pub seens_in : Past → List Seen
+seens_in past = map (λ entries. seen_by past.program.now past.plan.now past.budget entries) past.logs.now.lists
+
+-- a write that is missing is the error that names its entry
+abbrev pub answer_of : {A : Type 0} → Result A Missing → Result A FlowError
+answer_of (Ok x) = Ok x
+answer_of (Err m) = Err (Sets m.process m.entry m.cell)
+
+-- want of memory is answered, or this
+abbrev pub IsMemoryOr : {A : Type 0} → Result A FlowError → Result A FlowError → Type 0
+IsMemoryOr answer (Err Memory) = ⊤
+IsMemoryOr answer result = result ≡ answer
+
+-- where an edge of a past ends
+abbrev pub end_of : Past → EdgeId → EdgeEnd
+end_of past e =
+    let entries = entries_of past.logs.now e.process in
+    record {
+      interval = end_interval entries e.edge;
+      items = items_in past e.process (end_interval entries e.edge);
+      place = end_item entries (seen_in past e.process) e.edge;
+    }
+
+-- the item that is a synchronization
+abbrev pub node_origin : Past → NodeId → Origin
+node_origin past a =
+    let e : EdgeId = record { process = a.process; edge = a.sync } in
+    origin.Item a.process (end_of past e).interval (end_of past e).place
+
+-- it is found by the replay of the interval in which its edge ends
+abbrev pub IsNodeFound : Past → NodeId → (before after : ℕ) → Result Origin FlowError → Type 0
+IsNodeFound past a before after result =
+    IsFoundBy past ((a.process, end_interval (entries_of past.logs.now a.process) a.sync) ∷ []) (Ok
+    (node_origin past a)) before after result

@@ -1,0 +1,49 @@
+ghost use Rattle.std.specs.Prelude.{◌≡◌, [], ◌∷◌, Ok};
+ghost use Rattle.ppd_past.specs.ByReplays.{IsFoundBy};
+ghost use Rattle.ppd_past.specs.Pasts.{IsPast};
+ghost use Rattle.ppd_search.specs.Ends.{end_interval as end_interval_of};
+ghost use Rattle.ppd_search.specs.Shared.{entries_of as entries_in};
+ghost use Rattle.ppd_walk.specs.SharedCells.{end_of};
+
+use ppd_ast::{Seq, Steps};
+use ppd_ends::{end_interval, sync_item};
+use ppd_model::{EdgeId, Item};
+use ppd_past::{FlowError, Past, replayed};
+use std::alloc::Global;
+use std::sync::ledger::Ledger;
+
+/// Where an internal edge ends: an interval with its items, and the place among them, that of the synchronization
+/// that ends the edge; of a last edge the place after all items.
+#[derive(Drop)]
+pub(crate) struct EdgeEnd {
+    pub interval: u32,
+    pub items: Seq<Item>,
+    pub place: usize,
+}
+
+/// Finds where an edge ends, by the replay of that interval.
+pub(crate) fn edge_end<L: Ledger>(
+    alloc: Global,
+    past: &Past,
+    edge: EdgeId,
+    steps: &mut Steps<L>,
+) -> Result<EdgeEnd, FlowError>
+    requires { IsPast past.now }
+    ensures { IsFoundBy past.now
+        ((edge.process, end_interval_of (entries_in past.now.logs.now edge.process) edge.edge) ∷ [])
+        (Ok (end_of past.now edge)) steps.old steps.new result }
+{
+    let interval = end_interval(past, edge.process, edge.edge);
+    let items = match replayed(alloc, past, edge.process, interval, steps) {
+        Ok(items) => items,
+        Err(error) => return Err(error),
+    };
+    match sync_item(past, edge.process, edge.edge, interval, items.as_slice()) {
+        Ok(place) => Ok(EdgeEnd {
+            interval,
+            items,
+            place,
+        }),
+        Err(_) => Err(FlowError::Memory),
+    }
+}

@@ -1,0 +1,16 @@
+//! Where a shared cell was written and where a synchronization's pair is: the walk back over an internal edge, and
+//! from the end of the greatest edge that writes the cell, by replays.
+#![tactic(auto)]
+
+mod edge_end;
+mod event;
+mod inside;
+mod outward;
+mod pairs;
+mod search;
+mod shared;
+mod written;
+
+pub use pairs::{Place, pair_origin};
+pub use search::CellSearch;
+pub use shared::last_write;

@@ -1,0 +1,145 @@
+ghost use Rattle.std.specs.Prelude.{◌≡◌, IfOk};
+ghost use Rattle.ppd_past.specs.ByReplays.{IsFoundBy};
+ghost use Rattle.ppd_past.specs.Pasts.{IsPast};
+ghost use Rattle.ppd_search.specs.Seen.{items_at};
+ghost use Rattle.ppd_search.specs.Shared.{edge_of_place, found_last, greatest_before as greatest_before_of, last_replays, origin_in, shared_origin as shared_origin_of, shared_replays, start_replays, written_or_start as written_or_start_of};
+ghost use Rattle.ppd_walk.specs.Items.{seen_for};
+ghost use Rattle.ppd_walk.specs.SharedCells.{answer_of, seens_in};
+
+use crate::outward::first_items;
+use crate::search::CellSearch;
+use crate::written::written_or_start;
+use ppd_ast::{Memory, Steps};
+use ppd_ends::{edge_at, greatest_before, greatest_writing};
+use ppd_model::{EdgeId, Item, Origin};
+use ppd_past::{FlowError, Past};
+use ppd_search::Walked;
+use std::alloc::Global;
+use std::sync::ledger::Ledger;
+
+// The greatest edge before that of a place that writes the cell. `Memory` is want of memory.
+fn edge_before(
+    search: &CellSearch,
+    interval: u32,
+    items: &[Item],
+    place: usize,
+) -> Result<Option<EdgeId>, Memory>
+    requires past { IsPast search.now.past.now }
+    requires items { items.now ≡ items_at (seen_for search.now) interval }
+    ensures { IfOk result (λ best. best
+        ≡ greatest_before_of search.now.past.now.program.now search.now.past.now.logs.now
+        (edge_of_place search.now.past.now.logs.now (seens_in search.now.past.now) search.now.process interval place)
+        search.now.cell) }
+{
+    let before = first_items(items, place);
+    let edge = match edge_at(search.past, search.process, interval, before) {
+        Ok(edge) => edge,
+        Err(memory) => return Err(memory),
+    };
+    let own = EdgeId {
+        process: search.process,
+        edge,
+    };
+    greatest_before(search.past, own, search.cell)
+}
+
+// The origin of a write in an edge before that of a place, or the start value.
+fn origin_before<L: Ledger>(
+    search: &CellSearch,
+    interval: u32,
+    items: &[Item],
+    place: usize,
+    steps: &mut Steps<L>,
+) -> Result<Origin, FlowError>
+    requires past { IsPast search.now.past.now }
+    requires items { items.now ≡ items_at (seen_for search.now) interval }
+    ensures { IsFoundBy search.now.past.now
+        (start_replays search.now.past.now.logs.now (seens_in search.now.past.now) search.now.cell
+        (greatest_before_of search.now.past.now.program.now search.now.past.now.logs.now
+        (edge_of_place search.now.past.now.logs.now (seens_in search.now.past.now) search.now.process interval place)
+        search.now.cell))
+        (answer_of (origin_in (written_or_start_of search.now.past.now.program.now search.now.past.now.logs.now
+        (seens_in search.now.past.now) search.now.cell
+        (greatest_before_of search.now.past.now.program.now search.now.past.now.logs.now
+        (edge_of_place search.now.past.now.logs.now (seens_in search.now.past.now) search.now.process interval place)
+        search.now.cell))))
+        steps.old steps.new result }
+{
+    let best = match edge_before(search, interval, items, place) {
+        Ok(best) => best,
+        Err(_) => return Err(FlowError::Memory),
+    };
+    match written_or_start(search, best, steps) {
+        Ok((_, origin)) => Ok(origin),
+        Err(error) => Err(error),
+    }
+}
+
+impl<'a> CellSearch<'a> {
+    /// Where the cell was written that is read at a place in an interval, whose items these are: the last write
+    /// before it in the internal edge of the place, else the last write in the greatest edge before this one
+    /// whose write set has the cell, else the start value. In a run without a race under the plan of a policy
+    /// it is the write whose value was read.
+    ///
+    /// The counter rises by the own steps of the intervals that are replayed. `Diverged`: the replay of one of them,
+    /// the first that fails, does so at this entry. `Sets`: the write set of this entry has the cell, and the
+    /// walk over the edge that it ends finds no write of it. `Memory` is want of memory, also for places that
+    /// have no 32-bit numbers. No other error comes.
+    pub fn shared_origin<L: Ledger>(
+        &self,
+        interval: u32,
+        items: &[Item],
+        place: usize,
+        steps: &mut Steps<L>,
+    ) -> Result<Origin, FlowError>
+        requires past { IsPast self.now.past.now }
+        requires items { items.now ≡ items_at (seen_for self.now) interval }
+        ensures { IsFoundBy self.now.past.now
+            (shared_replays self.now.past.now.program.now self.now.past.now.logs.now (seens_in self.now.past.now)
+            self.now.process interval place self.now.cell)
+            (answer_of (shared_origin_of self.now.past.now.program.now self.now.past.now.logs.now
+            (seens_in self.now.past.now) self.now.process interval place self.now.cell))
+            steps.old steps.new result }
+    {
+        let walked = match self.walk(interval, items, place, steps) {
+            Ok(walked) => walked,
+            Err(error) => return Err(error),
+        };
+        match walked {
+            Walked::Found { interval, item, .. } => Ok(Origin::Item {
+                process: self.process,
+                interval,
+                item,
+            }),
+            Walked::Stopped | Walked::Passed => {
+                origin_before(self, interval, items, place, steps)
+            }
+        }
+    }
+}
+
+/// The last value of a shared cell and where it was written: by the last write in the greatest internal edge whose
+/// write set has the cell, else at the start. The counter and the errors are those of `shared_origin`.
+pub fn last_write<L: Ledger>(
+    alloc: Global,
+    past: &Past,
+    cell: u16,
+    steps: &mut Steps<L>,
+) -> Result<(i64, Origin), FlowError>
+    requires { IsPast past.now }
+    ensures { IsFoundBy past.now
+        (last_replays past.now.program.now past.now.logs.now (seens_in past.now) cell)
+        (answer_of (found_last past.now.program.now past.now.logs.now (seens_in past.now) cell))
+        steps.old steps.new result }
+{
+    let search = CellSearch {
+        alloc,
+        past,
+        process: 0,
+        cell,
+    };
+    match greatest_writing(past, cell) {
+        Ok(best) => written_or_start(&search, best, steps),
+        Err(_) => Err(FlowError::Memory),
+    }
+}

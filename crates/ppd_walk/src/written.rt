@@ -1,0 +1,108 @@
+ghost use Rattle.std.specs.Prelude.{◌≡◌, get_or, pos};
+ghost use Rattle.ppd_past.specs.ByReplays.{IsFoundBy};
+ghost use Rattle.ppd_past.specs.Pasts.{IsPast};
+ghost use Rattle.ppd_search.specs.Shared.{start_replays, written_at, written_in as written_in_edge, written_or_start as written_or_start_of, written_replays};
+ghost use Rattle.ppd_walk.specs.SharedCells.{IsMemoryOr, answer_of, seens_in};
+
+use crate::edge_end::edge_end;
+use crate::search::CellSearch;
+use ppd_ast::{Program, Steps};
+use ppd_ends::{ending, entries_of};
+use ppd_model::{EdgeId, Origin};
+use ppd_past::{FlowError, Past, number};
+use ppd_search::Walked;
+use std::sync::ledger::Ledger;
+
+// The write that a walk from the end of an edge found, or the entry there whose write set has the cell for nothing.
+fn write_found(
+    past: &Past,
+    cell: u16,
+    edge: EdgeId,
+    walked: Walked,
+) -> Result<(i64, Origin), FlowError>
+    ensures { IsMemoryOr (answer_of (written_at past.now.logs.now cell edge walked)) result }
+{
+    match walked {
+        Walked::Found {
+            interval,
+            item,
+            value,
+        } => {
+            let origin = Origin::Item {
+                process: edge.process,
+                interval,
+                item,
+            };
+            Ok((value, origin))
+        }
+        Walked::Stopped | Walked::Passed => {
+            match number(ending(edge.edge, entries_of(past.logs, edge.process))) {
+                Ok(entry) => Err(FlowError::Sets {
+                    process: edge.process,
+                    entry,
+                    cell,
+                }),
+                Err(_) => Err(FlowError::Memory),
+            }
+        }
+    }
+}
+
+// The last write of the cell in an edge of any process whose write set has it.
+fn written_in<L: Ledger>(
+    search: &CellSearch,
+    edge: EdgeId,
+    steps: &mut Steps<L>,
+) -> Result<(i64, Origin), FlowError>
+    requires { IsPast search.now.past.now }
+    ensures { IsFoundBy search.now.past.now
+        (written_replays search.now.past.now.logs.now (seens_in search.now.past.now) search.now.cell edge)
+        (answer_of (written_in_edge search.now.past.now.logs.now (seens_in search.now.past.now) search.now.cell edge))
+        steps.old steps.new result }
+{
+    let end = match edge_end(search.alloc, search.past, edge, steps) {
+        Ok(end) => end,
+        Err(error) => return Err(error),
+    };
+    let there = CellSearch {
+        alloc: search.alloc,
+        past: search.past,
+        process: edge.process,
+        cell: search.cell,
+    };
+    match there.walk(end.interval, end.items.as_slice(), end.place, steps) {
+        Ok(walked) => write_found(search.past, search.cell, edge, walked),
+        Err(error) => Err(error),
+    }
+}
+
+fn start_value(program: &Program, cell: u16) -> i64
+    ensures { result ≡ get_or program.now.starts cell (pos 0) }
+{
+    match program.starts.as_slice().get(cell as usize) {
+        Some(value) => *value,
+        None => 0,
+    }
+}
+
+/// The last write of the cell in this edge, and its start value where there is none.
+pub(crate) fn written_or_start<L: Ledger>(
+    search: &CellSearch,
+    edge: Option<EdgeId>,
+    steps: &mut Steps<L>,
+) -> Result<(i64, Origin), FlowError>
+    requires { IsPast search.now.past.now }
+    ensures { IsFoundBy search.now.past.now
+        (start_replays search.now.past.now.logs.now (seens_in search.now.past.now) search.now.cell edge)
+        (answer_of (written_or_start_of search.now.past.now.program.now search.now.past.now.logs.now
+        (seens_in search.now.past.now) search.now.cell edge))
+        steps.old steps.new result }
+{
+    match edge {
+        Some(edge) => written_in(search, edge, steps),
+        None => Ok((
+            start_value(search.past.program, search.cell),
+            Origin::Initial,
+        )),
+    }
+}

@@ -1,0 +1,7 @@
+//! Searches for shared cells over runs of worked sources: tests of replays, walks, last writes and pairs.
+#![tactic(auto)]
+
+#[cfg(test)]
+mod ran;
+#[cfg(test)]
+mod row_tests;

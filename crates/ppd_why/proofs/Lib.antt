@@ -1,0 +1,3 @@
+-- Texts piece by piece.
+pub mod Holding
+pub mod Lines

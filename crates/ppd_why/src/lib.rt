@@ -1,0 +1,13 @@
+//! How the items of intervals, their flowback edges and the last values of shared cells are written.
+#![tactic(auto)]
+
+mod edges;
+mod items;
+mod kinds;
+mod lasts;
+mod names;
+
+pub use edges::put_why;
+pub use items::{put_item, put_items};
+pub use lasts::put_last;
+pub use names::{process_name, put_cell, put_what};

@@ -1,0 +1,5 @@
+pub mod Clap
+pub mod Uses
+pub mod Late
+pub mod Numbers
+pub mod Fit

@@ -1,0 +1,5 @@
+pub mod Runs
+pub mod Replays
+pub mod Agreements
+pub mod Refusals
+pub mod Comings
