@@ -149,11 +149,7 @@ pub(crate) fn log_line(alloc: Global, program: &Program, bad: BadLog) -> Result<
 
 /// The line of a replay that fails, or that writes a cell nowhere, in place of the answer that needs it. The error is
 /// want of memory, also where that was why there is no answer.
-pub fn replay_line(
-    alloc: Global,
-    program: &Program,
-    error: SessionError,
-) -> Result<Vec<u8>, Memory>
+pub fn replay_line(alloc: Global, program: &Program, error: SessionError) -> Result<Vec<u8>, Memory>
     ensures line { IfOk result (λ line. line.items ≡ refused_replay program.now error) }
     ensures fault { OnOk result (error ≢ session_error.Memory) }
 {
