@@ -1,10 +1,13 @@
 #!/usr/bin/env python3
-"""Checks of the repository's own: HANDLES, where sources stand, their size, and that no text leans
-on anything outside. Prints what is wrong and ends with status 1, or says that all holds."""
+"""Checks of the repository's own: HANDLES, where sources stand, their size and layout, and that no text
+leans on anything outside. Prints what is wrong and ends with status 1, or says that all holds."""
 import os
 import re
+import shutil
 import subprocess
 import sys
+import tempfile
+from concurrent.futures import ThreadPoolExecutor
 
 TOP = os.path.dirname(os.path.dirname(os.path.abspath(__file__)))
 os.chdir(TOP)
@@ -40,6 +43,24 @@ for crate in crates:
     root = next((name for name in roots if os.path.isfile(name)), None)
     if root is None or "#![tactic(auto)]" not in text_of(root):
         wrong.append(f"{crate} has no root file with #![tactic(auto)]")
+
+# the merge gate refuses any other layout than that of `rt fmt`, in one line that is easily missed
+def laid_out(crate):
+    with tempfile.TemporaryDirectory() as folder:
+        copy = os.path.join(folder, "crates", crate)
+        shutil.copytree(os.path.join("crates", crate), copy, ignore=shutil.ignore_patterns("out"))
+        shutil.copy("crates.txt", folder)
+        done = subprocess.run(["rt", "fmt"], cwd=copy, capture_output=True, text=True, check=False)
+        said = (done.stdout + done.stderr).strip().splitlines()
+        if done.returncode != 0:
+            return [f"{crate}: rt fmt fails: {' '.join(said[-1:])}"]
+        return [f"crates/{crate}/{line.split()[-1]} is not laid out by rt fmt" for line in said if "formatted" in line]
+
+
+if shutil.which("rt"):
+    with ThreadPoolExecutor(os.cpu_count()) as pool:
+        for found in pool.map(laid_out, crates):
+            wrong += found
 
 # words that only make sense to somebody who has papers that are not here
 OUTSIDE = re.compile(r"\.\./shared|\bshared/(spec|sketch|cases)|/work/|\bissue #?\d|\b(scope|promises|roadmap)\.md\b|\bthe sketch\b")

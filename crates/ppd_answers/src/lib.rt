@@ -6,6 +6,8 @@ mod costs;
 #[cfg(test)]
 mod devices;
 #[cfg(test)]
+mod drills;
+#[cfg(test)]
 mod examples;
 #[cfg(test)]
 mod input_lines;

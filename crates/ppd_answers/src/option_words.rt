@@ -163,7 +163,7 @@ const NAMES: [Row; 20] = [
 type Words = &'static [&'static str];
 
 // No command that is built stands first.
-const NO_COMMAND: [Words; 20] = [
+const NO_COMMAND: [Words; 19] = [
     &[],
     &[""],
     &["flow"],
@@ -183,7 +183,24 @@ const NO_COMMAND: [Words; 20] = [
     &["run", "row.c"],
     &["run", "row.c", ""],
     &["debug", ""],
-    &["drill", "7"],
+];
+
+// A drill without a number, with more than one, or with one outside its limits.
+const NO_DRILL: [Words; 14] = [
+    &["drill"],
+    &["drill", ""],
+    &["drill", "--"],
+    &["drill", "7", "8"],
+    &["drill", "-7"],
+    &["drill", "+7"],
+    &["drill", "7a"],
+    &["drill", " 7"],
+    &["drill", "seven"],
+    &["drill", "1000000"],
+    &["drill", "999999999"],
+    &["drill", "0000000007"],
+    &["drill", "--budget", "5", "7"],
+    &["drill", "--leaf=0", "7"],
 ];
 
 // Not one name, or another word that begins with `-`.
@@ -307,6 +324,7 @@ fn words_that_are_refused(rt: HostRuntime) -> Result<(), Fail> {
     let alloc = rt.alloc();
     for rows in [
         NO_COMMAND.as_slice(),
+        NO_DRILL.as_slice(),
         NO_NAME.as_slice(),
         TWICE.as_slice(),
         NO_NUMBER.as_slice(),

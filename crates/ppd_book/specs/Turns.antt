@@ -1,5 +1,5 @@
 -- Turns of workers, and the turns that are left at the end.
-use Rattle.std.specs.Prelude.{◌≡◌, ◌<◌, ◌≤◌, ◌+◌, ◌-◌, ◌*◌, ℕ, nat_eq, List, [], ◌∷◌, ◌++◌, count_by, length, MatchBool, ⊤}
+use Rattle.std.specs.Prelude.{◌≡◌, ◌<◌, ◌≤◌, ◌+◌, ◌-◌, ◌*◌, ℕ, nat_eq, true, List, [], ◌∷◌, ◌++◌, count_by, length, MatchBool, ⊤}
 use Rattle.ppd_ast.specs.declared.plan.Plan.{Plan}
 use Rattle.ppd_ast.specs.declared.program.Program.{Program}
 use Rattle.ppd_model.specs.Logs.{close}
@@ -22,6 +22,10 @@ abbrev pub IsTurn : Held → Held → ℕ → Turn → Type 0
 IsTurn old new worker (Stepped p) =
     IsPicked old.world worker p × (new.world ≡ stepped old.world p) × (new.schedule ≡ old.schedule ++ p ∷ [])
 IsTurn old new worker Over = IsOver old.world.program old.world.plan old.world.world × (new ≡ old)
+
+-- some process can take a step
+abbrev pub CanGoOn : Running → Type 0
+CanGoOn r = (p : ℕ) × (can_step r p ≡ true)
 
 -- who was stepped is a process of the program
 abbrev pub IsOfProcess : Program → Turn → Type 0

@@ -1,9 +1,11 @@
-ghost use Rattle.std.specs.Prelude.{◌≡◌, [], IfOk};
+ghost use Rattle.std.specs.Prelude.{◌≡◌, [], IfOk, IfSome};
 ghost use Rattle.ppd_world.specs.Running.{IsOf, IsReached};
 
+use crate::commit::Commit;
 use crate::job::Job;
 use crate::kept::Kept;
 use crate::turn::{Ran, Turn};
+use crate::view::View;
 use ppd_ast::Memory;
 use ppd_world::World;
 use std::alloc::Global;
@@ -16,6 +18,7 @@ pub struct Book<'a, J: Job> {
 
 impl<'a, J: Job> Book<'a, J> {
     ghost use Rattle.ppd_book.specs.Turns.{IsOfProcess, KeepsBudget, RanToEnd};
+    ghost use Rattle.ppd_book.specs.Views.{IsFresh};
 
     /// A world before its first step, under a lock that is free. Its program, plan and budget are those
     /// that `J` names.
@@ -36,6 +39,20 @@ impl<'a, J: Job> Book<'a, J> {
         ensures { IfOk result (IsOfProcess J.program) }
     {
         self.kept.lock(rt).turn(worker)
+    }
+
+    /// The process of this worker on a copy, where its next step needs nothing but the process itself, under
+    /// the lock: `Kept::view`. `Memory` is want of memory.
+    pub fn view<R: Wait>(&self, rt: &R, worker: u8) -> Result<Option<View<'a, J>>, Memory>
+        ensures { IfOk result (λ seen. IfSome seen (IsFresh worker)) }
+    {
+        self.kept.lock(rt).view(worker)
+    }
+
+    /// Takes the steps of a view where its process is still in the state that was copied, under the lock:
+    /// `Kept::commit`. `Memory` is want of memory: the view is gone, and the book as before.
+    pub fn commit<R: Wait>(&self, rt: &R, view: View<'a, J>) -> Result<Commit, Memory> {
+        self.kept.lock(rt).commit(view)
     }
 
     /// Takes the turns that are left, lowest process first, and hands out the schedule with its closed

@@ -1,14 +1,32 @@
-ghost use Rattle.std.specs.Prelude.{◌≡◌, ◌++◌, ◌∷◌, [], true, IfNone, IfOk, IfSome, OnErr, OnOk};
+ghost use Rattle.std.specs.Prelude.{◌≡◌, ◌++◌, ◌∷◌, [], replicate, true, IfNone, IfOk, IfSome, OnErr, OnOk};
 ghost use Rattle.ppd_model.specs.Schedule.{IsOver};
 ghost use Rattle.ppd_world.specs.Running.{IsHeld, IsLowest, IsOf, IsReached, can_step, stepped};
 
+use crate::commit::Commit;
 use crate::job::Job;
 use crate::turn::{Ran, Turn};
+use crate::view::View;
 use ppd_ast::{Bytes, Memory};
 use ppd_model::schedules_are_bounded;
+use ppd_sem::Need;
 use ppd_world::World;
 use std::alloc::Global;
 use std::marker::{Model, PhantomData};
+
+/// Appends this number so many times. `Memory` is want of memory: the list is as before.
+fn write_down(schedule: &mut Bytes, number: u8, count: u32) -> Result<(), Memory>
+    ensures ok { OnOk result (schedule.new ≡ schedule.old ++ replicate count number) }
+    ensures err { OnErr result (schedule.new ≡ schedule.old) }
+{
+    let first = schedule.len();
+    for _index in 0..count {
+        if schedule.push(number).is_err() {
+            schedule.truncate(first);
+            return Err(Memory);
+        }
+    }
+    Ok(())
+}
 
 /// What lies under the lock: a world of the run that `J` names, and the schedule that led to it: the
 /// numbers of the processes that were stepped. The world and its logs are always those of this schedule.
@@ -31,7 +49,9 @@ impl<'a, J: Job> Model for Kept<'a, J> {
 }
 
 impl<'a, J: Job> Kept<'a, J> {
-    ghost use Rattle.ppd_book.specs.Turns.{ClosesFrom, IsOfProcess, IsTurn, KeepsBudget};
+    ghost use Rattle.ppd_book.specs.Turns.{CanGoOn, ClosesFrom, IsOfProcess, IsTurn, KeepsBudget};
+    ghost use Rattle.ppd_book.specs.Views.{IsCommit, IsCurrent, IsViewed, need_in};
+    ghost use Rattle.ppd_sem.specs.declared.proc.Need.TheVariants.{Plain};
 
     /// A world before its first step, with the empty schedule. Its program, plan and budget are those
     /// that `J` names.
@@ -81,11 +101,12 @@ impl<'a, J: Job> Kept<'a, J> {
     }
 
     /// Steps the worker's process where that can take a step, else the lowest process that can.
-    /// `Memory` is want of memory: nothing changes.
+    /// `Memory` is want of memory: nothing changes, and some process can take a step.
     pub fn turn(&mut self, worker: u8) -> Result<Turn, Memory>
         ensures turn { IfOk result (IsTurn self.old self.new worker) }
         ensures process { IfOk result (IsOfProcess J.program) }
         ensures same { OnErr result (self.new ≡ self.old) }
+        ensures cause { OnErr result (CanGoOn self.old.world) }
     {
         if self.world.enabled(worker) {
             self.take(worker)?;
@@ -98,6 +119,52 @@ impl<'a, J: Job> Kept<'a, J> {
             }
             None => Ok(Turn::Over),
         }
+    }
+
+    /// The process of this worker on a copy, as it is now, where its next step needs nothing but the process
+    /// itself; none where it needs more. `Memory` is want of memory, and the next step needs nothing else.
+    pub fn view(&self, worker: u8) -> Result<Option<View<'a, J>>, Memory>
+        ensures view { IfOk result (IsViewed self.now worker) }
+        ensures cause { OnErr result (need_in self.now worker ≡ Plain) }
+    {
+        if !matches!(self.world.next(worker).need, Need::Plain) {
+            return Ok(None);
+        }
+        let proc = self.world.proc(worker);
+        Ok(Some(View {
+            program: self.world.program(),
+            plan: self.world.plan(),
+            worker,
+            before: proc.copy()?,
+            after: proc.copy()?,
+            count: 0,
+            of: PhantomData,
+        }))
+    }
+
+    /// Takes the steps of a view at once, and writes its worker's number down once for each, where the process
+    /// is still in the state that was copied; else changes nothing. `Memory` is want of memory: nothing
+    /// changes, and the process is in that state.
+    pub fn commit(&mut self, view: View<'a, J>) -> Result<Commit, Memory>
+        ensures commit { IfOk result (IsCommit self.old self.new view.entry) }
+        ensures same { OnErr result (self.new ≡ self.old) }
+        ensures cause { OnErr result (IsCurrent self.old view.entry) }
+    {
+        let View {
+            program: _,
+            plan: _,
+            worker,
+            before,
+            after,
+            count,
+            of: _,
+        } = view;
+        if !self.world.proc(worker).same(&before) {
+            return Ok(Commit::Stale);
+        }
+        write_down(&mut self.schedule, worker, count)?;
+        self.world.put(worker, after, count);
+        Ok(Commit::Done)
     }
 
     /// Takes the turns that are left, lowest process first, and hands out the schedule with its closed

@@ -19,7 +19,7 @@ use Rattle.ppd_codec.specs.Came.{Came}
 use Rattle.ppd_codec.specs.Form.{Form}
 use Rattle.ppd_codec.specs.Format.{Front, back, front, recording}
 use Rattle.ppd_codec.specs.Reader.{Got, after, done}
-use Rattle.ppd_codec.specs.Recordings.{AreLawful, ComesToSource, IsBad, IsDecoded, IsJudged, IsLawfulBy, IsMade, Judged, all_of, back_by, facts_of, front_of, nothing_left, reading, refusal, spelled, version_of}
+use Rattle.ppd_codec.specs.Recordings.{AreLawful, ComesToSource, IsBad, IsDecoded, IsJudged, IsLawfulBy, IsMade, IsPastFront, Judged, all_of, back_by, facts_of, front_of, nothing_left, reading, refusal, spelled, version_of}
 use Rattle.ppd_codec.proofs.Inverts.{AreBytes, Wrote, got, ok_is}
 use Rattle.ppd_codec.proofs.Built.{Holds}
 use Rattle.ppd_codec.proofs.Parts.{recording_holds}
@@ -107,6 +107,9 @@ module _ (bytes : List ℕ) (h : Front) (now : ℕ) (rest : List ℕ) (short : l
   -- the source is the one that was read
   one_source : (s : List ℕ) → ComesToSource bytes s → h.1.1.1.1.1 ≡ s
   one_source s c = ap (λ (g : Got Front). g.value.1.1.1.1.1) (ok_is (front.read 0 bytes) (got h now rest) c.got came c.reads) ∙ c.source_is
+
+  pub past_front : IsPastFront bytes
+  past_front = (h.1.1.1.1.1, record { short = short; got = got h now rest; reads = came; source_is = refl })
 
   comes_to : (j : Judged) → all_of (reading j) bytes ≡ nothing_left (after (back_by j h now rest) (λ y. done {A = Front × List (List Entry)} (h, y)))
   comes_to j = ap (λ (b : Bool). cond b (nothing_left (reading j 0 bytes)) (Err bad.TooLong)) (short_is bytes short)

@@ -111,6 +111,10 @@ pub record ComesToSource (bytes : List ℕ) (s : List ℕ) : Type 0 where
   pub reads : front.read 0 bytes ≡ Ok got
   pub source_is : got.value.1.1.1.1.1 ≡ s
 
+-- nothing up to the source's bytes is refused: neither the length of all nor a field of the front
+abbrev pub IsPastFront : List ℕ → Type 0
+IsPastFront bytes = (s : List ℕ) × ComesToSource bytes s
+
 -- the first test that fails is this one
 pub record IsBad (bytes : List ℕ) (e : BadBytes) : Type 0 where
   pub judged : Judged

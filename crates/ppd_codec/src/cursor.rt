@@ -1,4 +1,4 @@
-ghost use Rattle.std.specs.Prelude.{◌≡◌, ◌+◌, ◌<◌, ◌≤◌, ◌^◌, length, IfErr, IfOk, FitsSigned};
+ghost use Rattle.std.specs.Prelude.{◌≡◌, ◌≢◌, ◌+◌, ◌<◌, ◌≤◌, ◌^◌, length, IfErr, IfOk, FitsSigned};
 ghost use Rattle.std.specs.Int.{w64};
 ghost use Rattle.ppd_codec.specs.Came.{Came, Refuses};
 ghost use Rattle.ppd_codec.specs.Form.{byte as byte_form, number_2 as number_2_form, number_4 as number_4_form, value as value_form};
@@ -23,6 +23,7 @@ impl<'a> Cursor<'a> {
         ensures ok { IfOk result
             (λ bytes. Came (field N (λ bs. bs)) self.old.at self.old.rest.now self.new.at self.new.rest.now bytes) }
         ensures err { IfErr result (Refuses (field N (λ bs. bs)) self.old.at self.old.rest.now) }
+        ensures early { IfErr result (λ e. e ≢ BadBytes.Memory) }
         ensures within { self.new.at + length self.new.rest.now ≤ self.old.at + length self.old.rest.now }
         ensures cost { steps.new + length self.new.rest.now ≤ steps.old + length self.old.rest.now }
     {
@@ -41,6 +42,7 @@ impl<'a> Cursor<'a> {
         requires { self.old.at + length self.old.rest.now < 2 ^ 32 }
         ensures ok { IfOk result (Came byte_form.read self.old.at self.old.rest.now self.new.at self.new.rest.now) }
         ensures err { IfErr result (Refuses byte_form.read self.old.at self.old.rest.now) }
+        ensures early { IfErr result (λ e. e ≢ BadBytes.Memory) }
         ensures within { self.new.at + length self.new.rest.now ≤ self.old.at + length self.old.rest.now }
         ensures cost { steps.new + length self.new.rest.now ≤ steps.old + length self.old.rest.now }
     {
@@ -52,6 +54,7 @@ impl<'a> Cursor<'a> {
         requires { self.old.at + length self.old.rest.now < 2 ^ 32 }
         ensures ok { IfOk result (Came number_2_form.read self.old.at self.old.rest.now self.new.at self.new.rest.now) }
         ensures err { IfErr result (Refuses number_2_form.read self.old.at self.old.rest.now) }
+        ensures early { IfErr result (λ e. e ≢ BadBytes.Memory) }
         ensures within { self.new.at + length self.new.rest.now ≤ self.old.at + length self.old.rest.now }
         ensures cost { steps.new + length self.new.rest.now ≤ steps.old + length self.old.rest.now }
     {
@@ -63,6 +66,7 @@ impl<'a> Cursor<'a> {
         requires { self.old.at + length self.old.rest.now < 2 ^ 32 }
         ensures ok { IfOk result (Came number_4_form.read self.old.at self.old.rest.now self.new.at self.new.rest.now) }
         ensures err { IfErr result (Refuses number_4_form.read self.old.at self.old.rest.now) }
+        ensures early { IfErr result (λ e. e ≢ BadBytes.Memory) }
         ensures within { self.new.at + length self.new.rest.now ≤ self.old.at + length self.old.rest.now }
         ensures cost { steps.new + length self.new.rest.now ≤ steps.old + length self.old.rest.now }
     {

@@ -3,7 +3,7 @@ ghost use Rattle.ppd_ast.specs.Valid.{IsValid};
 ghost use Rattle.ppd_ast.specs.ValidPlan.{IsValidPlan, IsValidPolicy};
 ghost use Rattle.ppd_codec.specs.Came.{Came, Refuses};
 ghost use Rattle.ppd_codec.specs.Format.{back as back_form};
-ghost use Rattle.ppd_codec.specs.Recordings.{AreLawful, IsBad, IsDecoded, IsMade, nothing_left, refusal as refusal_of};
+ghost use Rattle.ppd_codec.specs.Recordings.{AreLawful, IsBad, IsDecoded, IsMade, IsPastFront, nothing_left, refusal as refusal_of};
 
 use crate::bad::{BadBytes, Field};
 use crate::cursor::Cursor;
@@ -114,6 +114,7 @@ pub fn decode_in<L: Ledger>(
     ensures valid { IfOk result (λ r. IsValid r.program) }
     ensures plan { IfOk result (λ r. IsValidPlan r.program r.plan) }
     ensures err { IfErr result (λ e. e ≢ BadBytes.Memory → IsBad bytes.now e) }
+    ensures early { IfErr result (λ e. e ≡ BadBytes.Memory → IsPastFront bytes.now) }
     ensures cost { steps.new ≤ steps.old + length bytes.now }
 {
     if bytes.len() > MOST_RECORDING_BYTES {
@@ -140,6 +141,7 @@ fn decode_from<L: Ledger>(alloc: Global, bytes: &[u8], blank: Blank) -> Result<R
     ensures valid { IfOk result (λ r. IsValid r.program) }
     ensures plan { IfOk result (λ r. IsValidPlan r.program r.plan) }
     ensures err { IfErr result (λ e. e ≢ BadBytes.Memory → IsBad bytes.now e) }
+    ensures early { IfErr result (λ e. e ≡ BadBytes.Memory → IsPastFront bytes.now) }
 {
     let mut steps: Steps<L> = Steps::new(blank);
     decode_in(alloc, bytes, &mut steps)
@@ -151,13 +153,15 @@ fn decode_from<L: Ledger>(alloc: Global, bytes: &[u8], blank: Blank) -> Result<R
 /// Otherwise the first test that fails: `TooLong` first; then field by field in order `Short` where the bytes
 /// end before the field does, else its own refusal; right after the source's bytes `Source` where it is not
 /// accepted, then `Range` with `Version`, at 4, where the version is not the one that it asks for; `Trailing`
-/// last. `Memory` is want of memory.
+/// last. `Memory` is want of memory, which nothing before the source takes: it comes only where no test up to the
+/// source's bytes fails.
 pub fn decode(alloc: Global, bytes: &[u8]) -> Result<Recording, BadBytes>
     ensures ok { IfOk result (IsDecoded bytes.now) }
     ensures again { IfOk result (λ r. AreLawful r.source r.header r.logs) }
     ensures valid { IfOk result (λ r. IsValid r.program) }
     ensures plan { IfOk result (λ r. IsValidPlan r.program r.plan) }
     ensures err { IfErr result (λ e. e ≢ BadBytes.Memory → IsBad bytes.now e) }
+    ensures early { IfErr result (λ e. e ≡ BadBytes.Memory → IsPastFront bytes.now) }
 {
     decode_from::<Brand>(alloc, bytes, Blank::new(1))
 }

@@ -1,4 +1,4 @@
-ghost use Rattle.std.specs.Prelude.{◌≡◌, ◌+◌, ◌<◌, ◌≤◌, ◌^◌, length, IfErr, IfOk};
+ghost use Rattle.std.specs.Prelude.{◌≡◌, ◌≢◌, ◌+◌, ◌<◌, ◌≤◌, ◌^◌, length, IfErr, IfOk};
 ghost use Rattle.ppd_codec.specs.Came.{Came, Refuses};
 ghost use Rattle.ppd_codec.specs.Form.{coded};
 ghost use Rattle.ppd_codec.specs.Format.{budget as budget_form, leaf as leaf_form, loops as loops_form, magic as magic_form, version as version_form, source_length as source_length_form, process_count as process_count_form, tag as tag_form, tags, tag_code, sync_kind as sync_kind_form, sync_number as sync_number_form, sync_value as sync_value_form, end_status, cell as cell_form, is_next as is_next_of, fits_kind as fits_kind_of, kinds, kind_code, statuses, status_code};
@@ -18,6 +18,7 @@ impl<'a> Cursor<'a> {
         requires { self.old.at + length self.old.rest.now < 2 ^ 32 }
         ensures ok { IfOk result (Came magic_form.read self.old.at self.old.rest.now self.new.at self.new.rest.now) }
         ensures err { IfErr result (Refuses magic_form.read self.old.at self.old.rest.now) }
+        ensures early { IfErr result (λ e. e ≢ BadBytes.Memory) }
         ensures within { self.new.at + length self.new.rest.now ≤ self.old.at + length self.old.rest.now }
         ensures cost { steps.new + length self.new.rest.now ≤ steps.old + length self.old.rest.now }
     {
@@ -33,6 +34,7 @@ impl<'a> Cursor<'a> {
         requires { self.old.at + length self.old.rest.now < 2 ^ 32 }
         ensures ok { IfOk result (Came version_form.read self.old.at self.old.rest.now self.new.at self.new.rest.now) }
         ensures err { IfErr result (Refuses version_form.read self.old.at self.old.rest.now) }
+        ensures early { IfErr result (λ e. e ≢ BadBytes.Memory) }
         ensures within { self.new.at + length self.new.rest.now ≤ self.old.at + length self.old.rest.now }
         ensures cost { steps.new + length self.new.rest.now ≤ steps.old + length self.old.rest.now }
     {
@@ -50,6 +52,7 @@ impl<'a> Cursor<'a> {
         ensures ok { IfOk result (Came budget_form.read self.old.at self.old.rest.now self.new.at self.new.rest.now) }
         ensures most { IfOk result (λ n. n ≤ MOST_BUDGET) }
         ensures err { IfErr result (Refuses budget_form.read self.old.at self.old.rest.now) }
+        ensures early { IfErr result (λ e. e ≢ BadBytes.Memory) }
         ensures within { self.new.at + length self.new.rest.now ≤ self.old.at + length self.old.rest.now }
         ensures cost { steps.new + length self.new.rest.now ≤ steps.old + length self.old.rest.now }
     {
@@ -67,6 +70,7 @@ impl<'a> Cursor<'a> {
         ensures ok { IfOk result (Came leaf_form.read self.old.at self.old.rest.now self.new.at self.new.rest.now) }
         ensures most { IfOk result (λ n. n ≤ MOST_POLICY) }
         ensures err { IfErr result (Refuses leaf_form.read self.old.at self.old.rest.now) }
+        ensures early { IfErr result (λ e. e ≢ BadBytes.Memory) }
         ensures within { self.new.at + length self.new.rest.now ≤ self.old.at + length self.old.rest.now }
         ensures cost { steps.new + length self.new.rest.now ≤ steps.old + length self.old.rest.now }
     {
@@ -84,6 +88,7 @@ impl<'a> Cursor<'a> {
         ensures ok { IfOk result (Came loops_form.read self.old.at self.old.rest.now self.new.at self.new.rest.now) }
         ensures most { IfOk result (λ n. n ≤ MOST_POLICY) }
         ensures err { IfErr result (Refuses loops_form.read self.old.at self.old.rest.now) }
+        ensures early { IfErr result (λ e. e ≢ BadBytes.Memory) }
         ensures within { self.new.at + length self.new.rest.now ≤ self.old.at + length self.old.rest.now }
         ensures cost { steps.new + length self.new.rest.now ≤ steps.old + length self.old.rest.now }
     {
@@ -102,6 +107,7 @@ impl<'a> Cursor<'a> {
             (Came source_length_form.read self.old.at self.old.rest.now self.new.at self.new.rest.now) }
         ensures most { IfOk result (λ n. n ≤ MOST_SOURCE_BYTES) }
         ensures err { IfErr result (Refuses source_length_form.read self.old.at self.old.rest.now) }
+        ensures early { IfErr result (λ e. e ≢ BadBytes.Memory) }
         ensures within { self.new.at + length self.new.rest.now ≤ self.old.at + length self.old.rest.now }
         ensures cost { steps.new + length self.new.rest.now ≤ steps.old + length self.old.rest.now }
     {

@@ -1,4 +1,4 @@
-ghost use Rattle.std.specs.Prelude.{◌≡◌, ◌+◌, ◌<◌, ◌≤◌, ◌^◌, length, IfErr, IfOk};
+ghost use Rattle.std.specs.Prelude.{◌≡◌, ◌≢◌, ◌+◌, ◌<◌, ◌≤◌, ◌^◌, length, IfErr, IfOk};
 ghost use Rattle.ppd_ast.specs.declared.limits.TheConstants.{MOST_BUDGET};
 ghost use Rattle.ppd_ast.specs.ValidPlan.{IsValidPolicy};
 ghost use Rattle.ppd_codec.specs.Came.{Came, Refuses};
@@ -26,6 +26,7 @@ impl<'a> Cursor<'a> {
         ensures ok { IfOk result
             (λ s. Came source_form.read self.old.at self.old.rest.now self.new.at self.new.rest.now s.now) }
         ensures err { IfErr result (Refuses source_form.read self.old.at self.old.rest.now) }
+        ensures early { IfErr result (λ e. e ≢ BadBytes.Memory) }
         ensures within { self.new.at + length self.new.rest.now ≤ self.old.at + length self.old.rest.now }
         ensures cost { steps.new + length self.new.rest.now ≤ steps.old + length self.old.rest.now }
     {
@@ -48,6 +49,7 @@ impl<'a> Cursor<'a> {
         ensures policy { IfOk result (λ f. IsValidPolicy f.header.policy) }
         ensures budget { IfOk result (λ f. f.header.budget ≤ MOST_BUDGET) }
         ensures err { IfErr result (Refuses front_form.read self.old.at self.old.rest.now) }
+        ensures early { IfErr result (λ e. e ≢ BadBytes.Memory) }
         ensures within { self.new.at + length self.new.rest.now ≤ self.old.at + length self.old.rest.now }
         ensures cost { steps.new + length self.new.rest.now ≤ steps.old + length self.old.rest.now }
     {

@@ -1,5 +1,5 @@
 use crate::wanted::{Found, Wanted};
-use ppd_ast::Seq;
+use ppd_ast::{Memory, Seq};
 use ppd_model::Item;
 
 /// What the replay of an interval gives: its items in order.
@@ -21,4 +21,15 @@ pub enum EmulError {
     },
     /// Want of memory.
     Memory,
+}
+
+impl From<Memory> for EmulError {
+    ghost use Rattle.std.specs.Prelude.{◌≡◌};
+    ghost use Rattle.ppd_emul.specs.declared.trace.EmulError.TheVariants as emul_error;
+
+    ghost from_gives = { λ _ e. e ≡ emul_error.Memory };
+
+    fn from(_memory: Memory) -> EmulError {
+        EmulError::Memory
+    }
 }

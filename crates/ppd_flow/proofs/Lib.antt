@@ -1,4 +1,5 @@
 mod Answered
+mod Costing
 mod Events
 mod ItemEdges
 pub mod OfRuns

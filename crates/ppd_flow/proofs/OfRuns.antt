@@ -36,10 +36,10 @@ use Rattle.ppd_flow.specs.Runs.{AnswersAreOfRuns, GivesEdges, GivesLast, IsOfRun
 -- ---- processes one after another
 
 module _ (program : Program) (plan : Plan) (budget : ℕ) (s : Story) where
-  abbrev rows : ℕ → List (List Moment) → List (List Entry)
+  abbrev pub rows : ℕ → List (List Moment) → List (List Entry)
   rows k ms = map closed_log (logs_from program plan budget k ms)
 
-  abbrev parts : ℕ → List (List Moment) → List Split
+  abbrev pub parts : ℕ → List (List Moment) → List Split
   parts k ms = splits_from program plan budget s k (map (λ m. steps_of m) ms)
 
   all_from : (f : List Entry → Seen) (k : ℕ) (ms : List (List Moment))
@@ -75,7 +75,7 @@ module _ (law : ReplaysAreSeen) (past : Past) (policy : Policy) (h : List ℕ) (
       → (p : ℕ) (x : Split) → slice_get (splits program pl budget (story program pl budget h)) p ≡ Some x
       → IsSeen program pl budget (get_or (closed_logs program pl budget h).lists p []) x
 
-  is_seen : (p : ℕ) (x : Split) → slice_get (splits_in past h) p ≡ Some x → IsSeen program plan budget (get_or (closed_logs program plan budget h).lists p []) x
+  pub is_seen : (p : ℕ) (x : Split) → slice_get (splits_in past h) p ≡ Some x → IsSeen program plan budget (get_or (closed_logs program plan budget h).lists p []) x
   is_seen = subst (λ pl. Gives pl) (sym r.plan_is) (λ whole free p x e. law program policy budget h p x v whole free e) r.whole r.no_race
 
   pub seens_are : seens_in past ≡ all_seen program plan budget h

@@ -1,5 +1,5 @@
 -- What the answers are of what is kept of a whole run without a race.
-use Rattle.std.specs.Prelude.{◌≡◌, ℕ, ◌<◌, ℤ, List, [], length, slice_get, Option, Some, None, Result, Ok, Err}
+use Rattle.std.specs.Prelude.{◌≡◌, ℕ, ◌+◌, ◌*◌, ◌<◌, ◌≤◌, ℤ, List, [], length, slice_get, Option, Some, None, Result, Ok, Err}
 use Rattle.ppd_ast.specs.declared.plan.Policy.{Policy}
 use Rattle.ppd_ast.specs.Valid.{IsValid}
 use Rattle.ppd_blocks.specs.Blocks.{plan_of}
@@ -8,6 +8,7 @@ use Rattle.ppd_model.specs.declared.flow.Origin.{Origin}
 use Rattle.ppd_model.specs.FlowbackEdges.{edges, last}
 use Rattle.ppd_model.specs.Intervals.{Split, splits}
 use Rattle.ppd_model.specs.Logs.{closed_logs}
+use Rattle.ppd_model.specs.NearIntervals.{last_steps, near_steps}
 use Rattle.ppd_model.specs.Races.{races}
 use Rattle.ppd_model.specs.Schedule.{IsWhole}
 use Rattle.ppd_model.specs.declared.tracing.Story.{Story}
@@ -51,6 +52,23 @@ GivesEdges past p k j result =
     (policy : Policy) (h : List ℕ) (x : Split) → IsOfRun past policy h
     → slice_get (splits_in past h) p ≡ Some x
     → IsMemoryOr (edges_or_none (edges past.program.now past.plan.now past.budget (story_in past h) p k j)) result
+
+-- where n edges are answered for an item of a process in the run, the counter rose by at most 2 (n + 1) times the own
+-- steps of the intervals near to the item
+abbrev pub CostsEdges : Past → (p k j before after : ℕ) → Result (List FlowEdge) FlowError → Type 0
+CostsEdges past p k j before after result =
+    (policy : Policy) (h : List ℕ) (x : Split) (es : List FlowEdge) → IsOfRun past policy h
+    → slice_get (splits_in past h) p ≡ Some x → result ≡ Ok es
+    → after ≤ before
+    + 2 * (length es + 1) * near_steps past.program.now past.plan.now past.budget (story_in past h) p k j
+
+-- where a last value is answered, the counter rose by at most the own steps of the intervals of the writer's process
+-- that are open in the internal edge of the last write, and so by nothing where it is the start value
+abbrev pub CostsLast : Past → (c before after : ℕ) → Result (ℤ × Origin) FlowError → Type 0
+CostsLast past c before after result =
+    (policy : Policy) (h : List ℕ) (answer : ℤ × Origin) → IsOfRun past policy h → c < length past.program.now.starts
+    → result ≡ Ok answer
+    → after ≤ before + last_steps past.program.now past.plan.now past.budget (story_in past h) c
 
 -- where what is found of an item within its process is as in the run, the answer is the edges of the item in the run,
 -- or that there is no such item, or want of memory

@@ -1,6 +1,6 @@
 ghost use Rattle.std.specs.Prelude.{◌≡◌, ◌<◌, ◌∷◌, ◌++◌, [], length, Ok, OnOk, Some, option_to_list};
 ghost use Rattle.ppd_flow.specs.Answers.{IsEdges, pair_edge_at, pair_replays_at};
-ghost use Rattle.ppd_flow.specs.Runs.{GivesEdges};
+ghost use Rattle.ppd_flow.specs.Runs.{CostsEdges, GivesEdges};
 ghost use Rattle.ppd_local.specs.Searches.{IsPlace};
 ghost use Rattle.ppd_model.specs.declared.flow.EdgeKind.TheVariants as edge_kind;
 ghost use Rattle.ppd_model.specs.FlowbackEdges.{bare_edge};
@@ -13,6 +13,7 @@ use crate::reads::read_edges;
 use ppd_ast::{Memory, Seq, Steps};
 use ppd_local::{Place, Search, control_edge};
 use ppd_model::{EdgeKind, FlowEdge, Item, Origin};
+use ppd_near::edges_cost_little;
 use ppd_own_loops::all_own_parts_are_found;
 use ppd_past::{FlowError, Past, replays_are_seen};
 use ppd_sem::Event;
@@ -194,7 +195,10 @@ fn edges_found<L: Ledger>(
 /// that it ends writes it nowhere. `Memory` is want of memory, also for items that have no 32-bit numbers.
 ///
 /// Of what is kept of a whole run without a race, under the plan of a policy, the answer is the
-/// item's edges in the run, or `NoEvent` exactly where there is no such item, or `Memory`.
+/// item's edges in the run, or `NoEvent` exactly where there is no such item, or `Memory`; and where it has n edges, the
+/// counter rose by at most 2 (n + 1) times the own steps of the intervals near to the item: those round it with the
+/// loops directly inside these, those open in the item's internal edge, and of each edge's origin its interval and those
+/// open in its internal edge.
 pub fn edges<L: Ledger>(
     alloc: Global,
     past: &Past,
@@ -206,9 +210,11 @@ pub fn edges<L: Ledger>(
     requires { IsPast past.now }
     ensures found { IsEdges past.now process interval item steps.old steps.new result }
     ensures run { GivesEdges past.now process interval item result }
+    ensures cost { CostsEdges past.now process interval item steps.old steps.new result }
 {
     replays_are_seen();
     edges_are_found();
     all_own_parts_are_found();
+    edges_cost_little();
     edges_found(alloc, past, process, interval, item, steps)
 }

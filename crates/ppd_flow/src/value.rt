@@ -1,4 +1,4 @@
-ghost use Rattle.ppd_flow.specs.Runs.{GivesLast};
+ghost use Rattle.ppd_flow.specs.Runs.{CostsLast, GivesLast};
 ghost use Rattle.ppd_past.specs.ByReplays.{IsFoundBy};
 ghost use Rattle.ppd_past.specs.Pasts.{IsPast};
 ghost use Rattle.ppd_search.specs.Shared.{found_last, last_replays};
@@ -6,6 +6,7 @@ ghost use Rattle.ppd_walk.specs.SharedCells.{answer_of, seens_in};
 
 use ppd_ast::Steps;
 use ppd_model::Origin;
+use ppd_near::last_costs_little;
 use ppd_past::{FlowError, Past, replays_are_seen};
 use ppd_shared_edges::last_writes_are_found;
 use ppd_walk::last_write;
@@ -35,7 +36,8 @@ fn last_found<L: Ledger>(
 /// this entry has the cell, and the replay of the internal edge that it ends writes it nowhere. `Memory` is want of
 /// memory, also for items that have no 32-bit numbers. `NoEvent` never comes. Of what is kept of a whole run without a
 /// race, under the plan of a policy, the answer is the last value in the run with the item of its last write, or
-/// `Memory`.
+/// `Memory`; the counter rose by at most the own steps of the intervals of the writer's process that are open in the
+/// internal edge of the last write, and not at all for a start value.
 pub fn last<L: Ledger>(
     alloc: Global,
     past: &Past,
@@ -48,8 +50,10 @@ pub fn last<L: Ledger>(
         (answer_of (found_last past.now.program.now past.now.logs.now (seens_in past.now) cell))
         steps.old steps.new result }
     ensures run { GivesLast past.now cell result }
+    ensures cost { CostsLast past.now cell steps.old steps.new result }
 {
     replays_are_seen();
     last_writes_are_found();
+    last_costs_little();
     last_found(alloc, past, cell, steps)
 }

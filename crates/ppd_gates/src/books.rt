@@ -4,9 +4,9 @@ ghost use Rattle.ppd_ast.specs.Valid.{IsValid};
 ghost use Rattle.ppd_ast.specs.ValidPlan.{IsValidPlan};
 ghost use Rattle.ppd_ast.specs.declared.limits.TheConstants.{MOST_BUDGET};
 
-use ppd_ast::{Memory, Plan, Policy, Program};
+use ppd_ast::{Bytes, Memory, Plan, Policy, Program};
 use ppd_blocks::partition;
-use ppd_book::{Book, Job, Kept, Ran, Turn};
+use ppd_book::{Book, Commit, Job, Kept, Ran, Turn, View};
 use ppd_check::read_source;
 use ppd_world::World;
 use std::alloc::Global;
@@ -15,6 +15,8 @@ use std::sync::Wait;
 use std::test::Fail;
 use std::thread;
 use std::thread::Threads;
+
+const TWO_WRITES: &str = "process a { int i; i = 1; i = 2; } process b { }";
 
 const SOURCE: &str = "sem s; process a { P(s); print(1); } process b { V(s); print(2); }";
 
@@ -44,6 +46,53 @@ fn keep<J: Job>(
     }
     let ran = kept.close()?;
     Ok((turns, ran))
+}
+
+/// A view of worker 0, which goes on while it can if `goes` is set; then what these workers' turns do, the
+/// commit, and the schedule so far.
+fn look_and_commit<J: Job>(
+    alloc: Global,
+    program: &Program,
+    plan: &Plan,
+    goes: bool,
+    workers: &[u8],
+) -> Result<(Vec<Turn>, Commit, Bytes), Memory>
+    requires program { IsValid program.now }
+    requires plan { IsValidPlan program.now plan.now }
+    requires of_program { program.now ≡ J.program }
+    requires of_plan { plan.now ≡ J.plan }
+    requires of_budget { 1000 ≡ J.budget }
+{
+    let world = World::new(alloc, program, plan, 1_000)?;
+    let mut kept: Kept<'_, J> = Kept::new(alloc, world);
+    let Some(mut view) = kept.view(0)? else {
+        return Ok((Vec::new(alloc), Commit::Stale, Bytes::new(alloc)));
+    };
+    if goes {
+        go_on(&mut view)?;
+    }
+    let mut turns = Vec::new(alloc);
+    for worker in workers {
+        let turn = kept.turn(*worker)?;
+        if turns.push(turn).is_err() {
+            return Err(Memory);
+        }
+    }
+    let commit = kept.commit(view)?;
+    let mut schedule = Bytes::new(alloc);
+    for number in &kept.schedule {
+        schedule.push(*number)?;
+    }
+    Ok((turns, commit, schedule))
+}
+
+fn go_on<J: Job>(view: &mut View<'_, J>) -> Result<(), Memory> {
+    for _ in 0..100 {
+        if view.more() {
+            view.advance()?;
+        }
+    }
+    Ok(())
 }
 
 /// Two turns of a worker in a thread of its own, and the run after them.
@@ -97,6 +146,19 @@ fn kept(
     keep::<Brand>(alloc, program, plan, budget, workers)
 }
 
+fn committed(
+    alloc: Global,
+    program: &Program,
+    plan: &Plan,
+    goes: bool,
+    workers: &[u8],
+) -> Result<(Vec<Turn>, Commit, Bytes), Memory>
+    requires program { IsValid program.now }
+    requires plan { IsValidPlan program.now plan.now }
+{
+    look_and_commit::<Brand>(alloc, program, plan, goes, workers)
+}
+
 fn lent<R: Threads + Wait + Sync>(
     rt: &R,
     alloc: Global,
@@ -141,6 +203,33 @@ fn a_close_takes_what_is_left(rt: HostRuntime) -> Result<(), Fail> {
     let plan = partition(alloc, &program, &Policy { leaf: 0, loops: 0 })?;
     let (_, ran) = kept(alloc, &program, &plan, 1_000, &[])?;
     assert_eq!(rt; ran.schedule.as_slice(), [1, 0, 0, 0, 1, 1].as_slice());
+    Ok(())
+}
+
+// The process was stepped after it was copied, so nothing is committed.
+#[test]
+fn a_commit_compares(rt: HostRuntime) -> Result<(), Fail> {
+    let alloc = rt.alloc();
+    let program = read_source(alloc, TWO_WRITES.as_bytes())?;
+    let plan = partition(alloc, &program, &Policy { leaf: 0, loops: 0 })?;
+    let (turns, commit, schedule) = committed(alloc, &program, &plan, false, &[1, 1])?;
+    let told = [Turn::Stepped(1), Turn::Stepped(0)];
+    assert_eq!(rt; turns.as_slice(), told.as_slice());
+    assert_eq!(rt; commit, Commit::Stale);
+    assert_eq!(rt; schedule.as_slice(), [1, 0].as_slice());
+    Ok(())
+}
+
+// Three steps on a copy, while another process ends.
+#[test]
+fn a_view_goes_on(rt: HostRuntime) -> Result<(), Fail> {
+    let alloc = rt.alloc();
+    let program = read_source(alloc, TWO_WRITES.as_bytes())?;
+    let plan = partition(alloc, &program, &Policy { leaf: 0, loops: 0 })?;
+    let (turns, commit, schedule) = committed(alloc, &program, &plan, true, &[1])?;
+    assert_eq!(rt; turns.as_slice(), [Turn::Stepped(1)].as_slice());
+    assert_eq!(rt; commit, Commit::Done);
+    assert_eq!(rt; schedule.as_slice(), [1, 0, 0, 0].as_slice());
     Ok(())
 }
 

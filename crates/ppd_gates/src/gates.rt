@@ -7,6 +7,7 @@ use ppd_io::{FreeGate, Gate, MemoryShelf, MemorySink, MemorySource};
 use ppd_run::run;
 use ppd_top::ppd;
 use std::alloc::Global;
+use std::process::Abort;
 use std::sync::Wait;
 use std::sync::atomic::{AtomicU64, Ordering};
 use std::test::Fail;
@@ -18,18 +19,28 @@ const SOURCE: &str = "process a { print(1); } process b { print(2); }";
 const WRITTEN: &[u8] =
     b"process a ended steps 2\nprint a 1\nprocess b ended steps 2\nprint b 2\nraces 0\n";
 
-/// Holds worker 1 at its first pass until worker 0 has come to its first, and worker 0 there until worker 1
-/// has come to its fifth. Each waits for 1,000,000 yields at most.
+const TWO_WRITES: &str = "process a { int i; i = 1; i = 2; } process b { }";
+
+const TWO_ENDED: &[u8] = b"process a ended steps 4\nprocess b ended steps 1\nraces 0\n";
+
+/// Holds worker 1 at its first pass until worker 0 has come to so many passes, and worker 0 at the pass with this
+/// number, from 0, until worker 1 has come to so many. Each waits for 1,000,000 yields at most.
 #[derive(Drop)]
 struct Held {
+    least_of_zero: u64,
+    stop_of_zero: u32,
+    least_of_one: u64,
     zero: AtomicU64,
     one: AtomicU64,
     gave_up: AtomicU64,
 }
 
 impl Held {
-    fn new() -> Held {
+    fn new(least_of_zero: u64, stop_of_zero: u32, least_of_one: u64) -> Held {
         Held {
+            least_of_zero,
+            stop_of_zero,
+            least_of_one,
             zero: AtomicU64::new(0),
             one: AtomicU64::new(0),
             gave_up: AtomicU64::new(0),
@@ -52,10 +63,10 @@ impl Gate for Held {
     fn pass(&self, worker: u8, turn: u32) {
         let own = if worker == 0 { &self.zero } else { &self.one };
         own.store(u64::from(turn) + 1, Ordering::SeqCst);
-        if turn == 0 && worker == 0 {
-            self.wait_for(&self.one, 5);
-        } else if turn == 0 {
-            self.wait_for(&self.zero, 1);
+        if worker == 0 && turn == self.stop_of_zero {
+            self.wait_for(&self.one, self.least_of_one);
+        } else if worker != 0 && turn == 0 {
+            self.wait_for(&self.zero, self.least_of_zero);
         }
     }
 }
@@ -82,18 +93,54 @@ fn flow<G: Gate, R: Threads + Wait + Sync>(
     Ok((outcome.status, bytes, outcome.schedule.into_vec()))
 }
 
-// Worker 1 takes its own two steps and, with nothing left of its own, those of process 0, whose worker is
+/// Runs a source whose workers pass this gate, and compares what the top call answers.
+fn expect_flow<R: Abort + Threads + Wait + Sync>(
+    rt: &R,
+    alloc: Global,
+    source: &str,
+    gate: &Held,
+    told: (&[u8], &[u8]),
+) -> Result<(), Fail> {
+    let (status, written, schedule) = flow(rt, alloc, source, gate)?;
+    assert_eq!(rt; gate.gave_up.load(Ordering::SeqCst), 0);
+    assert_eq!(rt; status, 0);
+    assert_eq!(rt; written.as_slice(), told.0);
+    assert_eq!(rt; schedule.as_slice(), told.1);
+    Ok(())
+}
+
+// Worker 1 takes its own two steps and, with nothing left of its own, the first of process 0, whose worker is
 // held: all by the threads, since the caller waits for both. It is the schedule that the program answers.
 #[test]
 fn workers_run_beside_each_other(rt: HostRuntime) -> Result<(), Fail> {
-    let alloc = rt.alloc();
-    let gate = Held::new();
-    let (status, written, schedule) = flow(&rt, alloc, SOURCE, &gate)?;
-    assert_eq!(rt; gate.gave_up.load(Ordering::SeqCst), 0);
-    assert_eq!(rt; status, 0);
-    assert_eq!(rt; schedule.as_slice(), [1, 1, 0, 0].as_slice());
-    assert_eq!(rt; written.as_slice(), WRITTEN);
-    Ok(())
+    let gate = Held::new(1, 0, 5);
+    expect_flow(&rt, rt.alloc(), SOURCE, &gate, (WRITTEN, &[1, 1, 0, 0]))
+}
+
+// Worker 0 has its view and is held before the commit, while worker 1 takes its own step and two of process 0.
+#[test]
+fn a_stale_view_is_left(rt: HostRuntime) -> Result<(), Fail> {
+    let gate = Held::new(2, 1, 4);
+    expect_flow(
+        &rt,
+        rt.alloc(),
+        TWO_WRITES,
+        &gate,
+        (TWO_ENDED, &[1, 0, 0, 0, 0]),
+    )
+}
+
+// Worker 0 commits the three steps of its view while worker 1 is held, and is held before the end of its process.
+#[test]
+fn a_view_is_committed(rt: HostRuntime) -> Result<(), Fail> {
+    let gate = Held::new(3, 2, 2);
+    expect_flow(
+        &rt,
+        rt.alloc(),
+        TWO_WRITES,
+        &gate,
+        (TWO_ENDED, &[0, 0, 0, 1, 0]),
+    )
 }
 
 // A process alone has one schedule.

@@ -1,6 +1,7 @@
-/// What a worker passes before each turn, while it holds no lock.
+/// What a worker passes while it holds no lock: before it copies its process, before it commits steps of the copy,
+/// and before a turn that follows a commit in vain.
 pub trait Gate: Sync {
-    /// Called by this worker, from 0, before its turn of this number, from 0.
+    /// Called by this worker, from 0; `turn` counts its passes, from 0.
     fn pass(&self, worker: u8, turn: u32);
 }
 

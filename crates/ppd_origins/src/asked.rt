@@ -7,7 +7,8 @@ use ppd_ast::Steps;
 use ppd_flow::{edges, last};
 use ppd_model::Trace;
 use ppd_past::{Past, replayed};
-use ppd_why::{put_items, put_last, put_why};
+use ppd_session::why_text;
+use ppd_why::{put_items, put_last};
 use std::alloc::Global;
 use std::sync::ledger::Ledger;
 
@@ -47,12 +48,21 @@ fn put_edges<L: Ledger>(
 ) -> Option<()>
     requires { IsPast past.now }
 {
-    let (process, interval, item) = at;
+    let (process, interval, number) = at;
     let items = replayed(alloc, past, process, interval, steps).ok()?;
-    let found = edges(alloc, past, process, interval, item, steps).ok()?;
-    let place = item as usize;
-    let item = items.as_slice().get(place)?;
-    put_why(text, past.program, past.plan, place, item, found.as_slice()).ok()
+    let item = items.as_slice().get(number as usize)?;
+    let found = edges(alloc, past, process, interval, number, steps).ok()?;
+    let shown = why_text(
+        alloc,
+        past,
+        process,
+        interval,
+        number,
+        item,
+        found.as_slice(),
+    )
+    .ok()?;
+    text.extend_from_slice(&shown).ok()
 }
 
 fn put_final<L: Ledger>(

@@ -2,9 +2,9 @@
 #![tactic(auto)]
 
 #[cfg(test)]
-mod asked;
+mod answered;
 #[cfg(test)]
-mod ran;
+mod asked;
 #[cfg(test)]
 mod row_tests;
 #[cfg(test)]

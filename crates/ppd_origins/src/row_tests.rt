@@ -1,8 +1,9 @@
+use crate::answered::answers;
 use crate::asked::Asked;
-use crate::ran::{Row, answers, by_default};
 use crate::schedules::lowest_first;
 use Asked::{Final, Open, Why};
 use ppd_ast::Policy;
+use ppd_ran::{Row, by_default};
 use std::alloc::Global;
 use std::process::Abort;
 
@@ -66,8 +67,9 @@ fn lock_order(rt: HostRuntime) {
     check(&rt, rt.alloc(), &second, &asked, OTHER_LOCKS_TEXT);
 }
 
-const CHANNEL: &str =
-    "shared int x; chan c[1]; process a { send(c, 7); send(c, 8); x = 2; } process b { int v; print(x); v = recv(c); v = recv(c); }";
+const CHANNEL: &str = "\
+    shared int x; chan c[1]; process a { send(c, 7); send(c, 8); x = 2; } \
+    process b { int v; print(x); v = recv(c); v = recv(c); }";
 
 const CHANNEL_TEXT: &str = "item 1 stmt 1 1:50 send c value 8 number 2
 sync from b 0 2
@@ -175,8 +177,18 @@ fn loop_never_entered(rt: HostRuntime) {
     check(&rt, rt.alloc(), &row, &asked, LOOP_TEXT);
 }
 
-const RECURSION: &str =
-    "int f(int n) {\n  int r;\n  if (n > 0) {\n    r = f(n - 1);\n  }\n  return r + 1;\n}\nprocess a {\n  int v = f(2);\n  print(v);\n}\n";
+const RECURSION: &str = "int f(int n) {
+  int r;
+  if (n > 0) {
+    r = f(n - 1);
+  }
+  return r + 1;
+}
+process a {
+  int v = f(2);
+  print(v);
+}
+";
 
 const RECURSION_TEXT: &str = "item 2 stmt 5 10:3 print read v=3 value 3
 read v=3 from a 1 4
@@ -202,8 +214,15 @@ fn recursion(rt: HostRuntime) {
     );
 }
 
-const CIRCUIT: &str =
-    "shared int a[2];\nprocess p {\n  int i;\n  a[0] = 5;\n  a[1] = 6;\n  while (i < 2 && a[i] != 0) { i = i + 1; }\n  print(i);\n}\n";
+const CIRCUIT: &str = "shared int a[2];
+process p {
+  int i;
+  a[0] = 5;
+  a[1] = 6;
+  while (i < 2 && a[i] != 0) { i = i + 1; }
+  print(i);
+}
+";
 
 const CIRCUIT_TEXT: &str = "item 5 stmt 3 6:3 test read i=1 read i=1 read a[1]=6 value 1
 read i=1 from p 0 4
@@ -215,8 +234,15 @@ read i=2 from p 0 6
 control from p 0 5
 ";
 
-const TRAP: &str =
-    "shared int a[2];\nprocess p {\n  int i;\n  a[0] = 5;\n  a[1] = 6;\n  while (a[i] != 0) { i = i + 1; }\n  print(i);\n}\n";
+const TRAP: &str = "shared int a[2];
+process p {
+  int i;
+  a[0] = 5;
+  a[1] = 6;
+  while (a[i] != 0) { i = i + 1; }
+  print(i);
+}
+";
 
 const TRAP_TEXT: &str = "item 7 stmt 3 6:3 test read i=2 trap index
 read i=2 from p 0 6
@@ -315,8 +341,45 @@ fn unfinished(rt: HostRuntime) {
     check(&rt, rt.alloc(), &offer, &[Open(0, 0)], sent);
 }
 
-const BUFFER: &str =
-    "shared int buf[4];\nshared int head, tail;\nsem empty = 4, full = 0, m = 1;\n\nvoid put(int v) {\n  P(empty);\n  P(m);\n  buf[tail % 4] = v;\n  tail = tail + 1;\n  V(m);\n  V(full);\n}\n\nint get() {\n  int v;\n  P(full);\n  P(m);\n  v = buf[head % 4];\n  head = head + 1;\n  V(m);\n  V(empty);\n  return v;\n}\n\nprocess producer {\n  for (int i = 0; i < 100; i++) {\n    int w = i;\n    if (i == 57) { w = 0; }\n    put(w);\n  }\n}\n\nprocess consumer {\n  for (int i = 0; i < 100; i++) {\n    int v = get();\n    assert(v == i);\n  }\n}\n";
+const BUFFER: &str = "shared int buf[4];
+shared int head, tail;
+sem empty = 4, full = 0, m = 1;
+
+void put(int v) {
+  P(empty);
+  P(m);
+  buf[tail % 4] = v;
+  tail = tail + 1;
+  V(m);
+  V(full);
+}
+
+int get() {
+  int v;
+  P(full);
+  P(m);
+  v = buf[head % 4];
+  head = head + 1;
+  V(m);
+  V(empty);
+  return v;
+}
+
+process producer {
+  for (int i = 0; i < 100; i++) {
+    int w = i;
+    if (i == 57) { w = 0; }
+    put(w);
+  }
+}
+
+process consumer {
+  for (int i = 0; i < 100; i++) {
+    int v = get();
+    assert(v == i);
+  }
+}
+";
 
 const BUFFER_TEXT: &str = "item 289 stmt 26 36:5 assert read v=0 read i=57 value 0 trap assert
 read v=0 from consumer 58 7
@@ -375,7 +438,14 @@ x=2 from a 0 2
 #[test]
 fn rendezvous_flow(rt: HostRuntime) {
     let asked = [Why(0, 0, 0), Why(0, 0, 1), Why(1, 0, 2), Final];
-    for schedule in [[0, 1, 1, 1, 1, 0, 0, 0, 1], [1, 1, 1, 0, 1, 1, 0, 0, 0]] {
+    let schedules = [
+        [0, 1, 1, 1, 1, 0, 0, 0, 1],
+        [1, 0, 1, 1, 1, 0, 0, 1, 0],
+        [1, 1, 0, 1, 1, 0, 1, 0, 0],
+        [1, 1, 1, 0, 1, 0, 0, 0, 1],
+        [1, 1, 1, 0, 1, 1, 0, 0, 0],
+    ];
+    for schedule in schedules {
         check(
             &rt,
             rt.alloc(),

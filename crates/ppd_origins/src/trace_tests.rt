@@ -1,6 +1,7 @@
+use crate::answered::{answers, trace_of};
 use crate::asked::Asked;
-use crate::ran::{Row, answers, by_default, trace_of};
 use ppd_ast::Policy;
+use ppd_ran::{Row, by_default};
 use std::alloc::Global;
 use std::process::Abort;
 
@@ -12,8 +13,10 @@ fn compare(rt: &impl Abort, alloc: Global, row: &Row, schedule: &[u8], text: &st
     assert_eq!(rt; found.as_slice(), text.as_bytes());
 }
 
-const CALLS: &str =
-    "shared int x; sem s; int f(int n) { int r; if (n > 0) { r = f(n - 1); } return r + x; } process a { x = 1; int v = f(2); x = v; V(s); } process b { int i; P(s); while (i < x) { i = i + 1; } }";
+const CALLS: &str = "\
+    shared int x; sem s; int f(int n) { int r; if (n > 0) { r = f(n - 1); } return r + x; } \
+    process a { x = 1; int v = f(2); x = v; V(s); } \
+    process b { int i; P(s); while (i < x) { i = i + 1; } }";
 
 // Calls within calls, a loop, and a cell that goes from one process to the other.
 #[test]
@@ -60,8 +63,9 @@ fn calls_and_an_interval_of_a_loop(rt: HostRuntime) {
     );
 }
 
-const CHANNEL: &str =
-    "shared int x; chan c[1]; process a { send(c, 7); send(c, 8); x = 2; } process b { int v; print(x); v = recv(c); v = recv(c); }";
+const CHANNEL: &str = "\
+    shared int x; chan c[1]; process a { send(c, 7); send(c, 8); x = 2; } \
+    process b { int v; print(x); v = recv(c); v = recv(c); }";
 
 const RENDEZVOUS: &str =
     "shared int x; chan c[0]; process a { send(c, 7); x = 2; } process b { int v; print(x); v = recv(c); }";

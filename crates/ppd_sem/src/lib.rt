@@ -4,6 +4,7 @@
 mod asking;
 mod at_block;
 mod blocks;
+mod copying;
 mod cost;
 mod describing;
 mod effect;

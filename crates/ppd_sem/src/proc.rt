@@ -84,7 +84,7 @@ pub enum Answer {
 }
 
 /// An activation: its body, its local cells and the `Call` statement that began it, if any.
-#[derive(Drop, Debug)]
+#[derive(Drop, Debug, PartialEq)]
 pub struct Frame {
     pub body: u16,
     pub cells: Nums,

@@ -1,4 +1,5 @@
 ghost use Rattle.std.specs.Prelude.{◌≡◌, length, [], ◌∷◌, ◌++◌, ◌<◌, drop, OnOk, OnErr, reverse, slice_get, IfSome, IfNone};
+ghost use Rattle.std.specs.Bool.{Decides};
 ghost use Rattle.std.specs.Option.{option_copied};
 
 use ppd_ast::Memory;
@@ -120,5 +121,15 @@ impl<T: Drop> Stack<T> {
         ensures none { IfNone result ((self.old ≡ []) × (self.new ≡ [])) }
     {
         self.items.pop()
+    }
+}
+
+impl<T: Drop + PartialEq> Stack<T> {
+    /// Whether both stacks hold equal items, where `==` of two items says whether they are equal.
+    pub(crate) fn is_same(&self, other: &Stack<T>) -> bool
+        requires { (a b : T) → Decides (T.eq a b) (a ≡ b) }
+        ensures { Decides result (self.now ≡ other.now) }
+    {
+        self.items == other.items
     }
 }

@@ -1,6 +1,6 @@
 -- Of a run no line is left without an answer: each of its intervals has its items.
 use Rattle.std.specs.Prelude.{None, Some, slice_get, if◌then◌else◌}
-use Rattle.std.proofs.Common.{◌≡◌, ℕ, zero, suc, ◌+◌, Bool, true, false, nat_eq, length, List, [], ◌∷◌, Option, Ok, Err, get_or, map, refl}
+use Rattle.std.proofs.Common.{◌≡◌, ℕ, zero, suc, ◌+◌, Bool, true, false, length, List, [], ◌∷◌, Option, Ok, Err, get_or, map, refl}
 use Rattle.ppd_ast.specs.declared.plan.Plan.{Plan}
 use Rattle.ppd_ast.specs.declared.program.Program.{Program}
 use Rattle.ppd_flow.specs.Runs.{edges_or_none}
@@ -16,7 +16,7 @@ use Rattle.ppd_session.specs.declared.question.Opening.{Opening}
 use Rattle.ppd_session.specs.Known.{Flow, Known, Last, Told, flow_told, known_of_run, last_told, of_cells, of_intervals, of_items, of_processes, told_of_split, unless_raced}
 use Rattle.ppd_session.specs.Laws.{RunsAreAnswered}
 use Rattle.ppd_session.specs.Questions.{question}
-use Rattle.ppd_session.specs.Texts.{failure_at, failure_if, failure_in, first_unfound, flow_at, is_final, item_failure, item_failure_of, opening_failure, opening_of, told_at, told_failure, unfound_flow}
+use Rattle.ppd_session.specs.Texts.{failure_at, failure_if, failure_in, first_unfound, is_final, item_failure, item_failure_of, opening_failure, opening_of, told_at, told_failure, unfound_flow}
 
 of_interval : (q : ℕ) (x : Split) (is : List Span) (k : ℕ) → failure_in q (slice_get (map (λ (i : Span). Ok (items_of x i)) is) k) ≡ None
 of_interval q x [] zero = refl

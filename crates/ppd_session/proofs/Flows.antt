@@ -1,8 +1,6 @@
 -- The edges of an item as replays give them.
-use Rattle.std.specs.Prelude.{Some, None, slice_get, if◌then◌else◌}
-use Rattle.std.proofs.Common.{◌≡◌, ℕ, zero, suc, ◌+◌, ◌<◌, nat_eq, true, List, [], ◌∷◌, get_or, length, Option, Result, Ok, Err, ap, sym, ◌∙◌, arith}
-use Rattle.ppd_ast.specs.declared.plan.Plan.{Plan}
-use Rattle.ppd_ast.specs.declared.program.Program.{Program}
+use Rattle.std.specs.Prelude.{Some, None, slice_get}
+use Rattle.std.proofs.Common.{◌≡◌, ℕ, zero, suc, ◌+◌, ◌<◌, List, [], ◌∷◌, get_or, length, Option, Result, Ok, Err, ap, sym, ◌∙◌, arith}
 use Rattle.ppd_entry.specs.declared.entry.At.{At}
 use Rattle.ppd_flow.specs.Answers.{answer_if}
 use Rattle.ppd_model.specs.declared.flow.FlowEdge.{FlowEdge}
@@ -14,7 +12,7 @@ use Rattle.ppd_past.specs.ByReplays.{IsFoundBy, first_failure}
 use Rattle.ppd_search.specs.Found.{edges_replays, found_edges}
 use Rattle.ppd_session.specs.Known.{Flow, Told, flow_by, of_cells, of_intervals, of_items, of_processes, unless_failed}
 use Rattle.ppd_session.specs.Sessions.{IsItemThere, known_by}
-use Rattle.ppd_session.specs.Texts.{flow_at, unfound_flow}
+use Rattle.ppd_session.specs.Texts.{flow_at}
 use Rattle.ppd_session.proofs.LastValues.{same_first}
 use Rattle.ppd_walk.specs.SharedCells.{IsMemoryOr, seens_in}
 

@@ -1,6 +1,6 @@
 -- What is known of the logs of a run is what is known of the run.
-use Rattle.std.specs.Prelude.{Some, None, option_map, slice_get, if◌then◌else◌}
-use Rattle.std.proofs.Common.{◌≡◌, ℕ, zero, suc, ◌+◌, ◌<◌, ◌≤◌, arith, nat_eq, Bool, true, false, List, [], ◌∷◌, Option, Ok, Err, get_or, length, map, refl, ap, sym, subst, ◌∙◌}
+use Rattle.std.specs.Prelude.{Some, None, option_map, slice_get}
+use Rattle.std.proofs.Common.{◌≡◌, ℕ, zero, suc, ◌+◌, ◌<◌, ◌≤◌, arith, List, [], ◌∷◌, Option, Ok, get_or, length, map, refl, ap, sym, ◌∙◌}
 use Rattle.std.proofs.lemmas.List.{length-map}
 use Rattle.ppd_ast.specs.Valid.{IsValid}
 use Rattle.ppd_ast.specs.declared.plan.Plan.{Plan}
@@ -38,10 +38,9 @@ use Rattle.ppd_shared_edges.proofs.Assembled.{assembled}
 use Rattle.ppd_shared_edges.proofs.Sources.LastOrigins.{last_found}
 use Rattle.ppd_shared_edges.specs.SharedEdges.{all_seen}
 use Rattle.ppd_past.proofs.Runs.{replays_are_seen}
-use Rattle.ppd_past.specs.declared.flow_error.FlowError.TheVariants as flow_error
 use Rattle.ppd_past.specs.ByReplays.{failure_or}
 use Rattle.ppd_past.specs.SeenBy.{failed_at, failure_of, seen_by}
-use Rattle.ppd_model.specs.FlowbackEdges.{edges, edges_in, last}
+use Rattle.ppd_model.specs.FlowbackEdges.{edges, edges_in}
 use Rattle.ppd_walk.specs.SharedCells.{answer_of}
 use Rattle.ppd_session.specs.Known.{Flow, Interval, Known, Last, Told, first_failed, flow_by, flow_told, of_processes, known_of_logs, known_of_run, last_by, last_told, of_cells, of_extent, of_span, of_split, seens, told_by, told_of_entries, told_of_split, unless_failed, unless_raced}
 

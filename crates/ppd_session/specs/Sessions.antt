@@ -1,5 +1,5 @@
 -- What is known of a past, which blocks may be kept of it, and why a line has no answer.
-use Rattle.std.specs.Prelude.{◌≡◌, ◌<◌, ℕ, length, List, ◌++◌, Contains, Option, Some, None, option_map, Result, Ok, Err, ⊤}
+use Rattle.std.specs.Prelude.{◌≡◌, ◌<◌, ℕ, length, List, ◌++◌, Contains, Option, Some, None, option_map, Ok, Err, ⊤}
 use Rattle.ppd_ast.specs.declared.program.Program.{Program}
 use Rattle.ppd_entry.specs.declared.entry.At.{At}
 use Rattle.ppd_model.specs.declared.flow.Item.{Item}

@@ -2,7 +2,8 @@
 ghost use Rattle.std.specs.Prelude.{◌≡◌, ◌++◌, None, OnOk, IfErr};
 ghost use Rattle.ppd_past.specs.Pasts.{IsPast};
 ghost use Rattle.ppd_session.specs.Sessions.{AreTold, IsWhy, known_by};
-ghost use Rattle.ppd_session.specs.Texts.{answer_text, blocks_text, failure, failure_if, opened_or, opening_of as opening_in, plain_text, statement_text};
+ghost use Rattle.ppd_session.specs.Texts.{answer_text, blocks_text, failure, failure_if, opened_or};
+ghost use Rattle.ppd_session.specs.Texts.{opening_of as opening_in, plain_text, statement_text};
 
 use crate::blocks::put_intervals;
 use crate::deps::put_deps;
@@ -93,10 +94,8 @@ fn put_answer_of(
     if let Some(opening) = opening_of(question) {
         return put_open(alloc, text, past, races, kept, opening);
     }
-    match put_plain(alloc, text, past, races, question) {
-        Ok(()) => Ok(()),
-        Err(Memory) => Err(SessionError::Memory),
-    }
+    put_plain(alloc, text, past, races, question)?;
+    Ok(())
 }
 
 /// Appends the answer to a question about a past with these races, of which these blocks are kept. It fails where a

@@ -34,7 +34,8 @@ fn put_interval(
     number: u32,
     interval: Interval,
 ) -> Result<(), Memory>
-    ensures { OnOk result (text.new.items ≡ text.old.items ++ interval_line program.now plan.now number (of_interval interval)) }
+    ensures { OnOk result
+        (text.new.items ≡ text.old.items ++ interval_line program.now plan.now number (of_interval interval)) }
 {
     put(text, b"block ")?;
     put_number(text, number)?;
@@ -56,7 +57,10 @@ fn put_interval_at(
     process: u8,
     number: u32,
 ) -> Result<(), Memory>
-    ensures { OnOk result (text.new.items ≡ text.old.items ++ shown_at program.now plan.now number (slice_get (rows_at index.now.tables process) number)) }
+    ensures { OnOk result
+        (text.new.items
+        ≡ text.old.items
+        ++ shown_at program.now plan.now number (slice_get (rows_at index.now.tables process) number)) }
 {
     match index.interval(process, number) {
         Some(interval) => put_interval(text, program, plan, number, interval),
@@ -72,7 +76,9 @@ pub(crate) fn put_intervals(
     index: &LogIndex,
     process: u8,
 ) -> Result<(), Memory>
-    ensures { OnOk result (text.new.items ≡ text.old.items ++ interval_lines program.now plan.now 0 (map of_row (rows_at index.now.tables process))) }
+    ensures { OnOk result
+        (text.new.items
+        ≡ text.old.items ++ interval_lines program.now plan.now 0 (map of_row (rows_at index.now.tables process))) }
 {
     for number in 0..index.count(process) {
         put_interval_at(text, program, plan, index, process, number)?;

@@ -96,7 +96,8 @@ fn put_edges_into(
 ) -> Result<(), Memory>
     requires graph { IsDepGraph program.now graph.now }
     requires there { stmt < length program.now.stmts }
-    ensures { OnOk result (text.new.items ≡ text.old.items ++ flat_map (edge_line program.now stmt) (edges_of program.now stmt)) }
+    ensures { OnOk result
+        (text.new.items ≡ text.old.items ++ flat_map (edge_line program.now stmt) (edges_of program.now stmt)) }
 {
     put_edges(text, program, stmt, graph.edges_into(stmt))
 }

@@ -9,7 +9,7 @@ ghost use Rattle.ppd_why.specs.Edges.{last_line};
 
 use crate::opening::{no_items, put_many_races};
 use crate::reply::SessionError;
-use ppd_ast::{Memory, Steps};
+use ppd_ast::Steps;
 use ppd_flow::last;
 use ppd_model::{Origin, Race};
 use ppd_past::Past;
@@ -60,10 +60,8 @@ fn put_line(
     ensures text { OnOk result (text.new.items ≡ text.old.items ++ last_line past.now.program.now cell found) }
     ensures error { IfErr result (λ e. e ≡ session_error.Memory) }
 {
-    match put_last(text, past.program, cell, found.0, found.1) {
-        Ok(()) => Ok(()),
-        Err(Memory) => Err(SessionError::Memory),
-    }
+    put_last(text, past.program, cell, found.0, found.1)?;
+    Ok(())
 }
 
 /// Appends the line of a shared cell.

@@ -23,3 +23,4 @@ pub use ppd_entry::At;
 pub use ppd_past::Past;
 pub use reply::{Reply, SessionError};
 pub use session::Session;
+pub use why::why_text;

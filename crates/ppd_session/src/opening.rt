@@ -1,12 +1,14 @@
 // The items of an interval, and one of them.
-ghost use Rattle.std.specs.Prelude.{◌≡◌, ◌<◌, ◌≤◌, ◌++◌, [], Some, None, Ok, IfOk, IfErr, IfSome, OnOk, is_some, length, nat_lt};
+ghost use Rattle.std.specs.Prelude.{◌≡◌, ◌<◌, ◌≤◌, ◌++◌, [], Some, None, Ok, IfOk, IfErr, IfSome, OnOk, is_some};
+ghost use Rattle.std.specs.Prelude.{length, nat_lt};
 ghost use Rattle.ppd_index.specs.Indexes.{rows_at};
 ghost use Rattle.ppd_past.specs.declared.flow_error.FlowError.TheVariants as flow_error;
 ghost use Rattle.ppd_past.specs.Pasts.{IsPast};
 ghost use Rattle.ppd_session.specs.Sessions.{AreTold, IsCause, IsWhy, error_of, known_by};
 ghost use Rattle.ppd_why.specs.Items.{open_text};
 ghost use Rattle.ppd_session.specs.declared.reply.SessionError.TheVariants as session_error;
-ghost use Rattle.ppd_session.specs.Texts.{failure_at, intervals_at, item_failure, items_text, opened_text, opening_failure, raced, told_at, told_failure, told_text};
+ghost use Rattle.ppd_session.specs.Texts.{failure_at, intervals_at, item_failure, items_text, opened_text};
+ghost use Rattle.ppd_session.specs.Texts.{opening_failure, raced, told_at, told_failure, told_text};
 
 use crate::kept::Kept;
 use crate::place::Place;
@@ -15,7 +17,7 @@ use crate::races::put_racy;
 use crate::refusing::put_refusal;
 use crate::reply::SessionError;
 use crate::why::put_item_of;
-use ppd_ast::{Memory, Seq, Steps};
+use ppd_ast::{Seq, Steps};
 use ppd_entry::At;
 use ppd_model::{Item, Race};
 use ppd_past::{FlowError, Past, replayed};
@@ -81,10 +83,8 @@ fn put_all(text: &mut Vec<u8>, past: &Past, items: &[Item]) -> Result<(), Sessio
         (text.new.items ≡ text.old.items ++ open_text past.now.program.now past.now.plan.now items.now) }
     ensures error { IfErr result (λ e. e ≡ session_error.Memory) }
 {
-    match put_items(text, past.program, past.plan, items) {
-        Ok(()) => Ok(()),
-        Err(Memory) => Err(SessionError::Memory),
-    }
+    put_items(text, past.program, past.plan, items)?;
+    Ok(())
 }
 
 /// Appends all items of an interval, or one of them with its edges.
@@ -204,10 +204,8 @@ pub(crate) fn put_many_races(text: &mut Vec<u8>, races: &[Race]) -> Result<(), S
     ensures text { OnOk result (text.new.items ≡ text.old.items ++ raced races.now []) }
     ensures error { IfErr result (λ e. e ≡ session_error.Memory) }
 {
-    match put_racy(text, races) {
-        Ok(()) => Ok(()),
-        Err(Memory) => Err(SessionError::Memory),
-    }
+    put_racy(text, races)?;
+    Ok(())
 }
 
 /// Appends what is asked of an interval, or how many races there are.

@@ -1,7 +1,11 @@
 // What a command line asks.
 ghost use Rattle.std.specs.Prelude.{◌≡◌, map};
 ghost use Rattle.ppd_ast.specs.Valid.{IsValid};
-ghost use Rattle.ppd_session.specs.Questions.{alone as alone_of, asked as asked_of, deps_of as deps_in, open_of as open_in, process_bodies as bodies_of, process_named as process_by_name, quits as quits_of, why_of as why_in, with_one as with_one_of, with_three as with_three_of, with_two as with_two_of};
+ghost use Rattle.ppd_session.specs.Questions.{alone as alone_of, asked as asked_of, deps_of as deps_in};
+ghost use Rattle.ppd_session.specs.Questions.{open_of as open_in, process_bodies as bodies_of};
+ghost use Rattle.ppd_session.specs.Questions.{process_named as process_by_name, quits as quits_of, why_of as why_in};
+ghost use Rattle.ppd_session.specs.Questions.{with_one as with_one_of, with_three as with_three_of};
+ghost use Rattle.ppd_session.specs.Questions.{with_two as with_two_of};
 ghost use Rattle.ppd_session.specs.Texts.{is_final as is_final_of, opening_of as opening_in};
 
 use ppd_ast::{Body, Program};

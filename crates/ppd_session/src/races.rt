@@ -21,7 +21,9 @@ fn put_kind(text: &mut Vec<u8>, kind: RaceKind) -> Result<(), Memory>
 
 // Appends an edge of a process: its name and a number, each before a space.
 fn put_edge(text: &mut Vec<u8>, program: &Program, process: u8, edge: u32) -> Result<(), Memory>
-    ensures { OnOk result (text.new.items ≡ text.old.items ++ (process_name_of program.now process ++ codes " " ++ decimal edge ++ codes " ")) }
+    ensures { OnOk result
+        (text.new.items
+        ≡ text.old.items ++ (process_name_of program.now process ++ codes " " ++ decimal edge ++ codes " ")) }
 {
     put(text, process_name(program, process))?;
     put(text, b" ")?;

@@ -1,4 +1,4 @@
-use ppd_ast::Bytes;
+use ppd_ast::{Bytes, Memory};
 use ppd_entry::At;
 
 /// The answer to a line, and whether the line ends the session.
@@ -17,4 +17,15 @@ pub enum SessionError {
     Sets(At),
     /// Want of memory.
     Memory,
+}
+
+impl From<Memory> for SessionError {
+    ghost use Rattle.std.specs.Prelude.{◌≡◌};
+    ghost use Rattle.ppd_session.specs.declared.reply.SessionError.TheVariants as session_error;
+
+    ghost from_gives = { λ _ e. e ≡ session_error.Memory };
+
+    fn from(_memory: Memory) -> SessionError {
+        SessionError::Memory
+    }
 }

@@ -58,10 +58,7 @@ fn reply(
     ensures error { IfErr result (IsWhy (failure_of (known_by past.now races.now) line.now)) }
     ensures kept { AreTold (known_by past.now races.now) kept.new }
 {
-    let words = match words_of(alloc, line) {
-        Ok(words) => words,
-        Err(Memory) => return Err(SessionError::Memory),
-    };
+    let words = words_of(alloc, line)?;
     let question = asked(past.program, words.as_slice());
     let mut text = Vec::new(alloc);
     match put_answer(alloc, &mut text, past, races, kept, question) {
@@ -127,8 +124,8 @@ impl<'a> Session<'a> {
     /// are found by replays of single intervals.
     /// `Diverged` comes exactly where such a replay fails, the first that does, at its entry; `Sets` exactly where the
     /// write set of this entry has a cell that the replays write nowhere. Neither comes of the logs of a whole run, and
-    /// after them the session is not asked again. `Memory` is want of memory: the session is as before, and the line can be
-    /// asked again.
+    /// after them the session is not asked again. `Memory` is want of memory: the session is as before, and the line
+    /// can be asked again.
     pub fn answer(&mut self, line: &[u8]) -> Result<Reply, SessionError>
         ensures text { IfOk result (λ r. r.text ≡ text_of self.old line.now) }
         ensures quit { IfOk result (λ r. r.quit ≡ is_quit line.now) }

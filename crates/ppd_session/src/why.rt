@@ -1,18 +1,18 @@
 // An item with its flowback edges.
-ghost use Rattle.std.specs.Prelude.{◌≡◌, ◌<◌, ◌++◌, [], List, Some, None, Ok, OnOk, IfErr, length, slice_get};
+ghost use Rattle.std.specs.Prelude.{◌≡◌, ◌<◌, ◌++◌, [], List, Some, None, Ok, IfOk, OnOk, IfErr, length, slice_get};
 ghost use Rattle.ppd_past.specs.Pasts.{IsPast};
 ghost use Rattle.ppd_session.specs.Known.{flow_by};
 ghost use Rattle.ppd_session.specs.Sessions.{IsItemThere, IsWhy, known_by};
 ghost use Rattle.ppd_session.specs.Texts.{flow_at, flow_text, item_failure_of, item_text_of, told_at, unfound_flow};
 ghost use Rattle.ppd_session.specs.declared.reply.SessionError.TheVariants as session_error;
 ghost use Rattle.ppd_walk.specs.SharedCells.{IsMemoryOr};
-ghost use Rattle.ppd_why.specs.Edges.{why_text};
+ghost use Rattle.ppd_why.specs.Edges.{why_text as why_text_of};
 
+use crate::opening::no_items;
 use crate::place::Place;
 use crate::refusing::put_refusal;
 use crate::reply::SessionError;
 use ppd_ast::{Memory, Seq, Steps};
-use ppd_entry::At;
 use ppd_flow::edges;
 use ppd_model::{FlowEdge, Item};
 use ppd_past::{FlowError, Past, number};
@@ -20,6 +20,35 @@ use ppd_why::put_why;
 use std::alloc::Global;
 use std::marker::Brand;
 use std::sync::ledger::{Blank, Ledger};
+
+/// The text of an item with these flowback edges into it: the item's line, by its number in this interval of this
+/// process, and then a line for each edge, in order, as `why` answers. Local cells are named as the variables of the
+/// body in which the item's statement or block stands, so the text is the same in whichever interval the item is.
+/// `Memory` is want of memory.
+pub fn why_text(
+    alloc: Global,
+    past: &Past,
+    _process: u8,
+    _interval: u32,
+    number: u32,
+    item: &Item,
+    edges: &[FlowEdge],
+) -> Result<Vec<u8>, Memory>
+    ensures { IfOk result
+        (λ text. text.items
+        ≡ why_text_of past.now.program.now past.now.plan.now number item.now edges.now) }
+{
+    let mut text = Vec::new(alloc);
+    put_why(
+        &mut text,
+        past.program,
+        past.plan,
+        number as usize,
+        item,
+        edges,
+    )?;
+    Ok(text)
+}
 
 fn edges_in<L: Ledger>(
     alloc: Global,
@@ -33,7 +62,8 @@ fn edges_in<L: Ledger>(
     requires some { 0 < blank.parts }
     requires past { IsPast past.now }
     ensures { IsMemoryOr
-        (flow_by past.now.program.now past.now.plan.now past.now.budget past.now.logs.now place.process place.interval item)
+        (flow_by past.now.program.now past.now.plan.now past.now.budget past.now.logs.now place.process place.interval
+        item)
         result }
 {
     let mut steps: Steps<L> = Steps::new(blank);
@@ -44,7 +74,8 @@ fn edges_in<L: Ledger>(
 fn edges_of(alloc: Global, past: &Past, place: Place, item: u32) -> Result<Seq<FlowEdge>, FlowError>
     requires { IsPast past.now }
     ensures { IsMemoryOr
-        (flow_by past.now.program.now past.now.plan.now past.now.budget past.now.logs.now place.process place.interval item)
+        (flow_by past.now.program.now past.now.plan.now past.now.budget past.now.logs.now place.process place.interval
+        item)
         result }
 {
     edges_in::<Brand>(alloc, past, place, item, Blank::new(1))
@@ -58,13 +89,12 @@ fn put_edges(
     edges: &[FlowEdge],
 ) -> Result<(), SessionError>
     ensures text { OnOk result
-        (text.new.items ≡ text.old.items ++ why_text past.now.program.now past.now.plan.now item shown.now edges.now) }
+        (text.new.items
+        ≡ text.old.items ++ why_text_of past.now.program.now past.now.plan.now item shown.now edges.now) }
     ensures error { IfErr result (λ e. e ≡ session_error.Memory) }
 {
-    match put_why(text, past.program, past.plan, item as usize, shown, edges) {
-        Ok(()) => Ok(()),
-        Err(Memory) => Err(SessionError::Memory),
-    }
+    put_why(text, past.program, past.plan, item as usize, shown, edges)?;
+    Ok(())
 }
 
 /// Appends an item with its edges, or that there is no such item.
@@ -97,13 +127,7 @@ fn put_flow(
     match edges_of(alloc, past, place, item) {
         Ok(edges) => put_edges(text, past, item, shown, edges.as_slice()),
         Err(FlowError::NoEvent) => put_refusal(text, b"? event\n"),
-        Err(FlowError::Diverged { process, entry }) => {
-            Err(SessionError::Diverged(At { process, entry }))
-        }
-        Err(FlowError::Sets { process, entry, .. }) => {
-            Err(SessionError::Sets(At { process, entry }))
-        }
-        Err(FlowError::Memory) => Err(SessionError::Memory),
+        Err(error) => Err(no_items(error)),
     }
 }
 
@@ -155,8 +179,6 @@ pub(crate) fn put_item_of(
     let Some(shown) = items.get(item as usize) else {
         return put_refusal(text, b"? event\n");
     };
-    match number(item as usize) {
-        Ok(item) => put_told(alloc, text, past, place, item, shown),
-        Err(Memory) => Err(SessionError::Memory),
-    }
+    let item = number(item as usize)?;
+    put_told(alloc, text, past, place, item, shown)
 }

@@ -27,7 +27,9 @@ fn parts_of(alloc: Global, line: &[u8]) -> Result<Vec<&[u8]>, AllocError>
 
 /// Appends a part that is a word.
 fn push_word<'a>(words: &mut Vec<&'a [u8]>, part: &'a [u8]) -> Result<(), Memory>
-    ensures { OnOk result (map (λ w. w.now) words.new.items ≡ map (λ w. w.now) words.old.items ++ filter is_word_of (part.now ∷ [])) }
+    ensures { OnOk result
+        (map (λ w. w.now) words.new.items
+        ≡ map (λ w. w.now) words.old.items ++ filter is_word_of (part.now ∷ [])) }
 {
     if !is_word(part) {
         return Ok(());

@@ -1,14 +1,29 @@
 use crate::told::told;
 use std::test::Fail;
 
-const RECURSION: &str =
-    "int f(int n) {\n  int r;\n  if (n > 0) {\n    r = f(n - 1);\n  }\n  return r + 1;\n}\nprocess a {\n  int v = f(2);\n  print(v);\n}\n";
+const RECURSION: &str = "int f(int n) {
+  int r;
+  if (n > 0) {
+    r = f(n - 1);
+  }
+  return r + 1;
+}
+process a {
+  int v = f(2);
+  print(v);
+}
+";
 
-const BODY: &str =
-    "item 0 stmt 4 9:7 call f write n=2\nitem 1 block 1 function f value 3\nitem 2 stmt 5 10:3 print read v=3 value 3\nitem 3 stmt 6 11:1 end\n";
+const BODY: &str = "item 0 stmt 4 9:7 call f write n=2
+item 1 block 1 function f value 3
+item 2 stmt 5 10:3 print read v=3 value 3
+item 3 stmt 6 11:1 end
+";
 
-const INNERMOST: &str =
-    "item 0 stmt 0 2:7 set write r=0\nitem 1 stmt 1 3:3 test read n=0 value 0\nitem 2 stmt 3 6:3 return read r=0 value 1\n";
+const INNERMOST: &str = "item 0 stmt 0 2:7 set write r=0
+item 1 stmt 1 3:3 test read n=0 value 0
+item 2 stmt 3 6:3 return read r=0 value 1
+";
 
 // Two intervals that are asked for in turn: none is kept, the one goes for the other, or both are kept.
 #[test]

@@ -7,15 +7,17 @@ use crate::names::{chan_name, function_name, sem_name};
 use ppd_ast::{Kind, Memory, Program};
 use ppd_text::put;
 
-fn put_named(text: &mut Vec<u8>, word: &[u8], name: &[u8]) -> Result<(), Memory>
+/// Appends a word and a name.
+pub fn put_named(text: &mut Vec<u8>, word: &[u8], name: &[u8]) -> Result<(), Memory>
     ensures { OnOk result (text.new.items ≡ text.old.items ++ (word.now ++ name.now)) }
 {
     put(text, word)?;
     put(text, name)
 }
 
-// Appends what a statement of this kind is.
-pub(crate) fn put_kind(text: &mut Vec<u8>, program: &Program, kind: &Kind) -> Result<(), Memory>
+/// Appends what a statement of this kind is: a word, and the name of the function, semaphore or channel where it
+/// uses one.
+pub fn put_kind(text: &mut Vec<u8>, program: &Program, kind: &Kind) -> Result<(), Memory>
     ensures { OnOk result (text.new.items ≡ text.old.items ++ kind_text program.now kind.now) }
 {
     match kind {

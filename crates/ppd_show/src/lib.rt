@@ -7,6 +7,7 @@ mod met;
 mod names;
 mod plans;
 
+pub use kinds::{put_kind, put_named};
 pub use lines::{put_stmt_at, table};
-pub use names::body_name;
+pub use names::{body_name, chan_name, sem_name};
 pub use plans::put_block_what;

@@ -22,7 +22,8 @@ pub(crate) fn function_name(program: &Program, function: u16) -> &[u8]
     body_name(program, function as usize)
 }
 
-pub(crate) fn sem_name(program: &Program, sem: u8) -> &[u8]
+/// The name of a semaphore, empty where there is none of this number.
+pub fn sem_name(program: &Program, sem: u8) -> &[u8]
     ensures { result.now ≡ sem_name_of (slice_get program.now.sems sem) }
 {
     match program.sems.as_slice().get(sem as usize) {
@@ -31,7 +32,8 @@ pub(crate) fn sem_name(program: &Program, sem: u8) -> &[u8]
     }
 }
 
-pub(crate) fn chan_name(program: &Program, chan: u8) -> &[u8]
+/// The name of a channel, empty where there is none of this number.
+pub fn chan_name(program: &Program, chan: u8) -> &[u8]
     ensures { result.now ≡ chan_name_of (slice_get program.now.chans chan) }
 {
     match program.chans.as_slice().get(chan as usize) {

@@ -54,7 +54,8 @@ fn indexed(alloc: Global, bytes: &[u8], recording: &Recording) -> Result<LogInde
     requires program { IsValid recording.now.program }
     ensures index { IfOk result (λ i. IsIndexOf recording.now.plan recording.now.logs i.tables) }
     ensures fitting { OnOk result (AreFittingLogs recording.now.plan recording.now.logs) }
-    ensures passed { OnOk result (first_in_lists recording.now.program recording.now.plan 0 recording.now.logs.lists ≡ None) }
+    ensures passed { OnOk result
+        (first_in_lists recording.now.program recording.now.plan 0 recording.now.logs.lists ≡ None) }
     ensures err { IfErr result (IsNotRecalled bytes.now) }
 {
     let _bytes = bytes;

@@ -1,12 +1,13 @@
 // The line that says why a recording is refused.
-ghost use Rattle.std.specs.Prelude.{◌≡◌, ◌≢◌, ◌++◌, IfOk, OnOk, slice_get};
+ghost use Rattle.std.specs.Prelude.{◌≡◌, ◌≢◌, ◌++◌, IfOk, OnOk};
 ghost use Rattle.std.specs.List.{flat_map};
 ghost use Rattle.ppd_codec.specs.declared.bad.BadBytes.TheVariants as bytes;
 ghost use Rattle.ppd_graph.specs.declared.refusal.BadSync.TheVariants as sync;
 ghost use Rattle.ppd_index.specs.declared.refusal.BadLog.TheVariants as log;
 ghost use Rattle.ppd_session.specs.declared.reply.SessionError.TheVariants as session_error;
-ghost use Rattle.ppd_show.specs.Names.{chan_name as chan_name_of, sem_name as sem_name_of};
-ghost use Rattle.ppd_stored.specs.Refusals.{at_entry as at_entry_of, at_offset as at_offset_of, field_word, node_text, object_text, refused_bytes, refused_log, refused_replay, refused_sync};
+ghost use Rattle.ppd_stored.specs.Refusals.{at_entry as at_entry_of, at_offset as at_offset_of, field_word};
+ghost use Rattle.ppd_stored.specs.Refusals.{node_text, object_text, refused_bytes, refused_log, refused_replay};
+ghost use Rattle.ppd_stored.specs.Refusals.{refused_sync};
 
 use crate::stage::put_stage;
 use ppd_ast::{Memory, Program, SyncKind};
@@ -17,27 +18,10 @@ use ppd_graph::BadSync;
 use ppd_index::BadLog;
 use ppd_model::NodeId;
 use ppd_session::SessionError;
+use ppd_show::{chan_name, sem_name};
 use ppd_text::{put, put_number};
 use ppd_why::process_name;
 use std::alloc::Global;
-
-fn sem_name(program: &Program, sem: u8) -> &[u8]
-    ensures { result.now ≡ sem_name_of (slice_get program.now.sems sem) }
-{
-    match program.sems.as_slice().get(sem as usize) {
-        Some(sem) => sem.name.as_slice(),
-        None => &[],
-    }
-}
-
-fn chan_name(program: &Program, chan: u8) -> &[u8]
-    ensures { result.now ≡ chan_name_of (slice_get program.now.chans chan) }
-{
-    match program.chans.as_slice().get(chan as usize) {
-        Some(chan) => chan.name.as_slice(),
-        None => &[],
-    }
-}
 
 /// A line of a test that failed at an offset.
 fn at_offset(alloc: Global, what: &[u8], offset: u32) -> Result<Vec<u8>, Memory>

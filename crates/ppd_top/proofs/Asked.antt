@@ -1,13 +1,13 @@
 -- What the words ask for, by the request that was read of them.
 use Rattle.std.specs.Prelude.{Option, Some, None, IfSome, option_map}
-use Rattle.std.proofs.Common.{◌≡◌, List, sym, ◌∙◌, ap, subst}
+use Rattle.std.proofs.Common.{◌≡◌, ℕ, List, sym, ◌∙◌, ap, subst}
 use Rattle.ppd_words.specs.Words.{Text}
 use Rattle.ppd_top.specs.declared.words.Request.{Request as GivenRequest}
-use Rattle.ppd_top.specs.declared.words.Request.TheVariants.{Source, Recording}
+use Rattle.ppd_top.specs.declared.words.Request.TheVariants.{Source, Recording, Drill}
 use Rattle.ppd_top.specs.declared.words.SourceRequest.{SourceRequest}
 use Rattle.std.specs.Borrow.{Bor}
 use Rattle.ppd_top.specs.Words.{AreInRange, Command, IsInRange, Request, asked, command_of, request_of}
-use Rattle.ppd_top.specs.Words.Request.{on_source, on_recording}
+use Rattle.ppd_top.specs.Words.Request.{on_source, on_recording, on_number}
 
 module _ (words : List Text) (o : Option GivenRequest) (is : option_map request_of o ≡ asked words) where
   pub asks_none : o ≡ None → asked words ≡ None
@@ -22,6 +22,9 @@ module _ (words : List Text) (o : Option GivenRequest) (is : option_map request_
 
   pub asks_recording : (q : GivenRequest) (n : Bor Text) → o ≡ Some q → q ≡ Recording n → asked words ≡ Some (on_recording n.now)
   asks_recording q n e f = asks_some q e ∙ ap (λ (p : GivenRequest). Some (request_of p)) f
+
+  pub asks_drill : (q : GivenRequest) (n : ℕ) → o ≡ Some q → q ≡ Drill n → asked words ≡ Some (on_number n)
+  asks_drill q n e f = asks_some q e ∙ ap (λ (p : GivenRequest). Some (request_of p)) f
 
 -- the options of a request are in their range
 pub range_of : (o : Option GivenRequest) (q : GivenRequest) (r : SourceRequest) → IfSome o IsInRange → o ≡ Some q → q ≡ Source r → AreInRange r.options

@@ -11,6 +11,7 @@ pub mod Outcomes
 pub mod Recorded
 pub mod StoredRuns
 pub mod Debugged
+pub mod DrillEnds
 pub mod Unloaded
 pub mod Inputs
 pub mod Clauses

@@ -30,7 +30,7 @@ use Rattle.ppd_top.proofs.Statuses.{IsIn, any_in, but_six, other_than}
 use Rattle.ppd_top.proofs.Talked.{IsEnd, talks_any, talks_broken, talks_cut_off, talks_fine, talks_not_refused, talks_unwritten, talks_whole}
 
 -- the words ask for one thing at most
-one_request : (a b : Request) (o : Option Request) → o ≡ Some a → o ≡ Some b → a ≡ b
+pub one_request : (a b : Request) (o : Option Request) → o ≡ Some a → o ≡ Some b → a ≡ b
 one_request a b o e f = let s : Some a ≡ Some b = sym e ∙ f in cc
 
 pub one_name : (words : List (Bor (List ℕ))) (command than : Command) (name other : List ℕ) (options others : Options) → Asks words command name options → Asks words than other others → name ≡ other

@@ -15,8 +15,10 @@ use Rattle.ppd_entry.specs.declared.entry.Logs.{Logs}
 use Rattle.ppd_race.specs.Races.{races_of_logs}
 use Rattle.ppd_stored.specs.Recordings.{AreOfSomeRun}
 use Rattle.ppd_top.specs.declared.options.Options.{Options}
+use Rattle.ppd_top.specs.declared.run.ClosedRun.{ClosedRun}
 use Rattle.ppd_top.specs.Ran.{Keeping, Keeps, KeptNothing, Records, WasRecorded, keeping}
 use Rattle.ppd_top.specs.Ran.Keeps.{not_kept, store_failed, kept}
+use Rattle.ppd_top.specs.Runs.{IsRunOf}
 use Rattle.ppd_top.specs.Summary.{summary_of}
 use Rattle.ppd_top.specs.Top.{header_of, plan_of}
 use Rattle.ppd_top.specs.Words.{AreInRange}
@@ -59,6 +61,17 @@ module _ (source : List ℕ) (program : Program) (options : Options) (plan : Pla
         keeps_as _ _ name _ x y status (λ b r. record { accepted = accepted; whole = as_whole; is = subst (λ (l : Logs). IsRecordingOf source (header_of options) l b) as_logs r })
         (subst (λ text. Keeps (IsRecordingOf source (header_of options) closed.logs) name text x y status) s k);
   }
+
+-- the same by what the run of a task ensures
+module _ (source : List ℕ) (program : Program) (options : Options) (h : List ℕ) (run : ClosedRun) (accepted : IsRead source program) (r : IsRunOf program options h run) where
+  pub of_some_run_by : AreInRange options → AreOfSomeRun source (header_of options) run.closed.logs
+  of_some_run_by range = of_some_run source program options run.plan run.closed h accepted r.plan_is r.whole r.closed_is range
+
+  pub was_recorded_by : (name : List ℕ) (x y : Keeping) (status : ℕ) → IsValid program
+      → Keeps (IsRecordingOf source (header_of options) run.closed.logs) name (summary_of run.program.now run.closed.ends (races_of_logs run.program.now run.closed.logs)) x y status → WasRecorded source program options name h x y status
+  was_recorded_by name x y status valid k =
+      was_recorded source program options run.plan run.closed h accepted r.plan_is r.whole r.closed_is name x y status valid
+      (subst (λ (p : Program). Keeps (IsRecordingOf source (header_of options) run.closed.logs) name (summary_of p run.closed.ends (races_of_logs p run.closed.logs)) x y status) r.program_is k)
 
 -- ---- after a load, which stored nothing
 

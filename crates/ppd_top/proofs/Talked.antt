@@ -143,7 +143,8 @@ module _ (x : Known) (head : List ℕ) (a b : Standing) where
   talks_any status (unwritten commands told rose part) = inr (inr (inl refl))
   talks_any status (unfinished commands told part) = inr (inr (inr refl))
 
-same_commands : (old new : Option (List ℕ)) (commands rest given : List ℕ) → old ≡ Some commands → new ≡ Some rest → AreCommands old new given → given ≡ commands
+-- all bytes of a told input are the commands
+pub same_commands : (old new : Option (List ℕ)) (commands rest given : List ℕ) → old ≡ Some commands → new ≡ Some rest → AreCommands old new given → given ≡ commands
 same_commands None new commands rest given e f h = absurd (cc)
 same_commands (Some xs) None commands rest given e f h = absurd (cc)
 same_commands (Some xs) (Some ys) commands rest given e f h = let s : xs ≡ commands = cc in h ∙ s

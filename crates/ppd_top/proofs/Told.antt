@@ -34,9 +34,10 @@ use Rattle.ppd_past.specs.Pasts.{BelongTogether}
 use Rattle.ppd_top.specs.declared.following.FollowError.{FollowError}
 use Rattle.ppd_top.specs.declared.following.FollowError.TheVariants.{Refused, NotEnabled, NotWhole, LongLine, ManyLines, Memory}
 use Rattle.ppd_top.specs.declared.options.Options.{Options}
+use Rattle.ppd_top.specs.declared.run.ClosedRun.{ClosedRun}
 use Rattle.ppd_top.specs.Output.{Output, Standing, Talks, answers, before, output}
 use Rattle.ppd_top.specs.Ran.{FailsBy, IsClosed, RanTo, ScheduleFails, StopsAt, WasTold}
-use Rattle.ppd_top.specs.Runs.{CanBeTold}
+use Rattle.ppd_top.specs.Runs.{CanBeTold, IsRunOf}
 use Rattle.ppd_top.specs.Summary.{summary_of}
 use Rattle.ppd_top.specs.Top.{Follows, IsWholeRun, known_of, out_of, plan_of, summary_of_run}
 use Rattle.ppd_top.proofs.Agreeing.{of_agreeing}
@@ -118,6 +119,14 @@ was_told program options plan closed h a b status valid p whole is t =
       whole = w;
       talks = talks_of_run program options plan closed h a b status valid p w c t;
     }
+
+-- the same by what the run of a task ensures
+pub was_told_by : (program : Program) (options : Options) (h : List ℕ) (run : ClosedRun) (a b : Standing) (status : ℕ) → IsValid program → IsRunOf program options h run
+    → Talks (known_of_logs run.program.now run.plan run.budget run.closed.logs) (summary_of run.program.now run.closed.ends (races_of_logs run.program.now run.closed.logs)) a b status → WasTold program options h a b status
+was_told_by program options h run a b status valid r t =
+    was_told program options run.plan run.closed h a b status valid r.plan_is r.whole r.closed_is
+    (subst (λ n. Talks (known_of_logs program run.plan n run.closed.logs) (summary_of program run.closed.ends (races_of_logs program run.closed.logs)) a b status) r.budget_is
+    (subst (λ (p : Program). Talks (known_of_logs p run.plan run.budget run.closed.logs) (summary_of p run.closed.ends (races_of_logs p run.closed.logs)) a b status) r.program_is t))
 
 -- ---- by a schedule that is handed in
 

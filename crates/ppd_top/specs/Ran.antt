@@ -3,6 +3,7 @@ use Rattle.std.specs.Prelude.{◌≡◌, ◌≢◌, ◌⊎◌, ℕ, List, [], Op
 use Rattle.std.specs.Borrow.{Bor}
 use Rattle.ppd_ast.specs.declared.program.Program.{Program}
 use Rattle.ppd_check.specs.Read.{IsRead, IsRefused}
+use Rattle.ppd_drill.specs.Drills.{generated}
 use Rattle.ppd_io.specs.Causes.{Rose}
 use Rattle.ppd_io.specs.Content.{Loads, StoreFails, Stores}
 use Rattle.ppd_io.specs.declared.shelf.ShelfError.{ShelfError}
@@ -17,10 +18,10 @@ use Rattle.ppd_show.specs.Table.{table_of}
 use Rattle.ppd_top.specs.declared.options.Options.{Options}
 use Rattle.ppd_top.specs.declared.following.FollowError.{FollowError}
 use Rattle.ppd_top.specs.declared.following.FollowError.TheVariants.{Refused, NotEnabled, NotWhole, LongLine, ManyLines, Memory}
-use Rattle.ppd_top.specs.Output.{Output, Standing, Talks, output}
+use Rattle.ppd_top.specs.Output.{AppendsFront, Output, Standing, Talks, output}
 use Rattle.ppd_top.specs.Refusals.{refused}
-use Rattle.ppd_top.specs.Top.{EndsWith, Finished, IsStuckAt, IsUnfinished, IsWholeRun, known_of, most_bytes, out_of, plan_of, summary_of_run, usage, most_recording, IsRecordingOfRun}
-use Rattle.ppd_top.specs.Words.{Asks, AsksDebug, Command, IsNotAsked}
+use Rattle.ppd_top.specs.Top.{EndsWith, Finished, IsStuckAt, IsUnfinished, IsWholeRun, drill_options, drill_out, known_of, most_bytes, out_of, plan_of, summary_of_run, usage, most_recording, IsRecordingOfRun}
+use Rattle.ppd_top.specs.Words.{Asks, AsksDebug, AsksDrill, Command, IsNotAsked}
 use Rattle.ppd_top.specs.Words.Command.{Flow, Run, Show}
 use Rattle.ppd_codec.specs.declared.recording.Recording.{Recording}
 use Rattle.ppd_stored.specs.Recordings.{IsAccepted, IsRefusedBy, known_of as known_of_recording}
@@ -99,6 +100,26 @@ abbrev pub Refuses : SourceError → Option (List ℕ) → Option (List ℕ) →
 Refuses error old new before now status =
     ((status ≡ 5) × (new ≡ old)) ⊎ ((error ≢ source.Memory) × Finished old new before now status 1 (refused error))
 
+-- what is written of a drill's run by this schedule: all of it, or a proper prefix where a write failed, or some prefix
+-- where memory ran out
+pub record WasDrilledBy (program : Program) (schedule : List ℕ) (old new : Option (List ℕ)) (before now : ℕ) (status : ℕ) : Type 0 where
+  pub whole : IsWholeRun program drill_options schedule
+  pub ends : Finished old new before now status 0 (drill_out program schedule).text
+      ⊎ ((status ≡ 5) × AppendsFront old new (drill_out program schedule).text)
+
+-- what a drill comes to for a program: want of memory before there was anything to write, or what it writes
+abbrev pub Drills : Program → (schedule : List ℕ) → Option (List ℕ) → Option (List ℕ) → ℕ → ℕ → (status : ℕ) → Type 0
+Drills program schedule old new before now status =
+    ((status ≡ 5) × (schedule ≡ []) × (new ≡ old)) ⊎ WasDrilledBy program schedule old new before now status
+
+-- what `drill` comes to for a number: want of memory before it had a source, a refusal of its source, or a program
+pub data Drilled (number : ℕ) (schedule : List ℕ) (old new : Option (List ℕ)) (before now : ℕ) (status : ℕ) : Type 0 where
+  no_source : status ≡ 5 → schedule ≡ [] → new ≡ old → Drilled number schedule old new before now status
+  refused_drill : (error : SourceError) → IsRefused (generated number) error → schedule ≡ []
+      → Refuses error old new before now status → Drilled number schedule old new before now status
+  drilled : (program : Program) → IsRead (generated number) program
+      → Drills program schedule old new before now status → Drilled number schedule old new before now status
+
 -- ---- the top call
 
 -- how the devices stand: what the shelf is told to hold, its counts of loads and of stores that failed, and input and
@@ -122,7 +143,7 @@ pub record LeftShelf (x y : Around) : Type 0 where
   pub stores : (n : List ℕ) → y.stores n ≡ x.stores n
 
 -- what a call comes to, by how far it came: to words that ask for nothing, to want of memory, to a load that failed, to
--- a refused source, to a program, or to a recording
+-- a refused source, to a program, to a recording, or to a drill
 pub data Comes (words : List (Bor (List ℕ))) (x y : Around) (schedule : List ℕ) (status : ℕ) : Type 0 where
   not_asked : IsNotAsked words → LeftShelf x y → schedule ≡ [] → y.io.left ≡ x.io.left
       → Finished x.io.written y.io.written x.io.writes y.io.writes status 2 usage → Comes words x y schedule status
@@ -147,6 +168,8 @@ pub data Comes (words : List (Bor (List ℕ))) (x y : Around) (schedule : List �
       → Rose (x.loads name) (y.loads name) → DidNothing schedule x.io y.io → Comes words x y schedule status
   debug_done : (name bytes : List ℕ) → AsksDebug words name → Loads x.held name most_recording bytes → LeftShelf x y
       → schedule ≡ [] → Debugs bytes x.io y.io status → Comes words x y schedule status
+  drill_done : (number : ℕ) → AsksDrill words number → LeftShelf x y → y.io.left ≡ x.io.left
+      → Drilled number schedule x.io.written y.io.written x.io.writes y.io.writes status → Comes words x y schedule status
 
 -- ---- a schedule that is handed in
 

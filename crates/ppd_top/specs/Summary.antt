@@ -8,21 +8,13 @@ use Rattle.ppd_ast.specs.declared.program.Program.{Program}
 use Rattle.ppd_ast.specs.declared.plan.Plan.{Plan}
 use Rattle.ppd_ast.specs.declared.status.Status.{Status}
 use Rattle.ppd_ast.specs.declared.status.Status.TheVariants as status
-use Rattle.ppd_ast.specs.declared.status.Trap.{Trap}
-use Rattle.ppd_ast.specs.declared.status.Trap.TheVariants as trap
 use Rattle.ppd_model.specs.declared.closed.ProcEnd.{ProcEnd}
 use Rattle.ppd_text.specs.Texts.{place_text}
 use Rattle.ppd_model.specs.declared.graph.Race.{Race}
 use Rattle.ppd_model.specs.Logs.{close}
 use Rattle.ppd_model.specs.Races.{races}
 use Rattle.ppd_session.specs.Texts.{races_text}
-
-abbrev pub trap_word : Trap → List ℕ
-trap_word trap.Overflow = codes "overflow"
-trap_word trap.Zero = codes "zero"
-trap_word trap.Index = codes "index"
-trap_word trap.Assert = codes "assert"
-trap_word trap.Depth = codes "depth"
+use Rattle.ppd_why.specs.Names.{trap_word}
 
 abbrev pub status_text : Status → Place → List ℕ
 status_text status.Ended place = codes "ended"

@@ -5,10 +5,12 @@ use Rattle.ppd_io.specs.Causes.{Rose}
 use Rattle.ppd_io.specs.Content.{Loads, Stores, StoreFails, Appends, AppendsPart}
 use Rattle.ppd_ast.specs.declared.plan.Plan.{Plan}
 use Rattle.ppd_ast.specs.declared.program.Program.{Program}
+use Rattle.ppd_ast.specs.declared.limits.TheConstants.{MOST_BUDGET}
 use Rattle.ppd_blocks.specs.Blocks.{plan_of as plan_by_policy}
 use Rattle.ppd_check.specs.declared.error.SourceError.{SourceError}
 use Rattle.ppd_check.specs.declared.error.SourceError.TheVariants as source
 use Rattle.ppd_check.specs.Read.{IsRead, IsRefused}
+use Rattle.ppd_drill.specs.Drills.{generated}
 use Rattle.ppd_model.specs.Agreement.{Agree}
 use Rattle.ppd_model.specs.Races.{races}
 use Rattle.ppd_model.specs.Schedule.{IsWhole, run as run_of}
@@ -22,7 +24,7 @@ use Rattle.ppd_top.specs.declared.following.FollowError.TheVariants.{Refused, No
 use Rattle.ppd_top.specs.Output.{AppendsFront, AreCommands, AreFine, IsBroken, IsReadNoFurther, Output, Standing, answers, before, output}
 use Rattle.ppd_top.specs.Refusals.{refused}
 use Rattle.ppd_top.specs.Summary.{summary}
-use Rattle.ppd_top.specs.Words.{Asks, AsksDebug, Command, IsNotAsked}
+use Rattle.ppd_top.specs.Words.{Asks, AsksDebug, AsksDrill, Command, IsNotAsked}
 use Rattle.ppd_top.specs.Words.Command.{Flow, Run, Show}
 use Rattle.ppd_codec.specs.declared.recording.Header.{Header}
 use Rattle.ppd_codec.specs.declared.recording.Recording.{Recording}
@@ -66,6 +68,17 @@ IsOfAgreeing program options schedule commands out =
     races program (plan_of program options) options.budget schedule ≡ [] → (h' : List ℕ)
     → Agree program (plan_of program options) options.budget schedule h' → out ≡ out_of program options h' commands
 
+-- with what a drill's source is run, and all that is asked of it
+abbrev pub drill_options : Options
+drill_options = record { budget = MOST_BUDGET; policy = record { leaf = 0; loops = 0 } }
+
+abbrev pub drill_commands : List ℕ
+drill_commands = codes "final\n"
+
+-- all that is written of a drill's run by this schedule, with its status
+abbrev pub drill_out : Program → (schedule : List ℕ) → Output
+drill_out program schedule = out_of program drill_options schedule drill_commands
+
 -- with what a source is run, as its recording says it
 abbrev pub header_of : Options → Header
 header_of options = record { policy = options.policy; budget = options.budget }
@@ -97,6 +110,7 @@ pub data Writes (words : List (Bor (List ℕ))) (held : Option (List ℕ → Opt
   for_words : IsNotAsked words → schedule ≡ [] → Writes words held schedule commands (output 2 usage)
   for_source : (command : Command) (name : List ℕ) (options : Options) (bytes : List ℕ) → Asks words command name options → Loads held name most_bytes bytes → (out : Output) → Answers bytes options commands command schedule out → Writes words held schedule commands out
   for_recording : (name : List ℕ) (bytes : List ℕ) → AsksDebug words name → Loads held name most_recording bytes → schedule ≡ [] → (out : Output) → Recalls bytes commands out → Writes words held schedule commands out
+  for_number : (number : ℕ) → AsksDrill words number → (out : Output) → Answers (generated number) drill_options drill_commands Flow schedule out → Writes words held schedule commands out
 
 -- what a text leaves: all of it with its status, or a proper prefix with status 4 and a rise of the count
 abbrev pub Finished : Option (List ℕ) → Option (List ℕ) → ℕ → ℕ → ℕ → ℕ → List ℕ → Type 0
@@ -152,6 +166,18 @@ pub record WasStored (words : List (Bor (List ℕ))) (held now : Option (List �
   pub others : StoreFails held now recording
   pub written : Appends old new (summary_of_run program options schedule)
 
+-- status 0 of `drill`: the program of the source that the number makes ran under this schedule until nobody could take a
+-- step, and all that `flow` writes of it and of `final` was written
+pub record WasDrilled (words : List (Bor (List ℕ))) (schedule : List ℕ) (old new : Option (List ℕ)) : Type 0 where
+  pub number : ℕ
+  pub program : Program
+  pub asked : AsksDrill words number
+  pub accepted : IsRead (generated number) program
+  pub whole : IsWholeRun program drill_options schedule
+  pub status_is : (drill_out program schedule).status ≡ 0
+  pub written : Appends old new (drill_out program schedule).text
+  pub agreeing : IsOfAgreeing program drill_options schedule drill_commands (drill_out program schedule)
+
 -- a loaded recording that was accepted, and what is known of it: of the run, where it is that of a whole one
 pub record IsRecalledFrom (words : List (Bor (List ℕ))) (held : Option (List ℕ → Option (List ℕ))) (recording : Recording) : Type 0 where
   pub name : List ℕ
@@ -206,6 +232,16 @@ pub record WasRefused (words : List (Bor (List ℕ))) (held : Option (List ℕ �
   pub fault : error ≢ source.Memory
   pub cause : IsRefused bytes error
   pub no_program : (program : Program) → IsRead bytes program → ⊥
+  pub written : Appends old new (refused error)
+
+-- or the source that the number of a drill makes has none
+pub record WasNotDrilled (words : List (Bor (List ℕ))) (old new : Option (List ℕ)) : Type 0 where
+  pub number : ℕ
+  pub error : SourceError
+  pub asked : AsksDrill words number
+  pub fault : error ≢ source.Memory
+  pub cause : IsRefused (generated number) error
+  pub no_program : (program : Program) → IsRead (generated number) program → ⊥
   pub written : Appends old new (refused error)
 
 -- status 2: the words ask for nothing, and the usage line was written
@@ -310,6 +346,15 @@ pub record WasNotStored (words : List (Bor (List ℕ))) (held now : Option (List
   pub others : StoreFails held now recording
   pub written : new ≡ old
 
+-- or in `drill` want of memory after the run, and a prefix of what the command writes went out
+pub record DrillCutOff (words : List (Bor (List ℕ))) (schedule : List ℕ) (old new : Option (List ℕ)) : Type 0 where
+  pub number : ℕ
+  pub program : Program
+  pub asked : AsksDrill words number
+  pub accepted : IsRead (generated number) program
+  pub whole : IsWholeRun program drill_options schedule
+  pub written : AppendsFront old new (drill_out program schedule).text
+
 -- or in `debug` want of memory, and a prefix of what the command writes went out
 pub record AnswersCutOff (words : List (Bor (List ℕ))) (held : Option (List ℕ → Option (List ℕ))) (schedule : List ℕ) (a b : Standing) : Type 0 where
   pub recording : Recording
@@ -364,6 +409,14 @@ pub record IsPromisedAnswers (words : List (Bor (List ℕ))) (held : Option (Lis
   pub no_load_fault : Rose (loads_before name) (loads_now name) → ⊥
   pub no_write_fault : Rose a.writes b.writes → ⊥
   pub fine : IsFineInput a b
+
+-- A drill whose number makes a source of the language succeeds, but for want of memory, where no write failed.
+pub record IsPromisedDrill (words : List (Bor (List ℕ))) (writes_before writes_now : ℕ) : Type 0 where
+  pub number : ℕ
+  pub program : Program
+  pub asked : AsksDrill words number
+  pub accepted : IsRead (generated number) program
+  pub no_write_fault : Rose writes_before writes_now → ⊥
 
 -- ---- a run by a schedule that is handed in
 

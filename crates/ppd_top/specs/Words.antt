@@ -1,9 +1,10 @@
--- The words after the program's name: the command that they give, with its options and the name of a source.
+-- The words after the program's name: the command that they give, with its options and the name of a source, or its
+-- number.
 use Rattle.std.specs.Prelude.{◌≡◌, ℕ, ◌≤◌, ◌&&◌, nat_le, List, [], ◌∷◌, Option, Some, None, if◌then◌else◌, codes, option_map, ⊤}
 use Rattle.std.specs.Borrow.{Bor}
 use Rattle.ppd_text.specs.Numbers.{number_in as number_of_word}
 use Rattle.ppd_ast.specs.ValidPlan.{IsValidPolicy}
-use Rattle.ppd_ast.specs.declared.limits.TheConstants.{DEFAULT_BUDGET, MOST_BUDGET, MOST_POLICY}
+use Rattle.ppd_ast.specs.declared.limits.TheConstants.{DEFAULT_BUDGET, MOST_BUDGET, MOST_DRILL, MOST_POLICY}
 use Rattle.ppd_words.specs.declared.commands.Command.{Command as Word}
 use Rattle.ppd_words.specs.declared.commands.Command.TheVariants as word
 use Rattle.ppd_words.specs.Words.{Text, Uses, value_of}
@@ -13,7 +14,7 @@ use Rattle.ppd_top.specs.declared.options.Options.{Options}
 use Rattle.ppd_top.specs.declared.words.Command.{Command as GivenCommand}
 use Rattle.ppd_top.specs.declared.words.Command.TheVariants as given
 use Rattle.ppd_top.specs.declared.words.Request.{Request as GivenRequest}
-use Rattle.ppd_top.specs.declared.words.Request.TheVariants.{Source, Recording}
+use Rattle.ppd_top.specs.declared.words.Request.TheVariants.{Source, Recording, Drill}
 
 -- ---- the words of options and names
 
@@ -57,10 +58,12 @@ pub data Command : Type 0 where
   Run : (recording : Text) → Command
   Show : Command
 
--- a command on the source of this name, with these options, or the lines of the input on the recording of this name
+-- a command on the source of this name, with these options, or the lines of the input on the recording of this name, or
+-- the run of the source that this number makes
 pub data Request : Type 0 where
   on_source : Command → (name : Text) → Options → Request
   on_recording : (name : Text) → Request
+  on_number : ℕ → Request
 
 abbrev pub command_of : GivenCommand → Command
 command_of given.Flow = Flow
@@ -70,6 +73,7 @@ command_of given.Show = Show
 abbrev pub request_of : GivenRequest → Request
 request_of (Source r) = on_source (command_of r.command) r.name.now r.options
 request_of (Recording name) = on_recording name.now
+request_of (Drill number) = on_number number
 
 -- what a command on a source asks for, where all its names and its options are there
 abbrev pub with_source : Option Command → Option Text → Option Options → Option Request
@@ -82,13 +86,18 @@ asked_by command v = with_source command (name_in (v (codes "source"))) (options
 abbrev pub run_in : Values → Option Command
 run_in v = option_map Run (name_in (v (codes "recording")))
 
--- the commands that are built
+-- the number of a drill, which must be there
+abbrev pub drill_in : Option Text → Option ℕ
+drill_in None = None
+drill_in (Some w) = within 0 MOST_DRILL (number_of_word w)
+
+-- what each command asks for
 abbrev pub asked_of : Word → Values → Option Request
 asked_of word.Flow v = asked_by (Some Flow) v
 asked_of word.Run v = asked_by (run_in v) v
 asked_of word.Debug v = option_map on_recording (name_in (v (codes "recording")))
 asked_of word.Show v = asked_by (Some Show) v
-asked_of word.Drill v = None
+asked_of word.Drill v = option_map on_number (drill_in (v (codes "number")))
 
 abbrev pub with_given : Option (Word × Uses) → Option Request
 with_given None = None
@@ -106,6 +115,10 @@ Asks words command name options = asked (texts_in words) ≡ Some (on_source com
 abbrev pub AsksDebug : List (Bor (List ℕ)) → (name : List ℕ) → Type 0
 AsksDebug words name = asked (texts_in words) ≡ Some (on_recording name)
 
+-- the words ask for the source that this number makes
+abbrev pub AsksDrill : List (Bor (List ℕ)) → (number : ℕ) → Type 0
+AsksDrill words number = asked (texts_in words) ≡ Some (on_number number)
+
 -- the words ask for nothing
 abbrev pub IsNotAsked : List (Bor (List ℕ)) → Type 0
 IsNotAsked words = asked (texts_in words) ≡ None
@@ -120,3 +133,4 @@ pub record AreInRange (options : Options) : Type 0 where
 abbrev pub IsInRange : GivenRequest → Type 0
 IsInRange (Source r) = AreInRange r.options
 IsInRange (Recording name) = ⊤
+IsInRange (Drill number) = number ≤ MOST_DRILL

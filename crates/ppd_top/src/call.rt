@@ -5,14 +5,16 @@ ghost use Rattle.ppd_io.specs.Content.{StoreFails};
 ghost use Rattle.ppd_top.specs.declared.options.Options.{Options as OptionsOf};
 ghost use Rattle.ppd_top.specs.Output.{standing};
 ghost use Rattle.ppd_top.specs.Ran.{Comes, IsUnloaded, Refuses, around};
-ghost use Rattle.ppd_top.specs.Top.{AnswersCutOff, InputFailed, IsPromised, IsPromisedAnswers, LinesFailed, LoadFailed, MemoryRanOut, RanWhole, RecordingUnread, ReplayRefused, StoreFailed, WasAnswered, WasCutOff, WasNotAsked, WasNotRecalled, WasNotStored, WasRefused, WasShown, WasStored, WriteFailed};
+ghost use Rattle.ppd_top.specs.Top.{AnswersCutOff, DrillCutOff, InputFailed, IsPromised, IsPromisedAnswers, IsPromisedDrill, LinesFailed, LoadFailed, MemoryRanOut, RanWhole, RecordingUnread, ReplayRefused, StoreFailed, WasAnswered, WasCutOff, WasDrilled, WasNotAsked, WasNotDrilled, WasNotRecalled, WasNotStored, WasRefused, WasShown, WasStored, WriteFailed};
 ghost use Rattle.ppd_top.specs.Words.{AreInRange, Asks, AsksDebug, command_of};
 ghost use Rattle.ppd_top.specs.Words.Command.{Flow, Run};
 
 use crate::asking::finish;
 use crate::debugging::debug;
-use crate::flow::{Task, flow, show};
+use crate::drilling::drill;
+use crate::flow::{flow, show};
 use crate::refusal::refusal_line;
+use crate::run::{Means, Task};
 use crate::storing::{RecordTask, record_run};
 use crate::words::{Command, Request, SourceRequest, asked};
 use ppd_ast::limits::{MOST_RECORDING_BYTES, MOST_SOURCE_BYTES};
@@ -80,16 +82,18 @@ pub fn ppd<F: Shelf, I: Source, O: Sink, G: Gate, R: Threads + Wait + Sync>(
         (standing (I.left input.new) (I.faults input.new) (O.written output.new) (O.faults output.new)) 0
         ⊎ (WasShown words.now (F.held shelf.old) result.schedule (O.written output.old) (O.written output.new)
         ⊎ (WasStored words.now (F.held shelf.old) (F.held shelf.new) result.schedule (O.written output.old) (O.written output.new)
-        ⊎ WasAnswered words.now (F.held shelf.old) result.schedule
+        ⊎ (WasAnswered words.now (F.held shelf.old) result.schedule
         (standing (I.left input.old) (I.faults input.old) (O.written output.old) (O.faults output.old))
-        (standing (I.left input.new) (I.faults input.new) (O.written output.new) (O.faults output.new)) 0)) }
+        (standing (I.left input.new) (I.faults input.new) (O.written output.new) (O.faults output.new)) 0
+        ⊎ WasDrilled words.now result.schedule (O.written output.old) (O.written output.new)))) }
     ensures lines { (result.status ≡ 7) ⊎ (result.status ≡ 8) → RanWhole words.now (F.held shelf.old) result.schedule
         (standing (I.left input.old) (I.faults input.old) (O.written output.old) (O.faults output.old))
         (standing (I.left input.new) (I.faults input.new) (O.written output.new) (O.faults output.new)) result.status
         ⊎ WasAnswered words.now (F.held shelf.old) result.schedule
         (standing (I.left input.old) (I.faults input.old) (O.written output.old) (O.faults output.old))
         (standing (I.left input.new) (I.faults input.new) (O.written output.new) (O.faults output.new)) result.status }
-    ensures refused { result.status ≡ 1 → WasRefused words.now (F.held shelf.old) (O.written output.old) (O.written output.new) }
+    ensures refused { result.status ≡ 1 → WasRefused words.now (F.held shelf.old) (O.written output.old) (O.written output.new)
+        ⊎ WasNotDrilled words.now (O.written output.old) (O.written output.new) }
     ensures usage { result.status ≡ 2 → WasNotAsked words.now (O.written output.old) (O.written output.new) }
     ensures read { result.status ≡ 3
         → LoadFailed words.now (F.failed_loads shelf.old) (F.failed_loads shelf.new) result.schedule (O.written output.old) (O.written output.new)
@@ -110,9 +114,10 @@ pub fn ppd<F: Shelf, I: Source, O: Sink, G: Gate, R: Threads + Wait + Sync>(
         (standing (I.left input.old) (I.faults input.old) (O.written output.old) (O.faults output.old))
         (standing (I.left input.new) (I.faults input.new) (O.written output.new) (O.faults output.new))
         ⊎ (WasNotStored words.now (F.held shelf.old) (F.held shelf.new) result.schedule (O.written output.old) (O.written output.new)
-        ⊎ AnswersCutOff words.now (F.held shelf.old) result.schedule
+        ⊎ (AnswersCutOff words.now (F.held shelf.old) result.schedule
         (standing (I.left input.old) (I.faults input.old) (O.written output.old) (O.faults output.old))
-        (standing (I.left input.new) (I.faults input.new) (O.written output.new) (O.faults output.new)))) }
+        (standing (I.left input.new) (I.faults input.new) (O.written output.new) (O.faults output.new))
+        ⊎ DrillCutOff words.now result.schedule (O.written output.old) (O.written output.new)))) }
     ensures recording { result.status ≡ 6 → WasNotRecalled words.now (F.held shelf.old) result.schedule
         (standing (I.left input.old) (I.faults input.old) (O.written output.old) (O.faults output.old))
         (standing (I.left input.new) (I.faults input.new) (O.written output.new) (O.faults output.new))
@@ -128,6 +133,8 @@ pub fn ppd<F: Shelf, I: Source, O: Sink, G: Gate, R: Threads + Wait + Sync>(
         (standing (I.left input.old) (I.faults input.old) (O.written output.old) (O.faults output.old))
         (standing (I.left input.new) (I.faults input.new) (O.written output.new) (O.faults output.new))
         → (result.status ≡ 0) ⊎ (result.status ≡ 5) }
+    ensures drills { IsPromisedDrill words.now (O.faults output.old) (O.faults output.new)
+        → (result.status ≡ 0) ⊎ (result.status ≡ 5) }
     ensures no_run { (result.status ≡ 1) ⊎ (result.status ≡ 2) → result.schedule ≡ [] }
     ensures shelf { (result.status ≡ 1) ⊎ ((result.status ≡ 2) ⊎ ((result.status ≡ 3)
         ⊎ ((name recording : List ℕ) (options : OptionsOf) → Asks words.now (Run recording) name options → ⊥)))
@@ -141,18 +148,17 @@ pub fn ppd<F: Shelf, I: Source, O: Sink, G: Gate, R: Threads + Wait + Sync>(
         ⊎ (((name : List ℕ) (options : OptionsOf) → Asks words.now Flow name options → ⊥)
         × ((name : List ℕ) → AsksDebug words.now name → ⊥))) → input.new ≡ input.old }
 {
-    answer(rt, alloc, words, shelf, input, output, gate)
+    let means = Means { rt, alloc, gate };
+    answer(&means, words, shelf, input, output)
 }
 
 /// Does what the words ask for; the parameters are those of the top call.
 fn answer<F: Shelf, I: Source, O: Sink, G: Gate, R: Threads + Wait + Sync>(
-    rt: &R,
-    alloc: Global,
+    means: &Means<'_, R, G>,
     words: &[&str],
     shelf: &mut F,
     input: &mut I,
     output: &mut O,
-    gate: &G,
 ) -> Outcome
     ensures comes { Comes words.now
         (around (F.held shelf.old) (F.failed_loads shelf.old) (F.failed_stores shelf.old)
@@ -164,30 +170,31 @@ fn answer<F: Shelf, I: Source, O: Sink, G: Gate, R: Threads + Wait + Sync>(
         ⊎ (((name : List ℕ) (options : OptionsOf) → Asks words.now Flow name options → ⊥)
         × ((name : List ℕ) → AsksDebug words.now name → ⊥))) → input.new ≡ input.old }
 {
-    let Ok(asked) = asked(alloc, words) else {
-        return ended(alloc, 5);
+    let Ok(asked) = asked(means.alloc, words) else {
+        return ended(means.alloc, 5);
     };
     let Some(request) = asked else {
         return Outcome {
             status: finish(output, USAGE, 2),
-            schedule: Seq::new(alloc),
+            schedule: Seq::new(means.alloc),
         };
     };
     match request {
-        Request::Source(request) => on_source(rt, alloc, &request, shelf, input, output, gate),
-        Request::Recording(name) => on_recording(rt, alloc, name, shelf, input, output),
+        Request::Source(request) => on_source(means, &request, shelf, input, output),
+        Request::Recording(name) => {
+            on_recording(means.rt, means.alloc, name, shelf, input, output)
+        }
+        Request::Drill(number) => drill(means, number, output),
     }
 }
 
 /// Does what is asked for with a source.
 fn on_source<F: Shelf, I: Source, O: Sink, G: Gate, R: Threads + Wait + Sync>(
-    rt: &R,
-    alloc: Global,
+    means: &Means<'_, R, G>,
     request: &SourceRequest<'_>,
     shelf: &mut F,
     input: &mut I,
     output: &mut O,
-    gate: &G,
 ) -> Outcome
     requires range { AreInRange request.now.options }
     ensures comes { (words : List (Bor (List ℕ))) → Asks words (command_of request.now.command) request.now.name.now request.now.options → Comes words
@@ -198,27 +205,25 @@ fn on_source<F: Shelf, I: Source, O: Sink, G: Gate, R: Threads + Wait + Sync>(
         result.schedule result.status }
     ensures input { (result.status ≡ 1) ⊎ ((result.status ≡ 2) ⊎ (command_of request.now.command ≡ Flow → ⊥)) → input.new ≡ input.old }
 {
-    match shelf.load(alloc, request.name, MOST_BYTES) {
-        Err(error) => unloaded(alloc, error),
-        Ok(source) => match read_source(alloc, &source) {
-            Err(error) => refuse(alloc, error, output),
+    match shelf.load(means.alloc, request.name, MOST_BYTES) {
+        Err(error) => unloaded(means.alloc, error),
+        Ok(source) => match read_source(means.alloc, &source) {
+            Err(error) => refuse(means.alloc, error, output),
             Ok(program) => {
-                let options = request.options;
                 let task = Task {
                     program: &program,
-                    options,
+                    options: request.options,
                 };
                 match request.command {
-                    Command::Flow => flow(rt, alloc, &task, input, output, gate),
-                    Command::Show => show(alloc, &task, output),
+                    Command::Flow => flow(means, &task, input, output),
+                    Command::Show => show(means.alloc, &task, output),
                     Command::Run(recording) => {
                         let task = RecordTask {
-                            program: &program,
-                            options,
+                            task,
                             source: &source,
                             recording,
                         };
-                        record_run(rt, alloc, &task, shelf, output, gate)
+                        record_run(means, &task, shelf, output)
                     }
                 }
             }
@@ -275,7 +280,7 @@ fn unloaded(alloc: Global, error: ShelfError) -> Outcome
 }
 
 /// Writes why a source is refused.
-fn refuse<O: Sink>(alloc: Global, error: SourceError, output: &mut O) -> Outcome
+pub(crate) fn refuse<O: Sink>(alloc: Global, error: SourceError, output: &mut O) -> Outcome
     ensures refused { Refuses error (O.written output.old) (O.written output.new) (O.faults output.old) (O.faults output.new) result.status }
     ensures schedule { result.schedule ≡ [] }
 {

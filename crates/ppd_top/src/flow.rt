@@ -11,24 +11,16 @@ ghost use Rattle.ppd_top.specs.Top.{plan_of};
 use crate::asking::finish;
 use crate::call::{Outcome, ended};
 use crate::options::Options;
-use crate::run::ClosedRun;
+use crate::run::{Means, Task, run_task};
 use crate::telling::tell;
 use ppd_ast::{Memory, Program, Seq};
 use ppd_blocks::partition;
 use ppd_io::{Gate, Sink, Source};
-use ppd_run::run;
 use ppd_sets::sets;
 use ppd_show::table;
 use std::alloc::Global;
 use std::sync::Wait;
 use std::thread::Threads;
-
-/// A program with its options.
-#[derive(Clone, Copy)]
-pub(crate) struct Task<'a> {
-    pub(crate) program: &'a Program,
-    pub(crate) options: Options,
-}
 
 /// The static tables of a program and of its plan.
 fn tables(alloc: Global, program: &Program, options: &Options) -> Result<Vec<u8>, Memory>
@@ -60,12 +52,10 @@ pub(crate) fn show<O: Sink>(alloc: Global, task: &Task<'_>, output: &mut O) -> O
 
 /// Runs a program by threads from its start to its end, writes the summary, and answers the lines of the input.
 pub(crate) fn flow<I: Source, O: Sink, G: Gate, R: Threads + Wait + Sync>(
-    rt: &R,
-    alloc: Global,
+    means: &Means<'_, R, G>,
     task: &Task<'_>,
     input: &mut I,
     output: &mut O,
-    gate: &G,
 ) -> Outcome
     requires program { IsValid task.now.program.now }
     requires budget { task.now.options.budget ≤ MOST_BUDGET }
@@ -74,22 +64,12 @@ pub(crate) fn flow<I: Source, O: Sink, G: Gate, R: Threads + Wait + Sync>(
         (standing (I.left input.old) (I.faults input.old) (O.written output.old) (O.faults output.old))
         (standing (I.left input.new) (I.faults input.new) (O.written output.new) (O.faults output.new)) result.status }
 {
-    let program = task.program;
-    let Ok(plan) = partition(alloc, program, &task.options.policy) else {
-        return ended(alloc, 5);
+    let Ok(by) = run_task(means, task) else {
+        return ended(means.alloc, 5);
     };
-    let Ok(ran) = run(rt, alloc, program, &plan, task.options.budget, gate) else {
-        return ended(alloc, 5);
-    };
-    let run = ClosedRun {
-        program,
-        plan: &plan,
-        budget: task.options.budget,
-        closed: &ran.closed,
-    };
-    let status = tell(rt, alloc, &run, input, output);
+    let status = tell(means.rt, means.alloc, &by.run, input, output);
     Outcome {
         status,
-        schedule: ran.schedule,
+        schedule: by.schedule,
     }
 }

@@ -43,6 +43,16 @@ pub enum FollowError {
     Memory,
 }
 
+impl From<Memory> for FollowError {
+    ghost use Rattle.ppd_top.specs.declared.following.FollowError.TheVariants as follow_error;
+
+    ghost from_gives = { λ _ e. e ≡ follow_error.Memory };
+
+    fn from(_memory: Memory) -> FollowError {
+        FollowError::Memory
+    }
+}
+
 fn drive_error(error: DriveError) -> FollowError
     ensures { result ≡ drive_error_of error }
 {
@@ -68,10 +78,7 @@ fn close_world(
     ensures closed { IfOk result (λ closed. IsClosed program.now options.now schedule.now closed) }
     ensures error { IfErr result (λ e. StopsAt program.now options.now schedule.now e) }
 {
-    match world.close() {
-        Ok(closed) => Ok(closed),
-        Err(Memory) => Err(FollowError::Memory),
-    }
+    Ok(world.close()?)
 }
 
 /// Takes the schedule in the first world of a program, and closes the world.
@@ -104,10 +111,10 @@ fn tell_all(
     run: &ClosedRun<'_>,
     commands: &[u8],
 ) -> Result<Vec<u8>, FollowError>
-    requires { CanBeTold run.now.program.now run.now.plan.now run.now.budget run.now.closed.now }
-    ensures text { IfOk result (λ text. before (summary_of run.now.program.now run.now.closed.now.ends (races_of_logs run.now.program.now run.now.closed.now.logs))
-        (answers (known_of_logs run.now.program.now run.now.plan.now run.now.budget run.now.closed.now.logs) commands.now) ≡ output 0 text.items) }
-    ensures error { IfErr result (λ e. FailsBy (answers (known_of_logs run.now.program.now run.now.plan.now run.now.budget run.now.closed.now.logs) commands.now).status e) }
+    requires { CanBeTold run.now.program.now run.now.plan run.now.budget run.now.closed }
+    ensures text { IfOk result (λ text. before (summary_of run.now.program.now run.now.closed.ends (races_of_logs run.now.program.now run.now.closed.logs))
+        (answers (known_of_logs run.now.program.now run.now.plan run.now.budget run.now.closed.logs) commands.now) ≡ output 0 text.items) }
+    ensures error { IfErr result (λ e. FailsBy (answers (known_of_logs run.now.program.now run.now.plan run.now.budget run.now.closed.logs) commands.now).status e) }
 {
     let Ok(bytes) = Vec::from_slice(alloc, commands) else {
         return Err(FollowError::Memory);
@@ -137,9 +144,7 @@ fn close_by(
     ensures closed { IfOk result (λ closed. IsClosed program.now options.now schedule.now closed) }
     ensures error { IfErr result (λ e. StopsAt program.now options.now schedule.now e) }
 {
-    let Ok(world) = World::new(alloc, program, plan, options.budget) else {
-        return Err(FollowError::Memory);
-    };
+    let world = World::new(alloc, program, plan, options.budget)?;
     follow_world(program, options, world, schedule)
 }
 
@@ -158,17 +163,15 @@ fn follow_program(
     ensures text { IfOk result (λ text. RanTo program.now options.now commands.now schedule.now text.items) }
     ensures error { IfErr result (λ e. ScheduleFails program.now options.now commands.now schedule.now e) }
 {
-    let Ok(plan) = partition(alloc, program, &options.policy) else {
-        return Err(FollowError::Memory);
-    };
+    let plan = partition(alloc, program, &options.policy)?;
     match close_by(alloc, program, &plan, options, schedule) {
         Err(error) => Err(error),
         Ok(closed) => {
             let run = ClosedRun {
                 program,
-                plan: &plan,
+                plan,
                 budget: options.budget,
-                closed: &closed,
+                closed,
             };
             tell_all(rt, alloc, &run, commands)
         }

@@ -5,6 +5,7 @@
 mod asking;
 mod call;
 mod debugging;
+mod drilling;
 mod flow;
 mod following;
 mod options;

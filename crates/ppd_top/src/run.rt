@@ -1,12 +1,72 @@
-use ppd_ast::{Plan, Program};
+ghost use Rattle.std.specs.Prelude.{◌≤◌, IfOk};
+ghost use Rattle.ppd_ast.specs.Valid.{IsValid};
+ghost use Rattle.ppd_ast.specs.ValidPlan.{IsValidPolicy};
+ghost use Rattle.ppd_ast.specs.declared.limits.TheConstants.{MOST_BUDGET};
+ghost use Rattle.ppd_top.specs.Runs.{IsRunOf};
+
+use crate::options::Options;
+use ppd_ast::{Bytes, Memory, Plan, Program};
+use ppd_blocks::partition;
+use ppd_io::Gate;
 use ppd_model::Closed;
+use ppd_run::run;
+use std::alloc::Global;
+use std::sync::Wait;
+use std::thread::Threads;
+
+/// What a run takes of the system, and the gate that is passed before each turn of a thread.
+#[derive(Clone, Copy)]
+pub(crate) struct Means<'a, R, G> {
+    pub(crate) rt: &'a R,
+    pub(crate) alloc: Global,
+    pub(crate) gate: &'a G,
+}
+
+/// A program with its options.
+#[derive(Clone, Copy)]
+pub(crate) struct Task<'a> {
+    pub(crate) program: &'a Program,
+    pub(crate) options: Options,
+}
 
 /// A run that came to its end: its program with the plan and the budget of each process, its logs, and how the
 /// processes ended.
-#[derive(Clone, Copy)]
+#[derive(Drop)]
 pub(crate) struct ClosedRun<'a> {
     pub(crate) program: &'a Program,
-    pub(crate) plan: &'a Plan,
+    pub(crate) plan: Plan,
     pub(crate) budget: u32,
-    pub(crate) closed: &'a Closed,
+    pub(crate) closed: Closed,
+}
+
+/// A run by threads, with the schedule that they took.
+#[derive(Drop)]
+pub(crate) struct RunByThreads<'a> {
+    pub(crate) run: ClosedRun<'a>,
+    pub(crate) schedule: Bytes,
+}
+
+/// Runs a program by threads from its start to its end.
+pub(crate) fn run_task<'a, G: Gate, R: Threads + Wait + Sync>(
+    means: &Means<'_, R, G>,
+    task: &Task<'a>,
+) -> Result<RunByThreads<'a>, Memory>
+    requires program { IsValid task.now.program.now }
+    requires budget { task.now.options.budget ≤ MOST_BUDGET }
+    requires policy { IsValidPolicy task.now.options.policy }
+    ensures { IfOk result (λ by. IsRunOf task.now.program.now task.now.options by.schedule by.run) }
+{
+    let program = task.program;
+    let budget = task.options.budget;
+    let plan = partition(means.alloc, program, &task.options.policy)?;
+    let ran = run(means.rt, means.alloc, program, &plan, budget, means.gate)?;
+    Ok(RunByThreads {
+        run: ClosedRun {
+            program,
+            plan,
+            budget,
+            closed: ran.closed,
+        },
+        schedule: ran.schedule,
+    })
 }

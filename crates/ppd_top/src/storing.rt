@@ -14,13 +14,10 @@ ghost use Rattle.ppd_top.specs.Words.{AreInRange};
 use crate::asking::finish;
 use crate::call::{Outcome, ended};
 use crate::options::Options;
-use crate::run::ClosedRun;
+use crate::run::{ClosedRun, Means, Task, run_task};
 use crate::telling::summarize;
-use ppd_ast::Program;
-use ppd_blocks::partition;
 use ppd_codec::Header;
 use ppd_io::{Gate, Shelf, ShelfError, Sink};
-use ppd_run::run;
 use ppd_stored::record;
 use std::alloc::Global;
 use std::sync::Wait;
@@ -29,8 +26,7 @@ use std::thread::Threads;
 /// A program with its options, the source that it was read from, and the name under which its recording is stored.
 #[derive(Clone, Copy)]
 pub(crate) struct RecordTask<'a> {
-    pub(crate) program: &'a Program,
-    pub(crate) options: Options,
+    pub(crate) task: Task<'a>,
     pub(crate) source: &'a [u8],
     pub(crate) recording: &'a str,
 }
@@ -54,17 +50,17 @@ fn store<F: Shelf, O: Sink>(
     shelf: &mut F,
     output: &mut O,
 ) -> u8
-    requires told { CanBeTold run.now.program.now run.now.plan.now run.now.budget run.now.closed.now }
-    requires of_run { AreOfSomeRun task.now.source.now (header_for task.now.options) run.now.closed.now.logs }
-    ensures { Keeps (IsRecordingOf task.now.source.now (header_for task.now.options) run.now.closed.now.logs) task.now.recording.now
-        (summary_of run.now.program.now run.now.closed.now.ends (races_of_logs run.now.program.now run.now.closed.now.logs))
+    requires told { CanBeTold run.now.program.now run.now.plan run.now.budget run.now.closed }
+    requires of_run { AreOfSomeRun task.now.source.now (header_for task.now.task.options) run.now.closed.logs }
+    ensures { Keeps (IsRecordingOf task.now.source.now (header_for task.now.task.options) run.now.closed.logs) task.now.recording.now
+        (summary_of run.now.program.now run.now.closed.ends (races_of_logs run.now.program.now run.now.closed.logs))
         (keeping (F.held shelf.old) (F.failed_stores shelf.old) (O.written output.old) (O.faults output.old))
         (keeping (F.held shelf.new) (F.failed_stores shelf.new) (O.written output.new) (O.faults output.new)) result }
 {
     let Ok(text) = summarize(rt, alloc, run) else {
         return 5;
     };
-    let header = header_of(&task.options);
+    let header = header_of(&task.task.options);
     let Ok(recording) = record(alloc, task.source, &header, &run.closed.logs) else {
         return 5;
     };
@@ -77,36 +73,24 @@ fn store<F: Shelf, O: Sink>(
 
 /// Runs a program by threads from its start to its end, stores the recording of the run, and writes the summary.
 pub(crate) fn record_run<F: Shelf, O: Sink, G: Gate, R: Threads + Wait + Sync>(
-    rt: &R,
-    alloc: Global,
+    means: &Means<'_, R, G>,
     task: &RecordTask<'_>,
     shelf: &mut F,
     output: &mut O,
-    gate: &G,
 ) -> Outcome
-    requires program { IsValid task.now.program.now }
-    requires range { AreInRange task.now.options }
-    requires read { IsRead task.now.source.now task.now.program.now }
-    ensures { Records task.now.source.now task.now.program.now task.now.options task.now.recording.now result.schedule
+    requires program { IsValid task.now.task.program.now }
+    requires range { AreInRange task.now.task.options }
+    requires read { IsRead task.now.source.now task.now.task.program.now }
+    ensures { Records task.now.source.now task.now.task.program.now task.now.task.options task.now.recording.now result.schedule
         (keeping (F.held shelf.old) (F.failed_stores shelf.old) (O.written output.old) (O.faults output.old))
         (keeping (F.held shelf.new) (F.failed_stores shelf.new) (O.written output.new) (O.faults output.new)) result.status }
 {
-    let program = task.program;
-    let Ok(plan) = partition(alloc, program, &task.options.policy) else {
-        return ended(alloc, 5);
+    let Ok(by) = run_task(means, &task.task) else {
+        return ended(means.alloc, 5);
     };
-    let Ok(ran) = run(rt, alloc, program, &plan, task.options.budget, gate) else {
-        return ended(alloc, 5);
-    };
-    let run = ClosedRun {
-        program,
-        plan: &plan,
-        budget: task.options.budget,
-        closed: &ran.closed,
-    };
-    let status = store(rt, alloc, task, &run, shelf, output);
+    let status = store(means.rt, means.alloc, task, &by.run, shelf, output);
     Outcome {
         status,
-        schedule: ran.schedule,
+        schedule: by.schedule,
     }
 }

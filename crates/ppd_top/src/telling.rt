@@ -31,8 +31,8 @@ fn tell_session<I: Source, O: Sink>(
     output: &mut O,
 ) -> u8
     requires program { session.old.program ≡ run.now.program.now }
-    requires few { length run.now.closed.now.ends < 2 ^ 62 }
-    ensures { Talks session.old (summary_of run.now.program.now run.now.closed.now.ends session.old.races)
+    requires few { length run.now.closed.ends < 2 ^ 62 }
+    ensures { Talks session.old (summary_of run.now.program.now run.now.closed.ends session.old.races)
         (standing (I.left input.old) (I.faults input.old) (O.written output.old) (O.faults output.old))
         (standing (I.left input.new) (I.faults input.new) (O.written output.new) (O.faults output.new)) result }
 {
@@ -69,19 +69,19 @@ fn why_no_graph(bad: &BadSync) -> Memory
 }
 
 fn index_of(alloc: Global, run: &ClosedRun<'_>) -> Result<LogIndex, Memory>
-    requires { CanBeTold run.now.program.now run.now.plan.now run.now.budget run.now.closed.now }
-    ensures index { IfOk result (λ index. IsIndexOf run.now.plan.now run.now.closed.now.logs index.tables) }
-    ensures fitting { OnOk result (AreFittingLogs run.now.plan.now run.now.closed.now.logs) }
+    requires { CanBeTold run.now.program.now run.now.plan run.now.budget run.now.closed }
+    ensures index { IfOk result (λ index. IsIndexOf run.now.plan run.now.closed.logs index.tables) }
+    ensures fitting { OnOk result (AreFittingLogs run.now.plan run.now.closed.logs) }
 {
-    match index(alloc, run.program, run.plan, &run.closed.logs) {
+    match index(alloc, run.program, &run.plan, &run.closed.logs) {
         Ok(index) => Ok(index),
         Err(bad) => Err(why_no_index(bad)),
     }
 }
 
 fn graph_of(alloc: Global, run: &ClosedRun<'_>) -> Result<SyncGraph, Memory>
-    requires { CanBeTold run.now.program.now run.now.plan.now run.now.budget run.now.closed.now }
-    ensures { IfOk result (IsGraphOf run.now.program.now run.now.closed.now.logs) }
+    requires { CanBeTold run.now.program.now run.now.plan run.now.budget run.now.closed }
+    ensures { IfOk result (IsGraphOf run.now.program.now run.now.closed.logs) }
 {
     match graph(alloc, run.program, &run.closed.logs) {
         Ok(graph) => Ok(graph),
@@ -95,14 +95,14 @@ pub(crate) fn summarize(
     alloc: Global,
     run: &ClosedRun<'_>,
 ) -> Result<Vec<u8>, Memory>
-    requires { CanBeTold run.now.program.now run.now.plan.now run.now.budget run.now.closed.now }
-    ensures { IfOk result (λ text. text.items ≡ summary_of run.now.program.now run.now.closed.now.ends (races_of_logs run.now.program.now run.now.closed.now.logs)) }
+    requires { CanBeTold run.now.program.now run.now.plan run.now.budget run.now.closed }
+    ensures { IfOk result (λ text. text.items ≡ summary_of run.now.program.now run.now.closed.ends (races_of_logs run.now.program.now run.now.closed.logs)) }
 {
     let index = index_of(alloc, run)?;
     let graph = graph_of(alloc, run)?;
     let past = Past {
         program: run.program,
-        plan: run.plan,
+        plan: &run.plan,
         logs: &run.closed.logs,
         index: &index,
         graph: &graph,
@@ -121,9 +121,9 @@ pub(crate) fn tell<I: Source, O: Sink>(
     input: &mut I,
     output: &mut O,
 ) -> u8
-    requires { CanBeTold run.now.program.now run.now.plan.now run.now.budget run.now.closed.now }
-    ensures { Talks (known_of_logs run.now.program.now run.now.plan.now run.now.budget run.now.closed.now.logs)
-        (summary_of run.now.program.now run.now.closed.now.ends (races_of_logs run.now.program.now run.now.closed.now.logs))
+    requires { CanBeTold run.now.program.now run.now.plan run.now.budget run.now.closed }
+    ensures { Talks (known_of_logs run.now.program.now run.now.plan run.now.budget run.now.closed.logs)
+        (summary_of run.now.program.now run.now.closed.ends (races_of_logs run.now.program.now run.now.closed.logs))
         (standing (I.left input.old) (I.faults input.old) (O.written output.old) (O.faults output.old))
         (standing (I.left input.new) (I.faults input.new) (O.written output.new) (O.faults output.new)) result }
 {
@@ -135,7 +135,7 @@ pub(crate) fn tell<I: Source, O: Sink>(
     };
     let past = Past {
         program: run.program,
-        plan: run.plan,
+        plan: &run.plan,
         logs: &run.closed.logs,
         index: &index,
         graph: &graph,

@@ -1,20 +1,9 @@
 ghost use Rattle.std.specs.Prelude.{◌≡◌, ◌++◌, OnOk, codes};
-ghost use Rattle.ppd_top.specs.Summary.{trap_word, status_text, print_text, print_texts};
+ghost use Rattle.ppd_top.specs.Summary.{status_text, print_text, print_texts};
 
-use ppd_ast::{Memory, Place, Status, Trap};
+use ppd_ast::{Memory, Place, Status};
 use ppd_text::{put, put_place, put_value};
-
-fn put_trap(text: &mut Vec<u8>, trap: Trap) -> Result<(), Memory>
-    ensures { OnOk result (text.new.items ≡ text.old.items ++ trap_word trap) }
-{
-    match trap {
-        Trap::Overflow => put(text, b"overflow"),
-        Trap::Zero => put(text, b"zero"),
-        Trap::Index => put(text, b"index"),
-        Trap::Assert => put(text, b"assert"),
-        Trap::Depth => put(text, b"depth"),
-    }
-}
+use ppd_why::put_trap;
 
 pub(crate) fn put_status(text: &mut Vec<u8>, status: Status, place: Place) -> Result<(), Memory>
     ensures { OnOk result (text.new.items ≡ text.old.items ++ status_text status place) }

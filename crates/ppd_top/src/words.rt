@@ -6,7 +6,7 @@ ghost use Rattle.clap.specs.Matches.{first_value, found_of};
 ghost use Rattle.ppd_top.specs.Words.{AreInRange, IsInRange, asked as asked_for, asked_by, asked_of, command_of, name_in, number_in as number_for, options_in as options_for, request_of, run_in};
 
 use crate::options::Options;
-use ppd_ast::limits::{DEFAULT_BUDGET, MOST_BUDGET, MOST_POLICY};
+use ppd_ast::limits::{DEFAULT_BUDGET, MOST_BUDGET, MOST_DRILL, MOST_POLICY};
 use ppd_ast::{Memory, Policy};
 use ppd_text::number_in;
 use ppd_words::{Command as Word, CommandWords, read_command};
@@ -39,6 +39,8 @@ pub(crate) enum Request<'a> {
     Source(SourceRequest<'a>),
     /// The lines of the input are answered on the recording of this name.
     Recording(&'a str),
+    /// The source that this number makes is run, and its summary and last values are written.
+    Drill(u32),
 }
 
 /// An option's number, from `least` to `most`: that of its word, or the usual one where it has none.
@@ -119,7 +121,17 @@ fn on_recording<'a>(given: &CommandWords<'a>) -> Option<Request<'a>>
     Some(Request::Recording(name))
 }
 
-/// The request of a command with its words, if its numbers and names are right and it is built.
+/// The command `drill`, with its number.
+fn on_number<'a>(given: &CommandWords<'a>) -> Option<Request<'a>>
+    ensures request { option_map request_of result ≡ asked_of word.Drill (first_value (found_of given.now.matches)) }
+    ensures range { IfSome result IsInRange }
+{
+    let word = given.value("number")?;
+    let number = number_of(Some(word), 0, 0, MOST_DRILL)?;
+    Some(Request::Drill(number))
+}
+
+/// The request of a command with its words, if its numbers and names are right.
 fn request_in<'a>(given: &CommandWords<'a>) -> Option<Request<'a>>
     ensures request { option_map request_of result ≡ asked_of given.now.command (first_value (found_of given.now.matches)) }
     ensures range { IfSome result IsInRange }
@@ -129,13 +141,13 @@ fn request_in<'a>(given: &CommandWords<'a>) -> Option<Request<'a>>
         Word::Run => on_source(run_of(given), given),
         Word::Debug => on_recording(given),
         Word::Show => on_source(Some(Command::Show), given),
-        Word::Drill => None,
+        Word::Drill => on_number(given),
     }
 }
 
 /// What the words ask for: `flow`, `run` or `show`, its options in any order, each at most once, and its names; or
-/// `debug` and its name. None where they ask for nothing. The error is want of memory, and may come whatever the
-/// words are.
+/// `debug` and its name, or `drill` and its number. None where they ask for nothing. The error is want of memory, and
+/// may come whatever the words are.
 pub(crate) fn asked<'a>(alloc: Global, words: &'a [&'a str]) -> Result<Option<Request<'a>>, Memory>
     ensures is { IfOk result (λ o. option_map request_of o ≡ asked_for (texts_in words.entry.now)) }
     ensures range { IfOk result (λ o. IfSome o IsInRange) }

@@ -2,6 +2,6 @@
 #![tactic(auto)]
 
 #[cfg(test)]
-mod ran;
+mod asked;
 #[cfg(test)]
 mod row_tests;

@@ -1,4 +1,4 @@
-use crate::ran::{Asked, Told, answered};
+use crate::asked::{Asked, Told, answered};
 use ppd_model::Origin;
 
 const CALLEE: &str = "shared int x; void f() { x = 4; } process a { x = 1; f(); print(x); }";

@@ -1,7 +1,8 @@
 // The line of each flowback edge of an item.
 ghost use Rattle.std.specs.Prelude.{◌≡◌, ◌++◌, OnOk, codes, decimal, slice_get};
 ghost use Rattle.std.specs.List.{flat_map};
-ghost use Rattle.ppd_why.specs.Edges.{edge_line, edge_word, from_text, item_locals as locals_of_item, locals_if as locals_of_block, origin_text, subject_text, why_text};
+ghost use Rattle.ppd_why.specs.Edges.{edge_line, edge_word, from_text, item_locals as locals_of_item};
+ghost use Rattle.ppd_why.specs.Edges.{locals_if as locals_of_block, origin_text, subject_text, why_text};
 ghost use Rattle.ppd_why.specs.Names.{process_name as process_name_of};
 
 use crate::items::{put_cell_value, put_item};

@@ -1,7 +1,10 @@
 // The line of each item of an interval.
 ghost use Rattle.std.specs.Prelude.{◌≡◌, ◌++◌, OnOk, slice_get, zip};
 ghost use Rattle.std.specs.List.{flat_map};
-ghost use Rattle.ppd_why.specs.Items.{access_text, accesses_text, cell_value, closed_if, closed_text, event_text, item_line, item_text, left_cell, left_text, nested_text, number_text, open_text, outcome_text, result_text, returned_text, spot_text, trap_text, value_text, written_locals as locals_written};
+ghost use Rattle.ppd_why.specs.Items.{access_text, accesses_text, cell_value, closed_if, closed_text, event_text};
+ghost use Rattle.ppd_why.specs.Items.{item_line, item_text, left_cell, left_text, nested_text, number_text};
+ghost use Rattle.ppd_why.specs.Items.{open_text, outcome_text, result_text, returned_text, spot_text, trap_text};
+ghost use Rattle.ppd_why.specs.Items.{value_text, written_locals as locals_written};
 
 use crate::kinds::put_event_kind;
 use crate::names::{body_locals, locals_round, put_cell, put_trap, put_what};

@@ -10,4 +10,4 @@ mod names;
 pub use edges::put_why;
 pub use items::{put_item, put_items};
 pub use lasts::put_last;
-pub use names::{process_name, put_cell, put_what};
+pub use names::{process_name, put_cell, put_trap, put_what};

@@ -69,8 +69,8 @@ pub fn put_what(
     }
 }
 
-/// Appends the word for a trap.
-pub(crate) fn put_trap(text: &mut Vec<u8>, trap: Trap) -> Result<(), Memory>
+/// Appends the word for a trap: `overflow`, `zero`, `index`, `assert` or `depth`.
+pub fn put_trap(text: &mut Vec<u8>, trap: Trap) -> Result<(), Memory>
     ensures { OnOk result (text.new.items ≡ text.old.items ++ trap_word trap) }
 {
     match trap {

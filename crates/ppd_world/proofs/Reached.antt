@@ -30,7 +30,7 @@ use Rattle.ppd_model.proofs.Bounded.{Goes, goes}
 use Rattle.ppd_model.proofs.Changes.{some}
 use Rattle.ppd_model.proofs.States.{logs_grow}
 use Rattle.ppd_model.proofs.Stories.{stories_are_of_runs}
-use Rattle.ppd_world.specs.Parts.{IsSmallChan, IsSmallLogging, IsSmallSem, world_of}
+use Rattle.ppd_world.specs.Parts.{IsSmallChan, IsSmallLogging, IsSmallSem, store, world_of}
 use Rattle.ppd_world.specs.Running.{IsCause, IsDriven, IsFollowed, IsOf, IsReached, Running, Takes, begun, can_step, closed, stepped}
 use Rattle.ppd_world.specs.Starts.{begun_chans, begun_logs, begun_sems}
 use Rattle.ppd_world.proofs.Begun.{logs_begun, procs_begun}
@@ -81,13 +81,11 @@ pub took : {E : Type 0} (r : Result (Unit {0}) E) (program : Program) (plan : Pl
 took (Ok u) program plan budget w now ls new p e f = same_running program plan budget now (step program plan w p) new (change (λ l. log_step program plan l (logged_moment program plan w p)) p ls) e f
 took (Err x) program plan budget w now ls new p e f = tt
 
-pub left_it : {E : Type 0} (r : Result (Unit {0}) E) (program : Program) (plan : Plan) (budget : ℕ) (a a' : List ℤ) (b b' : List Counts) (c c' : List Channel) (ls ks : List Logging)
-    → OnErr r (a' ≡ a) → OnErr r (b' ≡ b) → OnErr r (c' ≡ c) → OnErr r (ks ≡ ls)
-    → OnErr r (running program plan budget (world_of a' b' c' ks) ks ≡ running program plan budget (world_of a b c ls) ls)
-left_it (Ok u) program plan budget a a' b b' c c' ls ks e f g h = tt
-left_it (Err x) program plan budget a a' b b' c c' ls ks e f g h =
-    ap (λ (x : List ℤ). running program plan budget (world_of x b' c' ks) ks) e ∙ ap (λ (x : List Counts). running program plan budget (world_of a x c' ks) ks) f
-    ∙ ap (λ (x : List Channel). running program plan budget (world_of a b x ks) ks) g ∙ ap (λ (x : List Logging). running program plan budget (world_of a b c x) x) h
+pub left_it : {E : Type 0} (r : Result (Unit {0}) E) (program : Program) (plan : Plan) (budget : ℕ) (s t : World) (ls ks : List Logging) → OnErr r (t ≡ s) → OnErr r (ks ≡ ls)
+    → OnErr r (running program plan budget (world_of t ks) ks ≡ running program plan budget (world_of s ls) ls)
+left_it (Ok u) program plan budget s t ls ks e f = tt
+left_it (Err x) program plan budget s t ls ks e f =
+    ap (λ (x : World). running program plan budget (world_of x ks) ks) e ∙ ap (λ (x : List Logging). running program plan budget (world_of s x) x) f
 
 -- ---- answers of a step
 
@@ -139,7 +137,7 @@ at_place h i p P lt is here = by (slice_get h i) (slice_get-get_or h i p lt)
 pub driven_part : (old now : Running) (h : List ℕ) (i p : ℕ) (e : DriveError) → i < length h → p ≡ get_or h i p → Takes old (take i h) now → IsCause now p i e → IsDriven old h now (Err e)
 driven_part old now h i p (NotEnabled k) lt is t c =
     (subst (λ (n : ℕ). Takes old (take n h) now) (sym c.0) t, subst (λ (n : ℕ). IsSomeAnd (slice_get h n) (λ q. can_step now q ≡ false)) (sym c.0) (at_place h i p (λ q. can_step now q ≡ false) lt is c.1))
-driven_part old now h i p Memory lt is t c = (i, omega arith, t)
+driven_part old now h i p Memory lt is t c = (i, t, at_place h i p (λ q. can_step now q ≡ true) lt is c)
 
 pub driven_whole : (old now : Running) (h : List ℕ) (i : ℕ) → length h ≤ i → Takes old (take i h) now → Takes old h now
 driven_whole old now h i lt t = subst (λ (l : List ℕ). Takes old l now) (take_all i h lt) t
@@ -197,14 +195,14 @@ few_processes program v =
     omega arith
 
 pub begun_is : (program : Program) (plan : Plan) (budget n : ℕ) (shared : List ℤ) (sems : List Counts) (chans : List Channel) (ls : List Logging) → n ≡ length program.bodies - program.functions → shared ≡ program.starts → sems ≡ begun_sems program → chans ≡ begun_chans program → ls ≡ begun_logs program plan budget n
-    → running program plan budget (world_of shared sems chans ls) ls ≡ begun program plan budget
+    → running program plan budget (world_of (store shared sems chans) ls) ls ≡ begun program plan budget
 begun_is program plan budget n shared sems chans ls count s_is m_is c_is l_is =
     let k : ℕ = length program.bodies - program.functions in
     let logs : ls ≡ loggings program plan budget [] = l_is ∙ ap (λ (i : ℕ). begun_logs program plan budget i) count ∙ sym (logs_begun program plan budget 0 k) in
     let procs : map (λ l. l.proc) ls ≡ started_procs program plan budget k = ap (λ (x : List Logging). map (λ l. l.proc) x) (l_is ∙ ap (λ (i : ℕ). begun_logs program plan budget i) count) ∙ procs_begun program plan budget 0 k in
-    same_running program plan budget (world_of shared sems chans ls) (started_world program plan budget) ls (loggings program plan budget [])
-    (ap (λ (x : List ℤ). world_of x sems chans ls) s_is ∙ ap (λ (x : List Counts). world_of program.starts x chans ls) m_is
-    ∙ ap (λ (x : List Channel). world_of program.starts (begun_sems program) x ls) c_is
+    same_running program plan budget (world_of (store shared sems chans) ls) (started_world program plan budget) ls (loggings program plan budget [])
+    (ap (λ (x : List ℤ). world_of (store x sems chans) ls) s_is ∙ ap (λ (x : List Counts). world_of (store program.starts x chans) ls) m_is
+    ∙ ap (λ (x : List Channel). world_of (store program.starts (begun_sems program) x) ls) c_is
     ∙ ap (λ (x : List Proc). record { shared = program.starts; sems = begun_sems program; chans = begun_chans program; procs = x }) procs)
     logs
 

@@ -2,3 +2,4 @@
 pub mod Running
 pub mod Parts
 pub mod Starts
+pub mod Plain

@@ -1,5 +1,5 @@
 -- The parts of a step of a world.
-use Rattle.std.specs.Prelude.{ℕ, ◌+◌, ◌-◌, ◌<◌, ◌^◌, ℤ, List, [], ◌∷◌, ◌++◌, length, map, take, slice_set, Option, Some, None}
+use Rattle.std.specs.Prelude.{◌+◌, ◌-◌, ◌<◌, ◌^◌, ℤ, List, [], ◌∷◌, ◌++◌, length, map, take, slice_set, Option, Some, None}
 use Rattle.ppd_ast.specs.declared.plan.Plan.{Plan}
 use Rattle.ppd_ast.specs.declared.program.Program.{Program}
 use Rattle.ppd_entry.specs.declared.entry.Entry.{Entry}
@@ -48,9 +48,8 @@ abbrev pub store : List ℤ → List Counts → List Channel → World
 store shared sems chans = record { shared = shared; sems = sems; chans = chans; procs = [] }
 
 -- a shared state with the processes that have these logs
-abbrev pub world_of : List ℤ → List Counts → List Channel → List Logging → World
-world_of shared sems chans loggings =
-    record { shared = shared; sems = sems; chans = chans; procs = map (λ l. l.proc) loggings }
+abbrev pub world_of : World → List Logging → World
+world_of s loggings = record s { procs = map (λ l. l.proc) loggings }
 
 -- what a process that is there needs
 abbrev pub need_of_logging : Program → Plan → Option Logging → Need
@@ -110,18 +109,27 @@ received_after chans (Recv c u) = change one_received c chans
 received_after chans (Done c u) = change one_completed c chans
 received_after chans need = chans
 
+-- the shared state with what a step of this need sends
+abbrev pub sent : World → Need → World
+sent s n = record s { chans = sent_after s.chans n }
+
+-- the shared state without what was sent last
+abbrev pub unsent : World → Need → World
+unsent s n = record s { chans = unsent_after s.chans n }
+
+-- the shared state after all else that a step of this need does
+abbrev pub finished : World → Need → World
+finished s n = record s {
+  shared = shared_after s.shared n;
+  sems = sems_after s.sems n;
+  chans = received_after s.chans n;
+}
+
 -- ---- a process with its log
 
--- a step of this need with this answer and number
-abbrev pub taken_with : Need → Answer → Option ℕ → Taken
-taken_with n answer number = record { need = n; answer = answer; writer = None; number = number }
-
--- the same with the values of its unit, the shared cells as they stand after it
-abbrev pub moment_with : Plan → List ℤ → Need → Answer → Option ℕ → Moment
-moment_with plan shared n answer number = record {
-  taken = taken_with n answer number;
-  unit_values = values_at_start plan shared (unit_started n);
-}
+-- a step with the values of its unit, the shared cells as they stand after it
+abbrev pub moment_with : Plan → List ℤ → Taken → Moment
+moment_with plan shared t = record { taken = t; unit_values = values_at_start plan shared (unit_started t.need) }
 
 -- what becomes of the cells that were accessed
 abbrev pub noted : Note → Logging → Logging

@@ -1,5 +1,5 @@
 -- A world with its logs, and the schedule that it comes from.
-use Rattle.std.specs.Prelude.{◌≡◌, ◌≢◌, ℕ, ◌+◌, ◌<◌, ◌≤◌, Bool, true, false, List, [], ◌++◌, drop, length, take, Some, IsSomeAnd, slice_get, Result, Ok, Err, ⊤}
+use Rattle.std.specs.Prelude.{◌≡◌, ◌≢◌, ℕ, ◌+◌, ◌<◌, ◌≤◌, Bool, true, false, List, [], ◌++◌, drop, length, take, Some, IsSomeAnd, slice_get, Result, Ok, Err}
 use Rattle.ppd_ast.specs.Valid.{IsValid}
 use Rattle.ppd_ast.specs.ValidPlan.{IsValidPlan}
 use Rattle.ppd_ast.specs.declared.limits.TheConstants.{MOST_BUDGET}
@@ -103,15 +103,16 @@ pub record IsFollowed (before : Running) (p : ℕ) (after : Running) : Type 0 wh
   pub enabled : can_step before p ≡ true
   pub stepped_to : after ≡ stepped before p
 
--- number n of a schedule, which is p, names no enabled process; or memory is wanting
+-- number n of a schedule, which is p, names no enabled process; or it names one, and memory is wanting
 abbrev pub IsCause : Running → (p n : ℕ) → DriveError → Type 0
 IsCause r p n (NotEnabled k) = (k ≡ n) × (can_step r p ≡ false)
-IsCause r p n Memory = ⊤
+IsCause r p n Memory = can_step r p ≡ true
 
--- how far a schedule was taken: whole; or up to its first number that names no enabled process; or,
--- for want of memory, some first numbers
+-- how far a schedule was taken: whole; or up to its first number that names no enabled process; or, for want of
+-- memory, up to some number that names an enabled one
 abbrev pub IsDriven : Running → List ℕ → Running → Result (Unit {0}) DriveError → Type 0
 IsDriven before h after (Ok u) = Takes before h after
 IsDriven before h after (Err (NotEnabled n)) =
     Takes before (take n h) after × IsSomeAnd (slice_get h n) (λ p. can_step after p ≡ false)
-IsDriven before h after (Err Memory) = (n : ℕ) × (n ≤ length h) × Takes before (take n h) after
+IsDriven before h after (Err Memory) =
+    (n : ℕ) × Takes before (take n h) after × IsSomeAnd (slice_get h n) (λ p. can_step after p ≡ true)

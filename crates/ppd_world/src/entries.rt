@@ -3,16 +3,17 @@ ghost use Rattle.ppd_model.specs.Logs.{ends, entries_of as entries_of_step, pass
 ghost use Rattle.ppd_sem.specs.Blocks.{postlog_cells as postlog_cells_of, prelog_cells as prelog_cells_of};
 ghost use Rattle.ppd_model.specs.Marks.{closed, opened};
 ghost use Rattle.ppd_model.specs.Story.{cells_of_unit as cells_of_unit_in, unit_started as unit_started_of, values_at_start, values_of_unit};
-ghost use Rattle.ppd_model.specs.Synchronizations.{kind_of_sync, numbered};
+ghost use Rattle.ppd_model.specs.Synchronizations.{sync_of};
 ghost use Rattle.ppd_sem.specs.Ask.{cell_of};
 ghost use Rattle.ppd_sem.specs.Process.{value_of};
 ghost use Rattle.ppd_sem.specs.Runs.{IsRunnable, IsRunning};
-ghost use Rattle.ppd_world.specs.Parts.{moment_with, taken_with};
+ghost use Rattle.ppd_world.specs.Parts.{moment_with};
 
-use crate::store::value_at;
-use ppd_ast::{Cells, Memory, Nums, Plan, Program, Status, SyncKind};
+use crate::code::Code;
+use crate::objects::value_at;
+use ppd_ast::{Cells, Memory, Nums, Plan, Status, SyncKind};
 use ppd_entry::Entry;
-use ppd_model::Logging;
+use ppd_model::{Logging, Taken};
 use ppd_sem::{Answer, Need, Proc, call_values, local_cells, returned_value};
 use std::alloc::Global;
 
@@ -85,29 +86,26 @@ pub(crate) fn unit_values(
 }
 
 /// The prelog of the block that a step of this need enters.
-fn push_opened(
-    entries: &mut Vec<Entry>,
-    alloc: Global,
-    program: &Program,
-    plan: &Plan,
-    proc: &Proc,
-    need: Need,
-) -> Result<(), Memory>
-    requires program { IsRunnable program.now }
-    requires proc { IsRunning program.now proc.now }
+fn push_opened(entries: &mut Vec<Entry>, code: &Code, proc: &Proc, need: Need) -> Result<(), Memory>
+    requires program { IsRunnable code.now.program.now }
+    requires proc { IsRunning code.now.program.now proc.now }
     ensures { OnOk result
-        (entries.new.items ≡ entries.old.items ++ prelogs (opened program.now plan.now proc.now need)) }
+        (entries.new.items ≡ entries.old.items ++ prelogs (opened code.now.program.now code.now.plan.now proc.now need)) }
 {
     match need {
         Need::Enter { block, .. } => {
-            let values = values_at(alloc, local_cells(proc), prelog_cells(plan, block))?;
+            let values = values_at(
+                code.alloc,
+                local_cells(proc),
+                prelog_cells(code.plan, block),
+            )?;
             push(entries, Entry::Prelog { block, values })
         }
         Need::Invoke {
             block: Some(block),
             ..
         } => {
-            let values = call_values(alloc, program, proc)?;
+            let values = call_values(code.alloc, code.program, proc)?;
             push(entries, Entry::Prelog { block, values })
         }
         _ => Ok(()),
@@ -126,33 +124,30 @@ fn listed(alloc: Global, value: Option<i64>) -> Result<Nums, Memory>
 }
 
 /// The postlog of the block that a step of this need leaves.
-fn push_closed(
-    entries: &mut Vec<Entry>,
-    alloc: Global,
-    program: &Program,
-    plan: &Plan,
-    proc: &Proc,
-    need: Need,
-) -> Result<(), Memory>
-    requires program { IsRunnable program.now }
-    requires proc { IsRunning program.now proc.now }
+fn push_closed(entries: &mut Vec<Entry>, code: &Code, proc: &Proc, need: Need) -> Result<(), Memory>
+    requires program { IsRunnable code.now.program.now }
+    requires proc { IsRunning code.now.program.now proc.now }
     ensures { OnOk result
-        (entries.new.items ≡ entries.old.items ++ postlogs (closed program.now plan.now proc.now need)) }
+        (entries.new.items ≡ entries.old.items ++ postlogs (closed code.now.program.now code.now.plan.now proc.now need)) }
 {
     match need {
         Need::Leave { block, .. } => {
-            let values = values_at(alloc, local_cells(proc), postlog_cells(plan, block))?;
+            let values = values_at(
+                code.alloc,
+                local_cells(proc),
+                postlog_cells(code.plan, block),
+            )?;
             push(entries, Entry::Postlog { block, values })
         }
         Need::Back {
             block: Some(block),
             ..
         } => {
-            let values = listed(alloc, returned_value(program, proc))?;
+            let values = listed(code.alloc, returned_value(code.program, proc))?;
             push(entries, Entry::Postlog { block, values })
         }
         Need::End { block } => {
-            let values = Nums::new(alloc);
+            let values = Nums::new(code.alloc);
             push(entries, Entry::Postlog { block, values })
         }
         _ => Ok(()),
@@ -180,18 +175,11 @@ fn passed(need: Need, answer: Answer) -> i64
 }
 
 /// The entry of a synchronization that takes this number.
-fn push_sync(
-    entries: &mut Vec<Entry>,
-    logging: &Logging,
-    need: Need,
-    answer: Answer,
-    number: Option<u32>,
-) -> Result<(), Memory>
+fn push_sync(entries: &mut Vec<Entry>, logging: &Logging, taken: Taken) -> Result<(), Memory>
     ensures { OnOk result
-        (entries.new.items ≡ entries.old.items
-        ++ syncs logging.now (taken_with need answer number) (numbered (kind_of_sync need) number)) }
+        (entries.new.items ≡ entries.old.items ++ syncs logging.now taken (sync_of taken)) }
 {
-    let (kind, object) = match need {
+    let (kind, object) = match taken.need {
         Need::P { sem, .. } => (SyncKind::P, sem),
         Need::V { sem, .. } => (SyncKind::V, sem),
         Need::Send { chan, .. } | Need::Offer { chan, .. } => (SyncKind::Send, chan),
@@ -199,10 +187,10 @@ fn push_sync(
         Need::Recv { chan, .. } => (SyncKind::Recv, chan),
         _ => return Ok(()),
     };
-    let Some(number) = number else {
+    let Some(number) = taken.number else {
         return Ok(());
     };
-    let value = passed(need, answer);
+    let value = passed(taken.need, taken.answer);
     let reads = copy_cells(&logging.reads)?;
     let writes = copy_cells(&logging.writes)?;
     push(
@@ -239,18 +227,17 @@ fn unit_started(need: Need) -> Option<u16>
 /// The unit that starts after a step of this need, with its values.
 fn push_unit(
     entries: &mut Vec<Entry>,
-    alloc: Global,
-    plan: &Plan,
+    code: &Code,
     shared: &[i64],
     need: Need,
 ) -> Result<(), Memory>
     ensures { OnOk result
         (entries.new.items ≡ entries.old.items
-        ++ units (unit_started_of need) (values_at_start plan.now shared.now (unit_started_of need))) }
+        ++ units (unit_started_of need) (values_at_start code.now.plan.now shared.now (unit_started_of need))) }
 {
     match unit_started(need) {
         Some(unit) => {
-            let values = unit_values(alloc, plan, shared, unit)?;
+            let values = unit_values(code.alloc, code.plan, shared, unit)?;
             push(entries, Entry::Unit { unit, values })
         }
         None => Ok(()),
@@ -293,29 +280,24 @@ pub(crate) fn push_end(
     )
 }
 
-/// The entries that a step of this need writes, with this answer and number.
-/// `Memory` is want of memory.
+/// The entries that this step writes. `Memory` is want of memory.
 pub(crate) fn entries_of(
-    alloc: Global,
-    program: &Program,
-    plan: &Plan,
+    code: &Code,
     logging: &Logging,
     shared: &[i64],
-    need: Need,
-    answer: Answer,
-    number: Option<u32>,
+    taken: Taken,
 ) -> Result<Vec<Entry>, Memory>
-    requires program { IsRunnable program.now }
-    requires proc { IsRunning program.now logging.now.proc }
+    requires program { IsRunnable code.now.program.now }
+    requires proc { IsRunning code.now.program.now logging.now.proc }
     ensures { IfOk result
-        (λ entries. entries.items
-        ≡ entries_of_step program.now plan.now logging.now (moment_with plan.now shared.now need answer number)) }
+        (λ entries. entries.items ≡ entries_of_step code.now.program.now code.now.plan.now logging.now
+        (moment_with code.now.plan.now shared.now taken)) }
 {
-    let mut entries = Vec::new(alloc);
-    push_opened(&mut entries, alloc, program, plan, &logging.proc, need)?;
-    push_sync(&mut entries, logging, need, answer, number)?;
-    push_closed(&mut entries, alloc, program, plan, &logging.proc, need)?;
-    push_unit(&mut entries, alloc, plan, shared, need)?;
-    push_end(&mut entries, logging, status_of(need))?;
+    let mut entries = Vec::new(code.alloc);
+    push_opened(&mut entries, code, &logging.proc, taken.need)?;
+    push_sync(&mut entries, logging, taken)?;
+    push_closed(&mut entries, code, &logging.proc, taken.need)?;
+    push_unit(&mut entries, code, shared, taken.need)?;
+    push_end(&mut entries, logging, status_of(taken.need))?;
     Ok(entries)
 }

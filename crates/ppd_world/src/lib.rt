@@ -2,9 +2,11 @@
 #![tactic(auto)]
 
 mod closing;
+mod code;
 mod entries;
 mod logging;
 mod note;
+mod objects;
 mod starting;
 mod stepping;
 mod store;

@@ -5,14 +5,15 @@ ghost use Rattle.ppd_model.specs.World.{change};
 ghost use Rattle.ppd_sem.specs.Process.{act};
 ghost use Rattle.ppd_sem.specs.Runs.{IsNumbered, IsRunnable, IsRunning};
 ghost use Rattle.ppd_world.specs.Parts.{IsSmallLogging, logged, moment_with, need_of_logging};
+ghost use Rattle.ppd_world.specs.Plain.{gone_on};
 
+use crate::code::Code;
 use crate::entries::entries_of;
 use crate::note::{Note, apply, note_of};
-use ppd_ast::{Memory, Plan, Program, Seq};
+use ppd_ast::{Memory, Seq};
 use ppd_entry::Entry;
-use ppd_model::Logging;
+use ppd_model::{Logging, Taken};
 use ppd_sem::{Answer, Need, Proc, feed, look};
-use std::alloc::Global;
 
 /// The steps since the last one that wrote an entry, after a step that wrote these.
 fn rest_of(rest: u32, new: &[Entry]) -> u32
@@ -27,24 +28,23 @@ fn rest_of(rest: u32, new: &[Entry]) -> u32
 
 /// Appends the entries and takes the process's step. `Memory` is want of memory: nothing changes.
 fn append_and_feed(
-    program: &Program,
-    plan: &Plan,
+    code: &Code,
     proc: &mut Proc,
     entries: &mut Seq<Entry>,
     new: Vec<Entry>,
     answer: Answer,
 ) -> Result<(), Memory>
-    requires program { IsRunnable program.now }
-    requires plan { IsNumbered plan.now }
-    requires proc { IsRunning program.now proc.old }
-    ensures proc { OnOk result (proc.new ≡ act program.now plan.now proc.old answer) }
+    requires program { IsRunnable code.now.program.now }
+    requires plan { IsNumbered code.now.plan.now }
+    requires proc { IsRunning code.now.program.now proc.old }
+    ensures proc { OnOk result (proc.new ≡ act code.now.program.now code.now.plan.now proc.old answer) }
     ensures entries { OnOk result (entries.new ≡ entries.old ++ new.items) }
     ensures same_proc { OnErr result (proc.new ≡ proc.old) }
     ensures same_entries { OnErr result (entries.new ≡ entries.old) }
 {
     let count = entries.len();
     entries.append(new)?;
-    if feed(program, plan, proc, &answer).is_err() {
+    if feed(code.program, code.plan, proc, &answer).is_err() {
         entries.truncate(count);
         return Err(Memory);
     }
@@ -53,28 +53,21 @@ fn append_and_feed(
 
 /// Takes a process's step, which wrote these entries. `Memory` is want of memory: nothing changes.
 fn put(
-    program: &Program,
-    plan: &Plan,
+    code: &Code,
     logging: &mut Logging,
     answer: Answer,
     note: Note,
     new: Vec<Entry>,
 ) -> Result<(), Memory>
-    requires program { IsRunnable program.now }
-    requires plan { IsNumbered plan.now }
-    requires logging { IsSmallLogging program.now logging.old }
-    ensures ok { OnOk result (logging.new ≡ logged program.now plan.now logging.old answer note new.items) }
+    requires program { IsRunnable code.now.program.now }
+    requires plan { IsNumbered code.now.plan.now }
+    requires logging { IsSmallLogging code.now.program.now logging.old }
+    ensures ok { OnOk result
+        (logging.new ≡ logged code.now.program.now code.now.plan.now logging.old answer note new.items) }
     ensures err { OnErr result (logging.new ≡ logging.old) }
 {
     let rest = rest_of(logging.rest, new.as_slice());
-    append_and_feed(
-        program,
-        plan,
-        &mut logging.proc,
-        &mut logging.entries,
-        new,
-        answer,
-    )?;
+    append_and_feed(code, &mut logging.proc, &mut logging.entries, new, answer)?;
     apply(note, logging);
     logging.rest = rest;
     Ok(())
@@ -82,67 +75,71 @@ fn put(
 
 /// Takes the next step of a process and writes its entries. `Memory` is want of memory: nothing
 /// changes.
-fn step_one(
-    alloc: Global,
-    program: &Program,
-    plan: &Plan,
-    shared: &[i64],
-    logging: &mut Logging,
-    need: Need,
-    answer: Answer,
-    number: Option<u32>,
-) -> Result<(), Memory>
-    requires program { IsRunnable program.now }
-    requires plan { IsNumbered plan.now }
-    requires logging { IsSmallLogging program.now logging.old }
+fn step_one(code: &Code, shared: &[i64], logging: &mut Logging, taken: Taken) -> Result<(), Memory>
+    requires program { IsRunnable code.now.program.now }
+    requires plan { IsNumbered code.now.plan.now }
+    requires logging { IsSmallLogging code.now.program.now logging.old }
     ensures ok { OnOk result
         (logging.new
-        ≡ log_step program.now plan.now logging.old (moment_with plan.now shared.now need answer number)) }
+        ≡ log_step code.now.program.now code.now.plan.now logging.old (moment_with code.now.plan.now shared.now taken)) }
     ensures err { OnErr result (logging.new ≡ logging.old) }
 {
-    let new = entries_of(alloc, program, plan, logging, shared, need, answer, number)?;
-    let note = note_of(alloc, logging, need)?;
-    put(program, plan, logging, answer, note, new)
+    let new = entries_of(code, logging, shared, taken)?;
+    let note = note_of(code.alloc, logging, taken.need)?;
+    put(code, logging, taken.answer, note, new)
 }
 
 /// Takes the next step of the process at this place and writes its entries. `Memory` is want of
 /// memory: nothing changes.
 pub(crate) fn step_at(
-    alloc: Global,
-    program: &Program,
-    plan: &Plan,
+    code: &Code,
     shared: &[i64],
     loggings: &mut Vec<Logging>,
     place: usize,
-    need: Need,
-    answer: Answer,
-    number: Option<u32>,
+    taken: Taken,
 ) -> Result<(), Memory>
-    requires program { IsRunnable program.now }
-    requires plan { IsNumbered plan.now }
-    requires loggings { All (IsSmallLogging program.now) loggings.old.items }
+    requires program { IsRunnable code.now.program.now }
+    requires plan { IsNumbered code.now.plan.now }
+    requires loggings { All (IsSmallLogging code.now.program.now) loggings.old.items }
     ensures ok { OnOk result
         (loggings.new.items
-        ≡ change (λ l. log_step program.now plan.now l
-        (moment_with plan.now shared.now need answer number)) place loggings.old.items) }
+        ≡ change (λ l. log_step code.now.program.now code.now.plan.now l
+        (moment_with code.now.plan.now shared.now taken)) place loggings.old.items) }
     ensures err { OnErr result (loggings.new.items ≡ loggings.old.items) }
 {
     if place >= loggings.len() {
         return Ok(());
     }
-    let logging = &mut loggings[place];
-    step_one(alloc, program, plan, shared, logging, need, answer, number)
+    step_one(code, shared, &mut loggings[place], taken)
+}
+
+/// Puts this state, to which so many steps without an entry led, in the place of a process's own.
+fn go_on_with(logging: &mut Logging, proc: Proc, steps: u32)
+    requires { logging.old.rest + steps < 2 ^ 32 }
+    ensures { logging.new ≡ gone_on proc steps logging.old }
+{
+    logging.proc = proc;
+    logging.rest += steps;
+}
+
+/// The same of the process at this place.
+pub(crate) fn go_on(loggings: &mut Vec<Logging>, place: usize, proc: Proc, steps: u32)
+    requires there { place < length loggings.old.items }
+    requires rest { All (λ l. l.rest + steps < 2 ^ 32) loggings.old.items }
+    ensures { loggings.new.items ≡ change (gone_on proc steps) place loggings.old.items }
+{
+    go_on_with(&mut loggings[place], proc, steps);
 }
 
 /// What the process at this place needs.
-pub(crate) fn need_at(program: &Program, plan: &Plan, loggings: &[Logging], place: usize) -> Need
-    requires program { IsRunnable program.now }
-    requires plan { IsNumbered plan.now }
-    requires loggings { All (IsSmallLogging program.now) loggings.now }
-    ensures { result ≡ need_of_logging program.now plan.now (slice_get loggings.now place) }
+pub(crate) fn need_at(code: &Code, loggings: &[Logging], place: usize) -> Need
+    requires program { IsRunnable code.now.program.now }
+    requires plan { IsNumbered code.now.plan.now }
+    requires loggings { All (IsSmallLogging code.now.program.now) loggings.now }
+    ensures { result ≡ need_of_logging code.now.program.now code.now.plan.now (slice_get loggings.now place) }
 {
     match loggings.get(place) {
-        Some(logging) => look(program, plan, &logging.proc),
+        Some(logging) => look(code.program, code.plan, &logging.proc),
         None => Need::Stopped,
     }
 }

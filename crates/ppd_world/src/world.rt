@@ -1,40 +1,41 @@
-ghost use Rattle.std.specs.Prelude.{◌≡◌, ◌+◌, ◌-◌, ◌≤◌, ◌↔◌, ◌∷◌, [], length, true, IsTrue, IfErr, IfNone, IfOk, IfSome, OnOk, OnErr, List, ℕ};
+ghost use Rattle.std.specs.Prelude.{◌≡◌, ◌+◌, ◌-◌, ◌<◌, ◌≤◌, ◌↔◌, ◌∷◌, [], length, replicate, slice_get, true, IsTrue, IfErr, IfNone, IfOk, IfSome, OnOk, OnErr, List, ℕ, Some};
 ghost use Rattle.ppd_ast.specs.Valid.{IsValid};
 ghost use Rattle.ppd_ast.specs.ValidPlan.{IsValidPlan};
 ghost use Rattle.ppd_model.specs.Laws.{logged_moment};
 ghost use Rattle.ppd_model.specs.Logs.{close as close_of};
 ghost use Rattle.ppd_model.specs.Schedule.{IsOver};
+ghost use Rattle.ppd_world.specs.Plain.{ComesPlainly, stepped_times};
 ghost use Rattle.ppd_world.specs.Running.{IsCause, IsDriven, IsFollowed, IsLowest, IsOf, IsPaidStep, IsReached, Takes, begun, can_step, closed as closed_of, stepped};
 
 use crate::closing::close_all;
+use crate::code::Code;
+use crate::logging::go_on;
 use crate::starting::{start_chans, start_logs, start_sems};
 use crate::stepping::{is_enabled, is_over, next_step, take_step};
+use crate::store::Store;
 use ppd_ast::limits::MOST_BUDGET;
 use ppd_ast::{Memory, Nums, Plan, Program};
-use ppd_model::{Channel, Closed, Counts, DriveError, Logging, Taken};
+use ppd_model::{Closed, DriveError, Logging, Taken};
+use ppd_sem::Proc;
 use std::alloc::Global;
 use std::marker::Model;
 
 /// The shared state of a program's run with all its processes and their logs.
 #[derive(Drop)]
 pub struct World<'a> {
-    alloc: Global,
-    program: &'a Program,
-    plan: &'a Plan,
+    code: Code<'a>,
     budget: u32,
-    shared: Nums,
-    sems: Vec<Counts>,
-    chans: Vec<Channel>,
+    store: Store,
     loggings: Vec<Logging>,
 }
 
 impl<'a> Model for World<'a> {
-    ghost use Rattle.std.specs.Prelude.{map};
+    ghost use Rattle.ppd_world.specs.Parts.{world_of};
     ghost use Rattle.ppd_world.specs.Running.{Running};
 
     ghost Value = { Running };
 
-    ghost view = { λ w. record { program = w.program.now; plan = w.plan.now; budget = w.budget; world = record { shared = w.shared; sems = w.sems.items; chans = w.chans.items; procs = map (λ l. l.proc) w.loggings.items }; loggings = w.loggings.items } };
+    ghost view = { λ w. record { program = w.code.program.now; plan = w.code.plan.now; budget = w.budget; world = world_of w.store w.loggings.items; loggings = w.loggings.items } };
 }
 
 fn copy_values(values: &Nums) -> Result<Nums, Memory>
@@ -73,14 +74,19 @@ impl<'a> World<'a> {
     {
         let count = process_count(program);
         let loggings = start_logs(alloc, program, plan, budget, count)?;
-        Ok(World {
-            alloc,
-            program,
-            plan,
-            budget,
+        let store = Store {
             shared: copy_values(&program.starts)?,
             sems: start_sems(alloc, program)?,
             chans: start_chans(alloc, program)?,
+        };
+        Ok(World {
+            code: Code {
+                alloc,
+                program,
+                plan,
+            },
+            budget,
+            store,
             loggings,
         })
     }
@@ -90,14 +96,7 @@ impl<'a> World<'a> {
         requires { IsReached self.now }
         ensures { result ≡ can_step self.now p }
     {
-        is_enabled(
-            self.program,
-            self.plan,
-            &self.sems,
-            &self.chans,
-            &self.loggings,
-            p as usize,
-        )
+        is_enabled(&self.code, &self.store, &self.loggings, p as usize)
     }
 
     /// How many processes there are, at most 16: those of the program.
@@ -106,7 +105,7 @@ impl<'a> World<'a> {
         ensures procs { result ≡ length self.now.world.procs }
         ensures program { result ≡ length self.now.program.bodies - self.now.program.functions }
     {
-        process_count(self.program)
+        process_count(self.code.program)
     }
 
     /// The lowest process that can take a step, and none where nobody can.
@@ -128,13 +127,7 @@ impl<'a> World<'a> {
         requires { IsReached self.now }
         ensures { IsTrue result ↔ IsOver self.now.program self.now.plan self.now.world }
     {
-        is_over(
-            self.program,
-            self.plan,
-            &self.sems,
-            &self.chans,
-            &self.loggings,
-        )
+        is_over(&self.code, &self.store, &self.loggings)
     }
 
     /// What the next step of process `p` needs, `Stopped` for a number that is no process, what it is
@@ -143,22 +136,36 @@ impl<'a> World<'a> {
         requires { IsReached self.now }
         ensures { result ≡ (logged_moment self.now.program self.now.plan self.now.world p).taken }
     {
-        next_step(
-            self.program,
-            self.plan,
-            self.shared.as_slice(),
-            &self.sems,
-            &self.chans,
-            &self.loggings,
-            p as usize,
-        )
+        next_step(&self.code, &self.store, &self.loggings, p as usize)
+    }
+
+    /// The program that is run.
+    pub fn program(&self) -> &'a Program
+        ensures { result.now ≡ self.now.program }
+    {
+        self.code.program
+    }
+
+    /// Its plan.
+    pub fn plan(&self) -> &'a Plan
+        ensures { result.now ≡ self.now.plan }
+    {
+        self.code.plan
+    }
+
+    /// The state of process `p`, which is there.
+    pub fn proc(&self, p: u8) -> &Proc
+        requires { p < length self.now.world.procs }
+        ensures { slice_get self.now.world.procs p ≡ Some result.now }
+    {
+        &self.loggings[p as usize].proc
     }
 
     /// The values of the shared cells.
     pub fn cells(&self) -> &[i64]
         ensures { result.now ≡ self.now.world.shared }
     {
-        self.shared.as_slice()
+        self.store.cells()
     }
 
     /// Takes the step of process `p`.
@@ -168,16 +175,7 @@ impl<'a> World<'a> {
         ensures err { OnErr result (self.new ≡ self.old) }
     {
         let place = p as usize;
-        take_step(
-            self.alloc,
-            self.program,
-            self.plan,
-            &mut self.shared,
-            &mut self.sems,
-            &mut self.chans,
-            &mut self.loggings,
-            place,
-        )
+        take_step(&self.code, &mut self.store, &mut self.loggings, place)
     }
 
     /// Process `p`, which is enabled, takes its step and writes its entries. The step costs 1 and the count
@@ -194,6 +192,18 @@ impl<'a> World<'a> {
         ensures kept { IsReached self.new }
     {
         self.take(p)
+    }
+
+    /// Takes so many steps of process `p` at once, each of which needs nothing but the process itself: this is
+    /// the state that it comes to by them. It takes no memory.
+    pub fn put(&mut self, p: u8, proc: Proc, steps: u32)
+        requires reached { IsReached self.old }
+        requires comes { ComesPlainly self.old p steps proc }
+        ensures steps { self.new ≡ stepped_times self.old p steps }
+        ensures comes { Takes self.old (replicate steps p) self.new }
+        ensures kept { IsReached self.new }
+    {
+        go_on(&mut self.loggings, p as usize, proc, steps);
     }
 
     /// Takes the step of process `p`, which is number `index` of a schedule.
@@ -215,7 +225,8 @@ impl<'a> World<'a> {
 
     /// Takes the steps of a schedule, as far as each number names an enabled process.
     /// `NotEnabled(n)`: the first `n` steps were taken, and number `n`, from 0, is the first that
-    /// names none. `Memory` is want of memory: some first steps were taken.
+    /// names none. `Memory` is want of memory: some first steps were taken, and the next number names
+    /// an enabled process.
     pub fn drive(&mut self, schedule: &[u8]) -> Result<(), DriveError>
         requires { IsReached self.old }
         ensures driven { IsDriven self.old schedule.now self.new result }
@@ -238,6 +249,6 @@ impl<'a> World<'a> {
             (λ closed. (h : List ℕ) → IsOf h self.entry
             → closed ≡ close_of self.entry.program self.entry.plan self.entry.budget h) }
     {
-        close_all(self.alloc, self.program, self.loggings)
+        close_all(self.code.alloc, self.code.program, self.loggings)
     }
 }

@@ -1,7 +1,13 @@
+use Rattle.ppd_flow.proofs.Costing.{costs_edges}
 use Rattle.ppd_flow.proofs.OfRuns.{gives_edges}
 use Rattle.ppd_flow.proofs.item.edges.Goals as goal
 
 pub returns-clause-run : goal.returns-clause-run
 returns-clause-run g c =
     gives_edges c.replays_are_seen.ensures c.edges_are_found.ensures c.all_own_parts_are_found.ensures c.args.past.now c.args.process c.args.interval c.args.item c.args.steps.now
+    c.edges_found.new.steps c.edges_found.result c.requires.program_ok c.edges_found.ensures
+
+pub returns-clause-cost : goal.returns-clause-cost
+returns-clause-cost g c =
+    costs_edges c.replays_are_seen.ensures c.edges_are_found.ensures c.all_own_parts_are_found.ensures c.edges_cost_little.ensures c.args.past.now c.args.process c.args.interval c.args.item c.args.steps.now
     c.edges_found.new.steps c.edges_found.result c.requires.program_ok c.edges_found.ensures

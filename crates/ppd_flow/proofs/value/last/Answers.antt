@@ -1,5 +1,6 @@
 use Rattle.ppd_search.specs.Shared.{last_replays}
 use Rattle.ppd_walk.specs.SharedCells.{seens_in}
+use Rattle.ppd_flow.proofs.Costing.{costs_last}
 use Rattle.ppd_flow.proofs.OfRuns.{gives_last}
 use Rattle.ppd_flow.proofs.value.last.Goals as goal
 
@@ -7,3 +8,7 @@ pub returns-clause-run : goal.returns-clause-run
 returns-clause-run g c =
     gives_last c.replays_are_seen.ensures c.last_writes_are_found.ensures c.args.past.now c.args.cell c.args.steps.now c.last_found.new.steps
     (last_replays c.args.past.now.program.now c.args.past.now.logs.now (seens_in c.args.past.now) c.args.cell) c.last_found.result c.requires.program_ok c.last_found.ensures
+
+pub returns-clause-cost : goal.returns-clause-cost
+returns-clause-cost g c =
+    costs_last c.replays_are_seen.ensures c.last_costs_little.ensures c.args.past.now c.args.cell c.args.steps.now c.last_found.new.steps c.last_found.result c.requires.program_ok c.last_found.ensures

@@ -1,7 +1,7 @@
 use Rattle.std.proofs.Common.{subst, sym}
 use Rattle.ppd_session.specs.Known.{last_by}
 use Rattle.ppd_session.specs.Sessions.{IsWhy, unfound}
-use Rattle.ppd_session.proofs.LastValues.{last_fails, last_found, never_event}
+use Rattle.ppd_session.proofs.LastValues.{last_fails, last_found}
 use Rattle.ppd_session.proofs.lasts.last_in.Goals as goal
 
 pub returns-in-Ok-clause-value : goal.returns-in-Ok-clause-value

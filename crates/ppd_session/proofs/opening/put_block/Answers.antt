@@ -1,5 +1,5 @@
 use Rattle.std.specs.Prelude.{Some}
-use Rattle.std.proofs.Common.{◌≡◌, List, Ok, [], ap, sym, ◌∙◌}
+use Rattle.std.proofs.Common.{List, Ok, [], ap, sym, ◌∙◌}
 use Rattle.ppd_model.specs.declared.flow.Item.{Item}
 use Rattle.ppd_session.specs.Sessions.{known_by}
 use Rattle.ppd_session.specs.Texts.{told_at}

@@ -1,5 +1,5 @@
-use Rattle.std.specs.Prelude.{IfErr, None, OnOk}
-use Rattle.std.proofs.Common.{◌≡◌, ◌++◌, List, subst, sym}
+use Rattle.std.specs.Prelude.{IfErr}
+use Rattle.std.proofs.Common.{List, subst, sym}
 use Rattle.ppd_model.specs.declared.graph.Race.{Race}
 use Rattle.ppd_session.specs.Sessions.{AreTold, IsWhy, known_by}
 use Rattle.ppd_session.specs.Texts.{opening_failure}

@@ -1,7 +1,8 @@
 use Rattle.std.proofs.Common.{inl, inr, refl, subst, ◌≡◌}
 use Rattle.ppd_words.specs.Reads.{texts_in}
 use Rattle.ppd_top.specs.Words.{Asks, AsksDebug, command_of}
-use Rattle.ppd_top.proofs.Asked.{asks_recording, asks_source, range_of}
+use Rattle.ppd_top.specs.Ran.Comes.{drill_done}
+use Rattle.ppd_top.proofs.Asked.{asks_drill, asks_recording, asks_source, range_of}
 use Rattle.ppd_top.proofs.Inputs.{source_input, recording_input}
 use Rattle.ppd_top.proofs.call.answer.Goals as goal
 
@@ -22,3 +23,8 @@ pub returns-in-Recording-clause-input : goal.returns-in-Recording-clause-input
 returns-in-Recording-clause-input g c = λ e.
     absurd (recording_input c.args.words.now c.in-Recording.name.now c.on_recording.result.status
     (asks_recording (texts_in c.args.words.now) c.in-Ok.asked c.in-Ok.ensures.is c.in-Some.request c.in-Recording.name c.in-Some.is c.in-Recording.is) c.on_recording.ensures.status e)
+
+pub returns-in-Drill-clause-comes : goal.returns-in-Drill-clause-comes
+returns-in-Drill-clause-comes g c =
+    drill_done c.in-Drill.number (asks_drill (texts_in c.args.words.now) c.in-Ok.asked c.in-Ok.ensures.is c.in-Some.request c.in-Drill.number c.in-Some.is c.in-Drill.is)
+    (record { held = refl; stores = λ n. refl }) refl c.drill.ensures

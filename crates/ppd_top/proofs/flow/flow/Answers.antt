@@ -1,7 +1,7 @@
 use Rattle.std.proofs.Common.{inr}
-use Rattle.ppd_top.proofs.Told.{was_told}
+use Rattle.ppd_top.proofs.Told.{was_told_by}
 use Rattle.ppd_top.proofs.flow.flow.Goals as goal
 
 pub returns : goal.returns
 returns g c =
-    inr (was_told c.args.task.now.program.now c.args.task.now.options c.in-Ok.plan c.in-Ok-run.ran.closed c.in-Ok-run.ran.schedule _ _ c.tell-status.result c.requires.program c.in-Ok.ensures.plan c.in-Ok-run.ensures.end.whole c.in-Ok-run.ensures.end.closed c.tell-status.ensures)
+    inr (was_told_by c.args.task.now.program.now c.args.task.now.options c.in-Ok.by.schedule c.in-Ok.by.run _ _ c.tell-status.result c.requires.program c.in-Ok.ensures c.tell-status.ensures)

@@ -15,9 +15,9 @@ returns-in_default-new g c = nothing_yet _ _ _
 
 pub new-requires-after_bounds : goal.new-requires-after_bounds
 new-requires-after_bounds g c =
-    let t : BelongTogether c.args.run.now.program.now c.args.run.now.plan.now c.args.run.now.closed.now.logs c.in-Ok.index c.in-Ok-graph_of.graph =
-    together c.args.run.now.program.now c.args.run.now.plan.now c.args.run.now.budget c.args.run.now.closed.now c.in-Ok.index c.in-Ok-graph_of.graph c.requires c.in-Ok.ensures.index c.in-Ok.ensures.fitting c.in-Ok-graph_of.ensures in
+    let t : BelongTogether c.args.run.now.program.now c.args.run.now.plan c.args.run.now.closed.logs c.in-Ok.index c.in-Ok-graph_of.graph =
+    together c.args.run.now.program.now c.args.run.now.plan c.args.run.now.budget c.args.run.now.closed c.in-Ok.index c.in-Ok-graph_of.graph c.requires c.in-Ok.ensures.index c.in-Ok.ensures.fitting c.in-Ok-graph_of.ensures in
     search rules
 
 pub tell_session-requires-clause-few : goal.tell_session-requires-clause-few
-tell_session-requires-clause-few g c = told_ends c.args.run.now.program.now c.args.run.now.plan.now c.args.run.now.budget c.args.run.now.closed.now c.requires
+tell_session-requires-clause-few g c = told_ends c.args.run.now.program.now c.args.run.now.plan c.args.run.now.budget c.args.run.now.closed c.requires

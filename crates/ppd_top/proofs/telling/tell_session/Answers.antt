@@ -14,7 +14,7 @@ returns-in_default-new g c = nothing_yet _ _ _
 
 pub returns-in-Err : goal.returns-in-Err
 returns-in-Err g c =
-    let head = summary_of c.args.run.now.program.now c.args.run.now.closed.now.ends c.args.session.now.races in
+    let head = summary_of c.args.run.now.program.now c.args.run.now.closed.ends c.args.session.now.races in
     let a = standing (g.I.Source.left c.args.input.now) (g.I.Source.faults c.args.input.now) (g.O.Sink.written c.args.output.now) (g.O.Sink.faults c.args.output.now) in
     let b = standing (g.I.Source.left c.args.input.now) (g.I.Source.faults c.args.input.now) (g.O.Sink.written c.put_all.new.out) (g.O.Sink.faults c.put_all.new.out) in
     let races = c.args.session.now.races in
@@ -23,7 +23,7 @@ returns-in-Err g c =
 
 pub returns : goal.returns
 returns g c =
-    let head = summary_of c.args.run.now.program.now c.args.run.now.closed.now.ends c.args.session.now.races in
+    let head = summary_of c.args.run.now.program.now c.args.run.now.closed.ends c.args.session.now.races in
     let a = standing (g.I.Source.left c.args.input.now) (g.I.Source.faults c.args.input.now) (g.O.Sink.written c.args.output.now) (g.O.Sink.faults c.args.output.now) in
     let m = standing (g.I.Source.left c.args.input.now) (g.I.Source.faults c.args.input.now) (g.O.Sink.written c.put_all.new.out) (g.O.Sink.faults c.put_all.new.out) in
     let d = standing (g.I.Source.left c.talk.new.input) (g.I.Source.faults c.talk.new.input) (g.O.Sink.written c.talk.new.output) (g.O.Sink.faults c.talk.new.output) in

@@ -8,7 +8,7 @@ use Rattle.ppd_world.proofs.logging.step_at.Goals as goal
 pub returns-then-place-len-clause-ok : goal.returns-then-place-len-clause-ok
 returns-then-place-len-clause-ok c =
     let past : length c.args.loggings.now.items ≤ c.args.place = search rules in
-    sym (change_past (λ l. log_step c.args.program.now c.args.plan.now l (moment_with c.args.plan.now c.args.shared.now c.args.need c.args.answer c.args.number)) c.args.place c.args.loggings.now.items past)
+    sym (change_past (λ l. log_step c.args.code.now.program.now c.args.code.now.plan.now l (moment_with c.args.code.now.plan.now c.args.shared.now c.args.taken)) c.args.place c.args.loggings.now.items past)
 
 pub returns-clause-ok : goal.returns-clause-ok
 returns-clause-ok c = grind (arith, common_steps, set_is_change)

@@ -23,11 +23,11 @@ pub returns-clause-ok : goal.returns-clause-ok
 returns-clause-ok c =
     let f = c.self.inside in
     rw (← c.self.view_is)
-    (took c.take_step.result f.program.now f.plan.now f.budget (world_of f.shared f.sems.items f.chans.items f.loggings.items) (world_of c.take_step.new.shared c.take_step.new.sems.items c.take_step.new.chans.items c.take_step.new.loggings.items) f.loggings.items c.take_step.new.loggings.items c.args.p c.take_step.ensures.world c.take_step.ensures.loggings)
+    (took c.take_step.result f.code.program.now f.code.plan.now f.budget (world_of f.store f.loggings.items) (world_of c.take_step.new.store c.take_step.new.loggings.items) f.loggings.items c.take_step.new.loggings.items c.args.p c.take_step.ensures.world c.take_step.ensures.loggings)
 
 pub returns-clause-err : goal.returns-clause-err
 returns-clause-err c =
     let f = c.self.inside in
     let e = c.take_step.ensures in
     rw (← c.self.view_is)
-    (left_it c.take_step.result f.program.now f.plan.now f.budget f.shared c.take_step.new.shared f.sems.items c.take_step.new.sems.items f.chans.items c.take_step.new.chans.items f.loggings.items c.take_step.new.loggings.items e.same_shared e.same_sems e.same_chans e.same_loggings)
+    (left_it c.take_step.result f.code.program.now f.code.plan.now f.budget f.store c.take_step.new.store f.loggings.items c.take_step.new.loggings.items e.same_store e.same_loggings)

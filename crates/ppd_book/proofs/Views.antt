@@ -1,0 +1,69 @@
+-- Views: how they begin, go on and are committed.
+use Rattle.std.specs.Prelude.{slice_get}
+use Rattle.std.proofs.Common.{◌≡◌, ℕ, zero, suc, ◌+◌, ◌-◌, ◌<◌, List, length, Some, ap, sym, ◌∙◌, subst, arith}
+use Rattle.std.proofs.lemmas.Option.{slice_get_within}
+use Rattle.ppd_ast.specs.declared.plan.Plan.{Plan}
+use Rattle.ppd_ast.specs.declared.program.Program.{Program}
+use Rattle.ppd_sem.specs.declared.proc.Answer.TheVariants.{Go}
+use Rattle.ppd_sem.specs.declared.proc.Need.TheVariants.{Plain}
+use Rattle.ppd_sem.specs.declared.proc.Proc.{Proc}
+use Rattle.ppd_sem.specs.Process.{act, need_of}
+use Rattle.ppd_sem.specs.Runs.{IsNumbered, IsRunnable, IsRunning}
+use Rattle.ppd_world.specs.Plain.{GoesPlainly}
+use Rattle.ppd_world.specs.Running.{IsHeld, Running}
+use Rattle.ppd_world.proofs.Processes.{reached_count}
+use Rattle.ppd_world.proofs.Reached.{numbered, runnable}
+use Rattle.ppd_book.specs.Views.{HasMore, IsView, Seen}
+use Rattle.ppd_book.proofs.Budgets.{of_budget, of_running}
+
+-- ---- one step more
+
+goes_more : (program : Program) (plan : Plan) (n : ℕ) (s t : Proc) → GoesPlainly program plan s n t → need_of program plan t ≡ Plain → GoesPlainly program plan s (suc n) (act program plan t Go)
+goes_more program plan zero s t g e = (ap (λ (x : Proc). need_of program plan x) g ∙ e, ap (λ (x : Proc). act program plan x Go) g)
+goes_more program plan (suc n) s t g e = (g.0, goes_more program plan n (act program plan s Go) t g.1 e)
+
+pub view_advanced : (program : Program) (plan : Plan) (budget : ℕ) (p : Program) (q : Plan) (v : Seen) → IsView program plan budget p q v → HasMore program plan v
+    → (next : Proc) → next ≡ act p q v.after Go → IsRunning p next → IsView program plan budget p q (record v { after = next; count = v.count + 1 })
+view_advanced program plan budget p q v is can next e running =
+    let same : next ≡ act program plan v.after Go = e ∙ ap (λ (x : Program). act x q v.after Go) is.is_program ∙ ap (λ (x : Plan). act program x v.after Go) is.is_plan in
+    let more : suc v.count ≡ v.count + 1 = omega arith in
+    let few : v.count < 64 = can.few in
+    record {
+      is_program = is.is_program;
+      is_plan = is.is_plan;
+      runnable = is.runnable;
+      numbered = is.numbered;
+      worker = is.worker;
+      running = running;
+      is_budget = is.is_budget;
+      goes = subst (λ (n : ℕ). GoesPlainly program plan v.before n next) more
+          (subst (λ (x : Proc). GoesPlainly program plan v.before (suc v.count) x) (sym same) (goes_more program plan v.count v.before v.after is.goes can.plain));
+      few = omega arith;
+    }
+
+-- ---- a fresh one
+
+pub fresh_view : (program : Program) (plan : Plan) (budget : ℕ) (r : Running) (h : List ℕ) (p : Program) (q : Plan) (w : ℕ) (s a b : Proc) → IsHeld program plan budget r h → slice_get r.world.procs w ≡ Some s → p ≡ r.program → q ≡ r.plan → a ≡ s → b ≡ s
+    → IsView program plan budget p q (record { worker = w; before = a; after = b; count = 0 })
+fresh_view program plan budget r h p q w s a b held there e f g k =
+    let within : w < length r.world.procs = slice_get_within r.world.procs w s there in
+    let own : w < length r.program.bodies - r.program.functions = omega (arith, reached_count r held.reached) in
+    record {
+      is_program = e ∙ held.is_program;
+      is_plan = f ∙ held.is_plan;
+      runnable = subst (λ (x : Program). IsRunnable x) (sym e) (runnable r held.reached);
+      numbered = subst (λ (x : Plan). IsNumbered x) (sym f) (numbered r held.reached);
+      worker = subst (λ (x : Program). w < length x.bodies - x.functions) held.is_program own;
+      running = subst (λ (x : Program). IsRunning x b) (sym e) (subst (λ (x : Proc). IsRunning r.program x) (sym k) (of_running r w s held.reached there));
+      is_budget = ap (λ (x : Proc). x.budget) g ∙ of_budget r w s held.reached there ∙ held.is_budget;
+      goes = g ∙ sym k;
+      few = omega arith;
+    }
+
+-- ---- a commit
+
+-- the worker is there
+pub worker_there : (program : Program) (plan : Plan) (budget : ℕ) (p : Program) (q : Plan) (r : Running) (h : List ℕ) (v : Seen) → IsHeld program plan budget r h → IsView program plan budget p q v → v.worker < length r.world.procs
+worker_there program plan budget p q r h v held is =
+    let own : v.worker < length r.program.bodies - r.program.functions = subst (λ (x : Program). v.worker < length x.bodies - x.functions) (sym held.is_program) is.worker in
+    omega (arith, reached_count r held.reached)

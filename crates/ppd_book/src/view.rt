@@ -1,0 +1,52 @@
+ghost use Rattle.std.specs.Prelude.{◌≡◌, ◌↔◌, IsTrue, OnErr, OnOk};
+
+use crate::job::Job;
+use ppd_ast::{Memory, Plan, Program};
+use ppd_sem::{Answer, Need, Proc, feed, look};
+use std::marker::{Model, PhantomData};
+
+/// A process of the run that `J` names, on a copy: its worker's number, its state when the view was made, the
+/// state that it came to since by steps that need nothing but the process itself, and how many these were.
+#[derive(Drop)]
+pub struct View<'a, J: Job> {
+    pub(crate) program: &'a Program,
+    pub(crate) plan: &'a Plan,
+    pub(crate) worker: u8,
+    pub(crate) before: Proc,
+    pub(crate) after: Proc,
+    pub(crate) count: u32,
+    pub(crate) of: PhantomData<J>,
+}
+
+impl<'a, J: Job> Model for View<'a, J> {
+    ghost use Rattle.ppd_book.specs.Views.{IsView, Seen};
+
+    ghost Value = { Seen };
+
+    ghost view = { λ v. record { worker = v.worker; before = v.before; after = v.after; count = v.count } };
+
+    ghost invariant = { λ v. IsView J.program J.plan J.budget v.program.now v.plan.now (record { worker = v.worker; before = v.before; after = v.after; count = v.count }) };
+}
+
+impl<'a, J: Job> View<'a, J> {
+    ghost use Rattle.ppd_book.specs.Views.{HasMore, advanced};
+
+    /// Whether the view can go on: its next step needs nothing but the process itself, and it took fewer than
+    /// 64.
+    pub fn more(&self) -> bool
+        ensures { IsTrue result ↔ HasMore J.program J.plan self.now }
+    {
+        self.count < 64 && matches!(look(self.program, self.plan, &self.after), Need::Plain)
+    }
+
+    /// Takes one step on the copy. `Memory` is want of memory: the view is as before.
+    pub fn advance(&mut self) -> Result<(), Memory>
+        requires { HasMore J.program J.plan self.old }
+        ensures ok { OnOk result (self.new ≡ advanced J.program J.plan self.old) }
+        ensures err { OnErr result (self.new ≡ self.old) }
+    {
+        feed(self.program, self.plan, &mut self.after, &Answer::Go)?;
+        self.count += 1;
+        Ok(())
+    }
+}

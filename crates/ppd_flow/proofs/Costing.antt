@@ -1,0 +1,110 @@
+-- What the counter rose by, in the own steps of the run's intervals.
+use Rattle.std.proofs.Common.{◌≡◌, ℕ, zero, suc, ◌+◌, ◌≤◌, ℤ, List, [], ◌∷◌, Option, Some, None, Result, Ok, refl, ap, ap₂, sym, ◌∙◌, subst, arith, get_or}
+use Rattle.std.specs.Prelude.{slice_get}
+use Rattle.std.proofs.lemmas.List.Sums.{sum_by-cons}
+use Rattle.ppd_ast.specs.Valid.{IsValid}
+use Rattle.ppd_ast.specs.declared.plan.Plan.{Plan}
+use Rattle.ppd_ast.specs.declared.plan.Policy.{Policy}
+use Rattle.ppd_ast.specs.declared.program.Program.{Program}
+use Rattle.ppd_entry.specs.declared.entry.Logs.{Logs}
+use Rattle.ppd_model.specs.declared.flow.FlowEdge.{FlowEdge}
+use Rattle.ppd_model.specs.declared.flow.Origin.{Origin}
+use Rattle.ppd_model.specs.declared.tracing.Story.{Story}
+use Rattle.ppd_model.specs.FlowbackEdges.{edges}
+use Rattle.ppd_model.specs.Intervals.{Span, Split, split_of, splits}
+use Rattle.ppd_model.specs.Logs.{closed_logs}
+use Rattle.ppd_model.specs.Story.{Moment, steps_of, story, told}
+use Rattle.ppd_near.specs.Costs.{EdgesCostLittle, LastCostsLittle, steps_in, steps_of_all, steps_of_span}
+use Rattle.ppd_own_loops.specs.AllOwnParts.{AllOwnPartsAreFound}
+use Rattle.ppd_past.specs.declared.flow_error.FlowError.{FlowError}
+use Rattle.ppd_past.specs.declared.past.Past.{Past}
+use Rattle.ppd_past.specs.ByReplays.{IsFoundBy, cost}
+use Rattle.ppd_past.specs.Honest.{ReplaysAreSeen, steps_of_span as seen_steps}
+use Rattle.ppd_past.specs.SeenBy.{own_steps_of, steps_in as replayed_steps}
+use Rattle.ppd_search.specs.Found.{edges_replays}
+use Rattle.ppd_search.specs.Seen.{Seen}
+use Rattle.ppd_search.specs.Shared.{found_last, last_replays}
+use Rattle.ppd_shared_edges.specs.Assembled.{EdgesAreFound, HasOwnParts}
+use Rattle.ppd_shared_edges.specs.SharedEdges.{all_seen}
+use Rattle.ppd_walk.specs.SharedCells.{answer_of, seens_in}
+use Rattle.ppd_flow.specs.Answers.{IsEdges}
+use Rattle.ppd_flow.specs.Runs.{CostsEdges, CostsLast, IsOfRun, edges_or_none, splits_in, story_in}
+use Rattle.ppd_flow.proofs.OfRuns.{gives_edges, is_seen, parts, rows, seens_are}
+
+same_steps : (o : Option Span) → seen_steps o ≡ steps_of_span o
+same_steps None = refl
+same_steps (Some i) = refl
+
+-- ---- processes one after another
+
+module _ (program : Program) (plan : Plan) (budget : ℕ) (s : Story) where
+  steps_from : (k : ℕ) (ms : List (List Moment))
+      → ((p : ℕ) (x : Split) → slice_get (parts program plan budget s k ms) p ≡ Some x → (i : ℕ) → own_steps_of program plan budget (get_or (rows program plan budget s k ms) p []) i ≡ steps_of_span (slice_get x.spans i))
+      → (p i : ℕ) → own_steps_of program plan budget (get_or (rows program plan budget s k ms) p []) i ≡ steps_in (slice_get (parts program plan budget s k ms) p) i
+  steps_from k [] h p i = refl
+  steps_from k (m ∷ ms) h zero i = h 0 (split_of program plan budget s k (steps_of m)) refl i
+  steps_from k (m ∷ ms) h (suc p) i = steps_from (k + 1) ms (λ q x e. h (suc q) x e) p i
+
+-- ---- a past of a run
+
+module _ (law : ReplaysAreSeen) (past : Past) (policy : Policy) (h : List ℕ) (v : IsValid past.program.now) (r : IsOfRun past policy h) where
+  abbrev program : Program
+  program = past.program.now
+
+  abbrev plan : Plan
+  plan = past.plan.now
+
+  abbrev budget : ℕ
+  budget = past.budget
+
+  own_steps : (p i : ℕ) → replayed_steps past p i ≡ steps_in (slice_get (splits_in past h) p) i
+  own_steps p i =
+      ap (λ (logs : Logs). own_steps_of program plan budget (get_or logs.lists p []) i) r.logs_are
+      ∙ steps_from program plan budget (story_in past h) 0 (told program plan budget h).moments
+      (λ q x e n. (is_seen law past policy h v r q x e).steps n ∙ same_steps (slice_get x.spans n)) p i
+
+  pub cost_is : (ms : List (ℕ × ℕ)) → cost past ms ≡ steps_of_all (splits_in past h) ms
+  cost_is [] = refl
+  cost_is (m ∷ ms) =
+      sum_by-cons (λ (n : ℕ × ℕ). replayed_steps past n.0 n.1) m ms ∙ ap₂ (λ a b. a + b) (own_steps m.0 m.1) (cost_is ms)
+      ∙ sym (sum_by-cons (λ (n : ℕ × ℕ). steps_in (slice_get (splits_in past h) n.0) n.1) m ms)
+
+pub costs_last : ReplaysAreSeen → LastCostsLittle → (past : Past) (c n m : ℕ) (res : Result (ℤ × Origin) FlowError) → IsValid past.program.now
+    → IsFoundBy past (last_replays past.program.now past.logs.now (seens_in past) c) (answer_of (found_last past.program.now past.logs.now (seens_in past) c)) n m res → CostsLast past c n m res
+costs_last law little past c n m res v f policy h answer r lt is =
+    let g : IsFoundBy past (last_replays past.program.now past.logs.now (seens_in past) c) (answer_of (found_last past.program.now past.logs.now (seens_in past) c)) n m (Ok answer) =
+    subst (λ (z : Result (ℤ × Origin) FlowError). IsFoundBy past (last_replays past.program.now past.logs.now (seens_in past) c) (answer_of (found_last past.program.now past.logs.now (seens_in past) c)) n m z) is f in
+    let same : last_replays past.program.now past.logs.now (seens_in past) c ≡ last_replays past.program.now (closed_logs past.program.now past.plan.now past.budget h) (all_seen past.program.now past.plan.now past.budget h) c =
+    ap (λ (l : Logs). last_replays past.program.now l (seens_in past) c) r.logs_are
+    ∙ ap (λ (xs : List Seen). last_replays past.program.now (closed_logs past.program.now past.plan.now past.budget h) xs c) (seens_are law past policy h v r) in
+    let total : cost past (last_replays past.program.now past.logs.now (seens_in past) c)
+    ≡ steps_of_all (splits_in past h) (last_replays past.program.now (closed_logs past.program.now past.plan.now past.budget h) (all_seen past.program.now past.plan.now past.budget h) c) =
+    cost_is law past policy h v r (last_replays past.program.now past.logs.now (seens_in past) c) ∙ ap (steps_of_all (splits_in past h)) same in
+    let le = little past.program.now past.plan.now past.budget h r.whole.last c v r.whole.runs r.no_race lt in
+    let rose = g.2 in
+    omega (arith, total, le, rose)
+
+edges_there : (o : Option (List FlowEdge)) (es : List FlowEdge) → Ok es ≡ edges_or_none o → o ≡ Some es
+edges_there None es e = cc
+edges_there (Some ds) es e = cc
+
+pub costs_edges : ReplaysAreSeen → EdgesAreFound → AllOwnPartsAreFound → EdgesCostLittle → (past : Past) (p k j n m : ℕ)
+    (res : Result (List FlowEdge) FlowError) → IsValid past.program.now → IsEdges past p k j n m res → CostsEdges past p k j n m res
+costs_edges law found own little past p k j n m res v f policy h x es r at is =
+    let g : IsEdges past p k j n m (Ok es) = subst (λ (z : Result (List FlowEdge) FlowError). IsEdges past p k j n m z) is f in
+    let there : edges past.program.now past.plan.now past.budget (story_in past h) p k j ≡ Some es =
+    edges_there (edges past.program.now past.plan.now past.budget (story_in past h) p k j) es (gives_edges law found own past p k j n m (Ok es) v g policy h x r at) in
+    let parts' : HasOwnParts past.program.now past.plan.now (splits_in past h) x p k j =
+    subst (λ (pl : Plan). slice_get (splits past.program.now pl past.budget (story past.program.now pl past.budget h)) p ≡ Some x
+    → HasOwnParts past.program.now pl (splits past.program.now pl past.budget (story past.program.now pl past.budget h)) x p k j)
+    (sym r.plan_is) (λ e. own past.program.now policy past.budget h p k j x v e) at in
+    let same : edges_replays past.program.now past.plan.now past.logs.now (seens_in past) p k j ≡ edges_replays past.program.now past.plan.now (closed_logs past.program.now past.plan.now past.budget h) (all_seen past.program.now past.plan.now past.budget h) p k j =
+    ap (λ (l : Logs). edges_replays past.program.now past.plan.now l (seens_in past) p k j) r.logs_are
+    ∙ ap (λ (xs : List Seen). edges_replays past.program.now past.plan.now (closed_logs past.program.now past.plan.now past.budget h) xs p k j) (seens_are law past policy h v r) in
+    let total : cost past (edges_replays past.program.now past.plan.now past.logs.now (seens_in past) p k j)
+    ≡ steps_of_all (splits_in past h) (edges_replays past.program.now past.plan.now (closed_logs past.program.now past.plan.now past.budget h) (all_seen past.program.now past.plan.now past.budget h) p k j) =
+    cost_is law past policy h v r (edges_replays past.program.now past.plan.now past.logs.now (seens_in past) p k j) ∙ ap (steps_of_all (splits_in past h)) same in
+    rise n m _ _ _ g.2 total (little past.program.now past.plan.now past.budget h r.whole.last p k j x es v r.whole.runs r.no_race at parts' there)
+  where
+    rise : (a b c d z : ℕ) → b ≡ a + c → c ≡ d → d ≤ z → b ≤ a + z
+    rise a b c d z e1 e2 l = omega (arith, e1, e2, l)

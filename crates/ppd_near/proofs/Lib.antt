@@ -1,0 +1,6 @@
+pub mod Steps
+pub mod Walks
+pub mod Own
+pub mod Edges
+pub mod EdgeCosts
+pub mod LastCosts

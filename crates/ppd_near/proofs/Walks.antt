@@ -1,0 +1,3 @@
+-- The walk back from where an edge ends.
+pub mod Counts
+pub mod Written

@@ -1,0 +1,2 @@
+-- What is kept of runs that tests make.
+pub mod Runs

@@ -1,0 +1,104 @@
+ghost use Rattle.std.specs.Prelude.{◌≡◌, IfOk};
+ghost use Rattle.std.specs.Bool.{Decides};
+
+use crate::proc::{Frame, Proc, Todo};
+use crate::stack::Stack;
+use ppd_ast::{Memory, Nums, Status};
+use std::alloc::Global;
+
+fn copy_values(values: &Nums) -> Result<Nums, Memory>
+    ensures { IfOk result (λ copy. copy ≡ values.now) }
+{
+    match values.clone() {
+        Ok(copy) => Ok(copy),
+        Err(_) => Err(Memory),
+    }
+}
+
+fn copy_frame(frame: &Frame) -> Result<Frame, Memory>
+    ensures { IfOk result (λ copy. copy ≡ frame.now) }
+{
+    Ok(Frame {
+        body: frame.body,
+        cells: copy_values(&frame.cells)?,
+        call: frame.call,
+    })
+}
+
+fn copied_frames(alloc: Global, frames: &[Frame]) -> Result<Vec<Frame>, Memory>
+    ensures { IfOk result (λ copies. copies.items ≡ frames.now) }
+{
+    let mut copies = Vec::new(alloc);
+    for frame in frames {
+        copies.push(copy_frame(frame)?)?;
+    }
+    Ok(copies)
+}
+
+fn copied_todo(alloc: Global, todo: &[Todo]) -> Result<Vec<Todo>, Memory>
+    ensures { IfOk result (λ copies. copies.items ≡ todo.now) }
+{
+    let mut copies = Vec::new(alloc);
+    for item in todo {
+        copies.push(*item)?;
+    }
+    Ok(copies)
+}
+
+fn copy_frames(frames: &Stack<Frame>) -> Result<Stack<Frame>, Memory>
+    ensures { IfOk result (λ copy. copy ≡ frames.now) }
+{
+    let copies = copied_frames(frames.allocator(), frames.items.as_slice())?;
+    Ok(Stack::from_vec(copies))
+}
+
+fn copy_todo(todo: &Stack<Todo>) -> Result<Stack<Todo>, Memory>
+    ensures { IfOk result (λ copy. copy ≡ todo.now) }
+{
+    let copies = copied_todo(todo.allocator(), todo.items.as_slice())?;
+    Ok(Stack::from_vec(copies))
+}
+
+fn is_same_status(one: Option<Status>, other: Option<Status>) -> bool
+    ensures { Decides result (one ≡ other) }
+{
+    match (one, other) {
+        (None, None) => true,
+        (Some(one), Some(other)) => one == other,
+        (None, Some(_)) | (Some(_), None) => false,
+    }
+}
+
+impl Proc {
+    /// An equal process state. `Memory` is want of memory.
+    pub fn copy(&self) -> Result<Proc, Memory>
+        ensures { IfOk result (λ copy. copy ≡ self.now) }
+    {
+        Ok(Proc {
+            frames: copy_frames(&self.frames)?,
+            todo: copy_todo(&self.todo)?,
+            answers: copy_values(&self.answers)?,
+            below: self.below,
+            budget: self.budget,
+            spent: self.spent,
+            steps: self.steps,
+            prints: copy_values(&self.prints)?,
+            status: self.status,
+        })
+    }
+
+    /// Whether the process states are equal. It takes no memory.
+    pub fn same(&self, other: &Proc) -> bool
+        ensures { Decides result (self.now ≡ other.now) }
+    {
+        self.frames.is_same(&other.frames)
+            & self.todo.is_same(&other.todo)
+            & (self.answers == other.answers)
+            & (self.below == other.below)
+            & (self.budget == other.budget)
+            & (self.spent == other.spent)
+            & (self.steps == other.steps)
+            & (self.prints == other.prints)
+            & is_same_status(self.status, other.status)
+    }
+}

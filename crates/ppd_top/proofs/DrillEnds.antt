@@ -1,0 +1,221 @@
+-- What `drill` comes to, by its status.
+use Rattle.std.specs.Prelude.{Option, Some, None, ◌⊎◌, ◌+◌, ◌-◌, ◌^◌, ◌<◌, ◌≤◌, min}
+use Rattle.std.specs.Borrow.{Bor}
+use Rattle.std.proofs.Common.{◌≡◌, ℕ, List, [], ◌∷◌, ◌++◌, arith, inl, inr, refl, subst, sym, ◌∙◌, ap}
+use Rattle.std.proofs.lemmas.Option.{none-some}
+use Rattle.std.proofs.Math.Nat.{min-eq_left}
+use Rattle.ppd_ast.specs.declared.program.Program.{Program}
+use Rattle.ppd_check.specs.declared.error.SourceError.{SourceError}
+use Rattle.ppd_check.specs.Read.{IsRead, IsRefused}
+use Rattle.ppd_check.proofs.Excluded.{read_or_refused}
+use Rattle.ppd_drill.specs.Drills.{generated}
+use Rattle.ppd_io.specs.Causes.{Rose}
+use Rattle.ppd_io.specs.Content.{Appends, AppendsPart}
+use Rattle.ppd_io.specs.Lines.{lines_of}
+use Rattle.ppd_session.specs.Known.{Known}
+use Rattle.ppd_top.specs.declared.options.Options.{Options}
+use Rattle.ppd_top.specs.Output.{AppendsFront, Output, Standing, Talks, answers, output}
+use Rattle.ppd_top.specs.Output.Talks.{whole, unread, unwritten, unfinished}
+use Rattle.ppd_top.specs.Ran.{Drilled, Drills, Flows, Refuses, WasDrilledBy}
+use Rattle.ppd_top.specs.Ran.Drilled.{no_source, refused_drill, drilled}
+use Rattle.ppd_top.specs.Refusals.{refused}
+use Rattle.ppd_top.specs.Top.{Answers, DrillCutOff, Finished, IsPromisedDrill, MemoryRanOut, WasDrilled, WasNotDrilled, WriteFailed, drill_commands, drill_options, drill_out, known_of, summary_of_run}
+use Rattle.ppd_top.specs.Top.Answers.{refusal, run}
+use Rattle.ppd_top.specs.Top.Writes.{for_number}
+use Rattle.ppd_words.specs.Reads.{texts_in}
+use Rattle.ppd_top.specs.Words.{Asks, AsksDebug, AsksDrill, Command, IsNotAsked, asked}
+use Rattle.ppd_top.specs.Words.Command.{Flow}
+use Rattle.ppd_top.specs.Words.Request.{on_source, on_recording, on_number}
+use Rattle.ppd_top.proofs.Agreeing.{of_agreeing}
+use Rattle.ppd_top.proofs.Conversing.{same_input}
+use Rattle.ppd_top.proofs.Outcomes.{no_failure, one_request, write_failed}
+use Rattle.ppd_top.proofs.Statuses.{IsIn, other_than}
+use Rattle.ppd_top.proofs.Talked.{fine_end, same_commands}
+
+-- ---- what the words ask for
+
+pub not_source : (words : List (Bor (List ℕ))) (command : Command) (name : List ℕ) (options : Options) (number : ℕ) → Asks words command name options → AsksDrill words number → ⊥
+not_source words command name options number a b =
+    let s : on_source command name options ≡ on_number number = one_request _ _ (asked (texts_in words)) a b in cc
+
+pub not_recording : (words : List (Bor (List ℕ))) (name : List ℕ) (number : ℕ) → AsksDebug words name → AsksDrill words number → ⊥
+not_recording words name number a b =
+    let s : on_recording name ≡ on_number number = one_request _ _ (asked (texts_in words)) a b in cc
+
+pub not_nothing : (words : List (Bor (List ℕ))) (number : ℕ) → IsNotAsked words → AsksDrill words number → ⊥
+not_nothing words number none a = none-some (on_number number) (sym none ∙ a)
+
+one_number : (words : List (Bor (List ℕ))) (number other : ℕ) → AsksDrill words number → AsksDrill words other → number ≡ other
+one_number words number other a b =
+    let s : on_number number ≡ on_number other = one_request _ _ (asked (texts_in words)) a b in cc
+
+-- ---- one line in place of an input that does not fail
+
+-- a count that stays 0 did not rise
+pub never_rose : Rose 0 0 → ⊥
+never_rose r =
+    let few : 0 + 1 ≤ 2 ^ 64 - 1 = omega arith in
+    let m : min (0 + 1) (2 ^ 64 - 1) ≡ 0 + 1 = min-eq_left few in
+    let n : 0 + 1 ≤ 0 = subst (λ k. k ≤ 0) m r in
+    omega (arith, n)
+
+module _ (program : Program) (schedule : List ℕ) where
+  -- all answers end well
+  drill_status : (drill_out program schedule).status ≡ 0
+  drill_status =
+      let few : 0 < 65536 = omega arith in
+      let short : 5 ≤ 4096 = omega arith in
+      fine_end (known_of program drill_options schedule) (no_failure program drill_options schedule) 0 (lines_of drill_commands) (few, short, λ e. tt)
+
+  module _ (a b : Standing) (rest : List ℕ) (e : a.left ≡ Some drill_commands) (f : b.left ≡ Some rest) (none : Rose a.reads b.reads → ⊥) where
+    ends_of : (status : ℕ) → Talks (known_of program drill_options schedule) (summary_of_run program drill_options schedule) a b status
+        → Finished a.written b.written a.writes b.writes status 0 (drill_out program schedule).text
+        ⊎ ((status ≡ 5) × AppendsFront a.written b.written (drill_out program schedule).text)
+    ends_of status (whole commands told further written) =
+        let x = known_of program drill_options schedule in
+        let first = summary_of_run program drill_options schedule in
+        let s = same_commands a.left b.left drill_commands rest commands e f told in
+        inl (inl (ap (λ cs. (answers x cs).status) s ∙ drill_status, subst (λ cs. Appends a.written b.written (first ++ (answers x cs).text)) s written))
+    ends_of status (unread broken) = absurd (none broken.rose)
+    ends_of status (unwritten commands told rose part) =
+        let x = known_of program drill_options schedule in
+        let first = summary_of_run program drill_options schedule in
+        let s = same_commands a.left b.left drill_commands rest commands e f told in
+        inl (inr (refl, rose, subst (λ cs. AppendsPart a.written b.written (first ++ (answers x cs).text)) s part))
+    ends_of status (unfinished commands told part) =
+        let x = known_of program drill_options schedule in
+        let first = summary_of_run program drill_options schedule in
+        let s = same_commands a.left b.left drill_commands rest commands e f told in
+        inr (refl, subst (λ cs. AppendsFront a.written b.written (first ++ (answers x cs).text)) s part)
+
+pub drills_from : (program : Program) (schedule : List ℕ) (a b : Standing) (status : ℕ) (rest : List ℕ) → Flows program drill_options schedule a b status → a.left ≡ Some drill_commands → b.left ≡ Some rest
+    → (Rose a.reads b.reads → ⊥) → Drills program schedule a.written b.written a.writes b.writes status
+drills_from program schedule a b status rest (inl h) e f none = inl (h.0, h.1.no_run, h.1.written)
+drills_from program schedule a b status rest (inr t) e f none = inr (record { whole = t.whole; ends = ends_of program schedule a b rest e f none status t.talks })
+
+-- ---- by its status
+
+module _ (words : List (Bor (List ℕ))) (number : ℕ) (asks : AsksDrill words number) (schedule : List ℕ) (a b : Standing) (status : ℕ) where
+  -- what is written of a program
+  abbrev Ends : Program → Type 0
+  Ends program =
+      Finished a.written b.written a.writes b.writes status 0 (drill_out program schedule).text
+      ⊎ ((status ≡ 5) × AppendsFront a.written b.written (drill_out program schedule).text)
+
+  ends_in : (program : Program) → Ends program → IsIn status (0 ∷ 4 ∷ 5 ∷ [])
+  ends_in program (inl (inl h)) = inl h.0
+  ends_in program (inl (inr h)) = inr (inl h.0)
+  ends_in program (inr h) = inr (inr (inl h.0))
+
+  pub drill_any : Drilled number schedule a.written b.written a.writes b.writes status → IsIn status (0 ∷ 1 ∷ 4 ∷ 5 ∷ [])
+  drill_any (no_source is empty same) = inr (inr (inr (inl is)))
+  drill_any (refused_drill error cause empty (inl h)) = inr (inr (inr (inl h.0)))
+  drill_any (refused_drill error cause empty (inr (real, inl h))) = inr (inl h.0)
+  drill_any (refused_drill error cause empty (inr (real, inr h))) = inr (inr (inl h.0))
+  drill_any (drilled program read (inl h)) = inr (inr (inr (inl h.0)))
+  drill_any (drilled program read (inr w)) = by (ends_in program w.ends)
+    where
+      by : IsIn status (0 ∷ 4 ∷ 5 ∷ []) → IsIn status (0 ∷ 1 ∷ 4 ∷ 5 ∷ [])
+      by (inl h) = inl h
+      by (inr h) = inr (inr h)
+
+  pub drill_whole : Drilled number schedule a.written b.written a.writes b.writes status → status ≡ 0 → WasDrilled words schedule a.written b.written
+  drill_whole (no_source is empty same) e = absurd (omega arith)
+  drill_whole (refused_drill error cause empty r) e = absurd (by r)
+    where
+      by : Refuses error a.written b.written a.writes b.writes status → ⊥
+      by (inl h) = omega (arith, h.0)
+      by (inr (real, inl h)) = omega (arith, h.0)
+      by (inr (real, inr h)) = omega (arith, h.0)
+  drill_whole (drilled program read (inl h)) e = absurd (omega (arith, h.0))
+  drill_whole (drilled program read (inr w)) e = by w.ends
+    where
+      by : Ends program → WasDrilled words schedule a.written b.written
+      by (inl (inl h)) = record {
+        number = number;
+        program = program;
+        asked = asks;
+        accepted = read;
+        whole = w.whole;
+        status_is = drill_status program schedule;
+        written = h.1;
+        agreeing = of_agreeing program drill_options schedule drill_commands;
+      }
+      by (inl (inr h)) = absurd (omega (arith, h.0))
+      by (inr h) = absurd (omega (arith, h.0))
+
+  pub drill_refused : Drilled number schedule a.written b.written a.writes b.writes status → status ≡ 1 → WasNotDrilled words a.written b.written
+  drill_refused (no_source is empty same) e = absurd (omega arith)
+  drill_refused (refused_drill error cause empty (inl h)) e = absurd (omega (arith, h.0))
+  drill_refused (refused_drill error cause empty (inr (real, inl h))) e = record {
+    number = number;
+    error = error;
+    asked = asks;
+    fault = real;
+    cause = cause;
+    no_program = λ p r. absurd (real (read_or_refused (generated number) p error r cause));
+    written = h.1;
+  }
+  drill_refused (refused_drill error cause empty (inr (real, inr h))) e = absurd (omega (arith, h.0))
+  drill_refused (drilled program read (inl h)) e = absurd (omega (arith, h.0))
+  drill_refused (drilled program read (inr w)) e = absurd (other_than 1 status (0 ∷ 4 ∷ 5 ∷ []) refl e (ends_in program w.ends))
+
+  pub drill_unwritten : (held : Option (List ℕ → Option (List ℕ))) → b.left ≡ a.left → Drilled number schedule a.written b.written a.writes b.writes status → status ≡ 4 → WriteFailed words held schedule a b
+  drill_unwritten held same (no_source is empty kept) e = absurd (omega arith)
+  drill_unwritten held same (refused_drill error cause empty (inl h)) e = absurd (omega (arith, h.0))
+  drill_unwritten held same (refused_drill error cause empty (inr (real, f))) e =
+      let c = same_input a.left b.left same in
+      let w : Answers (generated number) drill_options drill_commands Flow schedule (output 1 (refused error)) =
+      subst (λ h. Answers (generated number) drill_options drill_commands Flow h (output 1 (refused error))) (sym empty) (refusal Flow error real cause) in
+      write_failed words held schedule c.0 a b status 1 (refused error) c.1 (for_number number asks (output 1 (refused error)) w) (λ k. omega arith) f e
+  drill_unwritten held same (drilled program read (inl h)) e = absurd (omega (arith, h.0))
+  drill_unwritten held same (drilled program read (inr w)) e = by w.ends
+    where
+      by : Ends program → WriteFailed words held schedule a b
+      by (inl (inl h)) = absurd (omega (arith, h.0))
+      by (inl (inr h)) =
+          let c = same_input a.left b.left same in
+          record {
+            rose = h.1;
+            commands = c.0;
+            told = c.1;
+            out = drill_out program schedule;
+            writes = for_number number asks (drill_out program schedule) (run program schedule read w.whole);
+            written = h.2;
+          }
+      by (inr h) = absurd (omega (arith, h.0))
+
+  pub drill_cut_off : (held now : Option (List ℕ → Option (List ℕ))) → now ≡ held → Drilled number schedule a.written b.written a.writes b.writes status → status ≡ 5 → MemoryRanOut held now schedule a.written b.written ⊎ DrillCutOff words schedule a.written b.written
+  drill_cut_off held now kept (no_source is empty same) e = inl (record { kept = kept; no_run = empty; written = same })
+  drill_cut_off held now kept (refused_drill error cause empty (inl h)) e = inl (record { kept = kept; no_run = empty; written = h.1 })
+  drill_cut_off held now kept (refused_drill error cause empty (inr (real, inl h))) e = absurd (omega (arith, h.0))
+  drill_cut_off held now kept (refused_drill error cause empty (inr (real, inr h))) e = absurd (omega (arith, h.0))
+  drill_cut_off held now kept (drilled program read (inl h)) e = inl (record { kept = kept; no_run = h.1; written = h.2 })
+  drill_cut_off held now kept (drilled program read (inr w)) e = by w.ends
+    where
+      by : Ends program → MemoryRanOut held now schedule a.written b.written ⊎ DrillCutOff words schedule a.written b.written
+      by (inl (inl h)) = absurd (omega (arith, h.0))
+      by (inl (inr h)) = absurd (omega (arith, h.0))
+      by (inr h) = inr (record { number = number; program = program; asked = asks; accepted = read; whole = w.whole; written = h.1 })
+
+  -- a drill that is promised is not refused
+  pub drill_complete : Drilled number schedule a.written b.written a.writes b.writes status → IsPromisedDrill words a.writes b.writes → (status ≡ 0) ⊎ (status ≡ 5)
+  drill_complete (no_source is empty same) p = inr is
+  drill_complete (refused_drill error cause empty (inl h)) p = inr h.0
+  drill_complete (refused_drill error cause empty (inr (real, f))) p =
+      let read : IsRead (generated number) p.program = subst (λ n. IsRead (generated n) p.program) (sym (one_number words number p.number asks p.asked)) p.accepted in
+      absurd (real (read_or_refused (generated number) p.program error read cause))
+  drill_complete (drilled program read (inl h)) p = inr h.0
+  drill_complete (drilled program read (inr w)) p = by w.ends
+    where
+      by : Ends program → (status ≡ 0) ⊎ (status ≡ 5)
+      by (inl (inl h)) = inl h.0
+      by (inl (inr h)) = absurd (p.no_write_fault h.1)
+      by (inr h) = inr h.0
+
+  pub drill_no_run : Drilled number schedule a.written b.written a.writes b.writes status → (status ≡ 1) ⊎ (status ≡ 2) → schedule ≡ []
+  drill_no_run (no_source is empty same) e = empty
+  drill_no_run (refused_drill error cause empty r) e = empty
+  drill_no_run (drilled program read (inl h)) e = h.1
+  drill_no_run (drilled program read (inr w)) (inl e) = absurd (other_than 1 status (0 ∷ 4 ∷ 5 ∷ []) refl e (ends_in program w.ends))
+  drill_no_run (drilled program read (inr w)) (inr e) = absurd (other_than 2 status (0 ∷ 4 ∷ 5 ∷ []) refl e (ends_in program w.ends))
