@@ -3,6 +3,7 @@
 pub mod Leading
 pub mod Runs
 pub mod Spending
+pub mod Subjects
 pub mod Tagging
 pub mod Telling
 pub mod Traced

@@ -7,6 +7,7 @@ ghost use Rattle.ppd_trace.specs.Runs.{all_tagged, begun_body, begun_call, calle
 ghost use Rattle.ppd_trace.specs.Spending.{written_by};
 
 use crate::by_stmt::ByStmt;
+use crate::subject::Subject;
 use crate::tracer::Run;
 use ppd_ast::{Kind, Memory, Program, Seq, Steps};
 use ppd_model::EventId;
@@ -167,51 +168,60 @@ fn return_tag<L: Ledger>(
 
 /// Begins the run of a function.
 fn begin_call<L: Ledger>(
-    alloc: Global,
-    program: &Program,
+    subject: &Subject,
     proc: &Proc,
     function: u16,
     tag: Option<EventId>,
     runs: &mut Stack<Run>,
     steps: &mut Steps<L>,
 ) -> Result<(), Memory>
-    requires program { IsRunnable program.now }
-    requires proc { IsRunning program.now proc.now }
-    ensures value { OnOk result (runs.new ≡ begun_call program.now proc.now function tag runs.old) }
+    requires program { IsRunnable subject.now.program.now }
+    requires proc { IsRunning subject.now.program.now proc.now }
+    ensures value { OnOk result (runs.new ≡ begun_call subject.now.program.now proc.now function tag runs.old) }
     ensures cost { steps.new
         ≤ steps.old + 2
-        + 2 * (length (arguments_at program.now proc.now) + size_if (slice_get program.now.bodies function)) }
+        + 2 * (length (arguments_at subject.now.program.now proc.now)
+        + size_if (slice_get subject.now.program.now.bodies function)) }
 {
     steps.tick();
-    let values = call_values(alloc, program, proc)?;
-    let run = called(alloc, program, function, values.len(), tag, steps)?;
+    let values = call_values(subject.alloc, subject.program, proc)?;
+    let run = called(
+        subject.alloc,
+        subject.program,
+        function,
+        values.len(),
+        tag,
+        steps,
+    )?;
     steps.tick();
     runs.push(run)
 }
 
 /// Writes the tags of what the head statement writes, which finishes.
 fn tag_head<L: Ledger>(
-    alloc: Global,
-    program: &Program,
+    subject: &Subject,
     proc: &Proc,
     tag: Option<EventId>,
     runs: &mut Stack<Run>,
     steps: &mut Steps<L>,
 ) -> Result<(), Memory>
-    requires program { IsRunnable program.now }
-    requires proc { IsRunning program.now proc.now }
+    requires program { IsRunnable subject.now.program.now }
+    requires proc { IsRunning subject.now.program.now proc.now }
     ensures value { OnOk result
-        (runs.new ≡ tagged_deed program.now proc.now tag (deed_at program.now proc.now) runs.old) }
-    ensures cost { steps.new ≤ steps.old + 3 + 3 * written_by program.now proc.now (deed_at program.now proc.now) }
+        (runs.new
+        ≡ tagged_deed subject.now.program.now proc.now tag (deed_at subject.now.program.now proc.now) runs.old) }
+    ensures cost { steps.new
+        ≤ steps.old + 3
+        + 3 * written_by subject.now.program.now proc.now (deed_at subject.now.program.now proc.now) }
 {
     steps.tick();
-    match next_effect(program, proc) {
+    match next_effect(subject.program, proc) {
         Some(Effect::SetLocal(cell, _)) => set_tag(runs, cell as usize, tag, steps),
         Some(Effect::Clear(base, len)) => set_tags(runs, base, len, tag, steps),
         Some(Effect::Invoke(function, _)) => {
-            begin_call(alloc, program, proc, function, tag, runs, steps)
+            begin_call(subject, proc, function, tag, runs, steps)
         }
-        Some(Effect::Back(value)) => return_tag(program, proc, value, tag, runs, steps),
+        Some(Effect::Back(value)) => return_tag(subject.program, proc, value, tag, runs, steps),
         Some(Effect::Receive(_, into)) => set_tag(runs, into as usize, tag, steps),
         _ => Ok(()),
     }
@@ -220,22 +230,23 @@ fn tag_head<L: Ledger>(
 /// Writes the tags of what an event writes; one that traps writes nothing. `Memory` is want of
 /// memory.
 pub(crate) fn tag_writes<L: Ledger>(
-    alloc: Global,
-    program: &Program,
+    subject: &Subject,
     proc: &Proc,
     need: Need,
     me: EventId,
     runs: &mut Stack<Run>,
     steps: &mut Steps<L>,
 ) -> Result<(), Memory>
-    requires program { IsRunnable program.now }
-    requires proc { IsRunning program.now proc.now }
-    ensures value { OnOk result (runs.new ≡ tagged_after program.now proc.now (Some me) need runs.old) }
-    ensures cost { steps.new ≤ steps.old + 3 + 3 * written_by program.now proc.now (deed_at program.now proc.now) }
+    requires program { IsRunnable subject.now.program.now }
+    requires proc { IsRunning subject.now.program.now proc.now }
+    ensures value { OnOk result (runs.new ≡ tagged_after subject.now.program.now proc.now (Some me) need runs.old) }
+    ensures cost { steps.new
+        ≤ steps.old + 3
+        + 3 * written_by subject.now.program.now proc.now (deed_at subject.now.program.now proc.now) }
 {
     match need {
         Need::Trap(_) => Ok(()),
-        _ => tag_head(alloc, program, proc, Some(me), runs, steps),
+        _ => tag_head(subject, proc, Some(me), runs, steps),
     }
 }
 

@@ -9,6 +9,7 @@ mod events;
 mod pairs;
 mod reads;
 mod steps;
+mod subject;
 mod tellers;
 mod tracer;
 mod whole;

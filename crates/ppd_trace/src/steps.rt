@@ -1,21 +1,19 @@
 ghost use Rattle.std.specs.Prelude.{◌≡◌, ◌+◌, ◌*◌, ◌<◌, ◌≤◌, ◌^◌, length, slice_get, IfOk, OnOk};
-ghost use Rattle.ppd_model.specs.FullTrace.{begun_tracing, size_if, tracing_of};
+ghost use Rattle.ppd_model.specs.FullTrace.{begun_tracing, tracing_of};
 ghost use Rattle.ppd_model.specs.LocalTags.{AreOwn};
-ghost use Rattle.ppd_sem.specs.Process.{need_of, started};
 ghost use Rattle.ppd_sem.specs.Runs.{IsNumbered, IsRunnable, IsRunning};
-ghost use Rattle.ppd_trace.specs.Leading.{HavePairs};
 ghost use Rattle.ppd_trace.specs.Runs.{trace_by as trace_by_need, trace_step as trace_step_of, tracer_of};
 ghost use Rattle.ppd_trace.specs.Spending.{cells_of_step, most_cells};
+ghost use Rattle.ppd_trace.specs.Subjects.{ArePaired, HasBody, IsToTrace, body_size, started_with};
 ghost use Rattle.ppd_trace.specs.Tagging.{answers_by};
 
 use crate::activations::begin_body;
 use crate::events::add_event;
-use crate::pairs::PairedStory;
+use crate::subject::Subject;
 use crate::tracer::Tracer;
-use ppd_ast::{Memory, Plan, Program, Seq, Steps};
+use ppd_ast::{Memory, Seq, Steps};
 use ppd_model::{EventId, Taken, TracedEvent};
 use ppd_sem::{Need, Proc, feed, local_cells};
-use std::alloc::Global;
 use std::sync::ledger::Ledger;
 
 /// Keeps the writer of a read for the event that it is of.
@@ -38,78 +36,69 @@ fn keep_answer<L: Ledger>(
 
 /// What a step adds to the trace of its process. The state of the process stays.
 fn trace_by<L: Ledger>(
-    alloc: Global,
-    program: &Program,
-    plan: &Plan,
-    told: &PairedStory,
-    process: u8,
+    subject: &Subject,
     taken: &Taken,
     tracer: &mut Tracer,
     steps: &mut Steps<L>,
 ) -> Result<(), Memory>
-    requires program { IsRunnable program.now }
-    requires plan { IsNumbered plan.now }
-    requires proc { IsRunning program.now tracer.old.proc }
-    requires need { taken.now.need ≡ need_of program.now plan.now tracer.old.proc }
-    requires pairs { HavePairs program.now told.now.story told.now.takes told.now.receives told.now.sends told.now.completes }
-    requires few { length tracer.old.events < 2 ^ 32 }
+    requires { IsToTrace subject.now tracer.old taken.now }
     ensures value { OnOk result
-        (tracer.new ≡ trace_by_need program.now plan.now told.now.story process taken.now tracer.old) }
-    ensures cost { steps.new ≤ steps.old + 10 + 3 * cells_of_step program.now plan.now tracer.old.proc taken.now }
+        (tracer.new
+        ≡ trace_by_need subject.now.program.now subject.now.plan.now subject.now.told.now.story subject.now.process
+        taken.now tracer.old) }
+    ensures cost { steps.new
+        ≤ steps.old + 10
+        + 3 * cells_of_step subject.now.program.now subject.now.plan.now tracer.old.proc taken.now }
 {
     if taken.need.is_event() {
-        return add_event(alloc, program, plan, told, process, taken, tracer, steps);
+        return add_event(subject, taken, tracer, steps);
     }
     keep_answer(taken, &mut tracer.answers, steps)
 }
 
 /// Takes a step of a process and adds it to its trace. `Memory` is want of memory.
 fn trace_step<L: Ledger>(
-    alloc: Global,
-    program: &Program,
-    plan: &Plan,
-    told: &PairedStory,
-    process: u8,
+    subject: &Subject,
     taken: &Taken,
     tracer: &mut Tracer,
     steps: &mut Steps<L>,
 ) -> Result<(), Memory>
-    requires program { IsRunnable program.now }
-    requires plan { IsNumbered plan.now }
-    requires proc { IsRunning program.now tracer.old.proc }
-    requires need { taken.now.need ≡ need_of program.now plan.now tracer.old.proc }
-    requires pairs { HavePairs program.now told.now.story told.now.takes told.now.receives told.now.sends told.now.completes }
-    requires few { length tracer.old.events < 2 ^ 32 }
+    requires { IsToTrace subject.now tracer.old taken.now }
     ensures ok { OnOk result
-        (tracer.new ≡ trace_step_of program.now plan.now told.now.story process tracer.old taken.now) }
-    ensures kept { OnOk result (IsRunning program.now tracer.new.proc) }
-    ensures cost { steps.new ≤ steps.old + 11 + 3 * most_cells program.now }
+        (tracer.new
+        ≡ trace_step_of subject.now.program.now subject.now.plan.now subject.now.told.now.story subject.now.process
+        tracer.old taken.now) }
+    ensures kept { OnOk result (IsRunning subject.now.program.now tracer.new.proc) }
+    ensures cost { steps.new ≤ steps.old + 11 + 3 * most_cells subject.now.program.now }
 {
-    trace_by(alloc, program, plan, told, process, taken, tracer, steps)?;
+    trace_by(subject, taken, tracer, steps)?;
     steps.tick();
-    feed(program, plan, &mut tracer.proc, &taken.answer)
+    feed(
+        subject.program,
+        subject.plan,
+        &mut tracer.proc,
+        &taken.answer,
+    )
 }
 
 /// A process before its first step: nothing is written.
-fn begin<L: Ledger>(
-    alloc: Global,
-    program: &Program,
-    plan: &Plan,
-    budget: u32,
-    process: u8,
-    steps: &mut Steps<L>,
-) -> Result<Tracer, Memory>
-    requires program { IsRunnable program.now }
-    requires process { program.now.functions + process < length program.now.bodies }
-    requires range { program.now.functions + process < 2 ^ 16 }
+fn begin<L: Ledger>(subject: &Subject, budget: u32, steps: &mut Steps<L>) -> Result<Tracer, Memory>
+    requires program { IsRunnable subject.now.program.now }
+    requires body { HasBody subject.now }
     ensures begun { IfOk result
-        (λ tracer. tracer ≡ tracer_of (begun_tracing (started program.now plan.now process budget))) }
-    ensures running { IfOk result (λ tracer. IsRunning program.now tracer.proc) }
-    ensures cost { steps.new
-        ≤ steps.old + 2 + 2 * size_if (slice_get program.now.bodies (program.now.functions + process)) }
+        (λ tracer. tracer ≡ tracer_of (begun_tracing (started_with subject.now budget))) }
+    ensures running { IfOk result (λ tracer. IsRunning subject.now.program.now tracer.proc) }
+    ensures cost { steps.new ≤ steps.old + 2 + 2 * body_size subject.now }
 {
     steps.tick();
-    let proc = Proc::start(alloc, program, plan, process, budget)?;
+    let alloc = subject.alloc;
+    let proc = Proc::start(
+        alloc,
+        subject.program,
+        subject.plan,
+        subject.process,
+        budget,
+    )?;
     let runs = begin_body(alloc, local_cells(&proc).len(), steps)?;
     Ok(Tracer {
         proc,
@@ -121,42 +110,30 @@ fn begin<L: Ledger>(
 
 /// The events of a process that took these steps.
 pub(crate) fn trace_process<L: Ledger>(
-    alloc: Global,
-    program: &Program,
-    plan: &Plan,
+    subject: &Subject,
     budget: u32,
-    told: &PairedStory,
-    process: u8,
     own: &[Taken],
     steps: &mut Steps<L>,
 ) -> Result<Seq<TracedEvent>, Memory>
-    requires program { IsRunnable program.now }
-    requires plan { IsNumbered plan.now }
-    requires process { program.now.functions + process < length program.now.bodies }
-    requires range { program.now.functions + process < 2 ^ 16 }
-    requires pairs { HavePairs program.now told.now.story told.now.takes told.now.receives told.now.sends told.now.completes }
+    requires program { IsRunnable subject.now.program.now }
+    requires plan { IsNumbered subject.now.plan.now }
+    requires body { HasBody subject.now }
+    requires pairs { ArePaired subject.now.program.now subject.now.told.now }
     requires few { length own.now < 2 ^ 32 }
-    requires own { AreOwn program.now plan.now (started program.now plan.now process budget) own.now }
+    requires own { AreOwn subject.now.program.now subject.now.plan.now (started_with subject.now budget) own.now }
     ensures events { IfOk result
-        (λ events. events ≡ (tracing_of program.now plan.now budget told.now.story process own.now).events) }
+        (λ events. events
+        ≡ (tracing_of subject.now.program.now subject.now.plan.now budget subject.now.told.now.story subject.now.process
+        own.now).events) }
     ensures cost { steps.new
-        ≤ steps.old + 2 + 2 * size_if (slice_get program.now.bodies (program.now.functions + process))
-        + (3 * most_cells program.now + 12) * length own.now }
+        ≤ steps.old + 2 + 2 * body_size subject.now
+        + (3 * most_cells subject.now.program.now + 12) * length own.now }
 {
-    let mut tracer = begin(alloc, program, plan, budget, process, steps)?;
+    let mut tracer = begin(subject, budget, steps)?;
     for index in 0..own.len() {
         steps.tick();
         let taken = &own[index];
-        trace_step(
-            alloc,
-            program,
-            plan,
-            told,
-            process,
-            taken,
-            &mut tracer,
-            steps,
-        )?;
+        trace_step(subject, taken, &mut tracer, steps)?;
     }
     Ok(tracer.events)
 }

@@ -4,12 +4,13 @@ ghost use Rattle.ppd_ast.specs.Valid.{IsValid};
 ghost use Rattle.ppd_ast.specs.ValidPlan.{IsValidPlan};
 ghost use Rattle.ppd_model.specs.FullTrace.{trace_of};
 ghost use Rattle.ppd_sem.specs.Runs.{IsNumbered, IsRunnable};
-ghost use Rattle.ppd_trace.specs.Leading.{HavePairs};
+ghost use Rattle.ppd_trace.specs.Subjects.{ArePaired};
 ghost use Rattle.ppd_trace.specs.Spending.{extent, most_cells, steps_in};
 ghost use Rattle.ppd_trace.specs.Traced.{IsTraceOf, IsTraceOfAgreeing, IsTraceable};
 
 use crate::pairs::{PairedStory, find_pairs};
 use crate::steps::trace_process;
+use crate::subject::Subject;
 use crate::tellers::tell_story_in;
 use ppd_ast::limits::MOST_BUDGET;
 use ppd_ast::{Memory, Plan, Program, Seq, Steps};
@@ -30,7 +31,7 @@ fn trace_all<L: Ledger>(
     requires program { IsRunnable program.now }
     requires plan { IsNumbered plan.now }
     requires story { IsTraceable program.now plan.now budget told.now.story }
-    requires pairs { HavePairs program.now told.now.story told.now.takes told.now.receives told.now.sends told.now.completes }
+    requires pairs { ArePaired program.now told.now }
     ensures trace { IfOk result (λ trace. trace ≡ trace_of program.now plan.now budget told.now.story) }
     ensures cost { steps.new
         ≤ steps.old + 4 * length program.now.bodies + 2 * sum_by (λ b. b.cells) program.now.bodies
@@ -41,16 +42,14 @@ fn trace_all<L: Ledger>(
     for process in 0..lists.len() {
         steps.tick();
         let own = lists[process].as_slice();
-        let traced = trace_process(
+        let subject = Subject {
             alloc,
             program,
             plan,
-            budget,
             told,
-            process as u8,
-            own,
-            steps,
-        )?;
+            process: process as u8,
+        };
+        let traced = trace_process(&subject, budget, own, steps)?;
         steps.tick();
         events.push(traced)?;
     }

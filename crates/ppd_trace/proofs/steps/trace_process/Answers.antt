@@ -11,18 +11,18 @@ loop-index-init g c =
     let begun = c.in_ok-tracer.ensures.begun in
     record {
       traced = begun;
-      own = own_begun c.args.program.now c.args.plan.now c.args.process c.args.budget c.args.own.now c.in_ok-tracer.tracer begun c.requires.own;
+      own = own_begun c.args.subject.now.program.now c.args.subject.now.plan.now c.args.subject.now.process c.args.budget c.args.own.now c.in_ok-tracer.tracer begun c.requires.own;
       running = c.in_ok-tracer.ensures.running;
-      few = none_begun c.args.program.now c.args.plan.now c.args.process c.args.budget c.in_ok-tracer.tracer begun;
+      few = none_begun c.args.subject.now.program.now c.args.subject.now.plan.now c.args.subject.now.process c.args.budget c.in_ok-tracer.tracer begun;
       spent = omega (arith, c.in_ok-tracer.ensures.cost);
     }
 
 pub loop-index-preserved : goal.loop-index-preserved
 loop-index-preserved g c =
-    let program = c.args.program.now in
-    let plan = c.args.plan.now in
-    let story = c.args.told.now.story in
-    let p = c.args.process in
+    let program = c.args.subject.now.program.now in
+    let plan = c.args.subject.now.plan.now in
+    let story = c.args.subject.now.told.now.story in
+    let p = c.args.subject.now.process in
     let own = c.args.own.now in
     let i = c.loop-index.index in
     let before = c.loop-index.tracer in
@@ -39,4 +39,4 @@ loop-index-preserved g c =
 
 pub returns-clause-events : goal.returns-clause-events
 returns-clause-events g c =
-    traced_whole c.args.program.now c.args.plan.now c.args.told.now.story c.args.process (begun_tracing (started c.args.program.now c.args.plan.now c.args.process c.args.budget)) c.args.own.now c.loop-index.index c.loop-index.tracer (omega arith) c.loop-index.invariant.traced
+    traced_whole c.args.subject.now.program.now c.args.subject.now.plan.now c.args.subject.now.told.now.story c.args.subject.now.process (begun_tracing (started c.args.subject.now.program.now c.args.subject.now.plan.now c.args.subject.now.process c.args.budget)) c.args.own.now c.loop-index.index c.loop-index.tracer (omega arith) c.loop-index.invariant.traced

@@ -9,15 +9,15 @@ use Rattle.ppd_trace.proofs.steps.trace_step.Goals as goal
 
 pub feed-requires-clause-proc : goal.feed-requires-clause-proc
 feed-requires-clause-proc g c =
-    subst (λ (s : Proc). IsRunning c.args.program.now s)
-    (sym (ap (λ (t : Tracer). t.proc) c.in_ok-trace_by.ensures.value ∙ same_proc c.args.program.now c.args.plan.now c.args.told.now.story c.args.process c.args.taken.now c.args.tracer.now)) c.requires.proc
+    subst (λ (s : Proc). IsRunning c.args.subject.now.program.now s)
+    (sym (ap (λ (t : Tracer). t.proc) c.in_ok-trace_by.ensures.value ∙ same_proc c.args.subject.now.program.now c.args.subject.now.plan.now c.args.subject.now.told.now.story c.args.subject.now.process c.args.taken.now c.args.tracer.now)) c.requires.proc
 
 pub returns-clause-ok : goal.returns-clause-ok
 returns-clause-ok g c =
-    stepped_by c.feed.result c.args.program.now c.args.plan.now c.args.told.now.story c.args.process c.args.taken.now c.args.tracer.now c.trace_by.new.tracer c.feed.new.proc c.in_ok-trace_by.ensures.value c.feed.ensures.ok
+    stepped_by c.feed.result c.args.subject.now.program.now c.args.subject.now.plan.now c.args.subject.now.told.now.story c.args.subject.now.process c.args.taken.now c.args.tracer.now c.trace_by.new.tracer c.feed.new.proc c.in_ok-trace_by.ensures.value c.feed.ensures.ok
 
 pub returns-in_err-trace_by-clause-cost : goal.returns-in_err-trace_by-clause-cost
-returns-in_err-trace_by-clause-cost g c = omega (arith, c.in_err-trace_by.ensures.cost, cells_within c.args.program.now c.args.plan.now c.args.tracer.now.proc c.args.taken.now)
+returns-in_err-trace_by-clause-cost g c = omega (arith, c.in_err-trace_by.ensures.cost, cells_within c.args.subject.now.program.now c.args.subject.now.plan.now c.args.tracer.now.proc c.args.taken.now)
 
 pub returns-clause-cost : goal.returns-clause-cost
-returns-clause-cost g c = omega (arith, c.in_ok-trace_by.ensures.cost, c.tick.ensures, cells_within c.args.program.now c.args.plan.now c.args.tracer.now.proc c.args.taken.now)
+returns-clause-cost g c = omega (arith, c.in_ok-trace_by.ensures.cost, c.tick.ensures, cells_within c.args.subject.now.program.now c.args.subject.now.plan.now c.args.tracer.now.proc c.args.taken.now)

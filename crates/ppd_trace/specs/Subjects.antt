@@ -1,0 +1,38 @@
+-- The process that is traced, as its trace is made step by step.
+use Rattle.std.specs.Prelude.{◌≡◌, ℕ, ◌+◌, ◌<◌, ◌^◌, length, slice_get}
+use Rattle.ppd_ast.specs.declared.program.Program.{Program}
+use Rattle.ppd_sem.specs.declared.proc.Proc.{Proc}
+use Rattle.ppd_sem.specs.Process.{need_of, started}
+use Rattle.ppd_sem.specs.Runs.{IsNumbered, IsRunnable, IsRunning}
+use Rattle.ppd_model.specs.declared.tracing.Taken.{Taken}
+use Rattle.ppd_model.specs.FullTrace.{size_if}
+use Rattle.ppd_trace.specs.declared.pairs.PairedStory.{PairedStory}
+use Rattle.ppd_trace.specs.declared.subject.Subject.{Subject}
+use Rattle.ppd_trace.specs.declared.tracer.Tracer.{Tracer}
+use Rattle.ppd_trace.specs.Leading.{HavePairs}
+
+-- the maps of this story have the first events that lead to each synchronization
+abbrev pub ArePaired : Program → PairedStory → Type 0
+ArePaired program told = HavePairs program told.story told.takes told.receives told.sends told.completes
+
+-- its body is one of the program's, and the body's number has 16 bits
+pub record HasBody (s : Subject) : Type 0 where
+  pub there : s.program.now.functions + s.process < length s.program.now.bodies
+  pub range : s.program.now.functions + s.process < 2 ^ 16
+
+-- the cells of its body
+abbrev pub body_size : Subject → ℕ
+body_size s = size_if (slice_get s.program.now.bodies (s.program.now.functions + s.process))
+
+-- its state before its first step, with this budget
+abbrev pub started_with : Subject → ℕ → Proc
+started_with s budget = started s.program.now s.plan.now s.process budget
+
+-- this step comes next after what was traced of it, and its event has a number within 32 bits
+pub record IsToTrace (s : Subject) (t : Tracer) (x : Taken) : Type 0 where
+  pub program : IsRunnable s.program.now
+  pub plan : IsNumbered s.plan.now
+  pub pairs : ArePaired s.program.now s.told.now
+  pub proc : IsRunning s.program.now t.proc
+  pub need : x.need ≡ need_of s.program.now s.plan.now t.proc
+  pub few : length t.events < 2 ^ 32
