@@ -47,10 +47,6 @@ def pipeline(stages, turns, number=0, each=""):
     return "\n".join(lines) + "\n"
 
 
-def drill(number):
-    return pipeline(2 + number % 6, 1000 * (1 + number % 20), number)
-
-
 def few(turns):
     """16 processes that count, and then add to one cell in their order."""
     lines = ["shared int total;", "sem s0 = 1;"] + [f"sem s{k};" for k in range(1, 17)]
@@ -227,8 +223,6 @@ def measure(program, folder, source, row, times):
             tries.append(whole([program, "flow", "source.c"], folder, 1))
         elif row["kind"] == "show":
             tries.append(whole([program, "show", "source.c"], folder))
-        elif row["kind"] == "drill":
-            tries.append(whole([program, "drill", row["number"]], folder))
         else:
             tries += [flow(program, folder, row["why"], row["lines"]), stored(program, folder), read(program, folder)]
     return least(tries)

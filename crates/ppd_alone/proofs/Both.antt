@@ -3,6 +3,7 @@ use Rattle.std.proofs.Common.{◌≡◌, ℕ, ◌+◌, ◌<◌, ℤ, pos, List, 
 use Rattle.std.proofs.lemmas.Cmp.{int_eq_equiv}
 use Rattle.std.proofs.lemmas.Bool.{and_from}
 use Rattle.std.specs.Ordering.{int_eq}
+use Rattle.ppd_entry.specs.Entries.{same_kind}
 use Rattle.ppd_ast.specs.declared.status.SyncKind.{SyncKind}
 use Rattle.ppd_ast.specs.declared.status.SyncKind.TheVariants as sync_kind
 use Rattle.std.specs.Prelude.{◌&&◌, is_some, nat_eq}
@@ -24,7 +25,7 @@ use Rattle.ppd_model.specs.Logs.{status_of}
 use Rattle.ppd_model.specs.Marks.{opened, closed}
 use Rattle.ppd_model.specs.Story.{Moment}
 use Rattle.ppd_model.specs.Synchronizations.{kind_of_sync}
-use Rattle.ppd_emul.specs.Fits.{fits, same_kind}
+use Rattle.ppd_emul.specs.Fits.{fits}
 use Rattle.ppd_emul.specs.declared.wanted.Wanted.TheVariants as wanted
 use Rattle.ppd_emul.specs.declared.wanted.Found.TheVariants as found
 use Rattle.ppd_emul.specs.Replay.{Replaying, replay_from}

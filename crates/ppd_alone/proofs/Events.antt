@@ -8,6 +8,7 @@ use Rattle.ppd_ast.specs.declared.program.Kind.TheVariants as kind
 use Rattle.ppd_ast.specs.declared.program.Program.{Program}
 use Rattle.ppd_ast.specs.Term.{term}
 use Rattle.ppd_ast.specs.declared.status.Trap.{Trap as TrapOf}
+use Rattle.ppd_ast.specs.Lookups.{kind_of}
 use Rattle.ppd_sem.specs.declared.event.Access.{Access}
 use Rattle.ppd_sem.specs.declared.event.Event.{Event}
 use Rattle.ppd_sem.specs.declared.proc.Answer.{Answer}
@@ -15,7 +16,7 @@ use Rattle.ppd_sem.specs.declared.proc.Frame.{Frame}
 use Rattle.ppd_sem.specs.declared.proc.Proc.{Proc}
 use Rattle.ppd_sem.specs.declared.proc.Todo.{Todo}
 use Rattle.ppd_sem.specs.Described.{described, frame_of, trap_of, evaluates, value_at, value_if, valued, writes_by}
-use Rattle.ppd_sem.specs.Process.{head_deed, kind_of, need_of, top_cells}
+use Rattle.ppd_sem.specs.Process.{head_deed, need_of, top_cells}
 use Rattle.ppd_sem.specs.Reads.{reads_of_kind}
 use Rattle.ppd_beside.specs.Over.{IsKindOver, SameIn}
 use Rattle.ppd_beside.specs.Beside.{HasEnds, IsBeside, IsBlock, Stacked, at_base, called}

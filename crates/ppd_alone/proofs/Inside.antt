@@ -33,17 +33,8 @@ module _ (program : Program) (plan : Plan) (used inside : ℕ → Type 0) (calls
     (Kept : Proc → Proc → Type 0) (kept : IsKept program plan used inside calls closer home depth outside Kept)
     (Across : Proc → ℕ → Proc → Type 0)
     (crossing : IsCrossing program plan used inside calls closer home depth outside Kept Across) where
-  abbrev Beside : Proc → Proc → Type 0
-  Beside s r = IsBeside program used inside calls closer home depth outside s r
-
-  abbrev Along : Proc → Replaying → Type 0
-  Along s r = IsAlong program plan used inside calls closer home depth outside Kept s r
-
   abbrev OwnSteps : List Moment → Type 0
   OwnSteps ms = OwnGoal program plan used inside calls closer home depth outside Kept ms
-
-  abbrev InnerSteps : List Moment → Type 0
-  InnerSteps ms = AcrossGoal program plan used inside calls closer home depth outside Kept Across ms
 
   -- ---- an interval inside
 
@@ -128,7 +119,7 @@ module _ (program : Program) (plan : Plan) (used inside : ℕ → Type 0) (calls
       ∙ unit_turn program plan u r1 m.unit_values (next_at program plan (drop 1 r.pieces) _ _ rest) in
       let fuel' : r.proc.budget < r.proc.spent + suc f.0 =
       subst (λ y. r.proc.budget < r.proc.spent + y) f.1 enough_fuel in
-      let al' : Along after r' = record { beside = h.beside; kept_so = h.kept; running = h.running; paid = h.paid } in
+      let al' : IsAlong program plan used inside calls closer home depth outside Kept after r' = record { beside = h.beside; kept_so = h.kept; running = h.running; paid = h.paid } in
       ap (λ y. replay_from program plan y r) f.1
       ∙ on_more program plan r r' f.0 [] (items ++ it ∷ []) c go
       (ih after r' next f.0 al' reads run (map_drop program plan (drop 1 r.pieces) _ _ rest)
@@ -137,7 +128,7 @@ module _ (program : Program) (plan : Plan) (used inside : ℕ → Type 0) (calls
       (let z : r.steps + (1 + c.steps) ≡ r.steps + (1 + (0 + c.steps)) = omega arith in z)
       (append_assoc items (it ∷ []) c.items)
 
-  pub across_step : (m : Moment) (ms : List Moment) → OwnSteps ms → InnerSteps ms → InnerSteps (m ∷ ms)
+  pub across_step : (m : Moment) (ms : List Moment) → OwnSteps ms → AcrossGoal program plan used inside calls closer home depth outside Kept Across ms → AcrossGoal program plan used inside calls closer home depth outside Kept Across (m ∷ ms)
   across_step m ms ih_own ih x r zs i n items next since fuel o across reads run pieces paid enough_fuel =
       by (opened program plan x m.taken.need) (closed program plan x m.taken.need)
       (status_of m.taken.need) refl refl refl pieces

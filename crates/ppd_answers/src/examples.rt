@@ -1,29 +1,10 @@
-// The sources of examples/, each with what it gives.
+// The sources of examples/ with what they give.
 
 use crate::trials::{call, flow, followed, highest_first};
+use ppd_examples::{
+    BOUNDED_BUFFER, COMMENTS, OVERFLOW, PING_PONG, RECURSION, RENDEZVOUS, ROW1, SUM,
+};
 use std::test::Fail;
-
-const ROW1: &str = "shared int x; process a { x = 2; print(x + 3); }";
-
-const SUM: &str =
-    "shared int a, b;\nshared int total;\n\nprocess sum {\n  a = 19;\n  b = a + 4;\n  total = a + b;\n  print(total);\n  print(total + 100);\n}\n";
-
-const OVERFLOW: &str = "process a { print(9223372036854775807 + 1); }\n";
-
-const COMMENTS: &str =
-    "// Two shared cells.\nshared int x, y; /* both start\n                    at 0 */\nprocess main {\n  x = 4;     // one step\n  y = x + x; /* two reads and a write */\n  print(y);\n  print(x /* read again */ + 1);\n}\n// nothing after it\n";
-
-const RECURSION: &str =
-    "int factorial(int n) {\n  int rest = 1;\n  if (n > 1) {\n    rest = factorial(n - 1);\n  }\n  return n * rest;\n}\n\nprocess main {\n  int value = factorial(20);\n  print(value);\n  value = factorial(21);\n  print(value);\n}\n";
-
-const RENDEZVOUS: &str =
-    "// A channel without a place: the sender goes on only when its number was received.\nshared int x;\nchan c[0];\n\nprocess a {\n  send(c, 7);\n  x = 2;\n}\n\nprocess b {\n  int v;\n  print(x);\n  v = recv(c);\n  print(v);\n}\n";
-
-const PING_PONG: &str =
-    "// Two processes hand a number to and fro, each time one larger.\nchan ping[1], pong[1];\n\nprocess left {\n  int ball = 0;\n  while (ball < 6) {\n    send(ping, ball + 1);\n    ball = recv(pong);\n  }\n  print(ball);\n}\n\nprocess right {\n  int ball = 0;\n  while (ball < 5) {\n    ball = recv(ping);\n    send(pong, ball + 1);\n  }\n  print(ball);\n}\n";
-
-const BOUNDED_BUFFER: &str =
-    "shared int buf[4];\nshared int head, tail;\nsem empty = 4, full = 0, m = 1;\n\nvoid put(int v) {\n  P(empty);\n  P(m);\n  buf[tail % 4] = v;\n  tail = tail + 1;\n  V(m);\n  V(full);\n}\n\nint get() {\n  int v;\n  P(full);\n  P(m);\n  v = buf[head % 4];\n  head = head + 1;\n  V(m);\n  V(empty);\n  return v;\n}\n\nprocess producer {\n  for (int i = 0; i < 100; i++) {\n    int w = i;\n    if (i == 57) { w = 0; }\n    put(w);\n  }\n}\n\nprocess consumer {\n  for (int i = 0; i < 100; i++) {\n    int v = get();\n    assert(v == i);\n  }\n}\n";
 
 // A source and its whole summary.
 #[test]

@@ -3,6 +3,9 @@ pub mod Bare
 pub mod Begins
 pub mod Cells
 pub mod Counting
+pub mod Digits
+pub mod Lookups
+pub mod Members
 pub mod Numbered
 pub mod Order
 pub mod Table

@@ -54,8 +54,11 @@ abbrev pub stmt_uses : Stmt → List ℕ
 stmt_uses s = kind_uses s.kind
 
 -- each use of an expression, by an expression or by a statement
+abbrev pub uses_of : List Expr → List Stmt → List ℕ
+uses_of exprs stmts = flat_map children exprs ++ flat_map stmt_uses stmts
+
 abbrev pub uses : Program → List ℕ
-uses p = flat_map children p.exprs ++ flat_map stmt_uses p.stmts
+uses p = uses_of p.exprs p.stmts
 
 -- the operators in an expression; an index is none
 abbrev pub operators_of : Term → ℕ

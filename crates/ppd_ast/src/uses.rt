@@ -1,9 +1,9 @@
 ghost use Rattle.std.specs.Prelude.{◌≡◌, ◌<◌, ◌≤◌, ◌↔◌, ◌+◌, ℕ, IsTrue, length, min, slice_index};
 ghost use Rattle.std.specs.List.{flat_map, fold};
 ghost use Rattle.ppd_ast.specs.Table.{EachAt, AreChildrenBelow};
-ghost use Rattle.ppd_ast.specs.Tally.{tally, uses_of, IsOnce};
+ghost use Rattle.ppd_ast.specs.Tally.{tally, IsOnce};
 ghost use Rattle.ppd_ast.specs.Term.{term};
-ghost use Rattle.ppd_ast.specs.Uses.{children, kind_uses, stmt_uses, operators_of, depth_of};
+ghost use Rattle.ppd_ast.specs.Uses.{children, kind_uses, stmt_uses, operators_of, depth_of, uses_of};
 
 use crate::limits::MOST_OPERATORS;
 use crate::program::{Expr, Kind, Stmt, Target};

@@ -11,7 +11,7 @@ use Rattle.ppd_ast.specs.declared.status.Trap.TheVariants.{Index}
 use Rattle.ppd_sem.specs.Asked.{Asked, gives, and_then, lift, read_shared}
 use Rattle.ppd_sem.specs.Ask.{ask, element, cell_of, is_zero}
 use Rattle.ppd_sem.specs.Deed.{Deed, ask_deed, ask_all, ask_stored, set_local, set_shared}
-use Rattle.ppd_beside.specs.Over.{IsOver, AreOver, IsKindOver, SameIn}
+use Rattle.ppd_beside.specs.Over.{IsOverCells, AreOverCells, IsKindOver, SameIn}
 
 after_same : {A B : Type 0} (q : Asked A) (next next' : A → List ℤ → Asked B)
     → ((x : A) (left : List ℤ) → next x left ≡ next' x left) → and_then q next ≡ and_then q next'
@@ -37,7 +37,7 @@ module _ (used : ℕ → Type 0) (cells others : List ℤ) (same : SameIn used c
       picked (nat_lt i len) (base + i) left (λ e. same.values (base + i) (h i (ltb-true i len e)))
   element_same base len h (negsuc i) left = refl
 
-  pub ask_same : (t : Term) → IsOver used t → (answers : List ℤ) → ask t cells answers ≡ ask t others answers
+  pub ask_same : (t : Term) → IsOverCells used t → (answers : List ℤ) → ask t cells answers ≡ ask t others answers
   ask_same (const v) o answers = refl
   ask_same (local c) o answers = ap (λ v. gives answers v) (same.values c o)
   ask_same (local_at base len i) o answers =
@@ -60,15 +60,15 @@ module _ (used : ℕ → Type 0) (cells others : List ℤ) (same : SameIn used c
       (λ x left. ap (λ q. cond (is_zero x) q (gives left (pos 1)))
       (same_after _ _ _ _ (ask_same b o.1 left) (λ y left. refl)))
 
-  all_same : (es : List Expr) (as' : List ℕ) → AreOver used es as' → (answers : List ℤ)
+  all_same : (es : List Expr) (as' : List ℕ) → AreOverCells used es as' → (answers : List ℤ)
       → ask_all es as' cells answers ≡ ask_all es as' others answers
   all_same es [] o answers = refl
   all_same es (a ∷ as') o answers =
       same_after _ _ _ _ (ask_same (term es a) o.0 answers)
       (λ v left. same_after _ _ _ _ (all_same es as' o.1 left) (λ vs left. refl))
 
-  stored_same : (i e : Term) (base len : ℕ) (store : ℕ → ℤ → Deed) (answers : List ℤ) → IsOver used i
-      → IsOver used e → ask_stored i e base len store cells answers ≡ ask_stored i e base len store others answers
+  stored_same : (i e : Term) (base len : ℕ) (store : ℕ → ℤ → Deed) (answers : List ℤ) → IsOverCells used i
+      → IsOverCells used e → ask_stored i e base len store cells answers ≡ ask_stored i e base len store others answers
   stored_same i e base len store answers oi oe =
       same_after _ _ _ _ (ask_same i oi answers)
       (λ at left. after_same (lift left (element base len at)) _ _

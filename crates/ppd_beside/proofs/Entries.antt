@@ -6,8 +6,9 @@ use Rattle.ppd_ast.specs.declared.plan.Plan.{Plan}
 use Rattle.ppd_ast.specs.declared.program.Kind.{Kind}
 use Rattle.ppd_ast.specs.declared.program.Kind.TheVariants as kind
 use Rattle.ppd_ast.specs.declared.program.Program.{Program}
+use Rattle.ppd_ast.specs.Lookups.{kind_of}
 use Rattle.ppd_sem.specs.declared.proc.Todo.{Todo}
-use Rattle.ppd_sem.specs.Process.{entry_of, kind_of, loop_of}
+use Rattle.ppd_sem.specs.Process.{entry_of, loop_of}
 use Rattle.ppd_sem.specs.Tables.{block_of}
 use Rattle.ppd_beside.specs.Opens.{IsWhile}
 

@@ -12,9 +12,10 @@ use Rattle.ppd_ast.specs.declared.program.Program.{Program}
 use Rattle.ppd_ast.specs.declared.plan.Plan.{Plan}
 use Rattle.ppd_sem.specs.declared.proc.Todo.{Todo}
 use Rattle.ppd_sem.specs.declared.proc.Proc.{Proc}
-use Rattle.ppd_sem.specs.Process.{kind_of, top_body}
+use Rattle.ppd_sem.specs.Process.{top_body}
 use Rattle.ppd_sem.specs.Described.{ends_body, frame_of, is_block}
 use Rattle.ppd_ast.specs.declared.status.Trap.TheVariants.{Index}
+use Rattle.ppd_ast.specs.Lookups.{kind_of}
 use Rattle.ppd_sem.specs.Asked.{Asked, lift}
 use Rattle.ppd_sem.specs.Ask.{ask, element, cell_of, is_zero}
 use Rattle.ppd_sem.specs.declared.event.Access.{Access}
@@ -22,7 +23,7 @@ use Rattle.ppd_sem.specs.declared.event.Spot.TheVariants as spot
 use Rattle.ppd_sem.specs.Asked.{once, and_then}
 use Rattle.ppd_sem.specs.Reads.{ask_place, local_read, reads_of, reads_of_all, reads_of_stored, reads_of_kind}
 use Rattle.ppd_beside.specs.Beside.{HasEnd}
-use Rattle.ppd_beside.specs.Over.{IsOver, AreOver, IsKindOver, SameIn}
+use Rattle.ppd_beside.specs.Over.{IsOverCells, AreOverCells, IsKindOver, SameIn}
 use Rattle.ppd_beside.proofs.Asked.{ask_same}
 
 once_same : {A : Type 0} (q : Asked A) (next next' : A → List ℤ → List Access)
@@ -71,7 +72,7 @@ module _ (used : ℕ → Type 0) (cells others : List ℤ) (same : SameIn used c
       (λ at left. once (lift left (element base len at)) next') e f h
       ∙ ap (λ zs. ys ++ zs) (sym (once_then (ask i others answers) (λ at left. lift left (element base len at)) next'))
 
-  pub reads_same : (t : Term) → IsOver used t → (answers : List ℤ)
+  pub reads_same : (t : Term) → IsOverCells used t → (answers : List ℤ)
       → reads_of frame t cells answers ≡ reads_of frame t others answers
   reads_same (const v) o answers = refl
   reads_same (local c) o answers = read_same c (same.values c o)
@@ -94,14 +95,14 @@ module _ (used : ℕ → Type 0) (cells others : List ℤ) (same : SameIn used c
       both_same _ _ _ _ _ _ (reads_same a o.0 answers) (ask_same used cells others same a o.0 answers)
       (λ x left. ap (λ zs. cond (is_zero x) zs []) (reads_same b o.1 left))
 
-  all_reads_same : (es : List Expr) (as' : List ℕ) → AreOver used es as' → (answers : List ℤ)
+  all_reads_same : (es : List Expr) (as' : List ℕ) → AreOverCells used es as' → (answers : List ℤ)
       → reads_of_all frame es as' cells answers ≡ reads_of_all frame es as' others answers
   all_reads_same es [] o answers = refl
   all_reads_same es (a ∷ as') o answers =
       both_same _ _ _ _ _ _ (reads_same (term es a) o.0 answers)
       (ask_same used cells others same (term es a) o.0 answers) (λ v left. all_reads_same es as' o.1 left)
 
-  stored_reads_same : (i e : Term) (base len : ℕ) (answers : List ℤ) → IsOver used i → IsOver used e
+  stored_reads_same : (i e : Term) (base len : ℕ) (answers : List ℤ) → IsOverCells used i → IsOverCells used e
       → reads_of_stored frame i e base len cells answers ≡ reads_of_stored frame i e base len others answers
   stored_reads_same i e base len answers oi oe =
       place_same _ _ i base len answers _ _ (reads_same i oi answers)

@@ -3,10 +3,11 @@ use Rattle.std.proofs.Common.{◌≡◌, ℕ, ◌+◌, ℤ, List, ◌∷◌, ◌
 use Rattle.std.specs.Prelude.{slice_get}
 use Rattle.std.proofs.lemmas.Bool.{cond-true}
 use Rattle.ppd_ast.specs.declared.program.Program.{Program}
+use Rattle.ppd_ast.specs.Lookups.{kind_of, top_of_body}
 use Rattle.ppd_sem.specs.declared.proc.Frame.{Frame}
 use Rattle.ppd_sem.specs.declared.proc.Todo.{Todo}
 use Rattle.ppd_sem.specs.declared.proc.Proc.{Proc}
-use Rattle.ppd_sem.specs.Process.{returned_from, kind_of, todos, top_of, into_of, returned, receive_at, write_top, clear_top}
+use Rattle.ppd_sem.specs.Process.{returned_from, todos, into_of, returned, receive_at, write_top, clear_top}
 use Rattle.ppd_sem.specs.Described.{ends_body}
 use Rattle.ppd_beside.specs.Beside.{Rests, Stacked, at_base, called, past_body, HasEnds, IsBlock, IsBeside, IsCallOf, IsListOf, IsReturn, IsCalled}
 use Rattle.ppd_beside.proofs.Deeds.{list_goes_on, call_goes_on, return_ends}
@@ -89,9 +90,9 @@ module _ (program : Program) (used inside : ℕ → Type 0) (calls : Type 0) (cl
 
   pub invokes : (t : Todo) (fs gs : List Frame) (ts : List Todo) (f : ℕ) (x : Frame)
       → IsCallOf (kind_of program t.stmt) f → (h : Framed fs gs (t ∷ ts)) → Rests h.stacked
-      → Framed (x ∷ fs) (x ∷ gs) (todos (top_of (slice_get program.bodies f)) ++ ts)
+      → Framed (x ∷ fs) (x ∷ gs) (todos (top_of_body (slice_get program.bodies f)) ++ ts)
   invokes t fs gs ts f x e h long = record {
-    stacked = called x fs gs (todos (top_of (slice_get program.bodies f)) ++ ts) (calling t fs gs ts f e h.stacked)
+    stacked = called x fs gs (todos (top_of_body (slice_get program.bodies f)) ++ ts) (calling t fs gs ts f e h.stacked)
         (ends.ended t.stmt f e ts)
         (subst (λ ys. Stacked program used inside calls closer home fs gs ys) (sym (ends.whole t.stmt f e ts))
         (past t fs gs ts (call_goes_on (kind_of program t.stmt) f e) h long).stacked);

@@ -4,6 +4,7 @@ use Rattle.std.specs.Prelude.{slice_set}
 use Rattle.std.proofs.lemmas.Bool.{cases_eq, cases_lt}
 use Rattle.std.proofs.lemmas.List.{get_or_past}
 use Rattle.ppd_ast.specs.declared.program.Program.{Program}
+use Rattle.ppd_ast.specs.Lookups.{kind_of}
 use Rattle.ppd_sem.specs.declared.proc.Frame.{Frame}
 use Rattle.ppd_sem.specs.declared.proc.Todo.{Todo}
 use Rattle.ppd_sem.specs.Ask.{cell_of}
@@ -11,7 +12,6 @@ use Rattle.ppd_sem.specs.Process.{write_top, clear_top, clear_cells}
 use Rattle.ppd_beside.specs.Over.{SameIn}
 use Rattle.ppd_beside.specs.Beside.{HasEnd, IsOwnTodo, Rests, Stacked, at_base, called, past_body}
 use Rattle.ppd_sem.specs.Described.{ends_body}
-use Rattle.ppd_sem.specs.Process.{kind_of}
 use Rattle.ppd_beside.proofs.Todos.{end_past, last_headed, last_past}
 
 written_same : (cells others : List ℤ) (c d : ℕ) (v : ℤ) → length cells ≡ length others

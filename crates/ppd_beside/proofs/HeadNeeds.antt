@@ -12,9 +12,10 @@ use Rattle.ppd_sem.specs.Tables.{block_of, unit_of}
 use Rattle.ppd_ast.specs.declared.plan.BlockKind.TheVariants as block_kind
 use Rattle.ppd_ast.specs.declared.plan.Start.TheVariants as start
 use Rattle.ppd_ast.specs.declared.status.Trap.TheVariants as trap
+use Rattle.ppd_ast.specs.Lookups.{kind_of}
 use Rattle.ppd_sem.specs.declared.proc.Need.{Need}
 use Rattle.ppd_sem.specs.declared.proc.Need.TheVariants.{Invoke, Back, Trap}
-use Rattle.ppd_sem.specs.Process.{need_of_deed, need_of_asked, need_by_entry, need_of_head, need_of_call, need_by_offer, offer_of, call_unit, top_body, top_call, head_deed, top_cells, entry_of, kind_of}
+use Rattle.ppd_sem.specs.Process.{need_of_deed, need_of_asked, need_by_entry, need_of_head, need_of_call, need_by_offer, offer_of, call_unit, top_body, top_call, head_deed, top_cells, entry_of}
 use Rattle.ppd_beside.specs.Beside.{Stacked, at_base, called, HasEnds, IsBlock, IsBeside, Suits, Stays, StaysAt, Yields, IsCalled}
 use Rattle.ppd_beside.proofs.Asked.{deed_same}
 use Rattle.ppd_beside.proofs.Deeds.{suits}

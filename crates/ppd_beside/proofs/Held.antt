@@ -5,12 +5,13 @@ use Rattle.std.proofs.lemmas.Bool.{cond-true}
 use Rattle.ppd_ast.specs.declared.program.Kind.{Kind}
 use Rattle.ppd_ast.specs.declared.program.Kind.TheVariants.{Call}
 use Rattle.ppd_ast.specs.declared.program.Program.{Program}
+use Rattle.ppd_ast.specs.Lookups.{kind_of, top_of_body}
 use Rattle.ppd_sem.specs.declared.proc.Answer.{Answer}
 use Rattle.ppd_sem.specs.declared.proc.Frame.{Frame}
 use Rattle.ppd_sem.specs.declared.proc.Todo.{Todo}
 use Rattle.ppd_sem.specs.declared.proc.Proc.{Proc}
 use Rattle.ppd_sem.specs.Deed.{Deed, set_local, set_shared, clear, invoke, branch, leave, turn, back, take, give, send, receive, print, pass, finish}
-use Rattle.ppd_sem.specs.Process.{kind_of, todos, top_of, into_of, new_frame, returned, returned_from, receive_at, write_top, clear_top, clear_cells, value_of, act_by_deed}
+use Rattle.ppd_sem.specs.Process.{todos, into_of, new_frame, returned, returned_from, receive_at, write_top, clear_top, clear_cells, value_of, act_by_deed}
 use Rattle.ppd_sem.specs.Described.{ends_body}
 use Rattle.ppd_beside.specs.Beside.{HasEnd, IsLong, IsOwnTodo, past_body, HasEnds, IsListOf, IsCallOf, IsReturn, Suits}
 use Rattle.ppd_beside.specs.Held.{IsWriting, MayWrite, IsWritingBlock, IsReceiving, Held, own, called, IsIn, StaysIn}
@@ -155,9 +156,9 @@ module _ (program : Program) (written inside : ℕ → Type 0) (ends : HasEnds p
       (ends.nested t.stmt stmts e (t ∷ ts)) h)
   deed_held outside a b t ts (invoke f values into) s h e w k =
       in_after true (new_frame program f values (Some t.stmt) ∷ s.frames)
-      (todos (top_of (slice_get program.bodies f)) ++ (ts ++ outside))
-      (todos (top_of (slice_get program.bodies f)) ++ ts) outside s
-      (sym (append_assoc (todos (top_of (slice_get program.bodies f))) ts outside))
+      (todos (top_of_body (slice_get program.bodies f)) ++ (ts ++ outside))
+      (todos (top_of_body (slice_get program.bodies f)) ++ ts) outside s
+      (sym (append_assoc (todos (top_of_body (slice_get program.bodies f))) ts outside))
       (called b (new_frame program f values (Some t.stmt)) s.frames _
       (λ unmoved. new_receives t f f values e (head_written b t s.frames ts h unmoved)) (ends.ended t.stmt f e ts)
       (subst (λ ys. Held program written inside closer base below b s.frames ys) (sym (ends.whole t.stmt f e ts))

@@ -5,11 +5,12 @@ use Rattle.std.specs.Prelude.{not as negated, ◌||◌, if◌then◌else◌}
 use Rattle.std.proofs.lemmas.Bool.{or_left, or_right}
 use Rattle.ppd_ast.specs.declared.plan.Plan.{Plan}
 use Rattle.ppd_ast.specs.declared.program.Program.{Program}
+use Rattle.ppd_ast.specs.Lookups.{kind_of}
 use Rattle.ppd_sem.specs.declared.proc.Frame.{Frame}
 use Rattle.ppd_sem.specs.declared.proc.Proc.{Proc}
 use Rattle.ppd_sem.specs.declared.proc.Todo.{Todo}
 use Rattle.ppd_sem.specs.Described.{ends_body, frame_of, has_interval, is_block}
-use Rattle.ppd_sem.specs.Process.{kind_of, top_body}
+use Rattle.ppd_sem.specs.Process.{top_body}
 use Rattle.ppd_beside.specs.Beside.{Each, HasEnd, IsBeside, IsLast, IsOwnTodo, Stacked, at_base, called}
 use Rattle.ppd_beside.proofs.Events.{called_frame, top_of_list, taken}
 

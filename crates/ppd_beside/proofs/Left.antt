@@ -15,11 +15,12 @@ use Rattle.ppd_sem.specs.Ask.{cell_of}
 use Rattle.ppd_sem.specs.Asked.{Asked}
 use Rattle.ppd_sem.specs.Deed.{Deed, leave, invoke, send}
 use Rattle.ppd_sem.specs.Described.{ends_body}
-use Rattle.ppd_sem.specs.Process.{act, act_at, act_by_asked, act_by_need, charged, cost, entry_of, head_deed, kind_of, need_by_entry, need_of, need_of_asked, need_of_deed, need_of_send, top_cells}
+use Rattle.ppd_sem.specs.Process.{act, act_at, act_by_asked, act_by_need, charged, cost, entry_of, head_deed, need_by_entry, need_of, need_of_asked, need_of_deed, need_of_send, top_cells}
 use Rattle.ppd_sem.specs.Tables.{block_of, capacity_of, unit_of}
 use Rattle.ppd_ast.specs.declared.plan.BlockKind.TheVariants as block
 use Rattle.ppd_ast.specs.declared.plan.Start.TheVariants as start
 use Rattle.ppd_ast.specs.declared.status.Trap.TheVariants as trap
+use Rattle.ppd_ast.specs.Lookups.{kind_of}
 use Rattle.ppd_model.specs.Marks.{values_at}
 use Rattle.ppd_sem.specs.Blocks.{skipped}
 use Rattle.ppd_beside.specs.Beside.{HasEnds, IsBeside, IsBlock, Rests, Stacked, at_base, called}

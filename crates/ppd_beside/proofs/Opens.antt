@@ -6,7 +6,6 @@ use Rattle.ppd_ast.specs.declared.plan.Plan.{Plan}
 use Rattle.ppd_ast.specs.declared.program.Kind.{Kind}
 use Rattle.ppd_ast.specs.declared.program.Kind.TheVariants as kind
 use Rattle.ppd_ast.specs.declared.program.Program.{Program}
-use Rattle.ppd_sem.specs.Blocks.{body_in}
 use Rattle.ppd_sem.specs.declared.asking.Pause.TheVariants.{Wants, Traps}
 use Rattle.ppd_sem.specs.declared.proc.Answer.{Answer}
 use Rattle.ppd_sem.specs.declared.proc.Need.{Need}
@@ -16,11 +15,12 @@ use Rattle.ppd_sem.specs.declared.proc.Todo.{Todo}
 use Rattle.ppd_sem.specs.Asked.{Asked}
 use Rattle.ppd_sem.specs.Deed.{Deed, set_local, set_shared, clear, branch, turn, leave, invoke, back, take, give, send, receive, print, pass, finish}
 use Rattle.ppd_sem.specs.Described.{ends_body}
-use Rattle.ppd_sem.specs.Process.{act, act_at, act_by_asked, act_by_need, head_deed, kind_of, need_of, need_of_asked, need_of_deed, need_of_head, need_of_leaving, call_unit, cost, entry_of, loop_of, need_by_entry, need_by_offer, need_of_send, offer_of, todos, top_body, top_call, top_cells, top_of}
+use Rattle.ppd_sem.specs.Process.{act, act_at, act_by_asked, act_by_need, head_deed, need_of, need_of_asked, need_of_deed, need_of_head, need_of_leaving, call_unit, cost, entry_of, loop_of, need_by_entry, need_by_offer, need_of_send, offer_of, todos, top_body, top_call, top_cells}
 use Rattle.ppd_sem.specs.Tables.{block_of, capacity_of, unit_of}
 use Rattle.ppd_sem.proofs.Progress.{need_at_todo}
 use Rattle.ppd_ast.specs.declared.plan.Start.TheVariants as start
 use Rattle.ppd_ast.specs.declared.status.Trap.TheVariants as trap
+use Rattle.ppd_ast.specs.Lookups.{kind_of, top_of_body, body_of_stmt}
 use Rattle.ppd_model.specs.Marks.{opened, closed}
 use Rattle.ppd_beside.specs.Beside.{IsCallOf, IsReturn, IsEnd, Suits, Yields}
 use Rattle.ppd_beside.specs.Opens.{IsCountable, IsCountedStep, IsHome, IsWhile, ends_block, one_if, open_at, opens}
@@ -77,7 +77,7 @@ module _ (program : Program) (plan : Plan) (c : IsCountable program plan) where
       arith,
       unentered t.entered refl loop,
       goes_on
-          (body_in (slice_get program.stmts t.stmt)) (kind_of program t.stmt) e,
+          (body_of_stmt (slice_get program.stmts t.stmt)) (kind_of program t.stmt) e,
     )
 
     popped : (n : Need) (after : Proc) → after.todo ≡ ts → closed program plan s n ≡ None
@@ -99,7 +99,7 @@ module _ (program : Program) (plan : Plan) (c : IsCountable program plan) where
         (omega (
           arith,
           ap one_if eb,
-          while_ends_none plan (body_in (slice_get program.stmts t.stmt))
+          while_ends_none plan (body_of_stmt (slice_get program.stmts t.stmt))
               (kind_of program t.stmt) loop,
         ))
     leaving (Some b) true eo eb none loop x at =
@@ -109,7 +109,7 @@ module _ (program : Program) (plan : Plan) (c : IsCountable program plan) where
           before_is,
           ap one_if eb,
           while_ends_none plan
-              (body_in (slice_get program.stmts t.stmt)) (kind_of program t.stmt) loop,
+              (body_of_stmt (slice_get program.stmts t.stmt)) (kind_of program t.stmt) loop,
         )
     leaving (Some b) false eo eb none loop x at = absurd (true≢false (ap is_some (none refl)))
 
@@ -156,7 +156,7 @@ module _ (program : Program) (plan : Plan) (c : IsCountable program plan) where
         omega (
           arith,
           todo_is,
-          opens_append (todos (top_of (slice_get program.bodies f))) ts,
+          opens_append (todos (top_of_body (slice_get program.bodies f))) ts,
           c.bodies t.stmt f call,
           before_is,
           invoking o u,
@@ -166,7 +166,7 @@ module _ (program : Program) (plan : Plan) (c : IsCountable program plan) where
         )
       where
         todo_is : opens program plan (act_by_need program plan a t ts (Invoke o u) s).todo ≡ opens program plan
-            (todos (top_of (slice_get program.bodies f)) ++ ts)
+            (todos (top_of_body (slice_get program.bodies f)) ++ ts)
         todo_is = ap (λ x. opens program plan (act_by_asked program a t ts x s).todo) (hq ∙ eq)
 
     leaves_todo : (o : Option ℕ) (left : List ℤ) → head_deed program t s ≡ Ok (leave, left)
@@ -249,7 +249,7 @@ module _ (program : Program) (plan : Plan) (c : IsCountable program plan) where
           ap (λ q. opens program plan (act_by_asked program a t ts q s).todo) e,
           before_is,
           unentered t.entered refl (return_no_loop (kind_of program t.stmt) h.suits_so),
-          return_opens (body_in (slice_get program.stmts t.stmt)) (kind_of program t.stmt) h.suits_so,
+          return_opens (body_of_stmt (slice_get program.stmts t.stmt)) (kind_of program t.stmt) h.suits_so,
           ap (λ b. one_if (is_some (block_of plan (block.Function b)))) home.body,
           backing (block_of plan (block.Function (top_body s.frames))) (call_unit plan (top_call s.frames)),
           ap (λ x. one_if (is_some x))
@@ -261,7 +261,7 @@ module _ (program : Program) (plan : Plan) (c : IsCountable program plan) where
           ap (λ q. opens program plan (act_by_asked program a t ts q s).todo) e,
           before_is,
           unentered t.entered refl (end_no_loop (kind_of program t.stmt) h.suits_so),
-          end_opens (body_in (slice_get program.stmts t.stmt)) (kind_of program t.stmt) h.suits_so,
+          end_opens (body_of_stmt (slice_get program.stmts t.stmt)) (kind_of program t.stmt) h.suits_so,
         )
 
     asked_step : (q : Asked Deed) → head_deed program t s ≡ q

@@ -4,9 +4,10 @@ use Rattle.std.proofs.lemmas.Option.{none-some}
 use Rattle.ppd_ast.specs.declared.program.Kind.{Kind}
 use Rattle.ppd_ast.specs.declared.program.Kind.TheVariants as kind
 use Rattle.ppd_ast.specs.declared.program.Program.{Program}
+use Rattle.ppd_ast.specs.Lookups.{kind_of}
 use Rattle.ppd_sem.specs.declared.proc.Todo.{Todo}
 use Rattle.ppd_sem.specs.Described.{ends_body}
-use Rattle.ppd_sem.specs.Process.{chan_of, kind_of, offer_of}
+use Rattle.ppd_sem.specs.Process.{chan_of, offer_of}
 use Rattle.ppd_sem.proofs.Offers.{offer_there}
 use Rattle.ppd_beside.specs.Opens.{IsWhile}
 

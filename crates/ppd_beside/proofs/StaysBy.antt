@@ -12,10 +12,11 @@ use Rattle.ppd_sem.specs.Tables.{block_of, capacity_of, unit_of}
 use Rattle.ppd_ast.specs.declared.plan.BlockKind.TheVariants as block_kind
 use Rattle.ppd_ast.specs.declared.plan.Start.TheVariants as start
 use Rattle.ppd_ast.specs.declared.status.Trap.TheVariants as trap
+use Rattle.ppd_ast.specs.Lookups.{kind_of}
 use Rattle.ppd_sem.specs.declared.asking.Pause.TheVariants.{Wants, Traps}
 use Rattle.ppd_sem.specs.declared.proc.Need.{Need}
 use Rattle.ppd_sem.specs.declared.proc.Need.TheVariants.{Invoke, Offer, Done, Trap}
-use Rattle.ppd_sem.specs.Process.{need_of_deed, need_of_asked, need_by_entry, need_of_head, need_of_leaving, need_of_send, need_by_offer, offer_of, head_deed, entry_of, kind_of}
+use Rattle.ppd_sem.specs.Process.{need_of_deed, need_of_asked, need_by_entry, need_of_head, need_of_leaving, need_of_send, need_by_offer, offer_of, head_deed, entry_of}
 use Rattle.ppd_sem.specs.Described.{ends_body}
 use Rattle.ppd_beside.specs.Beside.{Rests, Stacked, Stays, StaysAt, Yields}
 use Rattle.ppd_beside.proofs.Sends.{offered_goes_on}

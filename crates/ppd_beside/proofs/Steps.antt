@@ -11,9 +11,10 @@ use Rattle.ppd_sem.specs.Deed.{Deed}
 use Rattle.ppd_sem.specs.Asked.{Asked}
 use Rattle.ppd_sem.specs.declared.asking.Pause.TheVariants.{Wants, Traps}
 use Rattle.ppd_ast.specs.declared.status.Status.TheVariants as status
+use Rattle.ppd_ast.specs.Lookups.{kind_of}
 use Rattle.ppd_sem.specs.declared.proc.Need.{Need}
 use Rattle.ppd_sem.specs.declared.proc.Need.TheVariants.{Enter, Offer, Done, Trap, Budget, Stopped}
-use Rattle.ppd_sem.specs.Process.{act, act_at, act_by_need, act_by_asked, charged, cost, within_budget, need_of, need_by_status, need_of_running, need_of_head, offer_of, head_deed, top_cells, kind_of, value_of}
+use Rattle.ppd_sem.specs.Process.{act, act_at, act_by_need, act_by_asked, charged, cost, within_budget, need_of, need_by_status, need_of_running, need_of_head, offer_of, head_deed, top_cells, value_of}
 use Rattle.ppd_beside.specs.Beside.{HasEnds, IsBlock, IsBeside, Suits, Stays, StaysAt, Yields}
 use Rattle.ppd_beside.proofs.Deeds.{suits}
 use Rattle.ppd_beside.proofs.Frames.{marked_stacked}

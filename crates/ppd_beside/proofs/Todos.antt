@@ -2,9 +2,10 @@
 use Rattle.std.proofs.Common.{◌≡◌, ℕ, List, [], ◌∷◌, ◌++◌, false, sym, ◌∙◌, inl, inr, true≢false}
 use Rattle.std.proofs.lemmas.Bool.{cond-false}
 use Rattle.ppd_ast.specs.declared.program.Program.{Program}
+use Rattle.ppd_ast.specs.Lookups.{kind_of}
 use Rattle.ppd_sem.specs.declared.proc.Todo.{Todo}
 use Rattle.ppd_sem.specs.Described.{ends_body}
-use Rattle.ppd_sem.specs.Process.{kind_of, todos}
+use Rattle.ppd_sem.specs.Process.{todos}
 use Rattle.ppd_beside.specs.Beside.{Each, HasEnd, IsLast, IsLong, past_body}
 
 pub all_todos : (inside : ℕ → Type 0) (stmts : List ℕ) (ts : List Todo) → Each inside stmts

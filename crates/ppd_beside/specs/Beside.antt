@@ -3,12 +3,13 @@ use Rattle.std.specs.Prelude.{Option, Some, None, ◌≡◌, ℕ, ◌+◌, ◌�
 use Rattle.ppd_ast.specs.declared.program.Kind.{Kind}
 use Rattle.ppd_ast.specs.declared.program.Kind.TheVariants.{If, While, Call, Return, End}
 use Rattle.ppd_ast.specs.declared.program.Program.{Program}
+use Rattle.ppd_ast.specs.Lookups.{kind_of, top_of_body}
 use Rattle.ppd_sem.specs.declared.proc.Frame.{Frame}
 use Rattle.ppd_sem.specs.declared.proc.Todo.{Todo}
 use Rattle.ppd_sem.specs.declared.proc.Proc.{Proc}
 use Rattle.ppd_sem.specs.Asked.{Asked}
 use Rattle.ppd_sem.specs.Deed.{Deed, branch, turn, invoke, back, finish}
-use Rattle.ppd_sem.specs.Process.{kind_of, todos, top_of}
+use Rattle.ppd_sem.specs.Process.{todos}
 use Rattle.ppd_sem.specs.Described.{ends_body}
 use Rattle.ppd_beside.specs.Over.{SameIn, IsKindOver}
 
@@ -52,9 +53,9 @@ pub record HasEnds (program : Program) : Type 0 where
   pub nested : (s : ℕ) (stmts : List ℕ) → IsListOf (kind_of program s) stmts → (ts : List Todo)
       → past_body program (todos stmts ++ ts) ≡ past_body program ts
   pub ended : (s f : ℕ) → IsCallOf (kind_of program s) f → (ts : List Todo)
-      → HasEnd program (todos (top_of (slice_get program.bodies f)) ++ ts)
+      → HasEnd program (todos (top_of_body (slice_get program.bodies f)) ++ ts)
   pub whole : (s f : ℕ) → IsCallOf (kind_of program s) f → (ts : List Todo)
-      → past_body program (todos (top_of (slice_get program.bodies f)) ++ ts) ≡ ts
+      → past_body program (todos (top_of_body (slice_get program.bodies f)) ++ ts) ≡ ts
 
 -- the statements of a block, the local cells of its frame that they read, and whether one of them is a call
 pub record IsBlock (program : Program) (used inside : ℕ → Type 0) (calls : Type 0) : Type 0 where

@@ -3,12 +3,13 @@ use Rattle.std.specs.Prelude.{◌≡◌, ℕ, zero, suc, ◌+◌, ◌≤◌, ⊤
 use Rattle.ppd_ast.specs.declared.plan.BlockKind.TheVariants as block
 use Rattle.ppd_ast.specs.declared.plan.Plan.{Plan}
 use Rattle.ppd_ast.specs.declared.program.Program.{Program}
+use Rattle.ppd_ast.specs.Lookups.{kind_of, top_of_body}
 use Rattle.ppd_sem.specs.declared.proc.Frame.{Frame}
 use Rattle.ppd_sem.specs.declared.proc.Need.TheVariants.{Invoke}
 use Rattle.ppd_sem.specs.declared.proc.Proc.{Proc}
 use Rattle.ppd_sem.specs.declared.proc.Todo.{Todo}
 use Rattle.ppd_sem.specs.Described.{ends_body}
-use Rattle.ppd_sem.specs.Process.{cost, kind_of, need_of, todos, top_of}
+use Rattle.ppd_sem.specs.Process.{cost, need_of, todos}
 use Rattle.ppd_sem.specs.Tables.{block_of}
 use Rattle.ppd_beside.specs.Beside.{IsBeside, IsEnd, IsOwnTodo, past_body}
 use Rattle.ppd_beside.specs.Held.{IsIn, IsWritingBlock}
@@ -59,7 +60,7 @@ pub record IsInCall (program : Program) (plan : Plan) (used inside : ℕ → Typ
 -- the body of a function that is a block: its statements, and last the one that closes it
 pub record IsCallBody (program : Program) (plan : Plan) (statements : ℕ → Type 0) (f : ℕ) : Type 0 where
   pub last : Todo
-  pub own : IsOwnTodo statements last (todos (top_of (slice_get program.bodies f)))
+  pub own : IsOwnTodo statements last (todos (top_of_body (slice_get program.bodies f)))
   pub ends : ends_body (kind_of program last.stmt) ≡ true
   pub last_is : last.entered ≡ false
   pub counts : 1 ≤ open_at program plan last

@@ -4,12 +4,13 @@ use Rattle.ppd_ast.specs.declared.program.Kind.{Kind}
 use Rattle.ppd_ast.specs.declared.program.Kind.TheVariants.{Set, Zero, Call, Recv}
 use Rattle.ppd_ast.specs.declared.program.Target.TheVariants as target
 use Rattle.ppd_ast.specs.declared.program.Program.{Program}
+use Rattle.ppd_ast.specs.Lookups.{kind_of}
 use Rattle.ppd_sem.specs.declared.proc.Frame.{Frame}
 use Rattle.ppd_sem.specs.declared.proc.Todo.{Todo}
 use Rattle.ppd_sem.specs.declared.proc.Proc.{Proc}
 use Rattle.ppd_sem.specs.Ask.{cell_of}
 use Rattle.ppd_sem.specs.Deed.{Deed, set_local, clear, back, receive, turn, finish}
-use Rattle.ppd_sem.specs.Process.{kind_of, into_of}
+use Rattle.ppd_sem.specs.Process.{into_of}
 use Rattle.ppd_beside.specs.Beside.{Each, HasEnd, IsLong, IsOwnTodo, past_body, IsListOf}
 
 -- the local cells that a statement of this kind writes are some of these

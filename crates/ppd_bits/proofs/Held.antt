@@ -6,8 +6,10 @@ use Rattle.std.proofs.lemmas.Bool.{eq-eqb, ne_eqb, cases_eq, or_left}
 use Rattle.std.proofs.lemmas.Nat.Bits.{bit_at-zero, bit_at_set_same, bit_at_set_other}
 use lib.Bits.{bit_or}
 use mir.Syntax.{w64}
-use Rattle.ppd_bits.specs.CellSets.{has, those, with_cell, is_held, held, IsSetBelow}
-use Rattle.ppd_bits.proofs.Has.{those_has, those_same, those_none, those_more, those_set, those_again, has_with}
+use Rattle.ppd_ast.specs.Members.{has, those, with_cell}
+use Rattle.ppd_ast.proofs.Those.{those_has, those_same, those_again, those_none}
+use Rattle.ppd_bits.specs.CellSets.{is_held, held, IsSetBelow}
+use Rattle.ppd_bits.proofs.Sets.{those_more, those_set, has_with}
 
 zero_at : (n k : ℕ) → ◌≡◌ {A = ℕ} (get_or (replicate n 0) k 0) 0
 zero_at zero k = refl

@@ -1,3 +1,3 @@
-mod Has
 mod Held
+mod Sets
 mod Words

@@ -8,8 +8,10 @@ use Rattle.std.proofs.lemmas.Simd.{get_or-zip2, length-zip2}
 use lib.Bits.{bit_and, bit_or, and_le_l}
 use lib.Lanes.{zip2, fold_l}
 use mir.Syntax.{w64}
-use Rattle.ppd_bits.specs.CellSets.{has, meet, is_held, held}
-use Rattle.ppd_bits.proofs.Has.{both, any_from, any_gives, those_has, those_below}
+use Rattle.ppd_ast.specs.Members.{has}
+use Rattle.ppd_ast.proofs.Members.{any_from, any_gives}
+use Rattle.ppd_ast.proofs.Those.{both, those_has, those_below}
+use Rattle.ppd_bits.specs.CellSets.{meet, is_held, held}
 
 IsSet : ℕ → ℕ → Type 0
 IsSet n i = bit_at n i ≡ 1

@@ -1,5 +1,6 @@
 ghost use Rattle.std.specs.Prelude.{◌≡◌, ◌<◌, ℕ, [], nat_eq, ◌||◌, IfOk};
-ghost use Rattle.ppd_bits.specs.CellSets.{has, those, with_cell, meet, is_held, held, IsSetBelow};
+ghost use Rattle.ppd_ast.specs.Members.{has, those, with_cell};
+ghost use Rattle.ppd_bits.specs.CellSets.{meet, is_held, held, IsSetBelow};
 
 use ppd_ast::{Cells, Memory};
 use std::alloc::Global;

@@ -14,10 +14,10 @@ use Rattle.ppd_ast.specs.declared.plan.Start.{Start}
 use Rattle.ppd_ast.specs.declared.plan.Start.TheVariants.{Entry, After, Enter, Exit}
 use Rattle.ppd_ast.specs.Numbered.{is_left, is_block_loop, is_block_body, body_kind, loops_of, loops_at, blocks_of, blocks_by, starts_of, body_starts, starts_by, numbers_of, each_from}
 use Rattle.ppd_ast.specs.Numbered.{starts_at as starts_of_policy}
-use Rattle.ppd_cfg.specs.Lists.{has}
-use Rattle.ppd_cfg.specs.Flow.{kind_of, kind_of_stmt}
-use Rattle.ppd_cfg.proofs.Has.{has_cons, has_first, has_left, has_right, has_cases}
-use Rattle.ppd_units.specs.Starts.{starts_at, starts_in, all_starts}
+use Rattle.ppd_ast.specs.Members.{has}
+use Rattle.ppd_ast.specs.Lookups.{kind_of_stmt, kind_of}
+use Rattle.ppd_ast.proofs.Members.{has_first, has_cons, has_left, has_right, has_cases}
+use Rattle.ppd_units.specs.Starts.{unit_starts_at, starts_in, all_starts}
 use Rattle.ppd_blocks.specs.Blocks.{loop_in, block_loops}
 
 module _ (p : Program) (policy : Policy) where
@@ -112,12 +112,12 @@ module _ (p : Program) (policy : Policy) where
         same_test true e = there k (subst (λ b. IsTrue (has (flat_map loop_in (if b then Loop k ∷ [] else [])) k)) (sym e) (has_first k [])) ∙ sym e
         same_test false e = false_by k (other_loop k s at e) ∙ sym e
 
-    starts_of_numbers : (ns : List ℕ) → ((i : ℕ) → IsTrue (has (loops_in ns) i) → IsTrue (has loops i)) → flat_map (starts_at p loops) ns ≡ flat_map (starts_of_policy p.stmts policy) ns
+    starts_of_numbers : (ns : List ℕ) → ((i : ℕ) → IsTrue (has (loops_in ns) i) → IsTrue (has loops i)) → flat_map (unit_starts_at p loops) ns ≡ flat_map (starts_of_policy p.stmts policy) ns
     unfolding loops_in
     starts_of_numbers [] there = refl
     starts_of_numbers (n ∷ ns) there =
         let both : flat_map loop_in (flat_map (loops_at p.stmts policy) (n ∷ ns)) ≡ flat_map loop_in (loops_at p.stmts policy n) ++ loops_in ns = flat_map-append loop_in (loops_at p.stmts policy n) (flat_map (loops_at p.stmts policy) ns) in
-        ap (λ l. l ++ flat_map (starts_at p loops) ns) (starts_at_stmt n (slice_get p.stmts n) refl (λ i h. there i (subst (λ xs. IsTrue (has xs i)) (sym both) (has_left (flat_map loop_in (loops_at p.stmts policy n)) (loops_in ns) i h))))
+        ap (λ l. l ++ flat_map (unit_starts_at p loops) ns) (starts_at_stmt n (slice_get p.stmts n) refl (λ i h. there i (subst (λ xs. IsTrue (has xs i)) (sym both) (has_left (flat_map loop_in (loops_at p.stmts policy n)) (loops_in ns) i h))))
         ∙ ap (λ l. starts_of_policy p.stmts policy n ++ l) (starts_of_numbers ns (λ i h. there i (subst (λ xs. IsTrue (has xs i)) (sym both) (has_right (flat_map loop_in (loops_at p.stmts policy n)) (loops_in ns) i h))))
 
     starts_of_bodies : (j : ℕ) (bs : List Body) → ((i : ℕ) → IsTrue (has (loops_by j bs) i) → IsTrue (has loops i)) → each_from (starts_in p loops) j bs ≡ each_from (body_starts p.stmts policy) j bs

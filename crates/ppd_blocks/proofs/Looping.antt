@@ -1,6 +1,6 @@
 -- The local cells of a loop are cells of its body's frame.
-use Rattle.std.proofs.Common.{◌≡◌, ℕ, zero, suc, ◌+◌, ◌<◌, ◌≤◌, List, [], ◌∷◌, ◌++◌, Bool, true, false, Option, Some, None, length, refl, sym, ap, ◌∙◌, subst, arith, inl, inr, true≢false}
-use Rattle.std.specs.Prelude.{IsTrue, IsSomeAnd, slice_get, if◌then◌else◌}
+use Rattle.std.proofs.Common.{◌≡◌, ℕ, ◌<◌, List, [], ◌++◌, Bool, true, false, Some, length, refl, sym, ap, ◌∙◌, subst, arith, inl, inr, true≢false}
+use Rattle.std.specs.Prelude.{IsTrue, slice_get, if◌then◌else◌}
 use Rattle.std.specs.List.{flat_map}
 use Rattle.std.specs.List.Sorted.{IsStrictlyIncreasing}
 use Rattle.ppd_ast.specs.declared.program.Kind.{Kind}
@@ -8,46 +8,21 @@ use Rattle.ppd_ast.specs.declared.program.Stmt.{Stmt}
 use Rattle.ppd_ast.specs.declared.program.Body.{Body}
 use Rattle.ppd_ast.specs.declared.program.Program.{Program}
 use Rattle.ppd_ast.specs.Numbered.{is_while}
-use Rattle.ppd_ast.specs.Order.{preorder, inner, inner_of, inner_at}
 use Rattle.ppd_ast.specs.Term.{term}
 use Rattle.ppd_ast.specs.Uses.{kind_uses}
 use Rattle.ppd_ast.specs.Valid.{IsValid}
 use Rattle.ppd_ast.specs.ValidPlan.{AreCells}
-use Rattle.ppd_ast.proofs.ValidLaws.{AreBelow, stmt_in_body, uses_below, valid_body, valid_stmt, some_and}
-use Rattle.ppd_cfg.specs.Flow.{kind_of, kind_of_stmt}
-use Rattle.ppd_cfg.specs.Lists.{has}
-use Rattle.ppd_cfg.proofs.Has.{all_has, flat_gives, has_cases, has_cons}
+use Rattle.ppd_ast.proofs.ValidLaws.{AreBelow, stmt_in_body, uses_below, valid_body}
+use Rattle.ppd_ast.specs.Members.{has}
+use Rattle.ppd_ast.specs.Lookups.{kind_of_stmt, kind_of}
+use Rattle.ppd_ast.proofs.Members.{has_cases, flat_gives, all_has}
 use Rattle.ppd_sets.specs.Named.{cells_in, reads, writes}
+use Rattle.ppd_sets.proofs.InBody.{InBody, inside_in}
 use Rattle.ppd_sets.proofs.Looping.{cells_below, writes_below}
 use Rattle.ppd_sets.specs.Used.{loop_defined_of, loop_stmts, loop_used_of, reads_at, sorted, writes_at}
 use Rattle.ppd_units.proofs.Paths.{sorted_rises, sorted_gives, all_from}
 
 -- ---- the statements inside a loop are of its body
-
--- the statement is there and in this body
-InBody : Program → ℕ → ℕ → Type 0
-InBody p b t = (y : Stmt) × (slice_get p.stmts t ≡ Some y) × (y.body ≡ b)
-
-child_in : (p : Program) (t c b : ℕ) (o : Option Stmt) → IsValid p → slice_get p.stmts t ≡ o → IsTrue (has (inner_of o) c) → InBody p b t → InBody p b c
-unfolding InBody
-child_in p t c b None v at h k = absurd (true≢false (sym h))
-child_in p t c b (Some x) v at h k =
-    let stands = all_has (λ i. IsSomeAnd (slice_get p.stmts i) (λ s. (s.parent ≡ Some t) × (s.body ≡ x.body))) (inner x.kind) c (valid_stmt p t x v at).inside h in
-    let y = some_and (λ (s : Stmt). (s.parent ≡ Some t) × (s.body ≡ x.body)) (slice_get p.stmts c) stands in
-    let same : Some k.0 ≡ Some x = sym k.1 ∙ at in
-    let is : k.0 ≡ x = cc in
-    (y.0, y.1, y.2.1 ∙ ap (λ (s : Stmt). s.body) (sym is) ∙ k.2)
-
-inside_in : (d : ℕ) (p : Program) (t s b : ℕ) → IsValid p → InBody p b t → IsTrue (has (preorder d p.stmts t) s) → InBody p b s
-unfolding preorder
-inside_in zero p t s b v k h = absurd (true≢false (sym h))
-inside_in (suc d) p t s b v k h =
-    elim (has_cons t s (flat_map (preorder d p.stmts) (inner_at p.stmts t)) h) [
-      | inl same ↦ subst (InBody p b) same k
-      | inr later ↦
-          let c = flat_gives (preorder d p.stmts) (inner_at p.stmts t) s later in
-          inside_in d p c.0 s b v (child_in p t c.0 b (slice_get p.stmts t) v refl c.1 k) c.2
-    ]
 
 itself : (p : Program) (q : ℕ) (x : Stmt) → slice_get p.stmts q ≡ Some x → InBody p x.body q
 unfolding InBody

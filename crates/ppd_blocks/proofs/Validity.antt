@@ -19,8 +19,8 @@ use Rattle.ppd_ast.specs.Valid.{IsValid}
 use Rattle.ppd_ast.specs.ValidPlan.{AreCells, IsValidBlock, IsValidPlan, IsValidPolicy, IsFunctionBlock, IsLoopBlock, IsBlockOf}
 use Rattle.ppd_ast.proofs.BareValid.{bare_valid}
 use Rattle.ppd_ast.proofs.ValidLaws.{some_and}
-use Rattle.ppd_cfg.specs.Lists.{has}
-use Rattle.ppd_cfg.proofs.Has.{below_range}
+use Rattle.ppd_ast.specs.Members.{has}
+use Rattle.ppd_ast.proofs.Members.{below_range}
 use Rattle.ppd_sets.specs.Used.{loop_used_of, loop_defined_of, sorted}
 use Rattle.ppd_units.specs.Starts.{all_starts, unit_of, units_of}
 use Rattle.ppd_units.proofs.Paths.{range_rises, all_from, cells_are_shared}

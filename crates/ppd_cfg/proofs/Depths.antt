@@ -3,7 +3,8 @@ use Rattle.std.proofs.Common.{◌≡◌, ◌≢◌, ℕ, zero, suc, ◌-◌, Opt
 use Rattle.std.specs.Prelude.{slice_get}
 use Rattle.ppd_ast.specs.declared.program.Stmt.{Stmt}
 use Rattle.ppd_ast.specs.declared.program.Program.{Program}
-use Rattle.ppd_cfg.specs.Flow.{follow_at, follow_of, follow_under, follow_within, kind_of, next_in, top_of}
+use Rattle.ppd_ast.specs.Lookups.{kind_of, top_of}
+use Rattle.ppd_cfg.specs.Flow.{follow_at, follow_of, follow_under, follow_within, next_in}
 
 pub follow_deep : (depth : ℕ) (p : Program) (s : ℕ) → depth ≡ 0 → follow_at depth p s ≡ None
 unfolding follow_at

@@ -11,10 +11,11 @@ use Rattle.ppd_ast.specs.declared.program.Program.{Program}
 use Rattle.ppd_ast.specs.Order.{preorder, inner, inner_of, inner_at}
 use Rattle.ppd_ast.specs.Valid.{IsValid, IsValidBody, Follow}
 use Rattle.ppd_ast.proofs.ValidLaws.{slice_get_below, valid_stmt, valid_body, some_and}
-use Rattle.ppd_cfg.specs.Lists.{has}
-use Rattle.ppd_cfg.specs.Flow.{follow, follow_at, follow_of, follow_under, follow_within, kind_of}
+use Rattle.ppd_ast.specs.Members.{has}
+use Rattle.ppd_ast.specs.Lookups.{kind_of}
+use Rattle.ppd_ast.proofs.Members.{has_first, has_later, has_cons, in_bounds_has, flat_gives, all_has}
+use Rattle.ppd_cfg.specs.Flow.{follow, follow_at, follow_of, follow_under, follow_within}
 use Rattle.ppd_cfg.specs.Laws.{FollowsItsList}
-use Rattle.ppd_cfg.proofs.Has.{has_first, has_later, has_cons, in_bounds_has, flat_gives, all_has}
 
 -- ---- in so few others
 

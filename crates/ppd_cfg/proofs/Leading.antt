@@ -1,11 +1,20 @@
 -- The closed rows lead exactly where steps lead.
-use Rattle.std.proofs.Common.{◌≡◌, ℕ, zero, suc, List, [], ◌∷◌, ◌++◌, Bool, true, false, not, ◌↔◌, refl, sym, subst, inl, inr, ◌⊎◌, length, map, true≢false}
+use Rattle.std.proofs.Common.{◌≡◌, ◌<◌, ℕ, zero, suc, arith, List, [], ◌∷◌, ◌++◌, Bool, true, false, not, ◌↔◌, refl, sym, subst, inl, inr, ◌⊎◌, length, map, true≢false}
 use Rattle.std.specs.Prelude.{IsTrue, if◌then◌else◌}
 use Rattle.std.specs.List.{range_with_len, filter, list_any}
 use Rattle.std.proofs.lemmas.Bool.{or_left, or_right, or_cases, cases_Bool, not_from_false}
-use Rattle.ppd_cfg.specs.Lists.{has, row}
-use Rattle.ppd_cfg.specs.Reach.{Reached, start, next, through, closed_through, closed, leads}
-use Rattle.ppd_cfg.proofs.Has.{has_cons, has_left, has_right, has_cases, has_filter, filter_has, any_from, any_gives, from_zero, row_there}
+use Rattle.ppd_ast.specs.Members.{has, those}
+use Rattle.ppd_ast.proofs.Members.{has_cons, has_left, has_right, has_cases, has_filter, filter_has, any_from, any_gives, from_zero, filter_same_in}
+use Rattle.ppd_ast.proofs.Those.{both}
+use Rattle.ppd_cfg.specs.Lists.{row}
+use Rattle.ppd_cfg.specs.Reach.{Reached, start, next, through, closure_through, closure, leads}
+use Rattle.ppd_cfg.specs.WorkList.{is_marked}
+
+-- only a row that is there has something
+pub row_there : (rows : List (List ℕ)) (a b : ℕ) → IsTrue (has (row rows a) b) → a < length rows
+row_there [] a b h = absurd (true≢false (sym h))
+row_there (xs ∷ rows) zero b h = omega arith
+row_there (xs ∷ rows) (suc a) b h = let below : a < length rows = row_there rows a b h in omega arith
 
 -- ---- one row
 
@@ -103,15 +112,15 @@ still_closed rows n s c a b h k =
 
 -- ---- through a list of numbers
 
-grows : (ns : List ℕ) (rows : List (List ℕ)) (a b : ℕ) → Steps rows a b → Steps (closed_through ns rows) a b
+grows : (ns : List ℕ) (rows : List (List ℕ)) (a b : ℕ) → Steps rows a b → Steps (closure_through ns rows) a b
 grows [] rows a b h = h
 grows (n ∷ ns) rows a b h = grows ns (across rows n) a b (short rows n a b h)
 
-stays_closed : (ns : List ℕ) (rows : List (List ℕ)) (s : ℕ) → IsClosedAt rows s → IsClosedAt (closed_through ns rows) s
+stays_closed : (ns : List ℕ) (rows : List (List ℕ)) (s : ℕ) → IsClosedAt rows s → IsClosedAt (closure_through ns rows) s
 stays_closed [] rows s c = c
 stays_closed (n ∷ ns) rows s c = stays_closed ns (across rows n) s (still_closed rows n s c)
 
-closed_in : (ns : List ℕ) (rows : List (List ℕ)) (s : ℕ) → IsTrue (has ns s) → IsClosedAt (closed_through ns rows) s
+closed_in : (ns : List ℕ) (rows : List (List ℕ)) (s : ℕ) → IsTrue (has ns s) → IsClosedAt (closure_through ns rows) s
 closed_in [] rows s h = absurd (true≢false (sym h))
 closed_in (n ∷ ns) rows s h =
     elim (has_cons n s ns h) [
@@ -129,7 +138,7 @@ unfolding IsSound
 sound_across rows done n sound starts a b r h =
     elim (cases done n a b h) [ inl x ↦ sound starts a b r x | inr y ↦ sound starts n b (sound starts a n r y.0) y.1 ]
 
-sound_closed : (rows : List (List ℕ)) (ns : List ℕ) (done : List (List ℕ)) → IsSound rows done → IsSound rows (closed_through ns done)
+sound_closed : (rows : List (List ℕ)) (ns : List ℕ) (done : List (List ℕ)) → IsSound rows done → IsSound rows (closure_through ns done)
 sound_closed rows [] done sound = sound
 sound_closed rows (n ∷ ns) done sound = sound_closed rows ns (across done n) (sound_across rows done n sound)
 
@@ -137,30 +146,37 @@ sound_itself : (rows : List (List ℕ)) → IsSound rows rows
 unfolding IsSound Steps
 sound_itself rows starts a b r h = next r h
 
-led : (rows : List (List ℕ)) (starts : List ℕ) (x : ℕ) → IsTrue (leads (closed rows) starts x) → Reached rows starts x
+led : (rows : List (List ℕ)) (starts : List ℕ) (x : ℕ) → IsTrue (leads (closure rows) starts x) → Reached rows starts x
 unfolding IsSound Steps
 led rows starts x h =
-    elim (or_cases (has starts x) (list_any (λ a. has (row (closed rows) a) x) starts) h) [
+    elim (or_cases (has starts x) (list_any (λ a. has (row (closure rows) a) x) starts) h) [
       | inl s ↦ start s
       | inr some ↦
-          let from = any_gives (λ a. has (row (closed rows) a) x) starts some in
+          let from = any_gives (λ a. has (row (closure rows) a) x) starts some in
           sound_closed rows (range_with_len 0 (length rows)) rows (sound_itself rows) starts from.0 x (start from.1) from.2
     ]
 
-leads_to : (rows : List (List ℕ)) (starts : List ℕ) (x : ℕ) → Reached rows starts x → IsTrue (leads (closed rows) starts x)
+leads_to : (rows : List (List ℕ)) (starts : List ℕ) (x : ℕ) → Reached rows starts x → IsTrue (leads (closure rows) starts x)
 unfolding IsClosedAt Steps
-leads_to rows starts x (start s) = or_left (has starts x) (list_any (λ a. has (row (closed rows) a) x) starts) s
+leads_to rows starts x (start s) = or_left (has starts x) (list_any (λ a. has (row (closure rows) a) x) starts) s
 leads_to rows starts x (next {a = a} r h) =
     let ns : List ℕ = range_with_len 0 (length rows) in
-    let on : Steps (closed rows) a x = grows ns rows a x h in
-    or_right (has starts x) (list_any (λ s. has (row (closed rows) s) x) starts)
-    (elim (or_cases (has starts a) (list_any (λ s. has (row (closed rows) s) a) starts) (leads_to rows starts a r)) [
-      | inl s ↦ any_from (λ s. has (row (closed rows) s) x) starts a s on
+    let on : Steps (closure rows) a x = grows ns rows a x h in
+    or_right (has starts x) (list_any (λ s. has (row (closure rows) s) x) starts)
+    (elim (or_cases (has starts a) (list_any (λ s. has (row (closure rows) s) a) starts) (leads_to rows starts a r)) [
+      | inl s ↦ any_from (λ s. has (row (closure rows) s) x) starts a s on
       | inr some ↦
-          let from = any_gives (λ s. has (row (closed rows) s) a) starts some in
-          any_from (λ s. has (row (closed rows) s) x) starts from.0 from.1
+          let from = any_gives (λ s. has (row (closure rows) s) a) starts some in
+          any_from (λ s. has (row (closure rows) s) x) starts from.0 from.1
           (closed_in ns rows a (from_zero a (length rows) (row_there rows a x h)) from.0 x from.2 on)
     ])
 
-pub leads-tests : (rows : List (List ℕ)) (starts : List ℕ) (x : ℕ) → IsTrue (leads (closed rows) starts x) ↔ Reached rows starts x
+pub leads-tests : (rows : List (List ℕ)) (starts : List ℕ) (x : ℕ) → IsTrue (leads (closure rows) starts x) ↔ Reached rows starts x
 leads-tests rows starts x = (led rows starts x, leads_to rows starts x)
+
+-- marks that say what is reached are those that closed rows lead to
+pub marked_is : (rows : List (List ℕ)) (starts : List ℕ) (marks : List Bool) (n : ℕ) → ((x : ℕ) → IsTrue (is_marked marks x) ↔ Reached rows starts x) → those n (is_marked marks) ≡ those n (leads (closure rows) starts)
+marked_is rows starts marks n h =
+    filter_same_in (is_marked marks) (leads (closure rows) starts) (range_with_len 0 n)
+    (λ x _. let tests = leads-tests rows starts x in
+    both (is_marked marks x) (leads (closure rows) starts x) (λ m. tests.1 ((h x).0 m)) (λ l. (h x).1 (tests.0 l)))

@@ -1,7 +1,5 @@
-pub mod Has
 pub mod Leading
 pub mod Marks
-pub mod Those
 pub mod Searches
 pub mod Rows
 pub mod Depths

@@ -3,10 +3,11 @@ use Rattle.std.proofs.Common.{◌≡◌, ℕ, zero, suc, ◌+◌, ◌<◌, ◌�
 use Rattle.std.specs.Prelude.{IsTrue, if◌then◌else◌}
 use Rattle.std.proofs.lemmas.Bool.{cases_Bool}
 use Rattle.std.proofs.lemmas.List.{take_more}
-use Rattle.ppd_cfg.specs.Lists.{AreBelow, has, row}
+use Rattle.ppd_ast.specs.Members.{has, AreBelow}
+use Rattle.ppd_ast.proofs.Members.{has_first, has_later, has_cons}
+use Rattle.ppd_cfg.specs.Lists.{row}
 use Rattle.ppd_cfg.specs.Reach.{Reached, start, next}
 use Rattle.ppd_cfg.specs.WorkList.{WorkList, work, with_mark, with_marks, is_marked, unmarked, work_left, AreRowsBelow}
-use Rattle.ppd_cfg.proofs.Has.{has_first, has_later, has_cons}
 
 -- ---- marks
 

@@ -12,8 +12,10 @@ use Rattle.ppd_cfg.specs.declared.graph.Cfg.{Cfg}
 use Rattle.ppd_cfg.specs.Cfgs.{HasStmt, row_of, IsFlowGraph, IsGraphOf}
 use Rattle.ppd_ast.proofs.Walks.{got_none}
 use Rattle.ppd_ast.proofs.Ranges.{range_more}
-use Rattle.ppd_cfg.specs.Lists.{row, to_list, first_or, rising, rising_pair, RisesFrom}
-use Rattle.ppd_cfg.specs.Flow.{kind_of, kind_of_stmt, follow, successors, next_of, flow_rows}
+use Rattle.ppd_ast.specs.Members.{RisesFrom}
+use Rattle.ppd_ast.specs.Lookups.{kind_of_stmt, kind_of}
+use Rattle.ppd_cfg.specs.Lists.{row, to_list, first_or, rising, rising_pair}
+use Rattle.ppd_cfg.specs.Flow.{follow, successors, next_of, flow_rows}
 
 pub row_at : (f : ℕ → List ℕ) (a n k : ℕ) → k < n → row (map f (range_with_len a n)) k ≡ f (a + k)
 row_at f a zero k h = absurd (omega arith)

@@ -1,7 +1,8 @@
 -- A search through a list, by what is left of it.
 use Rattle.std.proofs.Common.{◌≡◌, ℕ, zero, suc, ◌+◌, ◌<◌, ◌≤◌, List, [], ◌∷◌, true, false, Option, refl, ap, arith, ◌∙◌, length, get_or, drop, ◌||◌}
 use Rattle.std.specs.Prelude.{nat_eq, if◌then◌else◌}
-use Rattle.ppd_cfg.specs.Lists.{has, first_or}
+use Rattle.ppd_ast.specs.Members.{has}
+use Rattle.ppd_cfg.specs.Lists.{first_or}
 use Rattle.ppd_cfg.specs.Flow.{next_in}
 
 pub split_at : (xs : List ℕ) (i : ℕ) → i < length xs → drop i xs ≡ get_or xs i 0 ∷ drop (i + 1) xs

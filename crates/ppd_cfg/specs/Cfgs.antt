@@ -3,8 +3,9 @@ use Rattle.std.specs.Prelude.{◌≡◌, ℕ, ◌+◌, ◌-◌, ◌<◌, ◌≤�
 use Rattle.std.specs.List.{range_with_len}
 use Rattle.ppd_ast.specs.declared.program.Body.{Body}
 use Rattle.ppd_ast.specs.declared.program.Program.{Program}
+use Rattle.ppd_ast.specs.Members.{RisesFrom}
 use Rattle.ppd_cfg.specs.declared.graph.Cfg.{Cfg}
-use Rattle.ppd_cfg.specs.Lists.{row, RisesFrom}
+use Rattle.ppd_cfg.specs.Lists.{row}
 use Rattle.ppd_cfg.specs.Flow.{next_of}
 
 -- the graph has a row for statement s

@@ -4,26 +4,11 @@ use Rattle.std.specs.List.{range_with_len}
 use Rattle.ppd_ast.specs.declared.program.Kind.{Kind}
 use Rattle.ppd_ast.specs.declared.program.Kind.TheVariants as K
 use Rattle.ppd_ast.specs.declared.program.Stmt.{Stmt}
-use Rattle.ppd_ast.specs.declared.program.Body.{Body}
 use Rattle.ppd_ast.specs.declared.program.Program.{Program}
 use Rattle.ppd_ast.specs.declared.limits.TheConstants.{MOST_NESTING}
-use Rattle.ppd_cfg.specs.Lists.{has, to_list, first_or, rising}
-
-abbrev pub top_of_body : Option Body → List ℕ
-top_of_body None = []
-top_of_body (Some b) = b.top
-
--- the outermost statements of a body
-abbrev pub top_of : Program → ℕ → List ℕ
-top_of p b = top_of_body (slice_get p.bodies b)
-
-abbrev pub kind_of_stmt : Option Stmt → Kind
-kind_of_stmt None = K.End
-kind_of_stmt (Some x) = x.kind
-
--- the kind of statement s, and `End` past the last
-abbrev pub kind_of : Program → ℕ → Kind
-kind_of p s = kind_of_stmt (slice_get p.stmts s)
+use Rattle.ppd_ast.specs.Members.{has}
+use Rattle.ppd_ast.specs.Lookups.{kind_of, top_of}
+use Rattle.ppd_cfg.specs.Lists.{to_list, first_or, rising}
 
 -- the statement after s in the list, or what follows the list
 abbrev pub next_in : List ℕ → ℕ → Option ℕ → Option ℕ

@@ -1,6 +1,7 @@
 -- Marks, and what is marked and still to be gone on from.
 use Rattle.std.specs.Prelude.{ℕ, ◌+◌, ◌*◌, ◌<◌, Bool, true, false, List, [], ◌∷◌, length, get_or, set, IsTrue, if◌then◌else◌}
-use Rattle.ppd_cfg.specs.Lists.{has, row}
+use Rattle.ppd_ast.specs.Members.{has}
+use Rattle.ppd_cfg.specs.Lists.{row}
 
 pub record WorkList : Type 0 where
   pub marks : List Bool

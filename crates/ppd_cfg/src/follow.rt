@@ -1,6 +1,8 @@
 ghost use Rattle.std.specs.Prelude.{◌≡◌, IfOk};
-ghost use Rattle.ppd_cfg.specs.Lists.{has, first_or, rising};
-ghost use Rattle.ppd_cfg.specs.Flow.{next_in, follow_within, follow_at, successors, top_of, kind_of};
+ghost use Rattle.ppd_ast.specs.Members.{has};
+ghost use Rattle.ppd_ast.specs.Lookups.{kind_of, top_of};
+ghost use Rattle.ppd_cfg.specs.Lists.{first_or, rising};
+ghost use Rattle.ppd_cfg.specs.Flow.{next_in, follow_within, follow_at, successors};
 
 use ppd_ast::{Ids, Kind, Memory, Program};
 use std::alloc::Global;

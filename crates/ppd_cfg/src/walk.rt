@@ -1,7 +1,7 @@
 ghost use Rattle.std.specs.Prelude.{◌≡◌, ◌↔◌, ◌<◌, ◌≤◌, ◌^◌, ℕ, [], ◌∷◌, length, replicate, false, reverse, IsTrue, IfOk, OnOk, MatchOption};
+ghost use Rattle.ppd_ast.specs.Members.{those, AreBelow};
 ghost use Rattle.ppd_cfg.specs.WorkList.{work, with_mark, with_marks, is_marked, AreRowsBelow};
-ghost use Rattle.ppd_cfg.specs.Reach.{Reached, closed, leads};
-ghost use Rattle.ppd_cfg.specs.Lists.{AreBelow, those};
+ghost use Rattle.ppd_cfg.specs.Reach.{Reached, closure, leads};
 
 use ppd_ast::{Ids, Memory};
 use std::alloc::Global;
@@ -115,7 +115,7 @@ pub fn reached(alloc: Global, next: &[Ids], starts: &[u32]) -> Result<Ids, Memor
     requires rows { AreRowsBelow next.now }
     requires starts { AreBelow (length next.now) starts.now }
     requires count { length next.now ≤ 2 ^ 32 }
-    ensures { IfOk result (λ ids. ids ≡ those (length next.now) (leads (closed next.now) starts.now)) }
+    ensures { IfOk result (λ ids. ids ≡ those (length next.now) (leads (closure next.now) starts.now)) }
 {
     let marks = reach(alloc, next, starts)?;
     let ids = marked(alloc, marks.as_slice())?;

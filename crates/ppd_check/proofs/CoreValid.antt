@@ -8,18 +8,19 @@ use Rattle.ppd_ast.specs.declared.program.Program.{Program}
 use Rattle.ppd_ast.specs.Table.{AreChildrenBelow}
 use Rattle.ppd_ast.specs.Valid.{Follow, IsValid, IsValidBody, IsValidStmt}
 use Rattle.ppd_parse.specs.Grammar.{Shape}
-use Rattle.ppd_check.specs.declared.fault.Fault.{Fault}
-use Rattle.ppd_check.specs.declared.fault.Cause.TheVariants.{NoProcess}
-use Rattle.ppd_check.specs.Faults.{unless}
-use Rattle.ppd_check.specs.Fitted.{as_short}
-use Rattle.ppd_check.specs.Names.{Scope}
-use Rattle.ppd_check.specs.Code.{Code, places}
-use Rattle.ppd_check.specs.Reading.{source_of}
-use Rattle.ppd_check.specs.Table.{terms}
-use Rattle.ppd_check.specs.Statements.{row_faults}
-use Rattle.ppd_check.specs.Sources.{Head, Globals, no_globals, globals, items_faults, count_faults, head_faults, params_faults, return_faults, past_statements, heads, codes, bodies, all_stmts, outer, entry, core, Accepted}
+use Rattle.ppd_resolve.specs.declared.fault.Fault.{Fault}
+use Rattle.ppd_resolve.specs.declared.fault.Cause.TheVariants.{NoProcess}
+use Rattle.ppd_resolve.specs.Faults.{unless}
+use Rattle.ppd_resolve.specs.Fitted.{as_short}
+use Rattle.ppd_resolve.specs.Names.{Scope}
+use Rattle.ppd_lower.specs.Code.{Code, places}
+use Rattle.ppd_resolve.specs.Reading.{source_of}
+use Rattle.ppd_lower.specs.Table.{terms}
+use Rattle.ppd_lower.specs.Statements.{row_faults}
+use Rattle.ppd_lower.specs.Sources.{head_faults, params_faults, return_faults, past_statements, heads, codes, bodies, all_stmts, outer, entry, core, Accepted}
+use Rattle.ppd_resolve.specs.Globals.{Head, Globals, no_globals, globals, items_faults, count_faults}
 use Rattle.ppd_check.specs.Sizes.{SourceFits}
-use Rattle.ppd_check.proofs.Writing.{length_flats}
+use Rattle.ppd_lower.proofs.Writing.{length_flats}
 use Rattle.ppd_check.proofs.ValidFacts.{HeadNames, SourceNames}
 use Rattle.ppd_check.proofs.ValidItems.{IsFunction, IsProcess, AreSorted, tree_sorted, AreFit, source_fit, within_limits}
 use Rattle.ppd_check.proofs.ValidLists.{EachFrom, all_join, all_parts, each_append, each_at, nil_parts, stands_all}

@@ -2,15 +2,15 @@
 use Rattle.std.proofs.Common.{◌≡◌, refl, sym, ap, ◌∙◌, ℕ, zero, suc, ◌+◌, ◌-◌, ◌≤◌, max, ℤ, pos, Bool, true, false, cond, if◌then◌else◌, List, [], ◌∷◌, ◌++◌, length, drop, Option, Some, None, arith}
 use Rattle.std.specs.Prelude.{⊤}
 use Rattle.std.specs.List.{AllByRecursion, flat_map}
-use Rattle.ppd_parse.specs.declared.symbol.Kind.{Kind}
-use Rattle.ppd_parse.specs.declared.symbol.Kind.TheVariants as K
+use Rattle.ppd_lex.specs.declared.token.Kind.{Kind}
+use Rattle.ppd_lex.specs.declared.token.Kind.TheVariants as K
 use Rattle.ppd_parse.specs.declared.symbol.Rule.{Rule}
 use Rattle.ppd_parse.specs.declared.symbol.Rule.TheVariants as R
 use Rattle.ppd_parse.specs.Grammar.{Shape, leaf, node, Shapes, no_shapes, shape_then, kind_of}
 use Rattle.ppd_parse.specs.Limits.{is_sign}
 use Rattle.ppd_parse.specs.Stack.{is_binary}
-use Rattle.ppd_check.specs.Syntax.{Name, Number, Formula, number, variable, element, negated, inverted, two, both, either, Goal, Value, plain, result, received, Simple, fresh, array, store, change, call, give_back, take, give, send, print, assert, Row, stop, simple, block, choice, repeat, count, Item, shared, shared_array, semaphore, channel, function, process}
-use Rattle.ppd_check.specs.Reading.{Phrase, token, formula, goal, value, calling, changing, row, body, names, items, nowhere, name_of, phrase, last, as_token, goal_formula, as_formula, as_goal, called, as_value, as_row, as_block, as_names, as_items, kind, is_bracket, is_assign, is_minus, is_semicolon, is_int, is_recv, is_name, is_formula, name_at, formula_at, before, beyond, joined, unary, formulas, goal_of, value_said, local_item, changed, followed, rows, locals, some_change, for_start, for_test, for_row, returned, worded, statement, shared_item, number_behind, numbered, params, made, said, all_said, number_at}
+use Rattle.ppd_resolve.specs.Syntax.{Name, Number, Formula, number, variable, element, negated, inverted, two, both, either, Goal, Value, plain, result, received, Simple, fresh, array, store, change, call, give_back, take, give, send, print, assert, Row, stop, simple, block, choice, repeat, count, Item, shared, shared_array, semaphore, channel, function, process}
+use Rattle.ppd_resolve.specs.Reading.{Phrase, token, formula, goal, value, calling, changing, row, body, names, items, nowhere, name_of, phrase, last, as_token, goal_formula, as_formula, as_goal, called, as_value, as_row, as_block, as_names, as_items, kind, is_bracket, is_assign, is_minus, is_semicolon, is_int, is_recv, is_name, is_formula, name_at, formula_at, before, beyond, joined, unary, formulas, goal_of, value_said, local_item, changed, followed, rows, locals, some_change, for_start, for_test, for_row, returned, worded, statement, shared_item, number_behind, numbered, params, made, said, all_said, number_at}
 use Rattle.ppd_check.proofs.LimitsGrammar.{signs, signs_in, levels, levels_in, IsJoined, OwnFits, is_for, starts_for, Fits, FitsIn, statement_in, place_in}
 
 -- Measures of expressions.

@@ -14,22 +14,24 @@ use Rattle.ppd_parse.specs.Size.{size_of}
 use Rattle.ppd_parse.specs.Tree.{tree_of, IsTable}
 use Rattle.ppd_parse.proofs.FromLanguage.{program_parsed}
 use Rattle.ppd_parse.proofs.Sizes.{program_size}
-use Rattle.ppd_check.specs.declared.frame.Frame.{Frame}
-use Rattle.ppd_check.specs.Names.{Scope}
+use Rattle.ppd_resolve.specs.declared.frame.Frame.{Frame}
+use Rattle.ppd_resolve.specs.Names.{Scope}
 use Rattle.ppd_check.specs.Read.{IsParsed}
-use Rattle.ppd_check.specs.Reading.{source_of}
-use Rattle.ppd_check.specs.Fitted.{as_short}
-use Rattle.ppd_check.specs.Statements.{variable_of, row_code}
-use Rattle.ppd_check.specs.Syntax.{Item, shared, shared_array, semaphore, channel, function, process}
-use Rattle.ppd_check.specs.Table.{terms}
-use Rattle.ppd_check.specs.Sources.{Head, Globals, no_globals, with_item, with_items, globals, outer, entry, ends_with_return, close_code, head_code, head_frame, heads, codes, sem, chan, core, Accepted}
-use Rattle.ppd_check.proofs.Filling.{params_count}
-use Rattle.ppd_check.proofs.Writing.{length_flats}
-use Rattle.ppd_check.specs.Elements.{elements_of}
+use Rattle.ppd_resolve.specs.Reading.{source_of}
+use Rattle.ppd_resolve.specs.Fitted.{as_short}
+use Rattle.ppd_lower.specs.Statements.{row_code}
+use Rattle.ppd_resolve.specs.Frames.{variable_of}
+use Rattle.ppd_resolve.specs.Syntax.{Item, shared, shared_array, semaphore, channel, function, process}
+use Rattle.ppd_lower.specs.Table.{terms}
+use Rattle.ppd_lower.specs.Sources.{outer, entry, ends_with_return, close_code, head_code, head_frame, heads, codes, core, Accepted}
+use Rattle.ppd_resolve.specs.Globals.{Head, Globals, no_globals, with_item, with_items, globals, sem, chan}
+use Rattle.ppd_lower.proofs.Filling.{params_count}
+use Rattle.ppd_lower.proofs.Writing.{length_flats}
+use Rattle.ppd_lower.specs.Elements.{elements_of}
 use Rattle.ppd_check.proofs.LinearNodes.{tree_within}
-use Rattle.ppd_check.proofs.LinearTable.{load, length_vars, heads_load, heads_hold}
-use Rattle.ppd_check.proofs.LinearRows.{row_size, load_join, row_load}
-use Rattle.ppd_check.proofs.LinearSaid.{item_size, items_size, items_few}
+use Rattle.ppd_lower.proofs.LinearTable.{load, length_vars, heads_load, heads_hold}
+use Rattle.ppd_lower.proofs.LinearRows.{row_size, load_join, row_load}
+use Rattle.ppd_lower.proofs.LinearSaid.{item_size, items_size, items_few}
 
 -- Functions and processes.
 

@@ -10,18 +10,18 @@ use Rattle.ppd_ast.specs.declared.program.Program.{Program}
 use Rattle.ppd_ast.specs.Term.{Term}
 use Rattle.ppd_ast.specs.Cells.{IsScalarOf, IsArrayOf, NamesWhole, IsWholeTarget, IsScalarIfAny}
 use Rattle.ppd_ast.specs.Valid.{CallsRightly}
-use Rattle.ppd_check.specs.declared.fault.Cause.TheVariants.{Arity, VoidValue}
-use Rattle.ppd_check.specs.Names.{Scope, meaning, fits, is_semaphore, is_channel, semaphore_of, channel_of, function_of}
-use Rattle.ppd_check.specs.declared.meaning.Meaning.{Meaning}
-use Rattle.ppd_check.specs.declared.meaning.Meaning.TheVariants as M
-use Rattle.ppd_check.specs.Faults.{unless, if_so}
-use Rattle.ppd_check.specs.Code as C
-use Rattle.ppd_check.specs.Code.{Spot, Act}
-use Rattle.ppd_check.specs.Table.{roots, target, spot_terms, weight, kind}
-use Rattle.ppd_check.specs.Syntax.{Name, Formula, Goal, scalar, item, Value, plain, result, received}
-use Rattle.ppd_check.specs.Reading.{goal_formula}
-use Rattle.ppd_check.specs.Expressions.{read_scalar, read_element, term_of, wrong_use, name_faults, formula_faults, wrong_call, call_faults}
-use Rattle.ppd_check.specs.Statements.{spot, spot_of, put, value_faults}
+use Rattle.ppd_resolve.specs.declared.fault.Cause.TheVariants.{Arity, VoidValue}
+use Rattle.ppd_resolve.specs.Names.{Scope, meaning, fits, is_semaphore, is_channel, semaphore_of, channel_of, function_of}
+use Rattle.ppd_resolve.specs.declared.meaning.Meaning.{Meaning}
+use Rattle.ppd_resolve.specs.declared.meaning.Meaning.TheVariants as M
+use Rattle.ppd_resolve.specs.Faults.{unless, if_so}
+use Rattle.ppd_lower.specs.Code as C
+use Rattle.ppd_lower.specs.Code.{Spot, Act}
+use Rattle.ppd_lower.specs.Table.{roots, target, spot_terms, weight, kind}
+use Rattle.ppd_resolve.specs.Syntax.{Name, Formula, Goal, scalar, item, Value, plain, result, received}
+use Rattle.ppd_resolve.specs.Reading.{goal_formula}
+use Rattle.ppd_lower.specs.Expressions.{read_scalar, read_element, term_of, wrong_use, name_faults, formula_faults, wrong_call, call_faults}
+use Rattle.ppd_lower.specs.Statements.{spot, spot_of, put, value_faults}
 use Rattle.ppd_check.proofs.NamedRightly.{IsThere, AreAllThere, IsNamedRightly}
 use Rattle.ppd_check.proofs.NamedTerms.{nil_left, nil_right, not_nil, unless_true, if_so_false, meaning_there, formula_whole, formulas_whole}
 

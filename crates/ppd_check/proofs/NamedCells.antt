@@ -6,14 +6,15 @@ use Rattle.std.proofs.lemmas.List.Sums.{sum_by-cons}
 use Rattle.ppd_ast.specs.declared.program.Var.{Var}
 use Rattle.ppd_ast.specs.Cells as A
 use Rattle.ppd_ast.specs.Cells.{holds, CoverCells, AreParams}
-use Rattle.ppd_check.specs.declared.fault.Cause.TheVariants.{TooMany}
-use Rattle.ppd_check.specs.declared.fault.Limit.{Limit}
-use Rattle.ppd_check.specs.declared.frame.Variable.{Variable}
-use Rattle.ppd_check.specs.Faults.{if_so}
-use Rattle.ppd_check.specs.Fitted.{as_short}
-use Rattle.ppd_check.specs.Syntax.{Name}
-use Rattle.ppd_check.specs.Statements.{size, after_cells, variable_of}
-use Rattle.ppd_check.specs.Sources.{vars, past_cells}
+use Rattle.ppd_resolve.specs.declared.fault.Cause.TheVariants.{TooMany}
+use Rattle.ppd_resolve.specs.declared.fault.Limit.{Limit}
+use Rattle.ppd_resolve.specs.declared.frame.Variable.{Variable}
+use Rattle.ppd_resolve.specs.Faults.{if_so}
+use Rattle.ppd_resolve.specs.Fitted.{as_short}
+use Rattle.ppd_resolve.specs.Syntax.{Name}
+use Rattle.ppd_resolve.specs.Frames.{size, after_cells, variable_of}
+use Rattle.ppd_lower.specs.Sources.{vars}
+use Rattle.ppd_resolve.specs.Globals.{past_cells}
 use Rattle.ppd_check.proofs.NamedTerms.{nil_left, nil_right, if_so_false}
 use Rattle.ppd_check.proofs.NamedFrames.{cells_after}
 

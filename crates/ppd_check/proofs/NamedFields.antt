@@ -3,11 +3,12 @@ use Rattle.std.proofs.Common.{◌≡◌, ℕ, ◌-◌, ◌^◌, ◌<◌, ◌≤�
 use Rattle.std.specs.List.{All, flat_map}
 use Rattle.std.proofs.lemmas.List.Elements.{All-nil, All-cons, All-weaker}
 use Rattle.ppd_ast.specs.declared.limits.TheConstants.{MOST_SEMAPHORES, MOST_CHANNELS}
-use Rattle.ppd_check.specs.Fitted.{as_byte, as_short, as_word}
-use Rattle.ppd_check.specs.Names.{Scope}
-use Rattle.ppd_check.specs.Syntax.{Number, Source}
-use Rattle.ppd_check.specs.Statements.{size_faults}
-use Rattle.ppd_check.specs.Sources.{Head, Globals, globals, heads, head_faults}
+use Rattle.ppd_resolve.specs.Fitted.{as_byte, as_short, as_word}
+use Rattle.ppd_resolve.specs.Names.{Scope}
+use Rattle.ppd_resolve.specs.Syntax.{Number, Source}
+use Rattle.ppd_resolve.specs.Frames.{size_faults}
+use Rattle.ppd_lower.specs.Sources.{heads, head_faults}
+use Rattle.ppd_resolve.specs.Globals.{Head, Globals, globals}
 use Rattle.ppd_check.proofs.NamedTerms.{nil_left, nil_right}
 use Rattle.ppd_check.proofs.NamedItems.{few_params}
 use Rattle.ppd_check.proofs.NamedLimits.{StartsWithin, HoldsWithin, sized, AreSized, source_sized, BreaksNone, AreFew, are_few, functions_fit, start_fits, capacity_fits, body_fits}

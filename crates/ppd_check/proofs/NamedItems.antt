@@ -4,17 +4,19 @@ use Rattle.std.specs.List.{flat_map}
 use Rattle.std.proofs.lemmas.List.{append_assoc, append-nil, length-append, length-replicate}
 use Rattle.ppd_ast.specs.declared.limits.TheConstants.{MOST_LOCAL_CELLS}
 use Rattle.ppd_ast.specs.declared.program.Program.{Program}
-use Rattle.ppd_check.specs.declared.fault.Fault.{Fault}
-use Rattle.ppd_check.specs.declared.fault.Limit.TheVariants as L
-use Rattle.ppd_check.specs.declared.frame.Variable.{Variable}
-use Rattle.ppd_check.specs.declared.frame.Frame.{Frame}
-use Rattle.ppd_check.specs.Fitted.{as_short}
-use Rattle.ppd_check.specs.Names.{Scope}
-use Rattle.ppd_check.specs.Code.{count}
-use Rattle.ppd_check.specs.Table.{flats, terms}
-use Rattle.ppd_check.specs.Syntax.{Name, Item, shared, shared_array, semaphore, channel, function, process, Source}
-use Rattle.ppd_check.specs.Statements.{size, after_cells, variable_of, declared, row_faults}
-use Rattle.ppd_check.specs.Sources.{Head, Globals, with_item, with_items, globals, past_cells, with_params, params_faults, outer, entry, head_code, head_frame, return_faults, head_faults, heads, codes, vars, body, bodies, all_stmts, sem, chan, core_of}
+use Rattle.ppd_resolve.specs.declared.fault.Fault.{Fault}
+use Rattle.ppd_resolve.specs.declared.fault.Limit.TheVariants as L
+use Rattle.ppd_resolve.specs.declared.frame.Variable.{Variable}
+use Rattle.ppd_resolve.specs.declared.frame.Frame.{Frame}
+use Rattle.ppd_resolve.specs.Fitted.{as_short}
+use Rattle.ppd_resolve.specs.Names.{Scope}
+use Rattle.ppd_lower.specs.Code.{count}
+use Rattle.ppd_lower.specs.Table.{flats, terms}
+use Rattle.ppd_resolve.specs.Syntax.{Name, Item, shared, shared_array, semaphore, channel, function, process, Source}
+use Rattle.ppd_lower.specs.Statements.{row_faults}
+use Rattle.ppd_resolve.specs.Frames.{size, after_cells, variable_of, declared}
+use Rattle.ppd_lower.specs.Sources.{with_params, params_faults, outer, entry, head_code, head_frame, return_faults, head_faults, heads, codes, vars, body, bodies, all_stmts, core_of}
+use Rattle.ppd_resolve.specs.Globals.{Head, Globals, with_item, with_items, globals, past_cells, sem, chan}
 use Rattle.ppd_check.proofs.NamedTerms.{nil_left, nil_right}
 use Rattle.ppd_check.proofs.NamedFrames.{LeadsTo, leads_itself, leads_further, leads_on, cells_after, cells_push, row_leads}
 use Rattle.ppd_check.proofs.NamedCells.{total, cells_total, cells_within}

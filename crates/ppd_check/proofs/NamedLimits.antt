@@ -5,16 +5,17 @@ use Rattle.std.proofs.lemmas.List.{length-append, length-map}
 use Rattle.std.proofs.lemmas.List.Elements.{All-nil, All-push, All-weaker, All-map}
 use Rattle.ppd_ast.specs.declared.limits.TheConstants.{MOST_STATEMENTS, MOST_FUNCTIONS, MOST_PROCESSES, MOST_SHARED_CELLS, MOST_SEMAPHORES, MOST_CHANNELS, MOST_START, LEAST_CAPACITY, MOST_CAPACITY}
 use Rattle.ppd_ast.specs.Cells.{CoverCells}
-use Rattle.ppd_check.specs.declared.fault.Cause.TheVariants.{NoProcess, BadSize}
-use Rattle.ppd_check.specs.declared.fault.Fault.{Fault}
-use Rattle.ppd_check.specs.declared.fault.Limit.TheVariants as L
-use Rattle.ppd_check.specs.Faults.{unless}
-use Rattle.ppd_check.specs.Fitted.{as_byte, as_short, as_word}
-use Rattle.ppd_check.specs.Names.{Scope}
-use Rattle.ppd_check.specs.Code.{places, count}
-use Rattle.ppd_check.specs.Syntax.{Number, Item, shared, shared_array, semaphore, channel, function, process, Source}
-use Rattle.ppd_check.specs.Statements.{twice_faults, size_faults}
-use Rattle.ppd_check.specs.Sources.{Head, Object, Globals, no_globals, item_name, item_size_faults, with_item, with_items, globals, items_faults, past, past_cells, past_statements, head_name, object_name, count_faults, head_faults, head_code, heads, codes, vars, bodies, sem, chan, core_of, faults_in}
+use Rattle.ppd_resolve.specs.declared.fault.Cause.TheVariants.{NoProcess, BadSize}
+use Rattle.ppd_resolve.specs.declared.fault.Fault.{Fault}
+use Rattle.ppd_resolve.specs.declared.fault.Limit.TheVariants as L
+use Rattle.ppd_resolve.specs.Faults.{unless}
+use Rattle.ppd_resolve.specs.Fitted.{as_byte, as_short, as_word}
+use Rattle.ppd_resolve.specs.Names.{Scope}
+use Rattle.ppd_lower.specs.Code.{places, count}
+use Rattle.ppd_resolve.specs.Syntax.{Number, Item, shared, shared_array, semaphore, channel, function, process, Source}
+use Rattle.ppd_resolve.specs.Frames.{twice_faults, size_faults}
+use Rattle.ppd_lower.specs.Sources.{past_statements, head_faults, head_code, heads, codes, vars, bodies, core_of, faults_in}
+use Rattle.ppd_resolve.specs.Globals.{Head, Object, Globals, no_globals, item_name, item_size_faults, with_item, with_items, globals, items_faults, past, past_cells, head_name, object_name, count_faults, sem, chan}
 use Rattle.ppd_check.proofs.NamedTerms.{nil_left, nil_right, unless_true}
 use Rattle.ppd_check.proofs.NamedFrames.{cells_after}
 use Rattle.ppd_check.proofs.NamedCells.{total, cells_total, cells_within, cover_cells}

@@ -7,12 +7,12 @@ use Rattle.std.proofs.lemmas.List.Elements.{All-head, All-tail, All-weaker, filt
 use Rattle.std.proofs.lemmas.List.Sums.{sum_by-append, sum_by-cons, count_by-le-length}
 use Rattle.std.proofs.lemmas.List.Sorted.{sum_by-IsPermutation, Contains-permutation, IsPermutation-sym}
 use Rattle.ppd_ast.specs.declared.program.Place.{Place}
-use Rattle.ppd_check.specs.declared.fault.Cause.TheVariants.{TooMany}
-use Rattle.ppd_check.specs.declared.fault.Limit.TheVariants as L
-use Rattle.ppd_check.specs.declared.fault.Fault.{Fault}
-use Rattle.ppd_check.specs.Faults.{at, by_then, is_before, first, first_of_two, first_of_both}
-use Rattle.ppd_check.specs.Sources.{is_up_to}
-use Rattle.ppd_check.proofs.First.{first_of_both_assoc, first_of_both_swap}
+use Rattle.ppd_resolve.specs.declared.fault.Cause.TheVariants.{TooMany}
+use Rattle.ppd_resolve.specs.declared.fault.Limit.TheVariants as L
+use Rattle.ppd_resolve.specs.declared.fault.Fault.{Fault}
+use Rattle.ppd_resolve.specs.Faults.{at, by_then, is_before, first, first_of_two, first_of_both}
+use Rattle.ppd_lower.specs.Sources.{is_up_to}
+use Rattle.ppd_resolve.proofs.First.{first_of_both_assoc, first_of_both_swap}
 
 true_not_false : true ≡ false → ⊥
 true_not_false h = grind (arith, h)

@@ -10,11 +10,11 @@ use Rattle.ppd_parse.specs.Grammar.{Shape, leaf, node, Shapes, no_shapes, shape_
 use Rattle.ppd_parse.specs.Leaves.{leaves, leaves_in, leaves_of}
 use Rattle.ppd_parse.specs.Limits.{IsTree}
 use Rattle.ppd_parse.proofs.TreeLeaves.{program_leaves}
-use Rattle.ppd_check.specs.Reading.{text_of, source_of, said, as_items}
+use Rattle.ppd_resolve.specs.Reading.{text_of, source_of, said, as_items}
 use Rattle.ppd_check.proofs.ValidLists.{all_parts}
 use Rattle.ppd_check.proofs.LimitsGrammar.{levels, FitsAll, statement_in, place_in, fits_program, statements_program, places_program}
-use Rattle.ppd_check.specs.Syntax.{Formula, number, variable, element, negated, inverted, two, both, either, Goal, scalar, item, Value, plain, result, received, Simple, Row, Item, shared, shared_array, semaphore, channel, function, process}
-use Rattle.ppd_check.specs.Syntax as S
+use Rattle.ppd_resolve.specs.Syntax.{Formula, number, variable, element, negated, inverted, two, both, either, Goal, scalar, item, Value, plain, result, received, Simple, Row, Item, shared, shared_array, semaphore, channel, function, process}
+use Rattle.ppd_resolve.specs.Syntax as S
 use Rattle.ppd_check.specs.Sizes as Z
 use Rattle.ppd_check.proofs.LimitsSaid as L
 

@@ -8,21 +8,23 @@ use Rattle.ppd_ast.specs.declared.program.Body.{Body}
 use Rattle.ppd_ast.specs.declared.program.Stmt.{Stmt}
 use Rattle.ppd_ast.specs.Term.{Term}
 use Rattle.ppd_ast.specs.Valid.{EndsBody, IsEnding, last_of}
-use Rattle.ppd_check.specs.declared.fault.Cause.TheVariants.{ReturnPlace}
-use Rattle.ppd_check.specs.declared.frame.Frame.{Frame}
-use Rattle.ppd_check.specs.Faults.{unless, if_so}
-use Rattle.ppd_check.specs.Names.{Scope}
-use Rattle.ppd_check.specs.Code.{Code, Act, Spot, done, act, choice, loop, join, acts, count}
-use Rattle.ppd_check.specs.Code as C
-use Rattle.ppd_check.specs.Table.{weights, terms, kind, numbers, stmts, some_root}
-use Rattle.ppd_check.specs.Statements.{declared, spot_of, put, store_acts, acts_of, code_of, code_of_any, row_code, opened, closed, after_row, after_any, after, place_of}
-use Rattle.ppd_check.specs.Syntax as S
-use Rattle.ppd_check.specs.Syntax.{Simple, Row, Value}
-use Rattle.ppd_check.specs.Sources.{Head, simple_returns, returns, last_return, return_faults, ends_with_return, head_code, entry}
-use Rattle.ppd_check.proofs.Joined.{numbers_join, stmts_join}
-use Rattle.ppd_check.proofs.Nested.{join_done}
-use Rattle.ppd_check.proofs.Walking.{join_assoc}
-use Rattle.ppd_check.proofs.Writing.{length_stmts}
+use Rattle.ppd_resolve.specs.declared.fault.Cause.TheVariants.{ReturnPlace}
+use Rattle.ppd_resolve.specs.declared.frame.Frame.{Frame}
+use Rattle.ppd_resolve.specs.Faults.{unless, if_so}
+use Rattle.ppd_resolve.specs.Names.{Scope}
+use Rattle.ppd_lower.specs.Code.{Code, Act, Spot, done, act, choice, loop, join, acts, count}
+use Rattle.ppd_lower.specs.Code as C
+use Rattle.ppd_lower.specs.Table.{weights, terms, kind, numbers, stmts, some_root}
+use Rattle.ppd_lower.specs.Statements.{spot_of, put, store_acts, acts_of, code_of, code_of_any, row_code, opened, closed, after_row, after_any, after, place_of}
+use Rattle.ppd_resolve.specs.Frames.{declared}
+use Rattle.ppd_resolve.specs.Syntax as S
+use Rattle.ppd_resolve.specs.Syntax.{Simple, Row, Value}
+use Rattle.ppd_lower.specs.Sources.{simple_returns, returns, last_return, return_faults, ends_with_return, head_code, entry}
+use Rattle.ppd_resolve.specs.Globals.{Head}
+use Rattle.ppd_lower.proofs.Joined.{numbers_join, stmts_join}
+use Rattle.ppd_lower.proofs.Nested.{join_done}
+use Rattle.ppd_lower.proofs.Walking.{join_assoc}
+use Rattle.ppd_lower.proofs.Writing.{length_stmts}
 use Rattle.ppd_check.proofs.ValidFacts.{acts_in}
 use Rattle.ppd_check.proofs.ValidHeaders.{Passes, PassesIfAny, HeadersPass}
 use Rattle.ppd_check.proofs.ValidLists.{Stands, all_join, all_parts, nil_parts, some_and, stands_append}

@@ -8,8 +8,8 @@ use Rattle.ppd_ast.specs.Term.{Term, const, local, local_at, shared, shared_at, 
 use Rattle.ppd_ast.specs.Term as T
 use Rattle.ppd_ast.specs.Table.{AreChildrenBelow}
 use Rattle.ppd_ast.proofs.Terms.{term-node}
-use Rattle.ppd_check.specs.Table.{weight, root, roots, flat, flats}
-use Rattle.ppd_check.proofs.Flat.{length_flat}
+use Rattle.ppd_lower.specs.Table.{weight, root, roots, flat, flats}
+use Rattle.ppd_lower.proofs.Flat.{length_flat}
 use Rattle.ppd_check.proofs.ValidLists.{EachFrom, Stands, each_append, stands_append}
 
 -- Children.

@@ -1,28 +1,5 @@
--- The core form of a tree: what the tree says, what its names mean, its statements without and with numbers, and the
--- rules that
--- it breaks.
-pub mod Syntax
-pub mod Reading
-pub mod Fitted
-pub mod Faults
-pub mod Names
-pub mod Expressions
-pub mod Code
-pub mod Statements
-pub mod Table
-pub mod Sources
-pub mod Nodes
-pub mod Cost
-pub mod Forms
+-- Why a source is refused, and how a program is read from bytes.
 pub mod Placed
 pub mod Read
-pub mod Values
-pub mod Writing
-pub mod Declaring
-pub mod Holding
-pub mod Plain
-pub mod Items
-pub mod Endings
-pub mod Bodies
 pub mod Sizes
-pub mod Elements
+pub mod Refused

@@ -5,23 +5,22 @@ ghost use Rattle.ppd_check.specs.Read.{IsParsed};
 ghost use Rattle.std.specs.List.{All};
 ghost use Rattle.ppd_parse.specs.Grammar.{Shape};
 ghost use Rattle.ppd_parse.specs.Tree.{tree_of, IsTable};
-ghost use Rattle.ppd_check.specs.Bodies.{WroteHeads};
-ghost use Rattle.ppd_check.specs.Elements.{elements_of};
-ghost use Rattle.ppd_check.specs.Holding.{head_at, IsHeadAt};
-ghost use Rattle.ppd_check.specs.Names.{innermost};
-ghost use Rattle.ppd_check.specs.Sources.{Accepted, IsRefused, core, first_fault};
-ghost use Rattle.ppd_check.specs.Cost.{nodes_at, total};
+ghost use Rattle.ppd_lower.specs.Bodies.{WroteHeads};
+ghost use Rattle.ppd_lower.specs.Elements.{elements_of};
+ghost use Rattle.ppd_resolve.specs.Holding.{head_at, IsHeadAt};
+ghost use Rattle.ppd_resolve.specs.Names.{innermost};
+ghost use Rattle.ppd_lower.specs.Sources.{Accepted, core, first_fault};
+ghost use Rattle.ppd_check.specs.Refused.{IsRefused};
+ghost use Rattle.ppd_resolve.specs.Cost.{nodes_at, total};
 
-use crate::bodies::{vars_of, write_heads};
-use crate::declare::{globals_of, note_no_process};
 use crate::error::CheckError;
-use crate::fault::{Cause, Fault};
-use crate::globals::as_short;
 use crate::places::note_statements;
-use crate::scopes::Scopes;
-use crate::writer::Writer;
 use ppd_ast::{Body, Memory, Program, Seq, Steps};
-use ppd_parse::{Node, Tree};
+use ppd_lower::{Heads, vars_of, write_heads};
+use ppd_parse::Tree;
+use ppd_resolve::{
+    Cause, Fault, Output, Scopes, Source, Writer, as_short, globals_of, note_no_process,
+};
 use std::alloc::Global;
 use std::marker::Brand;
 use std::sync::ledger::{Blank, Ledger};
@@ -53,85 +52,73 @@ fn error_of(fault: Fault) -> CheckError
 
 // The functions, then the processes.
 fn write_all<L: Ledger>(
-    alloc: Global,
-    nodes: &[Node],
+    source: Source<'_>,
     scopes: Scopes,
     functions: &[u32],
     processes: &[u32],
-    out: &mut Writer,
+    out: &mut Output,
     steps: &mut Steps<L>,
 ) -> Result<Seq<Body>, Memory>
-    requires table { IsTable nodes.now }
-    requires functions { All (IsHeadAt nodes.now false) functions.now }
-    requires processes { All (IsHeadAt nodes.now true) processes.now }
+    requires functions { All (IsHeadAt source.nodes.now false) functions.now }
+    requires processes { All (IsHeadAt source.nodes.now true) processes.now }
     requires one { scopes ≡ innermost scopes ∷ [] }
-    ensures wrote { IfOk result
-        (λ bodies. WroteHeads (innermost scopes)
-        (map (head_at nodes.now) functions.now ++ map (head_at nodes.now) processes.now) out.old out.new [] bodies) }
+    ensures wrote { IfOk result (λ bodies. WroteHeads (innermost scopes) (map (head_at source.entry.nodes.now)
+        functions.now ++ map (head_at source.entry.nodes.now) processes.now) out.old.table out.new.table [] bodies) }
     ensures cost { steps.new
-        ≤ steps.old + 113 * total (nodes_at nodes.now) functions.now + 113 * total
-        (nodes_at nodes.now) processes.now }
+        ≤ steps.old + 113 * total (nodes_at source.entry.nodes.now) functions.now + 113 * total
+        (nodes_at source.entry.nodes.now) processes.now }
 {
-    let mut bodies = Seq::new(alloc);
-    let scopes = write_heads(
-        alloc,
-        nodes,
-        functions,
-        false,
-        scopes,
-        out,
-        &mut bodies,
-        steps,
-    )?;
-    write_heads(
-        alloc,
-        nodes,
-        processes,
-        true,
-        scopes,
-        out,
-        &mut bodies,
-        steps,
-    )?;
+    let mut bodies = Seq::new(scopes.alloc());
+    let heads = Heads {
+        source,
+        process: false,
+    };
+    let scopes = write_heads(heads, functions, scopes, out, &mut bodies, steps)?;
+    let heads = Heads {
+        source,
+        process: true,
+    };
+    write_heads(heads, processes, scopes, out, &mut bodies, steps)?;
     Ok(bodies)
 }
 
 // The table of a tree's nodes, and the first rule that it breaks; where it breaks one, the table says nothing.
 fn check_nodes<L: Ledger>(
     alloc: Global,
-    nodes: &[Node],
+    source: Source<'_>,
     steps: &mut Steps<L>,
 ) -> Result<Checked, Memory>
-    requires table { IsTable nodes.now }
-    ensures program { IfOk result
-        (λ checked. Accepted (tree_of nodes.now) → checked.program ≡ core (tree_of nodes.now)) }
-    ensures found { IfOk result (λ checked. checked.found ≡ first_fault (tree_of nodes.now)) }
-    ensures cost { steps.new ≤ steps.old + 150 * length nodes.now + 2048 }
+    ensures program { IfOk result (λ checked. Accepted (tree_of source.entry.nodes.now) → checked.program ≡ core
+        (tree_of source.entry.nodes.now)) }
+    ensures found { IfOk result (λ checked. checked.found ≡ first_fault (tree_of source.entry.nodes.now)) }
+    ensures cost { steps.new ≤ steps.old + 150 * length source.entry.nodes.now + 2048 }
 {
     let mut found = None;
-    let globals = globals_of(alloc, nodes, &mut found, steps)?;
-    note_no_process(nodes, &globals, &mut found);
-    let mut out = Writer {
+    let globals = globals_of(alloc, source, &mut found, steps)?;
+    note_no_process(source, &globals, &mut found);
+    let table = Writer {
         exprs: Seq::new(alloc),
         stmts: Seq::new(alloc),
         found,
     };
-    let count = as_short(globals.functions.len());
+    let row = Seq::new(alloc);
+    let mut out = Output { table, row };
+    let count = as_short(globals.functions.len() as u64);
     let shared = vars_of(alloc, globals.shared.as_slice(), steps)?;
     let bodies = write_all(
-        alloc,
-        nodes,
+        source,
         globals.scopes,
         globals.functions.as_slice(),
         globals.processes.as_slice(),
         &mut out,
         steps,
     )?;
-    note_statements(alloc, out.stmts.as_slice(), &mut out.found, steps)?;
+    let mut table = out.table;
+    note_statements(alloc, table.stmts.as_slice(), &mut table.found, steps)?;
     Ok(Checked {
         program: Program {
-            exprs: out.exprs,
-            stmts: out.stmts,
+            exprs: table.exprs,
+            stmts: table.stmts,
             bodies,
             functions: count,
             shared,
@@ -139,7 +126,7 @@ fn check_nodes<L: Ledger>(
             sems: globals.sems,
             chans: globals.chans,
         },
-        found: out.found,
+        found: table.found,
     })
 }
 
@@ -160,7 +147,10 @@ pub fn check_in<L: Ledger>(
     ensures refused { IfErr result (λ e. IsRefused (tree_of tree.now.nodes) e) }
     ensures cost { steps.new ≤ steps.old + 150 * length tree.now.nodes + 2048 }
 {
-    let checked = check_nodes(alloc, tree.nodes.as_slice(), steps)?;
+    let source = Source {
+        nodes: tree.nodes.as_slice(),
+    };
+    let checked = check_nodes(alloc, source, steps)?;
     match checked.found {
         None => Ok(checked.program),
         Some(fault) => Err(error_of(fault)),

@@ -8,23 +8,25 @@ use ppd_lex::{LexError, lex};
 use ppd_parse::{SyntaxError, Tree, parse};
 use std::alloc::Global;
 
-// Why a source has no program, by its lexical fault.
-fn by_lex(error: LexError) -> SourceError
-    ensures { result ≡ by_lex error }
-{
-    match error {
-        LexError::Memory => SourceError::Memory,
-        fault => SourceError::Lex(fault),
+impl From<LexError> for SourceError {
+    ghost from_gives = { λ e result. result ≡ by_lex e };
+
+    fn from(error: LexError) -> Self {
+        match error {
+            LexError::Memory => SourceError::Memory,
+            fault => SourceError::Lex(fault),
+        }
     }
 }
 
-// Why a source has no program, by the token that breaks the grammar or a limit.
-fn by_parse(error: SyntaxError) -> SourceError
-    ensures { result ≡ by_parse error }
-{
-    match error {
-        SyntaxError::Memory => SourceError::Memory,
-        fault => SourceError::Syntax(fault),
+impl From<SyntaxError> for SourceError {
+    ghost from_gives = { λ e result. result ≡ by_parse e };
+
+    fn from(error: SyntaxError) -> Self {
+        match error {
+            SyntaxError::Memory => SourceError::Memory,
+            fault => SourceError::Syntax(fault),
+        }
     }
 }
 
@@ -35,12 +37,7 @@ pub fn read_tree(alloc: Global, bytes: &[u8]) -> Result<Tree, SourceError>
     ensures few { IfOk result (λ tree. length tree.nodes ≤ 3 * 2 ^ 30) }
     ensures refused { IfErr result (λ error. IsRefused bytes.now error) }
 {
-    let tokens = match lex(alloc, bytes) {
-        Ok(tokens) => tokens,
-        Err(error) => return Err(by_lex(error)),
-    };
-    match parse(alloc, &tokens) {
-        Ok(tree) => Ok(tree),
-        Err(error) => Err(by_parse(error)),
-    }
+    let tokens = lex(alloc, bytes)?;
+    let tree = parse(alloc, &tokens)?;
+    Ok(tree)
 }

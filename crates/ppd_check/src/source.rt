@@ -1,6 +1,6 @@
 ghost use Rattle.std.specs.Prelude.{◌≡◌, ◌≤◌, ◌+◌, ◌*◌, length, IfOk, IfErr};
 ghost use Rattle.ppd_ast.specs.Valid.{IsValid};
-ghost use Rattle.ppd_check.specs.Elements.{elements_of};
+ghost use Rattle.ppd_lower.specs.Elements.{elements_of};
 ghost use Rattle.ppd_check.specs.Read.{IsRead, IsRefused, by_check};
 
 use crate::checking::check;
@@ -9,13 +9,14 @@ use crate::parsed::read_tree;
 use ppd_ast::Program;
 use std::alloc::Global;
 
-// Why a source has no program, by the first rule that it breaks.
-fn by_check(error: CheckError) -> SourceError
-    ensures { result ≡ by_check error }
-{
-    match error {
-        CheckError::Memory => SourceError::Memory,
-        fault => SourceError::Check(fault),
+impl From<CheckError> for SourceError {
+    ghost from_gives = { λ e result. result ≡ by_check e };
+
+    fn from(error: CheckError) -> Self {
+        match error {
+            CheckError::Memory => SourceError::Memory,
+            fault => SourceError::Check(fault),
+        }
     }
 }
 
@@ -32,8 +33,6 @@ pub fn read_source(alloc: Global, bytes: &[u8]) -> Result<Program, SourceError>
     ensures refused { IfErr result (λ e. IsRefused bytes.now e) }
 {
     let tree = read_tree(alloc, bytes)?;
-    match check(alloc, &tree) {
-        Ok(program) => Ok(program),
-        Err(error) => Err(by_check(error)),
-    }
+    let program = check(alloc, &tree)?;
+    Ok(program)
 }

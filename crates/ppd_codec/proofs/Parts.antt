@@ -12,7 +12,7 @@ use Rattle.ppd_codec.specs.declared.facts.Facts.{Facts}
 use Rattle.ppd_codec.specs.declared.tag.Tag.{Tag}
 use Rattle.ppd_codec.specs.declared.tag.Tag.TheVariants as T
 use Rattle.ppd_codec.specs.Form.{byte, first, number_2, number_4, value, value_bytes, value_of}
-use Rattle.ppd_codec.specs.Format.{End, Sync, an_entry, back, budget, cells, end_of, end_parts, end_status, ended, front, is_next, kind_code, kinds, leaf, log, logs, loops, magic, magic_code, numbered, out_of, past, postlog_of, postlog_parts, prelog_of, prelog_parts, process_count, recording, row, source, source_length, status_code, statuses, sync_kind, sync_number, sync_of, sync_parts, sync_value, synced, tag, tag_code, tag_of, tags, unit_of, unit_parts, values, version}
+use Rattle.ppd_codec.specs.Format.{End, Sync, an_entry, back, budget, cells, end_entry_of, end_parts, end_status, ended, front, is_next, kind_code, kinds, leaf, log, logs, loops, magic, magic_code, numbered, out_of, past, postlog_of, postlog_parts, prelog_of, prelog_parts, process_count, recording, row, source, source_length, status_code, statuses, sync_kind, sync_number, sync_of, sync_parts, sync_value, synced, tag, tag_code, tag_of, tags, unit_of, unit_parts, values, version}
 use Rattle.ppd_codec.proofs.Widths.{IsWidth, bound_8, byte_at, field_inverts, width_1, width_2, width_4}
 use Rattle.ppd_codec.proofs.Built.{Holds, block_holds, listed_along_holds, listed_holds, named_holds, one_of_holds, only_holds, pair_holds, ranged_holds, tagged_holds}
 
@@ -116,19 +116,19 @@ sync_back x (entry.Sync k o n v r w) e = let same : (k, (o, (n, (v, (r, w))))) �
 sync_back x (entry.Postlog b vs) e = absurd (cc)
 sync_back x (entry.End s n r w) e = absurd (cc)
 
-end_back : (x : End) (y : Entry) → end_parts y ≡ Some x → end_of x ≡ y
+end_back : (x : End) (y : Entry) → end_parts y ≡ Some x → end_entry_of x ≡ y
 end_back x (entry.Prelog b vs) e = absurd (cc)
 end_back x (entry.Unit b vs) e = absurd (cc)
 end_back x (entry.Sync k o n v r w) e = absurd (cc)
 end_back x (entry.Postlog b vs) e = absurd (cc)
-end_back x (entry.End s n r w) e = let same : (s, (n, (r, w))) ≡ x = cc in ap end_of (sym same)
+end_back x (entry.End s n r w) e = let same : (s, (n, (r, w))) ≡ x = cc in ap end_entry_of (sym same)
 
 row_holds : (f : Facts) (t : Tag) → Holds (row f t)
 row_holds f T.Prelog = named_holds prelog_of prelog_parts numbered (λ x. refl) prelog_back numbered_holds
 row_holds f T.Unit = named_holds unit_of unit_parts numbered (λ x. refl) unit_back numbered_holds
 row_holds f T.Sync = named_holds sync_of sync_parts (synced f) (λ x. refl) sync_back (synced_holds f)
 row_holds f T.Postlog = named_holds postlog_of postlog_parts numbered (λ x. refl) postlog_back numbered_holds
-row_holds f T.End = named_holds end_of end_parts (ended f) (λ x. refl) end_back (ended_holds f)
+row_holds f T.End = named_holds end_entry_of end_parts (ended f) (λ x. refl) end_back (ended_holds f)
 
 -- a row is lawful for the entries of its tag alone
 row_tag : (f : Facts) (t : Tag) (y : Entry) → (row f t).Lawful y → tag_of y ≡ t

@@ -196,8 +196,8 @@ abbrev pub sync_parts : Entry → Option Sync
 sync_parts (entry.Sync k o n v r w) = Some (k, (o, (n, (v, (r, w)))))
 sync_parts e = None
 
-abbrev pub end_of : End → Entry
-end_of p = entry.End p.0 p.1.0 p.1.1.0 p.1.1.1
+abbrev pub end_entry_of : End → Entry
+end_entry_of p = entry.End p.0 p.1.0 p.1.1.0 p.1.1.1
 
 abbrev pub end_parts : Entry → Option End
 end_parts (entry.End s n r w) = Some (s, (n, (r, w)))
@@ -208,7 +208,7 @@ row f T.Prelog = named prelog_of prelog_parts numbered
 row f T.Unit = named unit_of unit_parts numbered
 row f T.Sync = named sync_of sync_parts (synced f)
 row f T.Postlog = named postlog_of postlog_parts numbered
-row f T.End = named end_of end_parts (ended f)
+row f T.End = named end_entry_of end_parts (ended f)
 
 abbrev pub an_entry : Facts → Form Entry
 an_entry f = tagged tag tag_of (row f)

@@ -1,6 +1,6 @@
 ghost use Rattle.std.specs.Prelude.{◌≡◌, ◌+◌, ◌<◌, ◌≤◌, ◌^◌, ◌++◌, ◌∷◌, [], length, IfErr, IfOk, OnOk};
 ghost use Rattle.ppd_codec.specs.Came.{Came, Refuses};
-ghost use Rattle.ppd_codec.specs.Format.{numbered as numbered_form, synced as synced_form, ended as ended_form, an_entry, log as log_form, logs as logs_form, row, sync_of, end_of};
+ghost use Rattle.ppd_codec.specs.Format.{numbered as numbered_form, synced as synced_form, ended as ended_form, an_entry, log as log_form, logs as logs_form, row, sync_of, end_entry_of};
 
 use crate::bad::BadBytes;
 use crate::cursor::Cursor;

@@ -9,7 +9,7 @@ use Rattle.ppd_entry.specs.Pieces.{unit, sync}
 use Rattle.ppd_sem.specs.declared.proc.Proc.{Proc}
 use Rattle.ppd_model.specs.declared.tracing.Taken.{Taken}
 use Rattle.ppd_model.specs.declared.state.Logging.{Logging}
-use Rattle.ppd_model.specs.Logs.{passed, rest_after}
+use Rattle.ppd_model.specs.Logs.{passed_value, rest_after}
 use Rattle.ppd_model.specs.Story.{Moment}
 use Rattle.ppd_model.specs.Synchronizations.{Sync, sync_of}
 use Rattle.ppd_coming.specs.Coming.{Inner, coming, since_after, sync_pieces, unit_pieces}
@@ -24,7 +24,7 @@ module _ (program : Program) (plan : Plan) where
   pass_index l t vals sy u x = fold (index_step plan) x (news l t vals None sy None u None)
 
   abbrev pub sync_index : Logging → Taken → Sync → Indexing → Indexing
-  sync_index l t z x = index_step plan x (entry.Sync z.kind z.object z.number (passed t.need t.answer) l.reads l.writes)
+  sync_index l t z x = index_step plan x (entry.Sync z.kind z.object z.number (passed_value t.need t.answer) l.reads l.writes)
 
   module _ (l : Logging) (t : Taken) (vals : List ℤ) (s : Proc) (ms : List Moment) (F : Indexing → Indexing)
       (n : ℕ) where
@@ -45,7 +45,7 @@ module _ (program : Program) (plan : Plan) where
         (unit_length plan vals (Some u) x ∙ hl) (unit_own plan vals (Some u) x k i at))
     pass_own (Some z) u c x k i next hn hl at =
         let y = sync_index l t z x in
-        let p = sync z.kind z.object z.number (passed t.need t.answer) in
+        let p = sync z.kind z.object z.number (passed_value t.need t.answer) in
         more x.entry p i (unit_pieces u vals ++ (coming program plan s ms None next 0).pieces)
         (slice_get (F (with_unit plan vals u y)).intervals k)
         (unit_first program plan y.entry vals u (with_piece x.entry p i)
@@ -65,7 +65,7 @@ module _ (program : Program) (plan : Plan) where
   pass_length l t vals None u x = unit_length plan vals u x
   pass_length l t vals (Some z) u x =
       unit_length plan vals u (sync_index l t z x) ∙ piece_length x.entry
-      (sync z.kind z.object z.number (passed t.need t.answer)) x.running x.intervals
+      (sync z.kind z.object z.number (passed_value t.need t.answer)) x.running x.intervals
 
   pub pass_falls : (l : Logging) (t : Taken) (vals : List ℤ) (sy : Option Sync) (u : Option ℕ) (x : Indexing)
       → Falls (length x.intervals) x.running
@@ -73,7 +73,7 @@ module _ (program : Program) (plan : Plan) where
   pass_falls l t vals None u x f = unit_falls plan vals u x f
   pass_falls l t vals (Some z) u x f =
       unit_falls plan vals u (sync_index l t z x)
-      (piece_falls x.entry (sync z.kind z.object z.number (passed t.need t.answer)) x.running x.intervals x.running f)
+      (piece_falls x.entry (sync z.kind z.object z.number (passed_value t.need t.answer)) x.running x.intervals x.running f)
 
   pub pass_inner : (l : Logging) (t : Taken) (vals : List ℤ) (sy : Option Sync) (u : Option ℕ) (x : Indexing)
       (j : Inner) (k : ℕ) (i : Indexed) → At x.intervals x.running (Some j) k i
@@ -81,7 +81,7 @@ module _ (program : Program) (plan : Plan) where
   pass_inner l t vals None u x j k i a = unit_inner plan vals u x j k i a
   pass_inner l t vals (Some z) u x j k i a =
       unit_inner plan vals u (sync_index l t z x) j k i
-      (piece_inner x.entry (sync z.kind z.object z.number (passed t.need t.answer)) x.intervals x.running j k i a)
+      (piece_inner x.entry (sync z.kind z.object z.number (passed_value t.need t.answer)) x.intervals x.running j k i a)
 
   pub pass_past : (l : Logging) (t : Taken) (vals : List ℤ) (sy : Option Sync) (u : Option ℕ) (x : Indexing)
       (k : ℕ) (i : Indexed) → Past x.intervals x.running k i
@@ -89,7 +89,7 @@ module _ (program : Program) (plan : Plan) where
   pass_past l t vals None u x k i a = unit_past plan vals u x k i a
   pass_past l t vals (Some z) u x k i a =
       unit_past plan vals u (sync_index l t z x) k i
-      (piece_past x.entry (sync z.kind z.object z.number (passed t.need t.answer)) x.intervals x.running k i a)
+      (piece_past x.entry (sync z.kind z.object z.number (passed_value t.need t.answer)) x.intervals x.running k i a)
 
   pub step_passes : (l : Logging) (m : Moment) (ms : List Moment) (F : Indexing → Indexing) (n : ℕ)
       → Comes program plan (next_proc program plan l m) ms F

@@ -4,7 +4,7 @@ use Rattle.std.specs.Prelude.{ℤ, drop, fold}
 use Rattle.ppd_ast.specs.declared.plan.Plan.{Plan}
 use Rattle.ppd_ast.specs.declared.program.Program.{Program}
 use Rattle.ppd_ast.specs.declared.status.Status.{Status}
-use Rattle.ppd_entry.specs.IntervalLogs.{Indexed, Indexing, add_piece, add_piece_at, index_step, interval_at, left, with_piece}
+use Rattle.ppd_entry.specs.IntervalLogs.{Indexed, Indexing, add_piece, add_piece_at, index_step, interval_at, left_interval, with_piece}
 use Rattle.ppd_entry.specs.Pieces.{Piece, unit, nested, postlog}
 use Rattle.ppd_sem.specs.declared.proc.Need.{Need}
 use Rattle.ppd_sem.specs.declared.proc.Need.TheVariants.{Read, Write, Plain, Enter, Leave, Invoke, Back, P, V, Send, Offer, Done, Recv, End, Trap, Budget, Stopped}
@@ -58,7 +58,7 @@ piece_falls n p ks xs js f = subst (λ m. Falls m js) (sym (piece_length n p ks 
 
 module _ (e : ℕ) (values : List ℤ) (xs : List Indexed) where
   abbrev pub left_by : List ℕ → List Indexed
-  left_by ks = left (record { intervals = xs; running = ks; entry = e }) ks values
+  left_by ks = left_interval (record { intervals = xs; running = ks; entry = e }) ks values
 
   pub left_length : (ks : List ℕ) → length (left_by ks) ≡ length xs
   left_length [] = refl

@@ -7,13 +7,14 @@ use Rattle.ppd_ast.specs.declared.status.Status.TheVariants as status
 use Rattle.ppd_entry.specs.Pieces.{Piece, unit, sync, nested, unfinished, postlog, finish}
 use Rattle.ppd_sem.specs.declared.proc.Proc.{Proc}
 use Rattle.ppd_sem.specs.Process.{act}
+use Rattle.ppd_sem.specs.Described.{is_event}
 use Rattle.ppd_model.specs.declared.flow.Item.{Item}
 use Rattle.ppd_model.specs.declared.flow.Item.TheVariants as item
 use Rattle.ppd_model.specs.declared.tracing.Taken.{Taken}
 use Rattle.ppd_model.specs.FullTrace.{event_of}
-use Rattle.ppd_model.specs.Logs.{passed, status_of}
+use Rattle.ppd_model.specs.Logs.{passed_value, status_of}
 use Rattle.ppd_model.specs.Marks.{Mark, opened, closed}
-use Rattle.ppd_model.specs.Story.{Moment, is_event, unit_started}
+use Rattle.ppd_model.specs.Story.{Moment, unit_started}
 use Rattle.ppd_model.specs.Synchronizations.{Sync, sync_of}
 
 -- an interval that runs directly inside; `level` more run inside it
@@ -31,7 +32,7 @@ pub record Coming : Type 0 where
 
 abbrev pub sync_pieces : Taken → Option Sync → List Piece
 sync_pieces x None = []
-sync_pieces x (Some s) = sync s.kind s.object s.number (passed x.need x.answer) ∷ []
+sync_pieces x (Some s) = sync s.kind s.object s.number (passed_value x.need x.answer) ∷ []
 
 abbrev pub unit_pieces : Option ℕ → List ℤ → List Piece
 unit_pieces None values = []

@@ -6,6 +6,7 @@ use Rattle.ppd_ast.specs.declared.plan.Plan.{Plan}
 use Rattle.ppd_ast.specs.declared.program.Kind.{Kind}
 use Rattle.ppd_ast.specs.declared.program.Kind.TheVariants as kind
 use Rattle.ppd_ast.specs.declared.program.Program.{Program}
+use Rattle.ppd_ast.specs.Lookups.{kind_of, body_of_stmt}
 use Rattle.ppd_sem.specs.declared.proc.Answer.{Answer}
 use Rattle.ppd_sem.specs.declared.proc.Frame.{Frame}
 use Rattle.ppd_sem.specs.declared.proc.Need.TheVariants.{End}
@@ -13,11 +14,10 @@ use Rattle.ppd_sem.specs.declared.proc.Proc.{Proc}
 use Rattle.ppd_sem.specs.declared.proc.Todo.{Todo}
 use Rattle.ppd_sem.specs.Deed.{back}
 use Rattle.ppd_sem.specs.Described.{ends_body}
-use Rattle.ppd_sem.specs.Process.{act, entry_of, head_deed, kind_of, need_by_entry, need_by_offer, need_of, need_of_asked, need_of_head, offer_of}
+use Rattle.ppd_sem.specs.Process.{act, entry_of, head_deed, need_by_entry, need_by_offer, need_of, need_of_asked, need_of_head, offer_of}
 use Rattle.ppd_sem.specs.Tables.{block_of}
 use Rattle.ppd_model.specs.Logs.{status_of}
 use Rattle.ppd_model.specs.Marks.{opened, closed}
-use Rattle.ppd_sem.specs.Blocks.{body_in}
 use Rattle.ppd_emul.specs.Replay.{is_budget}
 use Rattle.ppd_beside.specs.Beside.{HasEnds, IsEnd, IsReturn}
 use Rattle.ppd_beside.specs.Fine.{IsFine}
@@ -49,13 +49,13 @@ module _ (program : Program) (plan : Plan) where
       by true e = omega (
         arith,
         ap one_if e,
-        while_ends_none plan (body_in (slice_get program.stmts t.stmt))
+        while_ends_none plan (body_of_stmt (slice_get program.stmts t.stmt))
             (kind_of program t.stmt) (home.loops e),
       )
       by false e = omega (
         arith,
         ap one_if e,
-        block_once (body_in (slice_get program.stmts t.stmt))
+        block_once (body_of_stmt (slice_get program.stmts t.stmt))
             (kind_of program t.stmt),
       )
 

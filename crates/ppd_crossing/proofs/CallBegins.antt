@@ -7,6 +7,7 @@ use Rattle.ppd_ast.specs.declared.plan.Plan.{Plan}
 use Rattle.ppd_ast.specs.declared.plan.Start.TheVariants as start
 use Rattle.ppd_ast.specs.declared.program.Program.{Program}
 use Rattle.ppd_ast.specs.declared.status.Trap.TheVariants as trap
+use Rattle.ppd_ast.specs.Lookups.{kind_of, top_of_body}
 use Rattle.ppd_sem.specs.declared.asking.Pause.TheVariants.{Wants, Traps}
 use Rattle.ppd_sem.specs.declared.proc.Answer.{Answer}
 use Rattle.ppd_sem.specs.declared.proc.Need.{Need}
@@ -15,7 +16,7 @@ use Rattle.ppd_sem.specs.declared.proc.Proc.{Proc}
 use Rattle.ppd_sem.specs.declared.proc.Todo.{Todo}
 use Rattle.ppd_sem.specs.Asked.{Asked}
 use Rattle.ppd_sem.specs.Deed.{Deed, invoke, leave, send}
-use Rattle.ppd_sem.specs.Process.{act, act_at, act_by_asked, act_by_need, charged, cost, entry_of, head_deed, kind_of, need_by_entry, need_of, need_of_asked, need_of_deed, need_of_head, need_of_leaving, need_of_send, new_frame, todos, top_cells, top_of}
+use Rattle.ppd_sem.specs.Process.{act, act_at, act_by_asked, act_by_need, charged, cost, entry_of, head_deed, need_by_entry, need_of, need_of_asked, need_of_deed, need_of_head, need_of_leaving, need_of_send, new_frame, todos, top_cells}
 use Rattle.ppd_sem.specs.Tables.{block_of, capacity_of, unit_of}
 use Rattle.ppd_model.specs.Marks.{closed}
 use Rattle.ppd_emul.specs.Replay.{is_budget}
@@ -127,7 +128,7 @@ module _ (program : Program) (plan : Plan) where
           stays = kept.stays s r t ts beside ok running h.2 (ap is_budget need) (ap (closed program plan s) need)
               (framed program used inside calls closer home depth ends block_so outside s r t ts h.2 beside).stacked;
         }) in
-        let todo : List Todo = todos (top_of (slice_get program.bodies c.f)) in
+        let todo : List Todo = todos (top_of_body (slice_get program.bodies c.f)) in
         let after : act program plan s a ≡ charged plan (Invoke (Some b) u)
         (act_by_asked program a t (ts ++ outside) (Ok (invoke c.f c.values c.into, c.left)) s) =
         ap (λ todo. act_at program plan a todo s) is

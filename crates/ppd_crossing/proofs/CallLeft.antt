@@ -6,6 +6,7 @@ use Rattle.ppd_ast.specs.declared.plan.Start.TheVariants as start
 use Rattle.ppd_ast.specs.declared.program.Kind.{Kind}
 use Rattle.ppd_ast.specs.declared.program.Kind.TheVariants as kind
 use Rattle.ppd_ast.specs.declared.program.Program.{Program}
+use Rattle.ppd_ast.specs.Lookups.{kind_of}
 use Rattle.ppd_sem.specs.declared.proc.Answer.{Answer}
 use Rattle.ppd_sem.specs.declared.proc.Frame.{Frame}
 use Rattle.ppd_sem.specs.declared.proc.Need.TheVariants.{Back, Invoke}
@@ -15,7 +16,7 @@ use Rattle.ppd_sem.specs.Asked.{outcome}
 use Rattle.ppd_sem.specs.Deed.{leave}
 use Rattle.ppd_sem.specs.Described.{ends_body}
 use Rattle.ppd_sem.specs.Passed.{result_at, result_by, result_of_head}
-use Rattle.ppd_sem.specs.Process.{act, act_at, act_by_need, call_unit, cost, kind_of, need_of, need_of_head, returned, top_call}
+use Rattle.ppd_sem.specs.Process.{act, act_at, act_by_need, call_unit, cost, need_of, need_of_head, returned, top_call}
 use Rattle.ppd_sem.specs.Tables.{unit_of}
 use Rattle.ppd_model.specs.Logs.{status_of}
 use Rattle.ppd_model.specs.Marks.{Mark, opened, closed}

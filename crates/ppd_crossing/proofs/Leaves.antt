@@ -6,6 +6,7 @@ use Rattle.ppd_ast.specs.declared.plan.Plan.{Plan}
 use Rattle.ppd_ast.specs.declared.plan.Start.TheVariants as start
 use Rattle.ppd_ast.specs.declared.program.Program.{Program}
 use Rattle.ppd_ast.specs.declared.status.Trap.TheVariants as trap
+use Rattle.ppd_ast.specs.Lookups.{kind_of}
 use Rattle.ppd_sem.specs.declared.asking.Pause.TheVariants.{Wants, Traps}
 use Rattle.ppd_sem.specs.declared.proc.Answer.{Answer}
 use Rattle.ppd_sem.specs.declared.proc.Need.{Need}
@@ -14,7 +15,7 @@ use Rattle.ppd_sem.specs.declared.proc.Proc.{Proc}
 use Rattle.ppd_sem.specs.declared.proc.Todo.{Todo}
 use Rattle.ppd_sem.specs.Asked.{Asked}
 use Rattle.ppd_sem.specs.Deed.{Deed, leave, invoke, back, send, finish}
-use Rattle.ppd_sem.specs.Process.{act_by_asked, act_by_need, call_unit, charged, cost, entry_of, head_deed, kind_of, need_by_entry, need_of_asked, need_of_deed, need_of_head, need_of_leaving, need_of_send, returned, top_body, top_call, top_cells}
+use Rattle.ppd_sem.specs.Process.{act_by_asked, act_by_need, call_unit, charged, cost, entry_of, head_deed, need_by_entry, need_of_asked, need_of_deed, need_of_head, need_of_leaving, need_of_send, returned, top_body, top_call, top_cells}
 use Rattle.ppd_sem.specs.Tables.{block_of, capacity_of, unit_of}
 use Rattle.ppd_beside.specs.Beside.{IsReturn, Suits, Yields}
 use Rattle.ppd_beside.proofs.Deeds.{suits}

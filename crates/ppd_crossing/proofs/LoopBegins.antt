@@ -4,15 +4,15 @@ use Rattle.std.proofs.lemmas.Bool.{cond-false, le-ltb}
 use Rattle.std.specs.Prelude.{nat_lt, slice_get}
 use Rattle.ppd_ast.specs.declared.plan.Plan.{Plan}
 use Rattle.ppd_ast.specs.declared.program.Program.{Program}
+use Rattle.ppd_ast.specs.Lookups.{kind_of, body_of_stmt}
 use Rattle.ppd_sem.specs.Blocks.{postlog_cells}
 use Rattle.ppd_sem.specs.declared.proc.Answer.{Answer}
 use Rattle.ppd_sem.specs.declared.proc.Frame.{Frame}
 use Rattle.ppd_sem.specs.declared.proc.Need.TheVariants.{Enter, Budget}
 use Rattle.ppd_sem.specs.declared.proc.Proc.{Proc}
 use Rattle.ppd_sem.specs.declared.proc.Todo.{Todo}
-use Rattle.ppd_sem.specs.Process.{act, act_at, act_by_need, cost, entry_of, head_deed, kind_of, need_by_entry, need_by_offer, need_of, need_of_head, offer_of}
+use Rattle.ppd_sem.specs.Process.{act, act_at, act_by_need, cost, entry_of, head_deed, need_by_entry, need_by_offer, need_of, need_of_head, offer_of}
 use Rattle.ppd_sem.proofs.Progress.{need_at_todo}
-use Rattle.ppd_sem.specs.Blocks.{body_in}
 use Rattle.ppd_beside.specs.Across.{IsInLoop}
 use Rattle.ppd_beside.specs.Beside.{IsBeside, Stacked, at_base, called}
 use Rattle.ppd_beside.specs.Fine.{IsLoopBlock}
@@ -86,8 +86,8 @@ module _ (program : Program) (plan : Plan) (used inside : ℕ → Type 0) (calls
       ∙ ap (λ n. act_by_need program plan a t (ts ++ outside) n s) need in
       let top = top_is s.frames r.frames r.todo beside.frames in
       let in_it : statements t.stmt = static.loop t.stmt loop.1 (loop_block program plan t b entry) in
-      let none : ends_block plan (body_in (slice_get program.stmts t.stmt)) (kind_of program t.stmt) ≡ 0 =
-      while_ends_none plan (body_in (slice_get program.stmts t.stmt)) (kind_of program t.stmt) loop.1 in (
+      let none : ends_block plan (body_of_stmt (slice_get program.stmts t.stmt)) (kind_of program t.stmt) ≡ 0 =
+      while_ends_none plan (body_of_stmt (slice_get program.stmts t.stmt)) (kind_of program t.stmt) loop.1 in (
         replays,
         record {
           before = s;

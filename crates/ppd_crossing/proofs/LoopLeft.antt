@@ -5,6 +5,7 @@ use Rattle.ppd_ast.specs.declared.plan.BlockKind.TheVariants as block
 use Rattle.ppd_ast.specs.declared.plan.Plan.{Plan}
 use Rattle.ppd_ast.specs.declared.plan.Start.TheVariants as start
 use Rattle.ppd_ast.specs.declared.program.Program.{Program}
+use Rattle.ppd_ast.specs.Lookups.{kind_of}
 use Rattle.ppd_sem.specs.Blocks.{postlog_cells}
 use Rattle.ppd_sem.specs.declared.proc.Answer.{Answer}
 use Rattle.ppd_sem.specs.declared.proc.Need.{Need}
@@ -12,7 +13,7 @@ use Rattle.ppd_sem.specs.declared.proc.Need.TheVariants.{Leave}
 use Rattle.ppd_sem.specs.declared.proc.Proc.{Proc}
 use Rattle.ppd_sem.specs.declared.proc.Todo.{Todo}
 use Rattle.ppd_sem.specs.Described.{ends_body}
-use Rattle.ppd_sem.specs.Process.{act, act_at, cost, kind_of, need_of, need_of_head}
+use Rattle.ppd_sem.specs.Process.{act, act_at, cost, need_of, need_of_head}
 use Rattle.ppd_sem.specs.Tables.{block_of, unit_of}
 use Rattle.ppd_model.specs.Logs.{status_of}
 use Rattle.ppd_model.specs.Marks.{Mark, opened, closed, values_at}

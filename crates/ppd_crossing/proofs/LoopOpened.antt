@@ -5,6 +5,7 @@ use Rattle.ppd_ast.specs.declared.plan.BlockKind.{BlockKind}
 use Rattle.ppd_ast.specs.declared.plan.BlockKind.TheVariants as block
 use Rattle.ppd_ast.specs.declared.plan.Plan.{Plan}
 use Rattle.ppd_ast.specs.declared.program.Program.{Program}
+use Rattle.ppd_ast.specs.Lookups.{body_of_stmt}
 use Rattle.ppd_sem.specs.Blocks.{block_kind, prelog_cells}
 use Rattle.ppd_sem.specs.declared.proc.Answer.{Answer}
 use Rattle.ppd_sem.specs.declared.proc.Frame.{Frame}
@@ -14,7 +15,7 @@ use Rattle.ppd_sem.specs.declared.proc.Todo.{Todo}
 use Rattle.ppd_sem.specs.Ask.{cell_of}
 use Rattle.ppd_sem.specs.Process.{act, act_at, act_by_need, need_of, new_frame, top_cells}
 use Rattle.ppd_model.specs.Marks.{values_at}
-use Rattle.ppd_sem.specs.Blocks.{at_block, block_body, block_todo, body_in, with_values}
+use Rattle.ppd_sem.specs.Blocks.{at_block, block_body, block_todo, with_values}
 use Rattle.ppd_beside.specs.Beside.{IsBeside, Stacked, at_base}
 use Rattle.ppd_beside.specs.Held.{Among}
 use Rattle.ppd_beside.specs.Over.{SameIn}
@@ -53,8 +54,8 @@ module _ (program : Program) (plan : Plan) (used inside : ℕ → Type 0) (calls
   pub loop_opened : (s : Proc) (a : Answer) (t : Todo) (rest : List Todo) (f : Frame) (fs : List Frame) (b u : ℕ)
       → s.status ≡ None → s.todo ≡ t ∷ rest → need_of program plan s ≡ Enter b u → s.frames ≡ f ∷ fs
       → s.answers ≡ [] → s.below ≡ 0 → t.offered ≡ false
-      → block_kind plan b ≡ block.Loop t.stmt → body_in (slice_get program.stmts t.stmt) ≡ f.body
-      → length f.cells ≡ length (new_frame program (body_in (slice_get program.stmts t.stmt)) [] None).cells
+      → block_kind plan b ≡ block.Loop t.stmt → body_of_stmt (slice_get program.stmts t.stmt) ≡ f.body
+      → length f.cells ≡ length (new_frame program (body_of_stmt (slice_get program.stmts t.stmt)) [] None).cells
       → ((c : ℕ) → used c → Among (prelog_cells plan b) c) → inside t.stmt → (calls → length s.frames ≡ depth + 1)
       → IsBeside program used inside calls (record t { entered = true }) f.body depth rest (act program plan s a)
       (at_block program plan b (values_at s (prelog_cells plan b)) depth s.budget)
@@ -62,7 +63,7 @@ module _ (program : Program) (plan : Plan) (used inside : ℕ → Type 0) (calls
       let r : Proc = state_at (block.Loop t.stmt) b s in
       let after : act program plan s a ≡ act_by_need program plan a t rest (Enter b u) s =
       ap (λ todo. act_at program plan a todo s) is ∙ ap (λ n. act_by_need program plan a t rest n s) need in
-      let g : Frame = new_frame program (body_in (slice_get program.stmts t.stmt)) [] None in
+      let g : Frame = new_frame program (body_of_stmt (slice_get program.stmts t.stmt)) [] None in
       let values : values_at s (prelog_cells plan b) ≡ map (cell_of f.cells) (prelog_cells plan b) =
       ap (λ xs. map (cell_of (top_cells xs)) (prelog_cells plan b)) top in
       let same : SameIn used f.cells

@@ -5,6 +5,7 @@ use Rattle.ppd_ast.specs.declared.plan.BlockKind.TheVariants as block
 use Rattle.ppd_ast.specs.declared.plan.Plan.{Plan}
 use Rattle.ppd_ast.specs.declared.program.Program.{Program}
 use Rattle.ppd_ast.specs.declared.status.Status.{Status}
+use Rattle.ppd_ast.specs.Lookups.{kind_of}
 use Rattle.ppd_sem.specs.Blocks.{postlog_cells}
 use Rattle.ppd_sem.specs.declared.proc.Answer.{Answer}
 use Rattle.ppd_sem.specs.declared.proc.Frame.{Frame}
@@ -14,7 +15,7 @@ use Rattle.ppd_sem.specs.declared.proc.Proc.{Proc}
 use Rattle.ppd_sem.specs.declared.proc.Todo.{Todo}
 use Rattle.ppd_sem.specs.Asked.{Asked}
 use Rattle.ppd_sem.specs.Deed.{Deed}
-use Rattle.ppd_sem.specs.Process.{act, entry_of, head_deed, kind_of, need_by_entry, need_of}
+use Rattle.ppd_sem.specs.Process.{act, entry_of, head_deed, need_by_entry, need_of}
 use Rattle.ppd_sem.specs.Tables.{block_of}
 use Rattle.ppd_sem.proofs.Progress.{act-stopped, need_at_status}
 use Rattle.ppd_model.specs.Logs.{status_of}

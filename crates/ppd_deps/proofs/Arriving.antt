@@ -9,15 +9,17 @@ use Rattle.ppd_ast.specs.declared.program.Kind.TheVariants as K
 use Rattle.ppd_ast.specs.declared.program.Program.{Program}
 use Rattle.ppd_ast.specs.declared.program.Stmt.{Stmt}
 use Rattle.ppd_ast.proofs.ValidLaws.{slice_get_below, slice_get_there, stmt_in_body}
-use Rattle.ppd_cfg.specs.Flow.{kind_of, kind_of_stmt, next_of, top_of}
-use Rattle.ppd_cfg.specs.Lists.{first_or, has, those, to_list}
-use Rattle.ppd_cfg.specs.Reach.{closed, leads}
-use Rattle.ppd_cfg.proofs.Has.{filter_has, filter_same_in, has_filter}
-use Rattle.ppd_cfg.proofs.Those.{those_no, those_yes}
+use Rattle.ppd_ast.specs.Members.{has, those}
+use Rattle.ppd_ast.specs.Lookups.{kind_of_stmt, kind_of, top_of, body_of_stmt, body_of, params_of, locals_of}
+use Rattle.ppd_ast.proofs.Members.{has_filter, filter_has, filter_same_in}
+use Rattle.ppd_ast.proofs.Those.{those_yes, those_no}
+use Rattle.ppd_cfg.specs.Flow.{next_of}
+use Rattle.ppd_cfg.specs.Lists.{first_or, to_list}
+use Rattle.ppd_cfg.specs.Reach.{closure, leads}
 use Rattle.ppd_sets.specs.Used.{callee, is_met, reads_at}
 use Rattle.ppd_deps.specs.declared.edges.StaticEdge.{StaticEdge}
 use Rattle.ppd_deps.specs.Edges.{begins, comes_to, kept_rows, local_edge, locals_from}
-use Rattle.ppd_deps.specs.Named.{body_of, body_of_stmt, local_reads, local_writes, locals_of, params_of, places_by}
+use Rattle.ppd_deps.specs.Named.{local_reads, local_writes, places_by}
 use Rattle.ppd_deps.specs.Rows.{at_body, is_reader}
 use Rattle.ppd_deps.proofs.Reaching.{both}
 
@@ -126,7 +128,7 @@ all_bodies p n t xs v e lt = let below = body_there p t v lt in cond-true (nat_l
 none_from : (p : Program) (s t : ℕ) → ((v : ℕ) → begins p (body_of p t) s v ≡ []) → locals_from p s t ≡ []
 none_from p s t e =
     filter_none (λ v. comes_to p (body_of p t) s v t) (local_reads p t)
-    (λ v. ap (λ starts. leads (closed (kept_rows p (body_of p t) (slice_get (locals_of p (body_of p t)) v))) starts t) (e v))
+    (λ v. ap (λ starts. leads (closure (kept_rows p (body_of p t) (slice_get (locals_of p (body_of p t)) v))) starts t) (e v))
 
 -- where the paths begin, by the statement's kind
 abbrev begins_by : Program → (b s v : ℕ) → Kind → List ℕ
@@ -192,7 +194,7 @@ own_by p K.End c r = record { calls_none = refl; places_are = λ b s. refl }
 -- no path begins where nothing is written
 pub none_begin : (p : Program) (b s v : ℕ) → begins p b s v ≡ [] → (t : ℕ) → [] ≡ (if is_reader p b v t && comes_to p b s v t then local_edge s v ∷ [] else [])
 none_begin p b s v e t =
-    let none : comes_to p b s v t ≡ false = ap (λ starts. leads (closed (kept_rows p b (slice_get (locals_of p b) v))) starts t) e in
+    let none : comes_to p b s v t ≡ false = ap (λ starts. leads (closure (kept_rows p b (slice_get (locals_of p b) v))) starts t) e in
     by (is_reader p b v t) none
   where
     by : (c : Bool) → comes_to p b s v t ≡ false → [] ≡ (if c && comes_to p b s v t then local_edge s v ∷ [] else [])

@@ -1,23 +1,26 @@
 -- Each statement is among those of its body, and what it may read is among what its body uses.
-use Rattle.std.proofs.Common.{◌≡◌, ℕ, zero, suc, ◌+◌, ◌-◌, ◌<◌, ◌≤◌, min, List, [], Bool, true, Option, Some, None, length, refl, sym, ap, ◌∙◌, subst, arith, inl, inr, true≢false}
+use Rattle.std.proofs.Common.{◌≡◌, ℕ, ◌+◌, ◌-◌, ◌<◌, ◌≤◌, min, List, [], Bool, true, Option, Some, None, length, sym, ap, ◌∙◌, subst, arith}
 use Rattle.std.specs.Prelude.{IsSomeAnd, IsTrue, slice_get, ◌&&◌}
 use Rattle.std.specs.List.{filter, flat_map, range_with_len}
 use Rattle.std.proofs.lemmas.Bool.{and_from, and_parts}
 use Rattle.ppd_ast.specs.Cells.{holds}
 use Rattle.ppd_ast.specs.Numbered.{numbers_of}
-use Rattle.ppd_ast.specs.Order.{inner, inner_at, inner_of, preorder}
+use Rattle.ppd_ast.specs.Order.{preorder}
 use Rattle.ppd_ast.specs.Valid.{IsValid, IsValidBody}
 use Rattle.ppd_ast.specs.declared.program.Body.{Body}
 use Rattle.ppd_ast.specs.declared.program.Program.{Program}
 use Rattle.ppd_ast.specs.declared.program.Stmt.{Stmt}
 use Rattle.ppd_ast.specs.declared.program.Var.{Var}
-use Rattle.ppd_ast.proofs.ValidLaws.{some_and, valid_body, valid_stmt}
+use Rattle.ppd_ast.proofs.ValidLaws.{some_and, valid_body}
+use Rattle.ppd_ast.specs.Members.{has, those}
+use Rattle.ppd_ast.specs.Lookups.{body_of_stmt, body_of}
+use Rattle.ppd_ast.proofs.Members.{has_first, any_from, any_gives, in_bounds_has, flat_gives, flat_from, all_has, filter_same_in}
 use Rattle.ppd_cfg.proofs.Following.{in_some}
-use Rattle.ppd_cfg.proofs.Has.{all_has, any_from, any_gives, filter_same_in, flat_from, flat_gives, has_cons, has_first, in_bounds_has}
 use Rattle.ppd_cfg.proofs.Rows.{length_rows, row_at}
-use Rattle.ppd_cfg.specs.Lists.{has, row, those}
+use Rattle.ppd_cfg.specs.Lists.{row}
 use Rattle.ppd_cfg.specs.Reach.{start}
 use Rattle.ppd_sets.proofs.Chains.{called_law}
+use Rattle.ppd_sets.proofs.InBody.{InBody, inside_in}
 use Rattle.ppd_sets.proofs.Meeting.{vars_same}
 use Rattle.ppd_sets.specs.Gained.{HasCells}
 use Rattle.ppd_sets.specs.SetsOf.{AreSetsOf}
@@ -26,34 +29,9 @@ use Rattle.ppd_sets.specs.declared.var_sets.VarSets.{VarSets}
 use Rattle.ppd_deps.proofs.Arriving.{body_there, filter_twice, has_those}
 use Rattle.ppd_deps.proofs.Naming.{shareds_small}
 use Rattle.ppd_deps.proofs.Reaching.{both}
-use Rattle.ppd_deps.specs.Named.{body_of, body_of_stmt, shared_reads}
+use Rattle.ppd_deps.specs.Named.{shared_reads}
 
 -- ---- the statements of a body
-
--- the statement is there and in this body
-InBody : Program → ℕ → ℕ → Type 0
-InBody p b t = (y : Stmt) × (slice_get p.stmts t ≡ Some y) × (y.body ≡ b)
-
-child_in : (p : Program) (t c b : ℕ) (o : Option Stmt) → IsValid p → slice_get p.stmts t ≡ o → IsTrue (has (inner_of o) c) → InBody p b t → InBody p b c
-unfolding InBody
-child_in p t c b None v at h k = absurd (true≢false (sym h))
-child_in p t c b (Some x) v at h k =
-    let stands = all_has (λ i. IsSomeAnd (slice_get p.stmts i) (λ s. (s.parent ≡ Some t) × (s.body ≡ x.body))) (inner x.kind) c (valid_stmt p t x v at).inside h in
-    let y = some_and (λ (s : Stmt). (s.parent ≡ Some t) × (s.body ≡ x.body)) (slice_get p.stmts c) stands in
-    let same : Some k.0 ≡ Some x = sym k.1 ∙ at in
-    let is : k.0 ≡ x = cc in
-    (y.0, y.1, y.2.1 ∙ ap (λ (s : Stmt). s.body) (sym is) ∙ k.2)
-
-inside_in : (d : ℕ) (p : Program) (t s b : ℕ) → IsValid p → InBody p b t → IsTrue (has (preorder d p.stmts t) s) → InBody p b s
-unfolding preorder
-inside_in zero p t s b v k h = absurd (true≢false (sym h))
-inside_in (suc d) p t s b v k h =
-    elim (has_cons t s (flat_map (preorder d p.stmts) (inner_at p.stmts t)) h) [
-      | inl same ↦ subst (InBody p b) same k
-      | inr later ↦
-          let c = flat_gives (preorder d p.stmts) (inner_at p.stmts t) s later in
-          inside_in d p c.0 s b v (child_in p t c.0 b (slice_get p.stmts t) v refl c.1 k) c.2
-    ]
 
 named : (p : Program) (b s : ℕ) → InBody p b s → body_of p s ≡ b
 unfolding InBody

@@ -7,17 +7,18 @@ use Rattle.ppd_ast.specs.Numbered.{is_while}
 use Rattle.ppd_ast.specs.declared.program.Program.{Program}
 use Rattle.ppd_ast.specs.declared.program.Stmt.{Stmt}
 use Rattle.ppd_ast.specs.declared.program.Var.{Var}
-use Rattle.ppd_cfg.specs.Flow.{kind_of, next_of}
-use Rattle.ppd_cfg.specs.Lists.{has}
+use Rattle.ppd_ast.specs.Members.{has}
+use Rattle.ppd_ast.specs.Lookups.{kind_of, body_of, locals_of}
+use Rattle.ppd_ast.proofs.Members.{has_first, has_later, has_filter}
+use Rattle.ppd_cfg.specs.Flow.{next_of}
 use Rattle.ppd_cfg.specs.Reach.{Reached, start, next}
-use Rattle.ppd_cfg.proofs.Has.{has_filter, has_first, has_later}
 use Rattle.ppd_cfg.proofs.Leading.{leads-tests}
 use Rattle.ppd_deps.proofs.Reaching.{row_gives}
 use Rattle.ppd_deps.specs.declared.edges.StaticEdge.{StaticEdge}
 use Rattle.ppd_deps.specs.declared.edges.StaticEdge.TheVariants.{Data, ControlEntry, Control}
 use Rattle.ppd_deps.specs.Edges.{begins, comes_to, control_into, control_of, data_from, data_into, edges_of, ends_paths, kept_rows, local_edge, locals_from, outer_edge, shared_edge, shared_from}
 use Rattle.ppd_deps.specs.Laws.{IsKeptPath, NoEdgeIsInvented}
-use Rattle.ppd_deps.specs.Named.{body_of, local_reads, locals_of, shared_reads, shared_writes}
+use Rattle.ppd_deps.specs.Named.{local_reads, shared_reads, shared_writes}
 
 -- ---- paths
 

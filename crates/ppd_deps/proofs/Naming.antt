@@ -8,15 +8,14 @@ use Rattle.ppd_ast.specs.declared.program.Var.{Var}
 use Rattle.ppd_ast.specs.Cells.{after}
 use Rattle.ppd_ast.specs.Valid.{IsValid}
 use Rattle.ppd_ast.proofs.ValidLaws.{valid_body}
-use Rattle.ppd_cfg.specs.Flow.{kind_of_stmt}
-use Rattle.ppd_cfg.specs.Lists.{has}
+use Rattle.ppd_ast.specs.Members.{has}
+use Rattle.ppd_ast.specs.Lookups.{kind_of_stmt, locals_of_body, locals_of}
 use Rattle.ppd_cfg.proofs.Searches as S
 use Rattle.ppd_sets.specs.Gained.{Gains, HasCells}
 use Rattle.ppd_sets.specs.Named.{reads, writes}
 use Rattle.ppd_sets.specs.Used.{reads_at, vars_met, writes_at}
 use Rattle.ppd_sets.proofs.Gaining.{gains_as, gains_none}
 use Rattle.ppd_sets.proofs.Meeting.{shared_small, vars_same}
-use Rattle.ppd_deps.specs.Named.{locals_of, locals_of_body}
 use Rattle.ppd_deps.specs.Tables.{AreSmall}
 
 -- ---- a search

@@ -5,16 +5,18 @@ use Rattle.std.specs.List.{filter, flat_map}
 use Rattle.ppd_ast.specs.Valid.{IsValid}
 use Rattle.ppd_ast.specs.declared.program.Program.{Program}
 use Rattle.ppd_ast.specs.declared.program.Var.{Var}
-use Rattle.ppd_cfg.specs.Flow.{kind_of, next_of, top_of}
-use Rattle.ppd_cfg.specs.Lists.{AreBelow, first_or, has, row, to_list}
-use Rattle.ppd_cfg.specs.Reach.{Reached, closed, leads}
+use Rattle.ppd_ast.specs.Members.{has, AreBelow}
+use Rattle.ppd_ast.specs.Lookups.{kind_of, top_of, body_of}
+use Rattle.ppd_ast.proofs.Members.{has_cases, flat_gives}
+use Rattle.ppd_cfg.specs.Flow.{next_of}
+use Rattle.ppd_cfg.specs.Lists.{first_or, row, to_list}
+use Rattle.ppd_cfg.specs.Reach.{Reached, closure, leads}
 use Rattle.ppd_cfg.specs.WorkList.{AreRowsBelow, is_marked}
-use Rattle.ppd_cfg.proofs.Has.{flat_gives, has_cases, row_there}
-use Rattle.ppd_cfg.proofs.Leading.{leads-tests}
+use Rattle.ppd_cfg.proofs.Leading.{leads-tests, row_there}
 use Rattle.ppd_cfg.proofs.Rows.{length_rows, row_at}
 use Rattle.ppd_units.proofs.Fitting.{first_of_body_fits, listed_below, next_below}
 use Rattle.ppd_deps.specs.Edges.{begins, ends_paths, kept_next, kept_rows}
-use Rattle.ppd_deps.specs.Named.{body_of, local_writes, passes, places}
+use Rattle.ppd_deps.specs.Named.{local_writes, passes, places}
 
 pub kept_long : (p : Program) (b : ℕ) (x : Option Var) → length (kept_rows p b x) ≡ length p.stmts
 kept_long p b x = length_rows (kept_next p b x) 0 (length p.stmts)
@@ -49,7 +51,7 @@ both false true f g = absurd (true≢false (sym (g refl)))
 both false false f g = refl
 
 -- the marks of a work list are what closed rows lead to
-pub marks_lead : (rows : List (List ℕ)) (starts : List ℕ) (marks : List Bool) → ((x : ℕ) → IsTrue (is_marked marks x) ↔ Reached rows starts x) → (x : ℕ) → is_marked marks x ≡ leads (closed rows) starts x
+pub marks_lead : (rows : List (List ℕ)) (starts : List ℕ) (marks : List Bool) → ((x : ℕ) → IsTrue (is_marked marks x) ↔ Reached rows starts x) → (x : ℕ) → is_marked marks x ≡ leads (closure rows) starts x
 marks_lead rows starts marks h x =
     let tests = leads-tests rows starts x in
-    both (is_marked marks x) (leads (closed rows) starts x) (λ m. tests.1 ((h x).0 m)) (λ l. (h x).1 (tests.0 l))
+    both (is_marked marks x) (leads (closure rows) starts x) (λ m. tests.1 ((h x).0 m)) (λ l. (h x).1 (tests.0 l))

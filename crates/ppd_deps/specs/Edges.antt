@@ -9,12 +9,14 @@ use Rattle.ppd_ast.specs.declared.program.Stmt.{Stmt}
 use Rattle.ppd_ast.specs.declared.program.Target.{Target}
 use Rattle.ppd_ast.specs.declared.program.Target.TheVariants as T
 use Rattle.ppd_ast.specs.declared.program.Var.{Var}
-use Rattle.ppd_cfg.specs.Flow.{kind_of, next_of, top_of}
-use Rattle.ppd_cfg.specs.Lists.{first_or, has, to_list}
-use Rattle.ppd_cfg.specs.Reach.{closed, leads}
+use Rattle.ppd_ast.specs.Members.{has}
+use Rattle.ppd_ast.specs.Lookups.{kind_of, top_of, body_of, locals_of}
+use Rattle.ppd_cfg.specs.Flow.{next_of}
+use Rattle.ppd_cfg.specs.Lists.{first_or, to_list}
+use Rattle.ppd_cfg.specs.Reach.{closure, leads}
 use Rattle.ppd_deps.specs.declared.edges.StaticEdge.{StaticEdge}
 use Rattle.ppd_deps.specs.declared.edges.StaticEdge.TheVariants.{Data, ControlEntry, Control}
-use Rattle.ppd_deps.specs.Named.{body_of, local_reads, local_writes, locals_of, passes, places, shared_reads, shared_writes}
+use Rattle.ppd_deps.specs.Named.{local_reads, local_writes, passes, places, shared_reads, shared_writes}
 
 -- ---- paths of a local variable
 
@@ -66,7 +68,7 @@ begins p b s v =
 
 -- whether what s writes to variable v of body b may come to statement t
 abbrev pub comes_to : Program → (b s v t : ℕ) → Bool
-comes_to p b s v t = leads (closed (kept_rows p b (slice_get (locals_of p b) v))) (begins p b s v) t
+comes_to p b s v t = leads (closure (kept_rows p b (slice_get (locals_of p b) v))) (begins p b s v) t
 
 -- ---- data
 

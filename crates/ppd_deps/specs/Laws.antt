@@ -3,11 +3,12 @@ use Rattle.std.specs.Prelude.{◌≡◌, ℕ, IsTrue, true, false, List, [], ◌
 use Rattle.std.specs.List.{Contains}
 use Rattle.ppd_ast.specs.declared.program.Program.{Program}
 use Rattle.ppd_ast.specs.declared.program.Var.{Var}
-use Rattle.ppd_cfg.specs.Flow.{kind_of, next_of}
-use Rattle.ppd_cfg.specs.Lists.{has}
+use Rattle.ppd_ast.specs.Members.{has}
+use Rattle.ppd_ast.specs.Lookups.{kind_of, body_of, locals_of}
+use Rattle.ppd_cfg.specs.Flow.{next_of}
 use Rattle.ppd_deps.specs.declared.edges.StaticEdge.TheVariants.{Data}
 use Rattle.ppd_deps.specs.Edges.{begins, edges_of, ends_paths}
-use Rattle.ppd_deps.specs.Named.{body_of, local_reads, locals_of, shared_reads, shared_writes}
+use Rattle.ppd_deps.specs.Named.{local_reads, shared_reads, shared_writes}
 
 -- statement u and then this list are a flow path of body b that ends with t, and no statement before t ends the paths
 -- of

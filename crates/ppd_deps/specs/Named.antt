@@ -1,49 +1,22 @@
 -- The variables that a statement reads and writes, by their numbers.
-use Rattle.std.specs.Prelude.{ℕ, ◌-◌, nat_eq, nat_lt, Bool, true, false, ◌&&◌, List, [], ◌∷◌, length, Option, Some, None, slice_get, if◌then◌else◌}
+use Rattle.std.specs.Prelude.{ℕ, ◌-◌, nat_eq, nat_lt, Bool, true, false, ◌&&◌, List, [], ◌∷◌, length, if◌then◌else◌}
 use Rattle.std.specs.List.{filter, range_with_len}
-use Rattle.ppd_ast.specs.declared.program.Body.{Body}
 use Rattle.ppd_ast.specs.declared.program.Kind.{Kind}
 use Rattle.ppd_ast.specs.declared.program.Kind.TheVariants as K
 use Rattle.ppd_ast.specs.declared.program.Program.{Program}
-use Rattle.ppd_ast.specs.declared.program.Stmt.{Stmt}
-use Rattle.ppd_ast.specs.declared.program.Var.{Var}
-use Rattle.ppd_cfg.specs.Flow.{kind_of}
-use Rattle.ppd_cfg.specs.Lists.{has, those}
-use Rattle.ppd_cfg.specs.Reach.{closed, leads}
+use Rattle.ppd_ast.specs.Members.{has, those}
+use Rattle.ppd_ast.specs.Lookups.{kind_of, body_of, params_of, locals_of}
+use Rattle.ppd_cfg.specs.Reach.{closure, leads}
 use Rattle.ppd_sets.specs.Used.{call_rows, callee, reads_at, stmts_at, vars_met, writes_at}
 
 -- ---- bodies
-
-abbrev pub body_of_stmt : Option Stmt → ℕ
-body_of_stmt None = 0
-body_of_stmt (Some x) = x.body
-
--- the body of statement s, and 0 past the last
-abbrev pub body_of : Program → ℕ → ℕ
-body_of p s = body_of_stmt (slice_get p.stmts s)
-
-abbrev pub locals_of_body : Option Body → List Var
-locals_of_body None = []
-locals_of_body (Some b) = b.locals
-
--- the local variables of body b
-abbrev pub locals_of : Program → ℕ → List Var
-locals_of p b = locals_of_body (slice_get p.bodies b)
-
-abbrev pub params_of_body : Option Body → ℕ
-params_of_body None = 0
-params_of_body (Some b) = b.params
-
--- how many parameters body b has: the first ones of its local variables
-abbrev pub params_of : Program → ℕ → ℕ
-params_of p b = params_of_body (slice_get p.bodies b)
 
 abbrev pub processes : Program → List ℕ
 processes p = range_with_len p.functions (length p.bodies - p.functions)
 
 -- the bodies that run: a chain of calls reaches them from a process
 abbrev pub running : Program → List ℕ
-running p = those (length p.bodies) (leads (closed (call_rows p)) (processes p))
+running p = those (length p.bodies) (leads (closure (call_rows p)) (processes p))
 
 -- ---- variables
 

@@ -1,9 +1,10 @@
 -- Rows of edges, and what is added to them.
 use Rattle.std.specs.Prelude.{◌≡◌, ◌<◌, ℕ, nat_eq, Bool, ◌&&◌, List, [], ◌++◌, length, get_or, if◌then◌else◌}
 use Rattle.ppd_ast.specs.declared.program.Program.{Program}
-use Rattle.ppd_cfg.specs.Lists.{has}
+use Rattle.ppd_ast.specs.Members.{has}
+use Rattle.ppd_ast.specs.Lookups.{body_of}
 use Rattle.ppd_deps.specs.declared.edges.StaticEdge.{StaticEdge}
-use Rattle.ppd_deps.specs.Named.{body_of, local_reads}
+use Rattle.ppd_deps.specs.Named.{local_reads}
 
 -- the row with this number, and none past the end
 abbrev pub row_at : List (List StaticEdge) → ℕ → List StaticEdge

@@ -3,7 +3,7 @@ ghost use Rattle.std.specs.Prelude.{◌≡◌, ◌<◌, ◌^◌, ◌&&◌, [], �
 ghost use Rattle.std.specs.List.{filter};
 ghost use Rattle.ppd_ast.specs.Numbered.{is_while};
 ghost use Rattle.ppd_ast.specs.Valid.{IsValid};
-ghost use Rattle.ppd_cfg.specs.Lists.{AreBelow, has};
+ghost use Rattle.ppd_ast.specs.Members.{has, AreBelow};
 ghost use Rattle.ppd_cfg.specs.WorkList.{is_marked};
 ghost use Rattle.ppd_deps.specs.Edges.{comes_to, control_into, data_from, data_into, edges_of, local_edge, locals_from, outer_edge, shared_edge};
 ghost use Rattle.ppd_deps.specs.Named.{places, shared_reads, shared_writes};

@@ -3,12 +3,14 @@ ghost use Rattle.std.specs.Prelude.{◌≡◌, ◌<◌, ◌^◌, ◌&&◌, ℕ, 
 ghost use Rattle.std.specs.List.{filter, flat_map};
 ghost use Rattle.ppd_ast.specs.Numbered.{numbers_of};
 ghost use Rattle.ppd_ast.specs.Valid.{IsValid};
-ghost use Rattle.ppd_cfg.specs.Flow.{kind_of, next_of, top_of};
-ghost use Rattle.ppd_cfg.specs.Lists.{AreBelow, first_or, has, to_list};
-ghost use Rattle.ppd_cfg.specs.Reach.{closed, leads};
+ghost use Rattle.ppd_ast.specs.Members.{has, AreBelow};
+ghost use Rattle.ppd_ast.specs.Lookups.{kind_of, top_of, body_of, locals_of};
+ghost use Rattle.ppd_cfg.specs.Flow.{next_of};
+ghost use Rattle.ppd_cfg.specs.Lists.{first_or, to_list};
+ghost use Rattle.ppd_cfg.specs.Reach.{closure, leads};
 ghost use Rattle.ppd_cfg.specs.WorkList.{is_marked};
 ghost use Rattle.ppd_deps.specs.Edges.{begins, ends_paths, kept_next, kept_rows, scalar_written};
-ghost use Rattle.ppd_deps.specs.Named.{body_of, calls, local_writes, locals_of, passes, places};
+ghost use Rattle.ppd_deps.specs.Named.{calls, local_writes, passes, places};
 ghost use Rattle.ppd_deps.specs.Tables.{AreTables};
 ghost use Rattle.ppd_sets.specs.Used.{stmts_at};
 
@@ -258,7 +260,7 @@ pub(crate) fn arrivals(
     ensures reached { IfOk result
         (λ marks. (t : ℕ)
         → is_marked marks.items t
-        ≡ leads (closed
+        ≡ leads (closure
         (kept_rows program.now local.body (slice_get (locals_of program.now local.body) local.var))) starts.now t) }
 {
     let rows = kept_rows(alloc, program, tables, local)?;

@@ -2,8 +2,8 @@
 ghost use Rattle.std.specs.Prelude.{◌≡◌, ◌<◌, ◌^◌, map, length, true, false, IfOk};
 ghost use Rattle.std.specs.List.{range_with_len};
 ghost use Rattle.ppd_ast.specs.Valid.{IsValid};
+ghost use Rattle.ppd_ast.specs.Members.{has};
 ghost use Rattle.ppd_cfg.specs.Flow.{flow_rows, next_of};
-ghost use Rattle.ppd_cfg.specs.Lists.{has};
 ghost use Rattle.ppd_sets.specs.SetsOf.{AreSetsOf};
 ghost use Rattle.ppd_deps.specs.Named.{local_reads, local_writes, processes, running, shared_reads};
 ghost use Rattle.ppd_deps.specs.Tables.{AreTables};

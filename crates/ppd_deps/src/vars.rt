@@ -3,10 +3,11 @@ ghost use Rattle.std.specs.Prelude.{◌≡◌, ◌≤◌, slice_get, IfOk};
 ghost use Rattle.std.specs.List.{filter, list_any};
 ghost use Rattle.ppd_ast.specs.Cells.{size, after, holds};
 ghost use Rattle.ppd_ast.specs.Valid.{IsValid};
-ghost use Rattle.ppd_cfg.specs.Lists.{has};
+ghost use Rattle.ppd_ast.specs.Members.{has};
+ghost use Rattle.ppd_ast.specs.Lookups.{body_of, params_of, locals_of};
 ghost use Rattle.ppd_sets.specs.Gained.{Gains, HasCells};
 ghost use Rattle.ppd_sets.specs.Used.{is_met, reads_at, vars_met, writes_at};
-ghost use Rattle.ppd_deps.specs.Named.{body_of, calls, locals_of, params_of};
+ghost use Rattle.ppd_deps.specs.Named.{calls};
 ghost use Rattle.ppd_deps.specs.Tables.{AreSmall};
 
 use ppd_ast::{Cells, Kind, Memory, Program, Var};

@@ -12,6 +12,7 @@ use Rattle.ppd_ast.specs.declared.status.SyncKind.TheVariants as sync_kind
 use Rattle.ppd_ast.specs.declared.status.Trap.{Trap as TrapOf}
 use Rattle.ppd_entry.specs.IntervalLogs.{IntervalLog}
 use Rattle.ppd_entry.specs.Pieces.{Piece, unit, sync, nested, unfinished, postlog, finish}
+use Rattle.ppd_entry.specs.Entries.{same_kind}
 use Rattle.ppd_sem.specs.declared.proc.Need.{Need}
 use Rattle.ppd_sem.specs.declared.proc.Need.TheVariants.{Read, Write, Plain, Enter, Leave, Invoke, Back, P, V, Send, Offer, Done, Recv, End, Trap, Budget, Stopped}
 use Rattle.ppd_sem.specs.declared.proc.Proc.{Proc}
@@ -28,7 +29,7 @@ use Rattle.ppd_emul.specs.declared.wanted.Found.{Found}
 use Rattle.ppd_emul.specs.declared.wanted.Found.TheVariants as found
 use Rattle.ppd_emul.specs.declared.wanted.Wanted.{Wanted}
 use Rattle.ppd_emul.specs.declared.wanted.Wanted.TheVariants as wanted
-use Rattle.ppd_emul.specs.Fits.{found_of, wanted_of, same_kind, same_trap, fits}
+use Rattle.ppd_emul.specs.Fits.{found_of, wanted_of, same_trap, fits}
 use Rattle.ppd_emul.specs.Replay.{Replaying, Replayed, Turn, more, done, begun_replay, counted, end_here, fail, finished, go_on, goes_on, is_budget, next_piece, replay, replay_from, step_with, step_without, take_unit, take_unit_if, turn, turn_at_end, turn_at_trap, turn_by_end, turn_by_wanted, turn_within, unit_taken, with_event, with_call, with_item, with_write, past_piece, received, stepped}
 use Rattle.ppd_emul.specs.Laws.{as_found, FailuresDiffer, IsTrap}
 use Rattle.ppd_sem.specs.declared.proc.Answer.TheVariants.{Go}

@@ -10,6 +10,7 @@ use Rattle.ppd_ast.specs.declared.status.SyncKind.TheVariants as sync_kind
 use Rattle.ppd_ast.specs.declared.status.Trap.{Trap as TrapOf}
 use Rattle.ppd_ast.specs.declared.status.Trap.TheVariants as trap
 use Rattle.ppd_entry.specs.Pieces.{Piece, unit, sync, nested, unfinished, postlog, finish}
+use Rattle.ppd_entry.specs.Entries.{same_kind}
 use Rattle.ppd_sem.specs.declared.proc.Need.{Need}
 use Rattle.ppd_sem.specs.declared.proc.Need.TheVariants.{Enter, Invoke, P, V, Send, Offer, Done, Recv, Trap}
 use Rattle.ppd_sem.specs.declared.proc.Proc.{Proc}
@@ -57,15 +58,6 @@ wanted_of program plan s (Trap t) = Some (wanted.End (status.Trap t))
 wanted_of program plan s need = postlog_wanted (closed program plan s need)
 
 -- ---- whether they are one
-
--- the kinds are one
-abbrev pub same_kind : SyncKind → SyncKind → Bool
-same_kind sync_kind.P sync_kind.P = true
-same_kind sync_kind.V sync_kind.V = true
-same_kind sync_kind.Send sync_kind.Send = true
-same_kind sync_kind.Recv sync_kind.Recv = true
-same_kind sync_kind.Done sync_kind.Done = true
-same_kind a b = false
 
 -- the traps are one
 abbrev pub same_trap : TrapOf → TrapOf → Bool

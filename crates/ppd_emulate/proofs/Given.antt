@@ -11,9 +11,8 @@ use Rattle.ppd_emul.specs.Replay.{Replayed, replay}
 use Rattle.ppd_emul.specs.declared.trace.BlockTrace.{BlockTrace}
 use Rattle.ppd_emul.specs.declared.trace.EmulError.{EmulError}
 use Rattle.ppd_emul.specs.declared.trace.EmulError.TheVariants.{Diverged, Memory}
-use Rattle.ppd_replay.specs.Laws.{EmulationsGiveIntervals, GivesIntervalAt, IsAnswerOf}
+use Rattle.ppd_replay.specs.Laws.{EmulationsGiveIntervals, GivesIntervalAt, IsAnswerOf, GivesIntervals}
 use Rattle.ppd_emulate.specs.Emulated.{IfTold}
-use Rattle.ppd_emulate.specs.Intervals.{GivesIntervals}
 
 -- the two clauses are an answer
 answers : (x : Replayed) (before after : ℕ) (r : Result BlockTrace EmulError) → IfTold r (r ≡ x.answer)

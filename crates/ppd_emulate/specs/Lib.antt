@@ -1,5 +1,4 @@
 -- The replay of one interval in code: its parts and what they answer.
 pub mod Held
 pub mod Emulated
-pub mod Intervals
 pub mod Spending

@@ -1,7 +1,7 @@
 ghost use Rattle.std.specs.Prelude.{◌≡◌, ◌+◌, ◌<◌, ◌≤◌, IfOk};
+ghost use Rattle.ppd_replay.specs.Laws.{GivesIntervals};
 ghost use Rattle.ppd_ast.specs.Valid.{IsValid};
 ghost use Rattle.ppd_ast.specs.ValidPlan.{IsValidPlan};
-ghost use Rattle.ppd_emulate.specs.Intervals.{GivesIntervals};
 ghost use Rattle.ppd_emulate.specs.Spending.{HasFewItems};
 ghost use Rattle.ppd_emulate.specs.Emulated.{IfTold, IsGoing, IsSound, ended, replaying};
 ghost use Rattle.ppd_emul.specs.Replay.{begun_replay, go_on, replay, replay_from, take_unit as take_unit_of};

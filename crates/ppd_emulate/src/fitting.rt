@@ -1,6 +1,7 @@
 ghost use Rattle.std.specs.Prelude.{◌≡◌, IfOk};
-ghost use Rattle.ppd_emul.specs.Fits.{fits as fits_of, found_of as found_of_piece, same_kind, same_trap};
+ghost use Rattle.ppd_emul.specs.Fits.{fits as fits_of, found_of as found_of_piece, same_trap};
 ghost use Rattle.ppd_entry.specs.Pieces.{piece_of};
+ghost use Rattle.ppd_entry.specs.Entries.{same_kind};
 ghost use Rattle.ppd_emul.specs.declared.wanted.Wanted.TheVariants as wanted;
 
 use ppd_ast::{Memory, Nums, Seq, SyncKind, Trap};

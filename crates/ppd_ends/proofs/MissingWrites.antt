@@ -3,8 +3,9 @@ use Rattle.std.proofs.Common.{◌≡◌, ℕ, suc, ◌+◌, ℤ, Bool, true, fal
 use Rattle.std.specs.Prelude.{filter, fold, slice_get, ⊤}
 use Rattle.ppd_ast.specs.declared.plan.Plan.{Plan}
 use Rattle.ppd_ast.specs.declared.program.Program.{Program}
-use Rattle.ppd_bits.specs.CellSets.{has}
+use Rattle.ppd_ast.specs.Members.{has}
 use Rattle.ppd_entry.specs.declared.entry.Logs.{Logs}
+use Rattle.ppd_entry.specs.Entries.{entries_at}
 use Rattle.ppd_graph.specs.declared.sets.EdgeSets.{EdgeSets}
 use Rattle.ppd_graph.specs.Graphs.{sets_at}
 use Rattle.ppd_graph.specs.LogRecord.{edge_sets_in, no_sets}
@@ -24,7 +25,7 @@ use Rattle.ppd_search.specs.declared.walked.Walked.{Walked}
 use Rattle.ppd_search.specs.declared.walked.Walked.TheVariants.{Stopped, Passed, Found}
 use Rattle.ppd_search.specs.Found.{and_more, before_others, edges_if, item_edges, read_edge, read_edges, read_if}
 use Rattle.ppd_search.specs.Seen.{Seen, items_at}
-use Rattle.ppd_search.specs.Shared.{Missing, edge_of_place, entries_of, greater, greatest_before, greatest_writing, is_before_in, missing, origin_in, own_or, seen_at, shared_origin, walk_in, writing, writing_from, writing_in, written_at, written_or_start}
+use Rattle.ppd_search.specs.Shared.{Missing, edge_of_place, greater, greatest_before, greatest_writing, is_before_in, missing, origin_in, own_or, seen_at, shared_origin, walk_in, writing, writing_from, writing_in, written_at, written_or_start}
 use Rattle.ppd_search.specs.Walk.{walk}
 
 -- each of these edges has the property
@@ -107,7 +108,7 @@ module _ (program : Program) (plan : Plan) (logs : Logs) (xs : List Seen)
 
   of_edge : (c : ℕ) (a : EdgeId) → Writes c sets a → IsRecorded logs (missing logs c a)
   of_edge c a h =
-      let e = entry_records c (entries_of logs a.process) a.edge
+      let e = entry_records c (entries_at logs a.process) a.edge
       (all_end_last program plan 0 logs.lists a.process accepted)
       (ap (λ (u : EdgeSets). has u.writes c) (sym (sets_of_process logs.lists a.process a.edge)) ∙ h) in
       record { entry = e.entry; there = e.there; writes = e.writes }

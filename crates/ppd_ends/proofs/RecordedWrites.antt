@@ -3,13 +3,14 @@ use Rattle.std.proofs.Common.{◌≡◌, ℕ, zero, suc, ◌+◌, Bool, true, fa
 use Rattle.std.specs.Prelude.{slice_get, ⊤}
 use Rattle.ppd_ast.specs.declared.plan.Plan.{Plan}
 use Rattle.ppd_ast.specs.declared.program.Program.{Program}
-use Rattle.ppd_bits.specs.CellSets.{has}
+use Rattle.ppd_ast.specs.Members.{has}
 use Rattle.ppd_entry.specs.declared.entry.Entry.{Entry}
 use Rattle.ppd_entry.specs.declared.entry.Entry.TheVariants as entry
 use Rattle.ppd_entry.specs.IntervalLogs.{Indexing, begun_indexing, index_step}
+use Rattle.ppd_entry.specs.Entries.{is_end}
 use Rattle.ppd_graph.specs.declared.sets.EdgeSets.{EdgeSets}
 use Rattle.ppd_graph.specs.LogRecord.{no_sets, sets_from}
-use Rattle.ppd_index.specs.Refusals.{first_bad, first_from, first_in_lists, is_end, refusal, standing}
+use Rattle.ppd_index.specs.Refusals.{first_bad, first_from, first_in_lists, refusal, standing}
 use Rattle.ppd_model.specs.FullTrace.{or_else}
 use Rattle.ppd_ends.specs.Missing.{writes_of}
 use Rattle.ppd_search.specs.Ends.{ending}

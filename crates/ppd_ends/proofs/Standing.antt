@@ -4,9 +4,10 @@ use Rattle.std.specs.Prelude.{nat_le, nat_lt, option_map, slice_get, ifâ—Œthenâ—
 use Rattle.std.proofs.lemmas.List.{drop_more, length-map}
 use Rattle.std.proofs.lemmas.Option.{get_or_from_slice_get, slice_get_within}
 use Rattle.ppd_entry.specs.declared.entry.Entry.{Entry}
+use Rattle.ppd_entry.specs.Entries.{entries_at}
 use Rattle.ppd_index.specs.declared.interval.Interval.{Interval}
 use Rattle.ppd_index.specs.declared.row.Row.{Row}
-use Rattle.ppd_index.specs.Indexes.{IsIndexOf, entries_at, interval_of, rows_at}
+use Rattle.ppd_index.specs.Indexes.{IsIndexOf, interval_of, rows_at}
 use Rattle.ppd_index.specs.Tables.{extent_of}
 use Rattle.ppd_model.specs.Extents.{Extent, extents}
 use Rattle.ppd_past.specs.declared.past.Past.{Past}

@@ -1,18 +1,18 @@
 -- What is found of internal edges in the index and the graph of a past.
 use Rattle.std.specs.Prelude.{ℕ, ◌+◌, Bool, true, false, ◌&&◌, List, [], ◌∷◌, Option, Some, None, if◌then◌else◌, ⊤}
-use Rattle.ppd_bits.specs.CellSets.{has}
+use Rattle.ppd_ast.specs.Members.{has}
 use Rattle.ppd_graph.specs.declared.sets.EdgeSets.{EdgeSets}
 use Rattle.ppd_graph.specs.declared.sync_graph.SyncGraph.{SyncGraph}
 use Rattle.ppd_graph.specs.Graphs.{IsEdge}
 use Rattle.ppd_model.specs.declared.graph.EdgeId.{EdgeId}
 use Rattle.ppd_model.specs.Extents.{Extent}
-use Rattle.ppd_search.specs.Ends.{stands_in}
+use Rattle.ppd_search.specs.Ends.{is_in_extent}
 use Rattle.ppd_search.specs.Shared.{greater}
 
 -- entry n stands in the interval, which is there
 abbrev pub stands_there : ℕ → Option Extent → Bool
 stands_there n None = false
-stands_there n (Some x) = stands_in n x
+stands_there n (Some x) = is_in_extent n x
 
 -- the edge is one of the graph, if there is one
 abbrev pub IsEdgeIf : SyncGraph → Option EdgeId → Type 0

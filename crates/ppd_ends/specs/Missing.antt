@@ -2,14 +2,15 @@
 use Rattle.std.specs.Prelude.{◌≡◌, ℕ, true, List, [], slice_get, Some, None, Err}
 use Rattle.ppd_ast.specs.declared.plan.Plan.{Plan}
 use Rattle.ppd_ast.specs.declared.program.Program.{Program}
-use Rattle.ppd_bits.specs.CellSets.{has}
+use Rattle.ppd_ast.specs.Members.{has}
 use Rattle.ppd_entry.specs.declared.entry.Entry.{Entry}
 use Rattle.ppd_entry.specs.declared.entry.Entry.TheVariants as entry
 use Rattle.ppd_entry.specs.declared.entry.Logs.{Logs}
+use Rattle.ppd_entry.specs.Entries.{entries_at}
 use Rattle.ppd_index.specs.Refusals.{first_in_lists}
 use Rattle.ppd_search.specs.Found.{found_edges}
 use Rattle.ppd_search.specs.Seen.{Seen}
-use Rattle.ppd_search.specs.Shared.{Missing, entries_of, found_last, shared_origin}
+use Rattle.ppd_search.specs.Shared.{Missing, found_last, shared_origin}
 
 -- the cells that an entry records as written in the edge that it ends
 abbrev pub writes_of : Entry → List ℕ
@@ -20,7 +21,7 @@ writes_of e = []
 -- the entry is there, and its write set has the cell
 pub record IsRecorded (logs : Logs) (m : Missing) : Type 0 where
   pub entry : Entry
-  pub there : slice_get (entries_of logs m.process) m.entry ≡ Some entry
+  pub there : slice_get (entries_at logs m.process) m.entry ≡ Some entry
   pub writes : has (writes_of entry) m.cell ≡ true
 
 -- so it is with each write that a search misses in logs that the index accepts, whatever is seen of the processes

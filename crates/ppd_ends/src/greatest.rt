@@ -1,5 +1,5 @@
 ghost use Rattle.std.specs.Prelude.{◌≡◌, ◌&&◌, IfOk, nat_eq, nat_lt, slice_get, Some, None};
-ghost use Rattle.ppd_bits.specs.CellSets.{has};
+ghost use Rattle.ppd_ast.specs.Members.{has};
 ghost use Rattle.ppd_ends.specs.Found.{IsEdgeIf, greater_if as greater_with, greatest_from, greatest_in, is_within as is_in_limit};
 ghost use Rattle.ppd_graph.specs.Graphs.{IsEdge};
 ghost use Rattle.ppd_model.specs.HappenedBefore.{edge as edge_of};

@@ -1,13 +1,13 @@
 ghost use Rattle.std.specs.Prelude.{◌≡◌, ◌-◌, count_by, drop, filter_map, length, take};
+ghost use Rattle.ppd_entry.specs.Entries.{entries_at};
 ghost use Rattle.ppd_search.specs.Ends.{is_sync as is_sync_entry, syncs_before as syncs_before_in};
-ghost use Rattle.ppd_search.specs.Shared.{entries_of as entries_in};
 ghost use Rattle.ppd_model.specs.RecordedSets.{sync_in};
 
 use ppd_entry::{Entry, Logs};
 
 /// The entries of a process, and none past the processes.
 pub fn entries_of(logs: &Logs, process: u8) -> &[Entry]
-    ensures { result.now ≡ entries_in logs.now process }
+    ensures { result.now ≡ entries_at logs.now process }
 {
     match logs.lists.as_slice().get(process as usize) {
         Some(entries) => entries.as_slice(),

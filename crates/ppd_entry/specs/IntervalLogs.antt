@@ -76,9 +76,9 @@ new_interval plan x b values = record {
 }
 
 -- the innermost interval is left: its postlog is its last piece, and it is a piece of the one round it
-abbrev pub left : Indexing → List ℕ → List ℤ → List Indexed
-left x [] values = x.intervals
-left x (k ∷ ks) values =
+abbrev pub left_interval : Indexing → List ℕ → List ℤ → List Indexed
+left_interval x [] values = x.intervals
+left_interval x (k ∷ ks) values =
     let i = interval_at x.intervals k in
     add_piece i.first (nested k i.log.block values) ks (inner x (postlog values))
 
@@ -96,7 +96,7 @@ index_by plan x (entry.Prelog b values) =
 index_by plan x (entry.Unit u values) = record x { intervals = inner x (unit u values) }
 index_by plan x (entry.Sync kind object number value reads writes) =
     record x { intervals = inner x (sync kind object number value) }
-index_by plan x (entry.Postlog b values) = record x { intervals = left x x.running values; running = drop 1 x.running }
+index_by plan x (entry.Postlog b values) = record x { intervals = left_interval x x.running values; running = drop 1 x.running }
 index_by plan x (entry.End status rest reads writes) =
     record x { intervals = left_open x.running (inner x (finish status rest)) }
 

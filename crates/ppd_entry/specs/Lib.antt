@@ -1,3 +1,4 @@
 -- The log of each interval, from the log of its process.
+pub mod Entries
 pub mod Pieces
 pub mod IntervalLogs

@@ -11,10 +11,11 @@ use Rattle.ppd_ast.specs.declared.program.Program.{Program}
 use Rattle.ppd_ast.specs.declared.program.Stmt.{Stmt}
 use Rattle.ppd_ast.specs.Valid.{EndsBody, IsValid}
 use Rattle.ppd_ast.proofs.ValidLaws.{stmt_in_body, valid_body}
-use Rattle.ppd_sem.specs.Blocks.{body_in, postlog_cells}
+use Rattle.ppd_ast.specs.Lookups.{kind_of_stmt, kind_of, body_of_stmt}
+use Rattle.ppd_sem.specs.Blocks.{postlog_cells}
 use Rattle.ppd_sem.specs.declared.proc.Todo.{Todo}
 use Rattle.ppd_sem.specs.Described.{ends_body}
-use Rattle.ppd_sem.specs.Process.{kind_of, kind_or_end, todos}
+use Rattle.ppd_sem.specs.Process.{todos}
 use Rattle.ppd_sem.specs.Tables.{block_of}
 use Rattle.ppd_beside.specs.Beside.{Each, IsBlock, IsCallOf, IsLast, IsListOf, IsOwnTodo, IsReturn}
 use Rattle.ppd_beside.specs.Held.{IsWritingBlock}
@@ -53,8 +54,8 @@ module _ (program : Program) (v : IsValid program) (f : ℕ) where
   body_within : (s : ℕ) → IsOf program f s → (stmts : List ℕ) → IsListOf (kind_of program s) stmts
       → Each (IsOf program f) stmts
   body_within s h stmts is =
-      each_of (IsAt program (Some s) (body_in (slice_get program.stmts s))) (IsOf program f) stmts
-      (λ i at. record { stmt = at.stmt; there = at.there; body = at.body ∙ ap body_in h.there ∙ h.body })
+      each_of (IsAt program (Some s) (body_of_stmt (slice_get program.stmts s))) (IsOf program f) stmts
+      (λ i at. record { stmt = at.stmt; there = at.there; body = at.body ∙ ap body_of_stmt h.there ∙ h.body })
       (listed program s stmts v is)
 
   pub body_block : IsBlock program EachCell (IsOf program f) (HasCall program (IsOf program f))
@@ -82,7 +83,7 @@ module _ (program : Program) (v : IsValid program) (f : ℕ) where
       let below : program.functions ≤ h.stmt.body = omega (arith, h.body, le) in
       no_return own.0 s h.stmt.kind
       ((valid_body program h.stmt.body own.0 v own.1).process
-      ∙ le-leb program.functions h.stmt.body below) own.2.ending (subst IsReturn (ap kind_or_end h.there) r)
+      ∙ le-leb program.functions h.stmt.body below) own.2.ending (subst IsReturn (ap kind_of_stmt h.there) r)
 
   -- the last of what is to do at the beginning of body f, which ends it
   pub record IsCloser (closer : Todo) : Type 0 where

@@ -1,17 +1,16 @@
 -- Of every state of a run: each frame but the lowest is of a function that a statement of the frame below calls.
-use Rattle.std.proofs.Common.{◌≡◌, ℕ, ◌≤◌, ℤ, List, [], ◌∷◌, Option, Some, None, refl, sym, subst, ◌∙◌, arith}
+use Rattle.std.proofs.Common.{◌≡◌, ℕ, ◌≤◌, ℤ, List, [], ◌∷◌, Option, Some, None, refl, sym, subst, arith}
 use Rattle.std.specs.Prelude.{⊤, slice_get}
 use Rattle.ppd_ast.specs.declared.plan.Plan.{Plan}
 use Rattle.ppd_ast.specs.declared.program.Program.{Program}
-use Rattle.ppd_ast.specs.declared.program.Stmt.{Stmt}
-use Rattle.ppd_sem.specs.Blocks.{body_in}
+use Rattle.ppd_ast.specs.Lookups.{kind_of, body_of_stmt, body_of}
 use Rattle.ppd_sem.specs.declared.proc.Answer.{Answer}
 use Rattle.ppd_sem.specs.declared.proc.Frame.{Frame}
 use Rattle.ppd_sem.specs.declared.proc.Proc.{Proc}
 use Rattle.ppd_sem.specs.declared.proc.Todo.{Todo}
 use Rattle.ppd_sem.specs.Deed.{Deed, set_local, clear, invoke, back, receive}
-use Rattle.ppd_sem.specs.Process.{act, act_by_deed, clear_top, into_of, kind_of, new_frame, receive_at, returned, returned_from, started, top_cells, write_top}
-use Rattle.ppd_model.proofs.Homes.{AreHome, IsHome as IsHomeAll, bodies_of, body_at, body_if}
+use Rattle.ppd_sem.specs.Process.{act, act_by_deed, clear_top, into_of, new_frame, receive_at, returned, returned_from, started, top_cells, write_top}
+use Rattle.ppd_model.proofs.Homes.{AreHome, IsHome as IsHomeAll, bodies_of}
 use Rattle.ppd_beside.specs.Beside.{IsCallOf, Suits, Yields}
 use Rattle.ppd_beside.proofs.Deeds.{suits}
 use Rattle.ppd_facts.proofs.Keeping.{keeps}
@@ -20,7 +19,7 @@ pub record IsCalledFrom (program : Program) (f g : Frame) : Type 0 where
   pub stmt : ℕ
   pub stmt_is : f.call ≡ Some stmt
   pub calls : IsCallOf (kind_of program stmt) f.body
-  pub home : body_in (slice_get program.stmts stmt) ≡ g.body
+  pub home : body_of_stmt (slice_get program.stmts stmt) ≡ g.body
 
 -- the lowest is a process's
 abbrev pub AreCalled : Program → List Frame → Type 0
@@ -28,19 +27,12 @@ AreCalled program [] = ⊤
 AreCalled program (f ∷ []) = (f.call ≡ None) × (program.functions ≤ f.body)
 AreCalled program (f ∷ g ∷ fs) = IsCalledFrom program f g × AreCalled program (g ∷ fs)
 
-pub body_same : (program : Program) (s : ℕ) → body_at program s ≡ body_in (slice_get program.stmts s)
-body_same program s = by (slice_get program.stmts s)
-  where
-    by : (o : Option Stmt) → body_if o ≡ body_in o
-    by None = refl
-    by (Some x) = refl
-
 -- the head is of the body of the top frame
 pub head_home : (program : Program) (frames : List Frame) (t : Todo) (ts : List Todo)
     → AreHome program (bodies_of frames) (t ∷ ts) → (f : Frame) × (fs : List Frame) × (frames ≡ f ∷ fs)
-    × (body_in (slice_get program.stmts t.stmt) ≡ f.body)
+    × (body_of_stmt (slice_get program.stmts t.stmt) ≡ f.body)
 head_home program [] t ts h = absurd h
-head_home program (f ∷ fs) t ts h = (f, fs, refl, sym (body_same program t.stmt) ∙ h.0)
+head_home program (f ∷ fs) t ts h = (f, fs, refl, h.0)
 
 module _ (program : Program) where
   with_cells : (cells : List ℤ) (f : Frame) (fs : List Frame) → AreCalled program (f ∷ fs)
@@ -80,7 +72,7 @@ module _ (program : Program) where
   returned_called value (f ∷ fs) h = from_called f.call value fs (below_called f fs h)
 
   new_called : (t : Todo) (g : ℕ) (values : List ℤ) (frames : List Frame) (f : Frame) (fs : List Frame)
-      → frames ≡ f ∷ fs → body_in (slice_get program.stmts t.stmt) ≡ f.body → IsCallOf (kind_of program t.stmt) g
+      → frames ≡ f ∷ fs → body_of_stmt (slice_get program.stmts t.stmt) ≡ f.body → IsCallOf (kind_of program t.stmt) g
       → AreCalled program frames → AreCalled program (new_frame program g values (Some t.stmt) ∷ frames)
   new_called t g values frames f fs is home calls h =
       subst (λ xs. AreCalled program (new_frame program g values (Some t.stmt) ∷ xs)) (sym is)

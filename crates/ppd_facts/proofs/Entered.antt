@@ -6,12 +6,13 @@ use Rattle.ppd_ast.specs.declared.plan.Plan.{Plan}
 use Rattle.ppd_ast.specs.declared.program.Kind.{Kind}
 use Rattle.ppd_ast.specs.declared.program.Kind.TheVariants as kind
 use Rattle.ppd_ast.specs.declared.program.Program.{Program}
+use Rattle.ppd_ast.specs.Lookups.{kind_of}
 use Rattle.ppd_sem.specs.declared.proc.Answer.{Answer}
 use Rattle.ppd_sem.specs.declared.proc.Frame.{Frame}
 use Rattle.ppd_sem.specs.declared.proc.Proc.{Proc}
 use Rattle.ppd_sem.specs.declared.proc.Todo.{Todo}
 use Rattle.ppd_sem.specs.Deed.{Deed, branch, turn, invoke}
-use Rattle.ppd_sem.specs.Process.{act, act_by_deed, entry_of, kind_of, loop_of, started, todos}
+use Rattle.ppd_sem.specs.Process.{act, act_by_deed, entry_of, loop_of, started, todos}
 use Rattle.ppd_sem.specs.Tables.{block_of}
 use Rattle.ppd_beside.specs.Beside.{Each}
 use Rattle.ppd_beside.specs.Opens.{IsWhile}

@@ -3,9 +3,9 @@ use Rattle.std.proofs.Common.{◌≡◌, List, ◌∷◌, ap, subst, ◌∙◌, 
 use Rattle.ppd_ast.specs.declared.plan.Plan.{Plan}
 use Rattle.ppd_ast.specs.declared.program.Program.{Program}
 use Rattle.ppd_ast.specs.Valid.{IsValid}
+use Rattle.ppd_ast.specs.Lookups.{kind_of}
 use Rattle.ppd_sem.specs.declared.proc.Proc.{Proc}
 use Rattle.ppd_sem.specs.declared.proc.Todo.{Todo}
-use Rattle.ppd_sem.specs.Process.{kind_of}
 use Rattle.ppd_model.proofs.Homes.{AreHome, bodies_of}
 use Rattle.ppd_beside.specs.Beside.{IsEnd}
 use Rattle.ppd_beside.specs.Fine.{IsFine}

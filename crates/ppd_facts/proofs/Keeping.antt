@@ -7,6 +7,7 @@ use Rattle.ppd_ast.specs.declared.plan.Start.TheVariants as start
 use Rattle.ppd_ast.specs.declared.program.Program.{Program}
 use Rattle.ppd_ast.specs.declared.status.Status.{Status}
 use Rattle.ppd_ast.specs.declared.status.Trap.TheVariants as trap
+use Rattle.ppd_ast.specs.Lookups.{kind_of}
 use Rattle.ppd_sem.specs.declared.asking.Pause.TheVariants.{Wants, Traps}
 use Rattle.ppd_sem.specs.declared.proc.Answer.{Answer}
 use Rattle.ppd_sem.specs.declared.proc.Frame.{Frame}
@@ -16,7 +17,7 @@ use Rattle.ppd_sem.specs.declared.proc.Proc.{Proc}
 use Rattle.ppd_sem.specs.declared.proc.Todo.{Todo}
 use Rattle.ppd_sem.specs.Asked.{Asked}
 use Rattle.ppd_sem.specs.Deed.{Deed, leave, invoke, send}
-use Rattle.ppd_sem.specs.Process.{act, act_at, act_by_asked, act_by_deed, act_by_need, chan_of, cost, entry_of, head_deed, kind_of, need_by_entry, need_by_offer, need_by_status, need_of, need_of_asked, need_of_deed, need_of_head, need_of_leaving, need_of_send, offer_of, value_of}
+use Rattle.ppd_sem.specs.Process.{act, act_at, act_by_asked, act_by_deed, act_by_need, chan_of, cost, entry_of, head_deed, need_by_entry, need_by_offer, need_by_status, need_of, need_of_asked, need_of_deed, need_of_head, need_of_leaving, need_of_send, offer_of, value_of}
 use Rattle.ppd_sem.specs.Tables.{block_of, capacity_of, unit_of}
 use Rattle.ppd_sem.proofs.Offers.{offer_there}
 use Rattle.ppd_sem.proofs.Progress.{need_at_todo}

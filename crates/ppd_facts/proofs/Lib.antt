@@ -13,4 +13,5 @@ pub mod Counted
 pub mod State
 pub mod Ended
 pub mod Fine
+pub mod BlockKinds
 pub mod FunctionBlocks

@@ -10,22 +10,20 @@ use Rattle.ppd_ast.specs.declared.program.Kind.TheVariants as kind
 use Rattle.ppd_ast.specs.declared.program.Program.{Program}
 use Rattle.ppd_ast.specs.Numbered.{is_while}
 use Rattle.ppd_ast.specs.Valid.{IsValid}
+use Rattle.ppd_ast.specs.Members.{has}
+use Rattle.ppd_ast.specs.Lookups.{kind_of, body_of_stmt}
+use Rattle.ppd_ast.proofs.Members.{has_first, has_later, has_cons, has_left, has_right, has_filter, below_range}
 use Rattle.ppd_blocks.specs.Blocks.{plan_of, prelog_of}
-use Rattle.ppd_cfg.specs.Flow.{kind_of as kind_in}
-use Rattle.ppd_cfg.specs.Lists.{has}
-use Rattle.ppd_cfg.proofs.Has.{below_range, has_cons, has_filter, has_first, has_later, has_left, has_right}
-use Rattle.ppd_course.proofs.Ways.{same_kind}
-use Rattle.ppd_sem.specs.Blocks.{body_in, postlog_cells, postlog_in, prelog_cells, prelog_in}
+use Rattle.ppd_sem.specs.Blocks.{postlog_cells, postlog_in, prelog_cells, prelog_in}
 use Rattle.ppd_sem.specs.declared.proc.Todo.{Todo}
 use Rattle.ppd_sem.specs.Described.{ends_body}
-use Rattle.ppd_sem.specs.Process.{kind_of}
 use Rattle.ppd_sem.specs.Tables.{block_of}
 use Rattle.ppd_sets.specs.Named.{reads, writes}
 use Rattle.ppd_sets.specs.Used.{IsLoopDefined, loop_defined_of, loop_stmts, loop_used_of, reads_at, sorted, writes_at}
 use Rattle.ppd_sets.proofs.Looping.{loop_defined_by_statements, loop_used_by_statements}
 use Rattle.ppd_units.specs.Walk.{stands_in}
 use Rattle.ppd_units.proofs.Paths.{sorted_from}
-use Rattle.ppd_reads.proofs.Numbers.{block_loop, loop_is_while}
+use Rattle.ppd_step_laws.proofs.Units.Numbers.{block_loop, loop_is_while}
 use Rattle.ppd_beside.specs.Beside.{Each, IsBlock, IsListOf, IsReturn}
 use Rattle.ppd_beside.specs.Held.{Among, IsWritingBlock}
 use Rattle.ppd_beside.specs.Opens.{IsWhile}
@@ -59,17 +57,17 @@ unfolding sorted
 sorted_small cells c h = let r =
     below_range 0 1024 c (has_filter (has cells) (range_with_len 0 1024) c h).0 in omega (arith, r.1)
 
-module _ (program : Program) (q : ℕ) (is : is_while (kind_in program q) ≡ true) where
+module _ (program : Program) (q : ℕ) (is : is_while (kind_of program q) ≡ true) where
   used_small : (c : ℕ) → IsTrue (has (loop_used_of program q) c) → c < 1024
   used_small c h = sorted_small _ c
       (subst (λ l. IsTrue (has l c))
-      (cond-true (is_while (kind_in program q))
+      (cond-true (is_while (kind_of program q))
       (sorted (flat_map (reads_at false program) (loop_stmts program q))) [] is) h)
 
   defined_small : (c : ℕ) → IsTrue (has (loop_defined_of program q) c) → c < 1024
   defined_small c h = sorted_small _ c
       (subst (λ l. IsTrue (has l c))
-      (cond-true (is_while (kind_in program q))
+      (cond-true (is_while (kind_of program q))
       (sorted (flat_map (writes_at false program) (loop_stmts program q))) [] is) h)
 
   -- what the loop may read or write is in its prelog
@@ -99,11 +97,11 @@ closer_of q = record { stmt = q; entered = true; offered = false }
 
 module _ (program : Program) (policy : Policy) (v : IsValid program) (q b : ℕ)
     (e : block_of (plan_of program policy) (block.Loop q) ≡ Some b) where
-  looping : is_while (kind_in program q) ≡ true
+  looping : is_while (kind_of program q) ≡ true
   looping = loop_is_while program policy q (block_loop program policy q b e)
 
   pub loop_kind : IsWhile (kind_of program q)
-  loop_kind = while_is (kind_of program q) (ap is_while (same_kind program q) ∙ looping)
+  loop_kind = while_is (kind_of program q) looping
 
   -- the loop's postlog and prelog
   pub postlog_is : postlog_cells (plan_of program policy) b ≡ loop_defined_of program q
@@ -115,7 +113,7 @@ module _ (program : Program) (policy : Policy) (v : IsValid program) (q b : ℕ)
   loop_within : (s : ℕ) → IsWithin program q s → (stmts : List ℕ) → IsListOf (kind_of program s) stmts
       → Each (IsWithin program q) stmts
   loop_within s h stmts is =
-      each_of (IsAt program (Some s) (body_in (slice_get program.stmts s))) (IsWithin program q) stmts
+      each_of (IsAt program (Some s) (body_of_stmt (slice_get program.stmts s))) (IsWithin program q) stmts
       (λ i at. child_within program q s i at.stmt v at.there at.parent h)
       (listed program s stmts v is)
 
@@ -126,7 +124,7 @@ module _ (program : Program) (policy : Policy) (v : IsValid program) (q b : ℕ)
       (record {
         stmt = s;
         inside = within_listed program q s v h;
-        read = subst (λ k. IsTrue (has (reads false program.exprs k) c)) (same_kind program s) r;
+        read = r;
       }))
 
   written_defined : (s : ℕ) → IsWithin program q s → (c : ℕ) → IsTrue (has (writes false (kind_of program s)) c)
@@ -136,7 +134,7 @@ module _ (program : Program) (policy : Policy) (v : IsValid program) (q b : ℕ)
       (record {
         stmt = s;
         inside = within_listed program q s v h;
-        written = subst (λ k. IsTrue (has (writes false k) c)) (same_kind program s) w;
+        written = w;
       })
 
   pub loop_block_is : IsBlock program (IsPrelogged program q) (IsWithin program q)

@@ -7,12 +7,12 @@ use Rattle.ppd_ast.specs.declared.program.Kind.TheVariants.{Set, Zero, If, While
 use Rattle.ppd_ast.specs.declared.program.Target.TheVariants as target
 use Rattle.ppd_ast.specs.Term.{Term, const, local, local_at, shared, shared_at, neg, not, two, and, or, term}
 use Rattle.ppd_ast.specs.Uses.{kind_uses}
-use Rattle.ppd_cfg.specs.Lists.{has}
-use Rattle.ppd_cfg.proofs.Has.{flat_from, has_first, has_later, has_left, has_right, in_bounds_has}
+use Rattle.ppd_ast.specs.Members.{has}
+use Rattle.ppd_ast.proofs.Members.{has_first, has_later, has_left, has_right, in_bounds_has, flat_from}
 use Rattle.ppd_sets.specs.Named.{cells_in, local_cells, reads, writes}
-use Rattle.ppd_course.proofs.Outward.{some_is}
+use Rattle.ppd_step_laws.proofs.Course.Outward.{some_is}
 use Rattle.ppd_beside.specs.Held.{IsWriting}
-use Rattle.ppd_beside.specs.Over.{AreOver, IsKindOver, IsOver}
+use Rattle.ppd_beside.specs.Over.{AreOverCells, IsKindOver, IsOverCells}
 
 in_cells : (base len k : ℕ) → k < len → IsTrue (has (local_cells false base len) (base + k))
 in_cells base len k lt = in_bounds_has base len (base + k) (omega arith) (omega arith)
@@ -21,7 +21,7 @@ one_cell : (c : ℕ) → IsTrue (has (local_cells false c 1) c)
 one_cell c = in_bounds_has c 1 c (omega arith) (omega arith)
 
 module _ (used : ℕ → Type 0) where
-  over : (t : Term) → ((c : ℕ) → IsTrue (has (cells_in false t) c) → used c) → IsOver used t
+  over : (t : Term) → ((c : ℕ) → IsTrue (has (cells_in false t) c) → used c) → IsOverCells used t
   over (const v) h = tt
   over (local c) h = h c (one_cell c)
   over (local_at base len i) h = (
@@ -49,11 +49,11 @@ module _ (used : ℕ → Type 0) where
   )
 
   module _ (es : List Expr) where
-    all_over : (as' : List ℕ) → ((e : ℕ) → IsTrue (has as' e) → IsOver used (term es e)) → AreOver used es as'
+    all_over : (as' : List ℕ) → ((e : ℕ) → IsTrue (has as' e) → IsOverCells used (term es e)) → AreOverCells used es as'
     all_over [] h = tt
     all_over (a ∷ as') h = (h a (has_first a as'), all_over as' (λ e i. h e (has_later a e as' i)))
 
-    by_uses : (k : Kind) → ((e : ℕ) → IsTrue (has (kind_uses k) e) → IsOver used (term es e)) → IsKindOver used es k
+    by_uses : (k : Kind) → ((e : ℕ) → IsTrue (has (kind_uses k) e) → IsOverCells used (term es e)) → IsKindOver used es k
     by_uses (Set (target.Local c) e) h = h e (has_first e [])
     by_uses (Set (target.LocalAt base len i) e) h =
         (h i (has_first i (e ∷ [])), h e (has_later i e (e ∷ []) (has_first e [])))

@@ -11,18 +11,17 @@ use Rattle.ppd_ast.specs.Order.{StandIn, inner}
 use Rattle.ppd_ast.specs.Valid.{CallsRightly, EndsBody, IsEnding, IsValid, last_of}
 use Rattle.ppd_ast.proofs.Standing.{All-append_parts}
 use Rattle.ppd_ast.proofs.ValidLaws.{some_and, stmt_in_body, valid_body, valid_stmt}
-use Rattle.ppd_cfg.specs.Lists.{has}
+use Rattle.ppd_ast.specs.Members.{has}
+use Rattle.ppd_ast.specs.Lookups.{kind_of_stmt, kind_of, top_of_body, body_of_stmt}
+use Rattle.ppd_ast.proofs.Members.{has_first, has_later}
 use Rattle.ppd_cfg.specs.Flow.{follow}
-use Rattle.ppd_cfg.proofs.Has.{has_first, has_later}
-use Rattle.ppd_course.proofs.Chains.{IsChain, top_chain}
-use Rattle.ppd_course.proofs.Last.{ends_are_last}
-use Rattle.ppd_course.proofs.Rising.{top_stands}
-use Rattle.ppd_course.proofs.Outward.{none_some, some_is}
-use Rattle.ppd_course.proofs.Ways.{same_kind}
-use Rattle.ppd_sem.specs.Blocks.{body_in}
+use Rattle.ppd_step_laws.proofs.Course.Chains.{IsChain, top_chain}
+use Rattle.ppd_step_laws.proofs.Course.Last.{ends_are_last}
+use Rattle.ppd_step_laws.proofs.Course.Rising.{top_stands}
+use Rattle.ppd_step_laws.proofs.Course.Outward.{none_some, some_is}
 use Rattle.ppd_sem.specs.declared.proc.Todo.{Todo}
 use Rattle.ppd_sem.specs.Described.{ends_body}
-use Rattle.ppd_sem.specs.Process.{kind_of, kind_or_end, todos, top_of}
+use Rattle.ppd_sem.specs.Process.{todos}
 use Rattle.ppd_beside.specs.Beside.{Each, HasEnd, HasEnds, IsCallOf, IsListOf, past_body}
 
 -- statement i is there, with this parent and in this body
@@ -57,11 +56,11 @@ list_stands program outer number k stmts is h = absurd is
 
 -- the statements of a list in statement s stand in s, in its body
 pub listed : (program : Program) (s : ℕ) (stmts : List ℕ) → IsValid program → IsListOf (kind_of program s) stmts
-    → Each (IsAt program (Some s) (body_in (slice_get program.stmts s))) stmts
+    → Each (IsAt program (Some s) (body_of_stmt (slice_get program.stmts s))) stmts
 listed program s stmts v is = by (slice_get program.stmts s) refl is
   where
-    by : (o : Option Stmt) → slice_get program.stmts s ≡ o → IsListOf (kind_or_end o) stmts
-        → Each (IsAt program (Some s) (body_in o)) stmts
+    by : (o : Option Stmt) → slice_get program.stmts s ≡ o → IsListOf (kind_of_stmt o) stmts
+        → Each (IsAt program (Some s) (body_of_stmt o)) stmts
     by None at h = absurd h
     by (Some x) at h = all_at program (Some s) x.body stmts
         (list_stands program (Some s) x.body x.kind stmts h (valid_stmt program s x v at).inside)
@@ -111,7 +110,7 @@ ends_outermost program i x v at e =
 -- so one that stands in another goes on
 pub inside_goes_on : (program : Program) (s number i : ℕ) → IsValid program → IsAt program (Some s) number i
     → ends_body (kind_of program i) ≡ false
-inside_goes_on program s number i v at = ap (λ o. ends_body (kind_or_end o)) at.there ∙ by (ends_body at.stmt.kind) refl
+inside_goes_on program s number i v at = ap (λ o. ends_body (kind_of_stmt o)) at.there ∙ by (ends_body at.stmt.kind) refl
   where
     by : (b : Bool) → ends_body at.stmt.kind ≡ b → ends_body at.stmt.kind ≡ false
     by true e = absurd (none_some (sym (ends_outermost program i at.stmt v at.there e) ∙ at.parent))
@@ -129,7 +128,7 @@ followed_goes_on program i j v f = by (ends_body (kind_of program i)) refl
   where
     by : (b : Bool) → ends_body (kind_of program i) ≡ b → ends_body (kind_of program i) ≡ false
     by true e = absurd (none_some
-        (sym (ends_are_last program i v (subst IsEnding (same_kind program i) (is_ending (kind_of program i) e)))
+        (sym (ends_are_last program i v (is_ending (kind_of program i) e))
         ∙ f))
     by false e = e
 
@@ -142,7 +141,7 @@ abbrev IsLastEnding : Program → Option ℕ → Type 0
 IsLastEnding program o = IsSomeAnd o (λ i. IsSomeAnd (slice_get program.stmts i) (λ s. IsEnding s.kind))
 
 ending_kind : (program : Program) (i : ℕ) (o : Option Stmt) → slice_get program.stmts i ≡ o
-    → IsSomeAnd o (λ s. IsEnding s.kind) → ends_body (kind_or_end o) ≡ true
+    → IsSomeAnd o (λ s. IsEnding s.kind) → ends_body (kind_of_stmt o) ≡ true
 ending_kind program i None at h = absurd h
 ending_kind program i (Some x) at h = ending_is x.kind h
 
@@ -201,21 +200,21 @@ callee_of program k f is h = absurd is
 pub callee : (program : Program) (s f : ℕ) → IsValid program → IsCallOf (kind_of program s) f → IsCallee program f
 callee program s f v is = by (slice_get program.stmts s) refl is
   where
-    by : (o : Option Stmt) → slice_get program.stmts s ≡ o → IsCallOf (kind_or_end o) f → IsCallee program f
+    by : (o : Option Stmt) → slice_get program.stmts s ≡ o → IsCallOf (kind_of_stmt o) f → IsCallee program f
     by None at h = absurd h
     by (Some x) at h = callee_of program x.kind f h (stmt_in_body program s x v at).2.call
 
 called_ends_once : (program : Program) (s f : ℕ) → IsValid program → IsCallOf (kind_of program s) f
-    → EndsOnce program (top_of (slice_get program.bodies f))
+    → EndsOnce program (top_of_body (slice_get program.bodies f))
 called_ends_once program s f v is =
     let c : IsCallee program f = callee program s f v is in
-    subst (λ o. EndsOnce program (top_of o)) (sym c.there) (body_ends_once program f c.body v c.there)
+    subst (λ o. EndsOnce program (top_of_body o)) (sym c.there) (body_ends_once program f c.body v c.there)
 
 -- a body ends in its last statement, and nowhere before
 pub has_ends : (program : Program) → IsValid program → HasEnds program
 has_ends program v = record {
-  nested = λ s stmts is ts. goes_past program s (body_in (slice_get program.stmts s)) stmts ts v
+  nested = λ s stmts is ts. goes_past program s (body_of_stmt (slice_get program.stmts s)) stmts ts v
       (listed program s stmts v is);
-  ended = λ s f is ts. top_has_end program (top_of (slice_get program.bodies f)) ts (called_ends_once program s f v is);
-  whole = λ s f is ts. top_past program (top_of (slice_get program.bodies f)) ts (called_ends_once program s f v is);
+  ended = λ s f is ts. top_has_end program (top_of_body (slice_get program.bodies f)) ts (called_ends_once program s f v is);
+  whole = λ s f is ts. top_past program (top_of_body (slice_get program.bodies f)) ts (called_ends_once program s f v is);
 }

@@ -14,7 +14,7 @@ use Rattle.ppd_ast.specs.Numbered.{blocks_by, blocks_of, body_kind, has_call, is
 use Rattle.ppd_blocks.specs.Blocks.{block_of as block_from, plan_of, postlog_of, prelog_of}
 use Rattle.ppd_sem.specs.Blocks.{block_kind, kind_in, postlog_cells, postlog_in, prelog_cells, prelog_in}
 use Rattle.ppd_sem.specs.Tables.{block_of, same_block}
-use Rattle.ppd_reads.proofs.Listed.{IsListed, found, found_passes, listed_each, listed_left}
+use Rattle.ppd_step_laws.proofs.Units.Listed.{IsListed, found, found_passes, listed_each, listed_left}
 
 block_itself : (k : BlockKind) → same_block k k ≡ true
 block_itself (Function f) = eq-eqb f f refl

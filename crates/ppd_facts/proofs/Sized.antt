@@ -11,16 +11,17 @@ use Rattle.ppd_ast.specs.declared.program.Program.{Program}
 use Rattle.ppd_ast.specs.declared.program.Stmt.{Stmt}
 use Rattle.ppd_ast.specs.Valid.{CallsRightly, IsValid}
 use Rattle.ppd_ast.proofs.ValidLaws.{slice_get_there, stmt_in_body}
+use Rattle.ppd_ast.specs.Lookups.{kind_of_stmt, kind_of, params_of_body, body_of}
 use Rattle.ppd_sem.specs.declared.proc.Answer.{Answer}
 use Rattle.ppd_sem.specs.declared.proc.Frame.{Frame}
 use Rattle.ppd_sem.specs.declared.proc.Proc.{Proc}
 use Rattle.ppd_sem.specs.declared.proc.Todo.{Todo}
 use Rattle.ppd_sem.specs.Deed.{Deed, set_local, clear, invoke, back, receive}
-use Rattle.ppd_sem.specs.Process.{act, act_by_deed, cells_for, clear_cells, clear_top, into_of, kind_of, kind_or_end, new_frame, receive_at, returned, returned_from, started, top_cells, write_top}
+use Rattle.ppd_sem.specs.Process.{act, act_by_deed, cells_for, clear_cells, clear_top, into_of, new_frame, receive_at, returned, returned_from, started, top_cells, write_top}
 use Rattle.ppd_sem.specs.Runs.{LeadsOn, size_if, size_of, stmt_size}
 use Rattle.ppd_sem.proofs.Kept.{leads_at}
 use Rattle.ppd_sem.proofs.Validity.{valid-runnable}
-use Rattle.ppd_model.proofs.Homes.{AskedOf, body_at, head_of, params_if}
+use Rattle.ppd_model.proofs.Homes.{AskedOf, head_of}
 use Rattle.ppd_beside.specs.Beside.{Each, IsCallOf, Suits, Yields}
 use Rattle.ppd_beside.proofs.Deeds.{suits}
 use Rattle.ppd_facts.proofs.Keeping.{keeps}
@@ -78,42 +79,42 @@ module _ (program : Program) where
   -- ---- a call passes no more values than the function has cells
 
   params_count : (o : Option Body) (n : ℕ) (into : Option ℕ)
-      → IsSomeAnd o (λ g. (n ≡ g.params) × (IsSome into → IsTrue g.value)) → n ≡ params_if o
+      → IsSomeAnd o (λ g. (n ≡ g.params) × (IsSome into → IsTrue g.value)) → n ≡ params_of_body o
   params_count None n into h = absurd h
   params_count (Some b) n into h = h.0
 
   params_fit : (n : ℕ) (k : Kind) (f : ℕ) → IsCallOf k f → LeadsOn program n k → CallsRightly program k
-      → params_if (slice_get program.bodies f) ≤ size_of program f
+      → params_of_body (slice_get program.bodies f) ≤ size_of program f
   params_fit n (kind.Call g arguments into) f e on calls =
       let few : length arguments ≤ size_of program g = on.arguments in
-      let same : length arguments ≡ params_if (slice_get program.bodies g) =
+      let same : length arguments ≡ params_of_body (slice_get program.bodies g) =
       params_count (slice_get program.bodies g) (length arguments) into calls.1 in
-      subst (λ x. params_if (slice_get program.bodies x) ≤ size_of program x) (sym e) (omega (arith, few, same))
+      subst (λ x. params_of_body (slice_get program.bodies x) ≤ size_of program x) (sym e) (omega (arith, few, same))
   params_fit n k f e on calls = absurd e
 
   call_fits : (v : IsValid program) (s f : ℕ) → IsCallOf (kind_of program s) f
-      → params_if (slice_get program.bodies f) ≤ size_of program f
+      → params_of_body (slice_get program.bodies f) ≤ size_of program f
   call_fits v s f e = by (slice_get program.stmts s) refl
     where
       by : (o : Option Stmt) → slice_get program.stmts s ≡ o
-          → params_if (slice_get program.bodies f) ≤ size_of program f
-      by None at = absurd (subst (λ x. IsCallOf (kind_or_end x) f) at e)
+          → params_of_body (slice_get program.bodies f) ≤ size_of program f
+      by None at = absurd (subst (λ x. IsCallOf (kind_of_stmt x) f) at e)
       by (Some x) at =
           params_fit (stmt_size program (slice_get program.stmts s)) (kind_of program s) f e
           (leads_at program (stmt_size program (slice_get program.stmts s)) s (valid-runnable program v)
           (record { there = slice_get_within program.stmts s x at; size = refl }))
-          (subst (λ k. CallsRightly program k) (sym (ap kind_or_end at)) (stmt_in_body program s x v at).2.call)
+          (subst (λ k. CallsRightly program k) (sym (ap kind_of_stmt at)) (stmt_in_body program s x v at).2.call)
 
   new_sized : (v : IsValid program) (s f : ℕ) (values : List ℤ) → IsCallOf (kind_of program s) f
-      → length values ≡ params_if (slice_get program.bodies f) → IsSized program (new_frame program f values (Some s))
+      → length values ≡ params_of_body (slice_get program.bodies f) → IsSized program (new_frame program f values (Some s))
   new_sized v s f values e count =
       let c : IsCallee program f = callee program s f v e in
-      let fit : params_if (slice_get program.bodies f) ≤ size_of program f = call_fits v s f e in
+      let fit : params_of_body (slice_get program.bodies f) ≤ size_of program f = call_fits v s f e in
       let cells : size_of program f ≡ c.body.cells = ap size_if c.there in
       cells_length (slice_get program.bodies f) values c.body c.there (omega (arith, fit, cells, count))
 
   abbrev IsPassing : Deed → Type 0
-  IsPassing (invoke f values into) = length values ≡ params_if (slice_get program.bodies f)
+  IsPassing (invoke f values into) = length values ≡ params_of_body (slice_get program.bodies f)
   IsPassing d = ⊤
 
   passing : (body : ℕ) (k : Kind) (d : Deed) (left : List ℤ) → AskedOf program body k (Ok (d, left)) → IsPassing d
@@ -139,8 +140,8 @@ module _ (program : Program) where
       (λ t ts d left is e f. after_deed v a t ts d (record s { answers = [] })
       (subst (Yields (Suits (kind_of program t.stmt))) f
       (suits program.exprs (kind_of program t.stmt) (top_cells s.frames) s.answers))
-      (passing (body_at program t.stmt) (kind_of program t.stmt) d left
-      (subst (AskedOf program (body_at program t.stmt) (kind_of program t.stmt)) f (head_of program t s v))) h)
+      (passing (body_of program t.stmt) (kind_of program t.stmt) d left
+      (subst (AskedOf program (body_of program t.stmt) (kind_of program t.stmt)) f (head_of program t s v))) h)
       (λ t ts c is e. h)
       (λ t ts c is e. h)
 

@@ -9,10 +9,10 @@ use Rattle.ppd_ast.specs.declared.program.Kind.TheVariants as kind
 use Rattle.ppd_ast.specs.declared.program.Program.{Program}
 use Rattle.ppd_ast.specs.Valid.{IsValid}
 use Rattle.ppd_ast.proofs.ValidLaws.{slice_get_there}
+use Rattle.ppd_ast.specs.Lookups.{kind_of_stmt, kind_of, body_of_stmt}
 use Rattle.ppd_blocks.specs.Blocks.{plan_of}
-use Rattle.ppd_course.specs.Course.{GoesUntilEnd}
-use Rattle.ppd_course.proofs.Ending.{never_runs_out}
-use Rattle.ppd_sem.specs.Blocks.{body_in}
+use Rattle.ppd_step_laws.specs.Course.{GoesUntilEnd}
+use Rattle.ppd_step_laws.proofs.Course.Ending.{never_runs_out}
 use Rattle.ppd_sem.specs.declared.proc.Answer.{Answer}
 use Rattle.ppd_sem.specs.declared.proc.Frame.{Frame}
 use Rattle.ppd_sem.specs.declared.proc.Need.{Need}
@@ -20,7 +20,7 @@ use Rattle.ppd_sem.specs.declared.proc.Need.TheVariants.{Enter, Offer, Done, Tra
 use Rattle.ppd_sem.specs.declared.proc.Proc.{Proc}
 use Rattle.ppd_sem.specs.declared.proc.Todo.{Todo}
 use Rattle.ppd_sem.specs.Described.{ends_body}
-use Rattle.ppd_sem.specs.Process.{act, act_at, act_by_need, entry_of, head_deed, kind_of, kind_or_end, need_of, started, top_body}
+use Rattle.ppd_sem.specs.Process.{act, act_at, act_by_need, entry_of, head_deed, need_of, started, top_body}
 use Rattle.ppd_sem.specs.Offers.{OffersAtHead}
 use Rattle.ppd_sem.specs.Runs.{IsRunning}
 use Rattle.ppd_sem.specs.Tables.{block_of}
@@ -116,8 +116,8 @@ module _ (program : Program) (plan : Plan) (v : IsValid program) where
     pub end_lowest : IsEnd (kind_of program t.stmt) → (f : Frame) (fs : List Frame) → s.frames ≡ f ∷ fs → fs ≡ []
     end_lowest e f fs top =
         let x = slice_get_there program.stmts t.stmt head_there in
-        let body : body_in (slice_get program.stmts t.stmt) ≡ f.body = head_is_home.body ∙ ap top_body top in
-        end_alone program t.stmt x.0 f fs v x.1 (subst IsEnd (ap kind_or_end x.1) e) (sym (ap body_in x.1) ∙ body)
+        let body : body_of_stmt (slice_get program.stmts t.stmt) ≡ f.body = head_is_home.body ∙ ap top_body top in
+        end_alone program t.stmt x.0 f fs v x.1 (subst IsEnd (ap kind_of_stmt x.1) e) (sym (ap body_of_stmt x.1) ∙ body)
         (subst (AreCalled program) top h.called)
 
 -- none of the statements of a loop is an end, nor of a function
@@ -134,7 +134,7 @@ no_end_in_loop program policy v q b e i h is =
 pub no_end_in_function : (program : Program) → IsValid program → (f : ℕ) → f < program.functions → (i : ℕ)
     → IsOf program f i → IsEnd (kind_of program i) → ⊥
 no_end_in_function program v f lt i h is =
-    end_process program i h.stmt v h.there (subst IsEnd (ap kind_or_end h.there) is)
+    end_process program i h.stmt v h.there (subst IsEnd (ap kind_of_stmt h.there) is)
     (subst (λ n. n < program.functions) (sym h.body) lt)
 
 -- ---- the count of frames where an interval has a call
@@ -143,7 +143,7 @@ no_end_in_function program v f lt i h is =
 pub opening_counted : (program : Program) (policy : Policy) (s : Proc) (home : ℕ) (inside : ℕ → Type 0)
     → IsValid program → IsState program (plan_of program policy) s → (f : Frame) (fs : List Frame)
     → s.frames ≡ f ∷ fs → f.body ≡ home
-    → ((i : ℕ) → inside i → body_in (slice_get program.stmts i) ≡ home) → HasCall program inside
+    → ((i : ℕ) → inside i → body_of_stmt (slice_get program.stmts i) ≡ home) → HasCall program inside
     → length s.frames ≡ 1 + block_frames (plan_of program policy) s.frames
 opening_counted program policy s home inside v h f fs top is of_home c =
     ap length top ∙ call_counted program policy v f fs c.stmt c.function

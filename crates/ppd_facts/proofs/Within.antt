@@ -7,10 +7,10 @@ use Rattle.ppd_ast.specs.declared.program.Program.{Program}
 use Rattle.ppd_ast.specs.declared.program.Stmt.{Stmt}
 use Rattle.ppd_ast.specs.Order.{inner_at, preorder}
 use Rattle.ppd_ast.specs.Valid.{IsValid}
-use Rattle.ppd_cfg.specs.Lists.{has}
-use Rattle.ppd_cfg.proofs.Has.{flat_from, flat_gives, has_cons, has_first, has_later}
-use Rattle.ppd_course.proofs.Rising.{child_stands, stands_in_parent}
-use Rattle.ppd_course.proofs.Standing.{as_parent, in_itself, in_parent, outwards}
+use Rattle.ppd_ast.specs.Members.{has}
+use Rattle.ppd_ast.proofs.Members.{has_first, has_later, has_cons, flat_gives, flat_from}
+use Rattle.ppd_step_laws.proofs.Course.Rising.{child_stands, stands_in_parent}
+use Rattle.ppd_step_laws.proofs.Course.Standing.{as_parent, in_itself, in_parent, outwards}
 use Rattle.ppd_sets.specs.Used.{loop_stmts}
 use Rattle.ppd_units.specs.Walk.{parent_of, stands_at, stands_in}
 

@@ -10,4 +10,5 @@ pub use item::edges;
 pub use laws::answers_are_of_runs;
 pub use ppd_model::{EdgeKind, FlowEdge, Origin};
 pub use ppd_past::{FlowError, Past};
-pub use value::last;
+pub use ppd_walk::{LastEdge, last_edge};
+pub use value::{last, last_from};

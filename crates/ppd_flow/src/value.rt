@@ -1,15 +1,17 @@
+ghost use Rattle.std.specs.Prelude.{◌≡◌, ◌+◌, Some};
 ghost use Rattle.ppd_flow.specs.Runs.{CostsLast, GivesLast};
-ghost use Rattle.ppd_past.specs.ByReplays.{IsFoundBy};
+ghost use Rattle.ppd_past.specs.ByReplays.{AreReplayed, IsFoundBy};
 ghost use Rattle.ppd_past.specs.Pasts.{IsPast};
+ghost use Rattle.ppd_past.specs.SeenBy.{steps_in};
 ghost use Rattle.ppd_search.specs.Shared.{found_last, last_replays};
-ghost use Rattle.ppd_walk.specs.SharedCells.{answer_of, seens_in};
+ghost use Rattle.ppd_walk.specs.SharedCells.{answer_of, last_edge as last_edge_of, seens_in};
 
 use ppd_ast::Steps;
-use ppd_model::Origin;
+use ppd_model::{Item, Origin};
 use ppd_near::last_costs_little;
 use ppd_past::{FlowError, Past, replays_are_seen};
 use ppd_shared_edges::last_writes_are_found;
-use ppd_walk::last_write;
+use ppd_walk::{LastEdge, last_write, last_write_from};
 use std::alloc::Global;
 use std::sync::ledger::Ledger;
 
@@ -56,4 +58,52 @@ pub fn last<L: Ledger>(
     last_writes_are_found();
     last_costs_little();
     last_found(alloc, past, cell, steps)
+}
+
+/// The same by replays of the other intervals, as it is defined.
+fn last_found_from<L: Ledger>(
+    alloc: Global,
+    past: &Past,
+    cell: u16,
+    last: LastEdge,
+    items: &[Item],
+    steps: &mut Steps<L>,
+) -> Result<(i64, Origin), FlowError>
+    requires past { IsPast past.now }
+    requires last { last_edge_of past.now cell ≡ Some last }
+    requires items { AreReplayed past.now last.edge.process last.interval items.now }
+    ensures { IsFoundBy past.now
+        (last_replays past.now.program.now past.now.logs.now (seens_in past.now) cell)
+        (answer_of (found_last past.now.program.now past.now.logs.now (seens_in past.now) cell))
+        steps.old (steps.new + steps_in past.now last.edge.process last.interval) result }
+{
+    last_write_from(alloc, past, cell, last, items, steps)
+}
+
+/// What `last` answers for a cell that this internal edge wrote last (`last_edge`), from the items of the interval in
+/// which the edge ends, as a replay gave them: so that cells of one interval need one replay of it. The counter rises
+/// as in `last`, but not by the own steps of that interval.
+pub fn last_from<L: Ledger>(
+    alloc: Global,
+    past: &Past,
+    cell: u16,
+    last: LastEdge,
+    items: &[Item],
+    steps: &mut Steps<L>,
+) -> Result<(i64, Origin), FlowError>
+    requires past { IsPast past.now }
+    requires last { last_edge_of past.now cell ≡ Some last }
+    requires items { AreReplayed past.now last.edge.process last.interval items.now }
+    ensures found { IsFoundBy past.now
+        (last_replays past.now.program.now past.now.logs.now (seens_in past.now) cell)
+        (answer_of (found_last past.now.program.now past.now.logs.now (seens_in past.now) cell))
+        steps.old (steps.new + steps_in past.now last.edge.process last.interval) result }
+    ensures run { GivesLast past.now cell result }
+    ensures cost { CostsLast past.now cell steps.old
+        (steps.new + steps_in past.now last.edge.process last.interval) result }
+{
+    replays_are_seen();
+    last_writes_are_found();
+    last_costs_little();
+    last_found_from(alloc, past, cell, last, items, steps)
 }

@@ -4,6 +4,6 @@
 #[cfg(test)]
 mod plans;
 #[cfg(test)]
-mod tables;
+mod sources;
 #[cfg(test)]
 mod tests;

@@ -1,18 +1,20 @@
-use crate::tables::{arrays, call_in_loop, callee_write, loops_and_branches, round};
-use ppd_ast::Program;
+use crate::sources::{ARRAYS, CALL_IN_LOOP, CALLEE_WRITE, LOOPS_AND_BRANCHES, ROUND};
 use ppd_bits::CellSet;
 use ppd_cfg::{Cfg, flow_graph};
+use ppd_check::read_source;
 use ppd_sets::{VarSets, sets};
 use std::alloc::Global;
 use std::process::Abort;
-use std::test::Fail;
 
 /// Whether these are the successors of the body's statements, from its first one on.
-fn flows(alloc: Global, program: &Program, body: u16, first: u32, rows: &[&[u32]]) -> bool {
+fn flows(alloc: Global, source: &str, body: u16, first: u32, rows: &[&[u32]]) -> bool {
+    let Ok(program) = read_source(alloc, source.as_bytes()) else {
+        return false;
+    };
     if body as usize >= program.bodies.len() {
         return false;
     }
-    match flow_graph(alloc, program, body) {
+    match flow_graph(alloc, &program, body) {
         Err(_) => false,
         Ok(graph) => are_rows(&graph, first, rows),
     }
@@ -29,14 +31,9 @@ fn are_rows(graph: &Cfg, first: u32, rows: &[&[u32]]) -> bool {
     !graph.has(stmt)
 }
 
-fn sets_of(alloc: Global, program: &Program) -> Option<VarSets> {
-    if !program.valid() {
-        return None;
-    }
-    match sets(alloc, program) {
-        Ok(found) => Some(found),
-        Err(_) => None,
-    }
+fn sets_of(alloc: Global, source: &str) -> Option<VarSets> {
+    let program = read_source(alloc, source.as_bytes()).ok()?;
+    sets(alloc, &program).ok()
 }
 
 /// Whether the body uses and defines these variables.
@@ -83,7 +80,7 @@ fn holds(set: &CellSet, cell: u16) -> bool {
 }
 
 #[test]
-fn a_set_keeps_cells_at_the_ends_of_words(rt: HostRuntime) -> Result<(), Fail> {
+fn a_set_keeps_cells_at_the_ends_of_words(rt: HostRuntime) {
     let alloc = rt.alloc();
     let mut set = set_of(&[64, 1023, 0, 63, 64]);
     assert!(rt; lists(alloc, &set, &[0, 63, 64, 1023]));
@@ -106,82 +103,68 @@ fn a_set_keeps_cells_at_the_ends_of_words(rt: HostRuntime) -> Result<(), Fail> {
     assert!(rt; lists(alloc, &set, &[0, 63, 64, 65, 1023]));
     set.clear();
     assert!(rt; lists(alloc, &set, &[]));
-    Ok(())
 }
 
 #[test]
-fn a_callee_writes(rt: HostRuntime) -> Result<(), Fail> {
+fn a_callee_writes(rt: HostRuntime) {
     let alloc = rt.alloc();
-    let program = callee_write(alloc)?;
-    assert!(rt; flows(alloc, &program, 0, 0, &[&[1], &[]]));
-    assert!(rt; flows(alloc, &program, 1, 2, &[&[3], &[4], &[5], &[]]));
-    let found = sets_of(alloc, &program);
+    assert!(rt; flows(alloc, CALLEE_WRITE, 0, 0, &[&[1], &[]]));
+    assert!(rt; flows(alloc, CALLEE_WRITE, 1, 2, &[&[3], &[4], &[5], &[]]));
+    let found = sets_of(alloc, CALLEE_WRITE);
     assert!(rt; uses(&found, 0, &[], &[0]));
     assert!(rt; uses(&found, 1, &[0], &[0]));
-    Ok(())
 }
 
 // An empty branch, an empty loop body, a loop in a loop, an `if` at the end of a loop body, a
 // `return` behind an `if`.
 #[test]
-fn loops_and_branches_flow(rt: HostRuntime) -> Result<(), Fail> {
+fn loops_and_branches_flow(rt: HostRuntime) {
     let alloc = rt.alloc();
-    let program = loops_and_branches(alloc)?;
-    assert!(rt; program.valid());
-    assert!(rt; flows(alloc, &program, 0, 0, &[&[1, 2], &[2], &[]]));
+    assert!(rt; flows(alloc, LOOPS_AND_BRANCHES, 0, 0, &[&[1], &[2, 3], &[3], &[]]));
     let rows: [&[u32]; 10] = [
-        &[4],
-        &[5, 6],
-        &[6],
+        &[5],
         &[6, 7],
-        &[8, 12],
-        &[9, 10],
-        &[8],
-        &[7, 11],
         &[7],
+        &[7, 8],
+        &[9, 13],
+        &[10, 11],
+        &[9],
+        &[8, 12],
+        &[8],
         &[],
     ];
-    assert!(rt; flows(alloc, &program, 1, 3, &rows));
-    let found = sets_of(alloc, &program);
-    assert!(rt; loop_uses(&found, 6, &[0], &[]));
-    for stmt in [7, 8] {
+    assert!(rt; flows(alloc, LOOPS_AND_BRANCHES, 1, 4, &rows));
+    let found = sets_of(alloc, LOOPS_AND_BRANCHES);
+    assert!(rt; loop_uses(&found, 7, &[0], &[]));
+    for stmt in [8, 9] {
         assert!(rt; loop_uses(&found, stmt, &[0], &[0]), "{stmt}");
     }
     // an `if` is no loop
-    assert!(rt; loop_uses(&found, 4, &[], &[]));
-    Ok(())
+    assert!(rt; loop_uses(&found, 5, &[], &[]));
 }
 
 #[test]
-fn functions_call_each_other_round(rt: HostRuntime) -> Result<(), Fail> {
-    let alloc = rt.alloc();
-    let program = round(alloc)?;
-    let found = sets_of(alloc, &program);
+fn functions_call_each_other_round(rt: HostRuntime) {
+    let found = sets_of(rt.alloc(), ROUND);
     for body in [0, 1, 2, 4] {
         assert!(rt; uses(&found, body, &[2], &[0, 1]), "{body}");
     }
     assert!(rt; uses(&found, 3, &[0], &[]));
-    Ok(())
 }
 
 #[test]
-fn arrays_are_whole(rt: HostRuntime) -> Result<(), Fail> {
-    let alloc = rt.alloc();
-    let program = arrays(alloc)?;
-    let found = sets_of(alloc, &program);
+fn arrays_are_whole(rt: HostRuntime) {
+    let found = sets_of(rt.alloc(), ARRAYS);
     assert!(rt; uses(&found, 0, &[0, 1, 2], &[1]));
-    assert!(rt; loop_uses(&found, 0, &[0, 1, 2, 3], &[0, 1]));
-    assert!(rt; loop_uses(&found, 1, &[], &[]));
-    Ok(())
+    assert!(rt; loop_uses(&found, 3, &[0, 1, 2, 3], &[0, 1]));
+    assert!(rt; loop_uses(&found, 4, &[], &[]));
 }
 
 #[test]
-fn a_call_writes_its_receiving_local(rt: HostRuntime) -> Result<(), Fail> {
+fn a_call_writes_its_receiving_local(rt: HostRuntime) {
     let alloc = rt.alloc();
-    let program = call_in_loop(alloc)?;
-    let found = sets_of(alloc, &program);
-    assert!(rt; loop_uses(&found, 1, &[1], &[0]));
+    let found = sets_of(alloc, CALL_IN_LOOP);
+    assert!(rt; loop_uses(&found, 3, &[1], &[0]));
     assert!(rt; uses(&found, 0, &[], &[]));
-    assert!(rt; flows(alloc, &program, 1, 1, &[&[2, 3], &[1], &[]]));
-    Ok(())
+    assert!(rt; flows(alloc, CALL_IN_LOOP, 1, 1, &[&[2], &[3], &[4, 5], &[3], &[]]));
 }

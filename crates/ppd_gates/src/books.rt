@@ -1,8 +1,7 @@
 // Turns by hand, without and with the lock.
-ghost use Rattle.std.specs.Prelude.{◌≡◌, ◌≤◌};
+ghost use Rattle.std.specs.Prelude.{◌≡◌};
 ghost use Rattle.ppd_ast.specs.Valid.{IsValid};
 ghost use Rattle.ppd_ast.specs.ValidPlan.{IsValidPlan};
-ghost use Rattle.ppd_ast.specs.declared.limits.TheConstants.{MOST_BUDGET};
 
 use ppd_ast::{Bytes, Memory, Plan, Policy, Program};
 use ppd_blocks::partition;
@@ -25,17 +24,15 @@ fn keep<J: Job>(
     alloc: Global,
     program: &Program,
     plan: &Plan,
-    budget: u32,
     workers: &[u8],
 ) -> Result<(Vec<Turn>, Ran), Memory>
     requires program { IsValid program.now }
     requires plan { IsValidPlan program.now plan.now }
-    requires budget { budget ≤ MOST_BUDGET }
     requires of_program { program.now ≡ J.program }
     requires of_plan { plan.now ≡ J.plan }
-    requires of_budget { budget ≡ J.budget }
+    requires of_budget { 1000 ≡ J.budget }
 {
-    let world = World::new(alloc, program, plan, budget)?;
+    let world = World::new(alloc, program, plan, 1_000)?;
     let mut kept: Kept<'_, J> = Kept::new(alloc, world);
     let mut turns = Vec::new(alloc);
     for worker in workers {
@@ -101,17 +98,15 @@ fn lend<J: Job + Send + Sync, R: Threads + Wait + Sync>(
     alloc: Global,
     program: &Program,
     plan: &Plan,
-    budget: u32,
     worker: u8,
 ) -> Result<Ran, Memory>
     requires program { IsValid program.now }
     requires plan { IsValidPlan program.now plan.now }
-    requires budget { budget ≤ MOST_BUDGET }
     requires of_program { program.now ≡ J.program }
     requires of_plan { plan.now ≡ J.plan }
-    requires of_budget { budget ≡ J.budget }
+    requires of_budget { 1000 ≡ J.budget }
 {
-    let world = World::new(alloc, program, plan, budget)?;
+    let world = World::new(alloc, program, plan, 1_000)?;
     let book: Book<'_, J> = Book::new(alloc, world);
     take_two(rt, &book, worker);
     book.close()
@@ -136,14 +131,12 @@ fn kept(
     alloc: Global,
     program: &Program,
     plan: &Plan,
-    budget: u32,
     workers: &[u8],
 ) -> Result<(Vec<Turn>, Ran), Memory>
     requires program { IsValid program.now }
     requires plan { IsValidPlan program.now plan.now }
-    requires budget { budget ≤ MOST_BUDGET }
 {
-    keep::<Brand>(alloc, program, plan, budget, workers)
+    keep::<Brand>(alloc, program, plan, workers)
 }
 
 fn committed(
@@ -164,72 +157,70 @@ fn lent<R: Threads + Wait + Sync>(
     alloc: Global,
     program: &Program,
     plan: &Plan,
-    budget: u32,
     worker: u8,
 ) -> Result<Ran, Memory>
     requires program { IsValid program.now }
     requires plan { IsValidPlan program.now plan.now }
-    requires budget { budget ≤ MOST_BUDGET }
 {
-    lend::<Brand, R>(rt, alloc, program, plan, budget, worker)
+    lend::<Brand, R>(rt, alloc, program, plan, worker)
 }
 
-// The worker's own process where that can take a step, else the lowest that can. Process a waits for b.
+// The worker's own process where that can take a step, else the lowest that can; process a waits for b. A close
+// takes what is left, here all.
 #[test]
-fn turns_take_the_lowest(rt: HostRuntime) -> Result<(), Fail> {
+fn turns_and_a_close(rt: HostRuntime) -> Result<(), Fail> {
+    use Turn::{Over, Stepped};
     let alloc = rt.alloc();
     let program = read_source(alloc, SOURCE.as_bytes())?;
     let plan = partition(alloc, &program, &Policy { leaf: 0, loops: 0 })?;
-    let (turns, ran) = kept(alloc, &program, &plan, 1_000, &[0, 1, 0, 1, 9, 1, 0])?;
-    let told = [
-        Turn::Stepped(1),
-        Turn::Stepped(1),
-        Turn::Stepped(0),
-        Turn::Stepped(1),
-        Turn::Stepped(0),
-        Turn::Stepped(0),
-        Turn::Over,
+    let rows: [(&[u8], &[Turn], [u8; 6]); 2] = [
+        (
+            &[0, 1, 0, 1, 9, 1, 0],
+            &[
+                Stepped(1),
+                Stepped(1),
+                Stepped(0),
+                Stepped(1),
+                Stepped(0),
+                Stepped(0),
+                Over,
+            ],
+            [1, 1, 0, 1, 0, 0],
+        ),
+        (&[], &[], [1, 0, 0, 0, 1, 1]),
     ];
-    assert_eq!(rt; turns.as_slice(), told.as_slice());
-    assert_eq!(rt; ran.schedule.as_slice(), [1, 1, 0, 1, 0, 0].as_slice());
+    for (workers, told, schedule) in rows {
+        let (turns, ran) = kept(alloc, &program, &plan, workers)?;
+        assert_eq!(rt; turns.as_slice(), told);
+        assert_eq!(rt; ran.schedule.as_slice(), schedule.as_slice());
+    }
     Ok(())
 }
 
-// No turn before the close.
-#[test]
-fn a_close_takes_what_is_left(rt: HostRuntime) -> Result<(), Fail> {
-    let alloc = rt.alloc();
-    let program = read_source(alloc, SOURCE.as_bytes())?;
-    let plan = partition(alloc, &program, &Policy { leaf: 0, loops: 0 })?;
-    let (_, ran) = kept(alloc, &program, &plan, 1_000, &[])?;
-    assert_eq!(rt; ran.schedule.as_slice(), [1, 0, 0, 0, 1, 1].as_slice());
-    Ok(())
-}
-
-// The process was stepped after it was copied, so nothing is committed.
+// Where the process was stepped after it was copied, nothing is committed; else three steps of the copy are,
+// while another process ends.
 #[test]
 fn a_commit_compares(rt: HostRuntime) -> Result<(), Fail> {
+    use Turn::Stepped;
     let alloc = rt.alloc();
     let program = read_source(alloc, TWO_WRITES.as_bytes())?;
     let plan = partition(alloc, &program, &Policy { leaf: 0, loops: 0 })?;
-    let (turns, commit, schedule) = committed(alloc, &program, &plan, false, &[1, 1])?;
-    let told = [Turn::Stepped(1), Turn::Stepped(0)];
-    assert_eq!(rt; turns.as_slice(), told.as_slice());
-    assert_eq!(rt; commit, Commit::Stale);
-    assert_eq!(rt; schedule.as_slice(), [1, 0].as_slice());
-    Ok(())
-}
-
-// Three steps on a copy, while another process ends.
-#[test]
-fn a_view_goes_on(rt: HostRuntime) -> Result<(), Fail> {
-    let alloc = rt.alloc();
-    let program = read_source(alloc, TWO_WRITES.as_bytes())?;
-    let plan = partition(alloc, &program, &Policy { leaf: 0, loops: 0 })?;
-    let (turns, commit, schedule) = committed(alloc, &program, &plan, true, &[1])?;
-    assert_eq!(rt; turns.as_slice(), [Turn::Stepped(1)].as_slice());
-    assert_eq!(rt; commit, Commit::Done);
-    assert_eq!(rt; schedule.as_slice(), [1, 0, 0, 0].as_slice());
+    let rows: [(bool, &[u8], &[Turn], Commit, &[u8]); 2] = [
+        (
+            false,
+            &[1, 1],
+            &[Stepped(1), Stepped(0)],
+            Commit::Stale,
+            &[1, 0],
+        ),
+        (true, &[1], &[Stepped(1)], Commit::Done, &[1, 0, 0, 0]),
+    ];
+    for (goes, workers, told, end, schedule) in rows {
+        let (turns, commit, taken) = committed(alloc, &program, &plan, goes, workers)?;
+        assert_eq!(rt; turns.as_slice(), told);
+        assert_eq!(rt; commit, end);
+        assert_eq!(rt; taken.as_slice(), schedule);
+    }
     Ok(())
 }
 
@@ -239,7 +230,7 @@ fn a_thread_takes_turns(rt: HostRuntime) -> Result<(), Fail> {
     let alloc = rt.alloc();
     let program = read_source(alloc, SOURCE.as_bytes())?;
     let plan = partition(alloc, &program, &Policy { leaf: 0, loops: 0 })?;
-    let ran = lent(&rt, alloc, &program, &plan, 1_000, 1)?;
+    let ran = lent(&rt, alloc, &program, &plan, 1)?;
     assert_eq!(rt; ran.schedule.as_slice(), [1, 1, 0, 0, 0, 1].as_slice());
     Ok(())
 }

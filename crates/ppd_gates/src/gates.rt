@@ -7,7 +7,6 @@ use ppd_io::{FreeGate, Gate, MemoryShelf, MemorySink, MemorySource};
 use ppd_run::run;
 use ppd_top::ppd;
 use std::alloc::Global;
-use std::process::Abort;
 use std::sync::Wait;
 use std::sync::atomic::{AtomicU64, Ordering};
 use std::test::Fail;
@@ -93,54 +92,27 @@ fn flow<G: Gate, R: Threads + Wait + Sync>(
     Ok((outcome.status, bytes, outcome.schedule.into_vec()))
 }
 
-/// Runs a source whose workers pass this gate, and compares what the top call answers.
-fn expect_flow<R: Abort + Threads + Wait + Sync>(
-    rt: &R,
-    alloc: Global,
-    source: &str,
-    gate: &Held,
-    told: (&[u8], &[u8]),
-) -> Result<(), Fail> {
-    let (status, written, schedule) = flow(rt, alloc, source, gate)?;
-    assert_eq!(rt; gate.gave_up.load(Ordering::SeqCst), 0);
-    assert_eq!(rt; status, 0);
-    assert_eq!(rt; written.as_slice(), told.0);
-    assert_eq!(rt; schedule.as_slice(), told.1);
-    Ok(())
-}
-
-// Worker 1 takes its own two steps and, with nothing left of its own, the first of process 0, whose worker is
-// held: all by the threads, since the caller waits for both. It is the schedule that the program answers.
+// What the workers of one gate do is possible in one order alone, all by the threads, since the caller waits for them.
+// The first: worker 1 takes its own two steps and, with nothing left of its own, the first of process 0, whose worker is
+// held. The second: worker 0 has its view and is held before the commit, while worker 1 takes its own step and two of
+// process 0, so that the view is left. The third: worker 0 commits the three steps of its view while worker 1 is held,
+// and is held before the end of its process.
 #[test]
 fn workers_run_beside_each_other(rt: HostRuntime) -> Result<(), Fail> {
-    let gate = Held::new(1, 0, 5);
-    expect_flow(&rt, rt.alloc(), SOURCE, &gate, (WRITTEN, &[1, 1, 0, 0]))
-}
-
-// Worker 0 has its view and is held before the commit, while worker 1 takes its own step and two of process 0.
-#[test]
-fn a_stale_view_is_left(rt: HostRuntime) -> Result<(), Fail> {
-    let gate = Held::new(2, 1, 4);
-    expect_flow(
-        &rt,
-        rt.alloc(),
-        TWO_WRITES,
-        &gate,
-        (TWO_ENDED, &[1, 0, 0, 0, 0]),
-    )
-}
-
-// Worker 0 commits the three steps of its view while worker 1 is held, and is held before the end of its process.
-#[test]
-fn a_view_is_committed(rt: HostRuntime) -> Result<(), Fail> {
-    let gate = Held::new(3, 2, 2);
-    expect_flow(
-        &rt,
-        rt.alloc(),
-        TWO_WRITES,
-        &gate,
-        (TWO_ENDED, &[0, 0, 0, 1, 0]),
-    )
+    let rows: [(&str, (u64, u32, u64), &[u8], &[u8]); 3] = [
+        (SOURCE, (1, 0, 5), WRITTEN, &[1, 1, 0, 0]),
+        (TWO_WRITES, (2, 1, 4), TWO_ENDED, &[1, 0, 0, 0, 0]),
+        (TWO_WRITES, (3, 2, 2), TWO_ENDED, &[0, 0, 0, 1, 0]),
+    ];
+    for (source, (zero, stop, one), text, order) in rows {
+        let gate = Held::new(zero, stop, one);
+        let (status, written, schedule) = flow(&rt, rt.alloc(), source, &gate)?;
+        assert_eq!(rt; gate.gave_up.load(Ordering::SeqCst), 0);
+        assert_eq!(rt; status, 0);
+        assert_eq!(rt; written.as_slice(), text);
+        assert_eq!(rt; schedule.as_slice(), order);
+    }
+    Ok(())
 }
 
 // A process alone has one schedule.

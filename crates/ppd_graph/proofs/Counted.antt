@@ -16,7 +16,7 @@ use Rattle.ppd_graph.specs.declared.placed.Placed.{Placed}
 use Rattle.ppd_graph.specs.Partners.{pairs_of, partner_of}
 use Rattle.ppd_graph.specs.Refusals.{count_on, place, placed_from, placed_lists}
 use Rattle.ppd_graph.specs.Spending.{entries_in, graph_cost, list_cost, pairing_cost, pass_cost, times_cost}
-use Rattle.ppd_graph.specs.Times.{left}
+use Rattle.ppd_graph.specs.Times.{untimed}
 
 range_more : (a n : ℕ) → range_with_len a (suc n) ≡ range_with_len a n ++ (a + n) ∷ []
 range_more a zero = let e : a ≡ a + zero = omega arith in ap (λ x. x ∷ []) e
@@ -51,15 +51,15 @@ times_on n before after steps now most less step within =
     let more : (after + 1) * (2 * n + 1) ≤ before * (2 * n + 1) = mul-le (after + 1) (2 * n + 1) before (2 * n + 1) (omega (arith, less)) (omega arith) in
     omega (arith, one, more, step, within)
 
-left_first : {A B : Type 0} (pairs : List (List A)) (times : List (List B)) → left pairs times ≤ sum_by length pairs
+left_first : {A B : Type 0} (pairs : List (List A)) (times : List (List B)) → untimed pairs times ≤ sum_by length pairs
 left_first [] times = omega arith
 left_first {A = A} {B = B} (p ∷ pairs) [] = let rest = left_first {A = A} {B = B} pairs [] in let all = sum_by-cons length p pairs in omega (arith, rest, all)
 left_first {A = A} {B = B} (p ∷ pairs) (t ∷ times) = let rest = left_first {A = A} {B = B} pairs times in let all = sum_by-cons length p pairs in omega (arith, rest, all)
 
-pub times_at_first : {A B : Type 0} (pairs : List (List A)) (times : List (List B)) (old now : ℕ) → now ≤ old + length pairs → now + left pairs times * (2 * length pairs + 1) ≤ old + length pairs + sum_by length pairs * (2 * length pairs + 1)
+pub times_at_first : {A B : Type 0} (pairs : List (List A)) (times : List (List B)) (old now : ℕ) → now ≤ old + length pairs → now + untimed pairs times * (2 * length pairs + 1) ≤ old + length pairs + sum_by length pairs * (2 * length pairs + 1)
 times_at_first pairs times old now h =
     let less = left_first pairs times in
-    let more : left pairs times * (2 * length pairs + 1) ≤ sum_by length pairs * (2 * length pairs + 1) = mul-le (left pairs times) (2 * length pairs + 1) (sum_by length pairs) (2 * length pairs + 1) less (omega arith) in
+    let more : untimed pairs times * (2 * length pairs + 1) ≤ sum_by length pairs * (2 * length pairs + 1) = mul-le (untimed pairs times) (2 * length pairs + 1) (sum_by length pairs) (2 * length pairs + 1) less (omega arith) in
     omega (arith, more, h)
 
 pub times_within : (n m k old steps now : ℕ) → steps + k * (2 * n + 1) ≤ old + n + m * (2 * n + 1) → now ≤ steps + n → now ≤ old + (n + (m + 1) * (2 * n + 1))

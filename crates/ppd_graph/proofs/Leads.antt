@@ -2,6 +2,7 @@
 use Rattle.std.proofs.Common.{◌≡◌, ℕ, zero, suc, ◌+◌, ◌-◌, ◌≤◌, List, [], ◌∷◌, Option, Some, None, Bool, true, false, refl, ap, sym, subst, ◌∙◌, arith, length, map, get_or, true≢false, eq-eqb, eqb-true, leb-true, le-leb, ◌&&◌}
 use Rattle.std.specs.Prelude.{IsTrue, is_some, nat_eq, nat_le, slice_get, if◌then◌else◌, unwrap_or}
 use Rattle.std.proofs.lemmas.Bool.{and_from, and_parts}
+use Rattle.ppd_entry.specs.Entries.{same_kind}
 use Rattle.ppd_ast.specs.declared.program.Program.{Program}
 use Rattle.ppd_ast.specs.declared.status.SyncKind.{SyncKind}
 use Rattle.ppd_ast.specs.declared.status.SyncKind.TheVariants.{P, V, Send, Recv, Done}
@@ -13,7 +14,7 @@ use Rattle.ppd_model.specs.Synchronizations.{Sync, is_number, leads, leads_at, l
 use Rattle.ppd_sem.specs.Tables.{capacity_of}
 use Rattle.ppd_graph.specs.declared.paired.Paired.TheVariants.{Nothing}
 use Rattle.ppd_graph.specs.Partners.{IsOnce, PartnersAreFound, found, found_from, found_in_row, paired_by, pairs_of, partner_of, wanted, wanted_by}
-use Rattle.ppd_graph.specs.Refusals.{same_kind, same_sync}
+use Rattle.ppd_graph.specs.Refusals.{same_sync}
 use Rattle.ppd_graph.specs.Times.{ArePartners, node_of, pair_at}
 
 some_is : {A : Type 0} (x y : A) → Some x ≡ Some y → x ≡ y

@@ -1,4 +1,5 @@
 pub mod Timed
+pub mod ClosedSets
 pub mod Rows
 pub mod Order
 pub mod Waiting

@@ -3,17 +3,18 @@ use Rattle.std.proofs.Common.{◌≡◌, ℕ, zero, suc, ◌+◌, ◌-◌, ◌*�
 use Rattle.std.specs.Prelude.{IsTrue, nat_eq, if◌then◌else◌}
 use Rattle.std.specs.List.{cons_option, range_with_len, sum_by}
 use Rattle.std.proofs.lemmas.Bool.{cases_eq}
+use Rattle.ppd_entry.specs.Entries.{same_kind}
 use Rattle.ppd_ast.specs.declared.program.Program.{Program}
 use Rattle.ppd_ast.specs.declared.status.SyncKind.{SyncKind}
 use Rattle.ppd_ast.specs.declared.status.SyncKind.TheVariants.{P, V, Send, Recv, Done}
-use Rattle.ppd_bits.specs.CellSets.{has}
+use Rattle.ppd_ast.specs.Members.{has}
 use Rattle.ppd_model.specs.FullTrace.{or_else}
 use Rattle.ppd_model.specs.Synchronizations.{Sync}
 use Rattle.ppd_sem.specs.Tables.{capacity_of}
 use Rattle.ppd_graph.specs.declared.greatest.Greatest.{Greatest}
 use Rattle.ppd_graph.specs.declared.placed.Placed.{Placed}
 use Rattle.ppd_graph.specs.ByNumber.{AllGreatest, greatest_kept}
-use Rattle.ppd_graph.specs.Refusals.{Missing, Numbered, absent, chan_misses, first_missing, greatest, missing, missing_of_chan, missing_of_handover, missing_of_places, missing_of_sem, number_if, number_in, numbered_in, numbers_of, of_kind, same_kind, sem_misses, start_of, sync_placed}
+use Rattle.ppd_graph.specs.Refusals.{Missing, Numbered, absent, chan_misses, first_missing, greatest, missing, missing_of_chan, missing_of_handover, missing_of_places, missing_of_sem, number_if, number_in, numbered_in, numbers_of, of_kind, sem_misses, start_of, sync_placed}
 use Rattle.ppd_graph.specs.Spending.{chan_cost, done_numbers, missing_cost, sem_cost}
 use Rattle.ppd_graph.proofs.Counted.{sum_more}
 

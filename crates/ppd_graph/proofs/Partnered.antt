@@ -2,11 +2,12 @@
 use Rattle.std.proofs.Common.{◌≡◌, ℕ, ◌+◌, List, [], ◌∷◌, ◌++◌, Option, Some, None, Bool, true, false, refl, ap, ap₂, sym, ◌∙◌, map, filter_map}
 use Rattle.std.specs.Prelude.{is_some, nat_eq, ◌&&◌, ◌||◌, if◌then◌else◌}
 use Rattle.std.specs.List.{cons_option}
-use Rattle.ppd_bits.specs.CellSets.{has}
 use Rattle.ppd_ast.specs.declared.program.Program.{Program}
 use Rattle.ppd_ast.specs.declared.status.SyncKind.{SyncKind}
+use Rattle.ppd_ast.specs.Members.{has}
 use Rattle.ppd_entry.specs.declared.entry.Entry.{Entry}
 use Rattle.ppd_entry.specs.declared.entry.Logs.{Logs}
+use Rattle.ppd_entry.specs.Entries.{same_kind}
 use Rattle.ppd_model.specs.declared.graph.NodeId.{NodeId}
 use Rattle.ppd_model.specs.FullTrace.{or_else}
 use Rattle.ppd_model.specs.HappenedBefore.{node}
@@ -18,7 +19,7 @@ use Rattle.ppd_graph.specs.declared.placed.Placed.{Placed}
 use Rattle.ppd_graph.specs.ByNumber.{AllGreatest, KeepsAll, node_among, node_kept, node_wanted, numbered_kept, partner_kept}
 use Rattle.ppd_model.specs.RecordedSets.{record_in, sync_in}
 use Rattle.ppd_graph.specs.Partners.{found, found_from, found_in_row, paired_by, pairs_of, partner_of, wanted}
-use Rattle.ppd_graph.specs.Refusals.{Numbered, count_on, missing, missing_by, numbered_in, numbers_of, place, placed, placed_from, placed_lists, same_kind, same_sync, sync_placed}
+use Rattle.ppd_graph.specs.Refusals.{Numbered, count_on, missing, missing_by, numbered_in, numbers_of, place, placed, placed_from, placed_lists, same_sync, sync_placed}
 
 -- ---- where the first stands
 

@@ -9,7 +9,7 @@ use Rattle.ppd_model.specs.Synchronizations.{Sync, leads_at}
 use Rattle.ppd_model.specs.HappenedBefore.{Before, direct, is_direct, is_next, node, own_syncs, sync_at, through}
 use Rattle.ppd_model.specs.World.{change}
 use Rattle.ppd_graph.specs.declared.paired.Paired.{Paired}
-use Rattle.ppd_graph.specs.Times.{ArePartners, AreTimed, IsDone, IsReady, IsTimed, UpTo, left, next_count, next_of, next_time, node_of, own_times, pair_at, time_at, time_before, time_of, time_paired, with_time}
+use Rattle.ppd_graph.specs.Times.{ArePartners, AreTimed, IsDone, IsReady, IsTimed, UpTo, untimed, next_count, next_of, next_time, node_of, own_times, pair_at, time_at, time_before, time_of, time_paired, with_time}
 use Rattle.ppd_graph.proofs.Rows.{left_less, length_replicated, no_items, none_at}
 
 -- ---- lists
@@ -364,8 +364,8 @@ went_on pairs times seen again later added q e e' long o r is now =
       subst (AreTimed pairs) (sym is') (timed_one_more pairs times q (subst (λ ts. IsReady pairs ts q) e r) o),
     )
 
-pub went_less : (pairs : List (List Paired)) (times seen later : List (List (List ℕ))) (added : List ℕ) (q : ℕ) → seen ≡ times → length times ≡ length pairs → IsReady pairs seen q → later ≡ with_time q added times → left pairs later < left pairs times
+pub went_less : (pairs : List (List Paired)) (times seen later : List (List (List ℕ))) (added : List ℕ) (q : ℕ) → seen ≡ times → length times ≡ length pairs → IsReady pairs seen q → later ≡ with_time q added times → untimed pairs later < untimed pairs times
 went_less pairs times seen later added q e long r now =
     let r' : IsReady pairs times q = subst (λ ts. IsReady pairs ts q) e r in
-    subst (λ ts. left pairs ts < left pairs times) (sym now)
+    subst (λ ts. untimed pairs ts < untimed pairs times) (sym now)
     (left_less q added pairs times (subst (λ n. q < n) (sym long) (own_below pairs q (length (own_times times q)) r'.there)) r'.there)

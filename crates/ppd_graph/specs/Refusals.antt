@@ -1,14 +1,15 @@
 -- Why logs have no graph, the first reason in order.
-use Rattle.std.specs.Prelude.{◌≡◌, ℕ, zero, suc, ◌+◌, ◌-◌, max, nat_eq, nat_lt, nat_le, Bool, true, false, not, ◌&&◌, ◌||◌, List, [], ◌∷◌, ◌++◌, map, find, filter_map, length, slice_get, Option, Some, None, ⊤, if◌then◌else◌}
+use Rattle.std.specs.Prelude.{◌≡◌, ℕ, zero, suc, ◌+◌, ◌-◌, max, nat_eq, nat_lt, nat_le, Bool, not, ◌&&◌, ◌||◌, List, [], ◌∷◌, ◌++◌, map, find, filter_map, length, slice_get, Option, Some, None, ⊤, if◌then◌else◌}
 use Rattle.std.specs.List.{list_any, range_with_len}
-use Rattle.ppd_bits.specs.CellSets.{has}
 use Rattle.ppd_ast.specs.declared.program.Program.{Program}
 use Rattle.ppd_ast.specs.declared.program.Sem.{Sem}
 use Rattle.ppd_ast.specs.declared.status.SyncKind.{SyncKind}
 use Rattle.ppd_ast.specs.declared.status.SyncKind.TheVariants.{P, V, Send, Recv, Done}
+use Rattle.ppd_ast.specs.Members.{has}
 use Rattle.ppd_entry.specs.declared.entry.At.{At}
 use Rattle.ppd_entry.specs.declared.entry.Entry.{Entry}
 use Rattle.ppd_entry.specs.declared.entry.Logs.{Logs}
+use Rattle.ppd_entry.specs.Entries.{same_kind}
 use Rattle.ppd_model.specs.declared.graph.NodeId.{NodeId}
 use Rattle.ppd_model.specs.FullTrace.{or_else}
 use Rattle.ppd_model.specs.HappenedBefore.{Before, node}
@@ -70,14 +71,6 @@ without_object program [] = None
 without_object program (x ∷ xs) = if has_object program x.kind x.object then without_object program xs else Some x.at
 
 -- ---- a number twice
-
-abbrev pub same_kind : SyncKind → SyncKind → Bool
-same_kind P P = true
-same_kind V V = true
-same_kind Send Send = true
-same_kind Recv Recv = true
-same_kind Done Done = true
-same_kind a b = false
 
 abbrev pub same_sync : Sync → Sync → Bool
 same_sync a b = same_kind a.kind b.kind && nat_eq a.object b.object && nat_eq a.number b.number

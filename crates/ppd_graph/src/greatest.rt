@@ -1,6 +1,7 @@
 ghost use Rattle.std.specs.Prelude.{◌≡◌, ◌≤◌, ◌+◌, ◌*◌, ℕ, ◌∷◌, [], get_or, length, IfOk};
 ghost use Rattle.ppd_graph.specs.ByNumber.{AllGreatest, AreGreatest, greatest_kept};
-ghost use Rattle.ppd_graph.specs.Refusals.{greatest as greatest_among, numbers_of, same_kind as is_same_kind, sync_placed};
+ghost use Rattle.ppd_entry.specs.Entries.{same_kind as is_same_kind};
+ghost use Rattle.ppd_graph.specs.Refusals.{greatest as greatest_among, numbers_of, sync_placed};
 
 use crate::placed::Placed;
 use ppd_ast::{Ids, Memory, Steps, SyncKind};

@@ -1,7 +1,7 @@
 -- All synchronizations of logs in one list, and where each of them stands.
-use Rattle.std.proofs.Common.{◌≡◌, ℕ, zero, suc, ◌+◌, List, [], ◌∷◌, ◌++◌, Option, Some, None, Bool, true, false, refl, ap, ap₂, sym, subst, ◌∙◌, map, get_or, filter_map, inl, inr, true≢false, ◌||◌, arith}
+use Rattle.std.proofs.Common.{◌≡◌, ℕ, zero, suc, ◌+◌, List, [], ◌∷◌, ◌++◌, Some, Bool, true, false, refl, ap, ap₂, sym, subst, ◌∙◌, map, get_or, filter_map, inl, inr, true≢false, ◌||◌, arith}
 use Rattle.std.specs.Prelude.{IsTrue, slice_get, ⊤}
-use Rattle.std.specs.List.{cons_option, list_any}
+use Rattle.std.specs.List.{list_any}
 use Rattle.std.proofs.lemmas.Bool.{or_cases, or_left, or_right}
 use Rattle.std.proofs.lemmas.Option.{none-some}
 use Rattle.ppd_entry.specs.declared.entry.Entry.{Entry}
@@ -9,8 +9,9 @@ use Rattle.ppd_entry.specs.declared.entry.Logs.{Logs}
 use Rattle.ppd_model.specs.RecordedSets.{record_in, sync_in}
 use Rattle.ppd_model.specs.Synchronizations.{Sync}
 use Rattle.ppd_model.proofs.Changes.{some}
-use Rattle.ppd_graph.specs.Refusals.{count_on, place, placed, placed_from, placed_lists, same_sync, sync_placed}
+use Rattle.ppd_graph.specs.Refusals.{placed, placed_from, placed_lists, same_sync, sync_placed}
 use Rattle.ppd_graph.proofs.Leads.{same_is, same_self}
+use Rattle.ppd_graph.proofs.Once.{map_both, placed_syncs}
 
 -- the synchronization is one of these
 abbrev pub stands : Sync → List Sync → Bool
@@ -31,19 +32,6 @@ not_so true h = absurd (h refl)
 not_so false h = refl
 
 -- ---- the list of logs
-
-placed_syncs : (p e i : ℕ) (xs : List Entry) → map sync_placed (placed_from p e i xs) ≡ filter_map sync_in xs
-placed_syncs p e i [] = refl
-placed_syncs p e i (x ∷ xs) = by (sync_in x) (placed_syncs p (e + 1) (count_on i (sync_in x)) xs)
-  where
-    by : (o : Option Sync) → map sync_placed (placed_from p (e + 1) (count_on i (sync_in x)) xs) ≡ filter_map sync_in xs
-        → map sync_placed (place p e i o ++ placed_from p (e + 1) (count_on i (sync_in x)) xs) ≡ cons_option o (filter_map sync_in xs)
-    by None h = h
-    by (Some s) h = ap (λ r. s ∷ r) h
-
-map_both : {A B : Type 0} (f : A → B) (xs ys : List A) → map f (xs ++ ys) ≡ map f xs ++ map f ys
-map_both f [] ys = refl
-map_both f (x ∷ xs) ys = ap (λ r. f x ∷ r) (map_both f xs ys)
 
 lists_syncs : (p : ℕ) (lists : List (List Entry)) → map sync_placed (placed_lists p lists) ≡ all_rows (map (filter_map sync_in) lists)
 lists_syncs p [] = refl

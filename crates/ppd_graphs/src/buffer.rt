@@ -1,11 +1,12 @@
 ghost use Rattle.std.specs.Prelude.{◌<◌};
 
-use crate::logs::{end, graph_of, logs_of, silent_one, with_sems};
-use ppd_ast::{Cells, Memory, Seq, SyncKind};
-use ppd_entry::Entry;
+use crate::logs::{Objects, Wrote, graph_of, logs_of};
+use SyncKind::{P, V};
+use Wrote::{End, Sync};
+use ppd_ast::SyncKind;
 use ppd_graph::{EdgeId, NodeId, Paired, SyncGraph};
 use ppd_race::races;
-use std::alloc::Global;
+use std::alloc::{AllocError, Global};
 use std::test::Fail;
 
 // A buffer of four cells, 0 to 3, its head, 4, and its tail, 5, under semaphores of free places, of full ones and of the
@@ -40,43 +41,34 @@ fn lock_of_get(get: u32) -> u32
     2 * get + 5
 }
 
-// The end of a critical section with what it accessed.
-fn unlock(alloc: Global, number: u32, reads: &[u16], writes: &[u16]) -> Result<Entry, Memory> {
-    let reads = Cells::from_vec(Vec::from_slice(alloc, reads)?);
-    let writes = Cells::from_vec(Vec::from_slice(alloc, writes)?);
-    Ok(Entry::Sync {
-        kind: SyncKind::V,
-        object: LOCK,
-        number,
-        value: 0,
-        reads,
-        writes,
-    })
-}
+/// What is read and written in the critical section of a value: its place in the buffer is one of these.
+const PLACES: [&[u16]; 4] = [&[0, TAIL], &[1, TAIL], &[2, TAIL], &[3, TAIL]];
 
-fn produced(alloc: Global) -> Result<Seq<Entry>, Memory> {
-    let mut own = Seq::new(alloc);
+const TAKEN: [&[u16]; 4] = [&[0, HEAD], &[1, HEAD], &[2, HEAD], &[3, HEAD]];
+
+fn produced(alloc: Global) -> Result<Vec<Wrote<'static>>, AllocError> {
+    let mut own = Vec::new(alloc);
     for put in 0..PUTS {
         let lock = lock_of_put(put);
-        own.push(silent_one(alloc, SyncKind::P, FREE, put + 1))?;
-        own.push(silent_one(alloc, SyncKind::P, LOCK, lock))?;
-        own.push(unlock(alloc, lock + 1, &[TAIL], &[(put % 4) as u16, TAIL])?)?;
-        own.push(silent_one(alloc, SyncKind::V, FULL, put + 1))?;
+        own.push(Sync(P, FREE, put + 1, &[], &[]))?;
+        own.push(Sync(P, LOCK, lock, &[], &[]))?;
+        own.push(Sync(V, LOCK, lock + 1, &[TAIL], PLACES[(put % 4) as usize]))?;
+        own.push(Sync(V, FULL, put + 1, &[], &[]))?;
     }
-    own.push(end(alloc, &[], &[])?)?;
+    own.push(End(&[], &[]))?;
     Ok(own)
 }
 
-fn consumed(alloc: Global) -> Result<Seq<Entry>, Memory> {
-    let mut own = Seq::new(alloc);
+fn consumed(alloc: Global) -> Result<Vec<Wrote<'static>>, AllocError> {
+    let mut own = Vec::new(alloc);
     for get in 0..GETS {
         let lock = lock_of_get(get);
-        own.push(silent_one(alloc, SyncKind::P, FULL, get + 1))?;
-        own.push(silent_one(alloc, SyncKind::P, LOCK, lock))?;
-        own.push(unlock(alloc, lock + 1, &[(get % 4) as u16, HEAD], &[HEAD])?)?;
-        own.push(silent_one(alloc, SyncKind::V, FREE, get + 5))?;
+        own.push(Sync(P, FULL, get + 1, &[], &[]))?;
+        own.push(Sync(P, LOCK, lock, &[], &[]))?;
+        own.push(Sync(V, LOCK, lock + 1, TAKEN[(get % 4) as usize], &[HEAD]))?;
+        own.push(Sync(V, FREE, get + 5, &[], &[]))?;
     }
-    own.push(end(alloc, &[], &[])?)?;
+    own.push(End(&[], &[]))?;
     Ok(own)
 }
 
@@ -120,9 +112,13 @@ fn pairs(graph: &SyncGraph) -> bool {
 #[test]
 fn bounded_buffer(rt: HostRuntime) -> Result<(), Fail> {
     let alloc = rt.alloc();
-    let logs = logs_of(alloc, produced(alloc)?, consumed(alloc)?)?;
-    let program = with_sems(alloc, &[4, 0, 1])?;
-    let Ok(graph) = graph_of(alloc, &program, &logs) else {
+    let (produced, consumed) = (produced(alloc)?, consumed(alloc)?);
+    let logs = logs_of(alloc, produced.as_slice(), consumed.as_slice())?;
+    let sems = Objects {
+        sems: &[4, 0, 1],
+        chans: &[],
+    };
+    let Ok(graph) = graph_of(alloc, sems, &logs) else {
         panic!(rt; "the logs have no graph");
     };
     assert!(rt; orders(&graph));

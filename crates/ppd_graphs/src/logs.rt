@@ -1,126 +1,119 @@
+//! Programs of which only the objects count here, and logs that need be no run's.
+
 use ppd_ast::{Bytes, Cells, Chan, Memory, Nums, Program, Sem, Seq, SyncKind};
 use ppd_entry::{Entry, Logs, Status};
 use ppd_graph::{BadSync, SyncGraph, graph};
 use std::alloc::Global;
 
-/// A program with no body, one shared cell for each test to name, and no objects.
-pub fn bare(alloc: Global) -> Program {
-    Program {
+/// An entry with what a graph looks at.
+#[derive(Clone, Copy)]
+pub enum Wrote<'a> {
+    /// The start of a unit.
+    Unit,
+    /// A synchronization of object 0 that accesses nothing: its kind and number.
+    Silent(SyncKind, u32),
+    /// A synchronization: its kind, object and number, and what its edge reads and writes.
+    Sync(SyncKind, u8, u32, &'a [u16], &'a [u16]),
+    /// The end, with what the last edge reads and writes.
+    End(&'a [u16], &'a [u16]),
+}
+
+/// The objects of a program: the start values of its semaphores and the capacities of its channels.
+#[derive(Clone, Copy)]
+pub struct Objects<'a> {
+    pub sems: &'a [u32],
+    pub chans: &'a [u8],
+}
+
+/// A program with no body and these objects.
+pub fn program(alloc: Global, objects: Objects) -> Result<Program, Memory> {
+    let mut sems = Seq::new(alloc);
+    for start in objects.sems {
+        sems.push(Sem {
+            name: Bytes::new(alloc),
+            start: *start,
+        })?;
+    }
+    let mut chans = Seq::new(alloc);
+    for capacity in objects.chans {
+        chans.push(Chan {
+            name: Bytes::new(alloc),
+            capacity: *capacity,
+        })?;
+    }
+    Ok(Program {
         exprs: Seq::new(alloc),
         stmts: Seq::new(alloc),
         bodies: Seq::new(alloc),
         functions: 0,
         shared: Seq::new(alloc),
         starts: Nums::new(alloc),
-        sems: Seq::new(alloc),
-        chans: Seq::new(alloc),
-    }
-}
-
-/// One semaphore with this initial value.
-pub fn with_sem(alloc: Global, start: u32) -> Result<Program, Memory> {
-    let mut program = bare(alloc);
-    program.sems.push(Sem {
-        name: Bytes::new(alloc),
-        start,
-    })?;
-    Ok(program)
-}
-
-/// Semaphores with these initial values.
-pub fn with_sems(alloc: Global, starts: &[u32]) -> Result<Program, Memory> {
-    let mut program = bare(alloc);
-    for start in starts {
-        program.sems.push(Sem {
-            name: Bytes::new(alloc),
-            start: *start,
-        })?;
-    }
-    Ok(program)
-}
-
-/// One channel of this capacity.
-pub fn with_chan(alloc: Global, capacity: u8) -> Result<Program, Memory> {
-    let mut program = bare(alloc);
-    program.chans.push(Chan {
-        name: Bytes::new(alloc),
-        capacity,
-    })?;
-    Ok(program)
-}
-
-fn cells(alloc: Global, items: &[u16]) -> Result<Cells, Memory> {
-    match Vec::from_slice(alloc, items) {
-        Ok(items) => Ok(Cells::from_vec(items)),
-        Err(_) => Err(Memory),
-    }
-}
-
-/// A synchronization on object 0, with what its edge reads and writes.
-pub fn sync(
-    alloc: Global,
-    kind: SyncKind,
-    number: u32,
-    reads: &[u16],
-    writes: &[u16],
-) -> Result<Entry, Memory> {
-    let reads = cells(alloc, reads)?;
-    let writes = cells(alloc, writes)?;
-    Ok(Entry::Sync {
-        kind,
-        object: 0,
-        number,
-        value: 0,
-        reads,
-        writes,
+        sems,
+        chans,
     })
 }
 
-/// A synchronization that accesses nothing.
-pub fn silent_one(alloc: Global, kind: SyncKind, object: u8, number: u32) -> Entry {
-    Entry::Sync {
+fn cells(alloc: Global, items: &[u16]) -> Result<Cells, Memory> {
+    Ok(Cells::from_vec(Vec::from_slice(alloc, items)?))
+}
+
+fn sync(
+    alloc: Global,
+    kind: SyncKind,
+    object: u8,
+    number: u32,
+    (reads, writes): (&[u16], &[u16]),
+) -> Result<Entry, Memory> {
+    Ok(Entry::Sync {
         kind,
         object,
         number,
         value: 0,
-        reads: Cells::new(alloc),
-        writes: Cells::new(alloc),
-    }
-}
-
-/// The end of a process, with what its last edge reads and writes.
-pub fn end(alloc: Global, reads: &[u16], writes: &[u16]) -> Result<Entry, Memory> {
-    let reads = cells(alloc, reads)?;
-    let writes = cells(alloc, writes)?;
-    Ok(Entry::End {
-        status: Status::Ended,
-        rest: 0,
-        reads,
-        writes,
+        reads: cells(alloc, reads)?,
+        writes: cells(alloc, writes)?,
     })
 }
 
-/// The logs of two processes.
-pub fn logs_of(alloc: Global, a: Seq<Entry>, b: Seq<Entry>) -> Result<Logs, Memory> {
-    let mut lists = Seq::new(alloc);
-    lists.push(a)?;
-    lists.push(b)?;
-    Ok(Logs { lists })
+fn entry_of(alloc: Global, wrote: Wrote) -> Result<Entry, Memory> {
+    match wrote {
+        Wrote::Unit => Ok(Entry::Unit {
+            unit: 0,
+            values: Nums::new(alloc),
+        }),
+        Wrote::Silent(kind, number) => sync(alloc, kind, 0, number, (&[], &[])),
+        Wrote::Sync(kind, object, number, reads, writes) => {
+            sync(alloc, kind, object, number, (reads, writes))
+        }
+        Wrote::End(reads, writes) => Ok(Entry::End {
+            status: Status::Ended,
+            rest: 0,
+            reads: cells(alloc, reads)?,
+            writes: cells(alloc, writes)?,
+        }),
+    }
 }
 
-/// Synchronizations of object 0 that access nothing.
-pub fn silent(alloc: Global, steps: &[(SyncKind, u32)]) -> Result<Seq<Entry>, Memory> {
+fn log_of(alloc: Global, wrote: &[Wrote]) -> Result<Seq<Entry>, Memory> {
     let mut entries = Seq::new(alloc);
-    for step in steps {
-        entries.push(sync(alloc, step.0, step.1, &[], &[])?)?;
+    for one in wrote {
+        entries.push(entry_of(alloc, *one)?)?;
     }
     Ok(entries)
 }
 
+/// The logs of two processes.
+pub fn logs_of(alloc: Global, first: &[Wrote], second: &[Wrote]) -> Result<Logs, Memory> {
+    let mut lists = Seq::new(alloc);
+    lists.push(log_of(alloc, first)?)?;
+    lists.push(log_of(alloc, second)?)?;
+    Ok(Logs { lists })
+}
+
 /// The graph of logs, of a program with few objects.
-pub fn graph_of(alloc: Global, program: &Program, logs: &Logs) -> Result<SyncGraph, BadSync> {
+pub fn graph_of(alloc: Global, objects: Objects, logs: &Logs) -> Result<SyncGraph, BadSync> {
+    let program = program(alloc, objects)?;
     if program.sems.len() > 256 || program.chans.len() > 256 || logs.lists.len() > 256 {
         return Err(BadSync::Memory);
     }
-    graph(alloc, program, logs)
+    graph(alloc, &program, logs)
 }

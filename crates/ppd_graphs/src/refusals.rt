@@ -1,231 +1,205 @@
-use crate::logs::{graph_of, logs_of, silent, silent_one, with_chan, with_sem, with_sems};
-use ppd_ast::{Memory, Nums, Program, Seq, SyncKind};
-use ppd_entry::{At, Entry};
-use ppd_graph::{BadSync, NodeId, SyncGraph};
+use crate::logs::{Objects, Wrote, graph_of, logs_of};
+use SyncKind::{Done, P, Recv, Send, V};
+use Wanted::{Cycle, Missing, NoObject, Twice};
+use Wrote::{Silent, Sync, Unit};
+use ppd_ast::{Memory, SyncKind};
+use ppd_entry::At;
+use ppd_graph::{BadSync, NodeId};
 use std::alloc::Global;
 use std::test::Fail;
 
-// A process with units around one `V` of number 1.
-fn gives(alloc: Global) -> Result<Seq<Entry>, Memory> {
-    let mut entries = Seq::new(alloc);
-    entries.push(Entry::Prelog {
-        block: 0,
-        values: Nums::new(alloc),
-    })?;
-    entries.push(Entry::Unit {
-        unit: 0,
-        values: Nums::new(alloc),
-    })?;
-    entries.append(silent(alloc, &[(SyncKind::V, 1)])?.into_vec())?;
-    Ok(entries)
+/// A refusal: the entry by its process and number, the synchronization of object 0, or the cycle by processes and
+/// numbers.
+#[derive(Clone, Copy)]
+enum Wanted<'a> {
+    Twice(u8, u32),
+    Missing(SyncKind, u32),
+    Cycle(&'a [(u8, u32)]),
+    NoObject(u8, u32),
 }
 
-fn twice_of(answer: Result<SyncGraph, BadSync>) -> Option<At> {
-    match answer {
-        Ok(_graph) => None,
-        Err(refusal) => match refusal {
-            BadSync::NumberTwice(at) => Some(at),
-            _other => None,
-        },
+fn is_at(at: &At, process: u8, entry: u32) -> bool {
+    at.process == process && at.entry == entry
+}
+
+fn are_nodes(nodes: &[NodeId], wanted: &[(u8, u32)]) -> bool {
+    if nodes.len() != wanted.len() {
+        return false;
     }
-}
-
-fn missing_of(answer: Result<SyncGraph, BadSync>) -> Option<(SyncKind, u8, u32)> {
-    match answer {
-        Ok(_graph) => None,
-        Err(refusal) => match refusal {
-            BadSync::NumberMissing(kind, object, number) => Some((kind, object, number)),
-            _other => None,
-        },
-    }
-}
-
-fn no_object_of(answer: Result<SyncGraph, BadSync>) -> Option<At> {
-    match answer {
-        Ok(_graph) => None,
-        Err(refusal) => match refusal {
-            BadSync::NoObject(at) => Some(at),
-            _other => None,
-        },
-    }
-}
-
-fn cycle_of(answer: Result<SyncGraph, BadSync>) -> Option<Seq<NodeId>> {
-    match answer {
-        Ok(_graph) => None,
-        Err(refusal) => match refusal {
-            BadSync::Cycle(nodes) => Some(nodes),
-            _other => None,
-        },
-    }
-}
-
-// Two processes with the same number: the second one, at its third entry.
-#[test]
-fn number_twice(rt: HostRuntime) -> Result<(), Fail> {
-    let alloc = rt.alloc();
-    let logs = logs_of(alloc, gives(alloc)?, gives(alloc)?)?;
-    let program = with_sem(alloc, 0)?;
-    let second = At {
-        process: 1,
-        entry: 2,
-    };
-    assert!(rt; twice_of(graph_of(alloc, &program, &logs)) == Some(second));
-    Ok(())
-}
-
-// A receive in each process before the send that the other waits for: a cycle from its least synchronization.
-#[test]
-fn cycle(rt: HostRuntime) -> Result<(), Fail> {
-    let alloc = rt.alloc();
-    let a = silent(alloc, &[(SyncKind::Recv, 2), (SyncKind::Send, 1)])?;
-    let b = silent(alloc, &[(SyncKind::Recv, 1), (SyncKind::Send, 2)])?;
-    let logs = logs_of(alloc, a, b)?;
-    let program = with_chan(alloc, 4)?;
-    let Some(nodes) = cycle_of(graph_of(alloc, &program, &logs)) else {
-        panic!(rt; "the logs have a graph");
-    };
-    let node = |process: u8, sync: u32| NodeId { process, sync };
-    assert!(rt; nodes.as_slice() == [node(0, 0), node(0, 1), node(1, 0), node(1, 1)].as_slice());
-    Ok(())
-}
-
-// A process with units around a `P` and a `V` of a lock.
-fn locks(alloc: Global, block: u16, take: u32, give: u32) -> Result<Seq<Entry>, Memory> {
-    let mut own = Seq::new(alloc);
-    own.push(Entry::Prelog {
-        block,
-        values: Nums::new(alloc),
-    })?;
-    own.push(unit(alloc))?;
-    own.push(silent_one(alloc, SyncKind::P, 0, take))?;
-    own.push(unit(alloc))?;
-    own.push(silent_one(alloc, SyncKind::V, 0, give))?;
-    Ok(own)
-}
-
-// A lock's second process whose `V` claims the number of the first one's: its fifth entry.
-#[test]
-fn lock_claimed_twice(rt: HostRuntime) -> Result<(), Fail> {
-    let alloc = rt.alloc();
-    let second = At {
-        process: 1,
-        entry: 4,
-    };
-    let logs = logs_of(alloc, locks(alloc, 0, 1, 2)?, locks(alloc, 1, 2, 2)?)?;
-    assert!(rt; twice_of(graph_of(alloc, &with_sem(alloc, 1)?, &logs)) == Some(second));
-    Ok(())
-}
-
-fn unit(alloc: Global) -> Entry {
-    Entry::Unit {
-        unit: 0,
-        values: Nums::new(alloc),
-    }
-}
-
-// Each process takes what only the other gives, after it took: all four in a cycle.
-#[test]
-fn two_locks_in_a_cycle(rt: HostRuntime) -> Result<(), Fail> {
-    let alloc = rt.alloc();
-    let mut a = Seq::new(alloc);
-    a.push(silent_one(alloc, SyncKind::P, 0, 1))?;
-    a.push(silent_one(alloc, SyncKind::V, 1, 1))?;
-    let mut b = Seq::new(alloc);
-    b.push(silent_one(alloc, SyncKind::P, 1, 1))?;
-    b.push(silent_one(alloc, SyncKind::V, 0, 1))?;
-    let logs = logs_of(alloc, a, b)?;
-    let Some(nodes) = cycle_of(graph_of(alloc, &with_sems(alloc, &[0, 0])?, &logs)) else {
-        panic!(rt; "the logs have a graph");
-    };
-    let node = |process: u8, sync: u32| NodeId { process, sync };
-    assert!(rt; nodes.as_slice() == [node(0, 0), node(0, 1), node(1, 0), node(1, 1)].as_slice());
-    Ok(())
-}
-
-// What is missing where one process has these synchronizations of object 0.
-fn missing(
-    alloc: Global,
-    program: &Program,
-    steps: &[(SyncKind, u32)],
-) -> Result<Option<(SyncKind, u8, u32)>, Memory> {
-    let logs = logs_of(alloc, silent(alloc, steps)?, Seq::new(alloc))?;
-    Ok(missing_of(graph_of(alloc, program, &logs)))
-}
-
-// A case: what a process has, and what is missing then.
-type Case<'a> = (&'a [(SyncKind, u32)], (SyncKind, u32));
-
-fn all_miss(alloc: Global, program: &Program, cases: &[Case]) -> Result<bool, Memory> {
-    for case in cases {
-        let (kind, number) = case.1;
-        if missing(alloc, program, case.0)? != Some((kind, 0, number)) {
-            return Ok(false);
+    for (node, (process, sync)) in nodes.iter().zip(wanted.iter()) {
+        if node.process != *process || node.sync != *sync {
+            return false;
         }
     }
-    Ok(true)
+    true
 }
+
+fn is_refusal(found: &BadSync, wanted: Wanted) -> bool {
+    match (found, wanted) {
+        (BadSync::NumberTwice(at), Twice(process, entry)) => is_at(at, process, entry),
+        (BadSync::NumberMissing(kind, object, number), Missing(of, wanted)) => {
+            *kind == of && *object == 0 && *number == wanted
+        }
+        (BadSync::Cycle(nodes), Cycle(wanted)) => are_nodes(nodes.as_slice(), wanted),
+        (BadSync::NoObject(at), NoObject(process, entry)) => is_at(at, process, entry),
+        _ => false,
+    }
+}
+
+const SEMS: Objects<'static> = Objects {
+    sems: &[0, 0],
+    chans: &[],
+};
+
+const LOCK: Objects<'static> = Objects {
+    sems: &[1],
+    chans: &[],
+};
+
+const BUFFER: Objects<'static> = Objects {
+    sems: &[],
+    chans: &[4],
+};
+
+const PLACE: Objects<'static> = Objects {
+    sems: &[],
+    chans: &[1],
+};
+
+const HANDOVER: Objects<'static> = Objects {
+    sems: &[],
+    chans: &[0],
+};
+
+/// A case: the objects, what both processes wrote, and the refusal.
+type Case<'a> = (Objects<'a>, [&'a [Wrote<'a>]; 2], Wanted<'a>);
+
+/// Whether the logs of a case are refused like this.
+fn is_refused(alloc: Global, case: Case) -> Result<bool, Memory> {
+    let (objects, both, wanted) = case;
+    let logs = logs_of(alloc, both[0], both[1])?;
+    Ok(match graph_of(alloc, objects, &logs) {
+        Ok(_) => false,
+        Err(found) => is_refusal(&found, wanted),
+    })
+}
+
+// A number that stood before: the second process's, at its entry.
+const TWICE: [Case; 2] = [
+    (
+        SEMS,
+        [&[Unit, Unit, Silent(V, 1)], &[Unit, Unit, Silent(V, 1)]],
+        Twice(1, 2),
+    ),
+    (
+        LOCK,
+        [
+            &[Unit, Unit, Silent(P, 1), Unit, Silent(V, 2)],
+            &[Unit, Unit, Silent(P, 2), Unit, Silent(V, 2)],
+        ],
+        Twice(1, 4),
+    ),
+];
+
+// A receive in each process before the send that the other waits for, and each process takes what only the
+// other gives, after it took: all four in a cycle, from its least synchronization.
+const CYCLES: [Case; 2] = [
+    (
+        BUFFER,
+        [
+            &[Silent(Recv, 2), Silent(Send, 1)],
+            &[Silent(Recv, 1), Silent(Send, 2)],
+        ],
+        Cycle(&[(0, 0), (0, 1), (1, 0), (1, 1)]),
+    ),
+    (
+        SEMS,
+        [
+            &[Silent(P, 1), Sync(V, 1, 1, &[], &[])],
+            &[Sync(P, 1, 1, &[], &[]), Silent(V, 1)],
+        ],
+        Cycle(&[(0, 0), (0, 1), (1, 0), (1, 1)]),
+    ),
+];
 
 // A semaphore of initial value 1: a `P` left out, a `V` left out, and more taken than given.
-#[test]
-fn missing_of_a_semaphore(rt: HostRuntime) -> Result<(), Fail> {
-    use SyncKind::{P, V};
-    let alloc = rt.alloc();
-    let cases: [Case; 3] = [
-        (&[(P, 2)], (P, 1)),
-        (&[(V, 3)], (V, 2)),
-        (&[(P, 1), (P, 2)], (V, 2)),
-    ];
-    assert!(rt; all_miss(alloc, &with_sem(alloc, 1)?, &cases)?);
-    Ok(())
-}
+const MISSING_OF_A_SEMAPHORE: [Case; 3] = [
+    (LOCK, [&[Silent(P, 2)], &[]], Missing(P, 1)),
+    (LOCK, [&[Silent(V, 3)], &[]], Missing(V, 2)),
+    (LOCK, [&[Silent(P, 1), Silent(P, 2)], &[]], Missing(V, 2)),
+];
 
-// A channel of capacity 1: a send left out, more received than sent, a receive left out, and a send without a place.
-#[test]
-fn missing_of_a_channel(rt: HostRuntime) -> Result<(), Fail> {
-    use SyncKind::{Recv, Send};
-    let alloc = rt.alloc();
-    let cases: [Case; 4] = [
-        (&[(Send, 2)], (Send, 1)),
-        (&[(Recv, 1)], (Send, 1)),
-        (&[(Send, 1), (Send, 2), (Recv, 2)], (Recv, 1)),
-        (&[(Send, 1), (Send, 2)], (Recv, 1)),
-    ];
-    assert!(rt; all_miss(alloc, &with_chan(alloc, 1)?, &cases)?);
-    Ok(())
-}
+// A channel of capacity 1: a send left out, more received than sent, a receive left out, and a send without a
+// place. Only a channel of capacity 0 has completions.
+const MISSING_OF_A_CHANNEL: [Case; 5] = [
+    (PLACE, [&[Silent(Send, 2)], &[]], Missing(Send, 1)),
+    (PLACE, [&[Silent(Recv, 1)], &[]], Missing(Send, 1)),
+    (
+        PLACE,
+        [&[Silent(Send, 1), Silent(Send, 2), Silent(Recv, 2)], &[]],
+        Missing(Recv, 1),
+    ),
+    (
+        PLACE,
+        [&[Silent(Send, 1), Silent(Send, 2)], &[]],
+        Missing(Recv, 1),
+    ),
+    (
+        PLACE,
+        [&[Silent(Send, 1), Silent(Done, 1)], &[]],
+        NoObject(0, 1),
+    ),
+];
 
-// A channel of capacity 0: the same three, more completed than received, a completion left out, and an offer before the
-// completion of the one before it.
-#[test]
-fn missing_of_a_handover(rt: HostRuntime) -> Result<(), Fail> {
-    use SyncKind::{Done, Recv, Send};
-    let alloc = rt.alloc();
-    let cases: [Case; 6] = [
-        (&[(Send, 2)], (Send, 1)),
-        (&[(Recv, 1)], (Send, 1)),
-        (&[(Send, 1), (Send, 2), (Recv, 2)], (Recv, 1)),
-        (&[(Send, 1), (Done, 1)], (Recv, 1)),
-        (
-            &[(Send, 1), (Send, 2), (Recv, 1), (Recv, 2), (Done, 2)],
-            (Done, 1),
-        ),
-        (&[(Send, 1), (Send, 2)], (Done, 1)),
-    ];
-    assert!(rt; all_miss(alloc, &with_chan(alloc, 0)?, &cases)?);
-    Ok(())
-}
+// A channel of capacity 0: the same first three, more completed than received, a completion left out, and an offer
+// before the completion of the one before it.
+const MISSING_OF_A_HANDOVER: [Case; 6] = [
+    (HANDOVER, [&[Silent(Send, 2)], &[]], Missing(Send, 1)),
+    (HANDOVER, [&[Silent(Recv, 1)], &[]], Missing(Send, 1)),
+    (
+        HANDOVER,
+        [&[Silent(Send, 1), Silent(Send, 2), Silent(Recv, 2)], &[]],
+        Missing(Recv, 1),
+    ),
+    (
+        HANDOVER,
+        [&[Silent(Send, 1), Silent(Done, 1)], &[]],
+        Missing(Recv, 1),
+    ),
+    (
+        HANDOVER,
+        [
+            &[
+                Silent(Send, 1),
+                Silent(Send, 2),
+                Silent(Recv, 1),
+                Silent(Recv, 2),
+                Silent(Done, 2),
+            ],
+            &[],
+        ],
+        Missing(Done, 1),
+    ),
+    (
+        HANDOVER,
+        [&[Silent(Send, 1), Silent(Send, 2)], &[]],
+        Missing(Done, 1),
+    ),
+];
 
-// Only a channel of capacity 0 has completions.
 #[test]
-fn completion_of_a_place(rt: HostRuntime) -> Result<(), Fail> {
-    let alloc = rt.alloc();
-    let a = silent(alloc, &[(SyncKind::Send, 1), (SyncKind::Done, 1)])?;
-    let logs = logs_of(alloc, a, Seq::new(alloc))?;
-    let second = At {
-        process: 0,
-        entry: 1,
-    };
-    assert!(rt; no_object_of(graph_of(alloc, &with_chan(alloc, 1)?, &logs)) == Some(second));
+fn logs_without_a_graph(rt: HostRuntime) -> Result<(), Fail> {
+    let groups: [&[Case]; 5] = [
+        &TWICE,
+        &CYCLES,
+        &MISSING_OF_A_SEMAPHORE,
+        &MISSING_OF_A_CHANNEL,
+        &MISSING_OF_A_HANDOVER,
+    ];
+    for (group, cases) in groups.iter().enumerate() {
+        for (number, case) in cases.iter().enumerate() {
+            assert!(rt; is_refused(rt.alloc(), *case)?, "{group} {number}");
+        }
+    }
     Ok(())
 }

@@ -5,12 +5,13 @@ use Rattle.std.proofs.lemmas.Bool.{eqb-true}
 use Rattle.ppd_ast.specs.declared.plan.Plan.{Plan}
 use Rattle.ppd_entry.specs.declared.entry.Entry.{Entry}
 use Rattle.ppd_entry.specs.declared.entry.Entry.TheVariants as entry
-use Rattle.ppd_entry.specs.IntervalLogs.{IntervalLog, Indexed, Indexing, add_piece, add_piece_at, begun_indexing, depth_of, index_step, indexed, inner, interval_at, left, left_open, log_in, new_interval, interval_log}
+use Rattle.ppd_entry.specs.IntervalLogs.{IntervalLog, Indexed, Indexing, add_piece, add_piece_at, begun_indexing, depth_of, index_step, indexed, inner, interval_at, left_interval, left_open, log_in, new_interval, interval_log}
 use Rattle.ppd_entry.specs.Pieces.{Piece, finish, nested, postlog, sync, unfinished, unit}
+use Rattle.ppd_entry.specs.Entries.{is_end}
 use Rattle.ppd_sem.specs.Blocks.{block_kind, is_function}
 use Rattle.ppd_model.specs.FullTrace.{or_else}
 use Rattle.ppd_index.specs.Fitting.{AreFittingPieces, IsFittingLog, fits_piece}
-use Rattle.ppd_index.specs.Refusals.{bad, fault_of, first_from, fits_postlog, innermost_of, is_end, is_same, refusal, standing}
+use Rattle.ppd_index.specs.Refusals.{bad, fault_of, first_from, fits_postlog, innermost_of, is_same, refusal, standing}
 use Rattle.ppd_index.proofs.Passed.{HasPassed, mapped_none, passed, room}
 
 -- each of these intervals' logs fits
@@ -58,7 +59,7 @@ depth_more false d h r = omega (arith, h)
 same_block : (b c : ℕ) → nat_eq c b ≡ true → b ≡ c
 same_block b c h = sym (eqb-true c b h)
 
-left_fits : (plan : Plan) (x : Indexing) (b : ℕ) (ks : List ℕ) (values : List ℤ) → x.running ≡ ks → EachFits plan x.intervals → is_same b (innermost_of ks x.intervals) ≡ true → fits_postlog (slice_get plan.blocks b) values ≡ true → EachFits plan (left x ks values)
+left_fits : (plan : Plan) (x : Indexing) (b : ℕ) (ks : List ℕ) (values : List ℤ) → x.running ≡ ks → EachFits plan x.intervals → is_same b (innermost_of ks x.intervals) ≡ true → fits_postlog (slice_get plan.blocks b) values ≡ true → EachFits plan (left_interval x ks values)
 left_fits plan x b [] values is h s f = h
 left_fits plan x b (k ∷ ks) values is h s f =
     let i = interval_at x.intervals k in

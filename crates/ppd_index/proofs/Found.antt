@@ -6,11 +6,12 @@ use Rattle.std.proofs.lemmas.List.{drop_all}
 use Rattle.ppd_ast.specs.declared.plan.Plan.{Plan}
 use Rattle.ppd_ast.specs.declared.program.Program.{Program}
 use Rattle.ppd_entry.specs.declared.entry.Entry.{Entry}
+use Rattle.ppd_entry.specs.Entries.{is_end}
 use Rattle.ppd_model.specs.FullTrace.{or_else}
 use Rattle.ppd_index.specs.declared.refusal.BadLog.{BadLog}
 use Rattle.ppd_index.specs.declared.refusal.BadLog.TheVariants.{Unpaired, NoEnd, AfterEnd, WrongValues, Memory}
 use Rattle.ppd_index.specs.declared.standing.Standing.{Standing}
-use Rattle.ppd_index.specs.Refusals.{IsRefused, first_bad, first_from, is_end, refusal, standing, unended}
+use Rattle.ppd_index.specs.Refusals.{IsRefused, first_bad, first_from, refusal, standing, unended}
 use Rattle.ppd_index.specs.Tables.{Tabled, begun_table, standing_in, table_step}
 use Rattle.ppd_index.proofs.Rows.{depth_same, innermost_same}
 use Rattle.ppd_index.proofs.Tabled.{here, indexed_step, indexing_of, one_on, shifted}

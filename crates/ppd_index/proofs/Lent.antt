@@ -7,12 +7,13 @@ use Rattle.ppd_entry.specs.declared.entry.Entry.{Entry}
 use Rattle.ppd_entry.specs.declared.entry.Logs.{Logs}
 use Rattle.ppd_entry.specs.IntervalLogs.{IntervalLog, Indexed, interval_log, log_in}
 use Rattle.ppd_entry.specs.Pieces.{Piece}
+use Rattle.ppd_entry.specs.Entries.{entries_at}
 use Rattle.ppd_model.specs.Bounds.{AreEach}
 use Rattle.ppd_index.specs.declared.row.Mark.{Mark}
 use Rattle.ppd_index.specs.declared.row.Mark.TheVariants as mark
 use Rattle.ppd_index.specs.declared.row.Row.{Row}
 use Rattle.ppd_index.specs.Fitting.{AreFittingLogs, IsFittingLog}
-use Rattle.ppd_index.specs.Indexes.{AreIntervals, IsLogOf, entries_at, entry_of, piece_in, rows_at}
+use Rattle.ppd_index.specs.Indexes.{AreIntervals, IsLogOf, entry_of, piece_in, rows_at}
 use Rattle.ppd_index.specs.Refusals.{first_bad, first_in_lists}
 use Rattle.ppd_index.specs.Tables.{indexed_of, log_of, number_of, piece_at}
 use Rattle.ppd_index.proofs.Fitting.{logs_fit, or_none}

@@ -3,7 +3,7 @@ use Rattle.std.proofs.Common.{◌≡◌, ℕ, zero, suc, ℤ, List, [], ◌∷�
 use Rattle.std.specs.Prelude.{true, slice_get}
 use Rattle.std.proofs.lemmas.List.{map-append}
 use Rattle.ppd_entry.specs.declared.entry.Entry.{Entry}
-use Rattle.ppd_entry.specs.IntervalLogs.{Indexed, Indexing, add_piece, add_piece_at, depth_of, interval_at, left, left_open, with_piece}
+use Rattle.ppd_entry.specs.IntervalLogs.{Indexed, Indexing, add_piece, add_piece_at, depth_of, interval_at, left_interval, left_open, with_piece}
 use Rattle.ppd_entry.specs.Pieces.{Piece, nested, postlog, unfinished}
 use Rattle.ppd_model.specs.Extents.{Extent, ended_by as ends_by, first_of, left_by}
 use Rattle.ppd_model.specs.World.{change}
@@ -75,7 +75,7 @@ abbrev within : List Indexed → List ℕ → ℕ → Indexing
 within intervals running n = record { intervals = intervals; running = running; entry = n }
 
 pub left_same : (entries : List Entry) (n : ℕ) (values : List ℤ) (ks : List ℕ) (rows : List Row) → ((k : ℕ) (b f : ℕ) → piece_at entries (mark.Left k b f n) ≡ (f, nested k b values)) → piece_at entries (mark.Own n) ≡ (n, postlog values)
-    → logs_of entries (left_rows n ks rows) ≡ left (within (logs_of entries rows) ks n) ks values
+    → logs_of entries (left_rows n ks rows) ≡ left_interval (within (logs_of entries rows) ks n) ks values
 left_same entries n values [] rows outer own = refl
 left_same entries n values (k ∷ ks) rows outer own =
     let b = block_in (slice_get rows k) in

@@ -4,7 +4,7 @@ use Rattle.ppd_ast.specs.declared.plan.Plan.{Plan}
 use Rattle.ppd_entry.specs.declared.entry.Logs.{Logs}
 use Rattle.ppd_entry.specs.IntervalLogs.{IntervalLog, interval_log}
 use Rattle.ppd_entry.specs.Pieces.{Piece, unit, sync, nested, unfinished, postlog, finish}
-use Rattle.ppd_index.specs.Indexes.{entries_at}
+use Rattle.ppd_entry.specs.Entries.{entries_at}
 use Rattle.ppd_index.specs.Refusals.{fits_postlog, fits_prelog, fits_unit}
 
 -- a unit has as many values as the plan's, and a postlog, the interval's own or one inside

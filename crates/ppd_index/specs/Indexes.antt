@@ -5,6 +5,7 @@ use Rattle.ppd_entry.specs.declared.entry.Entry.{Entry}
 use Rattle.ppd_entry.specs.declared.entry.Logs.{Logs}
 use Rattle.ppd_entry.specs.IntervalLogs.{IntervalLog, indexed, interval_log}
 use Rattle.ppd_entry.specs.Pieces.{Piece}
+use Rattle.ppd_entry.specs.Entries.{entries_at}
 use Rattle.ppd_model.specs.Bounds.{AreEach}
 use Rattle.ppd_model.specs.Extents.{extents}
 use Rattle.ppd_index.specs.declared.interval.Interval.{Interval}
@@ -35,10 +36,6 @@ interval_of r =
       closed = r.closed;
       depth = r.depth;
     }
-
--- the entries of process p, and none past the processes
-abbrev pub entries_at : Logs → ℕ → List Entry
-entries_at logs p = get_or logs.lists p []
 
 -- this log is that of interval k of process p, wherever the index is that of the logs
 abbrev pub IsLogOf : Logs → List (List Row) → ℕ → ℕ → IntervalLog → Type 0

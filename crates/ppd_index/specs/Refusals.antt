@@ -12,6 +12,7 @@ use Rattle.ppd_entry.specs.declared.entry.At.{At}
 use Rattle.ppd_entry.specs.declared.entry.Entry.{Entry}
 use Rattle.ppd_entry.specs.declared.entry.Entry.TheVariants as entry
 use Rattle.ppd_entry.specs.IntervalLogs.{Indexed, Indexing, begun_indexing, depth_of, index_step, interval_at}
+use Rattle.ppd_entry.specs.Entries.{is_end}
 use Rattle.ppd_model.specs.FullTrace.{or_else}
 use Rattle.ppd_index.specs.declared.refusal.BadLog.{BadLog}
 use Rattle.ppd_index.specs.declared.refusal.BadLog.TheVariants.{Unpaired, NoEnd, AfterEnd, WrongValues, Memory}
@@ -66,10 +67,6 @@ is_fitting plan (entry.Postlog b values) = fits_postlog (slice_get plan.blocks b
 is_fitting plan (entry.End status rest reads writes) = true
 
 -- ---- the tests of an entry
-
-abbrev pub is_end : Entry → Bool
-is_end (entry.End status rest reads writes) = true
-is_end e = false
 
 -- entry 0 has to be the prelog of the process's own block
 abbrev pub begins : Plan → ℕ → Entry → Bool

@@ -1,7 +1,8 @@
 ghost use Rattle.std.specs.Prelude.{◌≡◌, ◌+◌, ◌*◌, ◌≤◌, ◌<◌, ◌^◌, ◌||◌, [], None, length, IfOk, IfErr, OnOk};
+ghost use Rattle.ppd_entry.specs.Entries.{is_end};
 ghost use Rattle.ppd_index.specs.Fitting.{AreFittingLogs};
 ghost use Rattle.ppd_index.specs.Indexes.{IsIndexOf};
-ghost use Rattle.ppd_index.specs.Refusals.{IsRefused, bad as bad_at, first_bad, first_in_lists, is_end, refusal, unended};
+ghost use Rattle.ppd_index.specs.Refusals.{IsRefused, bad as bad_at, first_bad, first_in_lists, refusal, unended};
 ghost use Rattle.ppd_index.specs.Spending.{index_cost, still_open};
 ghost use Rattle.ppd_index.specs.Tables.{rows_of, standing_in, table_step, tabled};
 

@@ -9,8 +9,6 @@ mod refusal;
 mod row;
 mod standing;
 mod table;
-#[cfg(test)]
-mod tests;
 
 pub use build::{index, index_in};
 pub use interval::Interval;

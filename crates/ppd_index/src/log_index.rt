@@ -1,6 +1,7 @@
 ghost use Rattle.std.specs.Prelude.{◌≡◌, ◌<◌, ◌^◌, length, option_map, slice_get};
 ghost use Rattle.std.specs.List.{All};
-ghost use Rattle.ppd_index.specs.Indexes.{IsLogOf, entries_at as entries_in, interval_of as interval_in, rows_at as rows_in};
+ghost use Rattle.ppd_entry.specs.Entries.{entries_at as entries_in};
+ghost use Rattle.ppd_index.specs.Indexes.{IsLogOf, interval_of as interval_in, rows_at as rows_in};
 
 use crate::interval::Interval;
 use crate::interval_log::IntervalLog;

@@ -1,5 +1,6 @@
 ghost use Rattle.std.specs.Prelude.{◌≡◌, ◌||◌, slice_get};
-ghost use Rattle.ppd_index.specs.Refusals.{begins as begins_in, continues as continues_in, ends_there as may_end, fault_of, fits_postlog as does_fit_postlog, fits_prelog as does_fit_prelog, fits_unit as does_fit_unit, is_body as is_body_of, is_end as is_end_of, is_fitting as is_fitting_in, is_of_function as is_function_of, is_paired as is_paired_in, is_process as is_process_of, is_same as is_same_as, kind_at as kind_in_plan};
+ghost use Rattle.ppd_entry.specs.Entries.{is_end as is_end_of};
+ghost use Rattle.ppd_index.specs.Refusals.{begins as begins_in, continues as continues_in, ends_there as may_end, fault_of, fits_postlog as does_fit_postlog, fits_prelog as does_fit_prelog, fits_unit as does_fit_unit, is_body as is_body_of, is_fitting as is_fitting_in, is_of_function as is_function_of, is_paired as is_paired_in, is_process as is_process_of, is_same as is_same_as, kind_at as kind_in_plan};
 
 use ppd_ast::limits::MOST_CALLS;
 use ppd_ast::{BlockKind, Plan, Status};

@@ -1,9 +1,9 @@
 ghost use Rattle.std.specs.Prelude.{◌≡◌, ◌+◌, ◌≤◌, ◌++◌, ◌∷◌, [], drop, IfOk, length, slice_get, if◌then◌else◌, OnOk};
+ghost use Rattle.ppd_entry.specs.Entries.{is_end};
 ghost use Rattle.ppd_sem.specs.Blocks.{block_kind, is_function};
 ghost use Rattle.ppd_model.specs.Extents.{first_of};
 ghost use Rattle.ppd_model.specs.World.{change};
 ghost use Rattle.ppd_index.specs.declared.row.Mark.TheVariants as mark;
-ghost use Rattle.ppd_index.specs.Refusals.{is_end};
 ghost use Rattle.ppd_index.specs.Spending.{still_open};
 ghost use Rattle.ppd_index.specs.Tables.{HasRoom, HasRoomFor, add_mark, add_mark_to as adds_mark, begun_table, block_in, block_there, closed_by, depth_at, depth_there, ended_by, first_in, left_one as leaves_one, left_rows, new_row as row_of, open_one as opens_one, open_rows, standing_in, table_step, tabled, with_mark};
 

@@ -14,6 +14,7 @@ use Rattle.ppd_ast.specs.declared.plan.Start.TheVariants as start
 use Rattle.ppd_ast.specs.declared.program.Body.{Body}
 use Rattle.ppd_ast.specs.declared.program.Program.{Program}
 use Rattle.ppd_ast.specs.declared.status.Trap.TheVariants as trap
+use Rattle.ppd_ast.specs.Lookups.{kind_of, body_of, params_of_body}
 use Rattle.ppd_blocks.specs.Blocks.{params_of, plan_of}
 use Rattle.ppd_sem.specs.declared.asking.Pause.TheVariants.{Wants, Traps}
 use Rattle.ppd_sem.specs.declared.proc.Frame.{Frame}
@@ -26,13 +27,13 @@ use Rattle.ppd_sem.specs.Asked.{Asked, outcome}
 use Rattle.ppd_sem.specs.Blocks.{postlog_cells, prelog_cells}
 use Rattle.ppd_sem.specs.Deed.{Deed, set_local, set_shared, clear, branch, turn, leave, invoke, back, take, give, send, receive, print, pass, finish}
 use Rattle.ppd_sem.specs.Passed.{arguments_at, arguments_by, arguments_of_head, result_at, result_by, result_of_head}
-use Rattle.ppd_sem.specs.Process.{call_unit, cost, entry_of, head_deed, kind_of, loop_of, need_by_entry, need_by_offer, need_of, need_of_asked, need_of_deed, need_of_head, need_of_leaving, need_of_running, need_of_send, offer_of, top_body, top_call, top_cells}
+use Rattle.ppd_sem.specs.Process.{call_unit, cost, entry_of, head_deed, loop_of, need_by_entry, need_by_offer, need_of, need_of_asked, need_of_deed, need_of_head, need_of_leaving, need_of_running, need_of_send, offer_of, top_body, top_call, top_cells}
 use Rattle.ppd_sem.specs.Tables.{block_of, capacity_of, unit_of}
 use Rattle.ppd_sem.proofs.Progress.{need_at_todo}
 use Rattle.ppd_model.specs.Logs.{status_of}
 use Rattle.ppd_model.specs.Marks.{Mark, opened, closed, values_at}
-use Rattle.ppd_model.proofs.Homes.{AskedOf, DeedOf, body_at, head_of, params_if}
-use Rattle.ppd_nested.specs.Stack.{block_frames, bodies_in, body_of, returning}
+use Rattle.ppd_model.proofs.Homes.{AskedOf, DeedOf, head_of}
+use Rattle.ppd_nested.specs.Stack.{block_frames, bodies_in, returning}
 use Rattle.ppd_nested.proofs.DeedKinds.{found_while, loop_is}
 use Rattle.ppd_nested.proofs.Framed.{body_is, head_returns}
 use Rattle.ppd_nested.proofs.Planned.{postlog_cells_are, prelog_cells_are}
@@ -78,7 +79,7 @@ module _ (program : Program) (policy : Policy) (v : IsValid program) where
   abbrev pub IsPostlog : Mark → Type 0
   IsPostlog m = fits_postlog (slice_get plan.blocks m.block) m.values ≡ true
 
-  params_length : (o : Option Body) → length (params_of o) ≡ params_if o
+  params_length : (o : Option Body) → length (params_of o) ≡ params_of_body o
   params_length None = refl
   params_length (Some b) = length-range_with_len 0 b.params
 
@@ -135,7 +136,7 @@ module _ (program : Program) (policy : Policy) (v : IsValid program) where
         by [] e lt = let none : 0 ≡ length (returning program (t ∷ ts) ++ base ∷ []) = ap (λ bs. length bs) e in let some : length (returning program (t ∷ ts) ++ base ∷ []) ≡ length (returning program (t ∷ ts)) + 1 = length-append (returning program (t ∷ ts)) (base ∷ []) in absurd (omega (arith, none, some))
         by (f ∷ fs) e lt = let few : block_frames plan (f ∷ fs) ≤ length fs = few_blocks plan f fs in small (block_frames plan (f ∷ fs)) (length fs) s.below few lt
 
-    invoking : (f : ℕ) (values : List ℤ) (into : Option ℕ) (left : List ℤ) → head_deed program t s ≡ Ok (invoke f values into, left) → length values ≡ params_if (slice_get program.bodies f) → nat_le 64 (block_frames plan s.frames) ≡ false
+    invoking : (f : ℕ) (values : List ℤ) (into : Option ℕ) (left : List ℤ) → head_deed program t s ≡ Ok (invoke f values into, left) → length values ≡ params_of_body (slice_get program.bodies f) → nat_le 64 (block_frames plan s.frames) ≡ false
         → (o : Option ℕ) → block_of plan (block.Function f) ≡ o → (u : ℕ) → Marks (need.Invoke o u)
     invoking f values into left head count few None e u = neither (need.Invoke None u) refl refl
     invoking f values into left head count few (Some b) e u =
@@ -146,7 +147,7 @@ module _ (program : Program) (policy : Policy) (v : IsValid program) where
           few = ap (λ k. is_of_function k && nat_le 64 (block_frames plan s.frames)) (kind_found program policy v (block.Function f) b e) ∙ few;
         })
 
-    calling : (x : Bool) (f : ℕ) (values : List ℤ) (into : Option ℕ) (left : List ℤ) → head_deed program t s ≡ Ok (invoke f values into, left) → length values ≡ params_if (slice_get program.bodies f) → nat_lt 64 (s.below + length s.frames) ≡ x
+    calling : (x : Bool) (f : ℕ) (values : List ℤ) (into : Option ℕ) (left : List ℤ) → head_deed program t s ≡ Ok (invoke f values into, left) → length values ≡ params_of_body (slice_get program.bodies f) → nat_lt 64 (s.below + length s.frames) ≡ x
         → Marks (if x then need.Trap trap.Depth else need.Invoke (block_of plan (block.Function f)) (unit_of plan (start.Entry f)))
     calling true f values into left head count e = neither (need.Trap trap.Depth) refl refl
     calling false f values into left head count e = invoking f values into left head count (few_frames e) (block_of plan (block.Function f)) refl (unit_of plan (start.Entry f))
@@ -159,7 +160,7 @@ module _ (program : Program) (policy : Policy) (v : IsValid program) where
         (postlog_fits program policy v (block.Function f) b e (result_at program s)
         (ap (λ vs. length vs) same ∙ value_length value ∙ ap (λ x. one_where x) value_is ∙ (let z : one_where (gives (slice_get program.bodies f)) ≡ 0 + one_where (gives (slice_get program.bodies f)) = omega arith in z)))
 
-    returning_back : (value : Option ℤ) (left : List ℤ) → head_deed program t s ≡ Ok (back value, left) → DeedOf program (body_at program t.stmt) (kind_of program t.stmt) (back value)
+    returning_back : (value : Option ℤ) (left : List ℤ) → head_deed program t s ≡ Ok (back value, left) → DeedOf program (body_of program t.stmt) (kind_of program t.stmt) (back value)
         → Marks (need.Back (block_of plan (block.Function (top_body s.frames))) (call_unit plan (top_call s.frames)))
     returning_back value left head h =
         let own : top_body s.frames ≡ body_of program t.stmt = top_is s (body_of program t.stmt) (returning program ts ++ base ∷ []) (framed ∙ ap (λ bs. bs ++ base ∷ []) (head_returns program t ts h.0)) in
@@ -171,7 +172,7 @@ module _ (program : Program) (policy : Policy) (v : IsValid program) where
     sending zero c value = neither (need.Offer c value) refl refl
     sending (suc n) c value = neither (need.Send c value (unit_of plan (start.After t.stmt))) refl refl
 
-    by_deed : (d : Deed) (left : List ℤ) → head_deed program t s ≡ Ok (d, left) → DeedOf program (body_at program t.stmt) (kind_of program t.stmt) d → Marks (need_of_deed program plan t.stmt s d)
+    by_deed : (d : Deed) (left : List ℤ) → head_deed program t s ≡ Ok (d, left) → DeedOf program (body_of program t.stmt) (kind_of program t.stmt) d → Marks (need_of_deed program plan t.stmt s d)
     by_deed (set_local c x) left head h = neither need.Plain refl refl
     by_deed (set_shared c x) left head h = neither (need.Write c x) refl refl
     by_deed (clear first len) left head h = neither need.Plain refl refl
@@ -188,7 +189,7 @@ module _ (program : Program) (policy : Policy) (v : IsValid program) where
     by_deed pass left head h = neither need.Plain refl refl
     by_deed finish left head h = ((λ m e. absurd (none-some m e)), (λ m e goes. absurd (none-some _ (sym goes))))
 
-    by_asked : (x : Asked Deed) → head_deed program t s ≡ x → AskedOf program (body_at program t.stmt) (kind_of program t.stmt) x → Marks (need_of_asked program plan t.stmt s x)
+    by_asked : (x : Asked Deed) → head_deed program t s ≡ x → AskedOf program (body_of program t.stmt) (kind_of program t.stmt) x → Marks (need_of_asked program plan t.stmt s x)
     by_asked (Ok q) head h = by_deed q.0 q.1 head h
     by_asked (Err (Wants c)) head h = neither (need.Read c) refl refl
     by_asked (Err (Traps x)) head h = neither (need.Trap x) refl refl

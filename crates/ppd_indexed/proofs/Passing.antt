@@ -9,7 +9,7 @@ use Rattle.ppd_ast.specs.declared.program.Program.{Program}
 use Rattle.ppd_ast.specs.declared.status.Status.{Status}
 use Rattle.ppd_ast.specs.declared.status.Status.TheVariants as status
 use Rattle.ppd_blocks.specs.Blocks.{plan_of}
-use Rattle.ppd_course.specs.Course.{EndsWithEnd}
+use Rattle.ppd_step_laws.specs.Course.{EndsWithEnd}
 use Rattle.ppd_entry.specs.declared.entry.Entry.{Entry}
 use Rattle.ppd_entry.specs.declared.entry.Entry.TheVariants as entry
 use Rattle.ppd_entry.specs.IntervalLogs.{Indexing, index_step}
@@ -18,7 +18,7 @@ use Rattle.ppd_sem.specs.declared.proc.Todo.{Todo}
 use Rattle.ppd_sem.specs.Process.{act, need_of}
 use Rattle.ppd_model.specs.declared.state.Logging.{Logging}
 use Rattle.ppd_model.specs.declared.tracing.Taken.{Taken}
-use Rattle.ppd_model.specs.Logs.{closed_log, entries_of, log_step, passed, status_of, units}
+use Rattle.ppd_model.specs.Logs.{closed_log, entries_of, log_step, passed_value, status_of, units}
 use Rattle.ppd_model.specs.Marks.{Mark, opened, closed}
 use Rattle.ppd_model.specs.Story.{Moment, unit_started}
 use Rattle.ppd_model.specs.Synchronizations.{Sync, sync_of}
@@ -103,9 +103,9 @@ module _ (program : Program) (policy : Policy) (v : IsValid program) (p : ℕ) (
       passes_pass None move = units_inside u x after fits (subst (Stands plan x) move stands) next
       passes_pass (Some z) move =
           let i = inside_some (open_blocks program plan s.todo) (process_block program plan p) in
-          let e : Entry = entry.Sync z.kind z.object z.number (passed t.need t.answer) l.reads l.writes in
-          one_more plan body p x e ((units u values ++ []) ++ es) (fit_sync plan body x i.0 i.1 (subst (Stands plan x) i.2 stands) z.kind z.object z.number (passed t.need t.answer) l.reads l.writes) refl
-          (units_inside u (index_step plan x e) after fits (subst (Stands plan (index_step plan x e)) move (after_sync plan x z.kind z.object z.number (passed t.need t.answer) l.reads l.writes (Open s) stands)) next)
+          let e : Entry = entry.Sync z.kind z.object z.number (passed_value t.need t.answer) l.reads l.writes in
+          one_more plan body p x e ((units u values ++ []) ++ es) (fit_sync plan body x i.0 i.1 (subst (Stands plan x) i.2 stands) z.kind z.object z.number (passed_value t.need t.answer) l.reads l.writes) refl
+          (units_inside u (index_step plan x e) after fits (subst (Stands plan (index_step plan x e)) move (after_sync plan x z.kind z.object z.number (passed_value t.need t.answer) l.reads l.writes (Open s) stands)) next)
 
     module _ (x : Indexing) (s : Proc) (stands : Stands plan x (Open s)) (none : es ≡ []) where
       ends_pass : (a : Mark) (how : Status) → fits_postlog (slice_get plan.blocks a.block) a.values ≡ true → how ≡ status.Ended → Open s ≡ a.block ∷ [] → Passes plan body p x (news l t values None None (Some a) None (Some how) ++ es)

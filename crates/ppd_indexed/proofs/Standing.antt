@@ -6,7 +6,7 @@ use Rattle.std.specs.Prelude.{⊤, drop, nat_eq}
 use Rattle.ppd_ast.specs.declared.plan.Plan.{Plan}
 use Rattle.ppd_ast.specs.declared.status.SyncKind.{SyncKind}
 use Rattle.ppd_entry.specs.declared.entry.Entry.TheVariants as entry
-use Rattle.ppd_entry.specs.IntervalLogs.{Indexed, Indexing, add_piece, add_piece_at, depth_of, index_step, interval_at, left, new_interval}
+use Rattle.ppd_entry.specs.IntervalLogs.{Indexed, Indexing, add_piece, add_piece_at, depth_of, index_step, interval_at, left_interval, new_interval}
 use Rattle.ppd_entry.specs.Pieces.{Piece, nested, postlog, sync, unit}
 use Rattle.ppd_sem.specs.Blocks.{block_kind, is_function}
 use Rattle.ppd_nested.specs.Stack.{functions_in}
@@ -135,7 +135,7 @@ module _ (plan : Plan) where
   pub after_postlog : (x : Indexing) (c : ℕ) (values : List ℤ) (b : ℕ) (bs : List ℕ) → Stands x (b ∷ bs) → Stands (index_step plan x (entry.Postlog c values)) bs
   after_postlog x c values b bs s = by x.running s.falls s.are
     where
-      by : (ks : List ℕ) → Falls (length x.intervals) ks → AreOf plan x.intervals ks (b ∷ bs) → Stands (record x { intervals = left x ks values; running = drop 1 ks; entry = x.entry + 1 }) bs
+      by : (ks : List ℕ) → Falls (length x.intervals) ks → AreOf plan x.intervals ks (b ∷ bs) → Stands (record x { intervals = left_interval x ks values; running = drop 1 ks; entry = x.entry + 1 }) bs
       by [] f h = absurd h
       by (k ∷ ks) f h =
           let i : Indexed = interval_at x.intervals k in

@@ -8,19 +8,20 @@ use Rattle.ppd_ast.specs.declared.plan.Start.TheVariants.{Entry}
 use Rattle.ppd_ast.specs.declared.plan.Unit.{Unit as UnitOf}
 use Rattle.ppd_ast.specs.declared.program.Program.{Program}
 use Rattle.ppd_blocks.specs.Blocks.{plan_of}
-use Rattle.ppd_course.specs.Course.{EndsWithEnd, head_of}
-use Rattle.ppd_course.proofs.Beginning.{starts_on_course}
-use Rattle.ppd_course.proofs.Leading.{steps_lead}
+use Rattle.ppd_step_laws.specs.Course.{EndsWithEnd}
+use Rattle.ppd_step_laws.proofs.Course.Beginning.{starts_on_course}
+use Rattle.ppd_step_laws.proofs.Course.Leading.{steps_lead}
 use Rattle.ppd_sem.specs.declared.proc.Answer.{Answer}
 use Rattle.ppd_sem.specs.declared.proc.Proc.{Proc}
 use Rattle.ppd_sem.specs.declared.proc.Todo.{Todo}
 use Rattle.ppd_sem.specs.Process.{act, need_of, started}
 use Rattle.ppd_sem.specs.Tables.{unit_of}
+use Rattle.ppd_sem.specs.Passed.{next_stmt_of}
 use Rattle.ppd_model.specs.Story.{cells_of_unit, unit_started}
 use Rattle.ppd_nested.specs.Stack.{IsInOrder}
-use Rattle.ppd_reads.proofs.InForce.{HasHeadOf, starts_body, steps_on}
-use Rattle.ppd_reads.proofs.Needs.{AreCalled, starts_called, stays_called}
-use Rattle.ppd_reads.proofs.Numbers.{unit_there}
+use Rattle.ppd_step_laws.proofs.Units.InForce.{HasHeadOf, starts_body, steps_on}
+use Rattle.ppd_step_laws.proofs.Units.Needs.{AreCalled, starts_called, stays_called}
+use Rattle.ppd_step_laws.proofs.Units.Numbers.{unit_there}
 use Rattle.ppd_index.specs.Refusals.{fits_unit}
 
 module _ (program : Program) (policy : Policy) (v : IsValid program) where
@@ -54,7 +55,7 @@ module _ (program : Program) (policy : Policy) (v : IsValid program) where
   -- a step of a process that goes on
   pub next_under : (u p : ℕ) (s : Proc) (a : Answer) (t : Todo) (ts : List Todo) → s.todo ≡ t ∷ ts → IsInOrder program plan p s → IsUnder u s → (act program plan s a).status ≡ None → IsUnder (unwrap_or (unit_started (need_of program plan s)) u) (act program plan s a)
   next_under u p s a t ts is order h runs =
-      elim (steps_on program policy v s a t ts u is (subst (HasHeadOf program policy u) is h.head) h.called (steps_lead program plan s a t.stmt v order.course (ap head_of is))) [
+      elim (steps_on program policy v s a t ts u is (subst (HasHeadOf program policy u) is h.head) h.called (steps_lead program plan s a t.stmt v order.course (ap next_stmt_of is))) [
         | inl stopped ↦ absurd (true≢false (sym (subst IsSome runs stopped)))
         | inr head ↦ record { head = head; called = stays_called program plan s a h.called }
       ]

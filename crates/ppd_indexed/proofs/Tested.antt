@@ -8,9 +8,10 @@ use Rattle.ppd_ast.specs.declared.status.SyncKind.{SyncKind}
 use Rattle.ppd_entry.specs.declared.entry.Entry.{Entry}
 use Rattle.ppd_entry.specs.declared.entry.Entry.TheVariants as entry
 use Rattle.ppd_entry.specs.IntervalLogs.{Indexing, depth_of, index_step}
+use Rattle.ppd_entry.specs.Entries.{is_end}
 use Rattle.ppd_nested.specs.Stack.{functions_in}
 use Rattle.ppd_model.specs.FullTrace.{or_else}
-use Rattle.ppd_index.specs.Refusals.{bad, begins, continues, ends_there, fault_of, first_from, innermost_of, is_end, is_fitting, is_of_function, is_paired, is_process, is_same, kind_at, standing}
+use Rattle.ppd_index.specs.Refusals.{bad, begins, continues, ends_there, fault_of, first_from, innermost_of, is_fitting, is_of_function, is_paired, is_process, is_same, kind_at, standing}
 use Rattle.ppd_index.specs.declared.standing.Fault.TheVariants as fault
 use Rattle.ppd_indexed.proofs.Standing.{Stands, depth_by, innermost_by, none_by}
 

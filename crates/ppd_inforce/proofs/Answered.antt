@@ -19,8 +19,8 @@ use Rattle.ppd_model.specs.Schedule.{run, started_world}
 use Rattle.ppd_model.specs.Story.{Moment, Telling, moment_of, own_moments, own_steps, steps_of, story, told}
 use Rattle.ppd_model.specs.World.{World, answer, need, need_at}
 use Rattle.ppd_model.proofs.Lists.{at_below}
-use Rattle.ppd_reads.specs.Units.{IsCellOf, unit_in_force}
-use Rattle.ppd_reads.proofs.Reading.{reads_lie}
+use Rattle.ppd_step_laws.specs.Units.{IsCellOf, unit_in_force}
+use Rattle.ppd_step_laws.proofs.Units.Reading.{reads_lie}
 use Rattle.ppd_emul.specs.Replay.{value_in_force}
 use Rattle.ppd_inforce.specs.InForce.{AreRead, IsRead, ReadsAreInForce, begun_in_force, in_force, in_force_after}
 use Rattle.ppd_nested.proofs.Told.{none_own, own_more, own_past, own_same, own_steps_are, steps_append}

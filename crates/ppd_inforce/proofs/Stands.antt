@@ -6,11 +6,12 @@ use Rattle.std.specs.List.{range_with_len}
 use Rattle.std.specs.Prelude.{◌-◌, option_map, slice_get}
 use Rattle.ppd_ast.specs.declared.plan.Plan.{Plan}
 use Rattle.ppd_ast.specs.declared.program.Program.{Program}
+use Rattle.ppd_ast.specs.Lookups.{top_of_body}
 use Rattle.ppd_sem.specs.declared.proc.Answer.{Answer}
 use Rattle.ppd_sem.specs.declared.proc.Need.{Need}
 use Rattle.ppd_sem.specs.declared.proc.Need.TheVariants.{Read, Done, Budget, Stopped}
 use Rattle.ppd_sem.specs.declared.proc.Proc.{Proc}
-use Rattle.ppd_sem.specs.Process.{act, need_of, started, todos, top_of}
+use Rattle.ppd_sem.specs.Process.{act, need_of, started, todos}
 use Rattle.ppd_model.specs.Story.{Telling, moment_of, own_moments, told}
 use Rattle.ppd_model.specs.World.{answer, change, need, need_at}
 use Rattle.ppd_model.proofs.Changes.{change-at, change-else, some}
@@ -42,7 +43,7 @@ module _ (program : Program) (plan : Plan) (budget : ℕ) where
 
   begun_at : (ns : List ℕ) (p : ℕ) (s : Proc) → slice_get (map (λ p. started program plan p budget) ns) p ≡ Some s → IsUnmarked s
   begun_at [] p s e = absurd (none-some s e)
-  begun_at (n ∷ ns) zero s e = subst IsUnmarked (some e) (record { runs = refl; unmarked = unmarked_todos (top_of (slice_get program.bodies (program.functions + n))) })
+  begun_at (n ∷ ns) zero s e = subst IsUnmarked (some e) (record { runs = refl; unmarked = unmarked_todos (top_of_body (slice_get program.bodies (program.functions + n))) })
   begun_at (n ∷ ns) (suc p) s e = begun_at ns p s e
 
   pub begun_stands : (p : ℕ) → Stands [] p

@@ -4,10 +4,10 @@ use Rattle.std.proofs.lemmas.Bool.{cases_eq, ne_eqb, cond-false, cond-true}
 use Rattle.std.specs.List.{list_any}
 use Rattle.std.specs.Prelude.{nat_eq, ◌||◌, slice_get, zip}
 use Rattle.ppd_ast.specs.declared.plan.Plan.{Plan}
-use Rattle.ppd_cfg.specs.Lists.{has}
+use Rattle.ppd_ast.specs.Members.{has}
 use Rattle.ppd_emul.specs.Replay.{value_in_force}
 use Rattle.ppd_model.specs.Story.{cells_of_unit, values_of_unit}
-use Rattle.ppd_reads.specs.Units.{IsCellOf}
+use Rattle.ppd_step_laws.specs.Units.{IsCellOf}
 
 -- of cells beside their values
 zipped : (f : ℕ → ℤ) (cs : List ℕ) (c : ℕ) → has cs c ≡ true → value_in_force (zip cs (map f cs)) c ≡ f c

@@ -26,8 +26,3 @@ pub use shelf::{Shelf, ShelfError};
 pub use sink::{Failed, Sink};
 pub use source::Source;
 pub use steady::{SteadyShelf, SteadySink, SteadySource};
-
-#[cfg(test)]
-mod line_tests;
-#[cfg(test)]
-mod tests;

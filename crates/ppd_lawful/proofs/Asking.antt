@@ -12,7 +12,7 @@ use Rattle.ppd_ast.specs.declared.status.Trap.{Trap}
 use Rattle.ppd_ast.specs.declared.status.Trap.TheVariants as trap
 use Rattle.ppd_ast.specs.Term as T
 use Rattle.ppd_ast.specs.Term.{Term, node, term, term_at, terms, terms_after}
-use Rattle.ppd_sem.specs.Ask.{ask, calc, checked, divided, element, fits, is_zero, truth}
+use Rattle.ppd_sem.specs.Ask.{ask, calc, checked, divided, element, is_in_64_bits, is_zero, truth}
 use Rattle.ppd_sem.specs.Asked.{Asked, and_then, gives, lift, read_shared}
 use Rattle.ppd_sem.proofs.Arithmetic.{fits-true}
 use Rattle.ppd_lawful.specs.Values.{IsConstantOf64Bits}
@@ -92,16 +92,16 @@ truth_fits true = refl
 truth_fits false = refl
 
 pub checked_fits : (x : ℤ) → GivenFits Fit (checked x)
-checked_fits x = by (fits x) refl
+checked_fits x = by (is_in_64_bits x) refl
   where
-    by : (b : Bool) → fits x ≡ b → GivenFits Fit (if b then Ok x else Err trap.Overflow)
+    by : (b : Bool) → is_in_64_bits x ≡ b → GivenFits Fit (if b then Ok x else Err trap.Overflow)
     by true e = e
     by false e = tt
 
-pub divided_fits : (x y z : ℤ) → (is_zero y ≡ false → fits (int_div x y) ≡ true → Fit z) → GivenFits Fit (divided x y z)
-divided_fits x y z h = by (is_zero y) (fits (int_div x y)) refl refl
+pub divided_fits : (x y z : ℤ) → (is_zero y ≡ false → is_in_64_bits (int_div x y) ≡ true → Fit z) → GivenFits Fit (divided x y z)
+divided_fits x y z h = by (is_zero y) (is_in_64_bits (int_div x y)) refl refl
   where
-    by : (a b : Bool) → is_zero y ≡ a → fits (int_div x y) ≡ b → GivenFits Fit (if a then Err trap.Zero else if b then Ok z else Err trap.Overflow)
+    by : (a b : Bool) → is_zero y ≡ a → is_in_64_bits (int_div x y) ≡ b → GivenFits Fit (if a then Err trap.Zero else if b then Ok z else Err trap.Overflow)
     by true b e f = tt
     by false true e f = h e f
     by false false e f = tt

@@ -17,15 +17,16 @@ use Rattle.ppd_parse.specs.Grammar.{Shape}
 use Rattle.ppd_parse.specs.Leaves.{leaves}
 use Rattle.ppd_parse.specs.Limits.{IsTree}
 use Rattle.ppd_parse.proofs.TreeLeaves.{program_leaves}
-use Rattle.ppd_check.specs.Code as C
-use Rattle.ppd_check.specs.Code.{Act, Code, done, act, choice, loop, join, acts, Spot}
-use Rattle.ppd_check.specs.Fitted.{as_short}
-use Rattle.ppd_check.specs.Names.{Scope}
-use Rattle.ppd_check.specs.Reading.{said, source_of, as_items, value_of}
-use Rattle.ppd_check.specs.Sources.{Globals, Head, close_code, codes, ends_with_return, entry, globals, head_code, heads, no_globals, with_item, with_items}
-use Rattle.ppd_check.specs.Statements.{row_code}
-use Rattle.ppd_check.specs.Syntax.{Item, shared, shared_array, semaphore, channel, function, process}
-use Rattle.ppd_check.specs.Table.{flat, flats, root, terms, weight}
+use Rattle.ppd_lower.specs.Code as C
+use Rattle.ppd_lower.specs.Code.{Act, Code, done, act, choice, loop, join, acts, Spot}
+use Rattle.ppd_resolve.specs.Fitted.{as_short}
+use Rattle.ppd_resolve.specs.Names.{Scope}
+use Rattle.ppd_resolve.specs.Reading.{said, source_of, as_items, value_of}
+use Rattle.ppd_lower.specs.Sources.{close_code, codes, ends_with_return, entry, head_code, heads}
+use Rattle.ppd_resolve.specs.Globals.{Globals, Head, globals, no_globals, with_item, with_items}
+use Rattle.ppd_lower.specs.Statements.{row_code}
+use Rattle.ppd_resolve.specs.Syntax.{Item, shared, shared_array, semaphore, channel, function, process}
+use Rattle.ppd_lower.specs.Table.{flat, flats, root, terms, weight}
 use Rattle.ppd_sem.proofs.Arithmetic.{true-fits}
 use Rattle.ppd_lawful.specs.Constants.{ConstantsHave64Bits}
 use Rattle.ppd_lawful.specs.Values.{HasConstantsOf64Bits, IsConstantOf64Bits}

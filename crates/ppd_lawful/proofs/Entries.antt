@@ -27,7 +27,7 @@ use Rattle.ppd_sem.specs.Passed.{result_of_head}
 use Rattle.ppd_sem.specs.Process.{top_cells, value_of}
 use Rattle.ppd_sem.proofs.Arithmetic.{true-fits}
 use Rattle.ppd_model.specs.declared.state.Logging.{Logging}
-use Rattle.ppd_model.specs.Logs.{ends, entries_of, passed, postlogs, prelogs, status_of, syncs, units}
+use Rattle.ppd_model.specs.Logs.{ends, entries_of, passed_value, postlogs, prelogs, status_of, syncs, units}
 use Rattle.ppd_model.specs.Marks.{Mark, closed, opened}
 use Rattle.ppd_model.specs.declared.tracing.Taken.{Taken}
 use Rattle.ppd_model.specs.Story.{Moment, unit_started}
@@ -175,10 +175,10 @@ module _ (program : Program) (plan : Plan) (v : IsValid program) (w : IsValidPla
   -- ---- synchronizations
 
   sync_of_lawful : (l : Logging) (x : Taken) (k : SyncKind) (o : ℕ) (number : Option ℕ) → (k ≡ kind.Done → nat_eq (version_of program.chans) 2 ≡ true) → o < 2 ^ 8
-      → SomeFits (λ j. (1 ≤ j) × (j < 2 ^ 32)) number → Fit (passed x.need x.answer) → fits_kind k (passed x.need x.answer) ≡ true → AreRows l
+      → SomeFits (λ j. (1 ≤ j) × (j < 2 ^ 32)) number → Fit (passed_value x.need x.answer) → fits_kind k (passed_value x.need x.answer) ≡ true → AreRows l
       → All IsLawful (syncs l x (numbered (Some (k, o)) number))
   sync_of_lawful l x k o None done object number fit fits rows = tt
-  sync_of_lawful l x k o (Some j) done object number fit fits rows = (sync_lawful k o j (passed x.need x.answer) l done object number.0 number.1 fit fits rows, tt)
+  sync_of_lawful l x k o (Some j) done object number fit fits rows = (sync_lawful k o j (passed_value x.need x.answer) l done object number.0 number.1 fit fits rows, tt)
 
   abbrev taken : Need → Answer → Option ℕ → Taken
   taken need a number = record { need = need; answer = a; writer = None; number = number }

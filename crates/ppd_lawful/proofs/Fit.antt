@@ -3,12 +3,12 @@ use Rattle.std.proofs.Common.{◌≡◌, ℕ, zero, suc, ℤ, Bool, true, false,
 use Rattle.std.specs.Prelude.{slice_get, ⊤}
 use Rattle.std.specs.List.{AllByRecursion}
 use Rattle.std.proofs.lemmas.Option.{none-some}
-use Rattle.ppd_sem.specs.Ask.{fits}
+use Rattle.ppd_sem.specs.Ask.{is_in_64_bits}
 use Rattle.ppd_model.specs.World.{change}
 use Rattle.ppd_model.proofs.Changes.{some}
 
 abbrev pub Fit : ℤ → Type 0
-Fit v = fits v ≡ true
+Fit v = is_in_64_bits v ≡ true
 
 abbrev pub All : {A : Type 0} → (A → Type 0) → List A → Type 0
 All P xs = AllByRecursion P xs

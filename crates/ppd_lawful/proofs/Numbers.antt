@@ -22,6 +22,7 @@ use Rattle.ppd_ast.specs.declared.program.Kind.TheVariants as kind
 use Rattle.ppd_ast.specs.declared.program.Program.{Program}
 use Rattle.ppd_ast.specs.declared.program.Stmt.{Stmt}
 use Rattle.ppd_ast.specs.declared.status.Status.{Status}
+use Rattle.ppd_ast.specs.Lookups.{kind_of_stmt, kind_of}
 use Rattle.ppd_sem.specs.declared.asking.Pause.TheVariants.{Wants, Traps}
 use Rattle.ppd_sem.specs.declared.proc.Need.{Need}
 use Rattle.ppd_sem.specs.declared.proc.Need.TheVariants as n
@@ -30,7 +31,7 @@ use Rattle.ppd_sem.specs.declared.proc.Todo.{Todo}
 use Rattle.ppd_sem.specs.Asked.{Asked}
 use Rattle.ppd_sem.specs.Blocks.{postlog_cells, postlog_in, prelog_cells, prelog_in}
 use Rattle.ppd_sem.specs.Deed.{Deed, set_local, set_shared, clear, branch, turn, leave, invoke, back, take, give, send, receive, print, pass, finish}
-use Rattle.ppd_sem.specs.Process.{call_unit, entry_of, head_deed, kind_of, kind_or_end, loop_of, need_by_entry, need_by_offer, need_of, need_of_asked, need_of_deed, need_of_leaving, need_of_running, need_of_send, offer_of, top_body, top_call}
+use Rattle.ppd_sem.specs.Process.{call_unit, entry_of, head_deed, loop_of, need_by_entry, need_by_offer, need_of, need_of_asked, need_of_deed, need_of_leaving, need_of_running, need_of_send, offer_of, top_body, top_call}
 use Rattle.ppd_sem.specs.Runs.{IsNumbered, IsRunnable, IsRunnableStmt, LeadsOn, size_if, size_of}
 use Rattle.ppd_sem.specs.Tables.{block_of, capacity_of, or_zero, same_block, same_start, unit_of}
 use Rattle.ppd_sem.proofs.Kept.{There, size_small, there_at}
@@ -162,7 +163,7 @@ module _ (program : Program) (plan : Plan) (v : IsValid program) (w : IsValidPla
   pub calls : (t : ℕ) → CallIs Small (kind_of program t)
   calls t = by (slice_get program.stmts t) refl
     where
-      by : (o : Option Stmt) → slice_get program.stmts t ≡ o → CallIs Small (kind_or_end o)
+      by : (o : Option Stmt) → slice_get program.stmts t ≡ o → CallIs Small (kind_of_stmt o)
       by None e = tt
       by (Some s) e =
           let f : There (λ _ x. IsRunnableStmt program x) program.stmts t = there_at (λ _ x. IsRunnableStmt program x) program.stmts t runs.stmts (is_below program.stmts t s e) in

@@ -2,8 +2,8 @@
 use Rattle.std.proofs.Common.{ℕ, zero, suc, ◌-◌, List, [], ◌∷◌, refl, length}
 use Rattle.std.specs.Prelude.{drop, ⊤}
 use Rattle.std.specs.List.{flat_map}
-use Rattle.ppd_check.specs.Reading.{Phrase, token, formula, goal, value, calling, changing, row, body, names, items, value_of, phrase, last, as_token, as_formula, as_goal, as_value, as_row, as_block, as_items, called, goal_formula, kind, formula_at, beyond, before, is_formula, formulas, some_change, is_semicolon}
-use Rattle.ppd_check.specs.Syntax.{Formula, number, variable, element, negated, inverted, two, both, either, Goal, scalar, item, Value, plain, result, received, Simple, fresh, array, store, change, call, give_back, take, give, send, print, assert, Row, stop, simple, block, choice, repeat, count, Item, shared, shared_array, semaphore, channel, function, process}
+use Rattle.ppd_resolve.specs.Reading.{Phrase, token, formula, goal, value, calling, changing, row, body, names, items, value_of, phrase, last, as_token, as_formula, as_goal, as_value, as_row, as_block, as_items, called, goal_formula, kind, formula_at, beyond, before, is_formula, formulas, some_change, is_semicolon}
+use Rattle.ppd_resolve.specs.Syntax.{Formula, number, variable, element, negated, inverted, two, both, either, Goal, scalar, item, Value, plain, result, received, Simple, fresh, array, store, change, call, give_back, take, give, send, print, assert, Row, stop, simple, block, choice, repeat, count, Item, shared, shared_array, semaphore, channel, function, process}
 use Rattle.ppd_lawful.proofs.Fit.{All, Fit, SomeFits, all_append, choose}
 
 -- ---- what is said

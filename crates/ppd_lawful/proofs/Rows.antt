@@ -3,7 +3,7 @@ use Rattle.std.proofs.Common.{◌≡◌, ℕ, suc, ◌+◌, ◌<◌, ◌≤◌, 
 use Rattle.std.specs.Prelude.{nat_eq, nat_le, nat_lt}
 use Rattle.std.proofs.lemmas.Bool.{and_parts, cases_eq, cases_lt}
 use Rattle.std.proofs.lemmas.Bool.Decides.{nat_tests}
-use Rattle.ppd_model.specs.Logs.{with_cell}
+use Rattle.ppd_ast.specs.Members.{with_cell}
 use Rattle.ppd_codec.specs.Form.{Along}
 use Rattle.ppd_codec.specs.Format.{cells, is_next, past}
 use Rattle.ppd_lawful.proofs.Fit.{All}

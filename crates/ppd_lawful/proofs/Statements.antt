@@ -2,17 +2,18 @@
 use Rattle.std.proofs.Common.{ℕ, List, [], ◌∷◌, ◌++◌, Option, Some, None, refl, map}
 use Rattle.ppd_ast.specs.Term as T
 use Rattle.ppd_ast.specs.Term.{Term}
-use Rattle.ppd_check.specs.Code as C
-use Rattle.ppd_check.specs.Code.{Act, Code, done, act, choice, loop, join, acts, Spot}
-use Rattle.ppd_check.specs.Expressions.{read_element, read_scalar, term_of}
-use Rattle.ppd_check.specs.Names.{Scope, meaning}
-use Rattle.ppd_check.specs.declared.meaning.Meaning.{Meaning}
-use Rattle.ppd_check.specs.declared.meaning.Meaning.TheVariants as N
-use Rattle.ppd_check.specs.Reading.{goal_formula}
-use Rattle.ppd_check.specs.Statements.{acts_of, after, after_any, after_row, closed, code_of, code_of_any, declared, opened, put, return_acts, row_code, spot, spot_of, store_acts}
-use Rattle.ppd_check.specs.Syntax.{Formula, number, variable, element, negated, inverted, two, both, either, Goal, Value, plain, result, received, Simple, fresh, array, store, change, call, give_back, take, give, send, print, assert, Row, stop, simple, block, choice as choosing, repeat, count}
-use Rattle.ppd_check.specs.Table.{act_terms, spot_terms, terms}
-use Rattle.ppd_check.specs.declared.frame.Frame.{Frame}
+use Rattle.ppd_lower.specs.Code as C
+use Rattle.ppd_lower.specs.Code.{Act, Code, done, act, choice, loop, join, acts, Spot}
+use Rattle.ppd_lower.specs.Expressions.{read_element, read_scalar, term_of}
+use Rattle.ppd_resolve.specs.Names.{Scope, meaning}
+use Rattle.ppd_resolve.specs.declared.meaning.Meaning.{Meaning}
+use Rattle.ppd_resolve.specs.declared.meaning.Meaning.TheVariants as N
+use Rattle.ppd_resolve.specs.Reading.{goal_formula}
+use Rattle.ppd_lower.specs.Statements.{acts_of, after, after_any, after_row, closed, code_of, code_of_any, opened, put, return_acts, row_code, spot, spot_of, store_acts}
+use Rattle.ppd_resolve.specs.Frames.{declared}
+use Rattle.ppd_resolve.specs.Syntax.{Formula, number, variable, element, negated, inverted, two, both, either, Goal, Value, plain, result, received, Simple, fresh, array, store, change, call, give_back, take, give, send, print, assert, Row, stop, simple, block, choice as choosing, repeat, count}
+use Rattle.ppd_lower.specs.Table.{act_terms, spot_terms, terms}
+use Rattle.ppd_resolve.specs.declared.frame.Frame.{Frame}
 use Rattle.ppd_lawful.proofs.Fit.{All, SomeFits, all_append, all_left, all_right}
 use Rattle.ppd_lawful.proofs.Phrases.{FormulaFits, GoalFits, RowFits, SimpleFits, ValueFits, goal_formula_fits}
 use Rattle.ppd_lawful.proofs.Terms.{TermFits}

@@ -16,7 +16,7 @@ use Rattle.ppd_entry.specs.declared.entry.Entry.TheVariants as entry
 use Rattle.ppd_blocks.specs.Blocks.{plan_of}
 use Rattle.ppd_blocks.proofs.Validity.{plan_valid}
 use Rattle.ppd_check.proofs.AcceptedValid.{read_valid}
-use Rattle.ppd_costs.proofs.Policies.{whole}
+use Rattle.ppd_step_laws.proofs.Policies.{whole}
 use Rattle.ppd_model.specs.declared.state.Logging.{Logging}
 use Rattle.ppd_model.specs.Logs.{closed_log, loggings}
 use Rattle.ppd_model.proofs.Prefixes.{objects_stay}

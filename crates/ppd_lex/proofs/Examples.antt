@@ -1,19 +1,20 @@
 -- What stands at the front of some texts, and one source as a whole.
 use Rattle.std.proofs.Common.{◌≡◌, ℕ, List, [], ◌∷◌, ◌++◌, pos, refl, replicate, lit<}
 use Rattle.std.specs.Prelude.{codes}
+use Rattle.ppd_lex.specs.declared.token.Kind.TheVariants as K
 use Rattle.ppd_lex.specs.declared.token.TokenKind.TheVariants.{Name, Number, Word, Mark, End}
 use Rattle.ppd_lex.specs.declared.scan.Fault.TheVariants.{BadByte, BadNumber, OpenComment, LongName}
 use Rattle.ppd_lex.specs.declared.scan.Piece.TheVariants.{Gap, Read, Bad}
 use Rattle.ppd_lex.specs.Front.{front}
 use Rattle.ppd_lex.specs.Tokens.{Lexes, end, gap, token, Faults, here, after_gap, after_token}
 
-plus_is : front (codes "+=1") ≡ Read 2 (Mark 15)
+plus_is : front (codes "+=1") ≡ Read 2 (Mark K.AddMark)
 plus_is = refl
 
-plus : front (codes "+ =") ≡ Read 1 (Mark 8)
+plus : front (codes "+ =") ≡ Read 1 (Mark K.PlusMark)
 plus = refl
 
-keyword : front (codes "recv(c)") ≡ Read 4 (Word 14)
+keyword : front (codes "recv(c)") ≡ Read 4 (Word K.RecvWord)
 keyword = refl
 
 name : front (codes "recvs = 1") ≡ Read 5 (Name (codes "recvs"))
@@ -53,7 +54,7 @@ abbrev source : List ℕ
 source = codes "ab" ++ 10 ∷ codes "-"
 
 -- a name, the end of a line, a mark
-tokens : Lexes source 0 (record { kind = Name (codes "ab"); from = 0; to = 2; place = record { line = 1; column = 1 } } ∷ record { kind = Mark 9; from = 3; to = 4; place = record { line = 2; column = 1 } } ∷ record { kind = End; from = 4; to = 4; place = record { line = 2; column = 2 } } ∷ [])
+tokens : Lexes source 0 (record { kind = Name (codes "ab"); from = 0; to = 2; place = record { line = 1; column = 1 } } ∷ record { kind = Mark K.MinusMark; from = 3; to = 4; place = record { line = 2; column = 1 } } ∷ record { kind = End; from = 4; to = 4; place = record { line = 2; column = 2 } } ∷ [])
 tokens = token (lit< tt) refl (gap (lit< tt) refl (token (lit< tt) refl (end refl)))
 
 -- a name before a fault

@@ -1,15 +1,15 @@
 -- What stands at the front has at least one byte, at most those that there are, and a kind of token.
 use Rattle.std.proofs.Common.{◌≡◌, ◌≢◌, ◌<◌, ◌≤◌, ℕ, ◌+◌, ◌^◌, List, [], ◌∷◌, length, drop, take_while, Bool, true, false, cond, refl, sym, ap, arith, nat_eq, nat_lt, ◌||◌, not, Option, Some, None}
 use Rattle.std.specs.Prelude.{codes}
-use Rattle.std.specs.List.{starts_with, prefix_len, position_or_len}
-use Rattle.std.specs.Str.{bytes_eq}
+use Rattle.std.specs.List.{starts_with, prefix_len}
 use Rattle.std.proofs.lemmas.List.Sums.{prefix_len-le-length}
 use Rattle.std.proofs.lemmas.List.Folds.{length-prefix_len}
 use Rattle.std.proofs.lemmas.Bool.Decides.{nat_tests}
+use Rattle.ppd_lex.specs.declared.token.Kind.{Kind}
 use Rattle.ppd_lex.specs.declared.scan.Piece.{Piece}
 use Rattle.ppd_lex.specs.declared.scan.Piece.TheVariants.{Gap, Read, Bad}
 use Rattle.ppd_lex.specs.declared.token.TokenKind.TheVariants.{End}
-use Rattle.ppd_lex.specs.Front.{front, is_space, is_letter, is_digit, is_name_byte, number_in, keywords, marks, number_of, value_of, close_from, word_kind, read_word, read_value, read_number, read_block, read_single, read_pair, read_mark}
+use Rattle.ppd_lex.specs.Front.{front, is_space, is_letter, is_digit, is_name_byte, kind_in, keywords, marks, number_of, value_of, close_from, word_kind, read_word, read_value, read_number, read_block, read_single, read_pair, read_mark}
 use Rattle.ppd_lex.specs.Formed.{IsKind}
 
 -- a piece of at most m bytes
@@ -22,13 +22,6 @@ IsProper m (Bad fault) = Unit {0}
 pub by_test : (P : Piece → Type 0) (t : Bool) (x y : Piece) → (t ≡ true → P x) → (t ≡ false → P y) → P (cond t x y)
 by_test P true x y f g = f refl
 by_test P false x y f g = g refl
-
-number_in_bound : (table : List (List ℕ)) (text : List ℕ) (n : ℕ) → number_in table text ≡ Some n → n < length table
-number_in_bound table text n h = go (nat_lt (position_or_len (λ entry. bytes_eq entry text) table) (length table)) refl h
-  where
-    go : (t : Bool) → t ≡ nat_lt (position_or_len (λ entry. bytes_eq entry text) table) (length table) → cond t (Some (position_or_len (λ entry. bytes_eq entry text) table)) None ≡ Some n → n < length table
-    go true e h = let is : position_or_len (λ entry. bytes_eq entry text) table ≡ n = cc in grind (arith, nat_tests)
-    go false e h = cc
 
 pub value_small : (text : List ℕ) (v : ℕ) → value_of text ≡ Some v → v < 2 ^ 63
 value_small text v h = grind (arith, nat_tests)
@@ -56,10 +49,10 @@ close_bound before (b ∷ bs) n h = go (starts_with nat_eq (b ∷ bs) (codes "*/
     go false e h more = let k = more h in (omega (arith, k.0), omega (arith, k.1))
 
 word_proper : (m : ℕ) (text : List ℕ) → 0 < length text → length text ≤ m → IsProper m (read_word text)
-word_proper m text l h = by_test (IsProper m) (nat_lt 64 (length text)) _ _ (λ t. tt) (λ t. (l, h, (go (number_in keywords text) refl t).0, (go (number_in keywords text) refl t).1))
+word_proper m text l h = by_test (IsProper m) (nat_lt 64 (length text)) _ _ (λ t. tt) (λ t. (l, h, (go (kind_in keywords text) refl t).0, (go (kind_in keywords text) refl t).1))
   where
-    go : (o : Option ℕ) → o ≡ number_in keywords text → nat_lt 64 (length text) ≡ false → IsKind (word_kind o text) × (word_kind o text ≢ End)
-    go (Some number) e t = (number_in_bound keywords text number (sym e), λ x. cc)
+    go : (o : Option Kind) → o ≡ kind_in keywords text → nat_lt 64 (length text) ≡ false → IsKind (word_kind o text) × (word_kind o text ≢ End)
+    go (Some kind) e t = ((text, sym e), λ x. cc)
     go None e t = ((l, grind (arith, nat_tests)), λ x. cc)
 
 number_proper : (m : ℕ) (text : List ℕ) → 0 < length text → length text ≤ m → IsProper m (read_number text)
@@ -76,19 +69,19 @@ block_proper m bs h = go (close_from 2 bs) refl
     go (Some n) e = let k = close_bound 2 bs n (sym e) in (omega (arith, k.0), omega (arith, k.1))
     go None e = tt
 
-single_proper : (m b : ℕ) → 1 ≤ m → IsProper m (read_single (number_in marks (b ∷ [])))
-single_proper m b h = go (number_in marks (b ∷ [])) refl
+single_proper : (m b : ℕ) → 1 ≤ m → IsProper m (read_single (kind_in marks (b ∷ [])))
+single_proper m b h = go (kind_in marks (b ∷ [])) refl
   where
-    go : (o : Option ℕ) → o ≡ number_in marks (b ∷ []) → IsProper m (read_single o)
-    go (Some n) e = (omega arith, h, number_in_bound marks (b ∷ []) n (sym e), λ x. cc)
+    go : (o : Option Kind) → o ≡ kind_in marks (b ∷ []) → IsProper m (read_single o)
+    go (Some n) e = (omega arith, h, (b ∷ [], sym e), λ x. cc)
     go None e = tt
 
 mark_proper : (b : ℕ) (bs : List ℕ) → IsProper (length (b ∷ bs)) (read_mark b bs)
 mark_proper b [] = single_proper 1 b (omega arith)
-mark_proper b (c ∷ cs) = go (number_in marks (b ∷ c ∷ [])) refl
+mark_proper b (c ∷ cs) = go (kind_in marks (b ∷ c ∷ [])) refl
   where
-    go : (o : Option ℕ) → o ≡ number_in marks (b ∷ c ∷ []) → IsProper (length (b ∷ (c ∷ cs))) (read_pair o b)
-    go (Some n) e = (omega arith, omega arith, number_in_bound marks (b ∷ c ∷ []) n (sym e), λ x. cc)
+    go : (o : Option Kind) → o ≡ kind_in marks (b ∷ c ∷ []) → IsProper (length (b ∷ (c ∷ cs))) (read_pair o b)
+    go (Some n) e = (omega arith, omega arith, (b ∷ c ∷ [], sym e), λ x. cc)
     go None e = single_proper (length (b ∷ (c ∷ cs))) b (omega arith)
 
 letter_passes : (b : ℕ) → is_letter b ≡ true → is_name_byte b ≡ true

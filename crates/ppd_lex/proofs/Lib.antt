@@ -3,6 +3,7 @@ pub mod Between
 pub mod Comments
 pub mod FormedTokens
 pub mod Covered
+pub mod Entries
 pub mod Examples
 pub mod Fronts
 pub mod Lexed

@@ -1,7 +1,9 @@
 -- What stands at the front of some bytes: a gap, a token or a fault.
-use Rattle.std.specs.Prelude.{ℕ, pos, ◌+◌, ◌-◌, ◌*◌, ◌^◌, List, [], ◌∷◌, length, drop, Bool, not, ◌&&◌, ◌||◌, nat_eq, nat_lt, nat_le, if◌then◌else◌, Option, Some, None, take_while, position, codes}
+use Rattle.std.specs.Prelude.{ℕ, pos, ◌+◌, ◌-◌, ◌*◌, ◌^◌, List, [], ◌∷◌, length, drop, Bool, not, ◌&&◌, ◌||◌, nat_eq, nat_lt, nat_le, if◌then◌else◌, Option, Some, None, take_while, codes}
 use Rattle.std.specs.List.{list_all, prefix_len, starts_with}
 use Rattle.std.specs.Str.{bytes_eq}
+use Rattle.ppd_lex.specs.declared.token.Kind.{Kind}
+use Rattle.ppd_lex.specs.declared.token.Kind.TheVariants as K
 use Rattle.ppd_lex.specs.declared.token.TokenKind.{TokenKind}
 use Rattle.ppd_lex.specs.declared.token.TokenKind.TheVariants.{Name, Number, Word, Mark}
 use Rattle.ppd_lex.specs.declared.scan.Fault.TheVariants.{BadByte, BadNumber, OpenComment, LongName}
@@ -21,23 +23,33 @@ is_letter b = (nat_le 65 b && nat_le b 90) || ((nat_le 97 b && nat_le b 122) || 
 abbrev pub is_name_byte : ℕ → Bool
 is_name_byte b = is_letter b || is_digit b
 
--- the keywords and the marks, each at its number
-abbrev pub keywords : List (List ℕ)
+-- the keywords and the marks, each with its kind
+abbrev pub keywords : List (List ℕ × Kind)
 keywords =
-    codes "shared" ∷ codes "int" ∷ codes "void" ∷ codes "sem" ∷ codes "chan" ∷ codes "process" ∷ codes "if"
-    ∷ codes "else" ∷ codes "while" ∷ codes "for" ∷ codes "return" ∷ codes "P" ∷ codes "V" ∷ codes "send"
-    ∷ codes "recv" ∷ codes "print" ∷ codes "assert" ∷ []
+    (codes "shared", K.SharedWord) ∷ (codes "int", K.IntWord) ∷ (codes "void", K.VoidWord) ∷ (codes "sem", K.SemWord)
+    ∷ (codes "chan", K.ChanWord) ∷ (codes "process", K.ProcessWord) ∷ (codes "if", K.IfWord)
+    ∷ (codes "else", K.ElseWord) ∷ (codes "while", K.WhileWord) ∷ (codes "for", K.ForWord)
+    ∷ (codes "return", K.ReturnWord) ∷ (codes "P", K.TakeWord) ∷ (codes "V", K.GiveWord) ∷ (codes "send", K.SendWord)
+    ∷ (codes "recv", K.RecvWord) ∷ (codes "print", K.PrintWord) ∷ (codes "assert", K.AssertWord) ∷ []
 
-abbrev pub marks : List (List ℕ)
+abbrev pub marks : List (List ℕ × Kind)
 marks =
-    codes "||" ∷ codes "&&" ∷ codes "==" ∷ codes "!=" ∷ codes "<=" ∷ codes ">=" ∷ codes "<" ∷ codes ">" ∷ codes "+"
-    ∷ codes "-" ∷ codes "*" ∷ codes "/" ∷ codes "%" ∷ codes "!" ∷ codes "=" ∷ codes "+=" ∷ codes "-="
-    ∷ codes "++" ∷ codes "--" ∷ codes "(" ∷ codes ")" ∷ codes "{" ∷ codes "}" ∷ codes "[" ∷ codes "]" ∷ codes ";"
-    ∷ codes "," ∷ []
+    (codes "||", K.OrMark) ∷ (codes "&&", K.AndMark) ∷ (codes "==", K.EqualMark) ∷ (codes "!=", K.UnequalMark)
+    ∷ (codes "<=", K.AtMostMark) ∷ (codes ">=", K.AtLeastMark) ∷ (codes "<", K.LessMark) ∷ (codes ">", K.MoreMark)
+    ∷ (codes "+", K.PlusMark) ∷ (codes "-", K.MinusMark) ∷ (codes "*", K.StarMark) ∷ (codes "/", K.SlashMark)
+    ∷ (codes "%", K.PercentMark) ∷ (codes "!", K.NotMark) ∷ (codes "=", K.AssignMark) ∷ (codes "+=", K.AddMark)
+    ∷ (codes "-=", K.SubtractMark) ∷ (codes "++", K.IncreaseMark) ∷ (codes "--", K.DecreaseMark)
+    ∷ (codes "(", K.LeftParen) ∷ (codes ")", K.RightParen) ∷ (codes "{", K.LeftBrace) ∷ (codes "}", K.RightBrace)
+    ∷ (codes "[", K.LeftBracket) ∷ (codes "]", K.RightBracket) ∷ (codes ";", K.Semicolon) ∷ (codes ",", K.Comma) ∷ []
 
--- at which number of the table the text stands
-abbrev pub number_in : List (List ℕ) → List ℕ → Option ℕ
-number_in table text = position (λ entry. bytes_eq entry text) table
+-- the kind of the first entry of a table that passes
+abbrev pub kind_by : {X : Type 0} → (X → Bool) → (X → Kind) → List X → Option Kind
+kind_by passes kind [] = None
+kind_by passes kind (x ∷ xs) = if passes x then Some (kind x) else kind_by passes kind xs
+
+-- the kind of the table's first entry of this text
+abbrev pub kind_in : List (List ℕ × Kind) → List ℕ → Option Kind
+kind_in table text = kind_by (λ entry. bytes_eq entry.0 text) (λ entry. entry.1) table
 
 -- the number that decimal digits write, after those that write n
 abbrev pub value_from : ℕ → List ℕ → ℕ
@@ -60,14 +72,14 @@ close_from n [] = None
 close_from n (b ∷ bs) = if starts_with nat_eq (b ∷ bs) (codes "*/") then Some (n + 2) else close_from (n + 1) bs
 
 -- the keyword or the name that this text is
-abbrev pub word_kind : Option ℕ → List ℕ → TokenKind
-word_kind (Some number) text = Word number
+abbrev pub word_kind : Option Kind → List ℕ → TokenKind
+word_kind (Some kind) text = Word kind
 word_kind None text = Name text
 
 -- letters, digits and _ that begin with no digit
 abbrev pub read_word : List ℕ → Piece
 read_word text =
-    if nat_lt 64 (length text) then Bad LongName else Read (length text) (word_kind (number_in keywords text) text)
+    if nat_lt 64 (length text) then Bad LongName else Read (length text) (word_kind (kind_in keywords text) text)
 
 -- a number of n bytes
 abbrev pub read_value : ℕ → Option ℕ → Piece
@@ -84,19 +96,19 @@ read_block (Some n) = Gap n
 read_block None = Bad OpenComment
 
 -- the mark of this one byte
-abbrev pub read_single : Option ℕ → Piece
-read_single (Some number) = Read 1 (Mark number)
+abbrev pub read_single : Option Kind → Piece
+read_single (Some kind) = Read 1 (Mark kind)
 read_single None = Bad BadByte
 
 -- the mark of two bytes, or else that of the first of them
-abbrev pub read_pair : Option ℕ → ℕ → Piece
-read_pair (Some number) b = Read 2 (Mark number)
-read_pair None b = read_single (number_in marks (b ∷ []))
+abbrev pub read_pair : Option Kind → ℕ → Piece
+read_pair (Some kind) b = Read 2 (Mark kind)
+read_pair None b = read_single (kind_in marks (b ∷ []))
 
 -- the longest mark that begins with b
 abbrev pub read_mark : ℕ → List ℕ → Piece
-read_mark b [] = read_single (number_in marks (b ∷ []))
-read_mark b (c ∷ cs) = read_pair (number_in marks (b ∷ c ∷ [])) b
+read_mark b [] = read_single (kind_in marks (b ∷ []))
+read_mark b (c ∷ cs) = read_pair (kind_in marks (b ∷ c ∷ [])) b
 
 -- What stands at the front. No byte is no token.
 abbrev pub front : List ℕ → Piece

@@ -15,7 +15,7 @@ use ppd_ast::Place;
 use ppd_ast::limits::MOST_SOURCE_BYTES;
 use scan::{Fault, Piece, front};
 use std::alloc::Global;
-pub use token::{LexError, Token, TokenKind};
+pub use token::{Kind, LexError, Token, TokenKind};
 
 // The place after a byte.
 fn after_byte(place: Place, b: u8) -> Place
@@ -106,6 +106,3 @@ pub fn lex(alloc: Global, bytes: &[u8]) -> Result<Vec<Token>, LexError>
     })?;
     Ok(tokens)
 }
-
-#[cfg(test)]
-mod tests;

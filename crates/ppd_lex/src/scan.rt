@@ -38,7 +38,7 @@ fn read_word(alloc: Global, text: &[u8]) -> Result<Piece, AllocError>
         return Ok(Piece::Bad(Fault::LongName));
     }
     match keyword(text) {
-        Some(number) => Ok(Piece::Read(text.len(), TokenKind::Word(number))),
+        Some(kind) => Ok(Piece::Read(text.len(), TokenKind::Word(kind))),
         None => {
             let name = Bytes::from_vec(Vec::from_slice(alloc, text)?);
             Ok(Piece::Read(text.len(), TokenKind::Name(name)))
@@ -72,12 +72,12 @@ fn read_mark(first: u8, rest: &[u8]) -> Piece
     ensures { result ≡ read_mark first rest.now }
 {
     if let Some(second) = rest.first() {
-        if let Some(number) = mark(&[first, *second]) {
-            return Piece::Read(2, TokenKind::Mark(number));
+        if let Some(kind) = mark(&[first, *second]) {
+            return Piece::Read(2, TokenKind::Mark(kind));
         }
     }
     match mark(&[first]) {
-        Some(number) => Piece::Read(1, TokenKind::Mark(number)),
+        Some(kind) => Piece::Read(1, TokenKind::Mark(kind)),
         None => Piece::Bad(Fault::BadByte),
     }
 }

@@ -2,18 +2,60 @@
 ghost use Rattle.std.specs.Prelude.{◌≡◌, ◌<◌, ◌≤◌, ◌+◌, ◌^◌, length, not, nat_eq, position, IfSome};
 ghost use Rattle.std.specs.List.{prefix_len};
 ghost use Rattle.std.specs.Str.{bytes_eq};
-ghost use Rattle.ppd_lex.specs.Front.{is_space, is_digit, is_letter, is_name_byte, keywords, marks, number_in, value_of, number_of, close_from};
+ghost use Rattle.ppd_lex.specs.Front.{is_space, is_digit, is_letter, is_name_byte, keywords, marks, kind_by, kind_in, value_of, number_of, close_from};
 
-// Each keyword at its number.
-const KEYWORDS: [&str; 17] = [
-    "shared", "int", "void", "sem", "chan", "process", "if", "else", "while", "for", "return", "P",
-    "V", "send", "recv", "print", "assert",
+use crate::token::Kind;
+
+// The keywords.
+const KEYWORDS: [(&str, Kind); 17] = [
+    ("shared", Kind::SharedWord),
+    ("int", Kind::IntWord),
+    ("void", Kind::VoidWord),
+    ("sem", Kind::SemWord),
+    ("chan", Kind::ChanWord),
+    ("process", Kind::ProcessWord),
+    ("if", Kind::IfWord),
+    ("else", Kind::ElseWord),
+    ("while", Kind::WhileWord),
+    ("for", Kind::ForWord),
+    ("return", Kind::ReturnWord),
+    ("P", Kind::TakeWord),
+    ("V", Kind::GiveWord),
+    ("send", Kind::SendWord),
+    ("recv", Kind::RecvWord),
+    ("print", Kind::PrintWord),
+    ("assert", Kind::AssertWord),
 ];
 
-// Each mark at its number.
-const MARKS: [&str; 27] = [
-    "||", "&&", "==", "!=", "<=", ">=", "<", ">", "+", "-", "*", "/", "%", "!", "=", "+=", "-=",
-    "++", "--", "(", ")", "{", "}", "[", "]", ";", ",",
+// The marks.
+const MARKS: [(&str, Kind); 27] = [
+    ("||", Kind::OrMark),
+    ("&&", Kind::AndMark),
+    ("==", Kind::EqualMark),
+    ("!=", Kind::UnequalMark),
+    ("<=", Kind::AtMostMark),
+    (">=", Kind::AtLeastMark),
+    ("<", Kind::LessMark),
+    (">", Kind::MoreMark),
+    ("+", Kind::PlusMark),
+    ("-", Kind::MinusMark),
+    ("*", Kind::StarMark),
+    ("/", Kind::SlashMark),
+    ("%", Kind::PercentMark),
+    ("!", Kind::NotMark),
+    ("=", Kind::AssignMark),
+    ("+=", Kind::AddMark),
+    ("-=", Kind::SubtractMark),
+    ("++", Kind::IncreaseMark),
+    ("--", Kind::DecreaseMark),
+    ("(", Kind::LeftParen),
+    (")", Kind::RightParen),
+    ("{", Kind::LeftBrace),
+    ("}", Kind::RightBrace),
+    ("[", Kind::LeftBracket),
+    ("]", Kind::RightBracket),
+    (";", Kind::Semicolon),
+    (",", Kind::Comma),
 ];
 
 pub fn is_space(b: u8) -> bool
@@ -56,25 +98,35 @@ pub fn line_len(bytes: &[u8]) -> usize
     bytes.iter().take_while(|b| **b != b'\n').count()
 }
 
-// At which number of the table the text stands.
-fn number_in(table: &[&str], text: &[u8]) -> Option<usize>
-    ensures { result ≡ position (λ entry. bytes_eq entry.now text.now) table.now }
+// Where the table's first entry of this text stands.
+fn index_in(table: &[(&str, Kind)], text: &[u8]) -> Option<usize>
+    ensures { result ≡ position (λ entry. bytes_eq entry.0.now text.now) table.now }
 {
-    table.iter().position(|entry| entry.as_bytes() == text)
+    table.iter().position(|entry| entry.0.as_bytes() == text)
 }
 
-// The number of the keyword that these bytes are.
-pub fn keyword(text: &[u8]) -> Option<u8>
-    ensures { result ≡ number_in keywords text.now }
+// The kind of the table's first entry of this text.
+fn kind_in(table: &[(&str, Kind)], text: &[u8]) -> Option<Kind>
+    ensures { result ≡ kind_by (λ entry. bytes_eq entry.0.now text.now) (λ entry. entry.1) table.now }
 {
-    number_in(&KEYWORDS, text).map(|number| number as u8)
+    match index_in(table, text) {
+        Some(index) => Some(table[index].1),
+        None => None,
+    }
 }
 
-// The number of the mark that these bytes are.
-pub fn mark(text: &[u8]) -> Option<u8>
-    ensures { result ≡ number_in marks text.now }
+// The keyword that these bytes are.
+pub fn keyword(text: &[u8]) -> Option<Kind>
+    ensures { result ≡ kind_in keywords text.now }
 {
-    number_in(&MARKS, text).map(|number| number as u8)
+    kind_in(&KEYWORDS, text)
+}
+
+// The mark that these bytes are.
+pub fn mark(text: &[u8]) -> Option<Kind>
+    ensures { result ≡ kind_in marks text.now }
+{
+    kind_in(&MARKS, text)
 }
 
 // The number that digits write, where it is at most 9223372036854775807.

@@ -4,7 +4,59 @@ ghost use Rattle.ppd_lex.specs.declared.token.LexError.TheVariants.{Memory};
 use ppd_ast::{Bytes, Place};
 use std::alloc::{AllocError, AllocFailed};
 
-/// What a token is. Keywords and marks are numbered from 0, in the order of the language's table.
+/// What a token is to the grammar: its sort, without a name's bytes or a number's value.
+#[derive(Clone, Copy, Debug, PartialEq, Eq, Drop)]
+pub enum Kind {
+    Name,
+    Number,
+    End,
+    SharedWord,
+    IntWord,
+    VoidWord,
+    SemWord,
+    ChanWord,
+    ProcessWord,
+    IfWord,
+    ElseWord,
+    WhileWord,
+    ForWord,
+    ReturnWord,
+    TakeWord,
+    GiveWord,
+    SendWord,
+    RecvWord,
+    PrintWord,
+    AssertWord,
+    OrMark,
+    AndMark,
+    EqualMark,
+    UnequalMark,
+    AtMostMark,
+    AtLeastMark,
+    LessMark,
+    MoreMark,
+    PlusMark,
+    MinusMark,
+    StarMark,
+    SlashMark,
+    PercentMark,
+    NotMark,
+    AssignMark,
+    AddMark,
+    SubtractMark,
+    IncreaseMark,
+    DecreaseMark,
+    LeftParen,
+    RightParen,
+    LeftBrace,
+    RightBrace,
+    LeftBracket,
+    RightBracket,
+    Semicolon,
+    Comma,
+}
+
+/// What a token is.
 #[derive(Drop, Debug, Clone, PartialEq)]
 pub enum TokenKind {
     /// A name's bytes.
@@ -12,9 +64,9 @@ pub enum TokenKind {
     /// A number's value, 0 to 9223372036854775807.
     Number(i64),
     /// A keyword.
-    Word(u8),
+    Word(Kind),
     /// An operator or another mark.
-    Mark(u8),
+    Mark(Kind),
     /// The end of the source.
     End,
 }
@@ -57,14 +109,6 @@ impl<T: Drop> From<AllocFailed<T>> for LexError {
     ghost from_gives = { λ _ e. e ≡ Memory };
 
     fn from(_error: AllocFailed<T>) -> Self {
-        LexError::Memory
-    }
-}
-
-impl From<ppd_ast::Memory> for LexError {
-    ghost from_gives = { λ _ e. e ≡ Memory };
-
-    fn from(_error: ppd_ast::Memory) -> Self {
         LexError::Memory
     }
 }

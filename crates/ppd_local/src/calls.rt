@@ -1,8 +1,9 @@
 ghost use Rattle.std.specs.Prelude.{◌≡◌, is_some, slice_get};
 ghost use Rattle.ppd_ast.specs.declared.plan.BlockKind.TheVariants as block;
+ghost use Rattle.ppd_ast.specs.Lookups.{kind_of};
 ghost use Rattle.ppd_model.specs.FullTrace.{parent_if};
 ghost use Rattle.ppd_model.specs.Parents.{is_while as is_while_by};
-ghost use Rattle.ppd_sem.specs.Process.{into_of, kind_of};
+ghost use Rattle.ppd_sem.specs.Process.{into_of};
 ghost use Rattle.ppd_sem.specs.Runs.{returns as returns_by};
 ghost use Rattle.ppd_sem.specs.Tables.{block_of, same_block};
 ghost use Rattle.ppd_search.specs.Locals.{begins_leaf as begins_leaf_by, is_leaf_call as is_leaf_call_by};

@@ -9,6 +9,7 @@ use Rattle.ppd_ast.specs.declared.program.Program.{Program}
 use Rattle.ppd_ast.specs.declared.program.Target.TheVariants as target
 use Rattle.ppd_ast.specs.declared.status.Trap.TheVariants as trap
 use Rattle.ppd_ast.specs.Term.{Term, term}
+use Rattle.ppd_ast.specs.Lookups.{kind_of}
 use Rattle.ppd_sem.specs.declared.asking.Pause.TheVariants.{Traps}
 use Rattle.ppd_sem.specs.declared.event.Event.{Event}
 use Rattle.ppd_sem.specs.declared.proc.Need.{Need}
@@ -18,11 +19,12 @@ use Rattle.ppd_sem.specs.declared.proc.Todo.{Todo}
 use Rattle.ppd_sem.specs.Ask.{ask, element, is_zero}
 use Rattle.ppd_sem.specs.Asked.{Asked, and_then, gives, lift}
 use Rattle.ppd_sem.specs.Deed.{Deed, set_local, set_shared, clear, branch, turn, leave, invoke, back, send, receive, print, pass, ask_deed, ask_stored}
-use Rattle.ppd_sem.specs.Process.{head_deed, kind_of, top_cells}
+use Rattle.ppd_sem.specs.Process.{head_deed, top_cells}
+use Rattle.ppd_sem.specs.Described.{is_event}
 use Rattle.ppd_model.specs.declared.trace.EventId.{EventId}
 use Rattle.ppd_model.specs.FullTrace.{Activation, Tag, Tracing, all_tagged, event_of, me_in, tagged, tagged_after, tagged_at, tagged_by, tagged_into, trace_step, with_test}
 use Rattle.ppd_model.specs.Parents.{is_call}
-use Rattle.ppd_model.specs.Story.{Story, Taken, is_event}
+use Rattle.ppd_model.specs.Story.{Story, Taken}
 use Rattle.ppd_model.proofs.TestSteps.{all_tagged_views, event_acts, into_views, tagged_views, views}
 
 -- what is asked is no call

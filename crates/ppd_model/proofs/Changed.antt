@@ -5,8 +5,8 @@ use Rattle.std.proofs.lemmas.Bool.Decides.{nat_tests}
 use Rattle.ppd_sem.specs.declared.proc.Need.{Need}
 use Rattle.ppd_sem.specs.declared.proc.Need.TheVariants.{Write, P, V, Send, Offer, Done, Recv}
 use Rattle.ppd_sem.specs.Process.{act}
-use Rattle.ppd_model.specs.Bounds.{StepsChangeTheirOwn, names_chan, names_sem, writes_cell}
-use Rattle.ppd_model.specs.World.{World, answer, effect, need}
+use Rattle.ppd_model.specs.Bounds.{StepsChangeTheirOwn, names_chan, names_sem}
+use Rattle.ppd_model.specs.World.{World, answer, effect, need, writes_cell}
 use Rattle.ppd_model.proofs.Changes.{change-else}
 
 other : (a b : ℕ) → nat_eq a b ≡ false → b ≡ a → ⊥

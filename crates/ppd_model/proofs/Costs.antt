@@ -18,6 +18,7 @@ use Rattle.ppd_ast.specs.declared.status.Status.{Status}
 use Rattle.ppd_ast.specs.Bare.{gives as gives_value}
 use Rattle.ppd_ast.specs.Valid.{IsValid}
 use Rattle.ppd_ast.specs.ValidPlan.{IsBlockOf, IsFunctionBlock, IsValidPlan}
+use Rattle.ppd_ast.specs.Lookups.{kind_of, params_of_body, body_of}
 use Rattle.ppd_sem.specs.Blocks.{postlog_cells, postlog_in, prelog_cells, prelog_in}
 use Rattle.ppd_entry.specs.declared.entry.Entry.{Entry}
 use Rattle.ppd_sem.specs.declared.asking.Pause.TheVariants.{Wants, Traps}
@@ -31,7 +32,7 @@ use Rattle.ppd_sem.specs.Ask.{cell_of}
 use Rattle.ppd_sem.specs.Asked.{Asked, outcome}
 use Rattle.ppd_sem.specs.Deed.{Deed, set_local, set_shared, clear, branch, turn, leave, invoke, back, take, give, send, receive, print, pass, finish}
 use Rattle.ppd_sem.specs.Passed.{arguments_at, arguments_by, arguments_of_head, result_at, result_by, result_of_head}
-use Rattle.ppd_sem.specs.Process.{act, act_at, act_by_asked, act_by_need, charged, cost, entry_of, head_deed, kind_of, need_by_entry, need_by_offer, need_by_status, need_of, need_of_asked, need_of_head, need_of_leaving, need_of_running, need_of_send, offer_of, top_body, top_cells, values_of}
+use Rattle.ppd_sem.specs.Process.{act, act_at, act_by_asked, act_by_need, charged, cost, entry_of, head_deed, need_by_entry, need_by_offer, need_by_status, need_of, need_of_asked, need_of_head, need_of_leaving, need_of_running, need_of_send, offer_of, top_body, top_cells, values_of}
 use Rattle.ppd_sem.specs.Tables.{block_of, capacity_of, length_of, postlog_length, prelog_length, returned_length, same_block, unit_length, unit_of}
 use Rattle.ppd_sem.proofs.Paid.{need-paid}
 use Rattle.ppd_sem.proofs.Progress.{IsWithinBudget, SamePurse, act-stopped, act-within, asked_purse, need_at_status, need_at_todo}
@@ -45,7 +46,7 @@ use Rattle.ppd_model.specs.States.{states_from}
 use Rattle.ppd_model.specs.Synchronizations.{Sync, sync_of}
 use Rattle.ppd_model.specs.World.{World, change, need, need_at, step}
 use Rattle.ppd_model.proofs.Changes.{change-at, change-else, some}
-use Rattle.ppd_model.proofs.Homes.{AreHome, AskedOf, IsHome, act-home, bodies_of, body_at, head_of, params_if, started-home}
+use Rattle.ppd_model.proofs.Homes.{AreHome, AskedOf, IsHome, act-home, bodies_of, head_of, started-home}
 use Rattle.ppd_model.proofs.States.{logged, logs-change, one_state, states-begun, states-tell}
 
 -- ---- the values in entries
@@ -129,7 +130,7 @@ function_block program plan f b v w e =
       whole = subst (λ k. IsWholeBlock program x k) kind (w b no_block at.0);
     }
 
-params_are : (o : Option Body) (x : Block) → IsSomeAnd o (λ b. length x.prelog ≡ b.params) → length x.prelog ≡ params_if o
+params_are : (o : Option Body) (x : Block) → IsSomeAnd o (λ b. length x.prelog ≡ b.params) → length x.prelog ≡ params_of_body o
 params_are None x h = absurd h
 params_are (Some b) x h = h
 
@@ -144,7 +145,7 @@ one_if false None e = refl
 one_if false (Some v) e = absurd cc
 
 prelog_of_call : (program : Program) (plan : Plan) (f b : ℕ) (values : List ℤ) → IsValidPlan program plan → HasWholePrelogs program plan → block_of plan (block.Function f) ≡ Some b
-    → length values ≡ params_if (slice_get program.bodies f) → prelog_length plan b ≡ length values
+    → length values ≡ params_of_body (slice_get program.bodies f) → prelog_length plan b ≡ length values
 prelog_of_call program plan f b values v w e count =
     let x : FunctionBlock program plan f b = function_block program plan f b v w e in
     ap (λ o. length_of o (λ y. y.prelog)) x.is ∙ params_are (slice_get program.bodies f) x.found x.whole ∙ sym count
@@ -164,12 +165,12 @@ Tells program plan s (Invoke (Some b) u) = prelog_length plan b ≡ length (argu
 Tells program plan s (Back (Some b) u) = returned_length plan (Some b) ≡ length (result_at program s)
 Tells program plan s n = ⊤
 
-head_home : (program : Program) (frames : List Frame) (t : Todo) (ts : List Todo) → AreHome program (bodies_of frames) (t ∷ ts) → body_at program t.stmt ≡ top_body frames
+head_home : (program : Program) (frames : List Frame) (t : Todo) (ts : List Todo) → AreHome program (bodies_of frames) (t ∷ ts) → body_of program t.stmt ≡ top_body frames
 head_home program [] t ts h = absurd h
 head_home program (f ∷ fs) t ts h = h.0
 
 module _ (program : Program) (plan : Plan) (valid : IsValidPlan program plan) (whole : HasWholePrelogs program plan) (s : Proc) where
-  told_call : (o : Option ℕ) (f u : ℕ) (values : List ℤ) → block_of plan (block.Function f) ≡ o → arguments_at program s ≡ values → length values ≡ params_if (slice_get program.bodies f) → Tells program plan s (Invoke o u)
+  told_call : (o : Option ℕ) (f u : ℕ) (values : List ℤ) → block_of plan (block.Function f) ≡ o → arguments_at program s ≡ values → length values ≡ params_of_body (slice_get program.bodies f) → Tells program plan s (Invoke o u)
   told_call None f u values e is count = tt
   told_call (Some b) f u values e is count = prelog_of_call program plan f b values valid whole e count ∙ sym (ap length is)
 

@@ -6,6 +6,7 @@ use Rattle.ppd_ast.specs.declared.plan.Plan.{Plan}
 use Rattle.ppd_ast.specs.declared.program.Kind.{Kind}
 use Rattle.ppd_ast.specs.declared.program.Kind.TheVariants.{If, While}
 use Rattle.ppd_ast.specs.declared.program.Program.{Program}
+use Rattle.ppd_ast.specs.Lookups.{kind_of}
 use Rattle.ppd_sem.specs.declared.event.Access.{Access}
 use Rattle.ppd_sem.specs.declared.event.Event.{Event}
 use Rattle.ppd_sem.specs.declared.event.Spot.{Spot}
@@ -17,12 +18,14 @@ use Rattle.ppd_sem.specs.declared.proc.Proc.{Proc}
 use Rattle.ppd_sem.specs.declared.proc.Todo.{Todo}
 use Rattle.ppd_sem.specs.Asked.{Asked}
 use Rattle.ppd_sem.specs.Deed.{Deed, set_local, clear, invoke, back, receive}
-use Rattle.ppd_sem.specs.Process.{act, head_deed, kind_of, started, top_call}
+use Rattle.ppd_sem.specs.Process.{act, head_deed, started, top_call}
+use Rattle.ppd_sem.specs.Described.{is_event}
+use Rattle.ppd_sem.specs.Runs.{size_if}
 use Rattle.ppd_model.specs.declared.trace.EventId.{EventId}
 use Rattle.ppd_model.specs.declared.trace.TracedEvent.{TracedEvent}
 use Rattle.ppd_model.specs.Earlier.{AreEarlier, EachNamesEarlier, IsEarlier, IsEarlierAt, NamesEarlier, TracesNameEarlierEvents, TracesTellRuns, own_events}
-use Rattle.ppd_model.specs.FullTrace.{Activation, Tag, Test, Tracing, all_tagged, answers_past, begun_tracing, called, event_of, into_at, latest, me_in, of_outer, of_run, or_else, parent_at, parent_if, parent_in, size_if, tag_at, tagged, tagged_after, tagged_at, tagged_by, tagged_into, tags_of, tests_after, top_tags, trace_by, trace_step, traced_by, with_event, with_test}
-use Rattle.ppd_model.specs.Story.{Story, Taken, is_event}
+use Rattle.ppd_model.specs.FullTrace.{Activation, Tag, Test, Tracing, all_tagged, answers_past, begun_tracing, called, event_of, into_at, latest, me_in, of_outer, of_run, or_else, parent_at, parent_if, parent_in, tag_at, tagged, tagged_after, tagged_at, tagged_by, tagged_into, tags_of, tests_after, top_tags, trace_by, trace_step, traced_by, with_event, with_test}
+use Rattle.ppd_model.specs.Story.{Story, Taken}
 
 -- ---- the run
 

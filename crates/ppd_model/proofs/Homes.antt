@@ -17,6 +17,7 @@ use Rattle.ppd_ast.specs.Order.{StandIn, inner}
 use Rattle.ppd_ast.specs.Term.{Term, term}
 use Rattle.ppd_ast.specs.Valid.{CallsRightly, EndsBody, IsValid, IsValidKind, IsValidStmt}
 use Rattle.ppd_ast.proofs.Standing.{All-append_parts}
+use Rattle.ppd_ast.specs.Lookups.{kind_of_stmt, kind_of, top_of_body, params_of_body, body_of_stmt, body_of}
 use Rattle.ppd_sem.specs.declared.asking.Pause.TheVariants.{Wants, Traps}
 use Rattle.ppd_sem.specs.declared.proc.Answer.{Answer}
 use Rattle.ppd_sem.specs.declared.proc.Frame.{Frame}
@@ -27,7 +28,7 @@ use Rattle.ppd_sem.specs.declared.proc.Todo.{Todo}
 use Rattle.ppd_sem.specs.Ask.{ask, element, is_zero}
 use Rattle.ppd_sem.specs.Asked.{Asked, and_then, gives, lift}
 use Rattle.ppd_sem.specs.Deed.{Deed, set_local, set_shared, clear, branch, turn, leave, invoke, back, take, give, send, receive, print, pass, finish, ask_all, ask_deed, ask_stored}
-use Rattle.ppd_sem.specs.Process.{act, act_at, act_by_asked, act_by_deed, act_by_need, clear_top, head_deed, into_of, kind_of, kind_or_end, need_of, receive_at, returned, returned_from, started, todos, top_cells, top_of, write_top}
+use Rattle.ppd_sem.specs.Process.{act, act_at, act_by_asked, act_by_deed, act_by_need, clear_top, head_deed, into_of, need_of, receive_at, returned, returned_from, started, todos, top_cells, write_top}
 use Rattle.ppd_sem.proofs.Offers.{CompletesSend, completes, send_stays}
 use Rattle.ppd_sem.specs.Runs.{AreOfFunction, IsInner, IsRunnableBody, LeadsOn, left_by, returns, size_of, stmt_size}
 use Rattle.ppd_sem.proofs.Kept.{There, leads_at, there_at}
@@ -36,21 +37,9 @@ use Rattle.ppd_model.proofs.Moves.{body_top}
 
 -- ---- where the statements of a valid program stand
 
-abbrev pub body_if : Option Stmt → ℕ
-body_if None = 0
-body_if (Some s) = s.body
-
--- the body of a statement
-abbrev pub body_at : Program → ℕ → ℕ
-body_at program s = body_if (slice_get program.stmts s)
-
-abbrev pub params_if : Option Body → ℕ
-params_if None = 0
-params_if (Some b) = b.params
-
 -- a statement of this body, which does not return
 pub record IsBeside (program : Program) (body i : ℕ) : Type 0 where
-  pub of_body : body_at program i ≡ body
+  pub of_body : body_of program i ≡ body
   pub stays : returns (kind_of program i) ≡ false
 
 abbrev pub AllBeside : Program → ℕ → List ℕ → Type 0
@@ -60,18 +49,18 @@ AllBeside program body (i ∷ is) = IsBeside program body i × AllBeside program
 -- a function's outermost statements: the last one returns, and no other
 abbrev pub AreTop : Program → ℕ → List ℕ → Type 0
 AreTop program body [] = ⊥
-AreTop program body (i ∷ []) = (body_at program i ≡ body) × (returns (kind_of program i) ≡ true)
+AreTop program body (i ∷ []) = (body_of program i ≡ body) × (returns (kind_of program i) ≡ true)
 AreTop program body (i ∷ j ∷ is) = IsBeside program body i × AreTop program body (j ∷ is)
 
 -- where a statement of this body leads, and how many values it passes on
 abbrev pub Leads : Program → ℕ → Kind → Type 0
 Leads program body (kind.If e first second) = AllBeside program body first × AllBeside program body second
 Leads program body (kind.While e stmts) = AllBeside program body stmts
-Leads program body (kind.Call f arguments into) = AreTop program f (top_of (slice_get program.bodies f)) × (length arguments ≡ params_if (slice_get program.bodies f))
+Leads program body (kind.Call f arguments into) = AreTop program f (top_of_body (slice_get program.bodies f)) × (length arguments ≡ params_of_body (slice_get program.bodies f))
 Leads program body (kind.Return v) = is_some v ≡ gives_value (slice_get program.bodies body)
 Leads program body k = ⊤
 
-body_is : (o : Option Stmt) (parent : Option ℕ) (body : ℕ) → IsSomeAnd o (λ s. (s.parent ≡ parent) × (s.body ≡ body)) → body_if o ≡ body
+body_is : (o : Option Stmt) (parent : Option ℕ) (body : ℕ) → IsSomeAnd o (λ s. (s.parent ≡ parent) × (s.body ≡ body)) → body_of_stmt o ≡ body
 body_is None parent body h = absurd h
 body_is (Some x) parent body h = h.1
 
@@ -90,11 +79,11 @@ are_top program n body (i ∷ j ∷ is) over stands = (
   are_top program n body (j ∷ is) over.1 (λ k d lt. stands (suc k) d (omega arith)),
 )
 
-top_if : (program : Program) (f n : ℕ) (o : Option Body) → IsValid program → slice_get program.bodies f ≡ o → AreOfFunction program n (top_of o) → AreTop program f (top_of o)
+top_if : (program : Program) (f n : ℕ) (o : Option Body) → IsValid program → slice_get program.bodies f ≡ o → AreOfFunction program n (top_of_body o) → AreTop program f (top_of_body o)
 top_if program f n None v e over = over
 top_if program f n (Some b) v e over = are_top program n f b.top over (body_top program f b v e)
 
-count_if : (o : Option Body) (n : ℕ) (into : Option ℕ) → IsSomeAnd o (λ g. (n ≡ g.params) × (IsSome into → IsTrue g.value)) → n ≡ params_if o
+count_if : (o : Option Body) (n : ℕ) (into : Option ℕ) → IsSomeAnd o (λ g. (n ≡ g.params) × (IsSome into → IsTrue g.value)) → n ≡ params_of_body o
 count_if None n into h = absurd h
 count_if (Some b) n into h = h.0
 
@@ -109,7 +98,7 @@ of_kind program n s body b (kind.Call f arguments into) v is on stands calls end
 of_kind program n s body b (kind.Return value) v is on stands calls ends = ends.1 ∙ sym (ap gives_value is)
 of_kind program n s body b k v is on stands calls ends = tt
 
-leads_of : (program : Program) (s : ℕ) (o : Option Stmt) → IsValid program → slice_get program.stmts s ≡ o → Leads program (body_if o) (kind_or_end o)
+leads_of : (program : Program) (s : ℕ) (o : Option Stmt) → IsValid program → slice_get program.stmts s ≡ o → Leads program (body_of_stmt o) (kind_of_stmt o)
 leads_of program s None v e = tt
 leads_of program s (Some x) v e =
     let lt = slice_get_within program.stmts s x e in
@@ -119,9 +108,9 @@ leads_of program s (Some x) v e =
     let n : ℕ = stmt_size program (slice_get program.stmts s) in
     let on : LeadsOn program n (kind_of program s) = leads_at program n s (valid-runnable program v) (record { there = lt; size = refl }) in
     let at = some_at (λ (b : Body). IsValidKind program b s x.kind) (slice_get program.bodies x.body) valid.kind in
-    of_kind program n s x.body at.0 x.kind v at.1 (subst (λ k. LeadsOn program n k) (ap kind_or_end e) on) valid.inside at.2.call at.2.ending
+    of_kind program n s x.body at.0 x.kind v at.1 (subst (λ k. LeadsOn program n k) (ap kind_of_stmt e) on) valid.inside at.2.call at.2.ending
 
-leads : (program : Program) (s : ℕ) → IsValid program → Leads program (body_at program s) (kind_of program s)
+leads : (program : Program) (s : ℕ) → IsValid program → Leads program (body_of program s) (kind_of program s)
 leads program s v = leads_of program s (slice_get program.stmts s) v refl
 
 -- ---- what a statement's deed is
@@ -131,7 +120,7 @@ leads program s v = leads_of program s (slice_get program.stmts s) v refl
 abbrev pub DeedOf : Program → ℕ → Kind → Deed → Type 0
 DeedOf program body k (branch stmts) = (returns k ≡ false) × AllBeside program body stmts
 DeedOf program body k (turn stmts) = (returns k ≡ false) × AllBeside program body stmts
-DeedOf program body k (invoke f values into) = (returns k ≡ false) × (AreTop program f (top_of (slice_get program.bodies f)) × (length values ≡ params_if (slice_get program.bodies f)))
+DeedOf program body k (invoke f values into) = (returns k ≡ false) × (AreTop program f (top_of_body (slice_get program.bodies f)) × (length values ≡ params_of_body (slice_get program.bodies f)))
 DeedOf program body k (back value) = (returns k ≡ true) × (is_some value ≡ gives_value (slice_get program.bodies body))
 DeedOf program body k d = returns k ≡ false
 
@@ -167,7 +156,7 @@ module _ (program : Program) (body : ℕ) (k : Kind) where
   one_of (Ok q) deed h = h q.0
   one_of (Err pause) deed h = tt
 
-  call_of : (n f : ℕ) (into : Option ℕ) (r : Asked (List ℤ)) → Counted n r → returns k ≡ false → AreTop program f (top_of (slice_get program.bodies f)) → n ≡ params_if (slice_get program.bodies f)
+  call_of : (n f : ℕ) (into : Option ℕ) (r : Asked (List ℤ)) → Counted n r → returns k ≡ false → AreTop program f (top_of_body (slice_get program.bodies f)) → n ≡ params_of_body (slice_get program.bodies f)
       → AskedOf program body k (and_then r (λ vs left. gives left (invoke f vs into)))
   call_of n f into (Ok q) c e top is = (e, (top, c ∙ is))
   call_of n f into (Err pause) c e top is = tt
@@ -219,8 +208,8 @@ asked_of program body es (kind.Assert e) cells answers h =
 asked_of program body es kind.End cells answers h = refl
 
 -- what the deed of a statement of a valid program is
-pub head_of : (program : Program) (t : Todo) (s : Proc) → IsValid program → AskedOf program (body_at program t.stmt) (kind_of program t.stmt) (head_deed program t s)
-head_of program t s v = asked_of program (body_at program t.stmt) program.exprs (kind_of program t.stmt) (top_cells s.frames) s.answers (leads program t.stmt v)
+pub head_of : (program : Program) (t : Todo) (s : Proc) → IsValid program → AskedOf program (body_of program t.stmt) (kind_of program t.stmt) (head_deed program t s)
+head_of program t s v = asked_of program (body_of program t.stmt) program.exprs (kind_of program t.stmt) (top_cells s.frames) s.answers (leads program t.stmt v)
 
 -- ---- frames and what is to do over them
 
@@ -232,7 +221,7 @@ bodies_of frames = map (λ f. f.body) frames
 abbrev pub AreHome : Program → List ℕ → List Todo → Type 0
 AreHome program bs [] = ⊤
 AreHome program [] (t ∷ ts) = ⊥
-AreHome program (b ∷ bs) (t ∷ ts) = (body_at program t.stmt ≡ b) × AreHome program (left_by (returns (kind_of program t.stmt)) b bs) ts
+AreHome program (b ∷ bs) (t ∷ ts) = (body_of program t.stmt ≡ b) × AreHome program (left_by (returns (kind_of program t.stmt)) b bs) ts
 
 beside_home : (program : Program) (b : ℕ) (bs : List ℕ) (stmts : List ℕ) (ts : List Todo) → AllBeside program b stmts → AreHome program (b ∷ bs) ts → AreHome program (b ∷ bs) (todos stmts ++ ts)
 beside_home program b bs [] ts h home = home
@@ -285,8 +274,8 @@ module _ (program : Program) (a : Answer) (t : Todo) (ts : List Todo) (b : ℕ) 
   by_deed (turn stmts) s e h = put (bodies_of s.frames) (b ∷ bs) (todos stmts ++ t ∷ ts) e (beside_home program b bs stmts (t ∷ ts) h.1 home)
   by_deed leave s e h = put (bodies_of s.frames) (b ∷ bs) ts e (rest false h)
   by_deed (invoke f values into) s e h =
-      put (f ∷ bodies_of s.frames) (f ∷ b ∷ bs) (todos (top_of (slice_get program.bodies f)) ++ ts) (ap (λ l. f ∷ l) e)
-      (top_home program f (b ∷ bs) (top_of (slice_get program.bodies f)) ts h.1.0 (rest false h.0))
+      put (f ∷ bodies_of s.frames) (f ∷ b ∷ bs) (todos (top_of_body (slice_get program.bodies f)) ++ ts) (ap (λ l. f ∷ l) e)
+      (top_home program f (b ∷ bs) (top_of_body (slice_get program.bodies f)) ts h.1.0 (rest false h.0))
   by_deed (back value) s e h = put (bodies_of (returned program value s.frames)) bs ts (bodies-returned program value s.frames ∙ ap (λ l. drop 1 l) e) (rest true h.0)
   by_deed (take x) s e h = put (bodies_of s.frames) (b ∷ bs) ts e (rest false h)
   by_deed (give x) s e h = put (bodies_of s.frames) (b ∷ bs) ts e (rest false h)
@@ -333,7 +322,7 @@ started_all : (program : Program) (b : ℕ) (stmts : List ℕ) → AllBeside pro
 started_all program b [] h = tt
 started_all program b (i ∷ is) h = (h.0.of_body, subst (λ (x : Bool). AreHome program (left_by x b []) (todos is)) (sym h.0.stays) (started_all program b is h.1))
 
-start_of : (program : Program) (f : ℕ) (o : Option Body) → IsValid program → program.functions ≤ f → slice_get program.bodies f ≡ o → AreHome program (f ∷ []) (todos (top_of o))
+start_of : (program : Program) (f : ℕ) (o : Option Body) → IsValid program → program.functions ≤ f → slice_get program.bodies f ≡ o → AreHome program (f ∷ []) (todos (top_of_body o))
 start_of program f None v le e = tt
 start_of program f (Some b) v le e =
     let body : There (IsRunnableBody program) program.bodies f = there_at (IsRunnableBody program) program.bodies f (valid-runnable program v).bodies (slice_get_within program.bodies f b e) in

@@ -16,6 +16,7 @@ use Rattle.ppd_ast.specs.declared.program.Stmt.{Stmt}
 use Rattle.ppd_ast.specs.declared.status.Status.{Status}
 use Rattle.ppd_ast.specs.declared.status.Status.TheVariants as status
 use Rattle.ppd_ast.specs.declared.status.Trap.TheVariants.{Depth}
+use Rattle.ppd_ast.specs.Lookups.{kind_of_stmt, kind_of, top_of_body, body_of_stmt, body_of}
 use Rattle.ppd_sem.specs.declared.asking.Pause.TheVariants.{Wants, Traps}
 use Rattle.ppd_sem.specs.declared.proc.Answer.{Answer}
 use Rattle.ppd_sem.specs.declared.proc.Frame.{Frame}
@@ -25,7 +26,7 @@ use Rattle.ppd_sem.specs.declared.proc.Proc.{Proc}
 use Rattle.ppd_sem.specs.declared.proc.Todo.{Todo}
 use Rattle.ppd_sem.specs.Asked.{Asked}
 use Rattle.ppd_sem.specs.Deed.{Deed, set_local, set_shared, clear, branch, turn, leave, invoke, back, take, give, send, receive, print, pass, finish}
-use Rattle.ppd_sem.specs.Process.{act, act_at, act_by_asked, act_by_deed, act_by_need, call_unit, cost, entry_of, head_deed, kind_of, kind_or_end, loop_of, need_by_entry, need_by_offer, need_of, need_of_asked, need_of_deed, need_of_head, need_of_leaving, need_of_running, need_of_send, offer_of, started, todos, top_body, top_call, top_cells, top_of, value_of}
+use Rattle.ppd_sem.specs.Process.{act, act_at, act_by_asked, act_by_deed, act_by_need, call_unit, cost, entry_of, head_deed, loop_of, need_by_entry, need_by_offer, need_of, need_of_asked, need_of_deed, need_of_head, need_of_leaving, need_of_running, need_of_send, offer_of, started, todos, top_body, top_call, top_cells, value_of}
 use Rattle.ppd_sem.specs.Runs.{returns}
 use Rattle.ppd_sem.specs.Tables.{block_of, capacity_of, or_zero, unit_of}
 use Rattle.ppd_sem.proofs.Kept.{There, there_at}
@@ -33,7 +34,7 @@ use Rattle.ppd_sem.proofs.Progress.{act-stopped, need_at_status, need_at_todo}
 use Rattle.ppd_sem.proofs.Validity.{some_at}
 use Rattle.ppd_model.proofs.Changes.{some}
 use Rattle.ppd_model.proofs.Deeds.{AskedOf, DeedOf, asked_of}
-use Rattle.ppd_model.proofs.Homes.{AreHome, IsHome, act-home, bodies-clear, bodies-returned, bodies-write, bodies_of, body_at, body_if, started-home}
+use Rattle.ppd_model.proofs.Homes.{AreHome, IsHome, act-home, bodies-clear, bodies-returned, bodies-write, bodies_of, started-home}
 
 -- ---- intervals by what is to do
 
@@ -101,7 +102,7 @@ top_body_is (f ∷ fs) = refl
 
 -- ---- a return is of a function
 
-of_function : (program : Program) (s : ℕ) (o : Option Stmt) → IsValid program → slice_get program.stmts s ≡ o → returns (kind_or_end o) ≡ true → body_if o < program.functions
+of_function : (program : Program) (s : ℕ) (o : Option Stmt) → IsValid program → slice_get program.stmts s ≡ o → returns (kind_of_stmt o) ≡ true → body_of_stmt o < program.functions
 of_function program s None v e r = absurd (true≢false (sym r))
 of_function program s (Some x) v e r =
     let stmt : There (IsValidStmt program) program.stmts s = there_at (IsValidStmt program) program.stmts s v.stmts (slice_get_within program.stmts s x e) in
@@ -169,9 +170,9 @@ module _ (program : Program) (plan : Plan) (v : IsValid program) (a : Answer) (t
       → (base (drop 1 bs) ≡ Some b) × (one_if (block_of plan (block.Function (first_or bs))) + blocks plan (drop 1 bs) ≤ blocks plan bs)
   back_fits [] e at_home ret = absurd (none-some b e)
   back_fits (f ∷ []) e at_home ret =
-      let below : body_at program t.stmt < program.functions = of_function program t.stmt (slice_get program.stmts t.stmt) v refl ret in
+      let below : body_of program t.stmt < program.functions = of_function program t.stmt (slice_get program.stmts t.stmt) v refl ret in
       let same : f ≡ b = some e in
-      let here : body_at program t.stmt ≡ f = at_home.0 in
+      let here : body_of program t.stmt ≡ f = at_home.0 in
       absurd (omega (arith, below, same, here, process))
   back_fits (f ∷ g ∷ fs) e at_home ret = (e, omega arith)
 
@@ -187,7 +188,7 @@ module _ (program : Program) (plan : Plan) (v : IsValid program) (a : Answer) (t
     calling true f values into left at = ended (need.Trap Depth) (act_by_need program plan a t ts (need.Trap Depth) s) (status.Trap Depth) refl refl
     calling false f values into left at =
         let push : blocks plan (f ∷ bodies_of s.frames) ≤ one_if (block_of plan (block.Function f)) + blocks plan (bodies_of s.frames) = blocks-push plan f (bodies_of s.frames) in
-        let more : entered (todos (top_of (slice_get program.bodies f)) ++ ts) ≡ entered ts = entered-todos (top_of (slice_get program.bodies f)) ts in
+        let more : entered (todos (top_of_body (slice_get program.bodies f)) ++ ts) ≡ entered ts = entered-todos (top_of_body (slice_get program.bodies f)) ts in
         moved (need.Invoke (block_of plan (block.Function f)) (unit_of plan (start.Entry f))) (invoke f values into) left at
         ((λ runs. omega (arith, push, more, enough)), base-push f (bodies_of s.frames) b bottom)
 
@@ -298,5 +299,5 @@ pub inside_begun : (program : Program) (plan : Plan) (p budget : ℕ) → IsVali
 inside_begun program plan p budget v = record {
   home = started-home program plan p budget v;
   bottom = refl;
-  enough = λ runs. let none : entered (todos (top_of (slice_get program.bodies (program.functions + p)))) ≡ 0 = entered-new (top_of (slice_get program.bodies (program.functions + p))) in omega (arith, none);
+  enough = λ runs. let none : entered (todos (top_of_body (slice_get program.bodies (program.functions + p)))) ≡ 0 = entered-new (top_of_body (slice_get program.bodies (program.functions + p))) in omega (arith, none);
 }

@@ -9,7 +9,7 @@ use Rattle.ppd_ast.specs.Valid.{IsValid}
 use Rattle.ppd_ast.specs.declared.plan.BlockKind.TheVariants as block
 use Rattle.ppd_ast.specs.declared.plan.Plan.{Plan}
 use Rattle.ppd_ast.specs.declared.program.Program.{Program}
-use Rattle.ppd_sem.specs.Described.{frame_of}
+use Rattle.ppd_sem.specs.Described.{frame_of, is_event}
 use Rattle.ppd_sem.specs.Process.{act, need_of, started}
 use Rattle.ppd_sem.specs.Tables.{block_of, or_zero}
 use Rattle.ppd_sem.specs.declared.proc.Need.{Need}
@@ -24,7 +24,7 @@ use Rattle.ppd_model.specs.Intervals.{Part, own, nested, Span, Split, begin_if, 
 use Rattle.ppd_model.specs.Items.{ItemsAreWhole}
 use Rattle.ppd_model.specs.LocalTags.{AreOwn}
 use Rattle.ppd_model.specs.Marks.{Mark, closed, opened}
-use Rattle.ppd_model.specs.Story.{Story, Taken, is_event, own_steps, story}
+use Rattle.ppd_model.specs.Story.{Story, Taken, own_steps, story}
 use Rattle.ppd_model.specs.World.{change}
 use Rattle.ppd_model.proofs.Changes.{length-change, some}
 use Rattle.ppd_model.proofs.Inside.{IsInside, begins_by, ends_by, inside_begun, inside_step, running_after}
@@ -173,25 +173,25 @@ drop_one : (ks : List ℕ) → length (drop 1 ks) ≡ length ks - 1
 drop_one [] = refl
 drop_one (k ∷ ks) = omega arith
 
-abbrev one_mark : Option Mark → ℕ
+abbrev pub one_mark : Option Mark → ℕ
 one_mark None = 0
 one_mark (Some m) = 1
 
-end_count : (o : Option Mark) (tags : List Tag) (x : Split) → length (end_if o tags x).running ≡ length x.running - one_mark o
+pub end_count : (o : Option Mark) (tags : List Tag) (x : Split) → length (end_if o tags x).running ≡ length x.running - one_mark o
 end_count None tags x = omega arith
 end_count (Some m) tags x = drop_one x.running
 
-begin_count : (o : Option Mark) (frame : ℕ) (control : Option EventId) (x : Split) → length (begin_if o frame control x).running ≡ one_mark o + length x.running
+pub begin_count : (o : Option Mark) (frame : ℕ) (control : Option EventId) (x : Split) → length (begin_if o frame control x).running ≡ one_mark o + length x.running
 begin_count None frame control x = omega arith
 begin_count (Some m) frame control x = omega arith
 
-begins_is : (program : Program) (plan : Plan) (s : Proc) (need : Need) → one_mark (opened program plan s need) ≡ begins_by need
+pub begins_is : (program : Program) (plan : Plan) (s : Proc) (need : Need) → one_mark (opened program plan s need) ≡ begins_by need
 begins_is program plan s (n.Enter b u) = refl
 begins_is program plan s (n.Invoke None u) = refl
 begins_is program plan s (n.Invoke (Some b) u) = refl
 begins_is program plan s need = refl
 
-ends_is : (program : Program) (plan : Plan) (s : Proc) (need : Need) → one_mark (closed program plan s need) ≡ ends_by need
+pub ends_is : (program : Program) (plan : Plan) (s : Proc) (need : Need) → one_mark (closed program plan s need) ≡ ends_by need
 ends_is program plan s (n.Leave b u) = refl
 ends_is program plan s (n.Back None u) = refl
 ends_is program plan s (n.Back (Some b) u) = refl

@@ -7,12 +7,14 @@ use Rattle.std.proofs.lemmas.List.{get_or-append_right, get_or-replicate, get_or
 use Rattle.std.proofs.lemmas.List.Folds.{list_any-append}
 use Rattle.ppd_ast.specs.declared.program.Body.{Body}
 use Rattle.ppd_ast.specs.declared.program.Program.{Program}
+use Rattle.ppd_ast.specs.Lookups.{kind_of}
 use Rattle.ppd_sem.specs.declared.event.Access.{Access}
 use Rattle.ppd_sem.specs.declared.proc.Frame.{Frame}
 use Rattle.ppd_sem.specs.Described.{cleared, local_write, parameters}
-use Rattle.ppd_sem.specs.Process.{cells_for, clear_cells, clear_top, into_of, kind_of, new_frame, receive_at, returned, returned_from, top_call, write_top}
-use Rattle.ppd_model.specs.FullTrace.{Activation, Tag, all_tagged, called, into_at, size_if, tagged, tagged_into}
-use Rattle.ppd_model.specs.LocalTags.{is_cell, is_into, locals, sizes}
+use Rattle.ppd_sem.specs.Process.{cells_for, clear_cells, clear_top, into_of, new_frame, receive_at, returned, returned_from, top_call, write_top}
+use Rattle.ppd_sem.specs.Runs.{size_if, sizes}
+use Rattle.ppd_model.specs.FullTrace.{Activation, Tag, all_tagged, called, into_at, tagged, tagged_into}
+use Rattle.ppd_model.specs.LocalTags.{is_cell, is_into, locals}
 use Rattle.ppd_model.proofs.FromEnd.{Outcome, hit, miss, past, popped, same, topped}
 
 -- ---- tests

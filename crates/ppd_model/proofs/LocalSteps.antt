@@ -18,19 +18,21 @@ use Rattle.ppd_ast.specs.declared.program.Expr.{Expr}
 use Rattle.ppd_ast.specs.declared.program.Kind.{Kind}
 use Rattle.ppd_ast.specs.declared.program.Kind.TheVariants as kind
 use Rattle.ppd_ast.specs.Term.{term}
+use Rattle.ppd_ast.specs.Lookups.{kind_of}
 use Rattle.std.proofs.lemmas.Option.{none-some}
 use Rattle.ppd_sem.specs.Ask.{ask}
 use Rattle.ppd_sem.specs.Asked.{Asked, and_then, gives}
 use Rattle.ppd_sem.specs.Deed.{Deed, set_local, set_shared, clear, branch, turn, leave, invoke, back, take, give, send, receive, print, pass, finish, ask_deed}
-use Rattle.ppd_sem.specs.Described.{frame_of, trap_of, writes_by, writes_of_asked}
-use Rattle.ppd_sem.specs.Process.{act, act_by_asked, act_by_need, chan_of, entry_of, head_deed, kind_of, need_by_entry, need_by_offer, need_by_status, need_of, need_of_asked, need_of_head, need_of_leaving, need_of_running, need_of_send, offer_of, top_cells, value_of}
+use Rattle.ppd_sem.specs.Described.{frame_of, trap_of, writes_by, writes_of_asked, is_event}
+use Rattle.ppd_sem.specs.Process.{act, act_by_asked, act_by_need, chan_of, entry_of, head_deed, need_by_entry, need_by_offer, need_by_status, need_of, need_of_asked, need_of_head, need_of_leaving, need_of_running, need_of_send, offer_of, top_cells, value_of}
 use Rattle.ppd_sem.specs.Tables.{capacity_of}
 use Rattle.ppd_sem.proofs.Offers.{offer_there}
+use Rattle.ppd_sem.specs.Runs.{sizes}
 use Rattle.ppd_model.specs.declared.trace.EventId.{EventId}
 use Rattle.ppd_model.specs.declared.trace.TracedEvent.{TracedEvent}
 use Rattle.ppd_model.specs.FullTrace.{Activation, Tag, Tracing, event_of, me_in, tagged_by, trace_by, trace_step, with_test}
-use Rattle.ppd_model.specs.LocalTags.{HasTags, StepsTagTheirWrites, cells_in, from_end, is_local_write, is_received_by, locals, sizes}
-use Rattle.ppd_model.specs.Story.{Story, Taken, is_event}
+use Rattle.ppd_model.specs.LocalTags.{HasTags, StepsTagTheirWrites, cells_in, from_end, is_local_write, is_received_by, locals}
+use Rattle.ppd_model.specs.Story.{Story, Taken}
 use Rattle.ppd_model.proofs.FromEnd.{Outcome, from_end-length, same}
 use Rattle.ppd_model.proofs.LocalDeeds.{among, back_does, call_does, clear_does, length_locals, lengths, set_does}
 

@@ -8,8 +8,9 @@ use Rattle.ppd_ast.specs.declared.program.Program.{Program}
 use Rattle.ppd_sem.specs.declared.proc.Frame.{Frame}
 use Rattle.ppd_sem.specs.declared.proc.Proc.{Proc}
 use Rattle.ppd_sem.specs.Process.{act, need_of, started}
+use Rattle.ppd_sem.specs.Runs.{sizes}
 use Rattle.ppd_model.specs.FullTrace.{Activation, Tag, Tracing, begun_tracing, trace_step}
-use Rattle.ppd_model.specs.LocalTags.{AreOwn, HasTags, IsLastLocalWrite, IsLocalTag, IsSteady, IsUnwrittenSinceCall, LocalTagsAreLastWrites, ReadsAreOfTheTop, SchedulesTagLastWrites, StoriesTellOwnSteps, TagsItsWrites, cells_in, is_local_write, local_tag, locals, sizes}
+use Rattle.ppd_model.specs.LocalTags.{AreOwn, HasTags, IsLastLocalWrite, IsLocalTag, IsSteady, IsUnwrittenSinceCall, LocalTagsAreLastWrites, ReadsAreOfTheTop, SchedulesTagLastWrites, StoriesTellOwnSteps, TagsItsWrites, cells_in, is_local_write, local_tag, locals}
 use Rattle.ppd_model.specs.Schedule.{started_world}
 use Rattle.ppd_model.specs.States.{act_on, states_from}
 use Rattle.ppd_model.specs.Story.{Story, Taken, Telling, begun, moment_of, own_steps, steps_of, story, tell, told}

@@ -17,6 +17,7 @@ use Rattle.ppd_ast.specs.Order.{StandIn, inner}
 use Rattle.ppd_ast.specs.Term.{Term, term}
 use Rattle.ppd_ast.specs.Valid.{IsValid, IsValidBody, IsValidStmt}
 use Rattle.ppd_ast.proofs.Standing.{All-append_parts}
+use Rattle.ppd_ast.specs.Lookups.{kind_of_stmt, kind_of, top_of_body}
 use Rattle.ppd_sem.specs.declared.asking.Pause.TheVariants.{Wants, Traps}
 use Rattle.ppd_sem.specs.declared.proc.Answer.{Answer}
 use Rattle.ppd_sem.specs.declared.proc.Need.{Need}
@@ -26,15 +27,16 @@ use Rattle.ppd_sem.specs.declared.proc.Todo.{Todo}
 use Rattle.ppd_sem.specs.Ask.{ask, element, is_zero}
 use Rattle.ppd_sem.specs.Asked.{Asked, and_then, gives, lift}
 use Rattle.ppd_sem.specs.Deed.{Deed, set_local, set_shared, clear, branch, turn, leave, invoke, back, take, give, send, receive, print, pass, finish, ask_all, ask_deed, ask_stored}
-use Rattle.ppd_sem.specs.Process.{act, act_at, act_by_asked, act_by_deed, act_by_need, head_deed, kind_of, kind_or_end, need_of, todos, top_cells, top_of}
+use Rattle.ppd_sem.specs.Process.{act, act_at, act_by_asked, act_by_deed, act_by_need, head_deed, need_of, todos, top_cells}
 use Rattle.ppd_sem.specs.Runs.{AreOfFunction, IsInner, LeadsOn, returns, size_of, stmt_size}
 use Rattle.ppd_sem.proofs.Kept.{There, leads_at, there_at}
 use Rattle.ppd_sem.proofs.Validity.{valid-runnable}
 use Rattle.ppd_model.specs.FullTrace.{Activation, Tag, Tracing, event_of, me_in, parent_if, tagged_after, tagged_at, tagged_by, trace_step, with_test}
 use Rattle.ppd_model.specs.Parents.{is_choice}
-use Rattle.ppd_model.specs.Story.{Story, Taken, is_event}
+use Rattle.ppd_model.specs.Story.{Story, Taken}
 use Rattle.ppd_model.proofs.LocalSteps.{IsSend, Fits, FitsHead, fits}
 use Rattle.ppd_sem.proofs.Offers.{CompletesSend, completes, send_stays}
+use Rattle.ppd_sem.specs.Described.{is_event}
 use Rattle.ppd_model.proofs.TestSteps.{View, all_tagged_views, event_acts, into_views, other_acts, tagged_views, views}
 
 -- ---- where the statements of a valid program stand
@@ -58,7 +60,7 @@ AreTop program (i ∷ j ∷ is) = ((parent_if (slice_get program.stmts i) ≡ No
 abbrev pub Leads : Program → ℕ → Kind → Type 0
 Leads program s (kind.If e first second) = AllInner program s first × AllInner program s second
 Leads program s (kind.While e body) = AllInner program s body
-Leads program s (kind.Call f arguments into) = AreTop program (top_of (slice_get program.bodies f))
+Leads program s (kind.Call f arguments into) = AreTop program (top_of_body (slice_get program.bodies f))
 Leads program s k = ⊤
 
 pub parent_is : (o : Option Stmt) (parent : Option ℕ) (body : ℕ) → IsSomeAnd o (λ s. (s.parent ≡ parent) × (s.body ≡ body)) → parent_if o ≡ parent
@@ -86,7 +88,7 @@ body_top program f b v e =
     let one : body.0 ≡ b = cc (body.1) in
     subst (λ (x : Body). StandIn program.stmts None f x.top) one body.2.top
 
-of_body : (program : Program) (f n : ℕ) (o : Option Body) → IsValid program → slice_get program.bodies f ≡ o → AreOfFunction program n (top_of o) → AreTop program (top_of o)
+of_body : (program : Program) (f n : ℕ) (o : Option Body) → IsValid program → slice_get program.bodies f ≡ o → AreOfFunction program n (top_of_body o) → AreTop program (top_of_body o)
 of_body program f n None v e over = over
 of_body program f n (Some b) v e over = are_top program n f b.top over (body_top program f b v e)
 
@@ -99,7 +101,7 @@ of_kind program n s body (kind.While e stmts) v on stands = all_inner program n 
 of_kind program n s body (kind.Call f arguments into) v on stands = of_body program f (size_of program f) (slice_get program.bodies f) v refl on.top
 of_kind program n s body k v on stands = tt
 
-leads_of : (program : Program) (s : ℕ) (o : Option Stmt) → IsValid program → slice_get program.stmts s ≡ o → Leads program s (kind_or_end o)
+leads_of : (program : Program) (s : ℕ) (o : Option Stmt) → IsValid program → slice_get program.stmts s ≡ o → Leads program s (kind_of_stmt o)
 leads_of program s None v e = tt
 leads_of program s (Some x) v e =
     let lt : s < length program.stmts = slice_get_within program.stmts s x e in
@@ -108,7 +110,7 @@ leads_of program s (Some x) v e =
     let valid : IsValidStmt program s x = subst (IsValidStmt program s) one stmt.2 in
     let n : ℕ = stmt_size program (slice_get program.stmts s) in
     let on : LeadsOn program n (kind_of program s) = leads_at program n s (valid-runnable program v) (record { there = lt; size = refl }) in
-    of_kind program n s x.body x.kind v (subst (λ k. LeadsOn program n k) (ap kind_or_end e) on) valid.inside
+    of_kind program n s x.body x.kind v (subst (λ k. LeadsOn program n k) (ap kind_of_stmt e) on) valid.inside
 
 pub leads : (program : Program) (s : ℕ) → IsValid program → Leads program s (kind_of program s)
 leads program s v = leads_of program s (slice_get program.stmts s) v refl
@@ -118,7 +120,7 @@ leads program s v = leads_of program s (slice_get program.stmts s) v refl
 abbrev DeedOf : Program → ℕ → Kind → Deed → Type 0
 DeedOf program s k (branch stmts) = (returns k ≡ false) × ((is_choice k ≡ true) × AllInner program s stmts)
 DeedOf program s k (turn stmts) = (returns k ≡ false) × ((is_choice k ≡ true) × AllInner program s stmts)
-DeedOf program s k (invoke f values into) = (returns k ≡ false) × AreTop program (top_of (slice_get program.bodies f))
+DeedOf program s k (invoke f values into) = (returns k ≡ false) × AreTop program (top_of_body (slice_get program.bodies f))
 DeedOf program s k (back value) = returns k ≡ true
 DeedOf program s k d = returns k ≡ false
 
@@ -209,7 +211,7 @@ module _ (program : Program) (plan : Plan) (a : Answer) (t : Todo) (ts : List To
   by_deed (branch stmts) left h = chooses stmts h.0 h.1.0 h.1.1 refl refl
   by_deed (turn stmts) left h = turns stmts h.0 h.1.0 h.1.1 refl refl
   by_deed leave left h = passes h refl refl
-  by_deed (invoke f values into) left h = calls (top_of (slice_get program.bodies f)) me h.0 h.1 refl refl
+  by_deed (invoke f values into) left h = calls (top_of_body (slice_get program.bodies f)) me h.0 h.1 refl refl
   by_deed (back value) left h = backs h refl (into_views _ value me (drop 1 acts) ∙ drop_views acts)
   by_deed (take x) left h = passes h refl refl
   by_deed (give x) left h = passes h refl refl

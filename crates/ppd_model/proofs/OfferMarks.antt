@@ -9,6 +9,7 @@ use Rattle.ppd_ast.specs.declared.program.Program.{Program}
 use Rattle.ppd_ast.specs.declared.status.Status.{Status}
 use Rattle.ppd_ast.specs.declared.status.Status.TheVariants as status
 use Rattle.ppd_ast.specs.declared.status.Trap.TheVariants.{Depth}
+use Rattle.ppd_ast.specs.Lookups.{kind_of, top_of_body}
 use Rattle.ppd_sem.specs.declared.asking.Pause.TheVariants.{Wants, Traps}
 use Rattle.ppd_sem.specs.declared.proc.Answer.{Answer}
 use Rattle.ppd_sem.specs.declared.proc.Need.{Need}
@@ -17,11 +18,11 @@ use Rattle.ppd_sem.specs.declared.proc.Proc.{Proc}
 use Rattle.ppd_sem.specs.declared.proc.Todo.{Todo}
 use Rattle.ppd_sem.specs.Asked.{Asked}
 use Rattle.ppd_sem.specs.Deed.{Deed, set_local, set_shared, clear, branch, turn, leave, invoke, back, take, give, send, receive, print, pass, finish}
-use Rattle.ppd_sem.specs.Process.{act, act_at, act_by_asked, act_by_need, chan_of, cost, entry_of, head_deed, kind_of, need_by_entry, need_by_offer, need_of, need_of_asked, need_of_deed, need_of_head, need_of_leaving, need_of_running, need_of_send, offer_of, todos, top_of}
+use Rattle.ppd_sem.specs.Process.{act, act_at, act_by_asked, act_by_need, chan_of, cost, entry_of, head_deed, need_by_entry, need_by_offer, need_of, need_of_asked, need_of_deed, need_of_head, need_of_leaving, need_of_running, need_of_send, offer_of, todos}
 use Rattle.ppd_sem.specs.Tables.{block_of, capacity_of, unit_of}
 use Rattle.ppd_sem.proofs.Progress.{act-stopped, need_at_status, need_at_todo}
+use Rattle.ppd_sem.specs.Passed.{next_stmt_of}
 use Rattle.ppd_model.specs.Logs.{status_of}
-use Rattle.ppd_model.specs.Rendezvous.{first_stmt}
 use Rattle.ppd_model.proofs.OfferedSends.{OffersSend, running_offers}
 use Rattle.ppd_model.proofs.Statuses.{status_after}
 
@@ -71,7 +72,7 @@ module _ (program : Program) (plan : Plan) (a : Answer) (t : Todo) (ts : List To
     where
       calling : (b : Bool) → Leaves (if b then need.Trap Depth else need.Invoke (block_of plan (block.Function f)) (unit_of plan (start.Entry f)))
       calling true = inl (same_todo, tt)
-      calling false = inl (subst by_asked_deed (sym at) (todos_unmarked (top_of (slice_get program.bodies f)) ts rest), tt)
+      calling false = inl (subst by_asked_deed (sym at) (todos_unmarked (top_of_body (slice_get program.bodies f)) ts rest), tt)
   by_deed (back value) left at = inl (subst by_asked_deed (sym at) rest, tt)
   by_deed (take sem) left at = inl (subst by_asked_deed (sym at) rest, tt)
   by_deed (give sem) left at = inl (subst by_asked_deed (sym at) rest, tt)
@@ -132,7 +133,7 @@ IsOver s = (x : Status) × (s.status ≡ Some x)
 pub record TakesOffer (program : Program) (plan : Plan) (c : ℕ) (v : ℤ) (s t : Proc) : Type 0 where
   pub stmt : ℕ
   pub need_is : need_of program plan s ≡ need.Offer c v
-  pub stmt_is : first_stmt s.todo ≡ Some stmt
+  pub stmt_is : next_stmt_of s.todo ≡ Some stmt
   pub marked : IsMarked program c stmt t
 
 -- the step of a process takes some offer
@@ -160,7 +161,7 @@ module _ (program : Program) (plan : Plan) (a : Answer) (s : Proc) where
       record {
         stmt = t.stmt;
         need_is = e;
-        stmt_is = ap first_stmt is;
+        stmt_is = ap next_stmt_of is;
         marked = subst (λ (p : Proc). IsMarked program c t.stmt p) (sym now) (record {
           runs = runs;
           head = record t { offered = true };

@@ -11,18 +11,20 @@ use Rattle.ppd_ast.specs.declared.program.Program.{Program}
 use Rattle.ppd_ast.specs.declared.status.Status.{Status}
 use Rattle.ppd_ast.specs.Order.{StandIn}
 use Rattle.ppd_ast.specs.Valid.{IsValid}
+use Rattle.ppd_ast.specs.Lookups.{kind_of, top_of_body}
 use Rattle.ppd_sem.specs.declared.event.Event.{Event}
 use Rattle.ppd_sem.specs.declared.proc.Proc.{Proc}
 use Rattle.ppd_sem.specs.declared.proc.Todo.{Todo}
-use Rattle.ppd_sem.specs.Process.{act_at, kind_of, need_by_status, need_of, need_of_running, started, todos, top_of}
+use Rattle.ppd_sem.specs.Process.{act_at, need_by_status, need_of, need_of_running, started, todos}
 use Rattle.ppd_sem.specs.Runs.{IsInner, IsRunnableBody, returns}
 use Rattle.ppd_sem.proofs.Kept.{There, there_at}
 use Rattle.ppd_sem.proofs.Validity.{valid-runnable}
+use Rattle.ppd_sem.specs.Described.{is_event}
 use Rattle.ppd_model.specs.declared.trace.EventId.{EventId}
 use Rattle.ppd_model.specs.FullTrace.{Activation, Test, Tracing, begun_tracing, event_of, latest, me_in, parent_if, tests_after, trace_step, with_test}
 use Rattle.ppd_model.specs.LocalTags.{AreOwn, HasTags, from_end}
 use Rattle.ppd_model.specs.Parents.{OutersAreTested, is_choice}
-use Rattle.ppd_model.specs.Story.{Story, Taken, is_event, story}
+use Rattle.ppd_model.specs.Story.{Story, Taken, story}
 use Rattle.ppd_model.proofs.FromEnd.{hit}
 use Rattle.ppd_model.proofs.LocalTags.{has_all, has_begun, own_steps_told}
 use Rattle.ppd_model.proofs.Moves.{AllInner, AreTop, Move, backs, body_top, calls, chooses, parent_is, passes, stays, step_moves, traps, turns}
@@ -155,7 +157,7 @@ process_stand program n body v (i ∷ is) over stands = (
       (process_stand program n body v is (λ k d lt. over (suc k) d (omega arith)) (λ k d lt. stands (suc k) d (omega arith))),
 )
 
-start_of : (program : Program) (f : ℕ) (v : View) (o : Option Body) → IsValid program → program.functions ≤ f → slice_get program.bodies f ≡ o → AllStand program (v ∷ []) (todos (top_of o))
+start_of : (program : Program) (f : ℕ) (v : View) (o : Option Body) → IsValid program → program.functions ≤ f → slice_get program.bodies f ≡ o → AllStand program (v ∷ []) (todos (top_of_body o))
 start_of program f v None valid le e = tt
 start_of program f v (Some b) valid le e =
     let body : There (IsRunnableBody program) program.bodies f = there_at (IsRunnableBody program) program.bodies f (valid-runnable program valid).bodies (slice_get_within program.bodies f b e) in

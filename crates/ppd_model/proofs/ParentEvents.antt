@@ -7,11 +7,12 @@ use Rattle.ppd_ast.specs.declared.program.Program.{Program}
 use Rattle.ppd_sem.specs.declared.proc.Need.{Need}
 use Rattle.ppd_sem.specs.declared.proc.Need.TheVariants.{Read, Enter, Budget, Stopped}
 use Rattle.ppd_sem.specs.Process.{need_of, started}
+use Rattle.ppd_sem.specs.Described.{is_event}
 use Rattle.ppd_model.specs.declared.trace.TracedEvent.{TracedEvent}
 use Rattle.ppd_model.specs.FullTrace.{Tracing, begun_tracing, event_of, events_from, full_trace, trace_by, trace_step, traced_by, tracing_of}
 use Rattle.ppd_model.specs.LocalTags.{AreOwn, HasTags}
 use Rattle.ppd_model.specs.Parents.{HasParent, IsParent, ParentsAreLatestTests}
-use Rattle.ppd_model.specs.Story.{Story, Taken, is_event, own_steps, story}
+use Rattle.ppd_model.specs.Story.{Story, Taken, own_steps, story}
 use Rattle.ppd_model.proofs.LocalTags.{has_begun, own_steps_told}
 use Rattle.ppd_model.proofs.Parents.{none_some, own_from, own_to, parent_of, some_is}
 

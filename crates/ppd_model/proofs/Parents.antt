@@ -8,15 +8,17 @@ use Rattle.ppd_ast.specs.declared.program.Kind.{Kind}
 use Rattle.ppd_ast.specs.declared.program.Kind.TheVariants.{While}
 use Rattle.ppd_ast.specs.declared.program.Program.{Program}
 use Rattle.ppd_ast.specs.declared.status.Status.{Status}
+use Rattle.ppd_ast.specs.Lookups.{kind_of}
 use Rattle.ppd_sem.specs.declared.proc.Frame.{Frame}
 use Rattle.ppd_sem.specs.declared.proc.Proc.{Proc}
 use Rattle.ppd_sem.specs.declared.proc.Todo.{Todo}
-use Rattle.ppd_sem.specs.Process.{act, kind_of, need_by_status, need_of, need_of_running}
+use Rattle.ppd_sem.specs.Process.{act, need_by_status, need_of, need_of_running}
+use Rattle.ppd_sem.specs.Described.{is_event}
 use Rattle.ppd_model.specs.declared.trace.EventId.{EventId}
 use Rattle.ppd_model.specs.FullTrace.{Activation, Test, Tracing, event_of, latest, me_in, of_outer, of_run, or_else, parent_at, parent_if, parent_in, trace_step}
 use Rattle.ppd_model.specs.LocalTags.{AreOwn, HasTags, from_end}
 use Rattle.ppd_model.specs.Parents.{GoesOn, IsBegunBy, IsFirst, IsFromStart, IsLatestTest, IsOutermost, IsParent, IsUntested, Lasts, StandsIn, is_call, is_test, is_while}
-use Rattle.ppd_model.specs.Story.{Story, Taken, is_event}
+use Rattle.ppd_model.specs.Story.{Story, Taken}
 use Rattle.ppd_model.proofs.CallSteps.{begins_none}
 use Rattle.ppd_model.proofs.FromEnd.{hit, miss}
 use Rattle.ppd_model.proofs.LocalSteps.{tags_its_writes}

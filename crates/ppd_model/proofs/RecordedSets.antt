@@ -14,6 +14,7 @@ use Rattle.ppd_ast.specs.declared.status.Status.{Status}
 use Rattle.ppd_ast.specs.declared.status.Status.TheVariants as status
 use Rattle.ppd_entry.specs.declared.entry.Entry.{Entry}
 use Rattle.ppd_entry.specs.declared.entry.Entry.TheVariants as entry
+use Rattle.ppd_entry.specs.Entries.{is_end}
 use Rattle.ppd_sem.specs.declared.proc.Need.{Need}
 use Rattle.ppd_sem.specs.declared.proc.Need.TheVariants as n
 use Rattle.ppd_sem.specs.declared.proc.Proc.{Proc}
@@ -24,7 +25,7 @@ use Rattle.ppd_model.specs.Logs.{Logging, begun_log, closed_log, ends, entries_o
 use Rattle.ppd_model.specs.Marks.{Mark, closed, opened}
 use Rattle.ppd_model.specs.Races.{writes_or_not}
 use Rattle.ppd_model.specs.Record.{SharedAccess, access_at, accesses_from}
-use Rattle.ppd_model.specs.RecordedSets.{LogsRecordAccesses, RecordsAccesses, cells_of, is_end, sets_at_sync}
+use Rattle.ppd_model.specs.RecordedSets.{LogsRecordAccesses, RecordsAccesses, cells_of, sets_at_sync}
 use Rattle.ppd_model.specs.Story.{Moment, Taken, own_steps, steps_of, story, told, unit_started}
 use Rattle.ppd_model.specs.Synchronizations.{Sync, kind_of_sync, numbered, sync_of, syncs_of}
 use Rattle.ppd_model.proofs.AccessSets.{beyond, cells-append, other_edge, picked, with_cells}

@@ -10,16 +10,18 @@ use Rattle.ppd_ast.specs.declared.program.Chan.{Chan}
 use Rattle.ppd_ast.specs.declared.program.Program.{Program}
 use Rattle.ppd_ast.specs.declared.status.SyncKind.{SyncKind}
 use Rattle.ppd_ast.specs.declared.status.SyncKind.TheVariants.{P, V, Send, Recv, Done}
+use Rattle.ppd_ast.specs.Lookups.{top_of_body}
 use Rattle.ppd_sem.specs.declared.proc.Need.{Need}
 use Rattle.ppd_sem.specs.declared.proc.Need.TheVariants as need
 use Rattle.ppd_sem.specs.declared.proc.Proc.{Proc}
-use Rattle.ppd_sem.specs.Process.{act, need_of, started, todos, top_of}
+use Rattle.ppd_sem.specs.Process.{act, need_of, started, todos}
 use Rattle.ppd_sem.specs.Tables.{capacity_of}
+use Rattle.ppd_sem.specs.Passed.{next_stmt_of}
 use Rattle.ppd_model.specs.declared.state.Channel.{Channel}
 use Rattle.ppd_model.specs.Bounds.{AreEach, IsBalanced, IsBalancedChan}
 use Rattle.ppd_model.specs.LocalTags.{AreOwn}
 use Rattle.ppd_model.specs.Numbers.{count_in, count_of, sync}
-use Rattle.ppd_model.specs.Rendezvous.{ChannelsAreInTurn, Completes, CompletionsAreLedTo, CompletionsAreReceived, CompletionsLead, CompletionsWereOffered, IsInTurn, OffersAreCompleted, first_stmt}
+use Rattle.ppd_model.specs.Rendezvous.{ChannelsAreInTurn, Completes, CompletionsAreLedTo, CompletionsAreReceived, CompletionsLead, CompletionsWereOffered, IsInTurn, OffersAreCompleted}
 use Rattle.ppd_model.specs.Schedule.{started_world}
 use Rattle.ppd_model.specs.States.{act_on, state_of}
 use Rattle.ppd_model.specs.Story.{Taken, told}
@@ -162,7 +164,7 @@ module _ (program : Program) (plan : Plan) (budget p : ℕ) where
   begun_unmarked (s ∷ ss) = (refl, begun_unmarked ss)
 
   begun : IsSteady []
-  begun = inr (inl (record { runs = refl; unmarked = begun_unmarked (top_of (slice_get program.bodies (program.functions + p))) }))
+  begun = inr (inl (record { runs = refl; unmarked = begun_unmarked (top_of_body (slice_get program.bodies (program.functions + p))) }))
 
   steady : (before after : List Taken) → AreOwn program plan (started program plan p budget) (before ++ after) → IsSteady before
   steady before after own = steady_all [] before begun (own-before program plan (started program plan p budget) before after own)
@@ -180,7 +182,7 @@ module _ (program : Program) (plan : Plan) (budget p : ℕ) where
     offer = offer;
     done = done;
     offered_at = takes.stmt_is;
-    completed_at = ap first_stmt takes.marked.todo_is ∙ ap (λ (s : ℕ). Some s) takes.marked.stmt_is;
+    completed_at = ap next_stmt_of takes.marked.todo_is ∙ ap (λ (s : ℕ). Some s) takes.marked.stmt_is;
   }
 
   after_offer : (before : List Taken) (x y : Taken) (after : List Taken) (c : ℕ) (v : ℤ) → AreOwn program plan (started program plan p budget) (before ++ x ∷ y ∷ after) → x.need ≡ need.Offer c v

@@ -12,7 +12,7 @@ use Rattle.ppd_sem.specs.declared.proc.Need.TheVariants.{Read, Write, Stopped}
 use Rattle.ppd_sem.specs.declared.proc.Proc.{Proc}
 use Rattle.ppd_model.specs.declared.trace.EventId.{EventId}
 use Rattle.ppd_model.specs.declared.tracing.Taken.{Taken}
-use Rattle.ppd_model.specs.World.{World, change, need, need_at}
+use Rattle.ppd_model.specs.World.{World, change, need, need_at, writes_cell}
 use Rattle.ppd_model.specs.Schedule.{run, started_world}
 use Rattle.ppd_model.specs.Story.{Telling, begun, moment_of, own_steps, steps_of, story, tell, told}
 use Rattle.ppd_model.specs.States.{states_from}
@@ -20,7 +20,7 @@ use Rattle.ppd_model.specs.Synchronizations.{Sync, syncs_of}
 use Rattle.ppd_model.specs.Record.{SharedAccess, access_at, accesses, accesses_from, sync_record}
 use Rattle.ppd_model.specs.Races.{races}
 use Rattle.ppd_model.specs.HappenedBefore.{EdgeBefore, earlier, edge}
-use Rattle.ppd_model.specs.Laws.{DoConflict, IsAtStart, IsTagged, IsUnwritten, begins, is_write_of}
+use Rattle.ppd_model.specs.Laws.{DoConflict, IsAtStart, IsTagged, IsUnwritten, begins}
 use Rattle.ppd_model.proofs.Accesses.{accesses-append, record_at}
 use Rattle.ppd_model.proofs.CountedOn.{kept_at, last_at}
 use Rattle.ppd_model.proofs.Prefixes.{objects_stay}
@@ -246,11 +246,11 @@ compare (x ∷ b) q r (y ∷ b') q' r' e = elim (compare b q r b' q' r' (tail_is
 
 -- ---- the writer
 
-writes_it : (c : ℕ) (n : Need) (v : ℤ) → n ≡ Write c v → is_write_of c n ≡ true
-writes_it c n v e = ap (λ m. is_write_of c m) e ∙ eq-eqb c c refl
+writes_it : (c : ℕ) (n : Need) (v : ℤ) → n ≡ Write c v → writes_cell c n ≡ true
+writes_it c n v e = ap (λ m. writes_cell c m) e ∙ eq-eqb c c refl
 
 read_or_write : (c : ℕ) (n : Need) (v : ℤ) → n ≡ Read c → n ≡ Write c v → ⊥
-read_or_write c n v e f = true≢false (sym (writes_it c n v f) ∙ ap (λ m. is_write_of c m) e)
+read_or_write c n v e f = true≢false (sym (writes_it c n v f) ∙ ap (λ m. writes_cell c m) e)
 
 abbrev none_yet : Option EventId
 none_yet = None

@@ -7,9 +7,9 @@ use Rattle.ppd_ast.specs.declared.program.Program.{Program}
 use Rattle.ppd_sem.specs.declared.proc.Need.{Need}
 use Rattle.ppd_sem.specs.declared.proc.Need.TheVariants.{Write}
 use Rattle.ppd_model.specs.declared.trace.EventId.{EventId}
-use Rattle.ppd_model.specs.World.{effect, need}
+use Rattle.ppd_model.specs.World.{effect, need, writes_cell}
 use Rattle.ppd_model.specs.Story.{Telling, next_event, tell, writers_after}
-use Rattle.ppd_model.specs.Laws.{IsAtStart, IsLastWrite, IsTagged, TagsAreLastWrites, begins, goes_on, is_write_of}
+use Rattle.ppd_model.specs.Laws.{IsAtStart, IsLastWrite, IsTagged, TagsAreLastWrites, begins, told_on}
 
 -- what a step of this need does to the cell's tag and value
 record Writes (t : Telling) (p c : ℕ) (n : Need) : Type 0 where
@@ -19,7 +19,7 @@ record Writes (t : Telling) (p c : ℕ) (n : Need) : Type 0 where
   value_is : get_or (effect t.world n).shared c (pos 0) ≡ value
 
 record Keeps (t : Telling) (p c : ℕ) (n : Need) : Type 0 where
-  no_write : is_write_of c n ≡ false
+  no_write : writes_cell c n ≡ false
   tag_is : get_or (writers_after t p n) c None ≡ get_or t.writers c None
   value_is : get_or (effect t.world n).shared c (pos 0) ≡ get_or t.world.shared c (pos 0)
 
@@ -67,7 +67,7 @@ module _ (program : Program) (plan : Plan) (c : ℕ) where
     unwritten = w.unwritten;
   }
 
-  first_write : (t : Telling) (p : ℕ) (h : List ℕ) → Writes t p c (need program plan t.world p) → IsAtStart program plan c (tell program plan t p) (goes_on program plan t (p ∷ h)) h → IsTagged program plan c t (goes_on program plan t (p ∷ h)) (p ∷ h)
+  first_write : (t : Telling) (p : ℕ) (h : List ℕ) → Writes t p c (need program plan t.world p) → IsAtStart program plan c (tell program plan t p) (told_on program plan t (p ∷ h)) h → IsTagged program plan c t (told_on program plan t (p ∷ h)) (p ∷ h)
   first_write t p h w s = record {
     event = next_event t p;
     tag_is = s.tag_is ∙ w.tag_is;
@@ -82,10 +82,10 @@ module _ (program : Program) (plan : Plan) (c : ℕ) where
     };
   }
 
-  tagged : (t : Telling) (h : List ℕ) → IsThere c t → IsAtStart program plan c t (goes_on program plan t h) h ⊎ IsTagged program plan c t (goes_on program plan t h) h
+  tagged : (t : Telling) (h : List ℕ) → IsThere c t → IsAtStart program plan c t (told_on program plan t h) h ⊎ IsTagged program plan c t (told_on program plan t h) h
   tagged t [] there = inl (record { unwritten = tt; tag_is = refl; value_is = refl })
   tagged t (p ∷ h) there = elim (tagged (tell program plan t p) h (after_there t p there)) [
-    | inr w ↦ inr (record { event = w.event; tag_is = w.tag_is; last = later t p h (get_or (goes_on program plan t (p ∷ h)).world.shared c (pos 0)) w.event w.last })
+    | inr w ↦ inr (record { event = w.event; tag_is = w.tag_is; last = later t p h (get_or (told_on program plan t (p ∷ h)).world.shared c (pos 0)) w.event w.last })
     | inl s ↦ elim (step_does t p c (need program plan t.world p) there) [
       | inl w ↦ inr (first_write t p h w s)
       | inr k ↦ inl (record { unwritten = (k.no_write, s.unwritten); tag_is = s.tag_is ∙ k.tag_is; value_is = s.value_is ∙ k.value_is })

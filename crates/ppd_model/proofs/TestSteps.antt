@@ -8,6 +8,7 @@ use Rattle.ppd_ast.specs.declared.program.Kind.{Kind}
 use Rattle.ppd_ast.specs.declared.program.Kind.TheVariants.{If, While}
 use Rattle.ppd_ast.specs.declared.program.Program.{Program}
 use Rattle.ppd_ast.specs.declared.status.Status.{Status}
+use Rattle.ppd_ast.specs.Lookups.{kind_of}
 use Rattle.ppd_sem.specs.declared.event.Event.{Event}
 use Rattle.ppd_sem.specs.declared.proc.Need.{Need}
 use Rattle.ppd_sem.specs.declared.proc.Need.TheVariants.{Read, Enter, Trap, Budget, Stopped}
@@ -15,12 +16,13 @@ use Rattle.ppd_sem.specs.declared.proc.Proc.{Proc}
 use Rattle.ppd_sem.specs.declared.proc.Todo.{Todo}
 use Rattle.ppd_sem.specs.Asked.{Asked}
 use Rattle.ppd_sem.specs.Deed.{Deed, set_local, clear, invoke, back, receive}
-use Rattle.ppd_sem.specs.Process.{head_deed, kind_of, need_by_status, need_of, need_of_running}
+use Rattle.ppd_sem.specs.Process.{head_deed, need_by_status, need_of, need_of_running}
+use Rattle.ppd_sem.specs.Described.{is_event}
 use Rattle.ppd_model.specs.declared.trace.EventId.{EventId}
 use Rattle.ppd_model.specs.FullTrace.{Activation, Tag, Test, Tracing, all_tagged, event_of, is_passed, latest, me_in, tagged, tagged_after, tagged_at, tagged_by, tagged_into, tests_after, trace_by, trace_step, with_event, with_test}
 use Rattle.ppd_model.specs.LocalTags.{HasTags, from_end}
 use Rattle.ppd_model.specs.Parents.{is_choice, is_test, is_test_at}
-use Rattle.ppd_model.specs.Story.{Story, Taken, is_event}
+use Rattle.ppd_model.specs.Story.{Story, Taken}
 use Rattle.ppd_model.proofs.FromEnd.{hit, miss}
 use Rattle.ppd_model.proofs.LocalDeeds.{lengths}
 

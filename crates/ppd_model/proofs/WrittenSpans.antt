@@ -10,7 +10,7 @@ use Rattle.ppd_ast.specs.declared.status.Status.{Status}
 use Rattle.ppd_ast.specs.declared.status.Status.TheVariants as status
 use Rattle.ppd_entry.specs.declared.entry.Entry.{Entry}
 use Rattle.ppd_entry.specs.declared.entry.Entry.TheVariants as entry
-use Rattle.ppd_sem.specs.Described.{frame_of}
+use Rattle.ppd_sem.specs.Described.{frame_of, is_event}
 use Rattle.ppd_sem.specs.Process.{act, started}
 use Rattle.ppd_sem.specs.declared.proc.Need.{Need}
 use Rattle.ppd_sem.specs.declared.proc.Need.TheVariants as n
@@ -22,7 +22,7 @@ use Rattle.ppd_model.specs.FullTrace.{Tag, me_in, top_tags}
 use Rattle.ppd_model.specs.Intervals.{own, nested, Span, Split, begin_if, begun_split, change_first, control_by, end_if, innermost, is_closed, left_by, split_of, split_step, with_marks, with_own, with_part, with_step}
 use Rattle.ppd_model.specs.Logs.{Logging, begun_log, closed_log, ends, entries_of, log_of, log_step, postlogs, prelogs, status_of, syncs, units}
 use Rattle.ppd_model.specs.Marks.{Mark, closed, opened}
-use Rattle.ppd_model.specs.Story.{Moment, Story, Taken, is_event, steps_of, story, told, unit_started}
+use Rattle.ppd_model.specs.Story.{Moment, Story, Taken, steps_of, story, told, unit_started}
 use Rattle.ppd_model.specs.Synchronizations.{Sync, sync_of}
 use Rattle.ppd_model.specs.World.{change}
 use Rattle.ppd_model.specs.Written.{IntervalsAreOfSteps, IsEndAt, IsOfSteps, IsWrittenBy}

@@ -5,18 +5,13 @@ use Rattle.ppd_ast.specs.declared.program.Chan.{Chan}
 use Rattle.ppd_ast.specs.declared.program.Program.{Program}
 use Rattle.ppd_ast.specs.declared.program.Sem.{Sem}
 use Rattle.ppd_sem.specs.declared.proc.Need.{Need}
-use Rattle.ppd_sem.specs.declared.proc.Need.TheVariants.{Write, P, V, Send, Offer, Done, Recv}
+use Rattle.ppd_sem.specs.declared.proc.Need.TheVariants.{P, V, Send, Offer, Done, Recv}
 use Rattle.ppd_sem.specs.declared.proc.Proc.{Proc}
 use Rattle.ppd_sem.specs.Measure.{measure}
 use Rattle.ppd_model.specs.Schedule.{run}
-use Rattle.ppd_model.specs.World.{World, Channel, Counts, need, room, step}
+use Rattle.ppd_model.specs.World.{World, Channel, Counts, need, room, step, writes_cell}
 
 -- ---- what a step changes
-
--- a step of this need writes cell c
-abbrev pub writes_cell : ℕ → Need → Bool
-writes_cell c (Write d v) = nat_eq d c
-writes_cell c need = false
 
 -- a step of this need is a `P` or a `V` on semaphore s
 abbrev pub names_sem : ℕ → Need → Bool

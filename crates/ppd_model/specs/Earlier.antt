@@ -8,9 +8,10 @@ use Rattle.ppd_sem.specs.declared.event.Spot.{Spot}
 use Rattle.ppd_sem.specs.declared.event.Spot.TheVariants.{Local, Shared}
 use Rattle.ppd_sem.specs.declared.proc.Proc.{Proc}
 use Rattle.ppd_sem.specs.Process.{act, started}
+use Rattle.ppd_sem.specs.Described.{is_event}
 use Rattle.ppd_model.specs.declared.trace.TracedEvent.{TracedEvent}
 use Rattle.ppd_model.specs.FullTrace.{Tag, event_of, tracing_of}
-use Rattle.ppd_model.specs.Story.{Story, Taken, is_event}
+use Rattle.ppd_model.specs.Story.{Story, Taken}
 
 -- ---- the run
 

@@ -7,9 +7,9 @@ use Rattle.ppd_ast.specs.declared.plan.Plan.{Plan}
 use Rattle.ppd_ast.specs.declared.program.Kind.{Kind}
 use Rattle.ppd_ast.specs.declared.program.Kind.TheVariants as kind
 use Rattle.ppd_ast.specs.declared.program.Program.{Program}
+use Rattle.ppd_ast.specs.Lookups.{kind_of}
 use Rattle.ppd_sem.specs.declared.event.Access.{Access}
 use Rattle.ppd_sem.specs.declared.event.Spot.TheVariants.{Local}
-use Rattle.ppd_sem.specs.Process.{kind_of}
 use Rattle.ppd_model.specs.declared.flow.EdgeKind.{EdgeKind}
 use Rattle.ppd_model.specs.declared.flow.EdgeKind.TheVariants.{Read, Left, Returned, Sync, Control}
 use Rattle.ppd_model.specs.declared.flow.FlowEdge.{FlowEdge}

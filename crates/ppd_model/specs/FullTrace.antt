@@ -1,11 +1,11 @@
 -- The events of a schedule: each with the writers of what it read, its control parent and its pair.
 use Rattle.std.specs.Prelude.{ℕ, zero, suc, ◌+◌, ◌-◌, nat_eq, ℤ, Bool, false, not, List, [], ◌∷◌, ◌++◌, map, fold, find, drop, length, get_or, replicate, slice_set, slice_get, Option, Some, None, option_map, Ok, if◌then◌else◌}
-use Rattle.ppd_ast.specs.declared.program.Body.{Body}
 use Rattle.ppd_ast.specs.declared.program.Kind.{Kind}
 use Rattle.ppd_ast.specs.declared.program.Kind.TheVariants.{If, While}
 use Rattle.ppd_ast.specs.declared.program.Program.{Program}
 use Rattle.ppd_ast.specs.declared.program.Stmt.{Stmt}
 use Rattle.ppd_ast.specs.declared.plan.Plan.{Plan}
+use Rattle.ppd_ast.specs.Lookups.{kind_of}
 use Rattle.ppd_sem.specs.declared.event.Access.{Access}
 use Rattle.ppd_sem.specs.declared.event.Event.{Event}
 use Rattle.ppd_sem.specs.declared.event.Spot.{Spot}
@@ -18,7 +18,8 @@ use Rattle.ppd_sem.specs.Ask.{is_zero}
 use Rattle.ppd_sem.specs.Asked.{Asked}
 use Rattle.ppd_sem.specs.Deed.{Deed, set_local, clear, invoke, back, receive}
 use Rattle.ppd_sem.specs.Described.{described}
-use Rattle.ppd_sem.specs.Process.{act, head_deed, into_of, kind_of, started, top_call}
+use Rattle.ppd_sem.specs.Process.{act, head_deed, into_of, started, top_call}
+use Rattle.ppd_sem.specs.Runs.{size_if}
 use Rattle.ppd_model.specs.declared.trace.EventId.{EventId}
 use Rattle.ppd_model.specs.declared.trace.Trace.{Trace}
 use Rattle.ppd_model.specs.declared.trace.TracedEvent.{TracedEvent}
@@ -70,11 +71,6 @@ tagged c me (x ∷ xs) = record x { tags = slice_set x.tags c me } ∷ xs
 abbrev pub all_tagged : ℕ → ℕ → Tag → List Activation → List Activation
 all_tagged base zero me xs = xs
 all_tagged base (suc n) me xs = tagged (base + n) me (all_tagged base n me xs)
-
--- the cells of a frame of this body
-abbrev pub size_if : Option Body → ℕ
-size_if None = 0
-size_if (Some b) = b.cells
 
 -- the activation that a call begins, which writes so many parameters
 abbrev pub called : Program → ℕ → ℕ → Option EventId → Activation

@@ -8,7 +8,7 @@ use Rattle.ppd_ast.specs.declared.program.Program.{Program}
 use Rattle.ppd_sem.specs.declared.proc.Need.{Need}
 use Rattle.ppd_sem.specs.declared.proc.Need.TheVariants.{Enter, Leave, Budget, Stopped}
 use Rattle.ppd_sem.specs.declared.proc.Proc.{Proc}
-use Rattle.ppd_sem.specs.Described.{frame_of}
+use Rattle.ppd_sem.specs.Described.{frame_of, is_event}
 use Rattle.ppd_sem.specs.Process.{started}
 use Rattle.ppd_sem.specs.Tables.{block_of, or_zero}
 use Rattle.ppd_model.specs.declared.flow.Item.{Item}
@@ -18,7 +18,7 @@ use Rattle.ppd_model.specs.declared.flow.Origin.TheVariants as origin
 use Rattle.ppd_model.specs.declared.trace.EventId.{EventId}
 use Rattle.ppd_model.specs.declared.trace.TracedEvent.{TracedEvent}
 use Rattle.ppd_model.specs.World.{change}
-use Rattle.ppd_model.specs.Story.{Taken, Story, is_event}
+use Rattle.ppd_model.specs.Story.{Taken, Story}
 use Rattle.ppd_model.specs.FullTrace.{Tag, Tracing, begun_tracing, me_in, parent_at, top_tags, trace_step}
 use Rattle.ppd_model.specs.Record.{edge_after}
 use Rattle.ppd_model.specs.Marks.{Mark, opened, closed}

@@ -1,15 +1,14 @@
 -- Laws of the definitions, which hold of every program, plan, budget and schedule.
-use Rattle.std.specs.Prelude.{◌≡◌, ℕ, ◌<◌, ◌≤◌, nat_eq, ℤ, pos, Bool, false, ◌||◌, ◌⊎◌, ◌↔◌, List, [], ◌∷◌, ◌++◌, fold, map, length, get_or, slice_get, Some, None, IsTrue, ⊤}
+use Rattle.std.specs.Prelude.{◌≡◌, ℕ, ◌<◌, ◌≤◌, ℤ, pos, false, ◌||◌, ◌⊎◌, ◌↔◌, List, [], ◌∷◌, ◌++◌, fold, map, length, get_or, slice_get, Some, None, IsTrue, ⊤}
 use Rattle.ppd_ast.specs.declared.plan.Plan.{Plan}
 use Rattle.ppd_ast.specs.declared.program.Program.{Program}
 use Rattle.ppd_entry.specs.declared.entry.Entry.{Entry}
 use Rattle.ppd_entry.specs.declared.entry.Entry.TheVariants as entry
-use Rattle.ppd_sem.specs.declared.proc.Need.{Need}
 use Rattle.ppd_sem.specs.declared.proc.Need.TheVariants.{Write}
 use Rattle.ppd_model.specs.declared.graph.EdgeId.{EdgeId}
 use Rattle.ppd_model.specs.declared.graph.NodeId.{NodeId}
 use Rattle.ppd_model.specs.declared.trace.EventId.{EventId}
-use Rattle.ppd_model.specs.World.{World, answer, change, need, step}
+use Rattle.ppd_model.specs.World.{World, answer, change, need, step, writes_cell}
 use Rattle.ppd_model.specs.Schedule.{run, started_world}
 use Rattle.ppd_model.specs.Story.{Moment, Story, Taken, Telling, begun, moment_of, next_event, number_of, story, tell, told, unit_started, values_at_start, writers_after}
 use Rattle.ppd_model.specs.States.{state_of, states}
@@ -175,20 +174,15 @@ NoRaceMeansOrder =
 
 -- ---- tags
 
--- a step of this need writes cell c
-abbrev pub is_write_of : ℕ → Need → Bool
-is_write_of c (Write d v) = nat_eq d c
-is_write_of c need = false
-
 -- what is told after the steps of h, from t on
-abbrev pub goes_on : Program → Plan → Telling → List ℕ → Telling
-goes_on program plan t h = fold (tell program plan) t h
+abbrev pub told_on : Program → Plan → Telling → List ℕ → Telling
+told_on program plan t h = fold (tell program plan) t h
 
 -- no step of the schedule from here on writes the cell
 abbrev pub IsUnwritten : Program → Plan → ℕ → Telling → List ℕ → Type 0
 IsUnwritten program plan c t [] = ⊤
 IsUnwritten program plan c t (p ∷ h) =
-    (is_write_of c (need program plan t.world p) ≡ false) × IsUnwritten program plan c (tell program plan t p) h
+    (writes_cell c (need program plan t.world p) ≡ false) × IsUnwritten program plan c (tell program plan t p) h
 
 -- in the schedule from t on, the event is that of the last step that writes the cell, and writes this value
 pub record IsLastWrite (program : Program) (plan : Plan) (c : ℕ) (t : Telling) (h : List ℕ) (value : ℤ)
@@ -197,9 +191,9 @@ pub record IsLastWrite (program : Program) (plan : Plan) (c : ℕ) (t : Telling)
   pub process : ℕ
   pub after : List ℕ
   pub schedule_is : h ≡ before ++ process ∷ after
-  pub writes : need program plan (goes_on program plan t before).world process ≡ Write c value
-  pub event_is : e ≡ next_event (goes_on program plan t before) process
-  pub unwritten : IsUnwritten program plan c (tell program plan (goes_on program plan t before) process) after
+  pub writes : need program plan (told_on program plan t before).world process ≡ Write c value
+  pub event_is : e ≡ next_event (told_on program plan t before) process
+  pub unwritten : IsUnwritten program plan c (tell program plan (told_on program plan t before) process) after
 
 -- no step from t on writes the cell, whose tag and value are as at t
 pub record IsAtStart (program : Program) (plan : Plan) (c : ℕ) (t now : Telling) (h : List ℕ) : Type 0 where

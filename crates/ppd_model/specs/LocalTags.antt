@@ -10,10 +10,11 @@ use Rattle.ppd_sem.specs.declared.proc.Proc.{Proc}
 use Rattle.ppd_sem.specs.declared.proc.Todo.{Todo}
 use Rattle.ppd_sem.specs.Asked.{Asked}
 use Rattle.ppd_sem.specs.Deed.{Deed, back}
-use Rattle.ppd_sem.specs.Described.{frame_of}
+use Rattle.ppd_sem.specs.Described.{frame_of, is_event}
 use Rattle.ppd_sem.specs.Process.{act, head_deed, need_of, started, top_call}
+use Rattle.ppd_sem.specs.Runs.{sizes}
 use Rattle.ppd_model.specs.FullTrace.{Activation, Tag, Tracing, begun_tracing, event_of, into_at, me_in, tag_at, top_tags, trace_step, tracing_of}
-use Rattle.ppd_model.specs.Story.{Story, Taken, is_event, own_steps, story}
+use Rattle.ppd_model.specs.Story.{Story, Taken, own_steps, story}
 
 -- ---- activations by their numbers
 
@@ -21,10 +22,6 @@ use Rattle.ppd_model.specs.Story.{Story, Taken, is_event, own_steps, story}
 abbrev pub from_end : {A : Type 0} → A → List A → ℕ → A
 from_end none [] k = none
 from_end none (x ∷ xs) k = if nat_eq k (length xs) then x else from_end none xs k
-
--- how many local cells each frame has
-abbrev pub sizes : List Frame → List ℕ
-sizes frames = map (λ f. length f.cells) frames
 
 -- the tags of the local cells of each activation
 abbrev pub locals : List Activation → List (List Tag)

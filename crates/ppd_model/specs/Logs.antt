@@ -1,5 +1,5 @@
 -- The log of each process: the entries that its steps write.
-use Rattle.std.specs.Prelude.{ℕ, ◌+◌, ◌-◌, nat_lt, nat_eq, ℤ, pos, List, [], ◌∷◌, ◌++◌, map, fold, Option, Some, None, is_none, slice_get, unwrap_or, if◌then◌else◌}
+use Rattle.std.specs.Prelude.{ℕ, ◌+◌, ◌-◌, ℤ, pos, List, [], ◌∷◌, ◌++◌, map, fold, Option, Some, None, is_none, slice_get, unwrap_or, if◌then◌else◌}
 use Rattle.ppd_ast.specs.declared.plan.BlockKind.TheVariants as block
 use Rattle.ppd_ast.specs.declared.plan.Plan.{Plan}
 use Rattle.ppd_ast.specs.declared.plan.Start.TheVariants as start
@@ -7,6 +7,7 @@ use Rattle.ppd_ast.specs.declared.program.Body.{Body}
 use Rattle.ppd_ast.specs.declared.program.Program.{Program}
 use Rattle.ppd_ast.specs.declared.status.Status.{Status}
 use Rattle.ppd_ast.specs.declared.status.Status.TheVariants as status
+use Rattle.ppd_ast.specs.Members.{with_cell}
 use Rattle.ppd_entry.specs.declared.entry.Entry.{Entry}
 use Rattle.ppd_entry.specs.declared.entry.Entry.TheVariants as entry
 use Rattle.ppd_entry.specs.declared.entry.Logs.{Logs}
@@ -23,11 +24,6 @@ use Rattle.ppd_model.specs.Story.{Taken, Moment, told, unit_started, values_of_u
 use Rattle.ppd_model.specs.Synchronizations.{Sync, sync_of}
 use Rattle.ppd_model.specs.Marks.{Mark, opened, closed}
 pub use Rattle.ppd_model.specs.declared.state.Logging.{Logging}
-
--- a rising list with one more number
-abbrev pub with_cell : ℕ → List ℕ → List ℕ
-with_cell c [] = c ∷ []
-with_cell c (d ∷ ds) = if nat_lt c d then c ∷ d ∷ ds else if nat_eq c d then d ∷ ds else d ∷ with_cell c ds
 
 -- ---- the entries of one step
 
@@ -47,16 +43,16 @@ units None values = []
 units (Some u) values = entry.Unit u values ∷ []
 
 -- what was sent or received, and 0 for a semaphore and a completion
-abbrev pub passed : Need → Answer → ℤ
-passed (Send c v u) a = v
-passed (Offer c v) a = v
-passed (Recv c u) a = value_of a
-passed need a = pos 0
+abbrev pub passed_value : Need → Answer → ℤ
+passed_value (Send c v u) a = v
+passed_value (Offer c v) a = v
+passed_value (Recv c u) a = value_of a
+passed_value need a = pos 0
 
 -- the entry of a synchronization, with the cells accessed since the one before
 abbrev pub syncs : Logging → Taken → Option Sync → List Entry
 syncs l x None = []
-syncs l x (Some s) = entry.Sync s.kind s.object s.number (passed x.need x.answer) l.reads l.writes ∷ []
+syncs l x (Some s) = entry.Sync s.kind s.object s.number (passed_value x.need x.answer) l.reads l.writes ∷ []
 
 -- the status of a step that ends its process
 abbrev pub status_of : Need → Option Status

@@ -5,13 +5,15 @@ use Rattle.ppd_ast.specs.declared.program.Kind.{Kind}
 use Rattle.ppd_ast.specs.declared.program.Kind.TheVariants.{Call, If, While}
 use Rattle.ppd_ast.specs.declared.program.Program.{Program}
 use Rattle.ppd_ast.specs.Valid.{IsValid}
+use Rattle.ppd_ast.specs.Lookups.{kind_of}
 use Rattle.ppd_sem.specs.declared.proc.Proc.{Proc}
 use Rattle.ppd_sem.specs.declared.proc.Todo.{Todo}
-use Rattle.ppd_sem.specs.Process.{act, kind_of, started}
+use Rattle.ppd_sem.specs.Process.{act, started}
+use Rattle.ppd_sem.specs.Described.{is_event}
 use Rattle.ppd_model.specs.declared.trace.EventId.{EventId}
 use Rattle.ppd_model.specs.declared.trace.TracedEvent.{TracedEvent}
 use Rattle.ppd_model.specs.FullTrace.{Tracing, begun_tracing, event_of, full_trace, is_passed, me_in, parent_if, trace_step}
-use Rattle.ppd_model.specs.Story.{Story, Taken, is_event, own_steps, story}
+use Rattle.ppd_model.specs.Story.{Story, Taken, own_steps, story}
 
 -- ---- the steps that test
 

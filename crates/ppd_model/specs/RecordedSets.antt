@@ -6,15 +6,17 @@ use Rattle.ppd_ast.specs.Valid.{IsValid}
 use Rattle.ppd_ast.specs.declared.plan.Plan.{Plan}
 use Rattle.ppd_ast.specs.declared.program.Program.{Program}
 use Rattle.ppd_ast.specs.declared.status.Status.{Status}
+use Rattle.ppd_ast.specs.Members.{with_cell}
 use Rattle.ppd_entry.specs.declared.entry.Entry.{Entry}
 use Rattle.ppd_entry.specs.declared.entry.Entry.TheVariants as entry
 use Rattle.ppd_entry.specs.declared.entry.Logs.{Logs}
+use Rattle.ppd_entry.specs.Entries.{is_end}
 use Rattle.ppd_model.specs.Story.{Story, own_steps, story}
 use Rattle.ppd_model.specs.Synchronizations.{Sync, syncs_of}
 use Rattle.ppd_model.specs.Record.{SharedAccess, accesses, sync_record}
 use Rattle.ppd_model.specs.Numbers.{sync}
 use Rattle.ppd_model.specs.Races.{has_access, writes_or_not}
-use Rattle.ppd_model.specs.Logs.{closed_logs, kept_logs, with_cell}
+use Rattle.ppd_model.specs.Logs.{closed_logs, kept_logs}
 
 -- ---- synchronizations
 
@@ -76,11 +78,6 @@ AccessesAreOfCells =
 abbrev pub sets_at_sync : Entry → Option (List ℕ × List ℕ)
 sets_at_sync (entry.Sync kind object number value reads writes) = Some (reads, writes)
 sets_at_sync e = None
-
--- the entry is the end of the process
-abbrev pub is_end : Entry → Bool
-is_end (entry.End status rest reads writes) = true
-is_end e = false
 
 -- the last edge of process p: as many as it did synchronizations
 abbrev pub last_edge : Story → ℕ → ℕ

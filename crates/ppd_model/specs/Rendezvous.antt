@@ -1,12 +1,12 @@
 -- Channels of capacity 0: the counts of a channel, what a completion leads to and comes from, and that
 -- an offer and its completion are the steps of one statement, one straight after the other.
-use Rattle.std.specs.Prelude.{◌≡◌, ℕ, ◌+◌, ◌≤◌, ℤ, ◌⊎◌, ◌↔◌, IsTrue, List, [], ◌∷◌, ◌++◌, length, slice_get, Option, Some, None}
+use Rattle.std.specs.Prelude.{◌≡◌, ℕ, ◌+◌, ◌≤◌, ℤ, ◌⊎◌, ◌↔◌, IsTrue, List, [], ◌∷◌, ◌++◌, length, slice_get, Option, Some}
 use Rattle.ppd_ast.specs.declared.plan.Plan.{Plan}
 use Rattle.ppd_ast.specs.declared.program.Program.{Program}
 use Rattle.ppd_ast.specs.declared.status.SyncKind.TheVariants.{Send, Recv, Done}
 use Rattle.ppd_sem.specs.declared.proc.Need.TheVariants as need
-use Rattle.ppd_sem.specs.declared.proc.Todo.{Todo}
 use Rattle.ppd_sem.specs.Tables.{capacity_of}
+use Rattle.ppd_sem.specs.Passed.{next_stmt_of}
 use Rattle.ppd_model.specs.declared.graph.NodeId.{NodeId}
 use Rattle.ppd_model.specs.World.{World, Channel}
 use Rattle.ppd_model.specs.Schedule.{run}
@@ -56,14 +56,9 @@ CompletionsAreReceived =
 
 -- ---- one statement, two steps
 
--- the first of these statements
-abbrev pub first_stmt : List Todo → Option ℕ
-first_stmt [] = None
-first_stmt (t ∷ ts) = Some t.stmt
-
 -- the statement that process p is at after these steps
 abbrev pub statement_after : Program → Plan → ℕ → ℕ → List Taken → Option ℕ
-statement_after program plan budget p steps = first_stmt (state_of program plan budget p steps).todo
+statement_after program plan budget p steps = next_stmt_of (state_of program plan budget p steps).todo
 
 -- step y is the completion of the offer that step x took just before it, and both are of one statement
 pub record Completes (program : Program) (plan : Plan) (budget p : ℕ) (before : List Taken) (x y : Taken)

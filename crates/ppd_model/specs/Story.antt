@@ -1,10 +1,11 @@
 -- What each process did in a schedule: its steps, each with what it needed and was given.
-use Rattle.std.specs.Prelude.{ℕ, ◌+◌, ℤ, pos, Bool, true, false, List, [], ◌∷◌, ◌++◌, map, fold, length, get_or, slice_get, slice_set, count_by, Option, Some, None, option_map}
+use Rattle.std.specs.Prelude.{ℕ, ◌+◌, ℤ, pos, List, [], ◌∷◌, ◌++◌, map, fold, length, get_or, slice_get, slice_set, count_by, Option, Some, None, option_map}
 use Rattle.ppd_ast.specs.declared.program.Program.{Program}
 use Rattle.ppd_ast.specs.declared.plan.Plan.{Plan}
 use Rattle.ppd_ast.specs.declared.plan.Unit.{Unit as UnitOf}
 use Rattle.ppd_sem.specs.declared.proc.Need.{Need}
-use Rattle.ppd_sem.specs.declared.proc.Need.TheVariants.{Read, Write, Enter, Leave, Invoke, Back, P, V, Send, Offer, Done, Recv, Budget, Stopped}
+use Rattle.ppd_sem.specs.declared.proc.Need.TheVariants.{Read, Write, Enter, Leave, Invoke, Back, P, V, Send, Offer, Done, Recv}
+use Rattle.ppd_sem.specs.Described.{is_event}
 use Rattle.ppd_model.specs.declared.trace.EventId.{EventId}
 pub use Rattle.ppd_model.specs.declared.tracing.Story.{Story}
 pub use Rattle.ppd_model.specs.declared.tracing.Taken.{Taken}
@@ -23,14 +24,6 @@ pub record Telling : Type 0 where
   pub moments : List (List Moment)
 
 -- ---- one step
-
--- a step of this need finishes or traps a statement
-abbrev pub is_event : Need → Bool
-is_event (Read c) = false
-is_event (Enter b u) = false
-is_event Budget = false
-is_event Stopped = false
-is_event need = true
 
 -- the steps without the values of units
 abbrev pub steps_of : List Moment → List Taken

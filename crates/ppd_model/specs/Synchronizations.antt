@@ -6,8 +6,9 @@ use Rattle.ppd_ast.specs.declared.status.SyncKind.TheVariants.{P, V, Send, Recv,
 use Rattle.ppd_sem.specs.Tables.{capacity_of}
 use Rattle.ppd_sem.specs.declared.proc.Need.{Need}
 use Rattle.ppd_sem.specs.declared.proc.Need.TheVariants as need
+use Rattle.ppd_sem.specs.Described.{is_event}
 use Rattle.ppd_model.specs.declared.trace.EventId.{EventId}
-use Rattle.ppd_model.specs.Story.{Taken, Story, is_event}
+use Rattle.ppd_model.specs.Story.{Taken, Story}
 
 -- a synchronization: the number is that among those of its kind and object
 pub record Sync : Type 0 where

@@ -34,27 +34,18 @@ use Rattle.ppd_shared_edges.proofs.Back.Walks.{map_at}
 use Rattle.ppd_shared_edges.proofs.StepEvents.Processes.{Facts, facts}
 use Rattle.ppd_near.specs.Costs.{EdgesCostLittle, steps_of_all}
 use Rattle.ppd_near.proofs.Own.Near.{both_steps, one_little}
-use Rattle.ppd_near.proofs.Own.Parts.{both_times, first_of, item_at, item_if, twice}
+use Rattle.ppd_shared_edges.proofs.PartItems.{first_of, item_at, item_if}
+use Rattle.ppd_near.proofs.Own.Parts.{both_times, twice}
 use Rattle.ppd_near.proofs.Edges.Answers.{in_left, in_right, not_ok, ok_is}
-use Rattle.ppd_near.proofs.Edges.Nested.{and_one, control_here, nested_little, sync_little}
-use Rattle.ppd_near.proofs.Edges.Reads.{reads_little}
+use Rattle.ppd_near.proofs.Edges.Items.{and_one, control_here, nested_little, reads_little, sync_little}
+use Rattle.ppd_near.proofs.Words.{Words, words_of}
 
 module _ (program : Program) (plan : Plan) (budget : ℕ) (h : List ℕ) (w : World) (v : IsValid program) (r : run program plan budget h ≡ Some w) (free : races program plan budget h ≡ []) (p k j : ℕ) (x : Split)
     (there : slice_get (splits program plan budget (story program plan budget h)) p ≡ Some x) (es : List FlowEdge) (edges_are : edges program plan budget (story program plan budget h) p k j ≡ Some es) where
-  abbrev xs : List Split
-  xs = splits program plan budget (story program plan budget h)
+  abbrev words : Words
+  words = words_of program plan budget h p k j
 
-  abbrev logs : Logs
-  logs = closed_logs program plan budget h
-
-  abbrev seens : List Seen
-  seens = all_seen program plan budget h
-
-  abbrev N : ℕ
-  N = near_steps program plan budget (story program plan budget h) p k j
-
-  abbrev steps : List (ℕ × ℕ) → ℕ
-  steps ms = steps_of_all (splits program plan budget (story program plan budget h)) ms
+  open words use {xs, logs, seens, N, steps}
 
   f : Facts program plan budget h v p x
   f = facts program plan budget h v p x there

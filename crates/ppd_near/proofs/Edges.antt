@@ -1,5 +1,4 @@
 -- The replays for the edges of an item, by their kinds.
 pub mod Answers
 pub mod Shared
-pub mod Reads
-pub mod Nested
+pub mod Items

@@ -11,14 +11,15 @@ use Rattle.ppd_ast.specs.declared.plan.Policy.{Policy}
 use Rattle.ppd_ast.specs.declared.program.Kind.{Kind}
 use Rattle.ppd_ast.specs.declared.program.Kind.TheVariants as kind
 use Rattle.ppd_ast.specs.declared.program.Program.{Program}
+use Rattle.ppd_ast.specs.Lookups.{kind_of, body_of}
 use Rattle.ppd_blocks.specs.Blocks.{plan_of}
 use Rattle.ppd_sem.specs.declared.proc.Frame.{Frame}
 use Rattle.ppd_sem.specs.declared.proc.Todo.{Todo}
 use Rattle.ppd_sem.specs.Blocks.{block_kind, is_function}
-use Rattle.ppd_sem.specs.Process.{kind_of, loop_of}
+use Rattle.ppd_sem.specs.Process.{loop_of}
 use Rattle.ppd_sem.specs.Runs.{returns}
 use Rattle.ppd_sem.specs.Tables.{block_of, or_zero}
-use Rattle.ppd_nested.specs.Stack.{block_frames, bodies_in, body_of, entered_block, functions_in, open_blocks, process_block, returned_block, returning}
+use Rattle.ppd_nested.specs.Stack.{block_frames, bodies_in, entered_block, functions_in, open_blocks, process_block, returned_block, returning}
 use Rattle.ppd_nested.proofs.Planned.{kind_is, process_found}
 
 -- 1 where it is so

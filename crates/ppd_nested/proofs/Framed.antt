@@ -8,6 +8,7 @@ use Rattle.ppd_ast.specs.declared.program.Body.{Body}
 use Rattle.ppd_ast.specs.declared.plan.Plan.{Plan}
 use Rattle.ppd_ast.specs.declared.program.Program.{Program}
 use Rattle.ppd_ast.specs.declared.program.Stmt.{Stmt}
+use Rattle.ppd_ast.specs.Lookups.{kind_of, top_of_body, body_of_stmt, body_of}
 use Rattle.ppd_sem.specs.declared.asking.Pause.TheVariants.{Wants, Traps}
 use Rattle.ppd_sem.specs.declared.proc.Answer.{Answer}
 use Rattle.ppd_sem.specs.declared.proc.Need.{Need}
@@ -15,22 +16,21 @@ use Rattle.ppd_sem.specs.declared.proc.Need.TheVariants as need
 use Rattle.ppd_sem.specs.declared.proc.Proc.{Proc}
 use Rattle.ppd_sem.specs.declared.proc.Todo.{Todo}
 use Rattle.ppd_sem.specs.Asked.{Asked}
-use Rattle.ppd_sem.specs.Blocks.{body_in}
 use Rattle.ppd_sem.specs.Deed.{Deed, set_local, set_shared, clear, branch, turn, leave, invoke, back, take, give, send, receive, print, pass, finish}
-use Rattle.ppd_sem.specs.Process.{act, act_at, act_by_asked, act_by_deed, act_by_need, head_deed, kind_of, need_of, started, todos, top_of, value_of}
+use Rattle.ppd_sem.specs.Process.{act, act_at, act_by_asked, act_by_deed, act_by_need, head_deed, need_of, started, todos, value_of}
 use Rattle.ppd_sem.specs.Runs.{IsInner, IsRunnableBody, returns}
 use Rattle.ppd_sem.proofs.Offers.{CompletesSend, completes, send_stays}
 use Rattle.ppd_sem.proofs.Validity.{valid-runnable}
-use Rattle.ppd_model.proofs.Homes.{AllBeside, AreTop, AskedOf, DeedOf, bodies-clear, bodies-returned, bodies-write, body_at, body_if, head_of}
-use Rattle.ppd_nested.specs.Stack.{bodies_in, body_of, returning}
+use Rattle.ppd_model.proofs.Homes.{AllBeside, AreTop, AskedOf, DeedOf, bodies-clear, bodies-returned, bodies-write, head_of}
+use Rattle.ppd_nested.specs.Stack.{bodies_in, returning}
 
 -- ---- the returns of lists of statements
 
-same_body : (o : Option Stmt) → body_if o ≡ body_in o
+same_body : (o : Option Stmt) → body_of_stmt o ≡ body_of_stmt o
 same_body None = refl
 same_body (Some x) = refl
 
-pub body_is : (program : Program) (s : ℕ) → body_at program s ≡ body_of program s
+pub body_is : (program : Program) (s : ℕ) → body_of program s ≡ body_of program s
 body_is program s = same_body (slice_get program.stmts s)
 
 module _ (program : Program) where
@@ -70,19 +70,19 @@ module _ (program : Program) (plan : Plan) (v : IsValid program) (a : Answer) (t
   gone : (x : Proc) → x.todo ≡ ts → bodies_in x.frames ≡ bodies_in s.frames → returns (kind_of program t.stmt) ≡ false → IsFramed x
   gone x todo frames stays = frames ∙ framed ∙ ap (λ bs. bs ++ base) (head_stays program t ts stays) ∙ ap (λ us. returning program us ++ base) (sym todo)
 
-  by_deed : (d : Deed) (left : List ℤ) → head_deed program t s ≡ Ok (d, left) → DeedOf program (body_at program t.stmt) (kind_of program t.stmt) d → IsFramed (act_by_asked program a t ts (head_deed program t s) s)
+  by_deed : (d : Deed) (left : List ℤ) → head_deed program t s ≡ Ok (d, left) → DeedOf program (body_of program t.stmt) (kind_of program t.stmt) d → IsFramed (act_by_asked program a t ts (head_deed program t s) s)
   by_deed (set_local c x) left at h = moved (Ok (set_local c x, left)) at (gone (after (set_local c x)) refl (bodies-write c x s.frames) h)
   by_deed (set_shared c x) left at h = moved (Ok (set_shared c x, left)) at (gone (after (set_shared c x)) refl refl h)
   by_deed (clear first len) left at h = moved (Ok (clear first len, left)) at (gone (after (clear first len)) refl (bodies-clear first len s.frames) h)
   by_deed (branch stmts) left at h =
       moved (Ok (branch stmts, left)) at
-      (framed ∙ ap (λ bs. bs ++ base) (head_stays program t ts h.0 ∙ sym (inner_stays program (body_at program t.stmt) stmts ts h.1)))
-  by_deed (turn stmts) left at h = moved (Ok (turn stmts, left)) at (framed ∙ ap (λ bs. bs ++ base) (sym (inner_stays program (body_at program t.stmt) stmts (t ∷ ts) h.1)))
+      (framed ∙ ap (λ bs. bs ++ base) (head_stays program t ts h.0 ∙ sym (inner_stays program (body_of program t.stmt) stmts ts h.1)))
+  by_deed (turn stmts) left at h = moved (Ok (turn stmts, left)) at (framed ∙ ap (λ bs. bs ++ base) (sym (inner_stays program (body_of program t.stmt) stmts (t ∷ ts) h.1)))
   by_deed leave left at h = moved (Ok (leave, left)) at (gone (after leave) refl refl h)
   by_deed (invoke f values into) left at h =
       moved (Ok (invoke f values into, left)) at
       (ap (λ bs. f ∷ bs) (framed ∙ ap (λ bs. bs ++ base) (head_stays program t ts h.0))
-      ∙ ap (λ bs. bs ++ base) (sym (top_returns program f (top_of (slice_get program.bodies f)) ts h.1.0)))
+      ∙ ap (λ bs. bs ++ base) (sym (top_returns program f (top_of_body (slice_get program.bodies f)) ts h.1.0)))
   by_deed (back value) left at h =
       moved (Ok (back value, left)) at
       (bodies-returned program value s.frames ∙ ap (λ bs. drop 1 bs) (framed ∙ ap (λ bs. bs ++ base) (head_returns program t ts h.0)))
@@ -97,7 +97,7 @@ module _ (program : Program) (plan : Plan) (v : IsValid program) (a : Answer) (t
   unchanged : (todo : List Todo) → todo ≡ t ∷ ts → bodies_in s.frames ≡ returning program todo ++ base
   unchanged todo is = framed ∙ ap (λ us. returning program us ++ base) (sym is)
 
-  by_asked : (x : Asked Deed) → head_deed program t s ≡ x → s.todo ≡ t ∷ ts → AskedOf program (body_at program t.stmt) (kind_of program t.stmt) x → IsFramed (act_by_asked program a t ts (head_deed program t s) s)
+  by_asked : (x : Asked Deed) → head_deed program t s ≡ x → s.todo ≡ t ∷ ts → AskedOf program (body_of program t.stmt) (kind_of program t.stmt) x → IsFramed (act_by_asked program a t ts (head_deed program t s) s)
   by_asked (Ok q) at is h = by_deed q.0 q.1 at h
   by_asked (Err (Wants c)) at is h = moved (Err (Wants c)) at (unchanged s.todo is)
   by_asked (Err (Traps x)) at is h = moved (Err (Traps x)) at (unchanged s.todo is)
@@ -126,14 +126,14 @@ none_return program n [] h = refl
 none_return program n (i ∷ is) h = head_stays program (record { stmt = i; entered = false; offered = false }) (todos is) (h 0 i (omega arith)).stays ∙ none_return program n is (λ k d lt. h (suc k) d (omega arith))
 
 -- the outermost statements of a process return nowhere
-pub process_stays : (program : Program) (f : ℕ) → IsValid program → program.functions ≤ f → (n : ℕ) × All (IsInner program n) (top_of (slice_get program.bodies f))
+pub process_stays : (program : Program) (f : ℕ) → IsValid program → program.functions ≤ f → (n : ℕ) × All (IsInner program n) (top_of_body (slice_get program.bodies f))
 process_stays program f v le = by (slice_get program.bodies f) refl
   where
-    by : (o : Option Body) → slice_get program.bodies f ≡ o → (n : ℕ) × All (IsInner program n) (top_of o)
+    by : (o : Option Body) → slice_get program.bodies f ≡ o → (n : ℕ) × All (IsInner program n) (top_of_body o)
     by None e = (0, λ k d lt. absurd (omega (arith, lt)))
     by (Some b) e = (b.cells, (each_at (IsRunnableBody program) program.bodies f b (valid-runnable program v).bodies e).top le)
 
 pub started_framed : (program : Program) (plan : Plan) (p budget : ℕ) → IsValid program → bodies_in (started program plan p budget).frames ≡ returning program (started program plan p budget).todo ++ (program.functions + p) ∷ []
 started_framed program plan p budget v =
     let inner = process_stays program (program.functions + p) v (omega arith) in
-    ap (λ bs. bs ++ (program.functions + p) ∷ []) (sym (none_return program inner.0 (top_of (slice_get program.bodies (program.functions + p))) inner.1))
+    ap (λ bs. bs ++ (program.functions + p) ∷ []) (sym (none_return program inner.0 (top_of_body (slice_get program.bodies (program.functions + p))) inner.1))

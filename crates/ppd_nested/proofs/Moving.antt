@@ -3,17 +3,16 @@ use Rattle.std.proofs.Common.{◌≡◌, ℕ, zero, suc, ◌+◌, ℤ, Bool, tru
 use Rattle.std.proofs.lemmas.Option.{none-some}
 use Rattle.std.specs.Prelude.{option_to_list, slice_get}
 use Rattle.ppd_ast.specs.Numbered.{is_while}
-use Rattle.ppd_ast.specs.Valid.{IsEnding, IsValid}
+use Rattle.ppd_ast.specs.Valid.{IsValid}
 use Rattle.ppd_ast.specs.declared.plan.BlockKind.TheVariants as block
 use Rattle.ppd_ast.specs.declared.plan.Plan.{Plan}
 use Rattle.ppd_ast.specs.declared.plan.Start.TheVariants as start
 use Rattle.ppd_ast.specs.declared.program.Program.{Program}
 use Rattle.ppd_ast.specs.declared.status.Trap.TheVariants as trap
-use Rattle.ppd_course.specs.Course.{IsWay, behind, calls_of, follow_if}
-use Rattle.ppd_course.specs.Course.{head_of as first_of}
-use Rattle.ppd_course.proofs.Deeds.{IsLoopDeed}
-use Rattle.ppd_course.proofs.Last.{ends_are_last}
-use Rattle.ppd_course.proofs.Ways.{same_kind}
+use Rattle.ppd_ast.specs.Lookups.{kind_of, top_of_body, body_of}
+use Rattle.ppd_step_laws.specs.Course.{IsWay, behind, calls_of, follow_if}
+use Rattle.ppd_step_laws.proofs.Course.Deeds.{IsLoopDeed}
+use Rattle.ppd_step_laws.proofs.Course.Last.{ends_are_last}
 use Rattle.ppd_sem.specs.declared.asking.Pause.TheVariants.{Wants, Traps}
 use Rattle.ppd_sem.specs.declared.proc.Answer.{Answer}
 use Rattle.ppd_sem.specs.declared.proc.Need.{Need}
@@ -22,14 +21,15 @@ use Rattle.ppd_sem.specs.declared.proc.Proc.{Proc}
 use Rattle.ppd_sem.specs.declared.proc.Todo.{Todo}
 use Rattle.ppd_sem.specs.Asked.{Asked}
 use Rattle.ppd_sem.specs.Deed.{Deed, set_local, set_shared, clear, branch, turn, leave, invoke, back, take, give, send, receive, print, pass, finish}
-use Rattle.ppd_sem.specs.Process.{act_by_asked, act_by_deed, act_by_need, call_unit, chan_of, cost, entry_of, head_deed, kind_of, loop_of, need_by_entry, need_by_offer, need_of_asked, need_of_deed, need_of_head, need_of_leaving, need_of_running, need_of_send, offer_of, todos, top_body, top_call, top_cells, top_of}
+use Rattle.ppd_sem.specs.Process.{act_by_asked, act_by_deed, act_by_need, call_unit, chan_of, cost, entry_of, head_deed, loop_of, need_by_entry, need_by_offer, need_of_asked, need_of_deed, need_of_head, need_of_leaving, need_of_running, need_of_send, offer_of, todos, top_body, top_call, top_cells}
 use Rattle.ppd_sem.specs.Runs.{returns}
 use Rattle.ppd_sem.specs.Tables.{block_of, capacity_of, or_zero, unit_of}
+use Rattle.ppd_sem.specs.Passed.{next_stmt_of}
 use Rattle.ppd_model.specs.Logs.{status_of}
 use Rattle.ppd_model.specs.Marks.{opened, closed}
 use Rattle.ppd_model.proofs.Deeds.{AskedOf as DoesIf, asked_of as does}
-use Rattle.ppd_model.proofs.Homes.{AskedOf, DeedOf, body_at, head_of}
-use Rattle.ppd_nested.specs.Stack.{Moves, bodies_in, body_of, entered_block, open_blocks, process_block, returned_block, returning}
+use Rattle.ppd_model.proofs.Homes.{AskedOf, DeedOf, head_of}
+use Rattle.ppd_nested.specs.Stack.{Moves, bodies_in, entered_block, open_blocks, process_block, returned_block, returning}
 use Rattle.ppd_nested.proofs.Framed.{head_returns, head_stays}
 use Rattle.ppd_nested.proofs.DeedKinds.{Finishes, FinishesIf, finishing, found_while, loop_is, no_loop, return_no_loop, send_is, while_block, while_stays}
 use Rattle.ppd_nested.proofs.Opened.{head_plain, inner_plain, no_entered, no_returned, top_opens}
@@ -128,14 +128,14 @@ module _ (program : Program) (plan : Plan) (p : ℕ) (v : IsValid program) (a : 
     invoking None u todo popped more = popped ∙ sym more
     invoking (Some b) u todo popped more = more ∙ ap (λ bs. b ∷ bs) (sym popped)
 
-    calling : (x : Bool) (f : ℕ) (values : List ℤ) (into : Option ℕ) (left : List ℤ) → head_deed program t s ≡ Ok (invoke f values into, left) → DeedOf program (body_at program t.stmt) (kind_of program t.stmt) (invoke f values into)
+    calling : (x : Bool) (f : ℕ) (values : List ℤ) (into : Option ℕ) (left : List ℤ) → head_deed program t s ≡ Ok (invoke f values into, left) → DeedOf program (body_of program t.stmt) (kind_of program t.stmt) (invoke f values into)
         → Tells (if x then need.Trap trap.Depth else need.Invoke (block_of plan (block.Function f)) (unit_of plan (start.Entry f)))
     calling true f values into left at h = unchanged
     calling false f values into left at h =
         moved (need.Invoke (block_of plan (block.Function f)) (unit_of plan (start.Entry f))) (Ok (invoke f values into, left)) at
-        (invoking (block_of plan (block.Function f)) (unit_of plan (start.Entry f)) (todos (top_of (slice_get program.bodies f)) ++ ts)
+        (invoking (block_of plan (block.Function f)) (unit_of plan (start.Entry f)) (todos (top_of_body (slice_get program.bodies f)) ++ ts)
         (gone (other_deed (invoke f values into) left at (λ body z. z)) h.0)
-        (ap (λ bs. bs ++ base) (top_opens program plan f (top_of (slice_get program.bodies f)) ts h.1.0) ∙ append_assoc (option_to_list (block_of plan (block.Function f))) (open_blocks program plan ts) base))
+        (ap (λ bs. bs ++ base) (top_opens program plan f (top_of_body (slice_get program.bodies f)) ts h.1.0) ∙ append_assoc (option_to_list (block_of plan (block.Function f))) (open_blocks program plan ts) base))
 
     backing : (o u : Option ℕ) (todo : List Todo) → before ≡ option_to_list o ++ (open_blocks program plan todo ++ base) → Goes (need.Back o u) todo
     backing None u todo e = e
@@ -159,10 +159,10 @@ module _ (program : Program) (plan : Plan) (p : ℕ) (v : IsValid program) (a : 
     -- nothing is to do after it
     nothing_after : returns (kind_of program t.stmt) ≡ false → Finishes (kind_of program t.stmt) finish → ts ≡ []
     nothing_after stays ends =
-        let last : first_of ts ≡ None = subst (λ b. first_of ts ≡ follow_if program (behind b t.stmt (calls_of s.frames))) stays course.0.follows ∙ ends_are_last program t.stmt v (subst IsEnding (same_kind program t.stmt) ends) in
+        let last : next_stmt_of ts ≡ None = subst (λ b. next_stmt_of ts ≡ follow_if program (behind b t.stmt (calls_of s.frames))) stays course.0.follows ∙ ends_are_last program t.stmt v ends in
         none_left ts last
       where
-        none_left : (us : List Todo) → first_of us ≡ None → us ≡ []
+        none_left : (us : List Todo) → next_stmt_of us ≡ None → us ≡ []
         none_left [] e = refl
         none_left (u ∷ us) e = absurd (none-some u.stmt (sym e))
 
@@ -181,15 +181,15 @@ module _ (program : Program) (plan : Plan) (p : ℕ) (v : IsValid program) (a : 
     sending zero c value left at stays = refl
     sending (suc n) c value left at stays = plain (send c value) left at (λ body z. z) stays refl
 
-    by_deed : (d : Deed) (left : List ℤ) → head_deed program t s ≡ Ok (d, left) → DeedOf program (body_at program t.stmt) (kind_of program t.stmt) d → Tells (need_of_deed program plan t.stmt s d)
+    by_deed : (d : Deed) (left : List ℤ) → head_deed program t s ≡ Ok (d, left) → DeedOf program (body_of program t.stmt) (kind_of program t.stmt) d → Tells (need_of_deed program plan t.stmt s d)
     by_deed (set_local c x) left at h = plain (set_local c x) left at (λ body z. z) h refl
     by_deed (set_shared c x) left at h = plain (set_shared c x) left at (λ body z. z) h refl
     by_deed (clear first len) left at h = plain (clear first len) left at (λ body z. z) h refl
     by_deed (branch stmts) left at h =
         moved need.Plain (Ok (branch stmts, left)) at
-        (gone (other_deed (branch stmts) left at (λ body z. z)) h.0 ∙ ap (λ bs. bs ++ base) (sym (inner_plain program plan (body_at program t.stmt) stmts ts h.1)))
+        (gone (other_deed (branch stmts) left at (λ body z. z)) h.0 ∙ ap (λ bs. bs ++ base) (sym (inner_plain program plan (body_of program t.stmt) stmts ts h.1)))
     by_deed (turn stmts) left at h =
-        moved need.Plain (Ok (turn stmts, left)) at (ap (λ bs. bs ++ base) (sym (inner_plain program plan (body_at program t.stmt) stmts (t ∷ ts) h.1)))
+        moved need.Plain (Ok (turn stmts, left)) at (ap (λ bs. bs ++ base) (sym (inner_plain program plan (body_of program t.stmt) stmts (t ∷ ts) h.1)))
     by_deed leave left at h = leaving_by (block_of plan (block.Loop t.stmt)) refl
       where
         loop : is_while (kind_of program t.stmt) ≡ true
@@ -207,7 +207,7 @@ module _ (program : Program) (plan : Plan) (p : ℕ) (v : IsValid program) (a : 
     by_deed pass left at h = plain pass left at (λ body z. z) h refl
     by_deed finish left at h = moved (need.End (or_zero (block_of plan (block.Process (top_body s.frames))))) (Ok (finish, left)) at (finishing_off left at h)
 
-    by_asked : (x : Asked Deed) → head_deed program t s ≡ x → AskedOf program (body_at program t.stmt) (kind_of program t.stmt) x → Tells (need_of_asked program plan t.stmt s x)
+    by_asked : (x : Asked Deed) → head_deed program t s ≡ x → AskedOf program (body_of program t.stmt) (kind_of program t.stmt) x → Tells (need_of_asked program plan t.stmt s x)
     by_asked (Ok q) at h = by_deed q.0 q.1 at h
     by_asked (Err (Wants c)) at h = moved (need.Read c) (Err (Wants c)) at unchanged
     by_asked (Err (Traps x)) at h = unchanged

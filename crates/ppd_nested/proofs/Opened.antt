@@ -4,12 +4,13 @@ use Rattle.std.specs.Prelude.{option_to_list}
 use Rattle.ppd_ast.specs.declared.plan.BlockKind.TheVariants as block
 use Rattle.ppd_ast.specs.declared.plan.Plan.{Plan}
 use Rattle.ppd_ast.specs.declared.program.Program.{Program}
+use Rattle.ppd_ast.specs.Lookups.{kind_of, body_of}
 use Rattle.ppd_sem.specs.declared.proc.Todo.{Todo}
-use Rattle.ppd_sem.specs.Process.{kind_of, loop_of, todos}
+use Rattle.ppd_sem.specs.Process.{loop_of, todos}
 use Rattle.ppd_sem.specs.Runs.{returns}
 use Rattle.ppd_sem.specs.Tables.{block_of}
 use Rattle.ppd_model.proofs.Homes.{AllBeside, AreTop}
-use Rattle.ppd_nested.specs.Stack.{body_of, entered_block, open_blocks, returned_block}
+use Rattle.ppd_nested.specs.Stack.{entered_block, open_blocks, returned_block}
 use Rattle.ppd_nested.proofs.Framed.{body_is}
 
 module _ (program : Program) (plan : Plan) where

@@ -7,8 +7,8 @@ use Rattle.ppd_ast.specs.Valid.{IsValid}
 use Rattle.ppd_ast.specs.declared.plan.Plan.{Plan}
 use Rattle.ppd_ast.specs.declared.program.Program.{Program}
 use Rattle.ppd_ast.specs.declared.status.SyncKind.{SyncKind}
-use Rattle.ppd_course.specs.Course.{GoesUntilEnd}
-use Rattle.ppd_course.proofs.Ending.{never_runs_out}
+use Rattle.ppd_step_laws.specs.Course.{GoesUntilEnd}
+use Rattle.ppd_step_laws.proofs.Course.Ending.{never_runs_out}
 use Rattle.ppd_sem.specs.declared.proc.Need.{Need}
 use Rattle.ppd_sem.specs.declared.proc.Need.TheVariants as n
 use Rattle.ppd_sem.specs.declared.proc.Proc.{Proc}

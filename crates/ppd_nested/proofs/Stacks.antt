@@ -5,14 +5,15 @@ use Rattle.std.specs.Prelude.{slice_get}
 use Rattle.ppd_ast.specs.Valid.{IsValid}
 use Rattle.ppd_ast.specs.declared.plan.Plan.{Plan}
 use Rattle.ppd_ast.specs.declared.program.Program.{Program}
-use Rattle.ppd_course.specs.Course.{IsWay, calls_of}
-use Rattle.ppd_course.proofs.Beginning.{starts_on_course}
-use Rattle.ppd_course.proofs.Ending.{never_runs_out}
-use Rattle.ppd_course.proofs.Leading.{stays_on_course}
+use Rattle.ppd_ast.specs.Lookups.{top_of_body}
+use Rattle.ppd_step_laws.specs.Course.{IsWay, calls_of}
+use Rattle.ppd_step_laws.proofs.Course.Beginning.{starts_on_course}
+use Rattle.ppd_step_laws.proofs.Course.Ending.{never_runs_out}
+use Rattle.ppd_step_laws.proofs.Course.Leading.{stays_on_course}
 use Rattle.ppd_sem.specs.declared.proc.Answer.{Answer}
 use Rattle.ppd_sem.specs.declared.proc.Proc.{Proc}
 use Rattle.ppd_sem.specs.declared.proc.Todo.{Todo}
-use Rattle.ppd_sem.specs.Process.{act, act_at, act_by_need, need_of, need_of_running, todos, top_of}
+use Rattle.ppd_sem.specs.Process.{act, act_at, act_by_need, need_of, need_of_running, todos}
 use Rattle.ppd_sem.specs.Runs.{IsInner}
 use Rattle.ppd_sem.proofs.Progress.{need_at_todo}
 use Rattle.ppd_model.specs.Logs.{status_of}
@@ -58,7 +59,7 @@ steps_move = record {
     until_end = never_runs_out.starts program plan p budget v lt;
   };
   alone = λ program plan p budget v. (let inner = process_stays program (program.functions + p) v (omega arith) in
-      ap (λ bs. bs ++ process_block program plan p ∷ []) (none_open program plan inner.0 (top_of (slice_get program.bodies (program.functions + p))) inner.1));
+      ap (λ bs. bs ++ process_block program plan p ∷ []) (none_open program plan inner.0 (top_of_body (slice_get program.bodies (program.functions + p))) inner.1));
   stays = λ program plan p s a v h. record {
     frames = act_framed program plan s a ((program.functions + p) ∷ []) v h.frames;
     course = stays_on_course program plan s a v h.course;

@@ -1,30 +1,27 @@
 -- Which blocks are open by what is still to do, the innermost first: entered loops, the functions of
 -- the returns to come, and last the process's own.
-use Rattle.std.specs.Prelude.{◌≡◌, ℕ, ◌+◌, ◌<◌, List, [], ◌∷◌, ◌++◌, map, length, option_to_list, is_some, slice_get, Option, Some, None, if◌then◌else◌}
+use Rattle.std.specs.Prelude.{◌≡◌, ℕ, ◌+◌, ◌<◌, List, [], ◌∷◌, ◌++◌, map, length, option_to_list, is_some, Option, Some, None, if◌then◌else◌}
 use Rattle.ppd_ast.specs.Valid.{IsValid}
 use Rattle.ppd_ast.specs.declared.plan.BlockKind.TheVariants as block
 use Rattle.ppd_ast.specs.declared.plan.Plan.{Plan}
 use Rattle.ppd_ast.specs.declared.plan.Policy.{Policy}
 use Rattle.ppd_ast.specs.declared.program.Program.{Program}
 use Rattle.ppd_ast.specs.declared.status.Status.{Status}
+use Rattle.ppd_ast.specs.Lookups.{kind_of, body_of_stmt, body_of}
 use Rattle.ppd_blocks.specs.Blocks.{plan_of}
-use Rattle.ppd_course.specs.Course.{GoesUntilEnd, IsOnCourse}
+use Rattle.ppd_step_laws.specs.Course.{GoesUntilEnd, IsOnCourse}
 use Rattle.ppd_sem.specs.declared.proc.Answer.{Answer}
 use Rattle.ppd_sem.specs.declared.proc.Frame.{Frame}
 use Rattle.ppd_sem.specs.declared.proc.Proc.{Proc}
 use Rattle.ppd_sem.specs.declared.proc.Todo.{Todo}
-use Rattle.ppd_sem.specs.Blocks.{block_kind, body_in, is_function}
-use Rattle.ppd_sem.specs.Process.{act, kind_of, loop_of, need_of, started}
+use Rattle.ppd_sem.specs.Blocks.{block_kind, is_function}
+use Rattle.ppd_sem.specs.Process.{act, loop_of, need_of, started}
 use Rattle.ppd_sem.specs.Runs.{returns}
 use Rattle.ppd_sem.specs.Tables.{block_of, or_zero}
 use Rattle.ppd_model.specs.Logs.{status_of}
 use Rattle.ppd_model.specs.Marks.{Mark, opened, closed}
 
 -- ---- what is open
-
--- the body of a statement
-abbrev pub body_of : Program → ℕ → ℕ
-body_of program s = body_in (slice_get program.stmts s)
 
 -- the bodies that the returns to come leave, the next first
 abbrev pub returning : Program → List Todo → List ℕ

@@ -7,14 +7,15 @@ use Rattle.ppd_ast.specs.declared.plan.Policy.{Policy}
 use Rattle.ppd_ast.specs.declared.program.Body.{Body}
 use Rattle.ppd_ast.specs.declared.program.Program.{Program}
 use Rattle.ppd_ast.specs.Valid.{IsValid}
+use Rattle.ppd_ast.specs.Lookups.{top_of_body, body_of_stmt}
 use Rattle.ppd_blocks.specs.Blocks.{plan_of, postlog_of}
-use Rattle.ppd_sem.specs.Blocks.{block_body, block_todo, body_in}
+use Rattle.ppd_sem.specs.Blocks.{block_body, block_todo}
 use Rattle.ppd_sem.specs.declared.proc.Frame.{Frame}
 use Rattle.ppd_sem.specs.declared.proc.Proc.{Proc}
 use Rattle.ppd_sem.specs.declared.proc.Todo.{Todo}
-use Rattle.ppd_sem.specs.Process.{todos, top_of}
+use Rattle.ppd_sem.specs.Process.{todos}
 use Rattle.ppd_sem.specs.Tables.{block_of}
-use Rattle.ppd_course.proofs.Standing.{in_itself}
+use Rattle.ppd_step_laws.proofs.Course.Standing.{in_itself}
 use Rattle.ppd_beside.specs.Alone.{IsKept}
 use Rattle.ppd_beside.specs.Beside.{IsBlock, IsOwnTodo}
 use Rattle.ppd_facts.proofs.Bodies.{EachCell, HasCall, IsOf, body_begins, body_block, body_closer, body_postlogs, body_writing, ender, function_closed, function_owned, process_closed, process_owned}
@@ -44,8 +45,8 @@ calls_in program kind = HasCall program (inside_in program kind)
 
 -- the last of what is to do in it
 abbrev pub closer_in : Program → BlockKind → Todo
-closer_in program (block.Function f) = ender (top_of (slice_get program.bodies f))
-closer_in program (block.Process f) = ender (top_of (slice_get program.bodies f))
+closer_in program (block.Function f) = ender (top_of_body (slice_get program.bodies f))
+closer_in program (block.Process f) = ender (top_of_body (slice_get program.bodies f))
 closer_in program (block.Loop q) = closer_of q
 
 -- the body of a block that is one is there
@@ -65,10 +66,10 @@ module _ (program : Program) (policy : Policy) (v : IsValid program) where
   pub begins_own : (kind : BlockKind) → IsBodyThere program kind
       → IsOwnTodo (inside_in program kind) (closer_in program kind) (block_todo program kind)
   begins_own (block.Function f) at =
-      subst (λ o. IsOwnTodo (IsOf program f) (ender (top_of o)) (todos (top_of o))) (sym at.1)
+      subst (λ o. IsOwnTodo (IsOf program f) (ender (top_of_body o)) (todos (top_of_body o))) (sym at.1)
       (body_begins program v f at.0 at.1)
   begins_own (block.Process f) at =
-      subst (λ o. IsOwnTodo (IsOf program f) (ender (top_of o)) (todos (top_of o))) (sym at.1)
+      subst (λ o. IsOwnTodo (IsOf program f) (ender (top_of_body o)) (todos (top_of_body o))) (sym at.1)
       (body_begins program v f at.0 at.1)
   begins_own (block.Loop q) at = ((in_itself program q, tt), refl)
 
@@ -78,7 +79,7 @@ module _ (program : Program) (policy : Policy) (v : IsValid program) where
       (calls_in program kind) (closer_in program kind) (block_body program kind) depth outside (λ s r. ⊤)
   block_kept (block.Function f) b e at depth outside =
       subst (λ o. IsKept program (plan_of program policy) EachCell (IsOf program f)
-      (HasCall program (IsOf program f)) (ender (top_of o)) f depth outside (λ s r. ⊤)) (sym at.1)
+      (HasCall program (IsOf program f)) (ender (top_of_body o)) f depth outside (λ s r. ⊤)) (sym at.1)
       (kept_by program (plan_of program policy) EachCell (IsOf program f) (HasCall program (IsOf program f))
       (ender at.0.top) f depth outside
       (has_ends program v) (body_block program v f)
@@ -89,7 +90,7 @@ module _ (program : Program) (policy : Policy) (v : IsValid program) where
       (body_postlogs program v f (plan_of program policy)))
   block_kept (block.Process f) b e at depth outside =
       subst (λ o. IsKept program (plan_of program policy) EachCell (IsOf program f)
-      (HasCall program (IsOf program f)) (ender (top_of o)) f depth outside (λ s r. ⊤)) (sym at.1)
+      (HasCall program (IsOf program f)) (ender (top_of_body o)) f depth outside (λ s r. ⊤)) (sym at.1)
       (kept_by program (plan_of program policy) EachCell (IsOf program f) (HasCall program (IsOf program f))
       (ender at.0.top) f depth outside
       (has_ends program v) (body_block program v f)
@@ -107,11 +108,11 @@ module _ (program : Program) (policy : Policy) (v : IsValid program) where
 
 -- the statements of a block are of the body that its code stands in
 pub inside_home : (program : Program) → IsValid program → (kind : BlockKind) (i : ℕ) → inside_in program kind i
-    → body_in (slice_get program.stmts i) ≡ block_body program kind
-inside_home program v (block.Function f) i h = ap body_in h.there ∙ h.body
-inside_home program v (block.Process f) i h = ap body_in h.there ∙ h.body
+    → body_of_stmt (slice_get program.stmts i) ≡ block_body program kind
+inside_home program v (block.Function f) i h = ap body_of_stmt h.there ∙ h.body
+inside_home program v (block.Process f) i h = ap body_of_stmt h.there ∙ h.body
 inside_home program v (block.Loop q) i h =
-    inside_body 64 program q i (body_in (slice_get program.stmts q)) v refl (within_listed program q i v h)
+    inside_body 64 program q i (body_of_stmt (slice_get program.stmts q)) v refl (within_listed program q i v h)
 
 -- so is the count of frames where one of the statements is a call
 pub opening_frames : (program : Program) (policy : Policy) (s : Proc) (kind : BlockKind) (f : Frame)

@@ -8,12 +8,12 @@ use Rattle.ppd_ast.specs.declared.plan.Policy.{Policy}
 use Rattle.ppd_ast.specs.declared.program.Body.{Body}
 use Rattle.ppd_ast.specs.declared.program.Program.{Program}
 use Rattle.ppd_ast.specs.Valid.{IsValid}
+use Rattle.ppd_ast.specs.Lookups.{kind_of_stmt, kind_of, top_of_body, body_of_stmt}
 use Rattle.ppd_blocks.specs.Blocks.{plan_of}
-use Rattle.ppd_course.proofs.Standing.{in_itself}
-use Rattle.ppd_sem.specs.Blocks.{body_in}
+use Rattle.ppd_step_laws.proofs.Course.Standing.{in_itself}
 use Rattle.ppd_sem.specs.declared.proc.Todo.{Todo}
 use Rattle.ppd_sem.specs.Described.{ends_body}
-use Rattle.ppd_sem.specs.Process.{kind_of, kind_or_end, todos, top_of}
+use Rattle.ppd_sem.specs.Process.{todos}
 use Rattle.ppd_sem.specs.Tables.{block_of}
 use Rattle.ppd_beside.specs.Beside.{Each, IsLast, IsOwnTodo, IsReturn}
 use Rattle.ppd_beside.specs.Calls.{IsCallBlock, IsCallBody}
@@ -84,17 +84,17 @@ module _ (program : Program) (policy : Policy) (v : IsValid program) where
       let last : IsOf program f (last_stmt 0 x.top) =
       last_each (λ t. IsOf program f t.stmt) (ender x.top) (todos x.top) begins.0 begins.1 in
       let ends : ends_body (kind_of program (last_stmt 0 x.top)) ≡ true = (body_closer program v f x at).ends in
-      let kind_is : kind_of program (last_stmt 0 x.top) ≡ last.stmt.kind = ap kind_or_end last.there in
+      let kind_is : kind_of program (last_stmt 0 x.top) ≡ last.stmt.kind = ap kind_of_stmt last.there in
       let below : last.stmt.body < program.functions =
       subst (λ n. n < program.functions) (sym last.body) (function_below program policy v f b e) in
       let returns : IsReturn (kind_of program (last_stmt 0 x.top)) =
       subst IsReturn (sym kind_is)
       (function_returns program (last_stmt 0 x.top) last.stmt v last.there below
       (sym (ap ends_body kind_is) ∙ ends)) in
-      let own : body_in (slice_get program.stmts (last_stmt 0 x.top)) ≡ f = ap body_in last.there ∙ last.body in
-      let one : ends_block plan (body_in (slice_get program.stmts (last_stmt 0 x.top)))
+      let own : body_of_stmt (slice_get program.stmts (last_stmt 0 x.top)) ≡ f = ap body_of_stmt last.there ∙ last.body in
+      let one : ends_block plan (body_of_stmt (slice_get program.stmts (last_stmt 0 x.top)))
       (kind_of program (last_stmt 0 x.top)) ≡ 1 =
-      return_opens plan (body_in (slice_get program.stmts (last_stmt 0 x.top)))
+      return_opens plan (body_of_stmt (slice_get program.stmts (last_stmt 0 x.top)))
       (kind_of program (last_stmt 0 x.top)) returns
       ∙ ap (λ n. one_if (is_some (block_of plan (block.Function n)))) own ∙ ap (λ o. one_if (is_some o)) e in
       omega (arith, one)
@@ -107,7 +107,7 @@ module _ (program : Program) (policy : Policy) (v : IsValid program) where
       let begins = body_begins program v f x there.1 in
       record {
         last = ender x.top;
-        own = subst (λ o. IsOwnTodo (IsOfFunction program plan b) (ender x.top) (todos (top_of o))) (sym there.1)
+        own = subst (λ o. IsOwnTodo (IsOfFunction program plan b) (ender x.top) (todos (top_of_body o))) (sym there.1)
             (body_todo b f e (todos x.top) begins.0, begins.1);
         ends = (body_closer program v f x there.1).ends;
         last_is = refl;
@@ -119,8 +119,8 @@ module _ (program : Program) (policy : Policy) (v : IsValid program) where
       ⊎ (ends_body (kind_of program (closer_in program kind).stmt) ≡ true)
   closer_closes (block.Loop q) there = inl refl
   closer_closes (block.Function f) there =
-      inr (subst (λ o. ends_body (kind_of program (ender (top_of o)).stmt) ≡ true) (sym there.1)
+      inr (subst (λ o. ends_body (kind_of program (ender (top_of_body o)).stmt) ≡ true) (sym there.1)
       (body_closer program v f there.0 there.1).ends)
   closer_closes (block.Process f) there =
-      inr (subst (λ o. ends_body (kind_of program (ender (top_of o)).stmt) ≡ true) (sym there.1)
+      inr (subst (λ o. ends_body (kind_of program (ender (top_of_body o)).stmt) ≡ true) (sym there.1)
       (body_closer program v f there.0 there.1).ends)

@@ -10,6 +10,7 @@ use Rattle.ppd_ast.specs.declared.program.Kind.TheVariants as kind
 use Rattle.ppd_ast.specs.declared.program.Program.{Program}
 use Rattle.ppd_ast.specs.declared.status.Trap.TheVariants as trap
 use Rattle.ppd_ast.specs.Valid.{IsValid}
+use Rattle.ppd_ast.specs.Lookups.{kind_of, params_of_body, body_of}
 use Rattle.ppd_sem.specs.Blocks.{block_body, block_todo, block_unit, prelog_cells}
 use Rattle.ppd_sem.specs.declared.asking.Pause.TheVariants.{Wants, Traps}
 use Rattle.ppd_sem.specs.Ask.{cell_of}
@@ -23,10 +24,10 @@ use Rattle.ppd_sem.specs.declared.proc.Proc.{Proc}
 use Rattle.ppd_sem.specs.declared.proc.Todo.{Todo}
 use Rattle.ppd_sem.specs.Asked.{Asked, outcome}
 use Rattle.ppd_sem.specs.Deed.{Deed, leave, invoke, send}
-use Rattle.ppd_sem.specs.Process.{act, act_at, act_by_asked, act_by_need, cells_for, chan_of, cost, entry_of, head_deed, kind_of, loop_of, need_by_entry, need_by_offer, need_of, need_of_asked, need_of_deed, need_of_head, need_of_leaving, need_of_send, new_frame, offer_of, top_cells}
+use Rattle.ppd_sem.specs.Process.{act, act_at, act_by_asked, act_by_need, cells_for, chan_of, cost, entry_of, head_deed, loop_of, need_by_entry, need_by_offer, need_of, need_of_asked, need_of_deed, need_of_head, need_of_leaving, need_of_send, new_frame, offer_of, top_cells}
 use Rattle.ppd_sem.specs.Tables.{block_of, capacity_of, unit_of}
 use Rattle.ppd_sem.proofs.Progress.{need_at_todo}
-use Rattle.ppd_model.proofs.Homes.{AreHome, AskedOf, bodies_of, body_at, head_of, params_if}
+use Rattle.ppd_model.proofs.Homes.{AreHome, AskedOf, bodies_of, head_of}
 use Rattle.ppd_model.specs.Marks.{Mark, opened}
 use Rattle.ppd_model.specs.Story.{unit_started}
 use Rattle.ppd_beside.specs.Beside.{IsCallOf, Suits, Yields}
@@ -43,7 +44,7 @@ IsMarkedBy program plan (block.Loop q) frame number values =
     values ≡ map (cell_of frame.cells) (prelog_cells plan number)
 IsMarkedBy program plan (block.Function f) frame number values =
     (frame.cells ≡ cells_for (slice_get program.bodies f) values)
-    × (length values ≡ params_if (slice_get program.bodies f))
+    × (length values ≡ params_of_body (slice_get program.bodies f))
 IsMarkedBy program plan (block.Process f) frame number values =
     (values ≡ []) × (frame.cells ≡ cells_for (slice_get program.bodies f) [])
 
@@ -131,10 +132,10 @@ module _ (program : Program) (plan : Plan) (v : IsValid program) (s : Proc) (a :
       let arguments : arguments_at program s ≡ values =
       ap (λ ys. arguments_of_head program s (slice_get ys 0)) is ∙ ap (λ q. arguments_by (outcome q)) e in
       let same : values ≡ m.values = sym arguments ∙ ap values_of_mark is_m in
-      let asked : AskedOf program (body_at program t.stmt) (kind_of program t.stmt)
+      let asked : AskedOf program (body_of program t.stmt) (kind_of program t.stmt)
       (Ok (invoke g values into, left)) =
-      subst (AskedOf program (body_at program t.stmt) (kind_of program t.stmt)) e (head_of program t s v) in
-      let count : length values ≡ params_if (slice_get program.bodies g) = asked.1.1 in
+      subst (AskedOf program (body_of program t.stmt) (kind_of program t.stmt)) e (head_of program t s v) in
+      let count : length values ≡ params_of_body (slice_get program.bodies g) = asked.1.1 in
       record {
         kind = block.Function g;
         unit_is = refl;

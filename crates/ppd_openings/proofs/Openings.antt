@@ -11,7 +11,7 @@ use Rattle.ppd_ast.specs.declared.status.Status.{Status}
 use Rattle.ppd_ast.specs.Valid.{IsValid}
 use Rattle.ppd_ast.proofs.ValidLaws.{slice_get_there, valid_body}
 use Rattle.ppd_blocks.specs.Blocks.{plan_of}
-use Rattle.ppd_course.specs.Course.{EndsWithEnd}
+use Rattle.ppd_step_laws.specs.Course.{EndsWithEnd}
 use Rattle.ppd_entry.specs.Pieces.{unit}
 use Rattle.ppd_sem.specs.Blocks.{block_todo, block_unit}
 use Rattle.ppd_sem.specs.declared.proc.Proc.{Proc}

@@ -9,13 +9,13 @@ use Rattle.ppd_ast.specs.declared.plan.BlockKind.TheVariants as block
 use Rattle.ppd_ast.specs.declared.plan.Plan.{Plan}
 use Rattle.ppd_sem.specs.Blocks.{block_body, prelog_cells}
 use Rattle.ppd_ast.specs.declared.program.Program.{Program}
+use Rattle.ppd_ast.specs.Members.{has}
+use Rattle.ppd_ast.proofs.Members.{in_bounds_has}
+use Rattle.ppd_ast.specs.Lookups.{params_of_body}
 use Rattle.ppd_blocks.specs.Blocks.{params_of, prelog_of}
-use Rattle.ppd_cfg.specs.Lists.{has}
-use Rattle.ppd_cfg.proofs.Has.{in_bounds_has}
 use Rattle.ppd_sem.specs.declared.proc.Frame.{Frame}
 use Rattle.ppd_sem.specs.Ask.{cell_of}
 use Rattle.ppd_sem.specs.Process.{cells_for, new_frame}
-use Rattle.ppd_model.proofs.Homes.{params_if}
 use Rattle.ppd_beside.specs.Held.{Among}
 use Rattle.ppd_openings.proofs.Blocks.{IsBodyThere, used_in}
 use Rattle.ppd_facts.proofs.Loops.{among}
@@ -60,7 +60,7 @@ prelogged_values program (block.Function f) frame values plan number there is m 
     let body : slice_get program.bodies f ≡ Some there.0 = there.1 in
     let own : frame.cells ≡ values ++ replicate (there.0.cells - length values) (pos 0) =
     m.0 ∙ ap (λ o. cells_for o values) body in
-    let count : length values ≡ there.0.params = m.1 ∙ ap params_if body in
+    let count : length values ≡ there.0.params = m.1 ∙ ap params_of_body body in
     let listed : cells ≡ range_with_len 0 there.0.params = is ∙ ap params_of body in
     sym (ap (λ xs. map (cell_of xs) cells) own
     ∙ ap (map (cell_of (values ++ replicate (there.0.cells - length values) (pos 0)))) listed
@@ -82,7 +82,7 @@ others_zero program (block.Function f) frame values plan number c there is m use
     m.0 ∙ ap (λ o. cells_for o values) body in
     let zeros : (new_frame program f [] None).cells ≡ replicate (there.0.cells - 0) (pos 0) =
     ap (λ o. cells_for o []) body in
-    let count : length values ≡ there.0.params = m.1 ∙ ap params_if body in
+    let count : length values ≡ there.0.params = m.1 ∙ ap params_of_body body in
     let listed : cells ≡ range_with_len 0 there.0.params = is ∙ ap params_of body in
     elim (cases_lt c there.0.params) [
       | inl low ↦ absurd (other

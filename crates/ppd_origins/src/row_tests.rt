@@ -3,6 +3,7 @@ use crate::asked::Asked;
 use crate::schedules::lowest_first;
 use Asked::{Final, Open, Why};
 use ppd_ast::Policy;
+use ppd_examples::BOUNDED_BUFFER;
 use ppd_ran::{Row, by_default};
 use std::alloc::Global;
 use std::process::Abort;
@@ -341,46 +342,6 @@ fn unfinished(rt: HostRuntime) {
     check(&rt, rt.alloc(), &offer, &[Open(0, 0)], sent);
 }
 
-const BUFFER: &str = "shared int buf[4];
-shared int head, tail;
-sem empty = 4, full = 0, m = 1;
-
-void put(int v) {
-  P(empty);
-  P(m);
-  buf[tail % 4] = v;
-  tail = tail + 1;
-  V(m);
-  V(full);
-}
-
-int get() {
-  int v;
-  P(full);
-  P(m);
-  v = buf[head % 4];
-  head = head + 1;
-  V(m);
-  V(empty);
-  return v;
-}
-
-process producer {
-  for (int i = 0; i < 100; i++) {
-    int w = i;
-    if (i == 57) { w = 0; }
-    put(w);
-  }
-}
-
-process consumer {
-  for (int i = 0; i < 100; i++) {
-    int v = get();
-    assert(v == i);
-  }
-}
-";
-
 const BUFFER_TEXT: &str = "item 289 stmt 26 36:5 assert read v=0 read i=57 value 0 trap assert
 read v=0 from consumer 58 7
 read i=57 from consumer 0 285
@@ -404,7 +365,7 @@ control from producer 0 343
 // From the assertion that failed back to the producer's fault.
 #[test]
 fn bounded_buffer(rt: HostRuntime) {
-    let schedule = lowest_first(rt.alloc(), BUFFER).expect(&rt, "a schedule");
+    let schedule = lowest_first(rt.alloc(), BOUNDED_BUFFER).expect(&rt, "a schedule");
     let asked = [
         Why(1, 0, 289),
         Why(1, 58, 7),
@@ -415,7 +376,7 @@ fn bounded_buffer(rt: HostRuntime) {
     check(
         &rt,
         rt.alloc(),
-        &by_default(BUFFER, schedule.as_slice()),
+        &by_default(BOUNDED_BUFFER, schedule.as_slice()),
         &asked,
         BUFFER_TEXT,
     );

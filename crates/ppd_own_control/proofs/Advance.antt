@@ -6,6 +6,7 @@ use Rattle.ppd_ast.specs.Valid.{IsValid}
 use Rattle.ppd_ast.specs.declared.plan.BlockKind.TheVariants as block
 use Rattle.ppd_ast.specs.declared.plan.Policy.{Policy}
 use Rattle.ppd_ast.specs.declared.program.Program.{Program}
+use Rattle.ppd_ast.specs.Lookups.{kind_of, body_of}
 use Rattle.ppd_blocks.specs.Blocks.{plan_of}
 use Rattle.ppd_sem.specs.declared.event.Event.{Event}
 use Rattle.ppd_sem.specs.declared.proc.Need.{Need}
@@ -13,16 +14,15 @@ use Rattle.ppd_sem.specs.declared.proc.Need.TheVariants as need
 use Rattle.ppd_sem.specs.declared.proc.Proc.{Proc}
 use Rattle.ppd_sem.specs.declared.proc.Todo.{Todo}
 use Rattle.ppd_sem.specs.Described.{trap_of}
-use Rattle.ppd_sem.specs.Process.{kind_of, top_body}
+use Rattle.ppd_sem.specs.Process.{top_body}
 use Rattle.ppd_sem.specs.Runs.{returns}
 use Rattle.ppd_sem.specs.Tables.{block_of}
 use Rattle.ppd_model.specs.FullTrace.{is_passed}
-use Rattle.ppd_model.proofs.Homes.{body_at}
 use Rattle.ppd_model.proofs.TestSteps.{View}
 use Rattle.ppd_own_control.proofs.KindDeeds.{calls_simply, choice_stays, while_choice, while_stays}
 use Rattle.ppd_own_control.proofs.Statics.{block_loop_while}
 use Rattle.ppd_own_control.proofs.Levels.{AllHold, Holds, Level, OfLoop, Sort, TopLeaf, function, leaf, loop, process, runs_of, todo_of, views_of}
-use Rattle.ppd_own_control.proofs.Events.{me_of}
+use Rattle.ppd_own_control.proofs.AtLevel.{me_of}
 use Rattle.ppd_own_control.proofs.Moved.{Moved, add, tested}
 use Rattle.ppd_own_control.proofs.Endings.{leaves_loop, turns_again}
 use Rattle.ppd_own_control.proofs.Returns.{returns_block, returns_leaf}
@@ -71,11 +71,11 @@ module _ (program : Program) (policy : Policy) (p : ℕ) (v : IsValid program) (
           (true≢false (sym is ∙ (calls_simply (kind_of program t.stmt) f call).1))
       by_return sort h top is back (backs u need_is returning a b) = back u need_is a b
 
-      body_of_level : body_at program t.stmt ≡ x.body → top_body s.frames ≡ x.body
+      body_of_level : body_of program t.stmt ≡ x.body → top_body s.frames ≡ x.body
       body_of_level home = ev.home ∙ home
 
       from_function : Holds program policy p (record x { sort = function; todo = []; last = t ∷ [] }) (y ∷ ys)
-          → body_at program t.stmt ≡ x.body → (u : Option ℕ)
+          → body_of program t.stmt ≡ x.body → (u : Option ℕ)
           → m ≡ need.Back (block_of (plan_of program policy) (block.Function (top_body s.frames))) u
           → todo ≡ todo_of (y ∷ ys) → now ≡ drop 1
           (tested program (me_of program policy p n) e (views_of (ending function))) → To (ending function)
@@ -93,7 +93,7 @@ module _ (program : Program) (policy : Policy) (p : ℕ) (v : IsValid program) (
               (returns_block program policy p v x t n e ev.is (ev.trap_is ∙ ap trap_of is) y ys hs h.over)
 
       from_leaf : Holds program policy p (record x { sort = leaf; todo = []; last = t ∷ [] }) (y ∷ ys)
-          → body_at program t.stmt ≡ x.body → returns (kind_of program t.stmt) ≡ true → (u : Option ℕ)
+          → body_of program t.stmt ≡ x.body → returns (kind_of program t.stmt) ≡ true → (u : Option ℕ)
           → m ≡ need.Back (block_of (plan_of program policy) (block.Function (top_body s.frames))) u
           → todo ≡ todo_of (y ∷ ys) → now ≡ drop 1
           (tested program (me_of program policy p n) e (views_of (ending leaf))) → To (ending leaf)

@@ -5,6 +5,7 @@ use Rattle.ppd_ast.specs.Valid.{IsValid}
 use Rattle.ppd_ast.specs.declared.plan.BlockKind.TheVariants as block
 use Rattle.ppd_ast.specs.declared.plan.Policy.{Policy}
 use Rattle.ppd_ast.specs.declared.program.Program.{Program}
+use Rattle.ppd_ast.specs.Lookups.{kind_of, top_of_body, body_of}
 use Rattle.ppd_beside.specs.Beside.{IsCallOf}
 use Rattle.ppd_blocks.specs.Blocks.{plan_of}
 use Rattle.ppd_sem.specs.declared.event.Event.{Event}
@@ -12,18 +13,16 @@ use Rattle.ppd_sem.specs.declared.proc.Need.{Need}
 use Rattle.ppd_sem.specs.declared.proc.Need.TheVariants as need
 use Rattle.ppd_sem.specs.declared.proc.Proc.{Proc}
 use Rattle.ppd_sem.specs.declared.proc.Todo.{Todo}
-use Rattle.ppd_sem.specs.Described.{trap_of}
-use Rattle.ppd_sem.specs.Process.{kind_of, todos, top_body, top_of}
+use Rattle.ppd_sem.specs.Described.{trap_of, is_event}
+use Rattle.ppd_sem.specs.Process.{todos, top_body}
 use Rattle.ppd_sem.specs.Tables.{block_of}
 use Rattle.ppd_model.specs.FullTrace.{is_passed}
 use Rattle.ppd_model.specs.Marks.{closed, opened}
-use Rattle.ppd_model.specs.Story.{is_event}
-use Rattle.ppd_model.proofs.Homes.{body_at}
 use Rattle.ppd_model.proofs.Homes.{AreTop as AreTopOf}
 use Rattle.ppd_model.proofs.Moves.{AreTop}
 use Rattle.ppd_model.proofs.TestSteps.{View}
 use Rattle.ppd_own_control.proofs.Levels.{AllHold, Holds, Level, Run, TopLeaf, runs_of, todo_of, views_of}
-use Rattle.ppd_own_control.proofs.Events.{me_of}
+use Rattle.ppd_own_control.proofs.AtLevel.{me_of}
 use Rattle.ppd_own_control.proofs.Moved.{Moved, add, begun, ended, owned, tested}
 use Rattle.ppd_own_control.proofs.InLevel.{choosing, offering, passing, stopping, turning}
 use Rattle.ppd_own_control.proofs.NewLevels.{calls_block, calls_leaf}
@@ -37,7 +36,7 @@ module _ (program : Program) (policy : Policy) (p : ℕ) (v : IsValid program) (
     pub is : e.stmt ≡ t.stmt
     pub trap_is : e.trap ≡ trap_of m
     pub value_is : e.value ≡ value_in program s t m
-    pub home : top_body s.frames ≡ body_at program t.stmt
+    pub home : top_body s.frames ≡ body_of program t.stmt
 
   -- the running intervals after the step
   abbrev pub runs_after : List Run → List Run
@@ -114,9 +113,9 @@ module _ (program : Program) (policy : Policy) (p : ℕ) (v : IsValid program) (
 
       pub calling : (f u : ℕ) (o : Option ℕ) → block_of (plan_of program policy) (block.Function f) ≡ o
           → m ≡ need.Invoke o u → IsCallOf (kind_of program t.stmt) f
-          → AreTop program (top_of (slice_get program.bodies f))
-          → AreTopOf program f (top_of (slice_get program.bodies f))
-          → todo ≡ todos (top_of (slice_get program.bodies f)) ++ rest
+          → AreTop program (top_of_body (slice_get program.bodies f))
+          → AreTopOf program f (top_of_body (slice_get program.bodies f))
+          → todo ≡ todos (top_of_body (slice_get program.bodies f)) ++ rest
           → now ≡ (Some (me_of program policy p n), []) ∷ tested program (me_of program policy p n) e (views_of here)
           → To here
       calling f u None at is call tops homes a b =

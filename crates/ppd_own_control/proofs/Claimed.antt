@@ -25,8 +25,7 @@ use Rattle.ppd_model.specs.Story.{story}
 use Rattle.ppd_model.proofs.Changes.{some}
 use Rattle.ppd_search.specs.Control.{control_origin}
 use Rattle.ppd_search.specs.Seen.{seen_of}
-use Rattle.ppd_places.specs.Levels.{StandsIn}
-use Rattle.ppd_places.specs.Levels.{Level as Place}
+use Rattle.ppd_places.specs.Levels.{StandsIn, Level as Place}
 use Rattle.ppd_own_control.proofs.IntervalParts.{parts_in}
 
 module _ (program : Program) (policy : Policy) (budget : ℕ) (h : List ℕ) (p : ℕ) (y : Split) (v : IsValid program)
@@ -41,7 +40,7 @@ module _ (program : Program) (policy : Policy) (budget : ℕ) (h : List ℕ) (p 
   abbrev xs : List Split
   xs = splits program plan budget s
 
-  abbrev Found : ℕ → ℕ → ℕ → Option EventId → Type 0
+  abbrev pub Found : ℕ → ℕ → ℕ → Option EventId → Type 0
   Found k j st parent = control_origin program plan (seen_of y) p k j st ≡ from_parent xs parent
 
   -- ---- what is claimed of a part

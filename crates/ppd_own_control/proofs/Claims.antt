@@ -14,6 +14,7 @@ use Rattle.ppd_sem.specs.Process.{need_of}
 use Rattle.ppd_sem.specs.Tables.{block_of}
 use Rattle.ppd_sem.specs.declared.proc.Need.{Need}
 use Rattle.ppd_sem.specs.declared.proc.Need.TheVariants as need
+use Rattle.ppd_sem.specs.Described.{is_event}
 use Rattle.ppd_model.specs.declared.flow.Origin.TheVariants as origin
 use Rattle.ppd_model.specs.declared.trace.EventId.{EventId}
 use Rattle.ppd_model.specs.declared.trace.TracedEvent.{TracedEvent}
@@ -24,14 +25,11 @@ use Rattle.ppd_model.specs.FullTrace.{event_of, me_in, parent_at, traced_by}
 use Rattle.ppd_model.specs.Intervals.{Part, own, nested, Span, Split, control_by, split_step, splits}
 use Rattle.ppd_model.specs.Marks.{Mark, opened}
 use Rattle.ppd_model.specs.NearIntervals.{is_loop}
-use Rattle.ppd_model.specs.Story.{is_event, story}
+use Rattle.ppd_model.specs.Story.{story}
 use Rattle.ppd_model.proofs.Changes.{some}
 use Rattle.ppd_model.proofs.CountedOn.{last_at}
 use Rattle.ppd_model.proofs.Lists.{below_at}
-use Rattle.ppd_search.specs.Control.{control_origin}
-use Rattle.ppd_search.specs.Seen.{seen_of}
-use Rattle.ppd_places.specs.Levels.{IsLater, StandsIn, levels_after, numbers}
-use Rattle.ppd_places.specs.Levels.{Level as Place}
+use Rattle.ppd_places.specs.Levels.{IsLater, StandsIn, levels_after, numbers, Level as Place}
 use Rattle.ppd_places.proofs.Later.{later_then, step_stands}
 use Rattle.ppd_own_control.proofs.Goes.{new_at}
 use Rattle.ppd_own_control.proofs.Moments.{Moment, events_after}
@@ -39,7 +37,7 @@ use Rattle.ppd_own_control.proofs.NewParts.{IsNew, new_event, new_inner, new_int
 use Rattle.ppd_own_control.proofs.Opens.{OpensAt, opens_at}
 use Rattle.ppd_own_control.proofs.Searching.{levels_at}
 use Rattle.ppd_own_control.proofs.Referred.{refers, part_of, head_found}
-use Rattle.ppd_own_control.proofs.Claimed.{Claim, Claims, HasHead, has_head, IsFirst, first_of, loop_number}
+use Rattle.ppd_own_control.proofs.Claimed.{Claim, Claims, Found, HasHead, has_head, IsFirst, first_of, loop_number}
 
 module _ (program : Program) (policy : Policy) (budget : ℕ) (h : List ℕ) (p : ℕ) (y : Split) (v : IsValid program)
     (at : slice_get (splits program (plan_of program policy) budget (story program (plan_of program policy) budget h))
@@ -50,11 +48,8 @@ module _ (program : Program) (policy : Policy) (budget : ℕ) (h : List ℕ) (p 
   abbrev s : Story
   s = story program plan budget h
 
-  abbrev xs : List Split
-  xs = splits program plan budget s
-
-  abbrev Found : ℕ → ℕ → ℕ → Option EventId → Type 0
-  Found k j st parent = control_origin program plan (seen_of y) p k j st ≡ from_parent xs parent
+  abbrev FoundAt : ℕ → ℕ → ℕ → Option EventId → Type 0
+  FoundAt k j st parent = Found program policy budget h p y v at k j st parent
 
   module _ (x : Split) (ls : List Place) (t : Taken) (own' : t.need ≡ need_of program plan x.trace.proc)
       (st : StandsIn x ls) (m : x.trace.proc.status ≡ None → Moment program policy v s p x ls)
@@ -74,11 +69,11 @@ module _ (program : Program) (policy : Policy) (budget : ℕ) (h : List ℕ) (p 
     -- the head's parent is found at the first running interval
     pub at_first : (k : ℕ) (parts : List Part) → IsFirst program policy budget h p y v at x ls k parts
         → (g : HasHead program policy budget h p y v at x)
-        → Found k (length parts) g.todo.stmt (parent_at program x.trace.activations x.trace.proc.todo)
+        → FoundAt k (length parts) g.todo.stmt (parent_at program x.trace.activations x.trace.proc.todo)
     at_first k parts f g =
-        subst (λ i. Found i (length parts) g.todo.stmt (parent_at program x.trace.activations x.trace.proc.todo))
+        subst (λ i. FoundAt i (length parts) g.todo.stmt (parent_at program x.trace.activations x.trace.proc.todo))
         (sym f.number_is)
-        (subst (λ ps. Found f.level.interval (length ps) g.todo.stmt
+        (subst (λ ps. FoundAt f.level.interval (length ps) g.todo.stmt
         (parent_at program x.trace.activations x.trace.proc.todo)) (sym f.parts_same)
         (head_found program policy budget h p y v at x f.level f.outside (subst (StandsIn x) f.levels_are st) to_end
         (subst (Moment program policy v s p x) f.levels_are (m g.running)) g.todo g.rest g.todo_is))
@@ -99,8 +94,8 @@ module _ (program : Program) (policy : Policy) (budget : ℕ) (h : List ℕ) (p 
         let new : slice_get x1.trace.events n ≡ Some traced = ap (λ es. slice_get es n)
         (events_after program plan s p t t.need x.trace is) ∙ last_at x.trace.events traced in
         let same : traced ≡ e = some (sym (later.events n traced new) ∙ there) in
-        subst (λ (z : TracedEvent). Found k (length parts) z.event.stmt z.parent) same
-        (subst (λ i. Found k (length parts) i (parent_at program x.trace.activations x.trace.proc.todo))
+        subst (λ (z : TracedEvent). FoundAt k (length parts) z.event.stmt z.parent) same
+        (subst (λ i. FoundAt k (length parts) i (parent_at program x.trace.activations x.trace.proc.todo))
         (sym (ap (λ todo. (event_of program plan x.trace.proc t todo).stmt) g.todo_is))
         (at_first k parts f g))
 
@@ -156,9 +151,9 @@ module _ (program : Program) (policy : Policy) (budget : ℕ) (h : List ℕ) (p 
         ∙ kind_is program policy (block.Loop g.todo.stmt) b at_loop in
         let control : i.control ≡ parent_at program x.trace.activations x.trace.proc.todo = new.control_is
         ∙ ap (control_by program p x.trace) is in (
-          λ l is_l. subst (λ z. Found k (length parts) z i.control)
+          λ l is_l. subst (λ z. FoundAt k (length parts) z i.control)
               (ap (loop_number program policy budget h p y v at) (sym kind ∙ is_l))
-              (subst (λ o. Found k (length parts) g.todo.stmt o) (sym control) (at_first k parts f g)),
+              (subst (λ o. FoundAt k (length parts) g.todo.stmt o) (sym control) (at_first k parts f g)),
           λ isnt. absurd (true≢false (sym (ap is_loop kind) ∙ isnt)),
         )
 
@@ -177,7 +172,7 @@ module _ (program : Program) (policy : Policy) (budget : ℕ) (h : List ℕ) (p 
           λ l is_l. absurd (true≢false (sym (ap is_loop (sym kind ∙ is_l)))),
           λ isnt. ap (λ j. origin.Item p k j) (before parts)
               ∙ sym (refers program policy budget h p y v at n k (length parts) (call_part.1) call_part.0)
-              ∙ ap (from_parent xs) (sym control),
+              ∙ ap (from_parent (splits program plan budget s)) (sym control),
         )
       where
         before : (ps : List Part) → length (ps ++ own n ∷ []) - 1 ≡ length ps

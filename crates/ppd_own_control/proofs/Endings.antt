@@ -6,21 +6,22 @@ use Rattle.ppd_ast.specs.Numbered.{is_while}
 use Rattle.ppd_ast.specs.Valid.{IsValid}
 use Rattle.ppd_ast.specs.declared.plan.Policy.{Policy}
 use Rattle.ppd_ast.specs.declared.program.Program.{Program}
+use Rattle.ppd_ast.specs.Lookups.{kind_of, body_of}
 use Rattle.ppd_blocks.specs.Blocks.{plan_of}
 use Rattle.ppd_sem.specs.declared.event.Event.{Event}
 use Rattle.ppd_sem.specs.declared.proc.Todo.{Todo}
-use Rattle.ppd_sem.specs.Process.{kind_of, todos}
+use Rattle.ppd_sem.specs.Process.{todos}
 use Rattle.ppd_units.specs.Walk.{stands_in}
 use Rattle.ppd_model.specs.FullTrace.{is_passed, latest}
 use Rattle.ppd_model.specs.Parents.{is_choice}
-use Rattle.ppd_model.proofs.Homes.{body_at}
 use Rattle.ppd_model.proofs.TestSteps.{View, older}
 use Rattle.ppd_own_control.proofs.KindDeeds.{while_choice, while_no_call, while_stays}
 use Rattle.ppd_own_control.proofs.Sights.{Sign}
 use Rattle.ppd_own_control.proofs.Statics.{IsBlockLoop, in_own_loop}
 use Rattle.ppd_own_control.proofs.Levels.{AllHold, EndsWith, Fact, Holds, Knows, Level, OfLoop, OuterAt, OverNext, Plain, Sort, TopLeaf, frame_of, function, leaf, loop, passes, process, runs_of, todo_of, views_of, views_with}
 use Rattle.ppd_own_control.proofs.Goes.{Goes, fact_on, facts_on, plain_on, view_after}
-use Rattle.ppd_own_control.proofs.Events.{AtLevel, begins_no, inner_facts, me_of, sight_after}
+use Rattle.ppd_own_control.proofs.AtLevel.{AtLevel, begins_no, me_of, sight_after}
+use Rattle.ppd_own_control.proofs.Events.{inner_facts}
 use Rattle.ppd_own_control.proofs.InLevel.{unpassed}
 use Rattle.ppd_own_control.proofs.Moved.{Moved, add, stays_top, tested}
 use Rattle.ppd_own_control.proofs.Steps.{AreInside}
@@ -62,7 +63,7 @@ module _ (program : Program) (policy : Policy) (p : ℕ) (v : IsValid program) (
         let a : AtLevel program policy p looping t.stmt n e = record {
           is = is;
           fine = fine;
-          home = ap (body_at program) own ∙ o.home;
+          home = ap (body_of program) own ∙ o.home;
           stands = subst (λ i. stands_in program i l ≡ true) (sym own) (in_own_loop program policy l);
           no_leaf = begins_no program (plan_of program policy) e
               (while_no_call (kind_of program e.stmt) (ap (λ i. is_while (kind_of program i)) is ∙ w));

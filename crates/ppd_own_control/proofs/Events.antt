@@ -1,84 +1,40 @@
 -- An event at the top level: what is known of the level with it.
-use Rattle.std.proofs.Common.{◌≡◌, ℕ, ◌<◌, Bool, true, false, ◌&&◌, List, [], ◌∷◌, ◌++◌, Some, None, refl, ap, sym, subst, ◌∙◌, inl, inr, true≢false}
-use Rattle.std.specs.Prelude.{⊤, is_some, nat_eq, not, slice_get}
+use Rattle.std.proofs.Common.{◌≡◌, ℕ, ◌<◌, true, false, ◌&&◌, List, [], ◌∷◌, ◌++◌, Some, None, refl, ap, sym, subst, ◌∙◌, inl, inr}
+use Rattle.std.specs.Prelude.{⊤, nat_eq, slice_get}
 use Rattle.std.proofs.lemmas.Bool.{both_ways, cases_eq, ne_eqb}
-use Rattle.ppd_ast.specs.Numbered.{is_call, is_while}
+use Rattle.ppd_ast.specs.Numbered.{is_while}
 use Rattle.ppd_ast.specs.Valid.{IsValid}
-use Rattle.ppd_ast.specs.declared.plan.Plan.{Plan}
 use Rattle.ppd_ast.specs.declared.plan.Policy.{Policy}
-use Rattle.ppd_ast.specs.declared.program.Kind.{Kind}
 use Rattle.ppd_ast.specs.declared.program.Kind.TheVariants as kind
 use Rattle.ppd_ast.specs.declared.program.Program.{Program}
+use Rattle.ppd_ast.specs.Lookups.{kind_of, body_of}
 use Rattle.ppd_blocks.specs.Blocks.{plan_of}
 use Rattle.ppd_sem.specs.declared.event.Event.{Event}
 use Rattle.ppd_sem.specs.declared.proc.Todo.{Todo}
-use Rattle.ppd_sem.specs.Process.{kind_of, todos}
+use Rattle.ppd_sem.specs.Process.{todos}
 use Rattle.ppd_sem.specs.Runs.{returns}
 use Rattle.ppd_units.specs.Walk.{stands_in}
 use Rattle.ppd_model.specs.declared.trace.EventId.{EventId}
 use Rattle.ppd_model.specs.FullTrace.{latest, parent_if}
 use Rattle.ppd_model.specs.Parents.{is_choice}
-use Rattle.ppd_model.proofs.Homes.{AllBeside, body_at}
+use Rattle.ppd_model.proofs.Homes.{AllBeside}
 use Rattle.ppd_model.proofs.Moves.{AllInner}
 use Rattle.ppd_model.proofs.TestSteps.{View, older}
-use Rattle.ppd_search.specs.Locals.{begins_leaf, is_leaf_call}
-use Rattle.ppd_course.proofs.Rising.{parent_below}
-use Rattle.ppd_course.proofs.Standing.{not_in_later}
+use Rattle.ppd_step_laws.proofs.Course.Rising.{parent_below}
+use Rattle.ppd_step_laws.proofs.Course.Standing.{not_in_later}
 use Rattle.ppd_own_control.proofs.Sights.{BeginsNone, Sign, leaf_goes, tests_other}
 use Rattle.ppd_own_control.proofs.Statics.{Free, child_calm, child_stands_in, in_own_loop, stmt_with_parent}
 use Rattle.ppd_own_control.proofs.Levels.{EndsWith, Fact, Facts, Has, Knows, Level, Looping, Met, OfLeaf, OfLoop, Outer, OuterAt, Plain, Sort, StandsAt, frame_of, function, leaf, loop, passes, process}
 use Rattle.ppd_own_control.proofs.Goes.{Every, Goes, event_goes, event_met, fact_on, facts_on, looping_on, plain_on, still_at, view_after}
-
--- where a statement of the level at which an event is may stand
-abbrev pub MayTest : Program → Policy → Sort → ℕ → Type 0
-MayTest program policy (loop l) t = stands_in program t l ≡ true
-MayTest program policy s t = Free program policy t
-
-no_leaf_kind : (plan : Plan) (k : Kind) → is_call k ≡ false → is_leaf_call plan k ≡ false
-no_leaf_kind plan (kind.Call f arguments into) h = absurd (true≢false h)
-no_leaf_kind plan k h = refl
-
-and_no : (a b : Bool) → b ≡ false → (a && b) ≡ false
-and_no true b e = e
-and_no false b e = refl
-
--- an event that is no call begins no activation
-pub begins_no : (program : Program) (plan : Plan) (e : Event) → is_call (kind_of program e.stmt) ≡ false
-    → begins_leaf program plan e ≡ false
-begins_no program plan e h = and_no (not (is_some e.trap)) (is_leaf_call plan (kind_of program e.stmt))
-    (no_leaf_kind plan (kind_of program e.stmt) h)
+use Rattle.ppd_own_control.proofs.AtLevel.{AtLevel, MayTest, me_of, sight_after}
 
 module _ (program : Program) (policy : Policy) (p : ℕ) where
-  -- the event of statement t at a level
-  pub record AtLevel (x : Level) (t n : ℕ) (e : Event) : Type 0 where
-    pub is : e.stmt ≡ t
-    pub fine : e.trap ≡ None
-    pub home : body_at program t ≡ x.body
-    pub stands : MayTest program policy x.sort t
-    pub no_leaf : begins_leaf program (plan_of program policy) e ≡ false
-    pub stays : returns (kind_of program t) ≡ false
-
-  abbrev pub me_of : ℕ → EventId
-  me_of n = record { process = p; number = n }
-
-  abbrev pub sight_after : List Sign → ℕ → Event → List Sign
-  sight_after xs n e = xs ++ Some (n, e) ∷ []
-
-  -- the level with the event, and then these to do
-  abbrev pub with_event : Level → ℕ → Event → List Todo → Level
-  with_event x n e todo = record x {
-    run = record x.run { sight = sight_after x.run.sight n e };
-    view = view_after program
-        (me_of n) e x.view;
-    todo = todo;
-  }
-
-  module _ (v : IsValid program) (x : Level) (t n : ℕ) (e : Event) (at : AtLevel x t n e) where
+  module _ (v : IsValid program) (x : Level) (t n : ℕ) (e : Event) (at : AtLevel program policy p x t n e) where
     abbrev me : EventId
-    me = me_of n
+    me = me_of program policy p n
 
     abbrev now : List Sign
-    now = sight_after x.run.sight n e
+    now = sight_after program policy p x.run.sight n e
 
     abbrev seen : View
     seen = view_after program me e x.view
@@ -190,7 +146,7 @@ module _ (program : Program) (policy : Policy) (p : ℕ) where
 
     -- statements inside a statement that was tested
     pub inner_facts : (sort : Sort) (stmts : List ℕ) (more : List Todo) → MayTest program policy sort t
-        → is_choice (kind_of program t) ≡ true → AllInner program t stmts → AllBeside program (body_at program t) stmts
+        → is_choice (kind_of program t) ≡ true → AllInner program t stmts → AllBeside program (body_of program t) stmts
         → Facts program policy p sort x.body now seen more
         → Facts program policy p sort x.body now seen (todos stmts ++ more)
     inner_facts sort [] more stands choice inner beside h = h
@@ -236,7 +192,7 @@ module _ (program : Program) (policy : Policy) (p : ℕ) where
       longer = λ j q there. still_at x.run.sight (Some (n, e) ∷ []) j q (h.longer j q there);
       same = λ s home choice.
           tests_other program (plan_of program policy) 0 s n e x.run.sight (begins_none 0)
-          (λ same. h.other (sym at.home ∙ ap (body_at program) (sym at.is ∙ same) ∙ home))
+          (λ same. h.other (sym at.home ∙ ap (body_of program) (sym at.is ∙ same) ∙ home))
           ∙ h.same s home choice;
       other = h.other;
       no_block = h.no_block;

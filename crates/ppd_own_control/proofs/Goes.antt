@@ -6,15 +6,14 @@ use Rattle.std.proofs.lemmas.Option.{none-some}
 use Rattle.ppd_ast.specs.declared.plan.Policy.{Policy}
 use Rattle.ppd_ast.specs.declared.program.Program.{Program}
 use Rattle.ppd_ast.specs.Numbered.{is_while}
+use Rattle.ppd_ast.specs.Lookups.{kind_of, body_of}
 use Rattle.ppd_blocks.specs.Blocks.{plan_of}
 use Rattle.ppd_sem.specs.declared.event.Event.{Event}
 use Rattle.ppd_sem.specs.declared.proc.Todo.{Todo}
-use Rattle.ppd_sem.specs.Process.{kind_of}
 use Rattle.ppd_units.specs.Walk.{stands_in}
 use Rattle.ppd_model.specs.declared.trace.EventId.{EventId}
 use Rattle.ppd_model.specs.FullTrace.{is_passed, latest, tests_after}
 use Rattle.ppd_model.specs.Parents.{is_choice}
-use Rattle.ppd_model.proofs.Homes.{body_at}
 use Rattle.ppd_model.proofs.TestSteps.{View, newest, older, test_by}
 use Rattle.ppd_own_control.proofs.KindDeeds.{while_choice}
 use Rattle.ppd_own_control.proofs.Sights.{BeginsNone, Sign, tests_nested, tests_other, tests_over, tests_own}
@@ -90,8 +89,8 @@ module _ (program : Program) (policy : Policy) (p : ℕ) where
       ]
     ]
 
-    pub plain_on : (body : ℕ) → ((s : ℕ) → body_at program s ≡ body → Free program policy s → C s)
-        → ((l : ℕ) → body_at program l ≡ body → IsBlockLoop program policy l
+    pub plain_on : (body : ℕ) → ((s : ℕ) → body_of program s ≡ body → Free program policy s → C s)
+        → ((l : ℕ) → body_of program l ≡ body → IsBlockLoop program policy l
         → tests_over program (plan_of program policy) frame l ys ≡ tests_over program
         (plan_of program policy) frame l xs)
         → ((s l : ℕ) → is_while (kind_of program s) ≡ true → IsBlockLoop program policy l
@@ -104,7 +103,7 @@ module _ (program : Program) (policy : Policy) (p : ℕ) where
     }
 
     outer_on : (sort : Sort) (body o : ℕ) → frame ≡ frame_of sort
-        → (body_at program o ≡ body → OuterAt program policy p sort o → C o)
+        → (body_of program o ≡ body → OuterAt program policy p sort o → C o)
         → Outer program policy p sort body xs v o → Outer program policy p sort body ys w o
     outer_on sort body o is all h = record {
       home = h.home;
@@ -115,7 +114,7 @@ module _ (program : Program) (policy : Policy) (p : ℕ) where
     }
 
     pub fact_on : (sort : Sort) (body s : ℕ) → frame ≡ frame_of sort
-        → ((o : ℕ) → body_at program o ≡ body → OuterAt program policy p sort o → C o)
+        → ((o : ℕ) → body_of program o ≡ body → OuterAt program policy p sort o → C o)
         → Fact program policy p sort body xs v s → Fact program policy p sort body ys w s
     fact_on sort body s is all h = record {
       home = h.home;
@@ -124,7 +123,7 @@ module _ (program : Program) (policy : Policy) (p : ℕ) where
     }
 
     pub facts_on : (sort : Sort) (body : ℕ) (todo : List Todo) → frame ≡ frame_of sort
-        → ((o : ℕ) → body_at program o ≡ body → OuterAt program policy p sort o → C o)
+        → ((o : ℕ) → body_of program o ≡ body → OuterAt program policy p sort o → C o)
         → Facts program policy p sort body xs v todo → Facts program policy p sort body ys w todo
     facts_on sort body [] is all h = tt
     facts_on sort body (t ∷ ts) is all h =
@@ -134,7 +133,7 @@ module _ (program : Program) (policy : Policy) (p : ℕ) where
 
   pub looping_on : (C : ℕ → Type 0) (xs : List Sign) (v : View) (ys : List Sign) (w : View) → Goes 0 C xs v ys w
       → (l body : ℕ) (todo more : List Todo)
-      → ((s : ℕ) → body_at program s ≡ body → C s)
+      → ((s : ℕ) → body_of program s ≡ body → C s)
       → ((s : ℕ) → is_while (kind_of program s) ≡ true → stands_in program s l ≡ true → (s ≡ l → ⊥)
       → passes (latest s w.1) ≡ true → Has s more)
       → Looping program policy p l body xs v todo → Looping program policy p l body ys w more

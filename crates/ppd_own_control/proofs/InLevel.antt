@@ -7,10 +7,11 @@ use Rattle.ppd_ast.specs.Valid.{IsValid}
 use Rattle.ppd_ast.specs.declared.plan.BlockKind.TheVariants as block
 use Rattle.ppd_ast.specs.declared.plan.Policy.{Policy}
 use Rattle.ppd_ast.specs.declared.program.Program.{Program}
+use Rattle.ppd_ast.specs.Lookups.{kind_of}
 use Rattle.ppd_blocks.specs.Blocks.{plan_of}
 use Rattle.ppd_sem.specs.declared.event.Event.{Event}
 use Rattle.ppd_sem.specs.declared.proc.Todo.{Todo}
-use Rattle.ppd_sem.specs.Process.{kind_of, todos}
+use Rattle.ppd_sem.specs.Process.{todos}
 use Rattle.ppd_sem.specs.Runs.{returns}
 use Rattle.ppd_sem.specs.Tables.{block_of}
 use Rattle.ppd_model.specs.FullTrace.{is_passed, latest}
@@ -19,7 +20,8 @@ use Rattle.ppd_model.proofs.TestSteps.{View, newest}
 use Rattle.ppd_own_control.proofs.KindDeeds.{IsSimple, choice_no_call, while_choice, while_no_call}
 use Rattle.ppd_own_control.proofs.Levels.{AllHold, Facts, Fact, Has, Holds, Level, TopLeaf, passes, runs_of, todo_of, views_of}
 use Rattle.ppd_own_control.proofs.Goes.{view_after}
-use Rattle.ppd_own_control.proofs.Events.{AtLevel, begins_no, facts_event, inner_facts, me_of, sight_after}
+use Rattle.ppd_own_control.proofs.AtLevel.{AtLevel, begins_no, me_of, sight_after}
+use Rattle.ppd_own_control.proofs.Events.{facts_event, inner_facts}
 use Rattle.ppd_own_control.proofs.Moved.{Moved, add, may_test, no_block, no_while, stays_top, still_after, tested}
 use Rattle.ppd_own_control.proofs.Steps.{AreInside}
 

@@ -7,10 +7,10 @@ use Rattle.ppd_ast.specs.declared.plan.BlockKind.TheVariants as block
 use Rattle.ppd_ast.specs.declared.plan.Policy.{Policy}
 use Rattle.ppd_ast.specs.declared.program.Program.{Program}
 use Rattle.ppd_ast.specs.Numbered.{is_while}
+use Rattle.ppd_ast.specs.Lookups.{kind_of, body_of}
 use Rattle.ppd_blocks.specs.Blocks.{plan_of}
 use Rattle.ppd_sem.specs.declared.event.Event.{Event}
 use Rattle.ppd_sem.specs.declared.proc.Todo.{Todo}
-use Rattle.ppd_sem.specs.Process.{kind_of}
 use Rattle.ppd_sem.specs.Runs.{returns}
 use Rattle.ppd_sem.specs.Tables.{block_of}
 use Rattle.ppd_units.specs.Walk.{stands_in}
@@ -18,7 +18,6 @@ use Rattle.ppd_model.specs.declared.trace.EventId.{EventId}
 use Rattle.ppd_model.specs.declared.tracing.Test.{Test}
 use Rattle.ppd_model.specs.FullTrace.{latest, parent_if}
 use Rattle.ppd_model.specs.Parents.{is_choice}
-use Rattle.ppd_model.proofs.Homes.{body_at}
 use Rattle.ppd_model.proofs.TestSteps.{View}
 use Rattle.ppd_search.specs.declared.last_test.LastTest.{LastTest}
 use Rattle.ppd_search.specs.declared.leaf_call.LeafCall.{LeafCall}
@@ -109,18 +108,18 @@ module _ (program : Program) (policy : Policy) (p : ℕ) where
 
   -- a level that is no loop's
   pub record Plain (frame body : ℕ) (sight : List Sign) (v : View) : Type 0 where
-    pub free : (s : ℕ) → body_at program s ≡ body → is_choice (kind_of program s) ≡ true → Free program policy s
+    pub free : (s : ℕ) → body_of program s ≡ body → is_choice (kind_of program s) ≡ true → Free program policy s
         → Agrees frame sight v s
-    pub unfound : (l : ℕ) → body_at program l ≡ body → IsBlockLoop program policy l → IsUnfound frame sight l
+    pub unfound : (l : ℕ) → body_of program l ≡ body → IsBlockLoop program policy l → IsUnfound frame sight l
     -- no run of a `while` in a block loop goes on
     pub quiet : (s l : ℕ) → is_while (kind_of program s) ≡ true → IsBlockLoop program policy l
         → stands_in program s l ≡ true → passes (latest s v.1) ≡ false
 
   -- the level of loop l
   pub record Looping (l body : ℕ) (sight : List Sign) (v : View) (todo : List Todo) : Type 0 where
-    pub met : (s : ℕ) → body_at program s ≡ body → is_choice (kind_of program s) ≡ true → IsUnfound 0 sight s
+    pub met : (s : ℕ) → body_of program s ≡ body → is_choice (kind_of program s) ≡ true → IsUnfound 0 sight s
         ⊎ Met 0 sight v s
-    pub quiet : (s : ℕ) → body_at program s ≡ body → is_while (kind_of program s) ≡ true → stands_in program s l ≡ true
+    pub quiet : (s : ℕ) → body_of program s ≡ body → is_while (kind_of program s) ≡ true → stands_in program s l ≡ true
         → IsUnfound 0 sight s → passes (latest s v.1) ≡ false
     -- a run that goes on is of a `while` that is still to do
     pub runs : (s : ℕ) → is_while (kind_of program s) ≡ true → stands_in program s l ≡ true → (s ≡ l → ⊥)
@@ -141,14 +140,14 @@ module _ (program : Program) (policy : Policy) (p : ℕ) where
 
   -- the statement round statement s was tested in the level
   pub record Outer (sort : Sort) (body : ℕ) (sight : List Sign) (v : View) (o : ℕ) : Type 0 where
-    pub home : body_at program o ≡ body
+    pub home : body_of program o ≡ body
     pub choice : is_choice (kind_of program o) ≡ true
     pub stands : OuterAt sort o
     pub met : Met (frame_of sort) sight v o
 
   -- a statement that is to do in the level
   pub record Fact (sort : Sort) (body : ℕ) (sight : List Sign) (v : View) (s : ℕ) : Type 0 where
-    pub home : body_at program s ≡ body
+    pub home : body_of program s ≡ body
     pub stands : StandsAt sort s
     pub outer : (o : ℕ) → parent_if (slice_get program.stmts s) ≡ Some o → Outer sort body sight v o
 
@@ -192,7 +191,7 @@ module _ (program : Program) (policy : Policy) (p : ℕ) where
     pub kind_is : r.kind ≡ y.run.kind
     pub place_is : r.place ≡ y.run.place
     pub longer : (j : ℕ) (q : Sign) → slice_get y.run.sight j ≡ Some q → slice_get r.sight j ≡ Some q
-    pub same : (s : ℕ) → body_at program s ≡ y.body → is_choice (kind_of program s) ≡ true
+    pub same : (s : ℕ) → body_of program s ≡ y.body → is_choice (kind_of program s) ≡ true
         → tests_over program (plan_of program policy) 0 s r.sight ≡ tests_over program
         (plan_of program policy) 0 s y.run.sight
     pub other : body ≡ y.body → ⊥
@@ -204,7 +203,7 @@ module _ (program : Program) (policy : Policy) (p : ℕ) where
     pub is_loop : IsBlockLoop program policy l
     pub kind_is : kind ≡ block.Loop l
     pub body_is : body ≡ y.body
-    pub home : body_at program l ≡ body
+    pub home : body_of program l ≡ body
     pub before : List Sign
     pub sight_is : y.run.sight ≡ before ++ None ∷ []
     pub place_is : place ≡ length before

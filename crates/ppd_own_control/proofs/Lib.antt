@@ -5,6 +5,7 @@ pub mod KindDeeds
 pub mod Goes
 pub mod Steps
 pub mod Stepping
+pub mod AtLevel
 pub mod Events
 pub mod Moved
 pub mod InLevel

@@ -11,9 +11,9 @@ use Rattle.ppd_ast.specs.declared.plan.BlockKind.TheVariants as block
 use Rattle.ppd_ast.specs.declared.plan.Plan.{Plan}
 use Rattle.ppd_ast.specs.declared.plan.Policy.{Policy}
 use Rattle.ppd_ast.specs.declared.program.Program.{Program}
+use Rattle.ppd_ast.specs.Lookups.{kind_of}
 use Rattle.ppd_blocks.specs.Blocks.{plan_of}
 use Rattle.ppd_sem.specs.Blocks.{block_kind}
-use Rattle.ppd_sem.specs.Process.{kind_of}
 use Rattle.ppd_model.specs.FullTrace.{or_else, parent_if}
 use Rattle.ppd_model.specs.Intervals.{Part, own, nested, Span, Split, is_closed, item_of, items_of}
 use Rattle.ppd_model.specs.declared.flow.Item.{Item}
@@ -23,8 +23,7 @@ use Rattle.ppd_search.specs.declared.leaf_call.LeafCall.{LeafCall}
 use Rattle.ppd_search.specs.Control.{Tests, begun_tests, call_or_entry, control_above, control_among, control_in, control_origin, control_outside, last_test, leaf_call_at, test_of_run, test_round}
 use Rattle.ppd_search.specs.Locals.{frame_in, leaf_at}
 use Rattle.ppd_search.specs.Seen.{call_of, first_or, is_item_of, items_at, kind_at, outer_of, outer_place, place_of, seen_of}
-use Rattle.ppd_places.specs.Levels.{AreBelow, numbers}
-use Rattle.ppd_places.specs.Levels.{Level as Place}
+use Rattle.ppd_places.specs.Levels.{AreBelow, numbers, Level as Place}
 use Rattle.ppd_places.proofs.Scans.{nested_item}
 use Rattle.ppd_places.proofs.Whole.{AreWhole, first_items, first_whole}
 use Rattle.ppd_own_control.proofs.Levels.{Run}

@@ -5,16 +5,15 @@ use Rattle.std.proofs.lemmas.List.{take_at}
 use Rattle.ppd_ast.specs.Valid.{IsValid}
 use Rattle.ppd_ast.specs.declared.plan.Policy.{Policy}
 use Rattle.ppd_ast.specs.declared.program.Program.{Program}
+use Rattle.ppd_ast.specs.Lookups.{kind_of, body_of}
 use Rattle.ppd_blocks.specs.Blocks.{plan_of}
 use Rattle.ppd_facts.proofs.Within.{within_cases}
 use Rattle.ppd_sem.specs.declared.proc.Todo.{Todo}
-use Rattle.ppd_sem.specs.Process.{kind_of}
 use Rattle.ppd_units.specs.Walk.{stands_in}
 use Rattle.ppd_model.specs.declared.flow.Origin.{Origin}
 use Rattle.ppd_model.specs.declared.flow.Origin.TheVariants as origin
 use Rattle.ppd_model.specs.declared.trace.EventId.{EventId}
 use Rattle.ppd_model.specs.FullTrace.{latest, of_outer, of_run, or_else, parent_if}
-use Rattle.ppd_model.proofs.Homes.{body_at}
 use Rattle.ppd_model.proofs.TestSteps.{View}
 use Rattle.ppd_own_control.proofs.KindDeeds.{while_choice}
 use Rattle.ppd_own_control.proofs.Sights.{Sign, leaf_over}
@@ -85,7 +84,7 @@ module _ (program : Program) (policy : Policy) (p : ℕ) (v : IsValid program) w
     abbrev pub rs : List Run
     rs = x.run ∷ runs_of (y ∷ ys)
 
-    pub loop_again : (s : ℕ) → body_at program s ≡ x.body → stands_in program s l ≡ true
+    pub loop_again : (s : ℕ) → body_of program s ≡ x.body → stands_in program s l ≡ true
         → Again program policy p 0 0 x.run.sight x.view s
     loop_again s home inside is = elim (known.met s home (while_choice (kind_of program s) is)) [
       | inl none ↦ inr (none, known.quiet s home is inside none)
@@ -93,7 +92,7 @@ module _ (program : Program) (policy : Policy) (p : ℕ) (v : IsValid program) w
     ]
 
     -- a statement round which another one was tested
-    pub inner_answer : (s outer : ℕ) (f : Origin) → body_at program s ≡ x.body → stands_in program s l ≡ true
+    pub inner_answer : (s outer : ℕ) (f : Origin) → body_of program s ≡ x.body → stands_in program s l ≡ true
         → parent_if (slice_get program.stmts s) ≡ Some outer → Met program policy p 0 x.run.sight x.view outer
         → Answer program policy p rs (unwrap_or (found_over program policy p x.run.number s x.run.sight) f)
         (parent_of program s x.view)

@@ -8,6 +8,7 @@ use Rattle.ppd_ast.specs.declared.plan.Plan.{Plan}
 use Rattle.ppd_ast.specs.declared.plan.Policy.{Policy}
 use Rattle.ppd_ast.specs.declared.program.Program.{Program}
 use Rattle.ppd_ast.specs.declared.status.Status.{Status}
+use Rattle.ppd_ast.specs.Lookups.{body_of}
 use Rattle.ppd_blocks.specs.Blocks.{plan_of}
 use Rattle.ppd_sem.specs.declared.event.Event.{Event}
 use Rattle.ppd_sem.specs.declared.proc.Answer.{Answer}
@@ -16,7 +17,7 @@ use Rattle.ppd_sem.specs.declared.proc.Need.{Need}
 use Rattle.ppd_sem.specs.declared.proc.Need.TheVariants as need
 use Rattle.ppd_sem.specs.declared.proc.Proc.{Proc}
 use Rattle.ppd_sem.specs.declared.proc.Todo.{Todo}
-use Rattle.ppd_sem.specs.Described.{trap_of}
+use Rattle.ppd_sem.specs.Described.{trap_of, is_event}
 use Rattle.ppd_sem.specs.Process.{act, act_at, act_by_need, need_of, need_of_running, top_body}
 use Rattle.ppd_sem.proofs.Progress.{act-stopped, need_at_status, need_at_todo}
 use Rattle.ppd_model.specs.declared.tracing.Activation.{Activation}
@@ -27,12 +28,10 @@ use Rattle.ppd_model.specs.declared.trace.EventId.{EventId}
 use Rattle.ppd_model.specs.FullTrace.{Tag, event_of, me_in, tagged_after, trace_by, traced_by, with_test}
 use Rattle.ppd_model.specs.Intervals.{Split, split_step}
 use Rattle.ppd_model.specs.Marks.{closed, opened}
-use Rattle.ppd_model.specs.Story.{is_event}
 use Rattle.ppd_model.proofs.CountedOn.{last_at}
-use Rattle.ppd_model.proofs.Homes.{AreHome, IsHome, bodies_of, body_at}
+use Rattle.ppd_model.proofs.Homes.{AreHome, IsHome, bodies_of}
 use Rattle.ppd_model.proofs.TestSteps.{View, event_acts, other_acts, views}
-use Rattle.ppd_places.specs.Levels.{levels_after}
-use Rattle.ppd_places.specs.Levels.{Level as Place}
+use Rattle.ppd_places.specs.Levels.{levels_after, Level as Place}
 use Rattle.ppd_own_control.proofs.Along.{EventOf, Given, runs_after}
 use Rattle.ppd_own_control.proofs.Advance.{advance}
 use Rattle.ppd_own_control.proofs.Levels.{AllHold, Level, TopLeaf, runs_of, todo_of, views_of}
@@ -83,7 +82,7 @@ events_after program plan story p x need.Stopped t e = absurd (cc)
 events_after program plan story p x n t e = refl
 
 home_of : (program : Program) (frames : List Frame) (t : Todo) (ts : List Todo)
-    → AreHome program (bodies_of frames) (t ∷ ts) → top_body frames ≡ body_at program t.stmt
+    → AreHome program (bodies_of frames) (t ∷ ts) → top_body frames ≡ body_of program t.stmt
 home_of program [] t ts h = absurd h
 home_of program (f ∷ fs) t ts h = sym h.0
 

@@ -9,11 +9,11 @@ use Rattle.ppd_ast.specs.declared.plan.BlockKind.TheVariants as block
 use Rattle.ppd_ast.specs.declared.plan.Plan.{Plan}
 use Rattle.ppd_ast.specs.declared.plan.Policy.{Policy}
 use Rattle.ppd_ast.specs.declared.program.Program.{Program}
+use Rattle.ppd_ast.specs.Lookups.{kind_of}
 use Rattle.ppd_blocks.specs.Blocks.{plan_of}
 use Rattle.ppd_sem.specs.Blocks.{block_kind}
 use Rattle.ppd_sem.specs.declared.event.Event.{Event}
 use Rattle.ppd_sem.specs.declared.proc.Todo.{Todo}
-use Rattle.ppd_sem.specs.Process.{kind_of}
 use Rattle.ppd_sem.specs.Runs.{returns}
 use Rattle.ppd_sem.specs.Tables.{block_of}
 use Rattle.ppd_model.specs.declared.trace.EventId.{EventId}
@@ -26,7 +26,8 @@ use Rattle.ppd_own_control.proofs.Sights.{Sign, leaf_goes, leaf_over}
 use Rattle.ppd_own_control.proofs.Statics.{block_loop_while, calm_free}
 use Rattle.ppd_own_control.proofs.Levels.{AllHold, Facts, Has, Holds, Level, OverNext, Run, Sort, StandsAt, TopLeaf, function, leaf, loop, passes, process, runs_of, runs_with, todo_of, views_of, views_with}
 use Rattle.ppd_own_control.proofs.Goes.{view_after}
-use Rattle.ppd_own_control.proofs.Events.{AtLevel, MayTest, StillAt, ends_event, knows_event, leaf_event, loop_event, me_of, sight_after, with_event}
+use Rattle.ppd_own_control.proofs.AtLevel.{AtLevel, MayTest, me_of, sight_after, with_event}
+use Rattle.ppd_own_control.proofs.Events.{StillAt, ends_event, knows_event, leaf_event, loop_event}
 
 -- ---- the running intervals, and the activations
 

@@ -10,6 +10,7 @@ use Rattle.ppd_ast.specs.declared.plan.Policy.{Policy}
 use Rattle.ppd_ast.specs.declared.program.Kind.{Kind}
 use Rattle.ppd_ast.specs.declared.program.Kind.TheVariants as kind
 use Rattle.ppd_ast.specs.declared.program.Program.{Program}
+use Rattle.ppd_ast.specs.Lookups.{kind_of, top_of_body}
 use Rattle.ppd_beside.specs.Beside.{IsCallOf}
 use Rattle.ppd_blocks.specs.Blocks.{plan_of}
 use Rattle.ppd_facts.proofs.Placed.{IsCallee, callee}
@@ -17,7 +18,7 @@ use Rattle.ppd_facts.proofs.Planned.{kind_is}
 use Rattle.ppd_sem.specs.Blocks.{block_kind}
 use Rattle.ppd_sem.specs.declared.event.Event.{Event}
 use Rattle.ppd_sem.specs.declared.proc.Todo.{Todo}
-use Rattle.ppd_sem.specs.Process.{kind_of, todos, top_of}
+use Rattle.ppd_sem.specs.Process.{todos}
 use Rattle.ppd_sem.specs.Runs.{returns}
 use Rattle.ppd_sem.specs.Tables.{block_of}
 use Rattle.ppd_model.specs.declared.trace.EventId.{EventId}
@@ -31,7 +32,8 @@ use Rattle.ppd_own_control.proofs.KindDeeds.{calls_simply}
 use Rattle.ppd_own_control.proofs.Sights.{Sign, leaf_begins, leaf_nested, tests_call, tests_other}
 use Rattle.ppd_own_control.proofs.Levels.{AllHold, Holds, Level, Run, Sort, TopLeaf, frame_of, function, leaf, loop, process, runs_of, runs_with, todo_of, views_of, views_with}
 use Rattle.ppd_own_control.proofs.Goes.{new_at, still_at, view_after}
-use Rattle.ppd_own_control.proofs.Events.{AtLevel, facts_event, me_of, sight_after, with_event}
+use Rattle.ppd_own_control.proofs.AtLevel.{AtLevel, me_of, sight_after, with_event}
+use Rattle.ppd_own_control.proofs.Events.{facts_event}
 use Rattle.ppd_own_control.proofs.Moved.{Moved, add, add_runs, holds_event, items_in, items_runs, leaf_same, may_test, no_block, no_while, opens, still_after, tested, tested_views}
 use Rattle.ppd_own_control.proofs.Opening.{TopSplit, called_from, calling_is_block, can_simply, holds_done, holds_nested, top_split, with_nested}
 
@@ -70,8 +72,8 @@ module _ (program : Program) (policy : Policy) (p : ℕ) (v : IsValid program) (
 
   module _ (n : ℕ) (e : Event) (is : e.stmt ≡ t.stmt) (fine : e.trap ≡ None) (f : ℕ)
       (calls : IsCallOf (kind_of program t.stmt) f)
-      (tops : AreTop program (top_of (slice_get program.bodies f)))
-      (homes : AreTopOf program f (top_of (slice_get program.bodies f))) where
+      (tops : AreTop program (top_of_body (slice_get program.bodies f)))
+      (homes : AreTopOf program f (top_of_body (slice_get program.bodies f))) where
     frame_zero : frame_of x.sort ≡ 0
     frame_zero = called_from program policy p here t.stmt f v calls h.facts.0.0.home x.sort xs h.over
 
@@ -90,14 +92,14 @@ module _ (program : Program) (policy : Policy) (p : ℕ) (v : IsValid program) (
         ∙ leaf_kind (plan_of program policy) (kind_of program t.stmt) f calls
 
     -- the levels below the new one have this to do
-    todos_are : (first : List Todo) (last : Todo) → todos (top_of (slice_get program.bodies f)) ≡ first ++ last ∷ []
-        → todos (top_of (slice_get program.bodies f)) ++ rest ≡ first ++ (last ∷ rest)
+    todos_are : (first : List Todo) (last : Todo) → todos (top_of_body (slice_get program.bodies f)) ≡ first ++ last ∷ []
+        → todos (top_of_body (slice_get program.bodies f)) ++ rest ≡ first ++ (last ∷ rest)
     todos_are first last e = ap (λ ts. ts ++ rest) e ∙ append_assoc first (last ∷ []) rest
 
     -- ---- a call without an interval
 
     pub calls_leaf : block_of (plan_of program policy) (block.Function f) ≡ None
-        → Moved program policy p (todos (top_of (slice_get program.bodies f)) ++ rest)
+        → Moved program policy p (todos (top_of_body (slice_get program.bodies f)) ++ rest)
         ((Some (me_of program policy p n), []) ∷ tested program (me_of program policy p n) e (views_of (here ∷ xs)))
         (add (Some (n, e)) (runs_of (here ∷ xs)))
     calls_leaf none =
@@ -106,8 +108,8 @@ module _ (program : Program) (policy : Policy) (p : ℕ) (v : IsValid program) (
         let begins : begins_leaf program (plan_of program policy) e ≡ true = called_leaf
         ∙ ap (λ o. not (is_some o)) none in
         let split : TopSplit program policy p leaf f sight view
-        (top_of (slice_get program.bodies f)) = top_split program policy p leaf f sight view
-        (top_of (slice_get program.bodies f)) (λ j c. c) tops homes in
+        (top_of_body (slice_get program.bodies f)) = top_split program policy p leaf f sight view
+        (top_of_body (slice_get program.bodies f)) (λ j c. c) tops homes in
         let found : IsCallee program f = callee program t.stmt f v calls in
         let other : (s : ℕ) → is_choice (kind_of program s) ≡ true → e.stmt ≡ s
         → ⊥ = λ s choice same. both_ways (is_choice (kind_of program t.stmt)) simple.0
@@ -172,7 +174,7 @@ module _ (program : Program) (policy : Policy) (p : ℕ) (v : IsValid program) (
     -- ---- a call of a block
 
     pub calls_block : (b number : ℕ) → block_of (plan_of program policy) (block.Function f) ≡ Some b
-        → Moved program policy p (todos (top_of (slice_get program.bodies f)) ++ rest)
+        → Moved program policy p (todos (top_of_body (slice_get program.bodies f)) ++ rest)
         ((Some (me_of program policy p n), []) ∷ tested program (me_of program policy p n) e (views_of (here ∷ xs)))
         (opens number (block_kind (plan_of program policy) b) (add (Some (n, e)) (runs_of (here ∷ xs))))
     calls_block b number some =
@@ -180,8 +182,8 @@ module _ (program : Program) (policy : Policy) (p : ℕ) (v : IsValid program) (
         let begins : begins_leaf program (plan_of program policy) e ≡ false = called_leaf
         ∙ ap (λ o. not (is_some o)) some in
         let split : TopSplit program policy p function f [] view
-        (top_of (slice_get program.bodies f)) = top_split program policy p function f [] view
-        (top_of (slice_get program.bodies f)) (λ j c. c) tops homes in
+        (top_of_body (slice_get program.bodies f)) = top_split program policy p function f [] view
+        (top_of_body (slice_get program.bodies f)) (λ j c. c) tops homes in
         let isnt : is_while (kind_of program t.stmt) ≡ false = no_while program policy p t.stmt simple.0 in
         let a : AtLevel program policy p here t.stmt n e = record {
           is = is;

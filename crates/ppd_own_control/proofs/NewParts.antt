@@ -4,7 +4,7 @@ use Rattle.std.specs.Prelude.{slice_get}
 use Rattle.std.proofs.lemmas.Option.{none-some}
 use Rattle.ppd_ast.specs.declared.plan.Plan.{Plan}
 use Rattle.ppd_ast.specs.declared.program.Program.{Program}
-use Rattle.ppd_sem.specs.Described.{frame_of}
+use Rattle.ppd_sem.specs.Described.{frame_of, is_event}
 use Rattle.ppd_sem.specs.declared.proc.Need.{Need}
 use Rattle.ppd_sem.specs.declared.proc.Need.TheVariants as need
 use Rattle.ppd_sem.specs.declared.proc.Proc.{Proc}
@@ -15,7 +15,6 @@ use Rattle.ppd_model.specs.FlowbackEdges.{part_at}
 use Rattle.ppd_model.specs.FullTrace.{Tag, me_in, top_tags}
 use Rattle.ppd_model.specs.Intervals.{Part, own, nested, Span, Split, begin_if, change_first, control_by, end_if, innermost, left_by, new_span, split_step, with_own, with_part, with_step}
 use Rattle.ppd_model.specs.Marks.{Mark, closed, opened}
-use Rattle.ppd_model.specs.Story.{is_event}
 use Rattle.ppd_model.proofs.Changes.{length-change, some}
 use Rattle.ppd_model.proofs.Items.{own_keeps, step_keeps}
 use Rattle.ppd_own_control.proofs.IntervalParts.{parts_in, PartAt, part_from, part_to, quiet_parts, put_first, IsPut, more_of, put_cases, fresh_parts}

@@ -8,16 +8,16 @@ use Rattle.ppd_ast.specs.Valid.{IsValid}
 use Rattle.ppd_ast.specs.declared.plan.BlockKind.TheVariants as block
 use Rattle.ppd_ast.specs.declared.plan.Policy.{Policy}
 use Rattle.ppd_ast.specs.declared.program.Program.{Program}
+use Rattle.ppd_ast.specs.Lookups.{kind_of, body_of}
 use Rattle.ppd_beside.specs.Beside.{IsCallOf}
 use Rattle.ppd_blocks.specs.Blocks.{plan_of}
 use Rattle.ppd_facts.proofs.Counted.{calling_block}
 use Rattle.ppd_nested.proofs.Framed.{body_is}
 use Rattle.ppd_sem.specs.declared.proc.Todo.{Todo}
-use Rattle.ppd_sem.specs.Process.{kind_of, todos}
+use Rattle.ppd_sem.specs.Process.{todos}
 use Rattle.ppd_sem.specs.Runs.{returns}
 use Rattle.ppd_sem.specs.Tables.{block_of}
 use Rattle.ppd_model.specs.FullTrace.{parent_if}
-use Rattle.ppd_model.proofs.Homes.{body_at}
 use Rattle.ppd_model.proofs.Homes.{AreTop as AreTopOf}
 use Rattle.ppd_model.proofs.Moves.{AreTop}
 use Rattle.ppd_model.proofs.TestSteps.{View}
@@ -154,7 +154,7 @@ module _ (program : Program) (policy : Policy) (p : ℕ) where
 
   -- ---- a call is not from an activation without an interval
 
-  pub calling_is_block : (t f body : ℕ) → IsValid program → IsCallOf (kind_of program t) f → body_at program t ≡ body
+  pub calling_is_block : (t f body : ℕ) → IsValid program → IsCallOf (kind_of program t) f → body_of program t ≡ body
       → body < program.functions
       → is_some (block_of (plan_of program policy) (block.Function body)) ≡ true
   calling_is_block t f body v calls home low =
@@ -163,7 +163,7 @@ module _ (program : Program) (policy : Policy) (p : ℕ) where
       (calling_block program policy t f v calls (subst (λ b. b < program.functions) (sym same) low))
 
   pub called_from : (x : Level) (t f : ℕ) → IsValid program → IsCallOf (kind_of program t) f
-      → body_at program t ≡ x.body → (sort : Sort) (ys : List Level) → OverNext program policy p sort x ys
+      → body_of program t ≡ x.body → (sort : Sort) (ys : List Level) → OverNext program policy p sort x ys
       → frame_of sort ≡ 0
   called_from x t f v calls home process ys o = refl
   called_from x t f v calls home function ys o = refl
@@ -186,7 +186,7 @@ module _ (program : Program) (policy : Policy) (p : ℕ) where
 
   top_fact : (sort : Sort) (f : ℕ) (sight : List Sign) (v : View) (i : ℕ)
       → ((j : ℕ) → Calm program policy j → StandsAt program policy p sort j)
-      → body_at program i ≡ f → parent_if (slice_get program.stmts i) ≡ None → Fact program policy p sort f sight v i
+      → body_of program i ≡ f → parent_if (slice_get program.stmts i) ≡ None → Fact program policy p sort f sight v i
   top_fact sort f sight v i calm home none = record {
     home = home;
     stands = calm i (top_calm program policy i none);

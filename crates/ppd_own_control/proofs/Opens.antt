@@ -8,6 +8,7 @@ use Rattle.ppd_ast.specs.declared.program.Kind.{Kind}
 use Rattle.ppd_ast.specs.declared.program.Kind.TheVariants as kind
 use Rattle.ppd_ast.specs.declared.program.Program.{Program}
 use Rattle.ppd_ast.specs.declared.status.Status.{Status}
+use Rattle.ppd_ast.specs.Lookups.{kind_of}
 use Rattle.ppd_sem.specs.declared.asking.Pause.TheVariants.{Wants, Traps}
 use Rattle.ppd_sem.specs.declared.proc.Need.{Need}
 use Rattle.ppd_sem.specs.declared.proc.Need.TheVariants as need
@@ -15,7 +16,7 @@ use Rattle.ppd_sem.specs.declared.proc.Proc.{Proc}
 use Rattle.ppd_sem.specs.declared.proc.Todo.{Todo}
 use Rattle.ppd_sem.specs.Asked.{Asked}
 use Rattle.ppd_sem.specs.Deed.{Deed, invoke, leave, send}
-use Rattle.ppd_sem.specs.Process.{cost, entry_of, head_deed, kind_of, loop_of, need_by_entry, need_by_offer, need_by_status, need_of, need_of_asked, need_of_deed, need_of_head, need_of_leaving, need_of_running, need_of_send, offer_of}
+use Rattle.ppd_sem.specs.Process.{cost, entry_of, head_deed, loop_of, need_by_entry, need_by_offer, need_by_status, need_of, need_of_asked, need_of_deed, need_of_head, need_of_leaving, need_of_running, need_of_send, offer_of}
 use Rattle.ppd_sem.specs.Tables.{block_of, capacity_of}
 
 abbrev pub OpensAt : Plan → ℕ → Need → Type 0

@@ -4,8 +4,8 @@ use Rattle.std.specs.Prelude.{slice_get, unwrap_or}
 use Rattle.ppd_ast.specs.Valid.{IsValid}
 use Rattle.ppd_ast.specs.declared.plan.Policy.{Policy}
 use Rattle.ppd_ast.specs.declared.program.Program.{Program}
+use Rattle.ppd_ast.specs.Lookups.{kind_of}
 use Rattle.ppd_blocks.specs.Blocks.{plan_of}
-use Rattle.ppd_sem.specs.Process.{kind_of}
 use Rattle.ppd_model.specs.declared.flow.Origin.{Origin}
 use Rattle.ppd_model.specs.declared.flow.Origin.TheVariants as origin
 use Rattle.ppd_model.specs.declared.trace.EventId.{EventId}

@@ -6,15 +6,14 @@ use Rattle.ppd_ast.specs.Valid.{IsValid}
 use Rattle.ppd_ast.specs.declared.plan.BlockKind.TheVariants as block
 use Rattle.ppd_ast.specs.declared.plan.Policy.{Policy}
 use Rattle.ppd_ast.specs.declared.program.Program.{Program}
+use Rattle.ppd_ast.specs.Lookups.{kind_of, body_of}
 use Rattle.ppd_blocks.specs.Blocks.{plan_of}
 use Rattle.ppd_sem.specs.declared.event.Event.{Event}
-use Rattle.ppd_sem.specs.Process.{kind_of}
 use Rattle.ppd_sem.specs.Tables.{block_of}
 use Rattle.ppd_model.specs.declared.flow.Origin.{Origin}
 use Rattle.ppd_model.specs.declared.flow.Origin.TheVariants as origin
 use Rattle.ppd_model.specs.declared.trace.EventId.{EventId}
 use Rattle.ppd_model.specs.FullTrace.{latest, of_outer, of_run, or_else, parent_if}
-use Rattle.ppd_model.proofs.Homes.{body_at}
 use Rattle.ppd_model.proofs.TestSteps.{View}
 use Rattle.ppd_search.specs.declared.leaf_call.LeafCall.{LeafCall}
 use Rattle.ppd_search.specs.Control.{test_of_run}
@@ -47,7 +46,7 @@ module _ (program : Program) (policy : Policy) (p : ℕ) (v : IsValid program) w
         → Met program policy p (frame_of sort) sight w o
 
   pub plain_again : (frame body : ℕ) (sight : List Sign) (w : View) (s : ℕ) → Plain program policy p frame body sight w
-      → body_at program s ≡ body → Calm program policy s → Again program policy p 0 frame sight w s
+      → body_of program s ≡ body → Calm program policy s → Again program policy p 0 frame sight w s
   plain_again frame body sight w s h home calm is = by (block_of (plan_of program policy) (block.Loop s)) refl
     where
       quiet_none : IsUnfound program policy p frame sight s × (latest s w.1 ≡ None)

@@ -26,8 +26,7 @@ use Rattle.ppd_model.proofs.Lists.{below_at}
 use Rattle.ppd_model.proofs.TestSteps.{views}
 use Rattle.ppd_search.specs.Control.{control_origin}
 use Rattle.ppd_search.specs.Seen.{seen_of}
-use Rattle.ppd_places.specs.Levels.{IsLater, StandsIn, numbers}
-use Rattle.ppd_places.specs.Levels.{Level as Place}
+use Rattle.ppd_places.specs.Levels.{IsLater, StandsIn, numbers, Level as Place}
 use Rattle.ppd_own_control.proofs.Answers.{answers, top_parent}
 use Rattle.ppd_own_control.proofs.Goes.{still_at}
 use Rattle.ppd_own_control.proofs.Levels.{Run, runs_of, views_of}

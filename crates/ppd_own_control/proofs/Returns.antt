@@ -6,13 +6,12 @@ use Rattle.ppd_ast.specs.Valid.{IsValid}
 use Rattle.ppd_ast.specs.declared.plan.BlockKind.{BlockKind}
 use Rattle.ppd_ast.specs.declared.plan.Policy.{Policy}
 use Rattle.ppd_ast.specs.declared.program.Program.{Program}
+use Rattle.ppd_ast.specs.Lookups.{kind_of, body_of}
 use Rattle.ppd_blocks.specs.Blocks.{plan_of}
 use Rattle.ppd_sem.specs.declared.event.Event.{Event}
 use Rattle.ppd_sem.specs.declared.proc.Todo.{Todo}
-use Rattle.ppd_sem.specs.Process.{kind_of}
 use Rattle.ppd_sem.specs.Runs.{returns}
 use Rattle.ppd_model.specs.Parents.{is_choice}
-use Rattle.ppd_model.proofs.Homes.{body_at}
 use Rattle.ppd_model.proofs.TestSteps.{View}
 use Rattle.ppd_search.specs.Locals.{begins_leaf}
 use Rattle.ppd_own_control.proofs.KindDeeds.{return_no_call, return_no_choice, while_choice}
@@ -20,7 +19,7 @@ use Rattle.ppd_own_control.proofs.Sights.{Sign, leaf_ends, tests_other}
 use Rattle.ppd_own_control.proofs.Statics.{block_loop_while}
 use Rattle.ppd_own_control.proofs.Levels.{AllHold, EndsWith, Fact, Knows, Level, OfFunction, OfLeaf, OverNext, Plain, Run, Sort, frame_of, function, leaf, loop, process, runs_of, runs_with, todo_of, views_of}
 use Rattle.ppd_own_control.proofs.Goes.{Goes, fact_on, facts_on, looping_on, plain_on, still_at, view_after}
-use Rattle.ppd_own_control.proofs.Events.{begins_no, me_of, sight_after}
+use Rattle.ppd_own_control.proofs.AtLevel.{begins_no, me_of, sight_after}
 use Rattle.ppd_own_control.proofs.Moved.{Moved, add, tested}
 
 run_same : (r q : Run) (s : List Sign) → r.number ≡ q.number → r.kind ≡ q.kind → r.place ≡ q.place
@@ -67,7 +66,7 @@ module _ (program : Program) (policy : Policy) (p : ℕ) (v : IsValid program) (
     module _ (o : OfLeaf program policy p x.body x.run x.view.0 y)
         (returning : returns (kind_of program t.stmt) ≡ true) where
       abbrev OfBody : ℕ → Type 0
-      OfBody s = body_at program s ≡ y.body
+      OfBody s = body_of program s ≡ y.body
 
       begins : begins_leaf program (plan_of program policy) e ≡ false
       begins = begins_no program (plan_of program policy) e

@@ -14,8 +14,7 @@ use Rattle.ppd_search.specs.declared.leaf_call.LeafCall.{LeafCall}
 use Rattle.ppd_search.specs.Control.{Tests, test_event, test_item}
 use Rattle.ppd_search.specs.Locals.{leaf_after, leaf_at}
 use Rattle.ppd_search.specs.Seen.{is_item_of}
-use Rattle.ppd_places.specs.Levels.{AreBelow, AreLevels, IsLater, StandsIn, numbers}
-use Rattle.ppd_places.specs.Levels.{Level as Place}
+use Rattle.ppd_places.specs.Levels.{AreBelow, AreLevels, IsLater, StandsIn, numbers, Level as Place}
 use Rattle.ppd_places.proofs.Scans.{leaf_nested as leaf_past, leaf_own}
 use Rattle.ppd_places.proofs.Whole.{AreWhole, first_whole}
 use Rattle.ppd_own_control.proofs.Seen.{SightIs}

@@ -7,8 +7,7 @@ use Rattle.ppd_sem.specs.declared.event.Event.{Event}
 use Rattle.ppd_model.specs.declared.trace.TracedEvent.{TracedEvent}
 use Rattle.ppd_model.specs.Intervals.{Part, own, nested}
 use Rattle.ppd_model.specs.Marks.{Mark}
-use Rattle.ppd_places.specs.Levels.{begin_level, end_level, with_event}
-use Rattle.ppd_places.specs.Levels.{Level as Place}
+use Rattle.ppd_places.specs.Levels.{begin_level, end_level, with_event, Level as Place}
 use Rattle.ppd_own_control.proofs.Sights.{Sign}
 use Rattle.ppd_own_control.proofs.Levels.{Run}
 use Rattle.ppd_own_control.proofs.Moved.{begun, ended, owned}

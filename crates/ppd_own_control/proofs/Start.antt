@@ -11,19 +11,19 @@ use Rattle.ppd_ast.specs.declared.program.Body.{Body}
 use Rattle.ppd_ast.specs.declared.program.Program.{Program}
 use Rattle.ppd_ast.specs.declared.program.Stmt.{Stmt}
 use Rattle.ppd_ast.proofs.ValidLaws.{some_and}
+use Rattle.ppd_ast.specs.Lookups.{top_of_body, body_of_stmt}
 use Rattle.ppd_blocks.specs.Blocks.{plan_of}
 use Rattle.ppd_facts.proofs.Planned.{kind_is}
 use Rattle.ppd_nested.specs.Stack.{process_block}
 use Rattle.ppd_nested.proofs.Framed.{process_stays}
 use Rattle.ppd_sem.specs.Blocks.{block_kind}
 use Rattle.ppd_sem.specs.declared.proc.Todo.{Todo}
-use Rattle.ppd_sem.specs.Process.{started, todos, top_of}
+use Rattle.ppd_sem.specs.Process.{started, todos}
 use Rattle.ppd_sem.specs.Runs.{IsInner}
 use Rattle.ppd_sem.specs.Tables.{block_of, or_zero}
 use Rattle.ppd_model.specs.declared.tracing.Story.{Story}
 use Rattle.ppd_model.specs.FullTrace.{parent_if}
 use Rattle.ppd_model.specs.Intervals.{begun_split}
-use Rattle.ppd_model.proofs.Homes.{body_if}
 use Rattle.ppd_model.proofs.Moves.{body_top}
 use Rattle.ppd_model.proofs.TestSteps.{View}
 use Rattle.ppd_own_control.proofs.Levels.{AllHold, Facts, Level, OverNext, Run, Sort, frame_of, function, leaf, loop, process, runs_of, runs_with}
@@ -76,8 +76,8 @@ module _ (program : Program) (policy : Policy) (p : ℕ) where
   -- ---- the start
 
   stands : (o : Option Stmt) (body : ℕ) → (s : Stmt) × (o ≡ Some s) × ((s.parent ≡ None) × (s.body ≡ body))
-      → (body_if o ≡ body) × (parent_if o ≡ None)
-  stands o body h = (ap body_if h.1 ∙ h.2.1, ap parent_if h.1 ∙ h.2.0)
+      → (body_of_stmt o ≡ body) × (parent_if o ≡ None)
+  stands o body h = (ap body_of_stmt h.1 ∙ h.2.1, ap parent_if h.1 ∙ h.2.0)
 
   top_facts : (n body : ℕ) (v : View) (stmts : List ℕ) → All (IsInner program n) stmts
       → StandIn program.stmts None body stmts → Facts program policy p process body [] v (todos stmts)
@@ -100,12 +100,12 @@ module _ (program : Program) (policy : Policy) (p : ℕ) where
       )
 
   body_facts : (v : View) → IsValid program → (o : Option Body) → slice_get program.bodies (program.functions + p) ≡ o
-      → Facts program policy p process (program.functions + p) [] v (todos (top_of o))
+      → Facts program policy p process (program.functions + p) [] v (todos (top_of_body o))
   body_facts v valid None e = tt
   body_facts v valid (Some b) e =
       let inner = process_stays program (program.functions + p) valid (omega arith) in
       top_facts inner.0 (program.functions + p) v b.top
-      (subst (λ o. All (IsInner program inner.0) (top_of o)) e inner.1)
+      (subst (λ o. All (IsInner program inner.0) (top_of_body o)) e inner.1)
       (body_top program (program.functions + p) b valid e)
 
   pub start_moment : (v : IsValid program) (story : Story) (budget : ℕ)

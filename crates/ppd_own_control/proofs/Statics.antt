@@ -11,13 +11,12 @@ use Rattle.ppd_ast.specs.declared.program.Program.{Program}
 use Rattle.ppd_ast.specs.declared.program.Stmt.{Stmt}
 use Rattle.ppd_ast.specs.Numbered.{in_while, inside_count, is_while, while_or}
 use Rattle.ppd_ast.specs.Valid.{IsValid}
+use Rattle.ppd_ast.specs.Lookups.{kind_of}
 use Rattle.ppd_blocks.specs.Blocks.{plan_of}
 use Rattle.ppd_blocks.proofs.Listing.{IsLoop, by_policy}
-use Rattle.ppd_course.proofs.Standing.{as_parent, in_itself}
-use Rattle.ppd_course.proofs.Ways.{same_kind}
+use Rattle.ppd_step_laws.proofs.Course.Standing.{as_parent, in_itself}
 use Rattle.ppd_facts.proofs.Within.{IsOut, child_within, within_cases}
-use Rattle.ppd_reads.proofs.Numbers.{block_loop, loop_is_while}
-use Rattle.ppd_sem.specs.Process.{kind_of}
+use Rattle.ppd_step_laws.proofs.Units.Numbers.{block_loop, loop_is_while}
 use Rattle.ppd_sem.specs.Tables.{block_of}
 use Rattle.ppd_units.specs.Walk.{parent_of, stands_at, stands_in}
 use Rattle.ppd_model.proofs.Changes.{some}
@@ -119,7 +118,7 @@ module _ (program : Program) (policy : Policy) where
   pub block_loop_while : (l : ℕ) → IsBlockLoop l → is_while (kind_of program l) ≡ true
   block_loop_while l is =
       let b = number_of (block_of (plan_of program policy) (block.Loop l)) is in
-      ap is_while (same_kind program l) ∙ loop_is_while program policy l (block_loop program policy l b.0 b.1)
+      loop_is_while program policy l (block_loop program policy l b.0 b.1)
 
   pub loops_apart : (w l : ℕ) → IsBlockLoop w → IsBlockLoop l → stands_in program w l ≡ true → w ≡ l
   loops_apart w l is_w is_l h = elim (within_cases program l w h) [

@@ -9,6 +9,7 @@ use Rattle.ppd_ast.specs.declared.plan.Plan.{Plan}
 use Rattle.ppd_ast.specs.declared.plan.Start.TheVariants as start
 use Rattle.ppd_ast.specs.declared.program.Program.{Program}
 use Rattle.ppd_ast.specs.declared.status.Trap.TheVariants.{Depth}
+use Rattle.ppd_ast.specs.Lookups.{kind_of, top_of_body, body_of}
 use Rattle.ppd_beside.specs.Beside.{IsCallOf}
 use Rattle.ppd_sem.specs.declared.asking.Pause.TheVariants.{Wants, Traps}
 use Rattle.ppd_sem.specs.declared.proc.Answer.{Answer}
@@ -19,13 +20,12 @@ use Rattle.ppd_sem.specs.declared.proc.Todo.{Todo}
 use Rattle.ppd_sem.specs.Asked.{Asked}
 use Rattle.ppd_sem.specs.Deed.{Deed, set_local, set_shared, clear, branch, turn, leave, invoke, back, take, give, send, receive, print, pass, finish}
 use Rattle.ppd_sem.specs.Described.{evaluates, value_at, valued}
-use Rattle.ppd_sem.specs.Process.{act_by_asked, act_by_need, call_unit, chan_of, cost, entry_of, head_deed, kind_of, loop_of, need_by_entry, need_by_offer, need_of_asked, need_of_deed, need_of_head, need_of_leaving, need_of_running, need_of_send, offer_of, top_body, top_call, top_cells, top_of}
+use Rattle.ppd_sem.specs.Process.{act_by_asked, act_by_need, call_unit, chan_of, cost, entry_of, head_deed, loop_of, need_by_entry, need_by_offer, need_of_asked, need_of_deed, need_of_head, need_of_leaving, need_of_running, need_of_send, offer_of, top_body, top_call, top_cells}
 use Rattle.ppd_sem.specs.Tables.{block_of, capacity_of, or_zero, unit_of}
 use Rattle.ppd_sem.proofs.Offers.{offer_there}
 use Rattle.ppd_model.specs.declared.tracing.Activation.{Activation}
 use Rattle.ppd_model.specs.FullTrace.{Tag, is_passed, tagged_after, tagged_at, tagged_by}
-use Rattle.ppd_model.proofs.Homes.{body_at, head_of}
-use Rattle.ppd_model.proofs.Homes.{AreTop as AreTopOf, AskedOf as AskedHome, DeedOf as DeedHome}
+use Rattle.ppd_model.proofs.Homes.{head_of, AreTop as AreTopOf, AskedOf as AskedHome, DeedOf as DeedHome}
 use Rattle.ppd_model.proofs.Moves.{leads}
 use Rattle.ppd_model.proofs.TestSteps.{View, all_tagged_views, into_views, tagged_views, views}
 use Rattle.ppd_own_control.proofs.KindDeeds.{AskedFits, DeedFits, IsSimple, asked_fits, leave_fails}
@@ -95,7 +95,7 @@ module _ (program : Program) (plan : Plan) (valid : IsValid program) (a : Answer
 
     calling : (x : Bool) (f : ℕ) (values : List ℤ) (into : Option ℕ) (left : List ℤ)
         → head_deed program t s ≡ Ok (invoke f values into, left) → IsCallOf (kind_of program t.stmt) f
-        → AreTopOf program f (top_of (slice_get program.bodies f))
+        → AreTopOf program f (top_of_body (slice_get program.bodies f))
         → Tells (if x then need.Trap Depth else need.Invoke (block_of plan (block.Function f))
         (unit_of plan (start.Entry f)))
     calling true f values into left at h top = λ runs. absurd (cc)
@@ -113,7 +113,7 @@ module _ (program : Program) (plan : Plan) (valid : IsValid program) (a : Answer
         (Ok (send c value, left)) at (λ runs. passes (refl, refl, refl, refl) h refl refl)
 
     by_deed : (d : Deed) (left : List ℤ) → head_deed program t s ≡ Ok (d, left) → DeedFits (kind_of program t.stmt) d
-        → DeedHome program (body_at program t.stmt) (kind_of program t.stmt) d
+        → DeedHome program (body_of program t.stmt) (kind_of program t.stmt) d
         → Tells (need_of_deed program plan t.stmt s d)
     by_deed (set_local c v) left at h g = moved need.Plain (Ok (set_local c v, left)) at
         (λ runs. passes (refl, refl, refl, refl) h refl (tagged_views c me acts))
@@ -155,7 +155,7 @@ module _ (program : Program) (plan : Plan) (valid : IsValid program) (a : Answer
         (Ok (finish, left)) at (λ runs. absurd (cc))
 
     by_asked : (x : Asked Deed) → head_deed program t s ≡ x → AskedFits (kind_of program t.stmt) x
-        → AskedHome program (body_at program t.stmt) (kind_of program t.stmt) x
+        → AskedHome program (body_of program t.stmt) (kind_of program t.stmt) x
         → Tells (need_of_asked program plan t.stmt s x)
     by_asked (Ok q) at h g = by_deed q.0 q.1 at h g
     by_asked (Err (Wants c)) at h g = λ runs. reads (refl, refl, refl)

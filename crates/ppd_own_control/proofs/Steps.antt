@@ -10,6 +10,7 @@ use Rattle.ppd_ast.specs.declared.program.Expr.{Expr}
 use Rattle.ppd_ast.specs.declared.program.Kind.{Kind}
 use Rattle.ppd_ast.specs.declared.program.Kind.TheVariants as kind
 use Rattle.ppd_ast.specs.declared.program.Program.{Program}
+use Rattle.ppd_ast.specs.Lookups.{kind_of, top_of_body, body_of}
 use Rattle.ppd_beside.specs.Beside.{IsCallOf, IsListOf}
 use Rattle.ppd_sem.specs.declared.proc.Need.{Need}
 use Rattle.ppd_sem.specs.declared.proc.Need.TheVariants as need
@@ -18,17 +19,15 @@ use Rattle.ppd_sem.specs.declared.proc.Todo.{Todo}
 use Rattle.ppd_sem.specs.Ask.{ask}
 use Rattle.ppd_sem.specs.Asked.{Asked, and_then, gives}
 use Rattle.ppd_sem.specs.Deed.{send, ask_deed}
-use Rattle.ppd_sem.specs.Described.{evaluates, trap_of, value_at, valued}
-use Rattle.ppd_sem.specs.Process.{chan_of, kind_of, loop_of, todos, top_body, top_cells, top_of}
+use Rattle.ppd_sem.specs.Described.{evaluates, trap_of, value_at, valued, is_event}
+use Rattle.ppd_sem.specs.Process.{chan_of, loop_of, todos, top_body, top_cells}
 use Rattle.ppd_sem.specs.Runs.{returns}
 use Rattle.ppd_sem.specs.Tables.{block_of}
 use Rattle.ppd_model.specs.declared.tracing.Activation.{Activation}
 use Rattle.ppd_model.specs.FullTrace.{Tag, is_passed, tagged_by}
 use Rattle.ppd_model.specs.Marks.{closed, opened}
 use Rattle.ppd_model.specs.Parents.{is_choice}
-use Rattle.ppd_model.specs.Story.{is_event}
-use Rattle.ppd_model.proofs.Homes.{AllBeside, body_at}
-use Rattle.ppd_model.proofs.Homes.{AreTop as AreTopOf}
+use Rattle.ppd_model.proofs.Homes.{AllBeside, AreTop as AreTopOf}
 use Rattle.ppd_model.proofs.Moves.{AllInner, AreTop, Leads}
 use Rattle.ppd_model.proofs.TestSteps.{View, views}
 use Rattle.ppd_own_control.proofs.KindDeeds.{IsSimple}
@@ -49,7 +48,7 @@ value_in program s t n = if evaluates n then value_at program.exprs (top_cells s
 
 -- statements that stand directly in statement t, in its body
 abbrev pub AreInside : Program → ℕ → List ℕ → Type 0
-AreInside program t stmts = AllInner program t stmts × AllBeside program (body_at program t) stmts
+AreInside program t stmts = AllInner program t stmts × AllBeside program (body_of program t) stmts
 
 -- a loop that goes on is entered, if it is a block
 abbrev pub IsEntered : Plan → Todo → Type 0
@@ -80,8 +79,8 @@ pub data Step (program : Program) (plan : Plan) (s : Proc) (t : Todo) (ts : List
       → AreInside program t.stmt stmts
       → todo ≡ todos stmts ++ t ∷ ts → now ≡ tested → Step program plan s t ts me old tested n todo now
   calls : (f u : ℕ) → n ≡ need.Invoke (block_of plan (block.Function f)) u → IsCallOf (kind_of program t.stmt) f
-      → AreTop program (top_of (slice_get program.bodies f)) → AreTopOf program f (top_of (slice_get program.bodies f))
-      → todo ≡ todos (top_of (slice_get program.bodies f)) ++ ts → now ≡ (me, []) ∷ tested
+      → AreTop program (top_of_body (slice_get program.bodies f)) → AreTopOf program f (top_of_body (slice_get program.bodies f))
+      → todo ≡ todos (top_of_body (slice_get program.bodies f)) ++ ts → now ≡ (me, []) ∷ tested
       → Step program plan s t ts me old tested n todo now
   backs : (u : Option ℕ) → n ≡ need.Back (block_of plan (block.Function (top_body s.frames))) u
       → returns (kind_of program t.stmt) ≡ true
@@ -101,9 +100,9 @@ listed_inside program t (kind.While e body) stmts h is = subst (AllInner program
 listed_inside program t k stmts h is = absurd is
 
 pub called_top : (program : Program) (t : ℕ) (k : Kind) (f : ℕ) → Leads program t k → IsCallOf k f
-    → AreTop program (top_of (slice_get program.bodies f))
+    → AreTop program (top_of_body (slice_get program.bodies f))
 called_top program t (kind.Call g arguments into) f h is = subst
-    (λ i. AreTop program (top_of (slice_get program.bodies i))) (sym is) h
+    (λ i. AreTop program (top_of_body (slice_get program.bodies i))) (sym is) h
 called_top program t k f h is = absurd is
 
 pub while_loop : (plan : Plan) (t : ℕ) (k : Kind) → is_while k ≡ true → loop_of plan t k ≡ block_of plan (block.Loop t)

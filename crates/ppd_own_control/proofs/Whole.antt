@@ -16,8 +16,7 @@ use Rattle.ppd_model.specs.Story.{own_steps, story}
 use Rattle.ppd_model.proofs.Homes.{IsHome, act-home, started-home}
 use Rattle.ppd_model.proofs.LocalTags.{own_steps_told}
 use Rattle.ppd_nested.specs.Stack.{process_block}
-use Rattle.ppd_places.specs.Levels.{IsLater, StandsIn, levels_after}
-use Rattle.ppd_places.specs.Levels.{Level as Place}
+use Rattle.ppd_places.specs.Levels.{IsLater, StandsIn, levels_after, Level as Place}
 use Rattle.ppd_places.proofs.Following.{process_there}
 use Rattle.ppd_places.proofs.Later.{step_stands, steps_later}
 use Rattle.ppd_places.proofs.LeafTells.{begins, process_below, split_is}

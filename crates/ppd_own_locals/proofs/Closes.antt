@@ -3,14 +3,13 @@ use Rattle.std.proofs.Common.{◌≡◌, ℕ, ℤ, true, false, List, [], ◌∷
 use Rattle.std.specs.Prelude.{is_some, option_map, slice_get}
 use Rattle.ppd_ast.specs.declared.plan.Plan.{Plan}
 use Rattle.ppd_ast.specs.declared.program.Program.{Program}
-use Rattle.ppd_sem.specs.Described.{frame_of}
+use Rattle.ppd_sem.specs.Described.{frame_of, is_event}
 use Rattle.ppd_sem.specs.declared.proc.Need.{Need}
 use Rattle.ppd_sem.specs.declared.proc.Need.TheVariants as need
 use Rattle.ppd_sem.specs.declared.proc.Proc.{Proc}
 use Rattle.ppd_model.specs.FullTrace.{Tag, me_in, top_tags}
 use Rattle.ppd_model.specs.Intervals.{Part, own, Span, Split, begin_if, change_first, control_by, end_if, end_span, is_closed, left_by, split_step, with_own, with_step}
 use Rattle.ppd_model.specs.Marks.{Mark, closed, opened}
-use Rattle.ppd_model.specs.Story.{is_event}
 use Rattle.ppd_model.specs.declared.tracing.Story.{Story}
 use Rattle.ppd_model.specs.declared.tracing.Taken.{Taken}
 use Rattle.ppd_model.specs.declared.tracing.Tracing.{Tracing}

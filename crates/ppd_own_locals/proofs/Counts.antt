@@ -1,8 +1,7 @@
 -- How many activations there are, by the levels.
-use Rattle.std.proofs.Common.{◌≡◌, ℕ, suc, ◌+◌, ◌≤◌, Bool, true, false, List, [], ◌∷◌, Option, Some, None, refl, sym, ap, ◌∙◌, map, arith, length, true≢false}
+use Rattle.std.proofs.Common.{◌≡◌, ℕ, suc, ◌+◌, ◌≤◌, List, [], ◌∷◌, Option, Some, None, refl, sym, ap, ◌∙◌, map, arith, length}
 use Rattle.std.proofs.lemmas.List.{length-map}
-use Rattle.std.specs.Prelude.{not}
-use Rattle.ppd_own_locals.specs.ScanTells.{activations, with_own}
+use Rattle.ppd_own_locals.specs.Says.{activations, with_own}
 use Rattle.ppd_ast.specs.declared.plan.BlockKind.{BlockKind}
 use Rattle.ppd_ast.specs.declared.plan.BlockKind.TheVariants as block
 use Rattle.ppd_ast.specs.declared.plan.Plan.{Plan}
@@ -11,7 +10,6 @@ use Rattle.ppd_sem.specs.Blocks.{block_kind}
 use Rattle.ppd_sem.specs.declared.proc.Frame.{Frame}
 use Rattle.ppd_model.specs.Intervals.{Part, Split}
 use Rattle.ppd_model.specs.LocalTags.{HasTags, locals}
-use Rattle.ppd_model.specs.NearIntervals.{is_loop}
 use Rattle.ppd_model.specs.declared.trace.EventId.{EventId}
 use Rattle.ppd_model.specs.declared.tracing.Activation.{Activation}
 use Rattle.ppd_model.specs.declared.tracing.Tracing.{Tracing}
@@ -34,21 +32,10 @@ own_of p ps None P cs g = (cs, g)
 own_of p ps (Some call) P [] g = absurd g
 own_of p ps (Some call) P (c ∷ cs) g = (cs, g.1)
 
--- the bound of the activations that levels tell of, where a loop runs directly inside the first or not
-abbrev pub bound : Program → Plan → Split → Bool → List Level → ℕ
-bound program plan y true ls = activations program plan y ls
-bound program plan y false [] = 0
-bound program plan y false (o ∷ os) = bound program plan y (not (is_loop (block_kind plan o.block))) os
-
 pub with_more : (k : BlockKind) (n : ℕ) → n ≤ with_own k n
 with_more (block.Loop q) n = omega arith
 with_more (block.Function f) n = omega arith
 with_more (block.Process b) n = omega arith
-
-pub own_number : (k : BlockKind) (n : ℕ) → is_loop k ≡ false → with_own k n ≡ suc n
-own_number (block.Loop q) n e = absurd (true≢false e)
-own_number (block.Function f) n e = refl
-own_number (block.Process b) n e = refl
 
 module _ (program : Program) (plan : Plan) (p : ℕ) (y : Split) where
   own_count : (k : BlockKind) (ls : List Level) (ds : List Begun)
@@ -68,28 +55,17 @@ module _ (program : Program) (plan : Plan) (p : ℕ) (y : Split) where
       (with_own (block_kind plan l.block) (activations program plan y ls))
       (λ ds g. own_count (block_kind plan l.block) ls ds (λ es e. begun_count ls es e) g) h
 
-  pub bound_most : (b : Bool) (ls : List Level) → bound program plan y b ls ≤ activations program plan y ls
-  bound_most true ls = omega arith
-  bound_most false [] = omega arith
-  bound_most false (o ∷ os) =
-      let rest : bound program plan y (not (is_loop (block_kind plan o.block))) os ≤ activations program plan y os =
-      bound_most (not (is_loop (block_kind plan o.block))) os in
-      let more : activations program plan y os ≤ with_own (block_kind plan o.block) (activations program plan y os) =
-      with_more (block_kind plan o.block) (activations program plan y os) in
-      omega (arith, rest, more)
-
-  -- the activations told outside a level are below its own
-  pub bound_low : (k : BlockKind) (ls : List Level) (cs : List Begun) → Own program plan p y k ls cs
-      → bound program plan y (not (is_loop k)) ls + 1 ≤ with_own k (activations program plan y ls)
-  bound_low (block.Function f) ls cs g = omega arith
-  bound_low (block.Process b) ls cs g = omega arith
-  bound_low (block.Loop q) [] cs g = absurd g
-  bound_low (block.Loop q) (o ∷ os) cs g =
+  -- a level has an activation of its own, or one that goes on outside it
+  pub some_begun : (k : BlockKind) (ls : List Level) (cs : List Begun) → Own program plan p y k ls cs
+      → 1 ≤ with_own k (activations program plan y ls)
+  some_begun (block.Function f) ls cs g = omega arith
+  some_begun (block.Process b) ls cs g = omega arith
+  some_begun (block.Loop q) [] cs g = absurd g
+  some_begun (block.Loop q) (o ∷ os) cs g =
       let own : (ds : List Begun) × Own program plan p y (block_kind plan o.block) os ds =
       own_of p o.parts (leaf_of program plan y o) (Own program plan p y (block_kind plan o.block) os) cs g in
-      let rest : bound program plan y (not (is_loop (block_kind plan o.block))) os + 1
-      ≤ with_own (block_kind plan o.block) (activations program plan y os) =
-      bound_low (block_kind plan o.block) os own.0 own.1 in
+      let rest : 1 ≤ with_own (block_kind plan o.block) (activations program plan y os) =
+      some_begun (block_kind plan o.block) os own.0 own.1 in
       omega (arith, rest)
 
 -- ---- frames

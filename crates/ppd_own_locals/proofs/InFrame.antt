@@ -11,10 +11,10 @@ use Rattle.ppd_ast.specs.declared.program.Program.{Program}
 use Rattle.ppd_ast.specs.declared.program.Target.TheVariants as T
 use Rattle.ppd_ast.specs.declared.status.Trap.TheVariants.{Index}
 use Rattle.ppd_ast.specs.Term.{Term, const, local, local_at, shared, shared_at, neg, not, two, and, or, term}
+use Rattle.ppd_ast.specs.Lookups.{kind_of_stmt, kind_of}
 use Rattle.ppd_beside.specs.Beside.{Each}
 use Rattle.ppd_sem.specs.Ask.{ask, element, is_zero}
 use Rattle.ppd_sem.specs.Asked.{Asked, and_then, lift, once}
-use Rattle.ppd_sem.specs.Process.{kind_of, kind_or_end}
 use Rattle.ppd_sem.specs.Reads.{ask_place, local_read, reads_of, reads_of_all, reads_of_kind, reads_of_stored, shared_read}
 use Rattle.ppd_sem.specs.Runs.{AreUses, IsOver, IsRunnable, IsRunnableStmt, IsUse, size_of, stmt_size}
 use Rattle.ppd_sem.specs.Within.{IsWithin}
@@ -149,6 +149,6 @@ uses_of p n s h over =
     let found : There (λ _ x. IsRunnableStmt p x) p.stmts s =
     there_at (λ _ x. IsRunnableStmt p x) p.stmts s h.stmts over.there in
     let size : size_of p found.0.body ≡ n = sym (ap (stmt_size p) found.1) ∙ over.size in
-    let kind : found.0.kind ≡ kind_of p s = sym (ap kind_or_end found.1) in
+    let kind : found.0.kind ≡ kind_of p s = sym (ap kind_of_stmt found.1) in
     subst (λ (m : ℕ). AreUses p.exprs m (kind_of p s)) size
     (subst (λ (k : Kind). AreUses p.exprs (size_of p found.0.body) k) kind found.2.uses)

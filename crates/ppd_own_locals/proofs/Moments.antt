@@ -11,10 +11,11 @@ use Rattle.ppd_sem.specs.Process.{need_of, started}
 use Rattle.ppd_sem.specs.declared.proc.Need.{Need}
 use Rattle.ppd_sem.specs.declared.proc.Need.TheVariants as need
 use Rattle.ppd_sem.proofs.Progress.{need_at_status}
+use Rattle.ppd_sem.specs.Described.{is_event}
 use Rattle.ppd_model.specs.FullTrace.{event_of, traced_by}
 use Rattle.ppd_model.specs.Intervals.{Split, begun_split, split_of, split_step, splits}
 use Rattle.ppd_model.specs.LocalTags.{AreOwn}
-use Rattle.ppd_model.specs.Story.{is_event, own_steps, story}
+use Rattle.ppd_model.specs.Story.{own_steps, story}
 use Rattle.ppd_model.specs.declared.tracing.Story.{Story}
 use Rattle.ppd_model.specs.declared.tracing.Taken.{Taken}
 use Rattle.ppd_model.proofs.LocalTags.{own_steps_told}

@@ -8,19 +8,18 @@ use Rattle.ppd_ast.specs.declared.program.Body.{Body}
 use Rattle.ppd_ast.specs.declared.program.Kind.{Kind}
 use Rattle.ppd_ast.specs.declared.program.Kind.TheVariants as kind
 use Rattle.ppd_ast.specs.declared.program.Program.{Program}
+use Rattle.ppd_ast.specs.Lookups.{kind_of, params_of_body}
 use Rattle.ppd_blocks.specs.Blocks.{params_of}
-use Rattle.ppd_sem.specs.Process.{into_of, kind_of, top_call}
+use Rattle.ppd_sem.specs.Process.{into_of, top_call}
 use Rattle.ppd_sem.specs.Runs.{returns}
 use Rattle.ppd_sem.specs.declared.event.Event.{Event}
 use Rattle.ppd_sem.specs.declared.proc.Frame.{Frame}
-use Rattle.ppd_model.specs.Intervals.{Split}
 use Rattle.ppd_model.specs.Synchronizations.{is_number}
 use Rattle.ppd_model.specs.declared.tracing.Activation.{Activation}
-use Rattle.ppd_model.proofs.Homes.{params_if}
 use Rattle.ppd_search.specs.declared.leaf_call.LeafCall.{LeafCall}
 use Rattle.ppd_search.specs.Locals.{begins_leaf, is_leaf_call, receives}
 use Rattle.ppd_places.specs.Leaves.{Begun, First, begun_by}
-use Rattle.ppd_own_locals.proofs.Cells.{returned_to}
+use Rattle.ppd_own_locals.proofs.Cells.Intervals.{returned_to}
 
 pub and_false : (b : Bool) → (b && false) ≡ false
 and_false true = refl
@@ -60,19 +59,15 @@ first_begun [] xs P Q g = absurd g
 first_begun (f ∷ fs) [] P Q g = absurd g
 first_begun (f ∷ fs) (x ∷ xs) P Q g = (record { stmt = f.call; event = x.call }, g.0, refl)
 
-pub params_are : (o : Option Body) → params_of o ≡ range_with_len 0 (params_if o)
+pub params_are : (o : Option Body) → params_of o ≡ range_with_len 0 (params_of_body o)
 params_are None = refl
 params_are (Some b) = refl
 
 -- what a value returns to
-pub returned_is : (program : Program) (plan : Plan) (p : ℕ) (y : Split) (c call : ℕ) (value : Option ℤ)
-    → returned_to program plan p y 0 c call (option_to_list value)
+pub returned_is : (program : Program) (c call : ℕ) (value : Option ℤ)
+    → returned_to program 0 c call (option_to_list value)
     ≡ (is_some value && is_number (into_of (kind_of program call)) c)
-returned_is program plan p y c call None = refl
-returned_is program plan p y c call (Some v) = refl
+returned_is program c call None = refl
+returned_is program c call (Some v) = refl
 
 -- what is begun after the first
-pub second_begun : (P : Begun → Type 0) (Q : List Begun → Type 0) (cs : List Begun) → First P Q cs
-    → (ds : List Begun) × Q ds
-second_begun P Q [] g = absurd g
-second_begun P Q (c ∷ cs) g = (cs, g.1)

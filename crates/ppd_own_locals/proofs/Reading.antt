@@ -1,5 +1,5 @@
 -- Small facts of one read and of the step of an event.
-use Rattle.std.proofs.Common.{◌≡◌, ℕ, zero, suc, ◌+◌, ◌<◌, ◌≤◌, Bool, true, false, nat_lt, List, [], ◌∷◌, Option, Some, None, refl, ap, sym, subst, ◌∙◌, arith, length, true≢false, length-append, inl, inr, if◌then◌else◌}
+use Rattle.std.proofs.Common.{◌≡◌, ℕ, zero, suc, ◌+◌, ◌<◌, ◌≤◌, Bool, true, false, nat_lt, List, [], ◌∷◌, Some, refl, ap, sym, subst, ◌∙◌, arith, length, true≢false, length-append, inl, inr, if◌then◌else◌}
 use Rattle.std.specs.Prelude.{fold, slice_get, zip}
 use Rattle.std.proofs.lemmas.Bool.{cases_lt, lt-ltb, ltb-true}
 use Rattle.std.proofs.lemmas.List.{length-map}
@@ -7,9 +7,10 @@ use Rattle.std.proofs.lemmas.Option.{none-some}
 use Rattle.ppd_ast.specs.Valid.{IsValid}
 use Rattle.ppd_ast.specs.declared.plan.Plan.{Plan}
 use Rattle.ppd_ast.specs.declared.program.Program.{Program}
+use Rattle.ppd_ast.specs.Lookups.{kind_of}
 use Rattle.ppd_facts.proofs.State.{IsState}
-use Rattle.ppd_sem.specs.Described.{evaluates, frame_of}
-use Rattle.ppd_sem.specs.Process.{kind_of, need_of, top_cells}
+use Rattle.ppd_sem.specs.Described.{evaluates, frame_of, is_event}
+use Rattle.ppd_sem.specs.Process.{need_of, top_cells}
 use Rattle.ppd_sem.specs.Reads.{reads_of_kind}
 use Rattle.ppd_sem.specs.declared.event.Access.{Access}
 use Rattle.ppd_sem.specs.declared.event.Spot.TheVariants.{Local}
@@ -20,25 +21,18 @@ use Rattle.ppd_sem.specs.declared.proc.Proc.{Proc}
 use Rattle.ppd_sem.specs.declared.proc.Todo.{Todo}
 use Rattle.ppd_sem.proofs.Running.{head_over}
 use Rattle.ppd_sem.proofs.Validity.{valid-runnable}
+use Rattle.ppd_sem.specs.Runs.{sizes}
 use Rattle.ppd_model.specs.FullTrace.{Tag, answers_past, event_of, tag_at, tags_of, trace_by, trace_step}
 use Rattle.ppd_model.specs.Intervals.{Split, split_step}
-use Rattle.ppd_model.specs.LocalTags.{HasTags, cells_in, locals, sizes}
-use Rattle.ppd_model.specs.Story.{is_event, story}
+use Rattle.ppd_model.specs.LocalTags.{HasTags, cells_in, locals}
+use Rattle.ppd_model.specs.Story.{story}
 use Rattle.ppd_model.specs.declared.tracing.Activation.{Activation}
 use Rattle.ppd_model.specs.declared.tracing.Story.{Story}
 use Rattle.ppd_model.specs.declared.tracing.Taken.{Taken}
 use Rattle.ppd_model.specs.declared.tracing.Tracing.{Tracing}
 use Rattle.ppd_model.proofs.Changes.{some}
 use Rattle.ppd_model.proofs.FromEnd.{hit}
-use Rattle.ppd_model.specs.NearIntervals.{is_loop}
-use Rattle.ppd_ast.specs.declared.plan.BlockKind.{BlockKind}
-use Rattle.ppd_search.specs.declared.leaf_call.LeafCall.{LeafCall}
-use Rattle.ppd_search.specs.Locals.{frame_in}
-use Rattle.ppd_own_locals.specs.ScanTells.{with_own}
-use Rattle.ppd_own_locals.proofs.Counts.{own_number}
-use Rattle.ppd_own_locals.proofs.Stepping.{base}
 use Rattle.ppd_own_locals.proofs.InFrame.{AllIn, kinds_in, uses_of}
-use Rattle.ppd_own_locals.proofs.Origins.{number_by}
 
 pub local_is : (ls answers : List Tag) (as' : List Access) (i : ℕ) (a : Access) (w : Tag) (f c : ℕ)
     → slice_get (zip as' (tags_of ls answers as')) i ≡ Some (a, w) → a.spot ≡ Local f c
@@ -80,13 +74,6 @@ pub trace_is : (program : Program) (pl : Plan) (story : Story) (p : ℕ) (x : Sp
     → (fold (split_step program pl story p) x steps).trace ≡ fold (trace_step program pl story p) x.trace steps
 trace_is program pl story p x [] = refl
 trace_is program pl story p x (t ∷ ts) = trace_is program pl story p (split_step program pl story p x t) ts
-
--- the activation that goes on is the top one
-pub number_top : (o : Option LeafCall) (k : BlockKind) (n a frames : ℕ) → with_own k n ≡ suc a
-    → (frame_in o ≡ 0 → is_loop k ≡ false) → frames ≡ a + 1 + frame_in o → number_by o k n + 1 ≡ frames
-number_top None k n a frames base isnt h = let one : with_own k n ≡ suc n =
-    own_number k n (isnt refl) in omega (arith, one, base, h)
-number_top (Some call) k n a frames base isnt h = omega (arith, base, h)
 
 -- ---- the step of an event
 

@@ -7,13 +7,14 @@ use Rattle.ppd_ast.specs.declared.program.Kind.{Kind}
 use Rattle.ppd_ast.specs.declared.program.Kind.TheVariants as kind
 use Rattle.ppd_ast.specs.declared.program.Program.{Program}
 use Rattle.ppd_ast.specs.Term.{term}
-use Rattle.ppd_course.proofs.Deeds.{DeedFits, Fits, deed_fits}
+use Rattle.ppd_ast.specs.Lookups.{kind_of}
+use Rattle.ppd_step_laws.proofs.Course.Deeds.{DeedFits, Fits, deed_fits}
 use Rattle.ppd_sem.specs.Ask.{ask}
 use Rattle.ppd_sem.specs.Asked.{Asked, and_then, gives, outcome}
 use Rattle.ppd_sem.specs.Deed.{Deed, back, invoke, ask_deed}
 use Rattle.ppd_sem.specs.Described.{evaluates, value_at, value_if, valued}
 use Rattle.ppd_sem.specs.Passed.{result_at, result_by, result_of_head}
-use Rattle.ppd_sem.specs.Process.{head_deed, kind_of, need_of, top_call, top_cells}
+use Rattle.ppd_sem.specs.Process.{head_deed, need_of, top_call, top_cells}
 use Rattle.ppd_sem.specs.Runs.{returns}
 use Rattle.ppd_sem.specs.declared.proc.Proc.{Proc}
 use Rattle.ppd_sem.specs.declared.proc.Todo.{Todo}

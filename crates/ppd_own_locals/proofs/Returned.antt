@@ -156,8 +156,17 @@ left_other : (plan : Plan) (me : EventId) (tags : List Tag) (n : Need) → ((b u
 left_other pl me tags (need.Leave b u) other = absurd (other b u refl)
 left_other pl me tags n other = refl
 
-pub returns_found : ReturnsAreFound
-returns_found program policy budget h p m y i w v at there is_so no_loop w_is =
+-- a function's interval that is left has the tag of its return
+pub left_by_return : (program : Program) (policy : Policy) (budget : ℕ) (h : List ℕ) (p m : ℕ) (y : Split) (i : Span)
+    (v : IsValid program)
+    (at : slice_get (splits program (plan_of program policy) budget
+    (story program (plan_of program policy) budget h)) p ≡ Some y)
+    (there : slice_get y.spans m ≡ Some i) (is_so : is_closed i ≡ true)
+    → is_loop (block_kind (plan_of program policy) i.block) ≡ false
+    → i.left ≡ Some (me_in p (split_of program (plan_of program policy) budget
+    (story program (plan_of program policy) budget h) p
+    (leaving program policy budget h p m y i v at there is_so).before).trace) ∷ []
+left_by_return program policy budget h p m y i v at there is_so no_loop =
     let plan : Plan = plan_of program policy in
     let s : Story = story program plan budget h in
     let turn = leaving program policy budget h p m y i v at there is_so in
@@ -172,11 +181,21 @@ returns_found program policy budget h p m y i w v at there is_so no_loop w_is =
     (λ n. is_some (closed program plan x.trace.proc n)) refl c.closes in
     let mine : t.need ≡ need_of program plan x.trace.proc =
     need_is program policy budget h p y v at turn.before t turn.after turn.steps_are in
-    let left : i.left ≡ Some (me_in p x.trace) ∷ [] =
     c.left_are ∙ left_other plan (me_in p x.trace) (top_tags x.trace.activations) t.need
     (λ b u e. true≢false (sym
     (loop_left program policy s p y (all_whole program policy budget h p y v at) x t c.level c.others b u v f
-    mine e runs) ∙ ap (λ k. is_loop (block_kind plan k)) (sym c.block_is) ∙ no_loop)) in
+    mine e runs) ∙ ap (λ k. is_loop (block_kind plan k)) (sym c.block_is) ∙ no_loop))
+
+pub returns_found : ReturnsAreFound
+returns_found program policy budget h p m y i w v at there is_so no_loop w_is =
+    let plan : Plan = plan_of program policy in
+    let s : Story = story program plan budget h in
+    let turn = leaving program policy budget h p m y i v at there is_so in
+    let x : Split = split_of program plan budget s p turn.before in
+    let t : Taken = turn.taken in
+    let c = closing_step program policy budget h p m y i v at there is_so in
+    let left : i.left ≡ Some (me_in p x.trace) ∷ [] =
+    left_by_return program policy budget h p m y i v at there is_so no_loop in
     let tag : w ≡ Some (me_in p x.trace) = some (sym w_is ∙ ap (λ ts. slice_get ts 0) left) in
     let event = event_at program policy budget h p y v at turn.before t turn.after turn.steps_are c.event in
     let whole : HasWholeItems (splits program plan budget s) y p = items_whole program plan budget h p y v at in

@@ -8,14 +8,15 @@ use Rattle.ppd_ast.specs.declared.plan.Plan.{Plan}
 use Rattle.ppd_ast.specs.declared.plan.Policy.{Policy}
 use Rattle.ppd_ast.specs.declared.program.Program.{Program}
 use Rattle.ppd_ast.specs.declared.status.Trap.{Trap as TrapOf}
+use Rattle.ppd_ast.specs.Lookups.{kind_of}
 use Rattle.ppd_blocks.specs.Blocks.{plan_of}
 use Rattle.ppd_nested.proofs.DeedKinds.{while_stays}
 use Rattle.ppd_places.proofs.Calling.{while_no_call}
 use Rattle.ppd_sem.specs.Asked.{Asked}
 use Rattle.ppd_sem.specs.Blocks.{block_kind}
 use Rattle.ppd_sem.specs.Deed.{Deed, leave}
-use Rattle.ppd_sem.specs.Described.{frame_of, trap_of, writes_by}
-use Rattle.ppd_sem.specs.Process.{head_deed, kind_of, need_of}
+use Rattle.ppd_sem.specs.Described.{frame_of, trap_of, writes_by, is_event}
+use Rattle.ppd_sem.specs.Process.{head_deed, need_of}
 use Rattle.ppd_sem.specs.declared.event.Access.{Access}
 use Rattle.ppd_sem.specs.declared.proc.Answer.{Answer}
 use Rattle.ppd_sem.specs.declared.proc.Proc.{Proc}
@@ -23,7 +24,6 @@ use Rattle.ppd_sem.specs.declared.proc.Todo.{Todo}
 use Rattle.ppd_model.specs.FullTrace.{event_of, trace_step}
 use Rattle.ppd_model.specs.Intervals.{nested, Span, Split, split_step}
 use Rattle.ppd_model.specs.LocalTags.{HasTags, TagsItsWrites, cells_in, is_cell, is_in_writes, is_local_write, is_received, local_tag}
-use Rattle.ppd_model.specs.Story.{is_event}
 use Rattle.ppd_model.specs.declared.tracing.Story.{Story}
 use Rattle.ppd_model.specs.declared.tracing.Taken.{Taken}
 use Rattle.ppd_model.proofs.LocalSteps.{tags_its_writes}
@@ -35,10 +35,10 @@ use Rattle.ppd_places.specs.Leaves.{leaf_of}
 use Rattle.ppd_places.proofs.Moves.{IsLeft}
 use Rattle.ppd_places.proofs.Opening.{leaf_interval}
 use Rattle.ppd_places.proofs.Whole.{AreWhole}
-use Rattle.ppd_own_locals.specs.ScanTells.{Says, activations, with_own}
+use Rattle.ppd_own_locals.specs.Says.{Says, activations, with_own}
 use Rattle.ppd_own_locals.proofs.Received.{received_other}
-use Rattle.ppd_own_loops.specs.LoopTells.{LoopTells}
-use Rattle.ppd_own_loops.proofs.Origins.{number_at, origin_at}
+use Rattle.ppd_own_locals.specs.LoopTells.{LoopTells}
+use Rattle.ppd_own_locals.proofs.Origins.{number_at, origin_at}
 
 -- a test that fails writes nothing
 none_written : (o : Option TrapOf) (f : ℕ) (a : Answer) (x : Asked Deed) (left : List ℤ) → x ≡ Ok (leave, left)

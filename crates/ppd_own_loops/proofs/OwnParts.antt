@@ -1,6 +1,6 @@
 -- Of each item what is found within the process is as the model has it.
-use Rattle.std.proofs.Common.{◌≡◌, ℕ, ◌+◌, ℤ, suc, Bool, true, false, List, [], ◌∷◌, ◌++◌, Some, None, refl, ap, ap₂, sym, subst, ◌∙◌, map, true≢false}
-use Rattle.std.specs.Prelude.{is_some, slice_get}
+use Rattle.std.proofs.Common.{◌≡◌, ℕ, ◌+◌, ℤ, suc, Bool, true, false, List, [], ◌∷◌, ◌++◌, Some, None, refl, ap, ap₂, sym, subst, ◌∙◌, map}
+use Rattle.std.specs.Prelude.{slice_get}
 use Rattle.std.proofs.lemmas.Option.{none-some}
 use Rattle.ppd_ast.specs.Valid.{IsValid}
 use Rattle.ppd_ast.specs.declared.plan.BlockKind.{BlockKind}
@@ -9,78 +9,26 @@ use Rattle.ppd_ast.specs.declared.plan.Plan.{Plan}
 use Rattle.ppd_ast.specs.declared.plan.Policy.{Policy}
 use Rattle.ppd_ast.specs.declared.program.Program.{Program}
 use Rattle.ppd_blocks.specs.Blocks.{plan_of}
-use Rattle.ppd_nested.specs.Stack.{process_block}
-use Rattle.ppd_nested.proofs.Planned.{kind_is}
 use Rattle.ppd_sem.specs.Blocks.{block_kind, postlog_cells}
-use Rattle.ppd_sem.specs.Process.{act, need_of}
 use Rattle.ppd_sem.specs.declared.event.Spot.TheVariants.{Local}
-use Rattle.ppd_sem.specs.declared.proc.Need.{Need}
-use Rattle.ppd_sem.specs.declared.proc.Need.TheVariants as need
-use Rattle.ppd_sem.specs.declared.proc.Todo.{Todo}
 use Rattle.ppd_model.specs.declared.flow.EdgeKind.TheVariants.{Left, Returned, Control}
 use Rattle.ppd_model.specs.declared.flow.FlowEdge.{FlowEdge}
 use Rattle.ppd_model.specs.declared.flow.Origin.{Origin}
-use Rattle.ppd_model.specs.declared.trace.EventId.{EventId}
 use Rattle.ppd_model.specs.FlowbackEdges.{bare_edge, edges_of_nested as model_nested, from_parent, from_writer, left_edges as model_left, part_at, result_edges, returned_edges as model_returned}
-use Rattle.ppd_model.specs.FullTrace.{Tag, me_in, top_tags}
-use Rattle.ppd_model.specs.Intervals.{nested, Span, Split, is_closed, left_by, split_of, splits}
-use Rattle.ppd_model.specs.Logs.{status_of}
-use Rattle.ppd_model.specs.Marks.{closed}
+use Rattle.ppd_model.specs.FullTrace.{Tag, me_in}
+use Rattle.ppd_model.specs.Intervals.{nested, Span, Split, is_closed, split_of, splits}
 use Rattle.ppd_model.specs.NearIntervals.{is_loop}
 use Rattle.ppd_model.specs.Story.{own_steps, story}
-use Rattle.ppd_model.specs.declared.tracing.Story.{Story}
-use Rattle.ppd_model.specs.declared.tracing.Taken.{Taken}
 use Rattle.ppd_search.specs.Locals.{local_origin}
 use Rattle.ppd_search.specs.Own.{edges_of_nested, frame_at, left_edges, returned_edges}
 use Rattle.ppd_search.specs.Seen.{seen_of}
-use Rattle.ppd_places.specs.Closing.{closing}
-use Rattle.ppd_places.specs.Levels.{Level}
-use Rattle.ppd_places.specs.Leaves.{leaf_of, open_at}
-use Rattle.ppd_places.proofs.Following.{IsFollowed, something}
-use Rattle.ppd_places.proofs.LeafTells.{all_whole, followed_at, split_is}
-use Rattle.ppd_places.proofs.Opening.{first_block}
-use Rattle.ppd_places.proofs.Steps.{IsStep, step_is}
-use Rattle.ppd_places.proofs.Whole.{AreWhole}
+use Rattle.ppd_places.proofs.LeafTells.{split_is}
 use Rattle.ppd_own_control.proofs.Whole.{controls_found}
-use Rattle.ppd_own_locals.proofs.Moments.{need_is, running}
-use Rattle.ppd_own_locals.proofs.Returned.{closing_step, leaving, returns_found}
+use Rattle.ppd_own_locals.proofs.Returned.{leaving, left_by_return, returns_found}
 use Rattle.ppd_own_loops.specs.AllOwnParts.{AllOwnPartsAreFound}
-use Rattle.ppd_own_loops.proofs.LocalReads.{reads_found}
+use Rattle.ppd_own_locals.proofs.LocalReads.{all_reads_found}
 use Rattle.ppd_own_loops.proofs.LoopsLeft.{IsLeftFrom, left_from}
-use Rattle.ppd_own_loops.proofs.OpenSpans.{are_empty}
-
--- a step that leaves a loop leaves a loop's block
-loop_left : (program : Program) (policy : Policy) (story' : Story) (p : ℕ) (y : Split) (whole : AreWhole y)
-    (x : Split) (taken : Taken) (l : Level) (others : List Level) (b u : ℕ) → (v : IsValid program)
-    → IsFollowed program policy v story' p y whole x (l ∷ others)
-    → taken.need ≡ need_of program (plan_of program policy) x.trace.proc → taken.need ≡ need.Leave b u
-    → x.trace.proc.status ≡ None
-    → is_loop (block_kind (plan_of program policy) l.block) ≡ true
-loop_left program policy story' p y whole x taken l others b u v f mine is runs = by x.trace.proc.todo refl
-  where
-    by : (todo : List Todo) → x.trace.proc.todo ≡ todo → is_loop (block_kind (plan_of program policy) l.block) ≡ true
-    by [] e = absurd (something program (plan_of program policy) p x.trace.proc f.order runs e)
-    by (k ∷ ks) e =
-        let need_is : need_of program (plan_of program policy) x.trace.proc ≡ need.Leave b u = sym mine ∙ is in
-        let st : IsStep program (plan_of program policy) story' p taken x.trace k (need.Leave b u) =
-        subst (IsStep program (plan_of program policy) story' p taken x.trace k) need_is
-        (step_is program (plan_of program policy) story' p taken x.trace k ks v f.order runs e mine
-        (ap status_of need_is)) in
-        let first = first_block (leaf_of program (plan_of program policy) y l) l.block b
-        (open_at program (plan_of program policy) y others)
-        (closing program (plan_of program policy)
-        (act program (plan_of program policy) x.trace.proc taken.answer).todo ++ Some
-        (process_block program (plan_of program policy) p) ∷ [])
-        ((f.told runs).open_is
-        ∙ ap (λ c. c ++ Some (process_block program (plan_of program policy) p) ∷ []) st.moves) in
-        ap (λ c. is_loop (block_kind (plan_of program policy) c)) first.1
-        ∙ ap is_loop (kind_is program policy (block.Loop k.stmt) b st.of.block)
-
--- what another step leaves
-left_other : (plan : Plan) (me : EventId) (tags : List Tag) (n : Need) → ((b u : ℕ) → n ≡ need.Leave b u → ⊥)
-    → left_by plan me tags n ≡ Some me ∷ []
-left_other pl me tags (need.Leave b u) other = absurd (other b u refl)
-left_other pl me tags n other = refl
+use Rattle.ppd_own_locals.proofs.OpenSpans.{are_empty}
 
 -- a function's interval that is left has the tag of its return
 function_left : (program : Program) (policy : Policy) (budget : ℕ) (h : List ℕ) (p m : ℕ) (y : Split) (i : Span)
@@ -89,27 +37,11 @@ function_left : (program : Program) (policy : Policy) (budget : ℕ) (h : List �
     ≡ Some y
     → slice_get y.spans m ≡ Some i → is_closed i ≡ true → is_loop (block_kind (plan_of program policy) i.block) ≡ false
     → (w : Tag) × (i.left ≡ w ∷ [])
-function_left program policy budget h p m y i v at there is_so no_loop =
-    let plan : Plan = plan_of program policy in
-    let s : Story = story program plan budget h in
-    let turn = leaving program policy budget h p m y i v at there is_so in
-    let x : Split = split_of program plan budget s p turn.before in
-    let t : Taken = turn.taken in
-    let c = closing_step program policy budget h p m y i v at there is_so in
-    let f : IsFollowed program policy v s p y (all_whole program policy budget h p y v at) x (c.level ∷ c.others) =
-    subst (IsFollowed program policy v s p y (all_whole program policy budget h p y v at) x) c.levels_are
-    (followed_at program policy budget h p y v at turn.before (t ∷ turn.after) turn.steps_are) in
-    let runs : x.trace.proc.status ≡ None =
-    running program policy budget h p y v at turn.before t turn.after turn.steps_are
-    (λ n. is_some (closed program plan x.trace.proc n)) refl c.closes in
-    let mine : t.need ≡ need_of program plan x.trace.proc =
-    need_is program policy budget h p y v at turn.before t turn.after turn.steps_are in (
-      Some (me_in p x.trace),
-      c.left_are ∙ left_other plan (me_in p x.trace) (top_tags x.trace.activations) t.need
-          (λ b u e. true≢false (sym
-          (loop_left program policy s p y (all_whole program policy budget h p y v at) x t c.level c.others b u v f
-          mine e runs) ∙ ap (λ k. is_loop (block_kind plan k)) (sym c.block_is) ∙ no_loop)),
-    )
+function_left program policy budget h p m y i v at there is_so no_loop = (
+  Some (me_in p (split_of program (plan_of program policy) budget (story program (plan_of program policy) budget h) p
+      (leaving program policy budget h p m y i v at there is_so).before).trace),
+  left_by_return program policy budget h p m y i v at there is_so no_loop,
+)
 
 module _ (program : Program) (plan : Plan) (xs : List Split) (y : Split) (p k j : ℕ) where
   no_values : (frame : ℕ) (cells : List ℕ) → left_edges program plan (seen_of y) p k j frame cells [] ≡ []
@@ -202,7 +134,7 @@ module _ (program : Program) (policy : Policy) (budget : ℕ) (h : List ℕ) (p 
 pub own_parts : AllOwnPartsAreFound
 own_parts program policy budget h p k j x v at = record {
   locals = λ n i frame c e a w part traced read local.
-      reads_found program policy budget h p k j n i x e a w frame c v at part traced read local;
+      all_reads_found program policy budget h p k j n i x e a w frame c v at part traced read local;
   control = λ n e part traced. (controls_found program policy budget h p x v at k j).event n e part traced;
   inside = λ m i part there. nested_found program policy budget h p k j x v at m i part there;
 }

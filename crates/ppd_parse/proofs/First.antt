@@ -1,7 +1,7 @@
 -- The first token of a symbol says how it is made up.
 use Rattle.std.proofs.Common.{◌≡◌, ℕ, Bool, true, false, List, ◌∷◌, length, refl, sym, ◌∙◌, ap, cond}
-use Rattle.ppd_parse.specs.declared.symbol.Kind.{Kind}
-use Rattle.ppd_parse.specs.declared.symbol.Kind.TheVariants as K
+use Rattle.ppd_lex.specs.declared.token.Kind.{Kind}
+use Rattle.ppd_lex.specs.declared.token.Kind.TheVariants as K
 use Rattle.ppd_parse.specs.declared.symbol.Level.{Level}
 use Rattle.ppd_parse.specs.declared.symbol.Rule.{Rule}
 use Rattle.ppd_parse.specs.declared.symbol.Symbol.{Symbol}
@@ -10,7 +10,8 @@ use Rattle.ppd_parse.specs.declared.symbol.At.{At}
 use Rattle.ppd_parse.specs.declared.symbol.Want.{Want}
 use Rattle.ppd_parse.specs.declared.symbol.Want.TheVariants.{Get, Close}
 use Rattle.ppd_parse.specs.Grammar.{Shape, close, Marked, kind_at, is_operator, Production, parts, Stands, wants_in, base_in, ReadsAll, exact, operator, wrap, by, next, operand, chain_end, chain_more, source, items_end, items_shared, items_sems, items_chans, items_function, items_process, shared, shared_end, shared_more, shared_item, no_start, start, shared_length, start_plain, start_minus, sems, no_sem_start, sem_start, sems_end, sems_more, chans, chans_end, chans_more, function_int, function_void, no_params, some_params, params_void, params_int, params_end, params_more, process, block, stmts_end, stmts_local, stmts_more, local, local_end, local_more, local_item, no_local_start, local_start, local_length, value_recv, value_plain, call_or_name, other_expr, named_call, named_expr, no_args, some_args, args_end, args_more, place, no_index, index, change, assign, add, subtract, increase, decrease, expr, expr_rest, unary_place, unary_other, minus, negation, parens, number, stmt_block, stmt_empty, stmt_name, stmt_if, stmt_while, stmt_for, stmt_return, stmt_take, stmt_give, stmt_send, stmt_print, stmt_assert, rest_call, rest_element, rest_scalar, rest_assign, rest_add, rest_subtract, rest_increase, rest_decrease, assigned_recv, assigned_name, assigned_other, assigned_call, assigned_expr, no_else, some_else, for_plain, for_local, for_change, for_ever, for_while, for_still, for_step, return_plain, return_value}
-use Rattle.ppd_parse.specs.Choice.{chosen, choose, choose_chain, choose_source, choose_items, choose_shared, choose_shared_items, choose_shared_item, choose_shared_start, choose_start_value, choose_sems, choose_sem_start, choose_sem_items, choose_chans, choose_chan_items, choose_function, choose_params_end, choose_params, choose_param_items, choose_process, choose_block, choose_stmts, choose_local, choose_local_items, choose_local_item, choose_local_start, choose_value, choose_call_or_expr, choose_named_rest, choose_args, choose_args_more, choose_place, choose_place_end, choose_change, choose_change_end, choose_expr, choose_expr_rest, choose_unary, choose_other_unary, choose_stmt, choose_stmt_rest, choose_place_rest, choose_assigned, choose_assigned_rest, choose_else_part, choose_for_start, choose_for_test, choose_for_step, choose_return_end}
+use Rattle.ppd_parse.specs.Choice.{chosen, choose_chain, choose_source, choose_items, choose_shared, choose_shared_items, choose_shared_item, choose_shared_start, choose_start_value, choose_sems, choose_sem_start, choose_sem_items, choose_chans, choose_chan_items, choose_function, choose_params_end, choose_params, choose_param_items, choose_process, choose_block, choose_stmts, choose_local, choose_local_items, choose_local_item, choose_local_start, choose_value, choose_call_or_expr, choose_named_rest, choose_args, choose_args_more, choose_place, choose_place_end, choose_change, choose_change_end, choose_expr, choose_expr_rest, choose_unary, choose_other_unary, choose_stmt, choose_stmt_rest, choose_place_rest, choose_assigned, choose_assigned_rest, choose_else_part, choose_for_start, choose_for_test, choose_for_step, choose_return_end}
+use Rattle.ppd_parse.proofs.Choices.{choose}
 
 pub first_exact : {k : Kind} {a : At} {b : ℕ} {ws : List Want} {s t : List Shape} {x : Marked} {ts rest : List Marked} → ReadsAll (Get (S.Exact k) a b ∷ ws) s (x ∷ ts) t rest → kind_at x ≡ k
 first_exact (next (exact e m) rs) = e

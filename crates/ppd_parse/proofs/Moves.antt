@@ -2,21 +2,23 @@
 use Rattle.std.proofs.Common.{◌≡◌, ◌≢◌, ℕ, true, false, List, [], ◌∷◌, ◌++◌, length, reverse, Some, None, refl, sym, ◌∙◌, ap, subst, arith}
 use Rattle.std.proofs.lemmas.List.{reverse-append, reverse-reverse}
 use Rattle.ppd_lex.specs.declared.token.Token.{Token}
-use Rattle.ppd_parse.specs.declared.symbol.Kind.{Kind}
-use Rattle.ppd_parse.specs.declared.symbol.Kind.TheVariants as K
+use Rattle.ppd_lex.specs.declared.token.Kind.{Kind}
+use Rattle.ppd_lex.specs.declared.token.Kind.TheVariants as K
 use Rattle.ppd_parse.specs.declared.symbol.Level.{Level}
 use Rattle.ppd_parse.specs.declared.symbol.Level.TheVariants as L
 use Rattle.ppd_parse.specs.declared.symbol.Rule.{Rule}
 use Rattle.ppd_parse.specs.declared.symbol.Symbol.{Symbol}
 use Rattle.ppd_parse.specs.declared.symbol.Symbol.TheVariants as S
 use Rattle.ppd_parse.specs.declared.symbol.At.{At}
+use Rattle.ppd_parse.specs.declared.symbol.Part.{Part}
 use Rattle.ppd_parse.specs.declared.symbol.Want.{Want}
 use Rattle.ppd_parse.specs.declared.symbol.Want.TheVariants.{Get, Close}
 use Rattle.ppd_parse.specs.declared.growth.Step.TheVariants as M
 use Rattle.ppd_parse.specs.Grammar.{Shape, leaf, close, Marked, kind_of, is_operator, Production, parts, wants_in, base_in, ReadsAll, exact, operator, wrap, next}
-use Rattle.ppd_parse.specs.Choice.{Choice, chosen, refused, choose, expansion, parts_if, pushed, stack_with}
+use Rattle.ppd_parse.specs.Choice.{Choice, chosen, refused, expansion, parts_if, pushed}
 use Rattle.ppd_parse.specs.Machine.{State, SameAt, IsDead, Shifts, Advanced, IsTerminal}
 use Rattle.ppd_parse.specs.Stack.{IsGood, IsOver}
+use Rattle.ppd_parse.proofs.Choices.{choose, expansion_chosen}
 use Rattle.ppd_parse.proofs.Ranked.{few, ranked, read_exact, read_operator}
 use Rattle.ppd_parse.proofs.Sample.{good_exact, good_unfolded}
 use Rattle.ppd_parse.proofs.Unfolded.{exact_to, operator_to, wrap_to, unfold_to, unfold_from, unfold_none}
@@ -85,20 +87,21 @@ module _ (token : Token) (y : Symbol) (a : At) (b c : ℕ) (olds : List Want) (s
   turned : (ws : List Want) → reverse (olds ++ reverse ws) ≡ ws ++ reverse olds
   turned ws = reverse-append olds (reverse ws) ∙ ap (λ z. z ++ reverse olds) (reverse-reverse ws)
 
-  pub unfold_moves : (news : List Want) → stack_with olds a c (expansion y (kind_of token.kind)) ≡ Some news → IsGood (Get y a b ∷ reverse olds) → Advanced token M.Moved (record { wants = Get y a b ∷ reverse olds; shapes = s }) (record { wants = reverse news; shapes = s })
+  pub unfold_moves : (ps : List Part) (news : List Want) → expansion y (kind_of token.kind) ≡ Some ps → news ≡ pushed olds a c ps → IsGood (Get y a b ∷ reverse olds) → Advanced token M.Moved (record { wants = Get y a b ∷ reverse olds; shapes = s }) (record { wants = reverse news; shapes = s })
   unfolding pushed
-  unfold_moves news e good = go (choose y (kind_of token.kind)) refl e
+  unfold_moves ps news e new good = go (choose y (kind_of token.kind)) refl (sym (expansion_chosen y (kind_of token.kind)) ∙ e)
     where
-      go : (ch : Choice y) → choose y (kind_of token.kind) ≡ ch → stack_with olds a c (parts_if ch) ≡ Some news → Advanced token M.Moved (record { wants = Get y a b ∷ reverse olds; shapes = s }) (record { wants = reverse news; shapes = s })
+      go : (ch : Choice y) → choose y (kind_of token.kind) ≡ ch → parts_if ch ≡ Some ps → Advanced token M.Moved (record { wants = Get y a b ∷ reverse olds; shapes = s }) (record { wants = reverse news; shapes = s })
       go (chosen p) k h =
-          let same : news ≡ olds ++ reverse (wants_in a c (parts p)) = cc in
+          let these : parts p ≡ ps = cc in
+          let same : news ≡ olds ++ reverse (wants_in a c (parts p)) = new ∙ ap (λ qs. olds ++ reverse (wants_in a c qs)) (sym these) in
           subst (λ (ws : List Want). Advanced token M.Moved (record { wants = Get y a b ∷ reverse olds; shapes = s }) (record { wants = ws; shapes = s })) (sym (ap reverse same ∙ turned (wants_in a c (parts p)))) (unfolded p k good)
       go refused k h = cc
 
-  pub unfold_refused : stack_with olds a c (expansion y (kind_of token.kind)) ≡ None → IsDead (kind_of token.kind) (record { wants = Get y a b ∷ reverse olds; shapes = s })
-  unfold_refused e = go (choose y (kind_of token.kind)) refl e
+  pub unfold_refused : expansion y (kind_of token.kind) ≡ None → IsDead (kind_of token.kind) (record { wants = Get y a b ∷ reverse olds; shapes = s })
+  unfold_refused e = go (choose y (kind_of token.kind)) refl (sym (expansion_chosen y (kind_of token.kind)) ∙ e)
     where
-      go : (ch : Choice y) → choose y (kind_of token.kind) ≡ ch → stack_with olds a c (parts_if ch) ≡ None → IsDead (kind_of token.kind) (record { wants = Get y a b ∷ reverse olds; shapes = s })
+      go : (ch : Choice y) → choose y (kind_of token.kind) ≡ ch → parts_if ch ≡ None → IsDead (kind_of token.kind) (record { wants = Get y a b ∷ reverse olds; shapes = s })
       go (chosen p) k h x ts f d r = cc
       go refused k h x ts f d r = unfold_none y a b (reverse olds) s x ts f inner (ap (choose y) d ∙ k) r
 

@@ -1,16 +1,15 @@
 -- Tokens have one refusal at most, want of memory aside.
 use Rattle.std.specs.Prelude.{take}
-use Rattle.std.proofs.Common.{◌≡◌, ◌≢◌, ℕ, zero, suc, ◌<◌, ◌≤◌, ◌+◌, List, [], ◌∷◌, ◌++◌, length, map, refl, sym, ◌∙◌, ap, subst, arith, inl, inr, ◌⊎◌}
+use Rattle.std.proofs.Common.{◌≡◌, ℕ, zero, suc, ◌<◌, ◌≤◌, List, [], ◌∷◌, ◌++◌, length, refl, sym, ◌∙◌, ap, subst, arith, inl, inr}
 use Rattle.std.proofs.lemmas.Bool.{cases_lt}
 use Rattle.std.proofs.lemmas.List.{append_assoc, length-map, map-append}
 use Rattle.ppd_ast.specs.declared.program.Place.{Place}
 use Rattle.ppd_lex.specs.declared.token.Token.{Token}
-use Rattle.ppd_parse.specs.declared.error.SyntaxError.{SyntaxError}
 use Rattle.ppd_parse.specs.declared.error.SyntaxError.TheVariants as E
 use Rattle.ppd_parse.specs.Grammar.{Shape, Marked, tokens_of}
 use Rattle.ppd_parse.specs.Language.{IsProgram}
 use Rattle.ppd_parse.specs.Laws.{HaveOneRefusal}
-use Rattle.ppd_parse.specs.Limits.{count_with, count_after, KeepLimits, token_at, BreaksDepth, BreaksWidth, IsUnexpected, IsPast, IsRefused}
+use Rattle.ppd_parse.specs.Limits.{count_with, count_after, KeepLimits, token_at, BreaksDepth, BreaksWidth, IsUnexpected, IsPast}
 use Rattle.ppd_parse.proofs.Excluded.{kept_at}
 
 -- ---- lists

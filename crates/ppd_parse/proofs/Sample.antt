@@ -2,8 +2,8 @@
 use Rattle.std.proofs.Common.{◌≡◌, ◌<◌, ◌≤◌, ◌+◌, ℕ, zero, suc, pos, Bool, true, false, List, [], ◌∷◌, ◌++◌, length, refl, sym, ◌∙◌, ap, subst, arith}
 use Rattle.ppd_lex.specs.declared.token.TokenKind.{TokenKind}
 use Rattle.ppd_lex.specs.declared.token.TokenKind.TheVariants as T
-use Rattle.ppd_parse.specs.declared.symbol.Kind.{Kind}
-use Rattle.ppd_parse.specs.declared.symbol.Kind.TheVariants as K
+use Rattle.ppd_lex.specs.declared.token.Kind.{Kind}
+use Rattle.ppd_lex.specs.declared.token.Kind.TheVariants as K
 use Rattle.ppd_parse.specs.declared.symbol.Level.{Level}
 use Rattle.ppd_parse.specs.declared.symbol.Level.TheVariants as L
 use Rattle.ppd_parse.specs.declared.symbol.Symbol.{Symbol}
@@ -291,51 +291,7 @@ abbrev kind_for : Kind → TokenKind
 kind_for K.Name = T.Name (97 ∷ [])
 kind_for K.Number = T.Number (pos 0)
 kind_for K.End = T.End
-kind_for K.SharedWord = T.Word 0
-kind_for K.IntWord = T.Word 1
-kind_for K.VoidWord = T.Word 2
-kind_for K.SemWord = T.Word 3
-kind_for K.ChanWord = T.Word 4
-kind_for K.ProcessWord = T.Word 5
-kind_for K.IfWord = T.Word 6
-kind_for K.ElseWord = T.Word 7
-kind_for K.WhileWord = T.Word 8
-kind_for K.ForWord = T.Word 9
-kind_for K.ReturnWord = T.Word 10
-kind_for K.TakeWord = T.Word 11
-kind_for K.GiveWord = T.Word 12
-kind_for K.SendWord = T.Word 13
-kind_for K.RecvWord = T.Word 14
-kind_for K.PrintWord = T.Word 15
-kind_for K.AssertWord = T.Word 16
-kind_for K.OrMark = T.Mark 0
-kind_for K.AndMark = T.Mark 1
-kind_for K.EqualMark = T.Mark 2
-kind_for K.UnequalMark = T.Mark 3
-kind_for K.AtMostMark = T.Mark 4
-kind_for K.AtLeastMark = T.Mark 5
-kind_for K.LessMark = T.Mark 6
-kind_for K.MoreMark = T.Mark 7
-kind_for K.PlusMark = T.Mark 8
-kind_for K.MinusMark = T.Mark 9
-kind_for K.StarMark = T.Mark 10
-kind_for K.SlashMark = T.Mark 11
-kind_for K.PercentMark = T.Mark 12
-kind_for K.NotMark = T.Mark 13
-kind_for K.AssignMark = T.Mark 14
-kind_for K.AddMark = T.Mark 15
-kind_for K.SubtractMark = T.Mark 16
-kind_for K.IncreaseMark = T.Mark 17
-kind_for K.DecreaseMark = T.Mark 18
-kind_for K.LeftParen = T.Mark 19
-kind_for K.RightParen = T.Mark 20
-kind_for K.LeftBrace = T.Mark 21
-kind_for K.RightBrace = T.Mark 22
-kind_for K.LeftBracket = T.Mark 23
-kind_for K.RightBracket = T.Mark 24
-kind_for K.Semicolon = T.Mark 25
-kind_for K.Comma = T.Mark 26
-kind_for K.Other = T.Mark 27
+kind_for k = T.Word k
 
 kind_made : (k : Kind) → kind_of (kind_for k) ≡ k
 kind_made K.Name = refl

@@ -1,6 +1,6 @@
 -- What each production of the parser's grammar reads, as a right side of the language's grammar reads it.
 use Rattle.std.proofs.Common.{◌≡◌, List, [], ◌∷◌, ◌++◌, sym, ◌∙◌, ap, subst, append_assoc}
-use Rattle.ppd_parse.specs.declared.symbol.Kind.TheVariants as K
+use Rattle.ppd_lex.specs.declared.token.Kind.TheVariants as K
 use Rattle.ppd_parse.specs.declared.symbol.Rule.TheVariants as R
 use Rattle.ppd_parse.specs.declared.symbol.At.{At}
 use Rattle.ppd_parse.specs.Grammar.{Shape, Marked, MayStand, no_else}

@@ -1,27 +1,28 @@
 -- Every list of tokens that ends as a source does has a tree or is refused, for want of no memory.
 use denote.Enum.Bare.{sameb, same_false, same_true}
-use Rattle.std.proofs.Common.{◌≡◌, ◌≢◌, ◌<◌, ◌+◌, ◌≤◌, ◌⊎◌, ℕ, zero, suc, Bool, true, false, List, [], ◌∷◌, ◌++◌, Option, Some, None, Ok, Err, length, reverse, refl, sym, ap, subst, arith, inl, inr}
+use Rattle.std.proofs.Common.{◌≡◌, ◌≢◌, ◌<◌, ◌+◌, ◌⊎◌, ℕ, zero, suc, Bool, true, false, List, [], ◌∷◌, ◌++◌, Option, Some, None, Ok, Err, length, reverse, refl, sym, ap, subst, arith, inl, inr}
 use Rattle.std.proofs.lemmas.Bool.{cases_lt}
 use Rattle.std.proofs.lemmas.List.{reverse-reverse}
 use Rattle.ppd_lex.specs.declared.token.Token.{Token}
 use Rattle.ppd_lex.specs.Formed.{EndOnce}
-use Rattle.ppd_parse.specs.contracts.symbol.Kind.{the_type}
+use Rattle.ppd_lex.specs.contracts.token.Kind.{the_type}
 use Rattle.ppd_parse.specs.declared.error.SyntaxError.{SyntaxError}
 use Rattle.ppd_parse.specs.declared.error.SyntaxError.TheVariants as E
 use Rattle.ppd_parse.specs.declared.growth.Step.{Step}
 use Rattle.ppd_parse.specs.declared.growth.Step.TheVariants as M
 use Rattle.ppd_parse.specs.declared.symbol.At.{At}
-use Rattle.ppd_parse.specs.declared.symbol.Kind.{Kind}
+use Rattle.ppd_lex.specs.declared.token.Kind.{Kind}
 use Rattle.ppd_parse.specs.declared.symbol.Level.{Level}
 use Rattle.ppd_parse.specs.declared.symbol.Symbol.{Symbol}
 use Rattle.ppd_parse.specs.declared.symbol.Symbol.TheVariants as S
+use Rattle.ppd_parse.specs.declared.symbol.Part.{Part}
 use Rattle.ppd_parse.specs.declared.symbol.Want.{Want}
 use Rattle.ppd_parse.specs.declared.symbol.Want.TheVariants.{Get, Close}
-use Rattle.ppd_parse.specs.Choice.{expansion, stack_with}
-use Rattle.ppd_parse.specs.Grammar.{Shape, leaf, close, Marked, ReadsAll, base_in, is_operator, kind_at, kind_of, outside}
+use Rattle.ppd_parse.specs.Choice.{expansion, pushed}
+use Rattle.ppd_parse.specs.Grammar.{Shape, leaf, close, Marked, ReadsAll, base_in, is_operator, kind_of, outside}
 use Rattle.ppd_parse.specs.Laws.{HaveAnAnswer}
 use Rattle.ppd_parse.specs.Limits.{count_with, EndsAs, IsReadTo, IsRefused, IsTree, Stepped, token_at}
-use Rattle.ppd_parse.specs.Machine.{State, Advanced, IsDead, IsTerminal, SameAt, Shifts, Taken}
+use Rattle.ppd_parse.specs.Machine.{State, Advanced, IsTerminal, SameAt, Taken}
 use Rattle.ppd_parse.specs.Rank.{rank}
 use Rattle.ppd_parse.specs.Stack.{IsGood, IsOver}
 use Rattle.ppd_parse.proofs.Ends.{Ends, ends_as, ends_close, ends_same}
@@ -52,10 +53,10 @@ meet_operator token l at b ws s good = by (is_operator l (kind_of token.kind)) r
     by false e = (M.Refused, state ws s, operator_refused token l at b ws s e)
 
 meet_inner : (token : Token) (y : Symbol) (at : At) (b : ℕ) (olds : List Want) (s : List Shape) → (IsTerminal y → ⊥) → IsGood (Get y at b ∷ reverse olds) → Moves token (state (Get y at b ∷ reverse olds) s)
-meet_inner token y at b olds s inner good = by (base_in y b (length s)) refl (stack_with olds at (base_in y b (length s)) (expansion y (kind_of token.kind))) refl
+meet_inner token y at b olds s inner good = by (base_in y b (length s)) refl (expansion y (kind_of token.kind)) refl
   where
-    by : (c : ℕ) → c ≡ base_in y b (length s) → (o : Option (List Want)) → stack_with olds at c (expansion y (kind_of token.kind)) ≡ o → Moves token (state (Get y at b ∷ reverse olds) s)
-    by c base (Some news) e = (M.Moved, state (reverse news) s, unfold_moves token y at b c olds s inner base news e good)
+    by : (c : ℕ) → c ≡ base_in y b (length s) → (o : Option (List Part)) → expansion y (kind_of token.kind) ≡ o → Moves token (state (Get y at b ∷ reverse olds) s)
+    by c base (Some ps) e = (M.Moved, state (reverse (pushed olds at c ps)) s, unfold_moves token y at b c olds s inner base ps (pushed olds at c ps) e refl good)
     by c base None e = (M.Refused, state (reverse olds) s, unfold_refused token y at b c olds s inner base e)
 
 meet_symbol : (token : Token) (y : Symbol) (at : At) (b : ℕ) (ws : List Want) (s : List Shape) → (IsTerminal y → ⊥) → IsGood (Get y at b ∷ ws) → Moves token (state (Get y at b ∷ ws) s)

@@ -1,7 +1,7 @@
 -- What each symbol of the parser's grammar is in the language's grammar.
 use Rattle.std.proofs.Common.{◌≡◌, ℕ, Bool, true, false, cond, List, [], ◌∷◌, ◌++◌, length, take, drop, refl, sym, ◌∙◌, ap, subst, append_assoc, append-nil}
 use Rattle.std.proofs.lemmas.List.{map-append}
-use Rattle.ppd_parse.specs.declared.symbol.Kind.TheVariants as K
+use Rattle.ppd_lex.specs.declared.token.Kind.TheVariants as K
 use Rattle.ppd_parse.specs.declared.symbol.Level.TheVariants as L
 use Rattle.ppd_parse.specs.declared.symbol.Rule.{Rule}
 use Rattle.ppd_parse.specs.declared.symbol.Symbol.{Symbol}
@@ -122,14 +122,14 @@ pub data MeansAll : List Want → List Shape → List Marked → List Shape → 
 
 abbrev pub phrase_by : Manner → Phrase
 phrase_by (plain f) = f
-phrase_by later = word K.Other
+phrase_by later = word K.End
 
 abbrev pub part_phrase : Part → Phrase
 part_phrase (P.Here y) = phrase_by (manner y)
 part_phrase (P.Deeper y) = opened (phrase_by (manner y))
 part_phrase (P.Inside y) = measured (phrase_by (manner y))
-part_phrase (P.Wrap r) = word K.Other
-part_phrase (P.WrapBack r) = word K.Other
+part_phrase (P.Wrap r) = word K.End
+part_phrase (P.WrapBack r) = word K.End
 
 abbrev pub is_plain_by : Manner → Bool
 is_plain_by (plain f) = true

@@ -2,6 +2,7 @@
 use Rattle.std.proofs.Common.{◌≡◌, ◌<◌, ◌+◌, ◌≤◌, ℕ, zero, suc, List, [], ◌∷◌, ◌++◌, length, take, get_or, refl, sym, ◌∙◌, ap, subst, append_assoc, arith, Ok, Err}
 use Rattle.std.proofs.lemmas.List.{append-nil, map-append, take_more}
 use Rattle.std.proofs.Math.Seq.{take-length}
+use Rattle.ppd_ast.specs.declared.program.Place.{Place}
 use Rattle.ppd_lex.specs.declared.token.Token.{Token}
 use Rattle.ppd_lex.specs.declared.token.TokenKind.TheVariants as T
 use Rattle.ppd_lex.specs.Formed.{EndOnce}
@@ -13,8 +14,8 @@ use Rattle.ppd_parse.specs.declared.error.SyntaxError.{SyntaxError}
 use Rattle.ppd_parse.specs.declared.error.SyntaxError.TheVariants as E
 use Rattle.ppd_parse.specs.Grammar.{Shape, Marked, kind_of, IsParsed, tokens_of, outside}
 use Rattle.ppd_parse.specs.Machine.{State, Completed, Shifts, Follows}
-use Rattle.ppd_parse.specs.Stack.{IsOver}
-use Rattle.ppd_parse.specs.Limits.{count_with, count_after, KeepLimits, no_token, token_at, IsTree, IsRefused, Stepped, IsReadTo, EndsAs}
+use Rattle.ppd_parse.specs.Stack.{IsGood, IsOver}
+use Rattle.ppd_parse.specs.Limits.{count_with, count_after, KeepLimits, no_token, token_at, IsTree, IsPast, BreaksDepth, BreaksWidth, IsRefused, Stepped, IsReadTo, EndsAs}
 use Rattle.ppd_parse.proofs.Sample.{completion}
 use Rattle.ppd_parse.proofs.ToLanguage.{parsed_program}
 use Rattle.ppd_parse.proofs.FromLanguage.{program_parsed}
@@ -112,6 +113,28 @@ module _ (ts : List Token) (i n : ℕ) (a b : State) (lt : i < length ts) (r : I
         over = λ e. s.3 (ap kind_of (last_end ts i ends e));
       }
 
+  read_past : (Breaks : ℕ → Marked → Type 0) (place : Place) → place ≡ (token_at ts i).place → (at : At) → Shifts (record { token = token_at ts i; at = at }) a b → IsGood b.wants → Breaks (count_after 0 r.marked) (record { token = token_at ts i; at = at }) → IsPast Breaks ts place
+  read_past Breaks place is at shifts good breaks =
+      let z : Marked = record { token = token_at ts i; at = at } in
+      let c = completion b.wants b.shapes good in
+      record {
+        i = i;
+        within = lt;
+        is = is;
+        marked = r.marked;
+        tokens = r.follows.tokens;
+        last = z;
+        token = refl;
+        rest = c.0;
+        tree = c.1;
+        program = parsed_program (r.follows.from (z ∷ c.0) c.1 (shifts.from c.0 c.1 c.2));
+        limits = r.limits;
+        breaks = breaks;
+        only = λ qs f more p e.
+            let o = only_so (take i ts) r.marked a r.follows (token_at ts i) at b shifts qs f more (program_parsed p) e in
+            (o.0, o.1);
+      }
+
   pub read_refused : (e : SyntaxError) → Stepped n (token_at ts i) (Err e) a b → IsRefused ts e
   read_refused (E.Unexpected place) s =
       let c = completion a.wants a.shapes r.good in
@@ -129,46 +152,10 @@ module _ (ts : List Token) (i n : ℕ) (a b : State) (lt : i < length ts) (r : I
             let g = goes_on (take i ts) r.marked a r.follows (token_at ts i) qs f more (program_parsed p) e in
             s.1 g.0 g.1 f (ap (λ (u : Token). kind_of u.kind) g.2) g.4;
       }
-  read_refused (E.Deep place) s =
-      let z : Marked = record { token = token_at ts i; at = s.1.0 } in
-      let c = completion b.wants b.shapes s.1.2 in
-      record {
-        i = i;
-        within = lt;
-        is = s.0;
-        marked = r.marked;
-        tokens = r.follows.tokens;
-        last = z;
-        token = refl;
-        rest = c.0;
-        tree = c.1;
-        program = parsed_program (r.follows.from (z ∷ c.0) c.1 (s.1.1.from c.0 c.1 c.2));
-        limits = r.limits;
-        breaks = s.1.3;
-        only = λ qs f more p e.
-            let o = only_so (take i ts) r.marked a r.follows (token_at ts i) s.1.0 b s.1.1 qs f more (program_parsed p) e in
-            (o.0, o.1);
-      }
+  read_refused (E.Deep place) s = read_past BreaksDepth place s.0 s.1.0 s.1.1 s.1.2 s.1.3
   read_refused (E.Wide place) s =
       let z : Marked = record { token = token_at ts i; at = s.1.0 } in
-      let c = completion b.wants b.shapes s.1.2 in
-      record {
-        i = i;
-        within = lt;
-        is = s.0;
-        marked = r.marked;
-        tokens = r.follows.tokens;
-        last = z;
-        token = refl;
-        rest = c.0;
-        tree = c.1;
-        program = parsed_program (r.follows.from (z ∷ c.0) c.1 (s.1.1.from c.0 c.1 c.2));
-        limits = r.limits;
-        breaks = (s.1.3, subst (λ k. 257 ≤ count_with k z) r.count s.1.4);
-        only = λ qs f more p e.
-            let o = only_so (take i ts) r.marked a r.follows (token_at ts i) s.1.0 b s.1.1 qs f more (program_parsed p) e in
-            (o.0, o.1);
-      }
+      read_past BreaksWidth place s.0 s.1.0 s.1.1 s.1.2 (s.1.3, subst (λ k. 257 ≤ count_with k z) r.count s.1.4)
   read_refused E.Memory s = tt
 
 pub whole : (ts : List Token) (i n : ℕ) (a : State) (f : List Shape) → i ≡ length ts → IsReadTo ts i n a → EndsAs a f → IsTree ts f

@@ -1,14 +1,14 @@
 -- How a symbol is made up, where a token of some kind is next.
-use Rattle.std.specs.Prelude.{ℕ, Bool, true, false, List, ◌++◌, reverse, Option, Some, None, cond}
-use Rattle.ppd_parse.specs.declared.symbol.Kind.{Kind}
-use Rattle.ppd_parse.specs.declared.symbol.Kind.TheVariants as K
+use Rattle.std.specs.Prelude.{ℕ, List, ◌++◌, reverse, Option, Some, None, cond}
+use Rattle.ppd_lex.specs.declared.token.Kind.{Kind}
+use Rattle.ppd_lex.specs.declared.token.Kind.TheVariants as K
 use Rattle.ppd_parse.specs.declared.symbol.Level.{Level}
 use Rattle.ppd_parse.specs.declared.symbol.Symbol.{Symbol}
 use Rattle.ppd_parse.specs.declared.symbol.Symbol.TheVariants as S
 use Rattle.ppd_parse.specs.declared.symbol.At.{At}
 use Rattle.ppd_parse.specs.declared.symbol.Part.{Part}
 use Rattle.ppd_parse.specs.declared.symbol.Want.{Want}
-use Rattle.ppd_parse.specs.Grammar.{Production, parts, is_operator, wants_in, operand, chain_end, chain_more, source, items_end, items_shared, items_sems, items_chans, items_function, items_process, shared, shared_end, shared_more, shared_item, no_start, start, shared_length, start_plain, start_minus, sems, no_sem_start, sem_start, sems_end, sems_more, chans, chans_end, chans_more, function_int, function_void, no_params, some_params, params_void, params_int, params_end, params_more, process, block, stmts_end, stmts_local, stmts_more, local, local_end, local_more, local_item, no_local_start, local_start, local_length, value_recv, value_plain, call_or_name, other_expr, named_call, named_expr, no_args, some_args, args_end, args_more, place, no_index, index, change, assign, add, subtract, increase, decrease, expr, expr_rest, unary_place, unary_other, minus, negation, parens, number, stmt_block, stmt_empty, stmt_name, stmt_if, stmt_while, stmt_for, stmt_return, stmt_take, stmt_give, stmt_send, stmt_print, stmt_assert, rest_call, rest_element, rest_scalar, rest_assign, rest_add, rest_subtract, rest_increase, rest_decrease, assigned_recv, assigned_name, assigned_other, assigned_call, assigned_expr, no_else, some_else, for_plain, for_local, for_change, for_ever, for_while, for_still, for_step, return_plain, return_value}
+use Rattle.ppd_parse.specs.Grammar.{Production, parts, operand_parts, is_operator, wants_in, chain_end, chain_more, source, items_end, items_shared, items_sems, items_chans, items_function, items_process, shared, shared_end, shared_more, shared_item, no_start, start, shared_length, start_plain, start_minus, sems, no_sem_start, sem_start, sems_end, sems_more, chans, chans_end, chans_more, function_int, function_void, no_params, some_params, params_void, params_int, params_end, params_more, process, block, stmts_end, stmts_local, stmts_more, local, local_end, local_more, local_item, no_local_start, local_start, local_length, value_recv, value_plain, call_or_name, other_expr, named_call, named_expr, no_args, some_args, args_end, args_more, place, no_index, index, change, assign, add, subtract, increase, decrease, expr, expr_rest, unary_place, unary_other, minus, negation, parens, number, stmt_block, stmt_empty, stmt_name, stmt_if, stmt_while, stmt_for, stmt_return, stmt_take, stmt_give, stmt_send, stmt_print, stmt_assert, rest_call, rest_element, rest_scalar, rest_assign, rest_add, rest_subtract, rest_increase, rest_decrease, assigned_recv, assigned_name, assigned_other, assigned_call, assigned_expr, no_else, some_else, for_plain, for_local, for_change, for_ever, for_while, for_still, for_step, return_plain, return_value}
 
 pub data Choice (y : Symbol) : Type 0 where
   chosen : Production y → Choice y
@@ -296,110 +296,63 @@ choose_return_end _ = refused
 abbrev pub choose_chain : (l : Level) → Kind → Choice (S.Chain l)
 choose_chain l k = cond (is_operator l k) (chosen (chain_more l)) (chosen (chain_end l))
 
-abbrev pub choose : (y : Symbol) → Kind → Choice y
-choose (S.Exact j) k = refused
-choose (S.Operator l) k = refused
-choose (S.Operand l) k = chosen (operand l)
-choose (S.Chain l) k = choose_chain l k
-choose S.Source k = choose_source k
-choose S.Items k = choose_items k
-choose S.Shared k = choose_shared k
-choose S.SharedItems k = choose_shared_items k
-choose S.SharedItem k = choose_shared_item k
-choose S.SharedStart k = choose_shared_start k
-choose S.StartValue k = choose_start_value k
-choose S.Sems k = choose_sems k
-choose S.SemStart k = choose_sem_start k
-choose S.SemItems k = choose_sem_items k
-choose S.Chans k = choose_chans k
-choose S.ChanItems k = choose_chan_items k
-choose S.Function k = choose_function k
-choose S.ParamsEnd k = choose_params_end k
-choose S.Params k = choose_params k
-choose S.ParamItems k = choose_param_items k
-choose S.Process k = choose_process k
-choose S.Block k = choose_block k
-choose S.Stmts k = choose_stmts k
-choose S.Local k = choose_local k
-choose S.LocalItems k = choose_local_items k
-choose S.LocalItem k = choose_local_item k
-choose S.LocalStart k = choose_local_start k
-choose S.Value k = choose_value k
-choose S.CallOrExpr k = choose_call_or_expr k
-choose S.NamedRest k = choose_named_rest k
-choose S.Args k = choose_args k
-choose S.ArgsMore k = choose_args_more k
-choose S.Place k = choose_place k
-choose S.PlaceEnd k = choose_place_end k
-choose S.Change k = choose_change k
-choose S.ChangeEnd k = choose_change_end k
-choose S.Expr k = choose_expr k
-choose S.ExprRest k = choose_expr_rest k
-choose S.Unary k = choose_unary k
-choose S.OtherUnary k = choose_other_unary k
-choose S.Stmt k = choose_stmt k
-choose S.StmtRest k = choose_stmt_rest k
-choose S.PlaceRest k = choose_place_rest k
-choose S.Assigned k = choose_assigned k
-choose S.AssignedRest k = choose_assigned_rest k
-choose S.ElsePart k = choose_else_part k
-choose S.ForStart k = choose_for_start k
-choose S.ForTest k = choose_for_test k
-choose S.ForStep k = choose_for_step k
-choose S.ReturnEnd k = choose_return_end k
-
 abbrev pub parts_if : {y : Symbol} → Choice y → Option (List Part)
 parts_if (chosen p) = Some (parts p)
 parts_if refused = None
 
 -- the parts that stand for a symbol there, if any do
 abbrev pub expansion : Symbol → Kind → Option (List Part)
-expansion y k = parts_if (choose y k)
+expansion (S.Exact j) k = None
+expansion (S.Operator l) k = None
+expansion (S.Operand l) k = Some (operand_parts l)
+expansion (S.Chain l) k = cond (is_operator l k) (Some (parts (chain_more l))) (Some (parts (chain_end l)))
+expansion S.Source k = parts_if (choose_source k)
+expansion S.Items k = parts_if (choose_items k)
+expansion S.Shared k = parts_if (choose_shared k)
+expansion S.SharedItems k = parts_if (choose_shared_items k)
+expansion S.SharedItem k = parts_if (choose_shared_item k)
+expansion S.SharedStart k = parts_if (choose_shared_start k)
+expansion S.StartValue k = parts_if (choose_start_value k)
+expansion S.Sems k = parts_if (choose_sems k)
+expansion S.SemStart k = parts_if (choose_sem_start k)
+expansion S.SemItems k = parts_if (choose_sem_items k)
+expansion S.Chans k = parts_if (choose_chans k)
+expansion S.ChanItems k = parts_if (choose_chan_items k)
+expansion S.Function k = parts_if (choose_function k)
+expansion S.ParamsEnd k = parts_if (choose_params_end k)
+expansion S.Params k = parts_if (choose_params k)
+expansion S.ParamItems k = parts_if (choose_param_items k)
+expansion S.Process k = parts_if (choose_process k)
+expansion S.Block k = parts_if (choose_block k)
+expansion S.Stmts k = parts_if (choose_stmts k)
+expansion S.Local k = parts_if (choose_local k)
+expansion S.LocalItems k = parts_if (choose_local_items k)
+expansion S.LocalItem k = parts_if (choose_local_item k)
+expansion S.LocalStart k = parts_if (choose_local_start k)
+expansion S.Value k = parts_if (choose_value k)
+expansion S.CallOrExpr k = parts_if (choose_call_or_expr k)
+expansion S.NamedRest k = parts_if (choose_named_rest k)
+expansion S.Args k = parts_if (choose_args k)
+expansion S.ArgsMore k = parts_if (choose_args_more k)
+expansion S.Place k = parts_if (choose_place k)
+expansion S.PlaceEnd k = parts_if (choose_place_end k)
+expansion S.Change k = parts_if (choose_change k)
+expansion S.ChangeEnd k = parts_if (choose_change_end k)
+expansion S.Expr k = parts_if (choose_expr k)
+expansion S.ExprRest k = parts_if (choose_expr_rest k)
+expansion S.Unary k = parts_if (choose_unary k)
+expansion S.OtherUnary k = parts_if (choose_other_unary k)
+expansion S.Stmt k = parts_if (choose_stmt k)
+expansion S.StmtRest k = parts_if (choose_stmt_rest k)
+expansion S.PlaceRest k = parts_if (choose_place_rest k)
+expansion S.Assigned k = parts_if (choose_assigned k)
+expansion S.AssignedRest k = parts_if (choose_assigned_rest k)
+expansion S.ElsePart k = parts_if (choose_else_part k)
+expansion S.ForStart k = parts_if (choose_for_start k)
+expansion S.ForTest k = parts_if (choose_for_test k)
+expansion S.ForStep k = parts_if (choose_for_step k)
+expansion S.ReturnEnd k = parts_if (choose_return_end k)
 
 -- a vector of wants, the last of them next, with the parts on top
 unfoldable pub pushed : List Want → At → ℕ → List Part → List Want
 pushed ws a b ps = ws ++ reverse (wants_in a b ps)
-
-abbrev pub stack_with : List Want → At → ℕ → Option (List Part) → Option (List Want)
-stack_with ws a b (Some ps) = Some (pushed ws a b ps)
-stack_with ws a b None = None
-
--- the symbols of declarations, and of statements
-abbrev pub in_declarations : Symbol → Bool
-in_declarations S.Source = true
-in_declarations S.Items = true
-in_declarations S.Shared = true
-in_declarations S.SharedItems = true
-in_declarations S.SharedItem = true
-in_declarations S.SharedStart = true
-in_declarations S.StartValue = true
-in_declarations S.Sems = true
-in_declarations S.SemStart = true
-in_declarations S.SemItems = true
-in_declarations S.Chans = true
-in_declarations S.ChanItems = true
-in_declarations S.Function = true
-in_declarations S.ParamsEnd = true
-in_declarations S.Params = true
-in_declarations S.ParamItems = true
-in_declarations S.Process = true
-in_declarations _ = false
-
-abbrev pub in_statements : Symbol → Bool
-in_statements S.Block = true
-in_statements S.Stmts = true
-in_statements S.Local = true
-in_statements S.LocalItems = true
-in_statements S.LocalItem = true
-in_statements S.LocalStart = true
-in_statements S.Stmt = true
-in_statements S.StmtRest = true
-in_statements S.PlaceRest = true
-in_statements S.Assigned = true
-in_statements S.AssignedRest = true
-in_statements S.ElsePart = true
-in_statements S.ForStart = true
-in_statements S.ForTest = true
-in_statements S.ForStep = true
-in_statements S.ReturnEnd = true
-in_statements _ = false

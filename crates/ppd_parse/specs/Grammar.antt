@@ -8,8 +8,6 @@
 -- them as what they turned out to be. A binary operator wraps what its level has read so far as its
 -- left operand, so every level groups to the left. It reads what the language's grammar reads.
 pub use Rattle.ppd_parse.specs.Trees.{
-  words,
-  marks,
   kind_of,
   Shape,
   Shapes,
@@ -27,8 +25,8 @@ pub use Rattle.ppd_parse.specs.Trees.{
   tokens_of,
 }
 use Rattle.std.specs.Prelude.{◌≡◌, ◌≢◌, ◌-◌, ℕ, true, false, List, [], ◌∷◌, ◌++◌, map, length, take, drop}
-use Rattle.ppd_parse.specs.declared.symbol.Kind.{Kind}
-use Rattle.ppd_parse.specs.declared.symbol.Kind.TheVariants as K
+use Rattle.ppd_lex.specs.declared.token.Kind.{Kind}
+use Rattle.ppd_lex.specs.declared.token.Kind.TheVariants as K
 use Rattle.ppd_parse.specs.declared.symbol.Level.{Level}
 use Rattle.ppd_parse.specs.declared.symbol.Level.TheVariants as L
 use Rattle.ppd_parse.specs.declared.symbol.Rule.{Rule}

@@ -1,33 +1,21 @@
 -- The trees over tokens, and the tokens with where they stand.
-use Rattle.std.specs.Prelude.{◌+◌, Bool, true, false, List, [], ◌∷◌, map, slice_index_or, nat_lt, if◌then◌else◌}
+use Rattle.std.specs.Prelude.{◌+◌, Bool, true, false, List, [], ◌∷◌, map, nat_lt, if◌then◌else◌}
 use Rattle.ppd_lex.specs.declared.token.Token.{Token}
 use Rattle.ppd_lex.specs.declared.token.TokenKind.{TokenKind}
 use Rattle.ppd_lex.specs.declared.token.TokenKind.TheVariants as T
-use Rattle.ppd_parse.specs.declared.symbol.Kind.{Kind}
-use Rattle.ppd_parse.specs.declared.symbol.Kind.TheVariants as K
+use Rattle.ppd_lex.specs.declared.token.Kind.{Kind}
+use Rattle.ppd_lex.specs.declared.token.Kind.TheVariants as K
 use Rattle.ppd_parse.specs.declared.symbol.Level.{Level}
 use Rattle.ppd_parse.specs.declared.symbol.Level.TheVariants as L
 use Rattle.ppd_parse.specs.declared.symbol.Rule.{Rule}
 use Rattle.ppd_parse.specs.declared.symbol.At.{At}
 
--- the keywords and the marks by their numbers
-abbrev pub words : List Kind
-words = K.SharedWord ∷ K.IntWord ∷ K.VoidWord ∷ K.SemWord ∷ K.ChanWord ∷ K.ProcessWord ∷ K.IfWord ∷ K.ElseWord
-    ∷ K.WhileWord ∷ K.ForWord ∷ K.ReturnWord ∷ K.TakeWord ∷ K.GiveWord ∷ K.SendWord ∷ K.RecvWord ∷ K.PrintWord
-    ∷ K.AssertWord ∷ []
-
-abbrev pub marks : List Kind
-marks = K.OrMark ∷ K.AndMark ∷ K.EqualMark ∷ K.UnequalMark ∷ K.AtMostMark ∷ K.AtLeastMark ∷ K.LessMark ∷ K.MoreMark
-    ∷ K.PlusMark ∷ K.MinusMark ∷ K.StarMark ∷ K.SlashMark ∷ K.PercentMark ∷ K.NotMark ∷ K.AssignMark ∷ K.AddMark
-    ∷ K.SubtractMark ∷ K.IncreaseMark ∷ K.DecreaseMark ∷ K.LeftParen ∷ K.RightParen ∷ K.LeftBrace ∷ K.RightBrace
-    ∷ K.LeftBracket ∷ K.RightBracket ∷ K.Semicolon ∷ K.Comma ∷ []
-
 -- what a token is to the grammar
 abbrev pub kind_of : TokenKind → Kind
 kind_of (T.Name text) = K.Name
 kind_of (T.Number value) = K.Number
-kind_of (T.Word n) = slice_index_or words n K.Other
-kind_of (T.Mark n) = slice_index_or marks n K.Other
+kind_of (T.Word kind) = kind
+kind_of (T.Mark kind) = kind
 kind_of T.End = K.End
 
 mutual

@@ -2,7 +2,7 @@ ghost use Rattle.std.specs.Prelude.{◌≡◌};
 ghost use Rattle.ppd_parse.specs.declared.error.SyntaxError.TheVariants.{Memory};
 
 use ppd_ast::Place;
-use std::alloc::{AllocError, AllocFailed};
+use std::alloc::AllocError;
 
 /// Why tokens are no program within the limits: the first token that breaks the grammar or a limit.
 #[derive(Clone, Copy, PartialEq, Eq, Debug, Drop)]
@@ -21,22 +21,6 @@ impl From<AllocError> for SyntaxError {
     ghost from_gives = { λ _ e. e ≡ Memory };
 
     fn from(_error: AllocError) -> Self {
-        SyntaxError::Memory
-    }
-}
-
-impl<T: Drop> From<AllocFailed<T>> for SyntaxError {
-    ghost from_gives = { λ _ e. e ≡ Memory };
-
-    fn from(_error: AllocFailed<T>) -> Self {
-        SyntaxError::Memory
-    }
-}
-
-impl From<ppd_ast::Memory> for SyntaxError {
-    ghost from_gives = { λ _ e. e ≡ Memory };
-
-    fn from(_error: ppd_ast::Memory) -> Self {
         SyntaxError::Memory
     }
 }

@@ -20,8 +20,8 @@ fn copy_kind(kind: &TokenKind) -> Result<TokenKind, AllocError>
             Err(error) => Err(error),
         },
         TokenKind::Number(value) => Ok(TokenKind::Number(*value)),
-        TokenKind::Word(number) => Ok(TokenKind::Word(*number)),
-        TokenKind::Mark(number) => Ok(TokenKind::Mark(*number)),
+        TokenKind::Word(kind) => Ok(TokenKind::Word(*kind)),
+        TokenKind::Mark(kind) => Ok(TokenKind::Mark(*kind)),
         TokenKind::End => Ok(TokenKind::End),
     }
 }

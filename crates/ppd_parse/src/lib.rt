@@ -1,9 +1,8 @@
 //! The tree of a list of tokens, or the first token that breaks the grammar or a limit.
 #![tactic(auto)]
 
-mod declarations;
 mod error;
-mod expressions;
+mod grammar;
 mod grove;
 mod growth;
 mod kind;
@@ -12,7 +11,6 @@ mod machine;
 mod node;
 mod numbering;
 mod reading;
-mod statements;
 mod symbol;
 mod want;
 
@@ -20,8 +18,6 @@ pub use error::SyntaxError;
 pub use kind::kind_of;
 pub use laws::{leaves_are_tokens, one_answer};
 pub use node::{Node, Tree};
+pub use ppd_lex::Kind;
 pub use reading::{parse, parse_in};
-pub use symbol::{Kind, Rule};
-
-#[cfg(test)]
-mod tests;
+pub use symbol::Rule;

@@ -4,11 +4,11 @@ ghost use Rattle.ppd_parse.specs.Machine.{Advanced, Taken, state_of, wanting};
 ghost use Rattle.ppd_parse.specs.Rank.{rank, Held, Paid};
 ghost use Rattle.ppd_parse.specs.Stack.{IsGood};
 
-use crate::declarations::expand;
+use crate::grammar::production;
 use crate::growth::{Grove, Step};
 use crate::kind::{is_operator, kind_of};
 use crate::symbol::{At, Symbol, Want};
-use crate::want::base_in;
+use crate::want::{base_in, want};
 use ppd_ast::Steps;
 use ppd_lex::Token;
 use std::alloc::AllocError;
@@ -48,10 +48,12 @@ fn meet(
         }
         _ => {
             let base = base_in(symbol, base, grove.roots.len());
-            if expand(wants, symbol, kind, at, base)? {
-                Ok(Step::Moved)
-            } else {
-                Ok(Step::Refused)
+            match production(symbol, kind) {
+                Some(parts) => {
+                    want(wants, at, base, parts)?;
+                    Ok(Step::Moved)
+                }
+                None => Ok(Step::Refused),
             }
         }
     }

@@ -1,7 +1,7 @@
 // The parser's way through the tokens.
 ghost use Rattle.std.specs.Prelude.{◌≡◌, ◌<◌, ◌≤◌, ◌+◌, ◌*◌, ◌^◌, ℕ, [], ◌∷◌, length, IfOk, IfErr, OnOk, reverse};
 ghost use Rattle.ppd_lex.specs.Formed.{EndOnce};
-ghost use Rattle.ppd_parse.specs.Grammar.{Marked};
+ghost use Rattle.ppd_parse.specs.Grammar.{Marked, outside};
 ghost use Rattle.ppd_parse.specs.Limits.{count_with, is_sign, EndsAs, IsRefused, IsTree, Stepped};
 ghost use Rattle.ppd_parse.specs.Machine.{state_of};
 ghost use Rattle.ppd_parse.specs.Rank.{rank};
@@ -15,10 +15,10 @@ use crate::kind::{is_operator, kind_of};
 use crate::machine::{raise, take};
 use crate::node::Tree;
 use crate::numbering::renumber;
-use crate::symbol::{At, Kind, Level, Symbol, Want};
+use crate::symbol::{At, Level, Symbol, Want};
 use ppd_ast::Steps;
 use ppd_ast::limits::{MOST_OPEN, MOST_SOURCE_OPERATORS};
-use ppd_lex::Token;
+use ppd_lex::{Kind, Token};
 use std::alloc::{AllocError, Global};
 use std::marker::Brand;
 use std::sync::ledger::{Blank, Ledger};
@@ -114,6 +114,18 @@ fn finish<L: Ledger>(
     Ok(())
 }
 
+// What is wanted before the first token: a source, outside every construct.
+fn begin(alloc: Global) -> Result<Vec<Want>, AllocError>
+    ensures { IfOk result (λ wants. wants.items ≡ Want.Get Symbol.Source outside 0 ∷ []) }
+{
+    let outside = At {
+        depth: 0,
+        inside: false,
+    };
+    let wants = Vec::from_slice(alloc, &[Want::Get(Symbol::Source, outside, 0)])?;
+    Ok(wants)
+}
+
 // The nodes of the tokens of a source, up to its root.
 fn grow<L: Ledger>(
     alloc: Global,
@@ -129,12 +141,7 @@ fn grow<L: Ledger>(
     ensures refused { IfErr result (λ error. IsRefused tokens.now error) }
 {
     let mut grove = Grove::new(alloc);
-    let mut wants = Vec::new(alloc);
-    let outside = At {
-        depth: 0,
-        inside: false,
-    };
-    wants.push(Want::Get(Symbol::Source, outside, 0))?;
+    let mut wants = begin(alloc)?;
     raise(peak, 1);
     let mut count: u16 = 0;
     for token in tokens {

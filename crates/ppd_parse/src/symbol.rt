@@ -1,57 +1,6 @@
 // The words of the grammar.
 
-/// What a token is to the grammar.
-#[derive(Clone, Copy, Debug, PartialEq, Eq, Drop)]
-pub enum Kind {
-    Name,
-    Number,
-    End,
-    SharedWord,
-    IntWord,
-    VoidWord,
-    SemWord,
-    ChanWord,
-    ProcessWord,
-    IfWord,
-    ElseWord,
-    WhileWord,
-    ForWord,
-    ReturnWord,
-    TakeWord,
-    GiveWord,
-    SendWord,
-    RecvWord,
-    PrintWord,
-    AssertWord,
-    OrMark,
-    AndMark,
-    EqualMark,
-    UnequalMark,
-    AtMostMark,
-    AtLeastMark,
-    LessMark,
-    MoreMark,
-    PlusMark,
-    MinusMark,
-    StarMark,
-    SlashMark,
-    PercentMark,
-    NotMark,
-    AssignMark,
-    AddMark,
-    SubtractMark,
-    IncreaseMark,
-    DecreaseMark,
-    LeftParen,
-    RightParen,
-    LeftBrace,
-    RightBrace,
-    LeftBracket,
-    RightBracket,
-    Semicolon,
-    Comma,
-    Other,
-}
+use ppd_lex::Kind;
 
 /// A level of binary operators, the strongest first.
 #[derive(Clone, Copy, Debug, PartialEq, Eq, Drop)]

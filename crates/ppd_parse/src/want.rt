@@ -1,5 +1,5 @@
 // What is wanted for the parts of a production.
-ghost use Rattle.std.specs.Prelude.{◌≡◌, IfOk, true};
+ghost use Rattle.std.specs.Prelude.{◌≡◌, OnOk};
 ghost use Rattle.ppd_parse.specs.Choice.{pushed};
 ghost use Rattle.ppd_parse.specs.Grammar.{base_in, deeper, inside, want_in};
 
@@ -42,16 +42,16 @@ fn want_in(at: At, base: usize, part: Part) -> Want
     }
 }
 
-// Wants the parts, the first of them next; the answer is true.
-pub fn want(wants: &mut Vec<Want>, at: At, base: usize, parts: &[Part]) -> Result<bool, AllocError>
-    ensures { IfOk result (λ done. (done ≡ true) × (wants.new.items ≡ pushed wants.old.items at base parts.now)) }
+// Wants the parts, the first of them next.
+pub fn want(wants: &mut Vec<Want>, at: At, base: usize, parts: &[Part]) -> Result<(), AllocError>
+    ensures { OnOk result (wants.new.items ≡ pushed wants.old.items at base parts.now) }
 {
     let mut left = parts.len();
     while left > 0 {
         left -= 1;
         wants.push(want_in(at, base, parts[left]))?;
     }
-    Ok(true)
+    Ok(())
 }
 
 // Where the trees of a symbol begin: a rest of a construct goes on with the construct's.

@@ -1,5 +1,5 @@
 -- Answers that are found by replays, one after another.
-use Rattle.std.proofs.Common.{◌≡◌, ℕ, ◌+◌, List, [], ◌∷◌, ◌++◌, Option, Some, None, Result, Ok, Err, refl, ◌∙◌, arith}
+use Rattle.std.proofs.Common.{◌≡◌, ℕ, ◌+◌, List, [], ◌∷◌, ◌++◌, Option, Some, None, Result, Ok, Err, refl, ap, ◌∙◌, arith}
 use Rattle.std.proofs.lemmas.List.Sums.{sum_by-append}
 use Rattle.ppd_entry.specs.declared.entry.At.{At}
 use Rattle.ppd_past.specs.declared.flow_error.FlowError.{FlowError}
@@ -58,3 +58,18 @@ module _ (past : Past) where
   found_err ms ns v b n m (Sets p k c) f = absurd (cc f.1)
   found_err ms ns v b n m (Diverged p k) f = some_then ms ns _ f
   found_err ms ns v b n m Memory f = tt
+
+  given_then : (p k : ℕ) (ns : List (ℕ × ℕ)) → failed_in past p k ≡ None → first_failure past ((p, k) ∷ ns) ≡ first_failure past ns
+  given_then p k ns fine = ap (λ f. failure_or p f (first_failure past ns)) fine
+
+  -- the first replay was done before, and its steps are not counted
+  pub found_given : {B : Type 0} (p k : ℕ) (ns : List (ℕ × ℕ)) (b : Result B FlowError) (n o : ℕ) (r : Result B FlowError)
+      → failed_in past p k ≡ None → IsFoundBy past ns b n o r → IsFoundBy past ((p, k) ∷ ns) b n (o + steps_in past p k) r
+  found_given p k ns b n o (Ok y) fine g =
+      let c : cost past ((p, k) ∷ ns) ≡ cost past ((p, k) ∷ []) + cost past ns = costs ((p, k) ∷ []) ns in
+      let rest : o ≡ n + cost past ns = g.2 in
+      (given_then p k ns fine ∙ g.0, g.1, omega arith)
+  found_given p k ns b n o (Err NoEvent) fine g = (given_then p k ns fine ∙ g.0, g.1)
+  found_given p k ns b n o (Err (Sets q e c)) fine g = (given_then p k ns fine ∙ g.0, g.1)
+  found_given p k ns b n o (Err (Diverged q e)) fine g = given_then p k ns fine ∙ g
+  found_given p k ns b n o (Err Memory) fine g = tt

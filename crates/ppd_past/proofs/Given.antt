@@ -11,8 +11,9 @@ use Rattle.ppd_emul.specs.declared.wanted.Wanted.{Wanted}
 use Rattle.ppd_emul.specs.Replay.{Replayed, replay}
 use Rattle.ppd_entry.specs.declared.entry.Entry.{Entry}
 use Rattle.ppd_entry.specs.IntervalLogs.{Indexed, IntervalLog, indexed, interval_log, log_in}
+use Rattle.ppd_entry.specs.Entries.{entries_at}
 use Rattle.ppd_index.specs.declared.row.Row.{Row}
-use Rattle.ppd_index.specs.Indexes.{AreIntervals, IsIndexOf, entries_at, rows_at}
+use Rattle.ppd_index.specs.Indexes.{AreIntervals, IsIndexOf, rows_at}
 use Rattle.ppd_index.specs.Tables.{indexed_of}
 use Rattle.ppd_model.specs.Bounds.{AreEach}
 use Rattle.ppd_model.specs.declared.flow.Item.{Item}

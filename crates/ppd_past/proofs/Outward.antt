@@ -6,10 +6,11 @@ use Rattle.std.proofs.lemmas.Option.{slice_get-map, unwrap_or-slice_get}
 use Rattle.ppd_ast.specs.declared.plan.Plan.{Plan}
 use Rattle.ppd_entry.specs.declared.entry.Entry.{Entry}
 use Rattle.ppd_entry.specs.IntervalLogs.{Indexed, indexed}
+use Rattle.ppd_entry.specs.Entries.{entries_at}
 use Rattle.ppd_emul.specs.Replay.{replay}
 use Rattle.ppd_index.specs.declared.interval.Interval.{Interval}
 use Rattle.ppd_index.specs.declared.row.Row.{Row}
-use Rattle.ppd_index.specs.Indexes.{AreIntervals, IsIndexOf, entries_at, interval_of, rows_at}
+use Rattle.ppd_index.specs.Indexes.{AreIntervals, IsIndexOf, interval_of, rows_at}
 use Rattle.ppd_index.specs.Tables.{extent_of, indexed_of}
 use Rattle.ppd_model.specs.Bounds.{AreEach}
 use Rattle.ppd_model.specs.Extents.{Extent, extents, first_of}

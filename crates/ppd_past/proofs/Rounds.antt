@@ -8,7 +8,7 @@ use Rattle.ppd_ast.specs.declared.plan.Plan.{Plan}
 use Rattle.ppd_ast.specs.declared.program.Program.{Program}
 use Rattle.ppd_sem.specs.declared.proc.Need.{Need}
 use Rattle.ppd_sem.specs.declared.proc.Need.TheVariants as n
-use Rattle.ppd_sem.specs.Described.{frame_of}
+use Rattle.ppd_sem.specs.Described.{frame_of, is_event}
 use Rattle.ppd_ast.specs.declared.plan.BlockKind.TheVariants as block
 use Rattle.ppd_sem.specs.Process.{started}
 use Rattle.ppd_sem.specs.Tables.{block_of, or_zero}
@@ -19,7 +19,6 @@ use Rattle.ppd_model.specs.Extents.{first_of}
 use Rattle.ppd_model.specs.FullTrace.{Tag, begun_tracing, me_in, top_tags}
 use Rattle.ppd_model.specs.Intervals.{own, Span, Split, begin_if, begin_span, begun_split, change_first, control_by, end_if, innermost, left_by, split_of, split_step, with_own, with_part, with_step}
 use Rattle.ppd_model.specs.Marks.{Mark, closed, opened}
-use Rattle.ppd_model.specs.Story.{is_event}
 use Rattle.ppd_model.specs.World.{change}
 use Rattle.ppd_past.specs.SeenBy.{round_by, rounds_by}
 use Rattle.ppd_past.proofs.Lists.{next_there, still_there}

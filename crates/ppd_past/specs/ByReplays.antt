@@ -1,10 +1,11 @@
 -- Answers that are found by replays of intervals: what they are, when they fail, and what they cost.
 use Rattle.std.specs.Prelude.{◌≡◌, ℕ, ◌+◌, List, [], ◌∷◌, sum_by, Option, Some, None, Result, Ok, Err, ⊤}
 use Rattle.ppd_entry.specs.declared.entry.At.{At}
+use Rattle.ppd_model.specs.declared.flow.Item.{Item}
 use Rattle.ppd_past.specs.declared.flow_error.FlowError.{FlowError}
 use Rattle.ppd_past.specs.declared.flow_error.FlowError.TheVariants.{Diverged, NoEvent, Sets, Memory}
 use Rattle.ppd_past.specs.declared.past.Past.{Past}
-use Rattle.ppd_past.specs.SeenBy.{failed_in, steps_in}
+use Rattle.ppd_past.specs.SeenBy.{failed_in, items_in, steps_in}
 
 -- the failure of a replay of process p, if it fails, else this
 abbrev pub failure_or : ℕ → Option ℕ → Option At → Option At
@@ -31,3 +32,7 @@ IsFoundBy past ms answer before after (Err (Sets p n c)) = (first_failure past m
 IsFoundBy past ms answer before after (Err (Diverged p n)) =
     first_failure past ms ≡ Some (record { process = p; entry = n })
 IsFoundBy past ms answer before after (Err Memory) = ⊤
+
+-- the replay of interval k of process p does not fail, and gives these items
+abbrev pub AreReplayed : Past → (p k : ℕ) → List Item → Type 0
+AreReplayed past p k items = (failed_in past p k ≡ None) × (items ≡ items_in past p k)

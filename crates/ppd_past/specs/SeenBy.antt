@@ -8,7 +8,7 @@ use Rattle.ppd_emul.specs.declared.trace.EmulError.TheVariants.{Diverged, Memory
 use Rattle.ppd_emul.specs.Replay.{Replayed, replay}
 use Rattle.ppd_entry.specs.declared.entry.Entry.{Entry}
 use Rattle.ppd_entry.specs.IntervalLogs.{indexed, interval_log}
-use Rattle.ppd_index.specs.Indexes.{entries_at}
+use Rattle.ppd_entry.specs.Entries.{entries_at}
 use Rattle.ppd_model.specs.declared.flow.Item.{Item}
 use Rattle.ppd_model.specs.Extents.{extents}
 use Rattle.ppd_past.specs.declared.past.Past.{Past}

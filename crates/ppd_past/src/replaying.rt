@@ -1,4 +1,4 @@
-ghost use Rattle.std.specs.Prelude.{◌≡◌, [], ◌∷◌, IfOk, Ok};
+ghost use Rattle.std.specs.Prelude.{◌≡◌, ◌≤◌, ◌^◌, [], ◌∷◌, IfOk, OnErr, Ok};
 ghost use Rattle.ppd_past.specs.ByReplays.{IsFoundBy};
 ghost use Rattle.ppd_past.specs.Pasts.{IsPast};
 ghost use Rattle.ppd_past.specs.SeenBy.{items_in};
@@ -12,9 +12,10 @@ use ppd_model::Item;
 use std::alloc::Global;
 use std::sync::ledger::Ledger;
 
-/// The number of an item or of an interval in 32 bits. `Memory` where it has more.
+/// The number of an item or of an interval in 32 bits. `Memory` exactly where it has more.
 pub fn number(n: usize) -> Result<u32, Memory>
-    ensures { IfOk result (λ small. small ≡ n) }
+    ensures ok { IfOk result (λ small. small ≡ n) }
+    ensures err { OnErr result (2 ^ 32 ≤ n) }
 {
     match u32::try_from(n) {
         Ok(small) => Ok(small),

@@ -5,9 +5,10 @@ use Rattle.ppd_ast.specs.Numbered.{is_call}
 use Rattle.ppd_ast.specs.declared.plan.Plan.{Plan}
 use Rattle.ppd_ast.specs.declared.program.Kind.{Kind}
 use Rattle.ppd_ast.specs.declared.program.Program.{Program}
-use Rattle.ppd_course.specs.Course.{calls_left, calls_of}
-use Rattle.ppd_course.proofs.Deeds.{DeedFits, Fits, deed_fits}
-use Rattle.ppd_course.proofs.Frames.{calls_clear, calls_returned, calls_write}
+use Rattle.ppd_ast.specs.Lookups.{kind_of}
+use Rattle.ppd_step_laws.specs.Course.{calls_left, calls_of}
+use Rattle.ppd_step_laws.proofs.Course.Deeds.{DeedFits, Fits, deed_fits}
+use Rattle.ppd_step_laws.proofs.Course.Frames.{calls_clear, calls_returned, calls_write}
 use Rattle.ppd_sem.specs.declared.asking.Pause.TheVariants.{Wants, Traps}
 use Rattle.ppd_sem.specs.declared.event.Event.{Event}
 use Rattle.ppd_sem.specs.declared.proc.Answer.{Answer}
@@ -15,7 +16,7 @@ use Rattle.ppd_sem.specs.declared.proc.Proc.{Proc}
 use Rattle.ppd_sem.specs.declared.proc.Todo.{Todo}
 use Rattle.ppd_sem.specs.Asked.{Asked}
 use Rattle.ppd_sem.specs.Deed.{Deed, set_local, set_shared, clear, branch, turn, leave, invoke, back, take, give, send, receive, print, pass, finish}
-use Rattle.ppd_sem.specs.Process.{act_by_asked, act_by_deed, head_deed, kind_of, top_call, top_cells, value_of}
+use Rattle.ppd_sem.specs.Process.{act_by_asked, act_by_deed, head_deed, top_call, top_cells, value_of}
 use Rattle.ppd_model.specs.declared.trace.EventId.{EventId}
 use Rattle.ppd_model.specs.declared.tracing.Activation.{Activation}
 use Rattle.ppd_model.specs.FullTrace.{Tag, all_tagged, into_at, tagged, tagged_by, tagged_into, with_test}

@@ -11,16 +11,17 @@ use Rattle.ppd_ast.specs.declared.plan.Plan.{Plan}
 use Rattle.ppd_ast.specs.declared.plan.Policy.{Policy}
 use Rattle.ppd_ast.specs.declared.program.Program.{Program}
 use Rattle.ppd_ast.specs.declared.status.Status.{Status}
+use Rattle.ppd_ast.specs.Lookups.{top_of_body}
 use Rattle.ppd_blocks.specs.Blocks.{plan_of}
-use Rattle.ppd_course.specs.Course.{EndsWithEnd}
+use Rattle.ppd_step_laws.specs.Course.{EndsWithEnd}
 use Rattle.ppd_facts.proofs.State.{IsState, act_state, started_state}
 use Rattle.ppd_nested.specs.Stack.{IsInOrder, process_block}
 use Rattle.ppd_nested.proofs.Framed.{process_stays}
 use Rattle.ppd_nested.proofs.Planned.{kind_is, process_found}
 use Rattle.ppd_nested.proofs.Stacks.{steps_move}
 use Rattle.ppd_sem.specs.Blocks.{block_kind}
-use Rattle.ppd_sem.specs.Described.{trap_of}
-use Rattle.ppd_sem.specs.Process.{act, need_of, started, todos, top_of}
+use Rattle.ppd_sem.specs.Described.{trap_of, is_event}
+use Rattle.ppd_sem.specs.Process.{act, need_of, started, todos}
 use Rattle.ppd_sem.specs.Runs.{IsInner}
 use Rattle.ppd_sem.specs.Tables.{block_of, or_zero}
 use Rattle.ppd_sem.specs.declared.proc.Need.{Need}
@@ -32,7 +33,6 @@ use Rattle.ppd_model.specs.FullTrace.{begun_tracing, trace_by}
 use Rattle.ppd_model.specs.Intervals.{Split, begun_split, split_step}
 use Rattle.ppd_model.specs.LocalTags.{AreOwn}
 use Rattle.ppd_model.specs.Logs.{status_of}
-use Rattle.ppd_model.specs.Story.{is_event}
 use Rattle.ppd_model.specs.declared.tracing.Story.{Story}
 use Rattle.ppd_model.specs.declared.tracing.Taken.{Taken}
 use Rattle.ppd_model.proofs.Lists.{at_below}
@@ -249,7 +249,7 @@ module _ (program : Program) (policy : Policy) (v : IsValid program) (story : St
         state = started_state program plan v p budget lt;
         told = λ runs. record {
           open_is = ap (λ c. c ++ Some (process_block program plan p) ∷ [])
-              (sym (none_closed inner.0 (top_of (slice_get program.bodies (program.functions + p))) inner.1));
+              (sym (none_closed inner.0 (top_of_body (slice_get program.bodies (program.functions + p))) inner.1));
           begun = from_own program plan p y first_level [] _ (block.Process (program.functions + p)) refl
               (process_kind lt) (refl, refl);
         };

@@ -11,24 +11,25 @@ use Rattle.ppd_ast.specs.declared.plan.Policy.{Policy}
 use Rattle.ppd_ast.specs.declared.program.Kind.{Kind}
 use Rattle.ppd_ast.specs.declared.program.Kind.TheVariants as kind
 use Rattle.ppd_ast.specs.declared.program.Program.{Program}
+use Rattle.ppd_ast.specs.Lookups.{kind_of, body_of}
 use Rattle.ppd_beside.specs.Beside.{Each}
 use Rattle.ppd_beside.specs.Opens.{IsWhile}
 use Rattle.ppd_blocks.specs.Blocks.{plan_of}
-use Rattle.ppd_course.specs.Course.{IsWay, behind, calls_left, calls_of, follow_if, head_of}
-use Rattle.ppd_course.proofs.Last.{ends_are_last}
-use Rattle.ppd_course.proofs.Ways.{same_kind}
+use Rattle.ppd_step_laws.specs.Course.{IsWay, behind, calls_left, calls_of, follow_if}
+use Rattle.ppd_step_laws.proofs.Course.Last.{ends_are_last}
 use Rattle.ppd_facts.proofs.Entered.{IsEntered}
 use Rattle.ppd_facts.proofs.State.{IsState}
-use Rattle.ppd_nested.specs.Stack.{IsInOrder, bodies_in, body_of, process_block, returning}
+use Rattle.ppd_nested.specs.Stack.{IsInOrder, bodies_in, process_block, returning}
 use Rattle.ppd_nested.proofs.DeedKinds.{loop_is, return_no_loop, while_block}
 use Rattle.ppd_nested.proofs.Framed.{head_returns, head_stays}
 use Rattle.ppd_sem.specs.Described.{ends_body, frame_of, is_block, is_in_loop}
-use Rattle.ppd_sem.specs.Process.{kind_of, loop_of, top_body}
+use Rattle.ppd_sem.specs.Process.{loop_of, top_body}
 use Rattle.ppd_sem.specs.Runs.{returns}
 use Rattle.ppd_sem.specs.Tables.{block_of}
 use Rattle.ppd_sem.specs.declared.proc.Frame.{Frame}
 use Rattle.ppd_sem.specs.declared.proc.Proc.{Proc}
 use Rattle.ppd_sem.specs.declared.proc.Todo.{Todo}
+use Rattle.ppd_sem.specs.Passed.{next_stmt_of}
 use Rattle.ppd_model.specs.Intervals.{Split}
 use Rattle.ppd_search.specs.declared.leaf_call.LeafCall.{LeafCall}
 use Rattle.ppd_search.specs.Locals.{frame_in}
@@ -63,7 +64,7 @@ is_there : (o : Option ℕ) → is_some o ≡ true → (b : ℕ) × (o ≡ Some 
 is_there None h = absurd (true≢false (sym h))
 is_there (Some b) h = (b, refl)
 
-none_first : (us : List Todo) → head_of us ≡ None → us ≡ []
+none_first : (us : List Todo) → next_stmt_of us ≡ None → us ≡ []
 none_first [] e = refl
 none_first (u ∷ us) e = absurd (none-some u.stmt (sym e))
 
@@ -185,9 +186,9 @@ module _ (program : Program) (policy : Policy) (v : IsValid program) (base pb : 
         ended stays ends =
             let last = end_last (kind_of program t.stmt) ends in
             let nothing : ts ≡ [] =
-            none_first ts (subst (λ b. head_of ts
+            none_first ts (subst (λ b. next_stmt_of ts
             ≡ follow_if program (behind b t.stmt calls)) stays way.0.follows
-            ∙ ends_are_last program t.stmt v (subst IsEnding (same_kind program t.stmt) last.0)) in
+            ∙ ends_are_last program t.stmt v last.0) in
             let same : closing program plan (t ∷ ts) ≡ [] =
             head_plain program plan t ts (while_block plan t.stmt (kind_of program t.stmt) last.1) stays
             ∙ ap (closing program plan) nothing in

@@ -10,7 +10,8 @@ use Rattle.ppd_ast.specs.declared.plan.Start.TheVariants as start
 use Rattle.ppd_ast.specs.declared.program.Kind.{Kind}
 use Rattle.ppd_ast.specs.declared.program.Program.{Program}
 use Rattle.ppd_ast.specs.declared.status.Trap.TheVariants as trap
-use Rattle.ppd_course.proofs.Deeds.{IsLoopDeed}
+use Rattle.ppd_ast.specs.Lookups.{kind_of, top_of_body, body_of}
+use Rattle.ppd_step_laws.proofs.Course.Deeds.{IsLoopDeed}
 use Rattle.ppd_model.proofs.Deeds.{AskedOf as DoesIf, asked_of as does}
 use Rattle.ppd_sem.specs.declared.asking.Pause.TheVariants.{Wants, Traps}
 use Rattle.ppd_sem.specs.declared.proc.Answer.{Answer}
@@ -20,11 +21,11 @@ use Rattle.ppd_sem.specs.declared.proc.Proc.{Proc}
 use Rattle.ppd_sem.specs.declared.proc.Todo.{Todo}
 use Rattle.ppd_sem.specs.Asked.{Asked}
 use Rattle.ppd_sem.specs.Deed.{Deed, set_local, set_shared, clear, branch, turn, leave, invoke, back, take, give, send, receive, print, pass, finish}
-use Rattle.ppd_sem.specs.Process.{act_by_asked, act_by_deed, act_by_need, call_unit, chan_of, cost, entry_of, head_deed, kind_of, loop_of, need_by_entry, need_by_offer, need_of_asked, need_of_deed, need_of_head, need_of_leaving, need_of_running, need_of_send, offer_of, top_body, top_call, top_cells, top_of}
+use Rattle.ppd_sem.specs.Process.{act_by_asked, act_by_deed, act_by_need, call_unit, chan_of, cost, entry_of, head_deed, loop_of, need_by_entry, need_by_offer, need_of_asked, need_of_deed, need_of_head, need_of_leaving, need_of_running, need_of_send, offer_of, top_body, top_call, top_cells}
 use Rattle.ppd_sem.specs.Runs.{returns}
 use Rattle.ppd_sem.specs.Tables.{block_of, capacity_of, unit_of}
-use Rattle.ppd_model.proofs.Homes.{AskedOf, DeedOf, body_at, head_of}
-use Rattle.ppd_nested.specs.Stack.{bodies_in, body_of, returning}
+use Rattle.ppd_model.proofs.Homes.{AskedOf, DeedOf, head_of}
+use Rattle.ppd_nested.specs.Stack.{bodies_in, returning}
 use Rattle.ppd_nested.proofs.DeedKinds.{found_while, loop_is, no_loop, return_no_loop, send_is, while_block, while_stays}
 use Rattle.ppd_nested.proofs.Framed.{head_returns}
 use Rattle.ppd_places.specs.Closing.{closing, if_there, of_loop, of_return}
@@ -199,14 +200,14 @@ module _ (program : Program) (plan : Plan) (p : ℕ) (v : IsValid program) (a : 
 
     calling : (x : Bool) (f : ℕ) (values : List ℤ) (into : Option ℕ) (left : List ℤ)
         → head_deed program t s ≡ Ok (invoke f values into, left)
-        → DeedOf program (body_at program t.stmt) (kind_of program t.stmt) (invoke f values into)
+        → DeedOf program (body_of program t.stmt) (kind_of program t.stmt) (invoke f values into)
         → Tells (if x then need.Trap trap.Depth else need.Invoke (block_of plan (block.Function f))
         (unit_of plan (start.Entry f)))
     calling true f values into left at h = (unchanged, tt)
     calling false f values into left at h = (
       moved (need.Invoke (block_of plan (block.Function f)) (unit_of plan (start.Entry f)))
           (Ok (invoke f values into, left)) at
-          (top_opens program plan f (top_of (slice_get program.bodies f)) ts h.1.0
+          (top_opens program plan f (top_of_body (slice_get program.bodies f)) ts h.1.0
           ∙ ap (λ xs. block_of plan (block.Function f) ∷ xs)
           (sym (gone (other_deed (invoke f values into) left at (λ body z. z)) h.0))),
       record { function = f; values = values; into = into; left = left; deed = at; block = refl },
@@ -239,7 +240,7 @@ module _ (program : Program) (plan : Plan) (p : ℕ) (v : IsValid program) (a : 
     sending (suc n) c value left at stays = plain (send c value) left at (λ body z. z) (λ z. z) stays refl
 
     by_deed : (d : Deed) (left : List ℤ) → head_deed program t s ≡ Ok (d, left)
-        → DeedOf program (body_at program t.stmt) (kind_of program t.stmt) d
+        → DeedOf program (body_of program t.stmt) (kind_of program t.stmt) d
         → Tells (need_of_deed program plan t.stmt s d)
     by_deed (set_local c x) left at h = plain (set_local c x) left at (λ body z. z) (λ z. z) h refl
     by_deed (set_shared c x) left at h = plain (set_shared c x) left at (λ body z. z) (λ z. z) h refl
@@ -247,12 +248,12 @@ module _ (program : Program) (plan : Plan) (p : ℕ) (v : IsValid program) (a : 
     by_deed (branch stmts) left at h = (
       moved need.Plain (Ok (branch stmts, left)) at
           (gone (other_deed (branch stmts) left at (λ body z. z)) h.0
-          ∙ sym (inner_plain program plan (body_at program t.stmt) stmts ts h.1)),
+          ∙ sym (inner_plain program plan (body_of program t.stmt) stmts ts h.1)),
       record { no_call = other_call (branch stmts) left at (λ z. z); stays = h.0 },
     )
     by_deed (turn stmts) left at h = (
       moved need.Plain (Ok (turn stmts, left)) at
-          (sym (inner_plain program plan (body_at program t.stmt) stmts (t ∷ ts) h.1)),
+          (sym (inner_plain program plan (body_of program t.stmt) stmts (t ∷ ts) h.1)),
       record { no_call = other_call (turn stmts) left at (λ z. z); stays = h.0 },
     )
     by_deed leave left at h = leaving (block_of plan (block.Loop t.stmt)) left at refl loop
@@ -271,7 +272,7 @@ module _ (program : Program) (plan : Plan) (p : ℕ) (v : IsValid program) (a : 
     by_deed finish left at h = (tt, tt)
 
     by_asked : (x : Asked Deed) → head_deed program t s ≡ x
-        → AskedOf program (body_at program t.stmt) (kind_of program t.stmt) x
+        → AskedOf program (body_of program t.stmt) (kind_of program t.stmt) x
         → Tells (need_of_asked program plan t.stmt s x)
     by_asked (Ok q) at h = by_deed q.0 q.1 at h
     by_asked (Err (Wants c)) at h = (moved (need.Read c) (Err (Wants c)) at unchanged, at)

@@ -7,17 +7,17 @@ use Rattle.ppd_ast.specs.declared.plan.BlockKind.TheVariants as block
 use Rattle.ppd_ast.specs.declared.plan.Plan.{Plan}
 use Rattle.ppd_ast.specs.declared.plan.Policy.{Policy}
 use Rattle.ppd_ast.specs.declared.program.Program.{Program}
+use Rattle.ppd_ast.specs.Lookups.{kind_of, body_of_stmt, body_of}
 use Rattle.ppd_beside.specs.Beside.{IsCallOf}
 use Rattle.ppd_blocks.specs.Blocks.{plan_of}
-use Rattle.ppd_course.proofs.Deeds.{Fits, IsInvoke, deed_fits}
+use Rattle.ppd_step_laws.proofs.Course.Deeds.{Fits, IsInvoke, deed_fits}
 use Rattle.ppd_facts.proofs.Called.{AreCalled}
 use Rattle.ppd_facts.proofs.Counted.{calling_block}
 use Rattle.ppd_facts.proofs.Placed.{callee}
 use Rattle.ppd_facts.proofs.State.{IsState, head_is_home}
-use Rattle.ppd_nested.specs.Stack.{IsInOrder, bodies_in, body_of, returning}
+use Rattle.ppd_nested.specs.Stack.{IsInOrder, bodies_in, returning}
 use Rattle.ppd_nested.proofs.Framed.{head_returns, head_stays}
-use Rattle.ppd_sem.specs.Blocks.{body_in}
-use Rattle.ppd_sem.specs.Process.{kind_of, loop_of, top_body, top_cells}
+use Rattle.ppd_sem.specs.Process.{loop_of, top_body, top_cells}
 use Rattle.ppd_sem.specs.Runs.{returns}
 use Rattle.ppd_sem.specs.Tables.{block_of}
 use Rattle.ppd_sem.specs.declared.proc.Frame.{Frame}
@@ -135,10 +135,10 @@ call_no_leaf program policy p s t ts o (Some lf) c b xs v state order is call e 
         in_leaf program (plan_of program policy) s.todo zs (at ∙ ap (λ y. y ∷ zs) none) in
         let top = top_function program s.frames leaf.function leaf.others (program.functions + p) v state.called
         (order.frames ∙ ap (λ ys. ys ++ (program.functions + p) ∷ []) leaf.returns_to) in
-        let home : body_in (slice_get program.stmts t.stmt) ≡ leaf.function =
+        let home : body_of_stmt (slice_get program.stmts t.stmt) ≡ leaf.function =
         (head_is_home program (plan_of program policy) v s state t ts is).body ∙ top.0 in
         let is_block : is_some
-        (block_of (plan_of program policy) (block.Function (body_in (slice_get program.stmts t.stmt)))) ≡ true =
+        (block_of (plan_of program policy) (block.Function (body_of_stmt (slice_get program.stmts t.stmt)))) ≡ true =
         calling_block program policy t.stmt call.function v (is_call_of program (plan_of program policy) s t o call)
         (subst (λ n. n < program.functions) (sym home) top.1) in
         absurd (true≢false (sym is_block

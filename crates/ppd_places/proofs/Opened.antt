@@ -3,12 +3,12 @@ use Rattle.std.proofs.Common.{◌≡◌, ℕ, Bool, true, false, List, [], ◌�
 use Rattle.ppd_ast.specs.declared.plan.BlockKind.TheVariants as block
 use Rattle.ppd_ast.specs.declared.plan.Plan.{Plan}
 use Rattle.ppd_ast.specs.declared.program.Program.{Program}
+use Rattle.ppd_ast.specs.Lookups.{kind_of, body_of}
 use Rattle.ppd_sem.specs.declared.proc.Todo.{Todo}
-use Rattle.ppd_sem.specs.Process.{kind_of, loop_of, todos}
+use Rattle.ppd_sem.specs.Process.{loop_of, todos}
 use Rattle.ppd_sem.specs.Runs.{returns}
 use Rattle.ppd_sem.specs.Tables.{block_of}
 use Rattle.ppd_model.proofs.Homes.{AllBeside, AreTop}
-use Rattle.ppd_nested.specs.Stack.{body_of}
 use Rattle.ppd_nested.proofs.Framed.{body_is}
 use Rattle.ppd_places.specs.Closing.{closing, if_there, of_loop, of_return}
 

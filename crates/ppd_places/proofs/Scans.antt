@@ -11,8 +11,9 @@ use Rattle.ppd_ast.specs.declared.plan.Plan.{Plan}
 use Rattle.ppd_ast.specs.declared.program.Kind.{Kind}
 use Rattle.ppd_ast.specs.declared.program.Kind.TheVariants as kind
 use Rattle.ppd_ast.specs.declared.program.Program.{Program}
+use Rattle.ppd_ast.specs.Lookups.{kind_of}
 use Rattle.ppd_sem.specs.Blocks.{block_kind, postlog_cells}
-use Rattle.ppd_sem.specs.Process.{into_of, kind_of}
+use Rattle.ppd_sem.specs.Process.{into_of}
 use Rattle.ppd_sem.specs.Runs.{returns}
 use Rattle.ppd_sem.specs.declared.event.Event.{Event}
 use Rattle.ppd_model.specs.declared.flow.Item.{Item}

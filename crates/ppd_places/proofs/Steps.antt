@@ -5,17 +5,18 @@ use Rattle.std.specs.Prelude.{drop, slice_get}
 use Rattle.ppd_ast.specs.Valid.{IsValid}
 use Rattle.ppd_ast.specs.declared.plan.Plan.{Plan}
 use Rattle.ppd_ast.specs.declared.program.Program.{Program}
-use Rattle.ppd_course.specs.Course.{calls_of}
+use Rattle.ppd_ast.specs.Lookups.{kind_of}
+use Rattle.ppd_step_laws.specs.Course.{calls_of}
 use Rattle.ppd_nested.specs.Stack.{IsInOrder, bodies_in, returning}
 use Rattle.ppd_nested.proofs.DeedKinds.{while_stays}
 use Rattle.ppd_sem.specs.declared.proc.Need.{Need}
 use Rattle.ppd_sem.specs.declared.proc.Need.TheVariants as need
 use Rattle.ppd_sem.specs.declared.proc.Proc.{Proc}
 use Rattle.ppd_sem.specs.declared.proc.Todo.{Todo}
-use Rattle.ppd_sem.specs.Process.{act, act_at, act_by_asked, act_by_need, head_deed, kind_of, need_of, need_of_running}
+use Rattle.ppd_sem.specs.Process.{act, act_at, act_by_asked, act_by_need, head_deed, need_of, need_of_running}
 use Rattle.ppd_sem.proofs.Progress.{need_at_todo}
+use Rattle.ppd_sem.specs.Described.{is_event}
 use Rattle.ppd_model.specs.Logs.{status_of}
-use Rattle.ppd_model.specs.Story.{is_event}
 use Rattle.ppd_model.specs.declared.trace.EventId.{EventId}
 use Rattle.ppd_model.specs.declared.tracing.Activation.{Activation}
 use Rattle.ppd_model.specs.declared.tracing.Story.{Story}

@@ -6,9 +6,10 @@ use Rattle.ppd_ast.specs.declared.plan.Plan.{Plan}
 use Rattle.ppd_ast.specs.declared.program.Kind.{Kind}
 use Rattle.ppd_ast.specs.declared.program.Kind.TheVariants as kind
 use Rattle.ppd_ast.specs.declared.program.Program.{Program}
+use Rattle.ppd_ast.specs.Lookups.{kind_of}
 use Rattle.ppd_beside.specs.Beside.{IsCallOf}
 use Rattle.ppd_sem.specs.Described.{trap_of}
-use Rattle.ppd_sem.specs.Process.{kind_of, need_of}
+use Rattle.ppd_sem.specs.Process.{need_of}
 use Rattle.ppd_sem.specs.Runs.{returns}
 use Rattle.ppd_sem.specs.Tables.{block_of}
 use Rattle.ppd_sem.specs.declared.event.Event.{Event}

@@ -9,13 +9,14 @@ use Rattle.ppd_ast.specs.declared.plan.Plan.{Plan}
 use Rattle.ppd_ast.specs.declared.plan.Policy.{Policy}
 use Rattle.ppd_ast.specs.declared.program.Kind.{Kind}
 use Rattle.ppd_ast.specs.declared.program.Program.{Program}
+use Rattle.ppd_ast.specs.Lookups.{kind_of}
 use Rattle.ppd_blocks.specs.Blocks.{plan_of}
 use Rattle.ppd_facts.proofs.State.{IsState}
 use Rattle.ppd_nested.specs.Stack.{IsInOrder, process_block}
 use Rattle.ppd_nested.proofs.DeedKinds.{found_while, loop_is}
 use Rattle.ppd_nested.proofs.Planned.{kind_is}
 use Rattle.ppd_sem.specs.Blocks.{block_kind}
-use Rattle.ppd_sem.specs.Process.{entry_of, kind_of, loop_of, need_of, top_body}
+use Rattle.ppd_sem.specs.Process.{entry_of, loop_of, need_of, top_body}
 use Rattle.ppd_sem.specs.Runs.{returns}
 use Rattle.ppd_sem.specs.Tables.{block_of}
 use Rattle.ppd_sem.specs.declared.proc.Proc.{Proc}

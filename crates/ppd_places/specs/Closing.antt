@@ -3,11 +3,11 @@ use Rattle.std.specs.Prelude.{ℕ, List, [], ◌∷◌, ◌++◌, Option, Some, 
 use Rattle.ppd_ast.specs.declared.plan.BlockKind.TheVariants as block
 use Rattle.ppd_ast.specs.declared.plan.Plan.{Plan}
 use Rattle.ppd_ast.specs.declared.program.Program.{Program}
+use Rattle.ppd_ast.specs.Lookups.{kind_of, body_of}
 use Rattle.ppd_sem.specs.declared.proc.Todo.{Todo}
-use Rattle.ppd_sem.specs.Process.{kind_of, loop_of}
+use Rattle.ppd_sem.specs.Process.{loop_of}
 use Rattle.ppd_sem.specs.Runs.{returns}
 use Rattle.ppd_sem.specs.Tables.{block_of}
-use Rattle.ppd_nested.specs.Stack.{body_of}
 
 -- a block, if it is there
 abbrev pub if_there : Option ℕ → List (Option ℕ)

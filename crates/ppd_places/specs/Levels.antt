@@ -3,10 +3,10 @@ use Rattle.std.specs.Prelude.{◌≡◌, ℕ, ◌<◌, true, false, List, [], �
 use Rattle.ppd_ast.specs.declared.plan.Plan.{Plan}
 use Rattle.ppd_ast.specs.declared.program.Program.{Program}
 use Rattle.ppd_sem.specs.declared.proc.Need.{Need}
+use Rattle.ppd_sem.specs.Described.{is_event}
 use Rattle.ppd_model.specs.declared.trace.TracedEvent.{TracedEvent}
 use Rattle.ppd_model.specs.Intervals.{Part, own, nested, Span, Split, is_closed}
 use Rattle.ppd_model.specs.Marks.{Mark, opened, closed}
-use Rattle.ppd_model.specs.Story.{is_event}
 
 -- an interval that runs: its block, and its parts before the one that runs inside it, if one does
 pub record Level : Type 0 where

@@ -4,14 +4,14 @@ use Rattle.std.specs.Prelude.{IsTrue, nat_eq, if◌then◌else◌}
 use Rattle.std.specs.List.{filter, range_with_len}
 use Rattle.std.proofs.lemmas.Bool.{cases_eq}
 use Rattle.std.proofs.lemmas.List.{drop_more}
-use Rattle.ppd_bits.specs.CellSets.{RisesFrom, has, those}
+use Rattle.ppd_ast.specs.Members.{has, those, RisesFrom, AreBelow}
 use Rattle.ppd_model.specs.declared.graph.EdgeId.{EdgeId}
 use Rattle.ppd_model.specs.HappenedBefore.{edge}
 use Rattle.ppd_graph.specs.declared.sets.EdgeSets.{EdgeSets}
 use Rattle.ppd_graph.specs.LogRecord.{no_sets}
 use Rattle.ppd_graph.proofs.Timed.{at_end, at_front, length_more}
 use Rattle.ppd_race.specs.declared.busy.Busy.{Busy}
-use Rattle.ppd_race.specs.Busy.{AreBelow, EachBusyIn, IsBusyIn, IsBusyOf, IsBusyPart, IsBusyRow, Takes, is_busy, is_busy_in, is_none, numbers}
+use Rattle.ppd_race.specs.Busy.{EachBusyIn, IsBusyIn, IsBusyOf, IsBusyPart, IsBusyRow, Takes, is_busy, is_busy_in, is_none, numbers}
 use Rattle.ppd_race.proofs.Grown.{at_any}
 
 -- ---- one edge

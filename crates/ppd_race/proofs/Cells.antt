@@ -3,7 +3,7 @@ use Rattle.std.proofs.Common.{◌≡◌, ℕ, zero, suc, ◌+◌, ◌<◌, ◌�
 use Rattle.std.specs.Prelude.{IsTrue, nat_eq, if◌then◌else◌}
 use Rattle.std.specs.List.{flat_map, range_with_len}
 use Rattle.std.proofs.lemmas.Bool.{and_left, and_right, cases_eq, or_parts}
-use Rattle.ppd_bits.specs.CellSets.{RisesFrom, has}
+use Rattle.ppd_ast.specs.Members.{has, RisesFrom, AreBelow}
 use Rattle.ppd_model.specs.declared.graph.EdgeId.{EdgeId}
 use Rattle.ppd_model.specs.declared.graph.Race.{Race}
 use Rattle.ppd_model.specs.declared.graph.RaceKind.{RaceKind}
@@ -13,7 +13,7 @@ use Rattle.ppd_model.specs.Races.{first_writes, kinds, race, second_writes}
 use Rattle.ppd_graph.specs.declared.sync_graph.SyncGraph.{SyncGraph}
 use Rattle.ppd_graph.specs.Graphs.{is_before_by, reads_in, sets_at, writes_in}
 use Rattle.ppd_race.specs.declared.busy.Busy.{Busy}
-use Rattle.ppd_race.specs.Busy.{AreBelow, IsBusyOf, is_busy, is_none, race_if, race_of, races_all, races_at, races_between}
+use Rattle.ppd_race.specs.Busy.{IsBusyOf, is_busy, is_none, race_if, race_of, races_all, races_at, races_between}
 use Rattle.ppd_race.specs.Races.{Edges, are_apart, candidates_at, edges_of_graph, is_race_in, most_cells}
 use Rattle.ppd_race.proofs.ByPairs.{filter_flat, flat_none, none_if_ordered}
 

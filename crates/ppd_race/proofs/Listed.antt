@@ -3,7 +3,7 @@ use Rattle.std.proofs.Common.{◌≡◌, ℕ, zero, suc, ◌+◌, ◌<◌, ◌�
 use Rattle.std.specs.Prelude.{nat_eq, if◌then◌else◌, ⊤}
 use Rattle.std.proofs.lemmas.Bool.{cases_eq}
 use Rattle.std.proofs.lemmas.List.{drop_all, drop_more}
-use Rattle.ppd_bits.specs.CellSets.{RisesFrom, has}
+use Rattle.ppd_ast.specs.Members.{has, RisesFrom}
 use Rattle.ppd_graph.specs.declared.sync_graph.SyncGraph.{SyncGraph}
 use Rattle.ppd_graph.specs.Graphs.{edge_count}
 use Rattle.ppd_race.specs.declared.busy.Accessor.{Accessor}

@@ -3,8 +3,7 @@ use Rattle.std.proofs.Common.{◌≡◌, ℕ, zero, suc, ◌+◌, ◌<◌, ◌�
 use Rattle.std.specs.List.{filter, range_with_len}
 use Rattle.std.specs.Prelude.{IsTrue, Some, None, unwrap_or, nat_eq, nat_lt, ⊤}
 use Rattle.std.proofs.lemmas.Bool.{cond-true, cond-false, and_parts, cases_lt, cases_eq}
-use Rattle.ppd_bits.specs.CellSets.{RisesFrom, has, those}
-use Rattle.ppd_race.specs.Busy.{AreBelow}
+use Rattle.ppd_ast.specs.Members.{has, those, RisesFrom, AreBelow}
 use Rattle.ppd_race.specs.Union.{HasBelow, IsUnion, do_rise, least_of, left_after, push_when}
 use Rattle.ppd_race.proofs.BusyRows.{rises_filtered, those_more}
 use Rattle.ppd_race.proofs.Cells.{not_below}

@@ -1,58 +1,30 @@
 -- The races of the logs of a run are those of the run.
-use Rattle.std.proofs.Common.{◌≡◌, ℕ, zero, suc, ◌+◌, ◌<◌, ◌≤◌, List, [], ◌∷◌, ◌++◌, Some, None, Bool, true, false, refl, ap, sym, subst, ◌∙◌, arith, length, map, get_or, filter_map, true≢false, ne_eqb, inl, inr, ◌&&◌, ◌||◌}
+use Rattle.std.proofs.Common.{◌≡◌, ℕ, zero, suc, ◌+◌, ◌<◌, ◌≤◌, List, [], ◌∷◌, ◌++◌, Some, Bool, true, false, refl, ap, sym, subst, ◌∙◌, arith, length, map, get_or, filter_map, ne_eqb, inl, inr, ◌&&◌, ◌||◌}
 use Rattle.std.specs.Prelude.{nat_eq, slice_get}
-use Rattle.std.specs.List.{cons_option, list_any, range_with_len}
+use Rattle.std.specs.List.{list_any, range_with_len}
 use Rattle.std.proofs.lemmas.Bool.{cases_eq}
 use Rattle.ppd_ast.specs.Valid.{IsValid}
 use Rattle.ppd_ast.specs.declared.plan.Plan.{Plan}
 use Rattle.ppd_ast.specs.declared.program.Program.{Program}
-use Rattle.ppd_ast.specs.declared.status.Status.{Status}
-use Rattle.ppd_bits.specs.CellSets.{has}
-use Rattle.ppd_entry.specs.declared.entry.Entry.{Entry}
-use Rattle.ppd_entry.specs.declared.entry.Entry.TheVariants as entry
+use Rattle.ppd_ast.specs.Members.{has}
 use Rattle.ppd_model.specs.declared.graph.EdgeId.{EdgeId}
 use Rattle.ppd_model.specs.HappenedBefore.{is_edge_before}
 use Rattle.ppd_model.specs.Logs.{closed_logs}
 use Rattle.ppd_model.specs.Races.{has_access, races, writes_or_not}
 use Rattle.ppd_model.specs.Record.{SharedAccess, accesses, record_of}
-use Rattle.ppd_model.specs.RecordedSets as recorded
-use Rattle.ppd_model.specs.RecordedSets.{RecordsAccesses, cells_in, is_end, last_edge, record_in, sets_at_sync, sync_in}
+use Rattle.ppd_model.specs.RecordedSets.{cells_in, last_edge, record_in, sync_in}
 use Rattle.ppd_model.specs.Story.{story}
 use Rattle.ppd_model.specs.Synchronizations.{syncs_of}
 use Rattle.ppd_model.proofs.AccessSets.{accesses_there, cells_are}
 use Rattle.ppd_model.proofs.Prefixes.{objects_stay}
-use Rattle.ppd_model.proofs.RecordedSets.{record_sets}
 use Rattle.ppd_model.proofs.RecordedSyncs.{record_syncs}
-use Rattle.ppd_graph.specs.declared.sets.EdgeSets.{EdgeSets}
 use Rattle.ppd_graph.specs.Graphs.{sets_at}
-use Rattle.ppd_graph.specs.LogRecord.{edge_sets, ended_by, found_after, no_sets, sets_from, edge_sets_in}
+use Rattle.ppd_graph.specs.LogRecord.{no_sets, edge_sets_in}
+use Rattle.ppd_graph.proofs.ClosedSets.{row_sets, run_sets}
 use Rattle.ppd_graph.proofs.Timed.{at_end, at_front, length_more}
 use Rattle.ppd_race.specs.Races.{AreCellsThere, IsThere, RunRacesAreOfLogs, cells_by, edges_of_logs, edges_of_story, races_of_logs}
 use Rattle.ppd_race.proofs.Alike.{alike_race, length_mapped}
 use Rattle.ppd_race.proofs.ByPairs.{story_races}
-
--- ---- the sets of a closed log
-
-ended : List ℕ × List ℕ → EdgeSets
-ended t = edge_sets t.0 t.1
-
-closed_sets : (before : List Entry) (status : Status) (rest : ℕ) (r w : List ℕ) → list_any is_end before ≡ false → sets_from None (before ++ entry.End status rest r w ∷ []) ≡ map ended (filter_map sets_at_sync before) ++ edge_sets r w ∷ []
-unfolding ended
-closed_sets [] status rest r w h = refl
-closed_sets (e ∷ es) status rest r w h = by e h (closed_sets es status rest r w)
-  where
-    by : (e : Entry) → (is_end e || list_any is_end es) ≡ false
-        → (list_any is_end es ≡ false → sets_from None (es ++ entry.End status rest r w ∷ []) ≡ map ended (filter_map sets_at_sync es) ++ edge_sets r w ∷ [])
-        → ended_by e ++ sets_from (found_after None e) (es ++ entry.End status rest r w ∷ []) ≡ map ended (cons_option (sets_at_sync e) (filter_map sets_at_sync es)) ++ edge_sets r w ∷ []
-    by (entry.Sync kind object number value reads writes) k later = ap (λ x. edge_sets reads writes ∷ x) (later k)
-    by (entry.Prelog block values) k later = later k
-    by (entry.Unit unit values) k later = later k
-    by (entry.Postlog block values) k later = later k
-    by (entry.End status' rest' reads writes) k later = absurd (true≢false k)
-
-map_both : {A B C : Type 0} (f : B → C) (g : A → B) (xs : List A) → map f (map g xs) ≡ map (λ x. f (g x)) xs
-map_both f g [] = refl
-map_both f g (x ∷ xs) = ap (λ r. f (g x) ∷ r) (map_both f g xs)
 
 count_range : {A : Type 0} (f : ℕ → A) (a n : ℕ) → length (map f (range_with_len a n)) ≡ n
 count_range f a zero = refl
@@ -74,16 +46,6 @@ at_through f d n i h = elim (cases_eq i n) [
       at_front (map f (range_with_len 0 n)) (f n) d i (subst (λ k. i < k) (sym long) less) ∙ at_range_from f d 0 n i less ∙ ap f z
 ]
 
-got : {A : Type 0} (xs : List A) (i : ℕ) (d : A) → i < length xs → slice_get xs i ≡ Some (get_or xs i d)
-got [] i d h = absurd (omega (arith, h))
-got (x ∷ xs) zero d h = refl
-got (x ∷ xs) (suc i) d h = got xs i d (omega (arith, h))
-
-at_there : {A B : Type 0} (f : List A → List B) (rows : List (List A)) (q : ℕ) → q < length rows → get_or (map f rows) q [] ≡ f (get_or rows q [])
-at_there f [] q lt = absurd (omega (arith, lt))
-at_there f (row ∷ rows) zero lt = refl
-at_there f (row ∷ rows) (suc q) lt = at_there f rows q (omega (arith, lt))
-
 none_any : {A : Type 0} (t : A → Bool) (xs : List A) → ((m : ℕ) (a : A) → slice_get xs m ≡ Some a → t a ≡ false) → list_any t xs ≡ false
 none_any t [] h = refl
 none_any t (x ∷ xs) h = ap (λ b. b || list_any t xs) (h 0 x refl) ∙ none_any t xs (λ m a e. h (suc m) a e)
@@ -93,28 +55,13 @@ and_between true c = refl
 and_between false c = refl
 
 module _ (program : Program) (plan : Plan) (budget : ℕ) (h : List ℕ) (valid : IsValid program) where
-  sets_of : ℕ → ℕ → EdgeSets
-  sets_of p i = edge_sets (cells_in (story program plan budget h) p i false) (cells_in (story program plan budget h) p i true)
-
-  row : (p : ℕ) → p < length (closed_logs program plan budget h).lists
-      → get_or (edge_sets_in (closed_logs program plan budget h)) p [] ≡ map (sets_of p) (range_with_len 0 (last_edge (story program plan budget h) p)) ++ sets_of p (last_edge (story program plan budget h) p) ∷ []
-  unfolding sets_of ended
-  row p lt =
-      let s = story program plan budget h in
-      let entries = get_or (closed_logs program plan budget h).lists p [] in
-      let r : RecordsAccesses s p entries = record_sets program plan budget h p entries valid (got (closed_logs program plan budget h).lists p [] lt) in
-      at_there (sets_from None) (closed_logs program plan budget h).lists p lt
-      ∙ ap (sets_from None) r.entries_are ∙ closed_sets r.before r.status r.rest (cells_in s p (last_edge s p) false) (cells_in s p (last_edge s p) true) r.no_end
-      ∙ ap (λ x. map ended x ++ edge_sets (cells_in s p (last_edge s p) false) (cells_in s p (last_edge s p) true) ∷ []) r.syncs_are
-      ∙ ap (λ x. x ++ edge_sets (cells_in s p (last_edge s p) false) (cells_in s p (last_edge s p) true) ∷ []) (map_both ended (recorded.sets_in s p) (range_with_len 0 (last_edge s p)))
-
   count : (p : ℕ) → p < length (closed_logs program plan budget h).lists → length (get_or (edge_sets_in (closed_logs program plan budget h)) p []) ≡ last_edge (story program plan budget h) p + 1
   count p lt =
       let n = last_edge (story program plan budget h) p in
-      ap length (row p lt) ∙ length_more (map (sets_of p) (range_with_len 0 n)) (sets_of p n) ∙ ap (λ k. k + 1) (count_range (sets_of p) 0 n)
+      ap length (row_sets program plan budget h valid p lt) ∙ length_more (map (run_sets (story program plan budget h) p) (range_with_len 0 n)) (run_sets (story program plan budget h) p n) ∙ ap (λ k. k + 1) (count_range (run_sets (story program plan budget h) p) 0 n)
 
-  by_kind : (p i : ℕ) (w : Bool) → cells_by w (sets_of p i) ≡ cells_in (story program plan budget h) p i w
-  unfolding sets_of
+  by_kind : (p i : ℕ) (w : Bool) → cells_by w (run_sets (story program plan budget h) p i) ≡ cells_in (story program plan budget h) p i w
+  unfolding run_sets
   by_kind p i true = refl
   by_kind p i false = refl
 
@@ -123,8 +70,8 @@ module _ (program : Program) (plan : Plan) (budget : ℕ) (h : List ℕ) (valid 
   access a c w x =
       let n = last_edge (story program plan budget h) a.process in
       let inside : a.edge < n + 1 = subst (λ k. a.edge < k) (count a.process x.0) x.1 in
-      ap (λ sets. has (cells_by w (get_or sets a.edge no_sets)) c) (row a.process x.0)
-      ∙ ap (λ sets. has (cells_by w sets) c) (at_through (sets_of a.process) no_sets n a.edge inside)
+      ap (λ sets. has (cells_by w (get_or sets a.edge no_sets)) c) (row_sets program plan budget h valid a.process x.0)
+      ∙ ap (λ sets. has (cells_by w sets) c) (at_through (run_sets (story program plan budget h) a.process) no_sets n a.edge inside)
       ∙ ap (λ cells. has cells c) (by_kind a.process a.edge w) ∙ (cells_are (story program plan budget h) a.process a.edge w).are c
 
   size : length (story program plan budget h).cells ≡ length program.starts

@@ -3,7 +3,7 @@ use Rattle.std.proofs.Common.{◌≡◌, ℕ, zero, suc, ◌+◌, ◌-◌, ◌<�
 use Rattle.std.specs.Prelude.{nat_eq, if◌then◌else◌}
 use Rattle.std.proofs.lemmas.Bool.{cond-true, cond-false}
 use Rattle.std.specs.List.{flat_map, range_with_len}
-use Rattle.ppd_bits.specs.CellSets.{has}
+use Rattle.ppd_ast.specs.Members.{has, AreBelow}
 use Rattle.ppd_model.specs.declared.graph.Race.{Race}
 use Rattle.ppd_model.specs.declared.graph.RaceKind.TheVariants.{ReadWrite, WriteRead, WriteWrite}
 use Rattle.ppd_graph.specs.declared.sets.EdgeSets.{EdgeSets}
@@ -12,7 +12,7 @@ use Rattle.ppd_race.specs.declared.busy.Accessor.{Accessor}
 use Rattle.ppd_race.specs.declared.busy.Against.{Against}
 use Rattle.ppd_race.specs.declared.busy.Busy.{Busy}
 use Rattle.ppd_race.specs.declared.by_cell.ByCell.{ByCell}
-use Rattle.ppd_race.specs.Busy.{AreBelow, AreBusyRows, EachBusyIn, can_race, race_if, race_of, races_at, races_between, races_from, races_with_later}
+use Rattle.ppd_race.specs.Busy.{AreBusyRows, EachBusyIn, can_race, race_if, race_of, races_at, races_between, races_from, races_with_later}
 use Rattle.ppd_race.specs.ByCell.{IsByCell, accessor, accessors_from}
 use Rattle.ppd_race.specs.Lists.{GrowsBy}
 use Rattle.ppd_race.specs.Search.{against, found_after, found_against, found_in, found_over, found_with, is_apart, picked}

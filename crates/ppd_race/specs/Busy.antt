@@ -1,7 +1,7 @@
 -- The edges that access shared cells, and the races of two of them, as they are looked for.
-use Rattle.std.specs.Prelude.{◌≡◌, ℕ, ◌+◌, ◌-◌, ◌^◌, ◌<◌, ◌≤◌, Bool, true, false, not, ◌&&◌, ◌||◌, List, [], ◌∷◌, ◌++◌, map, get_or, length, IsTrue, ⊤, if◌then◌else◌}
+use Rattle.std.specs.Prelude.{◌≡◌, ℕ, ◌+◌, ◌-◌, ◌^◌, ◌<◌, ◌≤◌, Bool, true, false, not, ◌&&◌, ◌||◌, List, [], ◌∷◌, ◌++◌, map, get_or, length, ⊤, if◌then◌else◌}
 use Rattle.std.specs.List.{flat_map, range_with_len}
-use Rattle.ppd_bits.specs.CellSets.{RisesFrom, has, those}
+use Rattle.ppd_ast.specs.Members.{has, those, RisesFrom, AreBelow}
 use Rattle.ppd_model.specs.declared.graph.EdgeId.{EdgeId}
 use Rattle.ppd_model.specs.declared.graph.Race.{Race}
 use Rattle.ppd_model.specs.declared.graph.RaceKind.{RaceKind}
@@ -59,10 +59,6 @@ is_busy sets = not (is_none sets.reads && is_none sets.writes)
 
 abbrev pub is_busy_in : List EdgeSets → ℕ → Bool
 is_busy_in own j = is_busy (get_or own j no_sets)
-
--- each of these numbers is below m
-abbrev pub AreBelow : ℕ → List ℕ → Type 0
-AreBelow m xs = (c : ℕ) → IsTrue (has xs c) → c < m
 
 -- it has this edge's name, the cells of its sets, and all of them as a rising list
 pub record IsBusyOf (edge : EdgeId) (sets : EdgeSets) (b : Busy) : Type 0 where

@@ -1,10 +1,9 @@
 -- The busy edges of a process by the cells that they access.
 use Rattle.std.specs.Prelude.{◌≡◌, ℕ, ◌+◌, ◌*◌, ◌<◌, Bool, ◌&&◌, ◌||◌, List, [], ◌∷◌, ◌++◌, get_or, length, if◌then◌else◌}
-use Rattle.ppd_bits.specs.CellSets.{RisesFrom, has}
+use Rattle.ppd_ast.specs.Members.{has, RisesFrom, AreBelow}
 use Rattle.ppd_race.specs.declared.busy.Accessor.{Accessor}
 use Rattle.ppd_race.specs.declared.busy.Busy.{Busy}
 use Rattle.ppd_race.specs.declared.by_cell.ByCell.{ByCell}
-use Rattle.ppd_race.specs.Busy.{AreBelow}
 use Rattle.ppd_race.specs.Lists.{one_at}
 
 -- a busy edge at its place

@@ -1,7 +1,6 @@
 -- The races among edges: of two processes, neither before the other, over a cell that one of them writes.
 use Rattle.std.specs.Prelude.{◌≡◌, ℕ, ◌+◌, ◌-◌, ◌<◌, ◌≤◌, nat_eq, Bool, true, false, ◌&&◌, ◌||◌, not, List, [], ◌∷◌, ◌++◌, map, filter, length, get_or, if◌then◌else◌}
 use Rattle.std.specs.List.{flat_map, range_with_len}
-use Rattle.ppd_bits.specs.CellSets.{has}
 use Rattle.ppd_ast.specs.declared.program.Program.{Program}
 use Rattle.ppd_entry.specs.declared.entry.Logs.{Logs}
 use Rattle.ppd_model.specs.declared.graph.EdgeId.{EdgeId}
@@ -13,6 +12,7 @@ use Rattle.ppd_model.specs.Races.{has_access, races, races_of}
 use Rattle.ppd_model.specs.Logs.{closed_logs}
 use Rattle.ppd_ast.specs.declared.plan.Plan.{Plan}
 use Rattle.ppd_ast.specs.Valid.{IsValid}
+use Rattle.ppd_ast.specs.Members.{has}
 use Rattle.ppd_model.specs.declared.tracing.Story.{Story}
 use Rattle.ppd_model.specs.Story.{own_steps}
 use Rattle.ppd_model.specs.Synchronizations.{syncs_of}

@@ -1,7 +1,7 @@
 -- The races of a process's edges with those of later processes, as they are found cell by cell.
 use Rattle.std.specs.Prelude.{◌≡◌, ℕ, ◌+◌, ◌*◌, ◌-◌, ◌<◌, ◌≤◌, nat_eq, Bool, true, false, not, ◌&&◌, List, [], ◌∷◌, ◌++◌, filter, get_or, length, if◌then◌else◌}
 use Rattle.std.specs.List.{flat_map, range_with_len, sum_by}
-use Rattle.ppd_bits.specs.CellSets.{has}
+use Rattle.ppd_ast.specs.Members.{has}
 use Rattle.ppd_model.specs.declared.graph.EdgeId.{EdgeId}
 use Rattle.ppd_model.specs.declared.graph.Race.{Race}
 use Rattle.ppd_model.specs.declared.graph.RaceKind.{RaceKind}

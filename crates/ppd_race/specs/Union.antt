@@ -1,8 +1,7 @@
 -- The cells of two lists as one that rises.
 use Rattle.std.specs.Prelude.{◌≡◌, ℕ, ◌+◌, ◌<◌, Bool, true, not, ◌&&◌, nat_lt, nat_eq, min, List, [], ◌∷◌, length, Option, Some, None, if◌then◌else◌}
-use Rattle.ppd_bits.specs.CellSets.{RisesFrom, has}
+use Rattle.ppd_ast.specs.Members.{has, RisesFrom, AreBelow}
 use Rattle.ppd_graph.specs.declared.sets.EdgeSets.{EdgeSets}
-use Rattle.ppd_race.specs.Busy.{AreBelow}
 
 -- the cells rise from n on, and are below 1,024
 abbrev pub do_rise : ℕ → List ℕ → Bool

@@ -1,6 +1,7 @@
 ghost use Rattle.std.specs.Prelude.{◌≡◌, ◌<◌, ◌≤◌, ◌+◌, ◌*◌, ◌++◌, ℕ, [], OnOk, get_or, length};
 ghost use Rattle.std.specs.List.{flat_map, sum_by};
-ghost use Rattle.ppd_race.specs.Busy.{AreBelow, IsRising, race_of};
+ghost use Rattle.ppd_ast.specs.Members.{AreBelow};
+ghost use Rattle.ppd_race.specs.Busy.{IsRising, race_of};
 ghost use Rattle.ppd_race.specs.ByCell.{AreOfCells};
 ghost use Rattle.ppd_race.specs.Lists.{GrowsBy, total};
 ghost use Rattle.ppd_race.specs.Search.{AreElsewhere, AreInOrder, CanSearch, IsElsewhere, IsWhole, against as against_of, edge_cost, found_against, found_if, found_in, found_over, found_with};

@@ -1,13 +1,14 @@
 ghost use Rattle.std.specs.Prelude.{◌≡◌, ◌<◌, ◌≤◌, ◌+◌, ◌*◌, ◌^◌, ℕ, ◌||◌, IfOk, OnOk, IsTrue, nat_eq, ◌&&◌, [], get_or, length};
-ghost use Rattle.ppd_bits.specs.CellSets.{has};
 ghost use Rattle.std.specs.List.{sum_by};
+ghost use Rattle.ppd_ast.specs.Members.{has, AreBelow};
 ghost use Rattle.ppd_race.specs.Search.{edge_cost, row_cost};
 ghost use Rattle.ppd_race.specs.Spending.{set_cost, sets_cost};
 ghost use Rattle.ppd_race.specs.Union.{HasBelow, size_of};
-ghost use Rattle.ppd_race.specs.Busy.{AreBelow, AreBusyRows, AreFew, IsBusyOf, IsBusyRow, Takes, is_busy, is_none};
+ghost use Rattle.ppd_race.specs.Busy.{AreBusyRows, AreFew, IsBusyOf, IsBusyRow, Takes, is_busy, is_none};
 
 use crate::busy::Busy;
 use crate::union::union_of;
+use ppd_ast::limits::MOST_SHARED_CELLS;
 use ppd_ast::{Cells, Memory, Seq, Steps};
 use ppd_bits::CellSet;
 use ppd_graph::EdgeSets;
@@ -38,7 +39,7 @@ fn insert_below(set: &mut CellSet, cell: u16)
     ensures puts { (c : ℕ) → c < 1024 → has set.new c ≡ (nat_eq cell c || has set.old c) }
     ensures below { AreBelow 1024 set.old → AreBelow 1024 set.new }
 {
-    if cell >= 1024 {
+    if cell as usize >= MOST_SHARED_CELLS {
         return;
     }
     set.insert(cell);

@@ -18,7 +18,7 @@ use Rattle.ppd_emul.specs.declared.trace.BlockTrace.{BlockTrace}
 use Rattle.ppd_emul.specs.declared.trace.EmulError.{EmulError}
 use Rattle.ppd_emul.specs.declared.trace.EmulError.TheVariants.{Diverged, Memory}
 use Rattle.ppd_emul.specs.Replay.{Replayed, replay}
-use Rattle.ppd_replay.specs.Laws.{EmulationsGiveIntervals, GivesInterval, GivesIntervalAt, GivesRuns, IsAnswerOf, ReplaysGiveIntervals, modelled_in, modelled_of, replay_of}
+use Rattle.ppd_replay.specs.Laws.{EmulationsGiveIntervals, GivesInterval, GivesIntervalAt, GivesIntervals, IsAnswerOf, ReplaysGiveIntervals, modelled_in, modelled_of, replay_of}
 
 -- an interval's items in its own steps
 abbrev replayed : Split → Span → Replayed
@@ -78,7 +78,7 @@ pub gives_runs : EmulationsGiveIntervals
     → (program : Program) (plan : Plan) (budget : ℕ) (log : IntervalLog) (before after : ℕ)
     (answer : Result BlockTrace EmulError) → IsValid program
     → IsAnswerOf (replay program plan log budget) before after answer
-    → GivesRuns program plan budget log before after answer
+    → GivesIntervals program plan budget log before after answer
 gives_runs law program q budget log before after answer v a policy h p k e =
     subst (λ pl. IsAnswerOf (replay program pl log budget) before after answer → IsWhole program pl budget h
     → races program pl budget h ≡ []

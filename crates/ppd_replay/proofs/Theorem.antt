@@ -10,7 +10,7 @@ use Rattle.ppd_emul.specs.Replay.{replay}
 use Rattle.ppd_spans.proofs.SpansComing.{spans_are_coming}
 use Rattle.ppd_replay.proofs.Emulated.{emulations_by, gives_runs}
 use Rattle.ppd_replay.proofs.Whole.{replays_by}
-use Rattle.ppd_replay.specs.Laws.{EmulationsGiveIntervals, GivesRuns, IsAnswerOf, ReplaysGiveIntervals}
+use Rattle.ppd_replay.specs.Laws.{EmulationsGiveIntervals, GivesIntervals, IsAnswerOf, ReplaysGiveIntervals}
 
 pub replays_give_intervals : ReplaysGiveIntervals
 replays_give_intervals = replays_by spans_are_coming
@@ -22,5 +22,5 @@ emulations_give_intervals = emulations_by replays_give_intervals
 pub runs_given : (program : Program) (plan : Plan) (budget : ℕ) (log : IntervalLog) (before after : ℕ)
     (answer : Result BlockTrace EmulError) → IsValid program
     → IsAnswerOf (replay program plan log budget) before after answer
-    → GivesRuns program plan budget log before after answer
+    → GivesIntervals program plan budget log before after answer
 runs_given = gives_runs emulations_give_intervals

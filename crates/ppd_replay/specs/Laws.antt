@@ -86,8 +86,8 @@ EmulationsGiveIntervals =
     → GivesIntervalAt program (plan_of program policy) budget h p k before after answer
 
 -- the same as a clause of one answer: it gives the interval of each such schedule of which the log is the interval's
-abbrev pub GivesRuns : Program → Plan → ℕ → IntervalLog → (before after : ℕ) → Result BlockTrace EmulError → Type 0
-GivesRuns program plan budget log before after answer =
+abbrev pub GivesIntervals : Program → Plan → ℕ → IntervalLog → (before after : ℕ) → Result BlockTrace EmulError → Type 0
+GivesIntervals program plan budget log before after answer =
     (policy : Policy) (h : List ℕ) (p k : ℕ)
     → plan ≡ plan_of program policy → IsWhole program plan budget h → races program plan budget h ≡ []
     → interval_log plan (get_or (closed_logs program plan budget h).lists p []) k ≡ Some log

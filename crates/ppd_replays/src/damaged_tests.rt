@@ -1,6 +1,7 @@
 use crate::runs::{index_of, replay};
-use crate::shown::{Row, Shown, are_items, plain};
+use crate::shown::{Shown, are_items};
 use crate::written::{Wrote, claimed};
+use Shown::Own;
 use Wrote::{End, Postlog, Prelog, Sync, Unit};
 use ppd_ast::{Policy, Seq};
 use ppd_emulate::{EmulError, Found, Wanted};
@@ -55,34 +56,53 @@ fn failure(
     }
 }
 
-// The log of the smallest run with one damage: a unit that is not there, an End inside no interval, no
-// End, and two.
+const BEGUN: Wrote<'static> = Prelog(0, &[]);
+
+const FIRST_UNIT: Wrote<'static> = Unit(0, &[0]);
+
+const LEFT: Wrote<'static> = Postlog(0, &[]);
+
+const OVER: Wrote<'static> = End(Status::Ended, 1);
+
+// The log of the smallest run, and with one damage: a unit that is not there, an End inside no interval, no End,
+// and two.
+const DAMAGED: [(&[Wrote<'static>], Option<BadLog>); 5] = [
+    (&[BEGUN, FIRST_UNIT, LEFT, OVER], None),
+    (
+        &[BEGUN, Unit(1, &[0]), LEFT, OVER],
+        Some(BadLog::WrongValues(At {
+            process: 0,
+            entry: 1,
+        })),
+    ),
+    (
+        &[BEGUN, FIRST_UNIT, LEFT, End(Status::Budget, 1)],
+        Some(BadLog::Unpaired(At {
+            process: 0,
+            entry: 3,
+        })),
+    ),
+    (
+        &[BEGUN, FIRST_UNIT, LEFT],
+        Some(BadLog::NoEnd(At {
+            process: 0,
+            entry: 3,
+        })),
+    ),
+    (
+        &[BEGUN, FIRST_UNIT, LEFT, OVER, OVER],
+        Some(BadLog::AfterEnd(At {
+            process: 0,
+            entry: 4,
+        })),
+    ),
+];
+
 #[test]
 fn damaged_logs(rt: HostRuntime) {
-    let alloc = rt.alloc();
-    let at = |entry| At { process: 0, entry };
-    let begun = Prelog(0, &[]);
-    let first = Unit(0, &[0]);
-    let left = Postlog(0, &[]);
-    let over = End(Status::Ended, 1);
-    let stopped = End(Status::Budget, 1);
-    assert_eq!(rt; refusal(alloc, &[begun, first, left, over]), None);
-    assert_eq!(rt;
-        refusal(alloc, &[begun, Unit(1, &[0]), left, over]),
-        Some(BadLog::WrongValues(at(1)))
-    );
-    assert_eq!(rt;
-        refusal(alloc, &[begun, first, left, stopped]),
-        Some(BadLog::Unpaired(at(3)))
-    );
-    assert_eq!(rt;
-        refusal(alloc, &[begun, first, left]),
-        Some(BadLog::NoEnd(at(3)))
-    );
-    assert_eq!(rt;
-        refusal(alloc, &[begun, first, left, over, over]),
-        Some(BadLog::AfterEnd(at(4)))
-    );
+    for (number, row) in DAMAGED.iter().enumerate() {
+        assert_eq!(rt; refusal(rt.alloc(), row.0), row.1, "{number}");
+    }
 }
 
 /// Cell 0 of the interval's own frame.
@@ -105,24 +125,11 @@ fn damaged_rest(rt: HostRuntime) {
         found: Found::End(Status::Budget),
     };
     assert!(rt; replay(alloc, &long, 5, 0, 0) == Some(Err(failed)));
-    let clear = Row {
-        writes: &[(FIRST, 0)],
-        ..plain(0)
-    };
-    let test = Row {
-        value: Some(1),
-        ..plain(1)
-    };
-    let one = Row {
-        reads: &[(FIRST, 0)],
-        writes: &[(FIRST, 1)],
-        ..plain(2)
-    };
     let items = [
-        Shown::Own(clear),
-        Shown::Own(test),
-        Shown::Own(one),
-        Shown::Own(test),
+        Own(0, &[], &[(FIRST, 0)], None),
+        Own(1, &[], &[], Some(1)),
+        Own(2, &[(FIRST, 0)], &[(FIRST, 1)], None),
+        Own(1, &[], &[], Some(1)),
     ];
     let short = claimed(alloc, ENDLESS, &BARE, &stopped(4)).expect(&rt, "a log");
     match replay(alloc, &short, 5, 0, 0) {

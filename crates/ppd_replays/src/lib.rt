@@ -4,6 +4,8 @@
 #[cfg(test)]
 mod damaged_tests;
 #[cfg(test)]
+mod index_tests;
+#[cfg(test)]
 mod row_tests;
 #[cfg(test)]
 mod runs;

@@ -1,37 +1,15 @@
 //! Items as short rows.
 
 use ppd_emulate::{BlockTrace, Item};
-use ppd_sem::{Access, Event, Spot, Trap};
+use ppd_sem::{Access, Event, Spot};
 
-/// An event: its statement, its reads, its writes, its value, its number and its trap.
-#[derive(Clone, Copy)]
-pub struct Row<'a> {
-    pub stmt: u32,
-    pub reads: &'a [(Spot, i64)],
-    pub writes: &'a [(Spot, i64)],
-    pub value: Option<i64>,
-    pub number: Option<u32>,
-    pub trap: Option<Trap>,
-}
-
-/// An item: an event, or an interval inside with its number, its block, its postlog and whether it
-/// was left.
+/// An item: an event without a number and a trap, by its statement, reads, writes and value; a `P` or a `V` by its
+/// statement and number; or an interval inside with its number, its block, its postlog and whether it was left.
 #[derive(Clone, Copy)]
 pub enum Shown<'a> {
-    Own(Row<'a>),
+    Own(u32, &'a [(Spot, i64)], &'a [(Spot, i64)], Option<i64>),
+    Synced(u32, u32),
     Inside(u32, u16, &'a [i64], bool),
-}
-
-/// An event that reads and writes nothing and has no value, number and trap.
-pub fn plain(stmt: u32) -> Row<'static> {
-    Row {
-        stmt,
-        reads: &[],
-        writes: &[],
-        value: None,
-        number: None,
-        trap: None,
-    }
 }
 
 fn are_accesses(accesses: &[Access], pairs: &[(Spot, i64)]) -> bool {
@@ -47,18 +25,30 @@ fn are_accesses(accesses: &[Access], pairs: &[(Spot, i64)]) -> bool {
     true
 }
 
-fn is_row(event: &Event, row: &Row) -> bool {
-    event.stmt == row.stmt
-        && are_accesses(event.reads.as_slice(), row.reads)
-        && are_accesses(event.writes.as_slice(), row.writes)
-        && event.value == row.value
-        && event.number == row.number
-        && event.trap == row.trap
+fn is_event(
+    event: &Event,
+    stmt: u32,
+    reads: &[(Spot, i64)],
+    writes: &[(Spot, i64)],
+    value: Option<i64>,
+    number: Option<u32>,
+) -> bool {
+    event.stmt == stmt
+        && are_accesses(event.reads.as_slice(), reads)
+        && are_accesses(event.writes.as_slice(), writes)
+        && event.value == value
+        && event.number == number
+        && event.trap.is_none()
 }
 
 fn is_shown(item: &Item, shown: &Shown) -> bool {
     match (item, shown) {
-        (Item::Own(event), Shown::Own(row)) => is_row(event, row),
+        (Item::Own(event), Shown::Own(stmt, reads, writes, value)) => {
+            is_event(event, *stmt, reads, writes, *value, None)
+        }
+        (Item::Own(event), Shown::Synced(stmt, number)) => {
+            is_event(event, *stmt, &[], &[], None, Some(*number))
+        }
         (
             Item::Nested {
                 interval,

@@ -4,294 +4,477 @@ use crate::alone::{Ran, run};
 use ppd_ast::limits::MOST_POLICY;
 use ppd_ast::{Plan, Policy};
 use ppd_check::read_source;
-use ppd_sem::{Access, Need, Spot, Status, Trap};
+use ppd_sem::{Access, Event, Need, Spot, Status, Trap};
 use std::alloc::Global;
 
 const BUDGET: u32 = 100_000;
 
-/// The policy under which each function is an e-block and no loop.
-const PLAIN: Policy = Policy { leaf: 0, loops: 0 };
-
-/// The same where each outermost loop is one too.
-const LOOPS: Policy = Policy { leaf: 0, loops: 1 };
-
 /// The process of a source, run for so many steps. None where the source is refused.
-fn row(alloc: Global, source: &str, policy: Policy, budget: u32, steps: usize) -> Option<Ran> {
+fn process_of(
+    alloc: Global,
+    source: &str,
+    (leaf, loops): (u16, u16),
+    budget: u32,
+    steps: usize,
+) -> Option<Ran> {
     let program = read_source(alloc, source.as_bytes()).ok()?;
-    if policy.leaf > MOST_POLICY || policy.loops > MOST_POLICY {
+    if leaf > MOST_POLICY || loops > MOST_POLICY {
         return None;
     }
-    let plan = Plan::bare(alloc, &program, &policy).ok()?;
+    let plan = Plan::bare(alloc, &program, &Policy { leaf, loops }).ok()?;
     run(alloc, &program, &plan, budget, steps)
 }
 
-/// A local cell of this frame, with its value.
-const fn local(frame: u8, cell: u16, value: i64) -> Access {
-    let spot = Spot::Local { frame, cell };
-    Access { spot, value }
+/// An event without a number of its own: its statement, its reads, its writes, its value and its trap.
+type Told<'a> = (
+    u32,
+    &'a [(Spot, i64)],
+    &'a [(Spot, i64)],
+    Option<i64>,
+    Option<Trap>,
+);
+
+/// A source with its policy, its budget and how many steps are tried; how the process ended, after how many steps, with
+/// which prints; the needs of some steps, some events, the last one, and how many there are.
+struct Row<'a> {
+    source: &'a str,
+    policy: (u16, u16),
+    budget: u32,
+    tried: usize,
+    end: (Status, u32, &'a [i64]),
+    needs: &'a [(usize, Need)],
+    events: &'a [(usize, Told<'a>)],
+    last: Option<Told<'a>>,
+    count: Option<usize>,
 }
 
-/// A shared cell with its value.
-const fn shared(cell: u16, value: i64) -> Access {
-    let spot = Spot::Shared(cell);
-    Access { spot, value }
+fn are_accesses(accesses: &[Access], told: &[(Spot, i64)]) -> bool {
+    if accesses.len() != told.len() {
+        return false;
+    }
+    for (access, (spot, value)) in accesses.iter().zip(told.iter()) {
+        if access.spot != *spot || access.value != *value {
+            return false;
+        }
+    }
+    true
 }
 
-/// Whether the process ended like this, after so many steps, with these prints.
-fn ends(ran: &Ran, status: Status, steps: u32, prints: &[i64]) -> bool {
+fn is_event(event: Option<&Event>, told: &Told) -> bool {
+    let Some(event) = event else {
+        return false;
+    };
+    let (stmt, reads, writes, value, trap) = *told;
+    event.stmt == stmt
+        && are_accesses(event.reads.as_slice(), reads)
+        && are_accesses(event.writes.as_slice(), writes)
+        && event.value == value
+        && event.trap == trap
+        && event.number.is_none()
+}
+
+fn have_events(ran: &Ran, row: &Row) -> bool {
+    let events = ran.events.as_slice();
+    for (number, told) in row.events {
+        if !is_event(events.get(*number), told) {
+            return false;
+        }
+    }
+    let is_last = match &row.last {
+        Some(told) => is_event(events.last(), told),
+        None => true,
+    };
+    is_last && row.count.unwrap_or(events.len()) == events.len()
+}
+
+fn have_needs(ran: &Ran, row: &Row) -> bool {
+    for (number, need) in row.needs {
+        if ran.needs.as_slice().get(*number) != Some(need) {
+            return false;
+        }
+    }
+    true
+}
+
+fn has_end(ran: &Ran, row: &Row) -> bool {
+    let (status, steps, prints) = row.end;
     ran.proc.status == Some(status)
         && ran.proc.steps == steps
         && ran.proc.prints.as_slice() == prints
 }
 
-/// Whether the event with this number is of this statement, with these reads, writes and value,
-/// without a number of its own and without a trap.
-fn is_event(
-    ran: &Ran,
-    number: usize,
-    stmt: u32,
-    reads: &[Access],
-    writes: &[Access],
-    value: Option<i64>,
-) -> bool {
-    let Some(event) = ran.events.as_slice().get(number) else {
-        return false;
+/// What of a row does not hold, if something does not.
+fn fault(alloc: Global, row: &Row) -> Option<&'static str> {
+    let Some(ran) = process_of(alloc, row.source, row.policy, row.budget, row.tried) else {
+        return Some("no run");
     };
-    let listed = event.reads.as_slice() == reads && event.writes.as_slice() == writes;
-    let told = event.stmt == stmt && event.value == value;
-    listed && told && event.number.is_none() && event.trap.is_none()
-}
-
-/// Whether the last event is the trap of this statement, with these reads and this value, and no
-/// write.
-fn is_trap(ran: &Ran, stmt: u32, reads: &[Access], value: Option<i64>, trap: Trap) -> bool {
-    let Some(event) = ran.events.as_slice().last() else {
-        return false;
-    };
-    let listed = event.reads.as_slice() == reads && event.writes.len() == 0;
-    let told = event.stmt == stmt && event.value == value;
-    listed && told && event.number.is_none() && event.trap == Some(trap)
-}
-
-/// Whether the step with this number had this need.
-fn is_need(ran: &Ran, number: usize, need: Need) -> bool {
-    match ran.needs.as_slice().get(number) {
-        Some(found) => *found == need,
-        None => false,
+    if !has_end(&ran, row) {
+        Some("another end")
+    } else if !have_needs(&ran, row) {
+        Some("another need")
+    } else if !have_events(&ran, row) {
+        Some("another event")
+    } else {
+        None
     }
 }
 
-// `f(2)` prints 3 after 14 steps; 64 open calls are the most.
-#[test]
-fn recursion_to_its_depth(rt: HostRuntime) {
-    let alloc = rt.alloc();
-    for (source, printed, steps) in [
-        (
-            "int f(int n) { int r; if (n > 0) { r = f(n - 1); } return r + 1; } \
-                process a { int v = f(2); print(v); }",
-            3,
-            14,
-        ),
-        (
-            "int f(int n) { int r; if (n > 0) { r = f(n - 1); } return r + 1; } \
-                process a { int v = f(63); print(v); }",
-            64,
-            258,
-        ),
-    ] {
-        let ran = row(alloc, source, PLAIN, BUDGET, 300).expect(&rt, "a source");
-        assert!(rt;
-            ends(&ran, Status::Ended, steps, &[printed]),
-            "after {steps} steps"
-        );
-    }
-}
+/// The first two cells of the running frame, the first of the frame that a call begins, and the first two shared ones.
+const A: Spot = Spot::Local { frame: 0, cell: 0 };
 
-// A receiving local is written by no event: neither by the call's nor by the return's.
-#[test]
-fn events_of_a_recursion(rt: HostRuntime) {
-    let alloc = rt.alloc();
-    let source = "int f(int n) { int r; if (n > 0) { r = f(n - 1); } return r + 1; } \
-        process a { int v = f(2); print(v); }";
-    let ran = row(alloc, source, PLAIN, BUDGET, 300).expect(&rt, "a source");
-    assert_eq!(rt; ran.events.len(), 14);
-    assert!(rt; is_event(&ran, 0, 4, &[], &[local(1, 0, 2)], None));
-    assert!(rt; is_event(&ran, 1, 0, &[], &[local(0, 1, 0)], None));
-    assert!(rt; is_event(&ran, 2, 1, &[local(0, 0, 2)], &[], Some(1)));
-    assert!(rt; is_event(&ran, 3, 2, &[local(0, 0, 2)], &[local(1, 0, 1)], None));
-    assert!(rt; is_event(&ran, 11, 3, &[local(0, 1, 2)], &[], Some(3)));
-    assert!(rt; is_event(&ran, 12, 5, &[local(0, 0, 3)], &[], Some(3)));
-    assert!(rt; is_event(&ran, 13, 6, &[], &[], None));
-}
+const B: Spot = Spot::Local { frame: 0, cell: 1 };
 
-// The call that is too deep reads its argument and writes nothing.
-#[test]
-fn recursion_past_its_depth(rt: HostRuntime) {
-    let alloc = rt.alloc();
-    let source = "int f(int n) { int r; if (n > 0) { r = f(n - 1); } return r + 1; } \
-        process a { int v = f(64); print(v); }";
-    let ran = row(alloc, source, PLAIN, BUDGET, 300).expect(&rt, "a source");
-    assert!(rt; ends(&ran, Status::Trap(Trap::Depth), 193, &[]));
-    assert!(rt; is_need(&ran, 192, Need::Trap(Trap::Depth)));
-    assert!(rt; is_trap(&ran, 2, &[local(0, 0, 1)], None, Trap::Depth));
-}
+const CALLED: Spot = Spot::Local { frame: 1, cell: 0 };
 
-// The test reads the array only where its guard holds.
-#[test]
-fn short_circuit_with_its_guard(rt: HostRuntime) {
-    let alloc = rt.alloc();
-    let source = "shared int a[2]; process p { int i; a[0] = 5; a[1] = 6; \
-        while (i < 2 && a[i] != 0) { i = i + 1; } print(i); }";
-    let ran = row(alloc, source, PLAIN, BUDGET, 20).expect(&rt, "a source");
-    let i = local(0, 0, 1);
-    assert!(rt; ends(&ran, Status::Ended, 12, &[2]));
-    assert!(rt; is_event(&ran, 1, 1, &[], &[shared(0, 5)], None));
-    assert!(rt; is_event(&ran, 5, 3, &[i, i, shared(1, 6)], &[], Some(1)));
-    assert!(rt; is_event(&ran, 7, 3, &[local(0, 0, 2)], &[], Some(0)));
-}
+const X: Spot = Spot::Shared(0);
 
-// Without the guard the test passes the array's end; a trapped test has no value.
-#[test]
-fn short_circuit_without_its_guard(rt: HostRuntime) {
-    let alloc = rt.alloc();
-    let source = "shared int a[2]; process p { int i; a[0] = 5; a[1] = 6; \
-        while (a[i] != 0) { i = i + 1; } print(i); }";
-    let ran = row(alloc, source, PLAIN, BUDGET, 20).expect(&rt, "a source");
-    assert!(rt; ends(&ran, Status::Trap(Trap::Index), 10, &[]));
-    assert_eq!(rt; ran.events.len(), 8);
-    assert!(rt; is_trap(&ran, 3, &[local(0, 0, 2)], None, Trap::Index));
-}
+const Y: Spot = Spot::Shared(1);
 
-// A sum past the greatest number, the least number by -1, a zero divisor, and an assertion, whose
-// trapped event has its value.
-#[test]
-fn traps_of_values(rt: HostRuntime) {
-    let alloc = rt.alloc();
-    for (source, value, trap) in [
-        (
-            "process a { print(9223372036854775807 + 1); }",
-            None,
-            Trap::Overflow,
-        ),
-        (
-            "process a { print((-9223372036854775807 - 1) / -1); }",
-            None,
-            Trap::Overflow,
-        ),
-        ("process a { print(1 % 0); }", None, Trap::Zero),
-        ("process a { assert(0); }", Some(0), Trap::Assert),
-    ] {
-        let ran = row(alloc, source, PLAIN, BUDGET, 5).expect(&rt, "a source");
-        assert!(rt; ends(&ran, Status::Trap(trap), 1, &[]), "{source}");
-        assert!(rt; is_trap(&ran, 0, &[], value, trap), "{source}");
-    }
-    let least = "process a { print(-9223372036854775807 - 1); }";
-    let ran = row(alloc, least, PLAIN, BUDGET, 5).expect(&rt, "a source");
-    assert!(rt; ends(&ran, Status::Ended, 2, &[i64::MIN]));
-}
-
-// Five steps, then the stop for the budget, which is no step and has no event.
-#[test]
-fn budget_stop_after_five_steps(rt: HostRuntime) {
-    let alloc = rt.alloc();
-    let source = "process a { int i; while (1) { i = i + 1; } }";
-    let ran = row(alloc, source, PLAIN, 5, 9).expect(&rt, "a source");
-    assert!(rt; ends(&ran, Status::Budget, 5, &[]));
-    assert!(rt; is_need(&ran, 4, Need::Plain));
-    assert!(rt; is_need(&ran, 5, Need::Budget));
-    assert!(rt; is_need(&ran, 6, Need::Stopped));
-    assert_eq!(rt; ran.events.len(), 5);
-    assert!(rt; is_event(&ran, 3, 1, &[], &[], Some(1)));
-    assert!(rt; is_event(&ran, 4, 2, &[local(0, 0, 1)], &[local(0, 0, 2)], None));
-}
-
-// The entry step of a block loop is no event; the test that ends it is one.
-#[test]
-fn loop_never_entered(rt: HostRuntime) {
-    let alloc = rt.alloc();
-    let source = "process a { int i = 3; while (i < 3) { i = i + 1; } print(i); }";
-    let ran = row(alloc, source, LOOPS, BUDGET, 9).expect(&rt, "a source");
-    assert!(rt; ends(&ran, Status::Ended, 5, &[3]));
-    assert!(rt; is_need(&ran, 1, Need::Enter { block: 1, unit: 1 }));
-    assert!(rt; is_need(&ran, 2, Need::Leave { block: 1, unit: 2 }));
-    assert_eq!(rt; ran.events.len(), 4);
-    assert!(rt; is_event(&ran, 1, 1, &[local(0, 0, 3)], &[], Some(0)));
-}
-
-// A function that is no block has frame 1, one that is a block has frame 0.
-#[test]
-fn leaf_function_in_its_callers_interval(rt: HostRuntime) {
-    let alloc = rt.alloc();
-    let source = "shared int x; void f(int k) { x = k; } process a { f(9); print(x); }";
-    for (leaf, frame) in [(3, 1), (0, 0)] {
-        let ran = row(alloc, source, Policy { leaf, loops: 0 }, BUDGET, 9).expect(&rt, "a source");
-        assert!(rt; ends(&ran, Status::Ended, 6, &[9]));
-        assert!(rt; is_event(&ran, 0, 2, &[], &[local(1, 0, 9)], None));
-        assert!(rt; is_event(&ran, 1, 0, &[local(frame, 0, 9)], &[shared(0, 9)], None));
-        assert!(rt; is_event(&ran, 2, 1, &[], &[], None));
-        assert!(rt; is_event(&ran, 3, 3, &[shared(0, 9)], &[], Some(9)));
-    }
-}
-
-/// Each need that is no trap and no stop for the budget, but for those of a channel of capacity 0.
-const NEEDS: [Need; 14] = [
-    Need::Plain,
-    Need::Write(0, 1),
-    Need::Read(0),
-    Need::Plain,
-    Need::P { sem: 0, unit: 2 },
-    Need::V { sem: 0, unit: 3 },
-    Need::Send {
-        chan: 0,
-        value: 5,
-        unit: 4,
+const ROWS: [Row<'static>; 17] = [
+    // an assignment and a print, step by step to the end
+    Row {
+        source: "shared int x; process a { x = 2; print(x + 3); }",
+        policy: (0, 0),
+        budget: BUDGET,
+        tried: 5,
+        end: (Status::Ended, 4, &[5]),
+        needs: &[
+            (0, Need::Write(0, 2)),
+            (1, Need::Read(0)),
+            (2, Need::Plain),
+            (3, Need::End { block: 0 }),
+            (4, Need::Stopped),
+        ],
+        events: &[],
+        last: None,
+        count: None,
     },
-    Need::Recv { chan: 0, unit: 5 },
-    Need::Enter { block: 2, unit: 6 },
-    Need::Leave { block: 2, unit: 7 },
-    Need::Invoke {
-        block: Some(0),
-        unit: 0,
+    // a receiving local is written by no event: neither by the call's nor by the return's
+    Row {
+        source: "int f(int n) { int r; if (n > 0) { r = f(n - 1); } return r + 1; } \
+            process a { int v = f(2); print(v); }",
+        policy: (0, 0),
+        budget: BUDGET,
+        tried: 300,
+        end: (Status::Ended, 14, &[3]),
+        needs: &[],
+        events: &[
+            (0, (4, &[], &[(CALLED, 2)], None, None)),
+            (1, (0, &[], &[(B, 0)], None, None)),
+            (2, (1, &[(A, 2)], &[], Some(1), None)),
+            (3, (2, &[(A, 2)], &[(CALLED, 1)], None, None)),
+            (11, (3, &[(B, 2)], &[], Some(3), None)),
+            (12, (5, &[(A, 3)], &[], Some(3), None)),
+            (13, (6, &[], &[], None, None)),
+        ],
+        last: None,
+        count: Some(14),
     },
-    Need::Back {
-        block: Some(0),
-        unit: Some(8),
+    // 64 open calls are the most; the call that is too deep reads its argument and writes nothing
+    Row {
+        source: "int f(int n) { int r; if (n > 0) { r = f(n - 1); } return r + 1; } \
+            process a { int v = f(63); print(v); }",
+        policy: (0, 0),
+        budget: BUDGET,
+        tried: 300,
+        end: (Status::Ended, 258, &[64]),
+        needs: &[],
+        events: &[],
+        last: None,
+        count: None,
     },
-    Need::End { block: 1 },
-    Need::Stopped,
+    Row {
+        source: "int f(int n) { int r; if (n > 0) { r = f(n - 1); } return r + 1; } \
+            process a { int v = f(64); print(v); }",
+        policy: (0, 0),
+        budget: BUDGET,
+        tried: 300,
+        end: (Status::Trap(Trap::Depth), 193, &[]),
+        needs: &[(192, Need::Trap(Trap::Depth))],
+        events: &[],
+        last: Some((2, &[(A, 1)], &[], None, Some(Trap::Depth))),
+        count: None,
+    },
+    // the test reads the array only where its guard holds
+    Row {
+        source: "shared int a[2]; process p { int i; a[0] = 5; a[1] = 6; \
+            while (i < 2 && a[i] != 0) { i = i + 1; } print(i); }",
+        policy: (0, 0),
+        budget: BUDGET,
+        tried: 20,
+        end: (Status::Ended, 12, &[2]),
+        needs: &[],
+        events: &[
+            (1, (1, &[], &[(X, 5)], None, None)),
+            (5, (3, &[(A, 1), (A, 1), (Y, 6)], &[], Some(1), None)),
+            (7, (3, &[(A, 2)], &[], Some(0), None)),
+        ],
+        last: None,
+        count: None,
+    },
+    // without the guard the test passes the array's end; a trapped test has no value
+    Row {
+        source: "shared int a[2]; process p { int i; a[0] = 5; a[1] = 6; \
+            while (a[i] != 0) { i = i + 1; } print(i); }",
+        policy: (0, 0),
+        budget: BUDGET,
+        tried: 20,
+        end: (Status::Trap(Trap::Index), 10, &[]),
+        needs: &[],
+        events: &[],
+        last: Some((3, &[(A, 2)], &[], None, Some(Trap::Index))),
+        count: Some(8),
+    },
+    // a sum past the greatest number, the least number by -1, a zero divisor, and an assertion, whose
+    // trapped event has its value
+    Row {
+        source: "process a { print(9223372036854775807 + 1); }",
+        policy: (0, 0),
+        budget: BUDGET,
+        tried: 5,
+        end: (Status::Trap(Trap::Overflow), 1, &[]),
+        needs: &[],
+        events: &[],
+        last: Some((0, &[], &[], None, Some(Trap::Overflow))),
+        count: None,
+    },
+    Row {
+        source: "process a { print((-9223372036854775807 - 1) / -1); }",
+        policy: (0, 0),
+        budget: BUDGET,
+        tried: 5,
+        end: (Status::Trap(Trap::Overflow), 1, &[]),
+        needs: &[],
+        events: &[],
+        last: Some((0, &[], &[], None, Some(Trap::Overflow))),
+        count: None,
+    },
+    Row {
+        source: "process a { print(1 % 0); }",
+        policy: (0, 0),
+        budget: BUDGET,
+        tried: 5,
+        end: (Status::Trap(Trap::Zero), 1, &[]),
+        needs: &[],
+        events: &[],
+        last: Some((0, &[], &[], None, Some(Trap::Zero))),
+        count: None,
+    },
+    Row {
+        source: "process a { assert(0); }",
+        policy: (0, 0),
+        budget: BUDGET,
+        tried: 5,
+        end: (Status::Trap(Trap::Assert), 1, &[]),
+        needs: &[],
+        events: &[],
+        last: Some((0, &[], &[], Some(0), Some(Trap::Assert))),
+        count: None,
+    },
+    Row {
+        source: "process a { print(-9223372036854775807 - 1); }",
+        policy: (0, 0),
+        budget: BUDGET,
+        tried: 5,
+        end: (Status::Ended, 2, &[i64::MIN]),
+        needs: &[],
+        events: &[],
+        last: None,
+        count: None,
+    },
+    // five steps, then the stop for the budget, which is no step and has no event
+    Row {
+        source: "process a { int i; while (1) { i = i + 1; } }",
+        policy: (0, 0),
+        budget: 5,
+        tried: 9,
+        end: (Status::Budget, 5, &[]),
+        needs: &[(4, Need::Plain), (5, Need::Budget), (6, Need::Stopped)],
+        events: &[
+            (3, (1, &[], &[], Some(1), None)),
+            (4, (2, &[(A, 1)], &[(A, 2)], None, None)),
+        ],
+        last: None,
+        count: Some(5),
+    },
+    // the entry step of a block loop is no event; the test that ends it is one
+    Row {
+        source: "process a { int i = 3; while (i < 3) { i = i + 1; } print(i); }",
+        policy: (0, 1),
+        budget: BUDGET,
+        tried: 9,
+        end: (Status::Ended, 5, &[3]),
+        needs: &[
+            (1, Need::Enter { block: 1, unit: 1 }),
+            (2, Need::Leave { block: 1, unit: 2 }),
+        ],
+        events: &[(1, (1, &[(A, 3)], &[], Some(0), None))],
+        last: None,
+        count: Some(4),
+    },
+    // a function that is no block has frame 1, one that is a block has frame 0
+    Row {
+        source: "shared int x; void f(int k) { x = k; } process a { f(9); print(x); }",
+        policy: (3, 0),
+        budget: BUDGET,
+        tried: 9,
+        end: (Status::Ended, 6, &[9]),
+        needs: &[],
+        events: &[
+            (0, (2, &[], &[(CALLED, 9)], None, None)),
+            (1, (0, &[(CALLED, 9)], &[(X, 9)], None, None)),
+            (2, (1, &[], &[], None, None)),
+            (3, (3, &[(X, 9)], &[], Some(9), None)),
+        ],
+        last: None,
+        count: None,
+    },
+    Row {
+        source: "shared int x; void f(int k) { x = k; } process a { f(9); print(x); }",
+        policy: (0, 0),
+        budget: BUDGET,
+        tried: 9,
+        end: (Status::Ended, 6, &[9]),
+        needs: &[],
+        events: &[
+            (0, (2, &[], &[(CALLED, 9)], None, None)),
+            (1, (0, &[(A, 9)], &[(X, 9)], None, None)),
+            (2, (1, &[], &[], None, None)),
+            (3, (3, &[(X, 9)], &[], Some(9), None)),
+        ],
+        last: None,
+        count: None,
+    },
+    // each need that is no trap and no stop for the budget, but for those of a channel of capacity 0
+    Row {
+        source: "shared int x; sem s = 1; chan c[1]; int f() { return 1; } process a { int i; \
+            x = 1; print(x); P(s); V(s); send(c, 5); i = recv(c); while (i < 1) { i = 1; } i = f(); }",
+        policy: (0, 1),
+        budget: BUDGET,
+        tried: 14,
+        end: (Status::Ended, 13, &[1]),
+        needs: &[
+            (0, Need::Plain),
+            (1, Need::Write(0, 1)),
+            (2, Need::Read(0)),
+            (3, Need::Plain),
+            (4, Need::P { sem: 0, unit: 2 }),
+            (5, Need::V { sem: 0, unit: 3 }),
+            (
+                6,
+                Need::Send {
+                    chan: 0,
+                    value: 5,
+                    unit: 4,
+                },
+            ),
+            (7, Need::Recv { chan: 0, unit: 5 }),
+            (8, Need::Enter { block: 2, unit: 6 }),
+            (9, Need::Leave { block: 2, unit: 7 }),
+            (
+                10,
+                Need::Invoke {
+                    block: Some(0),
+                    unit: 0,
+                },
+            ),
+            (
+                11,
+                Need::Back {
+                    block: Some(0),
+                    unit: Some(8),
+                },
+            ),
+            (12, Need::End { block: 1 }),
+            (13, Need::Stopped),
+        ],
+        events: &[
+            (3, (4, &[], &[], None, None)),
+            (5, (6, &[], &[], Some(5), None)),
+            (6, (7, &[], &[(A, 7)], None, None)),
+            (9, (0, &[], &[], Some(1), None)),
+        ],
+        last: None,
+        count: Some(11),
+    },
+    // on a channel of capacity 0 the offer has the reads and the value, and the completion neither; the
+    // completion asks for nothing again, and starts the unit after the send
+    Row {
+        source: "shared int x; chan c[0]; process a { send(c, x + 5); print(1); }",
+        policy: (0, 0),
+        budget: BUDGET,
+        tried: 6,
+        end: (Status::Ended, 5, &[1]),
+        needs: &[
+            (0, Need::Read(0)),
+            (1, Need::Offer { chan: 0, value: 5 }),
+            (2, Need::Done { chan: 0, unit: 1 }),
+            (3, Need::Plain),
+        ],
+        events: &[
+            (0, (0, &[(X, 0)], &[], Some(5), None)),
+            (1, (0, &[], &[], None, None)),
+        ],
+        last: None,
+        count: Some(4),
+    },
 ];
 
 #[test]
-fn each_need_in_turn(rt: HostRuntime) {
-    let alloc = rt.alloc();
-    let source = "shared int x; sem s = 1; chan c[1]; int f() { return 1; } process a { int i; \
-        x = 1; print(x); P(s); V(s); send(c, 5); i = recv(c); while (i < 1) { i = 1; } i = f(); }";
-    let ran = row(alloc, source, LOOPS, BUDGET, 14).expect(&rt, "a source");
-    assert!(rt; ends(&ran, Status::Ended, 13, &[1]));
-    assert!(rt; ran.needs.as_slice().starts_with(&NEEDS));
-    assert_eq!(rt; ran.events.len(), 11);
-    assert!(rt; is_event(&ran, 3, 4, &[], &[], None));
-    assert!(rt; is_event(&ran, 5, 6, &[], &[], Some(5)));
-    assert!(rt; is_event(&ran, 6, 7, &[], &[local(0, 0, 7)], None));
-    assert!(rt; is_event(&ran, 9, 0, &[], &[], Some(1)));
+fn worked_processes(rt: HostRuntime) {
+    for row in &ROWS {
+        let source = row.source;
+        assert_eq!(rt; fault(rt.alloc(), row), None, "{source}");
+    }
 }
 
-// On a channel of capacity 0 the offer has the reads and the value, and the completion neither; the
-// completion asks for nothing again, and starts the unit after the send.
+/// What an expression over the least and the greatest number comes to. None where the source is
+/// refused, or the process stops in another way.
+fn value_of(alloc: Global, expr: &str) -> Option<Result<i64, Trap>> {
+    let source = format!(in alloc;
+        "process a {{ int min = -9223372036854775807 - 1; int max = 9223372036854775807; print({expr}); }}"
+    ).ok()?;
+    let ran = process_of(alloc, source.as_str(), (0, 0), BUDGET, 4)?;
+    match ran.proc.status {
+        Some(Status::Ended) => Some(Ok(*ran.proc.prints.as_slice().first()?)),
+        Some(Status::Trap(trap)) => Some(Err(trap)),
+        _ => None,
+    }
+}
+
+const OVERFLOW: Result<i64, Trap> = Err(Trap::Overflow);
+
+const ZERO: Result<i64, Trap> = Err(Trap::Zero);
+
 #[test]
-fn an_offer_and_its_completion(rt: HostRuntime) {
-    let alloc = rt.alloc();
-    let source = "shared int x; chan c[0]; process a { send(c, x + 5); print(1); }";
-    let ran = row(alloc, source, PLAIN, BUDGET, 6).expect(&rt, "a source");
-    assert!(rt; ends(&ran, Status::Ended, 5, &[1]));
-    let needs = [
-        Need::Read(0),
-        Need::Offer { chan: 0, value: 5 },
-        Need::Done { chan: 0, unit: 1 },
-        Need::Plain,
-    ];
-    assert!(rt; ran.needs.as_slice().starts_with(&needs));
-    assert_eq!(rt; ran.events.len(), 4);
-    assert!(rt; is_event(&ran, 0, 0, &[shared(0, 0)], &[], Some(5)));
-    assert!(rt; is_event(&ran, 1, 0, &[], &[], None));
+fn arithmetic_at_the_borders(rt: HostRuntime) {
+    for (expr, value) in [
+        ("max + 1", OVERFLOW),
+        ("min + -1", OVERFLOW),
+        ("max + min", Ok(-1)),
+        ("min - 1", OVERFLOW),
+        ("0 - min", OVERFLOW),
+        ("-1 - min", Ok(i64::MAX)),
+        ("min * -1", OVERFLOW),
+        ("3037000500 * 3037000500", OVERFLOW),
+        ("4294967296 * -2147483648", Ok(i64::MIN)),
+        ("min / -1", OVERFLOW),
+        ("min / 1", Ok(i64::MIN)),
+        ("5 / 0", ZERO),
+        ("-7 / 2", Ok(-3)),
+        ("7 / -2", Ok(-3)),
+        ("min % -1", OVERFLOW),
+        ("5 % 0", ZERO),
+        ("-7 % 2", Ok(-1)),
+        ("7 % -2", Ok(1)),
+        ("min < max", Ok(1)),
+        ("2 < 2", Ok(0)),
+        ("2 <= 2", Ok(1)),
+        ("-1 > -2", Ok(1)),
+        ("-2 >= -1", Ok(0)),
+        ("2 == 2", Ok(1)),
+        ("2 != 2", Ok(0)),
+    ] {
+        assert_eq!(rt; value_of(rt.alloc(), expr), Some(value), "{expr}");
+    }
 }

@@ -1,15 +1,28 @@
 use crate::limits::{elements, loops, signs};
-use ppd_ast::{Chan, Kind, Place, Plan, Policy, Sem, Seq, Stmt};
-use ppd_tables::buffer::{plan, program};
-use std::process::Abort;
+use ppd_ast::{Chan, Kind, Place, Plan, Policy, Program, Sem, Seq, Stmt};
+use ppd_blocks::partition;
+use ppd_check::read_source;
+use std::alloc::{AllocError, Global};
 use std::test::Fail;
+
+/// Four cells, three semaphores, two functions and two processes.
+const BUFFER: &str = "shared int buf[4]; shared int head, tail; sem empty = 4, full = 0, m = 1; \
+    void put(int v) { P(empty); P(m); buf[tail % 4] = v; tail = tail + 1; V(m); V(full); } \
+    int get() { int v; P(full); P(m); v = buf[head % 4]; head = head + 1; V(m); V(empty); return v; } \
+    process producer { for (int i = 0; i < 100; i++) { int w = i; if (i == 57) { w = 0; } put(w); } } \
+    process consumer { for (int i = 0; i < 100; i++) { int v = get(); assert(v == i); } }";
+
+fn buffer(alloc: Global) -> Result<(Program, Plan), Fail> {
+    let program = read_source(alloc, BUFFER.as_bytes())?;
+    let plan = partition(alloc, &program, &Policy { leaf: 0, loops: 0 })?;
+    Ok((program, plan))
+}
 
 // The bounded buffer is valid with its plan; each change breaks one sentence of validity.
 #[test]
 fn the_bounded_buffer_is_valid(rt: HostRuntime) -> Result<(), Fail> {
     let alloc = rt.alloc();
-    let mut program = program(alloc)?;
-    let mut plan = plan(alloc)?;
+    let (mut program, mut plan) = buffer(alloc)?;
     assert!(rt; program.valid());
     assert!(rt; plan.valid(&program));
     // with leaf 8 `put`, of seven statements and no call, is no block
@@ -42,18 +55,42 @@ fn the_bounded_buffer_is_valid(rt: HostRuntime) -> Result<(), Fail> {
     Ok(())
 }
 
+#[derive(Clone, Copy, Debug)]
+enum Limit {
+    Signs,
+    Nodes,
+    Loops,
+}
+
+/// Whether a program with so many of them is valid.
+fn is_valid(alloc: Global, limit: Limit, count: u8, more: u16) -> Result<bool, AllocError> {
+    let whole = u16::from(count) + more.min(1024);
+    let program = match limit {
+        Limit::Signs => signs(alloc, whole)?,
+        Limit::Nodes => elements(alloc, whole)?,
+        Limit::Loops => loops(alloc, count)?,
+    };
+    Ok(program.valid())
+}
+
 // Operators, nodes and nesting at their limits and one past them.
+const LIMITS: [(Limit, u8, u16, bool); 9] = [
+    (Limit::Signs, 0, 0, true),
+    (Limit::Signs, 1, 512, true),
+    (Limit::Signs, 2, 512, false),
+    (Limit::Nodes, 1, 0, true),
+    (Limit::Nodes, 0, 1024, true),
+    (Limit::Nodes, 1, 1024, false),
+    (Limit::Loops, 1, 0, true),
+    (Limit::Loops, 63, 0, true),
+    (Limit::Loops, 64, 0, false),
+];
+
 #[test]
 fn limits_of_expressions_and_nesting(rt: HostRuntime) -> Result<(), Fail> {
-    let alloc = rt.alloc();
-    for (count, valid) in [(0, true), (513, true), (514, false)] {
-        assert_eq!(rt; signs(alloc, count)?.valid(), valid, "at {count} signs");
-    }
-    for (nodes, valid) in [(1, true), (1024, true), (1025, false)] {
-        assert_eq!(rt; elements(alloc, nodes)?.valid(), valid, "at {nodes} nodes");
-    }
-    for (count, valid) in [(1, true), (63, true), (64, false)] {
-        assert_eq!(rt; loops(alloc, count)?.valid(), valid, "at {count} loops");
+    for (limit, count, more, valid) in LIMITS {
+        let is_valid = is_valid(rt.alloc(), limit, count, more)?;
+        assert_eq!(rt; is_valid, valid, "at {limit:?} {count} {more}");
     }
     Ok(())
 }
@@ -62,7 +99,7 @@ fn limits_of_expressions_and_nesting(rt: HostRuntime) -> Result<(), Fail> {
 #[test]
 fn limits_of_objects_and_calls(rt: HostRuntime) -> Result<(), Fail> {
     let alloc = rt.alloc();
-    let mut program = program(alloc)?;
+    let (mut program, _) = buffer(alloc)?;
     for (bytes, start, valid) in [
         (1, 65_535, true),
         (1, 65_536, false),
@@ -96,37 +133,33 @@ fn limits_of_objects_and_calls(rt: HostRuntime) -> Result<(), Fail> {
     Ok(())
 }
 
-// The plan without cells has the blocks and units of the policy, and a returned value alone.
-#[test]
-fn a_plan_without_cells(rt: HostRuntime) -> Result<(), Fail> {
-    let alloc = rt.alloc();
-    let program = program(alloc)?;
-    let plan = plan(alloc)?;
-    assert!(rt; program.valid());
-    match Plan::bare(alloc, &program, &Policy { leaf: 0, loops: 0 }) {
-        Err(_) => assert!(rt; false, "want of memory"),
-        Ok(bare) => {
-            assert!(rt; bare.valid(&program));
-            assert_eq!(rt; bare.blocks.len(), plan.blocks.len());
-            assert_eq!(rt; bare.units.len(), plan.units.len());
-            for (block, other) in bare
-                .blocks
-                .as_slice()
-                .iter()
-                .zip(plan.blocks.as_slice().iter())
-            {
-                assert!(rt; block.kind == other.kind && block.value == other.value);
-                assert!(rt; block.prelog.len() == 0 && block.postlog.len() == 0);
-            }
-            for (unit, other) in bare
-                .units
-                .as_slice()
-                .iter()
-                .zip(plan.units.as_slice().iter())
-            {
-                assert!(rt; unit.start == other.start && unit.cells.len() == 0);
-            }
+/// Whether the plan without cells has the blocks and units of this one, and a returned value alone.
+fn is_bare(bare: &Plan, plan: &Plan) -> bool {
+    let (blocks, units) = (bare.blocks.as_slice(), bare.units.as_slice());
+    if blocks.len() != plan.blocks.len() || units.len() != plan.units.len() {
+        return false;
+    }
+    for (block, other) in blocks.iter().zip(plan.blocks.as_slice().iter()) {
+        if block.kind != other.kind || block.value != other.value {
+            return false;
+        }
+        if block.prelog.len() != 0 || block.postlog.len() != 0 {
+            return false;
         }
     }
+    for (unit, other) in units.iter().zip(plan.units.as_slice().iter()) {
+        if unit.start != other.start || unit.cells.len() != 0 {
+            return false;
+        }
+    }
+    true
+}
+
+#[test]
+fn a_plan_without_cells(rt: HostRuntime) -> Result<(), Fail> {
+    let (program, plan) = buffer(rt.alloc())?;
+    assert!(rt; program.valid());
+    let bare = Plan::bare(rt.alloc(), &program, &Policy { leaf: 0, loops: 0 })?;
+    assert!(rt; bare.valid(&program) && is_bare(&bare, &plan));
     Ok(())
 }

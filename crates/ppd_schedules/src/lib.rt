@@ -8,8 +8,6 @@ mod logged;
 #[cfg(test)]
 mod parallel;
 #[cfg(test)]
-mod tables;
-#[cfg(test)]
 mod world_tests;
 #[cfg(test)]
 mod worlds;

@@ -1,8 +1,8 @@
-use crate::logged::Wrote::{End, Postlog, Prelog, Sync, Unit};
+use crate::logged::Wrote::{self, End, Postlog, Prelog, Sync, Unit};
 use crate::logged::{Row, answer_to, by_lowest, by_schedule, ends, has_log, plain, prints};
 use ppd_ast::{Status, SyncKind, Trap};
 use ppd_model::DriveError;
-use std::test::Fail;
+use std::alloc::Global;
 
 const BUDGET: u32 = 100_000;
 
@@ -32,81 +32,117 @@ const CALLEE: &str = "shared int x; void f() { x = 4; } process a { x = 1; f(); 
 const RECURSION: &str = "int f(int n) { int r; if (n > 0) { r = f(n - 1); } return r + 1; } \
     process a { int v = f(2); print(v); }";
 
-/// The row of a source under a policy.
-fn row(source: &str, leaf: u16, loops: u16) -> Row {
-    Row {
-        source,
-        leaf,
-        loops,
-    }
+const DEAR: &str = "shared int x, y; sem s = 1; process p { P(s); if (y) { print(x); } }";
+
+const COMPLETED: [u8; 9] = [0, 1, 1, 1, 1, 0, 0, 0, 1];
+
+/// A row, run by a schedule or by the lowest enabled process, with how some processes ended and after how many steps, and
+/// the logs of some.
+struct Case<'a> {
+    row: Row<'a>,
+    budget: u32,
+    schedule: Option<&'a [u8]>,
+    ends: &'a [(usize, Status, u32)],
+    logs: &'a [(usize, &'a [Wrote<'a>])],
 }
 
-// The unit after the `P` holds both cells that may be read, as they stand then; the `End` tells the one
-// that was read.
-#[test]
-fn unread_cell(rt: HostRuntime) -> Result<(), Fail> {
-    let alloc = rt.alloc();
-    for (schedule, x) in [([0, 0, 0, 0, 1, 1], 0), ([1, 1, 0, 0, 0, 0], 5)] {
-        let closed = by_schedule(alloc, plain(UNREAD), BUDGET, &schedule).expect(&rt, "whole");
-        assert!(rt;
-            has_log(
-                &closed,
+const CASES: [Case<'static>; 19] = [
+    // The unit after the `P` holds both cells that may be read, as they stand then; the `End` tells the one
+    // that was read.
+    Case {
+        row: Row {
+            source: UNREAD,
+            leaf: 0,
+            loops: 0,
+        },
+        budget: BUDGET,
+        schedule: Some(&[0, 0, 0, 0, 1, 1]),
+        ends: &[],
+        logs: &[
+            (
                 0,
                 &[
                     Prelog(0, &[]),
                     Unit(0, &[]),
                     Sync(SyncKind::P, 0, 1, 0, &[], &[]),
-                    Unit(1, &[x, 0]),
+                    Unit(1, &[0, 0]),
                     Postlog(0, &[]),
                     End(Status::Ended, 2, &[1], &[]),
-                ]
-            )
-        );
-        assert!(rt;
-            has_log(
-                &closed,
+                ],
+            ),
+            (
                 1,
                 &[
                     Prelog(1, &[]),
                     Unit(2, &[]),
                     Postlog(1, &[]),
                     End(Status::Ended, 1, &[], &[0]),
-                ]
-            )
-        );
-    }
-    Ok(())
-}
-
-// A process that stops for its budget leaves no block.
-#[test]
-fn budget_stop(rt: HostRuntime) -> Result<(), Fail> {
-    let alloc = rt.alloc();
-    let closed = by_lowest(alloc, plain(ENDLESS), 5).expect(&rt, "whole");
-    assert!(rt; ends(&closed, 0, Status::Budget, 5));
-    assert!(rt;
-        has_log(
-            &closed,
+                ],
+            ),
+        ],
+    },
+    Case {
+        row: Row {
+            source: UNREAD,
+            leaf: 0,
+            loops: 0,
+        },
+        budget: BUDGET,
+        schedule: Some(&[1, 1, 0, 0, 0, 0]),
+        ends: &[],
+        logs: &[
+            (
+                0,
+                &[
+                    Prelog(0, &[]),
+                    Unit(0, &[]),
+                    Sync(SyncKind::P, 0, 1, 0, &[], &[]),
+                    Unit(1, &[5, 0]),
+                    Postlog(0, &[]),
+                    End(Status::Ended, 2, &[1], &[]),
+                ],
+            ),
+            (
+                1,
+                &[
+                    Prelog(1, &[]),
+                    Unit(2, &[]),
+                    Postlog(1, &[]),
+                    End(Status::Ended, 1, &[], &[0]),
+                ],
+            ),
+        ],
+    },
+    // A process that stops for its budget leaves no block.
+    Case {
+        row: Row {
+            source: ENDLESS,
+            leaf: 0,
+            loops: 0,
+        },
+        budget: 5,
+        schedule: None,
+        ends: &[(0, Status::Budget, 5)],
+        logs: &[(
             0,
             &[
                 Prelog(0, &[]),
                 Unit(0, &[]),
                 End(Status::Budget, 5, &[], &[]),
-            ]
-        )
-    );
-    Ok(())
-}
-
-// A block loop whose first test fails is entered and left with its local as it stood.
-#[test]
-fn loop_never_entered(rt: HostRuntime) -> Result<(), Fail> {
-    let alloc = rt.alloc();
-    let closed = by_lowest(alloc, row(NEVER_ENTERED, 0, 1), BUDGET).expect(&rt, "whole");
-    assert!(rt; ends(&closed, 0, Status::Ended, 5));
-    assert!(rt;
-        has_log(
-            &closed,
+            ],
+        )],
+    },
+    // A block loop whose first test fails is entered and left with its local as it stood.
+    Case {
+        row: Row {
+            source: NEVER_ENTERED,
+            leaf: 0,
+            loops: 1,
+        },
+        budget: BUDGET,
+        schedule: None,
+        ends: &[(0, Status::Ended, 5)],
+        logs: &[(
             0,
             &[
                 Prelog(0, &[]),
@@ -117,21 +153,20 @@ fn loop_never_entered(rt: HostRuntime) -> Result<(), Fail> {
                 Unit(2, &[]),
                 Postlog(0, &[]),
                 End(Status::Ended, 1, &[], &[]),
-            ]
-        )
-    );
-    Ok(())
-}
-
-// A block loop's prelog and postlog hold the local that a call inside receives.
-#[test]
-fn block_loop(rt: HostRuntime) -> Result<(), Fail> {
-    let alloc = rt.alloc();
-    let closed = by_lowest(alloc, row(BLOCK_LOOP, 0, 1), BUDGET).expect(&rt, "whole");
-    assert!(rt; ends(&closed, 0, Status::Ended, 10));
-    assert!(rt;
-        has_log(
-            &closed,
+            ],
+        )],
+    },
+    // A block loop's prelog and postlog hold the local that a call inside receives.
+    Case {
+        row: Row {
+            source: BLOCK_LOOP,
+            leaf: 0,
+            loops: 1,
+        },
+        budget: BUDGET,
+        schedule: None,
+        ends: &[(0, Status::Ended, 10)],
+        logs: &[(
             0,
             &[
                 Prelog(1, &[]),
@@ -146,21 +181,21 @@ fn block_loop(rt: HostRuntime) -> Result<(), Fail> {
                 Unit(3, &[]),
                 Postlog(1, &[]),
                 End(Status::Ended, 1, &[], &[]),
-            ]
-        )
-    );
-    Ok(())
-}
-
-// A function's prelog holds its parameter. Where the function is too small for a block, its units alone
-// are written.
-#[test]
-fn leaf_function(rt: HostRuntime) -> Result<(), Fail> {
-    let alloc = rt.alloc();
-    let closed = by_lowest(alloc, plain(LEAF), BUDGET).expect(&rt, "whole");
-    assert!(rt;
-        has_log(
-            &closed,
+            ],
+        )],
+    },
+    // A function's prelog holds its parameter. Where the function is too small for a block, its units alone
+    // are written.
+    Case {
+        row: Row {
+            source: LEAF,
+            leaf: 0,
+            loops: 0,
+        },
+        budget: BUDGET,
+        schedule: None,
+        ends: &[],
+        logs: &[(
             0,
             &[
                 Prelog(1, &[]),
@@ -171,13 +206,19 @@ fn leaf_function(rt: HostRuntime) -> Result<(), Fail> {
                 Unit(2, &[9]),
                 Postlog(1, &[]),
                 End(Status::Ended, 2, &[0], &[0]),
-            ]
-        )
-    );
-    let leaf = by_lowest(alloc, row(LEAF, 3, 0), BUDGET).expect(&rt, "whole");
-    assert!(rt;
-        has_log(
-            &leaf,
+            ],
+        )],
+    },
+    Case {
+        row: Row {
+            source: LEAF,
+            leaf: 3,
+            loops: 0,
+        },
+        budget: BUDGET,
+        schedule: None,
+        ends: &[],
+        logs: &[(
             0,
             &[
                 Prelog(0, &[]),
@@ -186,21 +227,20 @@ fn leaf_function(rt: HostRuntime) -> Result<(), Fail> {
                 Unit(2, &[9]),
                 Postlog(0, &[]),
                 End(Status::Ended, 2, &[0], &[0]),
-            ]
-        )
-    );
-    Ok(())
-}
-
-// The unit after a call holds what the callee wrote.
-#[test]
-fn callee_write(rt: HostRuntime) -> Result<(), Fail> {
-    let alloc = rt.alloc();
-    let closed = by_lowest(alloc, plain(CALLEE), BUDGET).expect(&rt, "whole");
-    assert!(rt; ends(&closed, 0, Status::Ended, 7));
-    assert!(rt;
-        has_log(
-            &closed,
+            ],
+        )],
+    },
+    // The unit after a call holds what the callee wrote.
+    Case {
+        row: Row {
+            source: CALLEE,
+            leaf: 0,
+            loops: 0,
+        },
+        budget: BUDGET,
+        schedule: None,
+        ends: &[(0, Status::Ended, 7)],
+        logs: &[(
             0,
             &[
                 Prelog(1, &[]),
@@ -211,21 +251,20 @@ fn callee_write(rt: HostRuntime) -> Result<(), Fail> {
                 Unit(2, &[4]),
                 Postlog(1, &[]),
                 End(Status::Ended, 2, &[0], &[0]),
-            ]
-        )
-    );
-    Ok(())
-}
-
-// Each activation writes its parameter and the value that it returned.
-#[test]
-fn recursion(rt: HostRuntime) -> Result<(), Fail> {
-    let alloc = rt.alloc();
-    let closed = by_lowest(alloc, plain(RECURSION), BUDGET).expect(&rt, "whole");
-    assert!(rt; ends(&closed, 0, Status::Ended, 14));
-    assert!(rt;
-        has_log(
-            &closed,
+            ],
+        )],
+    },
+    // Each activation writes its parameter and the value that it returned.
+    Case {
+        row: Row {
+            source: RECURSION,
+            leaf: 0,
+            loops: 0,
+        },
+        budget: BUDGET,
+        schedule: None,
+        ends: &[(0, Status::Ended, 14)],
+        logs: &[(
             0,
             &[
                 Prelog(1, &[]),
@@ -244,117 +283,116 @@ fn recursion(rt: HostRuntime) -> Result<(), Fail> {
                 Unit(3, &[]),
                 Postlog(1, &[]),
                 End(Status::Ended, 1, &[], &[]),
-            ]
-        )
-    );
-    Ok(())
-}
-
-// A synchronization tells the cells accessed since the one before, and what was sent or received.
-#[test]
-fn accesses_between_synchronizations(rt: HostRuntime) -> Result<(), Fail> {
-    let alloc = rt.alloc();
-    let schedule = [0, 1, 1, 1, 1, 0, 0, 0, 1, 1];
-    let closed = by_schedule(alloc, plain(BOUNDED), BUDGET, &schedule).expect(&rt, "whole");
-    assert!(rt;
-        has_log(
-            &closed,
-            0,
-            &[
-                Prelog(0, &[]),
-                Unit(0, &[]),
-                Sync(SyncKind::Send, 0, 1, 7, &[], &[]),
-                Unit(1, &[]),
-                Sync(SyncKind::Send, 0, 2, 8, &[], &[]),
-                Unit(2, &[]),
-                Postlog(0, &[]),
-                End(Status::Ended, 1, &[], &[0]),
-            ]
-        )
-    );
-    assert!(rt;
-        has_log(
-            &closed,
-            1,
-            &[
-                Prelog(1, &[]),
-                Unit(3, &[0]),
-                Sync(SyncKind::Recv, 0, 1, 7, &[0], &[]),
-                Unit(4, &[]),
-                Sync(SyncKind::Recv, 0, 2, 8, &[], &[]),
-                Unit(5, &[]),
-                Postlog(1, &[]),
-                End(Status::Ended, 0, &[], &[]),
-            ]
-        )
-    );
-    Ok(())
-}
-
-// Under a lock the unit after the `P` holds what the process before wrote.
-#[test]
-fn lock_order(rt: HostRuntime) -> Result<(), Fail> {
-    let alloc = rt.alloc();
-    let schedule = [0, 0, 0, 0, 0, 1, 1, 1, 1, 1];
-    let closed = by_schedule(alloc, plain(LOCKED), BUDGET, &schedule).expect(&rt, "whole");
-    assert!(rt;
-        has_log(
-            &closed,
-            0,
-            &[
-                Prelog(0, &[]),
-                Unit(0, &[]),
-                Sync(SyncKind::P, 0, 1, 0, &[], &[]),
-                Unit(1, &[0]),
-                Sync(SyncKind::V, 0, 2, 0, &[0], &[0]),
-                Unit(2, &[]),
-                Postlog(0, &[]),
-                End(Status::Ended, 0, &[], &[]),
-            ]
-        )
-    );
-    assert!(rt;
-        has_log(
-            &closed,
-            1,
-            &[
-                Prelog(1, &[]),
-                Unit(3, &[]),
-                Sync(SyncKind::P, 0, 2, 0, &[], &[]),
-                Unit(4, &[1]),
-                Sync(SyncKind::V, 0, 3, 0, &[0], &[0]),
-                Unit(5, &[]),
-                Postlog(1, &[]),
-                End(Status::Ended, 0, &[], &[]),
-            ]
-        )
-    );
-    Ok(())
-}
-
-// A process that waits for ever gets its end when the run is closed, with what it did since its start.
-#[test]
-fn blocked_process(rt: HostRuntime) -> Result<(), Fail> {
-    let alloc = rt.alloc();
-    let source = "shared int x; sem s; process a { x = 1; print(x); P(s); }";
-    let closed = by_lowest(alloc, plain(source), BUDGET).expect(&rt, "whole");
-    assert!(rt; ends(&closed, 0, Status::Blocked, 3));
-    assert!(rt;
-        has_log(
-            &closed,
+            ],
+        )],
+    },
+    // A synchronization tells the cells accessed since the one before, and what was sent or received.
+    Case {
+        row: Row {
+            source: BOUNDED,
+            leaf: 0,
+            loops: 0,
+        },
+        budget: BUDGET,
+        schedule: Some(&[0, 1, 1, 1, 1, 0, 0, 0, 1, 1]),
+        ends: &[],
+        logs: &[
+            (
+                0,
+                &[
+                    Prelog(0, &[]),
+                    Unit(0, &[]),
+                    Sync(SyncKind::Send, 0, 1, 7, &[], &[]),
+                    Unit(1, &[]),
+                    Sync(SyncKind::Send, 0, 2, 8, &[], &[]),
+                    Unit(2, &[]),
+                    Postlog(0, &[]),
+                    End(Status::Ended, 1, &[], &[0]),
+                ],
+            ),
+            (
+                1,
+                &[
+                    Prelog(1, &[]),
+                    Unit(3, &[0]),
+                    Sync(SyncKind::Recv, 0, 1, 7, &[0], &[]),
+                    Unit(4, &[]),
+                    Sync(SyncKind::Recv, 0, 2, 8, &[], &[]),
+                    Unit(5, &[]),
+                    Postlog(1, &[]),
+                    End(Status::Ended, 0, &[], &[]),
+                ],
+            ),
+        ],
+    },
+    // Under a lock the unit after the `P` holds what the process before wrote.
+    Case {
+        row: Row {
+            source: LOCKED,
+            leaf: 0,
+            loops: 0,
+        },
+        budget: BUDGET,
+        schedule: Some(&[0, 0, 0, 0, 0, 1, 1, 1, 1, 1]),
+        ends: &[],
+        logs: &[
+            (
+                0,
+                &[
+                    Prelog(0, &[]),
+                    Unit(0, &[]),
+                    Sync(SyncKind::P, 0, 1, 0, &[], &[]),
+                    Unit(1, &[0]),
+                    Sync(SyncKind::V, 0, 2, 0, &[0], &[0]),
+                    Unit(2, &[]),
+                    Postlog(0, &[]),
+                    End(Status::Ended, 0, &[], &[]),
+                ],
+            ),
+            (
+                1,
+                &[
+                    Prelog(1, &[]),
+                    Unit(3, &[]),
+                    Sync(SyncKind::P, 0, 2, 0, &[], &[]),
+                    Unit(4, &[1]),
+                    Sync(SyncKind::V, 0, 3, 0, &[0], &[0]),
+                    Unit(5, &[]),
+                    Postlog(1, &[]),
+                    End(Status::Ended, 0, &[], &[]),
+                ],
+            ),
+        ],
+    },
+    // A process that waits for ever gets its end when the run is closed, with what it did since its start.
+    Case {
+        row: Row {
+            source: "shared int x; sem s; process a { x = 1; print(x); P(s); }",
+            leaf: 0,
+            loops: 0,
+        },
+        budget: BUDGET,
+        schedule: None,
+        ends: &[(0, Status::Blocked, 3)],
+        logs: &[(
             0,
             &[
                 Prelog(0, &[]),
                 Unit(0, &[0]),
                 End(Status::Blocked, 3, &[0], &[0]),
-            ]
-        )
-    );
-    let locks = "sem s = 1, t = 1; process a { P(s); P(t); } process b { P(t); P(s); }";
-    let deadlock = by_schedule(alloc, plain(locks), BUDGET, &[0, 1]).expect(&rt, "whole");
-    assert!(rt;
-        has_log(
-            &deadlock,
+            ],
+        )],
+    },
+    Case {
+        row: Row {
+            source: "sem s = 1, t = 1; process a { P(s); P(t); } process b { P(t); P(s); }",
+            leaf: 0,
+            loops: 0,
+        },
+        budget: BUDGET,
+        schedule: Some(&[0, 1]),
+        ends: &[],
+        logs: &[(
             0,
             &[
                 Prelog(0, &[]),
@@ -362,37 +400,170 @@ fn blocked_process(rt: HostRuntime) -> Result<(), Fail> {
                 Sync(SyncKind::P, 0, 1, 0, &[], &[]),
                 Unit(1, &[]),
                 End(Status::Blocked, 0, &[], &[]),
-            ]
-        )
-    );
-    Ok(())
-}
-
-// The step that traps is not counted in the rest, and leaves no block.
-#[test]
-fn trapped_process(rt: HostRuntime) -> Result<(), Fail> {
-    let alloc = rt.alloc();
-    let source = "process a { int i = 1; print(9223372036854775807 + i); }";
-    let closed = by_lowest(alloc, plain(source), BUDGET).expect(&rt, "whole");
-    assert!(rt; ends(&closed, 0, Status::Trap(Trap::Overflow), 2));
-    assert!(rt;
-        has_log(
-            &closed,
+            ],
+        )],
+    },
+    // The step that traps is not counted in the rest, and leaves no block.
+    Case {
+        row: Row {
+            source: "process a { int i = 1; print(9223372036854775807 + i); }",
+            leaf: 0,
+            loops: 0,
+        },
+        budget: BUDGET,
+        schedule: None,
+        ends: &[(0, Status::Trap(Trap::Overflow), 2)],
+        logs: &[(
             0,
             &[
                 Prelog(0, &[]),
                 Unit(0, &[]),
                 End(Status::Trap(Trap::Overflow), 1, &[], &[]),
-            ]
-        )
-    );
-    Ok(())
+            ],
+        )],
+    },
+    // A step whose values the budget cannot pay for is not taken: the `P` with the two cells of its unit
+    // costs 3, the entry of the loop 2.
+    Case {
+        row: Row {
+            source: DEAR,
+            leaf: 0,
+            loops: 0,
+        },
+        budget: 2,
+        schedule: None,
+        ends: &[(0, Status::Budget, 0)],
+        logs: &[(
+            0,
+            &[
+                Prelog(0, &[]),
+                Unit(0, &[]),
+                End(Status::Budget, 0, &[], &[]),
+            ],
+        )],
+    },
+    Case {
+        row: Row {
+            source: DEAR,
+            leaf: 0,
+            loops: 0,
+        },
+        budget: 3,
+        schedule: None,
+        ends: &[(0, Status::Budget, 1)],
+        logs: &[],
+    },
+    Case {
+        row: Row {
+            source: NEVER_ENTERED,
+            leaf: 0,
+            loops: 1,
+        },
+        budget: 4,
+        schedule: None,
+        ends: &[(0, Status::Budget, 2)],
+        logs: &[(
+            0,
+            &[
+                Prelog(0, &[]),
+                Unit(0, &[]),
+                Prelog(1, &[3]),
+                Unit(1, &[]),
+                End(Status::Budget, 0, &[], &[]),
+            ],
+        )],
+    },
+    // On a channel of capacity 0 the offer starts no unit. The completion waits for the receive; it has no
+    // value, and the unit after the send starts with it.
+    Case {
+        row: Row {
+            source: RENDEZVOUS,
+            leaf: 0,
+            loops: 0,
+        },
+        budget: BUDGET,
+        schedule: Some(&COMPLETED),
+        ends: &[(0, Status::Ended, 4), (1, Status::Ended, 5)],
+        logs: &[
+            (
+                0,
+                &[
+                    Prelog(0, &[]),
+                    Unit(0, &[]),
+                    Sync(SyncKind::Send, 0, 1, 7, &[], &[]),
+                    Sync(SyncKind::Done, 0, 1, 0, &[], &[]),
+                    Unit(1, &[]),
+                    Postlog(0, &[]),
+                    End(Status::Ended, 1, &[], &[0]),
+                ],
+            ),
+            (
+                1,
+                &[
+                    Prelog(1, &[]),
+                    Unit(2, &[0]),
+                    Sync(SyncKind::Recv, 0, 1, 7, &[0], &[]),
+                    Unit(3, &[]),
+                    Postlog(1, &[]),
+                    End(Status::Ended, 0, &[], &[]),
+                ],
+            ),
+        ],
+    },
+    Case {
+        row: Row {
+            source: "chan c[0]; process a { send(c, 1); }",
+            leaf: 0,
+            loops: 0,
+        },
+        budget: BUDGET,
+        schedule: None,
+        ends: &[(0, Status::Blocked, 1)],
+        logs: &[(
+            0,
+            &[
+                Prelog(0, &[]),
+                Unit(0, &[]),
+                Sync(SyncKind::Send, 0, 1, 1, &[], &[]),
+                End(Status::Blocked, 0, &[], &[]),
+            ],
+        )],
+    },
+];
+
+/// What of a case does not hold, if something does not.
+fn fault(alloc: Global, case: &Case) -> Option<&'static str> {
+    let closed = match case.schedule {
+        Some(schedule) => by_schedule(alloc, case.row, case.budget, schedule),
+        None => by_lowest(alloc, case.row, case.budget),
+    };
+    let Some(closed) = closed else {
+        return Some("not whole");
+    };
+    for (p, status, steps) in case.ends {
+        if !ends(&closed, *p, *status, *steps) {
+            return Some("another end");
+        }
+    }
+    for (p, wrote) in case.logs {
+        if !has_log(&closed, *p, wrote) {
+            return Some("another log");
+        }
+    }
+    None
+}
+
+#[test]
+fn logs_of_worked_sources(rt: HostRuntime) {
+    for (number, case) in CASES.iter().enumerate() {
+        assert_eq!(rt; fault(rt.alloc(), case), None, "{number}");
+    }
 }
 
 // What each run costs: its steps, and a value for each in the entries after those of the start. With
 // that budget it ends; with one less it stops before its last step.
 #[test]
-fn costs(rt: HostRuntime) -> Result<(), Fail> {
+fn costs(rt: HostRuntime) {
     let alloc = rt.alloc();
     let print = "shared int x; process a { print(x); }";
     for (source, leaf, loops, steps, values) in [
@@ -406,126 +577,36 @@ fn costs(rt: HostRuntime) -> Result<(), Fail> {
         (CALLEE, 0, 0, 7, 1),
         (RECURSION, 0, 0, 14, 6),
     ] {
-        let enough = by_lowest(alloc, row(source, leaf, loops), steps + values).expect(
-            &rt, "whole",
-        );
+        let row = Row {
+            source,
+            leaf,
+            loops,
+        };
+        let enough = by_lowest(alloc, row, steps + values).expect(&rt, "whole");
         assert!(rt; ends(&enough, 0, Status::Ended, steps));
-        let less = by_lowest(alloc, row(source, leaf, loops), steps + values - 1).expect(
-            &rt, "whole",
-        );
+        let less = by_lowest(alloc, row, steps + values - 1).expect(&rt, "whole");
         assert!(rt; ends(&less, 0, Status::Budget, steps - 1));
     }
-    Ok(())
 }
 
-// A step whose values the budget cannot pay for is not taken: the `P` with the two cells of its unit
-// costs 3, the entry of the loop 2.
+// On a channel of capacity 0 nothing follows an offer before it is received; and after the receive and before the
+// completion there is still an offer open.
 #[test]
-fn stops_before_dear_steps(rt: HostRuntime) -> Result<(), Fail> {
+fn offers_wait(rt: HostRuntime) {
     let alloc = rt.alloc();
-    let source = "shared int x, y; sem s = 1; process p { P(s); if (y) { print(x); } }";
-    let none = by_lowest(alloc, plain(source), 2).expect(&rt, "whole");
-    assert!(rt; ends(&none, 0, Status::Budget, 0));
-    assert!(rt;
-        has_log(
-            &none,
-            0,
-            &[
-                Prelog(0, &[]),
-                Unit(0, &[]),
-                End(Status::Budget, 0, &[], &[]),
-            ]
-        )
-    );
-    let one = by_lowest(alloc, plain(source), 3).expect(&rt, "whole");
-    assert!(rt; ends(&one, 0, Status::Budget, 1));
-    let entered = by_lowest(alloc, row(NEVER_ENTERED, 0, 1), 4).expect(&rt, "whole");
-    assert!(rt; ends(&entered, 0, Status::Budget, 2));
-    assert!(rt;
-        has_log(
-            &entered,
-            0,
-            &[
-                Prelog(0, &[]),
-                Unit(0, &[]),
-                Prelog(1, &[3]),
-                Unit(1, &[]),
-                End(Status::Budget, 0, &[], &[]),
-            ]
-        )
-    );
-    Ok(())
-}
-
-// On a channel of capacity 0 the offer starts no unit. The completion waits for the receive; it has no
-// value, and the unit after the send starts with it.
-#[test]
-fn rendezvous_order(rt: HostRuntime) -> Result<(), Fail> {
-    let alloc = rt.alloc();
-    let early = answer_to(alloc, plain(RENDEZVOUS), BUDGET, &[0, 0]);
-    assert_eq!(rt; early, Some(Err(DriveError::NotEnabled(1))));
-    let schedule = [0, 1, 1, 1, 1, 0, 0, 0, 1];
-    let closed = by_schedule(alloc, plain(RENDEZVOUS), BUDGET, &schedule).expect(&rt, "whole");
-    assert!(rt; ends(&closed, 0, Status::Ended, 4));
-    assert!(rt; ends(&closed, 1, Status::Ended, 5));
-    assert!(rt; prints(&closed, 1, &[0]));
-    assert!(rt;
-        has_log(
-            &closed,
-            0,
-            &[
-                Prelog(0, &[]),
-                Unit(0, &[]),
-                Sync(SyncKind::Send, 0, 1, 7, &[], &[]),
-                Sync(SyncKind::Done, 0, 1, 0, &[], &[]),
-                Unit(1, &[]),
-                Postlog(0, &[]),
-                End(Status::Ended, 1, &[], &[0]),
-            ]
-        )
-    );
-    assert!(rt;
-        has_log(
-            &closed,
-            1,
-            &[
-                Prelog(1, &[]),
-                Unit(2, &[0]),
-                Sync(SyncKind::Recv, 0, 1, 7, &[0], &[]),
-                Unit(3, &[]),
-                Postlog(1, &[]),
-                End(Status::Ended, 0, &[], &[]),
-            ]
-        )
-    );
-    Ok(())
-}
-
-// An offer that nobody receives: its process waits for ever, and no second offer can be made.
-#[test]
-fn offer_alone(rt: HostRuntime) -> Result<(), Fail> {
-    let alloc = rt.alloc();
-    let alone = "chan c[0]; process a { send(c, 1); }";
-    let closed = by_lowest(alloc, plain(alone), BUDGET).expect(&rt, "whole");
-    assert!(rt; ends(&closed, 0, Status::Blocked, 1));
-    assert!(rt;
-        has_log(
-            &closed,
-            0,
-            &[
-                Prelog(0, &[]),
-                Unit(0, &[]),
-                Sync(SyncKind::Send, 0, 1, 1, &[], &[]),
-                End(Status::Blocked, 0, &[], &[]),
-            ]
-        )
-    );
     let both = "chan c[0]; process a { send(c, 1); } process b { send(c, 2); } \
         process r { int v; v = recv(c); }";
-    // after the receive and before the completion there is still an offer open
-    let received = answer_to(alloc, plain(both), BUDGET, &[0, 2, 2, 1]);
-    assert_eq!(rt; received, Some(Err(DriveError::NotEnabled(3))));
-    let completed = answer_to(alloc, plain(both), BUDGET, &[0, 2, 2, 0, 1]);
-    assert_eq!(rt; completed, Some(Ok(())));
-    Ok(())
+    let rows: [(&str, &[u8], Result<(), DriveError>); 3] = [
+        (RENDEZVOUS, &[0, 0], Err(DriveError::NotEnabled(1))),
+        (both, &[0, 2, 2, 1], Err(DriveError::NotEnabled(3))),
+        (both, &[0, 2, 2, 0, 1], Ok(())),
+    ];
+    for (source, schedule, answer) in rows {
+        assert_eq!(rt;
+            answer_to(alloc, plain(source), BUDGET, schedule),
+            Some(answer)
+        );
+    }
+    let closed = by_schedule(alloc, plain(RENDEZVOUS), BUDGET, &COMPLETED).expect(&rt, "whole");
+    assert!(rt; prints(&closed, 1, &[0]));
 }

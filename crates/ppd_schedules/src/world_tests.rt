@@ -1,10 +1,10 @@
-use crate::parallel::{bounded, deadlock, draining, filling, locked};
+use crate::parallel::{bounded, buffer, deadlock, draining, filling, locked};
 use crate::worlds::{Driven, bare_plan, drive, drive_lowest};
-use ppd_ast::{Program, Status, SyncKind, Trap};
+use ppd_ast::{Policy, Program, Status, SyncKind, Trap};
+use ppd_blocks::partition;
 use ppd_entry::Entry;
 use ppd_model::{Closed, DriveError};
-use ppd_tables::buffer;
-use std::alloc::{AllocError, Global};
+use std::alloc::Global;
 use std::test::Fail;
 
 const BUDGET: u32 = 100_000;
@@ -12,23 +12,18 @@ const BUDGET: u32 = 100_000;
 /// The program driven by the schedule with its bare plan.
 fn by_schedule(
     alloc: Global,
-    program: Result<Program, AllocError>,
+    program: Option<Program>,
     budget: u32,
     schedule: &[u8],
 ) -> Option<Driven> {
-    let program = program.ok()?;
+    let program = program?;
     let plan = bare_plan(alloc, &program)?;
     drive(alloc, &program, &plan, budget, schedule)
 }
 
 /// The program driven by its lowest enabled process with its bare plan.
-fn by_lowest(
-    alloc: Global,
-    program: Result<Program, AllocError>,
-    budget: u32,
-    steps: u32,
-) -> Option<Closed> {
-    let program = program.ok()?;
+fn by_lowest(alloc: Global, program: Option<Program>, budget: u32, steps: u32) -> Option<Closed> {
+    let program = program?;
     let plan = bare_plan(alloc, &program)?;
     drive_lowest(alloc, &program, &plan, budget, steps)
 }
@@ -258,8 +253,8 @@ fn channels_filled_and_emptied(rt: HostRuntime) -> Result<(), Fail> {
 #[test]
 fn bounded_buffer(rt: HostRuntime) -> Result<(), Fail> {
     let alloc = rt.alloc();
-    let program = buffer::program(alloc)?;
-    let plan = buffer::plan(alloc)?;
+    let program = buffer(alloc).expect(&rt, "a source");
+    let plan = partition(alloc, &program, &Policy { leaf: 0, loops: 0 })?;
     let bare = bare_plan(alloc, &program).expect(&rt, "valid");
     for plan in [&bare, &plan] {
         let closed = drive_lowest(alloc, &program, plan, BUDGET, 1800).expect(&rt, "whole");

@@ -56,13 +56,13 @@ ending zero (e ∷ es) = if ends_edge e then 0 else suc (ending zero es)
 ending (suc i) (e ∷ es) = if is_sync e then suc (ending i es) else suc (ending (suc i) es)
 
 -- entry n stands in the interval: after its prelog and not after its postlog, or the end inside it
-abbrev pub stands_in : ℕ → Extent → Bool
-stands_in n x = nat_lt x.prelog n && nat_le n (unwrap_or x.last 0)
+abbrev pub is_in_extent : ℕ → Extent → Bool
+is_in_extent n x = nat_lt x.prelog n && nat_le n (unwrap_or x.last 0)
 
 -- the last of these intervals, which are numbered from k on, that entry n stands in, and m where there is none
 abbrev pub innermost_from : ℕ → ℕ → ℕ → List Extent → ℕ
 innermost_from n m k [] = m
-innermost_from n m k (x ∷ xs) = innermost_from n (if stands_in n x then k else m) (k + 1) xs
+innermost_from n m k (x ∷ xs) = innermost_from n (if is_in_extent n x then k else m) (k + 1) xs
 
 -- the innermost interval at entry n, and interval 0 where the entry stands in none
 abbrev pub innermost_at : List Entry → ℕ → ℕ

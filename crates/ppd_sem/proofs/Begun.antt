@@ -14,9 +14,10 @@ use Rattle.ppd_ast.specs.declared.plan.Plan.{Plan}
 use Rattle.ppd_ast.specs.declared.program.Body.{Body}
 use Rattle.ppd_ast.specs.declared.program.Program.{Program}
 use Rattle.ppd_ast.specs.declared.program.Stmt.{Stmt}
+use Rattle.ppd_ast.specs.Lookups.{top_of_body, body_of_stmt}
 use Rattle.ppd_sem.specs.declared.proc.Todo.{Todo}
-use Rattle.ppd_sem.specs.Blocks.{at_block, block_body, block_kind, block_todo, body_in, kind_in, prelog_cells, with_values}
-use Rattle.ppd_sem.specs.Process.{cells_for, todos, top_of}
+use Rattle.ppd_sem.specs.Blocks.{at_block, block_body, block_kind, block_todo, kind_in, prelog_cells, with_values}
+use Rattle.ppd_sem.specs.Process.{cells_for, todos}
 use Rattle.ppd_sem.specs.Runs.{AreOfFunction, AreOver, IsRunning, size_if, size_of, stmt_size}
 use Rattle.ppd_sem.proofs.Kept.{cells_count, function_over, size_small}
 use Rattle.ppd_sem.proofs.Starts.{started_over}
@@ -49,14 +50,14 @@ with_none (c ∷ cs) (v ∷ vs) cells (suc i) h = with_none cs vs cells i (omega
 -- ---- bodies
 
 -- what is to do in a body runs over its frame
-body_over : (p : Program) (f : ℕ) (o : Option Body) → slice_get p.bodies f ≡ o → IsValid p → AreOver p (size_of p f ∷ []) (todos (top_of (slice_get p.bodies f)))
-body_over p f None e v = subst (λ (o : Option Body). AreOver p (size_if o ∷ []) (todos (top_of o))) (sym e) tt
+body_over : (p : Program) (f : ℕ) (o : Option Body) → slice_get p.bodies f ≡ o → IsValid p → AreOver p (size_of p f ∷ []) (todos (top_of_body (slice_get p.bodies f)))
+body_over p f None e v = subst (λ (o : Option Body). AreOver p (size_if o ∷ []) (todos (top_of_body o))) (sym e) tt
 body_over p f (Some b) e v = by (nat_le p.functions f) refl
   where
     valid : IsValidBody p f b
     valid = body_at p f b v e
 
-    by : (t : Bool) → nat_le p.functions f ≡ t → AreOver p (size_of p f ∷ []) (todos (top_of (slice_get p.bodies f)))
+    by : (t : Bool) → nat_le p.functions f ≡ t → AreOver p (size_of p f ∷ []) (todos (top_of_body (slice_get p.bodies f)))
     by true t =
         let from : p.functions ≤ f = grind (arith, nat_tests) in
         started_over p f (valid-runnable p v) from (slice_get_within p.bodies f b e)
@@ -64,7 +65,7 @@ body_over p f (Some b) e v = by (nat_le p.functions f) refl
         let top : AreOfFunction p b.cells b.top = function_top p f b v e (valid.process ∙ t) valid in
         let plain : AreOver p (b.cells ∷ []) (todos b.top ++ []) = function_over p b.cells [] b.top [] top tt in
         let over : AreOver p (b.cells ∷ []) (todos b.top) = subst (λ (l : List Todo). AreOver p (b.cells ∷ []) l) (append-nil (todos b.top)) plain in
-        subst (λ (o : Option Body). AreOver p (size_if o ∷ []) (todos (top_of o))) (sym e) over
+        subst (λ (o : Option Body). AreOver p (size_if o ∷ []) (todos (top_of_body o))) (sym e) over
 
 -- ---- blocks
 
@@ -74,7 +75,7 @@ kind_over p (block.Function f) b v h = body_over p f (slice_get p.bodies f) refl
 kind_over p (block.Process f) b v h = body_over p f (slice_get p.bodies f) refl v
 kind_over p (block.Loop s) b v h =
     let at = some_at (λ (x : Stmt). IsSomeAnd (slice_get p.bodies x.body) (λ y. IsLoopBlock y.cells b)) (slice_get p.stmts s) h in
-    let body : body_in (slice_get p.stmts s) ≡ at.0.body = ap body_in at.1 in (
+    let body : body_of_stmt (slice_get p.stmts s) ≡ at.0.body = ap body_of_stmt at.1 in (
       record {
         there = slice_get_within p.stmts s at.0 at.1;
         size = ap (stmt_size p) at.1 ∙ sym (ap (size_of p) body);

@@ -4,10 +4,10 @@ use Rattle.std.specs.Prelude.{◌||◌, cond, not, take_while}
 use Rattle.std.specs.List.{list_any, prefix_len}
 use Rattle.std.proofs.lemmas.List.{append_assoc, drop_more, get_or-reverse, length-reverse}
 use Rattle.ppd_ast.specs.declared.program.Program.{Program}
+use Rattle.ppd_ast.specs.Lookups.{kind_of}
 use Rattle.ppd_sem.specs.declared.event.Access.{Access}
 use Rattle.ppd_sem.specs.declared.proc.Todo.{Todo}
 use Rattle.ppd_sem.specs.Described.{ends_body, is_in_loop, local_write, parameters, top_todo}
-use Rattle.ppd_sem.specs.Process.{kind_of}
 
 -- ---- what is to do, from its top
 

@@ -16,6 +16,7 @@ use Rattle.ppd_ast.specs.declared.program.Target.TheVariants as target
 use Rattle.ppd_ast.specs.declared.status.Status.{Status}
 use Rattle.ppd_ast.specs.declared.status.Status.TheVariants as status
 use Rattle.ppd_ast.specs.declared.status.Trap.TheVariants as trap
+use Rattle.ppd_ast.specs.Lookups.{kind_of_stmt, kind_of, top_of_body}
 use Rattle.ppd_sem.specs.declared.asking.Pause.TheVariants.{Wants, Traps}
 use Rattle.ppd_sem.specs.declared.proc.Answer.{Answer}
 use Rattle.ppd_sem.specs.declared.proc.Frame.{Frame}
@@ -26,7 +27,7 @@ use Rattle.ppd_sem.specs.declared.proc.Todo.{Todo}
 use Rattle.ppd_sem.specs.Ask.{ask, element, is_zero}
 use Rattle.ppd_sem.specs.Asked.{Asked, and_then, gives, lift}
 use Rattle.ppd_sem.specs.Deed.{Deed, set_local, set_shared, clear, branch, turn, leave, invoke, back, take, give, send, receive, print, pass, finish, ask_all, ask_deed, ask_stored}
-use Rattle.ppd_sem.specs.Process.{act, act_at, act_by_asked, act_by_deed, act_by_need, cells_for, charged, clear_cells, clear_top, cost, head_deed, into_of, kind_of, kind_or_end, need_of, need_of_head, receive_at, returned, returned_from, todos, top_cells, top_of, within_budget, write_top}
+use Rattle.ppd_sem.specs.Process.{act, act_at, act_by_asked, act_by_deed, act_by_need, cells_for, charged, clear_cells, clear_top, cost, head_deed, into_of, need_of, need_of_head, receive_at, returned, returned_from, todos, top_cells, within_budget, write_top}
 use Rattle.ppd_sem.specs.Runs.{AreOfFunction, AreOver, IsCallable, IsInner, IsOver, IsRunnable, IsRunnableStmt, IsRunning, LeadsOn, left_by, returns, size_if, size_of, sizes, stmt_size}
 use Rattle.ppd_sem.proofs.Offers.{CompletesSend, head_completes, send_stays}
 use Rattle.ppd_sem.proofs.Progress.{SamePurse, asked_purse, need_at_status, need_at_todo, stays_at}
@@ -133,7 +134,7 @@ pub leads_at : (p : Program) (n s : ℕ) → IsRunnable p → IsOver p n s → L
 leads_at p n s h over =
     let found : There (λ _ x. IsRunnableStmt p x) p.stmts s = there_at (λ _ x. IsRunnableStmt p x) p.stmts s h.stmts over.there in
     let size : size_of p found.0.body ≡ n = sym (ap (stmt_size p) found.1) ∙ over.size in
-    let kind : found.0.kind ≡ kind_of p s = sym (ap kind_or_end found.1) in
+    let kind : found.0.kind ≡ kind_of p s = sym (ap kind_of_stmt found.1) in
     subst (λ (m : ℕ). LeadsOn p m (kind_of p s)) size (subst (λ (k : Kind). LeadsOn p (size_of p found.0.body) k) kind found.2.leads)
 
 body_small : (bodies : List Body) (i : ℕ) → EachAt (λ _ b. b.cells < 2 ^ 16) bodies → size_if (slice_get bodies i) < 2 ^ 16
@@ -226,7 +227,7 @@ deed_shape p a t ts d s f fs run e h shape = by d h
     by (invoke g values into) h =
         let after : Shape p (sizes s.frames) ts = same h.0 in
         let count : length (cells_for (slice_get p.bodies g) values) ≡ size_of p g = cells_count (slice_get p.bodies g) values h.1.arguments in
-        let stmts : List ℕ = top_of (slice_get p.bodies g) in
+        let stmts : List ℕ = top_of_body (slice_get p.bodies g) in
         let over : AreOver p (size_of p g ∷ sizes s.frames) (todos stmts ++ ts) = function_over p (size_of p g) (sizes s.frames) stmts ts h.1.top after.todo in
         let small : All (λ n. n < 2 ^ 16) (size_of p g ∷ sizes s.frames) = small_cons (size_of p g) (sizes s.frames) (size_small p g run) after.sizes in
         sized p (size_of p g ∷ sizes s.frames) (length (cells_for (slice_get p.bodies g) values) ∷ sizes s.frames) (todos stmts ++ ts) (ap (λ n. n ∷ sizes s.frames) count) record { todo = over; sizes = small }

@@ -10,15 +10,16 @@ use Rattle.ppd_ast.specs.declared.program.Kind.TheVariants as kind
 use Rattle.ppd_ast.specs.declared.program.Program.{Program}
 use Rattle.ppd_ast.specs.declared.status.Trap.TheVariants.{Overflow, Index, Depth}
 use Rattle.ppd_ast.specs.Term.{Term, and, or, term}
+use Rattle.ppd_ast.specs.Lookups.{kind_of}
 use Rattle.ppd_sem.specs.declared.asking.Pause.TheVariants.{Traps}
 use Rattle.ppd_sem.specs.declared.proc.Need.TheVariants as need
 use Rattle.ppd_sem.specs.declared.proc.Proc.{Proc}
 use Rattle.ppd_sem.specs.declared.proc.Todo.{Todo}
-use Rattle.ppd_sem.specs.Ask.{ask, checked, divided, element, fits, is_zero}
+use Rattle.ppd_sem.specs.Ask.{ask, checked, divided, element, is_in_64_bits, is_zero}
 use Rattle.ppd_sem.specs.Asked.{Asked, and_then, gives, once}
 use Rattle.ppd_sem.specs.Deed.{Deed, ask_all, ask_deed, ask_stored, invoke, set_local, set_shared}
 use Rattle.ppd_sem.specs.Laws.{ArgumentsComeFirst, ArithmeticIsExact, DividesTowardZero, Has64Bits, IndexComesFirst, IsExactOrOverflow, NeedsAreThere, StepsEnd, StopsEarly, ValidCanRun, ValidIsNumbered, least}
-use Rattle.ppd_sem.specs.Process.{act, chan_of, entry_of, head_deed, kind_of, loop_of, need_by_entry, need_by_offer, need_of_asked, need_of_call, need_of_head, offer_of, top_cells}
+use Rattle.ppd_sem.specs.Process.{act, chan_of, entry_of, head_deed, loop_of, need_by_entry, need_by_offer, need_of_asked, need_of_call, need_of_head, offer_of, top_cells}
 use Rattle.ppd_sem.specs.Reads.{ask_place, reads_of, reads_of_stored}
 use Rattle.ppd_sem.proofs.Progress.{act-falls, act-stopped, act-within}
 use Rattle.ppd_sem.proofs.Needs.{needs-there}
@@ -26,20 +27,20 @@ use Rattle.ppd_sem.proofs.Validity.{valid-runnable, valid-numbered}
 
 -- ---- arithmetic
 
-fits_of : (z : ℤ) → Has64Bits z → fits z ≡ true
+fits_of : (z : ℤ) → Has64Bits z → is_in_64_bits z ≡ true
 fits_of (pos n) h = grind (arith, nat_tests, h.below)
 fits_of (negsuc n) h = grind (arith, nat_tests, h.above)
 
-has_of : (z : ℤ) → fits z ≡ true → Has64Bits z
+has_of : (z : ℤ) → is_in_64_bits z ≡ true → Has64Bits z
 has_of (pos n) h = record { above = grind (arith, nat_tests); below = grind (arith, nat_tests) }
 has_of (negsuc n) h = record { above = grind (arith, nat_tests); below = grind (arith, nat_tests) }
 
-exact_by : (z : ℤ) (b : Bool) → fits z ≡ b → IsExactOrOverflow (if b then Ok z else Err Overflow) z
+exact_by : (z : ℤ) (b : Bool) → is_in_64_bits z ≡ b → IsExactOrOverflow (if b then Ok z else Err Overflow) z
 exact_by z true e = record { fits = λ _. refl; overflows = λ no. absurd (no (has_of z e)) }
 exact_by z false e = record { fits = λ h. let t : true ≡ false = sym (fits_of z h) ∙ e in absurd (cc t); overflows = λ _. refl }
 
 exact : (z : ℤ) → IsExactOrOverflow (checked z) z
-exact z = exact_by z (fits z) refl
+exact z = exact_by z (is_in_64_bits z) refl
 
 pub arithmetic : ArithmeticIsExact
 arithmetic = record {
@@ -49,7 +50,7 @@ arithmetic = record {
   opposite = λ x. exact (neg_ℤ x);
 }
 
-neg_fits : (n : ℕ) → n ≤ 2 ^ 63 → fits (neg_ℤ (pos n)) ≡ true
+neg_fits : (n : ℕ) → n ≤ 2 ^ 63 → is_in_64_bits (neg_ℤ (pos n)) ≡ true
 neg_fits zero h = refl
 neg_fits (suc n) h = grind (arith, nat_tests)
 
@@ -60,7 +61,7 @@ above_least a true e h not =
 above_least a false e h not = grind (arith, nat_tests)
 
 -- the quotient has 64 bits, but for the least number by -1
-quotient_fits : (x y : ℤ) → fits x ≡ true → y ≢ pos 0 → ((x ≡ least) × (y ≡ negsuc 0) → ⊥) → fits (int_div x y) ≡ true
+quotient_fits : (x y : ℤ) → is_in_64_bits x ≡ true → y ≢ pos 0 → ((x ≡ least) × (y ≡ negsuc 0) → ⊥) → is_in_64_bits (int_div x y) ≡ true
 quotient_fits (pos a) (pos b) h some not =
     let few : a / b ≤ a = div-le_self a b in
     let small : a < 2 ^ 63 = grind (arith, nat_tests) in
@@ -109,7 +110,7 @@ negative_rest (pos zero) y h = omega (arith, ints)
 negative_rest (pos (suc a)) y h = absurd (omega (arith, ints, h))
 negative_rest (negsuc a) y h = not_above (suc a % unsigned_abs y)
 
-divided_is : (x y z : ℤ) → y ≢ pos 0 → fits (int_div x y) ≡ true → divided x y z ≡ Ok z
+divided_is : (x y z : ℤ) → y ≢ pos 0 → is_in_64_bits (int_div x y) ≡ true → divided x y z ≡ Ok z
 divided_is x y z some h = rw (not_zero y some, h) refl
 
 pub division : DividesTowardZero
@@ -117,7 +118,7 @@ division = record {
   zero = λ x. (refl, refl);
   overflow = (refl, refl);
   others = λ x y h some not.
-      let fit : fits (int_div x y) ≡ true = quotient_fits x y (fits_of x h) some not in
+      let fit : is_in_64_bits (int_div x y) ≡ true = quotient_fits x y (fits_of x h) some not in
       record {
         quotient = int_div x y;
         remainder = int_rem x y;

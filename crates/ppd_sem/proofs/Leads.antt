@@ -6,11 +6,11 @@ use Rattle.ppd_ast.specs.declared.program.Expr.{Expr}
 use Rattle.ppd_ast.specs.declared.program.Kind.{Kind}
 use Rattle.ppd_ast.specs.declared.program.Kind.TheVariants as kind
 use Rattle.ppd_ast.specs.declared.program.Program.{Program}
+use Rattle.ppd_ast.specs.Lookups.{kind_of}
 use Rattle.ppd_sem.specs.Ask.{ask}
 use Rattle.ppd_sem.specs.Asked.{Asked, once}
 use Rattle.ppd_sem.specs.Described.{valued}
 use Rattle.ppd_sem.specs.Effects.{arguments_of, given}
-use Rattle.ppd_sem.specs.Process.{kind_of}
 use Rattle.ppd_sem.specs.Runs.{AreUses, IsOver, IsRunnable, IsUse, LeadsOn, size_of}
 use Rattle.ppd_sem.proofs.Kept.{leads_at, size_small}
 

@@ -11,6 +11,7 @@ use Rattle.ppd_ast.specs.declared.program.Target.TheVariants as target
 use Rattle.ppd_ast.specs.declared.status.Status.{Status}
 use Rattle.ppd_ast.specs.declared.status.Trap.TheVariants as trap
 use Rattle.ppd_ast.specs.Term.{Term, term}
+use Rattle.ppd_ast.specs.Lookups.{kind_of}
 use Rattle.ppd_sem.specs.declared.asking.Pause.TheVariants.{Wants, Traps}
 use Rattle.ppd_sem.specs.declared.proc.Need.{Need}
 use Rattle.ppd_sem.specs.declared.proc.Need.TheVariants.{Invoke, Offer, Done, Trap, Budget}
@@ -20,7 +21,7 @@ use Rattle.ppd_sem.specs.Ask.{ask, element, is_zero}
 use Rattle.ppd_sem.specs.Asked.{Asked, and_then, gives, lift}
 use Rattle.ppd_sem.specs.Deed.{Deed, set_local, set_shared, clear, branch, turn, leave, invoke, back, take, give, send, receive, print, pass, finish, ask_all, ask_deed, ask_stored}
 use Rattle.ppd_sem.specs.Offers.{HasNoOffer, OffersAtHead}
-use Rattle.ppd_sem.specs.Process.{chan_of, cost, entry_of, head_deed, kind_of, need_by_entry, need_by_offer, need_by_status, need_of_asked, need_of_deed, need_of_head, need_of_leaving, need_of_running, need_of_send, offer_of, todos, top_cells}
+use Rattle.ppd_sem.specs.Process.{chan_of, cost, entry_of, head_deed, need_by_entry, need_by_offer, need_by_status, need_of_asked, need_of_deed, need_of_head, need_of_leaving, need_of_running, need_of_send, offer_of, todos, top_cells}
 use Rattle.ppd_sem.specs.Tables.{capacity_of}
 use Rattle.ppd_sem.proofs.Offers.{DoneSuch, entry_done, if_done}
 

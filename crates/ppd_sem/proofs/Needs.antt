@@ -21,6 +21,7 @@ use Rattle.ppd_ast.specs.Cells.{CoverCells, NamesWhole, WritesWhole}
 use Rattle.ppd_ast.specs.Term.{Term, const, local, local_at, shared, shared_at, neg, not, two, and, or, term}
 use Rattle.ppd_ast.specs.Uses.{kind_uses}
 use Rattle.ppd_ast.specs.Valid.{HasObject, IsValid, IsValidKind, IsValidStmt, IsValidUse}
+use Rattle.ppd_ast.specs.Lookups.{kind_of_stmt, kind_of}
 use Rattle.ppd_sem.specs.declared.asking.Pause.TheVariants.{Wants, Traps}
 use Rattle.ppd_sem.specs.declared.proc.Need.{Need}
 use Rattle.ppd_sem.specs.declared.proc.Need.TheVariants as need
@@ -30,7 +31,7 @@ use Rattle.ppd_sem.specs.Ask.{ask, calc, cell_of, checked, element, is_zero, tru
 use Rattle.ppd_sem.specs.Asked.{Asked, and_then, gives, lift, read_shared}
 use Rattle.ppd_sem.specs.Deed.{Deed, set_local, set_shared, clear, branch, turn, leave, invoke, back, take, give, send, receive, print, pass, finish, ask_all, ask_deed, ask_stored}
 use Rattle.ppd_sem.specs.Laws.{NamesThere}
-use Rattle.ppd_sem.specs.Process.{chan_of, cost, entry_of, head_deed, kind_of, kind_or_end, need_by_entry, need_by_offer, need_by_status, need_of, need_of_asked, need_of_deed, need_of_head, need_of_leaving, need_of_running, need_of_send, offer_of, top_cells}
+use Rattle.ppd_sem.specs.Process.{chan_of, cost, entry_of, head_deed, need_by_entry, need_by_offer, need_by_status, need_of, need_of_asked, need_of_deed, need_of_head, need_of_leaving, need_of_running, need_of_send, offer_of, top_cells}
 use Rattle.ppd_sem.specs.Tables.{capacity_of}
 use Rattle.ppd_sem.proofs.Offers.{offer_there}
 use Rattle.ppd_sem.proofs.Kept.{There, there_at}
@@ -167,7 +168,7 @@ kind_valid p b i k cover h = record {
   object = h.object;
 }
 
-kind_at : (p : Program) (i : ℕ) (o : Option Stmt) → IsValid p → slice_get p.stmts i ≡ o → KindThere p (kind_or_end o)
+kind_at : (p : Program) (i : ℕ) (o : Option Stmt) → IsValid p → slice_get p.stmts i ≡ o → KindThere p (kind_of_stmt o)
 kind_at p i None v e = record { uses = λ k d lt. absurd (omega arith); writes = tt; object = tt }
 kind_at p i (Some s) v e =
     let stmt : There (IsValidStmt p) p.stmts i = there_at (IsValidStmt p) p.stmts i v.stmts (slice_get_within p.stmts i s e) in

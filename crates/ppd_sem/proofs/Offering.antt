@@ -7,6 +7,7 @@ use Rattle.ppd_ast.specs.declared.plan.Start.TheVariants as start
 use Rattle.ppd_ast.specs.declared.program.Program.{Program}
 use Rattle.ppd_ast.specs.declared.status.Status.{Status}
 use Rattle.ppd_ast.specs.declared.status.Status.TheVariants as status
+use Rattle.ppd_ast.specs.Lookups.{kind_of, top_of_body}
 use Rattle.ppd_sem.specs.declared.asking.Pause.TheVariants.{Wants, Traps}
 use Rattle.ppd_sem.specs.declared.proc.Answer.{Answer}
 use Rattle.ppd_sem.specs.declared.proc.Need.{Need}
@@ -18,7 +19,7 @@ use Rattle.ppd_sem.specs.Deed.{Deed, set_local, set_shared, clear, branch, turn,
 use Rattle.ppd_sem.specs.Laws.{OffersAreCompleted}
 use Rattle.ppd_sem.specs.Offers.{Completes, HasNoOffer, IsAtOneStatement, Offers, OffersAtHead}
 use Rattle.ppd_sem.specs.Passed.{next_stmt_of}
-use Rattle.ppd_sem.specs.Process.{act, act_at, act_by_asked, act_by_deed, act_by_need, chan_of, charged, cost, entry_of, head_deed, kind_of, need_by_entry, need_by_offer, need_of, need_of_head, top_of, within_budget}
+use Rattle.ppd_sem.specs.Process.{act, act_at, act_by_asked, act_by_deed, act_by_need, chan_of, charged, cost, entry_of, head_deed, need_by_entry, need_by_offer, need_of, need_of_head, within_budget}
 use Rattle.ppd_sem.specs.Tables.{unit_of}
 use Rattle.ppd_sem.proofs.Completion.{offered_completes, offered_needs}
 use Rattle.ppd_sem.proofs.Marked.{OfferFits, at_head, no_done, running_offer, unoffered_before, unoffered_no_done, unoffered_todos, with_unoffered}
@@ -38,7 +39,7 @@ module _ (p : Program) (plan : Plan) (a : Answer) (t : Todo) (ts : List Todo) (u
   deed_unoffered (branch stmts) s = unoffered_before stmts ts later
   deed_unoffered (turn stmts) s = unoffered_before stmts (t ∷ ts) (with_unoffered t ts unmarked later)
   deed_unoffered leave s = later
-  deed_unoffered (invoke f values into) s = unoffered_before (top_of (slice_get p.bodies f)) ts later
+  deed_unoffered (invoke f values into) s = unoffered_before (top_of_body (slice_get p.bodies f)) ts later
   deed_unoffered (back value) s = later
   deed_unoffered (take sem) s = later
   deed_unoffered (give sem) s = later
@@ -231,7 +232,7 @@ module _ (p : Program) (plan : Plan) (s : Proc) (a : Answer) where
 
 pub offers_completed : OffersAreCompleted
 offers_completed = record {
-  starts = λ p plan q budget. unoffered_todos (top_of (slice_get p.bodies (p.functions + q)));
+  starts = λ p plan q budget. unoffered_todos (top_of_body (slice_get p.bodies (p.functions + q)));
   stays = λ p plan s a h. heads_by p plan s a (step_case p plan a s s.status s.todo refl refl h);
   completed = λ p plan s a t c v next e. completed_by p plan s a s.status s.todo t c v refl refl next e;
   offered = λ p plan s a c u h e. offered_by p plan s a c u e (step_case p plan a s s.status s.todo refl refl h);

@@ -7,6 +7,7 @@ use Rattle.ppd_ast.specs.declared.program.Kind.TheVariants as kind
 use Rattle.ppd_ast.specs.declared.program.Program.{Program}
 use Rattle.ppd_ast.specs.declared.status.Status.{Status}
 use Rattle.ppd_ast.specs.Term.{term}
+use Rattle.ppd_ast.specs.Lookups.{kind_of}
 use Rattle.ppd_sem.specs.declared.asking.Pause.TheVariants.{Wants, Traps}
 use Rattle.ppd_sem.specs.declared.proc.Frame.{Frame}
 use Rattle.ppd_sem.specs.declared.proc.Need.{Need}
@@ -18,7 +19,7 @@ use Rattle.ppd_sem.specs.Asked.{Asked, and_then, gives}
 use Rattle.ppd_sem.specs.Blocks.{frames_past, head_stmt, postlog_cells, skipped, write_all}
 use Rattle.ppd_sem.specs.Deed.{Deed, back, ask_deed}
 use Rattle.ppd_sem.specs.Entries.{Begins}
-use Rattle.ppd_sem.specs.Process.{chan_of, cost, into_of, kind_of, loop_of, need_by_entry, need_by_offer, need_of, need_of_asked, need_of_head, top_cells, within_budget}
+use Rattle.ppd_sem.specs.Process.{chan_of, cost, into_of, loop_of, need_by_entry, need_by_offer, need_of, need_of_asked, need_of_head, top_cells, within_budget}
 use Rattle.ppd_sem.specs.Runs.{AreOver, IsRunning, returns, sizes}
 use Rattle.ppd_sem.proofs.Begun.{length-with_values}
 use Rattle.ppd_sem.proofs.Kept.{Shape, paid_runs, sized, sizes-receive, stays}

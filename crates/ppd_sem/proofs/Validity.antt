@@ -20,7 +20,7 @@ use Rattle.ppd_ast.specs.declared.program.Program.{Program}
 use Rattle.ppd_ast.specs.declared.program.Stmt.{Stmt}
 use Rattle.ppd_ast.specs.declared.program.Target.TheVariants as target
 use Rattle.ppd_ast.specs.declared.program.Var.{Var}
-use Rattle.ppd_sem.specs.Process.{kind_of, kind_or_end, top_of}
+use Rattle.ppd_ast.specs.Lookups.{kind_of_stmt, kind_of, top_of_body}
 use Rattle.ppd_sem.specs.Runs.{AreOfFunction, AreUses, IsCallable, IsInner, IsNumbered, IsOver, IsRunnable, IsRunnableBody, IsRunnableStmt, IsUse, LeadsOn, returns, size_if, size_of, stmt_size}
 use Rattle.ppd_sem.specs.Within.{IsWithin}
 use Rattle.ppd_sem.proofs.Kept.{There, there_at}
@@ -168,7 +168,7 @@ returning p i s v e r =
     let stmt : There (IsValidStmt p) p.stmts i = there_at (IsValidStmt p) p.stmts i v.stmts lt in
     let same : stmt.0 ≡ s = cc (stmt.1) in
     let valid : IsValidStmt p i s = subst (IsValidStmt p i) same stmt.2 in
-    let kind : kind_of p i ≡ s.kind = ap kind_or_end e in
+    let kind : kind_of p i ≡ s.kind = ap kind_of_stmt e in
     let rs : returns s.kind ≡ true = sym (ap returns kind) ∙ r in
     let at = some_at (λ (b : Body). IsValidKind p b i s.kind) (slice_get p.bodies s.body) valid.kind in
     let end = ends at.0 i s.kind at.2.ending rs in
@@ -300,7 +300,7 @@ function_top p j b v e pr h = of_function p b.cells b.top over rets once last
             let there : slice_get p.bodies j ≡ Some kinds.0 = ap (λ m. slice_get p.bodies m) (sym body) ∙ kinds.1 in
             let mine : kinds.0 ≡ b = cc in
             let end : EndsBody b i s.kind = subst (λ (x : Body). EndsBody x i s.kind) mine kinds.2.ending in
-            ap (λ o. returns (kind_or_end o)) g ∙ ending_returns b i s.kind pr en end
+            ap (λ o. returns (kind_of_stmt o)) g ∙ ending_returns b i s.kind pr en end
 
 -- ---- statements and bodies
 
@@ -353,11 +353,11 @@ callable p f count g v lt e n =
     let fit : g.params ≤ g.cells = params_fit g.locals g.params g.cells valid.params valid.cells in
     let test : nat_le p.functions f ≡ false = grind (arith, nat_tests) in
     let top : AreOfFunction p g.cells g.top = function_top p f g v e (valid.process ∙ test) valid in
-    let there : AreOfFunction p g.cells (top_of (slice_get p.bodies f)) = subst (λ (ss : List ℕ). AreOfFunction p g.cells ss) (sym (ap top_of e)) top in
+    let there : AreOfFunction p g.cells (top_of_body (slice_get p.bodies f)) = subst (λ (ss : List ℕ). AreOfFunction p g.cells ss) (sym (ap top_of_body e)) top in
     record {
       there = slice_get_within p.bodies f g e;
       arguments = omega arith;
-      top = subst (λ (m : ℕ). AreOfFunction p m (top_of (slice_get p.bodies f))) (sym size) there;
+      top = subst (λ (m : ℕ). AreOfFunction p m (top_of_body (slice_get p.bodies f))) (sym size) there;
     }
 
 leads_of : (p : Program) (k body n : ℕ) (s : Kind) → IsValid p → size_of p body ≡ n → StandIn p.stmts (Some k) body (inner s) → CallsRightly p s → LeadsOn p n s

@@ -8,9 +8,9 @@ use Rattle.ppd_ast.specs.declared.status.Trap.{Trap}
 use Rattle.ppd_ast.specs.declared.status.Trap.TheVariants.{Overflow, Zero, Index}
 use Rattle.ppd_sem.specs.Asked.{Asked, gives, and_then, read_shared, lift}
 
-abbrev pub fits : ℤ → Bool
-fits (pos n) = nat_lt n (2 ^ 63)
-fits (negsuc n) = nat_lt n (2 ^ 63)
+abbrev pub is_in_64_bits : ℤ → Bool
+is_in_64_bits (pos n) = nat_lt n (2 ^ 63)
+is_in_64_bits (negsuc n) = nat_lt n (2 ^ 63)
 
 -- 0 or 1
 abbrev pub truth : Bool → ℤ
@@ -20,10 +20,10 @@ abbrev pub is_zero : ℤ → Bool
 is_zero x = int_eq x (pos 0)
 
 abbrev pub checked : ℤ → Result ℤ Trap
-checked x = if fits x then Ok x else Err Overflow
+checked x = if is_in_64_bits x then Ok x else Err Overflow
 
 abbrev pub divided : ℤ → ℤ → ℤ → Result ℤ Trap
-divided x y z = if is_zero y then Err Zero else if fits (int_div x y) then Ok z else Err Overflow
+divided x y z = if is_zero y then Err Zero else if is_in_64_bits (int_div x y) then Ok z else Err Overflow
 
 abbrev pub calc : Op → ℤ → ℤ → Result ℤ Trap
 calc Mul x y = checked (x *ℤ y)

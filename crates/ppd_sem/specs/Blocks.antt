@@ -7,13 +7,13 @@ use Rattle.ppd_ast.specs.declared.plan.BlockKind.TheVariants as block
 use Rattle.ppd_ast.specs.declared.plan.Plan.{Plan}
 use Rattle.ppd_ast.specs.declared.plan.Start.TheVariants as start
 use Rattle.ppd_ast.specs.declared.program.Program.{Program}
-use Rattle.ppd_ast.specs.declared.program.Stmt.{Stmt}
+use Rattle.ppd_ast.specs.Lookups.{kind_of, top_of_body, body_of_stmt}
 use Rattle.ppd_sem.specs.declared.proc.Frame.{Frame}
 use Rattle.ppd_sem.specs.declared.proc.Need.{Need}
 use Rattle.ppd_sem.specs.declared.proc.Need.TheVariants.{Enter}
 use Rattle.ppd_sem.specs.declared.proc.Proc.{Proc}
 use Rattle.ppd_sem.specs.declared.proc.Todo.{Todo}
-use Rattle.ppd_sem.specs.Process.{charged, into_of, kind_of, need_of, new_frame, receive_at, todos, top_of}
+use Rattle.ppd_sem.specs.Process.{charged, into_of, need_of, new_frame, receive_at, todos}
 use Rattle.ppd_sem.specs.Tables.{unit_of}
 
 -- ---- look-ups
@@ -57,21 +57,16 @@ abbrev pub with_values : List ℕ → List ℤ → List ℤ → List ℤ
 with_values (c ∷ cs) (v ∷ vs) cells = with_values cs vs (slice_set cells c v)
 with_values cs vs cells = cells
 
--- the body of a statement that is there
-abbrev pub body_in : Option Stmt → ℕ
-body_in None = 0
-body_in (Some x) = x.body
-
 -- the body that the block's code stands in
 abbrev pub block_body : Program → BlockKind → ℕ
 block_body program (block.Function f) = f
 block_body program (block.Process b) = b
-block_body program (block.Loop s) = body_in (slice_get program.stmts s)
+block_body program (block.Loop s) = body_of_stmt (slice_get program.stmts s)
 
 -- what is to do in the block: its body's statements, or the loop, which is entered
 abbrev pub block_todo : Program → BlockKind → List Todo
 block_todo program (block.Loop s) = record { stmt = s; entered = true; offered = false } ∷ []
-block_todo program kind = todos (top_of (slice_get program.bodies (block_body program kind)))
+block_todo program kind = todos (top_of_body (slice_get program.bodies (block_body program kind)))
 
 -- the unit of the block's own start
 abbrev pub block_unit : Plan → BlockKind → ℕ

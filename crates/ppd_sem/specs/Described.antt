@@ -9,6 +9,7 @@ use Rattle.ppd_ast.specs.declared.program.Program.{Program}
 use Rattle.ppd_ast.specs.declared.plan.Plan.{Plan}
 use Rattle.ppd_ast.specs.declared.status.Trap.{Trap as TrapOf}
 use Rattle.ppd_ast.specs.Term.{term}
+use Rattle.ppd_ast.specs.Lookups.{kind_of}
 use Rattle.ppd_sem.specs.declared.proc.Need.{Need}
 use Rattle.ppd_sem.specs.declared.proc.Need.TheVariants.{Read, Enter, Done, Trap, Budget, Stopped}
 use Rattle.ppd_sem.specs.declared.proc.Answer.{Answer}
@@ -22,7 +23,7 @@ use Rattle.ppd_sem.specs.Ask.{ask}
 use Rattle.ppd_sem.specs.Deed.{Deed, set_local, set_shared, clear, invoke, receive}
 use Rattle.ppd_sem.specs.Reads.{reads_of_kind}
 use Rattle.ppd_sem.specs.Tables.{block_of}
-use Rattle.ppd_sem.specs.Process.{kind_of, top_cells, top_body, head_deed, need_of, value_of}
+use Rattle.ppd_sem.specs.Process.{top_cells, top_body, head_deed, need_of, value_of}
 
 -- ---- the frame of the innermost interval is 0, one that it called is 1
 

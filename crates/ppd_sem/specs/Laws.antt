@@ -13,6 +13,7 @@ use Rattle.ppd_ast.specs.declared.status.Trap.TheVariants.{Overflow, Zero, Index
 use Rattle.ppd_ast.specs.Term.{Term, and, or, term}
 use Rattle.ppd_ast.specs.Valid.{IsValid}
 use Rattle.ppd_ast.specs.ValidPlan.{IsValidPlan}
+use Rattle.ppd_ast.specs.Lookups.{kind_of}
 use Rattle.ppd_sem.specs.declared.asking.Pause.{Pause}
 use Rattle.ppd_sem.specs.declared.asking.Pause.TheVariants.{Traps}
 use Rattle.ppd_sem.specs.declared.proc.Answer.{Answer}
@@ -25,7 +26,7 @@ use Rattle.ppd_sem.specs.Deed.{ask_all, ask_deed}
 use Rattle.ppd_sem.specs.Consumed.{Takes, shared_of}
 use Rattle.ppd_sem.specs.Measure.{measure}
 use Rattle.ppd_sem.specs.Offers.{Completes, HasNoOffer, IsAtOneStatement, Offers, OffersAtHead}
-use Rattle.ppd_sem.specs.Process.{act, kind_of, need_of, need_of_head, need_of_pause, started, top_cells}
+use Rattle.ppd_sem.specs.Process.{act, need_of, need_of_head, need_of_pause, started, top_cells}
 use Rattle.ppd_sem.specs.Reads.{reads_of, reads_of_kind}
 use Rattle.ppd_sem.specs.Passed.{next_stmt_of}
 use Rattle.ppd_sem.specs.Runs.{IsNumbered, IsRunnable}

@@ -7,9 +7,7 @@ pub mod Deed
 pub mod Described
 pub mod Effects
 pub mod Entries
-pub mod Example
 pub mod Feeding
-pub mod First
 pub mod Laws
 pub mod Measure
 pub mod Offers

@@ -2,12 +2,13 @@
 use Rattle.std.specs.Prelude.{◌≡◌, ◌⊎◌, ℕ, ℤ, false, IsTrue, IsSome, List, [], ◌∷◌, drop, ⊤}
 use Rattle.std.specs.List.{All}
 use Rattle.ppd_ast.specs.declared.program.Program.{Program}
+use Rattle.ppd_ast.specs.Lookups.{kind_of}
 use Rattle.ppd_sem.specs.declared.proc.Need.{Need}
 use Rattle.ppd_sem.specs.declared.proc.Need.TheVariants.{Offer, Done, Budget}
 use Rattle.ppd_sem.specs.declared.proc.Proc.{Proc}
 use Rattle.ppd_sem.specs.declared.proc.Todo.{Todo}
 use Rattle.ppd_sem.specs.Passed.{next_stmt_of}
-use Rattle.ppd_sem.specs.Process.{chan_of, kind_of}
+use Rattle.ppd_sem.specs.Process.{chan_of}
 
 -- none of these is a send whose offer was taken
 abbrev pub HasNoOffer : List Todo → Type 0

@@ -3,6 +3,7 @@ use Rattle.std.specs.Prelude.{ℕ, ℤ, List, [], ◌∷◌, Option, Some, None,
 use Rattle.ppd_ast.specs.declared.program.Kind.{Kind}
 use Rattle.ppd_ast.specs.declared.program.Kind.TheVariants as kind
 use Rattle.ppd_ast.specs.declared.program.Program.{Program}
+use Rattle.ppd_ast.specs.Lookups.{kind_of}
 use Rattle.ppd_sem.specs.declared.asking.Pause.{Pause}
 use Rattle.ppd_sem.specs.declared.effect.Effect.{Effect}
 use Rattle.ppd_sem.specs.declared.proc.Proc.{Proc}
@@ -10,7 +11,7 @@ use Rattle.ppd_sem.specs.declared.proc.Todo.{Todo}
 use Rattle.ppd_sem.specs.Asked.{outcome}
 use Rattle.ppd_sem.specs.Deed.{Deed, invoke, back}
 use Rattle.ppd_sem.specs.Effects.{deed_of}
-use Rattle.ppd_sem.specs.Process.{head_deed, kind_of, top_cells}
+use Rattle.ppd_sem.specs.Process.{head_deed, top_cells}
 
 -- the values with which a call is made
 abbrev pub arguments_by : Result Deed Pause → List ℤ

@@ -3,7 +3,6 @@ use Rattle.std.specs.Prelude.{ℕ, ◌+◌, ◌-◌, nat_lt, ℤ, pos, List, [],
 use Rattle.ppd_ast.specs.declared.program.Kind.{Kind}
 use Rattle.ppd_ast.specs.declared.program.Kind.TheVariants as kind
 use Rattle.ppd_ast.specs.declared.program.Body.{Body}
-use Rattle.ppd_ast.specs.declared.program.Stmt.{Stmt}
 use Rattle.ppd_ast.specs.declared.program.Program.{Program}
 use Rattle.ppd_ast.specs.declared.plan.Plan.{Plan}
 use Rattle.ppd_ast.specs.declared.plan.Start.TheVariants as start
@@ -11,6 +10,7 @@ use Rattle.ppd_ast.specs.declared.plan.BlockKind.TheVariants as block
 use Rattle.ppd_ast.specs.declared.status.Trap.TheVariants as trap
 use Rattle.ppd_ast.specs.declared.status.Status.{Status}
 use Rattle.ppd_ast.specs.declared.status.Status.TheVariants as status
+use Rattle.ppd_ast.specs.Lookups.{kind_of_stmt, kind_of, top_of_body}
 use Rattle.ppd_sem.specs.declared.proc.Need.{Need}
 use Rattle.ppd_sem.specs.declared.proc.Need.TheVariants.{Read, Write, Plain, Enter, Leave, Invoke, Back, P, V, Send, Offer, Done, Recv, End, Trap, Budget, Stopped}
 use Rattle.ppd_sem.specs.declared.proc.Answer.{Answer}
@@ -25,14 +25,6 @@ use Rattle.ppd_sem.specs.Deed.{Deed, set_local, set_shared, clear, branch, turn,
 use Rattle.ppd_sem.specs.Tables.{capacity_of, block_of, unit_of, or_zero, prelog_length, postlog_length, unit_length, returned_length}
 
 -- ---- the head
-
-abbrev pub kind_or_end : Option Stmt → Kind
-kind_or_end None = kind.End
-kind_or_end (Some s) = s.kind
-
--- the kind of a statement, and End past the table
-abbrev pub kind_of : Program → ℕ → Kind
-kind_of program s = kind_or_end (slice_get program.stmts s)
 
 abbrev pub top_cells : List Frame → List ℤ
 top_cells [] = []
@@ -179,10 +171,6 @@ abbrev pub clear_top : ℕ → ℕ → List Frame → List Frame
 clear_top base len [] = []
 clear_top base len (f ∷ fs) = record f { cells = clear_cells base len f.cells } ∷ fs
 
-abbrev pub top_of : Option Body → List ℕ
-top_of None = []
-top_of (Some b) = b.top
-
 abbrev pub cells_for : Option Body → List ℤ → List ℤ
 cells_for None values = values
 cells_for (Some b) values = values ++ replicate (b.cells - length values) (pos 0)
@@ -223,7 +211,7 @@ act_by_deed program a t ts (branch stmts) s = record s { todo = todos stmts ++ t
 act_by_deed program a t ts (turn stmts) s = record s { todo = todos stmts ++ t ∷ ts }
 act_by_deed program a t ts (invoke f values into) s =
     record s {
-      todo = todos (top_of (slice_get program.bodies f)) ++ ts;
+      todo = todos (top_of_body (slice_get program.bodies f)) ++ ts;
       frames = new_frame program f values (Some t.stmt) ∷ s.frames;
     }
 act_by_deed program a t ts (back value) s = record s { todo = ts; frames = returned program value s.frames }
@@ -265,7 +253,7 @@ act program plan s a = act_at program plan a s.todo s
 abbrev pub started_in : Program → ℕ → ℕ → Proc
 started_in program body budget = record {
   frames = new_frame program body [] None ∷ [];
-  todo = todos (top_of (slice_get program.bodies body));
+  todo = todos (top_of_body (slice_get program.bodies body));
   answers = [];
   below = 0;
   budget = budget;

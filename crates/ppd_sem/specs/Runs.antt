@@ -12,10 +12,10 @@ use Rattle.ppd_ast.specs.declared.program.Stmt.{Stmt}
 use Rattle.ppd_ast.specs.declared.program.Target.{Target}
 use Rattle.ppd_ast.specs.declared.program.Target.TheVariants as target
 use Rattle.ppd_ast.specs.declared.plan.Plan.{Plan}
+use Rattle.ppd_ast.specs.Lookups.{kind_of, top_of_body}
 use Rattle.ppd_sem.specs.declared.proc.Frame.{Frame}
 use Rattle.ppd_sem.specs.declared.proc.Proc.{Proc}
 use Rattle.ppd_sem.specs.declared.proc.Todo.{Todo}
-use Rattle.ppd_sem.specs.Process.{kind_of, top_of}
 use Rattle.ppd_sem.specs.Within.{IsWithin}
 
 -- an expression that is there, over a frame of n cells
@@ -84,7 +84,7 @@ AreOfFunction program n (s ∷ t ∷ ss) = IsInner program n s × AreOfFunction 
 pub record IsCallable (program : Program) (f count : ℕ) : Type 0 where
   pub there : f < length program.bodies
   pub arguments : count ≤ size_of program f
-  pub top : AreOfFunction program (size_of program f) (top_of (slice_get program.bodies f))
+  pub top : AreOfFunction program (size_of program f) (top_of_body (slice_get program.bodies f))
 
 -- where a statement over frames of n cells leads
 abbrev pub LeadsOn : Program → ℕ → Kind → Type 0

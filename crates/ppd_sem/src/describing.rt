@@ -1,7 +1,8 @@
 ghost use Rattle.std.specs.Prelude.{◌≡◌, ◌+◌, ◌<◌, ◌≤◌, ◌^◌, true, Some, None, if◌then◌else◌, [], ◌∷◌, length, slice_get, IfOk, IsSomeAnd};
+ghost use Rattle.ppd_ast.specs.Lookups.{kind_of};
 ghost use Rattle.ppd_sem.specs.Described.{cleared as cleared_of, described, evaluates as evaluates_of, ends_body as ends_body_of, frame_of as frame_number, is_block as is_block_of, is_event as is_event_of, is_in_loop as is_in_loop_of, local_write as local_write_of, parameters as parameters_of, trap_of as trap_of_need, value_at, valued as valued_of, writes_by, writes_of_deed};
 ghost use Rattle.ppd_sem.specs.Effects.{HasRange, head_deed_of};
-ghost use Rattle.ppd_sem.specs.Process.{head_deed, kind_of, need_of, top_cells as top_cells_of};
+ghost use Rattle.ppd_sem.specs.Process.{head_deed, need_of, top_cells as top_cells_of};
 ghost use Rattle.ppd_sem.specs.Reads.{reads_of_kind};
 ghost use Rattle.ppd_sem.specs.Runs.{IsNumbered, IsOver, IsRunnable, IsRunning};
 

@@ -1,8 +1,9 @@
 ghost use Rattle.std.specs.Prelude.{◌≡◌, ◌<◌, ◌≤◌, ◌+◌, ◌-◌, ◌^◌, ◌∷◌, ◌++◌, drop, length, [], true, Some, OnOk, OnErr, IfOk, slice_get};
 ghost use Rattle.ppd_ast.specs.declared.status.Status.TheVariants as status;
+ghost use Rattle.ppd_ast.specs.Lookups.{kind_of};
 ghost use Rattle.ppd_sem.specs.Effects.{arguments_of, given, head_deed_of};
 ghost use Rattle.ppd_sem.specs.Feeding.{finished, hold_at, invoked};
-ghost use Rattle.ppd_sem.specs.Process.{act, act_by_asked, act_by_deed, act_by_need, charged, cost as cost_of, head_deed, kind_of, need_of, todos, top_cells as top_cells_of, value_of};
+ghost use Rattle.ppd_sem.specs.Process.{act, act_by_asked, act_by_deed, act_by_need, charged, cost as cost_of, head_deed, need_of, todos, top_cells as top_cells_of, value_of};
 ghost use Rattle.ppd_sem.specs.Runs.{IsNumbered, IsOver, IsRunnable, IsRunning};
 
 use crate::asking::Pause;

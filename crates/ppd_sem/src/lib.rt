@@ -42,6 +42,3 @@ pub use proc::{Answer, Frame, Need, Proc, Todo};
 pub use skipping::skip;
 pub use stack::Stack;
 pub use tables::{find_block, find_unit};
-
-#[cfg(test)]
-mod tests;

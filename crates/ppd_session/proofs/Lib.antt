@@ -8,4 +8,5 @@ pub mod Replayed
 pub mod Answered
 pub mod Keeping
 pub mod LastValues
+mod LastKept
 pub mod Flows

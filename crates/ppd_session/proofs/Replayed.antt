@@ -3,6 +3,7 @@ use Rattle.std.specs.Prelude.{◌==◌, None, OnOk, Some, option_map, slice_get}
 use Rattle.std.proofs.Common.{◌≡◌, ℕ, zero, suc, ◌<◌, ◌≤◌, List, [], ◌∷◌, ◌++◌, Option, Result, Ok, Err, true, get_or, length, map, refl, ap, sym, subst, ◌∙◌, arith}
 use Rattle.std.proofs.lemmas.Bool.Decides.{nat_tests}
 use Rattle.std.proofs.lemmas.List.{length-map}
+use Rattle.std.proofs.lemmas.Option.{same_Some}
 use Rattle.ppd_ast.specs.declared.plan.Plan.{Plan}
 use Rattle.ppd_ast.specs.declared.program.Program.{Program}
 use Rattle.ppd_emul.specs.declared.trace.BlockTrace.{BlockTrace}
@@ -11,16 +12,17 @@ use Rattle.ppd_emul.specs.declared.trace.EmulError.TheVariants.{Diverged, Memory
 use Rattle.ppd_emul.specs.Replay.{replay}
 use Rattle.ppd_entry.specs.declared.entry.Entry.{Entry}
 use Rattle.ppd_entry.specs.IntervalLogs.{Indexed, indexed, log_in}
+use Rattle.ppd_entry.specs.Entries.{entries_at}
 use Rattle.ppd_index.specs.declared.row.Row.{Row}
-use Rattle.ppd_index.specs.Indexes.{AreIntervals, IsIndexOf, entries_at, rows_at}
+use Rattle.ppd_index.specs.Indexes.{AreIntervals, IsIndexOf, rows_at}
 use Rattle.ppd_index.specs.Tables.{indexed_of}
 use Rattle.ppd_model.specs.Bounds.{AreEach}
 use Rattle.ppd_model.specs.declared.flow.Item.{Item}
 use Rattle.ppd_past.specs.declared.flow_error.FlowError.{FlowError}
 use Rattle.ppd_past.specs.declared.flow_error.FlowError.TheVariants as flow_error
 use Rattle.ppd_past.specs.declared.past.Past.{Past}
-use Rattle.ppd_past.specs.ByReplays.{IsFoundBy, failure_or, first_failure}
-use Rattle.ppd_past.specs.SeenBy.{failure_by, failure_of, items_by, items_in}
+use Rattle.ppd_past.specs.ByReplays.{AreReplayed, IsFoundBy, failure_or, first_failure}
+use Rattle.ppd_past.specs.SeenBy.{failed_in, failure_by, failure_of, items_by, items_in}
 use Rattle.ppd_replay.specs.Laws.{replay_of}
 use Rattle.ppd_session.specs.Known.{Known, Told, told_by, told_of_entries}
 use Rattle.ppd_session.specs.Sessions.{IsCause, IsWhy, error_of, known_by}
@@ -77,6 +79,19 @@ module _ (program : Program) (plan : Plan) (budget : ℕ) where
   told_as q (i ∷ is) zero lt e = ap Some (tells_as q (answer_of i) e)
   told_as q (i ∷ is) (suc k) lt e = told_as q is k (omega arith) e
 
+  -- what is told of a replay is what it gives
+
+  gives_as : (r : Result BlockTrace EmulError) (items : List Item) → told_by r ≡ Ok items → items ≡ items_by r
+  gives_as (Ok trace) items e = cc
+  gives_as (Err (Diverged n w f)) items e = absurd (cc)
+  gives_as (Err Memory) items e = cc
+
+  given_as : (is : List Indexed) (k : ℕ) (items : List Item) → slice_get (map told_of is) k ≡ Some (Ok items)
+      → items ≡ get_or (map (λ i. items_by (answer_of i)) is) k []
+  given_as [] k items e = absurd (cc)
+  given_as (i ∷ is) zero items e = gives_as (answer_of i) items (same_Some (told_of i) (Ok items) e)
+  given_as (i ∷ is) (suc k) items e = given_as is k items e
+
 -- ---- how many
 
 each_count : (plan : Plan) (tables : List (List Row)) (lists : List (List Entry)) (q : ℕ) → AreEach (AreIntervals plan) tables lists
@@ -121,6 +136,10 @@ pub on_ok : {T E P : Type 0} (r : Result T E) → P → OnOk r P
 on_ok (Ok x) p = p
 on_ok (Err e) p = tt
 
+no_failure : (q : ℕ) (o : Option ℕ) → failure_or q o None ≡ None → o ≡ None
+no_failure q None e = refl
+no_failure q (Some n) e = absurd (cc)
+
 -- ---- of a past
 
 module _ (past : Past) (q k : ℕ) where
@@ -135,6 +154,13 @@ module _ (past : Past) (q k : ℕ) where
   same_failure =
       failure_as past.program.now past.plan.now past.budget q (slice_get (indexed past.plan.now entries) k)
       ∙ ap (failure_in q) (sym (told_here ∙ slice_get-map _ (indexed past.plan.now entries) k))
+
+  -- the items that are told are those of a replay that does not fail
+  pub are_replayed : (items : List Item) → told_at (known_by past []) q k ≡ Some (Ok items) → AreReplayed past q k items
+  are_replayed items e = (
+    no_failure q (failed_in past q k) (same_failure ∙ ap (failure_in q) e),
+    given_as past.program.now past.plan.now past.budget (indexed past.plan.now entries) k items (sym told_here ∙ e),
+  )
 
   -- of an interval that is not there nothing is told
   pub not_told : IsIndexOf past.plan.now past.logs.now past.index.now.tables → length (rows_at past.index.now.tables q) ≤ k → told_at (known_by past []) q k ≡ None

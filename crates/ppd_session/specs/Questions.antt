@@ -4,7 +4,7 @@ use Rattle.std.specs.List.{slice_split}
 use lib.Pointwise.{pointwise}
 use Rattle.ppd_ast.specs.declared.program.Body.{Body}
 use Rattle.ppd_ast.specs.declared.program.Program.{Program}
-use Rattle.ppd_text.specs.Numbers.{number_in}
+use Rattle.ppd_ast.specs.Digits.{number_in}
 use Rattle.ppd_session.specs.declared.question.Question.{Question}
 use Rattle.ppd_session.specs.declared.question.Question.TheVariants.{Nothing, Unknown, Races, Final, Blocks, Open, Why, Deps, Quit}
 

@@ -117,7 +117,7 @@ pub(crate) fn put_answer(
     ensures kept { AreTold (known_by past.now races.now) kept.new }
 {
     if is_final(question) {
-        return put_final(alloc, text, past, races);
+        return put_final(alloc, text, past, races, kept);
     }
     put_answer_of(alloc, text, past, races, kept, question)
 }

@@ -2,8 +2,8 @@
 ghost use Rattle.std.specs.Prelude.{◌≡◌, ◌<◌, ◌++◌, OnOk, length, slice_get};
 ghost use Rattle.std.specs.List.{flat_map};
 ghost use Rattle.ppd_ast.specs.Valid.{IsValid};
+ghost use Rattle.ppd_ast.specs.Lookups.{body_of, locals_of};
 ghost use Rattle.ppd_deps.specs.Edges.{edges_of};
-ghost use Rattle.ppd_deps.specs.Named.{body_of as body_in, locals_of as locals_in};
 ghost use Rattle.ppd_deps.specs.Tables.{IsDepGraph};
 ghost use Rattle.ppd_show.specs.Names.{var_name as var_name_of};
 ghost use Rattle.ppd_session.specs.Texts.{deps_text, edge_line, variables_at as variables_in};
@@ -17,7 +17,7 @@ use std::alloc::Global;
 
 // The local variables of the body in which a statement stands.
 fn locals_round(program: &Program, stmt: u32) -> &[Var]
-    ensures { result.now ≡ locals_in program.now (body_in program.now stmt) }
+    ensures { result.now ≡ locals_of program.now (body_of program.now stmt) }
 {
     let body = match program.stmts.as_slice().get(stmt as usize) {
         Some(stmt) => stmt.body,

@@ -1,22 +1,28 @@
 // The last values of the shared cells.
-ghost use Rattle.std.specs.Prelude.{◌≡◌, ◌<◌, ◌++◌, [], Ok, None, IfOk, IfErr, OnOk};
+ghost use Rattle.std.specs.Prelude.{◌≡◌, ◌<◌, ◌++◌, [], Ok, None, Some, IfOk, IfErr, OnOk, length};
+ghost use Rattle.ppd_index.specs.Indexes.{rows_at};
 ghost use Rattle.ppd_past.specs.Pasts.{IsPast};
 ghost use Rattle.ppd_session.specs.Known.{last_by};
-ghost use Rattle.ppd_session.specs.Sessions.{IsLineOf, IsWhy, known_by, unfound};
+ghost use Rattle.ppd_session.specs.Sessions.{AreTold, IsLineOf, IsWhy, known_by, unfound};
 ghost use Rattle.ppd_session.specs.declared.reply.SessionError.TheVariants as session_error;
-ghost use Rattle.ppd_session.specs.Texts.{first_unfound, lasts_text, raced};
+ghost use Rattle.ppd_session.specs.Texts.{first_unfound, lasts_text, raced, told_at};
+ghost use Rattle.ppd_walk.specs.SharedCells.{last_edge as last_edge_of};
 ghost use Rattle.ppd_why.specs.Edges.{last_line};
 
-use crate::opening::{no_items, put_many_races};
+use crate::kept::Kept;
+use crate::opening::{no_items, put_many_races, replay};
+use crate::place::Place;
 use crate::reply::SessionError;
 use ppd_ast::Steps;
-use ppd_flow::last;
-use ppd_model::{Origin, Race};
+use ppd_flow::{LastEdge, last, last_edge, last_from};
+use ppd_model::{Item, Origin, Race};
 use ppd_past::Past;
 use ppd_why::put_last;
 use std::alloc::Global;
 use std::marker::Brand;
 use std::sync::ledger::{Blank, Ledger};
+
+// ---- by replays alone
 
 fn last_in<L: Ledger>(
     alloc: Global,
@@ -51,6 +57,118 @@ fn last_of(alloc: Global, past: &Past, cell: u16) -> Result<(i64, Origin), Sessi
     last_in::<Brand>(alloc, past, cell, Blank::new(1))
 }
 
+// ---- with the block in which the writer's edge ends
+
+fn last_told_in<L: Ledger>(
+    alloc: Global,
+    past: &Past,
+    cell: u16,
+    last: LastEdge,
+    items: &[Item],
+    blank: Blank,
+) -> Result<(i64, Origin), SessionError>
+    requires name { blank.name ≡ L.name }
+    requires parts { blank.parts ≡ L.parts }
+    requires some { 0 < blank.parts }
+    requires past { IsPast past.now }
+    requires last { last_edge_of past.now cell ≡ Some last }
+    requires told { told_at (known_by past.now []) last.edge.process last.interval ≡ Some (Ok items.now) }
+    ensures value { IfOk result
+        (λ x. last_by past.now.program.now past.now.plan.now past.now.budget past.now.logs.now cell ≡ Ok x) }
+    ensures error { IfErr result
+        (IsWhy (unfound (last_by past.now.program.now past.now.plan.now past.now.budget past.now.logs.now cell))) }
+{
+    let mut steps: Steps<L> = Steps::new(blank);
+    match last_from(alloc, past, cell, last, items, &mut steps) {
+        Ok(found) => Ok(found),
+        Err(error) => Err(no_items(error)),
+    }
+}
+
+/// The same from the items of the interval in which the edge ends that wrote the cell last.
+fn last_told(
+    alloc: Global,
+    past: &Past,
+    cell: u16,
+    last: LastEdge,
+    items: &[Item],
+) -> Result<(i64, Origin), SessionError>
+    requires past { IsPast past.now }
+    requires last { last_edge_of past.now cell ≡ Some last }
+    requires told { told_at (known_by past.now []) last.edge.process last.interval ≡ Some (Ok items.now) }
+    ensures value { IfOk result
+        (λ x. last_by past.now.program.now past.now.plan.now past.now.budget past.now.logs.now cell ≡ Ok x) }
+    ensures error { IfErr result
+        (IsWhy (unfound (last_by past.now.program.now past.now.plan.now past.now.budget past.now.logs.now cell))) }
+{
+    last_told_in::<Brand>(alloc, past, cell, last, items, Blank::new(1))
+}
+
+/// The same by a kept block, or by the replay of that interval, which is then kept: so cells that one interval wrote
+/// need one replay of it.
+fn last_kept(
+    alloc: Global,
+    past: &Past,
+    kept: &mut Kept,
+    cell: u16,
+    last: LastEdge,
+) -> Result<(i64, Origin), SessionError>
+    requires past { IsPast past.now }
+    requires kept { AreTold (known_by past.now []) kept.old }
+    requires last { last_edge_of past.now cell ≡ Some last }
+    requires there { last.interval < length (rows_at past.now.index.now.tables last.edge.process) }
+    ensures value { IfOk result
+        (λ x. last_by past.now.program.now past.now.plan.now past.now.budget past.now.logs.now cell ≡ Ok x) }
+    ensures error { IfErr result
+        (IsWhy (unfound (last_by past.now.program.now past.now.plan.now past.now.budget past.now.logs.now cell))) }
+    ensures kept { AreTold (known_by past.now []) kept.new }
+{
+    let place = Place {
+        process: last.edge.process,
+        interval: last.interval,
+    };
+    kept.touch(place);
+    if let Some(items) = kept.find(place) {
+        return last_told(alloc, past, cell, last, items.as_slice());
+    }
+    let items = match replay(alloc, past, place) {
+        Ok(items) => items,
+        Err(error) => return Err(error),
+    };
+    let found = match last_told(alloc, past, cell, last, items.as_slice()) {
+        Ok(found) => found,
+        Err(error) => return Err(error),
+    };
+    kept.keep(place, items);
+    Ok(found)
+}
+
+/// The last value of a shared cell with the write of it.
+fn last_of_cell(
+    alloc: Global,
+    past: &Past,
+    kept: &mut Kept,
+    cell: u16,
+) -> Result<(i64, Origin), SessionError>
+    requires past { IsPast past.now }
+    requires kept { AreTold (known_by past.now []) kept.old }
+    ensures value { IfOk result
+        (λ x. last_by past.now.program.now past.now.plan.now past.now.budget past.now.logs.now cell ≡ Ok x) }
+    ensures error { IfErr result
+        (IsWhy (unfound (last_by past.now.program.now past.now.plan.now past.now.budget past.now.logs.now cell))) }
+    ensures kept { AreTold (known_by past.now []) kept.new }
+{
+    let Some(last) = last_edge(past, cell)? else {
+        return last_of(alloc, past, cell);
+    };
+    if last.interval < past.index.count(last.edge.process) {
+        return last_kept(alloc, past, kept, cell, last);
+    }
+    last_of(alloc, past, cell)
+}
+
+// ---- texts
+
 fn put_line(
     text: &mut Vec<u8>,
     past: &Past,
@@ -69,32 +187,42 @@ fn put_cell_line(
     alloc: Global,
     text: &mut Vec<u8>,
     past: &Past,
+    kept: &mut Kept,
     cell: u16,
 ) -> Result<(), SessionError>
-    requires { IsPast past.now }
+    requires past { IsPast past.now }
+    requires kept { AreTold (known_by past.now []) kept.old }
     ensures told { OnOk result
         (IsLineOf past.now.program.now cell
         (last_by past.now.program.now past.now.plan.now past.now.budget past.now.logs.now cell) text.old.items
         text.new.items) }
     ensures error { IfErr result
         (IsWhy (unfound (last_by past.now.program.now past.now.plan.now past.now.budget past.now.logs.now cell))) }
+    ensures kept { AreTold (known_by past.now []) kept.new }
 {
-    match last_of(alloc, past, cell) {
+    match last_of_cell(alloc, past, kept, cell) {
         Ok(found) => put_line(text, past, cell, found),
         Err(error) => Err(error),
     }
 }
 
 /// Appends a line for each shared cell of a past without races.
-fn put_lines(alloc: Global, text: &mut Vec<u8>, past: &Past) -> Result<(), SessionError>
-    requires { IsPast past.now }
+fn put_lines(
+    alloc: Global,
+    text: &mut Vec<u8>,
+    past: &Past,
+    kept: &mut Kept,
+) -> Result<(), SessionError>
+    requires past { IsPast past.now }
+    requires kept { AreTold (known_by past.now []) kept.old }
     ensures text { OnOk result
         (text.new.items ≡ text.old.items ++ lasts_text past.now.program.now 0 (known_by past.now []).lasts) }
     ensures told { OnOk result (first_unfound (known_by past.now []).lasts ≡ None) }
     ensures error { IfErr result (IsWhy (first_unfound (known_by past.now []).lasts)) }
+    ensures kept { AreTold (known_by past.now []) kept.new }
 {
     for cell in 0..past.program.starts.len() {
-        match put_cell_line(alloc, text, past, cell as u16) {
+        match put_cell_line(alloc, text, past, kept, cell as u16) {
             Ok(()) => {}
             Err(error) => return Err(error),
         }
@@ -108,17 +236,20 @@ pub(crate) fn put_final(
     text: &mut Vec<u8>,
     past: &Past,
     races: &[Race],
+    kept: &mut Kept,
 ) -> Result<(), SessionError>
-    requires { IsPast past.now }
+    requires past { IsPast past.now }
+    requires kept { AreTold (known_by past.now races.now) kept.old }
     ensures text { OnOk result
         (text.new.items
         ≡ text.old.items
         ++ raced races.now (lasts_text past.now.program.now 0 (known_by past.now races.now).lasts)) }
     ensures told { OnOk result (first_unfound (known_by past.now races.now).lasts ≡ None) }
     ensures error { IfErr result (IsWhy (first_unfound (known_by past.now races.now).lasts)) }
+    ensures kept { AreTold (known_by past.now races.now) kept.new }
 {
     if !races.is_empty() {
         return put_many_races(text, races);
     }
-    put_lines(alloc, text, past)
+    put_lines(alloc, text, past, kept)
 }

@@ -65,7 +65,7 @@ fn replayed_in<L: Ledger>(
 }
 
 /// The items of an interval that is there, by its replay.
-fn replay(alloc: Global, past: &Past, place: Place) -> Result<Seq<Item>, SessionError>
+pub(crate) fn replay(alloc: Global, past: &Past, place: Place) -> Result<Seq<Item>, SessionError>
     requires past { IsPast past.now }
     requires there { place.interval < length (rows_at past.now.index.now.tables place.process) }
     ensures items { IfOk result

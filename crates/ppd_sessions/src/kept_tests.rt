@@ -46,3 +46,36 @@ fn kept_blocks_do_not_show(rt: HostRuntime) -> Result<(), Fail> {
     }
     Ok(())
 }
+
+const CELLS: &str = "shared int a[3]; shared int b; shared int c; sem s;
+void put(int v) { a[2] = v; }
+process p { a[0] = 5; a[1] = 6; V(s); put(7); }
+process q { P(s); b = a[0] + a[1]; }
+";
+
+const LAST_VALUES: &str = "a[0]=5 from p 0 0
+a[1]=6 from p 0 1
+a[2]=7 from p 1 0
+b=11 from q 0 1
+c=0 from initial
+";
+
+const OPENED_BETWEEN: &str = "item 0 stmt 0 2:19 set read v=7 write a[2]=7
+item 1 stmt 1 2:29 return
+";
+
+// The last values come from two edges of one interval and from one of another, whether the blocks are kept or not.
+#[test]
+fn last_values_of_kept_blocks(rt: HostRuntime) -> Result<(), Fail> {
+    let alloc = rt.alloc();
+    let schedule = [0, 0, 0, 0, 0, 0, 0, 1, 1, 1, 1, 1];
+    let text = format!(in alloc; "{LAST_VALUES}{OPENED_BETWEEN}{LAST_VALUES}{LAST_VALUES}")?;
+    for blocks in [0, 1, 2, 8] {
+        let lines = ["final", "open p 1", "final", "final"];
+        let Some(found) = told(&rt, alloc, CELLS, &schedule, blocks, &lines) else {
+            return Err(Fail::new("not told"));
+        };
+        assert_eq!(rt; found.as_slice(), text.as_bytes(), "{blocks}");
+    }
+    Ok(())
+}

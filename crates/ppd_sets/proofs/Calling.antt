@@ -10,11 +10,13 @@ use Rattle.ppd_ast.specs.declared.program.Program.{Program}
 use Rattle.ppd_ast.specs.Numbered.{numbers_of}
 use Rattle.ppd_ast.specs.Valid.{IsValid, IsValidKind, CallsRightly}
 use Rattle.ppd_ast.proofs.ValidLaws.{stmt_in_body}
-use Rattle.ppd_cfg.specs.Lists.{has, row, AreBelow}
+use Rattle.ppd_ast.specs.Members.{has, AreBelow}
+use Rattle.ppd_ast.specs.Lookups.{kind_of_stmt, kind_of}
+use Rattle.ppd_ast.proofs.Members.{has_cons, flat_gives}
+use Rattle.ppd_cfg.specs.Lists.{row}
 use Rattle.ppd_cfg.specs.WorkList.{AreRowsBelow}
-use Rattle.ppd_cfg.specs.Flow.{kind_of, kind_of_stmt}
-use Rattle.ppd_cfg.proofs.Has.{has_cons, flat_gives, row_there}
 use Rattle.ppd_cfg.proofs.Rows.{row_at, length_rows}
+use Rattle.ppd_cfg.proofs.Leading.{row_there}
 use Rattle.ppd_sets.specs.Used.{callee, calls_at, call_rows, numbers_in, stmts_at}
 use Rattle.ppd_sets.proofs.Statements.{flat_range}
 

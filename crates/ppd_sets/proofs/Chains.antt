@@ -6,9 +6,9 @@ use Rattle.ppd_ast.specs.declared.program.Var.{Var}
 use Rattle.ppd_ast.specs.declared.program.Program.{Program}
 use Rattle.ppd_ast.specs.Cells.{holds}
 use Rattle.ppd_ast.proofs.ValidLaws.{slice_get_below}
-use Rattle.ppd_cfg.specs.Lists.{has}
-use Rattle.ppd_cfg.specs.Reach.{Reached, closed, leads}
-use Rattle.ppd_cfg.proofs.Has.{has_filter, filter_has, from_zero, any_from, any_gives, flat_gives, flat_from}
+use Rattle.ppd_ast.specs.Members.{has}
+use Rattle.ppd_ast.proofs.Members.{has_filter, filter_has, any_from, any_gives, from_zero, flat_gives, flat_from}
+use Rattle.ppd_cfg.specs.Reach.{Reached, closure, leads}
 use Rattle.ppd_cfg.proofs.Leading.{leads-tests}
 use Rattle.ppd_sets.specs.Used.{call_rows, called_from, stmts_at, reads_at, writes_at, body_reads, body_writes, is_met, vars_met, IsUsed, IsDefined}
 use Rattle.ppd_sets.specs.Laws.{UsedByChains, DefinedByChains}
@@ -17,8 +17,8 @@ use Rattle.ppd_sets.proofs.Gathering.{called_below}
 pub called_law : (p : Program) (b k : ℕ) → IsTrue (has (called_from p b) k) ↔ (k < length p.bodies) × Reached (call_rows p) (b ∷ []) k
 called_law p b k =
     let tests = leads-tests (call_rows p) (b ∷ []) k in (
-      (λ h. (called_below p b k h, tests.0 (has_filter (leads (closed (call_rows p)) (b ∷ [])) (range_with_len 0 (length p.bodies)) k h).1)),
-      (λ h. filter_has (leads (closed (call_rows p)) (b ∷ [])) (range_with_len 0 (length p.bodies)) k (from_zero k (length p.bodies) h.0) (tests.1 h.1)),
+      (λ h. (called_below p b k h, tests.0 (has_filter (leads (closure (call_rows p)) (b ∷ [])) (range_with_len 0 (length p.bodies)) k h).1)),
+      (λ h. filter_has (leads (closure (call_rows p)) (b ∷ [])) (range_with_len 0 (length p.bodies)) k (from_zero k (length p.bodies) h.0) (tests.1 h.1)),
     )
 
 -- a variable is met just where one of its cells is

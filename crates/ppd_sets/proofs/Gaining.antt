@@ -5,9 +5,8 @@ use Rattle.std.specs.List.{flat_map, range_with_len}
 use Rattle.std.proofs.lemmas.Bool.{ne_eqb}
 use Rattle.std.proofs.lemmas.List.Folds.{list_any-append}
 use Rattle.ppd_ast.proofs.Walks.{flat_more}
-use Rattle.ppd_cfg.specs.Lists.{has}
-use Rattle.ppd_cfg.proofs.Has.{has_later}
-use Rattle.ppd_cfg.proofs.Has.{has_first as first_is}
+use Rattle.ppd_ast.specs.Members.{has}
+use Rattle.ppd_ast.proofs.Members.{has_first as first_is, has_later}
 use Rattle.ppd_sets.specs.declared.touched.Touched.{Touched}
 use Rattle.ppd_sets.specs.Gained.{Gains, GainsBoth, HasCells, HasBoth}
 

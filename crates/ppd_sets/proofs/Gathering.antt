@@ -10,9 +10,9 @@ use Rattle.ppd_ast.specs.declared.program.Body.{Body}
 use Rattle.ppd_ast.specs.declared.program.Program.{Program}
 use Rattle.ppd_ast.specs.Numbered.{numbers_of}
 use Rattle.ppd_ast.proofs.ValidLaws.{slice_get_there, each_at}
-use Rattle.ppd_cfg.specs.Lists.{has, those}
-use Rattle.ppd_cfg.specs.Reach.{closed, leads}
-use Rattle.ppd_cfg.proofs.Has.{has_filter, below_range}
+use Rattle.ppd_ast.specs.Members.{has, those}
+use Rattle.ppd_ast.proofs.Members.{has_filter, below_range}
+use Rattle.ppd_cfg.specs.Reach.{closure, leads}
 use Rattle.ppd_sets.specs.declared.touched.Touched.{Touched}
 use Rattle.ppd_sets.specs.Gained.{HasBoth, reads_in, writes_in, reads_of, writes_of}
 use Rattle.ppd_sets.specs.Used.{call_rows, called_from, body_reads, body_writes, reads_at, writes_at}
@@ -28,12 +28,12 @@ each_push P xs x before here k d h = elim (cases_lt k (length xs)) [
 ]
 
 pub called_below : (p : Program) (b k : ℕ) → IsTrue (has (called_from p b) k) → k < length p.bodies
-called_below p b k h = let inside = below_range 0 (length p.bodies) k (has_filter (leads (closed (call_rows p)) (b ∷ [])) (range_with_len 0 (length p.bodies)) k h).0 in omega (arith, inside.1)
+called_below p b k h = let inside = below_range 0 (length p.bodies) k (has_filter (leads (closure (call_rows p)) (b ∷ [])) (range_with_len 0 (length p.bodies)) k h).0 in omega (arith, inside.1)
 
 -- the numbers that the work list gives
-pub called_is : (p : Program) (b : ℕ) (rows : List (List ℕ)) (numbers : List ℕ) → rows ≡ call_rows p → numbers ≡ those (length rows) (leads (closed rows) (b ∷ [])) → numbers ≡ called_from p b
+pub called_is : (p : Program) (b : ℕ) (rows : List (List ℕ)) (numbers : List ℕ) → rows ≡ call_rows p → numbers ≡ those (length rows) (leads (closure rows) (b ∷ [])) → numbers ≡ called_from p b
 called_is p b rows numbers e is =
-    is ∙ ap (λ (rs : List (List ℕ)). those (length rs) (leads (closed rs) (b ∷ []))) e ∙ ap (λ n. those n (leads (closed (call_rows p)) (b ∷ []))) (call_rows_long p)
+    is ∙ ap (λ (rs : List (List ℕ)). those (length rs) (leads (closure rs) (b ∷ []))) e ∙ ap (λ n. those n (leads (closure (call_rows p)) (b ∷ []))) (call_rows_long p)
 
 module _ (p : Program) (list : List Touched) (long : length list ≡ length p.bodies) (each : EachAt (λ k t. HasBoth t (body_reads p k) (body_writes p k)) list) where
   reads_same : (k c : ℕ) → k < length p.bodies → c < 1024 → has (reads_of list k) c ≡ has (body_reads p k) c

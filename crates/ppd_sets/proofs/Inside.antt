@@ -9,7 +9,7 @@ use Rattle.ppd_ast.specs.declared.program.Program.{Program}
 use Rattle.ppd_ast.specs.Order.{preorder, inner, inner_of, inner_at}
 use Rattle.ppd_ast.proofs.Countings.{preorder_some}
 use Rattle.ppd_ast.proofs.Walks.{flat_more}
-use Rattle.ppd_cfg.specs.Flow.{kind_of, kind_of_stmt}
+use Rattle.ppd_ast.specs.Lookups.{kind_of_stmt, kind_of}
 use Rattle.ppd_sets.specs.declared.touched.Touched.{Touched}
 use Rattle.ppd_sets.specs.Gained.{GainsBoth}
 use Rattle.ppd_sets.specs.Named.{reads, writes}

@@ -6,4 +6,5 @@ pub mod Calling
 pub mod Meeting
 pub mod Gathering
 pub mod Chains
+pub mod InBody
 pub mod Looping

@@ -3,7 +3,6 @@ use Rattle.std.proofs.Common.{◌≡◌, ℕ, ◌+◌, ◌-◌, ◌<◌, ◌≤�
 use Rattle.std.specs.Prelude.{IsTrue, nat_le, nat_lt, slice_get}
 use Rattle.std.specs.List.{All, flat_map, range_with_len, list_any}
 use Rattle.ppd_ast.specs.Numbered.{is_while}
-use Rattle.ppd_cfg.specs.Flow.{kind_of}
 use Rattle.std.proofs.lemmas.Bool.{and_parts, and_from, leb-true, ltb-true, le-leb, lt-ltb, cases_order, false_from_ne_true, cond-true, cond-false}
 use Rattle.std.proofs.lemmas.Option.{slice_get-get_or}
 use Rattle.ppd_ast.specs.declared.program.Var.{Var}
@@ -11,8 +10,9 @@ use Rattle.ppd_ast.specs.declared.program.Program.{Program}
 use Rattle.ppd_ast.specs.Cells.{size, after, holds}
 use Rattle.ppd_ast.specs.Valid.{IsValid}
 use Rattle.ppd_ast.proofs.ValidLaws.{slice_get_below}
-use Rattle.ppd_cfg.specs.Lists.{has, those}
-use Rattle.ppd_cfg.proofs.Has.{any_from, any_gives, below_range, filter_same_in}
+use Rattle.ppd_ast.specs.Members.{has, those}
+use Rattle.ppd_ast.specs.Lookups.{kind_of}
+use Rattle.ppd_ast.proofs.Members.{any_from, any_gives, below_range, filter_same_in}
 use Rattle.ppd_sets.specs.Used.{is_met, vars_met, sorted, loop_stmts, loop_used_of, loop_defined_of, reads_at, writes_at, body_reads, body_writes, called_from, used_of, defined_of}
 use Rattle.ppd_sets.specs.Gained.{HasCells}
 

@@ -1,6 +1,6 @@
 -- What a set of cells gains.
 use Rattle.std.specs.Prelude.{◌≡◌, ◌<◌, ℕ, ◌||◌, List, Option, Some, None, [], slice_get}
-use Rattle.ppd_cfg.specs.Lists.{has}
+use Rattle.ppd_ast.specs.Members.{has}
 use Rattle.ppd_sets.specs.declared.touched.Touched.{Touched}
 
 -- of the cells below 1024, the set has those that it had and these

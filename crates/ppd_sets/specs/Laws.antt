@@ -2,10 +2,10 @@
 use Rattle.std.specs.Prelude.{◌≡◌, ◌↔◌, ◌<◌, ℕ, IsTrue, Some, slice_get}
 use Rattle.ppd_ast.specs.declared.program.Program.{Program}
 use Rattle.ppd_ast.specs.declared.program.Var.{Var}
-use Rattle.ppd_cfg.specs.Lists.{has}
 use Rattle.ppd_ast.specs.Numbered.{is_while}
 use Rattle.ppd_ast.specs.Valid.{IsValid}
-use Rattle.ppd_cfg.specs.Flow.{kind_of}
+use Rattle.ppd_ast.specs.Members.{has}
+use Rattle.ppd_ast.specs.Lookups.{kind_of}
 use Rattle.ppd_sets.specs.Used.{used_of, defined_of, loop_used_of, loop_defined_of, IsUsed, IsDefined, IsLoopUsed, IsLoopDefined}
 
 -- the list holds just the variables that some statement of a called body may read

@@ -10,9 +10,9 @@ use Rattle.ppd_ast.specs.declared.limits.TheConstants.{MOST_NESTING}
 use Rattle.ppd_ast.specs.Cells.{holds}
 use Rattle.ppd_ast.specs.Numbered.{numbers_of, is_while}
 use Rattle.ppd_ast.specs.Order.{preorder}
-use Rattle.ppd_cfg.specs.Lists.{has, those}
-use Rattle.ppd_cfg.specs.Reach.{Reached, closed, leads}
-use Rattle.ppd_cfg.specs.Flow.{kind_of}
+use Rattle.ppd_ast.specs.Members.{has, those}
+use Rattle.ppd_ast.specs.Lookups.{kind_of}
+use Rattle.ppd_cfg.specs.Reach.{Reached, closure, leads}
 use Rattle.ppd_sets.specs.Named.{reads, writes}
 
 -- ---- calls
@@ -51,7 +51,7 @@ call_rows p = map (calls_at p) (range_with_len 0 (length p.bodies))
 
 -- the bodies that a chain of calls reaches from body b, itself included
 abbrev pub called_from : Program → ℕ → List ℕ
-called_from p b = those (length p.bodies) (leads (closed (call_rows p)) (b ∷ []))
+called_from p b = those (length p.bodies) (leads (closure (call_rows p)) (b ∷ []))
 
 -- ---- shared variables of bodies
 

@@ -3,9 +3,9 @@ ghost use Rattle.std.specs.List.{flat_map};
 ghost use Rattle.ppd_ast.specs.Numbered.{numbers_of};
 ghost use Rattle.ppd_ast.specs.Table.{EachAt, AreChildrenBelow};
 ghost use Rattle.ppd_ast.specs.Valid.{IsValid};
+ghost use Rattle.ppd_ast.specs.Lookups.{kind_of};
 ghost use Rattle.ppd_sets.specs.Used.{callee, calls_at, call_rows, called_from, body_reads, body_writes, reads_at, writes_at};
 ghost use Rattle.ppd_sets.specs.Gained.{GainsBoth, HasBoth, reads_of, writes_of};
-ghost use Rattle.ppd_cfg.specs.Flow.{kind_of};
 
 use crate::touched::Touched;
 use ppd_ast::{Body, Ids, Kind, Memory, Program, Seq, Stmt};

@@ -4,7 +4,7 @@ ghost use Rattle.ppd_ast.specs.Cells.{size, after, holds};
 ghost use Rattle.ppd_ast.specs.Table.{EachAt, AreChildrenBelow};
 ghost use Rattle.ppd_ast.specs.Valid.{IsValid};
 ghost use Rattle.ppd_ast.specs.Numbered.{is_while};
-ghost use Rattle.ppd_cfg.specs.Flow.{kind_of};
+ghost use Rattle.ppd_ast.specs.Lookups.{kind_of};
 ghost use Rattle.ppd_sets.specs.Used.{vars_met, used_of, defined_of, loop_used_of, loop_defined_of, loop_stmts, reads_at, writes_at, sorted};
 
 use crate::bodies::{calls, touched_by_bodies, touched_from};

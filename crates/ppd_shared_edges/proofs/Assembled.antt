@@ -1,24 +1,23 @@
 -- All edges of an item, put together.
-use Rattle.std.proofs.Common.{◌≡◌, ℕ, zero, suc, ◌+◌, ◌≤◌, List, [], ◌∷◌, ◌++◌, Option, Some, None, Ok, refl, ap, ap₂, sym, subst, ◌∙◌, arith, length, length-append, map, get_or}
+use Rattle.std.proofs.Common.{◌≡◌, ℕ, zero, suc, ◌+◌, List, [], ◌∷◌, ◌++◌, Option, Some, None, Ok, refl, ap, ap₂, sym, subst, ◌∙◌, arith, length, map, get_or}
 use Rattle.std.specs.Prelude.{option_map, slice_get, zip}
-use Rattle.std.specs.List.{flat_map}
 use Rattle.std.proofs.lemmas.List.{append_assoc}
 use Rattle.std.proofs.lemmas.Option.{none-some}
 use Rattle.ppd_ast.specs.Valid.{IsValid}
 use Rattle.ppd_ast.specs.declared.plan.Plan.{Plan}
 use Rattle.ppd_ast.specs.declared.program.Program.{Program}
+use Rattle.ppd_ast.specs.Lookups.{kind_of}
 use Rattle.ppd_sem.specs.Blocks.{block_kind}
-use Rattle.ppd_sem.specs.Process.{kind_of}
 use Rattle.ppd_sem.specs.declared.event.Access.{Access}
 use Rattle.ppd_sem.specs.declared.event.Spot.{Spot}
 use Rattle.ppd_sem.specs.declared.event.Spot.TheVariants.{Local, Shared}
+use Rattle.ppd_shared_edges.proofs.PartItems.{first_of, item_at, item_if}
 use Rattle.ppd_model.specs.declared.flow.EdgeKind.TheVariants.{Control}
-use Rattle.ppd_model.specs.declared.flow.Item.{Item}
 use Rattle.ppd_model.specs.declared.trace.TracedEvent.{TracedEvent}
 use Rattle.ppd_model.specs.Earlier.{AreEarlier, EachNamesEarlier}
 use Rattle.ppd_model.specs.FlowbackEdges.{bare_edge, edges, edges_if as model_edges_if, edges_in, edges_of_event, edges_of_nested as model_edges_of_nested, edges_of_part, from_parent, part_at, part_in, read_edge as model_read_edge, sync_edges as model_sync_edges}
 use Rattle.ppd_model.specs.FullTrace.{Tag, tracing_of}
-use Rattle.ppd_model.specs.Intervals.{Part, own, nested, Span, Split, item_of, item_of_event, item_of_span, items_of, splits}
+use Rattle.ppd_model.specs.Intervals.{Part, own, nested, Span, Split, item_of_event, item_of_span, items_of, splits, item_of}
 use Rattle.ppd_model.specs.Logs.{closed_logs}
 use Rattle.ppd_model.specs.Races.{races}
 use Rattle.ppd_model.specs.Schedule.{run}
@@ -42,56 +41,6 @@ use Rattle.ppd_shared_edges.proofs.Sources.ReadOrigins.{shared_origins}
 use Rattle.ppd_shared_edges.proofs.PairPlaces.Pairs.{pairs_found}
 
 -- ---- items and parts
-
--- the first of these, if there is one
-abbrev first_in : {A : Type 0} → List A → Option A
-first_in [] = None
-first_in (x ∷ xs) = Some x
-
-abbrev first_and : Option Part → (Part → Option Item) → Option Item
-first_and None f = None
-first_and (Some q) f = f q
-
-module _ (x : Split) where
-  abbrev one : Part → Option Item
-  one q = first_in (item_of x q)
-
-  few : (q : Part) → length (item_of x q) ≤ 1
-  few (own n) = by (slice_get x.trace.events n)
-    where
-      by : (o : Option TracedEvent) → length (item_of_event o) ≤ 1
-      by None = omega arith
-      by (Some e) = omega arith
-  few (nested m) = by (slice_get x.spans m)
-    where
-      by : (o : Option Span) → length (item_of_span m o) ≤ 1
-      by None = omega arith
-      by (Some i) = omega arith
-
-  all_few : (ps : List Part) → length (flat_map (item_of x) ps) ≤ length ps
-  all_few [] = omega arith
-  all_few (q ∷ ps) =
-      let a : length (item_of x q) ≤ 1 = few q in
-      let b : length (flat_map (item_of x) ps) ≤ length ps = all_few ps in
-      let c : length (item_of x q ++ flat_map (item_of x) ps) ≡ length (item_of x q) + length (flat_map (item_of x) ps) = length-append (item_of x q) (flat_map (item_of x) ps) in
-      omega (arith, a, b, c)
-
-  -- where no part is dropped, item j is that of part j
-  item_at : (ps : List Part) (j : ℕ) → length (flat_map (item_of x) ps) ≡ length ps → slice_get (flat_map (item_of x) ps) j ≡ first_and (slice_get ps j) one
-  item_at [] j e = refl
-  item_at (q ∷ ps) j e = by (item_of x q) refl j (item_at ps)
-    where
-      rest : length (flat_map (item_of x) ps) ≤ length ps
-      rest = all_few ps
-
-      again : (is : List Item) → item_of x q ≡ is → length is ≡ 1 → length (flat_map (item_of x) ps) ≡ length ps
-      again is f l = let c : length (item_of x q ++ flat_map (item_of x) ps) ≡ length (item_of x q) + length (flat_map (item_of x) ps) = length-append (item_of x q) (flat_map (item_of x) ps) in let d : length (item_of x q) ≡ 1 = ap length f ∙ l in omega (arith, c, d, e)
-
-      by : (is : List Item) → item_of x q ≡ is → (i : ℕ) → ((m : ℕ) → length (flat_map (item_of x) ps) ≡ length ps → slice_get (flat_map (item_of x) ps) m ≡ first_and (slice_get ps m) one) → slice_get (item_of x q ++ flat_map (item_of x) ps) i ≡ first_and (slice_get (q ∷ ps) i) one
-      by [] f i later = absurd (let c : length (item_of x q ++ flat_map (item_of x) ps) ≡ length (item_of x q) + length (flat_map (item_of x) ps) = length-append (item_of x q) (flat_map (item_of x) ps) in let d : length (item_of x q) ≡ 0 = ap length f in let r = rest in omega (arith, c, d, e, r))
-      by (t ∷ u ∷ is) f i later = absurd (let a : length (item_of x q) ≤ 1 = few q in let d : length (item_of x q) ≡ suc (suc (length is)) = ap length f in omega (arith, a, d))
-      by (t ∷ []) f zero later = ap (λ l. slice_get (l ++ flat_map (item_of x) ps) 0) f ∙ sym (ap first_in f)
-      by (t ∷ []) f (suc i) later = ap (λ l. slice_get (l ++ flat_map (item_of x) ps) (suc i)) f ∙ later i (again (t ∷ []) f refl)
 
 -- ---- reads
 
@@ -162,19 +111,19 @@ module _ (program : Program) (plan : Plan) (budget : ℕ) (h : List ℕ) (w : Wo
 
   -- a part that is there
   part_is : (q : Part) → part_at x k j ≡ Some q
-      → edges_if program plan (closed_logs program plan budget h) (all_seen program plan budget h) p k j (one x q) ≡ option_map (λ es. Ok es) (edges_of_part program plan xs x q)
+      → edges_if program plan (closed_logs program plan budget h) (all_seen program plan budget h) p k j (first_of (item_of x q)) ≡ option_map (λ es. Ok es) (edges_of_part program plan xs x q)
   part_is (own n) place = by (slice_get x.trace.events n) refl
     where
-      by : (o : Option TracedEvent) → slice_get x.trace.events n ≡ o → edges_if program plan (closed_logs program plan budget h) (all_seen program plan budget h) p k j (first_in (item_of_event o)) ≡ option_map (λ es. Ok es) (option_map (edges_of_event program xs) o)
+      by : (o : Option TracedEvent) → slice_get x.trace.events n ≡ o → edges_if program plan (closed_logs program plan budget h) (all_seen program plan budget h) p k j (first_of (item_of_event o)) ≡ option_map (λ es. Ok es) (option_map (edges_of_event program xs) o)
       by None g = refl
       by (Some e) g = ap (λ z. Some z) (event_is n e place g)
   part_is (nested m) place = by (slice_get x.spans m) refl
     where
-      by : (o : Option Span) → slice_get x.spans m ≡ o → edges_if program plan (closed_logs program plan budget h) (all_seen program plan budget h) p k j (first_in (item_of_span m o)) ≡ option_map (λ es. Ok es) (option_map (model_edges_of_nested plan xs) o)
+      by : (o : Option Span) → slice_get x.spans m ≡ o → edges_if program plan (closed_logs program plan budget h) (all_seen program plan budget h) p k j (first_of (item_of_span m o)) ≡ option_map (λ es. Ok es) (option_map (model_edges_of_nested plan xs) o)
       by None g = refl
       by (Some i) g = ap (λ q. Some (Ok (edges_of_nested program plan q p k j m i.block i.values (block_kind plan i.block)))) f.seen_is ∙ ap (λ es. Some (Ok es)) (parts.inside m i place g)
 
-  items_is : (i : Span) → slice_get x.spans k ≡ Some i → slice_get (items_at (seen_at (all_seen program plan budget h) p) k) j ≡ first_and (slice_get i.parts j) (one x)
+  items_is : (i : Span) → slice_get x.spans k ≡ Some i → slice_get (items_at (seen_at (all_seen program plan budget h) p) k) j ≡ item_if x (slice_get i.parts j)
   items_is i g =
       ap (λ q. slice_get (items_at q k) j) f.seen_is ∙ ap (λ l. slice_get l j) (map_at (items_of x) x.spans k i [] g)
       ∙ item_at x i.parts j ((items_whole program plan budget h p x v there).whole k i g)
@@ -191,7 +140,7 @@ module _ (program : Program) (plan : Plan) (budget : ℕ) (h : List ℕ) (w : Wo
   all_edges = by (slice_get x.spans k) refl ∙ sym (ap (λ o. option_map (λ es. Ok es) (edges_in program plan xs k j o)) there)
     where
       by_part : (i : Span) → slice_get x.spans k ≡ Some i → (o : Option Part) → slice_get i.parts j ≡ o
-          → edges_if program plan (closed_logs program plan budget h) (all_seen program plan budget h) p k j (first_and o (one x)) ≡ option_map (λ es. Ok es) (model_edges_if program plan xs x o)
+          → edges_if program plan (closed_logs program plan budget h) (all_seen program plan budget h) p k j (item_if x o) ≡ option_map (λ es. Ok es) (model_edges_if program plan xs x o)
       by_part i g None e = refl
       by_part i g (Some q) e = part_is q (ap (λ s. part_in s j) g ∙ e)
 

@@ -4,6 +4,7 @@ pub mod Back
 pub mod StepEvents
 pub mod Sources
 pub mod PairPlaces
+pub mod PartItems
 pub mod Assembled
 pub mod Within
 pub mod Near

@@ -1,14 +1,9 @@
 -- The names of a program's parts, and lists of names.
 use Rattle.std.specs.Prelude.{ℕ, List, [], ◌∷◌, ◌++◌, Option, Some, None, codes, slice_get}
 use Rattle.std.specs.List.{flat_map}
-use Rattle.ppd_ast.specs.declared.program.Body.{Body}
 use Rattle.ppd_ast.specs.declared.program.Sem.{Sem}
 use Rattle.ppd_ast.specs.declared.program.Chan.{Chan}
 use Rattle.ppd_ast.specs.declared.program.Var.{Var}
-
-abbrev pub body_name : Option Body → List ℕ
-body_name None = []
-body_name (Some b) = b.name
 
 abbrev pub sem_name : Option Sem → List ℕ
 sem_name None = []

@@ -2,7 +2,6 @@
 -- they may read.
 use Rattle.std.specs.Prelude.{ℕ, List, [], ◌++◌, Option, Some, None, codes, decimal, slice_get, if◌then◌else◌}
 use Rattle.ppd_ast.specs.declared.program.Stmt.{Stmt}
-use Rattle.ppd_ast.specs.declared.program.Body.{Body}
 use Rattle.ppd_ast.specs.declared.program.Var.{Var}
 use Rattle.ppd_ast.specs.declared.program.Program.{Program}
 use Rattle.ppd_ast.specs.declared.plan.Plan.{Plan}
@@ -12,9 +11,10 @@ use Rattle.ppd_ast.specs.declared.plan.BlockKind.TheVariants.{Function, Process,
 use Rattle.ppd_ast.specs.declared.plan.Start.{Start}
 use Rattle.ppd_ast.specs.declared.plan.Start.TheVariants.{Entry, After, Enter, Exit}
 use Rattle.ppd_ast.specs.declared.plan.Unit.{Unit as UnitOf}
+use Rattle.ppd_ast.specs.Lookups.{locals_of_body, name_of_body}
 use Rattle.ppd_sets.specs.Used.{vars_met}
 use Rattle.ppd_text.specs.Texts.{place_text}
-use Rattle.ppd_show.specs.Names.{body_name, names_text}
+use Rattle.ppd_show.specs.Names.{names_text}
 
 -- the names of the variables that have a cell in the list
 abbrev pub cells_text : List Var → (cells : List ℕ) → List ℕ
@@ -28,22 +28,18 @@ stmt_place (Some s) = place_text s.place
 
 -- what a block is the code of
 abbrev pub block_what : Program → BlockKind → List ℕ
-block_what p (Function f) = codes "function " ++ body_name (slice_get p.bodies f)
-block_what p (Process f) = codes "process " ++ body_name (slice_get p.bodies f)
+block_what p (Function f) = codes "function " ++ name_of_body (slice_get p.bodies f)
+block_what p (Process f) = codes "process " ++ name_of_body (slice_get p.bodies f)
 block_what p (Loop s) = codes "loop " ++ stmt_place (slice_get p.stmts s)
-
-abbrev pub locals_of : Option Body → List Var
-locals_of None = []
-locals_of (Some b) = b.locals
 
 abbrev pub locals_round : Program → Option Stmt → List Var
 locals_round p None = []
-locals_round p (Some s) = locals_of (slice_get p.bodies s.body)
+locals_round p (Some s) = locals_of_body (slice_get p.bodies s.body)
 
 -- the variables of the body that a block is, or in which its loop stands
 abbrev pub block_locals : Program → BlockKind → List Var
-block_locals p (Function f) = locals_of (slice_get p.bodies f)
-block_locals p (Process f) = locals_of (slice_get p.bodies f)
+block_locals p (Function f) = locals_of_body (slice_get p.bodies f)
+block_locals p (Process f) = locals_of_body (slice_get p.bodies f)
 block_locals p (Loop s) = locals_round p (slice_get p.stmts s)
 
 -- what a postlog holds: the value that a function returns, or variables
@@ -71,7 +67,7 @@ block_at p plan k = block_text p k (slice_get plan.blocks k)
 
 -- where a unit starts
 abbrev pub start_text : Program → Start → List ℕ
-start_text p (Entry b) = codes "entry " ++ body_name (slice_get p.bodies b)
+start_text p (Entry b) = codes "entry " ++ name_of_body (slice_get p.bodies b)
 start_text p (After s) = codes "after " ++ decimal s
 start_text p (Enter s) = codes "enter " ++ decimal s
 start_text p (Exit s) = codes "exit " ++ decimal s

@@ -1,7 +1,8 @@
 // The names of a program's parts.
 ghost use Rattle.std.specs.Prelude.{◌≡◌, ◌++◌, OnOk, slice_get};
 ghost use Rattle.std.specs.List.{flat_map};
-ghost use Rattle.ppd_show.specs.Names.{body_name as name_of_body, sem_name as sem_name_of, chan_name as chan_name_of, var_name as var_name_of, spaced, names_text};
+ghost use Rattle.ppd_ast.specs.Lookups.{name_of_body};
+ghost use Rattle.ppd_show.specs.Names.{sem_name as sem_name_of, chan_name as chan_name_of, var_name as var_name_of, spaced, names_text};
 
 use ppd_ast::{Memory, Program, Var};
 use ppd_text::put;

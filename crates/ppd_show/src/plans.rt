@@ -1,8 +1,8 @@
 // The lines of a plan's blocks and units.
 ghost use Rattle.std.specs.Prelude.{◌≡◌, ◌++◌, length, decimal, OnOk, slice_get};
 ghost use Rattle.std.specs.List.{flat_map, range_with_len};
-ghost use Rattle.ppd_show.specs.Plans.{stmt_place, block_what, locals_of as locals_of_body, locals_round as locals_round_stmt, block_locals as locals_of_block, postlog_text, logs_text, block_line, block_at, start_text, unit_line, unit_at};
-ghost use Rattle.ppd_show.specs.Names.{body_name};
+ghost use Rattle.ppd_ast.specs.Lookups.{locals_of_body, name_of_body};
+ghost use Rattle.ppd_show.specs.Plans.{stmt_place, block_what, locals_round as locals_round_stmt, block_locals as locals_of_block, postlog_text, logs_text, block_line, block_at, start_text, unit_line, unit_at};
 ghost use Rattle.ppd_show.specs.Table.{blocks_text, units_text};
 
 use crate::met::put_cells;
@@ -13,7 +13,7 @@ use std::alloc::Global;
 
 fn put_body(text: &mut Vec<u8>, word: &[u8], program: &Program, body: u16) -> Result<(), Memory>
     ensures { OnOk result
-        (text.new.items ≡ text.old.items ++ (word.now ++ body_name (slice_get program.now.bodies body))) }
+        (text.new.items ≡ text.old.items ++ (word.now ++ name_of_body (slice_get program.now.bodies body))) }
 {
     put(text, word)?;
     put(text, function_name(program, body))

@@ -1,5 +1,11 @@
-//! The command `show` on worked sources: tests.
+//! The command `show` on worked sources, the words of a command, and bytes in and out: tests.
 #![tactic(auto)]
 
 #[cfg(test)]
-mod tests;
+mod io_tests;
+#[cfg(test)]
+mod line_tests;
+#[cfg(test)]
+mod table_tests;
+#[cfg(test)]
+mod word_tests;

@@ -14,16 +14,18 @@ use Rattle.ppd_ast.specs.declared.program.Kind.TheVariants.{Call, While}
 use Rattle.ppd_ast.specs.declared.program.Program.{Program}
 use Rattle.ppd_ast.specs.declared.program.Stmt.{Stmt}
 use Rattle.ppd_ast.proofs.ValidLaws.{slice_get_there}
+use Rattle.ppd_ast.specs.Lookups.{kind_of_stmt, kind_of}
 use Rattle.ppd_deps.specs.declared.edges.StaticEdge.{StaticEdge}
 use Rattle.ppd_deps.specs.declared.edges.StaticEdge.TheVariants.{ControlEntry, Control}
 use Rattle.ppd_deps.specs.Edges.{control_into, control_of, data_into, edges_of, outer_edge}
 use Rattle.ppd_sem.specs.declared.proc.Todo.{Todo}
-use Rattle.ppd_sem.specs.Process.{kind_of, kind_or_end, need_of, started}
+use Rattle.ppd_sem.specs.Process.{need_of, started}
+use Rattle.ppd_sem.specs.Described.{is_event}
 use Rattle.ppd_model.specs.declared.trace.EventId.{EventId}
 use Rattle.ppd_model.specs.FullTrace.{begun_tracing, event_of, full_trace, parent_if}
 use Rattle.ppd_model.specs.LocalTags.{AreOwn}
 use Rattle.ppd_model.specs.Parents.{IsBegunBy, IsFromStart, IsLatestTest, is_call, is_choice, is_test_at, is_while}
-use Rattle.ppd_model.specs.Story.{is_event, own_steps, story}
+use Rattle.ppd_model.specs.Story.{own_steps, story}
 use Rattle.ppd_model.proofs.LocalTags.{own_steps_told}
 use Rattle.ppd_model.proofs.Parents.{own_from}
 use Rattle.ppd_model.proofs.ValidParents.{valid_parents}
@@ -49,7 +51,7 @@ same_loop : (k : Kind) → is_while k ≡ true → is_loop k ≡ true
 same_loop (While e body) h = refl
 same_loop k h = absurd (true≢false (sym h))
 
-itself : (p : Program) (t : ℕ) (o : Option Stmt) → slice_get p.stmts t ≡ o → is_while (kind_or_end o) ≡ true → Contains (edges_of p t) (Control t)
+itself : (p : Program) (t : ℕ) (o : Option Stmt) → slice_get p.stmts t ≡ o → is_while (kind_of_stmt o) ≡ true → Contains (edges_of p t) (Control t)
 itself p t None at is = absurd (true≢false (sym is))
 itself p t (Some x) at is =
     in_edges p t (Control t) (Some x) at

@@ -3,14 +3,15 @@ use Rattle.std.proofs.Common.{ℕ, ◌<◌, List, [], ◌∷◌, false, true, le
 use Rattle.std.specs.Prelude.{IsTrue, slice_get}
 use Rattle.std.specs.List.{Contains, flat_map, range_with_len}
 use Rattle.ppd_ast.specs.declared.program.Program.{Program}
-use Rattle.ppd_cfg.specs.Lists.{has}
+use Rattle.ppd_ast.specs.Members.{has}
+use Rattle.ppd_ast.specs.Lookups.{body_of, locals_of}
+use Rattle.ppd_ast.proofs.Members.{has_cons, filter_has, from_zero}
 use Rattle.ppd_cfg.specs.Reach.{Reached}
-use Rattle.ppd_cfg.proofs.Has.{filter_has, from_zero, has_cons}
 use Rattle.ppd_cfg.proofs.Leading.{leads-tests}
 use Rattle.ppd_deps.specs.declared.edges.StaticEdge.{StaticEdge}
 use Rattle.ppd_deps.specs.declared.edges.StaticEdge.TheVariants.{Data}
 use Rattle.ppd_deps.specs.Edges.{begins, comes_to, control_into, data_from, data_into, edges_of, kept_rows, local_edge, locals_from, shared_edge, shared_from}
-use Rattle.ppd_deps.specs.Named.{body_of, local_reads, locals_of, shared_reads, shared_writes}
+use Rattle.ppd_deps.specs.Named.{local_reads, shared_reads, shared_writes}
 use Rattle.ppd_sound.proofs.Lists.{here, in_left, in_right, there}
 
 mapped : {X : Type 0} (f : ℕ → X) (xs : List ℕ) (v : ℕ) → IsTrue (has xs v) → Contains (map f xs) (f v)

@@ -10,10 +10,11 @@ use Rattle.ppd_ast.specs.declared.program.Program.{Program}
 use Rattle.ppd_sem.specs.declared.proc.Need.{Need}
 use Rattle.ppd_sem.specs.declared.proc.Need.TheVariants.{Read, Enter, Budget, Stopped}
 use Rattle.ppd_sem.specs.Process.{started}
+use Rattle.ppd_sem.specs.Described.{is_event}
 use Rattle.ppd_model.specs.declared.trace.EventId.{EventId}
 use Rattle.ppd_model.specs.declared.trace.TracedEvent.{TracedEvent}
 use Rattle.ppd_model.specs.FullTrace.{begun_tracing, event_of, events_from, full_trace, me_in, trace_by, trace_step, traced_by, tracing_of}
-use Rattle.ppd_model.specs.Story.{is_event, own_steps, story}
+use Rattle.ppd_model.specs.Story.{own_steps, story}
 use Rattle.ppd_sound.specs.Sound.{IsEventOf, event_at}
 use Rattle.ppd_sound.proofs.Lists.{at_length, in_front}
 

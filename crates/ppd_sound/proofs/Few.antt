@@ -10,7 +10,7 @@ use Rattle.ppd_ast.specs.declared.program.Body.{Body}
 use Rattle.ppd_ast.specs.declared.program.Program.{Program}
 use Rattle.ppd_ast.specs.declared.program.Var.{Var}
 use Rattle.ppd_ast.proofs.ValidLaws.{valid_body}
-use Rattle.ppd_deps.specs.Named.{locals_of_body}
+use Rattle.ppd_ast.specs.Lookups.{locals_of_body}
 use Rattle.ppd_sound.specs.Sound.{HaveCells, VariablesAreFew}
 
 -- ---- how often the cells below n are held

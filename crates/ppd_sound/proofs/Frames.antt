@@ -6,14 +6,14 @@ use Rattle.ppd_ast.specs.declared.plan.Plan.{Plan}
 use Rattle.ppd_ast.specs.declared.program.Kind.{Kind}
 use Rattle.ppd_ast.specs.declared.program.Kind.TheVariants as K
 use Rattle.ppd_ast.specs.declared.program.Program.{Program}
-use Rattle.ppd_cfg.specs.Flow.{kind_of}
-use Rattle.ppd_cfg.specs.Lists.{has, row}
+use Rattle.ppd_ast.specs.Members.{has}
+use Rattle.ppd_ast.specs.Lookups.{kind_of, body_of}
+use Rattle.ppd_ast.proofs.Members.{has_first, in_bounds_has, flat_from}
+use Rattle.ppd_cfg.specs.Lists.{row}
 use Rattle.ppd_cfg.specs.Reach.{Reached, next, start}
-use Rattle.ppd_cfg.proofs.Has.{flat_from, has_first, in_bounds_has}
 use Rattle.ppd_cfg.proofs.Rows.{row_at}
-use Rattle.ppd_course.proofs.Deeds.{Fits, deed_fits}
-use Rattle.ppd_course.proofs.Ways.{same_kind}
-use Rattle.ppd_deps.specs.Named.{body_of, processes}
+use Rattle.ppd_step_laws.proofs.Course.Deeds.{Fits, deed_fits}
+use Rattle.ppd_deps.specs.Named.{processes}
 use Rattle.ppd_deps.proofs.Arriving.{body_there}
 use Rattle.ppd_deps.proofs.Bodies.{stands_among}
 use Rattle.ppd_sem.specs.declared.asking.Pause.TheVariants.{Wants, Traps}
@@ -25,7 +25,7 @@ use Rattle.ppd_sem.specs.declared.proc.Proc.{Proc}
 use Rattle.ppd_sem.specs.declared.proc.Todo.{Todo}
 use Rattle.ppd_sem.specs.Asked.{Asked}
 use Rattle.ppd_sem.specs.Deed.{Deed, set_local, clear, invoke, back, receive}
-use Rattle.ppd_sem.specs.Process.{act, act_at, act_by_asked, act_by_deed, act_by_need, clear_top, head_deed, into_of, kind_of as kind_at, need_of, receive_at, returned, returned_from, started, top_cells, write_top}
+use Rattle.ppd_sem.specs.Process.{act, act_at, act_by_asked, act_by_deed, act_by_need, clear_top, head_deed, into_of, need_of, receive_at, returned, returned_from, started, top_cells, write_top}
 use Rattle.ppd_sets.specs.Used.{call_rows, callee, calls_at, stmts_at}
 
 -- ---- links
@@ -52,7 +52,7 @@ links_receive None value frames = refl
 
 links_from : (p : Program) (call : Option ℕ) (value : Option ℤ) (frames : List Frame) → links (returned_from p call value frames) ≡ links frames
 links_from p None value frames = refl
-links_from p (Some c) value frames = links_receive (into_of (kind_at p c)) value frames
+links_from p (Some c) value frames = links_receive (into_of (kind_of p c)) value frames
 
 links_returned : (p : Program) (value : Option ℤ) (frames : List Frame) → links (returned p value frames) ≡ drop 1 (links frames)
 links_returned p value [] = refl
@@ -79,7 +79,7 @@ module _ (p : Program) (a : Answer) (t : Todo) (ts : List Todo) where
   by_asked s (Err (Traps x)) h = same refl
 
   pub head_fits : (s : Proc) → Fits (kind_of p t.stmt) (head_deed p t s)
-  head_fits s = subst (λ (k : Kind). Fits k (head_deed p t s)) (same_kind p t.stmt) (deed_fits p.exprs (top_cells s.frames) s.answers (kind_at p t.stmt))
+  head_fits s = deed_fits p.exprs (top_cells s.frames) s.answers (kind_of p t.stmt)
 
   by_need : (plan : Plan) (s : Proc) (n : Need) → Relinks p t.stmt (links s.frames) (links (act_by_need p plan a t ts n s).frames)
   by_need plan s Stopped = same refl

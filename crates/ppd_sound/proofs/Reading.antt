@@ -10,8 +10,8 @@ use Rattle.ppd_ast.specs.declared.program.Target.TheVariants as T
 use Rattle.ppd_ast.specs.declared.status.Trap.TheVariants.{Index}
 use Rattle.ppd_ast.specs.Term.{Term, const, local, local_at, shared, shared_at, neg, not, two, and, or, term}
 use Rattle.ppd_ast.specs.Uses.{kind_uses}
-use Rattle.ppd_cfg.specs.Lists.{has}
-use Rattle.ppd_cfg.proofs.Has.{flat_from, has_first, has_later, has_left, has_right, in_bounds_has}
+use Rattle.ppd_ast.specs.Members.{has}
+use Rattle.ppd_ast.proofs.Members.{has_first, has_later, has_left, has_right, in_bounds_has, flat_from}
 use Rattle.ppd_sem.specs.declared.event.Access.{Access}
 use Rattle.ppd_sem.specs.declared.event.Spot.{Spot}
 use Rattle.ppd_sem.specs.declared.event.Spot.TheVariants.{Local, Shared}

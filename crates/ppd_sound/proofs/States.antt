@@ -11,17 +11,18 @@ use Rattle.ppd_ast.specs.declared.program.Body.{Body}
 use Rattle.ppd_ast.specs.declared.program.Program.{Program}
 use Rattle.ppd_ast.specs.declared.status.Status.{Status}
 use Rattle.ppd_ast.specs.Valid.{IsValid}
+use Rattle.ppd_ast.specs.Lookups.{top_of_body}
 use Rattle.ppd_sem.specs.declared.proc.Answer.{Answer}
 use Rattle.ppd_sem.specs.declared.proc.Proc.{Proc}
 use Rattle.ppd_sem.specs.declared.proc.Todo.{Todo}
-use Rattle.ppd_sem.specs.Process.{act, cells_for, need_by_status, need_of, need_of_running, started, todos, top_of}
+use Rattle.ppd_sem.specs.Process.{act, cells_for, need_by_status, need_of, need_of_running, started, todos}
 use Rattle.ppd_sem.specs.Runs.{AreOver, IsRunning}
 use Rattle.ppd_sem.proofs.Kept.{act-runs}
 use Rattle.ppd_sem.proofs.Running.{head_over}
 use Rattle.ppd_sem.proofs.Starts.{started_runs}
 use Rattle.ppd_sem.proofs.Validity.{valid-runnable}
+use Rattle.ppd_sem.specs.Described.{is_event}
 use Rattle.ppd_model.specs.FullTrace.{begun_tracing, event_of, trace_step}
-use Rattle.ppd_model.specs.Story.{is_event}
 
 -- ---- all states
 
@@ -37,7 +38,7 @@ started_at : (program : Program) (f budget : ℕ) (plan : Plan) (p : ℕ) (o : O
 started_at program f budget plan p None f_is v e =
     let at : slice_get program.bodies (program.functions + p) ≡ None = ap (slice_get program.bodies) (sym f_is) ∙ e in
     record {
-      todo = subst (λ (o : Option Body). AreOver program (length (cells_for o []) ∷ []) (todos (top_of o))) (sym at) tt;
+      todo = subst (λ (o : Option Body). AreOver program (length (cells_for o []) ∷ []) (todos (top_of_body o))) (sym at) tt;
       frames = subst (λ (o : Option Body). All (λ n. n < 2 ^ 16) (length (cells_for o []) ∷ [])) (sym at) small;
       below = omega arith;
       steps = omega arith;

@@ -14,13 +14,12 @@ use Rattle.ppd_ast.specs.declared.program.Target.{Target}
 use Rattle.ppd_ast.specs.declared.program.Target.TheVariants as T
 use Rattle.ppd_ast.specs.declared.program.Var.{Var}
 use Rattle.ppd_ast.proofs.ValidLaws.{some_and, valid_body, valid_stmt}
-use Rattle.ppd_cfg.specs.Flow.{kind_of, kind_of_stmt}
-use Rattle.ppd_cfg.specs.Lists.{has}
-use Rattle.ppd_cfg.proofs.Has.{any_from, below_range, filter_has, from_zero}
+use Rattle.ppd_ast.specs.Members.{has}
+use Rattle.ppd_ast.specs.Lookups.{kind_of_stmt, kind_of, body_of_stmt, body_of, locals_of_body, params_of_body, params_of, locals_of}
+use Rattle.ppd_ast.proofs.Members.{filter_has, any_from, from_zero, below_range}
 use Rattle.ppd_sets.specs.Named.{receiving, target_cells, writes}
 use Rattle.ppd_sets.specs.Used.{is_met, vars_met, writes_at}
 use Rattle.ppd_deps.specs.Edges.{ends_paths, is_cell, scalar_written}
-use Rattle.ppd_deps.specs.Named.{body_of, body_of_stmt, locals_of, locals_of_body, params_of, params_of_body}
 use Rattle.ppd_sound.specs.Sound.{IsCellOf}
 
 -- ---- a variable of which a cell is named

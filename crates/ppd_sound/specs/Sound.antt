@@ -6,14 +6,13 @@ use Rattle.ppd_ast.specs.declared.program.Program.{Program}
 use Rattle.ppd_ast.specs.declared.program.Var.{Var}
 use Rattle.ppd_ast.specs.Cells.{holds, size}
 use Rattle.ppd_ast.specs.Valid.{IsValid}
+use Rattle.ppd_ast.specs.Lookups.{kind_of, body_of, locals_of}
 use Rattle.ppd_deps.specs.declared.edges.StaticEdge.{StaticEdge}
 use Rattle.ppd_deps.specs.declared.edges.StaticEdge.TheVariants.{Data, ControlEntry, Control}
 use Rattle.ppd_deps.specs.Edges.{edges_of}
-use Rattle.ppd_deps.specs.Named.{body_of, locals_of}
 use Rattle.ppd_sem.specs.declared.event.Access.{Access}
 use Rattle.ppd_sem.specs.declared.event.Spot.{Spot}
 use Rattle.ppd_sem.specs.declared.event.Spot.TheVariants.{Local, Shared}
-use Rattle.ppd_sem.specs.Process.{kind_of}
 use Rattle.ppd_model.specs.declared.trace.EventId.{EventId}
 use Rattle.ppd_model.specs.declared.trace.Trace.{Trace}
 use Rattle.ppd_model.specs.declared.trace.TracedEvent.{TracedEvent}

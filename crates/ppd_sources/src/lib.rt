@@ -8,6 +8,10 @@ mod rule_tests;
 #[cfg(test)]
 mod table_tests;
 #[cfg(test)]
+mod token_tests;
+#[cfg(test)]
 mod told;
+#[cfg(test)]
+mod tree_tests;
 #[cfg(test)]
 mod valid_tests;

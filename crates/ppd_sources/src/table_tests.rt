@@ -1,5 +1,6 @@
 use crate::told::{bodies, exprs, stmts};
 use ppd_check::read_source;
+use ppd_examples::BOUNDED_BUFFER;
 use std::alloc::{AllocError, Global};
 use std::test::Fail;
 
@@ -174,50 +175,10 @@ process p {
     Ok(())
 }
 
-const BUFFER: &str = "shared int buf[4];
-shared int head, tail;
-sem empty = 4, full = 0, m = 1;
-
-void put(int v) {
-  P(empty);
-  P(m);
-  buf[tail % 4] = v;
-  tail = tail + 1;
-  V(m);
-  V(full);
-}
-
-int get() {
-  int v;
-  P(full);
-  P(m);
-  v = buf[head % 4];
-  head = head + 1;
-  V(m);
-  V(empty);
-  return v;
-}
-
-process producer {
-  for (int i = 0; i < 100; i++) {
-    int w = i;
-    if (i == 57) { w = 0; }
-    put(w);
-  }
-}
-
-process consumer {
-  for (int i = 0; i < 100; i++) {
-    int v = get();
-    assert(v == i);
-  }
-}
-";
-
 #[test]
 fn bounded_buffer_expressions(rt: HostRuntime) -> Result<(), Fail> {
     let alloc = rt.alloc();
-    let [exprs, _, _] = table(alloc, BUFFER)?;
+    let [exprs, _, _] = table(alloc, BOUNDED_BUFFER)?;
     assert_eq!(rt;
         exprs.as_str(),
         "Shared(5)\n\
@@ -266,7 +227,7 @@ fn bounded_buffer_expressions(rt: HostRuntime) -> Result<(), Fail> {
 #[test]
 fn bounded_buffer(rt: HostRuntime) -> Result<(), Fail> {
     let alloc = rt.alloc();
-    let [_, stmts, bodies] = table(alloc, BUFFER)?;
+    let [_, stmts, bodies] = table(alloc, BOUNDED_BUFFER)?;
     assert_eq!(rt;
         stmts.as_str(),
         "6:3 of 0 P 0\n\

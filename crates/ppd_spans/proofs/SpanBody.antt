@@ -6,13 +6,13 @@ use Rattle.ppd_ast.specs.declared.plan.Plan.{Plan}
 use Rattle.ppd_ast.specs.declared.program.Program.{Program}
 use Rattle.ppd_sem.specs.declared.proc.Need.{Need}
 use Rattle.ppd_sem.specs.declared.proc.Need.TheVariants.{Read, Write, Plain, Enter, Leave, Invoke, Back, P, V, Send, Offer, Done, Recv, End, Trap, Budget, Stopped}
+use Rattle.ppd_sem.specs.Described.{is_event}
 use Rattle.ppd_model.specs.declared.trace.TracedEvent.{TracedEvent}
 use Rattle.ppd_model.specs.declared.tracing.Story.{Story}
 use Rattle.ppd_model.specs.declared.tracing.Taken.{Taken}
 use Rattle.ppd_model.specs.declared.tracing.Tracing.{Tracing}
 use Rattle.ppd_model.specs.FullTrace.{trace_by, trace_step, traced_by, event_of}
 use Rattle.ppd_model.specs.Intervals.{Span, Split, innermost, own, with_own, with_part, with_step}
-use Rattle.ppd_model.specs.Story.{is_event}
 use Rattle.ppd_coming.specs.Coming.{Inner}
 use Rattle.ppd_spans.proofs.SpanSteps.{SpanAt, SpanPast, change_inner, change_own, change_past}
 

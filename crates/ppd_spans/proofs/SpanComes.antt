@@ -11,6 +11,7 @@ use Rattle.ppd_ast.specs.declared.status.Status.TheVariants as status
 use Rattle.ppd_entry.specs.Pieces.{Piece}
 use Rattle.ppd_sem.specs.declared.proc.Proc.{Proc}
 use Rattle.ppd_sem.specs.Process.{act}
+use Rattle.ppd_sem.specs.Described.{is_event}
 use Rattle.ppd_model.specs.declared.flow.Item.{Item}
 use Rattle.ppd_model.specs.declared.flow.Item.TheVariants as item
 use Rattle.ppd_model.specs.declared.trace.EventId.{EventId}
@@ -18,7 +19,7 @@ use Rattle.ppd_model.specs.declared.tracing.Story.{Story}
 use Rattle.ppd_model.specs.FullTrace.{Tag, event_of}
 use Rattle.ppd_model.specs.Intervals.{Part, Span, Split, begin_span, end_span, item_of, item_of_span, nested, split_step, with_part}
 use Rattle.ppd_model.specs.Marks.{Mark}
-use Rattle.ppd_model.specs.Story.{Moment, is_event, steps_of, unit_started}
+use Rattle.ppd_model.specs.Story.{Moment, steps_of, unit_started}
 use Rattle.ppd_coming.specs.Coming.{Coming, Inner, After, before, coming, event_items, inner_opens, leaves, own_ends, own_opens, since_after, step_pieces, unit_pieces}
 use Rattle.ppd_coming.specs.Openings.{opening, opening_by}
 use Rattle.ppd_coming.proofs.Indexes.{Falls, falls_on}

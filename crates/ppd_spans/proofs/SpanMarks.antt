@@ -4,7 +4,7 @@ use Rattle.std.proofs.lemmas.List.{length-append}
 use Rattle.std.specs.Prelude.{ℤ}
 use Rattle.ppd_ast.specs.declared.plan.Plan.{Plan}
 use Rattle.ppd_ast.specs.declared.program.Program.{Program}
-use Rattle.ppd_sem.specs.Described.{frame_of}
+use Rattle.ppd_sem.specs.Described.{frame_of, is_event}
 use Rattle.ppd_sem.specs.declared.proc.Need.{Need}
 use Rattle.ppd_model.specs.declared.trace.EventId.{EventId}
 use Rattle.ppd_model.specs.declared.tracing.Story.{Story}
@@ -12,7 +12,6 @@ use Rattle.ppd_model.specs.declared.tracing.Taken.{Taken}
 use Rattle.ppd_model.specs.FullTrace.{Tag, me_in, top_tags}
 use Rattle.ppd_model.specs.Intervals.{Span, Split, begin_if, begin_span, change_first, control_by, end_if, end_span, left_by, nested, new_span, own, split_step, with_marks, with_part}
 use Rattle.ppd_model.specs.Marks.{Mark, opened, closed}
-use Rattle.ppd_model.specs.Story.{is_event}
 use Rattle.ppd_model.proofs.Changes.{length-change}
 use Rattle.ppd_coming.specs.Coming.{Inner}
 use Rattle.ppd_coming.proofs.Indexes.{Falls}

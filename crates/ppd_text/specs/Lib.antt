@@ -1,3 +1,2 @@
--- What texts are made of, and numbers in them.
-pub mod Numbers
+-- What texts are made of.
 pub mod Texts

@@ -1,7 +1,7 @@
 // Numbers in words.
 ghost use Rattle.std.specs.Prelude.{◌≡◌, ◌≤◌, length};
 ghost use Rattle.std.specs.List.{list_all};
-ghost use Rattle.ppd_text.specs.Numbers.{number_in as number_of, value_from, is_digit};
+ghost use Rattle.ppd_ast.specs.Digits.{number_in as number_of, value_from, is_digit};
 
 /// The value of digits, at most 9.
 fn value_of(digits: &[u8]) -> u64

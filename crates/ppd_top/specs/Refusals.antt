@@ -1,5 +1,14 @@
 -- Why a source is refused, and the line that says so.
-use Rattle.std.specs.Prelude.{◌++◌, ℕ, List, [], codes}
+use Rattle.std.specs.Prelude.{◌++◌, ℕ, List, [], codes, decimal}
+use Rattle.ppd_ast.specs.declared.limits.TheConstants.{
+  MOST_CHANNELS,
+  MOST_FUNCTIONS,
+  MOST_LOCAL_CELLS,
+  MOST_PROCESSES,
+  MOST_SEMAPHORES,
+  MOST_SHARED_CELLS,
+  MOST_STATEMENTS,
+}
 use Rattle.ppd_ast.specs.declared.program.Place.{Place}
 use Rattle.ppd_lex.specs.declared.token.LexError.{LexError}
 use Rattle.ppd_lex.specs.declared.token.LexError.TheVariants as lex
@@ -9,8 +18,8 @@ use Rattle.ppd_check.specs.declared.error.CheckError.{CheckError}
 use Rattle.ppd_check.specs.declared.error.CheckError.TheVariants as check
 use Rattle.ppd_check.specs.declared.error.SourceError.{SourceError}
 use Rattle.ppd_check.specs.declared.error.SourceError.TheVariants as source
-use Rattle.ppd_check.specs.declared.fault.Limit.{Limit}
-use Rattle.ppd_check.specs.declared.fault.Limit.TheVariants as limit
+use Rattle.ppd_resolve.specs.declared.fault.Limit.{Limit}
+use Rattle.ppd_resolve.specs.declared.fault.Limit.TheVariants as limit
 use Rattle.ppd_text.specs.Texts.{place_text}
 
 -- a refusal of this stage, number and name at a place
@@ -31,15 +40,28 @@ refused_syntax (syntax.Deep p) = refusal (codes "refused syntax 2 Deep ") p
 refused_syntax (syntax.Wide p) = refusal (codes "refused syntax 3 Wide ") p
 refused_syntax syntax.Memory = []
 
+abbrev pub limit_word : Limit → List ℕ
+limit_word limit.Statements = codes "statements "
+limit_word limit.Functions = codes "functions "
+limit_word limit.Processes = codes "processes "
+limit_word limit.Semaphores = codes "semaphores "
+limit_word limit.Channels = codes "channels "
+limit_word limit.Shared = codes "shared "
+limit_word limit.Locals = codes "locals "
+
+-- how many there may be at most
+abbrev pub limit_number : Limit → ℕ
+limit_number limit.Statements = MOST_STATEMENTS
+limit_number limit.Functions = MOST_FUNCTIONS
+limit_number limit.Processes = MOST_PROCESSES
+limit_number limit.Semaphores = MOST_SEMAPHORES
+limit_number limit.Channels = MOST_CHANNELS
+limit_number limit.Shared = MOST_SHARED_CELLS
+limit_number limit.Locals = MOST_LOCAL_CELLS
+
 -- a limit's word and number
 abbrev pub limit_text : Limit → List ℕ
-limit_text limit.Statements = codes "statements 4096"
-limit_text limit.Functions = codes "functions 256"
-limit_text limit.Processes = codes "processes 16"
-limit_text limit.Semaphores = codes "semaphores 64"
-limit_text limit.Channels = codes "channels 64"
-limit_text limit.Shared = codes "shared 1024"
-limit_text limit.Locals = codes "locals 256"
+limit_text l = limit_word l ++ decimal (limit_number l)
 
 abbrev pub refused_check : CheckError → List ℕ
 refused_check (check.Twice p) = refusal (codes "refused check 1 Twice ") p

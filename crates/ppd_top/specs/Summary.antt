@@ -3,11 +3,11 @@ use Rattle.std.specs.Prelude.{ℕ, ◌+◌, ℤ, List, [], ◌∷◌, ◌++◌, 
 use Rattle.std.specs.Fmt.{signed_decimal}
 use Rattle.ppd_ast.specs.declared.program.Place.{Place}
 use Rattle.ppd_ast.specs.declared.program.Stmt.{Stmt}
-use Rattle.ppd_ast.specs.declared.program.Body.{Body}
 use Rattle.ppd_ast.specs.declared.program.Program.{Program}
 use Rattle.ppd_ast.specs.declared.plan.Plan.{Plan}
 use Rattle.ppd_ast.specs.declared.status.Status.{Status}
 use Rattle.ppd_ast.specs.declared.status.Status.TheVariants as status
+use Rattle.ppd_ast.specs.Lookups.{name_of_body}
 use Rattle.ppd_model.specs.declared.closed.ProcEnd.{ProcEnd}
 use Rattle.ppd_text.specs.Texts.{place_text}
 use Rattle.ppd_model.specs.declared.graph.Race.{Race}
@@ -39,14 +39,10 @@ end_text program name e =
     codes "process " ++ name ++ codes " " ++ status_text e.status (place_at (slice_get program.stmts e.stmt))
     ++ codes " steps " ++ decimal e.steps ++ codes "\n" ++ print_texts name e.prints
 
-abbrev pub name_of : Option Body → List ℕ
-name_of None = []
-name_of (Some b) = b.name
-
 -- the processes in order; the first one's body has number b
 abbrev pub end_texts : Program → ℕ → List ProcEnd → List ℕ
 end_texts program b [] = []
-end_texts program b (e ∷ es) = end_text program (name_of (slice_get program.bodies b)) e ++ end_texts program (b + 1) es
+end_texts program b (e ∷ es) = end_text program (name_of_body (slice_get program.bodies b)) e ++ end_texts program (b + 1) es
 
 -- how the processes ended, then the race list
 abbrev pub summary_of : Program → List ProcEnd → List Race → List ℕ

@@ -2,9 +2,9 @@
 -- number.
 use Rattle.std.specs.Prelude.{◌≡◌, ℕ, ◌≤◌, ◌&&◌, nat_le, List, [], ◌∷◌, Option, Some, None, if◌then◌else◌, codes, option_map, ⊤}
 use Rattle.std.specs.Borrow.{Bor}
-use Rattle.ppd_text.specs.Numbers.{number_in as number_of_word}
 use Rattle.ppd_ast.specs.ValidPlan.{IsValidPolicy}
 use Rattle.ppd_ast.specs.declared.limits.TheConstants.{DEFAULT_BUDGET, MOST_BUDGET, MOST_DRILL, MOST_POLICY}
+use Rattle.ppd_ast.specs.Digits.{number_in as number_of_word}
 use Rattle.ppd_words.specs.declared.commands.Command.{Command as Word}
 use Rattle.ppd_words.specs.declared.commands.Command.TheVariants as word
 use Rattle.ppd_words.specs.Words.{Text, Uses, value_of}

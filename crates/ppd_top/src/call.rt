@@ -43,17 +43,21 @@ const MOST_RECORDING: usize = MOST_RECORDING_BYTES + 1;
 
 /// Does all that the program does. The words are those after the program's name: a command, its options in any order,
 /// each at most once, and its names. The options of `flow` and `run` are `--budget N`, `--leaf N` and `--loops N`, each
-/// also as `--budget=N`; `show` has the last two, and `debug` none.
+/// also as `--budget=N`; `show` has the last two, and `debug` and `drill` none. The name of `drill` is a number of
+/// at most 999,999.
 ///
-/// In `flow` and `run` each process has a thread, which passes the gate before each of its turns. The schedule is the
-/// one that the threads took. Then `run` stores the recording of the run and writes the summary; `flow` writes the
+/// In `flow`, `run` and `drill` each process has a thread, which passes the gate before it copies its process, before
+/// it commits the steps that it took on the copy, and before the turn that follows a commit in vain. The schedule is
+/// the one that the threads took. Then `run` stores the recording of the run and writes the summary; `flow` writes the
 /// summary, and then answers the lines of the input, each before the next is read, through the first `quit` or else to
 /// the end. `debug` tests the bytes of a recording, then its logs, then their synchronization, and answers the lines.
+/// `drill` does what `flow` does, on the source that its number makes, with a budget of 500,000 and the one line
+/// `final` in place of the input.
 ///
 /// - 0: in `flow` the source's program ran to its end, and its summary and all answers were written; in `run` its
-///   recording was stored and its summary written; in `show` the tables of the source's program were written; in `debug`
-///   all answers.
-/// - 1: the source has no program, and the line that says why was written.
+///   recording was stored and its summary written; in `show` the tables of the source's program were written; in
+///   `debug` all answers; in `drill` the summary and the last values.
+/// - 1: the source, in `drill` that of the number, has no program, and the line that says why was written.
 /// - 2: the words are others, and the usage line was written.
 /// - 3: the shelf failed to load the source or the recording, and nothing was written; or in `flow` and `debug` a read of
 ///   the input failed, and in `flow` the summary, in both the answers to the whole lines before were written.
@@ -65,8 +69,8 @@ const MOST_RECORDING: usize = MOST_RECORDING_BYTES + 1;
 /// - 7: in `flow` or `debug` a line has more than 4,096 bytes, and `long line` was written in place of its answer.
 /// - 8: in `flow` or `debug` there is a line number 65,537 and no `quit` before it, and `many lines` was written.
 ///
-/// In `run` and `show` the input is not read; in `show` and `debug` the gate is not called. But for a store of `run` the
-/// shelf holds what it held.
+/// In `run`, `show` and `drill` the input is not read; in `show` and `debug` the gate is not called. But for a store of
+/// `run` the shelf holds what it held.
 pub fn ppd<F: Shelf, I: Source, O: Sink, G: Gate, R: Threads + Wait + Sync>(
     rt: &R,
     alloc: Global,

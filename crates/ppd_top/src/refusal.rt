@@ -2,13 +2,18 @@
 ghost use Rattle.std.specs.Prelude.{◌≡◌, ◌≢◌, ◌++◌, codes, OnOk, IfOk};
 ghost use Rattle.ppd_check.specs.declared.error.SourceError.TheVariants as source;
 ghost use Rattle.ppd_text.specs.Texts.{place_text};
-ghost use Rattle.ppd_top.specs.Refusals.{refusal as refusal_of, limit_text, refused_lex, refused_syntax, refused_check, refused};
+ghost use Rattle.ppd_top.specs.Refusals.{refusal as refusal_of, limit_number, limit_text, limit_word, refused_lex, refused_syntax, refused_check, refused};
 
+use ppd_ast::limits::{
+    MOST_CHANNELS, MOST_FUNCTIONS, MOST_LOCAL_CELLS, MOST_PROCESSES, MOST_SEMAPHORES,
+    MOST_SHARED_CELLS, MOST_STATEMENTS,
+};
 use ppd_ast::{Memory, Place};
-use ppd_check::{CheckError, Limit, SourceError};
+use ppd_check::{CheckError, SourceError};
 use ppd_lex::LexError;
 use ppd_parse::SyntaxError;
-use ppd_text::{put, put_place};
+use ppd_resolve::Limit;
+use ppd_text::{put, put_count, put_place};
 use std::alloc::Global;
 
 /// A refusal of this stage, number and name at a place.
@@ -46,19 +51,41 @@ fn syntax_line(alloc: Global, error: SyntaxError) -> Result<Vec<u8>, Memory>
     }
 }
 
+/// How many there may be at most.
+fn number_of(limit: Limit) -> usize
+    ensures { result ≡ limit_number limit }
+{
+    match limit {
+        Limit::Statements => MOST_STATEMENTS,
+        Limit::Functions => MOST_FUNCTIONS,
+        Limit::Processes => MOST_PROCESSES,
+        Limit::Semaphores => MOST_SEMAPHORES,
+        Limit::Channels => MOST_CHANNELS,
+        Limit::Shared => MOST_SHARED_CELLS,
+        Limit::Locals => MOST_LOCAL_CELLS,
+    }
+}
+
+fn put_word(line: &mut Vec<u8>, limit: Limit) -> Result<(), Memory>
+    ensures { OnOk result (line.new.items ≡ line.old.items ++ limit_word limit) }
+{
+    match limit {
+        Limit::Statements => put(line, b"statements "),
+        Limit::Functions => put(line, b"functions "),
+        Limit::Processes => put(line, b"processes "),
+        Limit::Semaphores => put(line, b"semaphores "),
+        Limit::Channels => put(line, b"channels "),
+        Limit::Shared => put(line, b"shared "),
+        Limit::Locals => put(line, b"locals "),
+    }
+}
+
 /// Appends a limit's word and number.
 fn put_limit(line: &mut Vec<u8>, limit: Limit) -> Result<(), Memory>
     ensures { OnOk result (line.new.items ≡ line.old.items ++ limit_text limit) }
 {
-    match limit {
-        Limit::Statements => put(line, b"statements 4096"),
-        Limit::Functions => put(line, b"functions 256"),
-        Limit::Processes => put(line, b"processes 16"),
-        Limit::Semaphores => put(line, b"semaphores 64"),
-        Limit::Channels => put(line, b"channels 64"),
-        Limit::Shared => put(line, b"shared 1024"),
-        Limit::Locals => put(line, b"locals 256"),
-    }
+    put_word(line, limit)?;
+    put_count(line, number_of(limit))
 }
 
 fn too_many_line(alloc: Global, place: Place, limit: Limit) -> Result<Vec<u8>, Memory>

@@ -14,7 +14,7 @@ use std::alloc::Global;
 use std::sync::Wait;
 use std::thread::Threads;
 
-/// What a run takes of the system, and the gate that is passed before each turn of a thread.
+/// What a run takes of the system, and the gate that its threads pass.
 #[derive(Clone, Copy)]
 pub(crate) struct Means<'a, R, G> {
     pub(crate) rt: &'a R,

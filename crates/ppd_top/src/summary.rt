@@ -1,6 +1,7 @@
 // What is written of a run.
 ghost use Rattle.std.specs.Prelude.{◌≡◌, ◌++◌, ◌+◌, ◌<◌, ◌≤◌, ◌^◌, length, OnOk, IfOk, slice_get};
-ghost use Rattle.ppd_top.specs.Summary.{place_at as place_for, name_of, end_text, end_texts, summary_of};
+ghost use Rattle.ppd_ast.specs.Lookups.{name_of_body};
+ghost use Rattle.ppd_top.specs.Summary.{place_at as place_for, end_text, end_texts, summary_of};
 
 use crate::text::{put_prints, put_status};
 use ppd_ast::{Memory, Place, Program};
@@ -20,7 +21,7 @@ fn place_at(program: &Program, stmt: u32) -> Place
 
 /// The name of a body.
 fn name_at(program: &Program, body: usize) -> &[u8]
-    ensures { result.now ≡ name_of (slice_get program.now.bodies body) }
+    ensures { result.now ≡ name_of_body (slice_get program.now.bodies body) }
 {
     match program.bodies.as_slice().get(body) {
         Some(body) => body.name.as_slice(),

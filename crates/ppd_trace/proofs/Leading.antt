@@ -10,13 +10,12 @@ use Rattle.ppd_ast.specs.declared.status.SyncKind.TheVariants.{P, V, Send, Recv,
 use Rattle.ppd_sem.specs.declared.proc.Need.{Need}
 use Rattle.ppd_sem.specs.declared.proc.Need.TheVariants.{Read, Enter, Budget, Stopped}
 use Rattle.ppd_sem.specs.declared.proc.Need.TheVariants as need
-use Rattle.ppd_sem.specs.Described.{is_event as is_event_of}
+use Rattle.ppd_sem.specs.Described.{is_event as is_event_of, is_event}
 use Rattle.ppd_model.specs.declared.trace.EventId.{EventId}
 use Rattle.ppd_model.specs.declared.tracing.Story.{Story}
 use Rattle.ppd_model.specs.declared.tracing.Taken.{Taken}
 use Rattle.ppd_model.specs.FullTrace.{or_else}
 use Rattle.ppd_model.specs.Numbers.{sync}
-use Rattle.ppd_model.specs.Story.{is_event}
 use Rattle.ppd_sem.specs.Tables.{capacity_of}
 use Rattle.ppd_model.specs.Synchronizations.{Sync, event_or, is_number, kind_of_sync, leading_from, leading_in, leads_at, led_to, numbered, paired_of, sync_of}
 use Rattle.ppd_world.proofs.Lists.{get_or_any}

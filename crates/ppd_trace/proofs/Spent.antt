@@ -14,6 +14,7 @@ use Rattle.ppd_ast.specs.declared.program.Target.TheVariants as target
 use Rattle.ppd_ast.specs.declared.status.Trap.TheVariants as trap
 use Rattle.ppd_ast.specs.Term.{Term, const, local, local_at, shared, shared_at, neg, not, two, and, or, term}
 use Rattle.ppd_ast.specs.Uses.{kind_uses}
+use Rattle.ppd_ast.specs.Lookups.{kind_of_stmt, kind_of}
 use Rattle.ppd_sem.specs.declared.asking.Pause.TheVariants.{Traps}
 use Rattle.ppd_sem.specs.declared.proc.Need.{Need}
 use Rattle.ppd_sem.specs.declared.proc.Need.TheVariants.{Write}
@@ -23,12 +24,13 @@ use Rattle.ppd_sem.specs.Ask.{ask, element, is_zero}
 use Rattle.ppd_sem.specs.Asked.{Asked, and_then, gives, lift, once, outcome}
 use Rattle.ppd_sem.specs.Deed.{Deed, ask_all, ask_deed, clear, invoke, leave, pass, turn}
 use Rattle.ppd_sem.specs.Passed.{arguments_at, arguments_by, arguments_of_head, deed_at, deed_by, deed_of_head, kind_if}
-use Rattle.ppd_sem.specs.Process.{head_deed, kind_of, kind_or_end, need_of, top_cells}
+use Rattle.ppd_sem.specs.Process.{head_deed, need_of, top_cells}
 use Rattle.ppd_sem.specs.Described.{evaluates}
 use Rattle.ppd_sem.specs.declared.event.Access.{Access}
 use Rattle.ppd_sem.specs.Reads.{ask_place, local_read, reads_of, reads_of_all, reads_of_kind, reads_of_stored, shared_read}
+use Rattle.ppd_sem.specs.Runs.{size_if}
 use Rattle.ppd_model.specs.declared.tracing.Taken.{Taken}
-use Rattle.ppd_model.specs.FullTrace.{Tag, event_of, size_if}
+use Rattle.ppd_model.specs.FullTrace.{Tag, event_of}
 use Rattle.ppd_model.specs.Schedule.{started_world}
 use Rattle.ppd_model.specs.Story.{Moment, Telling, begun, moment_of, steps_of, story, tell, told}
 use Rattle.ppd_model.specs.World.{World, change, effect, need}
@@ -215,10 +217,10 @@ few_of_event program plan s x [] = zero_le 0
 few_of_event program plan s x (t ∷ ts) =
     few_evaluated (evaluates (need_of program plan s)) _ _ (few_of_kind _ (top_cells s.frames) program.exprs (kind_of program t.stmt) s.answers)
 
-most_at : (program : Program) (ss : List Stmt) (i : ℕ) → cells_in program (kind_or_end (slice_get ss i)) ≤ most (map (λ s. cells_in program s.kind) ss)
+most_at : (program : Program) (ss : List Stmt) (i : ℕ) → cells_in program (kind_of_stmt (slice_get ss i)) ≤ most (map (λ s. cells_in program s.kind) ss)
 most_at program [] i = zero_le 0
 most_at program (s ∷ ss) zero = omega arith
-most_at program (s ∷ ss) (suc i) = let rest : cells_in program (kind_or_end (slice_get ss i)) ≤ most (map (λ s. cells_in program s.kind) ss) = most_at program ss i in omega arith
+most_at program (s ∷ ss) (suc i) = let rest : cells_in program (kind_of_stmt (slice_get ss i)) ≤ most (map (λ s. cells_in program s.kind) ss) = most_at program ss i in omega arith
 
 most_at_head : (program : Program) (todo : List Todo) → cells_in program (kind_if program (slice_get todo 0)) ≤ most_cells program
 most_at_head program [] = zero_le (most_cells program)

@@ -11,9 +11,10 @@ use Rattle.ppd_ast.specs.Uses.{kind_uses}
 use Rattle.ppd_sem.specs.declared.proc.Proc.{Proc}
 use Rattle.ppd_sem.specs.Deed.{Deed, clear, invoke}
 use Rattle.ppd_sem.specs.Passed.{arguments_at, deed_at}
+use Rattle.ppd_sem.specs.Runs.{size_if}
 use Rattle.ppd_model.specs.declared.tracing.Story.{Story}
 use Rattle.ppd_model.specs.declared.tracing.Taken.{Taken}
-use Rattle.ppd_model.specs.FullTrace.{event_of, size_if}
+use Rattle.ppd_model.specs.FullTrace.{event_of}
 
 -- ---- of a program
 

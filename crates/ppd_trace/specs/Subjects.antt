@@ -3,9 +3,8 @@ use Rattle.std.specs.Prelude.{◌≡◌, ℕ, ◌+◌, ◌<◌, ◌^◌, length,
 use Rattle.ppd_ast.specs.declared.program.Program.{Program}
 use Rattle.ppd_sem.specs.declared.proc.Proc.{Proc}
 use Rattle.ppd_sem.specs.Process.{need_of, started}
-use Rattle.ppd_sem.specs.Runs.{IsNumbered, IsRunnable, IsRunning}
+use Rattle.ppd_sem.specs.Runs.{IsNumbered, IsRunnable, IsRunning, size_if}
 use Rattle.ppd_model.specs.declared.tracing.Taken.{Taken}
-use Rattle.ppd_model.specs.FullTrace.{size_if}
 use Rattle.ppd_trace.specs.declared.pairs.PairedStory.{PairedStory}
 use Rattle.ppd_trace.specs.declared.subject.Subject.{Subject}
 use Rattle.ppd_trace.specs.declared.tracer.Tracer.{Tracer}

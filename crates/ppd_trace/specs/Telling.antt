@@ -4,13 +4,14 @@ use Rattle.ppd_ast.specs.declared.plan.Plan.{Plan}
 use Rattle.ppd_ast.specs.declared.program.Program.{Program}
 use Rattle.ppd_sem.specs.declared.proc.Need.{Need}
 use Rattle.ppd_sem.specs.declared.proc.Need.TheVariants.{Read, Write}
+use Rattle.ppd_sem.specs.Described.{is_event}
 use Rattle.ppd_model.specs.declared.tracing.Taken.{Taken}
 use Rattle.ppd_model.specs.declared.trace.EventId.{EventId}
 use Rattle.ppd_model.specs.FullTrace.{Tag}
 use Rattle.ppd_model.specs.Laws.{logged_moment}
 use Rattle.ppd_model.specs.Logs.{loggings}
 use Rattle.ppd_model.specs.Schedule.{run}
-use Rattle.ppd_model.specs.Story.{count_events, is_event, steps_of, told}
+use Rattle.ppd_model.specs.Story.{count_events, steps_of, told}
 use Rattle.ppd_model.specs.World.{change}
 use Rattle.ppd_world.specs.Running.{Running, stepped}
 

@@ -1,8 +1,8 @@
 ghost use Rattle.std.specs.Prelude.{◌≡◌, ◌+◌, ◌*◌, ◌≤◌, ◌++◌, drop, length, replicate, slice_get, Some, IfOk, OnOk};
-ghost use Rattle.ppd_model.specs.FullTrace.{into_at, size_if};
+ghost use Rattle.ppd_model.specs.FullTrace.{into_at};
 ghost use Rattle.ppd_sem.specs.Passed.{arguments_at, deed_at};
 ghost use Rattle.ppd_sem.specs.Process.{top_call};
-ghost use Rattle.ppd_sem.specs.Runs.{IsRunnable, IsRunning};
+ghost use Rattle.ppd_sem.specs.Runs.{IsRunnable, IsRunning, size_if};
 ghost use Rattle.ppd_trace.specs.Runs.{all_tagged, begun_body, begun_call, called as called_of, tagged, tagged_after, tagged_deed, tagged_into};
 ghost use Rattle.ppd_trace.specs.Spending.{written_by};
 

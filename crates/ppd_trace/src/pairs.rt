@@ -2,9 +2,9 @@ ghost use Rattle.std.specs.Prelude.{◌≡◌, ℕ, ◌+◌, ◌*◌, ◌<◌, �
 ghost use Rattle.std.specs.List.{All};
 ghost use Rattle.ppd_model.specs.FullTrace.{or_else};
 ghost use Rattle.ppd_model.specs.Numbers.{sync};
-ghost use Rattle.ppd_model.specs.Story.{is_event};
 ghost use Rattle.ppd_model.specs.Synchronizations.{event_or, kind_of_sync as kind_of, leading_in, led_to as number_led_to, paired_of, sync_of};
 ghost use Rattle.ppd_sem.specs.Tables.{capacity_of as capacity_in_program};
+ghost use Rattle.ppd_sem.specs.Described.{is_event};
 ghost use Rattle.ppd_trace.specs.Leading.{HavePairs, KeepsFirst, LeadTo, found_in, looked_up, target};
 ghost use Rattle.ppd_trace.specs.Spending.{steps_in};
 

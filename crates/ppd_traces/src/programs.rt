@@ -59,7 +59,7 @@ fn body(
     })
 }
 
-/// The program of these tables, with one shared scalar or none and one semaphore or none.
+/// The program of these tables, whose shared variables are scalars that start at 0, without semaphores and channels.
 fn program(
     alloc: Global,
     exprs: &[Expr],
@@ -67,18 +67,10 @@ fn program(
     functions: u16,
     bodies: Vec<Body>,
     shared: &[&str],
-    sem: Option<&str>,
 ) -> Result<Program, AllocError> {
     let mut starts = Vec::new(alloc);
     for _name in shared {
         starts.push(0i64)?;
-    }
-    let mut sems = Vec::new(alloc);
-    if let Some(text) = sem {
-        sems.push(Sem {
-            name: name(alloc, text)?,
-            start: 1,
-        })?;
     }
     Ok(Program {
         exprs: Seq::from_vec(Vec::from_slice(alloc, exprs)?),
@@ -87,7 +79,7 @@ fn program(
         functions,
         shared: scalars(alloc, shared)?,
         starts: Nums::from_vec(starts),
-        sems: Seq::from_vec(sems),
+        sems: Seq::new(alloc),
         chans: Seq::new(alloc),
     })
 }
@@ -112,7 +104,7 @@ pub fn callee_write(alloc: Global) -> Result<Program, AllocError> {
     bodies.push(body(alloc, "f", (false, false, 0), &[], &[0, 1], (0, 2))?)?;
     bodies.push(body(alloc, "a", (true, false, 0), &[], &[2, 3, 4, 5], (2, 6))?)?;
     let exprs = [Expr::Const(4), Expr::Const(1), Expr::Shared(0)];
-    program(alloc, &exprs, stmts, 1, bodies, &["x"], None)
+    program(alloc, &exprs, stmts, 1, bodies, &["x"])
 }
 
 /// ```text
@@ -137,7 +129,7 @@ pub fn loop_from(alloc: Global, start: i64) -> Result<Program, AllocError> {
         Expr::Two(Op::Add, 4, 5),
         Expr::Local(0),
     ];
-    program(alloc, &exprs, stmts, 0, bodies, &[], None)
+    program(alloc, &exprs, stmts, 0, bodies, &[])
 }
 
 /// ```text
@@ -188,7 +180,7 @@ pub fn recursion(alloc: Global, depth: i64) -> Result<Program, AllocError> {
         Expr::Const(depth),
         Expr::Local(0),
     ];
-    program(alloc, &exprs, stmts, 1, bodies, &[], None)
+    program(alloc, &exprs, stmts, 1, bodies, &[])
 }
 
 /// ```text
@@ -217,5 +209,12 @@ pub fn locked(alloc: Global) -> Result<Program, AllocError> {
         Expr::Const(1),
         Expr::Two(Op::Add, 3, 4),
     ];
-    program(alloc, &exprs, stmts, 0, bodies, &["x"], Some("m"))
+    let mut sems = Vec::new(alloc);
+    sems.push(Sem {
+        name: name(alloc, "m")?,
+        start: 1,
+    })?;
+    let mut made = program(alloc, &exprs, stmts, 0, bodies, &["x"])?;
+    made.sems = Seq::from_vec(sems);
+    Ok(made)
 }

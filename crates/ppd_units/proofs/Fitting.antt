@@ -10,9 +10,11 @@ use Rattle.ppd_ast.specs.declared.program.Program.{Program}
 use Rattle.ppd_ast.specs.Order.{inner}
 use Rattle.ppd_ast.specs.Valid.{IsValid}
 use Rattle.ppd_ast.proofs.ValidLaws.{inner_below, top_below, slice_get_below}
-use Rattle.ppd_cfg.specs.Lists.{has, to_list, first_or, rising, rising_pair, AreBelow}
-use Rattle.ppd_cfg.specs.Flow.{kind_of, kind_of_stmt, top_of, top_of_body, next_in, follow_within, follow_under, follow_of, follow_at, follow, successors, next_of}
-use Rattle.ppd_cfg.proofs.Has.{has_first, has_later, has_cons, has_left, has_right, all_has}
+use Rattle.ppd_ast.specs.Members.{has, AreBelow}
+use Rattle.ppd_ast.specs.Lookups.{kind_of_stmt, kind_of, top_of_body, top_of}
+use Rattle.ppd_ast.proofs.Members.{has_first, has_later, has_cons, has_left, has_right, all_has}
+use Rattle.ppd_cfg.specs.Lists.{to_list, first_or, rising, rising_pair}
+use Rattle.ppd_cfg.specs.Flow.{next_in, follow_within, follow_under, follow_of, follow_at, follow, successors, next_of}
 
 -- the number, if there is one, is below n
 abbrev pub Fits : ℕ → Option ℕ → Type 0

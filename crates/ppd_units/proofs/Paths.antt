@@ -9,11 +9,12 @@ use Rattle.ppd_ast.specs.declared.program.Program.{Program}
 use Rattle.ppd_ast.specs.declared.plan.Start.{Start}
 use Rattle.ppd_ast.specs.Valid.{IsValid}
 use Rattle.ppd_ast.specs.ValidPlan.{AreCells}
-use Rattle.ppd_cfg.specs.Lists.{has, those, to_list}
-use Rattle.ppd_cfg.specs.Reach.{Reached, start, next, closed, leads}
+use Rattle.ppd_ast.specs.Members.{has, those}
+use Rattle.ppd_ast.proofs.Members.{has_first, has_later, has_cons, has_filter, filter_has, from_zero, flat_gives, flat_from}
+use Rattle.ppd_cfg.specs.Lists.{to_list}
+use Rattle.ppd_cfg.specs.Reach.{Reached, start, next, closure, leads}
 use Rattle.ppd_cfg.specs.Flow.{next_of}
-use Rattle.ppd_cfg.proofs.Has.{has_cons, has_first, has_later, has_filter, filter_has, from_zero, flat_gives, flat_from, row_there}
-use Rattle.ppd_cfg.proofs.Leading.{leads-tests}
+use Rattle.ppd_cfg.proofs.Leading.{leads-tests, row_there}
 use Rattle.ppd_sets.specs.Used.{reads_at, sorted}
 use Rattle.ppd_units.specs.Walk.{is_between, unit_rows, begin_of, unit_cells}
 use Rattle.ppd_units.specs.Laws.{IsUnitPath, MayRead, CellsByPaths, CellsAreShared}
@@ -89,7 +90,7 @@ cells_by_paths p loops s c v =
     let n : ℕ = length p.stmts in
     let rows : List (List ℕ) = unit_rows p loops in
     let starts : List ℕ = to_list (begin_of p loops s) in
-    let test : ℕ → Bool = leads (closed rows) starts in
+    let test : ℕ → Bool = leads (closure rows) starts in
     let cells : List ℕ = flat_map (reads_at true p) (those n test) in (
       (λ h.
           let t = flat_gives (reads_at true p) (those n test) c (sorted_gives cells c h) in
@@ -108,7 +109,7 @@ pub cells_are_shared : CellsAreShared
 cells_are_shared p loops s v =
     let rows : List (List ℕ) = unit_rows p loops in
     let starts : List ℕ = to_list (begin_of p loops s) in
-    let stmts : List ℕ = those (length p.stmts) (leads (closed rows) starts) in
+    let stmts : List ℕ = those (length p.stmts) (leads (closure rows) starts) in
     let cells : List ℕ = flat_map (reads_at true p) stmts in
     record {
       rising = sorted_rises cells;

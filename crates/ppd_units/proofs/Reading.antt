@@ -10,10 +10,10 @@ use Rattle.ppd_ast.specs.Uses.{kind_uses}
 use Rattle.ppd_ast.specs.Valid.{IsValid}
 use Rattle.ppd_ast.proofs.ValidLaws.{AreBelow, stmt_in_body, uses_below}
 use Rattle.ppd_ast.proofs.Walks.{got_none}
-use Rattle.ppd_cfg.specs.Lists.{has, those}
-use Rattle.ppd_cfg.specs.Reach.{closed, leads}
-use Rattle.ppd_cfg.specs.Flow.{kind_of_stmt}
-use Rattle.ppd_cfg.proofs.Has.{all_has, below_range, flat_gives, has_cases}
+use Rattle.ppd_ast.specs.Members.{has, those}
+use Rattle.ppd_ast.specs.Lookups.{kind_of_stmt}
+use Rattle.ppd_ast.proofs.Members.{has_cases, below_range, flat_gives, all_has}
+use Rattle.ppd_cfg.specs.Reach.{closure, leads}
 use Rattle.ppd_sets.specs.Gained.{Gains, HasCells}
 use Rattle.ppd_sets.specs.Named.{shared_cells, cells_in, reads}
 use Rattle.ppd_sets.specs.Used.{reads_at, sorted}
@@ -35,11 +35,11 @@ read_is_stmt p s c h = elim (cases_lt s (length p.stmts)) [
 ]
 
 -- the cells of the statements that the rows lead to
-pub along_is : (p : Program) (rows : List (List ℕ)) (starts stmts set cells : List ℕ) → length rows ≡ length p.stmts → stmts ≡ those (length rows) (leads (closed rows) starts) →
+pub along_is : (p : Program) (rows : List (List ℕ)) (starts stmts set cells : List ℕ) → length rows ≡ length p.stmts → stmts ≡ those (length rows) (leads (closure rows) starts) →
     HasCells set (flat_map (reads_at true p) stmts) → cells ≡ those 1024 (has set) → cells ≡ cells_along p rows starts
 along_is p rows starts stmts set cells long found has_them is =
     sorted_is set (flat_map (reads_at true p) stmts) cells is has_them
-    ∙ ap (λ ss. sorted (flat_map (reads_at true p) ss)) (found ∙ ap (λ n. those n (leads (closed rows) starts)) long)
+    ∙ ap (λ ss. sorted (flat_map (reads_at true p) ss)) (found ∙ ap (λ n. those n (leads (closure rows) starts)) long)
 
 -- ---- they are below the count of shared cells
 

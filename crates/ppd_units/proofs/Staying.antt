@@ -10,12 +10,14 @@ use Rattle.ppd_ast.specs.declared.program.Program.{Program}
 use Rattle.ppd_ast.specs.declared.plan.Start.{Start}
 use Rattle.ppd_ast.specs.declared.plan.Start.TheVariants.{Entry, After, Enter, Exit}
 use Rattle.ppd_ast.specs.Valid.{IsValid}
-use Rattle.ppd_cfg.specs.Lists.{has, row, to_list, AreBelow}
+use Rattle.ppd_ast.specs.Members.{has, AreBelow}
+use Rattle.ppd_ast.proofs.Members.{has_filter, filter_has}
+use Rattle.ppd_cfg.specs.Lists.{row, to_list}
 use Rattle.ppd_cfg.specs.WorkList.{AreRowsBelow}
 use Rattle.ppd_cfg.specs.Flow.{next_of, flow_rows}
-use Rattle.ppd_cfg.proofs.Has.{has_filter, filter_has, row_there}
 use Rattle.ppd_cfg.proofs.Rows.{row_at, rows_are, length_rows}
 use Rattle.ppd_cfg.proofs.Searches as S
+use Rattle.ppd_cfg.proofs.Leading.{row_there}
 use Rattle.ppd_units.specs.Walk.{parent_of, stands_at, enters, is_between, unit_next, unit_rows, unless, begin_of}
 use Rattle.ppd_units.proofs.Fitting.{Fits, listed_below, next_below, follow_fits, first_of_body_fits}
 

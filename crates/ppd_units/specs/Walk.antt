@@ -7,9 +7,11 @@ use Rattle.ppd_ast.specs.declared.plan.Start.{Start}
 use Rattle.ppd_ast.specs.declared.plan.Start.TheVariants.{Entry, After, Enter, Exit}
 use Rattle.ppd_ast.specs.declared.limits.TheConstants.{MOST_NESTING}
 use Rattle.ppd_ast.specs.Numbered.{is_left}
-use Rattle.ppd_cfg.specs.Lists.{has, those, to_list, first_or}
-use Rattle.ppd_cfg.specs.Reach.{closed, leads}
-use Rattle.ppd_cfg.specs.Flow.{kind_of, top_of, follow, next_of}
+use Rattle.ppd_ast.specs.Members.{has, those}
+use Rattle.ppd_ast.specs.Lookups.{kind_of, top_of}
+use Rattle.ppd_cfg.specs.Lists.{to_list, first_or}
+use Rattle.ppd_cfg.specs.Reach.{closure, leads}
+use Rattle.ppd_cfg.specs.Flow.{follow, next_of}
 use Rattle.ppd_sets.specs.Used.{reads_at, sorted}
 
 -- ---- the ways of a unit
@@ -68,7 +70,7 @@ begin_of p loops (Exit s) = unless (enters p loops s) (follow p s)
 
 -- the shared cells that the statements may read to which these rows lead from these starts, rising, each once
 abbrev pub cells_along : Program → (rows : List (List ℕ)) → (starts : List ℕ) → List ℕ
-cells_along p rows starts = sorted (flat_map (reads_at true p) (those (length p.stmts) (leads (closed rows) starts)))
+cells_along p rows starts = sorted (flat_map (reads_at true p) (those (length p.stmts) (leads (closure rows) starts)))
 
 -- the shared cells that a unit may read
 abbrev pub unit_cells : Program → (loops : List ℕ) → Start → List ℕ

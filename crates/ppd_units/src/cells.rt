@@ -2,7 +2,8 @@
 ghost use Rattle.std.specs.Prelude.{◌≡◌, true, length, IfOk};
 ghost use Rattle.std.specs.List.{flat_map};
 ghost use Rattle.ppd_ast.specs.Valid.{IsValid};
-ghost use Rattle.ppd_cfg.specs.Lists.{AreBelow, to_list};
+ghost use Rattle.ppd_ast.specs.Members.{AreBelow};
+ghost use Rattle.ppd_cfg.specs.Lists.{to_list};
 ghost use Rattle.ppd_cfg.specs.WorkList.{AreRowsBelow};
 ghost use Rattle.ppd_sets.specs.Gained.{Gains, HasCells};
 ghost use Rattle.ppd_sets.specs.Used.{reads_at};

@@ -2,9 +2,10 @@ ghost use Rattle.std.specs.Prelude.{◌≡◌, ◌<◌, ◌^◌, ◌∷◌, [], 
 ghost use Rattle.std.specs.List.{flat_map};
 ghost use Rattle.ppd_ast.specs.Numbered.{numbers_of};
 ghost use Rattle.ppd_ast.specs.Valid.{IsValid};
-ghost use Rattle.ppd_cfg.specs.Lists.{AreBelow, to_list};
+ghost use Rattle.ppd_ast.specs.Members.{AreBelow};
+ghost use Rattle.ppd_cfg.specs.Lists.{to_list};
 ghost use Rattle.ppd_units.specs.Walk.{unit_rows, begin_of};
-ghost use Rattle.ppd_units.specs.Starts.{starts_at, starts_in, unit_of, units_of};
+ghost use Rattle.ppd_units.specs.Starts.{unit_starts_at, starts_in, unit_of, units_of};
 
 use crate::cells::cells_of;
 use crate::ways::{begin_of, contains, is_left_at, unit_rows};
@@ -43,7 +44,7 @@ fn add_at(
     requires rows { rows.now ≡ unit_rows program.now loops.now }
     requires there { stmt < length program.now.stmts }
     ensures { OnOk result
-        (units.new ≡ units.old ++ map (unit_of program.now loops.now) (starts_at program.now loops.now stmt)) }
+        (units.new ≡ units.old ++ map (unit_of program.now loops.now) (unit_starts_at program.now loops.now stmt)) }
 {
     if is_left_at(program, stmt) {
         return add_unit(units, alloc, program, loops, rows, Start::After(stmt));
@@ -76,7 +77,7 @@ fn add_at_stmts(
     ensures { OnOk result
         (units.new ≡ units.old
         ++ map (unit_of program.now loops.now)
-        (flat_map (starts_at program.now loops.now) (numbers_of program.now.stmts body.now))) }
+        (flat_map (unit_starts_at program.now loops.now) (numbers_of program.now.stmts body.now))) }
 {
     for number in body.first..end_of(program.stmts.as_slice(), body) {
         add_at(units, alloc, program, loops, rows, number)?;

@@ -3,8 +3,10 @@ ghost use Rattle.std.specs.Prelude.{◌≡◌, map, length, slice_get, IfOk, Som
 ghost use Rattle.std.specs.List.{range_with_len};
 ghost use Rattle.ppd_ast.specs.Numbered.{is_left};
 ghost use Rattle.ppd_ast.specs.Valid.{IsValid};
-ghost use Rattle.ppd_cfg.specs.Lists.{has, first_or};
-ghost use Rattle.ppd_cfg.specs.Flow.{kind_of, top_of, follow};
+ghost use Rattle.ppd_ast.specs.Members.{has};
+ghost use Rattle.ppd_ast.specs.Lookups.{kind_of, top_of};
+ghost use Rattle.ppd_cfg.specs.Lists.{first_or};
+ghost use Rattle.ppd_cfg.specs.Flow.{follow};
 ghost use Rattle.ppd_units.specs.Walk.{parent_of, stands_at, enters, leaves, is_between, unit_next, unit_rows, unless, begin_of};
 
 use ppd_ast::limits::MOST_NESTING;

@@ -1,3 +1,4 @@
+mod LastFound
 mod Leads
 mod Over
 mod Steps

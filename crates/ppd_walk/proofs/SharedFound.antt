@@ -1,7 +1,8 @@
 -- Where a shared cell was written, by what the replays on the way answer.
-use Rattle.std.proofs.Common.{◌≡◌, ℕ, zero, suc, ℤ, List, [], ◌∷◌, ◌++◌, Result, Ok, Err, refl, ap, sym, subst, get_or, map}
+use Rattle.std.proofs.Common.{◌≡◌, ℕ, zero, suc, ◌+◌, ℤ, List, [], ◌∷◌, ◌++◌, None, Result, Ok, Err, refl, ap, sym, subst, get_or, map}
 use Rattle.std.proofs.lemmas.List.{append-nil}
 use Rattle.ppd_entry.specs.declared.entry.Entry.{Entry}
+use Rattle.ppd_entry.specs.Entries.{entries_at}
 use Rattle.ppd_model.specs.declared.flow.Origin.{Origin}
 use Rattle.ppd_model.specs.declared.flow.Origin.TheVariants as origin
 use Rattle.ppd_model.specs.declared.graph.EdgeId.{EdgeId}
@@ -9,16 +10,16 @@ use Rattle.ppd_past.specs.declared.flow_error.FlowError.{FlowError}
 use Rattle.ppd_past.specs.declared.flow_error.FlowError.TheVariants.{Diverged, NoEvent, Sets, Memory}
 use Rattle.ppd_past.specs.declared.past.Past.{Past}
 use Rattle.ppd_past.specs.ByReplays.{IsFoundBy}
-use Rattle.ppd_past.specs.SeenBy.{seen_by, seen_in}
-use Rattle.ppd_past.proofs.Found.{found_err, found_then}
+use Rattle.ppd_past.specs.SeenBy.{failed_in, seen_by, seen_in, steps_in}
+use Rattle.ppd_past.proofs.Found.{found_err, found_given, found_then}
 use Rattle.ppd_search.specs.declared.walked.Walked.{Walked}
 use Rattle.ppd_search.specs.declared.walked.Walked.TheVariants.{Stopped, Passed, Found}
 use Rattle.ppd_search.specs.Ends.{end_interval, end_item}
 use Rattle.ppd_search.specs.Seen.{Seen}
-use Rattle.ppd_search.specs.Shared.{Missing, entries_of, of_process, own_or, seen_at, unless_found, written_at, written_in, written_replays}
+use Rattle.ppd_search.specs.Shared.{Missing, of_process, own_or, seen_at, unless_found, written_at, written_in, written_replays}
 use Rattle.ppd_search.specs.Walk.{walk, walk_replays}
 use Rattle.ppd_walk.specs.declared.edge_end.EdgeEnd.{EdgeEnd}
-use Rattle.ppd_walk.specs.SharedCells.{answer_of, end_of, seens_in}
+use Rattle.ppd_walk.specs.SharedCells.{answer_of, edge_end_of, seens_in}
 
 -- ---- answers
 
@@ -60,7 +61,7 @@ module _ (past : Past) where
 
   module _ (e : EdgeId) where
     abbrev entries : List Entry
-    entries = entries_of past.logs.now e.process
+    entries = entries_at past.logs.now e.process
 
     abbrev k : ℕ
     k = end_interval entries e.edge
@@ -80,32 +81,34 @@ module _ (past : Past) where
       abbrev x : Seen
       x = seen_in past e.process
 
-      -- the walk from where the edge ends
-      from_end : (end : EdgeEnd) (n o q : ℕ) (r : Result Walked FlowError)
-          → IsFoundBy past ((e.process, k) ∷ []) (Ok (end_of past e)) n o (Ok end)
-          → IsFoundBy past (of_process e.process (walk_replays x c end.interval end.place)) (Ok
-          (walk x c end.interval end.place)) o q r
-          → IsFoundBy past ((e.process, k) ∷ of_process e.process (walk_replays x c k (end_item entries x e.edge)))
-          (Ok (walk x c k (end_item entries x e.edge))) n q r
-      from_end end n o q r f g =
-          let is : end_of past e ≡ end = ap (end_or end) f.1 in
-          found_then past ((e.process, k) ∷ []) (of_process e.process (walk_replays x c k (end_item entries x e.edge)))
-          (Ok (end_of past e)) (Ok (walk x c k (end_item entries x e.edge))) end n o q r f
-          (subst (λ (u : EdgeEnd). IsFoundBy past (of_process e.process (walk_replays x c u.interval u.place)) (Ok
-          (walk x c u.interval u.place)) o q r) (sym is) g)
+      abbrev pub Before : ℕ → ℕ → ℕ → ℕ → Result (ℤ × Origin) FlowError → Type 0
+      Before m j n q r =
+          IsFoundBy past (of_process e.process (walk_replays x c m j))
+          (answer_of (written_at past.logs.now c e (walk x c m j))) n q r
 
-      pub written_walk_failed : (end : EdgeEnd) (n o q : ℕ) (u : FlowError)
-          → IsFoundBy past ((e.process, k) ∷ []) (Ok (end_of past e)) n o (Ok end)
-          → IsFoundBy {A = Walked} past (of_process e.process (walk_replays x c end.interval end.place)) (Ok
-          (walk x c end.interval end.place)) o q (Err u)
-          → IsFoundBy {A = ℤ × Origin} past (written_replays past.logs.now xs c e) (answer_of
-          (written_in past.logs.now xs c e)) n q (Err u)
-      written_walk_failed end n o q u f g =
-          as_written n q (Err u)
-          (err_any past ((e.process, k) ∷ of_process e.process (walk_replays x c k (end_item entries x e.edge)))
-          (walk x c k (end_item entries x e.edge))
-          (answer_of (written_at past.logs.now c e (walk x c k (end_item entries x e.edge)))) n q u
-          (from_end end n o q (Err u) f g))
+      -- the walk from where the edge ends, by its replay
+      pub written_from_end : (end : EdgeEnd) (n o q : ℕ) (r : Result (ℤ × Origin) FlowError)
+          → IsFoundBy past ((e.process, k) ∷ []) (Ok (edge_end_of past e)) n o (Ok end)
+          → Before end.interval end.place o q r
+          → IsFoundBy past (written_replays past.logs.now xs c e) (answer_of (written_in past.logs.now xs c e)) n q r
+      written_from_end end n o q r f g =
+          let is : edge_end_of past e ≡ end = ap (end_or end) f.1 in
+          let j = end_item entries x e.edge in
+          as_written n q r
+          (found_then past ((e.process, k) ∷ []) (of_process e.process (walk_replays x c k j)) (Ok (edge_end_of past e))
+          (answer_of (written_at past.logs.now c e (walk x c k j))) end n o q r f
+          (subst (λ (u : EdgeEnd). Before u.interval u.place o q r) (sym is) g))
+
+      -- or by its items, which are there
+      pub written_from_items : (n o : ℕ) (r : Result (ℤ × Origin) FlowError) → failed_in past e.process k ≡ None
+          → Before k (end_item entries x e.edge) n o r
+          → IsFoundBy past (written_replays past.logs.now xs c e) (answer_of (written_in past.logs.now xs c e)) n
+          (o + steps_in past e.process k) r
+      written_from_items n o r fine g =
+          let j = end_item entries x e.edge in
+          as_written n (o + steps_in past e.process k) r
+          (found_given past e.process k (of_process e.process (walk_replays x c k j))
+          (answer_of (written_at past.logs.now c e (walk x c k j))) n o r fine g)
 
   -- ---- a shared read
 

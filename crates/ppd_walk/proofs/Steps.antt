@@ -1,7 +1,7 @@
 -- The steps of a walk, by what the replays on its way answer.
 use Rattle.std.proofs.Common.{◌≡◌, ℕ, suc, ◌+◌, ◌-◌, ◌<◌, true, false, List, [], ◌∷◌, ◌++◌, Some, None, Result, Ok, Err, ap, sym, subst, ◌∙◌, arith, length, take}
 use Rattle.std.specs.Prelude.{slice_get}
-use Rattle.ppd_index.specs.Indexes.{entries_at}
+use Rattle.ppd_entry.specs.Entries.{entries_at}
 use Rattle.ppd_model.specs.declared.flow.Item.{Item}
 use Rattle.ppd_model.specs.Extents.{first_of}
 use Rattle.ppd_past.specs.declared.flow_error.FlowError.{FlowError}

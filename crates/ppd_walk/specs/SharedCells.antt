@@ -1,5 +1,6 @@
 -- What the search for where a shared cell was written answers.
-use Rattle.std.specs.Prelude.{◌≡◌, ℕ, List, [], ◌∷◌, map, Result, Ok, Err, ⊤}
+use Rattle.std.specs.Prelude.{◌≡◌, ℕ, List, [], ◌∷◌, map, Option, option_map, Result, Ok, Err, ⊤}
+use Rattle.ppd_entry.specs.Entries.{entries_at}
 use Rattle.ppd_model.specs.declared.flow.Origin.{Origin}
 use Rattle.ppd_model.specs.declared.flow.Origin.TheVariants as origin
 use Rattle.ppd_model.specs.declared.graph.EdgeId.{EdgeId}
@@ -11,8 +12,9 @@ use Rattle.ppd_past.specs.ByReplays.{IsFoundBy}
 use Rattle.ppd_past.specs.SeenBy.{items_in, seen_by, seen_in}
 use Rattle.ppd_search.specs.Ends.{end_interval, end_item}
 use Rattle.ppd_search.specs.Seen.{Seen}
-use Rattle.ppd_search.specs.Shared.{Missing, entries_of}
+use Rattle.ppd_search.specs.Shared.{Missing, greatest_writing}
 use Rattle.ppd_walk.specs.declared.edge_end.EdgeEnd.{EdgeEnd}
+use Rattle.ppd_walk.specs.declared.last.LastEdge.{LastEdge}
 
 -- what the replays of each process of a past give
 abbrev pub seens_in : Past → List Seen
@@ -29,9 +31,9 @@ IsMemoryOr answer (Err Memory) = ⊤
 IsMemoryOr answer result = result ≡ answer
 
 -- where an edge of a past ends
-abbrev pub end_of : Past → EdgeId → EdgeEnd
-end_of past e =
-    let entries = entries_of past.logs.now e.process in
+abbrev pub edge_end_of : Past → EdgeId → EdgeEnd
+edge_end_of past e =
+    let entries = entries_at past.logs.now e.process in
     record {
       interval = end_interval entries e.edge;
       items = items_in past e.process (end_interval entries e.edge);
@@ -42,10 +44,18 @@ end_of past e =
 abbrev pub node_origin : Past → NodeId → Origin
 node_origin past a =
     let e : EdgeId = record { process = a.process; edge = a.sync } in
-    origin.Item a.process (end_of past e).interval (end_of past e).place
+    origin.Item a.process (edge_end_of past e).interval (edge_end_of past e).place
 
 -- it is found by the replay of the interval in which its edge ends
 abbrev pub IsNodeFound : Past → NodeId → (before after : ℕ) → Result Origin FlowError → Type 0
 IsNodeFound past a before after result =
-    IsFoundBy past ((a.process, end_interval (entries_of past.logs.now a.process) a.sync) ∷ []) (Ok
+    IsFoundBy past ((a.process, end_interval (entries_at past.logs.now a.process) a.sync) ∷ []) (Ok
     (node_origin past a)) before after result
+
+-- the interval in which this edge ends
+abbrev pub with_end : Past → EdgeId → LastEdge
+with_end past e = record { edge = e; interval = end_interval (entries_at past.logs.now e.process) e.edge }
+
+-- the edge with the last write of cell c, if there is one
+abbrev pub last_edge : Past → ℕ → Option LastEdge
+last_edge past c = option_map (with_end past) (greatest_writing past.program.now past.logs.now c)

@@ -1,9 +1,9 @@
 ghost use Rattle.std.specs.Prelude.{◌≡◌, [], ◌∷◌, Ok};
+ghost use Rattle.ppd_entry.specs.Entries.{entries_at};
 ghost use Rattle.ppd_past.specs.ByReplays.{IsFoundBy};
 ghost use Rattle.ppd_past.specs.Pasts.{IsPast};
 ghost use Rattle.ppd_search.specs.Ends.{end_interval as end_interval_of};
-ghost use Rattle.ppd_search.specs.Shared.{entries_of as entries_in};
-ghost use Rattle.ppd_walk.specs.SharedCells.{end_of};
+ghost use Rattle.ppd_walk.specs.SharedCells.{edge_end_of};
 
 use ppd_ast::{Seq, Steps};
 use ppd_ends::{end_interval, sync_item};
@@ -30,8 +30,8 @@ pub(crate) fn edge_end<L: Ledger>(
 ) -> Result<EdgeEnd, FlowError>
     requires { IsPast past.now }
     ensures { IsFoundBy past.now
-        ((edge.process, end_interval_of (entries_in past.now.logs.now edge.process) edge.edge) ∷ [])
-        (Ok (end_of past.now edge)) steps.old steps.new result }
+        ((edge.process, end_interval_of (entries_at past.now.logs.now edge.process) edge.edge) ∷ [])
+        (Ok (edge_end_of past.now edge)) steps.old steps.new result }
 {
     let interval = end_interval(past, edge.process, edge.edge);
     let items = match replayed(alloc, past, edge.process, interval, steps) {

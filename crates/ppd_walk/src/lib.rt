@@ -5,12 +5,14 @@
 mod edge_end;
 mod event;
 mod inside;
+mod last;
 mod outward;
 mod pairs;
 mod search;
 mod shared;
 mod written;
 
+pub use last::{LastEdge, last_edge, last_write_from};
 pub use pairs::{Place, pair_origin};
 pub use search::CellSearch;
 pub use shared::last_write;

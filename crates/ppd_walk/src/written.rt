@@ -1,14 +1,18 @@
 ghost use Rattle.std.specs.Prelude.{◌≡◌, get_or, pos};
 ghost use Rattle.ppd_past.specs.ByReplays.{IsFoundBy};
 ghost use Rattle.ppd_past.specs.Pasts.{IsPast};
-ghost use Rattle.ppd_search.specs.Shared.{start_replays, written_at, written_in as written_in_edge, written_or_start as written_or_start_of, written_replays};
+ghost use Rattle.ppd_model.specs.HappenedBefore.{edge as edge_of};
+ghost use Rattle.ppd_search.specs.Seen.{items_at};
+ghost use Rattle.ppd_search.specs.Shared.{of_process, start_replays, written_at, written_in as written_in_edge, written_or_start as written_or_start_of, written_replays};
+ghost use Rattle.ppd_search.specs.Walk.{walk as walk_from, walk_replays};
+ghost use Rattle.ppd_walk.specs.Items.{seen_for};
 ghost use Rattle.ppd_walk.specs.SharedCells.{IsMemoryOr, answer_of, seens_in};
 
 use crate::edge_end::edge_end;
 use crate::search::CellSearch;
 use ppd_ast::{Program, Steps};
 use ppd_ends::{ending, entries_of};
-use ppd_model::{EdgeId, Origin};
+use ppd_model::{EdgeId, Item, Origin};
 use ppd_past::{FlowError, Past, number};
 use ppd_search::Walked;
 use std::sync::ledger::Ledger;
@@ -48,6 +52,34 @@ fn write_found(
     }
 }
 
+/// The last write of the cell in an edge of the process that is searched, which ends at this place among the items
+/// of an interval.
+pub(crate) fn written_before<L: Ledger>(
+    search: &CellSearch,
+    edge: u32,
+    interval: u32,
+    items: &[Item],
+    place: usize,
+    steps: &mut Steps<L>,
+) -> Result<(i64, Origin), FlowError>
+    requires past { IsPast search.now.past.now }
+    requires items { items.now ≡ items_at (seen_for search.now) interval }
+    ensures { IsFoundBy search.now.past.now
+        (of_process search.now.process (walk_replays (seen_for search.now) search.now.cell interval place))
+        (answer_of (written_at search.now.past.now.logs.now search.now.cell (edge_of search.now.process edge)
+        (walk_from (seen_for search.now) search.now.cell interval place)))
+        steps.old steps.new result }
+{
+    let edge = EdgeId {
+        process: search.process,
+        edge,
+    };
+    match search.walk(interval, items, place, steps) {
+        Ok(walked) => write_found(search.past, search.cell, edge, walked),
+        Err(error) => Err(error),
+    }
+}
+
 // The last write of the cell in an edge of any process whose write set has it.
 fn written_in<L: Ledger>(
     search: &CellSearch,
@@ -70,10 +102,14 @@ fn written_in<L: Ledger>(
         process: edge.process,
         cell: search.cell,
     };
-    match there.walk(end.interval, end.items.as_slice(), end.place, steps) {
-        Ok(walked) => write_found(search.past, search.cell, edge, walked),
-        Err(error) => Err(error),
-    }
+    written_before(
+        &there,
+        edge.edge,
+        end.interval,
+        end.items.as_slice(),
+        end.place,
+        steps,
+    )
 }
 
 fn start_value(program: &Program, cell: u16) -> i64

@@ -12,6 +12,7 @@ use Rattle.ppd_ast.specs.declared.program.Program.{Program}
 use Rattle.ppd_ast.specs.declared.program.Stmt.{Stmt}
 use Rattle.ppd_ast.specs.declared.program.Var.{Var}
 use Rattle.ppd_ast.specs.declared.status.Trap.{Trap}
+use Rattle.ppd_ast.specs.Lookups.{locals_of_body, locals_of}
 use Rattle.ppd_model.specs.declared.flow.Item.{Item}
 use Rattle.ppd_model.specs.declared.flow.Item.TheVariants.{Own, Nested}
 use Rattle.ppd_sem.specs.declared.event.Access.{Access}
@@ -20,7 +21,7 @@ use Rattle.ppd_sem.specs.declared.event.Spot.{Spot}
 use Rattle.ppd_sem.specs.declared.event.Spot.TheVariants.{Local, Shared}
 use Rattle.ppd_show.specs.Kinds.{kind_text}
 use Rattle.ppd_show.specs.Names.{chan_name}
-use Rattle.ppd_show.specs.Plans.{locals_of, locals_round}
+use Rattle.ppd_show.specs.Plans.{locals_round}
 use Rattle.ppd_text.specs.Texts.{place_text}
 use Rattle.ppd_why.specs.Names.{cell_text, trap_word, what_text}
 
@@ -41,15 +42,11 @@ access_text word p locals a = word ++ cell_value p locals a.spot a.value
 
 -- ---- events
 
--- the locals of a body by number
-abbrev pub body_locals : Program → ℕ → List Var
-body_locals p b = locals_of (slice_get p.bodies b)
-
 -- whose locals an event of a statement writes: a call writes the parameters of its function, and any other event
 -- locals of the body in which its statement stands
 abbrev pub written_locals : Program → ℕ → Kind → List Var
-written_locals p b (kind.Call f args into) = body_locals p f
-written_locals p b k = body_locals p b
+written_locals p b (kind.Call f args into) = locals_of p f
+written_locals p b k = locals_of p b
 
 -- an event of a send that has a number and no value is the completion of an offer
 abbrev pub is_completion : Event → Bool
@@ -67,7 +64,7 @@ event_kind p e k = kind_text p k
 -- the reads of an event in order, then its writes
 abbrev pub accesses_text : Program → Event → Stmt → List ℕ
 accesses_text p e s =
-    flat_map (access_text (codes " read ") p (body_locals p s.body)) e.reads
+    flat_map (access_text (codes " read ") p (locals_of p s.body)) e.reads
     ++ flat_map (access_text (codes " write ") p (written_locals p s.body s.kind)) e.writes
 
 abbrev pub value_text : Option ℤ → List ℕ

@@ -6,12 +6,12 @@ use Rattle.ppd_ast.specs.declared.program.Program.{Program}
 use Rattle.ppd_ast.specs.declared.program.Var.{Var}
 use Rattle.ppd_ast.specs.declared.status.Trap.{Trap}
 use Rattle.ppd_ast.specs.declared.status.Trap.TheVariants as trap
-use Rattle.ppd_show.specs.Names.{body_name}
+use Rattle.ppd_ast.specs.Lookups.{name_of_body}
 use Rattle.ppd_show.specs.Plans.{block_what}
 
 -- the name of process k
 abbrev pub process_name : Program → ℕ → List ℕ
-process_name p k = body_name (slice_get p.bodies (p.functions + k))
+process_name p k = name_of_body (slice_get p.bodies (p.functions + k))
 
 -- an element of an array by its index
 abbrev pub index_text : Var → ℕ → Option ℕ → List ℕ

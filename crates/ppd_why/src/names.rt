@@ -1,8 +1,8 @@
 // How processes, cells and the words of traps are written, and whose cells are named.
 ghost use Rattle.std.specs.Prelude.{◌≡◌, ◌≤◌, ◌++◌, OnOk, slice_get};
 ghost use Rattle.ppd_ast.specs.Cells.{holds as holds_of};
+ghost use Rattle.ppd_ast.specs.Lookups.{locals_of};
 ghost use Rattle.ppd_show.specs.Plans.{block_locals as locals_of_block, locals_round as locals_round_stmt};
-ghost use Rattle.ppd_why.specs.Items.{body_locals as locals_of_body};
 ghost use Rattle.ppd_why.specs.Names.{cell_text, index_text, process_name as process_name_of, trap_word, what_text};
 
 use ppd_ast::{BlockKind, Memory, Plan, Program, Trap, Var};
@@ -86,7 +86,7 @@ pub fn put_trap(text: &mut Vec<u8>, trap: Trap) -> Result<(), Memory>
 
 /// The local variables of a body, none where there is none of this number.
 pub(crate) fn body_locals(program: &Program, body: u16) -> &[Var]
-    ensures { result.now ≡ locals_of_body program.now body }
+    ensures { result.now ≡ locals_of program.now body }
 {
     match program.bodies.as_slice().get(body as usize) {
         Some(body) => body.locals.as_slice(),

@@ -1,10 +1,10 @@
 -- The words of `flow` and of `show` as they are read by hand, an option of a number after the other: numbers are
 -- tested as they come. The top call has the same definition of its own; here it is the other side of a law.
-use Rattle.std.specs.Prelude.{ℕ, ◌+◌, ◌*◌, ◌-◌, Bool, true, false, not, ◌&&◌, ◌||◌, nat_le, List, [], ◌∷◌, drop}
+use Rattle.std.specs.Prelude.{ℕ, Bool, true, false, not, ◌&&◌, ◌||◌, nat_le, List, [], ◌∷◌, drop}
 use Rattle.std.specs.Prelude.{length, Option, Some, None, is_none, is_some, if◌then◌else◌, codes, option_and_then}
-use Rattle.std.specs.List.{list_all}
 use Rattle.std.specs.Borrow.{Bor}
 use Rattle.std.specs.Str.{bytes_eq}
+use Rattle.ppd_ast.specs.Digits.{number_in}
 use Rattle.ppd_words.specs.Words.{Text, Uses, value_of}
 use Rattle.ppd_words.specs.Spelling.{begins, is_dashed}
 
@@ -19,19 +19,6 @@ pub data Word : Type 0 where
   Sets : Choice → Option ℕ → Word
   Other : Word
   Name : Word
-
-abbrev pub is_digit : ℕ → Bool
-is_digit b = nat_le 48 b && nat_le b 57
-
--- the number of these digits after those of n
-abbrev pub value_from : ℕ → List ℕ → ℕ
-value_from n [] = n
-value_from n (b ∷ bs) = value_from (n * 10 + (b - 48)) bs
-
--- a number: 1 to 9 digits, of which the first may be zeros
-abbrev pub number_in : Text → Option ℕ
-number_in w =
-    if nat_le 1 (length w) && (nat_le (length w) 9 && list_all is_digit w) then Some (value_from 0 w) else None
 
 abbrev pub spelled_word : Text → Word
 spelled_word w =

@@ -5,8 +5,6 @@ mod commands;
 mod laws;
 mod read;
 mod shape;
-#[cfg(test)]
-mod tests;
 
 pub use commands::{Command, CommandWords, command_of, read_command};
 pub use laws::{flow_tests_numbers_last, show_tests_numbers_last, tests_may_come_last};

@@ -1,3 +1,6 @@
+pub mod Example
+pub mod Processes
+pub mod LargerProcesses
 pub mod Runs
 pub mod Replays
 pub mod Agreements

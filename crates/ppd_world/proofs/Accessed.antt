@@ -2,7 +2,7 @@
 use Rattle.std.proofs.Common.{◌≡◌, ℕ, ◌+◌, ◌<◌, ◌≤◌, true, false, nat_eq, nat_lt, cond, List, [], ◌∷◌, ◌++◌, length, get_or, take, drop, refl, ap, sym, ◌∙◌, arith}
 use Rattle.std.proofs.lemmas.Bool.Decides.{nat_tests}
 use Rattle.std.proofs.lemmas.List.{append_assoc, drop_all, drop_more, take-append-drop, take_more}
-use Rattle.ppd_model.specs.Logs.{with_cell}
+use Rattle.ppd_ast.specs.Members.{with_cell}
 
 -- the first cells with the others, which this one has yet to pass
 abbrev pub passed : List ℕ → ℕ → ℕ → List ℕ

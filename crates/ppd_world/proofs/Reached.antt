@@ -31,7 +31,7 @@ use Rattle.ppd_model.proofs.Changes.{some}
 use Rattle.ppd_model.proofs.States.{logs_grow}
 use Rattle.ppd_model.proofs.Stories.{stories_are_of_runs}
 use Rattle.ppd_world.specs.Parts.{IsSmallChan, IsSmallLogging, IsSmallSem, store, world_of}
-use Rattle.ppd_world.specs.Running.{IsCause, IsDriven, IsFollowed, IsOf, IsReached, Running, Takes, begun, can_step, closed, stepped}
+use Rattle.ppd_world.specs.Running.{IsCause, IsDriven, IsFollowed, IsOf, IsReached, Running, Takes, begun, can_step, closed_run, stepped}
 use Rattle.ppd_world.specs.Starts.{begun_chans, begun_logs, begun_sems}
 use Rattle.ppd_world.proofs.Begun.{logs_begun, procs_begun}
 use Rattle.ppd_world.proofs.Lists.{every_all, every_more}
@@ -184,7 +184,7 @@ small_loggings r h = every_all (IsSmallLogging r.program) r.loggings (every_more
 
 -- ---- the end
 
-pub closed_is : (r : Running) (c : Closed) → c ≡ closed r → (h : List ℕ) → IsOf h r → c ≡ close r.program r.plan r.budget h
+pub closed_is : (r : Running) (c : Closed) → c ≡ closed_run r → (h : List ℕ) → IsOf h r → c ≡ close r.program r.plan r.budget h
 closed_is r c e h o = e ∙ ap (λ (ls : List Logging). record { logs = closed_logs_of ls; ends = ends_from r.program r.program.functions ls }) o.logs
 
 -- ---- the start

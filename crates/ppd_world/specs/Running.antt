@@ -43,8 +43,8 @@ stepped r p = record r {
 }
 
 -- what is left when nobody can take a step
-abbrev pub closed : Running → Closed
-closed r = record { logs = closed_logs_of r.loggings; ends = ends_from r.program r.program.functions r.loggings }
+abbrev pub closed_run : Running → Closed
+closed_run r = record { logs = closed_logs_of r.loggings; ends = ends_from r.program r.program.functions r.loggings }
 
 -- the world and the logs are those of this schedule
 pub record IsOf (h : List ℕ) (r : Running) : Type 0 where

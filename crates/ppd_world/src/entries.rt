@@ -1,5 +1,5 @@
 ghost use Rattle.std.specs.Prelude.{◌≡◌, ◌++◌, ◌∷◌, [], map, option_to_list, slice_get, IfOk, OnOk};
-ghost use Rattle.ppd_model.specs.Logs.{ends, entries_of as entries_of_step, passed as passed_of, postlogs, prelogs, status_of as status_of_need, syncs, units};
+ghost use Rattle.ppd_model.specs.Logs.{ends, entries_of as entries_of_step, passed_value as passed_of, postlogs, prelogs, status_of as status_of_need, syncs, units};
 ghost use Rattle.ppd_sem.specs.Blocks.{postlog_cells as postlog_cells_of, prelog_cells as prelog_cells_of};
 ghost use Rattle.ppd_model.specs.Marks.{closed, opened};
 ghost use Rattle.ppd_model.specs.Story.{cells_of_unit as cells_of_unit_in, unit_started as unit_started_of, values_at_start, values_of_unit};
@@ -90,7 +90,8 @@ fn push_opened(entries: &mut Vec<Entry>, code: &Code, proc: &Proc, need: Need) -
     requires program { IsRunnable code.now.program.now }
     requires proc { IsRunning code.now.program.now proc.now }
     ensures { OnOk result
-        (entries.new.items ≡ entries.old.items ++ prelogs (opened code.now.program.now code.now.plan.now proc.now need)) }
+        (entries.new.items
+        ≡ entries.old.items ++ prelogs (opened code.now.program.now code.now.plan.now proc.now need)) }
 {
     match need {
         Need::Enter { block, .. } => {
@@ -128,7 +129,8 @@ fn push_closed(entries: &mut Vec<Entry>, code: &Code, proc: &Proc, need: Need) -
     requires program { IsRunnable code.now.program.now }
     requires proc { IsRunning code.now.program.now proc.now }
     ensures { OnOk result
-        (entries.new.items ≡ entries.old.items ++ postlogs (closed code.now.program.now code.now.plan.now proc.now need)) }
+        (entries.new.items
+        ≡ entries.old.items ++ postlogs (closed code.now.program.now code.now.plan.now proc.now need)) }
 {
     match need {
         Need::Leave { block, .. } => {

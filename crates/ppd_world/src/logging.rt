@@ -81,7 +81,8 @@ fn step_one(code: &Code, shared: &[i64], logging: &mut Logging, taken: Taken) ->
     requires logging { IsSmallLogging code.now.program.now logging.old }
     ensures ok { OnOk result
         (logging.new
-        ≡ log_step code.now.program.now code.now.plan.now logging.old (moment_with code.now.plan.now shared.now taken)) }
+        ≡ log_step code.now.program.now code.now.plan.now logging.old
+        (moment_with code.now.plan.now shared.now taken)) }
     ensures err { OnErr result (logging.new ≡ logging.old) }
 {
     let new = entries_of(code, logging, shared, taken)?;

@@ -1,5 +1,6 @@
 ghost use Rattle.std.specs.Prelude.{◌≡◌, ◌≤◌, ◌++◌, ◌∷◌, length, take, drop, IfOk, IfSome, IfNone, OnOk};
-ghost use Rattle.ppd_model.specs.Logs.{with_access, with_cell};
+ghost use Rattle.ppd_ast.specs.Members.{with_cell};
+ghost use Rattle.ppd_model.specs.Logs.{with_access};
 ghost use Rattle.ppd_world.specs.Parts.{noted};
 
 use ppd_ast::{Cells, Memory, Seq};

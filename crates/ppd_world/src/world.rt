@@ -5,7 +5,7 @@ ghost use Rattle.ppd_model.specs.Laws.{logged_moment};
 ghost use Rattle.ppd_model.specs.Logs.{close as close_of};
 ghost use Rattle.ppd_model.specs.Schedule.{IsOver};
 ghost use Rattle.ppd_world.specs.Plain.{ComesPlainly, stepped_times};
-ghost use Rattle.ppd_world.specs.Running.{IsCause, IsDriven, IsFollowed, IsLowest, IsOf, IsPaidStep, IsReached, Takes, begun, can_step, closed as closed_of, stepped};
+ghost use Rattle.ppd_world.specs.Running.{IsCause, IsDriven, IsFollowed, IsLowest, IsOf, IsPaidStep, IsReached, Takes, begun, can_step, closed_run as closed_of, stepped};
 
 use crate::closing::close_all;
 use crate::code::Code;

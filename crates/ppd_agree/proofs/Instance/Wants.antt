@@ -11,10 +11,11 @@ use Rattle.ppd_sem.specs.declared.proc.Answer.TheVariants.{Value, Go}
 use Rattle.ppd_sem.specs.declared.proc.Need.{Need}
 use Rattle.ppd_sem.specs.declared.proc.Need.TheVariants as n
 use Rattle.ppd_sem.specs.Process.{need_of}
+use Rattle.ppd_sem.specs.Described.{is_event}
 use Rattle.ppd_model.specs.declared.trace.EventId.{EventId}
 use Rattle.ppd_model.specs.States.{state_of}
 use Rattle.ppd_model.specs.declared.tracing.Taken.{Taken}
-use Rattle.ppd_model.specs.Story.{Telling, is_event, steps_of}
+use Rattle.ppd_model.specs.Story.{Telling, steps_of}
 use Rattle.ppd_model.specs.Synchronizations.{leads, syncs_of}
 use Rattle.ppd_model.specs.Numbers.{count_of, sync}
 use Rattle.ppd_model.specs.declared.state.Channel.{Channel}

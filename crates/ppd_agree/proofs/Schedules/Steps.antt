@@ -8,13 +8,14 @@ use Rattle.ppd_ast.specs.declared.program.Program.{Program}
 use Rattle.ppd_sem.specs.declared.proc.Need.{Need}
 use Rattle.ppd_sem.specs.declared.proc.Need.TheVariants as n
 use Rattle.ppd_sem.specs.declared.proc.Proc.{Proc}
+use Rattle.ppd_sem.specs.Described.{is_event}
 use Rattle.ppd_model.specs.declared.trace.EventId.{EventId}
 use Rattle.ppd_model.specs.declared.tracing.Taken.{Taken}
 use Rattle.ppd_model.specs.Laws.{begins}
 use Rattle.ppd_model.specs.Numbers.{count_of}
 use Rattle.ppd_model.specs.Schedule.{run_from, started_world}
 use Rattle.ppd_model.specs.States.{state_of, states_from}
-use Rattle.ppd_model.specs.Story.{Moment, Telling, count_events, is_event, moment_of, next_event, steps_of, taken_of, tell}
+use Rattle.ppd_model.specs.Story.{Moment, Telling, count_events, moment_of, next_event, steps_of, taken_of, tell}
 use Rattle.ppd_model.specs.World.{World, enabled, need, need_at}
 use Rattle.ppd_model.specs.Prefixes.{Good, told_to}
 use Rattle.ppd_model.proofs.Changes.{change-at, change-else, some}

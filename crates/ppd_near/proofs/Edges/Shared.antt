@@ -34,23 +34,14 @@ use Rattle.ppd_near.proofs.Own.Near.{all_steps_of, both_steps, near_edge, near_l
 use Rattle.ppd_near.proofs.Walks.Counts.{greatest_in}
 use Rattle.ppd_near.proofs.Walks.Written.{IsNearWrite, near_write}
 use Rattle.ppd_near.proofs.Edges.Answers.{not_ok, ok_is}
+use Rattle.ppd_near.proofs.Words.{Words, words_of}
 
 module _ (program : Program) (plan : Plan) (budget : ℕ) (h : List ℕ) (v : IsValid program) (p k j : ℕ) (x : Split)
     (there : slice_get (splits program plan budget (story program plan budget h)) p ≡ Some x) (es : List FlowEdge) (edges_are : edges program plan budget (story program plan budget h) p k j ≡ Some es) where
-  abbrev xs : List Split
-  xs = splits program plan budget (story program plan budget h)
+  abbrev words : Words
+  words = words_of program plan budget h p k j
 
-  abbrev logs : Logs
-  logs = closed_logs program plan budget h
-
-  abbrev seens : List Seen
-  seens = all_seen program plan budget h
-
-  abbrev N : ℕ
-  N = near_steps program plan budget (story program plan budget h) p k j
-
-  abbrev steps : List (ℕ × ℕ) → ℕ
-  steps ms = steps_of_all (splits program plan budget (story program plan budget h)) ms
+  open words use {xs, logs, seens, N, steps}
 
   seen_is : seen_at (all_seen program plan budget h) p ≡ seen_of x
   seen_is = (facts program plan budget h v p x there).seen_is

@@ -4,11 +4,13 @@ use Rattle.std.specs.Prelude.{is_some, slice_get}
 use Rattle.std.specs.List.{flat_map}
 use Rattle.std.proofs.lemmas.Bool.{cases_lt}
 use Rattle.std.proofs.lemmas.List.{append-nil}
+use Rattle.ppd_sem.specs.Described.{is_event}
 use Rattle.ppd_ast.specs.Valid.{IsValid}
 use Rattle.ppd_ast.specs.declared.plan.Plan.{Plan}
 use Rattle.ppd_ast.specs.declared.program.Program.{Program}
 use Rattle.ppd_entry.specs.declared.entry.Entry.{Entry}
 use Rattle.ppd_entry.specs.declared.entry.Entry.TheVariants as entry
+use Rattle.ppd_entry.specs.Entries.{entries_at}
 use Rattle.ppd_model.specs.Extents.{Extending}
 use Rattle.ppd_model.specs.FlowbackEdges.{part_at, part_in}
 use Rattle.ppd_model.specs.Intervals.{Part, own, Span, Split, item_of, splits}
@@ -16,7 +18,7 @@ use Rattle.ppd_model.specs.Items.{IsReferred}
 use Rattle.ppd_model.specs.Logs.{closed_logs}
 use Rattle.ppd_model.specs.NearIntervals.{is_open_in}
 use Rattle.ppd_model.specs.RecordedSets.{RecordsAccesses, cells_in, last_edge}
-use Rattle.ppd_model.specs.Story.{is_event, story, told}
+use Rattle.ppd_model.specs.Story.{story, told}
 use Rattle.ppd_model.specs.Synchronizations.{sync_of, syncs_of}
 use Rattle.ppd_model.specs.declared.trace.TracedEvent.{TracedEvent}
 use Rattle.ppd_model.specs.declared.tracing.Taken.{Taken}
@@ -24,7 +26,6 @@ use Rattle.ppd_model.proofs.Items.{items_whole}
 use Rattle.ppd_model.proofs.Tested.{In}
 use Rattle.ppd_search.specs.Ends.{end_interval, end_item, ending, first_edge, innermost_at, sync_item}
 use Rattle.ppd_search.specs.Seen.{items_at, seen_of}
-use Rattle.ppd_search.specs.Shared.{entries_of}
 use Rattle.ppd_sound.proofs.SharedCells.Writers.{events_in}
 use Rattle.ppd_shared_edges.specs.Near.{IsOpenAt}
 use Rattle.ppd_shared_edges.proofs.Back.Walks.{items_are}
@@ -56,25 +57,25 @@ pub record IsEnd (program : Program) (plan : Plan) (budget : ℕ) (h : List ℕ)
   pub after : List Part
   pub parts_are : span.parts ≡ before ++ after
   pub event : ℕ
-  pub tiles : Tiles (Logged (entries_of (closed_logs program plan budget h) q) x.trace.events) x.spans interval first before event
-  pub stands : Stands (Logged (entries_of (closed_logs program plan budget h) q) x.trace.events) x.spans interval span.round first
+  pub tiles : Tiles (Logged (entries_at (closed_logs program plan budget h) q) x.trace.events) x.spans interval first before event
+  pub stands : Stands (Logged (entries_at (closed_logs program plan budget h) q) x.trace.events) x.spans interval span.round first
   pub within : event ≤ length x.trace.events
   pub count : count_to x.trace.events event ≡ e
-  pub interval_is : end_interval (entries_of (closed_logs program plan budget h) q) e ≡ interval
-  pub item_is : end_item (entries_of (closed_logs program plan budget h) q) (seen_of x) e ≡ length before
+  pub interval_is : end_interval (entries_at (closed_logs program plan budget h) q) e ≡ interval
+  pub item_is : end_item (entries_at (closed_logs program plan budget h) q) (seen_of x) e ≡ length before
   pub opens : (z : ℕ) → In z (interval ∷ span.round) → IsOpenAt x e z
 
 module _ (program : Program) (plan : Plan) (budget : ℕ) (h : List ℕ) (v : IsValid program) (q : ℕ) (x : Split) (f : Facts program plan budget h v q x) where
   abbrev entries : List Entry
-  entries = entries_of (closed_logs program plan budget h) q
+  entries = entries_at (closed_logs program plan budget h) q
 
   abbrev events : List TracedEvent
   events = x.trace.events
 
   abbrev F : ℕ → ℕ → ℕ → Type 0
-  F = Logged (entries_of (closed_logs program plan budget h) q) x.trace.events
+  F = Logged (entries_at (closed_logs program plan budget h) q) x.trace.events
 
-  abbrev r : RecordsAccesses (story program plan budget h) q (entries_of (closed_logs program plan budget h) q)
+  abbrev r : RecordsAccesses (story program plan budget h) q (entries_at (closed_logs program plan budget h) q)
   r = f.records
 
   abbrev reads : List ℕ

@@ -7,13 +7,12 @@ use Rattle.ppd_ast.specs.declared.plan.Plan.{Plan}
 use Rattle.ppd_ast.specs.declared.program.Program.{Program}
 use Rattle.ppd_entry.specs.declared.entry.Entry.{Entry}
 use Rattle.ppd_entry.specs.declared.entry.Entry.TheVariants as entry
+use Rattle.ppd_entry.specs.Entries.{is_end, entries_at}
 use Rattle.ppd_model.specs.Intervals.{Split, splits_from, splits}
 use Rattle.ppd_model.specs.Logs.{closed_log, closed_logs, log_of, logs_from}
-use Rattle.ppd_model.specs.RecordedSets.{is_end}
 use Rattle.ppd_model.specs.Story.{Moment, own_moments, steps_of, story, told}
 use Rattle.ppd_model.specs.declared.tracing.Story.{Story}
 use Rattle.ppd_search.specs.Ends.{ending, ends_edge, is_sync}
-use Rattle.ppd_search.specs.Shared.{entries_of}
 use Rattle.ppd_shared_edges.proofs.Spans.Facts.{syncs}
 
 -- ---- the entry that ends an edge
@@ -44,7 +43,7 @@ module _ (program : Program) (plan : Plan) (budget : ℕ) where
       log_from s (k + 1) ms p x e ∙ ap (λ j. closed_log (log_of program plan budget j (get_or ms p []))) (let z : k + 1 + p ≡ k + suc p = omega arith in z)
 
   pub entries_are : (h : List ℕ) (p : ℕ) (x : Split) → slice_get (splits program plan budget (story program plan budget h)) p ≡ Some x
-      → entries_of (closed_logs program plan budget h) p ≡ closed_log (log_of program plan budget p (own_moments (told program plan budget h) p))
+      → entries_at (closed_logs program plan budget h) p ≡ closed_log (log_of program plan budget p (own_moments (told program plan budget h) p))
   entries_are h p x e =
       log_from (story program plan budget h) 0 (told program plan budget h).moments p x e
       ∙ ap (λ j. closed_log (log_of program plan budget j (own_moments (told program plan budget h) p))) (let z : 0 + p ≡ p = omega arith in z)

@@ -10,11 +10,12 @@ use Rattle.ppd_entry.specs.declared.entry.Entry.{Entry}
 use Rattle.ppd_sem.specs.Process.{need_of, started}
 use Rattle.ppd_sem.proofs.Progress.{need_at_status}
 use Rattle.ppd_sem.specs.declared.proc.Need.{Need}
+use Rattle.ppd_sem.specs.Described.{is_event}
 use Rattle.ppd_model.specs.FullTrace.{begun_tracing, tracing_of}
 use Rattle.ppd_model.specs.Intervals.{own, Span, Split, begun_split, change_first, innermost, split_of, split_step, with_own, with_part, with_step}
 use Rattle.ppd_model.specs.LocalTags.{AreOwn}
 use Rattle.ppd_model.specs.Logs.{log_of}
-use Rattle.ppd_model.specs.Story.{is_event, story, told}
+use Rattle.ppd_model.specs.Story.{story, told}
 use Rattle.ppd_model.specs.Synchronizations.{syncs_of}
 use Rattle.ppd_model.specs.declared.tracing.Story.{Story}
 use Rattle.ppd_model.specs.declared.tracing.Taken.{Taken}

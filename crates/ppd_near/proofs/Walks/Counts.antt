@@ -1,8 +1,6 @@
 -- Events of one edge, and the greatest of some edges.
-use Rattle.std.proofs.Common.{◌≡◌, ℕ, zero, suc, ◌+◌, ◌<◌, ◌≤◌, Bool, true, false, cond, List, [], ◌∷◌, Option, Some, None, refl, ap, sym, ◌∙◌, subst, arith, length, inl, inr, ◌⊎◌, if◌then◌else◌}
-use Rattle.std.specs.Prelude.{count_by, fold, is_some, slice_get, take}
-use Rattle.std.proofs.lemmas.Bool.{cases_eq}
-use Rattle.std.proofs.lemmas.List.Sums.{sum_by-append}
+use Rattle.std.proofs.Common.{◌≡◌, ℕ, ◌+◌, ◌<◌, ◌≤◌, Bool, true, false, List, [], ◌∷◌, Option, Some, None, ap, sym, ◌∙◌, subst, arith, length, inl, inr, ◌⊎◌, if◌then◌else◌}
+use Rattle.std.specs.Prelude.{fold, is_some, slice_get}
 use Rattle.std.proofs.lemmas.Option.{none-some}
 use Rattle.ppd_model.specs.declared.graph.EdgeId.{EdgeId}
 use Rattle.ppd_model.specs.declared.trace.TracedEvent.{TracedEvent}
@@ -13,37 +11,7 @@ use Rattle.ppd_search.specs.Shared.{greater, greatest}
 use Rattle.ppd_shared_edges.specs.Events.{AreQuiet, synchronizes}
 use Rattle.ppd_shared_edges.proofs.Back.Walked.{same_count}
 use Rattle.ppd_shared_edges.proofs.LogPlaces.EdgePlaces.{count_one}
-use Rattle.ppd_shared_edges.proofs.Near.Touched.{ArePlain}
 use Rattle.ppd_shared_edges.proofs.Spans.Facts.{count_to, one_if}
-
--- ---- counts of synchronizations
-
-count-cons : (e : TracedEvent) (es : List TracedEvent) → count_by (λ (y : TracedEvent). is_some y.event.number) (e ∷ es) ≡ cond (is_some e.event.number) 1 0 + count_by (λ (y : TracedEvent). is_some y.event.number) es
-count-cons e es =
-    let s : count_by (λ (y : TracedEvent). is_some y.event.number) (e ∷ es) ≡ (0 + cond (is_some e.event.number) 1 0) + count_by (λ (y : TracedEvent). is_some y.event.number) es =
-    sum_by-append (λ (y : TracedEvent). cond (is_some y.event.number) 1 0) (e ∷ []) es in
-    omega (arith, s)
-
-pub counted : (es : List TracedEvent) (k : ℕ) → count_by (λ (y : TracedEvent). is_some y.event.number) (take k es) ≡ count_to es k
-counted [] zero = refl
-counted [] (suc k) = refl
-counted (e ∷ es) zero = refl
-counted (e ∷ es) (suc k) = count-cons e (take k es) ∙ ap (λ i. cond (is_some e.event.number) 1 0 + i) (counted es k)
-
--- without a synchronization between them events are of one edge
-pub plain_count : (events : List TracedEvent) (lo hi : ℕ) → lo ≤ hi → hi ≤ length events → ArePlain events lo hi → count_to events lo ≡ count_to events hi
-plain_count events lo zero le end' q = ap (count_to events) (let z : lo ≡ 0 = omega (arith, le) in z)
-plain_count events lo (suc hi) le end' q = elim (cases_eq lo (suc hi)) [
-  | inl same ↦ ap (count_to events) same
-  | inr other ↦
-      let rest : count_to events lo ≡ count_to events hi = plain_count events lo hi (omega (arith, le, other)) (omega (arith, end')) (λ k ge lt. q k ge (omega (arith, lt))) in
-      let e = at_below events hi (omega (arith, end')) in
-      let plain : one_if (is_some e.0.event.number) ≡ 0 = ap one_if (sym (ap synchronizes e.1) ∙ q hi (omega (arith, le, other)) (omega arith)) in
-      let one : count_to events (hi + 1) ≡ count_to events hi + one_if (is_some e.0.event.number) = count_one events hi e.0 e.1 in
-      let z : hi + 1 ≡ suc hi = omega arith in
-      let last : count_to events (suc hi) ≡ count_to events hi = sym (ap (count_to events) z) ∙ one ∙ (let y : count_to events hi + one_if (is_some e.0.event.number) ≡ count_to events hi = omega (arith, plain) in y) in
-      rest ∙ sym last
-]
 
 -- the writer is of the edge that ends after it
 pub writer_count : (events : List TracedEvent) (c a b : ℕ) → synchronizes (slice_get events a) ≡ false → AreQuiet events c (a + 1) b → a < b → b ≤ length events → count_to events a ≡ count_to events b

@@ -8,8 +8,10 @@ use Rattle.ppd_ast.specs.declared.plan.Plan.{Plan}
 use Rattle.ppd_ast.specs.declared.program.Program.{Program}
 use Rattle.ppd_entry.specs.declared.entry.Entry.{Entry}
 use Rattle.ppd_entry.specs.declared.entry.Logs.{Logs}
+use Rattle.ppd_entry.specs.Entries.{entries_at}
 use Rattle.ppd_sem.specs.declared.proc.Need.{Need}
 use Rattle.ppd_sem.specs.declared.proc.Need.TheVariants as n
+use Rattle.ppd_sem.specs.Described.{is_event}
 use Rattle.ppd_model.specs.declared.flow.Origin.{Origin}
 use Rattle.ppd_model.specs.declared.flow.Origin.TheVariants as origin
 use Rattle.ppd_model.specs.declared.graph.EdgeId.{EdgeId}
@@ -19,7 +21,7 @@ use Rattle.ppd_model.specs.Intervals.{Split, own, splits}
 use Rattle.ppd_model.specs.Logs.{closed_log, closed_logs, log_of}
 use Rattle.ppd_model.specs.NearIntervals.{edge_of_event, through_step}
 use Rattle.ppd_model.specs.SharedReads.{IsAccess, IsWriteStep, WritesIn, need_after}
-use Rattle.ppd_model.specs.Story.{is_event, own_moments, story, told}
+use Rattle.ppd_model.specs.Story.{own_moments, story, told}
 use Rattle.ppd_model.specs.Synchronizations.{kind_of_sync, numbered, sync_of, syncs_of}
 use Rattle.ppd_model.proofs.SharedReads.{writes_step}
 use Rattle.ppd_model.proofs.Tested.{In, here as first_in, there as later_in}
@@ -27,7 +29,7 @@ use Rattle.ppd_search.specs.declared.walked.Walked.{Walked}
 use Rattle.ppd_search.specs.declared.walked.Walked.TheVariants.{Stopped, Passed, Found}
 use Rattle.ppd_search.specs.Ends.{end_interval, end_item}
 use Rattle.ppd_search.specs.Seen.{Seen, seen_of}
-use Rattle.ppd_search.specs.Shared.{Missing, entries_of, seen_at, walk_in, writing, written_at, written_in}
+use Rattle.ppd_search.specs.Shared.{Missing, seen_at, walk_in, writing, written_at, written_in}
 use Rattle.ppd_search.specs.Walk.{walk, walk_replays}
 use Rattle.ppd_shared_edges.specs.Events.{IsLastWriter, IsWalk}
 use Rattle.ppd_shared_edges.specs.Near.{IsOpenAt}
@@ -47,7 +49,8 @@ use Rattle.ppd_shared_edges.proofs.StepEvents.Timeline.{did, next}
 use Rattle.ppd_shared_edges.proofs.StepEvents.Writers.{IsWrite, as_write, edge_is_count, first_sync, syncs_both, syncs_none}
 use Rattle.ppd_near.proofs.Steps.Ends.{IsEnd, last_end, sync_end}
 use Rattle.ppd_near.proofs.Steps.Entries.{entries_are}
-use Rattle.ppd_near.proofs.Walks.Counts.{counted, plain_count, writer_count}
+use Rattle.ppd_shared_edges.proofs.Near.Nearby.{counted, plain_count}
+use Rattle.ppd_near.proofs.Walks.Counts.{writer_count}
 
 -- the origin in an answer
 abbrev origin_or : Origin → Result (ℤ × Origin) Missing → Origin
@@ -62,10 +65,10 @@ module _ (program : Program) (plan : Plan) (budget : ℕ) (h : List ℕ) (v : Is
 
   module _ (q : ℕ) (x : Split) (f : Facts program plan budget h v q x) where
     abbrev entries : List Entry
-    entries = entries_of (closed_logs program plan budget h) q
+    entries = entries_at (closed_logs program plan budget h) q
 
     abbrev F : ℕ → ℕ → ℕ → Type 0
-    F = Logged (entries_of (closed_logs program plan budget h) q) x.trace.events
+    F = Logged (entries_at (closed_logs program plan budget h) q) x.trace.events
 
     tree : HasTree x
     tree =
@@ -73,7 +76,7 @@ module _ (program : Program) (plan : Plan) (budget : ℕ) (h : List ℕ) (v : Is
         subst (λ y. HasTree y) t.0 (has_tree program plan (story program plan budget h) q budget (did (told program plan budget h) q))
 
     -- an interval that was left in the edge is open in it
-    left_open : (k m : ℕ) → k ≤ length x.trace.events → IsTouched x (Logged (entries_of (closed_logs program plan budget h) q) x.trace.events) k m → IsOpenAt x (count_to x.trace.events k) m
+    left_open : (k m : ℕ) → k ≤ length x.trace.events → IsTouched x (Logged (entries_at (closed_logs program plan budget h) q) x.trace.events) k m → IsOpenAt x (count_to x.trace.events k) m
     left_open k m le t =
         let c = closed_told program plan budget h v q x f.there in
         let logged : Logged (closed_log (log_of program plan budget q (own_moments (told program plan budget h) q))) x.trace.events m t.lo t.mid =
@@ -180,9 +183,9 @@ module _ (program : Program) (plan : Plan) (budget : ℕ) (h : List ℕ) (v : Is
     pub event : ℕ
     pub part : part_at split interval item ≡ Some (own event)
     pub replays : List ℕ
-    pub replays_are : replays ≡ end_interval (entries_of (closed_logs program plan budget h) a.process) a.edge
-        ∷ walk_replays (seen_at (all_seen program plan budget h) a.process) c (end_interval (entries_of (closed_logs program plan budget h) a.process) a.edge)
-        (end_item (entries_of (closed_logs program plan budget h) a.process) (seen_at (all_seen program plan budget h) a.process) a.edge)
+    pub replays_are : replays ≡ end_interval (entries_at (closed_logs program plan budget h) a.process) a.edge
+        ∷ walk_replays (seen_at (all_seen program plan budget h) a.process) c (end_interval (entries_at (closed_logs program plan budget h) a.process) a.edge)
+        (end_item (entries_at (closed_logs program plan budget h) a.process) (seen_at (all_seen program plan budget h) a.process) a.edge)
     pub once : AreDistinct replays
     pub opens : (z : ℕ) → In z replays → IsOpenAt split (edge_of_event split event) z
 
@@ -194,7 +197,7 @@ module _ (program : Program) (plan : Plan) (budget : ℕ) (h : List ℕ) (v : Is
       d = writing_ended c a m
 
       entries' : List Entry
-      entries' = entries_of (closed_logs program plan budget h) a.process
+      entries' = entries_at (closed_logs program plan budget h) a.process
 
       f : Facts program plan budget h v a.process d.split
       f = facts program plan budget h v a.process d.split d.there

@@ -7,11 +7,12 @@ use Rattle.std.proofs.lemmas.Option.{none-some}
 use Rattle.ppd_ast.specs.declared.status.Status.{Status}
 use Rattle.ppd_entry.specs.declared.entry.Entry.{Entry}
 use Rattle.ppd_entry.specs.declared.entry.Entry.TheVariants as entry
+use Rattle.ppd_entry.specs.Entries.{is_end}
 use Rattle.ppd_model.specs.declared.trace.TracedEvent.{TracedEvent}
 use Rattle.ppd_model.specs.Extents.{Extending}
 use Rattle.ppd_model.specs.FlowbackEdges.{part_at, part_in}
 use Rattle.ppd_model.specs.Intervals.{Part, own, Span, Split, item_of}
-use Rattle.ppd_model.specs.RecordedSets.{is_end, sync_in}
+use Rattle.ppd_model.specs.RecordedSets.{sync_in}
 use Rattle.ppd_model.proofs.Lists.{at_below}
 use Rattle.ppd_search.specs.Ends.{edge_at, end_interval, end_item, ending, ends_edge, first_edge, innermost_at, is_sync, sync_item}
 use Rattle.ppd_search.specs.Seen.{items_at, seen_of}

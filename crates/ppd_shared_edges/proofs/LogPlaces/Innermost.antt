@@ -14,24 +14,24 @@ use Rattle.ppd_model.proofs.Changes.{change-at, some}
 use Rattle.ppd_model.proofs.CountedOn.{kept_at}
 use Rattle.ppd_model.proofs.Extents.{IsIn, entry_number}
 use Rattle.ppd_model.proofs.Lists.{at_below, below_at}
-use Rattle.ppd_search.specs.Ends.{innermost_at, innermost_from, stands_in}
+use Rattle.ppd_search.specs.Ends.{innermost_at, innermost_from, is_in_extent}
 use Rattle.ppd_shared_edges.proofs.Spans.Facts.{at}
 use Rattle.ppd_shared_edges.proofs.LogPlaces.Extended.{Became, Falls, came, closes, ended_in, ended_length, ended_one, falls_below, is_log, left_length, left_one, new_cases, still_one}
 
 -- ---- the last one in which an entry stands
 
-no_more : (n m k : ℕ) (xs : List Extent) → ((i : ℕ) (y : Extent) → slice_get xs i ≡ Some y → stands_in n y ≡ false) → innermost_from n m k xs ≡ m
+no_more : (n m k : ℕ) (xs : List Extent) → ((i : ℕ) (y : Extent) → slice_get xs i ≡ Some y → is_in_extent n y ≡ false) → innermost_from n m k xs ≡ m
 no_more n m k [] none = refl
 no_more n m k (x ∷ xs) none = ap (λ b. innermost_from n (if b then k else m) (k + 1) xs) (none 0 x refl) ∙ no_more n m (k + 1) xs (λ i y e. none (suc i) y e)
 
-last_one : (n m k : ℕ) (xs : List Extent) (j : ℕ) (x : Extent) → slice_get xs j ≡ Some x → stands_in n x ≡ true → ((i : ℕ) (y : Extent) → j < i → slice_get xs i ≡ Some y → stands_in n y ≡ false) → innermost_from n m k xs ≡ k + j
+last_one : (n m k : ℕ) (xs : List Extent) (j : ℕ) (x : Extent) → slice_get xs j ≡ Some x → is_in_extent n x ≡ true → ((i : ℕ) (y : Extent) → j < i → slice_get xs i ≡ Some y → is_in_extent n y ≡ false) → innermost_from n m k xs ≡ k + j
 last_one n m k [] j x e is after = absurd (none-some x e)
 last_one n m k (z ∷ xs) zero x e is after =
     let same : z ≡ x = some e in
-    ap (λ b. innermost_from n (if b then k else m) (k + 1) xs) (ap (stands_in n) same ∙ is)
+    ap (λ b. innermost_from n (if b then k else m) (k + 1) xs) (ap (is_in_extent n) same ∙ is)
     ∙ no_more n k (k + 1) xs (λ i y f. after (suc i) y (omega arith) f) ∙ (let w : k ≡ k + 0 = omega arith in w)
 last_one n m k (z ∷ xs) (suc j) x e is after =
-    last_one n (if stands_in n z then k else m) (k + 1) xs j x e is (λ i y lt f. after (suc i) y (omega (arith, lt)) f) ∙ (let w : k + 1 + j ≡ k + suc j = omega arith in w)
+    last_one n (if is_in_extent n z then k else m) (k + 1) xs j x e is (λ i y lt f. after (suc i) y (omega (arith, lt)) f) ∙ (let w : k + 1 + j ≡ k + suc j = omega arith in w)
 
 -- ---- on from an entry
 
@@ -132,10 +132,10 @@ module _ (n low : ℕ) where
 
 -- ---- the innermost interval
 
-stands_yes : (n : ℕ) (x : Extent) → x.prelog < n → n ≤ unwrap_or x.last 0 → stands_in n x ≡ true
+stands_yes : (n : ℕ) (x : Extent) → x.prelog < n → n ≤ unwrap_or x.last 0 → is_in_extent n x ≡ true
 stands_yes n x a b = grind (arith, nat_tests)
 
-stands_past : (n : ℕ) (x : Extent) (l : ℕ) → x.last ≡ Some l → l < n → stands_in n x ≡ false
+stands_past : (n : ℕ) (x : Extent) (l : ℕ) → x.last ≡ Some l → l < n → is_in_extent n x ≡ false
 stands_past n x l e lt = ap (λ o. nat_lt x.prelog n && nat_le n (unwrap_or o 0)) e ∙ by (nat_lt x.prelog n)
   where
     over : nat_le n l ≡ false
@@ -145,7 +145,7 @@ stands_past n x l e lt = ap (λ o. nat_lt x.prelog n && nat_le n (unwrap_or o 0)
     by true = over
     by false = refl
 
-stands_before : (n : ℕ) (x : Extent) → n ≤ x.prelog → stands_in n x ≡ false
+stands_before : (n : ℕ) (x : Extent) → n ≤ x.prelog → is_in_extent n x ≡ false
 stands_before n x le = ap (λ b. b && nat_le n (unwrap_or x.last 0)) under
   where
     under : nat_lt x.prelog n ≡ false
@@ -178,7 +178,7 @@ module _ (before mid : List Entry) (st : Status) (rest : ℕ) (reads writes : Li
   final_end = final ∙ fold-append extend (at before) mid (stop ∷ [])
 
   -- one that is there and does not run
-  past_is : (j : ℕ) (y : Extent) → j < length (at before).extents → (IsIn j (at before).running → ⊥) → slice_get (extents all) j ≡ Some y → stands_in n y ≡ false
+  past_is : (j : ℕ) (y : Extent) → j < length (at before).extents → (IsIn j (at before).running → ⊥) → slice_get (extents all) j ≡ Some y → is_in_extent n y ≡ false
   past_is j y lt out e =
       let old = at_below (at before).extents j lt in
       let still : slice_get (extents all) j ≡ Some old.0 = ap (λ (z : Extending). slice_get z.extents j) final ∙ still_one (at before) (mid ++ stop ∷ []) j old.0 old.1 out in
@@ -188,10 +188,10 @@ module _ (before mid : List Entry) (st : Status) (rest : ℕ) (reads writes : Li
         | inr l ↦
             let number : (at before).entry ≡ length before = entry_number before in
             let less = l.2 in
-            subst (λ z. stands_in n z ≡ false) same (stands_past n old.0 l.0 l.1 (omega (arith, less, number)))
+            subst (λ z. is_in_extent n z ≡ false) same (stands_past n old.0 l.0 l.1 (omega (arith, less, number)))
       ]
 
-  later_is : (j : ℕ) (y : Extent) → length (at before).extents ≤ j → slice_get (extents all) j ≡ Some y → stands_in n y ≡ false
+  later_is : (j : ℕ) (y : Extent) → length (at before).extents ≤ j → slice_get (extents all) j ≡ Some y → is_in_extent n y ≡ false
   later_is j y ge e =
       let none : AreLater n (length (at before).extents) (at before) = λ i x le f. absurd (let lt : i < length (at before).extents = below_at (at before).extents i x f in omega (arith, lt, le)) in
       stands_before n y (later_all n (length (at before).extents) (at before) (mid ++ stop ∷ []) entry_is none j y ge (ap (λ (z : Extending). slice_get z.extents j) (sym final) ∙ e))

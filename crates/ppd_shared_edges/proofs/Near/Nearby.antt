@@ -55,14 +55,14 @@ count-cons e es =
     sum_by-append (λ (y : TracedEvent). cond (is_some y.event.number) 1 0) (e ∷ []) es in
     omega (arith, s)
 
-counted : (es : List TracedEvent) (n : ℕ) → count_by (λ (y : TracedEvent). is_some y.event.number) (take n es) ≡ count_to es n
+pub counted : (es : List TracedEvent) (n : ℕ) → count_by (λ (y : TracedEvent). is_some y.event.number) (take n es) ≡ count_to es n
 counted [] zero = refl
 counted [] (suc n) = refl
 counted (e ∷ es) zero = refl
 counted (e ∷ es) (suc n) = count-cons e (take n es) ∙ ap (λ k. cond (is_some e.event.number) 1 0 + k) (counted es n)
 
 -- without a synchronization between them events are of one edge
-plain_count : (events : List TracedEvent) (lo hi : ℕ) → lo ≤ hi → hi ≤ length events → ArePlain events lo hi → count_to events lo ≡ count_to events hi
+pub plain_count : (events : List TracedEvent) (lo hi : ℕ) → lo ≤ hi → hi ≤ length events → ArePlain events lo hi → count_to events lo ≡ count_to events hi
 plain_count events lo zero le end' q = ap (count_to events) (let z : lo ≡ 0 = omega (arith, le) in z)
 plain_count events lo (suc hi) le end' q = elim (cases_eq lo (suc hi)) [
   | inl same ↦ ap (count_to events) same

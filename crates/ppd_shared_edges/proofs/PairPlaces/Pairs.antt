@@ -9,7 +9,9 @@ use Rattle.ppd_ast.specs.declared.program.Kind.TheVariants as kind
 use Rattle.ppd_ast.specs.declared.program.Program.{Program}
 use Rattle.ppd_ast.specs.declared.status.SyncKind.{SyncKind}
 use Rattle.ppd_ast.specs.declared.status.SyncKind.TheVariants as sync_kind
+use Rattle.ppd_ast.specs.Lookups.{kind_of}
 use Rattle.ppd_entry.specs.declared.entry.Logs.{Logs}
+use Rattle.ppd_entry.specs.Entries.{entries_at}
 use Rattle.ppd_graph.specs.declared.paired.Paired.{Paired}
 use Rattle.ppd_graph.specs.declared.paired.Paired.TheVariants.{Nothing, Initial, Node}
 use Rattle.ppd_graph.specs.Partners.{found, paired_by, pairs_of, partner_of, wanted}
@@ -17,7 +19,8 @@ use Rattle.ppd_graph.specs.Times.{ArePartners, node_of, pair_at}
 use Rattle.ppd_graph.proofs.Leads.{partners_found}
 use Rattle.ppd_sem.specs.declared.proc.Need.{Need}
 use Rattle.ppd_sem.specs.declared.proc.Need.TheVariants as need
-use Rattle.ppd_sem.specs.Process.{kind_of, need_of, started}
+use Rattle.ppd_sem.specs.Process.{need_of, started}
+use Rattle.ppd_sem.specs.Described.{is_event}
 use Rattle.ppd_model.specs.declared.flow.EdgeKind.TheVariants as edge_kind
 use Rattle.ppd_model.specs.declared.flow.Origin.TheVariants as origin
 use Rattle.ppd_model.specs.declared.graph.NodeId.{NodeId}
@@ -34,7 +37,7 @@ use Rattle.ppd_model.specs.LocalTags.{AreOwn}
 use Rattle.ppd_model.specs.Logs.{closed_logs}
 use Rattle.ppd_model.specs.Record.{sync_record}
 use Rattle.ppd_model.specs.RecordedSets.{RecordsAccesses, record_in}
-use Rattle.ppd_model.specs.Story.{is_event, own_steps, story, told}
+use Rattle.ppd_model.specs.Story.{own_steps, story, told}
 use Rattle.ppd_model.specs.Synchronizations.{Sync, kind_of_sync, leading_from, leads_at, numbered, paired_of, sync_of, syncs_of}
 use Rattle.ppd_model.proofs.Accesses.{record_at}
 use Rattle.ppd_model.proofs.Changes.{some}
@@ -46,7 +49,7 @@ use Rattle.ppd_model.proofs.RecordedSyncs.{record_syncs}
 use Rattle.ppd_search.specs.Ends.{edge_at, end_interval, end_item}
 use Rattle.ppd_search.specs.Found.{pair_edges, sync_edges}
 use Rattle.ppd_search.specs.Seen.{seen_of}
-use Rattle.ppd_search.specs.Shared.{entries_of, pair_place, seen_at}
+use Rattle.ppd_search.specs.Shared.{pair_place, seen_at}
 use Rattle.ppd_sound.proofs.SharedCells.Writers.{events_in}
 use Rattle.ppd_shared_edges.specs.SharedEdges.{PairsAreFound, all_seen}
 use Rattle.ppd_shared_edges.proofs.LogPlaces.EdgeEnds.{EndsAt, IsAt, at_place, at_sync}
@@ -147,14 +150,14 @@ module _ (program : Program) (plan : Plan) (budget : ℕ) (h : List ℕ) (v : Is
       let there = split_there program plan budget (story program plan budget h) 0 (told program plan budget h).moments q lt_q in
       let x : Split = there.0 in
       let g : Facts program plan budget h v q x = facts program plan budget h v q x there.1 in
-      let r : RecordsAccesses (story program plan budget h) q (entries_of logs q) = g.records in
+      let r : RecordsAccesses (story program plan budget h) q (entries_at logs q) = g.records in
       let a : HasEvent program plan budget h v q x g before y = ev_at program plan budget h v q x g before y after e (sync_event y (ap is_some f)) in
       let counted : count_to x.trace.events (events_in before) ≡ length (syncs_of before) = ev_count program plan budget h v q x g before (y ∷ after) e in
-      let ends : EndsAt x (entries_of logs q) (count_to x.trace.events (events_in before)) (events_in before) =
-      at_sync x (entries_of logs q) g.told_by r.before r.status r.rest _ _ r.entries_are r.no_end (events_in before) (a.is_sync ∙ ap is_some f) in
-      ap (λ i. Some (origin.Item q (end_interval (entries_of logs q) i) (end_item (entries_of logs q) (seen_at (all_seen program plan budget h) q) i))) (sym counted)
-      ∙ ap (λ z. Some (origin.Item q (end_interval (entries_of logs q) (count_to x.trace.events (events_in before))) (end_item (entries_of logs q) z (count_to x.trace.events (events_in before))))) g.seen_is
-      ∙ ap (λ o. Some o) (sym (ref_of program plan budget h v q x there.1 (events_in before) (end_interval (entries_of logs q) (count_to x.trace.events (events_in before))) (end_item (entries_of logs q) (seen_of x) (count_to x.trace.events (events_in before))) a.within ends.there))
+      let ends : EndsAt x (entries_at logs q) (count_to x.trace.events (events_in before)) (events_in before) =
+      at_sync x (entries_at logs q) g.told_by r.before r.status r.rest _ _ r.entries_are r.no_end (events_in before) (a.is_sync ∙ ap is_some f) in
+      ap (λ i. Some (origin.Item q (end_interval (entries_at logs q) i) (end_item (entries_at logs q) (seen_at (all_seen program plan budget h) q) i))) (sym counted)
+      ∙ ap (λ z. Some (origin.Item q (end_interval (entries_at logs q) (count_to x.trace.events (events_in before))) (end_item (entries_at logs q) z (count_to x.trace.events (events_in before))))) g.seen_is
+      ∙ ap (λ o. Some o) (sym (ref_of program plan budget h v q x there.1 (events_in before) (end_interval (entries_at logs q) (count_to x.trace.events (events_in before))) (end_item (entries_at logs q) (seen_of x) (count_to x.trace.events (events_in before))) a.within ends.there))
 
   -- of a step that is a synchronization
   of_sync : (p : ℕ) (before : List Taken) (y : Taken) (after : List Taken) (s : Sync) (k : Kind) → did (told program plan budget h) p ≡ before ++ y ∷ after → sync_of y ≡ Some s → takes y.need ≡ is_take k
@@ -235,7 +238,7 @@ numbered_step ys before y after h e = by before (subst AreNumberedModel e h)
 
 -- by whether the step is a synchronization
 by_sync : (program : Program) (plan : Plan) (budget : ℕ) (h : List ℕ) (v : IsValid program) (p k j : ℕ) (before : List Taken) (y : Taken) (after : List Taken) (kd : Kind) → did (told program plan budget h) p ≡ before ++ y ∷ after → takes y.need ≡ is_take kd
-    → edge_at (entries_of (closed_logs program plan budget h) p) (seen_at (all_seen program plan budget h) p) k j ≡ length (syncs_of before) → (o : Option Sync) → sync_of y ≡ o
+    → edge_at (entries_at (closed_logs program plan budget h) p) (seen_at (all_seen program plan budget h) p) k j ≡ length (syncs_of before) → (o : Option Sync) → sync_of y ≡ o
     → sync_edges program (closed_logs program plan budget h) (all_seen program plan budget h) p k j y.number ≡ model_sync_edges (splits program plan budget (story program plan budget h)) kd (paired_of program (story program plan budget h) y)
 by_sync program plan budget h v p k j before y after kd are take edge_is (Some s) f =
     let m = made_of (kind_of_sync y.need) y.number s f in
@@ -266,9 +269,9 @@ pairs_found program plan budget h v p k j x number e there placed event_is =
     ap₂ (λ es i. slice_get es i) f.events_are (sym s.number) ∙ at_event program plan budget told_story p steps f.steps_own f.steps_numbered s.before s.step s.after s.are s.finishes in
     let same : new_event program plan told_story p s.step u ≡ e = some (sym event ∙ event_is) in
     let take : takes s.step.need ≡ is_take (kind_of program head.0.stmt) = ap takes mine ∙ takes_is program plan u.proc head.0 head.1 head.2 finishes in
-    let at : IsAt x (entries_of (closed_logs program plan budget h) p) number k j = at_place x (entries_of (closed_logs program plan budget h) p) f.told_by k j number placed lt in
-    let edge_is : edge_at (entries_of (closed_logs program plan budget h) p) (seen_at (all_seen program plan budget h) p) k j ≡ length (syncs_of s.before) =
-    ap (λ z. edge_at (entries_of (closed_logs program plan budget h) p) z k j) f.seen_is ∙ at.edge ∙ ap (count_to x.trace.events) (sym s.number) ∙ ev_count program plan budget h v p x f s.before (s.step ∷ s.after) s.are in
+    let at : IsAt x (entries_at (closed_logs program plan budget h) p) number k j = at_place x (entries_at (closed_logs program plan budget h) p) f.told_by k j number placed lt in
+    let edge_is : edge_at (entries_at (closed_logs program plan budget h) p) (seen_at (all_seen program plan budget h) p) k j ≡ length (syncs_of s.before) =
+    ap (λ z. edge_at (entries_at (closed_logs program plan budget h) p) z k j) f.seen_is ∙ at.edge ∙ ap (count_to x.trace.events) (sym s.number) ∙ ev_count program plan budget h v p x f s.before (s.step ∷ s.after) s.are in
     let number_is : e.event.number ≡ s.step.number = ap (λ (z : TracedEvent). z.event.number) (sym same) ∙ ap (λ todo. (event_of program plan u.proc s.step todo).number) head.2 in
     let stmt_is : e.event.stmt ≡ head.0.stmt = ap (λ (z : TracedEvent). z.event.stmt) (sym same) ∙ ap (λ todo. (event_of program plan u.proc s.step todo).stmt) head.2 in
     let paired : e.paired ≡ paired_of program told_story s.step = ap (λ (z : TracedEvent). z.paired) (sym same) in

@@ -6,8 +6,10 @@ use Rattle.ppd_ast.specs.Valid.{IsValid}
 use Rattle.ppd_ast.specs.declared.plan.Plan.{Plan}
 use Rattle.ppd_ast.specs.declared.program.Program.{Program}
 use Rattle.ppd_entry.specs.declared.entry.Logs.{Logs}
+use Rattle.ppd_entry.specs.Entries.{entries_at}
 use Rattle.ppd_sem.specs.declared.proc.Need.{Need}
 use Rattle.ppd_sem.specs.declared.proc.Need.TheVariants as n
+use Rattle.ppd_sem.specs.Described.{is_event}
 use Rattle.ppd_model.specs.declared.flow.Origin.TheVariants as origin
 use Rattle.ppd_model.specs.declared.tracing.Taken.{Taken}
 use Rattle.ppd_model.specs.FlowbackEdges.{part_at}
@@ -16,12 +18,12 @@ use Rattle.ppd_model.specs.Intervals.{own, Split, ref, splits}
 use Rattle.ppd_model.specs.Items.{IsReferred}
 use Rattle.ppd_model.specs.Logs.{closed_logs}
 use Rattle.ppd_model.specs.RecordedSets.{RecordsAccesses}
-use Rattle.ppd_model.specs.Story.{is_event, story, told}
+use Rattle.ppd_model.specs.Story.{story, told}
 use Rattle.ppd_model.specs.Synchronizations.{kind_of_sync, numbered, sync_of, syncs_of}
 use Rattle.ppd_model.proofs.Items.{items_whole}
 use Rattle.ppd_search.specs.Ends.{end_interval, end_item}
 use Rattle.ppd_search.specs.Seen.{seen_of}
-use Rattle.ppd_search.specs.Shared.{entries_of, written_at, written_in}
+use Rattle.ppd_search.specs.Shared.{written_at, written_in}
 use Rattle.ppd_search.specs.Walk.{walk}
 use Rattle.ppd_sound.proofs.SharedCells.Writers.{events_in}
 use Rattle.ppd_shared_edges.specs.Events.{IsLastWriter, synchronizes}
@@ -67,12 +69,12 @@ module _ (program : Program) (plan : Plan) (budget : ℕ) (h : List ℕ) (v : Is
       r.ref_is ∙ ap₂ (λ a b. origin.Item q a b) (sym same.0) (sym same.1)
 
   -- the write that was found in an edge
-  found_there : (q i m e : ℕ) (c : ℕ) (u : ℤ) (x : Split) (f : Facts program plan budget h v q x) → EndsBy x (entries_of logs q) i e → IsLastWriter x.trace.events c 0 e m u → e ≤ length x.trace.events
+  found_there : (q i m e : ℕ) (c : ℕ) (u : ℤ) (x : Split) (f : Facts program plan budget h v q x) → EndsBy x (entries_at logs q) i e → IsLastWriter x.trace.events c 0 e m u → e ≤ length x.trace.events
       → written_in logs (all_seen program plan budget h) c (edge q i) ≡ Ok (u, ref xs (record { process = q; number = m }))
   found_there q i m e c u x f ends l le =
-      let w : IsFoundAt x (walk (seen_of x) c (end_interval (entries_of logs q) i) (end_item (entries_of logs q) (seen_of x) i)) m u = found_is x c e m u l (walk (seen_of x) c (end_interval (entries_of logs q) i) (end_item (entries_of logs q) (seen_of x) i)) (ends.walks c) in
+      let w : IsFoundAt x (walk (seen_of x) c (end_interval (entries_at logs q) i) (end_item (entries_at logs q) (seen_of x) i)) m u = found_is x c e m u l (walk (seen_of x) c (end_interval (entries_at logs q) i) (end_item (entries_at logs q) (seen_of x) i)) (ends.walks c) in
       let to = l.to in
-      ap (λ z. written_at logs c (edge q i) (walk z c (end_interval (entries_of logs q) i) (end_item (entries_of logs q) z i))) f.seen_is
+      ap (λ z. written_at logs c (edge q i) (walk z c (end_interval (entries_at logs q) i) (end_item (entries_at logs q) z i))) f.seen_is
       ∙ ap (written_at logs c (edge q i)) w.is
       ∙ ap (λ o. Ok (u, o)) (sym (ref_of q x f.there m w.interval w.item (omega (arith, to, le)) w.there))
 
@@ -80,7 +82,7 @@ module _ (program : Program) (plan : Plan) (budget : ℕ) (h : List ℕ) (v : Is
   pub in_ended : (q c : ℕ) (u : ℤ) (x : Split) (f : Facts program plan budget h v q x) (before : List Taken) (y : Taken) (mid after : List Taken) → steps_at q ≡ before ++ y ∷ (mid ++ after) → y.need ≡ n.Write c u → NoWrites program plan c mid → HasSync mid
       → written_in logs (all_seen program plan budget h) c (edge q (length (syncs_of before))) ≡ Ok (u, ref xs (record { process = q; number = events_in before }))
   in_ended q c u x f before y mid after are need none' s =
-      let r : RecordsAccesses (story program plan budget h) q (entries_of logs q) = f.records in
+      let r : RecordsAccesses (story program plan budget h) q (entries_at logs q) = f.records in
       let whole : steps_at q ≡ before ++ y ∷ (s.front ++ (s.step ∷ (s.back ++ after))) =
       are ∙ ap (λ l. before ++ y ∷ (l ++ after)) s.are ∙ ap (λ l. before ++ y ∷ l) (append_assoc s.front (s.step ∷ s.back) after) in
       let upto : steps_at q ≡ (before ++ y ∷ s.front) ++ s.step ∷ (s.back ++ after) = whole ∙ sym (append_assoc before (y ∷ s.front) (s.step ∷ (s.back ++ after))) in
@@ -90,8 +92,8 @@ module _ (program : Program) (plan : Plan) (budget : ℕ) (h : List ℕ) (v : Is
       let plain : length (syncs_of (y ∷ s.front)) ≡ 0 = syncs_none (y ∷ s.front) (ap (λ m. numbered (kind_of_sync m) y.number) need, s.none) in
       let sum : length (syncs_of (before ++ y ∷ s.front)) ≡ length (syncs_of before) + length (syncs_of (y ∷ s.front)) = syncs_both before (y ∷ s.front) in
       let number : count_to x.trace.events (events_in (before ++ y ∷ s.front)) ≡ length (syncs_of before) = omega (arith, counted, plain, sum) in
-      let ends : EndsAt x (entries_of logs q) (count_to x.trace.events (events_in (before ++ y ∷ s.front))) (events_in (before ++ y ∷ s.front)) =
-      at_sync x (entries_of logs q) f.told_by r.before r.status r.rest _ _ r.entries_are r.no_end (events_in (before ++ y ∷ s.front)) sync in
+      let ends : EndsAt x (entries_at logs q) (count_to x.trace.events (events_in (before ++ y ∷ s.front))) (events_in (before ++ y ∷ s.front)) =
+      at_sync x (entries_at logs q) f.told_by r.before r.status r.rest _ _ r.entries_are r.no_end (events_in (before ++ y ∷ s.front)) sync in
       let lt = e.within in
       subst (λ i. written_in logs (all_seen program plan budget h) c (edge q i) ≡ Ok (u, ref xs (record { process = q; number = events_in before }))) number
       (found_there q (count_to x.trace.events (events_in (before ++ y ∷ s.front))) (events_in before) (events_in (before ++ y ∷ s.front)) c u x f ends.by
@@ -101,7 +103,7 @@ module _ (program : Program) (plan : Plan) (budget : ℕ) (h : List ℕ) (v : Is
   pub in_last : (q c : ℕ) (u : ℤ) (x : Split) (f : Facts program plan budget h v q x) (before : List Taken) (y : Taken) (mid : List Taken) → steps_at q ≡ before ++ y ∷ mid → y.need ≡ n.Write c u → NoWrites program plan c mid → AreNone mid
       → written_in logs (all_seen program plan budget h) c (edge q (length (syncs_of before))) ≡ Ok (u, ref xs (record { process = q; number = events_in before }))
   in_last q c u x f before y mid are need none' still =
-      let r : RecordsAccesses (story program plan budget h) q (entries_of logs q) = f.records in
+      let r : RecordsAccesses (story program plan budget h) q (entries_at logs q) = f.records in
       let whole : steps_at q ≡ before ++ y ∷ (mid ++ []) = are ∙ ap (λ l. before ++ y ∷ l) (sym (append-nil mid)) in
       let all : steps_at q ≡ (before ++ y ∷ mid) ++ [] = are ∙ sym (append-nil (before ++ y ∷ mid)) in
       let counted : count_to x.trace.events (events_in (before ++ y ∷ mid)) ≡ length (syncs_of (before ++ y ∷ mid)) = ev_count program plan budget h v q x f (before ++ y ∷ mid) [] all in
@@ -110,8 +112,8 @@ module _ (program : Program) (plan : Plan) (budget : ℕ) (h : List ℕ) (v : Is
       let plain : length (syncs_of (y ∷ mid)) ≡ 0 = syncs_none (y ∷ mid) (ap (λ m. numbered (kind_of_sync m) y.number) need, still) in
       let sum : length (syncs_of (before ++ y ∷ mid)) ≡ length (syncs_of before) + length (syncs_of (y ∷ mid)) = syncs_both before (y ∷ mid) in
       let number : count_to x.trace.events (length x.trace.events) ≡ length (syncs_of before) = ap (count_to x.trace.events) (sym long) ∙ (let z : count_to x.trace.events (events_in (before ++ y ∷ mid)) ≡ length (syncs_of before) = omega (arith, counted, plain, sum) in z) in
-      let ends : EndsBy x (entries_of logs q) (count_to x.trace.events (length x.trace.events)) (length x.trace.events) =
-      at_last_edge x (entries_of logs q) f.told_by r.before r.status r.rest _ _ r.entries_are r.no_end in
+      let ends : EndsBy x (entries_at logs q) (count_to x.trace.events (length x.trace.events)) (length x.trace.events) =
+      at_last_edge x (entries_at logs q) f.told_by r.before r.status r.rest _ _ r.entries_are r.no_end in
       subst (λ i. written_in logs (all_seen program plan budget h) c (edge q i) ≡ Ok (u, ref xs (record { process = q; number = events_in before }))) number
       (found_there q (count_to x.trace.events (length x.trace.events)) (events_in before) (length x.trace.events) c u x f ends
       (subst (λ k. IsLastWriter x.trace.events c 0 k (events_in before) u) long (last_writer program plan budget h v q x f c u before y mid [] whole need still none')) (omega arith))

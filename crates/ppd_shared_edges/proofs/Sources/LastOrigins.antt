@@ -18,7 +18,7 @@ use Rattle.ppd_model.specs.Forward.{edge_in}
 use Rattle.ppd_model.specs.FullTrace.{Tag}
 use Rattle.ppd_model.specs.HappenedBefore.{EdgeBefore, edge, is_edge_before}
 use Rattle.ppd_model.specs.Intervals.{Split, ref, splits, splits_from}
-use Rattle.ppd_model.specs.Laws.{IsAtStart, IsUnwritten, begins, is_write_of}
+use Rattle.ppd_model.specs.Laws.{IsAtStart, IsUnwritten, begins}
 use Rattle.ppd_model.specs.Logs.{closed_log, closed_logs, logs_from}
 use Rattle.ppd_model.specs.Races.{races}
 use Rattle.ppd_model.specs.Record.{sync_record}
@@ -27,7 +27,7 @@ use Rattle.ppd_model.specs.Schedule.{run}
 use Rattle.ppd_model.specs.SharedReads.{IsAccess, IsGreatest, IsWriteStep, IsWrittenBy, WritesIn, need_after}
 use Rattle.ppd_model.specs.Story.{Moment, Telling, next_event, own_moments, steps_of, story, tell, told}
 use Rattle.ppd_model.specs.Synchronizations.{Sync, syncs_of}
-use Rattle.ppd_model.specs.World.{World, need}
+use Rattle.ppd_model.specs.World.{World, need, writes_cell}
 use Rattle.ppd_model.proofs.Forward.{edges_forward}
 use Rattle.ppd_model.proofs.RecordedSyncs.{record_syncs}
 use Rattle.ppd_model.proofs.SharedReads.{last_greatest, steps_access, writes_step}
@@ -170,14 +170,14 @@ module _ (program : Program) (plan : Plan) (budget : ℕ) where
         writing_all program plan budget h v c q (edge_in program plan budget b q) (writes_in b q after c e a) (omega (arith, lt, long)) (omega (arith, edges, total, sum))
 
     -- nothing writes the cell
-    unwritten_at : (c : ℕ) (t : Telling) (b : List ℕ) (q : ℕ) (after : List ℕ) → IsUnwritten program plan c t (b ++ q ∷ after) → is_write_of c (need program plan (fold (tell program plan) t b).world q) ≡ false
+    unwritten_at : (c : ℕ) (t : Telling) (b : List ℕ) (q : ℕ) (after : List ℕ) → IsUnwritten program plan c t (b ++ q ∷ after) → writes_cell c (need program plan (fold (tell program plan) t b).world q) ≡ false
     unwritten_at c t [] q after u = u.0
     unwritten_at c t (p ∷ b) q after u = unwritten_at c (tell program plan t p) b q after u.1
 
     -- ---- the last value
 
-    value_of_access : (c : ℕ) (m : Need) (u : ℤ) → m ≡ n.Write c u → is_write_of c m ≡ true
-    value_of_access c m u e = ap (is_write_of c) e ∙ eq-eqb c c refl
+    value_of_access : (c : ℕ) (m : Need) (u : ℤ) → m ≡ n.Write c u → writes_cell c m ≡ true
+    value_of_access c m u e = ap (writes_cell c) e ∙ eq-eqb c c refl
 
     -- where the write is of this step, the search finds it in its edge
     found_last_in : (b : List ℕ) (q : ℕ) (after : List ℕ) (c : ℕ) (u : ℤ) → h ≡ b ++ q ∷ after → need_after program plan budget b q ≡ n.Write c u → IsUnwritten program plan c (told program plan budget (b ++ q ∷ [])) after

@@ -7,6 +7,7 @@ use Rattle.ppd_ast.specs.Valid.{IsValid}
 use Rattle.ppd_ast.specs.declared.plan.Plan.{Plan}
 use Rattle.ppd_ast.specs.declared.program.Program.{Program}
 use Rattle.ppd_entry.specs.declared.entry.Logs.{Logs}
+use Rattle.ppd_entry.specs.Entries.{entries_at}
 use Rattle.ppd_sem.specs.declared.proc.Need.{Need}
 use Rattle.ppd_sem.specs.declared.proc.Need.TheVariants as n
 use Rattle.ppd_model.specs.declared.flow.Origin.TheVariants as origin
@@ -18,7 +19,7 @@ use Rattle.ppd_model.specs.Forward.{edge_in}
 use Rattle.ppd_model.specs.FullTrace.{Tag}
 use Rattle.ppd_model.specs.HappenedBefore.{EdgeBefore, edge}
 use Rattle.ppd_model.specs.Intervals.{own, Split, ref, splits}
-use Rattle.ppd_model.specs.Laws.{IsUnwritten, begins, is_write_of}
+use Rattle.ppd_model.specs.Laws.{IsUnwritten, begins}
 use Rattle.ppd_model.specs.Logs.{closed_logs}
 use Rattle.ppd_model.specs.Races.{races}
 use Rattle.ppd_model.specs.Record.{sync_record}
@@ -26,13 +27,13 @@ use Rattle.ppd_model.specs.Schedule.{run}
 use Rattle.ppd_model.specs.SharedReads.{IsAccess, IsAcross, IsFound, IsFromStart, IsWrittenBy, WritesIn, need_after}
 use Rattle.ppd_model.specs.Story.{Telling, next_event, own_moments, story, tell, told}
 use Rattle.ppd_model.specs.Synchronizations.{kind_of_sync, numbered, syncs_of}
-use Rattle.ppd_model.specs.World.{World}
+use Rattle.ppd_model.specs.World.{World, writes_cell}
 use Rattle.ppd_model.proofs.AccessSets.{accesses_there}
 use Rattle.ppd_model.proofs.Lists.{at_below, below_at}
 use Rattle.ppd_model.proofs.SharedReads.{shared_found, steps_access}
 use Rattle.ppd_search.specs.declared.walked.Walked.{Walked}
 use Rattle.ppd_search.specs.Seen.{seen_of}
-use Rattle.ppd_search.specs.Shared.{edge_of_place, entries_of, greatest, greatest_before, is_before_in, origin_in, own_or, shared_origin, writing, written_in, written_or_start}
+use Rattle.ppd_search.specs.Shared.{edge_of_place, greatest, greatest_before, is_before_in, origin_in, own_or, shared_origin, writing, written_in, written_or_start}
 use Rattle.ppd_search.specs.Ends.{edge_at}
 use Rattle.ppd_search.specs.Walk.{walk}
 use Rattle.ppd_sound.proofs.SharedCells.Writers.{count_is, events_in}
@@ -52,8 +53,8 @@ use Rattle.ppd_shared_edges.proofs.Back.Walked.{IsFoundAt, found_is, not_found, 
 use Rattle.ppd_shared_edges.proofs.StepEvents.Writers.{AreNone, HasEvent, HasSync, IsWrite, as_write, edge_is_count, ev_at, ev_count, ev_within, first_sync, last_writer, none_at, none_syncs, syncs_both, syncs_none, write_is}
 use Rattle.ppd_shared_edges.proofs.Sources.Writing.{writing_only}
 
-write_yes : (c : ℕ) (m : Need) (u : ℤ) → m ≡ n.Write c u → is_write_of c m ≡ true
-write_yes c m u e = ap (is_write_of c) e ∙ eq-eqb c c refl
+write_yes : (c : ℕ) (m : Need) (u : ℤ) → m ≡ n.Write c u → writes_cell c m ≡ true
+write_yes c m u e = ap (writes_cell c) e ∙ eq-eqb c c refl
 
 module _ (program : Program) (plan : Plan) (budget : ℕ) (h : List ℕ) (w : World) (v : IsValid program) (r : run program plan budget h ≡ Some w) (free : races program plan budget h ≡ []) where
   abbrev xs : List Split
@@ -71,8 +72,8 @@ module _ (program : Program) (plan : Plan) (budget : ℕ) (h : List ℕ) (w : Wo
     abbrev here : Walked
     here = walk (seen_of x) c k j
 
-    at : IsAt x (entries_of logs p) number k j
-    at = at_place x (entries_of logs p) f.told_by k j number placed lt
+    at : IsAt x (entries_at logs p) number k j
+    at = at_place x (entries_at logs p) f.told_by k j number placed lt
 
     -- what the process did before
     so_far : (more : List Taken) × (steps_at p ≡ did (told program plan budget g) p ++ more)
@@ -83,7 +84,7 @@ module _ (program : Program) (plan : Plan) (budget : ℕ) (h : List ℕ) (w : Wo
     -- the edge of the place is that of the read
     edge_is : edge_of_place logs (all_seen program plan budget h) p k j ≡ edge p (edge_in program plan budget g p)
     edge_is =
-        ap (λ z. edge p (edge_at (entries_of logs p) z k j)) f.seen_is
+        ap (λ z. edge p (edge_at (entries_at logs p) z k j)) f.seen_is
         ∙ ap (edge p) (at.edge ∙ ap (count_to x.trace.events) (sym events_are) ∙ ev_count program plan budget h v p x f (did (told program plan budget g) p) so_far.0 so_far.1 ∙ sym (edge_is_count program plan budget g p))
 
     -- what the search goes on with

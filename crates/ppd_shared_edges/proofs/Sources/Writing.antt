@@ -1,57 +1,30 @@
 -- The edges whose recorded write set has a cell are those in which the cell is written.
-use Rattle.std.proofs.Common.{◌≡◌, ℕ, zero, suc, ◌+◌, ◌<◌, ◌≤◌, List, [], ◌∷◌, ◌++◌, Some, None, Bool, true, false, refl, ap, ap₂, sym, subst, ◌∙◌, arith, length, length-append, map, get_or, filter_map, true≢false, eq-eqb, eqb-true, inl, inr, ◌&&◌, ◌||◌, if◌then◌else◌}
+use Rattle.std.proofs.Common.{◌≡◌, ℕ, zero, suc, ◌+◌, ◌<◌, ◌≤◌, List, [], ◌∷◌, ◌++◌, Some, None, Bool, true, false, refl, ap, ap₂, sym, subst, ◌∙◌, arith, length, length-append, map, get_or, true≢false, eq-eqb, eqb-true, inl, inr, ◌&&◌, ◌||◌, if◌then◌else◌}
 use Rattle.std.specs.Prelude.{nat_eq, slice_get}
-use Rattle.std.specs.List.{cons_option, list_any, range_with_len}
+use Rattle.std.specs.List.{list_any, range_with_len}
 use Rattle.std.proofs.lemmas.Bool.{and_parts, cases_lt}
 use Rattle.std.proofs.lemmas.Option.{none-some}
 use Rattle.ppd_ast.specs.Valid.{IsValid}
 use Rattle.ppd_ast.specs.declared.plan.Plan.{Plan}
 use Rattle.ppd_ast.specs.declared.program.Program.{Program}
-use Rattle.ppd_ast.specs.declared.status.Status.{Status}
-use Rattle.ppd_bits.specs.CellSets.{has}
-use Rattle.ppd_entry.specs.declared.entry.Entry.{Entry}
-use Rattle.ppd_entry.specs.declared.entry.Entry.TheVariants as entry
+use Rattle.ppd_ast.specs.Members.{has}
 use Rattle.ppd_graph.specs.declared.sets.EdgeSets.{EdgeSets}
-use Rattle.ppd_graph.specs.LogRecord.{edge_sets, ended_by, found_after, sets_from, edge_sets_in}
+use Rattle.ppd_graph.specs.LogRecord.{sets_from, edge_sets_in}
+use Rattle.ppd_graph.proofs.ClosedSets.{row_sets, run_sets}
 use Rattle.ppd_model.specs.declared.graph.EdgeId.{EdgeId}
 use Rattle.ppd_model.specs.HappenedBefore.{edge}
 use Rattle.ppd_model.specs.Logs.{closed_logs}
 use Rattle.ppd_model.specs.Races.{has_access, writes_or_not}
 use Rattle.ppd_model.specs.Record.{SharedAccess, accesses}
-use Rattle.ppd_model.specs.RecordedSets as recorded
-use Rattle.ppd_model.specs.RecordedSets.{RecordsAccesses, cells_in, is_end, last_edge, sets_at_sync}
+use Rattle.ppd_model.specs.RecordedSets.{last_edge}
 use Rattle.ppd_model.specs.SharedReads.{WritesIn}
 use Rattle.ppd_model.specs.Story.{story}
 use Rattle.ppd_model.proofs.AccessSets.{cells_are}
 use Rattle.ppd_model.proofs.Changes.{some}
 use Rattle.ppd_model.proofs.Lists.{below_at}
-use Rattle.ppd_model.proofs.RecordedSets.{record_sets}
 use Rattle.ppd_model.proofs.Tested.{In, here, there, in_left, in_right}
 use Rattle.ppd_shared_edges.proofs.Sources.Members.{in_cases, in_either, no_member}
 use Rattle.ppd_search.specs.Shared.{writing, writing_from, writing_in}
-
--- ---- the sets of a closed log
-
-ended : List ℕ × List ℕ → EdgeSets
-ended t = edge_sets t.0 t.1
-
-closed_sets : (before : List Entry) (status : Status) (rest : ℕ) (r w : List ℕ) → list_any is_end before ≡ false → sets_from None (before ++ entry.End status rest r w ∷ []) ≡ map ended (filter_map sets_at_sync before) ++ edge_sets r w ∷ []
-unfolding ended
-closed_sets [] status rest r w h = refl
-closed_sets (e ∷ es) status rest r w h = by e h (closed_sets es status rest r w)
-  where
-    by : (e : Entry) → (is_end e || list_any is_end es) ≡ false
-        → (list_any is_end es ≡ false → sets_from None (es ++ entry.End status rest r w ∷ []) ≡ map ended (filter_map sets_at_sync es) ++ edge_sets r w ∷ [])
-        → ended_by e ++ sets_from (found_after None e) (es ++ entry.End status rest r w ∷ []) ≡ map ended (cons_option (sets_at_sync e) (filter_map sets_at_sync es)) ++ edge_sets r w ∷ []
-    by (entry.Sync kind object number value reads writes) k later = ap (λ x. edge_sets reads writes ∷ x) (later k)
-    by (entry.Prelog block values) k later = later k
-    by (entry.Unit unit values) k later = later k
-    by (entry.Postlog block values) k later = later k
-    by (entry.End status' rest' reads writes) k later = absurd (true≢false k)
-
-map_both : {A B C : Type 0} (f : B → C) (g : A → B) (xs : List A) → map f (map g xs) ≡ map (λ x. f (g x)) xs
-map_both f g [] = refl
-map_both f g (x ∷ xs) = ap (λ r. f (g x) ∷ r) (map_both f g xs)
 
 -- ---- membership
 
@@ -173,40 +146,15 @@ through_only f n i y e = elim (cases_lt n i) [
     count a zero = refl
     count a (suc m) = ap (λ k. suc k) (count (a + 1) m)
 
-get_mapped : {A B : Type 0} (f : List A → List B) (rows : List (List A)) (q : ℕ) → q < length rows → get_or (map f rows) q [] ≡ f (get_or rows q [])
-get_mapped f [] q lt = absurd (omega (arith, lt))
-get_mapped f (row ∷ rows) zero lt = refl
-get_mapped f (row ∷ rows) (suc q) lt = get_mapped f rows q (omega (arith, lt))
-
 beyond : {A B : Type 0} (f : List A → List B) (rows : List (List A)) (q : ℕ) → length rows ≤ q → get_or (map f rows) q [] ≡ []
 beyond f [] q le = refl
 beyond f (row ∷ rows) zero le = absurd (omega (arith, le))
 beyond f (row ∷ rows) (suc q) le = beyond f rows q (omega (arith, le))
 
-got : {A : Type 0} (xs : List A) (i : ℕ) (d : A) → i < length xs → slice_get xs i ≡ Some (get_or xs i d)
-got [] i d h = absurd (omega (arith, h))
-got (x ∷ xs) zero d h = refl
-got (x ∷ xs) (suc i) d h = got xs i d (omega (arith, h))
-
 module _ (program : Program) (plan : Plan) (budget : ℕ) (h : List ℕ) (valid : IsValid program) where
-  sets_of : ℕ → ℕ → EdgeSets
-  sets_of p i = edge_sets (cells_in (story program plan budget h) p i false) (cells_in (story program plan budget h) p i true)
-
-  row : (p : ℕ) → p < length (closed_logs program plan budget h).lists
-      → get_or (edge_sets_in (closed_logs program plan budget h)) p [] ≡ map (sets_of p) (range_with_len 0 (last_edge (story program plan budget h) p)) ++ sets_of p (last_edge (story program plan budget h) p) ∷ []
-  unfolding sets_of ended
-  row p lt =
-      let s = story program plan budget h in
-      let entries = get_or (closed_logs program plan budget h).lists p [] in
-      let r : RecordsAccesses s p entries = record_sets program plan budget h p entries valid (got (closed_logs program plan budget h).lists p [] lt) in
-      get_mapped (sets_from None) (closed_logs program plan budget h).lists p lt
-      ∙ ap (sets_from None) r.entries_are ∙ closed_sets r.before r.status r.rest (cells_in s p (last_edge s p) false) (cells_in s p (last_edge s p) true) r.no_end
-      ∙ ap (λ x. map ended x ++ edge_sets (cells_in s p (last_edge s p) false) (cells_in s p (last_edge s p) true) ∷ []) r.syncs_are
-      ∙ ap (λ x. x ++ edge_sets (cells_in s p (last_edge s p) false) (cells_in s p (last_edge s p) true) ∷ []) (map_both ended (recorded.sets_in s p) (range_with_len 0 (last_edge s p)))
-
   -- the write set of an edge
-  has_is : (p i c : ℕ) → has (sets_of p i).writes c ≡ has_access (story program plan budget h) p i c true
-  unfolding sets_of
+  has_is : (p i c : ℕ) → has (run_sets (story program plan budget h) p i).writes c ≡ has_access (story program plan budget h) p i c true
+  unfolding run_sets
   has_is p i c = (cells_are (story program plan budget h) p i true).are c
 
   pub writing_only : (c : ℕ) (a : EdgeId) → In a (writing (closed_logs program plan budget h) c) → WritesIn program plan budget h c a.process a.edge
@@ -215,7 +163,7 @@ module _ (program : Program) (plan : Plan) (budget : ℕ) (h : List ℕ) (valid 
       let process : a.process ≡ r.row = r.process_is ∙ (let z : 0 + r.row ≡ r.row = omega arith in z) in
       elim (cases_lt r.row (length (closed_logs program plan budget h).lists)) [
         | inl lt ↦
-            let sets : r.sets ≡ sets_of r.row a.edge = through_only (sets_of r.row) (last_edge (story program plan budget h) r.row) a.edge r.sets (ap (λ l. slice_get l a.edge) (sym (row r.row lt)) ∙ r.there') in
+            let sets : r.sets ≡ run_sets (story program plan budget h) r.row a.edge = through_only (run_sets (story program plan budget h) r.row) (last_edge (story program plan budget h) r.row) a.edge r.sets (ap (λ l. slice_get l a.edge) (sym (row_sets program plan budget h valid r.row lt)) ∙ r.there') in
             let access : has_access (story program plan budget h) r.row a.edge c true ≡ true = sym (has_is r.row a.edge c) ∙ ap (λ (q : EdgeSets). has q.writes c) (sym sets) ∙ r.writes in
             let f = any_found (λ (b : SharedAccess). nat_eq b.edge a.edge && nat_eq b.cell c && writes_or_not b true) (accesses (story program plan budget h) r.row) access in
             let more = and_parts (nat_eq f.1.edge a.edge && nat_eq f.1.cell c) (writes_or_not f.1 true) f.3 in
@@ -226,9 +174,9 @@ module _ (program : Program) (plan : Plan) (budget : ℕ) (h : List ℕ) (valid 
 
   pub writing_all : (c q i : ℕ) → WritesIn program plan budget h c q i → q < length (closed_logs program plan budget h).lists → i ≤ last_edge (story program plan budget h) q → In (edge q i) (writing (closed_logs program plan budget h) c)
   writing_all c q i w lt le =
-      let there' : slice_get (get_or (edge_sets_in (closed_logs program plan budget h)) q []) i ≡ Some (sets_of q i) = ap (λ l. slice_get l i) (row q lt) ∙ through_at (sets_of q) (last_edge (story program plan budget h) q) i le in
+      let there' : slice_get (get_or (edge_sets_in (closed_logs program plan budget h)) q []) i ≡ Some (run_sets (story program plan budget h) q i) = ap (λ l. slice_get l i) (row_sets program plan budget h valid q lt) ∙ through_at (run_sets (story program plan budget h) q) (last_edge (story program plan budget h) q) i le in
       let access : has_access (story program plan budget h) q i c true ≡ true =
       any_there (λ (b : SharedAccess). nat_eq b.edge i && nat_eq b.cell c && writes_or_not b true) (accesses (story program plan budget h) q) w.number w.access w.there
       (ap₂ (λ x y. x && y) (ap₂ (λ x y. x && y) (eq-eqb w.access.edge i w.edge_is) (eq-eqb w.access.cell c w.cell)) w.writes) in
       let z : 0 + q ≡ q = omega arith in
-      subst (λ k. In (edge k i) (writing (closed_logs program plan budget h) c)) z (rows_all c 0 (edge_sets_in (closed_logs program plan budget h)) q i (sets_of q i) there' (has_is q i c ∙ access))
+      subst (λ k. In (edge k i) (writing (closed_logs program plan budget h) c)) z (rows_all c 0 (edge_sets_in (closed_logs program plan budget h)) q i (run_sets (story program plan budget h) q i) there' (has_is q i c ∙ access))

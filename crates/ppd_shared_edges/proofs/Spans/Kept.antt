@@ -1,6 +1,6 @@
 -- After all steps of a process its entries tell of its intervals and events.
 use Rattle.std.proofs.Common.{◌≡◌, ℕ, zero, suc, ◌+◌, List, [], ◌∷◌, ◌++◌, Option, Some, None, refl, ap, ap₂, sym, subst, ◌∙◌, arith, length, true≢false}
-use Rattle.std.specs.Prelude.{◌-◌, drop, fold, slice_get}
+use Rattle.std.specs.Prelude.{◌-◌, fold, slice_get}
 use Rattle.std.proofs.lemmas.Option.{none-some}
 use Rattle.ppd_ast.specs.Valid.{IsValid}
 use Rattle.ppd_ast.specs.declared.plan.Plan.{Plan}
@@ -8,66 +8,33 @@ use Rattle.ppd_ast.specs.declared.program.Program.{Program}
 use Rattle.ppd_ast.specs.declared.status.Status.{Status}
 use Rattle.ppd_sem.specs.Described.{frame_of}
 use Rattle.ppd_sem.specs.Process.{act, need_of, started}
-use Rattle.ppd_sem.specs.declared.proc.Need.{Need}
-use Rattle.ppd_sem.specs.declared.proc.Need.TheVariants as n
-use Rattle.ppd_sem.specs.declared.proc.Proc.{Proc}
 use Rattle.ppd_sem.proofs.Progress.{need_at_status}
-use Rattle.ppd_model.specs.declared.trace.EventId.{EventId}
 use Rattle.ppd_model.specs.declared.state.Logging.{Logging}
 use Rattle.ppd_model.specs.declared.tracing.Story.{Story}
 use Rattle.ppd_model.specs.declared.tracing.Taken.{Taken}
-use Rattle.ppd_model.specs.FullTrace.{Tag, me_in, top_tags}
-use Rattle.ppd_model.specs.Intervals.{Span, Split, begin_if, begun_split, control_by, end_if, left_by, split_of, split_step, with_own, with_step}
+use Rattle.ppd_model.specs.FullTrace.{me_in, top_tags}
+use Rattle.ppd_model.specs.Intervals.{Span, Split, begun_split, control_by, end_if, left_by, split_of, split_step, with_own, with_step}
 use Rattle.ppd_model.specs.LocalTags.{AreOwn}
 use Rattle.ppd_model.specs.Logs.{begun_log, entries_of, log_of, log_step}
-use Rattle.ppd_model.specs.Marks.{Mark, closed, opened}
+use Rattle.ppd_model.specs.Marks.{closed, opened}
 use Rattle.ppd_model.specs.Story.{Moment, steps_of}
 use Rattle.ppd_model.proofs.Changes.{some}
-use Rattle.ppd_model.proofs.Inside.{IsInside, begins_by, ends_by, inside_begun, inside_step, running_after}
-use Rattle.ppd_model.proofs.Items.{own_keeps, step_keeps}
+use Rattle.ppd_model.proofs.Inside.{IsInside, inside_begun, inside_step, running_after}
+use Rattle.ppd_model.proofs.Items.{begin_count, begins_is, end_count, ends_is, own_keeps, step_keeps}
 use Rattle.ppd_shared_edges.proofs.Spans.Facts.{OpensAt}
 use Rattle.ppd_shared_edges.proofs.Spans.Tiles.{none, ends as no_parts, outermost}
 use Rattle.ppd_shared_edges.proofs.Spans.Told.{IsPlaced, IsTold, outside}
 use Rattle.ppd_shared_edges.proofs.Spans.Steps.{AreNumbered, IsNumbered, at_stop, by_step}
 
 module _ (program : Program) (plan : Plan) (story' : Story) (p : ℕ) where
-  drop_one : (ks : List ℕ) → length (drop 1 ks) ≡ length ks - 1
-  drop_one [] = refl
-  drop_one (k ∷ ks) = omega arith
-
-  abbrev one_mark : Option Mark → ℕ
-  one_mark None = 0
-  one_mark (Some m) = 1
-
-  end_count : (o : Option Mark) (tags : List Tag) (x : Split) → length (end_if o tags x).running ≡ length x.running - one_mark o
-  end_count None tags x = omega arith
-  end_count (Some m) tags x = drop_one x.running
-
-  begin_count : (o : Option Mark) (frame : ℕ) (control : Option EventId) (x : Split) → length (begin_if o frame control x).running ≡ one_mark o + length x.running
-  begin_count None frame control x = omega arith
-  begin_count (Some m) frame control x = omega arith
-
-  begins_is : (s : Proc) (need : Need) → one_mark (opened program plan s need) ≡ begins_by need
-  begins_is s (n.Enter b u) = refl
-  begins_is s (n.Invoke None u) = refl
-  begins_is s (n.Invoke (Some b) u) = refl
-  begins_is s need = refl
-
-  ends_is : (s : Proc) (need : Need) → one_mark (closed program plan s need) ≡ ends_by need
-  ends_is s (n.Leave b u) = refl
-  ends_is s (n.Back None u) = refl
-  ends_is s (n.Back (Some b) u) = refl
-  ends_is s (n.End b) = refl
-  ends_is s need = refl
-
   counts : (x : Split) (t : Taken) → length (split_step program plan story' p x t).running ≡ running_after t.need (length x.running)
   counts x t =
       let b : Split = with_own t.need (with_step t.need x) in
       let running_b : b.running ≡ x.running = (own_keeps t.need (with_step t.need x)).0 ∙ (step_keeps t.need x).0 in
       begin_count (opened program plan b.trace.proc t.need) (frame_of program plan b.trace.proc) (control_by program p b.trace t.need) (end_if (closed program plan b.trace.proc t.need) (left_by plan (me_in p b.trace) (top_tags b.trace.activations) t.need) b)
-      ∙ ap₂ (λ i j. i + j) (begins_is b.trace.proc t.need)
+      ∙ ap₂ (λ i j. i + j) (begins_is program plan b.trace.proc t.need)
       (end_count (closed program plan b.trace.proc t.need) (left_by plan (me_in p b.trace) (top_tags b.trace.activations) t.need) b
-      ∙ ap₂ (λ i j. i - j) (ap length running_b) (ends_is b.trace.proc t.need))
+      ∙ ap₂ (λ i j. i - j) (ap length running_b) (ends_is program plan b.trace.proc t.need))
 
   -- what a process's log and its intervals are so far
   pub record IsKept (l : Logging) (x : Split) : Type 0 where

@@ -9,7 +9,7 @@ use Rattle.ppd_ast.specs.declared.status.Status.{Status}
 use Rattle.ppd_ast.specs.declared.status.SyncKind.{SyncKind}
 use Rattle.ppd_entry.specs.declared.entry.Entry.{Entry}
 use Rattle.ppd_entry.specs.declared.entry.Entry.TheVariants as entry
-use Rattle.ppd_sem.specs.Described.{frame_of}
+use Rattle.ppd_sem.specs.Described.{frame_of, is_event}
 use Rattle.ppd_sem.specs.Process.{need_of}
 use Rattle.ppd_sem.specs.declared.proc.Need.{Need}
 use Rattle.ppd_sem.specs.declared.proc.Need.TheVariants as n
@@ -25,9 +25,9 @@ use Rattle.ppd_model.specs.declared.tracing.Tracing.{Tracing}
 use Rattle.ppd_model.specs.Extents.{Extent, ended_by}
 use Rattle.ppd_model.specs.FullTrace.{Tag, event_of, me_in, top_tags, trace_by, traced_by}
 use Rattle.ppd_model.specs.Intervals.{own, nested, Span, Split, begin_if, change_first, control_by, end_if, innermost, left_by, split_step, with_marks, with_own, with_part, with_step}
-use Rattle.ppd_model.specs.Logs.{ends, entries_of, passed, postlogs, prelogs, status_of, syncs as sync_entries, units}
+use Rattle.ppd_model.specs.Logs.{ends, entries_of, passed_value, postlogs, prelogs, status_of, syncs as sync_entries, units}
 use Rattle.ppd_model.specs.Marks.{Mark, closed, opened}
-use Rattle.ppd_model.specs.Story.{is_event, unit_started}
+use Rattle.ppd_model.specs.Story.{unit_started}
 use Rattle.ppd_model.specs.Synchronizations.{Sync, kind_of_sync, numbered, sync_of}
 use Rattle.ppd_model.specs.World.{change}
 use Rattle.ppd_model.proofs.Changes.{length-change}
@@ -155,7 +155,7 @@ module _ (program : Program) (plan : Plan) (story' : Story) (p : ℕ) where
       kinds None e o f number = inl (ap (λ k. sync_entries l t (numbered k t.number)) e, ap is_some (number ∙ w e))
       kinds (Some k) e None f number = inl (ap₂ (λ a b. sync_entries l t (numbered a b)) e f, ap is_some (number ∙ f))
       kinds (Some k) e (Some i) f number = inr (
-        entry.Sync k.0 k.1 i (passed t.need t.answer) l.reads l.writes,
+        entry.Sync k.0 k.1 i (passed_value t.need t.answer) l.reads l.writes,
         ap₂ (λ a b. sync_entries l t (numbered a b)) e f,
         ap is_some (number ∙ f),
         refl,

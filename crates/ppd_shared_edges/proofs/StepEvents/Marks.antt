@@ -9,13 +9,13 @@ use Rattle.ppd_ast.specs.declared.plan.Plan.{Plan}
 use Rattle.ppd_ast.specs.declared.program.Program.{Program}
 use Rattle.ppd_ast.specs.declared.status.SyncKind.{SyncKind}
 use Rattle.ppd_sem.specs.Process.{need_of, started}
+use Rattle.ppd_sem.specs.Described.{is_event}
 use Rattle.ppd_model.specs.declared.trace.TracedEvent.{TracedEvent}
 use Rattle.ppd_model.specs.declared.tracing.Story.{Story}
 use Rattle.ppd_model.specs.declared.tracing.Taken.{Taken}
 use Rattle.ppd_model.specs.declared.tracing.Tracing.{Tracing}
 use Rattle.ppd_model.specs.FullTrace.{begun_tracing, event_of, trace_step, tracing_of}
 use Rattle.ppd_model.specs.LocalTags.{AreOwn}
-use Rattle.ppd_model.specs.Story.{is_event}
 use Rattle.ppd_model.specs.Synchronizations.{Sync, kind_of_sync, numbered, sync_of, syncs_of}
 use Rattle.ppd_model.proofs.Lists.{below_at}
 use Rattle.ppd_model.proofs.Parents.{own_from, own_to}

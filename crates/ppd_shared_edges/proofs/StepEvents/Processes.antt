@@ -8,6 +8,7 @@ use Rattle.ppd_ast.specs.declared.plan.Plan.{Plan}
 use Rattle.ppd_ast.specs.declared.program.Program.{Program}
 use Rattle.ppd_ast.specs.declared.status.Status.TheVariants as status
 use Rattle.ppd_entry.specs.declared.entry.Entry.TheVariants as entry
+use Rattle.ppd_entry.specs.Entries.{entries_at}
 use Rattle.ppd_sem.specs.Process.{started}
 use Rattle.ppd_model.specs.declared.state.Logging.{Logging}
 use Rattle.ppd_model.specs.declared.tracing.Story.{Story}
@@ -26,7 +27,7 @@ use Rattle.ppd_model.proofs.RecordedSets.{record_sets}
 use Rattle.ppd_model.proofs.States.{follow}
 use Rattle.ppd_model.proofs.WrittenSpans.{intervals_of_steps}
 use Rattle.ppd_search.specs.Seen.{seen_of}
-use Rattle.ppd_search.specs.Shared.{entries_of, seen_at}
+use Rattle.ppd_search.specs.Shared.{seen_at}
 use Rattle.ppd_shared_edges.proofs.Spans.Steps.{AreNumbered, end_told}
 use Rattle.ppd_shared_edges.proofs.Spans.Kept.{IsKept, kept}
 use Rattle.ppd_shared_edges.proofs.StepEvents.Timeline.{did, numbered_told, own_is}
@@ -74,8 +75,8 @@ module _ (program : Program) (plan : Plan) (budget : ℕ) where
       pub steps_own : AreOwn program plan (started program plan p budget) (did (told program plan budget h) p)
       pub steps_numbered : AreNumbered (did (told program plan budget h) p)
       pub events_are : x.trace.events ≡ (tracing_of program plan budget (story program plan budget h) p (did (told program plan budget h) p)).events
-      pub told_by : IsTold (entries_of (closed_logs program plan budget h) p) x.trace.events x.spans x.running
-      pub records : RecordsAccesses (story program plan budget h) p (entries_of (closed_logs program plan budget h) p)
+      pub told_by : IsTold (entries_at (closed_logs program plan budget h) p) x.trace.events x.spans x.running
+      pub records : RecordsAccesses (story program plan budget h) p (entries_at (closed_logs program plan budget h) p)
       pub seen_is : seen_at (map (λ z. seen_of z) xs) p ≡ seen_of x
 
     -- its moments, and what they tell
@@ -111,7 +112,7 @@ module _ (program : Program) (plan : Plan) (budget : ℕ) where
         let k : IsKept program plan s p (log_of program plan budget p ms) (split_of program plan budget s p (steps_of ms)) = kept program plan s p v budget ms mine numbers in
         let log_there : slice_get (closed_logs program plan budget h).lists p ≡ Some (closed_log (log_of program plan budget p ms)) =
         log_found 0 (told program plan budget h).moments p ms (moments_found s 0 (told program plan budget h).moments p x e) ∙ ap (λ j. Some (closed_log (log_of program plan budget j ms))) z in
-        let entries_are : entries_of (closed_logs program plan budget h) p ≡ closed_log (log_of program plan budget p ms) = got_or (closed_logs program plan budget h).lists p [] (closed_log (log_of program plan budget p ms)) log_there in
+        let entries_are : entries_at (closed_logs program plan budget h) p ≡ closed_log (log_of program plan budget p ms) = got_or (closed_logs program plan budget h).lists p [] (closed_log (log_of program plan budget p ms)) log_there in
         record {
           there = e;
           steps_own = mine;
@@ -120,6 +121,6 @@ module _ (program : Program) (plan : Plan) (budget : ℕ) where
           told_by = subst (λ es. IsTold es x.trace.events x.spans x.running) (sym entries_are)
               (subst (λ (y : Split). IsTold (closed_log (log_of program plan budget p ms)) y.trace.events y.spans y.running) split_is
               (closing p (log_of program plan budget p ms) (split_of program plan budget s p (steps_of ms)) k.told));
-          records = record_sets program plan budget h p (entries_of (closed_logs program plan budget h) p) v (log_there ∙ ap (λ l. Some l) (sym entries_are));
+          records = record_sets program plan budget h p (entries_at (closed_logs program plan budget h) p) v (log_there ∙ ap (λ l. Some l) (sym entries_are));
           seen_is = got_or (map (λ z. seen_of z) xs) p (record { items = []; blocks = []; rounds = [] }) (seen_of x) (mapped_at (λ z. seen_of z) xs p x e);
         }

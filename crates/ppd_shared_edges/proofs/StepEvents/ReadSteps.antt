@@ -13,6 +13,7 @@ use Rattle.ppd_sem.specs.declared.proc.Need.TheVariants as n
 use Rattle.ppd_sem.specs.declared.proc.Proc.{Proc}
 use Rattle.ppd_sem.specs.Process.{need_of, started}
 use Rattle.ppd_sem.proofs.Progress.{need_at_status}
+use Rattle.ppd_sem.specs.Described.{is_event}
 use Rattle.ppd_model.specs.declared.trace.TracedEvent.{TracedEvent}
 use Rattle.ppd_model.specs.declared.tracing.Story.{Story}
 use Rattle.ppd_model.specs.declared.tracing.Taken.{Taken}
@@ -22,7 +23,7 @@ use Rattle.ppd_model.specs.Intervals.{Split}
 use Rattle.ppd_model.specs.Laws.{begins}
 use Rattle.ppd_model.specs.LocalTags.{AreOwn}
 use Rattle.ppd_model.specs.SharedReads.{need_after}
-use Rattle.ppd_model.specs.Story.{is_event, story, told, writer_of}
+use Rattle.ppd_model.specs.Story.{story, told, writer_of}
 use Rattle.ppd_model.proofs.Changes.{some}
 use Rattle.ppd_model.proofs.Lists.{below_at}
 use Rattle.ppd_model.proofs.Parents.{own_from, own_to}

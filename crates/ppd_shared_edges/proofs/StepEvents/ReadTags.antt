@@ -4,12 +4,12 @@ use Rattle.std.specs.Prelude.{⊤, fold, slice_get}
 use Rattle.ppd_ast.specs.declared.plan.Plan.{Plan}
 use Rattle.ppd_ast.specs.declared.program.Program.{Program}
 use Rattle.ppd_ast.specs.declared.status.Status.{Status}
+use Rattle.ppd_ast.specs.Lookups.{kind_of}
 use Rattle.ppd_model.specs.declared.tracing.Story.{Story}
 use Rattle.ppd_model.specs.declared.tracing.Taken.{Taken}
 use Rattle.ppd_model.specs.declared.tracing.Tracing.{Tracing}
 use Rattle.ppd_model.specs.FullTrace.{Tag, answers_past, event_of, tag_at, tags_of, top_tags, trace_by, trace_step}
 use Rattle.ppd_model.specs.LocalTags.{AreOwn}
-use Rattle.ppd_model.specs.Story.{is_event}
 use Rattle.ppd_sem.specs.declared.asking.Pause.TheVariants.{Wants, Traps}
 use Rattle.ppd_sem.specs.declared.event.Access.{Access}
 use Rattle.ppd_sem.specs.declared.event.Spot.{Spot}
@@ -22,8 +22,8 @@ use Rattle.ppd_sem.specs.declared.proc.Todo.{Todo}
 use Rattle.ppd_sem.specs.Asked.{Asked}
 use Rattle.ppd_sem.specs.Consumed.{Takes, WantsInTurn, shared_of, shared_with, values_read}
 use Rattle.ppd_sem.specs.Deed.{Deed, set_local, clear, invoke, back, receive, ask_deed}
-use Rattle.ppd_sem.specs.Described.{evaluates, frame_of}
-use Rattle.ppd_sem.specs.Process.{act, act_at, act_by_asked, act_by_deed, act_by_need, head_deed, kind_of as kind_at, need_by_status, need_of, started, top_cells, value_of}
+use Rattle.ppd_sem.specs.Described.{evaluates, frame_of, is_event}
+use Rattle.ppd_sem.specs.Process.{act, act_at, act_by_asked, act_by_deed, act_by_need, head_deed, need_by_status, need_of, started, top_cells, value_of}
 use Rattle.ppd_sem.specs.Reads.{reads_of_kind}
 use Rattle.ppd_sem.proofs.Consumed.{reads_taken}
 use Rattle.ppd_sem.proofs.Progress.{act-stopped}
@@ -87,7 +87,7 @@ module _ (P : ℕ → Tag → Type 0) (ev : List ℤ → Asked Deed) where
 
 -- what a statement asks for, by its answers
 abbrev pub evaluates_at : Program → Todo → Proc → List ℤ → Asked Deed
-evaluates_at program t s answers = ask_deed program.exprs (kind_at program t.stmt) (top_cells s.frames) answers
+evaluates_at program t s answers = ask_deed program.exprs (kind_of program t.stmt) (top_cells s.frames) answers
 
 abbrev pub TakenAt : (ℕ → Tag → Type 0) → Program → Proc → List Tag → List Todo → Type 0
 TakenAt P program s tags [] = ⊤
@@ -227,8 +227,8 @@ module _ (Q : ℕ → ℕ → Tag → Type 0) (program : Program) (plan : Plan) 
   pub read_is : (u : Tracing) (x : Taken) (t : Todo) (ts : List Todo) (i c : ℕ) (a : Access) (w : Tag) → u.proc.todo ≡ t ∷ ts → u.proc.status ≡ None → HasAnswers (Q (length u.events)) program u.proc u.answers
       → slice_get (new_event program plan story' p x u).event.reads i ≡ Some a → a.spot ≡ Shared c → slice_get (new_event program plan story' p x u).writers i ≡ Some w → Q (length u.events) c w
   read_is u x t ts i c a w is running had read spot tag =
-      let all : List Access = reads_of_kind (frame_of program plan u.proc) program.exprs (kind_at program t.stmt) (top_cells u.proc.frames) u.proc.answers in
-      let takes : Takes (evaluates_at program t u.proc) u.proc.answers (shared_of all) = reads_taken.statement (frame_of program plan u.proc) program.exprs (kind_at program t.stmt) (top_cells u.proc.frames) u.proc.answers in
+      let all : List Access = reads_of_kind (frame_of program plan u.proc) program.exprs (kind_of program t.stmt) (top_cells u.proc.frames) u.proc.answers in
+      let takes : Takes (evaluates_at program t u.proc) u.proc.answers (shared_of all) = reads_taken.statement (frame_of program plan u.proc) program.exprs (kind_of program t.stmt) (top_cells u.proc.frames) u.proc.answers in
       let at : slice_get (map (λ a. a.spot) all) i ≡ Some (Shared c) =
       spot_there all i a (reads_there (evaluates (need_of program plan u.proc)) all i a (sym (ap (λ todo. slice_get (event_of program plan u.proc x todo).reads i) is) ∙ read)) ∙ ap Some spot in
       let tags : slice_get (tags_of (top_tags u.activations) u.answers all) i ≡ Some w =

@@ -11,13 +11,13 @@ use Rattle.ppd_sem.specs.declared.proc.Need.{Need}
 use Rattle.ppd_sem.specs.declared.proc.Need.TheVariants as n
 use Rattle.ppd_sem.specs.declared.proc.Proc.{Proc}
 use Rattle.ppd_model.specs.declared.tracing.Taken.{Taken}
-use Rattle.ppd_model.specs.Laws.{IsUnwritten, begins, is_write_of}
+use Rattle.ppd_model.specs.Laws.{IsUnwritten, begins}
 use Rattle.ppd_model.specs.Schedule.{started_world}
 use Rattle.ppd_model.specs.SharedReads.{need_after}
 use Rattle.ppd_model.specs.States.{states_from}
 use Rattle.ppd_model.specs.Story.{Moment, Telling, moment_of, number_of, own_moments, own_steps, steps_of, story, tell, told}
 use Rattle.ppd_model.specs.Synchronizations.{kind_of_sync}
-use Rattle.ppd_model.specs.World.{change, need, need_at}
+use Rattle.ppd_model.specs.World.{change, need, need_at, writes_cell}
 use Rattle.ppd_model.proofs.States.{states_told}
 use Rattle.ppd_shared_edges.proofs.Spans.Steps.{AreNumbered, IsNumbered}
 
@@ -99,9 +99,9 @@ module _ (program : Program) (plan : Plan) where
   -- no step of these writes the cell
   abbrev pub NoWrites : ℕ → List Taken → Type 0
   NoWrites c [] = ⊤
-  NoWrites c (x ∷ xs) = (is_write_of c x.need ≡ false) × NoWrites c xs
+  NoWrites c (x ∷ xs) = (writes_cell c x.need ≡ false) × NoWrites c xs
 
-  none_more : (c : ℕ) (xs : List Taken) (x : Taken) → NoWrites c xs → is_write_of c x.need ≡ false → NoWrites c (xs ++ x ∷ [])
+  none_more : (c : ℕ) (xs : List Taken) (x : Taken) → NoWrites c xs → writes_cell c x.need ≡ false → NoWrites c (xs ++ x ∷ [])
   none_more c [] x h e = (e, tt)
   none_more c (y ∷ ys) x h e = (h.0, none_more c ys x h.1 e)
 

@@ -9,15 +9,17 @@ use Rattle.ppd_ast.specs.declared.plan.Plan.{Plan}
 use Rattle.ppd_ast.specs.declared.program.Program.{Program}
 use Rattle.ppd_sem.specs.declared.proc.Need.{Need}
 use Rattle.ppd_sem.specs.declared.proc.Need.TheVariants as n
+use Rattle.ppd_sem.specs.Described.{is_event}
 use Rattle.ppd_model.specs.declared.trace.TracedEvent.{TracedEvent}
 use Rattle.ppd_model.specs.declared.tracing.Taken.{Taken}
 use Rattle.ppd_model.specs.Forward.{edge_in}
 use Rattle.ppd_model.specs.Intervals.{Split}
-use Rattle.ppd_model.specs.Laws.{IsUnwritten, is_write_of}
+use Rattle.ppd_model.specs.Laws.{IsUnwritten}
 use Rattle.ppd_model.specs.SharedReads.{need_after}
-use Rattle.ppd_model.specs.Story.{Telling, is_event, story, tell, told}
+use Rattle.ppd_model.specs.Story.{Telling, story, tell, told}
 use Rattle.ppd_model.specs.Synchronizations.{Sync, kind_of_sync, numbered, sync_of, syncs_of}
 use Rattle.ppd_model.proofs.Accesses.{record_at}
+use Rattle.ppd_model.specs.World.{writes_cell}
 use Rattle.ppd_sound.proofs.SharedCells.Writers.{events_in, one_if}
 use Rattle.ppd_shared_edges.specs.Events.{AreQuiet, IsLastWriter, synchronizes, written_by}
 use Rattle.ppd_shared_edges.proofs.Spans.Facts.{count_to}
@@ -77,7 +79,7 @@ pub events_both : (xs ys : List Taken) → events_in (xs ++ ys) ≡ events_in xs
 events_both [] ys = let z : events_in ys ≡ 0 + events_in ys = omega arith in z
 events_both (x ∷ xs) ys = let r : events_in (xs ++ ys) ≡ events_in xs + events_in ys = events_both xs ys in omega (arith, r)
 
-not_written : (c : ℕ) (m : Need) → is_write_of c m ≡ false → write_to c m ≡ None
+not_written : (c : ℕ) (m : Need) → writes_cell c m ≡ false → write_to c m ≡ None
 not_written c (n.Write d u) e = ap (λ b. if b then Some u else None) (ne_eqb c d (λ same. true≢false (sym (eq-eqb d c (sym same)) ∙ e)))
 not_written c m e = refl
 
@@ -101,7 +103,7 @@ pub none_front : (program : Program) (plan : Plan) (c : ℕ) (xs ys : List Taken
 none_front program plan c [] ys h = tt
 none_front program plan c (x ∷ xs) ys h = (h.0, none_front program plan c xs ys h.1)
 
-pub none_at : (program : Program) (plan : Plan) (c : ℕ) (xs : List Taken) (x : Taken) (ys : List Taken) → NoWrites program plan c (xs ++ x ∷ ys) → is_write_of c x.need ≡ false
+pub none_at : (program : Program) (plan : Plan) (c : ℕ) (xs : List Taken) (x : Taken) (ys : List Taken) → NoWrites program plan c (xs ++ x ∷ ys) → writes_cell c x.need ≡ false
 none_at program plan c [] x ys h = h.0
 none_at program plan c (z ∷ xs) x ys h = none_at program plan c xs x ys h.1
 

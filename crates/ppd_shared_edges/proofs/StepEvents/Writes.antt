@@ -11,6 +11,7 @@ use Rattle.ppd_ast.specs.declared.program.Program.{Program}
 use Rattle.ppd_ast.specs.declared.status.Status.{Status}
 use Rattle.ppd_ast.specs.declared.status.Trap.TheVariants as trap
 use Rattle.ppd_ast.specs.Term.{term}
+use Rattle.ppd_ast.specs.Lookups.{kind_of}
 use Rattle.ppd_sem.specs.declared.asking.Pause.TheVariants.{Wants, Traps}
 use Rattle.ppd_sem.specs.declared.event.Access.{Access}
 use Rattle.ppd_sem.specs.declared.proc.Answer.{Answer}
@@ -21,12 +22,11 @@ use Rattle.ppd_sem.specs.declared.proc.Todo.{Todo}
 use Rattle.ppd_sem.specs.Ask.{ask}
 use Rattle.ppd_sem.specs.Asked.{Asked, and_then, gives}
 use Rattle.ppd_sem.specs.Deed.{Deed, set_local, set_shared, clear, leave, invoke, send, receive, ask_deed}
-use Rattle.ppd_sem.specs.Described.{cleared, frame_of, local_write, parameters, trap_of, writes_by, writes_of_asked}
+use Rattle.ppd_sem.specs.Described.{cleared, frame_of, local_write, parameters, trap_of, writes_by, writes_of_asked, is_event}
 use Rattle.ppd_sem.specs.Tables.{block_of, capacity_of, unit_of}
-use Rattle.ppd_sem.specs.Process.{chan_of, cost, entry_of, head_deed, kind_of, need_by_entry, need_by_offer, need_by_status, need_of, need_of_call, need_of_deed, need_of_head, need_of_leaving, need_of_running, need_of_send, offer_of, top_cells}
+use Rattle.ppd_sem.specs.Process.{chan_of, cost, entry_of, head_deed, need_by_entry, need_by_offer, need_by_status, need_of, need_of_call, need_of_deed, need_of_head, need_of_leaving, need_of_running, need_of_send, offer_of, top_cells}
 use Rattle.ppd_model.specs.declared.tracing.Taken.{Taken}
 use Rattle.ppd_model.specs.FullTrace.{event_of}
-use Rattle.ppd_model.specs.Story.{is_event}
 use Rattle.ppd_search.specs.Walk.{is_shared, value_to}
 
 -- the value that a step of this need writes to the cell

@@ -6,17 +6,16 @@ use Rattle.ppd_ast.specs.declared.plan.Plan.{Plan}
 use Rattle.ppd_ast.specs.declared.program.Kind.{Kind}
 use Rattle.ppd_ast.specs.declared.program.Kind.TheVariants as K
 use Rattle.ppd_ast.specs.declared.program.Program.{Program}
-use Rattle.ppd_cfg.specs.Flow.{kind_of, successors}
-use Rattle.ppd_course.proofs.Deeds.{DeedFits, Fits}
-use Rattle.ppd_course.proofs.Outward.{none_some}
-use Rattle.ppd_course.proofs.Ways.{same_kind}
+use Rattle.ppd_ast.specs.Lookups.{kind_of, body_of}
+use Rattle.ppd_cfg.specs.Flow.{successors}
+use Rattle.ppd_step_laws.proofs.Course.Deeds.{DeedFits, Fits}
+use Rattle.ppd_step_laws.proofs.Course.Outward.{none_some}
 use Rattle.ppd_cfg.specs.Lists.{to_list}
 use Rattle.ppd_deps.specs.Edges.{scalar_written}
 use Rattle.ppd_model.specs.declared.trace.EventId.{EventId}
 use Rattle.ppd_model.specs.FullTrace.{tagged_after, tagged_at, tagged_by}
 use Rattle.ppd_model.specs.LocalTags.{locals}
-use Rattle.ppd_model.specs.Story.{is_event}
-use Rattle.ppd_model.proofs.Homes.{AskedOf, DeedOf, IsHome, body_at, head_of as head_tells}
+use Rattle.ppd_model.proofs.Homes.{AskedOf, DeedOf, IsHome, head_of as head_tells}
 use Rattle.ppd_model.proofs.LocalSteps.{Fits as FitsNeed, IsSend}
 use Rattle.ppd_sem.specs.declared.asking.Pause.TheVariants.{Wants, Traps}
 use Rattle.ppd_sem.specs.declared.proc.Answer.{Answer}
@@ -27,8 +26,9 @@ use Rattle.ppd_sem.specs.declared.proc.Proc.{Proc}
 use Rattle.ppd_sem.specs.declared.proc.Todo.{Todo}
 use Rattle.ppd_sem.specs.Asked.{Asked}
 use Rattle.ppd_sem.specs.Deed.{Deed, set_local, set_shared, clear, branch, turn, leave, invoke, back, take, give, send, receive, print, pass, finish}
-use Rattle.ppd_sem.specs.Process.{act_by_asked, act_by_need, chan_of, head_deed, kind_of as kind_at, todos, top_cells}
+use Rattle.ppd_sem.specs.Process.{act_by_asked, act_by_need, chan_of, head_deed, todos, top_cells}
 use Rattle.ppd_sem.proofs.Offers.{CompletesSend}
+use Rattle.ppd_sem.specs.Described.{is_event}
 use Rattle.ppd_sound.proofs.OwnCells.Calling.{backs_on, calls_on}
 use Rattle.ppd_sound.proofs.OwnCells.Does.{AskedDoes, Does, deed_does, is_own}
 use Rattle.ppd_sound.proofs.Frames.{head_fits}
@@ -55,7 +55,7 @@ module _ (program : Program) (plan : Plan) (v : IsValid program) (E : EventId �
   of_kind kind is own goes no_scalar home =
       plain home (ap is_own is ∙ own) (λ after. ap (λ (q : Kind). successors t.stmt q after) is ∙ goes after) (ap scalar_written is ∙ no_scalar)
 
-  by_deed : (d : Deed) (left : List ℤ) → DeedFits k d → Does k d → DeedOf program (body_at program t.stmt) (kind_at program t.stmt) d → HomeAfter program plan v E a t ts me there is_me s acts b d → Left d left
+  by_deed : (d : Deed) (left : List ℤ) → DeedFits k d → Does k d → DeedOf program (body_of program t.stmt) (kind_of program t.stmt) d → HomeAfter program plan v E a t ts me there is_me s acts b d → Left d left
   by_deed (set_local c x) left l w h home = sets_local program plan v E a t ts me there is_me s acts b c x left l w home
   by_deed (set_shared c x) left l w h home = plain home w.0.own (λ after. l.goes t.stmt after) w.0.none
   by_deed (clear base len) left l w h home = clears program plan v E a t ts me there is_me s acts b base len left w home
@@ -79,14 +79,14 @@ module _ (program : Program) (plan : Plan) (v : IsValid program) (E : EventId �
     still : (todo : List Todo) → todo ≡ t ∷ ts → After todo s.frames acts
     still todo e = subst (λ (xs : List Todo). After xs s.frames acts) (sym e) b.come
 
-    by_asked : (asked : Asked Deed) → Fits k asked → AskedDoes k asked → AskedOf program (body_at program t.stmt) (kind_at program t.stmt) asked → IsHome program (act_by_asked program a t ts asked s)
+    by_asked : (asked : Asked Deed) → Fits k asked → AskedDoes k asked → AskedOf program (body_of program t.stmt) (kind_of program t.stmt) asked → IsHome program (act_by_asked program a t ts asked s)
         → After (act_by_asked program a t ts asked s).todo (act_by_asked program a t ts asked s).frames (tagged_by program s (Some me) asked acts)
     by_asked (Ok q) fits does tells home = by_deed q.0 q.1 fits does tells home
     by_asked (Err (Wants c)) fits does tells home = still s.todo is
     by_asked (Err (Traps x)) fits does tells home = still s.todo is
 
     head_does : AskedDoes k (head_deed program t s)
-    head_does = subst (λ (q : Kind). AskedDoes q (head_deed program t s)) (same_kind program t.stmt) (deed_does program.exprs (kind_at program t.stmt) (top_cells s.frames) s.answers)
+    head_does = deed_does program.exprs (kind_of program t.stmt) (top_cells s.frames) s.answers
 
     by_head : IsHome program (act_by_asked program a t ts (head_deed program t s) s) → After (act_by_asked program a t ts (head_deed program t s) s).todo (act_by_asked program a t ts (head_deed program t s) s).frames (tagged_at program s (Some me) s.todo acts)
     by_head home =
@@ -114,5 +114,5 @@ module _ (program : Program) (plan : Plan) (v : IsValid program) (E : EventId �
     by_need Stopped e o f home = absurd (cc)
     by_need (Trap x) e o f home = still s.todo is
     by_need (Offer c x) e o f home = subst (λ xs. After (record t { offered = true } ∷ ts) s.frames xs) (sym (sends f)) b.come
-    by_need (Done c u) e o f home = subst (λ xs. After ts s.frames xs) (sym (sends f)) (sent k c refl (ap chan_of (sym (same_kind program t.stmt)) ∙ o) home)
+    by_need (Done c u) e o f home = subst (λ xs. After ts s.frames xs) (sym (sends f)) (sent k c refl o home)
     by_need n e o f home = by_head home

@@ -9,8 +9,8 @@ use Rattle.ppd_ast.specs.declared.program.Target.TheVariants as T
 use Rattle.ppd_ast.specs.declared.status.Trap.TheVariants.{Index}
 use Rattle.ppd_ast.specs.declared.status.Trap.TheVariants as trap
 use Rattle.ppd_ast.specs.Term.{Term, term}
-use Rattle.ppd_cfg.specs.Lists.{has}
-use Rattle.ppd_cfg.proofs.Has.{has_first, in_bounds_has}
+use Rattle.ppd_ast.specs.Members.{has}
+use Rattle.ppd_ast.proofs.Members.{has_first, in_bounds_has}
 use Rattle.ppd_deps.specs.Edges.{is_cell, scalar_written}
 use Rattle.ppd_sem.specs.declared.asking.Pause.TheVariants.{Traps}
 use Rattle.ppd_sem.specs.Ask.{ask, element, is_zero}

@@ -7,17 +7,15 @@ use Rattle.ppd_model.specs.declared.tracing.Tracing.{Tracing}
 use Rattle.std.specs.Prelude.{IsTrue, slice_get}
 use Rattle.ppd_ast.specs.Valid.{IsValid}
 use Rattle.ppd_ast.specs.declared.plan.Plan.{Plan}
-use Rattle.ppd_ast.specs.declared.program.Kind.{Kind}
 use Rattle.ppd_ast.specs.declared.program.Program.{Program}
-use Rattle.ppd_cfg.specs.Lists.{has}
-use Rattle.ppd_course.specs.Course.{calls_of, head_of}
-use Rattle.ppd_course.proofs.Ways.{same_kind}
-use Rattle.ppd_deps.specs.Named.{body_of, locals_of}
+use Rattle.ppd_ast.specs.Members.{has}
+use Rattle.ppd_ast.specs.Lookups.{kind_of, body_of, locals_of}
+use Rattle.ppd_step_laws.specs.Course.{calls_of}
 use Rattle.ppd_model.specs.declared.trace.EventId.{EventId}
 use Rattle.ppd_model.specs.declared.trace.TracedEvent.{TracedEvent}
 use Rattle.ppd_model.specs.FullTrace.{Tag, answers_past, begun_tracing, event_of, full_trace, tag_at, tags_of, top_tags}
 use Rattle.ppd_model.specs.LocalTags.{AreOwn, locals}
-use Rattle.ppd_model.specs.Story.{is_event, own_steps, story}
+use Rattle.ppd_model.specs.Story.{own_steps, story}
 use Rattle.ppd_model.proofs.LocalTags.{own_steps_told}
 use Rattle.ppd_model.proofs.Parents.{own_from, own_to}
 use Rattle.ppd_sem.specs.declared.event.Access.{Access}
@@ -25,9 +23,10 @@ use Rattle.ppd_sem.specs.declared.event.Event.{Event}
 use Rattle.ppd_sem.specs.declared.event.Spot.TheVariants.{Local}
 use Rattle.ppd_sem.specs.declared.proc.Proc.{Proc}
 use Rattle.ppd_sem.specs.declared.proc.Todo.{Todo}
-use Rattle.ppd_sem.specs.Described.{evaluates, frame_of}
-use Rattle.ppd_sem.specs.Process.{kind_of as kind_at, need_of, started, top_cells}
+use Rattle.ppd_sem.specs.Described.{evaluates, frame_of, is_event}
+use Rattle.ppd_sem.specs.Process.{need_of, started, top_cells}
 use Rattle.ppd_sem.specs.Reads.{reads_of_kind}
+use Rattle.ppd_sem.specs.Passed.{next_stmt_of}
 use Rattle.ppd_sets.specs.Named.{reads}
 use Rattle.ppd_sets.specs.Used.{reads_at}
 use Rattle.ppd_sound.specs.Sound.{ComesOverData, HasWriter, LocalReadsComeOverEdges}
@@ -47,15 +46,15 @@ if_there false xs i a h = absurd (cc)
 
 -- a read of an event is one of its statement
 pub statement_read : (program : Program) (plan : Plan) (s : Proc) (x : Taken) (t : Todo) (ts : List Todo) (i : ℕ) (a : Access) → s.todo ≡ t ∷ ts → slice_get (event_of program plan s x s.todo).reads i ≡ Some a
-    → slice_get (reads_of_kind (frame_of program plan s) program.exprs (kind_at program t.stmt) (top_cells s.frames) s.answers) i ≡ Some a
+    → slice_get (reads_of_kind (frame_of program plan s) program.exprs (kind_of program t.stmt) (top_cells s.frames) s.answers) i ≡ Some a
 statement_read program plan s x t ts i a is h =
-    if_there (evaluates (need_of program plan s)) (reads_of_kind (frame_of program plan s) program.exprs (kind_at program t.stmt) (top_cells s.frames) s.answers) i a
+    if_there (evaluates (need_of program plan s)) (reads_of_kind (frame_of program plan s) program.exprs (kind_of program t.stmt) (top_cells s.frames) s.answers) i a
     (sym (ap (λ todo. slice_get (event_of program plan s x todo).reads i) is) ∙ h)
 
 -- and may be read there
-pub may_read : (program : Program) (plan : Plan) (s : Proc) (x : Taken) (t : Todo) (ts : List Todo) (i : ℕ) (a : Access) → s.todo ≡ t ∷ ts → slice_get (event_of program plan s x s.todo).reads i ≡ Some a → MayRead program.exprs (kind_at program t.stmt) a.spot
+pub may_read : (program : Program) (plan : Plan) (s : Proc) (x : Taken) (t : Todo) (ts : List Todo) (i : ℕ) (a : Access) → s.todo ≡ t ∷ ts → slice_get (event_of program plan s x s.todo).reads i ≡ Some a → MayRead program.exprs (kind_of program t.stmt) a.spot
 may_read program plan s x t ts i a is h =
-    read_may (frame_of program plan s) program.exprs (kind_at program t.stmt) (top_cells s.frames) s.answers i a (statement_read program plan s x t ts i a is h)
+    read_may (frame_of program plan s) program.exprs (kind_of program t.stmt) (top_cells s.frames) s.answers i a (statement_read program plan s x t ts i a is h)
 
 -- the tag of a local cell that is read
 local_tag : (tags answers : List Tag) (as' : List Access) (i : ℕ) (a : Access) (w : Tag) (frame c : ℕ) → slice_get as' i ≡ Some a → slice_get (tags_of tags answers as') i ≡ Some w → a.spot ≡ Local frame c → w ≡ get_or tags c None
@@ -113,11 +112,11 @@ module _ (program : Program) (plan : Plan) (budget : ℕ) (h : List ℕ) (p : �
       let tags : slice_get (tags_of (top_tags u.activations) u.answers (event_of program plan u.proc s.taken u.proc.todo).reads) i ≡ Some (Some id) = sym (ap (λ (y : TracedEvent). slice_get y.writers i) s.event_is) ∙ w.writer in
       let tag : Some id ≡ get_or (top_tags u.activations) c None = local_tag (top_tags u.activations) u.answers (event_of program plan u.proc s.taken u.proc.todo).reads i a (Some id) frame c read tags spot in
       let come : AllCome program (IsIn program plan told_story p v u) (Some t ∷ calls_of u.proc.frames) (locals u.activations) =
-      subst (λ o. AllCome program (IsIn program plan told_story p v u) (o ∷ calls_of u.proc.frames) (locals u.activations)) (ap head_of head.is) (holds_here s.before s.taken s.after s.steps_are).come in
-      let may : IsTrue (has (reads false program.exprs (kind_at program t)) c) = (may_read program plan u.proc s.taken head.head head.rest i a head.is read).local_cell frame c spot in
+      subst (λ o. AllCome program (IsIn program plan told_story p v u) (o ∷ calls_of u.proc.frames) (locals u.activations)) (ap next_stmt_of head.is) (holds_here s.before s.taken s.after s.steps_are).come in
+      let may : IsTrue (has (reads false program.exprs (kind_of program t)) c) = (may_read program plan u.proc s.taken head.head head.rest i a head.is read).local_cell frame c spot in
       let stmt : t ≡ e.event.stmt = sym (ap (λ todo. (event_of program plan u.proc s.taken todo).stmt) head.is) ∙ sym (ap (λ (y : Event). y.stmt) event) in
       subst (λ n. ComesOverData program (full_trace program plan budget h) id n (Local frame c)) stmt
-      (way_edge s.before s.taken s.after t c frame id s.steps_are (subst (λ (k : Kind). IsTrue (has (reads false program.exprs k) c)) (same_kind program t) may)
+      (way_edge s.before s.taken s.after t c frame id s.steps_are may
       (top_way program (IsIn program plan told_story p v u) t c id (calls_of u.proc.frames) u.activations come tag))
 
 pub local_reads_come : LocalReadsComeOverEdges

@@ -9,15 +9,14 @@ use Rattle.std.proofs.lemmas.Bool.{cases_Bool}
 use Rattle.ppd_ast.specs.Valid.{IsValid}
 use Rattle.ppd_ast.specs.declared.plan.Plan.{Plan}
 use Rattle.ppd_ast.specs.declared.program.Program.{Program}
-use Rattle.ppd_course.specs.Course.{IsOnCourse, IsWay, calls_of, head_of}
-use Rattle.ppd_deps.specs.Named.{body_of}
-use Rattle.ppd_course.proofs.Beginning.{starts_on_course}
-use Rattle.ppd_course.proofs.Leading.{stays_on_course}
+use Rattle.ppd_ast.specs.Lookups.{body_of}
+use Rattle.ppd_step_laws.specs.Course.{IsOnCourse, IsWay, calls_of}
+use Rattle.ppd_step_laws.proofs.Course.Beginning.{starts_on_course}
+use Rattle.ppd_step_laws.proofs.Course.Leading.{stays_on_course}
 use Rattle.ppd_model.specs.declared.trace.EventId.{EventId}
 use Rattle.ppd_model.specs.declared.trace.TracedEvent.{TracedEvent}
 use Rattle.ppd_model.specs.FullTrace.{Tag, begun_tracing, event_of, me_in, tagged_after, trace_step, with_test}
 use Rattle.ppd_model.specs.LocalTags.{AreOwn, locals}
-use Rattle.ppd_model.specs.Story.{is_event}
 use Rattle.ppd_model.proofs.Homes.{AreHome, IsHome, act-home, bodies_of, started-home}
 use Rattle.ppd_model.proofs.LocalSteps.{Fits, FitsHead, fits}
 use Rattle.ppd_model.proofs.TestSteps.{event_acts, other_acts}
@@ -31,10 +30,11 @@ use Rattle.ppd_sem.proofs.Kept.{act-runs}
 use Rattle.ppd_sem.proofs.Offers.{completes}
 use Rattle.ppd_sem.proofs.Running.{head_over}
 use Rattle.ppd_sem.proofs.Validity.{valid-runnable}
+use Rattle.ppd_sem.specs.Described.{is_event}
+use Rattle.ppd_sem.specs.Passed.{next_stmt_of}
 use Rattle.ppd_sound.proofs.OwnCells.Acting.{by_need}
 use Rattle.ppd_sound.proofs.Events.{kept_by, new_by, traced}
 use Rattle.ppd_sound.proofs.Frames.{AreSound, IsOfTop, links, relinked, relinks, started_sound}
-use Rattle.ppd_sound.proofs.OwnCells.Moving.{body_same}
 use Rattle.ppd_sound.proofs.States.{runs_all}
 use Rattle.ppd_sound.proofs.OwnCells.Still.{IsStill, none_to_do, still_need}
 use Rattle.ppd_sound.proofs.OwnCells.Tagging.{test_locals}
@@ -66,22 +66,22 @@ module _ (program : Program) (plan : Plan) (story : Story) (p : ℕ) (v : IsVali
     pub home : IsHome program t.proc
     pub sound : AreSound program (links t.proc.frames)
     pub runs : IsRunning program t.proc
-    pub come : AllCome program (IsIn t) (head_of t.proc.todo ∷ calls_of t.proc.frames) (locals t.activations)
+    pub come : AllCome program (IsIn t) (next_stmt_of t.proc.todo ∷ calls_of t.proc.frames) (locals t.activations)
 
   -- ---- one step
 
   module _ (u : Tracing) (x : Taken) (own : x.need ≡ need_of program plan u.proc) (holds : Holds u) where
     -- the last writes, with the trace's new events
-    later : AllCome program (IsIn (next u x)) (head_of u.proc.todo ∷ calls_of u.proc.frames) (locals u.activations)
-    later = more_all program (IsIn u) (IsIn (next u x)) (λ id s i. more_in u x id s i) (head_of u.proc.todo ∷ calls_of u.proc.frames) (locals u.activations) holds.come
+    later : AllCome program (IsIn (next u x)) (next_stmt_of u.proc.todo ∷ calls_of u.proc.frames) (locals u.activations)
+    later = more_all program (IsIn u) (IsIn (next u x)) (λ id s i. more_in u x id s i) (next_stmt_of u.proc.todo ∷ calls_of u.proc.frames) (locals u.activations) holds.come
 
     -- where the process and the activations are as they were
-    put : (after : Proc) (acts : List Activation) → head_of after.todo ≡ head_of u.proc.todo → calls_of after.frames ≡ calls_of u.proc.frames → acts ≡ u.activations
-        → AllCome program (IsIn (next u x)) (head_of after.todo ∷ calls_of after.frames) (locals acts)
+    put : (after : Proc) (acts : List Activation) → next_stmt_of after.todo ≡ next_stmt_of u.proc.todo → calls_of after.frames ≡ calls_of u.proc.frames → acts ≡ u.activations
+        → AllCome program (IsIn (next u x)) (next_stmt_of after.todo ∷ calls_of after.frames) (locals acts)
     put after acts head calls same =
-        subst (λ xs. AllCome program (IsIn (next u x)) (head_of after.todo ∷ calls_of after.frames) (locals xs)) (sym same)
+        subst (λ xs. AllCome program (IsIn (next u x)) (next_stmt_of after.todo ∷ calls_of after.frames) (locals xs)) (sym same)
         (subst (λ o. AllCome program (IsIn (next u x)) (o ∷ calls_of after.frames) (locals u.activations)) (sym head)
-        (subst (λ cs. AllCome program (IsIn (next u x)) (head_of u.proc.todo ∷ cs) (locals u.activations)) (sym calls) later))
+        (subst (λ cs. AllCome program (IsIn (next u x)) (next_stmt_of u.proc.todo ∷ cs) (locals u.activations)) (sym calls) later))
 
     module _ (t : Todo) (ts : List Todo) (is : u.proc.todo ≡ t ∷ ts) where
       acts_is : act program plan u.proc x.answer ≡ act_by_need program plan x.answer t ts (need_of program plan u.proc) u.proc
@@ -90,11 +90,11 @@ module _ (program : Program) (plan : Plan) (story : Story) (p : ℕ) (v : IsVali
       fit : Fits (need_of program plan u.proc) (head_deed program t u.proc)
       fit = subst (λ todo. FitsHead program u.proc (need_of program plan u.proc) todo) is (fits program plan u.proc)
 
-      idle : is_event x.need ≡ false → AllCome program (IsIn (next u x)) (head_of (next u x).proc.todo ∷ calls_of (next u x).proc.frames) (locals (next u x).activations)
+      idle : is_event x.need ≡ false → AllCome program (IsIn (next u x)) (next_stmt_of (next u x).proc.todo ∷ calls_of (next u x).proc.frames) (locals (next u x).activations)
       idle none =
           let i : IsStill u.proc (act_by_need program plan x.answer t ts (need_of program plan u.proc) u.proc) t =
           still_need program plan x.answer t ts u.proc (need_of program plan u.proc) is (ap is_event (sym own) ∙ none) fit in
-          put (act program plan u.proc x.answer) (next u x).activations (ap (λ (s : Proc). head_of s.todo) acts_is ∙ i.head ∙ sym (ap head_of is)) (ap (λ (s : Proc). calls_of s.frames) acts_is ∙ i.calls)
+          put (act program plan u.proc x.answer) (next u x).activations (ap (λ (s : Proc). next_stmt_of s.todo) acts_is ∙ i.head ∙ sym (ap next_stmt_of is)) (ap (λ (s : Proc). calls_of s.frames) acts_is ∙ i.calls)
           (other_acts program plan story p x x.need u none)
 
       there : t.stmt < length program.stmts
@@ -103,14 +103,14 @@ module _ (program : Program) (plan : Plan) (story : Story) (p : ℕ) (v : IsVali
       abbrev tested : List Activation
       tested = with_test program (me_in p u) (event_of program plan u.proc x u.proc.todo) u.activations
 
-      event : is_event x.need ≡ true → AllCome program (IsIn (next u x)) (head_of (next u x).proc.todo ∷ calls_of (next u x).proc.frames) (locals (next u x).activations)
+      event : is_event x.need ≡ true → AllCome program (IsIn (next u x)) (next_stmt_of (next u x).proc.todo ∷ calls_of (next u x).proc.frames) (locals (next u x).activations)
       event finishes =
           let me : IsIn (next u x) (me_in p u) t.stmt = new_in u x t.stmt finishes (ap (λ todo. (event_of program plan u.proc x todo).stmt) is) in
           let n : Need = need_of program plan u.proc in
           let home : IsHome program (act_by_need program plan x.answer t ts n u.proc) = subst (λ (s : Proc). IsHome program s) acts_is (act-home program plan u.proc x.answer v holds.home) in
           let old : AllCome program (IsIn (next u x)) (Some t.stmt ∷ calls_of u.proc.frames) (locals tested) =
           subst (λ xs. AllCome program (IsIn (next u x)) (Some t.stmt ∷ calls_of u.proc.frames) xs) (sym (test_locals program (me_in p u) (event_of program plan u.proc x u.proc.todo) u.activations))
-          (subst (λ o. AllCome program (IsIn (next u x)) (o ∷ calls_of u.proc.frames) (locals u.activations)) (ap head_of is) later) in
+          (subst (λ o. AllCome program (IsIn (next u x)) (o ∷ calls_of u.proc.frames) (locals u.activations)) (ap next_stmt_of is) later) in
           let went = by_need program plan v (IsIn (next u x)) x.answer t ts (me_in p u) there me u.proc tested
           (record {
             way = subst (λ todo. IsWay program plan (calls_of u.proc.frames) todo) is holds.course;
@@ -121,8 +121,8 @@ module _ (program : Program) (plan : Plan) (story : Story) (p : ℕ) (v : IsVali
           is n (ap is_event (sym own) ∙ finishes) (completes program plan u.proc t ts is) fit home in
           let now : (next u x).activations ≡ tagged_after program u.proc (Some (me_in p u)) n tested =
           event_acts program plan story p x x.need u finishes ∙ ap (λ m. tagged_after program u.proc (Some (me_in p u)) m tested) own in
-          subst (λ (acts : List Activation). AllCome program (IsIn (next u x)) (head_of (next u x).proc.todo ∷ calls_of (next u x).proc.frames) (locals acts)) (sym now)
-          (subst (λ (s : Proc). AllCome program (IsIn (next u x)) (head_of s.todo ∷ calls_of s.frames) (locals (tagged_after program u.proc (Some (me_in p u)) n tested))) (sym acts_is) went)
+          subst (λ (acts : List Activation). AllCome program (IsIn (next u x)) (next_stmt_of (next u x).proc.todo ∷ calls_of (next u x).proc.frames) (locals acts)) (sym now)
+          (subst (λ (s : Proc). AllCome program (IsIn (next u x)) (next_stmt_of s.todo ∷ calls_of s.frames) (locals (tagged_after program u.proc (Some (me_in p u)) n tested))) (sym acts_is) went)
 
       sound_on : AreSound program (links (act program plan u.proc x.answer).frames)
       sound_on =
@@ -131,12 +131,12 @@ module _ (program : Program) (plan : Plan) (story : Story) (p : ℕ) (v : IsVali
         where
           of_top : (frames : List Frame) → AreHome program (bodies_of frames) (t ∷ ts) → IsOfTop program v t.stmt there (links frames)
           of_top [] h = absurd h
-          of_top (f ∷ fs) h = sym (body_same program t.stmt) ∙ h.0
+          of_top (f ∷ fs) h = h.0
 
-    come_on : (todo : List Todo) → u.proc.todo ≡ todo → AllCome program (IsIn (next u x)) (head_of (next u x).proc.todo ∷ calls_of (next u x).proc.frames) (locals (next u x).activations)
+    come_on : (todo : List Todo) → u.proc.todo ≡ todo → AllCome program (IsIn (next u x)) (next_stmt_of (next u x).proc.todo ∷ calls_of (next u x).proc.frames) (locals (next u x).activations)
     come_on [] is =
         let same : act program plan u.proc x.answer ≡ u.proc = ap (λ todo. act_at program plan x.answer todo u.proc) is in
-        put (act program plan u.proc x.answer) (next u x).activations (ap (λ (s : Proc). head_of s.todo) same) (ap (λ (s : Proc). calls_of s.frames) same)
+        put (act program plan u.proc x.answer) (next u x).activations (ap (λ (s : Proc). next_stmt_of s.todo) same) (ap (λ (s : Proc). calls_of s.frames) same)
         (other_acts program plan story p x x.need u (ap is_event own ∙ none_to_do program plan u.proc u.proc.status is))
     come_on (t ∷ ts) is = elim (cases_Bool (is_event x.need)) [
       | inl finishes ↦ event t ts is finishes
@@ -177,5 +177,5 @@ module _ (program : Program) (plan : Plan) (story : Story) (p : ℕ) (v : IsVali
     home = started-home program plan p budget v;
     sound = started_sound program plan p budget;
     runs = runs_all program plan story p budget [] v;
-    come = (begun_come (IsIn (begun_tracing (started program plan p budget))) (head_of (started program plan p budget).todo) (top_cells (started program plan p budget).frames), tt);
+    come = (begun_come (IsIn (begun_tracing (started program plan p budget))) (next_stmt_of (started program plan p budget).todo) (top_cells (started program plan p budget).frames), tt);
   }

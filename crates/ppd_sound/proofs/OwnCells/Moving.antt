@@ -11,60 +11,38 @@ use Rattle.ppd_ast.specs.declared.program.Kind.TheVariants as K
 use Rattle.ppd_ast.specs.declared.program.Program.{Program}
 use Rattle.ppd_ast.specs.declared.program.Stmt.{Stmt}
 use Rattle.ppd_ast.proofs.ValidLaws.{slice_get_below, some_and, valid_stmt}
-use Rattle.ppd_cfg.specs.Flow.{follow, kind_of, kind_of_stmt, next_of, successors, top_of, top_of_body}
-use Rattle.ppd_cfg.specs.Lists.{first_or, has, to_list}
+use Rattle.ppd_ast.specs.Members.{has}
+use Rattle.ppd_ast.specs.Lookups.{kind_of_stmt, kind_of, top_of, body_of, params_of}
+use Rattle.ppd_ast.proofs.Members.{has_first, has_right, filter_has}
+use Rattle.ppd_cfg.specs.Flow.{follow, next_of, successors}
+use Rattle.ppd_cfg.specs.Lists.{first_or, to_list}
 use Rattle.ppd_cfg.specs.Reach.{start}
-use Rattle.ppd_cfg.proofs.Has.{filter_has, has_first, has_right}
-use Rattle.ppd_course.specs.Course.{head_of}
-use Rattle.ppd_course.proofs.Outward.{none_some, some_is}
+use Rattle.ppd_step_laws.proofs.Course.Outward.{none_some, some_is}
 use Rattle.ppd_deps.specs.Edges.{begins, is_cell, scalar_written}
-use Rattle.ppd_deps.specs.Named.{body_of, body_of_stmt, calls, local_writes, params_of, params_of_body, passes, places, places_by}
+use Rattle.ppd_deps.specs.Named.{calls, local_writes, passes, places, places_by}
 use Rattle.ppd_deps.proofs.Arriving.{IsOwn, own_by}
 use Rattle.ppd_deps.proofs.Bodies.{stands_among}
 use Rattle.ppd_model.specs.declared.trace.EventId.{EventId}
 use Rattle.ppd_model.specs.FullTrace.{Tag}
-use Rattle.ppd_model.proofs.Homes.{AreHome, body_at, body_if, params_if}
+use Rattle.ppd_model.proofs.Homes.{AreHome}
 use Rattle.ppd_sem.specs.declared.proc.Todo.{Todo}
-use Rattle.ppd_sem.specs.Process.{top_of as tops}
 use Rattle.ppd_sem.specs.Runs.{returns}
+use Rattle.ppd_sem.specs.Passed.{next_stmt_of}
 use Rattle.ppd_sets.specs.Used.{callee, stmts_at}
 use Rattle.ppd_sound.proofs.OwnCells.Does.{is_own}
 use Rattle.ppd_sound.proofs.OwnCells.Tagging.{copied, set_other, set_same, top_changed, uncopied}
 use Rattle.ppd_sound.proofs.Vars.{param_var}
 use Rattle.ppd_sound.proofs.OwnCells.Ways.{AllCome, AreCome, IsCome, NewTag, kept, mine, none, own_place, step_way}
 
--- ---- two words for one thing
-
-pub body_same : (p : Program) (s : ℕ) → body_at p s ≡ body_of p s
-body_same p s = by (slice_get p.stmts s)
-  where
-    by : (o : Option Stmt) → body_if o ≡ body_of_stmt o
-    by None = refl
-    by (Some x) = refl
-
-pub params_same : (p : Program) (f : ℕ) → params_if (slice_get p.bodies f) ≡ params_of p f
-params_same p f = by (slice_get p.bodies f)
-  where
-    by : (o : Option Body) → params_if o ≡ params_of_body o
-    by None = refl
-    by (Some b) = refl
-
-pub tops_same : (p : Program) (f : ℕ) → tops (slice_get p.bodies f) ≡ top_of p f
-tops_same p f = by (slice_get p.bodies f)
-  where
-    by : (o : Option Body) → tops o ≡ top_of_body o
-    by None = refl
-    by (Some b) = refl
-
 -- ---- bodies
 
 -- the head is of the body of the top frame
-pub head_body : (p : Program) (b : ℕ) (bs : List ℕ) (todo : List Todo) (h : ℕ) → AreHome p (b ∷ bs) todo → head_of todo ≡ Some h → body_of p h ≡ b
+pub head_body : (p : Program) (b : ℕ) (bs : List ℕ) (todo : List Todo) (h : ℕ) → AreHome p (b ∷ bs) todo → next_stmt_of todo ≡ Some h → body_of p h ≡ b
 head_body p b bs [] h home e = absurd (none_some e)
-head_body p b bs (t ∷ ts) h home e = sym (body_same p h) ∙ ap (body_at p) (sym (some_is e)) ∙ home.0
+head_body p b bs (t ∷ ts) h home e = ap (body_of p) (sym (some_is e)) ∙ home.0
 
 -- where the frames are the same the next head is of the same body
-pub same_body : (p : Program) (bs : List ℕ) (t : Todo) (ts todo : List Todo) (h : ℕ) → AreHome p bs (t ∷ ts) → AreHome p bs todo → head_of todo ≡ Some h → body_of p h ≡ body_of p t.stmt
+pub same_body : (p : Program) (bs : List ℕ) (t : Todo) (ts todo : List Todo) (h : ℕ) → AreHome p bs (t ∷ ts) → AreHome p bs todo → next_stmt_of todo ≡ Some h → body_of p h ≡ body_of p t.stmt
 same_body p [] t ts todo h before after e = absurd before
 same_body p (b ∷ bs) t ts todo h before after e = head_body p b bs todo h after e ∙ sym (head_body p b bs (t ∷ ts) t.stmt before refl)
 

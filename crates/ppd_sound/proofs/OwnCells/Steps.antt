@@ -8,18 +8,19 @@ use Rattle.ppd_ast.specs.declared.plan.Plan.{Plan}
 use Rattle.ppd_ast.specs.declared.program.Kind.{Kind}
 use Rattle.ppd_ast.specs.declared.program.Kind.TheVariants as K
 use Rattle.ppd_ast.specs.declared.program.Program.{Program}
-use Rattle.ppd_cfg.specs.Flow.{follow, kind_of, next_of, successors}
-use Rattle.ppd_cfg.specs.Lists.{first_or, has, to_list}
-use Rattle.ppd_cfg.proofs.Has.{has_first, in_bounds_has}
-use Rattle.ppd_course.specs.Course.{IsBehind, IsWay, behind, calls_of, head_of}
-use Rattle.ppd_course.proofs.Deeds.{DeedFits, IsBranch}
-use Rattle.ppd_course.proofs.Frames.{calls_clear, calls_write}
-use Rattle.ppd_course.proofs.Last.{ends_are_last}
-use Rattle.ppd_course.proofs.Outward.{none_some}
-use Rattle.ppd_course.proofs.Successors.{has_rising_left, has_rising_right}
-use Rattle.ppd_course.proofs.Ways.{head_todos}
+use Rattle.ppd_ast.specs.Members.{has}
+use Rattle.ppd_ast.specs.Lookups.{kind_of, body_of}
+use Rattle.ppd_ast.proofs.Members.{has_first, in_bounds_has}
+use Rattle.ppd_cfg.specs.Flow.{follow, next_of, successors}
+use Rattle.ppd_cfg.specs.Lists.{first_or, to_list}
+use Rattle.ppd_step_laws.specs.Course.{IsBehind, IsWay, behind, calls_of}
+use Rattle.ppd_step_laws.proofs.Course.Deeds.{DeedFits, IsBranch}
+use Rattle.ppd_step_laws.proofs.Course.Frames.{calls_clear, calls_write}
+use Rattle.ppd_step_laws.proofs.Course.Last.{ends_are_last}
+use Rattle.ppd_step_laws.proofs.Course.Outward.{none_some}
+use Rattle.ppd_step_laws.proofs.Course.Successors.{has_rising_left, has_rising_right}
+use Rattle.ppd_step_laws.proofs.Course.Ways.{head_todos}
 use Rattle.ppd_deps.specs.Edges.{scalar_written}
-use Rattle.ppd_deps.specs.Named.{body_of}
 use Rattle.ppd_model.specs.declared.trace.EventId.{EventId}
 use Rattle.ppd_model.specs.FullTrace.{Tag, tagged_by}
 use Rattle.ppd_model.specs.LocalTags.{locals}
@@ -31,6 +32,7 @@ use Rattle.ppd_sem.specs.declared.proc.Todo.{Todo}
 use Rattle.ppd_sem.specs.Deed.{Deed, set_local, clear, receive}
 use Rattle.ppd_sem.specs.Process.{act_by_deed, clear_top, todos, value_of, write_top}
 use Rattle.ppd_sem.specs.Runs.{returns}
+use Rattle.ppd_sem.specs.Passed.{next_stmt_of}
 use Rattle.ppd_sound.proofs.OwnCells.Does.{IsLocalWrite, is_own, other_cell}
 use Rattle.ppd_sound.proofs.Frames.{AreLinked, links}
 use Rattle.ppd_sound.proofs.OwnCells.Moving.{own_stays, same_body, same_frame, same_tags}
@@ -68,7 +70,7 @@ module _ (program : Program) (plan : Plan) (v : IsValid program) (E : EventId �
 
   -- where the process is, and what its frames' cells have
   abbrev pub Come : List Todo → List Frame → List (List Tag) → Type 0
-  Come todo frames tags = AllCome program E (head_of todo ∷ calls_of frames) tags
+  Come todo frames tags = AllCome program E (next_stmt_of todo ∷ calls_of frames) tags
 
   -- before the step
   pub record Before (s : Proc) (tags : List (List Tag)) : Type 0 where
@@ -79,13 +81,13 @@ module _ (program : Program) (plan : Plan) (v : IsValid program) (E : EventId �
 
   module _ (s : Proc) (acts : List Activation) (b : Before s (locals acts)) where
     -- what is to do behind the statement
-    pub follows : returns k ≡ false → head_of ts ≡ follow program t.stmt
+    pub follows : returns k ≡ false → next_stmt_of ts ≡ follow program t.stmt
     follows e = (subst (λ r. IsBehind program plan (behind r t.stmt (calls_of s.frames)) ts) e b.way.0).follows
 
     -- ---- successors
 
     abbrev pub Leads : List Todo → Type 0
-    Leads todo = (h : ℕ) → head_of todo ≡ Some h → IsTrue (has (next_of program t.stmt) h)
+    Leads todo = (h : ℕ) → next_stmt_of todo ≡ Some h → IsTrue (has (next_of program t.stmt) h)
 
     pub to_next : is_own k ≡ true → ((after : Option ℕ) → successors t.stmt k after ≡ to_list after) → Leads ts
     to_next own goes h is =
@@ -118,20 +120,20 @@ module _ (program : Program) (plan : Plan) (v : IsValid program) (E : EventId �
 
     -- ---- the frames and the tags
 
-    in_body : (todo : List Todo) (frames : List Frame) → bodies_of frames ≡ bodies_of s.frames → AreHome program (bodies_of frames) todo → (h : ℕ) → head_of todo ≡ Some h → body_of program h ≡ body_of program t.stmt
+    in_body : (todo : List Todo) (frames : List Frame) → bodies_of frames ≡ bodies_of s.frames → AreHome program (bodies_of frames) todo → (h : ℕ) → next_stmt_of todo ≡ Some h → body_of program h ≡ body_of program t.stmt
     in_body todo frames bodies home h is = same_body program (bodies_of s.frames) t ts todo h b.home (subst (λ bs. AreHome program bs todo) bodies home) is
 
     -- with other tags of the top frame
     moved : (todo : List Todo) (frames : List Frame) (f : List Tag → List Tag) (tags : List (List Tag)) → calls_of frames ≡ calls_of s.frames → bodies_of frames ≡ bodies_of s.frames → AreHome program (bodies_of frames) todo
         → is_own k ≡ true → Leads todo → ((xs : List Tag) (c : ℕ) → NewTag k me c (get_or xs c None) (get_or (f xs) c None)) → tags ≡ top_changed f (locals acts) → Come todo frames tags
     moved todo frames f tags calls bodies home own leads new e =
-        subst (λ (xs : List (List Tag)). Come todo frames xs) (sym e) (subst (λ cs. AllCome program E (head_of todo ∷ cs) (top_changed f (locals acts))) (sym calls)
-        (same_frame program E v t.stmt there me is_me own f (calls_of s.frames) (locals acts) (head_of todo) leads (in_body todo frames bodies home) new b.come))
+        subst (λ (xs : List (List Tag)). Come todo frames xs) (sym e) (subst (λ cs. AllCome program E (next_stmt_of todo ∷ cs) (top_changed f (locals acts))) (sym calls)
+        (same_frame program E v t.stmt there me is_me own f (calls_of s.frames) (locals acts) (next_stmt_of todo) leads (in_body todo frames bodies home) new b.come))
 
     -- with the same tags
     pub unmoved : (todo : List Todo) → AreHome program (bodies_of s.frames) todo → is_own k ≡ true → Leads todo → scalar_written k ≡ None → Come todo s.frames (locals acts)
     unmoved todo home own leads unset =
-        same_tags program E v t.stmt there me is_me own (calls_of s.frames) (locals acts) (head_of todo) leads (in_body todo s.frames refl home) unset b.come
+        same_tags program E v t.stmt there me is_me own (calls_of s.frames) (locals acts) (next_stmt_of todo) leads (in_body todo s.frames refl home) unset b.come
 
     -- what a deed that is neither a call nor a return leaves
     abbrev pub Leaves : Deed → List ℤ → Type 0

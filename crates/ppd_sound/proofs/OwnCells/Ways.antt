@@ -7,12 +7,14 @@ use Rattle.ppd_ast.specs.Valid.{IsValid}
 use Rattle.ppd_ast.specs.declared.program.Kind.{Kind}
 use Rattle.ppd_ast.specs.declared.program.Program.{Program}
 use Rattle.ppd_ast.specs.declared.program.Var.{Var}
-use Rattle.ppd_cfg.specs.Flow.{kind_of, next_of, top_of}
-use Rattle.ppd_cfg.specs.Lists.{first_or, has, row, to_list}
+use Rattle.ppd_ast.specs.Members.{has}
+use Rattle.ppd_ast.specs.Lookups.{kind_of, top_of, body_of, locals_of}
+use Rattle.ppd_ast.proofs.Members.{has_first, has_left, filter_has, flat_from}
+use Rattle.ppd_cfg.specs.Flow.{next_of}
+use Rattle.ppd_cfg.specs.Lists.{first_or, row, to_list}
 use Rattle.ppd_cfg.specs.Reach.{Reached, next, start}
-use Rattle.ppd_cfg.proofs.Has.{filter_has, flat_from, has_first, has_left}
 use Rattle.ppd_deps.specs.Edges.{begins, ends_paths, is_cell, kept_rows, scalar_written}
-use Rattle.ppd_deps.specs.Named.{body_of, local_writes, locals_of, passes, places}
+use Rattle.ppd_deps.specs.Named.{local_writes, passes, places}
 use Rattle.ppd_deps.proofs.Arriving.{IsOwn}
 use Rattle.ppd_deps.proofs.Reaching.{kept_row_is}
 use Rattle.ppd_model.specs.declared.trace.EventId.{EventId}

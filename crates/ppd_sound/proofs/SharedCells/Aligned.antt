@@ -7,9 +7,9 @@ use Rattle.std.specs.Prelude.{⊤, fold, slice_get}
 use Rattle.ppd_ast.specs.declared.plan.Plan.{Plan}
 use Rattle.ppd_ast.specs.declared.program.Program.{Program}
 use Rattle.ppd_ast.specs.declared.status.Status.{Status}
+use Rattle.ppd_ast.specs.Lookups.{kind_of}
 use Rattle.ppd_model.specs.FullTrace.{Tag, answers_past, tag_at, tags_of, trace_by, trace_step}
 use Rattle.ppd_model.specs.LocalTags.{AreOwn}
-use Rattle.ppd_model.specs.Story.{is_event}
 use Rattle.ppd_sem.specs.declared.asking.Pause.TheVariants.{Wants, Traps}
 use Rattle.ppd_sem.specs.declared.event.Access.{Access}
 use Rattle.ppd_sem.specs.declared.event.Spot.{Spot}
@@ -22,9 +22,10 @@ use Rattle.ppd_sem.specs.declared.proc.Todo.{Todo}
 use Rattle.ppd_sem.specs.Asked.{Asked}
 use Rattle.ppd_sem.specs.Consumed.{WantsInTurn, shared_of, shared_with, values_read}
 use Rattle.ppd_sem.specs.Deed.{Deed, set_local, clear, invoke, back, receive, ask_deed}
-use Rattle.ppd_sem.specs.Process.{act, act_at, act_by_asked, act_by_deed, act_by_need, head_deed, kind_of as kind_at, need_by_status, need_of, started, top_cells, value_of}
+use Rattle.ppd_sem.specs.Process.{act, act_at, act_by_asked, act_by_deed, act_by_need, head_deed, need_by_status, need_of, started, top_cells, value_of}
 use Rattle.ppd_sem.proofs.Progress.{act-stopped}
-use Rattle.ppd_course.proofs.Outward.{none_some}
+use Rattle.ppd_sem.specs.Described.{is_event}
+use Rattle.ppd_step_laws.proofs.Course.Outward.{none_some}
 use Rattle.ppd_sound.proofs.SharedCells.Asking.{Finishes, Tells, need_tells}
 use Rattle.ppd_sound.proofs.SharedCells.Writers.{EachReadIs, IsWriter, ReadIs}
 
@@ -84,7 +85,7 @@ module _ (steps : List (List Taken)) (ev : List ℤ → Asked Deed) (ls : List T
 
 -- what a statement asks for, by its answers
 abbrev pub evaluates_at : Program → Todo → Proc → List ℤ → Asked Deed
-evaluates_at program t s answers = ask_deed program.exprs (kind_at program t.stmt) (top_cells s.frames) answers
+evaluates_at program t s answers = ask_deed program.exprs (kind_of program t.stmt) (top_cells s.frames) answers
 
 abbrev pub TakenAt : Program → List (List Taken) → Proc → List Tag → List Todo → Type 0
 TakenAt program steps s tags [] = ⊤

@@ -7,17 +7,16 @@ use Rattle.std.specs.Prelude.{IsTrue, slice_get}
 use Rattle.std.proofs.lemmas.Bool.{cond-true}
 use Rattle.ppd_ast.specs.Valid.{IsValid}
 use Rattle.ppd_ast.specs.declared.plan.Plan.{Plan}
-use Rattle.ppd_ast.specs.declared.program.Kind.{Kind}
 use Rattle.ppd_ast.specs.declared.program.Program.{Program}
 use Rattle.ppd_ast.specs.declared.status.Status.{Status}
-use Rattle.ppd_cfg.specs.Lists.{has}
-use Rattle.ppd_course.proofs.Ways.{same_kind}
-use Rattle.ppd_deps.specs.Named.{body_of, running, shared_writes}
+use Rattle.ppd_ast.specs.Members.{has}
+use Rattle.ppd_ast.specs.Lookups.{kind_of, body_of}
+use Rattle.ppd_deps.specs.Named.{running, shared_writes}
 use Rattle.ppd_deps.proofs.Arriving.{body_there}
 use Rattle.ppd_model.specs.declared.trace.EventId.{EventId}
 use Rattle.ppd_model.specs.declared.trace.TracedEvent.{TracedEvent}
 use Rattle.ppd_model.specs.FullTrace.{Tag, begun_tracing, event_of, full_trace, me_in, tags_of, top_tags}
-use Rattle.ppd_model.specs.Story.{is_event, own_steps, story}
+use Rattle.ppd_model.specs.Story.{own_steps, story}
 use Rattle.ppd_model.proofs.Homes.{AreHome, bodies_of}
 use Rattle.ppd_model.proofs.Parents.{own_to}
 use Rattle.ppd_sem.specs.declared.event.Access.{Access}
@@ -27,8 +26,8 @@ use Rattle.ppd_sem.specs.declared.proc.Need.TheVariants.{Write}
 use Rattle.ppd_sem.specs.declared.proc.Proc.{Proc}
 use Rattle.ppd_sem.specs.declared.proc.Todo.{Todo}
 use Rattle.ppd_sem.specs.Consumed.{Takes, shared_of}
-use Rattle.ppd_sem.specs.Described.{evaluates, frame_of}
-use Rattle.ppd_sem.specs.Process.{kind_of as kind_at, need_by_status, need_of, started, top_cells}
+use Rattle.ppd_sem.specs.Described.{evaluates, frame_of, is_event}
+use Rattle.ppd_sem.specs.Process.{need_by_status, need_of, started, top_cells}
 use Rattle.ppd_sem.specs.Reads.{reads_of_kind}
 use Rattle.ppd_sem.proofs.Consumed.{reads_taken}
 use Rattle.ppd_sets.specs.Named.{reads}
@@ -137,8 +136,8 @@ module _ (program : Program) (plan : Plan) (budget : ℕ) (h : List ℕ) (v : Is
     writer_is : (u : Tracing) (x : Taken) (t : Todo) (ts : List Todo) (i c : ℕ) (a : Access) (w : Tag) → u.proc.todo ≡ t ∷ ts → AreTaken told_story.steps (evaluates_at program t u.proc) [] u.proc.answers u.answers
         → slice_get (event_of program plan u.proc x u.proc.todo).reads i ≡ Some a → a.spot ≡ Shared c → slice_get (tags_of (top_tags u.activations) u.answers (event_of program plan u.proc x u.proc.todo).reads) i ≡ Some w → IsWriter told_story.steps c w
     writer_is u x t ts i c a w is taken read spot tag =
-        let all : List Access = reads_of_kind (frame_of program plan u.proc) program.exprs (kind_at program t.stmt) (top_cells u.proc.frames) u.proc.answers in
-        let takes : Takes (evaluates_at program t u.proc) u.proc.answers (shared_of all) = reads_taken.statement (frame_of program plan u.proc) program.exprs (kind_at program t.stmt) (top_cells u.proc.frames) u.proc.answers in
+        let all : List Access = reads_of_kind (frame_of program plan u.proc) program.exprs (kind_of program t.stmt) (top_cells u.proc.frames) u.proc.answers in
+        let takes : Takes (evaluates_at program t u.proc) u.proc.answers (shared_of all) = reads_taken.statement (frame_of program plan u.proc) program.exprs (kind_of program t.stmt) (top_cells u.proc.frames) u.proc.answers in
         let at : slice_get (map (λ a. a.spot) all) i ≡ Some (Shared c) = spot_there all i a (statement_read program plan u.proc x t ts i a is read) ∙ ap Some spot in
         let tags : slice_get (tags_of (top_tags u.activations) u.answers all) i ≡ Some w =
         tags_there (evaluates (need_of program plan u.proc)) (top_tags u.activations) u.answers all i w
@@ -159,10 +158,10 @@ module _ (program : Program) (plan : Plan) (budget : ℕ) (h : List ℕ) (v : Is
         let taken : AreTaken told_story.steps (evaluates_at program head.head u.proc) [] u.proc.answers u.answers =
         subst (λ todo. TakenAt program told_story.steps u.proc u.answers todo) head.is (answers_here s.before s.taken s.after s.steps_are (runs_on program plan u.proc finishes)) in
         let wrote : IsWrite told_story.steps c id = writer_is u s.taken head.head head.rest i c a (Some id) head.is taken read spot tags in
-        let may : IsTrue (has (reads true program.exprs (kind_at program t)) c) = (may_read program plan u.proc s.taken head.head head.rest i a head.is read).shared_cell c spot in
+        let may : IsTrue (has (reads true program.exprs (kind_of program t)) c) = (may_read program plan u.proc s.taken head.head head.rest i a head.is read).shared_cell c spot in
         let stmt : t ≡ e.event.stmt = sym (ap (λ todo. (event_of program plan u.proc s.taken todo).stmt) head.is) ∙ sym (ap (λ (y : Event). y.stmt) event) in
         subst (λ n. ComesOverData program (full_trace program plan budget h) id n (Shared c)) stmt
-        (write_edge id t c (subst (λ (k : Kind). IsTrue (has (reads true program.exprs k) c)) (same_kind program t) may) (write_at id c wrote))
+        (write_edge id t c may (write_at id c wrote))
 
 pub shared_reads_come : SharedReadsComeOverEdges
 shared_reads_come program plan budget h p n e i a id c v is w spot =

@@ -4,10 +4,11 @@ use Rattle.std.specs.Prelude.{if◌then◌else◌, is_none, is_some, nat_le, not
 use Rattle.std.specs.Borrow.{Bor}
 use Rattle.std.specs.Str.{bytes_eq}
 use Rattle.std.proofs.lemmas.Bool.Decides.{nat_tests}
+use Rattle.ppd_ast.specs.Digits.{number_in, value_from}
 use Rattle.ppd_words.proofs.Clap.Kinds.{clap_spelled, is_among, kind_by, option_kind}
 use Rattle.ppd_words.proofs.Clap.Lookups.{same-equal}
 use Rattle.ppd_words.proofs.Numbers.Words.{flow_longs}
-use Rattle.ppd_words.specs.Numbers.{Choice, NumbersGiven, budget, choice_of, given_in, leaf, loops, number_in, value_from, with_option}
+use Rattle.ppd_words.specs.Numbers.{Choice, NumbersGiven, budget, choice_of, given_in, leaf, loops, with_option}
 use Rattle.ppd_words.specs.Words.{Text, name, other, sets, waits}
 
 abbrev pub source_id : Text

@@ -4,13 +4,14 @@ use Rattle.std.specs.Prelude.{⊤, if◌then◌else◌, is_none, is_some, nat_le
 use Rattle.std.specs.Borrow.{Bor}
 use Rattle.std.specs.Str.{bytes_eq}
 use Rattle.clap.specs.Lexer.{long_of, short_of}
+use Rattle.ppd_ast.specs.Digits.{number_in}
 use Rattle.ppd_words.proofs.Clap.Kinds.{clap_gives, clap_spelled}
 use Rattle.ppd_words.proofs.Clap.Lookups.{same-equal}
 use Rattle.ppd_words.proofs.Late.{tested_is}
 use Rattle.ppd_words.proofs.Numbers.Choices.{among_back, asks_after, ended_after, given_after, given_asks, given_ended, given_source, id_of, ids_same, is_same, no_number, none_is, not_source, or_false, or_true, sets_known, source_after, source_id, source_not, waits_known}
 use Rattle.ppd_words.proofs.Uses.{has_push, value_new, value_other}
 use Rattle.ppd_words.proofs.Numbers.Words.{flow_longs, spelled_is, word_of}
-use Rattle.ppd_words.specs.Numbers.{Asked, Choice, NumbersGiven, Word, after_one, after_wait, all_given, allows, and_more, asked_for, asked_of, budget, choice_of, given_in, good, leaf, loops, named_of, no_numbers, number_in, numbers_from, with_number, with_option, with_source, with_spelled}
+use Rattle.ppd_words.specs.Numbers.{Asked, Choice, NumbersGiven, Word, after_one, after_wait, all_given, allows, and_more, asked_for, asked_of, budget, choice_of, given_in, good, leaf, loops, named_of, no_numbers, numbers_from, with_number, with_option, with_source, with_spelled}
 use Rattle.ppd_words.specs.Reads.{texts_in}
 use Rattle.ppd_words.specs.Tested.{are_good, if_good, only_good, tested_from}
 use Rattle.ppd_words.specs.Words.{Given, Kind, Text, Uses, after_word, and_words, complete, ends, has, name, nothing_given, other, sets, value_of, waits, with_kind, with_name, with_name_at, with_use, with_value, with_word}

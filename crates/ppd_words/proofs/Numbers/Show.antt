@@ -3,13 +3,14 @@ use Rattle.std.proofs.Common.{◌≡◌, ◌∙◌, ◌&&◌, ◌||◌, ℕ, zer
 use Rattle.std.specs.Prelude.{find, if◌then◌else◌, is_none, is_some, not, option_and_then, slice_get}
 use Rattle.std.specs.Borrow.{Bor}
 use Rattle.std.specs.Str.{bytes_eq}
+use Rattle.ppd_ast.specs.Digits.{number_in}
 use Rattle.ppd_words.proofs.Clap.Kinds.{clap_gives}
 use Rattle.ppd_words.proofs.Clap.Lookups.{same-equal}
 use Rattle.ppd_words.proofs.Numbers.Fewer.{given_fewer, without}
 use Rattle.ppd_words.proofs.Numbers.Flow.{flow_is_given}
 use Rattle.ppd_words.proofs.Numbers.Words.{flow_longs}
 use Rattle.ppd_words.proofs.Uses.{value_none}
-use Rattle.ppd_words.specs.Numbers.{Asked, Choice, NumbersGiven, after_one, all_given, all_shown, and_more, asked_for, asked_of, budget, good, named_of, no_numbers, number_in, numbers_from, shown_from}
+use Rattle.ppd_words.specs.Numbers.{Asked, Choice, NumbersGiven, after_one, all_given, all_shown, and_more, asked_for, asked_of, budget, good, named_of, no_numbers, numbers_from, shown_from}
 use Rattle.ppd_words.specs.Reads.{texts_in}
 use Rattle.ppd_words.specs.Tested.{are_good, only_good}
 use Rattle.ppd_words.specs.Words.{Text, Uses, has, value_of}

@@ -2,12 +2,13 @@
 use Rattle.std.proofs.Common.{◌≡◌, ◌∙◌, Bool, true, false, refl, sym, ap, drop, subst, List, codes}
 use Rattle.std.specs.Prelude.{if◌then◌else◌}
 use Rattle.std.specs.Str.{bytes_eq}
+use Rattle.ppd_ast.specs.Digits.{number_in}
 use Rattle.ppd_words.proofs.Clap.Kinds.{clap_spelled}
 use Rattle.ppd_words.proofs.Clap.Lookups.{same-equal}
 use Rattle.ppd_words.proofs.Clap.Spelled.{spelled_alike}
 use Rattle.ppd_words.specs.Commands.{longs_of}
 use Rattle.ppd_words.specs.declared.commands.Command.TheVariants.{Flow}
-use Rattle.ppd_words.specs.Numbers.{Ends, Name, Other, Sets, Waits, Word, budget, choice_of, leaf, loops, number_in, spelled_word}
+use Rattle.ppd_words.specs.Numbers.{Ends, Name, Other, Sets, Waits, Word, budget, choice_of, leaf, loops, spelled_word}
 use Rattle.ppd_words.specs.Spelling.{HaveNoEquals, begins, is_dashed, spelled}
 use Rattle.ppd_words.specs.Words.{Kind, Text, ends, name, other, sets, waits}
 

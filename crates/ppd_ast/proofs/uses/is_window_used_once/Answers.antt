@@ -1,8 +1,8 @@
 use Rattle.std.proofs.Common.{◌≡◌, ℕ, ◌+◌, ◌-◌, ◌<◌, get_or, replicate, arith, refl, subst}
 use Rattle.std.specs.List.{flat_map}
 use Rattle.std.proofs.lemmas.List.{get_or-replicate, length-replicate}
-use Rattle.ppd_ast.specs.Tally.{uses_of, IsOnce}
-use Rattle.ppd_ast.specs.Uses.{children, stmt_uses}
+use Rattle.ppd_ast.specs.Tally.{IsOnce}
+use Rattle.ppd_ast.specs.Uses.{children, stmt_uses, uses_of}
 use Rattle.ppd_ast.proofs.Tallies.{window_once}
 use Rattle.ppd_ast.proofs.uses.is_window_used_once.Goals as goal
 use Rattle.ppd_ast.proofs.uses.is_window_used_once.Goals.{After-tally_stmts}

@@ -1,6 +1,6 @@
 use Rattle.std.proofs.Common.{◌∙◌, ap, sym, arith, ◌∷◌, [], ◌++◌}
+use Rattle.ppd_ast.proofs.Those.{those_yes, those_no}
 use Rattle.ppd_bits.specs.CellSets.{is_held}
-use Rattle.ppd_bits.proofs.Has.{those_yes, those_no}
 use Rattle.ppd_bits.proofs.Held.{gathered}
 use Rattle.ppd_bits.proofs.cell_set.cells_of.Goals as goal
 use Rattle.ppd_bits.proofs.cell_set.cells_of.Goals.{then-is_held+in_ok-push, else-is_held}

@@ -2,7 +2,8 @@ use Rattle.std.proofs.Common.{◌≡◌, ◌∙◌, sym, ap, List, Some, None, �
 use Rattle.std.specs.Prelude.{slice_get}
 use Rattle.ppd_ast.specs.declared.program.Stmt.{Stmt}
 use Rattle.ppd_ast.proofs.Walks.{got_some, got_none}
-use Rattle.ppd_cfg.specs.Flow.{follow_within, kind_of, next_in}
+use Rattle.ppd_ast.specs.Lookups.{kind_of}
+use Rattle.ppd_cfg.specs.Flow.{follow_within, next_in}
 use Rattle.ppd_cfg.proofs.Depths.{follow_deep, follow_none, follow_top, follow_some}
 use Rattle.ppd_cfg.proofs.follow.+follow.Goals as goal
 

@@ -1,6 +1,6 @@
 use Rattle.std.proofs.Common.{◌∙◌, ◌++◌, ◌∷◌, [], ap, sym}
+use Rattle.ppd_ast.proofs.Those.{those_yes, those_no}
 use Rattle.ppd_cfg.specs.WorkList.{is_marked}
-use Rattle.ppd_cfg.proofs.Those.{those_yes, those_no}
 use Rattle.ppd_cfg.proofs.walk.marked.Goals as goal
 use Rattle.ppd_cfg.proofs.walk.marked.Goals.{then-marks-index+in_ok-push, else-marks-index}
 

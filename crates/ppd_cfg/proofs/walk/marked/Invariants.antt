@@ -1,5 +1,5 @@
 use Rattle.std.proofs.Common.{◌≡◌}
-use Rattle.ppd_cfg.specs.Lists.{those}
+use Rattle.ppd_ast.specs.Members.{those}
 use Rattle.ppd_cfg.specs.WorkList.{is_marked}
 use Rattle.ppd_cfg.proofs.walk.marked.Given as goal
 

@@ -1,8 +1,8 @@
 use Rattle.std.proofs.Common.{◌≡◌, ◌∙◌, ap, length}
-use Rattle.ppd_cfg.specs.Lists.{those}
+use Rattle.ppd_ast.specs.Members.{those}
 use Rattle.ppd_cfg.specs.WorkList.{is_marked}
-use Rattle.ppd_cfg.proofs.Those.{marked_is}
 use Rattle.ppd_cfg.proofs.walk.reached.Goals as goal
+use Rattle.ppd_cfg.proofs.Leading.{marked_is}
 
 pub returns : goal.returns
 returns c =

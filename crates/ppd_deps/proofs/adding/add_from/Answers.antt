@@ -1,6 +1,6 @@
 use Rattle.std.proofs.Common.{◌∙◌, ◌++◌, ap, map}
 use Rattle.std.specs.List.{filter}
-use Rattle.ppd_cfg.specs.Lists.{has}
+use Rattle.ppd_ast.specs.Members.{has}
 use Rattle.ppd_deps.proofs.Added.{adds_as, adds_then}
 use Rattle.ppd_deps.specs.Edges.{local_edge, locals_from, shared_edge}
 use Rattle.ppd_deps.specs.Named.{shared_reads}

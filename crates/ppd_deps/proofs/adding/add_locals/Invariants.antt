@@ -1,6 +1,6 @@
 use Rattle.std.proofs.Common.{map}
-use Rattle.ppd_cfg.specs.Lists.{those}
 use Rattle.std.specs.Prelude.{◌&&◌}
+use Rattle.ppd_ast.specs.Members.{those}
 use Rattle.ppd_deps.specs.Edges.{comes_to, local_edge}
 use Rattle.ppd_deps.specs.Rows.{Adds, is_reader}
 use Rattle.ppd_deps.proofs.adding.add_locals.Given as goal

@@ -1,5 +1,5 @@
 use Rattle.std.proofs.Common.{◌∙◌, ap}
-use Rattle.ppd_cfg.specs.Flow.{kind_of_stmt}
+use Rattle.ppd_ast.specs.Lookups.{kind_of_stmt}
 use Rattle.ppd_deps.proofs.Added.{adds_as}
 use Rattle.ppd_deps.proofs.Arriving.{call_edges, own_by, own_edges}
 use Rattle.ppd_deps.proofs.Tabled.{stmt_got}

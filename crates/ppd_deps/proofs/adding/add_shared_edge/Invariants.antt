@@ -1,6 +1,6 @@
 use Rattle.std.proofs.Common.{[], ◌∷◌}
 use Rattle.std.specs.Prelude.{if◌then◌else◌}
-use Rattle.ppd_cfg.specs.Lists.{has}
+use Rattle.ppd_ast.specs.Members.{has}
 use Rattle.ppd_deps.proofs.Added.{AddsFirst}
 use Rattle.ppd_deps.specs.Edges.{shared_edge}
 use Rattle.ppd_deps.specs.Named.{shared_reads}

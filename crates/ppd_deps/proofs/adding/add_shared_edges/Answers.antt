@@ -1,4 +1,4 @@
-use Rattle.ppd_cfg.specs.Lists.{has}
+use Rattle.ppd_ast.specs.Members.{has}
 use Rattle.ppd_deps.proofs.Added.{adds_as, adds_none, adds_then}
 use Rattle.ppd_deps.proofs.Graphs.{vars_all, vars_more}
 use Rattle.ppd_deps.specs.Edges.{shared_edge}

@@ -1,6 +1,6 @@
 use Rattle.std.proofs.Common.{map, take}
 use Rattle.std.specs.List.{filter}
-use Rattle.ppd_cfg.specs.Lists.{has}
+use Rattle.ppd_ast.specs.Members.{has}
 use Rattle.ppd_deps.specs.Edges.{shared_edge}
 use Rattle.ppd_deps.specs.Named.{shared_reads}
 use Rattle.ppd_deps.specs.Rows.{Adds}

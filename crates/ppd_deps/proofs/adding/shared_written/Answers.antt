@@ -1,9 +1,10 @@
 use Rattle.std.proofs.Common.{◌∙◌, [], sym, ap, true}
 use Rattle.std.proofs.lemmas.Bool.{cond-true}
-use Rattle.ppd_cfg.specs.Lists.{has}
+use Rattle.ppd_ast.specs.Members.{has}
+use Rattle.ppd_ast.specs.Lookups.{body_of}
 use Rattle.ppd_sets.specs.Used.{vars_met, writes_at}
 use Rattle.ppd_deps.proofs.Naming.{met_as, shareds_small}
-use Rattle.ppd_deps.specs.Named.{body_of, running}
+use Rattle.ppd_deps.specs.Named.{running}
 use Rattle.ppd_deps.proofs.adding.shared_written.Goals as goal
 
 pub returns-then-has_number : goal.returns-then-has_number

@@ -1,10 +1,10 @@
 use Rattle.std.proofs.Common.{◌∙◌, sym, ap, subst, length}
 use Rattle.std.specs.Prelude.{slice_get}
-use Rattle.ppd_cfg.specs.Lists.{AreBelow}
-use Rattle.ppd_cfg.specs.Reach.{closed, leads}
+use Rattle.ppd_ast.specs.Members.{AreBelow}
+use Rattle.ppd_ast.specs.Lookups.{locals_of}
+use Rattle.ppd_cfg.specs.Reach.{closure, leads}
 use Rattle.ppd_cfg.specs.WorkList.{AreRowsBelow}
 use Rattle.ppd_deps.proofs.Reaching.{kept_below, kept_long, marks_lead}
-use Rattle.ppd_deps.specs.Named.{locals_of}
 use Rattle.ppd_deps.proofs.locals.arrivals.Goals as goal
 
 pub reach-requires-clause-rows : goal.reach-requires-clause-rows
@@ -31,4 +31,4 @@ returns-clause-long c =
 pub returns-clause-reached : goal.returns-clause-reached
 returns-clause-reached c = λ t.
     marks_lead c.as_slice.result.now c.args.starts.now c.in_ok-marks.marks.items c.in_ok-marks.ensures.reached t
-    ∙ ap (λ rows. leads (closed rows) c.args.starts.now t) (c.as_slice.ensures ∙ c.in_ok-rows.ensures)
+    ∙ ap (λ rows. leads (closure rows) c.args.starts.now t) (c.as_slice.ensures ∙ c.in_ok-rows.ensures)

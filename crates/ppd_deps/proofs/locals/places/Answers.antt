@@ -1,6 +1,6 @@
 use Rattle.std.proofs.Common.{◌≡◌, sym, subst, length, Some}
 use Rattle.std.specs.Prelude.{slice_get}
-use Rattle.ppd_cfg.specs.Lists.{AreBelow}
+use Rattle.ppd_ast.specs.Members.{AreBelow}
 use Rattle.ppd_deps.proofs.Arriving.{own_by}
 use Rattle.ppd_deps.proofs.Tabled.{calls_below, own_places, places_below, stmt_got}
 use Rattle.ppd_deps.specs.Named.{places}

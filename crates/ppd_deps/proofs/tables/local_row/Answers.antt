@@ -1,7 +1,7 @@
 use Rattle.std.proofs.Common.{◌∙◌, ap, false}
+use Rattle.ppd_ast.specs.Lookups.{body_of, locals_of}
 use Rattle.ppd_sets.specs.Used.{reads_at, vars_met}
 use Rattle.ppd_deps.proofs.Naming.{locals_small, met_as}
-use Rattle.ppd_deps.specs.Named.{body_of, locals_of}
 use Rattle.ppd_deps.proofs.tables.local_row.Goals as goal
 
 pub returns : goal.returns

@@ -1,6 +1,6 @@
 use Rattle.std.proofs.Common.{◌≡◌, ◌∙◌, ℕ, List, sym, ap, subst, arith, length}
-use Rattle.ppd_cfg.specs.Lists.{AreBelow, those}
-use Rattle.ppd_cfg.specs.Reach.{closed, leads}
+use Rattle.ppd_ast.specs.Members.{those, AreBelow}
+use Rattle.ppd_cfg.specs.Reach.{closure, leads}
 use Rattle.ppd_cfg.specs.WorkList.{AreRowsBelow}
 use Rattle.ppd_sets.proofs.Calling.{call_rows_below, call_rows_long}
 use Rattle.ppd_sets.proofs.Meeting.{bodies_fit}
@@ -25,6 +25,6 @@ reached-requires-clause-count c =
 pub returns : goal.returns
 returns c =
     let p = c.args.program.now in
-    c.in_ok-ids.ensures ∙ ap (λ (rows : List (List ℕ)). those (length rows) (leads (closed rows) c.as_slice-2.result.now)) (c.as_slice.ensures ∙ c.in_ok-rows.ensures)
-    ∙ ap (λ starts. those (length (call_rows p)) (leads (closed (call_rows p)) starts)) (c.as_slice-2.ensures ∙ c.in_ok-starts.ensures)
-    ∙ ap (λ n. those n (leads (closed (call_rows p)) (processes p))) (call_rows_long p)
+    c.in_ok-ids.ensures ∙ ap (λ (rows : List (List ℕ)). those (length rows) (leads (closure rows) c.as_slice-2.result.now)) (c.as_slice.ensures ∙ c.in_ok-rows.ensures)
+    ∙ ap (λ starts. those (length (call_rows p)) (leads (closure (call_rows p)) starts)) (c.as_slice-2.ensures ∙ c.in_ok-starts.ensures)
+    ∙ ap (λ n. those n (leads (closure (call_rows p)) (processes p))) (call_rows_long p)

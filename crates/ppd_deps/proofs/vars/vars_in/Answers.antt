@@ -3,7 +3,7 @@ use Rattle.std.specs.Prelude.{slice_get}
 use Rattle.ppd_ast.proofs.Walks.{got_some}
 use Rattle.ppd_ast.specs.Cells.{after}
 use Rattle.ppd_ast.specs.declared.program.Var.{Var}
-use Rattle.ppd_cfg.proofs.Those.{those_yes, those_no}
+use Rattle.ppd_ast.proofs.Those.{those_yes, those_no}
 use Rattle.ppd_sets.specs.Used.{is_met}
 use Rattle.ppd_deps.proofs.vars.vars_in.Goals as goal
 use Rattle.ppd_deps.proofs.vars.vars_in.Goals.{then-does_meet+in_ok-push, else-does_meet}

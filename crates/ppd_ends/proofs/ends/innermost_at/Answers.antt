@@ -1,14 +1,14 @@
 use Rattle.std.proofs.Common.{◌≡◌, ◌+◌, ◌<◌, ◌≤◌, ◌∙◌, List, ap, drop, length, subst, sym}
 use Rattle.std.proofs.lemmas.List.{drop_all}
+use Rattle.ppd_entry.specs.Entries.{entries_at}
 use Rattle.ppd_model.specs.Extents.{Extent, extents}
 use Rattle.ppd_search.specs.Ends.{innermost_from}
-use Rattle.ppd_search.specs.Shared.{entries_of}
 use Rattle.ppd_ends.proofs.Standing.{extents_count, innermost_next}
 use Rattle.ppd_ends.proofs.ends.innermost_at.Goals as goal
 
 pub loop-interval-preserved : goal.loop-interval-preserved
 loop-interval-preserved c =
-    let xs = extents (entries_of c.args.past.now.logs.now c.args.process) in
+    let xs = extents (entries_at c.args.past.now.logs.now c.args.process) in
     let k = c.loop-interval.interval in
     let count : c.count-interval-end.result ≡ length xs = c.count-interval-end.ensures
     ∙ sym (extents_count c.args.past.now c.args.process c.requires.index_is) in
@@ -19,7 +19,7 @@ loop-interval-preserved c =
 
 pub returns : goal.returns
 returns c =
-    let xs = extents (entries_of c.args.past.now.logs.now c.args.process) in
+    let xs = extents (entries_at c.args.past.now.logs.now c.args.process) in
     let k = c.loop-interval.interval in
     let count : c.count-interval-end.result ≡ length xs = c.count-interval-end.ensures
     ∙ sym (extents_count c.args.past.now c.args.process c.requires.index_is) in

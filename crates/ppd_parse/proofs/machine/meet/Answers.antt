@@ -1,11 +1,11 @@
-use Rattle.std.proofs.Common.{◌≡◌, ◌∷◌, sym, ◌∙◌, ap, subst, reverse, length, Some, None, cond, rules}
+use Rattle.std.proofs.Common.{◌≡◌, ◌∷◌, sym, ◌∙◌, ap, subst, reverse, length, Some, None, rules}
 use denote.Enum.Bare.{same_true, same_false}
-use Rattle.ppd_parse.specs.contracts.symbol.Kind.{the_type}
+use Rattle.ppd_lex.specs.contracts.token.Kind.{the_type}
 use Rattle.ppd_parse.specs.declared.symbol.Symbol.{Symbol}
 use Rattle.ppd_parse.specs.declared.symbol.Want.TheVariants.{Get}
 use Rattle.ppd_parse.specs.declared.growth.Step.TheVariants as M
 use Rattle.ppd_parse.specs.Grammar.{kind_of, base_in, is_operator}
-use Rattle.ppd_parse.specs.Choice.{expansion, stack_with}
+use Rattle.ppd_parse.specs.Choice.{expansion}
 use Rattle.ppd_parse.specs.Machine.{Advanced, IsDead, state_of, wanting}
 use Rattle.ppd_parse.specs.Stack.{IsGood}
 use Rattle.ppd_parse.specs.Table.{shapes_of}
@@ -53,22 +53,21 @@ returns-else-is_operator c =
     (operator_refused c.args.token.now c.in-Operator.level c.args.at c.args.base (reverse ws) (shapes_of g.nodes.items g.roots.items)
     (sym (c.if-is_operator.ensures ∙ ap (is_operator c.in-Operator.level) c.kind_of-kind.ensures)))
 
-pub returns-then-branch : goal.returns-then-branch
-returns-then-branch c =
+pub returns-in_ok-want-in-Some : goal.returns-in_ok-want-in-Some
+returns-in_ok-want-in-Some c =
     let ws = c.args.wants.now.items in
     let g = c.args.grove.now in
     let s = shapes_of g.nodes.items g.roots.items in
-    let news = c.expand.new.wants.items in
+    let ps = c.in-Some.parts.now in
     let base : c.base_in-base.result ≡ base_in c.args.symbol c.args.base (length s) = c.base_in-base.ensures ∙ ap (base_in c.args.symbol c.args.base) (c.len.ensures ∙ (g.roots.ok.0 ∙ sym (length-shapes g.nodes.items g.roots.items))) in
-    let e : stack_with ws c.args.at c.base_in-base.result (expansion c.args.symbol (kind_of c.args.token.now.kind)) ≡ Some news = ap (λ k. stack_with ws c.args.at c.base_in-base.result (expansion c.args.symbol k)) (sym c.kind_of-kind.ensures) ∙ (c.in_ok-expand-in_default.ensures ∙ ap (λ b. cond b (Some news) None) c.if-branch.true) in
-    unfold_moves c.args.token.now c.args.symbol c.args.at c.args.base c.base_in-base.result ws s (inner_symbol c.args.symbol c.in_default.not-Exact c.in_default.not-Operator) base news e c.requires
+    let e : expansion c.args.symbol (kind_of c.args.token.now.kind) ≡ Some ps = ap (expansion c.args.symbol) (sym c.kind_of-kind.ensures) ∙ c.in-Some.ensures in
+    unfold_moves c.args.token.now c.args.symbol c.args.at c.args.base c.base_in-base.result ws s (inner_symbol c.args.symbol c.in_default.not-Exact c.in_default.not-Operator) base ps c.want.new.wants.items e c.in_ok-want-in-Some.ensures c.requires
 
-pub returns-else-branch : goal.returns-else-branch
-returns-else-branch c =
+pub returns-in-None : goal.returns-in-None
+returns-in-None c =
     let ws = c.args.wants.now.items in
     let g = c.args.grove.now in
     let s = shapes_of g.nodes.items g.roots.items in
-    let news = c.expand.new.wants.items in
     let base : c.base_in-base.result ≡ base_in c.args.symbol c.args.base (length s) = c.base_in-base.ensures ∙ ap (base_in c.args.symbol c.args.base) (c.len.ensures ∙ (g.roots.ok.0 ∙ sym (length-shapes g.nodes.items g.roots.items))) in
-    let e : stack_with ws c.args.at c.base_in-base.result (expansion c.args.symbol (kind_of c.args.token.now.kind)) ≡ None = ap (λ k. stack_with ws c.args.at c.base_in-base.result (expansion c.args.symbol k)) (sym c.kind_of-kind.ensures) ∙ (c.in_ok-expand-in_default.ensures ∙ ap (λ b. cond b (Some news) None) c.if-branch.false) in
+    let e : expansion c.args.symbol (kind_of c.args.token.now.kind) ≡ None = ap (expansion c.args.symbol) (sym c.kind_of-kind.ensures) ∙ c.in-None.ensures in
     unfold_refused c.args.token.now c.args.symbol c.args.at c.args.base c.base_in-base.result ws s (inner_symbol c.args.symbol c.in_default.not-Exact c.in_default.not-Operator) base e

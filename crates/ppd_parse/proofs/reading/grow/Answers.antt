@@ -1,4 +1,4 @@
-use Rattle.std.proofs.Common.{◌≡◌, ◌≤◌, List, sym, ◌∙◌, ap, subst, reverse, length, rules, ◌∷◌, [], ◌++◌, Ok, Err, arith}
+use Rattle.std.proofs.Common.{◌≡◌, ◌≤◌, List, sym, ap, subst, reverse, length, rules, ◌∷◌, [], Ok, Err, arith}
 use Rattle.ppd_lex.specs.declared.token.Token.{Token}
 use Rattle.ppd_parse.specs.declared.symbol.Symbol.TheVariants as S
 use Rattle.ppd_parse.specs.declared.symbol.Want.{Want}
@@ -17,11 +17,11 @@ source = Get S.Source outside 0
 pub loop-token-init : goal.loop-token-init
 unfolding source
 loop-token-init g c =
-    let stack : reverse c.push.new.self.items ≡ source ∷ [] = ap reverse (c.in_ok-push.ensures.items ∙ ap (λ (ws : List Want). ws ++ source ∷ []) c.new-wants.ensures.items) in
+    let stack : reverse c.in_ok-wants.wants.items ≡ source ∷ [] = ap reverse c.in_ok-wants.ensures in
     record {
-      read = start_read c.args.tokens.now c.requires.ends (state_of c.push.new.self.items c.new-grove.result) stack c.new-grove.ensures;
+      read = start_read c.args.tokens.now c.requires.ends (state_of c.in_ok-wants.wants.items c.new-grove.result) stack c.new-grove.ensures;
       spent = omega (arith, ap rank stack);
-      held = subst (λ (ws : List Want). length ws ≤ c.raise.new.peak) (sym (c.in_ok-push.ensures.items ∙ ap (λ (ws : List Want). ws ++ source ∷ []) c.new-wants.ensures.items)) c.raise.ensures.held;
+      held = subst (λ (ws : List Want). length ws ≤ c.raise.new.peak) (sym c.in_ok-wants.ensures) c.raise.ensures.held;
       room = omega (arith, c.raise.ensures.near);
       later = c.raise.ensures.later;
     }

@@ -1,6 +1,6 @@
 use Rattle.std.proofs.Common.{◌∙◌, ◌++◌, [], ap, sym, subst, arith, get_or, length}
 use Rattle.std.proofs.lemmas.List.Sums.{sum_by-take-le, sum_by_more}
-use Rattle.ppd_bits.specs.CellSets.{has}
+use Rattle.ppd_ast.specs.Members.{has}
 use Rattle.ppd_graph.proofs.Rows.{length_replicated, no_items, none_at}
 use Rattle.ppd_race.specs.declared.busy.Accessor.{Accessor}
 use Rattle.ppd_race.specs.declared.busy.Busy.{Busy}

@@ -1,6 +1,6 @@
 use Rattle.std.proofs.Common.{◌≡◌, ℕ, ◌<◌, ◌≤◌, ◌+◌, ◌++◌, [], drop, get_or, length, take}
 use Rattle.std.specs.List.{sum_by}
-use Rattle.ppd_bits.specs.CellSets.{has}
+use Rattle.ppd_ast.specs.Members.{has}
 use Rattle.ppd_race.specs.ByCell.{accessors_from, listing_cost}
 use Rattle.ppd_race.proofs.by_cell.list_by_cell.Given as goal
 

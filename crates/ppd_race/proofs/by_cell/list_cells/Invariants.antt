@@ -1,5 +1,5 @@
 use Rattle.std.proofs.Common.{◌≤◌, ◌+◌, ◌*◌}
-use Rattle.ppd_bits.specs.CellSets.{RisesFrom}
+use Rattle.ppd_ast.specs.Members.{RisesFrom}
 use Rattle.ppd_race.proofs.Listed.{ListedPast}
 use Rattle.ppd_race.proofs.by_cell.list_cells.Given as goal
 

@@ -1,7 +1,7 @@
 use Rattle.std.proofs.Common.{refl, ◌∙◌, ap, sym, subst, arith}
 use Rattle.std.proofs.lemmas.List.Sums.{sum_by-take-le, sum_by_more}
+use Rattle.ppd_ast.specs.Members.{AreBelow}
 use Rattle.ppd_race.specs.declared.busy.Busy.{Busy}
-use Rattle.ppd_race.specs.Busy.{AreBelow}
 use Rattle.ppd_race.specs.Lists.{GrowsBy}
 use Rattle.ppd_race.specs.Search.{IsElsewhere, edge_cost, found_with}
 use Rattle.ppd_race.proofs.Grown.{past_all, past_more, past_none}

@@ -1,5 +1,5 @@
 use Rattle.std.proofs.Common.{ap, ◌∙◌, refl}
-use Rattle.ppd_bits.specs.CellSets.{has}
+use Rattle.ppd_ast.specs.Members.{has}
 use Rattle.ppd_race.proofs.rows.busy_edge.Goals as goal
 
 pub returns-clause-busy : goal.returns-clause-busy

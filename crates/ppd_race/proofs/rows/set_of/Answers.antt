@@ -1,8 +1,7 @@
 use Rattle.std.proofs.Common.{ap, sym, ◌∙◌, arith, subst}
 use Rattle.std.specs.Prelude.{◌||◌}
 use Rattle.std.proofs.lemmas.List.{drop_all}
-use Rattle.ppd_bits.specs.CellSets.{has}
-use Rattle.ppd_race.specs.Busy.{AreBelow}
+use Rattle.ppd_ast.specs.Members.{has, AreBelow}
 use Rattle.ppd_race.proofs.BusyRows.{none_below, or_none, set_more}
 use Rattle.ppd_race.proofs.rows.set_of.Goals as goal
 

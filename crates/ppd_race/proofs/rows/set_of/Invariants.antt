@@ -1,7 +1,6 @@
 use Rattle.std.proofs.Common.{◌≡◌, ℕ, ◌<◌, ◌≤◌, ◌+◌, drop}
 use Rattle.std.specs.Prelude.{◌||◌}
-use Rattle.ppd_bits.specs.CellSets.{has}
-use Rattle.ppd_race.specs.Busy.{AreBelow}
+use Rattle.ppd_ast.specs.Members.{has, AreBelow}
 use Rattle.ppd_race.proofs.rows.set_of.Given as goal
 
 abbrev pub invariant-loop-cell : goal.invariant-loop-cell

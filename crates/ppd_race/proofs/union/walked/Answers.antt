@@ -1,5 +1,5 @@
 use Rattle.std.proofs.Common.{arith, ◌||◌}
-use Rattle.ppd_bits.specs.CellSets.{has}
+use Rattle.ppd_ast.specs.Members.{has}
 use Rattle.ppd_race.proofs.Merged.{none_high, one_more, those_union}
 use Rattle.ppd_race.proofs.union.walked.Goals as goal
 

@@ -1,5 +1,5 @@
 use Rattle.std.proofs.Common.{◌≡◌, ◌≤◌, ◌+◌, length, ◌||◌}
-use Rattle.ppd_bits.specs.CellSets.{has, those}
+use Rattle.ppd_ast.specs.Members.{has, those}
 use Rattle.ppd_race.proofs.union.walked.Given as goal
 
 abbrev pub invariant-loop-cell : goal.invariant-loop-cell

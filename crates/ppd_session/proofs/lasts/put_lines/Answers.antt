@@ -16,4 +16,4 @@ loop-cell-preserved c =
     let n = next (last_by past.program.now past.plan.now past.budget past.logs.now) past.program.now c.loop-cell.cell
     c.args.text.now.items c.loop-cell.text.items c.put_cell_line.new.text.items c.loop-cell.invariant.text
     c.loop-cell.invariant.none c.in-Ok.ensures.told in
-    record { text = n.text; none = n.none }
+    record { text = n.text; none = n.none; kept = c.put_cell_line.ensures.kept }

@@ -1,6 +1,6 @@
 use Rattle.std.proofs.Common.{◌≡◌, ◌≤◌, ◌-◌}
 use Rattle.std.specs.List.{flat_map, range_with_len}
-use Rattle.ppd_cfg.specs.Flow.{kind_of}
+use Rattle.ppd_ast.specs.Lookups.{kind_of}
 use Rattle.ppd_sets.specs.Used.{callee}
 use Rattle.ppd_sets.proofs.bodies.calls_in.Given as goal
 

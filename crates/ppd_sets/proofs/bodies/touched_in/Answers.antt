@@ -2,8 +2,8 @@ use Rattle.std.proofs.Common.{◌≡◌, ◌∙◌, ◌<◌, ◌≤◌, true, sy
 use Rattle.std.specs.Prelude.{slice_get}
 use Rattle.ppd_ast.specs.declared.program.Stmt.{Stmt}
 use Rattle.ppd_ast.specs.declared.program.Kind.{Kind}
+use Rattle.ppd_ast.specs.Lookups.{kind_of}
 use Rattle.std.proofs.lemmas.Option.{slice_get-get_or}
-use Rattle.ppd_cfg.specs.Flow.{kind_of}
 use Rattle.ppd_sets.specs.Named.{reads, writes}
 use Rattle.ppd_sets.specs.Used.{reads_at, writes_at}
 use Rattle.ppd_sets.proofs.Statements.{kind_is, body_more}

@@ -1,7 +1,7 @@
 use Rattle.std.proofs.Common.{◌≡◌, ◌∙◌, ◌<◌, ◌++◌, ◌∷◌, [], sym, ap, arith, Some, length}
 use Rattle.std.specs.Prelude.{slice_get}
 use Rattle.ppd_ast.proofs.Walks.{got_some}
-use Rattle.ppd_cfg.proofs.Those.{those_yes, those_no}
+use Rattle.ppd_ast.proofs.Those.{those_yes, those_no}
 use Rattle.ppd_sets.specs.Used.{is_met}
 use Rattle.ppd_show.proofs.met.vars_met.Goals as goal
 use Rattle.ppd_show.proofs.met.vars_met.Goals.{then-is_met+in_ok-push, else-is_met}

@@ -1,6 +1,6 @@
 use Rattle.std.proofs.Common.{◌≡◌}
 use Rattle.std.specs.Prelude.{slice_get}
-use Rattle.ppd_cfg.specs.Lists.{those}
+use Rattle.ppd_ast.specs.Members.{those}
 use Rattle.ppd_sets.specs.Used.{is_met}
 use Rattle.ppd_show.proofs.met.vars_met.Given as goal
 

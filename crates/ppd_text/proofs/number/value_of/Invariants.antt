@@ -1,5 +1,5 @@
 use Rattle.std.proofs.Common.{◌≡◌, ◌≤◌, ◌^◌, ◌+◌, ◌*◌, take}
-use Rattle.ppd_text.specs.Numbers.{value_from}
+use Rattle.ppd_ast.specs.Digits.{value_from}
 use Rattle.ppd_text.proofs.number.value_of.Given as goal
 
 -- a byte is at most 207 above `0`

@@ -1,5 +1,6 @@
 use Rattle.std.proofs.Common.{subst, length, Option, ℕ}
-use Rattle.ppd_cfg.specs.Lists.{AreBelow, to_list}
+use Rattle.ppd_ast.specs.Members.{AreBelow}
+use Rattle.ppd_cfg.specs.Lists.{to_list}
 use Rattle.ppd_units.proofs.cells.cells_of.Goals as goal
 
 pub cells_from-requires-in-Some-clause-starts : goal.cells_from-requires-in-Some-clause-starts

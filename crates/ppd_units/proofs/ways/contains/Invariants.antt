@@ -1,5 +1,5 @@
 use Rattle.std.proofs.Common.{◌≡◌, drop}
-use Rattle.ppd_cfg.specs.Lists.{has}
+use Rattle.ppd_ast.specs.Members.{has}
 use Rattle.ppd_units.proofs.ways.contains.Given as goal
 
 abbrev pub invariant-loop-item : goal.invariant-loop-item

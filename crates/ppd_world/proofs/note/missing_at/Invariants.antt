@@ -1,5 +1,5 @@
 use Rattle.std.proofs.Common.{◌≡◌}
-use Rattle.ppd_model.specs.Logs.{with_cell}
+use Rattle.ppd_ast.specs.Members.{with_cell}
 use Rattle.ppd_world.proofs.Accessed.{passed}
 use Rattle.ppd_world.proofs.note.missing_at.Given as goal
 

@@ -4,10 +4,11 @@ use Rattle.ppd_ast.specs.declared.program.Stmt.{Stmt}
 use Rattle.ppd_ast.specs.declared.program.Body.{Body}
 use Rattle.ppd_ast.specs.declared.program.Var.{Var}
 use Rattle.ppd_ast.specs.Table.{EachAt, AreChildrenBelow}
-use Rattle.ppd_ast.specs.Tally.{uses_of, IsOnce}
+use Rattle.ppd_ast.specs.Tally.{IsOnce}
 use Rattle.ppd_ast.specs.Cells.{CoverCells}
 use Rattle.ppd_ast.specs.Valid.{Follow}
 use Rattle.ppd_ast.proofs.program.Program.valid.Goals as goal
+use Rattle.ppd_ast.specs.Uses.{uses_of}
 
 -- a test of two slices, at the lists that they are of
 along : {X Y : Type 0} (P : List X → List Y → Type 0) (r : Bool) (xs zs : List X) (ys us : List Y) → xs ≡ zs → ys ≡ us → IsTrue r ↔ P xs ys → IsTrue r ↔ P zs us

@@ -1,5 +1,5 @@
 use Rattle.std.proofs.Common.{◌∙◌, sym, ap}
-use Rattle.ppd_bits.specs.CellSets.{has}
+use Rattle.ppd_ast.specs.Members.{has}
 use Rattle.ppd_bits.proofs.Held.{held_at}
 use Rattle.ppd_bits.proofs.cell_set.CellSet.contains.Goals as goal
 

@@ -1,7 +1,8 @@
 use Rattle.std.proofs.Common.{◌≡◌, ◌∙◌, ap, length, arith}
 use Rattle.std.specs.Prelude.{nat_eq, ◌||◌}
-use Rattle.ppd_bits.specs.CellSets.{has, with_cell, held}
-use Rattle.ppd_bits.proofs.Has.{has_with}
+use Rattle.ppd_ast.specs.Members.{has, with_cell}
+use Rattle.ppd_bits.specs.CellSets.{held}
+use Rattle.ppd_bits.proofs.Sets.{has_with}
 use Rattle.ppd_bits.proofs.Held.{held_with}
 use Rattle.ppd_bits.proofs.cell_set.CellSet.insert.Goals as goal
 

@@ -1,6 +1,7 @@
 use Rattle.std.proofs.Common.{◌≡◌, ◌∙◌, ap, length, arith}
 use Rattle.std.specs.Prelude.{◌||◌}
-use Rattle.ppd_bits.specs.CellSets.{has, held}
+use Rattle.ppd_ast.specs.Members.{has}
+use Rattle.ppd_bits.specs.CellSets.{held}
 use Rattle.ppd_bits.proofs.Words.{either_has}
 use Rattle.ppd_bits.proofs.cell_set.CellSet.insert_all.Goals as goal
 

@@ -1,5 +1,6 @@
 use Rattle.std.proofs.Common.{◌∙◌, ap, subst, sym}
-use Rattle.ppd_bits.specs.CellSets.{has, those, IsSetBelow}
+use Rattle.ppd_ast.specs.Members.{has, those}
+use Rattle.ppd_bits.specs.CellSets.{IsSetBelow}
 use Rattle.ppd_bits.proofs.Held.{held_set, held_whole}
 use Rattle.ppd_bits.proofs.cell_set.CellSet.to_list.Goals as goal
 

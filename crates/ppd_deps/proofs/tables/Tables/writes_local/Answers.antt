@@ -1,5 +1,5 @@
 use Rattle.std.proofs.Common.{◌∙◌, ap, length}
-use Rattle.ppd_cfg.specs.Lists.{has}
+use Rattle.ppd_ast.specs.Members.{has}
 use Rattle.ppd_deps.proofs.Tabled.{table_at, table_long}
 use Rattle.ppd_deps.specs.Named.{local_writes}
 use Rattle.ppd_deps.proofs.tables.Tables.writes_local.Goals as goal

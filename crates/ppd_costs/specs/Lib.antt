@@ -1,2 +1,0 @@
--- What a run costs under the plan of a policy.
-pub mod Policies

@@ -1,0 +1,72 @@
+-- The sets of the edges of a process, as its closed log records them, are those of the run.
+use Rattle.std.proofs.Common.{◌≡◌, ℕ, zero, suc, ◌<◌, List, [], ◌∷◌, ◌++◌, Some, None, true, false, refl, ap, ◌∙◌, arith, length, map, get_or, filter_map, true≢false, ◌||◌}
+use Rattle.std.specs.Prelude.{slice_get}
+use Rattle.std.specs.List.{cons_option, list_any, range_with_len}
+use Rattle.ppd_ast.specs.Valid.{IsValid}
+use Rattle.ppd_ast.specs.declared.plan.Plan.{Plan}
+use Rattle.ppd_ast.specs.declared.program.Program.{Program}
+use Rattle.ppd_ast.specs.declared.status.Status.{Status}
+use Rattle.ppd_entry.specs.declared.entry.Entry.{Entry}
+use Rattle.ppd_entry.specs.declared.entry.Entry.TheVariants as entry
+use Rattle.ppd_entry.specs.Entries.{is_end}
+use Rattle.ppd_model.specs.Logs.{closed_logs}
+use Rattle.ppd_model.specs.RecordedSets as recorded
+use Rattle.ppd_model.specs.RecordedSets.{RecordsAccesses, cells_in, last_edge, sets_at_sync}
+use Rattle.ppd_model.specs.Story.{story}
+use Rattle.ppd_model.specs.declared.tracing.Story.{Story}
+use Rattle.ppd_model.proofs.RecordedSets.{record_sets}
+use Rattle.ppd_graph.specs.declared.sets.EdgeSets.{EdgeSets}
+use Rattle.ppd_graph.specs.LogRecord.{edge_sets, edge_sets_in, ended_by, found_after, sets_from}
+
+ended : List ℕ × List ℕ → EdgeSets
+ended t = edge_sets t.0 t.1
+
+closed_sets : (before : List Entry) (status : Status) (rest : ℕ) (r w : List ℕ) → list_any is_end before ≡ false → sets_from None (before ++ entry.End status rest r w ∷ []) ≡ map ended (filter_map sets_at_sync before) ++ edge_sets r w ∷ []
+unfolding ended
+closed_sets [] status rest r w h = refl
+closed_sets (e ∷ es) status rest r w h = by e h (closed_sets es status rest r w)
+  where
+    by : (e : Entry) → (is_end e || list_any is_end es) ≡ false
+        → (list_any is_end es ≡ false → sets_from None (es ++ entry.End status rest r w ∷ []) ≡ map ended (filter_map sets_at_sync es) ++ edge_sets r w ∷ [])
+        → ended_by e ++ sets_from (found_after None e) (es ++ entry.End status rest r w ∷ []) ≡ map ended (cons_option (sets_at_sync e) (filter_map sets_at_sync es)) ++ edge_sets r w ∷ []
+    by (entry.Sync kind object number value reads writes) k later = ap (λ x. edge_sets reads writes ∷ x) (later k)
+    by (entry.Prelog block values) k later = later k
+    by (entry.Unit unit values) k later = later k
+    by (entry.Postlog block values) k later = later k
+    by (entry.End status' rest' reads writes) k later = absurd (true≢false k)
+
+map_both : {A B C : Type 0} (f : B → C) (g : A → B) (xs : List A) → map f (map g xs) ≡ map (λ x. f (g x)) xs
+map_both f g [] = refl
+map_both f g (x ∷ xs) = ap (λ r. f (g x) ∷ r) (map_both f g xs)
+
+got : {A : Type 0} (xs : List A) (i : ℕ) (d : A) → i < length xs → slice_get xs i ≡ Some (get_or xs i d)
+got [] i d h = absurd (omega (arith, h))
+got (x ∷ xs) zero d h = refl
+got (x ∷ xs) (suc i) d h = got xs i d (omega (arith, h))
+
+at_there : {A B : Type 0} (f : List A → List B) (rows : List (List A)) (q : ℕ) → q < length rows → get_or (map f rows) q [] ≡ f (get_or rows q [])
+at_there f [] q lt = absurd (omega (arith, lt))
+at_there f (row ∷ rows) zero lt = refl
+at_there f (row ∷ rows) (suc q) lt = at_there f rows q (omega (arith, lt))
+
+-- the sets of an edge in the run
+unfoldable pub run_sets : Story → ℕ → ℕ → EdgeSets
+run_sets s p i = edge_sets (cells_in s p i false) (cells_in s p i true)
+
+pub row_sets : (program : Program) (plan : Plan) (budget : ℕ) (h : List ℕ) → IsValid program → (p : ℕ)
+    → p < length (closed_logs program plan budget h).lists
+    → get_or (edge_sets_in (closed_logs program plan budget h)) p []
+    ≡ map (run_sets (story program plan budget h) p) (range_with_len 0 (last_edge (story program plan budget h) p))
+    ++ run_sets (story program plan budget h) p (last_edge (story program plan budget h) p) ∷ []
+unfolding run_sets ended
+row_sets program plan budget h valid p lt =
+    let s = story program plan budget h in
+    let entries = get_or (closed_logs program plan budget h).lists p [] in
+    let r : RecordsAccesses s p entries =
+    record_sets program plan budget h p entries valid (got (closed_logs program plan budget h).lists p [] lt) in
+    at_there (sets_from None) (closed_logs program plan budget h).lists p lt
+    ∙ ap (sets_from None) r.entries_are
+    ∙ closed_sets r.before r.status r.rest (cells_in s p (last_edge s p) false) (cells_in s p (last_edge s p) true) r.no_end
+    ∙ ap (λ x. map ended x ++ edge_sets (cells_in s p (last_edge s p) false) (cells_in s p (last_edge s p) true) ∷ []) r.syncs_are
+    ∙ ap (λ x. x ++ edge_sets (cells_in s p (last_edge s p) false) (cells_in s p (last_edge s p) true) ∷ [])
+    (map_both ended (recorded.sets_in s p) (range_with_len 0 (last_edge s p)))

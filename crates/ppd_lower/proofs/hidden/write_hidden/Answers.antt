@@ -1,0 +1,11 @@
+use Rattle.ppd_lower.specs.Values.{goal_said, value_said_by}
+use Rattle.ppd_lower.proofs.Through.{hidden_store}
+use Rattle.ppd_resolve.proofs.Outcomes.{ok_map}
+use Rattle.ppd_lower.proofs.hidden.write_hidden.Goals as goal
+
+pub returns-clause-wrote : goal.returns-clause-wrote
+returns-clause-wrote g c =
+    ok_map c.write_move.result _ _
+    (λ moved. hidden_store c.args.here.level.site c.args.here.place c.args.frame.now c.hide.new.frame c.in_ok-cell.cell (goal_said c.args.here.level.source.nodes.now c.args.goal) (value_said_by c.args.here.level.source.nodes.now c.args.value) c.args.out.now.table c.write_put.new.out.table c.write_move.new.out.table c.args.out.now.row c.write_put.new.out.row c.write_move.new.out.row
+    c.in_ok-cell.ensures.frame c.in_ok-cell.ensures.cell c.in_ok-write_put.ensures.wrote moved)
+    c.write_move.ensures.wrote

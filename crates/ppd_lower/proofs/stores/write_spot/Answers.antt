@@ -1,0 +1,16 @@
+use Rattle.std.proofs.Common.{◌∙◌, sym, ap, true}
+use Rattle.ppd_resolve.specs.Faults.{first, first_of_both}
+use Rattle.ppd_resolve.specs.Names.{fits}
+use Rattle.ppd_resolve.specs.Reading.{goal_formula}
+use Rattle.ppd_resolve.specs.Nodes.{label_name, operand_formula}
+use Rattle.ppd_lower.specs.Values.{goal_said}
+use Rattle.ppd_lower.specs.Expressions.{formula_faults, name_faults}
+use Rattle.ppd_resolve.proofs.First.{found_in_both}
+use Rattle.ppd_lower.proofs.stores.write_spot.Goals as goal
+
+pub returns-in_ok-at-in-Item-clause-faults : goal.returns-in_ok-at-in-Item-clause-faults
+returns-in_ok-at-in-Item-clause-faults g c =
+    found_in_both c.args.found.now c.used-meaning-in-Item.new.found c.formula.new.found
+    (name_faults (fits true) c.args.scopes.now (label_name c.in-Item.name)) (formula_faults c.args.scopes.now (operand_formula c.args.source.nodes.now c.in-Item.index))
+    c.used-meaning-in-Item.ensures.faults c.in_ok-at-in-Item.ensures.faults
+    ∙ ap (λ g. first_of_both c.args.found.now (first (formula_faults c.args.scopes.now (goal_formula (goal_said c.args.source.nodes.now g))))) (sym c.in-Item.is)

@@ -1,0 +1,55 @@
+// Statements with statements inside them, up to those inside, and their scopes.
+ghost use Rattle.std.specs.Prelude.{◌≡◌, OnOk, IfOk, drop, ◌≤◌, ◌+◌, ◌*◌};
+ghost use Rattle.ppd_lower.specs.Expressions.{term_of, formula_faults};
+ghost use Rattle.ppd_resolve.specs.Nodes.{operand_formula, IsOperand};
+ghost use Rattle.ppd_lower.specs.Statements.{opened};
+ghost use Rattle.ppd_lower.specs.Writing.{Began};
+ghost use Rattle.ppd_resolve.specs.Cost.{operand_nodes};
+
+use crate::held::{hold_stmt, write_test};
+use ppd_ast::{Memory, Place, Steps};
+use ppd_resolve::{Frame, Level, Operand, Output};
+use std::sync::ledger::Ledger;
+
+// The numbers of a statement whose place is held and of its test's expression.
+#[derive(Clone, Copy)]
+pub struct Begun {
+    pub at: u32,
+    pub test: u32,
+}
+
+// Adds the test of a statement, then the statement, whose place is held.
+pub fn begin<L: Ledger>(
+    level: Level<'_>,
+    operand: Operand,
+    place: Place,
+    frame: &Frame,
+    out: &mut Output,
+    steps: &mut Steps<L>,
+) -> Result<Begun, Memory>
+    requires within { IsOperand level.source.nodes.now operand }
+    ensures began { IfOk result (λ begun. Began level.entry.site place (term_of frame.now.scopes (operand_formula
+        level.entry.source.nodes.now operand)) (formula_faults frame.now.scopes (operand_formula
+        level.entry.source.nodes.now operand)) out.old.table out.new.table begun.at begun.test out.old.row
+        out.new.row) }
+    ensures cost { steps.new ≤ steps.old + 6 * operand_nodes level.entry.source.nodes.now operand + 5 }
+{
+    let test = write_test(level.source, operand, frame, &mut out.table, steps)?;
+    let at = hold_stmt(out, level.site, place, steps)?;
+    Ok(Begun { at, test })
+}
+
+// Opens a scope.
+pub fn open<L: Ledger>(frame: &mut Frame, steps: &mut Steps<L>) -> Result<(), Memory>
+    ensures opened { OnOk result (frame.new ≡ opened frame.old) }
+    ensures cost { steps.new ≤ steps.old + 1 }
+{
+    frame.scopes.open(steps)
+}
+
+// Leaves the innermost scope.
+pub fn close(frame: &mut Frame)
+    ensures { frame.new ≡ record frame.old { scopes = drop 1 frame.old.scopes } }
+{
+    frame.scopes.close();
+}

@@ -1,0 +1,12 @@
+pub mod Costs
+pub mod Counted
+pub mod Declarations
+pub mod DeclaredCosts
+pub mod First
+pub mod Listing
+pub mod Lookup
+pub mod Outcomes
+pub mod Parameters
+pub mod Roots
+pub mod Trees
+pub mod Walks

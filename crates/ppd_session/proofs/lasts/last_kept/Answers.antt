@@ -1,0 +1,37 @@
+use Rattle.std.specs.Prelude.{Some}
+use Rattle.std.proofs.Common.{List, Ok, [], ap, sym, ◌∙◌}
+use Rattle.ppd_model.specs.declared.flow.Item.{Item}
+use Rattle.ppd_session.specs.Sessions.{known_by}
+use Rattle.ppd_session.specs.declared.place.Place.{Place}
+use Rattle.ppd_session.proofs.Keeping.{told_more}
+use Rattle.ppd_session.proofs.LastKept.{last_replay_fails}
+use Rattle.ppd_session.proofs.lasts.last_kept.Goals as goal
+use Rattle.ppd_walk.specs.declared.last.LastEdge.{LastEdge}
+
+abbrev place_of : LastEdge → Place
+place_of l = record { process = l.edge.process; interval = l.interval }
+
+pub last_told-requires-clause-told : goal.last_told-requires-clause-told
+last_told-requires-clause-told c =
+    c.requires.kept (place_of c.args.last) c.in-Some.items.now
+    (c.touch.ensures (place_of c.args.last, c.in-Some.items.now) c.in-Some.ensures)
+    ∙ ap (λ (is : List Item). Some (Ok is)) (sym c.as_slice.ensures)
+
+pub returns-in-Some-clause-kept : goal.returns-in-Some-clause-kept
+returns-in-Some-clause-kept c = λ place items h. c.requires.kept place items (c.touch.ensures (place, items) h)
+
+pub returns-in-Err-clause-error : goal.returns-in-Err-clause-error
+returns-in-Err-clause-error c =
+    last_replay_fails c.args.past.now c.args.cell c.args.last c.in-Err.error c.requires.last c.in-Err.ensures.error
+
+pub returns-in-Err-clause-kept : goal.returns-in-Err-clause-kept
+returns-in-Err-clause-kept c = λ place items h. c.requires.kept place items (c.touch.ensures (place, items) h)
+
+pub returns-in-Err-last_told-clause-kept : goal.returns-in-Err-last_told-clause-kept
+returns-in-Err-last_told-clause-kept c = λ place items h. c.requires.kept place items (c.touch.ensures (place, items) h)
+
+pub returns-clause-kept : goal.returns-clause-kept
+returns-clause-kept c =
+    told_more (known_by c.args.past.now []) c.touch.new.self c.keep.new.self (place_of c.args.last) c.in-Ok.items
+    (λ place items h. c.requires.kept place items (c.touch.ensures (place, items) h)) c.in-Ok.ensures.items
+    c.keep.ensures

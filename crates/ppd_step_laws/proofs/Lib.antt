@@ -1,0 +1,3 @@
+pub mod Course
+pub mod Units
+pub mod Policies

@@ -1,0 +1,5 @@
+-- Where the steps of a process lead, what they read, and what they cost.
+pub mod Course
+pub mod Laws
+pub mod Units
+pub mod Policies

@@ -1,1 +1,0 @@
--- Tables have no definitions of their own.

@@ -1,0 +1,17 @@
+use Rattle.ppd_model.specs.HappenedBefore.{edge}
+use Rattle.ppd_search.specs.Shared.{of_process, written_at}
+use Rattle.ppd_search.specs.Walk.{walk, walk_replays}
+use Rattle.ppd_walk.specs.Items.{seen_for}
+use Rattle.ppd_walk.specs.SharedCells.{answer_of}
+use Rattle.ppd_walk.proofs.SharedFound.{err_any}
+use Rattle.ppd_walk.proofs.written.written_before.Goals as goal
+
+pub returns-in-Err : goal.returns-in-Err
+returns-in-Err g c =
+    let search = c.args.search.now in
+    let x = seen_for search in
+    err_any search.past.now (of_process search.process (walk_replays x search.cell c.args.interval c.args.place))
+    (walk x search.cell c.args.interval c.args.place)
+    (answer_of (written_at search.past.now.logs.now search.cell (edge search.process c.args.edge)
+    (walk x search.cell c.args.interval c.args.place)))
+    c.args.steps.now c.walk.new.steps c.in-Err.error c.in-Err.ensures

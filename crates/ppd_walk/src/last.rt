@@ -1,0 +1,70 @@
+ghost use Rattle.std.specs.Prelude.{◌≡◌, ◌+◌, IfOk, Some};
+ghost use Rattle.ppd_past.specs.ByReplays.{AreReplayed, IsFoundBy};
+ghost use Rattle.ppd_past.specs.Pasts.{IsPast};
+ghost use Rattle.ppd_past.specs.SeenBy.{steps_in};
+ghost use Rattle.ppd_search.specs.Shared.{found_last, last_replays};
+ghost use Rattle.ppd_walk.specs.SharedCells.{answer_of, last_edge as last_edge_of, seens_in};
+
+use crate::search::CellSearch;
+use crate::written::written_before;
+use ppd_ast::{Memory, Steps};
+use ppd_ends::{end_interval, greatest_writing, sync_item};
+use ppd_model::{EdgeId, Item, Origin};
+use ppd_past::{FlowError, Past};
+use std::alloc::Global;
+use std::sync::ledger::Ledger;
+
+/// The internal edge with the last write of a shared cell, and the interval in which it ends.
+#[derive(Clone, Copy, PartialEq, Eq, Debug)]
+pub struct LastEdge {
+    pub edge: EdgeId,
+    pub interval: u32,
+}
+
+/// The greatest internal edge whose write set has the cell, with the interval in which it ends, if there is one.
+/// Nothing is replayed. `Memory` is want of memory, also for edges that have no numbers.
+pub fn last_edge(past: &Past, cell: u16) -> Result<Option<LastEdge>, Memory>
+    requires { IsPast past.now }
+    ensures { IfOk result (λ last. last ≡ last_edge_of past.now cell) }
+{
+    match greatest_writing(past, cell) {
+        Ok(Some(edge)) => Ok(Some(LastEdge {
+            edge,
+            interval: end_interval(past, edge.process, edge.edge),
+        })),
+        Ok(None) => Ok(None),
+        Err(memory) => Err(memory),
+    }
+}
+
+/// What `last_write` answers for a cell that this edge wrote last, from the items of the interval in which the edge
+/// ends: that interval is not replayed again, and the counter does not rise by its steps.
+pub fn last_write_from<L: Ledger>(
+    alloc: Global,
+    past: &Past,
+    cell: u16,
+    last: LastEdge,
+    items: &[Item],
+    steps: &mut Steps<L>,
+) -> Result<(i64, Origin), FlowError>
+    requires past { IsPast past.now }
+    requires last { last_edge_of past.now cell ≡ Some last }
+    requires items { AreReplayed past.now last.edge.process last.interval items.now }
+    ensures { IsFoundBy past.now
+        (last_replays past.now.program.now past.now.logs.now (seens_in past.now) cell)
+        (answer_of (found_last past.now.program.now past.now.logs.now (seens_in past.now) cell))
+        steps.old (steps.new + steps_in past.now last.edge.process last.interval) result }
+{
+    let EdgeId { process, edge } = last.edge;
+    let place = match sync_item(past, process, edge, last.interval, items) {
+        Ok(place) => place,
+        Err(_) => return Err(FlowError::Memory),
+    };
+    let search = CellSearch {
+        alloc,
+        past,
+        process,
+        cell,
+    };
+    written_before(&search, edge, last.interval, items, place, steps)
+}
