@@ -1,7 +1,6 @@
 use crate::parallel::{bounded, buffer, deadlock, draining, filling, locked};
-use crate::worlds::{Driven, bare_plan, drive, drive_lowest};
-use ppd_ast::{Policy, Program, Status, SyncKind, Trap};
-use ppd_blocks::partition;
+use crate::worlds::{Driven, bare_plan, drive, drive_lowest, function_plan};
+use ppd_ast::{Program, Status, SyncKind, Trap};
 use ppd_entry::Entry;
 use ppd_model::{Closed, DriveError};
 use std::alloc::Global;
@@ -254,7 +253,7 @@ fn channels_filled_and_emptied(rt: HostRuntime) -> Result<(), Fail> {
 fn bounded_buffer(rt: HostRuntime) -> Result<(), Fail> {
     let alloc = rt.alloc();
     let program = buffer(alloc).expect(&rt, "a source");
-    let plan = partition(alloc, &program, &Policy { leaf: 0, loops: 0 })?;
+    let plan = function_plan(alloc, &program).expect(&rt, "valid");
     let bare = bare_plan(alloc, &program).expect(&rt, "valid");
     for plan in [&bare, &plan] {
         let closed = drive_lowest(alloc, &program, plan, BUDGET, 1800).expect(&rt, "whole");

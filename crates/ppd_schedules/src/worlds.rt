@@ -7,6 +7,7 @@ ghost use Rattle.ppd_world.specs.Running.{IsReached};
 
 use ppd_ast::limits::MOST_BUDGET;
 use ppd_ast::{Memory, Plan, Policy, Program};
+use ppd_blocks::partition;
 use ppd_model::{Closed, DriveError};
 use ppd_world::World;
 use std::alloc::Global;
@@ -24,6 +25,14 @@ pub fn bare_plan(alloc: Global, program: &Program) -> Option<Plan> {
         return None;
     }
     Plan::bare(alloc, program, &Policy { leaf: 0, loops: 0 }).ok()
+}
+
+/// The plan in which each function is an e-block and no loop is. None where the program is not valid.
+pub fn function_plan(alloc: Global, program: &Program) -> Option<Plan> {
+    if !program.valid() {
+        return None;
+    }
+    partition(alloc, program, &Policy { leaf: 0, loops: 0 }).ok()
 }
 
 /// The world before its first step. None where program, plan or budget is not valid.
