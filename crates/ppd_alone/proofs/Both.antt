@@ -29,7 +29,7 @@ use Rattle.ppd_emul.specs.Fits.{fits}
 use Rattle.ppd_emul.specs.declared.wanted.Wanted.TheVariants as wanted
 use Rattle.ppd_emul.specs.declared.wanted.Found.TheVariants as found
 use Rattle.ppd_emul.specs.Replay.{Replaying, replay_from}
-use Rattle.ppd_beside.specs.Beside.{HasEnds, IsBeside, IsBlock}
+use Rattle.ppd_beside.specs.Beside.{HasEnds, IsBlock}
 use Rattle.ppd_coming.specs.Coming.{coming}
 use Rattle.ppd_nested.specs.Run.{IsGiven, IsNumbered, IsRun}
 use Rattle.ppd_inforce.specs.InForce.{AreRead, in_force_after}
@@ -47,9 +47,6 @@ module _ (program : Program) (plan : Plan) (used inside : ℕ → Type 0) (calls
     (Kept : Proc → Proc → Type 0) (kept : IsKept program plan used inside calls closer home depth outside Kept)
     (Across : Proc → ℕ → Proc → Type 0)
     (crossing : IsCrossing program plan used inside calls closer home depth outside Kept Across) where
-  abbrev Beside : Proc → Proc → Type 0
-  Beside s r = IsBeside program used inside calls closer home depth outside s r
-
   abbrev Along : Proc → Replaying → Type 0
   Along s r = IsAlong program plan used inside calls closer home depth outside Kept s r
 

@@ -19,7 +19,7 @@ use Rattle.ppd_sem.specs.Blocks.{skipped, unit_past}
 use Rattle.ppd_emul.specs.Fits.{fits, found_of}
 use Rattle.ppd_emul.specs.declared.wanted.Wanted.TheVariants as wanted
 use Rattle.ppd_emul.specs.Replay.{Replaying, more, counted, end_here, finished, go_on, next_piece, past_piece, replay_from, step_with, take_unit, turn, with_item}
-use Rattle.ppd_beside.specs.Beside.{HasEnds, IsBeside, IsBlock}
+use Rattle.ppd_beside.specs.Beside.{HasEnds, IsBlock}
 use Rattle.ppd_coming.specs.Coming.{After, Coming, Inner, at_rest, before, coming, inner_opens, leaves, unit_pieces}
 use Rattle.ppd_nested.specs.Run.{IsRun}
 use Rattle.ppd_inforce.specs.InForce.{AreRead, in_force_after, in_force_by, with_unit}

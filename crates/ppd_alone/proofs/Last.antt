@@ -21,34 +21,44 @@ use Rattle.ppd_model.specs.declared.flow.Item.TheVariants as item
 use Rattle.ppd_model.specs.declared.trace.EventId.{EventId}
 use Rattle.ppd_model.specs.FullTrace.{event_of}
 use Rattle.ppd_model.specs.Marks.{Mark, closed}
-use Rattle.ppd_model.specs.Story.{Moment}
 use Rattle.ppd_model.specs.Synchronizations.{kind_of_sync}
 use Rattle.ppd_emul.specs.Fits.{fits, found_of, same_trap, wanted_of}
 use Rattle.ppd_emul.specs.declared.wanted.Wanted.{Wanted}
 use Rattle.ppd_emul.specs.declared.wanted.Wanted.TheVariants as wanted
 use Rattle.ppd_emul.specs.Replay.{Replaying, done, counted, fail, finished, is_budget, turn_by_end, turn_within, next_piece, replay_from, step_with, with_event}
-use Rattle.ppd_beside.specs.Beside.{HasEnds, IsBeside, IsBlock}
+use Rattle.ppd_beside.specs.Beside.{HasEnds, IsBlock}
 use Rattle.ppd_coming.specs.Coming.{at_rest}
 use Rattle.ppd_nested.specs.Run.{IsRun}
 use Rattle.ppd_beside.specs.Alone.{IsKept}
 use Rattle.ppd_beside.proofs.Needs.{is_enter}
 use Rattle.ppd_beside.proofs.Turned.{piece_turn}
 use Rattle.ppd_alone.proofs.Events.{described_same}
-use Rattle.ppd_alone.proofs.Goals.{IsAlong, OwnGoal}
+use Rattle.ppd_alone.proofs.Goals.{IsAlong}
 use Rattle.ppd_alone.proofs.Moved.{enough, last_event, needs}
 use Rattle.ppd_alone.proofs.Turns.{end_at, ends_so, given, is_stopped, late_at, next_at}
+
+-- a synchronization closes no block and enters none, and it is no stop
+record IsSyncNeed (program : Program) (plan : Plan) (s : Proc) (n : Need) : Type 0 where
+  unclosed : closed program plan s n ≡ None
+  payable : is_budget n ≡ false
+  enters_not : is_enter n ≡ false
+  goes : is_stopped n ≡ false
+
+sync_need : (program : Program) (plan : Plan) (s : Proc) (n : Need) → is_some (kind_of_sync n) ≡ true
+    → IsSyncNeed program plan s n
+sync_need program plan s (P o u) e = record { unclosed = refl; payable = refl; enters_not = refl; goes = refl }
+sync_need program plan s (V o u) e = record { unclosed = refl; payable = refl; enters_not = refl; goes = refl }
+sync_need program plan s (Send o v u) e = record { unclosed = refl; payable = refl; enters_not = refl; goes = refl }
+sync_need program plan s (Offer o v) e = record { unclosed = refl; payable = refl; enters_not = refl; goes = refl }
+sync_need program plan s (Done o u) e = record { unclosed = refl; payable = refl; enters_not = refl; goes = refl }
+sync_need program plan s (Recv o u) e = record { unclosed = refl; payable = refl; enters_not = refl; goes = refl }
+sync_need program plan s n e = absurd (true≢false (sym e))
 
 module _ (program : Program) (plan : Plan) (used inside : ℕ → Type 0) (calls : Type 0) (closer : Todo) (home : ℕ)
     (depth : ℕ) (ends : HasEnds program) (block : IsBlock program used inside calls) (outside : List Todo)
     (Kept : Proc → Proc → Type 0) (kept : IsKept program plan used inside calls closer home depth outside Kept) where
-  abbrev Beside : Proc → Proc → Type 0
-  Beside s r = IsBeside program used inside calls closer home depth outside s r
-
   abbrev Along : Proc → Replaying → Type 0
   Along s r = IsAlong program plan used inside calls closer home depth outside Kept s r
-
-  abbrev OwnSteps : List Moment → Type 0
-  OwnSteps ms = OwnGoal program plan used inside calls closer home depth outside Kept ms
 
   -- the process waits for ever
   pub waits : (s : Proc) (r : Replaying) (next fuel : ℕ) → Along s r → IsRun program plan s []
@@ -57,51 +67,16 @@ module _ (program : Program) (plan : Plan) (used inside : ℕ → Type 0) (calls
   waits s r next fuel al run pieces enough_fuel =
       let n : Need = need_of program plan s in
       let blocked : is_some (kind_of_sync n) ≡ true = run al.running in
+      let c : IsSyncNeed program plan s n = sync_need program plan s n blocked in
       let f = enough program plan used inside calls closer home depth ends block outside Kept kept s r.proc fuel al.beside al.paid enough_fuel in
-      let h = needs program plan used inside calls closer home depth ends block outside Kept kept s r.proc n al.beside al.kept_so al.running refl (unclosed n blocked) (payable n blocked) (goes n blocked) (enters_not n blocked) in
+      let h = needs program plan used inside calls closer home depth ends block outside Kept kept s r.proc n al.beside al.kept_so al.running refl c.unclosed c.payable c.goes c.enters_not in
       ends_so program plan r fuel f.0 0 (finish status.Blocked r.since) [] f.1
       (ap₂ (λ o x. turn_by_end program plan o x r) (end_at program plan r status.Blocked [] pieces) h.need
       ∙ cond-false (is_budget n) (fail r wanted.Fewer) (turn_within program plan (Some status.Blocked) n r)
-      (payable n blocked)
+      c.payable
       ∙ cond-true (is_some (kind_of_sync n)) (finished r) _ blocked
       ∙ ap₂ (λ k (xs : List Item). done (record { steps = k; answer = Ok (record { items = xs }) }))
       (let z : r.steps ≡ r.steps + 0 = omega arith in z) (sym (append-nil r.items)))
-    where
-      unclosed : (n : Need) → is_some (kind_of_sync n) ≡ true → closed program plan s n ≡ None
-      unclosed (P o u) e = refl
-      unclosed (V o u) e = refl
-      unclosed (Send o v u) e = refl
-      unclosed (Offer o v) e = refl
-      unclosed (Done o u) e = refl
-      unclosed (Recv o u) e = refl
-      unclosed n e = absurd (true≢false (sym e))
-
-      payable : (n : Need) → is_some (kind_of_sync n) ≡ true → is_budget n ≡ false
-      payable (P o u) e = refl
-      payable (V o u) e = refl
-      payable (Send o v u) e = refl
-      payable (Offer o v) e = refl
-      payable (Done o u) e = refl
-      payable (Recv o u) e = refl
-      payable n e = absurd (true≢false (sym e))
-
-      enters_not : (n : Need) → is_some (kind_of_sync n) ≡ true → is_enter n ≡ false
-      enters_not (P o u) e = refl
-      enters_not (V o u) e = refl
-      enters_not (Send o v u) e = refl
-      enters_not (Offer o v) e = refl
-      enters_not (Done o u) e = refl
-      enters_not (Recv o u) e = refl
-      enters_not n e = absurd (true≢false (sym e))
-
-      goes : (n : Need) → is_some (kind_of_sync n) ≡ true → is_stopped n ≡ false
-      goes (P o u) e = refl
-      goes (V o u) e = refl
-      goes (Send o v u) e = refl
-      goes (Offer o v) e = refl
-      goes (Done o u) e = refl
-      goes (Recv o u) e = refl
-      goes n e = absurd (true≢false (sym e))
 
   -- the process traps
   trap_same : (t : TrapOf) → same_trap t t ≡ true

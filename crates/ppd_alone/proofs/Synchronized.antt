@@ -18,7 +18,7 @@ use Rattle.ppd_model.specs.FullTrace.{event_of}
 use Rattle.ppd_model.specs.Story.{Moment, cells_of_unit}
 use Rattle.ppd_emul.specs.Fits.{fits, found_of, wanted_of}
 use Rattle.ppd_emul.specs.Replay.{Replaying, more, is_budget, next_piece, past_piece, replay_from, step_with, stepped, take_unit, turn, with_event}
-use Rattle.ppd_beside.specs.Beside.{HasEnds, IsBeside, IsBlock}
+use Rattle.ppd_beside.specs.Beside.{HasEnds, IsBlock}
 use Rattle.ppd_coming.specs.Coming.{before, coming}
 use Rattle.ppd_nested.specs.Run.{IsRun}
 use Rattle.ppd_inforce.specs.InForce.{AreRead}
@@ -31,9 +31,6 @@ use Rattle.ppd_alone.proofs.Turns.{event_at_head, fuel_on, given, is_stopped, la
 module _ (program : Program) (plan : Plan) (used inside : ℕ → Type 0) (calls : Type 0) (closer : Todo) (home : ℕ)
     (depth : ℕ) (ends : HasEnds program) (block : IsBlock program used inside calls) (outside : List Todo)
     (Kept : Proc → Proc → Type 0) (kept : IsKept program plan used inside calls closer home depth outside Kept) where
-  abbrev Beside : Proc → Proc → Type 0
-  Beside s r = IsBeside program used inside calls closer home depth outside s r
-
   abbrev Along : Proc → Replaying → Type 0
   Along s r = IsAlong program plan used inside calls closer home depth outside Kept s r
 

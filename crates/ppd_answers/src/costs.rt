@@ -4,6 +4,7 @@ use crate::trials::call;
 use ppd_ast::Policy;
 use ppd_top::{FollowError, Options, follow};
 use std::alloc::Global;
+use std::process::Abort;
 use std::sync::Wait;
 use std::test::Fail;
 use std::thread::Threads;
@@ -43,6 +44,19 @@ fn written<R: Threads + Wait + Sync>(
     Ok(trial.text)
 }
 
+// Asserts what is written for each row.
+fn check_rows<R: Abort + Threads + Wait + Sync>(
+    rt: &R,
+    alloc: Global,
+    rows: &[Row],
+) -> Result<(), Fail> {
+    for (options, source, text) in rows {
+        let found = written(rt, alloc, options, source)?;
+        assert_eq!(rt; found.as_slice(), text.as_bytes(), "{options:?} {source}");
+    }
+    Ok(())
+}
+
 // A function's block costs its parameter at the call, and a value at the return; without the block they
 // cost nothing. A process that reads x after the call has it in the unit that the return starts.
 #[test]
@@ -61,11 +75,7 @@ fn a_function_costs_its_entries(rt: HostRuntime) -> Result<(), Fail> {
         (&["--budget", "7", "--leaf", "3"], LEAF, ended),
         (&["--budget", "6", "--leaf", "3"], LEAF, stopped),
     ];
-    for (options, source, text) in rows {
-        let found = written(&rt, alloc, options, source)?;
-        assert_eq!(rt; found.as_slice(), text.as_bytes(), "{options:?}");
-    }
-    Ok(())
+    check_rows(&rt, alloc, &rows)
 }
 
 // A loop's block costs a value for each local that it may read or write at its entry, and for each that it
@@ -139,11 +149,7 @@ fn a_loop_costs_its_entries(rt: HostRuntime) -> Result<(), Fail> {
             "process p budget 1:34 steps 1\nraces 0\n",
         ),
     ];
-    for (options, source, text) in rows {
-        let found = written(&rt, alloc, options, source)?;
-        assert_eq!(rt; found.as_slice(), text.as_bytes(), "{options:?} {source}");
-    }
-    Ok(())
+    check_rows(&rt, alloc, &rows)
 }
 
 // A synchronization costs the cells of the unit that it starts, those of arrays whole. So a process may stop
@@ -190,11 +196,7 @@ fn a_unit_costs_its_cells(rt: HostRuntime) -> Result<(), Fail> {
             "process p budget 1:37 steps 0\nraces 0\n",
         ),
     ];
-    for (options, source, text) in rows {
-        let found = written(&rt, alloc, options, source)?;
-        assert_eq!(rt; found.as_slice(), text.as_bytes(), "{options:?} {source}");
-    }
-    Ok(())
+    check_rows(&rt, alloc, &rows)
 }
 
 // The same by schedules that are handed in: a stop is a number of the schedule.

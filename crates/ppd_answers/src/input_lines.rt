@@ -1,8 +1,8 @@
 // The lines of the input: how many, how long, and what a failed read leaves.
 
 use crate::trials::{USUAL, asked, call};
-use ppd_io::{FreeGate, MemoryShelf, MemorySink, MemorySource};
-use ppd_top::{FollowError, follow, ppd};
+use ppd_top::{FollowError, follow};
+use ppd_trials::Devices;
 use std::alloc::Global;
 use std::test::Fail;
 
@@ -127,27 +127,14 @@ fn nothing_is_read_after_quit(rt: HostRuntime) -> Result<(), Fail> {
 fn a_full_output_cuts_an_answer(rt: HostRuntime) -> Result<(), Fail> {
     let alloc = rt.alloc();
     for (room, status) in [(41, 4), (42, 4), (45, 4), (49, 4), (50, 0)] {
-        let mut shelf = MemoryShelf::new(alloc, Vec::new(alloc));
-        if shelf.put("row.c", SMALLEST.as_bytes()).is_err() {
-            return Err(Fail::new("no answer"));
-        }
-        let input = Vec::from_slice(alloc, b"races\n")?;
-        let mut input = MemorySource::new(input, 4096, Vec::new(alloc));
-        let Ok(mut output) = MemorySink::new(alloc, room, Vec::new(alloc)) else {
-            return Err(Fail::new("no answer"));
+        let devices = Devices {
+            input: b"races\n",
+            room,
+            ..Devices::with("row.c", SMALLEST.as_bytes())
         };
-        let words = ["flow", "row.c"];
-        let outcome = ppd(
-            &rt,
-            alloc,
-            &words,
-            &mut shelf,
-            &mut input,
-            &mut output,
-            &FreeGate,
-        );
-        assert_eq!(rt; outcome.status, status, "{room}");
-        assert_eq!(rt; output.bytes(), &ANSWERED[..room], "{room}");
+        let trial = devices.call(&rt, alloc, &["flow", "row.c"])?;
+        assert_eq!(rt; trial.status, status, "{room}");
+        assert_eq!(rt; trial.text.as_slice(), &ANSWERED[..room], "{room}");
     }
     Ok(())
 }

@@ -6,30 +6,19 @@ use ppd_ast::limits::MOST_PROCESSES;
 use ppd_ast::{Memory, Policy};
 use ppd_blocks::partition;
 use ppd_check::read_source;
-use ppd_io::{FreeGate, MemoryShelf, MemorySink, MemorySource};
-use ppd_top::{FollowError, Options, follow, ppd};
+use ppd_top::{FollowError, Options, follow};
+use ppd_trials::{Devices, Trial};
 use ppd_world::World;
 use std::alloc::Global;
 use std::sync::Wait;
 use std::test::Fail;
 use std::thread::Threads;
 
-/// The room of the tests' output, in bytes.
-const ROOM: usize = 16_384;
-
 /// The options where none is given.
 pub(crate) const USUAL: Options = Options {
     budget: 100_000,
     policy: Policy { leaf: 0, loops: 0 },
 };
-
-/// How a call of the program ended: its status, all that it wrote, and its schedule.
-#[derive(Drop)]
-pub(crate) struct Trial {
-    pub(crate) status: u8,
-    pub(crate) text: Vec<u8>,
-    pub(crate) schedule: Vec<u8>,
-}
 
 /// What the top call answers for these words, where the shelf holds the source under this name alone.
 pub(crate) fn call<R: Threads + Wait + Sync>(
@@ -39,29 +28,7 @@ pub(crate) fn call<R: Threads + Wait + Sync>(
     name: &str,
     source: &[u8],
 ) -> Result<Trial, Fail> {
-    let mut shelf = MemoryShelf::new(alloc, Vec::new(alloc));
-    if shelf.put(name, source).is_err() {
-        return Err(Fail::new("no answer"));
-    }
-    let mut input = MemorySource::new(Vec::new(alloc), 1, Vec::new(alloc));
-    let Ok(mut output) = MemorySink::new(alloc, ROOM, Vec::new(alloc)) else {
-        return Err(Fail::new("no answer"));
-    };
-    let outcome = ppd(
-        rt,
-        alloc,
-        words,
-        &mut shelf,
-        &mut input,
-        &mut output,
-        &FreeGate,
-    );
-    let text = Vec::from_slice(alloc, output.bytes())?;
-    Ok(Trial {
-        status: outcome.status,
-        text,
-        schedule: outcome.schedule.into_vec(),
-    })
+    Devices::with(name, source).call(rt, alloc, words)
 }
 
 /// What `flow` answers for a source without options and for these bytes of input, which come in chunks of at most
@@ -74,32 +41,13 @@ pub(crate) fn asked<R: Threads + Wait + Sync>(
     chunk: usize,
     fails: &[u32],
 ) -> Result<Trial, Fail> {
-    let mut shelf = MemoryShelf::new(alloc, Vec::new(alloc));
-    if shelf.put("row.c", source.as_bytes()).is_err() {
-        return Err(Fail::new("no answer"));
-    }
-    let bytes = Vec::from_slice(alloc, bytes)?;
-    let fails = Vec::from_slice(alloc, fails)?;
-    let mut input = MemorySource::new(bytes, chunk.max(1), fails);
-    let Ok(mut output) = MemorySink::new(alloc, ROOM, Vec::new(alloc)) else {
-        return Err(Fail::new("no answer"));
+    let devices = Devices {
+        input: bytes,
+        chunk,
+        input_fails: fails,
+        ..Devices::with("row.c", source.as_bytes())
     };
-    let words = ["flow", "row.c"];
-    let outcome = ppd(
-        rt,
-        alloc,
-        &words,
-        &mut shelf,
-        &mut input,
-        &mut output,
-        &FreeGate,
-    );
-    let text = Vec::from_slice(alloc, output.bytes())?;
-    Ok(Trial {
-        status: outcome.status,
-        text,
-        schedule: outcome.schedule.into_vec(),
-    })
+    devices.call(rt, alloc, &["flow", "row.c"])
 }
 
 /// What `flow` answers for a source without options.

@@ -66,14 +66,6 @@ IsScalarIfAny locals (Some c) = IsScalarOf locals c
 abbrev pub WritesWhole : (shareds locals : List Var) → Kind → Type 0
 WritesWhole shareds locals (K.Set t e) = IsWholeTarget shareds locals t
 WritesWhole shareds locals (K.Zero base len) = IsArrayOf locals base len
-WritesWhole shareds locals (K.If e first second) = ⊤
-WritesWhole shareds locals (K.While e body) = ⊤
 WritesWhole shareds locals (K.Call f args into) = IsScalarIfAny locals into
-WritesWhole shareds locals (K.Return v) = ⊤
-WritesWhole shareds locals (K.P s) = ⊤
-WritesWhole shareds locals (K.V s) = ⊤
-WritesWhole shareds locals (K.Send c e) = ⊤
 WritesWhole shareds locals (K.Recv c into) = IsScalarOf locals into
-WritesWhole shareds locals (K.Print e) = ⊤
-WritesWhole shareds locals (K.Assert e) = ⊤
-WritesWhole shareds locals K.End = ⊤
+WritesWhole shareds locals _ = ⊤

@@ -14,50 +14,21 @@ use Rattle.ppd_ast.specs.declared.limits.TheConstants.{MOST_NESTING}
 use Rattle.ppd_ast.specs.Order.{inner, preorder}
 
 abbrev pub is_while : Kind → Bool
-is_while (K.Set t e) = false
-is_while (K.Zero base len) = false
-is_while (K.If e first second) = false
 is_while (K.While e body) = true
-is_while (K.Call f args into) = false
-is_while (K.Return v) = false
-is_while (K.P s) = false
-is_while (K.V s) = false
-is_while (K.Send c e) = false
-is_while (K.Recv c into) = false
-is_while (K.Print e) = false
-is_while (K.Assert e) = false
-is_while K.End = false
+is_while _ = false
 
 abbrev pub is_call : Kind → Bool
-is_call (K.Set t e) = false
-is_call (K.Zero base len) = false
-is_call (K.If e first second) = false
-is_call (K.While e body) = false
 is_call (K.Call f args into) = true
-is_call (K.Return v) = false
-is_call (K.P s) = false
-is_call (K.V s) = false
-is_call (K.Send c e) = false
-is_call (K.Recv c into) = false
-is_call (K.Print e) = false
-is_call (K.Assert e) = false
-is_call K.End = false
+is_call _ = false
 
 -- whether a unit starts after a statement of this kind: a call or a synchronization
 abbrev pub is_left : Kind → Bool
-is_left (K.Set t e) = false
-is_left (K.Zero base len) = false
-is_left (K.If e first second) = false
-is_left (K.While e body) = false
 is_left (K.Call f args into) = true
-is_left (K.Return v) = false
 is_left (K.P s) = true
 is_left (K.V s) = true
 is_left (K.Send c e) = true
 is_left (K.Recv c into) = true
-is_left (K.Print e) = false
-is_left (K.Assert e) = false
-is_left K.End = false
+is_left _ = false
 
 -- the numbers of a body's statements
 abbrev pub numbers_of : List Stmt → Body → List ℕ
@@ -126,6 +97,11 @@ starts_at stmts policy k = starts_of stmts policy k (slice_get stmts k)
 -- the starts of units of body j: its entry, then those at its statements
 abbrev pub body_starts : List Stmt → Policy → ℕ → Body → List Start
 body_starts stmts policy j b = Entry j ∷ flat_map (starts_at stmts policy) (numbers_of stmts b)
+
+-- a body's own, then what there is at each of its statements
+abbrev pub of_body : {X : Type 0} → (List Stmt → Policy → ℕ → Body → List X) → (List Stmt → Policy → ℕ → List X)
+    → List Stmt → Policy → ℕ → Body → List X
+of_body own at stmts policy j b = own stmts policy j b ++ flat_map (at stmts policy) (numbers_of stmts b)
 
 -- what there is for each body and its number, one after another, from number j on
 abbrev pub each_from : {X : Type 0} → (ℕ → Body → List X) → ℕ → List Body → List X

@@ -7,19 +7,9 @@ use Rattle.ppd_ast.specs.declared.program.Stmt.{Stmt}
 
 -- the statements that stand directly in one of this kind
 abbrev pub inner : Kind → List ℕ
-inner (K.Set t e) = []
-inner (K.Zero base len) = []
 inner (K.If e first second) = first ++ second
 inner (K.While e body) = body
-inner (K.Call f args into) = []
-inner (K.Return v) = []
-inner (K.P s) = []
-inner (K.V s) = []
-inner (K.Send c e) = []
-inner (K.Recv c into) = []
-inner (K.Print e) = []
-inner (K.Assert e) = []
-inner K.End = []
+inner _ = []
 
 abbrev pub inner_of : Option Stmt → List ℕ
 inner_of None = []

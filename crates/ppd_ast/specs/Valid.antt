@@ -45,71 +45,32 @@ last_of list = slice_get list (length list - 1)
 
 -- a statement with which a body ends
 abbrev pub IsEnding : Kind → Type 0
-IsEnding (K.Set t e) = ⊥
-IsEnding (K.Zero base len) = ⊥
-IsEnding (K.If e first second) = ⊥
-IsEnding (K.While e body) = ⊥
-IsEnding (K.Call f args into) = ⊥
 IsEnding (K.Return v) = ⊤
-IsEnding (K.P s) = ⊥
-IsEnding (K.V s) = ⊥
-IsEnding (K.Send c e) = ⊥
-IsEnding (K.Recv c into) = ⊥
-IsEnding (K.Print e) = ⊥
-IsEnding (K.Assert e) = ⊥
 IsEnding K.End = ⊤
+IsEnding _ = ⊥
 
 -- statement k of body b, where it is a `Return` or an `End`, is the last of the top list: a `Return`
 -- in a function, with a value where the function gives one, and an `End` in a process
 abbrev pub EndsBody : Body → (k : ℕ) → Kind → Type 0
-EndsBody b k (K.Set t e) = ⊤
-EndsBody b k (K.Zero base len) = ⊤
-EndsBody b k (K.If e first second) = ⊤
-EndsBody b k (K.While e body) = ⊤
-EndsBody b k (K.Call f args into) = ⊤
 EndsBody b k (K.Return v) = (b.process ≡ false) × (is_some v ≡ b.value) × (last_of b.top ≡ Some k)
-EndsBody b k (K.P s) = ⊤
-EndsBody b k (K.V s) = ⊤
-EndsBody b k (K.Send c e) = ⊤
-EndsBody b k (K.Recv c into) = ⊤
-EndsBody b k (K.Print e) = ⊤
-EndsBody b k (K.Assert e) = ⊤
 EndsBody b k K.End = (b.process ≡ true) × (last_of b.top ≡ Some k)
+EndsBody b k _ = ⊤
 
 -- the semaphore or channel of a statement is there
 abbrev pub HasObject : Program → Kind → Type 0
-HasObject p (K.Set t e) = ⊤
-HasObject p (K.Zero base len) = ⊤
-HasObject p (K.If e first second) = ⊤
-HasObject p (K.While e body) = ⊤
-HasObject p (K.Call f args into) = ⊤
-HasObject p (K.Return v) = ⊤
 HasObject p (K.P s) = s < length p.sems
 HasObject p (K.V s) = s < length p.sems
 HasObject p (K.Send c e) = c < length p.chans
 HasObject p (K.Recv c into) = c < length p.chans
-HasObject p (K.Print e) = ⊤
-HasObject p (K.Assert e) = ⊤
-HasObject p K.End = ⊤
+HasObject p _ = ⊤
 
 -- a call is of a function that is there, has as many arguments as that has parameters, and receives only
 -- a value that is returned
 abbrev pub CallsRightly : Program → Kind → Type 0
-CallsRightly p (K.Set t e) = ⊤
-CallsRightly p (K.Zero base len) = ⊤
-CallsRightly p (K.If e first second) = ⊤
-CallsRightly p (K.While e body) = ⊤
 CallsRightly p (K.Call f args into) =
     (f < p.functions)
     × IsSomeAnd (slice_get p.bodies f) (λ g. (length args ≡ g.params) × (IsSome into → IsTrue g.value))
-CallsRightly p (K.Return v) = ⊤
-CallsRightly p (K.P s) = ⊤
-CallsRightly p (K.V s) = ⊤
-CallsRightly p (K.Send c e) = ⊤
-CallsRightly p (K.Recv c into) = ⊤
-CallsRightly p (K.Print e) = ⊤
-CallsRightly p (K.Assert e) = ⊤
-CallsRightly p K.End = ⊤
+CallsRightly p _ = ⊤
 
 -- an expression that a statement of body b uses: it is there, is not too large, and names whole variables
 pub record IsValidUse (p : Program) (b : Body) (e : ℕ) : Type 0 where

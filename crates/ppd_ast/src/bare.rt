@@ -2,12 +2,12 @@
 ghost use Rattle.std.specs.Prelude.{◌≡◌, ◌<◌, ◌^◌, [], ◌∷◌, ◌++◌, IfOk, OnOk, length, map};
 ghost use Rattle.std.specs.List.{flat_map};
 ghost use Rattle.ppd_ast.specs.Bare.{bare, bare_block, bare_unit, gives_value};
-ghost use Rattle.ppd_ast.specs.Numbered.{blocks_by, blocks_of, body_kind, body_starts, is_block_loop, loops_at, numbers_of, starts_at, starts_by};
+ghost use Rattle.ppd_ast.specs.Numbered.{body_kind, each_from, is_block_loop, loops_at, numbers_of, of_body, starts_at};
 ghost use Rattle.ppd_ast.specs.Valid.{IsValid};
 ghost use Rattle.ppd_ast.specs.ValidPlan.{IsValidPlan, IsValidPolicy};
 
 use crate::lists::{Memory, Seq};
-use crate::numbered::{end_of, is_block_body, is_block_loop};
+use crate::numbered::{Numbered, end_of, is_block_body, is_block_loop};
 use crate::plan::{Block, BlockKind, Plan, Policy, Start, Unit};
 use crate::program::{Body, Program};
 use std::alloc::Global;
@@ -50,48 +50,36 @@ fn add_unit(units: &mut Seq<Unit>, alloc: Global, start: Start) -> Result<(), Me
     })
 }
 
-// Adds the block that a statement is, if it is one.
-fn add_loop(
-    blocks: &mut Seq<Block>,
-    alloc: Global,
-    program: &Program,
-    policy: Policy,
-    number: u32,
-) -> Result<(), Memory>
-    requires { number < length program.now.stmts }
-    ensures { OnOk result
-        (blocks.new ≡ blocks.old ++ map (bare_block program.now.bodies) (loops_at program.now.stmts policy number)) }
-{
-    let stmts = program.stmts.as_slice();
-    if is_block_loop(stmts, policy, &stmts[number as usize]) {
-        add_block(
-            blocks,
-            alloc,
-            program.bodies.as_slice(),
-            BlockKind::Loop(number),
-        )
-    } else {
-        Ok(())
-    }
-}
+// What is numbered, without its cells.
+trait Bare: Numbered + Drop {
+    ghost use Rattle.std.specs.Prelude.{List};
+    ghost use Rattle.ppd_ast.specs.declared.program.Body.{Body};
 
-// Adds the block loops of a body.
-fn add_loops(
-    blocks: &mut Seq<Block>,
-    alloc: Global,
-    program: &Program,
-    policy: Policy,
-    body: &Body,
-) -> Result<(), Memory>
-    ensures { OnOk result
-        (blocks.new ≡ blocks.old
-        ++ map (bare_block program.now.bodies)
-        (flat_map (loops_at program.now.stmts policy) (numbers_of program.now.stmts body.now))) }
-{
-    for number in body.first..end_of(program.stmts.as_slice(), body) {
-        add_loop(blocks, alloc, program, policy, number)?;
-    }
-    Ok(())
+    ghost bare: { List Body → Self.Key → Self };
+
+    // Adds what there is at the statement.
+    fn add_stmt(
+        list: &mut Seq<Self>,
+        alloc: Global,
+        program: &Program,
+        policy: Policy,
+        number: u32,
+    ) -> Result<(), Memory>
+        requires { number < length program.now.stmts }
+        ensures { OnOk result (list.new
+            ≡ list.old ++ map (bare program.now.bodies) (Self.at_stmt program.now.stmts policy number)) };
+
+    // Adds what the body itself is.
+    fn add_own(
+        list: &mut Seq<Self>,
+        alloc: Global,
+        program: &Program,
+        policy: Policy,
+        number: u16,
+        body: &Body,
+    ) -> Result<(), Memory>
+        ensures { OnOk result (list.new
+            ≡ list.old ++ map (bare program.now.bodies) (Self.own program.now.stmts policy number body.now)) };
 }
 
 fn kind_of_body(number: u16, body: &Body) -> BlockKind
@@ -104,113 +92,127 @@ fn kind_of_body(number: u16, body: &Body) -> BlockKind
     }
 }
 
-// Adds a body's own block, where it is one, and its block loops.
-fn add_blocks(
-    blocks: &mut Seq<Block>,
-    alloc: Global,
-    program: &Program,
-    policy: Policy,
-    number: u16,
-    body: &Body,
-) -> Result<(), Memory>
-    ensures { OnOk result
-        (blocks.new ≡ blocks.old
-        ++ map (bare_block program.now.bodies) (blocks_of program.now.stmts policy number body.now)) }
-{
-    if is_block_body(program.stmts.as_slice(), policy, body) {
-        let kind = kind_of_body(number, body);
-        add_block(blocks, alloc, program.bodies.as_slice(), kind)?;
-    }
-    add_loops(blocks, alloc, program, policy, body)
-}
+impl Bare for Block {
+    ghost bare = { bare_block };
 
-fn bare_blocks(alloc: Global, program: &Program, policy: Policy) -> Result<Seq<Block>, Memory>
-    requires { length program.now.bodies < 2 ^ 16 }
-    ensures { IfOk result
-        (λ blocks. blocks
-        ≡ map (bare_block program.now.bodies) (blocks_by program.now.stmts policy program.now.bodies)) }
-{
-    let mut blocks = Seq::new(alloc);
-    let bodies = program.bodies.as_slice();
-    for number in 0..bodies.len() {
-        add_blocks(
-            &mut blocks,
+    fn add_stmt(
+        list: &mut Seq<Block>,
+        alloc: Global,
+        program: &Program,
+        policy: Policy,
+        number: u32,
+    ) -> Result<(), Memory> {
+        let stmts = program.stmts.as_slice();
+        if !is_block_loop(stmts, policy, &stmts[number as usize]) {
+            return Ok(());
+        }
+        add_block(
+            list,
             alloc,
-            program,
-            policy,
-            number as u16,
-            &bodies[number],
-        )?;
+            program.bodies.as_slice(),
+            BlockKind::Loop(number),
+        )
     }
-    Ok(blocks)
+
+    fn add_own(
+        list: &mut Seq<Block>,
+        alloc: Global,
+        program: &Program,
+        policy: Policy,
+        number: u16,
+        body: &Body,
+    ) -> Result<(), Memory> {
+        if !is_block_body(program.stmts.as_slice(), policy, body) {
+            return Ok(());
+        }
+        let kind = kind_of_body(number, body);
+        add_block(list, alloc, program.bodies.as_slice(), kind)
+    }
 }
 
-// Adds the units that start at a statement.
-fn add_starts(
-    units: &mut Seq<Unit>,
-    alloc: Global,
-    program: &Program,
-    policy: Policy,
-    number: u32,
-) -> Result<(), Memory>
-    requires { number < length program.now.stmts }
-    ensures { OnOk result (units.new ≡ units.old ++ map bare_unit (starts_at program.now.stmts policy number)) }
-{
-    let stmts = program.stmts.as_slice();
-    let stmt = &stmts[number as usize];
-    if stmt.kind.is_left() {
-        return add_unit(units, alloc, Start::After(number));
+impl Bare for Unit {
+    ghost bare = { λ bodies. bare_unit };
+
+    fn add_stmt(
+        list: &mut Seq<Unit>,
+        alloc: Global,
+        program: &Program,
+        policy: Policy,
+        number: u32,
+    ) -> Result<(), Memory> {
+        let stmts = program.stmts.as_slice();
+        let stmt = &stmts[number as usize];
+        if stmt.kind.is_left() {
+            return add_unit(list, alloc, Start::After(number));
+        }
+        if !is_block_loop(stmts, policy, stmt) {
+            return Ok(());
+        }
+        add_unit(list, alloc, Start::Enter(number))?;
+        add_unit(list, alloc, Start::Exit(number))
     }
-    if !is_block_loop(stmts, policy, stmt) {
-        return Ok(());
+
+    fn add_own(
+        list: &mut Seq<Unit>,
+        alloc: Global,
+        _program: &Program,
+        _policy: Policy,
+        number: u16,
+        _body: &Body,
+    ) -> Result<(), Memory> {
+        add_unit(list, alloc, Start::Entry(number))
     }
-    add_unit(units, alloc, Start::Enter(number))?;
-    add_unit(units, alloc, Start::Exit(number))
 }
 
-// Adds the units that start at a body's statements.
-fn add_starts_in(
-    units: &mut Seq<Unit>,
+// Adds what there is at a body's statements.
+fn add_stmts<T: Bare>(
+    list: &mut Seq<T>,
     alloc: Global,
     program: &Program,
     policy: Policy,
     body: &Body,
 ) -> Result<(), Memory>
-    ensures { OnOk result
-        (units.new ≡ units.old
-        ++ map bare_unit (flat_map (starts_at program.now.stmts policy) (numbers_of program.now.stmts body.now))) }
+    ensures { OnOk result (list.new
+        ≡ list.old
+        ++ map (T.bare program.now.bodies)
+        (flat_map (T.at_stmt program.now.stmts policy) (numbers_of program.now.stmts body.now))) }
 {
     for number in body.first..end_of(program.stmts.as_slice(), body) {
-        add_starts(units, alloc, program, policy, number)?;
+        T::add_stmt(list, alloc, program, policy, number)?;
     }
     Ok(())
 }
 
-// Adds the units of a body: that of its entry and those at its statements.
-fn add_units(
-    units: &mut Seq<Unit>,
+// Adds what there is for a body.
+fn add_body<T: Bare>(
+    list: &mut Seq<T>,
     alloc: Global,
     program: &Program,
     policy: Policy,
     number: u16,
     body: &Body,
 ) -> Result<(), Memory>
-    ensures { OnOk result
-        (units.new ≡ units.old ++ map bare_unit (body_starts program.now.stmts policy number body.now)) }
+    ensures { OnOk result (list.new
+        ≡ list.old
+        ++ map (T.bare program.now.bodies)
+        (of_body T.own T.at_stmt program.now.stmts policy number body.now)) }
 {
-    add_unit(units, alloc, Start::Entry(number))?;
-    add_starts_in(units, alloc, program, policy, body)
+    T::add_own(list, alloc, program, policy, number, body)?;
+    add_stmts(list, alloc, program, policy, body)
 }
 
-fn bare_units(alloc: Global, program: &Program, policy: Policy) -> Result<Seq<Unit>, Memory>
+fn all_bare<T: Bare>(alloc: Global, program: &Program, policy: Policy) -> Result<Seq<T>, Memory>
     requires { length program.now.bodies < 2 ^ 16 }
-    ensures { IfOk result (λ units. units ≡ map bare_unit (starts_by program.now.stmts policy program.now.bodies)) }
+    ensures { IfOk result
+        (λ list. list
+        ≡ map (T.bare program.now.bodies)
+        (each_from (of_body T.own T.at_stmt program.now.stmts policy) 0 program.now.bodies)) }
 {
-    let mut units = Seq::new(alloc);
+    let mut list = Seq::new(alloc);
     let bodies = program.bodies.as_slice();
     for number in 0..bodies.len() {
-        add_units(
-            &mut units,
+        add_body(
+            &mut list,
             alloc,
             program,
             policy,
@@ -218,7 +220,7 @@ fn bare_units(alloc: Global, program: &Program, policy: Policy) -> Result<Seq<Un
             &bodies[number],
         )?;
     }
-    Ok(units)
+    Ok(list)
 }
 
 impl Plan {
@@ -230,8 +232,8 @@ impl Plan {
         ensures bare { IfOk result (λ plan. plan ≡ bare program.now policy.now) }
         ensures valid { IfOk result (λ plan. IsValidPlan program.now plan) }
     {
-        let blocks = bare_blocks(alloc, program, *policy)?;
-        let units = bare_units(alloc, program, *policy)?;
+        let blocks = all_bare(alloc, program, *policy)?;
+        let units = all_bare(alloc, program, *policy)?;
         Ok(Plan {
             policy: *policy,
             blocks,

@@ -1,7 +1,7 @@
 ghost use Rattle.std.specs.Prelude.{◌≡◌, ◌↔◌, ◌<◌, ◌-◌, [], ◌∷◌, IsTrue, length, map, min, if◌then◌else◌};
 ghost use Rattle.std.specs.List.{flat_map};
 ghost use Rattle.ppd_ast.specs.Begins.{Begins};
-ghost use Rattle.ppd_ast.specs.Numbered.{is_while, is_call, is_left, numbers_of, in_while, inside_count, is_block_loop, has_call, is_block_body, body_kind, loops_of, loops_at, blocks_of, blocks_by, starts_at, body_starts, starts_by};
+ghost use Rattle.ppd_ast.specs.Numbered.{is_while, is_call, is_left, numbers_of, in_while, inside_count, is_block_loop, has_call, is_block_body, body_kind, loops_of, loops_at, starts_at, of_body, each_from};
 ghost use Rattle.ppd_ast.specs.Order.{inner, preorder};
 
 use crate::limits::MOST_NESTING;
@@ -125,6 +125,46 @@ pub(crate) fn is_block_body(stmts: &[Stmt], policy: Policy, body: &Body) -> bool
         || policy.leaf as u32 <= body.end.saturating_sub(body.first)
 }
 
+// What a policy numbers, body by body: the blocks, known by their kinds, and the units, known by their starts.
+pub(crate) trait Numbered: Sized {
+    ghost use Rattle.std.specs.Prelude.{ℕ, List};
+    ghost use Rattle.ppd_ast.specs.declared.program.Stmt.{Stmt};
+    ghost use Rattle.ppd_ast.specs.declared.program.Body.{Body};
+    ghost use Rattle.ppd_ast.specs.declared.plan.Policy.{Policy};
+
+    type Key;
+
+    ghost key: { Self → Self.Key };
+
+    // What there is at a statement.
+    ghost at_stmt: { List Stmt → Policy → ℕ → List Self.Key };
+
+    // What a body itself is.
+    ghost own: { List Stmt → Policy → ℕ → Body → List Self.Key };
+
+    // The place after what there is at the statement, where it stands in the list from this place on.
+    fn past_stmt(
+        list: &[Self],
+        place: usize,
+        stmts: &[Stmt],
+        policy: Policy,
+        number: u32,
+    ) -> Option<usize>
+        requires { number < length stmts.now }
+        ensures { Begins result (map key list.now) place (at_stmt stmts.now policy number) };
+
+    // The same of what the body itself is.
+    fn past_own(
+        list: &[Self],
+        place: usize,
+        stmts: &[Stmt],
+        policy: Policy,
+        number: usize,
+        body: &Body,
+    ) -> Option<usize>
+        ensures { Begins result (map key list.now) place (own stmts.now policy number body.now) };
+}
+
 fn start_at(units: &[Unit], place: usize, start: Start) -> Option<usize>
     ensures { Begins result (map (λ unit. unit.start) units.now) place (start ∷ []) }
 {
@@ -158,80 +198,44 @@ fn entry_at(units: &[Unit], place: usize, body: usize) -> Option<usize>
     }
 }
 
-fn starts_at_stmt(
-    units: &[Unit],
-    place: usize,
-    stmts: &[Stmt],
-    policy: Policy,
-    number: u32,
-) -> Option<usize>
-    requires { number < length stmts.now }
-    ensures { Begins result (map (λ unit. unit.start) units.now) place (starts_at stmts.now policy number) }
-{
-    let stmt = &stmts[number as usize];
-    if stmt.kind.is_left() {
-        return start_at(units, place, Start::After(number));
-    }
-    if !is_block_loop(stmts, policy, stmt) {
-        return Some(place);
-    }
-    let next = start_at(units, place, Start::Enter(number))?;
-    start_at(units, next, Start::Exit(number))
-}
+impl Numbered for Unit {
+    ghost use Rattle.ppd_ast.specs.declared.plan.Start.TheVariants.{Entry};
 
-fn starts_of_stmts(
-    units: &[Unit],
-    place: usize,
-    stmts: &[Stmt],
-    policy: Policy,
-    body: &Body,
-) -> Option<usize>
-    ensures { Begins result (map (λ unit. unit.start) units.now) place
-        (flat_map (starts_at stmts.now policy) (numbers_of stmts.now body.now)) }
-{
-    let mut next = place;
-    for number in body.first..end_of(stmts, body) {
-        next = starts_at_stmt(units, next, stmts, policy, number)?;
+    type Key = Start;
+
+    ghost key = { λ unit. unit.start };
+
+    ghost at_stmt = { starts_at };
+
+    ghost own = { λ stmts policy number body. Entry number ∷ [] };
+
+    fn past_stmt(
+        list: &[Unit],
+        place: usize,
+        stmts: &[Stmt],
+        policy: Policy,
+        number: u32,
+    ) -> Option<usize> {
+        let stmt = &stmts[number as usize];
+        if stmt.kind.is_left() {
+            return start_at(list, place, Start::After(number));
+        }
+        if !is_block_loop(stmts, policy, stmt) {
+            return Some(place);
+        }
+        let next = start_at(list, place, Start::Enter(number))?;
+        start_at(list, next, Start::Exit(number))
     }
-    Some(next)
-}
 
-fn starts_of_body(
-    units: &[Unit],
-    place: usize,
-    stmts: &[Stmt],
-    policy: Policy,
-    number: usize,
-    body: &Body,
-) -> Option<usize>
-    ensures { Begins result (map (λ unit. unit.start) units.now) place (body_starts stmts.now policy number body.now) }
-{
-    let next = entry_at(units, place, number)?;
-    starts_of_stmts(units, next, stmts, policy, body)
-}
-
-fn starts_of_bodies(
-    units: &[Unit],
-    stmts: &[Stmt],
-    policy: Policy,
-    bodies: &[Body],
-) -> Option<usize>
-    ensures { Begins result (map (λ unit. unit.start) units.now) 0 (starts_by stmts.now policy bodies.now) }
-{
-    let mut next = 0;
-    for number in 0..bodies.len() {
-        next = starts_of_body(units, next, stmts, policy, number, &bodies[number])?;
-    }
-    Some(next)
-}
-
-// Whether the units are those of the policy, in the order of their numbers.
-pub(crate) fn are_units(units: &[Unit], stmts: &[Stmt], policy: Policy, bodies: &[Body]) -> bool
-    ensures { IsTrue result ↔ (map (λ unit. unit.start) units.now ≡ starts_by stmts.now policy bodies.now) }
-{
-    match starts_of_bodies(units, stmts, policy, bodies) {
-        None => false,
-        Some(end) => units.len() <= end,
+    fn past_own(
+        list: &[Unit],
+        place: usize,
+        _stmts: &[Stmt],
+        _policy: Policy,
+        number: usize,
+        _body: &Body,
+    ) -> Option<usize> {
+        entry_at(list, place, number)
     }
 }
 
@@ -277,77 +281,102 @@ impl BlockKind {
     }
 }
 
-fn loops_at_stmt(
-    blocks: &[Block],
-    place: usize,
-    stmts: &[Stmt],
-    policy: Policy,
-    number: u32,
-) -> Option<usize>
-    requires { number < length stmts.now }
-    ensures { Begins result (map (λ block. block.kind) blocks.now) place (loops_at stmts.now policy number) }
-{
-    if !is_block_loop(stmts, policy, &stmts[number as usize]) {
-        return Some(place);
+impl Numbered for Block {
+    type Key = BlockKind;
+
+    ghost key = { λ block. block.kind };
+
+    ghost at_stmt = { loops_at };
+
+    ghost own = { λ stmts policy number body. if is_block_body stmts policy body then body_kind number body ∷ [] else [] };
+
+    fn past_stmt(
+        list: &[Block],
+        place: usize,
+        stmts: &[Stmt],
+        policy: Policy,
+        number: u32,
+    ) -> Option<usize> {
+        if !is_block_loop(stmts, policy, &stmts[number as usize]) {
+            return Some(place);
+        }
+        loop_at(list, place, number)
     }
-    loop_at(blocks, place, number)
+
+    fn past_own(
+        list: &[Block],
+        place: usize,
+        stmts: &[Stmt],
+        policy: Policy,
+        number: usize,
+        body: &Body,
+    ) -> Option<usize> {
+        if !is_block_body(stmts, policy, body) {
+            return Some(place);
+        }
+        body_at(list, place, number, body)
+    }
 }
 
-fn loops_of_stmts(
-    blocks: &[Block],
+fn past_stmts<T: Numbered>(
+    list: &[T],
     place: usize,
     stmts: &[Stmt],
     policy: Policy,
     body: &Body,
 ) -> Option<usize>
-    ensures { Begins result (map (λ block. block.kind) blocks.now) place
-        (flat_map (loops_at stmts.now policy) (numbers_of stmts.now body.now)) }
+    ensures { Begins result (map T.key list.now) place
+        (flat_map (T.at_stmt stmts.now policy) (numbers_of stmts.now body.now)) }
 {
     let mut next = place;
     for number in body.first..end_of(stmts, body) {
-        next = loops_at_stmt(blocks, next, stmts, policy, number)?;
+        next = T::past_stmt(list, next, stmts, policy, number)?;
     }
     Some(next)
 }
 
-fn blocks_of_body(
-    blocks: &[Block],
+fn past_body<T: Numbered>(
+    list: &[T],
     place: usize,
     stmts: &[Stmt],
     policy: Policy,
     number: usize,
     body: &Body,
 ) -> Option<usize>
-    ensures { Begins result (map (λ block. block.kind) blocks.now) place (blocks_of stmts.now policy number body.now) }
+    ensures { Begins result (map T.key list.now) place
+        (of_body T.own T.at_stmt stmts.now policy number body.now) }
 {
-    if !is_block_body(stmts, policy, body) {
-        return loops_of_stmts(blocks, place, stmts, policy, body);
-    }
-    let next = body_at(blocks, place, number, body)?;
-    loops_of_stmts(blocks, next, stmts, policy, body)
+    let next = T::past_own(list, place, stmts, policy, number, body)?;
+    past_stmts(list, next, stmts, policy, body)
 }
 
-fn blocks_of_bodies(
-    blocks: &[Block],
+fn past_bodies<T: Numbered>(
+    list: &[T],
     stmts: &[Stmt],
     policy: Policy,
     bodies: &[Body],
 ) -> Option<usize>
-    ensures { Begins result (map (λ block. block.kind) blocks.now) 0 (blocks_by stmts.now policy bodies.now) }
+    ensures { Begins result (map T.key list.now) 0
+        (each_from (of_body T.own T.at_stmt stmts.now policy) 0 bodies.now) }
 {
     let mut next = 0;
     for number in 0..bodies.len() {
-        next = blocks_of_body(blocks, next, stmts, policy, number, &bodies[number])?;
+        next = past_body(list, next, stmts, policy, number, &bodies[number])?;
     }
     Some(next)
 }
 
-// Whether the blocks are those of the policy, in the order of their numbers.
-pub(crate) fn are_blocks(blocks: &[Block], stmts: &[Stmt], policy: Policy, bodies: &[Body]) -> bool
-    ensures { IsTrue result ↔ (map (λ block. block.kind) blocks.now ≡ blocks_by stmts.now policy bodies.now) }
+// Whether these are all that the policy numbers, in the order of their numbers.
+pub(crate) fn are_numbered<T: Numbered>(
+    list: &[T],
+    stmts: &[Stmt],
+    policy: Policy,
+    bodies: &[Body],
+) -> bool
+    ensures { IsTrue result ↔ (map T.key list.now ≡ each_from (of_body T.own T.at_stmt stmts.now policy) 0 bodies.now) }
 {
-    match blocks_of_bodies(blocks, stmts, policy, bodies) {
+    match past_bodies(list, stmts, policy, bodies) {
         None => false,
-        Some(end) => blocks.len() <= end,
+        Some(end) => list.len() <= end,
     }
 }

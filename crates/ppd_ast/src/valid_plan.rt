@@ -4,7 +4,7 @@ ghost use Rattle.std.specs.List.Sorted.{IsStrictlyIncreasing};
 ghost use Rattle.ppd_ast.specs.ValidPlan.{AreCells, IsValidPolicy, IsFunctionBlock, IsProcessBlock, IsLoopBlock, IsBlockOf, IsValidBlock, IsValidPlan};
 
 use crate::limits::MOST_POLICY;
-use crate::numbered::{are_blocks, are_units};
+use crate::numbered::are_numbered;
 use crate::plan::{Block, BlockKind, Plan, Policy, Unit};
 use crate::program::{Body, Program, Stmt};
 
@@ -144,10 +144,10 @@ impl Plan {
         if !self.policy.is_valid() {
             return false;
         }
-        if !are_blocks(self.blocks.as_slice(), stmts, self.policy, bodies) {
+        if !are_numbered(self.blocks.as_slice(), stmts, self.policy, bodies) {
             return false;
         }
-        if !are_units(self.units.as_slice(), stmts, self.policy, bodies) {
+        if !are_numbered(self.units.as_slice(), stmts, self.policy, bodies) {
             return false;
         }
         if !are_valid_blocks(self.blocks.as_slice(), program) {

@@ -124,7 +124,7 @@ module _ (program : Program) (plan : Plan) where
         → IsBeside program used inside calls closer home depth outside (act program plan x a)
         (skipped program plan (values_at x (postlog_cells plan b)) r)
     loop_left r x a v t ts h running todo none n =
-        let mark : Todo = record h.head { entered = true } in
+        let mark : Todo = record h.came.head { entered = true } in
         let counts : 1 ≤ open_at program plan mark = omega arith in
         let held : Held program (Among
         (postlog_cells plan b)) statements mark h.base h.below h.within.has_called x.frames
@@ -134,19 +134,19 @@ module _ (program : Program) (plan : Plan) where
         (Among (postlog_cells plan b)) statements mark h.base h.below counts x.frames t ts =
         alone program plan (Among
         (postlog_cells plan b)) statements mark h.base h.below counts h.within.has_called x.frames t ts held none in
-        let is : x.todo ≡ t ∷ (h.later ++ outside) =
-        h.within.todo_is ∙ ap (λ ys. ys ++ (h.later ++ outside)) (todo ∙ ap (λ ys. t ∷ ys) one.rest) in
-        let l : HasLeftLoop x (act program plan x a) b v (h.later ++ outside) =
-        left_loop x a t (h.later ++ outside) b v running is n in
+        let is : x.todo ≡ t ∷ (h.came.later ++ outside) =
+        h.within.todo_is ∙ ap (λ ys. ys ++ (h.came.later ++ outside)) (todo ∙ ap (λ ys. t ∷ ys) one.rest) in
+        let l : HasLeftLoop x (act program plan x a) b v (h.came.later ++ outside) =
+        left_loop x a t (h.came.later ++ outside) b v running is n in
         let values : values_at x (postlog_cells plan b) ≡ map (cell_of one.frame.cells) (postlog_cells plan b) =
         ap (λ fs. map (cell_of (top_cells fs)) (postlog_cells plan b)) one.frames in
         let past : IsBeside program used inside calls closer home depth outside (act program plan x a)
         (skipped_by program plan (map (cell_of one.frame.cells) (postlog_cells plan b)) (Enter b u) r) =
-        loop_past program used inside calls closer home depth ends block_is outside plan b u h.head h.later h.base one.frame h.below h.before r (act program plan x a)
-        h.beside h.top h.head_is h.goes_on
-        (λ y. rests (h.base ∷ h.below) r.frames h.head h.later h.unentered h.goes_on y)
-        one.kept (l.frames ∙ one.frames) l.todo l.answers (l.status ∙ running ∙ sym h.running)
+        loop_past program used inside calls closer home depth ends block_is outside plan b u h.came.head h.came.later h.base one.frame h.below h.came.before r (act program plan x a)
+        h.came.beside h.top h.came.head_is h.came.goes_on
+        (λ y. rests (h.base ∷ h.below) r.frames h.came.head h.came.later h.came.unentered h.came.goes_on y)
+        one.kept (l.frames ∙ one.frames) l.todo l.answers (l.status ∙ running ∙ sym h.came.running)
         (l.budget ∙ h.budget) (l.below ∙ h.whole) (omega (arith, l.spent, h.spent)) in
         subst (λ y. IsBeside program used inside calls closer home depth outside (act program plan x a) y)
         (sym (ap (λ vs. skipped program plan vs r) values ∙ skipped_is program plan
-        (map (cell_of one.frame.cells) (postlog_cells plan b)) (Enter b u) r h.need_is)) past
+        (map (cell_of one.frame.cells) (postlog_cells plan b)) (Enter b u) r h.came.need_is)) past

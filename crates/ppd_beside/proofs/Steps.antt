@@ -1,5 +1,5 @@
 -- A step of the process and the same step of its replay keep them beside each other.
-use Rattle.std.proofs.Common.{◌≡◌, ℕ, ◌+◌, List, [], ◌∷◌, ◌++◌, true, false, Some, None, Ok, Err, refl, ap, sym, subst, ◌∙◌, arith}
+use Rattle.std.proofs.Common.{◌≡◌, ℕ, ◌+◌, List, [], ◌∷◌, ◌++◌, true, false, Some, None, Ok, Err, refl, ap, sym, subst, ◌∙◌, arith, Option}
 use Rattle.std.specs.Prelude.{nat_lt}
 use Rattle.std.proofs.lemmas.Bool.{cond-false, ltb-false, le-ltb, true≢false}
 use Rattle.ppd_ast.specs.declared.program.Program.{Program}
@@ -12,6 +12,7 @@ use Rattle.ppd_sem.specs.Asked.{Asked}
 use Rattle.ppd_sem.specs.declared.asking.Pause.TheVariants.{Wants, Traps}
 use Rattle.ppd_ast.specs.declared.status.Status.TheVariants as status
 use Rattle.ppd_ast.specs.Lookups.{kind_of}
+use Rattle.ppd_ast.specs.declared.status.Status.{Status}
 use Rattle.ppd_sem.specs.declared.proc.Need.{Need}
 use Rattle.ppd_sem.specs.declared.proc.Need.TheVariants.{Enter, Offer, Done, Trap, Budget, Stopped}
 use Rattle.ppd_sem.specs.Process.{act, act_at, act_by_need, act_by_asked, charged, cost, within_budget, need_of, need_by_status, need_of_running, need_of_head, offer_of, head_deed, top_cells, value_of}
@@ -27,6 +28,23 @@ use Rattle.ppd_beside.proofs.HeadNeeds.{deed_is, head_need}
 module _ (program : Program) (used inside : ℕ → Type 0) (calls : Type 0) (closer : Todo) (home : ℕ) (depth : ℕ)
     (ends : HasEnds program) (block : IsBlock program used inside calls) (outside : List Todo) where
   -- ---- the step
+
+  -- a status that both come to
+  ended_beside : (o : Option Status) (s r : Proc)
+      → IsBeside program used inside calls closer home depth outside s r
+      → IsBeside program used inside calls closer home depth outside (record s { status = o }) (record r { status = o })
+  ended_beside o s r b =
+      record {
+        todo = b.todo;
+        frames = b.frames;
+        whole = b.whole;
+        below = b.below;
+        count = b.count;
+        answers = b.answers;
+        status = refl;
+        budget = b.budget;
+        spent = b.spent;
+      }
 
   asked_beside : (a : Answer) (t : Todo) (ts : List Todo) (q : Asked Deed) (s r : Proc)
       → s.todo ≡ t ∷ (ts ++ outside) → r.todo ≡ t ∷ ts
@@ -61,18 +79,7 @@ module _ (program : Program) (used inside : ℕ → Type 0) (calls : Type 0) (cl
         budget = b.budget;
         spent = b.spent;
       }
-  asked_beside a t ts (Err (Traps x)) s r es er b h e k =
-      record {
-        todo = b.todo;
-        frames = b.frames;
-        whole = b.whole;
-        below = b.below;
-        count = b.count;
-        answers = b.answers;
-        status = refl;
-        budget = b.budget;
-        spent = b.spent;
-      }
+  asked_beside a t ts (Err (Traps x)) s r es er b h e k = ended_beside (Some (status.Trap x)) s r b
 
   charged_beside : (plan : Plan) (n : Need) (s r : Proc)
       → IsBeside program used inside calls closer home depth outside s r
@@ -99,33 +106,11 @@ module _ (program : Program) (used inside : ℕ → Type 0) (calls : Type 0) (cl
       → IsBeside program used inside calls closer home depth outside
       (act_by_need program plan a t (ts ++ outside) n s) (act_by_need program plan a t ts n r)
   need_beside plan a t ts Stopped s r es er b h k entering = b
-  need_beside plan a t ts Budget s r es er b h k entering =
-      record {
-        todo = b.todo;
-        frames = b.frames;
-        whole = b.whole;
-        below = b.below;
-        count = b.count;
-        answers = b.answers;
-        status = refl;
-        budget = b.budget;
-        spent = b.spent;
-      }
+  need_beside plan a t ts Budget s r es er b h k entering = ended_beside (Some status.Budget) s r b
   need_beside plan a t ts (Enter u v) s r es er b h k entering = absurd (true≢false entering)
   need_beside plan a t ts (Trap x) s r es er b h k entering =
       charged_beside plan (Trap x) (record s { status = Some (status.Trap x) })
-      (record r { status = Some (status.Trap x) })
-      (record {
-        todo = b.todo;
-        frames = b.frames;
-        whole = b.whole;
-        below = b.below;
-        count = b.count;
-        answers = b.answers;
-        status = refl;
-        budget = b.budget;
-        spent = b.spent;
-      })
+      (record r { status = Some (status.Trap x) }) (ended_beside (Some (status.Trap x)) s r b)
   need_beside plan a t ts (Offer c v) s r es er b h k entering =
       charged_beside plan (Offer c v)
       (record s { todo = record t { offered = true } ∷ (ts ++ outside); answers = [] })

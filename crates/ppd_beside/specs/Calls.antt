@@ -1,5 +1,5 @@
 -- A process that runs in a function that is a block, which it called beside its replay.
-use Rattle.std.specs.Prelude.{◌≡◌, ℕ, zero, suc, ◌+◌, ◌≤◌, ⊤, true, false, length, List, ◌∷◌, ◌++◌, Some, None, slice_get}
+use Rattle.std.specs.Prelude.{◌≡◌, ℕ, zero, suc, ◌+◌, ◌≤◌, ⊤, true, false, length, List, ◌++◌, Some, slice_get}
 use Rattle.ppd_ast.specs.declared.plan.BlockKind.TheVariants as block
 use Rattle.ppd_ast.specs.declared.plan.Plan.{Plan}
 use Rattle.ppd_ast.specs.declared.program.Program.{Program}
@@ -9,11 +9,12 @@ use Rattle.ppd_sem.specs.declared.proc.Need.TheVariants.{Invoke}
 use Rattle.ppd_sem.specs.declared.proc.Proc.{Proc}
 use Rattle.ppd_sem.specs.declared.proc.Todo.{Todo}
 use Rattle.ppd_sem.specs.Described.{ends_body}
-use Rattle.ppd_sem.specs.Process.{cost, need_of, todos}
+use Rattle.ppd_sem.specs.Process.{cost, todos}
 use Rattle.ppd_sem.specs.Tables.{block_of}
-use Rattle.ppd_beside.specs.Beside.{IsBeside, IsEnd, IsOwnTodo, past_body}
+use Rattle.ppd_beside.specs.Beside.{IsEnd, IsOwnTodo, past_body}
 use Rattle.ppd_beside.specs.Held.{IsIn, IsWritingBlock}
 use Rattle.ppd_beside.specs.Opens.{open_at, opens}
+use Rattle.ppd_beside.specs.Across.{HasCome}
 
 -- what is to do after the bodies of the first n frames
 abbrev pub past_all : Program → ℕ → List Todo → List Todo
@@ -34,28 +35,20 @@ pub record IsCallBlock (program : Program) (statements : ℕ → Type 0) : Type 
 pub record IsInCall (program : Program) (plan : Plan) (used inside : ℕ → Type 0) (calls : Type 0) (closer : Todo)
     (home : ℕ) (depth : ℕ) (outside : List Todo) (b u : ℕ) (statements : ℕ → Type 0) (r : Proc) (level : ℕ)
     (x : Proc) : Type 0 where
-  pub before : Proc
-  pub beside : IsBeside program used inside calls closer home depth outside before r
-  pub need_is : need_of program plan r ≡ Invoke (Some b) u
-  pub head : Todo
-  pub later : List Todo
-  pub head_is : r.todo ≡ head ∷ later
-  pub goes_on : ends_body (kind_of program head.stmt) ≡ false
-  pub unentered : head.entered ≡ false
+  pub came : HasCome program plan used inside calls closer home depth outside (Invoke (Some b) u) r
   pub base : Frame
-  pub call : base.call ≡ Some head.stmt
+  pub call : base.call ≡ Some came.head.stmt
   pub block_is : block_of plan (block.Function base.body) ≡ Some b
   pub last : Todo
   pub ends : ends_body (kind_of program last.stmt) ≡ true
   pub last_is : last.entered ≡ false
   pub counts : 1 ≤ open_at program plan last
-  pub within : IsIn program (λ c. ⊤) statements last base before.frames (later ++ outside) x
-  pub over : IsOver program (length before.frames) (later ++ outside) x
+  pub within : IsIn program (λ c. ⊤) statements last base came.before.frames (came.later ++ outside) x
+  pub over : IsOver program (length came.before.frames) (came.later ++ outside) x
   pub counted : opens program plan within.todo ≡ suc level
   pub whole : x.below ≡ 0
-  pub budget : x.budget ≡ before.budget
-  pub spent : before.spent + cost plan (Invoke (Some b) u) ≤ x.spent
-  pub running : before.status ≡ None
+  pub budget : x.budget ≡ came.before.budget
+  pub spent : came.before.spent + cost plan (Invoke (Some b) u) ≤ x.spent
 
 -- the body of a function that is a block: its statements, and last the one that closes it
 pub record IsCallBody (program : Program) (plan : Plan) (statements : ℕ → Type 0) (f : ℕ) : Type 0 where

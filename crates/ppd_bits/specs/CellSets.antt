@@ -2,6 +2,7 @@
 use Rattle.std.specs.Prelude.{ℕ, ◌<◌, IsTrue, ◌/◌, ◌%◌, nat_eq, Bool, List, get_or}
 use Rattle.std.specs.List.{list_any}
 use Rattle.std.specs.Int.{bit_at}
+use Rattle.ppd_ast.specs.declared.limits.TheConstants.{MOST_SHARED_CELLS}
 use Rattle.ppd_ast.specs.Members.{has, those, RisesFrom}
 
 -- whether some number is in both
@@ -20,4 +21,4 @@ is_held words cell = nat_eq (bit_at (get_or words (cell / 64) 0) (cell % 64)) 1
 
 -- the cells of 16 words
 unfoldable pub held : List ℕ → List ℕ
-held words = those 1024 (is_held words)
+held words = those MOST_SHARED_CELLS (is_held words)

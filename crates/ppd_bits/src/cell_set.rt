@@ -1,7 +1,9 @@
 ghost use Rattle.std.specs.Prelude.{◌≡◌, ◌<◌, ℕ, [], nat_eq, ◌||◌, IfOk};
+ghost use Rattle.ppd_ast.specs.declared.limits.TheConstants.{MOST_SHARED_CELLS};
 ghost use Rattle.ppd_ast.specs.Members.{has, those, with_cell};
 ghost use Rattle.ppd_bits.specs.CellSets.{meet, is_held, held, IsSetBelow};
 
+use ppd_ast::limits::MOST_SHARED_CELLS;
 use ppd_ast::{Cells, Memory};
 use std::alloc::Global;
 use std::marker::Model;
@@ -24,7 +26,7 @@ impl Model for CellSet {
 }
 
 fn is_held(words: &[u64; 16], cell: u16) -> bool
-    requires { cell < 1024 }
+    requires { cell < MOST_SHARED_CELLS }
     ensures { result ≡ is_held words.now cell }
 {
     (words[(cell / 64) as usize] >> (cell % 64)) & 1 == 1
@@ -34,7 +36,7 @@ fn cells_of(alloc: Global, words: &[u64; 16]) -> Result<Cells, Memory>
     ensures { IfOk result (λ cells. cells ≡ held words.now) }
 {
     let mut cells = Cells::new(alloc);
-    for cell in 0..1024 {
+    for cell in 0..MOST_SHARED_CELLS as u16 {
         if is_held(words, cell) {
             cells.push(cell)?;
         }
@@ -66,7 +68,7 @@ impl CellSet {
 
     /// Adds the cell, which is below 1,024.
     pub fn insert(&mut self, cell: u16)
-        requires { cell < 1024 }
+        requires { cell < MOST_SHARED_CELLS }
         ensures list { self.new ≡ with_cell cell self.old }
         ensures cells { (other : ℕ) → has self.new other ≡ (nat_eq cell other || has self.old other) }
     {
@@ -75,7 +77,7 @@ impl CellSet {
 
     /// Whether the cell, which is below 1,024, is in the set.
     pub fn contains(&self, cell: u16) -> bool
-        requires { cell < 1024 }
+        requires { cell < MOST_SHARED_CELLS }
         ensures { result ≡ has self.now cell }
     {
         is_held(&self.words, cell)
@@ -102,8 +104,8 @@ impl CellSet {
     /// The cells, rising, each once. `Memory` is want of memory.
     pub fn to_list(&self, alloc: Global) -> Result<Cells, Memory>
         ensures list { IfOk result (λ cells. cells ≡ self.now) }
-        ensures rising { IfOk result (λ cells. IsSetBelow 1024 cells) }
-        ensures whole { IfOk result (λ cells. cells ≡ those 1024 (has self.now)) }
+        ensures rising { IfOk result (λ cells. IsSetBelow MOST_SHARED_CELLS cells) }
+        ensures whole { IfOk result (λ cells. cells ≡ those MOST_SHARED_CELLS (has self.now)) }
     {
         let cells = cells_of(alloc, &self.words)?;
         Ok(cells)

@@ -7,6 +7,7 @@ ghost use Rattle.ppd_sets.specs.SetsOf.{AreSetsOf};
 ghost use Rattle.ppd_sets.specs.Used.{loop_used_of, loop_defined_of, sorted};
 ghost use Rattle.ppd_blocks.specs.Blocks.{params_of, prelog_of, postlog_of, filled, loop_in};
 
+use ppd_ast::limits::MOST_SHARED_CELLS;
 use ppd_ast::{Block, BlockKind, Cells, Ids, Memory, Program, Seq};
 use ppd_bits::CellSet;
 use ppd_sets::VarSets;
@@ -83,7 +84,7 @@ fn loop_defined<'a>(program: &'a Program, sets: &'a VarSets, stmt: u32) -> &'a [
 fn add_cell(set: &mut CellSet, cell: u16)
     ensures { Gains set.old set.new (cell ∷ []) }
 {
-    if cell >= 1024 {
+    if cell as usize >= MOST_SHARED_CELLS {
         return;
     }
     set.insert(cell);

@@ -9,15 +9,15 @@ use Rattle.ppd_lex.proofs.FormedTokens.{formed}
 use Rattle.ppd_parse.specs.Grammar.{Shape}
 use Rattle.ppd_parse.specs.Limits.{IsTree}
 use Rattle.ppd_resolve.specs.Names.{Scope}
-use Rattle.ppd_check.specs.Read.{IsParsed, IsRead}
+use Rattle.ppd_check.specs.Read.{IsTreeOf, IsRead}
 use Rattle.ppd_resolve.specs.Reading.{source_of}
 use Rattle.ppd_lower.specs.Sources.{heads, head_frame, head_code, vars, core, Accepted}
 use Rattle.ppd_resolve.specs.Globals.{Head, globals}
-use Rattle.ppd_check.proofs.CoreValid.{core_valid}
-use Rattle.ppd_check.proofs.NamedAccepted.{IsNamedHead, accepted_heads, accepted_counted, accepted_cells}
-use Rattle.ppd_check.proofs.ValidFacts.{HeadNames, SourceNames}
-use Rattle.ppd_check.proofs.ValidLimits.{tree_fits}
-use Rattle.ppd_check.proofs.ValidNames.{code_names}
+use Rattle.ppd_check.proofs.Valid.Core.{core_valid}
+use Rattle.ppd_check.proofs.Named.Accepted.{IsNamedHead, accepted_heads, accepted_counted, accepted_cells}
+use Rattle.ppd_check.proofs.Valid.Facts.{HeadNames, SourceNames}
+use Rattle.ppd_check.proofs.Valid.Limits.{tree_fits}
+use Rattle.ppd_check.proofs.Valid.Names.{code_names}
 
 head_named : (p : Program) (scope : Scope) (h : Head) → IsNamedHead p scope h → HeadNames p scope h
 head_named p scope h n = record {
@@ -40,11 +40,11 @@ source_names ts t tree a = record {
 }
 
 -- the law
-pub accepted_valid : (bytes : List ℕ) (t : Shape) → IsParsed bytes t → Accepted t → IsValid (core t)
+pub accepted_valid : (bytes : List ℕ) (t : Shape) → IsTreeOf bytes t → Accepted t → IsValid (core t)
 accepted_valid bytes t p a =
     core_valid t a (source_names p.tokens t p.parsed a) (tree_fits (length bytes) p.tokens t (formed bytes p.tokens p.lexed) p.parsed)
 
-pub table_valid : (t : Shape) (p : Program) → Accepted t × (p ≡ core t) → (bytes : List ℕ) → IsParsed bytes t → IsValid p
+pub table_valid : (t : Shape) (p : Program) → Accepted t × (p ≡ core t) → (bytes : List ℕ) → IsTreeOf bytes t → IsValid p
 table_valid t p a = λ bytes parsed. subst IsValid (sym a.1) (accepted_valid bytes t parsed a.0)
 
 pub read_valid : (bytes : List ℕ) (p : Program) → IsRead bytes p → IsValid p

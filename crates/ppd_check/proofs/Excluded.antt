@@ -15,7 +15,7 @@ use Rattle.ppd_check.specs.declared.error.SourceError.{SourceError}
 use Rattle.ppd_check.specs.declared.error.SourceError.TheVariants as S
 use Rattle.ppd_resolve.specs.declared.fault.Fault.{Fault}
 use Rattle.ppd_resolve.specs.Faults.{first}
-use Rattle.ppd_check.specs.Read.{IsParsed, IsRead, IsRefused}
+use Rattle.ppd_check.specs.Read.{IsTreeOf, IsRead, IsRefused}
 use Rattle.ppd_lower.specs.Sources.{Accepted, core, faults, first_fault}
 
 abbrev head_or : Shape → List Shape → Shape
@@ -23,7 +23,7 @@ head_or t [] = t
 head_or t (u ∷ us) = u
 
 -- bytes have one tree
-tree_unique : (bytes : List ℕ) (t u : Shape) → IsParsed bytes t → IsParsed bytes u → u ≡ t
+tree_unique : (bytes : List ℕ) (t u : Shape) → IsTreeOf bytes t → IsTreeOf bytes u → u ≡ t
 tree_unique bytes t u h k =
     let same : k.tokens ≡ h.tokens = tokens_unique bytes k.tokens h.tokens k.lexed h.lexed in
     let both : (u ∷ []) ≡ (t ∷ []) = (h.parsed.only k.parsed.marked (u ∷ []) k.parsed.program (k.parsed.tokens ∙ same)).1 in

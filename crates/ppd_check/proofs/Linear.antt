@@ -16,7 +16,7 @@ use Rattle.ppd_parse.proofs.FromLanguage.{program_parsed}
 use Rattle.ppd_parse.proofs.Sizes.{program_size}
 use Rattle.ppd_resolve.specs.declared.frame.Frame.{Frame}
 use Rattle.ppd_resolve.specs.Names.{Scope}
-use Rattle.ppd_check.specs.Read.{IsParsed}
+use Rattle.ppd_check.specs.Read.{IsTreeOf}
 use Rattle.ppd_resolve.specs.Reading.{source_of}
 use Rattle.ppd_resolve.specs.Fitted.{as_short}
 use Rattle.ppd_lower.specs.Statements.{row_code}
@@ -25,13 +25,13 @@ use Rattle.ppd_resolve.specs.Syntax.{Item, shared, shared_array, semaphore, chan
 use Rattle.ppd_lower.specs.Table.{terms}
 use Rattle.ppd_lower.specs.Sources.{outer, entry, ends_with_return, close_code, head_code, head_frame, heads, codes, core, Accepted}
 use Rattle.ppd_resolve.specs.Globals.{Head, Globals, no_globals, with_item, with_items, globals, sem, chan}
-use Rattle.ppd_lower.proofs.Filling.{params_count}
-use Rattle.ppd_lower.proofs.Writing.{length_flats}
+use Rattle.ppd_lower.proofs.Functions.Filling.{params_count}
+use Rattle.ppd_lower.proofs.Table.Writing.{length_flats}
 use Rattle.ppd_lower.specs.Elements.{elements_of}
 use Rattle.ppd_check.proofs.LinearNodes.{tree_within}
-use Rattle.ppd_lower.proofs.LinearTable.{load, length_vars, heads_load, heads_hold}
-use Rattle.ppd_lower.proofs.LinearRows.{row_size, load_join, row_load}
-use Rattle.ppd_lower.proofs.LinearSaid.{item_size, items_size, items_few}
+use Rattle.ppd_lower.proofs.Costs.Tables.{load, length_vars, heads_load, heads_hold}
+use Rattle.ppd_lower.proofs.Costs.Rows.{row_size, load_join, row_load}
+use Rattle.ppd_lower.proofs.Costs.Phrases.{item_size, items_size, items_few}
 
 -- Functions and processes.
 
@@ -125,5 +125,5 @@ tokens_few : (len : ℕ) (ts : List Token) → AreFormed len ts → length ts �
 tokens_few len [] formed = omega arith
 tokens_few len (t ∷ ts) formed = omega (arith, tokens_from 0 len t ts formed.each formed.rise)
 
-pub parsed_few : (bytes : List ℕ) (t : Shape) → IsParsed bytes t → size_of (t ∷ []) ≤ 3 * (length bytes + 1)
+pub parsed_few : (bytes : List ℕ) (t : Shape) → IsTreeOf bytes t → size_of (t ∷ []) ≤ 3 * (length bytes + 1)
 parsed_few bytes t p = omega (arith, tree_few p.tokens t p.parsed, tokens_few (length bytes) p.tokens (formed bytes p.tokens p.lexed))

@@ -19,7 +19,7 @@ use Rattle.ppd_lower.specs.Sources.{Accepted, core}
 use Rattle.ppd_check.specs.Refused as Checking
 
 -- the bytes have tokens, and these have this tree
-pub record IsParsed (bytes : List ℕ) (tree : Shape) : Type 0 where
+pub record IsTreeOf (bytes : List ℕ) (tree : Shape) : Type 0 where
   pub tokens : List Token
   pub lexed : IsTokens bytes tokens
   pub parsed : IsTree tokens (tree ∷ [])
@@ -27,7 +27,7 @@ pub record IsParsed (bytes : List ℕ) (tree : Shape) : Type 0 where
 -- the bytes have a tree that breaks no rule, and this is its table
 pub record IsRead (bytes : List ℕ) (p : Program) : Type 0 where
   pub tree : Shape
-  pub parsed : IsParsed bytes tree
+  pub parsed : IsTreeOf bytes tree
   pub accepted : Accepted tree
   pub table : p ≡ core tree
 
@@ -40,7 +40,7 @@ IsRefused bytes (S.Lex e) = Lexing.IsRefused bytes e
 IsRefused bytes (S.Syntax Y.Memory) = ⊥
 IsRefused bytes (S.Syntax e) = (tokens : List Token) × IsTokens bytes tokens × Parsing.IsRefused tokens e
 IsRefused bytes (S.Check C.Memory) = ⊥
-IsRefused bytes (S.Check e) = (tree : Shape) × IsParsed bytes tree × Checking.IsRefused tree e
+IsRefused bytes (S.Check e) = (tree : Shape) × IsTreeOf bytes tree × Checking.IsRefused tree e
 IsRefused bytes S.Memory = Unit {0}
 
 -- what the error of one part is for the whole

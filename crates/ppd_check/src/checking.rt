@@ -1,12 +1,10 @@
 // The table of a tree, or the first rule that its source breaks.
-ghost use Rattle.std.specs.Prelude.{◌≡◌, ◌<◌, ◌≤◌, ◌*◌, ℕ, List, true, false, [], ◌∷◌, ◌++◌, length, Some, IfOk, IfErr, map, ◌+◌};
-ghost use Rattle.ppd_ast.specs.Valid.{IsValid};
-ghost use Rattle.ppd_check.specs.Read.{IsParsed};
+ghost use Rattle.std.specs.Prelude.{◌≡◌, ◌<◌, ◌≤◌, ◌*◌, true, false, [], ◌∷◌, ◌++◌, length, Some, IfOk, map, ◌+◌};
+ghost use Rattle.ppd_check.specs.Answer.{IsCheckOf};
 ghost use Rattle.std.specs.List.{All};
 ghost use Rattle.ppd_parse.specs.Grammar.{Shape};
 ghost use Rattle.ppd_parse.specs.Tree.{tree_of, IsTable};
 ghost use Rattle.ppd_lower.specs.Bodies.{WroteHeads};
-ghost use Rattle.ppd_lower.specs.Elements.{elements_of};
 ghost use Rattle.ppd_resolve.specs.Holding.{head_at, IsHeadAt};
 ghost use Rattle.ppd_resolve.specs.Names.{innermost};
 ghost use Rattle.ppd_lower.specs.Sources.{Accepted, core, first_fault};
@@ -141,10 +139,7 @@ pub fn check_in<L: Ledger>(
     steps: &mut Steps<L>,
 ) -> Result<Program, CheckError>
     requires table { IsTable tree.now.nodes }
-    ensures core { IfOk result (λ p. Accepted (tree_of tree.now.nodes) × (p ≡ core (tree_of tree.now.nodes))) }
-    ensures valid { IfOk result (λ p. (bytes : List ℕ) → IsParsed bytes (tree_of tree.now.nodes) → IsValid p) }
-    ensures few { IfOk result (λ p. elements_of p ≤ 9 * length tree.now.nodes) }
-    ensures refused { IfErr result (λ e. IsRefused (tree_of tree.now.nodes) e) }
+    ensures check { IsCheckOf tree.now.nodes result }
     ensures cost { steps.new ≤ steps.old + 150 * length tree.now.nodes + 2048 }
 {
     let source = Source {
@@ -163,10 +158,7 @@ fn check_from<L: Ledger>(alloc: Global, tree: &Tree, blank: Blank) -> Result<Pro
     requires parts { blank.parts ≡ L.parts }
     requires some { 0 < blank.parts }
     requires table { IsTable tree.now.nodes }
-    ensures core { IfOk result (λ p. Accepted (tree_of tree.now.nodes) × (p ≡ core (tree_of tree.now.nodes))) }
-    ensures valid { IfOk result (λ p. (bytes : List ℕ) → IsParsed bytes (tree_of tree.now.nodes) → IsValid p) }
-    ensures few { IfOk result (λ p. elements_of p ≤ 9 * length tree.now.nodes) }
-    ensures refused { IfErr result (λ e. IsRefused (tree_of tree.now.nodes) e) }
+    ensures { IsCheckOf tree.now.nodes result }
 {
     let mut steps: Steps<L> = Steps::new(blank);
     check_in(alloc, tree, &mut steps)
@@ -182,10 +174,7 @@ fn check_from<L: Ledger>(alloc: Global, tree: &Tree, blank: Blank) -> Result<Pro
 /// of memory.
 pub fn check(alloc: Global, tree: &Tree) -> Result<Program, CheckError>
     requires table { IsTable tree.now.nodes }
-    ensures core { IfOk result (λ p. Accepted (tree_of tree.now.nodes) × (p ≡ core (tree_of tree.now.nodes))) }
-    ensures valid { IfOk result (λ p. (bytes : List ℕ) → IsParsed bytes (tree_of tree.now.nodes) → IsValid p) }
-    ensures few { IfOk result (λ p. elements_of p ≤ 9 * length tree.now.nodes) }
-    ensures refused { IfErr result (λ e. IsRefused (tree_of tree.now.nodes) e) }
+    ensures { IsCheckOf tree.now.nodes result }
 {
     check_from::<Brand>(alloc, tree, Blank::new(1))
 }

@@ -1,7 +1,7 @@
 // The tree of a source.
 ghost use Rattle.std.specs.Prelude.{◌≡◌, ◌≤◌, ◌*◌, ◌^◌, length, IfOk, IfErr};
 ghost use Rattle.ppd_parse.specs.Tree.{tree_of, IsTable};
-ghost use Rattle.ppd_check.specs.Read.{IsParsed, IsRefused, by_lex, by_parse};
+ghost use Rattle.ppd_check.specs.Read.{IsTreeOf, IsRefused, by_lex, by_parse};
 
 use crate::error::SourceError;
 use ppd_lex::{LexError, lex};
@@ -32,7 +32,7 @@ impl From<SyntaxError> for SourceError {
 
 // The tree of a source's bytes, or why it has none.
 pub fn read_tree(alloc: Global, bytes: &[u8]) -> Result<Tree, SourceError>
-    ensures parsed { IfOk result (λ tree. IsParsed bytes.now (tree_of tree.nodes)) }
+    ensures parsed { IfOk result (λ tree. IsTreeOf bytes.now (tree_of tree.nodes)) }
     ensures table { IfOk result (λ tree. IsTable tree.nodes) }
     ensures few { IfOk result (λ tree. length tree.nodes ≤ 3 * 2 ^ 30) }
     ensures refused { IfErr result (λ error. IsRefused bytes.now error) }

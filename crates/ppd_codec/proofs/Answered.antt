@@ -1,5 +1,5 @@
 -- What decoding answers, by the parts of reading.
-use Rattle.std.specs.Prelude.{nat_eq, nat_le}
+use Rattle.std.specs.Prelude.{IsErrAnd, nat_eq, nat_le}
 use Rattle.std.proofs.Common.{◌≡◌, ◌≢◌, ℕ, suc, ◌+◌, ◌<◌, ◌≤◌, List, [], ◌∷◌, ◌++◌, length, get_or, Bool, true, false, cond, Result, Ok, Err, refl, ap, sym, ◌∙◌, subst, arith}
 use Rattle.std.proofs.lemmas.Bool.Decides.{nat_tests}
 use Rattle.std.proofs.lemmas.List.{append-nil}
@@ -15,6 +15,7 @@ use Rattle.ppd_codec.specs.declared.bad.BadBytes.TheVariants as bad
 use Rattle.ppd_codec.specs.declared.recording.Header.{Header}
 use Rattle.ppd_codec.specs.declared.recording.Recording.{Recording}
 use Rattle.ppd_blocks.specs.Blocks.{plan_of}
+use Rattle.ppd_codec.specs.Answer.{IsDecodingOf}
 use Rattle.ppd_codec.specs.Came.{Came}
 use Rattle.ppd_codec.specs.Form.{Form}
 use Rattle.ppd_codec.specs.Format.{Front, back, front, recording}
@@ -175,3 +176,13 @@ made_decoded bytes v header s now rest p lists r short b came is n m =
 -- what was decoded can be encoded again
 pub lawful_again : (bytes : List ℕ) (r : Recording) → IsDecoded bytes r → AreLawful r.source r.header r.logs
 lawful_again bytes r d = (r.program, d.lawful)
+
+-- ---- errors
+
+pub is_refused : (bytes : List ℕ) (e : BadBytes) → (e ≢ bad.Memory → IsBad bytes e) → (e ≡ bad.Memory → IsPastFront bytes) → IsDecodingOf bytes (Err e)
+is_refused bytes e is past = record { ok = tt; again = tt; valid = tt; plan = tt; err = is; early = past }
+
+-- what a `?` hands on, where the error is the same
+pub handed_on : (bytes : List ℕ) (r : Result Recording BadBytes) (e : BadBytes) → IsErrAnd r (λ y. y ≡ e) → IsDecodingOf bytes (Err e) → IsDecodingOf bytes r
+handed_on bytes (Ok y) e h d = absurd h
+handed_on bytes (Err y) e h d = subst (λ (x : BadBytes). IsDecodingOf bytes (Err x)) (sym h) d

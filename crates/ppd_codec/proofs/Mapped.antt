@@ -1,6 +1,5 @@
 -- What holds of a result's value, by what else holds of it.
-use Rattle.std.specs.Prelude.{IsErrAnd}
-use Rattle.std.proofs.Common.{◌≡◌, Result, Ok, Err, IfErr, IfOk, sym, subst}
+use Rattle.std.proofs.Common.{Result, Ok, Err, IfErr, IfOk}
 
 pub map_ok : {T E : Type 0} (r : Result T E) {P Q : T → Type 0} → ((x : T) → P x → Q x) → IfOk r P → IfOk r Q
 map_ok (Ok x) h p = h x p
@@ -9,8 +8,3 @@ map_ok (Err e) h p = tt
 pub map_err : {T E : Type 0} (r : Result T E) {P Q : E → Type 0} → ((e : E) → P e → Q e) → IfErr r P → IfErr r Q
 map_err (Ok x) h p = tt
 map_err (Err e) h p = h e p
-
--- what a `?` hands on, where the error is the same
-pub handed_on : {T E : Type 0} (r : Result T E) (x : E) (Q : E → Type 0) → IsErrAnd r (λ y. y ≡ x) → Q x → IfErr r Q
-handed_on (Ok y) x Q h q = tt
-handed_on (Err y) x Q h q = subst Q (sym h) q

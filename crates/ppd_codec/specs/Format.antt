@@ -38,11 +38,15 @@ version = ranged bad.Version (within 1 2) byte
 abbrev pub budget : Form ℕ
 budget = ranged (out_of F.Budget) (within 1 MOST_BUDGET) number_4
 
+-- a number of the policy
+abbrev pub policy_number : Field → Form ℕ
+policy_number f = ranged (out_of f) (within 0 MOST_POLICY) number_2
+
 abbrev pub leaf : Form ℕ
-leaf = ranged (out_of F.Leaf) (within 0 MOST_POLICY) number_2
+leaf = policy_number F.Leaf
 
 abbrev pub loops : Form ℕ
-loops = ranged (out_of F.Loops) (within 0 MOST_POLICY) number_2
+loops = policy_number F.Loops
 
 abbrev pub source_length : Form ℕ
 source_length = ranged (out_of F.Source) (within 0 MOST_SOURCE_BYTES) number_4

@@ -5,4 +5,5 @@ pub mod Format
 pub mod Came
 pub mod Counted
 pub mod Recordings
+pub mod Answer
 pub mod Laws

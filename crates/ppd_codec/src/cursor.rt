@@ -1,6 +1,6 @@
-ghost use Rattle.std.specs.Prelude.{◌≡◌, ◌≢◌, ◌+◌, ◌<◌, ◌≤◌, ◌^◌, length, IfErr, IfOk, FitsSigned};
+ghost use Rattle.std.specs.Prelude.{◌≢◌, ◌+◌, ◌<◌, ◌≤◌, ◌^◌, length, IfErr, IfOk, FitsSigned};
 ghost use Rattle.std.specs.Int.{w64};
-ghost use Rattle.ppd_codec.specs.Came.{Came, Refuses};
+ghost use Rattle.ppd_codec.specs.Came.{AnswersAs, Came, Refuses};
 ghost use Rattle.ppd_codec.specs.Form.{byte as byte_form, number_2 as number_2_form, number_4 as number_4_form, value as value_form};
 ghost use Rattle.ppd_codec.specs.Reader.{field};
 
@@ -40,11 +40,8 @@ impl<'a> Cursor<'a> {
 
     pub fn byte<L: Ledger>(&mut self, steps: &mut Steps<L>) -> Result<u8, BadBytes>
         requires { self.old.at + length self.old.rest.now < 2 ^ 32 }
-        ensures ok { IfOk result (Came byte_form.read self.old.at self.old.rest.now self.new.at self.new.rest.now) }
-        ensures err { IfErr result (Refuses byte_form.read self.old.at self.old.rest.now) }
+        ensures read { AnswersAs byte_form.read self.old self.new steps.old steps.new result }
         ensures early { IfErr result (λ e. e ≢ BadBytes.Memory) }
-        ensures within { self.new.at + length self.new.rest.now ≤ self.old.at + length self.old.rest.now }
-        ensures cost { steps.new + length self.new.rest.now ≤ steps.old + length self.old.rest.now }
     {
         let bytes = self.take::<1, L>(steps)?;
         Ok(bytes[0])
@@ -52,11 +49,8 @@ impl<'a> Cursor<'a> {
 
     pub fn number_2<L: Ledger>(&mut self, steps: &mut Steps<L>) -> Result<u16, BadBytes>
         requires { self.old.at + length self.old.rest.now < 2 ^ 32 }
-        ensures ok { IfOk result (Came number_2_form.read self.old.at self.old.rest.now self.new.at self.new.rest.now) }
-        ensures err { IfErr result (Refuses number_2_form.read self.old.at self.old.rest.now) }
+        ensures read { AnswersAs number_2_form.read self.old self.new steps.old steps.new result }
         ensures early { IfErr result (λ e. e ≢ BadBytes.Memory) }
-        ensures within { self.new.at + length self.new.rest.now ≤ self.old.at + length self.old.rest.now }
-        ensures cost { steps.new + length self.new.rest.now ≤ steps.old + length self.old.rest.now }
     {
         let bytes = self.take::<2, L>(steps)?;
         Ok(u16::from_be_bytes(bytes))
@@ -64,11 +58,8 @@ impl<'a> Cursor<'a> {
 
     pub fn number_4<L: Ledger>(&mut self, steps: &mut Steps<L>) -> Result<u32, BadBytes>
         requires { self.old.at + length self.old.rest.now < 2 ^ 32 }
-        ensures ok { IfOk result (Came number_4_form.read self.old.at self.old.rest.now self.new.at self.new.rest.now) }
-        ensures err { IfErr result (Refuses number_4_form.read self.old.at self.old.rest.now) }
+        ensures read { AnswersAs number_4_form.read self.old self.new steps.old steps.new result }
         ensures early { IfErr result (λ e. e ≢ BadBytes.Memory) }
-        ensures within { self.new.at + length self.new.rest.now ≤ self.old.at + length self.old.rest.now }
-        ensures cost { steps.new + length self.new.rest.now ≤ steps.old + length self.old.rest.now }
     {
         let bytes = self.take::<4, L>(steps)?;
         Ok(u32::from_be_bytes(bytes))
@@ -76,11 +67,8 @@ impl<'a> Cursor<'a> {
 
     pub fn value<L: Ledger>(&mut self, steps: &mut Steps<L>) -> Result<i64, BadBytes>
         requires { self.old.at + length self.old.rest.now < 2 ^ 32 }
-        ensures ok { IfOk result (Came value_form.read self.old.at self.old.rest.now self.new.at self.new.rest.now) }
+        ensures read { AnswersAs value_form.read self.old self.new steps.old steps.new result }
         ensures fits { IfOk result (FitsSigned w64) }
-        ensures err { IfErr result (Refuses value_form.read self.old.at self.old.rest.now) }
-        ensures within { self.new.at + length self.new.rest.now ≤ self.old.at + length self.old.rest.now }
-        ensures cost { steps.new + length self.new.rest.now ≤ steps.old + length self.old.rest.now }
     {
         let bytes = self.take::<8, L>(steps)?;
         Ok(i64::from_be_bytes(bytes))

@@ -1,9 +1,10 @@
 ghost use Rattle.std.specs.Prelude.{◌≡◌, ◌≢◌, ◌+◌, ◌<◌, ◌≤◌, ◌^◌, length, Ok, Err, IfErr, IfOk};
 ghost use Rattle.ppd_ast.specs.Valid.{IsValid};
 ghost use Rattle.ppd_ast.specs.ValidPlan.{IsValidPlan, IsValidPolicy};
-ghost use Rattle.ppd_codec.specs.Came.{Came, Refuses};
+ghost use Rattle.ppd_codec.specs.Answer.{IsDecodingOf};
+ghost use Rattle.ppd_codec.specs.Came.{AnswersAs};
 ghost use Rattle.ppd_codec.specs.Format.{back as back_form};
-ghost use Rattle.ppd_codec.specs.Recordings.{AreLawful, IsBad, IsDecoded, IsMade, IsPastFront, nothing_left, refusal as refusal_of};
+ghost use Rattle.ppd_codec.specs.Recordings.{IsMade, nothing_left, refusal as refusal_of};
 
 use crate::bad::{BadBytes, Field};
 use crate::cursor::Cursor;
@@ -38,11 +39,7 @@ impl<'a> Cursor<'a> {
         steps: &mut Steps<L>,
     ) -> Result<Seq<Seq<Entry>>, BadBytes>
         requires { self.old.at + length self.old.rest.now < 2 ^ 32 }
-        ensures ok { IfOk result
-            (Came (back_form version facts).read self.old.at self.old.rest.now self.new.at self.new.rest.now) }
-        ensures err { IfErr result (Refuses (back_form version facts).read self.old.at self.old.rest.now) }
-        ensures within { self.new.at + length self.new.rest.now ≤ self.old.at + length self.old.rest.now }
-        ensures cost { steps.new + length self.new.rest.now ≤ steps.old + length self.old.rest.now }
+        ensures { AnswersAs (back_form version facts).read self.old self.new steps.old steps.new result }
     {
         if version == facts.version {
             return self.logs(alloc, facts, steps);
@@ -109,12 +106,7 @@ pub fn decode_in<L: Ledger>(
     bytes: &[u8],
     steps: &mut Steps<L>,
 ) -> Result<Recording, BadBytes>
-    ensures ok { IfOk result (IsDecoded bytes.now) }
-    ensures again { IfOk result (λ r. AreLawful r.source r.header r.logs) }
-    ensures valid { IfOk result (λ r. IsValid r.program) }
-    ensures plan { IfOk result (λ r. IsValidPlan r.program r.plan) }
-    ensures err { IfErr result (λ e. e ≢ BadBytes.Memory → IsBad bytes.now e) }
-    ensures early { IfErr result (λ e. e ≡ BadBytes.Memory → IsPastFront bytes.now) }
+    ensures decoding { IsDecodingOf bytes.now result }
     ensures cost { steps.new ≤ steps.old + length bytes.now }
 {
     if bytes.len() > MOST_RECORDING_BYTES {
@@ -136,12 +128,7 @@ fn decode_from<L: Ledger>(alloc: Global, bytes: &[u8], blank: Blank) -> Result<R
     requires name { blank.name ≡ L.name }
     requires parts { blank.parts ≡ L.parts }
     requires some { 0 < blank.parts }
-    ensures ok { IfOk result (IsDecoded bytes.now) }
-    ensures again { IfOk result (λ r. AreLawful r.source r.header r.logs) }
-    ensures valid { IfOk result (λ r. IsValid r.program) }
-    ensures plan { IfOk result (λ r. IsValidPlan r.program r.plan) }
-    ensures err { IfErr result (λ e. e ≢ BadBytes.Memory → IsBad bytes.now e) }
-    ensures early { IfErr result (λ e. e ≡ BadBytes.Memory → IsPastFront bytes.now) }
+    ensures { IsDecodingOf bytes.now result }
 {
     let mut steps: Steps<L> = Steps::new(blank);
     decode_in(alloc, bytes, &mut steps)
@@ -156,12 +143,7 @@ fn decode_from<L: Ledger>(alloc: Global, bytes: &[u8], blank: Blank) -> Result<R
 /// last. `Memory` is want of memory, which nothing before the source takes: it comes only where no test up to the
 /// source's bytes fails.
 pub fn decode(alloc: Global, bytes: &[u8]) -> Result<Recording, BadBytes>
-    ensures ok { IfOk result (IsDecoded bytes.now) }
-    ensures again { IfOk result (λ r. AreLawful r.source r.header r.logs) }
-    ensures valid { IfOk result (λ r. IsValid r.program) }
-    ensures plan { IfOk result (λ r. IsValidPlan r.program r.plan) }
-    ensures err { IfErr result (λ e. e ≢ BadBytes.Memory → IsBad bytes.now e) }
-    ensures early { IfErr result (λ e. e ≡ BadBytes.Memory → IsPastFront bytes.now) }
+    ensures { IsDecodingOf bytes.now result }
 {
     decode_from::<Brand>(alloc, bytes, Blank::new(1))
 }

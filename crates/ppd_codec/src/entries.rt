@@ -1,5 +1,5 @@
-ghost use Rattle.std.specs.Prelude.{◌≡◌, ◌+◌, ◌<◌, ◌≤◌, ◌^◌, ◌++◌, ◌∷◌, [], length, IfErr, IfOk, OnOk};
-ghost use Rattle.ppd_codec.specs.Came.{Came, Refuses};
+ghost use Rattle.std.specs.Prelude.{◌+◌, ◌<◌, ◌^◌, length};
+ghost use Rattle.ppd_codec.specs.Came.{AnswersAs};
 ghost use Rattle.ppd_codec.specs.Format.{numbered as numbered_form, synced as synced_form, ended as ended_form, an_entry, log as log_form, logs as logs_form, row, sync_of, end_entry_of};
 
 use crate::bad::BadBytes;
@@ -20,10 +20,7 @@ impl<'a> Cursor<'a> {
         steps: &mut Steps<L>,
     ) -> Result<(u16, Nums), BadBytes>
         requires { self.old.at + length self.old.rest.now < 2 ^ 32 }
-        ensures ok { IfOk result (Came numbered_form.read self.old.at self.old.rest.now self.new.at self.new.rest.now) }
-        ensures err { IfErr result (Refuses numbered_form.read self.old.at self.old.rest.now) }
-        ensures within { self.new.at + length self.new.rest.now ≤ self.old.at + length self.old.rest.now }
-        ensures cost { steps.new + length self.new.rest.now ≤ steps.old + length self.old.rest.now }
+        ensures { AnswersAs numbered_form.read self.old self.new steps.old steps.new result }
     {
         let number = self.number_2(steps)?;
         let values = self.values(alloc, steps)?;
@@ -38,11 +35,7 @@ impl<'a> Cursor<'a> {
         steps: &mut Steps<L>,
     ) -> Result<Entry, BadBytes>
         requires { self.old.at + length self.old.rest.now < 2 ^ 32 }
-        ensures ok { IfOk result
-            (Came (row facts Tag.Sync).read self.old.at self.old.rest.now self.new.at self.new.rest.now) }
-        ensures err { IfErr result (Refuses (row facts Tag.Sync).read self.old.at self.old.rest.now) }
-        ensures within { self.new.at + length self.new.rest.now ≤ self.old.at + length self.old.rest.now }
-        ensures cost { steps.new + length self.new.rest.now ≤ steps.old + length self.old.rest.now }
+        ensures { AnswersAs (row facts Tag.Sync).read self.old self.new steps.old steps.new result }
     {
         let kind = self.sync_kind(facts.version, steps)?;
         let object = self.byte(steps)?;
@@ -68,11 +61,7 @@ impl<'a> Cursor<'a> {
         steps: &mut Steps<L>,
     ) -> Result<Entry, BadBytes>
         requires { self.old.at + length self.old.rest.now < 2 ^ 32 }
-        ensures ok { IfOk result
-            (Came (row facts Tag.End).read self.old.at self.old.rest.now self.new.at self.new.rest.now) }
-        ensures err { IfErr result (Refuses (row facts Tag.End).read self.old.at self.old.rest.now) }
-        ensures within { self.new.at + length self.new.rest.now ≤ self.old.at + length self.old.rest.now }
-        ensures cost { steps.new + length self.new.rest.now ≤ steps.old + length self.old.rest.now }
+        ensures { AnswersAs (row facts Tag.End).read self.old self.new steps.old steps.new result }
     {
         let status = self.status(steps)?;
         let rest = self.number_4(steps)?;
@@ -95,11 +84,7 @@ impl<'a> Cursor<'a> {
         steps: &mut Steps<L>,
     ) -> Result<Entry, BadBytes>
         requires { self.old.at + length self.old.rest.now < 2 ^ 32 }
-        ensures ok { IfOk result
-            (Came (row facts tag).read self.old.at self.old.rest.now self.new.at self.new.rest.now) }
-        ensures err { IfErr result (Refuses (row facts tag).read self.old.at self.old.rest.now) }
-        ensures within { self.new.at + length self.new.rest.now ≤ self.old.at + length self.old.rest.now }
-        ensures cost { steps.new + length self.new.rest.now ≤ steps.old + length self.old.rest.now }
+        ensures { AnswersAs (row facts tag).read self.old self.new steps.old steps.new result }
     {
         match tag {
             Tag::Prelog => {
@@ -127,11 +112,7 @@ impl<'a> Cursor<'a> {
         steps: &mut Steps<L>,
     ) -> Result<Entry, BadBytes>
         requires { self.old.at + length self.old.rest.now < 2 ^ 32 }
-        ensures ok { IfOk result
-            (Came (an_entry facts).read self.old.at self.old.rest.now self.new.at self.new.rest.now) }
-        ensures err { IfErr result (Refuses (an_entry facts).read self.old.at self.old.rest.now) }
-        ensures within { self.new.at + length self.new.rest.now ≤ self.old.at + length self.old.rest.now }
-        ensures cost { steps.new + length self.new.rest.now ≤ steps.old + length self.old.rest.now }
+        ensures { AnswersAs (an_entry facts).read self.old self.new steps.old steps.new result }
     {
         let tag = self.tag(steps)?;
         self.row(alloc, facts, tag, steps)
@@ -145,11 +126,7 @@ impl<'a> Cursor<'a> {
         steps: &mut Steps<L>,
     ) -> Result<Seq<Entry>, BadBytes>
         requires { self.old.at + length self.old.rest.now < 2 ^ 32 }
-        ensures ok { IfOk result
-            (Came (log_form facts).read self.old.at self.old.rest.now self.new.at self.new.rest.now) }
-        ensures err { IfErr result (Refuses (log_form facts).read self.old.at self.old.rest.now) }
-        ensures within { self.new.at + length self.new.rest.now ≤ self.old.at + length self.old.rest.now }
-        ensures cost { steps.new + length self.new.rest.now ≤ steps.old + length self.old.rest.now }
+        ensures { AnswersAs (log_form facts).read self.old self.new steps.old steps.new result }
     {
         let mut left = self.number_4(steps)?;
         let mut found = Seq::new(alloc);
@@ -172,11 +149,7 @@ impl<'a> Cursor<'a> {
         steps: &mut Steps<L>,
     ) -> Result<Seq<Seq<Entry>>, BadBytes>
         requires { self.old.at + length self.old.rest.now < 2 ^ 32 }
-        ensures ok { IfOk result
-            (Came (logs_form facts).read self.old.at self.old.rest.now self.new.at self.new.rest.now) }
-        ensures err { IfErr result (Refuses (logs_form facts).read self.old.at self.old.rest.now) }
-        ensures within { self.new.at + length self.new.rest.now ≤ self.old.at + length self.old.rest.now }
-        ensures cost { steps.new + length self.new.rest.now ≤ steps.old + length self.old.rest.now }
+        ensures { AnswersAs (logs_form facts).read self.old self.new steps.old steps.new result }
     {
         let mut left = self.process_count(facts, steps)?;
         let mut found = Seq::new(alloc);

@@ -1,7 +1,7 @@
 ghost use Rattle.std.specs.Prelude.{◌≡◌, ◌≢◌, ◌+◌, ◌<◌, ◌≤◌, ◌^◌, length, IfErr, IfOk};
-ghost use Rattle.ppd_codec.specs.Came.{Came, Refuses};
+ghost use Rattle.ppd_codec.specs.Came.{AnswersAs};
 ghost use Rattle.ppd_codec.specs.Form.{coded};
-ghost use Rattle.ppd_codec.specs.Format.{budget as budget_form, leaf as leaf_form, loops as loops_form, magic as magic_form, version as version_form, source_length as source_length_form, process_count as process_count_form, tag as tag_form, tags, tag_code, sync_kind as sync_kind_form, sync_number as sync_number_form, sync_value as sync_value_form, end_status, cell as cell_form, is_next as is_next_of, fits_kind as fits_kind_of, kinds, kind_code, statuses, status_code};
+ghost use Rattle.ppd_codec.specs.Format.{budget as budget_form, magic as magic_form, policy_number as policy_number_form, version as version_form, source_length as source_length_form, process_count as process_count_form, tag as tag_form, tags, tag_code, sync_kind as sync_kind_form, sync_number as sync_number_form, sync_value as sync_value_form, end_status, cell as cell_form, is_next as is_next_of, fits_kind as fits_kind_of, kinds, kind_code, statuses, status_code};
 
 use crate::bad::{BadBytes, Field};
 use crate::cursor::Cursor;
@@ -16,11 +16,8 @@ impl<'a> Cursor<'a> {
     /// The first four bytes of every recording, `PPDR`.
     pub fn magic<L: Ledger>(&mut self, steps: &mut Steps<L>) -> Result<(), BadBytes>
         requires { self.old.at + length self.old.rest.now < 2 ^ 32 }
-        ensures ok { IfOk result (Came magic_form.read self.old.at self.old.rest.now self.new.at self.new.rest.now) }
-        ensures err { IfErr result (Refuses magic_form.read self.old.at self.old.rest.now) }
+        ensures read { AnswersAs magic_form.read self.old self.new steps.old steps.new result }
         ensures early { IfErr result (λ e. e ≢ BadBytes.Memory) }
-        ensures within { self.new.at + length self.new.rest.now ≤ self.old.at + length self.old.rest.now }
-        ensures cost { steps.new + length self.new.rest.now ≤ steps.old + length self.old.rest.now }
     {
         let at = self.at;
         if self.number_4(steps)? == 0x5050_4452 {
@@ -32,11 +29,8 @@ impl<'a> Cursor<'a> {
     /// The version, 1 or 2.
     pub fn version<L: Ledger>(&mut self, steps: &mut Steps<L>) -> Result<u8, BadBytes>
         requires { self.old.at + length self.old.rest.now < 2 ^ 32 }
-        ensures ok { IfOk result (Came version_form.read self.old.at self.old.rest.now self.new.at self.new.rest.now) }
-        ensures err { IfErr result (Refuses version_form.read self.old.at self.old.rest.now) }
+        ensures read { AnswersAs version_form.read self.old self.new steps.old steps.new result }
         ensures early { IfErr result (λ e. e ≢ BadBytes.Memory) }
-        ensures within { self.new.at + length self.new.rest.now ≤ self.old.at + length self.old.rest.now }
-        ensures cost { steps.new + length self.new.rest.now ≤ steps.old + length self.old.rest.now }
     {
         let at = self.at;
         let found = self.byte(steps)?;
@@ -49,12 +43,9 @@ impl<'a> Cursor<'a> {
     /// The budget, 1 to 500,000.
     pub fn budget<L: Ledger>(&mut self, steps: &mut Steps<L>) -> Result<u32, BadBytes>
         requires { self.old.at + length self.old.rest.now < 2 ^ 32 }
-        ensures ok { IfOk result (Came budget_form.read self.old.at self.old.rest.now self.new.at self.new.rest.now) }
+        ensures read { AnswersAs budget_form.read self.old self.new steps.old steps.new result }
         ensures most { IfOk result (λ n. n ≤ MOST_BUDGET) }
-        ensures err { IfErr result (Refuses budget_form.read self.old.at self.old.rest.now) }
         ensures early { IfErr result (λ e. e ≢ BadBytes.Memory) }
-        ensures within { self.new.at + length self.new.rest.now ≤ self.old.at + length self.old.rest.now }
-        ensures cost { steps.new + length self.new.rest.now ≤ steps.old + length self.old.rest.now }
     {
         let at = self.at;
         let found = self.number_4(steps)?;
@@ -64,52 +55,31 @@ impl<'a> Cursor<'a> {
         Err(BadBytes::Range(at, Field::Budget))
     }
 
-    /// The policy's leaf number, at most 4,096.
-    pub fn leaf<L: Ledger>(&mut self, steps: &mut Steps<L>) -> Result<u16, BadBytes>
+    /// A number of the policy, at most 4,096.
+    pub fn policy_number<L: Ledger>(
+        &mut self,
+        field: Field,
+        steps: &mut Steps<L>,
+    ) -> Result<u16, BadBytes>
         requires { self.old.at + length self.old.rest.now < 2 ^ 32 }
-        ensures ok { IfOk result (Came leaf_form.read self.old.at self.old.rest.now self.new.at self.new.rest.now) }
+        ensures read { AnswersAs (policy_number_form field).read self.old self.new steps.old steps.new result }
         ensures most { IfOk result (λ n. n ≤ MOST_POLICY) }
-        ensures err { IfErr result (Refuses leaf_form.read self.old.at self.old.rest.now) }
         ensures early { IfErr result (λ e. e ≢ BadBytes.Memory) }
-        ensures within { self.new.at + length self.new.rest.now ≤ self.old.at + length self.old.rest.now }
-        ensures cost { steps.new + length self.new.rest.now ≤ steps.old + length self.old.rest.now }
     {
         let at = self.at;
         let found = self.number_2(steps)?;
         if found <= MOST_POLICY {
             return Ok(found);
         }
-        Err(BadBytes::Range(at, Field::Leaf))
-    }
-
-    /// The policy's loops number, at most 4,096.
-    pub fn loops<L: Ledger>(&mut self, steps: &mut Steps<L>) -> Result<u16, BadBytes>
-        requires { self.old.at + length self.old.rest.now < 2 ^ 32 }
-        ensures ok { IfOk result (Came loops_form.read self.old.at self.old.rest.now self.new.at self.new.rest.now) }
-        ensures most { IfOk result (λ n. n ≤ MOST_POLICY) }
-        ensures err { IfErr result (Refuses loops_form.read self.old.at self.old.rest.now) }
-        ensures early { IfErr result (λ e. e ≢ BadBytes.Memory) }
-        ensures within { self.new.at + length self.new.rest.now ≤ self.old.at + length self.old.rest.now }
-        ensures cost { steps.new + length self.new.rest.now ≤ steps.old + length self.old.rest.now }
-    {
-        let at = self.at;
-        let found = self.number_2(steps)?;
-        if found <= MOST_POLICY {
-            return Ok(found);
-        }
-        Err(BadBytes::Range(at, Field::Loops))
+        Err(BadBytes::Range(at, field))
     }
 
     /// The length of the source, at most 262,144.
     pub fn source_length<L: Ledger>(&mut self, steps: &mut Steps<L>) -> Result<u32, BadBytes>
         requires { self.old.at + length self.old.rest.now < 2 ^ 32 }
-        ensures ok { IfOk result
-            (Came source_length_form.read self.old.at self.old.rest.now self.new.at self.new.rest.now) }
+        ensures read { AnswersAs source_length_form.read self.old self.new steps.old steps.new result }
         ensures most { IfOk result (λ n. n ≤ MOST_SOURCE_BYTES) }
-        ensures err { IfErr result (Refuses source_length_form.read self.old.at self.old.rest.now) }
         ensures early { IfErr result (λ e. e ≢ BadBytes.Memory) }
-        ensures within { self.new.at + length self.new.rest.now ≤ self.old.at + length self.old.rest.now }
-        ensures cost { steps.new + length self.new.rest.now ≤ steps.old + length self.old.rest.now }
     {
         let at = self.at;
         let found = self.number_4(steps)?;
@@ -126,11 +96,7 @@ impl<'a> Cursor<'a> {
         steps: &mut Steps<L>,
     ) -> Result<u8, BadBytes>
         requires { self.old.at + length self.old.rest.now < 2 ^ 32 }
-        ensures ok { IfOk result
-            (Came (process_count_form facts).read self.old.at self.old.rest.now self.new.at self.new.rest.now) }
-        ensures err { IfErr result (Refuses (process_count_form facts).read self.old.at self.old.rest.now) }
-        ensures within { self.new.at + length self.new.rest.now ≤ self.old.at + length self.old.rest.now }
-        ensures cost { steps.new + length self.new.rest.now ≤ steps.old + length self.old.rest.now }
+        ensures { AnswersAs (process_count_form facts).read self.old self.new steps.old steps.new result }
     {
         let at = self.at;
         let found = self.byte(steps)?;
@@ -143,10 +109,7 @@ impl<'a> Cursor<'a> {
     /// What the next entry is.
     pub fn tag<L: Ledger>(&mut self, steps: &mut Steps<L>) -> Result<Tag, BadBytes>
         requires { self.old.at + length self.old.rest.now < 2 ^ 32 }
-        ensures ok { IfOk result (Came tag_form.read self.old.at self.old.rest.now self.new.at self.new.rest.now) }
-        ensures err { IfErr result (Refuses tag_form.read self.old.at self.old.rest.now) }
-        ensures within { self.new.at + length self.new.rest.now ≤ self.old.at + length self.old.rest.now }
-        ensures cost { steps.new + length self.new.rest.now ≤ steps.old + length self.old.rest.now }
+        ensures { AnswersAs tag_form.read self.old self.new steps.old steps.new result }
     {
         let at = self.at;
         match tag_at(self.byte(steps)?) {
@@ -162,11 +125,7 @@ impl<'a> Cursor<'a> {
         steps: &mut Steps<L>,
     ) -> Result<SyncKind, BadBytes>
         requires { self.old.at + length self.old.rest.now < 2 ^ 32 }
-        ensures ok { IfOk result
-            (Came (sync_kind_form version).read self.old.at self.old.rest.now self.new.at self.new.rest.now) }
-        ensures err { IfErr result (Refuses (sync_kind_form version).read self.old.at self.old.rest.now) }
-        ensures within { self.new.at + length self.new.rest.now ≤ self.old.at + length self.old.rest.now }
-        ensures cost { steps.new + length self.new.rest.now ≤ steps.old + length self.old.rest.now }
+        ensures { AnswersAs (sync_kind_form version).read self.old self.new steps.old steps.new result }
     {
         let at = self.at;
         match kind_at(version, self.byte(steps)?) {
@@ -178,11 +137,7 @@ impl<'a> Cursor<'a> {
     /// A synchronization's number, at least 1.
     pub fn sync_number<L: Ledger>(&mut self, steps: &mut Steps<L>) -> Result<u32, BadBytes>
         requires { self.old.at + length self.old.rest.now < 2 ^ 32 }
-        ensures ok { IfOk result
-            (Came sync_number_form.read self.old.at self.old.rest.now self.new.at self.new.rest.now) }
-        ensures err { IfErr result (Refuses sync_number_form.read self.old.at self.old.rest.now) }
-        ensures within { self.new.at + length self.new.rest.now ≤ self.old.at + length self.old.rest.now }
-        ensures cost { steps.new + length self.new.rest.now ≤ steps.old + length self.old.rest.now }
+        ensures { AnswersAs sync_number_form.read self.old self.new steps.old steps.new result }
     {
         let at = self.at;
         let found = self.number_4(steps)?;
@@ -199,11 +154,7 @@ impl<'a> Cursor<'a> {
         steps: &mut Steps<L>,
     ) -> Result<i64, BadBytes>
         requires { self.old.at + length self.old.rest.now < 2 ^ 32 }
-        ensures ok { IfOk result
-            (Came (sync_value_form kind).read self.old.at self.old.rest.now self.new.at self.new.rest.now) }
-        ensures err { IfErr result (Refuses (sync_value_form kind).read self.old.at self.old.rest.now) }
-        ensures within { self.new.at + length self.new.rest.now ≤ self.old.at + length self.old.rest.now }
-        ensures cost { steps.new + length self.new.rest.now ≤ steps.old + length self.old.rest.now }
+        ensures { AnswersAs (sync_value_form kind).read self.old self.new steps.old steps.new result }
     {
         let at = self.at;
         let found = self.value(steps)?;
@@ -216,10 +167,7 @@ impl<'a> Cursor<'a> {
     /// How a process ended.
     pub fn status<L: Ledger>(&mut self, steps: &mut Steps<L>) -> Result<Status, BadBytes>
         requires { self.old.at + length self.old.rest.now < 2 ^ 32 }
-        ensures ok { IfOk result (Came end_status.read self.old.at self.old.rest.now self.new.at self.new.rest.now) }
-        ensures err { IfErr result (Refuses end_status.read self.old.at self.old.rest.now) }
-        ensures within { self.new.at + length self.new.rest.now ≤ self.old.at + length self.old.rest.now }
-        ensures cost { steps.new + length self.new.rest.now ≤ steps.old + length self.old.rest.now }
+        ensures { AnswersAs end_status.read self.old self.new steps.old steps.new result }
     {
         let at = self.at;
         match status_at(self.byte(steps)?) {
@@ -236,11 +184,7 @@ impl<'a> Cursor<'a> {
         steps: &mut Steps<L>,
     ) -> Result<u16, BadBytes>
         requires { self.old.at + length self.old.rest.now < 2 ^ 32 }
-        ensures ok { IfOk result
-            (Came (cell_form shared low).read self.old.at self.old.rest.now self.new.at self.new.rest.now) }
-        ensures err { IfErr result (Refuses (cell_form shared low).read self.old.at self.old.rest.now) }
-        ensures within { self.new.at + length self.new.rest.now ≤ self.old.at + length self.old.rest.now }
-        ensures cost { steps.new + length self.new.rest.now ≤ steps.old + length self.old.rest.now }
+        ensures { AnswersAs (cell_form shared low).read self.old self.new steps.old steps.new result }
     {
         let at = self.at;
         let found = self.number_2(steps)?;

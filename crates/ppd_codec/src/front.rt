@@ -5,7 +5,7 @@ ghost use Rattle.ppd_codec.specs.Came.{Came, Refuses};
 ghost use Rattle.ppd_codec.specs.Format.{front as front_form, source as source_form};
 ghost use Rattle.ppd_codec.specs.Recordings.{front_of};
 
-use crate::bad::BadBytes;
+use crate::bad::{BadBytes, Field};
 use crate::cursor::Cursor;
 use crate::recording::Header;
 use ppd_ast::{Policy, Steps};
@@ -56,8 +56,8 @@ impl<'a> Cursor<'a> {
         self.magic(steps)?;
         let version = self.version(steps)?;
         let budget = self.budget(steps)?;
-        let leaf = self.leaf(steps)?;
-        let loops = self.loops(steps)?;
+        let leaf = self.policy_number(Field::Leaf, steps)?;
+        let loops = self.policy_number(Field::Loops, steps)?;
         let source = self.source(steps)?;
         let policy = Policy { leaf, loops };
         Ok(Front {

@@ -1,5 +1,5 @@
-ghost use Rattle.std.specs.Prelude.{◌≡◌, ◌+◌, ◌<◌, ◌≤◌, ◌^◌, ◌++◌, ◌∷◌, [], length, IfErr, IfOk, OnOk};
-ghost use Rattle.ppd_codec.specs.Came.{Came, Refuses};
+ghost use Rattle.std.specs.Prelude.{◌≡◌, ◌+◌, ◌<◌, ◌^◌, ◌++◌, ◌∷◌, [], length, IfErr, OnOk};
+ghost use Rattle.ppd_codec.specs.Came.{AnswersAs};
 ghost use Rattle.ppd_codec.specs.Format.{cells as cells_form, values as values_form};
 
 use crate::bad::BadBytes;
@@ -16,10 +16,7 @@ impl<'a> Cursor<'a> {
         steps: &mut Steps<L>,
     ) -> Result<Nums, BadBytes>
         requires { self.old.at + length self.old.rest.now < 2 ^ 32 }
-        ensures ok { IfOk result (Came values_form.read self.old.at self.old.rest.now self.new.at self.new.rest.now) }
-        ensures err { IfErr result (Refuses values_form.read self.old.at self.old.rest.now) }
-        ensures within { self.new.at + length self.new.rest.now ≤ self.old.at + length self.old.rest.now }
-        ensures cost { steps.new + length self.new.rest.now ≤ steps.old + length self.old.rest.now }
+        ensures { AnswersAs values_form.read self.old self.new steps.old steps.new result }
     {
         let mut left = self.number_2(steps)?;
         let mut found = Nums::new(alloc);
@@ -42,11 +39,7 @@ impl<'a> Cursor<'a> {
         steps: &mut Steps<L>,
     ) -> Result<Cells, BadBytes>
         requires { self.old.at + length self.old.rest.now < 2 ^ 32 }
-        ensures ok { IfOk result
-            (Came (cells_form shared).read self.old.at self.old.rest.now self.new.at self.new.rest.now) }
-        ensures err { IfErr result (Refuses (cells_form shared).read self.old.at self.old.rest.now) }
-        ensures within { self.new.at + length self.new.rest.now ≤ self.old.at + length self.old.rest.now }
-        ensures cost { steps.new + length self.new.rest.now ≤ steps.old + length self.old.rest.now }
+        ensures { AnswersAs (cells_form shared).read self.old self.new steps.old steps.new result }
     {
         let mut left = self.number_2(steps)?;
         let mut found = Cells::new(alloc);

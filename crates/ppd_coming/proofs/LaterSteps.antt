@@ -10,7 +10,7 @@ use Rattle.ppd_model.specs.Marks.{Mark, opened, closed}
 use Rattle.ppd_model.specs.Story.{Moment}
 use Rattle.ppd_model.specs.Synchronizations.{sync_of}
 use Rattle.ppd_coming.specs.Nested.{Goes, HasStopped, IsNested}
-use Rattle.ppd_coming.proofs.Shapes.{Entered, Shape, closes, left_by, left_falls, left_inner, left_leaves, left_length, left_own, left_past, opens, passes, piece_falls, shape, stops, unit_falls, unit_in, unit_inner, unit_length, unit_own, unit_past, unit_running, with_unit}
+use Rattle.ppd_coming.proofs.Shapes.{Shape, closes, opens, passes, shape, stops}
 use Rattle.ppd_coming.proofs.Shapes as shapes
 use Rattle.ppd_coming.proofs.Later.{Comes, Steps, Stops, finals, next_proc, rest_by, stepped, stopped, waits}
 use Rattle.ppd_coming.proofs.UnitSteps.{unit_at}

@@ -137,14 +137,17 @@ module _ (program : Program) (plan : Plan) where
         let begun : IsInCall program plan used inside calls closer home depth outside b u statements r 0
         (charged plan (Invoke (Some b) u)
         (act_by_asked program a t (ts ++ outside) (Ok (invoke c.f c.values c.into, c.left)) s)) = record {
-          before = s;
-          beside = beside;
-          need_is = step.need ∙ need;
-          head = t;
-          later = ts;
-          head_is = h.2;
-          goes_on = call_goes_on (kind_of program t.stmt) c.f c.call;
-          unentered = calm s t c.f t.entered refl (homes t (ts ++ outside) is) c.call;
+          came = record {
+            before = s;
+            beside = beside;
+            need_is = step.need ∙ need;
+            head = t;
+            later = ts;
+            head_is = h.2;
+            goes_on = call_goes_on (kind_of program t.stmt) c.f c.call;
+            unentered = calm s t c.f t.entered refl (homes t (ts ++ outside) is) c.call;
+            running = running;
+          };
           base = new_frame program c.f c.values (Some t.stmt);
           call = refl;
           block_is = c.block_is;
@@ -165,7 +168,6 @@ module _ (program : Program) (plan : Plan) where
           whole = beside.whole;
           budget = refl;
           spent = omega arith;
-          running = running;
         } in (
           step.need
               ∙ need,

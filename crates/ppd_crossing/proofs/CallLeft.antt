@@ -57,7 +57,7 @@ module _ (program : Program) (plan : Plan) where
     -- past the call, by the return that the process comes to
     past_return : (r x : Proc) (a : Answer) (m : Mark) (h : CallAt r 0 x) (t : Todo) (g : Frame) → Fine x
         → x.status ≡ None → closed program plan x (need_of program plan x) ≡ Some m
-        → x.todo ≡ t ∷ (h.later ++ outside) → x.frames ≡ g ∷ h.before.frames → g.call ≡ Some h.head.stmt
+        → x.todo ≡ t ∷ (h.came.later ++ outside) → x.frames ≡ g ∷ h.came.before.frames → g.call ≡ Some h.came.head.stmt
         → ends_body (kind_of program t.stmt) ≡ true → IsEnding program plan x t (need_of program plan x)
         → HasLeft program plan used inside calls closer home depth outside (λ s r. Fine s) m r x a
     past_return r x a m h t g ok running e is frames call done (leaves left c q eo n of) =
@@ -68,35 +68,35 @@ module _ (program : Program) (plan : Plan) where
         goes k h = absurd h
     past_return r x a m h t g ok running e is frames call done (returns left v c q eo n ret) =
         let w : Option ℕ = call_unit plan (top_call x.frames) in
-        let after : act program plan x a ≡ act_by_need program plan a t (h.later ++ outside) (Back (Some c) w) x =
+        let after : act program plan x a ≡ act_by_need program plan a t (h.came.later ++ outside) (Back (Some c) w) x =
         ap (λ todo. act_at program plan a todo x) is
-        ∙ ap (λ m. act_by_need program plan a t (h.later ++ outside) m x) n in
-        let l : HasReturned program plan x (act program plan x a) v (Back (Some c) w) (h.later ++ outside) =
-        subst (λ (y : Proc). HasReturned program plan x y v (Back (Some c) w) (h.later ++ outside)) (sym after)
-        (returned_by program plan a x t (h.later ++ outside) left v (Some c) w q) in
+        ∙ ap (λ m. act_by_need program plan a t (h.came.later ++ outside) m x) n in
+        let l : HasReturned program plan x (act program plan x a) v (Back (Some c) w) (h.came.later ++ outside) =
+        subst (λ (y : Proc). HasReturned program plan x y v (Back (Some c) w) (h.came.later ++ outside)) (sym after)
+        (returned_by program plan a x t (h.came.later ++ outside) left v (Some c) w q) in
         let result : result_at program x ≡ option_to_list v =
         ap (λ ts. option_to_list (result_of_head program x (slice_get ts 0))) is
         ∙ ap (λ y. option_to_list (result_by (outcome y))) q in
         let values : m.values ≡ option_to_list v =
         ap (λ o. (or_mark m o).values) (sym e ∙ ap (closed program plan x) n) ∙ result in
         let cheap : x.spent + cost plan (Back (Some c) w) ≤ x.budget = paid program plan x (Back (Some c) w) n refl in
-        let unit : w ≡ Some (unit_of plan (start.After h.head.stmt)) =
+        let unit : w ≡ Some (unit_of plan (start.After h.came.head.stmt)) =
         ap (λ fs. call_unit plan (top_call fs)) frames ∙ ap (call_unit plan) call in
         let past : IsBeside program used inside calls closer home depth outside (act program plan x a)
         (skipped program plan m.values r) =
         subst (λ y. IsBeside program used inside calls closer home depth outside (act program plan x a) y)
-        (sym (skipped_is program plan m.values (Invoke (Some b) u) r h.need_is))
-        (call_past program used inside calls closer home depth ends block_so outside plan b u v m.values h.head h.later g h.before r (act program plan x a)
-        h.beside h.head_is h.goes_on
-        (λ y. rests program plan used inside calls closer home depth ends block_so outside b u statements closes h.before.frames r.frames h.head h.later h.unentered h.goes_on y)
+        (sym (skipped_is program plan m.values (Invoke (Some b) u) r h.came.need_is))
+        (call_past program used inside calls closer home depth ends block_so outside plan b u v m.values h.came.head h.came.later g h.came.before r (act program plan x a)
+        h.came.beside h.came.head_is h.came.goes_on
+        (λ y. rests program plan used inside calls closer home depth ends block_so outside b u statements closes h.came.before.frames r.frames h.came.head h.came.later h.came.unentered h.came.goes_on y)
         call (value_first v ∙ ap (λ vs. slice_get vs 0) (sym values))
-        (l.frames ∙ ap (returned program v) frames) l.todo l.answers (l.status ∙ running ∙ sym h.running)
+        (l.frames ∙ ap (returned program v) frames) l.todo l.answers (l.status ∙ running ∙ sym h.came.running)
         (l.budget ∙ h.budget) (l.below ∙ h.whole) (omega (arith, l.spent, h.spent))) in
         record {
           beside = past;
           kept = fine.on x a ok;
           unit_is = ap unit_started n ∙ unit ∙ ap₂ (λ (ys : List Todo) n. Some (unit_past plan ys n))
-              (sym h.head_is) (sym h.need_is);
+              (sym h.came.head_is) (sym h.came.need_is);
           running = l.status ∙ running;
           paid = omega (arith, l.spent, l.budget, cheap);
         }
@@ -106,14 +106,14 @@ module _ (program : Program) (plan : Plan) where
         → closed program plan x (need_of program plan x) ≡ Some m
         → HasLeft program plan used inside calls closer home depth outside (λ s r. Fine s) m r x a
     call_leaves r x a m h counts ok none e =
-        let rest : List Todo = h.later ++ outside in
+        let rest : List Todo = h.came.later ++ outside in
         let running : x.status ≡ None =
         running_by program plan x (λ n. is_some (closed program plan x n)) refl (ap is_some e) in
         let goes : status_of (need_of program plan x) ≡ None =
         closed_goes program plan x (need_of program plan x) (ap is_some e)
         (not_over program plan counting Fine fine used inside calls closer home depth ends outside b u statements static r x 0 h ok) in
         let p = has_head program plan counting Fine fine
-        (λ c. ⊤) statements ends static.writing h.last h.base h.before.frames rest
+        (λ c. ⊤) statements ends static.writing h.last h.base h.came.before.frames rest
         (λ e. absurd (true≢false (sym e ∙ h.last_is)))
         (λ e. h.ends) static.no_end h.within.has_called x.frames h.within.todo h.within.frames in
         let t : Todo = p.0 in
@@ -137,11 +137,11 @@ module _ (program : Program) (plan : Plan) where
         ap (opens program plan) after ∙ opens_append program plan counting ts rest in
         let free : opens program plan ts ≡ 0 =
         omega (arith, step, before, now, h.counted, ap (λ o. one_if (is_some o)) e, ap (λ o. one_if (is_some o)) none) in
-        let held : Held program (λ c. ⊤) statements h.last h.base h.before.frames h.within.has_called x.frames
+        let held : Held program (λ c. ⊤) statements h.last h.base h.came.before.frames h.within.has_called x.frames
         (t ∷ ts) =
-        subst (λ ys. Held program (λ c. ⊤) statements h.last h.base h.before.frames h.within.has_called x.frames ys) p.2 h.within.frames in
-        let one : IsAlone program plan (λ c. ⊤) statements h.last h.base h.before.frames counts x.frames t ts =
+        subst (λ ys. Held program (λ c. ⊤) statements h.last h.base h.came.before.frames h.within.has_called x.frames ys) p.2 h.within.frames in
+        let one : IsAlone program plan (λ c. ⊤) statements h.last h.base h.came.before.frames counts x.frames t ts =
         alone program plan
-        (λ c. ⊤) statements h.last h.base h.before.frames counts h.within.has_called x.frames t ts held free in
+        (λ c. ⊤) statements h.last h.base h.came.before.frames counts h.within.has_called x.frames t ts held free in
         past_return r x a m h t one.frame ok running e (is ∙ ap (λ ys. t ∷ (ys ++ rest)) one.rest) one.frames
         (one.kept.call ∙ h.call) (ap (λ (y : Todo). ends_body (kind_of program y.stmt)) one.head ∙ h.ends) end

@@ -92,27 +92,20 @@ module _ (program : Program) (plan : Plan) (counting : IsCountable program plan)
       ≡ suc level + one_if (is_some (opened program plan x (need_of program plan x)))
       → (level ≡ 0 → closed program plan x (need_of program plan x) ≡ None) → Call r after (act program plan x a)
   call_on r x a level after h ok running goes sum first =
-      let rest : List Todo = h.later ++ outside in
+      let rest : List Todo = h.came.later ++ outside in
       let p = has_head program plan counting Fine fine
-      (λ c. ⊤) statements ends static.writing h.last h.base h.before.frames rest
+      (λ c. ⊤) statements ends static.writing h.last h.base h.came.before.frames rest
       (λ e. absurd (true≢false (sym e ∙ h.last_is)))
       (λ e. h.ends) static.no_end h.within.has_called x.frames h.within.todo h.within.frames in
       let is : x.todo ≡ p.0 ∷ (p.1 ++ rest) = h.within.todo_is ∙ ap (λ ys. ys ++ rest) p.2 in
       let y = advances program plan counting Fine fine
-      (λ c. ⊤) statements ends static.writing h.last h.base h.before.frames rest
+      (λ c. ⊤) statements ends static.writing h.last h.base h.came.before.frames rest
       (λ e. absurd (true≢false (sym e ∙ h.last_is)))
       (λ e. h.ends) static.no_end x a h.within level after h.counted ok running goes sum first
       (λ t ts todo none v left q r. no_return t ts todo none v left q r) in
       let spent : IsSpent program plan x (act program plan x a) = spent_act program plan a x in
       record {
-        before = h.before;
-        beside = h.beside;
-        need_is = h.need_is;
-        head = h.head;
-        later = h.later;
-        head_is = h.head_is;
-        goes_on = h.goes_on;
-        unentered = h.unentered;
+        came = h.came;
         base = h.base;
         call = h.call;
         block_is = h.block_is;
@@ -121,19 +114,18 @@ module _ (program : Program) (plan : Plan) (counting : IsCountable program plan)
         last_is = h.last_is;
         counts = h.counts;
         within = y.within;
-        over = act_over program plan ends (length h.before.frames) rest a p.0 (p.1 ++ rest) x is h.over
+        over = act_over program plan ends (length h.came.before.frames) rest a p.0 (p.1 ++ rest) x is h.over
             (above p.0 p.1 p.2 (head_deed program p.0 x) refl);
         counted = y.counted;
         whole = spent.below ∙ h.whole;
         budget = spent.budget ∙ h.budget;
         spent = omega (arith, spent.spent, h.spent);
-        running = h.running;
       }
     where
       head_need : (t : Todo) (ts : List Todo) → h.within.todo ≡ t ∷ ts
           → need_of_head program plan t x ≡ need_of program plan x
-      head_need t ts todo = head_is program plan x t (ts ++ (h.later ++ outside)) (need_of program plan x) running
-          (h.within.todo_is ∙ ap (λ ys. ys ++ (h.later ++ outside)) todo) refl (payable (need_of program plan x) goes)
+      head_need t ts todo = head_is program plan x t (ts ++ (h.came.later ++ outside)) (need_of program plan x) running
+          (h.within.todo_is ∙ ap (λ ys. ys ++ (h.came.later ++ outside)) todo) refl (payable (need_of program plan x) goes)
 
       -- a statement that ends a body asks for what it needs
       asks_need : (t : Todo) (ts : List Todo) → h.within.todo ≡ t ∷ ts → ends_body (kind_of program t.stmt) ≡ true
@@ -160,14 +152,14 @@ module _ (program : Program) (plan : Plan) (counting : IsCountable program plan)
           → (v : Option ℤ) (left : List ℤ) → head_deed program t x ≡ Ok (back v, left)
           → IsReturn (kind_of program t.stmt) → ⊥
       no_return t ts todo none v left q r =
-          let f = own_frame h.last h.base h.before.frames h.within.has_called x.frames h.within.todo h.within.frames none in
-          let is : x.todo ≡ t ∷ (ts ++ (h.later ++ outside)) =
-          h.within.todo_is ∙ ap (λ ys. ys ++ (h.later ++ outside)) todo in
-          let empty : ts ≡ [] = lone h.over.more t ts (h.later ++ outside) (omega (arith, f.0, h.over.frames))
+          let f = own_frame h.last h.base h.came.before.frames h.within.has_called x.frames h.within.todo h.within.frames none in
+          let is : x.todo ≡ t ∷ (ts ++ (h.came.later ++ outside)) =
+          h.within.todo_is ∙ ap (λ ys. ys ++ (h.came.later ++ outside)) todo in
+          let empty : ts ≡ [] = lone h.over.more t ts (h.came.later ++ outside) (omega (arith, f.0, h.over.frames))
           (ap (λ ys. past_all program h.over.more (past_body program ys)) (sym is) ∙ h.over.past)
           (return_ends (kind_of program t.stmt) r) in
           let bottom : level ≡ 0 =
-          omega (arith, h.counted, ap (opens program plan) todo, ap (opens program plan) empty, open_once program plan x t (fine.home x t (ts ++ (h.later ++ outside)) ok running is)) in
+          omega (arith, h.counted, ap (opens program plan) todo, ap (opens program plan) empty, open_once program plan x t (fine.home x t (ts ++ (h.came.later ++ outside)) ok running is)) in
           closes_some x (block_of plan (block.Function (top_body x.frames))) (call_unit plan (top_call x.frames))
           (ap (λ z. is_some (block_of plan (block.Function z))) f.1 ∙ ap is_some h.block_is)
           (ap (closed program plan x) (sym (by_entry t ts (entry_of program plan t) refl todo v left q r))
@@ -182,8 +174,8 @@ module _ (program : Program) (plan : Plan) (counting : IsCountable program plan)
           over_own : (c : Bool) → h.within.has_called ≡ c → (v : Option ℤ) (left : List ℤ)
               → head_deed program t x ≡ Ok (back v, left) → IsReturn (kind_of program t.stmt) → 1 ≤ h.over.more
           over_own false e v left q r = absurd (no_return t ts todo e v left q r)
-          over_own true e v left q r = let n : 2 + length h.before.frames ≤ length x.frames =
-              called_frame h.last h.base h.before.frames h.within.has_called x.frames h.within.todo h.within.frames e in omega (arith, n, h.over.frames)
+          over_own true e v left q r = let n : 2 + length h.came.before.frames ≤ length x.frames =
+              called_frame h.last h.base h.came.before.frames h.within.has_called x.frames h.within.todo h.within.frames e in omega (arith, n, h.over.frames)
 
           ending : (o : Option ℕ) → entry_of program plan t ≡ o → (left : List ℤ)
               → head_deed program t x ≡ Ok (finish, left) → IsEnd (kind_of program t.stmt) → ⊥
@@ -205,7 +197,7 @@ module _ (program : Program) (plan : Plan) (counting : IsCountable program plan)
   pub not_over : (r x : Proc) (level : ℕ) → Call r level x → Fine x → (c : ℕ) → need_of program plan x ≡ End c → ⊥
   not_over r x level h ok c e =
       never_ends program plan counting Fine fine
-      (λ c. ⊤) statements ends static.writing h.last h.base h.before.frames (h.later ++ outside)
+      (λ c. ⊤) statements ends static.writing h.last h.base h.came.before.frames (h.came.later ++ outside)
       (λ e. absurd (true≢false (sym e ∙ h.last_is))) (λ e. h.ends) static.no_end x h.within c ok e
 
   pub call_opens : (r x : Proc) (a : Answer) (level : ℕ) (mark : Mark) → Call r level x → Fine x

@@ -5,7 +5,6 @@ pub mod Loops
 pub mod Leaves
 pub mod LoopLeft
 pub mod LoopBegins
-pub mod LoopOpened
 pub mod Overs
 pub mod Calls
 pub mod CallLeft

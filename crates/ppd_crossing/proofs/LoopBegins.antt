@@ -90,14 +90,17 @@ module _ (program : Program) (plan : Plan) (used inside : ℕ → Type 0) (calls
       while_ends_none plan (body_of_stmt (slice_get program.stmts t.stmt)) (kind_of program t.stmt) loop.1 in (
         replays,
         record {
-          before = s;
-          beside = beside;
-          need_is = replays;
-          head = t;
-          later = ts;
-          head_is = h.2;
-          goes_on = while_goes (kind_of program t.stmt) loop.1;
-          unentered = loop.0;
+          came = record {
+            before = s;
+            beside = beside;
+            need_is = replays;
+            head = t;
+            later = ts;
+            head_is = h.2;
+            goes_on = while_goes (kind_of program t.stmt) loop.1;
+            unentered = loop.0;
+            running = running;
+          };
           base = top.0;
           below = top.1;
           top = top.2;
@@ -107,6 +110,5 @@ module _ (program : Program) (plan : Plan) (used inside : ℕ → Type 0) (calls
           whole = ap (λ (y : Proc). y.below) after ∙ beside.whole;
           budget = ap (λ (y : Proc). y.budget) after;
           spent = omega (arith, ap (λ (y : Proc). y.spent) after);
-          running = running;
         },
       )

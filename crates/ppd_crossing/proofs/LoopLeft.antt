@@ -55,8 +55,8 @@ module _ (program : Program) (plan : Plan) where
       ts : List Todo
       todo : h.within.todo ≡ t ∷ ts
       none : opens program plan ts ≡ 0
-      head : t.stmt ≡ h.head.stmt
-      need : need_of program plan x ≡ Leave b (unit_of plan (start.Exit h.head.stmt))
+      head : t.stmt ≡ h.came.head.stmt
+      need : need_of program plan x ≡ Leave b (unit_of plan (start.Exit h.came.head.stmt))
 
     leaving : (x : Proc) (t : Todo) (n : Need) (s : ℕ) → t.stmt ≡ s → IsWhile (kind_of program s)
         → block_of plan (block.Loop s) ≡ Some b → IsEnding program plan x t n
@@ -71,36 +71,36 @@ module _ (program : Program) (plan : Plan) where
     at_end : (r x : Proc) (a : Answer) (m : Mark) (h : LoopAt r 0 x) → Fine x → x.status ≡ None
         → status_of (need_of program plan x) ≡ None → opened program plan x (need_of program plan x) ≡ None
         → closed program plan x (need_of program plan x) ≡ Some m
-        → IsWhile (kind_of program h.head.stmt) × (is_some (block_of plan (block.Loop h.head.stmt)) ≡ true)
+        → IsWhile (kind_of program h.came.head.stmt) × (is_some (block_of plan (block.Loop h.came.head.stmt)) ≡ true)
         → IsAtEnd r x h
     unfolding or_zero_of
     at_end r x a m h ok running goes none e loop =
-        let own : Todo = record h.head { entered = true } in
+        let own : Todo = record h.came.head { entered = true } in
         let p = has_head program plan counting Fine fine
-        (Among (postlog_cells plan b)) statements ends static.writing own h.base h.below (h.later ++ outside)
+        (Among (postlog_cells plan b)) statements ends static.writing own h.base h.below (h.came.later ++ outside)
         (λ e. loop) (λ e. absurd (true≢false e))
         (λ s i k. no_end program plan counting Fine fine used inside calls closer home depth ends outside b u statements static s i k) h.within.has_called x.frames h.within.todo h.within.frames in
         let t : Todo = p.0 in
         let ts : List Todo = p.1 in
-        let is : x.todo ≡ t ∷ (ts ++ (h.later ++ outside)) =
-        h.within.todo_is ∙ ap (λ ys. ys ++ (h.later ++ outside)) p.2 in
+        let is : x.todo ≡ t ∷ (ts ++ (h.came.later ++ outside)) =
+        h.within.todo_is ∙ ap (λ ys. ys ++ (h.came.later ++ outside)) p.2 in
         let head : need_of_head program plan t x ≡ need_of program plan x =
-        head_is program plan x t (ts ++ (h.later ++ outside)) (need_of program plan x) running is refl
+        head_is program plan x t (ts ++ (h.came.later ++ outside)) (need_of program plan x) running is refl
         (payable (need_of program plan x) goes) in
         let end : IsEnding program plan x t (need_of program plan x) =
         ending program plan x t (need_of program plan x) head (ap is_some e) goes in
-        let home_so : IsHome program plan x t = fine.home x t (ts ++ (h.later ++ outside)) ok running is in
+        let home_so : IsHome program plan x t = fine.home x t (ts ++ (h.came.later ++ outside)) ok running is in
         let step : IsCountedStep program plan x (need_of program plan x) (act program plan x a) =
-        counted_step program plan counting x a t (ts ++ (h.later ++ outside)) is home_so running in
-        let after : (act program plan x a).todo ≡ ts ++ (h.later ++ outside) =
+        counted_step program plan counting x a t (ts ++ (h.came.later ++ outside)) is home_so running in
+        let after : (act program plan x a).todo ≡ ts ++ (h.came.later ++ outside) =
         ap (λ todo. (act_at program plan a todo x).todo) is ∙ ending_todo program plan x a t
-        (ts ++ (h.later ++ outside)) (need_of program plan x) end in
+        (ts ++ (h.came.later ++ outside)) (need_of program plan x) end in
         let before : opens program plan x.todo ≡ opens program plan h.within.todo + opens program plan
-        (h.later ++ outside) = ap (opens program plan) h.within.todo_is
-        ∙ opens_append program plan counting h.within.todo (h.later ++ outside) in
+        (h.came.later ++ outside) = ap (opens program plan) h.within.todo_is
+        ∙ opens_append program plan counting h.within.todo (h.came.later ++ outside) in
         let now : opens program plan (act program plan x a).todo ≡ opens program plan ts + opens program plan
-        (h.later ++ outside) = ap (opens program plan) after ∙ opens_append program plan counting ts
-        (h.later ++ outside) in
+        (h.came.later ++ outside) = ap (opens program plan) after ∙ opens_append program plan counting ts
+        (h.came.later ++ outside) in
         let free : opens program plan ts ≡ 0 =
         omega (arith, step, before, now, h.counted, ap (λ o. one_if (is_some o)) e, ap (λ o. one_if (is_some o)) none) in
         let held : Held program (Among
@@ -111,15 +111,15 @@ module _ (program : Program) (plan : Plan) where
         (omega arith) x.frames t ts =
         alone program plan (Among (postlog_cells plan b)) statements own h.base h.below
         (omega arith) h.within.has_called x.frames t ts held free in
-        let stmt : t.stmt ≡ h.head.stmt = ap (λ (y : Todo). y.stmt) one.head in
+        let stmt : t.stmt ≡ h.came.head.stmt = ap (λ (y : Todo). y.stmt) one.head in
         record {
           t = t;
           ts = ts;
           todo = p.2;
           none = free;
           head = stmt;
-          need = leaving x t (need_of program plan x) h.head.stmt stmt loop.0
-              (loop_block program plan h.head b
+          need = leaving x t (need_of program plan x) h.came.head.stmt stmt loop.0
+              (loop_block program plan h.came.head b
               (entry_is program plan counting Fine fine used inside calls closer home depth ends outside b u statements static r x 0 h)) end;
         }
 
@@ -138,22 +138,22 @@ module _ (program : Program) (plan : Plan) where
         let z : IsAtEnd r x h = at_end r x a m h ok running goes none e loop in
         let beside : IsBeside program used inside calls closer home depth outside (act program plan x a)
         (skipped program plan (values_at x (postlog_cells plan b)) r) =
-        loop_left program plan used inside calls closer home depth ends block_so outside b u statements closes r x a (unit_of plan (start.Exit h.head.stmt)) z.t z.ts h running z.todo z.none z.need in
+        loop_left program plan used inside calls closer home depth ends block_so outside b u statements closes r x a (unit_of plan (start.Exit h.came.head.stmt)) z.t z.ts h running z.todo z.none z.need in
         let values : m.values ≡ values_at x (postlog_cells plan b) =
         ap (λ o. (or_mark m o).values) (sym e ∙ ap (closed program plan x) z.need) in
-        let l : HasLeftLoop program plan x (act program plan x a) b (unit_of plan (start.Exit h.head.stmt))
-        (z.ts ++ (h.later ++ outside)) =
-        left_loop program plan x a z.t (z.ts ++ (h.later ++ outside)) b
-        (unit_of plan (start.Exit h.head.stmt)) running
-        (h.within.todo_is ∙ ap (λ ys. ys ++ (h.later ++ outside)) z.todo) z.need in
-        let cheap : x.spent + cost plan (Leave b (unit_of plan (start.Exit h.head.stmt))) ≤ x.budget =
-        paid program plan x (Leave b (unit_of plan (start.Exit h.head.stmt))) z.need refl in
+        let l : HasLeftLoop program plan x (act program plan x a) b (unit_of plan (start.Exit h.came.head.stmt))
+        (z.ts ++ (h.came.later ++ outside)) =
+        left_loop program plan x a z.t (z.ts ++ (h.came.later ++ outside)) b
+        (unit_of plan (start.Exit h.came.head.stmt)) running
+        (h.within.todo_is ∙ ap (λ ys. ys ++ (h.came.later ++ outside)) z.todo) z.need in
+        let cheap : x.spent + cost plan (Leave b (unit_of plan (start.Exit h.came.head.stmt))) ≤ x.budget =
+        paid program plan x (Leave b (unit_of plan (start.Exit h.came.head.stmt))) z.need refl in
         record {
           beside = subst (λ vs. IsBeside program used inside calls closer home depth outside (act program plan x a)
               (skipped program plan vs r)) (sym values) beside;
           kept = fine.on x a ok;
-          unit_is = ap unit_started z.need ∙ ap₂ (λ (ys : List Todo) n. Some (unit_past plan ys n)) (sym h.head_is)
-              (sym h.need_is);
+          unit_is = ap unit_started z.need ∙ ap₂ (λ (ys : List Todo) n. Some (unit_past plan ys n)) (sym h.came.head_is)
+              (sym h.came.need_is);
           running = l.status ∙ running;
           paid = omega (arith, l.spent, l.budget, cheap);
         }

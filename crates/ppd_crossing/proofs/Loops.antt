@@ -81,18 +81,18 @@ module _ (program : Program) (plan : Plan) where
     abbrev pub Loop : Proc → ℕ → Proc → Type 0
     Loop r level x = IsInLoop program plan used inside calls closer home depth outside b u statements r level x
 
-    pub entry_is : (r x : Proc) (level : ℕ) (h : Loop r level x) → entry_of program plan h.head ≡ Some b
+    pub entry_is : (r x : Proc) (level : ℕ) (h : Loop r level x) → entry_of program plan h.came.head ≡ Some b
     entry_is r x level h =
-        entered_by h.head.stmt r (entry_of program plan h.head) (head_deed program h.head r) b u
-        (asks_is program plan r h.head (Enter b u)
-        (head_is program plan r h.head h.later (Enter b u)
-        (sym h.beside.status ∙ h.running) h.head_is h.need_is refl) refl)
+        entered_by h.came.head.stmt r (entry_of program plan h.came.head) (head_deed program h.came.head r) b u
+        (asks_is program plan r h.came.head (Enter b u)
+        (head_is program plan r h.came.head h.came.later (Enter b u)
+        (sym h.came.beside.status ∙ h.came.running) h.came.head_is h.came.need_is refl) refl)
 
-    pub is_loop : (r x : Proc) (level : ℕ) (h : Loop r level x) → IsWhile (kind_of program h.head.stmt)
-        × (is_some (block_of plan (block.Loop h.head.stmt)) ≡ true)
+    pub is_loop : (r x : Proc) (level : ℕ) (h : Loop r level x) → IsWhile (kind_of program h.came.head.stmt)
+        × (is_some (block_of plan (block.Loop h.came.head.stmt)) ≡ true)
     is_loop r x level h = (
-      (entry_loops program plan h.head b (entry_is r x level h)).1,
-      ap is_some (loop_block program plan h.head b
+      (entry_loops program plan h.came.head b (entry_is r x level h)).1,
+      ap is_some (loop_block program plan h.came.head b
           (entry_is r x level h)),
     )
 
@@ -115,24 +115,17 @@ module _ (program : Program) (plan : Plan) where
     loop_on r x a level after h ok running goes sum first =
         let y = advances program plan counting Fine fine
         (Among (postlog_cells plan b)) statements ends static.writing
-        (record h.head { entered = true }) h.base h.below (h.later ++ outside)
+        (record h.came.head { entered = true }) h.base h.below (h.came.later ++ outside)
         (λ e. is_loop r x level h)
         (λ e. absurd (true≢false e)) no_end x a h.within level after h.counted ok running goes sum first
         (λ t ts is none v left q r. no_return h.base h.below
-        (record h.head { entered = true }) h.within.has_called x.frames t ts
+        (record h.came.head { entered = true }) h.within.has_called x.frames t ts
         (subst (λ ys. Held program (Among (postlog_cells plan b)) statements
-        (record h.head
+        (record h.came.head
         { entered = true }) h.base h.below h.within.has_called x.frames ys) is h.within.frames) none r) in
         let spent : IsSpent program plan x (act program plan x a) = spent_act program plan a x in
         record {
-          before = h.before;
-          beside = h.beside;
-          need_is = h.need_is;
-          head = h.head;
-          later = h.later;
-          head_is = h.head_is;
-          goes_on = h.goes_on;
-          unentered = h.unentered;
+          came = h.came;
           base = h.base;
           below = h.below;
           top = h.top;
@@ -141,13 +134,12 @@ module _ (program : Program) (plan : Plan) where
           whole = spent.below ∙ h.whole;
           budget = spent.budget ∙ h.budget;
           spent = omega (arith, spent.spent, h.spent);
-          running = h.running;
         }
 
     pub not_over : (r x : Proc) (level : ℕ) → Loop r level x → Fine x → (c : ℕ) → need_of program plan x ≡ End c → ⊥
     not_over r x level h ok c e =
         never_ends program plan counting Fine fine (Among (postlog_cells plan b)) statements ends static.writing
-        (record h.head { entered = true }) h.base h.below (h.later ++ outside)
+        (record h.came.head { entered = true }) h.base h.below (h.came.later ++ outside)
         (λ e. is_loop r x level h) (λ e. absurd (true≢false e)) no_end x h.within c ok e
 
     pub loop_opens : (r x : Proc) (a : Answer) (level : ℕ) (mark : Mark) → Loop r level x → Fine x

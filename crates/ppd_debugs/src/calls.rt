@@ -1,14 +1,10 @@
-// The calls of the tests, over the forms in memory.
+// The recordings of the tests, and the calls on them.
 
-use ppd_io::{FreeGate, MemoryShelf, MemorySink, MemorySource};
-use ppd_top::ppd;
+use ppd_trials::{Devices, Trial};
 use std::alloc::Global;
 use std::sync::Wait;
 use std::test::Fail;
 use std::thread::Threads;
-
-/// The room of the tests' output, in bytes.
-const ROOM: usize = 512;
 
 /// The source of the smallest run.
 pub(crate) const SMALLEST: &str = "shared int x; process a { x = 2; print(x + 3); }";
@@ -39,33 +35,16 @@ pub(crate) fn recorded(
     Ok(bytes)
 }
 
-/// What a call of these words comes to, with this shelf and these bytes of input: the status and what is written.
-pub(crate) fn call<R: Threads + Wait + Sync>(
-    rt: &R,
-    alloc: Global,
-    words: &[&str],
-    shelf: &mut MemoryShelf,
-    input: &str,
-) -> Result<(u8, Vec<u8>), Fail> {
-    let bytes = Vec::from_slice(alloc, input.as_bytes())?;
-    let mut input = MemorySource::new(bytes, 4096, Vec::new(alloc));
-    let Ok(mut output) = MemorySink::new(alloc, ROOM, Vec::new(alloc)) else {
-        return Err(Fail::new("no answer"));
-    };
-    let outcome = ppd(rt, alloc, words, shelf, &mut input, &mut output, &FreeGate);
-    Ok((outcome.status, Vec::from_slice(alloc, output.bytes())?))
-}
-
 /// What `debug` comes to on these bytes.
 pub(crate) fn debugged<R: Threads + Wait + Sync>(
     rt: &R,
     alloc: Global,
     recording: &[u8],
     input: &str,
-) -> Result<(u8, Vec<u8>), Fail> {
-    let mut shelf = MemoryShelf::new(alloc, Vec::new(alloc));
-    if shelf.put("row.rec", recording).is_err() {
-        return Err(Fail::new("no answer"));
-    }
-    call(rt, alloc, &["debug", "row.rec"], &mut shelf, input)
+) -> Result<Trial, Fail> {
+    let devices = Devices {
+        input: input.as_bytes(),
+        ..Devices::with("row.rec", recording)
+    };
+    devices.call(rt, alloc, &["debug", "row.rec"])
 }

@@ -1,7 +1,8 @@
 // Recordings that `run` stores and `debug` loads.
 
-use crate::calls::{SMALLEST, SMALLEST_LOGS, call, recorded};
-use ppd_io::{MemoryShelf, Shelf};
+use crate::calls::{SMALLEST, SMALLEST_LOGS, recorded};
+use ppd_io::Shelf;
+use ppd_trials::Devices;
 use std::test::Fail;
 
 const SUMMARY: &[u8] = b"process a ended steps 4\nprint a 5\nraces 0\n";
@@ -14,29 +15,24 @@ const RUN: [&str; 3] = ["run", "row1.c", "row1.rec"];
 #[test]
 fn a_stored_recording_is_debugged(rt: HostRuntime) -> Result<(), Fail> {
     let alloc = rt.alloc();
-    let mut shelf = MemoryShelf::new(alloc, Vec::new(alloc));
-    if shelf.put("row1.c", SMALLEST.as_bytes()).is_err() {
-        return Err(Fail::new("no answer"));
-    }
-    let (status, text) = call(&rt, alloc, &RUN, &mut shelf, "")?;
-    assert_eq!(rt; status, 0);
-    assert_eq!(rt; text.as_slice(), SUMMARY);
+    let devices = Devices::with("row1.c", SMALLEST.as_bytes());
+    let mut shelf = devices.shelf(alloc)?;
+    let trial = devices.call_over(&rt, alloc, &RUN, &mut shelf)?;
+    assert_eq!(rt; trial.status, 0);
+    assert_eq!(rt; trial.text.as_slice(), SUMMARY);
     let Ok(stored) = shelf.load(alloc, "row1.rec", 200) else {
         return Err(Fail::new("nothing is stored"));
     };
     let wanted = recorded(alloc, 100_000, SMALLEST, &SMALLEST_LOGS)?;
     assert_eq!(rt; stored.as_slice(), wanted.as_slice());
-    let words = ["debug", "row1.rec"];
-    let (status, text) = call(
-        &rt,
-        alloc,
-        &words,
-        &mut shelf,
-        "races\nblocks a\nblocks b\nquit\nraces\n",
-    )?;
-    assert_eq!(rt; status, 0);
+    let asking = Devices {
+        input: b"races\nblocks a\nblocks b\nquit\nraces\n",
+        ..devices
+    };
+    let trial = asking.call_over(&rt, alloc, &["debug", "row1.rec"], &mut shelf)?;
+    assert_eq!(rt; trial.status, 0);
     assert_eq!(rt;
-        text.as_slice(),
+        trial.text.as_slice(),
         b"races 0\nblock 0 in - process a closed\n? process\n".as_slice()
     );
     Ok(())
@@ -60,13 +56,14 @@ fn failures_of_the_shelf_are_told(rt: HostRuntime) -> Result<(), Fail> {
         ),
     ];
     for (words, fails, status, text) in rows {
-        let mut shelf = MemoryShelf::new(alloc, Vec::from_slice(alloc, &[fails])?);
-        if shelf.put("row1.c", SMALLEST.as_bytes()).is_err() {
-            return Err(Fail::new("no answer"));
-        }
-        let (answered, written) = call(&rt, alloc, words, &mut shelf, "races\n")?;
-        assert_eq!(rt; answered, status, "{words:?}");
-        assert_eq!(rt; written.as_slice(), text, "{words:?}");
+        let devices = Devices {
+            shelf_fails: &[fails],
+            input: b"races\n",
+            ..Devices::with("row1.c", SMALLEST.as_bytes())
+        };
+        let trial = devices.call(&rt, alloc, words)?;
+        assert_eq!(rt; trial.status, status, "{words:?}");
+        assert_eq!(rt; trial.text.as_slice(), text, "{words:?}");
     }
     Ok(())
 }

@@ -56,12 +56,12 @@ fn bad_recordings_are_refused(rt: HostRuntime) -> Result<(), Fail> {
         if place < bytes.len() {
             bytes[place] = byte;
         }
-        let (status, text) = debugged(&rt, alloc, &bytes, "races\n")?;
+        let trial = debugged(&rt, alloc, &bytes, "races\n")?;
         let mut wanted = Vec::from_slice(alloc, b"recording refused ")?;
         wanted.extend_from_slice(line.as_bytes())?;
         wanted.extend_from_slice(b"\n")?;
-        assert_eq!(rt; status, 6, "{line}");
-        assert_eq!(rt; text.as_slice(), wanted.as_slice(), "{line}");
+        assert_eq!(rt; trial.status, 6, "{line}");
+        assert_eq!(rt; trial.text.as_slice(), wanted.as_slice(), "{line}");
     }
     Ok(())
 }
@@ -99,9 +99,9 @@ fn bad_logs_are_refused(rt: HostRuntime) -> Result<(), Fail> {
     ];
     for (source, logs, line) in rows {
         let bytes = recorded(alloc, 100_000, source, logs)?;
-        let (status, text) = debugged(&rt, alloc, &bytes, "races\n")?;
-        assert_eq!(rt; status, 6, "{line}");
-        assert_eq!(rt; text.as_slice(), line.as_bytes(), "{line}");
+        let trial = debugged(&rt, alloc, &bytes, "races\n")?;
+        assert_eq!(rt; trial.status, 6, "{line}");
+        assert_eq!(rt; trial.text.as_slice(), line.as_bytes(), "{line}");
     }
     Ok(())
 }

@@ -29,11 +29,11 @@ fn an_unread_snapshot_makes_no_difference(rt: HostRuntime) -> Result<(), Fail> {
         let mut logs = UNREAD_LOGS;
         logs[SNAPSHOT] = x;
         let bytes = recorded(alloc, 100_000, UNREAD, &logs)?;
-        let (status, text) = debugged(&rt, alloc, &bytes, "races\nopen p 0\n")?;
+        let trial = debugged(&rt, alloc, &bytes, "races\nopen p 0\n")?;
         let mut wanted = Vec::from_slice(alloc, b"races 0\n")?;
         wanted.extend_from_slice(UNREAD_ITEMS)?;
-        assert_eq!(rt; status, 0, "{x}");
-        assert_eq!(rt; text.as_slice(), wanted.as_slice(), "{x}");
+        assert_eq!(rt; trial.status, 0, "{x}");
+        assert_eq!(rt; trial.text.as_slice(), wanted.as_slice(), "{x}");
     }
     Ok(())
 }
@@ -66,13 +66,13 @@ fn a_damaged_rest_is_told(rt: HostRuntime) -> Result<(), Fail> {
         let mut logs = STOPPED;
         logs[REST] = rest;
         let bytes = recorded(alloc, 5, ENDLESS, &logs)?;
-        let (status, text) = debugged(&rt, alloc, &bytes, "open a 0\n\n\nopen a\n")?;
-        assert_eq!(rt; status, wanted, "{rest}");
+        let trial = debugged(&rt, alloc, &bytes, "open a 0\n\n\nopen a\n")?;
+        assert_eq!(rt; trial.status, wanted, "{rest}");
         let mut whole = Vec::from_slice(alloc, told)?;
         if rest == 4 {
             whole.extend_from_slice(b"? command\n")?;
         }
-        assert_eq!(rt; text.as_slice(), whole.as_slice(), "{rest}");
+        assert_eq!(rt; trial.text.as_slice(), whole.as_slice(), "{rest}");
     }
     Ok(())
 }

@@ -13,10 +13,9 @@ use Rattle.ppd_ast.specs.Lookups.{kind_of_stmt, locals_of_body, locals_of}
 use Rattle.ppd_cfg.proofs.Searches as S
 use Rattle.ppd_sets.specs.Gained.{Gains, HasCells}
 use Rattle.ppd_sets.specs.Named.{reads, writes}
-use Rattle.ppd_sets.specs.Used.{reads_at, vars_met, writes_at}
+use Rattle.ppd_sets.specs.Used.{AreSmall, reads_at, vars_met, writes_at}
 use Rattle.ppd_sets.proofs.Gaining.{gains_as, gains_none}
 use Rattle.ppd_sets.proofs.Meeting.{shared_small, vars_same}
-use Rattle.ppd_deps.specs.Tables.{AreSmall}
 
 -- ---- a search
 

@@ -1,18 +1,12 @@
 -- What the search for static edges is given.
-use Rattle.std.specs.Prelude.{◌≡◌, ◌≤◌, List, length, map}
-use Rattle.std.specs.List.{All, range_with_len}
-use Rattle.ppd_ast.specs.Cells.{after}
+use Rattle.std.specs.Prelude.{◌≡◌, length, map}
+use Rattle.std.specs.List.{range_with_len}
 use Rattle.ppd_ast.specs.declared.program.Program.{Program}
-use Rattle.ppd_ast.specs.declared.program.Var.{Var}
 use Rattle.ppd_cfg.specs.Flow.{flow_rows}
 use Rattle.ppd_deps.specs.declared.edges.DepGraph.{DepGraph}
 use Rattle.ppd_deps.specs.declared.tables.Tables.{Tables}
 use Rattle.ppd_deps.specs.Edges.{edges_of}
 use Rattle.ppd_deps.specs.Named.{local_reads, local_writes, running, shared_reads}
-
--- the cells of each of these variables are below 1024
-abbrev pub AreSmall : List Var → Type 0
-AreSmall vars = All (λ x. after x ≤ 1024) vars
 
 -- the successors of each statement, the bodies that run, and the variables that each statement may read and writes
 pub record AreTables (p : Program) (t : Tables) : Type 0 where

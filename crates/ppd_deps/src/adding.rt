@@ -5,7 +5,7 @@ ghost use Rattle.ppd_ast.specs.Numbered.{is_while};
 ghost use Rattle.ppd_ast.specs.Valid.{IsValid};
 ghost use Rattle.ppd_ast.specs.Members.{has, AreBelow};
 ghost use Rattle.ppd_cfg.specs.WorkList.{is_marked};
-ghost use Rattle.ppd_deps.specs.Edges.{comes_to, control_into, data_from, data_into, edges_of, local_edge, locals_from, outer_edge, shared_edge};
+ghost use Rattle.ppd_deps.specs.Edges.{comes_to, control_into, data_into, edges_of, local_edge, locals_from, outer_edge, shared_edge};
 ghost use Rattle.ppd_deps.specs.Named.{places, shared_reads, shared_writes};
 ghost use Rattle.ppd_deps.specs.Rows.{Adds, at_body, is_reader};
 ghost use Rattle.ppd_deps.specs.Tables.{AreTables};
@@ -13,8 +13,9 @@ ghost use Rattle.ppd_deps.specs.Tables.{AreTables};
 use crate::edges::StaticEdge;
 use crate::locals::{Local, Writer, arrivals, begins, places};
 use crate::tables::Tables;
-use crate::vars::{body_at, locals, vars_in, written_cells};
+use crate::vars::{body_at, locals, written_cells};
 use ppd_ast::{Cells, Kind, Memory, Program, Seq};
+use ppd_sets::vars_in;
 use std::alloc::Global;
 
 // Adds the edge to the row, if it is wanted.
@@ -201,26 +202,6 @@ fn add_locals(
     Ok(())
 }
 
-// Adds the edges for what the statement writes to the local variables of all bodies.
-fn add_all_locals(
-    rows: &mut [Seq<StaticEdge>],
-    alloc: Global,
-    program: &Program,
-    tables: &Tables,
-    stmt: u32,
-) -> Result<(), Memory>
-    requires valid { IsValid program.now }
-    requires tables { AreTables program.now tables.now }
-    requires long { length rows.old ≡ length program.now.stmts }
-    requires there { stmt < length program.now.stmts }
-    ensures { OnOk result (Adds rows.old rows.new (λ t. map (local_edge stmt) (locals_from program.now stmt t))) }
-{
-    for body in 0..program.bodies.len() {
-        add_locals(rows, alloc, program, tables, stmt, body as u16)?;
-    }
-    Ok(())
-}
-
 // Adds the edges for what the statement writes to local variables: a `return` writes those of its
 // callers, a call those of the function, and another statement those of its own body.
 fn add_locals_from(
@@ -239,7 +220,9 @@ fn add_locals_from(
     let found = &program.stmts.as_slice()[stmt as usize];
     match &found.kind {
         Kind::Return(_) => {
-            add_all_locals(rows, alloc, program, tables, stmt)?;
+            for body in 0..program.bodies.len() {
+                add_locals(rows, alloc, program, tables, stmt, body as u16)?;
+            }
             Ok(())
         }
         Kind::Call { function, .. } => {
@@ -251,26 +234,6 @@ fn add_locals_from(
             Ok(())
         }
     }
-}
-
-// Adds the data edges from the statement.
-fn add_from(
-    rows: &mut [Seq<StaticEdge>],
-    alloc: Global,
-    program: &Program,
-    tables: &Tables,
-    stmt: u32,
-) -> Result<(), Memory>
-    requires valid { IsValid program.now }
-    requires tables { AreTables program.now tables.now }
-    requires long { length rows.old ≡ length program.now.stmts }
-    requires there { stmt < length program.now.stmts }
-    ensures { OnOk result (Adds rows.old rows.new (data_from program.now stmt)) }
-{
-    let vars = shared_written(alloc, program, tables, stmt)?;
-    add_shared_edges(rows, program, tables, stmt, vars.as_slice())?;
-    add_locals_from(rows, alloc, program, tables, stmt)?;
-    Ok(())
 }
 
 // Adds the data edges.
@@ -285,8 +248,11 @@ fn add_data(
     requires long { length rows.old ≡ length program.now.stmts }
     ensures { OnOk result (Adds rows.old rows.new (data_into program.now)) }
 {
-    for stmt in 0..rows.len() {
-        add_from(rows, alloc, program, tables, stmt as u32)?;
+    for number in 0..rows.len() {
+        let stmt = number as u32;
+        let vars = shared_written(alloc, program, tables, stmt)?;
+        add_shared_edges(rows, program, tables, stmt, vars.as_slice())?;
+        add_locals_from(rows, alloc, program, tables, stmt)?;
     }
     Ok(())
 }

@@ -1,5 +1,5 @@
 // The paths of a local variable's values.
-ghost use Rattle.std.specs.Prelude.{◌≡◌, ◌<◌, ◌^◌, ◌&&◌, ℕ, min, nat_eq, not, [], ◌∷◌, length, slice_get, None, IfOk, if◌then◌else◌};
+ghost use Rattle.std.specs.Prelude.{◌≡◌, ◌<◌, ◌^◌, ◌&&◌, ℕ, nat_eq, not, [], ◌∷◌, length, slice_get, None, IfOk, if◌then◌else◌};
 ghost use Rattle.std.specs.List.{filter, flat_map};
 ghost use Rattle.ppd_ast.specs.Numbered.{numbers_of};
 ghost use Rattle.ppd_ast.specs.Valid.{IsValid};
@@ -16,8 +16,9 @@ ghost use Rattle.ppd_sets.specs.Used.{stmts_at};
 
 use crate::tables::Tables;
 use crate::vars::{does_call, locals, params};
-use ppd_ast::{Body, Ids, Kind, Memory, Program, Seq, Stmt, Target, Var};
+use ppd_ast::{Body, Ids, Kind, Memory, Program, Seq, Target, Var};
 use ppd_cfg::reach;
+use ppd_sets::end_of;
 use std::alloc::Global;
 
 // A local variable of a body, by their numbers.
@@ -181,13 +182,6 @@ pub(crate) fn begins(
         starts.append(first.into_vec())?;
     }
     Ok(starts)
-}
-
-// The number after the body's last statement that is there.
-fn end_of(stmts: &[Stmt], body: &Body) -> u32
-    ensures { result ≡ min body.now.end (length stmts.now) }
-{
-    (body.end as usize).min(stmts.len()) as u32
 }
 
 // The calls of the function among the body's statements.

@@ -1,17 +1,16 @@
 // What the search for static edges is given: successors, bodies that run, and what is read.
-ghost use Rattle.std.specs.Prelude.{◌≡◌, ◌<◌, ◌^◌, map, length, true, false, IfOk};
-ghost use Rattle.std.specs.List.{range_with_len};
+ghost use Rattle.std.specs.Prelude.{◌≡◌, ◌<◌, ◌^◌, length, true, false, IfOk};
 ghost use Rattle.ppd_ast.specs.Valid.{IsValid};
 ghost use Rattle.ppd_ast.specs.Members.{has};
-ghost use Rattle.ppd_cfg.specs.Flow.{flow_rows, next_of};
+ghost use Rattle.ppd_cfg.specs.Flow.{next_of};
 ghost use Rattle.ppd_sets.specs.SetsOf.{AreSetsOf};
 ghost use Rattle.ppd_deps.specs.Named.{local_reads, local_writes, processes, running, shared_reads};
 ghost use Rattle.ppd_deps.specs.Tables.{AreTables};
 
-use crate::vars::{body_at, contains, locals, read_cells, vars_in, vars_of, written_cells};
+use crate::vars::{body_at, contains, locals, read_cells, vars_of, written_cells};
 use ppd_ast::{Cells, Ids, Memory, Program, Seq};
 use ppd_cfg::{reached, successors_of};
-use ppd_sets::{VarSets, calls};
+use ppd_sets::{VarSets, calls, vars_in};
 use std::alloc::Global;
 
 // For each statement its successors, the shared and the local variables that it may read, and the
@@ -63,18 +62,6 @@ impl Tables {
     }
 }
 
-fn next_rows(alloc: Global, program: &Program) -> Result<Seq<Ids>, Memory>
-    requires { length program.now.stmts < 2 ^ 32 }
-    ensures { IfOk result (λ rows. rows ≡ flow_rows program.now) }
-{
-    let mut rows = Seq::new(alloc);
-    for stmt in 0..program.stmts.len() {
-        let row = successors_of(alloc, program, stmt as u32)?;
-        rows.push(row)?;
-    }
-    Ok(rows)
-}
-
 fn process_numbers(alloc: Global, program: &Program) -> Result<Ids, Memory>
     requires { length program.now.bodies < 2 ^ 32 }
     ensures { IfOk result (λ ids. ids ≡ processes program.now) }
@@ -110,21 +97,6 @@ fn shared_row(alloc: Global, program: &Program, sets: &VarSets, stmt: u32) -> Re
     Ok(ids)
 }
 
-fn shared_rows(alloc: Global, program: &Program, sets: &VarSets) -> Result<Seq<Cells>, Memory>
-    requires valid { IsValid program.now }
-    requires sets { AreSetsOf program.now sets.now }
-    requires count { length program.now.stmts < 2 ^ 32 }
-    ensures { IfOk result
-        (λ rows. rows ≡ map (shared_reads program.now) (range_with_len 0 (length program.now.stmts))) }
-{
-    let mut rows = Seq::new(alloc);
-    for stmt in 0..program.stmts.len() {
-        let row = shared_row(alloc, program, sets, stmt as u32)?;
-        rows.push(row)?;
-    }
-    Ok(rows)
-}
-
 // The local variables of its body that a statement may read.
 fn local_row(alloc: Global, program: &Program, stmt: u32) -> Result<Cells, Memory>
     requires { IsValid program.now }
@@ -133,19 +105,6 @@ fn local_row(alloc: Global, program: &Program, stmt: u32) -> Result<Cells, Memor
     let cells = read_cells(program, false, stmt);
     let ids = vars_in(alloc, locals(program, body_at(program, stmt)), &cells)?;
     Ok(ids)
-}
-
-fn local_rows(alloc: Global, program: &Program) -> Result<Seq<Cells>, Memory>
-    requires valid { IsValid program.now }
-    requires count { length program.now.stmts < 2 ^ 32 }
-    ensures { IfOk result (λ rows. rows ≡ map (local_reads program.now) (range_with_len 0 (length program.now.stmts))) }
-{
-    let mut rows = Seq::new(alloc);
-    for stmt in 0..program.stmts.len() {
-        let row = local_row(alloc, program, stmt as u32)?;
-        rows.push(row)?;
-    }
-    Ok(rows)
 }
 
 // The local variables of its body that are written at a statement.
@@ -158,30 +117,27 @@ fn written_row(alloc: Global, program: &Program, stmt: u32) -> Result<Cells, Mem
     Ok(ids)
 }
 
-fn written_rows(alloc: Global, program: &Program) -> Result<Seq<Cells>, Memory>
-    requires valid { IsValid program.now }
-    requires count { length program.now.stmts < 2 ^ 32 }
-    ensures { IfOk result
-        (λ rows. rows ≡ map (local_writes program.now) (range_with_len 0 (length program.now.stmts))) }
-{
-    let mut rows = Seq::new(alloc);
-    for stmt in 0..program.stmts.len() {
-        let row = written_row(alloc, program, stmt as u32)?;
-        rows.push(row)?;
-    }
-    Ok(rows)
-}
-
 pub(crate) fn tables_of(alloc: Global, program: &Program, sets: &VarSets) -> Result<Tables, Memory>
     requires valid { IsValid program.now }
     requires sets { AreSetsOf program.now sets.now }
     ensures { IfOk result (λ t. AreTables program.now t) }
 {
-    let next = next_rows(alloc, program)?;
     let running = running_bodies(alloc, program)?;
-    let shared = shared_rows(alloc, program, sets)?;
-    let local = local_rows(alloc, program)?;
-    let written = written_rows(alloc, program)?;
+    let mut next = Seq::new(alloc);
+    let mut shared = Seq::new(alloc);
+    let mut local = Seq::new(alloc);
+    let mut written = Seq::new(alloc);
+    for number in 0..program.stmts.len() {
+        let stmt = number as u32;
+        let after = successors_of(alloc, program, stmt)?;
+        let shared_vars = shared_row(alloc, program, sets, stmt)?;
+        let local_vars = local_row(alloc, program, stmt)?;
+        let written_vars = written_row(alloc, program, stmt)?;
+        next.push(after)?;
+        shared.push(shared_vars)?;
+        local.push(local_vars)?;
+        written.push(written_vars)?;
+    }
     Ok(Tables {
         next,
         running,

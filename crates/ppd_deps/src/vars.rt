@@ -1,18 +1,16 @@
 // The variables of bodies, and which of them a statement reads and writes.
-ghost use Rattle.std.specs.Prelude.{◌≡◌, ◌≤◌, slice_get, IfOk};
-ghost use Rattle.std.specs.List.{filter, list_any};
-ghost use Rattle.ppd_ast.specs.Cells.{size, after, holds};
+ghost use Rattle.std.specs.Prelude.{◌≡◌, slice_get, IfOk};
+ghost use Rattle.std.specs.List.{filter};
 ghost use Rattle.ppd_ast.specs.Valid.{IsValid};
 ghost use Rattle.ppd_ast.specs.Members.{has};
 ghost use Rattle.ppd_ast.specs.Lookups.{body_of, params_of, locals_of};
 ghost use Rattle.ppd_sets.specs.Gained.{Gains, HasCells};
-ghost use Rattle.ppd_sets.specs.Used.{is_met, reads_at, vars_met, writes_at};
+ghost use Rattle.ppd_sets.specs.Used.{AreSmall, is_met, reads_at, writes_at};
 ghost use Rattle.ppd_deps.specs.Named.{calls};
-ghost use Rattle.ppd_deps.specs.Tables.{AreSmall};
 
 use ppd_ast::{Cells, Kind, Memory, Program, Var};
 use ppd_bits::CellSet;
-use ppd_sets::{add_reads, add_writes};
+use ppd_sets::{add_reads, add_writes, does_meet};
 use std::alloc::Global;
 
 pub(crate) fn body_at(program: &Program, stmt: u32) -> u16
@@ -65,44 +63,6 @@ pub(crate) fn contains(list: &[u16], number: u16) -> bool
         }
     }
     false
-}
-
-// How many cells the variable has.
-fn size_of(var: &Var) -> u16
-    ensures { result ≡ size var.now.len }
-{
-    match var.len {
-        None => 1,
-        Some(len) => len,
-    }
-}
-
-// Whether a cell of the variable is in the set.
-pub(crate) fn does_meet(set: &CellSet, var: &Var) -> bool
-    requires { after var.now ≤ 1024 }
-    ensures { result ≡ list_any (λ c. holds c var.now) set.now }
-{
-    let len = size_of(var);
-    for place in 0..len {
-        if set.contains(var.base + place) {
-            return true;
-        }
-    }
-    false
-}
-
-// The variables of which a cell is in the set, by number, rising. Numbers have 16 bits.
-pub(crate) fn vars_in(alloc: Global, vars: &[Var], set: &CellSet) -> Result<Cells, Memory>
-    requires { AreSmall vars.now }
-    ensures { IfOk result (λ ids. ids ≡ vars_met vars.now set.now) }
-{
-    let mut ids = Cells::new(alloc);
-    for number in 0..vars.len().min(65_536) {
-        if does_meet(set, &vars[number]) {
-            ids.push(number as u16)?;
-        }
-    }
-    Ok(ids)
 }
 
 // Those of the variables of which a cell is in the set.

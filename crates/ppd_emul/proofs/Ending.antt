@@ -2,15 +2,14 @@
 use Rattle.std.proofs.Common.{◌≡◌, ℕ, zero, suc, ◌+◌, ◌<◌, ◌≤◌, Bool, true, false, refl, subst, sym, arith, if◌then◌else◌}
 use Rattle.ppd_ast.specs.declared.plan.Plan.{Plan}
 use Rattle.ppd_ast.specs.declared.program.Program.{Program}
-use Rattle.ppd_entry.specs.IntervalLogs.{IntervalLog}
 use Rattle.ppd_entry.specs.Pieces.{Piece, unit, sync, nested, unfinished, postlog, finish}
 use Rattle.ppd_sem.specs.Blocks.{block_kind, block_unit}
 use Rattle.ppd_sem.specs.declared.proc.Proc.{Proc}
 use Rattle.ppd_emul.specs.declared.wanted.Wanted.TheVariants as wanted
 use Rattle.ppd_emul.specs.Ending.{IsEndedBy, now, later, IsOverBy, ReplaysEndByTurns, TurnsEnd}
 use Rattle.ppd_emul.specs.Fits.{fits, found_of}
-use Rattle.ppd_emul.specs.Laws.{IsOneStep, TakesOneStep}
-use Rattle.ppd_emul.specs.Replay.{Replaying, Replayed, Turn, more, done, begun_replay, fail, go_on, next_piece, replay_from, turn, unit_taken}
+use Rattle.ppd_emul.specs.Laws.{TakesOneStep}
+use Rattle.ppd_emul.specs.Replay.{Replaying, Turn, more, done, begun_replay, fail, go_on, next_piece, replay_from, turn, unit_taken}
 use Rattle.ppd_emul.proofs.Turns.{turns_are_steps}
 
 module _ (program : Program) (plan : Plan) where

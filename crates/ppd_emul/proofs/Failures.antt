@@ -157,21 +157,8 @@ module _ (program : Program) (plan : Plan) where
   without_clear (Read c) r = tt
   without_clear (Write c v) r =
       take_if_clear None (stepped program plan Go (with_write (Write c v) (with_event program plan Go None r)))
-  without_clear Plain r = plain_clear Plain r
-  without_clear (Enter b u) r = plain_clear (Enter b u) r
-  without_clear (Leave b u) r = plain_clear (Leave b u) r
-  without_clear (Invoke b u) r = plain_clear (Invoke b u) r
-  without_clear (Back b u) r = plain_clear (Back b u) r
-  without_clear (P o u) r = plain_clear (P o u) r
-  without_clear (V o u) r = plain_clear (V o u) r
-  without_clear (Send c v u) r = plain_clear (Send c v u) r
-  without_clear (Offer c v) r = plain_clear (Offer c v) r
-  without_clear (Done c u) r = plain_clear (Done c u) r
-  without_clear (Recv c u) r = plain_clear (Recv c u) r
-  without_clear (End b) r = plain_clear (End b) r
-  without_clear (Trap t) r = plain_clear (Trap t) r
-  without_clear Budget r = plain_clear Budget r
   without_clear Stopped r = fewer_clear r
+  without_clear n r = plain_clear n r
 
   wanted_clear : (n : Need) (w : Option Wanted) (r : Replaying) → wanted_of program plan r.proc n ≡ w → IsClearTurn (turn_by_wanted program plan n w r)
   wanted_clear n None r e = without_clear n r

@@ -1,10 +1,11 @@
 -- What the parts of a replay answer.
-use Rattle.std.specs.Prelude.{◌≡◌, ◌≤◌, ℤ, true, List, Option, None, Result, Ok, Err, IsSomeAnd, ⊤, if◌then◌else◌}
+use Rattle.std.specs.Prelude.{◌≡◌, ℕ, ◌+◌, ◌<◌, ◌≤◌, ◌^◌, ℤ, true, List, Option, None, Result, Ok, Err, IsSomeAnd, ⊤, if◌then◌else◌}
 use Rattle.ppd_ast.specs.declared.plan.Plan.{Plan}
 use Rattle.ppd_ast.specs.declared.program.Program.{Program}
 use Rattle.ppd_ast.specs.declared.status.Status.{Status}
 use Rattle.ppd_entry.specs.Pieces.{Piece}
 use Rattle.ppd_sem.specs.Blocks.{skipped, unit_past}
+use Rattle.ppd_sem.specs.Process.{need_of}
 use Rattle.ppd_sem.specs.Runs.{IsNumbered, IsRunnable, IsRunning}
 use Rattle.ppd_sem.specs.declared.proc.Answer.TheVariants.{Go}
 use Rattle.ppd_sem.specs.declared.proc.Need.{Need}
@@ -42,6 +43,13 @@ pub record IsGoing (code : Code) (x : Replayer) : Type 0 where
   pub running : IsRunning code.program.now x.proc
   pub since : x.since ≤ x.steps
 
+-- a step can follow, and it needs this
+pub record IsAtNeed (code : Code) (x : Replayer) (n : Need) : Type 0 where
+  pub sound : IsSound code
+  pub going : IsGoing code x
+  pub few : x.steps < 2 ^ 40
+  pub need : n ≡ need_of code.program.now code.plan.now x.proc
+
 -- the step needs a piece, and this is the one
 abbrev pub Meets : Code → Replayer → Need → Piece → Type 0
 Meets code x n piece =
@@ -69,6 +77,14 @@ abbrev pub turned : Result Turned EmulError → Replayer → Turn
 turned (Ok More) x = more (replaying x)
 turned (Ok Done) x = done (record { steps = x.steps; answer = Ok (record { items = x.items }) })
 turned (Err e) x = done (record { steps = x.steps; answer = Err e })
+
+-- between these states and counts of steps the replay took this turn, of at most one step
+pub record IsTurn (code : Code) (old new : Replayer) (before after : ℕ) (r : Result Turned EmulError) (t : Turn)
+    : Type 0 where
+  pub told : IfTold r (turned r new ≡ t)
+  pub going : IfMore r (IsGoing code new)
+  pub one : new.steps ≤ old.steps + 1
+  pub ticks : after + old.steps ≡ before + new.steps
 
 -- what comes of turns with this answer
 abbrev pub ended : Result (Unit {0}) EmulError → Replayer → Replayed

@@ -1,9 +1,8 @@
-ghost use Rattle.std.specs.Prelude.{◌≡◌, ◌+◌, ◌<◌, ◌≤◌, ◌^◌, true, false, slice_get, Err, None, OnOk};
-ghost use Rattle.ppd_emulate.specs.Emulated.{IfFailed, IfMore, IfTold, IsGoing, IsSound, Meets, alone, replaying, skipped_over, turned};
+ghost use Rattle.std.specs.Prelude.{◌≡◌, ◌<◌, ◌^◌, true, false, Err, None, OnOk};
+ghost use Rattle.ppd_emulate.specs.Emulated.{IfFailed, IfMore, IfTold, IsAtNeed, IsGoing, IsSound, IsTurn, Meets, alone, replaying, skipped_over, turned};
 ghost use Rattle.ppd_emul.specs.Fits.{wanted_of as wanted_of_need};
 ghost use Rattle.ppd_emul.specs.Replay.{counted, fail as fail_of, finished, is_budget, past_piece, received as received_by, skip_nested as skip_nested_of, step_with as step_with_of, step_without as step_without_of, synchronize as synchronize_of, take_unit as take_unit_of, take_unit_if as take_unit_if_of, with_call, with_event, with_item};
 ghost use Rattle.ppd_entry.specs.Pieces.{piece_of, unfinished};
-ghost use Rattle.ppd_model.specs.Story.{cells_of_unit};
 ghost use Rattle.ppd_model.specs.declared.flow.Item.TheVariants.{Nested};
 ghost use Rattle.ppd_sem.specs.Blocks.{head_stmt as head_stmt_of, skipped, unit_past as unit_past_of};
 ghost use Rattle.ppd_sem.specs.Described.{is_event};
@@ -15,11 +14,10 @@ ghost use Rattle.ppd_sem.specs.declared.proc.Need.TheVariants.{Read};
 
 use crate::fitting::{copied, found_of};
 use crate::replayer::{Code, Replayer, Turned, add_event, take_step};
-use crate::wanting::unit_started;
 use ppd_ast::{Memory, Plan, Start, Steps};
 use ppd_emul::{EmulError, Wanted};
 use ppd_entry::Piece;
-use ppd_model::Item;
+use ppd_model::{Item, unit_cells, unit_started};
 use ppd_sem::{Answer, Need, Stack, Todo, find_unit, skip};
 use std::alloc::Global;
 use std::sync::ledger::Ledger;
@@ -36,15 +34,6 @@ pub(crate) fn fail(alloc: Global, state: &Replayer, wanted: Wanted) -> EmulError
             found,
         },
         Err(_) => EmulError::Memory,
-    }
-}
-
-fn unit_cells(plan: &Plan, unit: u16) -> &[u16]
-    ensures { result.now ≡ cells_of_unit (slice_get plan.now.units unit) }
-{
-    match plan.units.as_slice().get(unit as usize) {
-        Some(unit) => unit.cells.as_slice(),
-        None => &[],
     }
 }
 
@@ -101,17 +90,10 @@ fn synchronize<L: Ledger>(
     value: i64,
     steps: &mut Steps<L>,
 ) -> Result<Turned, EmulError>
-    requires code { IsSound code.now }
-    requires state { IsGoing code.now state.old }
-    requires few { state.old.steps < 2 ^ 40 }
-    requires need { need ≡ need_of code.now.program.now code.now.plan.now state.old.proc }
+    requires next { IsAtNeed code.now state.old need }
     requires event { is_event need ≡ true }
-    ensures told { IfTold result
-        (turned result state.new
-        ≡ synchronize_of code.now.program.now code.now.plan.now need number value (replaying state.old)) }
-    ensures going { IfMore result (IsGoing code.now state.new) }
-    ensures one { state.new.steps ≤ state.old.steps + 1 }
-    ensures ticks { steps.new + state.old.steps ≡ steps.old + state.new.steps }
+    ensures { IsTurn code.now state.old state.new steps.old steps.new result
+        (synchronize_of code.now.program.now code.now.plan.now need number value (replaying state.old)) }
 {
     let answer = received(need, value);
     let Ok(()) = add_event(code, state, answer, Some(number)) else {
@@ -190,17 +172,10 @@ fn skip_over<L: Ledger>(
     values: &[i64],
     steps: &mut Steps<L>,
 ) -> Result<Turned, EmulError>
-    requires code { IsSound code.now }
-    requires state { IsGoing code.now state.old }
-    requires few { state.old.steps < 2 ^ 40 }
-    requires need { need ≡ need_of code.now.program.now code.now.plan.now state.old.proc }
+    requires next { IsAtNeed code.now state.old need }
     requires begins { Begins need }
-    ensures told { IfTold result
-        (turned result state.new
-        ≡ skipped_over code.now.program.now code.now.plan.now need values.now (replaying state.old)) }
-    ensures going { IfMore result (IsGoing code.now state.new) }
-    ensures one { state.new.steps ≤ state.old.steps + 1 }
-    ensures ticks { steps.new + state.old.steps ≡ steps.old + state.new.steps }
+    ensures { IsTurn code.now state.old state.new steps.old steps.new result
+        (skipped_over code.now.program.now code.now.plan.now need values.now (replaying state.old)) }
 {
     let unit = unit_past(code.plan, &state.proc.todo, need);
     skip(code.program, code.plan, &mut state.proc, values);
@@ -217,18 +192,11 @@ fn skip_nested<L: Ledger>(
     nested: (u32, u16, &[i64]),
     steps: &mut Steps<L>,
 ) -> Result<Turned, EmulError>
-    requires code { IsSound code.now }
-    requires state { IsGoing code.now state.old }
-    requires few { state.old.steps < 2 ^ 40 }
-    requires need { need ≡ need_of code.now.program.now code.now.plan.now state.old.proc }
+    requires next { IsAtNeed code.now state.old need }
     requires begins { Begins need }
-    ensures told { IfTold result
-        (turned result state.new
-        ≡ skip_nested_of code.now.program.now code.now.plan.now need
+    ensures { IsTurn code.now state.old state.new steps.old steps.new result
+        (skip_nested_of code.now.program.now code.now.plan.now need
         nested.entry.0 nested.entry.1 nested.entry.2.now (replaying state.old)) }
-    ensures going { IfMore result (IsGoing code.now state.new) }
-    ensures one { state.new.steps ≤ state.old.steps + 1 }
-    ensures ticks { steps.new + state.old.steps ≡ steps.old + state.new.steps }
 {
     let (interval, block, values) = nested;
     let Ok(()) = add_call(code, state, need) else {
@@ -249,17 +217,10 @@ fn stop_nested<L: Ledger>(
     block: u16,
     steps: &mut Steps<L>,
 ) -> Result<Turned, EmulError>
-    requires code { IsSound code.now }
-    requires state { IsGoing code.now state.old }
-    requires few { state.old.steps < 2 ^ 40 }
-    requires need { need ≡ need_of code.now.program.now code.now.plan.now state.old.proc }
-    ensures told { IfTold result
-        (turned result state.new
-        ≡ step_with_of code.now.program.now code.now.plan.now need
+    requires { IsAtNeed code.now state.old need }
+    ensures { IsTurn code.now state.old state.new steps.old steps.new result
+        (step_with_of code.now.program.now code.now.plan.now need
         (unfinished interval block) (replaying state.old)) }
-    ensures going { IfMore result (IsGoing code.now state.new) }
-    ensures one { state.new.steps ≤ state.old.steps + 1 }
-    ensures ticks { steps.new + state.old.steps ≡ steps.old + state.new.steps }
 {
     let Ok(()) = add_call(code, state, need) else {
         return Err(EmulError::Memory);
@@ -281,13 +242,9 @@ pub(crate) fn end_with_event<L: Ledger>(
     requires state { IsGoing code.now state.old }
     requires few { state.old.steps < 2 ^ 40 }
     requires event { is_event (need_of code.now.program.now code.now.plan.now state.old.proc) ≡ true }
-    ensures told { IfTold result
-        (turned result state.new
-        ≡ finished
+    ensures { IsTurn code.now state.old state.new steps.old steps.new result
+        (finished
         (counted (with_event code.now.program.now code.now.plan.now Go None (replaying state.old)))) }
-    ensures going { IfMore result (IsGoing code.now state.new) }
-    ensures one { state.new.steps ≤ state.old.steps + 1 }
-    ensures ticks { steps.new + state.old.steps ≡ steps.old + state.new.steps }
 {
     let Ok(()) = add_event(code, state, Answer::Go, None) else {
         return Err(EmulError::Memory);
@@ -304,18 +261,11 @@ pub(crate) fn step_with<L: Ledger>(
     piece: Piece,
     steps: &mut Steps<L>,
 ) -> Result<Turned, EmulError>
-    requires code { IsSound code.now }
-    requires state { IsGoing code.now state.old }
-    requires few { state.old.steps < 2 ^ 40 }
-    requires need { need ≡ need_of code.now.program.now code.now.plan.now state.old.proc }
+    requires next { IsAtNeed code.now state.old need }
     requires meets { Meets code.now state.old need (piece_of piece) }
-    ensures told { IfTold result
-        (turned result state.new
-        ≡ step_with_of code.now.program.now code.now.plan.now need
+    ensures { IsTurn code.now state.old state.new steps.old steps.new result
+        (step_with_of code.now.program.now code.now.plan.now need
         (piece_of piece.entry) (replaying state.old)) }
-    ensures going { IfMore result (IsGoing code.now state.new) }
-    ensures one { state.new.steps ≤ state.old.steps + 1 }
-    ensures ticks { steps.new + state.old.steps ≡ steps.old + state.new.steps }
 {
     match piece {
         Piece::Sync(_, _, number, value) => synchronize(code, state, need, number, value, steps),
@@ -336,17 +286,10 @@ fn step_alone<L: Ledger>(
     need: Need,
     steps: &mut Steps<L>,
 ) -> Result<Turned, EmulError>
-    requires code { IsSound code.now }
-    requires state { IsGoing code.now state.old }
-    requires few { state.old.steps < 2 ^ 40 }
-    requires need { need ≡ need_of code.now.program.now code.now.plan.now state.old.proc }
+    requires next { IsAtNeed code.now state.old need }
     requires event { is_event need ≡ true }
-    ensures told { IfTold result
-        (turned result state.new
-        ≡ alone code.now.program.now code.now.plan.now need (replaying state.old)) }
-    ensures going { IfMore result (IsGoing code.now state.new) }
-    ensures one { state.new.steps ≤ state.old.steps + 1 }
-    ensures ticks { steps.new + state.old.steps ≡ steps.old + state.new.steps }
+    ensures { IsTurn code.now state.old state.new steps.old steps.new result
+        (alone code.now.program.now code.now.plan.now need (replaying state.old)) }
 {
     let Ok(()) = add_event(code, state, Answer::Go, None) else {
         return Err(EmulError::Memory);
@@ -367,16 +310,9 @@ fn read<L: Ledger>(
     cell: u16,
     steps: &mut Steps<L>,
 ) -> Result<Turned, EmulError>
-    requires code { IsSound code.now }
-    requires state { IsGoing code.now state.old }
-    requires few { state.old.steps < 2 ^ 40 }
-    requires need { Read cell ≡ need_of code.now.program.now code.now.plan.now state.old.proc }
-    ensures told { IfTold result
-        (turned result state.new
-        ≡ step_without_of code.now.program.now code.now.plan.now (Read cell) (replaying state.old)) }
-    ensures going { IfMore result (IsGoing code.now state.new) }
-    ensures one { state.new.steps ≤ state.old.steps + 1 }
-    ensures ticks { steps.new + state.old.steps ≡ steps.old + state.new.steps }
+    requires { IsAtNeed code.now state.old (Read cell) }
+    ensures { IsTurn code.now state.old state.new steps.old steps.new result
+        (step_without_of code.now.program.now code.now.plan.now (Read cell) (replaying state.old)) }
 {
     let value = state.in_force.value(cell);
     let Ok(()) = take_step(code, state, Answer::Value(value), steps) else {
@@ -392,18 +328,11 @@ pub(crate) fn step_without<L: Ledger>(
     need: Need,
     steps: &mut Steps<L>,
 ) -> Result<Turned, EmulError>
-    requires code { IsSound code.now }
-    requires state { IsGoing code.now state.old }
-    requires few { state.old.steps < 2 ^ 40 }
-    requires need { need ≡ need_of code.now.program.now code.now.plan.now state.old.proc }
+    requires next { IsAtNeed code.now state.old need }
     requires free { wanted_of_need code.now.program.now code.now.plan.now state.old.proc need ≡ None }
     requires paid { is_budget need ≡ false }
-    ensures told { IfTold result
-        (turned result state.new
-        ≡ step_without_of code.now.program.now code.now.plan.now need (replaying state.old)) }
-    ensures going { IfMore result (IsGoing code.now state.new) }
-    ensures one { state.new.steps ≤ state.old.steps + 1 }
-    ensures ticks { steps.new + state.old.steps ≡ steps.old + state.new.steps }
+    ensures { IsTurn code.now state.old state.new steps.old steps.new result
+        (step_without_of code.now.program.now code.now.plan.now need (replaying state.old)) }
 {
     match need {
         Need::Read(cell) => read(code, state, cell, steps),

@@ -1,17 +1,15 @@
-ghost use Rattle.std.specs.Prelude.{◌≡◌, ◌+◌, ◌<◌, ◌≤◌, ◌^◌, false, Err};
-ghost use Rattle.ppd_emulate.specs.Emulated.{IfFailed, IfMore, IfTold, IsGoing, IsSound, replaying, turned, unstopped};
+ghost use Rattle.std.specs.Prelude.{◌≡◌, ◌<◌, ◌^◌, false, Err};
+ghost use Rattle.ppd_emulate.specs.Emulated.{IfFailed, IsAtNeed, IsGoing, IsSound, IsTurn, replaying, turned, unstopped};
 ghost use Rattle.ppd_emul.specs.Fits.{wanted_of as wanted_of_need};
-ghost use Rattle.ppd_emul.specs.Replay.{end_here as end_here_of, goes_on as goes_on_of, is_budget, turn as turn_of, turn_at_end as turn_at_end_of, turn_at_trap as turn_at_trap_of, turn_by_wanted as turn_by_wanted_of, turn_within as turn_within_of};
+ghost use Rattle.ppd_emul.specs.Replay.{end_here as end_here_of, goes_on as goes_on_of, is_budget, turn as turn_of, turn_at_end as turn_at_end_of, turn_by_wanted as turn_by_wanted_of};
 ghost use Rattle.ppd_entry.specs.Pieces.{piece_of};
-ghost use Rattle.ppd_sem.specs.Described.{trap_of};
-ghost use Rattle.ppd_sem.specs.Process.{need_of};
 ghost use Rattle.ppd_sem.specs.Runs.{IsRunning};
 
 use crate::fitting::{fits, is_same_trap};
 use crate::replayer::{Code, Replayer, Turned};
 use crate::stepping::{end_with_event, fail, step_with, step_without};
 use crate::wanting::{is_sync, wanted_of};
-use ppd_ast::{Status, Steps, Trap};
+use ppd_ast::{Status, Steps};
 use ppd_emul::{EmulError, Wanted};
 use ppd_entry::Piece;
 use ppd_sem::{Need, look};
@@ -24,18 +22,11 @@ fn turn_by_wanted<L: Ledger>(
     need: Need,
     steps: &mut Steps<L>,
 ) -> Result<Turned, EmulError>
-    requires code { IsSound code.now }
-    requires state { IsGoing code.now state.old }
-    requires few { state.old.steps < 2 ^ 40 }
-    requires need { need ≡ need_of code.now.program.now code.now.plan.now state.old.proc }
+    requires next { IsAtNeed code.now state.old need }
     requires paid { is_budget need ≡ false }
-    ensures told { IfTold result
-        (turned result state.new
-        ≡ turn_by_wanted_of code.now.program.now code.now.plan.now need
+    ensures { IsTurn code.now state.old state.new steps.old steps.new result
+        (turn_by_wanted_of code.now.program.now code.now.plan.now need
         (wanted_of_need code.now.program.now code.now.plan.now state.old.proc need) (replaying state.old)) }
-    ensures going { IfMore result (IsGoing code.now state.new) }
-    ensures one { state.new.steps ≤ state.old.steps + 1 }
-    ensures ticks { steps.new + state.old.steps ≡ steps.old + state.new.steps }
 {
     match wanted_of(code.alloc, code.program, code.plan, &state.proc, need) {
         Ok(Some(wanted)) => {
@@ -65,37 +56,6 @@ fn goes_on(code: &Code, state: &Replayer, need: Need) -> EmulError
     }
 }
 
-/// The process traps here, after its steps: its next step traps so.
-fn turn_at_trap<L: Ledger>(
-    code: &Code,
-    state: &mut Replayer,
-    trap: Trap,
-    need: Need,
-    steps: &mut Steps<L>,
-) -> Result<Turned, EmulError>
-    requires code { IsSound code.now }
-    requires state { IsGoing code.now state.old }
-    requires few { state.old.steps < 2 ^ 40 }
-    requires need { need ≡ need_of code.now.program.now code.now.plan.now state.old.proc }
-    ensures told { IfTold result
-        (turned result state.new
-        ≡ turn_at_trap_of code.now.program.now code.now.plan.now trap (trap_of need) need (replaying state.old)) }
-    ensures going { IfMore result (IsGoing code.now state.new) }
-    ensures one { state.new.steps ≤ state.old.steps + 1 }
-    ensures ticks { steps.new + state.old.steps ≡ steps.old + state.new.steps }
-{
-    match need {
-        Need::Trap(found) => {
-            if is_same_trap(trap, found) {
-                end_with_event(code, state, steps)
-            } else {
-                Err(fail(code.alloc, state, Wanted::End(Status::Trap(found))))
-            }
-        }
-        _ => Err(goes_on(code, state, need)),
-    }
-}
-
 /// The process ends here, after its steps: it traps, or was blocked at a synchronization.
 fn turn_at_end<L: Ledger>(
     code: &Code,
@@ -104,16 +64,9 @@ fn turn_at_end<L: Ledger>(
     need: Need,
     steps: &mut Steps<L>,
 ) -> Result<Turned, EmulError>
-    requires code { IsSound code.now }
-    requires state { IsGoing code.now state.old }
-    requires few { state.old.steps < 2 ^ 40 }
-    requires need { need ≡ need_of code.now.program.now code.now.plan.now state.old.proc }
-    ensures told { IfTold result
-        (turned result state.new
-        ≡ turn_at_end_of code.now.program.now code.now.plan.now status need (replaying state.old)) }
-    ensures going { IfMore result (IsGoing code.now state.new) }
-    ensures one { state.new.steps ≤ state.old.steps + 1 }
-    ensures ticks { steps.new + state.old.steps ≡ steps.old + state.new.steps }
+    requires { IsAtNeed code.now state.old need }
+    ensures { IsTurn code.now state.old state.new steps.old steps.new result
+        (turn_at_end_of code.now.program.now code.now.plan.now status need (replaying state.old)) }
 {
     match status {
         Status::Blocked => {
@@ -123,7 +76,16 @@ fn turn_at_end<L: Ledger>(
                 Err(goes_on(code, state, need))
             }
         }
-        Status::Trap(trap) => turn_at_trap(code, state, trap, need, steps),
+        Status::Trap(trap) => match need {
+            Need::Trap(found) => {
+                if is_same_trap(trap, found) {
+                    end_with_event(code, state, steps)
+                } else {
+                    Err(fail(code.alloc, state, Wanted::End(Status::Trap(found))))
+                }
+            }
+            _ => Err(goes_on(code, state, need)),
+        },
         Status::Ended | Status::Budget => Err(goes_on(code, state, need)),
     }
 }
@@ -144,32 +106,6 @@ fn end_here(since: u64, piece: Piece) -> Option<Status>
     }
 }
 
-/// A turn that the budget allows, where it is not over for a stop for the budget.
-fn turn_within<L: Ledger>(
-    code: &Code,
-    state: &mut Replayer,
-    ending: Option<Status>,
-    need: Need,
-    steps: &mut Steps<L>,
-) -> Result<Turned, EmulError>
-    requires code { IsSound code.now }
-    requires state { IsGoing code.now state.old }
-    requires few { state.old.steps < 2 ^ 40 }
-    requires need { need ≡ need_of code.now.program.now code.now.plan.now state.old.proc }
-    requires paid { is_budget need ≡ false }
-    ensures told { IfTold result
-        (turned result state.new
-        ≡ turn_within_of code.now.program.now code.now.plan.now ending need (replaying state.old)) }
-    ensures going { IfMore result (IsGoing code.now state.new) }
-    ensures one { state.new.steps ≤ state.old.steps + 1 }
-    ensures ticks { steps.new + state.old.steps ≡ steps.old + state.new.steps }
-{
-    match ending {
-        Some(status) => turn_at_end(code, state, status, need, steps),
-        None => turn_by_wanted(code, state, need, steps),
-    }
-}
-
 /// A turn where a process does not stop for its budget here.
 fn turn_unstopped<L: Ledger>(
     code: &Code,
@@ -178,20 +114,16 @@ fn turn_unstopped<L: Ledger>(
     need: Need,
     steps: &mut Steps<L>,
 ) -> Result<Turned, EmulError>
-    requires code { IsSound code.now }
-    requires state { IsGoing code.now state.old }
-    requires few { state.old.steps < 2 ^ 40 }
-    requires need { need ≡ need_of code.now.program.now code.now.plan.now state.old.proc }
-    ensures told { IfTold result
-        (turned result state.new
-        ≡ unstopped code.now.program.now code.now.plan.now ending need (replaying state.old)) }
-    ensures going { IfMore result (IsGoing code.now state.new) }
-    ensures one { state.new.steps ≤ state.old.steps + 1 }
-    ensures ticks { steps.new + state.old.steps ≡ steps.old + state.new.steps }
+    requires { IsAtNeed code.now state.old need }
+    ensures { IsTurn code.now state.old state.new steps.old steps.new result
+        (unstopped code.now.program.now code.now.plan.now ending need (replaying state.old)) }
 {
     match need {
         Need::Budget => Err(fail(code.alloc, state, Wanted::Fewer)),
-        _ => turn_within(code, state, ending, need, steps),
+        _ => match ending {
+            Some(status) => turn_at_end(code, state, status, need, steps),
+            None => turn_by_wanted(code, state, need, steps),
+        },
     }
 }
 
@@ -204,11 +136,8 @@ pub(crate) fn turn<L: Ledger>(
     requires code { IsSound code.now }
     requires state { IsGoing code.now state.old }
     requires few { state.old.steps < 2 ^ 40 }
-    ensures told { IfTold result
-        (turned result state.new ≡ turn_of code.now.program.now code.now.plan.now (replaying state.old)) }
-    ensures going { IfMore result (IsGoing code.now state.new) }
-    ensures one { state.new.steps ≤ state.old.steps + 1 }
-    ensures ticks { steps.new + state.old.steps ≡ steps.old + state.new.steps }
+    ensures { IsTurn code.now state.old state.new steps.old steps.new result
+        (turn_of code.now.program.now code.now.plan.now (replaying state.old)) }
 {
     let need = look(code.program, code.plan, &state.proc);
     let (_, piece) = state.pieces.next();

@@ -15,7 +15,7 @@ use Rattle.ppd_blocks.specs.Blocks.{block_of as block_from, plan_of}
 use Rattle.ppd_step_laws.proofs.Course.Outward.{none_some, some_is}
 use Rattle.ppd_sem.specs.Tables.{block_of}
 use Rattle.ppd_beside.specs.Beside.{Each}
-use Rattle.ppd_facts.proofs.Planned.{block_there}
+use Rattle.ppd_nested.proofs.Planned.{block_there}
 
 each_both : {X : Type 0} (P : X → Type 0) (xs ys : List X) → Each P xs → Each P ys → Each P (xs ++ ys)
 each_both P [] ys h g = g

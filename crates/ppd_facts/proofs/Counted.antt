@@ -29,7 +29,7 @@ use Rattle.ppd_nested.specs.Stack.{block_frames}
 use Rattle.ppd_facts.proofs.Called.{AreCalled}
 use Rattle.ppd_facts.proofs.BlockOpens.{is_function_body}
 use Rattle.ppd_facts.proofs.Placed.{callee}
-use Rattle.ppd_facts.proofs.Planned.{calling_found}
+use Rattle.ppd_nested.proofs.Planned.{calling_found}
 
 -- ---- the body of a statement, by the order of its body's statements
 

@@ -1,6 +1,5 @@
 pub mod Within
 pub mod Keeping
-pub mod Planned
 pub mod Placed
 pub mod BlockOpens
 pub mod Named
@@ -14,4 +13,4 @@ pub mod State
 pub mod Ended
 pub mod Fine
 pub mod BlockKinds
-pub mod FunctionBlocks
+pub mod BodyBlocks

@@ -14,7 +14,7 @@ use Rattle.ppd_ast.specs.Members.{has}
 use Rattle.ppd_ast.specs.Lookups.{kind_of, body_of_stmt}
 use Rattle.ppd_ast.proofs.Members.{has_first, has_later, has_cons, has_left, has_right, has_filter, below_range}
 use Rattle.ppd_blocks.specs.Blocks.{plan_of, prelog_of}
-use Rattle.ppd_sem.specs.Blocks.{postlog_cells, postlog_in, prelog_cells, prelog_in}
+use Rattle.ppd_sem.specs.Blocks.{postlog_cells, postlog_in}
 use Rattle.ppd_sem.specs.declared.proc.Todo.{Todo}
 use Rattle.ppd_sem.specs.Described.{ends_body}
 use Rattle.ppd_sem.specs.Tables.{block_of}
@@ -33,7 +33,7 @@ use Rattle.ppd_beside.proofs.Kept.{IsOwned}
 use Rattle.ppd_beside.proofs.Staying.{IsClosed}
 use Rattle.ppd_facts.proofs.Named.{kind_over, kind_writing}
 use Rattle.ppd_facts.proofs.Placed.{IsAt, inside_goes_on, listed}
-use Rattle.ppd_facts.proofs.Planned.{block_there}
+use Rattle.ppd_nested.proofs.Planned.{block_there}
 use Rattle.ppd_facts.proofs.Within.{child_within, listed_within, stands_through, within_cases, within_listed}
 
 -- statement s is the loop q or stands in it
@@ -106,9 +106,6 @@ module _ (program : Program) (policy : Policy) (v : IsValid program) (q b : ℕ)
   -- the loop's postlog and prelog
   pub postlog_is : postlog_cells (plan_of program policy) b ≡ loop_defined_of program q
   postlog_is = ap postlog_in (block_there program policy (block.Loop q) b e)
-
-  pub prelog_is : prelog_cells (plan_of program policy) b ≡ prelog_of program (block.Loop q)
-  prelog_is = ap prelog_in (block_there program policy (block.Loop q) b e)
 
   loop_within : (s : ℕ) → IsWithin program q s → (stmts : List ℕ) → IsListOf (kind_of program s) stmts
       → Each (IsWithin program q) stmts

@@ -1,11 +1,8 @@
 -- What holds of every state of a run of a valid program.
-use Rattle.std.proofs.Common.{◌≡◌, ℕ, ◌+◌, ◌<◌, true, List, [], ◌∷◌, Some, refl, ap, sym, subst, ◌∙◌, arith, length, true≢false}
+use Rattle.std.proofs.Common.{◌≡◌, ℕ, ◌+◌, ◌<◌, List, [], ◌∷◌, Some, refl, ap, sym, subst, ◌∙◌, arith, length}
 use Rattle.std.specs.Prelude.{slice_get}
-use Rattle.ppd_ast.specs.declared.plan.BlockKind.TheVariants as block
 use Rattle.ppd_ast.specs.declared.plan.Plan.{Plan}
 use Rattle.ppd_ast.specs.declared.plan.Policy.{Policy}
-use Rattle.ppd_ast.specs.declared.program.Kind.{Kind}
-use Rattle.ppd_ast.specs.declared.program.Kind.TheVariants as kind
 use Rattle.ppd_ast.specs.declared.program.Program.{Program}
 use Rattle.ppd_ast.specs.Valid.{IsValid}
 use Rattle.ppd_ast.proofs.ValidLaws.{slice_get_there}
@@ -19,11 +16,9 @@ use Rattle.ppd_sem.specs.declared.proc.Need.{Need}
 use Rattle.ppd_sem.specs.declared.proc.Need.TheVariants.{Enter, Offer, Done, Trap, Budget, Stopped}
 use Rattle.ppd_sem.specs.declared.proc.Proc.{Proc}
 use Rattle.ppd_sem.specs.declared.proc.Todo.{Todo}
-use Rattle.ppd_sem.specs.Described.{ends_body}
 use Rattle.ppd_sem.specs.Process.{act, act_at, act_by_need, entry_of, head_deed, need_of, started, top_body}
 use Rattle.ppd_sem.specs.Offers.{OffersAtHead}
 use Rattle.ppd_sem.specs.Runs.{IsRunning}
-use Rattle.ppd_sem.specs.Tables.{block_of}
 use Rattle.ppd_sem.proofs.Kept.{act-runs}
 use Rattle.ppd_sem.proofs.Marked.{at_head}
 use Rattle.ppd_sem.proofs.Offering.{offers_completed}
@@ -39,7 +34,6 @@ use Rattle.ppd_nested.specs.Stack.{block_frames}
 use Rattle.ppd_facts.proofs.Counted.{call_counted, end_alone, end_process}
 use Rattle.ppd_facts.proofs.Entered.{IsEntered, IsReady, IsReadyAll, act_ready, started_ready}
 use Rattle.ppd_facts.proofs.Bodies.{HasCall, IsOf}
-use Rattle.ppd_facts.proofs.Loops.{IsWithin, loop_goes_on}
 use Rattle.ppd_facts.proofs.Sized.{AreSized, act_sized, started_sized}
 
 pub record IsState (program : Program) (plan : Plan) (s : Proc) : Type 0 where
@@ -120,17 +114,7 @@ module _ (program : Program) (plan : Plan) (v : IsValid program) where
         end_alone program t.stmt x.0 f fs v x.1 (subst IsEnd (ap kind_of_stmt x.1) e) (sym (ap body_of_stmt x.1) ∙ body)
         (subst (AreCalled program) top h.called)
 
--- none of the statements of a loop is an end, nor of a function
-end_ends : (k : Kind) → IsEnd k → ends_body k ≡ true
-end_ends kind.End e = refl
-end_ends k e = absurd e
-
-pub no_end_in_loop : (program : Program) (policy : Policy) → IsValid program → (q b : ℕ)
-    → block_of (plan_of program policy) (block.Loop q) ≡ Some b → (i : ℕ) → IsWithin program q i
-    → IsEnd (kind_of program i) → ⊥
-no_end_in_loop program policy v q b e i h is =
-    true≢false (sym (end_ends (kind_of program i) is) ∙ loop_goes_on program policy v q b e i h)
-
+-- none of the statements of a function is an end
 pub no_end_in_function : (program : Program) → IsValid program → (f : ℕ) → f < program.functions → (i : ℕ)
     → IsOf program f i → IsEnd (kind_of program i) → ⊥
 no_end_in_function program v f lt i h is =

@@ -1,67 +1,44 @@
 -- What the counter rose by, in the own steps of the run's intervals.
-use Rattle.std.proofs.Common.{◌≡◌, ℕ, zero, suc, ◌+◌, ◌≤◌, ℤ, List, [], ◌∷◌, Option, Some, None, Result, Ok, refl, ap, ap₂, sym, ◌∙◌, subst, arith, get_or}
+use Rattle.std.proofs.Common.{◌≡◌, ℕ, ◌+◌, ◌≤◌, ℤ, List, [], ◌∷◌, Option, Some, None, Result, Ok, refl, ap, ap₂, sym, ◌∙◌, subst, arith, get_or}
 use Rattle.std.specs.Prelude.{slice_get}
 use Rattle.std.proofs.lemmas.List.Sums.{sum_by-cons}
 use Rattle.ppd_ast.specs.Valid.{IsValid}
 use Rattle.ppd_ast.specs.declared.plan.Plan.{Plan}
 use Rattle.ppd_ast.specs.declared.plan.Policy.{Policy}
-use Rattle.ppd_ast.specs.declared.program.Program.{Program}
 use Rattle.ppd_entry.specs.declared.entry.Logs.{Logs}
 use Rattle.ppd_model.specs.declared.flow.FlowEdge.{FlowEdge}
 use Rattle.ppd_model.specs.declared.flow.Origin.{Origin}
-use Rattle.ppd_model.specs.declared.tracing.Story.{Story}
 use Rattle.ppd_model.specs.FlowbackEdges.{edges}
-use Rattle.ppd_model.specs.Intervals.{Span, Split, split_of, splits}
+use Rattle.ppd_model.specs.Intervals.{Split, splits}
 use Rattle.ppd_model.specs.Logs.{closed_logs}
-use Rattle.ppd_model.specs.Story.{Moment, steps_of, story, told}
-use Rattle.ppd_near.specs.Costs.{EdgesCostLittle, LastCostsLittle, steps_in, steps_of_all, steps_of_span}
+use Rattle.ppd_model.specs.Story.{story, told}
+use Rattle.ppd_near.specs.Costs.{EdgesCostLittle, LastCostsLittle, steps_in, steps_of_all}
 use Rattle.ppd_own_loops.specs.AllOwnParts.{AllOwnPartsAreFound}
 use Rattle.ppd_past.specs.declared.flow_error.FlowError.{FlowError}
 use Rattle.ppd_past.specs.declared.past.Past.{Past}
-use Rattle.ppd_past.specs.ByReplays.{IsFoundBy, cost}
-use Rattle.ppd_past.specs.Honest.{ReplaysAreSeen, steps_of_span as seen_steps}
+use Rattle.ppd_past.specs.ByReplays.{cost}
+use Rattle.ppd_past.specs.Honest.{ReplaysAreSeen}
 use Rattle.ppd_past.specs.SeenBy.{own_steps_of, steps_in as replayed_steps}
 use Rattle.ppd_search.specs.Found.{edges_replays}
 use Rattle.ppd_search.specs.Seen.{Seen}
-use Rattle.ppd_search.specs.Shared.{found_last, last_replays}
+use Rattle.ppd_search.specs.Shared.{last_replays}
 use Rattle.ppd_shared_edges.specs.Assembled.{EdgesAreFound, HasOwnParts}
 use Rattle.ppd_shared_edges.specs.SharedEdges.{all_seen}
-use Rattle.ppd_walk.specs.SharedCells.{answer_of, seens_in}
+use Rattle.ppd_walk.specs.SharedCells.{IsLastFound, seens_in}
 use Rattle.ppd_flow.specs.Answers.{IsEdges}
 use Rattle.ppd_flow.specs.Runs.{CostsEdges, CostsLast, IsOfRun, edges_or_none, splits_in, story_in}
-use Rattle.ppd_flow.proofs.OfRuns.{gives_edges, is_seen, parts, rows, seens_are}
-
-same_steps : (o : Option Span) → seen_steps o ≡ steps_of_span o
-same_steps None = refl
-same_steps (Some i) = refl
-
--- ---- processes one after another
-
-module _ (program : Program) (plan : Plan) (budget : ℕ) (s : Story) where
-  steps_from : (k : ℕ) (ms : List (List Moment))
-      → ((p : ℕ) (x : Split) → slice_get (parts program plan budget s k ms) p ≡ Some x → (i : ℕ) → own_steps_of program plan budget (get_or (rows program plan budget s k ms) p []) i ≡ steps_of_span (slice_get x.spans i))
-      → (p i : ℕ) → own_steps_of program plan budget (get_or (rows program plan budget s k ms) p []) i ≡ steps_in (slice_get (parts program plan budget s k ms) p) i
-  steps_from k [] h p i = refl
-  steps_from k (m ∷ ms) h zero i = h 0 (split_of program plan budget s k (steps_of m)) refl i
-  steps_from k (m ∷ ms) h (suc p) i = steps_from (k + 1) ms (λ q x e. h (suc q) x e) p i
+use Rattle.ppd_flow.proofs.OfRuns.{at_each_log, gives_edges, is_seen, seens_are}
 
 -- ---- a past of a run
 
 module _ (law : ReplaysAreSeen) (past : Past) (policy : Policy) (h : List ℕ) (v : IsValid past.program.now) (r : IsOfRun past policy h) where
-  abbrev program : Program
-  program = past.program.now
-
-  abbrev plan : Plan
-  plan = past.plan.now
-
-  abbrev budget : ℕ
-  budget = past.budget
-
   own_steps : (p i : ℕ) → replayed_steps past p i ≡ steps_in (slice_get (splits_in past h) p) i
   own_steps p i =
-      ap (λ (logs : Logs). own_steps_of program plan budget (get_or logs.lists p []) i) r.logs_are
-      ∙ steps_from program plan budget (story_in past h) 0 (told program plan budget h).moments
-      (λ q x e n. (is_seen law past policy h v r q x e).steps n ∙ same_steps (slice_get x.spans n)) p i
+      ap (λ (logs : Logs). own_steps_of past.program.now past.plan.now past.budget (get_or logs.lists p []) i) r.logs_are
+      ∙ at_each_log past.program.now past.plan.now past.budget (story_in past h)
+      (λ es x. own_steps_of past.program.now past.plan.now past.budget es i ≡ steps_in x i) refl 0
+      (told past.program.now past.plan.now past.budget h).moments
+      (λ q x e. (is_seen law past policy h v r q x e).steps i) p
 
   pub cost_is : (ms : List (ℕ × ℕ)) → cost past ms ≡ steps_of_all (splits_in past h) ms
   cost_is [] = refl
@@ -70,10 +47,9 @@ module _ (law : ReplaysAreSeen) (past : Past) (policy : Policy) (h : List ℕ) (
       ∙ sym (sum_by-cons (λ (n : ℕ × ℕ). steps_in (slice_get (splits_in past h) n.0) n.1) m ms)
 
 pub costs_last : ReplaysAreSeen → LastCostsLittle → (past : Past) (c n m : ℕ) (res : Result (ℤ × Origin) FlowError) → IsValid past.program.now
-    → IsFoundBy past (last_replays past.program.now past.logs.now (seens_in past) c) (answer_of (found_last past.program.now past.logs.now (seens_in past) c)) n m res → CostsLast past c n m res
+    → IsLastFound past c n m res → CostsLast past c n m res
 costs_last law little past c n m res v f policy h answer r lt is =
-    let g : IsFoundBy past (last_replays past.program.now past.logs.now (seens_in past) c) (answer_of (found_last past.program.now past.logs.now (seens_in past) c)) n m (Ok answer) =
-    subst (λ (z : Result (ℤ × Origin) FlowError). IsFoundBy past (last_replays past.program.now past.logs.now (seens_in past) c) (answer_of (found_last past.program.now past.logs.now (seens_in past) c)) n m z) is f in
+    let g : IsLastFound past c n m (Ok answer) = subst (λ (z : Result (ℤ × Origin) FlowError). IsLastFound past c n m z) is f in
     let same : last_replays past.program.now past.logs.now (seens_in past) c ≡ last_replays past.program.now (closed_logs past.program.now past.plan.now past.budget h) (all_seen past.program.now past.plan.now past.budget h) c =
     ap (λ (l : Logs). last_replays past.program.now l (seens_in past) c) r.logs_are
     ∙ ap (λ (xs : List Seen). last_replays past.program.now (closed_logs past.program.now past.plan.now past.budget h) xs c) (seens_are law past policy h v r) in

@@ -8,10 +8,9 @@ use Rattle.ppd_model.specs.declared.flow.FlowEdge.{FlowEdge}
 use Rattle.ppd_model.specs.declared.flow.Origin.{Origin}
 use Rattle.ppd_model.specs.FlowbackEdges.{bare_edge}
 use Rattle.ppd_past.specs.declared.flow_error.FlowError.{FlowError}
-use Rattle.ppd_past.specs.declared.flow_error.FlowError.TheVariants.{Diverged, NoEvent, Sets, Memory}
 use Rattle.ppd_past.specs.declared.past.Past.{Past}
 use Rattle.ppd_past.specs.ByReplays.{IsFoundBy}
-use Rattle.ppd_past.proofs.Found.{found_err, found_then}
+use Rattle.ppd_past.proofs.Found.{err_any, found_err, found_then}
 use Rattle.ppd_search.specs.Control.{control_origin, control_replays}
 use Rattle.ppd_search.specs.Found.{and_more, event_edges, event_replays, if_found, pair_edges, sync_edges}
 use Rattle.ppd_search.specs.Seen.{Seen}
@@ -19,18 +18,10 @@ use Rattle.ppd_search.specs.Shared.{Missing, of_process, pair_origin, seen_at}
 use Rattle.ppd_walk.specs.SharedCells.{answer_of, seens_in}
 use Rattle.ppd_local.specs.declared.search.Place.{Place}
 use Rattle.ppd_local.specs.declared.search.Search.{Search}
-use Rattle.ppd_local.specs.Searches.{IsFound, control_origin_at, control_replays_at}
+use Rattle.ppd_local.specs.Searches.{IsControlFound}
 use Rattle.ppd_flow.specs.Answers.{pair_edge_at, pair_edge_if, pair_replays_at, reads_at, reads_replays_at}
 use Rattle.ppd_flow.proofs.Answered.{found_is, not_found, so_found}
 use Rattle.ppd_flow.proofs.Seens.{same_seen}
-
--- it failed, whatever would have been found
-pub err_any : {A B : Type 0} (past : Past) (ms : List (ℕ × ℕ)) (v : A) (b : Result B FlowError) (n m : ℕ) (e : FlowError)
-    → IsFoundBy {A = A} past ms (Ok v) n m (Err e) → IsFoundBy {A = B} past ms b n m (Err e)
-err_any past ms v b n m NoEvent f = absurd (cc f.1)
-err_any past ms v b n m (Sets p k c) f = absurd (cc f.1)
-err_any past ms v b n m (Diverged p k) f = f
-err_any past ms v b n m Memory f = tt
 
 assoc : (xs ys zs : List FlowEdge) → (xs ++ ys) ++ zs ≡ xs ++ (ys ++ zs)
 assoc [] ys zs = refl
@@ -81,7 +72,7 @@ module _ (s : Search) (place : Place) (e : Event) where
       → IsFoundBy past (reads_replays_at s place reads) (answer_of (reads_at s place reads)) n m r → IsFoundBy past read_list (answer_of reads_here) n m r
   read_here reads n m r is f = subst (λ (z : List Access). IsFoundBy past (reads_replays_at s place z) (answer_of (reads_at s place z)) n m r) is f
 
-  control_here : (m o : ℕ) (r : Result Origin FlowError) → IsFound s (control_replays_at s place e.stmt) (control_origin_at s place e.stmt) m o r
+  control_here : (m o : ℕ) (r : Result Origin FlowError) → IsControlFound s place e.stmt m o r
       → IsFoundBy past control_list (Ok control) m o r
   control_here m o r f =
       subst (λ (x : Seen). IsFoundBy past (of_process s.process (control_replays past.program.now past.plan.now x s.process place.interval place.item e.stmt))
@@ -108,13 +99,13 @@ module _ (s : Search) (place : Place) (e : Event) where
         after_reads rs n m k (Err x) reads (found_err past pair_list control_list (pair_edge_at s place e.number) (Ok (rs ++ more)) m k x f)
 
     module _ (pe : Option FlowEdge) (k o : ℕ) (pair : IsFoundBy past pair_list (Ok (pair_edge_at s place e.number)) m k (Ok pe)) where
-      pub control_failed : (x : FlowError) → IsFound s (control_replays_at s place e.stmt) (control_origin_at s place e.stmt) k o (Err x) → IsEvent n o (Err x)
+      pub control_failed : (x : FlowError) → IsControlFound s place e.stmt k o (Err x) → IsEvent n o (Err x)
       control_failed x f =
           after_reads rs n m o (Err x) reads
           (found_then past pair_list control_list (Ok (pair_edge_at s place e.number)) (Ok (rs ++ more)) pe m k o (Err x) pair
           (err_any past control_list control (Ok (rs ++ more)) k o x (control_here k o (Err x) f)))
 
-      pub event_found : (co : Origin) (now : List FlowEdge) → IsFound s (control_replays_at s place e.stmt) (control_origin_at s place e.stmt) k o (Ok co)
+      pub event_found : (co : Origin) (now : List FlowEdge) → IsControlFound s place e.stmt k o (Ok co)
           → now ≡ (rs ++ option_to_list pe) ++ bare_edge Control co ∷ [] → IsEvent n o (Ok now)
       event_found co now f is =
           let c : IsFoundBy past control_list (Ok control) k o (Ok co) = control_here k o (Ok co) f in

@@ -21,7 +21,7 @@ use Rattle.ppd_own_loops.specs.AllOwnParts.{AllOwnPartsAreFound}
 use Rattle.ppd_past.specs.declared.flow_error.FlowError.{FlowError}
 use Rattle.ppd_past.specs.declared.flow_error.FlowError.TheVariants.{Diverged, NoEvent, Sets, Memory}
 use Rattle.ppd_past.specs.declared.past.Past.{Past}
-use Rattle.ppd_past.specs.ByReplays.{IsFoundBy, failure_or, first_failure}
+use Rattle.ppd_past.specs.ByReplays.{IsFoundBy, failure_or, first_failed_in}
 use Rattle.ppd_past.specs.Honest.{IsSeen, ReplaysAreSeen}
 use Rattle.ppd_past.specs.SeenBy.{failed_at, failed_in, seen_by}
 use Rattle.ppd_search.specs.Found.{edges_replays, found_edges}
@@ -51,12 +51,13 @@ module _ (program : Program) (plan : Plan) (budget : ℕ) (s : Story) where
       ap (λ (y : Seen). y ∷ map f (rows (k + 1) ms)) (h 0 (split_of program plan budget s k (steps_of m)) refl)
       ∙ ap (λ (ys : List Seen). seen_of (split_of program plan budget s k (steps_of m)) ∷ ys) rest
 
-  none_from : (k : ℕ) (ms : List (List Moment))
-      → ((p : ℕ) (x : Split) → slice_get (parts k ms) p ≡ Some x → (i : ℕ) → failed_at program plan budget (get_or (rows k ms) p []) i ≡ None)
-      → (p i : ℕ) → failed_at program plan budget (get_or (rows k ms) p []) i ≡ None
-  none_from k [] h p i = refl
-  none_from k (m ∷ ms) h zero i = h 0 (split_of program plan budget s k (steps_of m)) refl i
-  none_from k (m ∷ ms) h (suc p) i = none_from (k + 1) ms (λ q x e. h (suc q) x e) p i
+  -- what holds of no log and no process, and of the log of each process, holds of the log at each number
+  pub at_each_log : (P : List Entry → Option Split → Type 0) → P [] None → (k : ℕ) (ms : List (List Moment))
+      → ((p : ℕ) (x : Split) → slice_get (parts k ms) p ≡ Some x → P (get_or (rows k ms) p []) (Some x))
+      → (p : ℕ) → P (get_or (rows k ms) p []) (slice_get (parts k ms) p)
+  at_each_log P none k [] h p = none
+  at_each_log P none k (m ∷ ms) h zero = h 0 (split_of program plan budget s k (steps_of m)) refl
+  at_each_log P none k (m ∷ ms) h (suc p) = at_each_log P none (k + 1) ms (λ q x e. h (suc q) x e) p
 
 -- ---- a past of a run
 
@@ -86,11 +87,12 @@ module _ (law : ReplaysAreSeen) (past : Past) (policy : Policy) (h : List ℕ) (
   never : (p k : ℕ) → failed_in past p k ≡ None
   never p k =
       ap (λ (logs : Logs). failed_at program plan budget (get_or logs.lists p []) k) r.logs_are
-      ∙ none_from program plan budget (story_in past h) 0 (told program plan budget h).moments (λ q x e i. (is_seen q x e).never_fails i) p k
+      ∙ at_each_log program plan budget (story_in past h) (λ es x. failed_at program plan budget es k ≡ None) refl 0
+      (told program plan budget h).moments (λ q x e. (is_seen q x e).never_fails k) p
 
-  no_failure : (ms : List (ℕ × ℕ)) → first_failure past ms ≡ None
+  no_failure : (ms : List (ℕ × ℕ)) → first_failed_in past ms ≡ None
   no_failure [] = refl
-  no_failure (m ∷ ms) = ap (λ o. failure_or m.0 o (first_failure past ms)) (never m.0 m.1) ∙ no_failure ms
+  no_failure (m ∷ ms) = ap (λ o. failure_or m.0 o (first_failed_in past ms)) (never m.0 m.1) ∙ no_failure ms
 
   -- the answer is the one that is found, or want of memory
   pub answered : {A : Type 0} (ms : List (ℕ × ℕ)) (a b : Result A FlowError) (n m : ℕ) (res : Result A FlowError) → a ≡ b

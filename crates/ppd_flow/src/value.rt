@@ -1,10 +1,8 @@
-ghost use Rattle.std.specs.Prelude.{◌≡◌, ◌+◌, Some};
+ghost use Rattle.std.specs.Prelude.{◌+◌};
 ghost use Rattle.ppd_flow.specs.Runs.{CostsLast, GivesLast};
-ghost use Rattle.ppd_past.specs.ByReplays.{AreReplayed, IsFoundBy};
 ghost use Rattle.ppd_past.specs.Pasts.{IsPast};
 ghost use Rattle.ppd_past.specs.SeenBy.{steps_in};
-ghost use Rattle.ppd_search.specs.Shared.{found_last, last_replays};
-ghost use Rattle.ppd_walk.specs.SharedCells.{answer_of, last_edge as last_edge_of, seens_in};
+ghost use Rattle.ppd_walk.specs.SharedCells.{AreItemsOfLast, IsLastFound};
 
 use ppd_ast::Steps;
 use ppd_model::{Item, Origin};
@@ -14,22 +12,6 @@ use ppd_shared_edges::last_writes_are_found;
 use ppd_walk::{LastEdge, last_write, last_write_from};
 use std::alloc::Global;
 use std::sync::ledger::Ledger;
-
-/// The last value of a shared cell and where it was written, as it is defined.
-fn last_found<L: Ledger>(
-    alloc: Global,
-    past: &Past,
-    cell: u16,
-    steps: &mut Steps<L>,
-) -> Result<(i64, Origin), FlowError>
-    requires { IsPast past.now }
-    ensures { IsFoundBy past.now
-        (last_replays past.now.program.now past.now.logs.now (seens_in past.now) cell)
-        (answer_of (found_last past.now.program.now past.now.logs.now (seens_in past.now) cell))
-        steps.old steps.new result }
-{
-    last_write(alloc, past, cell, steps)
-}
 
 /// The last value of a shared cell and where it was written: by the last write in the greatest internal edge whose
 /// write set has the cell, else at the start. The counter rises by the own steps of the intervals that are replayed.
@@ -47,37 +29,14 @@ pub fn last<L: Ledger>(
     steps: &mut Steps<L>,
 ) -> Result<(i64, Origin), FlowError>
     requires { IsPast past.now }
-    ensures found { IsFoundBy past.now
-        (last_replays past.now.program.now past.now.logs.now (seens_in past.now) cell)
-        (answer_of (found_last past.now.program.now past.now.logs.now (seens_in past.now) cell))
-        steps.old steps.new result }
+    ensures found { IsLastFound past.now cell steps.old steps.new result }
     ensures run { GivesLast past.now cell result }
     ensures cost { CostsLast past.now cell steps.old steps.new result }
 {
     replays_are_seen();
     last_writes_are_found();
     last_costs_little();
-    last_found(alloc, past, cell, steps)
-}
-
-/// The same by replays of the other intervals, as it is defined.
-fn last_found_from<L: Ledger>(
-    alloc: Global,
-    past: &Past,
-    cell: u16,
-    last: LastEdge,
-    items: &[Item],
-    steps: &mut Steps<L>,
-) -> Result<(i64, Origin), FlowError>
-    requires past { IsPast past.now }
-    requires last { last_edge_of past.now cell ≡ Some last }
-    requires items { AreReplayed past.now last.edge.process last.interval items.now }
-    ensures { IsFoundBy past.now
-        (last_replays past.now.program.now past.now.logs.now (seens_in past.now) cell)
-        (answer_of (found_last past.now.program.now past.now.logs.now (seens_in past.now) cell))
-        steps.old (steps.new + steps_in past.now last.edge.process last.interval) result }
-{
-    last_write_from(alloc, past, cell, last, items, steps)
+    last_write(alloc, past, cell, steps)
 }
 
 /// What `last` answers for a cell that this internal edge wrote last (`last_edge`), from the items of the interval in
@@ -91,13 +50,9 @@ pub fn last_from<L: Ledger>(
     items: &[Item],
     steps: &mut Steps<L>,
 ) -> Result<(i64, Origin), FlowError>
-    requires past { IsPast past.now }
-    requires last { last_edge_of past.now cell ≡ Some last }
-    requires items { AreReplayed past.now last.edge.process last.interval items.now }
-    ensures found { IsFoundBy past.now
-        (last_replays past.now.program.now past.now.logs.now (seens_in past.now) cell)
-        (answer_of (found_last past.now.program.now past.now.logs.now (seens_in past.now) cell))
-        steps.old (steps.new + steps_in past.now last.edge.process last.interval) result }
+    requires { AreItemsOfLast past.now cell last items.now }
+    ensures found { IsLastFound past.now cell steps.old
+        (steps.new + steps_in past.now last.edge.process last.interval) result }
     ensures run { GivesLast past.now cell result }
     ensures cost { CostsLast past.now cell steps.old
         (steps.new + steps_in past.now last.edge.process last.interval) result }
@@ -105,5 +60,5 @@ pub fn last_from<L: Ledger>(
     replays_are_seen();
     last_writes_are_found();
     last_costs_little();
-    last_found_from(alloc, past, cell, last, items, steps)
+    last_write_from(alloc, past, cell, last, items, steps)
 }

@@ -11,6 +11,7 @@ use Rattle.ppd_entry.specs.declared.entry.Entry.{Entry}
 use Rattle.ppd_entry.specs.declared.entry.Logs.{Logs}
 use Rattle.ppd_model.specs.RecordedSets.{record_in, sync_in}
 use Rattle.ppd_model.specs.Synchronizations.{Sync}
+use Rattle.ppd_graph.specs.declared.limits.TheConstants.{MOST_NAMED}
 use Rattle.ppd_graph.specs.declared.paired.Paired.{Paired}
 use Rattle.ppd_graph.specs.declared.placed.Placed.{Placed}
 use Rattle.ppd_graph.specs.Partners.{pairs_of, partner_of}
@@ -145,10 +146,10 @@ pairs_within program logs pairs e = (
 
 -- ---- in all
 
-pub number_spent : (old a b c d n m cost sems chans : ℕ) → a ≤ old + n → b ≤ a + n → c ≤ b + 5 * (256 + n) → d ≤ c + cost → cost ≤ sems + chans + 5 * m → m ≡ n → d ≤ old + 12 * n + 1280 + sems + chans
+pub number_spent : (old a b c d n m cost sems chans : ℕ) → a ≤ old + n → b ≤ a + n → c ≤ b + 5 * (MOST_NAMED + n) → d ≤ c + cost → cost ≤ sems + chans + 5 * m → m ≡ n → d ≤ old + 12 * n + 5 * MOST_NAMED + sems + chans
 number_spent old a b c d n m cost sems chans h1 h2 h3 h4 h5 e = omega (arith, h1, h2, h3, h4, h5, e)
 
-pub pair_spent : (old a b c n entries pass sems chans : ℕ) → a ≤ old + pass → b ≤ a + 12 * n + 1280 + sems + chans → n ≤ entries → c ≤ b + pass → c ≤ old + (2 * pass + 12 * entries + 1280 + sems + chans)
+pub pair_spent : (old a b c n entries pass sems chans : ℕ) → a ≤ old + pass → b ≤ a + 12 * n + 5 * MOST_NAMED + sems + chans → n ≤ entries → c ≤ b + pass → c ≤ old + (2 * pass + 12 * entries + 5 * MOST_NAMED + sems + chans)
 pair_spent old a b c n entries pass sems chans h1 h2 h3 h4 = omega (arith, h1, h2, h3, h4)
 
 pub graph_spent : (program : Program) (logs : Logs) (pairs : List (List Paired)) (old a b c d e : ℕ) → pairs ≡ pairs_of program (record_in logs) → a ≤ old + length logs.lists → b ≤ a + pairing_cost program logs → c ≤ b + times_cost pairs → d ≤ c + length pairs

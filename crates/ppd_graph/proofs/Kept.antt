@@ -24,65 +24,23 @@ pub on_ok : {A E : Type 0} (r : Result A E) (X Y : Type 0) → (X → Y) → OnO
 on_ok (Ok x) X Y f h = f h
 on_ok (Err e) X Y f h = tt
 
-pub more_takes : (old new : ByNumber) (x : Placed) → x.kind ≡ P → Puts old.takes new.takes x.object x.number x.node
-    → new.gives ≡ old.gives → new.sends ≡ old.sends → new.receives ≡ old.receives → new.completions ≡ old.completions → KeepsMore old new x
-more_takes old new x e put a b c d =
-    subst (λ k. (kind : SyncKind) (o n : ℕ) → node_kept new kind o n ≡ (if same_sync (sync k x.object x.number) (sync kind o n) then Some x.node else node_kept old kind o n)) (sym e) by
-  where
-    by : (kind : SyncKind) (o n : ℕ) → node_kept new kind o n ≡ (if same_sync (sync P x.object x.number) (sync kind o n) then Some x.node else node_kept old kind o n)
-    by P o n = put o n
-    by V o n = ap (λ m. found_in m o n) a
-    by Send o n = ap (λ m. found_in m o n) b
-    by Recv o n = ap (λ m. found_in m o n) c
-    by Done o n = ap (λ m. found_in m o n) d
+-- what is kept of a kind has one more, where it is the kind k of x
+abbrev pub HasMore : SyncKind → ByNumber → ByNumber → Placed → SyncKind → Type 0
+HasMore k old new x kind =
+    (o n : ℕ) → node_kept new kind o n ≡ (if same_sync (sync k x.object x.number) (sync kind o n) then Some x.node else node_kept old kind o n)
 
-pub more_gives : (old new : ByNumber) (x : Placed) → x.kind ≡ V → Puts old.gives new.gives x.object x.number x.node
-    → new.takes ≡ old.takes → new.sends ≡ old.sends → new.receives ≡ old.receives → new.completions ≡ old.completions → KeepsMore old new x
-more_gives old new x e put a b c d =
-    subst (λ k. (kind : SyncKind) (o n : ℕ) → node_kept new kind o n ≡ (if same_sync (sync k x.object x.number) (sync kind o n) then Some x.node else node_kept old kind o n)) (sym e) by
+pub more_of : (k : SyncKind) (old new : ByNumber) (x : Placed) → x.kind ≡ k
+    → HasMore k old new x P → HasMore k old new x V → HasMore k old new x Send → HasMore k old new x Recv → HasMore k old new x Done
+    → KeepsMore old new x
+more_of k old new x e takes gives sends receives completions =
+    subst (λ j. (kind : SyncKind) → HasMore j old new x kind) (sym e) by
   where
-    by : (kind : SyncKind) (o n : ℕ) → node_kept new kind o n ≡ (if same_sync (sync V x.object x.number) (sync kind o n) then Some x.node else node_kept old kind o n)
-    by P o n = ap (λ m. found_in m o n) a
-    by V o n = put o n
-    by Send o n = ap (λ m. found_in m o n) b
-    by Recv o n = ap (λ m. found_in m o n) c
-    by Done o n = ap (λ m. found_in m o n) d
-
-pub more_sends : (old new : ByNumber) (x : Placed) → x.kind ≡ Send → Puts old.sends new.sends x.object x.number x.node
-    → new.takes ≡ old.takes → new.gives ≡ old.gives → new.receives ≡ old.receives → new.completions ≡ old.completions → KeepsMore old new x
-more_sends old new x e put a b c d =
-    subst (λ k. (kind : SyncKind) (o n : ℕ) → node_kept new kind o n ≡ (if same_sync (sync k x.object x.number) (sync kind o n) then Some x.node else node_kept old kind o n)) (sym e) by
-  where
-    by : (kind : SyncKind) (o n : ℕ) → node_kept new kind o n ≡ (if same_sync (sync Send x.object x.number) (sync kind o n) then Some x.node else node_kept old kind o n)
-    by P o n = ap (λ m. found_in m o n) a
-    by V o n = ap (λ m. found_in m o n) b
-    by Send o n = put o n
-    by Recv o n = ap (λ m. found_in m o n) c
-    by Done o n = ap (λ m. found_in m o n) d
-
-pub more_receives : (old new : ByNumber) (x : Placed) → x.kind ≡ Recv → Puts old.receives new.receives x.object x.number x.node
-    → new.takes ≡ old.takes → new.gives ≡ old.gives → new.sends ≡ old.sends → new.completions ≡ old.completions → KeepsMore old new x
-more_receives old new x e put a b c d =
-    subst (λ k. (kind : SyncKind) (o n : ℕ) → node_kept new kind o n ≡ (if same_sync (sync k x.object x.number) (sync kind o n) then Some x.node else node_kept old kind o n)) (sym e) by
-  where
-    by : (kind : SyncKind) (o n : ℕ) → node_kept new kind o n ≡ (if same_sync (sync Recv x.object x.number) (sync kind o n) then Some x.node else node_kept old kind o n)
-    by P o n = ap (λ m. found_in m o n) a
-    by V o n = ap (λ m. found_in m o n) b
-    by Send o n = ap (λ m. found_in m o n) c
-    by Recv o n = put o n
-    by Done o n = ap (λ m. found_in m o n) d
-
-pub more_completions : (old new : ByNumber) (x : Placed) → x.kind ≡ Done → Puts old.completions new.completions x.object x.number x.node
-    → new.takes ≡ old.takes → new.gives ≡ old.gives → new.sends ≡ old.sends → new.receives ≡ old.receives → KeepsMore old new x
-more_completions old new x e put a b c d =
-    subst (λ k. (kind : SyncKind) (o n : ℕ) → node_kept new kind o n ≡ (if same_sync (sync k x.object x.number) (sync kind o n) then Some x.node else node_kept old kind o n)) (sym e) by
-  where
-    by : (kind : SyncKind) (o n : ℕ) → node_kept new kind o n ≡ (if same_sync (sync Done x.object x.number) (sync kind o n) then Some x.node else node_kept old kind o n)
-    by P o n = ap (λ m. found_in m o n) a
-    by V o n = ap (λ m. found_in m o n) b
-    by Send o n = ap (λ m. found_in m o n) c
-    by Recv o n = ap (λ m. found_in m o n) d
-    by Done o n = put o n
+    by : (kind : SyncKind) → HasMore k old new x kind
+    by P = takes
+    by V = gives
+    by Send = sends
+    by Recv = receives
+    by Done = completions
 
 -- ---- what is kept, and what is still to come
 

@@ -12,10 +12,11 @@ use Rattle.ppd_model.specs.FullTrace.{or_else}
 use Rattle.ppd_model.specs.Synchronizations.{Sync}
 use Rattle.ppd_sem.specs.Tables.{capacity_of}
 use Rattle.ppd_graph.specs.declared.greatest.Greatest.{Greatest}
+use Rattle.ppd_graph.specs.declared.missing.Objects.TheVariants.{Semaphores, Channels}
 use Rattle.ppd_graph.specs.declared.placed.Placed.{Placed}
 use Rattle.ppd_graph.specs.ByNumber.{AllGreatest, greatest_kept}
 use Rattle.ppd_graph.specs.Refusals.{Missing, Numbered, absent, chan_misses, first_missing, greatest, missing, missing_of_chan, missing_of_handover, missing_of_places, missing_of_sem, number_if, number_in, numbered_in, numbers_of, of_kind, sem_misses, start_of, sync_placed}
-use Rattle.ppd_graph.specs.Spending.{chan_cost, done_numbers, missing_cost, sem_cost}
+use Rattle.ppd_graph.specs.Spending.{done_numbers, missing_cost, object_cost}
 use Rattle.ppd_graph.proofs.Counted.{sum_more}
 
 -- ---- numbers in a row that are all there
@@ -233,14 +234,14 @@ missing_within program g placed great none =
     let numbers : SyncKind → ℕ → List ℕ = λ kind o. numbers_of kind o syncs in
     let sems : first_missing (sem_misses program (numbered_in syncs)) (range_with_len 0 (length program.sems)) ≡ None = or_first _ _ none in
     let chans : first_missing (chan_misses program (numbered_in syncs)) (range_with_len 0 (length program.chans)) ≡ None = or_second (first_missing (sem_misses program (numbered_in syncs)) (range_with_len 0 (length program.sems))) _ none in
-    let sem = sum_each (sem_cost program g) (λ o. 1 + (length (numbers P o) + length (numbers V o))) (length program.sems) (λ o lt.
+    let sem = sum_each (object_cost Semaphores program g) (λ o. 1 + (length (numbers P o) + length (numbers V o))) (length program.sems) (λ o lt.
     let here = sem_within o (start_of program o) (greatest 0 (numbers P o)) (greatest 0 (numbers V o)) (numbers P o) (numbers V o) (none_first (sem_misses program (numbered_in syncs)) (length program.sems) 0 sems o (omega arith) (omega (arith, lt))) in
     let a = great P o in
     let b = great V o in
     omega (arith, here, a, b)) in
     let sem' = sum_ones (λ o. length (numbers P o) + length (numbers V o)) (length program.sems) in
     let sem'' = sum_both P (λ o. length (numbers P o) + length (numbers V o)) (λ o. length (numbers P o)) (λ o. length (numbers V o)) (length program.sems) (λ o. refl) in
-    let chan = sum_each (chan_cost program g) (λ o. 1 + ((length (numbers Send o) + length (numbers Recv o)) + length (numbers Done o))) (length program.chans) (λ o lt.
+    let chan = sum_each (object_cost Channels program g) (λ o. 1 + ((length (numbers Send o) + length (numbers Recv o)) + length (numbers Done o))) (length program.chans) (λ o lt.
     let here = chan_within o (capacity_of program o) (greatest 0 (numbers Send o)) (greatest 0 (numbers Recv o)) (greatest 0 (numbers Done o)) (numbers Send o) (numbers Recv o) (numbers Done o)
     (none_first (chan_misses program (numbered_in syncs)) (length program.chans) 0 chans o (omega arith) (omega (arith, lt))) in
     let a = great Send o in

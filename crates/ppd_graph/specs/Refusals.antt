@@ -16,6 +16,8 @@ use Rattle.ppd_model.specs.HappenedBefore.{Before, node}
 use Rattle.ppd_model.specs.Numbers.{sync}
 use Rattle.ppd_model.specs.Synchronizations.{Sync}
 use Rattle.ppd_sem.specs.Tables.{capacity_of}
+use Rattle.ppd_graph.specs.declared.missing.Objects.{Objects}
+use Rattle.ppd_graph.specs.declared.missing.Objects.TheVariants.{Semaphores, Channels}
 use Rattle.ppd_graph.specs.declared.placed.Placed.{Placed}
 use Rattle.ppd_graph.specs.declared.refusal.BadSync.{BadSync}
 use Rattle.ppd_graph.specs.declared.refusal.BadSync.TheVariants.{NumberTwice, NumberMissing, Cycle, NoObject, Memory}
@@ -178,6 +180,15 @@ sem_misses program numbered o = missing_of_sem o (start_of program o) (numbered 
 abbrev pub chan_misses : Program → (SyncKind → ℕ → Numbered) → ℕ → Option Missing
 chan_misses program numbered o =
     missing_of_chan o (capacity_of program o) (numbered Send o) (numbered Recv o) (numbered Done o)
+
+-- how many objects of a sort the program has, and what is missing of one of them
+abbrev pub object_count : Objects → Program → ℕ
+object_count Semaphores program = length program.sems
+object_count Channels program = length program.chans
+
+abbrev pub object_misses : Objects → Program → (SyncKind → ℕ → Numbered) → ℕ → Option Missing
+object_misses Semaphores program numbered o = sem_misses program numbered o
+object_misses Channels program numbered o = chan_misses program numbered o
 
 -- the first missing synchronization, semaphores before channels
 abbrev pub missing_by : Program → (SyncKind → ℕ → Numbered) → Option Missing

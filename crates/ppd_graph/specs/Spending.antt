@@ -6,10 +6,13 @@ use Rattle.ppd_ast.specs.declared.program.Program.{Program}
 use Rattle.ppd_ast.specs.declared.status.SyncKind.TheVariants.{P, V, Send, Recv, Done}
 use Rattle.ppd_entry.specs.declared.entry.Entry.{Entry}
 use Rattle.ppd_entry.specs.declared.entry.Logs.{Logs}
+use Rattle.ppd_graph.specs.declared.limits.TheConstants.{MOST_NAMED}
 use Rattle.ppd_graph.specs.declared.greatest.Greatest.{Greatest}
+use Rattle.ppd_graph.specs.declared.missing.Objects.{Objects}
+use Rattle.ppd_graph.specs.declared.missing.Objects.TheVariants.{Semaphores, Channels}
 use Rattle.ppd_graph.specs.declared.paired.Paired.{Paired}
 use Rattle.ppd_graph.specs.ByNumber.{greatest_kept}
-use Rattle.ppd_graph.specs.Refusals.{start_of}
+use Rattle.ppd_graph.specs.Refusals.{object_count, start_of}
 use Rattle.ppd_sem.specs.Tables.{capacity_of}
 
 -- of one pass over a list
@@ -42,26 +45,30 @@ done_numbers (suc c) g o = 0
 abbrev pub chan_numbers : Program → Greatest → ℕ → ℕ
 chan_numbers program g o = greatest_kept g Send o + greatest_kept g Recv o + done_numbers (capacity_of program o) g o
 
-abbrev pub sem_cost : Program → Greatest → ℕ → ℕ
-sem_cost program g o = 1 + sem_numbers program g o
+abbrev pub object_numbers : Objects → Program → Greatest → ℕ → ℕ
+object_numbers Semaphores program g o = sem_numbers program g o
+object_numbers Channels program g o = chan_numbers program g o
 
-abbrev pub chan_cost : Program → Greatest → ℕ → ℕ
-chan_cost program g o = 1 + chan_numbers program g o
+abbrev pub object_cost : Objects → Program → Greatest → ℕ → ℕ
+object_cost objects program g o = 1 + object_numbers objects program g o
+
+-- of all objects of a sort
+abbrev pub objects_cost : Objects → Program → Greatest → ℕ
+objects_cost objects program g =
+    sum_by (object_cost objects program g) (range_with_len 0 (object_count objects program))
 
 abbrev pub missing_cost : Program → Greatest → ℕ
-missing_cost program g =
-    sum_by (sem_cost program g) (range_with_len 0 (length program.sems)) + sum_by (chan_cost program g)
-    (range_with_len 0 (length program.chans))
+missing_cost program g = objects_cost Semaphores program g + objects_cost Channels program g
 
 -- ---- in all
 
 -- to find what led to each synchronization
 abbrev pub pairing_cost : Program → Logs → ℕ
 pairing_cost program logs =
-    2 * pass_cost logs + 12 * entries_in logs + 1280 + length program.sems + length program.chans
+    2 * pass_cost logs + 12 * entries_in logs + 5 * MOST_NAMED + length program.sems + length program.chans
 
 -- linear in the entries times the processes
 abbrev pub graph_cost : Program → Logs → ℕ
 graph_cost program logs =
     (entries_in logs + 1) * (2 * length logs.lists + 17) + 6 * length logs.lists + length program.sems
-    + length program.chans + 1280
+    + length program.chans + 5 * MOST_NAMED

@@ -7,8 +7,9 @@ ghost use Rattle.ppd_graph.specs.Partners.{pairs_of};
 ghost use Rattle.ppd_graph.specs.Spending.{graph_cost, pairing_cost};
 ghost use Rattle.ppd_graph.specs.Refusals.{AreNumbered, AreOrdered, IsRefused, IsRefusedFor, has_object as has_object_in, placed as placed_in, without_object};
 
-use crate::by_number::keep_all;
+use crate::by_number::{ByNumber, keep_all};
 use crate::greatest::Greatest;
+use crate::limits::MOST_NAMED;
 use crate::missing::{Numbers, capacity_of};
 use crate::paired::Paired;
 use crate::partners::all_pairs;
@@ -60,13 +61,13 @@ fn number_all<L: Ledger>(
     program: &Program,
     placed: &[Placed],
     steps: &mut Steps<L>,
-) -> Result<Numbers, BadSync>
-    requires sems { length program.now.sems ≤ 256 }
-    requires chans { length program.now.chans ≤ 256 }
+) -> Result<ByNumber, BadSync>
+    requires sems { length program.now.sems ≤ MOST_NAMED }
+    requires chans { length program.now.chans ≤ MOST_NAMED }
     ensures cost { IfOk result
-        (λ numbers. steps.new
-        ≤ steps.old + 12 * length placed.now + 1280 + length program.now.sems + length program.now.chans) }
-    ensures kept { IfOk result (λ numbers. KeepsAll numbers.nodes placed.now) }
+        (λ nodes. steps.new
+        ≤ steps.old + 12 * length placed.now + 5 * MOST_NAMED + length program.now.sems + length program.now.chans) }
+    ensures kept { IfOk result (λ nodes. KeepsAll nodes placed.now) }
     ensures passed { OnOk result (AreNumbered program.now placed.now) }
     ensures refused { IfErr result (IsRefusedFor program.now placed.now) }
 {
@@ -75,11 +76,15 @@ fn number_all<L: Ledger>(
     }
     let nodes = keep_all(alloc, program, placed, steps)?;
     let greatest = Greatest::among(alloc, placed, steps)?;
-    let numbers = Numbers { nodes, greatest };
-    if let Some((kind, object, number)) = numbers.missing(program, steps) {
+    let numbers = Numbers {
+        program,
+        nodes,
+        greatest,
+    };
+    if let Some((kind, object, number)) = numbers.missing(steps) {
         return Err(BadSync::NumberMissing(kind, object, number));
     }
-    Ok(numbers)
+    Ok(numbers.nodes)
 }
 
 // What led to each synchronization of the logs.
@@ -89,9 +94,9 @@ fn pair_all<L: Ledger>(
     logs: &Logs,
     steps: &mut Steps<L>,
 ) -> Result<Seq<Seq<Paired>>, BadSync>
-    requires sems { length program.now.sems ≤ 256 }
-    requires chans { length program.now.chans ≤ 256 }
-    requires processes { length logs.now.lists ≤ 256 }
+    requires sems { length program.now.sems ≤ MOST_NAMED }
+    requires chans { length program.now.chans ≤ MOST_NAMED }
+    requires processes { length logs.now.lists ≤ MOST_NAMED }
     requires few { AreFew logs.now.lists }
     ensures cost { IfOk result (λ pairs. steps.new ≤ steps.old + pairing_cost program.now logs.now) }
     ensures pairs { IfOk result (λ pairs. pairs ≡ pairs_of program.now (record_in logs.now)) }
@@ -100,8 +105,8 @@ fn pair_all<L: Ledger>(
 {
     let lists = logs.lists.as_slice();
     let placed = all_placed(alloc, lists, steps)?;
-    let numbers = number_all(alloc, program, placed.as_slice(), steps)?;
-    let pairs = all_pairs(alloc, program, &numbers.nodes, lists, steps)?;
+    let nodes = number_all(alloc, program, placed.as_slice(), steps)?;
+    let pairs = all_pairs(alloc, program, &nodes, lists, steps)?;
     Ok(pairs)
 }
 
@@ -128,9 +133,9 @@ pub fn graph_in<L: Ledger>(
     logs: &Logs,
     steps: &mut Steps<L>,
 ) -> Result<SyncGraph, BadSync>
-    requires sems { length program.now.sems ≤ 256 }
-    requires chans { length program.now.chans ≤ 256 }
-    requires processes { length logs.now.lists ≤ 256 }
+    requires sems { length program.now.sems ≤ MOST_NAMED }
+    requires chans { length program.now.chans ≤ MOST_NAMED }
+    requires processes { length logs.now.lists ≤ MOST_NAMED }
     ensures graph { IfOk result (IsGraphOf program.now logs.now) }
     ensures passed { OnOk result (AreOrdered program.now logs.now) }
     ensures refused { IfErr result (IsRefused program.now logs.now) }
@@ -163,9 +168,9 @@ fn graph_from<L: Ledger>(
     requires name { blank.name ≡ L.name }
     requires parts { blank.parts ≡ L.parts }
     requires some { 0 < blank.parts }
-    requires sems { length program.now.sems ≤ 256 }
-    requires chans { length program.now.chans ≤ 256 }
-    requires processes { length logs.now.lists ≤ 256 }
+    requires sems { length program.now.sems ≤ MOST_NAMED }
+    requires chans { length program.now.chans ≤ MOST_NAMED }
+    requires processes { length logs.now.lists ≤ MOST_NAMED }
     ensures graph { IfOk result (IsGraphOf program.now logs.now) }
     ensures passed { OnOk result (AreOrdered program.now logs.now) }
     ensures refused { IfErr result (IsRefused program.now logs.now) }
@@ -177,9 +182,9 @@ fn graph_from<L: Ledger>(
 /// The graph of the logs, or the first reason why they have none. `Memory` is want of memory, also for a log
 /// whose entries have no 32-bit numbers. It is made in the steps that `graph_in` counts.
 pub fn graph(alloc: Global, program: &Program, logs: &Logs) -> Result<SyncGraph, BadSync>
-    requires sems { length program.now.sems ≤ 256 }
-    requires chans { length program.now.chans ≤ 256 }
-    requires processes { length logs.now.lists ≤ 256 }
+    requires sems { length program.now.sems ≤ MOST_NAMED }
+    requires chans { length program.now.chans ≤ MOST_NAMED }
+    requires processes { length logs.now.lists ≤ MOST_NAMED }
     ensures graph { IfOk result (IsGraphOf program.now logs.now) }
     ensures passed { OnOk result (AreOrdered program.now logs.now) }
     ensures refused { IfErr result (IsRefused program.now logs.now) }

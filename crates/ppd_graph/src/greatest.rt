@@ -3,12 +3,13 @@ ghost use Rattle.ppd_graph.specs.ByNumber.{AllGreatest, AreGreatest, greatest_ke
 ghost use Rattle.ppd_entry.specs.Entries.{same_kind as is_same_kind};
 ghost use Rattle.ppd_graph.specs.Refusals.{greatest as greatest_among, numbers_of, sync_placed};
 
+use crate::limits::MOST_NAMED;
 use crate::placed::Placed;
 use ppd_ast::{Ids, Memory, Steps, SyncKind};
 use std::alloc::Global;
 use std::sync::ledger::Ledger;
 
-/// The greatest numbers of the synchronizations of each kind, by object, for all 256 that an entry can name.
+/// The greatest numbers of the synchronizations of each kind, by object, for all that an entry can name.
 #[derive(Drop)]
 pub(crate) struct Greatest {
     takes: Ids,
@@ -47,8 +48,8 @@ fn no_numbers<L: Ledger>(alloc: Global, count: usize, steps: &mut Steps<L>) -> R
 
 // The number of a synchronization of this kind raises that of its object.
 fn raise(numbers: &mut Ids, kind: SyncKind, one: &Placed)
-    requires { length numbers.old ≡ 256 }
-    ensures long { length numbers.new ≡ 256 }
+    requires { length numbers.old ≡ MOST_NAMED }
+    ensures long { length numbers.new ≡ MOST_NAMED }
     ensures raised { (o : ℕ)
         → get_or numbers.new o 0
         ≡ greatest_among (get_or numbers.old o 0) (numbers_of kind o (sync_placed one.now ∷ [])) }
@@ -68,10 +69,10 @@ fn greatest_of<L: Ledger>(
     kind: SyncKind,
     steps: &mut Steps<L>,
 ) -> Result<Ids, Memory>
-    ensures cost { steps.new ≤ steps.old + 256 + length placed.now }
+    ensures cost { steps.new ≤ steps.old + MOST_NAMED + length placed.now }
     ensures greatest { IfOk result (AreGreatest kind placed.now) }
 {
-    let mut numbers = no_numbers(alloc, 256, steps)?;
+    let mut numbers = no_numbers(alloc, MOST_NAMED, steps)?;
     for one in placed {
         steps.tick();
         raise(&mut numbers, kind, one);
@@ -94,7 +95,7 @@ impl Greatest {
         placed: &[Placed],
         steps: &mut Steps<L>,
     ) -> Result<Greatest, Memory>
-        ensures cost { steps.new ≤ steps.old + 5 * (256 + length placed.now) }
+        ensures cost { steps.new ≤ steps.old + 5 * (MOST_NAMED + length placed.now) }
         ensures greatest { IfOk result (AllGreatest placed.now) }
     {
         let takes = greatest_of(alloc, placed, SyncKind::P, steps)?;

@@ -1,23 +1,42 @@
 ghost use Rattle.std.specs.Prelude.{◌≡◌, ◌≤◌, ◌+◌, ◌-◌, length, is_some};
-ghost use Rattle.std.specs.List.{range_with_len, sum_by};
+ghost use Rattle.std.specs.List.{range_with_len};
 ghost use Rattle.ppd_graph.specs.ByNumber.{greatest_kept, node_kept, numbered_kept};
-ghost use Rattle.ppd_graph.specs.Spending.{chan_cost, chan_numbers, done_numbers, missing_cost, sem_cost, sem_numbers};
-ghost use Rattle.ppd_graph.specs.Refusals.{absent as absent_by, chan_misses, first_missing, missing_by, missing_of_chan as missing_of_channel, missing_of_handover as missing_of_offers, missing_of_places as missing_of_room, missing_of_sem as missing_of_semaphore, sem_misses, start_of as start_in_program};
+ghost use Rattle.ppd_graph.specs.Spending.{chan_numbers, done_numbers, missing_cost, object_numbers, objects_cost, sem_numbers};
+ghost use Rattle.ppd_graph.specs.Refusals.{absent as absent_by, first_missing, missing_by, missing_of_chan as missing_of_channel, missing_of_handover as missing_of_offers, missing_of_places as missing_of_room, missing_of_sem as missing_of_semaphore, object_count, object_misses, start_of as start_in_program};
 ghost use Rattle.ppd_sem.specs.Tables.{capacity_of as capacity_in_program};
 
 use crate::by_number::{ByNumber, start_of};
 use crate::greatest::Greatest;
+use crate::limits::MOST_NAMED;
 use ppd_ast::{Program, Steps, SyncKind};
 use std::sync::ledger::Ledger;
 
 /// A synchronization that is not there: its kind, its object and its number.
 pub(crate) type Missing = (SyncKind, u8, u32);
 
-/// Which synchronizations there are, and the greatest numbers.
+/// Which synchronizations of a program there are, and the greatest numbers.
 #[derive(Drop)]
-pub(crate) struct Numbers {
+pub(crate) struct Numbers<'a> {
+    pub(crate) program: &'a Program,
     pub(crate) nodes: ByNumber,
     pub(crate) greatest: Greatest,
+}
+
+/// The objects of synchronizations.
+#[derive(Clone, Copy)]
+pub(crate) enum Objects {
+    Semaphores,
+    Channels,
+}
+
+// How many of these the program has.
+fn count_of(program: &Program, objects: Objects) -> usize
+    ensures { result ≡ object_count objects program.now }
+{
+    match objects {
+        Objects::Semaphores => program.sems.len(),
+        Objects::Channels => program.chans.len(),
+    }
 }
 
 /// How many values a channel holds, and 0 past the table.
@@ -30,7 +49,7 @@ pub(crate) fn capacity_of(program: &Program, chan: u8) -> u8
     }
 }
 
-impl Numbers {
+impl<'a> Numbers<'a> {
     // The first of the numbers after `first` through `last` that is not there.
     fn absent<L: Ledger>(
         &self,
@@ -53,19 +72,14 @@ impl Numbers {
         None
     }
 
-    fn missing_of_sem<L: Ledger>(
-        &self,
-        program: &Program,
-        sem: u8,
-        steps: &mut Steps<L>,
-    ) -> Option<Missing>
-        ensures cost { steps.new ≤ steps.old + sem_numbers program.now self.now.greatest sem }
+    fn missing_of_sem<L: Ledger>(&self, sem: u8, steps: &mut Steps<L>) -> Option<Missing>
+        ensures cost { steps.new ≤ steps.old + sem_numbers self.now.program.now self.now.greatest sem }
         ensures value { result
-            ≡ missing_of_semaphore sem (start_in_program program.now sem)
+            ≡ missing_of_semaphore sem (start_in_program self.now.program.now sem)
             (numbered_kept self.now.nodes self.now.greatest SyncKind.P sem)
             (numbered_kept self.now.nodes self.now.greatest SyncKind.V sem) }
     {
-        let start = start_of(program, sem);
+        let start = start_of(self.program, sem);
         let taken = self.greatest.of(SyncKind::P, sem);
         let given = start.max(self.greatest.of(SyncKind::V, sem));
         if let Some(number) = self.absent(SyncKind::P, sem, 0, taken, steps) {
@@ -109,19 +123,18 @@ impl Numbers {
     // What a send finds no place without.
     fn missing_of_places<L: Ledger>(
         &self,
-        program: &Program,
         chan: u8,
         sent: u32,
         received: u32,
         steps: &mut Steps<L>,
     ) -> Option<Missing>
         ensures cost { steps.new
-            ≤ steps.old + done_numbers (capacity_in_program program.now chan) self.now.greatest chan }
+            ≤ steps.old + done_numbers (capacity_in_program self.now.program.now chan) self.now.greatest chan }
         ensures value { result
-            ≡ missing_of_room (capacity_in_program program.now chan) chan sent received
+            ≡ missing_of_room (capacity_in_program self.now.program.now chan) chan sent received
             (numbered_kept self.now.nodes self.now.greatest SyncKind.Done chan) }
     {
-        let capacity = u32::from(capacity_of(program, chan));
+        let capacity = u32::from(capacity_of(self.program, chan));
         if capacity == 0 {
             return self.missing_of_handover(chan, sent, received, steps);
         }
@@ -131,15 +144,10 @@ impl Numbers {
         None
     }
 
-    fn missing_of_chan<L: Ledger>(
-        &self,
-        program: &Program,
-        chan: u8,
-        steps: &mut Steps<L>,
-    ) -> Option<Missing>
-        ensures cost { steps.new ≤ steps.old + chan_numbers program.now self.now.greatest chan }
+    fn missing_of_chan<L: Ledger>(&self, chan: u8, steps: &mut Steps<L>) -> Option<Missing>
+        ensures cost { steps.new ≤ steps.old + chan_numbers self.now.program.now self.now.greatest chan }
         ensures value { result
-            ≡ missing_of_channel chan (capacity_in_program program.now chan)
+            ≡ missing_of_channel chan (capacity_in_program self.now.program.now chan)
             (numbered_kept self.now.nodes self.now.greatest SyncKind.Send chan)
             (numbered_kept self.now.nodes self.now.greatest SyncKind.Recv chan)
             (numbered_kept self.now.nodes self.now.greatest SyncKind.Done chan) }
@@ -155,44 +163,37 @@ impl Numbers {
         if let Some(number) = self.absent(SyncKind::Recv, chan, 0, received, steps) {
             return Some((SyncKind::Recv, chan, number));
         }
-        self.missing_of_places(program, chan, sent, received, steps)
+        self.missing_of_places(chan, sent, received, steps)
     }
 
-    fn missing_of_sems<L: Ledger>(&self, program: &Program, steps: &mut Steps<L>) -> Option<Missing>
-        requires { length program.now.sems ≤ 256 }
-        ensures cost { steps.new
-            ≤ steps.old + sum_by (sem_cost program.now self.now.greatest)
-            (range_with_len 0 (length program.now.sems)) }
-        ensures value { result
-            ≡ first_missing (sem_misses program.now (numbered_kept self.now.nodes self.now.greatest))
-            (range_with_len 0 (length program.now.sems)) }
-    {
-        for sem in 0..program.sems.len() {
-            steps.tick();
-            let missing = self.missing_of_sem(program, sem as u8, steps);
-            if missing.is_some() {
-                return missing;
-            }
-        }
-        None
-    }
-
-    fn missing_of_chans<L: Ledger>(
+    // Of one of the objects.
+    fn missing_of<L: Ledger>(
         &self,
-        program: &Program,
+        objects: Objects,
+        object: u8,
         steps: &mut Steps<L>,
     ) -> Option<Missing>
-        requires { length program.now.chans ≤ 256 }
-        ensures cost { steps.new
-            ≤ steps.old + sum_by (chan_cost program.now self.now.greatest)
-            (range_with_len 0 (length program.now.chans)) }
+        ensures cost { steps.new ≤ steps.old + object_numbers objects self.now.program.now self.now.greatest object }
         ensures value { result
-            ≡ first_missing (chan_misses program.now (numbered_kept self.now.nodes self.now.greatest))
-            (range_with_len 0 (length program.now.chans)) }
+            ≡ object_misses objects self.now.program.now (numbered_kept self.now.nodes self.now.greatest) object }
     {
-        for chan in 0..program.chans.len() {
+        match objects {
+            Objects::Semaphores => self.missing_of_sem(object, steps),
+            Objects::Channels => self.missing_of_chan(object, steps),
+        }
+    }
+
+    fn missing_among<L: Ledger>(&self, objects: Objects, steps: &mut Steps<L>) -> Option<Missing>
+        requires { object_count objects self.now.program.now ≤ MOST_NAMED }
+        ensures cost { steps.new ≤ steps.old + objects_cost objects self.now.program.now self.now.greatest }
+        ensures value { result
+            ≡ first_missing (object_misses objects self.now.program.now (numbered_kept self.now.nodes self.now.greatest))
+            (range_with_len 0 (object_count objects self.now.program.now)) }
+    {
+        let count = count_of(self.program, objects);
+        for object in 0..count {
             steps.tick();
-            let missing = self.missing_of_chan(program, chan as u8, steps);
+            let missing = self.missing_of(objects, object as u8, steps);
             if missing.is_some() {
                 return missing;
             }
@@ -201,19 +202,15 @@ impl Numbers {
     }
 
     /// The first missing synchronization, semaphores before channels.
-    pub(crate) fn missing<L: Ledger>(
-        &self,
-        program: &Program,
-        steps: &mut Steps<L>,
-    ) -> Option<Missing>
-        requires sems { length program.now.sems ≤ 256 }
-        requires chans { length program.now.chans ≤ 256 }
-        ensures cost { steps.new ≤ steps.old + missing_cost program.now self.now.greatest }
-        ensures value { result ≡ missing_by program.now (numbered_kept self.now.nodes self.now.greatest) }
+    pub(crate) fn missing<L: Ledger>(&self, steps: &mut Steps<L>) -> Option<Missing>
+        requires sems { length self.now.program.now.sems ≤ MOST_NAMED }
+        requires chans { length self.now.program.now.chans ≤ MOST_NAMED }
+        ensures cost { steps.new ≤ steps.old + missing_cost self.now.program.now self.now.greatest }
+        ensures value { result ≡ missing_by self.now.program.now (numbered_kept self.now.nodes self.now.greatest) }
     {
-        if let Some(missing) = self.missing_of_sems(program, steps) {
+        if let Some(missing) = self.missing_among(Objects::Semaphores, steps) {
             return Some(missing);
         }
-        self.missing_of_chans(program, steps)
+        self.missing_among(Objects::Channels, steps)
     }
 }

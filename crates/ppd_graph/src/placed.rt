@@ -5,6 +5,7 @@ ghost use Rattle.std.specs.List.{sum_by};
 ghost use Rattle.ppd_graph.specs.Spending.{list_cost};
 ghost use Rattle.ppd_graph.specs.Refusals.{count_on, place, placed_from, placed_lists};
 
+use crate::limits::MOST_NAMED;
 use ppd_ast::{Memory, Seq, Steps, SyncKind};
 use ppd_entry::{At, Entry};
 use ppd_model::NodeId;
@@ -80,7 +81,7 @@ pub(crate) fn all_placed<L: Ledger>(
     lists: &[Seq<Entry>],
     steps: &mut Steps<L>,
 ) -> Result<Seq<Placed>, Memory>
-    requires processes { length lists.now ≤ 256 }
+    requires processes { length lists.now ≤ MOST_NAMED }
     requires few { AreFew lists.now }
     ensures placed { IfOk result (λ placed. placed ≡ placed_lists 0 lists.now) }
     ensures cost { steps.new ≤ steps.old + sum_by list_cost lists.now }

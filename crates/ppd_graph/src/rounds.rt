@@ -4,6 +4,7 @@ ghost use Rattle.ppd_model.specs.HappenedBefore.{node};
 ghost use Rattle.ppd_graph.specs.Cycles.{AllWait, AreAtLeast, IsLeastRoundOf, IsRoundOf, IsRoundsCycle, IsStuck, IsTurned, cycle_of, first_or, runs, stretch, through_first, waited as waited_of};
 ghost use Rattle.ppd_graph.specs.Times.{HasAll, next_of, own_pairs, own_times};
 
+use crate::limits::MOST_NAMED;
 use crate::paired::Paired;
 use crate::times::{done_count, pair_count, partner_at};
 use ppd_ast::{Ids, Memory, Seq, Steps};
@@ -17,7 +18,7 @@ pub(crate) fn first_stuck<L: Ledger>(
     times: &[Seq<Ids>],
     steps: &mut Steps<L>,
 ) -> Option<u8>
-    requires { length pairs.now ≤ 256 }
+    requires { length pairs.now ≤ MOST_NAMED }
     ensures cost { steps.new ≤ steps.old + length pairs.now }
     ensures stuck { MatchOption result ((q : ℕ) → HasAll pairs.now times.now q) (λ q. IsStuck pairs.now times.now q) }
 {

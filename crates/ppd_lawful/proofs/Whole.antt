@@ -25,12 +25,12 @@ use Rattle.ppd_codec.specs.Format.{an_entry, back, front, log, within}
 use Rattle.ppd_codec.specs.Recordings.{facts_of, front_of, is_rendezvous, version_of}
 use Rattle.ppd_lawful.specs.Lawful.{RunLogsAreLawful}
 use Rattle.ppd_lawful.specs.Values.{HasConstantsOf64Bits}
-use Rattle.ppd_lawful.proofs.Coded.{constants_fit}
-use Rattle.ppd_lawful.proofs.Entries.{end_lawful}
+use Rattle.ppd_lawful.proofs.Constants.Coded.{constants_fit}
+use Rattle.ppd_lawful.proofs.Logs.Entries.{end_lawful}
 use Rattle.ppd_lawful.proofs.Fit.{All, all_append, all_map}
-use Rattle.ppd_lawful.proofs.Logs.{IsFine, Lawful, START}
-use Rattle.ppd_lawful.proofs.Run.{run_fine}
-use Rattle.ppd_lawful.proofs.Sizes.{entries_size, noted, sizes, sizes_append, some_bytes}
+use Rattle.ppd_lawful.proofs.Logs.Steps.{IsFine, Lawful, START}
+use Rattle.ppd_lawful.proofs.Logs.Run.{run_fine}
+use Rattle.ppd_lawful.proofs.Logs.Sizes.{entries_size, noted, sizes, sizes_append, some_bytes}
 
 -- the bytes of a log, at most
 abbrev MOST : ℕ

@@ -9,7 +9,8 @@ use Rattle.ppd_lex.specs.declared.token.Kind.{Kind}
 use Rattle.ppd_lex.specs.declared.scan.Piece.{Piece}
 use Rattle.ppd_lex.specs.declared.scan.Piece.TheVariants.{Gap, Read, Bad}
 use Rattle.ppd_lex.specs.declared.token.TokenKind.TheVariants.{End}
-use Rattle.ppd_lex.specs.Front.{front, is_space, is_letter, is_digit, is_name_byte, kind_in, keywords, marks, number_of, value_of, close_from, word_kind, read_word, read_value, read_number, read_block, read_single, read_pair, read_mark}
+use Rattle.ppd_ast.specs.Digits.{is_digit}
+use Rattle.ppd_lex.specs.Front.{front, is_space, is_letter, is_name_byte, kind_in, keywords, marks, number_of, value_of, close_from, word_kind, read_word, read_value, read_number, read_block, read_single, read_pair, read_mark}
 use Rattle.ppd_lex.specs.Formed.{IsKind}
 
 -- a piece of at most m bytes

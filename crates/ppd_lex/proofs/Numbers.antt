@@ -1,20 +1,15 @@
 -- Numbers, one digit at a time.
-use Rattle.std.proofs.Common.{◌≡◌, ◌<◌, ◌≤◌, ℕ, ◌+◌, ◌-◌, ◌*◌, List, [], ◌∷◌, ◌++◌, length, drop, take, get_or, true, false, sym, ◌∙◌, ap, arith, ◌^◌, Some, None, refl, take_all}
+use Rattle.std.proofs.Common.{◌≡◌, ◌<◌, ◌≤◌, ℕ, ◌+◌, ◌-◌, ◌*◌, List, [], ◌∷◌, length, drop, take, true, false, sym, ◌∙◌, ap, arith, ◌^◌, Some, None, take_all}
 use Rattle.std.specs.List.{list_all}
-use Rattle.std.proofs.lemmas.List.{take_more, take-append-drop}
+use Rattle.std.proofs.lemmas.List.{take-append-drop}
 use Rattle.std.proofs.lemmas.Bool.Decides.{nat_tests}
-use Rattle.ppd_lex.specs.Front.{value_from, is_digit, value_of}
+use Rattle.ppd_ast.specs.Digits.{is_digit, value_from}
+use Rattle.ppd_ast.proofs.Digits.{value_append}
+use Rattle.ppd_lex.specs.Front.{value_of}
 
 value_rises : (n : ℕ) (bs : List ℕ) → n ≤ value_from n bs
 value_rises n [] = omega arith
-value_rises n (b ∷ bs) = let h = value_rises (10 * n + (b - 48)) bs in omega arith
-
-value_append : (n : ℕ) (xs bs : List ℕ) → value_from n (xs ++ bs) ≡ value_from (value_from n xs) bs
-value_append n [] bs = refl
-value_append n (x ∷ xs) bs = value_append (10 * n + (x - 48)) xs bs
-
-pub value_next : (bs : List ℕ) (i : ℕ) → i < length bs → value_from 0 (take (i + 1) bs) ≡ 10 * value_from 0 (take i bs) + (get_or bs i 0 - 48)
-value_next bs i h = ap (value_from 0) (take_more bs i 0 h) ∙ value_append 0 (take i bs) (get_or bs i 0 ∷ [])
+value_rises n (b ∷ bs) = let h = value_rises (n * 10 + (b - 48)) bs in omega arith
 
 pub value_front : (bs : List ℕ) (i : ℕ) → value_from 0 (take i bs) ≤ value_from 0 bs
 value_front bs i =

@@ -1,7 +1,8 @@
 -- What stands at the front of some bytes: a gap, a token or a fault.
-use Rattle.std.specs.Prelude.{ℕ, pos, ◌+◌, ◌-◌, ◌*◌, ◌^◌, List, [], ◌∷◌, length, drop, Bool, not, ◌&&◌, ◌||◌, nat_eq, nat_lt, nat_le, if◌then◌else◌, Option, Some, None, take_while, codes}
+use Rattle.std.specs.Prelude.{ℕ, pos, ◌+◌, ◌^◌, List, [], ◌∷◌, length, drop, Bool, not, ◌&&◌, ◌||◌, nat_eq, nat_lt, nat_le, if◌then◌else◌, Option, Some, None, take_while, codes}
 use Rattle.std.specs.List.{list_all, prefix_len, starts_with}
 use Rattle.std.specs.Str.{bytes_eq}
+use Rattle.ppd_ast.specs.Digits.{is_digit, value_from}
 use Rattle.ppd_lex.specs.declared.token.Kind.{Kind}
 use Rattle.ppd_lex.specs.declared.token.Kind.TheVariants as K
 use Rattle.ppd_lex.specs.declared.token.TokenKind.{TokenKind}
@@ -12,9 +13,6 @@ use Rattle.ppd_lex.specs.declared.scan.Piece.TheVariants.{Gap, Read, Bad}
 
 abbrev pub is_space : ℕ → Bool
 is_space b = (nat_le 9 b && nat_le b 13) || nat_eq b 32
-
-abbrev pub is_digit : ℕ → Bool
-is_digit b = nat_le 48 b && nat_le b 57
 
 -- a letter or _
 abbrev pub is_letter : ℕ → Bool
@@ -50,11 +48,6 @@ kind_by passes kind (x ∷ xs) = if passes x then Some (kind x) else kind_by pas
 -- the kind of the table's first entry of this text
 abbrev pub kind_in : List (List ℕ × Kind) → List ℕ → Option Kind
 kind_in table text = kind_by (λ entry. bytes_eq entry.0 text) (λ entry. entry.1) table
-
--- the number that decimal digits write, after those that write n
-abbrev pub value_from : ℕ → List ℕ → ℕ
-value_from n [] = n
-value_from n (b ∷ bs) = value_from (10 * n + (b - 48)) bs
 
 -- the number that digits write, where it is at most 9223372036854775807
 abbrev pub value_of : List ℕ → Option ℕ

@@ -2,7 +2,8 @@
 ghost use Rattle.std.specs.Prelude.{◌≡◌, ◌<◌, ◌≤◌, ◌+◌, ◌^◌, length, not, nat_eq, position, IfSome};
 ghost use Rattle.std.specs.List.{prefix_len};
 ghost use Rattle.std.specs.Str.{bytes_eq};
-ghost use Rattle.ppd_lex.specs.Front.{is_space, is_digit, is_letter, is_name_byte, keywords, marks, kind_by, kind_in, value_of, number_of, close_from};
+ghost use Rattle.ppd_ast.specs.Digits.{is_digit};
+ghost use Rattle.ppd_lex.specs.Front.{is_space, is_letter, is_name_byte, keywords, marks, kind_by, kind_in, value_of, number_of, close_from};
 
 use crate::token::Kind;
 

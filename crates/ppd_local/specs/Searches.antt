@@ -1,5 +1,5 @@
 -- What the searches within one process answer.
-use Rattle.std.specs.Prelude.{◌≡◌, ℕ, ◌+◌, ◌≤◌, ℤ, List, length, Result, Ok, Some}
+use Rattle.std.specs.Prelude.{◌≡◌, ℕ, ◌+◌, ◌<◌, ◌≤◌, ℤ, List, length, Result, Ok, Some}
 use Rattle.ppd_ast.specs.declared.plan.Plan.{Plan}
 use Rattle.ppd_ast.specs.declared.program.Program.{Program}
 use Rattle.ppd_sem.specs.declared.event.Spot.TheVariants.{Local}
@@ -36,15 +36,19 @@ pub record IsPlace (s : Search) (place : Place) : Type 0 where
   pub items_are : place.items.now ≡ items_at (seen s) place.interval
   pub within : place.item ≤ length place.items.now
 
+-- and it is before one of them
+pub record IsItemPlace (s : Search) (place : Place) : Type 0 where
+  pub is : IsPlace s place
+  pub there : place.item < length place.items.now
+
 -- ---- of a local cell before a place
 
-abbrev pub local_origin_at : Search → Place → LocalCell → Origin
-local_origin_at s place w =
-    local_origin (program_in s) (plan_in s) (seen s) s.process place.interval place.item w.frame w.cell
-
-abbrev pub local_replays_at : Search → Place → LocalCell → List ℕ
-local_replays_at s place w =
-    local_replays (program_in s) (plan_in s) (seen s) s.process place.interval place.item w.frame w.cell
+-- where it was written last is found
+abbrev pub IsLocalFound : Search → Place → LocalCell → (before after : ℕ) → Result Origin FlowError → Type 0
+IsLocalFound s place w before after result =
+    IsFound s (local_replays (program_in s) (plan_in s) (seen s) s.process place.interval place.item w.frame w.cell)
+    (local_origin (program_in s) (plan_in s) (seen s) s.process place.interval place.item w.frame w.cell) before after
+    result
 
 -- the edge of a cell that a loop left with this value
 abbrev pub left_from : LocalCell → ℤ → Origin → FlowEdge
@@ -61,10 +65,8 @@ left_replays_at s place w =
 
 -- ---- of a statement at a place
 
-abbrev pub control_origin_at : Search → Place → ℕ → Origin
-control_origin_at s place stmt =
-    control_origin (program_in s) (plan_in s) (seen s) s.process place.interval place.item stmt
-
-abbrev pub control_replays_at : Search → Place → ℕ → List ℕ
-control_replays_at s place stmt =
-    control_replays (program_in s) (plan_in s) (seen s) s.process place.interval place.item stmt
+-- what let it run is found
+abbrev pub IsControlFound : Search → Place → (stmt before after : ℕ) → Result Origin FlowError → Type 0
+IsControlFound s place stmt before after result =
+    IsFound s (control_replays (program_in s) (plan_in s) (seen s) s.process place.interval place.item stmt)
+    (control_origin (program_in s) (plan_in s) (seen s) s.process place.interval place.item stmt) before after result

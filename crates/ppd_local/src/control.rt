@@ -1,7 +1,7 @@
 ghost use Rattle.std.specs.Prelude.{◌≡◌, ◌∷◌, [], IfOk, slice_get, take};
 ghost use Rattle.ppd_ast.specs.declared.plan.BlockKind.TheVariants as block;
 ghost use Rattle.ppd_ast.specs.Lookups.{kind_of};
-ghost use Rattle.ppd_local.specs.Searches.{IsFound, IsPlace, control_origin_at, control_replays_at, plan_in, program_in, seen};
+ghost use Rattle.ppd_local.specs.Searches.{IsControlFound, IsFound, IsPlace, plan_in, program_in, seen};
 ghost use Rattle.ppd_model.specs.FullTrace.{or_else, parent_if};
 ghost use Rattle.ppd_past.specs.Pasts.{IsPast};
 ghost use Rattle.ppd_search.specs.Control.{call_or_entry as call_or_entry_of, call_replays, control_above as control_above_of, control_above_replays, control_in as control_in_of, control_origin as control_origin_of, control_replays, last_test as last_test_among, leaf_call_at, test_of_run as test_of_run_by, test_round as test_round_by};
@@ -169,8 +169,7 @@ impl<'a> Search<'a> {
     ) -> Result<Origin, FlowError>
         requires past { IsPast self.now.past.now }
         requires place { IsPlace self.now place.now }
-        ensures { IsFound self.now (control_replays_at self.now place.now stmt)
-            (control_origin_at self.now place.now stmt) steps.old steps.new result }
+        ensures { IsControlFound self.now place.now stmt steps.old steps.new result }
     {
         match self.control_in(place, stmt) {
             Ok(Some(origin)) => Ok(origin),

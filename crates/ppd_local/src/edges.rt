@@ -1,6 +1,6 @@
 ghost use Rattle.std.specs.Prelude.{◌≡◌, ◌<◌, ◌-◌, ◌∷◌, ◌++◌, [], get_or, length, pos, ℕ};
 ghost use Rattle.ppd_ast.specs.declared.plan.BlockKind.TheVariants as blocks;
-ghost use Rattle.ppd_local.specs.Searches.{IsFound, IsPlace, left_from, left_origin_at, left_replays_at, plan_in, program_in, seen};
+ghost use Rattle.ppd_local.specs.Searches.{IsFound, IsItemPlace, left_from, left_origin_at, left_replays_at, plan_in, program_in, seen};
 ghost use Rattle.ppd_model.specs.declared.flow.EdgeKind.TheVariants as edge_kind;
 ghost use Rattle.ppd_model.specs.declared.flow.Origin.TheVariants as origin;
 ghost use Rattle.ppd_model.specs.FlowbackEdges.{bare_edge};
@@ -64,8 +64,7 @@ impl<'a> Search<'a> {
         steps: &mut Steps<L>,
     ) -> Result<Origin, FlowError>
         requires past { IsPast self.now.past.now }
-        requires place { IsPlace self.now place.now }
-        requires item { place.now.item < length place.now.items.now }
+        requires item { IsItemPlace self.now place.now }
         ensures { IsFound self.now (left_replays_at self.now place.now wanted)
             (left_origin_at self.now place.now wanted) steps.old steps.new result }
     {
@@ -87,8 +86,7 @@ impl<'a> Search<'a> {
         steps: &mut Steps<L>,
     ) -> Result<Seq<FlowEdge>, FlowError>
         requires past { IsPast self.now.past.now }
-        requires place { IsPlace self.now place.now }
-        requires item { place.now.item < length place.now.items.now }
+        requires item { IsItemPlace self.now place.now }
         ensures { IsFound self.now
             (left_replays (program_in self.now) (plan_in self.now) (seen self.now) self.now.process
             place.now.interval place.now.item frame cells.now values.now)
@@ -123,8 +121,7 @@ impl<'a> Search<'a> {
         steps: &mut Steps<L>,
     ) -> Result<Seq<FlowEdge>, FlowError>
         requires past { IsPast self.now.past.now }
-        requires place { IsPlace self.now place.now }
-        requires item { place.now.item < length place.now.items.now }
+        requires item { IsItemPlace self.now place.now }
         ensures { (m : ℕ) → IsFound self.now
             (nested_replays (program_in self.now) (plan_in self.now) (seen self.now) self.now.process
             place.now.interval place.now.item m block values.now (blocks.Loop stmt))
@@ -222,8 +219,7 @@ impl<'a> Search<'a> {
         steps: &mut Steps<L>,
     ) -> Result<Seq<FlowEdge>, FlowError>
         requires past { IsPast self.now.past.now }
-        requires place { IsPlace self.now place.now }
-        requires item { place.now.item < length place.now.items.now }
+        requires item { IsItemPlace self.now place.now }
         ensures { IsFound self.now
             (nested_replays (program_in self.now) (plan_in self.now) (seen self.now) self.now.process
             place.now.interval place.now.item interval block values.now (kind_of_block (plan_in self.now) block))

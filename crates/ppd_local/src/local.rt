@@ -1,6 +1,6 @@
 ghost use Rattle.std.specs.Prelude.{◌≡◌, ◌<◌, ◌∷◌, length, slice_get, Some, IfOk};
 ghost use Rattle.ppd_local.specs.Scans.{scanned as scan_by};
-ghost use Rattle.ppd_local.specs.Searches.{IsFound, IsPlace, local_origin_at, local_replays_at, plan_in, program_in, seen};
+ghost use Rattle.ppd_local.specs.Searches.{IsFound, IsLocalFound, IsPlace, plan_in, program_in, seen};
 ghost use Rattle.ppd_past.specs.Pasts.{IsPast};
 ghost use Rattle.ppd_search.specs.Locals.{above_replays, in_loops as in_loops_of, local_above as local_above_of, local_in as local_in_of, local_in_replays, local_outside as local_outside_of, loop_replays, outer_frame as outer_frame_of, outside_replays, parameter as parameter_of, parameter_replays, scan as scan_of, writer_at as writer_in, writer_replays};
 ghost use Rattle.ppd_search.specs.Seen.{items_at, kind_at, outer_of as outer_at, outer_place as outer_place_of};
@@ -246,8 +246,7 @@ impl<'a> Search<'a> {
     ) -> Result<Origin, FlowError>
         requires past { IsPast self.now.past.now }
         requires place { IsPlace self.now place.now }
-        ensures { IsFound self.now (local_replays_at self.now place.now wanted)
-            (local_origin_at self.now place.now wanted) steps.old steps.new result }
+        ensures { IsLocalFound self.now place.now wanted steps.old steps.new result }
     {
         match self.local_in(place, wanted, steps) {
             Ok(Some(origin)) => Ok(origin),

@@ -9,7 +9,9 @@ use Rattle.ppd_resolve.specs.declared.fault.Fault.{Fault}
 use Rattle.ppd_resolve.specs.Faults.{at, unless, if_so}
 use Rattle.ppd_resolve.specs.declared.meaning.Meaning.{Meaning}
 use Rattle.ppd_resolve.specs.declared.meaning.Meaning.TheVariants.{Shared as shared, Local as local, Function as function}
-use Rattle.ppd_resolve.specs.Names.{Scope, meaning, fits}
+use Rattle.ppd_resolve.specs.Names.{Scope, meaning, fits, is_semaphore, is_channel}
+use Rattle.ppd_lower.specs.declared.calls.Use.{Use}
+use Rattle.ppd_lower.specs.declared.calls.Use.TheVariants.{Scalar, Element, Semaphore, Channel}
 use Rattle.ppd_resolve.specs.Syntax.{Name, Formula, number, variable, element, negated, inverted, two, both, either}
 
 -- a variable's term, and 0 where the name is none. An index is kept also where the name is no array, so that a fault
@@ -42,6 +44,13 @@ wrong_use test (Some m) place = unless (test m) place WrongKind
 
 abbrev pub name_faults : (Meaning → Bool) → List Scope → Name → List Fault
 name_faults test s x = wrong_use test (meaning s x.text) x.place
+
+-- what a name is used as, as a test of what it means
+abbrev pub is_use : Use → Meaning → Bool
+is_use Scalar = fits false
+is_use Element = fits true
+is_use Semaphore = is_semaphore
+is_use Channel = is_channel
 
 -- the rules that an expression breaks
 abbrev pub formula_faults : List Scope → Formula → List Fault

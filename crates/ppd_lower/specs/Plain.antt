@@ -2,8 +2,22 @@
 use Rattle.std.specs.Prelude.{List, Option, Some, None}
 use Rattle.ppd_lex.specs.declared.token.Kind.{Kind}
 use Rattle.ppd_lex.specs.declared.token.Kind.TheVariants as K
+use Rattle.ppd_ast.specs.declared.program.Place.{Place}
+use Rattle.ppd_lower.specs.declared.simple.Signal.{Signal}
+use Rattle.ppd_lower.specs.declared.simple.Signal.TheVariants.{Take, Give}
+use Rattle.ppd_lower.specs.declared.simple.Showing.{Showing}
+use Rattle.ppd_lower.specs.declared.simple.Showing.TheVariants.{Print, Assert}
 use Rattle.ppd_resolve.specs.Reading.{Phrase, goal, calling, changing, phrase, place_at, name_at, formula_at, as_value, returned}
-use Rattle.ppd_resolve.specs.Syntax.{Simple, Row, stop, simple, block, store, call, give_back, take, give, send, print, assert}
+use Rattle.ppd_resolve.specs.Syntax.{Name, Formula, Simple, Row, stop, simple, block, store, call, give_back, take, give, send, print, assert}
+
+-- a statement on a semaphore, and one that reads an expression alone
+abbrev pub signalled : Signal → Place → Name → Simple
+signalled Take = take
+signalled Give = give
+
+abbrev pub shown : Showing → Place → Formula → Simple
+shown Print = print
+shown Assert = assert
 
 -- the statement of a word that has none inside it, or the empty one
 abbrev pub plain_word : Kind → List Phrase → Row

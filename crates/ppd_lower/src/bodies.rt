@@ -13,11 +13,12 @@ ghost use Rattle.ppd_resolve.specs.Reading.{last, phrase, kind, is_name, name_at
 ghost use Rattle.ppd_lower.specs.Sources.{vars};
 ghost use Rattle.ppd_resolve.specs.Globals.{past_cells};
 ghost use Rattle.ppd_resolve.specs.Cost.{nodes_at, nested_at, plain_at, if_there, total, nested_below, plain_below};
-ghost use Rattle.ppd_lower.specs.Outputs.{Walks, Fills};
+ghost use Rattle.ppd_lower.specs.Outputs.{Fills};
+ghost use Rattle.ppd_lower.specs.Writing.{Walked};
 
 use crate::endings::{Closing, Ending, ending_of_rows};
+use crate::lowering::Lowering;
 use crate::returns::{from_on, note_body, write_close};
-use crate::walk::write_body;
 use ppd_ast::limits::MOST_LOCAL_CELLS;
 use ppd_ast::{Body, Ids, Memory, Place, Seq, Steps, Stmt, Var};
 use ppd_parse::{Kind, Rule};
@@ -240,13 +241,13 @@ fn write_block<L: Ledger>(
     steps: &mut Steps<L>,
 ) -> Result<(), Memory>
     requires within { IfSome block (λ block. block < length level.source.nodes.now) }
-    ensures walked { OnOk result (Walks level.entry.site (block_at level.entry.source.nodes.now block).row frame.old
-        frame.new out.old out.new) }
+    ensures walked { OnOk result (Walked level.entry.site (block_at level.entry.source.nodes.now block).row frame.old
+        frame.new out.old.table out.new.table out.old.row out.new.row) }
     ensures cost { steps.new ≤ steps.old + 48 * if_there (nested_at level.entry.source.nodes.now) block }
 {
     match block {
         None => Ok(()),
-        Some(block) => write_body(level, block, frame, out, steps),
+        Some(block) => Lowering { frame, out, steps }.lower_body(level, block),
     }
 }
 

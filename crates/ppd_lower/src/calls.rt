@@ -3,72 +3,86 @@ ghost use Rattle.std.specs.Prelude.{◌≡◌, ◌<◌, ◌++◌, [], ◌∷◌,
 ghost use Rattle.ppd_resolve.specs.Nodes.{children_of, phrase_of, label_name};
 ghost use Rattle.ppd_resolve.specs.Reading.{is_formula};
 ghost use Rattle.ppd_resolve.specs.Faults.{first, first_of_both, unless, if_so};
-ghost use Rattle.ppd_resolve.specs.Names.{meaning, is_semaphore, is_channel, semaphore_of, channel_of, function_of};
+ghost use Rattle.ppd_resolve.specs.Names.{meaning, semaphore_of, channel_of, function_of};
 ghost use Rattle.ppd_resolve.specs.declared.fault.Cause.TheVariants.{Arity, VoidValue};
-ghost use Rattle.ppd_lower.specs.Expressions.{name_faults, wrong_call};
+ghost use Rattle.ppd_lower.specs.Expressions.{name_faults, is_use, wrong_call};
 ghost use Rattle.ppd_lower.specs.Writing.{Argued};
 ghost use Rattle.ppd_resolve.specs.Cost.{plain_at, nested_below, plain_below};
 
-use crate::formulas::formula;
+use crate::formulas::write_term;
 use ppd_ast::{Ids, Memory, Place, Steps};
 use ppd_parse::Rule;
 use ppd_resolve::{
-    Cause, Fault, Label, Meaning, Operand, Scopes, Source, Writer, children_of, note, note_if,
-    note_unless, rule_of,
+    Cause, Fault, Frame, Label, Meaning, Operand, Scopes, Source, Writer, children_of, note,
+    note_if, note_unless, rule_of,
 };
 use std::sync::ledger::Ledger;
 
-// The number of a semaphore.
-#[tactic(auto, using(ppd_resolve::proofs::First::first_of_both_none))]
-pub fn semaphore<L: Ledger>(
-    scopes: &Scopes,
-    label: Label<'_>,
-    found: &mut Option<Fault>,
-    steps: &mut Steps<L>,
-) -> u8
-    ensures number { result ≡ semaphore_of (meaning scopes.now label.entry.text.now) }
-    ensures faults { found.new
-        ≡ first_of_both found.old
-        (first (name_faults is_semaphore scopes.now (label_name label.entry))) }
-    ensures cost { steps.new ≤ steps.old + 1 }
+// What a name is used as.
+#[derive(Clone, Copy)]
+pub enum Use {
+    Scalar,
+    Element,
+    Semaphore,
+    Channel,
+}
+
+// Whether what a name means is used so.
+fn is_use(wanted: Use, meaning: Meaning) -> bool
+    ensures { result ≡ is_use wanted meaning }
 {
-    match scopes.find(label.text, steps) {
-        None => {
-            note(found, label.place, Cause::Unknown);
-            0
-        }
-        Some(Meaning::Semaphore(number)) => number,
-        Some(_) => {
-            note(found, label.place, Cause::WrongKind);
-            0
-        }
+    match wanted {
+        Use::Scalar => meaning.fits(false),
+        Use::Element => meaning.fits(true),
+        Use::Semaphore => meaning.is_semaphore(),
+        Use::Channel => meaning.is_channel(),
     }
 }
 
-// The number of a channel.
+// What a name means, with the fault of one that is not used as what it is.
 #[tactic(auto, using(ppd_resolve::proofs::First::first_of_both_none))]
-pub fn channel<L: Ledger>(
+pub fn used<L: Ledger>(
     scopes: &Scopes,
     label: Label<'_>,
+    wanted: Use,
     found: &mut Option<Fault>,
     steps: &mut Steps<L>,
-) -> u8
-    ensures number { result ≡ channel_of (meaning scopes.now label.entry.text.now) }
+) -> Option<Meaning>
+    ensures means { result ≡ meaning scopes.now label.entry.text.now }
     ensures faults { found.new
         ≡ first_of_both found.old
-        (first (name_faults is_channel scopes.now (label_name label.entry))) }
+        (first (name_faults (is_use wanted) scopes.now (label_name label.entry))) }
     ensures cost { steps.new ≤ steps.old + 1 }
 {
-    match scopes.find(label.text, steps) {
-        None => {
-            note(found, label.place, Cause::Unknown);
-            0
+    let meaning = scopes.find(label.text, steps);
+    match meaning {
+        None => note(found, label.place, Cause::Unknown),
+        Some(meaning) => {
+            if !is_use(wanted, meaning) {
+                note(found, label.place, Cause::WrongKind);
+            }
         }
+    }
+    meaning
+}
+
+// The number of a semaphore, 0 where there is none.
+pub fn semaphore_number(meaning: Option<Meaning>) -> u8
+    ensures { result ≡ semaphore_of meaning }
+{
+    match meaning {
+        Some(Meaning::Semaphore(number)) => number,
+        _ => 0,
+    }
+}
+
+// The number of a channel, 0 where there is none.
+pub fn channel_number(meaning: Option<Meaning>) -> u8
+    ensures { result ≡ channel_of meaning }
+{
+    match meaning {
         Some(Meaning::Channel(number)) => number,
-        Some(_) => {
-            note(found, label.place, Cause::WrongKind);
-            0
-        }
+        _ => 0,
     }
 }
 
@@ -143,14 +157,14 @@ pub fn is_formula(source: Source<'_>, id: u32) -> bool
 // Adds the expressions of a child of a call, where it is an argument.
 fn argument<L: Ledger>(
     source: Source<'_>,
-    scopes: &Scopes,
+    frame: &Frame,
     id: u32,
     table: &mut Writer,
     args: &mut Ids,
     steps: &mut Steps<L>,
 ) -> Result<(), Memory>
     requires within { id < length source.nodes.now }
-    ensures argued { OnOk result (Argued source.entry.nodes.now scopes.now (id ∷ []) table.old.exprs table.new.exprs
+    ensures argued { OnOk result (Argued source.entry.nodes.now frame.now.scopes (id ∷ []) table.old.exprs table.new.exprs
         args.old args.new table.old.found table.new.found) }
     ensures stmts { table.new.stmts ≡ table.old.stmts }
     ensures cost { steps.new ≤ steps.old + 6 * plain_at source.entry.nodes.now id + 4 }
@@ -158,14 +172,7 @@ fn argument<L: Ledger>(
     if !is_formula(source, id) {
         return Ok(());
     }
-    let number = formula(
-        source,
-        scopes,
-        Operand::At(id),
-        &mut table.exprs,
-        &mut table.found,
-        steps,
-    )?;
+    let number = write_term(source, frame, Operand::At(id), table, steps)?;
     steps.tick();
     args.push(number)
 }
@@ -173,14 +180,14 @@ fn argument<L: Ledger>(
 // Adds the expressions of a call's arguments; their numbers are added to a list.
 pub fn arguments<L: Ledger>(
     source: Source<'_>,
-    scopes: &Scopes,
+    frame: &Frame,
     id: u32,
     table: &mut Writer,
     args: &mut Ids,
     steps: &mut Steps<L>,
 ) -> Result<(), Memory>
     requires within { id < length source.nodes.now }
-    ensures argued { OnOk result (Argued source.entry.nodes.now scopes.now (children_of source.entry.nodes.now id)
+    ensures argued { OnOk result (Argued source.entry.nodes.now frame.now.scopes (children_of source.entry.nodes.now id)
         table.old.exprs table.new.exprs args.old args.new table.old.found table.new.found) }
     ensures stmts { table.new.stmts ≡ table.old.stmts }
     ensures cost { steps.new ≤ steps.old + 11 * plain_below source.entry.nodes.now id + 11 * nested_below
@@ -188,7 +195,7 @@ pub fn arguments<L: Ledger>(
 {
     for child in children_of(source, id) {
         steps.tick();
-        argument(source, scopes, *child, table, args, steps)?;
+        argument(source, frame, *child, table, args, steps)?;
     }
     Ok(())
 }

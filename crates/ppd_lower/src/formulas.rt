@@ -1,18 +1,18 @@
 // Expressions into the table.
 ghost use Rattle.std.specs.Prelude.{◌≡◌, ◌<◌, ◌++◌, [], ◌∷◌, OnOk, IfOk, length, ℕ, ◌≤◌, ◌+◌, ◌*◌};
-ghost use Rattle.ppd_resolve.specs.Nodes.{phrase_of, operand_formula, IsOperand, label_name};
+ghost use Rattle.ppd_resolve.specs.Nodes.{phrase_of, operand_formula, IsOperand};
 ghost use Rattle.ppd_resolve.specs.Reading.{as_formula};
 ghost use Rattle.ppd_resolve.specs.Faults.{first, first_of_both};
-ghost use Rattle.ppd_resolve.specs.Names.{meaning, fits};
-ghost use Rattle.ppd_lower.specs.Expressions.{term_of, formula_faults, name_faults, read_scalar, read_element};
+ghost use Rattle.ppd_lower.specs.Expressions.{term_of, formula_faults, read_scalar, read_element};
 ghost use Rattle.ppd_lower.specs.Forms.{joined_expr, Added};
 ghost use Rattle.ppd_lower.specs.Table.{flat, root};
 ghost use Rattle.ppd_ast.specs.Term.{Term};
 ghost use Rattle.ppd_resolve.specs.Cost.{plain_at, operand_nodes};
 
+use crate::calls::{Use, used};
 use crate::forms::{Form, Operator, form_at};
 use ppd_ast::{Expr, Memory, Seq, Steps};
-use ppd_resolve::{Cause, Fault, Label, Meaning, Operand, Scopes, Source, note};
+use ppd_resolve::{Fault, Frame, Meaning, Operand, Scopes, Source, Writer};
 use std::sync::ledger::Ledger;
 
 // One more expression; its number.
@@ -31,33 +31,6 @@ pub fn put<L: Ledger>(
     steps.tick();
     exprs.push(expr)?;
     Ok(number)
-}
-
-// What a variable's name means, with the fault of a name that is not used as what it is.
-#[tactic(auto, using(ppd_resolve::proofs::First::first_of_both_none))]
-pub fn used<L: Ledger>(
-    scopes: &Scopes,
-    label: Label<'_>,
-    indexed: bool,
-    found: &mut Option<Fault>,
-    steps: &mut Steps<L>,
-) -> Option<Meaning>
-    ensures means { result ≡ meaning scopes.now label.entry.text.now }
-    ensures faults { found.new
-        ≡ first_of_both found.old
-        (first (name_faults (fits indexed) scopes.now (label_name label.entry))) }
-    ensures cost { steps.new ≤ steps.old + 1 }
-{
-    let meaning = scopes.find(label.text, steps);
-    match meaning {
-        None => note(found, label.place, Cause::Unknown),
-        Some(meaning) => {
-            if !meaning.fits(indexed) {
-                note(found, label.place, Cause::WrongKind);
-            }
-        }
-    }
-    meaning
 }
 
 // The expression that reads a scalar.
@@ -144,11 +117,11 @@ fn formula_at<L: Ledger>(
     match form_at(source, id) {
         Form::Number(value) => put(exprs, Expr::Const(value), steps),
         Form::Variable(name) => {
-            let meaning = used(scopes, name, false, found, steps);
+            let meaning = used(scopes, name, Use::Scalar, found, steps);
             put(exprs, scalar_expr(meaning), steps)
         }
         Form::Element(name, index) => {
-            let meaning = used(scopes, name, true, found, steps);
+            let meaning = used(scopes, name, Use::Element, found, steps);
             let at = formula(source, scopes, index, exprs, found, steps)?;
             put(exprs, element_expr(meaning, at), steps)
         }
@@ -167,4 +140,30 @@ fn formula_at<L: Ledger>(
             put(exprs, joined_expr(operator, a, b), steps)
         }
     }
+}
+
+// Adds the expressions of an operand to a table, with the first fault. Gives the number of the last.
+pub fn write_term<L: Ledger>(
+    source: Source<'_>,
+    frame: &Frame,
+    operand: Operand,
+    table: &mut Writer,
+    steps: &mut Steps<L>,
+) -> Result<u32, Memory>
+    requires inside { IsOperand source.nodes.now operand }
+    ensures added { IfOk result (λ n. Added table.old.exprs (term_of frame.now.scopes (operand_formula
+        source.entry.nodes.now operand)) table.new.exprs n) }
+    ensures faults { OnOk result (table.new.found ≡ first_of_both table.old.found (first (formula_faults frame.now.scopes
+        (operand_formula source.entry.nodes.now operand)))) }
+    ensures stmts { table.new.stmts ≡ table.old.stmts }
+    ensures cost { steps.new ≤ steps.old + 6 * operand_nodes source.entry.nodes.now operand + 3 }
+{
+    formula(
+        source,
+        &frame.scopes,
+        operand,
+        &mut table.exprs,
+        &mut table.found,
+        steps,
+    )
 }

@@ -1,64 +1,34 @@
 // Statements with statements inside them.
-ghost use Rattle.std.specs.Prelude.{◌≡◌, ◌++◌, [], ◌∷◌, OnOk, IfOk, length, slice_set, ◌≤◌, ◌+◌, ◌*◌};
-ghost use Rattle.ppd_lower.specs.Expressions.{term_of, formula_faults};
-ghost use Rattle.ppd_resolve.specs.Faults.{first, first_of_both};
-ghost use Rattle.ppd_lower.specs.Forms.{Added};
-ghost use Rattle.ppd_resolve.specs.Nodes.{operand_formula, IsOperand};
+ghost use Rattle.std.specs.Prelude.{◌≡◌, ◌++◌, [], ◌∷◌, OnOk, IfOk, length, slice_set, ◌≤◌, ◌+◌};
 ghost use Rattle.ppd_ast.specs.declared.program.Kind.TheVariants.{End};
-ghost use Rattle.ppd_resolve.specs.Cost.{operand_nodes};
+ghost use Rattle.ppd_lower.specs.Outputs.{Keeps};
 
-use crate::formulas::formula;
-use ppd_ast::{Kind, Memory, Place, Steps, Stmt};
-use ppd_resolve::{Frame, Operand, Output, Site, Source, Writer, put_stmt};
+use crate::lowering::Lowering;
+use ppd_ast::{Kind, Memory, Place, Stmt};
+use ppd_resolve::{Site, Writer, put_stmt};
 use std::sync::ledger::Ledger;
 
-// The test of an `if` or a `while`; the number of its expression.
-pub fn write_test<L: Ledger>(
-    source: Source<'_>,
-    operand: Operand,
-    frame: &Frame,
-    out: &mut Writer,
-    steps: &mut Steps<L>,
-) -> Result<u32, Memory>
-    requires within { IsOperand source.nodes.now operand }
-    ensures added { IfOk result (λ n. Added out.old.exprs (term_of frame.now.scopes (operand_formula
-        source.entry.nodes.now operand)) out.new.exprs n) }
-    ensures found { OnOk result (out.new.found ≡ first_of_both out.old.found (first (formula_faults frame.now.scopes
-        (operand_formula source.entry.nodes.now operand)))) }
-    ensures stmts { out.new.stmts ≡ out.old.stmts }
-    ensures cost { steps.new ≤ steps.old + 6 * operand_nodes source.entry.nodes.now operand + 3 }
-{
-    formula(
-        source,
-        &frame.scopes,
-        operand,
-        &mut out.exprs,
-        &mut out.found,
-        steps,
-    )
-}
-
-// One more statement, whose place is held until the statements inside it are known; its number.
-pub fn hold_stmt<L: Ledger>(
-    out: &mut Output,
-    site: Site,
-    place: Place,
-    steps: &mut Steps<L>,
-) -> Result<u32, Memory>
-    ensures exprs { out.new.table.exprs ≡ out.old.table.exprs }
-    ensures found { out.new.table.found ≡ out.old.table.found }
-    ensures stmts { OnOk result
-        (out.new.table.stmts ≡ out.old.table.stmts
-        ++ record { place = place; body = site.body; parent = site.parent; kind = End } ∷ []) }
-    ensures row { OnOk result (out.new.row ≡ out.old.row ++ length out.old.table.stmts ∷ []) }
-    ensures number { IfOk result (λ n. n ≡ length out.old.table.stmts) }
-    ensures cost { steps.new ≤ steps.old + 2 }
-{
-    let Ok(number) = u32::try_from(out.table.stmts.len()) else {
-        return Err(Memory);
-    };
-    put_stmt(out, site, place, Kind::End, steps)?;
-    Ok(number)
+impl<L: Ledger> Lowering<'_, L> {
+    // One more statement, whose place is held until the statements inside it are known; its number.
+    pub fn hold(&mut self, site: Site, place: Place) -> Result<u32, Memory>
+        ensures kept { Keeps self.old self.new }
+        ensures frame { self.new.frame.now ≡ self.old.frame.now }
+        ensures exprs { self.new.out.now.table.exprs ≡ self.old.out.now.table.exprs }
+        ensures found { self.new.out.now.table.found ≡ self.old.out.now.table.found }
+        ensures stmts { OnOk result
+            (self.new.out.now.table.stmts ≡ self.old.out.now.table.stmts
+            ++ record { place = place; body = site.body; parent = site.parent; kind = End } ∷ []) }
+        ensures row { OnOk result (self.new.out.now.row ≡ self.old.out.now.row ++ length self.old.out.now.table.stmts
+            ∷ []) }
+        ensures number { IfOk result (λ n. n ≡ length self.old.out.now.table.stmts) }
+        ensures cost { self.new.steps.now ≤ self.old.steps.now + 2 }
+    {
+        let Ok(number) = u32::try_from(self.out.table.stmts.len()) else {
+            return Err(Memory);
+        };
+        put_stmt(self.out, site, place, Kind::End, self.steps)?;
+        Ok(number)
+    }
 }
 
 // The statement whose place was held.

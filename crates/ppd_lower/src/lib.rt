@@ -13,6 +13,7 @@ mod formulas;
 mod held;
 mod hidden;
 mod locals;
+mod lowering;
 mod parts;
 mod returns;
 mod simple;

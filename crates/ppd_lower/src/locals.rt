@@ -4,54 +4,46 @@ ghost use Rattle.ppd_resolve.specs.Nodes.{children_of, phrase_of, phrases_of};
 ghost use Rattle.ppd_resolve.specs.Reading.{locals};
 ghost use Rattle.ppd_lower.specs.Statements.{after_row};
 ghost use Rattle.ppd_resolve.specs.Cost.{plain_at, nested_below, plain_below};
-ghost use Rattle.ppd_lower.specs.Outputs.{PutsRow, Walks};
+ghost use Rattle.ppd_lower.specs.Outputs.{Keeps, PutsRow, Walks};
 
-use crate::changes::{Change, write_changed};
-use crate::statements::write_local_item;
-use ppd_ast::{Memory, Steps};
+use crate::changes::Change;
+use crate::lowering::Lowering;
+use ppd_ast::Memory;
 use ppd_parse::Rule;
-use ppd_resolve::{Frame, Level, Output, children_of, rule_of};
+use ppd_resolve::{Level, children_of, rule_of};
 use std::sync::ledger::Ledger;
 
-// What a child of a declaration declares.
-pub fn write_local<L: Ledger>(
-    level: Level<'_>,
-    id: u32,
-    frame: &mut Frame,
-    out: &mut Output,
-    steps: &mut Steps<L>,
-) -> Result<(), Memory>
-    requires within { id < length level.source.nodes.now }
-    ensures wrote { OnOk result (PutsRow level.entry.site (locals (phrase_of level.entry.source.nodes.now id ∷ []))
-        frame.old out.old out.new) }
-    ensures frame { OnOk result (frame.new ≡ after_row (locals (phrase_of level.entry.source.nodes.now id ∷ []))
-        frame.old) }
-    ensures cost { steps.new ≤ steps.old + 18 * plain_at level.entry.source.nodes.now id }
-{
-    match rule_of(level.source, id) {
-        Rule::Litem => write_local_item(level, id, frame, out, steps),
-        Rule::Change => write_changed(level, id, frame, out, steps),
-        _ => Ok(()),
+impl<L: Ledger> Lowering<'_, L> {
+    // What a child of a declaration declares.
+    pub fn lower_local(&mut self, level: Level<'_>, id: u32) -> Result<(), Memory>
+        requires within { id < length level.source.nodes.now }
+        ensures kept { Keeps self.old self.new }
+        ensures wrote { OnOk result (PutsRow level.entry.site (locals (phrase_of level.entry.source.nodes.now id ∷
+            [])) self.old self.new) }
+        ensures frame { OnOk result (self.new.frame.now ≡ after_row (locals (phrase_of level.entry.source.nodes.now id
+            ∷ [])) self.old.frame.now) }
+        ensures cost { self.new.steps.now ≤ self.old.steps.now + 18 * plain_at level.entry.source.nodes.now id }
+    {
+        match rule_of(level.source, id) {
+            Rule::Litem => self.lower_local_item(level, id),
+            Rule::Change => self.lower_changed(level, id),
+            _ => Ok(()),
+        }
     }
-}
 
-// The variables of a declaration, one after another.
-pub fn write_locals<L: Ledger>(
-    level: Level<'_>,
-    id: u32,
-    frame: &mut Frame,
-    out: &mut Output,
-    steps: &mut Steps<L>,
-) -> Result<(), Memory>
-    requires within { id < length level.source.nodes.now }
-    ensures walked { OnOk result (Walks level.entry.site (locals (phrases_of level.entry.source.nodes.now
-        (children_of level.entry.source.nodes.now id))) frame.old frame.new out.old out.new) }
-    ensures cost { steps.new ≤ steps.old + 19 * plain_below level.entry.source.nodes.now id + 19 * nested_below
-        level.entry.source.nodes.now id }
-{
-    for child in children_of(level.source, id) {
-        steps.tick();
-        write_local(level, *child, frame, out, steps)?;
+    // The variables of a declaration, one after another.
+    pub fn lower_locals(&mut self, level: Level<'_>, id: u32) -> Result<(), Memory>
+        requires within { id < length level.source.nodes.now }
+        ensures kept { Keeps self.old self.new }
+        ensures walked { OnOk result (Walks level.entry.site (locals (phrases_of level.entry.source.nodes.now
+            (children_of level.entry.source.nodes.now id))) self.old self.new) }
+        ensures cost { self.new.steps.now ≤ self.old.steps.now + 19 * plain_below level.entry.source.nodes.now id + 19
+            * nested_below level.entry.source.nodes.now id }
+    {
+        for child in children_of(level.source, id) {
+            self.steps.tick();
+            self.lower_local(level, *child)?;
+        }
+        Ok(())
     }
-    Ok(())
 }

@@ -58,7 +58,7 @@ pub fn semicolon_from<L: Ledger>(
 }
 
 // The number of the child after the first semicolon from one on; where none is, that of no child.
-#[tactic(auto, using(crate::proofs::Semicolons::behind_found, crate::proofs::Semicolons::behind_all))]
+#[tactic(auto, using(crate::proofs::Rows::Semicolons::behind_found, crate::proofs::Rows::Semicolons::behind_all))]
 pub fn past_semicolon<L: Ledger>(
     source: Source<'_>,
     id: u32,
@@ -75,7 +75,7 @@ pub fn past_semicolon<L: Ledger>(
 }
 
 // The number of the child that has this number among those from one up to another; where none has it, that of no child.
-#[tactic(auto, using(crate::proofs::Semicolons::part_there, crate::proofs::Semicolons::part_none))]
+#[tactic(auto, using(crate::proofs::Rows::Semicolons::part_there, crate::proofs::Rows::Semicolons::part_none))]
 pub fn part_of(source: Source<'_>, id: u32, from: usize, end: usize, k: usize) -> usize
     requires within { id < length source.nodes.now }
     requires past { from ≤ end }
@@ -90,7 +90,7 @@ pub fn part_of(source: Source<'_>, id: u32, from: usize, end: usize, k: usize) -
 }
 
 // The first expression among the children from one number up to another; 1 where none is one.
-#[tactic(auto, using(crate::proofs::Semicolons::sought_start, crate::proofs::Semicolons::sought_more, crate::proofs::Semicolons::sought_found, crate::proofs::Semicolons::sought_none))]
+#[tactic(auto, using(crate::proofs::Rows::Semicolons::sought_start, crate::proofs::Rows::Semicolons::sought_more, crate::proofs::Rows::Semicolons::sought_found, crate::proofs::Rows::Semicolons::sought_none))]
 pub fn test_among<L: Ledger>(
     source: Source<'_>,
     id: u32,

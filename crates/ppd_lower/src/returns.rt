@@ -4,7 +4,7 @@ ghost use Rattle.std.specs.List.{flat_map};
 ghost use Rattle.ppd_lower.specs.Endings.{returned, function_returns, body_returns, close_by};
 ghost use Rattle.ppd_resolve.specs.declared.fault.Cause.TheVariants.{ReturnPlace};
 ghost use Rattle.ppd_resolve.specs.Faults.{first, first_of_both, if_so, unless};
-ghost use Rattle.ppd_lower.specs.Outputs.{Puts};
+ghost use Rattle.ppd_lower.specs.Writing.{Wrote};
 
 use crate::endings::{Closing, Ending};
 use ppd_ast::{Kind, Memory, Place, Steps, Stmt};
@@ -145,8 +145,8 @@ pub fn write_close<L: Ledger>(
     out: &mut Output,
     steps: &mut Steps<L>,
 ) -> Result<(), Memory>
-    ensures wrote { OnOk result (Puts site.body site.parent (close_by process closing.ending closing.close) []
-        out.old out.new) }
+    ensures wrote { OnOk result (Wrote site.body site.parent (close_by process closing.ending closing.close) []
+        out.old.table out.new.table out.old.row out.new.row) }
     ensures cost { steps.new ≤ steps.old + 2 }
 {
     if process {

@@ -13,173 +13,173 @@ ghost use Rattle.ppd_lower.specs.Forms.{Added};
 ghost use Rattle.ppd_lower.specs.Values.{goal_said, value_said_by, IsGoal, IsValue, goal_nodes, value_nodes};
 ghost use Rattle.ppd_resolve.specs.Cost.{nested_below, plain_below};
 ghost use Rattle.ppd_lower.specs.Code as C;
-ghost use Rattle.ppd_lower.specs.Outputs.{PutsSimple, PutsAct};
+ghost use Rattle.ppd_lower.specs.Outputs.{Keeps, PutsSimple, PutsAct};
 
-use crate::calls::{arguments, channel, function};
-use crate::formulas::{element_expr, formula, put, scalar_expr, used};
+use crate::calls::{Use, arguments, channel_number, function, used};
+use crate::formulas::{element_expr, formula, put, scalar_expr, write_term};
+use crate::lowering::Lowering;
 use crate::values::{Goal, Value};
 use ppd_ast::{Expr, Ids, Kind, Memory, Seq, Steps, Target};
 use ppd_resolve::{
-    Fault, Frame, Here, Label, Level, Meaning, Output, Scopes, Source, declare, label_at, put_stmt,
+    Frame, Here, Label, Level, Meaning, Source, Writer, declare, label_at, put_stmt,
 };
 use std::sync::ledger::Ledger;
 
-// The call at a node, whose value is used where a cell receives it.
-pub fn write_call<L: Ledger>(
-    here: Here<'_>,
-    id: u32,
-    scopes: &Scopes,
-    into: Option<u16>,
-    out: &mut Output,
-    steps: &mut Steps<L>,
-) -> Result<(), Memory>
-    requires within { id < length here.level.source.nodes.now }
-    ensures wrote { OnOk result (PutsAct here.entry.level.site here.entry.place (C.call (function_of
-        (meaning scopes.now (name_at (below here.entry.level.source id) 0).text)) (map (term_of scopes.now)
-        (formulas (below here.entry.level.source id))) into) (call_faults scopes.now (is_some into) (name_at
-        (below here.entry.level.source id) 0) (formulas (below here.entry.level.source id))) out.old out.new) }
-    ensures cost { steps.new ≤ steps.old + 11 * plain_below here.entry.level.source.nodes.now id + 11 * nested_below
-        here.entry.level.source.nodes.now id + 3 }
-{
-    let name = label_at(here.level.source, id, 0);
-    let mut args = Ids::new(scopes.alloc());
-    arguments(
-        here.level.source,
-        scopes,
-        id,
-        &mut out.table,
-        &mut args,
-        steps,
-    )?;
-    let number = function(
-        scopes,
-        name,
-        args.len(),
-        into.is_some(),
-        &mut out.table.found,
-        steps,
-    );
-    put_stmt(
-        out,
-        here.level.site,
-        here.place,
-        Kind::Call {
-            function: number,
-            args,
-            into,
-        },
-        steps,
-    )
-}
+impl<L: Ledger> Lowering<'_, L> {
+    // The call at a node, whose value is used where a cell receives it.
+    pub fn lower_call(&mut self, here: Here<'_>, id: u32, into: Option<u16>) -> Result<(), Memory>
+        requires within { id < length here.level.source.nodes.now }
+        ensures kept { Keeps self.old self.new }
+        ensures frame { self.new.frame.now ≡ self.old.frame.now }
+        ensures wrote { OnOk result (PutsAct here.entry.level.site here.entry.place (C.call (function_of (meaning
+            self.old.frame.now.scopes (name_at (below here.entry.level.source id) 0).text)) (map (term_of
+            self.old.frame.now.scopes) (formulas (below here.entry.level.source id))) into) (call_faults
+            self.old.frame.now.scopes (is_some into) (name_at (below here.entry.level.source id) 0) (formulas (below
+            here.entry.level.source id))) self.old self.new) }
+        ensures cost { self.new.steps.now ≤ self.old.steps.now + 11 * plain_below here.entry.level.source.nodes.now id
+            + 11 * nested_below here.entry.level.source.nodes.now id + 3 }
+    {
+        let name = label_at(here.level.source, id, 0);
+        let mut args = Ids::new(self.frame.scopes.alloc());
+        arguments(
+            here.level.source,
+            self.frame,
+            id,
+            &mut self.out.table,
+            &mut args,
+            self.steps,
+        )?;
+        let number = function(
+            &self.frame.scopes,
+            name,
+            args.len(),
+            into.is_some(),
+            &mut self.out.table.found,
+            self.steps,
+        );
+        put_stmt(
+            self.out,
+            here.level.site,
+            here.place,
+            Kind::Call {
+                function: number,
+                args,
+                into,
+            },
+            self.steps,
+        )
+    }
 
-// A value into a local scalar.
-pub fn write_put<L: Ledger>(
-    here: Here<'_>,
-    value: Value<'_>,
-    scopes: &Scopes,
-    cell: u16,
-    out: &mut Output,
-    steps: &mut Steps<L>,
-) -> Result<(), Memory>
-    requires within { IsValue here.level.source.nodes.now value }
-    ensures wrote { OnOk result (PutsAct here.entry.level.site here.entry.place (put scopes.now cell
-        (value_said_by here.entry.level.source.nodes.now value.entry)) (value_faults scopes.now
-        (value_said_by here.entry.level.source.nodes.now value.entry)) out.old out.new) }
-    ensures cost { steps.new ≤ steps.old + 11 * value_nodes here.entry.level.source.nodes.now value.entry + 5 }
-{
-    match value {
-        Value::Plain(operand) => {
-            let number = formula(
-                here.level.source,
-                scopes,
-                operand,
-                &mut out.table.exprs,
-                &mut out.table.found,
-                steps,
-            )?;
-            put_stmt(
-                out,
-                here.level.site,
-                here.place,
-                Kind::Set(Target::Local(cell), number),
-                steps,
-            )
-        }
-        Value::Result(id) => write_call(here, id, scopes, Some(cell), out, steps),
-        Value::Received(name) => {
-            let number = channel(scopes, name, &mut out.table.found, steps);
-            put_stmt(
-                out,
-                here.level.site,
-                here.place,
-                Kind::Recv(number, cell),
-                steps,
-            )
+    // A value into a local scalar.
+    pub fn lower_put(&mut self, here: Here<'_>, value: Value<'_>, cell: u16) -> Result<(), Memory>
+        requires within { IsValue here.level.source.nodes.now value }
+        ensures kept { Keeps self.old self.new }
+        ensures frame { self.new.frame.now ≡ self.old.frame.now }
+        ensures wrote { OnOk result (PutsAct here.entry.level.site here.entry.place (put self.old.frame.now.scopes
+            cell (value_said_by here.entry.level.source.nodes.now value.entry)) (value_faults
+            self.old.frame.now.scopes (value_said_by here.entry.level.source.nodes.now value.entry)) self.old
+            self.new) }
+        ensures cost { self.new.steps.now ≤ self.old.steps.now + 11 * value_nodes here.entry.level.source.nodes.now
+            value.entry + 5 }
+    {
+        match value {
+            Value::Plain(operand) => {
+                let table = &mut self.out.table;
+                let number = write_term(here.level.source, self.frame, operand, table, self.steps)?;
+                put_stmt(
+                    self.out,
+                    here.level.site,
+                    here.place,
+                    Kind::Set(Target::Local(cell), number),
+                    self.steps,
+                )
+            }
+            Value::Result(id) => self.lower_call(here, id, Some(cell)),
+            Value::Received(name) => {
+                let meaning = used(
+                    &self.frame.scopes,
+                    name,
+                    Use::Channel,
+                    &mut self.out.table.found,
+                    self.steps,
+                );
+                let number = channel_number(meaning);
+                put_stmt(
+                    self.out,
+                    here.level.site,
+                    here.place,
+                    Kind::Recv(number, cell),
+                    self.steps,
+                )
+            }
         }
     }
-}
 
-// A declared scalar with its value.
-#[tactic(auto, using(ppd_resolve::proofs::First::found_in_both))]
-pub fn write_fresh<L: Ledger>(
-    level: Level<'_>,
-    label: Label<'_>,
-    value: Value<'_>,
-    frame: &mut Frame,
-    out: &mut Output,
-    steps: &mut Steps<L>,
-) -> Result<(), Memory>
-    requires within { IsValue level.source.nodes.now value }
-    ensures wrote { OnOk result (PutsSimple level.entry.site (fresh (label_name label.entry)
-        (value_said_by level.entry.source.nodes.now value.entry)) frame.old out.old out.new) }
-    ensures frame { OnOk result
-        (frame.new ≡ after
-        (fresh (label_name label.entry) (value_said_by level.entry.source.nodes.now value.entry)) frame.old) }
-    ensures cost { steps.new ≤ steps.old + 11 * value_nodes level.entry.source.nodes.now value.entry + 10 }
-{
-    let cell = frame.cells;
-    declare(frame, label, None, &mut out.table.found, steps)?;
-    write_put(
-        Here {
-            level,
-            place: label.place,
-        },
-        value,
-        &frame.scopes,
-        cell,
-        out,
-        steps,
-    )
+    // A declared scalar with its value.
+    #[tactic(auto, using(ppd_resolve::proofs::First::found_in_both))]
+    pub fn lower_fresh(
+        &mut self,
+        level: Level<'_>,
+        label: Label<'_>,
+        value: Value<'_>,
+    ) -> Result<(), Memory>
+        requires within { IsValue level.source.nodes.now value }
+        ensures kept { Keeps self.old self.new }
+        ensures wrote { OnOk result (PutsSimple level.entry.site (fresh (label_name label.entry)
+            (value_said_by level.entry.source.nodes.now value.entry)) self.old self.new) }
+        ensures frame { OnOk result (self.new.frame.now ≡ after (fresh (label_name label.entry) (value_said_by
+            level.entry.source.nodes.now value.entry)) self.old.frame.now) }
+        ensures cost { self.new.steps.now ≤ self.old.steps.now + 11 * value_nodes level.entry.source.nodes.now
+            value.entry + 10 }
+    {
+        let cell = self.frame.cells;
+        declare(
+            self.frame,
+            label,
+            None,
+            &mut self.out.table.found,
+            self.steps,
+        )?;
+        self.lower_put(
+            Here {
+                level,
+                place: label.place,
+            },
+            value,
+            cell,
+        )
+    }
 }
 
 // The place that a value is stored to, whose index has its expressions added.
 pub fn write_spot<L: Ledger>(
     source: Source<'_>,
-    scopes: &Scopes,
+    frame: &Frame,
     goal: Goal<'_>,
-    exprs: &mut Seq<Expr>,
-    found: &mut Option<Fault>,
+    table: &mut Writer,
     steps: &mut Steps<L>,
 ) -> Result<Target, Memory>
     requires within { IsGoal source.nodes.now goal }
     ensures added { OnOk result
-        (exprs.new ≡ exprs.old
-        ++ flats (length exprs.old) (spot_terms (spot_of scopes.now (goal_said source.entry.nodes.now goal.entry)))) }
+        (table.new.exprs ≡ table.old.exprs
+        ++ flats (length table.old.exprs) (spot_terms (spot_of frame.now.scopes (goal_said source.entry.nodes.now
+        goal.entry)))) }
     ensures target { IfOk result
-        (λ t. t ≡ target (length exprs.old) (spot_of scopes.now (goal_said source.entry.nodes.now goal.entry))) }
+        (λ t. t ≡ target (length table.old.exprs) (spot_of frame.now.scopes (goal_said source.entry.nodes.now goal.entry))) }
     ensures faults { OnOk result
-        (found.new ≡ first_of_both found.old
-        (first (formula_faults scopes.now (goal_formula (goal_said source.entry.nodes.now goal.entry))))) }
+        (table.new.found ≡ first_of_both table.old.found
+        (first (formula_faults frame.now.scopes (goal_formula (goal_said source.entry.nodes.now goal.entry))))) }
+    ensures stmts { table.new.stmts ≡ table.old.stmts }
     ensures cost { steps.new ≤ steps.old + 6 * goal_nodes source.entry.nodes.now goal.entry + 4 }
 {
     match goal {
         Goal::Scalar(name) => {
-            let meaning = used(scopes, name, false, found, steps);
+            let meaning = used(&frame.scopes, name, Use::Scalar, &mut table.found, steps);
             Ok(scalar_target(meaning))
         }
         Goal::Item(name, index) => {
-            let meaning = used(scopes, name, true, found, steps);
-            let at = formula(source, scopes, index, exprs, found, steps)?;
+            let meaning = used(&frame.scopes, name, Use::Element, &mut table.found, steps);
+            let at = write_term(source, frame, index, table, steps)?;
             Ok(element_target(meaning, at))
         }
     }
@@ -216,24 +216,28 @@ fn element_target(meaning: Option<Meaning>, at: u32) -> Target
 // The expression that reads a place where a value is stored; what is wrong with it is noted where it is written.
 pub fn write_goal<L: Ledger>(
     source: Source<'_>,
-    scopes: &Scopes,
+    frame: &Frame,
     goal: Goal<'_>,
-    exprs: &mut Seq<Expr>,
+    table: &mut Writer,
     steps: &mut Steps<L>,
 ) -> Result<u32, Memory>
     requires within { IsGoal source.nodes.now goal }
-    ensures added { IfOk result (λ n. Added exprs.old (term_of scopes.now (goal_formula (goal_said
-        source.entry.nodes.now goal.entry))) exprs.new n) }
+    ensures added { IfOk result (λ n. Added table.old.exprs (term_of frame.now.scopes (goal_formula (goal_said
+        source.entry.nodes.now goal.entry))) table.new.exprs n) }
+    ensures stmts { table.new.stmts ≡ table.old.stmts }
+    ensures found { table.new.found ≡ table.old.found }
     ensures cost { steps.new ≤ steps.old + 6 * goal_nodes source.entry.nodes.now goal.entry + 5 }
 {
+    let scopes = &frame.scopes;
+    let exprs = &mut table.exprs;
     let mut again = None;
     match goal {
         Goal::Scalar(name) => {
-            let meaning = used(scopes, name, false, &mut again, steps);
+            let meaning = used(scopes, name, Use::Scalar, &mut again, steps);
             put(exprs, scalar_expr(meaning), steps)
         }
         Goal::Item(name, index) => {
-            let meaning = used(scopes, name, true, &mut again, steps);
+            let meaning = used(scopes, name, Use::Element, &mut again, steps);
             let at = formula(source, scopes, index, exprs, &mut again, steps)?;
             put(exprs, element_expr(meaning, at), steps)
         }

@@ -33,10 +33,6 @@ abbrev RisesFrom : ℕ → List ℕ → Type 0
 RisesFrom n [] = ⊤
 RisesFrom n (x ∷ xs) = (n ≤ x) × RisesFrom (x + 1) xs
 
-later : (m n : ℕ) (xs : List ℕ) → m ≤ n → RisesFrom n xs → RisesFrom m xs
-later m n [] le h = tt
-later m n (x ∷ xs) le h = (omega (arith, le, h.0), h.1)
-
 increases : (xs : List ℕ) (n : ℕ) → RisesFrom n xs → IsStrictlyIncreasing xs
 increases [] n h k lt = absurd (omega (arith, lt))
 increases (x ∷ []) n h k lt = absurd (omega (arith, lt))

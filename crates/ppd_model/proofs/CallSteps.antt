@@ -1,26 +1,21 @@
 -- An activation is begun by the event of a call alone.
-use Rattle.std.proofs.Common.{◌≡◌, ℕ, ◌≤◌, ℤ, Bool, true, false, List, [], ◌∷◌, Option, Some, None, Ok, Err, refl, ap, sym, subst, length, arith, if◌then◌else◌}
+use Rattle.std.proofs.Common.{◌≡◌, ℕ, ◌≤◌, ℤ, true, false, List, [], ◌∷◌, Option, Some, Ok, refl, ap, sym, subst, length, arith, ◌∙◌, true≢false}
 use Rattle.std.specs.Prelude.{⊤, drop}
 use Rattle.ppd_ast.specs.declared.plan.Plan.{Plan}
 use Rattle.ppd_ast.specs.declared.program.Expr.{Expr}
 use Rattle.ppd_ast.specs.declared.program.Kind.{Kind}
-use Rattle.ppd_ast.specs.declared.program.Kind.TheVariants as kind
 use Rattle.ppd_ast.specs.declared.program.Program.{Program}
-use Rattle.ppd_ast.specs.declared.program.Target.TheVariants as target
-use Rattle.ppd_ast.specs.declared.status.Trap.TheVariants as trap
-use Rattle.ppd_ast.specs.Term.{Term, term}
 use Rattle.ppd_ast.specs.Lookups.{kind_of}
-use Rattle.ppd_sem.specs.declared.asking.Pause.TheVariants.{Traps}
 use Rattle.ppd_sem.specs.declared.event.Event.{Event}
 use Rattle.ppd_sem.specs.declared.proc.Need.{Need}
 use Rattle.ppd_sem.specs.declared.proc.Need.TheVariants.{Trap}
 use Rattle.ppd_sem.specs.declared.proc.Proc.{Proc}
 use Rattle.ppd_sem.specs.declared.proc.Todo.{Todo}
-use Rattle.ppd_sem.specs.Ask.{ask, element, is_zero}
-use Rattle.ppd_sem.specs.Asked.{Asked, and_then, gives, lift}
-use Rattle.ppd_sem.specs.Deed.{Deed, set_local, set_shared, clear, branch, turn, leave, invoke, back, send, receive, print, pass, ask_deed, ask_stored}
+use Rattle.ppd_sem.specs.Asked.{Asked}
+use Rattle.ppd_sem.specs.Deed.{Deed, set_local, clear, invoke, back, receive, ask_deed}
 use Rattle.ppd_sem.specs.Process.{head_deed, top_cells}
 use Rattle.ppd_sem.specs.Described.{is_event}
+use Rattle.ppd_sem.proofs.OfKind.{IsDeedOf, OfAsked, asked_holds, invokes}
 use Rattle.ppd_model.specs.declared.trace.EventId.{EventId}
 use Rattle.ppd_model.specs.FullTrace.{Activation, Tag, Tracing, all_tagged, event_of, me_in, tagged, tagged_after, tagged_at, tagged_by, tagged_into, trace_step, with_test}
 use Rattle.ppd_model.specs.Parents.{is_call}
@@ -32,43 +27,21 @@ abbrev NoCall : Asked Deed → Type 0
 NoCall (Ok (invoke f values into, left)) = ⊥
 NoCall asked = ⊤
 
-then_none : {A : Type 0} (r : Asked A) (go : A → List ℤ → Asked Deed) → ((x : A) (left : List ℤ) → NoCall (go x left)) → NoCall (and_then r go)
-then_none (Ok q) go h = h q.0 q.1
-then_none (Err pause) go h = tt
+abbrev CallFits : Kind → Deed → Type 0
+CallFits k (invoke f values into) = is_call k ≡ true
+CallFits k d = ⊤
 
-stored_none : (i e : Term) (base len : ℕ) (store : ℕ → ℤ → Deed) (cells answers : List ℤ) → ((c : ℕ) (v : ℤ) (left : List ℤ) → NoCall (gives left (store c v))) → NoCall (ask_stored i e base len store cells answers)
-stored_none i e base len store cells answers h =
-    then_none (ask i cells answers) (λ at left. and_then (lift left (element base len at)) (λ c left. and_then (ask e cells left) (λ v left. gives left (store c v))))
-    (λ at left. then_none (lift left (element base len at)) (λ c left. and_then (ask e cells left) (λ v left. gives left (store c v)))
-    (λ c left. then_none (ask e cells left) (λ v left. gives left (store c v)) (h c)))
+call_fits : (k : Kind) (d : Deed) → IsDeedOf k d → CallFits k d
+call_fits k d (invokes values count) = refl
+call_fits k d is = tt
 
-turn_none : (b : Bool) (body : List ℕ) (left : List ℤ) → NoCall (gives left (if b then leave else turn body))
-turn_none true body left = tt
-turn_none false body left = tt
-
-assert_none : (b : Bool) (left : List ℤ) → NoCall (if b then Err (Traps trap.Assert) else gives left pass)
-assert_none true left = tt
-assert_none false left = tt
+of_no_call : (k : Kind) (asked : Asked Deed) → is_call k ≡ false → OfAsked (CallFits k) asked → NoCall asked
+of_no_call k (Ok (invoke f values into, left)) isnt is = absurd (true≢false (sym is ∙ isnt))
+of_no_call k asked isnt is = tt
 
 no_call : (es : List Expr) (k : Kind) (cells answers : List ℤ) → is_call k ≡ false → NoCall (ask_deed es k cells answers)
-no_call es (kind.Set (target.Local c) e) cells answers h = then_none (ask (term es e) cells answers) (λ v left. gives left (set_local c v)) (λ v left. tt)
-no_call es (kind.Set (target.LocalAt base len i) e) cells answers h = stored_none (term es i) (term es e) base len set_local cells answers (λ c v left. tt)
-no_call es (kind.Set (target.Shared c) e) cells answers h = then_none (ask (term es e) cells answers) (λ v left. gives left (set_shared c v)) (λ v left. tt)
-no_call es (kind.Set (target.SharedAt base len i) e) cells answers h = stored_none (term es i) (term es e) base len set_shared cells answers (λ c v left. tt)
-no_call es (kind.Zero base len) cells answers h = tt
-no_call es (kind.If e first second) cells answers h = then_none (ask (term es e) cells answers) (λ v left. gives left (branch (if is_zero v then second else first))) (λ v left. tt)
-no_call es (kind.While e body) cells answers h = then_none (ask (term es e) cells answers) (λ v left. gives left (if is_zero v then leave else turn body)) (λ v left. turn_none (is_zero v) body left)
-no_call es (kind.Call f arguments into) cells answers h = absurd (cc)
-no_call es (kind.Return None) cells answers h = tt
-no_call es (kind.Return (Some e)) cells answers h = then_none (ask (term es e) cells answers) (λ v left. gives left (back (Some v))) (λ v left. tt)
-no_call es (kind.P x) cells answers h = tt
-no_call es (kind.V x) cells answers h = tt
-no_call es (kind.Send c e) cells answers h = then_none (ask (term es e) cells answers) (λ v left. gives left (send c v)) (λ v left. tt)
-no_call es (kind.Recv c into) cells answers h = tt
-no_call es (kind.Print e) cells answers h = then_none (ask (term es e) cells answers) (λ v left. gives left (print v)) (λ v left. tt)
-no_call es (kind.Assert e) cells answers h =
-    then_none (ask (term es e) cells answers) (λ v left. if is_zero v then Err (Traps trap.Assert) else gives left pass) (λ v left. assert_none (is_zero v) left)
-no_call es kind.End cells answers h = tt
+no_call es k cells answers isnt =
+    of_no_call k (ask_deed es k cells answers) isnt (asked_holds es cells answers (CallFits k) k (call_fits k))
 
 -- ---- no more activations
 

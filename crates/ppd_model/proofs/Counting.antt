@@ -71,68 +71,73 @@ counting_V w o u k e = record {
     others Recv o' d = refl
     others Done o' d = refl
 
-counting_Send : (w : World) (o : ℕ) (v : ℤ) (u k : ℕ) → number_of w (n.Send o v u) ≡ Some k → IsCounting w (n.Send o v u) (record { kind = Send; object = o; number = k })
-counting_Send w o v u k e = record {
-  number = next_number (λ (x : Channel). length x.sent) (slice_get w.chans o) k e;
-  counted = raised (λ (x : Channel). length x.sent) (λ x. record x { sent = x.sent ++ v ∷ [] }) (λ x. length-append x.sent (v ∷ [])) w.chans o k e;
-  unchanged = others;
-}
-  where
-    others : (kind : SyncKind) (object : ℕ) → (kind ≡ Send → object ≡ o → ⊥) → count_of (effect w (n.Send o v u)) kind object ≡ count_of w kind object
-    others P o' d = refl
-    others V o' d = refl
-    others Send o' d = as_before (λ (x : Channel). length x.sent) (λ x. record x { sent = x.sent ++ v ∷ [] }) w.chans o o' (λ e. absurd (d refl e))
-    others Recv o' d = as_before (λ (x : Channel). x.received) (λ x. record x { sent = x.sent ++ v ∷ [] }) w.chans o o' (λ e x. refl)
-    others Done o' d = as_before (λ (x : Channel). x.completed) (λ x. record x { sent = x.sent ++ v ∷ [] }) w.chans o o' (λ e x. refl)
+-- a channel's count of a kind of synchronization
+abbrev of_channel : SyncKind → Channel → ℕ
+of_channel Send x = length x.sent
+of_channel Recv x = x.received
+of_channel Done x = x.completed
+of_channel kind x = 0
 
-counting_Offer : (w : World) (o : ℕ) (v : ℤ) (k : ℕ) → number_of w (n.Offer o v) ≡ Some k → IsCounting w (n.Offer o v) (record { kind = Send; object = o; number = k })
-counting_Offer w o v k e = record {
-  number = next_number (λ (x : Channel). length x.sent) (slice_get w.chans o) k e;
-  counted = raised (λ (x : Channel). length x.sent) (λ x. record x { sent = x.sent ++ v ∷ [] }) (λ x. length-append x.sent (v ∷ [])) w.chans o k e;
-  unchanged = others;
-}
-  where
-    others : (kind : SyncKind) (object : ℕ) → (kind ≡ Send → object ≡ o → ⊥) → count_of (effect w (n.Offer o v)) kind object ≡ count_of w kind object
-    others P o' d = refl
-    others V o' d = refl
-    others Send o' d = as_before (λ (x : Channel). length x.sent) (λ x. record x { sent = x.sent ++ v ∷ [] }) w.chans o o' (λ e. absurd (d refl e))
-    others Recv o' d = as_before (λ (x : Channel). x.received) (λ x. record x { sent = x.sent ++ v ∷ [] }) w.chans o o' (λ e x. refl)
-    others Done o' d = as_before (λ (x : Channel). x.completed) (λ x. record x { sent = x.sent ++ v ∷ [] }) w.chans o o' (λ e x. refl)
+-- one count goes up, and no other count changes
+record Raises (kind : SyncKind) (f : Channel → Channel) : Type 0 where
+  up : (x : Channel) → of_channel kind (f x) ≡ of_channel kind x + 1
+  keeps : (other : SyncKind) → (other ≡ kind → ⊥) → (x : Channel) → of_channel other (f x) ≡ of_channel other x
 
-counting_Recv : (w : World) (o u k : ℕ) → number_of w (n.Recv o u) ≡ Some k → IsCounting w (n.Recv o u) (record { kind = Recv; object = o; number = k })
-counting_Recv w o u k e = record {
-  number = next_number (λ (x : Channel). x.received) (slice_get w.chans o) k e;
-  counted = raised (λ (x : Channel). x.received) (λ x. record x { received = x.received + 1 }) (λ x. refl) w.chans o k e;
-  unchanged = others;
-}
+sending : (v : ℤ) → Raises Send (λ x. record x { sent = x.sent ++ v ∷ [] })
+sending v = record { up = λ x. length-append x.sent (v ∷ []); keeps = keeps }
   where
-    others : (kind : SyncKind) (object : ℕ) → (kind ≡ Recv → object ≡ o → ⊥) → count_of (effect w (n.Recv o u)) kind object ≡ count_of w kind object
-    others P o' d = refl
-    others V o' d = refl
-    others Send o' d = as_before (λ (x : Channel). length x.sent) (λ x. record x { received = x.received + 1 }) w.chans o o' (λ e x. refl)
-    others Recv o' d = as_before (λ (x : Channel). x.received) (λ x. record x { received = x.received + 1 }) w.chans o o' (λ e. absurd (d refl e))
-    others Done o' d = as_before (λ (x : Channel). x.completed) (λ x. record x { received = x.received + 1 }) w.chans o o' (λ e x. refl)
+    keeps : (other : SyncKind) → (other ≡ Send → ⊥) → (x : Channel) → of_channel other (record x { sent = x.sent ++ v ∷ [] }) ≡ of_channel other x
+    keeps Send isnt x = absurd (isnt refl)
+    keeps other isnt x = refl
 
-counting_Done : (w : World) (o u k : ℕ) → number_of w (n.Done o u) ≡ Some k → IsCounting w (n.Done o u) (record { kind = Done; object = o; number = k })
-counting_Done w o u k e = record {
-  number = next_number (λ (x : Channel). x.completed) (slice_get w.chans o) k e;
-  counted = raised (λ (x : Channel). x.completed) (λ x. record x { completed = x.completed + 1 }) (λ x. refl) w.chans o k e;
-  unchanged = others;
-}
+receiving : Raises Recv (λ x. record x { received = x.received + 1 })
+receiving = record { up = λ x. refl; keeps = keeps }
   where
-    others : (kind : SyncKind) (object : ℕ) → (kind ≡ Done → object ≡ o → ⊥) → count_of (effect w (n.Done o u)) kind object ≡ count_of w kind object
-    others P o' d = refl
-    others V o' d = refl
-    others Send o' d = as_before (λ (x : Channel). length x.sent) (λ x. record x { completed = x.completed + 1 }) w.chans o o' (λ e x. refl)
-    others Recv o' d = as_before (λ (x : Channel). x.received) (λ x. record x { completed = x.completed + 1 }) w.chans o o' (λ e x. refl)
-    others Done o' d = as_before (λ (x : Channel). x.completed) (λ x. record x { completed = x.completed + 1 }) w.chans o o' (λ e. absurd (d refl e))
+    keeps : (other : SyncKind) → (other ≡ Recv → ⊥) → (x : Channel) → of_channel other (record x { received = x.received + 1 }) ≡ of_channel other x
+    keeps Recv isnt x = absurd (isnt refl)
+    keeps other isnt x = refl
+
+completing : Raises Done (λ x. record x { completed = x.completed + 1 })
+completing = record { up = λ x. refl; keeps = keeps }
+  where
+    keeps : (other : SyncKind) → (other ≡ Done → ⊥) → (x : Channel) → of_channel other (record x { completed = x.completed + 1 }) ≡ of_channel other x
+    keeps Done isnt x = absurd (isnt refl)
+    keeps other isnt x = refl
+
+-- a step that changes one channel so
+module _ (w : World) (need : Need) (kind : SyncKind) (f : Channel → Channel) (o : ℕ) (raises : Raises kind f)
+    (effect_is : effect w need ≡ record w { chans = change f o w.chans })
+    (count_is : (v : World) → count_of v kind o ≡ count_in (of_channel kind) (slice_get v.chans o)) where
+  others : (other : SyncKind) (object : ℕ) → (other ≡ kind → object ≡ o → ⊥)
+      → count_of (record w { chans = change f o w.chans }) other object ≡ count_of w other object
+  others P o' d = refl
+  others V o' d = refl
+  others Send o' d = as_before (of_channel Send) f w.chans o o' (λ same. raises.keeps Send (λ e. d e same))
+  others Recv o' d = as_before (of_channel Recv) f w.chans o o' (λ same. raises.keeps Recv (λ e. d e same))
+  others Done o' d = as_before (of_channel Done) f w.chans o o' (λ same. raises.keeps Done (λ e. d e same))
+
+  channel_counting : (k : ℕ) → number_after (of_channel kind) (slice_get w.chans o) ≡ Some k → IsCounting w need (record { kind = kind; object = o; number = k })
+  channel_counting k e = record {
+    number = next_number (of_channel kind) (slice_get w.chans o) k e ∙ ap (λ n. n + 1) (sym (count_is w));
+    counted = count_is (effect w need) ∙ ap (λ (v : World). count_in (of_channel kind) (slice_get v.chans o)) effect_is
+        ∙ raised (of_channel kind) f raises.up w.chans o k e ∙ ap (λ n. n + 1) (sym (count_is w));
+    unchanged = λ other object d. ap (λ (v : World). count_of v other object) effect_is ∙ others other object d;
+  }
 
 -- a synchronization takes the next number of its kind and object, and no other count changes
 pub counting : (w : World) (need : Need) (k : ℕ) (s : Sync) → number_of w need ≡ Some k → numbered (kind_of_sync need) (Some k) ≡ Some s → IsCounting w need s
 counting w (n.P o u) k s e f = subst (λ z. IsCounting w (n.P o u) z) (some f) (counting_P w o u k e)
 counting w (n.V o u) k s e f = subst (λ z. IsCounting w (n.V o u) z) (some f) (counting_V w o u k e)
-counting w (n.Send o v u) k s e f = subst (λ z. IsCounting w (n.Send o v u) z) (some f) (counting_Send w o v u k e)
-counting w (n.Offer o v) k s e f = subst (λ z. IsCounting w (n.Offer o v) z) (some f) (counting_Offer w o v k e)
-counting w (n.Done o u) k s e f = subst (λ z. IsCounting w (n.Done o u) z) (some f) (counting_Done w o u k e)
-counting w (n.Recv o u) k s e f = subst (λ z. IsCounting w (n.Recv o u) z) (some f) (counting_Recv w o u k e)
+counting w (n.Send o v u) k s e f =
+    subst (λ z. IsCounting w (n.Send o v u) z) (some f)
+    (channel_counting w (n.Send o v u) Send _ o (sending v) refl (λ v. refl) k e)
+counting w (n.Offer o v) k s e f =
+    subst (λ z. IsCounting w (n.Offer o v) z) (some f)
+    (channel_counting w (n.Offer o v) Send _ o (sending v) refl (λ v. refl) k e)
+counting w (n.Done o u) k s e f =
+    subst (λ z. IsCounting w (n.Done o u) z) (some f)
+    (channel_counting w (n.Done o u) Done _ o completing refl (λ v. refl) k e)
+counting w (n.Recv o u) k s e f =
+    subst (λ z. IsCounting w (n.Recv o u) z) (some f)
+    (channel_counting w (n.Recv o u) Recv _ o receiving refl (λ v. refl) k e)
 counting w need k s e f = absurd (none-some s f)

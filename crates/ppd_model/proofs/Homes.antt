@@ -1,20 +1,16 @@
 -- The statements still to do are of the bodies of the frames that are there, and what the deed of one tells.
-use Rattle.std.proofs.Common.{◌≡◌, ℕ, suc, ◌+◌, ◌≤◌, ℤ, Bool, true, false, List, [], ◌∷◌, ◌++◌, Option, Some, None, Ok, Err, refl, ap, sym, subst, ◌∙◌, length, map, arith, if◌then◌else◌}
+use Rattle.std.proofs.Common.{◌≡◌, ℕ, suc, ◌+◌, ◌≤◌, ℤ, Bool, true, false, List, [], ◌∷◌, ◌++◌, Option, Some, None, Ok, Err, refl, ap, sym, subst, ◌∙◌, length, map, arith}
 use Rattle.std.specs.Prelude.{⊤, drop, is_some, slice_get, IsSome, IsSomeAnd, IsTrue}
 use Rattle.std.specs.List.{All}
 use Rattle.std.proofs.lemmas.Option.{slice_get_within}
 use Rattle.ppd_ast.specs.declared.plan.Plan.{Plan}
 use Rattle.ppd_ast.specs.declared.program.Body.{Body}
-use Rattle.ppd_ast.specs.declared.program.Expr.{Expr}
 use Rattle.ppd_ast.specs.declared.program.Kind.{Kind}
 use Rattle.ppd_ast.specs.declared.program.Kind.TheVariants as kind
 use Rattle.ppd_ast.specs.declared.program.Program.{Program}
 use Rattle.ppd_ast.specs.declared.program.Stmt.{Stmt}
-use Rattle.ppd_ast.specs.declared.program.Target.TheVariants as target
-use Rattle.ppd_ast.specs.declared.status.Trap.TheVariants as trap
 use Rattle.ppd_ast.specs.Bare.{gives as gives_value}
 use Rattle.ppd_ast.specs.Order.{StandIn, inner}
-use Rattle.ppd_ast.specs.Term.{Term, term}
 use Rattle.ppd_ast.specs.Valid.{CallsRightly, EndsBody, IsValid, IsValidKind, IsValidStmt}
 use Rattle.ppd_ast.proofs.Standing.{All-append_parts}
 use Rattle.ppd_ast.specs.Lookups.{kind_of_stmt, kind_of, top_of_body, params_of_body, body_of_stmt, body_of}
@@ -25,14 +21,14 @@ use Rattle.ppd_sem.specs.declared.proc.Need.{Need}
 use Rattle.ppd_sem.specs.declared.proc.Need.TheVariants.{Enter, Offer, Done, Trap, Budget, Stopped}
 use Rattle.ppd_sem.specs.declared.proc.Proc.{Proc}
 use Rattle.ppd_sem.specs.declared.proc.Todo.{Todo}
-use Rattle.ppd_sem.specs.Ask.{ask, element, is_zero}
-use Rattle.ppd_sem.specs.Asked.{Asked, and_then, gives, lift}
-use Rattle.ppd_sem.specs.Deed.{Deed, set_local, set_shared, clear, branch, turn, leave, invoke, back, take, give, send, receive, print, pass, finish, ask_all, ask_deed, ask_stored}
+use Rattle.ppd_sem.specs.Asked.{Asked}
+use Rattle.ppd_sem.specs.Deed.{Deed, set_local, set_shared, clear, branch, turn, leave, invoke, back, take, give, send, receive, print, pass, finish}
 use Rattle.ppd_sem.specs.Process.{act, act_at, act_by_asked, act_by_deed, act_by_need, clear_top, head_deed, into_of, need_of, receive_at, returned, returned_from, started, todos, top_cells, write_top}
 use Rattle.ppd_sem.proofs.Offers.{CompletesSend, completes, send_stays}
 use Rattle.ppd_sem.specs.Runs.{AreOfFunction, IsInner, IsRunnableBody, LeadsOn, left_by, returns, size_of, stmt_size}
 use Rattle.ppd_sem.proofs.Kept.{There, leads_at, there_at}
 use Rattle.ppd_sem.proofs.Validity.{some_at, valid-runnable}
+use Rattle.ppd_sem.proofs.OfKind.{IsDeedOf, OfAsked, asked_holds, backs, backs_value, goes_first, goes_second, invokes, goes_round}
 use Rattle.ppd_model.proofs.Moves.{body_top}
 
 -- ---- where the statements of a valid program stand
@@ -125,91 +121,24 @@ DeedOf program body k (back value) = (returns k ≡ true) × (is_some value ≡ 
 DeedOf program body k d = returns k ≡ false
 
 abbrev pub AskedOf : Program → ℕ → Kind → Asked Deed → Type 0
-AskedOf program body k (Ok q) = DeedOf program body k q.0
-AskedOf program body k (Err pause) = ⊤
+AskedOf program body k = OfAsked (DeedOf program body k)
 
--- so many values, where they are there
-abbrev Counted : ℕ → Asked (List ℤ) → Type 0
-Counted n (Ok q) = length q.0 ≡ n
-Counted n (Err pause) = ⊤
-
-then_counted : {A : Type 0} (n : ℕ) (r : Asked A) (next : A → List ℤ → Asked (List ℤ)) → ((x : A) (left : List ℤ) → Counted n (next x left)) → Counted n (and_then r next)
-then_counted n (Ok q) next h = h q.0 q.1
-then_counted n (Err pause) next h = tt
-
-one_more : (n : ℕ) (v : ℤ) (r : Asked (List ℤ)) → Counted n r → Counted (suc n) (and_then r (λ vs left. gives left (v ∷ vs)))
-one_more n v (Ok q) h = ap suc h
-one_more n v (Err pause) h = tt
-
-all_counted : (es : List Expr) (arguments : List ℕ) (cells answers : List ℤ) → Counted (length arguments) (ask_all es arguments cells answers)
-all_counted es [] cells answers = refl
-all_counted es (a ∷ as') cells answers =
-    then_counted (length (a ∷ as')) (ask (term es a) cells answers) (λ v left. and_then (ask_all es as' cells left) (λ vs left. gives left (v ∷ vs)))
-    (λ v left. one_more (length as') v (ask_all es as' cells left) (all_counted es as' cells left))
-
-module _ (program : Program) (body : ℕ) (k : Kind) where
-  then_of : {A : Type 0} (r : Asked A) (next : A → List ℤ → Asked Deed) → ((x : A) (left : List ℤ) → AskedOf program body k (next x left)) → AskedOf program body k (and_then r next)
-  then_of (Ok q) next h = h q.0 q.1
-  then_of (Err pause) next h = tt
-
-  one_of : {A : Type 0} (r : Asked A) (deed : A → Deed) → ((x : A) → DeedOf program body k (deed x)) → AskedOf program body k (and_then r (λ x left. gives left (deed x)))
-  one_of (Ok q) deed h = h q.0
-  one_of (Err pause) deed h = tt
-
-  call_of : (n f : ℕ) (into : Option ℕ) (r : Asked (List ℤ)) → Counted n r → returns k ≡ false → AreTop program f (top_of_body (slice_get program.bodies f)) → n ≡ params_of_body (slice_get program.bodies f)
-      → AskedOf program body k (and_then r (λ vs left. gives left (invoke f vs into)))
-  call_of n f into (Ok q) c e top is = (e, (top, c ∙ is))
-  call_of n f into (Err pause) c e top is = tt
-
-  stored_of : (i e : Term) (base len : ℕ) (store : ℕ → ℤ → Deed) (cells answers : List ℤ) → ((c : ℕ) (v : ℤ) → DeedOf program body k (store c v)) → AskedOf program body k (ask_stored i e base len store cells answers)
-  stored_of i e base len store cells answers h =
-      then_of (ask i cells answers) (λ at left. and_then (lift left (element base len at)) (λ c left. and_then (ask e cells left) (λ v left. gives left (store c v))))
-      (λ at left. then_of (lift left (element base len at)) (λ c left. and_then (ask e cells left) (λ v left. gives left (store c v)))
-      (λ c left. one_of (ask e cells left) (store c) (h c)))
-
-  chosen : (b : Bool) (xs ys : List ℕ) → AllBeside program body xs → AllBeside program body ys → AllBeside program body (if b then xs else ys)
-  chosen true xs ys h g = h
-  chosen false xs ys h g = g
-
-  turned : (b : Bool) (stmts : List ℕ) → returns k ≡ false → AllBeside program body stmts → DeedOf program body k (if b then leave else turn stmts)
-  turned true stmts e h = e
-  turned false stmts e h = (e, h)
-
-  asserted : (b : Bool) (left : List ℤ) → returns k ≡ false → AskedOf program body k (if b then Err (Traps trap.Assert) else gives left pass)
-  asserted true left e = tt
-  asserted false left e = e
-
-asked_of : (program : Program) (body : ℕ) (es : List Expr) (k : Kind) (cells answers : List ℤ) → Leads program body k → AskedOf program body k (ask_deed es k cells answers)
-asked_of program body es (kind.Set (target.Local c) e) cells answers h = one_of program body (kind.Set (target.Local c) e) (ask (term es e) cells answers) (λ v. set_local c v) (λ v. refl)
-asked_of program body es (kind.Set (target.LocalAt base len i) e) cells answers h =
-    stored_of program body (kind.Set (target.LocalAt base len i) e) (term es i) (term es e) base len set_local cells answers (λ c v. refl)
-asked_of program body es (kind.Set (target.Shared c) e) cells answers h = one_of program body (kind.Set (target.Shared c) e) (ask (term es e) cells answers) (λ v. set_shared c v) (λ v. refl)
-asked_of program body es (kind.Set (target.SharedAt base len i) e) cells answers h =
-    stored_of program body (kind.Set (target.SharedAt base len i) e) (term es i) (term es e) base len set_shared cells answers (λ c v. refl)
-asked_of program body es (kind.Zero base len) cells answers h = refl
-asked_of program body es (kind.If e first second) cells answers h =
-    one_of program body (kind.If e first second) (ask (term es e) cells answers) (λ v. branch (if is_zero v then second else first))
-    (λ v. (refl, chosen program body (kind.If e first second) (is_zero v) second first h.1 h.0))
-asked_of program body es (kind.While e stmts) cells answers h =
-    one_of program body (kind.While e stmts) (ask (term es e) cells answers) (λ v. if is_zero v then leave else turn stmts)
-    (λ v. turned program body (kind.While e stmts) (is_zero v) stmts refl h)
-asked_of program body es (kind.Call f arguments into) cells answers h =
-    call_of program body (kind.Call f arguments into) (length arguments) f into (ask_all es arguments cells answers) (all_counted es arguments cells answers) refl h.0 h.1
-asked_of program body es (kind.Return None) cells answers h = (refl, h)
-asked_of program body es (kind.Return (Some e)) cells answers h = one_of program body (kind.Return (Some e)) (ask (term es e) cells answers) (λ v. back (Some v)) (λ v. (refl, h))
-asked_of program body es (kind.P x) cells answers h = refl
-asked_of program body es (kind.V x) cells answers h = refl
-asked_of program body es (kind.Send c e) cells answers h = one_of program body (kind.Send c e) (ask (term es e) cells answers) (λ v. send c v) (λ v. refl)
-asked_of program body es (kind.Recv c into) cells answers h = refl
-asked_of program body es (kind.Print e) cells answers h = one_of program body (kind.Print e) (ask (term es e) cells answers) (λ v. print v) (λ v. refl)
-asked_of program body es (kind.Assert e) cells answers h =
-    then_of program body (kind.Assert e) (ask (term es e) cells answers) (λ v left. if is_zero v then Err (Traps trap.Assert) else gives left pass)
-    (λ v left. asserted program body (kind.Assert e) (is_zero v) left refl)
-asked_of program body es kind.End cells answers h = refl
+deed_fits : (program : Program) (body : ℕ) (k : Kind) (d : Deed) → IsDeedOf k d → Leads program body k → DeedOf program body k d
+deed_fits program body k d goes_first h = (refl, h.0)
+deed_fits program body k d goes_second h = (refl, h.1)
+deed_fits program body k d goes_round h = (refl, h)
+deed_fits program body k d (invokes values count) h = (refl, (h.0, count ∙ h.1))
+deed_fits program body k d backs h = (refl, h)
+deed_fits program body k d (backs_value v) h = (refl, h)
+deed_fits program body k d is h = refl
 
 -- what the deed of a statement of a valid program is
 pub head_of : (program : Program) (t : Todo) (s : Proc) → IsValid program → AskedOf program (body_of program t.stmt) (kind_of program t.stmt) (head_deed program t s)
-head_of program t s v = asked_of program (body_of program t.stmt) program.exprs (kind_of program t.stmt) (top_cells s.frames) s.answers (leads program t.stmt v)
+head_of program t s v =
+    let body : ℕ = body_of program t.stmt in
+    let k : Kind = kind_of program t.stmt in
+    asked_holds program.exprs (top_cells s.frames) s.answers (DeedOf program body k) k
+    (λ d is. deed_fits program body k d is (leads program t.stmt v))
 
 -- ---- frames and what is to do over them
 

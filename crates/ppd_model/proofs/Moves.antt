@@ -1,20 +1,16 @@
 -- One step of a process of a valid program: what is then to do, and the activations that are then there.
-use Rattle.std.proofs.Common.{◌≡◌, ℕ, suc, ◌<◌, ℤ, Bool, true, false, List, [], ◌∷◌, ◌++◌, Option, Some, None, Ok, Err, refl, ap, sym, subst, ◌∙◌, length, inl, inr, arith, if◌then◌else◌}
+use Rattle.std.proofs.Common.{◌≡◌, ℕ, suc, ◌<◌, ℤ, true, false, List, [], ◌∷◌, ◌++◌, Option, Some, None, Ok, Err, refl, ap, sym, subst, ◌∙◌, length, inl, inr, arith}
 use Rattle.std.specs.Prelude.{⊤, drop, slice_get, IsSomeAnd}
 use Rattle.std.specs.List.{All}
 use Rattle.std.proofs.lemmas.Bool.{cases_Bool}
 use Rattle.std.proofs.lemmas.Option.{slice_get_within}
 use Rattle.ppd_ast.specs.declared.plan.Plan.{Plan}
 use Rattle.ppd_ast.specs.declared.program.Body.{Body}
-use Rattle.ppd_ast.specs.declared.program.Expr.{Expr}
 use Rattle.ppd_ast.specs.declared.program.Kind.{Kind}
 use Rattle.ppd_ast.specs.declared.program.Kind.TheVariants as kind
 use Rattle.ppd_ast.specs.declared.program.Program.{Program}
 use Rattle.ppd_ast.specs.declared.program.Stmt.{Stmt}
-use Rattle.ppd_ast.specs.declared.program.Target.TheVariants as target
-use Rattle.ppd_ast.specs.declared.status.Trap.TheVariants as trap
 use Rattle.ppd_ast.specs.Order.{StandIn, inner}
-use Rattle.ppd_ast.specs.Term.{Term, term}
 use Rattle.ppd_ast.specs.Valid.{IsValid, IsValidBody, IsValidStmt}
 use Rattle.ppd_ast.proofs.Standing.{All-append_parts}
 use Rattle.ppd_ast.specs.Lookups.{kind_of_stmt, kind_of, top_of_body}
@@ -24,9 +20,8 @@ use Rattle.ppd_sem.specs.declared.proc.Need.{Need}
 use Rattle.ppd_sem.specs.declared.proc.Need.TheVariants.{Read, Enter, Offer, Done, Trap, Budget, Stopped}
 use Rattle.ppd_sem.specs.declared.proc.Proc.{Proc}
 use Rattle.ppd_sem.specs.declared.proc.Todo.{Todo}
-use Rattle.ppd_sem.specs.Ask.{ask, element, is_zero}
-use Rattle.ppd_sem.specs.Asked.{Asked, and_then, gives, lift}
-use Rattle.ppd_sem.specs.Deed.{Deed, set_local, set_shared, clear, branch, turn, leave, invoke, back, take, give, send, receive, print, pass, finish, ask_all, ask_deed, ask_stored}
+use Rattle.ppd_sem.specs.Asked.{Asked}
+use Rattle.ppd_sem.specs.Deed.{Deed, set_local, set_shared, clear, branch, turn, leave, invoke, back, take, give, send, receive, print, pass, finish}
 use Rattle.ppd_sem.specs.Process.{act, act_at, act_by_asked, act_by_deed, act_by_need, head_deed, need_of, todos, top_cells}
 use Rattle.ppd_sem.specs.Runs.{AreOfFunction, IsInner, LeadsOn, returns, size_of, stmt_size}
 use Rattle.ppd_sem.proofs.Kept.{There, leads_at, there_at}
@@ -37,6 +32,7 @@ use Rattle.ppd_model.specs.Story.{Story, Taken}
 use Rattle.ppd_model.proofs.LocalSteps.{IsSend, Fits, FitsHead, fits}
 use Rattle.ppd_sem.proofs.Offers.{CompletesSend, completes, send_stays}
 use Rattle.ppd_sem.specs.Described.{is_event}
+use Rattle.ppd_sem.proofs.OfKind.{IsDeedOf, OfAsked, asked_holds, goes_first, goes_second, goes_round, invokes}
 use Rattle.ppd_model.proofs.TestSteps.{View, all_tagged_views, event_acts, into_views, other_acts, tagged_views, views}
 
 -- ---- where the statements of a valid program stand
@@ -125,63 +121,21 @@ DeedOf program s k (back value) = returns k ≡ true
 DeedOf program s k d = returns k ≡ false
 
 abbrev AskedOf : Program → ℕ → Kind → Asked Deed → Type 0
-AskedOf program s k (Ok q) = DeedOf program s k q.0
-AskedOf program s k (Err pause) = ⊤
+AskedOf program s k = OfAsked (DeedOf program s k)
 
-module _ (program : Program) (s : ℕ) (k : Kind) where
-  then_of : {A : Type 0} (r : Asked A) (next : A → List ℤ → Asked Deed) → ((x : A) (left : List ℤ) → AskedOf program s k (next x left)) → AskedOf program s k (and_then r next)
-  then_of (Ok q) next h = h q.0 q.1
-  then_of (Err pause) next h = tt
+deed_fits : (program : Program) (s : ℕ) (k : Kind) (d : Deed) → IsDeedOf k d → Leads program s k → DeedOf program s k d
+deed_fits program s k d goes_first h = (refl, (refl, h.0))
+deed_fits program s k d goes_second h = (refl, (refl, h.1))
+deed_fits program s k d goes_round h = (refl, (refl, h))
+deed_fits program s k d (invokes values count) h = (refl, h)
+deed_fits program s k d is h = refl
 
-  one_of : {A : Type 0} (r : Asked A) (deed : A → Deed) → ((x : A) → DeedOf program s k (deed x)) → AskedOf program s k (and_then r (λ x left. gives left (deed x)))
-  one_of (Ok q) deed h = h q.0
-  one_of (Err pause) deed h = tt
-
-  stored_of : (i e : Term) (base len : ℕ) (store : ℕ → ℤ → Deed) (cells answers : List ℤ) → ((c : ℕ) (v : ℤ) → DeedOf program s k (store c v)) → AskedOf program s k (ask_stored i e base len store cells answers)
-  stored_of i e base len store cells answers h =
-      then_of (ask i cells answers) (λ at left. and_then (lift left (element base len at)) (λ c left. and_then (ask e cells left) (λ v left. gives left (store c v))))
-      (λ at left. then_of (lift left (element base len at)) (λ c left. and_then (ask e cells left) (λ v left. gives left (store c v)))
-      (λ c left. one_of (ask e cells left) (store c) (h c)))
-
-  chosen : (b : Bool) (xs ys : List ℕ) → AllInner program s xs → AllInner program s ys → AllInner program s (if b then xs else ys)
-  chosen true xs ys h g = h
-  chosen false xs ys h g = g
-
-  turned : (b : Bool) (stmts : List ℕ) → returns k ≡ false → is_choice k ≡ true → AllInner program s stmts → DeedOf program s k (if b then leave else turn stmts)
-  turned true stmts e c h = e
-  turned false stmts e c h = (e, (c, h))
-
-  asserted : (b : Bool) (left : List ℤ) → returns k ≡ false → AskedOf program s k (if b then Err (Traps trap.Assert) else gives left pass)
-  asserted true left e = tt
-  asserted false left e = e
-
-asked_of : (program : Program) (s : ℕ) (es : List Expr) (k : Kind) (cells answers : List ℤ) → Leads program s k → AskedOf program s k (ask_deed es k cells answers)
-asked_of program s es (kind.Set (target.Local c) e) cells answers h = one_of program s (kind.Set (target.Local c) e) (ask (term es e) cells answers) (λ v. set_local c v) (λ v. refl)
-asked_of program s es (kind.Set (target.LocalAt base len i) e) cells answers h =
-    stored_of program s (kind.Set (target.LocalAt base len i) e) (term es i) (term es e) base len set_local cells answers (λ c v. refl)
-asked_of program s es (kind.Set (target.Shared c) e) cells answers h = one_of program s (kind.Set (target.Shared c) e) (ask (term es e) cells answers) (λ v. set_shared c v) (λ v. refl)
-asked_of program s es (kind.Set (target.SharedAt base len i) e) cells answers h =
-    stored_of program s (kind.Set (target.SharedAt base len i) e) (term es i) (term es e) base len set_shared cells answers (λ c v. refl)
-asked_of program s es (kind.Zero base len) cells answers h = refl
-asked_of program s es (kind.If e first second) cells answers h =
-    one_of program s (kind.If e first second) (ask (term es e) cells answers) (λ v. branch (if is_zero v then second else first))
-    (λ v. (refl, (refl, chosen program s (kind.If e first second) (is_zero v) second first h.1 h.0)))
-asked_of program s es (kind.While e body) cells answers h =
-    one_of program s (kind.While e body) (ask (term es e) cells answers) (λ v. if is_zero v then leave else turn body)
-    (λ v. turned program s (kind.While e body) (is_zero v) body refl refl h)
-asked_of program s es (kind.Call f arguments into) cells answers h =
-    one_of program s (kind.Call f arguments into) (ask_all es arguments cells answers) (λ vs. invoke f vs into) (λ vs. (refl, h))
-asked_of program s es (kind.Return None) cells answers h = refl
-asked_of program s es (kind.Return (Some e)) cells answers h = one_of program s (kind.Return (Some e)) (ask (term es e) cells answers) (λ v. back (Some v)) (λ v. refl)
-asked_of program s es (kind.P x) cells answers h = refl
-asked_of program s es (kind.V x) cells answers h = refl
-asked_of program s es (kind.Send c e) cells answers h = one_of program s (kind.Send c e) (ask (term es e) cells answers) (λ v. send c v) (λ v. refl)
-asked_of program s es (kind.Recv c into) cells answers h = refl
-asked_of program s es (kind.Print e) cells answers h = one_of program s (kind.Print e) (ask (term es e) cells answers) (λ v. print v) (λ v. refl)
-asked_of program s es (kind.Assert e) cells answers h =
-    then_of program s (kind.Assert e) (ask (term es e) cells answers) (λ v left. if is_zero v then Err (Traps trap.Assert) else gives left pass)
-    (λ v left. asserted program s (kind.Assert e) (is_zero v) left refl)
-asked_of program s es kind.End cells answers h = refl
+head_of : (program : Program) (t : Todo) (s : Proc) → IsValid program
+    → AskedOf program t.stmt (kind_of program t.stmt) (head_deed program t s)
+head_of program t s v =
+    asked_holds program.exprs (top_cells s.frames) s.answers (DeedOf program t.stmt (kind_of program t.stmt))
+    (kind_of program t.stmt)
+    (λ d is. deed_fits program t.stmt (kind_of program t.stmt) d is (leads program t.stmt v))
 
 -- ---- the step
 
@@ -282,7 +236,7 @@ step_moves program plan story p u x t ts v own is =
     let me : Tag = Some (me_in p u) in
     let acts : List Activation = with_test program (me_in p u) (event_of program plan s x s.todo) u.activations in
     let fit : FitsHead program s (need_of program plan s) (t ∷ ts) = subst (λ todo. FitsHead program s (need_of program plan s) todo) is (fits program plan s) in
-    let asked : AskedOf program t.stmt (kind_of program t.stmt) (head_deed program t s) = asked_of program t.stmt program.exprs (kind_of program t.stmt) (top_cells s.frames) s.answers (leads program t.stmt v) in
+    let asked : AskedOf program t.stmt (kind_of program t.stmt) (head_deed program t s) = head_of program t s v in
     let move : Move program t ts (views u.activations) (views acts) (act_by_need program plan x.answer t ts (need_of program plan s) s).todo (now_by program plan x.answer t ts s me (views u.activations) acts is (need_of program plan s)) =
     by_need program plan x.answer t ts s me (views u.activations) acts is (need_of program plan s) (completes program plan s t ts is) fit asked in
     let todo_is : (act_by_need program plan x.answer t ts (need_of program plan s) s).todo ≡ (act program plan s x.answer).todo = ap (λ todo. (act_at program plan x.answer todo s).todo) (sym is) in

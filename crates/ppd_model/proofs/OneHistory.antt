@@ -8,7 +8,7 @@ use Rattle.ppd_ast.specs.declared.status.Status.TheVariants as status
 use Rattle.ppd_entry.specs.declared.entry.Entry.{Entry}
 use Rattle.ppd_entry.specs.declared.entry.Entry.TheVariants as entry
 use Rattle.ppd_sem.specs.declared.proc.Need.{Need}
-use Rattle.ppd_sem.specs.declared.proc.Need.TheVariants.{Read, Write, P, V, Send, Offer, Done, Recv}
+use Rattle.ppd_sem.specs.declared.proc.Need.TheVariants.{Read}
 use Rattle.ppd_sem.specs.declared.proc.Proc.{Proc}
 use Rattle.ppd_sem.specs.Process.{act}
 use Rattle.ppd_model.specs.Story.{Moment, Taken, steps_of, story, told, unit_started}
@@ -69,27 +69,9 @@ rest_bare : (rest : ℕ) (es : List Entry) → rest_after rest es ≡ rest_after
 rest_bare rest [] = refl
 rest_bare rest (e ∷ es) = refl
 
-reads_bare : (n : Need) (l : Logging) → (with_access n l).reads ≡ (with_access n (bare l)).reads
-reads_bare (Read c) l = refl
-reads_bare (Write c v) l = refl
-reads_bare (P s u) l = refl
-reads_bare (V s u) l = refl
-reads_bare (Send c v u) l = refl
-reads_bare (Offer c v) l = refl
-reads_bare (Done c u) l = refl
-reads_bare (Recv c u) l = refl
-reads_bare n l = refl
-
-writes_bare : (n : Need) (l : Logging) → (with_access n l).writes ≡ (with_access n (bare l)).writes
-writes_bare (Read c) l = refl
-writes_bare (Write c v) l = refl
-writes_bare (P s u) l = refl
-writes_bare (V s u) l = refl
-writes_bare (Send c v u) l = refl
-writes_bare (Offer c v) l = refl
-writes_bare (Done c u) l = refl
-writes_bare (Recv c u) l = refl
-writes_bare n l = refl
+access_bare : (n : Need) (l : Logging) → bare (with_access n l) ≡ with_access n (bare l)
+access_bare (Read c) l = refl
+access_bare n l = refl
 
 -- ---- the steps
 
@@ -120,8 +102,8 @@ module _ (program : Program) (plan : Plan) where
       let s : Proc = act program plan l.proc m.taken.answer in
       let new : List Entry = entries_of program plan l m in
       let new' : List Entry = entries_of program plan (bare l) (bare_moment m.taken) in
-      ap (λ xs. logging s xs (with_access n l).writes (rest_after l.rest new) (bare_entries (l.entries ++ new))) (reads_bare n l)
-      ∙ ap (λ xs. logging s (with_access n (bare l)).reads xs (rest_after l.rest new) (bare_entries (l.entries ++ new))) (writes_bare n l)
+      ap (λ xs. logging s xs (with_access n l).writes (rest_after l.rest new) (bare_entries (l.entries ++ new))) (ap (λ (a : Logging). a.reads) (access_bare n l))
+      ∙ ap (λ xs. logging s (with_access n (bare l)).reads xs (rest_after l.rest new) (bare_entries (l.entries ++ new))) (ap (λ (a : Logging). a.writes) (access_bare n l))
       ∙ ap (λ k. logging s (with_access n (bare l)).reads (with_access n (bare l)).writes k (bare_entries (l.entries ++ new))) (rest_bare l.rest new ∙ ap (λ es. rest_after l.rest es) (entries_bare l m))
       ∙ ap (λ es. logging s (with_access n (bare l)).reads (with_access n (bare l)).writes (rest_after l.rest new') es) (append_bare l.entries new (bare_entries l.entries) new' refl (entries_bare l m))
 

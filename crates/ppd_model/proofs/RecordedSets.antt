@@ -1,5 +1,5 @@
 -- The sets that logs record are the cells of the accesses.
-use Rattle.std.proofs.Common.{◌≡◌, ℕ, zero, suc, ◌+◌, ◌<◌, ◌≤◌, ℤ, Bool, true, false, cond, ◌&&◌, ◌||◌, List, [], ◌∷◌, ◌++◌, Option, Some, None, refl, ap, ap₂, sym, subst, ◌∙◌, arith, length, length-append, map, get_or, inl, inr, ◌⊎◌, eq-eqb, if◌then◌else◌}
+use Rattle.std.proofs.Common.{◌≡◌, ℕ, zero, suc, ◌+◌, ◌<◌, ◌≤◌, Bool, true, false, cond, ◌&&◌, ◌||◌, List, [], ◌∷◌, ◌++◌, Option, Some, None, refl, ap, ap₂, sym, subst, ◌∙◌, arith, length, length-append, map, get_or, inl, inr, ◌⊎◌, eq-eqb, if◌then◌else◌}
 use Rattle.std.specs.Prelude.{filter_map, fold, is_none, option_to_list, slice_get}
 use Rattle.std.specs.List.{list_any, range_with_len}
 use Rattle.std.proofs.lemmas.List.{append-nil, append_assoc}
@@ -41,23 +41,12 @@ use Rattle.ppd_model.proofs.Statuses.{status_after}
 -- ---- what one step adds
 
 sets_only : IsOfSyncs sets_at_sync
-sets_only = record { prelog = prelog; postlog = postlog; unit = unit; end = end }
-  where
-    prelog : (m : Option Mark) → filter_map sets_at_sync (prelogs m) ≡ []
-    prelog None = refl
-    prelog (Some m) = refl
-
-    postlog : (m : Option Mark) → filter_map sets_at_sync (postlogs m) ≡ []
-    postlog None = refl
-    postlog (Some m) = refl
-
-    unit : (u : Option ℕ) (values : List ℤ) → filter_map sets_at_sync (units u values) ≡ []
-    unit None values = refl
-    unit (Some u) values = refl
-
-    end : (l : Logging) (s : Option Status) → filter_map sets_at_sync (ends l s) ≡ []
-    end l None = refl
-    end l (Some s) = refl
+sets_only = record {
+  prelog = λ block values. refl;
+  postlog = λ block values. refl;
+  unit = λ u values. refl;
+  end = λ s rest reads writes. refl;
+}
 
 -- the sets of a synchronization, if it is one
 abbrev sets_by : Option Sync → Logging → List (List ℕ × List ℕ)
@@ -114,27 +103,25 @@ picked_here a e w same = ap (λ b. map (λ (x : SharedAccess). x.cell) (cond (b 
     by true = refl
     by false = refl
 
-reads_noted : (need : Need) (l : Logging) (e : ℕ) → kind_of_sync need ≡ None → (with_access need l).reads ≡ with_cells l.reads (picked (access_at e need) e false)
-reads_noted (n.Read c) l e silent = ap (λ cs. with_cells l.reads cs) (sym (picked_here (record { edge = e; cell = c; writes = false }) e false refl))
-reads_noted (n.Write c v) l e silent = ap (λ cs. with_cells l.reads cs) (sym (picked_here (record { edge = e; cell = c; writes = true }) e false refl))
-reads_noted (n.P s u) l e silent = absurd (none-some _ (sym silent))
-reads_noted (n.V s u) l e silent = absurd (none-some _ (sym silent))
-reads_noted (n.Send c v u) l e silent = absurd (none-some _ (sym silent))
-reads_noted (n.Offer c v) l e silent = absurd (none-some _ (sym silent))
-reads_noted (n.Done c u) l e silent = absurd (none-some _ (sym silent))
-reads_noted (n.Recv c u) l e silent = absurd (none-some _ (sym silent))
-reads_noted need l e silent = refl
+-- the cells that are noted as read, or as written
+abbrev noted_in : Logging → Bool → List ℕ
+noted_in l false = l.reads
+noted_in l true = l.writes
 
-writes_noted : (need : Need) (l : Logging) (e : ℕ) → kind_of_sync need ≡ None → (with_access need l).writes ≡ with_cells l.writes (picked (access_at e need) e true)
-writes_noted (n.Read c) l e silent = ap (λ cs. with_cells l.writes cs) (sym (picked_here (record { edge = e; cell = c; writes = false }) e true refl))
-writes_noted (n.Write c v) l e silent = ap (λ cs. with_cells l.writes cs) (sym (picked_here (record { edge = e; cell = c; writes = true }) e true refl))
-writes_noted (n.P s u) l e silent = absurd (none-some _ (sym silent))
-writes_noted (n.V s u) l e silent = absurd (none-some _ (sym silent))
-writes_noted (n.Send c v u) l e silent = absurd (none-some _ (sym silent))
-writes_noted (n.Offer c v) l e silent = absurd (none-some _ (sym silent))
-writes_noted (n.Done c u) l e silent = absurd (none-some _ (sym silent))
-writes_noted (n.Recv c u) l e silent = absurd (none-some _ (sym silent))
-writes_noted need l e silent = refl
+noted : (need : Need) (l : Logging) (e : ℕ) (w : Bool) → kind_of_sync need ≡ None
+    → noted_in (with_access need l) w ≡ with_cells (noted_in l w) (picked (access_at e need) e w)
+noted (n.Read c) l e false silent = ap (λ cs. with_cells l.reads cs) (sym (picked_here (record { edge = e; cell = c; writes = false }) e false refl))
+noted (n.Read c) l e true silent = ap (λ cs. with_cells l.writes cs) (sym (picked_here (record { edge = e; cell = c; writes = false }) e true refl))
+noted (n.Write c v) l e false silent = ap (λ cs. with_cells l.reads cs) (sym (picked_here (record { edge = e; cell = c; writes = true }) e false refl))
+noted (n.Write c v) l e true silent = ap (λ cs. with_cells l.writes cs) (sym (picked_here (record { edge = e; cell = c; writes = true }) e true refl))
+noted (n.P s u) l e w silent = absurd (none-some _ (sym silent))
+noted (n.V s u) l e w silent = absurd (none-some _ (sym silent))
+noted (n.Send c v u) l e w silent = absurd (none-some _ (sym silent))
+noted (n.Offer c v) l e w silent = absurd (none-some _ (sym silent))
+noted (n.Done c u) l e w silent = absurd (none-some _ (sym silent))
+noted (n.Recv c u) l e w silent = absurd (none-some _ (sym silent))
+noted need l e false silent = refl
+noted need l e true silent = refl
 
 -- a step that ends its process accesses nothing
 noted_none : (need : Need) (l : Logging) (st : Status) → status_of need ≡ Some st → with_access need l ≡ l
@@ -237,8 +224,8 @@ module _ (xs : List Taken) (x : Taken) (l : Logging) where
         old = old_sets;
         syncs_are = ap (λ o. map (sets_of (accesses_from 0 xs)) (range_with_len 0 e) ++ sets_by o l) none ∙ append-nil (map (sets_of (accesses_from 0 xs)) (range_with_len 0 e)) ∙ same_sets
             ∙ ap (λ k. map (sets_of all) (range_with_len 0 k)) (sym same);
-        reads = reads_noted x.need l e (numbered none) ∙ ap (λ r. with_cells r (picked (access_at e x.need) e false)) reads ∙ sym (cells_at e false) ∙ ap (λ k. cells_of all k false) (sym same);
-        writes = writes_noted x.need l e (numbered none) ∙ ap (λ r. with_cells r (picked (access_at e x.need) e true)) writes ∙ sym (cells_at e true) ∙ ap (λ k. cells_of all k true) (sym same);
+        reads = noted x.need l e false (numbered none) ∙ ap (λ r. with_cells r (picked (access_at e x.need) e false)) reads ∙ sym (cells_at e false) ∙ ap (λ k. cells_of all k false) (sym same);
+        writes = noted x.need l e true (numbered none) ∙ ap (λ r. with_cells r (picked (access_at e x.need) e true)) writes ∙ sym (cells_at e true) ∙ ap (λ k. cells_of all k true) (sym same);
       }
 
   synced : (s : Sync) → sync_of x ≡ Some s → BeginsAnew x.need l → l.reads ≡ cells_of (accesses_from 0 xs) e false → l.writes ≡ cells_of (accesses_from 0 xs) e true → IsMore xs x l

@@ -19,12 +19,31 @@ use Rattle.ppd_model.specs.Synchronizations.{Sync, sync_of, syncs_of}
 -- ---- a choice of entries that takes synchronizations alone
 
 pub record IsOfSyncs {B : Type 0} (f : Entry → Option B) : Type 0 where
-  pub prelog : (m : Option Mark) → filter_map f (prelogs m) ≡ []
-  pub postlog : (m : Option Mark) → filter_map f (postlogs m) ≡ []
-  pub unit : (u : Option ℕ) (values : List ℤ) → filter_map f (units u values) ≡ []
-  pub end : (l : Logging) (s : Option Status) → filter_map f (ends l s) ≡ []
+  pub prelog : (block : ℕ) (values : List ℤ) → f (entry.Prelog block values) ≡ None
+  pub postlog : (block : ℕ) (values : List ℤ) → f (entry.Postlog block values) ≡ None
+  pub unit : (u : ℕ) (values : List ℤ) → f (entry.Unit u values) ≡ None
+  pub end : (s : Status) (rest : ℕ) (reads writes : List ℕ) → f (entry.End s rest reads writes) ≡ None
 
 module _ {B : Type 0} (f : Entry → Option B) (only : IsOfSyncs f) (program : Program) (plan : Plan) where
+  not_taken : (e : Entry) → f e ≡ None → filter_map f (e ∷ []) ≡ []
+  not_taken e is = ap (λ o. cons_option o []) is
+
+  no_prelog : (m : Option Mark) → filter_map f (prelogs m) ≡ []
+  no_prelog None = refl
+  no_prelog (Some m) = not_taken (entry.Prelog m.block m.values) (only.prelog m.block m.values)
+
+  no_postlog : (m : Option Mark) → filter_map f (postlogs m) ≡ []
+  no_postlog None = refl
+  no_postlog (Some m) = not_taken (entry.Postlog m.block m.values) (only.postlog m.block m.values)
+
+  no_unit : (u : Option ℕ) (values : List ℤ) → filter_map f (units u values) ≡ []
+  no_unit None values = refl
+  no_unit (Some u) values = not_taken (entry.Unit u values) (only.unit u values)
+
+  no_end : (l : Logging) (s : Option Status) → filter_map f (ends l s) ≡ []
+  no_end l None = refl
+  no_end l (Some s) = not_taken (entry.End s l.rest l.reads l.writes) (only.end s l.rest l.reads l.writes)
+
   -- what it takes of the entries of a step is what it takes of the synchronization
   pub of_step : (l : Logging) (m : Moment) → filter_map f (entries_of program plan l m) ≡ filter_map f (syncs l m.taken (sync_of m.taken))
   of_step l m =
@@ -38,31 +57,20 @@ module _ {B : Type 0} (f : Entry → Option B) (only : IsOfSyncs f) (program : P
       (filter_map-append f (a ++ b ++ c) d
       ∙ ap₂ (λ x y. x ++ y)
       (filter_map-append f (a ++ b) c
-      ∙ ap₂ (λ x y. x ++ y) (filter_map-append f a b ∙ ap (λ x. x ++ filter_map f b) (only.prelog (opened program plan l.proc m.taken.need))) (only.postlog (closed program plan l.proc m.taken.need)))
-      (only.unit (unit_started m.taken.need) m.unit_values))
-      (only.end l (status_of m.taken.need))
+      ∙ ap₂ (λ x y. x ++ y) (filter_map-append f a b ∙ ap (λ x. x ++ filter_map f b) (no_prelog (opened program plan l.proc m.taken.need))) (no_postlog (closed program plan l.proc m.taken.need)))
+      (no_unit (unit_started m.taken.need) m.unit_values))
+      (no_end l (status_of m.taken.need))
       ∙ append-nil ((filter_map f b ++ []) ++ []) ∙ append-nil (filter_map f b ++ []) ∙ append-nil (filter_map f b)
 
 -- ---- the record
 
 syncs_only : IsOfSyncs sync_in
-syncs_only = record { prelog = prelog; postlog = postlog; unit = unit; end = end }
-  where
-    prelog : (m : Option Mark) → filter_map sync_in (prelogs m) ≡ []
-    prelog None = refl
-    prelog (Some m) = refl
-
-    postlog : (m : Option Mark) → filter_map sync_in (postlogs m) ≡ []
-    postlog None = refl
-    postlog (Some m) = refl
-
-    unit : (u : Option ℕ) (values : List ℤ) → filter_map sync_in (units u values) ≡ []
-    unit None values = refl
-    unit (Some u) values = refl
-
-    end : (l : Logging) (s : Option Status) → filter_map sync_in (ends l s) ≡ []
-    end l None = refl
-    end l (Some s) = refl
+syncs_only = record {
+  prelog = λ block values. refl;
+  postlog = λ block values. refl;
+  unit = λ u values. refl;
+  end = λ s rest reads writes. refl;
+}
 
 module _ (program : Program) (plan : Plan) (budget : ℕ) where
   one : (l : Logging) (x : Taken) (o : Option Sync) → filter_map sync_in (syncs l x o) ≡ option_to_list o

@@ -72,13 +72,13 @@ abbrev pub all_tagged : ℕ → ℕ → Tag → List Activation → List Activat
 all_tagged base zero me xs = xs
 all_tagged base (suc n) me xs = tagged (base + n) me (all_tagged base n me xs)
 
--- the activation that a call begins, which writes so many parameters
+-- the tags of a function's local cells after a call, which writes so many parameters
+abbrev pub called_tags : Program → ℕ → ℕ → Tag → List Tag
+called_tags program f count me = replicate count me ++ replicate (size_if (slice_get program.bodies f) - count) None
+
+-- the activation that a call begins
 abbrev pub called : Program → ℕ → ℕ → Option EventId → Activation
-called program f count me = record {
-  call = me;
-  tags = replicate count me ++ replicate (size_if (slice_get program.bodies f) - count) None;
-  tests = [];
-}
+called program f count me = record { call = me; tags = called_tags program f count me; tests = [] }
 
 -- the local that receives the value of the top frame
 abbrev pub into_at : Program → Option ℕ → Option ℕ
@@ -181,14 +181,16 @@ event_of program plan s x (t ∷ ts) = record (described program plan s t x.answ
 abbrev pub me_in : ℕ → Tracing → EventId
 me_in p t = record { process = p; number = length t.events }
 
+-- an event with these writers of its reads and this parent, and its pair
+abbrev pub traced_with : Program → Story → Taken → Event → List Tag → Option EventId → TracedEvent
+traced_with program story x e writers parent =
+    record { event = e; writers = writers; parent = parent; paired = paired_of program story x }
+
 -- an event with the writers of its reads, its parent and its pair
 abbrev pub traced_by : Program → Story → Taken → Tracing → Event → TracedEvent
-traced_by program story x t e = record {
-  event = e;
-  writers = tags_of (top_tags t.activations) t.answers e.reads;
-  parent = parent_at program t.activations t.proc.todo;
-  paired = paired_of program story x;
-}
+traced_by program story x t e =
+    traced_with program story x e (tags_of (top_tags t.activations) t.answers e.reads)
+    (parent_at program t.activations t.proc.todo)
 
 -- a step that finishes or traps a statement
 abbrev pub with_event : Program → Plan → Story → ℕ → Taken → Tracing → Tracing

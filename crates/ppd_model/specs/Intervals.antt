@@ -1,7 +1,7 @@
 -- The log intervals of a process and their items, from the process's own steps.
-use Rattle.std.specs.Prelude.{ℕ, ◌+◌, nat_eq, ℤ, Bool, false, List, [], ◌∷◌, ◌++◌, map, fold, drop, length, get_or, slice_get, count_by, position, Option, Some, None, is_some, if◌then◌else◌}
+use Rattle.std.specs.Prelude.{ℕ, ◌+◌, nat_eq, ℤ, Bool, false, List, [], ◌∷◌, ◌++◌, map, fold, drop, length, get_or, slice_get, position, Option, Some, None, is_some, if◌then◌else◌}
 use Rattle.std.specs.List.{flat_map}
-use Rattle.ppd_sem.specs.Blocks.{block_kind, is_function, postlog_cells}
+use Rattle.ppd_sem.specs.Blocks.{postlog_cells}
 use Rattle.ppd_ast.specs.declared.plan.BlockKind.TheVariants as block
 use Rattle.ppd_ast.specs.declared.plan.Plan.{Plan}
 use Rattle.ppd_ast.specs.declared.program.Program.{Program}
@@ -185,15 +185,6 @@ intervals program plan budget story p = spans_in (slice_get (splits program plan
 -- the interval has a postlog
 abbrev pub is_closed : Span → Bool
 is_closed i = is_some i.closed
-
--- the interval is one of a function's body
-abbrev pub is_function_span : Plan → Option Span → Bool
-is_function_span plan None = false
-is_function_span plan (Some i) = is_function (block_kind plan i.block)
-
--- how many function intervals are among interval k and those round it
-abbrev pub depth_of : Plan → List Span → ℕ → Span → ℕ
-depth_of plan spans k i = count_by (λ m. is_function_span plan (slice_get spans m)) (k ∷ i.round)
 
 -- ---- items
 

@@ -19,6 +19,11 @@ pub record Mark : Type 0 where
 abbrev pub mark : ℕ → List ℤ → Mark
 mark block values = record { block = block; values = values }
 
+-- the block of a pair with the values beside it
+abbrev pub marked : Option (ℕ × List ℤ) → Option Mark
+marked None = None
+marked (Some x) = Some (mark x.0 x.1)
+
 -- the values of cells of the top frame
 abbrev pub values_at : Proc → List ℕ → List ℤ
 values_at s cells = map (cell_of (top_cells s.frames)) cells

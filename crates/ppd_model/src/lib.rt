@@ -9,6 +9,8 @@ mod laws;
 mod state;
 mod trace;
 mod tracing;
+mod units;
+mod values;
 
 pub use closed::{Closed, ProcEnd};
 pub use flow::{EdgeKind, FlowEdge, Item, Origin};
@@ -25,3 +27,5 @@ pub use laws::{
 pub use state::{Channel, Counts, Logging};
 pub use trace::{DriveError, EventId, Trace, TracedEvent};
 pub use tracing::{Activation, Story, Taken, Test, Tracing};
+pub use units::{unit_cells, unit_started};
+pub use values::{closed_block, value_at, values_at};

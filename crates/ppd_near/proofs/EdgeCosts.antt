@@ -5,7 +5,6 @@ use Rattle.std.proofs.lemmas.Option.{none-some}
 use Rattle.ppd_ast.specs.Valid.{IsValid}
 use Rattle.ppd_ast.specs.declared.plan.Plan.{Plan}
 use Rattle.ppd_ast.specs.declared.program.Program.{Program}
-use Rattle.ppd_entry.specs.declared.entry.Logs.{Logs}
 use Rattle.ppd_sem.specs.Blocks.{block_kind}
 use Rattle.ppd_model.specs.declared.flow.EdgeKind.TheVariants.{Control}
 use Rattle.ppd_model.specs.declared.flow.FlowEdge.{FlowEdge}

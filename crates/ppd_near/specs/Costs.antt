@@ -5,7 +5,7 @@ use Rattle.ppd_ast.specs.declared.plan.Plan.{Plan}
 use Rattle.ppd_ast.specs.declared.program.Program.{Program}
 use Rattle.ppd_model.specs.declared.flow.FlowEdge.{FlowEdge}
 use Rattle.ppd_model.specs.FlowbackEdges.{edges}
-use Rattle.ppd_model.specs.Intervals.{Span, Split, splits}
+use Rattle.ppd_model.specs.Intervals.{Split, splits}
 use Rattle.ppd_model.specs.Logs.{closed_logs}
 use Rattle.ppd_model.specs.NearIntervals.{last_steps, near_steps}
 use Rattle.ppd_model.specs.Races.{races}
@@ -14,15 +14,11 @@ use Rattle.ppd_model.specs.Story.{story}
 use Rattle.ppd_model.specs.World.{World}
 use Rattle.ppd_search.specs.Found.{edges_replays}
 use Rattle.ppd_search.specs.Shared.{last_replays}
+use Rattle.ppd_search.specs.Spans.{steps_of_span}
 use Rattle.ppd_shared_edges.specs.Assembled.{HasOwnParts}
 use Rattle.ppd_shared_edges.specs.SharedEdges.{all_seen}
 
--- the own steps of an interval, 0 where it is not there
-abbrev pub steps_of_span : Option Span → ℕ
-steps_of_span None = 0
-steps_of_span (Some i) = i.steps
-
--- of interval m of a process, 0 where there is no such process
+-- the own steps of interval m of a process, 0 where it or the process is not there
 abbrev pub steps_in : Option Split → ℕ → ℕ
 steps_in None m = 0
 steps_in (Some x) m = steps_of_span (slice_get x.spans m)

@@ -33,9 +33,6 @@ abbrev called_blocks : Plan → List ℕ → ℕ
 called_blocks plan [] = 0
 called_blocks plan (b ∷ bs) = (if is_some (block_of plan (block.Function b)) then 1 else 0) + called_blocks plan bs
 
-no_bodies : (fs : List Frame) (b : ℕ) (bs : List ℕ) → bodies_in fs ≡ [] → bodies_in fs ≡ b ∷ bs → ⊥
-no_bodies fs b bs e f = let never : [] ≡ b ∷ bs = sym e ∙ f in cc
-
 by_bodies : (plan : Plan) (frames : List Frame) (bs : List ℕ) (base : ℕ) → bodies_in frames ≡ bs ++ base ∷ [] → block_frames plan frames ≡ called_blocks plan bs
 by_bodies plan [] [] base e = refl
 by_bodies plan [] (b ∷ bs) base e = absurd (let never : [] ≡ b ∷ (bs ++ base ∷ []) = e in cc)

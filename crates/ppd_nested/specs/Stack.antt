@@ -7,7 +7,7 @@ use Rattle.ppd_ast.specs.declared.plan.Plan.{Plan}
 use Rattle.ppd_ast.specs.declared.plan.Policy.{Policy}
 use Rattle.ppd_ast.specs.declared.program.Program.{Program}
 use Rattle.ppd_ast.specs.declared.status.Status.{Status}
-use Rattle.ppd_ast.specs.Lookups.{kind_of, body_of_stmt, body_of}
+use Rattle.ppd_ast.specs.Lookups.{kind_of, body_of}
 use Rattle.ppd_blocks.specs.Blocks.{plan_of}
 use Rattle.ppd_step_laws.specs.Course.{GoesUntilEnd, IsOnCourse}
 use Rattle.ppd_sem.specs.declared.proc.Answer.{Answer}

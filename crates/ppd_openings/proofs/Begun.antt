@@ -20,7 +20,7 @@ use Rattle.ppd_openings.proofs.Blocks.{begins_own, calls_in, closer_in, inside_i
 use Rattle.ppd_nested.specs.Stack.{block_frames}
 use Rattle.ppd_beside.proofs.Filled.{filled, filled_length}
 use Rattle.ppd_openings.proofs.Openings.{IsAtBlock}
-use Rattle.ppd_facts.proofs.Planned.{kind_is, prelog_cells_are}
+use Rattle.ppd_nested.proofs.Planned.{kind_is, prelog_cells_are}
 use Rattle.ppd_openings.proofs.Prelogged.{others_zero, prelogged_values}
 use Rattle.ppd_facts.proofs.Sized.{AreSized}
 

@@ -21,7 +21,7 @@ use Rattle.ppd_beside.specs.Fine.{IsLoopBlock}
 use Rattle.ppd_beside.specs.Opens.{ends_block, one_if, open_at}
 use Rattle.ppd_openings.proofs.Blocks.{IsBodyThere, closer_in}
 use Rattle.ppd_facts.proofs.Bodies.{IsOf, body_begins, body_closer, body_writing, each_of, ender, last_stmt}
-use Rattle.ppd_facts.proofs.FunctionBlocks.{function_below, function_there}
+use Rattle.ppd_facts.proofs.BodyBlocks.{body_there, function_below}
 use Rattle.ppd_facts.proofs.Loops.{IsWithin, loop_goes_on, loop_writing}
 use Rattle.ppd_facts.proofs.BlockOpens.{function_returns, return_opens}
 use Rattle.ppd_facts.proofs.State.{no_end_in_function}
@@ -102,7 +102,7 @@ module _ (program : Program) (policy : Policy) (v : IsValid program) where
   pub call_bodies : (b f : ℕ) → block_of plan (block.Function f) ≡ Some b
       → IsCallBody program plan (IsOfFunction program plan b) f
   call_bodies b f e =
-      let there = function_there program policy f b e in
+      let there = body_there program policy (block.Function f) b e in
       let x : Body = there.0 in
       let begins = body_begins program v f x there.1 in
       record {

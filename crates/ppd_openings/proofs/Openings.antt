@@ -24,7 +24,7 @@ use Rattle.ppd_coming.specs.Coming.{unit_pieces}
 use Rattle.ppd_nested.specs.Run.{IsRun}
 use Rattle.ppd_coming.specs.Openings.{Opening, opening, opening_by, opening_of}
 use Rattle.ppd_openings.proofs.Opened.{IsOpenedAt, opened_step}
-use Rattle.ppd_facts.proofs.Planned.{process_found}
+use Rattle.ppd_nested.proofs.Planned.{process_found}
 use Rattle.ppd_facts.proofs.State.{IsState, act_state, started_state}
 
 -- the opening is at a block, in a state of a run

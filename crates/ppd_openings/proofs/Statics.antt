@@ -16,7 +16,7 @@ use Rattle.ppd_nested.specs.Stack.{block_frames}
 use Rattle.ppd_openings.proofs.Openings.{IsAtBlock}
 use Rattle.ppd_facts.proofs.BlockOpens.{is_countable}
 use Rattle.ppd_facts.proofs.Placed.{has_ends}
-use Rattle.ppd_facts.proofs.Planned.{kind_is}
+use Rattle.ppd_nested.proofs.Planned.{kind_is}
 
 module _ (program : Program) (policy : Policy) (v : IsValid program) (o : Opening)
     (h : IsAtBlock program (plan_of program policy) o) where

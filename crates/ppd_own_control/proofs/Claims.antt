@@ -8,7 +8,7 @@ use Rattle.ppd_ast.specs.declared.plan.Plan.{Plan}
 use Rattle.ppd_ast.specs.declared.plan.Policy.{Policy}
 use Rattle.ppd_ast.specs.declared.program.Program.{Program}
 use Rattle.ppd_blocks.specs.Blocks.{plan_of}
-use Rattle.ppd_facts.proofs.Planned.{kind_is}
+use Rattle.ppd_nested.proofs.Planned.{kind_is}
 use Rattle.ppd_sem.specs.Blocks.{block_kind}
 use Rattle.ppd_sem.specs.Process.{need_of}
 use Rattle.ppd_sem.specs.Tables.{block_of}

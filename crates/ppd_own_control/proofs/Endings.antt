@@ -16,11 +16,10 @@ use Rattle.ppd_model.specs.FullTrace.{is_passed, latest}
 use Rattle.ppd_model.specs.Parents.{is_choice}
 use Rattle.ppd_model.proofs.TestSteps.{View, older}
 use Rattle.ppd_own_control.proofs.KindDeeds.{while_choice, while_no_call, while_stays}
-use Rattle.ppd_own_control.proofs.Sights.{Sign}
 use Rattle.ppd_own_control.proofs.Statics.{IsBlockLoop, in_own_loop}
 use Rattle.ppd_own_control.proofs.Levels.{AllHold, EndsWith, Fact, Holds, Knows, Level, OfLoop, OuterAt, OverNext, Plain, Sort, TopLeaf, frame_of, function, leaf, loop, passes, process, runs_of, todo_of, views_of, views_with}
 use Rattle.ppd_own_control.proofs.Goes.{Goes, fact_on, facts_on, plain_on, view_after}
-use Rattle.ppd_own_control.proofs.AtLevel.{AtLevel, begins_no, me_of, sight_after}
+use Rattle.ppd_own_control.proofs.AtLevel.{AtLevel, begins_no, me_of}
 use Rattle.ppd_own_control.proofs.Events.{inner_facts}
 use Rattle.ppd_own_control.proofs.InLevel.{unpassed}
 use Rattle.ppd_own_control.proofs.Moved.{Moved, add, stays_top, tested}
@@ -40,9 +39,6 @@ module _ (program : Program) (policy : Policy) (p : ℕ) (v : IsValid program) (
 
   abbrev seen : View
   seen = view_after program (me_of program policy p n) e x.view
-
-  abbrev now : List Sign
-  now = sight_after program policy p x.run.sight n e
 
   -- ---- a loop
 

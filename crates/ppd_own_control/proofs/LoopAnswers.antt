@@ -43,15 +43,6 @@ module _ (program : Program) (policy : Policy) (p : ℕ) (v : IsValid program) w
   rest_same leaf rs h = absurd (omega (arith, h))
   rest_same (loop l) rs h = refl
 
-  -- a run of a level outside is among the rest, where it is needed
-  pub rest_there : (sort : Sort) (r : Run) (rs : List Run) → (q : Run) (j : ℕ)
-      → slice_get (rest_with sort rs) j ≡ Some q
-      → (k : ℕ) × (slice_get (runs_with sort r rs) k ≡ Some q)
-  rest_there process r rs q j e = (suc j, e)
-  rest_there function r rs q j e = (suc j, e)
-  rest_there leaf r rs q j e = (suc j, e)
-  rest_there (loop l) r rs q j e = (suc j, e)
-
   -- no run of a block loop goes on at a level that is no loop's
   pub quiet_at : (sort : Sort) (body : ℕ) (sight : List Sign) (w : View) (todo : List Todo) (l : ℕ)
       → ((m : ℕ) → sort ≡ loop m → ⊥) → Knows program policy p sort body sight w todo → IsBlockLoop program policy l

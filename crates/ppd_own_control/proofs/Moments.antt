@@ -63,14 +63,6 @@ other_now program plan v a t ts s is me old acts need.Budget e = refl
 other_now program plan v a t ts s is me old acts need.Stopped e = refl
 other_now program plan v a t ts s is me old acts n e = absurd (cc)
 
-pub no_events_after : (program : Program) (plan : Plan) (story : Story) (p : ℕ) (x : Taken) (n : Need) (t : Tracing)
-    → is_event n ≡ false → (trace_by program plan story p x n t).events ≡ t.events
-no_events_after program plan story p x (need.Read c) t e = refl
-no_events_after program plan story p x (need.Enter b u) t e = refl
-no_events_after program plan story p x need.Budget t e = refl
-no_events_after program plan story p x need.Stopped t e = refl
-no_events_after program plan story p x n t e = absurd (cc)
-
 -- the event of a step is traced
 pub events_after : (program : Program) (plan : Plan) (story : Story) (p : ℕ) (x : Taken) (n : Need) (t : Tracing)
     → is_event n ≡ true → (trace_by program plan story p x n t).events ≡ t.events ++ traced_by program story x t

@@ -14,7 +14,7 @@ use Rattle.ppd_ast.specs.Lookups.{kind_of, top_of_body}
 use Rattle.ppd_beside.specs.Beside.{IsCallOf}
 use Rattle.ppd_blocks.specs.Blocks.{plan_of}
 use Rattle.ppd_facts.proofs.Placed.{IsCallee, callee}
-use Rattle.ppd_facts.proofs.Planned.{kind_is}
+use Rattle.ppd_nested.proofs.Planned.{kind_is}
 use Rattle.ppd_sem.specs.Blocks.{block_kind}
 use Rattle.ppd_sem.specs.declared.event.Event.{Event}
 use Rattle.ppd_sem.specs.declared.proc.Todo.{Todo}

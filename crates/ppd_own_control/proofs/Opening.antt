@@ -220,9 +220,6 @@ module _ (program : Program) (policy : Policy) (p : ℕ) where
 
   -- ---- the level in which a block loop is entered is no loop's
 
-  other_sort : (sort : Sort) (m : ℕ) → sort ≡ loop m → ((l : ℕ) → sort ≡ loop l → ⊥) → ⊥
-  other_sort sort m e none = none m e
-
   abbrev loop_if : Sort → Bool
   loop_if (loop l) = true
   loop_if s = false

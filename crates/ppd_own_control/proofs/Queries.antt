@@ -171,9 +171,6 @@ module _ (program : Program) (policy : Policy) (p : ℕ) (v : IsValid program) w
   else_some None (Some b) e h = none-some b (sym h)
   else_some (Some a) b e h = none-some a (sym h)
 
-  pub none_none : (k : ℕ) (sight : List Sign) → Side program policy p k sight None None
-  none_none k sight = tt
-
   -- what is found, whatever else there is
   pub sure : (rs : List Run) (q : Run) (i : ℕ) (sight : List Sign) (a : Option Origin) (c : Option EventId)
       (o : Origin)

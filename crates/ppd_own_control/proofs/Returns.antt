@@ -12,13 +12,12 @@ use Rattle.ppd_sem.specs.declared.event.Event.{Event}
 use Rattle.ppd_sem.specs.declared.proc.Todo.{Todo}
 use Rattle.ppd_sem.specs.Runs.{returns}
 use Rattle.ppd_model.specs.Parents.{is_choice}
-use Rattle.ppd_model.proofs.TestSteps.{View}
 use Rattle.ppd_search.specs.Locals.{begins_leaf}
 use Rattle.ppd_own_control.proofs.KindDeeds.{return_no_call, return_no_choice, while_choice}
 use Rattle.ppd_own_control.proofs.Sights.{Sign, leaf_ends, tests_other}
 use Rattle.ppd_own_control.proofs.Statics.{block_loop_while}
 use Rattle.ppd_own_control.proofs.Levels.{AllHold, EndsWith, Fact, Knows, Level, OfFunction, OfLeaf, OverNext, Plain, Run, Sort, frame_of, function, leaf, loop, process, runs_of, runs_with, todo_of, views_of}
-use Rattle.ppd_own_control.proofs.Goes.{Goes, fact_on, facts_on, looping_on, plain_on, still_at, view_after}
+use Rattle.ppd_own_control.proofs.Goes.{Goes, fact_on, facts_on, looping_on, plain_on, still_at}
 use Rattle.ppd_own_control.proofs.AtLevel.{begins_no, me_of, sight_after}
 use Rattle.ppd_own_control.proofs.Moved.{Moved, add, tested}
 
@@ -40,9 +39,6 @@ module _ (program : Program) (policy : Policy) (p : ℕ) (v : IsValid program) (
     (is : e.stmt ≡ t.stmt) (fine : e.trap ≡ None) where
   abbrev here : Level
   here = record x { todo = []; last = t ∷ [] }
-
-  abbrev seen : View
-  seen = view_after program (me_of program policy p n) e x.view
 
   abbrev now : List Sign
   now = sight_after program policy p x.run.sight n e

@@ -118,10 +118,6 @@ AreSeen plan es inner (l ∷ ls) (r ∷ rs) = RunSeen plan es inner l ls r × Ar
 AreSeen plan es inner ls rs = ⊥
 
 module _ (plan : Plan) where
-  same_places : (n : ℕ) (o o' : Place) (ls : List Place) → length o.parts ≡ length o'.parts → PlaceIs n (o ∷ ls)
-      → PlaceIs n (o' ∷ ls)
-  same_places n o o' ls e h = h ∙ e
-
   pub seen_later : (es fs : List TracedEvent) (inner : List Sign) (ls : List Place) (rs : List Run) → AreLater es fs
       → AreSeen plan es inner ls rs → AreSeen plan fs inner ls rs
   seen_later es fs inner [] [] h s = s

@@ -13,7 +13,7 @@ use Rattle.ppd_ast.specs.declared.program.Stmt.{Stmt}
 use Rattle.ppd_ast.proofs.ValidLaws.{some_and}
 use Rattle.ppd_ast.specs.Lookups.{top_of_body, body_of_stmt}
 use Rattle.ppd_blocks.specs.Blocks.{plan_of}
-use Rattle.ppd_facts.proofs.Planned.{kind_is}
+use Rattle.ppd_nested.proofs.Planned.{kind_is}
 use Rattle.ppd_nested.specs.Stack.{process_block}
 use Rattle.ppd_nested.proofs.Framed.{process_stays}
 use Rattle.ppd_sem.specs.Blocks.{block_kind}

@@ -36,9 +36,6 @@ module _ (program : Program) (policy : Policy) (budget : ℕ) (h : List ℕ) (p 
   abbrev s : Story
   s = story program plan budget h
 
-  abbrev xs : List Split
-  xs = splits program plan budget s
-
   -- ---- all steps
 
   all_claims : (x : Split) (ls : List Place) (ts : List Taken) → AreOwn program plan x.trace.proc ts → StandsIn x ls

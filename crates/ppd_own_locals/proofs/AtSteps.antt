@@ -33,9 +33,6 @@ module _ (program : Program) (policy : Policy) (budget : ℕ) (h : List ℕ) (p 
   abbrev start : Split
   start = begun_split program plan p (started program plan p budget)
 
-  abbrev x : Split
-  x = split_of program plan budget s p before
-
   owned : AreOwn program plan (started program plan p budget) before
   owned = own_before program policy budget h p y v at before (t ∷ after) steps
 

@@ -43,43 +43,16 @@ abbrev due_of : Symbol → ℕ
 due_of S.NamedRest = 2
 due_of S.AssignedRest = 2
 due_of S.Value = 1
+due_of S.StmtRest = 1
 due_of _ = 0
 
 abbrev spare_of : Symbol → ℕ
 spare_of (S.Exact k) = 2
 spare_of (S.Operator l) = 2
-spare_of S.ForStep = 2
-spare_of S.StmtRest = 1
-spare_of S.SemItems = 2
-spare_of S.Function = 10
-spare_of S.SharedItem = 1
-spare_of S.OtherUnary = 1
-spare_of S.Block = 3
-spare_of S.Stmts = 2
-spare_of S.PlaceRest = 2
-spare_of S.Sems = 5
-spare_of S.ChanItems = 2
-spare_of S.ParamsEnd = 2
-spare_of S.Params = 1
-spare_of S.Place = 1
-spare_of S.ChangeEnd = 2
-spare_of S.LocalItems = 2
-spare_of S.Stmt = 1
-spare_of S.Chans = 11
 spare_of S.Source = 1
-spare_of S.ArgsMore = 2
-spare_of S.ReturnEnd = 2
 spare_of S.Items = 2
-spare_of S.Process = 6
-spare_of S.Args = 2
-spare_of S.ForTest = 2
-spare_of S.Shared = 6
-spare_of S.StartValue = 2
-spare_of S.ForStart = 2
-spare_of S.Local = 4
-spare_of S.LocalItem = 1
-spare_of S.Change = 2
-spare_of S.SharedItems = 2
+spare_of S.Block = 1
+spare_of S.Place = 1
 spare_of _ = 0
 
 abbrev due : Want → ℕ

@@ -1,4 +1,6 @@
--- The grammar, the limits, what the parser does at a token, and the table of nodes that it makes.
+-- The grammar, the limits, what the parser does at a token, the table of nodes that it makes, and what is
+-- answered.
+pub mod Answer
 pub mod Below
 pub mod Choice
 pub mod Grammar

@@ -1,7 +1,7 @@
 -- How many moves the parser still makes for what it wants: those before it reads a token, and those for what may be
 -- empty.
 -- What begins with a token for sure costs nothing until it is next: its token pays for it.
-use Rattle.std.specs.Prelude.{◌+◌, ◌≤◌, ℕ, List, [], ◌∷◌, Option, Some, None}
+use Rattle.std.specs.Prelude.{◌+◌, ◌≤◌, ℕ, List, [], ◌∷◌, Option, Some, None, nat_lt, if◌then◌else◌}
 use Rattle.ppd_parse.specs.declared.symbol.Symbol.{Symbol}
 use Rattle.ppd_parse.specs.declared.symbol.Symbol.TheVariants as S
 use Rattle.ppd_parse.specs.declared.symbol.At.{At}
@@ -22,45 +22,33 @@ weight S.NamedRest = 11
 weight S.AssignedRest = 13
 weight _ = 0
 
--- the moves for a symbol that is next, up to a token
+-- the moves for a symbol that is next, up to a token, where it begins with one for sure
+abbrev pub opening : Symbol → ℕ
+opening (S.Exact k) = 1
+opening (S.Operator l) = 1
+opening S.Items = 5
+opening S.ParamsEnd = 5
+opening S.Stmt = 6
+opening S.Unary = 6
+opening S.Change = 6
+opening S.StmtRest = 6
+opening S.Source = 7
+opening S.Stmts = 7
+opening S.ForStart = 7
+opening S.ForStep = 7
+opening (S.Operand l) = 12
+opening S.CallOrExpr = 13
+opening S.Expr = 14
+opening S.ReturnEnd = 14
+opening S.Value = 15
+opening S.Args = 15
+opening S.Assigned = 15
+opening S.ForTest = 15
+opening _ = 4
+
+-- the moves for a symbol that is next, up to a token, which may be that of a symbol behind it
 abbrev pub lead : Symbol → ℕ
-lead (S.Exact k) = 1
-lead (S.Operator l) = 1
-lead (S.Operand l) = 12
-lead S.Source = 7
-lead S.Items = 5
-lead S.Shared = 3
-lead S.SharedItems = 2
-lead S.SharedItem = 4
-lead S.StartValue = 2
-lead S.Sems = 4
-lead S.SemItems = 3
-lead S.Chans = 3
-lead S.ChanItems = 2
-lead S.Function = 3
-lead S.ParamsEnd = 5
-lead S.Params = 4
-lead S.Process = 3
-lead S.Block = 3
-lead S.Stmts = 6
-lead S.Local = 3
-lead S.LocalItems = 2
-lead S.LocalItem = 4
-lead S.CallOrExpr = 13
-lead S.ArgsMore = 2
-lead S.Place = 4
-lead S.Change = 6
-lead S.ChangeEnd = 2
-lead S.Expr = 14
-lead S.Unary = 6
-lead S.OtherUnary = 3
-lead S.Stmt = 5
-lead S.StmtRest = 6
-lead S.PlaceRest = 4
-lead S.ForStart = 7
-lead S.ForStep = 7
-lead S.ReturnEnd = 14
-lead _ = 15
+lead y = if nat_lt 0 (weight y) then 15 else opening y
 
 abbrev pub weight_all : List Want → ℕ
 weight_all [] = 0

@@ -1,13 +1,13 @@
 // The parser's way through the tokens.
 ghost use Rattle.std.specs.Prelude.{◌≡◌, ◌<◌, ◌≤◌, ◌+◌, ◌*◌, ◌^◌, ℕ, [], ◌∷◌, length, IfOk, IfErr, OnOk, reverse};
 ghost use Rattle.ppd_lex.specs.Formed.{EndOnce};
+ghost use Rattle.ppd_parse.specs.Answer.{IsParseOf};
 ghost use Rattle.ppd_parse.specs.Grammar.{Marked, outside};
 ghost use Rattle.ppd_parse.specs.Limits.{count_with, is_sign, EndsAs, IsRefused, IsTree, Stepped};
 ghost use Rattle.ppd_parse.specs.Machine.{state_of};
 ghost use Rattle.ppd_parse.specs.Rank.{rank};
 ghost use Rattle.ppd_parse.specs.Stack.{IsGood, IsOver};
 ghost use Rattle.ppd_parse.specs.Table.{shapes_of};
-ghost use Rattle.ppd_parse.specs.Tree.{tree_of, IsTable};
 
 use crate::error::SyntaxError;
 use crate::growth::Grove;
@@ -168,10 +168,7 @@ pub fn parse_in<L: Ledger>(
 ) -> Result<Tree, SyntaxError>
     requires ends { EndOnce tokens.now }
     requires short { length tokens.now ≤ 2 ^ 30 }
-    ensures tree { IfOk result (λ tree. IsTree tokens.now (tree_of tree.nodes ∷ [])) }
-    ensures table { IfOk result (λ tree. IsTable tree.nodes) }
-    ensures few { IfOk result (λ tree. length tree.nodes ≤ 3 * length tokens.now) }
-    ensures refused { IfErr result (λ error. IsRefused tokens.now error) }
+    ensures parse { IsParseOf tokens.now result }
     ensures cost { steps.new ≤ steps.old + 15 * (length tokens.now + 1) }
     ensures room { peak.new ≤ peak.old + 112 * (length tokens.now + 1) }
     ensures later { peak.old ≤ peak.new }
@@ -192,10 +189,7 @@ fn parse_from<L: Ledger>(alloc: Global, tokens: &[Token], blank: Blank) -> Resul
     requires some { 0 < blank.parts }
     requires ends { EndOnce tokens.now }
     requires short { length tokens.now ≤ 2 ^ 30 }
-    ensures tree { IfOk result (λ tree. IsTree tokens.now (tree_of tree.nodes ∷ [])) }
-    ensures table { IfOk result (λ tree. IsTable tree.nodes) }
-    ensures few { IfOk result (λ tree. length tree.nodes ≤ 3 * length tokens.now) }
-    ensures refused { IfErr result (λ error. IsRefused tokens.now error) }
+    ensures { IsParseOf tokens.now result }
 {
     let mut steps: Steps<L> = Steps::new(blank);
     let mut peak = 0;
@@ -214,10 +208,7 @@ fn parse_from<L: Ledger>(alloc: Global, tokens: &[Token], blank: Blank) -> Resul
 pub fn parse(alloc: Global, tokens: &[Token]) -> Result<Tree, SyntaxError>
     requires ends { EndOnce tokens.now }
     requires short { length tokens.now ≤ 2 ^ 30 }
-    ensures tree { IfOk result (λ tree. IsTree tokens.now (tree_of tree.nodes ∷ [])) }
-    ensures table { IfOk result (λ tree. IsTable tree.nodes) }
-    ensures few { IfOk result (λ tree. length tree.nodes ≤ 3 * length tokens.now) }
-    ensures refused { IfErr result (λ error. IsRefused tokens.now error) }
+    ensures { IsParseOf tokens.now result }
 {
     parse_from::<Brand>(alloc, tokens, Blank::new(1))
 }

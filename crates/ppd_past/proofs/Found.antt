@@ -5,7 +5,7 @@ use Rattle.ppd_entry.specs.declared.entry.At.{At}
 use Rattle.ppd_past.specs.declared.flow_error.FlowError.{FlowError}
 use Rattle.ppd_past.specs.declared.flow_error.FlowError.TheVariants.{Diverged, NoEvent, Sets, Memory}
 use Rattle.ppd_past.specs.declared.past.Past.{Past}
-use Rattle.ppd_past.specs.ByReplays.{IsFoundBy, cost, failure_or, first_failure}
+use Rattle.ppd_past.specs.ByReplays.{IsFoundBy, cost, failure_or, first_failed_in}
 use Rattle.ppd_past.specs.SeenBy.{failed_in, steps_in}
 
 module _ (past : Past) where
@@ -13,24 +13,24 @@ module _ (past : Past) where
   pub found_none : {A : Type 0} (x : A) (n : ℕ) → IsFoundBy past [] (Ok x) n n (Ok x)
   found_none x n = (refl, refl, omega arith)
 
-  none_then : (ms ns : List (ℕ × ℕ)) → first_failure past ms ≡ None
-      → first_failure past (ms ++ ns) ≡ first_failure past ns
+  none_then : (ms ns : List (ℕ × ℕ)) → first_failed_in past ms ≡ None
+      → first_failed_in past (ms ++ ns) ≡ first_failed_in past ns
   none_then [] ns e = refl
   none_then (m ∷ ms) ns e = by (failed_in past m.0 m.1) e (none_then ms ns)
     where
-      by : (o : Option ℕ) → failure_or m.0 o (first_failure past ms) ≡ None
-          → (first_failure past ms ≡ None → first_failure past (ms ++ ns) ≡ first_failure past ns)
-          → failure_or m.0 o (first_failure past (ms ++ ns)) ≡ first_failure past ns
+      by : (o : Option ℕ) → failure_or m.0 o (first_failed_in past ms) ≡ None
+          → (first_failed_in past ms ≡ None → first_failed_in past (ms ++ ns) ≡ first_failed_in past ns)
+          → failure_or m.0 o (first_failed_in past (ms ++ ns)) ≡ first_failed_in past ns
       by None f rest = rest f
       by (Some n) f rest = absurd (cc f)
 
-  some_then : (ms ns : List (ℕ × ℕ)) (a : At) → first_failure past ms ≡ Some a → first_failure past (ms ++ ns) ≡ Some a
+  some_then : (ms ns : List (ℕ × ℕ)) (a : At) → first_failed_in past ms ≡ Some a → first_failed_in past (ms ++ ns) ≡ Some a
   some_then [] ns a e = absurd (cc e)
   some_then (m ∷ ms) ns a e = by (failed_in past m.0 m.1) e (some_then ms ns a)
     where
-      by : (o : Option ℕ) → failure_or m.0 o (first_failure past ms) ≡ Some a
-          → (first_failure past ms ≡ Some a → first_failure past (ms ++ ns) ≡ Some a)
-          → failure_or m.0 o (first_failure past (ms ++ ns)) ≡ Some a
+      by : (o : Option ℕ) → failure_or m.0 o (first_failed_in past ms) ≡ Some a
+          → (first_failed_in past ms ≡ Some a → first_failed_in past (ms ++ ns) ≡ Some a)
+          → failure_or m.0 o (first_failed_in past (ms ++ ns)) ≡ Some a
       by None f rest = rest f
       by (Some n) f rest = f
 
@@ -59,8 +59,16 @@ module _ (past : Past) where
   found_err ms ns v b n m (Diverged p k) f = some_then ms ns _ f
   found_err ms ns v b n m Memory f = tt
 
-  given_then : (p k : ℕ) (ns : List (ℕ × ℕ)) → failed_in past p k ≡ None → first_failure past ((p, k) ∷ ns) ≡ first_failure past ns
-  given_then p k ns fine = ap (λ f. failure_or p f (first_failure past ns)) fine
+  -- the same, whatever would have been answered
+  pub err_any : {A B : Type 0} (ms : List (ℕ × ℕ)) (v : A) (b : Result B FlowError) (n m : ℕ) (e : FlowError)
+      → IsFoundBy {A = A} past ms (Ok v) n m (Err e) → IsFoundBy {A = B} past ms b n m (Err e)
+  err_any ms v b n m NoEvent f = absurd (cc f.1)
+  err_any ms v b n m (Sets p k c) f = absurd (cc f.1)
+  err_any ms v b n m (Diverged p k) f = f
+  err_any ms v b n m Memory f = tt
+
+  given_then : (p k : ℕ) (ns : List (ℕ × ℕ)) → failed_in past p k ≡ None → first_failed_in past ((p, k) ∷ ns) ≡ first_failed_in past ns
+  given_then p k ns fine = ap (λ f. failure_or p f (first_failed_in past ns)) fine
 
   -- the first replay was done before, and its steps are not counted
   pub found_given : {B : Type 0} (p k : ℕ) (ns : List (ℕ × ℕ)) (b : Result B FlowError) (n o : ℕ) (r : Result B FlowError)

@@ -22,13 +22,14 @@ use Rattle.ppd_model.specs.Schedule.{IsWhole}
 use Rattle.ppd_model.specs.Story.{Moment, own_steps, steps_of as steps_of_moments, story, told}
 use Rattle.ppd_model.proofs.Items.{split_found}
 use Rattle.ppd_model.proofs.LoggedSpans.{intervals_of_logs}
-use Rattle.ppd_past.specs.Honest.{IsSeen, ReplaysAreSeen, steps_of_span}
+use Rattle.ppd_past.specs.Honest.{IsSeen, ReplaysAreSeen}
 use Rattle.ppd_past.specs.SeenBy.{failure_of, items_by, rounds_by, steps_of}
 use Rattle.ppd_past.proofs.Lists.{same_lists}
 use Rattle.ppd_past.proofs.Rounds.{rounds_of_split}
 use Rattle.ppd_replay.specs.Laws.{modelled_in, modelled_of, replay_of}
 use Rattle.ppd_replay.proofs.Theorem.{replays_give_intervals}
 use Rattle.ppd_search.specs.Seen.{Seen}
+use Rattle.ppd_search.specs.Spans.{steps_of_span}
 
 -- ---- items
 

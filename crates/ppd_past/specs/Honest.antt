@@ -1,23 +1,19 @@
 -- What replays of the logs of a run without a race give: what happened in each interval.
-use Rattle.std.specs.Prelude.{◌≡◌, ℕ, List, [], get_or, slice_get, Option, Some, None}
+use Rattle.std.specs.Prelude.{◌≡◌, ℕ, List, [], get_or, slice_get, Some, None}
 use Rattle.ppd_ast.specs.declared.plan.Plan.{Plan}
 use Rattle.ppd_ast.specs.declared.plan.Policy.{Policy}
 use Rattle.ppd_ast.specs.declared.program.Program.{Program}
 use Rattle.ppd_ast.specs.Valid.{IsValid}
 use Rattle.ppd_blocks.specs.Blocks.{plan_of}
 use Rattle.ppd_entry.specs.declared.entry.Entry.{Entry}
-use Rattle.ppd_model.specs.Intervals.{Span, Split, splits}
+use Rattle.ppd_model.specs.Intervals.{Split, splits}
 use Rattle.ppd_model.specs.Logs.{closed_logs}
 use Rattle.ppd_model.specs.Races.{races}
 use Rattle.ppd_model.specs.Schedule.{IsWhole}
 use Rattle.ppd_model.specs.Story.{story}
 use Rattle.ppd_past.specs.SeenBy.{failed_at, own_steps_of, seen_by}
 use Rattle.ppd_search.specs.Seen.{seen_of}
-
--- the own steps of an interval, 0 where it is not there
-abbrev pub steps_of_span : Option Span → ℕ
-steps_of_span None = 0
-steps_of_span (Some i) = i.steps
+use Rattle.ppd_search.specs.Spans.{steps_of_span}
 
 -- replays of these entries give the process in its intervals
 pub record IsSeen (program : Program) (plan : Plan) (budget : ℕ) (entries : List Entry) (x : Split) : Type 0 where

@@ -39,7 +39,7 @@ use Rattle.ppd_places.specs.Leaves.{frame_at, leaf_of, of_leaf, open_at}
 use Rattle.ppd_places.proofs.NoLeaf.{top_function}
 use Rattle.ppd_places.proofs.Opened.{head_plain, no_loop_mark, no_return_mark, return_mark}
 use Rattle.ppd_places.proofs.Opening.{first_is}
-use Rattle.ppd_places.proofs.ProcessBlocks.{no_process}
+use Rattle.ppd_facts.proofs.BodyBlocks.{no_process}
 
 -- ---- kinds
 
@@ -68,10 +68,6 @@ none_first : (us : List Todo) → next_stmt_of us ≡ None → us ≡ []
 none_first [] e = refl
 none_first (u ∷ us) e = absurd (none-some u.stmt (sym e))
 
--- the first of these
-abbrev First : Option ℕ → List (Option ℕ) → Type 0
-First o xs = (rest : List (Option ℕ)) × (xs ≡ o ∷ rest)
-
 module _ (program : Program) (policy : Policy) (v : IsValid program) (base pb : ℕ) where
   abbrev plan : Plan
   plan = plan_of program policy
@@ -82,9 +78,6 @@ module _ (program : Program) (policy : Policy) (v : IsValid program) (base pb : 
   -- a block loop runs in the top frame, or the frame's body is a block
   abbrev Has : List Todo → ℕ → Bool
   Has todo g = is_in_loop program todo || is_block plan g
-
-  abbrev test_of : Todo → Bool
-  test_of t = not (ends_body (kind_of program t.stmt))
 
   abbrev goes_on : Todo → Bool
   goes_on u = not (ends_body (kind_of program u.stmt))

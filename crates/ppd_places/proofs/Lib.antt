@@ -12,6 +12,5 @@ pub mod NoLeaf
 pub mod Telling
 pub mod Told
 pub mod Following
-pub mod ProcessBlocks
 pub mod Frames
 pub mod LeafTells

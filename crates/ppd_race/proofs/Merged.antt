@@ -150,58 +150,42 @@ module _ (reads writes : List ℕ) where
       second_in false true false q = refl
       second_in false false p q = refl
 
-      done : IsMerged (all ++ c ∷ []) (left_after c xs) (left_after c ys) × (length (left_after c xs) + length (left_after c ys) < length xs + length ys)
+      fewer : length (left_after c xs) + length (left_after c ys) < length xs + length ys → length xs' + length ys' < length xs + length ys
+      fewer less = subst (λ zs. length zs + length ys' < length xs + length ys) (sym left) (subst (λ zs. length (left_after c xs) + length zs < length xs + length ys) (sym left') less)
+
+      done : RisesFrom 0 ((all ++ c ∷ []) ++ left_after c xs) → RisesFrom 0 ((all ++ c ∷ []) ++ left_after c ys)
+          → ((x : ℕ) → ((has all x || nat_eq c x) || (has (left_after c xs) x || has (left_after c ys) x)) ≡ (has all x || (has xs x || has ys x)))
+          → length (left_after c xs) + length (left_after c ys) < length xs + length ys
           → IsMerged new xs' ys' × (length xs' + length ys' < length xs + length ys)
-      done k = subst (λ n. IsMerged n xs' ys' × (length xs' + length ys' < length xs + length ys)) (sym grows)
-          (subst (λ zs. IsMerged (all ++ c ∷ []) zs ys' × (length zs + length ys' < length xs + length ys)) (sym left)
-          (subst (λ zs. IsMerged (all ++ c ∷ []) (left_after c xs) zs × (length (left_after c xs) + length zs < length xs + length ys)) (sym left') k))
+      done reading writing same less =
+          let l = longer all in
+          let size = h.size in
+          let merged : IsMerged (all ++ c ∷ []) (left_after c xs) (left_after c ys) = record {
+            reading = reading;
+            writing = writing;
+            each = λ x. ap (λ b. b || (has (left_after c xs) x || has (left_after c ys) x)) (has_more all c x) ∙ same x ∙ h.each x;
+            size = omega (arith, l, less, size);
+          } in (
+            subst (λ n. IsMerged n xs' ys') (sym grows) (subst (λ zs. IsMerged (all ++ c ∷ []) zs ys') (sym left) (subst (λ zs. IsMerged (all ++ c ∷ []) (left_after c xs) zs) (sym left') merged)),
+            fewer less,
+          )
 
       by : Next c xs ys → IsMerged new xs' ys' × (length xs' + length ys' < length xs + length ys)
       by (both t u) =
-          let l = longer all in
-          let s = shorter xs t in
-          let r = shorter ys u in
-          let size = h.size in
-          done (
-            record {
-              reading = rises_taken c all xs t h.reading;
-              writing = rises_taken c all ys u h.writing;
-              each = λ x. ap (λ b. b || (has (left_after c xs) x || has (left_after c ys) x)) (has_more all c x) ∙ both_in (has all x) (nat_eq c x) (has (left_after c xs) x) (has (left_after c ys) x)
-                  ∙ ap₂ (λ p q. has all x || (p || q)) (sym (has_taken c x xs t)) (sym (has_taken c x ys u)) ∙ h.each x;
-              size = omega (arith, l, s, r, size);
-            },
-            omega (arith, s, r),
-          )
+          done (rises_taken c all xs t h.reading) (rises_taken c all ys u h.writing)
+          (λ x. both_in (has all x) (nat_eq c x) (has (left_after c xs) x) (has (left_after c ys) x)
+          ∙ ap₂ (λ p q. has all x || (p || q)) (sym (has_taken c x xs t)) (sym (has_taken c x ys u)))
+          (let s = shorter xs t in let r = shorter ys u in omega (arith, s, r))
       by (first t u) =
-          let l = longer all in
-          let s = shorter xs t in
-          let r = as_long ys u in
-          let size = h.size in
-          done (
-            record {
-              reading = rises_taken c all xs t h.reading;
-              writing = rises_kept c all ys xs u t h.writing h.reading;
-              each = λ x. ap (λ b. b || (has (left_after c xs) x || has (left_after c ys) x)) (has_more all c x) ∙ first_in (has all x) (nat_eq c x) (has (left_after c xs) x) (has (left_after c ys) x)
-                  ∙ ap₂ (λ p q. has all x || (p || q)) (sym (has_taken c x xs t)) (sym (has_kept c x ys u)) ∙ h.each x;
-              size = omega (arith, l, s, r, size);
-            },
-            omega (arith, s, r),
-          )
+          done (rises_taken c all xs t h.reading) (rises_kept c all ys xs u t h.writing h.reading)
+          (λ x. first_in (has all x) (nat_eq c x) (has (left_after c xs) x) (has (left_after c ys) x)
+          ∙ ap₂ (λ p q. has all x || (p || q)) (sym (has_taken c x xs t)) (sym (has_kept c x ys u)))
+          (let s = shorter xs t in let r = as_long ys u in omega (arith, s, r))
       by (second t u) =
-          let l = longer all in
-          let s = as_long xs t in
-          let r = shorter ys u in
-          let size = h.size in
-          done (
-            record {
-              reading = rises_kept c all xs ys t u h.reading h.writing;
-              writing = rises_taken c all ys u h.writing;
-              each = λ x. ap (λ b. b || (has (left_after c xs) x || has (left_after c ys) x)) (has_more all c x) ∙ second_in (has all x) (nat_eq c x) (has (left_after c xs) x) (has (left_after c ys) x)
-                  ∙ ap₂ (λ p q. has all x || (p || q)) (sym (has_kept c x xs t)) (sym (has_taken c x ys u)) ∙ h.each x;
-              size = omega (arith, l, s, r, size);
-            },
-            omega (arith, s, r),
-          )
+          done (rises_kept c all xs ys t u h.reading h.writing) (rises_taken c all ys u h.writing)
+          (λ x. second_in (has all x) (nat_eq c x) (has (left_after c xs) x) (has (left_after c ys) x)
+          ∙ ap₂ (λ p q. has all x || (p || q)) (sym (has_kept c x xs t)) (sym (has_taken c x ys u)))
+          (let s = as_long xs t in let r = shorter ys u in omega (arith, s, r))
 
   pub merged_none : IsTrue (do_rise 0 reads) → IsTrue (do_rise 0 writes) → IsMerged [] reads writes
   merged_none h k = record { reading = (rises_of 0 reads h).0; writing = (rises_of 0 writes k).0; each = λ c. refl; size = omega arith }

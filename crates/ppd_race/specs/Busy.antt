@@ -1,12 +1,14 @@
 -- The edges that access shared cells, and the races of two of them, as they are looked for.
 use Rattle.std.specs.Prelude.{◌≡◌, ℕ, ◌+◌, ◌-◌, ◌^◌, ◌<◌, ◌≤◌, Bool, true, false, not, ◌&&◌, ◌||◌, List, [], ◌∷◌, ◌++◌, map, get_or, length, ⊤, if◌then◌else◌}
 use Rattle.std.specs.List.{flat_map, range_with_len}
+use Rattle.ppd_ast.specs.declared.limits.TheConstants.{MOST_SHARED_CELLS}
 use Rattle.ppd_ast.specs.Members.{has, those, RisesFrom, AreBelow}
 use Rattle.ppd_model.specs.declared.graph.EdgeId.{EdgeId}
 use Rattle.ppd_model.specs.declared.graph.Race.{Race}
 use Rattle.ppd_model.specs.declared.graph.RaceKind.{RaceKind}
 use Rattle.ppd_model.specs.declared.graph.RaceKind.TheVariants.{ReadWrite, WriteRead, WriteWrite}
 use Rattle.ppd_model.specs.Races.{race}
+use Rattle.ppd_graph.specs.declared.limits.TheConstants.{MOST_NAMED}
 use Rattle.ppd_graph.specs.declared.sets.EdgeSets.{EdgeSets}
 use Rattle.ppd_graph.specs.declared.sync_graph.SyncGraph.{SyncGraph}
 use Rattle.ppd_graph.specs.Graphs.{count_at, edge_count, is_before_by}
@@ -46,7 +48,7 @@ races_between g a b = if can_race g a b then races_all a b else []
 
 -- the processes have 8-bit numbers, and their edges 32-bit ones
 pub record AreFew (sets : List (List EdgeSets)) : Type 0 where
-  pub processes : length sets ≤ 256
+  pub processes : length sets ≤ MOST_NAMED
   pub edges : (q : ℕ) → length (get_or sets q []) < 2 ^ 32
 
 abbrev pub is_none : List ℕ → Bool
@@ -63,10 +65,10 @@ is_busy_in own j = is_busy (get_or own j no_sets)
 -- it has this edge's name, the cells of its sets, and all of them as a rising list
 pub record IsBusyOf (edge : EdgeId) (sets : EdgeSets) (b : Busy) : Type 0 where
   pub edge_is : b.edge ≡ edge
-  pub reads : (c : ℕ) → c < 1024 → has b.reads c ≡ has sets.reads c
-  pub writes : (c : ℕ) → c < 1024 → has b.writes c ≡ has sets.writes c
+  pub reads : (c : ℕ) → c < MOST_SHARED_CELLS → has b.reads c ≡ has sets.reads c
+  pub writes : (c : ℕ) → c < MOST_SHARED_CELLS → has b.writes c ≡ has sets.writes c
   pub rises : RisesFrom 0 b.cells
-  pub below : AreBelow 1024 b.cells
+  pub below : AreBelow MOST_SHARED_CELLS b.cells
   pub all : (c : ℕ) → has b.cells c ≡ (has b.reads c || has b.writes c)
 
 -- with one more where the test holds

@@ -1,5 +1,6 @@
 -- The busy edges of a process by the cells that they access.
 use Rattle.std.specs.Prelude.{◌≡◌, ℕ, ◌+◌, ◌*◌, ◌<◌, Bool, ◌&&◌, ◌||◌, List, [], ◌∷◌, ◌++◌, get_or, length, if◌then◌else◌}
+use Rattle.ppd_ast.specs.declared.limits.TheConstants.{MOST_SHARED_CELLS}
 use Rattle.ppd_ast.specs.Members.{has, RisesFrom, AreBelow}
 use Rattle.ppd_race.specs.declared.busy.Accessor.{Accessor}
 use Rattle.ppd_race.specs.declared.busy.Busy.{Busy}
@@ -17,15 +18,17 @@ accessors_from m test (a ∷ rest) = (if test a then accessor m a ∷ [] else []
 
 -- by each cell those that read it, and those that write it
 pub record IsByCell (own : List Busy) (t : ByCell) : Type 0 where
-  pub long_readers : length t.readers.items ≡ 1024
-  pub long_writers : length t.writers.items ≡ 1024
-  pub readers : (c : ℕ) → c < 1024 → get_or t.readers.items c [] ≡ accessors_from 0 (λ a. has a.reads c) own
-  pub writers : (c : ℕ) → c < 1024 → get_or t.writers.items c [] ≡ accessors_from 0 (λ a. has a.writes c) own
+  pub long_readers : length t.readers.items ≡ MOST_SHARED_CELLS
+  pub long_writers : length t.writers.items ≡ MOST_SHARED_CELLS
+  pub readers : (c : ℕ) → c < MOST_SHARED_CELLS
+      → get_or t.readers.items c [] ≡ accessors_from 0 (λ a. has a.reads c) own
+  pub writers : (c : ℕ) → c < MOST_SHARED_CELLS
+      → get_or t.writers.items c [] ≡ accessors_from 0 (λ a. has a.writes c) own
 
 -- the cells of each rise, are below 1,024, and have those that it reads and writes
 pub record IsOfCells (a : Busy) : Type 0 where
   pub rises : RisesFrom 0 a.cells
-  pub below : AreBelow 1024 a.cells
+  pub below : AreBelow MOST_SHARED_CELLS a.cells
   pub all : (c : ℕ) → has a.cells c ≡ (has a.reads c || has a.writes c)
 
 abbrev pub AreOfCells : List Busy → Type 0

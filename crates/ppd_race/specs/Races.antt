@@ -1,6 +1,7 @@
 -- The races among edges: of two processes, neither before the other, over a cell that one of them writes.
 use Rattle.std.specs.Prelude.{◌≡◌, ℕ, ◌+◌, ◌-◌, ◌<◌, ◌≤◌, nat_eq, Bool, true, false, ◌&&◌, ◌||◌, not, List, [], ◌∷◌, ◌++◌, map, filter, length, get_or, if◌then◌else◌}
 use Rattle.std.specs.List.{flat_map, range_with_len}
+use Rattle.ppd_ast.specs.declared.limits.TheConstants.{MOST_SHARED_CELLS}
 use Rattle.ppd_ast.specs.declared.program.Program.{Program}
 use Rattle.ppd_entry.specs.declared.entry.Logs.{Logs}
 use Rattle.ppd_model.specs.declared.graph.EdgeId.{EdgeId}
@@ -92,7 +93,7 @@ edges_of_logs program logs = record {
 
 -- no program has more shared cells
 unfoldable pub most_cells : ℕ
-most_cells = 1024
+most_cells = MOST_SHARED_CELLS
 
 -- those of a graph, over as many cells as there can be
 abbrev pub edges_of_graph : SyncGraph → Edges

@@ -1,6 +1,7 @@
 -- The races of a process's edges with those of later processes, as they are found cell by cell.
 use Rattle.std.specs.Prelude.{◌≡◌, ℕ, ◌+◌, ◌*◌, ◌-◌, ◌<◌, ◌≤◌, nat_eq, Bool, true, false, not, ◌&&◌, List, [], ◌∷◌, ◌++◌, filter, get_or, length, if◌then◌else◌}
 use Rattle.std.specs.List.{flat_map, range_with_len, sum_by}
+use Rattle.ppd_ast.specs.declared.limits.TheConstants.{MOST_SHARED_CELLS}
 use Rattle.ppd_ast.specs.Members.{has}
 use Rattle.ppd_model.specs.declared.graph.EdgeId.{EdgeId}
 use Rattle.ppd_model.specs.declared.graph.Race.{Race}
@@ -91,14 +92,14 @@ found_after g t rows p m =
 
 -- there is a list for each cell
 pub record IsWhole (t : ByCell) : Type 0 where
-  pub readers : length t.readers.items ≡ 1024
-  pub writers : length t.writers.items ≡ 1024
+  pub readers : length t.readers.items ≡ MOST_SHARED_CELLS
+  pub writers : length t.writers.items ≡ MOST_SHARED_CELLS
 
 -- the lists have edges of process p, in order
 pub record CanSearch (g : SyncGraph) (p : ℕ) (t : ByCell) : Type 0 where
   pub rising : IsRising g
-  pub readers : (c : ℕ) → c < 1024 → AreInOrder g p (get_or t.readers.items c [])
-  pub writers : (c : ℕ) → c < 1024 → AreInOrder g p (get_or t.writers.items c [])
+  pub readers : (c : ℕ) → c < MOST_SHARED_CELLS → AreInOrder g p (get_or t.readers.items c [])
+  pub writers : (c : ℕ) → c < MOST_SHARED_CELLS → AreInOrder g p (get_or t.writers.items c [])
 
 abbrev pub AreElsewhere : SyncGraph → ℕ → List Busy → Type 0
 AreElsewhere g p row = (k : ℕ) (d : Busy) → k < length row → IsElsewhere g p (get_or row k d).edge

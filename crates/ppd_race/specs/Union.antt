@@ -1,28 +1,30 @@
 -- The cells of two lists as one that rises.
 use Rattle.std.specs.Prelude.{◌≡◌, ℕ, ◌+◌, ◌<◌, Bool, true, not, ◌&&◌, nat_lt, nat_eq, min, List, [], ◌∷◌, length, Option, Some, None, if◌then◌else◌}
+use Rattle.ppd_ast.specs.declared.limits.TheConstants.{MOST_SHARED_CELLS}
 use Rattle.ppd_ast.specs.Members.{has, RisesFrom, AreBelow}
 use Rattle.ppd_graph.specs.declared.sets.EdgeSets.{EdgeSets}
 
 -- the cells rise from n on, and are below 1,024
 abbrev pub do_rise : ℕ → List ℕ → Bool
 do_rise n [] = true
-do_rise n (c ∷ cs) = not (nat_lt c n) && nat_lt c 1024 && do_rise (c + 1) cs
+do_rise n (c ∷ cs) = not (nat_lt c n) && nat_lt c MOST_SHARED_CELLS && do_rise (c + 1) cs
 
 -- a rising list of the cells that pass the test, all below 1,024
 pub record IsUnion (test : ℕ → Bool) (cells : List ℕ) : Type 0 where
   pub rises : RisesFrom 0 cells
-  pub below : AreBelow 1024 cells
+  pub below : AreBelow MOST_SHARED_CELLS cells
   pub has_all : (c : ℕ) → has cells c ≡ test c
 
 -- a set with the cells of a list, which are below 1,024
 pub record HasBelow (set cells : List ℕ) : Type 0 where
-  pub low : (c : ℕ) → c < 1024 → has set c ≡ has cells c
-  pub high : AreBelow 1024 set
+  pub low : (c : ℕ) → c < MOST_SHARED_CELLS → has set c ≡ has cells c
+  pub high : AreBelow MOST_SHARED_CELLS set
 
 -- the accesses of an edge; where a list does not rise, all cells are looked at
 abbrev pub size_of : EdgeSets → ℕ
 size_of sets =
-    length sets.reads + length sets.writes + (if do_rise 0 sets.reads && do_rise 0 sets.writes then 0 else 1024)
+    length sets.reads + length sets.writes
+    + (if do_rise 0 sets.reads && do_rise 0 sets.writes then 0 else MOST_SHARED_CELLS)
 
 -- ---- as it is made
 

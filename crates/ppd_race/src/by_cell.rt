@@ -6,6 +6,7 @@ ghost use Rattle.ppd_race.specs.Lists.{GrowsBy, total};
 
 use crate::busy::{Accessor, Busy};
 use crate::lists::{Lists, no_lists, push_at};
+use ppd_ast::limits::MOST_SHARED_CELLS;
 use ppd_ast::{Memory, Steps};
 use ppd_bits::CellSet;
 use std::alloc::Global;
@@ -42,7 +43,7 @@ fn list_cells<L: Ledger>(
     one: Accessor,
     steps: &mut Steps<L>,
 ) -> Result<(), Memory>
-    requires below { AreBelow 1024 cells.now }
+    requires below { AreBelow MOST_SHARED_CELLS cells.now }
     ensures listed { OnOk result
         (RisesFrom 0 cells.now → GrowsBy (listed_in set.now cells.now one) lists.old.items lists.new.items) }
     ensures cost { steps.new ≤ steps.old + 2 * length cells.now }
@@ -61,7 +62,7 @@ fn list_edge<L: Ledger>(
     a: &Busy,
     steps: &mut Steps<L>,
 ) -> Result<(), Memory>
-    requires below { AreBelow 1024 a.now.cells }
+    requires below { AreBelow MOST_SHARED_CELLS a.now.cells }
     ensures readers { OnOk result
         (RisesFrom 0 a.now.cells
         → GrowsBy (listed_in a.now.reads a.now.cells
@@ -93,8 +94,8 @@ pub(crate) fn list_by_cell<L: Ledger>(
     ensures cost { steps.new ≤ steps.old + 2048 + sum_by listing_cost own.now }
 {
     let mut lists = ByCell {
-        readers: no_lists(alloc, 1024, steps)?,
-        writers: no_lists(alloc, 1024, steps)?,
+        readers: no_lists(alloc, MOST_SHARED_CELLS, steps)?,
+        writers: no_lists(alloc, MOST_SHARED_CELLS, steps)?,
     };
     for place in 0..own.len() {
         steps.tick();

@@ -10,6 +10,7 @@ use crate::apart::window;
 use crate::busy::{Accessor, Against, Busy};
 use crate::by_cell::ByCell;
 use crate::lists::{Lists, push_at};
+use ppd_ast::limits::MOST_SHARED_CELLS;
 use ppd_ast::{Memory, Steps};
 use ppd_graph::SyncGraph;
 use ppd_model::{EdgeId, Race, RaceKind};
@@ -96,7 +97,7 @@ fn add_cell<L: Ledger>(
     steps: &mut Steps<L>,
 ) -> Result<(), Memory>
     requires whole { IsWhole lists.now }
-    requires cell { cell < 1024 }
+    requires cell { cell < MOST_SHARED_CELLS }
     ensures long { OnOk result (length found.new.items ≡ length found.old.items) }
     ensures grows { OnOk result
         ((p : ℕ) → CanSearch graph.now p lists.now → IsElsewhere graph.now p b.now.edge
@@ -125,7 +126,7 @@ fn add_edge<L: Ledger>(
     steps: &mut Steps<L>,
 ) -> Result<(), Memory>
     requires whole { IsWhole lists.now }
-    requires below { AreBelow 1024 b.now.cells }
+    requires below { AreBelow MOST_SHARED_CELLS b.now.cells }
     ensures long { OnOk result (length found.new.items ≡ length found.old.items) }
     ensures grows { OnOk result
         ((p : ℕ) → CanSearch graph.now p lists.now → IsElsewhere graph.now p b.now.edge

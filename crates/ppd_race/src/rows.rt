@@ -11,7 +11,7 @@ use crate::union::union_of;
 use ppd_ast::limits::MOST_SHARED_CELLS;
 use ppd_ast::{Cells, Memory, Seq, Steps};
 use ppd_bits::CellSet;
-use ppd_graph::EdgeSets;
+use ppd_graph::{EdgeSets, MOST_NAMED};
 use ppd_model::EdgeId;
 use std::alloc::Global;
 use std::sync::ledger::Ledger;
@@ -21,7 +21,7 @@ pub(crate) fn are_few<L: Ledger>(sets: &[Seq<EdgeSets>], steps: &mut Steps<L>) -
     ensures few { IsTrue result → AreFew sets.now }
     ensures cost { steps.new ≤ steps.old + length sets.now }
 {
-    if sets.len() > 256 {
+    if sets.len() > MOST_NAMED {
         return false;
     }
     for own in sets {
@@ -36,8 +36,8 @@ pub(crate) fn are_few<L: Ledger>(sets: &[Seq<EdgeSets>], steps: &mut Steps<L>) -
 // Adds the cell where it is below 1,024.
 #[tactic(auto, using(crate::proofs::BusyRows::not_here))]
 fn insert_below(set: &mut CellSet, cell: u16)
-    ensures puts { (c : ℕ) → c < 1024 → has set.new c ≡ (nat_eq cell c || has set.old c) }
-    ensures below { AreBelow 1024 set.old → AreBelow 1024 set.new }
+    ensures puts { (c : ℕ) → c < MOST_SHARED_CELLS → has set.new c ≡ (nat_eq cell c || has set.old c) }
+    ensures below { AreBelow MOST_SHARED_CELLS set.old → AreBelow MOST_SHARED_CELLS set.new }
 {
     if cell as usize >= MOST_SHARED_CELLS {
         return;

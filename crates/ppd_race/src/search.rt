@@ -13,7 +13,7 @@ use crate::found::{Found, add_row};
 use crate::lists::{Lists, no_lists};
 use crate::rows::{are_few, busy_rows};
 use ppd_ast::{Memory, Seq, Steps};
-use ppd_graph::SyncGraph;
+use ppd_graph::{MOST_NAMED, SyncGraph};
 use ppd_model::Race;
 use rayon::prelude::*;
 use std::alloc::{AllocError, Global};
@@ -30,7 +30,7 @@ fn add_later<L: Ledger>(
     p: usize,
     steps: &mut Steps<L>,
 ) -> Result<(), Memory>
-    requires few { length rows.now ≤ 256 }
+    requires few { length rows.now ≤ MOST_NAMED }
     requires there { p < length rows.now }
     requires rows { AreBusyRows graph.now.edges rows.now }
     requires whole { IsWhole lists.now }
@@ -72,7 +72,7 @@ fn races_of_process<L: Ledger>(
     p: usize,
     steps: &mut Steps<L>,
 ) -> Result<Seq<Race>, Memory>
-    requires few { length rows.now ≤ 256 }
+    requires few { length rows.now ≤ MOST_NAMED }
     requires there { p < length rows.now }
     requires rows { AreBusyRows graph.now.edges rows.now }
     ensures races { IfOk result (λ races. IsRising graph.now → races ≡ races_from graph.now rows.now p) }
@@ -99,7 +99,7 @@ fn own_races_from<L: Ledger>(
     requires name { blank.name ≡ L.name }
     requires parts { blank.parts ≡ L.parts }
     requires some { 0 < blank.parts }
-    requires few { length rows.now ≤ 256 }
+    requires few { length rows.now ≤ MOST_NAMED }
     requires there { p < length rows.now }
     requires rows { AreBusyRows graph.now.edges rows.now }
     ensures { IfOk result (λ races. IsRising graph.now → races ≡ races_from graph.now rows.now p) }
@@ -114,7 +114,7 @@ fn own_races(
     rows: &[Seq<Busy>],
     p: usize,
 ) -> Result<Seq<Race>, Memory>
-    requires few { length rows.now ≤ 256 }
+    requires few { length rows.now ≤ MOST_NAMED }
     requires there { p < length rows.now }
     requires rows { AreBusyRows graph.now.edges rows.now }
     ensures { IfOk result (λ races. IsRising graph.now → races ≡ races_from graph.now rows.now p) }
@@ -129,7 +129,7 @@ fn races_of_processes(
     graph: &SyncGraph,
     rows: &[Seq<Busy>],
 ) -> Result<Vec<Seq<Race>>, Memory>
-    requires few { length rows.now ≤ 256 }
+    requires few { length rows.now ≤ MOST_NAMED }
     requires rows { AreBusyRows graph.now.edges rows.now }
     ensures { IfOk result
         (λ all. IsRising graph.now
@@ -140,7 +140,8 @@ fn races_of_processes(
         .with_min_len(1)
         .map(
             |p: usize| -> Result<Seq<Race>, Memory>
-                requires { (p < length rows.now) × (length rows.now ≤ 256) × AreBusyRows graph.now.edges rows.now }
+                requires { (p < length rows.now) × (length rows.now ≤ MOST_NAMED)
+                    × AreBusyRows graph.now.edges rows.now }
                 ensures { IfOk result
                     (λ races. IsRising graph.entry.now → races ≡ races_from graph.entry.now rows.entry.now p) }
             { own_races(alloc, graph, rows, p) },
@@ -158,7 +159,7 @@ fn busy_in<L: Ledger>(
     graph: &SyncGraph,
     steps: &mut Steps<L>,
 ) -> Result<Seq<Seq<Busy>>, Memory>
-    ensures few { IfOk result (λ rows. length rows ≤ 256) }
+    ensures few { IfOk result (λ rows. length rows ≤ MOST_NAMED) }
     ensures busy { IfOk result (AreBusyRows graph.now.edges) }
     ensures size { IfOk result (λ rows. sum_by row_cost rows ≤ work_of graph.now) }
     ensures cost { steps.new ≤ steps.old + work_of graph.now + length graph.now.edges }
@@ -176,7 +177,7 @@ fn all_races<L: Ledger>(
     rows: &[Seq<Busy>],
     steps: &mut Steps<L>,
 ) -> Result<Seq<Race>, Memory>
-    requires few { length rows.now ≤ 256 }
+    requires few { length rows.now ≤ MOST_NAMED }
     requires rows { AreBusyRows graph.now.edges rows.now }
     ensures races { IfOk result (λ races. IsRising graph.now → races ≡ races_by_rows graph.now rows.now) }
     ensures cost { IfOk result

@@ -2,6 +2,7 @@ ghost use Rattle.std.specs.Prelude.{◌≡◌, ◌<◌, ◌≤◌, ◌+◌, ◌*
 ghost use Rattle.ppd_ast.specs.Members.{has, AreBelow};
 ghost use Rattle.ppd_race.specs.Union.{HasBelow, IsUnion, do_rise as rise_by, least_of, left_after, push_when, size_of};
 
+use ppd_ast::limits::MOST_SHARED_CELLS;
 use ppd_ast::{Cells, Memory, Steps};
 use ppd_bits::CellSet;
 use ppd_graph::EdgeSets;
@@ -16,7 +17,7 @@ fn do_rise<L: Ledger>(cells: &[u16], steps: &mut Steps<L>) -> bool
     let mut next = 0;
     for cell in cells {
         steps.tick();
-        if *cell < next || *cell >= 1024 {
+        if *cell < next || *cell as usize >= MOST_SHARED_CELLS {
             return false;
         }
         next = *cell + 1;
@@ -81,7 +82,7 @@ fn push_if(cells: &mut Cells, holds: bool, cell: u16) -> Result<(), Memory>
 }
 
 fn is_in_either(reads: &CellSet, writes: &CellSet, cell: u16) -> bool
-    requires { cell < 1024 }
+    requires { cell < MOST_SHARED_CELLS }
     ensures { result ≡ (has reads.now cell || has writes.now cell) }
 {
     reads.contains(cell) || writes.contains(cell)
@@ -94,14 +95,14 @@ fn walked<L: Ledger>(
     writes: &CellSet,
     steps: &mut Steps<L>,
 ) -> Result<Cells, Memory>
-    requires reads { AreBelow 1024 reads.now }
-    requires writes { AreBelow 1024 writes.now }
+    requires reads { AreBelow MOST_SHARED_CELLS reads.now }
+    requires writes { AreBelow MOST_SHARED_CELLS writes.now }
     ensures union { IfOk result (IsUnion (λ c. has reads.now c || has writes.now c)) }
-    ensures size { IfOk result (λ cells. length cells ≤ 1024) }
-    ensures cost { steps.new ≤ steps.old + 1024 }
+    ensures size { IfOk result (λ cells. length cells ≤ MOST_SHARED_CELLS) }
+    ensures cost { steps.new ≤ steps.old + MOST_SHARED_CELLS }
 {
     let mut cells = Cells::new(alloc);
-    for cell in 0..1024 {
+    for cell in 0..MOST_SHARED_CELLS as u16 {
         steps.tick();
         push_if(&mut cells, is_in_either(reads, writes, cell), cell)?;
     }

@@ -1,24 +1,20 @@
 -- What answers as the replay of an interval's log gives the interval.
-use Rattle.std.proofs.Common.{get_or, ◌≡◌, ℕ, Bool, true, false, List, [], Option, Some, None, Result, Ok, Err, refl, ap, sym, ◌∙◌, subst, true≢false}
+use Rattle.std.proofs.Common.{◌≡◌, ℕ, Bool, true, false, List, [], Option, Some, None, Result, Ok, Err, refl, ap, sym, ◌∙◌, subst, true≢false}
 use Rattle.std.specs.Prelude.{slice_get}
 use Rattle.std.proofs.lemmas.Option.{none-some, same_Some}
 use Rattle.ppd_ast.specs.declared.plan.Plan.{Plan}
 use Rattle.ppd_ast.specs.declared.plan.Policy.{Policy}
 use Rattle.ppd_ast.specs.declared.program.Program.{Program}
-use Rattle.ppd_ast.specs.Valid.{IsValid}
 use Rattle.ppd_blocks.specs.Blocks.{plan_of}
-use Rattle.ppd_entry.specs.IntervalLogs.{IntervalLog, interval_log}
+use Rattle.ppd_entry.specs.IntervalLogs.{IntervalLog}
 use Rattle.ppd_model.specs.declared.flow.Item.{Item}
 use Rattle.ppd_model.specs.Intervals.{Span, Split, items_of, splits}
-use Rattle.ppd_model.specs.Logs.{closed_logs}
-use Rattle.ppd_model.specs.Races.{races}
-use Rattle.ppd_model.specs.Schedule.{IsWhole}
 use Rattle.ppd_model.specs.Story.{story}
 use Rattle.ppd_emul.specs.declared.trace.BlockTrace.{BlockTrace}
 use Rattle.ppd_emul.specs.declared.trace.EmulError.{EmulError}
 use Rattle.ppd_emul.specs.declared.trace.EmulError.TheVariants.{Diverged, Memory}
 use Rattle.ppd_emul.specs.Replay.{Replayed, replay}
-use Rattle.ppd_replay.specs.Laws.{EmulationsGiveIntervals, GivesInterval, GivesIntervalAt, GivesIntervals, IsAnswerOf, ReplaysGiveIntervals, modelled_in, modelled_of, replay_of}
+use Rattle.ppd_replay.specs.Laws.{EmulationsGiveIntervals, GivesInterval, GivesIntervalAt, IsAnswerOf, ReplaysGiveIntervals, modelled_in, modelled_of, replay_of}
 
 -- an interval's items in its own steps
 abbrev replayed : Split → Span → Replayed
@@ -72,16 +68,3 @@ emulations_by theorem program policy budget h p k log before after answer v whol
     (slice_get (splits program (plan_of program policy) budget
     (story program (plan_of program policy) budget h)) p) refl
     (sym (ap (replay_of program (plan_of program policy) budget) is) ∙ theorem program policy budget h p k v whole free)
-
--- so it is with each schedule of which the log is the interval's
-pub gives_runs : EmulationsGiveIntervals
-    → (program : Program) (plan : Plan) (budget : ℕ) (log : IntervalLog) (before after : ℕ)
-    (answer : Result BlockTrace EmulError) → IsValid program
-    → IsAnswerOf (replay program plan log budget) before after answer
-    → GivesIntervals program plan budget log before after answer
-gives_runs law program q budget log before after answer v a policy h p k e =
-    subst (λ pl. IsAnswerOf (replay program pl log budget) before after answer → IsWhole program pl budget h
-    → races program pl budget h ≡ []
-    → interval_log pl (get_or (closed_logs program pl budget h).lists p []) k ≡ Some log
-    → GivesIntervalAt program pl budget h p k before after answer) (sym e)
-    (λ b whole free is. law program policy budget h p k log before after answer v whole free is b) a

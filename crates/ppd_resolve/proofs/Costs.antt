@@ -178,6 +178,41 @@ pub nested_part : (ns : List Node) (i k d : ℕ) (cs : List ℕ) → cs ≡ chil
 unfolding nested_below
 nested_part ns i k d cs e h = subst (λ ds. total (nested_at ns) (take k cs) + nested_at ns (get_or cs k d) ≤ total (nested_at ns) ds) e (total_part (nested_at ns) cs k d h)
 
+-- The children that a loop went over: with the next one, with all, and with the next one still to be gone over.
+
+pub record WalkedMore (ns : List Node) (cs : List ℕ) (k : ℕ) : Type 0 where
+  pub plain : total (plain_at ns) (take (k + 1) cs) ≡ total (plain_at ns) (take k cs) + plain_at ns (get_or cs k 0)
+  pub nested : total (nested_at ns) (take (k + 1) cs) ≡ total (nested_at ns) (take k cs) + nested_at ns (get_or cs k 0)
+  pub some : 1 ≤ plain_at ns (get_or cs k 0) + nested_at ns (get_or cs k 0)
+
+pub walked_more : (ns : List Node) (cs : List ℕ) (k : ℕ) → k < length cs → WalkedMore ns cs k
+walked_more ns cs k h =
+    record {
+      plain = total_more (plain_at ns) cs k 0 h;
+      nested = total_more (nested_at ns) cs k 0 h;
+      some = some_at ns (get_or cs k 0);
+    }
+
+pub record WalkedAll (ns : List Node) (i : ℕ) (cs : List ℕ) (k : ℕ) : Type 0 where
+  pub plain : total (plain_at ns) (take k cs) ≡ plain_below ns i
+  pub nested : total (nested_at ns) (take k cs) ≡ nested_below ns i
+
+pub walked_all : (ns : List Node) (i : ℕ) (cs : List ℕ) (k : ℕ) → cs ≡ children_of ns i → length cs ≤ k → WalkedAll ns i cs k
+walked_all ns i cs k e h = record { plain = plain_all ns i k cs e h; nested = nested_all ns i k cs e h }
+
+pub record WalkedPart (ns : List Node) (i : ℕ) (cs : List ℕ) (k : ℕ) : Type 0 where
+  pub plain : total (plain_at ns) (take k cs) + plain_at ns (get_or cs k 0) ≤ plain_below ns i
+  pub nested : total (nested_at ns) (take k cs) + nested_at ns (get_or cs k 0) ≤ nested_below ns i
+  pub some : 1 ≤ plain_at ns (get_or cs k 0) + nested_at ns (get_or cs k 0)
+
+pub walked_part : (ns : List Node) (i : ℕ) (cs : List ℕ) (k : ℕ) → cs ≡ children_of ns i → k < length cs → WalkedPart ns i cs k
+walked_part ns i cs k e h =
+    record {
+      plain = plain_part ns i k 0 cs e h;
+      nested = nested_part ns i k 0 cs e h;
+      some = some_at ns (get_or cs k 0);
+    }
+
 -- a node that was read, read again
 pub get_or_again : (ns : List Node) (i : ℕ) (d : Node) → i < length ns → get_or ns i d ≡ get_or ns i (get_or ns i d)
 get_or_again ns i d h = get_or_default ns i d (get_or ns i d) h

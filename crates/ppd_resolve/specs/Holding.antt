@@ -7,6 +7,7 @@ use Rattle.ppd_resolve.specs.declared.fault.Cause.TheVariants.{TooMany}
 use Rattle.ppd_resolve.specs.declared.fault.Limit.TheVariants as L
 use Rattle.ppd_resolve.specs.declared.fault.Fault.{Fault}
 use Rattle.ppd_resolve.specs.declared.globals.Globals.{Globals}
+use Rattle.ppd_resolve.specs.declared.level.Source.{Source}
 use Rattle.ppd_resolve.specs.Faults.{if_so, first, first_of_both}
 use Rattle.ppd_resolve.specs.Fitted.{as_short}
 use Rattle.ppd_resolve.specs.Frames.{after_cells, twice_faults}
@@ -85,6 +86,11 @@ noted (i ∷ is) s = noted_at i s ++ noted is (with_item i s)
 pub record Declares (ns : List Node) (is : List Item) (old new : Globals) (found found' : Option Fault) : Type 0 where
   pub holds : (s : S.Globals) → Holds ns old s → Holds ns new (with_items is s)
   pub notes : (s : S.Globals) → Holds ns old s → found' ≡ first_of_both found (first (noted is s))
+
+-- the same for what a node says
+abbrev pub DeclaresAt : Source → ℕ → (old new : Globals) → (found found' : Option Fault) → Type 0
+DeclaresAt source i old new found found' =
+    Declares source.nodes.now (as_items (phrase_of source.nodes.now i)) old new found found'
 
 -- the start value that a shared scalar's declaration says
 abbrev pub start_said : List Phrase → ℤ

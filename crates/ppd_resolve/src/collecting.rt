@@ -6,17 +6,17 @@ ghost use Rattle.ppd_resolve.specs.Faults.{first, first_of_both, unless};
 ghost use Rattle.ppd_resolve.specs.declared.fault.Cause.TheVariants.{NoProcess};
 ghost use Rattle.ppd_resolve.specs.Reading.{as_items, end_of, source_of};
 ghost use Rattle.ppd_resolve.specs.Nodes.{phrase_of, no_node, below};
-ghost use Rattle.ppd_resolve.specs.Holding.{Holds, Declares};
+ghost use Rattle.ppd_resolve.specs.Holding.{Holds, Declares, DeclaresAt};
 ghost use Rattle.ppd_resolve.specs.Globals.{Globals as Held, globals, no_globals, with_items, items_faults, count_faults};
 ghost use Rattle.ppd_resolve.specs.Cost.{nodes_at, nested_below, plain_below, heads_nodes, starts_left};
 
 use crate::fault::{Cause, Fault, note_unless};
-use crate::globals::{Globals, no_globals};
+use crate::globals::{Globals, Sort, add_process, no_globals};
 use crate::items::declare_shared;
 use crate::level::Source;
-use crate::nodes::{children_of, place_at, rule_of};
-use crate::objects::{declare_channels, declare_semaphores};
-use crate::signatures::{declare_function, declare_process};
+use crate::nodes::{children_of, label_at, place_at, rule_of};
+use crate::objects::declare_objects;
+use crate::signatures::declare_function;
 use ppd_ast::{Memory, Place, Steps};
 use ppd_lex::Token;
 use ppd_parse::Rule;
@@ -33,8 +33,7 @@ fn declare_node<L: Ledger>(
     steps: &mut Steps<L>,
 ) -> Result<(), Memory>
     requires within { id < length source.nodes.now }
-    ensures declares { OnOk result (Declares source.entry.nodes.now (as_items (phrase_of source.entry.nodes.now id))
-        globals.old globals.new found.old found.new) }
+    ensures declares { OnOk result (DeclaresAt source.entry id globals.old globals.new found.old found.new) }
     ensures cost { steps.new + starts_left globals.new + 1
         ≤ steps.old + starts_left globals.old + 8 * nodes_at source.entry.nodes.now id }
     ensures heads { OnOk result (heads_nodes source.entry.nodes.now globals.new ≤ heads_nodes source.entry.nodes.now
@@ -45,10 +44,10 @@ fn declare_node<L: Ledger>(
         Rule::Source => declare_below(source, id, globals, found, steps),
         Rule::Shared => declare_below(source, id, globals, found, steps),
         Rule::Sitem => declare_shared(source, id, globals, found, steps),
-        Rule::Sems => declare_semaphores(source, id, globals, found, steps),
-        Rule::Chans => declare_channels(source, id, globals, found, steps),
+        Rule::Sems => declare_objects(source, id, Sort::Semaphore, globals, found, steps),
+        Rule::Chans => declare_objects(source, id, Sort::Channel, globals, found, steps),
         Rule::Function => declare_function(source, id, globals, found, steps),
-        Rule::Process => declare_process(source, id, globals, found, steps),
+        Rule::Process => add_process(globals, id, label_at(source, id, 1), found, steps),
         _ => Ok(()),
     }
 }

@@ -1,16 +1,18 @@
 // What a source declares in the scope that all of it sees.
-ghost use Rattle.std.specs.Prelude.{◌≡◌, ◌++◌, OnOk, IfOk, pos, [], ◌∷◌, replicate, length, None, Some, ◌≤◌, ◌+◌, ◌*◌};
+ghost use Rattle.std.specs.Prelude.{◌≡◌, ◌++◌, OnOk, IfOk, nat_le, pos, [], ◌∷◌, replicate, length, None, Some, ◌≤◌, ◌+◌, ◌*◌};
 ghost use Rattle.ppd_ast.specs.declared.limits.TheConstants.{MOST_FUNCTIONS, MOST_PROCESSES, MOST_SEMAPHORES, MOST_CHANNELS};
-ghost use Rattle.ppd_resolve.specs.Faults.{first, first_of_both};
-ghost use Rattle.ppd_resolve.specs.Names.{declare, innermost, in_innermost};
+ghost use Rattle.ppd_resolve.specs.Faults.{first, first_of_both, if_so};
+ghost use Rattle.ppd_resolve.specs.Names.{innermost, semaphore, channel};
+ghost use Rattle.ppd_resolve.specs.Fitted.{as_byte};
 ghost use Rattle.ppd_resolve.specs.Nodes.{label_name};
 ghost use Rattle.ppd_resolve.specs.Frames.{twice_faults};
-ghost use Rattle.ppd_resolve.specs.Declaring.{nothing, placed, with_shared, with_semaphore, with_channel, with_function, with_process, twice, counted, celled};
+ghost use Rattle.ppd_resolve.specs.Declaring.{nothing, named, placed, with_shared, with_numbered, with_function, with_process, twice, counted, celled, numbered_over};
+ghost use Rattle.ppd_resolve.specs.declared.fault.Cause.TheVariants.{TooMany};
 ghost use Rattle.ppd_resolve.specs.declared.fault.Limit.TheVariants.{Functions, Processes, Semaphores, Channels};
 ghost use Rattle.ppd_resolve.specs.Cost.{starts_left, SameHeads};
 
 use crate::fault::{Cause, Fault, Limit, note_if};
-use crate::fitted::{as_byte, as_short};
+use crate::fitted::{as_byte, as_short, as_word};
 use crate::frame::{Variable, after_cells, bytes_of};
 use crate::meaning::Meaning;
 use crate::nodes::Label;
@@ -36,11 +38,28 @@ pub struct Globals {
     pub processes: Ids,
 }
 
+/// What is declared with a number: an array with its length, a semaphore with its start value, a channel with its
+/// capacity.
+#[derive(Clone, Copy)]
+pub enum Sort {
+    Array,
+    Semaphore,
+    Channel,
+}
+
 // How many parameters a function has, and whether it gives a value.
 #[derive(Clone, Copy)]
 pub struct Signature {
     pub params: usize,
     pub gives: bool,
+}
+
+// What the next name means, and whether it is one too many of those that are counted.
+#[derive(Clone, Copy)]
+struct Next {
+    meaning: Meaning,
+    over: bool,
+    limit: Limit,
 }
 
 // Nothing yet, in one scope.
@@ -62,22 +81,25 @@ pub fn no_globals<L: Ledger>(alloc: Global, steps: &mut Steps<L>) -> Result<Glob
     })
 }
 
-// Gives a name its meaning, and notes it where it has one.
-fn name<L: Ledger>(
+// Gives the next name its meaning, and notes it where it has one or is one too many.
+#[tactic(auto, using(crate::proofs::First::found_in_both))]
+fn name_next<L: Ledger>(
     scopes: &mut Scopes,
-    name: Label<'_>,
-    meaning: Meaning,
+    label: Label<'_>,
+    next: Next,
     found: &mut Option<Fault>,
     steps: &mut Steps<L>,
 ) -> Result<(), Memory>
-    ensures scopes { OnOk result (scopes.new ≡ in_innermost (declare (label_name name.entry).text meaning)
-        scopes.old) }
+    ensures scopes { OnOk result (scopes.new ≡ named (label_name label.entry) next.meaning scopes.old) }
     ensures faults { OnOk result
-        (found.new ≡ first_of_both found.old (first (twice_faults (innermost scopes.old) (label_name name.entry)))) }
+        (found.new ≡ first_of_both found.old
+        (first (twice_faults (innermost scopes.old) (label_name label.entry)
+        ++ if_so next.over label.entry.place (TooMany next.limit)))) }
     ensures cost { steps.new ≤ steps.old + 3 }
 {
-    let twice = scopes.declare(name.text, meaning, steps)?;
-    note_if(found, twice, name.place, Cause::Twice);
+    let twice = scopes.declare(label.text, next.meaning, steps)?;
+    note_if(found, twice, label.place, Cause::Twice);
+    note_if(found, next.over, label.place, Cause::TooMany(next.limit));
     Ok(())
 }
 
@@ -95,7 +117,6 @@ fn push_zeros<L: Ledger>(starts: &mut Nums, count: u16, steps: &mut Steps<L>) ->
 }
 
 // Adds a shared variable without its start values.
-#[tactic(auto, using(crate::proofs::First::found_in_both))]
 fn place_shared<L: Ledger>(
     globals: &mut Globals,
     label: Label<'_>,
@@ -114,19 +135,12 @@ fn place_shared<L: Ledger>(
     let alloc = globals.scopes.alloc();
     let cells = globals.cells;
     let after = after_cells(cells, length);
-    name(
-        &mut globals.scopes,
-        label,
-        Meaning::Shared(cells, length),
-        found,
-        steps,
-    )?;
-    note_if(
-        found,
-        MOST_SHARED_CELLS < usize::from(after),
-        label.place,
-        Cause::TooMany(Limit::Shared),
-    );
+    let next = Next {
+        meaning: Meaning::Shared(cells, length),
+        over: MOST_SHARED_CELLS < usize::from(after),
+        limit: Limit::Shared,
+    };
+    name_next(&mut globals.scopes, label, next, found, steps)?;
     steps.tick();
     globals.shared.push(Variable {
         name: bytes_of(alloc, label.text, steps)?,
@@ -161,96 +175,88 @@ pub fn add_scalar<L: Ledger>(
     Ok(())
 }
 
-// Adds a shared array, whose elements start at 0.
-pub fn add_array<L: Ledger>(
-    globals: &mut Globals,
+// The next semaphore, after so many.
+fn next_semaphore(count: usize) -> Next
+    ensures { result ≡ record {
+      meaning = semaphore (as_byte count);
+      over = nat_le MOST_SEMAPHORES count;
+      limit = Semaphores;
+    } }
+{
+    Next {
+        meaning: Meaning::Semaphore(as_byte(count as u64)),
+        over: MOST_SEMAPHORES <= count,
+        limit: Limit::Semaphores,
+    }
+}
+
+// The next channel, after so many.
+fn next_channel(count: usize) -> Next
+    ensures { result ≡ record {
+      meaning = channel (as_byte count);
+      over = nat_le MOST_CHANNELS count;
+      limit = Channels;
+    } }
+{
+    Next {
+        meaning: Meaning::Channel(as_byte(count as u64)),
+        over: MOST_CHANNELS <= count,
+        limit: Limit::Channels,
+    }
+}
+
+// Adds what is declared with a number. The elements of an array start at 0.
+#[tactic(auto, unfolding(crate::specs::Cost::starts_left))]
+pub fn add_numbered<L: Ledger>(
+    sort: Sort,
     label: Label<'_>,
-    length: u16,
+    number: u64,
+    globals: &mut Globals,
     found: &mut Option<Fault>,
     steps: &mut Steps<L>,
 ) -> Result<(), Memory>
     ensures globals { OnOk result
-        (globals.new ≡ with_shared (label_name label.entry) (Some length) (replicate length (pos 0)) globals.old) }
+        (globals.new ≡ with_numbered sort (label_name label.entry) number globals.old) }
     ensures faults { OnOk result
         (found.new ≡ first_of_both found.old
         (first (twice (label_name label.entry) globals.old
-        ++ celled (label_name label.entry) (Some length) globals.old))) }
+        ++ numbered_over sort (label_name label.entry) number globals.old))) }
     ensures cost { steps.new + starts_left globals.new ≤ steps.old + starts_left globals.old + 5 }
     ensures heads { SameHeads globals.old globals.new }
 {
-    place_shared(globals, label, Some(length), found, steps)?;
-    if usize::from(globals.cells) <= MOST_SHARED_CELLS {
-        return push_zeros(&mut globals.starts, length, steps);
+    match sort {
+        Sort::Array => {
+            let length = as_short(number);
+            place_shared(globals, label, Some(length), found, steps)?;
+            if usize::from(globals.cells) <= MOST_SHARED_CELLS {
+                return push_zeros(&mut globals.starts, length, steps);
+            }
+            Ok(())
+        }
+        Sort::Semaphore => {
+            let next = next_semaphore(globals.sems.len());
+            name_next(&mut globals.scopes, label, next, found, steps)?;
+            steps.tick();
+            let name = bytes_of(globals.scopes.alloc(), label.text, steps)?;
+            globals.sems.push(Sem {
+                name,
+                start: as_word(number),
+            })
+        }
+        Sort::Channel => {
+            let next = next_channel(globals.chans.len());
+            name_next(&mut globals.scopes, label, next, found, steps)?;
+            steps.tick();
+            let name = bytes_of(globals.scopes.alloc(), label.text, steps)?;
+            globals.chans.push(Chan {
+                name,
+                capacity: as_byte(number),
+            })
+        }
     }
-    Ok(())
-}
-
-// Adds a semaphore with its start value.
-#[tactic(auto, using(crate::proofs::First::found_in_both))]
-pub fn add_semaphore<L: Ledger>(
-    globals: &mut Globals,
-    label: Label<'_>,
-    start: u32,
-    found: &mut Option<Fault>,
-    steps: &mut Steps<L>,
-) -> Result<(), Memory>
-    ensures globals { OnOk result (globals.new ≡ with_semaphore (label_name label.entry) start globals.old) }
-    ensures faults { OnOk result
-        (found.new ≡ first_of_both found.old
-        (first (twice (label_name label.entry) globals.old
-        ++ counted MOST_SEMAPHORES (length globals.old.sems) Semaphores (label_name label.entry).place))) }
-    ensures cost { steps.new ≤ steps.old + 5 }
-    ensures cells { globals.new.cells ≡ globals.old.cells }
-    ensures heads { SameHeads globals.old globals.new }
-{
-    let count = globals.sems.len();
-    let meaning = Meaning::Semaphore(as_byte(count as u64));
-    name(&mut globals.scopes, label, meaning, found, steps)?;
-    note_if(
-        found,
-        MOST_SEMAPHORES <= count,
-        label.place,
-        Cause::TooMany(Limit::Semaphores),
-    );
-    let name = bytes_of(globals.scopes.alloc(), label.text, steps)?;
-    steps.tick();
-    globals.sems.push(Sem { name, start })
-}
-
-// Adds a channel with its capacity.
-#[tactic(auto, using(crate::proofs::First::found_in_both))]
-pub fn add_channel<L: Ledger>(
-    globals: &mut Globals,
-    label: Label<'_>,
-    capacity: u8,
-    found: &mut Option<Fault>,
-    steps: &mut Steps<L>,
-) -> Result<(), Memory>
-    ensures globals { OnOk result (globals.new ≡ with_channel (label_name label.entry) capacity globals.old) }
-    ensures faults { OnOk result
-        (found.new ≡ first_of_both found.old
-        (first (twice (label_name label.entry) globals.old
-        ++ counted MOST_CHANNELS (length globals.old.chans) Channels (label_name label.entry).place))) }
-    ensures cost { steps.new ≤ steps.old + 5 }
-    ensures cells { globals.new.cells ≡ globals.old.cells }
-    ensures heads { SameHeads globals.old globals.new }
-{
-    let count = globals.chans.len();
-    let meaning = Meaning::Channel(as_byte(count as u64));
-    name(&mut globals.scopes, label, meaning, found, steps)?;
-    note_if(
-        found,
-        MOST_CHANNELS <= count,
-        label.place,
-        Cause::TooMany(Limit::Channels),
-    );
-    let name = bytes_of(globals.scopes.alloc(), label.text, steps)?;
-    steps.tick();
-    globals.chans.push(Chan { name, capacity })
 }
 
 // Adds the function at a node.
-#[tactic(auto, using(crate::proofs::First::found_in_both))]
 pub fn add_function<L: Ledger>(
     globals: &mut Globals,
     node: u32,
@@ -269,20 +275,17 @@ pub fn add_function<L: Ledger>(
     ensures cells { globals.new.cells ≡ globals.old.cells }
 {
     let count = globals.functions.len();
-    let meaning = Meaning::Function(as_short(count as u64), signature.params, signature.gives);
-    name(&mut globals.scopes, label, meaning, found, steps)?;
-    note_if(
-        found,
-        MOST_FUNCTIONS <= count,
-        label.place,
-        Cause::TooMany(Limit::Functions),
-    );
+    let next = Next {
+        meaning: Meaning::Function(as_short(count as u64), signature.params, signature.gives),
+        over: MOST_FUNCTIONS <= count,
+        limit: Limit::Functions,
+    };
+    name_next(&mut globals.scopes, label, next, found, steps)?;
     steps.tick();
     globals.functions.push(node)
 }
 
 // Adds the process at a node.
-#[tactic(auto, using(crate::proofs::First::found_in_both))]
 pub fn add_process<L: Ledger>(
     globals: &mut Globals,
     node: u32,
@@ -299,13 +302,12 @@ pub fn add_process<L: Ledger>(
     ensures cells { globals.new.cells ≡ globals.old.cells }
 {
     let count = globals.processes.len();
-    name(&mut globals.scopes, label, Meaning::Process, found, steps)?;
-    note_if(
-        found,
-        MOST_PROCESSES <= count,
-        label.place,
-        Cause::TooMany(Limit::Processes),
-    );
+    let next = Next {
+        meaning: Meaning::Process,
+        over: MOST_PROCESSES <= count,
+        limit: Limit::Processes,
+    };
+    name_next(&mut globals.scopes, label, next, found, steps)?;
     steps.tick();
     globals.processes.push(node)
 }

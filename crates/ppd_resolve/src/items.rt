@@ -3,14 +3,13 @@ ghost use Rattle.std.specs.Prelude.{◌≡◌, ◌<◌, OnOk, [], ◌∷◌, Lis
 ghost use Rattle.ppd_parse.specs.declared.node.Node.{Node as NodeOf};
 ghost use Rattle.ppd_resolve.specs.Reading.{shared_item};
 ghost use Rattle.ppd_resolve.specs.Nodes.{label_name, below};
-ghost use Rattle.ppd_resolve.specs.Syntax.{shared, shared_array, semaphore, channel};
+ghost use Rattle.ppd_resolve.specs.Syntax.{shared};
 ghost use Rattle.ppd_resolve.specs.Holding.{Declares, start_said};
 ghost use Rattle.ppd_resolve.specs.Cost.{starts_left, SameHeads};
-ghost use Rattle.ppd_resolve.specs.Items.{size_number};
+ghost use Rattle.ppd_resolve.specs.Items.{size_number, numbered_item, least_number, most_number};
 
 use crate::fault::{Cause, Fault, note_unless};
-use crate::fitted::{as_byte, as_short, as_word};
-use crate::globals::{Globals, add_array, add_channel, add_scalar, add_semaphore};
+use crate::globals::{Globals, Sort, add_numbered, add_scalar};
 use crate::level::Source;
 use crate::nodes::{Label, Size, kind_at, label_at, size_at, value_at};
 use ppd_ast::limits::{LEAST_CAPACITY, MOST_CAPACITY, MOST_SHARED_CELLS, MOST_START};
@@ -44,10 +43,22 @@ fn declare_scalar<L: Ledger>(
     Ok(())
 }
 
-// Declares a shared array, whose length stands at a place.
-fn declare_array<L: Ledger>(
+// Whether a number fits what is declared with it.
+fn is_fit(sort: Sort, number: u64) -> bool
+    ensures { result ≡ nat_le (least_number sort) number && nat_le number (most_number sort) }
+{
+    match sort {
+        Sort::Array => is_within(1, number, MOST_SHARED_CELLS as u64),
+        Sort::Semaphore => is_within(0, number, MOST_START as u64),
+        Sort::Channel => is_within(LEAST_CAPACITY as u64, number, MOST_CAPACITY as u64),
+    }
+}
+
+// Declares what is declared with a number, which stands at a place.
+pub fn declare_numbered<L: Ledger>(
+    sort: Sort,
     label: Label<'_>,
-    length: Size,
+    size: Size,
     globals: &mut Globals,
     found: &mut Option<Fault>,
     steps: &mut Steps<L>,
@@ -55,60 +66,14 @@ fn declare_array<L: Ledger>(
     ensures declares { OnOk result
         ((ns : List NodeOf)
         → Declares ns
-        (shared_array (label_name label.entry) (size_number length)
+        (numbered_item sort (label_name label.entry) (size_number size)
         ∷ []) globals.old globals.new found.old found.new) }
     ensures cost { steps.new + starts_left globals.new ≤ steps.old + starts_left globals.old + 5 }
     ensures heads { SameHeads globals.old globals.new }
 {
-    add_array(globals, label, as_short(length.value), found, steps)?;
-    let fits = is_within(1, length.value, MOST_SHARED_CELLS as u64);
-    note_unless(found, fits, length.place, Cause::BadSize);
-    Ok(())
-}
-
-// Declares a semaphore, whose start value stands at a place.
-pub fn declare_semaphore<L: Ledger>(
-    label: Label<'_>,
-    start: Size,
-    globals: &mut Globals,
-    found: &mut Option<Fault>,
-    steps: &mut Steps<L>,
-) -> Result<(), Memory>
-    ensures declares { OnOk result
-        ((ns : List NodeOf)
-        → Declares ns
-        (semaphore (label_name label.entry) (size_number start)
-        ∷ []) globals.old globals.new found.old found.new) }
-    ensures cost { steps.new ≤ steps.old + 5 }
-    ensures cells { globals.new.cells ≡ globals.old.cells }
-    ensures heads { SameHeads globals.old globals.new }
-{
-    add_semaphore(globals, label, as_word(start.value), found, steps)?;
-    let fits = is_within(0, start.value, MOST_START as u64);
-    note_unless(found, fits, start.place, Cause::BadSize);
-    Ok(())
-}
-
-// Declares a channel, whose capacity stands at a place.
-pub fn declare_channel<L: Ledger>(
-    label: Label<'_>,
-    capacity: Size,
-    globals: &mut Globals,
-    found: &mut Option<Fault>,
-    steps: &mut Steps<L>,
-) -> Result<(), Memory>
-    ensures declares { OnOk result
-        ((ns : List NodeOf)
-        → Declares ns
-        (channel (label_name label.entry) (size_number capacity)
-        ∷ []) globals.old globals.new found.old found.new) }
-    ensures cost { steps.new ≤ steps.old + 5 }
-    ensures cells { globals.new.cells ≡ globals.old.cells }
-    ensures heads { SameHeads globals.old globals.new }
-{
-    add_channel(globals, label, as_byte(capacity.value), found, steps)?;
-    let fits = is_within(LEAST_CAPACITY as u64, capacity.value, MOST_CAPACITY as u64);
-    note_unless(found, fits, capacity.place, Cause::BadSize);
+    add_numbered(sort, label, size.value, globals, found, steps)?;
+    let fits = is_fit(sort, size.value);
+    note_unless(found, fits, size.place, Cause::BadSize);
     Ok(())
 }
 
@@ -146,7 +111,10 @@ pub fn declare_shared<L: Ledger>(
 {
     let label = label_at(source, id, 0);
     match kind_at(source, id, 1) {
-        Kind::LeftBracket => declare_array(label, size_at(source, id, 2), globals, found, steps),
+        Kind::LeftBracket => {
+            let length = size_at(source, id, 2);
+            declare_numbered(Sort::Array, label, length, globals, found, steps)
+        }
         _ => declare_scalar(label, start_at(source, id), globals, found, steps),
     }
 }

@@ -2,20 +2,27 @@
 ghost use Rattle.std.specs.Prelude.{◌≡◌, ◌<◌, ◌||◌, OnOk, IfOk, List, length, ◌≤◌, ◌+◌, ◌*◌};
 ghost use Rattle.ppd_parse.specs.declared.node.Node.{Node as NodeOf};
 ghost use Rattle.ppd_resolve.specs.Reading.{is_name, is_assign, is_bracket, numbered};
-ghost use Rattle.ppd_resolve.specs.Syntax.{semaphore, channel};
-ghost use Rattle.ppd_resolve.specs.Items.{size_number, number_after, numbered_at};
+ghost use Rattle.ppd_resolve.specs.Syntax.{Name, Number, Item};
+ghost use Rattle.ppd_resolve.specs.Items.{size_number, number_after, numbered_at, numbered_item, said_item};
 ghost use Rattle.ppd_resolve.specs.Holding.{Declares};
-ghost use Rattle.ppd_resolve.specs.Cost.{SameHeads};
+ghost use Rattle.ppd_resolve.specs.Cost.{SameHeads, starts_left};
 ghost use Rattle.ppd_resolve.specs.Nodes.{below};
 
 use crate::fault::Fault;
-use crate::globals::Globals;
-use crate::items::{declare_channel, declare_semaphore};
+use crate::globals::{Globals, Sort};
+use crate::items::declare_numbered;
 use crate::level::Source;
-use crate::nodes::{Size, children_of, kind_at, label_at, size_at};
+use crate::nodes::{Label, Size, children_of, kind_at, label_at, size_at};
 use ppd_ast::{Memory, Place, Steps};
 use ppd_parse::Kind;
 use std::sync::ledger::Ledger;
+
+/// A name with the number behind it.
+#[derive(Clone, Copy)]
+pub struct Numbered<'a> {
+    pub label: Label<'a>,
+    pub size: Size,
+}
 
 /// Whether a token is a name.
 pub fn is_name(kind: Kind) -> bool
@@ -45,52 +52,36 @@ fn size_after(source: Source<'_>, id: u32, k: u32, name: Place) -> Size
     }
 }
 
-// Declares the semaphore that a child names, where it is a name.
-fn semaphore_at<L: Ledger>(
-    source: Source<'_>,
-    id: u32,
-    k: u32,
-    globals: &mut Globals,
-    found: &mut Option<Fault>,
-    steps: &mut Steps<L>,
-) -> Result<(), Memory>
+// The name at child `k` with the number behind it, where it is a name.
+fn numbered_at(source: Source<'_>, id: u32, k: u32) -> Option<Numbered<'_>>
     requires within { id < length source.nodes.now }
-    ensures declares { OnOk result ((ns : List NodeOf) → Declares ns (numbered_at semaphore
-        (below source.entry id) k) globals.old globals.new found.old found.new) }
-    ensures cost { steps.new ≤ steps.old + 5 }
-    ensures cells { globals.new.cells ≡ globals.old.cells }
-    ensures heads { SameHeads globals.old globals.new }
+    ensures { (make : Name → Number → Item) → said_item make result ≡ numbered_at make (below source.entry id) k }
 {
     if !is_name(kind_at(source, id, k as usize)) {
-        return Ok(());
+        return None;
     }
     let label = label_at(source, id, k as usize);
-    let start = size_after(source, id, k, label.place);
-    declare_semaphore(label, start, globals, found, steps)
+    let size = size_after(source, id, k, label.place);
+    Some(Numbered { label, size })
 }
 
-// Declares the channel that a child names, where it is a name.
-fn channel_at<L: Ledger>(
-    source: Source<'_>,
-    id: u32,
-    k: u32,
+// Declares a name with its number, where there is one.
+fn declare_named<L: Ledger>(
+    sort: Sort,
+    named: Option<Numbered<'_>>,
     globals: &mut Globals,
     found: &mut Option<Fault>,
     steps: &mut Steps<L>,
 ) -> Result<(), Memory>
-    requires within { id < length source.nodes.now }
-    ensures declares { OnOk result ((ns : List NodeOf) → Declares ns (numbered_at channel
-        (below source.entry id) k) globals.old globals.new found.old found.new) }
-    ensures cost { steps.new ≤ steps.old + 5 }
-    ensures cells { globals.new.cells ≡ globals.old.cells }
+    ensures declares { OnOk result ((ns : List NodeOf) → Declares ns (said_item (numbered_item sort) named.entry)
+        globals.old globals.new found.old found.new) }
+    ensures cost { steps.new + starts_left globals.new ≤ steps.old + starts_left globals.old + 5 }
     ensures heads { SameHeads globals.old globals.new }
 {
-    if !is_name(kind_at(source, id, k as usize)) {
-        return Ok(());
+    match named {
+        Some(named) => declare_numbered(sort, named.label, named.size, globals, found, steps),
+        None => Ok(()),
     }
-    let label = label_at(source, id, k as usize);
-    let capacity = size_after(source, id, k, label.place);
-    declare_channel(label, capacity, globals, found, steps)
 }
 
 // The count of a node's children.
@@ -104,48 +95,26 @@ fn count_children(source: Source<'_>, id: u32) -> Result<u32, Memory>
     }
 }
 
-// Declares the semaphores of a node.
-pub fn declare_semaphores<L: Ledger>(
+// Declares the semaphores or channels of a node.
+pub fn declare_objects<L: Ledger>(
     source: Source<'_>,
     id: u32,
+    sort: Sort,
     globals: &mut Globals,
     found: &mut Option<Fault>,
     steps: &mut Steps<L>,
 ) -> Result<(), Memory>
     requires within { id < length source.nodes.now }
-    ensures declares { OnOk result ((ns : List NodeOf) → Declares ns (numbered semaphore
+    ensures declares { OnOk result ((ns : List NodeOf) → Declares ns (numbered (numbered_item sort)
         (below source.entry id)) globals.old globals.new found.old found.new) }
-    ensures cost { steps.new ≤ steps.old + 6 * length (below source.entry id) }
-    ensures cells { globals.new.cells ≡ globals.old.cells }
+    ensures cost { steps.new + starts_left globals.new ≤ steps.old + starts_left globals.old + 6 * length
+        (below source.entry id) }
     ensures heads { SameHeads globals.old globals.new }
 {
     let count = count_children(source, id)?;
     for k in 0..count {
         steps.tick();
-        semaphore_at(source, id, k, globals, found, steps)?;
-    }
-    Ok(())
-}
-
-// Declares the channels of a node.
-pub fn declare_channels<L: Ledger>(
-    source: Source<'_>,
-    id: u32,
-    globals: &mut Globals,
-    found: &mut Option<Fault>,
-    steps: &mut Steps<L>,
-) -> Result<(), Memory>
-    requires within { id < length source.nodes.now }
-    ensures declares { OnOk result ((ns : List NodeOf) → Declares ns (numbered channel
-        (below source.entry id)) globals.old globals.new found.old found.new) }
-    ensures cost { steps.new ≤ steps.old + 6 * length (below source.entry id) }
-    ensures cells { globals.new.cells ≡ globals.old.cells }
-    ensures heads { SameHeads globals.old globals.new }
-{
-    let count = count_children(source, id)?;
-    for k in 0..count {
-        steps.tick();
-        channel_at(source, id, k, globals, found, steps)?;
+        declare_named(sort, numbered_at(source, id, k), globals, found, steps)?;
     }
     Ok(())
 }

@@ -1,14 +1,14 @@
-// Functions and processes, by their names and parameters.
+// Functions, by their names and parameters.
 ghost use Rattle.std.specs.Prelude.{◌≡◌, if◌then◌else◌, ◌<◌, ◌+◌, OnOk, IfOk, length, ◌≤◌, ◌*◌, ◌++◌, ◌∷◌, []};
 ghost use Rattle.std.specs.List.{flat_map};
-ghost use Rattle.ppd_parse.specs.declared.symbol.Rule.TheVariants.{Function, Process};
-ghost use Rattle.ppd_resolve.specs.Reading.{phrase, kind, is_int, is_name, params, as_names, as_items};
+ghost use Rattle.ppd_parse.specs.declared.symbol.Rule.TheVariants.{Function};
+ghost use Rattle.ppd_resolve.specs.Reading.{phrase, kind, is_int, is_name, params, as_names};
 ghost use Rattle.ppd_resolve.specs.Nodes.{children_of, phrase_of, phrases_below, SaysBy, below};
-ghost use Rattle.ppd_resolve.specs.Holding.{Declares};
+ghost use Rattle.ppd_resolve.specs.Holding.{DeclaresAt};
 ghost use Rattle.ppd_resolve.specs.Cost.{plain_at, nested_below, plain_below};
 
 use crate::fault::Fault;
-use crate::globals::{Globals, Signature, add_function, add_process};
+use crate::globals::{Globals, Signature, add_function};
 use crate::level::Source;
 use crate::nodes::{children_of, kind_at, label_at, rule_of};
 use crate::objects::is_name;
@@ -104,8 +104,7 @@ pub fn declare_function<L: Ledger>(
 ) -> Result<(), Memory>
     requires within { id < length source.nodes.now }
     requires says { SaysBy Function (phrases_below source.nodes.now id) (phrase_of source.nodes.now id) }
-    ensures declares { OnOk result (Declares source.entry.nodes.now (as_items (phrase_of source.entry.nodes.now id))
-        globals.old globals.new found.old found.new) }
+    ensures declares { OnOk result (DeclaresAt source.entry id globals.old globals.new found.old found.new) }
     ensures cost { steps.new ≤ steps.old + 2 * plain_below source.entry.nodes.now id + 2 * nested_below
         source.entry.nodes.now id + 4 }
     ensures cells { globals.new.cells ≡ globals.old.cells }
@@ -124,25 +123,4 @@ pub fn declare_function<L: Ledger>(
         found,
         steps,
     )
-}
-
-// Declares the process at a node.
-pub fn declare_process<L: Ledger>(
-    source: Source<'_>,
-    id: u32,
-    globals: &mut Globals,
-    found: &mut Option<Fault>,
-    steps: &mut Steps<L>,
-) -> Result<(), Memory>
-    requires within { id < length source.nodes.now }
-    requires says { SaysBy Process (phrases_below source.nodes.now id) (phrase_of source.nodes.now id) }
-    ensures declares { OnOk result (Declares source.entry.nodes.now (as_items (phrase_of source.entry.nodes.now id))
-        globals.old globals.new found.old found.new) }
-    ensures cost { steps.new ≤ steps.old + 4 }
-    ensures cells { globals.new.cells ≡ globals.old.cells }
-    ensures heads { OnOk result
-        ((globals.new.functions ≡ globals.old.functions)
-        × (globals.new.processes ≡ globals.old.processes ++ id ∷ [])) }
-{
-    add_process(globals, id, label_at(source, id, 1), found, steps)
 }

@@ -1,8 +1,9 @@
-ghost use Rattle.std.specs.Prelude.{◌≡◌, ◌≤◌, IfOk};
+ghost use Rattle.std.specs.Prelude.{◌≡◌, ◌≤◌, [], IfOk};
 ghost use Rattle.ppd_ast.specs.Valid.{IsValid};
 ghost use Rattle.ppd_ast.specs.ValidPlan.{IsValidPlan};
 ghost use Rattle.ppd_ast.specs.declared.limits.TheConstants.{MOST_BUDGET};
 ghost use Rattle.ppd_book.specs.Turns.{KeepsBudget, RanToEnd};
+ghost use Rattle.ppd_world.specs.Running.{IsOf, IsReached};
 
 use ppd_ast::{Memory, Plan, Program};
 use ppd_book::{Book, Commit, Job, Ran, Turn, View};
@@ -36,28 +37,26 @@ pub fn run<G: Gate, R: Threads + Wait + Sync>(
     ensures end { IfOk result (RanToEnd program.now plan.now budget) }
     ensures bounded { IfOk result (λ ran. KeepsBudget program.now budget ran.schedule) }
 {
-    run_as::<Brand, G, R>(rt, alloc, program, plan, budget, gate)
+    let world = World::new(alloc, program, plan, budget)?;
+    run_as::<Brand, G, R>(rt, alloc, world, budget, gate)
 }
 
-/// The run that `J` names.
+/// The run that `J` names, from its world before the first step.
 fn run_as<J: Job + Send + Sync, G: Gate, R: Threads + Wait + Sync>(
     rt: &R,
     alloc: Global,
-    program: &Program,
-    plan: &Plan,
+    world: World<'_>,
     budget: u32,
     gate: &G,
 ) -> Result<Ran, Memory>
-    requires program { IsValid program.now }
-    requires plan { IsValidPlan program.now plan.now }
-    requires budget { budget ≤ MOST_BUDGET }
-    requires of_program { program.now ≡ J.program }
-    requires of_plan { plan.now ≡ J.plan }
-    requires of_budget { budget ≡ J.budget }
+    requires of_program { world.program ≡ J.program }
+    requires of_plan { world.plan ≡ J.plan }
+    requires of_budget { world.budget ≡ J.budget }
+    requires first { IsOf [] world }
+    requires reached { IsReached world }
     ensures end { IfOk result (RanToEnd J.program J.plan J.budget) }
     ensures bounded { IfOk result (λ ran. KeepsBudget J.program J.budget ran.schedule) }
 {
-    let world = World::new(alloc, program, plan, budget)?;
     let processes = world.process_count();
     let book: Book<'_, J> = Book::new(alloc, world);
     let rounds = (u64::from(budget) + 1) * u64::from(processes);

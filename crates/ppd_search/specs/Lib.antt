@@ -1,5 +1,6 @@
 -- The origins of an item's flowback edges, found from what the replays of intervals give.
 pub mod Seen
+pub mod Spans
 pub mod Locals
 pub mod Control
 pub mod Own

@@ -1,21 +1,17 @@
 -- A step leaves a process state of the program.
 use Rattle.std.proofs.Common.{◌≡◌, ℕ, zero, suc, ◌+◌, ◌-◌, ◌<◌, ◌≤◌, ◌^◌, ℤ, pos, Bool, true, false, nat_lt, List, [], ◌∷◌, ◌++◌, length, Option, Some, None, Result, Ok, Err, refl, ap, sym, ◌∙◌, subst, arith, if◌then◌else◌}
-use Rattle.std.specs.Prelude.{OnOk, OnErr, replicate, slice_get, ⊤}
+use Rattle.std.specs.Prelude.{OnOk, OnErr, replicate, slice_get}
 use Rattle.std.specs.List.{All}
 use Rattle.std.proofs.lemmas.Bool.Decides.{nat_tests}
 use Rattle.std.proofs.lemmas.List.{length-set, length-append, length-replicate}
 use Rattle.ppd_ast.specs.Table.{EachAt}
-use Rattle.ppd_ast.specs.Term.{Term, term}
 use Rattle.ppd_ast.specs.declared.plan.Plan.{Plan}
 use Rattle.ppd_ast.specs.declared.program.Body.{Body}
-use Rattle.ppd_ast.specs.declared.program.Expr.{Expr}
 use Rattle.ppd_ast.specs.declared.program.Kind.{Kind}
 use Rattle.ppd_ast.specs.declared.program.Kind.TheVariants as kind
 use Rattle.ppd_ast.specs.declared.program.Program.{Program}
-use Rattle.ppd_ast.specs.declared.program.Target.TheVariants as target
 use Rattle.ppd_ast.specs.declared.status.Status.{Status}
 use Rattle.ppd_ast.specs.declared.status.Status.TheVariants as status
-use Rattle.ppd_ast.specs.declared.status.Trap.TheVariants as trap
 use Rattle.ppd_ast.specs.Lookups.{kind_of_stmt, kind_of, top_of_body}
 use Rattle.ppd_sem.specs.declared.asking.Pause.TheVariants.{Wants, Traps}
 use Rattle.ppd_sem.specs.declared.proc.Answer.{Answer}
@@ -24,13 +20,13 @@ use Rattle.ppd_sem.specs.declared.proc.Need.{Need}
 use Rattle.ppd_sem.specs.declared.proc.Need.TheVariants.{Read, Write, Plain, Enter, Leave, Invoke, Back, P, V, Send, Offer, Done, Recv, End, Trap, Budget, Stopped}
 use Rattle.ppd_sem.specs.declared.proc.Proc.{Proc}
 use Rattle.ppd_sem.specs.declared.proc.Todo.{Todo}
-use Rattle.ppd_sem.specs.Ask.{ask, element, is_zero}
-use Rattle.ppd_sem.specs.Asked.{Asked, and_then, gives, lift}
-use Rattle.ppd_sem.specs.Deed.{Deed, set_local, set_shared, clear, branch, turn, leave, invoke, back, take, give, send, receive, print, pass, finish, ask_all, ask_deed, ask_stored}
+use Rattle.ppd_sem.specs.Asked.{Asked}
+use Rattle.ppd_sem.specs.Deed.{Deed, set_local, set_shared, clear, branch, turn, leave, invoke, back, take, give, send, receive, print, pass, finish, ask_deed}
 use Rattle.ppd_sem.specs.Process.{act, act_at, act_by_asked, act_by_deed, act_by_need, cells_for, charged, clear_cells, clear_top, cost, head_deed, into_of, need_of, need_of_head, receive_at, returned, returned_from, todos, top_cells, within_budget, write_top}
 use Rattle.ppd_sem.specs.Runs.{AreOfFunction, AreOver, IsCallable, IsInner, IsOver, IsRunnable, IsRunnableStmt, IsRunning, LeadsOn, left_by, returns, size_if, size_of, sizes, stmt_size}
 use Rattle.ppd_sem.proofs.Offers.{CompletesSend, head_completes, send_stays}
 use Rattle.ppd_sem.proofs.Progress.{SamePurse, asked_purse, need_at_status, need_at_todo, stays_at}
+use Rattle.ppd_sem.proofs.OfKind.{IsDeedOf, OfAsked, asked_holds, goes_first, goes_second, invokes, goes_round}
 
 -- ---- what a statement's deed is
 
@@ -41,83 +37,12 @@ DeedFits p n k (invoke f values into) = (returns k ≡ false) × IsCallable p f 
 DeedFits p n k (back value) = returns k ≡ true
 DeedFits p n k d = returns k ≡ false
 
-abbrev Fits : Program → ℕ → Kind → Asked Deed → Type 0
-Fits p n k (Ok q) = DeedFits p n k q.0
-Fits p n k (Err pause) = ⊤
-
-then_fits : {A : Type 0} (p : Program) (n : ℕ) (k : Kind) (r : Asked A) (next : A → List ℤ → Asked Deed) → ((x : A) (left : List ℤ) → r ≡ Ok (x, left) → Fits p n k (next x left)) → Fits p n k (and_then r next)
-then_fits p n k (Ok q) next h = h q.0 q.1 refl
-then_fits p n k (Err pause) next h = tt
-
-one_fits : {A : Type 0} (p : Program) (n : ℕ) (k : Kind) (r : Asked A) (deed : A → Deed) → ((x : A) → DeedFits p n k (deed x)) → Fits p n k (and_then r (λ x left. gives left (deed x)))
-one_fits p n k (Ok q) deed h = h q.0
-one_fits p n k (Err pause) deed h = tt
-
-stored_fits : (p : Program) (n : ℕ) (k : Kind) (i e : Term) (base len : ℕ) (store : ℕ → ℤ → Deed) (cells answers : List ℤ) → ((c : ℕ) (v : ℤ) → DeedFits p n k (store c v)) → Fits p n k (ask_stored i e base len store cells answers)
-stored_fits p n k i e base len store cells answers h =
-    then_fits p n k (ask i cells answers)
-    (λ at left. and_then (lift left (element base len at)) (λ c left. and_then (ask e cells left) (λ v left. gives left (store c v))))
-    (λ at left _. then_fits p n k (lift left (element base len at)) (λ c left. and_then (ask e cells left) (λ v left. gives left (store c v)))
-    (λ c left _. one_fits p n k (ask e cells left) (store c) (h c)))
-
-chosen : (Q : ℕ → Type 0) (b : Bool) (xs ys : List ℕ) → All Q xs → All Q ys → All Q (if b then xs else ys)
-chosen Q true xs ys h g = h
-chosen Q false xs ys h g = g
-
-turn_fits : (p : Program) (n : ℕ) (k : Kind) (b : Bool) (stmts : List ℕ) → returns k ≡ false → All (IsInner p n) stmts → DeedFits p n k (if b then leave else turn stmts)
-turn_fits p n k true stmts e h = e
-turn_fits p n k false stmts e h = (e, h)
-
-assert_fits : (p : Program) (n : ℕ) (k : Kind) (b : Bool) (left : List ℤ) → returns k ≡ false → Fits p n k (if b then Err (Traps trap.Assert) else gives left pass)
-assert_fits p n k true left e = tt
-assert_fits p n k false left e = e
-
-abbrev values_in : Asked (List ℤ) → List ℤ
-values_in (Ok q) = q.0
-values_in (Err x) = []
-
-more_values : (v : ℤ) (n : ℕ) (values left : List ℤ) (r : Asked (List ℤ)) → ((vs l : List ℤ) → r ≡ Ok (vs, l) → length vs ≡ n) → and_then r (λ vs l. gives l (v ∷ vs)) ≡ Ok (values, left) → length values ≡ suc n
-more_values v n values left (Ok q) h e = let is : v ∷ q.0 ≡ values = ap values_in e in sym (ap length is) ∙ ap suc (h q.0 q.1 refl)
-more_values v n values left (Err x) h e = absurd cc
-
-first_value : (n : ℕ) (values left : List ℤ) (rest : List ℤ → Asked (List ℤ)) (r : Asked ℤ) → ((mid vs l : List ℤ) → rest mid ≡ Ok (vs, l) → length vs ≡ n) → and_then r (λ v mid. and_then (rest mid) (λ vs l. gives l (v ∷ vs))) ≡ Ok (values, left) → length values ≡ suc n
-first_value n values left rest (Ok q) h e = more_values q.0 n values left (rest q.1) (h q.1) e
-first_value n values left rest (Err x) h e = absurd cc
-
--- as many values as arguments
-values_count : (es : List Expr) (arguments : List ℕ) (cells answers : List ℤ) (values left : List ℤ) → ask_all es arguments cells answers ≡ Ok (values, left) → length values ≡ length arguments
-values_count es [] cells answers values left h = let e : [] ≡ values = ap values_in h in sym (ap length e)
-values_count es (a ∷ as') cells answers values left h =
-    first_value (length as') values left (ask_all es as' cells) (ask (term es a) cells answers) (λ mid vs l e. values_count es as' cells mid vs l e) h
-
-fits : (p : Program) (n : ℕ) (es : List Expr) (k : Kind) (cells answers : List ℤ) → LeadsOn p n k → Fits p n k (ask_deed es k cells answers)
-fits p n es (kind.Set (target.Local c) e) cells answers h = one_fits p n (kind.Set (target.Local c) e) (ask (term es e) cells answers) (λ v. set_local c v) (λ v. refl)
-fits p n es (kind.Set (target.LocalAt base len i) e) cells answers h =
-    stored_fits p n (kind.Set (target.LocalAt base len i) e) (term es i) (term es e) base len set_local cells answers (λ c v. refl)
-fits p n es (kind.Set (target.Shared c) e) cells answers h = one_fits p n (kind.Set (target.Shared c) e) (ask (term es e) cells answers) (λ v. set_shared c v) (λ v. refl)
-fits p n es (kind.Set (target.SharedAt base len i) e) cells answers h =
-    stored_fits p n (kind.Set (target.SharedAt base len i) e) (term es i) (term es e) base len set_shared cells answers (λ c v. refl)
-fits p n es (kind.Zero base len) cells answers h = refl
-fits p n es (kind.If e first second) cells answers h =
-    one_fits p n (kind.If e first second) (ask (term es e) cells answers) (λ v. branch (if is_zero v then second else first))
-    (λ v. (refl, chosen (IsInner p n) (is_zero v) second first h.1 h.0))
-fits p n es (kind.While e body) cells answers h =
-    one_fits p n (kind.While e body) (ask (term es e) cells answers) (λ v. if is_zero v then leave else turn body)
-    (λ v. turn_fits p n (kind.While e body) (is_zero v) body refl h)
-fits p n es (kind.Call f arguments into) cells answers h =
-    then_fits p n (kind.Call f arguments into) (ask_all es arguments cells answers) (λ vs left. gives left (invoke f vs into))
-    (λ vs left e. (refl, subst (λ (m : ℕ). IsCallable p f m) (sym (values_count es arguments cells answers vs left e)) h))
-fits p n es (kind.Return None) cells answers h = refl
-fits p n es (kind.Return (Some e)) cells answers h = one_fits p n (kind.Return (Some e)) (ask (term es e) cells answers) (λ v. back (Some v)) (λ v. refl)
-fits p n es (kind.P s) cells answers h = refl
-fits p n es (kind.V s) cells answers h = refl
-fits p n es (kind.Send c e) cells answers h = one_fits p n (kind.Send c e) (ask (term es e) cells answers) (λ v. send c v) (λ v. refl)
-fits p n es (kind.Recv c into) cells answers h = refl
-fits p n es (kind.Print e) cells answers h = one_fits p n (kind.Print e) (ask (term es e) cells answers) (λ v. print v) (λ v. refl)
-fits p n es (kind.Assert e) cells answers h =
-    then_fits p n (kind.Assert e) (ask (term es e) cells answers) (λ v left. if is_zero v then Err (Traps trap.Assert) else gives left pass)
-    (λ v left _. assert_fits p n (kind.Assert e) (is_zero v) left refl)
-fits p n es kind.End cells answers h = refl
+deed_fits : (p : Program) (n : ℕ) (k : Kind) (d : Deed) → IsDeedOf k d → LeadsOn p n k → DeedFits p n k d
+deed_fits p n k d goes_first h = (refl, h.0)
+deed_fits p n k d goes_second h = (refl, h.1)
+deed_fits p n k d goes_round h = (refl, h)
+deed_fits p n k d (invokes {f = f} values count) h = (refl, subst (λ (m : ℕ). IsCallable p f m) (sym count) h)
+deed_fits p n k d is h = refl
 
 -- ---- the program's tables
 
@@ -250,7 +175,7 @@ deed_shape p a t ts d s f fs run e h shape = by d h
 
 -- ---- the step
 
-asked_shape : (p : Program) (a : Answer) (t : Todo) (ts : List Todo) (asked : Asked Deed) (s : Proc) (f : Frame) (fs : List Frame) → IsRunnable p → s.frames ≡ f ∷ fs → s.todo ≡ t ∷ ts → Fits p (length f.cells) (kind_of p t.stmt) asked → Shape p (sizes s.frames) (t ∷ ts)
+asked_shape : (p : Program) (a : Answer) (t : Todo) (ts : List Todo) (asked : Asked Deed) (s : Proc) (f : Frame) (fs : List Frame) → IsRunnable p → s.frames ≡ f ∷ fs → s.todo ≡ t ∷ ts → OfAsked (DeedFits p (length f.cells) (kind_of p t.stmt)) asked → Shape p (sizes s.frames) (t ∷ ts)
     → Shape p (sizes (act_by_asked p a t ts asked s).frames) (act_by_asked p a t ts asked s).todo
 asked_shape p a t ts (Ok q) s f fs run e d h shape = deed_shape p a t ts q.0 (record s { answers = [] }) f fs run e h shape
 asked_shape p a t ts (Err (Wants c)) s f fs run e d h shape = subst (λ (l : List Todo). Shape p (sizes s.frames) l) (sym d) shape
@@ -262,7 +187,9 @@ head_shape p a t ts s [] run e d shape = absurd shape.todo
 head_shape p a t ts s (f ∷ fs) run e d shape =
     let k : Kind = kind_of p t.stmt in
     let leads : LeadsOn p (length f.cells) k = leads_at p (length f.cells) t.stmt run shape.todo.0 in
-    let fit : Fits p (length f.cells) k (ask_deed p.exprs k (top_cells s.frames) s.answers) = fits p (length f.cells) p.exprs k (top_cells s.frames) s.answers leads in
+    let fit : OfAsked (DeedFits p (length f.cells) k) (ask_deed p.exprs k (top_cells s.frames) s.answers) =
+    asked_holds p.exprs (top_cells s.frames) s.answers (DeedFits p (length f.cells) k) k
+    (λ d is. deed_fits p (length f.cells) k d is leads) in
     asked_shape p a t ts (head_deed p t s) s f fs run e d fit (sized p (sizes (f ∷ fs)) (sizes s.frames) (t ∷ ts) (ap sizes e) shape)
 
 pub paid_runs : (p : Program) (plan : Plan) (n : Need) (s t : Proc) → IsRunning p s → SamePurse s t → Shape p (sizes t.frames) t.todo → s.spent + cost plan n ≤ s.budget → IsRunning p (charged plan n t)

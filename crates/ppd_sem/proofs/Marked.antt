@@ -3,27 +3,23 @@ use Rattle.std.proofs.Common.{◌≡◌, ℕ, zero, suc, ◌+◌, ℤ, Bool, tru
 use Rattle.std.specs.Prelude.{⊤}
 use Rattle.std.proofs.lemmas.List.{append-nil}
 use Rattle.ppd_ast.specs.declared.plan.Plan.{Plan}
-use Rattle.ppd_ast.specs.declared.program.Expr.{Expr}
 use Rattle.ppd_ast.specs.declared.program.Kind.{Kind}
-use Rattle.ppd_ast.specs.declared.program.Kind.TheVariants as kind
 use Rattle.ppd_ast.specs.declared.program.Program.{Program}
-use Rattle.ppd_ast.specs.declared.program.Target.TheVariants as target
 use Rattle.ppd_ast.specs.declared.status.Status.{Status}
 use Rattle.ppd_ast.specs.declared.status.Trap.TheVariants as trap
-use Rattle.ppd_ast.specs.Term.{Term, term}
 use Rattle.ppd_ast.specs.Lookups.{kind_of}
 use Rattle.ppd_sem.specs.declared.asking.Pause.TheVariants.{Wants, Traps}
 use Rattle.ppd_sem.specs.declared.proc.Need.{Need}
 use Rattle.ppd_sem.specs.declared.proc.Need.TheVariants.{Invoke, Offer, Done, Trap, Budget}
 use Rattle.ppd_sem.specs.declared.proc.Proc.{Proc}
 use Rattle.ppd_sem.specs.declared.proc.Todo.{Todo}
-use Rattle.ppd_sem.specs.Ask.{ask, element, is_zero}
-use Rattle.ppd_sem.specs.Asked.{Asked, and_then, gives, lift}
-use Rattle.ppd_sem.specs.Deed.{Deed, set_local, set_shared, clear, branch, turn, leave, invoke, back, take, give, send, receive, print, pass, finish, ask_all, ask_deed, ask_stored}
+use Rattle.ppd_sem.specs.Asked.{Asked}
+use Rattle.ppd_sem.specs.Deed.{Deed, set_local, set_shared, clear, branch, turn, leave, invoke, back, take, give, send, receive, print, pass, finish}
 use Rattle.ppd_sem.specs.Offers.{HasNoOffer, OffersAtHead}
 use Rattle.ppd_sem.specs.Process.{chan_of, cost, entry_of, head_deed, need_by_entry, need_by_offer, need_by_status, need_of_asked, need_of_deed, need_of_head, need_of_leaving, need_of_running, need_of_send, offer_of, todos, top_cells}
 use Rattle.ppd_sem.specs.Tables.{capacity_of}
 use Rattle.ppd_sem.proofs.Offers.{DoneSuch, entry_done, if_done}
+use Rattle.ppd_sem.proofs.OfKind.{IsDeedOf, OfAsked, asked_holds, sends}
 
 -- ---- statements whose offer was not taken
 
@@ -74,50 +70,9 @@ abbrev SendFits : Kind → Deed → Type 0
 SendFits k (send c v) = chan_of k ≡ Some c
 SendFits k d = ⊤
 
-abbrev AskedFits : Kind → Asked Deed → Type 0
-AskedFits k (Ok q) = SendFits k q.0
-AskedFits k (Err pause) = ⊤
-
-then_fits : {A : Type 0} (k : Kind) (r : Asked A) (next : A → List ℤ → Asked Deed) → ((x : A) (left : List ℤ) → AskedFits k (next x left)) → AskedFits k (and_then r next)
-then_fits k (Ok q) next h = h q.0 q.1
-then_fits k (Err pause) next h = tt
-
-stored_fits : (k : Kind) (i e : Term) (base len : ℕ) (store : ℕ → ℤ → Deed) (cells answers : List ℤ) → ((c : ℕ) (v : ℤ) → SendFits k (store c v)) → AskedFits k (ask_stored i e base len store cells answers)
-stored_fits k i e base len store cells answers h =
-    then_fits k (ask i cells answers) (λ at left. and_then (lift left (element base len at)) (λ c left. and_then (ask e cells left) (λ v left. gives left (store c v))))
-    (λ at left. then_fits k (lift left (element base len at)) (λ c left. and_then (ask e cells left) (λ v left. gives left (store c v)))
-    (λ c left. then_fits k (ask e cells left) (λ v left. gives left (store c v)) (λ v left. h c v)))
-
-if_fits : (k : Kind) (b : Bool) (x y : Deed) → SendFits k x → SendFits k y → SendFits k (if b then x else y)
-if_fits k true x y h g = h
-if_fits k false x y h g = g
-
-asserted_fits : (k : Kind) (b : Bool) (left : List ℤ) → AskedFits k (if b then Err (Traps trap.Assert) else gives left pass)
-asserted_fits k true left = tt
-asserted_fits k false left = tt
-
-module _ (es : List Expr) (cells answers : List ℤ) where
-  valued : (k : Kind) (e : ℕ) (deed : ℤ → Deed) → ((v : ℤ) → SendFits k (deed v)) → AskedFits k (and_then (ask (term es e) cells answers) (λ v left. gives left (deed v)))
-  valued k e deed h = then_fits k (ask (term es e) cells answers) (λ v left. gives left (deed v)) (λ v left. h v)
-
-  asked_fits : (k : Kind) → AskedFits k (ask_deed es k cells answers)
-  asked_fits (kind.Set (target.Local c) e) = valued (kind.Set (target.Local c) e) e (λ v. set_local c v) (λ v. tt)
-  asked_fits (kind.Set (target.LocalAt base len i) e) = stored_fits (kind.Set (target.LocalAt base len i) e) (term es i) (term es e) base len set_local cells answers (λ c v. tt)
-  asked_fits (kind.Set (target.Shared c) e) = valued (kind.Set (target.Shared c) e) e (λ v. set_shared c v) (λ v. tt)
-  asked_fits (kind.Set (target.SharedAt base len i) e) = stored_fits (kind.Set (target.SharedAt base len i) e) (term es i) (term es e) base len set_shared cells answers (λ c v. tt)
-  asked_fits (kind.Zero base len) = tt
-  asked_fits (kind.If e first second) = valued (kind.If e first second) e (λ v. branch (if is_zero v then second else first)) (λ v. tt)
-  asked_fits (kind.While e body) = valued (kind.While e body) e (λ v. if is_zero v then leave else turn body) (λ v. if_fits (kind.While e body) (is_zero v) leave (turn body) tt tt)
-  asked_fits (kind.Call f arguments into) = then_fits (kind.Call f arguments into) (ask_all es arguments cells answers) (λ vs left. gives left (invoke f vs into)) (λ vs left. tt)
-  asked_fits (kind.Return None) = tt
-  asked_fits (kind.Return (Some e)) = valued (kind.Return (Some e)) e (λ v. back (Some v)) (λ v. tt)
-  asked_fits (kind.P s) = tt
-  asked_fits (kind.V s) = tt
-  asked_fits (kind.Send c e) = valued (kind.Send c e) e (λ v. send c v) (λ v. refl)
-  asked_fits (kind.Recv c into) = tt
-  asked_fits (kind.Print e) = valued (kind.Print e) e (λ v. print v) (λ v. tt)
-  asked_fits (kind.Assert e) = then_fits (kind.Assert e) (ask (term es e) cells answers) (λ v left. if is_zero v then Err (Traps trap.Assert) else gives left pass) (λ v left. asserted_fits (kind.Assert e) (is_zero v) left)
-  asked_fits kind.End = tt
+send_fits : (k : Kind) (d : Deed) → IsDeedOf k d → SendFits k d
+send_fits k d (sends v) = refl
+send_fits k d is = tt
 
 -- an offer on a channel is of such a send
 abbrev pub OfferFits : Kind → Need → Type 0
@@ -153,12 +108,12 @@ deed_offer k p plan t s (print v) h = tt
 deed_offer k p plan t s pass h = tt
 deed_offer k p plan t s finish h = tt
 
-asked_offer : (k : Kind) (p : Program) (plan : Plan) (t : ℕ) (s : Proc) (asked : Asked Deed) → AskedFits k asked → OfferFits k (need_of_asked p plan t s asked)
+asked_offer : (k : Kind) (p : Program) (plan : Plan) (t : ℕ) (s : Proc) (asked : Asked Deed) → OfAsked (SendFits k) asked → OfferFits k (need_of_asked p plan t s asked)
 asked_offer k p plan t s (Ok q) h = deed_offer k p plan t s q.0 h
 asked_offer k p plan t s (Err (Wants c)) h = tt
 asked_offer k p plan t s (Err (Traps x)) h = tt
 
-entry_offer : (k : Kind) (p : Program) (plan : Plan) (t : ℕ) (s : Proc) (o : Option ℕ) (asked : Asked Deed) → AskedFits k asked → OfferFits k (need_by_entry p plan t s o asked)
+entry_offer : (k : Kind) (p : Program) (plan : Plan) (t : ℕ) (s : Proc) (o : Option ℕ) (asked : Asked Deed) → OfAsked (SendFits k) asked → OfferFits k (need_by_entry p plan t s o asked)
 entry_offer k p plan t s (Some b) asked h = tt
 entry_offer k p plan t s None asked h = asked_offer k p plan t s asked h
 
@@ -169,7 +124,8 @@ marked_offer k plan t None n h = h
 head_offer : (p : Program) (plan : Plan) (t : Todo) (s : Proc) → OfferFits (kind_of p t.stmt) (need_of_head p plan t s)
 head_offer p plan t s =
     marked_offer (kind_of p t.stmt) plan t.stmt (offer_of p t) (need_by_entry p plan t.stmt s (entry_of p plan t) (head_deed p t s))
-    (entry_offer (kind_of p t.stmt) p plan t.stmt s (entry_of p plan t) (head_deed p t s) (asked_fits p.exprs (top_cells s.frames) s.answers (kind_of p t.stmt)))
+    (entry_offer (kind_of p t.stmt) p plan t.stmt s (entry_of p plan t) (head_deed p t s)
+    (asked_holds p.exprs (top_cells s.frames) s.answers (SendFits (kind_of p t.stmt)) (kind_of p t.stmt) (send_fits (kind_of p t.stmt))))
 
 pub running_offer : (p : Program) (plan : Plan) (t : Todo) (ts : List Todo) (s : Proc) → OfferFits (kind_of p t.stmt) (need_of_running p plan (t ∷ ts) s)
 running_offer p plan t ts s = if_offer (kind_of p t.stmt) (nat_lt s.budget (s.spent + cost plan (need_of_head p plan t s))) Budget (need_of_head p plan t s) tt (head_offer p plan t s)

@@ -15,7 +15,7 @@ use Rattle.ppd_sem.specs.declared.proc.Need.TheVariants as need
 use Rattle.ppd_sem.specs.declared.proc.Proc.{Proc}
 use Rattle.ppd_sem.specs.declared.proc.Todo.{Todo}
 use Rattle.ppd_sem.specs.Asked.{Asked}
-use Rattle.ppd_sem.specs.Deed.{Deed, set_local, set_shared, clear, branch, turn, leave, invoke, back, take, give, send, receive, print, pass, finish}
+use Rattle.ppd_sem.specs.Deed.{Deed, leave, invoke, send}
 use Rattle.ppd_sem.specs.Process.{chan_of, cost, entry_of, head_deed, need_by_entry, need_by_offer, need_by_status, need_of, need_of_asked, need_of_deed, need_of_head, need_of_leaving, need_of_running, need_of_send, offer_of}
 use Rattle.ppd_sem.specs.Runs.{returns}
 use Rattle.ppd_sem.specs.Tables.{capacity_of}
@@ -33,33 +33,36 @@ pub if_done : (W : ℕ → Type 0) (b : Bool) (x y : Need) → DoneSuch W x → 
 if_done W true x y h g = h
 if_done W false x y h g = g
 
-send_done : (W : ℕ → Type 0) (plan : Plan) (t n c : ℕ) (v : ℤ) → DoneSuch W (need_of_send plan t n c v)
-send_done W plan t zero c v = tt
-send_done W plan t (suc n) c v = tt
+-- a deed reads nothing and completes nothing
+abbrev pub IsDeedNeed : Need → Type 0
+IsDeedNeed (need.Read c) = ⊥
+IsDeedNeed (need.Done c u) = ⊥
+IsDeedNeed n = ⊤
 
-leaving_done : (W : ℕ → Type 0) (plan : Plan) (t : ℕ) (o : Option ℕ) → DoneSuch W (need_of_leaving plan t o)
-leaving_done W plan t None = tt
-leaving_done W plan t (Some b) = tt
+sending : (plan : Plan) (t n c : ℕ) (v : ℤ) → IsDeedNeed (need_of_send plan t n c v)
+sending plan t zero c v = tt
+sending plan t (suc n) c v = tt
 
-deed_done : (W : ℕ → Type 0) (p : Program) (plan : Plan) (t : ℕ) (s : Proc) (d : Deed) → DoneSuch W (need_of_deed p plan t s d)
-deed_done W p plan t s (set_local c v) = tt
-deed_done W p plan t s (set_shared c v) = tt
-deed_done W p plan t s (clear base len) = tt
-deed_done W p plan t s (branch stmts) = tt
-deed_done W p plan t s (turn stmts) = tt
-deed_done W p plan t s leave = leaving_done W plan t _
-deed_done W p plan t s (invoke f values into) = if_done W (nat_lt 64 (s.below + length s.frames)) (need.Trap trap.Depth) (need.Invoke _ _) tt tt
-deed_done W p plan t s (back value) = tt
-deed_done W p plan t s (take sem) = tt
-deed_done W p plan t s (give sem) = tt
-deed_done W p plan t s (send chan value) = send_done W plan t (capacity_of p chan) chan value
-deed_done W p plan t s (receive chan into) = tt
-deed_done W p plan t s (print v) = tt
-deed_done W p plan t s pass = tt
-deed_done W p plan t s finish = tt
+leaving : (plan : Plan) (t : ℕ) (o : Option ℕ) → IsDeedNeed (need_of_leaving plan t o)
+leaving plan t None = tt
+leaving plan t (Some b) = tt
+
+calling : (b : Bool) (f : Option ℕ) (u : ℕ) → IsDeedNeed (if b then need.Trap trap.Depth else need.Invoke f u)
+calling true f u = tt
+calling false f u = tt
+
+pub deed_need : (p : Program) (plan : Plan) (t : ℕ) (s : Proc) (d : Deed) → IsDeedNeed (need_of_deed p plan t s d)
+deed_need p plan t s leave = leaving plan t _
+deed_need p plan t s (invoke f values into) = calling (nat_lt 64 (s.below + length s.frames)) _ _
+deed_need p plan t s (send chan value) = sending plan t (capacity_of p chan) chan value
+deed_need p plan t s d = tt
+
+no_completion : (W : ℕ → Type 0) (n : Need) → IsDeedNeed n → DoneSuch W n
+no_completion W (need.Done c u) h = absurd h
+no_completion W n h = tt
 
 asked_done : (W : ℕ → Type 0) (p : Program) (plan : Plan) (t : ℕ) (s : Proc) (asked : Asked Deed) → DoneSuch W (need_of_asked p plan t s asked)
-asked_done W p plan t s (Ok q) = deed_done W p plan t s q.0
+asked_done W p plan t s (Ok q) = no_completion W (need_of_deed p plan t s q.0) (deed_need p plan t s q.0)
 asked_done W p plan t s (Err (Wants c)) = tt
 asked_done W p plan t s (Err (Traps x)) = tt
 

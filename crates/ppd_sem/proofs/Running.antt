@@ -1,5 +1,5 @@
 -- A process state of the program: its head statement runs over its top frame.
-use Rattle.std.proofs.Common.{◌≡◌, ◌<◌, ◌^◌, List, [], ◌∷◌, length, Some, subst, arith}
+use Rattle.std.proofs.Common.{◌≡◌, ◌<◌, ◌^◌, List, [], ◌∷◌, length, Some, subst, sym, arith}
 use Rattle.std.specs.Prelude.{slice_get}
 use Rattle.std.specs.List.{All}
 use Rattle.ppd_ast.specs.declared.program.Program.{Program}
@@ -7,7 +7,7 @@ use Rattle.ppd_sem.specs.declared.proc.Frame.{Frame}
 use Rattle.ppd_sem.specs.declared.proc.Proc.{Proc}
 use Rattle.ppd_sem.specs.declared.proc.Todo.{Todo}
 use Rattle.ppd_sem.specs.Process.{top_cells}
-use Rattle.ppd_sem.specs.Runs.{AreOver, IsOver, IsRunning, sizes}
+use Rattle.ppd_sem.specs.Runs.{AreOver, IsHead, IsOver, IsRunnable, IsRunning, sizes}
 
 over_at : (program : Program) (frames : List Frame) (todo : List Todo) (t : Todo) → AreOver program (sizes frames) todo → slice_get todo 0 ≡ Some t → IsOver program (length (top_cells frames)) t.stmt
 over_at program frames [] t h e = absurd cc
@@ -23,5 +23,17 @@ cells_at (f ∷ fs) h = h 0 0 (omega arith)
 pub head_over : (program : Program) (s : Proc) (t : Todo) → IsRunning program s → slice_get s.todo 0 ≡ Some t → IsOver program (length (top_cells s.frames)) t.stmt
 head_over program s t h e = over_at program s.frames s.todo t h.todo e
 
-pub head_cells : (program : Program) (s : Proc) → IsRunning program s → length (top_cells s.frames) < 2 ^ 16
-head_cells program s h = cells_at s.frames h.frames
+-- the head statement of a process that runs
+pub head_is : (program : Program) (s : Proc) (t : Todo) → IsRunnable program → IsRunning program s
+    → slice_get s.todo 0 ≡ Some t → IsHead program s t
+head_is program s t runnable h first = record {
+  runnable = runnable;
+  first = first;
+  cells = cells_at s.frames h.frames;
+  over = head_over program s t h first;
+}
+
+-- the same, as it is found
+pub head_found : (program : Program) (s : Proc) (t : Todo) → IsRunnable program → IsRunning program s
+    → Some t ≡ slice_get s.todo 0 → IsHead program s t
+head_found program s t runnable h found = head_is program s t runnable h (sym found)

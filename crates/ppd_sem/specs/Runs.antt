@@ -16,6 +16,7 @@ use Rattle.ppd_ast.specs.Lookups.{kind_of, top_of_body}
 use Rattle.ppd_sem.specs.declared.proc.Frame.{Frame}
 use Rattle.ppd_sem.specs.declared.proc.Proc.{Proc}
 use Rattle.ppd_sem.specs.declared.proc.Todo.{Todo}
+use Rattle.ppd_sem.specs.Process.{top_cells}
 use Rattle.ppd_sem.specs.Within.{IsWithin}
 
 -- an expression that is there, over a frame of n cells
@@ -138,3 +139,10 @@ pub record IsRunning (program : Program) (s : Proc) : Type 0 where
   pub below : s.below ≤ 64
   pub steps : s.steps ≤ s.spent
   pub spent : s.spent ≤ s.budget
+
+-- the head statement of a process of a program that can run, over the top frame
+pub record IsHead (program : Program) (s : Proc) (t : Todo) : Type 0 where
+  pub runnable : IsRunnable program
+  pub first : slice_get s.todo 0 ≡ Some t
+  pub cells : length (top_cells s.frames) < 2 ^ 16
+  pub over : IsOver program (length (top_cells s.frames)) t.stmt

@@ -1,8 +1,9 @@
-ghost use Rattle.std.specs.Prelude.{◌≡◌, ◌<◌, ◌^◌, length, IfOk, IfErr};
+ghost use Rattle.std.specs.Prelude.{◌≡◌, ◌+◌, ◌<◌, ◌^◌, ℕ, length, IfOk, IfErr, Ok, Err};
 ghost use Rattle.ppd_ast.specs.Table.{AreChildrenBelow, EachAt};
-ghost use Rattle.ppd_ast.specs.Term.{term};
+ghost use Rattle.ppd_ast.specs.Term.{node, term, terms};
 ghost use Rattle.ppd_sem.specs.Ask.{ask as ask_of};
 ghost use Rattle.ppd_sem.specs.Asked.{read_shared};
+ghost use Rattle.ppd_sem.specs.Reads.{ask_place};
 ghost use Rattle.ppd_sem.specs.Within.{IsWithin};
 
 use crate::eval::{calc, element, is_zero, negated, truth};
@@ -13,6 +14,17 @@ use ppd_ast::{Expr, Trap};
 pub enum Pause {
     Wants(u16),
     Traps(Trap),
+}
+
+/// The expression `at`. Its parts stand below it, and they name no cell that it does not.
+pub(crate) fn expr_at(exprs: &[Expr], at: u32) -> Expr
+    requires children { EachAt AreChildrenBelow exprs.now }
+    requires at_in { at < length exprs.now }
+    ensures is { term exprs.now at ≡ node (terms exprs.now) result }
+    ensures below { AreChildrenBelow at result }
+    ensures within { (n : ℕ) → IsWithin n (term exprs.now at) → IsWithin n (node (terms exprs.now) result) }
+{
+    exprs[at as usize]
 }
 
 fn next_answer(cell: u16, answers: &[i64]) -> Result<(i64, &[i64]), Pause>
@@ -42,7 +54,7 @@ pub fn ask<'a>(
     ensures ok { IfOk result (λ r. ask_of (term exprs.now at) cells.now answers.now ≡ Ok (r.0, r.1.now)) }
     ensures err { IfErr result (λ p. ask_of (term exprs.now at) cells.now answers.now ≡ Err p) }
 {
-    match exprs[at as usize] {
+    match expr_at(exprs, at) {
         Expr::Const(value) => Ok((value, answers)),
         Expr::Local(cell) => Ok((cells[cell as usize], answers)),
         Expr::LocalAt { base, len, at } => {
@@ -86,4 +98,28 @@ pub fn ask<'a>(
             Ok((truth(!is_zero(y)), rest))
         }
     }
+}
+
+/// The cell of an array's element by its index, which is tested, with the answers that are left.
+#[tactic(auto, using(crate::proofs::Asks::steps))]
+pub(crate) fn place<'a>(
+    exprs: &[Expr],
+    base: u16,
+    len: u16,
+    at: u32,
+    cells: &[i64],
+    answers: &'a [i64],
+) -> Result<(u16, &'a [i64]), Pause>
+    requires children { EachAt AreChildrenBelow exprs.now }
+    requires limit { length cells.now < 2 ^ 16 }
+    requires at_in { at < length exprs.now }
+    requires within { IsWithin (length cells.now) (term exprs.now at) }
+    requires range { base + len < 2 ^ 16 }
+    ensures ok { IfOk result (λ r. ask_place (term exprs.now at) base len cells.now answers.now ≡ Ok (r.0, r.1.now)) }
+    ensures inside { IfOk result (λ r. r.0 < base + len) }
+    ensures err { IfErr result (λ p. ask_place (term exprs.now at) base len cells.now answers.now ≡ Err p) }
+{
+    let (index, rest) = ask(exprs, at, cells, answers)?;
+    let cell = element(base, len, index)?;
+    Ok((cell, rest))
 }

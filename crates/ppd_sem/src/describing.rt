@@ -4,7 +4,7 @@ ghost use Rattle.ppd_sem.specs.Described.{cleared as cleared_of, described, eval
 ghost use Rattle.ppd_sem.specs.Effects.{HasRange, head_deed_of};
 ghost use Rattle.ppd_sem.specs.Process.{head_deed, need_of, top_cells as top_cells_of};
 ghost use Rattle.ppd_sem.specs.Reads.{reads_of_kind};
-ghost use Rattle.ppd_sem.specs.Runs.{IsNumbered, IsOver, IsRunnable, IsRunning};
+ghost use Rattle.ppd_sem.specs.Runs.{IsHead, IsNumbered, IsRunnable, IsRunning};
 
 use crate::asking::ask;
 use crate::effect::Effect;
@@ -106,24 +106,31 @@ fn parameters(alloc: Global, frame: u8, values: &[i64]) -> Result<Seq<Access>, M
     Ok(writes)
 }
 
+/// A process at its head statement, with the number of the top frame.
+#[derive(Clone, Copy)]
+struct Head<'a> {
+    program: &'a Program,
+    proc: &'a Proc,
+    todo: Todo,
+    frame: u8,
+}
+
 /// What a statement whose values are there writes.
 fn effect_writes(
     alloc: Global,
-    program: &Program,
-    proc: &Proc,
-    frame: u8,
-    todo: Todo,
+    head: Head,
     effect: Effect,
     answer: &Answer,
 ) -> Result<Seq<Access>, Memory>
-    requires program { IsRunnable program.now }
-    requires cells { length (top_cells_of proc.now.frames) < 2 ^ 16 }
-    requires over { IsOver program.now (length (top_cells_of proc.now.frames)) todo.stmt }
-    requires frame { frame < 2 }
+    requires head { IsHead head.program.now head.proc.now head.todo }
+    requires frame { head.frame < 2 }
     requires range { HasRange effect }
     ensures { IfOk result
-        (λ writes. writes ≡ writes_of_deed frame answer.now (head_deed_of program.now todo proc.now effect)) }
+        (λ writes. writes
+        ≡ writes_of_deed head.entry.frame answer.now
+        (head_deed_of head.entry.program.now head.entry.todo head.entry.proc.now effect)) }
 {
+    let frame = head.frame;
     match effect {
         Effect::SetLocal(cell, value) => one(alloc, local_write(frame, cell, value)),
         Effect::SetShared(cell, value) => {
@@ -132,7 +139,7 @@ fn effect_writes(
         }
         Effect::Clear(base, len) => cleared(alloc, frame, base, len),
         Effect::Invoke(..) => {
-            let values = argument_values(program, todo, proc)?;
+            let values = argument_values(head.program, head.todo, head.proc)?;
             parameters(alloc, frame + 1, values.as_slice())
         }
         Effect::Receive(_, into) => one(alloc, local_write(frame, into, value_in(answer))),
@@ -153,52 +160,43 @@ fn effect_writes(
 /// What the head statement's step writes: nothing where it traps.
 fn head_writes(
     alloc: Global,
-    program: &Program,
-    proc: &Proc,
-    frame: u8,
-    todo: Todo,
+    head: Head,
     trap: Option<Trap>,
     answer: &Answer,
 ) -> Result<Seq<Access>, Memory>
-    requires program { IsRunnable program.now }
-    requires cells { length (top_cells_of proc.now.frames) < 2 ^ 16 }
-    requires over { IsOver program.now (length (top_cells_of proc.now.frames)) todo.stmt }
-    requires frame { frame < 2 }
-    ensures { IfOk result (λ writes. writes ≡ writes_by trap frame answer.now (head_deed program.now todo proc.now)) }
+    requires head { IsHead head.program.now head.proc.now head.todo }
+    requires frame { head.frame < 2 }
+    ensures { IfOk result
+        (λ writes. writes
+        ≡ writes_by trap head.entry.frame answer.now
+        (head_deed head.entry.program.now head.entry.todo head.entry.proc.now)) }
 {
     if trap.is_some() {
         return Ok(Seq::new(alloc));
     }
-    match head_effect(program, todo, proc) {
-        Ok(effect) => effect_writes(alloc, program, proc, frame, todo, effect, answer),
+    match head_effect(head.program, head.todo, head.proc) {
+        Ok(effect) => effect_writes(alloc, head, effect, answer),
         Err(_) => Ok(Seq::new(alloc)),
     }
 }
 
 /// The reads of the head statement.
-fn head_reads(
-    alloc: Global,
-    program: &Program,
-    proc: &Proc,
-    frame: u8,
-    todo: Todo,
-) -> Result<Seq<Access>, Memory>
-    requires program { IsRunnable program.now }
-    requires cells { length (top_cells_of proc.now.frames) < 2 ^ 16 }
-    requires over { IsOver program.now (length (top_cells_of proc.now.frames)) todo.stmt }
+fn head_reads(alloc: Global, head: Head) -> Result<Seq<Access>, Memory>
+    requires { IsHead head.program.now head.proc.now head.todo }
     ensures { IfOk result
         (λ reads. reads
-        ≡ reads_of_kind frame program.now.exprs (kind_of program.now todo.stmt)
-        (top_cells_of proc.now.frames) proc.now.answers) }
+        ≡ reads_of_kind head.entry.frame head.entry.program.now.exprs
+        (kind_of head.entry.program.now head.entry.todo.stmt)
+        (top_cells_of head.entry.proc.now.frames) head.entry.proc.now.answers) }
 {
     let mut reads = Seq::new(alloc);
     push_kind_reads(
         &mut reads,
-        frame,
-        program.exprs.as_slice(),
-        kind_at(program, todo.stmt),
-        top_cells(&proc.frames),
-        proc.answers.as_slice(),
+        head.frame,
+        head.program.exprs.as_slice(),
+        kind_at(head.program, head.todo.stmt),
+        top_cells(&head.proc.frames),
+        head.proc.answers.as_slice(),
     )?;
     Ok(reads)
 }
@@ -226,21 +224,19 @@ fn valued(kind: &Kind) -> Option<u32>
 
 /// The event's value, where the head statement has one and it is there.
 #[tactic(auto, using(crate::proofs::Leads::valued_used))]
-fn head_value(program: &Program, proc: &Proc, todo: Todo) -> Option<i64>
-    requires program { IsRunnable program.now }
-    requires cells { length (top_cells_of proc.now.frames) < 2 ^ 16 }
-    requires over { IsOver program.now (length (top_cells_of proc.now.frames)) todo.stmt }
+fn head_value(head: Head) -> Option<i64>
+    requires { IsHead head.program.now head.proc.now head.todo }
     ensures { result
-        ≡ value_at program.now.exprs (top_cells_of proc.now.frames) proc.now.answers
-        (valued_of (kind_of program.now todo.stmt)) }
+        ≡ value_at head.entry.program.now.exprs (top_cells_of head.entry.proc.now.frames)
+        head.entry.proc.now.answers (valued_of (kind_of head.entry.program.now head.entry.todo.stmt)) }
 {
-    let value = valued(kind_at(program, todo.stmt))?;
-    let exprs = program.exprs.as_slice();
+    let value = valued(kind_at(head.program, head.todo.stmt))?;
+    let exprs = head.program.exprs.as_slice();
     match ask(
         exprs,
         value,
-        top_cells(&proc.frames),
-        proc.answers.as_slice(),
+        top_cells(&head.proc.frames),
+        head.proc.answers.as_slice(),
     ) {
         Ok((value, _)) => Some(value),
         Err(_) => None,
@@ -264,48 +260,39 @@ fn evaluates(need: Need) -> bool
 }
 
 /// The reads of a step of this need.
-fn step_reads(
-    alloc: Global,
-    program: &Program,
-    proc: &Proc,
-    frame: u8,
-    todo: Todo,
-    need: Need,
-) -> Result<Seq<Access>, Memory>
-    requires program { IsRunnable program.now }
-    requires cells { length (top_cells_of proc.now.frames) < 2 ^ 16 }
-    requires over { IsOver program.now (length (top_cells_of proc.now.frames)) todo.stmt }
+fn step_reads(alloc: Global, head: Head, need: Need) -> Result<Seq<Access>, Memory>
+    requires { IsHead head.program.now head.proc.now head.todo }
     ensures { IfOk result
         (λ reads. reads
         ≡ (if evaluates_of need
-        then reads_of_kind frame program.now.exprs (kind_of program.now todo.stmt)
-        (top_cells_of proc.now.frames) proc.now.answers else [])) }
+        then reads_of_kind head.entry.frame head.entry.program.now.exprs
+        (kind_of head.entry.program.now head.entry.todo.stmt)
+        (top_cells_of head.entry.proc.now.frames) head.entry.proc.now.answers else [])) }
 {
     if evaluates(need) {
-        head_reads(alloc, program, proc, frame, todo)
+        head_reads(alloc, head)
     } else {
         Ok(Seq::new(alloc))
     }
 }
 
 /// The value of a step of this need.
-fn step_value(program: &Program, proc: &Proc, todo: Todo, need: Need) -> Option<i64>
-    requires program { IsRunnable program.now }
-    requires cells { length (top_cells_of proc.now.frames) < 2 ^ 16 }
-    requires over { IsOver program.now (length (top_cells_of proc.now.frames)) todo.stmt }
+fn step_value(head: Head, need: Need) -> Option<i64>
+    requires { IsHead head.program.now head.proc.now head.todo }
     ensures { result
         ≡ (if evaluates_of need
-        then value_at program.now.exprs (top_cells_of proc.now.frames) proc.now.answers
-        (valued_of (kind_of program.now todo.stmt)) else None) }
+        then value_at head.entry.program.now.exprs (top_cells_of head.entry.proc.now.frames)
+        head.entry.proc.now.answers (valued_of (kind_of head.entry.program.now head.entry.todo.stmt)) else None) }
 {
     if evaluates(need) {
-        head_value(program, proc, todo)
+        head_value(head)
     } else {
         None
     }
 }
 
 /// The event of the head statement's step.
+#[tactic(auto, using(crate::proofs::Running::head_is))]
 fn event_at(
     alloc: Global,
     program: &Program,
@@ -322,14 +309,19 @@ fn event_at(
 {
     let need = look(program, plan, proc);
     let trap = trap_of(need);
-    let frame = frame_of(program, plan, proc);
-    let reads = step_reads(alloc, program, proc, frame, todo, need)?;
-    let writes = head_writes(alloc, program, proc, frame, todo, trap, answer)?;
+    let head = Head {
+        program,
+        proc,
+        todo,
+        frame: frame_of(program, plan, proc),
+    };
+    let reads = step_reads(alloc, head, need)?;
+    let writes = head_writes(alloc, head, trap, answer)?;
     Ok(Event {
         stmt: todo.stmt,
         reads,
         writes,
-        value: step_value(program, proc, todo, need),
+        value: step_value(head, need),
         number: None,
         trap,
     })

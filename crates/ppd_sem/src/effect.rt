@@ -1,15 +1,14 @@
-ghost use Rattle.std.specs.Prelude.{◌≡◌, ◌+◌, ◌<◌, ◌^◌, length, ℕ, ℤ, IfOk, IfErr, Ok, Err};
+ghost use Rattle.std.specs.Prelude.{◌≡◌, ◌<◌, ◌^◌, length, IfOk};
 ghost use Rattle.std.specs.List.{All};
 ghost use Rattle.ppd_ast.specs.Table.{AreChildrenBelow, EachAt};
-ghost use Rattle.ppd_ast.specs.Term.{term};
 ghost use Rattle.ppd_ast.specs.declared.program.Kind.TheVariants.{Set};
 ghost use Rattle.ppd_sem.specs.Asked.{outcome};
-ghost use Rattle.ppd_sem.specs.Deed.{Deed, ask_all, ask_deed, ask_stored};
+ghost use Rattle.ppd_sem.specs.Deed.{ask_all, ask_deed};
 ghost use Rattle.ppd_sem.specs.Effects.{HasRange, deed_if, given, given_if};
 ghost use Rattle.ppd_sem.specs.Runs.{AreUses, IsTargetWithin, IsUse};
 
-use crate::asking::{Pause, ask};
-use crate::eval::{element, is_zero};
+use crate::asking::{Pause, ask, place};
+use crate::eval::is_zero;
 use ppd_ast::{Expr, Kind, Target, Trap};
 
 /// What a statement does once all its values are there. Lists of statements and arguments are
@@ -36,36 +35,6 @@ pub enum Effect {
     /// An assertion that holds.
     Pass,
     Finish,
-}
-
-/// Evaluates an index, tests it, and evaluates the value to be stored.
-#[tactic(auto, using(crate::proofs::Asks::steps))]
-fn stored<'a>(
-    exprs: &[Expr],
-    base: u16,
-    len: u16,
-    at: u32,
-    value: u32,
-    cells: &[i64],
-    answers: &'a [i64],
-) -> Result<(u16, i64, &'a [i64]), Pause>
-    requires children { EachAt AreChildrenBelow exprs.now }
-    requires limit { length cells.now < 2 ^ 16 }
-    requires index { IsUse exprs.now (length cells.now) at }
-    requires range { base + len < 2 ^ 16 }
-    requires value { IsUse exprs.now (length cells.now) value }
-    ensures ok { IfOk result
-        (λ r. (store : ℕ → ℤ → Deed)
-        → ask_stored (term exprs.now at) (term exprs.now value) base len store cells.now answers.now
-        ≡ Ok (store r.0 r.1, r.2.now)) }
-    ensures err { IfErr result
-        (λ p. (store : ℕ → ℤ → Deed)
-        → ask_stored (term exprs.now at) (term exprs.now value) base len store cells.now answers.now ≡ Err p) }
-{
-    let (index, rest) = ask(exprs, at, cells, answers)?;
-    let cell = element(base, len, index)?;
-    let (value, rest) = ask(exprs, value, cells, rest)?;
-    Ok((cell, value, rest))
 }
 
 /// Evaluates the arguments, left to right.
@@ -107,7 +76,8 @@ fn assigned(
             Ok(Effect::SetLocal(cell, value))
         }
         Target::LocalAt { base, len, at } => {
-            let (cell, value, _) = stored(exprs, base, len, at, value, cells, answers)?;
+            let (cell, rest) = place(exprs, base, len, at, cells, answers)?;
+            let (value, _) = ask(exprs, value, cells, rest)?;
             Ok(Effect::SetLocal(cell, value))
         }
         Target::Shared(cell) => {
@@ -115,7 +85,8 @@ fn assigned(
             Ok(Effect::SetShared(cell, value))
         }
         Target::SharedAt { base, len, at } => {
-            let (cell, value, _) = stored(exprs, base, len, at, value, cells, answers)?;
+            let (cell, rest) = place(exprs, base, len, at, cells, answers)?;
+            let (value, _) = ask(exprs, value, cells, rest)?;
             Ok(Effect::SetShared(cell, value))
         }
     }

@@ -4,7 +4,7 @@ ghost use Rattle.ppd_ast.specs.Lookups.{kind_of};
 ghost use Rattle.ppd_sem.specs.Effects.{arguments_of, given, head_deed_of};
 ghost use Rattle.ppd_sem.specs.Feeding.{finished, hold_at, invoked};
 ghost use Rattle.ppd_sem.specs.Process.{act, act_by_asked, act_by_deed, act_by_need, charged, cost as cost_of, head_deed, need_of, todos, top_cells as top_cells_of, value_of};
-ghost use Rattle.ppd_sem.specs.Runs.{IsNumbered, IsOver, IsRunnable, IsRunning};
+ghost use Rattle.ppd_sem.specs.Runs.{IsHead, IsNumbered, IsRunnable, IsRunning};
 
 use crate::asking::Pause;
 use crate::cost::cost;
@@ -38,9 +38,7 @@ pub(crate) fn finish(proc: &mut Proc)
 /// The values of a call's arguments.
 #[tactic(auto, using(crate::proofs::Leads::arguments_used, crate::proofs::Leads::arguments_few))]
 pub(crate) fn argument_values(program: &Program, todo: Todo, proc: &Proc) -> Result<Nums, Memory>
-    requires program { IsRunnable program.now }
-    requires cells { length (top_cells_of proc.now.frames) < 2 ^ 16 }
-    requires over { IsOver program.now (length (top_cells_of proc.now.frames)) todo.stmt }
+    requires { IsHead program.now proc.now todo }
     ensures few { IfOk result (λ values. length values < 2 ^ 16) }
     ensures values { IfOk result
         (λ values. values
@@ -119,10 +117,7 @@ fn do_effect(
     proc: &mut Proc,
     answer: &Answer,
 ) -> Result<(), Memory>
-    requires program { IsRunnable program.now }
-    requires head { slice_get proc.old.todo 0 ≡ Some todo }
-    requires cells { length (top_cells_of proc.old.frames) < 2 ^ 16 }
-    requires over { IsOver program.now (length (top_cells_of proc.old.frames)) todo.stmt }
+    requires { IsHead program.now proc.old todo }
     ensures ok { OnOk result
         (proc.new ≡ act_by_deed program.now answer.now todo (drop 1 proc.old.todo)
         (head_deed_of program.now todo proc.old effect) (record proc.old { answers = [] })) }
@@ -169,10 +164,7 @@ fn act_on_head(
     proc: &mut Proc,
     answer: &Answer,
 ) -> Result<(), Memory>
-    requires program { IsRunnable program.now }
-    requires head { slice_get proc.old.todo 0 ≡ Some todo }
-    requires cells { length (top_cells_of proc.old.frames) < 2 ^ 16 }
-    requires over { IsOver program.now (length (top_cells_of proc.old.frames)) todo.stmt }
+    requires { IsHead program.now proc.old todo }
     ensures ok { OnOk result
         (proc.new ≡ act_by_asked program.now answer.now todo (drop 1 proc.old.todo)
         (head_deed program.now todo proc.old) proc.old) }
@@ -220,6 +212,7 @@ fn offer(todo: Todo, proc: &mut Proc)
 }
 
 /// Takes the step of a need that is there to be met.
+#[tactic(auto, using(crate::proofs::Running::head_is))]
 fn step(
     program: &Program,
     plan: &Plan,

@@ -1,11 +1,11 @@
-ghost use Rattle.std.specs.Prelude.{◌≡◌, ◌<◌, ◌≤◌, ◌^◌, Some, None, length, slice_get, IfOk, IsSomeAnd};
+ghost use Rattle.std.specs.Prelude.{◌≡◌, ◌<◌, Some, None, length, slice_get, IfOk};
 ghost use Rattle.ppd_ast.specs.declared.plan.BlockKind.TheVariants.{Function, Loop, Process};
 ghost use Rattle.ppd_sem.specs.declared.proc.Need.TheVariants.{Back, End};
 ghost use Rattle.ppd_sem.specs.Asked.{outcome};
 ghost use Rattle.ppd_sem.specs.Effects.{HasRange, head_deed_if, head_deed_of};
-ghost use Rattle.ppd_sem.specs.Process.{call_unit as call_unit_of, entry_of, head_deed, need_of, need_of_call, need_of_deed, need_of_head, need_of_leaving, need_of_pause, need_of_send, chan_of, offer_of, top_body, top_call, top_cells as top_cells_of};
+ghost use Rattle.ppd_sem.specs.Process.{call_unit as call_unit_of, entry_of, head_deed, need_of, need_of_call, need_of_deed, need_of_head, need_of_leaving, need_of_pause, need_of_send, offer_of, top_body, top_call, top_cells as top_cells_of};
 ghost use Rattle.ppd_sem.specs.Tables.{block_of, capacity_of, or_zero};
-ghost use Rattle.ppd_sem.specs.Runs.{IsNumbered, IsOver, IsRunnable, IsRunning};
+ghost use Rattle.ppd_sem.specs.Runs.{IsHead, IsNumbered, IsRunnable, IsRunning};
 
 use crate::asking::Pause;
 use crate::cost::within_budget;
@@ -57,9 +57,7 @@ pub(crate) fn head(proc: &Proc) -> Option<Todo>
 
 /// What the head statement does, or why a value is not there yet.
 pub(crate) fn head_effect(program: &Program, todo: Todo, proc: &Proc) -> Result<Effect, Pause>
-    requires program { IsRunnable program.now }
-    requires cells { length (top_cells_of proc.now.frames) < 2 ^ 16 }
-    requires over { IsOver program.now (length (top_cells_of proc.now.frames)) todo.stmt }
+    requires { IsHead program.now proc.now todo }
     ensures deed { outcome (head_deed program.now todo proc.now) ≡ head_deed_if program.now todo proc.now result }
     ensures range { IfOk result HasRange }
 {
@@ -230,10 +228,8 @@ fn offered_chan(program: &Program, todo: Todo) -> Option<u8>
 
 /// What the head statement needs.
 fn head_need(program: &Program, plan: &Plan, todo: Todo, proc: &Proc) -> Need
-    requires program { IsRunnable program.now }
     requires plan { IsNumbered plan.now }
-    requires cells { length (top_cells_of proc.now.frames) < 2 ^ 16 }
-    requires over { IsOver program.now (length (top_cells_of proc.now.frames)) todo.stmt }
+    requires head { IsHead program.now proc.now todo }
     ensures { result ≡ need_of_head program.now plan.now todo proc.now }
 {
     if let Some(chan) = offered_chan(program, todo) {

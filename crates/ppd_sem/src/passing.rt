@@ -1,7 +1,7 @@
-ghost use Rattle.std.specs.Prelude.{◌≡◌, ◌<◌, ◌^◌, length, slice_get, Some, IfOk, option_to_list};
+ghost use Rattle.std.specs.Prelude.{◌≡◌, slice_get, Some, IfOk, option_to_list};
 ghost use Rattle.ppd_sem.specs.Passed.{arguments_at, arguments_of_head, deed_at, deed_if_there, deed_of_head, next_stmt_of, result_at, result_of_head};
 ghost use Rattle.ppd_sem.specs.Process.{top_cells as top_cells_of};
-ghost use Rattle.ppd_sem.specs.Runs.{IsOver, IsRunnable, IsRunning};
+ghost use Rattle.ppd_sem.specs.Runs.{IsHead, IsRunnable, IsRunning};
 
 use crate::effect::Effect;
 use crate::feeding::argument_values;
@@ -11,9 +11,7 @@ use ppd_ast::{Memory, Nums, Program};
 use std::alloc::Global;
 
 fn head_arguments(alloc: Global, program: &Program, todo: Todo, proc: &Proc) -> Result<Nums, Memory>
-    requires program { IsRunnable program.now }
-    requires cells { length (top_cells_of proc.now.frames) < 2 ^ 16 }
-    requires over { IsOver program.now (length (top_cells_of proc.now.frames)) todo.stmt }
+    requires { IsHead program.now proc.now todo }
     ensures { IfOk result (λ values. values ≡ arguments_of_head program.now proc.now (Some todo)) }
 {
     match head_effect(program, todo, proc) {
@@ -23,9 +21,7 @@ fn head_arguments(alloc: Global, program: &Program, todo: Todo, proc: &Proc) -> 
 }
 
 fn head_result(program: &Program, todo: Todo, proc: &Proc) -> Option<i64>
-    requires program { IsRunnable program.now }
-    requires cells { length (top_cells_of proc.now.frames) < 2 ^ 16 }
-    requires over { IsOver program.now (length (top_cells_of proc.now.frames)) todo.stmt }
+    requires { IsHead program.now proc.now todo }
     ensures { result ≡ result_of_head program.now proc.now (Some todo) }
 {
     match head_effect(program, todo, proc) {
@@ -35,9 +31,7 @@ fn head_result(program: &Program, todo: Todo, proc: &Proc) -> Option<i64>
 }
 
 fn effect_of_head(program: &Program, todo: Todo, proc: &Proc) -> Option<Effect>
-    requires program { IsRunnable program.now }
-    requires cells { length (top_cells_of proc.now.frames) < 2 ^ 16 }
-    requires over { IsOver program.now (length (top_cells_of proc.now.frames)) todo.stmt }
+    requires { IsHead program.now proc.now todo }
     ensures { deed_of_head program.now proc.now (Some todo) ≡ deed_if_there program.now proc.now (Some todo) result }
 {
     match head_effect(program, todo, proc) {

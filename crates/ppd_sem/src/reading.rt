@@ -1,14 +1,13 @@
-ghost use Rattle.std.specs.Prelude.{◌≡◌, ◌+◌, ◌<◌, ◌^◌, ◌++◌, length, IfOk, IfErr, OnOk, Ok, Err};
+ghost use Rattle.std.specs.Prelude.{◌≡◌, ◌<◌, ◌^◌, ◌++◌, length, OnOk};
 ghost use Rattle.std.specs.List.{All};
 ghost use Rattle.ppd_ast.specs.Table.{AreChildrenBelow, EachAt};
 ghost use Rattle.ppd_ast.specs.Term.{term};
-ghost use Rattle.ppd_ast.specs.declared.program.Kind.TheVariants.{Set};
-ghost use Rattle.ppd_sem.specs.Reads.{ask_place, local_read, reads_of, reads_of_all, reads_of_kind, shared_read};
-ghost use Rattle.ppd_sem.specs.Runs.{AreUses, IsTargetWithin, IsUse};
+ghost use Rattle.ppd_sem.specs.Reads.{local_read, reads_of, reads_of_all, reads_of_kind, shared_read};
+ghost use Rattle.ppd_sem.specs.Runs.{AreUses, IsUse};
 ghost use Rattle.ppd_sem.specs.Within.{IsWithin};
 
-use crate::asking::{Pause, ask};
-use crate::eval::{element, is_zero};
+use crate::asking::{ask, expr_at, place};
+use crate::eval::is_zero;
 use crate::event::{Access, Spot};
 use ppd_ast::{Expr, Kind, Memory, Seq, Target};
 
@@ -36,29 +35,6 @@ fn read_shared(reads: &mut Seq<Access>, cell: u16, answers: &[i64]) -> Result<()
     }
 }
 
-/// The cell of an array's element by its index, which is tested, with the answers that are left.
-#[tactic(auto, using(crate::proofs::Asks::steps))]
-fn place<'a>(
-    exprs: &[Expr],
-    base: u16,
-    len: u16,
-    at: u32,
-    cells: &[i64],
-    answers: &'a [i64],
-) -> Result<(u16, &'a [i64]), Pause>
-    requires children { EachAt AreChildrenBelow exprs.now }
-    requires limit { length cells.now < 2 ^ 16 }
-    requires index { IsUse exprs.now (length cells.now) at }
-    requires range { base + len < 2 ^ 16 }
-    ensures ok { IfOk result (λ r. ask_place (term exprs.now at) base len cells.now answers.now ≡ Ok (r.0, r.1.now)) }
-    ensures inside { IfOk result (λ r. r.0 < base + len) }
-    ensures err { IfErr result (λ p. ask_place (term exprs.now at) base len cells.now answers.now ≡ Err p) }
-{
-    let (index, rest) = ask(exprs, at, cells, answers)?;
-    let cell = element(base, len, index)?;
-    Ok((cell, rest))
-}
-
 /// Adds the reads of expression `at` over the top frame's cells, in order of evaluation, as far
 /// as it is evaluated. `Memory` is want of memory.
 #[tactic(auto, using(crate::proofs::Readings::reading))]
@@ -76,7 +52,7 @@ pub(crate) fn push_reads(
     requires limit { length cells.now < 2 ^ 16 }
     ensures { OnOk result (reads.new ≡ reads.old ++ reads_of frame (term exprs.now at) cells.now answers.now) }
 {
-    match exprs[at as usize] {
+    match expr_at(exprs, at) {
         Expr::Const(_) => Ok(()),
         Expr::Local(cell) => read_local(reads, frame, cells, cell),
         Expr::LocalAt { base, len, at } => {
@@ -146,37 +122,6 @@ fn push_all(
     }
 }
 
-/// Adds the reads of an assignment to this place.
-fn push_assigned(
-    reads: &mut Seq<Access>,
-    frame: u8,
-    exprs: &[Expr],
-    target: Target,
-    value: u32,
-    cells: &[i64],
-    answers: &[i64],
-) -> Result<(), Memory>
-    requires children { EachAt AreChildrenBelow exprs.now }
-    requires limit { length cells.now < 2 ^ 16 }
-    requires target { IsTargetWithin exprs.now (length cells.now) target }
-    requires value { IsUse exprs.now (length cells.now) value }
-    ensures { OnOk result
-        (reads.new ≡ reads.old ++ reads_of_kind frame exprs.now (Set target value) cells.now answers.now) }
-{
-    match target {
-        Target::Local(_) | Target::Shared(_) => {
-            push_reads(reads, frame, exprs, value, cells, answers)
-        }
-        Target::LocalAt { base, len, at } | Target::SharedAt { base, len, at } => {
-            push_reads(reads, frame, exprs, at, cells, answers)?;
-            match place(exprs, base, len, at, cells, answers) {
-                Ok((_, rest)) => push_reads(reads, frame, exprs, value, cells, rest),
-                Err(_) => Ok(()),
-            }
-        }
-    }
-}
-
 /// Adds the reads of a statement of this kind, in order of evaluation, as far as it is
 /// evaluated. `Memory` is want of memory.
 pub(crate) fn push_kind_reads(
@@ -193,10 +138,16 @@ pub(crate) fn push_kind_reads(
     ensures { OnOk result (reads.new ≡ reads.old ++ reads_of_kind frame exprs.now kind.now cells.now answers.now) }
 {
     match kind {
-        Kind::Set(target, value) => {
-            push_assigned(reads, frame, exprs, *target, *value, cells, answers)
-        }
-        Kind::If(value, _, _)
+        Kind::Set(Target::LocalAt { base, len, at } | Target::SharedAt { base, len, at }, value) =>
+            {
+                push_reads(reads, frame, exprs, *at, cells, answers)?;
+                match place(exprs, *base, *len, *at, cells, answers) {
+                    Ok((_, rest)) => push_reads(reads, frame, exprs, *value, cells, rest),
+                    Err(_) => Ok(()),
+                }
+            }
+        Kind::Set(Target::Local(_) | Target::Shared(_), value)
+        | Kind::If(value, _, _)
         | Kind::While(value, _)
         | Kind::Return(Some(value))
         | Kind::Send(_, value)

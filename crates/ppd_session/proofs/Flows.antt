@@ -8,12 +8,11 @@ use Rattle.ppd_model.specs.declared.flow.Item.{Item}
 use Rattle.ppd_past.specs.declared.flow_error.FlowError.{FlowError}
 use Rattle.ppd_past.specs.declared.flow_error.FlowError.TheVariants as flow_error
 use Rattle.ppd_past.specs.declared.past.Past.{Past}
-use Rattle.ppd_past.specs.ByReplays.{IsFoundBy, first_failure}
+use Rattle.ppd_past.specs.ByReplays.{IsFoundBy, first_failed_in}
 use Rattle.ppd_search.specs.Found.{edges_replays, found_edges}
 use Rattle.ppd_session.specs.Known.{Flow, Told, flow_by, of_cells, of_intervals, of_items, of_processes, unless_failed}
 use Rattle.ppd_session.specs.Sessions.{IsItemThere, known_by}
 use Rattle.ppd_session.specs.Texts.{flow_at}
-use Rattle.ppd_session.proofs.LastValues.{same_first}
 use Rattle.ppd_walk.specs.SharedCells.{IsMemoryOr, seens_in}
 
 module _ (past : Past) (q k j : ℕ) where
@@ -26,8 +25,8 @@ module _ (past : Past) (q k j : ℕ) where
   abbrev known : Flow
   known = flow_by past.program.now past.plan.now past.budget past.logs.now q k j
 
-  by_failure : (o : Option At) → first_failure past replays ≡ o → known ≡ unless_failed o answer
-  by_failure o e = ap (λ (f : Option At). unless_failed f answer) (sym (same_first past replays) ∙ e)
+  by_failure : (o : Option At) → first_failed_in past replays ≡ o → known ≡ unless_failed o answer
+  by_failure o e = ap (λ (f : Option At). unless_failed f answer) e
 
   pub flow_found : (b e : ℕ) (r : Result (List FlowEdge) FlowError) → IsFoundBy past replays answer b e r → IsMemoryOr known r
   flow_found b e (Ok x) f = sym (by_failure None f.0 ∙ f.1)

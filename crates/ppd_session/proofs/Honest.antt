@@ -38,11 +38,11 @@ use Rattle.ppd_shared_edges.proofs.Assembled.{assembled}
 use Rattle.ppd_shared_edges.proofs.Sources.LastOrigins.{last_found}
 use Rattle.ppd_shared_edges.specs.SharedEdges.{all_seen}
 use Rattle.ppd_past.proofs.Runs.{replays_are_seen}
-use Rattle.ppd_past.specs.ByReplays.{failure_or}
+use Rattle.ppd_past.specs.ByReplays.{failure_or, first_failed}
 use Rattle.ppd_past.specs.SeenBy.{failed_at, failure_of, seen_by}
 use Rattle.ppd_model.specs.FlowbackEdges.{edges, edges_in}
 use Rattle.ppd_walk.specs.SharedCells.{answer_of}
-use Rattle.ppd_session.specs.Known.{Flow, Interval, Known, Last, Told, first_failed, flow_by, flow_told, of_processes, known_of_logs, known_of_run, last_by, last_told, of_cells, of_extent, of_span, of_split, seens, told_by, told_of_entries, told_of_split, unless_failed, unless_raced}
+use Rattle.ppd_session.specs.Known.{Flow, Interval, Known, Last, Told, flow_by, flow_told, of_processes, known_of_logs, known_of_run, last_by, last_told, of_cells, of_extent, of_span, of_split, seens, told_by, told_of_entries, told_of_split, unless_failed, unless_raced}
 
 same_interval : (i : Span) (x : Extent) → IsSameInterval i x → of_span i ≡ of_extent x
 same_interval i x h = rw (h.block, h.round, h.closed)

@@ -6,7 +6,7 @@ use Rattle.ppd_entry.specs.declared.entry.At.{At}
 use Rattle.ppd_model.specs.declared.graph.EdgeId.{EdgeId}
 use Rattle.ppd_past.specs.declared.flow_error.FlowError.TheVariants as flow_error
 use Rattle.ppd_past.specs.declared.past.Past.{Past}
-use Rattle.ppd_past.specs.ByReplays.{failure_or, first_failure}
+use Rattle.ppd_past.specs.ByReplays.{failure_or, first_failed_in}
 use Rattle.ppd_past.specs.SeenBy.{failed_in, seen_in}
 use Rattle.ppd_search.specs.Shared.{greatest_writing, start_replays}
 use Rattle.ppd_session.specs.Known.{last_by}
@@ -25,13 +25,13 @@ first_fails p (Some n) rest at e = e
 
 module _ (past : Past) (c : ℕ) (l : LastEdge) where
   replays_fail : (at : At) (o : Option EdgeId) → option_map (with_end past) o ≡ Some l
-      → first_failure past ((l.edge.process, l.interval) ∷ []) ≡ Some at
-      → first_failure past (start_replays past.logs.now (seens_in past) c o) ≡ Some at
+      → first_failed_in past ((l.edge.process, l.interval) ∷ []) ≡ Some at
+      → first_failed_in past (start_replays past.logs.now (seens_in past) c o) ≡ Some at
   replays_fail at None e f = absurd (none-some l e)
   replays_fail at (Some a) e f =
       let is : with_end past a ≡ l = same_Some (with_end past a) l e in
       first_fails a.process (failed_in past a.process (with_end past a).interval) _ at
-      (subst (λ (m : LastEdge). first_failure past ((m.edge.process, m.interval) ∷ []) ≡ Some at) (sym is) f)
+      (subst (λ (m : LastEdge). first_failed_in past ((m.edge.process, m.interval) ∷ []) ≡ Some at) (sym is) f)
 
   pub last_replay_fails : (e : SessionError) → last_edge past c ≡ Some l
       → IsCause (failure_at (known_by past []) (Some l.edge.process) l.interval) e

@@ -7,10 +7,9 @@ use Rattle.ppd_model.specs.declared.flow.Origin.{Origin}
 use Rattle.ppd_past.specs.declared.flow_error.FlowError.{FlowError}
 use Rattle.ppd_past.specs.declared.flow_error.FlowError.TheVariants as flow_error
 use Rattle.ppd_past.specs.declared.past.Past.{Past}
-use Rattle.ppd_past.specs.ByReplays.{IsFoundBy, failure_or, first_failure}
-use Rattle.ppd_past.specs.SeenBy.{failed_in}
+use Rattle.ppd_past.specs.ByReplays.{IsFoundBy, first_failed_in}
 use Rattle.ppd_search.specs.Shared.{Missing, found_last, last_replays}
-use Rattle.ppd_session.specs.Known.{Last, first_failed, last_by, of_cells, unless_failed}
+use Rattle.ppd_session.specs.Known.{Last, last_by, of_cells, unless_failed}
 use Rattle.ppd_session.specs.Sessions.{IsLineOf, IsWhy, error_of, unfound}
 use Rattle.ppd_session.specs.Texts.{first_unfound, lasts_text}
 use Rattle.ppd_session.specs.declared.reply.SessionError.{SessionError}
@@ -19,10 +18,6 @@ use Rattle.ppd_walk.specs.SharedCells.{answer_of, seens_in}
 use Rattle.ppd_why.specs.Edges.{last_line}
 
 -- ---- the search for a last write
-
-pub same_first : (past : Past) (ms : List (ℕ × ℕ)) → first_failure past ms ≡ first_failed past.program.now past.plan.now past.budget past.logs.now ms
-same_first past [] = refl
-same_first past (m ∷ ms) = ap (failure_or m.0 (failed_in past m.0 m.1)) (same_first past ms)
 
 module _ (past : Past) (c : ℕ) where
   abbrev replays : List (ℕ × ℕ)
@@ -34,8 +29,8 @@ module _ (past : Past) (c : ℕ) where
   abbrev known : Last
   known = last_by past.program.now past.plan.now past.budget past.logs.now c
 
-  known_by_failure : (o : Option At) → first_failure past replays ≡ o → known ≡ unless_failed o answer
-  known_by_failure o e = ap (λ (f : Option At). unless_failed f answer) (sym (same_first past replays) ∙ e)
+  known_by_failure : (o : Option At) → first_failed_in past replays ≡ o → known ≡ unless_failed o answer
+  known_by_failure o e = ap (λ (f : Option At). unless_failed f answer) e
 
   pub last_found : (b e : ℕ) (x : ℤ × Origin) → IsFoundBy past replays answer b e (Ok x) → known ≡ Ok x
   last_found b e x f = known_by_failure None f.0 ∙ f.1

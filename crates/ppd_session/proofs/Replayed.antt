@@ -21,7 +21,7 @@ use Rattle.ppd_model.specs.declared.flow.Item.{Item}
 use Rattle.ppd_past.specs.declared.flow_error.FlowError.{FlowError}
 use Rattle.ppd_past.specs.declared.flow_error.FlowError.TheVariants as flow_error
 use Rattle.ppd_past.specs.declared.past.Past.{Past}
-use Rattle.ppd_past.specs.ByReplays.{AreReplayed, IsFoundBy, failure_or, first_failure}
+use Rattle.ppd_past.specs.ByReplays.{AreReplayed, IsFoundBy, failure_or, first_failed_in}
 use Rattle.ppd_past.specs.SeenBy.{failed_in, failure_by, failure_of, items_by, items_in}
 use Rattle.ppd_replay.specs.Laws.{replay_of}
 use Rattle.ppd_session.specs.Known.{Known, Told, told_by, told_of_entries}
@@ -150,7 +150,7 @@ module _ (past : Past) (q k : ℕ) where
   told_here = ap (λ ts. slice_get ts k) (told_entries past.program.now past.plan.now past.budget past.logs.now.lists q)
 
   -- the failure of the replay is the one that is told
-  pub same_failure : first_failure past ((q, k) ∷ []) ≡ failure_at (known_by past []) (Some q) k
+  pub same_failure : first_failed_in past ((q, k) ∷ []) ≡ failure_at (known_by past []) (Some q) k
   same_failure =
       failure_as past.program.now past.plan.now past.budget q (slice_get (indexed past.plan.now entries) k)
       ∙ ap (failure_in q) (sym (told_here ∙ slice_get-map _ (indexed past.plan.now entries) k))

@@ -11,7 +11,6 @@ use Rattle.ppd_entry.specs.declared.entry.At.{At}
 use Rattle.ppd_entry.specs.declared.entry.Entry.{Entry}
 use Rattle.ppd_entry.specs.declared.entry.Logs.{Logs}
 use Rattle.ppd_entry.specs.IntervalLogs.{indexed}
-use Rattle.ppd_entry.specs.Entries.{entries_at}
 use Rattle.ppd_flow.specs.Answers.{answer_if}
 use Rattle.ppd_flow.specs.Runs.{edges_or_none}
 use Rattle.ppd_model.specs.declared.flow.FlowEdge.{FlowEdge}
@@ -26,8 +25,8 @@ use Rattle.ppd_model.specs.declared.tracing.Story.{Story}
 use Rattle.ppd_model.specs.Story.{story}
 use Rattle.ppd_past.specs.declared.flow_error.FlowError.{FlowError}
 use Rattle.ppd_past.specs.declared.flow_error.FlowError.TheVariants as flow_error
-use Rattle.ppd_past.specs.ByReplays.{failure_or}
-use Rattle.ppd_past.specs.SeenBy.{failed_at, seen_by}
+use Rattle.ppd_past.specs.ByReplays.{first_failed}
+use Rattle.ppd_past.specs.SeenBy.{seen_by}
 use Rattle.ppd_race.specs.Races.{races_of_logs}
 use Rattle.ppd_search.specs.Found.{edges_replays, found_edges}
 use Rattle.ppd_search.specs.Seen.{Seen}
@@ -143,13 +142,6 @@ told_of_entries program plan budget entries =
 -- what the replays of each process give
 abbrev pub seens : Program → Plan → ℕ → Logs → List Seen
 seens program plan budget logs = map (λ entries. seen_by program plan budget entries) logs.lists
-
--- the failure of the first that fails of the replays of these intervals, each by its process
-abbrev pub first_failed : Program → Plan → ℕ → Logs → List (ℕ × ℕ) → Option At
-first_failed program plan budget logs [] = None
-first_failed program plan budget logs (m ∷ ms) =
-    failure_or m.0 (failed_at program plan budget (entries_at logs m.0) m.1)
-    (first_failed program plan budget logs ms)
 
 -- this is found, where no replay fails
 abbrev pub unless_failed : {A : Type 0} → Option At → Result A FlowError → Result A FlowError

@@ -7,6 +7,7 @@ use Rattle.ppd_model.specs.declared.graph.Race.{Race}
 use Rattle.ppd_past.specs.declared.flow_error.FlowError.{FlowError}
 use Rattle.ppd_past.specs.declared.flow_error.FlowError.TheVariants as flow_error
 use Rattle.ppd_past.specs.declared.past.Past.{Past}
+use Rattle.ppd_past.specs.Pasts.{IsPast}
 use Rattle.ppd_why.specs.Edges.{last_line}
 use Rattle.ppd_session.specs.Known.{Known, Last, known_with}
 use Rattle.ppd_session.specs.Texts.{told_at}
@@ -23,6 +24,12 @@ abbrev pub AreTold : Known → List (Place × List Item) → Type 0
 AreTold x kept =
     (place : Place) (items : List Item) → Contains kept (place, items)
     → told_at x place.process place.interval ≡ Some (Ok items)
+
+-- what a session answers of: a past whose parts belong together, and kept blocks that are as they are told of it with
+-- these races
+pub record IsSession (past : Past) (races : List Race) (kept : List (Place × List Item)) : Type 0 where
+  pub together : IsPast past
+  pub told : AreTold (known_by past races) kept
 
 -- why there is no answer, where this is the failure of the replay that the answer needs, if it fails
 abbrev pub IsCause : Option At → SessionError → Type 0

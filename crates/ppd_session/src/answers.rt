@@ -1,9 +1,8 @@
 // The answer to each question.
 ghost use Rattle.std.specs.Prelude.{◌≡◌, ◌++◌, None, OnOk, IfErr};
 ghost use Rattle.ppd_past.specs.Pasts.{IsPast};
-ghost use Rattle.ppd_session.specs.Sessions.{AreTold, IsWhy, known_by};
-ghost use Rattle.ppd_session.specs.Texts.{answer_text, blocks_text, failure, failure_if, opened_or};
-ghost use Rattle.ppd_session.specs.Texts.{opening_of as opening_in, plain_text, statement_text};
+ghost use Rattle.ppd_session.specs.Sessions.{AreTold, IsSession, IsWhy, known_by};
+ghost use Rattle.ppd_session.specs.Texts.{answer_text, blocks_text, failure, plain_text, statement_text};
 
 use crate::blocks::put_intervals;
 use crate::deps::put_deps;
@@ -71,33 +70,6 @@ fn put_plain(
     }
 }
 
-/// Appends the answer to a question that is not for the last values.
-fn put_answer_of(
-    alloc: Global,
-    text: &mut Vec<u8>,
-    past: &Past,
-    races: &[Race],
-    kept: &mut Kept,
-    question: Question,
-) -> Result<(), SessionError>
-    requires past { IsPast past.now }
-    requires kept { AreTold (known_by past.now races.now) kept.old }
-    ensures text { OnOk result
-        (text.new.items
-        ≡ text.old.items
-        ++ opened_or (known_by past.now races.now) (plain_text (known_by past.now races.now) question)
-        (opening_in question)) }
-    ensures told { OnOk result (failure_if (known_by past.now races.now) (opening_in question) ≡ None) }
-    ensures error { IfErr result (IsWhy (failure_if (known_by past.now races.now) (opening_in question))) }
-    ensures kept { AreTold (known_by past.now races.now) kept.new }
-{
-    if let Some(opening) = opening_of(question) {
-        return put_open(alloc, text, past, races, kept, opening);
-    }
-    put_plain(alloc, text, past, races, question)?;
-    Ok(())
-}
-
 /// Appends the answer to a question about a past with these races, of which these blocks are kept. It fails where a
 /// replay fails, or for want of memory.
 pub(crate) fn put_answer(
@@ -108,8 +80,7 @@ pub(crate) fn put_answer(
     kept: &mut Kept,
     question: Question,
 ) -> Result<(), SessionError>
-    requires past { IsPast past.now }
-    requires kept { AreTold (known_by past.now races.now) kept.old }
+    requires { IsSession past.now races.now kept.old }
     ensures text { OnOk result
         (text.new.items ≡ text.old.items ++ answer_text (known_by past.now races.now) question) }
     ensures told { OnOk result (failure (known_by past.now races.now) question ≡ None) }
@@ -119,5 +90,9 @@ pub(crate) fn put_answer(
     if is_final(question) {
         return put_final(alloc, text, past, races, kept);
     }
-    put_answer_of(alloc, text, past, races, kept, question)
+    if let Some(opening) = opening_of(question) {
+        return put_open(alloc, text, past, races, kept, opening);
+    }
+    put_plain(alloc, text, past, races, question)?;
+    Ok(())
 }

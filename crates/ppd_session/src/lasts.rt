@@ -3,7 +3,7 @@ ghost use Rattle.std.specs.Prelude.{◌≡◌, ◌<◌, ◌++◌, [], Ok, None, 
 ghost use Rattle.ppd_index.specs.Indexes.{rows_at};
 ghost use Rattle.ppd_past.specs.Pasts.{IsPast};
 ghost use Rattle.ppd_session.specs.Known.{last_by};
-ghost use Rattle.ppd_session.specs.Sessions.{AreTold, IsLineOf, IsWhy, known_by, unfound};
+ghost use Rattle.ppd_session.specs.Sessions.{AreTold, IsSession, IsLineOf, IsWhy, known_by, unfound};
 ghost use Rattle.ppd_session.specs.declared.reply.SessionError.TheVariants as session_error;
 ghost use Rattle.ppd_session.specs.Texts.{first_unfound, lasts_text, raced, told_at};
 ghost use Rattle.ppd_walk.specs.SharedCells.{last_edge as last_edge_of};
@@ -164,6 +164,7 @@ fn last_of_cell(
     if last.interval < past.index.count(last.edge.process) {
         return last_kept(alloc, past, kept, cell, last);
     }
+    // cannot come for the past of a run: the index has the interval in which each edge ends
     last_of(alloc, past, cell)
 }
 
@@ -238,8 +239,7 @@ pub(crate) fn put_final(
     races: &[Race],
     kept: &mut Kept,
 ) -> Result<(), SessionError>
-    requires past { IsPast past.now }
-    requires kept { AreTold (known_by past.now races.now) kept.old }
+    requires { IsSession past.now races.now kept.old }
     ensures text { OnOk result
         (text.new.items
         ≡ text.old.items

@@ -4,7 +4,7 @@ ghost use Rattle.std.specs.Prelude.{length, nat_lt};
 ghost use Rattle.ppd_index.specs.Indexes.{rows_at};
 ghost use Rattle.ppd_past.specs.declared.flow_error.FlowError.TheVariants as flow_error;
 ghost use Rattle.ppd_past.specs.Pasts.{IsPast};
-ghost use Rattle.ppd_session.specs.Sessions.{AreTold, IsCause, IsWhy, error_of, known_by};
+ghost use Rattle.ppd_session.specs.Sessions.{AreTold, IsSession, IsCause, IsWhy, error_of, known_by};
 ghost use Rattle.ppd_why.specs.Items.{open_text};
 ghost use Rattle.ppd_session.specs.declared.reply.SessionError.TheVariants as session_error;
 ghost use Rattle.ppd_session.specs.Texts.{failure_at, intervals_at, item_failure, items_text, opened_text};
@@ -217,8 +217,7 @@ pub(crate) fn put_open(
     kept: &mut Kept,
     opening: Opening,
 ) -> Result<(), SessionError>
-    requires past { IsPast past.now }
-    requires kept { AreTold (known_by past.now races.now) kept.old }
+    requires { IsSession past.now races.now kept.old }
     ensures text { OnOk result (text.new.items ≡ text.old.items ++ opened_text (known_by past.now races.now) opening) }
     ensures told { OnOk result
         (opening_failure (known_by past.now races.now) opening.process opening.interval opening.item ≡ None) }

@@ -1,7 +1,7 @@
 ghost use Rattle.std.specs.Prelude.{◌≡◌, None, IfOk, IfErr, OnOk};
 ghost use Rattle.ppd_past.specs.Pasts.{IsPast};
 ghost use Rattle.ppd_session.specs.Known.{known_of_logs};
-ghost use Rattle.ppd_session.specs.Sessions.{AreTold, IsWhy, known_by};
+ghost use Rattle.ppd_session.specs.Sessions.{AreTold, IsSession, IsWhy, known_by};
 ghost use Rattle.ppd_session.specs.Questions.{is_quit};
 ghost use Rattle.ppd_session.specs.Texts.{failure_of, races_text, text_of};
 
@@ -32,15 +32,14 @@ pub struct Session<'a> {
 }
 
 impl<'a> Model for Session<'a> {
-    ghost use Rattle.ppd_past.specs.Pasts.{IsPast};
     ghost use Rattle.ppd_session.specs.Known.{Known};
-    ghost use Rattle.ppd_session.specs.Sessions.{AreTold, known_by};
+    ghost use Rattle.ppd_session.specs.Sessions.{IsSession, known_by};
 
     ghost Value = { Known };
 
     ghost view = { λ s. known_by s.past s.races };
 
-    ghost invariant = { λ s. IsPast s.past × AreTold (known_by s.past s.races) s.kept };
+    ghost invariant = { λ s. IsSession s.past s.races s.kept };
 }
 
 fn reply(
@@ -50,8 +49,7 @@ fn reply(
     kept: &mut Kept,
     line: &[u8],
 ) -> Result<Reply, SessionError>
-    requires past { IsPast past.now }
-    requires kept { AreTold (known_by past.now races.now) kept.old }
+    requires { IsSession past.now races.now kept.old }
     ensures text { IfOk result (λ r. r.text ≡ text_of (known_by past.now races.now) line.now) }
     ensures quit { IfOk result (λ r. r.quit ≡ is_quit line.now) }
     ensures told { OnOk result (failure_of (known_by past.now races.now) line.now ≡ None) }

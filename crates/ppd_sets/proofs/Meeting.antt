@@ -1,7 +1,7 @@
 -- Variables of which a cell is in a set.
-use Rattle.std.proofs.Common.{◌≡◌, ℕ, ◌+◌, ◌-◌, ◌<◌, ◌≤◌, ◌^◌, min, List, [], Bool, true, false, Option, Some, None, length, get_or, refl, sym, ap, ◌∙◌, subst, arith, true≢false, inl, inr}
+use Rattle.std.proofs.Common.{◌≡◌, ℕ, ◌+◌, ◌-◌, ◌<◌, ◌≤◌, ◌^◌, min, List, [], ◌∷◌, ◌++◌, Bool, true, false, Option, Some, None, length, get_or, refl, sym, ap, ◌∙◌, subst, arith, true≢false, inl, inr}
 use Rattle.std.specs.Prelude.{IsTrue, nat_le, nat_lt, slice_get}
-use Rattle.std.specs.List.{All, flat_map, range_with_len, list_any}
+use Rattle.std.specs.List.{flat_map, range_with_len, list_any}
 use Rattle.ppd_ast.specs.Numbered.{is_while}
 use Rattle.std.proofs.lemmas.Bool.{and_parts, and_from, leb-true, ltb-true, le-leb, lt-ltb, cases_order, false_from_ne_true, cond-true, cond-false}
 use Rattle.std.proofs.lemmas.Option.{slice_get-get_or}
@@ -12,8 +12,10 @@ use Rattle.ppd_ast.specs.Valid.{IsValid}
 use Rattle.ppd_ast.proofs.ValidLaws.{slice_get_below}
 use Rattle.ppd_ast.specs.Members.{has, those}
 use Rattle.ppd_ast.specs.Lookups.{kind_of}
+use Rattle.ppd_ast.proofs.Those.{those_yes, those_no}
+use Rattle.ppd_ast.proofs.Walks.{got_some}
 use Rattle.ppd_ast.proofs.Members.{any_from, any_gives, below_range, filter_same_in}
-use Rattle.ppd_sets.specs.Used.{is_met, vars_met, sorted, loop_stmts, loop_used_of, loop_defined_of, reads_at, writes_at, body_reads, body_writes, called_from, used_of, defined_of}
+use Rattle.ppd_sets.specs.Used.{AreSmall, is_met, vars_met, sorted, loop_stmts, loop_used_of, loop_defined_of, reads_at, writes_at, body_reads, body_writes, called_from, used_of, defined_of}
 use Rattle.ppd_sets.specs.Gained.{HasCells}
 
 -- what a variable's cells are
@@ -72,7 +74,7 @@ both true false f g = absurd (true≢false (sym (f refl)))
 both false true f g = absurd (true≢false (sym (g refl)))
 both false false f g = refl
 
-met_same : (set cells : List ℕ) (vars : List Var) (v : ℕ) (o : Option Var) → All (λ x. after x ≤ 1024) vars → HasCells set cells → slice_get vars v ≡ o → is_met set o ≡ is_met cells o
+met_same : (set cells : List ℕ) (vars : List Var) (v : ℕ) (o : Option Var) → AreSmall vars → HasCells set cells → slice_get vars v ≡ o → is_met set o ≡ is_met cells o
 met_same set cells vars v None all same at = refl
 met_same set cells vars v (Some x) all same at =
     let below : v < length vars = slice_get_below vars v x at in
@@ -81,18 +83,26 @@ met_same set cells vars v (Some x) all same at =
     let few : after x ≤ 1024 = subst (λ (y : Var). after y ≤ 1024) x_is (all v x below) in
     both (list_any (λ c. holds c x) set) (list_any (λ c. holds c x) cells) (met_by set cells x few same.each) (met_by cells set x few (λ c h. sym (same.each c h)))
 
-pub vars_same : (set cells : List ℕ) (vars : List Var) → All (λ x. after x ≤ 1024) vars → HasCells set cells → vars_met vars set ≡ vars_met vars cells
+pub vars_same : (set cells : List ℕ) (vars : List Var) → AreSmall vars → HasCells set cells → vars_met vars set ≡ vars_met vars cells
 vars_same set cells vars all same = filter_same_in (λ v. is_met set (slice_get vars v)) (λ v. is_met cells (slice_get vars v)) (range_with_len 0 (min (length vars) 65536)) (λ v h. met_same set cells vars v (slice_get vars v) all same refl)
 
 -- a valid program's shared variables have cells below 1024
-pub shared_small : (p : Program) → IsValid p → All (λ x. after x ≤ 1024) p.shared
+pub shared_small : (p : Program) → IsValid p → AreSmall p.shared
 shared_small p v k d h = let within : after (get_or p.shared k d) ≤ length p.starts = v.cells.within k d h in let few = v.limits.starts in omega (arith, within, few)
 
-pub small_at : (p : Program) (vars : List Var) (k : ℕ) (x : Var) → IsValid p → vars ≡ p.shared → k < length vars → x ≡ get_or vars k x → after x ≤ 1024
-small_at p vars k x v same h is =
-    let few : after (get_or p.shared k x) ≤ 1024 = shared_small p v k x (subst (λ (ys : List Var). k < length ys) same h) in
-    let e : get_or p.shared k x ≡ x = ap (λ (ys : List Var). get_or ys k x) (sym same) ∙ sym is in
-    subst (λ (y : Var). after y ≤ 1024) e few
+-- what one more variable, met or not, adds to the numbers of those that are met
+pub record MetNext (vars : List Var) (cells ids : List ℕ) (k : ℕ) (met : Bool) : Type 0 where
+  pub yes : met ≡ true → ids ++ k ∷ [] ≡ those (k + 1) (λ v. is_met cells (slice_get vars v))
+  pub no : met ≡ false → ids ≡ those (k + 1) (λ v. is_met cells (slice_get vars v))
+
+pub met_next : (vars : List Var) (cells ids : List ℕ) (k : ℕ) (x : Var) (met : Bool) → k < length vars → x ≡ get_or vars k x → met ≡ list_any (λ c. holds c x) cells → ids ≡ those k (λ v. is_met cells (slice_get vars v)) → MetNext vars cells ids k met
+met_next vars cells ids k x met inside is found e =
+    let test : ℕ → Bool = λ v. is_met cells (slice_get vars v) in
+    let here : test k ≡ met = ap (is_met cells) (got_some vars k x inside is) ∙ sym found in
+    record {
+      yes = λ h. ap (λ l. l ++ k ∷ []) e ∙ sym (those_yes k test (here ∙ h));
+      no = λ h. e ∙ sym (those_no k test (here ∙ h));
+    }
 
 -- the cells of a set, rising
 pub sorted_is : (set cells list : List ℕ) → list ≡ those 1024 (has set) → HasCells set cells → list ≡ sorted cells

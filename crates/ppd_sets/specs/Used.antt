@@ -1,13 +1,13 @@
 -- USED and DEFINED of bodies, by chains of calls, and of loops.
-use Rattle.std.specs.Prelude.{◌<◌, ℕ, min, Bool, true, false, IsTrue, List, [], ◌∷◌, map, length, Option, Some, None, slice_get, if◌then◌else◌}
-use Rattle.std.specs.List.{flat_map, range_with_len, list_any}
+use Rattle.std.specs.Prelude.{◌<◌, ◌≤◌, ℕ, min, Bool, true, false, IsTrue, List, [], ◌∷◌, map, length, Option, Some, None, slice_get, if◌then◌else◌}
+use Rattle.std.specs.List.{All, flat_map, range_with_len, list_any}
 use Rattle.ppd_ast.specs.declared.program.Kind.{Kind}
 use Rattle.ppd_ast.specs.declared.program.Kind.TheVariants as K
 use Rattle.ppd_ast.specs.declared.program.Body.{Body}
 use Rattle.ppd_ast.specs.declared.program.Var.{Var}
 use Rattle.ppd_ast.specs.declared.program.Program.{Program}
 use Rattle.ppd_ast.specs.declared.limits.TheConstants.{MOST_NESTING}
-use Rattle.ppd_ast.specs.Cells.{holds}
+use Rattle.ppd_ast.specs.Cells.{after, holds}
 use Rattle.ppd_ast.specs.Numbered.{numbers_of, is_while}
 use Rattle.ppd_ast.specs.Order.{preorder}
 use Rattle.ppd_ast.specs.Members.{has, those}
@@ -73,6 +73,10 @@ body_writes p b = flat_map (writes_at true p) (stmts_at p b)
 abbrev pub is_met : List ℕ → Option Var → Bool
 is_met cells None = false
 is_met cells (Some x) = list_any (λ c. holds c x) cells
+
+-- the cells of each of these variables are below 1024
+abbrev pub AreSmall : List Var → Type 0
+AreSmall vars = All (λ x. after x ≤ 1024) vars
 
 -- the variables of which a cell is among these, by number; numbers have 16 bits
 abbrev pub vars_met : List Var → List ℕ → List ℕ

@@ -4,7 +4,7 @@ ghost use Rattle.ppd_ast.specs.Numbered.{numbers_of};
 ghost use Rattle.ppd_ast.specs.Table.{EachAt, AreChildrenBelow};
 ghost use Rattle.ppd_ast.specs.Valid.{IsValid};
 ghost use Rattle.ppd_ast.specs.Lookups.{kind_of};
-ghost use Rattle.ppd_sets.specs.Used.{callee, calls_at, call_rows, called_from, body_reads, body_writes, reads_at, writes_at};
+ghost use Rattle.ppd_sets.specs.Used.{callee, call_rows, called_from, body_reads, body_writes, reads_at, writes_at};
 ghost use Rattle.ppd_sets.specs.Gained.{GainsBoth, HasBoth, reads_of, writes_of};
 
 use crate::touched::Touched;
@@ -12,8 +12,8 @@ use ppd_ast::{Body, Ids, Kind, Memory, Program, Seq, Stmt};
 use ppd_cfg::reached;
 use std::alloc::Global;
 
-// The number after the body's last statement that is there.
-fn end_of(stmts: &[Stmt], body: &Body) -> u32
+/// The number after the body's last statement that is there.
+pub fn end_of(stmts: &[Stmt], body: &Body) -> u32
     ensures { result ≡ min body.now.end (length stmts.now) }
 {
     (body.end as usize).min(stmts.len()) as u32

@@ -5,7 +5,7 @@ ghost use Rattle.ppd_ast.specs.Table.{EachAt, AreChildrenBelow};
 ghost use Rattle.ppd_ast.specs.Valid.{IsValid};
 ghost use Rattle.ppd_ast.specs.Numbered.{is_while};
 ghost use Rattle.ppd_ast.specs.Lookups.{kind_of};
-ghost use Rattle.ppd_sets.specs.Used.{vars_met, used_of, defined_of, loop_used_of, loop_defined_of, loop_stmts, reads_at, writes_at, sorted};
+ghost use Rattle.ppd_sets.specs.Used.{AreSmall, vars_met, used_of, defined_of, loop_used_of, loop_defined_of, loop_stmts, reads_at, writes_at, sorted};
 
 use crate::bodies::{calls, touched_by_bodies, touched_from};
 use crate::loops::loop_touched;
@@ -36,8 +36,8 @@ fn size_of(var: &Var) -> u16
     }
 }
 
-// Whether a cell of the variable is in the set.
-fn does_meet(set: &CellSet, var: &Var) -> bool
+/// Whether a cell of the variable is in the set.
+pub fn does_meet(set: &CellSet, var: &Var) -> bool
     requires { after var.now ≤ 1024 }
     ensures { result ≡ list_any (λ c. holds c var.now) set.now }
 {
@@ -50,12 +50,11 @@ fn does_meet(set: &CellSet, var: &Var) -> bool
     false
 }
 
-// The shared variables of which a cell is in the set, by number, rising. Numbers have 16 bits.
-fn vars_in(alloc: Global, program: &Program, set: &CellSet) -> Result<Cells, Memory>
-    requires { IsValid program.now }
-    ensures { IfOk result (λ ids. ids ≡ vars_met program.now.shared set.now) }
+/// The variables of which a cell is in the set, by number, rising. Numbers have 16 bits. `Memory` is want of memory.
+pub fn vars_in(alloc: Global, vars: &[Var], set: &CellSet) -> Result<Cells, Memory>
+    requires { AreSmall vars.now }
+    ensures { IfOk result (λ ids. ids ≡ vars_met vars.now set.now) }
 {
-    let vars = program.shared.as_slice();
     let mut ids = Cells::new(alloc);
     for number in 0..vars.len().min(65_536) {
         if does_meet(set, &vars[number]) {
@@ -76,12 +75,13 @@ pub(crate) fn body_rows(alloc: Global, program: &Program) -> Result<Rows, Memory
 {
     let calls = calls(alloc, program)?;
     let list = touched_by_bodies(alloc, program)?;
+    let shared = program.shared.as_slice();
     let mut used = Seq::new(alloc);
     let mut defined = Seq::new(alloc);
     for body in 0..program.bodies.len() {
         let touched = touched_from(alloc, program, &calls, &list, body as u32)?;
-        let reads = vars_in(alloc, program, &touched.reads)?;
-        let writes = vars_in(alloc, program, &touched.writes)?;
+        let reads = vars_in(alloc, shared, &touched.reads)?;
+        let writes = vars_in(alloc, shared, &touched.writes)?;
         used.push(reads)?;
         defined.push(writes)?;
     }

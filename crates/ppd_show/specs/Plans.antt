@@ -1,10 +1,10 @@
 -- The lines of a plan: its blocks with the variables of their prelogs and postlogs, and its units with those that
 -- they may read.
-use Rattle.std.specs.Prelude.{ℕ, List, [], ◌++◌, Option, Some, None, codes, decimal, slice_get, if◌then◌else◌}
+use Rattle.std.specs.Prelude.{ℕ, List, [], ◌++◌, Option, Some, None, codes, decimal, length, slice_get, if◌then◌else◌}
+use Rattle.std.specs.List.{flat_map, range_with_len}
 use Rattle.ppd_ast.specs.declared.program.Stmt.{Stmt}
 use Rattle.ppd_ast.specs.declared.program.Var.{Var}
 use Rattle.ppd_ast.specs.declared.program.Program.{Program}
-use Rattle.ppd_ast.specs.declared.plan.Plan.{Plan}
 use Rattle.ppd_ast.specs.declared.plan.Block.{Block}
 use Rattle.ppd_ast.specs.declared.plan.BlockKind.{BlockKind}
 use Rattle.ppd_ast.specs.declared.plan.BlockKind.TheVariants.{Function, Process, Loop}
@@ -19,6 +19,15 @@ use Rattle.ppd_show.specs.Names.{names_text}
 -- the names of the variables that have a cell in the list
 abbrev pub cells_text : List Var → (cells : List ℕ) → List ℕ
 cells_text vars cells = names_text vars (vars_met vars cells)
+
+-- the line of an item, if it is there
+abbrev pub line_if : {A : Type 0} → (A → List ℕ) → Option A → List ℕ
+line_if line None = []
+line_if line (Some x) = line x
+
+-- the lines of a list's items, by number
+abbrev pub lines_of : {A : Type 0} → (ℕ → A → List ℕ) → List A → List ℕ
+lines_of line items = flat_map (λ k. line_if (line k) (slice_get items k)) (range_with_len 0 (length items))
 
 -- ---- blocks
 
@@ -56,13 +65,6 @@ block_line p k b =
     codes "block " ++ decimal k ++ codes " " ++ block_what p b.kind ++ logs_text (block_locals p b.kind) b
     ++ codes "\n"
 
-abbrev pub block_text : Program → (k : ℕ) → Option Block → List ℕ
-block_text p k None = []
-block_text p k (Some b) = block_line p k b
-
-abbrev pub block_at : Program → Plan → (k : ℕ) → List ℕ
-block_at p plan k = block_text p k (slice_get plan.blocks k)
-
 -- ---- units
 
 -- where a unit starts
@@ -77,10 +79,3 @@ abbrev pub unit_line : Program → (k : ℕ) → UnitOf → List ℕ
 unit_line p k u =
     codes "unit " ++ decimal k ++ codes " " ++ start_text p u.start ++ codes " reads" ++ cells_text p.shared u.cells
     ++ codes "\n"
-
-abbrev pub unit_text : Program → (k : ℕ) → Option UnitOf → List ℕ
-unit_text p k None = []
-unit_text p k (Some u) = unit_line p k u
-
-abbrev pub unit_at : Program → Plan → (k : ℕ) → List ℕ
-unit_at p plan k = unit_text p k (slice_get plan.units k)

@@ -1,6 +1,6 @@
 -- The static tables: bodies with what they use and define and their statements, then the blocks and units of a plan.
-use Rattle.std.specs.Prelude.{ℕ, List, [], ◌++◌, Option, Some, None, codes, decimal, length, slice_get, if◌then◌else◌}
-use Rattle.std.specs.List.{flat_map, range_with_len}
+use Rattle.std.specs.Prelude.{ℕ, List, ◌++◌, codes, decimal, slice_get, if◌then◌else◌}
+use Rattle.std.specs.List.{flat_map}
 use Rattle.ppd_ast.specs.declared.program.Stmt.{Stmt}
 use Rattle.ppd_ast.specs.declared.program.Body.{Body}
 use Rattle.ppd_ast.specs.declared.program.Var.{Var}
@@ -11,7 +11,7 @@ use Rattle.ppd_sets.specs.Used.{used_of, defined_of}
 use Rattle.ppd_text.specs.Texts.{place_text}
 use Rattle.ppd_show.specs.Names.{names_text}
 use Rattle.ppd_show.specs.Kinds.{kind_text}
-use Rattle.ppd_show.specs.Plans.{block_at, unit_at}
+use Rattle.ppd_show.specs.Plans.{block_line, line_if, lines_of, unit_line}
 
 -- ---- statements
 
@@ -20,12 +20,8 @@ abbrev pub stmt_line : Program → (s : ℕ) → Stmt → List ℕ
 stmt_line p s x =
     codes "stmt " ++ decimal s ++ codes " " ++ place_text x.place ++ codes " " ++ kind_text p x.kind ++ codes "\n"
 
-abbrev pub stmt_text : Program → (s : ℕ) → Option Stmt → List ℕ
-stmt_text p s None = []
-stmt_text p s (Some x) = stmt_line p s x
-
 abbrev pub stmt_at : Program → (s : ℕ) → List ℕ
-stmt_at p s = stmt_text p s (slice_get p.stmts s)
+stmt_at p s = line_if (stmt_line p s) (slice_get p.stmts s)
 
 -- ---- bodies
 
@@ -46,26 +42,17 @@ abbrev pub body_line : Program → (k : ℕ) → Body → List ℕ
 body_line p k b = codes "body " ++ decimal k ++ codes " " ++ what_text b ++ sets_text p k ++ codes "\n"
 
 -- the line of body k and those of its statements
-abbrev pub body_text : Program → (k : ℕ) → Option Body → List ℕ
-body_text p k None = []
-body_text p k (Some b) = body_line p k b ++ flat_map (stmt_at p) (numbers_of p.stmts b)
+abbrev pub body_lines : Program → (k : ℕ) → Body → List ℕ
+body_lines p k b = body_line p k b ++ flat_map (stmt_at p) (numbers_of p.stmts b)
 
 abbrev pub body_at : Program → (k : ℕ) → List ℕ
-body_at p k = body_text p k (slice_get p.bodies k)
+body_at p k = line_if (body_lines p k) (slice_get p.bodies k)
 
 -- ---- the tables
 
 -- all bodies in order
 abbrev pub bodies_text : Program → List ℕ
-bodies_text p = flat_map (body_at p) (range_with_len 0 (length p.bodies))
-
--- all blocks in order
-abbrev pub blocks_text : Program → Plan → List ℕ
-blocks_text p plan = flat_map (block_at p plan) (range_with_len 0 (length plan.blocks))
-
--- all units in order
-abbrev pub units_text : Program → Plan → List ℕ
-units_text p plan = flat_map (unit_at p plan) (range_with_len 0 (length plan.units))
+bodies_text p = lines_of (body_lines p) p.bodies
 
 abbrev pub table_of : Program → Plan → List ℕ
-table_of p plan = bodies_text p ++ blocks_text p plan ++ units_text p plan
+table_of p plan = bodies_text p ++ lines_of (block_line p) plan.blocks ++ lines_of (unit_line p) plan.units

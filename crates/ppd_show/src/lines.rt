@@ -1,16 +1,16 @@
 // The lines of the tables.
-ghost use Rattle.std.specs.Prelude.{◌≡◌, ◌<◌, ◌++◌, ◌^◌, min, length, OnOk, IfOk, slice_get};
-ghost use Rattle.std.specs.List.{flat_map, range_with_len};
+ghost use Rattle.std.specs.Prelude.{◌≡◌, ◌<◌, ◌++◌, ◌^◌, length, OnOk, IfOk};
+ghost use Rattle.std.specs.List.{flat_map};
 ghost use Rattle.ppd_ast.specs.Numbered.{numbers_of};
 ghost use Rattle.ppd_ast.specs.Valid.{IsValid};
 ghost use Rattle.ppd_sets.specs.SetsOf.{AreSetsOf};
-ghost use Rattle.ppd_show.specs.Table.{what_text, uses_text, sets_text, body_line, stmt_line, stmt_at, body_at, bodies_text, blocks_text, units_text, table_of};
+ghost use Rattle.ppd_show.specs.Table.{what_text, uses_text, sets_text, body_line, body_lines, stmt_line, stmt_at, body_at, bodies_text, table_of};
 
 use crate::kinds::put_kind;
 use crate::names::put_names;
-use crate::plans::{put_blocks, put_units};
+use crate::plans::put_lines;
 use ppd_ast::{Body, Memory, Plan, Program, Stmt, Var};
-use ppd_sets::VarSets;
+use ppd_sets::{VarSets, end_of};
 use ppd_text::{put, put_number, put_place};
 use std::alloc::Global;
 
@@ -37,18 +37,11 @@ pub fn put_stmt_at(text: &mut Vec<u8>, program: &Program, number: u32) -> Result
     }
 }
 
-// The number after the body's last statement that is there.
-fn end_of(program: &Program, body: &Body) -> u32
-    ensures { result ≡ min body.now.end (length program.now.stmts) }
-{
-    (body.end as usize).min(program.stmts.len()) as u32
-}
-
 fn put_stmts(text: &mut Vec<u8>, program: &Program, body: &Body) -> Result<(), Memory>
     ensures { OnOk result
         (text.new.items ≡ text.old.items ++ flat_map (stmt_at program.now) (numbers_of program.now.stmts body.now)) }
 {
-    for number in body.first..end_of(program, body) {
+    for number in body.first..end_of(program.stmts.as_slice(), body) {
         put_stmt_at(text, program, number)?;
     }
     Ok(())
@@ -111,7 +104,7 @@ fn put_body(
 }
 
 // Appends a body's line and those of its statements.
-fn put_lines(
+fn put_body_lines(
     text: &mut Vec<u8>,
     program: &Program,
     sets: &VarSets,
@@ -121,9 +114,7 @@ fn put_lines(
     requires sets { AreSetsOf program.now sets.now }
     requires there { number < length program.now.bodies }
     ensures { OnOk result
-        (text.new.items ≡ text.old.items
-        ++ (body_line program.now number body.now
-        ++ flat_map (stmt_at program.now) (numbers_of program.now.stmts body.now))) }
+        (text.new.items ≡ text.old.items ++ body_lines program.now number body.now) }
 {
     put_body(text, program, sets, number, body)?;
     put_stmts(text, program, body)?;
@@ -141,7 +132,7 @@ fn put_body_at(
     ensures { OnOk result (text.new.items ≡ text.old.items ++ body_at program.now number) }
 {
     match program.bodies.as_slice().get(number as usize) {
-        Some(body) => put_lines(text, program, sets, number, body),
+        Some(body) => put_body_lines(text, program, sets, number, body),
         None => Ok(()),
     }
 }
@@ -175,7 +166,7 @@ pub fn table(
 {
     let mut text = Vec::new(alloc);
     put_bodies(&mut text, program, sets)?;
-    put_blocks(alloc, &mut text, program, plan)?;
-    put_units(alloc, &mut text, program, plan)?;
+    put_lines(&mut text, program, plan.blocks.as_slice())?;
+    put_lines(&mut text, program, plan.units.as_slice())?;
     Ok(text)
 }

@@ -1,5 +1,5 @@
 // The variables that have a cell in a list.
-ghost use Rattle.std.specs.Prelude.{◌≡◌, ◌+◌, ◌++◌, length, OnOk, IfOk};
+ghost use Rattle.std.specs.Prelude.{◌≡◌, ◌+◌, ◌++◌, OnOk, IfOk};
 ghost use Rattle.std.specs.List.{list_any};
 ghost use Rattle.ppd_ast.specs.Cells.{size, after, holds};
 ghost use Rattle.ppd_sets.specs.Used.{vars_met};
@@ -59,14 +59,9 @@ fn vars_met(alloc: Global, vars: &[Var], cells: &[u16]) -> Result<Cells, Memory>
 }
 
 // Appends the names of the variables that have a cell in the list, each after a space, or `-` for none.
-pub(crate) fn put_cells(
-    alloc: Global,
-    text: &mut Vec<u8>,
-    vars: &[Var],
-    cells: &[u16],
-) -> Result<(), Memory>
+pub(crate) fn put_cells(text: &mut Vec<u8>, vars: &[Var], cells: &[u16]) -> Result<(), Memory>
     ensures { OnOk result (text.new.items ≡ text.old.items ++ cells_text vars.now cells.now) }
 {
-    let numbers = vars_met(alloc, vars, cells)?;
+    let numbers = vars_met(*text.allocator(), vars, cells)?;
     put_names(text, vars, numbers.as_slice())
 }

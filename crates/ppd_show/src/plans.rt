@@ -1,15 +1,13 @@
 // The lines of a plan's blocks and units.
-ghost use Rattle.std.specs.Prelude.{◌≡◌, ◌++◌, length, decimal, OnOk, slice_get};
-ghost use Rattle.std.specs.List.{flat_map, range_with_len};
+ghost use Rattle.std.specs.Prelude.{◌≡◌, ◌++◌, ℕ, List, decimal, OnOk, slice_get};
+ghost use Rattle.ppd_ast.specs.declared.program.Program.{Program};
 ghost use Rattle.ppd_ast.specs.Lookups.{locals_of_body, name_of_body};
-ghost use Rattle.ppd_show.specs.Plans.{stmt_place, block_what, locals_round as locals_round_stmt, block_locals as locals_of_block, postlog_text, logs_text, block_line, block_at, start_text, unit_line, unit_at};
-ghost use Rattle.ppd_show.specs.Table.{blocks_text, units_text};
+ghost use Rattle.ppd_show.specs.Plans.{stmt_place, block_what, locals_round as locals_round_stmt, block_locals as locals_of_block, postlog_text, logs_text, block_line, lines_of, start_text, unit_line};
 
 use crate::met::put_cells;
 use crate::names::function_name;
-use ppd_ast::{Block, BlockKind, Memory, Plan, Program, Start, Unit, Var};
+use ppd_ast::{Block, BlockKind, Memory, Program, Start, Unit, Var};
 use ppd_text::{put, put_count, put_number, put_place};
-use std::alloc::Global;
 
 fn put_body(text: &mut Vec<u8>, word: &[u8], program: &Program, body: u16) -> Result<(), Memory>
     ensures { OnOk result
@@ -71,70 +69,44 @@ fn block_locals(program: &Program, kind: BlockKind) -> &[Var]
     }
 }
 
-fn put_postlog(alloc: Global, text: &mut Vec<u8>, vars: &[Var], block: &Block) -> Result<(), Memory>
+fn put_postlog(text: &mut Vec<u8>, vars: &[Var], block: &Block) -> Result<(), Memory>
     ensures { OnOk result (text.new.items ≡ text.old.items ++ postlog_text vars.now block.now) }
 {
     if block.value {
         return put(text, b" value");
     }
-    put_cells(alloc, text, vars, block.postlog.as_slice())
+    put_cells(text, vars, block.postlog.as_slice())
 }
 
 // Appends what the prelog and the postlog of a block hold.
-fn put_logs(alloc: Global, text: &mut Vec<u8>, vars: &[Var], block: &Block) -> Result<(), Memory>
+fn put_logs(text: &mut Vec<u8>, vars: &[Var], block: &Block) -> Result<(), Memory>
     ensures { OnOk result (text.new.items ≡ text.old.items ++ logs_text vars.now block.now) }
 {
     put(text, b" prelog")?;
-    put_cells(alloc, text, vars, block.prelog.as_slice())?;
+    put_cells(text, vars, block.prelog.as_slice())?;
     put(text, b" postlog")?;
-    put_postlog(alloc, text, vars, block)
+    put_postlog(text, vars, block)
 }
 
-fn put_block(
-    alloc: Global,
-    text: &mut Vec<u8>,
-    program: &Program,
-    number: usize,
-    block: &Block,
-) -> Result<(), Memory>
-    ensures { OnOk result (text.new.items ≡ text.old.items ++ block_line program.now number block.now) }
-{
-    put(text, b"block ")?;
-    put_count(text, number)?;
-    put(text, b" ")?;
-    put_block_what(text, program, block.kind)?;
-    put_logs(alloc, text, block_locals(program, block.kind), block)?;
-    put(text, b"\n")
+// What has a line of its own among those of a plan, with its number.
+pub(crate) trait Line {
+    ghost line: { Program → ℕ → Self → List ℕ };
+
+    fn put_line(&self, text: &mut Vec<u8>, program: &Program, number: usize) -> Result<(), Memory>
+        ensures { OnOk result (text.new.items ≡ text.old.items ++ line program.now number self.now) };
 }
 
-fn put_block_at(
-    alloc: Global,
-    text: &mut Vec<u8>,
-    program: &Program,
-    plan: &Plan,
-    number: usize,
-) -> Result<(), Memory>
-    ensures { OnOk result (text.new.items ≡ text.old.items ++ block_at program.now plan.now number) }
-{
-    match plan.blocks.as_slice().get(number) {
-        Some(block) => put_block(alloc, text, program, number, block),
-        None => Ok(()),
+impl Line for Block {
+    ghost line = { block_line };
+
+    fn put_line(&self, text: &mut Vec<u8>, program: &Program, number: usize) -> Result<(), Memory> {
+        put(text, b"block ")?;
+        put_count(text, number)?;
+        put(text, b" ")?;
+        put_block_what(text, program, self.kind)?;
+        put_logs(text, block_locals(program, self.kind), self)?;
+        put(text, b"\n")
     }
-}
-
-/// Appends the lines of all blocks.
-pub(crate) fn put_blocks(
-    alloc: Global,
-    text: &mut Vec<u8>,
-    program: &Program,
-    plan: &Plan,
-) -> Result<(), Memory>
-    ensures { OnOk result (text.new.items ≡ text.old.items ++ blocks_text program.now plan.now) }
-{
-    for number in 0..plan.blocks.len() {
-        put_block_at(alloc, text, program, plan, number)?;
-    }
-    Ok(())
 }
 
 // Appends where a unit starts.
@@ -156,55 +128,30 @@ fn put_numbered(text: &mut Vec<u8>, word: &[u8], number: u32) -> Result<(), Memo
     put_number(text, number)
 }
 
-fn put_unit(
-    alloc: Global,
-    text: &mut Vec<u8>,
-    program: &Program,
-    number: usize,
-    unit: &Unit,
-) -> Result<(), Memory>
-    ensures { OnOk result (text.new.items ≡ text.old.items ++ unit_line program.now number unit.now) }
-{
-    put(text, b"unit ")?;
-    put_count(text, number)?;
-    put(text, b" ")?;
-    put_start(text, program, unit.start)?;
-    put(text, b" reads")?;
-    put_cells(
-        alloc,
-        text,
-        program.shared.as_slice(),
-        unit.cells.as_slice(),
-    )?;
-    put(text, b"\n")
-}
+impl Line for Unit {
+    ghost line = { unit_line };
 
-fn put_unit_at(
-    alloc: Global,
-    text: &mut Vec<u8>,
-    program: &Program,
-    plan: &Plan,
-    number: usize,
-) -> Result<(), Memory>
-    ensures { OnOk result (text.new.items ≡ text.old.items ++ unit_at program.now plan.now number) }
-{
-    match plan.units.as_slice().get(number) {
-        Some(unit) => put_unit(alloc, text, program, number, unit),
-        None => Ok(()),
+    fn put_line(&self, text: &mut Vec<u8>, program: &Program, number: usize) -> Result<(), Memory> {
+        put(text, b"unit ")?;
+        put_count(text, number)?;
+        put(text, b" ")?;
+        put_start(text, program, self.start)?;
+        put(text, b" reads")?;
+        put_cells(text, program.shared.as_slice(), self.cells.as_slice())?;
+        put(text, b"\n")
     }
 }
 
-/// Appends the lines of all units.
-pub(crate) fn put_units(
-    alloc: Global,
+// Appends the lines of these items, whose numbers are their places.
+pub(crate) fn put_lines<T: Line>(
     text: &mut Vec<u8>,
     program: &Program,
-    plan: &Plan,
+    items: &[T],
 ) -> Result<(), Memory>
-    ensures { OnOk result (text.new.items ≡ text.old.items ++ units_text program.now plan.now) }
+    ensures { OnOk result (text.new.items ≡ text.old.items ++ lines_of (T.line program.now) items.now) }
 {
-    for number in 0..plan.units.len() {
-        put_unit_at(alloc, text, program, plan, number)?;
+    for number in 0..items.len() {
+        items[number].put_line(text, program, number)?;
     }
     Ok(())
 }

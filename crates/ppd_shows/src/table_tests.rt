@@ -1,6 +1,6 @@
-use ppd_io::{FreeGate, MemoryShelf, MemorySink, MemorySource};
-use ppd_top::ppd;
-use std::alloc::{AllocError, Global};
+use ppd_trials::{Devices, Trial};
+use std::alloc::Global;
+use std::process::Abort;
 use std::sync::Wait;
 use std::test::Fail;
 use std::thread::Threads;
@@ -236,38 +236,40 @@ const ROOM: usize = 2_048;
 
 const USAGE: Written = ["usage: ppd flow|run|debug|show|drill\n", ""];
 
-// What the top call answers for these words over a shelf that holds a source as `row.c`, and a sink of
-// this room: the status, the length of the schedule, and the bytes.
+// What the top call answers for these words over a shelf that holds a source as `row.c`, and an output of this room.
 fn call<R: Threads + Wait + Sync>(
     rt: &R,
     alloc: Global,
     words: &[&str],
     source: &str,
     room: usize,
-) -> Result<(u8, usize, Vec<u8>), Fail> {
-    let mut shelf = MemoryShelf::new(alloc, Vec::new(alloc));
-    if shelf.put("row.c", source.as_bytes()).is_err() {
-        return Err(Fail::new("no answer"));
-    }
-    let mut input = MemorySource::new(Vec::new(alloc), 1, Vec::new(alloc));
-    let Ok(mut output) = MemorySink::new(alloc, room, Vec::new(alloc)) else {
-        return Err(Fail::new("no answer"));
+) -> Result<Trial, Fail> {
+    let devices = Devices {
+        room,
+        ..Devices::with("row.c", source.as_bytes())
     };
-    let outcome = ppd(
-        rt,
-        alloc,
-        words,
-        &mut shelf,
-        &mut input,
-        &mut output,
-        &FreeGate,
-    );
-    let bytes = Vec::from_slice(alloc, output.bytes())?;
-    Ok((outcome.status, outcome.schedule.len(), bytes))
+    devices.call(rt, alloc, words)
 }
 
-fn whole(alloc: Global, [first, rest]: Written) -> Result<String, AllocError> {
-    format!(in alloc; "{first}{rest}")
+// Asserts what is written for these words, with which status and without a schedule.
+fn check<R: Abort + Threads + Wait + Sync>(
+    rt: &R,
+    alloc: Global,
+    words: &[&str],
+    source: &str,
+    status: u8,
+    [first, rest]: Written,
+) -> Result<(), Fail> {
+    let text = format!(in alloc; "{first}{rest}")?;
+    let trial = call(rt, alloc, words, source, ROOM)?;
+    assert_eq!(rt; trial.status, status, "{words:?} {source}");
+    assert_eq!(rt; trial.schedule.len(), 0, "{words:?} {source}");
+    assert_eq!(rt;
+        trial.text.as_slice(),
+        text.as_bytes(),
+        "{words:?} {source}"
+    );
+    Ok(())
 }
 
 #[test]
@@ -279,14 +281,7 @@ fn tables_are_written_byte_for_byte(rt: HostRuntime) -> Result<(), Fail> {
         (RENDEZVOUS, 0, RENDEZVOUS_TABLE),
         ("", 1, ["refused check 7 NoProcess 1:1\n", ""]),
     ] {
-        let (found, steps, bytes) = call(&rt, alloc, &["show", "row.c"], source, ROOM)?;
-        assert_eq!(rt; found, status, "{source}");
-        assert_eq!(rt; steps, 0, "{source}");
-        assert_eq!(rt;
-            bytes.as_slice(),
-            whole(alloc, text)?.as_bytes(),
-            "{source}"
-        );
+        check(&rt, alloc, &["show", "row.c"], source, status, text)?;
     }
     Ok(())
 }
@@ -314,14 +309,7 @@ fn tables_are_of_the_policy(rt: HostRuntime) -> Result<(), Fail> {
         let mut words = Vec::from_slice(alloc, &["show"])?;
         words.extend_from_slice(options)?;
         words.push("row.c")?;
-        let (found, steps, bytes) = call(&rt, alloc, &words, source, ROOM)?;
-        assert_eq!(rt; found, 0, "{words:?}");
-        assert_eq!(rt; steps, 0, "{words:?}");
-        assert_eq!(rt;
-            bytes.as_slice(),
-            whole(alloc, text)?.as_bytes(),
-            "{words:?}"
-        );
+        check(&rt, alloc, &words, source, 0, text)?;
     }
     Ok(())
 }
@@ -329,11 +317,11 @@ fn tables_are_of_the_policy(rt: HostRuntime) -> Result<(), Fail> {
 #[test]
 fn a_table_that_does_not_fit_is_cut_off(rt: HostRuntime) -> Result<(), Fail> {
     let alloc = rt.alloc();
-    let (status, steps, bytes) = call(&rt, alloc, &["show", "row.c"], CALLEE_WRITE, 40)?;
-    assert_eq!(rt; status, 4);
-    assert_eq!(rt; steps, 0);
+    let trial = call(&rt, alloc, &["show", "row.c"], CALLEE_WRITE, 40)?;
+    assert_eq!(rt; trial.status, 4);
+    assert_eq!(rt; trial.schedule.len(), 0);
     let begun = "body 0 function f used - defined x\nstmt ";
-    assert_eq!(rt; bytes.as_slice(), begun.as_bytes());
+    assert_eq!(rt; trial.text.as_slice(), begun.as_bytes());
     Ok(())
 }
 
@@ -361,14 +349,7 @@ fn show_has_the_options_of_a_policy_alone(rt: HostRuntime) -> Result<(), Fail> {
         (&["show", "-"], 3, ["", ""]),
     ];
     for (words, status, text) in rows {
-        let (found, steps, bytes) = call(&rt, alloc, words, CALLEE_WRITE, ROOM)?;
-        assert_eq!(rt; found, status, "{words:?}");
-        assert_eq!(rt; steps, 0, "{words:?}");
-        assert_eq!(rt;
-            bytes.as_slice(),
-            whole(alloc, text)?.as_bytes(),
-            "{words:?}"
-        );
+        check(&rt, alloc, words, CALLEE_WRITE, status, text)?;
     }
     Ok(())
 }

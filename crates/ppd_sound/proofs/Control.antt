@@ -76,10 +76,6 @@ no_choice k h = absurd (true≢false (sym h))
 call_edge : (p : Program) (s : ℕ) → is_call (kind_of p s) ≡ true → control_edge p s ≡ ControlEntry
 call_edge p s is = cond-false (is_choice (kind_of p s)) (Control s) ControlEntry (no_choice (kind_of p s) is)
 
-loop_choice : (k : Kind) → is_while k ≡ true → is_choice k ≡ true
-loop_choice (While e body) h = refl
-loop_choice k h = absurd (true≢false (sym h))
-
 -- a test is of its statement, which is one of choice
 record Tests (program : Program) (s : ℕ) (todo : List Todo) : Type 0 where
   head : Todo

@@ -32,11 +32,6 @@ count_more c x vs =
     let e : count_by (holds c) (x ∷ vs) ≡ (0 + one_if (holds c x)) + count_by (holds c) vs = sum_by-append (λ y. cond (holds c y) 1 0) (x ∷ []) vs in
     omega arith
 
-total_none : (n : ℕ) → total n [] ≡ 0
-unfolding total
-total_none zero = refl
-total_none (suc n) = let e : total n [] ≡ 0 = total_none n in let z : count_by (holds n) [] ≡ 0 = refl in omega arith
-
 total_more : (n : ℕ) (x : Var) (vs : List Var) → total n (x ∷ vs) ≡ hits n x + total n vs
 unfolding total hits
 total_more zero x vs = refl

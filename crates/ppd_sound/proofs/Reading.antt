@@ -153,10 +153,6 @@ abbrev same_cell : Spot → ℕ
 same_cell (Local frame c) = c
 same_cell (Shared c) = c
 
-abbrev is_local : Spot → Bool
-is_local (Local frame c) = true
-is_local (Shared c) = false
-
 of_local : (es : List Expr) (k : Kind) (frame c : ℕ) → IsTrue (has (reads false es k) c) → MayRead es k (Local frame c)
 of_local es k frame c h = record { local_cell = λ f d e. subst (λ x. IsTrue (has (reads false es k) x)) (ap same_cell e) h; shared_cell = λ d e. absurd (cc) }
 

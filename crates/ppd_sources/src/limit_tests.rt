@@ -1,4 +1,4 @@
-use crate::told::told;
+use crate::told::{check_told, told};
 use std::alloc::{AllocError, Global};
 use std::test::Fail;
 
@@ -57,7 +57,7 @@ fn statements_at_their_limit(rt: HostRuntime) -> Result<(), Fail> {
 #[test]
 fn cells_at_their_limits(rt: HostRuntime) -> Result<(), Fail> {
     let alloc = rt.alloc();
-    for (source, wanted) in [
+    let rows = [
         ("shared int b[1024]; process a { }", "accepted"),
         (
             "shared int b[1023], x, y; process a { }",
@@ -82,9 +82,6 @@ fn cells_at_their_limits(rt: HostRuntime) -> Result<(), Fail> {
             "int f() { int b[256]; return f(); } process a { }",
             "TooMany 1:23 Locals",
         ),
-    ] {
-        let found = told(alloc, source)?;
-        assert_eq!(rt; found.as_str(), wanted, "{source}");
-    }
-    Ok(())
+    ];
+    check_told(&rt, alloc, &rows)
 }

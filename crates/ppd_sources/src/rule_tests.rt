@@ -1,10 +1,10 @@
-use crate::told::told;
+use crate::told::{check_told, told};
 use std::test::Fail;
 
 #[test]
 fn each_rule_at_its_place(rt: HostRuntime) -> Result<(), Fail> {
     let alloc = rt.alloc();
-    for (source, wanted) in [
+    let rows = [
         ("shared int x, x; process a { }", "Twice 1:15"),
         ("process a { int x; int x; }", "Twice 1:24"),
         ("void f(int n, int n) { } process a { }", "Twice 1:19"),
@@ -51,11 +51,8 @@ fn each_rule_at_its_place(rt: HostRuntime) -> Result<(), Fail> {
         ("process a { int b[0]; }", "BadSize 1:19"),
         ("chan c[65]; process a { }", "BadSize 1:8"),
         ("sem s = 65536; process a { }", "BadSize 1:9"),
-    ] {
-        let found = told(alloc, source)?;
-        assert_eq!(rt; found.as_str(), wanted, "{source}");
-    }
-    Ok(())
+    ];
+    check_told(&rt, alloc, &rows)
 }
 
 #[test]
@@ -86,7 +83,7 @@ fn what_breaks_no_rule(rt: HostRuntime) -> Result<(), Fail> {
 #[test]
 fn first_of_two_broken_rules(rt: HostRuntime) -> Result<(), Fail> {
     let alloc = rt.alloc();
-    for (source, wanted) in [
+    let rows = [
         ("sem s; process a { s = 1; y = 1; }", "WrongKind 1:20"),
         ("sem s; process a { y = 1; s = 1; }", "Unknown 1:20"),
         (
@@ -100,17 +97,14 @@ fn first_of_two_broken_rules(rt: HostRuntime) -> Result<(), Fail> {
         ("shared int b[1025]; process a { }", "TooMany 1:12 Shared"),
         ("int f() { y = 1; } process a { y = 1; }", "Unknown 1:11"),
         ("process a { y = 1; } int f() { }", "Unknown 1:13"),
-    ] {
-        let found = told(alloc, source)?;
-        assert_eq!(rt; found.as_str(), wanted, "{source}");
-    }
-    Ok(())
+    ];
+    check_told(&rt, alloc, &rows)
 }
 
 #[test]
 fn names_out_of_sight(rt: HostRuntime) -> Result<(), Fail> {
     let alloc = rt.alloc();
-    for (source, wanted) in [
+    let rows = [
         ("process a { { int x; } print(x); }", "Unknown 1:30"),
         (
             "process a { for (int i = 0; ; ) ; print(i); }",
@@ -120,11 +114,8 @@ fn names_out_of_sight(rt: HostRuntime) -> Result<(), Fail> {
         ("void f(int n) { int n; } process a { }", "Twice 1:21"),
         ("void f(int n) { } process a { print(n); }", "Unknown 1:37"),
         ("sem s; process a { int s; P(s); }", "WrongKind 1:29"),
-    ] {
-        let found = told(alloc, source)?;
-        assert_eq!(rt; found.as_str(), wanted, "{source}");
-    }
-    Ok(())
+    ];
+    check_told(&rt, alloc, &rows)
 }
 
 #[test]
@@ -134,7 +125,7 @@ fn refused_sources(rt: HostRuntime) -> Result<(), Fail> {
     for _ in 0..65u32 {
         deep.push_str("{")?;
     }
-    for (source, wanted) in [
+    let rows = [
         (deep.as_str(), "syntax Deep(Place { line: 1, column: 75 })"),
         (
             "process a { print(9223372036854775808); }",
@@ -148,9 +139,6 @@ fn refused_sources(rt: HostRuntime) -> Result<(), Fail> {
             "process a { y = 1; } process { }",
             "syntax Unexpected(Place { line: 1, column: 30 })",
         ),
-    ] {
-        let found = told(alloc, source)?;
-        assert_eq!(rt; found.as_str(), wanted, "{source}");
-    }
-    Ok(())
+    ];
+    check_told(&rt, alloc, &rows)
 }

@@ -3,6 +3,8 @@
 use ppd_ast::{Body, Kind, Place, Program, Stmt, Var};
 use ppd_check::{CheckError, SourceError, read_source};
 use std::alloc::{AllocError, Global};
+use std::process::Abort;
+use std::test::Fail;
 
 // Numbers with blanks between them.
 fn list(alloc: Global, ids: &[u32]) -> Result<String, AllocError> {
@@ -171,4 +173,13 @@ pub fn told(alloc: Global, source: &str) -> Result<String, AllocError> {
         Err(SourceError::Check(error)) => refusal(alloc, error),
         Err(SourceError::Memory) => format!(in alloc; "memory"),
     }
+}
+
+// Asserts what comes of each source.
+pub fn check_told(rt: &impl Abort, alloc: Global, rows: &[(&str, &str)]) -> Result<(), Fail> {
+    for (source, wanted) in rows {
+        let found = told(alloc, source)?;
+        assert_eq!(rt; found.as_str(), *wanted, "{source}");
+    }
+    Ok(())
 }

@@ -5,7 +5,7 @@ use Rattle.std.specs.Prelude.{⊤, slice_get, fold}
 use Rattle.ppd_ast.specs.declared.plan.Plan.{Plan}
 use Rattle.ppd_ast.specs.declared.program.Program.{Program}
 use Rattle.ppd_sem.specs.declared.proc.Need.{Need}
-use Rattle.ppd_sem.specs.declared.proc.Need.TheVariants.{Read, Write, Plain, Enter, Leave, Invoke, Back, P, V, Send, Offer, Done, Recv, End, Trap, Budget, Stopped}
+use Rattle.ppd_sem.specs.declared.proc.Need.TheVariants.{Read, Budget, Stopped}
 use Rattle.ppd_sem.specs.Described.{is_event}
 use Rattle.ppd_model.specs.declared.trace.TracedEvent.{TracedEvent}
 use Rattle.ppd_model.specs.declared.tracing.Story.{Story}
@@ -34,23 +34,9 @@ body true x = innermost (with_part (own (length x.trace.events))) (innermost ste
 body false x = innermost step_gain x
 
 pub body_is : (n : Need) (x : Split) → IsOwnStep n → with_own n (with_step n x) ≡ body (is_event n) x
-body_is (Read c) x o = refl
-body_is (Write c v) x o = refl
-body_is Plain x o = refl
-body_is (Enter b u) x o = refl
-body_is (Leave b u) x o = refl
-body_is (Invoke b u) x o = refl
-body_is (Back b u) x o = refl
-body_is (P k u) x o = refl
-body_is (V k u) x o = refl
-body_is (Send c v u) x o = refl
-body_is (Offer c v) x o = refl
-body_is (Done c u) x o = refl
-body_is (Recv c u) x o = refl
-body_is (End b) x o = refl
-body_is (Trap t) x o = refl
 body_is Budget x o = absurd o
 body_is Stopped x o = absurd o
+body_is n x o = refl
 
 pub body_own : (b : Bool) (x : Split) (k : ℕ) (i : Span) → SpanAt x.spans x.running None k i → SpanAt (body b x).spans (body b x).running None k (gain b (length x.trace.events) i)
 body_own false x k i a = change_own step_gain (λ m j. refl) x.spans x.running k i a
@@ -87,22 +73,7 @@ module _ (program : Program) (plan : Plan) (story : Story) (p : ℕ) where
 
   pub events_are : (n : Need) (x : Taken) (t : Tracing) → (trace_by program plan story p x n t).events ≡ events_by (is_event n) x t
   events_are (Read c) x t = refl
-  events_are (Write c v) x t = refl
-  events_are Plain x t = refl
-  events_are (Enter b u) x t = refl
-  events_are (Leave b u) x t = refl
-  events_are (Invoke b u) x t = refl
-  events_are (Back b u) x t = refl
-  events_are (P k u) x t = refl
-  events_are (V k u) x t = refl
-  events_are (Send c v u) x t = refl
-  events_are (Offer c v) x t = refl
-  events_are (Done c u) x t = refl
-  events_are (Recv c u) x t = refl
-  events_are (End b) x t = refl
-  events_are (Trap k) x t = refl
-  events_are Budget x t = refl
-  events_are Stopped x t = refl
+  events_are n x t = refl
 
   keeps_by : (b : Bool) (x : Taken) (t : Tracing) (e : ℕ) (v : TracedEvent) → slice_get t.events e ≡ Some v → slice_get (events_by b x t) e ≡ Some v
   keeps_by true x t e v h = put_there t.events (event_at x t) e v h

@@ -67,10 +67,6 @@ in_alike v w n [] level m b k f e h = absurd h
 in_alike v w n (j ∷ ks) zero m b k f e h = (h.0, e j f.0 ∙ h.1, h.2)
 in_alike v w n (j ∷ ks) (suc level) m b k f e h = in_alike v w j ks level m b k f.1 (λ l q. e l (omega (arith, q, f.0))) h
 
-pub at_alike : (v w : ℕ → List Item) (n : ℕ) (ks : List ℕ) (i : Option Inner) (k : ℕ) → Falls n ks → ((j : ℕ) → j < n → w j ≡ v j) → RunsAt v ks i k → RunsAt w ks i k
-at_alike v w n ks None k f e h = h
-at_alike v w n ks (Some i) k f e h = in_alike v w n ks i.level i.interval i.block k f e h
-
 pub other_head : (v : ℕ → List Item) (n j : ℕ) (ks : List ℕ) (level m b k : ℕ) → Falls n (j ∷ ks) → RunsIn v (j ∷ ks) level m b k → j ≡ k → ⊥
 other_head v n j ks zero m b k f h e = let z : k < j = next_below j ks k f.1 h.2 in omega (arith, z, e)
 other_head v n j ks (suc level) m b k f h e = let z : k < j = in_below v j ks level m b k f.1 h in omega (arith, z, e)

@@ -5,7 +5,7 @@ use Rattle.std.proofs.Common.{◌≡◌, ℕ, ◌<◌, List, [], ◌∷◌, fals
 use Rattle.ppd_io.specs.Causes.{Rose}
 use Rattle.ppd_io.specs.Content.{Appends, StoreFails}
 use Rattle.ppd_top.specs.declared.options.Options.{Options}
-use Rattle.ppd_top.specs.Ran.{Around, Comes}
+use Rattle.ppd_top.specs.Ran.{Around, Comes, LeftShelf}
 use Rattle.ppd_top.specs.Ran.Comes.{not_asked, no_memory, not_loaded, refusal, flow_done, show_done, run_done, recording_not_loaded, debug_done, drill_done}
 use Rattle.ppd_top.specs.Top.{AnswersCutOff, DrillCutOff, Finished, InputFailed, IsPromised, IsPromisedAnswers, IsPromisedDrill, LinesFailed, LoadFailed, MemoryRanOut, RanWhole, RecordingUnread, ReplayRefused, StoreFailed, WasAnswered, WasCutOff, WasDrilled, WasNotAsked, WasNotDrilled, WasNotRecalled, WasNotStored, WasRefused, WasShown, WasStored, WriteFailed, usage}
 use Rattle.ppd_top.specs.Top.Writes.{for_words}
@@ -202,29 +202,23 @@ module _ (words : List (Bor (List ℕ))) (x y : Around) (schedule : List ℕ) (s
   not_kept name recording options asks h (inr (inr (inl e))) = other_than 3 status (0 ∷ 4 ∷ 5 ∷ []) refl e h
   not_kept name recording options asks h (inr (inr (inr none))) = none name recording options asks
 
+  leaves_shelf : Comes words x y schedule status → (status ≡ 1) ⊎ ((status ≡ 2) ⊎ ((status ≡ 3) ⊎ ((name recording : List ℕ) (options : Options) → Asks words (Run recording) name options → ⊥))) → LeftShelf x y
+  leaves_shelf (not_asked none left empty same f) e = left
+  leaves_shelf (no_memory is left none) e = left
+  leaves_shelf (not_loaded command name options asks left is rose none) e = left
+  leaves_shelf (refusal command name options bytes error asks loads cause left empty same r) e = left
+  leaves_shelf (flow_done name options bytes program asks loads read left d) e = left
+  leaves_shelf (show_done name options bytes program asks loads read left same d) e = left
+  leaves_shelf (run_done name recording options bytes program asks loads read same d) e = absurd (not_kept name recording options asks (run_any words name recording options bytes program x y schedule status asks loads read d) e)
+  leaves_shelf (recording_not_loaded name asks left is rose none) e = left
+  leaves_shelf (debug_done name bytes asks loads left empty d) e = left
+  leaves_shelf (drill_done number asks left same d) e = left
+
   pub keeps_shelf : Comes words x y schedule status → (status ≡ 1) ⊎ ((status ≡ 2) ⊎ ((status ≡ 3) ⊎ ((name recording : List ℕ) (options : Options) → Asks words (Run recording) name options → ⊥))) → y.held ≡ x.held
-  keeps_shelf (not_asked none left empty same f) e = left.held
-  keeps_shelf (no_memory is left none) e = left.held
-  keeps_shelf (not_loaded command name options asks left is rose none) e = left.held
-  keeps_shelf (refusal command name options bytes error asks loads cause left empty same r) e = left.held
-  keeps_shelf (flow_done name options bytes program asks loads read left d) e = left.held
-  keeps_shelf (show_done name options bytes program asks loads read left same d) e = left.held
-  keeps_shelf (run_done name recording options bytes program asks loads read same d) e = absurd (not_kept name recording options asks (run_any words name recording options bytes program x y schedule status asks loads read d) e)
-  keeps_shelf (recording_not_loaded name asks left is rose none) e = left.held
-  keeps_shelf (debug_done name bytes asks loads left empty d) e = left.held
-  keeps_shelf (drill_done number asks left same d) e = left.held
+  keeps_shelf c e = (leaves_shelf c e).held
 
   pub keeps_stores : Comes words x y schedule status → (status ≡ 1) ⊎ ((status ≡ 2) ⊎ ((status ≡ 3) ⊎ ((name recording : List ℕ) (options : Options) → Asks words (Run recording) name options → ⊥))) → (n : List ℕ) → y.stores n ≡ x.stores n
-  keeps_stores (not_asked none left empty same f) e = left.stores
-  keeps_stores (no_memory is left none) e = left.stores
-  keeps_stores (not_loaded command name options asks left is rose none) e = left.stores
-  keeps_stores (refusal command name options bytes error asks loads cause left empty same r) e = left.stores
-  keeps_stores (flow_done name options bytes program asks loads read left d) e = left.stores
-  keeps_stores (show_done name options bytes program asks loads read left same d) e = left.stores
-  keeps_stores (run_done name recording options bytes program asks loads read same d) e = absurd (not_kept name recording options asks (run_any words name recording options bytes program x y schedule status asks loads read d) e)
-  keeps_stores (recording_not_loaded name asks left is rose none) e = left.stores
-  keeps_stores (debug_done name bytes asks loads left empty d) e = left.stores
-  keeps_stores (drill_done number asks left same d) e = left.stores
+  keeps_stores c e = (leaves_shelf c e).stores
 
   pub keeps_others : Comes words x y schedule status → (name recording : List ℕ) (options : Options) → Asks words (Run recording) name options → StoreFails x.held y.held recording
   keeps_others (not_asked none left empty same f) = λ n r o asked. others_same x.held y.held r left.held

@@ -17,7 +17,7 @@ use Rattle.ppd_top.specs.declared.options.Options.{Options}
 use Rattle.ppd_top.specs.Output.{AreCommands, Output, Standing, output}
 use Rattle.ppd_top.specs.Ran.{DidNothing, Flows, Refuses, Shows, WasTold}
 use Rattle.ppd_top.specs.Refusals.{refused}
-use Rattle.ppd_top.specs.Top.{most_bytes, known_of, out_of, plan_of, summary_of_run, Answers, Writes, Finished, InputFailed, IsFineInput, IsPromised, MemoryRanOut, RanWhole, WasCutOff, WasRefused, WasShown, WriteFailed}
+use Rattle.ppd_top.specs.Top.{most_bytes, known_of, out_of, plan_of, summary_of_run, Answers, Writes, Finished, InputFailed, IsFineInput, IsPromised, MemoryRanOut, RanWhole, WasCutOff, WasRead, WasRefused, WasShown, WriteFailed}
 use Rattle.ppd_top.specs.Top.Answers.{refusal, run, tables}
 use Rattle.ppd_top.specs.Top.Writes.{for_source}
 use Rattle.ppd_words.specs.Reads.{texts_in}
@@ -108,6 +108,9 @@ refused_any error a b result (inr (real, inr h)) = inr (inl h.0)
 
 -- a command on a loaded source
 module _ (words : List (Bor (List ℕ))) (held : Option (List ℕ → Option (List ℕ))) (name : List ℕ) (options : Options) (bytes : List ℕ) (loads : Loads held name most_bytes bytes) where
+  abbrev pub was_read : (command : Command) → Asks words command name options → (program : Program) → IsRead bytes program → WasRead words held command
+  was_read command asks program accepted = record { name = name; options = options; bytes = bytes; program = program; asked = asks; loaded = loads; accepted = accepted }
+
   -- a source that is promised is accepted
   accepted_as : (command : Command) (l m s t : List ℕ → ℕ) (a b : Standing) → Asks words command name options → (p : IsPromised words held l m s t a b) → IsRead bytes p.program
   accepted_as command l m s t a b asked p =
@@ -150,14 +153,8 @@ module _ (words : List (Bor (List ℕ))) (held : Option (List ℕ → Option (Li
     whole_as t e =
         let w = talks_whole (known_of program options schedule) (summary_of_run program options schedule) a b result t.talks (inl e) in
         record {
-          name = name;
-          options = options;
-          bytes = bytes;
-          program = program;
+          read = was_read Flow asked program accepted;
           commands = w.commands;
-          asked = asked;
-          loaded = loads;
-          accepted = accepted;
           whole = t.whole;
           told = w.told;
           unread = w.unread;
@@ -172,7 +169,7 @@ module _ (words : List (Bor (List ℕ))) (held : Option (List ℕ → Option (Li
 
     pub flow_broken : Flows program options schedule a b result → result ≡ 3 → InputFailed words held schedule a b
     flow_broken (inl h) is = absurd (omega (arith, h.0))
-    flow_broken (inr t) is = record { name = name; options = options; bytes = bytes; program = program; asked = asked; loaded = loads; accepted = accepted; whole = t.whole; broken = talks_broken (known_of program options schedule) (summary_of_run program options schedule) a b result t.talks is }
+    flow_broken (inr t) is = record { read = was_read Flow asked program accepted; whole = t.whole; broken = talks_broken (known_of program options schedule) (summary_of_run program options schedule) a b result t.talks is }
 
     pub flow_unwritten : Flows program options schedule a b result → result ≡ 4 → WriteFailed words held schedule a b
     flow_unwritten (inl h) is = absurd (omega (arith, h.0))
@@ -191,7 +188,7 @@ module _ (words : List (Bor (List ℕ))) (held : Option (List ℕ → Option (Li
     flow_out now kept (inl h) is = inl (record { kept = kept; no_run = h.1.no_run; written = h.1.written })
     flow_out now kept (inr t) is =
         let c = talks_cut_off (known_of program options schedule) (summary_of_run program options schedule) a b result t.talks is in
-        inr (record { name = name; options = options; bytes = bytes; program = program; commands = c.commands; asked = asked; loaded = loads; accepted = accepted; whole = t.whole; told = c.told; written = c.written })
+        inr (record { read = was_read Flow asked program accepted; commands = c.commands; whole = t.whole; told = c.told; written = c.written })
 
     pub flow_any : Flows program options schedule a b result → IsIn result (0 ∷ 7 ∷ 8 ∷ 3 ∷ 4 ∷ 5 ∷ [])
     flow_any f = flows_in program options schedule a b result f
@@ -207,7 +204,7 @@ module _ (words : List (Bor (List ℕ))) (held : Option (List ℕ → Option (Li
   module _ (asked : Asks words Show name options) (program : Program) (accepted : IsRead bytes program) (schedule : List ℕ) (a b : Standing) (result : ℕ) where
     pub show_done : Shows program options schedule a b result → result ≡ 0 → WasShown words held schedule a.written b.written
     show_done (inl h) is = absurd (omega (arith, h.0))
-    show_done (inr (none, inl h)) is = record { name = name; options = options; bytes = bytes; program = program; asked = asked; loaded = loads; accepted = accepted; no_run = none; written = h.1 }
+    show_done (inr (none, inl h)) is = record { read = was_read Show asked program accepted; no_run = none; written = h.1 }
     show_done (inr (none, inr h)) is = absurd (omega (arith, h.0))
 
     pub show_unwritten : b.left ≡ a.left → Shows program options schedule a b result → result ≡ 4 → WriteFailed words held schedule a b

@@ -10,13 +10,13 @@ use Rattle.ppd_top.specs.declared.options.Options.{Options}
 use Rattle.ppd_top.specs.Output.{output}
 use Rattle.ppd_top.specs.Ran.{Around, Keeping, Keeps, KeptNothing, Records, WasRecorded, kept_in}
 use Rattle.ppd_top.specs.Ran.Keeps.{not_kept, store_failed, kept}
-use Rattle.ppd_top.specs.Top.{IsPromised, IsRecordingOfRun, MemoryRanOut, StoreFailed, WasNotStored, WasStored, WriteFailed, most_bytes, summary_of_run}
+use Rattle.ppd_top.specs.Top.{IsPromised, IsRecordingOfRun, MemoryRanOut, StoreFailed, WasNotStored, WasRead, WasStored, WriteFailed, most_bytes, summary_of_run}
 use Rattle.ppd_top.specs.Top.Answers.{stored}
 use Rattle.ppd_top.specs.Top.Writes.{for_source}
 use Rattle.ppd_top.specs.Words.{Asks}
 use Rattle.ppd_top.specs.Words.Command.{Run}
 use Rattle.ppd_top.proofs.Conversing.{same_input}
-use Rattle.ppd_top.proofs.Outcomes.{one_command, write_failed}
+use Rattle.ppd_top.proofs.Outcomes.{one_command, was_read, write_failed}
 use Rattle.ppd_top.proofs.Statuses.{IsIn}
 
 -- a shelf that is left as it was holds the other names as before
@@ -28,6 +28,9 @@ pub others_same : (held now : Option (List ℕ → Option (List ℕ))) (name : L
 others_same held now name e = subst (λ h. StoreFails held h name) (sym e) (same_others held name)
 
 module _ (words : List (Bor (List ℕ))) (name recording : List ℕ) (options : Options) (bytes : List ℕ) (program : Program) (x y : Around) (schedule : List ℕ) (status : ℕ) (asks : Asks words (Run recording) name options) (loads : Loads x.held name most_bytes bytes) (accepted : IsRead bytes program) where
+  abbrev read : WasRead words x.held (Run recording)
+  read = was_read words x.held name options bytes loads (Run recording) asks program accepted
+
   keeps_any : Keeps (IsRecordingOfRun bytes program options schedule) recording (summary_of_run program options schedule) (kept_in x) (kept_in y) status → IsIn status (0 ∷ 4 ∷ 5 ∷ [])
   keeps_any (not_kept is others written) = inr (inr (inl is))
   keeps_any (store_failed is rose others written) = inr (inl is)
@@ -55,15 +58,9 @@ module _ (words : List (Bor (List ℕ))) (name recording : List ℕ) (options : 
       by (not_kept is others written) = absurd (omega arith)
       by (store_failed is rose others written) = absurd (omega arith)
       by (kept b of s others (inl h)) = record {
-        name = name;
         recording = recording;
-        options = options;
-        bytes = bytes;
-        program = program;
+        read = read;
         stored = b;
-        asked = asks;
-        loaded = loads;
-        accepted = accepted;
         whole = r.whole;
         is = of;
         kept = s;
@@ -80,14 +77,8 @@ module _ (words : List (Bor (List ℕ))) (name recording : List ℕ) (options : 
           → WriteFailed words x.held schedule x.io y.io ⊎ StoreFailed words x.held y.held x.stores y.stores schedule x.io.written y.io.written
       by (not_kept is others written) = absurd (omega arith)
       by (store_failed is rose others written) = inr (record {
-        name = name;
         recording = recording;
-        options = options;
-        bytes = bytes;
-        program = program;
-        asked = asks;
-        loaded = loads;
-        accepted = accepted;
+        read = read;
         whole = r.whole;
         rose = rose;
         others = others;
@@ -106,14 +97,8 @@ module _ (words : List (Bor (List ℕ))) (name recording : List ℕ) (options : 
       by : Keeps (IsRecordingOfRun bytes program options schedule) recording (summary_of_run program options schedule) (kept_in x) (kept_in y) status
           → MemoryRanOut x.held y.held schedule x.io.written y.io.written ⊎ WasNotStored words x.held y.held schedule x.io.written y.io.written
       by (not_kept is others written) = inr (record {
-        name = name;
         recording = recording;
-        options = options;
-        bytes = bytes;
-        program = program;
-        asked = asks;
-        loaded = loads;
-        accepted = accepted;
+        read = read;
         whole = r.whole;
         others = others;
         written = written;

@@ -118,53 +118,45 @@ Finished old new before now result status text = ((result ≡ status) × Appends
 
 -- ---- the clauses of the top call, with what the shelf holds, and how input and output stood before and after
 
+-- the words ask for this command of a source, which was loaded and is that of this program
+pub record WasRead (words : List (Bor (List ℕ))) (held : Option (List ℕ → Option (List ℕ))) (command : Command) : Type 0 where
+  pub name : List ℕ
+  pub options : Options
+  pub bytes : List ℕ
+  pub program : Program
+  pub asked : Asks words command name options
+  pub loaded : Loads held name most_bytes bytes
+  pub accepted : IsRead bytes program
+
 -- statuses 0, 7 and 8 of `flow`: the loaded source's program ran under this schedule until nobody could take a step,
 -- and all that belongs to it and to the commands was written, with its status
 pub record RanWhole (words : List (Bor (List ℕ))) (held : Option (List ℕ → Option (List ℕ))) (schedule : List ℕ) (a b : Standing) (status : ℕ) : Type 0 where
-  pub name : List ℕ
-  pub options : Options
-  pub bytes : List ℕ
-  pub program : Program
+  pub read : WasRead words held Flow
   pub commands : List ℕ
-  pub asked : Asks words Flow name options
-  pub loaded : Loads held name most_bytes bytes
-  pub accepted : IsRead bytes program
-  pub whole : IsWholeRun program options schedule
+  pub whole : IsWholeRun read.program read.options schedule
   pub told : AreCommands a.left b.left commands
-  pub unread : IsReadNoFurther (known_of program options schedule) commands b.left
-  pub status_is : status ≡ (out_of program options schedule commands).status
-  pub written : Appends a.written b.written (out_of program options schedule commands).text
-  pub agreeing : IsOfAgreeing program options schedule commands (out_of program options schedule commands)
+  pub unread : IsReadNoFurther (known_of read.program read.options schedule) commands b.left
+  pub status_is : status ≡ (out_of read.program read.options schedule commands).status
+  pub written : Appends a.written b.written (out_of read.program read.options schedule commands).text
+  pub agreeing : IsOfAgreeing read.program read.options schedule commands (out_of read.program read.options schedule commands)
 
 -- status 0 of `show`: the tables of the loaded source's program and its plan were written, and nothing ran
 pub record WasShown (words : List (Bor (List ℕ))) (held : Option (List ℕ → Option (List ℕ))) (schedule : List ℕ) (old new : Option (List ℕ)) : Type 0 where
-  pub name : List ℕ
-  pub options : Options
-  pub bytes : List ℕ
-  pub program : Program
-  pub asked : Asks words Show name options
-  pub loaded : Loads held name most_bytes bytes
-  pub accepted : IsRead bytes program
+  pub read : WasRead words held Show
   pub no_run : schedule ≡ []
-  pub written : Appends old new (table_of program (plan_of program options))
+  pub written : Appends old new (table_of read.program (plan_of read.program read.options))
 
 -- status 0 of `run`: the loaded source's program ran under this schedule until nobody could take a step, the shelf holds
 -- the recording of that run under its name and all others as before, and the summary was written
 pub record WasStored (words : List (Bor (List ℕ))) (held now : Option (List ℕ → Option (List ℕ))) (schedule : List ℕ) (old new : Option (List ℕ)) : Type 0 where
-  pub name : List ℕ
   pub recording : List ℕ
-  pub options : Options
-  pub bytes : List ℕ
-  pub program : Program
+  pub read : WasRead words held (Run recording)
   pub stored : List ℕ
-  pub asked : Asks words (Run recording) name options
-  pub loaded : Loads held name most_bytes bytes
-  pub accepted : IsRead bytes program
-  pub whole : IsWholeRun program options schedule
-  pub is : IsRecordingOfRun bytes program options schedule stored
+  pub whole : IsWholeRun read.program read.options schedule
+  pub is : IsRecordingOfRun read.bytes read.program read.options schedule stored
   pub kept : Stores held now recording stored
   pub others : StoreFails held now recording
-  pub written : Appends old new (summary_of_run program options schedule)
+  pub written : Appends old new (summary_of_run read.program read.options schedule)
 
 -- status 0 of `drill`: the program of the source that the number makes ran under this schedule until nobody could take a
 -- step, and all that `flow` writes of it and of `final` was written
@@ -270,15 +262,9 @@ pub record RecordingUnread (words : List (Bor (List ℕ))) (before now : List �
 -- or in `flow` a read of the input failed, and the summary with the answers to the whole lines among the bytes taken
 -- was written; none of these lines ends the answers
 pub record InputFailed (words : List (Bor (List ℕ))) (held : Option (List ℕ → Option (List ℕ))) (schedule : List ℕ) (a b : Standing) : Type 0 where
-  pub name : List ℕ
-  pub options : Options
-  pub bytes : List ℕ
-  pub program : Program
-  pub asked : Asks words Flow name options
-  pub loaded : Loads held name most_bytes bytes
-  pub accepted : IsRead bytes program
-  pub whole : IsWholeRun program options schedule
-  pub broken : IsBroken (known_of program options schedule) (summary_of_run program options schedule) a b
+  pub read : WasRead words held Flow
+  pub whole : IsWholeRun read.program read.options schedule
+  pub broken : IsBroken (known_of read.program read.options schedule) (summary_of_run read.program read.options schedule) a b
 
 -- or in `debug`, where the answers to the whole lines among the bytes taken were written
 pub record LinesFailed (words : List (Bor (List ℕ))) (held : Option (List ℕ → Option (List ℕ))) (schedule : List ℕ) (a b : Standing) : Type 0 where
@@ -298,15 +284,9 @@ pub record WriteFailed (words : List (Bor (List ℕ))) (held : Option (List ℕ 
 
 -- or in `run` a store under the recording's name failed, after the run came to its end, and nothing was written
 pub record StoreFailed (words : List (Bor (List ℕ))) (held now : Option (List ℕ → Option (List ℕ))) (stores_before stores_now : List ℕ → ℕ) (schedule : List ℕ) (old new : Option (List ℕ)) : Type 0 where
-  pub name : List ℕ
   pub recording : List ℕ
-  pub options : Options
-  pub bytes : List ℕ
-  pub program : Program
-  pub asked : Asks words (Run recording) name options
-  pub loaded : Loads held name most_bytes bytes
-  pub accepted : IsRead bytes program
-  pub whole : IsWholeRun program options schedule
+  pub read : WasRead words held (Run recording)
+  pub whole : IsWholeRun read.program read.options schedule
   pub rose : Rose (stores_before recording) (stores_now recording)
   pub others : StoreFails held now recording
   pub written : new ≡ old
@@ -320,29 +300,17 @@ pub record MemoryRanOut (held now : Option (List ℕ → Option (List ℕ))) (sc
 
 -- or in `flow` want of memory after the run, and a prefix of what the command writes went out
 pub record WasCutOff (words : List (Bor (List ℕ))) (held : Option (List ℕ → Option (List ℕ))) (schedule : List ℕ) (a b : Standing) : Type 0 where
-  pub name : List ℕ
-  pub options : Options
-  pub bytes : List ℕ
-  pub program : Program
+  pub read : WasRead words held Flow
   pub commands : List ℕ
-  pub asked : Asks words Flow name options
-  pub loaded : Loads held name most_bytes bytes
-  pub accepted : IsRead bytes program
-  pub whole : IsWholeRun program options schedule
+  pub whole : IsWholeRun read.program read.options schedule
   pub told : AreCommands a.left b.left commands
-  pub written : AppendsFront a.written b.written (out_of program options schedule commands).text
+  pub written : AppendsFront a.written b.written (out_of read.program read.options schedule commands).text
 
 -- or in `run` want of memory after the run, and nothing was written
 pub record WasNotStored (words : List (Bor (List ℕ))) (held now : Option (List ℕ → Option (List ℕ))) (schedule : List ℕ) (old new : Option (List ℕ)) : Type 0 where
-  pub name : List ℕ
   pub recording : List ℕ
-  pub options : Options
-  pub bytes : List ℕ
-  pub program : Program
-  pub asked : Asks words (Run recording) name options
-  pub loaded : Loads held name most_bytes bytes
-  pub accepted : IsRead bytes program
-  pub whole : IsWholeRun program options schedule
+  pub read : WasRead words held (Run recording)
+  pub whole : IsWholeRun read.program read.options schedule
   pub others : StoreFails held now recording
   pub written : new ≡ old
 

@@ -16,13 +16,21 @@ use ppd_resolve::Limit;
 use ppd_text::{put, put_count, put_place};
 use std::alloc::Global;
 
-/// A refusal of this stage, number and name at a place.
-fn refusal(alloc: Global, what: &[u8], place: Place) -> Result<Vec<u8>, Memory>
-    ensures { IfOk result (λ line. line.items ≡ refusal_of what.now place) }
+/// A refusal of this stage, number and name at a place, without the end of its line.
+fn begun(alloc: Global, what: &[u8], place: Place) -> Result<Vec<u8>, Memory>
+    ensures { IfOk result (λ line. line.items ≡ what.now ++ place_text place) }
 {
     let mut line = Vec::new(alloc);
     put(&mut line, what)?;
     put_place(&mut line, place)?;
+    Ok(line)
+}
+
+/// The same with it.
+fn refusal(alloc: Global, what: &[u8], place: Place) -> Result<Vec<u8>, Memory>
+    ensures { IfOk result (λ line. line.items ≡ refusal_of what.now place) }
+{
+    let mut line = begun(alloc, what, place)?;
     put(&mut line, b"\n")?;
     Ok(line)
 }
@@ -51,32 +59,19 @@ fn syntax_line(alloc: Global, error: SyntaxError) -> Result<Vec<u8>, Memory>
     }
 }
 
-/// How many there may be at most.
-fn number_of(limit: Limit) -> usize
-    ensures { result ≡ limit_number limit }
+/// A limit's word, and how many there may be at most.
+fn limit_row(limit: Limit) -> (&'static [u8], usize)
+    ensures word { result.0.now ≡ limit_word limit }
+    ensures number { result.1 ≡ limit_number limit }
 {
     match limit {
-        Limit::Statements => MOST_STATEMENTS,
-        Limit::Functions => MOST_FUNCTIONS,
-        Limit::Processes => MOST_PROCESSES,
-        Limit::Semaphores => MOST_SEMAPHORES,
-        Limit::Channels => MOST_CHANNELS,
-        Limit::Shared => MOST_SHARED_CELLS,
-        Limit::Locals => MOST_LOCAL_CELLS,
-    }
-}
-
-fn put_word(line: &mut Vec<u8>, limit: Limit) -> Result<(), Memory>
-    ensures { OnOk result (line.new.items ≡ line.old.items ++ limit_word limit) }
-{
-    match limit {
-        Limit::Statements => put(line, b"statements "),
-        Limit::Functions => put(line, b"functions "),
-        Limit::Processes => put(line, b"processes "),
-        Limit::Semaphores => put(line, b"semaphores "),
-        Limit::Channels => put(line, b"channels "),
-        Limit::Shared => put(line, b"shared "),
-        Limit::Locals => put(line, b"locals "),
+        Limit::Statements => (b"statements ", MOST_STATEMENTS),
+        Limit::Functions => (b"functions ", MOST_FUNCTIONS),
+        Limit::Processes => (b"processes ", MOST_PROCESSES),
+        Limit::Semaphores => (b"semaphores ", MOST_SEMAPHORES),
+        Limit::Channels => (b"channels ", MOST_CHANNELS),
+        Limit::Shared => (b"shared ", MOST_SHARED_CELLS),
+        Limit::Locals => (b"locals ", MOST_LOCAL_CELLS),
     }
 }
 
@@ -84,16 +79,16 @@ fn put_word(line: &mut Vec<u8>, limit: Limit) -> Result<(), Memory>
 fn put_limit(line: &mut Vec<u8>, limit: Limit) -> Result<(), Memory>
     ensures { OnOk result (line.new.items ≡ line.old.items ++ limit_text limit) }
 {
-    put_word(line, limit)?;
-    put_count(line, number_of(limit))
+    let (word, most) = limit_row(limit);
+    put(line, word)?;
+    put_count(line, most)
 }
 
 fn too_many_line(alloc: Global, place: Place, limit: Limit) -> Result<Vec<u8>, Memory>
-    ensures { IfOk result (λ line. line.items ≡ codes "refused check 8 TooMany " ++ place_text place ++ codes " " ++ limit_text limit ++ codes "\n") }
+    ensures { IfOk result (λ line. line.items
+        ≡ codes "refused check 8 TooMany " ++ place_text place ++ codes " " ++ limit_text limit ++ codes "\n") }
 {
-    let mut line = Vec::new(alloc);
-    put(&mut line, b"refused check 8 TooMany ")?;
-    put_place(&mut line, place)?;
+    let mut line = begun(alloc, b"refused check 8 TooMany ", place)?;
     put(&mut line, b" ")?;
     put_limit(&mut line, limit)?;
     put(&mut line, b"\n")?;

@@ -9,6 +9,7 @@ use Rattle.ppd_trace.specs.declared.pairs.PairedStory.{PairedStory}
 use Rattle.ppd_trace.specs.declared.subject.Subject.{Subject}
 use Rattle.ppd_trace.specs.declared.tracer.Tracer.{Tracer}
 use Rattle.ppd_trace.specs.Leading.{HavePairs}
+use Rattle.ppd_trace.specs.Runs.{trace_by, trace_step}
 
 -- the maps of this story have the first events that lead to each synchronization
 abbrev pub ArePaired : Program → PairedStory → Type 0
@@ -35,3 +36,11 @@ pub record IsToTrace (s : Subject) (t : Tracer) (x : Taken) : Type 0 where
   pub proc : IsRunning s.program.now t.proc
   pub need : x.need ≡ need_of s.program.now s.plan.now t.proc
   pub few : length t.events < 2 ^ 32
+
+-- its trace with what a step adds to it
+abbrev pub added : Subject → Taken → Tracer → Tracer
+added s x t = trace_by s.program.now s.plan.now s.told.now.story s.process x t
+
+-- its trace after a step
+abbrev pub stepped : Subject → Taken → Tracer → Tracer
+stepped s x t = trace_step s.program.now s.plan.now s.told.now.story s.process t x

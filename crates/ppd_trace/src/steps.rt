@@ -2,9 +2,9 @@ ghost use Rattle.std.specs.Prelude.{◌≡◌, ◌+◌, ◌*◌, ◌<◌, ◌≤
 ghost use Rattle.ppd_model.specs.FullTrace.{begun_tracing, tracing_of};
 ghost use Rattle.ppd_model.specs.LocalTags.{AreOwn};
 ghost use Rattle.ppd_sem.specs.Runs.{IsNumbered, IsRunnable, IsRunning};
-ghost use Rattle.ppd_trace.specs.Runs.{trace_by as trace_by_need, trace_step as trace_step_of, tracer_of};
+ghost use Rattle.ppd_trace.specs.Runs.{tracer_of};
 ghost use Rattle.ppd_trace.specs.Spending.{cells_of_step, most_cells};
-ghost use Rattle.ppd_trace.specs.Subjects.{ArePaired, HasBody, IsToTrace, body_size, started_with};
+ghost use Rattle.ppd_trace.specs.Subjects.{ArePaired, HasBody, IsToTrace, added, body_size, started_with, stepped};
 ghost use Rattle.ppd_trace.specs.Tagging.{answers_by};
 
 use crate::activations::begin_body;
@@ -42,10 +42,7 @@ fn trace_by<L: Ledger>(
     steps: &mut Steps<L>,
 ) -> Result<(), Memory>
     requires { IsToTrace subject.now tracer.old taken.now }
-    ensures value { OnOk result
-        (tracer.new
-        ≡ trace_by_need subject.now.program.now subject.now.plan.now subject.now.told.now.story subject.now.process
-        taken.now tracer.old) }
+    ensures value { OnOk result (tracer.new ≡ added subject.now taken.now tracer.old) }
     ensures cost { steps.new
         ≤ steps.old + 10
         + 3 * cells_of_step subject.now.program.now subject.now.plan.now tracer.old.proc taken.now }
@@ -64,10 +61,7 @@ fn trace_step<L: Ledger>(
     steps: &mut Steps<L>,
 ) -> Result<(), Memory>
     requires { IsToTrace subject.now tracer.old taken.now }
-    ensures ok { OnOk result
-        (tracer.new
-        ≡ trace_step_of subject.now.program.now subject.now.plan.now subject.now.told.now.story subject.now.process
-        tracer.old taken.now) }
+    ensures ok { OnOk result (tracer.new ≡ stepped subject.now taken.now tracer.old) }
     ensures kept { OnOk result (IsRunning subject.now.program.now tracer.new.proc) }
     ensures cost { steps.new ≤ steps.old + 11 + 3 * most_cells subject.now.program.now }
 {

@@ -1,5 +1,6 @@
 //! Worked programs as tables.
 
+use ppd_ast::limits::MOST_LOCAL_CELLS;
 use ppd_ast::{
     Body, Bytes, Expr, Ids, Kind, Nums, Op, Place, Program, Sem, Seq, Stmt, Target, Var,
 };
@@ -51,7 +52,7 @@ fn body(
         process,
         params,
         value,
-        cells: locals.len().min(256) as u16,
+        cells: locals.len().min(MOST_LOCAL_CELLS) as u16,
         locals: scalars(alloc, locals)?,
         top: ids(alloc, top)?,
         first,

@@ -1,6 +1,7 @@
 use crate::events::{Row, are_rows, plain, trace};
 use crate::programs::{callee_write, locked, loop_from, recursion};
 use ppd_ast::Program;
+use ppd_ast::limits::MOST_CALLS;
 use ppd_check::read_source;
 use ppd_model::{DriveError, Trace};
 use ppd_sem::{Spot, Trap};
@@ -321,15 +322,23 @@ fn two_processes_under_one_lock(rt: HostRuntime) -> Result<(), Fail> {
     Ok(())
 }
 
-// The statement that traps is the last event, and writes nothing.
+// The statement that traps is the last event, and writes nothing: after the first call each frame sets a local, tests
+// and calls.
 #[test]
 fn a_call_too_deep_is_an_event(rt: HostRuntime) -> Result<(), Fail> {
+    const EVENTS: usize = 3 * MOST_CALLS + 1;
     let alloc = rt.alloc();
-    let traced = by(alloc, recursion(alloc, 64), false, &[0; 193]).expect(&rt, "valid");
+    let traced = by(
+        alloc,
+        recursion(alloc, MOST_CALLS as i64),
+        false,
+        &[0; EVENTS],
+    )
+    .expect(&rt, "valid");
     let traced = traced.expect(&rt, "whole");
     let events = traced.events.as_slice().get(0).expect(&rt, "a process");
-    assert_eq!(rt; events.len(), 193);
-    let last = events.as_slice().get(192).expect(&rt, "an event");
+    assert_eq!(rt; events.len(), EVENTS);
+    let last = events.as_slice().last().expect(&rt, "an event");
     assert_eq!(rt; last.event.trap, Some(Trap::Depth));
     assert!(rt; last.event.writes.len() == 0);
     Ok(())

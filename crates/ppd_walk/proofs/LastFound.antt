@@ -12,9 +12,9 @@ use Rattle.ppd_past.specs.declared.past.Past.{Past}
 use Rattle.ppd_past.specs.ByReplays.{AreReplayed, IsFoundBy}
 use Rattle.ppd_past.specs.SeenBy.{steps_in}
 use Rattle.ppd_search.specs.Ends.{first_edge, sync_item}
-use Rattle.ppd_search.specs.Shared.{found_last, greatest_writing, last_replays, start_replays, written_or_start}
+use Rattle.ppd_search.specs.Shared.{greatest_writing, start_replays, written_or_start}
 use Rattle.ppd_walk.specs.declared.last.LastEdge.{LastEdge}
-use Rattle.ppd_walk.specs.SharedCells.{answer_of, last_edge, seens_in, with_end}
+use Rattle.ppd_walk.specs.SharedCells.{IsLastFound, answer_of, last_edge, seens_in, with_end}
 use Rattle.ppd_walk.proofs.SharedFound.{Before, written_from_items}
 
 module _ (past : Past) (c : ℕ) where
@@ -52,8 +52,6 @@ module _ (past : Past) (c : ℕ) where
       → last_edge past c ≡ Some l → AreReplayed past l.edge.process l.interval items
       → j ≡ sync_item (entries l) l.edge.edge (first_edge (entries l) l.interval) items
       → Before past l.edge c l.interval j n o r
-      → IsFoundBy past (last_replays past.program.now past.logs.now (seens_in past) c)
-      (answer_of (found_last past.program.now past.logs.now (seens_in past) c)) n
-      (o + steps_in past l.edge.process l.interval) r
+      → IsLastFound past c n (o + steps_in past l.edge.process l.interval) r
   found_from l items j n o r e given place g =
       from_last items j n o r l (greatest_writing past.program.now past.logs.now c) e (given, place, g)

@@ -7,7 +7,6 @@ use Rattle.ppd_model.specs.declared.flow.Origin.{Origin}
 use Rattle.ppd_model.specs.declared.flow.Origin.TheVariants as origin
 use Rattle.ppd_model.specs.declared.graph.EdgeId.{EdgeId}
 use Rattle.ppd_past.specs.declared.flow_error.FlowError.{FlowError}
-use Rattle.ppd_past.specs.declared.flow_error.FlowError.TheVariants.{Diverged, NoEvent, Sets, Memory}
 use Rattle.ppd_past.specs.declared.past.Past.{Past}
 use Rattle.ppd_past.specs.ByReplays.{IsFoundBy}
 use Rattle.ppd_past.specs.SeenBy.{failed_in, seen_by, seen_in, steps_in}
@@ -19,18 +18,9 @@ use Rattle.ppd_search.specs.Seen.{Seen}
 use Rattle.ppd_search.specs.Shared.{Missing, of_process, own_or, seen_at, unless_found, written_at, written_in, written_replays}
 use Rattle.ppd_search.specs.Walk.{walk, walk_replays}
 use Rattle.ppd_walk.specs.declared.edge_end.EdgeEnd.{EdgeEnd}
-use Rattle.ppd_walk.specs.SharedCells.{answer_of, edge_end_of, seens_in}
+use Rattle.ppd_walk.specs.SharedCells.{IsWalked, answer_of, edge_end_of, seens_in}
 
 -- ---- answers
-
--- a failure, or want of memory, whatever would have been answered
-pub err_any : {A B : Type 0} (past : Past) (ms : List (ℕ × ℕ)) (v : A) (b : Result B FlowError) (n m : ℕ)
-    (e : FlowError)
-    → IsFoundBy {A = A} past ms (Ok v) n m (Err e) → IsFoundBy {A = B} past ms b n m (Err e)
-err_any past ms v b n m NoEvent f = absurd (cc f.1)
-err_any past ms v b n m (Sets p k c) f = absurd (cc f.1)
-err_any past ms v b n m (Diverged p k) f = f
-err_any past ms v b n m Memory f = tt
 
 abbrev end_or : EdgeEnd → Result EdgeEnd FlowError → EdgeEnd
 end_or d (Ok u) = u
@@ -138,7 +128,7 @@ module _ (past : Past) where
         (own_or p u other)) n q r) (sym is) f)
 
     pub read_failed : (n q : ℕ) (u : FlowError)
-        → IsFoundBy {A = Walked} past (of_process p (walk_replays here c i j)) (Ok w0) n q (Err u)
+        → IsWalked past p c i j n q (Err u)
         → Read (seen_at xs p) n q (Err u)
     read_failed n q u f =
         at_there n q (Err u)
@@ -146,7 +136,7 @@ module _ (past : Past) where
         (own_or p w0 other)) n q u f)
 
     pub read_own : (m t : ℕ) (v : ℤ) (n q : ℕ)
-        → IsFoundBy past (of_process p (walk_replays here c i j)) (Ok w0) n q (Ok (Found m t v))
+        → IsWalked past p c i j n q (Ok (Found m t v))
         → Read (seen_at xs p) n q (Ok (origin.Item p m t))
     read_own m t v n q f =
         let is : w0 ≡ Found m t v = ap (walked_or (Found m t v)) f.1 in
@@ -157,14 +147,14 @@ module _ (past : Past) where
         (f.0, refl, f.2))
 
     pub read_stopped : (n m q : ℕ) (r : Result Origin FlowError)
-        → IsFoundBy past (of_process p (walk_replays here c i j)) (Ok w0) n m (Ok Stopped)
+        → IsWalked past p c i j n m (Ok Stopped)
         → IsFoundBy past rest (answer_of other) m q r → Read (seen_at xs p) n q r
     read_stopped n m q r f g =
         after_walk Stopped n q r (ap (walked_or Stopped) f.1)
         (found_then past (of_process p (walk_replays here c i j)) rest (Ok w0) (answer_of other) Stopped n m q r f g)
 
     pub read_passed : (n m q : ℕ) (r : Result Origin FlowError)
-        → IsFoundBy past (of_process p (walk_replays here c i j)) (Ok w0) n m (Ok Passed)
+        → IsWalked past p c i j n m (Ok Passed)
         → IsFoundBy past rest (answer_of other) m q r → Read (seen_at xs p) n q r
     read_passed n m q r f g =
         after_walk Passed n q r (ap (walked_or Passed) f.1)

@@ -15,6 +15,7 @@ use Rattle.ppd_search.specs.declared.walked.Walked.TheVariants.{Passed}
 use Rattle.ppd_search.specs.Seen.{Seen, items_at, place_of, round_at}
 use Rattle.ppd_search.specs.Shared.{of_process}
 use Rattle.ppd_search.specs.Walk.{back, back_from, back_replays, backwards, if_passed, onward, walk, walk_replays}
+use Rattle.ppd_walk.specs.SharedCells.{IsWalked}
 use Rattle.ppd_walk.specs.Items.{at_item, before_inner, before_inner_replays, is_passed, item_replays, out_of, out_of_replays}
 use Rattle.ppd_walk.proofs.Leads.{Leads, lead_ended, lead_failed, lead_on}
 use Rattle.ppd_walk.proofs.Over.{one_more, one_over, one_replays, out_parts, out_replays_parts, over, replays, replays_parts, walk_parts}
@@ -235,7 +236,7 @@ module _ (past : Past) (p c : ℕ) where
     pub walk_failed : (o : ℕ) (e : FlowError)
         → IsFoundBy {A = Walked} past (of_process p (replays x depth c k (backwards 0 first []))) (Ok
         (over x depth c k (backwards 0 first []))) n o (Err e)
-        → IsFoundBy {A = Walked} past (of_process p (walk_replays x c k j)) (Ok (walk x c k j)) n o (Err e)
+        → IsWalked past p c k j n o (Err e)
     walk_failed o e f =
         lead_failed past p here (out_of_replays x c k (round_at x k)) found (out_of x c k (round_at x k)) n o
         (walk_replays x c k j) (walk x c k j) n all_of_it e (at_first o (Err e) f)
@@ -243,7 +244,7 @@ module _ (past : Past) (p c : ℕ) where
     pub walk_ended : (o : ℕ) (u : Walked) → is_passed u ≡ false
         → IsFoundBy past (of_process p (replays x depth c k (backwards 0 first []))) (Ok (over x depth c k
         (backwards 0 first []))) n o (Ok u)
-        → IsFoundBy past (of_process p (walk_replays x c k j)) (Ok (walk x c k j)) n o (Ok u)
+        → IsWalked past p c k j n o (Ok u)
     walk_ended o u not f =
         lead_ended past p here (out_of_replays x c k (round_at x k)) found (out_of x c k (round_at x k)) n o
         (walk_replays x c k j) (walk x c k j) n all_of_it u not (at_first o (Ok u) f)
@@ -252,7 +253,7 @@ module _ (past : Past) (p c : ℕ) where
         → IsFoundBy past (of_process p (replays x depth c k (backwards 0 first []))) (Ok (over x depth c k
         (backwards 0 first []))) n o (Ok u)
         → IsFoundBy past (of_process p (out_of_replays x c k (round_at x k))) (Ok (out_of x c k (round_at x k))) o q r
-        → IsFoundBy past (of_process p (walk_replays x c k j)) (Ok (walk x c k j)) n q r
+        → IsWalked past p c k j n q r
     walk_outward o q u r so f g =
         (lead_on past p here (out_of_replays x c k (round_at x k)) found (out_of x c k (round_at x k)) n o
         (walk_replays x c k j) (walk x c k j) n all_of_it u so (at_first o (Ok u) f)) q r g

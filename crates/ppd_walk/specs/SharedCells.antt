@@ -1,6 +1,7 @@
 -- What the search for where a shared cell was written answers.
-use Rattle.std.specs.Prelude.{◌≡◌, ℕ, List, [], ◌∷◌, map, Option, option_map, Result, Ok, Err, ⊤}
+use Rattle.std.specs.Prelude.{◌≡◌, ℕ, ℤ, List, [], ◌∷◌, map, Option, Some, option_map, Result, Ok, Err, ⊤}
 use Rattle.ppd_entry.specs.Entries.{entries_at}
+use Rattle.ppd_model.specs.declared.flow.Item.{Item}
 use Rattle.ppd_model.specs.declared.flow.Origin.{Origin}
 use Rattle.ppd_model.specs.declared.flow.Origin.TheVariants as origin
 use Rattle.ppd_model.specs.declared.graph.EdgeId.{EdgeId}
@@ -8,11 +9,14 @@ use Rattle.ppd_model.specs.declared.graph.NodeId.{NodeId}
 use Rattle.ppd_past.specs.declared.flow_error.FlowError.{FlowError}
 use Rattle.ppd_past.specs.declared.flow_error.FlowError.TheVariants.{Sets, Memory}
 use Rattle.ppd_past.specs.declared.past.Past.{Past}
-use Rattle.ppd_past.specs.ByReplays.{IsFoundBy}
+use Rattle.ppd_past.specs.ByReplays.{AreReplayed, IsFoundBy}
+use Rattle.ppd_past.specs.Pasts.{IsPast}
 use Rattle.ppd_past.specs.SeenBy.{items_in, seen_by, seen_in}
 use Rattle.ppd_search.specs.Ends.{end_interval, end_item}
 use Rattle.ppd_search.specs.Seen.{Seen}
-use Rattle.ppd_search.specs.Shared.{Missing, greatest_writing}
+use Rattle.ppd_search.specs.Shared.{Missing, found_last, greatest_writing, last_replays, of_process}
+use Rattle.ppd_search.specs.Walk.{walk, walk_replays}
+use Rattle.ppd_search.specs.declared.walked.Walked.{Walked}
 use Rattle.ppd_walk.specs.declared.edge_end.EdgeEnd.{EdgeEnd}
 use Rattle.ppd_walk.specs.declared.last.LastEdge.{LastEdge}
 
@@ -59,3 +63,22 @@ with_end past e = record { edge = e; interval = end_interval (entries_at past.lo
 -- the edge with the last write of cell c, if there is one
 abbrev pub last_edge : Past → ℕ → Option LastEdge
 last_edge past c = option_map (with_end past) (greatest_writing past.program.now past.logs.now c)
+
+-- of a past, whose parts belong together: this edge wrote cell c last, and the interval in which it ends has these
+-- items, by a replay that does not fail
+pub record AreItemsOfLast (past : Past) (c : ℕ) (edge : LastEdge) (items : List Item) : Type 0 where
+  pub together : IsPast past
+  pub last : last_edge past c ≡ Some edge
+  pub replayed : AreReplayed past edge.edge.process edge.interval items
+
+-- the last value of cell c with the write of it, found by the replays that the search for that write needs
+abbrev pub IsLastFound : Past → (c before after : ℕ) → Result (ℤ × Origin) FlowError → Type 0
+IsLastFound past c before after result =
+    IsFoundBy past (last_replays past.program.now past.logs.now (seens_in past) c)
+    (answer_of (found_last past.program.now past.logs.now (seens_in past) c)) before after result
+
+-- what a walk for cell c finds from place j in interval k of process p back, found by its replays
+abbrev pub IsWalked : Past → (p c k j before after : ℕ) → Result Walked FlowError → Type 0
+IsWalked past p c k j before after result =
+    IsFoundBy past (of_process p (walk_replays (seen_in past p) c k j)) (Ok (walk (seen_in past p) c k j)) before after
+    result

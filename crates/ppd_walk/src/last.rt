@@ -1,9 +1,7 @@
-ghost use Rattle.std.specs.Prelude.{◌≡◌, ◌+◌, IfOk, Some};
-ghost use Rattle.ppd_past.specs.ByReplays.{AreReplayed, IsFoundBy};
+ghost use Rattle.std.specs.Prelude.{◌≡◌, ◌+◌, IfOk};
 ghost use Rattle.ppd_past.specs.Pasts.{IsPast};
 ghost use Rattle.ppd_past.specs.SeenBy.{steps_in};
-ghost use Rattle.ppd_search.specs.Shared.{found_last, last_replays};
-ghost use Rattle.ppd_walk.specs.SharedCells.{answer_of, last_edge as last_edge_of, seens_in};
+ghost use Rattle.ppd_walk.specs.SharedCells.{AreItemsOfLast, IsLastFound, last_edge as last_edge_of};
 
 use crate::search::CellSearch;
 use crate::written::written_before;
@@ -47,13 +45,9 @@ pub fn last_write_from<L: Ledger>(
     items: &[Item],
     steps: &mut Steps<L>,
 ) -> Result<(i64, Origin), FlowError>
-    requires past { IsPast past.now }
-    requires last { last_edge_of past.now cell ≡ Some last }
-    requires items { AreReplayed past.now last.edge.process last.interval items.now }
-    ensures { IsFoundBy past.now
-        (last_replays past.now.program.now past.now.logs.now (seens_in past.now) cell)
-        (answer_of (found_last past.now.program.now past.now.logs.now (seens_in past.now) cell))
-        steps.old (steps.new + steps_in past.now last.edge.process last.interval) result }
+    requires { AreItemsOfLast past.now cell last items.now }
+    ensures { IsLastFound past.now cell steps.old
+        (steps.new + steps_in past.now last.edge.process last.interval) result }
 {
     let EdgeId { process, edge } = last.edge;
     let place = match sync_item(past, process, edge, last.interval, items) {

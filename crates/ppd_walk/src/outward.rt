@@ -3,7 +3,7 @@ ghost use Rattle.ppd_past.specs.ByReplays.{IsFoundBy};
 ghost use Rattle.ppd_past.specs.Pasts.{IsPast};
 ghost use Rattle.ppd_search.specs.Seen.{is_item_of, items_at, place_of as place_among, round_at};
 ghost use Rattle.ppd_search.specs.Shared.{of_process};
-ghost use Rattle.ppd_search.specs.Walk.{walk as walk_from, walk_replays};
+ghost use Rattle.ppd_walk.specs.SharedCells.{IsWalked};
 ghost use Rattle.ppd_walk.specs.Items.{before_inner, before_inner_replays, out_of, out_of_replays, seen_for};
 
 use crate::inside::{is_passed, over_items};
@@ -127,10 +127,7 @@ impl<'a> CellSearch<'a> {
     ) -> Result<Walked, FlowError>
         requires past { IsPast self.now.past.now }
         requires items { items.now ≡ items_at (seen_for self.now) interval }
-        ensures { IsFoundBy self.now.past.now
-            (of_process self.now.process (walk_replays (seen_for self.now) self.now.cell interval place))
-            (Ok (walk_from (seen_for self.now) self.now.cell interval place))
-            steps.old steps.new result }
+        ensures { IsWalked self.now.past.now self.now.process self.now.cell interval place steps.old steps.new result }
     {
         let depth = count_of(self.past, self.process);
         let walked = match over_items(self, depth, interval, first_items(items, place), steps) {

@@ -2,9 +2,9 @@ ghost use Rattle.std.specs.Prelude.{◌≡◌, IfOk};
 ghost use Rattle.ppd_past.specs.ByReplays.{IsFoundBy};
 ghost use Rattle.ppd_past.specs.Pasts.{IsPast};
 ghost use Rattle.ppd_search.specs.Seen.{items_at};
-ghost use Rattle.ppd_search.specs.Shared.{edge_of_place, found_last, greatest_before as greatest_before_of, last_replays, origin_in, shared_origin as shared_origin_of, shared_replays, start_replays, written_or_start as written_or_start_of};
+ghost use Rattle.ppd_search.specs.Shared.{edge_of_place, greatest_before as greatest_before_of, origin_in, shared_origin as shared_origin_of, shared_replays, start_replays, written_or_start as written_or_start_of};
 ghost use Rattle.ppd_walk.specs.Items.{seen_for};
-ghost use Rattle.ppd_walk.specs.SharedCells.{answer_of, seens_in};
+ghost use Rattle.ppd_walk.specs.SharedCells.{IsLastFound, answer_of, seens_in};
 
 use crate::outward::first_items;
 use crate::search::CellSearch;
@@ -17,65 +17,65 @@ use ppd_search::Walked;
 use std::alloc::Global;
 use std::sync::ledger::Ledger;
 
-// The greatest edge before that of a place that writes the cell. `Memory` is want of memory.
-fn edge_before(
-    search: &CellSearch,
-    interval: u32,
-    items: &[Item],
-    place: usize,
-) -> Result<Option<EdgeId>, Memory>
-    requires past { IsPast search.now.past.now }
-    requires items { items.now ≡ items_at (seen_for search.now) interval }
-    ensures { IfOk result (λ best. best
-        ≡ greatest_before_of search.now.past.now.program.now search.now.past.now.logs.now
-        (edge_of_place search.now.past.now.logs.now (seens_in search.now.past.now) search.now.process interval place)
-        search.now.cell) }
-{
-    let before = first_items(items, place);
-    let edge = match edge_at(search.past, search.process, interval, before) {
-        Ok(edge) => edge,
-        Err(memory) => return Err(memory),
-    };
-    let own = EdgeId {
-        process: search.process,
-        edge,
-    };
-    greatest_before(search.past, own, search.cell)
-}
-
-// The origin of a write in an edge before that of a place, or the start value.
-fn origin_before<L: Ledger>(
-    search: &CellSearch,
-    interval: u32,
-    items: &[Item],
-    place: usize,
-    steps: &mut Steps<L>,
-) -> Result<Origin, FlowError>
-    requires past { IsPast search.now.past.now }
-    requires items { items.now ≡ items_at (seen_for search.now) interval }
-    ensures { IsFoundBy search.now.past.now
-        (start_replays search.now.past.now.logs.now (seens_in search.now.past.now) search.now.cell
-        (greatest_before_of search.now.past.now.program.now search.now.past.now.logs.now
-        (edge_of_place search.now.past.now.logs.now (seens_in search.now.past.now) search.now.process interval place)
-        search.now.cell))
-        (answer_of (origin_in (written_or_start_of search.now.past.now.program.now search.now.past.now.logs.now
-        (seens_in search.now.past.now) search.now.cell
-        (greatest_before_of search.now.past.now.program.now search.now.past.now.logs.now
-        (edge_of_place search.now.past.now.logs.now (seens_in search.now.past.now) search.now.process interval place)
-        search.now.cell))))
-        steps.old steps.new result }
-{
-    let best = match edge_before(search, interval, items, place) {
-        Ok(best) => best,
-        Err(_) => return Err(FlowError::Memory),
-    };
-    match written_or_start(search, best, steps) {
-        Ok((_, origin)) => Ok(origin),
-        Err(error) => Err(error),
-    }
-}
-
 impl<'a> CellSearch<'a> {
+    // The greatest edge before that of a place that writes the cell. `Memory` is want of memory.
+    fn edge_before(
+        &self,
+        interval: u32,
+        items: &[Item],
+        place: usize,
+    ) -> Result<Option<EdgeId>, Memory>
+        requires past { IsPast self.now.past.now }
+        requires items { items.now ≡ items_at (seen_for self.now) interval }
+        ensures { IfOk result (λ best. best
+            ≡ greatest_before_of self.now.past.now.program.now self.now.past.now.logs.now
+            (edge_of_place self.now.past.now.logs.now (seens_in self.now.past.now) self.now.process interval place)
+            self.now.cell) }
+    {
+        let before = first_items(items, place);
+        let edge = match edge_at(self.past, self.process, interval, before) {
+            Ok(edge) => edge,
+            Err(memory) => return Err(memory),
+        };
+        let own = EdgeId {
+            process: self.process,
+            edge,
+        };
+        greatest_before(self.past, own, self.cell)
+    }
+
+    // The origin of a write in an edge before that of a place, or the start value.
+    fn origin_before<L: Ledger>(
+        &self,
+        interval: u32,
+        items: &[Item],
+        place: usize,
+        steps: &mut Steps<L>,
+    ) -> Result<Origin, FlowError>
+        requires past { IsPast self.now.past.now }
+        requires items { items.now ≡ items_at (seen_for self.now) interval }
+        ensures { IsFoundBy self.now.past.now
+            (start_replays self.now.past.now.logs.now (seens_in self.now.past.now) self.now.cell
+            (greatest_before_of self.now.past.now.program.now self.now.past.now.logs.now
+            (edge_of_place self.now.past.now.logs.now (seens_in self.now.past.now) self.now.process interval place)
+            self.now.cell))
+            (answer_of (origin_in (written_or_start_of self.now.past.now.program.now self.now.past.now.logs.now
+            (seens_in self.now.past.now) self.now.cell
+            (greatest_before_of self.now.past.now.program.now self.now.past.now.logs.now
+            (edge_of_place self.now.past.now.logs.now (seens_in self.now.past.now) self.now.process interval place)
+            self.now.cell))))
+            steps.old steps.new result }
+    {
+        let best = match self.edge_before(interval, items, place) {
+            Ok(best) => best,
+            Err(_) => return Err(FlowError::Memory),
+        };
+        match written_or_start(self, best, steps) {
+            Ok((_, origin)) => Ok(origin),
+            Err(error) => Err(error),
+        }
+    }
+
     /// Where the cell was written that is read at a place in an interval, whose items these are: the last write
     /// before it in the internal edge of the place, else the last write in the greatest edge before this one
     /// whose write set has the cell, else the start value. In a run without a race under the plan of a policy
@@ -112,7 +112,7 @@ impl<'a> CellSearch<'a> {
                 item,
             }),
             Walked::Stopped | Walked::Passed => {
-                origin_before(self, interval, items, place, steps)
+                self.origin_before(interval, items, place, steps)
             }
         }
     }
@@ -127,10 +127,7 @@ pub fn last_write<L: Ledger>(
     steps: &mut Steps<L>,
 ) -> Result<(i64, Origin), FlowError>
     requires { IsPast past.now }
-    ensures { IsFoundBy past.now
-        (last_replays past.now.program.now past.now.logs.now (seens_in past.now) cell)
-        (answer_of (found_last past.now.program.now past.now.logs.now (seens_in past.now) cell))
-        steps.old steps.new result }
+    ensures { IsLastFound past.now cell steps.old steps.new result }
 {
     let search = CellSearch {
         alloc,

@@ -30,12 +30,12 @@ use Rattle.ppd_model.proofs.Bounded.{Goes, goes}
 use Rattle.ppd_model.proofs.Changes.{some}
 use Rattle.ppd_model.proofs.States.{logs_grow}
 use Rattle.ppd_model.proofs.Stories.{stories_are_of_runs}
-use Rattle.ppd_world.specs.Parts.{IsSmallChan, IsSmallLogging, IsSmallSem, store, world_of}
+use Rattle.ppd_world.specs.Parts.{IsReady, IsSmallChan, IsSmallLogging, IsSmallSem, store, world_of}
 use Rattle.ppd_world.specs.Running.{IsCause, IsDriven, IsFollowed, IsOf, IsReached, Running, Takes, begun, can_step, closed_run, stepped}
 use Rattle.ppd_world.specs.Starts.{begun_chans, begun_logs, begun_sems}
 use Rattle.ppd_world.proofs.Begun.{logs_begun, procs_begun}
 use Rattle.ppd_world.proofs.Lists.{every_all, every_more}
-use Rattle.ppd_world.proofs.Sound.{IsSoundChan, IsSoundLogging, IsSoundSem, left_less, most, reached_sound}
+use Rattle.ppd_world.proofs.Sound.{IsSound, IsSoundChan, IsSoundLogging, IsSoundSem, left_less, most, reached_sound}
 
 -- ---- schedules
 
@@ -173,14 +173,21 @@ runnable r h = valid-runnable r.program h.program
 pub numbered : (r : Running) → IsReached r → IsNumbered r.plan
 numbered r h = valid-numbered r.program r.plan h.program h.plan
 
-pub small_sems : (r : Running) → IsReached r → All IsSmallSem r.world.sems
-small_sems r h = every_all IsSmallSem r.world.sems (every_more (IsSoundSem (steps_left r.world.procs)) IsSmallSem r.world.sems (small_sem (steps_left r.world.procs)) (reached_sound r h).sems)
-
-pub small_chans : (r : Running) → IsReached r → All IsSmallChan r.world.chans
-small_chans r h = every_all IsSmallChan r.world.chans (every_more (IsSoundChan (steps_left r.world.procs)) IsSmallChan r.world.chans (small_chan (steps_left r.world.procs)) (reached_sound r h).chans)
-
-pub small_loggings : (r : Running) → IsReached r → All (IsSmallLogging r.program) r.loggings
-small_loggings r h = every_all (IsSmallLogging r.program) r.loggings (every_more (IsSoundLogging r.program) (IsSmallLogging r.program) r.loggings (small_logging r.program) (reached_sound r h).logs)
+-- what a step asks of the parts that a world which is reached is made of, with these loggings
+pub parts_ready : (program : Program) (plan : Plan) (budget : ℕ) (s : World) (ls ks : List Logging) (r : Running)
+    → running program plan budget (world_of s ls) ls ≡ r → ks ≡ ls → IsReached r → IsReady program plan s ks
+parts_ready program plan budget s ls ks r view same h =
+    let reached : IsReached (running program plan budget (world_of s ls) ls) = subst (λ (x : Running). IsReached x) (sym view) h in
+    let sound : IsSound (running program plan budget (world_of s ls) ls) = reached_sound _ reached in
+    let left : ℕ = steps_left (map (λ l. l.proc) ls) in
+    let ready : IsReady program plan s ls = record {
+      runnable = runnable _ reached;
+      numbered = numbered _ reached;
+      sems = every_all IsSmallSem s.sems (every_more (IsSoundSem left) IsSmallSem s.sems (small_sem left) sound.sems);
+      chans = every_all IsSmallChan s.chans (every_more (IsSoundChan left) IsSmallChan s.chans (small_chan left) sound.chans);
+      small = every_all (IsSmallLogging program) ls (every_more (IsSoundLogging program) (IsSmallLogging program) ls (small_logging program) sound.logs);
+    } in
+    subst (λ (x : List Logging). IsReady program plan s x) (sym same) ready
 
 -- ---- the end
 

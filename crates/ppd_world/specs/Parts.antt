@@ -1,5 +1,6 @@
 -- The parts of a step of a world.
 use Rattle.std.specs.Prelude.{◌+◌, ◌-◌, ◌<◌, ◌^◌, ℤ, List, [], ◌∷◌, ◌++◌, length, map, take, slice_set, Option, Some, None}
+use Rattle.std.specs.List.{All}
 use Rattle.ppd_ast.specs.declared.plan.Plan.{Plan}
 use Rattle.ppd_ast.specs.declared.program.Program.{Program}
 use Rattle.ppd_entry.specs.declared.entry.Entry.{Entry}
@@ -7,7 +8,7 @@ use Rattle.ppd_sem.specs.declared.proc.Answer.{Answer}
 use Rattle.ppd_sem.specs.declared.proc.Need.{Need}
 use Rattle.ppd_sem.specs.declared.proc.Need.TheVariants.{Write, P, V, Send, Offer, Done, Recv, Stopped}
 use Rattle.ppd_sem.specs.Process.{act, need_of}
-use Rattle.ppd_sem.specs.Runs.{IsRunning}
+use Rattle.ppd_sem.specs.Runs.{IsNumbered, IsRunnable, IsRunning}
 use Rattle.ppd_model.specs.declared.tracing.Taken.{Taken}
 use Rattle.ppd_model.specs.declared.state.Channel.{Channel}
 use Rattle.ppd_model.specs.declared.state.Counts.{Counts}
@@ -40,6 +41,14 @@ pub record IsSmallChan (x : Channel) : Type 0 where
 pub record IsSmallLogging (program : Program) (l : Logging) : Type 0 where
   pub proc : IsRunning program l.proc
   pub rest : l.rest + 1 < 2 ^ 32
+
+-- what a step asks of the program and its plan, the shared state, and the processes with their logs
+pub record IsReady (program : Program) (plan : Plan) (s : World) (loggings : List Logging) : Type 0 where
+  pub runnable : IsRunnable program
+  pub numbered : IsNumbered plan
+  pub sems : All IsSmallSem s.sems
+  pub chans : All IsSmallChan s.chans
+  pub small : All (IsSmallLogging program) loggings
 
 -- ---- the shared state
 

@@ -1,20 +1,17 @@
-ghost use Rattle.std.specs.Prelude.{◌≡◌, ◌++◌, ◌∷◌, [], map, option_to_list, slice_get, IfOk, OnOk};
+ghost use Rattle.std.specs.Prelude.{◌≡◌, ◌++◌, ◌∷◌, [], IfOk, OnOk};
 ghost use Rattle.ppd_model.specs.Logs.{ends, entries_of as entries_of_step, passed_value as passed_of, postlogs, prelogs, status_of as status_of_need, syncs, units};
-ghost use Rattle.ppd_sem.specs.Blocks.{postlog_cells as postlog_cells_of, prelog_cells as prelog_cells_of};
 ghost use Rattle.ppd_model.specs.Marks.{closed, opened};
-ghost use Rattle.ppd_model.specs.Story.{cells_of_unit as cells_of_unit_in, unit_started as unit_started_of, values_at_start, values_of_unit};
+ghost use Rattle.ppd_model.specs.Story.{unit_started as unit_started_of, values_at_start, values_of_unit};
 ghost use Rattle.ppd_model.specs.Synchronizations.{sync_of};
-ghost use Rattle.ppd_sem.specs.Ask.{cell_of};
 ghost use Rattle.ppd_sem.specs.Process.{value_of};
 ghost use Rattle.ppd_sem.specs.Runs.{IsRunnable, IsRunning};
 ghost use Rattle.ppd_world.specs.Parts.{moment_with};
 
 use crate::code::Code;
-use crate::objects::value_at;
 use ppd_ast::{Cells, Memory, Nums, Plan, Status, SyncKind};
 use ppd_entry::Entry;
-use ppd_model::{Logging, Taken};
-use ppd_sem::{Answer, Need, Proc, call_values, local_cells, returned_value};
+use ppd_model::{Logging, Taken, closed_block, unit_cells, unit_started, values_at};
+use ppd_sem::{Answer, Need, Proc, call_values, local_cells, prelog_cells};
 use std::alloc::Global;
 
 fn push(entries: &mut Vec<Entry>, entry: Entry) -> Result<(), Memory>
@@ -32,44 +29,6 @@ fn copy_cells(cells: &Cells) -> Result<Cells, Memory>
     match cells.clone() {
         Ok(copy) => Ok(copy),
         Err(_) => Err(Memory),
-    }
-}
-
-/// The values at these places, 0 for each past the end.
-fn values_at(alloc: Global, values: &[i64], places: &[u16]) -> Result<Nums, Memory>
-    ensures { IfOk result (λ found. found ≡ map (cell_of values.now) places.now) }
-{
-    let mut found = Nums::new(alloc);
-    for place in places {
-        found.push(value_at(values, *place as usize))?;
-    }
-    Ok(found)
-}
-
-fn prelog_cells(plan: &Plan, block: u16) -> &[u16]
-    ensures { result.now ≡ prelog_cells_of plan.now block }
-{
-    match plan.blocks.as_slice().get(block as usize) {
-        Some(block) => block.prelog.as_slice(),
-        None => &[],
-    }
-}
-
-fn postlog_cells(plan: &Plan, block: u16) -> &[u16]
-    ensures { result.now ≡ postlog_cells_of plan.now block }
-{
-    match plan.blocks.as_slice().get(block as usize) {
-        Some(block) => block.postlog.as_slice(),
-        None => &[],
-    }
-}
-
-fn unit_cells(plan: &Plan, unit: u16) -> &[u16]
-    ensures { result.now ≡ cells_of_unit_in (slice_get plan.now.units unit) }
-{
-    match plan.units.as_slice().get(unit as usize) {
-        Some(unit) => unit.cells.as_slice(),
-        None => &[],
     }
 }
 
@@ -113,17 +72,6 @@ fn push_opened(entries: &mut Vec<Entry>, code: &Code, proc: &Proc, need: Need) -
     }
 }
 
-/// The list of the value, if there is one.
-fn listed(alloc: Global, value: Option<i64>) -> Result<Nums, Memory>
-    ensures { IfOk result (λ list. list ≡ option_to_list value) }
-{
-    let mut list = Nums::new(alloc);
-    if let Some(value) = value {
-        list.push(value)?;
-    }
-    Ok(list)
-}
-
 /// The postlog of the block that a step of this need leaves.
 fn push_closed(entries: &mut Vec<Entry>, code: &Code, proc: &Proc, need: Need) -> Result<(), Memory>
     requires program { IsRunnable code.now.program.now }
@@ -132,27 +80,9 @@ fn push_closed(entries: &mut Vec<Entry>, code: &Code, proc: &Proc, need: Need) -
         (entries.new.items
         ≡ entries.old.items ++ postlogs (closed code.now.program.now code.now.plan.now proc.now need)) }
 {
-    match need {
-        Need::Leave { block, .. } => {
-            let values = values_at(
-                code.alloc,
-                local_cells(proc),
-                postlog_cells(code.plan, block),
-            )?;
-            push(entries, Entry::Postlog { block, values })
-        }
-        Need::Back {
-            block: Some(block),
-            ..
-        } => {
-            let values = listed(code.alloc, returned_value(code.program, proc))?;
-            push(entries, Entry::Postlog { block, values })
-        }
-        Need::End { block } => {
-            let values = Nums::new(code.alloc);
-            push(entries, Entry::Postlog { block, values })
-        }
-        _ => Ok(()),
+    match closed_block(code.alloc, code.program, code.plan, proc, need)? {
+        Some((block, values)) => push(entries, Entry::Postlog { block, values }),
+        None => Ok(()),
     }
 }
 
@@ -206,24 +136,6 @@ fn push_sync(entries: &mut Vec<Entry>, logging: &Logging, taken: Taken) -> Resul
             writes,
         },
     )
-}
-
-/// The unit that starts after a step of this need.
-fn unit_started(need: Need) -> Option<u16>
-    ensures { result ≡ unit_started_of need }
-{
-    match need {
-        Need::Enter { unit, .. }
-        | Need::Leave { unit, .. }
-        | Need::Invoke { unit, .. }
-        | Need::P { unit, .. }
-        | Need::V { unit, .. }
-        | Need::Send { unit, .. }
-        | Need::Done { unit, .. }
-        | Need::Recv { unit, .. } => Some(unit),
-        Need::Back { unit, .. } => unit,
-        _ => None,
-    }
 }
 
 /// The unit that starts after a step of this need, with its values.

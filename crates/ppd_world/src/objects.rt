@@ -1,22 +1,12 @@
-ghost use Rattle.std.specs.Prelude.{◌≡◌, [], get_or, pos, slice_get, OnOk, OnErr};
+ghost use Rattle.std.specs.Prelude.{◌≡◌, [], slice_get, OnOk, OnErr};
 ghost use Rattle.std.specs.List.{All};
 ghost use Rattle.ppd_model.specs.Story.{number_of as number_of_need};
 ghost use Rattle.ppd_model.specs.World.{can_complete as can_complete_of, can_receive as can_receive_of, can_send as can_send_of, can_take as can_take_of, change, next_value as next_value_of, room as room_of_channel};
 ghost use Rattle.ppd_world.specs.Parts.{IsReceivable, IsSmallChan, IsSmallSem, one_completed, one_given, one_received, one_taken, store, with_value, without_last};
 
 use ppd_ast::Memory;
-use ppd_model::{Channel, Counts};
+use ppd_model::{Channel, Counts, value_at};
 use ppd_sem::Need;
-
-/// The value at this place, and 0 past the end.
-pub(crate) fn value_at(values: &[i64], place: usize) -> i64
-    ensures { result ≡ get_or values.now place (pos 0) }
-{
-    match values.get(place) {
-        Some(value) => *value,
-        None => 0,
-    }
-}
 
 /// Whether the semaphore is there and was given more often than taken.
 pub(crate) fn can_take(sems: &[Counts], sem: u8) -> bool

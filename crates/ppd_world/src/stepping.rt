@@ -1,11 +1,9 @@
-ghost use Rattle.std.specs.Prelude.{◌≡◌, ◌<◌, ◌↔◌, length, false, IsTrue, OnOk, OnErr};
-ghost use Rattle.std.specs.List.{All};
+ghost use Rattle.std.specs.Prelude.{◌≡◌, ◌↔◌, IsTrue, OnOk, OnErr};
 ghost use Rattle.ppd_model.specs.Laws.{logged_moment};
 ghost use Rattle.ppd_model.specs.Logs.{log_step};
 ghost use Rattle.ppd_model.specs.Schedule.{IsOver};
 ghost use Rattle.ppd_model.specs.World.{change, enabled as enabled_of, step as step_of};
-ghost use Rattle.ppd_sem.specs.Runs.{IsNumbered, IsRunnable};
-ghost use Rattle.ppd_world.specs.Parts.{IsSmallChan, IsSmallLogging, IsSmallSem, moment_with, sent, world_of};
+ghost use Rattle.ppd_world.specs.Parts.{IsReady, moment_with, sent, world_of};
 
 use crate::code::Code;
 use crate::logging::{need_at, step_at};
@@ -15,9 +13,7 @@ use ppd_model::{Logging, Taken};
 
 /// Whether the process at this place can take a step.
 pub(crate) fn is_enabled(code: &Code, store: &Store, loggings: &[Logging], place: usize) -> bool
-    requires program { IsRunnable code.now.program.now }
-    requires plan { IsNumbered code.now.plan.now }
-    requires loggings { All (IsSmallLogging code.now.program.now) loggings.now }
+    requires { IsReady code.now.program.now code.now.plan.now store.now loggings.now }
     ensures { result ≡ enabled_of code.now.program.now code.now.plan.now (world_of store.now loggings.now) place }
 {
     store.is_met(need_at(code, loggings, place))
@@ -25,9 +21,7 @@ pub(crate) fn is_enabled(code: &Code, store: &Store, loggings: &[Logging], place
 
 /// Whether no process can take a step.
 pub(crate) fn is_over(code: &Code, store: &Store, loggings: &[Logging]) -> bool
-    requires program { IsRunnable code.now.program.now }
-    requires plan { IsNumbered code.now.plan.now }
-    requires loggings { All (IsSmallLogging code.now.program.now) loggings.now }
+    requires { IsReady code.now.program.now code.now.plan.now store.now loggings.now }
     ensures { IsTrue result ↔ IsOver code.now.program.now code.now.plan.now (world_of store.now loggings.now) }
 {
     for place in 0..loggings.len() {
@@ -40,11 +34,7 @@ pub(crate) fn is_over(code: &Code, store: &Store, loggings: &[Logging]) -> bool
 
 /// The next step of the process at this place, without the writer of what it reads.
 pub(crate) fn next_step(code: &Code, store: &Store, loggings: &[Logging], place: usize) -> Taken
-    requires program { IsRunnable code.now.program.now }
-    requires plan { IsNumbered code.now.plan.now }
-    requires sems { All IsSmallSem store.now.sems }
-    requires chans { All IsSmallChan store.now.chans }
-    requires loggings { All (IsSmallLogging code.now.program.now) loggings.now }
+    requires { IsReady code.now.program.now code.now.plan.now store.now loggings.now }
     ensures { result
         ≡ (logged_moment code.now.program.now code.now.plan.now (world_of store.now loggings.now) place).taken }
 {
@@ -66,9 +56,7 @@ fn send_and_step(
     place: usize,
     taken: Taken,
 ) -> Result<(), Memory>
-    requires program { IsRunnable code.now.program.now }
-    requires plan { IsNumbered code.now.plan.now }
-    requires loggings { All (IsSmallLogging code.now.program.now) loggings.old.items }
+    requires { IsReady code.now.program.now code.now.plan.now store.old loggings.old.items }
     ensures store { OnOk result (store.new ≡ sent store.old taken.need) }
     ensures loggings { OnOk result
         (loggings.new.items
@@ -92,11 +80,7 @@ pub(crate) fn take_step(
     loggings: &mut Vec<Logging>,
     place: usize,
 ) -> Result<(), Memory>
-    requires program { IsRunnable code.now.program.now }
-    requires plan { IsNumbered code.now.plan.now }
-    requires sems { All IsSmallSem store.old.sems }
-    requires chans { All IsSmallChan store.old.chans }
-    requires loggings { All (IsSmallLogging code.now.program.now) loggings.old.items }
+    requires { IsReady code.now.program.now code.now.plan.now store.old loggings.old.items }
     ensures world { OnOk result
         (world_of store.new loggings.new.items
         ≡ step_of code.now.program.now code.now.plan.now (world_of store.old loggings.old.items) place) }

@@ -6,10 +6,10 @@ ghost use Rattle.ppd_world.specs.Parts.{IsReceivable, IsSmallChan, IsSmallSem, f
 
 use crate::objects::{
     can_complete, can_receive, can_send, can_take, complete, drop_last, give, next_value,
-    number_of, push_value, receive, take, value_at,
+    number_of, push_value, receive, take,
 };
 use ppd_ast::{Memory, Nums};
-use ppd_model::{Channel, Counts};
+use ppd_model::{Channel, Counts, value_at};
 use ppd_sem::{Answer, Need};
 use std::marker::Model;
 

@@ -6,7 +6,6 @@ use Rattle.ppd_ast.specs.declared.plan.BlockKind.{BlockKind}
 use Rattle.ppd_ast.specs.declared.plan.BlockKind.TheVariants as block
 use Rattle.ppd_ast.specs.declared.plan.Plan.{Plan}
 use Rattle.ppd_ast.specs.declared.program.Program.{Program}
-use Rattle.ppd_entry.specs.declared.entry.Logs.{Logs}
 use Rattle.ppd_entry.specs.Entries.{entries_at}
 use Rattle.ppd_graph.specs.declared.paired.Paired.{Paired}
 use Rattle.ppd_graph.specs.declared.paired.Paired.TheVariants.{Nothing, Initial, Node}
@@ -18,7 +17,6 @@ use Rattle.ppd_model.specs.declared.flow.Origin.TheVariants as origin
 use Rattle.ppd_model.specs.FlowbackEdges.{bare_edge, edges, part_at}
 use Rattle.ppd_model.specs.Intervals.{Span, Split, splits, own}
 use Rattle.ppd_model.specs.Logs.{closed_logs}
-use Rattle.ppd_model.specs.NearIntervals.{near_steps}
 use Rattle.ppd_model.specs.Story.{own_moments, steps_of, story, told}
 use Rattle.ppd_model.proofs.Tested.{In, here as first_in, there as later_in}
 use Rattle.ppd_search.specs.Control.{control_origin, control_replays}
@@ -32,7 +30,6 @@ use Rattle.ppd_shared_edges.specs.SharedEdges.{all_seen}
 use Rattle.ppd_shared_edges.proofs.Near.Tree.{HasTree, has_tree}
 use Rattle.ppd_shared_edges.proofs.Spans.Facts.{Logged}
 use Rattle.ppd_shared_edges.proofs.StepEvents.Processes.{Facts, closed_told, facts}
-use Rattle.ppd_near.specs.Costs.{steps_of_all}
 use Rattle.ppd_near.proofs.Own.Near.{parts_steps, both_steps}
 use Rattle.ppd_near.proofs.Own.Parts.{both_times, one_times}
 use Rattle.ppd_near.proofs.Own.Outer.{AllStand}

@@ -5,7 +5,6 @@ use Rattle.std.proofs.lemmas.List.Sums.{sum_by-cons}
 use Rattle.ppd_ast.specs.Valid.{IsValid}
 use Rattle.ppd_ast.specs.declared.plan.Plan.{Plan}
 use Rattle.ppd_ast.specs.declared.program.Program.{Program}
-use Rattle.ppd_entry.specs.declared.entry.Logs.{Logs}
 use Rattle.ppd_model.specs.declared.flow.FlowEdge.{FlowEdge}
 use Rattle.ppd_model.specs.declared.flow.Origin.{Origin}
 use Rattle.ppd_model.specs.declared.flow.Origin.TheVariants as origin
@@ -13,7 +12,6 @@ use Rattle.ppd_model.specs.declared.graph.EdgeId.{EdgeId}
 use Rattle.ppd_model.specs.declared.trace.TracedEvent.{TracedEvent}
 use Rattle.ppd_model.specs.FlowbackEdges.{edges, part_at}
 use Rattle.ppd_model.specs.Intervals.{own, Split, splits}
-use Rattle.ppd_model.specs.Logs.{closed_logs}
 use Rattle.ppd_model.specs.NearIntervals.{edge_of_event, is_near_origin, is_open_at, is_open_in, near_steps}
 use Rattle.ppd_model.specs.Story.{story}
 use Rattle.ppd_model.proofs.Changes.{some}
@@ -28,7 +26,6 @@ use Rattle.ppd_shared_edges.specs.Within.{cost, steps_from}
 use Rattle.ppd_shared_edges.proofs.Near.Cheap.{walks_cheap}
 use Rattle.ppd_shared_edges.proofs.Sources.Members.{in_filter}
 use Rattle.ppd_shared_edges.proofs.StepEvents.Processes.{facts}
-use Rattle.ppd_near.specs.Costs.{steps_of_all}
 use Rattle.ppd_near.proofs.Own.Lists.{distinct_one, in_one}
 use Rattle.ppd_near.proofs.Own.Near.{all_steps_of, both_steps, near_edge, near_little, no_steps_of}
 use Rattle.ppd_near.proofs.Walks.Counts.{greatest_in}

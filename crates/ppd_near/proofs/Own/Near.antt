@@ -14,12 +14,13 @@ use Rattle.ppd_model.specs.Story.{story}
 use Rattle.ppd_model.proofs.Changes.{some}
 use Rattle.ppd_model.proofs.Tested.{In}
 use Rattle.ppd_search.specs.Shared.{of_process}
+use Rattle.ppd_search.specs.Spans.{steps_of_span}
 use Rattle.ppd_shared_edges.specs.Within.{AreDistinct, cost, steps_from}
 use Rattle.ppd_shared_edges.proofs.Near.Distinct.{not_in_list}
 use Rattle.ppd_shared_edges.proofs.Near.Nearby.{member_is}
 use Rattle.ppd_shared_edges.proofs.Sources.Members.{in_cases, no_member}
 use Rattle.ppd_shared_edges.proofs.Within.{replays_within}
-use Rattle.ppd_near.specs.Costs.{steps_in, steps_of_all, steps_of_span}
+use Rattle.ppd_near.specs.Costs.{steps_in, steps_of_all}
 use Rattle.ppd_near.proofs.Own.Scans.{IsLoopIn}
 
 -- ---- own steps

@@ -17,7 +17,6 @@ use Rattle.ppd_model.specs.LocalTags.{AreOwn}
 use Rattle.ppd_model.specs.Logs.{log_of}
 use Rattle.ppd_model.specs.Story.{story, told}
 use Rattle.ppd_model.specs.Synchronizations.{syncs_of}
-use Rattle.ppd_model.specs.declared.tracing.Story.{Story}
 use Rattle.ppd_model.specs.declared.tracing.Taken.{Taken}
 use Rattle.ppd_model.specs.declared.tracing.Tracing.{Tracing}
 use Rattle.ppd_model.proofs.Changes.{change-at, some}
@@ -42,17 +41,8 @@ use Rattle.ppd_near.proofs.Steps.Moments.{bares, bares_are, edge_counts, edges_l
 -- ---- a process of a schedule
 
 module _ (program : Program) (plan : Plan) (budget : ℕ) (h : List ℕ) (v : IsValid program) (q : ℕ) (x : Split) (f : Facts program plan budget h v q x) where
-  abbrev s : Story
-  s = story program plan budget h
-
   abbrev steps : List Taken
   steps = did (told program plan budget h) q
-
-  abbrev pub upto : List Taken → Split
-  upto ts = split_of program plan budget (story program plan budget h) q ts
-
-  first : Split
-  first = begun_split program plan q (started program plan q budget)
 
   pub all_is : split_of program plan budget (story program plan budget h) q (did (told program plan budget h) q) ≡ x
   all_is = (closed_told program plan budget h v q x f.there).0

@@ -7,7 +7,6 @@ use Rattle.ppd_ast.specs.Valid.{IsValid}
 use Rattle.ppd_ast.specs.declared.plan.Plan.{Plan}
 use Rattle.ppd_ast.specs.declared.program.Program.{Program}
 use Rattle.ppd_entry.specs.declared.entry.Entry.{Entry}
-use Rattle.ppd_entry.specs.declared.entry.Logs.{Logs}
 use Rattle.ppd_entry.specs.Entries.{entries_at}
 use Rattle.ppd_sem.specs.declared.proc.Need.{Need}
 use Rattle.ppd_sem.specs.declared.proc.Need.TheVariants as n
@@ -60,9 +59,6 @@ origin_or o (Err m) = o
 -- ---- the walk
 
 module _ (program : Program) (plan : Plan) (budget : ℕ) (h : List ℕ) (v : IsValid program) where
-  abbrev logs : Logs
-  logs = closed_logs program plan budget h
-
   module _ (q : ℕ) (x : Split) (f : Facts program plan budget h v q x) where
     abbrev entries : List Entry
     entries = entries_at (closed_logs program plan budget h) q
@@ -92,10 +88,6 @@ module _ (program : Program) (plan : Plan) (budget : ℕ) (h : List ℕ) (v : Is
               ∙ ap (λ i. list_any (λ d. nat_eq d (count_to x.trace.events k)) (drop t.span.opened (take i x.edges))) z
               ∙ open_at x.edges t.span.opened l.step (count_to x.trace.events k) l.opened (l.in_edge ∙ ap (λ i. Some i) same);
         }
-
-    -- the intervals of the walk from where edge e ends, that one first
-    abbrev walked : ℕ → ℕ → List ℕ
-    walked c e = end_interval entries e ∷ walk_replays (seen_of x) c (end_interval entries e) (end_item entries (seen_of x) e)
 
     module _ (c e : ℕ) (g : IsEnd program plan budget h q x e) where
       onto : (P : ℕ → ℕ → Type 0) → P g.interval (length g.before) → P (end_interval entries e) (end_item entries (seen_of x) e)

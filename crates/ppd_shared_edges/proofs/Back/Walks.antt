@@ -29,10 +29,6 @@ pub length-mapped : {A B : Type 0} (f : A → B) (xs : List A) → length (map f
 length-mapped f [] = refl
 length-mapped f (x ∷ xs) = ap (λ n. suc n) (length-mapped f xs)
 
-middle_at : {A : Type 0} (xs : List A) (y : A) (ys : List A) → slice_get (xs ++ y ∷ ys) (length xs) ≡ Some y
-middle_at [] y ys = refl
-middle_at (x ∷ xs) y ys = middle_at xs y ys
-
 front_at : {A : Type 0} (xs ys : List A) (i : ℕ) (x : A) → slice_get xs i ≡ Some x → slice_get (xs ++ ys) i ≡ Some x
 front_at [] ys i x e = absurd (none-some x e)
 front_at (z ∷ xs) ys zero x e = e

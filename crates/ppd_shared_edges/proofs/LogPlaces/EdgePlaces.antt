@@ -173,9 +173,6 @@ module _ (x : Split) (entries : List Entry) where
       by true is = let lt : n < i = below is in ne_eqb n i (λ same. omega (arith, same, lt))
       by false is = refl
 
-  abbrev passes : ℕ → ℕ → Item → List Item → ℕ
-  passes i n t ts = sync_item entries i n (t ∷ ts)
-
   passed : (i n : ℕ) (t : Item) (ts : List Item) → (is_sync_item t && nat_eq n i) ≡ false → sync_item entries i n (t ∷ ts) ≡ suc (sync_item entries i (n + syncs_of_item entries t) ts)
   passed i n t ts e = ap (λ b. if b then 0 else suc (sync_item entries i (n + syncs_of_item entries t) ts)) e
 

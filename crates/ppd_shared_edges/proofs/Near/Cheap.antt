@@ -54,10 +54,6 @@ module _ (program : Program) (plan : Plan) (budget : ℕ) (h : List ℕ) (v : Is
           subst (λ z. AreDistinct (k ∷ walk_replays (seen_of x) c k z)) q.4
           (walk_distinct x tree c (Logged (closed_log (log_of program plan budget p (own_moments (told program plan budget h) p))) x.trace.events) k q.0.first q.1 (own n ∷ q.2) n s g q.3 q.5 (omega (arith, lt)) q.0.stands)
 
-  -- an interval of the process that is round the item or open beside it is near
-  abbrev Near : ℕ → Span → Bool
-  Near m i = is_near program plan budget (story program plan budget h) p k j p x m i
-
   near_if : (m : ℕ) (i : Span) → (is_round plan (surroundings x k) m i || is_open_at x (part_at x k j) i) ≡ true → is_near program plan budget (story program plan budget h) p k j p x m i ≡ true
   near_if m i f =
       or_left (nat_eq p p && (is_round plan (surroundings x k) m i || is_open_at x (part_at x k j) i)) (list_any (λ d. is_near_origin p x m i d.from) (edges_or_none (edges program plan budget (story program plan budget h) p k j)))

@@ -8,22 +8,21 @@ use Rattle.ppd_ast.specs.declared.program.Expr.{Expr}
 use Rattle.ppd_ast.specs.declared.program.Kind.{Kind}
 use Rattle.ppd_ast.specs.declared.program.Kind.TheVariants as kind
 use Rattle.ppd_ast.specs.declared.program.Program.{Program}
-use Rattle.ppd_ast.specs.declared.program.Target.TheVariants as target
 use Rattle.ppd_ast.specs.declared.status.Status.{Status}
 use Rattle.ppd_ast.specs.declared.status.Trap.TheVariants as trap
-use Rattle.ppd_ast.specs.Term.{Term, term}
 use Rattle.ppd_ast.specs.Lookups.{kind_of}
 use Rattle.ppd_sem.specs.declared.asking.Pause.TheVariants.{Wants, Traps}
 use Rattle.ppd_sem.specs.declared.proc.Need.{Need}
 use Rattle.ppd_sem.specs.declared.proc.Need.TheVariants as need
 use Rattle.ppd_sem.specs.declared.proc.Proc.{Proc}
 use Rattle.ppd_sem.specs.declared.proc.Todo.{Todo}
-use Rattle.ppd_sem.specs.Ask.{ask, element, is_zero}
-use Rattle.ppd_sem.specs.Asked.{Asked, and_then, gives, lift}
-use Rattle.ppd_sem.specs.Deed.{Deed, set_local, set_shared, branch, turn, leave, invoke, back, take, send, print, pass, ask_all, ask_deed, ask_stored}
+use Rattle.ppd_sem.specs.Asked.{Asked}
+use Rattle.ppd_sem.specs.Deed.{Deed, set_shared, leave, invoke, take, send, ask_deed}
 use Rattle.ppd_sem.specs.Process.{chan_of, cost, entry_of, head_deed, need_by_entry, need_by_offer, need_by_status, need_of, need_of_call, need_of_deed, need_of_head, need_of_leaving, need_of_running, need_of_send, offer_of, top_cells}
 use Rattle.ppd_sem.specs.Tables.{block_of, capacity_of, unit_of}
 use Rattle.ppd_sem.specs.Described.{is_event}
+use Rattle.ppd_sem.proofs.OfKind.{IsDeedOf, OfAsked, asked_holds, finishes}
+use Rattle.ppd_sem.specs.declared.asking.Pause.{Pause}
 
 -- a statement by its kind
 abbrev pub is_take : Kind → Bool
@@ -44,48 +43,24 @@ abbrev Others : Kind → Asked Deed → Type 0
 Others k (Ok q) = taking q.0 ≡ is_take k
 Others k (Err pause) = is_take k ≡ false
 
-module _ (k : Kind) (plain : is_take k ≡ false) where
-  then_other : {A : Type 0} (r : Asked A) (next : A → List ℤ → Asked Deed) → ((x : A) (left : List ℤ) → Others k (next x left)) → Others k (and_then r next)
-  then_other (Ok q) next h = h q.0 q.1
-  then_other (Err pause) next h = plain
+kind_takes : (k : Kind) (d : Deed) → IsDeedOf k d → taking d ≡ is_take k
+kind_takes k d finishes = refl
+kind_takes k d is = refl
 
-  one_other : {A : Type 0} (r : Asked A) (deed : A → Deed) → ((x : A) → taking (deed x) ≡ false) → Others k (and_then r (λ x left. gives left (deed x)))
-  one_other (Ok q) deed h = h q.0 ∙ sym plain
-  one_other (Err pause) deed h = plain
-
-  stored_other : (i e : Term) (base len : ℕ) (store : ℕ → ℤ → Deed) (cells answers : List ℤ) → ((c : ℕ) (v : ℤ) → taking (store c v) ≡ false) → Others k (ask_stored i e base len store cells answers)
-  stored_other i e base len store cells answers h =
-      then_other (ask i cells answers) (λ at left. and_then (lift left (element base len at)) (λ c left. and_then (ask e cells left) (λ v left. gives left (store c v))))
-      (λ at left. then_other (lift left (element base len at)) (λ c left. and_then (ask e cells left) (λ v left. gives left (store c v)))
-      (λ c left. one_other (ask e cells left) (store c) (h c)))
-
-  turned : (b : Bool) (stmts : List ℕ) → taking (if b then leave else turn stmts) ≡ false
-  turned true stmts = refl
-  turned false stmts = refl
-
-  asserted : (b : Bool) (left : List ℤ) → Others k (if b then Err (Traps trap.Assert) else gives left pass)
-  asserted true left = plain
-  asserted false left = sym plain
+-- a take asks for nothing
+never_waits : (es : List Expr) (k : Kind) (cells answers : List ℤ) (pause : Pause)
+    → ask_deed es k cells answers ≡ Err pause → is_take k ≡ false
+never_waits es (kind.P x) cells answers pause e = absurd (cc)
+never_waits es k cells answers pause e = refl
 
 others : (es : List Expr) (k : Kind) (cells answers : List ℤ) → Others k (ask_deed es k cells answers)
-others es (kind.Set (target.Local c) e) cells answers = one_other (kind.Set (target.Local c) e) refl (ask (term es e) cells answers) (λ v. set_local c v) (λ v. refl)
-others es (kind.Set (target.LocalAt base len i) e) cells answers = stored_other (kind.Set (target.LocalAt base len i) e) refl (term es i) (term es e) base len set_local cells answers (λ c v. refl)
-others es (kind.Set (target.Shared c) e) cells answers = one_other (kind.Set (target.Shared c) e) refl (ask (term es e) cells answers) (λ v. set_shared c v) (λ v. refl)
-others es (kind.Set (target.SharedAt base len i) e) cells answers = stored_other (kind.Set (target.SharedAt base len i) e) refl (term es i) (term es e) base len set_shared cells answers (λ c v. refl)
-others es (kind.Zero base len) cells answers = refl
-others es (kind.If e first second) cells answers = one_other (kind.If e first second) refl (ask (term es e) cells answers) (λ v. branch (if is_zero v then second else first)) (λ v. refl)
-others es (kind.While e body) cells answers = one_other (kind.While e body) refl (ask (term es e) cells answers) (λ v. if is_zero v then leave else turn body) (λ v. turned (kind.While e body) refl (is_zero v) body)
-others es (kind.Call f arguments into) cells answers = one_other (kind.Call f arguments into) refl (ask_all es arguments cells answers) (λ vs. invoke f vs into) (λ vs. refl)
-others es (kind.Return None) cells answers = refl
-others es (kind.Return (Some e)) cells answers = one_other (kind.Return (Some e)) refl (ask (term es e) cells answers) (λ v. back (Some v)) (λ v. refl)
-others es (kind.P x) cells answers = refl
-others es (kind.V x) cells answers = refl
-others es (kind.Send c e) cells answers = one_other (kind.Send c e) refl (ask (term es e) cells answers) (λ v. send c v) (λ v. refl)
-others es (kind.Recv c into) cells answers = refl
-others es (kind.Print e) cells answers = one_other (kind.Print e) refl (ask (term es e) cells answers) (λ v. print v) (λ v. refl)
-others es (kind.Assert e) cells answers =
-    then_other (kind.Assert e) refl (ask (term es e) cells answers) (λ v left. if is_zero v then Err (Traps trap.Assert) else gives left pass) (λ v left. asserted (kind.Assert e) refl (is_zero v) left)
-others es kind.End cells answers = refl
+others es k cells answers =
+    by (ask_deed es k cells answers) refl (asked_holds es cells answers (λ (d : Deed). taking d ≡ is_take k) k (kind_takes k))
+  where
+    by : (asked : Asked Deed) → ask_deed es k cells answers ≡ asked → OfAsked (λ (d : Deed). taking d ≡ is_take k) asked
+        → Others k asked
+    by (Ok q) e h = h
+    by (Err pause) e h = never_waits es k cells answers pause e
 
 -- ---- needs
 

@@ -121,11 +121,6 @@ any_there t [] m a e f = absurd (none-some a e)
 any_there t (x ∷ xs) zero a e f = ap (λ b. b || list_any t xs) (ap t (some e) ∙ f)
 any_there t (x ∷ xs) (suc m) a e f = either (t x) (list_any t xs) (any_there t xs m a e f)
 
-range_at : {A : Type 0} (f : ℕ → A) (a n i : ℕ) → i < n → slice_get (map f (range_with_len a n)) i ≡ Some (f (a + i))
-range_at f a zero i lt = absurd (omega (arith, lt))
-range_at f a (suc n) zero lt = ap (λ k. Some (f k)) (let z : a ≡ a + 0 = omega arith in z)
-range_at f a (suc n) (suc i) lt = range_at f (a + 1) n i (omega (arith, lt)) ∙ ap (λ k. Some (f k)) (let z : a + 1 + i ≡ a + suc i = omega arith in z)
-
 -- a list of the first n and one more
 through_at : {A : Type 0} (f : ℕ → A) (n i : ℕ) → i ≤ n → slice_get (map f (range_with_len 0 n) ++ f n ∷ []) i ≡ Some (f i)
 through_at f n i le = by 0 n (omega arith) i le ∙ ap (λ k. Some (f k)) (let z : 0 + i ≡ i = omega arith in z)

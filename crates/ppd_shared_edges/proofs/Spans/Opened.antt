@@ -38,9 +38,6 @@ module _ (entries : List Entry) (events : List TracedEvent) (spans : List Span) 
   after : List Span
   after = change (with_part (nested (length spans))) m spans ++ new ∷ []
 
-  inn : IsInnermost entries events spans m rest (length events)
-  inn = h.tiled
-
   below : m < length spans
   below = below_at spans m h.tiled.span h.tiled.there
 

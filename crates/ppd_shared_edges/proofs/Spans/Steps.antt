@@ -48,9 +48,6 @@ AreNumbered (t ∷ ts) = IsNumbered t × AreNumbered ts
 
 -- ---- parts of a step
 
-nil_told : (es : List Entry) (events : List TracedEvent) (x : Split) → IsTold es events x.spans x.running → IsTold (es ++ []) events x.spans x.running
-nil_told es events x h = subst (λ l. IsTold l events x.spans x.running) (sym (append-nil es)) h
-
 step_told : (need : Need) (es : List Entry) (events : List TracedEvent) (x : Split) → IsTold es events x.spans x.running → IsTold es events (with_step need x).spans (with_step need x).running
 step_told n.Budget es events x h = h
 step_told n.Stopped es events x h = h

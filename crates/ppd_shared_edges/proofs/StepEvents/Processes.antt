@@ -63,9 +63,6 @@ module _ (program : Program) (plan : Plan) (budget : ℕ) where
       by false = subst (λ es. IsTold es x.trace.events x.spans x.running) (sym (append-nil l.entries)) h
 
   module _ (h : List ℕ) (v : IsValid program) where
-    abbrev told_story : Story
-    told_story = story program plan budget h
-
     abbrev xs : List Split
     xs = splits program plan budget (story program plan budget h)
 

@@ -15,7 +15,6 @@ use Rattle.ppd_sem.specs.Process.{need_of, started}
 use Rattle.ppd_sem.proofs.Progress.{need_at_status}
 use Rattle.ppd_sem.specs.Described.{is_event}
 use Rattle.ppd_model.specs.declared.trace.TracedEvent.{TracedEvent}
-use Rattle.ppd_model.specs.declared.tracing.Story.{Story}
 use Rattle.ppd_model.specs.declared.tracing.Taken.{Taken}
 use Rattle.ppd_model.specs.declared.tracing.Tracing.{Tracing}
 use Rattle.ppd_model.specs.FullTrace.{Tag, begun_tracing, trace_step}
@@ -79,12 +78,6 @@ module _ (program : Program) (plan : Plan) (budget : ℕ) (h : List ℕ) (v : Is
   module _ (p : ℕ) (x : Split) (f : Facts program plan budget h v p x) where
     abbrev steps : List Taken
     steps = did (told program plan budget h) p
-
-    abbrev first : Tracing
-    first = begun_tracing (started program plan p budget)
-
-    abbrev told_story : Story
-    told_story = story program plan budget h
 
     abbrev after_all : List Taken → Tracing
     after_all xs = fold (trace_step program plan (story program plan budget h) p) (begun_tracing (started program plan p budget)) xs

@@ -101,14 +101,6 @@ module _ (program : Program) (plan : Plan) where
   NoWrites c [] = ⊤
   NoWrites c (x ∷ xs) = (writes_cell c x.need ≡ false) × NoWrites c xs
 
-  none_more : (c : ℕ) (xs : List Taken) (x : Taken) → NoWrites c xs → writes_cell c x.need ≡ false → NoWrites c (xs ++ x ∷ [])
-  none_more c [] x h e = (e, tt)
-  none_more c (y ∷ ys) x h e = (h.0, none_more c ys x h.1 e)
-
-  none_both : (c : ℕ) (xs ys : List Taken) → NoWrites c xs → NoWrites c ys → NoWrites c (xs ++ ys)
-  none_both c [] ys h k = k
-  none_both c (x ∷ xs) ys h k = (h.0, none_both c xs ys h.1 k)
-
   -- what a process did stays, and more comes behind it
   pub did_more : (c p : ℕ) (t : Telling) (g : List ℕ) → (more : List Taken) × (did (on t g) p ≡ did t p ++ more) × (IsUnwritten program plan c t g → NoWrites c more)
   did_more c p t [] = ([], sym (append-nil (did t p)), (λ u. tt))

@@ -1,5 +1,5 @@
 -- The answers that a statement has so far are of the cells that it wanted in turn, and their tags those of the cells' writers.
-use Rattle.std.proofs.Common.{◌≡◌, ℕ, zero, suc, ℤ, true, List, [], ◌∷◌, ◌++◌, Option, Some, None, Ok, Err, map, refl, sym, ap, ◌∙◌, subst, append_assoc, append-nil}
+use Rattle.std.proofs.Common.{◌≡◌, ℕ, zero, suc, ℤ, List, [], ◌∷◌, ◌++◌, Option, Some, None, Ok, Err, map, refl, sym, ap, ◌∙◌, subst, append_assoc, append-nil}
 use Rattle.ppd_model.specs.declared.tracing.Story.{Story}
 use Rattle.ppd_model.specs.declared.tracing.Taken.{Taken}
 use Rattle.ppd_model.specs.declared.tracing.Tracing.{Tracing}
@@ -24,7 +24,6 @@ use Rattle.ppd_sem.specs.Consumed.{WantsInTurn, shared_of, shared_with, values_r
 use Rattle.ppd_sem.specs.Deed.{Deed, set_local, clear, invoke, back, receive, ask_deed}
 use Rattle.ppd_sem.specs.Process.{act, act_at, act_by_asked, act_by_deed, act_by_need, head_deed, need_by_status, need_of, started, top_cells, value_of}
 use Rattle.ppd_sem.proofs.Progress.{act-stopped}
-use Rattle.ppd_sem.specs.Described.{is_event}
 use Rattle.ppd_step_laws.proofs.Course.Outward.{none_some}
 use Rattle.ppd_sound.proofs.SharedCells.Asking.{Finishes, Tells, need_tells}
 use Rattle.ppd_sound.proofs.SharedCells.Writers.{EachReadIs, IsWriter, ReadIs}
@@ -111,13 +110,6 @@ module _ (program : Program) (plan : Plan) (story : Story) (p : ℕ) (x : Taken)
   -- the tags of the answers after a step of this need
   abbrev pub tags_by : Need → Tracing → List Tag
   tags_by n u = (trace_by program plan story p x n u).answers
-
-  event_tags : (n : Need) (u : Tracing) → is_event n ≡ true → tags_by n u ≡ []
-  event_tags (Read c) u e = absurd (cc)
-  event_tags (Enter b w) u e = absurd (cc)
-  event_tags Budget u e = absurd (cc)
-  event_tags Stopped u e = absurd (cc)
-  event_tags n u e = refl
 
   module _ (u : Tracing) (t : Todo) (ts : List Todo) (is : u.proc.todo ≡ t ∷ ts) (had : AreTaken steps (evaluates_at program t u.proc) [] u.proc.answers u.answers) where
     -- a statement that is finished has no answers left

@@ -35,9 +35,6 @@ length_states program plan budget p [] = refl
 length_states program plan budget p (xs ∷ rest) = ap suc (length_states program plan budget (p + 1) rest)
 
 module _ (program : Program) (plan : Plan) (budget : ℕ) where
-  abbrev all_steps : Telling → List (List Taken)
-  all_steps t = map steps_of t.moments
-
   record Tagged (t : Telling) : Type 0 where
     procs : t.world.procs ≡ states_from program plan budget 0 (map steps_of t.moments)
     writers : (c : ℕ) → IsWriter (map steps_of t.moments) c (get_or t.writers c None)

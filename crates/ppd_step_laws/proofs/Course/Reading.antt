@@ -1,5 +1,5 @@
 -- A shared cell that a statement wants is one that its expressions may read.
-use Rattle.std.proofs.Common.{◌≡◌, ℕ, zero, suc, ◌+◌, ◌<◌, ◌≤◌, ℤ, pos, negsuc, neg_ℤ, Bool, true, false, nat_lt, List, [], ◌∷◌, length, Option, Some, None, Result, Ok, Err, refl, subst, arith, if◌then◌else◌}
+use Rattle.std.proofs.Common.{◌≡◌, ℕ, ◌+◌, ◌<◌, ◌≤◌, ℤ, pos, negsuc, neg_ℤ, Bool, true, false, nat_lt, List, [], ◌∷◌, Option, Some, None, Result, Ok, Err, refl, subst, arith, if◌then◌else◌}
 use Rattle.std.specs.Prelude.{IsTrue, not as negated, ⊤}
 use Rattle.std.specs.List.{range_with_len}
 use Rattle.std.proofs.lemmas.Bool.Decides.{nat_tests}
@@ -25,10 +25,10 @@ use Rattle.ppd_sem.specs.declared.proc.Proc.{Proc}
 use Rattle.ppd_sem.specs.declared.proc.Todo.{Todo}
 use Rattle.ppd_sem.specs.Ask.{ask, calc, cell_of, checked, element, is_zero, truth}
 use Rattle.ppd_sem.specs.Asked.{Asked, and_then, gives, lift, read_shared}
-use Rattle.ppd_sem.specs.Deed.{Deed, set_local, set_shared, clear, branch, turn, leave, invoke, back, take, give, send, receive, print, pass, finish, ask_all, ask_deed, ask_stored}
-use Rattle.ppd_sem.specs.Tables.{capacity_of}
-use Rattle.ppd_sem.specs.Process.{need_by_offer, need_of_send, offer_of, cost, entry_of, head_deed, need_by_entry, need_by_status, need_of_deed, need_of_head, need_of_leaving, need_of_running, top_cells}
+use Rattle.ppd_sem.specs.Deed.{Deed, set_local, set_shared, branch, turn, leave, invoke, back, send, print, pass, ask_all, ask_deed, ask_stored}
+use Rattle.ppd_sem.specs.Process.{need_by_offer, offer_of, cost, entry_of, head_deed, need_by_entry, need_by_status, need_of_deed, need_of_head, need_of_running, top_cells}
 use Rattle.ppd_sem.specs.Passed.{next_stmt_of}
+use Rattle.ppd_sem.proofs.Offers.{IsDeedNeed, deed_need}
 use Rattle.ppd_sets.specs.Named.{cells_in, reads}
 use Rattle.ppd_step_laws.specs.Laws.{ReadsItsCells}
 use Rattle.ppd_step_laws.proofs.Course.Outward.{none_some, some_is}
@@ -150,38 +150,17 @@ if_reads : (W : ℕ → Type 0) (b : Bool) (x y : Need) → ReadsSuch W x → Re
 if_reads W true x y h g = h
 if_reads W false x y h g = g
 
-leaving : (W : ℕ → Type 0) (plan : Plan) (t : ℕ) (o : Option ℕ) → ReadsSuch W (need_of_leaving plan t o)
-leaving W plan t None = tt
-leaving W plan t (Some b) = tt
-
-sending : (W : ℕ → Type 0) (plan : Plan) (t n c : ℕ) (v : ℤ) → ReadsSuch W (need_of_send plan t n c v)
-sending W plan t zero c v = tt
-sending W plan t (suc n) c v = tt
+no_read : (W : ℕ → Type 0) (n : Need) → IsDeedNeed n → ReadsSuch W n
+no_read W (need.Read c) h = absurd h
+no_read W n h = tt
 
 offered_need : (W : ℕ → Type 0) (plan : Plan) (t : ℕ) (o : Option ℕ) (n : Need) → ReadsSuch W n → ReadsSuch W (need_by_offer plan t o n)
 offered_need W plan t (Some c) n h = tt
 offered_need W plan t None n h = h
 
-deed_need : (W : ℕ → Type 0) (p : Program) (plan : Plan) (t : ℕ) (s : Proc) (d : Deed) → ReadsSuch W (need_of_deed p plan t s d)
-deed_need W p plan t s (set_local c v) = tt
-deed_need W p plan t s (set_shared c v) = tt
-deed_need W p plan t s (clear base len) = tt
-deed_need W p plan t s (branch stmts) = tt
-deed_need W p plan t s (turn stmts) = tt
-deed_need W p plan t s leave = leaving W plan t _
-deed_need W p plan t s (invoke f values into) = if_reads W (nat_lt 64 (s.below + length s.frames)) (need.Trap trap.Depth) (need.Invoke _ _) tt tt
-deed_need W p plan t s (back value) = tt
-deed_need W p plan t s (take sem) = tt
-deed_need W p plan t s (give sem) = tt
-deed_need W p plan t s (send chan value) = sending W plan t (capacity_of p chan) chan value
-deed_need W p plan t s (receive chan into) = tt
-deed_need W p plan t s (print v) = tt
-deed_need W p plan t s pass = tt
-deed_need W p plan t s finish = tt
-
 entered_need : (W : ℕ → Type 0) (p : Program) (plan : Plan) (t : ℕ) (s : Proc) (o : Option ℕ) (asked : Asked Deed) → Gives W free asked → ReadsSuch W (need_by_entry p plan t s o asked)
 entered_need W p plan t s (Some b) asked h = tt
-entered_need W p plan t s None (Ok q) h = deed_need W p plan t s q.0
+entered_need W p plan t s None (Ok q) h = no_read W (need_of_deed p plan t s q.0) (deed_need p plan t s q.0)
 entered_need W p plan t s None (Err (Wants c)) h = h
 entered_need W p plan t s None (Err (Traps x)) h = tt
 

@@ -7,11 +7,9 @@ use Rattle.ppd_ast.specs.declared.program.Expr.{Expr}
 use Rattle.ppd_ast.specs.declared.program.Kind.{Kind}
 use Rattle.ppd_ast.specs.declared.program.Kind.TheVariants as kind
 use Rattle.ppd_ast.specs.declared.program.Program.{Program}
-use Rattle.ppd_ast.specs.declared.program.Target.TheVariants as target
 use Rattle.ppd_ast.specs.declared.status.Status.{Status}
 use Rattle.ppd_ast.specs.declared.status.Trap.TheVariants as trap
 use Rattle.ppd_ast.specs.Numbered.{is_left, is_while}
-use Rattle.ppd_ast.specs.Term.{Term, term}
 use Rattle.ppd_ast.specs.Lookups.{kind_of}
 use Rattle.ppd_sem.specs.declared.asking.Pause.TheVariants.{Wants, Traps}
 use Rattle.ppd_sem.specs.declared.proc.Answer.{Answer}
@@ -20,13 +18,13 @@ use Rattle.ppd_sem.specs.declared.proc.Need.{Need}
 use Rattle.ppd_sem.specs.declared.proc.Need.TheVariants.{Read, Enter, Leave, Invoke, P, V, Send, Offer, Done, Recv, Trap, Budget, Stopped}
 use Rattle.ppd_sem.specs.declared.proc.Proc.{Proc}
 use Rattle.ppd_sem.specs.declared.proc.Todo.{Todo}
-use Rattle.ppd_sem.specs.Ask.{ask, element, is_zero}
-use Rattle.ppd_sem.specs.Asked.{Asked, and_then, gives, lift}
-use Rattle.ppd_sem.specs.Deed.{Deed, set_local, set_shared, clear, branch, turn, leave, invoke, back, take, give, send, receive, print, pass, finish, ask_all, ask_deed, ask_stored}
+use Rattle.ppd_sem.specs.Asked.{Asked}
+use Rattle.ppd_sem.specs.Deed.{Deed, set_local, set_shared, clear, branch, turn, leave, invoke, back, take, give, send, receive, print, pass, finish, ask_deed}
 use Rattle.ppd_sem.proofs.Offers.{offer_there}
 use Rattle.std.proofs.lemmas.Option.{none-some}
 use Rattle.ppd_sem.specs.Process.{chan_of, need_by_offer, need_of_send, offer_of, act, act_at, act_by_asked, act_by_deed, act_by_need, clear_top, entry_of, head_deed, into_of, loop_of, need_by_entry, need_by_status, need_of, need_of_asked, need_of_leaving, need_of_running, receive_at, returned, returned_from, started, top_call, write_top}
 use Rattle.ppd_sem.specs.Tables.{capacity_of, block_of}
+use Rattle.ppd_sem.proofs.OfKind.{IsDeedOf, OfAsked, asked_holds, invokes, receives, releases, sends, takes}
 
 -- ---- a deed that starts a unit is of a call or a synchronization
 
@@ -43,59 +41,18 @@ abbrev FitsKind : Kind → Deed → Type 0
 FitsKind k d = is_leaving d ≡ true → is_left k ≡ true
 
 abbrev FitsAsked : Kind → Asked Deed → Type 0
-FitsAsked k (Ok q) = FitsKind k q.0
-FitsAsked k (Err pause) = ⊤
+FitsAsked k = OfAsked (FitsKind k)
 
-module _ (k : Kind) where
-  then_fits : {A : Type 0} (r : Asked A) (next : A → List ℤ → Asked Deed) → ((x : A) (left : List ℤ) → FitsAsked k (next x left)) → FitsAsked k (and_then r next)
-  then_fits (Ok q) next h = h q.0 q.1
-  then_fits (Err pause) next h = tt
-
-  one_fits : {A : Type 0} (r : Asked A) (deed : A → Deed) → ((x : A) → FitsKind k (deed x)) → FitsAsked k (and_then r (λ x left. gives left (deed x)))
-  one_fits (Ok q) deed h = h q.0
-  one_fits (Err pause) deed h = tt
-
-  stored_fits : (i e : Term) (base len : ℕ) (store : ℕ → ℤ → Deed) (cells answers : List ℤ) → ((c : ℕ) (v : ℤ) → FitsKind k (store c v)) → FitsAsked k (ask_stored i e base len store cells answers)
-  stored_fits i e base len store cells answers h =
-      then_fits (ask i cells answers) (λ at left. and_then (lift left (element base len at)) (λ c left. and_then (ask e cells left) (λ v left. gives left (store c v))))
-      (λ at left. then_fits (lift left (element base len at)) (λ c left. and_then (ask e cells left) (λ v left. gives left (store c v)))
-      (λ c left. one_fits (ask e cells left) (store c) (h c)))
-
-  none_left : false ≡ true → is_left k ≡ true
-  none_left e = absurd (true≢false (sym e))
-
-  turn_fits : (b : Bool) (stmts : List ℕ) → FitsKind k (if b then leave else turn stmts)
-  turn_fits true stmts = none_left
-  turn_fits false stmts = none_left
-
-  assert_fits : (b : Bool) (left : List ℤ) → FitsAsked k (if b then Err (Traps trap.Assert) else gives left pass)
-  assert_fits true left = tt
-  assert_fits false left = none_left
+deed_fits : (k : Kind) (d : Deed) → IsDeedOf k d → FitsKind k d
+deed_fits k d takes = λ e. refl
+deed_fits k d releases = λ e. refl
+deed_fits k d (sends v) = λ e. refl
+deed_fits k d receives = λ e. refl
+deed_fits k d (invokes values count) = λ e. refl
+deed_fits k d is = λ e. absurd (true≢false (sym e))
 
 asked_fits : (es : List Expr) (k : Kind) (cells answers : List ℤ) → FitsAsked k (ask_deed es k cells answers)
-asked_fits es (kind.Set (target.Local c) e) cells answers = one_fits (kind.Set (target.Local c) e) (ask (term es e) cells answers) (λ v. set_local c v) (λ v. none_left (kind.Set (target.Local c) e))
-asked_fits es (kind.Set (target.LocalAt base len i) e) cells answers =
-    stored_fits (kind.Set (target.LocalAt base len i) e) (term es i) (term es e) base len set_local cells answers (λ c v. none_left (kind.Set (target.LocalAt base len i) e))
-asked_fits es (kind.Set (target.Shared c) e) cells answers = one_fits (kind.Set (target.Shared c) e) (ask (term es e) cells answers) (λ v. set_shared c v) (λ v. none_left (kind.Set (target.Shared c) e))
-asked_fits es (kind.Set (target.SharedAt base len i) e) cells answers =
-    stored_fits (kind.Set (target.SharedAt base len i) e) (term es i) (term es e) base len set_shared cells answers (λ c v. none_left (kind.Set (target.SharedAt base len i) e))
-asked_fits es (kind.Zero base len) cells answers = none_left (kind.Zero base len)
-asked_fits es (kind.If e first second) cells answers =
-    one_fits (kind.If e first second) (ask (term es e) cells answers) (λ v. branch (if is_zero v then second else first)) (λ v. none_left (kind.If e first second))
-asked_fits es (kind.While e body) cells answers =
-    one_fits (kind.While e body) (ask (term es e) cells answers) (λ v. if is_zero v then leave else turn body) (λ v. turn_fits (kind.While e body) (is_zero v) body)
-asked_fits es (kind.Call f arguments into) cells answers =
-    one_fits (kind.Call f arguments into) (ask_all es arguments cells answers) (λ vs. invoke f vs into) (λ vs e. refl)
-asked_fits es (kind.Return None) cells answers = none_left (kind.Return None)
-asked_fits es (kind.Return (Some e)) cells answers = one_fits (kind.Return (Some e)) (ask (term es e) cells answers) (λ v. back (Some v)) (λ v. none_left (kind.Return (Some e)))
-asked_fits es (kind.P x) cells answers = λ e. refl
-asked_fits es (kind.V x) cells answers = λ e. refl
-asked_fits es (kind.Send c e) cells answers = one_fits (kind.Send c e) (ask (term es e) cells answers) (λ v. send c v) (λ v e. refl)
-asked_fits es (kind.Recv c into) cells answers = λ e. refl
-asked_fits es (kind.Print e) cells answers = one_fits (kind.Print e) (ask (term es e) cells answers) (λ v. print v) (λ v. none_left (kind.Print e))
-asked_fits es (kind.Assert e) cells answers =
-    then_fits (kind.Assert e) (ask (term es e) cells answers) (λ v left. if is_zero v then Err (Traps trap.Assert) else gives left pass) (λ v left. assert_fits (kind.Assert e) (is_zero v) left)
-asked_fits es kind.End cells answers = none_left kind.End
+asked_fits es k cells answers = asked_holds es cells answers (FitsKind k) k (deed_fits k)
 
 -- ---- what a need tells
 

@@ -5,9 +5,8 @@ use Rattle.ppd_resolve.specs.Reading.{source_of}
 use Rattle.ppd_lower.specs.Sources.{vars}
 use Rattle.ppd_resolve.specs.Globals.{globals}
 use Rattle.ppd_check.proofs.Sourced.{parts_of, parts_found, parts_table}
-use Rattle.ppd_ast.specs.declared.program.Stmt.{Stmt}
 use Rattle.ppd_resolve.specs.declared.frame.Variable.{Variable}
-use Rattle.ppd_check.proofs.CheckCosts.{root_few, source_few, stmts_told}
+use Rattle.ppd_check.proofs.CheckCosts.{root_few, source_few, all_few}
 use Rattle.ppd_resolve.proofs.DeclaredCosts.{heads_apart}
 use Rattle.ppd_check.proofs.checking.check_nodes.Goals as goal
 
@@ -43,40 +42,24 @@ returns-in_err-bodies-clause-cost g c =
 
 pub returns-in_err-note_statements-clause-cost : goal.returns-in_err-note_statements-clause-cost
 returns-in_err-note_statements-clause-cost g c =
-    omega (
-      arith,
-      c.globals_of.ensures.cost,
-      root_few c.args.source.nodes.now c.args.source.table,
-      c.args.source.table.some,
-      c.vars_of.ensures.cost,
-      ap (λ (l : List Variable). length l) (c.as_slice.ensures ∙ c.in_ok-globals.ensures.holds.shared),
-      source_few c.args.source.nodes.now c.args.source.table,
-      c.write_all.ensures.cost,
-      heads_apart c.args.source.nodes.now c.in_ok-globals.globals c.as_slice-2.result.now c.as_slice-3.result.now c.as_slice-2.ensures c.as_slice-3.ensures,
-      c.in_ok-globals.ensures.heads,
-      c.note_statements.ensures.cost,
-      ap (λ (l : List Stmt). length l) (c.as_slice-4.ensures ∙ stmts_told c.args.source.nodes.now (source_of (tree_of c.args.source.nodes.now)) c.in_ok-globals.globals c.write_all.new.out.table c.in_ok-bodies.bodies c.globals_of.new.found c.note_no_process.new.found
-          c.as_slice-2.result.now c.as_slice-3.result.now c.new.result c.new-2.result
-          c.in_ok-globals.ensures.holds c.in_ok-globals.ensures.faults (c.note_no_process.ensures (globals (source_of (tree_of c.args.source.nodes.now))) c.in_ok-globals.ensures.holds)
-          c.as_slice-2.ensures c.as_slice-3.ensures c.new.ensures c.new-2.ensures c.in_ok-bodies.ensures.wrote),
-    )
+    let ns = c.args.source.nodes.now in
+    let table = c.args.source.table in
+    let few =
+    all_few ns table c.in_ok-globals.globals c.write_all.new.out.table c.in_ok-bodies.bodies c.globals_of.new.found c.note_no_process.new.found
+    c.as_slice-2.result.now c.as_slice-3.result.now c.new.result c.new-2.result
+    c.in_ok-globals.ensures.holds c.in_ok-globals.ensures.faults (c.note_no_process.ensures (globals (source_of (tree_of ns))) c.in_ok-globals.ensures.holds)
+    c.as_slice-2.ensures c.as_slice-3.ensures c.new.ensures c.new-2.ensures c.in_ok-bodies.ensures.wrote
+    c.as_slice.result.now c.as_slice-4.result.now c.as_slice.ensures c.as_slice-4.ensures c.in_ok-globals.ensures.heads in
+    omega (arith, c.globals_of.ensures.cost, c.vars_of.ensures.cost, c.write_all.ensures.cost, c.note_statements.ensures.cost, root_few ns table, table.some)
 
 pub returns-clause-cost : goal.returns-clause-cost
 returns-clause-cost g c =
-    omega (
-      arith,
-      c.globals_of.ensures.cost,
-      root_few c.args.source.nodes.now c.args.source.table,
-      c.args.source.table.some,
-      c.vars_of.ensures.cost,
-      ap (λ (l : List Variable). length l) (c.as_slice.ensures ∙ c.in_ok-globals.ensures.holds.shared),
-      source_few c.args.source.nodes.now c.args.source.table,
-      c.write_all.ensures.cost,
-      heads_apart c.args.source.nodes.now c.in_ok-globals.globals c.as_slice-2.result.now c.as_slice-3.result.now c.as_slice-2.ensures c.as_slice-3.ensures,
-      c.in_ok-globals.ensures.heads,
-      c.note_statements.ensures.cost,
-      ap (λ (l : List Stmt). length l) (c.as_slice-4.ensures ∙ stmts_told c.args.source.nodes.now (source_of (tree_of c.args.source.nodes.now)) c.in_ok-globals.globals c.write_all.new.out.table c.in_ok-bodies.bodies c.globals_of.new.found c.note_no_process.new.found
-          c.as_slice-2.result.now c.as_slice-3.result.now c.new.result c.new-2.result
-          c.in_ok-globals.ensures.holds c.in_ok-globals.ensures.faults (c.note_no_process.ensures (globals (source_of (tree_of c.args.source.nodes.now))) c.in_ok-globals.ensures.holds)
-          c.as_slice-2.ensures c.as_slice-3.ensures c.new.ensures c.new-2.ensures c.in_ok-bodies.ensures.wrote),
-    )
+    let ns = c.args.source.nodes.now in
+    let table = c.args.source.table in
+    let few =
+    all_few ns table c.in_ok-globals.globals c.write_all.new.out.table c.in_ok-bodies.bodies c.globals_of.new.found c.note_no_process.new.found
+    c.as_slice-2.result.now c.as_slice-3.result.now c.new.result c.new-2.result
+    c.in_ok-globals.ensures.holds c.in_ok-globals.ensures.faults (c.note_no_process.ensures (globals (source_of (tree_of ns))) c.in_ok-globals.ensures.holds)
+    c.as_slice-2.ensures c.as_slice-3.ensures c.new.ensures c.new-2.ensures c.in_ok-bodies.ensures.wrote
+    c.as_slice.result.now c.as_slice-4.result.now c.as_slice.ensures c.as_slice-4.ensures c.in_ok-globals.ensures.heads in
+    omega (arith, c.globals_of.ensures.cost, c.vars_of.ensures.cost, c.write_all.ensures.cost, c.note_statements.ensures.cost, root_few ns table, table.some)

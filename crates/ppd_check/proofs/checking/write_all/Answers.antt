@@ -3,7 +3,7 @@ use Rattle.ppd_ast.specs.declared.program.Body.{Body}
 use Rattle.ppd_lower.specs.Bodies.{WroteHeads}
 use Rattle.ppd_resolve.specs.Holding.{head_at}
 use Rattle.ppd_resolve.specs.Names.{innermost, Scope}
-use Rattle.ppd_lower.proofs.Heading.{heads_join}
+use Rattle.ppd_lower.proofs.Functions.Heading.{heads_join}
 use Rattle.ppd_check.proofs.checking.write_all.Goals as goal
 
 pub returns-clause-wrote : goal.returns-clause-wrote

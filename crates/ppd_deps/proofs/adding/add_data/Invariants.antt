@@ -3,5 +3,5 @@ use Rattle.ppd_deps.specs.Edges.{data_from}
 use Rattle.ppd_deps.specs.Rows.{Adds}
 use Rattle.ppd_deps.proofs.adding.add_data.Given as goal
 
-abbrev pub invariant-loop-stmt : goal.invariant-loop-stmt
-invariant-loop-stmt l = Adds l.initial.rows l.rows (λ t. flat_map (λ s. data_from l.program s t) (range_with_len 0 l.stmt))
+abbrev pub invariant-loop-number : goal.invariant-loop-number
+invariant-loop-number l = Adds l.initial.rows l.rows (λ t. flat_map (λ s. data_from l.program s t) (range_with_len 0 l.number))

@@ -3,10 +3,9 @@ use Rattle.std.specs.Prelude.{slice_get}
 use Rattle.std.specs.List.{filter}
 use Rattle.ppd_ast.specs.declared.program.Var.{Var}
 use Rattle.ppd_cfg.specs.Lists.{row}
-use Rattle.ppd_sets.specs.Used.{is_met}
+use Rattle.ppd_sets.specs.Used.{AreSmall, is_met}
 use Rattle.ppd_deps.proofs.Bodies.{reads_of_used, used_long, used_row}
 use Rattle.ppd_deps.proofs.Naming.{shareds_small}
-use Rattle.ppd_deps.specs.Tables.{AreSmall}
 use Rattle.ppd_deps.proofs.tables.shared_row.Goals as goal
 
 pub used-used-requires : goal.used-used-requires

@@ -6,9 +6,9 @@ use Rattle.ppd_flow.proofs.value.last.Goals as goal
 
 pub returns-clause-run : goal.returns-clause-run
 returns-clause-run g c =
-    gives_last c.replays_are_seen.ensures c.last_writes_are_found.ensures c.args.past.now c.args.cell c.args.steps.now c.last_found.new.steps
-    (last_replays c.args.past.now.program.now c.args.past.now.logs.now (seens_in c.args.past.now) c.args.cell) c.last_found.result c.requires.program_ok c.last_found.ensures
+    gives_last c.replays_are_seen.ensures c.last_writes_are_found.ensures c.args.past.now c.args.cell c.args.steps.now c.last_write.new.steps
+    (last_replays c.args.past.now.program.now c.args.past.now.logs.now (seens_in c.args.past.now) c.args.cell) c.last_write.result c.requires.program_ok c.last_write.ensures
 
 pub returns-clause-cost : goal.returns-clause-cost
 returns-clause-cost g c =
-    costs_last c.replays_are_seen.ensures c.last_costs_little.ensures c.args.past.now c.args.cell c.args.steps.now c.last_found.new.steps c.last_found.result c.requires.program_ok c.last_found.ensures
+    costs_last c.replays_are_seen.ensures c.last_costs_little.ensures c.args.past.now c.args.cell c.args.steps.now c.last_write.new.steps c.last_write.result c.requires.program_ok c.last_write.ensures

@@ -10,10 +10,10 @@ use Rattle.ppd_graph.proofs.build.pair_all.Goals as goal
 
 pub returns-clause-pairs : goal.returns-clause-pairs
 returns-clause-pairs g c =
-    let nodes = c.in_ok-numbers.numbers.nodes in
+    let nodes = c.in_ok-nodes.nodes in
     let are = c.as_slice.ensures ∙ c.in_ok-placed.ensures.placed ∙ ap (placed_lists 0) c.as_slice-lists.ensures in
     c.in_ok-pairs.ensures.pairs ∙ ap (λ lists. map (map (partner_kept c.args.program.now nodes)) (map (filter_map sync_in) lists)) c.as_slice-lists.ensures
-    ∙ pairs_same c.args.program.now c.args.logs.now nodes (subst (KeepsAll nodes) are c.in_ok-numbers.ensures.kept)
+    ∙ pairs_same c.args.program.now c.args.logs.now nodes (subst (KeepsAll nodes) are c.in_ok-nodes.ensures.kept)
 
 pub returns-clause-cost : goal.returns-clause-cost
 returns-clause-cost g c =
@@ -22,4 +22,4 @@ returns-clause-cost g c =
     let few = placed_within c.in_ok-placed.placed c.args.logs.now.lists all in
     let count = ap length c.as_slice.ensures in
     pair_spent c.args.steps.now c.all_placed.new.steps c.number_all.new.steps _ (length c.in_ok-placed.placed) (entries_in c.args.logs.now) (pass_cost c.args.logs.now) (length c.args.program.now.sems) (length c.args.program.now.chans)
-    (omega (arith, same, c.in_ok-placed.ensures.cost)) (omega (arith, count, c.in_ok-numbers.ensures.cost)) few (omega (arith, same, c.in_ok-pairs.ensures.cost))
+    (omega (arith, same, c.in_ok-placed.ensures.cost)) (omega (arith, count, c.in_ok-nodes.ensures.cost)) few (omega (arith, same, c.in_ok-pairs.ensures.cost))

@@ -1,7 +1,8 @@
 use Rattle.std.proofs.Common.{◌+◌, ◌&&◌, sym, ◌∙◌, ap, arith, get_or}
 use Rattle.std.proofs.lemmas.List.Folds.{list_all_at, list_all_more}
-use Rattle.ppd_lex.specs.Front.{is_digit}
-use Rattle.ppd_lex.proofs.Numbers.{value_next, value_front, too_great, digit_small, not_digits, all_digits}
+use Rattle.ppd_ast.specs.Digits.{is_digit}
+use Rattle.ppd_ast.proofs.Digits.{value_next}
+use Rattle.ppd_lex.proofs.Numbers.{value_front, too_great, digit_small, not_digits, all_digits}
 use Rattle.ppd_lex.proofs.text.value_of.Goals as goal
 
 pub returns-then-not-is_digit-clause-value : goal.returns-then-not-is_digit-clause-value
@@ -12,7 +13,7 @@ pub returns-then-value-digit-clause-value : goal.returns-then-value-digit-clause
 returns-then-value-digit-clause-value c =
     let bs = c.args.digits.now in
     let i = c.loop-b.b-index in
-    let n = value_next bs i c.loop-b-test.true in
+    let n = value_next bs i 0 c.loop-b-test.true in
     let f = value_front bs (i + 1) in
     let v = c.loop-b.invariant.value in
     let d = c.from-digit.ensures in
@@ -24,7 +25,7 @@ pub loop-b-preserved : goal.loop-b-preserved
 loop-b-preserved c =
     let bs = c.args.digits.now in
     let i = c.loop-b.b-index in
-    let n = value_next bs i c.loop-b-test.true in
+    let n = value_next bs i 0 c.loop-b-test.true in
     let v = c.loop-b.invariant.value in
     let d = c.from-digit.ensures in
     let t = c.if-value-digit.false in

@@ -1,6 +1,6 @@
 use Rattle.std.proofs.Common.{◌≡◌, ◌<◌, ◌^◌, take, true}
 use Rattle.std.specs.List.{list_all}
-use Rattle.ppd_lex.specs.Front.{is_digit, value_from}
+use Rattle.ppd_ast.specs.Digits.{is_digit, value_from}
 use Rattle.ppd_lex.proofs.text.value_of.Given as goal
 
 abbrev pub invariant-loop-b : goal.invariant-loop-b

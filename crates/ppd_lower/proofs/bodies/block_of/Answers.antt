@@ -1,5 +1,5 @@
 use Rattle.std.proofs.Common.{rules, ◌≡◌, ◌-◌, length}
-use Rattle.ppd_lower.proofs.Filling.{block_said, last_child}
+use Rattle.ppd_lower.proofs.Functions.Filling.{block_said, last_child}
 use Rattle.ppd_lower.proofs.bodies.block_of.Goals as goal
 
 pub returns-clause-said : goal.returns-clause-said

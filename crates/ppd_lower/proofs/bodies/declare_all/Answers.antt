@@ -1,8 +1,7 @@
 use Rattle.std.proofs.Common.{arith, get_or}
 use Rattle.std.proofs.lemmas.List.{get_or_default}
-use Rattle.ppd_lower.proofs.Filling.{parametered_child, parametered_below}
-use Rattle.ppd_resolve.specs.Cost.{plain_at, nested_at}
-use Rattle.ppd_resolve.proofs.Costs.{total_more, some_at, plain_all, nested_all, plain_part, nested_part}
+use Rattle.ppd_lower.proofs.Functions.Filling.{parametered_child, parametered_below}
+use Rattle.ppd_lower.proofs.Costs.Children.{next_child, child_part, all_children}
 use Rattle.ppd_lower.proofs.bodies.declare_all.Goals as goal
 
 pub loop-child-preserved : goal.loop-child-preserved
@@ -13,15 +12,7 @@ loop-child-preserved g c = record {
       (omega (arith, c.loop-child-test.true))
       (get_or_default c.children_of-child-items.result.now c.loop-child.child-index 0 _ (omega (arith, c.loop-child-test.true)))
       c.loop-child.invariant.declares c.in_ok-declare_said.ensures.declares;
-  cost = omega (
-    arith,
-    c.loop-child.invariant.cost,
-    c.tick.ensures,
-    c.in_ok-declare_said.ensures.cost,
-    total_more (plain_at c.args.source.nodes.now) c.children_of-child-items.result.now c.loop-child.child-index 0 (omega (arith, c.loop-child-test.true)),
-    total_more (nested_at c.args.source.nodes.now) c.children_of-child-items.result.now c.loop-child.child-index 0 (omega (arith, c.loop-child-test.true)),
-    some_at c.args.source.nodes.now (get_or c.children_of-child-items.result.now c.loop-child.child-index 0),
-  );
+  cost = let more = next_child c.args.source.nodes.now c.loop-child.child-index c.children_of-child-items.result.now (omega (arith, c.loop-child-test.true)) in omega (arith, c.loop-child.invariant.cost, c.tick.ensures, c.in_ok-declare_said.ensures.cost, more.0, more.1, more.2);
 }
 
 pub returns-clause-declares : goal.returns-clause-declares
@@ -31,21 +22,10 @@ returns-clause-declares g c =
 
 pub returns-clause-cost : goal.returns-clause-cost
 returns-clause-cost g c =
-    omega (
-      arith,
-      c.loop-child.invariant.cost,
-      plain_all c.args.source.nodes.now c.args.id c.loop-child.child-index c.children_of-child-items.result.now c.children_of-child-items.ensures.children (omega (arith, c.loop-child-test.false)),
-      nested_all c.args.source.nodes.now c.args.id c.loop-child.child-index c.children_of-child-items.result.now c.children_of-child-items.ensures.children (omega (arith, c.loop-child-test.false)),
-    )
+    let all = all_children c.args.source.nodes.now c.args.id c.loop-child.child-index c.children_of-child-items.result.now c.children_of-child-items.ensures.children (omega (arith, c.loop-child-test.false)) in
+    omega (arith, c.loop-child.invariant.cost, all.0, all.1)
 
 pub returns-in_err-declare_said-clause-cost : goal.returns-in_err-declare_said-clause-cost
 returns-in_err-declare_said-clause-cost g c =
-    omega (
-      arith,
-      c.loop-child.invariant.cost,
-      c.tick.ensures,
-      c.declare_said.ensures.cost,
-      plain_part c.args.source.nodes.now c.args.id c.loop-child.child-index 0 c.children_of-child-items.result.now c.children_of-child-items.ensures.children (omega (arith, c.loop-child-test.true)),
-      nested_part c.args.source.nodes.now c.args.id c.loop-child.child-index 0 c.children_of-child-items.result.now c.children_of-child-items.ensures.children (omega (arith, c.loop-child-test.true)),
-      some_at c.args.source.nodes.now (get_or c.children_of-child-items.result.now c.loop-child.child-index 0),
-    )
+    let part = child_part c.args.source.nodes.now c.args.id c.loop-child.child-index c.children_of-child-items.result.now c.children_of-child-items.ensures.children (omega (arith, c.loop-child-test.true)) in
+    omega (arith, c.loop-child.invariant.cost, c.tick.ensures, c.declare_said.ensures.cost, part.0, part.1, part.2)

@@ -1,6 +1,6 @@
 use Rattle.std.proofs.Common.{arith}
 use Rattle.ppd_resolve.specs.Nodes.{phrases_below}
-use Rattle.ppd_lower.proofs.Filling.{parametered_more, parametered_whole}
+use Rattle.ppd_lower.proofs.Functions.Filling.{parametered_more, parametered_whole}
 use Rattle.ppd_resolve.proofs.Parameters.{below_count}
 use Rattle.ppd_lower.proofs.bodies.declare_names.Goals as goal
 

@@ -1,14 +1,14 @@
 use Rattle.std.proofs.Common.{◌∙◌, ap, drop, arith, length, ◌≡◌, ◌≤◌, ◌+◌, ◌*◌}
 use Rattle.ppd_resolve.specs.Nodes.{phrases_below}
-use Rattle.ppd_lower.proofs.Filling.{filled_from}
+use Rattle.ppd_lower.proofs.Functions.Filling.{filled_from}
 use Rattle.ppd_resolve.proofs.Outcomes.{ok_map}
 use Rattle.ppd_lower.specs.Bodies.{block_at}
 use Rattle.ppd_resolve.specs.Cost.{plain_below, nested_below}
 use Rattle.ppd_resolve.specs.Reading.{last, as_block}
 use Rattle.ppd_resolve.specs.Syntax.{Block, Row}
 use Rattle.ppd_resolve.specs.Holding.{head_said}
-use Rattle.ppd_lower.proofs.HeadCosts.{head_few, row_few, inside_few}
-use Rattle.ppd_lower.proofs.LinearRows.{row_size}
+use Rattle.ppd_lower.proofs.Costs.Heads.{head_few, row_few, inside_few}
+use Rattle.ppd_lower.proofs.Costs.Rows.{row_size}
 use Rattle.ppd_lower.proofs.bodies.fill.Goals as goal
 
 pub returns-clause-filled : goal.returns-clause-filled

@@ -1,6 +1,6 @@
 use Rattle.std.proofs.Common.{rules, ◌≡◌, ◌∙◌, sym, ap, ◌-◌, length}
 use Rattle.ppd_resolve.specs.Reading.{Phrase, as_token}
-use Rattle.ppd_lower.proofs.Filling.{last_child}
+use Rattle.ppd_lower.proofs.Functions.Filling.{last_child}
 use Rattle.ppd_lower.proofs.bodies.last_place.Goals as goal
 
 pub returns : goal.returns

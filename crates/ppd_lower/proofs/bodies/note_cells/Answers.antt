@@ -2,7 +2,7 @@ use Rattle.std.proofs.Common.{◌∙◌, ap, arith, Bool}
 use Rattle.ppd_resolve.specs.declared.fault.Cause.TheVariants.{TooMany}
 use Rattle.ppd_resolve.specs.declared.fault.Limit.TheVariants.{Locals}
 use Rattle.ppd_resolve.specs.Faults.{if_so, first, first_of_both}
-use Rattle.ppd_lower.proofs.Filling.{cells_more, cells_on}
+use Rattle.ppd_lower.proofs.Functions.Filling.{cells_more, cells_on}
 use Rattle.ppd_lower.proofs.bodies.note_cells.Goals as goal
 
 pub loop-variable-preserved : goal.loop-variable-preserved

@@ -1,5 +1,5 @@
 use Rattle.std.proofs.Common.{arith, ◌∙◌}
-use Rattle.ppd_lower.proofs.Filling.{cells_on, vars_more}
+use Rattle.ppd_lower.proofs.Functions.Filling.{cells_on, vars_more}
 use Rattle.ppd_lower.proofs.bodies.vars_of.Goals as goal
 
 pub loop-variable-preserved : goal.loop-variable-preserved

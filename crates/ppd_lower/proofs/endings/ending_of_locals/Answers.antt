@@ -1,7 +1,7 @@
 use Rattle.std.proofs.Common.{◌∙◌, ap, arith, get_or}
 use Rattle.std.proofs.lemmas.List.{get_or_default}
 use Rattle.ppd_lower.specs.Endings.{with_rest}
-use Rattle.ppd_lower.proofs.Ended.{locals_ended, locals_all}
+use Rattle.ppd_lower.proofs.Functions.Ended.{locals_ended, locals_all}
 use Rattle.ppd_lower.proofs.endings.ending_of_locals.Goals as goal
 
 pub loop-child-preserved : goal.loop-child-preserved

@@ -1,9 +1,8 @@
 use Rattle.std.proofs.Common.{◌∙◌, ap, arith, get_or}
 use Rattle.std.proofs.lemmas.List.{get_or_default}
 use Rattle.ppd_lower.specs.Endings.{with_rest}
-use Rattle.ppd_lower.proofs.Ended.{rows_ended, rows_all}
-use Rattle.ppd_resolve.specs.Cost.{plain_at, nested_at}
-use Rattle.ppd_resolve.proofs.Costs.{total_more, some_at, plain_all, nested_all}
+use Rattle.ppd_lower.proofs.Functions.Ended.{rows_ended, rows_all}
+use Rattle.ppd_lower.proofs.Costs.Children.{next_child, all_children}
 use Rattle.ppd_lower.proofs.endings.ending_of_rows.Goals as goal
 
 pub loop-child-preserved : goal.loop-child-preserved
@@ -14,15 +13,7 @@ loop-child-preserved g c = record {
       (omega (arith, c.loop-child-test.true))
       (get_or_default c.children_of-child-items.result.now c.loop-child.child-index 0 _ (omega (arith, c.loop-child-test.true)))
       c.loop-child.invariant.ending (c.with_rest-last.ensures ∙ ap (with_rest c.loop-child.last) c.ending_of_node.ensures.ending);
-  cost = omega (
-    arith,
-    c.loop-child.invariant.cost,
-    c.tick.ensures,
-    c.ending_of_node.ensures.cost,
-    total_more (plain_at c.args.source.nodes.now) c.children_of-child-items.result.now c.loop-child.child-index 0 (omega (arith, c.loop-child-test.true)),
-    total_more (nested_at c.args.source.nodes.now) c.children_of-child-items.result.now c.loop-child.child-index 0 (omega (arith, c.loop-child-test.true)),
-    some_at c.args.source.nodes.now (get_or c.children_of-child-items.result.now c.loop-child.child-index 0),
-  );
+  cost = let more = next_child c.args.source.nodes.now c.loop-child.child-index c.children_of-child-items.result.now (omega (arith, c.loop-child-test.true)) in omega (arith, c.loop-child.invariant.cost, c.tick.ensures, c.ending_of_node.ensures.cost, more.0, more.1, more.2);
 }
 
 pub returns-clause-ending : goal.returns-clause-ending
@@ -32,9 +23,5 @@ returns-clause-ending g c =
 
 pub returns-clause-cost : goal.returns-clause-cost
 returns-clause-cost g c =
-    omega (
-      arith,
-      c.loop-child.invariant.cost,
-      plain_all c.args.source.nodes.now c.args.id c.loop-child.child-index c.children_of-child-items.result.now c.children_of-child-items.ensures.children (omega (arith, c.loop-child-test.false)),
-      nested_all c.args.source.nodes.now c.args.id c.loop-child.child-index c.children_of-child-items.result.now c.children_of-child-items.ensures.children (omega (arith, c.loop-child-test.false)),
-    )
+    let all = all_children c.args.source.nodes.now c.args.id c.loop-child.child-index c.children_of-child-items.result.now c.children_of-child-items.ensures.children (omega (arith, c.loop-child-test.false)) in
+    omega (arith, c.loop-child.invariant.cost, all.0, all.1)

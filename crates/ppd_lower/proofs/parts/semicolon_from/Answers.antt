@@ -1,6 +1,6 @@
 use Rattle.std.proofs.Common.{◌∙◌, sym, ◌<◌, length, arith}
 use Rattle.ppd_resolve.specs.Nodes.{phrases_below}
-use Rattle.ppd_lower.proofs.Semicolons.{searched_start, searched_more}
+use Rattle.ppd_lower.proofs.Rows.Semicolons.{searched_start, searched_more}
 use Rattle.ppd_lower.proofs.parts.semicolon_from.Goals as goal
 
 pub loop-at-init : goal.loop-at-init

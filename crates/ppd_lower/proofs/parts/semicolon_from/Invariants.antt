@@ -1,6 +1,6 @@
 use Rattle.std.proofs.Common.{◌-◌, ◌+◌, ◌≤◌, length}
 use Rattle.ppd_resolve.specs.Nodes.{phrases_below}
-use Rattle.ppd_lower.proofs.Semicolons.{Searched}
+use Rattle.ppd_lower.proofs.Rows.Semicolons.{Searched}
 use Rattle.ppd_lower.proofs.parts.semicolon_from.Given as goal
 
 -- no semicolon stands before the child that is looked at, and each child took a step

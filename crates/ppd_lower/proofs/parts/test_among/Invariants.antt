@@ -1,6 +1,6 @@
 use Rattle.std.proofs.Common.{◌-◌, ◌+◌, ◌≤◌}
 use Rattle.ppd_resolve.specs.Nodes.{phrases_below}
-use Rattle.ppd_lower.proofs.Semicolons.{Sought}
+use Rattle.ppd_lower.proofs.Rows.Semicolons.{Sought}
 use Rattle.ppd_lower.proofs.parts.test_among.Given as goal
 
 -- no expression stands before the child that is looked at, and each child took a step

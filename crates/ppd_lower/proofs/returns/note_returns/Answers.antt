@@ -1,5 +1,5 @@
 use Rattle.std.proofs.Common.{arith}
-use Rattle.ppd_lower.proofs.Returned.{returned_more}
+use Rattle.ppd_lower.proofs.Functions.Returned.{returned_more}
 use Rattle.ppd_lower.proofs.returns.note_returns.Goals as goal
 
 pub loop-stmt-preserved : goal.loop-stmt-preserved

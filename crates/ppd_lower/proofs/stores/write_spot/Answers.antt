@@ -10,7 +10,7 @@ use Rattle.ppd_lower.proofs.stores.write_spot.Goals as goal
 
 pub returns-in_ok-at-in-Item-clause-faults : goal.returns-in_ok-at-in-Item-clause-faults
 returns-in_ok-at-in-Item-clause-faults g c =
-    found_in_both c.args.found.now c.used-meaning-in-Item.new.found c.formula.new.found
-    (name_faults (fits true) c.args.scopes.now (label_name c.in-Item.name)) (formula_faults c.args.scopes.now (operand_formula c.args.source.nodes.now c.in-Item.index))
+    found_in_both c.args.table.now.found c.used-meaning-in-Item.new.found c.write_term.new.table.found
+    (name_faults (fits true) c.args.frame.now.scopes (label_name c.in-Item.name)) (formula_faults c.args.frame.now.scopes (operand_formula c.args.source.nodes.now c.in-Item.index))
     c.used-meaning-in-Item.ensures.faults c.in_ok-at-in-Item.ensures.faults
-    ∙ ap (λ g. first_of_both c.args.found.now (first (formula_faults c.args.scopes.now (goal_formula (goal_said c.args.source.nodes.now g))))) (sym c.in-Item.is)
+    ∙ ap (λ g. first_of_both c.args.table.now.found (first (formula_faults c.args.frame.now.scopes (goal_formula (goal_said c.args.source.nodes.now g))))) (sym c.in-Item.is)

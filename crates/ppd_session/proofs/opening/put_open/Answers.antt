@@ -9,7 +9,7 @@ use Rattle.ppd_session.proofs.opening.put_open.Goals as goal
 pub put_interval-requires-clause-kept : goal.put_interval-requires-clause-kept
 put_interval-requires-clause-kept c =
     subst (λ (rs : List Race). AreTold (known_by c.args.past.now rs) c.args.kept.now)
-    (none_there c.args.races.now c.if-not-is_empty.ensures) c.requires.kept
+    (none_there c.args.races.now c.if-not-is_empty.ensures) c.requires.told
 
 pub returns-clause-error : goal.returns-clause-error
 returns-clause-error c =

@@ -5,6 +5,6 @@ use Rattle.ppd_units.proofs.numbering.add_at_stmts.Given as goal
 
 abbrev pub invariant-loop-number : goal.invariant-loop-number
 invariant-loop-number l = record {
-  added : l.units ≡ l.initial.units ++ map (unit_of l.program l.loops) (flat_map (unit_starts_at l.program l.loops) (range_with_len l.body.first (l.number - l.body.first)));
+  added : l.units ≡ l.initial.units ++ map (unit_of l.ways.program.now l.ways.loops.now) (flat_map (unit_starts_at l.ways.program.now l.ways.loops.now) (range_with_len l.body.first (l.number - l.body.first)));
   within : l.number - l.body.first ≤ l.number-end - l.body.first;
 }

@@ -4,7 +4,7 @@ use Rattle.ppd_units.proofs.Staying.{unit_rows_below, unit_rows_long}
 use Rattle.ppd_units.proofs.numbering.add_unit.Goals as goal
 
 pub cells_of-requires-clause-rows : goal.cells_of-requires-clause-rows
-cells_of-requires-clause-rows c = subst AreRowsBelow (sym c.requires.rows) (unit_rows_below c.args.program.now c.args.loops.now c.requires.valid)
+cells_of-requires-clause-rows c = subst AreRowsBelow (sym c.requires.rows) (unit_rows_below c.args.ways.now.program.now c.args.ways.now.loops.now c.requires.valid)
 
 pub cells_of-requires-clause-long : goal.cells_of-requires-clause-long
-cells_of-requires-clause-long c = ap length c.requires.rows ∙ unit_rows_long c.args.program.now c.args.loops.now
+cells_of-requires-clause-long c = ap length c.requires.rows ∙ unit_rows_long c.args.ways.now.program.now c.args.ways.now.loops.now

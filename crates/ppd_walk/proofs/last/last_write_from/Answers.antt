@@ -4,5 +4,5 @@ use Rattle.ppd_walk.proofs.last.last_write_from.Goals as goal
 pub returns : goal.returns
 returns g c =
     found_from c.args.past.now c.args.cell c.args.last c.args.items.now c.in-Ok.place c.args.steps.now
-    c.written_before.new.steps c.written_before.result c.requires.last c.requires.items c.in-Ok.ensures
+    c.written_before.new.steps c.written_before.result c.requires.last c.requires.replayed c.in-Ok.ensures
     c.written_before.ensures

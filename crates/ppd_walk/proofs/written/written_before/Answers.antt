@@ -1,9 +1,9 @@
 use Rattle.ppd_model.specs.HappenedBefore.{edge}
+use Rattle.ppd_past.proofs.Found.{err_any}
 use Rattle.ppd_search.specs.Shared.{of_process, written_at}
 use Rattle.ppd_search.specs.Walk.{walk, walk_replays}
 use Rattle.ppd_walk.specs.Items.{seen_for}
 use Rattle.ppd_walk.specs.SharedCells.{answer_of}
-use Rattle.ppd_walk.proofs.SharedFound.{err_any}
 use Rattle.ppd_walk.proofs.written.written_before.Goals as goal
 
 pub returns-in-Err : goal.returns-in-Err

@@ -1,15 +1,20 @@
-use Rattle.std.proofs.Common.{◌∙◌, ap, arith}
+use Rattle.std.proofs.Common.{◌∙◌, ap, arith, rules}
 use Rattle.ppd_codec.specs.Reader.{several}
 use Rattle.ppd_codec.specs.Form.{number_2}
 use Rattle.ppd_codec.specs.Format.{cell, past}
 use Rattle.ppd_codec.proofs.Several.{counted, no_more, one_more}
 use Rattle.ppd_codec.proofs.cursor.Cursor.cells.Goals as goal
 
-pub returns-in-Err-clause-err : goal.returns-in-Err-clause-err
-returns-in-Err-clause-err g c = λ m.
-    counted (number_2.read) (several (λ low. (cell c.args.shared low).read) (past) (0)) _ _ _ _ _ c.in_ok-left.ensures.ok
-    ∙ c.loop-left.invariant.reads
-    ∙ no_more (λ low. (cell c.args.shared low).read) (past) (c.loop-left.low) c.loop-left.left c.loop-left.self.at c.loop-left.self.rest.now c.loop-left.found c.in-Err.bad (omega (arith, c.loop-left-test.true)) c.in-Err.ensures.err m
+pub returns-in-Err : goal.returns-in-Err
+returns-in-Err g c = record {
+  ok = search rules;
+  err = λ m.
+      counted (number_2.read) (several (λ low. (cell c.args.shared low).read) (past) (0)) _ _ _ _ _ c.in_ok-left.ensures.read.ok
+      ∙ c.loop-left.invariant.reads
+      ∙ no_more (λ low. (cell c.args.shared low).read) (past) (c.loop-left.low) c.loop-left.left c.loop-left.self.at c.loop-left.self.rest.now c.loop-left.found c.in-Err.bad (omega (arith, c.loop-left-test.true)) c.in-Err.ensures.err m;
+  within = omega (arith, c.loop-left.invariant.within, c.cell.ensures.within);
+  cost = omega (arith, c.loop-left.invariant.cost, c.cell.ensures.cost);
+}
 
 pub loop-left-preserved : goal.loop-left-preserved
 loop-left-preserved g c = record {

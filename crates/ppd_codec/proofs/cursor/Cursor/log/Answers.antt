@@ -1,4 +1,4 @@
-use Rattle.std.proofs.Common.{◌∙◌, refl, arith}
+use Rattle.std.proofs.Common.{◌∙◌, refl, arith, rules}
 use Rattle.std.specs.Prelude.{⊤}
 use Rattle.ppd_codec.specs.Reader.{several}
 use Rattle.ppd_codec.specs.Form.{number_4}
@@ -6,11 +6,16 @@ use Rattle.ppd_codec.specs.Format.{an_entry}
 use Rattle.ppd_codec.proofs.Several.{counted, no_more, one_more}
 use Rattle.ppd_codec.proofs.cursor.Cursor.log.Goals as goal
 
-pub returns-in-Err-clause-err : goal.returns-in-Err-clause-err
-returns-in-Err-clause-err g c = λ m.
-    counted (number_4.read) (several (λ (t : ⊤). (an_entry c.args.facts).read) (λ e. tt {0}) (tt {0})) _ _ _ _ _ c.in_ok-left.ensures.ok
-    ∙ c.loop-left.invariant.reads
-    ∙ no_more (λ (t : ⊤). (an_entry c.args.facts).read) (λ e. tt {0}) (tt {0}) c.loop-left.left c.loop-left.self.at c.loop-left.self.rest.now c.loop-left.found c.in-Err.bad (omega (arith, c.loop-left-test.true)) c.in-Err.ensures.err m
+pub returns-in-Err : goal.returns-in-Err
+returns-in-Err g c = record {
+  ok = search rules;
+  err = λ m.
+      counted (number_4.read) (several (λ (t : ⊤). (an_entry c.args.facts).read) (λ e. tt {0}) (tt {0})) _ _ _ _ _ c.in_ok-left.ensures.read.ok
+      ∙ c.loop-left.invariant.reads
+      ∙ no_more (λ (t : ⊤). (an_entry c.args.facts).read) (λ e. tt {0}) (tt {0}) c.loop-left.left c.loop-left.self.at c.loop-left.self.rest.now c.loop-left.found c.in-Err.bad (omega (arith, c.loop-left-test.true)) c.in-Err.ensures.err m;
+  within = omega (arith, c.loop-left.invariant.within, c.entry.ensures.within);
+  cost = omega (arith, c.loop-left.invariant.cost, c.entry.ensures.cost);
+}
 
 pub loop-left-preserved : goal.loop-left-preserved
 loop-left-preserved g c = record {

@@ -1,10 +1,7 @@
 use Rattle.std.proofs.Common.{Ok, inl, inr, subst}
-use Rattle.ppd_past.specs.ByReplays.{IsFoundBy}
 use Rattle.ppd_search.specs.declared.walked.Walked.{Walked}
-use Rattle.ppd_search.specs.Walk.{walk, walk_replays}
-use Rattle.ppd_search.specs.Shared.{edge_of_place, greatest_before, of_process, origin_in, start_replays, written_or_start}
-use Rattle.ppd_walk.specs.Items.{seen_for}
-use Rattle.ppd_walk.specs.SharedCells.{seens_in}
+use Rattle.ppd_search.specs.Shared.{edge_of_place, greatest_before, origin_in, start_replays, written_or_start}
+use Rattle.ppd_walk.specs.SharedCells.{IsWalked, seens_in}
 use Rattle.ppd_walk.proofs.SharedFound.{read_failed, read_own, read_passed, read_stopped}
 use Rattle.ppd_walk.proofs.search.CellSearch.shared_origin.Goals as goal
 
@@ -31,10 +28,8 @@ returns-in-Found g c =
     (start_replays past.logs.now xs search.cell best)
     (origin_in (written_or_start past.program.now past.logs.now xs search.cell best)) c.in-Found.interval
     c.in-Found.item c.in-Found.value c.args.steps.now c.walk.new.steps
-    (subst (λ (w : Walked). IsFoundBy past (of_process search.process (walk_replays
-    (seen_for search) search.cell c.args.interval c.args.place))
-    (Ok (walk (seen_for search) search.cell c.args.interval c.args.place)) c.args.steps.now c.walk.new.steps
-    (Ok w)) c.in-Found.is c.in-Ok.ensures)
+    (subst (λ (w : Walked). IsWalked past search.process search.cell c.args.interval c.args.place c.args.steps.now
+    c.walk.new.steps (Ok w)) c.in-Found.is c.in-Ok.ensures)
 
 pub returns-in-Stopped : goal.returns-in-Stopped
 returns-in-Stopped g c =
@@ -47,17 +42,13 @@ returns-in-Stopped g c =
       | inl e ↦ read_stopped past search.process search.cell c.args.interval c.args.place
           (start_replays past.logs.now xs search.cell best)
           (origin_in (written_or_start past.program.now past.logs.now xs search.cell best)) c.args.steps.now
-          c.walk.new.steps c.origin_before.new.steps c.origin_before.result (subst (λ
-          (w : Walked). IsFoundBy past (of_process search.process (walk_replays
-          (seen_for search) search.cell c.args.interval c.args.place))
-          (Ok (walk (seen_for search) search.cell c.args.interval c.args.place)) c.args.steps.now c.walk.new.steps
-          (Ok w)) e c.in-Ok.ensures) c.origin_before.ensures
+          c.walk.new.steps c.origin_before.new.steps c.origin_before.result
+          (subst (λ (w : Walked). IsWalked past search.process search.cell c.args.interval c.args.place c.args.steps.now
+          c.walk.new.steps (Ok w)) e c.in-Ok.ensures) c.origin_before.ensures
       | inr e ↦ read_passed past search.process search.cell c.args.interval c.args.place
           (start_replays past.logs.now xs search.cell best)
           (origin_in (written_or_start past.program.now past.logs.now xs search.cell best)) c.args.steps.now
-          c.walk.new.steps c.origin_before.new.steps c.origin_before.result (subst (λ
-          (w : Walked). IsFoundBy past (of_process search.process (walk_replays
-          (seen_for search) search.cell c.args.interval c.args.place))
-          (Ok (walk (seen_for search) search.cell c.args.interval c.args.place)) c.args.steps.now c.walk.new.steps
-          (Ok w)) e c.in-Ok.ensures) c.origin_before.ensures
+          c.walk.new.steps c.origin_before.new.steps c.origin_before.result
+          (subst (λ (w : Walked). IsWalked past search.process search.cell c.args.interval c.args.place c.args.steps.now
+          c.walk.new.steps (Ok w)) e c.in-Ok.ensures) c.origin_before.ensures
     ]

@@ -1,0 +1,9 @@
+use Rattle.std.proofs.Common.{◌≡◌, ◌++◌, drop, map, take}
+use Rattle.ppd_ast.specs.Numbered.{each_from, of_body}
+use Rattle.ppd_ast.proofs.numbered.past_bodies.Given as goal
+
+abbrev pub invariant-loop-number : goal.invariant-loop-number
+invariant-loop-number g l =
+    drop 0 (map g.T.Numbered.key l.list)
+    ≡ each_from (of_body g.T.Numbered.own g.T.Numbered.at_stmt l.stmts l.policy) 0 (take l.number l.bodies)
+    ++ drop l.next (map g.T.Numbered.key l.list)

@@ -1,0 +1,5 @@
+-- Functions and processes.
+pub mod Ended
+pub mod Filling
+pub mod Heading
+pub mod Returned

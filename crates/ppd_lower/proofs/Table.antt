@@ -1,0 +1,6 @@
+-- What is added to the table.
+pub mod Arguments
+pub mod Flat
+pub mod Joined
+pub mod Through
+pub mod Writing

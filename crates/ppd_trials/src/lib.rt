@@ -1,0 +1,6 @@
+//! Calls of the program over devices in memory, which tests of several crates make.
+#![tactic(auto)]
+
+mod devices;
+
+pub use devices::{Devices, Trial};
