@@ -43,6 +43,8 @@ pub const MOST_BUDGET: u32 = 500_000;
 pub const DEFAULT_BUDGET: u32 = 100_000;
 /// Calls of a process that have not returned, at most.
 pub const MOST_CALLS: usize = 64;
+/// How many processes, semaphores or channels an entry can name: their numbers have 8 bits.
+pub const MOST_NAMED: usize = 256;
 /// Bytes of a recording, at most.
 pub const MOST_RECORDING_BYTES: usize = 268_435_456;
 /// Lines of commands, at most.

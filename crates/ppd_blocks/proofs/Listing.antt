@@ -8,11 +8,9 @@ use Rattle.ppd_ast.specs.declared.program.Stmt.{Stmt}
 use Rattle.ppd_ast.specs.declared.program.Body.{Body}
 use Rattle.ppd_ast.specs.declared.program.Program.{Program}
 use Rattle.ppd_ast.specs.declared.plan.Policy.{Policy}
-use Rattle.ppd_ast.specs.declared.plan.BlockKind.{BlockKind}
 use Rattle.ppd_ast.specs.declared.plan.BlockKind.TheVariants.{Function, Process, Loop}
-use Rattle.ppd_ast.specs.declared.plan.Start.{Start}
 use Rattle.ppd_ast.specs.declared.plan.Start.TheVariants.{Entry, After, Enter, Exit}
-use Rattle.ppd_ast.specs.Numbered.{is_left, is_block_loop, is_block_body, body_kind, loops_of, loops_at, blocks_of, blocks_by, starts_of, body_starts, starts_by, numbers_of, each_from}
+use Rattle.ppd_ast.specs.Numbered.{is_left, is_block_loop, is_block_body, body_kind, loops_of, loops_at, blocks_of, starts_of, body_starts, starts_by, numbers_of, each_from}
 use Rattle.ppd_ast.specs.Numbered.{starts_at as starts_of_policy}
 use Rattle.ppd_ast.specs.Members.{has}
 use Rattle.ppd_ast.specs.Lookups.{kind_of_stmt, kind_of}

@@ -1,10 +1,8 @@
 -- The plan of a policy is valid.
-use Rattle.std.proofs.Common.{◌≡◌, ℕ, zero, suc, ◌+◌, ◌<◌, ◌≤◌, List, [], ◌∷◌, Option, Some, None, length, map, refl, sym, ap, ◌∙◌, subst, arith, get_or}
-use Rattle.std.specs.Prelude.{IsTrue, IsSomeAnd, slice_get, ⊤}
+use Rattle.std.proofs.Common.{◌≡◌, ℕ, suc, ◌<◌, List, [], ◌∷◌, Option, Some, length, map, refl, sym, ap, ◌∙◌, subst, arith, get_or}
+use Rattle.std.specs.Prelude.{IsSomeAnd, slice_get}
 use Rattle.std.specs.List.{All, flat_map, range_with_len}
 use Rattle.std.proofs.lemmas.List.Elements.{All-cons, All-map}
-use Rattle.ppd_ast.specs.declared.program.Stmt.{Stmt}
-use Rattle.ppd_ast.specs.declared.program.Body.{Body}
 use Rattle.ppd_ast.specs.declared.program.Program.{Program}
 use Rattle.ppd_ast.specs.declared.plan.Policy.{Policy}
 use Rattle.ppd_ast.specs.declared.plan.Plan.{Plan}
@@ -14,14 +12,12 @@ use Rattle.ppd_ast.specs.declared.plan.BlockKind.TheVariants.{Function, Process,
 use Rattle.ppd_ast.specs.declared.plan.Start.{Start}
 use Rattle.ppd_ast.specs.declared.plan.Unit.{Unit as UnitOf}
 use Rattle.ppd_ast.specs.Bare.{bare, bare_block}
-use Rattle.ppd_ast.specs.Numbered.{blocks_by, starts_by}
+use Rattle.ppd_ast.specs.Numbered.{blocks_by}
 use Rattle.ppd_ast.specs.Valid.{IsValid}
 use Rattle.ppd_ast.specs.ValidPlan.{AreCells, IsValidBlock, IsValidPlan, IsValidPolicy, IsFunctionBlock, IsLoopBlock, IsBlockOf}
 use Rattle.ppd_ast.proofs.BareValid.{bare_valid}
 use Rattle.ppd_ast.proofs.ValidLaws.{some_and}
-use Rattle.ppd_ast.specs.Members.{has}
 use Rattle.ppd_ast.proofs.Members.{below_range}
-use Rattle.ppd_sets.specs.Used.{loop_used_of, loop_defined_of, sorted}
 use Rattle.ppd_units.specs.Starts.{all_starts, unit_of, units_of}
 use Rattle.ppd_units.proofs.Paths.{range_rises, all_from, cells_are_shared}
 use Rattle.ppd_blocks.specs.Blocks.{params_of, loop_in, block_of, filled, block_loops, plan_of}

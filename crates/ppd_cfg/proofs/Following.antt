@@ -1,10 +1,9 @@
 -- In a valid program statements stand in so few others that what follows them is always found.
-use Rattle.std.proofs.Common.{◌≡◌, ℕ, zero, suc, ◌+◌, ◌-◌, ◌<◌, ◌≤◌, List, [], ◌∷◌, ◌++◌, Option, Some, None, refl, sym, subst, ap, ◌∙◌, arith, inl, inr, length, get_or, true≢false}
+use Rattle.std.proofs.Common.{◌≡◌, ℕ, zero, suc, ◌+◌, ◌-◌, ◌<◌, ◌≤◌, List, [], ◌∷◌, Option, Some, None, refl, sym, subst, ap, ◌∙◌, arith, inl, inr, length, true≢false}
 use Rattle.std.specs.Prelude.{IsTrue, IsSomeAnd, slice_get, ⊤}
-use Rattle.std.specs.List.{All, flat_map, range_with_len}
+use Rattle.std.specs.List.{flat_map, range_with_len}
 use Rattle.std.proofs.lemmas.Bool.{cases_lt}
 use Rattle.ppd_ast.specs.declared.program.Kind.TheVariants as K
-use Rattle.ppd_ast.specs.declared.program.Kind.{Kind}
 use Rattle.ppd_ast.specs.declared.program.Stmt.{Stmt}
 use Rattle.ppd_ast.specs.declared.program.Body.{Body}
 use Rattle.ppd_ast.specs.declared.program.Program.{Program}
@@ -13,7 +12,7 @@ use Rattle.ppd_ast.specs.Valid.{IsValid, IsValidBody, Follow}
 use Rattle.ppd_ast.proofs.ValidLaws.{slice_get_below, valid_stmt, valid_body, some_and}
 use Rattle.ppd_ast.specs.Members.{has}
 use Rattle.ppd_ast.specs.Lookups.{kind_of}
-use Rattle.ppd_ast.proofs.Members.{has_first, has_later, has_cons, in_bounds_has, flat_gives, all_has}
+use Rattle.ppd_ast.proofs.Members.{has_cons, in_bounds_has, flat_gives, all_has}
 use Rattle.ppd_cfg.specs.Flow.{follow, follow_at, follow_of, follow_under, follow_within}
 use Rattle.ppd_cfg.specs.Laws.{FollowsItsList}
 

@@ -26,10 +26,7 @@ impl Model for Work {
 fn clear_marks(alloc: Global, count: usize) -> Result<Vec<bool>, Memory>
     ensures { IfOk result (λ marks. marks.items ≡ replicate count false) }
 {
-    match vec![in alloc; false; count] {
-        Ok(marks) => Ok(marks),
-        Err(_) => Err(Memory),
-    }
+    Ok(vec![in alloc; false; count]?)
 }
 
 impl Work {
@@ -51,13 +48,9 @@ impl Work {
         if self.marks[index] {
             return Ok(());
         }
-        match self.todo.push(x) {
-            Ok(()) => {
-                self.marks[index] = true;
-                Ok(())
-            }
-            Err(_) => Err(Memory),
-        }
+        self.todo.push(x)?;
+        self.marks[index] = true;
+        Ok(())
     }
 
     fn mark_all(&mut self, xs: &[u32]) -> Result<(), Memory>

@@ -1,12 +1,12 @@
 -- What a source declares and says in all, against the nodes of its table.
-use Rattle.std.proofs.Common.{◌≡◌, refl, ap, ◌∙◌, ℕ, ◌+◌, ◌-◌, ◌*◌, ◌≤◌, arith, List, [], ◌++◌, length, map, Option, None, nat_lt}
+use Rattle.std.proofs.Common.{◌≡◌, refl, ap, ◌∙◌, ℕ, ◌+◌, ◌*◌, ◌≤◌, arith, List, [], ◌++◌, length, map, Option, None, nat_lt}
 use Rattle.ppd_ast.specs.declared.program.Stmt.{Stmt}
 use Rattle.ppd_parse.specs.declared.node.Node.{Node}
 use Rattle.ppd_parse.specs.Tree.{tree_of, IsTable}
 use Rattle.ppd_resolve.specs.declared.globals.Globals.{Globals}
 use Rattle.ppd_resolve.specs.Cost.{nodes_at, total, heads_nodes}
 use Rattle.ppd_resolve.specs.declared.frame.Variable.{Variable}
-use Rattle.ppd_resolve.proofs.DeclaredCosts.{heads_apart}
+use Rattle.ppd_resolve.proofs.Declared.Costs.{heads_apart}
 use Rattle.ppd_resolve.specs.Reading.{source_of}
 use Rattle.ppd_lower.specs.Sources.{codes, all_stmts, past_statements}
 use Rattle.ppd_resolve.specs.Globals.{globals, no_globals, items_faults, count_faults}

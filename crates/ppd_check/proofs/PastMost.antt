@@ -12,7 +12,7 @@ use Rattle.ppd_resolve.specs.declared.fault.Limit.TheVariants as L
 use Rattle.ppd_resolve.specs.declared.fault.Fault.{Fault}
 use Rattle.ppd_resolve.specs.Faults.{at, by_then, is_before, first, first_of_two, first_of_both}
 use Rattle.ppd_lower.specs.Sources.{is_up_to}
-use Rattle.ppd_resolve.proofs.First.{first_of_both_assoc, first_of_both_swap}
+use Rattle.ppd_resolve.proofs.Found.First.{first_of_both_assoc, first_of_both_swap}
 
 true_not_false : true ≡ false → ⊥
 true_not_false h = grind (arith, h)

@@ -26,13 +26,13 @@ use Rattle.ppd_resolve.specs.Fitted.{as_short}
 use Rattle.ppd_resolve.specs.Holding.{head_at, Holds}
 use Rattle.ppd_resolve.specs.Names.{innermost}
 use Rattle.ppd_resolve.specs.Globals as S
-use Rattle.ppd_lower.specs.Sources.{past_statements, head_code, head_faults, heads, codes, faults_in, vars, bodies, all_stmts, core_of, Accepted, core, faults, first_fault}
+use Rattle.ppd_lower.specs.Sources.{past_statements, head_faults, heads, codes, faults_in, vars, bodies, all_stmts, core_of, Accepted, core, faults, first_fault}
 use Rattle.ppd_resolve.specs.Globals.{no_globals, globals, with_item, with_items, items_faults, count_faults, past, past_cells, sem, chan}
 use Rattle.ppd_resolve.specs.Frames.{after_cells}
 use Rattle.ppd_resolve.specs.Syntax.{Item, Source}
 use Rattle.ppd_lower.specs.Table.{flats, terms}
-use Rattle.ppd_resolve.proofs.Counted.{end_cells, Celled, celled_item}
-use Rattle.ppd_resolve.proofs.First.{found_in_both}
+use Rattle.ppd_resolve.proofs.Declared.Counted.{end_cells, Celled, celled_item}
+use Rattle.ppd_resolve.proofs.Found.First.{found_in_both}
 
 -- Nothing was found where no rule is broken.
 

@@ -32,8 +32,7 @@ pub record IsRead (bytes : List ℕ) (p : Program) : Type 0 where
   pub table : p ≡ core tree
 
 -- Why the bytes have no program: the first lexical fault, or the first of their tokens that breaks the grammar or a
--- limit, or
--- the first rule that their tree breaks. Want of memory may come at any, and is the outer one alone.
+-- limit, or the first rule that their tree breaks. Want of memory may come at any, and is the outer one alone.
 abbrev pub IsRefused : List ℕ → SourceError → Type 0
 IsRefused bytes (S.Lex L.Memory) = ⊥
 IsRefused bytes (S.Lex e) = Lexing.IsRefused bytes e

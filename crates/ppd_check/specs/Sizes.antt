@@ -1,9 +1,8 @@
 -- How large a source is: its names, its expressions, and how deep its statements stand in one another. The limits of
--- tokens and
--- of the grammar keep these sizes.
-use Rattle.std.specs.Prelude.{ℕ, suc, ◌+◌, ◌≤◌, max, List, Option, Some, None, ⊤}
+-- tokens and of the grammar keep these sizes.
+use Rattle.std.specs.Prelude.{ℕ, suc, ◌+◌, ◌*◌, ◌≤◌, max, List, Option, Some, None, ⊤}
 use Rattle.std.specs.List.{AllByRecursion}
-use Rattle.ppd_ast.specs.declared.limits.TheConstants.{MOST_NESTING}
+use Rattle.ppd_ast.specs.declared.limits.TheConstants.{MOST_NESTING, MOST_SOURCE_OPERATORS}
 use Rattle.ppd_ast.specs.Valid.{IsName}
 use Rattle.ppd_resolve.specs.Syntax.{Name, Formula, number, variable, element, negated, inverted, two, both, either, Goal, scalar, item, Value, plain, result, received, Simple, Row, Item, shared, shared_array, semaphore, channel, function, process, Source}
 use Rattle.ppd_resolve.specs.Syntax as S
@@ -32,9 +31,9 @@ depth_in (two op a b) = 1 + max (depth_in a) (depth_in b)
 depth_in (both a b) = 1 + max (depth_in a) (depth_in b)
 depth_in (either a b) = 1 + max (depth_in a) (depth_in b)
 
--- an expression of at most 256 operators, not too deep
+-- an expression with few operators, not too deep
 abbrev pub IsSmall : Formula → Type 0
-IsSmall f = (operators_in f ≤ 256) × (depth_in f ≤ 512)
+IsSmall f = (operators_in f ≤ MOST_SOURCE_OPERATORS) × (depth_in f ≤ 2 * MOST_SOURCE_OPERATORS)
 
 abbrev pub AreSmall : List Formula → Type 0
 AreSmall fs = AllByRecursion IsSmall fs

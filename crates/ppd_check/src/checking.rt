@@ -170,8 +170,7 @@ fn check_from<L: Ledger>(alloc: Global, tree: &Tree, blank: Blank) -> Result<Pro
 /// the start values of the shared cells.
 ///
 /// Otherwise the first broken rule by its place, and at one place the one that `CheckError` lists first; `Memory` is
-/// want
-/// of memory.
+/// want of memory.
 pub fn check(alloc: Global, tree: &Tree) -> Result<Program, CheckError>
     requires table { IsTable tree.now.nodes }
     ensures { IsCheckOf tree.now.nodes result }

@@ -84,9 +84,7 @@ fn made(
     ensures valid { IfOk result (λ r. IsValidPlan r.program r.plan) }
     ensures err { IfErr result (λ e. e ≡ BadBytes.Memory) }
 {
-    let Ok(plan) = partition(alloc, &program, &front.header.policy) else {
-        return Err(BadBytes::Memory);
-    };
+    let plan = partition(alloc, &program, &front.header.policy)?;
     let Ok(source) = Vec::from_slice(alloc, front.source) else {
         return Err(BadBytes::Memory);
     };

@@ -21,10 +21,8 @@ impl Writer {
         ensures cost { steps.new + length self.old.out.items ≤ steps.old + length self.new.out.items }
     {
         self.number_4(source.len() as u32, steps)?;
-        match self.out.extend_from_slice(source) {
-            Ok(()) => Ok(()),
-            Err(_) => Err(Memory),
-        }
+        self.out.extend_from_slice(source)?;
+        Ok(())
     }
 
     /// All that stands before the logs.

@@ -131,10 +131,7 @@ impl<'a> Cursor<'a> {
         let mut left = self.number_4(steps)?;
         let mut found = Seq::new(alloc);
         while left > 0 {
-            let item = match self.entry(alloc, facts, steps) {
-                Ok(item) => item,
-                Err(bad) => return Err(bad),
-            };
+            let item = self.entry(alloc, facts, steps)?;
             push(&mut found, item)?;
             left -= 1;
         }
@@ -154,10 +151,7 @@ impl<'a> Cursor<'a> {
         let mut left = self.process_count(facts, steps)?;
         let mut found = Seq::new(alloc);
         while left > 0 {
-            let item = match self.log(alloc, facts, steps) {
-                Ok(item) => item,
-                Err(bad) => return Err(bad),
-            };
+            let item = self.log(alloc, facts, steps)?;
             push(&mut found, item)?;
             left -= 1;
         }

@@ -112,10 +112,7 @@ impl<'a> Cursor<'a> {
         ensures { AnswersAs tag_form.read self.old self.new steps.old steps.new result }
     {
         let at = self.at;
-        match tag_at(self.byte(steps)?) {
-            Some(found) => Ok(found),
-            None => Err(BadBytes::Range(at, Field::Tag)),
-        }
+        tag_at(self.byte(steps)?).ok_or(BadBytes::Range(at, Field::Tag))
     }
 
     /// A kind of synchronization that this version has.
@@ -128,10 +125,7 @@ impl<'a> Cursor<'a> {
         ensures { AnswersAs (sync_kind_form version).read self.old self.new steps.old steps.new result }
     {
         let at = self.at;
-        match kind_at(version, self.byte(steps)?) {
-            Some(found) => Ok(found),
-            None => Err(BadBytes::Range(at, Field::Kind)),
-        }
+        kind_at(version, self.byte(steps)?).ok_or(BadBytes::Range(at, Field::Kind))
     }
 
     /// A synchronization's number, at least 1.
@@ -170,10 +164,7 @@ impl<'a> Cursor<'a> {
         ensures { AnswersAs end_status.read self.old self.new steps.old steps.new result }
     {
         let at = self.at;
-        match status_at(self.byte(steps)?) {
-            Some(found) => Ok(found),
-            None => Err(BadBytes::Range(at, Field::Status)),
-        }
+        status_at(self.byte(steps)?).ok_or(BadBytes::Range(at, Field::Status))
     }
 
     /// A shared cell, at least `low`.

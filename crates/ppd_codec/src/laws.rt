@@ -30,8 +30,6 @@ pub fn decode_encoded(
     ensures logs { IfOk result (λ r. r.logs ≡ logs.now) }
     ensures err { IfErr result (λ e. e ≡ BadBytes.Memory) }
 {
-    let Ok(bytes) = encode(alloc, source, header, logs) else {
-        return Err(BadBytes::Memory);
-    };
+    let bytes = encode(alloc, source, header, logs)?;
     decode(alloc, bytes.as_slice())
 }

@@ -21,10 +21,7 @@ impl<'a> Cursor<'a> {
         let mut left = self.number_2(steps)?;
         let mut found = Nums::new(alloc);
         while left > 0 {
-            let item = match self.value(steps) {
-                Ok(item) => item,
-                Err(bad) => return Err(bad),
-            };
+            let item = self.value(steps)?;
             push(&mut found, item)?;
             left -= 1;
         }
@@ -45,10 +42,7 @@ impl<'a> Cursor<'a> {
         let mut found = Cells::new(alloc);
         let mut low: u32 = 0;
         while left > 0 {
-            let cell = match self.cell(shared, low, steps) {
-                Ok(cell) => cell,
-                Err(bad) => return Err(bad),
-            };
+            let cell = self.cell(shared, low, steps)?;
             push(&mut found, cell)?;
             low = u32::from(cell) + 1;
             left -= 1;
@@ -62,8 +56,6 @@ pub(crate) fn push<T: Drop>(items: &mut Seq<T>, item: T) -> Result<(), BadBytes>
     ensures ok { OnOk result (items.new ≡ items.old ++ item ∷ []) }
     ensures err { IfErr result (λ e. e ≡ BadBytes.Memory) }
 {
-    match items.push(item) {
-        Ok(()) => Ok(()),
-        Err(_) => Err(BadBytes::Memory),
-    }
+    items.push(item)?;
+    Ok(())
 }

@@ -27,13 +27,9 @@ impl Writer {
         ensures ok { OnOk result (self.new.out.items ≡ self.old.out.items ++ bytes.now) }
         ensures cost { steps.new + length self.old.out.items ≤ steps.old + length self.new.out.items }
     {
-        match self.out.extend_from_slice(bytes) {
-            Ok(()) => {
-                steps.tick();
-                Ok(())
-            }
-            Err(_) => Err(Memory),
-        }
+        self.out.extend_from_slice(bytes)?;
+        steps.tick();
+        Ok(())
     }
 
     pub fn byte<L: Ledger>(&mut self, byte: u8, steps: &mut Steps<L>) -> Result<(), Memory>

@@ -74,10 +74,7 @@ fn is_kept(program: &Program, local: Local, stmt: u32) -> bool
 fn copy(alloc: Global, ids: &[u32]) -> Result<Ids, Memory>
     ensures { IfOk result (λ copied. copied ≡ ids.now) }
 {
-    match ids.to_vec(alloc) {
-        Ok(items) => Ok(Ids::from_vec(items)),
-        Err(_) => Err(Memory),
-    }
+    Ok(Ids::from_vec(ids.to_vec(alloc)?))
 }
 
 // The successors of the statement along which a value of the variable is still there.

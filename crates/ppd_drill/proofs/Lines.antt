@@ -1,5 +1,5 @@
 -- Lines of numbers, one more at a time.
-use Rattle.std.proofs.Common.{◌≡◌, ℕ, zero, suc, ◌+◌, List, [], ◌∷◌, ◌++◌, refl, ap, sym, ◌∙◌, append_assoc, append-nil, arith, add-one}
+use Rattle.std.proofs.Common.{◌≡◌, ℕ, zero, suc, ◌+◌, List, ◌++◌, ap, sym, ◌∙◌, append_assoc, append-nil, arith, add-one}
 use Rattle.ppd_drill.specs.Drills.{lines_from}
 
 lines_after : (line : ℕ → List ℕ) (k n : ℕ) → lines_from line k (suc n) ≡ lines_from line k n ++ line (k + n)

@@ -77,10 +77,9 @@ fn run<L: Ledger, T: Ledger>(
 {
     for _turn in 0..u64::from(budget) + 1 {
         turns.tick();
-        match turn(code, state, steps) {
-            Ok(Turned::More) => {}
-            Ok(Turned::Done) => return Ok(()),
-            Err(error) => return Err(error),
+        match turn(code, state, steps)? {
+            Turned::More => {}
+            Turned::Done => return Ok(()),
         }
     }
     Err(fail(code.alloc, state, Wanted::Fewer))
@@ -105,10 +104,9 @@ fn run_from_unit<L: Ledger, T: Ledger>(
     ensures ticks { steps.new + state.old.steps ≡ steps.old + state.new.steps }
     ensures turns { IfTold result (turns.new ≤ turns.old + state.new.steps + 1) }
 {
-    match take_unit(code, state, unit) {
-        Ok(Turned::More) => run(code, state, budget, steps, turns),
-        Ok(Turned::Done) => Ok(()),
-        Err(error) => Err(error),
+    match take_unit(code, state, unit)? {
+        Turned::More => run(code, state, budget, steps, turns),
+        Turned::Done => Ok(()),
     }
 }
 
@@ -131,14 +129,10 @@ fn emulate_log<L: Ledger, T: Ledger>(
 {
     valid_can_run();
     valid_is_numbered();
-    let Ok(mut state) = begin(code, log, budget) else {
-        return Err(EmulError::Memory);
-    };
+    let mut state = begin(code, log, budget)?;
     let unit = block_unit(code.plan, block_kind(code.plan, log.block()));
-    match run_from_unit(code, &mut state, unit, budget, steps, turns) {
-        Ok(()) => Ok(BlockTrace { items: state.items }),
-        Err(error) => Err(error),
-    }
+    run_from_unit(code, &mut state, unit, budget, steps, turns)?;
+    Ok(BlockTrace { items: state.items })
 }
 
 /// The same, with turns that nobody reads.

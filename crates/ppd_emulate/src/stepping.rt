@@ -47,9 +47,7 @@ pub(crate) fn take_unit(code: &Code, state: &mut Replayer, unit: u16) -> Result<
 {
     match state.pieces.next().1 {
         Piece::Unit(found, values) if found == unit => {
-            let Ok(()) = state.in_force.start(unit_cells(code.plan, unit), values) else {
-                return Err(EmulError::Memory);
-            };
+            state.in_force.start(unit_cells(code.plan, unit), values)?;
             state.pass();
             Ok(Turned::More)
         }
@@ -96,12 +94,8 @@ fn synchronize<L: Ledger>(
         (synchronize_of code.now.program.now code.now.plan.now need number value (replaying state.old)) }
 {
     let answer = received(need, value);
-    let Ok(()) = add_event(code, state, answer, Some(number)) else {
-        return Err(EmulError::Memory);
-    };
-    let Ok(()) = take_step(code, state, answer, steps) else {
-        return Err(EmulError::Memory);
-    };
+    add_event(code, state, answer, Some(number))?;
+    take_step(code, state, answer, steps)?;
     state.pass();
     take_unit_if(code, state, unit_started(need))
 }
@@ -199,12 +193,8 @@ fn skip_nested<L: Ledger>(
         nested.entry.0 nested.entry.1 nested.entry.2.now (replaying state.old)) }
 {
     let (interval, block, values) = nested;
-    let Ok(()) = add_call(code, state, need) else {
-        return Err(EmulError::Memory);
-    };
-    let Ok(()) = add_nested(code.alloc, state, interval, block, values, true) else {
-        return Err(EmulError::Memory);
-    };
+    add_call(code, state, need)?;
+    add_nested(code.alloc, state, interval, block, values, true)?;
     skip_over(code, state, need, values, steps)
 }
 
@@ -222,12 +212,8 @@ fn stop_nested<L: Ledger>(
         (step_with_of code.now.program.now code.now.plan.now need
         (unfinished interval block) (replaying state.old)) }
 {
-    let Ok(()) = add_call(code, state, need) else {
-        return Err(EmulError::Memory);
-    };
-    let Ok(()) = add_nested(code.alloc, state, interval, block, &[], false) else {
-        return Err(EmulError::Memory);
-    };
+    add_call(code, state, need)?;
+    add_nested(code.alloc, state, interval, block, &[], false)?;
     state.count(steps);
     Ok(Turned::Done)
 }
@@ -246,9 +232,7 @@ pub(crate) fn end_with_event<L: Ledger>(
         (finished
         (counted (with_event code.now.program.now code.now.plan.now Go None (replaying state.old)))) }
 {
-    let Ok(()) = add_event(code, state, Answer::Go, None) else {
-        return Err(EmulError::Memory);
-    };
+    add_event(code, state, Answer::Go, None)?;
     state.count(steps);
     Ok(Turned::Done)
 }
@@ -291,15 +275,9 @@ fn step_alone<L: Ledger>(
     ensures { IsTurn code.now state.old state.new steps.old steps.new result
         (alone code.now.program.now code.now.plan.now need (replaying state.old)) }
 {
-    let Ok(()) = add_event(code, state, Answer::Go, None) else {
-        return Err(EmulError::Memory);
-    };
-    let Ok(()) = state.write(need) else {
-        return Err(EmulError::Memory);
-    };
-    let Ok(()) = take_step(code, state, Answer::Go, steps) else {
-        return Err(EmulError::Memory);
-    };
+    add_event(code, state, Answer::Go, None)?;
+    state.write(need)?;
+    take_step(code, state, Answer::Go, steps)?;
     take_unit_if(code, state, unit_started(need))
 }
 
@@ -315,9 +293,7 @@ fn read<L: Ledger>(
         (step_without_of code.now.program.now code.now.plan.now (Read cell) (replaying state.old)) }
 {
     let value = state.in_force.value(cell);
-    let Ok(()) = take_step(code, state, Answer::Value(value), steps) else {
-        return Err(EmulError::Memory);
-    };
+    take_step(code, state, Answer::Value(value), steps)?;
     Ok(Turned::More)
 }
 

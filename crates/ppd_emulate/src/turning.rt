@@ -28,8 +28,8 @@ fn turn_by_wanted<L: Ledger>(
         (turn_by_wanted_of code.now.program.now code.now.plan.now need
         (wanted_of_need code.now.program.now code.now.plan.now state.old.proc need) (replaying state.old)) }
 {
-    match wanted_of(code.alloc, code.program, code.plan, &state.proc, need) {
-        Ok(Some(wanted)) => {
+    match wanted_of(code.alloc, code.program, code.plan, &state.proc, need)? {
+        Some(wanted) => {
             let (_, piece) = state.pieces.next();
             if fits(&wanted, piece) {
                 step_with(code, state, need, piece, steps)
@@ -37,8 +37,7 @@ fn turn_by_wanted<L: Ledger>(
                 Err(fail(code.alloc, state, wanted))
             }
         }
-        Ok(None) => step_without(code, state, need, steps),
-        Err(_) => Err(EmulError::Memory),
+        None => step_without(code, state, need, steps),
     }
 }
 

@@ -110,10 +110,7 @@ pub fn sync_item(
         if is_sync_item(item) && current == edge as usize {
             return Ok(place);
         }
-        match sum_of(current, syncs_of_item(past, process, item)) {
-            Ok(sum) => current = sum,
-            Err(memory) => return Err(memory),
-        }
+        current = sum_of(current, syncs_of_item(past, process, item))?;
     }
     Ok(items.len())
 }

@@ -106,10 +106,7 @@ fn greatest_of(
 {
     let mut best = found;
     for (i, own) in sets.iter().enumerate() {
-        let edge = match number(i) {
-            Ok(edge) => edge,
-            Err(memory) => return Err(memory),
-        };
+        let edge = number(i)?;
         best = greater_if(
             past,
             search,
@@ -134,10 +131,7 @@ fn greatest(past: &Past, search: &Writing) -> Result<Option<EdgeId>, Memory>
         let Ok(process) = u8::try_from(p) else {
             return Err(Memory);
         };
-        best = match greatest_of(past, search, process, best, sets.as_slice()) {
-            Ok(best) => best,
-            Err(memory) => return Err(memory),
-        };
+        best = greatest_of(past, search, process, best, sets.as_slice())?;
     }
     Ok(best)
 }

@@ -65,10 +65,7 @@ pub fn edge_at(past: &Past, process: u8, interval: u32, before: &[Item]) -> Resu
 {
     let mut edge = first_edge(past, process, interval);
     for item in before {
-        match sum_of(edge, syncs_of_item(past, process, item)) {
-            Ok(sum) => edge = sum,
-            Err(memory) => return Err(memory),
-        }
+        edge = sum_of(edge, syncs_of_item(past, process, item))?;
     }
     number(edge)
 }

@@ -9,7 +9,7 @@ use Rattle.ppd_entry.specs.declared.entry.Logs.{Logs}
 use Rattle.ppd_model.specs.declared.flow.FlowEdge.{FlowEdge}
 use Rattle.ppd_model.specs.declared.flow.Origin.{Origin}
 use Rattle.ppd_model.specs.FlowbackEdges.{edges}
-use Rattle.ppd_model.specs.Intervals.{Split, splits}
+use Rattle.ppd_model.specs.Intervals.{splits}
 use Rattle.ppd_model.specs.Logs.{closed_logs}
 use Rattle.ppd_model.specs.Story.{story, told}
 use Rattle.ppd_near.specs.Costs.{EdgesCostLittle, LastCostsLittle, steps_in, steps_of_all}

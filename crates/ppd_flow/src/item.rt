@@ -54,10 +54,9 @@ fn pair_edge<L: Ledger>(
         interval: place.interval,
         item: place.item,
     };
-    match pair_origin(search.alloc, search.past, at, place.items, steps) {
-        Ok(Some(from)) => Ok(Some(sync_edge(from))),
-        Ok(None) => Ok(None),
-        Err(error) => Err(error),
+    match pair_origin(search.alloc, search.past, at, place.items, steps)? {
+        Some(from) => Ok(Some(sync_edge(from))),
+        None => Ok(None),
     }
 }
 
@@ -100,22 +99,11 @@ fn event_edges<L: Ledger>(
         place.now.item event.now))
         steps.old steps.new result }
 {
-    let mut edges = match read_edges(search, place, event.reads.as_slice(), steps) {
-        Ok(edges) => edges,
-        Err(error) => return Err(error),
-    };
-    let pair = match pair_edge(search, place, event.number, steps) {
-        Ok(pair) => pair,
-        Err(error) => return Err(error),
-    };
-    let control = match search.control_origin(place, event.stmt, steps) {
-        Ok(from) => control_edge(from),
-        Err(error) => return Err(error),
-    };
-    match push_rest(&mut edges, pair, control) {
-        Ok(()) => Ok(edges),
-        Err(_) => Err(FlowError::Memory),
-    }
+    let mut edges = read_edges(search, place, event.reads.as_slice(), steps)?;
+    let pair = pair_edge(search, place, event.number, steps)?;
+    let from = search.control_origin(place, event.stmt, steps)?;
+    push_rest(&mut edges, pair, control_edge(from))?;
+    Ok(edges)
 }
 
 /// The edges of the item at a place.
@@ -164,10 +152,7 @@ fn edges_found<L: Ledger>(
         past,
         process,
     };
-    let items = match search.items(interval, steps) {
-        Ok(items) => items,
-        Err(error) => return Err(error),
-    };
+    let items = search.items(interval, steps)?;
     let items = items.as_slice();
     let item = item as usize;
     if item >= items.len() {

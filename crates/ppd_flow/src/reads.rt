@@ -68,14 +68,8 @@ pub(crate) fn read_edges<L: Ledger>(
 {
     let mut edges = Seq::new(search.alloc);
     for read in reads {
-        let from = match read_origin(search, place, read.spot, steps) {
-            Ok(from) => from,
-            Err(error) => return Err(error),
-        };
-        match edges.push(read_edge(read, from)) {
-            Ok(()) => {}
-            Err(_) => return Err(FlowError::Memory),
-        }
+        let from = read_origin(search, place, read.spot, steps)?;
+        edges.push(read_edge(read, from))?;
     }
     Ok(edges)
 }

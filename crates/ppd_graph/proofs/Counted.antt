@@ -3,7 +3,7 @@ use Rattle.std.proofs.Common.{◌≡◌, ℕ, zero, suc, ◌+◌, ◌-◌, ◌*�
 use Rattle.std.proofs.lemmas.Bool.{cases_eq}
 use Rattle.std.specs.List.{cons_option, range_with_len, sum_by}
 use Rattle.std.proofs.Math.Nat.{add-mul, mul-add}
-use Rattle.std.proofs.lemmas.List.Sums.{sum_by-append, sum_by-cons, sum_by_push}
+use Rattle.std.proofs.lemmas.List.Sums.{sum_by-cons, sum_by_push}
 use Rattle.std.proofs.lemmas.Nat.{mul-le}
 use Rattle.std.proofs.lemmas.List.{drop_more, length-append, length-map}
 use Rattle.ppd_ast.specs.declared.program.Program.{Program}
@@ -11,7 +11,7 @@ use Rattle.ppd_entry.specs.declared.entry.Entry.{Entry}
 use Rattle.ppd_entry.specs.declared.entry.Logs.{Logs}
 use Rattle.ppd_model.specs.RecordedSets.{record_in, sync_in}
 use Rattle.ppd_model.specs.Synchronizations.{Sync}
-use Rattle.ppd_graph.specs.declared.limits.TheConstants.{MOST_NAMED}
+use Rattle.ppd_ast.specs.declared.limits.TheConstants.{MOST_NAMED}
 use Rattle.ppd_graph.specs.declared.paired.Paired.{Paired}
 use Rattle.ppd_graph.specs.declared.placed.Placed.{Placed}
 use Rattle.ppd_graph.specs.Partners.{pairs_of, partner_of}

@@ -1,6 +1,6 @@
 -- The synchronizations kept by their numbers go on as the logs do.
-use Rattle.std.proofs.Common.{◌≡◌, ℕ, ◌+◌, ◌<◌, ◌≤◌, List, [], ◌∷◌, length, drop, get_or, Option, Some, None, Result, Ok, Err, OnOk, Bool, true, false, refl, ap, ap₂, sym, subst, ◌∙◌, true≢false, ◌||◌, ◌&&◌}
-use Rattle.std.specs.Prelude.{IsTrue, is_some, nat_eq, if◌then◌else◌}
+use Rattle.std.proofs.Common.{◌≡◌, ℕ, ◌+◌, ◌<◌, ◌≤◌, List, [], ◌∷◌, length, drop, get_or, Option, Some, None, Result, Ok, Err, OnOk, Bool, true, false, refl, ap, sym, subst, ◌∙◌, true≢false, ◌||◌}
+use Rattle.std.specs.Prelude.{IsTrue, is_some, if◌then◌else◌}
 use Rattle.std.specs.List.{list_any}
 use Rattle.std.proofs.lemmas.Bool.{or_parts}
 use Rattle.std.proofs.lemmas.List.{drop_all, drop_more}
@@ -14,7 +14,7 @@ use Rattle.ppd_model.specs.Numbers.{sync}
 use Rattle.ppd_model.specs.Synchronizations.{Sync}
 use Rattle.ppd_graph.specs.declared.by_number.ByNumber.{ByNumber}
 use Rattle.ppd_graph.specs.declared.placed.Placed.{Placed}
-use Rattle.ppd_graph.specs.ByNumber.{KeepsAll, KeepsMore, KeepsNone, Puts, found_in, is_kept, is_twice, node_among, node_kept, twice_by}
+use Rattle.ppd_graph.specs.ByNumber.{KeepsAll, KeepsMore, KeepsNone, is_kept, is_twice, node_among, node_kept, twice_by}
 use Rattle.ppd_graph.specs.Refusals.{is_from_start, same_sync, sync_placed, twice_after}
 use Rattle.ppd_graph.proofs.Leads.{same_is, same_self}
 

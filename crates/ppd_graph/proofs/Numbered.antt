@@ -15,7 +15,7 @@ use Rattle.ppd_graph.specs.declared.greatest.Greatest.{Greatest}
 use Rattle.ppd_graph.specs.declared.missing.Objects.TheVariants.{Semaphores, Channels}
 use Rattle.ppd_graph.specs.declared.placed.Placed.{Placed}
 use Rattle.ppd_graph.specs.ByNumber.{AllGreatest, greatest_kept}
-use Rattle.ppd_graph.specs.Refusals.{Missing, Numbered, absent, chan_misses, first_missing, greatest, missing, missing_of_chan, missing_of_handover, missing_of_places, missing_of_sem, number_if, number_in, numbered_in, numbers_of, of_kind, sem_misses, start_of, sync_placed}
+use Rattle.ppd_graph.specs.Refusals.{Missing, Numbered, absent, chan_misses, first_missing, greatest, missing, missing_of_chan, missing_of_places, missing_of_sem, numbered_in, numbers_of, of_kind, sem_misses, start_of, sync_placed}
 use Rattle.ppd_graph.specs.Spending.{done_numbers, missing_cost, object_cost}
 use Rattle.ppd_graph.proofs.Counted.{sum_more}
 

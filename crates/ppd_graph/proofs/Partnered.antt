@@ -16,7 +16,7 @@ use Rattle.ppd_model.specs.Synchronizations.{Sync}
 use Rattle.ppd_graph.specs.declared.by_number.ByNumber.{ByNumber}
 use Rattle.ppd_graph.specs.declared.greatest.Greatest.{Greatest}
 use Rattle.ppd_graph.specs.declared.placed.Placed.{Placed}
-use Rattle.ppd_graph.specs.ByNumber.{AllGreatest, KeepsAll, node_among, node_kept, node_wanted, numbered_kept, partner_kept}
+use Rattle.ppd_graph.specs.ByNumber.{AllGreatest, KeepsAll, node_among, node_wanted, numbered_kept, partner_kept}
 use Rattle.ppd_model.specs.RecordedSets.{record_in, sync_in}
 use Rattle.ppd_graph.specs.Partners.{found, found_from, found_in_row, paired_by, pairs_of, partner_of, wanted}
 use Rattle.ppd_graph.specs.Refusals.{Numbered, count_on, missing, missing_by, numbered_in, numbers_of, place, placed, placed_from, placed_lists, same_sync, sync_placed}

@@ -9,7 +9,6 @@ ghost use Rattle.ppd_graph.specs.Refusals.{AreNumbered, AreOrdered, IsRefused, I
 
 use crate::by_number::{ByNumber, keep_all};
 use crate::greatest::Greatest;
-use crate::limits::MOST_NAMED;
 use crate::missing::{Numbers, capacity_of};
 use crate::paired::Paired;
 use crate::partners::all_pairs;
@@ -19,6 +18,7 @@ use crate::rounds::{cycle, first_stuck};
 use crate::sets::all_sets;
 use crate::sync_graph::SyncGraph;
 use crate::times::all_times;
+use ppd_ast::limits::MOST_NAMED;
 use ppd_ast::{Memory, Program, Seq, Steps, SyncKind};
 use ppd_entry::{At, Entry, Logs};
 use std::alloc::Global;

@@ -32,10 +32,8 @@ fn found(nodes: &Nodes, object: u8, number: u32) -> Option<NodeId>
 fn put(nodes: &mut Nodes, object: u8, number: u32, node: NodeId) -> Result<(), Memory>
     ensures { OnOk result (Puts nodes.old nodes.new object number node) }
 {
-    match nodes.insert((object, number), node) {
-        Ok(_) => Ok(()),
-        Err(_) => Err(Memory),
-    }
+    nodes.insert((object, number), node)?;
+    Ok(())
 }
 
 /// The initial value of a semaphore, and 0 past the table.

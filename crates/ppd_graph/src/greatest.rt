@@ -3,8 +3,8 @@ ghost use Rattle.ppd_graph.specs.ByNumber.{AllGreatest, AreGreatest, greatest_ke
 ghost use Rattle.ppd_entry.specs.Entries.{same_kind as is_same_kind};
 ghost use Rattle.ppd_graph.specs.Refusals.{greatest as greatest_among, numbers_of, sync_placed};
 
-use crate::limits::MOST_NAMED;
 use crate::placed::Placed;
+use ppd_ast::limits::MOST_NAMED;
 use ppd_ast::{Ids, Memory, Steps, SyncKind};
 use std::alloc::Global;
 use std::sync::ledger::Ledger;

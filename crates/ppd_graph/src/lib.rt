@@ -6,7 +6,6 @@ mod build;
 mod by_number;
 mod greatest;
 mod laws;
-mod limits;
 mod missing;
 mod paired;
 mod partners;
@@ -19,7 +18,6 @@ mod times;
 
 pub use build::{graph, graph_in};
 pub use laws::{partners_are_found, rounds_are_cycles, times_order_edges};
-pub use limits::MOST_NAMED;
 pub use paired::Paired;
 pub use ppd_entry::At;
 pub use ppd_model::{EdgeId, NodeId};

@@ -7,7 +7,7 @@ ghost use Rattle.ppd_sem.specs.Tables.{capacity_of as capacity_in_program};
 
 use crate::by_number::{ByNumber, start_of};
 use crate::greatest::Greatest;
-use crate::limits::MOST_NAMED;
+use ppd_ast::limits::MOST_NAMED;
 use ppd_ast::{Program, Steps, SyncKind};
 use std::sync::ledger::Ledger;
 

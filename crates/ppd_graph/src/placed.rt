@@ -5,7 +5,7 @@ ghost use Rattle.std.specs.List.{sum_by};
 ghost use Rattle.ppd_graph.specs.Spending.{list_cost};
 ghost use Rattle.ppd_graph.specs.Refusals.{count_on, place, placed_from, placed_lists};
 
-use crate::limits::MOST_NAMED;
+use ppd_ast::limits::MOST_NAMED;
 use ppd_ast::{Memory, Seq, Steps, SyncKind};
 use ppd_entry::{At, Entry};
 use ppd_model::NodeId;

@@ -4,9 +4,9 @@ ghost use Rattle.ppd_model.specs.HappenedBefore.{node};
 ghost use Rattle.ppd_graph.specs.Cycles.{AllWait, AreAtLeast, IsLeastRoundOf, IsRoundOf, IsRoundsCycle, IsStuck, IsTurned, cycle_of, first_or, runs, stretch, through_first, waited as waited_of};
 ghost use Rattle.ppd_graph.specs.Times.{HasAll, next_of, own_pairs, own_times};
 
-use crate::limits::MOST_NAMED;
 use crate::paired::Paired;
 use crate::times::{done_count, pair_count, partner_at};
+use ppd_ast::limits::MOST_NAMED;
 use ppd_ast::{Ids, Memory, Seq, Steps};
 use ppd_model::NodeId;
 use std::alloc::Global;
@@ -49,19 +49,15 @@ fn waited(pairs: &[Seq<Paired>], times: &[Seq<Ids>], q: u8) -> NodeId
 fn push_front(path: &mut Vec<u8>, q: u8) -> Result<(), Memory>
     ensures { OnOk result (path.new.items ≡ q ∷ path.old.items) }
 {
-    match path.insert(0, q) {
-        Ok(()) => Ok(()),
-        Err(_) => Err(Memory),
-    }
+    path.insert(0, q)?;
+    Ok(())
 }
 
 fn push_last(path: &mut Vec<u8>, q: u8) -> Result<(), Memory>
     ensures { OnOk result (path.new.items ≡ path.old.items ++ q ∷ []) }
 {
-    match path.push(q) {
-        Ok(()) => Ok(()),
-        Err(_) => Err(Memory),
-    }
+    path.push(q)?;
+    Ok(())
 }
 
 // The list through the first q in it.

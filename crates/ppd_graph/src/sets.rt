@@ -18,10 +18,7 @@ pub struct EdgeSets {
 fn copy_of(alloc: Global, cells: &[u16]) -> Result<Cells, Memory>
     ensures { IfOk result (λ copy. copy ≡ cells.now) }
 {
-    match Vec::from_slice(alloc, cells) {
-        Ok(items) => Ok(Cells::from_vec(items)),
-        Err(_) => Err(Memory),
-    }
+    Ok(Cells::from_vec(Vec::from_slice(alloc, cells)?))
 }
 
 fn copy_sets(alloc: Global, reads: &Cells, writes: &Cells) -> Result<EdgeSets, Memory>

@@ -179,10 +179,8 @@ fn push_time(times: &mut Times, q: usize, time: Ids) -> Result<(), Memory>
 fn push_empty(times: &mut Times, alloc: Global) -> Result<(), Memory>
     ensures { OnOk result (times.new.items ≡ times.old.items ++ [] ∷ []) }
 {
-    match times.push(Seq::new(alloc)) {
-        Ok(()) => Ok(()),
-        Err(_) => Err(Memory),
-    }
+    times.push(Seq::new(alloc))?;
+    Ok(())
 }
 
 fn no_times<L: Ledger>(alloc: Global, count: usize, steps: &mut Steps<L>) -> Result<Times, Memory>

@@ -1,4 +1,5 @@
 ghost use Rattle.std.specs.Prelude.{◌≡◌, ◌+◌, ◌*◌, ◌≤◌, ◌<◌, ◌^◌, ◌||◌, [], None, length, IfOk, IfErr, OnOk};
+ghost use Rattle.ppd_ast.specs.declared.limits.TheConstants.{MOST_NAMED};
 ghost use Rattle.ppd_entry.specs.Entries.{is_end};
 ghost use Rattle.ppd_index.specs.Fitting.{AreFittingLogs};
 ghost use Rattle.ppd_index.specs.Indexes.{IsIndexOf};
@@ -62,10 +63,8 @@ fn take_entry<L: Ledger>(
     if let Some(fault) = first_fault(plan, owner.body, &standing, entry) {
         return Err(bad(owner.process, n, fault));
     }
-    match table.take(plan, n, entry, steps) {
-        Ok(()) => Ok(()),
-        Err(_) => Err(BadLog::Memory),
-    }
+    table.take(plan, n, entry, steps)?;
+    Ok(())
 }
 
 /// A list that is over after so many entries has an End.
@@ -76,10 +75,8 @@ fn check_end(process: u8, entries: usize, ended: bool) -> Result<(), BadLog>
     if ended {
         return Ok(());
     }
-    match number(entries) {
-        Ok(entry) => Err(BadLog::NoEnd(At { process, entry })),
-        Err(_) => Err(BadLog::Memory),
-    }
+    let entry = number(entries)?;
+    Err(BadLog::NoEnd(At { process, entry }))
 }
 
 /// The intervals of a process's entries, or the first refusal.
@@ -104,18 +101,12 @@ fn own_rows<L: Ledger>(
     let mut ended = false;
     for (i, entry) in entries.iter().enumerate() {
         steps.tick();
-        let Ok(n) = number(i) else {
-            return Err(BadLog::Memory);
-        };
-        if let Err(bad) = take_entry(plan, owner, &mut table, (n, ended), entry, steps) {
-            return Err(bad);
-        }
+        let n = number(i)?;
+        take_entry(plan, owner, &mut table, (n, ended), entry, steps)?;
         ended = is_over(ended, entry);
     }
-    match check_end(process, entries.len(), ended) {
-        Ok(()) => Ok(table.rows),
-        Err(bad) => Err(bad),
-    }
+    check_end(process, entries.len(), ended)?;
+    Ok(table.rows)
 }
 
 /// The same as a list of at most 2^32 - 1 intervals.
@@ -133,13 +124,9 @@ fn few_rows<L: Ledger>(
     ensures refused { IfErr result (IsRefused (first_bad program.now plan.now process entries.now)) }
     ensures cost { steps.new ≤ steps.old + 2 * length entries.now }
 {
-    match own_rows(alloc, program, plan, process, entries, steps) {
-        Ok(rows) => match number(rows.len()) {
-            Ok(_) => Ok(Seq::from_vec(rows)),
-            Err(_) => Err(BadLog::Memory),
-        },
-        Err(bad) => Err(bad),
-    }
+    let rows = own_rows(alloc, program, plan, process, entries, steps)?;
+    number(rows.len())?;
+    Ok(Seq::from_vec(rows))
 }
 
 /// The index of the logs, as `index` answers it. It is made in steps that are linear in the entries and the
@@ -151,7 +138,7 @@ pub fn index_in<L: Ledger>(
     logs: &Logs,
     steps: &mut Steps<L>,
 ) -> Result<LogIndex, BadLog>
-    requires processes { length logs.now.lists ≤ 256 }
+    requires processes { length logs.now.lists ≤ MOST_NAMED }
     ensures index { IfOk result (λ index. IsIndexOf plan.now logs.now index.tables) }
     ensures fitting { OnOk result (AreFittingLogs plan.now logs.now) }
     ensures passed { OnOk result (first_in_lists program.now plan.now 0 logs.now.lists ≡ None) }
@@ -162,13 +149,8 @@ pub fn index_in<L: Ledger>(
     let lists = logs.lists.as_slice();
     for (p, list) in lists.iter().enumerate() {
         steps.tick();
-        let rows = match few_rows(alloc, program, plan, p as u8, list.as_slice(), steps) {
-            Ok(rows) => rows,
-            Err(bad) => return Err(bad),
-        };
-        if tables.push(rows).is_err() {
-            return Err(BadLog::Memory);
-        }
+        let rows = few_rows(alloc, program, plan, p as u8, list.as_slice(), steps)?;
+        tables.push(rows)?;
     }
     Ok(LogIndex { tables })
 }
@@ -184,7 +166,7 @@ fn index_from<L: Ledger>(
     requires name { blank.name ≡ L.name }
     requires parts { blank.parts ≡ L.parts }
     requires some { 0 < blank.parts }
-    requires processes { length logs.now.lists ≤ 256 }
+    requires processes { length logs.now.lists ≤ MOST_NAMED }
     ensures index { IfOk result (λ index. IsIndexOf plan.now logs.now index.tables) }
     ensures fitting { OnOk result (AreFittingLogs plan.now logs.now) }
     ensures passed { OnOk result (first_in_lists program.now plan.now 0 logs.now.lists ≡ None) }
@@ -197,7 +179,7 @@ fn index_from<L: Ledger>(
 /// The index of the logs, or the first reason why they have none: one pass over the entries, in the steps that
 /// `index_in` counts. Each process is that of a list, and a process without a list is not looked at.
 pub fn index(alloc: Global, program: &Program, plan: &Plan, logs: &Logs) -> Result<LogIndex, BadLog>
-    requires processes { length logs.now.lists ≤ 256 }
+    requires processes { length logs.now.lists ≤ MOST_NAMED }
     ensures index { IfOk result (λ index. IsIndexOf plan.now logs.now index.tables) }
     ensures fitting { OnOk result (AreFittingLogs plan.now logs.now) }
     ensures passed { OnOk result (first_in_lists program.now plan.now 0 logs.now.lists ≡ None) }

@@ -242,9 +242,7 @@ impl Table {
     {
         let interval = number(self.rows.len())?;
         let row = new_row(plan, self, entry, block);
-        if self.rows.push(row).is_err() {
-            return Err(Memory);
-        }
+        self.rows.push(row)?;
         self.running.push(interval)
     }
 

@@ -4,6 +4,7 @@ use Rattle.std.specs.Prelude.{codes, slice_range}
 use Rattle.std.specs.List.{starts_with, prefix_len, list_all}
 use Rattle.std.proofs.Math.Seq.{take-nil}
 use Rattle.std.proofs.lemmas.List.{drop-take}
+use Rattle.ppd_ast.specs.declared.limits.TheConstants.{MOST_NAME_BYTES}
 use Rattle.ppd_lex.specs.declared.token.Kind.{Kind}
 use Rattle.ppd_lex.specs.declared.scan.Fault.TheVariants as F
 use Rattle.ppd_lex.specs.declared.scan.Piece.TheVariants.{Gap, Read, Bad}
@@ -18,7 +19,7 @@ use Rattle.ppd_lex.proofs.Munch.{take_after, starts_cut}
 use Rattle.ppd_lex.proofs.Fronts.{close_bound, line_least}
 
 word_no_gap : (text : List ℕ) (n : ℕ) → read_word text ≡ Gap n → ⊥
-word_no_gap text n h = go (nat_lt 64 (length text)) h
+word_no_gap text n h = go (nat_lt MOST_NAME_BYTES (length text)) h
   where
     go : (t : Bool) → cond t (Bad F.LongName) (Read (length text) (word_kind (kind_in keywords text) text)) ≡ Gap n → ⊥
     go true h = cc

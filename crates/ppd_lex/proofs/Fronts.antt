@@ -5,6 +5,7 @@ use Rattle.std.specs.List.{starts_with, prefix_len}
 use Rattle.std.proofs.lemmas.List.Sums.{prefix_len-le-length}
 use Rattle.std.proofs.lemmas.List.Folds.{length-prefix_len}
 use Rattle.std.proofs.lemmas.Bool.Decides.{nat_tests}
+use Rattle.ppd_ast.specs.declared.limits.TheConstants.{MOST_NAME_BYTES}
 use Rattle.ppd_lex.specs.declared.token.Kind.{Kind}
 use Rattle.ppd_lex.specs.declared.scan.Piece.{Piece}
 use Rattle.ppd_lex.specs.declared.scan.Piece.TheVariants.{Gap, Read, Bad}
@@ -50,9 +51,9 @@ close_bound before (b ∷ bs) n h = go (starts_with nat_eq (b ∷ bs) (codes "*/
     go false e h more = let k = more h in (omega (arith, k.0), omega (arith, k.1))
 
 word_proper : (m : ℕ) (text : List ℕ) → 0 < length text → length text ≤ m → IsProper m (read_word text)
-word_proper m text l h = by_test (IsProper m) (nat_lt 64 (length text)) _ _ (λ t. tt) (λ t. (l, h, (go (kind_in keywords text) refl t).0, (go (kind_in keywords text) refl t).1))
+word_proper m text l h = by_test (IsProper m) (nat_lt MOST_NAME_BYTES (length text)) _ _ (λ t. tt) (λ t. (l, h, (go (kind_in keywords text) refl t).0, (go (kind_in keywords text) refl t).1))
   where
-    go : (o : Option Kind) → o ≡ kind_in keywords text → nat_lt 64 (length text) ≡ false → IsKind (word_kind o text) × (word_kind o text ≢ End)
+    go : (o : Option Kind) → o ≡ kind_in keywords text → nat_lt MOST_NAME_BYTES (length text) ≡ false → IsKind (word_kind o text) × (word_kind o text ≢ End)
     go (Some kind) e t = ((text, sym e), λ x. cc)
     go None e t = ((l, grind (arith, nat_tests)), λ x. cc)
 

@@ -3,6 +3,7 @@ use Rattle.std.proofs.Common.{◌≡◌, ◌<◌, ◌≤◌, ℕ, suc, zero, ◌
 use Rattle.std.specs.List.{starts_with, prefix_len}
 use Rattle.std.proofs.lemmas.List.Folds.{length-prefix_len}
 use Rattle.std.proofs.Math.Seq.{take-nil}
+use Rattle.ppd_ast.specs.declared.limits.TheConstants.{MOST_NAME_BYTES}
 use Rattle.ppd_lex.specs.declared.token.Kind.{Kind}
 use Rattle.ppd_lex.specs.declared.scan.Piece.TheVariants.{Read, Bad}
 use Rattle.ppd_lex.specs.declared.scan.Fault.TheVariants as F
@@ -38,7 +39,7 @@ starts_cut a c b (d ∷ ds) zero h = go (nat_eq a b)
 starts_cut a c b (d ∷ ds) (suc m) h = h
 
 word_length : (text : List ℕ) (n : ℕ) (kind : TokenKind) → read_word text ≡ Read n kind → length text ≡ n
-word_length text n kind h = go (nat_lt 64 (length text)) h
+word_length text n kind h = go (nat_lt MOST_NAME_BYTES (length text)) h
   where
     go : (t : Bool) → cond t (Bad F.LongName) (Read (length text) (word_kind (kind_in keywords text) text)) ≡ Read n kind → length text ≡ n
     go true h = cc

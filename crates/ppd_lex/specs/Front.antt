@@ -2,6 +2,7 @@
 use Rattle.std.specs.Prelude.{ℕ, pos, ◌+◌, ◌^◌, List, [], ◌∷◌, length, drop, Bool, not, ◌&&◌, ◌||◌, nat_eq, nat_lt, nat_le, if◌then◌else◌, Option, Some, None, take_while, codes}
 use Rattle.std.specs.List.{list_all, prefix_len, starts_with}
 use Rattle.std.specs.Str.{bytes_eq}
+use Rattle.ppd_ast.specs.declared.limits.TheConstants.{MOST_NAME_BYTES}
 use Rattle.ppd_ast.specs.Digits.{is_digit, value_from}
 use Rattle.ppd_lex.specs.declared.token.Kind.{Kind}
 use Rattle.ppd_lex.specs.declared.token.Kind.TheVariants as K
@@ -72,7 +73,7 @@ word_kind None text = Name text
 -- letters, digits and _ that begin with no digit
 abbrev pub read_word : List ℕ → Piece
 read_word text =
-    if nat_lt 64 (length text) then Bad LongName else Read (length text) (word_kind (kind_in keywords text) text)
+    if nat_lt MOST_NAME_BYTES (length text) then Bad LongName else Read (length text) (word_kind (kind_in keywords text) text)
 
 -- a number of n bytes
 abbrev pub read_value : ℕ → Option ℕ → Piece

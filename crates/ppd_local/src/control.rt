@@ -119,19 +119,15 @@ impl<'a> Search<'a> {
             steps.old steps.new result }
     {
         let outer = self.outer(interval);
-        let items = match self.items(outer, steps) {
-            Ok(items) => items,
-            Err(error) => return Err(error),
-        };
+        let items = self.items(outer, steps)?;
         let place = Place {
             interval: outer,
             items: items.as_slice(),
             item: place_of(interval, items.as_slice()),
         };
-        match self.control_in(&place, stmt) {
-            Ok(Some(origin)) => Ok(origin),
-            Ok(None) => self.call_or_entry(outer, steps),
-            Err(_) => Err(FlowError::Memory),
+        match self.control_in(&place, stmt)? {
+            Some(origin) => Ok(origin),
+            None => self.call_or_entry(outer, steps),
         }
     }
 
@@ -171,10 +167,9 @@ impl<'a> Search<'a> {
         requires place { IsPlace self.now place.now }
         ensures { IsControlFound self.now place.now stmt steps.old steps.new result }
     {
-        match self.control_in(place, stmt) {
-            Ok(Some(origin)) => Ok(origin),
-            Ok(None) => self.control_above(place.interval, steps),
-            Err(_) => Err(FlowError::Memory),
+        match self.control_in(place, stmt)? {
+            Some(origin) => Ok(origin),
+            None => self.control_above(place.interval, steps),
         }
     }
 }

@@ -99,14 +99,8 @@ impl<'a> Search<'a> {
             let cell = cell_at(cells, i);
             let value = value_at(values, i);
             let wanted = LocalCell { frame, cell };
-            let from = match self.left_origin(place, wanted, steps) {
-                Ok(from) => from,
-                Err(error) => return Err(error),
-            };
-            match edges.push(left_edge(wanted, value, from)) {
-                Ok(()) => {}
-                Err(_) => return Err(FlowError::Memory),
-            }
+            let from = self.left_origin(place, wanted, steps)?;
+            edges.push(left_edge(wanted, value, from))?;
         }
         Ok(edges)
     }
@@ -129,21 +123,12 @@ impl<'a> Search<'a> {
             place.now.interval place.now.item m block values.now (blocks.Loop stmt))
             steps.old steps.new result }
     {
-        let Ok(frame) = self.frame_at(place) else {
-            return Err(FlowError::Memory);
-        };
+        let frame = self.frame_at(place)?;
         let cells = postlog_cells(self.past.plan, block);
-        let mut edges = match self.left_edges(place, frame, cells, values, steps) {
-            Ok(edges) => edges,
-            Err(error) => return Err(error),
-        };
-        match self.control_origin(place, stmt, steps) {
-            Ok(from) => match edges.push(control_edge(from)) {
-                Ok(()) => Ok(edges),
-                Err(_) => Err(FlowError::Memory),
-            },
-            Err(error) => Err(error),
-        }
+        let mut edges = self.left_edges(place, frame, cells, values, steps)?;
+        let from = self.control_origin(place, stmt, steps)?;
+        edges.push(control_edge(from))?;
+        Ok(edges)
     }
 
     /// The edge from the last item of a function's interval, where it returned a value.
@@ -161,20 +146,15 @@ impl<'a> Search<'a> {
         let Some(value) = values.first().copied() else {
             return Ok(edges);
         };
-        let from = match self.last_item(interval, steps) {
-            Ok(from) => from,
-            Err(error) => return Err(error),
-        };
+        let from = self.last_item(interval, steps)?;
         let edge = FlowEdge {
             kind: EdgeKind::Returned,
             spot: None,
             value: Some(value),
             from,
         };
-        match edges.push(edge) {
-            Ok(()) => Ok(edges),
-            Err(_) => Err(FlowError::Memory),
-        }
+        edges.push(edge)?;
+        Ok(edges)
     }
 
     /// The edges of a function's interval at a place: what it returned, and its call, which stands straight before it.
@@ -191,17 +171,10 @@ impl<'a> Search<'a> {
             ++ bare_edge edge_kind.Control (origin.Item self.now.process place.now.interval (place.now.item - 1)) ∷ [])
             steps.old steps.new result }
     {
-        let Ok(call) = number(place.item.saturating_sub(1)) else {
-            return Err(FlowError::Memory);
-        };
-        let mut edges = match self.returned_edges(interval, values, steps) {
-            Ok(edges) => edges,
-            Err(error) => return Err(error),
-        };
-        match edges.push(control_edge(self.origin(place.interval, call))) {
-            Ok(()) => Ok(edges),
-            Err(_) => Err(FlowError::Memory),
-        }
+        let call = number(place.item.saturating_sub(1))?;
+        let mut edges = self.returned_edges(interval, values, steps)?;
+        edges.push(control_edge(self.origin(place.interval, call)))?;
+        Ok(edges)
     }
 
     /// The edges of an interval that is the item at a place, in order: what its loop left, or what its function

@@ -49,10 +49,7 @@ impl<'a> Search<'a> {
             Writer::Before => Ok(None),
             Writer::Fresh => Ok(Some(Origin::Initial)),
             Writer::At(item) => Ok(Some(self.origin(interval, item))),
-            Writer::Of(function) => match self.last_item(function, steps) {
-                Ok(origin) => Ok(Some(origin)),
-                Err(error) => Err(error),
-            },
+            Writer::Of(function) => Ok(Some(self.last_item(function, steps)?)),
         }
     }
 
@@ -69,14 +66,9 @@ impl<'a> Search<'a> {
             IsFound self.now (interval ∷ writer_replays writer)
             (writer_in (seen self.now) self.now.process interval writer) steps.old steps.new result }
     {
-        let items = match self.items(interval, steps) {
-            Ok(items) => items,
-            Err(error) => return Err(error),
-        };
+        let items = self.items(interval, steps)?;
         let wanted = LocalCell { frame: 0, cell };
-        let Ok(state) = self.scanned(wanted, items.as_slice()) else {
-            return Err(FlowError::Memory);
-        };
+        let state = self.scanned(wanted, items.as_slice())?;
         self.writer_at(interval, state.writer, steps)
     }
 
@@ -94,10 +86,9 @@ impl<'a> Search<'a> {
             steps.old steps.new result }
     {
         for place in 0..loops.len() {
-            match self.in_loop(loop_at(loops, place), cell, steps) {
-                Ok(None) => {}
-                Ok(Some(origin)) => return Ok(Some(origin)),
-                Err(error) => return Err(error),
+            match self.in_loop(loop_at(loops, place), cell, steps)? {
+                None => {}
+                Some(origin) => return Ok(Some(origin)),
             }
         }
         Ok(None)
@@ -119,13 +110,10 @@ impl<'a> Search<'a> {
             place.now.interval place.now.item wanted.frame wanted.cell)
             steps.old steps.new result }
     {
-        let Ok(state) = self.scanned(wanted, &place.items[..place.item]) else {
-            return Err(FlowError::Memory);
-        };
-        match self.in_loops(&state.loops, wanted.cell, steps) {
-            Ok(None) => self.writer_at(place.interval, state.writer, steps),
-            Ok(Some(origin)) => Ok(Some(origin)),
-            Err(error) => Err(error),
+        let state = self.scanned(wanted, &place.items[..place.item])?;
+        match self.in_loops(&state.loops, wanted.cell, steps)? {
+            None => self.writer_at(place.interval, state.writer, steps),
+            Some(origin) => Ok(Some(origin)),
         }
     }
 
@@ -169,10 +157,9 @@ impl<'a> Search<'a> {
             place.now.interval place.now.item wanted.frame wanted.cell)
             steps.old steps.new result }
     {
-        match self.local_in(place, wanted, steps) {
-            Ok(Some(origin)) => Ok(origin),
-            Ok(None) => self.parameter(place.interval, wanted.cell, steps),
-            Err(error) => Err(error),
+        match self.local_in(place, wanted, steps)? {
+            Some(origin) => Ok(origin),
+            None => self.parameter(place.interval, wanted.cell, steps),
         }
     }
 
@@ -196,19 +183,14 @@ impl<'a> Search<'a> {
             steps.old steps.new result }
     {
         let outer = self.outer(interval);
-        let items = match self.items(outer, steps) {
-            Ok(items) => items,
-            Err(error) => return Err(error),
-        };
+        let items = self.items(outer, steps)?;
         let place = Place {
             interval: outer,
             items: items.as_slice(),
             item: place_of(interval, items.as_slice()),
         };
-        match self.frame_at(&place) {
-            Ok(frame) => self.local_outside(&place, LocalCell { frame, cell }, steps),
-            Err(_) => Err(FlowError::Memory),
-        }
+        let frame = self.frame_at(&place)?;
+        self.local_outside(&place, LocalCell { frame, cell }, steps)
     }
 
     /// What a local cell had when an interval began.
@@ -248,10 +230,9 @@ impl<'a> Search<'a> {
         requires place { IsPlace self.now place.now }
         ensures { IsLocalFound self.now place.now wanted steps.old steps.new result }
     {
-        match self.local_in(place, wanted, steps) {
-            Ok(Some(origin)) => Ok(origin),
-            Ok(None) => self.local_above(place.interval, wanted.cell, steps),
-            Err(error) => Err(error),
+        match self.local_in(place, wanted, steps)? {
+            Some(origin) => Ok(origin),
+            None => self.local_above(place.interval, wanted.cell, steps),
         }
     }
 }

@@ -187,10 +187,7 @@ impl Scan {
         let _fits = number(items.len())?;
         let mut state = Scan::new(alloc);
         for item in items {
-            match state.item(code, wanted, item) {
-                Ok(()) => {}
-                Err(memory) => return Err(memory),
-            }
+            state.item(code, wanted, item)?;
         }
         Ok(state)
     }

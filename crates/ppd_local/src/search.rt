@@ -135,15 +135,9 @@ impl<'a> Search<'a> {
         ensures { IsFound self.now (interval ∷ []) (last_item_at (seen self.now) self.now.process interval)
             steps.old steps.new result }
     {
-        let items = match self.items(interval, steps) {
-            Ok(items) => items,
-            Err(error) => return Err(error),
-        };
-        let item = items.as_slice().len().saturating_sub(1);
-        match number(item) {
-            Ok(item) => Ok(self.origin(interval, item)),
-            Err(_) => Err(FlowError::Memory),
-        }
+        let items = self.items(interval, steps)?;
+        let item = number(items.as_slice().len().saturating_sub(1))?;
+        Ok(self.origin(interval, item))
     }
 
     /// The call that began an interval of a function: it stands straight before the interval.
@@ -157,14 +151,8 @@ impl<'a> Search<'a> {
             (call_at (seen self.now) self.now.process interval) steps.old steps.new result }
     {
         let outer = self.outer(interval);
-        let items = match self.items(outer, steps) {
-            Ok(items) => items,
-            Err(error) => return Err(error),
-        };
-        let item = place_of(interval, items.as_slice()).saturating_sub(1);
-        match number(item) {
-            Ok(item) => Ok(self.origin(outer, item)),
-            Err(_) => Err(FlowError::Memory),
-        }
+        let items = self.items(outer, steps)?;
+        let item = number(place_of(interval, items.as_slice()).saturating_sub(1))?;
+        Ok(self.origin(outer, item))
     }
 }

@@ -24,8 +24,7 @@ bodies_elements [] = 0
 bodies_elements (b ∷ bs) = 1 + length b.locals + length b.top + bodies_elements bs
 
 -- The elements of a table's lists. A name counts with what bears it: in a valid program it has 64 bytes at most. The
--- start values
--- of the shared cells are left out: a short source may declare 1,024 of them, and a valid program has no more.
+-- start values of the shared cells are left out: a short source may declare as many as a program may have.
 abbrev pub elements_of : Program → ℕ
 elements_of p =
     length p.exprs + stmts_elements p.stmts + bodies_elements p.bodies + length p.shared + length p.sems

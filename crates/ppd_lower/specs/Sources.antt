@@ -49,8 +49,7 @@ returns (repeat p e b r) = returns b ++ returns r
 returns (count p start e step b r) = returns b ++ returns r
 
 -- The outermost row of a function that gives a value or none, up to its closing brace. A `return` that anything
--- follows is
--- not last.
+-- follows is not last.
 abbrev pub last_return : (gives : Bool) → (close : Place) → Row → List Fault
 last_return gives close stop = if_so gives close ReturnPlace
 last_return gives close (simple (give_back p v) stop) =

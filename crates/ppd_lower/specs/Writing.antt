@@ -22,8 +22,7 @@ use Rattle.ppd_lower.specs.Code.{Code, Act, done, act}
 use Rattle.ppd_lower.specs.Table.{flats, roots, terms, numbers, stmts}
 
 -- Statements of a body that stand directly in `parent` were added with their expressions, and their numbers to a row;
--- the
--- rules that they break were noted.
+-- the rules that they break were noted.
 pub record Wrote (body : ℕ) (parent : Option ℕ) (code : Code) (faults : List Fault) (old new : Writer)
     (ids ids' : List ℕ) : Type 0 where
   pub exprs : new.exprs ≡ old.exprs ++ flats (length old.exprs) (terms code)

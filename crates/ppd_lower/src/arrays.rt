@@ -18,7 +18,7 @@ use std::sync::ledger::Ledger;
 
 impl<L: Ledger> Lowering<'_, L> {
     // A declared local array.
-    #[tactic(auto, using(ppd_resolve::proofs::First::found_in_both))]
+    #[tactic(auto, using(ppd_resolve::proofs::Found::First::found_in_both))]
     pub fn lower_array(&mut self, site: Site, label: Label<'_>, size: Size) -> Result<(), Memory>
         ensures kept { Keeps self.old self.new }
         ensures wrote { OnOk result (PutsSimple site (array (label_name label.entry)

@@ -40,7 +40,7 @@ fn is_use(wanted: Use, meaning: Meaning) -> bool
 }
 
 // What a name means, with the fault of one that is not used as what it is.
-#[tactic(auto, using(ppd_resolve::proofs::First::first_of_both_none))]
+#[tactic(auto, using(ppd_resolve::proofs::Found::First::first_of_both_none))]
 pub fn used<L: Ledger>(
     scopes: &Scopes,
     label: Label<'_>,
@@ -94,7 +94,7 @@ fn lacks(used: bool, gives: bool) -> bool
 }
 
 // Notes a call with another count of arguments, and one whose value is used and that gives none.
-#[tactic(auto, using(ppd_resolve::proofs::First::found_in_both))]
+#[tactic(auto, using(ppd_resolve::proofs::Found::First::found_in_both))]
 fn fit_call(
     params: usize,
     gives: bool,
@@ -112,7 +112,7 @@ fn fit_call(
 }
 
 // The number of a function that is called with so many arguments, and whose value is used or not.
-#[tactic(auto, using(ppd_resolve::proofs::First::first_of_both_none))]
+#[tactic(auto, using(ppd_resolve::proofs::Found::First::first_of_both_none))]
 pub fn function<L: Ledger>(
     scopes: &Scopes,
     label: Label<'_>,

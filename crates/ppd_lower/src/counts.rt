@@ -16,7 +16,7 @@ use ppd_resolve::{Level, Operand, Source, children_of, kind_at, label_at, operan
 use std::sync::ledger::Ledger;
 
 // The number of the last child; where there is none, that of no child.
-#[tactic(auto, using(ppd_resolve::proofs::Trees::count_below))]
+#[tactic(auto, using(ppd_resolve::proofs::Table::Trees::count_below))]
 pub fn last_of(source: Source<'_>, id: u32) -> usize
     requires within { id < length source.nodes.now }
     ensures { phrase (below source.entry id) result ≡ last (below source.entry id) }

@@ -22,7 +22,7 @@ fn is_semicolon(source: Source<'_>, id: u32, k: usize) -> bool
 }
 
 // The number of children.
-#[tactic(auto, using(ppd_resolve::proofs::Trees::count_below))]
+#[tactic(auto, using(ppd_resolve::proofs::Table::Trees::count_below))]
 fn count_of(source: Source<'_>, id: u32) -> usize
     requires within { id < length source.nodes.now }
     ensures { result ≡ length (below source.entry id) }

@@ -62,7 +62,7 @@ fn fits(value: bool, gives: bool) -> bool
 }
 
 // Notes the returns of a function but the last one, and that one with or without a value where the other is asked.
-#[tactic(auto, using(ppd_resolve::proofs::First::found_in_both))]
+#[tactic(auto, using(ppd_resolve::proofs::Found::First::found_in_both))]
 fn note_ended<L: Ledger>(
     stmts: &[Stmt],
     place: Place,
@@ -82,7 +82,7 @@ fn note_ended<L: Ledger>(
 }
 
 // Notes the returns of a function that does not end with one, and its closing brace where it should.
-#[tactic(auto, using(ppd_resolve::proofs::First::found_in_both))]
+#[tactic(auto, using(ppd_resolve::proofs::Found::First::found_in_both))]
 fn note_unended<L: Ledger>(
     stmts: &[Stmt],
     gives: bool,

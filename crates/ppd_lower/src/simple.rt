@@ -86,7 +86,7 @@ impl<L: Ledger> Lowering<'_, L> {
     }
 
     // `send(c, e);`
-    #[tactic(auto, using(ppd_resolve::proofs::First::found_in_both))]
+    #[tactic(auto, using(ppd_resolve::proofs::Found::First::found_in_both))]
     pub fn lower_send(&mut self, level: Level<'_>, id: u32) -> Result<(), Memory>
         requires within { id < length level.source.nodes.now }
         ensures kept { Keeps self.old self.new }

@@ -116,7 +116,7 @@ impl<L: Ledger> Lowering<'_, L> {
     }
 
     // A declared scalar with its value.
-    #[tactic(auto, using(ppd_resolve::proofs::First::found_in_both))]
+    #[tactic(auto, using(ppd_resolve::proofs::Found::First::found_in_both))]
     pub fn lower_fresh(
         &mut self,
         level: Level<'_>,

@@ -3,6 +3,7 @@ use Rattle.std.specs.Prelude.{take}
 use Rattle.std.proofs.Common.{◌≡◌, ℕ, zero, suc, ◌<◌, ◌≤◌, List, [], ◌∷◌, ◌++◌, length, refl, sym, ◌∙◌, ap, subst, arith, inl, inr}
 use Rattle.std.proofs.lemmas.Bool.{cases_lt}
 use Rattle.std.proofs.lemmas.List.{append_assoc, length-map, map-append}
+use Rattle.ppd_ast.specs.declared.limits.TheConstants.{MOST_OPEN, MOST_SOURCE_OPERATORS}
 use Rattle.ppd_ast.specs.declared.program.Place.{Place}
 use Rattle.ppd_lex.specs.declared.token.Token.{Token}
 use Rattle.ppd_parse.specs.declared.error.SyntaxError.TheVariants as E
@@ -97,7 +98,7 @@ module _ (ts : List Token) where
   unexpected_bars : (place : Place) (r : IsUnexpected ts place) → Bars r.i
   unexpected_bars place r zs ws f more p e lt k = r.none (zs ++ ws) f more p e
 
-  module _ (Breaks : ℕ → Marked → Type 0) (never : (n : ℕ) (x : Marked) → x.at.depth ≤ 64 → count_with n x ≤ 256 → Breaks n x → ⊥) (place : Place) (r : IsPast Breaks ts place) where
+  module _ (Breaks : ℕ → Marked → Type 0) (never : (n : ℕ) (x : Marked) → x.at.depth ≤ MOST_OPEN → count_with n x ≤ MOST_SOURCE_OPERATORS → Breaks n x → ⊥) (place : Place) (r : IsPast Breaks ts place) where
     past_point : IsPoint r.i
     past_point = record { within = r.within; marked = r.marked; tokens = r.tokens; rest = r.last ∷ r.rest; tree = r.tree; program = r.program; limits = r.limits }
 
@@ -115,10 +116,10 @@ module _ (ts : List Token) where
     past_through =
         map-append (λ (x : Marked). x.token) r.marked (r.last ∷ r.rest) ∙ ap (λ us. us ++ r.last.token ∷ tokens_of r.rest) r.tokens ∙ ap (λ t. take r.i ts ++ t ∷ tokens_of r.rest) r.token
 
-  no_depth : (n : ℕ) (x : Marked) → x.at.depth ≤ 64 → count_with n x ≤ 256 → BreaksDepth n x → ⊥
+  no_depth : (n : ℕ) (x : Marked) → x.at.depth ≤ MOST_OPEN → count_with n x ≤ MOST_SOURCE_OPERATORS → BreaksDepth n x → ⊥
   no_depth n x d c b = omega (arith, d, b)
 
-  no_width : (n : ℕ) (x : Marked) → x.at.depth ≤ 64 → count_with n x ≤ 256 → BreaksWidth n x → ⊥
+  no_width : (n : ℕ) (x : Marked) → x.at.depth ≤ MOST_OPEN → count_with n x ≤ MOST_SOURCE_OPERATORS → BreaksWidth n x → ⊥
   no_width n x d c b = omega (arith, c, b.1)
 
   -- two refusals are at one token
@@ -132,7 +133,7 @@ module _ (ts : List Token) where
   same_place i j a b e f h = e ∙ ap (λ k. (token_at ts k).place) h ∙ sym f
 
   -- a token that no program goes through breaks no limit
-  unexpected_or_past : (Breaks : ℕ → Marked → Type 0) → ((n : ℕ) (x : Marked) → x.at.depth ≤ 64 → count_with n x ≤ 256 → Breaks n x → ⊥) → (a b : Place) → IsUnexpected ts a → IsPast Breaks ts b → ⊥
+  unexpected_or_past : (Breaks : ℕ → Marked → Type 0) → ((n : ℕ) (x : Marked) → x.at.depth ≤ MOST_OPEN → count_with n x ≤ MOST_SOURCE_OPERATORS → Breaks n x → ⊥) → (a b : Place) → IsUnexpected ts a → IsPast Breaks ts b → ⊥
   unexpected_or_past Breaks never a b r s =
       let same : r.i ≡ s.i = one_place r.i s.i (unexpected_bars a r) (unexpected_point a r) (past_bars Breaks never b s) (past_point Breaks never b s) in
       r.none (s.marked ++ s.last ∷ s.rest) s.tree (tokens_of s.rest) s.program (past_through Breaks never b s ∙ ap (λ k. take k ts ++ token_at ts k ∷ tokens_of s.rest) (sym same))
@@ -146,8 +147,8 @@ module _ (ts : List Token) where
       let o = r.only (s.marked ++ s.last ∷ s.rest) s.tree (tokens_of s.rest) s.program (past_through BreaksWidth no_width b s ∙ ap (λ k. take k ts ++ token_at ts k ∷ tokens_of s.rest) (sym same)) in
       let long : length s.marked ≡ length r.marked = marked_length s.marked s.i (omega (arith, within')) s.tokens ∙ sym same ∙ sym (marked_length r.marked r.i (omega (arith, within)) r.tokens) in
       let both = apart s.marked r.marked s.last r.last s.rest o.0 long o.1 in
-      let deep : 65 ≤ r.last.at.depth = r.breaks in
-      let shallow : s.last.at.depth ≤ 64 = s.breaks.0 in
+      let deep : MOST_OPEN < r.last.at.depth = r.breaks in
+      let shallow : s.last.at.depth ≤ MOST_OPEN = s.breaks.0 in
       let depths : s.last.at.depth ≡ r.last.at.depth = ap (λ (x : Marked). x.at.depth) both.1 in
       omega (arith, deep, shallow, depths)
 

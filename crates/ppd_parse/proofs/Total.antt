@@ -3,6 +3,7 @@ use denote.Enum.Bare.{sameb, same_false, same_true}
 use Rattle.std.proofs.Common.{◌≡◌, ◌≢◌, ◌<◌, ◌+◌, ◌⊎◌, ℕ, zero, suc, Bool, true, false, List, [], ◌∷◌, ◌++◌, Option, Some, None, Ok, Err, length, reverse, refl, sym, ap, subst, arith, inl, inr}
 use Rattle.std.proofs.lemmas.Bool.{cases_lt}
 use Rattle.std.proofs.lemmas.List.{reverse-reverse}
+use Rattle.ppd_ast.specs.declared.limits.TheConstants.{MOST_OPEN, MOST_SOURCE_OPERATORS}
 use Rattle.ppd_lex.specs.declared.token.Token.{Token}
 use Rattle.ppd_lex.specs.Formed.{EndOnce}
 use Rattle.ppd_lex.specs.contracts.token.Kind.{the_type}
@@ -118,9 +119,9 @@ Steps n t a = ((m : ℕ) × (b : State) × Stepped n t (Ok m) a b) ⊎ ((e : Syn
 within : (n : ℕ) (t : Token) (a b : State) (at : At) → Taken t (Some at) a b → Steps n t a
 within n t a b at (shifts, good, over) =
     let z : Marked = record { token = t; at = at } in
-    elim (cases_lt 64 at.depth) [
+    elim (cases_lt MOST_OPEN at.depth) [
       | inl deep ↦ inr (E.Deep t.place, λ e. cc, b, (refl, (at, shifts, good, omega (arith, deep))))
-      | inr fits ↦ elim (cases_lt 256 (count_with n z)) [
+      | inr fits ↦ elim (cases_lt MOST_SOURCE_OPERATORS (count_with n z)) [
         | inl wide ↦ inr (E.Wide t.place, λ e. cc, b, (refl, (at, shifts, good, fits, omega (arith, wide))))
         | inr few ↦ inl (count_with n z, b, (at, shifts, good, over, fits, refl, few))
       ]

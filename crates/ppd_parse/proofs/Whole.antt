@@ -2,6 +2,7 @@
 use Rattle.std.proofs.Common.{◌≡◌, ◌<◌, ◌+◌, ◌≤◌, ℕ, zero, suc, List, [], ◌∷◌, ◌++◌, length, take, get_or, refl, sym, ◌∙◌, ap, subst, append_assoc, arith, Ok, Err}
 use Rattle.std.proofs.lemmas.List.{append-nil, map-append, take_more}
 use Rattle.std.proofs.Math.Seq.{take-length}
+use Rattle.ppd_ast.specs.declared.limits.TheConstants.{MOST_OPEN, MOST_SOURCE_OPERATORS}
 use Rattle.ppd_ast.specs.declared.program.Place.{Place}
 use Rattle.ppd_lex.specs.declared.token.Token.{Token}
 use Rattle.ppd_lex.specs.declared.token.TokenKind.TheVariants as T
@@ -31,7 +32,7 @@ cancel (u ∷ us) e = cancel us (tail_same e)
 left : (zs rest : List Marked) (ts more : List Token) → tokens_of zs ≡ ts → tokens_of (zs ++ rest) ≡ ts ++ more → tokens_of rest ≡ more
 left zs rest ts more e h = cancel ts (ap (λ u. u ++ tokens_of rest) (sym e) ∙ (sym (map-append (λ x. x.token) zs rest) ∙ h))
 
-limits_more : (n : ℕ) (zs : List Marked) (x : Marked) → KeepLimits n zs → x.at.depth ≤ 64 → count_with (count_after n zs) x ≤ 256 → KeepLimits n (zs ++ x ∷ [])
+limits_more : (n : ℕ) (zs : List Marked) (x : Marked) → KeepLimits n zs → x.at.depth ≤ MOST_OPEN → count_with (count_after n zs) x ≤ MOST_SOURCE_OPERATORS → KeepLimits n (zs ++ x ∷ [])
 limits_more n [] x k d c = (d, c, tt)
 limits_more n (z ∷ zs) x k d c = (k.0, k.1, limits_more (count_with n z) zs x k.2 d c)
 
@@ -106,7 +107,7 @@ module _ (ts : List Token) (i n : ℕ) (a b : State) (lt : i < length ts) (r : I
       record {
         marked = r.marked ++ z ∷ [];
         follows = subst (λ u. Follows u (r.marked ++ z ∷ []) b) (sym more) (follows_next (take i ts) r.marked a r.follows t s.0 b s.1);
-        limits = limits_more 0 r.marked z r.limits s.4 (subst (λ k. k ≤ 256) (s.5 ∙ ap (λ k. count_with k z) r.count) s.6);
+        limits = limits_more 0 r.marked z r.limits s.4 (subst (λ k. k ≤ MOST_SOURCE_OPERATORS) (s.5 ∙ ap (λ k. count_with k z) r.count) s.6);
         count = s.5 ∙ (ap (λ k. count_with k z) r.count ∙ sym (count_more 0 r.marked z));
         few = s.6;
         good = s.2;
@@ -155,7 +156,7 @@ module _ (ts : List Token) (i n : ℕ) (a b : State) (lt : i < length ts) (r : I
   read_refused (E.Deep place) s = read_past BreaksDepth place s.0 s.1.0 s.1.1 s.1.2 s.1.3
   read_refused (E.Wide place) s =
       let z : Marked = record { token = token_at ts i; at = s.1.0 } in
-      read_past BreaksWidth place s.0 s.1.0 s.1.1 s.1.2 (s.1.3, subst (λ k. 257 ≤ count_with k z) r.count s.1.4)
+      read_past BreaksWidth place s.0 s.1.0 s.1.1 s.1.2 (s.1.3, subst (λ k. MOST_SOURCE_OPERATORS < count_with k z) r.count s.1.4)
   read_refused E.Memory s = tt
 
 pub whole : (ts : List Token) (i n : ℕ) (a : State) (f : List Shape) → i ≡ length ts → IsReadTo ts i n a → EndsAs a f → IsTree ts f

@@ -1,5 +1,6 @@
 -- The limits of a program, and the first token that breaks the grammar or a limit.
 use Rattle.std.specs.Prelude.{◌≡◌, ◌<◌, ◌≤◌, ◌+◌, ℕ, Bool, true, List, [], ◌∷◌, ◌++◌, length, take, slice_index_or, if◌then◌else◌, Result, Ok, Err}
+use Rattle.ppd_ast.specs.declared.limits.TheConstants.{MOST_OPEN, MOST_SOURCE_OPERATORS}
 use Rattle.ppd_ast.specs.declared.program.Place.{Place}
 use Rattle.ppd_lex.specs.declared.token.Token.{Token}
 use Rattle.ppd_lex.specs.declared.token.TokenKind.TheVariants as T
@@ -26,10 +27,10 @@ abbrev pub count_after : ℕ → List Marked → ℕ
 count_after n [] = n
 count_after n (x ∷ xs) = count_after (count_with n x) xs
 
--- after n operators of an expression, these tokens keep the limits: 64 open constructs and 256 operators
+-- after n operators of an expression, these tokens keep the limits of open constructs and of operators
 abbrev pub KeepLimits : ℕ → List Marked → Type 0
 KeepLimits n [] = Unit {0}
-KeepLimits n (x ∷ xs) = (x.at.depth ≤ 64) × (count_with n x ≤ 256) × KeepLimits (count_with n x) xs
+KeepLimits n (x ∷ xs) = (x.at.depth ≤ MOST_OPEN) × (count_with n x ≤ MOST_SOURCE_OPERATORS) × KeepLimits (count_with n x) xs
 
 abbrev pub no_token : Token
 no_token = record { kind = T.End; from = 0; to = 0; place = record { line = 1; column = 1 } }
@@ -78,13 +79,13 @@ pub record IsPast (Breaks : ℕ → Marked → Type 0) (ts : List Token) (place 
   pub only : (qs : List Marked) (f : List Shape) (more : List Token) → IsProgram qs f
       → tokens_of qs ≡ take i ts ++ token_at ts i ∷ more → (others : List Marked) × (qs ≡ marked ++ last ∷ others)
 
--- the token makes 65 constructs open
+-- the token makes one construct open too many
 abbrev pub BreaksDepth : ℕ → Marked → Type 0
-BreaksDepth n x = 65 ≤ x.at.depth
+BreaksDepth n x = MOST_OPEN < x.at.depth
 
--- the token is the 257th operator of its expression, and does not make 65 constructs open
+-- the token is one operator too many of its expression, and does not make too many constructs open
 abbrev pub BreaksWidth : ℕ → Marked → Type 0
-BreaksWidth n x = (x.at.depth ≤ 64) × (257 ≤ count_with n x)
+BreaksWidth n x = (x.at.depth ≤ MOST_OPEN) × (MOST_SOURCE_OPERATORS < count_with n x)
 
 -- why the tokens have no tree; want of memory may come at any
 abbrev pub IsRefused : List Token → SyntaxError → Type 0
@@ -97,15 +98,15 @@ IsRefused ts E.Memory = Unit {0}
 abbrev pub Stepped : ℕ → Token → Result ℕ SyntaxError → State → State → Type 0
 Stepped n t (Ok m) a b =
     (at : At) × Shifts (record { token = t; at = at }) a b × IsGood b.wants
-    × (kind_of t.kind ≡ K.End → IsOver b.wants) × (at.depth ≤ 64)
-    × (m ≡ count_with n (record { token = t; at = at })) × (m ≤ 256)
+    × (kind_of t.kind ≡ K.End → IsOver b.wants) × (at.depth ≤ MOST_OPEN)
+    × (m ≡ count_with n (record { token = t; at = at })) × (m ≤ MOST_SOURCE_OPERATORS)
 Stepped n t (Err (E.Unexpected place)) a b = (place ≡ t.place) × IsDead (kind_of t.kind) a
 Stepped n t (Err (E.Deep place)) a b =
-    (place ≡ t.place) × ((at : At) × Shifts (record { token = t; at = at }) a b × IsGood b.wants × (65 ≤ at.depth))
+    (place ≡ t.place) × ((at : At) × Shifts (record { token = t; at = at }) a b × IsGood b.wants × (MOST_OPEN < at.depth))
 Stepped n t (Err (E.Wide place)) a b =
     (place ≡ t.place)
-    × ((at : At) × Shifts (record { token = t; at = at }) a b × IsGood b.wants × (at.depth ≤ 64)
-    × (257 ≤ count_with n (record { token = t; at = at })))
+    × ((at : At) × Shifts (record { token = t; at = at }) a b × IsGood b.wants × (at.depth ≤ MOST_OPEN)
+    × (MOST_SOURCE_OPERATORS < count_with n (record { token = t; at = at })))
 Stepped n t (Err E.Memory) a b = Unit {0}
 
 -- i tokens are read: the state that they lead to, and their marks, which keep the limits
@@ -114,7 +115,7 @@ pub record IsReadTo (ts : List Token) (i n : ℕ) (a : State) : Type 0 where
   pub follows : Follows (take i ts) marked a
   pub limits : KeepLimits 0 marked
   pub count : n ≡ count_after 0 marked
-  pub few : n ≤ 256
+  pub few : n ≤ MOST_SOURCE_OPERATORS
   pub good : IsGood a.wants
   pub over : i ≡ length ts → IsOver a.wants
 

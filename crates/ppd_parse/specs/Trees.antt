@@ -1,5 +1,6 @@
 -- The trees over tokens, and the tokens with where they stand.
-use Rattle.std.specs.Prelude.{◌+◌, Bool, true, false, List, [], ◌∷◌, map, nat_lt, if◌then◌else◌}
+use Rattle.std.specs.Prelude.{◌+◌, Bool, true, false, List, [], ◌∷◌, map, nat_le, if◌then◌else◌}
+use Rattle.ppd_ast.specs.declared.limits.TheConstants.{MOST_OPEN}
 use Rattle.ppd_lex.specs.declared.token.Token.{Token}
 use Rattle.ppd_lex.specs.declared.token.TokenKind.{TokenKind}
 use Rattle.ppd_lex.specs.declared.token.TokenKind.TheVariants as T
@@ -56,9 +57,9 @@ is_operator L.And K.AndMark = true
 is_operator L.Or K.OrMark = true
 is_operator _ _ = false
 
--- one more construct is open; 65 stands for 65 or more
+-- one more construct is open; one more than the limit stands for all above it
 abbrev pub deeper : At → At
-deeper a = record { depth = if nat_lt a.depth 65 then a.depth + 1 else a.depth; inside = a.inside }
+deeper a = record { depth = if nat_le a.depth MOST_OPEN then a.depth + 1 else a.depth; inside = a.inside }
 
 abbrev pub inside : At → At
 inside a = record { depth = a.depth; inside = true }

@@ -42,7 +42,7 @@ fn is_sign(kind: Kind) -> bool
 
 // The operators of the expression so far, with a token that stands there.
 fn count_with(count: u16, token: &Token, at: At) -> u16
-    requires { count ≤ 256 }
+    requires { count ≤ MOST_SOURCE_OPERATORS }
     ensures { result ≡ count_with count (record { token = token.now; at = at }) }
 {
     if at.inside {
@@ -66,7 +66,7 @@ fn step<L: Ledger>(
     peak: &mut usize,
 ) -> Result<u16, SyntaxError>
     requires good { IsGood (reverse wants.old.items) }
-    requires few { count ≤ 256 }
+    requires few { count ≤ MOST_SOURCE_OPERATORS }
     requires held { length wants.old.items ≤ peak.old }
     ensures stepped { Stepped count token.now result (state_of wants.old.items grove.old)
         (state_of wants.new.items grove.new) }
@@ -145,10 +145,7 @@ fn grow<L: Ledger>(
     raise(peak, 1);
     let mut count: u16 = 0;
     for token in tokens {
-        match step(&mut wants, &mut grove, count, token, steps, peak) {
-            Ok(next) => count = next,
-            Err(error) => return Err(error),
-        }
+        count = step(&mut wants, &mut grove, count, token, steps, peak)?;
     }
     finish(&mut wants, &mut grove, steps)?;
     Ok(grove)
@@ -173,13 +170,8 @@ pub fn parse_in<L: Ledger>(
     ensures room { peak.new ≤ peak.old + 112 * (length tokens.now + 1) }
     ensures later { peak.old ≤ peak.new }
 {
-    match grow(alloc, tokens, steps, peak) {
-        Ok(grove) => {
-            let tree = renumber(alloc, grove)?;
-            Ok(tree)
-        }
-        Err(error) => Err(error),
-    }
+    let grove = grow(alloc, tokens, steps, peak)?;
+    Ok(renumber(alloc, grove)?)
 }
 
 // The tree of the tokens, with steps and a peak that nobody reads.

@@ -4,13 +4,14 @@ ghost use Rattle.ppd_parse.specs.Choice.{pushed};
 ghost use Rattle.ppd_parse.specs.Grammar.{base_in, deeper, inside, want_in};
 
 use crate::symbol::{At, Part, Symbol, Want};
+use ppd_ast::limits::MOST_OPEN;
 use std::alloc::AllocError;
 
 // Where one more construct is open.
 fn deeper(at: At) -> At
     ensures { result ≡ deeper at }
 {
-    if at.depth < 65 {
+    if at.depth <= MOST_OPEN {
         At {
             depth: at.depth + 1,
             inside: at.inside,

@@ -17,10 +17,7 @@ pub fn number(n: usize) -> Result<u32, Memory>
     ensures ok { IfOk result (λ small. small ≡ n) }
     ensures err { OnErr result (2 ^ 32 ≤ n) }
 {
-    match u32::try_from(n) {
-        Ok(small) => Ok(small),
-        Err(_) => Err(Memory),
-    }
+    u32::try_from(n).map_err(|_| Memory)
 }
 
 /// The items of an interval of a process, by the replay of that interval from its own log. An interval that is not

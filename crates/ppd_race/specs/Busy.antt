@@ -8,7 +8,7 @@ use Rattle.ppd_model.specs.declared.graph.Race.{Race}
 use Rattle.ppd_model.specs.declared.graph.RaceKind.{RaceKind}
 use Rattle.ppd_model.specs.declared.graph.RaceKind.TheVariants.{ReadWrite, WriteRead, WriteWrite}
 use Rattle.ppd_model.specs.Races.{race}
-use Rattle.ppd_graph.specs.declared.limits.TheConstants.{MOST_NAMED}
+use Rattle.ppd_ast.specs.declared.limits.TheConstants.{MOST_NAMED}
 use Rattle.ppd_graph.specs.declared.sets.EdgeSets.{EdgeSets}
 use Rattle.ppd_graph.specs.declared.sync_graph.SyncGraph.{SyncGraph}
 use Rattle.ppd_graph.specs.Graphs.{count_at, edge_count, is_before_by}

@@ -12,10 +12,8 @@ pub(crate) type Lists<T> = Vec<Seq<T>>;
 fn push_none<T: Drop>(lists: &mut Lists<T>, alloc: Global) -> Result<(), Memory>
     ensures { OnOk result (lists.new.items ≡ lists.old.items ++ [] ∷ []) }
 {
-    match lists.push(Seq::new(alloc)) {
-        Ok(()) => Ok(()),
-        Err(_) => Err(Memory),
-    }
+    lists.push(Seq::new(alloc))?;
+    Ok(())
 }
 
 /// So many empty lists.

@@ -8,10 +8,10 @@ ghost use Rattle.ppd_race.specs.Busy.{AreBusyRows, AreFew, IsBusyOf, IsBusyRow, 
 
 use crate::busy::Busy;
 use crate::union::union_of;
-use ppd_ast::limits::MOST_SHARED_CELLS;
+use ppd_ast::limits::{MOST_NAMED, MOST_SHARED_CELLS};
 use ppd_ast::{Cells, Memory, Seq, Steps};
 use ppd_bits::CellSet;
-use ppd_graph::{EdgeSets, MOST_NAMED};
+use ppd_graph::EdgeSets;
 use ppd_model::EdgeId;
 use std::alloc::Global;
 use std::sync::ledger::Ledger;

@@ -12,8 +12,9 @@ use crate::by_cell::{ByCell, list_by_cell};
 use crate::found::{Found, add_row};
 use crate::lists::{Lists, no_lists};
 use crate::rows::{are_few, busy_rows};
+use ppd_ast::limits::MOST_NAMED;
 use ppd_ast::{Memory, Seq, Steps};
-use ppd_graph::{MOST_NAMED, SyncGraph};
+use ppd_graph::SyncGraph;
 use ppd_model::Race;
 use rayon::prelude::*;
 use std::alloc::{AllocError, Global};
@@ -228,12 +229,10 @@ fn races_from_blank<L: Ledger, R: Threads + Sync>(
 }
 
 /// The races of a graph: every pair of internal edges of two processes, neither before the other, with each cell that
-/// both
-/// access and one of them writes, rising by the first process, its edge, the second process, its edge, the cell and
-/// the kind. It is the same list for every number of workers. The edges are looked up by their cells, so that edges
-/// that
-/// share none are never compared, and each process is searched by the steps that `races_in` counts. `Memory` is want of
-/// memory.
+/// both access and one of them writes, rising by the first process, its edge, the second process, its edge, the cell
+/// and the kind. It is the same list for every number of workers. The edges are looked up by their cells, so that
+/// edges that share none are never compared, and each process is searched by the steps that `races_in` counts.
+/// `Memory` is want of memory.
 pub fn races(
     rt: &(impl Threads + Sync),
     alloc: Global,

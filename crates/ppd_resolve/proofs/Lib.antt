@@ -1,12 +1,3 @@
-pub mod Costs
-pub mod Counted
-pub mod Declarations
-pub mod DeclaredCosts
-pub mod First
-pub mod Listing
-pub mod Lookup
-pub mod Outcomes
-pub mod Parameters
-pub mod Roots
-pub mod Trees
-pub mod Walks
+pub mod Declared
+pub mod Found
+pub mod Table

@@ -87,7 +87,7 @@ pub fn note(found: &mut Option<Fault>, place: Place, cause: Cause)
 }
 
 /// Notes a rule unless the test holds.
-#[tactic(auto, using(crate::proofs::First::first_of_both_none))]
+#[tactic(auto, using(crate::proofs::Found::First::first_of_both_none))]
 pub fn note_unless(found: &mut Option<Fault>, holds: bool, place: Place, cause: Cause)
     ensures { found.new ≡ first_of_both found.old (first (unless holds place cause)) }
 {
@@ -97,7 +97,7 @@ pub fn note_unless(found: &mut Option<Fault>, holds: bool, place: Place, cause: 
 }
 
 /// Notes a rule where the test holds.
-#[tactic(auto, using(crate::proofs::First::first_of_both_none))]
+#[tactic(auto, using(crate::proofs::Found::First::first_of_both_none))]
 pub fn note_if(found: &mut Option<Fault>, holds: bool, place: Place, cause: Cause)
     ensures { found.new ≡ first_of_both found.old (first (if_so holds place cause)) }
 {

@@ -82,7 +82,7 @@ pub fn no_globals<L: Ledger>(alloc: Global, steps: &mut Steps<L>) -> Result<Glob
 }
 
 // Gives the next name its meaning, and notes it where it has one or is one too many.
-#[tactic(auto, using(crate::proofs::First::found_in_both))]
+#[tactic(auto, using(crate::proofs::Found::First::found_in_both))]
 fn name_next<L: Ledger>(
     scopes: &mut Scopes,
     label: Label<'_>,

@@ -117,13 +117,9 @@ fn declare_in<L: Ledger>(
         return Ok(true);
     }
     steps.tick();
-    let Ok(key) = Vec::from_slice(alloc, name) else {
-        return Err(Memory);
-    };
+    let key = Vec::from_slice(alloc, name)?;
     steps.tick();
-    let Ok(_) = scope.insert(key, meaning) else {
-        return Err(Memory);
-    };
+    scope.insert(key, meaning)?;
     Ok(false)
 }
 

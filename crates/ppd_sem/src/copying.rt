@@ -9,10 +9,7 @@ use std::alloc::Global;
 fn copy_values(values: &Nums) -> Result<Nums, Memory>
     ensures { IfOk result (λ copy. copy ≡ values.now) }
 {
-    match values.clone() {
-        Ok(copy) => Ok(copy),
-        Err(_) => Err(Memory),
-    }
+    Ok(values.clone()?)
 }
 
 fn copy_frame(frame: &Frame) -> Result<Frame, Memory>

@@ -43,10 +43,8 @@ impl<T: Drop> Stack<T> {
         ensures ok { OnOk result (self.new ≡ item ∷ self.old) }
         ensures err { OnErr result (self.new ≡ self.old) }
     {
-        match self.items.push(item) {
-            Ok(()) => Ok(()),
-            Err(_) => Err(Memory),
-        }
+        self.items.push(item)?;
+        Ok(())
     }
 
     /// Puts the items at the top, the last of them topmost. `Memory` is want of memory: the
@@ -55,10 +53,8 @@ impl<T: Drop> Stack<T> {
         ensures ok { OnOk result (self.new ≡ reverse items.items ++ self.old) }
         ensures err { OnErr result (self.new ≡ self.old) }
     {
-        match self.items.append(&mut items) {
-            Ok(()) => Ok(()),
-            Err(_) => Err(Memory),
-        }
+        self.items.append(&mut items)?;
+        Ok(())
     }
 
     /// Puts the items in place of the one at the top, the last of them topmost. `Memory` is want

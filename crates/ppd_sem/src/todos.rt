@@ -26,10 +26,7 @@ fn listed(alloc: Global, stmts: &[u32]) -> Result<Vec<Todo>, AllocError>
 pub(crate) fn stack_of(alloc: Global, stmts: &[u32]) -> Result<Stack<Todo>, Memory>
     ensures { IfOk result (λ todo. todo ≡ todos stmts.now) }
 {
-    match listed(alloc, stmts) {
-        Ok(items) => Ok(Stack::from_vec(items)),
-        Err(_) => Err(Memory),
-    }
+    Ok(Stack::from_vec(listed(alloc, stmts)?))
 }
 
 /// Puts the statements before all that is to do. `Memory` is want of memory: nothing changes.
@@ -38,10 +35,7 @@ pub(crate) fn put_before(todo: &mut Stack<Todo>, stmts: &[u32]) -> Result<(), Me
     ensures ok { OnOk result (todo.new ≡ todos stmts.now ++ todo.old) }
     ensures err { OnErr result (todo.new ≡ todo.old) }
 {
-    match listed(todo.allocator(), stmts) {
-        Ok(items) => todo.push_all(items),
-        Err(_) => Err(Memory),
-    }
+    todo.push_all(listed(todo.allocator(), stmts)?)
 }
 
 /// Puts the statements in the head's place. `Memory` is want of memory: nothing changes.
@@ -51,8 +45,5 @@ pub(crate) fn put_in_place(todo: &mut Stack<Todo>, stmts: &[u32]) -> Result<(), 
     ensures ok { OnOk result (todo.new ≡ todos stmts.now ++ drop 1 todo.old) }
     ensures err { OnErr result (todo.new ≡ todo.old) }
 {
-    match listed(todo.allocator(), stmts) {
-        Ok(items) => todo.replace_top(items),
-        Err(_) => Err(Memory),
-    }
+    todo.replace_top(listed(todo.allocator(), stmts)?)
 }

@@ -1,13 +1,13 @@
 -- A last value where the replay fails of the interval in which the writer's edge ends.
 use Rattle.std.specs.Prelude.{option_map}
-use Rattle.std.proofs.Common.{◌≡◌, ℕ, List, [], ◌∷◌, Option, Some, None, sym, subst, ◌∙◌}
+use Rattle.std.proofs.Common.{◌≡◌, ℕ, [], ◌∷◌, Option, Some, None, sym, subst, ◌∙◌}
 use Rattle.std.proofs.lemmas.Option.{none-some, same_Some}
 use Rattle.ppd_entry.specs.declared.entry.At.{At}
 use Rattle.ppd_model.specs.declared.graph.EdgeId.{EdgeId}
 use Rattle.ppd_past.specs.declared.flow_error.FlowError.TheVariants as flow_error
 use Rattle.ppd_past.specs.declared.past.Past.{Past}
 use Rattle.ppd_past.specs.ByReplays.{failure_or, first_failed_in}
-use Rattle.ppd_past.specs.SeenBy.{failed_in, seen_in}
+use Rattle.ppd_past.specs.SeenBy.{failed_in}
 use Rattle.ppd_search.specs.Shared.{greatest_writing, start_replays}
 use Rattle.ppd_session.specs.Known.{last_by}
 use Rattle.ppd_session.specs.Sessions.{IsCause, IsWhy, known_by, unfound}

@@ -34,10 +34,8 @@ impl Kept {
         ensures { IfOk result (λ kept. kept ≡ []) }
     {
         let room = NonZeroUsize::new(most as usize).unwrap_or(NonZeroUsize::MIN);
-        match LruCache::sparse(alloc, room) {
-            Ok(cache) => Ok(Kept { cache, most }),
-            Err(_) => Err(Memory),
-        }
+        let cache = LruCache::sparse(alloc, room)?;
+        Ok(Kept { cache, most })
     }
 
     /// A block that is asked for now, if it is kept, is the last to go.

@@ -131,14 +131,8 @@ fn last_kept(
     if let Some(items) = kept.find(place) {
         return last_told(alloc, past, cell, last, items.as_slice());
     }
-    let items = match replay(alloc, past, place) {
-        Ok(items) => items,
-        Err(error) => return Err(error),
-    };
-    let found = match last_told(alloc, past, cell, last, items.as_slice()) {
-        Ok(found) => found,
-        Err(error) => return Err(error),
-    };
+    let items = replay(alloc, past, place)?;
+    let found = last_told(alloc, past, cell, last, items.as_slice())?;
     kept.keep(place, items);
     Ok(found)
 }
@@ -201,10 +195,8 @@ fn put_cell_line(
         (IsWhy (unfound (last_by past.now.program.now past.now.plan.now past.now.budget past.now.logs.now cell))) }
     ensures kept { AreTold (known_by past.now []) kept.new }
 {
-    match last_of_cell(alloc, past, kept, cell) {
-        Ok(found) => put_line(text, past, cell, found),
-        Err(error) => Err(error),
-    }
+    let found = last_of_cell(alloc, past, kept, cell)?;
+    put_line(text, past, cell, found)
 }
 
 /// Appends a line for each shared cell of a past without races.
@@ -223,10 +215,7 @@ fn put_lines(
     ensures kept { AreTold (known_by past.now []) kept.new }
 {
     for cell in 0..past.program.starts.len() {
-        match put_cell_line(alloc, text, past, kept, cell as u16) {
-            Ok(()) => {}
-            Err(error) => return Err(error),
-        }
+        put_cell_line(alloc, text, past, kept, cell as u16)?;
     }
     Ok(())
 }

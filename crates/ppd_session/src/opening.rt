@@ -141,19 +141,10 @@ fn put_block(
 {
     kept.touch(place);
     if let Some(items) = kept.find(place) {
-        return match put_told(alloc, text, past, place, item, items.as_slice()) {
-            Ok(()) => Ok(()),
-            Err(error) => Err(error),
-        };
+        return put_told(alloc, text, past, place, item, items.as_slice());
     }
-    let items = match replay(alloc, past, place) {
-        Ok(items) => items,
-        Err(error) => return Err(error),
-    };
-    match put_told(alloc, text, past, place, item, items.as_slice()) {
-        Ok(()) => {}
-        Err(error) => return Err(error),
-    }
+    let items = replay(alloc, past, place)?;
+    put_told(alloc, text, past, place, item, items.as_slice())?;
     kept.keep(place, items);
     Ok(())
 }

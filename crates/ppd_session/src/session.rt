@@ -59,13 +59,11 @@ fn reply(
     let words = words_of(alloc, line)?;
     let question = asked(past.program, words.as_slice());
     let mut text = Vec::new(alloc);
-    match put_answer(alloc, &mut text, past, races, kept, question) {
-        Ok(()) => Ok(Reply {
-            text: Seq::from_vec(text),
-            quit: quits(words.as_slice()),
-        }),
-        Err(error) => Err(error),
-    }
+    put_answer(alloc, &mut text, past, races, kept, question)?;
+    Ok(Reply {
+        text: Seq::from_vec(text),
+        quit: quits(words.as_slice()),
+    })
 }
 
 impl<'a> Session<'a> {

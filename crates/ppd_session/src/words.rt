@@ -34,10 +34,8 @@ fn push_word<'a>(words: &mut Vec<&'a [u8]>, part: &'a [u8]) -> Result<(), Memory
     if !is_word(part) {
         return Ok(());
     }
-    match words.push(part) {
-        Ok(()) => Ok(()),
-        Err(_) => Err(Memory),
-    }
+    words.push(part)?;
+    Ok(())
 }
 
 /// The words among these parts.
@@ -55,8 +53,6 @@ fn words_among<'a>(alloc: Global, parts: &[&'a [u8]]) -> Result<Vec<&'a [u8]>, M
 pub(crate) fn words_of(alloc: Global, line: &[u8]) -> Result<Vec<&[u8]>, Memory>
     ensures { IfOk result (λ words. map (λ w. w.now) words.items ≡ words_in line.now) }
 {
-    match parts_of(alloc, line) {
-        Ok(parts) => words_among(alloc, parts.as_slice()),
-        Err(_) => Err(Memory),
-    }
+    let parts = parts_of(alloc, line)?;
+    words_among(alloc, parts.as_slice())
 }

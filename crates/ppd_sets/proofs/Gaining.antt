@@ -4,6 +4,7 @@ use Rattle.std.specs.Prelude.{IsTrue, nat_eq}
 use Rattle.std.specs.List.{flat_map, range_with_len}
 use Rattle.std.proofs.lemmas.Bool.{ne_eqb}
 use Rattle.std.proofs.lemmas.List.Folds.{list_any-append}
+use Rattle.ppd_ast.specs.declared.limits.TheConstants.{MOST_SHARED_CELLS}
 use Rattle.ppd_ast.proofs.Walks.{flat_more}
 use Rattle.ppd_ast.specs.Members.{has}
 use Rattle.ppd_ast.proofs.Members.{has_first as first_is, has_later}
@@ -56,7 +57,7 @@ gains_one a b cell h = record {
 }
 
 -- a cell past them is left out
-pub gains_past : (a : List ℕ) (cell : ℕ) → 1024 ≤ cell → Gains a a (cell ∷ [])
+pub gains_past : (a : List ℕ) (cell : ℕ) → MOST_SHARED_CELLS ≤ cell → Gains a a (cell ∷ [])
 gains_past a cell past = record {
   each = λ c h. or_none (has a c) ∙ ap (λ t. has a c || (t || false)) (sym (ne_eqb cell c (λ e. omega arith)));
 }

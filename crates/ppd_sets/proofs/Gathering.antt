@@ -5,6 +5,7 @@ use Rattle.std.specs.List.{flat_map, range_with_len}
 use Rattle.std.proofs.lemmas.Bool.{cases_lt}
 use Rattle.std.proofs.Math.ListN.{get_or-append}
 use Rattle.std.proofs.Math.Seq.{get_or-append_seam}
+use Rattle.ppd_ast.specs.declared.limits.TheConstants.{MOST_SHARED_CELLS}
 use Rattle.ppd_ast.specs.Table.{EachAt}
 use Rattle.ppd_ast.specs.declared.program.Body.{Body}
 use Rattle.ppd_ast.specs.declared.program.Program.{Program}
@@ -36,13 +37,13 @@ called_is p b rows numbers e is =
     is ∙ ap (λ (rs : List (List ℕ)). those (length rs) (leads (closure rs) (b ∷ []))) e ∙ ap (λ n. those n (leads (closure (call_rows p)) (b ∷ []))) (call_rows_long p)
 
 module _ (p : Program) (list : List Touched) (long : length list ≡ length p.bodies) (each : EachAt (λ k t. HasBoth t (body_reads p k) (body_writes p k)) list) where
-  reads_same : (k c : ℕ) → k < length p.bodies → c < 1024 → has (reads_of list k) c ≡ has (body_reads p k) c
+  reads_same : (k c : ℕ) → k < length p.bodies → c < MOST_SHARED_CELLS → has (reads_of list k) c ≡ has (body_reads p k) c
   reads_same k c h l =
       let t = slice_get_there list k (omega (arith, long)) in
       let cells : HasBoth t.0 (body_reads p k) (body_writes p k) = each_at (λ k t. HasBoth t (body_reads p k) (body_writes p k)) list k t.0 each t.1 in
       ap (λ (o : Option Touched). has (reads_in o) c) t.1 ∙ cells.reads.each c l
 
-  writes_same : (k c : ℕ) → k < length p.bodies → c < 1024 → has (writes_of list k) c ≡ has (body_writes p k) c
+  writes_same : (k c : ℕ) → k < length p.bodies → c < MOST_SHARED_CELLS → has (writes_of list k) c ≡ has (body_writes p k) c
   writes_same k c h l =
       let t = slice_get_there list k (omega (arith, long)) in
       let cells : HasBoth t.0 (body_reads p k) (body_writes p k) = each_at (λ k t. HasBoth t (body_reads p k) (body_writes p k)) list k t.0 each t.1 in

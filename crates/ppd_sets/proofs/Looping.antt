@@ -1,8 +1,9 @@
 -- The local cells of a loop are those of the statements inside it.
-use Rattle.std.proofs.Common.{◌≡◌, ◌↔◌, ℕ, ◌+◌, ◌<◌, ◌≤◌, List, [], ◌∷◌, ◌++◌, Bool, true, false, Option, Some, None, length, refl, sym, subst, arith, inl, inr, true≢false}
+use Rattle.std.proofs.Common.{◌≡◌, ◌↔◌, ℕ, ◌+◌, ◌<◌, ◌≤◌, List, [], true, false, Option, Some, None, length, refl, sym, subst, arith, inl, inr, true≢false}
 use Rattle.std.specs.Prelude.{IsTrue, slice_get}
 use Rattle.std.specs.List.{flat_map, range_with_len}
 use Rattle.std.proofs.lemmas.Bool.{cond-true}
+use Rattle.ppd_ast.specs.declared.limits.TheConstants.{MOST_SHARED_CELLS}
 use Rattle.ppd_ast.specs.declared.program.Kind.{Kind}
 use Rattle.ppd_ast.specs.declared.program.Kind.TheVariants as K
 use Rattle.ppd_ast.specs.declared.program.Target.{Target}
@@ -64,7 +65,7 @@ module _ (shareds locals : List Var) (m n : ℕ) (over : CoverCells shareds m) (
   writes_below (K.Assert e) c w h = absurd (true≢false (sym h))
   writes_below K.End c w h = absurd (true≢false (sym h))
 
-reads_small : (p : Program) (s c : ℕ) (o : Option Stmt) → IsValid p → slice_get p.stmts s ≡ o → IsTrue (has (reads false p.exprs (kind_of_stmt o)) c) → c < 1024
+reads_small : (p : Program) (s c : ℕ) (o : Option Stmt) → IsValid p → slice_get p.stmts s ≡ o → IsTrue (has (reads false p.exprs (kind_of_stmt o)) c) → c < MOST_SHARED_CELLS
 reads_small p s c None v at h = absurd (true≢false (sym h))
 reads_small p s c (Some x) v at h =
     let b = stmt_in_body p s x v at in
@@ -74,7 +75,7 @@ reads_small p s c (Some x) v at h =
     let l = cells_below (length p.starts) b.0.cells (term p.exprs e.0) c below e.2 in
     omega (arith, l, frame)
 
-writes_small : (p : Program) (s c : ℕ) (o : Option Stmt) → IsValid p → slice_get p.stmts s ≡ o → IsTrue (has (writes false (kind_of_stmt o)) c) → c < 1024
+writes_small : (p : Program) (s c : ℕ) (o : Option Stmt) → IsValid p → slice_get p.stmts s ≡ o → IsTrue (has (writes false (kind_of_stmt o)) c) → c < MOST_SHARED_CELLS
 writes_small p s c None v at h = absurd (true≢false (sym h))
 writes_small p s c (Some x) v at h =
     let b = stmt_in_body p s x v at in
@@ -85,11 +86,11 @@ writes_small p s c (Some x) v at h =
 
 -- ---- so the sorted cells are all of them
 
-sorted_law : (cells : List ℕ) (c : ℕ) → (IsTrue (has cells c) → c < 1024) → IsTrue (has (sorted cells) c) ↔ IsTrue (has cells c)
+sorted_law : (cells : List ℕ) (c : ℕ) → (IsTrue (has cells c) → c < MOST_SHARED_CELLS) → IsTrue (has (sorted cells) c) ↔ IsTrue (has cells c)
 unfolding sorted
 sorted_law cells c small = (
-  (λ h. (has_filter (has cells) (range_with_len 0 1024) c h).1),
-  (λ h. filter_has (has cells) (range_with_len 0 1024) c (from_zero c 1024 (small h)) h),
+  (λ h. (has_filter (has cells) (range_with_len 0 MOST_SHARED_CELLS) c h).1),
+  (λ h. filter_has (has cells) (range_with_len 0 MOST_SHARED_CELLS) c (from_zero c MOST_SHARED_CELLS (small h)) h),
 )
 
 pub loop_used_by_statements : LoopUsedByStatements
@@ -97,7 +98,7 @@ loop_used_by_statements p q c v is =
     let f : ℕ → List ℕ = reads_at false p in
     let cells : List ℕ = flat_map f (loop_stmts p q) in
     let same : loop_used_of p q ≡ sorted cells = cond-true (is_while (kind_of p q)) (sorted cells) [] is in
-    let small : IsTrue (has cells c) → c < 1024 = λ h. (let s = flat_gives f (loop_stmts p q) c h in reads_small p s.0 c (slice_get p.stmts s.0) v refl s.2) in
+    let small : IsTrue (has cells c) → c < MOST_SHARED_CELLS = λ h. (let s = flat_gives f (loop_stmts p q) c h in reads_small p s.0 c (slice_get p.stmts s.0) v refl s.2) in
     let law = sorted_law cells c small in (
       (λ h. let s = flat_gives f (loop_stmts p q) c (law.0 (subst (λ l. IsTrue (has l c)) same h)) in record { stmt = s.0; inside = s.1; read = s.2 }),
       (λ (u : IsLoopUsed p q c). subst (λ l. IsTrue (has l c)) (sym same) (law.1 (flat_from f (loop_stmts p q) u.stmt c u.inside u.read))),
@@ -108,7 +109,7 @@ loop_defined_by_statements p q c v is =
     let f : ℕ → List ℕ = writes_at false p in
     let cells : List ℕ = flat_map f (loop_stmts p q) in
     let same : loop_defined_of p q ≡ sorted cells = cond-true (is_while (kind_of p q)) (sorted cells) [] is in
-    let small : IsTrue (has cells c) → c < 1024 = λ h. (let s = flat_gives f (loop_stmts p q) c h in writes_small p s.0 c (slice_get p.stmts s.0) v refl s.2) in
+    let small : IsTrue (has cells c) → c < MOST_SHARED_CELLS = λ h. (let s = flat_gives f (loop_stmts p q) c h in writes_small p s.0 c (slice_get p.stmts s.0) v refl s.2) in
     let law = sorted_law cells c small in (
       (λ h. let s = flat_gives f (loop_stmts p q) c (law.0 (subst (λ l. IsTrue (has l c)) same h)) in record { stmt = s.0; inside = s.1; written = s.2 }),
       (λ (u : IsLoopDefined p q c). subst (λ l. IsTrue (has l c)) (sym same) (law.1 (flat_from f (loop_stmts p q) u.stmt c u.inside u.written))),

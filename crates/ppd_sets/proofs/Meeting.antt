@@ -5,6 +5,7 @@ use Rattle.std.specs.List.{flat_map, range_with_len, list_any}
 use Rattle.ppd_ast.specs.Numbered.{is_while}
 use Rattle.std.proofs.lemmas.Bool.{and_parts, and_from, leb-true, ltb-true, le-leb, lt-ltb, cases_order, false_from_ne_true, cond-true, cond-false}
 use Rattle.std.proofs.lemmas.Option.{slice_get-get_or}
+use Rattle.ppd_ast.specs.declared.limits.TheConstants.{MOST_SHARED_CELLS}
 use Rattle.ppd_ast.specs.declared.program.Var.{Var}
 use Rattle.ppd_ast.specs.declared.program.Program.{Program}
 use Rattle.ppd_ast.specs.Cells.{size, after, holds}
@@ -62,7 +63,7 @@ not_met set x n long misses =
 
 -- ---- the same by other lists of the same cells
 
-met_by : (set cells : List ℕ) (x : Var) → after x ≤ 1024 → ((c : ℕ) → c < 1024 → has set c ≡ has cells c) → IsTrue (list_any (λ c. holds c x) set) → IsTrue (list_any (λ c. holds c x) cells)
+met_by : (set cells : List ℕ) (x : Var) → after x ≤ MOST_SHARED_CELLS → ((c : ℕ) → c < MOST_SHARED_CELLS → has set c ≡ has cells c) → IsTrue (list_any (λ c. holds c x) set) → IsTrue (list_any (λ c. holds c x) cells)
 met_by set cells x few same t =
     let c = any_gives (λ c. holds c x) set t in
     let high : c.0 < after x = (held_is c.0 x c.2).1 in
@@ -80,7 +81,7 @@ met_same set cells vars v (Some x) all same at =
     let below : v < length vars = slice_get_below vars v x at in
     let is : Some (get_or vars v x) ≡ Some x = sym (slice_get-get_or vars v x below) ∙ at in
     let x_is : get_or vars v x ≡ x = cc in
-    let few : after x ≤ 1024 = subst (λ (y : Var). after y ≤ 1024) x_is (all v x below) in
+    let few : after x ≤ MOST_SHARED_CELLS = subst (λ (y : Var). after y ≤ MOST_SHARED_CELLS) x_is (all v x below) in
     both (list_any (λ c. holds c x) set) (list_any (λ c. holds c x) cells) (met_by set cells x few same.each) (met_by cells set x few (λ c h. sym (same.each c h)))
 
 pub vars_same : (set cells : List ℕ) (vars : List Var) → AreSmall vars → HasCells set cells → vars_met vars set ≡ vars_met vars cells
@@ -105,9 +106,9 @@ met_next vars cells ids k x met inside is found e =
     }
 
 -- the cells of a set, rising
-pub sorted_is : (set cells list : List ℕ) → list ≡ those 1024 (has set) → HasCells set cells → list ≡ sorted cells
+pub sorted_is : (set cells list : List ℕ) → list ≡ those MOST_SHARED_CELLS (has set) → HasCells set cells → list ≡ sorted cells
 unfolding sorted
-sorted_is set cells list e same = e ∙ filter_same_in (has set) (has cells) (range_with_len 0 1024) (λ c h. same.each c (let inside = below_range 0 1024 c h in omega (arith, inside.1)))
+sorted_is set cells list e same = e ∙ filter_same_in (has set) (has cells) (range_with_len 0 MOST_SHARED_CELLS) (λ c h. same.each c (let inside = below_range 0 MOST_SHARED_CELLS c h in omega (arith, inside.1)))
 
 pub while_used : (p : Program) (q : ℕ) (list : List ℕ) → is_while (kind_of p q) ≡ true → list ≡ sorted (flat_map (reads_at false p) (loop_stmts p q)) → list ≡ loop_used_of p q
 while_used p q list is_one e = e ∙ sym (cond-true (is_while (kind_of p q)) (sorted (flat_map (reads_at false p) (loop_stmts p q))) [] is_one)

@@ -1,20 +1,21 @@
 -- What a set of cells gains.
 use Rattle.std.specs.Prelude.{◌≡◌, ◌<◌, ℕ, ◌||◌, List, Option, Some, None, [], slice_get}
+use Rattle.ppd_ast.specs.declared.limits.TheConstants.{MOST_SHARED_CELLS}
 use Rattle.ppd_ast.specs.Members.{has}
 use Rattle.ppd_sets.specs.declared.touched.Touched.{Touched}
 
--- of the cells below 1024, the set has those that it had and these
+-- of the cells that a program may have, the set has those that it had and these
 pub record Gains (old new cells : List ℕ) : Type 0 where
-  pub each : (c : ℕ) → c < 1024 → has new c ≡ (has old c || has cells c)
+  pub each : (c : ℕ) → c < MOST_SHARED_CELLS → has new c ≡ (has old c || has cells c)
 
 -- the same of what is read and what is written
 pub record GainsBoth (old new : Touched) (read written : List ℕ) : Type 0 where
   pub reads : Gains old.reads new.reads read
   pub writes : Gains old.writes new.writes written
 
--- of the cells below 1024, the set has just these
+-- of the cells that a program may have, the set has just these
 pub record HasCells (set cells : List ℕ) : Type 0 where
-  pub each : (c : ℕ) → c < 1024 → has set c ≡ has cells c
+  pub each : (c : ℕ) → c < MOST_SHARED_CELLS → has set c ≡ has cells c
 
 pub record HasBoth (t : Touched) (read written : List ℕ) : Type 0 where
   pub reads : HasCells t.reads read

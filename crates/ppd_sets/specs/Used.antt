@@ -6,7 +6,7 @@ use Rattle.ppd_ast.specs.declared.program.Kind.TheVariants as K
 use Rattle.ppd_ast.specs.declared.program.Body.{Body}
 use Rattle.ppd_ast.specs.declared.program.Var.{Var}
 use Rattle.ppd_ast.specs.declared.program.Program.{Program}
-use Rattle.ppd_ast.specs.declared.limits.TheConstants.{MOST_NESTING}
+use Rattle.ppd_ast.specs.declared.limits.TheConstants.{MOST_NESTING, MOST_SHARED_CELLS}
 use Rattle.ppd_ast.specs.Cells.{after, holds}
 use Rattle.ppd_ast.specs.Numbered.{numbers_of, is_while}
 use Rattle.ppd_ast.specs.Order.{preorder}
@@ -74,9 +74,9 @@ abbrev pub is_met : List ℕ → Option Var → Bool
 is_met cells None = false
 is_met cells (Some x) = list_any (λ c. holds c x) cells
 
--- the cells of each of these variables are below 1024
+-- the cells of each of these variables are cells that a program may have
 abbrev pub AreSmall : List Var → Type 0
-AreSmall vars = All (λ x. after x ≤ 1024) vars
+AreSmall vars = All (λ x. after x ≤ MOST_SHARED_CELLS) vars
 
 -- the variables of which a cell is among these, by number; numbers have 16 bits
 abbrev pub vars_met : List Var → List ℕ → List ℕ
@@ -92,9 +92,9 @@ defined_of p b = vars_met p.shared (flat_map (body_writes p) (called_from p b))
 
 -- ---- local cells of loops
 
--- the numbers of the list that are below 1024, rising, each once: a valid program names no other cells
+-- the numbers of the list that a program's cells may have, rising, each once: a valid program names no others
 unfoldable pub sorted : List ℕ → List ℕ
-sorted cells = those 1024 (has cells)
+sorted cells = those MOST_SHARED_CELLS (has cells)
 
 -- a loop and the statements inside it
 abbrev pub loop_stmts : Program → ℕ → List ℕ

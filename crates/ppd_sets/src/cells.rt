@@ -6,14 +6,15 @@ ghost use Rattle.ppd_sets.specs.Named.{shared_cells, local_cells, cells_in, read
 ghost use Rattle.ppd_sets.specs.Gained.{Gains};
 ghost use Rattle.std.specs.List.{flat_map, range_with_len};
 
+use ppd_ast::limits::MOST_SHARED_CELLS;
 use ppd_ast::{Expr, Kind, Program, Target};
 use ppd_bits::CellSet;
 
-// Adds the cell. None of a valid program is 1,024 or more.
+// Adds the cell. None of a valid program is `MOST_SHARED_CELLS` or more.
 fn add_cell(cells: &mut CellSet, cell: u32)
     ensures { Gains cells.old cells.new (cell ∷ []) }
 {
-    if cell >= 1024 {
+    if cell as usize >= MOST_SHARED_CELLS {
         return;
     }
     cells.insert(cell as u16);

@@ -1,6 +1,7 @@
 -- In every run, each value that is read and each control comes over a static edge.
 use Rattle.std.specs.Prelude.{◌≡◌, ◌<◌, ◌≤◌, IsTrue, ℕ, Bool, true, false, List, [], length, get_or, slice_get, Option, Some, None, if◌then◌else◌}
 use Rattle.std.specs.List.{All, Contains}
+use Rattle.ppd_ast.specs.declared.limits.TheConstants.{MOST_SHARED_CELLS, MOST_LOCAL_CELLS}
 use Rattle.ppd_ast.specs.declared.plan.Plan.{Plan}
 use Rattle.ppd_ast.specs.declared.program.Program.{Program}
 use Rattle.ppd_ast.specs.declared.program.Var.{Var}
@@ -121,8 +122,8 @@ HaveCells vars = All (λ x. 0 < size x.len) vars
 
 -- where they do, the variables are no more than the cells may be, so that each has a number of 16 bits
 pub record HasFewVariables (program : Program) : Type 0 where
-  pub shared : HaveCells program.shared → length program.shared ≤ 1024
-  pub local : (b : ℕ) → HaveCells (locals_of program b) → length (locals_of program b) ≤ 256
+  pub shared : HaveCells program.shared → length program.shared ≤ MOST_SHARED_CELLS
+  pub local : (b : ℕ) → HaveCells (locals_of program b) → length (locals_of program b) ≤ MOST_LOCAL_CELLS
 
 abbrev pub VariablesAreFew : Type 0
 VariablesAreFew = (program : Program) → IsValid program → HasFewVariables program

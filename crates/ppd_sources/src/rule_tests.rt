@@ -1,4 +1,4 @@
-use crate::told::{check_told, told};
+use crate::told::check_told;
 use std::test::Fail;
 
 #[test]
@@ -74,8 +74,7 @@ fn what_breaks_no_rule(rt: HostRuntime) -> Result<(), Fail> {
         "chan c[1]; chan d[64]; process a { send(c, 1); int x = recv(d); }",
         "chan c[0]; process a { send(c, 1); } process b { int x = recv(c); }",
     ] {
-        let found = told(alloc, source)?;
-        assert_eq!(rt; found.as_str(), "accepted", "{source}");
+        check_told(&rt, alloc, &[(source, "accepted")])?;
     }
     Ok(())
 }

@@ -60,6 +60,20 @@ fn told(alloc: Global, source: &str) -> Result<String, AllocError> {
     }
 }
 
+// Asserts how a source is drawn.
+fn check_drawn(rt: &impl Abort, alloc: Global, source: &str, tree: &str) -> Result<(), Fail> {
+    let found = shape(alloc, source)?;
+    assert_eq!(rt; found.as_str(), tree, "{source}");
+    Ok(())
+}
+
+// Asserts how a statement is drawn, alone in a process.
+fn check_statement(rt: &impl Abort, alloc: Global, source: &str, tree: &str) -> Result<(), Fail> {
+    let source = format!(in alloc; "process p {{ {source} }}")?;
+    let tree = format!(in alloc; "process p {{ {tree} }} Block3 Process3  Source2 ")?;
+    check_drawn(rt, alloc, &source, &tree)
+}
+
 fn repeat(text: &mut String, part: &str, times: u32) -> Result<(), AllocError> {
     for _ in 0..times {
         text.push_str(part)?;
@@ -98,8 +112,7 @@ fn declarations(rt: HostRuntime) -> Result<(), Fail> {
     ];
     for (source, tree, parts) in cases {
         let tree = format!(in alloc; "{tree} Source{parts} ")?;
-        let found = shape(alloc, source)?;
-        assert_eq!(rt; found, tree);
+        check_drawn(&rt, alloc, source, &tree)?;
     }
     Ok(())
 }
@@ -177,10 +190,7 @@ fn statements(rt: HostRuntime) -> Result<(), Fail> {
         ("assert(1);", "assert ( 1 Unary1 ) ; Stmt5"),
     ];
     for (source, tree) in cases {
-        let source = format!(in alloc; "process p {{ {source} }}")?;
-        let tree = format!(in alloc; "process p {{ {tree} }} Block3 Process3  Source2 ")?;
-        let found = shape(alloc, &source)?;
-        assert_eq!(rt; found, tree);
+        check_statement(&rt, alloc, source, tree)?;
     }
     Ok(())
 }
@@ -269,12 +279,9 @@ fn expressions(rt: HostRuntime) -> Result<(), Fail> {
         ),
     ];
     for (source, tree) in cases {
-        let source = format!(in alloc; "process p {{ x = {source}; }}")?;
-        let tree = format!(in alloc;
-            "process p {{ x Place1 = {tree} Change3 ; Stmt2 }} Block3 Process3  Source2 "
-        )?;
-        let found = shape(alloc, &source)?;
-        assert_eq!(rt; found, tree);
+        let source = format!(in alloc; "x = {source};")?;
+        let tree = format!(in alloc; "x Place1 = {tree} Change3 ; Stmt2")?;
+        check_statement(&rt, alloc, &source, &tree)?;
     }
     Ok(())
 }

@@ -94,20 +94,12 @@ pub fn recall(alloc: Global, bytes: &[u8]) -> Result<Recalled, NoRecall>
     ensures together { IfOk result IsRecalled }
     ensures err { IfErr result (IsNotRecalled bytes.now) }
 {
-    let recording = match decoded(alloc, bytes) {
-        Ok(recording) => recording,
-        Err(error) => return Err(error),
-    };
-    let index = match indexed(alloc, bytes, &recording) {
-        Ok(index) => index,
-        Err(error) => return Err(error),
-    };
-    match graphed(alloc, bytes, &recording) {
-        Ok(graph) => Ok(Recalled {
-            recording,
-            index,
-            graph,
-        }),
-        Err(error) => Err(error),
-    }
+    let recording = decoded(alloc, bytes)?;
+    let index = indexed(alloc, bytes, &recording)?;
+    let graph = graphed(alloc, bytes, &recording)?;
+    Ok(Recalled {
+        recording,
+        index,
+        graph,
+    })
 }

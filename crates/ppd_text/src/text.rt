@@ -9,10 +9,8 @@ use ppd_ast::{Memory, Place};
 pub fn put(text: &mut Vec<u8>, bytes: &[u8]) -> Result<(), Memory>
     ensures { OnOk result (text.new.items ≡ text.old.items ++ bytes.now) }
 {
-    match text.extend_from_slice(bytes) {
-        Ok(()) => Ok(()),
-        Err(_) => Err(Memory),
-    }
+    text.extend_from_slice(bytes)?;
+    Ok(())
 }
 
 /// Appends a number in decimal.

@@ -9,12 +9,12 @@ use Rattle.ppd_top.specs.Ran.{Around, Comes, LeftShelf}
 use Rattle.ppd_top.specs.Ran.Comes.{not_asked, no_memory, not_loaded, refusal, flow_done, show_done, run_done, recording_not_loaded, debug_done, drill_done}
 use Rattle.ppd_top.specs.Top.{AnswersCutOff, DrillCutOff, Finished, InputFailed, IsPromised, IsPromisedAnswers, IsPromisedDrill, LinesFailed, LoadFailed, MemoryRanOut, RanWhole, RecordingUnread, ReplayRefused, StoreFailed, WasAnswered, WasCutOff, WasDrilled, WasNotAsked, WasNotDrilled, WasNotRecalled, WasNotStored, WasRefused, WasShown, WasStored, WriteFailed, usage}
 use Rattle.ppd_top.specs.Top.Writes.{for_words}
-use Rattle.ppd_top.specs.Words.{Asks, AsksDebug, Command}
+use Rattle.ppd_top.specs.Words.{Asks, Command}
 use Rattle.ppd_top.specs.Words.Command.{Flow, Run, Show}
 use Rattle.ppd_top.proofs.Conversing.{same_input}
 use Rattle.ppd_top.proofs.Debugged.{debug_any, debug_broken, debug_complete, debug_out, debug_refused, debug_unwritten, debug_whole}
 use Rattle.ppd_top.proofs.DrillEnds.{drill_any, drill_complete, drill_cut_off, drill_no_run, drill_refused, drill_unwritten, drill_whole, not_nothing, not_recording, not_source}
-use Rattle.ppd_top.proofs.Outcomes.{ask_nothing, debug_nothing, one_run, flow_any, flow_broken, flow_complete, flow_out, flow_unwritten, flow_whole, not_both, one_command, one_name, one_recording_name, refused_complete, refused_out, refused_so, refused_unwritten, refused_any, show_any, show_complete, show_done as shown, show_out, show_unwritten, write_failed}
+use Rattle.ppd_top.proofs.Outcomes.{ask_nothing, debug_nothing, one_run, flow_any, flow_broken, flow_complete, flow_out, flow_unwritten, flow_whole, not_both, one_name, one_recording_name, refused_complete, refused_out, refused_so, refused_unwritten, refused_any, show_any, show_complete, show_done as shown, show_out, show_unwritten, write_failed}
 use Rattle.ppd_top.proofs.Recorded.{others_same, run_any, run_complete, run_others, run_out, run_stored, run_unwritten}
 use Rattle.ppd_top.proofs.Statuses.{IsIn, all_below, finished_in, is_among, other_than}
 

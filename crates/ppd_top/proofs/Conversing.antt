@@ -1,6 +1,6 @@
 -- From the lines that were read and answered to what comes of asking.
-use Rattle.std.specs.Prelude.{None, Some, Option, option_map, IfSome, is_some, ◌||◌, true, false, Result, Ok, Err, nat_le, nat_lt, codes, if◌then◌else◌}
-use Rattle.std.proofs.Common.{◌≡◌, ◌<◌, ◌≤◌, ◌+◌, ℕ, suc, List, [], ◌∷◌, ◌++◌, length, take, Bool, refl, ap, sym, subst, ◌∙◌, append_assoc, append-nil, length-append, arith, rules, inl, inr}
+use Rattle.std.specs.Prelude.{None, Some, Option, option_map, IfSome, is_some, ◌||◌, true, false, Result, Ok, Err, nat_le, nat_lt, codes}
+use Rattle.std.proofs.Common.{◌≡◌, ◌<◌, ◌≤◌, ◌+◌, ℕ, suc, List, [], ◌∷◌, ◌++◌, length, take, Bool, refl, ap, sym, subst, ◌∙◌, append_assoc, append-nil, length-append, arith, inl, inr}
 use Rattle.std.proofs.lemmas.Bool.{le-leb, le-ltb, lt-leb, lt-ltb}
 use Rattle.std.proofs.lemmas.List.{length_push, take-append-le}
 use Rattle.ppd_ast.specs.declared.limits.TheConstants.{MOST_INPUT_LINES, MOST_LINE_BYTES}
@@ -8,7 +8,7 @@ use Rattle.ppd_io.specs.Causes.{Rose}
 use Rattle.ppd_io.specs.Content.{Appends, AppendsPart, Takes}
 use Rattle.ppd_io.specs.declared.lines.LineError.{LineError}
 use Rattle.ppd_io.specs.declared.lines.LineError.TheVariants.{Failed, LongLine}
-use Rattle.ppd_io.specs.Lines.{GivesLine, Lined, StaysOver, lines_of}
+use Rattle.ppd_io.specs.Lines.{GivesLine, Lined, lines_of}
 use Rattle.ppd_io.proofs.Prefixes.{appends_nothing, appends_twice}
 use Rattle.ppd_session.specs.Known.{Known}
 use Rattle.ppd_session.specs.Questions.{is_quit}
@@ -20,7 +20,7 @@ use Rattle.ppd_session.specs.declared.reply.SessionError.{SessionError}
 use Rattle.ppd_session.specs.declared.reply.SessionError.TheVariants as session_error
 use Rattle.ppd_top.specs.Asking.{Becomes, Goes, IsAsked, IsFailed, IsReadTo}
 use Rattle.ppd_top.specs.Asking.Becomes.{answered, quit, refused, unwritten as unwritten_line, unfinished as unfinished_line}
-use Rattle.ppd_top.specs.Output.{AreAnswered, AreCommands, ArePlain, AppendsFront, IsBroken, IsReadNoFurther, Output, Standing, Talks, answers, answers_from, before, ended, output, texts, through_quit, with_line}
+use Rattle.ppd_top.specs.Output.{AreAnswered, AreCommands, ArePlain, AppendsFront, IsReadNoFurther, Output, Standing, Talks, answers, answers_from, before, ended, output, texts, through_quit, with_line}
 use Rattle.ppd_top.specs.Output.Talks.{whole, unread, unwritten, unfinished}
 use Rattle.ppd_top.specs.Top.{Finished}
 use Rattle.ppd_top.proofs.Split.{Goes_on, Is_long, after_all, after_long, after_more, at_end, append_more, no_further, plain_more, read_more, taken_so_far}

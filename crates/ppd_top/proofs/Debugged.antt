@@ -1,7 +1,7 @@
 -- What `debug` comes to, by its status.
-use Rattle.std.specs.Prelude.{Option, Some, None, ◌⊎◌, take}
+use Rattle.std.specs.Prelude.{Option, None, ◌⊎◌}
 use Rattle.std.specs.Borrow.{Bor}
-use Rattle.std.proofs.Common.{◌≡◌, ℕ, List, [], ◌∷◌, arith, inl, inr, refl, subst, sym, ◌∙◌, ap}
+use Rattle.std.proofs.Common.{◌≡◌, ℕ, List, [], ◌∷◌, arith, inl, inr, refl, subst, sym}
 use Rattle.ppd_ast.specs.declared.program.Program.{Program}
 use Rattle.ppd_blocks.specs.Blocks.{plan_of}
 use Rattle.ppd_codec.specs.declared.recording.Header.{Header}
@@ -10,15 +10,14 @@ use Rattle.ppd_io.specs.Lines.{lines_of}
 use Rattle.ppd_session.specs.Known.{Known}
 use Rattle.ppd_session.specs.Texts.{failure_of}
 use Rattle.ppd_session.proofs.Answered.{run_answered}
-use Rattle.ppd_io.specs.Causes.{Rose}
 use Rattle.ppd_io.specs.Content.{Loads}
-use Rattle.ppd_stored.specs.Recordings.{IsAccepted, IsRefusedBy, IsRunRecorded, known_of as known_of_recording}
+use Rattle.ppd_stored.specs.Recordings.{IsAccepted, IsRunRecorded, known_of as known_of_recording}
 use Rattle.ppd_stored.proofs.Runs.{no_run_is_refused, runs_are_recalled}
 use Rattle.ppd_stored.proofs.Same.{refused_or_accepted}
-use Rattle.ppd_top.specs.Output.{Output, Standing, Talks, answers, output}
+use Rattle.ppd_top.specs.Output.{Standing, Talks, answers, output}
 use Rattle.ppd_top.specs.Ran.{Debugs}
 use Rattle.ppd_top.specs.Ran.Debugs.{no_recall, recording_refused, recalled}
-use Rattle.ppd_top.specs.Top.{AnswersCutOff, IsPromisedAnswers, IsRecalledFrom, LinesFailed, MemoryRanOut, ReplayRefused, Writes, WasAnswered, WasNotRecalled, WriteFailed, most_recording}
+use Rattle.ppd_top.specs.Top.{AnswersCutOff, IsPromisedAnswers, IsRecalledFrom, LinesFailed, MemoryRanOut, ReplayRefused, WasAnswered, WasNotRecalled, WriteFailed, most_recording}
 use Rattle.ppd_top.specs.Top.Recalls.{refused_recording, answered}
 use Rattle.ppd_top.specs.Top.Writes.{for_recording}
 use Rattle.ppd_top.specs.Words.{AsksDebug}

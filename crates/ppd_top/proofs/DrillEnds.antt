@@ -1,22 +1,20 @@
 -- What `drill` comes to, by its status.
-use Rattle.std.specs.Prelude.{Option, Some, None, ◌⊎◌, ◌+◌, ◌-◌, ◌^◌, ◌<◌, ◌≤◌, min}
+use Rattle.std.specs.Prelude.{Option, Some, ◌⊎◌, ◌+◌, ◌-◌, ◌^◌, ◌<◌, ◌≤◌, min}
 use Rattle.std.specs.Borrow.{Bor}
 use Rattle.std.proofs.Common.{◌≡◌, ℕ, List, [], ◌∷◌, ◌++◌, arith, inl, inr, refl, subst, sym, ◌∙◌, ap}
 use Rattle.std.proofs.lemmas.Option.{none-some}
 use Rattle.std.proofs.Math.Nat.{min-eq_left}
 use Rattle.ppd_ast.specs.declared.program.Program.{Program}
-use Rattle.ppd_check.specs.declared.error.SourceError.{SourceError}
-use Rattle.ppd_check.specs.Read.{IsRead, IsRefused}
+use Rattle.ppd_check.specs.Read.{IsRead}
 use Rattle.ppd_check.proofs.Excluded.{read_or_refused}
 use Rattle.ppd_drill.specs.Drills.{generated}
 use Rattle.ppd_io.specs.Causes.{Rose}
 use Rattle.ppd_io.specs.Content.{Appends, AppendsPart}
 use Rattle.ppd_io.specs.Lines.{lines_of}
-use Rattle.ppd_session.specs.Known.{Known}
 use Rattle.ppd_top.specs.declared.options.Options.{Options}
-use Rattle.ppd_top.specs.Output.{AppendsFront, Output, Standing, Talks, answers, output}
+use Rattle.ppd_top.specs.Output.{AppendsFront, Standing, Talks, answers, output}
 use Rattle.ppd_top.specs.Output.Talks.{whole, unread, unwritten, unfinished}
-use Rattle.ppd_top.specs.Ran.{Drilled, Drills, Flows, Refuses, WasDrilledBy}
+use Rattle.ppd_top.specs.Ran.{Drilled, Drills, Flows, Refuses}
 use Rattle.ppd_top.specs.Ran.Drilled.{no_source, refused_drill, drilled}
 use Rattle.ppd_top.specs.Refusals.{refused}
 use Rattle.ppd_top.specs.Top.{Answers, DrillCutOff, Finished, IsPromisedDrill, MemoryRanOut, WasDrilled, WasNotDrilled, WriteFailed, drill_commands, drill_options, drill_out, known_of, summary_of_run}

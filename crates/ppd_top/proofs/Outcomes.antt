@@ -3,8 +3,7 @@ use Rattle.std.specs.Prelude.{Option, Some, None, ◌⊎◌, take}
 use Rattle.std.specs.Borrow.{Bor}
 use Rattle.std.proofs.Common.{◌≡◌, ℕ, List, [], ◌∷◌, arith, inl, inr, refl, subst, sym, ◌∙◌, ap}
 use Rattle.std.proofs.lemmas.Option.{none-some}
-use Rattle.ppd_io.specs.Causes.{Rose}
-use Rattle.ppd_io.specs.Content.{Loads, Appends}
+use Rattle.ppd_io.specs.Content.{Loads}
 use Rattle.ppd_ast.specs.declared.program.Program.{Program}
 use Rattle.ppd_check.specs.declared.error.SourceError.{SourceError}
 use Rattle.ppd_check.specs.declared.error.SourceError.TheVariants as source
@@ -14,10 +13,10 @@ use Rattle.ppd_show.specs.Table.{table_of}
 use Rattle.ppd_session.specs.Texts.{failure_of}
 use Rattle.ppd_session.proofs.Answered.{run_answered}
 use Rattle.ppd_top.specs.declared.options.Options.{Options}
-use Rattle.ppd_top.specs.Output.{AreCommands, Output, Standing, output}
-use Rattle.ppd_top.specs.Ran.{DidNothing, Flows, Refuses, Shows, WasTold}
+use Rattle.ppd_top.specs.Output.{AreCommands, Standing, output}
+use Rattle.ppd_top.specs.Ran.{Flows, Refuses, Shows, WasTold}
 use Rattle.ppd_top.specs.Refusals.{refused}
-use Rattle.ppd_top.specs.Top.{most_bytes, known_of, out_of, plan_of, summary_of_run, Answers, Writes, Finished, InputFailed, IsFineInput, IsPromised, MemoryRanOut, RanWhole, WasCutOff, WasRead, WasRefused, WasShown, WriteFailed}
+use Rattle.ppd_top.specs.Top.{most_bytes, known_of, out_of, plan_of, summary_of_run, Writes, Finished, InputFailed, IsPromised, MemoryRanOut, RanWhole, WasCutOff, WasRead, WasRefused, WasShown, WriteFailed}
 use Rattle.ppd_top.specs.Top.Answers.{refusal, run, tables}
 use Rattle.ppd_top.specs.Top.Writes.{for_source}
 use Rattle.ppd_words.specs.Reads.{texts_in}

@@ -1,14 +1,13 @@
 -- What `run` comes to, by its status.
 use Rattle.std.specs.Prelude.{Option, Some, None, ◌⊎◌}
 use Rattle.std.specs.Borrow.{Bor}
-use Rattle.std.proofs.Common.{◌≡◌, ℕ, List, [], ◌∷◌, arith, inl, inr, refl, subst, sym, ◌∙◌, ap}
+use Rattle.std.proofs.Common.{◌≡◌, ℕ, List, [], ◌∷◌, arith, inl, inr, refl, subst, sym}
 use Rattle.ppd_ast.specs.declared.program.Program.{Program}
 use Rattle.ppd_check.specs.Read.{IsRead}
-use Rattle.ppd_io.specs.Causes.{Rose}
 use Rattle.ppd_io.specs.Content.{Loads, StoreFails}
 use Rattle.ppd_top.specs.declared.options.Options.{Options}
 use Rattle.ppd_top.specs.Output.{output}
-use Rattle.ppd_top.specs.Ran.{Around, Keeping, Keeps, KeptNothing, Records, WasRecorded, kept_in}
+use Rattle.ppd_top.specs.Ran.{Around, Keeps, Records, kept_in}
 use Rattle.ppd_top.specs.Ran.Keeps.{not_kept, store_failed, kept}
 use Rattle.ppd_top.specs.Top.{IsPromised, IsRecordingOfRun, MemoryRanOut, StoreFailed, WasNotStored, WasRead, WasStored, WriteFailed, most_bytes, summary_of_run}
 use Rattle.ppd_top.specs.Top.Answers.{stored}

@@ -1,11 +1,10 @@
 -- Lines that were read, and the lines of all bytes.
-use Rattle.std.specs.Prelude.{None, Some, Option, true, false, Result, Ok, Err, IfSome, ◌==◌, if◌then◌else◌}
+use Rattle.std.specs.Prelude.{None, Some, Option, true, false, Ok, Err, IfSome, ◌==◌, if◌then◌else◌}
 use Rattle.std.proofs.Common.{◌≡◌, ◌≢◌, ◌<◌, ◌≤◌, ◌+◌, ℕ, suc, List, [], ◌∷◌, ◌++◌, length, length-append, Bool, refl, ap, sym, subst, ◌∙◌, append_assoc, append-nil, arith, inl, inr}
 use Rattle.ppd_ast.specs.declared.limits.TheConstants.{MOST_LINE_BYTES}
 use Rattle.ppd_io.specs.Content.{Takes}
-use Rattle.ppd_io.specs.declared.lines.LineError.{LineError}
 use Rattle.ppd_io.specs.declared.lines.LineError.TheVariants.{Failed, LongLine}
-use Rattle.ppd_io.specs.Lines.{EndsLine, GivesLine, HasNoNewline, IsAtEnd, IsOver, Lined, StaysOver, Took, before_lines, lines_of}
+use Rattle.ppd_io.specs.Lines.{EndsLine, GivesLine, HasNoNewline, Lined, before_lines, lines_of}
 use Rattle.ppd_io.proofs.Lining.{line_front, line_whole, told, took_all}
 use Rattle.ppd_top.specs.Asking.{IsReadTo, IsSplit}
 use Rattle.ppd_top.specs.Output.{AreCommands, ArePlain, ended}

@@ -1,6 +1,6 @@
 -- A run whose recording is stored, by the schedule that was taken.
 use Rattle.std.specs.Prelude.{Option}
-use Rattle.std.proofs.Common.{◌≡◌, ℕ, List, inl, inr, sym, subst, ◌∙◌, ap}
+use Rattle.std.proofs.Common.{◌≡◌, ℕ, List, inl, inr, subst, ◌∙◌, ap}
 use Rattle.ppd_io.specs.Causes.{Rose}
 use Rattle.ppd_io.specs.Content.{StoreFails, Stores}
 use Rattle.ppd_ast.specs.Valid.{IsValid}
@@ -16,7 +16,7 @@ use Rattle.ppd_race.specs.Races.{races_of_logs}
 use Rattle.ppd_stored.specs.Recordings.{AreOfSomeRun}
 use Rattle.ppd_top.specs.declared.options.Options.{Options}
 use Rattle.ppd_top.specs.declared.run.ClosedRun.{ClosedRun}
-use Rattle.ppd_top.specs.Ran.{Keeping, Keeps, KeptNothing, Records, WasRecorded, keeping}
+use Rattle.ppd_top.specs.Ran.{Keeping, Keeps, Records, WasRecorded, keeping}
 use Rattle.ppd_top.specs.Ran.Keeps.{not_kept, store_failed, kept}
 use Rattle.ppd_top.specs.Runs.{IsRunOf}
 use Rattle.ppd_top.specs.Summary.{summary_of}

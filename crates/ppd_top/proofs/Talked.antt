@@ -1,6 +1,6 @@
 -- What comes of asking, by its status, and of a run by its logs.
 use Rattle.std.specs.Prelude.{Option, Some, None, ◌⊎◌, true, false, nat_le, nat_lt, codes, if◌then◌else◌}
-use Rattle.std.proofs.Common.{◌≡◌, ℕ, ◌+◌, ◌<◌, ◌≤◌, List, [], ◌∷◌, ◌++◌, length, Bool, arith, rules, inl, inr, refl, subst, sym, ◌∙◌, ap}
+use Rattle.std.proofs.Common.{◌≡◌, ℕ, ◌+◌, List, [], ◌∷◌, ◌++◌, length, Bool, arith, inl, inr, refl, subst, sym, ◌∙◌, ap}
 use Rattle.std.proofs.lemmas.Bool.{lt-leb, le-ltb}
 use Rattle.ppd_ast.specs.Valid.{IsValid}
 use Rattle.ppd_ast.specs.declared.limits.TheConstants.{MOST_INPUT_LINES, MOST_LINE_BYTES}
@@ -13,14 +13,13 @@ use Rattle.ppd_model.specs.declared.closed.Closed.{Closed}
 use Rattle.ppd_model.specs.Logs.{close}
 use Rattle.ppd_race.specs.Races.{races_of_logs}
 use Rattle.ppd_race.proofs.OfRuns.{of_runs}
-use Rattle.ppd_session.specs.Known.{Known, known_of_logs, known_of_run}
+use Rattle.ppd_session.specs.Known.{Known, known_of_logs}
 use Rattle.ppd_session.specs.Questions.{is_quit}
 use Rattle.ppd_past.specs.declared.flow_error.FlowError.{FlowError}
 use Rattle.ppd_session.specs.Texts.{failure_of, text_of}
-use Rattle.ppd_stored.specs.Refusals.{refused_replay}
 use Rattle.ppd_session.proofs.Honest.{known_as}
 use Rattle.ppd_top.specs.declared.options.Options.{Options}
-use Rattle.ppd_top.specs.Output.{AppendsFront, AreCommands, AreFine, IsBroken, IsReadNoFurther, Output, Standing, Talks, answered, answers, answers_from, before, output}
+use Rattle.ppd_top.specs.Output.{AppendsFront, AreCommands, AreFine, IsBroken, IsReadNoFurther, Standing, Talks, answered, answers, answers_from, before, output}
 use Rattle.ppd_top.specs.Output.Talks.{whole, unread, unwritten, unfinished}
 use Rattle.ppd_top.specs.Summary.{summary_of}
 use Rattle.ppd_top.specs.Top.{IsWholeRun, known_of, plan_of, summary_of_run}

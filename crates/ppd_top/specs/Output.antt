@@ -1,5 +1,5 @@
 -- What is written of a run and of the command lines that are asked about it, and with which status that ends.
-use Rattle.std.specs.Prelude.{◌≡◌, ◌⊎◌, ◌||◌, is_some, ℕ, ◌+◌, ◌<◌, ◌≤◌, nat_lt, nat_le, Bool, true, false, List, [], ◌∷◌, ◌++◌, length, take, Option, Some, None, IfSome, codes, if◌then◌else◌}
+use Rattle.std.specs.Prelude.{◌≡◌, ◌||◌, is_some, ℕ, ◌+◌, ◌<◌, ◌≤◌, nat_lt, nat_le, Bool, false, List, [], ◌∷◌, ◌++◌, length, take, Option, Some, None, IfSome, codes, if◌then◌else◌}
 use Rattle.std.specs.List.{flat_map}
 use Rattle.ppd_ast.specs.declared.limits.TheConstants.{MOST_INPUT_LINES, MOST_LINE_BYTES}
 use Rattle.ppd_io.specs.Causes.{Rose}

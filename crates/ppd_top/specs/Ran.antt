@@ -18,7 +18,7 @@ use Rattle.ppd_show.specs.Table.{table_of}
 use Rattle.ppd_top.specs.declared.options.Options.{Options}
 use Rattle.ppd_top.specs.declared.following.FollowError.{FollowError}
 use Rattle.ppd_top.specs.declared.following.FollowError.TheVariants.{Refused, NotEnabled, NotWhole, LongLine, ManyLines, Memory}
-use Rattle.ppd_top.specs.Output.{AppendsFront, Output, Standing, Talks, output}
+use Rattle.ppd_top.specs.Output.{AppendsFront, Standing, Talks, output}
 use Rattle.ppd_top.specs.Refusals.{refused}
 use Rattle.ppd_top.specs.Top.{EndsWith, Finished, IsStuckAt, IsUnfinished, IsWholeRun, drill_options, drill_out, known_of, most_bytes, out_of, plan_of, summary_of_run, usage, most_recording, IsRecordingOfRun}
 use Rattle.ppd_top.specs.Words.{Asks, AsksDebug, AsksDrill, Command, IsNotAsked}

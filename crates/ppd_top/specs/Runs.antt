@@ -1,5 +1,5 @@
 -- A run that came to its end, of which something can be told.
-use Rattle.std.specs.Prelude.{◌≡◌, ℕ, ◌≤◌, List, length}
+use Rattle.std.specs.Prelude.{◌≡◌, ℕ, List}
 use Rattle.ppd_ast.specs.Valid.{IsValid}
 use Rattle.ppd_ast.specs.ValidPlan.{IsValidPlan}
 use Rattle.ppd_ast.specs.declared.plan.Plan.{Plan}

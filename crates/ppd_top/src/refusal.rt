@@ -16,7 +16,8 @@ use ppd_resolve::Limit;
 use ppd_text::{put, put_count, put_place};
 use std::alloc::Global;
 
-/// A refusal of this stage, number and name at a place, without the end of its line.
+/// The begin of a refusal's line: `what` is its stage, number and name with a space behind, and the place follows.
+/// `Memory` is want of memory.
 fn begun(alloc: Global, what: &[u8], place: Place) -> Result<Vec<u8>, Memory>
     ensures { IfOk result (λ line. line.items ≡ what.now ++ place_text place) }
 {
@@ -26,7 +27,7 @@ fn begun(alloc: Global, what: &[u8], place: Place) -> Result<Vec<u8>, Memory>
     Ok(line)
 }
 
-/// The same with it.
+/// The whole line of a refusal that says no more than its place. `Memory` is want of memory.
 fn refusal(alloc: Global, what: &[u8], place: Place) -> Result<Vec<u8>, Memory>
     ensures { IfOk result (λ line. line.items ≡ refusal_of what.now place) }
 {

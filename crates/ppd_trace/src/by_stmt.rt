@@ -53,9 +53,7 @@ impl<V: Copy> ByStmt<V> {
         ensures cost { steps.new ≡ steps.old + 1 }
     {
         steps.tick();
-        let Ok(_) = self.kept.insert(stmt, value) else {
-            return Err(Memory);
-        };
+        self.kept.insert(stmt, value)?;
         Ok(())
     }
 }

@@ -14,5 +14,5 @@ mod tellers;
 mod tracer;
 mod whole;
 
-pub use tellers::{tell_story, tell_story_in};
+pub use tellers::tell_story_in;
 pub use whole::{full_trace, full_trace_in};

@@ -109,10 +109,8 @@ fn keep_first<L: Ledger>(
         return Ok(());
     }
     steps.tick();
-    match leads.insert((object, number), event) {
-        Ok(_) => Ok(()),
-        Err(_) => Err(Memory),
-    }
+    leads.insert((object, number), event)?;
+    Ok(())
 }
 
 /// The next event's number after a step.

@@ -14,8 +14,7 @@ use ppd_model::{DriveError, EventId, Story, Taken};
 use ppd_sem::Need;
 use ppd_world::World;
 use std::alloc::Global;
-use std::marker::Brand;
-use std::sync::ledger::{Blank, Ledger};
+use std::sync::ledger::Ledger;
 
 /// A world with how many events each process had, the event that last wrote each shared cell, and
 /// the steps of each process.
@@ -146,10 +145,8 @@ impl<'a> Teller<'a> {
         if !self.world.enabled(p) {
             return Err(DriveError::NotEnabled(index));
         }
-        match self.tell(p, steps) {
-            Ok(()) => Ok(()),
-            Err(_) => Err(DriveError::Memory),
-        }
+        self.tell(p, steps)?;
+        Ok(())
     }
 }
 
@@ -170,10 +167,8 @@ fn zeros<L: Ledger>(alloc: Global, count: usize, steps: &mut Steps<L>) -> Result
 fn push_empty(lists: &mut Vec<Seq<Taken>>, alloc: Global) -> Result<(), Memory>
     ensures { OnOk result (lists.new.items ≡ lists.old.items ++ [] ∷ []) }
 {
-    match lists.push(Seq::new(alloc)) {
-        Ok(()) => Ok(()),
-        Err(_) => Err(Memory),
-    }
+    lists.push(Seq::new(alloc))?;
+    Ok(())
 }
 
 /// So many empty lists.
@@ -279,11 +274,13 @@ fn close<L: Ledger>(alloc: Global, teller: Teller, steps: &mut Steps<L>) -> Resu
     })
 }
 
-/// The story, as `tell_story` answers it, in at most 7 steps for each number of the schedule and for
-/// each shared cell and body of the program. A step is a turn of a loop, an item that is put into a
-/// list, or a call that lets one statement be evaluated; so the memory that is taken is bounded by as
-/// much, but for what the world takes. The bound holds for an error too. The budget is at most
-/// 500,000, and the errors are those of `tell_story`.
+/// The story of a schedule of a valid program with a valid plan. The budget, at most 500,000, is
+/// that of each process. `NotEnabled(n)`: the first `n` steps can be taken, and number `n`, from 0,
+/// is the first that names no enabled process. `Memory` is want of memory. It is told in at most 7
+/// steps for each number of the schedule and for each shared cell and body of the program, also
+/// where it ends in an error. A step is a turn of a loop, an item that is put into a list, or a call
+/// that lets one statement be evaluated; so the memory that is taken is bounded by as much, but for
+/// what the world takes.
 pub fn tell_story_in<L: Ledger>(
     alloc: Global,
     program: &Program,
@@ -299,56 +296,10 @@ pub fn tell_story_in<L: Ledger>(
     ensures cost { steps.new
         ≤ steps.old + 7 * (length schedule.now + length program.now.starts + length program.now.bodies) }
 {
-    let mut teller = match begin(alloc, program, plan, budget, steps) {
-        Ok(teller) => teller,
-        Err(_) => return Err(DriveError::Memory),
-    };
+    let mut teller = begin(alloc, program, plan, budget, steps)?;
     for index in 0..schedule.len() {
         steps.tick();
         teller.follow(schedule[index], index as u32, steps)?;
     }
-    match close(alloc, teller, steps) {
-        Ok(story) => Ok(story),
-        Err(_) => Err(DriveError::Memory),
-    }
-}
-
-/// The story, with steps that nobody reads.
-fn tell_story_from<L: Ledger>(
-    alloc: Global,
-    program: &Program,
-    plan: &Plan,
-    budget: u32,
-    schedule: &[u8],
-    blank: Blank,
-) -> Result<Story, DriveError>
-    requires name { blank.name ≡ L.name }
-    requires parts { blank.parts ≡ L.parts }
-    requires some { 0 < blank.parts }
-    requires program { IsValid program.now }
-    requires plan { IsValidPlan program.now plan.now }
-    requires budget { budget ≤ MOST_BUDGET }
-    ensures { IsStoryOf program.now plan.now budget schedule.now result }
-{
-    let mut steps: Steps<L> = Steps::new(blank);
-    tell_story_in(alloc, program, plan, budget, schedule, &mut steps)
-}
-
-/// The story of a schedule of a valid program with a valid plan. The budget, at most 500,000, is
-/// that of each process. `NotEnabled(n)`: the first `n` steps can be taken, and number `n`, from 0,
-/// is the first that names no enabled process. `Memory` is want of memory. It is told in the steps
-/// that `tell_story_in` counts.
-pub fn tell_story(
-    alloc: Global,
-    program: &Program,
-    plan: &Plan,
-    budget: u32,
-    schedule: &[u8],
-) -> Result<Story, DriveError>
-    requires program { IsValid program.now }
-    requires plan { IsValidPlan program.now plan.now }
-    requires budget { budget ≤ MOST_BUDGET }
-    ensures { IsStoryOf program.now plan.now budget schedule.now result }
-{
-    tell_story_from::<Brand>(alloc, program, plan, budget, schedule, Blank::new(1))
+    Ok(close(alloc, teller, steps)?)
 }

@@ -97,14 +97,8 @@ pub fn full_trace_in<L: Ledger>(
     ensures cost { steps.new
         ≤ steps.old + (3 * most_cells program.now + 31) * (length schedule.now + extent program.now) }
 {
-    let story = match tell_story_in(alloc, program, plan, budget, schedule, steps) {
-        Ok(story) => story,
-        Err(error) => return Err(error),
-    };
-    match trace_story(alloc, program, plan, budget, story, steps) {
-        Ok(trace) => Ok(trace),
-        Err(_) => Err(DriveError::Memory),
-    }
+    let story = tell_story_in(alloc, program, plan, budget, schedule, steps)?;
+    Ok(trace_story(alloc, program, plan, budget, story, steps)?)
 }
 
 /// The full trace, with steps that nobody reads.

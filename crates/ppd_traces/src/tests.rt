@@ -6,7 +6,7 @@ use ppd_check::read_source;
 use ppd_model::{DriveError, Trace};
 use ppd_sem::{Spot, Trap};
 use std::alloc::{AllocError, Global};
-use std::test::Fail;
+use std::process::Abort;
 
 const BUDGET: u32 = 100_000;
 
@@ -36,221 +36,206 @@ fn of_source(alloc: Global, source: &str, schedule: &[u8]) -> Option<Result<Trac
     trace(alloc, &program, false, BUDGET, schedule)
 }
 
+/// The trace itself; the test fails by these words where the schedule was refused.
+fn whole(rt: &impl Abort, traced: Option<Result<Trace, DriveError>>, told: &str) -> Trace {
+    let traced = traced.expect(rt, "valid");
+    traced.expect(rt, told)
+}
+
+/// Asserts the events of each process from the first on.
+fn check_events(rt: &impl Abort, traced: Option<Result<Trace, DriveError>>, all: &[&[Row]]) {
+    let traced = whole(rt, traced, "whole");
+    for (p, rows) in all.iter().enumerate() {
+        assert!(rt; are_rows(&traced, p, rows), "{p}");
+    }
+}
+
 // The print reads what the callee wrote, and the callee's events have the call as parent.
 #[test]
-fn a_print_reads_what_the_callee_wrote(rt: HostRuntime) -> Result<(), Fail> {
+fn a_print_reads_what_the_callee_wrote(rt: HostRuntime) {
     let alloc = rt.alloc();
     let call = Some((0, 1));
-    let traced = by(alloc, callee_write(alloc), false, &[0; 7]).expect(&rt, "valid");
-    let traced = traced.expect(&rt, "whole");
-    assert!(rt;
-        are_rows(
-            &traced,
-            0,
-            &[
-                Row {
-                    write: Some((X, 1)),
-                    ..plain(2)
-                },
-                plain(3),
-                Row {
-                    write: Some((X, 4)),
-                    parent: call,
-                    ..plain(0)
-                },
-                Row {
-                    parent: call,
-                    ..plain(1)
-                },
-                Row {
-                    read: Some((X, 4, Some((0, 2)))),
-                    value: Some(4),
-                    ..plain(4)
-                },
-                plain(5),
-            ],
-        )
-    );
-    Ok(())
+    let rows = [
+        Row {
+            write: Some((X, 1)),
+            ..plain(2)
+        },
+        plain(3),
+        Row {
+            write: Some((X, 4)),
+            parent: call,
+            ..plain(0)
+        },
+        Row {
+            parent: call,
+            ..plain(1)
+        },
+        Row {
+            read: Some((X, 4, Some((0, 2)))),
+            value: Some(4),
+            ..plain(4)
+        },
+        plain(5),
+    ];
+    let traced = by(alloc, callee_write(alloc), false, &[0; 7]);
+    check_events(&rt, traced, &[&rows]);
 }
 
 // A step past the end names no enabled process.
 #[test]
-fn a_number_too_many_is_refused(rt: HostRuntime) -> Result<(), Fail> {
+fn a_number_too_many_is_refused(rt: HostRuntime) {
     let alloc = rt.alloc();
     let traced = by(alloc, callee_write(alloc), false, &[0; 9]).expect(&rt, "valid");
     assert!(rt; matches!(traced, Err(DriveError::NotEnabled(7))));
-    Ok(())
 }
 
 // The entry of a loop is a step and no event; its test and the print read the first value.
 #[test]
-fn a_loop_that_is_never_entered(rt: HostRuntime) -> Result<(), Fail> {
+fn a_loop_that_is_never_entered(rt: HostRuntime) {
     let alloc = rt.alloc();
     let first = Some((0, 0));
-    let traced = by(alloc, loop_from(alloc, 3), true, &[0; 5]).expect(&rt, "valid");
-    let traced = traced.expect(&rt, "whole");
-    assert!(rt;
-        are_rows(
-            &traced,
-            0,
-            &[
-                Row {
-                    write: Some((FIRST, 3)),
-                    ..plain(0)
-                },
-                Row {
-                    read: Some((FIRST, 3, first)),
-                    value: Some(0),
-                    ..plain(1)
-                },
-                Row {
-                    read: Some((FIRST, 3, first)),
-                    value: Some(3),
-                    ..plain(3)
-                },
-                plain(4),
-            ],
-        )
-    );
-    Ok(())
+    let rows = [
+        Row {
+            write: Some((FIRST, 3)),
+            ..plain(0)
+        },
+        Row {
+            read: Some((FIRST, 3, first)),
+            value: Some(0),
+            ..plain(1)
+        },
+        Row {
+            read: Some((FIRST, 3, first)),
+            value: Some(3),
+            ..plain(3)
+        },
+        plain(4),
+    ];
+    let traced = by(alloc, loop_from(alloc, 3), true, &[0; 5]);
+    check_events(&rt, traced, &[&rows]);
 }
 
 // The second test of a loop has the first one as parent, and the statement after the loop has none.
 #[test]
-fn a_second_test_follows_the_first(rt: HostRuntime) -> Result<(), Fail> {
+fn a_second_test_follows_the_first(rt: HostRuntime) {
     let alloc = rt.alloc();
-    let traced = by(alloc, loop_from(alloc, 2), false, &[0; 6]).expect(&rt, "valid");
-    let traced = traced.expect(&rt, "whole");
     let test = Some((0, 1));
     let counted = Some((0, 2));
-    assert!(rt;
-        are_rows(
-            &traced,
-            0,
-            &[
-                Row {
-                    write: Some((FIRST, 2)),
-                    ..plain(0)
-                },
-                Row {
-                    read: Some((FIRST, 2, Some((0, 0)))),
-                    value: Some(1),
-                    ..plain(1)
-                },
-                Row {
-                    read: Some((FIRST, 2, Some((0, 0)))),
-                    write: Some((FIRST, 3)),
-                    parent: test,
-                    ..plain(2)
-                },
-                Row {
-                    read: Some((FIRST, 3, counted)),
-                    value: Some(0),
-                    parent: test,
-                    ..plain(1)
-                },
-                Row {
-                    read: Some((FIRST, 3, counted)),
-                    value: Some(3),
-                    ..plain(3)
-                },
-                plain(4),
-            ],
-        )
-    );
-    Ok(())
+    let rows = [
+        Row {
+            write: Some((FIRST, 2)),
+            ..plain(0)
+        },
+        Row {
+            read: Some((FIRST, 2, Some((0, 0)))),
+            value: Some(1),
+            ..plain(1)
+        },
+        Row {
+            read: Some((FIRST, 2, Some((0, 0)))),
+            write: Some((FIRST, 3)),
+            parent: test,
+            ..plain(2)
+        },
+        Row {
+            read: Some((FIRST, 3, counted)),
+            value: Some(0),
+            parent: test,
+            ..plain(1)
+        },
+        Row {
+            read: Some((FIRST, 3, counted)),
+            value: Some(3),
+            ..plain(3)
+        },
+        plain(4),
+    ];
+    let traced = by(alloc, loop_from(alloc, 2), false, &[0; 6]);
+    check_events(&rt, traced, &[&rows]);
 }
 
 // Parameters are written by the calls, and results by the returns.
 #[test]
-fn a_recursion_with_2(rt: HostRuntime) -> Result<(), Fail> {
+fn a_recursion_with_2(rt: HostRuntime) {
     let alloc = rt.alloc();
-    let traced = by(alloc, recursion(alloc, 2), false, &[0; 14]).expect(&rt, "valid");
-    let traced = traced.expect(&rt, "whole");
     let (outer, middle, inner) = (Some((0, 0)), Some((0, 3)), Some((0, 6)));
-    assert!(rt;
-        are_rows(
-            &traced,
-            0,
-            &[
-                Row {
-                    write: Some((CALLED, 2)),
-                    ..plain(4)
-                },
-                Row {
-                    write: Some((SECOND, 0)),
-                    parent: outer,
-                    ..plain(0)
-                },
-                Row {
-                    read: Some((FIRST, 2, outer)),
-                    value: Some(1),
-                    parent: outer,
-                    ..plain(1)
-                },
-                Row {
-                    read: Some((FIRST, 2, outer)),
-                    write: Some((CALLED, 1)),
-                    parent: Some((0, 2)),
-                    ..plain(2)
-                },
-                Row {
-                    write: Some((SECOND, 0)),
-                    parent: middle,
-                    ..plain(0)
-                },
-                Row {
-                    read: Some((FIRST, 1, middle)),
-                    value: Some(1),
-                    parent: middle,
-                    ..plain(1)
-                },
-                Row {
-                    read: Some((FIRST, 1, middle)),
-                    write: Some((CALLED, 0)),
-                    parent: Some((0, 5)),
-                    ..plain(2)
-                },
-                Row {
-                    write: Some((SECOND, 0)),
-                    parent: inner,
-                    ..plain(0)
-                },
-                Row {
-                    read: Some((FIRST, 0, inner)),
-                    value: Some(0),
-                    parent: inner,
-                    ..plain(1)
-                },
-                Row {
-                    read: Some((SECOND, 0, Some((0, 7)))),
-                    value: Some(1),
-                    parent: inner,
-                    ..plain(3)
-                },
-                Row {
-                    read: Some((SECOND, 1, Some((0, 9)))),
-                    value: Some(2),
-                    parent: middle,
-                    ..plain(3)
-                },
-                Row {
-                    read: Some((SECOND, 2, Some((0, 10)))),
-                    value: Some(3),
-                    parent: outer,
-                    ..plain(3)
-                },
-                Row {
-                    read: Some((FIRST, 3, Some((0, 11)))),
-                    value: Some(3),
-                    ..plain(5)
-                },
-                plain(6),
-            ],
-        )
-    );
-    Ok(())
+    let rows = [
+        Row {
+            write: Some((CALLED, 2)),
+            ..plain(4)
+        },
+        Row {
+            write: Some((SECOND, 0)),
+            parent: outer,
+            ..plain(0)
+        },
+        Row {
+            read: Some((FIRST, 2, outer)),
+            value: Some(1),
+            parent: outer,
+            ..plain(1)
+        },
+        Row {
+            read: Some((FIRST, 2, outer)),
+            write: Some((CALLED, 1)),
+            parent: Some((0, 2)),
+            ..plain(2)
+        },
+        Row {
+            write: Some((SECOND, 0)),
+            parent: middle,
+            ..plain(0)
+        },
+        Row {
+            read: Some((FIRST, 1, middle)),
+            value: Some(1),
+            parent: middle,
+            ..plain(1)
+        },
+        Row {
+            read: Some((FIRST, 1, middle)),
+            write: Some((CALLED, 0)),
+            parent: Some((0, 5)),
+            ..plain(2)
+        },
+        Row {
+            write: Some((SECOND, 0)),
+            parent: inner,
+            ..plain(0)
+        },
+        Row {
+            read: Some((FIRST, 0, inner)),
+            value: Some(0),
+            parent: inner,
+            ..plain(1)
+        },
+        Row {
+            read: Some((SECOND, 0, Some((0, 7)))),
+            value: Some(1),
+            parent: inner,
+            ..plain(3)
+        },
+        Row {
+            read: Some((SECOND, 1, Some((0, 9)))),
+            value: Some(2),
+            parent: middle,
+            ..plain(3)
+        },
+        Row {
+            read: Some((SECOND, 2, Some((0, 10)))),
+            value: Some(3),
+            parent: outer,
+            ..plain(3)
+        },
+        Row {
+            read: Some((FIRST, 3, Some((0, 11)))),
+            value: Some(3),
+            ..plain(5)
+        },
+        plain(6),
+    ];
+    let traced = by(alloc, recursion(alloc, 2), false, &[0; 14]);
+    check_events(&rt, traced, &[&rows]);
 }
 
 /// The events of a process under the lock: the number and the pair of its `P`, the value that it
@@ -293,15 +278,15 @@ fn is_turn(traced: &Trace, p: usize, turn: Turn) -> bool {
 
 // The second process under one lock reads what the first one wrote, in both orders.
 #[test]
-fn two_processes_under_one_lock(rt: HostRuntime) -> Result<(), Fail> {
+fn two_processes_under_one_lock(rt: HostRuntime) {
     let alloc = rt.alloc();
     let schedules = [
         (0, 1, 0, [0, 0, 0, 0, 0, 1, 1, 1, 1, 1]),
         (1, 0, 4, [1, 1, 1, 1, 1, 0, 0, 0, 0, 0]),
     ];
     for (first, second, stmt, schedule) in schedules {
-        let traced = by(alloc, locked(alloc), false, &schedule).expect(&rt, "valid");
-        let traced = traced.expect(&rt, "whole");
+        let traced = by(alloc, locked(alloc), false, &schedule);
+        let traced = whole(&rt, traced, "whole");
         let before = Turn {
             stmt,
             number: 1,
@@ -319,89 +304,70 @@ fn two_processes_under_one_lock(rt: HostRuntime) -> Result<(), Fail> {
         assert!(rt; is_turn(&traced, first as usize, before));
         assert!(rt; is_turn(&traced, second, after));
     }
-    Ok(())
 }
 
 // The statement that traps is the last event, and writes nothing: after the first call each frame sets a local, tests
 // and calls.
 #[test]
-fn a_call_too_deep_is_an_event(rt: HostRuntime) -> Result<(), Fail> {
+fn a_call_too_deep_is_an_event(rt: HostRuntime) {
     const EVENTS: usize = 3 * MOST_CALLS + 1;
     let alloc = rt.alloc();
-    let traced = by(
-        alloc,
-        recursion(alloc, MOST_CALLS as i64),
-        false,
-        &[0; EVENTS],
-    )
-    .expect(&rt, "valid");
-    let traced = traced.expect(&rt, "whole");
+    let program = recursion(alloc, MOST_CALLS as i64);
+    let traced = by(alloc, program, false, &[0; EVENTS]);
+    let traced = whole(&rt, traced, "whole");
     let events = traced.events.as_slice().get(0).expect(&rt, "a process");
     assert_eq!(rt; events.len(), EVENTS);
     let last = events.as_slice().last().expect(&rt, "an event");
     assert_eq!(rt; last.event.trap, Some(Trap::Depth));
     assert!(rt; last.event.writes.len() == 0);
-    Ok(())
 }
 
 // A send on a channel of capacity 0 is two events: the offer with its value, and the completion, which
 // the receive leads to.
 #[test]
-fn an_offer_and_its_completion(rt: HostRuntime) -> Result<(), Fail> {
+fn an_offer_and_its_completion(rt: HostRuntime) {
     let alloc = rt.alloc();
     let source = "shared int x; chan c[0]; process a { send(c, 7); x = 2; } \
         process b { int v; print(x); v = recv(c); }";
-    let traced = of_source(alloc, source, &[0, 1, 1, 1, 1, 0, 0, 0, 1]).expect(&rt, "valid");
-    let traced = traced.expect(&rt, "whole");
-    assert!(rt;
-        are_rows(
-            &traced,
-            0,
-            &[
-                Row {
-                    value: Some(7),
-                    number: Some(1),
-                    ..plain(0)
-                },
-                Row {
-                    number: Some(1),
-                    paired: Some((1, 2)),
-                    ..plain(0)
-                },
-                Row {
-                    write: Some((X, 2)),
-                    ..plain(1)
-                },
-                plain(2),
-            ],
-        )
-    );
-    assert!(rt;
-        are_rows(
-            &traced,
-            1,
-            &[
-                Row {
-                    write: Some((FIRST, 0)),
-                    ..plain(3)
-                },
-                Row {
-                    read: Some((X, 0, None)),
-                    value: Some(0),
-                    ..plain(4)
-                },
-                Row {
-                    write: Some((FIRST, 7)),
-                    number: Some(1),
-                    paired: Some((0, 0)),
-                    ..plain(5)
-                },
-                plain(6),
-            ],
-        )
-    );
-    let alone = of_source(alloc, "chan c[0]; process a { send(c, 1); }", &[0]).expect(&rt, "valid");
-    let alone = alone.expect(&rt, "offered");
+    let offering = [
+        Row {
+            value: Some(7),
+            number: Some(1),
+            ..plain(0)
+        },
+        Row {
+            number: Some(1),
+            paired: Some((1, 2)),
+            ..plain(0)
+        },
+        Row {
+            write: Some((X, 2)),
+            ..plain(1)
+        },
+        plain(2),
+    ];
+    let receiving = [
+        Row {
+            write: Some((FIRST, 0)),
+            ..plain(3)
+        },
+        Row {
+            read: Some((X, 0, None)),
+            value: Some(0),
+            ..plain(4)
+        },
+        Row {
+            write: Some((FIRST, 7)),
+            number: Some(1),
+            paired: Some((0, 0)),
+            ..plain(5)
+        },
+        plain(6),
+    ];
+    let traced = of_source(alloc, source, &[0, 1, 1, 1, 1, 0, 0, 0, 1]);
+    check_events(&rt, traced, &[&offering, &receiving]);
+    let alone = of_source(alloc, "chan c[0]; process a { send(c, 1); }", &[0]);
+    let alone = whole(&rt, alone, "offered");
     assert!(rt;
         are_rows(
             &alone,
@@ -413,13 +379,12 @@ fn an_offer_and_its_completion(rt: HostRuntime) -> Result<(), Fail> {
             },],
         )
     );
-    Ok(())
 }
 
 // Two schedules with one record and no race have one trace, also where a send waits for its receive. With a
 // race they may differ, as they do with two orders at one lock.
 #[test]
-fn two_schedules_of_a_source(rt: HostRuntime) -> Result<(), Fail> {
+fn two_schedules_of_a_source(rt: HostRuntime) {
     let alloc = rt.alloc();
     let unread =
         "shared int x, y; sem s = 1; process p { P(s); if (y) { print(x); } } process q { x = 5; }";
@@ -445,11 +410,8 @@ fn two_schedules_of_a_source(rt: HostRuntime) -> Result<(), Fail> {
         ),
     ];
     for (source, first, second, one) in rows {
-        let one_way = of_source(alloc, source, first).expect(&rt, "valid");
-        let one_way = one_way.expect(&rt, "a schedule");
-        let other_way = of_source(alloc, source, second).expect(&rt, "valid");
-        let other_way = other_way.expect(&rt, "another schedule");
+        let one_way = whole(&rt, of_source(alloc, source, first), "a schedule");
+        let other_way = whole(&rt, of_source(alloc, source, second), "another schedule");
         assert_eq!(rt; one_way == other_way, one, "{source}");
     }
-    Ok(())
 }

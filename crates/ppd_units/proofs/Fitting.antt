@@ -1,6 +1,6 @@
 -- In a valid program what follows a statement is a statement.
-use Rattle.std.proofs.Common.{◌≡◌, ℕ, zero, suc, ◌<◌, List, [], ◌∷◌, ◌++◌, Bool, Option, Some, None, refl, sym, subst, ap, ◌∙◌, inl, inr, length, true≢false}
-use Rattle.std.specs.Prelude.{IsTrue, nat_eq, nat_lt, slice_get, ⊤, if◌then◌else◌}
+use Rattle.std.proofs.Common.{◌≡◌, ℕ, zero, suc, ◌<◌, List, [], ◌∷◌, Bool, Option, Some, None, refl, sym, subst, inl, inr, length, true≢false}
+use Rattle.std.specs.Prelude.{nat_eq, nat_lt, slice_get, ⊤, if◌then◌else◌}
 use Rattle.std.proofs.lemmas.Bool.{cases_Bool, cond-true, cond-false}
 use Rattle.ppd_ast.specs.declared.program.Kind.{Kind}
 use Rattle.ppd_ast.specs.declared.program.Kind.TheVariants as K

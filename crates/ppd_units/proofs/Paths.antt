@@ -1,5 +1,5 @@
 -- The cells of a unit by flow paths, and that they are shared cells, rising.
-use Rattle.std.proofs.Common.{◌≡◌, ◌↔◌, ℕ, zero, suc, ◌+◌, ◌<◌, ◌≤◌, List, [], ◌∷◌, ◌++◌, Bool, true, false, Option, Some, None, length, get_or, refl, sym, ap, ◌∙◌, subst, arith, inl, inr, cond, true≢false}
+use Rattle.std.proofs.Common.{◌≡◌, ℕ, zero, suc, ◌+◌, ◌<◌, ◌≤◌, List, [], ◌∷◌, ◌++◌, Bool, true, false, Option, Some, None, length, get_or, refl, sym, ap, subst, arith, inl, inr, true≢false}
 use Rattle.std.specs.Prelude.{IsTrue, not}
 use Rattle.std.specs.List.{All, flat_map, range_with_len, filter}
 use Rattle.std.specs.List.Sorted.{IsStrictlyIncreasing}
@@ -7,16 +7,14 @@ use Rattle.std.proofs.lemmas.List.Kept.{IsStrictlyIncreasing-filter}
 use Rattle.std.proofs.lemmas.List.FromFn.{length-range_with_len, get_or-range_with_len}
 use Rattle.ppd_ast.specs.declared.program.Program.{Program}
 use Rattle.ppd_ast.specs.declared.plan.Start.{Start}
-use Rattle.ppd_ast.specs.Valid.{IsValid}
-use Rattle.ppd_ast.specs.ValidPlan.{AreCells}
 use Rattle.ppd_ast.specs.Members.{has, those}
 use Rattle.ppd_ast.proofs.Members.{has_first, has_later, has_cons, has_filter, filter_has, from_zero, flat_gives, flat_from}
 use Rattle.ppd_cfg.specs.Lists.{to_list}
 use Rattle.ppd_cfg.specs.Reach.{Reached, start, next, closure, leads}
 use Rattle.ppd_cfg.specs.Flow.{next_of}
-use Rattle.ppd_cfg.proofs.Leading.{leads-tests, row_there}
+use Rattle.ppd_cfg.proofs.Leading.{leads-tests}
 use Rattle.ppd_sets.specs.Used.{reads_at, sorted}
-use Rattle.ppd_units.specs.Walk.{is_between, unit_rows, begin_of, unit_cells}
+use Rattle.ppd_units.specs.Walk.{is_between, unit_rows, begin_of}
 use Rattle.ppd_units.specs.Laws.{IsUnitPath, MayRead, CellsByPaths, CellsAreShared}
 use Rattle.ppd_units.proofs.Staying.{row_gives, row_from}
 use Rattle.ppd_units.proofs.Reading.{reads_below, read_is_stmt}

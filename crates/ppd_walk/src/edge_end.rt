@@ -34,16 +34,11 @@ pub(crate) fn edge_end<L: Ledger>(
         (Ok (edge_end_of past.now edge)) steps.old steps.new result }
 {
     let interval = end_interval(past, edge.process, edge.edge);
-    let items = match replayed(alloc, past, edge.process, interval, steps) {
-        Ok(items) => items,
-        Err(error) => return Err(error),
-    };
-    match sync_item(past, edge.process, edge.edge, interval, items.as_slice()) {
-        Ok(place) => Ok(EdgeEnd {
-            interval,
-            items,
-            place,
-        }),
-        Err(_) => Err(FlowError::Memory),
-    }
+    let items = replayed(alloc, past, edge.process, interval, steps)?;
+    let place = sync_item(past, edge.process, edge.edge, interval, items.as_slice())?;
+    Ok(EdgeEnd {
+        interval,
+        items,
+        place,
+    })
 }

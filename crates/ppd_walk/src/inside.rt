@@ -43,10 +43,7 @@ pub(crate) fn over_items<L: Ledger>(
     let mut left = items.len();
     while left > 0 {
         left -= 1;
-        let walked = match over_item(search, depth, (interval, left), &items[left], steps) {
-            Ok(walked) => walked,
-            Err(error) => return Err(error),
-        };
+        let walked = over_item(search, depth, (interval, left), &items[left], steps)?;
         if !is_passed(walked) {
             return Ok(walked);
         }
@@ -70,10 +67,10 @@ fn over_item<L: Ledger>(
         steps.old steps.new result }
 {
     match item {
-        Item::Own(event) => match number(place.1) {
-            Ok(at) => Ok(over_event(search.cell, place.0, at, event)),
-            Err(_) => Err(FlowError::Memory),
-        },
+        Item::Own(event) => {
+            let at = number(place.1)?;
+            Ok(over_event(search.cell, place.0, at, event))
+        }
         Item::Nested { interval, .. } => over_interval(search, depth, *interval, steps),
     }
 }
@@ -95,8 +92,6 @@ fn over_interval<L: Ledger>(
     if depth == 0 {
         return Ok(Walked::Passed);
     }
-    match replayed(search.alloc, search.past, search.process, interval, steps) {
-        Ok(items) => over_items(search, depth - 1, interval, items.as_slice(), steps),
-        Err(error) => Err(error),
-    }
+    let items = replayed(search.alloc, search.past, search.process, interval, steps)?;
+    over_items(search, depth - 1, interval, items.as_slice(), steps)
 }

@@ -25,13 +25,12 @@ pub fn last_edge(past: &Past, cell: u16) -> Result<Option<LastEdge>, Memory>
     requires { IsPast past.now }
     ensures { IfOk result (λ last. last ≡ last_edge_of past.now cell) }
 {
-    match greatest_writing(past, cell) {
-        Ok(Some(edge)) => Ok(Some(LastEdge {
+    match greatest_writing(past, cell)? {
+        Some(edge) => Ok(Some(LastEdge {
             edge,
             interval: end_interval(past, edge.process, edge.edge),
         })),
-        Ok(None) => Ok(None),
-        Err(memory) => Err(memory),
+        None => Ok(None),
     }
 }
 
@@ -50,10 +49,7 @@ pub fn last_write_from<L: Ledger>(
         (steps.new + steps_in past.now last.edge.process last.interval) result }
 {
     let EdgeId { process, edge } = last.edge;
-    let place = match sync_item(past, process, edge, last.interval, items) {
-        Ok(place) => place,
-        Err(_) => return Err(FlowError::Memory),
-    };
+    let place = sync_item(past, process, edge, last.interval, items)?;
     let search = CellSearch {
         alloc,
         past,

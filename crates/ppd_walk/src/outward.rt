@@ -67,19 +67,15 @@ fn over_before<L: Ledger>(
         steps.old steps.new result }
 {
     let depth = count_of(search.past, search.process);
-    match replayed(search.alloc, search.past, search.process, outer, steps) {
-        Ok(items) => {
-            let at = place_of(inner, items.as_slice());
-            over_items(
-                search,
-                depth,
-                outer,
-                first_items(items.as_slice(), at),
-                steps,
-            )
-        }
-        Err(error) => Err(error),
-    }
+    let items = replayed(search.alloc, search.past, search.process, outer, steps)?;
+    let at = place_of(inner, items.as_slice());
+    over_items(
+        search,
+        depth,
+        outer,
+        first_items(items.as_slice(), at),
+        steps,
+    )
 }
 
 // Walks on from the start of an interval, through the intervals round it.
@@ -97,10 +93,7 @@ fn outward<L: Ledger>(
 {
     let mut inner = interval;
     while let Some(outer) = outer_of(search.past, search.process, inner) {
-        let walked = match over_before(search, outer, inner, steps) {
-            Ok(walked) => walked,
-            Err(error) => return Err(error),
-        };
+        let walked = over_before(search, outer, inner, steps)?;
         if !is_passed(walked) {
             return Ok(walked);
         }
@@ -130,10 +123,7 @@ impl<'a> CellSearch<'a> {
         ensures { IsWalked self.now.past.now self.now.process self.now.cell interval place steps.old steps.new result }
     {
         let depth = count_of(self.past, self.process);
-        let walked = match over_items(self, depth, interval, first_items(items, place), steps) {
-            Ok(walked) => walked,
-            Err(error) => return Err(error),
-        };
+        let walked = over_items(self, depth, interval, first_items(items, place), steps)?;
         if !is_passed(walked) {
             return Ok(walked);
         }

@@ -33,15 +33,13 @@ fn pair_of(past: &Past, place: Place, items: &[Item]) -> Result<Paired, Memory>
         place.item) }
 {
     let before = first_items(items, place.item);
-    match edge_at(past, place.process, place.interval, before) {
-        Ok(sync) => Ok(
-            past.graph.paired(NodeId {
-                process: place.process,
-                sync,
-            }),
-        ),
-        Err(memory) => Err(memory),
-    }
+    let sync = edge_at(past, place.process, place.interval, before)?;
+    Ok(
+        past.graph.paired(NodeId {
+            process: place.process,
+            sync,
+        }),
+    )
 }
 
 // Where a synchronization is an item.
@@ -58,18 +56,13 @@ fn node_place<L: Ledger>(
         process: node.process,
         edge: node.sync,
     };
-    let end = match edge_end(alloc, past, edge, steps) {
-        Ok(end) => end,
-        Err(error) => return Err(error),
-    };
-    match number(end.place) {
-        Ok(item) => Ok(Origin::Item {
-            process: node.process,
-            interval: end.interval,
-            item,
-        }),
-        Err(_) => Err(FlowError::Memory),
-    }
+    let end = edge_end(alloc, past, edge, steps)?;
+    let item = number(end.place)?;
+    Ok(Origin::Item {
+        process: node.process,
+        interval: end.interval,
+        item,
+    })
 }
 
 /// Where the pair of the synchronization at a place of an interval is an item, whose items these are: the item
@@ -94,16 +87,9 @@ pub fn pair_origin<L: Ledger>(
         place.item))
         steps.old steps.new result }
 {
-    let pair = match pair_of(past, place, items) {
-        Ok(pair) => pair,
-        Err(_) => return Err(FlowError::Memory),
-    };
-    match pair {
+    match pair_of(past, place, items)? {
         Paired::Nothing => Ok(None),
         Paired::Initial => Ok(Some(Origin::Initial)),
-        Paired::Node(node) => match node_place(alloc, past, node, steps) {
-            Ok(origin) => Ok(Some(origin)),
-            Err(error) => Err(error),
-        },
+        Paired::Node(node) => Ok(Some(node_place(alloc, past, node, steps)?)),
     }
 }

@@ -33,10 +33,7 @@ impl<'a> CellSearch<'a> {
             self.now.cell) }
     {
         let before = first_items(items, place);
-        let edge = match edge_at(self.past, self.process, interval, before) {
-            Ok(edge) => edge,
-            Err(memory) => return Err(memory),
-        };
+        let edge = edge_at(self.past, self.process, interval, before)?;
         let own = EdgeId {
             process: self.process,
             edge,
@@ -66,14 +63,9 @@ impl<'a> CellSearch<'a> {
             self.now.cell))))
             steps.old steps.new result }
     {
-        let best = match self.edge_before(interval, items, place) {
-            Ok(best) => best,
-            Err(_) => return Err(FlowError::Memory),
-        };
-        match written_or_start(self, best, steps) {
-            Ok((_, origin)) => Ok(origin),
-            Err(error) => Err(error),
-        }
+        let best = self.edge_before(interval, items, place)?;
+        let (_, origin) = written_or_start(self, best, steps)?;
+        Ok(origin)
     }
 
     /// Where the cell was written that is read at a place in an interval, whose items these are: the last write
@@ -101,10 +93,7 @@ impl<'a> CellSearch<'a> {
             (seens_in self.now.past.now) self.now.process interval place self.now.cell))
             steps.old steps.new result }
     {
-        let walked = match self.walk(interval, items, place, steps) {
-            Ok(walked) => walked,
-            Err(error) => return Err(error),
-        };
+        let walked = self.walk(interval, items, place, steps)?;
         match walked {
             Walked::Found { interval, item, .. } => Ok(Origin::Item {
                 process: self.process,
@@ -135,8 +124,6 @@ pub fn last_write<L: Ledger>(
         process: 0,
         cell,
     };
-    match greatest_writing(past, cell) {
-        Ok(best) => written_or_start(&search, best, steps),
-        Err(_) => Err(FlowError::Memory),
-    }
+    let best = greatest_writing(past, cell)?;
+    written_or_start(&search, best, steps)
 }

@@ -40,14 +40,12 @@ fn write_found(
             Ok((value, origin))
         }
         Walked::Stopped | Walked::Passed => {
-            match number(ending(edge.edge, entries_of(past.logs, edge.process))) {
-                Ok(entry) => Err(FlowError::Sets {
-                    process: edge.process,
-                    entry,
-                    cell,
-                }),
-                Err(_) => Err(FlowError::Memory),
-            }
+            let entry = number(ending(edge.edge, entries_of(past.logs, edge.process)))?;
+            Err(FlowError::Sets {
+                process: edge.process,
+                entry,
+                cell,
+            })
         }
     }
 }
@@ -74,10 +72,8 @@ pub(crate) fn written_before<L: Ledger>(
         process: search.process,
         edge,
     };
-    match search.walk(interval, items, place, steps) {
-        Ok(walked) => write_found(search.past, search.cell, edge, walked),
-        Err(error) => Err(error),
-    }
+    let walked = search.walk(interval, items, place, steps)?;
+    write_found(search.past, search.cell, edge, walked)
 }
 
 // The last write of the cell in an edge of any process whose write set has it.
@@ -92,10 +88,7 @@ fn written_in<L: Ledger>(
         (answer_of (written_in_edge search.now.past.now.logs.now (seens_in search.now.past.now) search.now.cell edge))
         steps.old steps.new result }
 {
-    let end = match edge_end(search.alloc, search.past, edge, steps) {
-        Ok(end) => end,
-        Err(error) => return Err(error),
-    };
+    let end = edge_end(search.alloc, search.past, edge, steps)?;
     let there = CellSearch {
         alloc: search.alloc,
         past: search.past,

@@ -12,7 +12,7 @@ use Rattle.ppd_ast.specs.declared.program.Program.{Program}
 use Rattle.ppd_ast.specs.declared.program.Stmt.{Stmt}
 use Rattle.ppd_ast.specs.declared.program.Var.{Var}
 use Rattle.ppd_ast.specs.declared.status.Trap.{Trap}
-use Rattle.ppd_ast.specs.Lookups.{locals_of_body, locals_of}
+use Rattle.ppd_ast.specs.Lookups.{locals_of}
 use Rattle.ppd_model.specs.declared.flow.Item.{Item}
 use Rattle.ppd_model.specs.declared.flow.Item.TheVariants.{Own, Nested}
 use Rattle.ppd_sem.specs.declared.event.Access.{Access}

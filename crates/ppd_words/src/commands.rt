@@ -119,9 +119,8 @@ pub fn read_command<'a>(
     let Some(command) = command_of(word) else {
         return Ok(None);
     };
-    match read_rest(alloc, command, rest) {
-        Ok(Some(matches)) => Ok(Some(CommandWords { command, matches })),
-        Ok(None) => Ok(None),
-        Err(Memory) => Err(Memory),
+    match read_rest(alloc, command, rest)? {
+        Some(matches) => Ok(Some(CommandWords { command, matches })),
+        None => Ok(None),
     }
 }

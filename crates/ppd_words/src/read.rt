@@ -49,10 +49,7 @@ pub fn read_words<'a>(
         (Reads (texts_in longs.now) (texts_in names.now) (texts_in words.entry.now))) }
 {
     texts_law(words);
-    let command = match command_with(alloc, title, longs, names) {
-        Ok(command) => command,
-        Err(_) => return Err(Memory),
-    };
+    let command = command_with(alloc, title, longs, names)?;
     match command.try_get_matches_from(words) {
         Ok(matches) => Ok(Some(matches)),
         Err(error) => {

@@ -43,16 +43,10 @@ pub(crate) fn command_with<'a>(
         .disable_help_flag(true)
         .disable_version_flag(true);
     for long in longs {
-        match with_option(alloc, command, *long) {
-            Ok(more) => command = more,
-            Err(error) => return Err(error),
-        }
+        command = with_option(alloc, command, *long)?;
     }
     for name in names {
-        match with_name(alloc, command, *name) {
-            Ok(more) => command = more,
-            Err(error) => return Err(error),
-        }
+        command = with_name(alloc, command, *name)?;
     }
     Ok(command)
 }

@@ -17,19 +17,14 @@ use std::alloc::Global;
 fn push(entries: &mut Vec<Entry>, entry: Entry) -> Result<(), Memory>
     ensures { OnOk result (entries.new.items ≡ entries.old.items ++ entry ∷ []) }
 {
-    match entries.push(entry) {
-        Ok(()) => Ok(()),
-        Err(_) => Err(Memory),
-    }
+    entries.push(entry)?;
+    Ok(())
 }
 
 fn copy_cells(cells: &Cells) -> Result<Cells, Memory>
     ensures { IfOk result (λ copy. copy ≡ cells.now) }
 {
-    match cells.clone() {
-        Ok(copy) => Ok(copy),
-        Err(_) => Err(Memory),
-    }
+    Ok(cells.clone()?)
 }
 
 /// The values of a unit's cells.

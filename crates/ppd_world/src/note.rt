@@ -42,10 +42,8 @@ fn missing_at(cells: &[u16], cell: u16) -> Option<usize>
 fn extend(items: &mut Vec<u16>, more: &[u16]) -> Result<(), Memory>
     ensures { OnOk result (items.new.items ≡ items.old.items ++ more.now) }
 {
-    match items.extend_from_slice(more) {
-        Ok(()) => Ok(()),
-        Err(_) => Err(Memory),
-    }
+    items.extend_from_slice(more)?;
+    Ok(())
 }
 
 /// The cells with one more at this place.

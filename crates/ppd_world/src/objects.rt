@@ -106,10 +106,9 @@ pub(crate) fn take(sems: &mut Vec<Counts>, sem: u8)
     requires { All IsSmallSem sems.old.items }
     ensures { sems.new.items ≡ change one_taken sem sems.old.items }
 {
-    if sem as usize >= sems.len() {
-        return;
+    if let Some(counts) = sems.get_mut(sem as usize) {
+        take_one(counts);
     }
-    take_one(&mut sems[sem as usize]);
 }
 
 /// Counts one more giving of a semaphore that is there.
@@ -117,10 +116,9 @@ pub(crate) fn give(sems: &mut Vec<Counts>, sem: u8)
     requires { All IsSmallSem sems.old.items }
     ensures { sems.new.items ≡ change one_given sem sems.old.items }
 {
-    if sem as usize >= sems.len() {
-        return;
+    if let Some(counts) = sems.get_mut(sem as usize) {
+        give_one(counts);
     }
-    give_one(&mut sems[sem as usize]);
 }
 
 fn push_one(channel: &mut Channel, value: i64) -> Result<(), Memory>
@@ -149,20 +147,19 @@ pub(crate) fn push_value(chans: &mut Vec<Channel>, chan: u8, value: i64) -> Resu
     ensures ok { OnOk result (chans.new.items ≡ change (with_value value) chan chans.old.items) }
     ensures err { OnErr result (chans.new.items ≡ chans.old.items) }
 {
-    if chan as usize >= chans.len() {
-        return Ok(());
+    match chans.get_mut(chan as usize) {
+        Some(channel) => push_one(channel, value),
+        None => Ok(()),
     }
-    push_one(&mut chans[chan as usize], value)
 }
 
 /// Takes the last value off a channel that is there.
 pub(crate) fn drop_last(chans: &mut Vec<Channel>, chan: u8)
     ensures { chans.new.items ≡ change without_last chan chans.old.items }
 {
-    if chan as usize >= chans.len() {
-        return;
+    if let Some(channel) = chans.get_mut(chan as usize) {
+        drop_one(channel);
     }
-    drop_one(&mut chans[chan as usize]);
 }
 
 /// Counts one more receive from a channel that is there.
@@ -170,10 +167,9 @@ pub(crate) fn receive(chans: &mut Vec<Channel>, chan: u8)
     requires { All IsReceivable chans.old.items }
     ensures { chans.new.items ≡ change one_received chan chans.old.items }
 {
-    if chan as usize >= chans.len() {
-        return;
+    if let Some(channel) = chans.get_mut(chan as usize) {
+        receive_one(channel);
     }
-    receive_one(&mut chans[chan as usize]);
 }
 
 fn complete_one(channel: &mut Channel)
@@ -188,8 +184,7 @@ pub(crate) fn complete(chans: &mut Vec<Channel>, chan: u8)
     requires { All IsReceivable chans.old.items }
     ensures { chans.new.items ≡ change one_completed chan chans.old.items }
 {
-    if chan as usize >= chans.len() {
-        return;
+    if let Some(channel) = chans.get_mut(chan as usize) {
+        complete_one(channel);
     }
-    complete_one(&mut chans[chan as usize]);
 }

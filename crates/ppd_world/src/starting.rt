@@ -73,10 +73,8 @@ fn start_log(
 fn push_logging(loggings: &mut Vec<Logging>, logging: Logging) -> Result<(), Memory>
     ensures { OnOk result (loggings.new.items ≡ loggings.old.items ++ logging ∷ []) }
 {
-    match loggings.push(logging) {
-        Ok(()) => Ok(()),
-        Err(_) => Err(Memory),
-    }
+    loggings.push(logging)?;
+    Ok(())
 }
 
 /// The first processes, so many, with their logs before their first steps.
@@ -111,9 +109,7 @@ pub(crate) fn start_sems(alloc: Global, program: &Program) -> Result<Vec<Counts>
             given: sem.start,
             taken: 0,
         };
-        if sems.push(counts).is_err() {
-            return Err(Memory);
-        }
+        sems.push(counts)?;
     }
     Ok(sems)
 }
@@ -130,9 +126,7 @@ pub(crate) fn start_chans(alloc: Global, program: &Program) -> Result<Vec<Channe
             received: 0,
             completed: 0,
         };
-        if chans.push(channel).is_err() {
-            return Err(Memory);
-        }
+        chans.push(channel)?;
     }
     Ok(chans)
 }

@@ -41,10 +41,7 @@ impl<'a> Model for World<'a> {
 fn copy_values(values: &Nums) -> Result<Nums, Memory>
     ensures { IfOk result (λ copy. copy ≡ values.now) }
 {
-    match values.clone() {
-        Ok(copy) => Ok(copy),
-        Err(_) => Err(Memory),
-    }
+    Ok(values.clone()?)
 }
 
 /// How many processes a valid program has.
@@ -217,10 +214,8 @@ impl<'a> World<'a> {
         if !self.enabled(p) {
             return Err(DriveError::NotEnabled(index));
         }
-        match self.step(p) {
-            Ok(()) => Ok(()),
-            Err(_) => Err(DriveError::Memory),
-        }
+        self.step(p)?;
+        Ok(())
     }
 
     /// Takes the steps of a schedule, as far as each number names an enabled process.

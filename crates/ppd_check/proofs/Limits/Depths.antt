@@ -1,5 +1,5 @@
 -- What is read within the limits keeps the depth: how deep statements and the indexes of places stand in one another.
-use Rattle.std.proofs.Common.{◌≡◌, refl, sym, ap, ◌∙◌, ℕ, zero, suc, ◌+◌, ◌-◌, ◌≤◌, max, nat_lt, Bool, true, false, ◌&&◌, ◌||◌, List, [], ◌∷◌, arith}
+use Rattle.std.proofs.Common.{◌≡◌, refl, sym, ap, ◌∙◌, ℕ, zero, suc, ◌+◌, ◌-◌, ◌≤◌, max, nat_le, Bool, true, false, ◌&&◌, ◌||◌, List, [], ◌∷◌, arith}
 use Rattle.std.specs.Prelude.{⊤}
 use Rattle.std.proofs.lemmas.Bool.Decides.{nat_tests}
 use Rattle.ppd_parse.specs.declared.symbol.Level.TheVariants as L
@@ -58,7 +58,7 @@ inner_both : (m n d : ℕ) → (1 ≤ m → d ≤ 64) → (1 ≤ n → d ≤ 64)
 inner_both zero n d h i e = i (omega (arith, e))
 inner_both (suc m) n d h i e = h (omega arith)
 
-deeper_depth : (a : At) → (nat_lt a.depth 65 ≡ true → (deeper a).depth ≡ a.depth + 1) × (nat_lt a.depth 65 ≡ false → (deeper a).depth ≡ a.depth)
+deeper_depth : (a : At) → (nat_le a.depth 64 ≡ true → (deeper a).depth ≡ a.depth + 1) × (nat_le a.depth 64 ≡ false → (deeper a).depth ≡ a.depth)
 deeper_depth a = (λ e. rw e refl, λ e. rw e refl)
 
 none_far : (depth extra m : ℕ) → (1 ≤ m → depth ≤ 64) → 65 ≤ depth → m ≤ (64 + (extra - 1)) - depth
@@ -66,9 +66,9 @@ none_far depth extra zero h far = omega arith
 none_far depth extra (suc m) h far = absurd (omega (arith, far, h (omega arith)))
 
 bounded_within : (c : Rule → ℕ) (extra : ℕ) (reading : Bool) (a : At) (t : List Shape) (rest : List Marked) → Bounded c extra reading (deeper a) t rest → Bounded c (extra - 1) reading a t rest
-bounded_within c extra reading a t rest b = by (nat_lt a.depth 65) refl
+bounded_within c extra reading a t rest b = by (nat_le a.depth 64) refl
   where
-    by : (test : Bool) → nat_lt a.depth 65 ≡ test → Bounded c (extra - 1) reading a t rest
+    by : (test : Bool) → nat_le a.depth 64 ≡ test → Bounded c (extra - 1) reading a t rest
     by true e =
         let d : (deeper a).depth ≡ a.depth + 1 = (deeper_depth a).0 e in
         record { depths = b.depths; bound = omega (arith, b.bound, d); near = λ i. omega (arith, b.near i, d); inner = λ i. omega (arith, b.inner i, d) }

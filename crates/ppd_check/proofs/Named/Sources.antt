@@ -14,7 +14,7 @@ use Rattle.ppd_resolve.specs.declared.meaning.Meaning.TheVariants as M
 use Rattle.ppd_resolve.specs.Fitted.{as_byte, as_short}
 use Rattle.ppd_resolve.specs.Names.{Scope}
 use Rattle.ppd_lower.specs.Code as C
-use Rattle.ppd_lower.specs.Code.{Code, act, done}
+use Rattle.ppd_lower.specs.Code.{act, done}
 use Rattle.ppd_resolve.specs.Syntax.{Name, Item, shared, shared_array, semaphore, channel, function, process}
 use Rattle.ppd_lower.specs.Statements.{row_code, row_faults}
 use Rattle.ppd_resolve.specs.Frames.{variable_of, declared}

@@ -1,6 +1,5 @@
 -- The constants and start values of an accepted source's program have 64 bits.
 use Rattle.std.proofs.Common.{◌≡◌, ℕ, zero, suc, ◌+◌, ℤ, pos, negsuc, true, Bool, List, [], ◌∷◌, ◌++◌, None, refl, sym, ◌∙◌, subst, map, length, replicate, arith, w64, FitsSigned, if◌then◌else◌}
-use Rattle.std.specs.Prelude.{nat_lt, ⊤}
 use Rattle.std.specs.Prelude as P
 use Rattle.std.specs.List.{flat_map}
 use Rattle.std.proofs.lemmas.Bool.Decides.{nat_tests}
@@ -18,7 +17,7 @@ use Rattle.ppd_parse.specs.Leaves.{leaves}
 use Rattle.ppd_parse.specs.Limits.{IsTree}
 use Rattle.ppd_parse.proofs.TreeLeaves.{program_leaves}
 use Rattle.ppd_lower.specs.Code as C
-use Rattle.ppd_lower.specs.Code.{Act, Code, done, act, choice, loop, join, acts, Spot}
+use Rattle.ppd_lower.specs.Code.{Code, done, act, join}
 use Rattle.ppd_resolve.specs.Fitted.{as_short}
 use Rattle.ppd_resolve.specs.Names.{Scope}
 use Rattle.ppd_resolve.specs.Reading.{said, source_of, as_items, value_of}

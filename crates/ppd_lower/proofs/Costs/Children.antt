@@ -3,7 +3,7 @@ use Rattle.std.proofs.Common.{◌≡◌, ℕ, ◌+◌, ◌<◌, ◌≤◌, List,
 use Rattle.ppd_parse.specs.declared.node.Node.{Node}
 use Rattle.ppd_resolve.specs.Nodes.{children_of}
 use Rattle.ppd_resolve.specs.Cost.{total, plain_at, nested_at, plain_below, nested_below}
-use Rattle.ppd_resolve.proofs.Costs.{total_more, some_at, plain_all, nested_all, plain_part, nested_part}
+use Rattle.ppd_resolve.proofs.Table.Costs.{total_more, some_at, plain_all, nested_all, plain_part, nested_part}
 
 -- one child more
 pub next_child : (ns : List Node) (k : ℕ) (cs : List ℕ) → k < length cs

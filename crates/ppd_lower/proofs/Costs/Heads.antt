@@ -16,11 +16,11 @@ use Rattle.ppd_resolve.specs.Reading.{Phrase, last, as_names, as_block, all_said
 use Rattle.ppd_lower.specs.Statements.{row_code, after_row}
 use Rattle.ppd_resolve.specs.Syntax.{Row}
 use Rattle.ppd_lower.specs.Table.{stmts}
-use Rattle.ppd_resolve.proofs.Costs.{weigh_trees, total_apart, nodes_apart}
+use Rattle.ppd_resolve.proofs.Table.Costs.{weigh_trees, total_apart, nodes_apart}
 use Rattle.ppd_lower.proofs.Costs.Rows.{row_size, row_load}
 use Rattle.ppd_lower.proofs.Costs.Phrases.{children_said}
 use Rattle.ppd_lower.proofs.Costs.Tables.{row_holds}
-use Rattle.ppd_resolve.proofs.Trees.{all_said_forest}
+use Rattle.ppd_resolve.proofs.Table.Trees.{all_said_forest}
 use Rattle.ppd_lower.specs.Bodies.{entered}
 use Rattle.ppd_resolve.specs.Names.{Scope}
 use Rattle.ppd_lower.specs.Sources.{with_params}

@@ -5,7 +5,7 @@ use Rattle.ppd_ast.specs.declared.program.Place.{Place}
 use Rattle.ppd_parse.specs.declared.node.Node.{Node}
 use Rattle.ppd_lower.specs.declared.endings.Ending.{Ending}
 use Rattle.ppd_lower.specs.declared.endings.Ending.TheVariants.{Empty, Return, Other}
-use Rattle.ppd_lower.specs.Code.{Code, done, act}
+use Rattle.ppd_lower.specs.Code.{done, act}
 use Rattle.ppd_lower.specs.Code as C
 use Rattle.ppd_lower.specs.Endings.{with_rest, simple_ending, ending, close_by}
 use Rattle.ppd_resolve.specs.Nodes.{phrase_of, phrases_of, phrases_below, children_of}

@@ -33,11 +33,11 @@ use Rattle.ppd_resolve.specs.Frames.{after_cells, declared, twice_faults}
 use Rattle.ppd_resolve.specs.Syntax.{Name, Block}
 use Rattle.ppd_lower.specs.Table.{flats, terms, stmts, numbers}
 use Rattle.ppd_lower.specs.Writing.{Wrote, Walked}
-use Rattle.ppd_resolve.proofs.Counted.{end_cells, end_cells_more, past_cells_more}
+use Rattle.ppd_resolve.proofs.Declared.Counted.{end_cells, end_cells_more, past_cells_more}
 use Rattle.ppd_lower.proofs.Functions.Ended.{closed_by}
-use Rattle.ppd_resolve.proofs.First.{found_in_both, first_of_both_none}
+use Rattle.ppd_resolve.proofs.Found.First.{found_in_both, first_of_both_none}
 use Rattle.ppd_lower.proofs.Rows.Nested.{outer_declared, outer_row}
-use Rattle.ppd_resolve.proofs.Parameters.{params_append, joined_names}
+use Rattle.ppd_resolve.proofs.Declared.Parameters.{params_append, joined_names}
 use Rattle.ppd_lower.proofs.Functions.Returned.{PlainRow, plain_block, returns_told}
 use Rattle.ppd_lower.proofs.Table.Writing.{wrote_join, length_stmts}
 

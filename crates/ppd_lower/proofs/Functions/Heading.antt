@@ -17,7 +17,7 @@ use Rattle.ppd_resolve.specs.Nodes.{phrases_below}
 use Rattle.ppd_lower.specs.Sources.{head_code, head_faults, body, bodies, all_stmts}
 use Rattle.ppd_resolve.specs.Globals.{Head}
 use Rattle.ppd_lower.specs.Table.{flats, weights, terms, stmts}
-use Rattle.ppd_resolve.proofs.First.{found_in_both}
+use Rattle.ppd_resolve.proofs.Found.First.{found_in_both}
 use Rattle.ppd_lower.proofs.Table.Joined.{flats_append, weights_append}
 use Rattle.ppd_lower.proofs.Table.Writing.{length_flats, length_stmts}
 

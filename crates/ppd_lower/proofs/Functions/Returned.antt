@@ -35,7 +35,7 @@ use Rattle.ppd_resolve.specs.Syntax.{number, Value, plain, result, received, Sim
 use Rattle.ppd_resolve.specs.Syntax as S
 use Rattle.ppd_lower.specs.Table.{weight, weights, root, terms, act_terms, numbers, stmts, kind as kind_of}
 use Rattle.ppd_lower.proofs.Functions.Ended.{full_simple, full_other}
-use Rattle.ppd_resolve.proofs.First.{found_in_both}
+use Rattle.ppd_resolve.proofs.Found.First.{found_in_both}
 use Rattle.ppd_lower.proofs.Table.Joined.{stmts_join}
 use Rattle.ppd_lower.proofs.Rows.Walking.{join_assoc}
 

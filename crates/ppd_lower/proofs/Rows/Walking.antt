@@ -20,7 +20,7 @@ use Rattle.ppd_lower.specs.Statements.{code_of, code_of_any, faults_of, faults_o
 use Rattle.ppd_resolve.specs.Syntax.{Row, stop, simple, block, repeat}
 use Rattle.ppd_resolve.specs.Syntax as S
 use Rattle.ppd_lower.specs.Writing.{Wrote, WroteRow}
-use Rattle.ppd_resolve.proofs.First.{found_in_both}
+use Rattle.ppd_resolve.proofs.Found.First.{found_in_both}
 use Rattle.ppd_lower.proofs.Table.Flat.{length_flat}
 use Rattle.ppd_lower.proofs.Table.Joined.{terms_join, stmts_join}
 use Rattle.ppd_lower.proofs.Table.Writing.{wrote_join, wrote_nothing}

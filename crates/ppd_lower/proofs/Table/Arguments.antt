@@ -16,7 +16,7 @@ use Rattle.ppd_ast.specs.Term.{Term}
 use Rattle.ppd_lower.specs.Table.{weight, roots}
 use Rattle.ppd_lower.specs.Forms.{Added}
 use Rattle.ppd_lower.specs.Writing.{AddedAll, Argued}
-use Rattle.ppd_resolve.proofs.First.{found_in_both, first_of_both_none, first-swap}
+use Rattle.ppd_resolve.proofs.Found.First.{found_in_both, first_of_both_none, first-swap}
 use Rattle.ppd_lower.proofs.Table.Writing.{added_none, added_first, added_join}
 
 pub argued_none : (ns : List Node) (s : List Scope) (old : List Expr) (ids : List ℕ) (found : Option Fault) → Argued ns s [] old old ids ids found found

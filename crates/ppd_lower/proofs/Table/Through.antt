@@ -16,7 +16,7 @@ use Rattle.ppd_lower.specs.Statements.{spot_of, put, value_faults}
 use Rattle.ppd_resolve.specs.Frames.{with_hidden}
 use Rattle.ppd_resolve.specs.Syntax.{Goal, Value}
 use Rattle.ppd_lower.specs.Writing.{Wrote, WroteAct}
-use Rattle.ppd_resolve.proofs.First.{first-swap}
+use Rattle.ppd_resolve.proofs.Found.First.{first-swap}
 use Rattle.ppd_lower.proofs.Table.Writing.{wrote_join}
 
 -- the order in which the broken rules are named does not matter

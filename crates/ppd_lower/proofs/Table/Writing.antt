@@ -13,7 +13,7 @@ use Rattle.ppd_lower.specs.Code.{Act, Code, done, act, choice, loop, join, count
 use Rattle.ppd_lower.specs.Table.{weight, weights, flat, flats, root, roots, terms, act_terms, kind, numbers, stmts}
 use Rattle.ppd_lower.specs.Forms.{Added}
 use Rattle.ppd_lower.specs.Writing.{Wrote, AddedAll}
-use Rattle.ppd_resolve.proofs.First.{found_in_both, first_of_both_none}
+use Rattle.ppd_resolve.proofs.Found.First.{found_in_both, first_of_both_none}
 use Rattle.ppd_lower.proofs.Table.Flat.{length_flat}
 use Rattle.ppd_lower.proofs.Table.Joined.{flats_append, terms_join, numbers_join, stmts_join}
 

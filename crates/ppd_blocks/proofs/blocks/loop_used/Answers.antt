@@ -1,4 +1,4 @@
-use Rattle.std.proofs.Common.{◌∙◌, sym}
+use Rattle.std.proofs.Common.{◌∙◌}
 use Rattle.ppd_blocks.proofs.Filling.{used_row, used_none}
 use Rattle.ppd_blocks.proofs.blocks.loop_used.Goals as goal
 

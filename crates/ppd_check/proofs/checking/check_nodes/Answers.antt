@@ -7,7 +7,7 @@ use Rattle.ppd_resolve.specs.Globals.{globals}
 use Rattle.ppd_check.proofs.Sourced.{parts_of, parts_found, parts_table}
 use Rattle.ppd_resolve.specs.declared.frame.Variable.{Variable}
 use Rattle.ppd_check.proofs.CheckCosts.{root_few, source_few, all_few}
-use Rattle.ppd_resolve.proofs.DeclaredCosts.{heads_apart}
+use Rattle.ppd_resolve.proofs.Declared.Costs.{heads_apart}
 use Rattle.ppd_check.proofs.checking.check_nodes.Goals as goal
 
 pub returns-clause-found : goal.returns-clause-found

@@ -3,12 +3,12 @@ use Rattle.ppd_flow.proofs.item.edges_found.Goals as goal
 
 pub returns-then-item-items : goal.returns-then-item-items
 returns-then-item-items g c =
-    no_item c.args.past.now c.args.process c.args.interval c.args.item c.args.steps.now c.items.new.steps c.in-Ok.items c.in-Ok.ensures
-    (none_there c.as_slice-items.result.now c.in-Ok.items c.args.item c.as_slice-items.ensures c.if-item-items.true)
+    no_item c.args.past.now c.args.process c.args.interval c.args.item c.args.steps.now c.items.new.steps c.in_ok-items.items c.in_ok-items.ensures
+    (none_there c.as_slice-items.result.now c.in_ok-items.items c.args.item c.as_slice-items.ensures c.if-item-items.true)
 
 pub returns : goal.returns
 returns g c =
-    an_item c.args.past.now c.args.process c.args.interval c.args.item c.args.steps.now c.items.new.steps c.in-Ok.items c.in-Ok.ensures
+    an_item c.args.past.now c.args.process c.args.interval c.args.item c.args.steps.now c.items.new.steps c.in_ok-items.items c.in_ok-items.ensures
     c.index-items-item.result c.item_edges.new.steps c.item_edges.result
-    (item_there c.as_slice-items.result.now c.in-Ok.items c.args.item c.index-items-item.result c.as_slice-items.ensures c.if-item-items.false c.index-items-item.is)
+    (item_there c.as_slice-items.result.now c.in_ok-items.items c.args.item c.index-items-item.result c.as_slice-items.ensures c.if-item-items.false c.index-items-item.is)
     c.item_edges.ensures

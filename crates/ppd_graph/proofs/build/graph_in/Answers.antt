@@ -1,8 +1,8 @@
-use Rattle.std.proofs.Common.{rules, arith, ◌≡◌, ℕ, ◌+◌, ◌^◌, ◌<◌, None, ap, sym, subst, ◌∙◌, length, map}
+use Rattle.std.proofs.Common.{rules, arith, ℕ, ◌^◌, ◌<◌, None, ap, sym, subst, ◌∙◌, length, map}
 use Rattle.ppd_graph.specs.Cycles.{AllWait, IsRoundsCycle}
 use Rattle.ppd_graph.specs.Graphs.{IsGraphOf}
 use Rattle.ppd_graph.specs.LogRecord.{sets_from}
-use Rattle.ppd_graph.specs.Times.{AreTimed, HasAll, IsReady, own_pairs, own_times}
+use Rattle.ppd_graph.specs.Times.{AreTimed, HasAll, IsReady, own_times}
 use Rattle.std.specs.List.{sum_by}
 use Rattle.ppd_graph.specs.Spending.{list_cost, times_cost}
 use Rattle.ppd_graph.proofs.Counted.{graph_spent}

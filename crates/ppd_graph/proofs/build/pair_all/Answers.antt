@@ -1,4 +1,4 @@
-use Rattle.std.proofs.Common.{arith, length, ap, sym, subst, ◌∙◌, filter_map, map}
+use Rattle.std.proofs.Common.{arith, length, ap, subst, ◌∙◌, filter_map, map}
 use Rattle.ppd_graph.specs.ByNumber.{KeepsAll, partner_kept}
 use Rattle.ppd_model.specs.RecordedSets.{sync_in}
 use Rattle.ppd_graph.specs.Refusals.{placed_lists}

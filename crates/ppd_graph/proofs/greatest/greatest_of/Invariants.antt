@@ -1,5 +1,5 @@
 use Rattle.std.proofs.Common.{◌≡◌, ℕ, drop, get_or, length, map, ◌+◌, ◌≤◌}
-use Rattle.ppd_graph.specs.declared.limits.TheConstants.{MOST_NAMED}
+use Rattle.ppd_ast.specs.declared.limits.TheConstants.{MOST_NAMED}
 use Rattle.ppd_graph.specs.Refusals.{greatest, numbers_of, sync_placed}
 use Rattle.ppd_graph.proofs.greatest.greatest_of.Given as goal
 

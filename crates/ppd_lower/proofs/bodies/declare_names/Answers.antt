@@ -1,7 +1,7 @@
 use Rattle.std.proofs.Common.{arith}
 use Rattle.ppd_resolve.specs.Nodes.{phrases_below}
 use Rattle.ppd_lower.proofs.Functions.Filling.{parametered_more, parametered_whole}
-use Rattle.ppd_resolve.proofs.Parameters.{below_count}
+use Rattle.ppd_resolve.proofs.Declared.Parameters.{below_count}
 use Rattle.ppd_lower.proofs.bodies.declare_names.Goals as goal
 
 pub loop-k-preserved : goal.loop-k-preserved

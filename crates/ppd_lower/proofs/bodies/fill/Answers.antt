@@ -1,7 +1,7 @@
 use Rattle.std.proofs.Common.{◌∙◌, ap, drop, arith, length, ◌≡◌, ◌≤◌, ◌+◌, ◌*◌}
 use Rattle.ppd_resolve.specs.Nodes.{phrases_below}
 use Rattle.ppd_lower.proofs.Functions.Filling.{filled_from}
-use Rattle.ppd_resolve.proofs.Outcomes.{ok_map}
+use Rattle.ppd_resolve.proofs.Found.Outcomes.{ok_map}
 use Rattle.ppd_lower.specs.Bodies.{block_at}
 use Rattle.ppd_resolve.specs.Cost.{plain_below, nested_below}
 use Rattle.ppd_resolve.specs.Reading.{last, as_block}

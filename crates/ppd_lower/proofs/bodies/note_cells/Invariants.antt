@@ -3,7 +3,7 @@ use Rattle.ppd_ast.specs.declared.limits.TheConstants.{MOST_LOCAL_CELLS}
 use Rattle.ppd_resolve.specs.declared.fault.Limit.TheVariants.{Locals}
 use Rattle.ppd_resolve.specs.Faults.{first, first_of_both}
 use Rattle.ppd_resolve.specs.Globals.{past_cells}
-use Rattle.ppd_resolve.proofs.Counted.{end_cells}
+use Rattle.ppd_resolve.proofs.Declared.Counted.{end_cells}
 use Rattle.ppd_lower.proofs.bodies.note_cells.Given as goal
 
 -- the variables before, and the first cell after them

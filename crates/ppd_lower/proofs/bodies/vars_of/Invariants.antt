@@ -1,6 +1,6 @@
 use Rattle.std.proofs.Common.{◌≡◌, take, ◌≤◌, ◌+◌, ◌*◌}
 use Rattle.ppd_lower.specs.Sources.{vars}
-use Rattle.ppd_resolve.proofs.Counted.{end_cells}
+use Rattle.ppd_resolve.proofs.Declared.Counted.{end_cells}
 use Rattle.ppd_lower.proofs.bodies.vars_of.Given as goal
 
 -- the variables before, and the first cell after them

@@ -10,7 +10,7 @@ use Rattle.ppd_ast.specs.declared.limits.TheConstants.{MOST_LOCAL_CELLS}
 use Rattle.ppd_resolve.specs.declared.fault.Limit.TheVariants as L
 use Rattle.ppd_resolve.specs.declared.frame.Variable.{Variable}
 use Rattle.std.proofs.Common.{ℕ, List}
-use Rattle.ppd_resolve.proofs.Costs.{nodes_step}
+use Rattle.ppd_resolve.proofs.Table.Costs.{nodes_step}
 use Rattle.ppd_lower.proofs.Functions.Filling.{body_from, filled_row, scopes_after}
 use Rattle.ppd_lower.proofs.Costs.Heads.{body_few}
 use Rattle.ppd_lower.proofs.bodies.write_head.Goals as goal

@@ -6,7 +6,7 @@ use Rattle.ppd_resolve.specs.Names.{innermost, Scope}
 use Rattle.ppd_resolve.specs.Nodes.{phrases_below}
 use Rattle.ppd_lower.proofs.Functions.Heading.{heads_next, heads_all}
 use Rattle.ppd_resolve.specs.Cost.{nodes_at}
-use Rattle.ppd_resolve.proofs.Costs.{total_more, some_nodes_at, total_all, total_part}
+use Rattle.ppd_resolve.proofs.Table.Costs.{total_more, some_nodes_at, total_all, total_part}
 use Rattle.ppd_lower.proofs.bodies.write_heads.Goals as goal
 
 pub loop-id-preserved : goal.loop-id-preserved

@@ -1,5 +1,5 @@
 use Rattle.std.proofs.Common.{arith}
-use Rattle.ppd_resolve.proofs.Costs.{children_few}
+use Rattle.ppd_resolve.proofs.Table.Costs.{children_few}
 use Rattle.ppd_lower.proofs.endings.ending_of_node.Goals as goal
 
 pub returns-in-Local-clause-cost : goal.returns-in-Local-clause-cost

@@ -1,5 +1,5 @@
 use Rattle.std.proofs.Common.{arith}
-use Rattle.ppd_resolve.proofs.Costs.{plain_two}
+use Rattle.ppd_resolve.proofs.Table.Costs.{plain_two}
 use Rattle.ppd_lower.proofs.forms.binary_form.Goals as goal
 
 pub returns-clause-nodes : goal.returns-clause-nodes

@@ -5,7 +5,7 @@ use Rattle.ppd_lower.specs.Expressions.{term_of, formula_faults, name_faults, re
 use Rattle.ppd_resolve.specs.Faults.{first, first_of_both}
 use Rattle.ppd_resolve.specs.Names.{fits}
 use Rattle.ppd_lower.proofs.Table.Flat.{added_element, added_negated, added_inverted, added_joined, with_ok, on_ok, faults_joined}
-use Rattle.ppd_resolve.proofs.First.{found_in_both}
+use Rattle.ppd_resolve.proofs.Found.First.{found_in_both}
 use Rattle.ppd_lower.proofs.formulas.+formula.Goals as goal
 
 pub formula_at-returns-in_ok-at-in-Element-clause-added : goal.formula_at-returns-in_ok-at-in-Element-clause-added

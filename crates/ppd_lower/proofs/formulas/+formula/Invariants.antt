@@ -1,5 +1,5 @@
 use Rattle.std.proofs.Common.{◌-◌, ◌*◌, length}
-use Rattle.ppd_resolve.proofs.Trees.{left_at}
+use Rattle.ppd_resolve.proofs.Table.Trees.{left_at}
 use Rattle.ppd_lower.proofs.formulas.+formula.Given as goal
 
 abbrev pub decreases-formula : goal.decreases-formula

@@ -5,7 +5,7 @@ use Rattle.ppd_resolve.specs.Reading.{goal_formula}
 use Rattle.ppd_resolve.specs.Nodes.{label_name, operand_formula}
 use Rattle.ppd_lower.specs.Values.{goal_said}
 use Rattle.ppd_lower.specs.Expressions.{formula_faults, name_faults}
-use Rattle.ppd_resolve.proofs.First.{found_in_both}
+use Rattle.ppd_resolve.proofs.Found.First.{found_in_both}
 use Rattle.ppd_lower.proofs.stores.write_spot.Goals as goal
 
 pub returns-in_ok-at-in-Item-clause-faults : goal.returns-in_ok-at-in-Item-clause-faults

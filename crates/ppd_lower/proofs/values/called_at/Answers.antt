@@ -1,7 +1,7 @@
 use Rattle.std.proofs.Common.{◌∙◌, ap, sym}
 use Rattle.ppd_resolve.specs.Reading.{called}
 use Rattle.ppd_resolve.specs.Nodes.{phrase_of, phrases_below}
-use Rattle.ppd_resolve.proofs.Trees.{called_other}
+use Rattle.ppd_resolve.proofs.Table.Trees.{called_other}
 use Rattle.ppd_lower.proofs.values.called_at.Goals as goal
 
 pub returns-in_default-clause-value : goal.returns-in_default-clause-value

@@ -1,7 +1,7 @@
 use Rattle.std.proofs.Common.{◌∙◌, ap, sym}
 use Rattle.ppd_resolve.specs.Reading.{as_goal}
 use Rattle.ppd_resolve.specs.Nodes.{phrase_of, phrases_below}
-use Rattle.ppd_resolve.proofs.Trees.{goal_other}
+use Rattle.ppd_resolve.proofs.Table.Trees.{goal_other}
 use Rattle.ppd_lower.proofs.values.goal_at.Goals as goal
 
 pub returns-in_default-clause-goal : goal.returns-in_default-clause-goal

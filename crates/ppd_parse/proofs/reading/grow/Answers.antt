@@ -1,10 +1,13 @@
-use Rattle.std.proofs.Common.{◌≡◌, ◌≤◌, List, sym, ap, subst, reverse, length, rules, ◌∷◌, [], Ok, Err, arith}
+use Rattle.std.specs.Prelude.{IsErrAnd}
+use Rattle.std.proofs.Common.{◌≡◌, ◌≤◌, List, sym, ap, subst, reverse, length, rules, ◌∷◌, [], Result, Ok, Err, IfErr, arith}
 use Rattle.ppd_lex.specs.declared.token.Token.{Token}
+use Rattle.ppd_parse.specs.declared.error.SyntaxError.{SyntaxError}
+use Rattle.ppd_parse.specs.declared.growth.Grove.{Grove}
 use Rattle.ppd_parse.specs.declared.symbol.Symbol.TheVariants as S
 use Rattle.ppd_parse.specs.declared.symbol.Want.{Want}
 use Rattle.ppd_parse.specs.declared.symbol.Want.TheVariants.{Get}
 use Rattle.ppd_parse.specs.Grammar.{outside}
-use Rattle.ppd_parse.specs.Limits.{Stepped, token_at}
+use Rattle.ppd_parse.specs.Limits.{IsRefused, Stepped, token_at}
 use Rattle.ppd_parse.specs.Machine.{state_of}
 use Rattle.ppd_parse.specs.Rank.{rank}
 use Rattle.ppd_parse.specs.Table.{shapes_of}
@@ -13,6 +16,10 @@ use Rattle.ppd_parse.proofs.reading.grow.Goals as goal
 
 source : Want
 source = Get S.Source outside 0
+
+handed_on : (ts : List Token) (r : Result Grove SyntaxError) (e : SyntaxError) → IsErrAnd r (λ x. x ≡ e) → IsRefused ts e → IfErr r (λ x. IsRefused ts x)
+handed_on ts (Ok g) e h d = tt
+handed_on ts (Err x) e h d = subst (IsRefused ts) (sym h) d
 
 pub loop-token-init : goal.loop-token-init
 unfolding source
@@ -34,21 +41,22 @@ loop-token-preserved g c =
     let b = state_of c.step.new.wants.items c.step.new.grove in
     let t : c.token-item.result ≡ token_at ts i = told ts i c.token-item.result c.loop-token-test.true c.token-item.is in
     record {
-      read = read_next ts i c.loop-token.count a b c.loop-token-test.true c.loop-token.invariant.read c.in-Ok.next c.requires.ends (subst (λ (x : Token). Stepped c.loop-token.count x (Ok c.in-Ok.next) a b) t c.in-Ok.ensures.stepped);
-      spent = omega (arith, c.loop-token.invariant.spent, c.in-Ok.ensures.paid);
-      held = c.in-Ok.ensures.held;
-      room = omega (arith, c.loop-token.invariant.room, c.in-Ok.ensures.room);
-      later = omega (arith, c.loop-token.invariant.later, c.in-Ok.ensures.later);
+      read = read_next ts i c.loop-token.count a b c.loop-token-test.true c.loop-token.invariant.read c.in_ok-count.count c.requires.ends (subst (λ (x : Token). Stepped c.loop-token.count x (Ok c.in_ok-count.count) a b) t c.in_ok-count.ensures.stepped);
+      spent = omega (arith, c.loop-token.invariant.spent, c.in_ok-count.ensures.paid);
+      held = c.in_ok-count.ensures.held;
+      room = omega (arith, c.loop-token.invariant.room, c.in_ok-count.ensures.room);
+      later = omega (arith, c.loop-token.invariant.later, c.in_ok-count.ensures.later);
     }
 
-pub returns-in-Err-clause-refused : goal.returns-in-Err-clause-refused
-returns-in-Err-clause-refused g c =
+pub returns-in_err-count-clause-refused : goal.returns-in_err-count-clause-refused
+returns-in_err-count-clause-refused g c =
     let ts = c.args.tokens.now in
     let i = c.loop-token.token-index in
     let a = state_of c.loop-token.wants.items c.loop-token.grove in
     let b = state_of c.step.new.wants.items c.step.new.grove in
     let t : c.token-item.result ≡ token_at ts i = told ts i c.token-item.result c.loop-token-test.true c.token-item.is in
-    read_refused ts i c.loop-token.count a b c.loop-token-test.true c.loop-token.invariant.read c.in-Err.error (subst (λ (x : Token). Stepped c.loop-token.count x (Err c.in-Err.error) a b) t c.in-Err.ensures.stepped)
+    handed_on ts c.from_residual-in_err-count.result c.in_err-count.field-0.0 c.from_residual-in_err-count.ensures.1
+    (read_refused ts i c.loop-token.count a b c.loop-token-test.true c.loop-token.invariant.read c.in_err-count.field-0.0 (subst (λ (x : Token). Stepped c.loop-token.count x (Err c.in_err-count.field-0.0) a b) t c.in_err-count.ensures.stepped))
 
 pub returns-clause-tree : goal.returns-clause-tree
 returns-clause-tree g c =

@@ -1,12 +1,12 @@
 use Rattle.std.proofs.Common.{arith, ap, subst, get_or, length, ◌<◌}
 use Rattle.std.proofs.lemmas.List.{get_or_default}
-use Rattle.ppd_resolve.proofs.DeclaredCosts.{left_same, heads_same, heads_function, heads_process, ok_any, phrases_few}
-use Rattle.ppd_resolve.proofs.Costs.{walked_all, walked_more, walked_part, nodes_apart, nodes_step, some_nodes_at}
+use Rattle.ppd_resolve.proofs.Declared.Costs.{left_same, heads_same, heads_function, heads_process, ok_any, phrases_few}
+use Rattle.ppd_resolve.proofs.Table.Costs.{walked_all, walked_more, walked_part, nodes_apart, nodes_step, some_nodes_at}
 use Rattle.ppd_resolve.specs.declared.globals.Globals.{Globals}
 use Rattle.ppd_resolve.specs.Nodes.{SaysBy, label_name, phrase_of, phrases_below}
-use Rattle.ppd_resolve.proofs.Outcomes.{both_ok, ok_map}
-use Rattle.ppd_resolve.proofs.Parameters.{declares_process_at}
-use Rattle.ppd_resolve.proofs.Walks.{declares_next, declares_below}
+use Rattle.ppd_resolve.proofs.Found.Outcomes.{both_ok, ok_map}
+use Rattle.ppd_resolve.proofs.Declared.Parameters.{declares_process_at}
+use Rattle.ppd_resolve.proofs.Declared.Walks.{declares_next, declares_below}
 use Rattle.ppd_resolve.proofs.collecting.+declarations.Goals as goal
 
 pub declare_below-loop-child-preserved : goal.declare_below-loop-child-preserved

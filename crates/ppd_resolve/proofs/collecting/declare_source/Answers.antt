@@ -1,9 +1,9 @@
 use Rattle.ppd_resolve.specs.Reading.{as_items}
 use Rattle.ppd_resolve.specs.Nodes.{phrase_of}
-use Rattle.ppd_resolve.proofs.Walks.{noted_source}
+use Rattle.ppd_resolve.proofs.Declared.Walks.{noted_source}
 use Rattle.std.proofs.Common.{arith, ap}
 use Rattle.ppd_resolve.specs.Cost.{starts_left, heads_nodes}
-use Rattle.ppd_resolve.proofs.DeclaredCosts.{left_nothing, heads_nothing}
+use Rattle.ppd_resolve.proofs.Declared.Costs.{left_nothing, heads_nothing}
 use Rattle.ppd_resolve.proofs.collecting.declare_source.Goals as goal
 
 pub returns-clause-faults : goal.returns-clause-faults

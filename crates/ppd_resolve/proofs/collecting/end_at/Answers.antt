@@ -1,7 +1,7 @@
 use Rattle.std.proofs.Common.{rules, ◌≡◌, ◌∙◌, ap, ◌-◌, length, Some, None}
 use Rattle.ppd_resolve.specs.Reading.{place_at}
 use Rattle.ppd_resolve.specs.Nodes.{phrases_below}
-use Rattle.ppd_resolve.proofs.Roots.{end_told}
+use Rattle.ppd_resolve.proofs.Table.Roots.{end_told}
 use Rattle.ppd_resolve.proofs.collecting.end_at.Goals as goal
 
 pub returns-in-Some : goal.returns-in-Some

@@ -3,7 +3,7 @@ use Rattle.ppd_resolve.specs.Syntax.{Item}
 use Rattle.ppd_resolve.specs.Faults.{first, first_of_both}
 use Rattle.ppd_resolve.specs.Holding.{Holds}
 use Rattle.ppd_resolve.specs.Globals.{no_globals, with_items, items_faults, count_faults}
-use Rattle.ppd_resolve.proofs.Roots.{items_root}
+use Rattle.ppd_resolve.proofs.Table.Roots.{items_root}
 use Rattle.ppd_resolve.proofs.collecting.globals_of.Goals as goal
 
 pub returns-clause-holds : goal.returns-clause-holds

@@ -1,7 +1,7 @@
 use Rattle.std.proofs.Common.{◌∙◌, ap, nat_lt, length}
 use Rattle.ppd_resolve.specs.declared.fault.Cause.TheVariants.{NoProcess}
 use Rattle.ppd_resolve.specs.Faults.{first, first_of_both, unless}
-use Rattle.ppd_resolve.proofs.Walks.{processes_held}
+use Rattle.ppd_resolve.proofs.Declared.Walks.{processes_held}
 use Rattle.ppd_resolve.proofs.collecting.note_no_process.Goals as goal
 
 pub returns : goal.returns

@@ -1,5 +1,5 @@
 use Rattle.std.proofs.Common.{arith, ap, ◌≡◌, ◌≤◌, Some}
-use Rattle.ppd_resolve.proofs.DeclaredCosts.{left_filled}
+use Rattle.ppd_resolve.proofs.Declared.Costs.{left_filled}
 use Rattle.ppd_ast.specs.declared.limits.TheConstants.{MOST_SHARED_CELLS}
 use Rattle.ppd_resolve.specs.declared.globals.Globals.{Globals}
 use Rattle.ppd_resolve.specs.Frames.{after_cells}

@@ -3,7 +3,7 @@ use Rattle.ppd_resolve.specs.declared.fault.Cause.TheVariants.{BadSize}
 use Rattle.ppd_resolve.specs.Faults.{first, first_of_both, unless}
 use Rattle.ppd_resolve.specs.Items.{size_number}
 use Rattle.ppd_resolve.specs.Nodes.{label_name}
-use Rattle.ppd_resolve.proofs.Declarations.{declares_numbered}
+use Rattle.ppd_resolve.proofs.Declared.Declarations.{declares_numbered}
 use Rattle.ppd_resolve.proofs.items.declare_numbered.Goals as goal
 
 pub returns-clause-declares : goal.returns-clause-declares

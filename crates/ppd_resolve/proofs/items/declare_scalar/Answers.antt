@@ -1,7 +1,7 @@
 use Rattle.std.proofs.Common.{rules, FitsSigned, w64}
 use Rattle.std.proofs.lemmas.Int.{to_z-of_z}
 use Rattle.ppd_resolve.specs.Nodes.{label_name}
-use Rattle.ppd_resolve.proofs.Declarations.{declares_scalar}
+use Rattle.ppd_resolve.proofs.Declared.Declarations.{declares_scalar}
 use Rattle.ppd_resolve.proofs.items.declare_scalar.Goals as goal
 
 pub returns-clause-declares : goal.returns-clause-declares

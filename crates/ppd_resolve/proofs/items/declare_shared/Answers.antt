@@ -4,8 +4,8 @@ use Rattle.ppd_parse.specs.declared.node.Node.{Node}
 use Rattle.ppd_resolve.specs.Syntax.{Item}
 use Rattle.ppd_resolve.specs.Nodes.{label_name, phrases_below}
 use Rattle.ppd_resolve.specs.Holding.{Declares}
-use Rattle.ppd_resolve.proofs.Listing.{shared_scalar}
-use Rattle.ppd_resolve.proofs.DeclaredCosts.{left_less}
+use Rattle.ppd_resolve.proofs.Table.Listing.{shared_scalar}
+use Rattle.ppd_resolve.proofs.Declared.Costs.{left_less}
 use Rattle.ppd_resolve.proofs.items.declare_shared.Goals as goal
 
 pub returns-in_default-clause-declares : goal.returns-in_default-clause-declares

@@ -1,5 +1,5 @@
-use Rattle.ppd_resolve.proofs.Costs.{plain_child_told, nested_child_told, plain_one, nested_one}
-use Rattle.ppd_resolve.proofs.Trees.{child_said}
+use Rattle.ppd_resolve.proofs.Table.Costs.{plain_child_told, nested_child_told, plain_one, nested_one}
+use Rattle.ppd_resolve.proofs.Table.Trees.{child_said}
 use Rattle.ppd_resolve.proofs.nodes.child_at.Goals as goal
 
 pub returns-clause-said : goal.returns-clause-said

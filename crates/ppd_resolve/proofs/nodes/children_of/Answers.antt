@@ -1,7 +1,7 @@
 use Rattle.std.proofs.Common.{sym, subst, ◌∙◌, ◌≤◌, ◌+◌, ℕ, List, length, get_or}
 use Rattle.ppd_resolve.specs.Cost.{plain_below, nested_below}
-use Rattle.ppd_resolve.proofs.Costs.{children_few, get_or_again}
-use Rattle.ppd_resolve.proofs.Trees.{children_read}
+use Rattle.ppd_resolve.proofs.Table.Costs.{children_few, get_or_again}
+use Rattle.ppd_resolve.proofs.Table.Trees.{children_read}
 use Rattle.ppd_resolve.proofs.nodes.children_of.Goals as goal
 
 pub returns-clause-few : goal.returns-clause-few

@@ -1,6 +1,6 @@
 use Rattle.std.proofs.Common.{sym, ap, Some, None}
 use Rattle.ppd_resolve.specs.Reading.{as_formula}
-use Rattle.ppd_resolve.proofs.Trees.{phrase_below}
+use Rattle.ppd_resolve.proofs.Table.Trees.{phrase_below}
 use Rattle.ppd_resolve.proofs.nodes.operand_at.Goals as goal
 
 pub returns-in-Some-clause-formula : goal.returns-in-Some-clause-formula

@@ -1,8 +1,8 @@
 use Rattle.std.proofs.Common.{subst, ◌≡◌, ◌+◌}
 use Rattle.ppd_parse.specs.declared.node.Node.{Node}
 use Rattle.ppd_resolve.specs.Nodes.{phrase_of, phrases_below, SaysBy}
-use Rattle.ppd_resolve.proofs.Costs.{plain_told, nested_told}
-use Rattle.ppd_resolve.proofs.Trees.{says_by}
+use Rattle.ppd_resolve.proofs.Table.Costs.{plain_told, nested_told}
+use Rattle.ppd_resolve.proofs.Table.Trees.{says_by}
 use Rattle.ppd_resolve.specs.Cost.{plain_at, nested_at, plain_by, nested_by, plain_below, nested_below}
 use Rattle.ppd_resolve.proofs.nodes.rule_of.Goals as goal
 

@@ -1,6 +1,6 @@
 use Rattle.std.proofs.Common.{ap, Some, None}
 use Rattle.ppd_resolve.specs.Reading.{as_token}
-use Rattle.ppd_resolve.proofs.Trees.{phrase_below, token_told}
+use Rattle.ppd_resolve.proofs.Table.Trees.{phrase_below, token_told}
 use Rattle.ppd_resolve.proofs.nodes.token_at.Goals as goal
 
 pub returns-in-Some : goal.returns-in-Some

@@ -1,5 +1,5 @@
 use Rattle.std.proofs.Common.{rules}
-use Rattle.ppd_resolve.proofs.Listing.{count_below}
+use Rattle.ppd_resolve.proofs.Table.Listing.{count_below}
 use Rattle.ppd_resolve.proofs.objects.count_children.Goals as goal
 
 pub returns-in-Ok : goal.returns-in-Ok

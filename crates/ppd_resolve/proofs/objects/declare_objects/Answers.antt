@@ -2,7 +2,7 @@ use Rattle.std.proofs.Common.{arith, subst, ◌∙◌}
 use Rattle.ppd_resolve.specs.Holding.{Declares}
 use Rattle.ppd_resolve.specs.Nodes.{phrases_below}
 use Rattle.ppd_resolve.specs.Items.{numbered_item}
-use Rattle.ppd_resolve.proofs.Listing.{declares_more, declares_all}
+use Rattle.ppd_resolve.proofs.Table.Listing.{declares_more, declares_all}
 use Rattle.ppd_resolve.proofs.objects.declare_objects.Goals as goal
 
 pub loop-k-preserved : goal.loop-k-preserved

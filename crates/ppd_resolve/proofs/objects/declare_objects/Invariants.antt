@@ -1,9 +1,9 @@
-use Rattle.std.proofs.Common.{List, ◌≡◌, ◌≤◌, ◌+◌, ◌*◌}
+use Rattle.std.proofs.Common.{List, ◌≤◌, ◌+◌, ◌*◌}
 use Rattle.ppd_parse.specs.declared.node.Node.{Node}
 use Rattle.ppd_resolve.specs.Nodes.{phrases_below}
 use Rattle.ppd_resolve.specs.Items.{numbered_item}
 use Rattle.ppd_resolve.specs.Holding.{Declares}
-use Rattle.ppd_resolve.proofs.Listing.{first_numbered}
+use Rattle.ppd_resolve.proofs.Table.Listing.{first_numbered}
 use Rattle.ppd_resolve.specs.Cost.{SameHeads, starts_left}
 use Rattle.ppd_resolve.proofs.objects.declare_objects.Given as goal
 

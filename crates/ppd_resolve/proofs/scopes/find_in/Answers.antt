@@ -1,5 +1,5 @@
 use Rattle.std.proofs.Common.{sym, ◌∙◌, arith, Some, None}
-use Rattle.ppd_resolve.proofs.Lookup.{meaning_at}
+use Rattle.ppd_resolve.proofs.Found.Lookup.{meaning_at}
 use Rattle.ppd_resolve.proofs.scopes.find_in.Goals as goal
 
 pub returns-in-Some : goal.returns-in-Some

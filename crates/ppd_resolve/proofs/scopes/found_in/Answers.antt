@@ -1,5 +1,5 @@
 use Rattle.std.proofs.Common.{◌∙◌, sym}
-use Rattle.ppd_resolve.proofs.Lookup.{found_get}
+use Rattle.ppd_resolve.proofs.Found.Lookup.{found_get}
 use Rattle.ppd_resolve.proofs.scopes.found_in.Goals as goal
 
 pub returns : goal.returns

@@ -1,6 +1,6 @@
 use Rattle.std.proofs.Common.{arith}
 use Rattle.ppd_resolve.specs.Nodes.{phrases_below}
-use Rattle.ppd_resolve.proofs.Parameters.{names_more, names_all, below_count}
+use Rattle.ppd_resolve.proofs.Declared.Parameters.{names_more, names_all, below_count}
 use Rattle.ppd_resolve.proofs.signatures.count_names.Goals as goal
 
 pub loop-k-preserved : goal.loop-k-preserved

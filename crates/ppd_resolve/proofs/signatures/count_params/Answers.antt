@@ -1,6 +1,6 @@
 use Rattle.std.proofs.Common.{arith, get_or, length, ◌<◌}
-use Rattle.ppd_resolve.proofs.Parameters.{params_all, params_more}
-use Rattle.ppd_resolve.proofs.Costs.{walked_all, walked_more, walked_part}
+use Rattle.ppd_resolve.proofs.Declared.Parameters.{params_all, params_more}
+use Rattle.ppd_resolve.proofs.Table.Costs.{walked_all, walked_more, walked_part}
 use Rattle.std.proofs.lemmas.List.{get_or_default}
 use Rattle.ppd_resolve.proofs.signatures.count_params.Goals as goal
 

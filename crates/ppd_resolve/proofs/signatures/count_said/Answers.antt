@@ -1,5 +1,5 @@
 use Rattle.std.proofs.Common.{arith}
-use Rattle.ppd_resolve.proofs.Costs.{children_few}
+use Rattle.ppd_resolve.proofs.Table.Costs.{children_few}
 use Rattle.ppd_resolve.proofs.signatures.count_said.Goals as goal
 
 pub returns-in-Params-clause-cost : goal.returns-in-Params-clause-cost

@@ -1,8 +1,8 @@
 use Rattle.std.proofs.Common.{◌∙◌, ap}
 use Rattle.ppd_resolve.specs.Nodes.{label_name}
 use Rattle.ppd_resolve.specs.Reading.{is_int}
-use Rattle.ppd_resolve.proofs.Parameters.{declares_function_at}
-use Rattle.ppd_resolve.proofs.Outcomes.{both_ok, ok_map}
+use Rattle.ppd_resolve.proofs.Declared.Parameters.{declares_function_at}
+use Rattle.ppd_resolve.proofs.Found.Outcomes.{both_ok, ok_map}
 use Rattle.ppd_resolve.specs.declared.globals.Globals.{Globals}
 use Rattle.ppd_resolve.proofs.signatures.declare_function.Goals as goal
 

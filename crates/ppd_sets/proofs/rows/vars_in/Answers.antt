@@ -1,4 +1,5 @@
 use Rattle.std.proofs.Common.{◌∙◌, ◌≤◌, sym, subst, arith}
+use Rattle.ppd_ast.specs.declared.limits.TheConstants.{MOST_SHARED_CELLS}
 use Rattle.ppd_ast.specs.Cells.{after}
 use Rattle.ppd_ast.specs.declared.program.Var.{Var}
 use Rattle.ppd_sets.proofs.Meeting.{met_next}
@@ -6,7 +7,7 @@ use Rattle.ppd_sets.proofs.rows.vars_in.Goals as goal
 use Rattle.ppd_sets.proofs.rows.vars_in.Goals.{then-does_meet+in_ok-push, else-does_meet}
 
 pub does_meet-requires : goal.does_meet-requires
-does_meet-requires c = subst (λ (y : Var). after y ≤ 1024) (sym c.index-vars-number.is) (c.requires c.loop-number.number c.index-vars-number.result (omega arith))
+does_meet-requires c = subst (λ (y : Var). after y ≤ MOST_SHARED_CELLS) (sym c.index-vars-number.is) (c.requires c.loop-number.number c.index-vars-number.result (omega arith))
 
 pub loop-number-preserved : goal.loop-number-preserved
 loop-number-preserved c =

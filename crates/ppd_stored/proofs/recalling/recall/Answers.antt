@@ -1,14 +1,14 @@
 use Rattle.ppd_stored.proofs.Cells.{cells_there}
 use Rattle.ppd_stored.proofs.recalling.recall.Goals as goal
 
-pub returns-in-Ok-graphed-clause-together : goal.returns-in-Ok-graphed-clause-together
-returns-in-Ok-graphed-clause-together c =
-    let r = c.in-Ok.recording in
+pub returns-clause-together : goal.returns-clause-together
+returns-clause-together c =
+    let r = c.in_ok-recording.recording in
     record {
-      program_ok = c.in-Ok.ensures.program;
-      plan_ok = c.in-Ok.ensures.plan;
-      cells = cells_there r.program r.source r.header r.logs c.in-Ok.ensures.ok.lawful;
-      index_is = c.in-Ok-indexed.ensures.index;
-      fitting = c.in-Ok-indexed.ensures.fitting;
-      graph_is = c.in-Ok-graphed.ensures.graph;
+      program_ok = c.in_ok-recording.ensures.program;
+      plan_ok = c.in_ok-recording.ensures.plan;
+      cells = cells_there r.program r.source r.header r.logs c.in_ok-recording.ensures.ok.lawful;
+      index_is = c.in_ok-index.ensures.index;
+      fitting = c.in_ok-index.ensures.fitting;
+      graph_is = c.in_ok-graph.ensures.graph;
     }

@@ -1,4 +1,4 @@
-use Rattle.std.proofs.Common.{sym, subst, ◌≡◌, ◌∙◌}
+use Rattle.std.proofs.Common.{sym, subst, ◌∙◌}
 use Rattle.ppd_io.specs.Content.{Appends, AppendsPart}
 use Rattle.ppd_top.specs.Asking.Becomes.{answered, quit, unwritten}
 use Rattle.ppd_top.proofs.asking.deliver.Goals as goal

@@ -1,5 +1,4 @@
-use Rattle.std.specs.Prelude.{Result, codes}
-use Rattle.std.proofs.Common.{Ok, Err, refl, ap, arith, rules, ◌≡◌, ◌∙◌, true, false, Bool}
+use Rattle.std.proofs.Common.{Ok, Err, refl, ap, arith, rules, ◌≡◌, ◌∙◌, true, false}
 use Rattle.ppd_io.specs.declared.lines.LineError.TheVariants.{Failed, LongLine}
 use Rattle.ppd_top.specs.Output.{standing}
 use Rattle.ppd_top.proofs.Conversing.{ends_failed, ends_many, ends_none, has_line, long_there, read_as}

@@ -1,8 +1,8 @@
-use Rattle.std.proofs.Common.{inl, inr, refl, subst, ◌≡◌}
+use Rattle.std.proofs.Common.{refl}
 use Rattle.ppd_words.specs.Reads.{texts_in}
-use Rattle.ppd_top.specs.Words.{Asks, AsksDebug, command_of}
+use Rattle.ppd_top.specs.Words.{command_of}
 use Rattle.ppd_top.specs.Ran.Comes.{drill_done}
-use Rattle.ppd_top.proofs.Asked.{asks_drill, asks_recording, asks_source, range_of}
+use Rattle.ppd_top.proofs.Asked.{asks_drill, asks_recording, asks_source}
 use Rattle.ppd_top.proofs.Inputs.{source_input, recording_input}
 use Rattle.ppd_top.proofs.call.answer.Goals as goal
 

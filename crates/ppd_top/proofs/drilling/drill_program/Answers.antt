@@ -1,5 +1,5 @@
 use Rattle.std.specs.Prelude.{Some}
-use Rattle.std.proofs.Common.{◌∙◌, ap, arith, refl}
+use Rattle.std.proofs.Common.{◌∙◌, ap, refl}
 use Rattle.ppd_top.proofs.DrillEnds.{drills_from, never_rose}
 use Rattle.ppd_top.proofs.drilling.drill_program.Goals as goal
 

@@ -1,4 +1,4 @@
-use Rattle.ppd_top.proofs.Told.{fails_err, ran_ok, stops}
+use Rattle.ppd_top.proofs.Told.{fails_err, ran_ok}
 use Rattle.ppd_top.proofs.following.follow_program.Goals as goal
 
 pub returns-in-Ok-clause-text : goal.returns-in-Ok-clause-text

@@ -1,4 +1,4 @@
-use Rattle.std.proofs.Common.{◌≡◌, ◌∙◌, ◌⊎◌, inl, inr, refl, Some, ap}
+use Rattle.std.proofs.Common.{◌∙◌, inl, inr, refl, Some, ap}
 use Rattle.ppd_top.proofs.Talked.{talks_end}
 use Rattle.ppd_top.proofs.following.tell_all.Goals as goal
 

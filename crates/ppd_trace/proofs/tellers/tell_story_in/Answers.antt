@@ -40,32 +40,32 @@ returns-in_err-follow-clause-story g c =
     let i = c.loop-index.index in
     let p : ℕ = get_or h i 0 in
     let inside : i < length h = omega arith in
-    let e = err_from_is_err_and c.from_residual.result c.from_residual.ensures.1 in
+    let e = err_from_is_err_and c.from_residual-in_err-follow.result c.from_residual-in_err-follow.ensures.1 in
     rw (e.1, e.2) (refused_at c.args.program.now c.args.plan.now c.args.budget h i p t.world t.counts t.writers t.steps.items c.in_err-follow.field-0.0 inside (get_or_any h i 0 p inside) c.loop-index.invariant.tells c.in_err-follow.ensures.cause)
 
-pub returns-in-Ok-close-clause-story : goal.returns-in-Ok-close-clause-story
-returns-in-Ok-close-clause-story g c =
+pub returns-clause-story : goal.returns-clause-story
+returns-clause-story g c =
     let t = c.loop-index.teller in
-    story_is c.args.program.now c.args.plan.now c.args.budget c.args.schedule.now c.loop-index.index t.world t.counts t.writers t.steps.items c.in-Ok-close.story (omega arith) c.loop-index.invariant.tells c.in-Ok-close.ensures.value
+    story_is c.args.program.now c.args.plan.now c.args.budget c.args.schedule.now c.loop-index.index t.world t.counts t.writers t.steps.items c.in_ok-close.field-0 (omega arith) c.loop-index.invariant.tells c.in_ok-close.ensures.value
 
-pub returns-in-Ok-close-clause-cost : goal.returns-in-Ok-close-clause-cost
-returns-in-Ok-close-clause-cost g c =
+pub returns-clause-cost : goal.returns-clause-cost
+returns-clause-cost g c =
     let t = c.loop-index.teller in
     let within : c.loop-index.index ≤ length c.args.schedule.now = omega arith in
     omega (
       arith,
       c.loop-index.invariant.spent,
-      c.in-Ok-close.ensures.cost,
+      c.in_ok-close.ensures.cost,
       cells_told c.args.program.now c.args.plan.now c.args.budget (take c.loop-index.index c.args.schedule.now) t.world t.counts t.writers t.steps.items c.loop-index.invariant.tells,
     )
 
-pub returns-in-Err-close-clause-cost : goal.returns-in-Err-close-clause-cost
-returns-in-Err-close-clause-cost g c =
+pub returns-in_err-close-clause-cost : goal.returns-in_err-close-clause-cost
+returns-in_err-close-clause-cost g c =
     let t = c.loop-index.teller in
     let within : c.loop-index.index ≤ length c.args.schedule.now = omega arith in
     omega (
       arith,
       c.loop-index.invariant.spent,
-      c.in-Err-close.ensures.cost,
+      c.in_err-close.ensures.cost,
       cells_told c.args.program.now c.args.plan.now c.args.budget (take c.loop-index.index c.args.schedule.now) t.world t.counts t.writers t.steps.items c.loop-index.invariant.tells,
     )

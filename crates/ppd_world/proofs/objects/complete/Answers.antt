@@ -4,10 +4,10 @@ use Rattle.ppd_world.specs.Parts.{one_completed}
 use Rattle.ppd_world.proofs.Lists.{change_past, set_is_change}
 use Rattle.ppd_world.proofs.objects.complete.Goals as goal
 
-pub returns-then-chan-len : goal.returns-then-chan-len
-returns-then-chan-len c =
+pub returns-in_default : goal.returns-in_default
+returns-in_default c =
     let past : length c.args.chans.now.items ≤ c.args.chan = search rules in
     sym (change_past one_completed c.args.chan c.args.chans.now.items past)
 
-pub returns : goal.returns
-returns c = grind (arith, common_steps, set_is_change)
+pub returns-in-Some : goal.returns-in-Some
+returns-in-Some c = grind (arith, common_steps, set_is_change)

@@ -4,10 +4,10 @@ use Rattle.ppd_world.specs.Parts.{one_given}
 use Rattle.ppd_world.proofs.Lists.{change_past, set_is_change}
 use Rattle.ppd_world.proofs.objects.give.Goals as goal
 
-pub returns-then-sem-len : goal.returns-then-sem-len
-returns-then-sem-len c =
+pub returns-in_default : goal.returns-in_default
+returns-in_default c =
     let past : length c.args.sems.now.items ≤ c.args.sem = search rules in
     sym (change_past one_given c.args.sem c.args.sems.now.items past)
 
-pub returns : goal.returns
-returns c = grind (arith, common_steps, set_is_change)
+pub returns-in-Some : goal.returns-in-Some
+returns-in-Some c = grind (arith, common_steps, set_is_change)

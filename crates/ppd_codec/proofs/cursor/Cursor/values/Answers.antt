@@ -1,4 +1,5 @@
 use Rattle.std.proofs.Common.{◌∙◌, ◌++◌, ◌∷◌, [], ap, refl, arith, rules}
+use Rattle.std.proofs.lemmas.Result.{err_from_is_err_and}
 use Rattle.std.proofs.Math.Facts.{to_z-of_z}
 use Rattle.std.specs.Prelude.{⊤}
 use Rattle.ppd_codec.specs.Reader.{several}
@@ -6,20 +7,22 @@ use Rattle.ppd_codec.specs.Form.{number_2, value}
 use Rattle.ppd_codec.proofs.Several.{counted, no_more, one_more}
 use Rattle.ppd_codec.proofs.cursor.Cursor.values.Goals as goal
 
-pub returns-in-Err : goal.returns-in-Err
-returns-in-Err g c = record {
-  ok = search rules;
-  err = λ m.
-      counted (number_2.read) (several (λ (t : ⊤). value.read) (λ v. tt {0}) (tt {0})) _ _ _ _ _ c.in_ok-left.ensures.read.ok
-      ∙ c.loop-left.invariant.reads
-      ∙ no_more (λ (t : ⊤). value.read) (λ v. tt {0}) (tt {0}) c.loop-left.left c.loop-left.self.at c.loop-left.self.rest.now c.loop-left.found c.in-Err.bad (omega (arith, c.loop-left-test.true)) c.in-Err.ensures.read.err m;
-  within = omega (arith, c.loop-left.invariant.within, c.value.ensures.read.within);
-  cost = omega (arith, c.loop-left.invariant.cost, c.value.ensures.read.cost);
-}
+pub returns-in_err-item : goal.returns-in_err-item
+returns-in_err-item g c =
+    let e = err_from_is_err_and c.from_residual-in_err-item.result c.from_residual-in_err-item.ensures.1 in
+    rw (e.1, e.2) (record {
+      ok = search rules;
+      err = λ m.
+          counted (number_2.read) (several (λ (t : ⊤). value.read) (λ v. tt {0}) (tt {0})) _ _ _ _ _ c.in_ok-left.ensures.read.ok
+          ∙ c.loop-left.invariant.reads
+          ∙ no_more (λ (t : ⊤). value.read) (λ v. tt {0}) (tt {0}) c.loop-left.left c.loop-left.self.at c.loop-left.self.rest.now c.loop-left.found c.in_err-item.field-0.0 (omega (arith, c.loop-left-test.true)) c.in_err-item.ensures.read.err m;
+      within = omega (arith, c.loop-left.invariant.within, c.value.ensures.read.within);
+      cost = omega (arith, c.loop-left.invariant.cost, c.value.ensures.read.cost);
+    })
 
 pub loop-left-preserved : goal.loop-left-preserved
 loop-left-preserved g c = record {
-  reads = c.loop-left.invariant.reads ∙ one_more (λ (t : ⊤). value.read) (λ v. tt {0}) (tt {0}) _ c.loop-left.left c.loop-left.self.at _ c.loop-left.self.rest.now _ c.loop-left.found _ c.in-Ok.item (omega (arith, c.loop-left-test.true)) c.in-Ok.ensures.read.ok (refl) (c.in_ok-push.ensures.ok ∙ ap (λ v. c.loop-left.found ++ v ∷ []) (to_z-of_z c.in-Ok.ensures.fits));
+  reads = c.loop-left.invariant.reads ∙ one_more (λ (t : ⊤). value.read) (λ v. tt {0}) (tt {0}) _ c.loop-left.left c.loop-left.self.at _ c.loop-left.self.rest.now _ c.loop-left.found _ c.in_ok-item.item (omega (arith, c.loop-left-test.true)) c.in_ok-item.ensures.read.ok (refl) (c.in_ok-push.ensures.ok ∙ ap (λ v. c.loop-left.found ++ v ∷ []) (to_z-of_z c.in_ok-item.ensures.fits));
   within = omega (arith, c.loop-left.invariant.within, c.value.ensures.read.within);
   cost = omega (arith, c.loop-left.invariant.cost, c.value.ensures.read.cost);
 }

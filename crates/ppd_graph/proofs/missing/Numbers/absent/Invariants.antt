@@ -1,5 +1,4 @@
-use Rattle.std.proofs.Common.{◌≡◌, ◌-◌, ◌+◌, is_some, find, not, ◌≤◌}
-use Rattle.std.specs.List.{range_with_len}
+use Rattle.std.proofs.Common.{◌≡◌, ◌-◌, ◌+◌, is_some, ◌≤◌}
 use Rattle.ppd_graph.specs.ByNumber.{node_kept}
 use Rattle.ppd_graph.specs.Refusals.{absent}
 use Rattle.ppd_graph.proofs.missing.Numbers.absent.Given as goal

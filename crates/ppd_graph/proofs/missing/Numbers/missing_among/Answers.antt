@@ -1,4 +1,4 @@
-use Rattle.std.proofs.Common.{◌≡◌, ℕ, ◌+◌, ◌<◌, ◌≤◌, arith}
+use Rattle.std.proofs.Common.{◌≡◌, ◌+◌, ◌<◌, arith}
 use Rattle.ppd_graph.specs.ByNumber.{numbered_kept}
 use Rattle.ppd_graph.specs.Refusals.{object_count, object_misses}
 use Rattle.ppd_graph.specs.Spending.{object_cost}

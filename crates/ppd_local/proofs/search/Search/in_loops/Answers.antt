@@ -1,24 +1,26 @@
 use Rattle.std.proofs.Common.{◌≡◌, [], arith, drop, None, Some, Ok, Err, List, ℕ, sym, subst, refl}
 use Rattle.std.proofs.lemmas.List.{drop_all}
+use Rattle.std.proofs.lemmas.Result.{err_from_is_err_and}
 use Rattle.ppd_local.specs.Searches.{IsFound}
 use Rattle.ppd_local.proofs.Joined.{nothing}
 use Rattle.ppd_local.proofs.Loops.{all_replays, ends_loop, fails_loop, found_in, next_loop}
 use Rattle.ppd_local.proofs.search.Search.in_loops.Goals as goal
 
-pub returns-in-Ok-Some : goal.returns-in-Ok-Some
-returns-in-Ok-Some g c =
-    c.loop-place.invariant c.in_loop.new.steps (Ok (Some c.in-Ok-Some.origin))
-    (ends_loop c.args.self.now c.args.cell c.args.loops.now c.loop-place.place c.loop_at.result c.loop-place.steps c.in_loop.new.steps c.loop_at.ensures c.in-Ok-Some.origin (rw c.in-Ok-Some.field-0-is at c.in-Ok-Some.ensures))
+pub returns-in-Some : goal.returns-in-Some
+returns-in-Some g c =
+    c.loop-place.invariant c.in_loop.new.steps (Ok (Some c.in-Some.origin))
+    (ends_loop c.args.self.now c.args.cell c.args.loops.now c.loop-place.place c.loop_at.result c.loop-place.steps c.in_loop.new.steps c.loop_at.ensures c.in-Some.origin (rw c.in-Some.is at c.in_ok-in_loop.ensures))
 
-pub returns-in-Err : goal.returns-in-Err
-returns-in-Err g c =
-    c.loop-place.invariant c.in_loop.new.steps (Err c.in-Err.error)
-    (fails_loop c.args.self.now c.args.cell c.args.loops.now c.loop-place.place c.loop_at.result c.loop-place.steps c.in_loop.new.steps c.loop_at.ensures c.in-Err.error c.in-Err.ensures)
+pub returns-in_err-in_loop : goal.returns-in_err-in_loop
+returns-in_err-in_loop g c =
+    let e = err_from_is_err_and c.from_residual.result c.from_residual.ensures.1 in
+    rw (e.1, e.2) (c.loop-place.invariant c.in_loop.new.steps (Err c.in_err-in_loop.field-0.0)
+    (fails_loop c.args.self.now c.args.cell c.args.loops.now c.loop-place.place c.loop_at.result c.loop-place.steps c.in_loop.new.steps c.loop_at.ensures c.in_err-in_loop.field-0.0 c.in_err-in_loop.ensures))
 
 pub loop-place-preserved : goal.loop-place-preserved
 loop-place-preserved g c = λ o r f.
     c.loop-place.invariant o r
-    (next_loop c.args.self.now c.args.cell c.args.loops.now c.loop-place.place c.loop_at.result c.loop-place.steps c.in_loop.new.steps c.loop_at.ensures o r (rw c.in-Ok-None.field-0-is at c.in-Ok-None.ensures) f)
+    (next_loop c.args.self.now c.args.cell c.args.loops.now c.loop-place.place c.loop_at.result c.loop-place.steps c.in_loop.new.steps c.loop_at.ensures o r (rw c.in-None.is at c.in_ok-in_loop.ensures) f)
 
 pub returns : goal.returns
 returns g c =

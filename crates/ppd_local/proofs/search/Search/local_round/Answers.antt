@@ -3,8 +3,8 @@ use Rattle.ppd_search.specs.Seen.{place_of}
 use Rattle.ppd_local.proofs.Rounds.{local_from}
 use Rattle.ppd_local.proofs.search.Search.local_round.Goals as goal
 
-pub returns-in-Ok-frame_at : goal.returns-in-Ok-frame_at
-returns-in-Ok-frame_at g c =
-    local_from c.args.self.now c.args.interval c.outer-outer.result c.place_of.result c.in-Ok.items c.args.steps.now c.items.new.steps c.outer-outer.ensures
-    (c.place_of.ensures.place ∙ ap (place_of c.args.interval) c.as_slice-2.ensures) c.in-Ok.ensures
-    c.in-Ok-frame_at.frame c.args.cell c.local_outside.new.steps c.local_outside.result c.in-Ok-frame_at.ensures c.local_outside.ensures
+pub returns : goal.returns
+returns g c =
+    local_from c.args.self.now c.args.interval c.outer-outer.result c.place_of.result c.in_ok-items.items c.args.steps.now c.items.new.steps c.outer-outer.ensures
+    (c.place_of.ensures.place ∙ ap (place_of c.args.interval) c.as_slice-2.ensures) c.in_ok-items.ensures
+    c.in_ok-frame.frame c.args.cell c.local_outside.new.steps c.local_outside.result c.in_ok-frame.ensures c.local_outside.ensures

@@ -5,9 +5,9 @@ use Rattle.ppd_resolve.specs.Reading.{as_row, phrase, place_at, formula_at, word
 use Rattle.ppd_lower.specs.Plain.{plain_statement}
 use Rattle.ppd_lower.proofs.Rows.Nested.{rows_more, walked_block}
 use Rattle.ppd_lower.proofs.Rows.Steps.{row_walked}
-use Rattle.ppd_resolve.proofs.Outcomes.{ok_map, both_ok}
+use Rattle.ppd_resolve.proofs.Found.Outcomes.{ok_map, both_ok}
 use Rattle.ppd_lower.proofs.Rows.Whole.{keeps_both, walked_from, with_row, wrote_row, walked_below, walked_as, walked_stop, walked_alone, if_walked, while_walked, for_walked, worded_if, worded_while, worded_for, row_locals, statement_named}
-use Rattle.ppd_resolve.proofs.Costs.{nested_one, nested_two, parts_but}
+use Rattle.ppd_resolve.proofs.Table.Costs.{nested_one, nested_two, parts_but}
 use Rattle.ppd_lower.proofs.Costs.Children.{next_child, child_part, all_children}
 use Rattle.ppd_lower.proofs.lowering.Lowering.+walk.Goals as goal
 

@@ -7,9 +7,9 @@ use Rattle.ppd_lower.specs.Code as C
 use Rattle.ppd_resolve.specs.Faults.{first, first_of_both, unless}
 use Rattle.ppd_resolve.specs.Names.{innermost}
 use Rattle.ppd_resolve.specs.Frames.{twice_faults, size_faults}
-use Rattle.ppd_resolve.proofs.First.{found_in_both}
+use Rattle.ppd_resolve.proofs.Found.First.{found_in_both}
 use Rattle.ppd_lower.proofs.Table.Writing.{wrote_act}
-use Rattle.ppd_resolve.proofs.Outcomes.{both_ok}
+use Rattle.ppd_resolve.proofs.Found.Outcomes.{both_ok}
 use Rattle.ppd_lower.proofs.lowering.Lowering.lower_array.Goals as goal
 
 pub returns-clause-wrote : goal.returns-clause-wrote

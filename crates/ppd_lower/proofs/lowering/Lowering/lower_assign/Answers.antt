@@ -8,9 +8,9 @@ use Rattle.ppd_resolve.specs.Nodes.{operand_formula}
 use Rattle.ppd_lower.specs.Values.{goal_said}
 use Rattle.ppd_lower.specs.Expressions.{term_of, formula_faults}
 use Rattle.ppd_lower.specs.Writing.{WroteAct}
-use Rattle.ppd_resolve.proofs.First.{found_in_both}
+use Rattle.ppd_resolve.proofs.Found.First.{found_in_both}
 use Rattle.ppd_lower.proofs.Table.Writing.{wrote_put, added_after}
-use Rattle.ppd_resolve.proofs.Outcomes.{both_ok}
+use Rattle.ppd_resolve.proofs.Found.Outcomes.{both_ok}
 use Rattle.ppd_lower.proofs.lowering.Lowering.lower_assign.Goals as goal
 
 pub returns-clause-wrote : goal.returns-clause-wrote

@@ -1,5 +1,4 @@
-use Rattle.std.proofs.Common.{◌≡◌, ◌∙◌, ap, subst, map, length, is_some, List, [], ◌∷◌, ◌++◌}
-use Rattle.ppd_ast.specs.declared.program.Stmt.{Stmt}
+use Rattle.std.proofs.Common.{◌≡◌, ◌∙◌, ap, subst, map, length, is_some}
 use Rattle.ppd_ast.specs.declared.program.Kind.TheVariants as K
 use Rattle.ppd_lower.specs.Code as C
 use Rattle.ppd_resolve.specs.Faults.{first, first_of_both}
@@ -10,7 +9,7 @@ use Rattle.ppd_lower.specs.Writing.{Argued}
 use Rattle.ppd_lower.specs.Expressions.{term_of, wrong_call, call_faults}
 use Rattle.ppd_lower.proofs.Table.Arguments.{argued_call, argued_count}
 use Rattle.ppd_lower.proofs.Table.Writing.{wrote_put}
-use Rattle.ppd_resolve.proofs.Outcomes.{both_ok}
+use Rattle.ppd_resolve.proofs.Found.Outcomes.{both_ok}
 use Rattle.ppd_lower.proofs.lowering.Lowering.lower_call.Goals as goal
 
 pub returns-clause-wrote : goal.returns-clause-wrote

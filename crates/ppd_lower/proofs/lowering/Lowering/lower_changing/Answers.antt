@@ -1,7 +1,7 @@
 use Rattle.ppd_resolve.specs.Nodes.{phrase_of, phrases_below}
 use Rattle.ppd_resolve.specs.Reading.{phrase}
 use Rattle.ppd_lower.proofs.Rows.Declaring.{walked_changing, walked_unchanged}
-use Rattle.ppd_resolve.proofs.Outcomes.{both_ok}
+use Rattle.ppd_resolve.proofs.Found.Outcomes.{both_ok}
 use Rattle.ppd_lower.proofs.lowering.Lowering.lower_changing.Goals as goal
 
 pub returns-in-None-clause-walked : goal.returns-in-None-clause-walked

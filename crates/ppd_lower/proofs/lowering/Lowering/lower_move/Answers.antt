@@ -8,7 +8,7 @@ use Rattle.ppd_lower.specs.Table.{spot_terms, target}
 use Rattle.ppd_lower.specs.Values.{goal_said}
 use Rattle.ppd_lower.specs.Expressions.{formula_faults}
 use Rattle.ppd_lower.proofs.Table.Writing.{wrote_put, added_after}
-use Rattle.ppd_resolve.proofs.Outcomes.{both_ok}
+use Rattle.ppd_resolve.proofs.Found.Outcomes.{both_ok}
 use Rattle.ppd_lower.proofs.lowering.Lowering.lower_move.Goals as goal
 
 pub returns-clause-wrote : goal.returns-clause-wrote

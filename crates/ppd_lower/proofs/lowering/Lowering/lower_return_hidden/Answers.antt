@@ -1,6 +1,6 @@
 use Rattle.ppd_lower.specs.Values.{value_said_by}
 use Rattle.ppd_lower.proofs.Table.Through.{hidden_return}
-use Rattle.ppd_resolve.proofs.Outcomes.{ok_map}
+use Rattle.ppd_resolve.proofs.Found.Outcomes.{ok_map}
 use Rattle.ppd_lower.proofs.lowering.Lowering.lower_return_hidden.Goals as goal
 
 pub returns-clause-wrote : goal.returns-clause-wrote

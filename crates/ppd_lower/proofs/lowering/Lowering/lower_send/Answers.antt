@@ -10,9 +10,9 @@ use Rattle.ppd_lower.specs.Expressions.{term_of, formula_faults, name_faults}
 use Rattle.ppd_ast.specs.declared.program.Place.{Place}
 use Rattle.ppd_lower.specs.Table.{flats, root}
 use Rattle.ppd_lower.specs.Writing.{WroteAct}
-use Rattle.ppd_resolve.proofs.First.{found_in_both}
+use Rattle.ppd_resolve.proofs.Found.First.{found_in_both}
 use Rattle.ppd_lower.proofs.Table.Writing.{added_one, wrote_put}
-use Rattle.ppd_resolve.proofs.Outcomes.{both_ok}
+use Rattle.ppd_resolve.proofs.Found.Outcomes.{both_ok}
 use Rattle.ppd_lower.proofs.lowering.Lowering.lower_send.Goals as goal
 
 pub returns-clause-wrote : goal.returns-clause-wrote

@@ -1,7 +1,7 @@
 use Rattle.std.proofs.Common.{◌-◌, ◌∙◌, ap, arith}
 use Rattle.ppd_resolve.specs.Names.{declare, in_innermost, scope_of}
-use Rattle.ppd_resolve.proofs.Lookup.{last_set}
-use Rattle.ppd_resolve.proofs.Outcomes.{ok_map}
+use Rattle.ppd_resolve.proofs.Found.Lookup.{last_set}
+use Rattle.ppd_resolve.proofs.Found.Outcomes.{ok_map}
 use Rattle.ppd_resolve.proofs.scopes.Scopes.declare.Goals as goal
 
 pub returns-clause-ok : goal.returns-clause-ok

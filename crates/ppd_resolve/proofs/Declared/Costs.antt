@@ -7,8 +7,8 @@ use Rattle.ppd_resolve.specs.Cost.{nodes_at, total, plain_below, nested_below, h
 use Rattle.ppd_resolve.specs.Declaring.{nothing}
 use Rattle.ppd_resolve.specs.Nodes.{phrases_below}
 use Rattle.ppd_resolve.specs.Frames.{after_cells}
-use Rattle.ppd_resolve.proofs.Costs.{children_few, total_append}
-use Rattle.ppd_resolve.proofs.Trees.{count_below}
+use Rattle.ppd_resolve.proofs.Table.Costs.{children_few, total_append}
+use Rattle.ppd_resolve.proofs.Table.Trees.{count_below}
 
 pub left_same : (g h : Globals) → h.cells ≡ g.cells → starts_left h ≡ starts_left g
 unfolding starts_left

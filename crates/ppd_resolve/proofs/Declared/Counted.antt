@@ -14,7 +14,7 @@ use Rattle.ppd_resolve.specs.Syntax.{Name, Item, shared, shared_array, semaphore
 use Rattle.ppd_resolve.specs.Declaring.{counted}
 use Rattle.ppd_resolve.specs.Holding.{item_counted, noted}
 use Rattle.ppd_resolve.specs.Globals.{Globals, Head, Object, no_globals, item_name, with_item, with_items, item_size_faults, items_faults, past, past_cells, head_name, object_name, count_faults}
-use Rattle.ppd_resolve.proofs.First.{first-append, first_of_both_assoc, first_of_both_swap}
+use Rattle.ppd_resolve.proofs.Found.First.{first-append, first_of_both_assoc, first_of_both_swap}
 
 -- The first of two broken rules, in any order.
 

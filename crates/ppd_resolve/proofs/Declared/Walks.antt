@@ -17,8 +17,8 @@ use Rattle.ppd_resolve.specs.Declaring.{nothing}
 use Rattle.ppd_resolve.specs.Holding.{head_at, IsHeadAt, Holds, Declares}
 use Rattle.ppd_resolve.specs.Globals as S
 use Rattle.ppd_resolve.specs.Globals.{no_globals, with_items, items_faults, count_faults}
-use Rattle.ppd_resolve.proofs.Counted.{noted_all}
-use Rattle.ppd_resolve.proofs.Declarations.{declares_none, declares_both}
+use Rattle.ppd_resolve.proofs.Declared.Counted.{noted_all}
+use Rattle.ppd_resolve.proofs.Declared.Declarations.{declares_none, declares_both}
 
 -- what declares nothing
 pub items_other : (r : Rule) (ps : List Phrase) (p : Phrase) → (r ≡ R.Source → ⊥) → (r ≡ R.Shared → ⊥) → (r ≡ R.Sitem → ⊥) → (r ≡ R.Sems → ⊥) → (r ≡ R.Chans → ⊥)

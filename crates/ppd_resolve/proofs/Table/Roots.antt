@@ -9,7 +9,7 @@ use Rattle.ppd_parse.specs.Table.{shape_or}
 use Rattle.ppd_parse.specs.Tree.{tree_of, IsTable}
 use Rattle.ppd_resolve.specs.Reading.{place_at, as_token, as_items, last, end_of, source_of}
 use Rattle.ppd_resolve.specs.Nodes.{tree_at, phrase_of, phrases_of, phrases_below, children_of, no_node}
-use Rattle.ppd_resolve.proofs.Trees.{tree_step, all_said_forest}
+use Rattle.ppd_resolve.proofs.Table.Trees.{tree_step, all_said_forest}
 
 pub items_root : (ns : List Node) → as_items (phrase_of ns 0) ≡ (source_of (tree_of ns)).items
 unfolding phrase_of

@@ -24,7 +24,7 @@ use Rattle.ppd_resolve.specs.Items.{numbered_item, least_number, most_number}
 use Rattle.ppd_resolve.specs.Holding.{head_of, head_at, IsHeadAt, Holds, item_counted, noted_at, noted, Declares}
 use Rattle.ppd_resolve.specs.Globals as S
 use Rattle.ppd_resolve.specs.Globals.{Object, sem, chan, item_name, item_size_faults, with_item, with_items}
-use Rattle.ppd_resolve.proofs.First.{found_in_both, first_of_both_none}
+use Rattle.ppd_resolve.proofs.Found.First.{found_in_both, first_of_both_none}
 
 pub declares_none : (ns : List Node) (g : Globals) (f : Option Fault) → Declares ns [] g g f f
 declares_none ns g f = record { holds = λ s h. h; notes = λ s h. sym (first_of_both_none f) }

@@ -16,7 +16,7 @@ use Rattle.ppd_resolve.specs.Reading.{Phrase, token, nowhere, phrase, last, kind
 use Rattle.ppd_resolve.specs.Nodes.{phrase_of, phrases_of, phrases_below, children_of, SaysBy}
 use Rattle.ppd_resolve.specs.Declaring.{with_function, with_process, twice, counted}
 use Rattle.ppd_resolve.specs.Holding.{head_of, Declares}
-use Rattle.ppd_resolve.proofs.Declarations.{declares_function, declares_process}
+use Rattle.ppd_resolve.proofs.Declared.Declarations.{declares_function, declares_process}
 
 -- Names among phrases.
 

@@ -12,7 +12,7 @@ use Rattle.std.proofs.lemmas.List.{length-map}
 use Rattle.ppd_resolve.specs.Nodes.{phrase_of, phrases_below, children_of}
 use Rattle.ppd_resolve.specs.Items.{number_after, numbered_at}
 use Rattle.ppd_resolve.specs.Holding.{Declares, start_said}
-use Rattle.ppd_resolve.proofs.Declarations.{declares_both}
+use Rattle.ppd_resolve.proofs.Declared.Declarations.{declares_both}
 
 true_not_false : true ≡ false → ⊥
 true_not_false h = grind (arith, h)

@@ -12,7 +12,7 @@ use Rattle.ppd_parse.specs.Tree.{IsTable}
 use Rattle.ppd_parse.proofs.Sizes.{weigh_made}
 use Rattle.ppd_resolve.specs.Nodes.{tree_at, children_of, phrases_below, no_node}
 use Rattle.ppd_resolve.specs.Cost.{nodes_at, rule_at, nested_by, plain_by, nested_at, plain_at, if_there, nested_child, plain_child, total, nested_below, plain_below}
-use Rattle.ppd_resolve.proofs.Trees.{count_below, tree_step}
+use Rattle.ppd_resolve.proofs.Table.Trees.{count_below, tree_step}
 
 -- Sums.
 

@@ -1,0 +1,5 @@
+pub mod Costs
+pub mod Counted
+pub mod Declarations
+pub mod Parameters
+pub mod Walks

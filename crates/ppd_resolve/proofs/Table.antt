@@ -1,0 +1,4 @@
+pub mod Costs
+pub mod Listing
+pub mod Roots
+pub mod Trees
