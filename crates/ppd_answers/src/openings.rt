@@ -1,10 +1,11 @@
 // The items of intervals of worked runs, as `open` answers them.
 
-use crate::trials::{USUAL, asked};
+use crate::trials::{USUAL, check_asked};
 use ppd_ast::Policy;
 use ppd_ast::limits::{MOST_BUDGET, MOST_POLICY};
 use ppd_top::{Options, follow};
 use std::alloc::Global;
+use std::process::Abort;
 use std::test::Fail;
 use std::thread::Threads;
 
@@ -169,53 +170,55 @@ fn written(rt: &(impl Threads + Sync), alloc: Global, row: &Row) -> Option<Vec<u
     follow(rt, alloc, source, &row.options, commands, row.schedule).ok()
 }
 
+/// Asserts what is written for a row.
+fn check_row(rt: &(impl Abort + Threads + Sync), alloc: Global, row: &Row) -> Result<(), Fail> {
+    let Some(text) = written(rt, alloc, row) else {
+        return Err(Fail::new("no text"));
+    };
+    assert_eq!(rt; text.as_slice(), row.text.as_bytes(), "{}", row.source);
+    Ok(())
+}
+
 #[test]
 fn intervals_are_opened(rt: HostRuntime) -> Result<(), Fail> {
-    let alloc = rt.alloc();
     for row in &ROWS {
-        let Some(text) = written(&rt, alloc, row) else {
-            return Err(Fail::new("no text"));
-        };
-        assert_eq!(rt; text.as_slice(), row.text.as_bytes(), "{}", row.source);
+        check_row(&rt, rt.alloc(), row)?;
     }
+    Ok(())
+}
+
+const AGREED: &str =
+    "process p ended steps 4\nprocess q ended steps 2\nraces 0\nitem 0 stmt 0 1:41 P s number 1\nitem 1 stmt 1 1:47 test read y=0 value 0\nitem 2 stmt 3 1:68 end\nx=5 from q 0 0\ny=0 from initial\n";
+
+/// Asserts what is written of `UNREAD` and this schedule.
+fn check_agreed(
+    rt: &(impl Abort + Threads + Sync),
+    alloc: Global,
+    schedule: &[u8],
+) -> Result<(), Fail> {
+    let commands = b"open p 0\nfinal";
+    let found = follow(rt, alloc, UNREAD.as_bytes(), &USUAL, commands, schedule)?;
+    assert_eq!(rt; found.as_slice(), AGREED.as_bytes(), "{schedule:?}");
     Ok(())
 }
 
 // Two schedules that agree: the values of a unit differ, the items do not.
 #[test]
 fn agreeing_schedules_open_alike(rt: HostRuntime) -> Result<(), Fail> {
-    let alloc = rt.alloc();
-    let text =
-        "process p ended steps 4\nprocess q ended steps 2\nraces 0\nitem 0 stmt 0 1:41 P s number 1\nitem 1 stmt 1 1:47 test read y=0 value 0\nitem 2 stmt 3 1:68 end\nx=5 from q 0 0\ny=0 from initial\n";
-    for schedule in [[0, 0, 0, 0, 1, 1], [1, 1, 0, 0, 0, 0]] {
-        let found = follow(
-            &rt,
-            alloc,
-            UNREAD.as_bytes(),
-            &USUAL,
-            b"open p 0\nfinal",
-            &schedule,
-        );
-        let Ok(found) = found else {
-            return Err(Fail::new("no text"));
-        };
-        assert_eq!(rt; found.as_slice(), text.as_bytes());
-    }
-    Ok(())
+    check_agreed(&rt, rt.alloc(), &[0, 0, 0, 0, 1, 1])?;
+    check_agreed(&rt, rt.alloc(), &[1, 1, 0, 0, 0, 0])
 }
+
+const ITEMS: &str =
+    "item 0 stmt 0 1:27 set write x=2\nitem 1 stmt 1 1:34 print read x=2 value 5\nitem 2 stmt 2 1:48 end\n";
 
 // An interval that is asked for again, and an item that is not there.
 #[test]
 fn intervals_are_opened_again(rt: HostRuntime) -> Result<(), Fail> {
     let alloc = rt.alloc();
-    let items =
-        "item 0 stmt 0 1:27 set write x=2\nitem 1 stmt 1 1:34 print read x=2 value 5\nitem 2 stmt 2 1:48 end\n";
     let lines = "open a 0\nopen a 0\nwhy a 0 3\nwhy a 0 2\nquit\nopen a 0\n";
-    let trial = asked(&rt, alloc, SMALLEST, lines.as_bytes(), 4096, &[])?;
-    assert_eq!(rt; trial.status, 0);
     let text = format!(in alloc;
-        "process a ended steps 4\nprint a 5\nraces 0\n{items}{items}? event\nitem 2 stmt 2 1:48 end\ncontrol from entry\n"
+        "process a ended steps 4\nprint a 5\nraces 0\n{ITEMS}{ITEMS}? event\nitem 2 stmt 2 1:48 end\ncontrol from entry\n"
     )?;
-    assert_eq!(rt; trial.text.as_slice(), text.as_bytes());
-    Ok(())
+    check_asked(&rt, alloc, SMALLEST, lines, text.as_bytes())
 }

@@ -1,7 +1,11 @@
 // The words of the command line, in all forms that are allowed and refused.
 
-use crate::trials::call;
+use crate::trials::{call, check_trial, check_whole};
+use std::alloc::Global;
+use std::process::Abort;
+use std::sync::Wait;
 use std::test::Fail;
+use std::thread::Threads;
 
 /// Words, with the name, the budget, `leaf` and `loops` that they give.
 type Row = (&'static [&'static str], &'static str, u32, u16, u16);
@@ -297,45 +301,112 @@ const OUT_OF_RANGE: [Words; 14] = [
     &["flow", "--budget", "18446744073709551617", "row.c"],
 ];
 
-// Allowed words run the source of that name, under a small budget until an endless loop has used it up.
-#[test]
-fn words_that_are_allowed(rt: HostRuntime) -> Result<(), Fail> {
-    let alloc = rt.alloc();
-    for rows in [SPELLED.as_slice(), NUMBERS.as_slice(), NAMES.as_slice()] {
-        for (words, name, budget, _, _) in rows {
-            let (source, text): (&[u8], _) = if *budget < 1_000 {
-                let text = format!(in alloc; "process a budget 1:13 steps {budget}\nraces 0\n")?;
-                (b"process a { while (1) { } }", text)
-            } else {
-                let text = format!(in alloc; "process a ended steps 1\nraces 0\n")?;
-                (b"process a { }", text)
-            };
-            let trial = call(&rt, alloc, words, name, source)?;
-            assert_eq!(rt; trial.status, 0, "{words:?}");
-            assert_eq!(rt; trial.text.as_slice(), text.as_bytes(), "{words:?}");
-        }
+/// Asserts that these words run the source of this name, and what is written.
+fn check_words<R: Abort + Threads + Wait + Sync>(
+    rt: &R,
+    alloc: Global,
+    words: &[&str],
+    name: &str,
+    source: &[u8],
+    text: &[u8],
+) -> Result<(), Fail> {
+    let trial = call(rt, alloc, words, name, source)?;
+    check_trial(rt, &trial, 0, text, &words);
+    Ok(())
+}
+
+/// Asserts that a row's words run the source of its name, under a small budget until an endless loop has used it up.
+fn check_allowed<R: Abort + Threads + Wait + Sync>(
+    rt: &R,
+    alloc: Global,
+    row: &Row,
+) -> Result<(), Fail> {
+    let (words, name, budget, _, _) = *row;
+    if budget >= 1_000 {
+        let text = b"process a ended steps 1\nraces 0\n";
+        return check_words(rt, alloc, words, name, b"process a { }", text);
+    }
+    let source = b"process a { while (1) { } }";
+    let text = format!(in alloc; "process a budget 1:13 steps {budget}\nraces 0\n")?;
+    check_words(rt, alloc, words, name, source, text.as_bytes())
+}
+
+/// Asserts that the words of each row are allowed.
+fn check_all_allowed<R: Abort + Threads + Wait + Sync>(
+    rt: &R,
+    alloc: Global,
+    rows: &[Row],
+) -> Result<(), Fail> {
+    for row in rows {
+        check_allowed(rt, alloc, row)?;
     }
     Ok(())
 }
 
-// All else gets the usage line.
 #[test]
-fn words_that_are_refused(rt: HostRuntime) -> Result<(), Fail> {
-    let alloc = rt.alloc();
-    for rows in [
-        NO_COMMAND.as_slice(),
-        NO_DRILL.as_slice(),
-        NO_NAME.as_slice(),
-        TWICE.as_slice(),
-        NO_NUMBER.as_slice(),
-        OUT_OF_RANGE.as_slice(),
-    ] {
-        for words in rows {
-            let trial = call(&rt, alloc, words, "row.c", b"process a { }")?;
-            assert_eq!(rt; trial.status, 2, "{words:?}");
-            assert_eq!(rt; trial.text.as_slice(), USAGE, "{words:?}");
-            assert_eq!(rt; trial.schedule.as_slice(), NONE, "{words:?}");
-        }
+fn options_are_spelled_in_two_ways(rt: HostRuntime) -> Result<(), Fail> {
+    check_all_allowed(&rt, rt.alloc(), &SPELLED)
+}
+
+#[test]
+fn numbers_go_to_their_limits(rt: HostRuntime) -> Result<(), Fail> {
+    check_all_allowed(&rt, rt.alloc(), &NUMBERS)
+}
+
+#[test]
+fn names_may_begin_with_a_dash(rt: HostRuntime) -> Result<(), Fail> {
+    check_all_allowed(&rt, rt.alloc(), &NAMES)
+}
+
+/// Asserts that these words get the usage line.
+fn check_refused<R: Abort + Threads + Wait + Sync>(
+    rt: &R,
+    alloc: Global,
+    words: &[&str],
+) -> Result<(), Fail> {
+    let trial = call(rt, alloc, words, "row.c", b"process a { }")?;
+    check_whole(rt, &trial, 2, USAGE, NONE, &words);
+    Ok(())
+}
+
+/// Asserts that the words of each row are refused.
+fn check_all_refused<R: Abort + Threads + Wait + Sync>(
+    rt: &R,
+    alloc: Global,
+    rows: &[Words],
+) -> Result<(), Fail> {
+    for words in rows {
+        check_refused(rt, alloc, words)?;
     }
     Ok(())
+}
+
+#[test]
+fn a_command_stands_first(rt: HostRuntime) -> Result<(), Fail> {
+    check_all_refused(&rt, rt.alloc(), &NO_COMMAND)
+}
+
+#[test]
+fn a_drill_has_one_number(rt: HostRuntime) -> Result<(), Fail> {
+    check_all_refused(&rt, rt.alloc(), &NO_DRILL)
+}
+
+#[test]
+fn a_source_has_one_name(rt: HostRuntime) -> Result<(), Fail> {
+    check_all_refused(&rt, rt.alloc(), &NO_NAME)
+}
+
+#[test]
+fn an_option_is_given_once(rt: HostRuntime) -> Result<(), Fail> {
+    check_all_refused(&rt, rt.alloc(), &TWICE)
+}
+
+#[test]
+fn an_option_has_a_number(rt: HostRuntime) -> Result<(), Fail> {
+    check_all_refused(&rt, rt.alloc(), &NO_NUMBER)
+}
+
+#[test]
+fn numbers_go_no_further(rt: HostRuntime) -> Result<(), Fail> {
+    check_all_refused(&rt, rt.alloc(), &OUT_OF_RANGE)
 }

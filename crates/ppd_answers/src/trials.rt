@@ -10,6 +10,8 @@ use ppd_top::{FollowError, Options, follow};
 use ppd_trials::{Devices, Trial};
 use ppd_world::World;
 use std::alloc::Global;
+use std::fmt::Debug;
+use std::process::Abort;
 use std::sync::Wait;
 use std::test::Fail;
 use std::thread::Threads;
@@ -19,6 +21,9 @@ pub(crate) const USUAL: Options = Options {
     budget: 100_000,
     policy: Policy { leaf: 0, loops: 0 },
 };
+
+/// Options, a source and all that `flow` writes for them.
+pub(crate) type Row = (&'static [&'static str], &'static str, &'static str);
 
 /// What the top call answers for these words, where the shelf holds the source under this name alone.
 pub(crate) fn call<R: Threads + Wait + Sync>(
@@ -59,6 +64,105 @@ pub(crate) fn flow<R: Threads + Wait + Sync>(
     call(rt, alloc, &["flow", "row.c"], "row.c", source)
 }
 
+/// What `flow` answers for a source with these options.
+fn flow_with<R: Threads + Wait + Sync>(
+    rt: &R,
+    alloc: Global,
+    options: &[&'static str],
+    source: &str,
+) -> Result<Trial, Fail> {
+    let mut words = Vec::from_slice(alloc, &["flow"])?;
+    words.extend_from_slice(options)?;
+    words.push("row.c")?;
+    call(rt, alloc, &words, "row.c", source.as_bytes())
+}
+
+/// Asserts how a call ended and all that it wrote, and tells the row where that is not so.
+pub(crate) fn check_trial<R: Abort, T: Debug>(
+    rt: &R,
+    trial: &Trial,
+    status: u8,
+    text: &[u8],
+    told: &T,
+) {
+    assert_eq!(rt; trial.status, status, "{told:?}");
+    assert_eq!(rt; trial.text.as_slice(), text, "{told:?}");
+}
+
+/// Asserts the same, and the schedule that was taken.
+pub(crate) fn check_whole<R: Abort, T: Debug>(
+    rt: &R,
+    trial: &Trial,
+    status: u8,
+    text: &[u8],
+    schedule: &[u8],
+    told: &T,
+) {
+    check_trial(rt, trial, status, text, told);
+    assert_eq!(rt; trial.schedule.as_slice(), schedule, "{told:?}");
+}
+
+/// Asserts what `flow` without options writes for a source that it runs.
+pub(crate) fn check_flow<R: Abort + Threads + Wait + Sync>(
+    rt: &R,
+    alloc: Global,
+    source: &str,
+    text: &str,
+) -> Result<(), Fail> {
+    let trial = flow(rt, alloc, source.as_bytes())?;
+    check_trial(rt, &trial, 0, text.as_bytes(), &source);
+    Ok(())
+}
+
+/// Asserts the same for each source and its text.
+pub(crate) fn check_flows<R: Abort + Threads + Wait + Sync>(
+    rt: &R,
+    alloc: Global,
+    rows: &[(&str, &str)],
+) -> Result<(), Fail> {
+    for (source, text) in rows {
+        check_flow(rt, alloc, source, text)?;
+    }
+    Ok(())
+}
+
+/// Asserts what `flow` without options writes for a source that it runs, and for this input.
+pub(crate) fn check_asked<R: Abort + Threads + Wait + Sync>(
+    rt: &R,
+    alloc: Global,
+    source: &str,
+    input: &str,
+    text: &[u8],
+) -> Result<(), Fail> {
+    let trial = asked(rt, alloc, source, input.as_bytes(), 4096, &[])?;
+    check_trial(rt, &trial, 0, text, &(source, input));
+    Ok(())
+}
+
+/// Asserts what `flow` writes for a row's source, which it runs.
+fn check_row<R: Abort + Threads + Wait + Sync>(
+    rt: &R,
+    alloc: Global,
+    row: &Row,
+) -> Result<(), Fail> {
+    let (options, source, text) = *row;
+    let trial = flow_with(rt, alloc, options, source)?;
+    check_trial(rt, &trial, 0, text.as_bytes(), &(options, source));
+    Ok(())
+}
+
+/// Asserts the same for each row.
+pub(crate) fn check_rows<R: Abort + Threads + Wait + Sync>(
+    rt: &R,
+    alloc: Global,
+    rows: &[Row],
+) -> Result<(), Fail> {
+    for row in rows {
+        check_row(rt, alloc, row)?;
+    }
+    Ok(())
+}
+
 /// What a source and a schedule come to without options.
 pub(crate) fn followed(
     rt: &(impl Threads + Sync),
@@ -88,13 +192,11 @@ fn step_highest(world: &mut World) -> Result<Option<u8>, Memory>
     requires { IsReached world.old }
     ensures { IsReached world.new }
 {
-    match highest_enabled(world) {
-        Some(p) => match world.step(p) {
-            Ok(()) => Ok(Some(p)),
-            Err(Memory) => Err(Memory),
-        },
-        None => Ok(None),
-    }
+    let Some(p) = highest_enabled(world) else {
+        return Ok(None);
+    };
+    world.step(p)?;
+    Ok(Some(p))
 }
 
 /// The schedule of a source whose highest process that can take a step always takes it. None where it has

@@ -12,6 +12,7 @@ use Rattle.ppd_model.specs.World.{need}
 use Rattle.ppd_world.specs.Plain.{GoesPlainly, stepped_times}
 use Rattle.ppd_book.specs.declared.commit.Commit.{Commit}
 use Rattle.ppd_book.specs.declared.commit.Commit.TheVariants.{Done, Stale}
+use Rattle.ppd_book.specs.declared.view.TheConstants.{MOST_VIEW_STEPS}
 use Rattle.ppd_book.specs.Held.{Held}
 
 -- ---- a view
@@ -24,7 +25,7 @@ pub record Seen : Type 0 where
   pub count : ℕ
 
 -- with these tables, which are the run's: the worker is a process of the program, with this budget, and it comes
--- from the first state to the second by that many Plain steps, 64 at most
+-- from the first state to the second by that many Plain steps, not more than a view goes on by
 pub record IsView (program : Program) (plan : Plan) (budget : ℕ) (p : Program) (q : Plan) (v : Seen) : Type 0 where
   pub is_program : p ≡ program
   pub is_plan : q ≡ plan
@@ -34,12 +35,12 @@ pub record IsView (program : Program) (plan : Plan) (budget : ℕ) (p : Program)
   pub running : IsRunning p v.after
   pub is_budget : v.before.budget ≡ budget
   pub goes : GoesPlainly program plan v.before v.count v.after
-  pub few : v.count ≤ 64
+  pub few : v.count ≤ MOST_VIEW_STEPS
 
--- the next step is Plain, and there were fewer than 64
+-- the next step is Plain, and there were fewer than a view goes on by
 pub record HasMore (program : Program) (plan : Plan) (v : Seen) : Type 0 where
   pub plain : need_of program plan v.after ≡ Plain
-  pub few : v.count < 64
+  pub few : v.count < MOST_VIEW_STEPS
 
 -- one step more
 abbrev pub advanced : Program → Plan → Seen → Seen

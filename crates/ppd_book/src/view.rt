@@ -5,6 +5,9 @@ use ppd_ast::{Memory, Plan, Program};
 use ppd_sem::{Answer, Need, Proc, feed, look};
 use std::marker::{Model, PhantomData};
 
+/// Steps that a view goes on by, at most.
+pub const MOST_VIEW_STEPS: u32 = 64;
+
 /// A process of the run that `J` names, on a copy: its worker's number, its state when the view was made, the
 /// state that it came to since by steps that need nothing but the process itself, and how many these were.
 #[derive(Drop)]
@@ -31,12 +34,13 @@ impl<'a, J: Job> Model for View<'a, J> {
 impl<'a, J: Job> View<'a, J> {
     ghost use Rattle.ppd_book.specs.Views.{HasMore, advanced};
 
-    /// Whether the view can go on: its next step needs nothing but the process itself, and it took fewer than
-    /// 64.
+    /// Whether the view can go on: its next step needs nothing but the process itself, and it took fewer
+    /// than `MOST_VIEW_STEPS`.
     pub fn more(&self) -> bool
         ensures { IsTrue result ↔ HasMore J.program J.plan self.now }
     {
-        self.count < 64 && matches!(look(self.program, self.plan, &self.after), Need::Plain)
+        self.count < MOST_VIEW_STEPS
+            && matches!(look(self.program, self.plan, &self.after), Need::Plain)
     }
 
     /// Takes one step on the copy. `Memory` is want of memory: the view is as before.

@@ -1,6 +1,7 @@
 use crate::pieces::smallest;
 use ppd_codec::{BadBytes, Field, decode};
 use std::alloc::Global;
+use std::process::Abort;
 
 // The first byte of each field of the smallest run's recording.
 const FIELDS: [u32; 26] = [
@@ -31,57 +32,42 @@ fn changed(alloc: Global, at: usize, new: &[u8]) -> Option<BadBytes> {
     decode(alloc, bytes.as_slice()).err()
 }
 
+// Asserts what is wrong with bytes.
+fn check_fault(rt: &impl Abort, alloc: Global, bytes: &[u8], fault: BadBytes) {
+    let count = bytes.len();
+    assert_eq!(rt; decode(alloc, bytes).err(), Some(fault), "{count}");
+}
+
 #[test]
 fn each_prefix(rt: HostRuntime) {
-    let alloc = rt.alloc();
-    let Some(mut bytes) = smallest(alloc) else {
-        panic!(rt; "memory");
-    };
+    let mut bytes = smallest(rt.alloc()).expect(&rt, "memory");
     for count in (0..107u32).rev() {
         bytes.truncate(count as usize);
-        assert_eq!(rt;
-            decode(alloc, bytes.as_slice()).err(),
-            Some(BadBytes::Short(field_at(count)))
-        );
+        let short = BadBytes::Short(field_at(count));
+        check_fault(&rt, rt.alloc(), bytes.as_slice(), short);
+    }
+}
+
+const DAMAGES: [(usize, &[u8], BadBytes); 7] = [
+    (0, &[0x51], BadBytes::Magic(0)),
+    (4, &[3], BadBytes::Version(4)),
+    (5, &[0, 0, 0, 0], BadBytes::Range(5, Field::Budget)),
+    (65, &[2], BadBytes::Range(65, Field::Processes)),
+    (70, &[9], BadBytes::Range(70, Field::Tag)),
+    (94, &[8], BadBytes::Range(94, Field::Status)),
+    (102, &[1], BadBytes::Range(101, Field::Cells)),
+];
+
+#[test]
+fn each_damage(rt: HostRuntime) {
+    for (at, new, fault) in DAMAGES {
+        assert_eq!(rt; changed(rt.alloc(), at, new), Some(fault), "{at}");
     }
 }
 
 #[test]
-fn each_damage(rt: HostRuntime) {
-    let alloc = rt.alloc();
-    assert_eq!(rt; changed(alloc, 0, &[0x51]), Some(BadBytes::Magic(0)));
-    assert_eq!(rt; changed(alloc, 4, &[3]), Some(BadBytes::Version(4)));
-    assert_eq!(rt;
-        changed(alloc, 5, &[0, 0, 0, 0]),
-        Some(BadBytes::Range(5, Field::Budget))
-    );
-    assert_eq!(rt;
-        changed(alloc, 65, &[2]),
-        Some(BadBytes::Range(65, Field::Processes))
-    );
-    assert_eq!(rt;
-        changed(alloc, 70, &[9]),
-        Some(BadBytes::Range(70, Field::Tag))
-    );
-    assert_eq!(rt;
-        changed(alloc, 94, &[8]),
-        Some(BadBytes::Range(94, Field::Status))
-    );
-    assert_eq!(rt;
-        changed(alloc, 102, &[1]),
-        Some(BadBytes::Range(101, Field::Cells))
-    );
-}
-
-#[test]
 fn trailing(rt: HostRuntime) {
-    let alloc = rt.alloc();
-    let Some(mut bytes) = smallest(alloc) else {
-        panic!(rt; "memory");
-    };
+    let mut bytes = smallest(rt.alloc()).expect(&rt, "memory");
     assert!(rt; bytes.push(0).is_ok());
-    assert_eq!(rt;
-        decode(alloc, bytes.as_slice()).err(),
-        Some(BadBytes::Trailing(107))
-    );
+    check_fault(&rt, rt.alloc(), bytes.as_slice(), BadBytes::Trailing(107));
 }

@@ -1,15 +1,23 @@
 use crate::pieces::{recorded, records, smallest};
 use ppd_codec::{BadBytes, Field, decode};
 use std::alloc::Global;
+use std::process::Abort;
+
+// Asserts that bytes record what a schedule logs.
+fn check(rt: &impl Abort, alloc: Global, bytes: Option<Vec<u8>>, schedule: &[u8]) {
+    let bytes = bytes.expect(rt, "memory");
+    assert!(rt; records(alloc, bytes.as_slice(), schedule));
+}
 
 #[test]
 fn smallest_run(rt: HostRuntime) {
-    let alloc = rt.alloc();
-    let Some(bytes) = smallest(alloc) else {
-        panic!(rt; "memory");
-    };
+    check(&rt, rt.alloc(), smallest(rt.alloc()), &[0, 0, 0, 0]);
+}
+
+#[test]
+fn length_of_the_smallest_run(rt: HostRuntime) {
+    let bytes = smallest(rt.alloc()).expect(&rt, "memory");
     assert_eq!(rt; bytes.len(), 107);
-    assert!(rt; records(alloc, bytes.as_slice(), &[0, 0, 0, 0]));
 }
 
 const UNREAD: &str =
@@ -34,24 +42,20 @@ fn unread(alloc: Global, x: u8) -> Option<Vec<u8>> {
 #[test]
 fn unread_snapshot(rt: HostRuntime) {
     let alloc = rt.alloc();
-    let (Some(before), Some(after)) = (unread(alloc, 0), unread(alloc, 5)) else {
-        panic!(rt; "memory");
-    };
-    assert!(rt; records(alloc, before.as_slice(), &[0, 0, 0, 0, 1, 1]));
-    assert!(rt; records(alloc, after.as_slice(), &[1, 1, 0, 0, 0, 0]));
+    check(&rt, alloc, unread(alloc, 0), &[0, 0, 0, 0, 1, 1]);
+    check(&rt, alloc, unread(alloc, 5), &[1, 1, 0, 0, 0, 0]);
 }
+
+const ENDLESS: &str = "process a { int i; while (1) { i = i + 1; } }";
+
+const STOPPED: [u8; 25] = [
+    1, 0, 0, 0, 3, 1, 0, 0, 0, 0, 2, 0, 0, 0, 0, 5, 6, 0, 0, 0, 5, 0, 0, 0, 0,
+];
 
 #[test]
 fn budget_stop(rt: HostRuntime) {
-    let alloc = rt.alloc();
-    let source = "process a { int i; while (1) { i = i + 1; } }";
-    let logs = [
-        1, 0, 0, 0, 3, 1, 0, 0, 0, 0, 2, 0, 0, 0, 0, 5, 6, 0, 0, 0, 5, 0, 0, 0, 0,
-    ];
-    let Some(bytes) = recorded(alloc, 1, 5, source, &logs) else {
-        panic!(rt; "memory");
-    };
-    assert!(rt; records(alloc, bytes.as_slice(), &[0, 0, 0, 0, 0, 0]));
+    let bytes = recorded(rt.alloc(), 1, 5, ENDLESS, &STOPPED);
+    check(&rt, rt.alloc(), bytes, &[0, 0, 0, 0, 0, 0]);
 }
 
 const RENDEZVOUS: &str =
@@ -71,31 +75,29 @@ const MET: [u8; 138] = [
 
 #[test]
 fn bytes_of_a_done(rt: HostRuntime) {
-    let alloc = rt.alloc();
-    let Some(bytes) = recorded(alloc, 2, 100_000, RENDEZVOUS, &MET) else {
-        panic!(rt; "memory");
-    };
-    assert!(rt; records(alloc, bytes.as_slice(), &[0, 1, 1, 1, 1, 0, 0, 0, 1]));
+    let bytes = recorded(rt.alloc(), 2, 100_000, RENDEZVOUS, &MET);
+    check(&rt, rt.alloc(), bytes, &[0, 1, 1, 1, 1, 0, 0, 0, 1]);
+}
+
+// Asserts that bytes have another version than their source asks for.
+fn check_version(rt: &impl Abort, alloc: Global, bytes: &[u8]) {
+    assert_eq!(rt;
+        decode(alloc, bytes).err(),
+        Some(BadBytes::Range(4, Field::Version))
+    );
 }
 
 #[test]
-fn version_mismatch(rt: HostRuntime) {
-    let alloc = rt.alloc();
-    let (Some(met), Some(mut small)) = (
-        recorded(alloc, 1, 100_000, RENDEZVOUS, &MET),
-        smallest(alloc),
-    ) else {
-        panic!(rt; "memory");
-    };
-    assert_eq!(rt;
-        decode(alloc, met.as_slice()).err(),
-        Some(BadBytes::Range(4, Field::Version))
-    );
-    if small.len() > 4 {
-        small[4] = 2;
+fn version_1_with_a_capacity_of_0(rt: HostRuntime) {
+    let bytes = recorded(rt.alloc(), 1, 100_000, RENDEZVOUS, &MET).expect(&rt, "memory");
+    check_version(&rt, rt.alloc(), bytes.as_slice());
+}
+
+#[test]
+fn version_2_without_one(rt: HostRuntime) {
+    let mut bytes = smallest(rt.alloc()).expect(&rt, "memory");
+    if bytes.len() > 4 {
+        bytes[4] = 2;
     }
-    assert_eq!(rt;
-        decode(alloc, small.as_slice()).err(),
-        Some(BadBytes::Range(4, Field::Version))
-    );
+    check_version(&rt, rt.alloc(), bytes.as_slice());
 }

@@ -96,7 +96,8 @@ impl<'a> Cursor<'a> {
         steps: &mut Steps<L>,
     ) -> Result<u8, BadBytes>
         requires { self.old.at + length self.old.rest.now < 2 ^ 32 }
-        ensures { AnswersAs (process_count_form facts).read self.old self.new steps.old steps.new result }
+        ensures read { AnswersAs (process_count_form facts).read self.old self.new steps.old steps.new result }
+        ensures all { IfOk result (λ count. count ≡ facts.processes) }
     {
         let at = self.at;
         let found = self.byte(steps)?;
@@ -113,6 +114,15 @@ impl<'a> Cursor<'a> {
     {
         let at = self.at;
         tag_at(self.byte(steps)?).ok_or(BadBytes::Range(at, Field::Tag))
+    }
+
+    /// How a process ended.
+    pub fn status<L: Ledger>(&mut self, steps: &mut Steps<L>) -> Result<Status, BadBytes>
+        requires { self.old.at + length self.old.rest.now < 2 ^ 32 }
+        ensures { AnswersAs end_status.read self.old self.new steps.old steps.new result }
+    {
+        let at = self.at;
+        status_at(self.byte(steps)?).ok_or(BadBytes::Range(at, Field::Status))
     }
 
     /// A kind of synchronization that this version has.
@@ -156,15 +166,6 @@ impl<'a> Cursor<'a> {
             return Ok(found);
         }
         Err(BadBytes::Range(at, Field::Value))
-    }
-
-    /// How a process ended.
-    pub fn status<L: Ledger>(&mut self, steps: &mut Steps<L>) -> Result<Status, BadBytes>
-        requires { self.old.at + length self.old.rest.now < 2 ^ 32 }
-        ensures { AnswersAs end_status.read self.old self.new steps.old steps.new result }
-    {
-        let at = self.at;
-        status_at(self.byte(steps)?).ok_or(BadBytes::Range(at, Field::Status))
     }
 
     /// A shared cell, at least `low`.

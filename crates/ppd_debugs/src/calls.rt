@@ -25,13 +25,19 @@ pub(crate) fn recorded(
     let Ok(count) = u32::try_from(source.len()) else {
         return Err(Fail::new("too long"));
     };
-    let mut bytes = Vec::from_slice(alloc, b"PPDR")?;
-    bytes.push(1)?;
-    bytes.extend_from_slice(&budget.to_be_bytes())?;
-    bytes.extend_from_slice(&[0, 0, 0, 0])?;
-    bytes.extend_from_slice(&count.to_be_bytes())?;
-    bytes.extend_from_slice(source.as_bytes())?;
-    bytes.extend_from_slice(logs)?;
+    let parts: [&[u8]; 7] = [
+        b"PPDR",
+        &[1],
+        &budget.to_be_bytes(),
+        &[0, 0, 0, 0],
+        &count.to_be_bytes(),
+        source.as_bytes(),
+        logs,
+    ];
+    let mut bytes = Vec::new(alloc);
+    for part in parts {
+        bytes.extend_from_slice(part)?;
+    }
     Ok(bytes)
 }
 

@@ -1,7 +1,11 @@
 // Bytes that are no recording, or whose logs have no index or no graph.
 
 use crate::calls::{SMALLEST, SMALLEST_LOGS, debugged, recorded};
+use std::alloc::Global;
+use std::process::Abort;
+use std::sync::Wait;
 use std::test::Fail;
+use std::thread::Threads;
 
 const LOCK_ORDER: &str = "shared int x; sem m = 1; \
 process a { P(m); x = x + 1; V(m); } process b { P(m); x = x + 1; V(m); }";
@@ -35,7 +39,7 @@ const MISSING: [u8; 54] = [
     0, 0, 2, 0, 1, 0, 0, 4, 0, 0, 0, 0, 5, 0, 0, 0, 0, 0, 0, 0, 0, 0,
 ];
 
-// A place in the smallest run's recording, the byte that stands there instead, and the line.
+// A place in the smallest run's recording, the byte that stands there instead, and the reason.
 const CHANGES: [(usize, u8, &str); 8] = [
     (0, 0x51, "bytes 1 Magic 0"),
     (4, 3, "bytes 2 Version 4"),
@@ -47,61 +51,67 @@ const CHANGES: [(usize, u8, &str); 8] = [
     (69, 3, "bytes 5 Trailing 93"),
 ];
 
+/// Asserts that bytes are refused for this reason.
+fn check_refused<R: Abort + Threads + Wait + Sync>(
+    rt: &R,
+    alloc: Global,
+    recording: &[u8],
+    reason: &str,
+) -> Result<(), Fail> {
+    let line = format!(in alloc; "recording refused {reason}\n")?;
+    let trial = debugged(rt, alloc, recording, "races\n")?;
+    assert_eq!(rt; trial.status, 6, "{reason}");
+    assert_eq!(rt; trial.text.as_slice(), line.as_bytes(), "{reason}");
+    Ok(())
+}
+
+/// The recording of the smallest run with this byte at this place.
+fn changed(alloc: Global, place: usize, byte: u8) -> Result<Vec<u8>, Fail> {
+    let mut bytes = recorded(alloc, 100_000, SMALLEST, &SMALLEST_LOGS)?;
+    if place < bytes.len() {
+        bytes[place] = byte;
+    }
+    Ok(bytes)
+}
+
 // A recording that is refused ends with status 6 and its line, before a line of the input is answered.
 #[test]
 fn bad_recordings_are_refused(rt: HostRuntime) -> Result<(), Fail> {
     let alloc = rt.alloc();
-    for (place, byte, line) in CHANGES {
-        let mut bytes = recorded(alloc, 100_000, SMALLEST, &SMALLEST_LOGS)?;
-        if place < bytes.len() {
-            bytes[place] = byte;
-        }
-        let trial = debugged(&rt, alloc, &bytes, "races\n")?;
-        let mut wanted = Vec::from_slice(alloc, b"recording refused ")?;
-        wanted.extend_from_slice(line.as_bytes())?;
-        wanted.extend_from_slice(b"\n")?;
-        assert_eq!(rt; trial.status, 6, "{line}");
-        assert_eq!(rt; trial.text.as_slice(), wanted.as_slice(), "{line}");
+    for (place, byte, reason) in CHANGES {
+        let bytes = changed(alloc, place, byte)?;
+        check_refused(&rt, alloc, &bytes, reason)?;
     }
     Ok(())
 }
 
-// Too few bytes and too many; a number twice, one that is missing, and a cycle.
+#[test]
+fn too_few_bytes_are_refused(rt: HostRuntime) -> Result<(), Fail> {
+    let alloc = rt.alloc();
+    for (logs, reason) in [
+        (&SMALLEST_LOGS[..41], "bytes 3 Short 105"),
+        (&SMALLEST_LOGS[..28], "bytes 3 Short 93"),
+    ] {
+        let bytes = recorded(alloc, 100_000, SMALLEST, logs)?;
+        check_refused(&rt, alloc, &bytes, reason)?;
+    }
+    Ok(())
+}
+
+/// A source, its logs, and the reason.
+const BAD_LOGS: [(&str, &[u8], &str); 3] = [
+    (LOCK_ORDER, &TWICE, "sync 1 NumberTwice b 4"),
+    (GIVEN, &MISSING, "sync 2 NumberMissing P s 1"),
+    (CROSSED, &CYCLE, "sync 3 Cycle a 0 a 1 b 0 b 1"),
+];
+
+// A number twice, one that is missing, and a cycle.
 #[test]
 fn bad_logs_are_refused(rt: HostRuntime) -> Result<(), Fail> {
     let alloc = rt.alloc();
-    let rows: [(&str, &[u8], &str); 5] = [
-        (
-            SMALLEST,
-            &SMALLEST_LOGS[..41],
-            "recording refused bytes 3 Short 105\n",
-        ),
-        (
-            SMALLEST,
-            &SMALLEST_LOGS[..28],
-            "recording refused bytes 3 Short 93\n",
-        ),
-        (
-            LOCK_ORDER,
-            &TWICE,
-            "recording refused sync 1 NumberTwice b 4\n",
-        ),
-        (
-            GIVEN,
-            &MISSING,
-            "recording refused sync 2 NumberMissing P s 1\n",
-        ),
-        (
-            CROSSED,
-            &CYCLE,
-            "recording refused sync 3 Cycle a 0 a 1 b 0 b 1\n",
-        ),
-    ];
-    for (source, logs, line) in rows {
+    for (source, logs, reason) in BAD_LOGS {
         let bytes = recorded(alloc, 100_000, source, logs)?;
-        let trial = debugged(&rt, alloc, &bytes, "races\n")?;
-        assert_eq!(rt; trial.status, 6, "{line}");
-        assert_eq!(rt; trial.text.as_slice(), line.as_bytes(), "{line}");
+        check_refused(&rt, alloc, &bytes, reason)?;
     }
     Ok(())
 }

@@ -11,8 +11,7 @@ use Rattle.ppd_deps.specs.Edges.{begins, edges_of, ends_paths}
 use Rattle.ppd_deps.specs.Named.{local_reads, shared_reads, shared_writes}
 
 -- statement u and then this list are a flow path of body b that ends with t, and no statement before t ends the paths
--- of
--- the variable
+-- of the variable
 abbrev pub IsKeptPath : Program → (b : ℕ) → Option Var → ℕ → List ℕ → ℕ → Type 0
 IsKeptPath p b x u [] t = u ≡ t
 IsKeptPath p b x u (w ∷ rest) t =

@@ -1,5 +1,6 @@
 ghost use Rattle.std.specs.Prelude.{◌≡◌, ◌+◌, ◌<◌, ◌≤◌, IfOk};
 ghost use Rattle.ppd_replay.specs.Laws.{GivesIntervals};
+ghost use Rattle.ppd_ast.specs.declared.limits.TheConstants.{MOST_CALLS};
 ghost use Rattle.ppd_ast.specs.Valid.{IsValid};
 ghost use Rattle.ppd_ast.specs.ValidPlan.{IsValidPlan};
 ghost use Rattle.ppd_emulate.specs.Spending.{HasFewItems};
@@ -31,7 +32,7 @@ pub struct Counters<L: Ledger, T: Ledger> {
 fn begin<'a>(code: &Code, log: &'a IntervalLog<'a>, budget: u32) -> Result<Replayer<'a>, Memory>
     requires program { IsValid code.now.program.now }
     requires plan { IsValidPlan code.now.program.now code.now.plan.now }
-    requires depth { log.now.depth ≤ 64 }
+    requires depth { log.now.depth ≤ MOST_CALLS }
     ensures begun { IfOk result
         (λ state. replaying state ≡ begun_replay code.now.program.now code.now.plan.now log.now budget) }
     ensures going { IfOk result (λ state. IsGoing code.now state) }
@@ -120,7 +121,7 @@ fn emulate_log<L: Ledger, T: Ledger>(
 ) -> Result<BlockTrace, EmulError>
     requires program { IsValid code.now.program.now }
     requires plan { IsValidPlan code.now.program.now code.now.plan.now }
-    requires depth { log.now.depth ≤ 64 }
+    requires depth { log.now.depth ≤ MOST_CALLS }
     ensures answer { IfTold result
         (result ≡ (replay code.now.program.now code.now.plan.now log.now budget).answer) }
     ensures steps { IfTold result
@@ -148,7 +149,7 @@ fn emulate_from<L: Ledger, T: Ledger>(
     requires some { 0 < blank.parts }
     requires program { IsValid code.now.program.now }
     requires plan { IsValidPlan code.now.program.now code.now.plan.now }
-    requires depth { log.now.depth ≤ 64 }
+    requires depth { log.now.depth ≤ MOST_CALLS }
     ensures answer { IfTold result
         (result ≡ (replay code.now.program.now code.now.plan.now log.now budget).answer) }
     ensures steps { IfTold result
@@ -174,7 +175,7 @@ pub fn emulate_in<L: Ledger, T: Ledger>(
 ) -> Result<BlockTrace, EmulError>
     requires program { IsValid program.now }
     requires plan { IsValidPlan program.now plan.now }
-    requires depth { log.now.depth ≤ 64 }
+    requires depth { log.now.depth ≤ MOST_CALLS }
     ensures answer { IfTold result (result ≡ (replay program.now plan.now log.now budget).answer) }
     ensures steps { IfTold result
         (counters.new.own ≡ counters.old.own + (replay program.now plan.now log.now budget).steps) }
@@ -220,7 +221,7 @@ pub fn emulate<L: Ledger>(
 ) -> Result<BlockTrace, EmulError>
     requires program { IsValid program.now }
     requires plan { IsValidPlan program.now plan.now }
-    requires depth { log.now.depth ≤ 64 }
+    requires depth { log.now.depth ≤ MOST_CALLS }
     ensures answer { IfTold result (result ≡ (replay program.now plan.now log.now budget).answer) }
     ensures steps { IfTold result (steps.new ≡ steps.old + (replay program.now plan.now log.now budget).steps) }
     ensures items { HasFewItems steps.old steps.new result }

@@ -1,5 +1,6 @@
 //! Programs of which only the objects count here, and logs that need be no run's.
 
+use ppd_ast::limits::MOST_NAMED;
 use ppd_ast::{Bytes, Cells, Chan, Memory, Nums, Program, Sem, Seq, SyncKind};
 use ppd_entry::{Entry, Logs, Status};
 use ppd_graph::{BadSync, SyncGraph, graph};
@@ -112,7 +113,8 @@ pub fn logs_of(alloc: Global, first: &[Wrote], second: &[Wrote]) -> Result<Logs,
 /// The graph of logs, of a program with few objects.
 pub fn graph_of(alloc: Global, objects: Objects, logs: &Logs) -> Result<SyncGraph, BadSync> {
     let program = program(alloc, objects)?;
-    if program.sems.len() > 256 || program.chans.len() > 256 || logs.lists.len() > 256 {
+    let (sems, chans) = (program.sems.len(), program.chans.len());
+    if sems > MOST_NAMED || chans > MOST_NAMED || logs.lists.len() > MOST_NAMED {
         return Err(BadSync::Memory);
     }
     graph(alloc, &program, logs)

@@ -6,6 +6,7 @@ use ppd_ast::{Memory, SyncKind};
 use ppd_entry::At;
 use ppd_graph::{BadSync, NodeId};
 use std::alloc::Global;
+use std::process::Abort;
 use std::test::Fail;
 
 /// A refusal: the entry by its process and number, the synchronization of object 0, or the cycle by processes and
@@ -84,6 +85,14 @@ fn is_refused(alloc: Global, case: Case) -> Result<bool, Memory> {
     })
 }
 
+/// Asserts that the logs of each case are refused like this.
+fn check_refused(rt: &impl Abort, alloc: Global, cases: &[Case]) -> Result<(), Memory> {
+    for (number, case) in cases.iter().enumerate() {
+        assert!(rt; is_refused(alloc, *case)?, "{number}");
+    }
+    Ok(())
+}
+
 // A number that stood before: the second process's, at its entry.
 const TWICE: [Case; 2] = [
     (
@@ -100,6 +109,12 @@ const TWICE: [Case; 2] = [
         Twice(1, 4),
     ),
 ];
+
+#[test]
+fn a_number_that_stood_before(rt: HostRuntime) -> Result<(), Fail> {
+    check_refused(&rt, rt.alloc(), &TWICE)?;
+    Ok(())
+}
 
 // A receive in each process before the send that the other waits for, and each process takes what only the
 // other gives, after it took: all four in a cycle, from its least synchronization.
@@ -122,12 +137,24 @@ const CYCLES: [Case; 2] = [
     ),
 ];
 
+#[test]
+fn cycles(rt: HostRuntime) -> Result<(), Fail> {
+    check_refused(&rt, rt.alloc(), &CYCLES)?;
+    Ok(())
+}
+
 // A semaphore of initial value 1: a `P` left out, a `V` left out, and more taken than given.
 const MISSING_OF_A_SEMAPHORE: [Case; 3] = [
     (LOCK, [&[Silent(P, 2)], &[]], Missing(P, 1)),
     (LOCK, [&[Silent(V, 3)], &[]], Missing(V, 2)),
     (LOCK, [&[Silent(P, 1), Silent(P, 2)], &[]], Missing(V, 2)),
 ];
+
+#[test]
+fn numbers_missing_of_a_semaphore(rt: HostRuntime) -> Result<(), Fail> {
+    check_refused(&rt, rt.alloc(), &MISSING_OF_A_SEMAPHORE)?;
+    Ok(())
+}
 
 // A channel of capacity 1: a send left out, more received than sent, a receive left out, and a send without a
 // place. Only a channel of capacity 0 has completions.
@@ -150,6 +177,12 @@ const MISSING_OF_A_CHANNEL: [Case; 5] = [
         NoObject(0, 1),
     ),
 ];
+
+#[test]
+fn numbers_missing_of_a_channel(rt: HostRuntime) -> Result<(), Fail> {
+    check_refused(&rt, rt.alloc(), &MISSING_OF_A_CHANNEL)?;
+    Ok(())
+}
 
 // A channel of capacity 0: the same first three, more completed than received, a completion left out, and an offer
 // before the completion of the one before it.
@@ -188,18 +221,7 @@ const MISSING_OF_A_HANDOVER: [Case; 6] = [
 ];
 
 #[test]
-fn logs_without_a_graph(rt: HostRuntime) -> Result<(), Fail> {
-    let groups: [&[Case]; 5] = [
-        &TWICE,
-        &CYCLES,
-        &MISSING_OF_A_SEMAPHORE,
-        &MISSING_OF_A_CHANNEL,
-        &MISSING_OF_A_HANDOVER,
-    ];
-    for (group, cases) in groups.iter().enumerate() {
-        for (number, case) in cases.iter().enumerate() {
-            assert!(rt; is_refused(rt.alloc(), *case)?, "{group} {number}");
-        }
-    }
+fn numbers_missing_of_a_handover(rt: HostRuntime) -> Result<(), Fail> {
+    check_refused(&rt, rt.alloc(), &MISSING_OF_A_HANDOVER)?;
     Ok(())
 }

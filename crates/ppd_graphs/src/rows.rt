@@ -6,6 +6,7 @@ use ppd_ast::{Memory, Seq, SyncKind};
 use ppd_graph::{EdgeId, NodeId, Paired, SyncGraph};
 use ppd_race::{Race, RaceKind, races};
 use std::alloc::Global;
+use std::process::Abort;
 use std::test::Fail;
 use std::thread::Threads;
 
@@ -124,11 +125,22 @@ const CASES: [Case; 7] = [
     (&[], &[1], SENT, &[(1, 0, WriteRead)]),
 ];
 
+/// Asserts the races of a case's logs.
+fn check_races<R: Threads + Sync + Abort>(
+    rt: &R,
+    alloc: Global,
+    case: Case,
+    number: usize,
+) -> Result<(), Memory> {
+    let found = races_of(rt, alloc, case)?;
+    assert!(rt; are_races(found.as_slice(), case.3), "{number}");
+    Ok(())
+}
+
 #[test]
 fn races_of_worked_logs(rt: HostRuntime) -> Result<(), Fail> {
     for (number, case) in CASES.iter().enumerate() {
-        let found = races_of(&rt, rt.alloc(), *case)?;
-        assert!(rt; are_races(found.as_slice(), case.3), "{number}");
+        check_races(&rt, rt.alloc(), *case, number)?;
     }
     Ok(())
 }
@@ -143,16 +155,18 @@ fn orders(graph: &SyncGraph) -> bool {
         && graph.paired(node(1, 0)) == Paired::Node(node(0, 0))
 }
 
-#[test]
-fn a_bounded_channel_orders(rt: HostRuntime) -> Result<(), Fail> {
-    let logs = logs_of(rt.alloc(), CHANNEL[0], CHANNEL[1])?;
+/// The graph of the channel's logs. None where they have none.
+fn channel_graph(alloc: Global) -> Option<SyncGraph> {
+    let logs = logs_of(alloc, CHANNEL[0], CHANNEL[1]).ok()?;
     let chans = Objects {
         sems: &[],
         chans: &[1],
     };
-    match graph_of(rt.alloc(), chans, &logs) {
-        Ok(graph) => assert!(rt; orders(&graph)),
-        Err(_) => assert!(rt; false),
-    }
-    Ok(())
+    graph_of(alloc, chans, &logs).ok()
+}
+
+#[test]
+fn a_bounded_channel_orders(rt: HostRuntime) {
+    let graph = channel_graph(rt.alloc()).expect(&rt, "a graph");
+    assert!(rt; orders(&graph));
 }

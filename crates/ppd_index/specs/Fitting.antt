@@ -1,5 +1,6 @@
 -- Interval logs that fit the plan: what a replay may rest on.
 use Rattle.std.specs.Prelude.{◌≡◌, ℕ, ◌≤◌, Bool, true, List, [], ◌∷◌, slice_get, Some, ⊤}
+use Rattle.ppd_ast.specs.declared.limits.TheConstants.{MOST_CALLS}
 use Rattle.ppd_ast.specs.declared.plan.Plan.{Plan}
 use Rattle.ppd_entry.specs.declared.entry.Logs.{Logs}
 use Rattle.ppd_entry.specs.IntervalLogs.{IntervalLog, interval_log}
@@ -25,7 +26,7 @@ AreFittingPieces plan b (x ∷ xs) = (fits_piece plan b x.1 ≡ true) × AreFitt
 -- pieces fit
 pub record IsFittingLog (plan : Plan) (log : IntervalLog) : Type 0 where
   pub values : fits_prelog (slice_get plan.blocks log.block) log.values ≡ true
-  pub depth : log.depth ≤ 64
+  pub depth : log.depth ≤ MOST_CALLS
   pub pieces : AreFittingPieces plan log.block log.pieces
 
 -- so it is with each interval of these logs

@@ -1,5 +1,6 @@
 -- Which logs have no index, and the first entry that is why.
 use Rattle.std.specs.Prelude.{◌≡◌, ℕ, ◌+◌, nat_eq, nat_le, ℤ, Bool, true, false, not, ◌&&◌, ◌||◌, List, [], ◌∷◌, length, slice_get, Option, Some, None, is_some, option_map, ⊤, if◌then◌else◌}
+use Rattle.ppd_ast.specs.declared.limits.TheConstants.{MOST_CALLS}
 use Rattle.ppd_ast.specs.declared.plan.Block.{Block}
 use Rattle.ppd_ast.specs.declared.plan.BlockKind.{BlockKind}
 use Rattle.ppd_ast.specs.declared.plan.BlockKind.TheVariants as block
@@ -82,13 +83,13 @@ abbrev pub ends_there : Status → Option ℕ → Bool
 ends_there status.Ended innermost = not (is_some innermost)
 ends_there s innermost = is_some innermost
 
--- a later entry fits what runs: no process's block begins again, a function's only while fewer than 64
--- intervals of functions run, a postlog is that of the innermost interval, and nothing but an end
--- stands outside all
+-- a later entry fits what runs: no process's block begins again, a function's only while fewer intervals
+-- of functions run than there are open calls at most, a postlog is that of the innermost interval, and nothing but
+-- an end stands outside all
 abbrev pub continues : Plan → Standing → Entry → Bool
 continues plan s (entry.Prelog b values) =
     is_some s.innermost && not (is_process (kind_at plan b))
-    && not (is_of_function (kind_at plan b) && nat_le 64 s.functions)
+    && not (is_of_function (kind_at plan b) && nat_le MOST_CALLS s.functions)
 continues plan s (entry.Unit u values) = is_some s.innermost
 continues plan s (entry.Sync kind object number value reads writes) = is_some s.innermost
 continues plan s (entry.Postlog b values) = is_same b s.innermost

@@ -49,16 +49,6 @@ pub struct StdSink<W> {
 }
 
 impl<W: Write> StdSink<W> {
-    /// No write has failed yet.
-    pub fn new(writer: W) -> StdSink<W>
-        ensures { ⟦<StdSink<W> as Sink>⟧.faults result ≡ 0 }
-    {
-        StdSink {
-            inner: writer,
-            faults: 0,
-        }
-    }
-
     fn attempt(&mut self, piece: &[u8]) -> Option<usize>
         ensures bound { IfSome result (λ n. n ≤ length piece.now) }
         ensures some { IfSome result (λ n. 0 < length piece.now → 0 < n) }
@@ -71,6 +61,16 @@ impl<W: Write> StdSink<W> {
             return None;
         }
         Some(count)
+    }
+
+    /// No write has failed yet.
+    pub fn new(writer: W) -> StdSink<W>
+        ensures { ⟦<StdSink<W> as Sink>⟧.faults result ≡ 0 }
+    {
+        StdSink {
+            inner: writer,
+            faults: 0,
+        }
     }
 }
 

@@ -83,10 +83,9 @@ impl ByteReader {
         if !self.is_empty() {
             return Ok(Some(self.take_held()));
         }
-        match self.refill(source) {
-            Err(error) => Err(error),
-            Ok(false) => Ok(None),
-            Ok(true) => Ok(Some(self.take_held())),
+        if self.refill(source)? {
+            return Ok(Some(self.take_held()));
         }
+        Ok(None)
     }
 }

@@ -1,4 +1,5 @@
 ghost use Rattle.std.specs.Prelude.{◌≡◌, [], true, false, length, IfOk, IsErrOf, vec_capacity, ◌≤◌, ◌<◌};
+ghost use Rattle.ppd_ast.specs.declared.limits.TheConstants.{MOST_LINE_BYTES};
 ghost use Rattle.ppd_io.specs.Causes.{HasCause, Rose};
 ghost use Rattle.ppd_io.specs.Lines.{Fills, GivesLine, StaysOver, TellsLine};
 
@@ -28,13 +29,14 @@ pub struct LineReader {
 
 impl Model for LineReader {
     ghost use Rattle.std.specs.Prelude.{◌<◌, length, vec_capacity};
+    ghost use Rattle.ppd_ast.specs.declared.limits.TheConstants.{MOST_LINE_BYTES};
     ghost use Rattle.ppd_io.specs.Lines.{Lined};
 
     ghost Value = { Lined };
 
     ghost view = { λ s. record { line = s.line.items; held = s.bytes; ended = s.ended } };
 
-    ghost invariant = { λ s. (4096 < vec_capacity s.line) × (length s.bytes < 4096) };
+    ghost invariant = { λ s. (MOST_LINE_BYTES < vec_capacity s.line) × (length s.bytes < 4096) };
 }
 
 /// Puts the bytes up to the next newline into an empty line, and answers whether the end was met in its place.
@@ -44,12 +46,12 @@ fn fill_line<I: Source>(
     source: &mut I,
 ) -> Result<bool, LineError>
     requires empty { line.old.items ≡ [] }
-    requires room { 4096 < vec_capacity line.old }
+    requires room { MOST_LINE_BYTES < vec_capacity line.old }
     requires few { length bytes.old < 4096 }
     ensures filled { Fills (I.left source.old) (I.left source.new) bytes.old line.new.items bytes.new result }
     ensures cause { IsErrOf result LineError.Failed → Rose (I.faults source.old) (I.faults source.new) }
     ensures later { I.faults source.old ≤ I.faults source.new }
-    ensures room { 4096 < vec_capacity line.new }
+    ensures room { MOST_LINE_BYTES < vec_capacity line.new }
     ensures few { length bytes.new < 4096 }
 {
     while line.len() <= MOST_LINE_BYTES {

@@ -9,7 +9,7 @@ use Rattle.ppd_lex.specs.declared.token.Kind.{Kind}
 use Rattle.ppd_lex.specs.declared.scan.Fault.TheVariants as F
 use Rattle.ppd_lex.specs.declared.scan.Piece.TheVariants.{Gap, Read, Bad}
 use Rattle.ppd_lex.specs.Front.{front, is_name_byte, kind_in, keywords, marks, number_of, close_from, word_kind, read_word, read_value, read_number, read_block, read_single, read_pair, read_mark}
-use Rattle.ppd_lex.specs.Gaps.{IsBlank, IsGap, AreApart}
+use Rattle.ppd_lex.specs.Gaps.{IsBlank, AreApart}
 use Rattle.ppd_lex.specs.Tokens.{Lexes, end, gap, token, IsTokens}
 use Rattle.ppd_lex.specs.declared.token.Token.{Token}
 use Rattle.ppd_lex.proofs.FormedTokens.{proper_at}

@@ -1,5 +1,5 @@
 -- What a walk of statements adds to the table.
-use Rattle.std.specs.Prelude.{◌≡◌, ℕ, List, [], ◌++◌, ◌∷◌, map, length, Option}
+use Rattle.std.specs.Prelude.{◌≡◌, ℕ, List, [], ◌++◌, ◌∷◌, map, length, Option, Some}
 use Rattle.std.specs.List.{flat_map}
 use Rattle.ppd_ast.specs.declared.program.Expr.{Expr}
 use Rattle.ppd_ast.specs.declared.program.Kind.TheVariants.{End}
@@ -43,6 +43,10 @@ WroteRow site r f old new ids ids' = Wrote site.body site.parent (row_code r f) 
 pub record Walked (site : Site) (r : Row) (f g : Frame) (old new : Writer) (ids ids' : List ℕ) : Type 0 where
   pub wrote : Wrote site.body site.parent (row_code r f) (row_faults r f) old new ids ids'
   pub frame : g ≡ after_row r f
+
+-- inside the statement of this number
+abbrev pub inside : Site → ℕ → Site
+inside site n = record { body = site.body; parent = Some n }
 
 -- the test of a statement was added, then the statement, whose place is held
 pub record Began (site : Site) (place : Place) (t : Term) (faults : List Fault) (old new : Writer) (n number : ℕ)

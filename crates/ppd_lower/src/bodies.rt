@@ -333,10 +333,7 @@ pub fn vars_of<L: Ledger>(
 fn count_of(stmts: &Seq<Stmt>) -> Result<u32, Memory>
     ensures { IfOk result (λ count. count ≡ length stmts.now) }
 {
-    match u32::try_from(stmts.len()) {
-        Ok(count) => Ok(count),
-        Err(_) => Err(Memory),
-    }
+    u32::try_from(stmts.len()).map_err(|_| Memory)
 }
 
 /// The functions of a source, or its processes.

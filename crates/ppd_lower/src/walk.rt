@@ -3,7 +3,7 @@ ghost use Rattle.std.specs.Prelude.{◌≡◌, ◌<◌, [], OnOk, IfOk, length, 
 ghost use Rattle.ppd_resolve.specs.Nodes.{phrase_of, below};
 ghost use Rattle.ppd_resolve.specs.Reading.{as_block, as_row, for_row, formula_at, phrase, place_at, rows, statement, worded};
 ghost use Rattle.ppd_resolve.specs.Syntax.{stop, block, choice, repeat};
-ghost use Rattle.ppd_lower.specs.Writing.{Walked};
+ghost use Rattle.ppd_lower.specs.Writing.{Walked, inside};
 ghost use Rattle.ppd_resolve.specs.Cost.{nested_at, nested_child, nested_below, plain_below};
 ghost use Rattle.ppd_lower.specs.Outputs.{Keeps, Walks};
 
@@ -69,12 +69,12 @@ impl<L: Ledger> Lowering<'_, L> {
         }
     }
 
-    // The statements that the child is, as a row of their own; their numbers.
+    // The statements that the child is, as a row of their own inside the statement of a number; their numbers.
     #[cycle(walk)]
-    fn lower_inside(&mut self, level: Level<'_>, id: u32, k: usize) -> Result<Ids, Memory>
+    fn lower_inside(&mut self, level: Level<'_>, at: u32, id: u32, k: usize) -> Result<Ids, Memory>
         requires within { id < length level.source.nodes.now }
         ensures kept { Keeps self.old self.new }
-        ensures walked { IfOk result (λ ids. Walked level.entry.site (as_row (phrase
+        ensures walked { IfOk result (λ ids. Walked (inside level.entry.site at) (as_row (phrase
             (below level.entry.source id) k)) self.old.frame.now self.new.frame.now self.old.out.now.table
             self.new.out.now.table [] ids) }
         ensures row { OnOk result (self.new.out.now.row ≡ self.old.out.now.row) }
@@ -82,9 +82,13 @@ impl<L: Ledger> Lowering<'_, L> {
             3 }
     {
         self.steps.tick();
+        let site = Site {
+            parent: Some(at),
+            ..level.site
+        };
         let row = Ids::new(self.frame.scopes.alloc());
         let outer = replace(&mut self.out.row, row);
-        self.lower_child(level, id, k)?;
+        self.lower_child(Level { site, ..level }, id, k)?;
         Ok(replace(&mut self.out.row, outer))
     }
 
@@ -103,13 +107,8 @@ impl<L: Ledger> Lowering<'_, L> {
         let place = place_at(level.source, id, 0);
         let test = operand_at(level.source, id, 2);
         let begun = self.begin(level, test, place)?;
-        let site = Site {
-            parent: Some(begun.at),
-            ..level.site
-        };
-        let inner = Level { site, ..level };
-        let yes = self.lower_inside(inner, id, 4)?;
-        let no = self.lower_inside(inner, id, 6)?;
+        let yes = self.lower_inside(level, begun.at, id, 4)?;
+        let no = self.lower_inside(level, begun.at, id, 6)?;
         set_stmt(
             &mut self.out.table,
             level.site,
@@ -135,12 +134,7 @@ impl<L: Ledger> Lowering<'_, L> {
         let place = place_at(level.source, id, 0);
         let test = operand_at(level.source, id, 2);
         let begun = self.begin(level, test, place)?;
-        let site = Site {
-            parent: Some(begun.at),
-            ..level.site
-        };
-        let inner = Level { site, ..level };
-        let turn = self.lower_inside(inner, id, 4)?;
+        let turn = self.lower_inside(level, begun.at, id, 4)?;
         set_stmt(
             &mut self.out.table,
             level.site,

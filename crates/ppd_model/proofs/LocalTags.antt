@@ -43,28 +43,10 @@ module _ (program : Program) (plan : Plan) (story : Story) (p k c : ℕ) where
       IsLastLocalWrite program plan story p k c t steps tag ⊎ (IsUnwrittenSinceCall program plan story p k c t steps tag ⊎ IsKept t steps tag)
 
   later_write : (t : Tracing) (x : Taken) (xs : List Taken) (tag : Tag) → IsLastLocalWrite program plan story p k c (next t x) xs tag → IsLastLocalWrite program plan story p k c t (x ∷ xs) tag
-  later_write t x xs tag w = record {
-    before = x ∷ w.before;
-    taken = w.taken;
-    after = w.after;
-    steps_are = ap (λ ys. x ∷ ys) w.steps_are;
-    writes = w.writes;
-    tag_is = w.tag_is;
-    steady = w.steady;
-  }
+  later_write t x xs tag w = record { before = x ∷ w.before; taken = w.taken; after = w.after; steps_are = ap (λ ys. x ∷ ys) w.steps_are; writes = w.writes; tag_is = w.tag_is; steady = w.steady }
 
   later_call : (t : Tracing) (x : Taken) (xs : List Taken) (tag : Tag) → IsUnwrittenSinceCall program plan story p k c (next t x) xs tag → IsUnwrittenSinceCall program plan story p k c t (x ∷ xs) tag
-  later_call t x xs tag w = record {
-    before = x ∷ w.before;
-    taken = w.taken;
-    after = w.after;
-    steps_are = ap (λ ys. x ∷ ys) w.steps_are;
-    is_new = w.is_new;
-    begins = w.begins;
-    no_write = w.no_write;
-    tag_is = w.tag_is;
-    steady = w.steady;
-  }
+  later_call t x xs tag w = record { before = x ∷ w.before; taken = w.taken; after = w.after; steps_are = ap (λ ys. x ∷ ys) w.steps_are; is_new = w.is_new; begins = w.begins; no_write = w.no_write; tag_is = w.tag_is; steady = w.steady }
 
   -- where no step of the rest writes the cell, the first one decides
   first : (t : Tracing) (x : Taken) (xs : List Taken) (tag : Tag) → TagsItsWrites program plan p t (next t x) x → c < cells_in (next t x).proc.frames k → IsKept (next t x) xs tag → Found t (x ∷ xs) tag

@@ -67,6 +67,7 @@ pub fn tags_are_last_writes()
 /// Law: the tag of a local cell, which its readers have as their writer, is the event that last
 /// wrote it in the cell's activation, and none where no event did. An event writes a cell by a
 /// write of its own, as a parameter of the call, or by the value that it returns to it.
+#[tactic(auto, using(crate::proofs::LocalSteps::tags_its_writes, crate::proofs::LocalTags::own_steps_told, crate::proofs::LocalTags::local_tags, crate::proofs::LocalTags::top_reads))]
 pub fn local_tags_are_last_writes()
     ensures steps { StepsTagTheirWrites }
     ensures own { StoriesTellOwnSteps }
@@ -154,6 +155,7 @@ pub fn happened_before_goes_forward()
 /// race, of two steps that conflict the earlier one's edge is before the other's; the writer of a shared
 /// read is the last write of its own edge, else the write in the greatest edge before it that writes the
 /// cell, else none; and the last write of a cell is in the greatest edge that writes it.
+#[tactic(auto, using(crate::proofs::SharedReads::steps_access, crate::proofs::SharedReads::writes_step))]
 pub fn shared_reads_are_found()
     ensures steps { StepsAreAccesses }
     ensures writes { WritesAreSteps }
@@ -178,6 +180,7 @@ pub fn logs_record_runs()
 /// the receive of its number alone leads to it, which is there; both on channels of capacity 0 alone. A
 /// process that took an offer completes it by its next step, or stops for its budget; and a completion
 /// follows its offer straight, of the same statement.
+#[tactic(auto, using(crate::proofs::Rendezvous::completions_lead, crate::proofs::Rendezvous::completions_led_to, crate::proofs::Rendezvous::completions_received, crate::proofs::Rendezvous::offers_completed))]
 pub fn completions_follow_offers()
     ensures counts { ChannelsAreInTurn }
     ensures leads { CompletionsLead }

@@ -5,7 +5,7 @@ ghost use Rattle.ppd_past.specs.Pasts.{IsPast};
 use crate::traced::put_compared;
 use ppd_ast::Steps;
 use ppd_flow::{edges, last};
-use ppd_model::Trace;
+use ppd_model::{Item, Trace};
 use ppd_past::{Past, replayed};
 use ppd_session::why_text;
 use ppd_why::{put_items, put_last};
@@ -39,6 +39,30 @@ fn put_open<L: Ledger>(
     put_items(text, past.program, past.plan, items.as_slice()).ok()
 }
 
+/// An item with its edges, as text.
+fn shown<L: Ledger>(
+    alloc: Global,
+    past: &Past,
+    at: (u8, u32, u32),
+    item: &Item,
+    steps: &mut Steps<L>,
+) -> Option<Vec<u8>>
+    requires { IsPast past.now }
+{
+    let (process, interval, number) = at;
+    let found = edges(alloc, past, process, interval, number, steps).ok()?;
+    why_text(
+        alloc,
+        past,
+        process,
+        interval,
+        number,
+        item,
+        found.as_slice(),
+    )
+    .ok()
+}
+
 fn put_edges<L: Ledger>(
     text: &mut Vec<u8>,
     alloc: Global,
@@ -51,17 +75,7 @@ fn put_edges<L: Ledger>(
     let (process, interval, number) = at;
     let items = replayed(alloc, past, process, interval, steps).ok()?;
     let item = items.as_slice().get(number as usize)?;
-    let found = edges(alloc, past, process, interval, number, steps).ok()?;
-    let shown = why_text(
-        alloc,
-        past,
-        process,
-        interval,
-        number,
-        item,
-        found.as_slice(),
-    )
-    .ok()?;
+    let shown = shown(alloc, past, at, item, steps)?;
     text.extend_from_slice(&shown).ok()
 }
 

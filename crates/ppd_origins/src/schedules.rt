@@ -25,6 +25,20 @@ fn take_lowest(world: &mut World, schedule: &mut Vec<u8>) -> Option<bool>
     Some(true)
 }
 
+/// Takes the step of the lowest enabled process until there is none; which processes these were. None where the run is
+/// longer than 2,000 steps, or memory is wanting.
+fn take_all(alloc: Global, world: &mut World) -> Option<Vec<u8>>
+    requires { IsReached world.old }
+{
+    let mut schedule = Vec::new(alloc);
+    for _ in 0..MOST_STEPS {
+        if !take_lowest(world, &mut schedule)? {
+            return Some(schedule);
+        }
+    }
+    None
+}
+
 /// The schedule of a source in which the lowest enabled process takes each step, under the default options. None where
 /// the source is refused, the run is longer than 2,000 steps, or memory is wanting.
 pub fn lowest_first(alloc: Global, source: &str) -> Option<Vec<u8>> {
@@ -37,11 +51,5 @@ pub fn lowest_first(alloc: Global, source: &str) -> Option<Vec<u8>> {
     let Ok(mut world) = World::new(alloc, &program, &plan, 100_000) else {
         return None;
     };
-    let mut schedule = Vec::new(alloc);
-    for _ in 0..MOST_STEPS {
-        if !take_lowest(&mut world, &mut schedule)? {
-            return Some(schedule);
-        }
-    }
-    None
+    take_all(alloc, &mut world)
 }

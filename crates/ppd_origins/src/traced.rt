@@ -100,6 +100,19 @@ fn places_in(alloc: Global, intervals: &[Seq<Item>]) -> Option<Seq<Place>> {
     None
 }
 
+/// The place of each event of a process.
+fn places_of<L: Ledger>(
+    alloc: Global,
+    past: &Past,
+    process: u8,
+    steps: &mut Steps<L>,
+) -> Option<Seq<Place>>
+    requires { IsPast past.now }
+{
+    let intervals = intervals_of(alloc, past, process, steps)?;
+    places_in(alloc, intervals.as_slice())
+}
+
 /// The place of each event of each process; of one that is not there no place.
 fn all_places<L: Ledger>(
     alloc: Global,
@@ -110,9 +123,7 @@ fn all_places<L: Ledger>(
 {
     let mut all = Seq::new(alloc);
     for process in 0..PROCESSES {
-        let intervals = intervals_of(alloc, past, process, steps)?;
-        let places = places_in(alloc, intervals.as_slice())?;
-        all.push(places).ok()?;
+        all.push(places_of(alloc, past, process, steps)?).ok()?;
     }
     Some(all)
 }
@@ -132,27 +143,34 @@ fn origin_of(all: &[Seq<Place>], event: Option<EventId>, none: Origin) -> Option
     })
 }
 
-fn bare(kind: EdgeKind, from: Origin) -> FlowEdge {
-    FlowEdge {
+/// Puts an edge of no cell behind these.
+fn push_bare(edges: &mut Seq<FlowEdge>, kind: EdgeKind, from: Option<Origin>) -> Option<()> {
+    let edge = FlowEdge {
         kind,
         spot: None,
         value: None,
-        from,
-    }
+        from: from?,
+    };
+    edges.push(edge).ok()
+}
+
+/// The edge of an event's read of this number.
+fn read_of(event: &TracedEvent, number: usize, all: &[Seq<Place>]) -> Option<FlowEdge> {
+    let read = event.event.reads.as_slice().get(number)?;
+    let writer = *event.writers.as_slice().get(number)?;
+    Some(FlowEdge {
+        kind: EdgeKind::Read,
+        spot: Some(read.spot),
+        value: Some(read.value),
+        from: origin_of(all, writer, Origin::Initial)?,
+    })
 }
 
 /// The edges of an event's reads.
 fn reads_of(alloc: Global, event: &TracedEvent, all: &[Seq<Place>]) -> Option<Seq<FlowEdge>> {
     let mut edges = Seq::new(alloc);
-    for (number, read) in event.event.reads.as_slice().iter().enumerate() {
-        let writer = *event.writers.as_slice().get(number)?;
-        let edge = FlowEdge {
-            kind: EdgeKind::Read,
-            spot: Some(read.spot),
-            value: Some(read.value),
-            from: origin_of(all, writer, Origin::Initial)?,
-        };
-        edges.push(edge).ok()?;
+    for number in 0..event.event.reads.len() {
+        edges.push(read_of(event, number, all)?).ok()?;
     }
     Some(edges)
 }
@@ -174,11 +192,11 @@ fn edges_of(
 ) -> Option<Seq<FlowEdge>> {
     let mut edges = reads_of(alloc, event, all)?;
     if event.paired.is_some() || is_taking(program, event) {
-        let from = origin_of(all, event.paired, Origin::Initial)?;
-        edges.push(bare(EdgeKind::Sync, from)).ok()?;
+        let from = origin_of(all, event.paired, Origin::Initial);
+        push_bare(&mut edges, EdgeKind::Sync, from)?;
     }
-    let from = origin_of(all, event.parent, Origin::Entry)?;
-    edges.push(bare(EdgeKind::Control, from)).ok()?;
+    let from = origin_of(all, event.parent, Origin::Entry);
+    push_bare(&mut edges, EdgeKind::Control, from)?;
     Some(edges)
 }
 
@@ -225,6 +243,38 @@ fn are_found<L: Ledger>(
     Some(true)
 }
 
+fn put_told(text: &mut Vec<u8>, count: usize, found: bool) -> Option<()> {
+    let told: &[u8] = if found {
+        b" as traced\n"
+    } else {
+        b" otherwise\n"
+    };
+    put_count(text, count).ok()?;
+    put(text, told).ok()
+}
+
+/// Appends for each process how many events it has, and whether each has the edges that are found.
+fn put_processes<L: Ledger>(
+    text: &mut Vec<u8>,
+    alloc: Global,
+    past: &Past,
+    lists: &[Seq<TracedEvent>],
+    all: &[Seq<Place>],
+    steps: &mut Steps<L>,
+) -> Option<()>
+    requires { IsPast past.now }
+{
+    for process in 0..PROCESSES {
+        let Some(events) = lists.get(process as usize) else {
+            return Some(());
+        };
+        let events = events.as_slice();
+        let found = are_found(alloc, past, process, events, all, steps)?;
+        put_told(text, events.len(), found)?;
+    }
+    Some(())
+}
+
 /// Appends for each process of the trace how many events it has, and whether each has the edges that are found.
 pub fn put_compared<L: Ledger>(
     text: &mut Vec<u8>,
@@ -235,21 +285,13 @@ pub fn put_compared<L: Ledger>(
 ) -> Option<()>
     requires { IsPast past.now }
 {
-    let lists = trace.events.as_slice();
     let all = all_places(alloc, past, steps)?;
-    for process in 0..PROCESSES {
-        let Some(events) = lists.get(process as usize) else {
-            return Some(());
-        };
-        let events = events.as_slice();
-        let found = are_found(alloc, past, process, events, all.as_slice(), steps)?;
-        put_count(text, events.len()).ok()?;
-        let told: &[u8] = if found {
-            b" as traced\n"
-        } else {
-            b" otherwise\n"
-        };
-        put(text, told).ok()?;
-    }
-    Some(())
+    put_processes(
+        text,
+        alloc,
+        past,
+        trace.events.as_slice(),
+        all.as_slice(),
+        steps,
+    )
 }

@@ -338,8 +338,7 @@ parts (chain_end l) = []
 parts (chain_more l) = P.Here (S.Operator l) ∷ P.Here (S.Operand l) ∷ P.Wrap R.Binary ∷ P.Here (S.Chain l) ∷ []
 
 -- An optional part is left out only where the next token does not begin it: so an else belongs to the nearest open
--- if. A name
--- before a parenthesis is a call, and no expression.
+-- if. A name before a parenthesis is a call, and no expression.
 abbrev pub Stands : {s : Symbol} → Production s → Kind → Type 0
 Stands no_start k = (k ≢ K.AssignMark) × (k ≢ K.LeftBracket)
 Stands no_sem_start k = (k ≢ K.AssignMark)

@@ -10,11 +10,11 @@ use Rattle.ppd_parse.specs.declared.symbol.Want.TheVariants.{Get, Close}
 
 -- the moves for a symbol that may be empty, or that goes on with what is read
 abbrev pub weight : Symbol → ℕ
-weight (S.Chain l) = 1
 weight S.SharedStart = 1
 weight S.SemStart = 1
 weight S.ParamItems = 1
 weight S.LocalStart = 1
+weight (S.Chain l) = 1
 weight S.PlaceEnd = 1
 weight S.ElsePart = 1
 weight S.ExprRest = 7

@@ -9,8 +9,7 @@ use Rattle.ppd_parse.specs.Grammar.{Shape}
 use Rattle.ppd_parse.specs.Table.{no_shape, shape_or}
 
 -- the trees of the nodes from number i on: a leaf's is its token, another's its rule over its children's; child c of
--- node i
--- stands in place c - (i + 1) of the nodes after it
+-- node i stands in place c - (i + 1) of the nodes after it
 abbrev pub trees_from : ℕ → List Node → List Shape
 trees_from i [] = []
 trees_from i (n ∷ ns) =
@@ -26,8 +25,7 @@ abbrev pub children_of : List Node → List ℕ
 children_of ns = flat_map (λ n. n.children) ns
 
 -- Node 0 is the root. The children of a node are nodes with larger numbers, and each node but the root is the child
--- of one
--- node, once: none is shared, none is stray. The leaves are the nodes with a token, and have no children.
+-- of one node, once: none is shared, none is stray. The leaves are the nodes with a token, and have no children.
 pub record IsTable (ns : List Node) : Type 0 where
   pub some : 0 < length ns
   pub larger : (i : ℕ) (d : Node) → i < length ns

@@ -15,10 +15,7 @@ fn copy_kind(kind: &TokenKind) -> Result<TokenKind, AllocError>
     ensures { IfOk result (λ copy. copy ≡ kind.now) }
 {
     match kind {
-        TokenKind::Name(text) => match text.clone() {
-            Ok(copy) => Ok(TokenKind::Name(copy)),
-            Err(error) => Err(error),
-        },
+        TokenKind::Name(text) => Ok(TokenKind::Name(text.clone()?)),
         TokenKind::Number(value) => Ok(TokenKind::Number(*value)),
         TokenKind::Word(kind) => Ok(TokenKind::Word(*kind)),
         TokenKind::Mark(kind) => Ok(TokenKind::Mark(*kind)),

@@ -9,6 +9,7 @@ use ppd_entry::At;
 use ppd_index::BadLog;
 use ppd_sem::{Spot, Status, SyncKind, Trap};
 use std::alloc::Global;
+use std::process::Abort;
 use std::test::Fail;
 
 const BUDGET: u32 = 100_000;
@@ -60,9 +61,13 @@ const BEGUN: Wrote<'static> = Prelog(0, &[]);
 
 const FIRST_UNIT: Wrote<'static> = Unit(0, &[0]);
 
+const BARE_UNIT: Wrote<'static> = Unit(0, &[]);
+
 const LEFT: Wrote<'static> = Postlog(0, &[]);
 
 const OVER: Wrote<'static> = End(Status::Ended, 1);
+
+const BLOCKED: Wrote<'static> = End(Status::Blocked, 0);
 
 // The log of the smallest run, and with one damage: a unit that is not there, an End inside no interval, no End,
 // and two.
@@ -110,13 +115,12 @@ const FIRST: Spot = Spot::Local { frame: 0, cell: 0 };
 
 /// The log of a stop for the budget after so many steps.
 fn stopped(rest: u32) -> [Wrote<'static>; 3] {
-    [Prelog(0, &[]), Unit(0, &[]), End(Status::Budget, rest)]
+    [BEGUN, BARE_UNIT, End(Status::Budget, rest)]
 }
 
-// The log of a stop for the budget: with a rest too long the sixth step costs more than is left,
-// with one too short fewer steps are replayed, and without its End it has no index.
+// The log of a stop for the budget with a rest too long: the sixth step costs more than is left.
 #[test]
-fn damaged_rest(rt: HostRuntime) {
+fn rest_too_long(rt: HostRuntime) {
     let alloc = rt.alloc();
     let long = claimed(alloc, ENDLESS, &BARE, &stopped(6)).expect(&rt, "a log");
     let failed = EmulError::Diverged {
@@ -125,18 +129,32 @@ fn damaged_rest(rt: HostRuntime) {
         found: Found::End(Status::Budget),
     };
     assert!(rt; replay(alloc, &long, 5, 0, 0) == Some(Err(failed)));
-    let items = [
-        Own(0, &[], &[(FIRST, 0)], None),
-        Own(1, &[], &[], Some(1)),
-        Own(2, &[(FIRST, 0)], &[(FIRST, 1)], None),
-        Own(1, &[], &[], Some(1)),
-    ];
+}
+
+/// The items of a replay of four steps.
+const FOUR_ITEMS: [Shown<'static>; 4] = [
+    Own(0, &[], &[(FIRST, 0)], None),
+    Own(1, &[], &[], Some(1)),
+    Own(2, &[(FIRST, 0)], &[(FIRST, 1)], None),
+    Own(1, &[], &[], Some(1)),
+];
+
+// With a rest too short fewer steps are replayed.
+#[test]
+fn rest_too_short(rt: HostRuntime) {
+    let alloc = rt.alloc();
     let short = claimed(alloc, ENDLESS, &BARE, &stopped(4)).expect(&rt, "a log");
     match replay(alloc, &short, 5, 0, 0) {
-        Some(Ok(trace)) => assert!(rt; are_items(&trace, &items)),
+        Some(Ok(trace)) => assert!(rt; are_items(&trace, &FOUR_ITEMS)),
         _ => panic!(rt; "a replay"),
     }
-    let open = claimed(alloc, ENDLESS, &BARE, &[Prelog(0, &[]), Unit(0, &[])]).expect(&rt, "a log");
+}
+
+// Without its End the log of a stop for the budget has no index.
+#[test]
+fn rest_left_out(rt: HostRuntime) {
+    let alloc = rt.alloc();
+    let open = claimed(alloc, ENDLESS, &BARE, &[BEGUN, BARE_UNIT]).expect(&rt, "a log");
     let bad = index_of(alloc, &open).err();
     assert!(rt;
         bad == Some(BadLog::NoEnd(At {
@@ -146,94 +164,93 @@ fn damaged_rest(rt: HostRuntime) {
     );
 }
 
-// Where a unit or a synchronization is wanted: another unit, kind or value, or another piece.
-#[test]
-fn other_units_and_synchronizations(rt: HostRuntime) {
-    let alloc = rt.alloc();
-    let over = End(Status::Blocked, 0);
-    let begun = Prelog(0, &[]);
-    let first = Unit(0, &[]);
-    assert!(rt;
-        failure(alloc, LOCKED, &BARE, &[begun, over], 0)
-            == Some((1, Wanted::Unit(0), Found::End(Status::Blocked)))
-    );
-    let taken = Sync(SyncKind::P, 1, 0);
-    assert!(rt;
-        failure(
-            alloc,
-            LOCKED,
-            &BARE,
-            &[begun, first, taken, Unit(2, &[]), over],
-            0
-        ) == Some((3, Wanted::Unit(1), Found::Unit(2)))
-    );
-    let given = Sync(SyncKind::V, 1, 0);
-    let wanted = Wanted::Sync(SyncKind::P, 0, 0);
-    assert!(rt;
-        failure(
-            alloc,
-            LOCKED,
-            &BARE,
-            &[begun, first, given, Unit(1, &[0]), over],
-            0
-        ) == Some((2, wanted, Found::Sync(SyncKind::V, 0, 0)))
-    );
-    let sent = Sync(SyncKind::Send, 1, 9);
-    let wanted = Wanted::Sync(SyncKind::Send, 0, 7);
-    assert!(rt;
-        failure(
-            alloc,
-            CHANNEL,
-            &BARE,
-            &[begun, first, sent, Unit(1, &[]), over],
-            0
-        ) == Some((2, wanted, Found::Sync(SyncKind::Send, 0, 9)))
-    );
+/// Asserts why the first interval of this log cannot be replayed: the entry, what was wanted and what was found.
+fn check_failure(
+    rt: &impl Abort,
+    alloc: Global,
+    source: &str,
+    policy: &Policy,
+    wrote: &[Wrote],
+    failed: (u32, Wanted, Found),
+) {
+    assert!(rt; failure(alloc, source, policy, wrote, 0) == Some(failed));
 }
 
-// Where an interval inside, a postlog or a trap is wanted: another piece, other values, another trap.
+// Where a unit is wanted: another piece, or another unit.
 #[test]
-fn other_intervals_and_ends(rt: HostRuntime) -> Result<(), Fail> {
+fn other_units(rt: HostRuntime) {
     let alloc = rt.alloc();
-    let begun = Prelog(0, &[]);
-    let first = Unit(0, &[]);
-    let left = Postlog(0, &[]);
-    let over = End(Status::Ended, 1);
-    assert!(rt;
-        failure(
-            alloc,
-            LOOP,
-            &LOOPS,
-            &[begun, first, Unit(2, &[]), left, over],
-            0
-        ) == Some((2, Wanted::Nested(1), Found::Unit(2)))
-    );
-    let inner = [
-        begun,
-        first,
+    let failed = (1, Wanted::Unit(0), Found::End(Status::Blocked));
+    check_failure(&rt, alloc, LOCKED, &BARE, &[BEGUN, BLOCKED], failed);
+    let taken = Sync(SyncKind::P, 1, 0);
+    let wrote = [BEGUN, BARE_UNIT, taken, Unit(2, &[]), BLOCKED];
+    let failed = (3, Wanted::Unit(1), Found::Unit(2));
+    check_failure(&rt, alloc, LOCKED, &BARE, &wrote, failed);
+}
+
+// Where a synchronization is wanted: another kind, or another value.
+#[test]
+fn other_synchronizations(rt: HostRuntime) {
+    let alloc = rt.alloc();
+    let given = Sync(SyncKind::V, 1, 0);
+    let wrote = [BEGUN, BARE_UNIT, given, Unit(1, &[0]), BLOCKED];
+    let wanted = Wanted::Sync(SyncKind::P, 0, 0);
+    let failed = (2, wanted, Found::Sync(SyncKind::V, 0, 0));
+    check_failure(&rt, alloc, LOCKED, &BARE, &wrote, failed);
+    let sent = Sync(SyncKind::Send, 1, 9);
+    let wrote = [BEGUN, BARE_UNIT, sent, Unit(1, &[]), BLOCKED];
+    let wanted = Wanted::Sync(SyncKind::Send, 0, 7);
+    let failed = (2, wanted, Found::Sync(SyncKind::Send, 0, 9));
+    check_failure(&rt, alloc, CHANNEL, &BARE, &wrote, failed);
+}
+
+// Where an interval inside is wanted: another piece.
+#[test]
+fn other_intervals(rt: HostRuntime) {
+    let wrote = [BEGUN, BARE_UNIT, Unit(2, &[]), LEFT, OVER];
+    let failed = (2, Wanted::Nested(1), Found::Unit(2));
+    check_failure(&rt, rt.alloc(), LOOP, &LOOPS, &wrote, failed);
+}
+
+// Where a postlog is wanted: other values.
+#[test]
+fn other_postlogs(rt: HostRuntime) -> Result<(), Fail> {
+    let alloc = rt.alloc();
+    let wrote = [
+        BEGUN,
+        BARE_UNIT,
         Prelog(1, &[3]),
         Unit(1, &[]),
         Postlog(1, &[4]),
         Unit(2, &[]),
-        left,
-        over,
+        LEFT,
+        OVER,
     ];
     let three = Seq::from_vec(vec![in alloc; 3]?);
     let four = Seq::from_vec(vec![in alloc; 4]?);
     assert!(rt;
-        failure(alloc, LOOP, &LOOPS, &inner, 1)
+        failure(alloc, LOOP, &LOOPS, &wrote, 1)
             == Some((4, Wanted::Postlog(three), Found::Postlog(four)))
     );
-    let zero = Status::Trap(Trap::Zero);
-    let trapped = [begun, Unit(0, &[0, 0]), End(zero, 0)];
-    assert!(rt;
-        failure(alloc, PAST, &BARE, &trapped, 0)
-            == Some((2, Wanted::End(Status::Trap(Trap::Index)), Found::End(zero)))
-    );
-    let goes_on = [begun, first, End(Status::Blocked, 1)];
-    assert!(rt;
-        failure(alloc, ENDLESS, &BARE, &goes_on, 0)
-            == Some((2, Wanted::Fewer, Found::End(Status::Blocked)))
-    );
     Ok(())
+}
+
+// Where a trap is wanted: another trap; and where fewer steps are wanted, an end for another reason.
+#[test]
+fn other_ends(rt: HostRuntime) {
+    let alloc = rt.alloc();
+    let zero = Status::Trap(Trap::Zero);
+    let trapped = [BEGUN, Unit(0, &[0, 0]), End(zero, 0)];
+    let wanted = Wanted::End(Status::Trap(Trap::Index));
+    check_failure(
+        &rt,
+        alloc,
+        PAST,
+        &BARE,
+        &trapped,
+        (2, wanted, Found::End(zero)),
+    );
+    let goes_on = [BEGUN, BARE_UNIT, End(Status::Blocked, 1)];
+    let failed = (2, Wanted::Fewer, Found::End(Status::Blocked));
+    check_failure(&rt, alloc, ENDLESS, &BARE, &goes_on, failed);
 }

@@ -8,6 +8,7 @@ use ppd_ast::{Policy, Status};
 use ppd_entry::{At, Piece};
 use ppd_index::{BadLog, Interval, LogIndex};
 use std::alloc::Global;
+use std::process::Abort;
 use std::test::Fail;
 
 /// Block 0 is the function, 1 the process, 2 the loop with one local cell; unit 0 reads nothing.
@@ -194,20 +195,35 @@ fn has(
     true
 }
 
-// A loop that was never entered is a piece of the process's interval, by number, block and postlog.
+/// Asserts the block, depth and values of interval `k` of a log, and its pieces.
+fn check_interval(
+    rt: &impl Abort,
+    alloc: Global,
+    wrote: &[Wrote],
+    k: u32,
+    head: (u16, u8, &[i64]),
+    pieces: &[(u32, Piece)],
+) {
+    let run = run_of(alloc, wrote).expect(rt, "a log");
+    let index = index_of(alloc, &run).expect(rt, "an index");
+    assert!(rt; has(&run, &index, k, head, pieces), "{k}");
+}
+
+const NEVER_ENTERED: [Wrote<'static>; 8] = [
+    BODY,
+    FIRST,
+    Prelog(2, &[3]),
+    FIRST,
+    Postlog(2, &[4]),
+    FIRST,
+    LEFT,
+    OVER,
+];
+
+// A loop that was never entered has an interval.
 #[test]
 fn loop_never_entered(rt: HostRuntime) {
-    let wrote = [
-        BODY,
-        FIRST,
-        Prelog(2, &[3]),
-        FIRST,
-        Postlog(2, &[4]),
-        FIRST,
-        LEFT,
-        OVER,
-    ];
-    let run = run_of(rt.alloc(), &wrote).expect(&rt, "a log");
+    let run = run_of(rt.alloc(), &NEVER_ENTERED).expect(&rt, "a log");
     let index = index_of(rt.alloc(), &run).expect(&rt, "an index");
     let inner = Interval {
         block: 2,
@@ -218,25 +234,30 @@ fn loop_never_entered(rt: HostRuntime) {
         depth: 0,
     };
     assert!(rt; index.interval(0, 1) == Some(inner) && index.interval(0, 2).is_none());
+}
+
+// A loop that was never entered is a piece of the process's interval, by number, block and postlog.
+#[test]
+fn pieces_outside_and_inside_a_loop(rt: HostRuntime) {
+    let alloc = rt.alloc();
     let outside = [
         (1, Piece::Unit(0, &[])),
         (2, Piece::Nested(1, 2, &[4])),
         (5, Piece::Unit(0, &[])),
         (6, Piece::Postlog(&[])),
     ];
-    assert!(rt; has(&run, &index, 0, (1, 0, &[]), &outside));
+    check_interval(&rt, alloc, &NEVER_ENTERED, 0, (1, 0, &[]), &outside);
     let inside = [(3, Piece::Unit(0, &[])), (4, Piece::Postlog(&[4]))];
-    assert!(rt; has(&run, &index, 1, (2, 0, &[3]), &inside));
+    check_interval(&rt, alloc, &NEVER_ENTERED, 1, (2, 0, &[3]), &inside);
 }
 
 // Inside a call that was not left the End is the last piece, and the call is unfinished for its caller.
 #[test]
 fn unfinished_call(rt: HostRuntime) {
+    let alloc = rt.alloc();
     let wrote = [BODY, FIRST, Prelog(0, &[]), FIRST, End(Status::Budget, 5)];
-    let run = run_of(rt.alloc(), &wrote).expect(&rt, "a log");
-    let index = index_of(rt.alloc(), &run).expect(&rt, "an index");
     let outside = [(1, Piece::Unit(0, &[])), (2, Piece::Unfinished(1, 0))];
-    assert!(rt; has(&run, &index, 0, (1, 0, &[]), &outside));
+    check_interval(&rt, alloc, &wrote, 0, (1, 0, &[]), &outside);
     let inside = [(3, Piece::Unit(0, &[])), (4, Piece::End(Status::Budget, 5))];
-    assert!(rt; has(&run, &index, 1, (0, 1, &[]), &inside));
+    check_interval(&rt, alloc, &wrote, 1, (0, 1, &[]), &inside);
 }

@@ -1,6 +1,5 @@
 -- What a source has declared so far, as the code keeps it: semaphores and channels as in the table, functions and
--- processes by
--- their nodes. Start values are kept as far as the shared cells are not too many.
+-- processes by their nodes. Start values are kept as far as the shared cells are not too many.
 use Rattle.std.specs.Prelude.{ℕ, ℤ, pos, Bool, nat_le, nat_lt, List, [], ◌∷◌, ◌++◌, length, replicate, Option, Some, if◌then◌else◌}
 use Rattle.ppd_ast.specs.declared.limits.TheConstants.{MOST_SHARED_CELLS, MOST_SEMAPHORES, MOST_CHANNELS}
 use Rattle.ppd_ast.specs.declared.program.Place.{Place}

@@ -232,8 +232,7 @@ locals (changing s ∷ ps) = simple s (locals ps)
 locals (p ∷ ps) = locals ps
 
 -- The parts of a `for` after its parenthesis: what comes first, up to a semicolon; the test, up to another, 1 where
--- it is
--- empty; and what comes after each turn.
+-- it is empty; and what comes after each turn.
 
 abbrev pub some_change : Phrase → Option Simple
 some_change (changing s) = Some s

@@ -48,8 +48,7 @@ pub data Simple : Type 0 where
   assert : Place → Formula → Simple
 
 -- Statements in a row: a statement, then the rest. What stands inside an `if`, a `while` or a `for` is a row of one,
--- of none
--- where an `else` is missing. An empty statement is a block of none.
+-- of none where an `else` is missing. An empty statement is a block of none.
 pub data Row : Type 0 where
   stop : Row
   simple : Simple → Row → Row
@@ -65,8 +64,7 @@ pub record Block : Type 0 where
   pub close : Place
 
 -- What is declared for the whole source: a shared variable with its start value, or with its length, a semaphore with
--- its
--- start value, a channel with its capacity, a function with its parameters, and whether it gives a value, and a
+-- its start value, a channel with its capacity, a function with its parameters, and whether it gives a value, and a
 -- process.
 pub data Item : Type 0 where
   shared : Name → ℤ → Item

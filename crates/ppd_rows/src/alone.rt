@@ -55,17 +55,31 @@ fn start(alloc: Global, program: &Program, plan: &Plan, budget: u32) -> Result<R
     requires range { program.now.functions < 2 ^ 16 }
     ensures { IfOk result (λ ran. IsRunning program.now ran.proc) }
 {
-    let proc = Proc::start(alloc, program, plan, 0, budget)?;
-    let mut cells = Nums::new(alloc);
-    for value in program.starts.as_slice() {
-        cells.push(*value)?;
-    }
+    let cells = Nums::from_vec(Vec::from_slice(alloc, program.starts.as_slice())?);
     Ok(Ran {
-        proc,
+        proc: Proc::start(alloc, program, plan, 0, budget)?,
         needs: Seq::new(alloc),
         events: Seq::new(alloc),
         cells,
     })
+}
+
+/// Takes so many steps.
+fn run_steps(
+    alloc: Global,
+    program: &Program,
+    plan: &Plan,
+    ran: &mut Ran,
+    steps: usize,
+) -> Result<(), Memory>
+    requires program { IsRunnable program.now }
+    requires plan { IsNumbered plan.now }
+    requires proc { IsRunning program.now ran.old.proc }
+{
+    for _ in 0..steps {
+        step(alloc, program, plan, ran)?;
+    }
+    Ok(())
 }
 
 /// The first process, run until it needs nothing more or took so many steps. None where program
@@ -85,8 +99,6 @@ pub fn run(
     }
     valid_can_run();
     let mut ran = start(alloc, program, plan, budget).ok()?;
-    for _ in 0..steps {
-        step(alloc, program, plan, &mut ran).ok()?;
-    }
+    run_steps(alloc, program, plan, &mut ran, steps).ok()?;
     Some(ran)
 }

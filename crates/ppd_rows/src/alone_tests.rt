@@ -6,6 +6,7 @@ use ppd_ast::{Plan, Policy};
 use ppd_check::read_source;
 use ppd_sem::{Access, Event, Need, Spot, Status, Trap};
 use std::alloc::Global;
+use std::process::Abort;
 
 const BUDGET: u32 = 100_000;
 
@@ -17,10 +18,10 @@ fn process_of(
     budget: u32,
     steps: usize,
 ) -> Option<Ran> {
-    let program = read_source(alloc, source.as_bytes()).ok()?;
     if leaf > MOST_POLICY || loops > MOST_POLICY {
         return None;
     }
+    let program = read_source(alloc, source.as_bytes()).ok()?;
     let plan = Plan::bare(alloc, &program, &Policy { leaf, loops }).ok()?;
     run(alloc, &program, &plan, budget, steps)
 }
@@ -103,19 +104,24 @@ fn has_end(ran: &Ran, row: &Row) -> bool {
         && ran.proc.prints.as_slice() == prints
 }
 
-/// What of a row does not hold, if something does not.
-fn fault(alloc: Global, row: &Row) -> Option<&'static str> {
-    let Some(ran) = process_of(alloc, row.source, row.policy, row.budget, row.tried) else {
-        return Some("no run");
-    };
-    if !has_end(&ran, row) {
+/// What of a row does not hold of this run.
+fn fault_of(ran: &Ran, row: &Row) -> Option<&'static str> {
+    if !has_end(ran, row) {
         Some("another end")
-    } else if !have_needs(&ran, row) {
+    } else if !have_needs(ran, row) {
         Some("another need")
-    } else if !have_events(&ran, row) {
+    } else if !have_events(ran, row) {
         Some("another event")
     } else {
         None
+    }
+}
+
+/// What of a row does not hold, if something does not.
+fn fault(alloc: Global, row: &Row) -> Option<&'static str> {
+    match process_of(alloc, row.source, row.policy, row.budget, row.tried) {
+        Some(ran) => fault_of(&ran, row),
+        None => Some("no run"),
     }
 }
 
@@ -420,21 +426,29 @@ const ROWS: [Row<'static>; 17] = [
     },
 ];
 
+/// Asserts that a row holds.
+fn check_row(rt: &impl Abort, alloc: Global, row: &Row) {
+    let source = row.source;
+    assert_eq!(rt; fault(alloc, row), None, "{source}");
+}
+
 #[test]
 fn worked_processes(rt: HostRuntime) {
     for row in &ROWS {
-        let source = row.source;
-        assert_eq!(rt; fault(rt.alloc(), row), None, "{source}");
+        check_row(&rt, rt.alloc(), row);
     }
 }
 
-/// What an expression over the least and the greatest number comes to. None where the source is
-/// refused, or the process stops in another way.
-fn value_of(alloc: Global, expr: &str) -> Option<Result<i64, Trap>> {
+/// A process that prints an expression over the least and the greatest number.
+fn printing(alloc: Global, expr: &str) -> Option<Ran> {
     let source = format!(in alloc;
         "process a {{ int min = -9223372036854775807 - 1; int max = 9223372036854775807; print({expr}); }}"
     ).ok()?;
-    let ran = process_of(alloc, source.as_str(), (0, 0), BUDGET, 4)?;
+    process_of(alloc, source.as_str(), (0, 0), BUDGET, 4)
+}
+
+/// What a process prints first, or its trap. None where it stops in another way.
+fn printed(ran: &Ran) -> Option<Result<i64, Trap>> {
     match ran.proc.status {
         Some(Status::Ended) => Some(Ok(*ran.proc.prints.as_slice().first()?)),
         Some(Status::Trap(trap)) => Some(Err(trap)),
@@ -442,39 +456,55 @@ fn value_of(alloc: Global, expr: &str) -> Option<Result<i64, Trap>> {
     }
 }
 
+/// What an expression over the least and the greatest number comes to. None where the source is
+/// refused, or the process stops in another way.
+fn value_of(alloc: Global, expr: &str) -> Option<Result<i64, Trap>> {
+    match printing(alloc, expr) {
+        Some(ran) => printed(&ran),
+        None => None,
+    }
+}
+
+/// Asserts what an expression comes to.
+fn check_value(rt: &impl Abort, alloc: Global, expr: &str, value: Result<i64, Trap>) {
+    assert_eq!(rt; value_of(alloc, expr), Some(value), "{expr}");
+}
+
 const OVERFLOW: Result<i64, Trap> = Err(Trap::Overflow);
 
 const ZERO: Result<i64, Trap> = Err(Trap::Zero);
 
+const BORDERS: [(&str, Result<i64, Trap>); 25] = [
+    ("max + 1", OVERFLOW),
+    ("min + -1", OVERFLOW),
+    ("max + min", Ok(-1)),
+    ("min - 1", OVERFLOW),
+    ("0 - min", OVERFLOW),
+    ("-1 - min", Ok(i64::MAX)),
+    ("min * -1", OVERFLOW),
+    ("3037000500 * 3037000500", OVERFLOW),
+    ("4294967296 * -2147483648", Ok(i64::MIN)),
+    ("min / -1", OVERFLOW),
+    ("min / 1", Ok(i64::MIN)),
+    ("5 / 0", ZERO),
+    ("-7 / 2", Ok(-3)),
+    ("7 / -2", Ok(-3)),
+    ("min % -1", OVERFLOW),
+    ("5 % 0", ZERO),
+    ("-7 % 2", Ok(-1)),
+    ("7 % -2", Ok(1)),
+    ("min < max", Ok(1)),
+    ("2 < 2", Ok(0)),
+    ("2 <= 2", Ok(1)),
+    ("-1 > -2", Ok(1)),
+    ("-2 >= -1", Ok(0)),
+    ("2 == 2", Ok(1)),
+    ("2 != 2", Ok(0)),
+];
+
 #[test]
 fn arithmetic_at_the_borders(rt: HostRuntime) {
-    for (expr, value) in [
-        ("max + 1", OVERFLOW),
-        ("min + -1", OVERFLOW),
-        ("max + min", Ok(-1)),
-        ("min - 1", OVERFLOW),
-        ("0 - min", OVERFLOW),
-        ("-1 - min", Ok(i64::MAX)),
-        ("min * -1", OVERFLOW),
-        ("3037000500 * 3037000500", OVERFLOW),
-        ("4294967296 * -2147483648", Ok(i64::MIN)),
-        ("min / -1", OVERFLOW),
-        ("min / 1", Ok(i64::MIN)),
-        ("5 / 0", ZERO),
-        ("-7 / 2", Ok(-3)),
-        ("7 / -2", Ok(-3)),
-        ("min % -1", OVERFLOW),
-        ("5 % 0", ZERO),
-        ("-7 % 2", Ok(-1)),
-        ("7 % -2", Ok(1)),
-        ("min < max", Ok(1)),
-        ("2 < 2", Ok(0)),
-        ("2 <= 2", Ok(1)),
-        ("-1 > -2", Ok(1)),
-        ("-2 >= -1", Ok(0)),
-        ("2 == 2", Ok(1)),
-        ("2 != 2", Ok(0)),
-    ] {
-        assert_eq!(rt; value_of(rt.alloc(), expr), Some(value), "{expr}");
+    for (expr, value) in BORDERS {
+        check_value(&rt, rt.alloc(), expr, value);
     }
 }

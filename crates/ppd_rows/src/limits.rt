@@ -16,14 +16,8 @@ fn stmt(parent: Option<u32>, kind: Kind) -> Stmt {
     }
 }
 
-/// A process of these statements, over a shared scalar and a shared array of one cell.
-fn program(
-    alloc: Global,
-    exprs: Vec<Expr>,
-    stmts: Vec<Stmt>,
-    top: &[u32],
-) -> Result<Program, AllocError> {
-    let end = stmts.len().min(4096) as u32;
+/// A process of so many statements.
+fn process(alloc: Global, top: &[u32], end: u32) -> Result<Seq<Body>, AllocError> {
     let mut bodies = Vec::new(alloc);
     bodies.push(Body {
         name: Seq::new(alloc),
@@ -36,6 +30,11 @@ fn program(
         first: 0,
         end,
     })?;
+    Ok(Seq::from_vec(bodies))
+}
+
+/// A scalar, and an array of one cell.
+fn shared(alloc: Global) -> Result<Seq<Var>, AllocError> {
     let mut shared = Vec::new(alloc);
     for (base, len) in [(0, None), (1, Some(1))] {
         shared.push(Var {
@@ -44,12 +43,23 @@ fn program(
             len,
         })?;
     }
+    Ok(Seq::from_vec(shared))
+}
+
+/// A process of these statements, over a shared scalar and a shared array of one cell.
+fn program(
+    alloc: Global,
+    exprs: Vec<Expr>,
+    stmts: Vec<Stmt>,
+    top: &[u32],
+) -> Result<Program, AllocError> {
+    let end = stmts.len().min(4096) as u32;
     Ok(Program {
         exprs: Seq::from_vec(exprs),
         stmts: Seq::from_vec(stmts),
-        bodies: Seq::from_vec(bodies),
+        bodies: process(alloc, top, end)?,
         functions: 0,
-        shared: Seq::from_vec(shared),
+        shared: shared(alloc)?,
         starts: Seq::from_vec(vec![in alloc; 0; 2]?),
         sems: Seq::new(alloc),
         chans: Seq::new(alloc),

@@ -6,6 +6,7 @@ use ppd_ast::{
 };
 use ppd_check::read_source;
 use std::alloc::{AllocError, Global};
+use std::process::Abort;
 use std::test::Fail;
 
 // A statement's kind in a line of a table.
@@ -177,11 +178,18 @@ const CHANGED: [Changed<'static>; 5] = [
     (RECURSION, &OF_A_RECURSION, None),
 ];
 
+// Asserts after which change a program is valid still.
+fn check_changed(rt: &impl Abort, alloc: Global, row: Changed, number: usize) -> Result<(), Fail> {
+    let (source, changes, wanted) = row;
+    let valid = still_valid(alloc, source, changes)?;
+    assert_eq!(rt; valid, wanted, "{number}");
+    Ok(())
+}
+
 #[test]
 fn changed_programs(rt: HostRuntime) -> Result<(), Fail> {
     for (number, row) in CHANGED.iter().enumerate() {
-        let valid = still_valid(rt.alloc(), row.0, row.1)?;
-        assert_eq!(rt; valid, row.2, "{number}");
+        check_changed(&rt, rt.alloc(), *row, number)?;
     }
     Ok(())
 }
@@ -355,14 +363,26 @@ fn is_planned(alloc: Global, planned: Planned) -> Result<bool, Fail> {
     Ok(plan.valid(&program))
 }
 
-#[test]
-fn plans_of_policies(rt: HostRuntime) -> Result<(), Fail> {
-    let groups: [&[Planned]; 3] = [&CALLS, &RECURSIONS, &LOOPS];
-    for (group, rows) in groups.iter().enumerate() {
-        for (number, planned) in rows.iter().enumerate() {
-            let is_valid = is_planned(rt.alloc(), *planned)?;
-            assert_eq!(rt; is_valid, planned.4, "{group} {number}");
-        }
+// Asserts whether each is a valid plan.
+fn check_planned(rt: &impl Abort, alloc: Global, rows: &[Planned]) -> Result<(), Fail> {
+    for (number, planned) in rows.iter().enumerate() {
+        let is_valid = is_planned(alloc, *planned)?;
+        assert_eq!(rt; is_valid, planned.4, "{number}");
     }
     Ok(())
+}
+
+#[test]
+fn plans_of_calls(rt: HostRuntime) -> Result<(), Fail> {
+    check_planned(&rt, rt.alloc(), &CALLS)
+}
+
+#[test]
+fn plans_of_recursions(rt: HostRuntime) -> Result<(), Fail> {
+    check_planned(&rt, rt.alloc(), &RECURSIONS)
+}
+
+#[test]
+fn plans_of_loops(rt: HostRuntime) -> Result<(), Fail> {
+    check_planned(&rt, rt.alloc(), &LOOPS)
 }

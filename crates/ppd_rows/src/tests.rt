@@ -1,7 +1,7 @@
 use crate::limits::{elements, loops, signs};
 use ppd_ast::{Chan, Kind, Place, Plan, Policy, Program, Sem, Seq, Stmt};
 use ppd_blocks::partition;
-use ppd_check::read_source;
+use ppd_check::{SourceError, read_source};
 use std::alloc::{AllocError, Global};
 use std::test::Fail;
 
@@ -12,44 +12,78 @@ const BUFFER: &str = "shared int buf[4]; shared int head, tail; sem empty = 4, f
     process producer { for (int i = 0; i < 100; i++) { int w = i; if (i == 57) { w = 0; } put(w); } } \
     process consumer { for (int i = 0; i < 100; i++) { int v = get(); assert(v == i); } }";
 
-fn buffer(alloc: Global) -> Result<(Program, Plan), Fail> {
+fn buffer(alloc: Global) -> Result<Program, SourceError> {
+    read_source(alloc, BUFFER.as_bytes())
+}
+
+fn planned_buffer(alloc: Global) -> Result<(Program, Plan), Fail> {
     let program = read_source(alloc, BUFFER.as_bytes())?;
     let plan = partition(alloc, &program, &Policy { leaf: 0, loops: 0 })?;
     Ok((program, plan))
 }
 
-// The bounded buffer is valid with its plan; each change breaks one sentence of validity.
+// The bounded buffer is valid with its plan; each change below breaks one sentence of validity.
 #[test]
 fn the_bounded_buffer_is_valid(rt: HostRuntime) -> Result<(), Fail> {
-    let alloc = rt.alloc();
-    let (mut program, mut plan) = buffer(alloc)?;
+    let (program, plan) = planned_buffer(rt.alloc())?;
     assert!(rt; program.valid());
     assert!(rt; plan.valid(&program));
-    // with leaf 8 `put`, of seven statements and no call, is no block
-    plan.policy = Policy { leaf: 8, loops: 0 };
-    assert!(rt; !plan.valid(&program));
-    plan.policy = Policy { leaf: 7, loops: 0 };
-    assert!(rt; plan.valid(&program));
-    // both loops are blocks
-    plan.policy = Policy { leaf: 0, loops: 3 };
-    assert!(rt; !plan.valid(&program));
-    // more functions than bodies stand before the processes
+    Ok(())
+}
+
+/// Whether the buffer's plan is valid under another policy.
+fn is_valid_under(alloc: Global, policy: Policy) -> Result<bool, Fail> {
+    let (program, mut plan) = planned_buffer(alloc)?;
+    plan.policy = policy;
+    Ok(plan.valid(&program))
+}
+
+// With leaf 8 `put`, of seven statements and no call, is no block; with loops 3 both loops are blocks.
+const POLICIES: [(u16, u16, bool); 3] = [(8, 0, false), (7, 0, true), (0, 3, false)];
+
+#[test]
+fn other_policies(rt: HostRuntime) -> Result<(), Fail> {
+    for (leaf, loops, valid) in POLICIES {
+        let is_valid = is_valid_under(rt.alloc(), Policy { leaf, loops })?;
+        assert_eq!(rt; is_valid, valid, "at {leaf} {loops}");
+    }
+    Ok(())
+}
+
+// More functions than bodies stand before the processes.
+#[test]
+fn a_function_too_many(rt: HostRuntime) -> Result<(), Fail> {
+    let mut program = buffer(rt.alloc())?;
     program.functions = 3;
     assert!(rt; !program.valid());
     program.functions = 2;
     assert!(rt; program.valid());
-    // a capacity of 0 and of 64, and of 65
+    Ok(())
+}
+
+/// Whether the buffer is valid with a channel of this capacity.
+fn is_valid_with_channel(alloc: Global, capacity: u8) -> Result<bool, Fail> {
+    let mut program = buffer(alloc)?;
+    let name = Seq::new(alloc);
+    program.chans.push(Chan { name, capacity })?;
+    Ok(program.valid())
+}
+
+#[test]
+fn limits_of_a_capacity(rt: HostRuntime) -> Result<(), Fail> {
     for (capacity, valid) in [(0, true), (64, true), (65, false)] {
-        let mut chans = Vec::new(alloc);
-        chans.push(Chan {
-            name: Seq::new(alloc),
-            capacity,
-        })?;
-        program.chans = Seq::from_vec(chans);
-        assert_eq!(rt; program.valid(), valid);
+        assert_eq!(rt;
+            is_valid_with_channel(rt.alloc(), capacity)?,
+            valid,
+            "at {capacity}"
+        );
     }
-    program.chans = Seq::new(alloc);
-    // a start value too many
+    Ok(())
+}
+
+#[test]
+fn a_start_value_too_many(rt: HostRuntime) -> Result<(), Fail> {
+    let mut program = buffer(rt.alloc())?;
     assert!(rt; program.starts.push(0).is_ok());
     assert!(rt; !program.valid());
     Ok(())
@@ -95,35 +129,45 @@ fn limits_of_expressions_and_nesting(rt: HostRuntime) -> Result<(), Fail> {
     Ok(())
 }
 
-// A semaphore's start, a name's length and the arguments of a call.
+/// Whether the buffer is valid where its lock has a name of so many bytes and this start.
+fn is_valid_with_lock(alloc: Global, bytes: usize, start: u32) -> Result<bool, Fail> {
+    let mut program = buffer(alloc)?;
+    let name = Seq::from_vec(vec![in alloc; b'a'; bytes]?);
+    program.sems.set(2, Sem { name, start });
+    Ok(program.valid())
+}
+
+// A name's length and a semaphore's start.
+const LOCKS: [(usize, u32, bool); 5] = [
+    (1, 65_535, true),
+    (1, 65_536, false),
+    (64, 0, true),
+    (65, 0, false),
+    (0, 1, true),
+];
+
 #[test]
-fn limits_of_objects_and_calls(rt: HostRuntime) -> Result<(), Fail> {
-    let alloc = rt.alloc();
-    let (mut program, _) = buffer(alloc)?;
-    for (bytes, start, valid) in [
-        (1, 65_535, true),
-        (1, 65_536, false),
-        (64, 0, true),
-        (65, 0, false),
-    ] {
-        let name = Seq::from_vec(vec![in alloc; b'a'; bytes]?);
-        program.sems.set(2, Sem { name, start });
-        assert_eq!(rt; program.valid(), valid, "at {bytes} bytes and {start}");
+fn limits_of_a_semaphore(rt: HostRuntime) -> Result<(), Fail> {
+    for (bytes, start, valid) in LOCKS {
+        let is_valid = is_valid_with_lock(rt.alloc(), bytes, start)?;
+        assert_eq!(rt; is_valid, valid, "at {bytes} bytes and {start}");
     }
-    let name = Seq::new(alloc);
-    program.sems.set(2, Sem { name, start: 1 });
-    assert!(rt; program.valid());
-    // `put` without its argument, whose expression is then used nowhere
-    let place = Place { line: 1, column: 1 };
+    Ok(())
+}
+
+// `put` without its argument, whose expression is then used nowhere.
+#[test]
+fn an_argument_too_few(rt: HostRuntime) -> Result<(), Fail> {
+    let mut program = buffer(rt.alloc())?;
     let put = Kind::Call {
         function: 0,
-        args: Seq::new(alloc),
+        args: Seq::new(rt.alloc()),
         into: None,
     };
     program.stmts.set(
         20,
         Stmt {
-            place,
+            place: Place { line: 1, column: 1 },
             body: 2,
             parent: Some(16),
             kind: put,
@@ -157,7 +201,7 @@ fn is_bare(bare: &Plan, plan: &Plan) -> bool {
 
 #[test]
 fn a_plan_without_cells(rt: HostRuntime) -> Result<(), Fail> {
-    let (program, plan) = buffer(rt.alloc())?;
+    let (program, plan) = planned_buffer(rt.alloc())?;
     assert!(rt; program.valid());
     let bare = Plan::bare(rt.alloc(), &program, &Policy { leaf: 0, loops: 0 })?;
     assert!(rt; bare.valid(&program) && is_bare(&bare, &plan));

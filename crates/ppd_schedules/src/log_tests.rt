@@ -3,6 +3,7 @@ use crate::logged::{Row, answer_to, by_lowest, by_schedule, ends, has_log, plain
 use ppd_ast::{Status, SyncKind, Trap};
 use ppd_model::DriveError;
 use std::alloc::Global;
+use std::process::Abort;
 
 const BUDGET: u32 = 100_000;
 
@@ -36,8 +37,8 @@ const DEAR: &str = "shared int x, y; sem s = 1; process p { P(s); if (y) { print
 
 const COMPLETED: [u8; 9] = [0, 1, 1, 1, 1, 0, 0, 0, 1];
 
-/// A row, run by a schedule or by the lowest enabled process, with how some processes ended and after how many steps, and
-/// the logs of some.
+/// A row, run by a schedule or by the lowest enabled process, with how some processes ended and after how many steps,
+/// and the logs of some.
 struct Case<'a> {
     row: Row<'a>,
     budget: u32,
@@ -560,15 +561,22 @@ fn logs_of_worked_sources(rt: HostRuntime) {
     }
 }
 
+/// Asserts how process 0 of a row ends with this budget, and after how many steps.
+fn check_end(rt: &impl Abort, alloc: Global, row: Row, budget: u32, status: Status, steps: u32) {
+    let closed = by_lowest(alloc, row, budget).expect(rt, "whole");
+    assert!(rt; ends(&closed, 0, status, steps), "{}", row.source);
+}
+
+const PRINT: &str = "shared int x; process a { print(x); }";
+
 // What each run costs: its steps, and a value for each in the entries after those of the start. With
 // that budget it ends; with one less it stops before its last step.
 #[test]
 fn costs(rt: HostRuntime) {
     let alloc = rt.alloc();
-    let print = "shared int x; process a { print(x); }";
     for (source, leaf, loops, steps, values) in [
         // the unit of the start has a value, which costs nothing
-        (print, 0, 0, 3, 0),
+        (PRINT, 0, 0, 3, 0),
         (NEVER_ENTERED, 0, 0, 4, 0),
         (NEVER_ENTERED, 0, 1, 5, 2),
         (BLOCK_LOOP, 0, 1, 10, 5),
@@ -582,31 +590,38 @@ fn costs(rt: HostRuntime) {
             leaf,
             loops,
         };
-        let enough = by_lowest(alloc, row, steps + values).expect(&rt, "whole");
-        assert!(rt; ends(&enough, 0, Status::Ended, steps));
-        let less = by_lowest(alloc, row, steps + values - 1).expect(&rt, "whole");
-        assert!(rt; ends(&less, 0, Status::Budget, steps - 1));
+        let cost = steps + values;
+        check_end(&rt, alloc, row, cost, Status::Ended, steps);
+        check_end(&rt, alloc, row, cost - 1, Status::Budget, steps - 1);
     }
 }
+
+const BOTH: &str = "chan c[0]; process a { send(c, 1); } process b { send(c, 2); } \
+    process r { int v; v = recv(c); }";
+
+/// A source, a schedule of it, and what is answered to it.
+const OFFERS: [(&str, &[u8], Result<(), DriveError>); 3] = [
+    (RENDEZVOUS, &[0, 0], Err(DriveError::NotEnabled(1))),
+    (BOTH, &[0, 2, 2, 1], Err(DriveError::NotEnabled(3))),
+    (BOTH, &[0, 2, 2, 0, 1], Ok(())),
+];
 
 // On a channel of capacity 0 nothing follows an offer before it is received; and after the receive and before the
 // completion there is still an offer open.
 #[test]
 fn offers_wait(rt: HostRuntime) {
-    let alloc = rt.alloc();
-    let both = "chan c[0]; process a { send(c, 1); } process b { send(c, 2); } \
-        process r { int v; v = recv(c); }";
-    let rows: [(&str, &[u8], Result<(), DriveError>); 3] = [
-        (RENDEZVOUS, &[0, 0], Err(DriveError::NotEnabled(1))),
-        (both, &[0, 2, 2, 1], Err(DriveError::NotEnabled(3))),
-        (both, &[0, 2, 2, 0, 1], Ok(())),
-    ];
-    for (source, schedule, answer) in rows {
+    for (source, schedule, answer) in OFFERS {
         assert_eq!(rt;
-            answer_to(alloc, plain(source), BUDGET, schedule),
+            answer_to(rt.alloc(), plain(source), BUDGET, schedule),
             Some(answer)
         );
     }
+}
+
+// What follows an offer comes after its completion: the receiver prints what stood there before.
+#[test]
+fn a_print_beside_an_offer(rt: HostRuntime) {
+    let alloc = rt.alloc();
     let closed = by_schedule(alloc, plain(RENDEZVOUS), BUDGET, &COMPLETED).expect(&rt, "whole");
     assert!(rt; prints(&closed, 1, &[0]));
 }

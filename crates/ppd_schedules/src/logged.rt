@@ -124,7 +124,8 @@ fn is_end(entry: &Entry, wrote: Wrote) -> bool {
     }
 }
 
-fn is_entry(entry: &Entry, wrote: Wrote) -> bool {
+/// Whether the entry is this.
+pub fn is_entry(entry: &Entry, wrote: Wrote) -> bool {
     match (entry, wrote) {
         (Entry::Prelog { block, values }, Wrote::Prelog(number, is_values)) => {
             *block == number && values.as_slice() == is_values

@@ -1,5 +1,6 @@
 -- Laws of evaluation, of needs and of steps.
 use Rattle.std.specs.Prelude.{◌≡◌, ◌≢◌, ◌≤ℤ◌, ◌<◌, ◌≤◌, ◌+◌, ℕ, ℤ, pos, negsuc, ◌+ℤ◌, ◌-ℤ◌, ◌*ℤ◌, neg_ℤ, unsigned_abs, List, drop, length, Result, Ok, Err, Option, Some, ⊤}
+use Rattle.ppd_ast.specs.declared.limits.TheConstants.{MOST_CALLS}
 use Rattle.ppd_ast.specs.declared.plan.Plan.{Plan}
 use Rattle.ppd_ast.specs.declared.plan.Start.TheVariants as start
 use Rattle.ppd_ast.specs.declared.program.Expr.{Expr}
@@ -126,7 +127,7 @@ pub record ArgumentsComeFirst : Type 0 where
   pub too_deep : (program : Program) (plan : Plan) (t : Todo) (s : Proc) (f : ℕ) (arguments : List ℕ)
       (into : Option ℕ) (values left : List ℤ) → kind_of program t.stmt ≡ kind.Call f arguments into
       → ask_all program.exprs arguments (top_cells s.frames) s.answers ≡ Ok (values, left)
-      → 64 < s.below + length s.frames → need_of_head program plan t s ≡ need.Trap Depth
+      → MOST_CALLS < s.below + length s.frames → need_of_head program plan t s ≡ need.Trap Depth
 
 -- ---- programs and steps
 

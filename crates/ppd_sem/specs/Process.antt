@@ -11,6 +11,7 @@ use Rattle.ppd_ast.specs.declared.status.Trap.TheVariants as trap
 use Rattle.ppd_ast.specs.declared.status.Status.{Status}
 use Rattle.ppd_ast.specs.declared.status.Status.TheVariants as status
 use Rattle.ppd_ast.specs.Lookups.{kind_of, top_of_body}
+use Rattle.ppd_ast.specs.declared.limits.TheConstants.{MOST_CALLS}
 use Rattle.ppd_sem.specs.declared.proc.Need.{Need}
 use Rattle.ppd_sem.specs.declared.proc.Need.TheVariants.{Read, Write, Plain, Enter, Leave, Invoke, Back, P, V, Send, Offer, Done, Recv, End, Trap, Budget, Stopped}
 use Rattle.ppd_sem.specs.declared.proc.Answer.{Answer}
@@ -50,10 +51,10 @@ abbrev pub call_unit : Plan → Option ℕ → Option ℕ
 call_unit plan None = None
 call_unit plan (Some c) = Some (unit_of plan (start.After c))
 
--- a call, which is too deep where 64 are open: those of the first frame, and one for each frame above it
+-- a call, which is too deep where the most are open: those of the first frame, and one for each frame above it
 abbrev pub need_of_call : Plan → ℕ → Proc → Need
 need_of_call plan f s =
-    if nat_lt 64 (s.below + length s.frames) then Trap trap.Depth
+    if nat_lt MOST_CALLS (s.below + length s.frames) then Trap trap.Depth
     else Invoke (block_of plan (block.Function f)) (unit_of plan (start.Entry f))
 
 -- a loop that ends, by its block

@@ -11,6 +11,7 @@ use Rattle.ppd_ast.specs.declared.program.Program.{Program}
 use Rattle.ppd_ast.specs.declared.program.Stmt.{Stmt}
 use Rattle.ppd_ast.specs.declared.program.Target.{Target}
 use Rattle.ppd_ast.specs.declared.program.Target.TheVariants as target
+use Rattle.ppd_ast.specs.declared.limits.TheConstants.{MOST_CALLS}
 use Rattle.ppd_ast.specs.declared.plan.Plan.{Plan}
 use Rattle.ppd_ast.specs.Lookups.{kind_of, top_of_body}
 use Rattle.ppd_sem.specs.declared.proc.Frame.{Frame}
@@ -136,7 +137,7 @@ AreOver program (n ∷ ns) (t ∷ ts) =
 pub record IsRunning (program : Program) (s : Proc) : Type 0 where
   pub todo : AreOver program (sizes s.frames) s.todo
   pub frames : All (λ n. n < 2 ^ 16) (sizes s.frames)
-  pub below : s.below ≤ 64
+  pub below : s.below ≤ MOST_CALLS
   pub steps : s.steps ≤ s.spent
   pub spent : s.spent ≤ s.budget
 

@@ -1,4 +1,5 @@
 ghost use Rattle.std.specs.Prelude.{◌≡◌, ◌≤◌, IfOk, None, [], ◌∷◌, true, false, slice_get};
+ghost use Rattle.ppd_ast.specs.declared.limits.TheConstants.{MOST_CALLS};
 ghost use Rattle.ppd_ast.specs.Valid.{IsValid};
 ghost use Rattle.ppd_ast.specs.ValidPlan.{IsValidPlan};
 ghost use Rattle.ppd_sem.specs.Blocks.{at_block as at_block_of, block_body as body_of_block, block_todo as todo_of_block, prelog_cells as prelog_cells_of, with_values};
@@ -56,7 +57,7 @@ fn block_todo(alloc: Global, program: &Program, kind: BlockKind) -> Result<Stack
 impl Proc {
     /// The state of a process that begins at this block, as a log interval does: with the values of
     /// the block's prelog in its cells and zeros in the others, while `depth` calls are open, those
-    /// of the block's function among them, at most 64. A loop is one that was entered. Its budget
+    /// of the block's function among them, at most `MOST_CALLS`. A loop is one that was entered. Its budget
     /// is 1 to 500,000. `Memory` is want of memory.
     pub fn at_block(
         alloc: Global,
@@ -69,7 +70,7 @@ impl Proc {
     ) -> Result<Proc, Memory>
         requires program { IsValid program.now }
         requires plan { IsValidPlan program.now plan.now }
-        requires depth { depth ≤ 64 }
+        requires depth { depth ≤ MOST_CALLS }
         ensures at { IfOk result (λ proc. proc ≡ at_block_of program.now plan.now block values.now depth budget) }
         ensures running { IfOk result (λ proc. IsRunning program.now proc) }
     {

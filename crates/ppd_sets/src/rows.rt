@@ -1,6 +1,7 @@
 ghost use Rattle.std.specs.Prelude.{◌≡◌, ◌<◌, ◌≤◌, ◌^◌, false, map, length, IfOk};
 ghost use Rattle.std.specs.List.{flat_map, list_any, range_with_len};
 ghost use Rattle.ppd_ast.specs.Cells.{size, after, holds};
+ghost use Rattle.ppd_ast.specs.declared.limits.TheConstants.{MOST_SHARED_CELLS};
 ghost use Rattle.ppd_ast.specs.Table.{EachAt, AreChildrenBelow};
 ghost use Rattle.ppd_ast.specs.Valid.{IsValid};
 ghost use Rattle.ppd_ast.specs.Numbered.{is_while};
@@ -38,7 +39,7 @@ fn size_of(var: &Var) -> u16
 
 /// Whether a cell of the variable is in the set.
 pub fn does_meet(set: &CellSet, var: &Var) -> bool
-    requires { after var.now ≤ 1024 }
+    requires { after var.now ≤ MOST_SHARED_CELLS }
     ensures { result ≡ list_any (λ c. holds c var.now) set.now }
 {
     let len = size_of(var);

@@ -85,14 +85,25 @@ fn sources_give_chunks_and_fail_at_the_listed_calls(rt: HostRuntime) -> Result<(
             }
         }
     }
-    let mut source = SteadySource::new(Vec::from_slice(alloc, b"abc")?, 2);
+    Ok(())
+}
+
+#[test]
+fn a_steady_source_gives_chunks(rt: HostRuntime) -> Result<(), Fail> {
+    let mut into = [0u8; 3];
+    let mut source = SteadySource::new(Vec::from_slice(rt.alloc(), b"abc")?, 2);
     for answer in ["ab", "c", ""] {
         assert_eq!(rt; source.read(&mut into), Ok(answer.len()));
     }
+    Ok(())
+}
+
+#[test]
+fn a_reader_is_a_source(rt: HostRuntime) {
+    let mut into = [0u8; 3];
     assert_eq!(rt; StdSource::new(Broken).read(&mut into), Err(Failed));
     assert_eq!(rt; StdSource::new(b"xyz".as_slice()).read(&mut into), Ok(3));
     assert_eq!(rt; &into, b"xyz");
-    Ok(())
 }
 
 // What each write takes, where 9 stands for `Failed`, and what is kept in the end.
@@ -117,18 +128,35 @@ fn sinks_take_what_fits_and_fail_at_the_listed_calls(rt: HostRuntime) -> Result<
         }
         assert_eq!(rt; sink.bytes(), kept.as_bytes());
     }
+    Ok(())
+}
+
+#[test]
+fn a_full_sink_has_the_first_bytes(rt: HostRuntime) -> Result<(), Fail> {
+    let alloc = rt.alloc();
     let mut small = MemorySink::new(alloc, 3, Vec::new(alloc))?;
     assert_eq!(rt; put_all(&mut small, b"abcd"), Err(Failed));
     assert_eq!(rt; small.bytes(), b"abc".as_slice());
+    Ok(())
+}
+
+// A steady sink keeps the pieces up to the first for which it has no room.
+#[test]
+fn a_steady_sink_takes_what_fits(rt: HostRuntime) -> Result<(), Fail> {
+    let alloc = rt.alloc();
     let mut steady = SteadySink::new(alloc, 3)?;
     for piece in ["ab", "cd", "e"] {
         assert_eq!(rt; put_all(&mut steady, piece.as_bytes()), Ok(()));
     }
     assert_eq!(rt; steady.bytes(), b"ab".as_slice());
+    Ok(())
+}
+
+#[test]
+fn a_writer_is_a_sink(rt: HostRuntime) {
     assert_eq!(rt; StdSink::new(Broken).write(b"a"), Err(Failed));
     assert_eq!(rt; StdSink::new(Unflushed).write(b"a"), Err(Failed));
     assert_eq!(rt; StdSink::new(io::writer(&rt)).write(b""), Ok(0));
-    Ok(())
 }
 
 // A writer may take less than it is given: what it did not take is given again, and nothing twice.
@@ -169,7 +197,7 @@ fn loaded<F: Shelf>(
 #[test]
 fn shelves_hold_bytes_by_name(rt: HostRuntime) -> Result<(), Fail> {
     let alloc = rt.alloc();
-    let mut shelf = MemoryShelf::new(alloc, Vec::from_slice(alloc, &[2, 5])?);
+    let mut shelf = MemoryShelf::new(alloc, Vec::from_slice(alloc, &[2])?);
     shelf.put("a", b"xyz")?;
     for (name, most, want) in [
         ("a", 2, "xy"),
@@ -179,27 +207,53 @@ fn shelves_hold_bytes_by_name(rt: HostRuntime) -> Result<(), Fail> {
     ] {
         loaded(&rt, &mut shelf, name, most, want);
     }
+    Ok(())
+}
+
+#[test]
+fn a_store_that_fails_changes_nothing(rt: HostRuntime) -> Result<(), Fail> {
+    let alloc = rt.alloc();
+    let mut shelf = MemoryShelf::new(alloc, Vec::from_slice(alloc, &[1])?);
     assert_eq!(rt; shelf.store(alloc, "b", b"q"), Ok(()));
     assert_eq!(rt; shelf.store(alloc, "b", b"r"), Err(ShelfError::Failed));
     assert_eq!(rt; shelf.store(alloc, "a", b"w"), Ok(()));
     for (name, want) in [("a", "w"), ("b", "q")] {
         loaded(&rt, &mut shelf, name, 9, want);
     }
+    Ok(())
+}
+
+#[test]
+fn a_steady_shelf_holds_bytes_by_name(rt: HostRuntime) {
+    let alloc = rt.alloc();
     let mut steady = SteadyShelf::new(alloc);
     loaded(&rt, &mut steady, "a", 9, "");
     assert_eq!(rt; steady.store(alloc, "a", b"xyz"), Ok(()));
     loaded(&rt, &mut steady, "a", 2, "xy");
+}
+
+#[test]
+fn files_are_loaded_by_name(rt: HostRuntime) {
     let mut host = HostShelf::new(&rt);
     loaded(&rt, &mut host, "no-such-folder/file", 9, "!");
     loaded(&rt, &mut host, "/dev/null", 9, "");
     loaded(&rt, &mut host, "/dev/zero", 2, "\0\0");
+}
+
+#[test]
+fn files_are_stored_by_name(rt: HostRuntime) {
+    let alloc = rt.alloc();
+    let mut host = HostShelf::new(&rt);
     assert_eq!(rt;
         host.store(alloc, "no-such-folder/file", b"a"),
         Err(ShelfError::Failed)
     );
     assert_eq!(rt; host.store(alloc, "/dev/null", b"a"), Ok(()));
+}
+
+#[test]
+fn a_free_gate_lets_pass() {
     FreeGate.pass(0, 0);
-    Ok(())
 }
 
 // A source of the greatest length is loaded whole, and of a longer one the byte that shows it is longer.

@@ -30,6 +30,19 @@ fn told<I: Source>(alloc: Global, source: &mut I) -> Result<Vec<u8>, Fail> {
     Ok(told)
 }
 
+/// The same of bytes that come in chunks.
+fn told_in(alloc: Global, bytes: Vec<u8>, chunk: usize) -> Result<Vec<u8>, Fail> {
+    let mut source = SteadySource::new(bytes, chunk.max(1));
+    told(alloc, &mut source)
+}
+
+/// So many bytes, and then these.
+fn long_line(alloc: Global, count: usize, rest: &str) -> Result<Vec<u8>, Fail> {
+    let mut bytes = vec![in alloc; b'x'; count]?;
+    bytes.extend_from_slice(rest.as_bytes())?;
+    Ok(bytes)
+}
+
 #[test]
 fn lines_come_in_any_chunks(rt: HostRuntime) -> Result<(), Fail> {
     let alloc = rt.alloc();
@@ -43,9 +56,7 @@ fn lines_come_in_any_chunks(rt: HostRuntime) -> Result<(), Fail> {
     ];
     for chunk in [1, 3, 4096] {
         for (bytes, lines) in rows {
-            let bytes = Vec::from_slice(alloc, bytes.as_bytes())?;
-            let mut source = SteadySource::new(bytes, chunk.max(1));
-            let told = told(alloc, &mut source)?;
+            let told = told_in(alloc, Vec::from_slice(alloc, bytes.as_bytes())?, chunk)?;
             assert_eq!(rt; told.as_slice(), lines.as_bytes());
         }
     }
@@ -63,10 +74,7 @@ fn a_line_has_at_most_4096_bytes(rt: HostRuntime) -> Result<(), Fail> {
     ];
     for chunk in [1, 4096, 5000] {
         for (count, rest, end, length) in rows {
-            let mut bytes = vec![in alloc; b'x'; count]?;
-            bytes.extend_from_slice(rest.as_bytes())?;
-            let mut source = SteadySource::new(bytes, chunk.max(1));
-            let told = told(alloc, &mut source)?;
+            let told = told_in(alloc, long_line(alloc, count, rest)?, chunk)?;
             assert_eq!(rt; told.len(), length);
             assert!(rt; told.ends_with(end.as_bytes()));
         }

@@ -272,6 +272,20 @@ fn check<R: Abort + Threads + Wait + Sync>(
     Ok(())
 }
 
+// The same for these options and status 0.
+fn check_options<R: Abort + Threads + Wait + Sync>(
+    rt: &R,
+    alloc: Global,
+    options: &[&'static str],
+    source: &str,
+    text: Written,
+) -> Result<(), Fail> {
+    let mut words = Vec::from_slice(alloc, &["show"])?;
+    words.extend_from_slice(options)?;
+    words.push("row.c")?;
+    check(rt, alloc, &words, source, 0, text)
+}
+
 #[test]
 fn tables_are_written_byte_for_byte(rt: HostRuntime) -> Result<(), Fail> {
     let alloc = rt.alloc();
@@ -290,7 +304,7 @@ fn tables_are_written_byte_for_byte(rt: HostRuntime) -> Result<(), Fail> {
 #[test]
 fn tables_are_of_the_policy(rt: HostRuntime) -> Result<(), Fail> {
     let alloc = rt.alloc();
-    let rows: [(&[&str], &str, Written); 9] = [
+    let rows: [(&[&'static str], &str, Written); 9] = [
         (&["--leaf", "2"], CALLEE_WRITE, CALLEE_WRITE_TABLE),
         (&["--leaf", "3"], CALLEE_WRITE, CALLEE_WRITE_LEAF),
         (
@@ -306,10 +320,7 @@ fn tables_are_of_the_policy(rt: HostRuntime) -> Result<(), Fail> {
         (&["--loops", "1"], NAMES, NAMES_TABLE),
     ];
     for (options, source, text) in rows {
-        let mut words = Vec::from_slice(alloc, &["show"])?;
-        words.extend_from_slice(options)?;
-        words.push("row.c")?;
-        check(&rt, alloc, &words, source, 0, text)?;
+        check_options(&rt, alloc, options, source, text)?;
     }
     Ok(())
 }

@@ -1,53 +1,69 @@
 use ppd_words::{Command, read_command, read_words};
+use std::alloc::Global;
+use std::process::Abort;
 use std::test::Fail;
+
+/// Words, and which command they are read as, with the value of an option or a name.
+type Row = (
+    &'static [&'static str],
+    Command,
+    &'static str,
+    Option<&'static str>,
+);
+
+const ROWS: [Row; 8] = [
+    (
+        &["flow", "--budget", "5", "maße.c"],
+        Command::Flow,
+        "source",
+        Some("maße.c"),
+    ),
+    (
+        &["flow", "x.c", "--loops=3"],
+        Command::Flow,
+        "loops",
+        Some("3"),
+    ),
+    (
+        &["run", "x.c", "--leaf", "1", "x.log"],
+        Command::Run,
+        "recording",
+        Some("x.log"),
+    ),
+    (&["run", "x.c", "x.log"], Command::Run, "budget", None),
+    (
+        &["debug", "--", "--x"],
+        Command::Debug,
+        "recording",
+        Some("--x"),
+    ),
+    (
+        &["show", "--loops", "2", "-"],
+        Command::Show,
+        "source",
+        Some("-"),
+    ),
+    (&["show", "--leaf=", ""], Command::Show, "leaf", Some("")),
+    (&["drill", "7"], Command::Drill, "number", Some("7")),
+];
+
+fn check_row(rt: &impl Abort, alloc: Global, row: Row) -> Result<(), Fail> {
+    let (words, command, id, value) = row;
+    match read_command(alloc, words)? {
+        Some(given) => {
+            assert_eq!(rt; given.command, command, "{words:?}");
+            assert_eq!(rt; given.value(id), value, "{words:?}");
+        }
+        None => panic!(rt; "{words:?}"),
+    }
+    Ok(())
+}
 
 // With memory enough each command is read; a name is any text.
 #[test]
 fn each_command_is_read(rt: HostRuntime) -> Result<(), Fail> {
-    let alloc = rt.alloc();
-    let rows: [(&[&str], Command, &str, Option<&str>); 8] = [
-        (
-            &["flow", "--budget", "5", "maße.c"],
-            Command::Flow,
-            "source",
-            Some("maße.c"),
-        ),
-        (
-            &["flow", "x.c", "--loops=3"],
-            Command::Flow,
-            "loops",
-            Some("3"),
-        ),
-        (
-            &["run", "x.c", "--leaf", "1", "x.log"],
-            Command::Run,
-            "recording",
-            Some("x.log"),
-        ),
-        (&["run", "x.c", "x.log"], Command::Run, "budget", None),
-        (
-            &["debug", "--", "--x"],
-            Command::Debug,
-            "recording",
-            Some("--x"),
-        ),
-        (
-            &["show", "--loops", "2", "-"],
-            Command::Show,
-            "source",
-            Some("-"),
-        ),
-        (&["show", "--leaf=", ""], Command::Show, "leaf", Some("")),
-        (&["drill", "7"], Command::Drill, "number", Some("7")),
-    ];
-    for (words, command, id, value) in rows {
-        match read_command(alloc, words)? {
-            Some(given) => {
-                assert_eq!(rt; given.command, command, "{words:?}");
-                assert_eq!(rt; given.value(id), value, "{words:?}");
-            }
-            None => panic!(rt; "{words:?}"),
-        }
+    for row in ROWS {
+        check_row(&rt, rt.alloc(), row)?;
     }
     Ok(())
 }

@@ -25,27 +25,38 @@ fn name(alloc: Global, bytes: &[u8]) -> Result<String, AllocError> {
     }
 }
 
+fn branches(alloc: Global, test: u32, yes: &[u32], no: &[u32]) -> Result<String, AllocError> {
+    let yes = list(alloc, yes)?;
+    let no = list(alloc, no)?;
+    format!(in alloc; "if {test} [{yes}] [{no}]")
+}
+
+fn round(alloc: Global, test: u32, inside: &[u32]) -> Result<String, AllocError> {
+    let inside = list(alloc, inside)?;
+    format!(in alloc; "while {test} [{inside}]")
+}
+
+fn call(
+    alloc: Global,
+    function: u16,
+    args: &[u32],
+    into: Option<u16>,
+) -> Result<String, AllocError> {
+    let args = list(alloc, args)?;
+    format!(in alloc; "call {function} ({args}) {into:?}")
+}
+
 fn kind(alloc: Global, kind: &Kind) -> Result<String, AllocError> {
     match kind {
         Kind::Set(target, value) => format!(in alloc; "{target:?} = {value}"),
         Kind::Zero { base, len } => format!(in alloc; "zero {base} {len}"),
-        Kind::If(test, yes, no) => {
-            let yes = list(alloc, yes.as_slice())?;
-            let no = list(alloc, no.as_slice())?;
-            format!(in alloc; "if {test} [{yes}] [{no}]")
-        }
-        Kind::While(test, inside) => {
-            let inside = list(alloc, inside.as_slice())?;
-            format!(in alloc; "while {test} [{inside}]")
-        }
+        Kind::If(test, yes, no) => branches(alloc, *test, yes.as_slice(), no.as_slice()),
+        Kind::While(test, inside) => round(alloc, *test, inside.as_slice()),
         Kind::Call {
             function,
             args,
             into,
-        } => {
-            let args = list(alloc, args.as_slice())?;
-            format!(in alloc; "call {function} ({args}) {into:?}")
-        }
+        } => call(alloc, *function, args.as_slice(), *into),
         Kind::Return(value) => format!(in alloc; "return {value:?}"),
         Kind::P(sem) => format!(in alloc; "P {sem}"),
         Kind::V(sem) => format!(in alloc; "V {sem}"),
@@ -118,24 +129,41 @@ pub fn stmts(alloc: Global, program: &Program) -> Result<String, AllocError> {
     Ok(text)
 }
 
-// Its bodies, with what is shared before them.
-pub fn bodies(alloc: Global, program: &Program) -> Result<String, AllocError> {
+// What is shared, with its start values.
+fn shared(alloc: Global, program: &Program) -> Result<String, AllocError> {
     let shared = vars(alloc, program.shared.as_slice())?;
-    let mut text = format!(in alloc; "shared{shared}\n")?;
-    text.push_str("starts")?;
+    let mut text = format!(in alloc; "shared{shared}\nstarts")?;
     for start in program.starts.as_slice() {
         text.push_str(&format!(in alloc; " {start}")?)?;
     }
     text.push_str("\n")?;
+    Ok(text)
+}
+
+fn object(alloc: Global, word: &str, label: &[u8], number: u32) -> Result<String, AllocError> {
+    let label = name(alloc, label)?;
+    format!(in alloc; "{word} {label} {number}\n")
+}
+
+// The semaphores and the channels.
+fn objects(alloc: Global, program: &Program) -> Result<String, AllocError> {
+    let mut text = String::new(alloc);
     for sem in program.sems.as_slice() {
-        let label = name(alloc, sem.name.as_slice())?;
-        text.push_str(&format!(in alloc; "sem {label} {}\n", sem.start)?)?;
+        text.push_str(&object(alloc, "sem", sem.name.as_slice(), sem.start)?)?;
     }
     for chan in program.chans.as_slice() {
-        let label = name(alloc, chan.name.as_slice())?;
-        text.push_str(&format!(in alloc; "chan {label} {}\n", chan.capacity)?)?;
+        let capacity = u32::from(chan.capacity);
+        text.push_str(&object(alloc, "chan", chan.name.as_slice(), capacity)?)?;
     }
-    text.push_str(&format!(in alloc; "functions {}\n", program.functions)?)?;
+    Ok(text)
+}
+
+// Its bodies, with what is shared before them.
+pub fn bodies(alloc: Global, program: &Program) -> Result<String, AllocError> {
+    let shared = shared(alloc, program)?;
+    let objects = objects(alloc, program)?;
+    let functions = program.functions;
+    let mut text = format!(in alloc; "{shared}{objects}functions {functions}\n")?;
     for item in program.bodies.as_slice() {
         text.push_str(&body(alloc, item)?)?;
     }
@@ -165,7 +193,7 @@ fn refusal(alloc: Global, error: CheckError) -> Result<String, AllocError> {
 }
 
 // What comes of a source: that it is accepted, or the refusal.
-pub fn told(alloc: Global, source: &str) -> Result<String, AllocError> {
+fn told(alloc: Global, source: &str) -> Result<String, AllocError> {
     match read_source(alloc, source.as_bytes()) {
         Ok(_) => format!(in alloc; "accepted"),
         Err(SourceError::Lex(error)) => format!(in alloc; "lex {error:?}"),
@@ -175,11 +203,23 @@ pub fn told(alloc: Global, source: &str) -> Result<String, AllocError> {
     }
 }
 
+// Asserts what comes of the source of this name.
+pub fn check_source(
+    rt: &impl Abort,
+    alloc: Global,
+    source: &str,
+    wanted: &str,
+    name: &str,
+) -> Result<(), AllocError> {
+    let found = told(alloc, source)?;
+    assert_eq!(rt; found.as_str(), wanted, "{name}");
+    Ok(())
+}
+
 // Asserts what comes of each source.
 pub fn check_told(rt: &impl Abort, alloc: Global, rows: &[(&str, &str)]) -> Result<(), Fail> {
     for (source, wanted) in rows {
-        let found = told(alloc, source)?;
-        assert_eq!(rt; found.as_str(), *wanted, "{source}");
+        check_source(rt, alloc, source, wanted, source)?;
     }
     Ok(())
 }

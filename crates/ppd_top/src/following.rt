@@ -164,18 +164,14 @@ fn follow_program(
     ensures error { IfErr result (λ e. ScheduleFails program.now options.now commands.now schedule.now e) }
 {
     let plan = partition(alloc, program, &options.policy)?;
-    match close_by(alloc, program, &plan, options, schedule) {
-        Err(error) => Err(error),
-        Ok(closed) => {
-            let run = ClosedRun {
-                program,
-                plan,
-                budget: options.budget,
-                closed,
-            };
-            tell_all(rt, alloc, &run, commands)
-        }
-    }
+    let closed = close_by(alloc, program, &plan, options, schedule)?;
+    let run = ClosedRun {
+        program,
+        plan,
+        budget: options.budget,
+        closed,
+    };
+    tell_all(rt, alloc, &run, commands)
 }
 
 /// The bytes that `ppd flow` writes for a source whose processes take this schedule, with these bytes as its input.

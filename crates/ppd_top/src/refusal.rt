@@ -40,12 +40,12 @@ fn lex_line(alloc: Global, error: LexError) -> Result<Vec<u8>, Memory>
     ensures { IfOk result (λ line. line.items ≡ refused_lex error) }
 {
     match error {
+        LexError::Memory => Err(Memory),
         LexError::BadByte(place) => refusal(alloc, b"refused lex 1 BadByte ", place),
         LexError::BadNumber(place) => refusal(alloc, b"refused lex 2 BadNumber ", place),
         LexError::OpenComment(place) => refusal(alloc, b"refused lex 3 OpenComment ", place),
         LexError::TooLong(place) => refusal(alloc, b"refused lex 4 TooLong ", place),
         LexError::LongName(place) => refusal(alloc, b"refused lex 5 LongName ", place),
-        LexError::Memory => Err(Memory),
     }
 }
 

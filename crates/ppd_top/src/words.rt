@@ -152,9 +152,8 @@ pub(crate) fn asked<'a>(alloc: Global, words: &'a [&'a str]) -> Result<Option<Re
     ensures is { IfOk result (λ o. option_map request_of o ≡ asked_for (texts_in words.entry.now)) }
     ensures range { IfOk result (λ o. IfSome o IsInRange) }
 {
-    match read_command(alloc, words) {
-        Err(Memory) => Err(Memory),
-        Ok(None) => Ok(None),
-        Ok(Some(given)) => Ok(request_in(&given)),
+    match read_command(alloc, words)? {
+        None => Ok(None),
+        Some(given) => Ok(request_in(&given)),
     }
 }

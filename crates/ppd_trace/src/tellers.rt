@@ -289,9 +289,9 @@ pub fn tell_story_in<L: Ledger>(
     schedule: &[u8],
     steps: &mut Steps<L>,
 ) -> Result<Story, DriveError>
+    requires budget { budget ≤ MOST_BUDGET }
     requires program { IsValid program.now }
     requires plan { IsValidPlan program.now plan.now }
-    requires budget { budget ≤ MOST_BUDGET }
     ensures story { IsStoryOf program.now plan.now budget schedule.now result }
     ensures cost { steps.new
         ≤ steps.old + 7 * (length schedule.now + length program.now.starts + length program.now.bodies) }

@@ -26,19 +26,17 @@ pub struct Row {
     pub paired: Id,
 }
 
-/// An event that reads and writes nothing and has no value, number and trap, in a process by itself.
-pub fn plain(stmt: u32) -> Row {
-    Row {
-        stmt,
-        read: None,
-        write: None,
-        value: None,
-        number: None,
-        trap: None,
-        parent: None,
-        paired: None,
-    }
-}
+/// The event of statement 0 that reads and writes nothing and has no value, number and trap, in a process by itself.
+pub const PLAIN: Row = Row {
+    stmt: 0,
+    read: None,
+    write: None,
+    value: None,
+    number: None,
+    trap: None,
+    parent: None,
+    paired: None,
+};
 
 fn is_id(event: Option<EventId>, id: Id) -> bool {
     match (event, id) {

@@ -1,5 +1,7 @@
 use crate::asked::{Asked, Told, answered};
 use ppd_model::Origin;
+use std::alloc::Global;
+use std::process::Abort;
 
 const CALLEE: &str = "shared int x; void f() { x = 4; } process a { x = 1; f(); print(x); }";
 
@@ -14,53 +16,64 @@ fn item(process: u8, interval: u32, item: u32) -> Origin {
     }
 }
 
+/// What is asked of a run, and what is answered.
+type Row = (Asked, Told);
+
+/// Asserts what is answered over the run of a source by this schedule.
+fn check_answers(rt: &impl Abort, alloc: Global, source: &str, schedule: &[u8], rows: &[Row]) {
+    for (number, (asked, told)) in rows.iter().enumerate() {
+        assert!(rt;
+            answered(alloc, source, schedule, *asked) == Some(*told),
+            "{number}"
+        );
+    }
+}
+
 // The walk goes into the callee's interval: it wrote what the print reads.
 #[test]
 fn callee_write(rt: HostRuntime) {
-    let alloc = rt.alloc();
-    let schedule = [0; 7];
-    assert!(rt; answered(alloc, CALLEE, &schedule, Asked::Items(0, 0)) == Some(Told::Items(5)));
-    assert!(rt; answered(alloc, CALLEE, &schedule, Asked::Items(0, 2)) == Some(Told::Items(0)));
-    assert!(rt;
-        answered(alloc, CALLEE, &schedule, Asked::Shared(0, 0, 3))
-            == Some(Told::Origin(item(0, 1, 0)))
-    );
-    assert!(rt;
-        answered(alloc, CALLEE, &schedule, Asked::Last) == Some(Told::Last(4, item(0, 1, 0)))
-    );
-    // Before the callee's own write the walk goes outward, to the caller's.
-    assert!(rt;
-        answered(alloc, CALLEE, &schedule, Asked::Shared(0, 1, 0))
-            == Some(Told::Origin(item(0, 0, 0)))
-    );
+    let rows = [
+        (Asked::Items(0, 0), Told::Items(5)),
+        (Asked::Items(0, 2), Told::Items(0)),
+        (Asked::Shared(0, 0, 3), Told::Origin(item(0, 1, 0))),
+        (Asked::Last, Told::Last(4, item(0, 1, 0))),
+        // Before the callee's own write the walk goes outward, to the caller's.
+        (Asked::Shared(0, 1, 0), Told::Origin(item(0, 0, 0))),
+    ];
+    check_answers(&rt, rt.alloc(), CALLEE, &[0; 7], &rows);
 }
 
 // Another process's edge wrote what is read: the greatest before the read's, which the order of the locks decides.
 #[test]
-fn lock_order(rt: HostRuntime) {
-    let alloc = rt.alloc();
-    let first = [0, 0, 0, 0, 0, 1, 1, 1, 1, 1];
-    assert!(rt;
-        answered(alloc, LOCKS, &first, Asked::Shared(1, 0, 1)) == Some(Told::Origin(item(0, 0, 1)))
+fn first_lock_order(rt: HostRuntime) {
+    let rows = [
+        (Asked::Shared(1, 0, 1), Told::Origin(item(0, 0, 1))),
+        (Asked::Shared(0, 0, 1), Told::Origin(Origin::Initial)),
+        (Asked::Last, Told::Last(2, item(1, 0, 1))),
+        (Asked::Pair(1, 0, 0), Told::Pair(Some(item(0, 0, 2)))),
+        (Asked::Pair(0, 0, 0), Told::Pair(Some(Origin::Initial))),
+        (Asked::Pair(0, 0, 2), Told::Pair(None)),
+    ];
+    check_answers(
+        &rt,
+        rt.alloc(),
+        LOCKS,
+        &[0, 0, 0, 0, 0, 1, 1, 1, 1, 1],
+        &rows,
     );
-    assert!(rt;
-        answered(alloc, LOCKS, &first, Asked::Shared(0, 0, 1))
-            == Some(Told::Origin(Origin::Initial))
+}
+
+#[test]
+fn second_lock_order(rt: HostRuntime) {
+    let rows = [
+        (Asked::Shared(1, 0, 1), Told::Origin(Origin::Initial)),
+        (Asked::Last, Told::Last(2, item(0, 0, 1))),
+    ];
+    check_answers(
+        &rt,
+        rt.alloc(),
+        LOCKS,
+        &[1, 1, 1, 1, 1, 0, 0, 0, 0, 0],
+        &rows,
     );
-    assert!(rt; answered(alloc, LOCKS, &first, Asked::Last) == Some(Told::Last(2, item(1, 0, 1))));
-    assert!(rt;
-        answered(alloc, LOCKS, &first, Asked::Pair(1, 0, 0))
-            == Some(Told::Pair(Some(item(0, 0, 2))))
-    );
-    assert!(rt;
-        answered(alloc, LOCKS, &first, Asked::Pair(0, 0, 0))
-            == Some(Told::Pair(Some(Origin::Initial)))
-    );
-    assert!(rt; answered(alloc, LOCKS, &first, Asked::Pair(0, 0, 2)) == Some(Told::Pair(None)));
-    let second = [1, 1, 1, 1, 1, 0, 0, 0, 0, 0];
-    assert!(rt;
-        answered(alloc, LOCKS, &second, Asked::Shared(1, 0, 1))
-            == Some(Told::Origin(Origin::Initial))
-    );
-    assert!(rt; answered(alloc, LOCKS, &second, Asked::Last) == Some(Told::Last(2, item(0, 0, 1))));
 }

@@ -18,7 +18,7 @@ use Rattle.ppd_lower.specs.Forms.{Added}
 use Rattle.ppd_lower.specs.Statements.{after_row, row_code, row_faults}
 use Rattle.ppd_resolve.specs.Syntax.{Formula, Row, stop, choice, repeat}
 use Rattle.ppd_lower.specs.Table.{root, numbers, stmts}
-use Rattle.ppd_lower.specs.Writing.{Wrote, Walked}
+use Rattle.ppd_lower.specs.Writing.{Wrote, Walked, inside}
 use Rattle.ppd_lower.proofs.Rows.Walking.{Held, held, held_loop, held_choice, inner_numbers, wrote_two}
 use Rattle.ppd_lower.proofs.Table.Writing.{length_stmts}
 
@@ -38,9 +38,6 @@ pub record Ended (site : Site) (p : Place) (k : Kind) (n : ℕ) (y z : Writer) :
   pub exprs : z.exprs ≡ y.exprs
   pub found : z.found ≡ y.found
   pub stmts : z.stmts ≡ slice_set y.stmts n (record { place = p; body = site.body; parent = site.parent; kind = k })
-
-abbrev pub inside : Site → ℕ → Site
-inside site n = record { body = site.body; parent = Some n }
 
 pub walked_repeat : (site : Site) (p : Place) (e : Formula) (r : Row) (f g : Frame) (u v w y z : Writer) (h : Stmt) (n number : ℕ) (ids row row' : List ℕ)
     → Begun site (term_of f.scopes e) (formula_faults f.scopes e) u v w h n number row row'

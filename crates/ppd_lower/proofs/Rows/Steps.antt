@@ -17,8 +17,8 @@ use Rattle.ppd_lower.specs.Plain.{row_any}
 use Rattle.ppd_resolve.specs.Reading.{Phrase, as_row, followed}
 use Rattle.ppd_lower.specs.Statements.{after, after_any, after_row, code_of, code_of_any, faults_of, faults_of_any, row_code, row_faults, opened, closed}
 use Rattle.ppd_resolve.specs.Syntax.{Simple, Formula, Row, stop, repeat, count}
-use Rattle.ppd_lower.specs.Writing.{Wrote, WroteRow, Walked}
-use Rattle.ppd_lower.proofs.Rows.Inside.{Begun, Ended, inside, walked_repeat}
+use Rattle.ppd_lower.specs.Writing.{Wrote, WroteRow, Walked, inside}
+use Rattle.ppd_lower.proofs.Rows.Inside.{Begun, Ended, walked_repeat}
 use Rattle.ppd_lower.proofs.Rows.Nested.{join_done, block_closed}
 use Rattle.ppd_lower.proofs.Rows.Walking.{row_wrote, code_followed, faults_followed, after_followed, wrote_followed}
 

@@ -22,9 +22,9 @@ use Rattle.ppd_lower.specs.Code.{Code}
 use Rattle.ppd_lower.specs.Plain.{row_any, plain_statement}
 use Rattle.ppd_lower.specs.Statements.{code_of_any, faults_of_any, opened}
 use Rattle.ppd_resolve.specs.Syntax.{Simple, Formula, Row, stop, choice, repeat, count}
-use Rattle.ppd_lower.specs.Writing.{Began, Walked, Wrote}
+use Rattle.ppd_lower.specs.Writing.{Began, Walked, Wrote, inside}
 use Rattle.ppd_lower.proofs.Rows.Declaring.{walked_none}
-use Rattle.ppd_lower.proofs.Rows.Inside.{Begun, Ended, inside, walked_choice, walked_repeat}
+use Rattle.ppd_lower.proofs.Rows.Inside.{Begun, Ended, walked_choice, walked_repeat}
 use Rattle.ppd_lower.proofs.Rows.Steps.{walked_count}
 use Rattle.ppd_lower.proofs.Rows.Worded.{named_statement}
 

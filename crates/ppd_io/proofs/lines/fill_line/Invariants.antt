@@ -1,4 +1,5 @@
 use Rattle.std.proofs.Common.{◌++◌, length, ◌≤◌, ◌<◌, ◌-◌, vec_len, vec_capacity}
+use Rattle.ppd_ast.specs.declared.limits.TheConstants.{MOST_LINE_BYTES}
 use Rattle.ppd_io.specs.Lines.{Took, HasNoNewline}
 use Rattle.ppd_io.proofs.lines.fill_line.Given as goal
 
@@ -7,7 +8,7 @@ invariant-loop-bytes g l = record {
   took : Took (g.I.Source.left l.initial.source) (g.I.Source.left l.source) l.initial.bytes (l.line.items ++ l.bytes);
   plain : HasNoNewline l.line.items;
   later : g.I.Source.faults l.initial.source ≤ g.I.Source.faults l.source;
-  room : 4096 < vec_capacity l.line;
+  room : MOST_LINE_BYTES < vec_capacity l.line;
   within : vec_len l.line ≤ 4097;
   few : length l.bytes < 4096;
 }

@@ -1,11 +1,5 @@
 use Rattle.ppd_model.proofs.laws.shared_reads_are_found.Goals as goal
-use Rattle.ppd_model.proofs.SharedReads.{conflicts_forward, last_greatest, shared_found, steps_access, writes_step}
-
-pub returns-clause-steps : goal.returns-clause-steps
-returns-clause-steps c = steps_access
-
-pub returns-clause-writes : goal.returns-clause-writes
-returns-clause-writes c = writes_step
+use Rattle.ppd_model.proofs.SharedReads.{conflicts_forward, last_greatest, shared_found}
 
 pub returns-clause-conflicts : goal.returns-clause-conflicts
 returns-clause-conflicts c = conflicts_forward

@@ -12,7 +12,7 @@ returns-in_err-item g c =
     rw (e.1, e.2) (record {
       ok = search rules;
       err = λ m.
-          counted ((process_count c.args.facts).read) (several (λ (t : ⊤). (log c.args.facts).read) (λ e. tt {0}) (tt {0})) _ _ _ _ _ c.in_ok-left.ensures.ok
+          counted ((process_count c.args.facts).read) (several (λ (t : ⊤). (log c.args.facts).read) (λ e. tt {0}) (tt {0})) _ _ _ _ _ c.in_ok-left.ensures.read.ok
           ∙ c.loop-left.invariant.reads
           ∙ no_more (λ (t : ⊤). (log c.args.facts).read) (λ e. tt {0}) (tt {0}) c.loop-left.left c.loop-left.self.at c.loop-left.self.rest.now c.loop-left.found c.in_err-item.field-0.0 (omega (arith, c.loop-left-test.true)) c.in_err-item.ensures.err m;
       within = omega (arith, c.loop-left.invariant.within, c.log.ensures.within);
