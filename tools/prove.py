@@ -1,9 +1,9 @@
 #!/usr/bin/env python3
 """Proves a crate and those that it stands on side by side: each as soon as those below it are proved, that on which the
 longest chain waits first. One check at a time works in one copy of the repository, so each processor has a copy of its
-own; the kit lets each go on from what the others proved. Tells on standard error how far it is: at a terminal in one
-line that changes, else once a minute. Where a check fails, the end of what it wrote goes there, and the status is 1.
-Prints the folder of the crate, in the copy in which it was proved last.
+own; what is kept of a proved crate is linked into the others, so that none proves it again. Tells on standard error how
+far it is: at a terminal in one line that changes, else once a minute. Where a check fails, the end of what it wrote goes
+there, and the status is 1. Prints the folder of the crate, in the copy in which it was proved last.
 
     prove.py FOLDER CRATE [WORKERS]     FOLDER: for the copies; WORKERS: how many processors to use, all where none is given
 """
@@ -103,6 +103,14 @@ class Copy:
     def crate(self, name):
         return os.path.join(self.folder, "crates", name)
 
+    def lend(self, name, others):
+        """Links what is kept here of a proved crate into the other copies."""
+        kept = os.path.join(self.crate(name), "out")
+        for other in others:
+            there = os.path.join(other.crate(name), "out")
+            shutil.rmtree(there, ignore_errors=True)
+            shutil.copytree(kept, there, copy_function=os.link)
+
 
 class Check:
     """A crate that is being proved in a copy."""
@@ -184,6 +192,7 @@ def prove(below, copies):
                 print(*each.output().splitlines()[-20:], sep="\n", file=sys.stderr)
                 print(f"ppd: {each.crate} is not proved", file=sys.stderr)
                 return None
+            each.copy.lend(each.crate, [copy for copy in copies if copy is not each.copy])
             proved.add(each.crate)
             functions += each.functions()
             last = each.copy

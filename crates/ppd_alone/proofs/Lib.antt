@@ -1,3 +1,4 @@
+pub use Rattle.ppd_inforce.proofs.Answered
 pub mod Events
 pub mod Turns
 pub mod Goals

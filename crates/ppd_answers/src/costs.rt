@@ -3,7 +3,7 @@
 use crate::trials::{Row, check_rows};
 use ppd_ast::Policy;
 use ppd_ast::limits::MOST_BUDGET;
-use ppd_top::{FollowError, Options, follow};
+use ppd_trials::{FollowError, Options, follow};
 use std::alloc::Global;
 use std::process::Abort;
 use std::test::Fail;

@@ -2,8 +2,7 @@
 
 use crate::trials::{check_trial, check_whole};
 use ppd_io::{FreeGate, HostShelf, Shelf, SteadyShelf, SteadySink, SteadySource};
-use ppd_top::ppd;
-use ppd_trials::Devices;
+use ppd_trials::{Devices, ppd};
 use std::alloc::Global;
 use std::process::Abort;
 use std::sync::Wait;

@@ -1,8 +1,7 @@
 // The lines of the input: how many, how long, and what a failed read leaves.
 
 use crate::trials::{USUAL, asked, call, check_trial};
-use ppd_top::{FollowError, follow};
-use ppd_trials::{Devices, Trial};
+use ppd_trials::{Devices, FollowError, Trial, follow};
 use std::alloc::Global;
 use std::fmt::Debug;
 use std::process::Abort;

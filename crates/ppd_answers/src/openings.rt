@@ -3,7 +3,7 @@
 use crate::trials::{USUAL, check_asked};
 use ppd_ast::Policy;
 use ppd_ast::limits::{MOST_BUDGET, MOST_POLICY};
-use ppd_top::{Options, follow};
+use ppd_trials::{Options, follow};
 use std::alloc::Global;
 use std::process::Abort;
 use std::test::Fail;

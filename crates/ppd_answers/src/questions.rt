@@ -1,7 +1,7 @@
 // Questions about worked runs, and their answers.
 
 use crate::trials::{USUAL, check_asked};
-use ppd_top::follow;
+use ppd_trials::follow;
 use std::alloc::Global;
 use std::process::Abort;
 use std::sync::Wait;

@@ -3,7 +3,7 @@
 use crate::trials::{Row, check_flow, check_flows, check_rows, followed};
 use ppd_ast::{Place, Policy};
 use ppd_check::{CheckError, SourceError};
-use ppd_top::{FollowError, Options, follow};
+use ppd_trials::{FollowError, Options, follow};
 use std::alloc::Global;
 use std::process::Abort;
 use std::sync::Wait;

@@ -41,8 +41,8 @@ all_bodies P f j (b ∷ bs) h =
     All-append P (f j b) (each_from f (j + 1) bs) (subst (λ n. All P (f n b)) here (h 0 b refl))
     (all_bodies P f (j + 1) bs (λ i c e. let next : j + suc i ≡ j + 1 + i = omega arith in subst (λ n. All P (f n c)) next (h (suc i) c e)))
 
-some_and : {X : Type 0} (P : X → Type 0) (o : Option X) (x : X) → o ≡ Some x → P x → IsSomeAnd o P
-some_and P o x e h = subst (λ q. IsSomeAnd q P) (sym e) h
+pub some_and_is : {X : Type 0} (P : X → Type 0) (o : Option X) (x : X) → o ≡ Some x → P x → IsSomeAnd o P
+some_and_is P o x e h = subst (λ q. IsSomeAnd q P) (sym e) h
 
 module _ (p : Program) (policy : Policy) (v : IsValid p) where
   abbrev IsGood : BlockKind → Type 0
@@ -50,13 +50,13 @@ module _ (p : Program) (policy : Policy) (v : IsValid p) where
 
   body_good : (i : ℕ) (b : Body) → slice_get p.bodies i ≡ Some b → (process : Bool) → IsGood (if process then Process i else Function i)
   body_good i b e true = record { prelog = refl; postlog = refl; value = refl }
-  body_good i b e false = some_and (λ c. IsFunctionBlock c (bare_block p.bodies (Function i))) (slice_get p.bodies i) b e (record { prelog = no_cells b.params; postlog = refl; value = ap gives e })
+  body_good i b e false = some_and_is (λ c. IsFunctionBlock c (bare_block p.bodies (Function i))) (slice_get p.bodies i) b e (record { prelog = no_cells b.params; postlog = refl; value = ap gives e })
 
   loop_good : (k : ℕ) (s : Stmt) → slice_get p.stmts k ≡ Some s → IsGood (Loop k)
   loop_good k s e =
       let w = stmt_in_body p k s v e in
-      some_and (λ t. IsSomeAnd (slice_get p.bodies t.body) (λ b. IsLoopBlock b.cells (bare_block p.bodies (Loop k)))) (slice_get p.stmts k) s e
-      (some_and (λ b. IsLoopBlock b.cells (bare_block p.bodies (Loop k))) (slice_get p.bodies s.body) w.0 w.1
+      some_and_is (λ t. IsSomeAnd (slice_get p.bodies t.body) (λ b. IsLoopBlock b.cells (bare_block p.bodies (Loop k)))) (slice_get p.stmts k) s e
+      (some_and_is (λ b. IsLoopBlock b.cells (bare_block p.bodies (Loop k))) (slice_get p.bodies s.body) w.0 w.1
       (record { prelog = no_cells w.0.cells; postlog = no_cells w.0.cells; value = refl }))
 
   loops_good : (k : ℕ) → All IsGood (loops_at p.stmts policy k)

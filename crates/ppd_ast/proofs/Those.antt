@@ -50,11 +50,11 @@ filter_push test (y ∷ xs) x = by (test y) (filter_push test xs x) where
   by true e = ap (λ zs. y ∷ zs) e
   by false e = e
 
-counting : (a n j : ℕ) → a + n ≡ j → range_with_len a (suc n) ≡ range_with_len a n ++ j ∷ []
+pub counting : (a n j : ℕ) → a + n ≡ j → range_with_len a (suc n) ≡ range_with_len a n ++ j ∷ []
 counting a zero j e = let same : a ≡ j = omega arith in ap (λ x. x ∷ []) same
 counting a (suc n) j e = ap (λ xs. a ∷ xs) (counting (a + 1) n j (omega arith))
 
-counting_more : (n : ℕ) → range_with_len 0 (n + 1) ≡ range_with_len 0 n ++ n ∷ []
+pub counting_more : (n : ℕ) → range_with_len 0 (n + 1) ≡ range_with_len 0 n ++ n ∷ []
 counting_more n = let on : n + 1 ≡ suc n = omega arith in ap (range_with_len 0) on ∙ counting 0 n n (omega arith)
 
 those_next : (n : ℕ) (test : ℕ → Bool) → those (n + 1) test ≡ those n test ++ cond (test n) (n ∷ []) []
@@ -63,7 +63,7 @@ those_next n test = ap (filter test) (counting_more n) ∙ filter_push test (ran
 pub those_yes : (n : ℕ) (test : ℕ → Bool) → test n ≡ true → those (n + 1) test ≡ those n test ++ n ∷ []
 those_yes n test e = those_next n test ∙ ap (λ b. those n test ++ cond b (n ∷ []) []) e
 
-nothing_more : (xs : List ℕ) → xs ++ [] ≡ xs
+pub nothing_more : (xs : List ℕ) → xs ++ [] ≡ xs
 nothing_more [] = refl
 nothing_more (x ∷ xs) = ap (λ zs. x ∷ zs) (nothing_more xs)
 

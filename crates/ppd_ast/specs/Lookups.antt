@@ -50,3 +50,8 @@ params_of p b = params_of_body (slice_get p.bodies b)
 abbrev pub name_of_body : Option Body → List ℕ
 name_of_body None = []
 name_of_body (Some b) = b.name
+
+-- the `If` or `While` in which a statement directly stands
+abbrev pub parent_if : Option Stmt → Option ℕ
+parent_if None = None
+parent_if (Some s) = s.parent

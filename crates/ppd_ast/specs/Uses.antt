@@ -1,5 +1,5 @@
 -- Which expressions expressions and statements use, and how large an expression is.
-use Rattle.std.specs.Prelude.{ℕ, ◌+◌, max, List, [], ◌∷◌, ◌++◌, Option, Some, None}
+use Rattle.std.specs.Prelude.{ℕ, ◌+◌, max, List, [], ◌∷◌, ◌++◌, option_to_list}
 use Rattle.std.specs.List.{flat_map}
 use Rattle.ppd_ast.specs.declared.program.Expr.{Expr}
 use Rattle.ppd_ast.specs.declared.program.Expr.TheVariants as E
@@ -30,10 +30,6 @@ target_uses (T.LocalAt base len i) = i ∷ []
 target_uses (T.Shared c) = []
 target_uses (T.SharedAt base len i) = i ∷ []
 
-abbrev pub option_uses : Option ℕ → List ℕ
-option_uses None = []
-option_uses (Some e) = e ∷ []
-
 -- the expressions that a statement uses, in order of evaluation
 abbrev pub kind_uses : Kind → List ℕ
 kind_uses (K.Set t e) = target_uses t ++ e ∷ []
@@ -41,7 +37,7 @@ kind_uses (K.Zero base len) = []
 kind_uses (K.If e first second) = e ∷ []
 kind_uses (K.While e body) = e ∷ []
 kind_uses (K.Call f args into) = args
-kind_uses (K.Return v) = option_uses v
+kind_uses (K.Return v) = option_to_list v
 kind_uses (K.P s) = []
 kind_uses (K.V s) = []
 kind_uses (K.Send c e) = e ∷ []

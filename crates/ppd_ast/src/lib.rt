@@ -4,6 +4,7 @@
 
 mod bare;
 mod cells;
+mod digit;
 pub mod limits;
 mod lists;
 mod numbered;
@@ -16,6 +17,7 @@ mod uses;
 mod valid;
 mod valid_plan;
 
+pub use digit::is_digit;
 pub use lists::{Bytes, Cells, Ids, Memory, Nums, Seq};
 pub use plan::{Block, BlockKind, Plan, Policy, Start, Unit};
 pub use program::{Body, Chan, Expr, Kind, Op, Place, Program, Sem, Stmt, Target, Var};

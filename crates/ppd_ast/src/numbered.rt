@@ -9,7 +9,8 @@ use crate::plan::{Block, BlockKind, Policy, Start, Unit};
 use crate::program::{Body, Kind, Stmt};
 
 impl Kind {
-    fn is_while(&self) -> bool
+    /// Whether it is a `While`.
+    pub fn is_while(&self) -> bool
         ensures { result ≡ is_while self.now }
     {
         match self {

@@ -1,10 +1,12 @@
 ghost use Rattle.std.specs.Prelude.{◌≡◌, ◌+◌, option_copied, slice_get};
 ghost use Rattle.std.specs.Slice.{IsItemAt};
+ghost use Rattle.ppd_ast.specs.Lookups.{kind_of, parent_if};
+ghost use Rattle.ppd_ast.specs.Numbered.{is_while};
 
 use crate::lists::{Bytes, Ids, Nums, Seq};
 
-/// A place in the source: a line and a column in bytes, both from 1.
-#[derive(Clone, Copy, PartialEq, Eq, Debug)]
+/// A place in the source: a line and a column in bytes, both from 1. Places are ordered as in the source.
+#[derive(Clone, Copy, PartialEq, Eq, PartialOrd, Ord, Debug)]
 pub struct Place {
     pub line: u32,
     pub column: u32,
@@ -145,6 +147,23 @@ impl Program {
         ensures value { option_copied result ≡ slice_get self.now.stmts number }
     {
         self.stmts.get(number as usize)
+    }
+
+    /// Whether the statement with this number, from 0, is a `While`.
+    pub fn is_while(&self, stmt: u32) -> bool
+        ensures { result ≡ is_while (kind_of self.now stmt) }
+    {
+        match self.stmt(stmt) {
+            Some(stmt) => stmt.kind.is_while(),
+            None => false,
+        }
+    }
+
+    /// The `If` or `While` in which the statement with this number, from 0, directly stands.
+    pub fn parent_of(&self, stmt: u32) -> Option<u32>
+        ensures { result ≡ parent_if (slice_get self.now.stmts stmt) }
+    {
+        self.stmt(stmt)?.parent
     }
 
     /// The body with this number, from 0, and none past the table.

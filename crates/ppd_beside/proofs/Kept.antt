@@ -11,8 +11,9 @@ use Rattle.ppd_sem.specs.declared.proc.Proc.{Proc}
 use Rattle.ppd_sem.specs.declared.proc.Todo.{Todo}
 use Rattle.ppd_sem.specs.Described.{ends_body, frame_of, has_interval, is_block}
 use Rattle.ppd_sem.specs.Process.{top_body}
-use Rattle.ppd_beside.specs.Beside.{Each, HasEnd, IsBeside, IsLast, IsOwnTodo, Stacked, at_base, called}
+use Rattle.ppd_beside.specs.Beside.{HasEnd, IsBeside, IsLast, IsOwnTodo, Stacked, at_base, called}
 use Rattle.ppd_beside.proofs.Events.{called_frame, top_of_list, taken}
+use Rattle.ppd_model.specs.World.{Each}
 
 module _ (program : Program) (plan : Plan) (used inside : ℕ → Type 0) (calls : Type 0) (closer : Todo) (home : ℕ)
     (depth : ℕ) (outside : List Todo) where

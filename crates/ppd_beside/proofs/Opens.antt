@@ -21,9 +21,10 @@ use Rattle.ppd_sem.proofs.Progress.{need_at_todo}
 use Rattle.ppd_ast.specs.declared.plan.Start.TheVariants as start
 use Rattle.ppd_ast.specs.declared.status.Trap.TheVariants as trap
 use Rattle.ppd_ast.specs.Lookups.{kind_of, top_of_body, body_of_stmt}
+use Rattle.ppd_ast.specs.Counting.{one_if}
 use Rattle.ppd_model.specs.Marks.{opened, closed}
 use Rattle.ppd_beside.specs.Beside.{IsCallOf, IsReturn, IsEnd, Suits, Yields}
-use Rattle.ppd_beside.specs.Opens.{IsCountable, IsCountedStep, IsHome, IsWhile, ends_block, one_if, open_at, opens}
+use Rattle.ppd_beside.specs.Opens.{IsCountable, IsCountedStep, IsHome, IsWhile, ends_block, open_at, opens}
 use Rattle.ppd_beside.proofs.Deeds.{call_goes_on, list_goes_on, suits}
 use Rattle.ppd_beside.proofs.Sends.{offered_goes_on, offered_no_loop}
 use Rattle.ppd_beside.proofs.LoopKinds.{call_no_loop, end_no_loop, return_no_loop, while_ends_none}

@@ -6,7 +6,8 @@ use Rattle.ppd_ast.specs.Lookups.{kind_of}
 use Rattle.ppd_sem.specs.declared.proc.Todo.{Todo}
 use Rattle.ppd_sem.specs.Described.{ends_body}
 use Rattle.ppd_sem.specs.Process.{todos}
-use Rattle.ppd_beside.specs.Beside.{Each, HasEnd, IsLast, IsLong, past_body}
+use Rattle.ppd_beside.specs.Beside.{HasEnd, IsLast, IsLong, past_body}
+use Rattle.ppd_model.specs.World.{Each}
 
 pub all_todos : (inside : ℕ → Type 0) (stmts : List ℕ) (ts : List Todo) → Each inside stmts
     → Each (λ t. inside t.stmt) ts → Each (λ t. inside t.stmt) (todos stmts ++ ts)

@@ -12,11 +12,7 @@ use Rattle.ppd_sem.specs.Deed.{Deed, branch, turn, invoke, back, finish}
 use Rattle.ppd_sem.specs.Process.{todos}
 use Rattle.ppd_sem.specs.Described.{ends_body}
 use Rattle.ppd_beside.specs.Over.{SameIn, IsKindOver}
-
--- P of each element
-abbrev pub Each : {X : Type 0} → (X → Type 0) → List X → Type 0
-Each P [] = ⊤
-Each P (x ∷ xs) = P x × Each P xs
+use Rattle.ppd_model.specs.World.{Each}
 
 -- a statement that ends a body is still to do
 abbrev pub HasEnd : Program → List Todo → Type 0

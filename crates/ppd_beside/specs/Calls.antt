@@ -22,7 +22,7 @@ past_all program zero todo = todo
 past_all program (suc n) todo = past_all program n (past_body program todo)
 
 -- past the bodies of all frames but the last k this is to do
-pub record IsOver (program : Program) (k : ℕ) (rest : List Todo) (x : Proc) : Type 0 where
+pub record IsPastFrames (program : Program) (k : ℕ) (rest : List Todo) (x : Proc) : Type 0 where
   pub more : ℕ
   pub frames : length x.frames ≡ suc more + k
   pub past : past_all program more (past_body program x.todo) ≡ rest
@@ -44,7 +44,7 @@ pub record IsInCall (program : Program) (plan : Plan) (used inside : ℕ → Typ
   pub last_is : last.entered ≡ false
   pub counts : 1 ≤ open_at program plan last
   pub within : IsIn program (λ c. ⊤) statements last base came.before.frames (came.later ++ outside) x
-  pub over : IsOver program (length came.before.frames) (came.later ++ outside) x
+  pub over : IsPastFrames program (length came.before.frames) (came.later ++ outside) x
   pub counted : opens program plan within.todo ≡ suc level
   pub whole : x.below ≡ 0
   pub budget : x.budget ≡ came.before.budget

@@ -6,6 +6,7 @@ use Rattle.ppd_ast.specs.declared.program.Kind.{Kind}
 use Rattle.ppd_ast.specs.declared.program.Kind.TheVariants.{While, Return, End}
 use Rattle.ppd_ast.specs.declared.program.Program.{Program}
 use Rattle.ppd_ast.specs.Lookups.{kind_of, top_of_body, body_of_stmt}
+use Rattle.ppd_ast.specs.Counting.{one_if}
 use Rattle.ppd_sem.specs.declared.proc.Need.{Need}
 use Rattle.ppd_sem.specs.declared.proc.Proc.{Proc}
 use Rattle.ppd_sem.specs.declared.proc.Todo.{Todo}
@@ -13,10 +14,6 @@ use Rattle.ppd_sem.specs.Process.{todos, top_body}
 use Rattle.ppd_sem.specs.Tables.{block_of}
 use Rattle.ppd_model.specs.Marks.{opened, closed}
 use Rattle.ppd_beside.specs.Beside.{IsCallOf, IsListOf}
-
-abbrev pub one_if : Bool → ℕ
-one_if true = 1
-one_if false = 0
 
 -- one, where the statement ends a body that is a block; a process's is always one
 abbrev pub ends_block : Plan → ℕ → Kind → ℕ

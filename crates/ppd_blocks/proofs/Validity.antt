@@ -1,5 +1,5 @@
 -- The plan of a policy is valid.
-use Rattle.std.proofs.Common.{◌≡◌, ℕ, suc, ◌<◌, List, [], ◌∷◌, Option, Some, length, map, refl, sym, ap, ◌∙◌, subst, arith, get_or}
+use Rattle.std.proofs.Common.{◌≡◌, ℕ, suc, ◌<◌, List, [], ◌∷◌, length, map, refl, sym, ap, ◌∙◌, subst, arith, get_or}
 use Rattle.std.specs.Prelude.{IsSomeAnd, slice_get}
 use Rattle.std.specs.List.{All, flat_map, range_with_len}
 use Rattle.std.proofs.lemmas.List.Elements.{All-cons, All-map}
@@ -15,7 +15,7 @@ use Rattle.ppd_ast.specs.Bare.{bare, bare_block}
 use Rattle.ppd_ast.specs.Numbered.{blocks_by}
 use Rattle.ppd_ast.specs.Valid.{IsValid}
 use Rattle.ppd_ast.specs.ValidPlan.{AreCells, IsValidBlock, IsValidPlan, IsValidPolicy, IsFunctionBlock, IsLoopBlock, IsBlockOf}
-use Rattle.ppd_ast.proofs.BareValid.{bare_valid}
+use Rattle.ppd_ast.proofs.BareValid.{bare_valid, some_and_is}
 use Rattle.ppd_ast.proofs.ValidLaws.{some_and}
 use Rattle.ppd_ast.proofs.Members.{below_range}
 use Rattle.ppd_units.specs.Starts.{all_starts, unit_of, units_of}
@@ -24,9 +24,6 @@ use Rattle.ppd_blocks.specs.Blocks.{params_of, loop_in, block_of, filled, block_
 use Rattle.ppd_blocks.proofs.Filling.{loops_of_kinds}
 use Rattle.ppd_blocks.proofs.Listing.{starts_are}
 use Rattle.ppd_blocks.proofs.Looping.{prelog_cells, postlog_cells}
-
-and_some : {X : Type 0} (P : X → Type 0) (o : Option X) (x : X) → o ≡ Some x → P x → IsSomeAnd o P
-and_some P o x e h = subst (λ q. IsSomeAnd q P) (sym e) h
 
 params_are_cells : (n : ℕ) → AreCells n (range_with_len 0 n)
 params_are_cells n = record { rising = range_rises 0 n; below = all_from (λ c. c < n) (range_with_len 0 n) (λ c h. let inside = below_range 0 n c h in omega (arith, inside.1)) }
@@ -42,14 +39,14 @@ module _ (p : Program) (policy : Policy) (v : IsValid p) where
   block_good : (kind : BlockKind) → IsBlockOf p kind (bare_block p.bodies kind) → IsBlockOf p kind (block_of p kind)
   block_good (Function f) h =
       let b = some_and (λ b. IsFunctionBlock b (bare_block p.bodies (Function f))) (slice_get p.bodies f) h in
-      and_some (λ b. IsFunctionBlock b (block_of p (Function f))) (slice_get p.bodies f) b.0 b.1
+      some_and_is (λ b. IsFunctionBlock b (block_of p (Function f))) (slice_get p.bodies f) b.0 b.1
       (record { prelog = subst (AreCells b.0.params) (sym (ap params_of b.1)) (params_are_cells b.0.params); postlog = refl; value = b.2.value })
   block_good (Process f) h = record { prelog = refl; postlog = refl; value = refl }
   block_good (Loop q) h =
       let s = some_and (λ s. IsSomeAnd (slice_get p.bodies s.body) (λ b. IsLoopBlock b.cells (bare_block p.bodies (Loop q)))) (slice_get p.stmts q) h in
       let b = some_and (λ b. IsLoopBlock b.cells (bare_block p.bodies (Loop q))) (slice_get p.bodies s.0.body) s.2 in
-      and_some (λ s. IsSomeAnd (slice_get p.bodies s.body) (λ b. IsLoopBlock b.cells (block_of p (Loop q)))) (slice_get p.stmts q) s.0 s.1
-      (and_some (λ b. IsLoopBlock b.cells (block_of p (Loop q))) (slice_get p.bodies s.0.body) b.0 b.1
+      some_and_is (λ s. IsSomeAnd (slice_get p.bodies s.body) (λ b. IsLoopBlock b.cells (block_of p (Loop q)))) (slice_get p.stmts q) s.0 s.1
+      (some_and_is (λ b. IsLoopBlock b.cells (block_of p (Loop q))) (slice_get p.bodies s.0.body) b.0 b.1
       (record { prelog = prelog_cells p q s.0 b.0 v s.1 b.1; postlog = postlog_cells p q s.0 b.0 v s.1 b.1; value = refl }))
 
   all_good : (kinds : List BlockKind) → All (IsValidBlock p) (map (bare_block p.bodies) kinds) → All (IsValidBlock p) (map (block_of p) kinds)

@@ -1,5 +1,5 @@
 // The blocks with what their prelogs and postlogs hold.
-ghost use Rattle.std.specs.Prelude.{◌≡◌, [], ◌∷◌, ◌++◌, map, slice_get, IfOk, OnOk};
+ghost use Rattle.std.specs.Prelude.{◌≡◌, [], ◌++◌, map, slice_get, IfOk, OnOk};
 ghost use Rattle.std.specs.List.{flat_map, range_with_len};
 ghost use Rattle.ppd_ast.specs.Valid.{IsValid};
 ghost use Rattle.ppd_sets.specs.Gained.{Gains};
@@ -7,10 +7,8 @@ ghost use Rattle.ppd_sets.specs.SetsOf.{AreSetsOf};
 ghost use Rattle.ppd_sets.specs.Used.{loop_used_of, loop_defined_of, sorted};
 ghost use Rattle.ppd_blocks.specs.Blocks.{params_of, prelog_of, postlog_of, filled, loop_in};
 
-use ppd_ast::limits::MOST_SHARED_CELLS;
 use ppd_ast::{Block, BlockKind, Cells, Ids, Memory, Program, Seq};
-use ppd_bits::CellSet;
-use ppd_sets::VarSets;
+use ppd_sets::{CellSet, VarSets, add_cell};
 use std::alloc::Global;
 
 // Appends the loop that is a block of this kind.
@@ -49,7 +47,7 @@ fn first_cells(alloc: Global, count: u16) -> Result<Cells, Memory>
 fn params_of(alloc: Global, program: &Program, body: u16) -> Result<Cells, Memory>
     ensures { IfOk result (λ cells. cells ≡ params_of (slice_get program.now.bodies body)) }
 {
-    match program.bodies.as_slice().get(body as usize) {
+    match program.body(body) {
         None => Ok(Cells::new(alloc)),
         Some(found) => {
             let cells = first_cells(alloc, found.params)?;
@@ -80,21 +78,11 @@ fn loop_defined<'a>(program: &'a Program, sets: &'a VarSets, stmt: u32) -> &'a [
     }
 }
 
-// Adds the cell. None of a loop is 1,024 or more.
-fn add_cell(set: &mut CellSet, cell: u16)
-    ensures { Gains set.old set.new (cell ∷ []) }
-{
-    if cell as usize >= MOST_SHARED_CELLS {
-        return;
-    }
-    set.insert(cell);
-}
-
 fn add_cells(set: &mut CellSet, cells: &[u16])
     ensures { Gains set.old set.new cells.now }
 {
     for cell in cells {
-        add_cell(set, *cell);
+        add_cell(set, u32::from(*cell));
     }
 }
 
@@ -112,11 +100,7 @@ fn either(alloc: Global, left: &[u16], right: &[u16]) -> Result<Cells, Memory>
 fn copy_of(alloc: Global, cells: &[u16]) -> Result<Cells, Memory>
     ensures { IfOk result (λ copy. copy ≡ cells.now) }
 {
-    let mut copy = Cells::new(alloc);
-    for index in 0..cells.len() {
-        copy.push(cells[index])?;
-    }
-    Ok(copy)
+    Ok(Cells::from_vec(cells.to_vec(alloc)?))
 }
 
 // What a block's prelog holds.
@@ -182,9 +166,9 @@ pub(crate) fn fill(
     ensures { IfOk result (λ blocks. blocks ≡ map (filled program.now) bare.now) }
 {
     let mut blocks = Seq::new(alloc);
-    for index in 0..bare.len() {
-        let block = filled(alloc, program, sets, &bare[index])?;
-        blocks.push(block)?;
+    for block in bare {
+        let filled = filled(alloc, program, sets, block)?;
+        blocks.push(filled)?;
     }
     Ok(blocks)
 }

@@ -12,8 +12,8 @@ use Rattle.ppd_model.specs.declared.state.Logging.{Logging}
 use Rattle.ppd_model.specs.Logs.{begun_log, log_step, loggings, logs_from}
 use Rattle.ppd_model.specs.Story.{Moment, told}
 use Rattle.ppd_model.proofs.Changes.{some}
+use Rattle.ppd_model.proofs.Lists.{every_at}
 use Rattle.ppd_world.specs.Running.{IsReached, Running}
-use Rattle.ppd_world.proofs.Lists.{every_at}
 use Rattle.ppd_world.proofs.Plain.{got_map}
 use Rattle.ppd_world.proofs.Sound.{IsSoundLogging, reached_sound}
 

@@ -1,20 +1,13 @@
 -- Who is stepped, and how long a schedule is.
-use Rattle.std.specs.Prelude.{slice_get}
-use Rattle.std.proofs.Common.{◌≡◌, ℕ, zero, suc, ◌+◌, ◌-◌, ◌*◌, ◌<◌, ◌≤◌, List, [], ◌∷◌, length, true, false, refl, subst, arith, inl, inr}
+use Rattle.std.proofs.Common.{◌≡◌, ℕ, ◌+◌, ◌-◌, ◌*◌, ◌<◌, ◌≤◌, List, [], ◌∷◌, length, true, false, subst, arith, inl, inr}
 use Rattle.std.proofs.lemmas.Bool.{cases_lt}
 use Rattle.ppd_ast.specs.declared.program.Program.{Program}
 use Rattle.ppd_ast.specs.declared.plan.Plan.{Plan}
-use Rattle.ppd_sem.specs.declared.proc.Proc.{Proc}
 use Rattle.ppd_model.specs.Bounds.{SchedulesAreBounded}
-use Rattle.ppd_model.specs.World.{World, can, need_at}
+use Rattle.ppd_model.specs.World.{can}
 use Rattle.ppd_world.specs.Running.{Running, IsHeld, IsReached, can_step}
-use Rattle.ppd_world.proofs.Processes.{reached_count}
+use Rattle.ppd_world.proofs.Processes.{reached_count, past}
 use Rattle.ppd_book.specs.Turns.{KeepsBudget}
-
-past : (program : Program) (plan : Plan) (w : World) (ps : List Proc) (q : ℕ) → length ps ≤ q → can w (need_at program plan (slice_get ps q)) ≡ false
-past program plan w [] q h = refl
-past program plan w (s ∷ ps) zero h = absurd (omega arith)
-past program plan w (s ∷ ps) (suc q) h = past program plan w ps q (omega arith)
 
 -- who can take a step is a process of the program
 who_can : (r : Running) → IsReached r → (p : ℕ) → can_step r p ≡ true → p < length r.program.bodies - r.program.functions

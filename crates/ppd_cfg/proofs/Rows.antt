@@ -1,6 +1,6 @@
 -- The rows of successors, and that they rise.
 use Rattle.std.proofs.Common.{◌≡◌, ℕ, zero, suc, ◌+◌, ◌-◌, ◌<◌, ◌≤◌, List, [], ◌∷◌, ◌++◌, Bool, true, false, Option, Some, None, refl, sym, subst, ap, ◌∙◌, arith, inl, inr, length, map}
-use Rattle.std.specs.Prelude.{nat_eq, nat_lt, slice_get, IsSomeAnd, if◌then◌else◌}
+use Rattle.std.specs.Prelude.{nat_eq, nat_lt, slice_get, IsSomeAnd, if◌then◌else◌, option_to_list}
 use Rattle.std.specs.List.{range_with_len}
 use Rattle.std.proofs.lemmas.Bool.{cases_Bool, cases_lt, ltb-true, ltb-false, eqb-false, cond-true, cond-false}
 use Rattle.ppd_ast.specs.declared.program.Kind.{Kind}
@@ -14,7 +14,7 @@ use Rattle.ppd_ast.proofs.Walks.{got_none}
 use Rattle.ppd_ast.proofs.Ranges.{range_more}
 use Rattle.ppd_ast.specs.Members.{RisesFrom}
 use Rattle.ppd_ast.specs.Lookups.{kind_of_stmt, kind_of}
-use Rattle.ppd_cfg.specs.Lists.{row, to_list, first_or, rising, rising_pair}
+use Rattle.ppd_cfg.specs.Lists.{row, first_or, rising, rising_pair}
 use Rattle.ppd_cfg.specs.Flow.{follow, successors, next_of, flow_rows}
 
 pub row_at : (f : ℕ → List ℕ) (a n k : ℕ) → k < n → row (map f (range_with_len a n)) k ≡ f (a + k)
@@ -43,7 +43,7 @@ rows_are p s = elim (cases_lt s (length p.stmts)) [
 
 -- ---- they rise
 
-one_rises : (o : Option ℕ) → RisesFrom 0 (to_list o)
+one_rises : (o : Option ℕ) → RisesFrom 0 (option_to_list o)
 one_rises None = tt
 one_rises (Some x) = (omega arith, tt)
 
@@ -77,7 +77,7 @@ next_rises p s = successors_rise s (kind_of p s) (follow p s)
 
 -- ---- for the code
 
-map_push : (f : ℕ → List ℕ) (xs : List ℕ) (x : ℕ) → map f (xs ++ x ∷ []) ≡ map f xs ++ f x ∷ []
+pub map_push : (f : ℕ → List ℕ) (xs : List ℕ) (x : ℕ) → map f (xs ++ x ∷ []) ≡ map f xs ++ f x ∷ []
 map_push f [] x = refl
 map_push f (y ∷ xs) x = ap (λ zs. f y ∷ zs) (map_push f xs x)
 

@@ -1,7 +1,6 @@
 -- A search through a list, by what is left of it.
-use Rattle.std.proofs.Common.{◌≡◌, ℕ, zero, suc, ◌+◌, ◌<◌, ◌≤◌, List, [], ◌∷◌, true, false, Option, refl, ap, arith, ◌∙◌, length, get_or, drop, ◌||◌}
+use Rattle.std.proofs.Common.{◌≡◌, ℕ, zero, suc, ◌+◌, ◌<◌, ◌≤◌, List, [], ◌∷◌, true, false, Option, refl, ap, arith, ◌∙◌, length, get_or, drop}
 use Rattle.std.specs.Prelude.{nat_eq, if◌then◌else◌}
-use Rattle.ppd_ast.specs.Members.{has}
 use Rattle.ppd_cfg.specs.Lists.{first_or}
 use Rattle.ppd_cfg.specs.Flow.{next_in}
 
@@ -15,12 +14,6 @@ nothing_left [] zero h = refl
 nothing_left [] (suc i) h = refl
 nothing_left (x ∷ xs) zero h = absurd (omega arith)
 nothing_left (x ∷ xs) (suc i) h = nothing_left xs i (omega arith)
-
-pub has_here : (xs : List ℕ) (i n : ℕ) → i < length xs → nat_eq (get_or xs i 0) n ≡ true → has (drop i xs) n ≡ true
-has_here xs i n h e = ap (λ ys. has ys n) (split_at xs i h) ∙ ap (λ b. b || has (drop (i + 1) xs) n) e
-
-pub has_on : (xs : List ℕ) (i n : ℕ) → i < length xs → nat_eq (get_or xs i 0) n ≡ false → has (drop i xs) n ≡ has (drop (i + 1) xs) n
-has_on xs i n h e = ap (λ ys. has ys n) (split_at xs i h) ∙ ap (λ b. b || has (drop (i + 1) xs) n) e
 
 pub next_here : (xs : List ℕ) (i s : ℕ) (after : Option ℕ) → i < length xs → nat_eq (get_or xs i 0) s ≡ true → next_in (drop i xs) s after ≡ first_or (drop (i + 1) xs) after
 next_here xs i s after h e = ap (λ ys. next_in ys s after) (split_at xs i h) ∙ ap (λ b. if b then first_or (drop (i + 1) xs) after else next_in (drop (i + 1) xs) s after) e

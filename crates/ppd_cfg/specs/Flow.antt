@@ -1,5 +1,5 @@
 -- The successors of a statement, and flow paths.
-use Rattle.std.specs.Prelude.{◌≡◌, IsTrue, ℕ, zero, suc, nat_eq, List, [], ◌∷◌, length, map, Option, Some, None, if◌then◌else◌, slice_get}
+use Rattle.std.specs.Prelude.{◌≡◌, IsTrue, ℕ, zero, suc, nat_eq, List, [], ◌∷◌, length, map, Option, Some, None, if◌then◌else◌, slice_get, option_to_list}
 use Rattle.std.specs.List.{range_with_len}
 use Rattle.ppd_ast.specs.declared.program.Kind.{Kind}
 use Rattle.ppd_ast.specs.declared.program.Kind.TheVariants as K
@@ -8,7 +8,7 @@ use Rattle.ppd_ast.specs.declared.program.Program.{Program}
 use Rattle.ppd_ast.specs.declared.limits.TheConstants.{MOST_NESTING}
 use Rattle.ppd_ast.specs.Members.{has}
 use Rattle.ppd_ast.specs.Lookups.{kind_of, top_of}
-use Rattle.ppd_cfg.specs.Lists.{to_list, first_or, rising}
+use Rattle.ppd_cfg.specs.Lists.{first_or, rising}
 
 -- the statement after s in the list, or what follows the list
 abbrev pub next_in : List ℕ → ℕ → Option ℕ → Option ℕ
@@ -45,7 +45,7 @@ successors s (K.If e first second) after = rising (first_or first after) (first_
 successors s (K.While e body) after = rising (first_or body (Some s)) after
 successors s (K.Return e) after = []
 successors s K.End after = []
-successors s k after = to_list after
+successors s k after = option_to_list after
 
 -- the successors of statement s
 abbrev pub next_of : Program → ℕ → List ℕ

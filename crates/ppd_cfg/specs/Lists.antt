@@ -1,13 +1,9 @@
 -- Words on lists of numbers.
-use Rattle.std.specs.Prelude.{ℕ, nat_eq, nat_lt, List, [], ◌∷◌, Option, Some, None, if◌then◌else◌, get_or}
+use Rattle.std.specs.Prelude.{ℕ, nat_eq, nat_lt, List, [], ◌∷◌, Option, Some, None, if◌then◌else◌, get_or, option_to_list}
 
 -- the row with this number, and none past the end
 abbrev pub row : List (List ℕ) → ℕ → List ℕ
 row rows a = get_or rows a []
-
-abbrev pub to_list : Option ℕ → List ℕ
-to_list None = []
-to_list (Some x) = x ∷ []
 
 -- the first of the list, or else this
 abbrev pub first_or : List ℕ → Option ℕ → Option ℕ
@@ -19,6 +15,6 @@ abbrev pub rising_pair : ℕ → ℕ → List ℕ
 rising_pair x y = if nat_lt x y then x ∷ y ∷ [] else if nat_eq x y then x ∷ [] else y ∷ x ∷ []
 
 abbrev pub rising : Option ℕ → Option ℕ → List ℕ
-rising None b = to_list b
+rising None b = option_to_list b
 rising (Some x) None = x ∷ []
 rising (Some x) (Some y) = rising_pair x y

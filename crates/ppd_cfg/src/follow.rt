@@ -1,23 +1,10 @@
 ghost use Rattle.std.specs.Prelude.{◌≡◌, IfOk};
-ghost use Rattle.ppd_ast.specs.Members.{has};
 ghost use Rattle.ppd_ast.specs.Lookups.{kind_of, top_of};
 ghost use Rattle.ppd_cfg.specs.Lists.{first_or, rising};
 ghost use Rattle.ppd_cfg.specs.Flow.{next_in, follow_within, follow_at, successors};
 
 use ppd_ast::{Ids, Kind, Memory, Program};
 use std::alloc::Global;
-
-#[tactic(auto, using(crate::proofs::Searches::has_here, crate::proofs::Searches::has_on, crate::proofs::Searches::nothing_left))]
-fn contains(list: &[u32], number: u32) -> bool
-    ensures { result ≡ has list.now number }
-{
-    for item in list {
-        if *item == number {
-            return true;
-        }
-    }
-    false
-}
 
 fn first(list: &[u32], after: Option<u32>) -> Option<u32>
     ensures { result ≡ first_or list.now after }
@@ -33,8 +20,8 @@ fn first(list: &[u32], after: Option<u32>) -> Option<u32>
 fn next_in_list(list: &[u32], stmt: u32, after: Option<u32>) -> Option<u32>
     ensures { result ≡ next_in list.now stmt after }
 {
-    for index in 0..list.len() {
-        if list[index] == stmt {
+    for (index, item) in list.iter().enumerate() {
+        if *item == stmt {
             return first(&list[index + 1..], after);
         }
     }
@@ -44,7 +31,7 @@ fn next_in_list(list: &[u32], stmt: u32, after: Option<u32>) -> Option<u32>
 fn top(program: &Program, body: u16) -> &[u32]
     ensures { result.now ≡ top_of program.now body }
 {
-    match program.bodies.as_slice().get(body as usize) {
+    match program.body(body) {
         Some(found) => found.top.as_slice(),
         None => &[],
     }
@@ -54,10 +41,10 @@ fn top(program: &Program, body: u16) -> &[u32]
 fn follow_inside(program: &Program, outer: u32, stmt: u32, after: Option<u32>) -> Option<u32>
     ensures { result ≡ follow_within outer (kind_of program.now outer) stmt after }
 {
-    match program.stmts.as_slice().get(outer as usize) {
+    match program.stmt(outer) {
         Some(found) => match &found.kind {
             Kind::If(_, yes, no) => {
-                if contains(yes.as_slice(), stmt) {
+                if yes.as_slice().contains(&stmt) {
                     next_in_list(yes.as_slice(), stmt, after)
                 } else {
                     next_in_list(no.as_slice(), stmt, after)
@@ -77,7 +64,7 @@ pub(crate) fn follow(program: &Program, stmt: u32, depth: u32) -> Option<u32>
     if depth == 0 {
         return None;
     }
-    match program.stmts.as_slice().get(stmt as usize) {
+    match program.stmt(stmt) {
         None => None,
         Some(found) => match found.parent {
             None => next_in_list(top(program, found.body), stmt, None),

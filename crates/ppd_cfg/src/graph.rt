@@ -45,7 +45,7 @@ pub fn next_after(program: &Program, stmt: u32) -> Option<u32>
 pub fn successors_of(alloc: Global, program: &Program, stmt: u32) -> Result<Ids, Memory>
     ensures { IfOk result (λ ids. ids ≡ next_of program.now stmt) }
 {
-    match program.stmts.as_slice().get(stmt as usize) {
+    match program.stmt(stmt) {
         Some(found) => {
             let after = follow(program, stmt, MOST_NESTING);
             let ids = successors_by(alloc, stmt, &found.kind, after)?;

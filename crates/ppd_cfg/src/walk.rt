@@ -94,8 +94,8 @@ fn marked(alloc: Global, marks: &[bool]) -> Result<Ids, Memory>
     ensures { IfOk result (λ ids. ids ≡ those (length marks.now) (is_marked marks.now)) }
 {
     let mut ids = Ids::new(alloc);
-    for index in 0..marks.len() {
-        if marks[index] {
+    for (index, is_marked) in marks.iter().enumerate() {
+        if *is_marked {
             ids.push(index as u32)?;
         }
     }

@@ -1,11 +1,10 @@
 -- The table of a source holds at most 9 elements for each node of its tree, and 27 for each byte.
 use Rattle.std.proofs.Common.{◌≡◌, refl, sym, ap, ◌∙◌, ℕ, ◌+◌, ◌*◌, ◌≤◌, arith, Bool, true, false, List, [], ◌∷◌, ◌++◌, length, Some, None}
-use Rattle.std.specs.List.{All, flat_map}
+use Rattle.std.specs.List.{flat_map}
 use Rattle.std.proofs.lemmas.List.{length-append, length-map}
-use Rattle.std.proofs.lemmas.List.Elements.{All-head, All-tail}
 use Rattle.ppd_ast.specs.declared.program.Program.{Program}
 use Rattle.ppd_lex.specs.declared.token.Token.{Token}
-use Rattle.ppd_lex.specs.Formed.{IsFormed, Rise, AreFormed}
+use Rattle.ppd_lex.specs.Formed.{AreFormed}
 use Rattle.ppd_lex.proofs.FormedTokens.{formed}
 use Rattle.ppd_parse.specs.Grammar.{Shape}
 use Rattle.ppd_parse.specs.Limits.{IsTree}
@@ -14,6 +13,7 @@ use Rattle.ppd_parse.specs.Size.{size_of}
 use Rattle.ppd_parse.specs.Tree.{tree_of, IsTable}
 use Rattle.ppd_parse.proofs.FromLanguage.{program_parsed}
 use Rattle.ppd_parse.proofs.Sizes.{program_size}
+use Rattle.ppd_parse.proofs.Counted.{counted_from}
 use Rattle.ppd_resolve.specs.declared.frame.Frame.{Frame}
 use Rattle.ppd_resolve.specs.Names.{Scope}
 use Rattle.ppd_check.specs.Read.{IsTreeOf}
@@ -115,15 +115,9 @@ tree_few ts t tree =
     let tokens : length tree.marked ≡ length ts = sym (length-map tree.marked (λ x. x.token)) ∙ ap length tree.tokens in
     omega (arith, tokens, program_size (program_parsed tree.program))
 
-tokens_from : (i len : ℕ) (t : Token) (ts : List Token) → All (IsFormed len) (t ∷ ts) → Rise i (t ∷ ts) → i + length (t ∷ ts) ≤ len + 1
-tokens_from i len t [] each rise =
-    let f = All-head (IsFormed len) t [] each in
-    omega (arith, f.order, f.within)
-tokens_from i len t (u ∷ us) each rise = omega (arith, tokens_from t.to len u us (All-tail (IsFormed len) t (u ∷ us) each) rise.2)
-
 tokens_few : (len : ℕ) (ts : List Token) → AreFormed len ts → length ts ≤ len + 1
 tokens_few len [] formed = omega arith
-tokens_few len (t ∷ ts) formed = omega (arith, tokens_from 0 len t ts formed.each formed.rise)
+tokens_few len (t ∷ ts) formed = omega (arith, counted_from 0 len t ts formed.each formed.rise)
 
 pub parsed_few : (bytes : List ℕ) (t : Shape) → IsTreeOf bytes t → size_of (t ∷ []) ≤ 3 * (length bytes + 1)
 parsed_few bytes t p = omega (arith, tree_few p.tokens t p.parsed, tokens_few (length bytes) p.tokens (formed bytes p.tokens p.lexed))

@@ -8,11 +8,12 @@ use Rattle.ppd_lex.specs.declared.token.Token.{Token}
 use Rattle.ppd_parse.specs.declared.node.Node.{Node}
 use Rattle.ppd_parse.specs.declared.symbol.Rule.{Rule}
 use Rattle.ppd_parse.specs.Grammar.{Shape}
-use Rattle.ppd_parse.specs.Size.{weigh, weigh_all, size_of}
+use Rattle.ppd_parse.specs.Size.{weigh, size_of}
 use Rattle.ppd_parse.specs.Table.{no_shape, shape_or}
 use Rattle.ppd_parse.specs.Tree.{trees_from, tree_of, children_of, IsTable}
-use Rattle.ppd_parse.proofs.Grown.{one_if, times_cons}
+use Rattle.ppd_parse.proofs.Grown.{times_cons}
 use Rattle.ppd_parse.proofs.Sizes.{weigh_made}
+use Rattle.ppd_ast.specs.Counting.{one_if}
 
 -- Sums over numbers.
 
@@ -90,26 +91,23 @@ sum_append f i (x ∷ xs) ys = omega (arith, sum_append f i xs ys)
 abbrev weight : Shape → ℕ
 weight t = weigh 1 (λ r. 1) t
 
-abbrev weights : List Shape → ℕ
-weights ts = weigh_all 1 (λ r. 1) ts
-
 -- how many nodes the tree of node c has, where node i is the first of those at hand
 abbrev at : ℕ → List Shape → ℕ → ℕ
 at i ts c = weight (slice_index_or ts (c - i) no_shape)
 
-range_all : (i : ℕ) (ts : List Shape) (f : ℕ → ℕ) → ((k : ℕ) → f (i + k) ≡ weight (slice_index_or ts k no_shape)) → range_sum f i (length ts) ≡ weights ts
+range_all : (i : ℕ) (ts : List Shape) (f : ℕ → ℕ) → ((k : ℕ) → f (i + k) ≡ weight (slice_index_or ts k no_shape)) → range_sum f i (length ts) ≡ size_of ts
 range_all i [] f h = refl
 range_all i (t ∷ ts) f h =
     let e : f (i + 0) ≡ weight t = h 0 in
     let j : f (i + 0) ≡ f i = ap f (omega arith) in
-    let r : range_sum f (suc i) (length ts) ≡ weights ts = range_all (suc i) ts f (λ k. ap f (omega arith) ∙ h (suc k)) in
+    let r : range_sum f (suc i) (length ts) ≡ size_of ts = range_all (suc i) ts f (λ k. ap f (omega arith) ∙ h (suc k)) in
     omega (arith, e, j, r)
 
 shape_few : (o : Option Token) (r : Rule) (g : ℕ → Shape) (cs : List ℕ) → weight (shape_or o r (map g cs)) ≤ 1 + sum (λ c. weight (g c)) 0 cs
 shape_few (Some x) r g cs = omega arith
 shape_few None r g cs = omega (arith, weigh_made 1 (λ r. 1) r (map g cs), all g cs)
   where
-    all : (g : ℕ → Shape) (cs : List ℕ) → weights (map g cs) ≡ sum (λ c. weight (g c)) 0 cs
+    all : (g : ℕ → Shape) (cs : List ℕ) → size_of (map g cs) ≡ sum (λ c. weight (g c)) 0 cs
     all g [] = refl
     all g (c ∷ cs) = let here : cond (nat_le 0 c) (weight (g c)) 0 ≡ weight (g c) = grind (arith, nat_tests) in omega (arith, here, all g cs)
 
@@ -137,7 +135,7 @@ children_later i ns h = go i i ns (omega arith) h
         (go i (suc j) ns (omega arith) (λ k d l. All-weaker (λ c. j + suc k < c) (λ c. suc j + k < c) (λ c l. omega arith) (slice_index_or ns k d).children (h (suc k) d (omega (arith, l)))))
 
 -- all trees together: each node counts one, and the trees of its children once more
-trees_few : (i : ℕ) (ns : List Node) → Rise i ns → weights (trees_from i ns) ≤ length ns + sum (at i (trees_from i ns)) 0 (children_of ns)
+trees_few : (i : ℕ) (ns : List Node) → Rise i ns → size_of (trees_from i ns) ≤ length ns + sum (at i (trees_from i ns)) 0 (children_of ns)
 trees_few i [] h = omega arith
 trees_few i (n ∷ ns) h =
     let after : List Shape = trees_from (i + 1) ns in
@@ -184,7 +182,7 @@ tree_within ns table =
     let all : All (λ c. c < 0 + length ns) (0 ∷ cs) = All-cons (λ c. c < 0 + length ns) 0 cs (omega (arith, table.some)) (All-weaker (λ c. c < length ns) (λ c. c < 0 + length ns) (λ c l. omega arith) cs within) in
     let bound : sum f 0 (0 ∷ cs) ≤ range_sum f 0 (length ns) = sum_within f 0 (length ns) (0 ∷ cs) all (λ c l. once c cs none (λ p. table.once c p (omega (arith, l)))) in
     let first : cond (nat_le 0 0) (f 0) 0 ≡ f 0 = refl in
-    let whole : range_sum f 0 (length ts) ≡ weights ts = range_all 0 ts f (λ k. ap (λ j. weight (slice_index_or ts j no_shape)) (omega arith)) in
+    let whole : range_sum f 0 (length ts) ≡ size_of ts = range_all 0 ts f (λ k. ap (λ j. weight (slice_index_or ts j no_shape)) (omega arith)) in
     let many : range_sum f 0 (length ts) ≡ range_sum f 0 (length ns) = ap (range_sum f 0) (length_trees 0 ns) in
     omega (arith, bound, first, whole, many, trees_few 0 ns rise)
   where

@@ -6,16 +6,15 @@ use Rattle.std.specs.Ordering.{is_lt, nat_cmp, ordering_then}
 use Rattle.std.proofs.lemmas.List.Elements.{All-head, All-tail, All-weaker, filter_passes, Contains-append_right}
 use Rattle.std.proofs.lemmas.List.Sums.{sum_by-append, sum_by-cons, count_by-le-length}
 use Rattle.std.proofs.lemmas.List.Sorted.{sum_by-IsPermutation, Contains-permutation, IsPermutation-sym}
+use Rattle.std.proofs.lemmas.Bool.{true≢false, ltb-true}
 use Rattle.ppd_ast.specs.declared.program.Place.{Place}
+use Rattle.ppd_ast.specs.Counting.{one_if}
 use Rattle.ppd_resolve.specs.declared.fault.Cause.TheVariants.{TooMany}
 use Rattle.ppd_resolve.specs.declared.fault.Limit.TheVariants as L
 use Rattle.ppd_resolve.specs.declared.fault.Fault.{Fault}
 use Rattle.ppd_resolve.specs.Faults.{at, by_then, is_before, first, first_of_two, first_of_both}
 use Rattle.ppd_lower.specs.Sources.{is_up_to}
 use Rattle.ppd_resolve.proofs.Found.First.{first_of_both_assoc, first_of_both_swap}
-
-true_not_false : true ≡ false → ⊥
-true_not_false h = grind (arith, h)
 
 abbrev too_many : Place → Fault
 too_many p = at p (TooMany L.Statements)
@@ -49,30 +48,26 @@ from_key p q h = go p.line p.column q.line q.column h
 
 -- Counts.
 
--- 1 where a test holds, else 0
-abbrev once : Bool → ℕ
-once b = cond b 1 0
-
 pub count_all : (p : Place → Bool) (xs : List Place) → All (λ x. p x ≡ true) xs → count_by p xs ≡ length xs
 count_all p [] h = refl
 count_all p (x ∷ xs) h =
-    let e : once (p x) ≡ 1 = ap once (All-head (λ x. p x ≡ true) x xs h) in
+    let e : one_if (p x) ≡ 1 = ap one_if (All-head (λ x. p x ≡ true) x xs h) in
     let r : count_by p xs ≡ length xs = count_all p xs (All-tail (λ x. p x ≡ true) x xs h) in
-    let s : count_by p (x ∷ xs) ≡ once (p x) + count_by p xs = sum_by-cons (λ x. once (p x)) x xs in
+    let s : count_by p (x ∷ xs) ≡ one_if (p x) + count_by p xs = sum_by-cons (λ x. one_if (p x)) x xs in
     omega (arith, e, r, s)
 
 count_none : (p : Place → Bool) (xs : List Place) → All (λ x. p x ≡ false) xs → count_by p xs ≡ 0
 count_none p [] h = refl
 count_none p (x ∷ xs) h =
-    let e : once (p x) ≡ 0 = ap once (All-head (λ x. p x ≡ false) x xs h) in
+    let e : one_if (p x) ≡ 0 = ap one_if (All-head (λ x. p x ≡ false) x xs h) in
     let r : count_by p xs ≡ 0 = count_none p xs (All-tail (λ x. p x ≡ false) x xs h) in
-    let s : count_by p (x ∷ xs) ≡ once (p x) + count_by p xs = sum_by-cons (λ x. once (p x)) x xs in
+    let s : count_by p (x ∷ xs) ≡ one_if (p x) + count_by p xs = sum_by-cons (λ x. one_if (p x)) x xs in
     omega (arith, e, r, s)
 
 count_around : (p : Place → Bool) (front : List Place) (x : Place) (back : List Place)
-    → count_by p (front ++ x ∷ back) ≡ count_by p front + (once (p x) + count_by p back)
+    → count_by p (front ++ x ∷ back) ≡ count_by p front + (one_if (p x) + count_by p back)
 count_around p front x back =
-    sum_by-append (λ x. once (p x)) front (x ∷ back) ∙ ap (λ n. count_by p front + n) (sum_by-cons (λ x. once (p x)) x back)
+    sum_by-append (λ x. one_if (p x)) front (x ∷ back) ∙ ap (λ n. count_by p front + n) (sum_by-cons (λ x. one_if (p x)) x back)
 
 -- The first fault at those of some places that pass a test, where one that passes comes before all that do.
 
@@ -94,7 +89,7 @@ first_passing p [] x (k, l, e) px least = absurd (omega (arith, l))
 first_passing p (y ∷ ys) x (zero, l, e) px least = go (p y) (ap p e ∙ px)
   where
     go : (b : Bool) → b ≡ true → first (map too_many (cond b (y ∷ filter p ys) (filter p ys))) ≡ Some (too_many x)
-    go false h = absurd (true_not_false (sym h))
+    go false h = absurd (true≢false (sym h))
     go true h =
         ap (λ z. first_of_both (Some (too_many z)) (first (map too_many (filter p ys)))) e
         ∙ least_after x (filter p ys) (All-weaker (λ q. p q ≡ true) (λ q. is_up_to q x ≡ true) least (filter p ys) (filter_passes p ys))
@@ -126,9 +121,6 @@ lt_false a b h = grind (arith, h)
 lt_true : (a b : ℕ) → a < b → nat_lt a b ≡ true
 lt_true a b h = grind (arith, h)
 
-true_lt : (a b : ℕ) → nat_lt a b ≡ true → a < b
-true_lt a b h = grind (arith, h)
-
 pub none_past : (most : ℕ) (ps : List Place) → length ps ≤ most → past most ps ≡ None
 none_past most ps h =
     ap (λ l. first (map too_many l)) (filter_none (is_past most ps) ps
@@ -142,23 +134,23 @@ first_past most ps front x back same count before after =
     inside : Contains ps x
     inside = Contains-permutation (front ++ x ∷ back) ps x (IsPermutation-sym ps (front ++ x ∷ back) same) (Contains-append_right front (x ∷ back) x (zero, omega arith, refl))
 
-    counted : (q : Place) → count_by (is_up_to q) ps ≡ count_by (is_up_to q) front + (once (is_up_to q x) + count_by (is_up_to q) back)
-    counted q = sym (sum_by-IsPermutation (λ p. once (is_up_to q p)) ps (front ++ x ∷ back) same) ∙ count_around (is_up_to q) front x back
+    counted : (q : Place) → count_by (is_up_to q) ps ≡ count_by (is_up_to q) front + (one_if (is_up_to q x) + count_by (is_up_to q) back)
+    counted q = sym (sum_by-IsPermutation (λ p. one_if (is_up_to q p)) ps (front ++ x ∷ back) same) ∙ count_around (is_up_to q) front x back
 
     passes : is_past most ps x ≡ true
     passes =
         let a : count_by (is_up_to x) front ≡ length front = count_all (is_up_to x) front before in
-        let b : once (is_up_to x x) ≡ 1 = ap once (up_to_itself x) in
-        let c : count_by (is_up_to x) ps ≡ count_by (is_up_to x) front + (once (is_up_to x x) + count_by (is_up_to x) back) = counted x in
+        let b : one_if (is_up_to x x) ≡ 1 = ap one_if (up_to_itself x) in
+        let c : count_by (is_up_to x) ps ≡ count_by (is_up_to x) front + (one_if (is_up_to x x) + count_by (is_up_to x) back) = counted x in
         lt_true most _ (omega (arith, a, b, c, count))
 
     few : (q : Place) → is_up_to q x ≡ false → count_by (is_up_to q) ps ≤ most
     few q h =
         let a : count_by (is_up_to q) front ≤ length front = count_by-le-length (is_up_to q) front in
-        let b : once (is_up_to q x) ≡ 0 = ap once h in
+        let b : one_if (is_up_to q x) ≡ 0 = ap one_if h in
         let d : count_by (is_up_to q) back ≡ 0 =
         count_none (is_up_to q) back (All-weaker (λ p. is_up_to p x ≡ true) (λ p. is_up_to q p ≡ false) (λ p i. not_up_to p q x i h) back after) in
-        let c : count_by (is_up_to q) ps ≡ count_by (is_up_to q) front + (once (is_up_to q x) + count_by (is_up_to q) back) = counted q in
+        let c : count_by (is_up_to q) ps ≡ count_by (is_up_to q) front + (one_if (is_up_to q x) + count_by (is_up_to q) back) = counted q in
         omega (arith, a, b, c, d, count)
 
     least : IsLeast (is_past most ps) x
@@ -166,4 +158,4 @@ first_past most ps front x back same count before after =
       where
         go : (b : Bool) → is_up_to q x ≡ b → is_up_to q x ≡ true
         go true e = e
-        go false e = absurd (omega (arith, true_lt most _ h, few q e))
+        go false e = absurd (omega (arith, ltb-true most _ h, few q e))

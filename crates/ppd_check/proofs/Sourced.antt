@@ -2,6 +2,7 @@
 use Rattle.std.proofs.Common.{◌≡◌, refl, sym, ap, subst, ◌∙◌, ℕ, ℤ, ◌≤◌, arith, Bool, true, false, nat_lt, if◌then◌else◌, List, [], ◌∷◌, ◌++◌, map, length, Option, None, Some}
 use Rattle.std.specs.List.{flat_map}
 use Rattle.std.proofs.lemmas.List.{append_assoc, length-map}
+use Rattle.std.proofs.lemmas.Bool.{ltb-false}
 use Rattle.ppd_ast.specs.declared.limits.TheConstants.{MOST_SHARED_CELLS, MOST_FUNCTIONS, MOST_PROCESSES, MOST_SEMAPHORES, MOST_CHANNELS}
 use Rattle.ppd_ast.specs.declared.program.Body.{Body}
 use Rattle.ppd_ast.specs.declared.program.Expr.{Expr}
@@ -64,9 +65,6 @@ none_right (x ∷ xs) ys h = absurd (clash_cons x (xs ++ ys) h)
 
 -- Shared cells that are not too many.
 
-test_le : (m n : ℕ) → nat_lt m n ≡ false → n ≤ m
-test_le m n h = grind (arith, h)
-
 few_cells : (most : ℕ) (limit : Limit) (n : ℕ) (vs : List Variable) → n ≤ most → past_cells most limit n vs ≡ [] → end_cells n vs ≤ most
 few_cells most limit n [] l h = l
 few_cells most limit n (v ∷ vs) l h =
@@ -76,7 +74,7 @@ few_cells most limit n (v ∷ vs) l h =
     go : (b : Bool) → nat_lt most (after_cells n v.length) ≡ b → if_so b v.place (TooMany limit) ≡ [] → (after_cells n v.length ≤ most → end_cells (after_cells n v.length) vs ≤ most)
         → end_cells (after_cells n v.length) vs ≤ most
     go true e i f = absurd (clash_cons (at v.place (TooMany limit)) [] i)
-    go false e i f = f (test_le most (after_cells n v.length) e)
+    go false e i f = f (ltb-false most (after_cells n v.length) e)
 
 celled_items : (is : List Item) (s : S.Globals) → Celled s → Celled (with_items is s)
 celled_items [] s h = h

@@ -28,3 +28,7 @@ next_is r more at now bytes rest x c = ap (λ (g : Result (Got _) BadBytes). aft
 
 pub next_refuses : {A B : Type 0} (r : Reader A) (more : A → Reader B) (at : ℕ) (bytes : List ℕ) (e : BadBytes) → Refuses r at bytes e → Refuses (next r more) at bytes e
 next_refuses r more at bytes e c m = ap (λ (g : Result (Got _) BadBytes). after g more) (c m)
+
+-- what a cursor read that stood at the first of the bytes
+pub from_start : {A : Type 0} (r : Reader A) (found : Result (Got A) BadBytes) (at : ℕ) (rest bytes : List ℕ) → at ≡ 0 → rest ≡ bytes → r at rest ≡ found → r 0 bytes ≡ found
+from_start r found at rest bytes first all e = cc

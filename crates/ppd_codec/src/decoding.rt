@@ -1,4 +1,4 @@
-ghost use Rattle.std.specs.Prelude.{◌≡◌, ◌≢◌, ◌+◌, ◌<◌, ◌≤◌, ◌^◌, length, Ok, Err, IfErr, IfOk};
+ghost use Rattle.std.specs.Prelude.{◌≡◌, ◌≢◌, ◌+◌, ◌<◌, ◌≤◌, length, Ok, Err, IfErr, IfOk};
 ghost use Rattle.ppd_ast.specs.Valid.{IsValid};
 ghost use Rattle.ppd_ast.specs.ValidPlan.{IsValidPlan, IsValidPolicy};
 ghost use Rattle.ppd_codec.specs.Answer.{IsDecodingOf};
@@ -38,7 +38,6 @@ impl<'a> Cursor<'a> {
         facts: Facts,
         steps: &mut Steps<L>,
     ) -> Result<Seq<Seq<Entry>>, BadBytes>
-        requires { self.old.at + length self.old.rest.now < 2 ^ 32 }
         ensures { AnswersAs (back_form version facts).read self.old self.new steps.old steps.new result }
     {
         if version == facts.version {
@@ -55,7 +54,6 @@ impl<'a> Cursor<'a> {
         facts: Facts,
         steps: &mut Steps<L>,
     ) -> Result<Seq<Seq<Entry>>, BadBytes>
-        requires { self.old.at + length self.old.rest.now < 2 ^ 32 }
         ensures ok { IfOk result
             (λ lists. nothing_left ((back_form version facts).read self.old.at self.old.rest.now) ≡ Ok lists) }
         ensures err { IfErr result
@@ -64,10 +62,10 @@ impl<'a> Cursor<'a> {
         ensures cost { steps.new ≤ steps.old + length self.old.rest.now }
     {
         let lists = self.back(alloc, version, facts, steps)?;
-        if self.rest.is_empty() {
+        if self.is_empty() {
             return Ok(lists);
         }
-        Err(BadBytes::Trailing(self.at))
+        Err(BadBytes::Trailing(self.offset()))
     }
 }
 
@@ -110,7 +108,7 @@ pub fn decode_in<L: Ledger>(
     if bytes.len() > MOST_RECORDING_BYTES {
         return Err(BadBytes::TooLong);
     }
-    let mut cursor = Cursor { rest: bytes, at: 0 };
+    let mut cursor = Cursor::new(bytes);
     let front = cursor.front(steps)?;
     let program = match read_source(alloc, front.source) {
         Ok(program) => program,

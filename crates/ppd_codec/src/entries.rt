@@ -1,4 +1,3 @@
-ghost use Rattle.std.specs.Prelude.{◌+◌, ◌<◌, ◌^◌, length};
 ghost use Rattle.ppd_codec.specs.Came.{AnswersAs};
 ghost use Rattle.ppd_codec.specs.Format.{numbered as numbered_form, synced as synced_form, ended as ended_form, an_entry, log as log_form, logs as logs_form, row, sync_of, end_entry_of};
 
@@ -19,7 +18,6 @@ impl<'a> Cursor<'a> {
         alloc: Global,
         steps: &mut Steps<L>,
     ) -> Result<(u16, Nums), BadBytes>
-        requires { self.old.at + length self.old.rest.now < 2 ^ 32 }
         ensures { AnswersAs numbered_form.read self.old self.new steps.old steps.new result }
     {
         let number = self.number_2(steps)?;
@@ -34,7 +32,6 @@ impl<'a> Cursor<'a> {
         facts: Facts,
         steps: &mut Steps<L>,
     ) -> Result<Entry, BadBytes>
-        requires { self.old.at + length self.old.rest.now < 2 ^ 32 }
         ensures { AnswersAs (row facts Tag.Sync).read self.old self.new steps.old steps.new result }
     {
         let kind = self.sync_kind(facts.version, steps)?;
@@ -60,7 +57,6 @@ impl<'a> Cursor<'a> {
         facts: Facts,
         steps: &mut Steps<L>,
     ) -> Result<Entry, BadBytes>
-        requires { self.old.at + length self.old.rest.now < 2 ^ 32 }
         ensures { AnswersAs (row facts Tag.End).read self.old self.new steps.old steps.new result }
     {
         let status = self.status(steps)?;
@@ -83,7 +79,6 @@ impl<'a> Cursor<'a> {
         tag: Tag,
         steps: &mut Steps<L>,
     ) -> Result<Entry, BadBytes>
-        requires { self.old.at + length self.old.rest.now < 2 ^ 32 }
         ensures { AnswersAs (row facts tag).read self.old self.new steps.old steps.new result }
     {
         match tag {
@@ -111,7 +106,6 @@ impl<'a> Cursor<'a> {
         facts: Facts,
         steps: &mut Steps<L>,
     ) -> Result<Entry, BadBytes>
-        requires { self.old.at + length self.old.rest.now < 2 ^ 32 }
         ensures { AnswersAs (an_entry facts).read self.old self.new steps.old steps.new result }
     {
         let tag = self.tag(steps)?;
@@ -125,7 +119,6 @@ impl<'a> Cursor<'a> {
         facts: Facts,
         steps: &mut Steps<L>,
     ) -> Result<Seq<Entry>, BadBytes>
-        requires { self.old.at + length self.old.rest.now < 2 ^ 32 }
         ensures { AnswersAs (log_form facts).read self.old self.new steps.old steps.new result }
     {
         let mut left = self.number_4(steps)?;
@@ -145,7 +138,6 @@ impl<'a> Cursor<'a> {
         facts: Facts,
         steps: &mut Steps<L>,
     ) -> Result<Seq<Seq<Entry>>, BadBytes>
-        requires { self.old.at + length self.old.rest.now < 2 ^ 32 }
         ensures { AnswersAs (logs_form facts).read self.old self.new steps.old steps.new result }
     {
         let mut left = self.process_count(facts, steps)?;

@@ -1,4 +1,4 @@
-ghost use Rattle.std.specs.Prelude.{◌≡◌, ◌≢◌, ◌+◌, ◌<◌, ◌≤◌, ◌^◌, length, IfErr, IfOk};
+ghost use Rattle.std.specs.Prelude.{◌≡◌, ◌≢◌, ◌+◌, ◌≤◌, length, IfErr, IfOk};
 ghost use Rattle.ppd_ast.specs.declared.limits.TheConstants.{MOST_BUDGET};
 ghost use Rattle.ppd_ast.specs.ValidPlan.{IsValidPolicy};
 ghost use Rattle.ppd_codec.specs.Came.{Came, Refuses};
@@ -22,7 +22,6 @@ pub(crate) struct Front<'a> {
 impl<'a> Cursor<'a> {
     // The source's bytes, one field after their count.
     fn source<L: Ledger>(&mut self, steps: &mut Steps<L>) -> Result<&'a [u8], BadBytes>
-        requires { self.old.at + length self.old.rest.now < 2 ^ 32 }
         ensures ok { IfOk result
             (λ s. Came source_form.read self.old.at self.old.rest.now self.new.at self.new.rest.now s.now) }
         ensures err { IfErr result (Refuses source_form.read self.old.at self.old.rest.now) }
@@ -31,18 +30,11 @@ impl<'a> Cursor<'a> {
         ensures cost { steps.new + length self.new.rest.now ≤ steps.old + length self.old.rest.now }
     {
         let count = self.source_length(steps)?;
-        if count as usize > self.rest.len() {
-            return Err(BadBytes::Short(self.at));
-        }
-        let (source, rest) = self.rest.split_at(count as usize);
-        self.rest = rest;
-        self.at += count;
-        Ok(source)
+        self.block(count)
     }
 
     /// All that stands before the logs.
     pub fn front<L: Ledger>(&mut self, steps: &mut Steps<L>) -> Result<Front<'a>, BadBytes>
-        requires { self.old.at + length self.old.rest.now < 2 ^ 32 }
         ensures ok { IfOk result
             (λ f. Came front_form.read self.old.at self.old.rest.now self.new.at self.new.rest.now
             (front_of f.version f.header f.source.now)) }

@@ -1,4 +1,4 @@
-ghost use Rattle.std.specs.Prelude.{◌≡◌, ◌+◌, ◌<◌, ◌^◌, ◌++◌, ◌∷◌, [], length, IfErr, OnOk};
+ghost use Rattle.std.specs.Prelude.{◌≡◌, ◌++◌, ◌∷◌, [], IfErr, OnOk};
 ghost use Rattle.ppd_codec.specs.Came.{AnswersAs};
 ghost use Rattle.ppd_codec.specs.Format.{cells as cells_form, values as values_form};
 
@@ -15,7 +15,6 @@ impl<'a> Cursor<'a> {
         alloc: Global,
         steps: &mut Steps<L>,
     ) -> Result<Nums, BadBytes>
-        requires { self.old.at + length self.old.rest.now < 2 ^ 32 }
         ensures { AnswersAs values_form.read self.old self.new steps.old steps.new result }
     {
         let mut left = self.number_2(steps)?;
@@ -35,7 +34,6 @@ impl<'a> Cursor<'a> {
         shared: u32,
         steps: &mut Steps<L>,
     ) -> Result<Cells, BadBytes>
-        requires { self.old.at + length self.old.rest.now < 2 ^ 32 }
         ensures { AnswersAs (cells_form shared).read self.old self.new steps.old steps.new result }
     {
         let mut left = self.number_2(steps)?;

@@ -8,7 +8,7 @@ use Rattle.ppd_ast.specs.declared.plan.Policy.{Policy}
 use Rattle.ppd_ast.specs.declared.program.Program.{Program}
 use Rattle.ppd_ast.specs.declared.status.Status.{Status}
 use Rattle.ppd_ast.specs.Valid.{IsValid}
-use Rattle.ppd_blocks.specs.Blocks.{plan_of}
+use Rattle.ppd_nested.specs.Blocks.{plan_of}
 use Rattle.ppd_entry.specs.declared.entry.Entry.{Entry}
 use Rattle.ppd_entry.specs.declared.entry.Entry.TheVariants as entry
 use Rattle.ppd_entry.specs.IntervalLogs.{Indexed, Indexing, index_step, new_interval}
@@ -23,13 +23,13 @@ use Rattle.ppd_model.specs.Marks.{Mark, opened, closed}
 use Rattle.ppd_model.specs.Story.{Moment, unit_started}
 use Rattle.ppd_model.specs.Synchronizations.{Sync, sync_of}
 use Rattle.ppd_model.proofs.Statuses.{status_after}
+use Rattle.ppd_model.proofs.Extents.{Fall}
 use Rattle.ppd_nested.specs.Run.{IsRun}
 use Rattle.ppd_nested.specs.Stack.{IsInOrder, Moves, block_frames, functions_in, stack}
 use Rattle.ppd_nested.proofs.Stacks.{steps_move}
 use Rattle.ppd_coming.specs.Coming.{unit_pieces}
 use Rattle.ppd_coming.specs.Nested.{HasStopped}
 use Rattle.ppd_coming.specs.Openings.{Opening, opening, opening_by}
-use Rattle.ppd_coming.proofs.Indexes.{Falls}
 use Rattle.ppd_coming.proofs.IndexSteps.{put_new}
 use Rattle.ppd_coming.proofs.Later.{finals, news}
 use Rattle.ppd_coming.proofs.PassingSteps.{pass_falls, pass_index, pass_length, pass_running}
@@ -49,7 +49,7 @@ frames_in None = []
 frames_in (Some o) = o.proc.frames
 
 module _ (program : Program) (plan : Plan) (l : Logging) (m : Moment) (ms : List Moment) (before after : List ℕ)
-    (x : Indexing) (falls : Falls (length x.intervals) x.running) (deep : AreDeep plan x.intervals x.running before)
+    (x : Indexing) (falls : Fall (length x.intervals) x.running) (deep : AreDeep plan x.intervals x.running before)
     (law : functions_in plan after ≡ block_frames plan (act program plan l.proc m.taken.answer).frames) where
   abbrev next : Proc
   next = act program plan l.proc m.taken.answer
@@ -60,7 +60,7 @@ module _ (program : Program) (plan : Plan) (l : Logging) (m : Moment) (ms : List
 
   -- what comes after the step
   abbrev Later : Indexing → Type 0
-  Later y = Falls (length y.intervals) y.running → AreDeep plan y.intervals y.running after → (q : ℕ) (o : Opening)
+  Later y = Fall (length y.intervals) y.running → AreDeep plan y.intervals y.running after → (q : ℕ) (o : Opening)
       → opening program plan next ms q ≡ Some o → IsDeepAt y (length y.intervals + q) o
 
   abbrev entries : Option Mark → Option Sync → Option Mark → Option ℕ → Option Status → List Entry
@@ -99,7 +99,7 @@ module _ (program : Program) (plan : Plan) (l : Logging) (m : Moment) (ms : List
           ∙ ap (λ n. n + (if is_function (block_kind plan a.block) then 1 else 0))
           (deep_head plan x.intervals x.running before deep) ∙ one_more plan a.block before
 
-      y_falls : Falls (length y.intervals) y.running
+      y_falls : Fall (length y.intervals) y.running
       y_falls = unit_falls plan m.unit_values u put (put_new x.intervals x.running new falls).falls
 
       y_deep : AreDeep plan y.intervals y.running after
@@ -137,7 +137,7 @@ module _ (program : Program) (plan : Plan) (l : Logging) (m : Moment) (ms : List
       long : length y.intervals ≡ length x.intervals
       long = unit_length plan m.unit_values u out ∙ left_length x.entry a.values x.intervals x.running
 
-      y_falls : Falls (length y.intervals) y.running
+      y_falls : Fall (length y.intervals) y.running
       y_falls = unit_falls plan m.unit_values u out (left_falls x.entry a.values x.intervals x.running falls)
 
       y_deep : AreDeep plan y.intervals y.running after
@@ -160,7 +160,7 @@ module _ (program : Program) (plan : Plan) (l : Logging) (m : Moment) (ms : List
       long : length y.intervals ≡ length x.intervals
       long = pass_length program plan l m.taken m.unit_values sy u x
 
-      y_falls : Falls (length y.intervals) y.running
+      y_falls : Fall (length y.intervals) y.running
       y_falls = pass_falls program plan l m.taken m.unit_values sy u x falls
 
       y_deep : AreDeep plan y.intervals y.running after
@@ -200,7 +200,7 @@ module _ (program : Program) (policy : Policy) (v : IsValid program) (p : ℕ)
 
   -- each interval that is opened has the depth of its frames
   pub deep_openings : (ms : List Moment) (l : Logging) (x : Indexing) → IsInOrder program plan p l.proc
-      → l.proc.status ≡ None → IsRun program plan l.proc ms → Falls (length x.intervals) x.running
+      → l.proc.status ≡ None → IsRun program plan l.proc ms → Fall (length x.intervals) x.running
       → AreDeep plan x.intervals x.running (stack program plan p l.proc) → (q : ℕ) (o : Opening)
       → opening program plan l.proc ms q ≡ Some o
       → depth_at (finals program plan l ms x).intervals (length x.intervals + q) ≡ block_frames plan o.proc.frames

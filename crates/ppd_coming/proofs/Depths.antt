@@ -12,8 +12,8 @@ use Rattle.ppd_sem.specs.Blocks.{block_kind, is_function}
 use Rattle.ppd_model.specs.declared.state.Logging.{Logging}
 use Rattle.ppd_model.specs.Logs.{entries_of, log_step}
 use Rattle.ppd_model.specs.Story.{Moment}
+use Rattle.ppd_model.proofs.Extents.{Fall}
 use Rattle.ppd_nested.specs.Stack.{functions_in}
-use Rattle.ppd_coming.proofs.Indexes.{Falls}
 use Rattle.ppd_coming.proofs.IndexSteps.{open_length, piece_length}
 use Rattle.ppd_coming.proofs.Later.{closing, finals}
 use Rattle.ppd_coming.proofs.Shapes.{left_by, left_length}
@@ -110,7 +110,7 @@ module _ (plan : Plan) where
   AreDeep xs (j ∷ ks) (b ∷ bs) = (depth_at xs j ≡ functions_in plan (b ∷ bs)) × AreDeep xs ks bs
   AreDeep xs ks bs = ⊥
 
-  pub deep_alike : (xs ys : List Indexed) (n : ℕ) (ks bs : List ℕ) → Falls n ks
+  pub deep_alike : (xs ys : List Indexed) (n : ℕ) (ks bs : List ℕ) → Fall n ks
       → ((j : ℕ) → j < n → depth_at ys j ≡ depth_at xs j) → AreDeep xs ks bs → AreDeep ys ks bs
   deep_alike xs ys n [] [] f e h = tt
   deep_alike xs ys n [] (b ∷ bs) f e h = h

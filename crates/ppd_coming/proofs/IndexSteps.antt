@@ -6,7 +6,8 @@ use Rattle.std.specs.Prelude.{slice_get, ℤ}
 use Rattle.ppd_entry.specs.IntervalLogs.{Indexed, add_piece, add_piece_at, interval_at, left_open, with_piece}
 use Rattle.ppd_entry.specs.Pieces.{Piece, nested, unfinished, postlog}
 use Rattle.ppd_coming.specs.Coming.{Inner}
-use Rattle.ppd_coming.proofs.Indexes.{added_length, At, Falls, Grows, IsInside, Past, Rests, falls_on, falls_rest, more, piece_inner, piece_own, piece_past, put_block, put_last, put_last_block, put_there, runs_alike, same}
+use Rattle.ppd_coming.proofs.Indexes.{added_length, At, Grows, IsInside, Past, Rests, falls_on, falls_rest, more, piece_inner, piece_own, piece_past, put_block, put_last, put_last_block, put_there, runs_alike, same}
+use Rattle.ppd_model.proofs.Extents.{Fall}
 
 pub piece_length : (n : ℕ) (p : Piece) (ks : List ℕ) (xs : List Indexed) → length (add_piece n p ks xs) ≡ length xs
 piece_length n p [] xs = refl
@@ -21,8 +22,8 @@ open_length (k ∷ ks) xs =
 
 -- ---- a prelog
 
-put_falls : (xs : List Indexed) (ks : List ℕ) (y : Indexed) → Falls (length xs) ks
-    → Falls (length (xs ++ y ∷ [])) (length xs ∷ ks)
+put_falls : (xs : List Indexed) (ks : List ℕ) (y : Indexed) → Fall (length xs) ks
+    → Fall (length (xs ++ y ∷ [])) (length xs ∷ ks)
 put_falls xs ks y f = (
   let e : length (xs ++ y ∷ []) ≡ length xs + 1 = length-append xs
       (y ∷ []) in let z : length xs < length (xs ++ y ∷ []) = omega (arith, e) in z,
@@ -47,7 +48,7 @@ put_inner xs ks y m k i a = record {
   there = put_there xs y k i a.there;
 }
 
-pub put_new : (xs : List Indexed) (ks : List ℕ) (y : Indexed) → Falls (length xs) ks
+pub put_new : (xs : List Indexed) (ks : List ℕ) (y : Indexed) → Fall (length xs) ks
     → At (xs ++ y ∷ []) (length xs ∷ ks) None (length xs) y
 put_new xs ks y f = record { falls = put_falls xs ks y f; runs = refl; there = put_last xs y }
 
@@ -71,10 +72,10 @@ popped n values j ks xs =
     add_piece (interval_at xs j).first (nested j (interval_at xs j).log.block values) ks
     (add_piece_at n (postlog values) j xs)
 
-down : (xs : List Indexed) (j : ℕ) (ks : List ℕ) → Falls (length xs) (j ∷ ks) → Falls (length xs) ks
+down : (xs : List Indexed) (j : ℕ) (ks : List ℕ) → Fall (length xs) (j ∷ ks) → Fall (length xs) ks
 down xs j ks f = falls_on j (length xs) ks f.1 f.0
 
-rest_below : (j k : ℕ) (ks : List ℕ) → Falls j ks → j ≡ k → Rests ks k
+pub rest_below : (j k : ℕ) (ks : List ℕ) → Fall j ks → j ≡ k → Rests ks k
 rest_below j k ks f e = subst (λ l. Rests ks l) e (falls_rest j ks f)
 
 pub pop_own : (n : ℕ) (values : List ℤ) (xs : List Indexed) (j : ℕ) (ks : List ℕ) (k : ℕ) (i : Indexed)

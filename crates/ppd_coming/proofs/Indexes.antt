@@ -2,9 +2,11 @@
 use Rattle.std.proofs.Common.{◌≡◌, ℕ, zero, suc, ◌+◌, ◌<◌, List, [], ◌∷◌, ◌++◌, length, map, Option, Some, None, refl, ap, sym, ◌∙◌, subst, arith, append_assoc, append-nil}
 use Rattle.std.proofs.lemmas.Option.{none-some}
 use Rattle.std.specs.Prelude.{⊤, slice_get, option_map}
+use Rattle.std.proofs.lemmas.List.{map-append}
 use Rattle.ppd_entry.specs.IntervalLogs.{Indexed, add_piece, add_piece_at, interval_at, with_piece}
 use Rattle.ppd_entry.specs.Pieces.{Piece}
 use Rattle.ppd_coming.specs.Coming.{Inner}
+use Rattle.ppd_model.proofs.Extents.{Fall}
 
 -- ---- one piece more
 
@@ -58,11 +60,6 @@ put_last_block (x ∷ xs) y = put_last_block xs y
 
 -- ---- where an interval runs
 
--- the numbers fall, all below n
-abbrev pub Falls : ℕ → List ℕ → Type 0
-Falls n [] = ⊤
-Falls n (k ∷ ks) = (k < n) × Falls k ks
-
 -- interval k is the next that runs, and these are those round it
 abbrev pub IsNext : List ℕ → ℕ → Type 0
 IsNext [] k = ⊥
@@ -83,15 +80,15 @@ abbrev pub Rests : List ℕ → ℕ → Type 0
 Rests [] k = ⊤
 Rests (j ∷ ks) k = (j ≡ k → ⊥) × Rests ks k
 
-pub falls_on : (m n : ℕ) (ks : List ℕ) → Falls m ks → m < n → Falls n ks
+pub falls_on : (m n : ℕ) (ks : List ℕ) → Fall m ks → m < n → Fall n ks
 falls_on m n [] f h = tt
 falls_on m n (k ∷ ks) f h = (let z : k < n = omega (arith, f.0, h) in z, f.1)
 
-pub next_below : (n : ℕ) (ks : List ℕ) (k : ℕ) → Falls n ks → IsNext ks k → k < n
+pub next_below : (n : ℕ) (ks : List ℕ) (k : ℕ) → Fall n ks → IsNext ks k → k < n
 next_below n [] k f h = absurd h
 next_below n (j ∷ ks) k f e = subst (λ m. m < n) e f.0
 
-pub inside_below : (xs : List Indexed) (n : ℕ) (ks : List ℕ) (level m b k : ℕ) → Falls n ks
+pub inside_below : (xs : List Indexed) (n : ℕ) (ks : List ℕ) (level m b k : ℕ) → Fall n ks
     → IsInside xs ks level m b k → k < n
 inside_below xs n [] level m b k f h = absurd h
 inside_below xs n (j ∷ ks) zero m b k f h = let z : k < j = next_below j ks k f.1 h.2 in omega (arith, f.0, z)
@@ -99,14 +96,14 @@ inside_below xs n (j ∷ ks) (suc level) m b k f h = let z : k < j =
     inside_below xs j ks level m b k f.1 h in omega (arith, f.0, z)
 
 -- those that do not run stay so
-pub falls_rest : (n : ℕ) (ks : List ℕ) → Falls n ks → Rests ks n
+pub falls_rest : (n : ℕ) (ks : List ℕ) → Fall n ks → Rests ks n
 falls_rest n ks f = go n n ks f (omega arith)
   where
-    go : (m n : ℕ) (ks : List ℕ) → Falls m ks → m < n + 1 → Rests ks n
+    go : (m n : ℕ) (ks : List ℕ) → Fall m ks → m < n + 1 → Rests ks n
     go m n [] f h = tt
     go m n (k ∷ ks) f h = (λ e. omega (arith, e, f.0, h), go k n ks f.1 (omega (arith, f.0, h)))
 
-pub inside_alike : (xs ys : List Indexed) (n : ℕ) (ks : List ℕ) (level m b k : ℕ) → Falls n ks
+pub inside_alike : (xs ys : List Indexed) (n : ℕ) (ks : List ℕ) (level m b k : ℕ) → Fall n ks
     → ((j : ℕ) → j < n → (interval_at ys j).log.block ≡ (interval_at xs j).log.block) → IsInside xs ks level m b k
     → IsInside ys ks level m b k
 inside_alike xs ys n [] level m b k f e h = absurd h
@@ -114,14 +111,14 @@ inside_alike xs ys n (j ∷ ks) zero m b k f e h = (h.0, e j f.0 ∙ h.1, h.2)
 inside_alike xs ys n (j ∷ ks) (suc level) m b k f e h =
     inside_alike xs ys j ks level m b k f.1 (λ l q. e l (omega (arith, q, f.0))) h
 
-pub runs_alike : (xs ys : List Indexed) (n : ℕ) (ks : List ℕ) (i : Option Inner) (k : ℕ) → Falls n ks
+pub runs_alike : (xs ys : List Indexed) (n : ℕ) (ks : List ℕ) (i : Option Inner) (k : ℕ) → Fall n ks
     → ((j : ℕ) → j < n → (interval_at ys j).log.block ≡ (interval_at xs j).log.block) → Runs xs ks i k
     → Runs ys ks i k
 runs_alike xs ys n ks None k f e h = h
 runs_alike xs ys n ks (Some i) k f e h = inside_alike xs ys n ks i.level i.interval i.block k f e h
 
 -- the one that runs inside is another
-pub head_other : (xs : List Indexed) (n : ℕ) (ks : List ℕ) (i : Inner) (k : ℕ) → Falls n ks → Runs xs ks (Some i) k
+pub head_other : (xs : List Indexed) (n : ℕ) (ks : List ℕ) (i : Inner) (k : ℕ) → Fall n ks → Runs xs ks (Some i) k
     → IsNext ks k → ⊥
 head_other xs n [] i k f h e = e
 head_other xs n (j ∷ ks) i k f h e = other i.level h
@@ -151,10 +148,6 @@ same i o e = record {
   pieces = sym (append-nil (map (λ q. q.1) i.log.pieces));
 }
 
-map_append : {A B : Type 0} (f : A → B) (xs ys : List A) → map f (xs ++ ys) ≡ map f xs ++ map f ys
-map_append f [] ys = refl
-map_append f (x ∷ xs) ys = ap (λ zs. f x ∷ zs) (map_append f xs ys)
-
 pub more : (n : ℕ) (p : Piece) (i : Indexed) (c : List Piece) (o : Option Indexed) → Grows (with_piece n p i) c o
     → Grows i (p ∷ c) o
 more n p i c o g = record {
@@ -163,25 +156,25 @@ more n p i c o g = record {
   block = g.block;
   values = g.values;
   depth = g.depth;
-  pieces = g.pieces ∙ ap (λ zs. zs ++ c) (map_append (λ q. q.1) i.log.pieces ((n, p) ∷ [])) ∙ append_assoc
+  pieces = g.pieces ∙ ap (λ zs. zs ++ c) (map-append (λ q. q.1) i.log.pieces ((n, p) ∷ [])) ∙ append_assoc
       (map (λ q. q.1) i.log.pieces) (p ∷ []) c;
 }
 
 -- ---- the state of the index as it matters to interval k
 
 pub record At (xs : List Indexed) (ks : List ℕ) (inner : Option Inner) (k : ℕ) (i : Indexed) : Type 0 where
-  pub falls : Falls (length xs) ks
+  pub falls : Fall (length xs) ks
   pub runs : Runs xs ks inner k
   pub there : slice_get xs k ≡ Some i
 
 pub record Past (xs : List Indexed) (ks : List ℕ) (k : ℕ) (i : Indexed) : Type 0 where
-  pub falls : Falls (length xs) ks
+  pub falls : Fall (length xs) ks
   pub rests : Rests ks k
   pub there : slice_get xs k ≡ Some i
 
-falls_at : (n : ℕ) (p : Piece) (j : ℕ) (xs : List Indexed) (ks : List ℕ) → Falls (length xs) ks
-    → Falls (length (add_piece_at n p j xs)) ks
-falls_at n p j xs ks f = subst (λ m. Falls m ks) (sym (added_length n p j xs)) f
+falls_at : (n : ℕ) (p : Piece) (j : ℕ) (xs : List Indexed) (ks : List ℕ) → Fall (length xs) ks
+    → Fall (length (add_piece_at n p j xs)) ks
+falls_at n p j xs ks f = subst (λ m. Fall m ks) (sym (added_length n p j xs)) f
 
 -- another interval has a piece more
 pub at_other : (n : ℕ) (p : Piece) (j : ℕ) (xs : List Indexed) (ks : List ℕ) (inner : Option Inner) (k : ℕ)

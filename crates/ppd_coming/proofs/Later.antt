@@ -18,10 +18,11 @@ use Rattle.ppd_model.specs.Logs.{closed_log, entries_of, ends, log_step, postlog
 use Rattle.ppd_model.specs.Marks.{Mark}
 use Rattle.ppd_model.specs.Story.{Moment, unit_started}
 use Rattle.ppd_model.specs.Synchronizations.{Sync}
+use Rattle.ppd_model.proofs.Extents.{Fall}
 use Rattle.ppd_coming.specs.Coming.{Inner, coming, event_items, inner_opens, own_opens, unit_pieces}
 use Rattle.ppd_coming.specs.Nested.{HasStopped}
 use Rattle.ppd_coming.specs.Openings.{Opening, coming_in, opening, opening_by}
-use Rattle.ppd_coming.proofs.Indexes.{At, Falls, Grows, Past}
+use Rattle.ppd_coming.proofs.Indexes.{At, Grows, Past}
 use Rattle.ppd_coming.proofs.IndexSteps.{end_inner, end_own, end_past, none_past, open_length, piece_length}
 
 -- ---- the entries of one step by its parts
@@ -71,7 +72,7 @@ module _ (program : Program) (plan : Plan) where
     pub past : (x : Indexing) (k : ℕ) (i : Indexed) → length x.running ≡ n → Past x.intervals x.running k i
         → Grows i [] (slice_get (F x).intervals k)
     pub begins : (x : Indexing) (q next : ℕ) → length x.running ≡ n → length x.intervals ≡ next
-        → Falls (length x.intervals) x.running
+        → Fall (length x.intervals) x.running
         → Begins (next + q) (opening program plan s ms q) (slice_get (F x).intervals (next + q))
 
   -- nothing comes
@@ -125,7 +126,7 @@ module _ (program : Program) (plan : Plan) where
     pub past : (x : Indexing) (k : ℕ) (i : Indexed) → length x.running ≡ n → Past x.intervals x.running k i
         → Grows i [] (slice_get (F x).intervals k)
     pub begins : (x : Indexing) (q next : ℕ) → length x.running ≡ n → length x.intervals ≡ next
-        → Falls (length x.intervals) x.running
+        → Fall (length x.intervals) x.running
         → Begins (next + q) (opening_by o q (unit_pieces (unit_started m.taken.need) m.unit_values)
         (next_proc l m) ms (opening program plan (next_proc l m) ms)) (slice_get (F x).intervals (next + q))
 

@@ -7,7 +7,7 @@ use Rattle.ppd_ast.specs.declared.plan.Plan.{Plan}
 use Rattle.ppd_ast.specs.declared.plan.Policy.{Policy}
 use Rattle.ppd_ast.specs.declared.program.Program.{Program}
 use Rattle.ppd_ast.specs.Valid.{IsValid}
-use Rattle.ppd_blocks.specs.Blocks.{plan_of}
+use Rattle.ppd_nested.specs.Blocks.{plan_of}
 use Rattle.ppd_entry.specs.IntervalLogs.{Indexed, no_interval}
 use Rattle.ppd_sem.specs.Process.{started}
 use Rattle.ppd_model.specs.Logs.{begun_log}

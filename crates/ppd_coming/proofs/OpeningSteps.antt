@@ -10,9 +10,10 @@ use Rattle.ppd_model.specs.declared.state.Logging.{Logging}
 use Rattle.ppd_model.specs.Marks.{Mark}
 use Rattle.ppd_model.specs.Story.{Moment, unit_started}
 use Rattle.ppd_model.specs.Synchronizations.{Sync}
+use Rattle.ppd_model.proofs.Extents.{Fall}
 use Rattle.ppd_coming.specs.Coming.{coming, unit_pieces}
 use Rattle.ppd_coming.specs.Openings.{opening, opening_by}
-use Rattle.ppd_coming.proofs.Indexes.{At, Falls, Grows}
+use Rattle.ppd_coming.proofs.Indexes.{At, Grows}
 use Rattle.ppd_coming.proofs.IndexSteps.{put_inner, put_new, put_own, put_past}
 use Rattle.ppd_coming.proofs.Shapes.{unit_falls, unit_in, unit_inner, unit_length, unit_own, unit_past, unit_running}
 use Rattle.ppd_coming.proofs.Later.{Begins, Comes, NewLog, Steps, next_proc, rest_by, stepped}
@@ -54,7 +55,7 @@ module _ (program : Program) (plan : Plan) where
           ∙ length-append x.intervals (new_interval plan x a.block a.values ∷ []) ∙ ap (λ z. z + 1) h
 
       begin : (x : Indexing) (q next : ℕ) → length x.running ≡ n → length x.intervals ≡ next
-          → Falls (length x.intervals) x.running
+          → Fall (length x.intervals) x.running
           → Begins program plan (next + q)
           (opening_by (Some a) q (unit_pieces (unit_started m.taken.need) m.unit_values)
           (next_proc program plan l m) ms (opening program plan (next_proc program plan l m) ms))

@@ -12,8 +12,9 @@ use Rattle.ppd_model.specs.declared.state.Logging.{Logging}
 use Rattle.ppd_model.specs.Logs.{passed_value, rest_after}
 use Rattle.ppd_model.specs.Story.{Moment}
 use Rattle.ppd_model.specs.Synchronizations.{Sync, sync_of}
+use Rattle.ppd_model.proofs.Extents.{Fall}
 use Rattle.ppd_coming.specs.Coming.{Inner, coming, since_after, sync_pieces, unit_pieces}
-use Rattle.ppd_coming.proofs.Indexes.{At, Falls, Grows, Past, more, piece_inner, piece_own, piece_past}
+use Rattle.ppd_coming.proofs.Indexes.{At, Grows, Past, more, piece_inner, piece_own, piece_past}
 use Rattle.ppd_coming.proofs.IndexSteps.{piece_length}
 use Rattle.ppd_coming.proofs.Shapes.{piece_falls, unit_falls, unit_in, unit_inner, unit_length, unit_own, unit_past, unit_running, with_unit}
 use Rattle.ppd_coming.proofs.Later.{Comes, Steps, next_proc, rest_by, stepped, news}
@@ -68,8 +69,8 @@ module _ (program : Program) (plan : Plan) where
       (sync z.kind z.object z.number (passed_value t.need t.answer)) x.running x.intervals
 
   pub pass_falls : (l : Logging) (t : Taken) (vals : List ℤ) (sy : Option Sync) (u : Option ℕ) (x : Indexing)
-      → Falls (length x.intervals) x.running
-      → Falls (length (pass_index l t vals sy u x).intervals) (pass_index l t vals sy u x).running
+      → Fall (length x.intervals) x.running
+      → Fall (length (pass_index l t vals sy u x).intervals) (pass_index l t vals sy u x).running
   pass_falls l t vals None u x f = unit_falls plan vals u x f
   pass_falls l t vals (Some z) u x f =
       unit_falls plan vals u (sync_index l t z x)

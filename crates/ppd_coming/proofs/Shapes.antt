@@ -14,8 +14,9 @@ use Rattle.ppd_model.specs.Logs.{units, status_of}
 use Rattle.ppd_model.specs.Marks.{Mark, opened, closed}
 use Rattle.ppd_model.specs.Story.{unit_started}
 use Rattle.ppd_model.specs.Synchronizations.{Sync, sync_of}
+use Rattle.ppd_model.proofs.Extents.{Fall}
 use Rattle.ppd_coming.specs.Coming.{Inner}
-use Rattle.ppd_coming.proofs.Indexes.{added_length, At, Falls, Past, falls_on, piece_inner, piece_own, piece_past}
+use Rattle.ppd_coming.proofs.Indexes.{added_length, At, Past, falls_on, piece_inner, piece_own, piece_past}
 use Rattle.ppd_coming.proofs.IndexSteps.{piece_length, pop_inner, pop_leaves, pop_own, pop_past}
 
 pub data Shape (sy : Option Sync) (u : Option ℕ) : Option Mark → Option Mark → Option Status → Type 0 where
@@ -50,9 +51,9 @@ shape program plan s x Stopped e = passes
 
 -- ---- the numbers that run
 
-pub piece_falls : (n : ℕ) (p : Piece) (ks : List ℕ) (xs : List Indexed) (js : List ℕ) → Falls (length xs) js
-    → Falls (length (add_piece n p ks xs)) js
-piece_falls n p ks xs js f = subst (λ m. Falls m js) (sym (piece_length n p ks xs)) f
+pub piece_falls : (n : ℕ) (p : Piece) (ks : List ℕ) (xs : List Indexed) (js : List ℕ) → Fall (length xs) js
+    → Fall (length (add_piece n p ks xs)) js
+piece_falls n p ks xs js f = subst (λ m. Fall m js) (sym (piece_length n p ks xs)) f
 
 -- ---- a postlog
 
@@ -65,9 +66,9 @@ module _ (e : ℕ) (values : List ℤ) (xs : List Indexed) where
   left_length (j ∷ ks) = piece_length (interval_at xs j).first (nested j (interval_at xs j).log.block values) ks
       (add_piece_at e (postlog values) j xs) ∙ added_length e (postlog values) j xs
 
-  pub left_falls : (ks : List ℕ) → Falls (length xs) ks → Falls (length (left_by ks)) (drop 1 ks)
+  pub left_falls : (ks : List ℕ) → Fall (length xs) ks → Fall (length (left_by ks)) (drop 1 ks)
   left_falls [] f = tt
-  left_falls (j ∷ ks) f = subst (λ m. Falls m ks) (sym (left_length (j ∷ ks))) (falls_on j (length xs) ks f.1 f.0)
+  left_falls (j ∷ ks) f = subst (λ m. Fall m ks) (sym (left_length (j ∷ ks))) (falls_on j (length xs) ks f.1 f.0)
 
   pub left_own : (ks : List ℕ) (k : ℕ) (i : Indexed) → At xs ks None k i
       → Past (left_by ks) (drop 1 ks) k (with_piece e (postlog values) i)
@@ -109,8 +110,8 @@ module _ (plan : Plan) (vals : List ℤ) where
   unit_running None x = refl
   unit_running (Some u) x = refl
 
-  pub unit_falls : (u : Option ℕ) (x : Indexing) → Falls (length x.intervals) x.running
-      → Falls (length (with_unit u x).intervals) (with_unit u x).running
+  pub unit_falls : (u : Option ℕ) (x : Indexing) → Fall (length x.intervals) x.running
+      → Fall (length (with_unit u x).intervals) (with_unit u x).running
   unit_falls None x f = f
   unit_falls (Some u) x f = piece_falls x.entry (unit u vals) x.running x.intervals x.running f
 

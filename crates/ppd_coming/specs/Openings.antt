@@ -6,7 +6,7 @@ use Rattle.ppd_ast.specs.declared.plan.Policy.{Policy}
 use Rattle.ppd_ast.specs.declared.plan.Start.TheVariants as start
 use Rattle.ppd_ast.specs.declared.program.Program.{Program}
 use Rattle.ppd_ast.specs.Valid.{IsValid}
-use Rattle.ppd_blocks.specs.Blocks.{plan_of}
+use Rattle.ppd_nested.specs.Blocks.{plan_of}
 use Rattle.ppd_entry.specs.IntervalLogs.{IntervalLog, interval_log}
 use Rattle.ppd_entry.specs.Pieces.{Piece}
 use Rattle.ppd_sem.specs.declared.proc.Proc.{Proc}

@@ -7,6 +7,7 @@ use Rattle.ppd_ast.specs.declared.program.Kind.{Kind}
 use Rattle.ppd_ast.specs.declared.program.Kind.TheVariants as kind
 use Rattle.ppd_ast.specs.declared.program.Program.{Program}
 use Rattle.ppd_ast.specs.Lookups.{kind_of, body_of_stmt}
+use Rattle.ppd_ast.specs.Counting.{one_if}
 use Rattle.ppd_sem.specs.declared.proc.Answer.{Answer}
 use Rattle.ppd_sem.specs.declared.proc.Frame.{Frame}
 use Rattle.ppd_sem.specs.declared.proc.Need.TheVariants.{End}
@@ -22,7 +23,7 @@ use Rattle.ppd_emul.specs.Replay.{is_budget}
 use Rattle.ppd_beside.specs.Beside.{HasEnds, IsEnd, IsReturn}
 use Rattle.ppd_beside.specs.Fine.{IsFine}
 use Rattle.ppd_beside.specs.Held.{Held, IsIn, IsWritingBlock, own, called}
-use Rattle.ppd_beside.specs.Opens.{IsCountable, IsCountedStep, IsHome, IsWhile, ends_block, one_if, open_at, opens}
+use Rattle.ppd_beside.specs.Opens.{IsCountable, IsCountedStep, IsHome, IsWhile, ends_block, open_at, opens}
 use Rattle.ppd_crossing.proofs.InBlock.{entry_long, in_block, offer_long}
 use Rattle.ppd_beside.proofs.Opens.{counted_step, opens_append}
 use Rattle.ppd_beside.proofs.Entries.{entry_loops}

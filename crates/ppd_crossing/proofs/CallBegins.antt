@@ -8,6 +8,7 @@ use Rattle.ppd_ast.specs.declared.plan.Start.TheVariants as start
 use Rattle.ppd_ast.specs.declared.program.Program.{Program}
 use Rattle.ppd_ast.specs.declared.status.Trap.TheVariants as trap
 use Rattle.ppd_ast.specs.Lookups.{kind_of, top_of_body}
+use Rattle.ppd_ast.specs.Counting.{one_if}
 use Rattle.ppd_sem.specs.declared.asking.Pause.TheVariants.{Wants, Traps}
 use Rattle.ppd_sem.specs.declared.proc.Answer.{Answer}
 use Rattle.ppd_sem.specs.declared.proc.Need.{Need}
@@ -24,7 +25,7 @@ use Rattle.ppd_beside.specs.Alone.{IsKept}
 use Rattle.ppd_beside.specs.Beside.{HasEnds, IsBeside, IsBlock, IsCallOf, Suits, Yields}
 use Rattle.ppd_beside.specs.Calls.{IsCallBody, IsInCall}
 use Rattle.ppd_beside.specs.Held.{own}
-use Rattle.ppd_beside.specs.Opens.{IsCountable, IsHome, one_if}
+use Rattle.ppd_beside.specs.Opens.{IsCountable, IsHome}
 use Rattle.ppd_beside.proofs.Deeds.{call_goes_on, suits}
 use Rattle.ppd_beside.proofs.Framed.{framed}
 use Rattle.ppd_beside.proofs.Needs.{is_enter}

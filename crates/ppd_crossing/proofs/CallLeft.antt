@@ -7,6 +7,7 @@ use Rattle.ppd_ast.specs.declared.program.Kind.{Kind}
 use Rattle.ppd_ast.specs.declared.program.Kind.TheVariants as kind
 use Rattle.ppd_ast.specs.declared.program.Program.{Program}
 use Rattle.ppd_ast.specs.Lookups.{kind_of}
+use Rattle.ppd_ast.specs.Counting.{one_if}
 use Rattle.ppd_sem.specs.declared.proc.Answer.{Answer}
 use Rattle.ppd_sem.specs.declared.proc.Frame.{Frame}
 use Rattle.ppd_sem.specs.declared.proc.Need.TheVariants.{Back, Invoke}
@@ -27,7 +28,7 @@ use Rattle.ppd_beside.specs.Beside.{HasEnds, IsBeside, IsBlock}
 use Rattle.ppd_beside.specs.Calls.{IsCallBlock}
 use Rattle.ppd_beside.specs.Fine.{IsFine}
 use Rattle.ppd_beside.specs.Held.{Held}
-use Rattle.ppd_beside.specs.Opens.{IsCountable, IsCountedStep, IsHome, one_if, open_at, opens}
+use Rattle.ppd_beside.specs.Opens.{IsCountable, IsCountedStep, IsHome, open_at, opens}
 use Rattle.ppd_crossing.proofs.Advance.{has_head}
 use Rattle.ppd_crossing.proofs.Calls.{Call, not_over}
 use Rattle.ppd_beside.proofs.Closing.{IsAlone, alone}

@@ -7,6 +7,7 @@ use Rattle.ppd_ast.specs.declared.plan.Plan.{Plan}
 use Rattle.ppd_ast.specs.declared.program.Program.{Program}
 use Rattle.ppd_ast.specs.declared.status.Status.{Status}
 use Rattle.ppd_ast.specs.Lookups.{kind_of}
+use Rattle.ppd_ast.specs.Counting.{one_if}
 use Rattle.ppd_sem.specs.declared.asking.Pause.TheVariants.{Wants, Traps}
 use Rattle.ppd_sem.specs.declared.proc.Answer.{Answer}
 use Rattle.ppd_sem.specs.declared.proc.Frame.{Frame}
@@ -26,7 +27,7 @@ use Rattle.ppd_beside.specs.Beside.{HasEnds, IsEnd, IsReturn, Suits, Yields, pas
 use Rattle.ppd_beside.specs.Calls.{IsCallBlock, IsInCall, past_all}
 use Rattle.ppd_beside.specs.Fine.{IsFine}
 use Rattle.ppd_beside.specs.Held.{Held, own, called}
-use Rattle.ppd_beside.specs.Opens.{IsCountable, one_if, opens}
+use Rattle.ppd_beside.specs.Opens.{IsCountable, opens}
 use Rattle.ppd_crossing.proofs.Advance.{advances, has_head, never_ends, open_once}
 use Rattle.ppd_beside.proofs.Deeds.{end_ends, return_ends, suits}
 use Rattle.ppd_crossing.proofs.Loops.{closed_goes, opened_closes, opened_goes, running_by}

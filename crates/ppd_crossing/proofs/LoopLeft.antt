@@ -6,6 +6,7 @@ use Rattle.ppd_ast.specs.declared.plan.Plan.{Plan}
 use Rattle.ppd_ast.specs.declared.plan.Start.TheVariants as start
 use Rattle.ppd_ast.specs.declared.program.Program.{Program}
 use Rattle.ppd_ast.specs.Lookups.{kind_of}
+use Rattle.ppd_ast.specs.Counting.{one_if}
 use Rattle.ppd_sem.specs.Blocks.{postlog_cells}
 use Rattle.ppd_sem.specs.declared.proc.Answer.{Answer}
 use Rattle.ppd_sem.specs.declared.proc.Need.{Need}
@@ -23,7 +24,7 @@ use Rattle.ppd_beside.specs.Alone.{HasLeft}
 use Rattle.ppd_beside.specs.Beside.{HasEnds, IsBeside, IsBlock, IsReturn}
 use Rattle.ppd_beside.specs.Fine.{IsFine, IsLoopBlock}
 use Rattle.ppd_beside.specs.Held.{Among, Held}
-use Rattle.ppd_beside.specs.Opens.{IsCountable, IsCountedStep, IsHome, IsWhile, one_if, opens}
+use Rattle.ppd_beside.specs.Opens.{IsCountable, IsCountedStep, IsHome, IsWhile, opens}
 use Rattle.ppd_crossing.proofs.Advance.{has_head}
 use Rattle.ppd_beside.proofs.Closing.{IsAlone, alone}
 use Rattle.ppd_crossing.proofs.Leaves.{IsEnding, leaves, returns, ending, ending_todo}

@@ -6,6 +6,7 @@ use Rattle.ppd_ast.specs.declared.plan.Plan.{Plan}
 use Rattle.ppd_ast.specs.declared.program.Program.{Program}
 use Rattle.ppd_ast.specs.declared.status.Status.{Status}
 use Rattle.ppd_ast.specs.Lookups.{kind_of}
+use Rattle.ppd_ast.specs.Counting.{one_if}
 use Rattle.ppd_sem.specs.Blocks.{postlog_cells}
 use Rattle.ppd_sem.specs.declared.proc.Answer.{Answer}
 use Rattle.ppd_sem.specs.declared.proc.Frame.{Frame}
@@ -25,7 +26,7 @@ use Rattle.ppd_beside.specs.Alone.{IsInside}
 use Rattle.ppd_beside.specs.Beside.{HasEnds, IsEnd, IsReturn}
 use Rattle.ppd_beside.specs.Fine.{IsFine, IsLoopBlock}
 use Rattle.ppd_beside.specs.Held.{Among, Held, own, called}
-use Rattle.ppd_beside.specs.Opens.{IsCountable, IsWhile, one_if}
+use Rattle.ppd_beside.specs.Opens.{IsCountable, IsWhile}
 use Rattle.ppd_crossing.proofs.Advance.{advances, never_ends}
 use Rattle.ppd_beside.proofs.Deeds.{end_ends, return_ends}
 use Rattle.ppd_beside.proofs.Entries.{entry_loops, loop_block}

@@ -18,7 +18,7 @@ use Rattle.ppd_sem.specs.Described.{ends_body}
 use Rattle.ppd_sem.specs.Process.{act, act_at, act_by_asked, act_by_deed, act_by_need, head_deed, into_of, need_of, receive_at, returned, returned_from, todos, top_cells, value_of}
 use Rattle.ppd_sem.proofs.Offers.{CompletesSend, completes}
 use Rattle.ppd_beside.specs.Beside.{HasEnds, Suits, Yields, past_body}
-use Rattle.ppd_beside.specs.Calls.{IsOver, past_all}
+use Rattle.ppd_beside.specs.Calls.{IsPastFrames, past_all}
 use Rattle.ppd_beside.proofs.Deeds.{call_goes_on, list_goes_on, return_ends, suits}
 use Rattle.ppd_beside.proofs.Sends.{send_goes_on}
 use Rattle.ppd_beside.proofs.Frames.{clear_length, write_length}
@@ -46,7 +46,7 @@ module _ (program : Program) (plan : Plan) (ends : HasEnds program) (k : ℕ) (r
 
   over : (y : Proc) (n : ℕ) (todo before : List Todo) → length y.frames ≡ suc n + k → y.todo ≡ todo
       → past_body program todo ≡ past_body program before → past_all program n (past_body program before) ≡ rest
-      → IsOver program k rest y
+      → IsPastFrames program k rest y
   over y n todo before len is same past =
       record {
         more = n;
@@ -57,7 +57,7 @@ module _ (program : Program) (plan : Plan) (ends : HasEnds program) (k : ℕ) (r
 
   fewer : (n : ℕ) (y s : Proc) (t : Todo) (ts : List Todo) (v : Option ℤ) → 1 ≤ n → length s.frames ≡ suc n + k
       → past_all program n (past_body program (t ∷ ts)) ≡ rest → ends_body (kind_of program t.stmt) ≡ true
-      → y.frames ≡ returned program v s.frames → y.todo ≡ ts → IsOver program k rest y
+      → y.frames ≡ returned program v s.frames → y.todo ≡ ts → IsPastFrames program k rest y
   fewer zero y s t ts v h len past e ef et = absurd (omega (arith, h))
   fewer (suc n) y s t ts v h len past e ef et = record {
     more = n;
@@ -68,7 +68,7 @@ module _ (program : Program) (plan : Plan) (ends : HasEnds program) (k : ℕ) (r
 
   deed_over : (a : Answer) (t : Todo) (ts : List Todo) (d : Deed) (s : Proc) (n : ℕ) → length s.frames ≡ suc n + k
       → past_all program n (past_body program (t ∷ ts)) ≡ rest → Suits (kind_of program t.stmt) d → IsAbove n d
-      → IsOver program k rest (act_by_deed program a t ts d s)
+      → IsPastFrames program k rest (act_by_deed program a t ts d s)
   deed_over a t ts (set_local c v) s n len past e h =
       over (act_by_deed program a t ts (set_local c v) s) n ts (t ∷ ts) (write_length c v s.frames ∙ len) refl
       (sym (past_on program t ts e)) past
@@ -111,8 +111,8 @@ module _ (program : Program) (plan : Plan) (ends : HasEnds program) (k : ℕ) (r
       over (act_by_deed program a t ts pass s) n ts (t ∷ ts) len refl (sym (past_on program t ts e)) past
 
   asked_over : (a : Answer) (t : Todo) (ts : List Todo) (q : Asked Deed) (s : Proc) → s.todo ≡ t ∷ ts
-      → (o : IsOver program k rest s) → Yields (Suits (kind_of program t.stmt)) q → Yields (IsAbove o.more) q
-      → IsOver program k rest (act_by_asked program a t ts q s)
+      → (o : IsPastFrames program k rest s) → Yields (Suits (kind_of program t.stmt)) q → Yields (IsAbove o.more) q
+      → IsPastFrames program k rest (act_by_asked program a t ts q s)
   asked_over a t ts (Ok p) s is o e h =
       deed_over a t ts p.0 (record s { answers = [] }) o.more o.frames
       (ap (λ ys. past_all program o.more (past_body program ys)) (sym is) ∙ o.past) e h
@@ -120,8 +120,8 @@ module _ (program : Program) (plan : Plan) (ends : HasEnds program) (k : ℕ) (r
   asked_over a t ts (Err (Traps y)) s is o e h = record { more = o.more; frames = o.frames; past = o.past }
 
   need_over : (a : Answer) (t : Todo) (ts : List Todo) (n : Need) (s : Proc) → s.todo ≡ t ∷ ts
-      → (o : IsOver program k rest s) → Yields (IsAbove o.more) (head_deed program t s)
-      → CompletesSend program t.stmt n → IsOver program k rest (act_by_need program plan a t ts n s)
+      → (o : IsPastFrames program k rest s) → Yields (IsAbove o.more) (head_deed program t s)
+      → CompletesSend program t.stmt n → IsPastFrames program k rest (act_by_need program plan a t ts n s)
   need_over a t ts Stopped s is o h of = o
   need_over a t ts Budget s is o h of = record { more = o.more; frames = o.frames; past = o.past }
   need_over a t ts (Trap y) s is o h of = record { more = o.more; frames = o.frames; past = o.past }
@@ -144,14 +144,14 @@ module _ (program : Program) (plan : Plan) (ends : HasEnds program) (k : ℕ) (r
       (sym (past_on program t ts (send_goes_on (kind_of program t.stmt) c of)))
       (ap (λ ys. past_all program o.more (past_body program ys)) (sym is) ∙ o.past)
   need_over a t ts n s is o h of =
-      let z : IsOver program k rest (act_by_asked program a t ts (head_deed program t s) s) =
+      let z : IsPastFrames program k rest (act_by_asked program a t ts (head_deed program t s) s) =
       asked_over a t ts (head_deed program t s) s is o
       (suits program.exprs (kind_of program t.stmt) (top_cells s.frames) s.answers) h in
       record { more = z.more; frames = z.frames; past = z.past }
 
   pub act_over : (a : Answer) (t : Todo) (ts : List Todo) (s : Proc) → s.todo ≡ t ∷ ts
-      → (o : IsOver program k rest s) → Yields (IsAbove o.more) (head_deed program t s)
-      → IsOver program k rest (act program plan s a)
+      → (o : IsPastFrames program k rest s) → Yields (IsAbove o.more) (head_deed program t s)
+      → IsPastFrames program k rest (act program plan s a)
   act_over a t ts s is o h =
-      subst (λ (y : Proc). IsOver program k rest y) (sym (ap (λ todo. act_at program plan a todo s) is))
+      subst (λ (y : Proc). IsPastFrames program k rest y) (sym (ap (λ todo. act_at program plan a todo s) is))
       (need_over a t ts (need_of program plan s) s is o h (completes program plan s t ts is))

@@ -1,6 +1,6 @@
 -- The local variables of which a value may come from one statement to another.
 use Rattle.std.proofs.Common.{◌≡◌, ℕ, ◌+◌, ◌<◌, min, List, [], ◌∷◌, ◌++◌, Bool, true, false, Option, Some, None, length, map, refl, sym, ap, ◌∙◌, subst, arith, inl, inr, cond, append-nil}
-use Rattle.std.specs.Prelude.{IsTrue, nat_eq, nat_lt, ◌&&◌, ◌||◌, slice_get, if◌then◌else◌}
+use Rattle.std.specs.Prelude.{IsTrue, nat_eq, nat_lt, ◌&&◌, ◌||◌, slice_get, if◌then◌else◌, option_to_list}
 use Rattle.std.specs.List.{filter, flat_map, range_with_len}
 use Rattle.std.proofs.lemmas.Bool.{cases_Bool, cases_order, cond-true, cond-false, eq-eqb, eqb-true, eqb-false, lt-ltb, ltb-true, false_from_ne_true}
 use Rattle.ppd_ast.specs.Valid.{IsValid}
@@ -12,16 +12,15 @@ use Rattle.ppd_ast.proofs.ValidLaws.{slice_get_below, slice_get_there, stmt_in_b
 use Rattle.ppd_ast.specs.Members.{has, those}
 use Rattle.ppd_ast.specs.Lookups.{kind_of_stmt, kind_of, top_of, body_of_stmt, body_of, params_of, locals_of}
 use Rattle.ppd_ast.proofs.Members.{has_filter, filter_has, filter_same_in}
-use Rattle.ppd_ast.proofs.Those.{those_yes, those_no}
+use Rattle.ppd_ast.proofs.Those.{those_yes, those_no, both}
 use Rattle.ppd_cfg.specs.Flow.{next_of}
-use Rattle.ppd_cfg.specs.Lists.{first_or, to_list}
+use Rattle.ppd_cfg.specs.Lists.{first_or}
 use Rattle.ppd_cfg.specs.Reach.{closure, leads}
 use Rattle.ppd_sets.specs.Used.{callee, is_met, reads_at}
 use Rattle.ppd_deps.specs.declared.edges.StaticEdge.{StaticEdge}
 use Rattle.ppd_deps.specs.Edges.{begins, comes_to, kept_rows, local_edge, locals_from}
 use Rattle.ppd_deps.specs.Named.{local_reads, local_writes, places_by}
 use Rattle.ppd_deps.specs.Rows.{at_body, is_reader}
-use Rattle.ppd_deps.proofs.Reaching.{both}
 
 -- ---- filters
 
@@ -133,15 +132,15 @@ none_from p s t e =
 -- where the paths begin, by the statement's kind
 abbrev begins_by : Program → (b s v : ℕ) → Kind → List ℕ
 begins_by p b s v k =
-    flat_map (next_of p) (filter (λ c. has (local_writes p c) v) (places_by p b s k)) ++ (if has (callee k) b && nat_lt v (params_of p b) then to_list (first_or (top_of p b) None) else [])
+    flat_map (next_of p) (filter (λ c. has (local_writes p c) v) (places_by p b s k)) ++ (if has (callee k) b && nat_lt v (params_of p b) then option_to_list (first_or (top_of p b) None) else [])
 
 call_none : (p : Program) (b s v f : ℕ) (args : List ℕ) (into : Option ℕ) → nat_eq f b ≡ false → begins_by p b s v (K.Call f args into) ≡ []
-call_none p b s v f args into e = ap (λ c. if (c || false) && nat_lt v (params_of p b) then to_list (first_or (top_of p b) None) else []) e
+call_none p b s v f args into e = ap (λ c. if (c || false) && nat_lt v (params_of p b) then option_to_list (first_or (top_of p b) None) else []) e
 
 own_none : (p : Program) (b s v : ℕ) (k : Kind) → callee k ≡ [] → places_by p b s k ≡ [] → begins_by p b s v k ≡ []
 own_none p b s v k c e =
-    ap (λ xs. flat_map (next_of p) (filter (λ c. has (local_writes p c) v) xs) ++ (if has (callee k) b && nat_lt v (params_of p b) then to_list (first_or (top_of p b) None) else [])) e
-    ∙ ap (λ xs. if has xs b && nat_lt v (params_of p b) then to_list (first_or (top_of p b) None) else []) c
+    ap (λ xs. flat_map (next_of p) (filter (λ c. has (local_writes p c) v) xs) ++ (if has (callee k) b && nat_lt v (params_of p b) then option_to_list (first_or (top_of p b) None) else [])) e
+    ∙ ap (λ xs. if has xs b && nat_lt v (params_of p b) then option_to_list (first_or (top_of p b) None) else []) c
 
 -- what a call writes is of the function's body
 pub call_edges : (p : Program) (s t f : ℕ) (args : List ℕ) (into : Option ℕ) → kind_of p s ≡ K.Call f args into → at_body p f t (map (local_edge s) (locals_from p s t)) ≡ map (local_edge s) (locals_from p s t)

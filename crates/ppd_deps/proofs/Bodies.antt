@@ -15,20 +15,19 @@ use Rattle.ppd_ast.proofs.ValidLaws.{some_and, valid_body}
 use Rattle.ppd_ast.specs.Members.{has, those}
 use Rattle.ppd_ast.specs.Lookups.{body_of_stmt, body_of}
 use Rattle.ppd_ast.proofs.Members.{has_first, any_from, any_gives, in_bounds_has, flat_gives, flat_from, all_has, filter_same_in}
+use Rattle.ppd_ast.proofs.Those.{both}
 use Rattle.ppd_cfg.proofs.Following.{in_some}
 use Rattle.ppd_cfg.proofs.Rows.{length_rows, row_at}
 use Rattle.ppd_cfg.specs.Lists.{row}
 use Rattle.ppd_cfg.specs.Reach.{start}
 use Rattle.ppd_sets.proofs.Chains.{called_law}
 use Rattle.ppd_sets.proofs.InBody.{InBody, inside_in}
-use Rattle.ppd_sets.proofs.Meeting.{vars_same}
+use Rattle.ppd_sets.proofs.Meeting.{vars_same, shared_small}
 use Rattle.ppd_sets.specs.Gained.{HasCells}
 use Rattle.ppd_sets.specs.SetsOf.{AreSetsOf}
 use Rattle.ppd_sets.specs.Used.{body_reads, called_from, is_met, numbers_in, reads_at, stmts_at, used_of}
 use Rattle.ppd_sets.specs.declared.var_sets.VarSets.{VarSets}
 use Rattle.ppd_deps.proofs.Arriving.{body_there, filter_twice, has_those}
-use Rattle.ppd_deps.proofs.Naming.{shareds_small}
-use Rattle.ppd_deps.proofs.Reaching.{both}
 use Rattle.ppd_deps.specs.Named.{shared_reads}
 
 -- ---- the statements of a body
@@ -86,7 +85,7 @@ reads_of_used p s set used list v lt same is e =
     let body : ℕ → Bool = λ v. is_met (flat_map (body_reads p) (called_from p (body_of p s))) (slice_get p.shared v) in
     let here : ℕ → Bool = λ v. is_met set (slice_get p.shared v) in
     let reads : ℕ → Bool = λ v. is_met (reads_at true p s) (slice_get p.shared v) in
-    let sorted : those n here ≡ those n reads = vars_same set (reads_at true p s) p.shared (shareds_small p v) same in
+    let sorted : those n here ≡ those n reads = vars_same set (reads_at true p s) p.shared (shared_small p v) same in
     let as_read : (w : ℕ) → IsTrue (has (range_with_len 0 n) w) → here w ≡ reads w = λ w h. sym (has_those n here w h) ∙ ap (λ l. has l w) sorted ∙ has_those n reads w h in
     let mine : (w : ℕ) → IsTrue (has (range_with_len 0 n) w) → (body w && here w) ≡ here w = λ w h.
     both (body w && here w) (here w) (λ t. (and_parts (body w) (here w) t).1)

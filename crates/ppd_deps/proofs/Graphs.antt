@@ -4,9 +4,9 @@ use Rattle.std.proofs.Math.ListN.{drop_of_length-le}
 use Rattle.std.proofs.lemmas.List.{length-replicate, take_all, take_more}
 use Rattle.std.proofs.lemmas.List.Elements.{filter-append}
 use Rattle.std.proofs.lemmas.Grind.{flat_map-append}
-use Rattle.ppd_ast.proofs.Ranges.{range_more}
 use Rattle.std.specs.List.{filter, flat_map, range_with_len}
 use Rattle.ppd_ast.specs.declared.program.Program.{Program}
+use Rattle.ppd_ast.proofs.Those.{counting_more}
 use Rattle.ppd_deps.specs.declared.edges.DepGraph.{DepGraph}
 use Rattle.ppd_deps.specs.declared.edges.StaticEdge.{StaticEdge}
 use Rattle.ppd_deps.specs.Edges.{data_from, edges_of}
@@ -49,14 +49,10 @@ refilled old new n long count =
     ap (λ r. take n (new ++ r)) (drop_of_length-le old (let le : length old ≤ length new = omega (arith, long) in le)) ∙ ap (take n) (append-nil new)
     ∙ take_all n new (let le : length new ≤ n = omega (arith, long, count) in le)
 
-counting : (s : ℕ) → range_with_len 0 (s + 1) ≡ range_with_len 0 s ++ s ∷ []
-counting s =
-    ap (range_with_len 0) (let e : s + 1 ≡ s + 1 - 0 = omega arith in e) ∙ range_more 0 s (omega arith) ∙ ap (λ n. range_with_len 0 n ++ s ∷ []) (let e : s - 0 ≡ s = omega arith in e)
-
 -- one more statement
 pub data_more : (p : Program) (s t : ℕ) → flat_map (λ q. data_from p q t) (range_with_len 0 s) ++ data_from p s t ≡ flat_map (λ q. data_from p q t) (range_with_len 0 (s + 1))
 data_more p s t =
-    sym (ap (flat_map (λ q. data_from p q t)) (counting s) ∙ flat_map-append (λ q. data_from p q t) (range_with_len 0 s) (s ∷ []) ∙ ap (λ r. flat_map (λ q. data_from p q t) (range_with_len 0 s) ++ r) (append-nil (data_from p s t)))
+    sym (ap (flat_map (λ q. data_from p q t)) (counting_more s) ∙ flat_map-append (λ q. data_from p q t) (range_with_len 0 s) (s ∷ []) ∙ ap (λ r. flat_map (λ q. data_from p q t) (range_with_len 0 s) ++ r) (append-nil (data_from p s t)))
 
 map_both : (f : ℕ → StaticEdge) (xs ys : List ℕ) → map f (xs ++ ys) ≡ map f xs ++ map f ys
 map_both f [] ys = refl

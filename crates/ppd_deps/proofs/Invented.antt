@@ -19,6 +19,7 @@ use Rattle.ppd_deps.specs.declared.edges.StaticEdge.TheVariants.{Data, ControlEn
 use Rattle.ppd_deps.specs.Edges.{begins, comes_to, control_into, control_of, data_from, data_into, edges_of, ends_paths, kept_rows, local_edge, locals_from, outer_edge, shared_edge, shared_from}
 use Rattle.ppd_deps.specs.Laws.{IsKeptPath, NoEdgeIsInvented}
 use Rattle.ppd_deps.specs.Named.{local_reads, shared_reads, shared_writes}
+use Rattle.ppd_units.proofs.Paths.{not_true}
 
 -- ---- paths
 
@@ -32,10 +33,6 @@ pub record Along (p : Program) (b : ℕ) (x : Option Var) (starts : List ℕ) (t
   pub start_is : IsTrue (has starts first)
   pub rest : List ℕ
   pub path : IsKeptPath p b x first rest t
-
-not_true : (b : Bool) → IsTrue (not b) → b ≡ false
-not_true true h = absurd (true≢false (sym h))
-not_true false h = refl
 
 along : (p : Program) (b : ℕ) (x : Option Var) (starts : List ℕ) (t : ℕ) → Reached (kept_rows p b x) starts t → Along p b x starts t
 along p b x starts t (start h) = record { first = t; start_is = h; rest = []; path = refl }

@@ -1,6 +1,6 @@
 -- The variables that statements read and write.
-use Rattle.std.proofs.Common.{◌≡◌, ℕ, ◌+◌, ◌<◌, ◌≤◌, List, [], Bool, true, false, Option, Some, None, length, drop, get_or, refl, sym, ap, ◌∙◌, subst, arith}
-use Rattle.std.specs.Prelude.{nat_eq, slice_get}
+use Rattle.std.proofs.Common.{◌≡◌, ℕ, ◌+◌, ◌<◌, ◌≤◌, List, [], Bool, Option, Some, None, get_or, refl, sym, ap, ◌∙◌, subst, arith}
+use Rattle.std.specs.Prelude.{slice_get}
 use Rattle.ppd_ast.specs.declared.program.Body.{Body}
 use Rattle.ppd_ast.specs.declared.program.Program.{Program}
 use Rattle.ppd_ast.specs.declared.program.Stmt.{Stmt}
@@ -8,25 +8,12 @@ use Rattle.ppd_ast.specs.declared.program.Var.{Var}
 use Rattle.ppd_ast.specs.Cells.{after}
 use Rattle.ppd_ast.specs.Valid.{IsValid}
 use Rattle.ppd_ast.proofs.ValidLaws.{valid_body}
-use Rattle.ppd_ast.specs.Members.{has}
 use Rattle.ppd_ast.specs.Lookups.{kind_of_stmt, locals_of_body, locals_of}
-use Rattle.ppd_cfg.proofs.Searches as S
 use Rattle.ppd_sets.specs.Gained.{Gains, HasCells}
 use Rattle.ppd_sets.specs.Named.{reads, writes}
 use Rattle.ppd_sets.specs.Used.{AreSmall, reads_at, vars_met, writes_at}
 use Rattle.ppd_sets.proofs.Gaining.{gains_as, gains_none}
-use Rattle.ppd_sets.proofs.Meeting.{shared_small, vars_same}
-
--- ---- a search
-
-pub nothing_left : (xs : List ℕ) (i : ℕ) → length xs ≤ i → drop i xs ≡ []
-nothing_left xs i h = S.nothing_left xs i h
-
-pub has_here : (xs : List ℕ) (i n : ℕ) → i < length xs → nat_eq (get_or xs i 0) n ≡ true → has (drop i xs) n ≡ true
-has_here xs i n h e = S.has_here xs i n h e
-
-pub has_on : (xs : List ℕ) (i n : ℕ) → i < length xs → nat_eq (get_or xs i 0) n ≡ false → has (drop i xs) n ≡ has (drop (i + 1) xs) n
-has_on xs i n h e = S.has_on xs i n h e
+use Rattle.ppd_sets.proofs.Meeting.{vars_same}
 
 -- ---- cells
 
@@ -51,9 +38,6 @@ local_small p b (Some x) v at = λ k d h.
 
 pub locals_small : (p : Program) (b : ℕ) → IsValid p → AreSmall (locals_of p b)
 locals_small p b v = local_small p b (slice_get p.bodies b) v refl
-
-pub shareds_small : (p : Program) → IsValid p → AreSmall p.shared
-shareds_small p v = shared_small p v
 
 -- the variables of the right cells
 pub met_as : (vars : List Var) (set cells list : List ℕ) → AreSmall vars → HasCells set cells → list ≡ vars_met vars set → list ≡ vars_met vars cells

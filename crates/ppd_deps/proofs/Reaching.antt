@@ -1,6 +1,6 @@
 -- The rows along which a local variable's values are kept, and where they come.
 use Rattle.std.proofs.Common.{◌≡◌, ◌↔◌, ℕ, ◌+◌, ◌<◌, List, [], Bool, true, false, Option, None, length, refl, sym, ap, ◌∙◌, subst, arith, inl, inr, true≢false}
-use Rattle.std.specs.Prelude.{IsTrue, nat_eq, not, ◌&&◌, if◌then◌else◌}
+use Rattle.std.specs.Prelude.{IsTrue, nat_eq, not, ◌&&◌, if◌then◌else◌, option_to_list}
 use Rattle.std.specs.List.{filter, flat_map}
 use Rattle.ppd_ast.specs.Valid.{IsValid}
 use Rattle.ppd_ast.specs.declared.program.Program.{Program}
@@ -8,8 +8,9 @@ use Rattle.ppd_ast.specs.declared.program.Var.{Var}
 use Rattle.ppd_ast.specs.Members.{has, AreBelow}
 use Rattle.ppd_ast.specs.Lookups.{kind_of, top_of, body_of}
 use Rattle.ppd_ast.proofs.Members.{has_cases, flat_gives}
+use Rattle.ppd_ast.proofs.Those.{both}
 use Rattle.ppd_cfg.specs.Flow.{next_of}
-use Rattle.ppd_cfg.specs.Lists.{first_or, row, to_list}
+use Rattle.ppd_cfg.specs.Lists.{first_or, row}
 use Rattle.ppd_cfg.specs.Reach.{Reached, closure, leads}
 use Rattle.ppd_cfg.specs.WorkList.{AreRowsBelow, is_marked}
 use Rattle.ppd_cfg.proofs.Leading.{leads-tests, row_there}
@@ -39,16 +40,10 @@ kept_below p b x v u t h = subst (λ n. t < n) (sym (kept_long p b x)) (next_bel
 -- where the paths begin there are statements
 pub begins_below : (p : Program) (b s v : ℕ) → IsValid p → AreBelow (length p.stmts) (begins p b s v)
 begins_below p b s v valid t h =
-    elim (has_cases (flat_map (next_of p) (filter (λ c. has (local_writes p c) v) (places p b s))) (if passes p b s v then to_list (first_or (top_of p b) None) else []) t h) [
+    elim (has_cases (flat_map (next_of p) (filter (λ c. has (local_writes p c) v) (places p b s))) (if passes p b s v then option_to_list (first_or (top_of p b) None) else []) t h) [
       | inl l ↦ (let from = flat_gives (next_of p) (filter (λ c. has (local_writes p c) v) (places p b s)) t l in next_below p from.0 valid t from.2)
-      | inr r ↦ listed_below (length p.stmts) (first_or (top_of p b) None) (first_of_body_fits p b valid) t (if_has (passes p b s v) (to_list (first_or (top_of p b) None)) t r).1
+      | inr r ↦ listed_below (length p.stmts) (first_or (top_of p b) None) (first_of_body_fits p b valid) t (if_has (passes p b s v) (option_to_list (first_or (top_of p b) None)) t r).1
     ]
-
-pub both : (b c : Bool) → (IsTrue b → IsTrue c) → (IsTrue c → IsTrue b) → b ≡ c
-both true true f g = refl
-both true false f g = absurd (true≢false (sym (f refl)))
-both false true f g = absurd (true≢false (sym (g refl)))
-both false false f g = refl
 
 -- the marks of a work list are what closed rows lead to
 pub marks_lead : (rows : List (List ℕ)) (starts : List ℕ) (marks : List Bool) → ((x : ℕ) → IsTrue (is_marked marks x) ↔ Reached rows starts x) → (x : ℕ) → is_marked marks x ≡ leads (closure rows) starts x

@@ -1,5 +1,5 @@
 -- The static edges into a statement.
-use Rattle.std.specs.Prelude.{ℕ, nat_eq, Bool, true, false, not, is_some, ◌&&◌, List, [], ◌∷◌, ◌++◌, map, length, Option, Some, None, slice_get, if◌then◌else◌}
+use Rattle.std.specs.Prelude.{ℕ, nat_eq, Bool, true, false, not, is_some, ◌&&◌, List, [], ◌∷◌, ◌++◌, map, length, Option, Some, None, slice_get, if◌then◌else◌, option_to_list}
 use Rattle.std.specs.List.{filter, flat_map, range_with_len}
 use Rattle.ppd_ast.specs.Numbered.{is_while}
 use Rattle.ppd_ast.specs.declared.program.Kind.{Kind}
@@ -12,7 +12,7 @@ use Rattle.ppd_ast.specs.declared.program.Var.{Var}
 use Rattle.ppd_ast.specs.Members.{has}
 use Rattle.ppd_ast.specs.Lookups.{kind_of, top_of, body_of, locals_of}
 use Rattle.ppd_cfg.specs.Flow.{next_of}
-use Rattle.ppd_cfg.specs.Lists.{first_or, to_list}
+use Rattle.ppd_cfg.specs.Lists.{first_or}
 use Rattle.ppd_cfg.specs.Reach.{closure, leads}
 use Rattle.ppd_deps.specs.declared.edges.StaticEdge.{StaticEdge}
 use Rattle.ppd_deps.specs.declared.edges.StaticEdge.TheVariants.{Data, ControlEntry, Control}
@@ -64,7 +64,7 @@ kept_rows p b x = map (kept_next p b x) (range_with_len 0 (length p.stmts))
 abbrev pub begins : Program → (b s v : ℕ) → List ℕ
 begins p b s v =
     flat_map (next_of p) (filter (λ c. has (local_writes p c) v) (places p b s))
-    ++ (if passes p b s v then to_list (first_or (top_of p b) None) else [])
+    ++ (if passes p b s v then option_to_list (first_or (top_of p b) None) else [])
 
 -- whether what s writes to variable v of body b may come to statement t
 abbrev pub comes_to : Program → (b s v t : ℕ) → Bool

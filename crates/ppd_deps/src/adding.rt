@@ -1,7 +1,6 @@
 // Adding edges to the rows of the statements into which they lead.
 ghost use Rattle.std.specs.Prelude.{◌≡◌, ◌<◌, ◌^◌, ◌&&◌, [], ◌∷◌, ◌++◌, map, length, OnOk, IfOk, if◌then◌else◌};
 ghost use Rattle.std.specs.List.{filter};
-ghost use Rattle.ppd_ast.specs.Numbered.{is_while};
 ghost use Rattle.ppd_ast.specs.Valid.{IsValid};
 ghost use Rattle.ppd_ast.specs.Members.{has, AreBelow};
 ghost use Rattle.ppd_cfg.specs.WorkList.{is_marked};
@@ -69,22 +68,10 @@ fn add_shared_edges(
     ensures { OnOk result
         (Adds rows.old rows.new (λ t. map (shared_edge stmt) (filter (has (shared_reads program.now t)) vars.now))) }
 {
-    for index in 0..vars.len() {
-        add_shared_edge(rows, program, tables, stmt, vars[index])?;
+    for var in vars {
+        add_shared_edge(rows, program, tables, stmt, *var)?;
     }
     Ok(())
-}
-
-#[tactic(auto, using(crate::proofs::Naming::has_here, crate::proofs::Naming::has_on, crate::proofs::Naming::nothing_left))]
-fn has_number(list: &[u32], number: u32) -> bool
-    ensures { result ≡ has list.now number }
-{
-    for item in list {
-        if *item == number {
-            return true;
-        }
-    }
-    false
 }
 
 // The shared variables that the statement writes, where its body runs.
@@ -98,7 +85,8 @@ fn shared_written(
     requires tables { AreTables program.now tables.now }
     ensures { IfOk result (λ ids. ids ≡ shared_writes program.now stmt) }
 {
-    if has_number(tables.running.as_slice(), body_at(program, stmt) as u32) {
+    let body = body_at(program, stmt) as u32;
+    if tables.running.as_slice().contains(&body) {
         let cells = written_cells(program, true, stmt);
         let vars = vars_in(alloc, program.shared.as_slice(), &cells)?;
         return Ok(vars);
@@ -267,15 +255,6 @@ fn outer_edge(parent: Option<u32>) -> StaticEdge
     }
 }
 
-fn is_while(kind: &Kind) -> bool
-    ensures { result ≡ is_while kind.now }
-{
-    match kind {
-        Kind::While(_, _) => true,
-        _ => false,
-    }
-}
-
 // Adds the control edges into a statement to its row.
 fn add_control_at(row: &mut Seq<StaticEdge>, program: &Program, stmt: u32) -> Result<(), Memory>
     requires { stmt < length program.now.stmts }
@@ -283,7 +262,7 @@ fn add_control_at(row: &mut Seq<StaticEdge>, program: &Program, stmt: u32) -> Re
 {
     let found = &program.stmts.as_slice()[stmt as usize];
     row.push(outer_edge(found.parent))?;
-    if is_while(&found.kind) {
+    if found.kind.is_while() {
         row.push(StaticEdge::Control(stmt))?;
         return Ok(());
     }

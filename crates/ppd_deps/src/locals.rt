@@ -1,12 +1,12 @@
 // The paths of a local variable's values.
-ghost use Rattle.std.specs.Prelude.{◌≡◌, ◌<◌, ◌^◌, ◌&&◌, ℕ, nat_eq, not, [], ◌∷◌, length, slice_get, None, IfOk, if◌then◌else◌};
+ghost use Rattle.std.specs.Prelude.{◌≡◌, ◌<◌, ◌^◌, ◌&&◌, ℕ, nat_eq, not, [], ◌∷◌, length, slice_get, None, IfOk, if◌then◌else◌, option_to_list};
 ghost use Rattle.std.specs.List.{filter, flat_map};
 ghost use Rattle.ppd_ast.specs.Numbered.{numbers_of};
 ghost use Rattle.ppd_ast.specs.Valid.{IsValid};
 ghost use Rattle.ppd_ast.specs.Members.{has, AreBelow};
 ghost use Rattle.ppd_ast.specs.Lookups.{kind_of, top_of, body_of, locals_of};
 ghost use Rattle.ppd_cfg.specs.Flow.{next_of};
-ghost use Rattle.ppd_cfg.specs.Lists.{first_or, to_list};
+ghost use Rattle.ppd_cfg.specs.Lists.{first_or};
 ghost use Rattle.ppd_cfg.specs.Reach.{closure, leads};
 ghost use Rattle.ppd_cfg.specs.WorkList.{is_marked};
 ghost use Rattle.ppd_deps.specs.Edges.{begins, ends_paths, kept_next, kept_rows, scalar_written};
@@ -118,10 +118,10 @@ fn kept_rows(
 
 // The first statement of the body.
 fn entry(alloc: Global, program: &Program, body: u16) -> Result<Ids, Memory>
-    ensures { IfOk result (λ ids. ids ≡ to_list (first_or (top_of program.now body) None)) }
+    ensures { IfOk result (λ ids. ids ≡ option_to_list (first_or (top_of program.now body) None)) }
 {
     let mut ids = Ids::new(alloc);
-    if let Some(found) = program.bodies.as_slice().get(body as usize) {
+    if let Some(found) = program.body(body) {
         if let Some(first) = found.top.as_slice().first() {
             ids.push(*first)?;
         }
@@ -199,7 +199,7 @@ fn calls_in(alloc: Global, program: &Program, function: u16, body: &Body) -> Res
 fn calls_at(alloc: Global, program: &Program, function: u16, body: u16) -> Result<Ids, Memory>
     ensures { IfOk result (λ ids. ids ≡ filter (λ c. calls program.now c function) (stmts_at program.now body)) }
 {
-    match program.bodies.as_slice().get(body as usize) {
+    match program.body(body) {
         None => Ok(Ids::new(alloc)),
         Some(found) => calls_in(alloc, program, function, found),
     }

@@ -7,7 +7,7 @@ ghost use Rattle.ppd_sets.specs.SetsOf.{AreSetsOf};
 ghost use Rattle.ppd_deps.specs.Named.{local_reads, local_writes, processes, running, shared_reads};
 ghost use Rattle.ppd_deps.specs.Tables.{AreTables};
 
-use crate::vars::{body_at, contains, locals, read_cells, vars_of, written_cells};
+use crate::vars::{body_at, locals, read_cells, vars_of, written_cells};
 use ppd_ast::{Cells, Ids, Memory, Program, Seq};
 use ppd_cfg::{reached, successors_of};
 use ppd_sets::{VarSets, calls, vars_in};
@@ -40,7 +40,9 @@ impl Tables {
         requires there { stmt < length program.now.stmts }
         ensures { result ≡ has (shared_reads program.now stmt) var }
     {
-        contains(self.shared.as_slice()[stmt as usize].as_slice(), var)
+        self.shared.as_slice()[stmt as usize]
+            .as_slice()
+            .contains(&var)
     }
 
     // Whether a statement may read the local variable of its body.
@@ -49,7 +51,9 @@ impl Tables {
         requires there { stmt < length program.now.stmts }
         ensures { result ≡ has (local_reads program.now stmt) var }
     {
-        contains(self.local.as_slice()[stmt as usize].as_slice(), var)
+        self.local.as_slice()[stmt as usize]
+            .as_slice()
+            .contains(&var)
     }
 
     // Whether the local variable of its body is written at a statement.
@@ -58,7 +62,9 @@ impl Tables {
         requires there { stmt < length program.now.stmts }
         ensures { result ≡ has (local_writes program.now stmt) var }
     {
-        contains(self.written.as_slice()[stmt as usize].as_slice(), var)
+        self.written.as_slice()[stmt as usize]
+            .as_slice()
+            .contains(&var)
     }
 }
 

@@ -2,7 +2,6 @@
 ghost use Rattle.std.specs.Prelude.{◌≡◌, slice_get, IfOk};
 ghost use Rattle.std.specs.List.{filter};
 ghost use Rattle.ppd_ast.specs.Valid.{IsValid};
-ghost use Rattle.ppd_ast.specs.Members.{has};
 ghost use Rattle.ppd_ast.specs.Lookups.{body_of, params_of, locals_of};
 ghost use Rattle.ppd_sets.specs.Gained.{Gains, HasCells};
 ghost use Rattle.ppd_sets.specs.Used.{AreSmall, is_met, reads_at, writes_at};
@@ -16,7 +15,7 @@ use std::alloc::Global;
 pub(crate) fn body_at(program: &Program, stmt: u32) -> u16
     ensures { result ≡ body_of program.now stmt }
 {
-    match program.stmts.as_slice().get(stmt as usize) {
+    match program.stmt(stmt) {
         None => 0,
         Some(found) => found.body,
     }
@@ -25,7 +24,7 @@ pub(crate) fn body_at(program: &Program, stmt: u32) -> u16
 pub(crate) fn locals(program: &Program, body: u16) -> &[Var]
     ensures { result.now ≡ locals_of program.now body }
 {
-    match program.bodies.as_slice().get(body as usize) {
+    match program.body(body) {
         None => &[],
         Some(found) => found.locals.as_slice(),
     }
@@ -34,7 +33,7 @@ pub(crate) fn locals(program: &Program, body: u16) -> &[Var]
 pub(crate) fn params(program: &Program, body: u16) -> u16
     ensures { result ≡ params_of program.now body }
 {
-    match program.bodies.as_slice().get(body as usize) {
+    match program.body(body) {
         None => 0,
         Some(found) => found.params,
     }
@@ -44,25 +43,13 @@ pub(crate) fn params(program: &Program, body: u16) -> u16
 pub(crate) fn does_call(program: &Program, stmt: u32, body: u16) -> bool
     ensures { result ≡ calls program.now stmt body }
 {
-    match program.stmts.as_slice().get(stmt as usize) {
+    match program.stmt(stmt) {
         None => false,
         Some(found) => match &found.kind {
             Kind::Call { function, .. } => *function == body,
             _ => false,
         },
     }
-}
-
-#[tactic(auto, using(crate::proofs::Naming::has_here, crate::proofs::Naming::has_on, crate::proofs::Naming::nothing_left))]
-pub(crate) fn contains(list: &[u16], number: u16) -> bool
-    ensures { result ≡ has list.now number }
-{
-    for item in list {
-        if *item == number {
-            return true;
-        }
-    }
-    false
 }
 
 // Those of the variables of which a cell is in the set.
@@ -76,9 +63,9 @@ pub(crate) fn vars_of(
     ensures { IfOk result (λ ids. ids ≡ filter (λ v. is_met set.now (slice_get vars.now v)) numbers.now) }
 {
     let mut ids = Cells::new(alloc);
-    for index in 0..numbers.len() {
-        if is_met_at(set, vars, numbers[index]) {
-            ids.push(numbers[index])?;
+    for number in numbers {
+        if is_met_at(set, vars, *number) {
+            ids.push(*number)?;
         }
     }
     Ok(ids)
@@ -101,7 +88,7 @@ fn add_reads_at(set: &mut CellSet, wants_shared: bool, program: &Program, stmt: 
     requires { IsValid program.now }
     ensures { Gains set.old set.new (reads_at wants_shared program.now stmt) }
 {
-    match program.stmts.as_slice().get(stmt as usize) {
+    match program.stmt(stmt) {
         None => {}
         Some(found) => add_reads(set, wants_shared, program.exprs.as_slice(), &found.kind),
     }
@@ -123,7 +110,7 @@ pub(crate) fn read_cells(program: &Program, wants_shared: bool, stmt: u32) -> Ce
 fn add_writes_at(set: &mut CellSet, wants_shared: bool, program: &Program, stmt: u32)
     ensures { Gains set.old set.new (writes_at wants_shared program.now stmt) }
 {
-    match program.stmts.as_slice().get(stmt as usize) {
+    match program.stmt(stmt) {
         None => {}
         Some(found) => add_writes(set, wants_shared, &found.kind),
     }

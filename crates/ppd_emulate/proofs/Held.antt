@@ -6,6 +6,7 @@ use Rattle.std.proofs.lemmas.List.{drop_more, reverse-append}
 use Rattle.std.proofs.lemmas.Slice.Zip.{get_or-zip}
 use Rattle.ppd_emulate.specs.Held.{looked_up, value_from, value_if}
 use Rattle.ppd_emul.specs.Replay.{value_in_force}
+use Rattle.ppd_model.proofs.CountedOn.{last_at}
 
 -- ---- more room
 
@@ -34,10 +35,6 @@ set_there (y ∷ ys) zero (suc j) x h = refl
 set_there (y ∷ ys) (suc i) zero x h = refl
 set_there (y ∷ ys) (suc i) (suc j) x h = set_there ys i j x (λ e. h (ap suc e))
 
-last_there : {A : Type 0} (xs : List A) (x : A) → slice_get (xs ++ x ∷ []) (length xs) ≡ Some x
-last_there [] x = refl
-last_there (y ∷ ys) x = last_there ys x
-
 -- the pair of another cell changes no value
 other_pair : (held : List (ℕ × ℤ)) (i c d : ℕ) (v : ℤ) → nat_eq c d ≡ false → value_if (slice_get (held ++ (c, v) ∷ []) i) d ≡ value_if (slice_get held i) d
 other_pair [] zero c d v e = rw e refl
@@ -62,7 +59,7 @@ put_found places held c v lt is d =
         let same : c ≡ d = grind (arith, nat_tests) in
         let here : slice_get (slice_set places c (Some (length held))) d ≡ Some (Some (length held)) =
         subst (λ (n : ℕ). slice_get (slice_set places c (Some (length held))) n ≡ Some (Some (length held))) same (set_here places c (Some (length held)) lt) in
-        ap (value_from (held ++ (c, v) ∷ []) d) here ∙ ap (λ o. value_if o d) (last_there held (c, v)) ∙ rw e refl
+        ap (value_from (held ++ (c, v) ∷ []) d) here ∙ ap (λ o. value_if o d) (last_at held (c, v)) ∙ rw e refl
     by false e =
         let other : d ≢ c = λ q. let yes : nat_eq c d ≡ true = grind (arith, nat_tests) in cc in
         ap (value_from (held ++ (c, v) ∷ []) d) (set_there places c d (Some (length held)) other) ∙

@@ -1,3 +1,5 @@
+pub use Rattle.ppd_replay.proofs.Theorem
+pub use Rattle.ppd_replay.proofs.Emulated
 pub mod Held
 pub mod Meets
 pub mod Followed

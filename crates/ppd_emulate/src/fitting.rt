@@ -1,12 +1,11 @@
 ghost use Rattle.std.specs.Prelude.{◌≡◌, IfOk};
 ghost use Rattle.ppd_emul.specs.Fits.{fits as fits_of, found_of as found_of_piece, same_trap};
 ghost use Rattle.ppd_entry.specs.Pieces.{piece_of};
-ghost use Rattle.ppd_entry.specs.Entries.{same_kind};
 ghost use Rattle.ppd_emul.specs.declared.wanted.Wanted.TheVariants as wanted;
 
 use ppd_ast::{Memory, Nums, Seq, SyncKind, Trap};
 use ppd_emul::{Found, Wanted};
-use ppd_entry::Piece;
+use ppd_entry::{Piece, same_kind};
 use std::alloc::Global;
 
 pub(crate) fn copied(alloc: Global, values: &[i64]) -> Result<Nums, Memory>
@@ -32,19 +31,6 @@ pub(crate) fn found_of(alloc: Global, piece: Piece) -> Result<Found, Memory>
     })
 }
 
-fn is_same_kind(a: SyncKind, b: SyncKind) -> bool
-    ensures { result ≡ same_kind a b }
-{
-    matches!(
-        (a, b),
-        (SyncKind::P, SyncKind::P)
-            | (SyncKind::V, SyncKind::V)
-            | (SyncKind::Send, SyncKind::Send)
-            | (SyncKind::Recv, SyncKind::Recv)
-            | (SyncKind::Done, SyncKind::Done)
-    )
-}
-
 /// Whether the traps are one.
 pub(crate) fn is_same_trap(a: Trap, b: Trap) -> bool
     ensures { result ≡ same_trap a b }
@@ -65,10 +51,10 @@ fn fits_sync(kind: SyncKind, object: u8, value: i64, piece: Piece) -> bool
 {
     match piece {
         Piece::Sync(SyncKind::Send, found, _, sent) => {
-            is_same_kind(kind, SyncKind::Send) && object == found && value == sent
+            same_kind(kind, SyncKind::Send) && object == found && value == sent
         }
         Piece::Sync(other, found, _, _) => {
-            is_same_kind(kind, other) && object == found && value == 0
+            same_kind(kind, other) && object == found && value == 0
         }
         _ => false,
     }

@@ -2,6 +2,7 @@
 use Rattle.std.proofs.Common.{◌≡◌, ◌↔◌, ℕ, zero, suc, ◌+◌, ◌<◌, ◌≤◌, IsTrue, Bool, true, false, ◌&&◌, ◌||◌, List, [], ◌∷◌, Option, Some, None, inl, inr, ◌⊎◌, refl, ap, ap₂, sym, subst, ◌∙◌, arith, length, get_or, map}
 use Rattle.std.specs.Prelude.{filter_map, is_some, nat_eq, nat_lt, if◌then◌else◌}
 use Rattle.std.proofs.lemmas.Option.{slice_get_past}
+use Rattle.std.proofs.Math.Bool.{and-false}
 use Rattle.ppd_ast.specs.declared.program.Program.{Program}
 use Rattle.ppd_entry.specs.declared.entry.Entry.{Entry}
 use Rattle.ppd_entry.specs.declared.entry.Entry.TheVariants as entry
@@ -10,29 +11,23 @@ use Rattle.ppd_graph.specs.declared.sets.EdgeSets.{EdgeSets}
 use Rattle.ppd_graph.specs.declared.sync_graph.SyncGraph.{SyncGraph}
 use Rattle.ppd_graph.specs.Graphs.{IsEdge, IsGraphOf, edge_count, is_before_by}
 use Rattle.ppd_graph.specs.LogRecord.{found_after, sets_from}
+use Rattle.ppd_graph.proofs.Built.{sets_count}
 use Rattle.ppd_model.specs.declared.graph.EdgeId.{EdgeId}
 use Rattle.ppd_model.specs.declared.graph.NodeId.{NodeId}
 use Rattle.ppd_model.specs.HappenedBefore.{closed_through, ends_before, is_direct, is_edge_before, node, nodes, own_syncs, sync_at}
 use Rattle.ppd_model.specs.RecordedSets.{record_in, sync_in}
 use Rattle.ppd_model.specs.Synchronizations.{Sync, leads_at}
-use Rattle.ppd_model.proofs.Tested.{tests_edges}
+use Rattle.ppd_model.proofs.Tested.{tests_edges, leads_to_none}
+use Rattle.ppd_ast.proofs.Those.{both}
 
 -- ---- nothing is before a synchronization that is not there
-
-no_lead : (program : Program) (o : Option Sync) → leads_at program o None ≡ false
-no_lead program None = refl
-no_lead program (Some a) = refl
-
-and_false : (b : Bool) → (b && false) ≡ false
-and_false true = refl
-and_false false = refl
 
 no_direct : (program : Program) (syncs : List (List Sync)) (a b : NodeId) → sync_at syncs b ≡ None
     → is_direct program syncs a b ≡ false
 no_direct program syncs a b e =
     ap₂ (λ x y. x || y)
-    (ap (λ o. (nat_eq a.process b.process && nat_eq (a.sync + 1) b.sync) && is_some o) e ∙ and_false _)
-    (ap (leads_at program (sync_at syncs a)) e ∙ no_lead program (sync_at syncs a))
+    (ap (λ o. (nat_eq a.process b.process && nat_eq (a.sync + 1) b.sync) && is_some o) e ∙ and-false _)
+    (ap (leads_at program (sync_at syncs a)) e ∙ leads_to_none program (sync_at syncs a))
 
 no_way : (program : Program) (syncs : List (List Sync)) (ns : List NodeId) (a b : NodeId) → sync_at syncs b ≡ None
     → closed_through (is_direct program syncs) ns a b ≡ false
@@ -40,7 +35,7 @@ no_way program syncs [] a b e = no_direct program syncs a b e
 no_way program syncs (n ∷ ns) a b e =
     ap₂ (λ x y. x || (closed_through (is_direct program syncs) ns a n && y)) (no_way program syncs ns a b e)
     (no_way program syncs ns n b e)
-    ∙ and_false (closed_through (is_direct program syncs) ns a n)
+    ∙ and-false (closed_through (is_direct program syncs) ns a n)
 
 none_before : (program : Program) (syncs : List (List Sync)) (p i q j : ℕ) → length (own_syncs syncs q) < j
     → ends_before program syncs p i q j ≡ false
@@ -49,18 +44,6 @@ none_before program syncs p i q (suc j) lt =
     no_way program syncs (nodes syncs) (node p i) (node q j) (slice_get_past (own_syncs syncs q) j (omega arith))
 
 -- ---- how many edges there are
-
-sets_count : (found : Option EdgeSets) (es : List Entry)
-    → length (sets_from found es) ≡ length (filter_map sync_in es) + 1
-sets_count found [] = refl
-sets_count found (entry.Prelog b values ∷ es) = sets_count found es
-sets_count found (entry.Unit u values ∷ es) = sets_count found es
-sets_count found (entry.Sync kind object number value reads writes ∷ es) =
-    let rest = sets_count (found_after found (entry.Sync kind object number value reads writes)) es in omega
-    (arith, rest)
-sets_count found (entry.Postlog b values ∷ es) = sets_count found es
-sets_count found (entry.End status rest' reads writes ∷ es) = sets_count (found_after found
-    (entry.End status rest' reads writes)) es
 
 few_syncs : (lists : List (List Entry)) (q : ℕ)
     → length (get_or (map (filter_map sync_in) lists) q []) ≤ length (get_or (map (sets_from None) lists) q [])
@@ -75,20 +58,13 @@ there_or_none [] q (suc j) le = inl (omega arith)
 there_or_none (es ∷ lists) zero j le = let count = sets_count None es in inl (omega (arith, count))
 there_or_none (es ∷ lists) (suc q) j le = there_or_none lists q j le
 
-bool_same : (a b : Bool) → IsTrue a ↔ IsTrue b → a ≡ b
-bool_same true b h = sym (h.0 refl)
-bool_same false true h = h.1 refl
-bool_same false false h = refl
-
 module _ (program : Program) (logs : Logs) (g : SyncGraph) (is : IsGraphOf program logs g) where
   pub before_is : (a b : EdgeId) → IsEdge g a → IsEdge g b
       → is_before_by g a b ≡ is_edge_before program (record_in logs) a b
   before_is a b x y =
-      bool_same (is_before_by g a b) (is_edge_before program (record_in logs) a b) (
-        (λ h. (tests_edges program (record_in logs) a b).1 ((is.order a b x y).0 h)),
-        (λ h. (is.order a b x y).1
-            ((tests_edges program (record_in logs) a b).0 h)),
-      )
+      both (is_before_by g a b) (is_edge_before program (record_in logs) a b)
+      (λ h. (tests_edges program (record_in logs) a b).1 ((is.order a b x y).0 h))
+      (λ h. (is.order a b x y).1 ((tests_edges program (record_in logs) a b).0 h))
 
   -- to an edge that is not there only those of its own process are
   pub before_none : (a b : EdgeId) → edge_count g b.process ≤ b.edge

@@ -11,6 +11,7 @@ use Rattle.ppd_entry.specs.Entries.{is_end}
 use Rattle.ppd_graph.specs.declared.sets.EdgeSets.{EdgeSets}
 use Rattle.ppd_graph.specs.LogRecord.{no_sets, sets_from}
 use Rattle.ppd_index.specs.Refusals.{first_bad, first_from, first_in_lists, refusal, standing}
+use Rattle.ppd_index.proofs.Fitting.{or_none}
 use Rattle.ppd_model.specs.FullTrace.{or_else}
 use Rattle.ppd_ends.specs.Missing.{writes_of}
 use Rattle.ppd_search.specs.Ends.{ending}
@@ -20,10 +21,6 @@ use Rattle.ppd_search.specs.Ends.{ending}
 abbrev EndsLast : List Entry → Type 0
 EndsLast [] = ⊤
 EndsLast (e ∷ es) = (is_end e ≡ true → es ≡ []) × EndsLast es
-
-both_none : {A : Type 0} (a b : Option A) → or_else a b ≡ None → (a ≡ None) × (b ≡ None)
-both_none None b h = (refl, h)
-both_none (Some a) b h = absurd (cc h)
 
 or_true : (a b : Bool) → b ≡ true → (a || b) ≡ true
 or_true true b h = refl
@@ -36,14 +33,14 @@ module _ (plan : Plan) (body p : ℕ) where
   nothing_after x [] ended h none = refl
   nothing_after x (e ∷ es) false h none = absurd (true≢false (sym h))
   nothing_after x (e ∷ es) true h none =
-      absurd (cc (both_none (refusal plan body p (standing x true) e)
+      absurd (cc (or_none (refusal plan body p (standing x true) e)
       (first_from plan body p (index_step plan x e) (true || is_end e) es) none).0)
 
   ends_last : (x : Indexing) (es : List Entry) (ended : Bool) → first_from plan body p x ended es ≡ None → EndsLast es
   ends_last x [] ended none = tt
   ends_last x (e ∷ es) ended none =
       let rest : first_from plan body p (index_step plan x e) (ended || is_end e) es ≡ None =
-      (both_none (refusal plan body p (standing x ended) e)
+      (or_none (refusal plan body p (standing x ended) e)
       (first_from plan body p (index_step plan x e) (ended || is_end e) es) none).1 in (
         (λ end. nothing_after (index_step plan x e) es (ended || is_end e) (or_true ended (is_end e) end) rest),
         ends_last (index_step plan x e) es (ended || is_end e) rest,
@@ -54,10 +51,10 @@ pub all_end_last : (program : Program) (plan : Plan) (q : ℕ) (lists : List (Li
 all_end_last program plan q [] p none = tt
 all_end_last program plan q (es ∷ lists) zero none =
     ends_last plan (program.functions + q) q begun_indexing es false
-    (both_none (first_bad program plan q es) (first_in_lists program plan (q + 1) lists) none).0
+    (or_none (first_bad program plan q es) (first_in_lists program plan (q + 1) lists) none).0
 all_end_last program plan q (es ∷ lists) (suc p) none =
     all_end_last program plan (q + 1) lists p
-    (both_none (first_bad program plan q es) (first_in_lists program plan (q + 1) lists) none).1
+    (or_none (first_bad program plan q es) (first_in_lists program plan (q + 1) lists) none).1
 
 -- ---- the entry that ends an edge
 

@@ -10,10 +10,12 @@ use Rattle.ppd_index.specs.declared.row.Row.{Row}
 use Rattle.ppd_index.specs.Indexes.{IsIndexOf, interval_of, rows_at}
 use Rattle.ppd_index.specs.Tables.{extent_of}
 use Rattle.ppd_model.specs.Extents.{Extent, extents}
+use Rattle.ppd_model.proofs.Lists.{left_from}
 use Rattle.ppd_past.specs.declared.past.Past.{Past}
 use Rattle.ppd_past.proofs.Outward.{extent_at, rows_are}
 use Rattle.ppd_ends.specs.Found.{stands_there}
 use Rattle.ppd_search.specs.Ends.{begins_in, ending, ends_edge, first_edge, innermost_from, is_sync, syncs_before, syncs_inside}
+use Rattle.ppd_ast.proofs.ValidLaws.{slice_get_there}
 
 abbrev first_or : List Entry → Option Interval → ℕ
 first_or entries None = 0
@@ -66,11 +68,6 @@ module _ (past : Past) (p k : ℕ) (h : IsIndexOf past.plan.now past.logs.now pa
 
 -- ---- loops over lists
 
--- what is left after element i is what is left from it on without it
-pub left_from : {A : Type 0} (xs : List A) (i : ℕ) (x : A) → slice_get xs i ≡ Some x → drop i xs ≡ x ∷ drop (i + 1) xs
-left_from xs i x e =
-    drop_more xs i x (slice_get_within xs i x e) ∙ ap (λ y. y ∷ drop (i + 1) xs) (get_or_from_slice_get xs i x x e)
-
 -- one more entry where the edge's end is looked for
 pub ending_at : (e : Entry) (es : List Entry) → ends_edge e ≡ true → ending 0 (e ∷ es) ≡ 0
 ending_at e es h = ap (λ b. if b then 0 else suc (ending 0 es)) h
@@ -90,15 +87,10 @@ pub ending_other : (i : ℕ) (e : Entry) (es : List Entry) → (i ≡ 0 → ⊥)
 ending_other zero e es n h = absurd (n refl)
 ending_other (suc i) e es n h = ap (λ b. if b then suc (ending i es) else suc (ending (suc i) es)) h
 
-is_there : {A : Type 0} (xs : List A) (k : ℕ) → k < length xs → (x : A) × (slice_get xs k ≡ Some x)
-is_there [] k lt = absurd (omega arith)
-is_there (x ∷ xs) zero lt = (x, refl)
-is_there (x ∷ xs) (suc k) lt = is_there xs k (omega arith)
-
 pub innermost_next : (n m k : ℕ) (xs : List Extent) (b : Bool) → k < length xs → b ≡ stands_there n (slice_get xs k)
     → innermost_from n m k (drop k xs) ≡ innermost_from n (if b then k else m) (k + 1) (drop (k + 1) xs)
 innermost_next n m k xs b lt h =
-    let there = is_there xs k lt in
+    let there = slice_get_there xs k lt in
     ap (innermost_from n m k) (left_from xs k there.0 there.1)
     ∙ ap (λ c. innermost_from n (if c then k else m) (k + 1) (drop (k + 1) xs)) (sym (h ∙ ap (stands_there n) there.1))
 

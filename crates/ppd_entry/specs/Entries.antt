@@ -5,6 +5,7 @@ use Rattle.ppd_ast.specs.declared.status.SyncKind.TheVariants.{P, V, Send, Recv,
 use Rattle.ppd_entry.specs.declared.entry.Entry.{Entry}
 use Rattle.ppd_entry.specs.declared.entry.Entry.TheVariants as entry
 use Rattle.ppd_entry.specs.declared.entry.Logs.{Logs}
+use Rattle.ppd_entry.specs.declared.entry.At.{At}
 
 -- the kinds are one
 abbrev pub same_kind : SyncKind → SyncKind → Bool
@@ -23,3 +24,7 @@ is_end e = false
 -- the entries of process p, and none past the processes
 abbrev pub entries_at : Logs → ℕ → List Entry
 entries_at logs p = get_or logs.lists p []
+
+-- an entry of a process's log
+abbrev pub at_entry : ℕ → ℕ → At
+at_entry p e = record { process = p; entry = e }

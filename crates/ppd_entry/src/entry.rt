@@ -1,3 +1,6 @@
+ghost use Rattle.std.specs.Prelude.{◌≡◌};
+ghost use Rattle.ppd_entry.specs.Entries.{same_kind};
+
 use ppd_ast::{Cells, Nums, Seq, Status, SyncKind};
 
 /// An entry of a process's log. Numbers of blocks and units are those of the plan, cells are
@@ -53,4 +56,18 @@ pub struct Logs {
 pub struct At {
     pub process: u8,
     pub entry: u32,
+}
+
+/// Whether the kinds are one.
+pub fn same_kind(a: SyncKind, b: SyncKind) -> bool
+    ensures { result ≡ same_kind a b }
+{
+    matches!(
+        (a, b),
+        (SyncKind::P, SyncKind::P)
+            | (SyncKind::V, SyncKind::V)
+            | (SyncKind::Send, SyncKind::Send)
+            | (SyncKind::Recv, SyncKind::Recv)
+            | (SyncKind::Done, SyncKind::Done)
+    )
 }

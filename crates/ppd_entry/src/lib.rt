@@ -4,6 +4,6 @@
 mod entry;
 mod piece;
 
-pub use entry::{At, Entry, Logs};
+pub use entry::{At, Entry, Logs, same_kind};
 pub use piece::Piece;
 pub use ppd_ast::{Status, SyncKind, Trap};

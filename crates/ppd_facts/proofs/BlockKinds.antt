@@ -1,5 +1,5 @@
 -- What holds of each loop's kind and of each body's holds of the kind of each block.
-use Rattle.std.proofs.Common.{◌≡◌, ℕ, zero, suc, ◌+◌, List, [], ◌∷◌, ◌++◌, Bool, true, false, Option, Some, None, refl, sym, ap, ◌∙◌, subst, arith}
+use Rattle.std.proofs.Common.{◌≡◌, ℕ, suc, ◌+◌, List, [], ◌∷◌, ◌++◌, Bool, true, false, Option, Some, None, refl, sym, ap, ◌∙◌, subst, arith}
 use Rattle.std.specs.Prelude.{option_map, slice_get, if◌then◌else◌}
 use Rattle.std.specs.List.{flat_map}
 use Rattle.std.proofs.lemmas.Option.{slice_get-map}
@@ -12,24 +12,18 @@ use Rattle.ppd_ast.specs.declared.program.Program.{Program}
 use Rattle.ppd_ast.specs.declared.program.Stmt.{Stmt}
 use Rattle.ppd_ast.specs.Numbered.{blocks_by, blocks_of, body_kind, each_from, is_block_body, is_block_loop, loops_at, loops_of, numbers_of}
 use Rattle.ppd_blocks.specs.Blocks.{block_of as block_from, plan_of}
-use Rattle.ppd_step_laws.proofs.Course.Outward.{none_some, some_is}
 use Rattle.ppd_sem.specs.Tables.{block_of}
-use Rattle.ppd_beside.specs.Beside.{Each}
 use Rattle.ppd_nested.proofs.Planned.{block_there}
-
-each_both : {X : Type 0} (P : X → Type 0) (xs ys : List X) → Each P xs → Each P ys → Each P (xs ++ ys)
-each_both P [] ys h g = g
-each_both P (x ∷ xs) ys h g = (h.0, each_both P xs ys h.1 g)
+use Rattle.ppd_model.proofs.Changes.{some}
+use Rattle.ppd_model.proofs.Parents.{none_some}
+use Rattle.ppd_model.proofs.Earlier.{each_append}
+use Rattle.ppd_model.specs.World.{Each}
+use Rattle.ppd_model.proofs.Lists.{every_at}
 
 each_flat : {X : Type 0} (P : X → Type 0) (f : ℕ → List X) → ((n : ℕ) → Each P (f n)) → (ns : List ℕ)
     → Each P (flat_map f ns)
 each_flat P f h [] = tt
-each_flat P f h (n ∷ ns) = each_both P (f n) (flat_map f ns) (h n) (each_flat P f h ns)
-
-each_here : {X : Type 0} (P : X → Type 0) (xs : List X) (i : ℕ) (x : X) → Each P xs → slice_get xs i ≡ Some x → P x
-each_here P [] i x h e = absurd (none_some e)
-each_here P (y ∷ ys) zero x h e = subst P (some_is e) h.0
-each_here P (y ∷ ys) (suc i) x h e = each_here P ys i x h.1 e
+each_flat P f h (n ∷ ns) = each_append P (f n) (flat_map f ns) (h n) (each_flat P f h ns)
 
 module _ (p : Program) (policy : Policy) (P : BlockKind → Type 0) (loops : (n : ℕ) → P (Loop n))
     (bodies : (j : ℕ) (b : Body) → slice_get p.bodies j ≡ Some b → P (body_kind j b)) where
@@ -48,7 +42,7 @@ module _ (p : Program) (policy : Policy) (P : BlockKind → Type 0) (loops : (n 
 
   of_body : (j : ℕ) (b : Body) → slice_get p.bodies j ≡ Some b → Each P (blocks_of p.stmts policy j b)
   of_body j b at =
-      each_both P (if is_block_body p.stmts policy b then body_kind j b ∷ [] else [])
+      each_append P (if is_block_body p.stmts policy b then body_kind j b ∷ [] else [])
       (flat_map (loops_at p.stmts policy) (numbers_of p.stmts b)) (of_own j b at (is_block_body p.stmts policy b))
       (each_flat P (loops_at p.stmts policy) (λ n. of_loop n (slice_get p.stmts n)) (numbers_of p.stmts b))
 
@@ -58,7 +52,7 @@ module _ (p : Program) (policy : Policy) (P : BlockKind → Type 0) (loops : (n 
   of_all j [] h = tt
   of_all j (b ∷ bs) h =
       let first : j + 0 ≡ j = omega arith in
-      each_both P (blocks_of p.stmts policy j b) (each_from (blocks_of p.stmts policy) (j + 1) bs)
+      each_append P (blocks_of p.stmts policy j b) (each_from (blocks_of p.stmts policy) (j + 1) bs)
       (of_body j b (subst (λ n. slice_get p.bodies n ≡ Some b) first (h 0 b refl)))
       (of_all (j + 1) bs (λ k c e.
       (let next : j + suc k ≡ (j + 1) + k = omega arith in subst (λ n. slice_get p.bodies n ≡ Some c) next
@@ -78,4 +72,4 @@ module _ (p : Program) (policy : Policy) (P : BlockKind → Type 0) (loops : (n 
       by : (o : Option BlockKind) → slice_get kinds n ≡ o
           → option_map (block_from p) o ≡ Some (block_from p kind) → P kind
       by None at is = absurd (none_some is)
-      by (Some l) at is = subst P (ap (λ (b : Block). b.kind) (some_is is)) (each_here P kinds n l every at)
+      by (Some l) at is = subst P (ap (λ (b : Block). b.kind) (some is)) (every_at P kinds n l every at)

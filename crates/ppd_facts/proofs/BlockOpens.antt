@@ -12,12 +12,14 @@ use Rattle.ppd_ast.specs.declared.program.Stmt.{Stmt}
 use Rattle.ppd_ast.specs.Valid.{EndsBody, IsValid}
 use Rattle.ppd_ast.proofs.ValidLaws.{stmt_in_body, valid_body}
 use Rattle.ppd_ast.specs.Lookups.{kind_of_stmt, kind_of, top_of_body, body_of_stmt}
+use Rattle.ppd_ast.specs.Counting.{one_if}
 use Rattle.ppd_sem.specs.Described.{ends_body}
 use Rattle.ppd_sem.specs.Process.{todos}
 use Rattle.ppd_sem.specs.Tables.{block_of}
-use Rattle.ppd_beside.specs.Beside.{Each, IsCallOf, IsReturn}
-use Rattle.ppd_beside.specs.Opens.{IsCountable, ends_block, one_if, opens}
+use Rattle.ppd_beside.specs.Beside.{IsCallOf, IsReturn}
+use Rattle.ppd_beside.specs.Opens.{IsCountable, ends_block, opens}
 use Rattle.ppd_facts.proofs.Placed.{EndsOnce, IsAt, IsCallee, all_at, body_ends_once, callee, inside_goes_on, listed}
+use Rattle.ppd_model.specs.World.{Each}
 
 goes_open : (plan : Plan) (body : ℕ) (k : Kind) → ends_body k ≡ false → ends_block plan body k ≡ 0
 goes_open plan body (kind.Return e) h = absurd (true≢false h)

@@ -17,13 +17,14 @@ use Rattle.ppd_sem.specs.declared.proc.Todo.{Todo}
 use Rattle.ppd_sem.specs.Described.{ends_body}
 use Rattle.ppd_sem.specs.Process.{todos}
 use Rattle.ppd_sem.specs.Tables.{block_of}
-use Rattle.ppd_beside.specs.Beside.{Each, IsBlock, IsCallOf, IsLast, IsListOf, IsOwnTodo, IsReturn}
+use Rattle.ppd_beside.specs.Beside.{IsBlock, IsCallOf, IsLast, IsListOf, IsOwnTodo, IsReturn}
 use Rattle.ppd_beside.specs.Held.{IsWritingBlock}
 use Rattle.ppd_beside.proofs.Closes.{AreUsed}
 use Rattle.ppd_beside.proofs.Kept.{IsOwned}
 use Rattle.ppd_beside.proofs.Staying.{IsClosed}
 use Rattle.ppd_facts.proofs.Named.{kind_over, kind_writing}
 use Rattle.ppd_facts.proofs.Placed.{IsAt, EndsOnce, body_ends_once, all_at, listed}
+use Rattle.ppd_model.specs.World.{Each}
 
 -- statement i is there, in body f
 pub record IsOf (program : Program) (f i : ℕ) : Type 0 where

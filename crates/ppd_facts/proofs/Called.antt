@@ -10,7 +10,8 @@ use Rattle.ppd_sem.specs.declared.proc.Proc.{Proc}
 use Rattle.ppd_sem.specs.declared.proc.Todo.{Todo}
 use Rattle.ppd_sem.specs.Deed.{Deed, set_local, clear, invoke, back, receive}
 use Rattle.ppd_sem.specs.Process.{act, act_by_deed, clear_top, into_of, new_frame, receive_at, returned, returned_from, started, top_cells, write_top}
-use Rattle.ppd_model.proofs.Homes.{AreHome, IsHome as IsHomeAll, bodies_of}
+use Rattle.ppd_sem.specs.Runs.{bodies_in}
+use Rattle.ppd_model.proofs.Homes.{AreHome, IsHome as IsHomeAll}
 use Rattle.ppd_beside.specs.Beside.{IsCallOf, Suits, Yields}
 use Rattle.ppd_beside.proofs.Deeds.{suits}
 use Rattle.ppd_facts.proofs.Keeping.{keeps}
@@ -29,7 +30,7 @@ AreCalled program (f ∷ g ∷ fs) = IsCalledFrom program f g × AreCalled progr
 
 -- the head is of the body of the top frame
 pub head_home : (program : Program) (frames : List Frame) (t : Todo) (ts : List Todo)
-    → AreHome program (bodies_of frames) (t ∷ ts) → (f : Frame) × (fs : List Frame) × (frames ≡ f ∷ fs)
+    → AreHome program (bodies_in frames) (t ∷ ts) → (f : Frame) × (fs : List Frame) × (frames ≡ f ∷ fs)
     × (body_of_stmt (slice_get program.stmts t.stmt) ≡ f.body)
 head_home program [] t ts h = absurd h
 head_home program (f ∷ fs) t ts h = (f, fs, refl, h.0)
@@ -79,7 +80,7 @@ module _ (program : Program) where
       ((record { stmt = t.stmt; stmt_is = refl; calls = calls; home = home }, subst (AreCalled program) is h))
 
   after_deed : (a : Answer) (t : Todo) (ts : List Todo) (d : Deed) (x : Proc)
-      → AreHome program (bodies_of x.frames) (t ∷ ts) → Suits (kind_of program t.stmt) d
+      → AreHome program (bodies_in x.frames) (t ∷ ts) → Suits (kind_of program t.stmt) d
       → AreCalled program x.frames → AreCalled program (act_by_deed program a t ts d x).frames
   after_deed a t ts (set_local c v) x home s h = write_called c v x.frames h
   after_deed a t ts (clear base len) x home s h = clear_called base len x.frames h
@@ -96,7 +97,7 @@ module _ (program : Program) where
       (λ t ts b is e. h)
       (λ t ts v is e. h)
       (λ t ts d left is e f. after_deed a t ts d (record s { answers = [] })
-      (subst (λ ys. AreHome program (bodies_of s.frames) ys) is home)
+      (subst (λ ys. AreHome program (bodies_in s.frames) ys) is home)
       (subst (Yields (Suits (kind_of program t.stmt))) f
       (suits program.exprs (kind_of program t.stmt) (top_cells s.frames) s.answers)) h)
       (λ t ts c is e. h)

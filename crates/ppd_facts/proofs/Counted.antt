@@ -20,7 +20,6 @@ use Rattle.ppd_ast.specs.Members.{has}
 use Rattle.ppd_ast.specs.Lookups.{kind_of_stmt, kind_of, body_of_stmt}
 use Rattle.ppd_ast.proofs.Members.{has_cons, any_from, in_bounds_has, below_range, flat_gives, flat_from, all_has}
 use Rattle.ppd_blocks.specs.Blocks.{plan_of}
-use Rattle.ppd_step_laws.proofs.Course.Outward.{some_is}
 use Rattle.ppd_step_laws.proofs.Course.Rising.{Place, place_of, top_stands}
 use Rattle.ppd_sem.specs.declared.proc.Frame.{Frame}
 use Rattle.ppd_sem.specs.Tables.{block_of}
@@ -30,6 +29,7 @@ use Rattle.ppd_facts.proofs.Called.{AreCalled}
 use Rattle.ppd_facts.proofs.BlockOpens.{is_function_body}
 use Rattle.ppd_facts.proofs.Placed.{callee}
 use Rattle.ppd_nested.proofs.Planned.{calling_found}
+use Rattle.ppd_model.proofs.Changes.{some}
 
 -- ---- the body of a statement, by the order of its body's statements
 
@@ -63,7 +63,7 @@ numbered p s x b v at body =
     let outer : body_of_stmt (slice_get p.stmts place.outer) ≡ place.number = ap body_of_stmt top.1 ∙ top.3 in
     let number : x.body ≡ place.number =
     sym (ap body_of_stmt at) ∙ inside_body 64 p place.outer s place.number v outer place.inside in
-    let same : b ≡ place.body = some_is (sym body ∙ ap (λ j. slice_get p.bodies j) number ∙ place.body_is) in
+    let same : b ≡ place.body = some (sym body ∙ ap (λ j. slice_get p.bodies j) number ∙ place.body_is) in
     let listed : IsTrue (has (flat_map (preorder 64 p.stmts) place.body.top) s) =
     flat_from (preorder 64 p.stmts) place.body.top place.outer s place.is_top place.inside in
     let range : IsTrue (has (range_with_len place.body.first (place.body.end - place.body.first)) s) =

@@ -14,9 +14,9 @@ use Rattle.ppd_sem.specs.declared.proc.Todo.{Todo}
 use Rattle.ppd_sem.specs.Deed.{Deed, branch, turn, invoke}
 use Rattle.ppd_sem.specs.Process.{act, act_by_deed, entry_of, loop_of, started, todos}
 use Rattle.ppd_sem.specs.Tables.{block_of}
-use Rattle.ppd_beside.specs.Beside.{Each}
 use Rattle.ppd_beside.specs.Opens.{IsWhile}
 use Rattle.ppd_facts.proofs.Keeping.{keeps}
+use Rattle.ppd_model.specs.World.{Each}
 
 -- a statement that is entered is a loop that is a block
 pub record IsEntered (program : Program) (plan : Plan) (t : Todo) : Type 0 where

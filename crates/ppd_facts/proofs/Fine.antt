@@ -6,7 +6,8 @@ use Rattle.ppd_ast.specs.Valid.{IsValid}
 use Rattle.ppd_ast.specs.Lookups.{kind_of}
 use Rattle.ppd_sem.specs.declared.proc.Proc.{Proc}
 use Rattle.ppd_sem.specs.declared.proc.Todo.{Todo}
-use Rattle.ppd_model.proofs.Homes.{AreHome, bodies_of}
+use Rattle.ppd_sem.specs.Runs.{bodies_in}
+use Rattle.ppd_model.proofs.Homes.{AreHome}
 use Rattle.ppd_beside.specs.Beside.{IsEnd}
 use Rattle.ppd_beside.specs.Fine.{IsFine}
 use Rattle.ppd_facts.proofs.Called.{head_home}
@@ -17,7 +18,7 @@ module _ (program : Program) (plan : Plan) (v : IsValid program) where
   one_frame : (s : Proc) (t : Todo) (ts : List Todo) → IsState program plan s → s.todo ≡ t ∷ ts
       → IsEnd (kind_of program t.stmt) → length s.frames ≡ 1
   one_frame s t ts h is e =
-      let top = head_home program s.frames t ts (subst (λ ys. AreHome program (bodies_of s.frames) ys) is h.home) in
+      let top = head_home program s.frames t ts (subst (λ ys. AreHome program (bodies_in s.frames) ys) is h.home) in
       ap length (top.2 ∙ ap (λ fs. top.0 ∷ fs) (end_lowest program plan v s h t ts is e top.0 top.1 top.2))
 
   pub states_fine : IsFine program plan (IsState program plan)

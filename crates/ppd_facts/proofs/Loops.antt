@@ -24,17 +24,20 @@ use Rattle.ppd_sets.proofs.Looping.{loop_defined_by_statements, loop_used_by_sta
 use Rattle.ppd_units.specs.Walk.{stands_in}
 use Rattle.ppd_units.proofs.Paths.{sorted_from}
 use Rattle.ppd_step_laws.proofs.Units.Numbers.{block_loop, loop_is_while}
-use Rattle.ppd_beside.specs.Beside.{Each, IsBlock, IsListOf, IsReturn}
+use Rattle.ppd_beside.specs.Beside.{IsBlock, IsListOf}
 use Rattle.ppd_beside.specs.Held.{Among, IsWritingBlock}
 use Rattle.ppd_beside.specs.Opens.{IsWhile}
 use Rattle.ppd_facts.proofs.Bodies.{HasCall, each_of}
 use Rattle.ppd_beside.proofs.Closes.{AreUsed}
 use Rattle.ppd_beside.proofs.Kept.{IsOwned}
 use Rattle.ppd_beside.proofs.Staying.{IsClosed}
+use Rattle.ppd_beside.proofs.LoopKinds.{while_goes}
+use Rattle.ppd_beside.proofs.Deeds.{return_ends}
 use Rattle.ppd_facts.proofs.Named.{kind_over, kind_writing}
 use Rattle.ppd_facts.proofs.Placed.{IsAt, inside_goes_on, listed}
 use Rattle.ppd_nested.proofs.Planned.{block_there}
 use Rattle.ppd_facts.proofs.Within.{child_within, listed_within, stands_through, within_cases, within_listed}
+use Rattle.ppd_model.specs.World.{Each}
 
 -- statement s is the loop q or stands in it
 abbrev pub IsWithin : Program → ℕ → ℕ → Type 0
@@ -82,14 +85,6 @@ module _ (program : Program) (q : ℕ) (is : is_while (kind_of program q) ≡ tr
 while_is : (k : Kind) → is_while k ≡ true → IsWhile k
 while_is (kind.While e body) h = tt
 while_is k h = absurd (true≢false (sym h))
-
-while_goes : (k : Kind) → IsWhile k → ends_body k ≡ false
-while_goes (kind.While e body) h = refl
-while_goes k h = absurd h
-
-return_ends : (k : Kind) → IsReturn k → ends_body k ≡ true
-return_ends (kind.Return e) h = refl
-return_ends k h = absurd h
 
 -- the loop, entered: the last of what is to do in its block
 abbrev pub closer_of : ℕ → Todo

@@ -10,9 +10,9 @@ use Rattle.ppd_ast.specs.Uses.{kind_uses}
 use Rattle.ppd_ast.specs.Members.{has}
 use Rattle.ppd_ast.proofs.Members.{has_first, has_later, has_left, has_right, in_bounds_has, flat_from}
 use Rattle.ppd_sets.specs.Named.{cells_in, local_cells, reads, writes}
-use Rattle.ppd_step_laws.proofs.Course.Outward.{some_is}
 use Rattle.ppd_beside.specs.Held.{IsWriting}
 use Rattle.ppd_beside.specs.Over.{AreOverCells, IsKindOver, IsOverCells}
+use Rattle.ppd_model.proofs.Changes.{some}
 
 in_cells : (base len k : ℕ) → k < len → IsTrue (has (local_cells false base len) (base + k))
 in_cells base len k lt = in_bounds_has base len (base + k) (omega arith) (omega arith)
@@ -88,7 +88,7 @@ kind_writing written (Set (target.Shared c) e) h = tt
 kind_writing written (Set (target.SharedAt base len i) e) h = tt
 kind_writing written (Zero base len) h = λ k lt. h (base + k) (in_cells base len k lt)
 kind_writing written (Call f arguments None) h = λ c e. absurd cc
-kind_writing written (Call f arguments (Some r)) h = λ c e. subst written (some_is e) (h r (one_cell r))
+kind_writing written (Call f arguments (Some r)) h = λ c e. subst written (some e) (h r (one_cell r))
 kind_writing written (Recv chan into) h = h into (one_cell into)
 kind_writing written (If e first second) h = tt
 kind_writing written (While e body) h = tt

@@ -1,5 +1,5 @@
 -- In a valid program: where the statements of a list stand, and that a body ends in its last statement and nowhere before.
-use Rattle.std.proofs.Common.{◌≡◌, ℕ, zero, suc, ◌-◌, ◌<◌, Bool, true, false, List, [], ◌∷◌, ◌++◌, length, Option, Some, None, refl, ap, sym, subst, ◌∙◌, arith, inl, inr, true≢false}
+use Rattle.std.proofs.Common.{◌≡◌, ℕ, suc, ◌-◌, ◌<◌, Bool, true, false, List, [], ◌∷◌, ◌++◌, length, Option, Some, None, refl, ap, sym, subst, ◌∙◌, arith, inl, inr, true≢false}
 use Rattle.std.specs.Prelude.{IsTrue, IsSomeAnd, is_some, slice_get}
 use Rattle.std.proofs.lemmas.Bool.{cond-true, cond-false}
 use Rattle.ppd_ast.specs.declared.program.Body.{Body}
@@ -11,18 +11,20 @@ use Rattle.ppd_ast.specs.Order.{StandIn, inner}
 use Rattle.ppd_ast.specs.Valid.{CallsRightly, EndsBody, IsEnding, IsValid, last_of}
 use Rattle.ppd_ast.proofs.Standing.{All-append_parts}
 use Rattle.ppd_ast.proofs.ValidLaws.{some_and, stmt_in_body, valid_body, valid_stmt}
-use Rattle.ppd_ast.specs.Members.{has}
 use Rattle.ppd_ast.specs.Lookups.{kind_of_stmt, kind_of, top_of_body, body_of_stmt}
-use Rattle.ppd_ast.proofs.Members.{has_first, has_later}
 use Rattle.ppd_cfg.specs.Flow.{follow}
 use Rattle.ppd_step_laws.proofs.Course.Chains.{IsChain, top_chain}
 use Rattle.ppd_step_laws.proofs.Course.Last.{ends_are_last}
 use Rattle.ppd_step_laws.proofs.Course.Rising.{top_stands}
-use Rattle.ppd_step_laws.proofs.Course.Outward.{none_some, some_is}
+use Rattle.ppd_step_laws.proofs.Course.Ending.{slice_has}
 use Rattle.ppd_sem.specs.declared.proc.Todo.{Todo}
 use Rattle.ppd_sem.specs.Described.{ends_body}
 use Rattle.ppd_sem.specs.Process.{todos}
-use Rattle.ppd_beside.specs.Beside.{Each, HasEnd, HasEnds, IsCallOf, IsListOf, past_body}
+use Rattle.ppd_sem.proofs.Validity.{last_cons}
+use Rattle.ppd_beside.specs.Beside.{HasEnd, HasEnds, IsCallOf, IsListOf, past_body}
+use Rattle.ppd_model.proofs.Changes.{some}
+use Rattle.ppd_model.proofs.Parents.{none_some}
+use Rattle.ppd_model.specs.World.{Each}
 
 -- statement i is there, with this parent and in this body
 pub record IsAt (program : Program) (outer : Option ℕ) (number i : ℕ) : Type 0 where
@@ -67,11 +69,6 @@ listed program s stmts v is = by (slice_get program.stmts s) refl is
 
 -- ---- what ends a body
 
-has_at : (xs : List ℕ) (k x : ℕ) → slice_get xs k ≡ Some x → IsTrue (has xs x)
-has_at [] k x e = absurd (none_some e)
-has_at (y ∷ ys) zero x e = subst (λ z. IsTrue (has (y ∷ ys) z)) (some_is e) (has_first y ys)
-has_at (y ∷ ys) (suc k) x e = has_later y x ys (has_at ys k x e)
-
 ends_top : (b : Body) (k : ℕ) (x : Kind) → ends_body x ≡ true → EndsBody b k x → last_of b.top ≡ Some k
 ends_top b k (kind.Return v) e h = h.2
 ends_top b k kind.End e h = h.1
@@ -103,8 +100,8 @@ ends_outermost : (program : Program) (i : ℕ) (x : Stmt) → IsValid program �
 ends_outermost program i x v at e =
     let own = stmt_in_body program i x v at in
     let last : last_of own.0.top ≡ Some i = ends_top own.0 i x.kind e own.2.ending in
-    let y = top_stands program x.body i own.0 v own.1 (has_at own.0.top (length own.0.top - 1) i last) in
-    let same : y.0 ≡ x = some_is (sym y.1 ∙ at) in
+    let y = top_stands program x.body i own.0 v own.1 (slice_has own.0.top (length own.0.top - 1) i last) in
+    let same : y.0 ≡ x = some (sym y.1 ∙ at) in
     ap (λ (z : Stmt). z.parent) (sym same) ∙ y.2
 
 -- so one that stands in another goes on
@@ -131,11 +128,6 @@ followed_goes_on program i j v f = by (ends_body (kind_of program i)) refl
         (sym (ends_are_last program i v (is_ending (kind_of program i) e))
         ∙ f))
     by false e = e
-
-last_cons : (x y : ℕ) (xs : List ℕ) → last_of (x ∷ y ∷ xs) ≡ last_of (y ∷ xs)
-last_cons x y xs =
-    let e : length (x ∷ y ∷ xs) - 1 ≡ suc (length (y ∷ xs) - 1) = omega arith in
-    ap (λ m. slice_get (x ∷ y ∷ xs) m) e
 
 abbrev IsLastEnding : Program → Option ℕ → Type 0
 IsLastEnding program o = IsSomeAnd o (λ i. IsSomeAnd (slice_get program.stmts i) (λ s. IsEnding s.kind))

@@ -1,5 +1,5 @@
 -- Of every state of a run: each frame has the cells of its body.
-use Rattle.std.proofs.Common.{◌≡◌, ℕ, zero, suc, ◌+◌, ◌-◌, ◌<◌, ◌≤◌, ℤ, pos, List, [], ◌∷◌, Option, Some, None, Ok, refl, ap, sym, subst, ◌∙◌, arith, length}
+use Rattle.std.proofs.Common.{◌≡◌, ℕ, ◌+◌, ◌-◌, ◌<◌, ◌≤◌, ℤ, pos, List, [], ◌∷◌, Option, Some, None, Ok, refl, ap, sym, subst, ◌∙◌, arith, length}
 use Rattle.std.specs.Prelude.{⊤, IsSome, IsSomeAnd, IsTrue, replicate, slice_get}
 use Rattle.std.proofs.lemmas.List.{length-set, length-append, length-replicate}
 use Rattle.std.proofs.lemmas.Option.{slice_get_within}
@@ -17,12 +17,13 @@ use Rattle.ppd_sem.specs.declared.proc.Frame.{Frame}
 use Rattle.ppd_sem.specs.declared.proc.Proc.{Proc}
 use Rattle.ppd_sem.specs.declared.proc.Todo.{Todo}
 use Rattle.ppd_sem.specs.Deed.{Deed, set_local, clear, invoke, back, receive}
-use Rattle.ppd_sem.specs.Process.{act, act_by_deed, cells_for, clear_cells, clear_top, into_of, new_frame, receive_at, returned, returned_from, started, top_cells, write_top}
+use Rattle.ppd_sem.specs.Process.{act, act_by_deed, cells_for, clear_top, into_of, new_frame, receive_at, returned, returned_from, started, top_cells, write_top}
 use Rattle.ppd_sem.specs.Runs.{LeadsOn, size_if, size_of, stmt_size}
-use Rattle.ppd_sem.proofs.Kept.{leads_at}
+use Rattle.ppd_sem.proofs.Kept.{leads_at, length-clear}
 use Rattle.ppd_sem.proofs.Validity.{valid-runnable}
 use Rattle.ppd_model.proofs.Homes.{AskedOf, head_of}
-use Rattle.ppd_beside.specs.Beside.{Each, IsCallOf, Suits, Yields}
+use Rattle.ppd_model.specs.World.{Each}
+use Rattle.ppd_beside.specs.Beside.{IsCallOf, Suits, Yields}
 use Rattle.ppd_beside.proofs.Deeds.{suits}
 use Rattle.ppd_facts.proofs.Keeping.{keeps}
 use Rattle.ppd_facts.proofs.Placed.{IsCallee, callee}
@@ -33,10 +34,6 @@ IsSized program f = length f.cells ≡ size_of program f.body
 abbrev pub AreSized : Program → List Frame → Type 0
 AreSized program frames = Each (IsSized program) frames
 
-clear-length : (base len : ℕ) (cells : List ℤ) → length (clear_cells base len cells) ≡ length cells
-clear-length base zero cells = refl
-clear-length base (suc n) cells = length-set (clear_cells base n cells) (base + n) (pos 0) ∙ clear-length base n cells
-
 module _ (program : Program) where
   write_sized : (c : ℕ) (v : ℤ) (frames : List Frame) → AreSized program frames
       → AreSized program (write_top c v frames)
@@ -46,7 +43,7 @@ module _ (program : Program) where
   clear_sized : (base len : ℕ) (frames : List Frame) → AreSized program frames
       → AreSized program (clear_top base len frames)
   clear_sized base len [] h = h
-  clear_sized base len (f ∷ fs) h = (clear-length base len f.cells ∙ h.0, h.1)
+  clear_sized base len (f ∷ fs) h = (length-clear base len f.cells ∙ h.0, h.1)
 
   receive_sized : (into : Option ℕ) (value : Option ℤ) (frames : List Frame) → AreSized program frames
       → AreSized program (receive_at into value frames)

@@ -18,7 +18,7 @@ use Rattle.ppd_sem.specs.declared.proc.Proc.{Proc}
 use Rattle.ppd_sem.specs.declared.proc.Todo.{Todo}
 use Rattle.ppd_sem.specs.Process.{act, act_at, act_by_need, entry_of, head_deed, need_of, started, top_body}
 use Rattle.ppd_sem.specs.Offers.{OffersAtHead}
-use Rattle.ppd_sem.specs.Runs.{IsRunning}
+use Rattle.ppd_sem.specs.Runs.{IsRunning, bodies_in}
 use Rattle.ppd_sem.proofs.Kept.{act-runs}
 use Rattle.ppd_sem.proofs.Marked.{at_head}
 use Rattle.ppd_sem.proofs.Offering.{offers_completed}
@@ -26,8 +26,9 @@ use Rattle.ppd_sem.proofs.Progress.{asked_purse}
 use Rattle.ppd_sem.proofs.Running.{head_over}
 use Rattle.ppd_sem.proofs.Starts.{started_runs}
 use Rattle.ppd_sem.proofs.Validity.{valid-runnable}
-use Rattle.ppd_model.proofs.Homes.{AreHome, IsHome as IsHomeAll, act-home, bodies_of, started-home}
-use Rattle.ppd_beside.specs.Beside.{Each, IsEnd}
+use Rattle.ppd_model.proofs.Homes.{AreHome, IsHome as IsHomeAll, act-home, started-home}
+use Rattle.ppd_model.specs.World.{Each}
+use Rattle.ppd_beside.specs.Beside.{IsEnd}
 use Rattle.ppd_beside.specs.Opens.{IsHome}
 use Rattle.ppd_facts.proofs.Called.{AreCalled, act_called, head_home, started_called}
 use Rattle.ppd_nested.specs.Stack.{block_frames}
@@ -94,7 +95,7 @@ module _ (program : Program) (plan : Plan) (v : IsValid program) where
   module _ (s : Proc) (h : IsState program plan s) (t : Todo) (ts : List Todo) (is : s.todo ≡ t ∷ ts) where
     pub head_is_home : IsHome program plan s t
     head_is_home =
-        let top = head_home program s.frames t ts (subst (λ ys. AreHome program (bodies_of s.frames) ys) is h.home) in
+        let top = head_home program s.frames t ts (subst (λ ys. AreHome program (bodies_in s.frames) ys) is h.home) in
         let entered : IsEntered program plan t = (subst (Each (IsEntered program plan)) is h.ready.0).0 in
         record { body = top.3 ∙ sym (ap top_body top.2); loops = entered.loops; blocks = entered.blocks }
 

@@ -9,10 +9,11 @@ use Rattle.ppd_ast.specs.Order.{inner_at, preorder}
 use Rattle.ppd_ast.specs.Valid.{IsValid}
 use Rattle.ppd_ast.specs.Members.{has}
 use Rattle.ppd_ast.proofs.Members.{has_first, has_later, has_cons, flat_gives, flat_from}
+use Rattle.ppd_ast.specs.Lookups.{parent_if}
 use Rattle.ppd_step_laws.proofs.Course.Rising.{child_stands, stands_in_parent}
-use Rattle.ppd_step_laws.proofs.Course.Standing.{as_parent, in_itself, in_parent, outwards}
+use Rattle.ppd_step_laws.proofs.Course.Standing.{as_parent, in_itself, in_parent, outwards, none_outer}
 use Rattle.ppd_sets.specs.Used.{loop_stmts}
-use Rattle.ppd_units.specs.Walk.{parent_of, stands_at, stands_in}
+use Rattle.ppd_units.specs.Walk.{stands_at, stands_in}
 
 -- what stands in a statement of q stands in q
 pub child_within : (p : Program) (q t x : ℕ) (y : Stmt) → IsValid p → slice_get p.stmts x ≡ Some y
@@ -21,11 +22,6 @@ child_within p q t x y v at is h = elim (cases_eq x q) [
   | inl e ↦ subst (λ z. stands_in p x z ≡ true) e (in_itself p x)
   | inr e ↦ as_parent p x t q y v at is e ∙ h
 ]
-
-none_stands : (d : ℕ) (p : Program) (q : ℕ) → stands_at d p.stmts q None ≡ false
-unfolding stands_at
-none_stands zero p q = refl
-none_stands (suc d) p q = refl
 
 no_steps : (p : Program) (s x : ℕ) → stands_at 0 p.stmts s (Some x) ≡ false
 unfolding stands_at
@@ -39,20 +35,20 @@ pub record IsOut (p : Program) (d q x : ℕ) : Type 0 where
   pub parent : stmt.parent ≡ Some outer
   pub on : stands_at d p.stmts q (Some outer) ≡ true
 
-out_of : (p : Program) (d q x : ℕ) → stands_at d p.stmts q (parent_of (slice_get p.stmts x)) ≡ true → IsOut p d q x
+out_of : (p : Program) (d q x : ℕ) → stands_at d p.stmts q (parent_if (slice_get p.stmts x)) ≡ true → IsOut p d q x
 out_of p d q x h = by (slice_get p.stmts x) refl h
   where
     parents : (y : Stmt) (o : Option ℕ) → slice_get p.stmts x ≡ Some y → y.parent ≡ o
         → stands_at d p.stmts q o ≡ true → IsOut p d q x
-    parents y None at e g = absurd (true≢false (sym g ∙ none_stands d p q))
+    parents y None at e g = absurd (true≢false (sym g ∙ none_outer d p q))
     parents y (Some t) at e g = record { stmt = y; there = at; outer = t; parent = e; on = g }
 
-    by : (o : Option Stmt) → slice_get p.stmts x ≡ o → stands_at d p.stmts q (parent_of o) ≡ true → IsOut p d q x
-    by None at g = absurd (true≢false (sym g ∙ none_stands d p q))
+    by : (o : Option Stmt) → slice_get p.stmts x ≡ o → stands_at d p.stmts q (parent_if o) ≡ true → IsOut p d q x
+    by None at g = absurd (true≢false (sym g ∙ none_outer d p q))
     by (Some y) at g = parents y y.parent at refl g
 
 pub within_cases : (p : Program) (q x : ℕ) → stands_in p x q ≡ true → (x ≡ q) ⊎ IsOut p 63 q x
-within_cases p q x h = elim (or_cases (nat_eq x q) (stands_at 63 p.stmts q (parent_of (slice_get p.stmts x)))
+within_cases p q x h = elim (or_cases (nat_eq x q) (stands_at 63 p.stmts q (parent_if (slice_get p.stmts x)))
     (sym (outwards 63 p q x) ∙ h)) [
       | inl e ↦ inl (eqb-true x q e)
       | inr e ↦ inr (out_of p 63 q x e)
@@ -63,7 +59,7 @@ stands_on : (d : ℕ) (p : Program) (q s x : ℕ) → IsValid p → stands_at d 
     → stands_in p s q ≡ true → stands_in p x q ≡ true
 stands_on zero p q s x v h g = absurd (true≢false (sym h ∙ no_steps p s x))
 stands_on (suc d) p q s x v h g =
-    elim (or_cases (nat_eq x s) (stands_at d p.stmts s (parent_of (slice_get p.stmts x)))
+    elim (or_cases (nat_eq x s) (stands_at d p.stmts s (parent_if (slice_get p.stmts x)))
     (sym (outwards d p s x) ∙ h)) [
       | inl e ↦ subst (λ z. stands_in p z q ≡ true) (sym (eqb-true x s e)) g
       | inr e ↦ (let o : IsOut p d s x = out_of p d s x e in child_within p q o.outer x o.stmt v o.there o.parent
@@ -98,7 +94,7 @@ listed_at : (d : ℕ) (p : Program) (q x : ℕ) → IsValid p → stands_at d p.
     → IsTrue (has (preorder d p.stmts q) x)
 listed_at zero p q x v h = absurd (true≢false (sym h ∙ no_steps p q x))
 listed_at (suc d) p q x v h =
-    elim (or_cases (nat_eq x q) (stands_at d p.stmts q (parent_of (slice_get p.stmts x)))
+    elim (or_cases (nat_eq x q) (stands_at d p.stmts q (parent_if (slice_get p.stmts x)))
     (sym (outwards d p q x) ∙ h)) [
       | inl e ↦ subst (λ z. IsTrue (has (preorder (suc d) p.stmts q) z)) (sym (eqb-true x q e)) (first_listed d p q)
       | inr e ↦ (let o : IsOut p d q x = out_of p d q x e in child_listed d p q o.outer x

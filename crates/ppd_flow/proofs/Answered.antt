@@ -10,10 +10,6 @@ use Rattle.ppd_search.specs.Found.{if_found}
 use Rattle.ppd_search.specs.Shared.{Missing}
 use Rattle.ppd_walk.specs.SharedCells.{answer_of}
 
-abbrev ok_or : {A : Type 0} → A → Result A FlowError → A
-ok_or d (Ok x) = x
-ok_or d (Err e) = d
-
 abbrev ok_err : {A : Type 0} → FlowError → Result A FlowError
 ok_err e = Err e
 

@@ -1,6 +1,7 @@
 -- The edges of an event: those of its reads, then that of its pair, then control.
 use Rattle.std.proofs.Common.{◌≡◌, ℕ, List, [], ◌∷◌, ◌++◌, Option, Some, None, Result, Ok, Err, refl, ap, sym, ◌∙◌, subst}
 use Rattle.std.specs.Prelude.{option_to_list}
+use Rattle.std.proofs.lemmas.List.{append_assoc}
 use Rattle.ppd_sem.specs.declared.event.Access.{Access}
 use Rattle.ppd_sem.specs.declared.event.Event.{Event}
 use Rattle.ppd_model.specs.declared.flow.EdgeKind.TheVariants.{Control}
@@ -19,21 +20,14 @@ use Rattle.ppd_walk.specs.SharedCells.{answer_of, seens_in}
 use Rattle.ppd_local.specs.declared.search.Place.{Place}
 use Rattle.ppd_local.specs.declared.search.Search.{Search}
 use Rattle.ppd_local.specs.Searches.{IsControlFound}
+use Rattle.ppd_local.proofs.Joined.{the_ok}
 use Rattle.ppd_flow.specs.Answers.{pair_edge_at, pair_edge_if, pair_replays_at, reads_at, reads_replays_at}
 use Rattle.ppd_flow.proofs.Answered.{found_is, not_found, so_found}
 use Rattle.ppd_flow.proofs.Seens.{same_seen}
 
-assoc : (xs ys zs : List FlowEdge) → (xs ++ ys) ++ zs ≡ xs ++ (ys ++ zs)
-assoc [] ys zs = refl
-assoc (x ∷ xs) ys zs = ap (λ (es : List FlowEdge). x ∷ es) (assoc xs ys zs)
-
 by_pair : (o : Option Origin) (number : ℕ) → pair_edges o ≡ option_to_list (pair_edge_if (Some number) o)
 by_pair None number = refl
 by_pair (Some from) number = refl
-
-abbrev ok_in : {A : Type 0} → A → Result A FlowError → A
-ok_in d (Ok x) = x
-ok_in d (Err e) = d
 
 module _ (s : Search) (place : Place) (e : Event) where
   abbrev past : Past
@@ -109,13 +103,13 @@ module _ (s : Search) (place : Place) (e : Event) where
           → now ≡ (rs ++ option_to_list pe) ++ bare_edge Control co ∷ [] → IsEvent n o (Ok now)
       event_found co now f is =
           let c : IsFoundBy past control_list (Ok control) k o (Ok co) = control_here k o (Ok co) f in
-          let pairs : pair_edge_at s place e.number ≡ pe = ap (λ (z : Result (Option FlowEdge) FlowError). ok_in (pair_edge_at s place e.number) z) pair.1 in
-          let controls : control ≡ co = ap (λ (z : Result Origin FlowError). ok_in control z) c.1 in
+          let pairs : pair_edge_at s place e.number ≡ pe = ap (λ (z : Result (Option FlowEdge) FlowError). the_ok (pair_edge_at s place e.number) z) pair.1 in
+          let controls : control ≡ co = ap (λ (z : Result Origin FlowError). the_ok control z) c.1 in
           let sync : syncs ≡ option_to_list pe = syncs_are e.number ∙ ap (λ (z : Option FlowEdge). option_to_list z) pairs in
           let all : rs ++ more ≡ now =
           ap (λ (z : List FlowEdge). rs ++ (z ++ bare_edge Control control ∷ [])) sync
           ∙ (ap (λ (z : Origin). rs ++ (option_to_list pe ++ bare_edge Control z ∷ [])) controls
-          ∙ (sym (assoc rs (option_to_list pe) (bare_edge Control co ∷ [])) ∙ sym is)) in
+          ∙ (sym (append_assoc rs (option_to_list pe) (bare_edge Control co ∷ [])) ∙ sym is)) in
           after_reads rs n m o (Ok now) reads
           (so_found past (pair_list ++ control_list) (Ok control) (Ok (rs ++ more)) co now m o
           (found_then past pair_list control_list (Ok (pair_edge_at s place e.number)) (Ok control) pe m k o (Ok co) pair c)

@@ -1,3 +1,4 @@
+pub use Rattle.ppd_own_loops.proofs.OwnParts
 mod Answered
 mod Costing
 mod Events

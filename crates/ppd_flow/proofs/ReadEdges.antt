@@ -18,21 +18,9 @@ use Rattle.ppd_search.specs.Shared.{Missing}
 use Rattle.ppd_walk.specs.SharedCells.{answer_of, seens_in}
 use Rattle.ppd_local.specs.declared.search.Place.{Place}
 use Rattle.ppd_local.specs.declared.search.Search.{Search}
+use Rattle.ppd_local.proofs.Lefts.{prefixed_both, prefixed}
 use Rattle.ppd_flow.specs.Answers.{reads_at, reads_replays_at, spot_origin, spot_replays}
 use Rattle.ppd_flow.proofs.Answered.{found_is, not_found}
-
--- these edges, and then those of the answer
-abbrev pub prefixed : List FlowEdge → Result (List FlowEdge) FlowError → Result (List FlowEdge) FlowError
-prefixed es (Ok xs) = Ok (es ++ xs)
-prefixed es (Err e) = Err e
-
-assoc : (xs ys zs : List FlowEdge) → (xs ++ ys) ++ zs ≡ xs ++ (ys ++ zs)
-assoc [] ys zs = refl
-assoc (x ∷ xs) ys zs = ap (λ (es : List FlowEdge). x ∷ es) (assoc xs ys zs)
-
-prefixed_both : (es fs : List FlowEdge) (r : Result (List FlowEdge) FlowError) → prefixed (es ++ fs) r ≡ prefixed es (prefixed fs r)
-prefixed_both es fs (Ok xs) = ap (λ (ys : List FlowEdge). prefixed [] (Ok ys)) (assoc es fs xs)
-prefixed_both es fs (Err e) = refl
 
 not_ok : {A : Type 0} (q : Result A Missing) → answer_of q ≡ Err NoEvent → ⊥
 not_ok (Ok x) e = cc e

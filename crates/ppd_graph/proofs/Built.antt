@@ -18,6 +18,7 @@ use Rattle.ppd_graph.specs.ByNumber.{IsTwice}
 use Rattle.ppd_graph.specs.Cycles.{AllWait, IsCycle, IsRoundsCycle}
 use Rattle.ppd_graph.specs.Graphs.{IsGraphOf}
 use Rattle.ppd_model.specs.RecordedSets.{record_in, sync_in}
+use Rattle.ppd_model.proofs.Lists.{get_or_map}
 use Rattle.ppd_graph.specs.LogRecord.{AreFew, ended_by, found_after, sets_from, edge_sets_in}
 use Rattle.ppd_graph.specs.Partners.{pairs_of, partner_of}
 use Rattle.ppd_graph.specs.Refusals.{AreNumbered, AreOrdered, IsRefused, IsRefusedFor, placed, without_object}
@@ -27,28 +28,16 @@ use Rattle.ppd_graph.proofs.Leads.{length_mapped, partners_found, row_mapped}
 use Rattle.ppd_graph.proofs.Once.{once}
 use Rattle.ppd_graph.proofs.Order.{counts_rise, none_before_itself, order}
 use Rattle.ppd_graph.proofs.Timed.{own_below}
+use Rattle.ppd_graph.proofs.Counted.{kept_few}
 
 -- ---- lengths
 
-kept_few : {A B : Type 0} (f : A → Option B) (xs : List A) → length (filter_map f xs) ≤ length xs
-kept_few f [] = omega arith
-kept_few f (x ∷ xs) = by (f x) (kept_few f xs)
-  where
-    by : (o : Option _) → length (filter_map f xs) ≤ length xs → length (cons_option o (filter_map f xs)) ≤ suc (length xs)
-    by None h = omega (arith, h)
-    by (Some y) h = omega (arith, h)
-
-at_row : {A B : Type 0} (f : List A → List B) (rows : List (List A)) (q : ℕ) → f [] ≡ [] → get_or (map f rows) q [] ≡ f (get_or rows q [])
-at_row f [] q none = sym none
-at_row f (row ∷ rows) zero none = refl
-at_row f (row ∷ rows) (suc q) none = at_row f rows q none
-
-at_there : {A B : Type 0} (f : List A → List B) (rows : List (List A)) (q : ℕ) → q < length rows → get_or (map f rows) q [] ≡ f (get_or rows q [])
+pub at_there : {A B : Type 0} (f : List A → List B) (rows : List (List A)) (q : ℕ) → q < length rows → get_or (map f rows) q [] ≡ f (get_or rows q [])
 at_there f [] q lt = absurd (omega (arith, lt))
 at_there f (row ∷ rows) zero lt = refl
 at_there f (row ∷ rows) (suc q) lt = at_there f rows q (omega (arith, lt))
 
-sets_count : (found : Option EdgeSets) (es : List Entry) → length (sets_from found es) ≡ length (filter_map sync_in es) + 1
+pub sets_count : (found : Option EdgeSets) (es : List Entry) → length (sets_from found es) ≡ length (filter_map sync_in es) + 1
 sets_count found [] = refl
 sets_count found (e ∷ es) = by e (sets_count (found_after found e) es)
   where
@@ -62,7 +51,7 @@ sets_count found (e ∷ es) = by e (sets_count (found_after found e) es)
 
 module _ (logs : Logs) where
   own_syncs_are : (q : ℕ) → own_syncs (record_in logs) q ≡ filter_map sync_in (get_or logs.lists q [])
-  own_syncs_are q = at_row (filter_map sync_in) logs.lists q refl
+  own_syncs_are q = get_or_map (filter_map sync_in) logs.lists q refl
 
   pub syncs_few : AreFew logs.lists → (q : ℕ) → length (own_syncs (record_in logs) q) + 1 < 2 ^ 32
   syncs_few few q =

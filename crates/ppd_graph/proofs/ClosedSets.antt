@@ -2,6 +2,7 @@
 use Rattle.std.proofs.Common.{◌≡◌, ℕ, zero, suc, ◌<◌, List, [], ◌∷◌, ◌++◌, Some, None, true, false, refl, ap, ◌∙◌, arith, length, map, get_or, filter_map, true≢false, ◌||◌}
 use Rattle.std.specs.Prelude.{slice_get}
 use Rattle.std.specs.List.{cons_option, list_any, range_with_len}
+use Rattle.std.proofs.lemmas.Option.{slice_get-get_or}
 use Rattle.ppd_ast.specs.Valid.{IsValid}
 use Rattle.ppd_ast.specs.declared.plan.Plan.{Plan}
 use Rattle.ppd_ast.specs.declared.program.Program.{Program}
@@ -15,8 +16,10 @@ use Rattle.ppd_model.specs.RecordedSets.{RecordsAccesses, cells_in, last_edge, s
 use Rattle.ppd_model.specs.Story.{story}
 use Rattle.ppd_model.specs.declared.tracing.Story.{Story}
 use Rattle.ppd_model.proofs.RecordedSets.{record_sets}
+use Rattle.ppd_model.proofs.OneHistory.{map-map}
 use Rattle.ppd_graph.specs.declared.sets.EdgeSets.{EdgeSets}
 use Rattle.ppd_graph.specs.LogRecord.{edge_sets, edge_sets_in, ended_by, found_after, sets_from}
+use Rattle.ppd_graph.proofs.Built.{at_there}
 
 ended : List ℕ × List ℕ → EdgeSets
 ended t = edge_sets t.0 t.1
@@ -35,20 +38,6 @@ closed_sets (e ∷ es) status rest r w h = by e h (closed_sets es status rest r 
     by (entry.Postlog block values) k later = later k
     by (entry.End status' rest' reads writes) k later = absurd (true≢false k)
 
-map_both : {A B C : Type 0} (f : B → C) (g : A → B) (xs : List A) → map f (map g xs) ≡ map (λ x. f (g x)) xs
-map_both f g [] = refl
-map_both f g (x ∷ xs) = ap (λ r. f (g x) ∷ r) (map_both f g xs)
-
-got : {A : Type 0} (xs : List A) (i : ℕ) (d : A) → i < length xs → slice_get xs i ≡ Some (get_or xs i d)
-got [] i d h = absurd (omega (arith, h))
-got (x ∷ xs) zero d h = refl
-got (x ∷ xs) (suc i) d h = got xs i d (omega (arith, h))
-
-at_there : {A B : Type 0} (f : List A → List B) (rows : List (List A)) (q : ℕ) → q < length rows → get_or (map f rows) q [] ≡ f (get_or rows q [])
-at_there f [] q lt = absurd (omega (arith, lt))
-at_there f (row ∷ rows) zero lt = refl
-at_there f (row ∷ rows) (suc q) lt = at_there f rows q (omega (arith, lt))
-
 -- the sets of an edge in the run
 unfoldable pub run_sets : Story → ℕ → ℕ → EdgeSets
 run_sets s p i = edge_sets (cells_in s p i false) (cells_in s p i true)
@@ -63,10 +52,10 @@ row_sets program plan budget h valid p lt =
     let s = story program plan budget h in
     let entries = get_or (closed_logs program plan budget h).lists p [] in
     let r : RecordsAccesses s p entries =
-    record_sets program plan budget h p entries valid (got (closed_logs program plan budget h).lists p [] lt) in
+    record_sets program plan budget h p entries valid (slice_get-get_or (closed_logs program plan budget h).lists p [] lt) in
     at_there (sets_from None) (closed_logs program plan budget h).lists p lt
     ∙ ap (sets_from None) r.entries_are
     ∙ closed_sets r.before r.status r.rest (cells_in s p (last_edge s p) false) (cells_in s p (last_edge s p) true) r.no_end
     ∙ ap (λ x. map ended x ++ edge_sets (cells_in s p (last_edge s p) false) (cells_in s p (last_edge s p) true) ∷ []) r.syncs_are
     ∙ ap (λ x. x ++ edge_sets (cells_in s p (last_edge s p) false) (cells_in s p (last_edge s p) true) ∷ [])
-    (map_both ended (recorded.sets_in s p) (range_with_len 0 (last_edge s p)))
+    (map-map ended (recorded.sets_in s p) (range_with_len 0 (last_edge s p)))

@@ -5,7 +5,7 @@ use Rattle.std.specs.List.{cons_option, range_with_len, sum_by}
 use Rattle.std.proofs.Math.Nat.{add-mul, mul-add}
 use Rattle.std.proofs.lemmas.List.Sums.{sum_by-cons, sum_by_push}
 use Rattle.std.proofs.lemmas.Nat.{mul-le}
-use Rattle.std.proofs.lemmas.List.{drop_more, length-append, length-map}
+use Rattle.std.proofs.lemmas.List.{drop_more, length-append, length-map, append_assoc}
 use Rattle.ppd_ast.specs.declared.program.Program.{Program}
 use Rattle.ppd_entry.specs.declared.entry.Entry.{Entry}
 use Rattle.ppd_entry.specs.declared.entry.Logs.{Logs}
@@ -19,7 +19,7 @@ use Rattle.ppd_graph.specs.Refusals.{count_on, place, placed_from, placed_lists}
 use Rattle.ppd_graph.specs.Spending.{entries_in, graph_cost, list_cost, pairing_cost, pass_cost, times_cost}
 use Rattle.ppd_graph.specs.Times.{untimed}
 
-range_more : (a n : ℕ) → range_with_len a (suc n) ≡ range_with_len a n ++ (a + n) ∷ []
+pub range_more : (a n : ℕ) → range_with_len a (suc n) ≡ range_with_len a n ++ (a + n) ∷ []
 range_more a zero = let e : a ≡ a + zero = omega arith in ap (λ x. x ∷ []) e
 range_more a (suc n) =
     let e : (a + 1) + n ≡ a + suc n = omega arith in
@@ -70,24 +70,20 @@ times_within n m k old steps now within last =
 
 -- ---- lists that grow
 
-after : {A : Type 0} (xs ys zs : List A) → (xs ++ ys) ++ zs ≡ xs ++ (ys ++ zs)
-after [] ys zs = refl
-after (x ∷ xs) ys zs = ap (λ r. x ∷ r) (after xs ys zs)
-
 pub placed_more : (lists : List (List Entry)) (p : ℕ) (d : List Entry) (now new all : List Placed) → p < length lists → now ++ placed_lists p (drop p lists) ≡ all → new ≡ now ++ placed_from p 0 0 (get_or lists p d)
     → new ++ placed_lists (p + 1) (drop (p + 1) lists) ≡ all
 placed_more lists p d now new all lt h e =
-    ap (λ r. r ++ placed_lists (p + 1) (drop (p + 1) lists)) e ∙ after now (placed_from p 0 0 (get_or lists p d)) (placed_lists (p + 1) (drop (p + 1) lists))
+    ap (λ r. r ++ placed_lists (p + 1) (drop (p + 1) lists)) e ∙ append_assoc now (placed_from p 0 0 (get_or lists p d)) (placed_lists (p + 1) (drop (p + 1) lists))
     ∙ ap (λ ys. now ++ placed_lists p ys) (sym (drop_more lists p d lt)) ∙ h
 
 pub mapped_more : {A B : Type 0} (f : A → B) (xs : List A) (i : ℕ) (d : A) (now new all : List B) → i < length xs → now ++ map f (drop i xs) ≡ all → new ≡ now ++ f (get_or xs i d) ∷ [] → new ++ map f (drop (i + 1) xs) ≡ all
 mapped_more f xs i d now new all lt h e =
-    ap (λ r. r ++ map f (drop (i + 1) xs)) e ∙ after now (f (get_or xs i d) ∷ []) (map f (drop (i + 1) xs)) ∙ ap (λ ys. now ++ map f ys) (sym (drop_more xs i d lt)) ∙ h
+    ap (λ r. r ++ map f (drop (i + 1) xs)) e ∙ append_assoc now (f (get_or xs i d) ∷ []) (map f (drop (i + 1) xs)) ∙ ap (λ ys. now ++ map f ys) (sym (drop_more xs i d lt)) ∙ h
 
 pub mapped_twice : {A B C : Type 0} (g : B → C) (f : A → B) (xs : List A) (i : ℕ) (d : A) (now new all : List C) → i < length xs → now ++ map g (map f (drop i xs)) ≡ all → new ≡ now ++ g (f (get_or xs i d)) ∷ []
     → new ++ map g (map f (drop (i + 1) xs)) ≡ all
 mapped_twice g f xs i d now new all lt h e =
-    ap (λ r. r ++ map g (map f (drop (i + 1) xs))) e ∙ after now (g (f (get_or xs i d)) ∷ []) (map g (map f (drop (i + 1) xs)))
+    ap (λ r. r ++ map g (map f (drop (i + 1) xs))) e ∙ append_assoc now (g (f (get_or xs i d)) ∷ []) (map g (map f (drop (i + 1) xs)))
     ∙ ap (λ ys. now ++ map g (map f ys)) (sym (drop_more xs i d lt)) ∙ h
 
 -- ---- entries
@@ -120,11 +116,11 @@ passes (xs ∷ lists) =
     let two = sum_by-cons length xs lists in
     omega (arith, rest, one, two)
 
-few_kept : {A B : Type 0} (f : A → Option B) (xs : List A) → length (filter_map f xs) ≤ length xs
-few_kept f [] = omega arith
-few_kept {B = B} f (x ∷ xs) = by (f x) (few_kept f xs)
+pub kept_few : {A B : Type 0} (f : A → Option B) (xs : List A) → length (filter_map f xs) ≤ length xs
+kept_few f [] = omega arith
+kept_few f (x ∷ xs) = by (f x) (kept_few f xs)
   where
-    by : (o : Option B) → length (filter_map f xs) ≤ length xs → length (cons_option o (filter_map f xs)) ≤ length (x ∷ xs)
+    by : (o : Option _) → length (filter_map f xs) ≤ length xs → length (cons_option o (filter_map f xs)) ≤ suc (length xs)
     by None h = omega (arith, h)
     by (Some y) h = omega (arith, h)
 
@@ -132,7 +128,7 @@ rows_within : {B : Type 0} (g : Sync → B) (lists : List (List Entry)) → sum_
 rows_within g [] = omega arith
 rows_within {B = B} g (xs ∷ lists) =
     let rest = rows_within {B = B} g lists in
-    let here = few_kept sync_in xs in
+    let here = kept_few sync_in xs in
     let same = length-map (filter_map sync_in xs) g in
     let one = sum_by-cons length (map g (filter_map sync_in xs)) (map (map g) (map (filter_map sync_in) lists)) in
     let two = sum_by-cons length xs lists in

@@ -17,10 +17,10 @@ use Rattle.ppd_graph.specs.Partners.{IsOnce, PartnersAreFound, found, found_from
 use Rattle.ppd_graph.specs.Refusals.{same_sync}
 use Rattle.ppd_graph.specs.Times.{ArePartners, node_of, pair_at}
 
-some_is : {A : Type 0} (x y : A) → Some x ≡ Some y → x ≡ y
+pub some_is : {A : Type 0} (x y : A) → Some x ≡ Some y → x ≡ y
 some_is x y e = ap (λ o. unwrap_or o x) e
 
-none_some : {A : Type 0} (x : A) → None ≡ Some x → ⊥
+pub none_some : {A : Type 0} (x : A) → None ≡ Some x → ⊥
 none_some x e = true≢false (ap is_some (sym e))
 
 -- ---- which leads to which

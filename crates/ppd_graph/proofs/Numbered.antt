@@ -8,6 +8,7 @@ use Rattle.ppd_ast.specs.declared.program.Program.{Program}
 use Rattle.ppd_ast.specs.declared.status.SyncKind.{SyncKind}
 use Rattle.ppd_ast.specs.declared.status.SyncKind.TheVariants.{P, V, Send, Recv, Done}
 use Rattle.ppd_ast.specs.Members.{has}
+use Rattle.ppd_ast.specs.Counting.{one_if}
 use Rattle.ppd_model.specs.FullTrace.{or_else}
 use Rattle.ppd_model.specs.Synchronizations.{Sync}
 use Rattle.ppd_sem.specs.Tables.{capacity_of}
@@ -123,19 +124,15 @@ none_first f (suc n) a e o le lt = elim (cases_eq a o) [
 
 -- ---- over all objects
 
-abbrev bit : Bool → ℕ
-bit true = 1
-bit false = 0
-
 module _ (kind : SyncKind) where
   one : Sync → ℕ → ℕ
-  one s o = bit (same_kind s.kind kind && nat_eq s.object o)
+  one s o = one_if (same_kind s.kind kind && nat_eq s.object o)
 
   one_other : (s : Sync) (o : ℕ) → (s.object ≡ o → ⊥) → one s o ≡ 0
   unfolding one
   one_other s o d = by (same_kind s.kind kind) (nat_eq s.object o) (ne_eqb s.object o d)
     where
-      by : (b c : Bool) → c ≡ false → bit (b && c) ≡ 0
+      by : (b c : Bool) → c ≡ false → one_if (b && c) ≡ 0
       by true true e = absurd (true≢false e)
       by true false e = refl
       by false c e = refl
@@ -144,7 +141,7 @@ module _ (kind : SyncKind) where
   unfolding one
   one_within s o = by (same_kind s.kind kind && nat_eq s.object o)
     where
-      by : (b : Bool) → bit b ≤ 1
+      by : (b : Bool) → one_if b ≤ 1
       by true = omega arith
       by false = omega arith
 
@@ -171,7 +168,7 @@ module _ (kind : SyncKind) where
   unfolding one
   counted s syncs o = by (same_kind s.kind kind && nat_eq s.object o)
     where
-      by : (b : Bool) → length (cons_option (if b then Some s.number else None) (numbers_of kind o syncs)) ≡ bit b + length (numbers_of kind o syncs)
+      by : (b : Bool) → length (cons_option (if b then Some s.number else None) (numbers_of kind o syncs)) ≡ one_if b + length (numbers_of kind o syncs)
       by true = omega arith
       by false = omega arith
 

@@ -7,15 +7,11 @@ use Rattle.ppd_model.specs.declared.graph.EdgeId.{EdgeId}
 use Rattle.ppd_model.specs.declared.graph.NodeId.{NodeId}
 use Rattle.ppd_model.specs.Synchronizations.{Sync, leads_at}
 use Rattle.ppd_model.specs.HappenedBefore.{Before, EdgeBefore, across, earlier, is_direct, is_next, node, own_syncs, sync_at, through}
+use Rattle.ppd_model.proofs.Tested.{leads_there}
 use Rattle.ppd_graph.specs.declared.paired.Paired.{Paired}
 use Rattle.ppd_graph.specs.Graphs.{before_by, count_at}
 use Rattle.ppd_graph.specs.Times.{ArePartners, HasAll, IsDone, IsTimed, UpTo, time_at}
 use Rattle.ppd_graph.proofs.Timed.{below_there, last_step, own_order}
-
-leads_there : (program : Program) (a b : Option Sync) → IsTrue (leads_at program a b) → IsTrue (is_some b)
-leads_there program (Some a) (Some b) h = refl
-leads_there program (Some a) None h = h
-leads_there program None b h = absurd (true≢false (sym h))
 
 -- all below the first are below the second
 no_more : (m n : ℕ) → ((i : ℕ) → i < m → i < n) → m ≤ n

@@ -8,7 +8,8 @@ use Rattle.ppd_ast.specs.declared.status.SyncKind.TheVariants.{P, V, Send, Recv,
 use Rattle.ppd_entry.specs.declared.entry.Entry.{Entry}
 use Rattle.ppd_entry.specs.declared.entry.Entry.TheVariants as entry
 use Rattle.ppd_entry.specs.declared.entry.Logs.{Logs}
-use Rattle.ppd_graph.specs.Refusals.{at_entry, missing, placed, sync_placed, twice_after, without_object}
+use Rattle.ppd_entry.specs.Entries.{at_entry}
+use Rattle.ppd_graph.specs.Refusals.{missing, placed, sync_placed, twice_after, without_object}
 
 objects : List Sem → List Chan → Program
 objects sems chans = record { exprs = []; stmts = []; bodies = []; functions = 0; shared = []; starts = []; sems = sems; chans = chans }

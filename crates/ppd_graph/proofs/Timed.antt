@@ -8,6 +8,7 @@ use Rattle.ppd_model.specs.declared.graph.NodeId.{NodeId}
 use Rattle.ppd_model.specs.Synchronizations.{Sync, leads_at}
 use Rattle.ppd_model.specs.HappenedBefore.{Before, direct, is_direct, is_next, node, own_syncs, sync_at, through}
 use Rattle.ppd_model.specs.World.{change}
+use Rattle.ppd_model.proofs.Changes.{length-change}
 use Rattle.ppd_graph.specs.declared.paired.Paired.{Paired}
 use Rattle.ppd_graph.specs.Times.{ArePartners, AreTimed, IsDone, IsReady, IsTimed, UpTo, untimed, next_count, next_of, next_time, node_of, own_times, pair_at, time_at, time_before, time_of, time_paired, with_time}
 use Rattle.ppd_graph.proofs.Rows.{left_less, length_replicated, no_items, none_at}
@@ -28,11 +29,6 @@ at_other f zero zero (x ∷ xs) d = absurd (d refl)
 at_other f zero (suc r) (x ∷ xs) d = refl
 at_other f (suc q) zero (x ∷ xs) d = refl
 at_other f (suc q) (suc r) (x ∷ xs) d = at_other f q r xs (λ e. d (ap suc e))
-
-pub length_changed : {A : Type 0} (f : A → A) (q : ℕ) (xs : List A) → length (change f q xs) ≡ length xs
-length_changed f q [] = refl
-length_changed f zero (x ∷ xs) = refl
-length_changed f (suc q) (x ∷ xs) = ap suc (length_changed f q xs)
 
 pub length_more : {A : Type 0} (xs : List A) (x : A) → length (xs ++ x ∷ []) ≡ length xs + 1
 length_more [] x = refl
@@ -320,7 +316,7 @@ module _ (program : Program) (syncs : List (List Sync)) where
       pub timed_more : IsTimed program syncs (with_time q (next_time pairs times q) times)
       unfolding after
       timed_more = record {
-        processes = length_changed (λ row. row ++ next_time pairs times q ∷ []) q times ∙ o.processes;
+        processes = length-change (λ row. row ++ next_time pairs times q ∷ []) q times ∙ o.processes;
         within = within_after;
         closed = λ a b h done. elim (done_cases b done) [
           | inl old ↦ done_still a (o.closed a b h old)
@@ -360,7 +356,7 @@ pub went_on : (pairs : List (List Paired)) (times seen again later : List (List 
     → (length later ≡ length pairs) × AreTimed pairs later
 went_on pairs times seen again later added q e e' long o r is now =
     let is' : later ≡ with_time q (next_time pairs times q) times = now ∙ ap (λ t. with_time q t times) (is ∙ ap (λ ts. next_time pairs ts q) e') in (
-      ap length is' ∙ length_changed (λ row. row ++ next_time pairs times q ∷ []) q times ∙ long,
+      ap length is' ∙ length-change (λ row. row ++ next_time pairs times q ∷ []) q times ∙ long,
       subst (AreTimed pairs) (sym is') (timed_one_more pairs times q (subst (λ ts. IsReady pairs ts q) e r) o),
     )
 

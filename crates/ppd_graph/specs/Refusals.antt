@@ -9,7 +9,7 @@ use Rattle.ppd_ast.specs.Members.{has}
 use Rattle.ppd_entry.specs.declared.entry.At.{At}
 use Rattle.ppd_entry.specs.declared.entry.Entry.{Entry}
 use Rattle.ppd_entry.specs.declared.entry.Logs.{Logs}
-use Rattle.ppd_entry.specs.Entries.{same_kind}
+use Rattle.ppd_entry.specs.Entries.{same_kind, at_entry}
 use Rattle.ppd_model.specs.declared.graph.NodeId.{NodeId}
 use Rattle.ppd_model.specs.FullTrace.{or_else}
 use Rattle.ppd_model.specs.HappenedBefore.{Before, node}
@@ -25,9 +25,6 @@ use Rattle.ppd_graph.specs.Cycles.{IsCycle}
 use Rattle.ppd_model.specs.RecordedSets.{record_in, sync_in}
 
 -- ---- the synchronizations with their places
-
-abbrev pub at_entry : ℕ → ℕ → At
-at_entry p e = record { process = p; entry = e }
 
 -- the synchronization itself
 abbrev pub sync_placed : Placed → Sync

@@ -9,7 +9,7 @@ ghost use Rattle.ppd_graph.specs.Refusals.{AreNumbered, AreOrdered, IsRefused, I
 
 use crate::by_number::{ByNumber, keep_all};
 use crate::greatest::Greatest;
-use crate::missing::{Numbers, capacity_of};
+use crate::missing::Numbers;
 use crate::paired::Paired;
 use crate::partners::all_pairs;
 use crate::placed::{Placed, all_placed};
@@ -21,6 +21,7 @@ use crate::times::all_times;
 use ppd_ast::limits::MOST_NAMED;
 use ppd_ast::{Memory, Program, Seq, Steps, SyncKind};
 use ppd_entry::{At, Entry, Logs};
+use ppd_sem::capacity_of;
 use std::alloc::Global;
 use std::marker::Brand;
 use std::sync::ledger::{Blank, Ledger};

@@ -40,7 +40,7 @@ fn put(nodes: &mut Nodes, object: u8, number: u32, node: NodeId) -> Result<(), M
 pub(crate) fn start_of(program: &Program, sem: u8) -> u32
     ensures { result ≡ start_in_program program.now sem }
 {
-    match program.sems.as_slice().get(sem as usize) {
+    match program.sems.get(sem as usize) {
         Some(sem) => sem.start,
         None => 0,
     }

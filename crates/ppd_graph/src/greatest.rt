@@ -1,11 +1,11 @@
 ghost use Rattle.std.specs.Prelude.{◌≡◌, ◌≤◌, ◌+◌, ◌*◌, ℕ, ◌∷◌, [], get_or, length, IfOk};
 ghost use Rattle.ppd_graph.specs.ByNumber.{AllGreatest, AreGreatest, greatest_kept};
-ghost use Rattle.ppd_entry.specs.Entries.{same_kind as is_same_kind};
 ghost use Rattle.ppd_graph.specs.Refusals.{greatest as greatest_among, numbers_of, sync_placed};
 
 use crate::placed::Placed;
 use ppd_ast::limits::MOST_NAMED;
 use ppd_ast::{Ids, Memory, Steps, SyncKind};
+use ppd_entry::same_kind;
 use std::alloc::Global;
 use std::sync::ledger::Ledger;
 
@@ -17,19 +17,6 @@ pub(crate) struct Greatest {
     sends: Ids,
     receives: Ids,
     completions: Ids,
-}
-
-fn same_kind(a: SyncKind, b: SyncKind) -> bool
-    ensures { result ≡ is_same_kind a b }
-{
-    matches!(
-        (a, b),
-        (SyncKind::P, SyncKind::P)
-            | (SyncKind::V, SyncKind::V)
-            | (SyncKind::Send, SyncKind::Send)
-            | (SyncKind::Recv, SyncKind::Recv)
-            | (SyncKind::Done, SyncKind::Done)
-    )
 }
 
 #[tactic(auto, using(crate::proofs::Searched::zero_more))]
@@ -83,7 +70,7 @@ fn greatest_of<L: Ledger>(
 fn number_at(numbers: &Ids, object: u8) -> u32
     ensures { result ≡ get_or numbers.now object 0 }
 {
-    match numbers.as_slice().get(object as usize) {
+    match numbers.get(object as usize) {
         Some(number) => *number,
         None => 0,
     }

@@ -9,6 +9,7 @@ use crate::by_number::{ByNumber, start_of};
 use crate::greatest::Greatest;
 use ppd_ast::limits::MOST_NAMED;
 use ppd_ast::{Program, Steps, SyncKind};
+use ppd_sem::capacity_of;
 use std::sync::ledger::Ledger;
 
 /// A synchronization that is not there: its kind, its object and its number.
@@ -36,16 +37,6 @@ fn count_of(program: &Program, objects: Objects) -> usize
     match objects {
         Objects::Semaphores => program.sems.len(),
         Objects::Channels => program.chans.len(),
-    }
-}
-
-/// How many values a channel holds, and 0 past the table.
-pub(crate) fn capacity_of(program: &Program, chan: u8) -> u8
-    ensures { result ≡ capacity_in_program program.now chan }
-{
-    match program.chans.as_slice().get(chan as usize) {
-        Some(chan) => chan.capacity,
-        None => 0,
     }
 }
 

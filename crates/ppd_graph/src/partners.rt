@@ -7,10 +7,10 @@ ghost use Rattle.ppd_graph.specs.Partners.{listed, named, paired_by as paired_as
 ghost use Rattle.ppd_model.specs.Numbers.{sync};
 
 use crate::by_number::ByNumber;
-use crate::missing::capacity_of;
 use crate::paired::Paired;
 use ppd_ast::{Memory, Program, Seq, Steps, SyncKind};
 use ppd_entry::Entry;
+use ppd_sem::capacity_of;
 use std::alloc::Global;
 use std::sync::ledger::Ledger;
 

@@ -68,9 +68,9 @@ fn place_own<L: Ledger>(
     ensures placed { OnOk result (placed.new ≡ placed.old ++ placed_from process 0 0 entries.now) }
 {
     let mut sync = 0;
-    for index in 0..entries.len() {
+    for (index, entry) in entries.iter().enumerate() {
         steps.tick();
-        sync = place_one(placed, process, index as u32, sync, &entries[index])?;
+        sync = place_one(placed, process, index as u32, sync, entry)?;
     }
     Ok(())
 }
@@ -87,9 +87,9 @@ pub(crate) fn all_placed<L: Ledger>(
     ensures cost { steps.new ≤ steps.old + sum_by list_cost lists.now }
 {
     let mut placed = Seq::new(alloc);
-    for process in 0..lists.len() {
+    for (process, list) in lists.iter().enumerate() {
         steps.tick();
-        place_own(&mut placed, process as u8, lists[process].as_slice(), steps)?;
+        place_own(&mut placed, process as u8, list.as_slice(), steps)?;
     }
     Ok(placed)
 }

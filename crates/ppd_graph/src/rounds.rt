@@ -102,8 +102,8 @@ fn least_place(round: &[u8]) -> usize
     ensures least { AreAtLeast (get_or round.now result 0) round.now }
 {
     let mut least = 0;
-    for index in 0..round.len() {
-        if round[index] < round[least] {
+    for (index, process) in round.iter().enumerate() {
+        if *process < round[least] {
             least = index;
         }
     }
@@ -167,9 +167,9 @@ fn nodes_of(
     ensures { IfOk result (λ nodes. nodes ≡ cycle_of pairs.now times.now round.now) }
 {
     let mut nodes = Seq::new(alloc);
-    for index in 0..round.len() {
+    for (index, process) in round.iter().enumerate() {
         let next = next_in(round, index);
-        push_run(&mut nodes, pairs, times, round[index], next)?;
+        push_run(&mut nodes, pairs, times, *process, next)?;
     }
     Ok(nodes)
 }

@@ -1,10 +1,10 @@
-ghost use Rattle.std.specs.Prelude.{◌≡◌, IsTrue, ◌<◌, ◌^◌, ℕ, ◌+◌, length, get_or};
+ghost use Rattle.std.specs.Prelude.{◌≡◌, IsTrue, ◌<◌, ◌^◌};
 ghost use Rattle.ppd_graph.specs.Graphs.{IsEdge, count_at, edge_count, is_before_by, reads_in, writes_in};
-ghost use Rattle.ppd_graph.specs.Times.{pair_at, time_at};
-ghost use Rattle.ppd_model.specs.HappenedBefore.{node};
+ghost use Rattle.ppd_graph.specs.Times.{pair_at};
 
 use crate::paired::Paired;
 use crate::sets::EdgeSets;
+use crate::times::{count_at, partner_at};
 use ppd_ast::{Ids, Seq};
 use ppd_model::{EdgeId, NodeId};
 
@@ -17,29 +17,13 @@ pub struct SyncGraph {
     pub(crate) pairs: Seq<Seq<Paired>>,
 }
 
-// The count for process p of synchronization j of process q, and 0 past the lists.
-fn time_count(times: &[Seq<Ids>], q: u8, j: u32, p: u8) -> u32
-    ensures { result ≡ time_at times.now (node q j) p }
-{
-    let Some(own) = times.get(q as usize) else {
-        return 0;
-    };
-    let Some(time) = own.as_slice().get(j as usize) else {
-        return 0;
-    };
-    match time.as_slice().get(p as usize) {
-        Some(count) => *count,
-        None => 0,
-    }
-}
-
 impl SyncGraph {
     /// How many internal edges a process has: one more than its synchronizations; 0 past the processes.
     pub fn edges(&self, p: u8) -> u32
         requires { edge_count self.now p < 2 ^ 32 }
         ensures { result ≡ edge_count self.now p }
     {
-        match self.edges.as_slice().get(p as usize) {
+        match self.edges.get(p as usize) {
             Some(own) => own.len() as u32,
             None => 0,
         }
@@ -52,7 +36,12 @@ impl SyncGraph {
         if e.edge == 0 {
             return 0;
         }
-        time_count(self.times.as_slice(), e.process, e.edge - 1, process)
+        count_at(
+            self.times.as_slice(),
+            e.process as usize,
+            e.edge as usize - 1,
+            process as usize,
+        )
     }
 
     /// Whether edge `a` is before edge `b`: Lamport's happened-before (1978), by one number of a vector time.
@@ -97,12 +86,6 @@ impl SyncGraph {
     pub fn paired(&self, n: NodeId) -> Paired
         ensures { result ≡ pair_at self.now.pairs n }
     {
-        let Some(own) = self.pairs.as_slice().get(n.process as usize) else {
-            return Paired::Nothing;
-        };
-        match own.as_slice().get(n.sync as usize) {
-            Some(partner) => *partner,
-            None => Paired::Nothing,
-        }
+        partner_at(self.pairs.as_slice(), n.process as usize, n.sync as usize)
     }
 }

@@ -39,7 +39,7 @@ pub(crate) fn partner_at(pairs: &[Seq<Paired>], q: usize, j: usize) -> Paired
     let Some(own) = pairs.get(q) else {
         return Paired::Nothing;
     };
-    match own.as_slice().get(j) {
+    match own.get(j) {
         Some(partner) => *partner,
         None => Paired::Nothing,
     }
@@ -110,16 +110,16 @@ fn next_time<L: Ledger>(
 }
 
 // The count for process p of a synchronization of a process, and 0 past the lists.
-fn count_at(times: &[Seq<Ids>], q: usize, j: usize, p: usize) -> u32
+pub(crate) fn count_at(times: &[Seq<Ids>], q: usize, j: usize, p: usize) -> u32
     ensures { result ≡ time_at times.now (node q j) p }
 {
     let Some(own) = times.get(q) else {
         return 0;
     };
-    let Some(time) = own.as_slice().get(j) else {
+    let Some(time) = own.get(j) else {
         return 0;
     };
-    match time.as_slice().get(p) {
+    match time.get(p) {
         Some(count) => *count,
         None => 0,
     }

@@ -5,6 +5,7 @@ use Rattle.std.specs.Prelude.{IsTrue, is_some, nat_eq, option_to_list}
 use Rattle.ppd_ast.specs.declared.program.Program.{Program}
 use Rattle.ppd_ast.specs.declared.status.SyncKind.{SyncKind}
 use Rattle.ppd_ast.specs.declared.status.SyncKind.TheVariants.{P, V, Send, Recv, Done}
+use Rattle.ppd_ast.proofs.ValidLaws.{slice_get_below}
 use Rattle.ppd_sem.specs.Tables.{capacity_of}
 use Rattle.ppd_sem.specs.declared.proc.Proc.{Proc}
 use Rattle.ppd_model.specs.declared.graph.NodeId.{NodeId}
@@ -12,7 +13,6 @@ use Rattle.ppd_model.specs.HappenedBefore.{is_direct, is_next, own_syncs, sync_a
 use Rattle.ppd_model.specs.Story.{steps_of}
 use Rattle.ppd_model.specs.Synchronizations.{Sync, is_number, leads_at, led_to, syncs_of}
 use Rattle.ppd_model.specs.World.{change}
-use Rattle.ppd_model.proofs.Lists.{below_at}
 
 -- ---- one more at the end of one list
 
@@ -72,7 +72,7 @@ module _ (program : Program) (syncs : List (List Sync)) where
   ]
 
   some_there : (a : NodeId) (o : Option Sync) → sync_at syncs a ≡ o → IsTrue (is_some o) → a.sync < length (own_syncs syncs a.process)
-  some_there a (Some s) e h = below_at (own_syncs syncs a.process) a.sync s e
+  some_there a (Some s) e h = slice_get_below (own_syncs syncs a.process) a.sync s e
   some_there a None e h = absurd (true≢false (sym h))
 
   led_some : (x y : Option Sync) → IsTrue (leads_at program x y) → IsTrue (is_some y)

@@ -1,5 +1,5 @@
 -- An offer is to a channel of capacity 0, and so is each completion of a schedule.
-use Rattle.std.proofs.Common.{◌≡◌, ℕ, zero, suc, ◌+◌, ℤ, Bool, true, false, nat_lt, List, [], ◌∷◌, ◌++◌, length, map, get_or, Option, Some, None, Ok, Err, refl, ap, sym, ◌∙◌, subst, if◌then◌else◌}
+use Rattle.std.proofs.Common.{◌≡◌, ℕ, zero, suc, ◌+◌, ℤ, Bool, true, false, nat_lt, List, [], ◌∷◌, ◌++◌, length, Option, Some, None, Ok, Err, refl, ap, sym, ◌∙◌, subst, if◌then◌else◌}
 use Rattle.std.specs.List.{cons_option}
 use Rattle.std.specs.Prelude.{slice_get, ⊤}
 use Rattle.std.proofs.lemmas.List.{append_assoc}
@@ -30,6 +30,7 @@ use Rattle.ppd_model.specs.Story.{own_steps, story}
 use Rattle.ppd_model.specs.Synchronizations.{Sync, kind_of_sync, numbered, sync_of, syncs_of}
 use Rattle.ppd_model.proofs.LocalTags.{own_steps_told}
 use Rattle.ppd_model.proofs.Rendezvous.{completions_offered}
+use Rattle.ppd_model.proofs.Accesses.{record_at}
 
 -- ---- an offer
 
@@ -145,11 +146,6 @@ completes (need.Recv c u) None o k e = absurd (none-some (sync Done o k) e)
 completes (need.Recv c u) (Some m) o k e = let no : Recv ≡ Done = ap (kind_in Recv) e in absurd (cc)
 completes n number o k e = absurd (none-some (sync Done o k) e)
 
-own_syncs_at : (steps : List (List Taken)) (p : ℕ) → get_or (map syncs_of steps) p [] ≡ syncs_of (get_or steps p [])
-own_syncs_at [] p = refl
-own_syncs_at (xs ∷ rest) zero = refl
-own_syncs_at (xs ∷ rest) (suc p) = own_syncs_at rest p
-
 -- the channel of the offer just before a step
 offer_before : (program : Program) (plan : Plan) (s : Proc) (steps before earlier : List Taken) (x y : Taken) (after : List Taken) (c : ℕ) (v : ℤ)
     → AreOwn program plan s steps → steps ≡ before ++ y ∷ after → before ≡ earlier ++ x ∷ [] → x.need ≡ need.Offer c v → capacity_of program c ≡ 0
@@ -170,4 +166,4 @@ module _ (program : Program) (plan : Plan) (budget : ℕ) (h : List ℕ) where
   pub completed_at_none : (a : NodeId) (o k : ℕ) → sync_at (sync_record program plan budget h) a ≡ Some (sync Done o k) → capacity_of program o ≡ 0
   completed_at_none a o k e =
       completes_at_none a.process o k
-      (step_of (own_steps (story program plan budget h) a.process) a.sync (sync Done o k) (ap (λ ss. slice_get ss a.sync) (sym (own_syncs_at (story program plan budget h).steps a.process)) ∙ e))
+      (step_of (own_steps (story program plan budget h) a.process) a.sync (sync Done o k) (ap (λ ss. slice_get ss a.sync) (sym (record_at (story program plan budget h).steps a.process)) ∙ e))

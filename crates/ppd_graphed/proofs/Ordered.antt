@@ -29,7 +29,7 @@ ordered program plan budget h w runs = record {
 
 -- ---- no refusal
 
-way_before : (program : Program) (rows : List (List Sync)) (a : NodeId) (way : List NodeId) (z : NodeId) → IsWay program rows a way z → Before program rows a z
+pub way_before : (program : Program) (rows : List (List Sync)) (a : NodeId) (way : List NodeId) (z : NodeId) → IsWay program rows a way z → Before program rows a z
 way_before program rows a [] z d = direct d
 way_before program rows a (b ∷ bs) z w = through (direct w.0) (way_before program rows b bs z w.1)
 

@@ -8,13 +8,14 @@ use Rattle.ppd_ast.specs.declared.program.Program.{Program}
 use Rattle.ppd_entry.specs.declared.entry.Entry.{Entry}
 use Rattle.ppd_entry.specs.Entries.{is_end}
 use Rattle.ppd_model.specs.FullTrace.{or_else}
+use Rattle.ppd_model.proofs.Extents.{one_longer}
 use Rattle.ppd_index.specs.declared.refusal.BadLog.{BadLog}
 use Rattle.ppd_index.specs.declared.refusal.BadLog.TheVariants.{Unpaired, NoEnd, AfterEnd, WrongValues, Memory}
 use Rattle.ppd_index.specs.declared.standing.Standing.{Standing}
 use Rattle.ppd_index.specs.Refusals.{IsRefused, first_bad, first_from, refusal, standing, unended}
 use Rattle.ppd_index.specs.Tables.{Tabled, begun_table, standing_in, table_step}
 use Rattle.ppd_index.proofs.Rows.{depth_same, innermost_same}
-use Rattle.ppd_index.proofs.Tabled.{here, indexed_step, indexing_of, one_on, shifted}
+use Rattle.ppd_index.proofs.Tabled.{here, indexed_step, indexing_of, shifted}
 
 -- the first refusal of these entries after the table's
 abbrev pub first_by : Plan → ℕ → ℕ → Tabled → Bool → List Entry → Option BadLog
@@ -30,7 +31,7 @@ found_fold : (plan : Plan) (body p : ℕ) (entries done rest : List Entry) (t : 
 found_fold plan body p entries done [] t ended is at = refl
 found_fold plan body p entries done (e ∷ es) t ended is at =
     ap₂ (λ (s : Standing) (later : Option BadLog). or_else (refusal plan body p s e) later) (standing_same entries t ended)
-    (found_fold plan body p entries (done ++ e ∷ []) es (table_step plan t e) (ended || is_end e) (shifted entries done es e is) (one_on done e t.entry at)
+    (found_fold plan body p entries (done ++ e ∷ []) es (table_step plan t e) (ended || is_end e) (shifted entries done es e is) (one_longer done e t.entry at)
     ∙ ap (λ x. first_from plan body p x (ended || is_end e) es) (indexed_step plan entries t e (here entries done es e t.entry is at)))
 
 pub found_first : (program : Program) (plan : Plan) (p : ℕ) (entries : List Entry) → first_by plan (program.functions + p) p begun_table false entries ≡ first_bad program plan p entries

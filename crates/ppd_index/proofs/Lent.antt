@@ -3,12 +3,14 @@ use Rattle.std.proofs.Common.{◌≡◌, ℕ, zero, suc, ◌+◌, ◌<◌, List,
 use Rattle.std.specs.Prelude.{option_map, slice_get}
 use Rattle.ppd_ast.specs.declared.plan.Plan.{Plan}
 use Rattle.ppd_ast.specs.declared.program.Program.{Program}
+use Rattle.ppd_ast.proofs.Walks.{got_some}
 use Rattle.ppd_entry.specs.declared.entry.Entry.{Entry}
 use Rattle.ppd_entry.specs.declared.entry.Logs.{Logs}
 use Rattle.ppd_entry.specs.IntervalLogs.{IntervalLog, Indexed, interval_log, log_in}
 use Rattle.ppd_entry.specs.Pieces.{Piece}
 use Rattle.ppd_entry.specs.Entries.{entries_at}
 use Rattle.ppd_model.specs.Bounds.{AreEach}
+use Rattle.ppd_model.proofs.Lists.{map_get}
 use Rattle.ppd_index.specs.declared.row.Mark.{Mark}
 use Rattle.ppd_index.specs.declared.row.Mark.TheVariants as mark
 use Rattle.ppd_index.specs.declared.row.Row.{Row}
@@ -17,7 +19,6 @@ use Rattle.ppd_index.specs.Indexes.{AreIntervals, IsLogOf, entry_of, piece_in, r
 use Rattle.ppd_index.specs.Refusals.{first_bad, first_in_lists}
 use Rattle.ppd_index.specs.Tables.{indexed_of, log_of, number_of, piece_at}
 use Rattle.ppd_index.proofs.Fitting.{logs_fit, or_none}
-use Rattle.ppd_index.proofs.Lists.{get_is, map_get}
 
 lent_in : (plan : Plan) (tables : List (List Row)) (lists : List (List Entry)) (p k : ℕ) (row : Row) → AreEach (AreIntervals plan) tables lists → slice_get (get_or tables p []) k ≡ Some row → interval_log plan (get_or lists p []) k ≡ Some (log_of (get_or lists p []) row)
 lent_in plan [] [] p k row h e = absurd (cc e)
@@ -53,4 +54,4 @@ all_fit program plan logs none = λ p k log e. fit_in program plan 0 logs.lists 
 
 pub lent_by : (logs : Logs) (tables : List (List Row)) (p k : ℕ) (entries : List Entry) (rows : List Row) (row : Row) → entries ≡ entries_at logs p → rows ≡ rows_at tables p → k < length rows → row ≡ get_or rows k row → IsLogOf logs tables p k (log_of entries row)
 lent_by logs tables p k entries rows row es rs h is =
-    subst (λ xs. IsLogOf logs tables p k (log_of xs row)) (sym es) (lent logs tables p k row (ap (λ (xs : List Row). slice_get xs k) (sym rs) ∙ get_is rows k row h is))
+    subst (λ xs. IsLogOf logs tables p k (log_of xs row)) (sym es) (lent logs tables p k row (ap (λ (xs : List Row). slice_get xs k) (sym rs) ∙ got_some rows k row h is))

@@ -7,26 +7,6 @@ use Rattle.ppd_model.specs.World.{change}
 use Rattle.ppd_index.specs.declared.row.Row.{Row}
 use Rattle.ppd_index.specs.Tables.{open_one, open_rows}
 
-pub change_past : {A : Type 0} (f : A → A) (i : ℕ) (xs : List A) → length xs ≤ i → change f i xs ≡ xs
-change_past f i [] h = refl
-change_past f zero (x ∷ xs) h = absurd (omega arith)
-change_past f (suc i) (x ∷ xs) h = ap (λ ys. x ∷ ys) (change_past f i xs (omega arith))
-
-pub set_is_change : {A : Type 0} (f : A → A) (i : ℕ) (xs : List A) (d y : A) → i < length xs → y ≡ f (get_or xs i d) → slice_set xs i y ≡ change f i xs
-set_is_change f i [] d y h e = absurd (omega arith)
-set_is_change f zero (x ∷ xs) d y h e = ap (λ z. z ∷ xs) e
-set_is_change f (suc i) (x ∷ xs) d y h e = ap (λ ys. x ∷ ys) (set_is_change f i xs d y (omega arith) e)
-
-pub map_get : {A B : Type 0} (f : A → B) (xs : List A) (k : ℕ) (x : A) → slice_get xs k ≡ Some x → slice_get (map f xs) k ≡ Some (f x)
-map_get f [] k x e = absurd (cc e)
-map_get f (y ∷ ys) zero x e = let is : y ≡ x = cc e in ap (λ z. Some (f z)) is
-map_get f (y ∷ ys) (suc k) x e = map_get f ys k x e
-
-pub get_is : {A : Type 0} (xs : List A) (k : ℕ) (x : A) → k < length xs → x ≡ get_or xs k x → slice_get xs k ≡ Some x
-get_is [] k x h e = absurd (omega arith)
-get_is (y ∷ ys) zero x h e = ap (λ z. Some z) (sym e)
-get_is (y ∷ ys) (suc k) x h e = get_is ys k x (omega arith) e
-
 pub all_more : {A : Type 0} (P : A → Type 0) (xs : List A) (y : A) → All P xs → P y → All P (xs ++ y ∷ [])
 all_more P [] y h is zero d lt = is
 all_more P [] y h is (suc k) d lt = absurd (omega arith)

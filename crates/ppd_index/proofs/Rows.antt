@@ -7,6 +7,8 @@ use Rattle.ppd_entry.specs.IntervalLogs.{Indexed, Indexing, add_piece, add_piece
 use Rattle.ppd_entry.specs.Pieces.{Piece, nested, postlog, unfinished}
 use Rattle.ppd_model.specs.Extents.{Extent, ended_by as ends_by, first_of, left_by}
 use Rattle.ppd_model.specs.World.{change}
+use Rattle.ppd_model.proofs.Lists.{map_change}
+use Rattle.ppd_model.proofs.Extents.{close_by, last_by}
 use Rattle.ppd_index.specs.declared.row.Mark.{Mark}
 use Rattle.ppd_index.specs.declared.row.Mark.TheVariants as mark
 use Rattle.ppd_index.specs.declared.row.Row.{Row}
@@ -14,11 +16,6 @@ use Rattle.ppd_index.specs.Refusals.{innermost_of}
 use Rattle.ppd_index.specs.Tables.{add_mark, add_mark_to, block_in, block_there, closed_by, depth_at, depth_in, ended_by, extent_of, first_in, indexed_of, left_rows, open_one, open_rows, piece_at, with_mark}
 
 -- ---- changes of a list, seen through a function
-
-pub map_change : {A B : Type 0} (h : A → B) (f : A → A) (g : B → B) (i : ℕ) (xs : List A) → ((x : A) → h (f x) ≡ g (h x)) → map h (change f i xs) ≡ change g i (map h xs)
-map_change h f g i [] e = refl
-map_change h f g zero (x ∷ xs) e = ap (λ y. y ∷ map h xs) (e x)
-map_change h f g (suc i) (x ∷ xs) e = ap (λ ys. h x ∷ ys) (map_change h f g i xs e)
 
 pub map_same : {A B : Type 0} (h : A → B) (f : A → A) (i : ℕ) (xs : List A) → ((x : A) → h (f x) ≡ h x) → map h (change f i xs) ≡ map h xs
 map_same h f i [] e = refl
@@ -110,23 +107,17 @@ marked_to_extents m (Some k) rows = map_same extent_of (with_mark m) k rows (λ 
 pub marked_extents : (m : Mark) (ks : List ℕ) (rows : List Row) → extents_in (add_mark m ks rows) ≡ extents_in rows
 marked_extents m ks rows = marked_to_extents m (first_of ks) rows
 
-abbrev close_extent : ℕ → Extent → Extent
-close_extent n x = record x { last = Some n; closed = true }
-
-abbrev end_extent : ℕ → Extent → Extent
-end_extent n x = record x { last = Some n }
-
 pub left_extents : (n : ℕ) (ks : List ℕ) (rows : List Row) → extents_in (left_rows n ks rows) ≡ left_by n ks (extents_in rows)
 left_extents n [] rows = refl
 left_extents n (k ∷ ks) rows =
     let inside = change (with_mark (mark.Own n)) k rows in
     marked_to_extents (mark.Left k (block_in (slice_get rows k)) (first_in (slice_get rows k)) n) (first_of ks) (change (closed_by n) k inside)
-    ∙ (map_change extent_of (closed_by n) (close_extent n) k inside (λ r. refl)
-    ∙ ap (λ xs. change (close_extent n) k xs) (map_same extent_of (with_mark (mark.Own n)) k rows (λ r. refl)))
+    ∙ (map_change extent_of (closed_by n) (close_by n) k inside (λ r. refl)
+    ∙ ap (λ xs. change (close_by n) k xs) (map_same extent_of (with_mark (mark.Own n)) k rows (λ r. refl)))
 
 pub open_extents : (n : ℕ) (ks : List ℕ) (rows : List Row) → extents_in (open_rows n ks rows) ≡ ends_by n ks (extents_in rows)
 open_extents n [] rows = refl
 open_extents n (k ∷ ks) rows =
-    let one : extents_in (open_one n k (first_of ks) rows) ≡ change (end_extent n) k (extents_in rows) =
-    marked_to_extents (mark.Open k (block_in (slice_get rows k)) (first_in (slice_get rows k))) (first_of ks) (change (ended_by n) k rows) ∙ map_change extent_of (ended_by n) (end_extent n) k rows (λ r. refl) in
+    let one : extents_in (open_one n k (first_of ks) rows) ≡ change (last_by n) k (extents_in rows) =
+    marked_to_extents (mark.Open k (block_in (slice_get rows k)) (first_in (slice_get rows k))) (first_of ks) (change (ended_by n) k rows) ∙ map_change extent_of (ended_by n) (last_by n) k rows (λ r. refl) in
     open_extents n ks (open_one n k (first_of ks) rows) ∙ ap (λ xs. ends_by n ks xs) one

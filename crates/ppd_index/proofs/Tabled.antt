@@ -10,6 +10,7 @@ use Rattle.ppd_entry.specs.Pieces.{Piece, finish, nested, postlog, sync, unit}
 use Rattle.ppd_sem.specs.Blocks.{block_kind, is_function}
 use Rattle.ppd_model.specs.Bounds.{AreEach}
 use Rattle.ppd_model.specs.Extents.{Extent, Extending, ended_by as ends_by, extend}
+use Rattle.ppd_model.proofs.Extents.{one_longer}
 use Rattle.ppd_index.specs.declared.row.Mark.TheVariants as mark
 use Rattle.ppd_index.specs.declared.row.Row.{Row}
 use Rattle.ppd_index.specs.Indexes.{AreIntervals}
@@ -86,16 +87,13 @@ here_at (d ∷ done) rest e = here_at done rest e
 pub here : (entries done rest : List Entry) (e : Entry) (n : ℕ) → entries ≡ done ++ e ∷ rest → n ≡ length done → slice_get entries n ≡ Some e
 here entries done rest e n is at = ap₂ (λ (es : List Entry) (i : ℕ). slice_get es i) is at ∙ here_at done rest e
 
-pub one_on : (done : List Entry) (e : Entry) (n : ℕ) → n ≡ length done → n + 1 ≡ length (done ++ e ∷ [])
-one_on done e n at = ap (λ m. m + 1) at ∙ sym (length-append done (e ∷ []))
-
 pub shifted : (entries done rest : List Entry) (e : Entry) → entries ≡ done ++ e ∷ rest → entries ≡ (done ++ e ∷ []) ++ rest
 shifted entries done rest e is = is ∙ sym (append_assoc done (e ∷ []) rest)
 
 logs_fold : (plan : Plan) (entries done rest : List Entry) (t : Tabled) → entries ≡ done ++ rest → t.entry ≡ length done → indexing_of entries (fold (table_step plan) t rest) ≡ fold (index_step plan) (indexing_of entries t) rest
 logs_fold plan entries done [] t is at = refl
 logs_fold plan entries done (e ∷ es) t is at =
-    logs_fold plan entries (done ++ e ∷ []) es (table_step plan t e) (shifted entries done es e is) (one_on done e t.entry at)
+    logs_fold plan entries (done ++ e ∷ []) es (table_step plan t e) (shifted entries done es e is) (one_longer done e t.entry at)
     ∙ ap (λ x. fold (index_step plan) x es) (indexed_step plan entries t e (here entries done es e t.entry is at))
 
 extents_fold : (plan : Plan) (rest : List Entry) (t : Tabled) → extending_of (fold (table_step plan) t rest) ≡ fold extend (extending_of t) rest

@@ -13,7 +13,7 @@ use Rattle.ppd_entry.specs.declared.entry.At.{At}
 use Rattle.ppd_entry.specs.declared.entry.Entry.{Entry}
 use Rattle.ppd_entry.specs.declared.entry.Entry.TheVariants as entry
 use Rattle.ppd_entry.specs.IntervalLogs.{Indexed, Indexing, begun_indexing, depth_of, index_step, interval_at}
-use Rattle.ppd_entry.specs.Entries.{is_end}
+use Rattle.ppd_entry.specs.Entries.{is_end, at_entry}
 use Rattle.ppd_model.specs.FullTrace.{or_else}
 use Rattle.ppd_index.specs.declared.refusal.BadLog.{BadLog}
 use Rattle.ppd_index.specs.declared.refusal.BadLog.TheVariants.{Unpaired, NoEnd, AfterEnd, WrongValues, Memory}
@@ -107,9 +107,6 @@ fault_of plan body s e =
     else None
 
 -- ---- the first refusal
-
-abbrev pub at_entry : ℕ → ℕ → At
-at_entry p n = record { process = p; entry = n }
 
 abbrev pub bad : ℕ → ℕ → Fault → BadLog
 bad p n fault.AfterEnd = AfterEnd (at_entry p n)

@@ -29,7 +29,7 @@ fn rows_at(tables: &[Seq<Row>], p: u8) -> &[Row]
 fn entries_at(logs: &Logs, p: u8) -> &[Entry]
     ensures { result.now ≡ entries_in logs.now p }
 {
-    match logs.lists.as_slice().get(p as usize) {
+    match logs.lists.get(p as usize) {
         Some(entries) => entries.as_slice(),
         None => &[],
     }

@@ -27,7 +27,7 @@ pub struct Standing {
 fn kind_at(plan: &Plan, block: u16) -> Option<BlockKind>
     ensures { result ≡ kind_in_plan plan.now block }
 {
-    match plan.blocks.as_slice().get(block as usize) {
+    match plan.blocks.get(block as usize) {
         Some(block) => Some(block.kind),
         None => None,
     }
@@ -57,7 +57,7 @@ fn is_of_function(kind: Option<BlockKind>) -> bool
 fn fits_prelog(plan: &Plan, block: u16, values: &[i64]) -> bool
     ensures { result ≡ does_fit_prelog (slice_get plan.now.blocks block) values.now }
 {
-    match plan.blocks.as_slice().get(block as usize) {
+    match plan.blocks.get(block as usize) {
         Some(block) => values.len() == block.prelog.len(),
         None => false,
     }
@@ -66,7 +66,7 @@ fn fits_prelog(plan: &Plan, block: u16, values: &[i64]) -> bool
 fn fits_postlog(plan: &Plan, block: u16, values: &[i64]) -> bool
     ensures { result ≡ does_fit_postlog (slice_get plan.now.blocks block) values.now }
 {
-    let Some(block) = plan.blocks.as_slice().get(block as usize) else {
+    let Some(block) = plan.blocks.get(block as usize) else {
         return false;
     };
     let cells = block.postlog.as_slice();
@@ -80,7 +80,7 @@ fn fits_postlog(plan: &Plan, block: u16, values: &[i64]) -> bool
 fn fits_unit(plan: &Plan, unit: u16, values: &[i64]) -> bool
     ensures { result ≡ does_fit_unit (slice_get plan.now.units unit) values.now }
 {
-    match plan.units.as_slice().get(unit as usize) {
+    match plan.units.get(unit as usize) {
         Some(unit) => values.len() == unit.cells.len(),
         None => false,
     }

@@ -170,7 +170,7 @@ fn open_all<L: Ledger>(
 fn one_if_function(plan: &Plan, block: u16) -> u8
     ensures { result ≡ (if is_function (block_kind plan.now block) then 1 else 0) }
 {
-    let Some(block) = plan.blocks.as_slice().get(block as usize) else {
+    let Some(block) = plan.blocks.get(block as usize) else {
         return 0;
     };
     match block.kind {

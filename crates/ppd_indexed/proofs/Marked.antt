@@ -15,6 +15,7 @@ use Rattle.ppd_ast.specs.declared.program.Body.{Body}
 use Rattle.ppd_ast.specs.declared.program.Program.{Program}
 use Rattle.ppd_ast.specs.declared.status.Trap.TheVariants as trap
 use Rattle.ppd_ast.specs.Lookups.{kind_of, body_of, params_of_body}
+use Rattle.ppd_ast.specs.Counting.{one_if}
 use Rattle.ppd_blocks.specs.Blocks.{params_of, plan_of}
 use Rattle.ppd_sem.specs.declared.asking.Pause.TheVariants.{Wants, Traps}
 use Rattle.ppd_sem.specs.declared.proc.Frame.{Frame}
@@ -30,31 +31,17 @@ use Rattle.ppd_sem.specs.Passed.{arguments_at, arguments_by, arguments_of_head, 
 use Rattle.ppd_sem.specs.Process.{call_unit, cost, entry_of, head_deed, loop_of, need_by_entry, need_by_offer, need_of, need_of_asked, need_of_deed, need_of_head, need_of_leaving, need_of_running, need_of_send, offer_of, top_body, top_call, top_cells}
 use Rattle.ppd_sem.specs.Tables.{block_of, capacity_of, unit_of}
 use Rattle.ppd_sem.proofs.Progress.{need_at_todo}
+use Rattle.ppd_sem.specs.Runs.{bodies_in}
 use Rattle.ppd_model.specs.Logs.{status_of}
 use Rattle.ppd_model.specs.Marks.{Mark, opened, closed, values_at}
 use Rattle.ppd_model.proofs.Homes.{AskedOf, DeedOf, head_of}
-use Rattle.ppd_nested.specs.Stack.{block_frames, bodies_in, returning}
+use Rattle.ppd_nested.specs.Stack.{block_frames, returning}
 use Rattle.ppd_nested.proofs.DeedKinds.{found_while, loop_is}
 use Rattle.ppd_nested.proofs.Framed.{body_is, head_returns}
 use Rattle.ppd_nested.proofs.Planned.{postlog_cells_are, prelog_cells_are}
+use Rattle.ppd_nested.proofs.Moving.{top_is}
 use Rattle.ppd_indexed.proofs.OfKind.{kind_found, postlog_fits, prelog_fits}
 use Rattle.ppd_index.specs.Refusals.{fits_postlog, fits_prelog, is_of_function, is_process, kind_at}
-
--- 1 where it is so
-abbrev one_where : Bool → ℕ
-one_where b = if b then 1 else 0
-
--- the body of the top frame
-top_is : (s : Proc) (b : ℕ) (bs : List ℕ) → bodies_in s.frames ≡ b ∷ bs → top_body s.frames ≡ b
-top_is s b bs e = by s.frames e
-  where
-    first : List ℕ → ℕ
-    first [] = 0
-    first (x ∷ xs) = x
-
-    by : (frames : List Frame) → bodies_in frames ≡ b ∷ bs → top_body frames ≡ b
-    by [] e = absurd (cc)
-    by (f ∷ fs) e = ap first e
 
 -- fewer frames of blocks than frames
 few_blocks : (plan : Plan) (f : Frame) (fs : List Frame) → block_frames plan (f ∷ fs) ≤ length fs
@@ -158,7 +145,7 @@ module _ (program : Program) (policy : Policy) (v : IsValid program) where
         let same : result_at program s ≡ option_to_list value = ap (λ us. option_to_list (result_of_head program s (slice_get us 0))) is ∙ ap (λ x. option_to_list (result_by (outcome x))) head in
         closes_one (need.Back (Some b) u) _ refl refl
         (postlog_fits program policy v (block.Function f) b e (result_at program s)
-        (ap (λ vs. length vs) same ∙ value_length value ∙ ap (λ x. one_where x) value_is ∙ (let z : one_where (gives (slice_get program.bodies f)) ≡ 0 + one_where (gives (slice_get program.bodies f)) = omega arith in z)))
+        (ap (λ vs. length vs) same ∙ value_length value ∙ ap (λ x. one_if x) value_is ∙ (let z : one_if (gives (slice_get program.bodies f)) ≡ 0 + one_if (gives (slice_get program.bodies f)) = omega arith in z)))
 
     returning_back : (value : Option ℤ) (left : List ℤ) → head_deed program t s ≡ Ok (back value, left) → DeedOf program (body_of program t.stmt) (kind_of program t.stmt) (back value)
         → Marks (need.Back (block_of plan (block.Function (top_body s.frames))) (call_unit plan (top_call s.frames)))

@@ -11,14 +11,15 @@ use Rattle.ppd_entry.specs.Pieces.{Piece, nested, postlog, sync, unit}
 use Rattle.ppd_sem.specs.Blocks.{block_kind, is_function}
 use Rattle.ppd_nested.specs.Stack.{functions_in}
 use Rattle.ppd_index.specs.Refusals.{innermost_of}
+use Rattle.ppd_coming.proofs.Indexes.{falls_on}
+use Rattle.ppd_coming.proofs.IndexSteps.{piece_length}
+use Rattle.ppd_coming.proofs.Depths.{depth_at}
+use Rattle.ppd_model.proofs.Extents.{Fall}
 
 -- ---- the block and the depth of an interval
 
 abbrev pub block_at : List Indexed → ℕ → ℕ
 block_at xs k = (interval_at xs k).log.block
-
-abbrev pub depth_at : List Indexed → ℕ → ℕ
-depth_at xs k = (interval_at xs k).log.depth
 
 -- two lists of intervals with the same of both in number k
 record IsSame (xs ys : List Indexed) (k : ℕ) : Type 0 where
@@ -45,25 +46,7 @@ put_last : (xs : List Indexed) (y : Indexed) → interval_at (xs ++ y ∷ []) (l
 put_last [] y = refl
 put_last (x ∷ xs) y = put_last xs y
 
-added_length : (n : ℕ) (p : Piece) (j : ℕ) (xs : List Indexed) → length (add_piece_at n p j xs) ≡ length xs
-added_length n p j [] = refl
-added_length n p zero (x ∷ xs) = refl
-added_length n p (suc j) (x ∷ xs) = ap suc (added_length n p j xs)
-
-piece_length : (n : ℕ) (p : Piece) (ks : List ℕ) (xs : List Indexed) → length (add_piece n p ks xs) ≡ length xs
-piece_length n p [] xs = refl
-piece_length n p (k ∷ ks) xs = added_length n p k xs
-
 -- ---- the intervals that run, and the stack
-
--- the numbers fall, all below n
-abbrev pub Falls : ℕ → List ℕ → Type 0
-Falls n [] = ⊤
-Falls n (k ∷ ks) = (k < n) × Falls k ks
-
-falls_on : (m n : ℕ) (ks : List ℕ) → Falls m ks → m < n → Falls n ks
-falls_on m n [] f h = tt
-falls_on m n (k ∷ ks) f h = (let z : k < n = omega (arith, f.0, h) in z, f.1)
 
 -- the intervals are of these blocks, each as deep as functions are among its block and those round it
 abbrev pub AreOf : Plan → List Indexed → List ℕ → List ℕ → Type 0
@@ -72,7 +55,7 @@ AreOf plan xs (k ∷ ks) (b ∷ bs) = (block_at xs k ≡ b) × (depth_at xs k �
 AreOf plan xs ks bs = ⊥
 
 module _ (plan : Plan) where
-  alike : (xs ys : List Indexed) (n : ℕ) (ks bs : List ℕ) → Falls n ks → ((k : ℕ) → k < n → IsSame xs ys k) → AreOf plan xs ks bs → AreOf plan ys ks bs
+  alike : (xs ys : List Indexed) (n : ℕ) (ks bs : List ℕ) → Fall n ks → ((k : ℕ) → k < n → IsSame xs ys k) → AreOf plan xs ks bs → AreOf plan ys ks bs
   alike xs ys n [] [] f s h = tt
   alike xs ys n [] (b ∷ bs) f s h = h
   alike xs ys n (k ∷ ks) [] f s h = h
@@ -81,7 +64,7 @@ module _ (plan : Plan) where
   -- a later entry, inside these blocks
   pub record Stands (x : Indexing) (bs : List ℕ) : Type 0 where
     pub later : nat_eq x.entry 0 ≡ false
-    pub falls : Falls (length x.intervals) x.running
+    pub falls : Fall (length x.intervals) x.running
     pub are : AreOf plan x.intervals x.running bs
 
   pub next_later : (n : ℕ) → nat_eq (n + 1) 0 ≡ false
@@ -103,7 +86,7 @@ module _ (plan : Plan) where
 
   -- ---- each kind of entry
 
-  pub after_prelog : (x : Indexing) (bs : List ℕ) (b : ℕ) (values : List ℤ) → nat_eq (x.entry + 1) 0 ≡ false → Falls (length x.intervals) x.running → AreOf plan x.intervals x.running bs → Stands (index_step plan x (entry.Prelog b values)) (b ∷ bs)
+  pub after_prelog : (x : Indexing) (bs : List ℕ) (b : ℕ) (values : List ℤ) → nat_eq (x.entry + 1) 0 ≡ false → Fall (length x.intervals) x.running → AreOf plan x.intervals x.running bs → Stands (index_step plan x (entry.Prelog b values)) (b ∷ bs)
   after_prelog x bs b values later falls are =
       let y : Indexed = new_interval plan x b values in
       let last : interval_at (x.intervals ++ y ∷ []) (length x.intervals) ≡ y = put_last x.intervals y in
@@ -122,7 +105,7 @@ module _ (plan : Plan) where
   with_piece_stands : (x : Indexing) (p : Piece) (bs : List ℕ) → Stands x bs → Stands (record x { intervals = add_piece x.entry p x.running x.intervals; entry = x.entry + 1 }) bs
   with_piece_stands x p bs s = record {
     later = next_later x.entry;
-    falls = subst (λ n. Falls n x.running) (sym (piece_length x.entry p x.running x.intervals)) s.falls;
+    falls = subst (λ n. Fall n x.running) (sym (piece_length x.entry p x.running x.intervals)) s.falls;
     are = alike x.intervals (add_piece x.entry p x.running x.intervals) (length x.intervals) x.running bs s.falls (λ k lt. piece_same x.entry p x.running k x.intervals) s.are;
   }
 
@@ -135,16 +118,16 @@ module _ (plan : Plan) where
   pub after_postlog : (x : Indexing) (c : ℕ) (values : List ℤ) (b : ℕ) (bs : List ℕ) → Stands x (b ∷ bs) → Stands (index_step plan x (entry.Postlog c values)) bs
   after_postlog x c values b bs s = by x.running s.falls s.are
     where
-      by : (ks : List ℕ) → Falls (length x.intervals) ks → AreOf plan x.intervals ks (b ∷ bs) → Stands (record x { intervals = left_interval x ks values; running = drop 1 ks; entry = x.entry + 1 }) bs
+      by : (ks : List ℕ) → Fall (length x.intervals) ks → AreOf plan x.intervals ks (b ∷ bs) → Stands (record x { intervals = left_interval x ks values; running = drop 1 ks; entry = x.entry + 1 }) bs
       by [] f h = absurd h
       by (k ∷ ks) f h =
           let i : Indexed = interval_at x.intervals k in
           let own : List Indexed = add_piece x.entry (postlog values) x.running x.intervals in
-          let lower : Falls (length x.intervals) ks = falls_on k (length x.intervals) ks f.1 f.0 in
+          let lower : Fall (length x.intervals) ks = falls_on k (length x.intervals) ks f.1 f.0 in
           let first : AreOf plan own ks bs = alike x.intervals own (length x.intervals) ks bs lower (λ j lt. piece_same x.entry (postlog values) x.running j x.intervals) h.2 in
           let own_length : length own ≡ length x.intervals = piece_length x.entry (postlog values) x.running x.intervals in
           record {
             later = next_later x.entry;
-            falls = subst (λ n. Falls n ks) (sym (piece_length i.first (nested k i.log.block values) ks own ∙ own_length)) lower;
-            are = alike own (add_piece i.first (nested k i.log.block values) ks own) (length own) ks bs (subst (λ n. Falls n ks) (sym own_length) lower) (λ j lt. piece_same i.first (nested k i.log.block values) ks j own) first;
+            falls = subst (λ n. Fall n ks) (sym (piece_length i.first (nested k i.log.block values) ks own ∙ own_length)) lower;
+            are = alike own (add_piece i.first (nested k i.log.block values) ks own) (length own) ks bs (subst (λ n. Fall n ks) (sym own_length) lower) (λ j lt. piece_same i.first (nested k i.log.block values) ks j own) first;
           }

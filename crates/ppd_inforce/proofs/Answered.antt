@@ -6,6 +6,7 @@ use Rattle.ppd_ast.specs.declared.plan.Plan.{Plan}
 use Rattle.ppd_ast.specs.declared.plan.Policy.{Policy}
 use Rattle.ppd_ast.specs.declared.program.Program.{Program}
 use Rattle.ppd_ast.specs.Valid.{IsValid}
+use Rattle.ppd_ast.proofs.ValidLaws.{slice_get_there}
 use Rattle.ppd_blocks.specs.Blocks.{plan_of}
 use Rattle.ppd_sem.specs.declared.proc.Answer.TheVariants.{Value}
 use Rattle.ppd_sem.specs.declared.proc.Need.{Need}
@@ -18,12 +19,12 @@ use Rattle.ppd_model.specs.Races.{races}
 use Rattle.ppd_model.specs.Schedule.{run, started_world}
 use Rattle.ppd_model.specs.Story.{Moment, Telling, moment_of, own_moments, own_steps, steps_of, story, told}
 use Rattle.ppd_model.specs.World.{World, answer, need, need_at}
-use Rattle.ppd_model.proofs.Lists.{at_below}
+use Rattle.ppd_model.proofs.Stories.{steps_append}
 use Rattle.ppd_step_laws.specs.Units.{IsCellOf, unit_in_force}
 use Rattle.ppd_step_laws.proofs.Units.Reading.{reads_lie}
 use Rattle.ppd_emul.specs.Replay.{value_in_force}
 use Rattle.ppd_inforce.specs.InForce.{AreRead, IsRead, ReadsAreInForce, begun_in_force, in_force, in_force_after}
-use Rattle.ppd_nested.proofs.Told.{none_own, own_more, own_past, own_same, own_steps_are, steps_append}
+use Rattle.ppd_nested.proofs.Told.{none_own, own_more, own_past, own_same, own_steps_are}
 use Rattle.ppd_inforce.proofs.Raced.{raced}
 use Rattle.ppd_inforce.proofs.Fresh.{AreFresh}
 use Rattle.ppd_inforce.proofs.Stands.{Stands, begun_stands, reads_fresh, step_stands}
@@ -66,7 +67,7 @@ module _ (program : Program) (policy : Policy) (budget : ℕ) (v : IsValid progr
 
     pub is_read : (x : Need) → need program used at.world p ≡ x → p < length at.world.procs → Stands program used budget h p → IsRead (in_force program used p (own_moments at p)) (moment_of program used at p) x
     is_read (Read c) e lt stands =
-        let s = at_below at.world.procs p lt in
+        let s = slice_get_there at.world.procs p lt in
         ap (answer at.world) e ∙ ap Value (read_right c e lt (reads_fresh program used budget h p p c s.0 s.1 e (stands s.0 s.1)))
     is_read x e lt stands = tt
 

@@ -18,11 +18,11 @@ use Rattle.ppd_model.specs.Synchronizations.{kind_of_sync, numbered, sync_of, sy
 use Rattle.ppd_model.specs.World.{effect, need}
 use Rattle.ppd_model.proofs.Numbers.{syncs-append}
 use Rattle.ppd_model.proofs.Prefixes.{objects_stay}
-use Rattle.ppd_model.proofs.Stories.{told-append}
+use Rattle.ppd_model.proofs.Stories.{told-append, steps_append}
 use Rattle.ppd_step_laws.specs.Units.{IsCellOf, unit_after, unit_in_force}
 use Rattle.ppd_emul.specs.Replay.{value_in_force}
 use Rattle.ppd_inforce.specs.InForce.{begun_in_force, in_force, in_force_after, in_force_by, with_unit}
-use Rattle.ppd_nested.proofs.Told.{none_own, own_same, own_syncs_are, steps_append}
+use Rattle.ppd_nested.proofs.Told.{none_own, own_same, own_syncs_are}
 use Rattle.ppd_inforce.proofs.Values.{unit_value, written_here, written_there}
 
 module _ (program : Program) (plan : Plan) (budget : ℕ) where

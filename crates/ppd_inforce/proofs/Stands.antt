@@ -15,7 +15,7 @@ use Rattle.ppd_sem.specs.Process.{act, need_of, started, todos}
 use Rattle.ppd_model.specs.Story.{Telling, moment_of, own_moments, told}
 use Rattle.ppd_model.specs.World.{answer, change, need, need_at}
 use Rattle.ppd_model.proofs.Changes.{change-at, change-else, some}
-use Rattle.ppd_model.proofs.OfferMarks.{AreUnmarked, IsMarked, IsOver, IsUnmarked, marked_step, offer_step, over_step, unmarked_step}
+use Rattle.ppd_model.proofs.OfferMarks.{AreUnmarked, IsMarked, HasEnded, IsUnmarked, marked_step, offer_step, over_step, unmarked_step}
 use Rattle.ppd_model.proofs.Stories.{told-append}
 use Rattle.ppd_nested.proofs.Told.{own_more}
 use Rattle.ppd_inforce.proofs.Fresh.{AreFresh, begun_fresh, other_fresh, own_fresh, unit_fresh}
@@ -33,7 +33,7 @@ not_both program c stmt s u m = let both : AreUnmarked (m.head ∷ m.rest) = sub
 module _ (program : Program) (plan : Plan) (budget : ℕ) where
   -- a process in this state after a schedule
   abbrev pub StandsAs : List ℕ → ℕ → Proc → Type 0
-  StandsAs h p s = IsOver s ⊎ ((IsUnmarked s × AreFresh program plan budget h p) ⊎ ((c : ℕ) × (stmt : ℕ) × IsMarked program c stmt s))
+  StandsAs h p s = HasEnded s ⊎ ((IsUnmarked s × AreFresh program plan budget h p) ⊎ ((c : ℕ) × (stmt : ℕ) × IsMarked program c stmt s))
 
   -- the process, if it is there
   abbrev pub Stands : List ℕ → ℕ → Type 0

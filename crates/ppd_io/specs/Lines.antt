@@ -44,7 +44,7 @@ IsFilled true new held = held ≢ []
 IsFilled false new held = (held ≡ []) × IsAtEnd new
 
 -- the end was met, and nothing is held
-pub record IsOver (new : Option (List ℕ)) (now : Lined) : Type 0 where
+pub record IsAtLinesEnd (new : Option (List ℕ)) (now : Lined) : Type 0 where
   pub left : IsAtEnd new
   pub held : now.held ≡ []
   pub ended : now.ended ≡ true
@@ -57,13 +57,13 @@ StaysOver was now = (now.ended ≡ true) × (now.held ≡ was.held)
 abbrev pub EndsLine : Option (List ℕ) → Option (List ℕ) → List ℕ → Lined → Type 0
 EndsLine old new held now =
     (Took old new held (now.line ++ 10 ∷ now.held) × (now.ended ≡ false))
-    ⊎ (Took old new held now.line × (now.line ≢ []) × IsOver new now)
+    ⊎ (Took old new held now.line × (now.line ≢ []) × IsAtLinesEnd new now)
 
 -- what one call gives before the end was met: the next line of what was held and read; at the end none; a front of
 -- more than 4,096 bytes without newline; where a read failed, a front without newline
 abbrev pub GivesLine : Option (List ℕ) → Option (List ℕ) → List ℕ → Lined → Result Bool LineError → Type 0
 GivesLine old new held now (Ok true) = HasNoNewline now.line × (length now.line ≤ MOST_LINE_BYTES) × EndsLine old new held now
-GivesLine old new held now (Ok false) = Took old new held [] × (now.line ≡ []) × IsOver new now
+GivesLine old new held now (Ok false) = Took old new held [] × (now.line ≡ []) × IsAtLinesEnd new now
 GivesLine old new held now (Err LongLine) = HasNoNewline now.line × (MOST_LINE_BYTES < length now.line) × Took old new held (now.line ++ now.held)
 GivesLine old new held now (Err Failed) = HasNoNewline now.line × (length now.line ≤ MOST_LINE_BYTES) × Took old new held now.line × (now.held ≡ [])
 

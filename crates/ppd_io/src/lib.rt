@@ -16,7 +16,7 @@ mod sink;
 mod source;
 mod steady;
 
-pub use adapters::{StdSink, StdSource};
+pub use adapters::{Counted, StdSink, StdSource};
 pub use gate::{FreeGate, Gate};
 pub use host::HostShelf;
 pub use lines::{LineError, LineReader};

@@ -2,12 +2,10 @@
 ghost use Rattle.std.specs.Prelude.{◌≡◌, ◌<◌, ◌+◌, ◌^◌, length, IfOk};
 ghost use Rattle.ppd_lex.specs.Front.{front, read_word, read_number, read_block, read_mark, close_from};
 
-use crate::text::{
-    close_from, is_digit, is_letter, is_space, keyword, line_len, mark, name_len, number_of,
-};
+use crate::text::{close_from, is_letter, is_space, keyword, line_len, mark, name_len, number_of};
 use crate::token::TokenKind;
-use ppd_ast::Bytes;
 use ppd_ast::limits::MOST_NAME_BYTES;
+use ppd_ast::{Bytes, is_digit};
 use std::alloc::{AllocError, Global};
 
 /// What is wrong at a byte.

@@ -6,6 +6,7 @@ ghost use Rattle.ppd_ast.specs.Digits.{is_digit};
 ghost use Rattle.ppd_lex.specs.Front.{is_space, is_letter, is_name_byte, keywords, marks, kind_by, kind_in, value_of, number_of, close_from};
 
 use crate::token::Kind;
+use ppd_ast::is_digit;
 
 // The keywords.
 const KEYWORDS: [(&str, Kind); 17] = [
@@ -63,12 +64,6 @@ pub fn is_space(b: u8) -> bool
     ensures { result ≡ is_space b }
 {
     (9..=13).contains(&b) || b == b' '
-}
-
-pub fn is_digit(b: u8) -> bool
-    ensures { result ≡ is_digit b }
-{
-    b.is_ascii_digit()
 }
 
 // A letter or `_`.

@@ -16,7 +16,7 @@ of_both : (p : ℕ) (ms ns : List ℕ) → of_process p (ms ++ ns) ≡ of_proces
 of_both p [] ns = refl
 of_both p (m ∷ ms) ns = ap (λ xs. (p, m) ∷ xs) (of_both p ms ns)
 
-abbrev the_ok : {A : Type 0} → A → Result A FlowError → A
+abbrev pub the_ok : {A : Type 0} → A → Result A FlowError → A
 the_ok x (Ok y) = y
 the_ok x (Err e) = x
 

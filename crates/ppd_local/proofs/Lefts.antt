@@ -21,11 +21,8 @@ pub prefixed_none : (r : Result (List FlowEdge) FlowError) → prefixed [] r ≡
 prefixed_none (Ok xs) = refl
 prefixed_none (Err e) = refl
 
-assoc : (xs ys zs : List FlowEdge) → (xs ++ ys) ++ zs ≡ xs ++ (ys ++ zs)
-assoc xs ys zs = rw append_assoc refl
-
 pub prefixed_both : (es fs : List FlowEdge) (r : Result (List FlowEdge) FlowError) → prefixed (es ++ fs) r ≡ prefixed es (prefixed fs r)
-prefixed_both es fs (Ok xs) = ap (λ (ys : List FlowEdge). prefixed [] (Ok ys)) (assoc es fs xs)
+prefixed_both es fs (Ok xs) = ap (λ (ys : List FlowEdge). prefixed [] (Ok ys)) (append_assoc es fs xs)
 prefixed_both es fs (Err e) = refl
 
 dropped : {A : Type 0} (xs : List A) (i : ℕ) (d x : A) → i < length xs → x ≡ get_or xs i d → drop i xs ≡ x ∷ drop (i + 1) xs

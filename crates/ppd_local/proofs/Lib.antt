@@ -1,6 +1,6 @@
 mod Controls
-mod Joined
-mod Lefts
+pub mod Joined
+pub mod Lefts
 mod Loops
 mod Nested
 mod Rounds

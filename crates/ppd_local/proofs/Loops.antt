@@ -2,6 +2,7 @@
 use Rattle.std.proofs.Common.{◌≡◌, ℕ, zero, suc, ◌+◌, List, [], ◌∷◌, drop, Result, Ok, Err, Option, Some, None, ap, sym, ◌∙◌, subst, add-one}
 use Rattle.std.specs.Prelude.{slice_get}
 use Rattle.ppd_model.specs.declared.flow.Origin.{Origin}
+use Rattle.ppd_model.proofs.Lists.{left_from}
 use Rattle.ppd_past.specs.declared.flow_error.FlowError.{FlowError}
 use Rattle.ppd_search.specs.Locals.{in_loops, loop_replays, scan, writer_at, writer_replays}
 use Rattle.ppd_search.specs.Seen.{items_at, unless}
@@ -15,9 +16,6 @@ drop_suc : {A : Type 0} (xs : List A) (i : ℕ) (x : A) → slice_get xs i ≡ S
 drop_suc [] i x e = absurd (cc e)
 drop_suc {A = A} (y ∷ ys) zero x e = ap (λ z. z ∷ ys) (ap (λ (o : Option A). elim o [ None ↦ y | Some z ↦ z ]) e)
 drop_suc (y ∷ ys) (suc i) x e = drop_suc ys i x e
-
-pub drop_at : {A : Type 0} (xs : List A) (i : ℕ) (x : A) → slice_get xs i ≡ Some x → drop i xs ≡ x ∷ drop (i + 1) xs
-drop_at xs i x e = drop_suc xs i x e ∙ ap (λ n. x ∷ drop n xs) (sym (add-one i))
 
 module _ (s : Search) (c : ℕ) where
   abbrev pub all_replays : List ℕ → List ℕ
@@ -55,14 +53,14 @@ module _ (s : Search) (c : ℕ) where
         → IsFound s (all_replays (drop (i + 1) ms)) (found_in (drop (i + 1) ms)) k o r
         → IsFound s (all_replays (drop i ms)) (found_in (drop i ms)) n o r
     next_loop o r f g =
-        subst (λ l. IsFound s (all_replays l) (found_in l) n o r) (sym (drop_at ms i m at)) (goes_on m (drop (i + 1) ms) n k o r f g)
+        subst (λ l. IsFound s (all_replays l) (found_in l) n o r) (sym (left_from ms i m at)) (goes_on m (drop (i + 1) ms) n k o r f g)
 
     pub ends_loop : (x : Origin) → IsFound s (m ∷ writer_replays (writer_in m)) (write_in m) n k (Ok (Some x))
         → IsFound s (all_replays (drop i ms)) (found_in (drop i ms)) n k (Ok (Some x))
     ends_loop x f =
-        subst (λ l. IsFound s (all_replays l) (found_in l) n k (Ok (Some x))) (sym (drop_at ms i m at)) (ends m (drop (i + 1) ms) n k x f)
+        subst (λ l. IsFound s (all_replays l) (found_in l) n k (Ok (Some x))) (sym (left_from ms i m at)) (ends m (drop (i + 1) ms) n k x f)
 
     pub fails_loop : (e : FlowError) → IsFound s (m ∷ writer_replays (writer_in m)) (write_in m) n k (Err e)
         → IsFound s (all_replays (drop i ms)) (found_in (drop i ms)) n k (Err e)
     fails_loop e f =
-        subst (λ l. IsFound s (all_replays l) (found_in l) n k (Err e)) (sym (drop_at ms i m at)) (fails m (drop (i + 1) ms) n k e f)
+        subst (λ l. IsFound s (all_replays l) (found_in l) n k (Err e)) (sym (left_from ms i m at)) (fails m (drop (i + 1) ms) n k e f)

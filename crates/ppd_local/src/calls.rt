@@ -1,8 +1,6 @@
-ghost use Rattle.std.specs.Prelude.{◌≡◌, is_some, slice_get};
+ghost use Rattle.std.specs.Prelude.{◌≡◌, is_some};
 ghost use Rattle.ppd_ast.specs.declared.plan.BlockKind.TheVariants as block;
 ghost use Rattle.ppd_ast.specs.Lookups.{kind_of};
-ghost use Rattle.ppd_model.specs.FullTrace.{parent_if};
-ghost use Rattle.ppd_model.specs.Parents.{is_while as is_while_by};
 ghost use Rattle.ppd_sem.specs.Process.{into_of};
 ghost use Rattle.ppd_sem.specs.Runs.{returns as returns_by};
 ghost use Rattle.ppd_sem.specs.Tables.{block_of, same_block};
@@ -83,26 +81,6 @@ impl<'a> Code<'a> {
                 Kind::Call { into, .. } => into,
                 _ => None,
             },
-            None => None,
-        }
-    }
-
-    /// Whether the statement is a `While`.
-    pub(crate) fn is_while(&self, stmt: u32) -> bool
-        ensures { result ≡ is_while_by (kind_of self.now.program.now stmt) }
-    {
-        match self.program.stmt(stmt) {
-            Some(stmt) => matches!(stmt.kind, Kind::While(_, _)),
-            None => false,
-        }
-    }
-
-    /// The statement in which this one directly stands.
-    pub(crate) fn parent(&self, stmt: u32) -> Option<u32>
-        ensures { result ≡ parent_if (slice_get self.now.program.now.stmts stmt) }
-    {
-        match self.program.stmt(stmt) {
-            Some(stmt) => stmt.parent,
             None => None,
         }
     }

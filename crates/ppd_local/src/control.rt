@@ -1,8 +1,8 @@
 ghost use Rattle.std.specs.Prelude.{◌≡◌, ◌∷◌, [], IfOk, slice_get, take};
 ghost use Rattle.ppd_ast.specs.declared.plan.BlockKind.TheVariants as block;
-ghost use Rattle.ppd_ast.specs.Lookups.{kind_of};
+ghost use Rattle.ppd_ast.specs.Lookups.{kind_of, parent_if};
 ghost use Rattle.ppd_local.specs.Searches.{IsControlFound, IsFound, IsPlace, plan_in, program_in, seen};
-ghost use Rattle.ppd_model.specs.FullTrace.{or_else, parent_if};
+ghost use Rattle.ppd_model.specs.FullTrace.{or_else};
 ghost use Rattle.ppd_past.specs.Pasts.{IsPast};
 ghost use Rattle.ppd_search.specs.Control.{call_or_entry as call_or_entry_of, call_replays, control_above as control_above_of, control_above_replays, control_in as control_in_of, control_origin as control_origin_of, control_replays, last_test as last_test_among, leaf_call_at, test_of_run as test_of_run_by, test_round as test_round_by};
 ghost use Rattle.ppd_search.specs.Seen.{kind_at, outer_of as outer_at, outer_place as outer_place_of, unless};
@@ -35,7 +35,7 @@ impl<'a> Search<'a> {
             (take place.now.item place.now.items.now))) }
     {
         let code = self.code();
-        if !code.is_while(stmt) {
+        if !code.program.is_while(stmt) {
             return Ok(None);
         }
         match last_test(&code, frame, stmt, &place.items[..place.item])? {
@@ -52,7 +52,7 @@ impl<'a> Search<'a> {
             (take place.now.item place.now.items.now) (parent_if (slice_get (program_in self.now).stmts stmt))) }
     {
         let code = self.code();
-        let Some(outer) = code.parent(stmt) else {
+        let Some(outer) = code.program.parent_of(stmt) else {
             return Ok(None);
         };
         match last_test(&code, frame, outer, &place.items[..place.item])? {

@@ -9,7 +9,7 @@ use Rattle.ppd_resolve.specs.declared.fault.Fault.{Fault}
 use Rattle.ppd_resolve.specs.Faults.{at, unless, if_so}
 use Rattle.ppd_resolve.specs.declared.meaning.Meaning.{Meaning}
 use Rattle.ppd_resolve.specs.declared.meaning.Meaning.TheVariants.{Shared as shared, Local as local, Function as function}
-use Rattle.ppd_resolve.specs.Names.{Scope, meaning, fits, is_semaphore, is_channel}
+use Rattle.ppd_resolve.specs.Names.{Scope, meaning, fits_index, is_semaphore, is_channel}
 use Rattle.ppd_lower.specs.declared.calls.Use.{Use}
 use Rattle.ppd_lower.specs.declared.calls.Use.TheVariants.{Scalar, Element, Semaphore, Channel}
 use Rattle.ppd_resolve.specs.Syntax.{Name, Formula, number, variable, element, negated, inverted, two, both, either}
@@ -47,16 +47,16 @@ name_faults test s x = wrong_use test (meaning s x.text) x.place
 
 -- what a name is used as, as a test of what it means
 abbrev pub is_use : Use → Meaning → Bool
-is_use Scalar = fits false
-is_use Element = fits true
+is_use Scalar = fits_index false
+is_use Element = fits_index true
 is_use Semaphore = is_semaphore
 is_use Channel = is_channel
 
 -- the rules that an expression breaks
 abbrev pub formula_faults : List Scope → Formula → List Fault
 formula_faults s (number n) = []
-formula_faults s (variable x) = name_faults (fits false) s x
-formula_faults s (element x i) = name_faults (fits true) s x ++ formula_faults s i
+formula_faults s (variable x) = name_faults (fits_index false) s x
+formula_faults s (element x i) = name_faults (fits_index true) s x ++ formula_faults s i
 formula_faults s (negated e) = formula_faults s e
 formula_faults s (inverted e) = formula_faults s e
 formula_faults s (two op a b) = formula_faults s a ++ formula_faults s b

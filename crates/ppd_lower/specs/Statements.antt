@@ -22,8 +22,8 @@ abbrev pub opened : Frame → Frame
 opened f = record f { scopes = [] ∷ f.scopes }
 
 -- the frame g with the scopes of f again
-abbrev pub closed : Frame → Frame → Frame
-closed f g = record g { scopes = f.scopes }
+abbrev pub with_scopes_of : Frame → Frame → Frame
+with_scopes_of f g = record g { scopes = f.scopes }
 
 -- Places where values are stored.
 
@@ -72,10 +72,10 @@ after_any (Some s) f = after s f
 abbrev pub after_row : Row → Frame → Frame
 after_row stop f = f
 after_row (simple s r) f = after_row r (after s f)
-after_row (block b r) f = after_row r (closed f (after_row b (opened f)))
+after_row (block b r) f = after_row r (with_scopes_of f (after_row b (opened f)))
 after_row (choice p e a b r) f = after_row r (after_row b (after_row a f))
 after_row (repeat p e b r) f = after_row r (after_row b f)
-after_row (count p start e step b r) f = after_row r (closed f (after_row b (after_any start (opened f))))
+after_row (count p start e step b r) f = after_row r (with_scopes_of f (after_row b (after_any start (opened f))))
 
 -- The core statements.
 
@@ -137,7 +137,7 @@ abbrev pub row_code : Row → Frame → Code
 row_code stop f = done
 row_code (simple s r) f = join (code_of s f) (row_code r (after s f))
 row_code (block b r) f =
-    join (row_code b (opened f)) (row_code r (closed f (after_row b (opened f))))
+    join (row_code b (opened f)) (row_code r (with_scopes_of f (after_row b (opened f))))
 row_code (choice p e a b r) f =
     C.choice p (term_of f.scopes e) (row_code a f) (row_code b (after_row a f))
     (row_code r (after_row b (after_row a f)))
@@ -147,7 +147,7 @@ row_code (count p start e step b r) f =
     let g : Frame = after_any start (opened f) in
     join (code_of_any start (opened f))
     (loop p (term_of g.scopes e) (join (row_code b g) (code_of_any step (after_row b g)))
-    (row_code r (closed f (after_row b g))))
+    (row_code r (with_scopes_of f (after_row b g))))
 
 -- The broken rules.
 
@@ -178,7 +178,7 @@ abbrev pub row_faults : Row → Frame → List Fault
 row_faults stop f = []
 row_faults (simple s r) f = faults_of s f ++ row_faults r (after s f)
 row_faults (block b r) f =
-    row_faults b (opened f) ++ row_faults r (closed f (after_row b (opened f)))
+    row_faults b (opened f) ++ row_faults r (with_scopes_of f (after_row b (opened f)))
 row_faults (choice p e a b r) f =
     formula_faults f.scopes e
     ++ (row_faults a f ++ (row_faults b (after_row a f) ++ row_faults r (after_row b (after_row a f))))
@@ -188,4 +188,4 @@ row_faults (count p start e step b r) f =
     let g : Frame = after_any start (opened f) in
     faults_of_any start (opened f)
     ++ (formula_faults g.scopes e
-    ++ (row_faults b g ++ (faults_of_any step (after_row b g) ++ row_faults r (closed f (after_row b g)))))
+    ++ (row_faults b g ++ (faults_of_any step (after_row b g) ++ row_faults r (with_scopes_of f (after_row b g)))))

@@ -8,10 +8,11 @@ use Rattle.std.proofs.lemmas.List.{map-append}
 use Rattle.std.proofs.lemmas.List.Elements.{filter-append}
 use Rattle.std.proofs.lemmas.List.Sums.{fold-append}
 use Rattle.std.proofs.lemmas.Option.{none-some}
+use Rattle.std.proofs.Math.Bool.{or-false}
 use Rattle.ppd_ast.specs.Valid.{IsValid}
 use Rattle.ppd_ast.specs.declared.plan.Plan.{Plan}
 use Rattle.ppd_ast.specs.declared.program.Program.{Program}
-use Rattle.ppd_ast.specs.Members.{with_cell}
+use Rattle.ppd_ast.specs.Members.{RisesFrom, has, with_cell}
 use Rattle.ppd_sem.specs.declared.proc.Need.{Need}
 use Rattle.ppd_sem.specs.declared.proc.Need.TheVariants as n
 use Rattle.ppd_sem.specs.declared.proc.Proc.{Proc}
@@ -27,11 +28,6 @@ use Rattle.ppd_model.proofs.Changes.{some}
 use Rattle.ppd_model.proofs.LocalTags.{own_steps_told}
 
 -- ---- rising lists
-
--- the list rises from n on
-abbrev RisesFrom : ℕ → List ℕ → Type 0
-RisesFrom n [] = ⊤
-RisesFrom n (x ∷ xs) = (n ≤ x) × RisesFrom (x + 1) xs
 
 increases : (xs : List ℕ) (n : ℕ) → RisesFrom n xs → IsStrictlyIncreasing xs
 increases [] n h k lt = absurd (omega (arith, lt))
@@ -59,9 +55,6 @@ rises set (c ∷ cs) h = rises (with_cell c set) cs (one_more c 0 set (omega ari
 
 -- ---- what is in them
 
-abbrev has : ℕ → List ℕ → Bool
-has c xs = list_any (λ d. nat_eq d c) xs
-
 or-swap : (a b c : Bool) → (a || (b || c)) ≡ (b || (a || c))
 or-swap true true c = refl
 or-swap true false c = refl
@@ -71,27 +64,23 @@ or-same : (a b : Bool) → (a || (a || b)) ≡ (a || b)
 or-same true b = refl
 or-same false b = refl
 
-has_more : (e c : ℕ) (xs : List ℕ) → has e (with_cell c xs) ≡ (nat_eq c e || has e xs)
+has_more : (e c : ℕ) (xs : List ℕ) → has (with_cell c xs) e ≡ (nat_eq c e || has xs e)
 has_more e c [] = refl
 has_more e c (d ∷ ds) = by (nat_lt c d) (nat_eq c d) refl (has_more e c ds)
   where
-    by : (b f : Bool) → nat_eq c d ≡ f → has e (with_cell c ds) ≡ (nat_eq c e || has e ds) → has e (cond b (c ∷ d ∷ ds) (cond f (d ∷ ds) (d ∷ with_cell c ds))) ≡ (nat_eq c e || (nat_eq d e || has e ds))
+    by : (b f : Bool) → nat_eq c d ≡ f → has (with_cell c ds) e ≡ (nat_eq c e || has ds e) → has (cond b (c ∷ d ∷ ds) (cond f (d ∷ ds) (d ∷ with_cell c ds))) e ≡ (nat_eq c e || (nat_eq d e || has ds e))
     by true f eq more = refl
-    by false true eq more = sym (or-same (nat_eq d e) (has e ds)) ∙ ap (λ k. nat_eq k e || (nat_eq d e || has e ds)) (sym (eqb-true c d eq))
-    by false false eq more = ap (λ b. nat_eq d e || b) more ∙ or-swap (nat_eq d e) (nat_eq c e) (has e ds)
+    by false true eq more = sym (or-same (nat_eq d e) (has ds e)) ∙ ap (λ k. nat_eq k e || (nat_eq d e || has ds e)) (sym (eqb-true c d eq))
+    by false false eq more = ap (λ b. nat_eq d e || b) more ∙ or-swap (nat_eq d e) (nat_eq c e) (has ds e)
 
-or-assoc : (a b c : Bool) → ((a || b) || c) ≡ (b || (a || c))
+pub or-assoc : (a b c : Bool) → ((a || b) || c) ≡ (b || (a || c))
 or-assoc true true c = refl
 or-assoc true false c = refl
 or-assoc false b c = refl
 
-has_all : (e : ℕ) (set cells : List ℕ) → has e (fold (λ set c. with_cell c set) set cells) ≡ (has e cells || has e set)
+has_all : (e : ℕ) (set cells : List ℕ) → has (fold (λ set c. with_cell c set) set cells) e ≡ (has cells e || has set e)
 has_all e set [] = refl
-has_all e set (c ∷ cs) = has_all e (with_cell c set) cs ∙ ap (λ b. has e cs || b) (has_more e c set) ∙ sym (or-assoc (nat_eq c e) (has e cs) (has e set))
-
-or-none : (b : Bool) → (b || false) ≡ b
-or-none true = refl
-or-none false = refl
+has_all e set (c ∷ cs) = has_all e (with_cell c set) cs ∙ ap (λ b. has cs e || b) (has_more e c set) ∙ sym (or-assoc (nat_eq c e) (has cs e) (has set e))
 
 and-turn : (x y z : Bool) → ((x && z) && y) ≡ ((x && y) && z)
 and-turn true true z = and-one z
@@ -114,13 +103,13 @@ cells_at xs = map (λ (a : SharedAccess). a.cell) xs
 abbrev is_any : ℕ → ℕ → Bool → List SharedAccess → Bool
 is_any c i w xs = list_any (λ (a : SharedAccess). nat_eq a.edge i && nat_eq a.cell c && writes_or_not a w) xs
 
-has_cells : (c i : ℕ) (w : Bool) (xs : List SharedAccess) → has c (cells_at (chosen i w xs)) ≡ is_any c i w xs
+has_cells : (c i : ℕ) (w : Bool) (xs : List SharedAccess) → has (cells_at (chosen i w xs)) c ≡ is_any c i w xs
 has_cells c i w [] = refl
 has_cells c i w (a ∷ as') =
     by (nat_eq a.edge i && writes_or_not a w) (has_cells c i w as')
     ∙ ap (λ x. x || is_any c i w as') (and-turn (nat_eq a.edge i) (nat_eq a.cell c) (writes_or_not a w))
   where
-    by : (b : Bool) → has c (cells_at (chosen i w as')) ≡ is_any c i w as' → has c (cells_at (cond b (a ∷ chosen i w as') (chosen i w as'))) ≡ ((b && nat_eq a.cell c) || is_any c i w as')
+    by : (b : Bool) → has (cells_at (chosen i w as')) c ≡ is_any c i w as' → has (cells_at (cond b (a ∷ chosen i w as') (chosen i w as'))) c ≡ ((b && nat_eq a.cell c) || is_any c i w as')
     by true rest = ap (λ x. nat_eq a.cell c || x) rest
     by false rest = rest
 
@@ -129,7 +118,7 @@ cells_are s p i w =
     let cells : List ℕ = cells_at (chosen i w (accesses s p)) in
     record {
       rises = increases (rising cells) 0 (rises [] cells tt);
-      are = λ c. has_all c [] cells ∙ or-none (has c cells) ∙ has_cells c i w (accesses s p);
+      are = λ c. has_all c [] cells ∙ or-false (has cells c) ∙ has_cells c i w (accesses s p);
     }
 
 -- ---- the sets with more accesses

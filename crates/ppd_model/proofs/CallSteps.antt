@@ -6,6 +6,7 @@ use Rattle.ppd_ast.specs.declared.program.Expr.{Expr}
 use Rattle.ppd_ast.specs.declared.program.Kind.{Kind}
 use Rattle.ppd_ast.specs.declared.program.Program.{Program}
 use Rattle.ppd_ast.specs.Lookups.{kind_of}
+use Rattle.ppd_ast.specs.Numbered.{is_call}
 use Rattle.ppd_sem.specs.declared.event.Event.{Event}
 use Rattle.ppd_sem.specs.declared.proc.Need.{Need}
 use Rattle.ppd_sem.specs.declared.proc.Need.TheVariants.{Trap}
@@ -18,7 +19,6 @@ use Rattle.ppd_sem.specs.Described.{is_event}
 use Rattle.ppd_sem.proofs.OfKind.{IsDeedOf, OfAsked, asked_holds, invokes}
 use Rattle.ppd_model.specs.declared.trace.EventId.{EventId}
 use Rattle.ppd_model.specs.FullTrace.{Activation, Tag, Tracing, all_tagged, event_of, me_in, tagged, tagged_after, tagged_at, tagged_by, tagged_into, trace_step, with_test}
-use Rattle.ppd_model.specs.Parents.{is_call}
 use Rattle.ppd_model.specs.Story.{Story, Taken}
 use Rattle.ppd_model.proofs.TestSteps.{all_tagged_views, event_acts, into_views, tagged_views, views}
 

@@ -36,6 +36,7 @@ use Rattle.ppd_sem.specs.Process.{act, act_at, act_by_asked, act_by_need, charge
 use Rattle.ppd_sem.specs.Tables.{block_of, capacity_of, length_of, postlog_length, prelog_length, returned_length, same_block, unit_length, unit_of}
 use Rattle.ppd_sem.proofs.Paid.{need-paid}
 use Rattle.ppd_sem.proofs.Progress.{IsWithinBudget, SamePurse, act-stopped, act-within, asked_purse, need_at_status, need_at_todo}
+use Rattle.ppd_sem.specs.Runs.{bodies_in}
 use Rattle.ppd_model.specs.Costs.{CostsWhatItWrites, HasSpentNothing, HasWholePrelogs, IsWholeBlock, LogsArePaid, StartsAreFree, StepsCostWhatTheyWrite, values_in}
 use Rattle.ppd_model.specs.Laws.{logged_moment}
 use Rattle.ppd_model.specs.Logs.{Logging, begun_log, ends, entries_of, log_step, loggings, logs_from, postlogs, prelogs, status_of, syncs, units}
@@ -46,7 +47,7 @@ use Rattle.ppd_model.specs.States.{states_from}
 use Rattle.ppd_model.specs.Synchronizations.{Sync, sync_of}
 use Rattle.ppd_model.specs.World.{World, change, need, need_at, step}
 use Rattle.ppd_model.proofs.Changes.{change-at, change-else, some}
-use Rattle.ppd_model.proofs.Homes.{AreHome, AskedOf, IsHome, act-home, bodies_of, head_of, started-home}
+use Rattle.ppd_model.proofs.Homes.{AreHome, AskedOf, IsHome, act-home, head_of, started-home}
 use Rattle.ppd_model.proofs.States.{logged, logs-change, one_state, states-begun, states-tell}
 
 -- ---- the values in entries
@@ -165,7 +166,7 @@ Tells program plan s (Invoke (Some b) u) = prelog_length plan b ≡ length (argu
 Tells program plan s (Back (Some b) u) = returned_length plan (Some b) ≡ length (result_at program s)
 Tells program plan s n = ⊤
 
-head_home : (program : Program) (frames : List Frame) (t : Todo) (ts : List Todo) → AreHome program (bodies_of frames) (t ∷ ts) → body_of program t.stmt ≡ top_body frames
+head_home : (program : Program) (frames : List Frame) (t : Todo) (ts : List Todo) → AreHome program (bodies_in frames) (t ∷ ts) → body_of program t.stmt ≡ top_body frames
 head_home program [] t ts h = absurd h
 head_home program (f ∷ fs) t ts h = h.0
 
@@ -226,7 +227,7 @@ module _ (program : Program) (plan : Plan) (valid : IsValidPlan program plan) (w
   told_todo [] is home v = tt
   told_todo (t ∷ ts) is home v =
       told_depth _ Budget (need_of_head program plan t s) tt (told_offer t.stmt (offer_of program t) _ (told_entry t ts (entry_of program plan t) is
-      (subst (λ b. AskedOf program b (kind_of program t.stmt) (head_deed program t s)) (head_home program s.frames t ts (subst (λ l. AreHome program (bodies_of s.frames) l) is home)) (head_of program t s v))))
+      (subst (λ b. AskedOf program b (kind_of program t.stmt) (head_deed program t s)) (head_home program s.frames t ts (subst (λ l. AreHome program (bodies_in s.frames) l) is home)) (head_of program t s v))))
 
   told_status : (o : Option Status) → IsHome program s → IsValid program → Tells program plan s (need_by_status program plan o s)
   told_status (Some x) home v = tt

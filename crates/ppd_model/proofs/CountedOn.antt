@@ -62,7 +62,7 @@ pub last_at : {A : Type 0} (xs : List A) (y : A) → slice_get (xs ++ y ∷ []) 
 last_at [] y = refl
 last_at (x ∷ xs) y = last_at xs y
 
-cases_at : {A : Type 0} (xs : List A) (y : A) (i : ℕ) (x : A) → slice_get (xs ++ y ∷ []) i ≡ Some x → (slice_get xs i ≡ Some x) ⊎ ((i ≡ length xs) × (y ≡ x))
+pub cases_at : {A : Type 0} (xs : List A) (y : A) (i : ℕ) (x : A) → slice_get (xs ++ y ∷ []) i ≡ Some x → (slice_get xs i ≡ Some x) ⊎ ((i ≡ length xs) × (y ≡ x))
 cases_at [] y zero x e = inr (refl, some e)
 cases_at [] y (suc i) x e = absurd (none-some x e)
 cases_at (z ∷ xs) y zero x e = inl e

@@ -6,7 +6,7 @@ use Rattle.ppd_ast.specs.declared.plan.Plan.{Plan}
 use Rattle.ppd_ast.specs.declared.program.Kind.{Kind}
 use Rattle.ppd_ast.specs.declared.program.Kind.TheVariants.{If, While}
 use Rattle.ppd_ast.specs.declared.program.Program.{Program}
-use Rattle.ppd_ast.specs.Lookups.{kind_of}
+use Rattle.ppd_ast.specs.Lookups.{kind_of, parent_if}
 use Rattle.ppd_sem.specs.declared.event.Access.{Access}
 use Rattle.ppd_sem.specs.declared.event.Event.{Event}
 use Rattle.ppd_sem.specs.declared.event.Spot.{Spot}
@@ -24,8 +24,9 @@ use Rattle.ppd_sem.specs.Runs.{size_if}
 use Rattle.ppd_model.specs.declared.trace.EventId.{EventId}
 use Rattle.ppd_model.specs.declared.trace.TracedEvent.{TracedEvent}
 use Rattle.ppd_model.specs.Earlier.{AreEarlier, EachNamesEarlier, IsEarlier, IsEarlierAt, NamesEarlier, TracesNameEarlierEvents, TracesTellRuns, own_events}
-use Rattle.ppd_model.specs.FullTrace.{Activation, Tag, Test, Tracing, all_tagged, answers_past, begun_tracing, called, event_of, into_at, latest, me_in, of_outer, of_run, or_else, parent_at, parent_if, parent_in, tag_at, tagged, tagged_after, tagged_at, tagged_by, tagged_into, tags_of, tests_after, top_tags, trace_by, trace_step, traced_by, with_event, with_test}
+use Rattle.ppd_model.specs.FullTrace.{Activation, Tag, Test, Tracing, all_tagged, answers_past, begun_tracing, called, event_of, into_at, latest, me_in, of_outer, of_run, or_else, parent_at, parent_in, tag_at, tagged, tagged_after, tagged_at, tagged_by, tagged_into, tags_of, tests_after, top_tags, trace_by, trace_step, traced_by, with_event, with_test}
 use Rattle.ppd_model.specs.Story.{Story, Taken}
+use Rattle.ppd_model.specs.World.{Each}
 
 -- ---- the run
 
@@ -67,11 +68,7 @@ tell_runs program plan budget story p steps = told_run program plan story p budg
 
 -- ---- each
 
-abbrev Each : {A : Type 0} → (A → Type 0) → List A → Type 0
-Each P [] = ⊤
-Each P (x ∷ xs) = P x × Each P xs
-
-each_more : {A : Type 0} (P Q : A → Type 0) (xs : List A) → ((x : A) → P x → Q x) → Each P xs → Each Q xs
+pub each_more : {A : Type 0} (P Q : A → Type 0) (xs : List A) → ((x : A) → P x → Q x) → Each P xs → Each Q xs
 each_more P Q [] f h = h
 each_more P Q (x ∷ xs) f h = (f x h.0, each_more P Q xs f h.1)
 
@@ -90,7 +87,7 @@ each_copy : {A : Type 0} (P : A → Type 0) (n : ℕ) (y : A) → P y → Each P
 each_copy P zero y h = tt
 each_copy P (suc n) y h = (h, each_copy P n y h)
 
-each_append : {A : Type 0} (P : A → Type 0) (xs ys : List A) → Each P xs → Each P ys → Each P (xs ++ ys)
+pub each_append : {A : Type 0} (P : A → Type 0) (xs ys : List A) → Each P xs → Each P ys → Each P (xs ++ ys)
 each_append P [] ys h k = k
 each_append P (x ∷ xs) ys h k = (h.0, each_append P xs ys h.1 k)
 

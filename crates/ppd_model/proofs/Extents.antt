@@ -12,7 +12,7 @@ use Rattle.ppd_entry.specs.declared.entry.Entry.TheVariants as entry
 use Rattle.ppd_model.specs.Extents.{AreMatched, none, within, pair, AreOpen, matched, opened, Extending, Extent, ExtentsAreIndexed, ExtentsMatch, IsLeftAt, IsNotLeft, begun_extents, ended_by, extend, first_of, is_within, left_by}
 use Rattle.ppd_model.specs.World.{change}
 use Rattle.ppd_model.proofs.Changes.{change-at, change-else, length-change, some}
-use Rattle.ppd_model.proofs.CountedOn.{kept_at, last_at}
+use Rattle.ppd_model.proofs.CountedOn.{kept_at, last_at, cases_at}
 
 -- ---- matching lists
 
@@ -49,7 +49,7 @@ left_grow done more i j l = record {
 -- ---- running intervals
 
 -- the numbers fall from below n
-abbrev Fall : ℕ → List ℕ → Type 0
+abbrev pub Fall : ℕ → List ℕ → Type 0
 Fall n [] = ⊤
 Fall n (k ∷ ks) = (k < n) × Fall k ks
 
@@ -57,7 +57,7 @@ abbrev pub IsIn : ℕ → List ℕ → Type 0
 IsIn k [] = ⊥
 IsIn k (m ∷ ms) = (k ≡ m) ⊎ IsIn k ms
 
-in_below : (n : ℕ) (ks : List ℕ) (k : ℕ) → Fall n ks → IsIn k ks → k < n
+pub in_below : (n : ℕ) (ks : List ℕ) (k : ℕ) → Fall n ks → IsIn k ks → k < n
 in_below n [] k f i = absurd i
 in_below n (m ∷ ms) k f (inl e) = omega (arith, e, f.0)
 in_below n (m ∷ ms) k f (inr i) = let lt : k < m = in_below m ms k f.1 i in omega (arith, lt, f.0)
@@ -164,7 +164,7 @@ record IsSound (done : List Entry) (x : Extending) : Type 0 where
   left : (k : ℕ) (e : Extent) → slice_get x.extents k ≡ Some e → e.closed ≡ true → (j : ℕ) × (e.last ≡ Some j) × IsLeftAt done e.prelog j
   runs : (k : ℕ) (e : Extent) → slice_get x.extents k ≡ Some e → e.closed ≡ false → IsIn k x.running
 
-one_longer : (done : List Entry) (e : Entry) (n : ℕ) → n ≡ length done → n + 1 ≡ length (done ++ e ∷ [])
+pub one_longer : (done : List Entry) (e : Entry) (n : ℕ) → n ≡ length done → n + 1 ≡ length (done ++ e ∷ [])
 one_longer done e n is = let more : length (done ++ e ∷ []) ≡ length done + 1 = length-append done (e ∷ []) in omega (arith, is, more)
 
 -- an entry that matches by itself
@@ -179,12 +179,6 @@ quiet done e x w h = record {
 
 -- ---- a prelog
 
-cases_end : {A : Type 0} (xs : List A) (y : A) (i : ℕ) (x : A) → slice_get (xs ++ y ∷ []) i ≡ Some x → (slice_get xs i ≡ Some x) ⊎ ((i ≡ length xs) × (y ≡ x))
-cases_end [] y zero x e = inr (refl, some e)
-cases_end [] y (suc i) x e = absurd (none-some x e)
-cases_end (z ∷ xs) y zero x e = inl e
-cases_end (z ∷ xs) y (suc i) x e = elim (cases_end xs y i x e) [ inl old ↦ inl old | inr new ↦ inr (ap suc new.0, new.1) ]
-
 entered : (done : List Entry) (b : ℕ) (vs : List ℤ) (x : Extending) → IsSound done x → IsSound (done ++ entry.Prelog b vs ∷ []) (extend x (entry.Prelog b vs))
 entered done b vs x h =
     let new : Extent = record { block = b; parent = first_of x.running; prelog = x.entry; last = None; closed = false } in
@@ -196,11 +190,11 @@ entered done b vs x h =
         stack_like x.extents (x.extents ++ new ∷ []) done x.running (λ k e i at. (e, kept_at x.extents (new ∷ []) k e at, record { prelog = refl; closed = refl })) h.stack,
       );
       falls = (omega (arith, longer), h.falls);
-      left = λ k e at is. elim (cases_end x.extents new k e at) [
+      left = λ k e at is. elim (cases_at x.extents new k e at) [
         | inl old ↦ let l = h.left k e old is in (l.0, l.1, left_grow done (entry.Prelog b vs ∷ []) e.prelog l.0 l.2)
         | inr now ↦ absurd (true≢false (sym is ∙ ap (λ (z : Extent). z.closed) (sym now.1)))
       ];
-      runs = λ k e at is. elim (cases_end x.extents new k e at) [ inl old ↦ inr (h.runs k e old is) | inr now ↦ inl now.0 ];
+      runs = λ k e at is. elim (cases_at x.extents new k e at) [ inl old ↦ inr (h.runs k e old is) | inr now ↦ inl now.0 ];
     }
 
 -- ---- an end
@@ -240,7 +234,7 @@ ended_before j (m ∷ ms) xs k f at =
       }
     ]
 
-ended_length : (j : ℕ) (ks : List ℕ) (xs : List Extent) → length (ended_by j ks xs) ≡ length xs
+pub ended_length : (j : ℕ) (ks : List ℕ) (xs : List Extent) → length (ended_by j ks xs) ≡ length xs
 ended_length j [] xs = refl
 ended_length j (k ∷ ks) xs = ended_length j ks (change (last_by j) k xs) ∙ length-change (last_by j) k xs
 
@@ -278,7 +272,7 @@ at_end done e x w h =
 
 -- ---- a postlog
 
-abbrev close_by : ℕ → Extent → Extent
+abbrev pub close_by : ℕ → Extent → Extent
 close_by j e = record e { last = Some j; closed = true }
 
 no_block : (done : List Entry) (c : ℕ) (ws : List ℤ) (x : Extending) → x.running ≡ [] → IsSound done x → IsSound (done ++ entry.Postlog c ws ∷ []) (extend x (entry.Postlog c ws))

@@ -10,6 +10,7 @@ use Rattle.ppd_ast.specs.declared.program.Program.{Program}
 use Rattle.ppd_ast.specs.declared.program.Sem.{Sem}
 use Rattle.ppd_ast.specs.declared.status.SyncKind.{SyncKind}
 use Rattle.ppd_ast.specs.declared.status.SyncKind.TheVariants.{P, V, Send, Recv, Done}
+use Rattle.ppd_ast.proofs.ValidLaws.{slice_get_there, slice_get_below}
 use Rattle.ppd_sem.specs.Tables.{capacity_in, capacity_of}
 use Rattle.ppd_model.specs.declared.graph.NodeId.{NodeId}
 use Rattle.ppd_model.specs.declared.state.Channel.{Channel}
@@ -26,7 +27,7 @@ use Rattle.ppd_model.specs.Forward.{EdgesGoForward, RecordsAreClosed, edge_in}
 use Rattle.ppd_model.proofs.Balanced.{balanced}
 use Rattle.ppd_model.proofs.Changes.{some}
 use Rattle.ppd_model.proofs.CountedOn.{kept_at}
-use Rattle.ppd_model.proofs.Lists.{at_below, below_at, no_longer}
+use Rattle.ppd_model.proofs.Lists.{no_longer}
 use Rattle.ppd_model.proofs.Numbers.{are_counted, record-change}
 use Rattle.ppd_model.proofs.Stories.{steps-change, stories_are_of_runs}
 
@@ -160,7 +161,7 @@ module _ (program : Program) (plan : Plan) (budget : ℕ) (g rest : List ℕ) (w
 
   leads_below : (a b : NodeId) → IsTrue (leads_at program (sync_at late a) (sync_at late b)) → b.sync < length (own_syncs early b.process) → a.sync < length (own_syncs early a.process)
   leads_below a b h lt =
-      let there = at_below (own_syncs early b.process) b.sync lt in
+      let there = slice_get_there (own_syncs early b.process) b.sync lt in
       let l = both_lead program (sync_at late a) (sync_at late b) h in
       let x : Sync = l.0 in
       let y : Sync = l.1 in
@@ -174,7 +175,7 @@ module _ (program : Program) (plan : Plan) (budget : ℕ) (g rest : List ℕ) (w
       let le : x.number ≤ count_of (told program plan budget g).world x.kind x.object = counted_too program (told program plan budget g).world even x.kind y.kind x.object x.number y.number parts.1 top in
       let found = counts.found x.kind x.object x.number (all.numbers a x l.2).0 le in
       let one : a ≡ found.0 = all.once a found.0 x l.2 (grows found.0 x found.1) in
-      subst (λ (c : NodeId). c.sync < length (own_syncs early c.process)) (sym one) (below_at (own_syncs early found.0.process) found.0.sync x found.1)
+      subst (λ (c : NodeId). c.sync < length (own_syncs early c.process)) (sym one) (slice_get_below (own_syncs early found.0.process) found.0.sync x found.1)
 
   next_below : (a b : NodeId) → IsTrue (is_next late a b) → b.sync < length (own_syncs early b.process) → a.sync < length (own_syncs early a.process)
   next_below a b h lt =

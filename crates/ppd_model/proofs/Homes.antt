@@ -14,6 +14,7 @@ use Rattle.ppd_ast.specs.Order.{StandIn, inner}
 use Rattle.ppd_ast.specs.Valid.{CallsRightly, EndsBody, IsValid, IsValidKind, IsValidStmt}
 use Rattle.ppd_ast.proofs.Standing.{All-append_parts}
 use Rattle.ppd_ast.specs.Lookups.{kind_of_stmt, kind_of, top_of_body, params_of_body, body_of_stmt, body_of}
+use Rattle.ppd_ast.proofs.ValidLaws.{some_and}
 use Rattle.ppd_sem.specs.declared.asking.Pause.TheVariants.{Wants, Traps}
 use Rattle.ppd_sem.specs.declared.proc.Answer.{Answer}
 use Rattle.ppd_sem.specs.declared.proc.Frame.{Frame}
@@ -25,9 +26,9 @@ use Rattle.ppd_sem.specs.Asked.{Asked}
 use Rattle.ppd_sem.specs.Deed.{Deed, set_local, set_shared, clear, branch, turn, leave, invoke, back, take, give, send, receive, print, pass, finish}
 use Rattle.ppd_sem.specs.Process.{act, act_at, act_by_asked, act_by_deed, act_by_need, clear_top, head_deed, into_of, need_of, receive_at, returned, returned_from, started, todos, top_cells, write_top}
 use Rattle.ppd_sem.proofs.Offers.{CompletesSend, completes, send_stays}
-use Rattle.ppd_sem.specs.Runs.{AreOfFunction, IsInner, IsRunnableBody, LeadsOn, left_by, returns, size_of, stmt_size}
+use Rattle.ppd_sem.specs.Runs.{AreOfFunction, IsInner, IsRunnableBody, LeadsOn, left_by, returns, size_of, stmt_size, bodies_in}
 use Rattle.ppd_sem.proofs.Kept.{There, leads_at, there_at}
-use Rattle.ppd_sem.proofs.Validity.{some_at, valid-runnable}
+use Rattle.ppd_sem.proofs.Validity.{valid-runnable}
 use Rattle.ppd_sem.proofs.OfKind.{IsDeedOf, OfAsked, asked_holds, backs, backs_value, goes_first, goes_second, invokes, goes_round}
 use Rattle.ppd_model.proofs.Moves.{body_top}
 
@@ -103,7 +104,7 @@ leads_of program s (Some x) v e =
     let valid : IsValidStmt program s x = subst (IsValidStmt program s) one stmt.2 in
     let n : ℕ = stmt_size program (slice_get program.stmts s) in
     let on : LeadsOn program n (kind_of program s) = leads_at program n s (valid-runnable program v) (record { there = lt; size = refl }) in
-    let at = some_at (λ (b : Body). IsValidKind program b s x.kind) (slice_get program.bodies x.body) valid.kind in
+    let at = some_and (λ (b : Body). IsValidKind program b s x.kind) (slice_get program.bodies x.body) valid.kind in
     of_kind program n s x.body at.0 x.kind v at.1 (subst (λ k. LeadsOn program n k) (ap kind_of_stmt e) on) valid.inside at.2.call at.2.ending
 
 leads : (program : Program) (s : ℕ) → IsValid program → Leads program (body_of program s) (kind_of program s)
@@ -142,10 +143,6 @@ head_of program t s v =
 
 -- ---- frames and what is to do over them
 
--- the bodies of the frames
-abbrev pub bodies_of : List Frame → List ℕ
-bodies_of frames = map (λ f. f.body) frames
-
 -- each statement still to do is of the body of the frame that will then be the top one
 abbrev pub AreHome : Program → List ℕ → List Todo → Type 0
 AreHome program bs [] = ⊤
@@ -163,30 +160,30 @@ top_home program b bs (i ∷ []) ts h home = (h.0, subst (λ (x : Bool). AreHome
 top_home program b bs (i ∷ j ∷ is) ts h home =
     (h.0.of_body, subst (λ (x : Bool). AreHome program (left_by x b bs) (todos (j ∷ is) ++ ts)) (sym h.0.stays) (top_home program b bs (j ∷ is) ts h.1 home))
 
-pub bodies-write : (c : ℕ) (v : ℤ) (frames : List Frame) → bodies_of (write_top c v frames) ≡ bodies_of frames
+pub bodies-write : (c : ℕ) (v : ℤ) (frames : List Frame) → bodies_in (write_top c v frames) ≡ bodies_in frames
 bodies-write c v [] = refl
 bodies-write c v (f ∷ fs) = refl
 
-pub bodies-clear : (base len : ℕ) (frames : List Frame) → bodies_of (clear_top base len frames) ≡ bodies_of frames
+pub bodies-clear : (base len : ℕ) (frames : List Frame) → bodies_in (clear_top base len frames) ≡ bodies_in frames
 bodies-clear base len [] = refl
 bodies-clear base len (f ∷ fs) = refl
 
-bodies-receive : (into : Option ℕ) (value : Option ℤ) (frames : List Frame) → bodies_of (receive_at into value frames) ≡ bodies_of frames
+bodies-receive : (into : Option ℕ) (value : Option ℤ) (frames : List Frame) → bodies_in (receive_at into value frames) ≡ bodies_in frames
 bodies-receive None value frames = refl
 bodies-receive (Some c) None frames = refl
 bodies-receive (Some c) (Some v) frames = bodies-write c v frames
 
-bodies-from : (program : Program) (call : Option ℕ) (value : Option ℤ) (frames : List Frame) → bodies_of (returned_from program call value frames) ≡ bodies_of frames
+bodies-from : (program : Program) (call : Option ℕ) (value : Option ℤ) (frames : List Frame) → bodies_in (returned_from program call value frames) ≡ bodies_in frames
 bodies-from program None value frames = refl
 bodies-from program (Some c) value frames = bodies-receive (into_of (kind_of program c)) value frames
 
-pub bodies-returned : (program : Program) (value : Option ℤ) (frames : List Frame) → bodies_of (returned program value frames) ≡ drop 1 (bodies_of frames)
+pub bodies-returned : (program : Program) (value : Option ℤ) (frames : List Frame) → bodies_in (returned program value frames) ≡ drop 1 (bodies_in frames)
 bodies-returned program value [] = refl
 bodies-returned program value (f ∷ fs) = bodies-from program f.call value fs
 
 -- a process whose statements to do are all at home
 abbrev pub IsHome : Program → Proc → Type 0
-IsHome program s = AreHome program (bodies_of s.frames) s.todo
+IsHome program s = AreHome program (bodies_in s.frames) s.todo
 
 module _ (program : Program) (a : Answer) (t : Todo) (ts : List Todo) (b : ℕ) (bs : List ℕ) (home : AreHome program (b ∷ bs) (t ∷ ts)) where
   rest : (x : Bool) → returns (kind_of program t.stmt) ≡ x → AreHome program (left_by x b bs) ts
@@ -195,43 +192,43 @@ module _ (program : Program) (a : Answer) (t : Todo) (ts : List Todo) (b : ℕ) 
   put : (ns ms : List ℕ) (todo : List Todo) → ns ≡ ms → AreHome program ms todo → AreHome program ns todo
   put ns ms todo e h = subst (λ (l : List ℕ). AreHome program l todo) (sym e) h
 
-  by_deed : (d : Deed) (s : Proc) → bodies_of s.frames ≡ b ∷ bs → DeedOf program b (kind_of program t.stmt) d → IsHome program (act_by_deed program a t ts d s)
-  by_deed (set_local c v) s e h = put (bodies_of (write_top c v s.frames)) (b ∷ bs) ts (bodies-write c v s.frames ∙ e) (rest false h)
-  by_deed (set_shared c v) s e h = put (bodies_of s.frames) (b ∷ bs) ts e (rest false h)
-  by_deed (clear base len) s e h = put (bodies_of (clear_top base len s.frames)) (b ∷ bs) ts (bodies-clear base len s.frames ∙ e) (rest false h)
-  by_deed (branch stmts) s e h = put (bodies_of s.frames) (b ∷ bs) (todos stmts ++ ts) e (beside_home program b bs stmts ts h.1 (rest false h.0))
-  by_deed (turn stmts) s e h = put (bodies_of s.frames) (b ∷ bs) (todos stmts ++ t ∷ ts) e (beside_home program b bs stmts (t ∷ ts) h.1 home)
-  by_deed leave s e h = put (bodies_of s.frames) (b ∷ bs) ts e (rest false h)
+  by_deed : (d : Deed) (s : Proc) → bodies_in s.frames ≡ b ∷ bs → DeedOf program b (kind_of program t.stmt) d → IsHome program (act_by_deed program a t ts d s)
+  by_deed (set_local c v) s e h = put (bodies_in (write_top c v s.frames)) (b ∷ bs) ts (bodies-write c v s.frames ∙ e) (rest false h)
+  by_deed (set_shared c v) s e h = put (bodies_in s.frames) (b ∷ bs) ts e (rest false h)
+  by_deed (clear base len) s e h = put (bodies_in (clear_top base len s.frames)) (b ∷ bs) ts (bodies-clear base len s.frames ∙ e) (rest false h)
+  by_deed (branch stmts) s e h = put (bodies_in s.frames) (b ∷ bs) (todos stmts ++ ts) e (beside_home program b bs stmts ts h.1 (rest false h.0))
+  by_deed (turn stmts) s e h = put (bodies_in s.frames) (b ∷ bs) (todos stmts ++ t ∷ ts) e (beside_home program b bs stmts (t ∷ ts) h.1 home)
+  by_deed leave s e h = put (bodies_in s.frames) (b ∷ bs) ts e (rest false h)
   by_deed (invoke f values into) s e h =
-      put (f ∷ bodies_of s.frames) (f ∷ b ∷ bs) (todos (top_of_body (slice_get program.bodies f)) ++ ts) (ap (λ l. f ∷ l) e)
+      put (f ∷ bodies_in s.frames) (f ∷ b ∷ bs) (todos (top_of_body (slice_get program.bodies f)) ++ ts) (ap (λ l. f ∷ l) e)
       (top_home program f (b ∷ bs) (top_of_body (slice_get program.bodies f)) ts h.1.0 (rest false h.0))
-  by_deed (back value) s e h = put (bodies_of (returned program value s.frames)) bs ts (bodies-returned program value s.frames ∙ ap (λ l. drop 1 l) e) (rest true h.0)
-  by_deed (take x) s e h = put (bodies_of s.frames) (b ∷ bs) ts e (rest false h)
-  by_deed (give x) s e h = put (bodies_of s.frames) (b ∷ bs) ts e (rest false h)
-  by_deed (send x v) s e h = put (bodies_of s.frames) (b ∷ bs) ts e (rest false h)
-  by_deed (receive chan into) s e h = put (bodies_of (write_top into _ s.frames)) (b ∷ bs) ts (bodies-write into _ s.frames ∙ e) (rest false h)
-  by_deed (print v) s e h = put (bodies_of s.frames) (b ∷ bs) ts e (rest false h)
-  by_deed pass s e h = put (bodies_of s.frames) (b ∷ bs) ts e (rest false h)
-  by_deed finish s e h = put (bodies_of s.frames) (b ∷ bs) ts e (rest false h)
+  by_deed (back value) s e h = put (bodies_in (returned program value s.frames)) bs ts (bodies-returned program value s.frames ∙ ap (λ l. drop 1 l) e) (rest true h.0)
+  by_deed (take x) s e h = put (bodies_in s.frames) (b ∷ bs) ts e (rest false h)
+  by_deed (give x) s e h = put (bodies_in s.frames) (b ∷ bs) ts e (rest false h)
+  by_deed (send x v) s e h = put (bodies_in s.frames) (b ∷ bs) ts e (rest false h)
+  by_deed (receive chan into) s e h = put (bodies_in (write_top into _ s.frames)) (b ∷ bs) ts (bodies-write into _ s.frames ∙ e) (rest false h)
+  by_deed (print v) s e h = put (bodies_in s.frames) (b ∷ bs) ts e (rest false h)
+  by_deed pass s e h = put (bodies_in s.frames) (b ∷ bs) ts e (rest false h)
+  by_deed finish s e h = put (bodies_in s.frames) (b ∷ bs) ts e (rest false h)
 
-  unchanged : (s : Proc) (todo : List Todo) → bodies_of s.frames ≡ b ∷ bs → todo ≡ t ∷ ts → AreHome program (bodies_of s.frames) todo
-  unchanged s todo e is = put (bodies_of s.frames) (b ∷ bs) todo e (subst (λ (l : List Todo). AreHome program (b ∷ bs) l) (sym is) home)
+  unchanged : (s : Proc) (todo : List Todo) → bodies_in s.frames ≡ b ∷ bs → todo ≡ t ∷ ts → AreHome program (bodies_in s.frames) todo
+  unchanged s todo e is = put (bodies_in s.frames) (b ∷ bs) todo e (subst (λ (l : List Todo). AreHome program (b ∷ bs) l) (sym is) home)
 
-  by_asked : (asked : Asked Deed) (s : Proc) → bodies_of s.frames ≡ b ∷ bs → s.todo ≡ t ∷ ts → AskedOf program b (kind_of program t.stmt) asked → IsHome program (act_by_asked program a t ts asked s)
+  by_asked : (asked : Asked Deed) (s : Proc) → bodies_in s.frames ≡ b ∷ bs → s.todo ≡ t ∷ ts → AskedOf program b (kind_of program t.stmt) asked → IsHome program (act_by_asked program a t ts asked s)
   by_asked (Ok q) s e is h = by_deed q.0 (record s { answers = [] }) e h
   by_asked (Err (Wants c)) s e is h = unchanged s s.todo e is
   by_asked (Err (Traps x)) s e is h = unchanged s s.todo e is
 
-  by_need : (plan : Plan) (n : Need) (s : Proc) → bodies_of s.frames ≡ b ∷ bs → s.todo ≡ t ∷ ts → CompletesSend program t.stmt n → AskedOf program b (kind_of program t.stmt) (head_deed program t s) → IsHome program (act_by_need program plan a t ts n s)
-  by_need plan (Enter x u) s e is o h = put (bodies_of s.frames) (b ∷ bs) (record t { entered = true } ∷ ts) e home
+  by_need : (plan : Plan) (n : Need) (s : Proc) → bodies_in s.frames ≡ b ∷ bs → s.todo ≡ t ∷ ts → CompletesSend program t.stmt n → AskedOf program b (kind_of program t.stmt) (head_deed program t s) → IsHome program (act_by_need program plan a t ts n s)
+  by_need plan (Enter x u) s e is o h = put (bodies_in s.frames) (b ∷ bs) (record t { entered = true } ∷ ts) e home
   by_need plan (Trap x) s e is o h = unchanged s s.todo e is
   by_need plan Budget s e is o h = unchanged s s.todo e is
   by_need plan Stopped s e is o h = unchanged s s.todo e is
-  by_need plan (Offer c v) s e is o h = put (bodies_of s.frames) (b ∷ bs) (record t { offered = true } ∷ ts) e home
-  by_need plan (Done c u) s e is o h = put (bodies_of s.frames) (b ∷ bs) ts e (rest false (send_stays (kind_of program t.stmt) c o))
+  by_need plan (Offer c v) s e is o h = put (bodies_in s.frames) (b ∷ bs) (record t { offered = true } ∷ ts) e home
+  by_need plan (Done c u) s e is o h = put (bodies_in s.frames) (b ∷ bs) ts e (rest false (send_stays (kind_of program t.stmt) c o))
   by_need plan n s e is o h = by_asked (head_deed program t s) s e is h
 
-by_bodies : (program : Program) (plan : Plan) (a : Answer) (t : Todo) (ts : List Todo) (s : Proc) (bs : List ℕ) → IsValid program → bodies_of s.frames ≡ bs → s.todo ≡ t ∷ ts → AreHome program bs (t ∷ ts) → IsHome program (act_by_need program plan a t ts (need_of program plan s) s)
+by_bodies : (program : Program) (plan : Plan) (a : Answer) (t : Todo) (ts : List Todo) (s : Proc) (bs : List ℕ) → IsValid program → bodies_in s.frames ≡ bs → s.todo ≡ t ∷ ts → AreHome program bs (t ∷ ts) → IsHome program (act_by_need program plan a t ts (need_of program plan s) s)
 by_bodies program plan a t ts s [] v e is home = absurd home
 by_bodies program plan a t ts s (b ∷ bs) v e is home =
     by_need program a t ts b bs home plan (need_of program plan s) s e is (completes program plan s t ts is) (subst (λ (x : ℕ). AskedOf program x (kind_of program t.stmt) (head_deed program t s)) home.0 (head_of program t s v))
@@ -239,7 +236,7 @@ by_bodies program plan a t ts s (b ∷ bs) v e is home =
 by_todo : (program : Program) (plan : Plan) (a : Answer) (s : Proc) (todo : List Todo) → IsValid program → s.todo ≡ todo → IsHome program s → IsHome program (act_at program plan a todo s)
 by_todo program plan a s [] v is home = home
 by_todo program plan a s (t ∷ ts) v is home =
-    by_bodies program plan a t ts s (bodies_of s.frames) v refl is (subst (λ (l : List Todo). AreHome program (bodies_of s.frames) l) is home)
+    by_bodies program plan a t ts s (bodies_in s.frames) v refl is (subst (λ (l : List Todo). AreHome program (bodies_in s.frames) l) is home)
 
 -- a step leaves all at home
 pub act-home : (program : Program) (plan : Plan) (s : Proc) (a : Answer) → IsValid program → IsHome program s → IsHome program (act program plan s a)

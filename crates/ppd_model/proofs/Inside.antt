@@ -17,6 +17,8 @@ use Rattle.ppd_ast.specs.declared.status.Status.{Status}
 use Rattle.ppd_ast.specs.declared.status.Status.TheVariants as status
 use Rattle.ppd_ast.specs.declared.status.Trap.TheVariants.{Depth}
 use Rattle.ppd_ast.specs.Lookups.{kind_of_stmt, kind_of, top_of_body, body_of_stmt, body_of}
+use Rattle.ppd_ast.proofs.ValidLaws.{some_and}
+use Rattle.ppd_ast.specs.Counting.{one_if}
 use Rattle.ppd_sem.specs.declared.asking.Pause.TheVariants.{Wants, Traps}
 use Rattle.ppd_sem.specs.declared.proc.Answer.{Answer}
 use Rattle.ppd_sem.specs.declared.proc.Frame.{Frame}
@@ -27,35 +29,30 @@ use Rattle.ppd_sem.specs.declared.proc.Todo.{Todo}
 use Rattle.ppd_sem.specs.Asked.{Asked}
 use Rattle.ppd_sem.specs.Deed.{Deed, set_local, set_shared, clear, branch, turn, leave, invoke, back, take, give, send, receive, print, pass, finish}
 use Rattle.ppd_sem.specs.Process.{act, act_at, act_by_asked, act_by_deed, act_by_need, call_unit, cost, entry_of, head_deed, loop_of, need_by_entry, need_by_offer, need_of, need_of_asked, need_of_deed, need_of_head, need_of_leaving, need_of_running, need_of_send, offer_of, started, todos, top_body, top_call, top_cells, value_of}
-use Rattle.ppd_sem.specs.Runs.{returns}
+use Rattle.ppd_sem.specs.Runs.{returns, bodies_in}
 use Rattle.ppd_sem.specs.Tables.{block_of, capacity_of, or_zero, unit_of}
 use Rattle.ppd_sem.proofs.Kept.{There, there_at}
 use Rattle.ppd_sem.proofs.Progress.{act-stopped, need_at_status, need_at_todo}
-use Rattle.ppd_sem.proofs.Validity.{some_at}
 use Rattle.ppd_model.proofs.Changes.{some}
 use Rattle.ppd_model.proofs.Deeds.{AskedOf, DeedOf, asked_of}
-use Rattle.ppd_model.proofs.Homes.{AreHome, IsHome, act-home, bodies-clear, bodies-returned, bodies-write, bodies_of, started-home}
+use Rattle.ppd_model.proofs.Homes.{AreHome, IsHome, act-home, bodies-clear, bodies-returned, bodies-write, started-home}
 
 -- ---- intervals by what is to do
-
-abbrev pub one_true : Bool → ℕ
-one_true true = 1
-one_true false = 0
 
 -- how many block loops are entered
 abbrev pub entered : List Todo → ℕ
 entered [] = 0
-entered (t ∷ ts) = one_true t.entered + entered ts
+entered (t ∷ ts) = one_if t.entered + entered ts
 
-abbrev pub one_if : Option ℕ → ℕ
-one_if None = 0
-one_if (Some b) = 1
+abbrev pub one_if_some : Option ℕ → ℕ
+one_if_some None = 0
+one_if_some (Some b) = 1
 
 -- how many of the bodies, but for the last, are blocks
 abbrev pub blocks : Plan → List ℕ → ℕ
 blocks plan [] = 0
 blocks plan (f ∷ []) = 0
-blocks plan (f ∷ g ∷ fs) = one_if (block_of plan (block.Function f)) + blocks plan (g ∷ fs)
+blocks plan (f ∷ g ∷ fs) = one_if_some (block_of plan (block.Function f)) + blocks plan (g ∷ fs)
 
 -- the last of them
 abbrev pub base : List ℕ → Option ℕ
@@ -66,12 +63,12 @@ base (f ∷ g ∷ fs) = base (g ∷ fs)
 -- how many intervals a step begins, and how many it ends
 abbrev pub begins_by : Need → ℕ
 begins_by (need.Enter b u) = 1
-begins_by (need.Invoke o u) = one_if o
+begins_by (need.Invoke o u) = one_if_some o
 begins_by n = 0
 
 abbrev pub ends_by : Need → ℕ
 ends_by (need.Leave b u) = 1
-ends_by (need.Back o u) = one_if o
+ends_by (need.Back o u) = one_if_some o
 ends_by (need.End b) = 1
 ends_by n = 0
 
@@ -83,7 +80,7 @@ entered-todos : (ss : List ℕ) (ts : List Todo) → entered (todos ss ++ ts) �
 entered-todos [] ts = refl
 entered-todos (s ∷ ss) ts = let rest : entered (todos ss ++ ts) ≡ entered ts = entered-todos ss ts in omega (arith, rest)
 
-blocks-push : (plan : Plan) (f : ℕ) (fs : List ℕ) → blocks plan (f ∷ fs) ≤ one_if (block_of plan (block.Function f)) + blocks plan fs
+blocks-push : (plan : Plan) (f : ℕ) (fs : List ℕ) → blocks plan (f ∷ fs) ≤ one_if_some (block_of plan (block.Function f)) + blocks plan fs
 blocks-push plan f [] = omega arith
 blocks-push plan f (g ∷ fs) = omega arith
 
@@ -96,7 +93,7 @@ abbrev pub first_or : List ℕ → ℕ
 first_or [] = 0
 first_or (f ∷ fs) = f
 
-top_body_is : (fs : List Frame) → top_body fs ≡ first_or (bodies_of fs)
+top_body_is : (fs : List Frame) → top_body fs ≡ first_or (bodies_in fs)
 top_body_is [] = refl
 top_body_is (f ∷ fs) = refl
 
@@ -108,7 +105,7 @@ of_function program s (Some x) v e r =
     let stmt : There (IsValidStmt program) program.stmts s = there_at (IsValidStmt program) program.stmts s v.stmts (slice_get_within program.stmts s x e) in
     let one : stmt.0 ≡ x = cc (stmt.1) in
     let valid : IsValidStmt program s x = subst (IsValidStmt program s) one stmt.2 in
-    let at = some_at (λ (b : Body). IsValidKind program b s x.kind) (slice_get program.bodies x.body) valid.kind in
+    let at = some_and (λ (b : Body). IsValidKind program b s x.kind) (slice_get program.bodies x.body) valid.kind in
     let body : There (IsValidBody program) program.bodies x.body = there_at (IsValidBody program) program.bodies x.body v.bodies (slice_get_within program.bodies x.body at.0 at.1) in
     let same : body.0 ≡ at.0 = cc (body.1) in
     let is : at.0.process ≡ nat_le program.functions x.body = subst (λ (b : Body). b.process ≡ nat_le program.functions x.body) same body.2.process in
@@ -123,11 +120,11 @@ of_function program s (Some x) v e r =
 -- ---- one step
 
 module _ (program : Program) (plan : Plan) (v : IsValid program) (a : Answer) (t : Todo) (ts : List Todo) (s : Proc) (b : ℕ) (r : ℕ)
-    (is : s.todo ≡ t ∷ ts) (bottom : base (bodies_of s.frames) ≡ Some b) (process : program.functions ≤ b) (home : IsHome program s)
-    (enough : 1 + entered (t ∷ ts) + blocks plan (bodies_of s.frames) ≤ r) where
+    (is : s.todo ≡ t ∷ ts) (bottom : base (bodies_in s.frames) ≡ Some b) (process : program.functions ≤ b) (home : IsHome program s)
+    (enough : 1 + entered (t ∷ ts) + blocks plan (bodies_in s.frames) ≤ r) where
   -- after a step of this need: the running intervals are enough for these, and the bottom stays
   abbrev Stays : Need → Proc → Type 0
-  Stays n p = (p.status ≡ None → 1 + entered p.todo + blocks plan (bodies_of p.frames) ≤ running_after n r) × (base (bodies_of p.frames) ≡ Some b)
+  Stays n p = (p.status ≡ None → 1 + entered p.todo + blocks plan (bodies_in p.frames) ≤ running_after n r) × (base (bodies_in p.frames) ≡ Some b)
 
   abbrev Tells : Need → Type 0
   Tells n = Stays n (act_by_need program plan a t ts n s)
@@ -137,16 +134,16 @@ module _ (program : Program) (plan : Plan) (v : IsValid program) (a : Answer) (t
   after d = act_by_deed program a t ts d (record s { answers = [] })
 
   -- the step begins and ends no interval, and no loop is entered
-  plain : (n : Need) (p : Proc) → begins_by n ≡ 0 → ends_by n ≡ 0 → entered p.todo ≤ entered (t ∷ ts) → bodies_of p.frames ≡ bodies_of s.frames → Stays n p
+  plain : (n : Need) (p : Proc) → begins_by n ≡ 0 → ends_by n ≡ 0 → entered p.todo ≤ entered (t ∷ ts) → bodies_in p.frames ≡ bodies_in s.frames → Stays n p
   plain n p begins ends few frames =
-      let same : blocks plan (bodies_of p.frames) ≡ blocks plan (bodies_of s.frames) = ap (blocks plan) frames in
+      let same : blocks plan (bodies_in p.frames) ≡ blocks plan (bodies_in s.frames) = ap (blocks plan) frames in
       ((λ runs. omega (arith, begins, ends, few, same, enough)), ap base frames ∙ bottom)
 
   moved : (n : Need) (d : Deed) (left : List ℤ) → head_deed program t s ≡ Ok (d, left) → Stays n (after d) → Stays n (act_by_asked program a t ts (head_deed program t s) s)
   moved n d left at h = subst (λ x. Stays n (act_by_asked program a t ts x s)) (sym at) h
 
   -- the step ends the process
-  ended : (n : Need) (p : Proc) (x : Status) → p.status ≡ Some x → bodies_of p.frames ≡ bodies_of s.frames → Stays n p
+  ended : (n : Need) (p : Proc) (x : Status) → p.status ≡ Some x → bodies_in p.frames ≡ bodies_in s.frames → Stays n p
   ended n p x e frames = ((λ runs. absurd (none-some x (sym runs ∙ e))), ap base frames ∙ bottom)
 
   fewer : entered ts ≤ entered (t ∷ ts)
@@ -167,7 +164,7 @@ module _ (program : Program) (plan : Plan) (v : IsValid program) (a : Answer) (t
           absurd (none-some c (sym no_entry ∙ some_entry))
 
   back_fits : (bs : List ℕ) → base bs ≡ Some b → AreHome program bs (t ∷ ts) → returns (kind_of program t.stmt) ≡ true
-      → (base (drop 1 bs) ≡ Some b) × (one_if (block_of plan (block.Function (first_or bs))) + blocks plan (drop 1 bs) ≤ blocks plan bs)
+      → (base (drop 1 bs) ≡ Some b) × (one_if_some (block_of plan (block.Function (first_or bs))) + blocks plan (drop 1 bs) ≤ blocks plan bs)
   back_fits [] e at_home ret = absurd (none-some b e)
   back_fits (f ∷ []) e at_home ret =
       let below : body_of program t.stmt < program.functions = of_function program t.stmt (slice_get program.stmts t.stmt) v refl ret in
@@ -180,27 +177,27 @@ module _ (program : Program) (plan : Plan) (v : IsValid program) (a : Answer) (t
     leaving : (o : Option ℕ) (left : List ℤ) → head_deed program t s ≡ Ok (leave, left) → block_of plan (block.Loop t.stmt) ≡ o → is_while (kind_of program t.stmt) ≡ true → Tells (need_of_leaving plan t.stmt o)
     leaving None left at e w = moved need.Plain leave left at (plain need.Plain (after leave) refl refl fewer refl)
     leaving (Some c) left at e w =
-        let one : one_true t.entered ≡ 1 = ap one_true (was_entered c e w no_entry) in
+        let one : one_if t.entered ≡ 1 = ap one_if (was_entered c e w no_entry) in
         moved (need.Leave c (unit_of plan (start.Exit t.stmt))) leave left at ((λ runs. omega (arith, one, enough)), bottom)
 
     calling : (x : Bool) (f : ℕ) (values : List ℤ) (into : Option ℕ) (left : List ℤ) → head_deed program t s ≡ Ok (invoke f values into, left)
         → Tells (if x then need.Trap Depth else need.Invoke (block_of plan (block.Function f)) (unit_of plan (start.Entry f)))
     calling true f values into left at = ended (need.Trap Depth) (act_by_need program plan a t ts (need.Trap Depth) s) (status.Trap Depth) refl refl
     calling false f values into left at =
-        let push : blocks plan (f ∷ bodies_of s.frames) ≤ one_if (block_of plan (block.Function f)) + blocks plan (bodies_of s.frames) = blocks-push plan f (bodies_of s.frames) in
+        let push : blocks plan (f ∷ bodies_in s.frames) ≤ one_if_some (block_of plan (block.Function f)) + blocks plan (bodies_in s.frames) = blocks-push plan f (bodies_in s.frames) in
         let more : entered (todos (top_of_body (slice_get program.bodies f)) ++ ts) ≡ entered ts = entered-todos (top_of_body (slice_get program.bodies f)) ts in
         moved (need.Invoke (block_of plan (block.Function f)) (unit_of plan (start.Entry f))) (invoke f values into) left at
-        ((λ runs. omega (arith, push, more, enough)), base-push f (bodies_of s.frames) b bottom)
+        ((λ runs. omega (arith, push, more, enough)), base-push f (bodies_in s.frames) b bottom)
 
     returning : (value : Option ℤ) (left : List ℤ) → head_deed program t s ≡ Ok (back value, left) → returns (kind_of program t.stmt) ≡ true
         → Tells (need.Back (block_of plan (block.Function (top_body s.frames))) (call_unit plan (top_call s.frames)))
     returning value left at ret =
-        let fits = back_fits (bodies_of s.frames) bottom (subst (λ (todo : List Todo). AreHome program (bodies_of s.frames) todo) is home) ret in
-        let popped : bodies_of (after (back value)).frames ≡ drop 1 (bodies_of s.frames) = bodies-returned program value s.frames in
-        let count : blocks plan (bodies_of (after (back value)).frames) ≡ blocks plan (drop 1 (bodies_of s.frames)) = ap (blocks plan) popped in
-        let top : one_if (block_of plan (block.Function (top_body s.frames))) ≡ one_if (block_of plan (block.Function (first_or (bodies_of s.frames)))) =
-        ap (λ k. one_if (block_of plan (block.Function k))) (top_body_is s.frames) in
-        let few : one_if (block_of plan (block.Function (first_or (bodies_of s.frames)))) + blocks plan (drop 1 (bodies_of s.frames)) ≤ blocks plan (bodies_of s.frames) = fits.1 in
+        let fits = back_fits (bodies_in s.frames) bottom (subst (λ (todo : List Todo). AreHome program (bodies_in s.frames) todo) is home) ret in
+        let popped : bodies_in (after (back value)).frames ≡ drop 1 (bodies_in s.frames) = bodies-returned program value s.frames in
+        let count : blocks plan (bodies_in (after (back value)).frames) ≡ blocks plan (drop 1 (bodies_in s.frames)) = ap (blocks plan) popped in
+        let top : one_if_some (block_of plan (block.Function (top_body s.frames))) ≡ one_if_some (block_of plan (block.Function (first_or (bodies_in s.frames)))) =
+        ap (λ k. one_if_some (block_of plan (block.Function k))) (top_body_is s.frames) in
+        let few : one_if_some (block_of plan (block.Function (first_or (bodies_in s.frames)))) + blocks plan (drop 1 (bodies_in s.frames)) ≤ blocks plan (bodies_in s.frames) = fits.1 in
         moved (need.Back (block_of plan (block.Function (top_body s.frames))) (call_unit plan (top_call s.frames))) (back value) left at
         ((λ runs. omega (arith, count, top, few, enough)), ap base popped ∙ fits.0)
 
@@ -261,8 +258,8 @@ module _ (program : Program) (plan : Plan) (v : IsValid program) (a : Answer) (t
 -- the running intervals of process p are enough for what it has to do
 pub record IsInside (program : Program) (plan : Plan) (p : ℕ) (s : Proc) (r : ℕ) : Type 0 where
   pub home : IsHome program s
-  pub bottom : base (bodies_of s.frames) ≡ Some (program.functions + p)
-  pub enough : s.status ≡ None → 1 + entered s.todo + blocks plan (bodies_of s.frames) ≤ r
+  pub bottom : base (bodies_in s.frames) ≡ Some (program.functions + p)
+  pub enough : s.status ≡ None → 1 + entered s.todo + blocks plan (bodies_in s.frames) ≤ r
 
 nothing_after : (n : Need) (r : ℕ) → n ≡ need.Stopped → running_after n r ≡ r
 nothing_after n r e = ap (λ m. running_after m r) e ∙ omega arith
@@ -281,13 +278,13 @@ inside_step program plan p a s r v h = by s.status refl s.todo refl
     by None e (t ∷ ts) is =
         let needs : need_of program plan s ≡ need_of_running program plan (t ∷ ts) s = need_at_todo program plan s (t ∷ ts) e is in
         let now : act program plan s a ≡ act_by_need program plan a t ts (need_of program plan s) s = ap (λ todo. act_at program plan a todo s) is in
-        let both = stays program plan v a t ts s (program.functions + p) r is h.bottom (omega arith) h.home (subst (λ todo. 1 + entered todo + blocks plan (bodies_of s.frames) ≤ r) is (h.enough e)) in
+        let both = stays program plan v a t ts s (program.functions + p) r is h.bottom (omega arith) h.home (subst (λ todo. 1 + entered todo + blocks plan (bodies_in s.frames) ≤ r) is (h.enough e)) in
         record {
           home = act-home program plan s a v h.home;
-          bottom = ap (λ (q : Proc). base (bodies_of q.frames)) (now ∙ ap (λ n. act_by_need program plan a t ts n s) needs) ∙ both.1;
+          bottom = ap (λ (q : Proc). base (bodies_in q.frames)) (now ∙ ap (λ n. act_by_need program plan a t ts n s) needs) ∙ both.1;
           enough = λ runs.
-              subst (λ (q : Proc). 1 + entered q.todo + blocks plan (bodies_of q.frames) ≤ running_after (need_of program plan s) r) (sym (now ∙ ap (λ n. act_by_need program plan a t ts n s) needs))
-              (subst (λ n. 1 + entered (act_by_need program plan a t ts (need_of_running program plan (t ∷ ts) s) s).todo + blocks plan (bodies_of (act_by_need program plan a t ts (need_of_running program plan (t ∷ ts) s) s).frames) ≤ running_after n r) (sym needs)
+              subst (λ (q : Proc). 1 + entered q.todo + blocks plan (bodies_in q.frames) ≤ running_after (need_of program plan s) r) (sym (now ∙ ap (λ n. act_by_need program plan a t ts n s) needs))
+              (subst (λ n. 1 + entered (act_by_need program plan a t ts (need_of_running program plan (t ∷ ts) s) s).todo + blocks plan (bodies_in (act_by_need program plan a t ts (need_of_running program plan (t ∷ ts) s) s).frames) ≤ running_after n r) (sym needs)
               (both.0 (ap (λ (q : Proc). q.status) (sym (now ∙ ap (λ n. act_by_need program plan a t ts n s) needs)) ∙ runs)));
         }
 

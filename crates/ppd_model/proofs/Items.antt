@@ -17,6 +17,7 @@ use Rattle.ppd_sem.specs.declared.proc.Need.TheVariants as n
 use Rattle.ppd_sem.specs.declared.proc.Proc.{Proc}
 use Rattle.ppd_sem.proofs.Progress.{need_at_status}
 use Rattle.ppd_ast.specs.declared.status.Status.{Status}
+use Rattle.ppd_ast.proofs.ValidLaws.{slice_get_there}
 use Rattle.ppd_model.specs.declared.trace.EventId.{EventId}
 use Rattle.ppd_model.specs.FlowbackEdges.{part_in}
 use Rattle.ppd_model.specs.FullTrace.{Tag, Tracing, begun_tracing, me_in, top_tags, trace_by}
@@ -28,7 +29,6 @@ use Rattle.ppd_model.specs.Story.{Story, Taken, own_steps, story}
 use Rattle.ppd_model.specs.World.{change}
 use Rattle.ppd_model.proofs.Changes.{length-change, some}
 use Rattle.ppd_model.proofs.Inside.{IsInside, begins_by, ends_by, inside_begun, inside_step, running_after}
-use Rattle.ppd_model.proofs.Lists.{at_below}
 use Rattle.ppd_model.proofs.LocalTags.{own_steps_told}
 use Rattle.ppd_model.proofs.Parts.{AreParts, IsOnce, Parts, at, put, with_event, with_list, with_nested}
 
@@ -51,7 +51,7 @@ parts_put q k [] = refl
 parts_put q zero (i ∷ is) = refl
 parts_put q (suc k) (i ∷ is) = ap (λ ps. i.parts ∷ ps) (parts_put q k is)
 
-first_length : (f : Span → Span) (ks : List ℕ) (spans : List Span) → length (change_first f ks spans) ≡ length spans
+pub first_length : (f : Span → Span) (ks : List ℕ) (spans : List Span) → length (change_first f ks spans) ≡ length spans
 first_length f [] spans = refl
 first_length f (k ∷ ks) spans = length-change f k spans
 
@@ -60,7 +60,7 @@ parts_length [] = refl
 parts_length (i ∷ is) = ap suc (parts_length is)
 
 -- each of these numbers is below n
-abbrev AreBelow : ℕ → List ℕ → Type 0
+abbrev pub AreBelow : ℕ → List ℕ → Type 0
 AreBelow n [] = ⊤
 AreBelow n (k ∷ ks) = (k < n) × AreBelow n ks
 
@@ -68,7 +68,7 @@ more_below : (m n : ℕ) (ks : List ℕ) → m ≤ n → AreBelow m ks → AreBe
 more_below m n [] le h = tt
 more_below m n (k ∷ ks) le h = (omega (arith, le, h.0), more_below m n ks le h.1)
 
-rest_below : (n : ℕ) (ks : List ℕ) → AreBelow n ks → AreBelow n (drop 1 ks)
+pub rest_below : (n : ℕ) (ks : List ℕ) → AreBelow n ks → AreBelow n (drop 1 ks)
 rest_below n [] h = tt
 rest_below n (k ∷ ks) h = h.1
 
@@ -319,8 +319,8 @@ placed m c (i ∷ is) (suc k) j e once =
 -- ---- items
 
 one_item : (x : Split) (q : Part) → ((m : ℕ) → q ≡ own m → m < length x.trace.events) → ((m : ℕ) → q ≡ nested m → m < length x.spans) → length (item_of x q) ≡ 1
-one_item x (own m) events spans = let there = at_below x.trace.events m (events m refl) in ap (λ o. length (item_of_event o)) there.1
-one_item x (nested m) events spans = let there = at_below x.spans m (spans m refl) in ap (λ o. length (item_of_span m o)) there.1
+one_item x (own m) events spans = let there = slice_get_there x.trace.events m (events m refl) in ap (λ o. length (item_of_event o)) there.1
+one_item x (nested m) events spans = let there = slice_get_there x.spans m (spans m refl) in ap (λ o. length (item_of_span m o)) there.1
 
 all_items : (x : Split) (ps : List Part) → ((j m : ℕ) → slice_get ps j ≡ Some (own m) → m < length x.trace.events) → ((j m : ℕ) → slice_get ps j ≡ Some (nested m) → m < length x.spans) → length (flat_map (item_of x) ps) ≡ length ps
 all_items x [] events spans = refl
@@ -362,3 +362,9 @@ items_whole program plan budget h p x v e =
             ref_is = ap (λ y. ref_in (record { process = p; number = m }) y) e ∙ ap (item_at p) (placed m 0 x.spans o.list o.place o.there o.once ∙ (let y : 0 + o.list ≡ o.list = omega arith in ap (λ k. Some (k, o.place)) y));
           };
     }
+
+-- as many processes as lists of steps
+pub splits_length : (program : Program) (plan : Plan) (budget : ℕ) (s : Story) (q : ℕ) (steps : List (List Taken))
+    → length (splits_from program plan budget s q steps) ≡ length steps
+splits_length program plan budget s q [] = refl
+splits_length program plan budget s q (xs ∷ rest) = ap suc (splits_length program plan budget s (q + 1) rest)

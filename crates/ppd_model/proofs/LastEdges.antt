@@ -18,7 +18,7 @@ there_below (x ∷ xs) i zero le h = refl
 there_below (x ∷ xs) zero (suc j) le h = absurd (omega (arith, le))
 there_below (x ∷ xs) (suc i) (suc j) le h = there_below xs i j (omega (arith, le)) h
 
-first_there : (program : Program) (a b : Option Sync) → IsTrue (leads_at program a b) → IsTrue (is_some a)
+pub first_there : (program : Program) (a b : Option Sync) → IsTrue (leads_at program a b) → IsTrue (is_some a)
 first_there program None b h = absurd (true≢false (sym h))
 first_there program (Some a) b h = refl
 

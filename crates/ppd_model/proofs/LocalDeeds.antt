@@ -5,23 +5,21 @@ use Rattle.std.specs.List.{list_any}
 use Rattle.std.proofs.lemmas.Bool.{both_ways, cases_Bool, cases_eq, cases_lt, eq-eqb, eqb-false, eqb-true, ne_eqb, or_cases, or_parts}
 use Rattle.std.proofs.lemmas.List.{get_or-append_right, get_or-replicate, get_or-set_other, get_or-set_same, get_or_append_left, get_or_past, length-append, length-map, length-replicate, length-set}
 use Rattle.std.proofs.lemmas.List.Folds.{list_any-append}
+use Rattle.std.proofs.Math.Bool.{or-false}
 use Rattle.ppd_ast.specs.declared.program.Body.{Body}
 use Rattle.ppd_ast.specs.declared.program.Program.{Program}
 use Rattle.ppd_ast.specs.Lookups.{kind_of}
 use Rattle.ppd_sem.specs.declared.event.Access.{Access}
 use Rattle.ppd_sem.specs.declared.proc.Frame.{Frame}
 use Rattle.ppd_sem.specs.Described.{cleared, local_write, parameters}
-use Rattle.ppd_sem.specs.Process.{cells_for, clear_cells, clear_top, into_of, new_frame, receive_at, returned, returned_from, top_call, write_top}
+use Rattle.ppd_sem.specs.Process.{cells_for, clear_top, into_of, new_frame, receive_at, returned, returned_from, top_call, write_top}
 use Rattle.ppd_sem.specs.Runs.{size_if, sizes}
+use Rattle.ppd_sem.proofs.Kept.{length-clear}
 use Rattle.ppd_model.specs.FullTrace.{Activation, Tag, all_tagged, called, into_at, tagged, tagged_into}
 use Rattle.ppd_model.specs.LocalTags.{is_cell, is_into, locals}
 use Rattle.ppd_model.proofs.FromEnd.{Outcome, hit, miss, past, popped, same, topped}
 
 -- ---- tests
-
-or_none : (b : Bool) → (b || false) ≡ b
-or_none true = refl
-or_none false = refl
 
 -- cell c of activation k is among the accesses
 abbrev pub among : (frame n k c : ℕ) → List Access → Bool
@@ -45,10 +43,10 @@ pub lengths : (frames : List Frame) (acts : List Activation) → map length (loc
 lengths frames acts e =
     sym (length-map acts (λ x. x.tags)) ∙ sym (length-map (locals acts) length) ∙ ap length e ∙ length-map frames (λ f. length f.cells)
 
-tail_is : {a b : ℕ} {xs ys : List ℕ} → a ∷ xs ≡ b ∷ ys → xs ≡ ys
+pub tail_is : {a b : ℕ} {xs ys : List ℕ} → a ∷ xs ≡ b ∷ ys → xs ≡ ys
 tail_is e = cc
 
-head_is : {a b : ℕ} {xs ys : List ℕ} → a ∷ xs ≡ b ∷ ys → a ≡ b
+pub head_is : {a b : ℕ} {xs ys : List ℕ} → a ∷ xs ≡ b ∷ ys → a ≡ b
 head_is e = cc
 
 pub length_locals : (acts : List Activation) → length (locals acts) ≡ length acts
@@ -80,7 +78,7 @@ set_does frame (f ∷ fs) (a ∷ as') d v me e =
     let same_length : length (locals as') ≡ length fs = length_locals as' ∙ lengths fs as' (tail_is e) in
     topped (locals (a ∷ as')) (locals as') (set a.tags d me) _ _ me (λ c. nat_eq d c) (record {
       shape = with_heads (length-set a.tags d me ∙ head_is e ∙ sym (length-set f.cells d v)) (tail_is e);
-      w_is = λ k c. or_none _ ∙ or_none _ ∙ ap (λ b. b && nat_eq d c) (shift k frame (length fs) ∙ ap (λ m. nat_eq k m) (sym same_length));
+      w_is = λ k c. or-false _ ∙ or-false _ ∙ ap (λ b. b && nat_eq d c) (shift k frame (length fs) ∙ ap (λ m. nat_eq k m) (sym same_length));
       under = λ k lt. miss [] a.tags (locals as') k (λ is. omega arith);
       longer = omega arith;
       sets = sets_one a.tags d me;
@@ -110,10 +108,6 @@ length_cleared : (base n : ℕ) (me : Tag) (a : List Tag) → length (tags_clear
 length_cleared base zero me a = refl
 length_cleared base (suc n) me a = length-set (tags_cleared base n me a) (base + n) me ∙ length_cleared base n me a
 
-length_zeros : (base n : ℕ) (xs : List ℤ) → length (clear_cells base n xs) ≡ length xs
-length_zeros base zero xs = refl
-length_zeros base (suc n) xs = length-set (clear_cells base n xs) (base + n) (pos 0) ∙ length_zeros base n xs
-
 and_or : (x y z : Bool) → ((x && y) || (x && z)) ≡ (x && (y || z))
 and_or true y z = refl
 and_or false y z = refl
@@ -127,7 +121,7 @@ among_cleared frame m base zero k c = and_false (nat_eq k m)
 among_cleared frame m base (suc n) k c =
     list_any-append (λ a. is_cell frame (suc m) k c a.spot) (cleared frame base n) (local_write frame (base + n) (pos 0) ∷ [])
     ∙ ap (λ b. b || among frame (suc m) k c (local_write frame (base + n) (pos 0) ∷ [])) (among_cleared frame m base n k c)
-    ∙ ap (λ b. (nat_eq k m && within base n c) || b) (or_none _ ∙ ap (λ b. b && nat_eq (base + n) c) (shift k frame m))
+    ∙ ap (λ b. (nat_eq k m && within base n c) || b) (or-false _ ∙ ap (λ b. b && nat_eq (base + n) c) (shift k frame m))
     ∙ and_or (nat_eq k m) (within base n c) (nat_eq (base + n) c)
 
 sets_all : (a : List Tag) (base n : ℕ) (me : Tag) (c : ℕ) → within base n c ≡ true → c < length a → get_or (tags_cleared base n me a) c None ≡ me
@@ -153,8 +147,8 @@ cleared_top : (frame : ℕ) (f : Frame) (fs : List Frame) (a : Activation) (as' 
 cleared_top frame f fs a as' base n me e =
     let same_length : length (locals as') ≡ length fs = length_locals as' ∙ lengths fs as' (tail_is e) in
     topped (locals (a ∷ as')) (locals as') (tags_cleared base n me a.tags) _ _ me (within base n) (record {
-      shape = with_heads (length_cleared base n me a.tags ∙ head_is e ∙ sym (length_zeros base n f.cells)) (tail_is e);
-      w_is = λ k c. or_none _ ∙ among_cleared frame (length fs) base n k c ∙ ap (λ m. nat_eq k m && within base n c) (sym same_length);
+      shape = with_heads (length_cleared base n me a.tags ∙ head_is e ∙ sym (length-clear base n f.cells)) (tail_is e);
+      w_is = λ k c. or-false _ ∙ among_cleared frame (length fs) base n k c ∙ ap (λ m. nat_eq k m && within base n c) (sym same_length);
       under = λ k lt. miss [] a.tags (locals as') k (λ is. omega arith);
       longer = omega arith;
       sets = λ c is lt. sets_all a.tags base n me c is (subst (λ k. c < k) (length_cleared base n me a.tags) lt);
@@ -173,7 +167,7 @@ clear_does frame (f ∷ fs) (a ∷ as') base n me e =
 
 -- ---- a call
 
-abbrev no_tag : Tag
+abbrev pub no_tag : Tag
 no_tag = None
 
 -- c is among so many cells from i on
@@ -203,7 +197,7 @@ not_from_on i (v ∷ vs) c le e =
     let le2 : i + 1 + length vs ≤ c = not_from_on (i + 1) vs c more both.1 in
     omega arith
 
-replicate_none : (n c : ℕ) → get_or (replicate n no_tag) c None ≡ None
+pub replicate_none : (n c : ℕ) → get_or (replicate n no_tag) c None ≡ None
 replicate_none n c = elim (cases_lt c n) [
   | inl lt ↦ get_or-replicate n c None None lt
   | inr le ↦ get_or_past (replicate n None) c None (subst (λ k. k ≤ c) (sym (length-replicate n no_tag)) le)
@@ -238,7 +232,7 @@ call_does program frame frames acts f values call me e =
     let rest : ℕ = size_if (slice_get program.bodies f) - length values in
     topped (locals acts) (locals acts) (replicate (length values) me ++ replicate rest None) _ _ me (from_on 0 values) (record {
       shape = with_heads (length_called (slice_get program.bodies f) values me) e;
-      w_is = λ k c. or_none _ ∙ among_parameters frame (length frames) 0 values k c ∙ ap (λ m. nat_eq k m && from_on 0 values c) (sym same_length);
+      w_is = λ k c. or-false _ ∙ among_parameters frame (length frames) 0 values k c ∙ ap (λ m. nat_eq k m && from_on 0 values c) (sym same_length);
       under = λ k lt. refl;
       longer = omega arith;
       sets = λ c is lt. sets_parameters values rest me c is;

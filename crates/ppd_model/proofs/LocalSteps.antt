@@ -160,7 +160,7 @@ no_return : (program : Program) (x : TrapOf) (frames : List Frame) (k c : ℕ) (
 no_return program x frames k c (Ok (back v, left)) h = absurd h
 no_return program x frames k c asked h = refl
 
-test_locals : (program : Program) (me : EventId) (e : Event) (acts : List Activation) → locals (with_test program me e acts) ≡ locals acts
+pub test_locals : (program : Program) (me : EventId) (e : Event) (acts : List Activation) → locals (with_test program me e acts) ≡ locals acts
 test_locals program me e [] = refl
 test_locals program me e (x ∷ xs) = refl
 

@@ -19,6 +19,7 @@ use Rattle.ppd_model.proofs.FromEnd.{hit, miss, past}
 use Rattle.ppd_model.proofs.LocalSteps.{tags_its_writes}
 use Rattle.ppd_model.proofs.States.{states-begun, states-tell}
 use Rattle.ppd_model.proofs.Stories.{steps-change}
+use Rattle.ppd_model.proofs.LocalDeeds.{no_tag}
 
 pub has_all : (program : Program) (plan : Plan) (story : Story) (p : ℕ) (t : Tracing) (xs : List Taken) → HasTags t → AreOwn program plan t.proc xs → HasTags (fold (trace_step program plan story p) t xs)
 has_all program plan story p t [] has own = has
@@ -98,9 +99,6 @@ module _ (program : Program) (plan : Plan) (story : Story) (p k c : ℕ) where
   ]
 
 -- ---- the start
-
-abbrev no_tag : Tag
-no_tag = None
 
 -- the activations of frames that have no tags
 abbrev pub begun_at : List Frame → List Activation

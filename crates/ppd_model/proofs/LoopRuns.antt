@@ -8,7 +8,8 @@ use Rattle.ppd_ast.specs.declared.program.Kind.TheVariants as kind
 use Rattle.ppd_ast.specs.declared.program.Program.{Program}
 use Rattle.ppd_ast.specs.Term.{term}
 use Rattle.ppd_ast.specs.Valid.{IsValid}
-use Rattle.ppd_ast.specs.Lookups.{kind_of}
+use Rattle.ppd_ast.specs.Lookups.{kind_of, parent_if}
+use Rattle.ppd_ast.specs.Numbered.{is_while}
 use Rattle.ppd_sem.specs.declared.proc.Answer.{Answer}
 use Rattle.ppd_sem.specs.declared.proc.Need.{Need}
 use Rattle.ppd_sem.specs.declared.proc.Need.TheVariants.{Read, Enter, Offer, Done, Trap, Budget, Stopped}
@@ -20,9 +21,9 @@ use Rattle.ppd_sem.specs.Deed.{ask_deed, leave, turn}
 use Rattle.ppd_sem.specs.Described.{evaluates, value_at, value_if, valued, is_event}
 use Rattle.ppd_sem.specs.Process.{act, act_at, act_by_asked, act_by_need, head_deed, need_of, started, todos, top_cells}
 use Rattle.ppd_sem.specs.Runs.{returns}
-use Rattle.ppd_model.specs.FullTrace.{Tracing, begun_tracing, event_of, is_passed, me_in, parent_if, trace_step, with_test}
+use Rattle.ppd_model.specs.FullTrace.{Tracing, begun_tracing, event_of, is_passed, me_in, trace_step, with_test}
 use Rattle.ppd_model.specs.LocalTags.{AreOwn, HasTags}
-use Rattle.ppd_model.specs.Parents.{IsInside, IsUntested, LoopRunsStayInside, StaysInside, deeper, directly, is_choice, is_test, is_test_at, is_while}
+use Rattle.ppd_model.specs.Parents.{IsInside, IsUntested, LoopRunsStayInside, StaysInside, deeper, directly, is_choice, is_test, is_test_at}
 use Rattle.ppd_model.specs.Story.{Story, Taken, story}
 use Rattle.ppd_model.proofs.CallSteps.{tested_length}
 use Rattle.ppd_model.proofs.LocalSteps.{Fits, FitsHead, fits, tags_its_writes}

@@ -13,7 +13,7 @@ use Rattle.ppd_ast.specs.declared.program.Stmt.{Stmt}
 use Rattle.ppd_ast.specs.Order.{StandIn, inner}
 use Rattle.ppd_ast.specs.Valid.{IsValid, IsValidBody, IsValidStmt}
 use Rattle.ppd_ast.proofs.Standing.{All-append_parts}
-use Rattle.ppd_ast.specs.Lookups.{kind_of_stmt, kind_of, top_of_body}
+use Rattle.ppd_ast.specs.Lookups.{kind_of_stmt, kind_of, top_of_body, parent_if}
 use Rattle.ppd_sem.specs.declared.asking.Pause.TheVariants.{Wants, Traps}
 use Rattle.ppd_sem.specs.declared.proc.Answer.{Answer}
 use Rattle.ppd_sem.specs.declared.proc.Need.{Need}
@@ -26,7 +26,7 @@ use Rattle.ppd_sem.specs.Process.{act, act_at, act_by_asked, act_by_deed, act_by
 use Rattle.ppd_sem.specs.Runs.{AreOfFunction, IsInner, LeadsOn, returns, size_of, stmt_size}
 use Rattle.ppd_sem.proofs.Kept.{There, leads_at, there_at}
 use Rattle.ppd_sem.proofs.Validity.{valid-runnable}
-use Rattle.ppd_model.specs.FullTrace.{Activation, Tag, Tracing, event_of, me_in, parent_if, tagged_after, tagged_at, tagged_by, trace_step, with_test}
+use Rattle.ppd_model.specs.FullTrace.{Activation, Tag, Tracing, event_of, me_in, tagged_after, tagged_at, tagged_by, trace_step, with_test}
 use Rattle.ppd_model.specs.Parents.{is_choice}
 use Rattle.ppd_model.specs.Story.{Story, Taken}
 use Rattle.ppd_model.proofs.LocalSteps.{IsSend, Fits, FitsHead, fits}
@@ -150,7 +150,7 @@ pub data Move (program : Program) (t : Todo) (ts : List Todo) (old tested : List
   calls : (top : List ℕ) (me : Tag) → returns (kind_of program t.stmt) ≡ false → AreTop program top → todo ≡ todos top ++ ts → now ≡ (me, []) ∷ tested → Move program t ts old tested todo now
   backs : returns (kind_of program t.stmt) ≡ true → todo ≡ ts → now ≡ drop 1 tested → Move program t ts old tested todo now
 
-drop_views : (xs : List Activation) → views (drop 1 xs) ≡ drop 1 (views xs)
+pub drop_views : (xs : List Activation) → views (drop 1 xs) ≡ drop 1 (views xs)
 drop_views [] = refl
 drop_views (x ∷ xs) = refl
 

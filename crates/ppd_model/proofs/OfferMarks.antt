@@ -126,8 +126,8 @@ pub record IsMarked (program : Program) (c stmt : ℕ) (s : Proc) : Type 0 where
   pub unmarked : AreUnmarked rest
 
 -- it has ended
-abbrev pub IsOver : Proc → Type 0
-IsOver s = (x : Status) × (s.status ≡ Some x)
+abbrev pub HasEnded : Proc → Type 0
+HasEnded s = (x : Status) × (s.status ≡ Some x)
 
 -- the step of a process takes the offer of a value to channel c
 pub record TakesOffer (program : Program) (plan : Plan) (c : ℕ) (v : ℤ) (s t : Proc) : Type 0 where
@@ -146,7 +146,7 @@ offer_is n h = absurd h
 
 module _ (program : Program) (plan : Plan) (a : Answer) (s : Proc) where
   abbrev After : Type 0
-  After = IsOver (act program plan s a) ⊎ (IsUnmarked (act program plan s a) ⊎ TakesSome program plan s (act program plan s a))
+  After = HasEnded (act program plan s a) ⊎ (IsUnmarked (act program plan s a) ⊎ TakesSome program plan s (act program plan s a))
 
   -- with no statement to do nothing is done
   none_to_do : s.todo ≡ [] → act program plan s a ≡ s
@@ -222,7 +222,7 @@ module _ (program : Program) (plan : Plan) (a : Answer) (s : Proc) where
           never A n done (inr offers) = subst IsOffer done offers
 
   -- a process with a mark completes its send, or stops for its budget
-  pub marked_step : (c stmt : ℕ) → IsMarked program c stmt s → ((u : ℕ) × (need_of program plan s ≡ need.Done c u) × IsUnmarked (act program plan s a)) ⊎ ((need_of program plan s ≡ need.Budget) × IsOver (act program plan s a))
+  pub marked_step : (c stmt : ℕ) → IsMarked program c stmt s → ((u : ℕ) × (need_of program plan s ≡ need.Done c u) × IsUnmarked (act program plan s a)) ⊎ ((need_of program plan s ≡ need.Budget) × HasEnded (act program plan s a))
   marked_step c stmt h = by (nat_lt s.budget (s.spent + cost plan (need_of_head program plan h.head s))) refl
     where
       u : ℕ
@@ -236,7 +236,7 @@ module _ (program : Program) (plan : Plan) (a : Answer) (s : Proc) where
       needs b e = need_at_todo program plan s (h.head ∷ h.rest) h.runs h.todo_is ∙ ap (λ b. if b then need.Budget else need_of_head program plan h.head s) e
 
       by : (b : Bool) → nat_lt s.budget (s.spent + cost plan (need_of_head program plan h.head s)) ≡ b
-          → ((u : ℕ) × (need_of program plan s ≡ need.Done c u) × IsUnmarked (act program plan s a)) ⊎ ((need_of program plan s ≡ need.Budget) × IsOver (act program plan s a))
+          → ((u : ℕ) × (need_of program plan s ≡ need.Done c u) × IsUnmarked (act program plan s a)) ⊎ ((need_of program plan s ≡ need.Budget) × HasEnded (act program plan s a))
       by true e = inr (needs true e, (status.Budget, status_after program plan a s h.runs ∙ ap status_of (needs true e)))
       by false e =
           let done : need_of program plan s ≡ need.Done c u = needs false e ∙ head_is in
@@ -250,7 +250,7 @@ module _ (program : Program) (plan : Plan) (a : Answer) (s : Proc) where
           )
 
   -- a process that has ended does nothing more
-  pub over_step : IsOver s → (need_of program plan s ≡ need.Stopped) × IsOver (act program plan s a)
+  pub over_step : HasEnded s → (need_of program plan s ≡ need.Stopped) × HasEnded (act program plan s a)
   over_step h =
       let stop : need_of program plan s ≡ need.Stopped = need_at_status program plan s (Some h.0) h.1 in
-      (stop, subst IsOver (sym (act-stopped program plan s a stop)) h)
+      (stop, subst HasEnded (sym (act-stopped program plan s a stop)) h)

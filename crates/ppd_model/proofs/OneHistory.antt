@@ -1,6 +1,7 @@
 -- Two schedules with one story have one history, of the logs but for the values of units.
 use Rattle.std.proofs.Common.{◌≡◌, ℕ, ◌+◌, List, [], ◌∷◌, ◌++◌, Option, Some, None, Bool, true, false, refl, ap, sym, ◌∙◌, cond, map}
 use Rattle.std.specs.Prelude.{fold, is_none, slice_get}
+use Rattle.std.proofs.lemmas.List.{map-append}
 use Rattle.ppd_ast.specs.declared.plan.Plan.{Plan}
 use Rattle.ppd_ast.specs.declared.program.Program.{Program}
 use Rattle.ppd_ast.specs.declared.status.Status.{Status}
@@ -23,11 +24,7 @@ use Rattle.ppd_model.specs.FlowbackEdges.{edges, last}
 use Rattle.ppd_model.specs.NearIntervals.{near_intervals}
 use Rattle.ppd_model.specs.Laws.{StoriesTellAll, without_values}
 
-map-append : {A B : Type 0} (f : A → B) (xs ys : List A) → map f (xs ++ ys) ≡ map f xs ++ map f ys
-map-append f [] ys = refl
-map-append f (x ∷ xs) ys = ap (λ zs. f x ∷ zs) (map-append f xs ys)
-
-map-map : {A B C : Type 0} (f : B → C) (g : A → B) (xs : List A) → map f (map g xs) ≡ map (λ x. f (g x)) xs
+pub map-map : {A B C : Type 0} (f : B → C) (g : A → B) (xs : List A) → map f (map g xs) ≡ map (λ x. f (g x)) xs
 map-map f g [] = refl
 map-map f g (x ∷ xs) = ap (λ zs. f (g x) ∷ zs) (map-map f g xs)
 
@@ -39,7 +36,7 @@ bare_entries es = map without_values es
 abbrev bare : Logging → Logging
 bare l = record l { entries = bare_entries l.entries }
 
-abbrev bare_moment : Taken → Moment
+abbrev pub bare_moment : Taken → Moment
 bare_moment x = record { taken = x; unit_values = [] }
 
 prelogs_bare : (m : Option Mark) → bare_entries (prelogs m) ≡ prelogs m

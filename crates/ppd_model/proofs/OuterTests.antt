@@ -11,7 +11,7 @@ use Rattle.ppd_ast.specs.declared.program.Program.{Program}
 use Rattle.ppd_ast.specs.declared.status.Status.{Status}
 use Rattle.ppd_ast.specs.Order.{StandIn}
 use Rattle.ppd_ast.specs.Valid.{IsValid}
-use Rattle.ppd_ast.specs.Lookups.{kind_of, top_of_body}
+use Rattle.ppd_ast.specs.Lookups.{kind_of, top_of_body, parent_if}
 use Rattle.ppd_sem.specs.declared.event.Event.{Event}
 use Rattle.ppd_sem.specs.declared.proc.Proc.{Proc}
 use Rattle.ppd_sem.specs.declared.proc.Todo.{Todo}
@@ -21,15 +21,16 @@ use Rattle.ppd_sem.proofs.Kept.{There, there_at}
 use Rattle.ppd_sem.proofs.Validity.{valid-runnable}
 use Rattle.ppd_sem.specs.Described.{is_event}
 use Rattle.ppd_model.specs.declared.trace.EventId.{EventId}
-use Rattle.ppd_model.specs.FullTrace.{Activation, Test, Tracing, begun_tracing, event_of, latest, me_in, parent_if, tests_after, trace_step, with_test}
+use Rattle.ppd_model.specs.FullTrace.{Activation, Test, Tracing, begun_tracing, event_of, latest, me_in, tests_after, trace_step, with_test}
 use Rattle.ppd_model.specs.LocalTags.{AreOwn, HasTags, from_end}
 use Rattle.ppd_model.specs.Parents.{OutersAreTested, is_choice}
 use Rattle.ppd_model.specs.Story.{Story, Taken, story}
 use Rattle.ppd_model.proofs.FromEnd.{hit}
 use Rattle.ppd_model.proofs.LocalTags.{has_all, has_begun, own_steps_told}
 use Rattle.ppd_model.proofs.Moves.{AllInner, AreTop, Move, backs, body_top, calls, chooses, parent_is, passes, stays, step_moves, traps, turns}
-use Rattle.ppd_model.proofs.Parents.{none_some, own_from, own_to, some_is, to_latest}
+use Rattle.ppd_model.proofs.Parents.{none_some, own_from, own_to, to_latest}
 use Rattle.ppd_model.proofs.TestSteps.{View, acts_length, latest_at, newest, no_view, older, test_by, views, views_length}
+use Rattle.ppd_model.proofs.Changes.{some}
 
 -- ---- what is to do stands in tested statements
 
@@ -69,7 +70,7 @@ more_stand program v w vs (t ∷ ts) more h = (
 inner_stand : (program : Program) (s : ℕ) (v : View) (vs : List View) (stmts : List ℕ) (ts : List Todo) → HasTest s v.1 → AllInner program s stmts → AllStand program (v ∷ vs) ts → AllStand program (v ∷ vs) (todos stmts ++ ts)
 inner_stand program s v vs [] ts has inner h = h
 inner_stand program s v vs (i ∷ is) ts has inner h = (
-  λ outer e. subst (λ r. HasTest r v.1) (some_is (sym inner.0.parent ∙ e)) has,
+  λ outer e. subst (λ r. HasTest r v.1) (some (sym inner.0.parent ∙ e)) has,
   subst (λ b. AllStand program (left_by b v vs) (todos is ++ ts)) (sym inner.0.stays) (inner_stand program s v vs is ts has inner.1 h),
 )
 

@@ -14,10 +14,11 @@ use Rattle.ppd_model.specs.LocalTags.{AreOwn, HasTags}
 use Rattle.ppd_model.specs.Parents.{HasParent, IsParent, ParentsAreLatestTests}
 use Rattle.ppd_model.specs.Story.{Story, Taken, own_steps, story}
 use Rattle.ppd_model.proofs.LocalTags.{has_begun, own_steps_told}
-use Rattle.ppd_model.proofs.Parents.{none_some, own_from, own_to, parent_of, some_is}
+use Rattle.ppd_model.proofs.Parents.{none_some, own_from, own_to, parent_of}
+use Rattle.ppd_model.proofs.Changes.{some}
 
 at_end : {A : Type 0} (xs : List A) (y : A) (n : ℕ) (z : A) → slice_get (xs ++ y ∷ []) n ≡ Some z → (slice_get xs n ≡ Some z) ⊎ ((n ≡ length xs) × (z ≡ y))
-at_end [] y zero z e = inr (refl, sym (some_is e))
+at_end [] y zero z e = inr (refl, sym (some e))
 at_end [] y (suc n) z e = absurd (none_some e)
 at_end (x ∷ xs) y zero z e = inl e
 at_end (x ∷ xs) y (suc n) z e = elim (at_end xs y n z e) [
@@ -121,7 +122,7 @@ module _ (program : Program) (plan : Plan) (story : Story) (p : ℕ) where
     ]
 
 -- the events of a process are those of its own steps
-events_at : (program : Program) (plan : Plan) (budget : ℕ) (s : Story) (p i : ℕ) (steps : List (List Taken)) → get_or (events_from program plan budget s p steps) i [] ≡ (tracing_of program plan budget s (p + i) (get_or steps i [])).events
+pub events_at : (program : Program) (plan : Plan) (budget : ℕ) (s : Story) (p i : ℕ) (steps : List (List Taken)) → get_or (events_from program plan budget s p steps) i [] ≡ (tracing_of program plan budget s (p + i) (get_or steps i [])).events
 events_at program plan budget s p i [] = refl
 events_at program plan budget s p zero (xs ∷ rest) = ap (λ n. (tracing_of program plan budget s n xs).events) (let e : p ≡ p + 0 = omega arith in e)
 events_at program plan budget s p (suc i) (xs ∷ rest) =

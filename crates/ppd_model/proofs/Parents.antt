@@ -8,25 +8,24 @@ use Rattle.ppd_ast.specs.declared.program.Kind.{Kind}
 use Rattle.ppd_ast.specs.declared.program.Kind.TheVariants.{While}
 use Rattle.ppd_ast.specs.declared.program.Program.{Program}
 use Rattle.ppd_ast.specs.declared.status.Status.{Status}
-use Rattle.ppd_ast.specs.Lookups.{kind_of}
+use Rattle.ppd_ast.specs.Lookups.{kind_of, parent_if}
+use Rattle.ppd_ast.specs.Numbered.{is_while, is_call}
 use Rattle.ppd_sem.specs.declared.proc.Frame.{Frame}
 use Rattle.ppd_sem.specs.declared.proc.Proc.{Proc}
 use Rattle.ppd_sem.specs.declared.proc.Todo.{Todo}
 use Rattle.ppd_sem.specs.Process.{act, need_by_status, need_of, need_of_running}
 use Rattle.ppd_sem.specs.Described.{is_event}
 use Rattle.ppd_model.specs.declared.trace.EventId.{EventId}
-use Rattle.ppd_model.specs.FullTrace.{Activation, Test, Tracing, event_of, latest, me_in, of_outer, of_run, or_else, parent_at, parent_if, parent_in, trace_step}
+use Rattle.ppd_model.specs.FullTrace.{Activation, Test, Tracing, event_of, latest, me_in, of_outer, of_run, or_else, parent_at, parent_in, trace_step}
 use Rattle.ppd_model.specs.LocalTags.{AreOwn, HasTags, from_end}
-use Rattle.ppd_model.specs.Parents.{GoesOn, IsBegunBy, IsFirst, IsFromStart, IsLatestTest, IsOutermost, IsParent, IsUntested, Lasts, StandsIn, is_call, is_test, is_while}
+use Rattle.ppd_model.specs.Parents.{GoesOn, IsBegunBy, IsFirst, IsFromStart, IsLatestTest, IsOutermost, IsParent, IsUntested, Lasts, StandsIn, is_test}
 use Rattle.ppd_model.specs.Story.{Story, Taken}
 use Rattle.ppd_model.proofs.CallSteps.{begins_none}
 use Rattle.ppd_model.proofs.FromEnd.{hit, miss}
 use Rattle.ppd_model.proofs.LocalSteps.{tags_its_writes}
 use Rattle.ppd_model.proofs.LocalTags.{begun_at, has_all}
 use Rattle.ppd_model.proofs.TestSteps.{StepTests, View, acts_length, call_at, latest_at, no_view, step_tests, test_by, views, views_length}
-
-pub some_is : {A : Type 0} {x y : A} → Some x ≡ Some y → x ≡ y
-some_is {x = x} e = ap (λ o. elim o [ None ↦ x | Some z ↦ z ]) e
+use Rattle.ppd_model.proofs.Changes.{some}
 
 pub none_some : {A : Type 0} {x : A} → None ≡ Some x → ⊥
 none_some e = absurd (cc)
@@ -88,7 +87,7 @@ module _ (program : Program) (plan : Plan) (story : Story) (p : ℕ) where
           → latest_at (views (next t x).activations) k s ≡ Some y → IsUntested program plan k s (next t x).proc xs → Found t (x ∷ xs) y
       first t x xs y d lt e h = elim (cases_Bool (is_test program k s t.proc x)) [
         | inl is ↦
-            let same : test_by s (me_in p t) (value_of t x) ≡ y = some_is (sym (d.newest_is k s is lt) ∙ e) in
+            let same : test_by s (me_in p t) (value_of t x) ≡ y = some (sym (d.newest_is k s is lt) ∙ e) in
             inl (record { before = []; taken = x; after = xs; steps_are = refl; tests = is; event_is = sym (ap (λ (z : Test). z.event) same); passed_is = sym (ap (λ (z : Test). z.passed) same); steady = h })
         | inr isnt ↦ elim (cases_lt k (length t.proc.frames)) [
           | inl old ↦ inr (sym (d.older_is k s isnt old lt) ∙ e, (old, (isnt, h)))
@@ -211,7 +210,7 @@ record Starts (kind : Kind) (o : Option Test) : Type 0 where
 by_passed : (e : ℕ) (body : List ℕ) (y : Test) (b : Bool) → y.passed ≡ b → Runs (While e body) (Some y) ⊎ Starts (While e body) (Some y)
 by_passed e body y true is = inl (record { loops = refl; test = y; test_is = refl; passed = is; run_is = cond-true y.passed (Some y.event) None is })
 by_passed e body y false is = inr (record {
-  never = λ w z same passed. both_ways y.passed is (ap (λ (x : Test). x.passed) (some_is same) ∙ passed);
+  never = λ w z same passed. both_ways y.passed is (ap (λ (x : Test). x.passed) (some same) ∙ passed);
   run_is = cond-false y.passed (Some y.event) None is;
 })
 
@@ -235,7 +234,7 @@ record Outside (o : Option ℕ) (tests : List Test) (call : Option EventId) : Ty
 
 by_latest : (r : ℕ) (tests : List Test) (call : Option EventId) (q : Option Test) → latest r tests ≡ q → Inside (Some r) tests call ⊎ Outside (Some r) tests call
 by_latest r tests call None e = inr (record {
-  untested = λ outer is. ap (λ i. latest i tests) (sym (some_is is)) ∙ e;
+  untested = λ outer is. ap (λ i. latest i tests) (sym (some is)) ∙ e;
   parent_is = ap (λ (o : Option Test). or_else (option_map (λ (x : Test). x.event) o) call) e;
 })
 by_latest r tests call (Some y) e = inl (record {

@@ -28,7 +28,7 @@ capacity_stays f zero (suc c) (x ∷ xs) same = refl
 capacity_stays f (suc o) zero (x ∷ xs) same = refl
 capacity_stays f (suc o) (suc c) (x ∷ xs) same = capacity_stays f o c xs same
 
-cells_length : (w : World) (need : Need) → length (effect w need).shared ≡ length w.shared
+pub cells_length : (w : World) (need : Need) → length (effect w need).shared ≡ length w.shared
 cells_length w (n.Write c v) = length-set w.shared c v
 cells_length w need = refl
 

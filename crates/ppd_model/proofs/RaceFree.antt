@@ -39,7 +39,7 @@ none_passes test x (x' ∷ xs) e here = (filter_first (test x) x (filter test xs
 none_passes test x (z ∷ xs) e (there i) = none_passes test x xs (filter_first (test z) z (filter test xs) e).1 i
 
 -- what an element passes, one of the list passes
-any_at : {A : Type 0} (test : A → Bool) (xs : List A) (m : ℕ) (x : A) → slice_get xs m ≡ Some x → test x ≡ true → list_any test xs ≡ true
+pub any_at : {A : Type 0} (test : A → Bool) (xs : List A) (m : ℕ) (x : A) → slice_get xs m ≡ Some x → test x ≡ true → list_any test xs ≡ true
 any_at test [] m x h e = absurd (none-some x h)
 any_at test (y ∷ xs) zero x h e = or_left (test y) (list_any test xs) (subst (λ o. some_passes test o ≡ true) (sym h) e)
   where

@@ -32,7 +32,7 @@ use Rattle.ppd_model.proofs.Changes.{some}
 use Rattle.ppd_model.proofs.Forward.{completed_below}
 use Rattle.ppd_model.proofs.LocalTags.{own-before, own_steps_told}
 use Rattle.ppd_model.proofs.Numbers.{are_counted}
-use Rattle.ppd_model.proofs.OfferMarks.{AreUnmarked, IsOver, IsUnmarked, TakesOffer, marked_step, no_completion, offer_step, over_step, unmarked_step}
+use Rattle.ppd_model.proofs.OfferMarks.{AreUnmarked, HasEnded, IsUnmarked, TakesOffer, marked_step, no_completion, offer_step, over_step, unmarked_step}
 use Rattle.ppd_model.proofs.Stories.{stories_are_of_runs}
 
 -- ---- counts
@@ -136,21 +136,21 @@ module _ (program : Program) (plan : Plan) (budget p : ℕ) where
     takes : TakesOffer program plan chan value (state earlier) (state xs)
 
   abbrev IsSteady : List Taken → Type 0
-  IsSteady xs = IsOver (state xs) ⊎ (IsUnmarked (state xs) ⊎ TookOffer xs)
+  IsSteady xs = HasEnded (state xs) ⊎ (IsUnmarked (state xs) ⊎ TookOffer xs)
 
   one_more : (xs : List Taken) (x : Taken) → state (xs ++ x ∷ []) ≡ act program plan (state xs) x.answer
   one_more xs x = fold-append (act_on program plan) (started program plan p budget) xs (x ∷ [])
 
   steady_step : (xs : List Taken) (x : Taken) → IsSteady xs → x.need ≡ need_of program plan (state xs) → IsSteady (xs ++ x ∷ [])
-  steady_step xs x (inl over) own = inl (subst IsOver (sym (one_more xs x)) (over_step program plan x.answer (state xs) over).1)
+  steady_step xs x (inl over) own = inl (subst HasEnded (sym (one_more xs x)) (over_step program plan x.answer (state xs) over).1)
   steady_step xs x (inr (inl unmarked)) own = elim (unmarked_step program plan x.answer (state xs) unmarked) [
-    | inl over ↦ inl (subst IsOver (sym (one_more xs x)) over)
+    | inl over ↦ inl (subst HasEnded (sym (one_more xs x)) over)
     | inr (inl still) ↦ inr (inl (subst IsUnmarked (sym (one_more xs x)) still))
     | inr (inr takes) ↦ inr (inr (record { earlier = xs; step = x; steps_are = refl; own = own; chan = takes.0; value = takes.1; takes = subst (λ (s : Proc). TakesOffer program plan takes.0 takes.1 (state xs) s) (sym (one_more xs x)) takes.2 }))
   ]
   steady_step xs x (inr (inr took)) own = elim (marked_step program plan x.answer (state xs) took.chan took.takes.stmt took.takes.marked) [
     | inl done ↦ inr (inl (subst IsUnmarked (sym (one_more xs x)) done.2))
-    | inr stops ↦ inl (subst IsOver (sym (one_more xs x)) stops.1)
+    | inr stops ↦ inl (subst HasEnded (sym (one_more xs x)) stops.1)
   ]
 
   steady_all : (done xs : List Taken) → IsSteady done → AreOwn program plan (state done) xs → IsSteady (done ++ xs)

@@ -31,6 +31,7 @@ use Rattle.ppd_model.proofs.Tags.{tags}
 use Rattle.ppd_model.specs.Forward.{edge_in}
 use Rattle.ppd_model.specs.SharedReads.{ConflictsGoForward, IsAccess, IsAcross, IsFound, IsFromStart, IsWriteStep, IsWrittenBy, LastWritesAreGreatest, SharedReadsAreFound, StepsAreAccesses, WritesAreSteps, WritesIn, need_after}
 use Rattle.ppd_model.proofs.Forward.{edges_forward, fewer, run_begins}
+use Rattle.ppd_model.proofs.LocalDeeds.{tail_is, head_is}
 
 -- ---- lists
 
@@ -215,12 +216,6 @@ conflicts_forward program plan budget g q more p rest w runs free apart c lt fir
     ]
 
 -- ---- two places of one schedule
-
-head_is : {x y : ℕ} {xs ys : List ℕ} → x ∷ xs ≡ y ∷ ys → x ≡ y
-head_is {x = x} e = ap (λ (l : List ℕ). elim l [ [] ↦ x | z ∷ zs ↦ z ]) e
-
-tail_is : {x y : ℕ} {xs ys : List ℕ} → x ∷ xs ≡ y ∷ ys → xs ≡ ys
-tail_is {xs = xs} e = ap (λ (l : List ℕ). elim l [ [] ↦ xs | z ∷ zs ↦ zs ]) e
 
 -- the second is the first, or later, or earlier
 Compared : List ℕ → ℕ → List ℕ → List ℕ → ℕ → List ℕ → Type 0

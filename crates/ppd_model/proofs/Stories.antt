@@ -3,16 +3,14 @@ use Rattle.std.proofs.Common.{◌≡◌, ℕ, zero, suc, List, [], ◌∷◌, �
 use Rattle.std.proofs.lemmas.List.Sums.{fold-append}
 use Rattle.std.proofs.lemmas.Option.{none-some}
 use Rattle.std.specs.Prelude.{fold}
+use Rattle.std.proofs.lemmas.List.{map-append}
 use Rattle.ppd_ast.specs.declared.plan.Plan.{Plan}
 use Rattle.ppd_ast.specs.declared.program.Program.{Program}
 use Rattle.ppd_model.specs.World.{World, change, enabled, step}
 use Rattle.ppd_model.specs.Schedule.{run_from, started_world}
 use Rattle.ppd_model.specs.Story.{Moment, Telling, begun, moment_of, steps_of, tell, told}
 use Rattle.ppd_model.specs.Laws.{StoriesAreOfRuns, StoriesGrow}
-
-map-append : {A B : Type 0} (f : A → B) (xs ys : List A) → map f (xs ++ ys) ≡ map f xs ++ map f ys
-map-append f [] ys = refl
-map-append f (x ∷ xs) ys = ap (λ zs. f x ∷ zs) (map-append f xs ys)
+use Rattle.ppd_model.proofs.Changes.{some}
 
 -- the steps of the processes, where process p has one more moment
 pub steps-change : (m : Moment) (p : ℕ) (moments : List (List Moment)) → map steps_of (change (λ ms. ms ++ m ∷ []) p moments) ≡ change (λ xs. xs ++ m.taken ∷ []) p (map steps_of moments)
@@ -32,16 +30,17 @@ stories_grow program plan budget h p = record {
   writers_are = ap (λ t. t.writers) (told-append program plan budget h p);
 }
 
-some_is : {A : Type 0} {x y : A} → Some x ≡ Some y → x ≡ y
-some_is {x = x} e = ap (λ o. elim o [ None ↦ x | Some z ↦ z ]) e
-
 taken : (program : Program) (plan : Plan) (t : Telling) (p : ℕ) (h : List ℕ) (w : World) (b : Bool) → cond b (run_from program plan (step program plan t.world p) h) None ≡ Some w → run_from program plan (step program plan t.world p) h ≡ Some w
 taken program plan t p h w true e = e
 taken program plan t p h w false e = absurd (none-some w e)
 
 run_told : (program : Program) (plan : Plan) (t : Telling) (h : List ℕ) (w : World) → run_from program plan t.world h ≡ Some w → (fold (tell program plan) t h).world ≡ w
-run_told program plan t [] w e = some_is e
+run_told program plan t [] w e = some e
 run_told program plan t (p ∷ h) w e = run_told program plan (tell program plan t p) h w (taken program plan t p h w (enabled program plan t.world p) e)
 
 pub stories_are_of_runs : StoriesAreOfRuns
 stories_are_of_runs program plan budget h w e = run_told program plan (begun (started_world program plan budget)) h w e
+
+pub steps_append : (xs ys : List Moment) → steps_of (xs ++ ys) ≡ steps_of xs ++ steps_of ys
+steps_append [] ys = refl
+steps_append (x ∷ xs) ys = ap (λ zs. x.taken ∷ zs) (steps_append xs ys)

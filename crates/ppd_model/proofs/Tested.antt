@@ -177,3 +177,7 @@ edge_tested program syncs a b (across_to d j e h) =
 
 pub tests_edges : IsTestOfEdges
 tests_edges program syncs a b = (edge_found program syncs a b, edge_tested program syncs a b)
+
+pub leads_to_none : (program : Program) (a : Option Sync) → leads_at program a None ≡ false
+leads_to_none program None = refl
+leads_to_none program (Some a) = refl

@@ -3,9 +3,10 @@ use Rattle.std.proofs.Common.{◌≡◌, ℕ, ◌+◌, ◌<◌, List, Option, So
 use Rattle.std.specs.Prelude.{◌-◌, fold, slice_get}
 use Rattle.ppd_ast.specs.declared.plan.Plan.{Plan}
 use Rattle.ppd_ast.specs.declared.program.Program.{Program}
+use Rattle.ppd_ast.specs.Lookups.{parent_if}
 use Rattle.ppd_sem.specs.Process.{started}
 use Rattle.ppd_model.specs.declared.trace.EventId.{EventId}
-use Rattle.ppd_model.specs.FullTrace.{Tracing, begun_tracing, parent_if, trace_step}
+use Rattle.ppd_model.specs.FullTrace.{Tracing, begun_tracing, trace_step}
 use Rattle.ppd_model.specs.Parents.{GoesOn, HasParent, HasTestedOuter, IsOfTopList, IsOutermost, IsTested, StandsIn, ValidParents}
 use Rattle.ppd_model.specs.Story.{Story, Taken, own_steps, story}
 use Rattle.ppd_model.proofs.OuterTests.{outers_tested}

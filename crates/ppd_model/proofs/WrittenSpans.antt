@@ -31,6 +31,7 @@ use Rattle.ppd_model.proofs.CountedOn.{kept_at, last_at}
 use Rattle.ppd_model.proofs.Extents.{IsIn, WasBefore, ended_before, entry_number, last_by, running_going}
 use Rattle.ppd_model.proofs.Items.{own_keeps, split_found, step_keeps}
 use Rattle.ppd_model.proofs.RecordedSets.{steps_found}
+use Rattle.ppd_model.proofs.Balanced.{each_change}
 
 -- ---- two lists with each pair related
 
@@ -64,13 +65,6 @@ each_both R f g go k [] (y ∷ ys) h = absurd h
 each_both R f g go k (x ∷ xs) [] h = absurd h
 each_both R f g go zero (x ∷ xs) (y ∷ ys) h = (go x y h.0, h.1)
 each_both R f g go (suc k) (x ∷ xs) (y ∷ ys) h = (h.0, each_both R f g go k xs ys h.1)
-
-each_right : {A B : Type 0} (R : A → B → Type 0) (g : B → B) (k : ℕ) (xs : List A) (ys : List B) → ((x : A) (y : B) → slice_get ys k ≡ Some y → R x y → R x (g y)) → AreEach R xs ys → AreEach R xs (change g k ys)
-each_right R g k [] [] go h = tt
-each_right R g k [] (y ∷ ys) go h = absurd h
-each_right R g k (x ∷ xs) [] go h = absurd h
-each_right R g zero (x ∷ xs) (y ∷ ys) go h = (go x y refl h.0, h.1)
-each_right R g (suc k) (x ∷ xs) (y ∷ ys) go h = (h.0, each_right R g k xs ys go h.1)
 
 -- ---- the intervals of the steps and of the entries so far
 
@@ -153,7 +147,7 @@ module _ (IsOf : ℕ → ℕ → Type 0) (IsEnd : ℕ → Type 0) where
   ended_tied j (k ∷ ks) spans xs going end h =
       ended_tied j ks spans (change (last_by j) k xs)
       (λ m f i at. let w : WasBefore j (k ∷ []) xs m f = ended_before j (k ∷ []) xs m f at in w.like.closed ∙ going m w.extent (inr i) w.there) end
-      (each_right IsBoth (last_by j) k spans xs
+      (each_change IsBoth (last_by j) k spans xs
       (λ i z at r. (
         r.0,
         record {
@@ -199,7 +193,7 @@ one_mark program plan s (n.Enter b u) = inr refl
 one_mark program plan s (n.Invoke b u) = inr refl
 one_mark program plan s need = inl refl
 
-in_order : (es a b c d e : List Entry) → es ++ (a ++ b ++ c ++ d ++ e) ≡ es ++ a ++ b ++ c ++ d ++ e
+pub in_order : (es a b c d e : List Entry) → es ++ (a ++ b ++ c ++ d ++ e) ≡ es ++ a ++ b ++ c ++ d ++ e
 in_order es a b c d e =
     sym (append_assoc es (a ++ b ++ c ++ d) e)
     ∙ ap (λ z. z ++ e) (sym (append_assoc es (a ++ b ++ c) d) ∙ ap (λ z. z ++ d) (sym (append_assoc es (a ++ b) c) ∙ ap (λ z. z ++ c) (sym (append_assoc es a b))))

@@ -3,9 +3,8 @@ use Rattle.std.specs.Prelude.{ℕ, zero, suc, ◌+◌, ◌-◌, nat_eq, ℤ, Boo
 use Rattle.ppd_ast.specs.declared.program.Kind.{Kind}
 use Rattle.ppd_ast.specs.declared.program.Kind.TheVariants.{If, While}
 use Rattle.ppd_ast.specs.declared.program.Program.{Program}
-use Rattle.ppd_ast.specs.declared.program.Stmt.{Stmt}
 use Rattle.ppd_ast.specs.declared.plan.Plan.{Plan}
-use Rattle.ppd_ast.specs.Lookups.{kind_of}
+use Rattle.ppd_ast.specs.Lookups.{kind_of, parent_if}
 use Rattle.ppd_sem.specs.declared.event.Access.{Access}
 use Rattle.ppd_sem.specs.declared.event.Event.{Event}
 use Rattle.ppd_sem.specs.declared.event.Spot.{Spot}
@@ -111,11 +110,6 @@ tagged_after program s me (Trap t) xs = xs
 tagged_after program s me need xs = tagged_at program s me s.todo xs
 
 -- ---- control
-
--- the `If` or `While` in which a statement directly stands
-abbrev pub parent_if : Option Stmt → Option ℕ
-parent_if None = None
-parent_if (Some s) = s.parent
 
 -- the latest test of a statement
 abbrev pub latest : ℕ → List Test → Option Test

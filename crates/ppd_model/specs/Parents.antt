@@ -2,28 +2,21 @@
 use Rattle.std.specs.Prelude.{◌≡◌, ℕ, ◌+◌, ◌<◌, ◌≤◌, nat_eq, Bool, true, false, ◌&&◌, ◌⊎◌, List, [], ◌∷◌, ◌++◌, fold, length, get_or, slice_get, Option, Some, None, ⊤}
 use Rattle.ppd_ast.specs.declared.plan.Plan.{Plan}
 use Rattle.ppd_ast.specs.declared.program.Kind.{Kind}
-use Rattle.ppd_ast.specs.declared.program.Kind.TheVariants.{Call, If, While}
+use Rattle.ppd_ast.specs.declared.program.Kind.TheVariants.{If, While}
 use Rattle.ppd_ast.specs.declared.program.Program.{Program}
 use Rattle.ppd_ast.specs.Valid.{IsValid}
-use Rattle.ppd_ast.specs.Lookups.{kind_of}
+use Rattle.ppd_ast.specs.Lookups.{kind_of, parent_if}
+use Rattle.ppd_ast.specs.Numbered.{is_call, is_while}
 use Rattle.ppd_sem.specs.declared.proc.Proc.{Proc}
 use Rattle.ppd_sem.specs.declared.proc.Todo.{Todo}
 use Rattle.ppd_sem.specs.Process.{act, started}
 use Rattle.ppd_sem.specs.Described.{is_event}
 use Rattle.ppd_model.specs.declared.trace.EventId.{EventId}
 use Rattle.ppd_model.specs.declared.trace.TracedEvent.{TracedEvent}
-use Rattle.ppd_model.specs.FullTrace.{Tracing, begun_tracing, event_of, full_trace, is_passed, me_in, parent_if, trace_step}
+use Rattle.ppd_model.specs.FullTrace.{Tracing, begun_tracing, event_of, full_trace, is_passed, me_in, trace_step}
 use Rattle.ppd_model.specs.Story.{Story, Taken, own_steps, story}
 
 -- ---- the steps that test
-
-abbrev pub is_while : Kind → Bool
-is_while (While e body) = true
-is_while k = false
-
-abbrev pub is_call : Kind → Bool
-is_call (Call f arguments into) = true
-is_call k = false
 
 -- an `If` or a `While`
 abbrev pub is_choice : Kind → Bool

@@ -1,5 +1,5 @@
 -- The shared state with all processes, who may take a step in it, and the step.
-use Rattle.std.specs.Prelude.{ℕ, zero, suc, ◌+◌, nat_eq, nat_lt, ℤ, pos, Bool, true, false, List, [], ◌∷◌, ◌++◌, length, get_or, slice_set, slice_get, Option, Some, None}
+use Rattle.std.specs.Prelude.{ℕ, zero, suc, ◌+◌, nat_eq, nat_lt, ℤ, pos, Bool, true, false, List, [], ◌∷◌, ◌++◌, length, get_or, slice_set, slice_get, Option, Some, None, ⊤}
 use Rattle.ppd_ast.specs.declared.program.Program.{Program}
 use Rattle.ppd_ast.specs.declared.plan.Plan.{Plan}
 use Rattle.ppd_sem.specs.declared.proc.Need.{Need}
@@ -90,20 +90,45 @@ change f i [] = []
 change f zero (x ∷ xs) = f x ∷ xs
 change f (suc i) (x ∷ xs) = x ∷ change f i xs
 
+-- it holds of each element
+abbrev pub Each : {A : Type 0} → (A → Type 0) → List A → Type 0
+Each H [] = ⊤
+Each H (x ∷ xs) = H x × Each H xs
+
 -- a step of this need writes cell c
 abbrev pub writes_cell : ℕ → Need → Bool
 writes_cell c (Write d v) = nat_eq d c
 writes_cell c need = false
 
+-- a semaphore taken once more
+abbrev pub one_taken : Counts → Counts
+one_taken x = record x { taken = x.taken + 1 }
+
+-- a semaphore given once more
+abbrev pub one_given : Counts → Counts
+one_given x = record x { given = x.given + 1 }
+
+-- a channel with one more value
+abbrev pub with_value : ℤ → Channel → Channel
+with_value v x = record x { sent = x.sent ++ v ∷ [] }
+
+-- a channel from which one more was received
+abbrev pub one_received : Channel → Channel
+one_received x = record x { received = x.received + 1 }
+
+-- a channel on which one more send was completed
+abbrev pub one_completed : Channel → Channel
+one_completed x = record x { completed = x.completed + 1 }
+
 -- the shared state after a step of this need
 abbrev pub effect : World → Need → World
 effect w (Write c v) = record w { shared = slice_set w.shared c v }
-effect w (P s u) = record w { sems = change (λ x. record x { taken = x.taken + 1 }) s w.sems }
-effect w (V s u) = record w { sems = change (λ x. record x { given = x.given + 1 }) s w.sems }
-effect w (Send c v u) = record w { chans = change (λ x. record x { sent = x.sent ++ v ∷ [] }) c w.chans }
-effect w (Offer c v) = record w { chans = change (λ x. record x { sent = x.sent ++ v ∷ [] }) c w.chans }
-effect w (Done c u) = record w { chans = change (λ x. record x { completed = x.completed + 1 }) c w.chans }
-effect w (Recv c u) = record w { chans = change (λ x. record x { received = x.received + 1 }) c w.chans }
+effect w (P s u) = record w { sems = change one_taken s w.sems }
+effect w (V s u) = record w { sems = change one_given s w.sems }
+effect w (Send c v u) = record w { chans = change (with_value v) c w.chans }
+effect w (Offer c v) = record w { chans = change (with_value v) c w.chans }
+effect w (Done c u) = record w { chans = change one_completed c w.chans }
+effect w (Recv c u) = record w { chans = change one_received c w.chans }
 effect w need = w
 
 -- process p, with this need, takes its step

@@ -12,19 +12,16 @@ use Rattle.ppd_ast.specs.declared.program.Kind.{Kind}
 use Rattle.ppd_ast.specs.declared.program.Kind.TheVariants as kind
 use Rattle.ppd_ast.specs.declared.program.Program.{Program}
 use Rattle.ppd_ast.specs.Lookups.{kind_of, body_of}
-use Rattle.ppd_blocks.specs.Blocks.{plan_of}
+use Rattle.ppd_ast.specs.Counting.{one_if}
+use Rattle.ppd_step_laws.specs.Blocks.{plan_of}
 use Rattle.ppd_sem.specs.declared.proc.Frame.{Frame}
 use Rattle.ppd_sem.specs.declared.proc.Todo.{Todo}
 use Rattle.ppd_sem.specs.Blocks.{block_kind, is_function}
 use Rattle.ppd_sem.specs.Process.{loop_of}
-use Rattle.ppd_sem.specs.Runs.{returns}
+use Rattle.ppd_sem.specs.Runs.{returns, bodies_in}
 use Rattle.ppd_sem.specs.Tables.{block_of, or_zero}
-use Rattle.ppd_nested.specs.Stack.{block_frames, bodies_in, entered_block, functions_in, open_blocks, process_block, returned_block, returning}
+use Rattle.ppd_nested.specs.Stack.{block_frames, entered_block, functions_in, open_blocks, process_block, returned_block, returning}
 use Rattle.ppd_nested.proofs.Planned.{kind_is, process_found}
-
--- 1 where it is so
-abbrev one_where : Bool → ℕ
-one_where b = if b then 1 else 0
 
 -- ---- by the bodies
 
@@ -45,8 +42,8 @@ by_bodies plan (f ∷ g ∷ fs) [] base e = let long : suc (suc (length (bodies_
 by_bodies plan (f ∷ g ∷ fs) (b ∷ bs) base e =
     let first : f.body ≡ b = ap (λ xs. first_or xs) e in
     let rest : bodies_in (g ∷ fs) ≡ bs ++ base ∷ [] = ap (λ xs. rest_of xs) e in
-    ap (λ n. one_where (is_some (block_of plan (block.Function n))) + block_frames plan (g ∷ fs)) first
-    ∙ ap (λ n. one_where (is_some (block_of plan (block.Function b))) + n) (by_bodies plan (g ∷ fs) bs base rest)
+    ap (λ n. one_if (is_some (block_of plan (block.Function n))) + block_frames plan (g ∷ fs)) first
+    ∙ ap (λ n. one_if (is_some (block_of plan (block.Function b))) + n) (by_bodies plan (g ∷ fs) bs base rest)
   where
     first_or : List ℕ → ℕ
     first_or [] = 0
@@ -66,15 +63,15 @@ module _ (program : Program) (policy : Policy) where
   abbrev plan : Plan
   plan = plan_of program policy
 
-  one : (b : ℕ) (k : _) → block_kind plan b ≡ k → functions_in plan (b ∷ []) ≡ one_where (is_function k)
-  one b k e = let z : one_where (is_function (block_kind plan b)) ≡ one_where (is_function k) = ap (λ x. one_where (is_function x)) e in omega (arith, z)
+  one : (b : ℕ) (k : _) → block_kind plan b ≡ k → functions_in plan (b ∷ []) ≡ one_if (is_function k)
+  one b k e = let z : one_if (is_function (block_kind plan b)) ≡ one_if (is_function k) = ap (λ x. one_if (is_function x)) e in omega (arith, z)
 
   loop_counts : (s : ℕ) (k : Kind) (o : Option ℕ) → loop_of plan s k ≡ o → functions_in plan (option_to_list o) ≡ 0
   loop_counts s k None e = refl
   loop_counts s (kind.While x body) (Some b) e = one b (block.Loop s) (kind_is program policy (block.Loop s) b e)
   loop_counts s k (Some b) e = absurd (cc)
 
-  function_counts : (f : ℕ) (o : Option ℕ) → block_of plan (block.Function f) ≡ o → functions_in plan (option_to_list o) ≡ one_where (is_some o)
+  function_counts : (f : ℕ) (o : Option ℕ) → block_of plan (block.Function f) ≡ o → functions_in plan (option_to_list o) ≡ one_if (is_some o)
   function_counts f None e = refl
   function_counts f (Some b) e = one b (block.Function f) (kind_is program policy (block.Function f) b e)
 
@@ -89,7 +86,7 @@ module _ (program : Program) (policy : Policy) where
   returned_counts t true e =
       ap (λ x. functions_in plan (if x then option_to_list (block_of plan (block.Function (body_of program t.stmt))) else [])) e
       ∙ function_counts (body_of program t.stmt) (block_of plan (block.Function (body_of program t.stmt))) refl
-      ∙ (let z : one_where (is_some (block_of plan (block.Function (body_of program t.stmt)))) ≡ called_blocks plan (body_of program t.stmt ∷ []) = omega arith in z)
+      ∙ (let z : one_if (is_some (block_of plan (block.Function (body_of program t.stmt)))) ≡ called_blocks plan (body_of program t.stmt ∷ []) = omega arith in z)
       ∙ ap (λ x. called_blocks plan (if x then body_of program t.stmt ∷ [] else [])) (sym e)
   returned_counts t false e =
       ap (λ x. functions_in plan (if x then option_to_list (block_of plan (block.Function (body_of program t.stmt))) else [])) e

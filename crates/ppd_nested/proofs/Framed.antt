@@ -18,11 +18,11 @@ use Rattle.ppd_sem.specs.declared.proc.Todo.{Todo}
 use Rattle.ppd_sem.specs.Asked.{Asked}
 use Rattle.ppd_sem.specs.Deed.{Deed, set_local, set_shared, clear, branch, turn, leave, invoke, back, take, give, send, receive, print, pass, finish}
 use Rattle.ppd_sem.specs.Process.{act, act_at, act_by_asked, act_by_deed, act_by_need, head_deed, need_of, started, todos, value_of}
-use Rattle.ppd_sem.specs.Runs.{IsInner, IsRunnableBody, returns}
+use Rattle.ppd_sem.specs.Runs.{IsInner, IsRunnableBody, returns, bodies_in}
 use Rattle.ppd_sem.proofs.Offers.{CompletesSend, completes, send_stays}
 use Rattle.ppd_sem.proofs.Validity.{valid-runnable}
 use Rattle.ppd_model.proofs.Homes.{AllBeside, AreTop, AskedOf, DeedOf, bodies-clear, bodies-returned, bodies-write, head_of}
-use Rattle.ppd_nested.specs.Stack.{bodies_in, returning}
+use Rattle.ppd_nested.specs.Stack.{returning}
 
 -- ---- the returns of lists of statements
 

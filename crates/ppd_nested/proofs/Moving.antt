@@ -22,19 +22,19 @@ use Rattle.ppd_sem.specs.declared.proc.Todo.{Todo}
 use Rattle.ppd_sem.specs.Asked.{Asked}
 use Rattle.ppd_sem.specs.Deed.{Deed, set_local, set_shared, clear, branch, turn, leave, invoke, back, take, give, send, receive, print, pass, finish}
 use Rattle.ppd_sem.specs.Process.{act_by_asked, act_by_deed, act_by_need, call_unit, chan_of, cost, entry_of, head_deed, loop_of, need_by_entry, need_by_offer, need_of_asked, need_of_deed, need_of_head, need_of_leaving, need_of_running, need_of_send, offer_of, todos, top_body, top_call, top_cells}
-use Rattle.ppd_sem.specs.Runs.{returns}
+use Rattle.ppd_sem.specs.Runs.{returns, bodies_in}
 use Rattle.ppd_sem.specs.Tables.{block_of, capacity_of, or_zero, unit_of}
 use Rattle.ppd_sem.specs.Passed.{next_stmt_of}
 use Rattle.ppd_model.specs.Logs.{status_of}
 use Rattle.ppd_model.specs.Marks.{opened, closed}
 use Rattle.ppd_model.proofs.Deeds.{AskedOf as DoesIf, asked_of as does}
 use Rattle.ppd_model.proofs.Homes.{AskedOf, DeedOf, head_of}
-use Rattle.ppd_nested.specs.Stack.{Moves, bodies_in, entered_block, open_blocks, process_block, returned_block, returning}
+use Rattle.ppd_nested.specs.Stack.{Moves, entered_block, open_blocks, process_block, returned_block, returning}
 use Rattle.ppd_nested.proofs.Framed.{head_returns, head_stays}
 use Rattle.ppd_nested.proofs.DeedKinds.{Finishes, FinishesIf, finishing, found_while, loop_is, no_loop, return_no_loop, send_is, while_block, while_stays}
 use Rattle.ppd_nested.proofs.Opened.{head_plain, inner_plain, no_entered, no_returned, top_opens}
 
-top_is : (s : Proc) (b : ℕ) (bs : List ℕ) → bodies_in s.frames ≡ b ∷ bs → top_body s.frames ≡ b
+pub top_is : (s : Proc) (b : ℕ) (bs : List ℕ) → bodies_in s.frames ≡ b ∷ bs → top_body s.frames ≡ b
 top_is s b bs e = by s.frames e
   where
     first : List ℕ → ℕ

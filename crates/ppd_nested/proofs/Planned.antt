@@ -11,7 +11,7 @@ use Rattle.ppd_ast.specs.declared.plan.Policy.{Policy}
 use Rattle.ppd_ast.specs.declared.program.Body.{Body}
 use Rattle.ppd_ast.specs.declared.program.Program.{Program}
 use Rattle.ppd_ast.specs.Numbered.{blocks_by, blocks_of, body_kind, has_call, is_block_body, loops_at, numbers_of}
-use Rattle.ppd_blocks.specs.Blocks.{block_of as block_from, plan_of, postlog_of, prelog_of}
+use Rattle.ppd_step_laws.specs.Blocks.{block_of as block_from, plan_of, postlog_of, prelog_of}
 use Rattle.ppd_sem.specs.Blocks.{block_kind, kind_in, postlog_cells, postlog_in, prelog_cells, prelog_in}
 use Rattle.ppd_sem.specs.Tables.{block_of, same_block}
 use Rattle.ppd_step_laws.proofs.Units.Listed.{IsListed, found, found_passes, listed_each, listed_left}

@@ -14,11 +14,11 @@ use Rattle.ppd_sem.specs.declared.proc.Answer.{Answer}
 use Rattle.ppd_sem.specs.declared.proc.Proc.{Proc}
 use Rattle.ppd_sem.specs.declared.proc.Todo.{Todo}
 use Rattle.ppd_sem.specs.Process.{act, act_at, act_by_need, need_of, need_of_running, todos}
-use Rattle.ppd_sem.specs.Runs.{IsInner}
+use Rattle.ppd_sem.specs.Runs.{IsInner, bodies_in}
 use Rattle.ppd_sem.proofs.Progress.{need_at_todo}
 use Rattle.ppd_model.specs.Logs.{status_of}
 use Rattle.ppd_model.specs.Marks.{opened, closed}
-use Rattle.ppd_nested.specs.Stack.{IsInOrder, Moves, StepsMoveBlocks, bodies_in, open_blocks, process_block, returning, stack}
+use Rattle.ppd_nested.specs.Stack.{IsInOrder, Moves, StepsMoveBlocks, open_blocks, process_block, returning, stack}
 use Rattle.ppd_nested.proofs.Depths.{deep}
 use Rattle.ppd_nested.proofs.Framed.{act_framed, process_stays, started_framed}
 use Rattle.ppd_nested.proofs.Moving.{head_moves}

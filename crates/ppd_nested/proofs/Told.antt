@@ -9,25 +9,11 @@ use Rattle.ppd_model.specs.Record.{sync_record}
 use Rattle.ppd_model.specs.Schedule.{started_world}
 use Rattle.ppd_model.specs.Story.{Moment, Telling, begun, moment_of, own_moments, own_steps, steps_of, story, tell, told}
 use Rattle.ppd_model.specs.Synchronizations.{syncs_of}
-use Rattle.ppd_model.specs.World.{change}
 use Rattle.ppd_model.proofs.Changes.{length-change, own-at, own-else}
 use Rattle.ppd_model.proofs.Stories.{told-append}
+use Rattle.ppd_model.proofs.Lists.{change_past, get_or_map}
 
 -- ---- lists
-
-get_or_map : {A B : Type 0} (f : List A → List B) (xs : List (List A)) (q : ℕ) → f [] ≡ [] → get_or (map f xs) q [] ≡ f (get_or xs q [])
-get_or_map f [] q e = sym e
-get_or_map f (x ∷ xs) zero e = refl
-get_or_map f (x ∷ xs) (suc q) e = get_or_map f xs q e
-
-pub change_past : {A : Type 0} (f : A → A) (p : ℕ) (xs : List A) → length xs ≤ p → change f p xs ≡ xs
-change_past f p [] h = refl
-change_past f zero (x ∷ xs) h = absurd (omega (arith, h))
-change_past f (suc p) (x ∷ xs) h = ap (λ ys. x ∷ ys) (change_past f p xs (omega (arith, h)))
-
-pub steps_append : (xs ys : List Moment) → steps_of (xs ++ ys) ≡ steps_of xs ++ steps_of ys
-steps_append [] ys = refl
-steps_append (x ∷ xs) ys = ap (λ zs. x.taken ∷ zs) (steps_append xs ys)
 
 pub none_own : {A : Type 0} (xs : List A) (p : ℕ) → ◌≡◌ {A = List Moment} (get_or (map (λ _. []) xs) p []) []
 none_own [] p = refl

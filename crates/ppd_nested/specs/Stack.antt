@@ -8,7 +8,7 @@ use Rattle.ppd_ast.specs.declared.plan.Policy.{Policy}
 use Rattle.ppd_ast.specs.declared.program.Program.{Program}
 use Rattle.ppd_ast.specs.declared.status.Status.{Status}
 use Rattle.ppd_ast.specs.Lookups.{kind_of, body_of}
-use Rattle.ppd_blocks.specs.Blocks.{plan_of}
+use Rattle.ppd_step_laws.specs.Blocks.{plan_of}
 use Rattle.ppd_step_laws.specs.Course.{GoesUntilEnd, IsOnCourse}
 use Rattle.ppd_sem.specs.declared.proc.Answer.{Answer}
 use Rattle.ppd_sem.specs.declared.proc.Frame.{Frame}
@@ -16,7 +16,7 @@ use Rattle.ppd_sem.specs.declared.proc.Proc.{Proc}
 use Rattle.ppd_sem.specs.declared.proc.Todo.{Todo}
 use Rattle.ppd_sem.specs.Blocks.{block_kind, is_function}
 use Rattle.ppd_sem.specs.Process.{act, loop_of, need_of, started}
-use Rattle.ppd_sem.specs.Runs.{returns}
+use Rattle.ppd_sem.specs.Runs.{returns, bodies_in}
 use Rattle.ppd_sem.specs.Tables.{block_of, or_zero}
 use Rattle.ppd_model.specs.Logs.{status_of}
 use Rattle.ppd_model.specs.Marks.{Mark, opened, closed}
@@ -50,10 +50,6 @@ abbrev pub stack : Program → Plan → ℕ → Proc → List ℕ
 stack program plan p s = open_blocks program plan s.todo ++ process_block program plan p ∷ []
 
 -- ---- frames
-
--- the bodies of the frames, the top one first
-abbrev pub bodies_in : List Frame → List ℕ
-bodies_in frames = map (λ f. f.body) frames
 
 -- the frames above the lowest that are of functions that are blocks
 abbrev pub block_frames : Plan → List Frame → ℕ

@@ -9,22 +9,24 @@ use Rattle.ppd_ast.specs.declared.program.Body.{Body}
 use Rattle.ppd_ast.specs.declared.program.Program.{Program}
 use Rattle.ppd_ast.specs.Valid.{IsValid}
 use Rattle.ppd_ast.specs.Lookups.{kind_of_stmt, kind_of, top_of_body, body_of_stmt}
+use Rattle.ppd_ast.specs.Counting.{one_if}
 use Rattle.ppd_blocks.specs.Blocks.{plan_of}
 use Rattle.ppd_step_laws.proofs.Course.Standing.{in_itself}
 use Rattle.ppd_sem.specs.declared.proc.Todo.{Todo}
 use Rattle.ppd_sem.specs.Described.{ends_body}
 use Rattle.ppd_sem.specs.Process.{todos}
 use Rattle.ppd_sem.specs.Tables.{block_of}
-use Rattle.ppd_beside.specs.Beside.{Each, IsLast, IsOwnTodo, IsReturn}
+use Rattle.ppd_beside.specs.Beside.{IsLast, IsOwnTodo, IsReturn}
 use Rattle.ppd_beside.specs.Calls.{IsCallBlock, IsCallBody}
 use Rattle.ppd_beside.specs.Fine.{IsLoopBlock}
-use Rattle.ppd_beside.specs.Opens.{ends_block, one_if, open_at}
+use Rattle.ppd_beside.specs.Opens.{ends_block, open_at}
 use Rattle.ppd_openings.proofs.Blocks.{IsBodyThere, closer_in}
 use Rattle.ppd_facts.proofs.Bodies.{IsOf, body_begins, body_closer, body_writing, each_of, ender, last_stmt}
 use Rattle.ppd_facts.proofs.BodyBlocks.{body_there, function_below}
 use Rattle.ppd_facts.proofs.Loops.{IsWithin, loop_goes_on, loop_writing}
 use Rattle.ppd_facts.proofs.BlockOpens.{function_returns, return_opens}
 use Rattle.ppd_facts.proofs.State.{no_end_in_function}
+use Rattle.ppd_model.specs.World.{Each}
 
 -- a statement of the loop that is block b
 pub record IsOfLoop (program : Program) (plan : Plan) (b s : ℕ) : Type 0 where

@@ -1,3 +1,5 @@
+pub use Rattle.ppd_facts.proofs.Fine
+pub use Rattle.ppd_facts.proofs.State
 pub mod Blocks
 pub mod Opened
 pub mod Openings

@@ -27,7 +27,8 @@ use Rattle.ppd_sem.specs.Deed.{Deed, leave, invoke, send}
 use Rattle.ppd_sem.specs.Process.{act, act_at, act_by_asked, act_by_need, cells_for, chan_of, cost, entry_of, head_deed, loop_of, need_by_entry, need_by_offer, need_of, need_of_asked, need_of_deed, need_of_head, need_of_leaving, need_of_send, new_frame, offer_of, top_cells}
 use Rattle.ppd_sem.specs.Tables.{block_of, capacity_of, unit_of}
 use Rattle.ppd_sem.proofs.Progress.{need_at_todo}
-use Rattle.ppd_model.proofs.Homes.{AreHome, AskedOf, bodies_of, head_of}
+use Rattle.ppd_sem.specs.Runs.{bodies_in}
+use Rattle.ppd_model.proofs.Homes.{AreHome, AskedOf, head_of}
 use Rattle.ppd_model.specs.Marks.{Mark, opened}
 use Rattle.ppd_model.specs.Story.{unit_started}
 use Rattle.ppd_beside.specs.Beside.{IsCallOf, Suits, Yields}
@@ -98,7 +99,7 @@ module _ (program : Program) (plan : Plan) (v : IsValid program) (s : Proc) (a :
 
   entering : (b : ℕ) → entry_of program plan t ≡ Some b → Goal (Enter b (unit_of plan (start.Enter t.stmt)))
   entering b e is_m =
-      let top = head_home program s.frames t ts (subst (λ ys. AreHome program (bodies_of s.frames) ys) is h.home) in
+      let top = head_home program s.frames t ts (subst (λ ys. AreHome program (bodies_in s.frames) ys) is h.home) in
       let number : b ≡ m.block = ap block_in is_m in
       record {
         kind = block.Loop t.stmt;

@@ -19,7 +19,7 @@ use Rattle.ppd_sem.specs.Runs.{returns}
 use Rattle.ppd_sem.specs.Tables.{block_of}
 use Rattle.ppd_model.specs.FullTrace.{is_passed}
 use Rattle.ppd_model.proofs.TestSteps.{View}
-use Rattle.ppd_own_control.proofs.KindDeeds.{calls_simply, choice_stays, while_choice, while_stays}
+use Rattle.ppd_own_control.proofs.KindDeeds.{calls_simply, choice_stays, while_choice}
 use Rattle.ppd_own_control.proofs.Statics.{block_loop_while}
 use Rattle.ppd_own_control.proofs.Levels.{AllHold, Holds, Level, OfLoop, Sort, TopLeaf, function, leaf, loop, process, runs_of, todo_of, views_of}
 use Rattle.ppd_own_control.proofs.AtLevel.{me_of}
@@ -28,6 +28,7 @@ use Rattle.ppd_own_control.proofs.Endings.{leaves_loop, turns_again}
 use Rattle.ppd_own_control.proofs.Returns.{returns_block, returns_leaf}
 use Rattle.ppd_own_control.proofs.Steps.{Step, backs, calls, chooses, enters, leaves, offers, passes, reads, stops, turns}
 use Rattle.ppd_own_control.proofs.Along.{EventOf, runs_after, Given, own_runs, put, by_need, same, in_level}
+use Rattle.ppd_nested.proofs.DeedKinds.{while_stays}
 
 module _ (program : Program) (policy : Policy) (p : ℕ) (v : IsValid program) (s : Proc) (n number : ℕ) (e : Event)
     (m : Need) where

@@ -25,7 +25,7 @@ abbrev pub MayTest : Program → Policy → Sort → ℕ → Type 0
 MayTest program policy (loop l) t = stands_in program t l ≡ true
 MayTest program policy s t = Free program policy t
 
-no_leaf_kind : (plan : Plan) (k : Kind) → is_call k ≡ false → is_leaf_call plan k ≡ false
+pub no_leaf_kind : (plan : Plan) (k : Kind) → is_call k ≡ false → is_leaf_call plan k ≡ false
 no_leaf_kind plan (kind.Call f arguments into) h = absurd (true≢false h)
 no_leaf_kind plan k h = refl
 

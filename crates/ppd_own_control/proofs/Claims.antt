@@ -7,6 +7,7 @@ use Rattle.ppd_ast.specs.declared.plan.BlockKind.TheVariants as block
 use Rattle.ppd_ast.specs.declared.plan.Plan.{Plan}
 use Rattle.ppd_ast.specs.declared.plan.Policy.{Policy}
 use Rattle.ppd_ast.specs.declared.program.Program.{Program}
+use Rattle.ppd_ast.proofs.ValidLaws.{slice_get_below}
 use Rattle.ppd_blocks.specs.Blocks.{plan_of}
 use Rattle.ppd_nested.proofs.Planned.{kind_is}
 use Rattle.ppd_sem.specs.Blocks.{block_kind}
@@ -28,10 +29,8 @@ use Rattle.ppd_model.specs.NearIntervals.{is_loop}
 use Rattle.ppd_model.specs.Story.{story}
 use Rattle.ppd_model.proofs.Changes.{some}
 use Rattle.ppd_model.proofs.CountedOn.{last_at}
-use Rattle.ppd_model.proofs.Lists.{below_at}
 use Rattle.ppd_places.specs.Levels.{IsLater, StandsIn, levels_after, numbers, Level as Place}
 use Rattle.ppd_places.proofs.Later.{later_then, step_stands}
-use Rattle.ppd_own_control.proofs.Goes.{new_at}
 use Rattle.ppd_own_control.proofs.Moments.{Moment, events_after}
 use Rattle.ppd_own_control.proofs.NewParts.{IsNew, new_event, new_inner, new_interval, new_parts}
 use Rattle.ppd_own_control.proofs.Opens.{OpensAt, opens_at}
@@ -190,14 +189,14 @@ module _ (program : Program) (policy : Policy) (budget : ℕ) (h : List ℕ) (p 
             let here : part_at y l.interval (length l.parts) ≡ Some (own n) = part_of program policy budget h p y v at
             (length x.spans)
             (nested (length x.spans) ∷ []) (numbers f.outside) (record l { parts = l.parts ++ own n ∷ [] })
-            (length l.parts) (own n) all.1.0 (new_at l.parts (own n)) in
+            (length l.parts) (own n) all.1.0 (last_at l.parts (own n)) in
             let traced : TracedEvent = traced_by program s t x.trace
             (event_of program plan x.trace.proc t x.trace.proc.todo) in
             let new : slice_get x1.trace.events n ≡ Some traced = ap (λ es. slice_get es n)
             (events_after program plan s p t t.need x.trace (ap is_event is)) ∙ last_at x.trace.events traced in (
               subst (λ i. part_at y i (length parts) ≡ Some (own n)) (sym f.number_is)
                   (subst (λ ps. part_at y l.interval (length ps) ≡ Some (own n)) (sym f.parts_same) here),
-              below_at y.trace.events n traced (later.events n traced new),
+              slice_get_below y.trace.events n traced (later.events n traced new),
             )
 
     -- ---- what is new

@@ -15,7 +15,7 @@ use Rattle.ppd_units.specs.Walk.{stands_in}
 use Rattle.ppd_model.specs.FullTrace.{is_passed, latest}
 use Rattle.ppd_model.specs.Parents.{is_choice}
 use Rattle.ppd_model.proofs.TestSteps.{View, older}
-use Rattle.ppd_own_control.proofs.KindDeeds.{while_choice, while_no_call, while_stays}
+use Rattle.ppd_own_control.proofs.KindDeeds.{while_choice}
 use Rattle.ppd_own_control.proofs.Statics.{IsBlockLoop, in_own_loop}
 use Rattle.ppd_own_control.proofs.Levels.{AllHold, EndsWith, Fact, Holds, Knows, Level, OfLoop, OuterAt, OverNext, Plain, Sort, TopLeaf, frame_of, function, leaf, loop, passes, process, runs_of, todo_of, views_of, views_with}
 use Rattle.ppd_own_control.proofs.Goes.{Goes, fact_on, facts_on, plain_on, view_after}
@@ -24,6 +24,8 @@ use Rattle.ppd_own_control.proofs.Events.{inner_facts}
 use Rattle.ppd_own_control.proofs.InLevel.{unpassed}
 use Rattle.ppd_own_control.proofs.Moved.{Moved, add, stays_top, tested}
 use Rattle.ppd_own_control.proofs.Steps.{AreInside}
+use Rattle.ppd_nested.proofs.DeedKinds.{while_stays}
+use Rattle.ppd_places.proofs.Calling.{while_no_call}
 
 other_views : (sort : Sort) (v w : View) (vs : List View) → ((m : ℕ) → sort ≡ loop m → ⊥)
     → v ∷ drop 1 (views_with sort w vs) ≡ views_with sort v vs

@@ -7,7 +7,7 @@ use Rattle.ppd_ast.specs.Valid.{IsValid}
 use Rattle.ppd_ast.specs.declared.plan.Policy.{Policy}
 use Rattle.ppd_ast.specs.declared.program.Kind.TheVariants as kind
 use Rattle.ppd_ast.specs.declared.program.Program.{Program}
-use Rattle.ppd_ast.specs.Lookups.{kind_of, body_of}
+use Rattle.ppd_ast.specs.Lookups.{kind_of, body_of, parent_if}
 use Rattle.ppd_blocks.specs.Blocks.{plan_of}
 use Rattle.ppd_sem.specs.declared.event.Event.{Event}
 use Rattle.ppd_sem.specs.declared.proc.Todo.{Todo}
@@ -15,17 +15,18 @@ use Rattle.ppd_sem.specs.Process.{todos}
 use Rattle.ppd_sem.specs.Runs.{returns}
 use Rattle.ppd_units.specs.Walk.{stands_in}
 use Rattle.ppd_model.specs.declared.trace.EventId.{EventId}
-use Rattle.ppd_model.specs.FullTrace.{latest, parent_if}
+use Rattle.ppd_model.specs.FullTrace.{latest}
 use Rattle.ppd_model.specs.Parents.{is_choice}
 use Rattle.ppd_model.proofs.Homes.{AllBeside}
 use Rattle.ppd_model.proofs.Moves.{AllInner}
 use Rattle.ppd_model.proofs.TestSteps.{View, older}
+use Rattle.ppd_model.proofs.CountedOn.{kept_at}
 use Rattle.ppd_step_laws.proofs.Course.Rising.{parent_below}
 use Rattle.ppd_step_laws.proofs.Course.Standing.{not_in_later}
 use Rattle.ppd_own_control.proofs.Sights.{BeginsNone, Sign, leaf_goes, tests_other}
 use Rattle.ppd_own_control.proofs.Statics.{Free, child_calm, child_stands_in, in_own_loop, stmt_with_parent}
 use Rattle.ppd_own_control.proofs.Levels.{EndsWith, Fact, Facts, Has, Knows, Level, Looping, Met, OfLeaf, OfLoop, Outer, OuterAt, Plain, Sort, StandsAt, frame_of, function, leaf, loop, passes, process}
-use Rattle.ppd_own_control.proofs.Goes.{Every, Goes, event_goes, event_met, fact_on, facts_on, looping_on, plain_on, still_at, view_after}
+use Rattle.ppd_own_control.proofs.Goes.{Every, Goes, event_goes, event_met, fact_on, facts_on, looping_on, plain_on, view_after}
 use Rattle.ppd_own_control.proofs.AtLevel.{AtLevel, MayTest, me_of, sight_after}
 
 module _ (program : Program) (policy : Policy) (p : ℕ) where
@@ -183,13 +184,13 @@ module _ (program : Program) (policy : Policy) (p : ℕ) where
           (ap (λ i. returns (kind_of program i)) at.is ∙ at.stays) ∙ h.leaf_is;
       number = h.number;
       event = h.event;
-      there = still_at x.run.sight (Some (n, e) ∷ []) h.call.item (Some (h.number, h.event)) h.there;
+      there = kept_at x.run.sight (Some (n, e) ∷ []) h.call.item (Some (h.number, h.event)) h.there;
       called = h.called;
       frame_is = h.frame_is;
       number_is = h.number_is;
       kind_is = h.kind_is;
       place_is = h.place_is;
-      longer = λ j q there. still_at x.run.sight (Some (n, e) ∷ []) j q (h.longer j q there);
+      longer = λ j q there. kept_at x.run.sight (Some (n, e) ∷ []) j q (h.longer j q there);
       same = λ s home choice.
           tests_other program (plan_of program policy) 0 s n e x.run.sight (begins_none 0)
           (λ same. h.other (sym at.home ∙ ap (body_of program) (sym at.is ∙ same) ∙ home))

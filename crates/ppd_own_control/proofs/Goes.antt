@@ -1,5 +1,5 @@
 -- What an event or a nested interval leaves of what is known of a level.
-use Rattle.std.proofs.Common.{◌≡◌, ℕ, zero, suc, true, false, ◌&&◌, ◌⊎◌, List, [], ◌∷◌, ◌++◌, Some, None, refl, ap, sym, subst, ◌∙◌, length, inl, inr}
+use Rattle.std.proofs.Common.{◌≡◌, ℕ, true, false, ◌&&◌, ◌⊎◌, List, [], ◌∷◌, ◌++◌, Some, None, refl, ap, sym, subst, ◌∙◌, length, inl, inr}
 use Rattle.std.specs.Prelude.{⊤, nat_eq, slice_get}
 use Rattle.std.proofs.lemmas.Bool.{and_from, cases_eq, eq-eqb, ne_eqb}
 use Rattle.std.proofs.lemmas.Option.{none-some}
@@ -15,22 +15,13 @@ use Rattle.ppd_model.specs.declared.trace.EventId.{EventId}
 use Rattle.ppd_model.specs.FullTrace.{is_passed, latest, tests_after}
 use Rattle.ppd_model.specs.Parents.{is_choice}
 use Rattle.ppd_model.proofs.TestSteps.{View, newest, older, test_by}
+use Rattle.ppd_model.proofs.CountedOn.{kept_at, last_at}
 use Rattle.ppd_own_control.proofs.KindDeeds.{while_choice}
 use Rattle.ppd_own_control.proofs.Sights.{BeginsNone, Sign, tests_nested, tests_other, tests_over, tests_own}
 use Rattle.ppd_own_control.proofs.Statics.{Free, IsBlockLoop}
 use Rattle.ppd_own_control.proofs.Levels.{Agrees, Fact, Facts, IsUnfound, Looping, Met, Outer, OuterAt, Plain, Sort, frame_of, passes, Has}
 
 -- ---- lists
-
-pub still_at : {A : Type 0} (xs ys : List A) (i : ℕ) (x : A) → slice_get xs i ≡ Some x
-    → slice_get (xs ++ ys) i ≡ Some x
-still_at [] ys i x e = absurd (none-some x e)
-still_at (z ∷ xs) ys zero x e = e
-still_at (z ∷ xs) ys (suc i) x e = still_at xs ys i x e
-
-pub new_at : {A : Type 0} (xs : List A) (y : A) → slice_get (xs ++ y ∷ []) (length xs) ≡ Some y
-new_at [] y = refl
-new_at (x ∷ xs) y = new_at xs y
 
 -- the view after an event
 abbrev pub view_after : Program → EventId → Event → View → View
@@ -161,7 +152,7 @@ module _ (program : Program) (policy : Policy) (p : ℕ) where
         (and_from (nat_eq e.stmt s) (is_choice (kind_of program e.stmt)) (eq-eqb e.stmt s same)
         (ap (λ i. is_choice (kind_of program i)) same ∙ is));
     event = e;
-    there = new_at xs (Some (n, e));
+    there = last_at xs (Some (n, e));
     process_is = refl;
     passed_is = refl;
   }
@@ -178,7 +169,7 @@ module _ (program : Program) (policy : Policy) (p : ℕ) where
             (ap (λ b. b && is_choice (kind_of program e.stmt)) (ne_eqb e.stmt s other)),
       )
     ];
-    longer = λ j q at. still_at xs (Some (n, e) ∷ []) j q at;
+    longer = λ j q at. kept_at xs (Some (n, e) ∷ []) j q at;
   }
 
   -- ---- a nested interval
@@ -186,5 +177,5 @@ module _ (program : Program) (policy : Policy) (p : ℕ) where
   pub nested_goes : (frame : ℕ) (xs : List Sign) (v : View) → Goes frame Every xs v (xs ++ None ∷ []) v
   nested_goes frame xs v = record {
     each = λ s c is. inr (tests_nested program (plan_of program policy) frame s xs, refl);
-    longer = λ j q at. still_at xs (None ∷ []) j q at;
+    longer = λ j q at. kept_at xs (None ∷ []) j q at;
   }

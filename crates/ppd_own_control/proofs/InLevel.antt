@@ -17,13 +17,14 @@ use Rattle.ppd_sem.specs.Tables.{block_of}
 use Rattle.ppd_model.specs.FullTrace.{is_passed, latest}
 use Rattle.ppd_model.specs.Parents.{is_choice}
 use Rattle.ppd_model.proofs.TestSteps.{View, newest}
-use Rattle.ppd_own_control.proofs.KindDeeds.{IsSimple, choice_no_call, while_choice, while_no_call}
+use Rattle.ppd_own_control.proofs.KindDeeds.{IsSimple, choice_no_call, while_choice}
 use Rattle.ppd_own_control.proofs.Levels.{AllHold, Facts, Fact, Has, Holds, Level, TopLeaf, passes, runs_of, todo_of, views_of}
 use Rattle.ppd_own_control.proofs.Goes.{view_after}
 use Rattle.ppd_own_control.proofs.AtLevel.{AtLevel, begins_no, me_of, sight_after}
 use Rattle.ppd_own_control.proofs.Events.{facts_event, inner_facts}
 use Rattle.ppd_own_control.proofs.Moved.{Moved, add, may_test, no_block, no_while, stays_top, still_after, tested}
 use Rattle.ppd_own_control.proofs.Steps.{AreInside}
+use Rattle.ppd_places.proofs.Calling.{while_no_call}
 
 -- one of later ones
 pub has_later : (s : ℕ) (xs ys : List Todo) → Has s ys → Has s (xs ++ ys)

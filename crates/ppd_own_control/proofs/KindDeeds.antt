@@ -83,17 +83,9 @@ pub choice_stays : (k : Kind) → is_choice k ≡ true → returns k ≡ false
 choice_stays (kind.Return v) h = absurd (true≢false (sym h))
 choice_stays k h = refl
 
-pub while_stays : (k : Kind) → is_while k ≡ true → returns k ≡ false
-while_stays (kind.Return v) h = absurd (true≢false (sym h))
-while_stays k h = refl
-
 pub choice_no_call : (k : Kind) → is_choice k ≡ true → is_call k ≡ false
 choice_no_call (kind.Call f arguments into) h = absurd (true≢false (sym h))
 choice_no_call k h = refl
-
-pub while_no_call : (k : Kind) → is_while k ≡ true → is_call k ≡ false
-while_no_call (kind.Call f arguments into) h = absurd (true≢false (sym h))
-while_no_call k h = refl
 
 pub return_no_call : (k : Kind) → returns k ≡ true → is_call k ≡ false
 return_no_call (kind.Call f arguments into) h = absurd (true≢false (sym h))

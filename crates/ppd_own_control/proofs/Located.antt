@@ -5,20 +5,21 @@ use Rattle.std.specs.Prelude.{⊤, option_map, slice_get, take, unwrap_or}
 use Rattle.std.proofs.lemmas.Iterator.Adapters.{position_from-zero}
 use Rattle.std.proofs.lemmas.List.{take_at}
 use Rattle.std.proofs.lemmas.List.Concat.{flat_map-append}
-use Rattle.ppd_beside.specs.Beside.{Each}
 use Rattle.ppd_ast.specs.declared.plan.BlockKind.{BlockKind}
 use Rattle.ppd_ast.specs.declared.plan.BlockKind.TheVariants as block
 use Rattle.ppd_ast.specs.declared.plan.Plan.{Plan}
 use Rattle.ppd_ast.specs.declared.plan.Policy.{Policy}
 use Rattle.ppd_ast.specs.declared.program.Program.{Program}
-use Rattle.ppd_ast.specs.Lookups.{kind_of}
+use Rattle.ppd_ast.specs.Lookups.{kind_of, parent_if}
 use Rattle.ppd_blocks.specs.Blocks.{plan_of}
 use Rattle.ppd_sem.specs.Blocks.{block_kind}
-use Rattle.ppd_model.specs.FullTrace.{or_else, parent_if}
+use Rattle.ppd_model.specs.FullTrace.{or_else}
 use Rattle.ppd_model.specs.Intervals.{Part, own, nested, Span, Split, is_closed, item_of, items_of}
 use Rattle.ppd_model.specs.declared.flow.Item.{Item}
 use Rattle.ppd_model.specs.declared.flow.Item.TheVariants as item
 use Rattle.ppd_model.specs.declared.flow.Origin.TheVariants as origin
+use Rattle.ppd_model.specs.World.{Each}
+use Rattle.ppd_model.proofs.Lists.{get_mapped}
 use Rattle.ppd_search.specs.declared.leaf_call.LeafCall.{LeafCall}
 use Rattle.ppd_search.specs.Control.{Tests, begun_tests, call_or_entry, control_above, control_among, control_in, control_origin, control_outside, last_test, leaf_call_at, test_of_run, test_round}
 use Rattle.ppd_search.specs.Locals.{frame_in, leaf_at}
@@ -27,7 +28,7 @@ use Rattle.ppd_places.specs.Levels.{AreBelow, numbers, Level as Place}
 use Rattle.ppd_places.proofs.Scans.{nested_item}
 use Rattle.ppd_places.proofs.Whole.{AreWhole, first_items, first_whole}
 use Rattle.ppd_own_control.proofs.Levels.{Run}
-use Rattle.ppd_own_control.proofs.Searching.{AllAt, SpanAt, event_none, found_past, get_mapped, leaf_match, span_none, tests_match}
+use Rattle.ppd_own_control.proofs.Searching.{AllAt, SpanAt, event_none, found_past, leaf_match, span_none, tests_match}
 use Rattle.ppd_own_control.proofs.Seen.{AreSeen, SightIs, sight_length}
 use Rattle.ppd_own_control.proofs.Sides.{above_over, among_over, begun_by, control_over, found_over, round_over}
 use Rattle.ppd_own_control.proofs.Sights.{Sign, leaf_over, tests_over}

@@ -5,7 +5,7 @@ use Rattle.std.proofs.lemmas.List.{take_at}
 use Rattle.ppd_ast.specs.Valid.{IsValid}
 use Rattle.ppd_ast.specs.declared.plan.Policy.{Policy}
 use Rattle.ppd_ast.specs.declared.program.Program.{Program}
-use Rattle.ppd_ast.specs.Lookups.{kind_of, body_of}
+use Rattle.ppd_ast.specs.Lookups.{kind_of, body_of, parent_if}
 use Rattle.ppd_blocks.specs.Blocks.{plan_of}
 use Rattle.ppd_facts.proofs.Within.{within_cases}
 use Rattle.ppd_sem.specs.declared.proc.Todo.{Todo}
@@ -13,13 +13,13 @@ use Rattle.ppd_units.specs.Walk.{stands_in}
 use Rattle.ppd_model.specs.declared.flow.Origin.{Origin}
 use Rattle.ppd_model.specs.declared.flow.Origin.TheVariants as origin
 use Rattle.ppd_model.specs.declared.trace.EventId.{EventId}
-use Rattle.ppd_model.specs.FullTrace.{latest, of_outer, of_run, or_else, parent_if}
+use Rattle.ppd_model.specs.FullTrace.{latest, of_outer, of_run, or_else}
 use Rattle.ppd_model.proofs.TestSteps.{View}
+use Rattle.ppd_model.proofs.CountedOn.{kept_at}
 use Rattle.ppd_own_control.proofs.KindDeeds.{while_choice}
 use Rattle.ppd_own_control.proofs.Sights.{Sign, leaf_over}
 use Rattle.ppd_own_control.proofs.Statics.{IsBlockLoop, block_loop_while, in_own_loop}
 use Rattle.ppd_own_control.proofs.Levels.{Fact, Holds, Knows, Level, Looping, Met, OfLoop, OuterAt, Run, Sort, frame_of, function, leaf, loop, passes, process, runs_of, runs_with}
-use Rattle.ppd_own_control.proofs.Goes.{still_at}
 use Rattle.ppd_own_control.proofs.Sides.{Again, Answer, Side, above_over, among_over, answered, begun_by, found_over, none_run, outside_over, parent_of, round_over, run_side}
 use Rattle.ppd_own_control.proofs.Queries.{first_run, Query, plain_query, query_before, LeafAt, leaf_before, leaf_at, test_at, near_side, else_some, sure}
 use Rattle.ppd_own_control.proofs.PlainAnswers.{plain_answer}
@@ -146,7 +146,7 @@ module _ (program : Program) (policy : Policy) (p : ℕ) (v : IsValid program) w
         (leaf_at program policy p v y y.sort ys hy.over o.no_leaf)) in
         let longer : (j : ℕ) (z : Sign) → slice_get before j ≡ Some z
         → slice_get y.run.sight j ≡ Some z = λ j z at. ap (λ ss. slice_get ss j) o.sight_is
-        ∙ still_at before (None ∷ []) j z at in
+        ∙ kept_at before (None ∷ []) j z at in
         let first = first_run y.sort y.run (runs_of ys) in
         let found : Answer program policy p rs
         (unwrap_or (found_over program policy p y.run.number l before)

@@ -20,6 +20,7 @@ use Rattle.ppd_sem.specs.declared.proc.Todo.{Todo}
 use Rattle.ppd_sem.specs.Described.{trap_of, is_event}
 use Rattle.ppd_sem.specs.Process.{act, act_at, act_by_need, need_of, need_of_running, top_body}
 use Rattle.ppd_sem.proofs.Progress.{act-stopped, need_at_status, need_at_todo}
+use Rattle.ppd_sem.specs.Runs.{bodies_in}
 use Rattle.ppd_model.specs.declared.tracing.Activation.{Activation}
 use Rattle.ppd_model.specs.declared.tracing.Story.{Story}
 use Rattle.ppd_model.specs.declared.tracing.Taken.{Taken}
@@ -29,7 +30,7 @@ use Rattle.ppd_model.specs.FullTrace.{Tag, event_of, me_in, tagged_after, trace_
 use Rattle.ppd_model.specs.Intervals.{Split, split_step}
 use Rattle.ppd_model.specs.Marks.{closed, opened}
 use Rattle.ppd_model.proofs.CountedOn.{last_at}
-use Rattle.ppd_model.proofs.Homes.{AreHome, IsHome, bodies_of}
+use Rattle.ppd_model.proofs.Homes.{AreHome, IsHome}
 use Rattle.ppd_model.proofs.TestSteps.{View, event_acts, other_acts, views}
 use Rattle.ppd_places.specs.Levels.{levels_after, Level as Place}
 use Rattle.ppd_own_control.proofs.Along.{EventOf, Given, runs_after}
@@ -74,7 +75,7 @@ events_after program plan story p x need.Stopped t e = absurd (cc)
 events_after program plan story p x n t e = refl
 
 home_of : (program : Program) (frames : List Frame) (t : Todo) (ts : List Todo)
-    → AreHome program (bodies_of frames) (t ∷ ts) → top_body frames ≡ body_of program t.stmt
+    → AreHome program (bodies_in frames) (t ∷ ts) → top_body frames ≡ body_of program t.stmt
 home_of program [] t ts h = absurd h
 home_of program (f ∷ fs) t ts h = sym h.0
 
@@ -159,7 +160,7 @@ module _ (program : Program) (policy : Policy) (v : IsValid program) (story : St
         trap_is = ap (λ todo. (event_of program plan s taken todo).trap) todo_is ∙ ap trap_of (sym own);
         value_is = ap (λ todo. (event_of program plan s taken todo).value) todo_is
             ∙ ap (λ k. value_in program s t k) (sym own);
-        home = home_of program s.frames t ts (subst (λ todo. AreHome program (bodies_of s.frames) todo) todo_is home);
+        home = home_of program s.frames t ts (subst (λ todo. AreHome program (bodies_in s.frames) todo) todo_is home);
       }
 
       given : after.trace.proc.status ≡ None

@@ -27,11 +27,12 @@ use Rattle.ppd_model.specs.Parents.{is_choice}
 use Rattle.ppd_model.proofs.Homes.{AreTop as AreTopOf}
 use Rattle.ppd_model.proofs.Moves.{AreTop}
 use Rattle.ppd_model.proofs.TestSteps.{View}
+use Rattle.ppd_model.proofs.CountedOn.{kept_at, last_at}
 use Rattle.ppd_search.specs.Locals.{begins_leaf, is_leaf_call}
 use Rattle.ppd_own_control.proofs.KindDeeds.{calls_simply}
 use Rattle.ppd_own_control.proofs.Sights.{Sign, leaf_begins, leaf_nested, tests_call, tests_other}
 use Rattle.ppd_own_control.proofs.Levels.{AllHold, Holds, Level, Run, Sort, TopLeaf, frame_of, function, leaf, loop, process, runs_of, runs_with, todo_of, views_of, views_with}
-use Rattle.ppd_own_control.proofs.Goes.{new_at, still_at, view_after}
+use Rattle.ppd_own_control.proofs.Goes.{view_after}
 use Rattle.ppd_own_control.proofs.AtLevel.{AtLevel, me_of, sight_after, with_event}
 use Rattle.ppd_own_control.proofs.Events.{facts_event}
 use Rattle.ppd_own_control.proofs.Moved.{Moved, add, add_runs, holds_event, items_in, items_runs, leaf_same, may_test, no_block, no_while, opens, still_after, tested, tested_views}
@@ -141,13 +142,13 @@ module _ (program : Program) (policy : Policy) (p : ℕ) (v : IsValid program) (
                 leaf_is = leaf_begins program (plan_of program policy) n e x.run.sight begins;
                 number = n;
                 event = e;
-                there = new_at x.run.sight (Some (n, e));
+                there = last_at x.run.sight (Some (n, e));
                 called = refl;
                 frame_is = frame_zero;
                 number_is = refl;
                 kind_is = refl;
                 place_is = refl;
-                longer = λ j q there. still_at x.run.sight (Some (n, e) ∷ []) j q there;
+                longer = λ j q there. kept_at x.run.sight (Some (n, e) ∷ []) j q there;
                 same = λ s home choice. tests_other program (plan_of program policy) 0 s n e x.run.sight frame_none
                     (other s choice);
                 other = λ same. true≢false (sym

@@ -8,7 +8,7 @@ use Rattle.ppd_ast.specs.Valid.{IsValid}
 use Rattle.ppd_ast.specs.declared.plan.BlockKind.TheVariants as block
 use Rattle.ppd_ast.specs.declared.plan.Policy.{Policy}
 use Rattle.ppd_ast.specs.declared.program.Program.{Program}
-use Rattle.ppd_ast.specs.Lookups.{kind_of, body_of}
+use Rattle.ppd_ast.specs.Lookups.{kind_of, body_of, parent_if}
 use Rattle.ppd_beside.specs.Beside.{IsCallOf}
 use Rattle.ppd_blocks.specs.Blocks.{plan_of}
 use Rattle.ppd_facts.proofs.Counted.{calling_block}
@@ -17,14 +17,14 @@ use Rattle.ppd_sem.specs.declared.proc.Todo.{Todo}
 use Rattle.ppd_sem.specs.Process.{todos}
 use Rattle.ppd_sem.specs.Runs.{returns}
 use Rattle.ppd_sem.specs.Tables.{block_of}
-use Rattle.ppd_model.specs.FullTrace.{parent_if}
 use Rattle.ppd_model.proofs.Homes.{AreTop as AreTopOf}
 use Rattle.ppd_model.proofs.Moves.{AreTop}
 use Rattle.ppd_model.proofs.TestSteps.{View}
+use Rattle.ppd_model.proofs.CountedOn.{kept_at}
 use Rattle.ppd_own_control.proofs.Sights.{Sign, leaf_nested, tests_nested}
 use Rattle.ppd_own_control.proofs.Statics.{Calm, IsBlockLoop, loops_apart, top_calm}
 use Rattle.ppd_own_control.proofs.Levels.{EndsWith, Fact, Facts, Holds, Knows, Level, OfLeaf, OverNext, Plain, Sort, StandsAt, frame_of, function, leaf, loop, process}
-use Rattle.ppd_own_control.proofs.Goes.{Every, Goes, fact_on, facts_on, looping_on, nested_goes, plain_on, still_at}
+use Rattle.ppd_own_control.proofs.Goes.{Every, Goes, fact_on, facts_on, looping_on, nested_goes, plain_on}
 
 module _ (program : Program) (policy : Policy) (p : ℕ) where
   -- ---- a nested interval more
@@ -71,13 +71,13 @@ module _ (program : Program) (policy : Policy) (p : ℕ) where
       leaf_is = leaf_nested program (plan_of program policy) x.run.sight ∙ h.leaf_is;
       number = h.number;
       event = h.event;
-      there = still_at x.run.sight (None ∷ []) h.call.item (Some (h.number, h.event)) h.there;
+      there = kept_at x.run.sight (None ∷ []) h.call.item (Some (h.number, h.event)) h.there;
       called = h.called;
       frame_is = h.frame_is;
       number_is = h.number_is;
       kind_is = h.kind_is;
       place_is = h.place_is;
-      longer = λ j q there. still_at x.run.sight (None ∷ []) j q (h.longer j q there);
+      longer = λ j q there. kept_at x.run.sight (None ∷ []) j q (h.longer j q there);
       same = λ s home choice. tests_nested program (plan_of program policy) 0 s x.run.sight ∙ h.same s home choice;
       other = h.other;
       no_block = h.no_block;

@@ -4,15 +4,15 @@ use Rattle.std.specs.Prelude.{slice_get, unwrap_or}
 use Rattle.ppd_ast.specs.Valid.{IsValid}
 use Rattle.ppd_ast.specs.declared.plan.Policy.{Policy}
 use Rattle.ppd_ast.specs.declared.program.Program.{Program}
-use Rattle.ppd_ast.specs.Lookups.{kind_of}
+use Rattle.ppd_ast.specs.Lookups.{kind_of, parent_if}
 use Rattle.ppd_blocks.specs.Blocks.{plan_of}
 use Rattle.ppd_model.specs.declared.flow.Origin.{Origin}
 use Rattle.ppd_model.specs.declared.flow.Origin.TheVariants as origin
 use Rattle.ppd_model.specs.declared.trace.EventId.{EventId}
-use Rattle.ppd_model.specs.FullTrace.{latest, of_outer, of_run, or_else, parent_if}
+use Rattle.ppd_model.specs.FullTrace.{latest, of_outer, of_run, or_else}
+use Rattle.ppd_model.proofs.CountedOn.{kept_at, last_at}
 use Rattle.ppd_own_control.proofs.Sights.{Sign, leaf_over}
 use Rattle.ppd_own_control.proofs.Levels.{Level, OverNext, Run, Sort, frame_of, function, leaf, loop, process, runs_of}
-use Rattle.ppd_own_control.proofs.Goes.{new_at, still_at}
 use Rattle.ppd_own_control.proofs.Sides.{Answer, among_over, answered, begun_by, found_over, number_in, parent_of}
 use Rattle.ppd_own_control.proofs.Queries.{first_run, Query, LeafAt, call_side, near_side, else_assoc, else_some, sure, number_of}
 
@@ -69,8 +69,8 @@ module _ (program : Program) (policy : Policy) (p : ℕ) (v : IsValid program) w
         let place : x.run.place - 1 ≡ length o.before = omega (arith, o.place_is) in
         let event : slice_get y.run.sight (length o.before) ≡ Some (Some (o.number, o.event)) =
         ap (λ ss. slice_get ss (length o.before)) o.sight_is
-        ∙ still_at (o.before ++ Some (o.number, o.event) ∷ []) (None ∷ []) (length o.before)
-        (Some (o.number, o.event)) (new_at o.before (Some (o.number, o.event))) in
+        ∙ kept_at (o.before ++ Some (o.number, o.event) ∷ []) (None ∷ []) (length o.before)
+        (Some (o.number, o.event)) (last_at o.before (Some (o.number, o.event))) in
         own_answer rs i at (record { again = q.again; outer = q.outer }) call f
         (subst (λ g. Answer program policy p rs g x.view.0) (sym (f_is refl))
         (subst (λ k. Answer program policy p rs (begun_by program policy p x.run outer k) x.view.0) (sym o.kind_is)

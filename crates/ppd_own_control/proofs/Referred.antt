@@ -6,6 +6,7 @@ use Rattle.ppd_ast.specs.Valid.{IsValid}
 use Rattle.ppd_ast.specs.declared.plan.Plan.{Plan}
 use Rattle.ppd_ast.specs.declared.plan.Policy.{Policy}
 use Rattle.ppd_ast.specs.declared.program.Program.{Program}
+use Rattle.ppd_ast.proofs.ValidLaws.{slice_get_below}
 use Rattle.ppd_blocks.specs.Blocks.{plan_of}
 use Rattle.ppd_sem.specs.declared.event.Event.{Event}
 use Rattle.ppd_sem.specs.declared.proc.Todo.{Todo}
@@ -22,13 +23,12 @@ use Rattle.ppd_model.specs.Items.{HasWholeItems, IsReferred}
 use Rattle.ppd_model.specs.Story.{story}
 use Rattle.ppd_model.proofs.Changes.{some}
 use Rattle.ppd_model.proofs.Items.{items_whole}
-use Rattle.ppd_model.proofs.Lists.{below_at}
 use Rattle.ppd_model.proofs.TestSteps.{views}
+use Rattle.ppd_model.proofs.CountedOn.{kept_at}
 use Rattle.ppd_search.specs.Control.{control_origin}
 use Rattle.ppd_search.specs.Seen.{seen_of}
 use Rattle.ppd_places.specs.Levels.{IsLater, StandsIn, numbers, Level as Place}
 use Rattle.ppd_own_control.proofs.Answers.{answers, top_parent}
-use Rattle.ppd_own_control.proofs.Goes.{still_at}
 use Rattle.ppd_own_control.proofs.Levels.{Run, runs_of, views_of}
 use Rattle.ppd_own_control.proofs.Located.{EndsInProcess, control_is}
 use Rattle.ppd_own_control.proofs.Moments.{Moment}
@@ -67,7 +67,7 @@ sight_traced es (own m ∷ ps) (None ∷ qs) j q s e = absurd s
 sight_traced es (own m ∷ ps) (Some r ∷ qs) zero q s e =
     let same : r ≡ q = some (some e) in
     let number : q.0 ≡ m = ap (λ (z : ℕ × Event). z.0) (sym same) ∙ s.0.0 in
-    subst (λ i. i < length es) (sym number) (below_at es m s.0.1.traced s.0.1.there)
+    subst (λ i. i < length es) (sym number) (slice_get_below es m s.0.1.traced s.0.1.there)
 sight_traced es (own m ∷ ps) (Some r ∷ qs) (suc j) q s e = sight_traced es ps qs j q s.1 e
 sight_traced es (nested m ∷ ps) (None ∷ qs) zero q s e = absurd (none-some _ (some e))
 sight_traced es (nested m ∷ ps) (None ∷ qs) (suc j) q s e = sight_traced es ps qs j q s e
@@ -101,7 +101,7 @@ module _ (program : Program) (policy : Policy) (budget : ℕ) (h : List ℕ) (p 
       → SpanAt y n inner outside l
       → slice_get l.parts j ≡ Some q → part_at y l.interval j ≡ Some q
   part_of n inner outside l j q a e = ap (λ o. part_in_of o j) a.there ∙ ap (λ ps. slice_get ps j) a.parts_are
-      ∙ still_at l.parts (inner ++ a.more) j q e
+      ∙ kept_at l.parts (inner ++ a.more) j q e
     where
       part_in_of : Option Span → ℕ → Option Part
       part_in_of None i = None

@@ -12,12 +12,13 @@ use Rattle.ppd_sem.specs.declared.event.Event.{Event}
 use Rattle.ppd_sem.specs.declared.proc.Todo.{Todo}
 use Rattle.ppd_sem.specs.Runs.{returns}
 use Rattle.ppd_model.specs.Parents.{is_choice}
+use Rattle.ppd_model.proofs.CountedOn.{kept_at}
 use Rattle.ppd_search.specs.Locals.{begins_leaf}
 use Rattle.ppd_own_control.proofs.KindDeeds.{return_no_call, return_no_choice, while_choice}
 use Rattle.ppd_own_control.proofs.Sights.{Sign, leaf_ends, tests_other}
 use Rattle.ppd_own_control.proofs.Statics.{block_loop_while}
 use Rattle.ppd_own_control.proofs.Levels.{AllHold, EndsWith, Fact, Knows, Level, OfFunction, OfLeaf, OverNext, Plain, Run, Sort, frame_of, function, leaf, loop, process, runs_of, runs_with, todo_of, views_of}
-use Rattle.ppd_own_control.proofs.Goes.{Goes, fact_on, facts_on, looping_on, plain_on, still_at}
+use Rattle.ppd_own_control.proofs.Goes.{Goes, fact_on, facts_on, looping_on, plain_on}
 use Rattle.ppd_own_control.proofs.AtLevel.{begins_no, me_of, sight_after}
 use Rattle.ppd_own_control.proofs.Moved.{Moved, add, tested}
 
@@ -78,7 +79,7 @@ module _ (program : Program) (policy : Policy) (p : ℕ) (v : IsValid program) (
               ∙ o.same s home choice,
           refl,
         );
-        longer = λ j q there. still_at x.run.sight (Some (n, e) ∷ []) j q (o.longer j q there);
+        longer = λ j q there. kept_at x.run.sight (Some (n, e) ∷ []) j q (o.longer j q there);
       }
 
       plain_back : Plain program policy p 0 y.body y.run.sight y.view → Plain program policy p 0 y.body now y.view

@@ -1,15 +1,14 @@
 -- The search over what is seen of a process, at the place at which it stands: it goes as over its running intervals.
-use Rattle.std.proofs.Common.{◌≡◌, ℕ, zero, suc, ◌+◌, ◌<◌, true, false, List, [], ◌∷◌, ◌++◌, Option, Some, None, refl, ap, sym, ◌∙◌, arith, length, map, get_or, append-nil, append_assoc, ne_eqb, if◌then◌else◌}
+use Rattle.std.proofs.Common.{◌≡◌, ℕ, suc, ◌+◌, ◌<◌, true, false, List, [], ◌∷◌, ◌++◌, Option, Some, None, refl, ap, sym, ◌∙◌, arith, length, append-nil, append_assoc, ne_eqb, if◌then◌else◌}
 use Rattle.std.specs.List.{flat_map, position_from}
 use Rattle.std.specs.Prelude.{⊤, fold, slice_get}
-use Rattle.std.proofs.lemmas.Option.{none-some}
-use Rattle.ppd_beside.specs.Beside.{Each}
 use Rattle.ppd_ast.specs.declared.plan.Plan.{Plan}
 use Rattle.ppd_ast.specs.declared.program.Program.{Program}
 use Rattle.ppd_model.specs.Intervals.{Part, own, nested, Span, Split, is_closed, item_of, item_of_event, item_of_span}
 use Rattle.ppd_model.specs.declared.flow.Item.{Item}
 use Rattle.ppd_model.specs.declared.flow.Item.TheVariants as item
 use Rattle.ppd_model.specs.declared.trace.TracedEvent.{TracedEvent}
+use Rattle.ppd_model.specs.World.{Each}
 use Rattle.ppd_search.specs.declared.leaf_call.LeafCall.{LeafCall}
 use Rattle.ppd_search.specs.Control.{Tests, test_event, test_item}
 use Rattle.ppd_search.specs.Locals.{leaf_after, leaf_at}
@@ -21,12 +20,6 @@ use Rattle.ppd_own_control.proofs.Seen.{SightIs}
 use Rattle.ppd_own_control.proofs.Sights.{Sign, leaf_from, tests_from}
 
 -- ---- lists
-
-pub get_mapped : {A B : Type 0} (f : A → B) (xs : List A) (k : ℕ) (d : B) (x : A) → slice_get xs k ≡ Some x
-    → get_or (map f xs) k d ≡ f x
-get_mapped f [] k d x e = absurd (none-some x e)
-get_mapped f (y ∷ ys) zero d x e = ap f (ap (λ o. elim o [ None ↦ y | Some z ↦ z ]) e)
-get_mapped f (y ∷ ys) (suc k) d x e = get_mapped f ys k d x e
 
 abbrev pub NoneOf : ℕ → List Item → Type 0
 NoneOf m xs = Each (λ (x : Item). is_item_of m x ≡ false) xs

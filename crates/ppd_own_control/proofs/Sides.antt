@@ -8,14 +8,14 @@ use Rattle.ppd_ast.specs.declared.plan.Policy.{Policy}
 use Rattle.ppd_ast.specs.declared.program.Kind.{Kind}
 use Rattle.ppd_ast.specs.declared.program.Kind.TheVariants as kind
 use Rattle.ppd_ast.specs.declared.program.Program.{Program}
-use Rattle.ppd_ast.specs.Lookups.{kind_of}
+use Rattle.ppd_ast.specs.Lookups.{kind_of, parent_if}
 use Rattle.ppd_blocks.specs.Blocks.{plan_of}
 use Rattle.ppd_sem.specs.declared.event.Event.{Event}
 use Rattle.ppd_model.specs.declared.flow.Origin.{Origin}
 use Rattle.ppd_model.specs.declared.flow.Origin.TheVariants as origin
 use Rattle.ppd_model.specs.declared.trace.EventId.{EventId}
 use Rattle.ppd_model.specs.declared.tracing.Test.{Test}
-use Rattle.ppd_model.specs.FullTrace.{latest, of_outer, of_run, or_else, parent_if}
+use Rattle.ppd_model.specs.FullTrace.{latest, of_outer, of_run, or_else}
 use Rattle.ppd_model.proofs.TestSteps.{View}
 use Rattle.ppd_search.specs.declared.last_test.LastTest.{LastTest}
 use Rattle.ppd_search.specs.declared.leaf_call.LeafCall.{LeafCall}

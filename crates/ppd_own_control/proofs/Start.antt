@@ -11,7 +11,7 @@ use Rattle.ppd_ast.specs.declared.program.Body.{Body}
 use Rattle.ppd_ast.specs.declared.program.Program.{Program}
 use Rattle.ppd_ast.specs.declared.program.Stmt.{Stmt}
 use Rattle.ppd_ast.proofs.ValidLaws.{some_and}
-use Rattle.ppd_ast.specs.Lookups.{top_of_body, body_of_stmt}
+use Rattle.ppd_ast.specs.Lookups.{top_of_body, body_of_stmt, parent_if}
 use Rattle.ppd_blocks.specs.Blocks.{plan_of}
 use Rattle.ppd_nested.proofs.Planned.{kind_is}
 use Rattle.ppd_nested.specs.Stack.{process_block}
@@ -22,7 +22,6 @@ use Rattle.ppd_sem.specs.Process.{started, todos}
 use Rattle.ppd_sem.specs.Runs.{IsInner}
 use Rattle.ppd_sem.specs.Tables.{block_of, or_zero}
 use Rattle.ppd_model.specs.declared.tracing.Story.{Story}
-use Rattle.ppd_model.specs.FullTrace.{parent_if}
 use Rattle.ppd_model.specs.Intervals.{begun_split}
 use Rattle.ppd_model.proofs.Moves.{body_top}
 use Rattle.ppd_model.proofs.TestSteps.{View}
@@ -30,10 +29,7 @@ use Rattle.ppd_own_control.proofs.Levels.{AllHold, Facts, Level, OverNext, Run, 
 use Rattle.ppd_own_control.proofs.Located.{EndsInProcess}
 use Rattle.ppd_own_control.proofs.Moments.{Moment}
 use Rattle.ppd_own_control.proofs.Statics.{top_calm}
-
-number_of : (o : Option ℕ) → is_some o ≡ true → (b : ℕ) × (o ≡ Some b)
-number_of None h = absurd (cc)
-number_of (Some b) h = (b, refl)
+use Rattle.ppd_places.proofs.Frames.{is_there}
 
 module _ (program : Program) (policy : Policy) (p : ℕ) where
   -- ---- the outermost level
@@ -114,7 +110,7 @@ module _ (program : Program) (policy : Policy) (p : ℕ) where
       (begun_split program (plan_of program policy) p (started program (plan_of program policy) p budget))
       (record { interval = 0; block = process_block program (plan_of program policy) p; parts = [] } ∷ [])
   start_moment v story budget is =
-      let b = number_of (block_of (plan_of program policy) (block.Process (program.functions + p))) is in
+      let b = is_there (block_of (plan_of program policy) (block.Process (program.functions + p))) is in
       let kind : block_kind (plan_of program policy) (process_block program (plan_of program policy) p) ≡ block.Process
       (program.functions + p) =
       ap (λ o. block_kind (plan_of program policy) (or_zero o)) b.1

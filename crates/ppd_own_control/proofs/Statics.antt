@@ -11,16 +11,16 @@ use Rattle.ppd_ast.specs.declared.program.Program.{Program}
 use Rattle.ppd_ast.specs.declared.program.Stmt.{Stmt}
 use Rattle.ppd_ast.specs.Numbered.{in_while, inside_count, is_while, while_or}
 use Rattle.ppd_ast.specs.Valid.{IsValid}
-use Rattle.ppd_ast.specs.Lookups.{kind_of}
+use Rattle.ppd_ast.specs.Lookups.{kind_of, parent_if}
 use Rattle.ppd_blocks.specs.Blocks.{plan_of}
 use Rattle.ppd_blocks.proofs.Listing.{IsLoop, by_policy}
 use Rattle.ppd_step_laws.proofs.Course.Standing.{as_parent, in_itself}
 use Rattle.ppd_facts.proofs.Within.{IsOut, child_within, within_cases}
 use Rattle.ppd_step_laws.proofs.Units.Numbers.{block_loop, loop_is_while}
 use Rattle.ppd_sem.specs.Tables.{block_of}
-use Rattle.ppd_units.specs.Walk.{parent_of, stands_at, stands_in}
+use Rattle.ppd_units.specs.Walk.{stands_at, stands_in}
+use Rattle.ppd_units.proofs.Staying.{stands_none}
 use Rattle.ppd_model.proofs.Changes.{some}
-use Rattle.ppd_model.specs.FullTrace.{parent_if}
 
 -- ---- where statements stand
 
@@ -46,11 +46,6 @@ module _ (program : Program) (v : IsValid program) (c t q : ℕ)
 
 -- ---- no block loop stands in another
 
-none_stands : (d : ℕ) (stmts : List Stmt) (q : ℕ) → stands_at d stmts q None ≡ false
-unfolding stands_at
-none_stands zero stmts q = refl
-none_stands (suc d) stmts q = refl
-
 while_there : (further : Option ℕ → Bool) (o : Option Stmt) (x : Stmt) → o ≡ Some x → is_while x.kind ≡ true
     → while_or further o ≡ true
 while_there further o x e w = ap (while_or further) e ∙ or_left (is_while x.kind) (further x.parent) w
@@ -63,16 +58,16 @@ stands_while zero e stmts q x at w le o h = absurd (true≢false (sym h))
 stands_while (suc d) zero stmts q x at w le o h = absurd (omega (arith, le))
 stands_while (suc d) (suc e) stmts q x at w le None h = absurd (true≢false (sym h))
 stands_while (suc d) (suc e) stmts q x at w le (Some n) h =
-    elim (or_cases (nat_eq n q) (stands_at d stmts q (parent_of (slice_get stmts n))) h) [
+    elim (or_cases (nat_eq n q) (stands_at d stmts q (parent_if (slice_get stmts n))) h) [
       | inl same ↦ while_there (in_while e stmts) (slice_get stmts n) x
           (ap (slice_get stmts) (eqb-true n q same) ∙ at) w
       | inr outer ↦ by (slice_get stmts n) outer (λ o g. stands_while d e stmts q x at w (omega (arith, le)) o g)
     ]
   where
-    by : (s : Option Stmt) → stands_at d stmts q (parent_of s) ≡ true
+    by : (s : Option Stmt) → stands_at d stmts q (parent_if s) ≡ true
         → ((o : Option ℕ) → stands_at d stmts q o ≡ true → in_while e stmts o ≡ true)
         → while_or (in_while e stmts) s ≡ true
-    by None g further = absurd (true≢false (sym g ∙ none_stands d stmts q))
+    by None g further = absurd (true≢false (sym g ∙ stands_none d stmts q))
     by (Some s) g further = or_right (is_while s.kind) (in_while e stmts s.parent) (further s.parent g)
 
 -- a block loop is a `while`, and stands in none

@@ -26,10 +26,11 @@ use Rattle.ppd_sem.proofs.Offers.{offer_there}
 use Rattle.ppd_model.specs.declared.tracing.Activation.{Activation}
 use Rattle.ppd_model.specs.FullTrace.{Tag, is_passed, tagged_after, tagged_at, tagged_by}
 use Rattle.ppd_model.proofs.Homes.{head_of, AreTop as AreTopOf, AskedOf as AskedHome, DeedOf as DeedHome}
-use Rattle.ppd_model.proofs.Moves.{leads}
+use Rattle.ppd_model.proofs.Moves.{leads, drop_views}
 use Rattle.ppd_model.proofs.TestSteps.{View, all_tagged_views, into_views, tagged_views, views}
-use Rattle.ppd_own_control.proofs.KindDeeds.{AskedFits, DeedFits, IsSimple, asked_fits, leave_fails}
-use Rattle.ppd_own_control.proofs.Steps.{value_in, Step, drop_views, listed_inside, called_top, while_loop, loop_while, chan_simple, either_false, send_views, reads, enters, offers, passes, stops, leaves, chooses, turns, calls, backs}
+use Rattle.ppd_own_control.proofs.KindDeeds.{DeedFits, IsSimple, asked_fits, leave_fails, AskedFits}
+use Rattle.ppd_own_control.proofs.Steps.{value_in, Step, listed_inside, called_top, loop_while, chan_simple, either_false, send_views, reads, enters, offers, passes, stops, leaves, chooses, turns, calls, backs}
+use Rattle.ppd_nested.proofs.DeedKinds.{loop_is}
 
 module _ (program : Program) (plan : Plan) (valid : IsValid program) (a : Answer) (t : Todo) (ts : List Todo)
     (s : Proc) (is : s.todo ≡ t ∷ ts) (me : Tag) (old : List View) (acts : List Activation) where
@@ -90,7 +91,7 @@ module _ (program : Program) (plan : Plan) (valid : IsValid program) (a : Answer
     leaving (Some b) left at e w =
         moved (need.Leave b (unit_of plan (start.Exit t.stmt))) (Ok (leave, left)) at
         (λ runs. leaves b (unit_of plan (start.Exit t.stmt)) refl
-        (was_entered b (while_loop plan t.stmt (kind_of program t.stmt) w ∙ e)) w e
+        (was_entered b (loop_is plan t.stmt (kind_of program t.stmt) w ∙ e)) w e
         (fails (need.Leave b (unit_of plan (start.Exit t.stmt))) left w at) refl refl)
 
     calling : (x : Bool) (f : ℕ) (values : List ℤ) (into : Option ℕ) (left : List ℤ)
@@ -129,7 +130,7 @@ module _ (program : Program) (plan : Plan) (valid : IsValid program) (a : Answer
     by_deed (turn stmts) left at h g =
         moved need.Plain (Ok (turn stmts, left)) at
         (λ runs. turns stmts (refl, refl, refl, refl) h.1
-        (λ e. sym (while_loop plan t.stmt (kind_of program t.stmt) h.1)
+        (λ e. sym (loop_is plan t.stmt (kind_of program t.stmt) h.1)
         ∙ not_entered (loop_of plan t.stmt (kind_of program t.stmt)) refl e)
         (listed_inside program t.stmt (kind_of program t.stmt) stmts (leads program t.stmt valid) h.0, g.1) refl refl)
     by_deed leave left at h g = leaving (block_of plan (block.Loop t.stmt)) left at refl h

@@ -86,10 +86,6 @@ pub data Step (program : Program) (plan : Plan) (s : Proc) (t : Todo) (ts : List
       → returns (kind_of program t.stmt) ≡ true
       → todo ≡ ts → now ≡ drop 1 tested → Step program plan s t ts me old tested n todo now
 
-pub drop_views : (xs : List Activation) → views (drop 1 xs) ≡ drop 1 (views xs)
-drop_views [] = refl
-drop_views (x ∷ xs) = refl
-
 pub listed_inside : (program : Program) (t : ℕ) (k : Kind) (stmts : List ℕ) → Leads program t k → IsListOf k stmts
     → AllInner program t stmts
 listed_inside program t (kind.If e first second) stmts h is = elim is [
@@ -104,10 +100,6 @@ pub called_top : (program : Program) (t : ℕ) (k : Kind) (f : ℕ) → Leads pr
 called_top program t (kind.Call g arguments into) f h is = subst
     (λ i. AreTop program (top_of_body (slice_get program.bodies i))) (sym is) h
 called_top program t k f h is = absurd is
-
-pub while_loop : (plan : Plan) (t : ℕ) (k : Kind) → is_while k ≡ true → loop_of plan t k ≡ block_of plan (block.Loop t)
-while_loop plan t (kind.While e body) h = refl
-while_loop plan t k h = absurd (true≢false (sym h))
 
 pub loop_while : (plan : Plan) (t : ℕ) (k : Kind) (b : ℕ) → loop_of plan t k ≡ Some b → (is_while k ≡ true)
     × (block_of plan (block.Loop t) ≡ Some b)

@@ -12,17 +12,17 @@ use Rattle.ppd_ast.specs.declared.program.Target.TheVariants as T
 use Rattle.ppd_ast.specs.declared.status.Trap.TheVariants.{Index}
 use Rattle.ppd_ast.specs.Term.{Term, const, local, local_at, shared, shared_at, neg, not, two, and, or, term}
 use Rattle.ppd_ast.specs.Lookups.{kind_of_stmt, kind_of}
-use Rattle.ppd_beside.specs.Beside.{Each}
 use Rattle.ppd_sem.specs.Ask.{ask, element, is_zero}
 use Rattle.ppd_sem.specs.Asked.{Asked, and_then, lift, once}
 use Rattle.ppd_sem.specs.Reads.{ask_place, local_read, reads_of, reads_of_all, reads_of_kind, reads_of_stored, shared_read}
-use Rattle.ppd_sem.specs.Runs.{AreUses, IsOver, IsRunnable, IsRunnableStmt, IsUse, size_of, stmt_size}
+use Rattle.ppd_sem.specs.Runs.{AreUses, RunsOver, IsRunnable, IsRunnableStmt, IsUse, size_of, stmt_size}
 use Rattle.ppd_sem.specs.Within.{IsWithin}
 use Rattle.ppd_sem.specs.declared.event.Access.{Access}
 use Rattle.ppd_sem.specs.declared.event.Spot.{Spot}
 use Rattle.ppd_sem.specs.declared.event.Spot.TheVariants.{Local, Shared}
 use Rattle.ppd_sem.proofs.Kept.{There, there_at}
 use Rattle.ppd_model.proofs.Changes.{some}
+use Rattle.ppd_model.specs.World.{Each}
 
 -- a cell of this frame with n cells, or a shared one
 abbrev pub InFrame : ℕ → ℕ → Spot → Type 0
@@ -144,7 +144,7 @@ module _ (frame n : ℕ) where
     kinds_in K.End h = tt
 
 -- the expressions of a statement over frames of n cells
-pub uses_of : (p : Program) (n s : ℕ) → IsRunnable p → IsOver p n s → AreUses p.exprs n (kind_of p s)
+pub uses_of : (p : Program) (n s : ℕ) → IsRunnable p → RunsOver p n s → AreUses p.exprs n (kind_of p s)
 uses_of p n s h over =
     let found : There (λ _ x. IsRunnableStmt p x) p.stmts s =
     there_at (λ _ x. IsRunnableStmt p x) p.stmts s h.stmts over.there in

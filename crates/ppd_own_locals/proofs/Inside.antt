@@ -32,14 +32,14 @@ pub record IsInside (program : Program) (plan : Plan) (y : Split) (l : Place) (h
   pub other : (q : ℕ) → leaf_of program plan y l ≡ None → block_kind plan l.block ≡ block.Loop q → h.entered ≡ false
       → h.stmt ≡ q → ⊥
 
-abbrev loop_number : BlockKind → ℕ
+abbrev pub loop_number : BlockKind → ℕ
 loop_number (block.Loop q) = q
 loop_number k = 0
 
 not_process : (b q : ℕ) → block.Process b ≡ block.Loop q → ⊥
 not_process b q e = absurd (cc)
 
-not_function : (f q : ℕ) → block.Function f ≡ block.Loop q → ⊥
+pub not_function : (f q : ℕ) → block.Function f ≡ block.Loop q → ⊥
 not_function f q e = absurd (cc)
 
 module _ (program : Program) (policy : Policy) (v : IsValid program) (story : Story) (p : ℕ) (y : Split)

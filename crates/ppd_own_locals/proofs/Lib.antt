@@ -1,3 +1,4 @@
+pub use Rattle.ppd_own_control.proofs.Whole
 pub mod Turns
 pub mod Ends
 pub mod Closes

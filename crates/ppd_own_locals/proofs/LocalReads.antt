@@ -6,6 +6,7 @@ use Rattle.ppd_ast.specs.Valid.{IsValid}
 use Rattle.ppd_ast.specs.declared.plan.Plan.{Plan}
 use Rattle.ppd_ast.specs.declared.plan.Policy.{Policy}
 use Rattle.ppd_ast.specs.declared.program.Program.{Program}
+use Rattle.ppd_ast.proofs.ValidLaws.{slice_get_below}
 use Rattle.ppd_blocks.specs.Blocks.{plan_of}
 use Rattle.ppd_nested.specs.Stack.{process_block}
 use Rattle.ppd_sem.specs.Blocks.{block_kind}
@@ -27,8 +28,8 @@ use Rattle.ppd_model.specs.declared.tracing.Story.{Story}
 use Rattle.ppd_model.specs.declared.tracing.Taken.{Taken}
 use Rattle.ppd_model.proofs.Changes.{some}
 use Rattle.ppd_model.proofs.Items.{items_whole}
-use Rattle.ppd_model.proofs.Lists.{below_at}
 use Rattle.ppd_model.proofs.LocalTags.{top_reads}
+use Rattle.ppd_model.proofs.TestSteps.{acts_length}
 use Rattle.ppd_search.specs.declared.leaf_call.LeafCall.{LeafCall}
 use Rattle.ppd_search.specs.Locals.{frame_in, local_origin}
 use Rattle.ppd_search.specs.Seen.{seen_of}
@@ -51,7 +52,7 @@ use Rattle.ppd_own_locals.proofs.Moments.{event_at, need_is, next_later, running
 use Rattle.ppd_own_locals.proofs.Origins.{number_at, origin_at}
 use Rattle.ppd_own_locals.proofs.Returned.{ref_at}
 use Rattle.ppd_own_locals.proofs.AtSteps.{tagged_at, told_at}
-use Rattle.ppd_own_locals.proofs.Reading.{acts_length, below_not, event_step, events_len, local_is, none_yet, reads_in, top_size}
+use Rattle.ppd_own_locals.proofs.Reading.{below_not, event_step, events_len, local_is, none_yet, reads_in, top_size}
 
 -- ---- what is said is the model's origin
 
@@ -152,7 +153,7 @@ all_reads_found program policy budget h p k j n i y e a w fr c v at placed_at tr
     turns (split_step program plan s p) (λ (x : Split). nat_lt n (length x.trace.events)) start (own_steps s p)
     (none_yet n)
     (ap (λ (x : Split). nat_lt n (length x.trace.events)) (split_is program plan budget h p y at)
-    ∙ lt-ltb n (length y.trace.events) (below_at y.trace.events n e traced)) in
+    ∙ lt-ltb n (length y.trace.events) (slice_get_below y.trace.events n e traced)) in
     let x : Split = split_of program plan budget s p turn.before in
     let t : Taken = turn.taken in
     let step = event_step n (length x.trace.events) (length (split_step program plan s p x t).trace.events)
@@ -178,7 +179,7 @@ all_reads_found program policy budget h p k j n i y e a w fr c v at placed_at tr
     (levels_at program policy budget h p y v at turn.before) f mine next runs tagged later step.0 told.tells
     x.trace.proc.todo refl in
     let items : HasWholeItems (splits program plan budget s) y p = items_whole program plan budget h p y v at in
-    let r = items.events n (below_at y.trace.events n e traced) in
+    let r = items.events n (slice_get_below y.trace.events n e traced) in
     let mine_at = r.placed.once k j placed_at in
     let its_at = r.placed.once found.interval found.item (subst (λ m. part_at y found.interval found.item
     ≡ Some (own m)) (sym step.1) found.placed_is) in

@@ -11,10 +11,10 @@ use Rattle.ppd_ast.specs.declared.plan.Policy.{Policy}
 use Rattle.ppd_ast.specs.declared.program.Body.{Body}
 use Rattle.ppd_ast.specs.declared.program.Program.{Program}
 use Rattle.ppd_ast.specs.declared.program.Stmt.{Stmt}
-use Rattle.ppd_beside.specs.Beside.{Each}
 use Rattle.ppd_blocks.specs.Blocks.{block_of as block_from, plan_of}
 use Rattle.ppd_model.specs.NearIntervals.{is_loop}
 use Rattle.ppd_model.proofs.Changes.{some}
+use Rattle.ppd_model.specs.World.{Each}
 use Rattle.ppd_sem.specs.Blocks.{block_kind, kind_in}
 use Rattle.ppd_own_locals.specs.LocalReads.{PoliciesWithoutLoops}
 

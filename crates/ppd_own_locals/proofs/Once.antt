@@ -2,10 +2,9 @@
 use Rattle.std.proofs.Common.{◌≡◌, ℕ, ℤ, Bool, true, false, not, ◌&&◌, List, [], ◌∷◌, Option, Some, None, refl, ap, ap₂, ◌∙◌, true≢false}
 use Rattle.std.specs.List.{range_with_len}
 use Rattle.std.specs.Prelude.{is_some, nat_eq, option_to_list}
-use Rattle.ppd_ast.specs.Numbered.{is_call}
+use Rattle.std.proofs.Math.Bool.{and-false}
 use Rattle.ppd_ast.specs.declared.plan.Plan.{Plan}
 use Rattle.ppd_ast.specs.declared.program.Body.{Body}
-use Rattle.ppd_ast.specs.declared.program.Kind.{Kind}
 use Rattle.ppd_ast.specs.declared.program.Kind.TheVariants as kind
 use Rattle.ppd_ast.specs.declared.program.Program.{Program}
 use Rattle.ppd_ast.specs.Lookups.{kind_of, params_of_body}
@@ -21,20 +20,9 @@ use Rattle.ppd_search.specs.Locals.{begins_leaf, is_leaf_call, receives}
 use Rattle.ppd_places.specs.Leaves.{Begun, First, begun_by}
 use Rattle.ppd_own_locals.proofs.Cells.Intervals.{returned_to}
 
-pub and_false : (b : Bool) → (b && false) ≡ false
-and_false true = refl
-and_false false = refl
-
-pub no_leaf_call : (plan : Plan) (k : Kind) → is_call k ≡ false → is_leaf_call plan k ≡ false
-no_leaf_call plan k e = by k e
-  where
-    by : (k : Kind) → is_call k ≡ false → is_leaf_call plan k ≡ false
-    by (kind.Call f args into) e = absurd (true≢false e)
-    by k e = refl
-
 pub begins_none : (program : Program) (plan : Plan) (e : Event) → is_leaf_call plan (kind_of program e.stmt) ≡ false
     → begins_leaf program plan e ≡ false
-begins_none program plan e h = ap (λ b. not (is_some e.trap) && b) h ∙ and_false (not (is_some e.trap))
+begins_none program plan e h = ap (λ b. not (is_some e.trap) && b) h ∙ and-false (not (is_some e.trap))
 
 pub begins_one : (program : Program) (plan : Plan) (e : Event) → e.trap ≡ None
     → is_leaf_call plan (kind_of program e.stmt) ≡ true → begins_leaf program plan e ≡ true

@@ -11,6 +11,7 @@ use Rattle.ppd_model.specs.Intervals.{Part, nested, Span, Split}
 use Rattle.ppd_model.specs.NearIntervals.{is_in}
 use Rattle.ppd_model.specs.declared.flow.Origin.{Origin}
 use Rattle.ppd_model.specs.declared.flow.Origin.TheVariants as origin
+use Rattle.ppd_model.proofs.Lists.{get_mapped}
 use Rattle.ppd_search.specs.declared.leaf_call.LeafCall.{LeafCall}
 use Rattle.ppd_search.specs.Locals.{frame_in, leaf_at, local_above, local_in, local_origin, local_outside, outer_frame, parameter, scan}
 use Rattle.ppd_search.specs.Seen.{call_of, items_at, kind_at, outer_of, outer_place, seen_of}
@@ -20,7 +21,6 @@ use Rattle.ppd_places.proofs.Whole.{AreWhole, LevelAt}
 use Rattle.ppd_own_locals.specs.Says.{IsPassed, IsUnwritten, Says, SaysOr, activations, with_own}
 use Rattle.ppd_own_locals.specs.LoopTells.{IsBefore, IsOutside, LoopTells, here, of_scan, own_number}
 use Rattle.ppd_own_locals.proofs.Places.{OuterAt, call_is, first_ones, kind_is, level_from, outer_from, outer_is, place_of_is}
-use Rattle.ppd_own_locals.proofs.Returned.{get_mapped}
 
 -- the number of the activation that goes on at a level
 abbrev pub number_at : Program → Plan → Split → Level → List Level → Option LeafCall → ℕ

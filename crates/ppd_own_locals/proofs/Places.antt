@@ -1,45 +1,24 @@
 -- What is seen of a level's items, and where its interval stands in the one outside.
-use Rattle.std.proofs.Common.{◌≡◌, ℕ, suc, ◌+◌, ◌-◌, ◌<◌, true, false, List, [], ◌∷◌, ◌++◌, Option, Some, None, refl, ap, subst, ◌∙◌, arith, length, append_assoc, eq-eqb, if◌then◌else◌}
+use Rattle.std.proofs.Common.{◌≡◌, ℕ, ◌+◌, ◌-◌, ◌<◌, false, List, [], ◌∷◌, ◌++◌, Some, refl, ap, subst, ◌∙◌, arith, length, append_assoc, eq-eqb, if◌then◌else◌}
 use Rattle.std.specs.List.{flat_map, position_from}
 use Rattle.std.specs.Prelude.{slice_get, take, unwrap_or}
 use Rattle.std.proofs.lemmas.Iterator.Adapters.{position_from-zero}
 use Rattle.std.proofs.lemmas.List.Concat.{flat_map-append}
-use Rattle.ppd_beside.specs.Beside.{Each}
 use Rattle.ppd_ast.specs.declared.plan.BlockKind.TheVariants as block
 use Rattle.ppd_ast.specs.declared.plan.Plan.{Plan}
 use Rattle.ppd_sem.specs.Blocks.{block_kind}
-use Rattle.ppd_model.specs.Intervals.{Part, own, nested, Span, Split, is_closed, item_of, item_of_event, item_of_span, items_of}
+use Rattle.ppd_model.specs.Intervals.{Part, own, nested, Span, Split, is_closed, item_of, items_of}
 use Rattle.ppd_model.specs.declared.flow.Item.{Item}
 use Rattle.ppd_model.specs.declared.flow.Item.TheVariants as item
 use Rattle.ppd_model.specs.declared.flow.Origin.TheVariants as origin
-use Rattle.ppd_model.specs.declared.trace.TracedEvent.{TracedEvent}
+use Rattle.ppd_model.specs.World.{Each}
+use Rattle.ppd_model.proofs.Lists.{get_mapped}
 use Rattle.ppd_search.specs.Seen.{call_of, first_or, is_item_of, items_at, kind_at, outer_of, outer_place, place_of, seen_of}
 use Rattle.ppd_places.specs.Levels.{AreBelow, AreLevels, IsLater, Level, numbers}
 use Rattle.ppd_places.specs.Leaves.{items_so_far}
 use Rattle.ppd_places.proofs.Scans.{nested_item}
 use Rattle.ppd_places.proofs.Whole.{AreWhole, LevelAt, first_items, first_whole}
-use Rattle.ppd_own_locals.proofs.Cells.Spots.{not_eq}
-use Rattle.ppd_own_locals.proofs.Returned.{get_mapped}
-
-abbrev NoneOf : ℕ → List Item → Type 0
-NoneOf m xs = Each (λ (x : Item). is_item_of m x ≡ false) xs
-
-event_none : (m : ℕ) (o : Option TracedEvent) (rest : List Item) → NoneOf m rest → NoneOf m (item_of_event o ++ rest)
-event_none m None rest h = h
-event_none m (Some t) rest h = (refl, h)
-
-span_none : (m k : ℕ) (o : Option Span) (rest : List Item) → k < m → NoneOf m rest → NoneOf m (item_of_span k o ++ rest)
-span_none m k None rest lt h = h
-span_none m k (Some i) rest lt h = (not_eq m k (λ e. omega (arith, e, lt)), h)
-
-found_past : (m i : ℕ) (xs : List Item) (x : Item) (rest : List Item) → NoneOf m xs → is_item_of m x ≡ true
-    → position_from (is_item_of m) i (xs ++ x ∷ rest) ≡ Some (i + length xs)
-found_past m i [] x rest h e = let z : i ≡ i + 0 =
-    omega arith in ap (λ b. if b then Some i else position_from (is_item_of m) (i + 1) rest) e ∙ ap (λ k. Some k) z
-found_past m i (z ∷ zs) x rest h e =
-    let one : i + 1 + length zs ≡ i + suc (length zs) = omega arith in
-    ap (λ b. if b then Some i else position_from (is_item_of m) (i + 1) (zs ++ x ∷ rest)) h.0
-    ∙ found_past m (i + 1) zs x rest h.1 e ∙ ap (λ k. Some k) one
+use Rattle.ppd_own_control.proofs.Searching.{found_past, event_none, span_none}
 
 -- the interval of the level outside at a later time
 pub record OuterAt (y : Split) (m : ℕ) (o : Level) : Type 0 where

@@ -24,9 +24,8 @@ use Rattle.ppd_sem.proofs.Validity.{valid-runnable}
 use Rattle.ppd_sem.specs.Runs.{sizes}
 use Rattle.ppd_model.specs.FullTrace.{Tag, answers_past, event_of, tag_at, tags_of, trace_by, trace_step}
 use Rattle.ppd_model.specs.Intervals.{Split, split_step}
-use Rattle.ppd_model.specs.LocalTags.{HasTags, cells_in, locals}
+use Rattle.ppd_model.specs.LocalTags.{cells_in}
 use Rattle.ppd_model.specs.Story.{story}
-use Rattle.ppd_model.specs.declared.tracing.Activation.{Activation}
 use Rattle.ppd_model.specs.declared.tracing.Story.{Story}
 use Rattle.ppd_model.specs.declared.tracing.Taken.{Taken}
 use Rattle.ppd_model.specs.declared.tracing.Tracing.{Tracing}
@@ -99,8 +98,3 @@ none_yet n = by (nat_lt n 0) refl
 pub event_step : (n a b : ℕ) (e : Bool) → a ≤ n → n < b → b ≡ (if e then a + 1 else a) → (e ≡ true) × (n ≡ a)
 event_step n a b true le lt is = (refl, omega (arith, le, lt, is))
 event_step n a b false le lt is = absurd (omega (arith, le, lt, is))
-
-pub acts_length : (t : Tracing) → HasTags t → length t.activations ≡ length t.proc.frames
-acts_length t tags =
-    sym (length-map t.activations (λ (x : Activation). x.tags)) ∙ sym (length-map (locals t.activations) length)
-    ∙ ap length tags ∙ length-map t.proc.frames (λ (f : Frame). length f.cells)

@@ -1,13 +1,13 @@
 -- A closed interval of a function ends with the event that returned its value.
-use Rattle.std.proofs.Common.{◌≡◌, ℕ, zero, suc, ◌+◌, ◌-◌, true, false, List, [], ◌∷◌, ◌++◌, Option, Some, None, refl, ap, sym, subst, ◌∙◌, arith, length, map, get_or, true≢false}
+use Rattle.std.proofs.Common.{◌≡◌, ℕ, zero, suc, ◌+◌, ◌-◌, true, false, List, [], ◌∷◌, ◌++◌, Option, Some, None, refl, ap, sym, subst, ◌∙◌, arith, length, true≢false}
 use Rattle.std.specs.Prelude.{is_some, slice_get}
 use Rattle.std.proofs.lemmas.List.{length_push}
-use Rattle.std.proofs.lemmas.Option.{none-some}
 use Rattle.ppd_ast.specs.Valid.{IsValid}
 use Rattle.ppd_ast.specs.declared.plan.BlockKind.TheVariants as block
 use Rattle.ppd_ast.specs.declared.plan.Plan.{Plan}
 use Rattle.ppd_ast.specs.declared.plan.Policy.{Policy}
 use Rattle.ppd_ast.specs.declared.program.Program.{Program}
+use Rattle.ppd_ast.proofs.ValidLaws.{slice_get_below}
 use Rattle.ppd_blocks.specs.Blocks.{plan_of}
 use Rattle.ppd_nested.specs.Stack.{process_block}
 use Rattle.ppd_nested.proofs.Planned.{kind_is}
@@ -33,7 +33,7 @@ use Rattle.ppd_model.specs.declared.tracing.Taken.{Taken}
 use Rattle.ppd_model.proofs.Changes.{some}
 use Rattle.ppd_model.proofs.CountedOn.{last_at}
 use Rattle.ppd_model.proofs.Items.{items_whole}
-use Rattle.ppd_model.proofs.Lists.{below_at}
+use Rattle.ppd_model.proofs.Lists.{get_mapped}
 use Rattle.ppd_search.specs.Seen.{items_at, seen_of}
 use Rattle.ppd_places.specs.Levels.{Level}
 use Rattle.ppd_places.proofs.Following.{IsFollowed, something}
@@ -51,18 +51,12 @@ use Rattle.ppd_places.proofs.Whole.{AreWhole}
 
 -- ---- look-ups
 
-pub get_mapped : {A B : Type 0} (f : A → B) (xs : List A) (k : ℕ) (d : B) (x : A) → slice_get xs k ≡ Some x
-    → get_or (map f xs) k d ≡ f x
-get_mapped f [] k d x e = absurd (none-some x e)
-get_mapped f (y ∷ ys) zero d x e = ap f (some e)
-get_mapped f (y ∷ ys) (suc k) d x e = get_mapped f ys k d x e
-
 -- an event is referred to where it stands
 pub ref_at : (xs : List Split) (y : Split) (p k j n : ℕ) (e : TracedEvent) → HasWholeItems xs y p
     → slice_get y.trace.events n ≡ Some e → part_at y k j ≡ Some (own n)
     → ref xs (record { process = p; number = n }) ≡ origin.Item p k j
 ref_at xs y p k j n e whole there at =
-    let r : IsReferred xs y p n = whole.events n (below_at y.trace.events n e there) in
+    let r : IsReferred xs y p n = whole.events n (slice_get_below y.trace.events n e there) in
     let same = r.placed.once k j at in
     r.ref_is ∙ ap (λ z. origin.Item p z r.item) (sym same.0) ∙ ap (λ z. origin.Item p k z) (sym same.1)
 

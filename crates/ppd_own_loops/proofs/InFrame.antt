@@ -7,18 +7,17 @@ use Rattle.ppd_ast.specs.ValidPlan.{AreCells}
 use Rattle.ppd_ast.specs.declared.plan.BlockKind.TheVariants as block
 use Rattle.ppd_ast.specs.declared.plan.Policy.{Policy}
 use Rattle.ppd_ast.specs.declared.program.Program.{Program}
-use Rattle.ppd_ast.proofs.ValidLaws.{stmt_in_body}
+use Rattle.ppd_ast.proofs.ValidLaws.{stmt_in_body, slice_get_below}
 use Rattle.ppd_blocks.specs.Blocks.{plan_of}
 use Rattle.ppd_blocks.proofs.Looping.{postlog_cells as cells_are}
 use Rattle.ppd_facts.proofs.Loops.{postlog_is}
 use Rattle.ppd_sem.specs.Blocks.{postlog_cells}
-use Rattle.ppd_sem.specs.Runs.{IsOver, IsRunnableStmt, size_if, stmt_size}
+use Rattle.ppd_sem.specs.Runs.{RunsOver, IsRunnableStmt, size_if, stmt_size}
 use Rattle.ppd_sem.specs.Tables.{block_of}
 use Rattle.ppd_sem.proofs.Kept.{There, there_at}
 use Rattle.ppd_sem.proofs.Validity.{valid-runnable}
 use Rattle.ppd_model.proofs.Changes.{some}
 use Rattle.ppd_model.specs.FullTrace.{Tag}
-use Rattle.ppd_model.proofs.Lists.{below_at}
 use Rattle.ppd_sets.specs.Used.{loop_defined_of}
 
 get_at : (xs : List ℕ) (n d c : ℕ) → slice_get xs n ≡ Some c → get_or xs n d ≡ c
@@ -36,7 +35,7 @@ zipped (x ∷ xs) f zero c w e =
 zipped (x ∷ xs) f (suc n) c w e = zipped xs f n c w e
 
 pub postlog_below : (program : Program) (policy : Policy) → IsValid program → (q b size : ℕ)
-    → block_of (plan_of program policy) (block.Loop q) ≡ Some b → IsOver program size q → (n c : ℕ)
+    → block_of (plan_of program policy) (block.Loop q) ≡ Some b → RunsOver program size q → (n c : ℕ)
     → slice_get (postlog_cells (plan_of program policy) b) n ≡ Some c → c < size
 postlog_below program policy v q b size found over n c at =
     let st : There (λ _ x. IsRunnableStmt program x) program.stmts q =
@@ -49,4 +48,4 @@ postlog_below program policy v q b size found over n c at =
     ap size_if (sym body.1) ∙ ap (stmt_size program) (sym st.1) ∙ over.size in
     subst (λ z. c < z) size_is
     (subst (λ z. z < body.0.cells) (get_at (loop_defined_of program q) n c c there)
-    (cells.below n c (below_at (loop_defined_of program q) n c there)))
+    (cells.below n c (slice_get_below (loop_defined_of program q) n c there)))

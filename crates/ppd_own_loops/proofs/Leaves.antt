@@ -3,7 +3,6 @@ use Rattle.std.proofs.Common.{◌≡◌, ℕ, suc, ◌+◌, ◌-◌, ◌<◌, �
 use Rattle.std.specs.Prelude.{is_some, slice_get}
 use Rattle.std.proofs.lemmas.Option.{none-some}
 use Rattle.ppd_ast.specs.Valid.{IsValid}
-use Rattle.ppd_ast.specs.declared.plan.BlockKind.{BlockKind}
 use Rattle.ppd_ast.specs.declared.plan.BlockKind.TheVariants as block
 use Rattle.ppd_ast.specs.declared.plan.Plan.{Plan}
 use Rattle.ppd_ast.specs.declared.plan.Policy.{Policy}
@@ -30,6 +29,7 @@ use Rattle.ppd_model.proofs.Changes.{some}
 use Rattle.ppd_model.proofs.LocalTags.{top_reads}
 use Rattle.ppd_model.proofs.LocalSteps.{tags_its_writes}
 use Rattle.ppd_model.proofs.Statuses.{status_after}
+use Rattle.ppd_model.proofs.TestSteps.{acts_length}
 use Rattle.ppd_search.specs.Locals.{frame_in, local_origin}
 use Rattle.ppd_search.specs.Seen.{seen_of}
 use Rattle.ppd_places.specs.Closing.{closing}
@@ -44,20 +44,14 @@ use Rattle.ppd_places.proofs.Whole.{AreWhole}
 use Rattle.ppd_own_locals.specs.Says.{Says, activations, with_own}
 use Rattle.ppd_own_locals.proofs.Closes.{IsLeftNow, left_now}
 use Rattle.ppd_own_locals.proofs.Moments.{need_is}
-use Rattle.ppd_own_locals.proofs.Reading.{acts_length, top_size}
+use Rattle.ppd_own_locals.proofs.Reading.{top_size}
 use Rattle.ppd_own_locals.proofs.Stepping.FirstLevel.{TellsThen, count_of, is_first}
 use Rattle.ppd_own_locals.specs.LoopTells.{IsFramed}
 use Rattle.ppd_own_locals.proofs.EachStep.{AtMoment}
 use Rattle.ppd_own_locals.proofs.Stepping.Going.{tells_step}
+use Rattle.ppd_own_locals.proofs.Inside.{not_function, loop_number}
 use Rattle.ppd_own_loops.proofs.InFrame.{postlog_below}
 use Rattle.ppd_own_loops.proofs.JustLeft.{left_says}
-
-abbrev loop_number : BlockKind → ℕ
-loop_number (block.Loop q) = q
-loop_number k = 0
-
-not_loop : (f q : ℕ) → block.Function f ≡ block.Loop q → ⊥
-not_loop f q e = absurd (cc)
 
 module _ (program : Program) (policy : Policy) (v : IsValid program) (story : Story) (p : ℕ) (y : Split)
     (whole : AreWhole y) (there_is : program.functions + p < length program.bodies) where
@@ -104,7 +98,7 @@ module _ (program : Program) (policy : Policy) (v : IsValid program) (story : St
     is_leave ls f i i_there n value value_is (need.Back None w) e closes = absurd (true≢false (sym closes))
     is_leave ls f i i_there n value value_is (need.Back (Some b) w) e closes =
         let st = step_of ls f (need.Back (Some b) w) e refl in
-        absurd (not_loop (top_body x.trace.proc.frames) q
+        absurd (not_function (top_body x.trace.proc.frames) q
         (sym (ap (block_kind plan) (first_of ls f b st.moves).1
         ∙ kind_is program policy (block.Function (top_body x.trace.proc.frames)) b (sym st.of.block)) ∙ kind))
     is_leave ls f i i_there n value value_is (need.End b) e closes =

@@ -23,7 +23,7 @@ use Rattle.ppd_search.specs.Locals.{local_origin}
 use Rattle.ppd_search.specs.Own.{edges_of_nested, frame_at, left_edges, returned_edges}
 use Rattle.ppd_search.specs.Seen.{seen_of}
 use Rattle.ppd_places.proofs.LeafTells.{split_is}
-use Rattle.ppd_own_control.proofs.Whole.{controls_found}
+use Rattle.ppd_own_locals.proofs.Whole.{controls_found}
 use Rattle.ppd_own_locals.proofs.Returned.{leaving, left_by_return, returns_found}
 use Rattle.ppd_own_loops.specs.AllOwnParts.{AllOwnPartsAreFound}
 use Rattle.ppd_own_locals.proofs.LocalReads.{all_reads_found}

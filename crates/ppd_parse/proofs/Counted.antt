@@ -6,7 +6,7 @@ use Rattle.ppd_lex.specs.declared.token.Token.{Token}
 use Rattle.ppd_lex.specs.Formed.{IsFormed, Rise, AreFormed}
 use Rattle.ppd_lex.specs.Tokens.{IsTokens}
 
-counted_from : (i len : ℕ) (t : Token) (ts : List Token) → All (IsFormed len) (t ∷ ts) → Rise i (t ∷ ts) → i + length (t ∷ ts) ≤ len + 1
+pub counted_from : (i len : ℕ) (t : Token) (ts : List Token) → All (IsFormed len) (t ∷ ts) → Rise i (t ∷ ts) → i + length (t ∷ ts) ≤ len + 1
 counted_from i len t [] each rise =
     let f = All-head (IsFormed len) t [] each in
     omega (arith, f.order, f.within)

@@ -7,6 +7,7 @@ use Rattle.std.proofs.lemmas.List.Concat.{flat_map-append}
 use Rattle.std.proofs.lemmas.List.Elements.{All-nil, All-head, All-tail, All-append, All-push, All-take, All-drop, All-weaker}
 use Rattle.std.proofs.lemmas.List.Sums.{sum_by-cons, sum_by-append, sum_by_push, get_or-le-sum_by}
 use Rattle.ppd_ast.specs.Tally.{IsOnce}
+use Rattle.ppd_ast.specs.Counting.{one_if}
 use Rattle.ppd_lex.specs.declared.token.Token.{Token}
 use Rattle.ppd_parse.specs.declared.symbol.Rule.{Rule}
 use Rattle.ppd_parse.specs.declared.symbol.Rule.TheVariants as R
@@ -19,9 +20,6 @@ use Rattle.ppd_parse.proofs.Sizes.{weigh_append, weigh_made}
 use Rattle.ppd_parse.proofs.Table.{shapes_more}
 
 -- ---- how often a number stands in a list
-
-abbrev pub one_if : Bool → ℕ
-one_if b = cond b 1 0
 
 pub times_append : (c : ℕ) (xs ys : List ℕ) → count_by (nat_eq c) (xs ++ ys) ≡ count_by (nat_eq c) xs + count_by (nat_eq c) ys
 times_append c xs ys = sum_by-append (λ x. one_if (nat_eq c x)) xs ys

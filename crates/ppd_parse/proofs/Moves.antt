@@ -17,13 +17,13 @@ use Rattle.ppd_parse.specs.declared.growth.Step.TheVariants as M
 use Rattle.ppd_parse.specs.Grammar.{Shape, leaf, close, Marked, kind_of, is_operator, Production, parts, wants_in, base_in, ReadsAll, exact, operator, wrap, next}
 use Rattle.ppd_parse.specs.Choice.{Choice, choose, chosen, refused, expansion, parts_if, pushed}
 use Rattle.ppd_parse.specs.Machine.{State, SameAt, IsDead, Shifts, Advanced, IsTerminal}
-use Rattle.ppd_parse.specs.Stack.{IsGood, IsOver}
+use Rattle.ppd_parse.specs.Stack.{IsGood, HasEndsAlone}
 use Rattle.ppd_parse.proofs.Choices.{expansion_chosen}
 use Rattle.ppd_parse.proofs.Ranked.{few, ranked, read_exact, read_operator}
 use Rattle.ppd_parse.proofs.Sample.{good_exact, good_unfolded}
 use Rattle.ppd_parse.proofs.Unfolded.{exact_to, operator_to, wrap_to, unfold_to, unfold_from, unfold_none}
 
-abbrev at_state : List Want → List Shape → State
+abbrev pub at_state : List Want → List Shape → State
 at_state ws s = record { wants = ws; shapes = s }
 
 pub close_moves : (token : Token) (r : Rule) (b : ℕ) (ws : List Want) (s t : List Shape) → t ≡ close r b s → IsGood ws → Advanced token M.Moved (record { wants = Close r b ∷ ws; shapes = s }) (record { wants = ws; shapes = t })
@@ -38,7 +38,7 @@ marked_same : (x : Marked) (t : Token) (a : At) → x.token ≡ t → x.at ≡ a
 marked_same x t a e m =
     ap (λ (u : Token). let r : Marked = record { token = u; at = x.at } in r) e ∙ ap (λ (b : At). let r : Marked = record { token = t; at = b } in r) m
 
-good_end : (k : Kind) (a : At) (b : ℕ) (ws : List Want) → k ≡ K.End → IsGood (Get (S.Exact k) a b ∷ ws) → IsOver ws
+good_end : (k : Kind) (a : At) (b : ℕ) (ws : List Want) → k ≡ K.End → IsGood (Get (S.Exact k) a b ∷ ws) → HasEndsAlone ws
 good_end k a b ws e h = subst (λ j. IsGood (Get (S.Exact j) a b ∷ ws)) e h
 
 pub exact_moves : (token : Token) (k : Kind) (a : At) (b : ℕ) (ws : List Want) (s t : List Shape) → k ≡ kind_of token.kind → t ≡ s ++ leaf token ∷ [] → IsGood (Get (S.Exact k) a b ∷ ws) → Advanced token (M.Read a) (record { wants = Get (S.Exact k) a b ∷ ws; shapes = s }) (record { wants = ws; shapes = t })

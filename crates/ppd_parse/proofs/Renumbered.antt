@@ -6,6 +6,7 @@ use Rattle.std.proofs.lemmas.List.{map-append, length-map, length-append, length
 use Rattle.std.proofs.lemmas.List.Concat.{flat_map-append}
 use Rattle.std.proofs.lemmas.List.Elements.{All-head, All-tail, All-map, All-weaker}
 use Rattle.ppd_ast.specs.Tally.{IsOnce}
+use Rattle.ppd_ast.specs.Counting.{one_if}
 use Rattle.ppd_lex.specs.declared.token.Token.{Token}
 use Rattle.ppd_parse.proofs.FromLanguage.{program_parsed}
 use Rattle.ppd_parse.specs.declared.symbol.Rule.TheVariants as R
@@ -18,7 +19,7 @@ use Rattle.ppd_parse.specs.Limits.{IsTree}
 use Rattle.ppd_parse.specs.Renumbered.{turned, node_of, renumbered}
 use Rattle.ppd_parse.specs.Table.{no_shape, shape_or, at_ids, shape_of, table, shapes_of}
 use Rattle.ppd_parse.specs.Tree.{trees_from, tree_of, children_of, IsTable}
-use Rattle.ppd_parse.proofs.Grown.{one_if, times_append, times_cons, times_none, children_below, below_more, all_children_below, counted_size, counted_inner}
+use Rattle.ppd_parse.proofs.Grown.{times_append, times_cons, times_none, children_below, below_more, all_children_below, counted_size, counted_inner}
 use Rattle.ppd_parse.proofs.TreeLeaves.{program_root}
 use Rattle.ppd_parse.proofs.Sizes.{program_size, program_inner}
 use Rattle.ppd_parse.proofs.Table.{table_snoc, length-table, length-shapes}

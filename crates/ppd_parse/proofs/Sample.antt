@@ -15,8 +15,9 @@ use Rattle.ppd_parse.specs.declared.symbol.Want.{Want}
 use Rattle.ppd_parse.specs.declared.symbol.Want.TheVariants.{Get, Close}
 use Rattle.ppd_parse.specs.Grammar.{Shape, leaf, close, Marked, kind_at, kind_of, is_operator, Production, parts, Stands, MayStand, wants_in, base_in, operand_parts, ReadsAll, exact, operator, wrap, by, nothing, next, operand, chain_end, chain_more, params_void, params_end, no_local_start, local_length, value_recv, named_call, increase, decrease, expr_rest}
 use Rattle.ppd_parse.specs.Choice.{Choice, choose, chosen, refused}
-use Rattle.ppd_parse.specs.Stack.{lead, lead_of, kind_or, is_binary, is_comma, Unless, IsOver, IsGood}
+use Rattle.ppd_parse.specs.Stack.{lead, lead_of, kind_or, is_binary, is_comma, Unless, HasEndsAlone, IsGood}
 use Rattle.ppd_parse.proofs.Unfolded.{split}
+use Rattle.ppd_parse.proofs.Given.{free}
 
 unless : {A : Type 0} (b : Bool) → Unless b A → A
 unless true h = absurd h
@@ -31,7 +32,7 @@ nested n A true h = absurd h
 nested zero A false h = h
 nested (suc n) A false h = nested n A false h
 
-pub over_good : (ws : List Want) → IsOver ws → IsGood ws
+pub over_good : (ws : List Want) → HasEndsAlone ws → IsGood ws
 over_good [] h = tt
 over_good (Close r b ∷ ws) h = over_good ws h
 over_good (Get y a b ∷ ws) h = absurd h
@@ -139,10 +140,6 @@ stands_params : (a : At) (b : ℕ) (ws : List Want) (ts : List Marked) → IsGoo
 stands_params a b ws [] g h = tt
 stands_params a b ws (x ∷ ts) g h = λ e. comma_false (IsGood ws) (subst (λ k. Unless (is_comma k) (IsGood ws)) (sym h ∙ e) g)
 
-plain_stands : {y : Symbol} (p : Production y) → ((k : Kind) → Stands p k) → (ts : List Marked) → MayStand p ts
-plain_stands p h [] = tt
-plain_stands p h (x ∷ ts) = h (kind_at x)
-
 -- What is completed for the parts of the shortest form completes the symbol.
 abbrev FormStands : (y : Symbol) → Choice y → List Want → At → ℕ → Type 0
 FormStands y refused ws a c = Unit {0}
@@ -154,7 +151,7 @@ IsPlain (chosen p) = (k : Kind) → Stands p k
 
 plain_form : (y : Symbol) (m : Choice y) (ws : List Want) (a : At) (c : ℕ) → IsPlain m → FormStands y m ws a c
 plain_form y refused ws a c h = tt
-plain_form y (chosen p) ws a c h = λ ts g l. plain_stands p h ts
+plain_form y (chosen p) ws a c h = λ ts g l. free p h ts
 
 form_stands : (y : Symbol) (ws : List Want) (a : At) (c : ℕ) → FormStands y (form_of y) ws a c
 form_stands (S.Chain l) ws a c = λ ts g h. stands_chain l a c ws ts g h

@@ -25,13 +25,10 @@ use Rattle.ppd_parse.specs.Laws.{HaveAnAnswer}
 use Rattle.ppd_parse.specs.Limits.{count_with, EndsAs, IsReadTo, IsRefused, IsTree, Stepped, token_at}
 use Rattle.ppd_parse.specs.Machine.{State, Advanced, IsTerminal, SameAt, Taken}
 use Rattle.ppd_parse.specs.Rank.{rank}
-use Rattle.ppd_parse.specs.Stack.{IsGood, IsOver}
+use Rattle.ppd_parse.specs.Stack.{IsGood, HasEndsAlone}
 use Rattle.ppd_parse.proofs.Ends.{Ends, ends_as, ends_close, ends_same}
-use Rattle.ppd_parse.proofs.Moves.{close_moves, exact_moves, exact_refused, operator_moves, operator_refused, unfold_moves, unfold_refused}
+use Rattle.ppd_parse.proofs.Moves.{close_moves, exact_moves, exact_refused, operator_moves, operator_refused, unfold_moves, unfold_refused, at_state}
 use Rattle.ppd_parse.proofs.Whole.{read_next, read_refused, start_read, whole}
-
-abbrev state : List Want → List Shape → State
-state ws s = record { wants = ws; shapes = s }
 
 -- ---- one want
 
@@ -39,39 +36,39 @@ state ws s = record { wants = ws; shapes = s }
 abbrev Moves : Token → State → Type 0
 Moves token a = (step : Step) × (b : State) × Advanced token step a b
 
-meet_exact : (token : Token) (k : Kind) (at : At) (b : ℕ) (ws : List Want) (s : List Shape) → IsGood (Get (S.Exact k) at b ∷ ws) → Moves token (state (Get (S.Exact k) at b ∷ ws) s)
+meet_exact : (token : Token) (k : Kind) (at : At) (b : ℕ) (ws : List Want) (s : List Shape) → IsGood (Get (S.Exact k) at b ∷ ws) → Moves token (at_state (Get (S.Exact k) at b ∷ ws) s)
 meet_exact token k at b ws s good = by (sameb the_type k (kind_of token.kind)) refl
   where
-    by : (same : Bool) → sameb the_type k (kind_of token.kind) ≡ same → Moves token (state (Get (S.Exact k) at b ∷ ws) s)
-    by true e = (M.Read at, state ws (s ++ leaf token ∷ []), exact_moves token k at b ws s (s ++ leaf token ∷ []) (same_true the_type tt k (kind_of token.kind) e) refl good)
-    by false e = (M.Refused, state ws s, exact_refused token k at b ws s (same_false the_type k (kind_of token.kind) e))
+    by : (same : Bool) → sameb the_type k (kind_of token.kind) ≡ same → Moves token (at_state (Get (S.Exact k) at b ∷ ws) s)
+    by true e = (M.Read at, at_state ws (s ++ leaf token ∷ []), exact_moves token k at b ws s (s ++ leaf token ∷ []) (same_true the_type tt k (kind_of token.kind) e) refl good)
+    by false e = (M.Refused, at_state ws s, exact_refused token k at b ws s (same_false the_type k (kind_of token.kind) e))
 
-meet_operator : (token : Token) (l : Level) (at : At) (b : ℕ) (ws : List Want) (s : List Shape) → IsGood ws → Moves token (state (Get (S.Operator l) at b ∷ ws) s)
+meet_operator : (token : Token) (l : Level) (at : At) (b : ℕ) (ws : List Want) (s : List Shape) → IsGood ws → Moves token (at_state (Get (S.Operator l) at b ∷ ws) s)
 meet_operator token l at b ws s good = by (is_operator l (kind_of token.kind)) refl
   where
-    by : (is : Bool) → is_operator l (kind_of token.kind) ≡ is → Moves token (state (Get (S.Operator l) at b ∷ ws) s)
-    by true e = (M.Read at, state ws (s ++ leaf token ∷ []), operator_moves token l at b ws s (s ++ leaf token ∷ []) e refl good)
-    by false e = (M.Refused, state ws s, operator_refused token l at b ws s e)
+    by : (is : Bool) → is_operator l (kind_of token.kind) ≡ is → Moves token (at_state (Get (S.Operator l) at b ∷ ws) s)
+    by true e = (M.Read at, at_state ws (s ++ leaf token ∷ []), operator_moves token l at b ws s (s ++ leaf token ∷ []) e refl good)
+    by false e = (M.Refused, at_state ws s, operator_refused token l at b ws s e)
 
-meet_inner : (token : Token) (y : Symbol) (at : At) (b : ℕ) (olds : List Want) (s : List Shape) → (IsTerminal y → ⊥) → IsGood (Get y at b ∷ reverse olds) → Moves token (state (Get y at b ∷ reverse olds) s)
+meet_inner : (token : Token) (y : Symbol) (at : At) (b : ℕ) (olds : List Want) (s : List Shape) → (IsTerminal y → ⊥) → IsGood (Get y at b ∷ reverse olds) → Moves token (at_state (Get y at b ∷ reverse olds) s)
 meet_inner token y at b olds s inner good = by (base_in y b (length s)) refl (expansion y (kind_of token.kind)) refl
   where
-    by : (c : ℕ) → c ≡ base_in y b (length s) → (o : Option (List Part)) → expansion y (kind_of token.kind) ≡ o → Moves token (state (Get y at b ∷ reverse olds) s)
-    by c base (Some ps) e = (M.Moved, state (reverse (pushed olds at c ps)) s, unfold_moves token y at b c olds s inner base ps (pushed olds at c ps) e refl good)
-    by c base None e = (M.Refused, state (reverse olds) s, unfold_refused token y at b c olds s inner base e)
+    by : (c : ℕ) → c ≡ base_in y b (length s) → (o : Option (List Part)) → expansion y (kind_of token.kind) ≡ o → Moves token (at_state (Get y at b ∷ reverse olds) s)
+    by c base (Some ps) e = (M.Moved, at_state (reverse (pushed olds at c ps)) s, unfold_moves token y at b c olds s inner base ps (pushed olds at c ps) e refl good)
+    by c base None e = (M.Refused, at_state (reverse olds) s, unfold_refused token y at b c olds s inner base e)
 
-meet_symbol : (token : Token) (y : Symbol) (at : At) (b : ℕ) (ws : List Want) (s : List Shape) → (IsTerminal y → ⊥) → IsGood (Get y at b ∷ ws) → Moves token (state (Get y at b ∷ ws) s)
+meet_symbol : (token : Token) (y : Symbol) (at : At) (b : ℕ) (ws : List Want) (s : List Shape) → (IsTerminal y → ⊥) → IsGood (Get y at b ∷ ws) → Moves token (at_state (Get y at b ∷ ws) s)
 meet_symbol token y at b ws s inner good =
-    subst (λ vs. Moves token (state (Get y at b ∷ vs) s)) (reverse-reverse ws)
+    subst (λ vs. Moves token (at_state (Get y at b ∷ vs) s)) (reverse-reverse ws)
     (meet_inner token y at b (reverse ws) s inner (subst (λ vs. IsGood (Get y at b ∷ vs)) (sym (reverse-reverse ws)) good))
 
-meet : (token : Token) (y : Symbol) (at : At) (b : ℕ) (ws : List Want) (s : List Shape) → IsGood (Get y at b ∷ ws) → Moves token (state (Get y at b ∷ ws) s)
+meet : (token : Token) (y : Symbol) (at : At) (b : ℕ) (ws : List Want) (s : List Shape) → IsGood (Get y at b ∷ ws) → Moves token (at_state (Get y at b ∷ ws) s)
 meet token (S.Exact k) at b ws s good = meet_exact token k at b ws s good
 meet token (S.Operator l) at b ws s good = meet_operator token l at b ws s good
 meet token y at b ws s good = meet_symbol token y at b ws s (λ h. h) good
 
-move : (token : Token) (w : Want) (ws : List Want) (s : List Shape) → IsGood (w ∷ ws) → Moves token (state (w ∷ ws) s)
-move token (Close r b) ws s good = (M.Moved, state ws (close r b s), close_moves token r b ws s (close r b s) refl good)
+move : (token : Token) (w : Want) (ws : List Want) (s : List Shape) → IsGood (w ∷ ws) → Moves token (at_state (w ∷ ws) s)
+move token (Close r b) ws s good = (M.Moved, at_state ws (close r b s), close_moves token r b ws s (close r b s) refl good)
 move token (Get y at b) ws s good = meet token y at b ws s good
 
 -- ---- one token
@@ -104,12 +101,12 @@ by_step token a M.Refused b h next = (None, b, h)
 nothing_wanted : (x : Marked) (ts : List Marked) (s f : List Shape) → ReadsAll [] s (x ∷ ts) f [] → ⊥
 nothing_wanted x ts s f h = elim h [ ]
 
-takes : (n : ℕ) (token : Token) (ws : List Want) (s : List Shape) → rank ws < n → IsGood ws → Takes token (state ws s)
+takes : (n : ℕ) (token : Token) (ws : List Want) (s : List Shape) → rank ws < n → IsGood ws → Takes token (at_state ws s)
 takes zero token ws s lt good = absurd (omega (arith, lt))
-takes (suc n) token [] s lt good = (None, state [] s, λ x ts f k h. nothing_wanted x ts s f h)
+takes (suc n) token [] s lt good = (None, at_state [] s, λ x ts f k h. nothing_wanted x ts s f h)
 takes (suc n) token (w ∷ ws) s lt good =
     let m = move token w ws s good in
-    by_step token (state (w ∷ ws) s) m.0 m.1 m.2 (λ g less. takes n token m.1.wants m.1.shapes (omega (arith, lt, less)) g)
+    by_step token (at_state (w ∷ ws) s) m.0 m.1 m.2 (λ g less. takes n token m.1.wants m.1.shapes (omega (arith, lt, less)) g)
 
 -- ---- one token within the limits
 
@@ -133,8 +130,8 @@ steps n t a (Some at, b, h) = within n t a b at h
 
 -- ---- all tokens
 
-finished : (a : State) (ws : List Want) (s : List Shape) → IsOver ws → Ends a (state ws s) → (f : List Shape) × EndsAs a f
-finished a [] s over h = (s, ends_as a (state [] s) refl h)
+finished : (a : State) (ws : List Want) (s : List Shape) → HasEndsAlone ws → Ends a (at_state ws s) → (f : List Shape) × EndsAs a f
+finished a [] s over h = (s, ends_as a (at_state [] s) refl h)
 finished a (Close r b ∷ ws) s over h = finished a ws (close r b s) over (ends_close a r b ws s (close r b s) refl h)
 finished a (Get y at b ∷ ws) s over h = absurd over
 
@@ -155,4 +152,4 @@ reads ts ends (suc k) i n a e r =
 
 pub an_answer : HaveAnAnswer
 an_answer ts ends =
-    reads ts ends (length ts) 0 0 (state (Get S.Source outside 0 ∷ []) []) (omega arith) (start_read ts ends (state (Get S.Source outside 0 ∷ []) []) refl refl)
+    reads ts ends (length ts) 0 0 (at_state (Get S.Source outside 0 ∷ []) []) (omega arith) (start_read ts ends (at_state (Get S.Source outside 0 ∷ []) []) refl refl)

@@ -150,11 +150,11 @@ abbrev pub are_plain : Part → List Part → Bool
 are_plain p [] = is_plain p
 are_plain p (q ∷ ps) = cond (is_plain p) (are_plain q ps) false
 
-first_plain : (b c : Bool) → cond b c false ≡ true → b ≡ true
+pub first_plain : (b c : Bool) → cond b c false ≡ true → b ≡ true
 first_plain true c e = refl
 first_plain false c e = cc
 
-others_plain : (b c : Bool) → cond b c false ≡ true → c ≡ true
+pub others_plain : (b c : Bool) → cond b c false ≡ true → c ≡ true
 others_plain true c e = e
 others_plain false c e = cc
 

@@ -12,7 +12,7 @@ use Rattle.ppd_parse.specs.declared.symbol.Part.TheVariants as P
 use Rattle.ppd_parse.specs.declared.symbol.Want.TheVariants.{Get, Close}
 use Rattle.ppd_parse.specs.Grammar.{Shape, node, forest, close, Marked, deeper, inside, want_in, wants_in}
 use Rattle.ppd_parse.specs.Language.{Phrase, word, Is}
-use Rattle.ppd_parse.proofs.Usual.{Manner, plain, later, manner, Rest, Out, out, Closed, closed, Goes, MeansBy, Means, MeansAll, last, then, close_front}
+use Rattle.ppd_parse.proofs.Usual.{Manner, plain, later, manner, Rest, Out, out, Closed, closed, Goes, MeansBy, Means, MeansAll, last, then, close_front, first_plain, others_plain}
 
 pub data Grown (f : Phrase) (a : At) (got : List Shape) (ts : List Marked) : List Shape → List Marked → Type 0 where
   grown : {new : List Shape} {rest : List Marked} → Is f a ts new rest → Grown f a got ts (got ++ new) rest
@@ -58,14 +58,6 @@ abbrev pub runs : List Part → Bool
 runs [] = true
 runs (p ∷ ps) = cond (runs_part p) (runs ps) false
 
-first_runs : (b c : Bool) → cond b c false ≡ true → b ≡ true
-first_runs true c e = refl
-first_runs false c e = cc
-
-others_run : (b c : Bool) → cond b c false ≡ true → c ≡ true
-others_run true c e = e
-others_run false c e = cc
-
 goes_on : (y : Symbol) (a : At) {b : ℕ} {s t : List Shape} (ts rest : List Marked) → is_rest y ≡ true → Goes y a b s ts t rest → (front got : List Shape) → s ≡ front ++ got → b ≡ length front → Out front (λ new. Rest y a got ts new rest) t
 goes_on (S.Chain l) a ts rest e h = h
 goes_on S.ExprRest a ts rest e h = h
@@ -100,7 +92,7 @@ led (out {new = new} r) k = joined r (k new refl)
 pub walk : (a : At) (b : ℕ) (ps : List Part) (front got : List Shape) {s t : List Shape} {ts rest : List Marked} → runs ps ≡ true → s ≡ front ++ got → b ≡ length front → MeansAll (wants_in a b ps) s ts t rest → Out front (λ all. Run a ps got ts all rest) t
 walk a b [] front got {ts = ts} c e eb last = subst (Out front (λ all. Run a [] got ts all ts)) (sym e) (out stop)
 walk a b (p ∷ ps) front got {ts = ts} c e eb (then {mid = mid} h hs) =
-    led (run_part p a b ts mid front got (first_runs (runs_part p) (runs ps) c) e eb h) (λ new d. walk a b ps front new (others_run (runs_part p) (runs ps) c) d eb hs)
+    led (run_part p a b ts mid front got (first_plain (runs_part p) (runs ps) c) e eb h) (λ new d. walk a b ps front new (others_plain (runs_part p) (runs ps) c) d eb hs)
 
 pub mapped : {s t : List Shape} {F G : List Shape → Type 0} → ((new : List Shape) → F new → G new) → Out s F t → Out s G t
 mapped h (out d) = out (h _ d)

@@ -15,7 +15,7 @@ use Rattle.ppd_parse.specs.declared.error.SyntaxError.{SyntaxError}
 use Rattle.ppd_parse.specs.declared.error.SyntaxError.TheVariants as E
 use Rattle.ppd_parse.specs.Grammar.{Shape, Marked, kind_of, IsParsed, tokens_of, outside}
 use Rattle.ppd_parse.specs.Machine.{State, Completed, Shifts, Follows}
-use Rattle.ppd_parse.specs.Stack.{IsGood, IsOver}
+use Rattle.ppd_parse.specs.Stack.{IsGood, HasEndsAlone}
 use Rattle.ppd_parse.specs.Limits.{count_with, count_after, KeepLimits, no_token, token_at, IsTree, IsPast, BreaksDepth, BreaksWidth, IsRefused, Stepped, IsReadTo, EndsAs}
 use Rattle.ppd_parse.proofs.Sample.{completion}
 use Rattle.ppd_parse.proofs.ToLanguage.{parsed_program}
@@ -87,7 +87,7 @@ start_read ts ends a w s =
       over = λ e. not_empty ts ends e;
     })
   where
-    not_empty : (us : List Token) → EndOnce us → 0 ≡ length us → IsOver (Get S.Source outside 0 ∷ [])
+    not_empty : (us : List Token) → EndOnce us → 0 ≡ length us → HasEndsAlone (Get S.Source outside 0 ∷ [])
     not_empty [] h e = absurd h
     not_empty (u ∷ us) h e = absurd (omega arith)
 

@@ -12,7 +12,7 @@ use Rattle.ppd_parse.specs.declared.symbol.At.{At}
 use Rattle.ppd_parse.specs.Grammar.{Shape, Marked, kind_at, kind_of, tokens_of}
 use Rattle.ppd_parse.specs.Language.{IsProgram}
 use Rattle.ppd_parse.specs.Machine.{State, Completed, Shifts, IsDead, Follows}
-use Rattle.ppd_parse.specs.Stack.{is_binary, IsGood, IsOver}
+use Rattle.ppd_parse.specs.Stack.{is_binary, IsGood, HasEndsAlone}
 
 -- in an expression: a unary or binary operator
 abbrev pub is_sign : Kind → Bool
@@ -98,7 +98,7 @@ IsRefused ts E.Memory = Unit {0}
 abbrev pub Stepped : ℕ → Token → Result ℕ SyntaxError → State → State → Type 0
 Stepped n t (Ok m) a b =
     (at : At) × Shifts (record { token = t; at = at }) a b × IsGood b.wants
-    × (kind_of t.kind ≡ K.End → IsOver b.wants) × (at.depth ≤ MOST_OPEN)
+    × (kind_of t.kind ≡ K.End → HasEndsAlone b.wants) × (at.depth ≤ MOST_OPEN)
     × (m ≡ count_with n (record { token = t; at = at })) × (m ≤ MOST_SOURCE_OPERATORS)
 Stepped n t (Err (E.Unexpected place)) a b = (place ≡ t.place) × IsDead (kind_of t.kind) a
 Stepped n t (Err (E.Deep place)) a b =
@@ -117,7 +117,7 @@ pub record IsReadTo (ts : List Token) (i n : ℕ) (a : State) : Type 0 where
   pub count : n ≡ count_after 0 marked
   pub few : n ≤ MOST_SOURCE_OPERATORS
   pub good : IsGood a.wants
-  pub over : i ≡ length ts → IsOver a.wants
+  pub over : i ≡ length ts → HasEndsAlone a.wants
 
 -- where the tokens end, these trees and no others come out
 pub record EndsAs (a : State) (f : List Shape) : Type 0 where

@@ -83,6 +83,10 @@ is_binary k =
     || (is_operator L.Sum k
     || (is_operator L.Compare k || (is_operator L.Equal k || (is_operator L.And k || is_operator L.Or k))))
 
+abbrev pub is_assign : Kind → Bool
+is_assign K.AssignMark = true
+is_assign _ = false
+
 abbrev pub is_comma : Kind → Bool
 is_comma K.Comma = true
 is_comma _ = false
@@ -92,17 +96,17 @@ Unless true A = ⊥
 Unless false A = A
 
 -- only ends of nodes are left
-abbrev pub IsOver : List Want → Type 0
-IsOver [] = Unit {0}
-IsOver (Close r b ∷ ws) = IsOver ws
-IsOver (Get y a b ∷ ws) = ⊥
+abbrev pub HasEndsAlone : List Want → Type 0
+HasEndsAlone [] = Unit {0}
+HasEndsAlone (Close r b ∷ ws) = HasEndsAlone ws
+HasEndsAlone (Get y a b ∷ ws) = ⊥
 
 abbrev pub IsGood : List Want → Type 0
 IsGood [] = Unit {0}
 IsGood (Close r b ∷ ws) = IsGood ws
-IsGood (Get (S.Exact K.End) a b ∷ ws) = IsOver ws
-IsGood (Get S.Source a b ∷ ws) = IsOver ws
-IsGood (Get S.Items a b ∷ ws) = IsOver ws
+IsGood (Get (S.Exact K.End) a b ∷ ws) = HasEndsAlone ws
+IsGood (Get S.Source a b ∷ ws) = HasEndsAlone ws
+IsGood (Get S.Items a b ∷ ws) = HasEndsAlone ws
 IsGood (Get S.Params a b ∷ ws) = Unless (is_comma (lead ws)) (IsGood ws)
 IsGood (Get S.ParamItems a b ∷ ws) = Unless (is_comma (lead ws)) (IsGood ws)
 IsGood (Get (S.Operand l) a b ∷ ws) = Unless (is_binary (lead ws)) (IsGood ws)

@@ -6,7 +6,7 @@ ghost use Rattle.ppd_parse.specs.Grammar.{Marked, outside};
 ghost use Rattle.ppd_parse.specs.Limits.{count_with, is_sign, EndsAs, IsRefused, IsTree, Stepped};
 ghost use Rattle.ppd_parse.specs.Machine.{state_of};
 ghost use Rattle.ppd_parse.specs.Rank.{rank};
-ghost use Rattle.ppd_parse.specs.Stack.{IsGood, IsOver};
+ghost use Rattle.ppd_parse.specs.Stack.{IsGood, HasEndsAlone};
 ghost use Rattle.ppd_parse.specs.Table.{shapes_of};
 
 use crate::error::SyntaxError;
@@ -99,7 +99,7 @@ fn finish<L: Ledger>(
     grove: &mut Grove,
     steps: &mut Steps<L>,
 ) -> Result<(), AllocError>
-    requires { IsOver (reverse wants.old.items) }
+    requires { HasEndsAlone (reverse wants.old.items) }
     ensures cost { steps.new ≤ steps.old + rank (reverse wants.old.items) }
     ensures ends { OnOk result
         (EndsAs (state_of wants.old.items grove.old) (shapes_of grove.new.nodes.items grove.new.roots.items)) }

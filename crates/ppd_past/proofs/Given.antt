@@ -21,7 +21,7 @@ use Rattle.ppd_past.specs.declared.flow_error.FlowError.TheVariants as flow_erro
 use Rattle.ppd_past.specs.declared.past.Past.{Past}
 use Rattle.ppd_past.specs.ByReplays.{IsFoundBy, failure_or}
 use Rattle.ppd_past.specs.SeenBy.{failed_in, failure_by, failure_of, items_by, items_in, steps_in, steps_of}
-use Rattle.ppd_replay.specs.Laws.{replay_of}
+use Rattle.ppd_emulate.specs.Laws.{replay_of}
 
 found_at : (f : IntervalLog → List Item) (is : List Indexed) (k : ℕ) (log : IntervalLog)
     → log_in (slice_get is k) ≡ Some log

@@ -1,3 +1,4 @@
+pub use Rattle.ppd_emulate.proofs.Theorem
 mod Lists
 mod Rounds
 pub mod Runs

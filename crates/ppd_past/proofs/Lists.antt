@@ -1,5 +1,5 @@
 -- Lists whose elements are alike at each place.
-use Rattle.std.proofs.Common.{◌≡◌, ℕ, zero, suc, List, [], ◌∷◌, ◌++◌, Some, length, refl, sym}
+use Rattle.std.proofs.Common.{◌≡◌, ℕ, suc, List, [], ◌∷◌, ◌++◌, refl, sym}
 use Rattle.std.specs.Prelude.{slice_get}
 use Rattle.std.proofs.lemmas.Option.{none-some, same_Some}
 
@@ -11,15 +11,3 @@ same_lists (x ∷ xs) [] h = absurd (none-some x (sym (h 0)))
 same_lists (x ∷ xs) (y ∷ ys) h =
     let head : x ≡ y = same_Some x y (h 0) in
     let tail : xs ≡ ys = same_lists xs ys (λ k. h (suc k)) in cc
-
--- an element that is there stays where more follow
-pub still_there : {A : Type 0} (xs ys : List A) (k : ℕ) (x : A) → slice_get xs k ≡ Some x
-    → slice_get (xs ++ ys) k ≡ Some x
-still_there [] ys k x e = absurd (none-some x e)
-still_there (z ∷ xs) ys zero x e = e
-still_there (z ∷ xs) ys (suc k) x e = still_there xs ys k x e
-
--- the next one is there
-pub next_there : {A : Type 0} (xs : List A) (x : A) → slice_get (xs ++ x ∷ []) (length xs) ≡ Some x
-next_there [] x = refl
-next_there (z ∷ xs) x = next_there xs x

@@ -7,9 +7,10 @@ use Rattle.ppd_entry.specs.declared.entry.Entry.{Entry}
 use Rattle.ppd_entry.specs.declared.entry.Entry.TheVariants as entry
 use Rattle.ppd_model.specs.Extents.{Extending, Extent, begun_extents, ended_by, extend, extents, first_of, left_by}
 use Rattle.ppd_model.specs.World.{change}
+use Rattle.ppd_model.proofs.Items.{rest_below, AreBelow}
 use Rattle.ppd_past.specs.SeenBy.{round_by, rounds_by}
 
-abbrev Rounds : Type 0
+abbrev pub Rounds : Type 0
 Rounds = List (List ℕ)
 
 abbrev next : Rounds → Option ℕ → Rounds
@@ -58,17 +59,9 @@ rounds_at rs n (q ∷ ps) (suc k) p count h e =
 
 -- ---- the intervals of a log
 
-abbrev AreBelow : ℕ → List ℕ → Type 0
-AreBelow n [] = ⊤
-AreBelow n (k ∷ ks) = (k < n) × AreBelow n ks
-
 more_below : (n : ℕ) (ks : List ℕ) → AreBelow n ks → AreBelow (suc n) ks
 more_below n [] h = tt
 more_below n (k ∷ ks) h = let lt : k < n = h.0 in (omega arith, more_below n ks h.1)
-
-rest_below : (n : ℕ) (ks : List ℕ) → AreBelow n ks → AreBelow n (drop 1 ks)
-rest_below n [] h = tt
-rest_below n (k ∷ ks) h = h.1
 
 first_below : (n : ℕ) (ks : List ℕ) → AreBelow n ks → IsBelow n (first_of ks)
 first_below n [] h = tt

@@ -20,11 +20,9 @@ use Rattle.ppd_model.specs.FullTrace.{Tag, begun_tracing, me_in, top_tags}
 use Rattle.ppd_model.specs.Intervals.{own, Span, Split, begin_if, begin_span, begun_split, change_first, control_by, end_if, innermost, left_by, split_of, split_step, with_own, with_part, with_step}
 use Rattle.ppd_model.specs.Marks.{Mark, closed, opened}
 use Rattle.ppd_model.specs.World.{change}
+use Rattle.ppd_model.proofs.CountedOn.{kept_at, last_at}
 use Rattle.ppd_past.specs.SeenBy.{round_by, rounds_by}
-use Rattle.ppd_past.proofs.Lists.{next_there, still_there}
-
-abbrev Rounds : Type 0
-Rounds = List (List ℕ)
+use Rattle.ppd_past.proofs.Parents.{Rounds}
 
 abbrev rounds_in : List Span → Rounds
 rounds_in spans = map (λ (i : Span). i.round) spans
@@ -44,7 +42,7 @@ record IsNested (rounds : Rounds) (running : List ℕ) : Type 0 where
 
 chain_more : (rounds : Rounds) (r : List ℕ) (ks : List ℕ) → IsChain rounds ks → IsChain (rounds ++ r ∷ []) ks
 chain_more rounds r [] h = tt
-chain_more rounds r (k ∷ ks) h = (still_there rounds (r ∷ []) k ks h.0, chain_more rounds r ks h.1)
+chain_more rounds r (k ∷ ks) h = (kept_at rounds (r ∷ []) k ks h.0, chain_more rounds r ks h.1)
 
 chain_rest : (rounds : Rounds) (ks : List ℕ) → IsChain rounds ks → IsChain rounds (drop 1 ks)
 chain_rest rounds [] h = tt
@@ -57,7 +55,7 @@ round_is rounds (k ∷ ks) h = ap (λ r. k ∷ r) (get_or_from_slice_get rounds 
 nested_more : (rounds : Rounds) (running : List ℕ) → IsNested rounds running
     → IsNested (rounds ++ running ∷ []) (length rounds ∷ running)
 nested_more rounds running h = record {
-  chain = (next_there rounds running, chain_more rounds running running h.chain);
+  chain = (last_at rounds running, chain_more rounds running running h.chain);
   rounds_are =
       ap rounds_by (map-append first_of rounds (running ∷ []))
       ∙ fold-append (λ rs p. rs ++ round_by rs p ∷ []) [] (parents_of rounds) (first_of running ∷ [])

@@ -1,5 +1,5 @@
 -- Of the logs of a run without a race the replays give the intervals of each process.
-use Rattle.std.proofs.Common.{◌≡◌, ℕ, zero, suc, ◌+◌, List, [], ◌∷◌, Option, Some, None, Ok, refl, ap, ap₂, sym, subst, ◌∙◌, arith, map, get_or}
+use Rattle.std.proofs.Common.{◌≡◌, ℕ, zero, suc, ◌+◌, List, [], ◌∷◌, Option, Some, None, refl, ap, ap₂, sym, subst, ◌∙◌, arith, map, get_or}
 use Rattle.std.specs.Prelude.{option_map, slice_get}
 use Rattle.std.proofs.lemmas.Option.{get_or_from_slice_get, none-some, slice_get-map}
 use Rattle.ppd_ast.specs.Valid.{IsValid}
@@ -22,33 +22,27 @@ use Rattle.ppd_model.specs.Schedule.{IsWhole}
 use Rattle.ppd_model.specs.Story.{Moment, own_steps, steps_of as steps_of_moments, story, told}
 use Rattle.ppd_model.proofs.Items.{split_found}
 use Rattle.ppd_model.proofs.LoggedSpans.{intervals_of_logs}
+use Rattle.ppd_model.proofs.OneHistory.{map-map}
 use Rattle.ppd_past.specs.Honest.{IsSeen, ReplaysAreSeen}
 use Rattle.ppd_past.specs.SeenBy.{failure_of, items_by, rounds_by, steps_of}
 use Rattle.ppd_past.proofs.Lists.{same_lists}
 use Rattle.ppd_past.proofs.Rounds.{rounds_of_split}
-use Rattle.ppd_replay.specs.Laws.{modelled_in, modelled_of, replay_of}
-use Rattle.ppd_replay.proofs.Theorem.{replays_give_intervals}
+use Rattle.ppd_emulate.specs.Laws.{modelled_in, modelled_of, replay_of}
+use Rattle.ppd_emulate.proofs.Theorem.{replays_give_intervals}
+use Rattle.ppd_emulate.proofs.Emulated.{replayed}
 use Rattle.ppd_search.specs.Seen.{Seen}
 use Rattle.ppd_search.specs.Spans.{steps_of_span}
 
 -- ---- items
-
--- an interval's items in its own steps
-abbrev modelled : Split → Span → Replayed
-modelled x i = record { steps = i.steps; answer = Ok (record { items = items_of x i }) }
 
 as_replayed : (program : Program) (plan : Plan) (budget : ℕ) (o : Option Indexed)
     → replay_of program plan budget (log_in o) ≡ option_map (λ i. replay program plan i.log budget) o
 as_replayed program plan budget None = refl
 as_replayed program plan budget (Some i) = refl
 
-as_modelled : (x : Split) (o : Option Span) → modelled_of x o ≡ option_map (modelled x) o
+as_modelled : (x : Split) (o : Option Span) → modelled_of x o ≡ option_map (replayed x) o
 as_modelled x None = refl
 as_modelled x (Some i) = refl
-
-twice : {A B C : Type 0} (g : B → C) (f : A → B) (xs : List A) → map g (map f xs) ≡ map (λ x. g (f x)) xs
-twice g f [] = refl
-twice g f (x ∷ xs) = ap (λ ys. g (f x) ∷ ys) (twice g f xs)
 
 module _ (program : Program) (plan : Plan) (budget : ℕ) (is : List Indexed) (x : Split)
     (same : (k : ℕ) → replay_of program plan budget (log_in (slice_get is k))
@@ -56,16 +50,16 @@ module _ (program : Program) (plan : Plan) (budget : ℕ) (is : List Indexed) (x
   abbrev by_log : Indexed → Replayed
   by_log i = replay program plan i.log budget
 
-  replays_same : map by_log is ≡ map (modelled x) x.spans
-  replays_same = same_lists (map by_log is) (map (modelled x) x.spans) (λ k.
+  replays_same : map by_log is ≡ map (replayed x) x.spans
+  replays_same = same_lists (map by_log is) (map (replayed x) x.spans) (λ k.
       slice_get-map by_log is k ∙ sym (as_replayed program plan budget (slice_get is k))
-      ∙ same k ∙ as_modelled x (slice_get x.spans k) ∙ sym (slice_get-map (modelled x) x.spans k))
+      ∙ same k ∙ as_modelled x (slice_get x.spans k) ∙ sym (slice_get-map (replayed x) x.spans k))
 
   items_same : map (λ i. items_by (by_log i).answer) is ≡ map (items_of x) x.spans
   items_same =
-      sym (twice (λ (r : Replayed). items_by r.answer) by_log is)
+      sym (map-map (λ (r : Replayed). items_by r.answer) by_log is)
       ∙ ap (map (λ (r : Replayed). items_by r.answer)) replays_same
-      ∙ twice (λ (r : Replayed). items_by r.answer) (modelled x) x.spans
+      ∙ map-map (λ (r : Replayed). items_by r.answer) (replayed x) x.spans
 
 no_failure : (x : Split) (o : Option Span) → failure_of (modelled_of x o) ≡ None
 no_failure x None = refl

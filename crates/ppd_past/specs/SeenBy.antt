@@ -12,7 +12,7 @@ use Rattle.ppd_entry.specs.Entries.{entries_at}
 use Rattle.ppd_model.specs.declared.flow.Item.{Item}
 use Rattle.ppd_model.specs.Extents.{extents}
 use Rattle.ppd_past.specs.declared.past.Past.{Past}
-use Rattle.ppd_replay.specs.Laws.{replay_of}
+use Rattle.ppd_emulate.specs.Laws.{replay_of}
 use Rattle.ppd_search.specs.Seen.{Seen, items_at}
 
 -- ---- one replay

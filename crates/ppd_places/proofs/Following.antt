@@ -5,7 +5,7 @@ use Rattle.std.specs.Prelude.{fold, is_some, slice_get}
 use Rattle.std.proofs.lemmas.Bool.{le-leb}
 use Rattle.std.proofs.lemmas.Option.{none-some}
 use Rattle.ppd_ast.specs.Valid.{IsValid}
-use Rattle.ppd_ast.proofs.ValidLaws.{valid_body}
+use Rattle.ppd_ast.proofs.ValidLaws.{valid_body, slice_get_there}
 use Rattle.ppd_ast.specs.declared.plan.BlockKind.TheVariants as block
 use Rattle.ppd_ast.specs.declared.plan.Plan.{Plan}
 use Rattle.ppd_ast.specs.declared.plan.Policy.{Policy}
@@ -35,7 +35,6 @@ use Rattle.ppd_model.specs.LocalTags.{AreOwn}
 use Rattle.ppd_model.specs.Logs.{status_of}
 use Rattle.ppd_model.specs.declared.tracing.Story.{Story}
 use Rattle.ppd_model.specs.declared.tracing.Taken.{Taken}
-use Rattle.ppd_model.proofs.Lists.{at_below}
 use Rattle.ppd_model.proofs.Statuses.{status_after}
 use Rattle.ppd_places.specs.Closing.{closing}
 use Rattle.ppd_places.specs.Levels.{IsLater, Level, StandsIn, levels_after}
@@ -213,7 +212,7 @@ module _ (program : Program) (policy : Policy) (v : IsValid program) (story : St
   pub process_there : program.functions + p < length program.bodies
       → is_some (block_of plan (block.Process (program.functions + p))) ≡ true
   process_there lt =
-      let at = at_below program.bodies (program.functions + p) lt in
+      let at = slice_get_there program.bodies (program.functions + p) lt in
       process_found program policy (program.functions + p) at.0 at.1
       ((valid_body program (program.functions + p) at.0 v at.1).process
       ∙ le-leb program.functions (program.functions + p) (omega arith))

@@ -12,25 +12,26 @@ use Rattle.ppd_ast.specs.declared.program.Kind.{Kind}
 use Rattle.ppd_ast.specs.declared.program.Kind.TheVariants as kind
 use Rattle.ppd_ast.specs.declared.program.Program.{Program}
 use Rattle.ppd_ast.specs.Lookups.{kind_of, body_of}
-use Rattle.ppd_beside.specs.Beside.{Each}
 use Rattle.ppd_beside.specs.Opens.{IsWhile}
+use Rattle.ppd_beside.proofs.LoopKinds.{while_goes}
 use Rattle.ppd_blocks.specs.Blocks.{plan_of}
 use Rattle.ppd_step_laws.specs.Course.{IsWay, behind, calls_left, calls_of, follow_if}
 use Rattle.ppd_step_laws.proofs.Course.Last.{ends_are_last}
 use Rattle.ppd_facts.proofs.Entered.{IsEntered}
 use Rattle.ppd_facts.proofs.State.{IsState}
-use Rattle.ppd_nested.specs.Stack.{IsInOrder, bodies_in, process_block, returning}
+use Rattle.ppd_nested.specs.Stack.{IsInOrder, process_block, returning}
 use Rattle.ppd_nested.proofs.DeedKinds.{loop_is, return_no_loop, while_block}
 use Rattle.ppd_nested.proofs.Framed.{head_returns, head_stays}
 use Rattle.ppd_sem.specs.Described.{ends_body, frame_of, is_block, is_in_loop}
 use Rattle.ppd_sem.specs.Process.{loop_of, top_body}
-use Rattle.ppd_sem.specs.Runs.{returns}
+use Rattle.ppd_sem.specs.Runs.{returns, bodies_in}
 use Rattle.ppd_sem.specs.Tables.{block_of}
 use Rattle.ppd_sem.specs.declared.proc.Frame.{Frame}
 use Rattle.ppd_sem.specs.declared.proc.Proc.{Proc}
 use Rattle.ppd_sem.specs.declared.proc.Todo.{Todo}
 use Rattle.ppd_sem.specs.Passed.{next_stmt_of}
 use Rattle.ppd_model.specs.Intervals.{Split}
+use Rattle.ppd_model.specs.World.{Each}
 use Rattle.ppd_search.specs.declared.leaf_call.LeafCall.{LeafCall}
 use Rattle.ppd_search.specs.Locals.{frame_in}
 use Rattle.ppd_places.specs.Closing.{closing, if_there, of_loop, of_return}
@@ -42,10 +43,6 @@ use Rattle.ppd_places.proofs.Opening.{first_is}
 use Rattle.ppd_facts.proofs.BodyBlocks.{no_process}
 
 -- ---- kinds
-
-while_goes : (k : Kind) → IsWhile k → ends_body k ≡ false
-while_goes (kind.While e body) h = refl
-while_goes k h = absurd h
 
 while_test : (k : Kind) → IsWhile k → is_while k ≡ true
 while_test (kind.While e body) h = refl
@@ -60,7 +57,7 @@ end_last (kind.Return e) h = (tt, refl)
 end_last kind.End h = (tt, refl)
 end_last k h = absurd (true≢false (sym h))
 
-is_there : (o : Option ℕ) → is_some o ≡ true → (b : ℕ) × (o ≡ Some b)
+pub is_there : (o : Option ℕ) → is_some o ≡ true → (b : ℕ) × (o ≡ Some b)
 is_there None h = absurd (true≢false (sym h))
 is_there (Some b) h = (b, refl)
 

@@ -17,9 +17,10 @@ use Rattle.ppd_model.specs.declared.tracing.Story.{Story}
 use Rattle.ppd_model.specs.declared.tracing.Taken.{Taken}
 use Rattle.ppd_model.specs.World.{change}
 use Rattle.ppd_model.proofs.Changes.{change-at, change-else, some}
-use Rattle.ppd_model.proofs.Items.{own_keeps, step_keeps}
+use Rattle.ppd_model.proofs.Items.{own_keeps, step_keeps, first_length}
+use Rattle.ppd_model.proofs.CountedOn.{kept_at}
 use Rattle.ppd_places.specs.Levels.{IsLater, IsLaterSpan, Level, StandsIn, begin_level, end_level, levels_after, numbers, own_level, with_event}
-use Rattle.ppd_places.proofs.Levels.{begin_if_stands, end_if_stands, event_stands, first_length, quiet_stands, still_at}
+use Rattle.ppd_places.proofs.Levels.{begin_if_stands, end_if_stands, event_stands, quiet_stands}
 
 abbrev pub SpansLater : List Span → List Span → Type 0
 SpansLater xs ys = (k : ℕ) (i : Span) → slice_get xs k ≡ Some i
@@ -178,7 +179,7 @@ begin_later None frame control x ls s k i e = spans_same x.spans k i e
 begin_later (Some m) frame control x ls s k i e =
     let a = first_later (with_part (nested (length x.spans))) (part_later (nested (length x.spans))) x ls s k i e in (
       a.0,
-      still_at (change_first (with_part (nested (length x.spans))) x.running x.spans)
+      kept_at (change_first (with_part (nested (length x.spans))) x.running x.spans)
           (new_span (innermost (with_part (nested (length x.spans))) x) m.block frame control ∷ []) k a.0 a.1,
       a.2,
     )
@@ -192,7 +193,7 @@ events_later program plan story p t x (n.Read c) k e at = at
 events_later program plan story p t x (n.Enter b u) k e at = at
 events_later program plan story p t x n.Budget k e at = at
 events_later program plan story p t x n.Stopped k e at = at
-events_later program plan story p t x need k e at = still_at t.events _ k e at
+events_later program plan story p t x need k e at = kept_at t.events _ k e at
 
 module _ (program : Program) (plan : Plan) (story : Story) (p : ℕ) where
   -- a step leads to the levels told, and to a later time

@@ -1,5 +1,5 @@
 -- At each moment at which a process runs, the items tell which activation goes on.
-use Rattle.std.proofs.Common.{◌≡◌, ℕ, suc, ◌+◌, ◌<◌, true, List, [], ◌∷◌, ◌++◌, Some, refl, ap, sym, subst, ◌∙◌, arith, length}
+use Rattle.std.proofs.Common.{◌≡◌, ℕ, ◌+◌, ◌<◌, true, List, [], ◌∷◌, ◌++◌, Some, ap, sym, subst, ◌∙◌, arith, length}
 use Rattle.std.specs.Prelude.{fold, is_some, slice_get}
 use Rattle.std.proofs.lemmas.List.{length-map}
 use Rattle.std.proofs.lemmas.List.Sums.{fold-append}
@@ -14,16 +14,16 @@ use Rattle.ppd_facts.proofs.State.{IsState}
 use Rattle.ppd_nested.specs.Stack.{IsInOrder, process_block}
 use Rattle.ppd_nested.proofs.Told.{moments_length}
 use Rattle.ppd_sem.specs.Described.{frame_of}
-use Rattle.ppd_sem.specs.Process.{act, started}
+use Rattle.ppd_sem.specs.Process.{started}
 use Rattle.ppd_sem.specs.Tables.{block_of}
 use Rattle.ppd_sem.specs.declared.proc.Proc.{Proc}
-use Rattle.ppd_model.specs.Intervals.{Split, begun_split, split_of, split_step, splits, splits_from}
+use Rattle.ppd_model.specs.Intervals.{Split, begun_split, split_of, split_step, splits}
 use Rattle.ppd_model.specs.LocalTags.{AreOwn}
 use Rattle.ppd_model.specs.Story.{Telling, own_steps, steps_of, story, told}
 use Rattle.ppd_model.specs.declared.tracing.Story.{Story}
 use Rattle.ppd_model.specs.declared.tracing.Taken.{Taken}
-use Rattle.ppd_model.proofs.Items.{items_whole, split_found}
-use Rattle.ppd_model.proofs.LocalTags.{own_steps_told}
+use Rattle.ppd_model.proofs.Items.{items_whole, split_found, splits_length}
+use Rattle.ppd_model.proofs.LocalTags.{own_steps_told, own-before}
 use Rattle.ppd_model.proofs.Prefixes.{objects_stay}
 use Rattle.ppd_places.specs.Closing.{closing}
 use Rattle.ppd_places.specs.Levels.{IsLater, Level, StandsIn}
@@ -33,17 +33,6 @@ use Rattle.ppd_places.proofs.Frames.{frame_tells}
 use Rattle.ppd_places.proofs.Later.{levels_to, steps_later, steps_stand}
 use Rattle.ppd_places.proofs.Opening.{not_nil}
 use Rattle.ppd_places.proofs.Whole.{AreWhole}
-
-pub own_first : (program : Program) (plan : Plan) (s : Proc) (xs ys : List Taken) → AreOwn program plan s (xs ++ ys)
-    → AreOwn program plan s xs
-own_first program plan s [] ys h = tt
-own_first program plan s (x ∷ xs) ys h = (h.0, own_first program plan (act program plan s x.answer) xs ys h.1)
-
--- as many processes as lists of steps
-splits_length : (program : Program) (plan : Plan) (budget : ℕ) (story' : Story) (q : ℕ) (steps : List (List Taken))
-    → length (splits_from program plan budget story' q steps) ≡ length steps
-splits_length program plan budget story' q [] = refl
-splits_length program plan budget story' q (xs ∷ rest) = ap suc (splits_length program plan budget story' (q + 1) rest)
 
 -- a process with intervals is one of the program's
 pub process_below : (program : Program) (plan : Plan) (budget : ℕ) (h : List ℕ) (p : ℕ) (y : Split)
@@ -133,7 +122,7 @@ module _ (program : Program) (policy : Policy) (budget : ℕ) (h : List ℕ) (p 
         (steps_later program plan s p (split_of program plan budget s p before) (levels_at before) after stands_at)
 
     pub own_before : AreOwn program plan (started program plan p budget) before
-    own_before = own_first program plan (started program plan p budget) before after
+    own_before = own-before program plan (started program plan p budget) before after
         (subst (AreOwn program plan (started program plan p budget)) steps (own_steps_told program plan budget h p))
 
     pub followed_at : IsFollowed program policy v s p y all_whole (split_of program plan budget s p before)

@@ -1,22 +1,17 @@
 -- The levels of a process's intervals as its steps change them.
 use Rattle.std.proofs.Common.{◌≡◌, ℕ, zero, suc, ◌<◌, ◌≤◌, ℤ, List, [], ◌∷◌, ◌++◌, Option, Some, None, refl, ap, sym, subst, ◌∙◌, arith, length, append-nil}
-use Rattle.std.proofs.lemmas.Option.{none-some}
 use Rattle.std.specs.Prelude.{drop, option_map, slice_get}
 use Rattle.ppd_model.specs.Intervals.{Part, own, nested, Span, Split, begin_if, begin_span, change_first, end_if, end_span, innermost, is_closed, new_span, with_part}
 use Rattle.ppd_model.specs.FullTrace.{Tag}
 use Rattle.ppd_model.specs.Marks.{Mark}
 use Rattle.ppd_model.specs.World.{change}
 use Rattle.ppd_model.specs.declared.trace.EventId.{EventId}
-use Rattle.ppd_model.proofs.Changes.{change-at, change-else, length-change}
+use Rattle.ppd_model.proofs.Changes.{change-at, change-else}
 use Rattle.ppd_model.proofs.CountedOn.{last_at}
+use Rattle.ppd_model.proofs.Items.{first_length}
 use Rattle.ppd_places.specs.Levels.{AreBelow, AreLevels, Level, StandsIn, begin_level, end_level, numbers, with_event, without_first}
 
 -- ---- lists
-
-pub still_at : {A : Type 0} (xs ys : List A) (i : ℕ) (x : A) → slice_get xs i ≡ Some x → slice_get (xs ++ ys) i ≡ Some x
-still_at [] ys i x e = absurd (none-some x e)
-still_at (z ∷ xs) ys zero x e = e
-still_at (z ∷ xs) ys (suc i) x e = still_at xs ys i x e
 
 pub at_before : {A : Type 0} (xs ys : List A) (i : ℕ) → i < length xs → slice_get (xs ++ ys) i ≡ slice_get xs i
 at_before [] ys i lt = absurd (omega (arith, lt))
@@ -94,10 +89,6 @@ head_changed f quiet spans n m inner after ps l ls parts le below h = (
 first_of_levels : (f : Span → Span) (x : Split) (ls : List Level) → x.running ≡ numbers ls
     → change_first f x.running x.spans ≡ change_first f (numbers ls) x.spans
 first_of_levels f x ls e = ap (λ ks. change_first f ks x.spans) e
-
-pub first_length : (f : Span → Span) (ks : List ℕ) (spans : List Span) → length (change_first f ks spans) ≡ length spans
-first_length f [] spans = refl
-first_length f (k ∷ ks) spans = length-change f k spans
 
 -- one that keeps the parts
 pub quiet_stands : (f : Span → Span) → IsQuiet f → ((i : Span) → (f i).parts ≡ i.parts)

@@ -22,12 +22,13 @@ use Rattle.ppd_sem.specs.declared.proc.Todo.{Todo}
 use Rattle.ppd_sem.specs.Asked.{Asked}
 use Rattle.ppd_sem.specs.Deed.{Deed, set_local, set_shared, clear, branch, turn, leave, invoke, back, take, give, send, receive, print, pass, finish}
 use Rattle.ppd_sem.specs.Process.{act_by_asked, act_by_deed, act_by_need, call_unit, chan_of, cost, entry_of, head_deed, loop_of, need_by_entry, need_by_offer, need_of_asked, need_of_deed, need_of_head, need_of_leaving, need_of_running, need_of_send, offer_of, top_body, top_call, top_cells}
-use Rattle.ppd_sem.specs.Runs.{returns}
+use Rattle.ppd_sem.specs.Runs.{returns, bodies_in}
 use Rattle.ppd_sem.specs.Tables.{block_of, capacity_of, unit_of}
 use Rattle.ppd_model.proofs.Homes.{AskedOf, DeedOf, head_of}
-use Rattle.ppd_nested.specs.Stack.{bodies_in, returning}
+use Rattle.ppd_nested.specs.Stack.{returning}
 use Rattle.ppd_nested.proofs.DeedKinds.{found_while, loop_is, no_loop, return_no_loop, send_is, while_block, while_stays}
 use Rattle.ppd_nested.proofs.Framed.{head_returns}
+use Rattle.ppd_nested.proofs.Moving.{top_is}
 use Rattle.ppd_places.specs.Closing.{closing, if_there, of_loop, of_return}
 use Rattle.ppd_places.proofs.Opened.{head_plain, inner_plain, no_loop_mark, no_return_mark, return_mark, top_opens}
 use Rattle.ppd_places.proofs.Calling.{IsCallDeed, no_call, send_no_call, while_no_call}
@@ -81,17 +82,6 @@ IsOf program plan t s (need.Trap x) = ⊤
 IsOf program plan t s need.Budget = ⊤
 IsOf program plan t s need.Stopped = ⊤
 IsOf program plan t s n = IsOther (kind_of program t.stmt)
-
-top_is : (s : Proc) (b : ℕ) (bs : List ℕ) → bodies_in s.frames ≡ b ∷ bs → top_body s.frames ≡ b
-top_is s b bs e = by s.frames e
-  where
-    first : List ℕ → ℕ
-    first [] = 0
-    first (x ∷ xs) = x
-
-    by : (frames : List _) → bodies_in frames ≡ b ∷ bs → top_body frames ≡ b
-    by [] e = absurd (cc)
-    by (f ∷ fs) e = ap first e
 
 module _ (program : Program) (plan : Plan) (p : ℕ) (v : IsValid program) (a : Answer) (t : Todo) (ts : List Todo)
     (s : Proc)

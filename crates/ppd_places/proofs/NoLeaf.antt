@@ -15,10 +15,10 @@ use Rattle.ppd_facts.proofs.Called.{AreCalled}
 use Rattle.ppd_facts.proofs.Counted.{calling_block}
 use Rattle.ppd_facts.proofs.Placed.{callee}
 use Rattle.ppd_facts.proofs.State.{IsState, head_is_home}
-use Rattle.ppd_nested.specs.Stack.{IsInOrder, bodies_in, returning}
+use Rattle.ppd_nested.specs.Stack.{IsInOrder, returning}
 use Rattle.ppd_nested.proofs.Framed.{head_returns, head_stays}
 use Rattle.ppd_sem.specs.Process.{loop_of, top_body, top_cells}
-use Rattle.ppd_sem.specs.Runs.{returns}
+use Rattle.ppd_sem.specs.Runs.{returns, bodies_in}
 use Rattle.ppd_sem.specs.Tables.{block_of}
 use Rattle.ppd_sem.specs.declared.proc.Frame.{Frame}
 use Rattle.ppd_sem.specs.declared.proc.Proc.{Proc}

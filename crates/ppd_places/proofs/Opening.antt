@@ -10,11 +10,11 @@ use Rattle.ppd_model.specs.declared.flow.Item.TheVariants as item
 use Rattle.ppd_model.specs.declared.trace.TracedEvent.{TracedEvent}
 use Rattle.ppd_model.specs.Intervals.{Part, own, nested, Span, Split, is_closed}
 use Rattle.ppd_model.proofs.Changes.{some}
+use Rattle.ppd_model.proofs.CountedOn.{kept_at}
 use Rattle.ppd_search.specs.declared.leaf_call.LeafCall.{LeafCall}
 use Rattle.ppd_search.specs.Locals.{leaf_after, leaf_at}
 use Rattle.ppd_places.specs.Levels.{Level, put}
 use Rattle.ppd_places.specs.Leaves.{AreBegun, AreBegunBy, AreBegunIn, Begun, First, IsBegunAt, IsBegunOutside, items_so_far, leaf_of, of_leaf, open_at}
-use Rattle.ppd_places.proofs.Levels.{still_at}
 use Rattle.ppd_places.proofs.Scans.{items_more, leaf_nested, leaf_own, nested_item, own_item}
 
 -- ---- lists
@@ -82,7 +82,7 @@ module _ (program : Program) (plan : Plan) (p : ℕ) (y : Split) where
       stmt_is = h.0.stmt_is;
       event_is = h.0.event_is;
       at =
-          still_at ps (q ∷ []) call.item (own h.0.event) h.0.at;
+          kept_at ps (q ∷ []) call.item (own h.0.event) h.0.at;
     },
     h.1,
   )

@@ -7,7 +7,7 @@ use Rattle.ppd_ast.specs.declared.plan.Plan.{Plan}
 use Rattle.ppd_ast.specs.declared.program.Program.{Program}
 use Rattle.ppd_ast.specs.Lookups.{kind_of}
 use Rattle.ppd_step_laws.specs.Course.{calls_of}
-use Rattle.ppd_nested.specs.Stack.{IsInOrder, bodies_in, returning}
+use Rattle.ppd_nested.specs.Stack.{IsInOrder, returning}
 use Rattle.ppd_nested.proofs.DeedKinds.{while_stays}
 use Rattle.ppd_sem.specs.declared.proc.Need.{Need}
 use Rattle.ppd_sem.specs.declared.proc.Need.TheVariants as need
@@ -16,6 +16,7 @@ use Rattle.ppd_sem.specs.declared.proc.Todo.{Todo}
 use Rattle.ppd_sem.specs.Process.{act, act_at, act_by_asked, act_by_need, head_deed, need_of, need_of_running}
 use Rattle.ppd_sem.proofs.Progress.{need_at_todo}
 use Rattle.ppd_sem.specs.Described.{is_event}
+use Rattle.ppd_sem.specs.Runs.{bodies_in}
 use Rattle.ppd_model.specs.Logs.{status_of}
 use Rattle.ppd_model.specs.declared.trace.EventId.{EventId}
 use Rattle.ppd_model.specs.declared.tracing.Activation.{Activation}

@@ -1,9 +1,10 @@
 -- Edges that are alike have the same races; so have a graph and its logs.
-use Rattle.std.proofs.Common.{◌≡◌, ◌↔◌, ℕ, zero, suc, ◌+◌, ◌-◌, ◌<◌, ◌≤◌, List, [], ◌∷◌, ◌++◌, Bool, true, false, not, refl, ap, ap₂, sym, subst, ◌∙◌, arith, length, map, filter, get_or, ◌&&◌, ◌||◌}
-use Rattle.std.specs.Prelude.{IsTrue, nat_eq, if◌then◌else◌, ⊤}
+use Rattle.std.proofs.Common.{◌≡◌, ◌↔◌, ℕ, zero, suc, ◌+◌, ◌-◌, ◌<◌, ◌≤◌, List, [], ◌∷◌, ◌++◌, false, not, refl, ap, ap₂, sym, subst, ◌∙◌, arith, length, map, filter, get_or, ◌&&◌, ◌||◌}
+use Rattle.std.specs.Prelude.{nat_eq, if◌then◌else◌, ⊤}
 use Rattle.std.specs.List.{flat_map, range_with_len}
 use Rattle.std.proofs.lemmas.Bool.{and_left}
 use Rattle.ppd_ast.specs.Members.{has}
+use Rattle.ppd_ast.proofs.Those.{both}
 use Rattle.ppd_model.specs.declared.graph.EdgeId.{EdgeId}
 use Rattle.ppd_model.specs.declared.graph.Race.{Race}
 use Rattle.ppd_model.specs.declared.graph.RaceKind.{RaceKind}
@@ -13,29 +14,21 @@ use Rattle.ppd_model.specs.Races.{first_writes, kinds, race, second_writes}
 use Rattle.ppd_model.proofs.Tested.{tests_edges}
 use Rattle.ppd_graph.specs.Graphs.{is_before_by, sets_at}
 use Rattle.ppd_model.specs.RecordedSets.{record_in}
+use Rattle.ppd_model.proofs.Earlier.{each_append}
+use Rattle.ppd_model.specs.World.{Each}
 use Rattle.ppd_graph.specs.LogRecord.{sets_from}
+use Rattle.ppd_graph.proofs.Leads.{length_mapped}
 use Rattle.ppd_race.specs.Races.{AlikeRace, AreAlike, Edges, GraphRacesAreOfLogs, IsThere, are_apart, cells_by, edges_from, edges_of_graph, edges_of_logs, is_race_in, own_edges, pairs_among, races_among, races_of_pair}
 use Rattle.ppd_race.proofs.ByPairs.{filter_flat, flat_same, races_by_pairs}
 use Rattle.ppd_race.proofs.Cells.{three}
 
 -- ---- each of a list
 
-Each : {A : Type 0} → (A → Type 0) → List A → Type 0
-Each P [] = ⊤
-Each P (x ∷ xs) = P x × Each P xs
-
-each_both : {A : Type 0} (P : A → Type 0) (xs ys : List A) → Each P xs → Each P ys → Each P (xs ++ ys)
-unfolding Each
-each_both P [] ys h k = k
-each_both P (x ∷ xs) ys h k = (h.0, each_both P xs ys h.1 k)
-
 flat_each : {A B : Type 0} (P : A → Type 0) (f g : A → List B) (xs : List A) → Each P xs → ((x : A) → P x → f x ≡ g x) → flat_map f xs ≡ flat_map g xs
-unfolding Each
 flat_each P f g [] h e = refl
 flat_each P f g (x ∷ xs) h e = ap₂ (λ r s. r ++ s) (e x h.0) (flat_each P f g xs h.1 e)
 
 pairs_each : {A B : Type 0} (P : A → Type 0) (f g : A → A → List B) (xs : List A) → Each P xs → ((a b : A) → P a → P b → f a b ≡ g a b) → pairs_among f xs ≡ pairs_among g xs
-unfolding Each
 pairs_each P f g [] h e = refl
 pairs_each P f g (x ∷ xs) h e = ap₂ (λ r s. r ++ s) (flat_each P (f x) (g x) xs h.1 (λ b k. e x b h.0 k)) (pairs_each P f g xs h.1 e)
 
@@ -76,14 +69,12 @@ module _ (e f : Edges) (alike : AreAlike e f) where
   -- ---- the edges
 
   own_there : (p a n : ℕ) → p < e.processes → a + n ≤ e.count p → Each (IsThere e) (map (edge p) (range_with_len a n))
-  unfolding Each
   own_there p a zero lt le = tt
   own_there p a (suc n) lt le = ((lt, omega (arith, le)), own_there p (a + 1) n lt (omega (arith, le)))
 
   there_from : (p n : ℕ) → p + n ≤ e.processes → Each (IsThere e) (edges_from e p n)
-  unfolding Each
   there_from p zero le = tt
-  there_from p (suc n) le = each_both (IsThere e) (map (edge p) (own_edges e p)) (edges_from e (p + 1) n) (own_there p 0 (e.count p) (omega (arith, le)) (omega arith)) (there_from (p + 1) n (omega (arith, le)))
+  there_from p (suc n) le = each_append (IsThere e) (map (edge p) (own_edges e p)) (edges_from e (p + 1) n) (own_there p 0 (e.count p) (omega (arith, le)) (omega arith)) (there_from (p + 1) n (omega (arith, le)))
 
   -- ---- one pair
 
@@ -129,22 +120,14 @@ alike_race e f alike = alike_races e f alike
 
 -- ---- a graph and its logs
 
-bool_same : (a b : Bool) → IsTrue a ↔ IsTrue b → a ≡ b
-bool_same true b h = sym (h.0 refl)
-bool_same false true h = h.1 refl
-bool_same false false h = refl
-
-pub length_mapped : {A B : Type 0} (h : A → B) (xs : List A) → length (map h xs) ≡ length xs
-length_mapped h [] = refl
-length_mapped h (x ∷ xs) = ap suc (length_mapped h xs)
-
 pub graph_races : GraphRacesAreOfLogs
 graph_races program logs g is few cells = alike_race (edges_of_graph g) (edges_of_logs program logs) (record {
   processes = ap length is.sets ∙ length_mapped (sets_from _) logs.lists;
   count = λ p lt. ap (λ sets. length (get_or sets p [])) is.sets;
   accesses = λ a c w x. ap (λ sets. has (cells_by w (sets_at sets a)) c) is.sets;
-  before = λ a b x y. bool_same (is_before_by g a b) (is_edge_before program (record_in logs) a b)
-      ((λ h. (tests_edges program (record_in logs) a b).1 ((is.order a b x.1 y.1).0 h)), (λ h. (is.order a b x.1 y.1).1 ((tests_edges program (record_in logs) a b).0 h)));
+  before = λ a b x y. both (is_before_by g a b) (is_edge_before program (record_in logs) a b)
+      (λ h. (tests_edges program (record_in logs) a b).1 ((is.order a b x.1 y.1).0 h))
+      (λ h. (is.order a b x.1 y.1).1 ((tests_edges program (record_in logs) a b).0 h));
   cells = few;
   none = λ a c w le x.
       ap (λ sets. has (cells_by w (sets_at sets a)) c) is.sets

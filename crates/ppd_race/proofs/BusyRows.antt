@@ -5,14 +5,17 @@ use Rattle.std.specs.List.{filter, range_with_len}
 use Rattle.std.proofs.lemmas.Bool.{cases_eq}
 use Rattle.std.proofs.lemmas.List.{drop_more}
 use Rattle.ppd_ast.specs.Members.{has, those, RisesFrom, AreBelow}
+use Rattle.ppd_ast.proofs.Those.{rises_filter, nothing_more}
 use Rattle.ppd_model.specs.declared.graph.EdgeId.{EdgeId}
 use Rattle.ppd_model.specs.HappenedBefore.{edge}
+use Rattle.ppd_model.proofs.AccessSets.{or-assoc}
+use Rattle.ppd_model.proofs.Lists.{get_or_any}
 use Rattle.ppd_graph.specs.declared.sets.EdgeSets.{EdgeSets}
 use Rattle.ppd_graph.specs.LogRecord.{no_sets}
 use Rattle.ppd_graph.proofs.Timed.{at_end, at_front, length_more}
+use Rattle.ppd_graph.proofs.Counted.{range_more}
 use Rattle.ppd_race.specs.declared.busy.Busy.{Busy}
 use Rattle.ppd_race.specs.Busy.{EachBusyIn, IsBusyIn, IsBusyOf, IsBusyPart, IsBusyRow, Takes, is_busy, is_busy_in, is_none, numbers}
-use Rattle.ppd_race.proofs.Grown.{at_any}
 
 -- ---- one edge
 
@@ -27,12 +30,6 @@ pub takes_one : (sets : EdgeSets) (old new : List Busy) (name : EdgeId) (t : Boo
 takes_one sets old new name t is busy b e h = subst (λ s. Takes (not s) old new name sets) (sym (sym is ∙ busy)) (b, e, h)
 
 -- ---- one more edge of a process
-
-range_more : (a n : ℕ) → range_with_len a (suc n) ≡ range_with_len a n ++ (a + n) ∷ []
-range_more a zero = let e : a ≡ a + zero = omega arith in ap (λ x. x ∷ []) e
-range_more a (suc n) =
-    let e : (a + 1) + n ≡ a + suc n = omega arith in
-    ap (λ xs. a ∷ xs) (range_more (a + 1) n ∙ ap (λ x. range_with_len (a + 1) n ++ x ∷ []) e)
 
 filter_last : (t : ℕ → Bool) (xs : List ℕ) (x : ℕ) → filter t (xs ++ x ∷ []) ≡ filter t xs ++ (if t x then x ∷ [] else [])
 filter_last t [] x = refl
@@ -53,10 +50,6 @@ numbers_more : (row : List Busy) (b : Busy) → numbers (row ++ b ∷ []) ≡ nu
 numbers_more [] b = refl
 numbers_more (x ∷ row) b = ap (λ r. x.edge.edge ∷ r) (numbers_more row b)
 
-append_none : (xs : List ℕ) → xs ++ [] ≡ xs
-append_none [] = refl
-append_none (x ∷ xs) = ap (λ r. x ∷ r) (append_none xs)
-
 each_more : (q : ℕ) (own : List EdgeSets) (row : List Busy) (b : Busy) → EachBusyIn q own row → IsBusyIn q own b → EachBusyIn q own (row ++ b ∷ [])
 each_more q own [] b h k = (k, tt)
 each_more q own (x ∷ row) b h k = (h.0, each_more q own row b h.1 k)
@@ -75,7 +68,7 @@ pub part_more : (q n : ℕ) (own : List EdgeSets) (row after : List Busy) (x : E
 part_more q n own row after x lt is takes part = by (is_busy x) refl takes
   where
     at : x ≡ get_or own n no_sets
-    at = is ∙ at_any own n x no_sets lt
+    at = is ∙ get_or_any own n x no_sets lt
 
     by : (t : Bool) → is_busy x ≡ t → Takes t row after (edge q n) x → IsBusyPart q own (n + 1) after
     by true e t =
@@ -89,7 +82,7 @@ part_more q n own row after x lt is takes part = by (is_busy x) refl takes
         }
     by false e same = record {
       each = subst (EachBusyIn q own) (sym same) part.each;
-      names = ap numbers same ∙ part.names ∙ sym (append_none (those n (is_busy_in own))) ∙ sym (those_more (is_busy_in own) n false (ap is_busy (sym at) ∙ e));
+      names = ap numbers same ∙ part.names ∙ sym (nothing_more (those n (is_busy_in own))) ∙ sym (those_more (is_busy_in own) n false (ap is_busy (sym at) ∙ e));
     }
 
 -- ---- one more process
@@ -102,7 +95,7 @@ rows_more sets n rows after row seen own lt long grows busy is at before = (ap l
     each q less = elim (cases_eq q n) [
       | inl e ↦
           let row_is : row ≡ get_or after q [] = sym (at_end rows row []) ∙ ap (λ k. get_or (rows ++ row ∷ []) k []) (long ∙ sym e) ∙ ap (λ rs. get_or rs q []) (sym grows) in
-          let own_is : seen ≡ get_or sets q [] = is ∙ at ∙ at_any sets n own [] lt ∙ ap (λ k. get_or sets k []) (sym e) in
+          let own_is : seen ≡ get_or sets q [] = is ∙ at ∙ get_or_any sets n own [] lt ∙ ap (λ k. get_or sets k []) (sym e) in
           let here : IsBusyRow n (get_or sets q []) row = subst (λ s. IsBusyRow n s row) own_is busy in
           let there : IsBusyRow q (get_or sets q []) row = subst (λ k. IsBusyRow k (get_or sets q []) row) (sym e) here in
           subst (IsBusyRow q (get_or sets q [])) row_is there
@@ -117,21 +110,11 @@ rows_more sets n rows after row seen own lt long grows busy is at before = (ap l
 pub not_here : (x c : ℕ) (b : Bool) → 1024 ≤ x → c < 1024 → b ≡ (nat_eq x c || b)
 not_here x c b le lt = ap (λ e. e || b) (sym (ne_eqb x c (λ e. absurd (omega (arith, e, le, lt)))))
 
-swapped : (x s r : Bool) → ((x || s) || r) ≡ (s || (x || r))
-swapped true true r = refl
-swapped true false r = refl
-swapped false true r = refl
-swapped false false r = refl
-
-pub or_none : (b : Bool) → (b || false) ≡ b
-or_none true = refl
-or_none false = refl
-
 -- one more of the cells is in the set
 pub set_more : (xs : List ℕ) (i d : ℕ) (s s' : List ℕ) → i < length xs → ((c : ℕ) → c < 1024 → has s' c ≡ (nat_eq (get_or xs i d) c || has s c)) → ((c : ℕ) → c < 1024 → (has s c || has (drop i xs) c) ≡ has xs c)
     → (c : ℕ) → c < 1024 → (has s' c || has (drop (i + 1) xs) c) ≡ has xs c
 set_more xs i d s s' lt puts inv c less =
-    ap (λ b. b || has (drop (i + 1) xs) c) (puts c less) ∙ swapped (nat_eq (get_or xs i d) c) (has s c) (has (drop (i + 1) xs) c)
+    ap (λ b. b || has (drop (i + 1) xs) c) (puts c less) ∙ or-assoc (nat_eq (get_or xs i d) c) (has s c) (has (drop (i + 1) xs) c)
     ∙ ap (λ ys. has s c || has ys c) (sym (drop_more xs i d lt)) ∙ inv c less
 
 pub each_at : (q : ℕ) (own : List EdgeSets) (row : List Busy) → EachBusyIn q own row → (k : ℕ) (d : Busy) → k < length row → IsBusyIn q own (get_or row k d)
@@ -156,20 +139,12 @@ below_at m xs seen i d e below lt = below (get_or seen i d) (subst (λ ys. IsTru
 
 -- ---- the numbers of a row rise
 
-weaker : (m n : ℕ) (xs : List ℕ) → m ≤ n → RisesFrom n xs → RisesFrom m xs
+pub weaker : (m n : ℕ) (xs : List ℕ) → m ≤ n → RisesFrom n xs → RisesFrom m xs
 weaker m n [] le h = tt
 weaker m n (x ∷ xs) le h = (omega (arith, le, h.0), h.1)
 
-pub rises_filtered : (t : ℕ → Bool) (a n : ℕ) → RisesFrom a (filter t (range_with_len a n))
-rises_filtered t a zero = tt
-rises_filtered t a (suc n) = by (t a) (rises_filtered t (a + 1) n)
-  where
-    by : (b : Bool) → RisesFrom (a + 1) (filter t (range_with_len (a + 1) n)) → RisesFrom a (if b then a ∷ filter t (range_with_len (a + 1) n) else filter t (range_with_len (a + 1) n))
-    by true h = (omega arith, h)
-    by false h = weaker a (a + 1) (filter t (range_with_len (a + 1) n)) (omega arith) h
-
 pub names_rise : (q : ℕ) (own : List EdgeSets) (row : List Busy) → IsBusyRow q own row → RisesFrom 0 (numbers row)
-names_rise q own row busy = subst (RisesFrom 0) (sym busy.names) (rises_filtered (is_busy_in own) 0 (length own))
+names_rise q own row busy = subst (RisesFrom 0) (sym busy.names) (rises_filter (is_busy_in own) 0 (length own))
 
 -- ---- sets below a number
 

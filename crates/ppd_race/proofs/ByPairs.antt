@@ -3,6 +3,7 @@ use Rattle.std.proofs.Common.{◌≡◌, ℕ, zero, suc, ◌+◌, ◌-◌, ◌<�
 use Rattle.std.specs.Prelude.{nat_eq}
 use Rattle.std.specs.List.{flat_map, range_with_len}
 use Rattle.std.proofs.lemmas.Bool.{and_right, cond-false, cond-true}
+use Rattle.std.proofs.lemmas.List.{append_assoc}
 use Rattle.ppd_ast.specs.declared.program.Program.{Program}
 use Rattle.ppd_model.specs.declared.graph.EdgeId.{EdgeId}
 use Rattle.ppd_model.specs.declared.graph.Race.{Race}
@@ -15,17 +16,9 @@ use Rattle.ppd_race.specs.Races.{Edges, are_apart, candidates_at, edges_from, ed
 
 -- ---- lists
 
-append_assoc' : {A : Type 0} (xs ys zs : List A) → (xs ++ ys) ++ zs ≡ xs ++ (ys ++ zs)
-append_assoc' [] ys zs = refl
-append_assoc' (x ∷ xs) ys zs = ap (λ r. x ∷ r) (append_assoc' xs ys zs)
-
-append_none : {A : Type 0} (xs : List A) → xs ++ [] ≡ xs
-append_none [] = refl
-append_none (x ∷ xs) = ap (λ r. x ∷ r) (append_none xs)
-
 pub flat_append : {A B : Type 0} (f : A → List B) (xs ys : List A) → flat_map f (xs ++ ys) ≡ flat_map f xs ++ flat_map f ys
 flat_append f [] ys = refl
-flat_append f (x ∷ xs) ys = ap (λ r. f x ++ r) (flat_append f xs ys) ∙ sym (append_assoc' (f x) (flat_map f xs) (flat_map f ys))
+flat_append f (x ∷ xs) ys = ap (λ r. f x ++ r) (flat_append f xs ys) ∙ sym (append_assoc (f x) (flat_map f xs) (flat_map f ys))
 
 flat_flat : {A B C : Type 0} (f : B → List C) (g : A → List B) (xs : List A) → flat_map f (flat_map g xs) ≡ flat_map (λ x. flat_map f (g x)) xs
 flat_flat f g [] = refl
@@ -82,7 +75,7 @@ module _ (e : Edges) where
       ap₂ (λ a b. a ++ b)
       (flat_append (races_of_pair e (edge p i)) (map (edge p) is) later ∙ ap (λ r. r ++ flat_map (races_of_pair e (edge p i)) later) (own_none p i is))
       (pairs_process p is later)
-      ∙ sym (append_assoc' (flat_map (races_of_pair e (edge p i)) later) (flat_map (λ k. flat_map (races_of_pair e (edge p k)) later) is) (pairs_among (races_of_pair e) later))
+      ∙ sym (append_assoc (flat_map (races_of_pair e (edge p i)) later) (flat_map (λ k. flat_map (races_of_pair e (edge p k)) later) is) (pairs_among (races_of_pair e) later))
 
   -- the races of edge i of process p with the edges of the processes from q on
   with_later : (p i q n : ℕ) → p < q → flat_map (λ r. flat_map (λ j. filter (is_race_in e) (candidates_at e p i r j)) (own_edges e r)) (range_with_len q n) ≡ flat_map (races_of_pair e (edge p i)) (edges_from e q n)

@@ -1,9 +1,10 @@
 -- The races of two busy edges are those of their cells; an edge that accesses nothing has none.
-use Rattle.std.proofs.Common.{◌≡◌, ℕ, zero, suc, ◌+◌, ◌<◌, ◌≤◌, List, [], ◌∷◌, ◌++◌, Bool, true, false, cond, not, refl, ap, ap₂, sym, subst, ◌∙◌, arith, map, filter, true≢false, eq-eqb, ne_eqb, inl, inr, ◌&&◌, ◌||◌}
+use Rattle.std.proofs.Common.{◌≡◌, ℕ, zero, suc, ◌+◌, ◌<◌, ◌≤◌, List, [], ◌∷◌, ◌++◌, Bool, true, false, cond, not, refl, ap, ap₂, sym, subst, ◌∙◌, arith, map, filter, true≢false, ne_eqb, inl, inr, ◌&&◌, ◌||◌}
 use Rattle.std.specs.Prelude.{IsTrue, nat_eq, if◌then◌else◌}
 use Rattle.std.specs.List.{flat_map, range_with_len}
 use Rattle.std.proofs.lemmas.Bool.{and_left, and_right, cases_eq, or_parts}
 use Rattle.ppd_ast.specs.Members.{has, RisesFrom, AreBelow}
+use Rattle.ppd_ast.proofs.Members.{has_first}
 use Rattle.ppd_model.specs.declared.graph.EdgeId.{EdgeId}
 use Rattle.ppd_model.specs.declared.graph.Race.{Race}
 use Rattle.ppd_model.specs.declared.graph.RaceKind.{RaceKind}
@@ -30,9 +31,6 @@ not_below n c (x ∷ xs) r lt =
 
 rises_more : (n : ℕ) (x : ℕ) (xs : List ℕ) → RisesFrom n (x ∷ xs) → n < x → RisesFrom (n + 1) (x ∷ xs)
 rises_more n x xs r lt = (omega (arith, lt), r.1)
-
-pub has_first : (x : ℕ) (xs : List ℕ) → IsTrue (has (x ∷ xs) x)
-has_first x xs = ap (λ b. b || has xs x) (eq-eqb x x refl)
 
 pub below_rest : (m x : ℕ) (xs : List ℕ) → AreBelow m (x ∷ xs) → AreBelow m xs
 below_rest m x xs h c t = h c (later (nat_eq x c) t)

@@ -3,25 +3,18 @@ use Rattle.std.proofs.Common.{◌≡◌, ℕ, zero, suc, ◌+◌, ◌<◌, ◌�
 use Rattle.std.specs.Prelude.{nat_eq}
 use Rattle.std.specs.List.{flat_map}
 use Rattle.std.proofs.lemmas.Bool.{cond-true, cond-false, cases_eq}
-use Rattle.std.proofs.lemmas.List.{drop_all, drop_more}
+use Rattle.std.proofs.lemmas.List.{drop_all, drop_more, append_assoc, append-nil}
 use Rattle.std.proofs.lemmas.List.Sums.{sum_by-cons}
 use Rattle.ppd_model.specs.World.{change}
-use Rattle.ppd_graph.proofs.Timed.{at_changed, at_other, length_changed, length_more}
+use Rattle.ppd_model.proofs.Changes.{length-change}
+use Rattle.ppd_graph.proofs.Timed.{at_changed, at_other, length_more}
 use Rattle.ppd_race.specs.Lists.{GrowsBy, one_at, total}
-
-pub after_append : {A : Type 0} (xs ys zs : List A) → (xs ++ ys) ++ zs ≡ xs ++ (ys ++ zs)
-after_append [] ys zs = refl
-after_append (x ∷ xs) ys zs = ap (λ r. x ∷ r) (after_append xs ys zs)
-
-pub append_none : {A : Type 0} (xs : List A) → xs ++ [] ≡ xs
-append_none [] = refl
-append_none (x ∷ xs) = ap (λ r. x ∷ r) (append_none xs)
 
 -- ---- by a part
 
 module _ {A : Type 0} where
   pub grown_none : (f : ℕ → List A) (old : List (List A)) → ((m : ℕ) → m < length old → f m ≡ []) → GrowsBy f old old
-  grown_none f old h = record { long = refl; at = λ m lt. sym (append_none (get_or old m [])) ∙ ap (λ r. get_or old m [] ++ r) (sym (h m lt)) }
+  grown_none f old h = record { long = refl; at = λ m lt. sym (append-nil (get_or old m [])) ∙ ap (λ r. get_or old m [] ++ r) (sym (h m lt)) }
 
   pub grown_as : (f g : ℕ → List A) (old new : List (List A)) → ((m : ℕ) → f m ≡ g m) → GrowsBy f old new → GrowsBy g old new
   grown_as f g old new e h = record { long = h.long; at = λ m lt. h.at m lt ∙ ap (λ r. get_or old m [] ++ r) (e m) }
@@ -29,12 +22,12 @@ module _ {A : Type 0} where
   pub grown_then : (f g : ℕ → List A) (old now new : List (List A)) → GrowsBy f old now → GrowsBy g now new → GrowsBy (λ m. f m ++ g m) old new
   grown_then f g old now new h k = record {
     long = k.long ∙ h.long;
-    at = λ m lt. k.at m (subst (λ n. m < n) (sym h.long) lt) ∙ ap (λ r. r ++ g m) (h.at m lt) ∙ after_append (get_or old m []) (f m) (g m);
+    at = λ m lt. k.at m (subst (λ n. m < n) (sym h.long) lt) ∙ ap (λ r. r ++ g m) (h.at m lt) ∙ append_assoc (get_or old m []) (f m) (g m);
   }
 
   -- one item at a place, where there is one
   pub one_there : (lists : List (List A)) (place : ℕ) (item : A) → place < length lists → GrowsBy (one_at place item) lists (change (λ list. list ++ item ∷ []) place lists)
-  one_there lists place item there = record { long = length_changed (λ list. list ++ item ∷ []) place lists; at = at }
+  one_there lists place item there = record { long = length-change (λ list. list ++ item ∷ []) place lists; at = at }
     where
       at : (m : ℕ) → m < length lists → get_or (change (λ list. list ++ item ∷ []) place lists) m [] ≡ get_or lists m [] ++ one_at place item m
       at m lt = elim (cases_eq place m) [
@@ -42,7 +35,7 @@ module _ {A : Type 0} where
             ap (λ k. get_or (change (λ list. list ++ item ∷ []) place lists) k []) (sym same) ∙ at_changed (λ list. list ++ item ∷ []) place lists there ∙ ap (λ k. get_or lists k [] ++ item ∷ []) same
             ∙ ap (λ r. get_or lists m [] ++ r) (sym (cond-true (nat_eq place m) (item ∷ []) [] (eq-eqb place m same)))
         | inr other ↦
-            at_other (λ list. list ++ item ∷ []) place m lists (λ e. other (sym e)) ∙ sym (append_none (get_or lists m []))
+            at_other (λ list. list ++ item ∷ []) place m lists (λ e. other (sym e)) ∙ sym (append-nil (get_or lists m []))
             ∙ ap (λ r. get_or lists m [] ++ r) (sym (cond-false (nat_eq place m) (item ∷ []) [] (ne_eqb place m other)))
       ]
 
@@ -77,18 +70,12 @@ module _ {A B : Type 0} (f : ℕ → A → List B) where
   past_more i xs d old now new lt h k = record {
     long = k.long ∙ h.long;
     at = λ m there.
-        ap (λ r. r ++ flat_map (f m) (drop (i + 1) xs)) (k.at m (subst (λ n. m < n) (sym h.long) there)) ∙ after_append (get_or now m []) (f m (get_or xs i d)) (flat_map (f m) (drop (i + 1) xs))
+        ap (λ r. r ++ flat_map (f m) (drop (i + 1) xs)) (k.at m (subst (λ n. m < n) (sym h.long) there)) ∙ append_assoc (get_or now m []) (f m (get_or xs i d)) (flat_map (f m) (drop (i + 1) xs))
         ∙ ap (λ ys. get_or now m [] ++ flat_map (f m) ys) (sym (drop_more xs i d lt)) ∙ h.at m there;
   }
 
   pub past_all : (i : ℕ) (xs : List A) (old now : List (List B)) → length xs ≤ i → GrownPast i xs old now → GrowsBy (λ m. flat_map (f m) xs) old now
   past_all i xs old now past h = record {
     long = h.long;
-    at = λ m there. sym (append_none (get_or now m [])) ∙ ap (λ ys. get_or now m [] ++ flat_map (f m) ys) (sym (drop_all i xs past)) ∙ h.at m there;
+    at = λ m there. sym (append-nil (get_or now m [])) ∙ ap (λ ys. get_or now m [] ++ flat_map (f m) ys) (sym (drop_all i xs past)) ∙ h.at m there;
   }
-
--- a place of a list, whatever stands past it
-pub at_any : {A : Type 0} (xs : List A) (i : ℕ) (d e : A) → i < length xs → get_or xs i d ≡ get_or xs i e
-at_any [] i d e h = absurd (omega (arith, h))
-at_any (x ∷ xs) zero d e h = refl
-at_any (x ∷ xs) (suc i) d e h = at_any xs i d e (omega (arith, h))

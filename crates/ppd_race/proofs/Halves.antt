@@ -6,13 +6,13 @@ use Rattle.std.proofs.Math.Nat.{add-mul, mul-add, pow-le-pow_right, pow-suc}
 use Rattle.std.proofs.lemmas.Bool.{cases_lt, cond-false}
 use Rattle.std.proofs.lemmas.Nat.{mul-le}
 use Rattle.ppd_model.specs.declared.graph.EdgeId.{EdgeId}
+use Rattle.ppd_model.proofs.Lists.{get_or_any}
 use Rattle.ppd_graph.specs.declared.sync_graph.SyncGraph.{SyncGraph}
 use Rattle.ppd_graph.specs.Graphs.{count_at, is_before_by}
 use Rattle.ppd_race.specs.declared.busy.Accessor.{Accessor}
 use Rattle.ppd_race.specs.declared.apart.Side.TheVariants.{Before, NotAfter}
 use Rattle.ppd_race.specs.Busy.{IsRising}
 use Rattle.ppd_race.specs.Search.{AreInOrder, AreParted, IsCut, IsElsewhere, is_apart, is_on}
-use Rattle.ppd_race.proofs.Grown.{at_any}
 
 -- ---- halves
 
@@ -31,7 +31,7 @@ module _ (test : EdgeId → Bool) (list : List Accessor) where
 
   pub halved_up : (low high middle : ℕ) (x : Accessor) (holds : Bool) → middle < length list → holds ≡ test (get_or list middle x).edge → holds ≡ true → Halved low high → Halved (middle + 1) high
   halved_up low high middle x holds inside is passes h = record {
-    first = λ parted k d lt there. parted k middle d (omega (arith, lt)) inside (ap (λ (y : Accessor). test y.edge) (at_any list middle d x inside) ∙ sym is ∙ passes);
+    first = λ parted k d lt there. parted k middle d (omega (arith, lt)) inside (ap (λ (y : Accessor). test y.edge) (get_or_any list middle d x inside) ∙ sym is ∙ passes);
     others = h.others;
   }
 
@@ -39,7 +39,7 @@ module _ (test : EdgeId → Bool) (list : List Accessor) where
   halved_down low high middle x holds inside is fails h = record {
     first = h.first;
     others = λ parted k d le there. not_so (test (get_or list k d).edge) (λ t.
-        true≢false (sym (parted middle k d le there t) ∙ ap (λ (y : Accessor). test y.edge) (at_any list middle d x inside) ∙ sym is ∙ fails));
+        true≢false (sym (parted middle k d le there t) ∙ ap (λ (y : Accessor). test y.edge) (get_or_any list middle d x inside) ∙ sym is ∙ fails));
   }
 
   pub halved_cut : (low high : ℕ) → high ≤ low → Halved low high → AreParted test list → IsCut test list low

@@ -2,7 +2,7 @@
 use Rattle.std.proofs.Common.{◌≡◌, ℕ, zero, suc, ◌+◌, ◌<◌, ◌≤◌, List, [], ◌∷◌, ◌++◌, Bool, true, false, refl, ap, sym, subst, ◌∙◌, arith, inl, inr, length, drop, get_or, map, eq-eqb, ne_eqb, ◌&&◌, ◌||◌}
 use Rattle.std.specs.Prelude.{nat_eq, if◌then◌else◌, ⊤}
 use Rattle.std.proofs.lemmas.Bool.{cases_eq}
-use Rattle.std.proofs.lemmas.List.{drop_all, drop_more}
+use Rattle.std.proofs.lemmas.List.{drop_all, drop_more, append_assoc, append-nil}
 use Rattle.ppd_ast.specs.Members.{has, RisesFrom}
 use Rattle.ppd_graph.specs.declared.sync_graph.SyncGraph.{SyncGraph}
 use Rattle.ppd_graph.specs.Graphs.{edge_count}
@@ -14,9 +14,8 @@ use Rattle.ppd_race.specs.declared.by_cell.ByCell.{ByCell}
 use Rattle.ppd_race.specs.Lists.{GrowsBy}
 use Rattle.ppd_race.specs.Busy.{IsRising}
 use Rattle.ppd_race.specs.Search.{AreInOrder, CanSearch}
-use Rattle.ppd_race.proofs.Grown.{after_append, append_none}
 use Rattle.ppd_race.proofs.Cells.{not_below}
-use Rattle.ppd_race.proofs.BusyRows.{names_rise}
+use Rattle.ppd_race.proofs.BusyRows.{names_rise, weaker}
 
 -- ---- the cells of one edge
 
@@ -67,14 +66,14 @@ listed_more set cells one i d holds old now new lt rises is h k = record {
   long = k.long ∙ h.long;
   at = λ m there.
       ap (λ r. r ++ listed_in set (drop (i + 1) cells) one m) (k.at m (subst (λ n. m < n) (sym h.long) there) ∙ ap (λ b. get_or now m [] ++ listed_if b (get_or cells i d) one m) is)
-      ∙ after_append (get_or now m []) (listed_if (has set (get_or cells i d)) (get_or cells i d) one m) (listed_in set (drop (i + 1) cells) one m)
+      ∙ append_assoc (get_or now m []) (listed_if (has set (get_or cells i d)) (get_or cells i d) one m) (listed_in set (drop (i + 1) cells) one m)
       ∙ ap (λ r. get_or now m [] ++ r) (cell_listed set cells one i d m lt rises) ∙ h.at m there;
 }
 
 pub listed_all : (set cells : List ℕ) (one : Accessor) (i : ℕ) (old now : List (List Accessor)) → length cells ≤ i → ListedPast set cells one i old now → GrowsBy (listed_in set cells one) old now
 listed_all set cells one i old now past h = record {
   long = h.long;
-  at = λ m there. sym (append_none (get_or now m [])) ∙ ap (λ ys. get_or now m [] ++ listed_in set ys one m) (sym (drop_all i cells past)) ∙ h.at m there;
+  at = λ m there. sym (append-nil (get_or now m [])) ∙ ap (λ ys. get_or now m [] ++ listed_in set ys one m) (sym (drop_all i cells past)) ∙ h.at m there;
 }
 
 -- ---- the edges of a process
@@ -104,12 +103,12 @@ pub edge_listed : (test : ℕ → Busy → Bool) (own : List Busy) (i : ℕ) (a 
     → (c : ℕ) → c < 1024 → get_or new c [] ++ accessors_from (i + 1) (test c) (drop (i + 1) own) ≡ accessors_from 0 (test c) own
 edge_listed test own i a now new part lt is long grows parts h c less =
     ap (λ r. r ++ accessors_from (i + 1) (test c) (drop (i + 1) own)) (grows.at c (subst (λ n. c < n) (sym long) less) ∙ ap (λ r. get_or now c [] ++ r) (parts c))
-    ∙ after_append (get_or now c []) (if test c a then accessor i a ∷ [] else []) (accessors_from (i + 1) (test c) (drop (i + 1) own))
+    ∙ append_assoc (get_or now c []) (if test c a then accessor i a ∷ [] else []) (accessors_from (i + 1) (test c) (drop (i + 1) own))
     ∙ ap (λ ys. get_or now c [] ++ accessors_from i (test c) ys) (ap (λ x. x ∷ drop (i + 1) own) is ∙ sym (drop_more own i a lt)) ∙ h c less
 
 pub edges_listed : (test : ℕ → Busy → Bool) (own : List Busy) (i : ℕ) (now : List (List Accessor)) → length own ≤ i → ((c : ℕ) → c < 1024 → get_or now c [] ++ accessors_from i (test c) (drop i own) ≡ accessors_from 0 (test c) own)
     → (c : ℕ) → c < 1024 → get_or now c [] ≡ accessors_from 0 (test c) own
-edges_listed test own i now past h c less = sym (append_none (get_or now c [])) ∙ ap (λ ys. get_or now c [] ++ accessors_from i (test c) ys) (sym (drop_all i own past)) ∙ h c less
+edges_listed test own i now past h c less = sym (append-nil (get_or now c [])) ∙ ap (λ ys. get_or now c [] ++ accessors_from i (test c) ys) (sym (drop_all i own past)) ∙ h c less
 
 -- ---- they are edges of the process, in order
 
@@ -119,10 +118,6 @@ EachThere g p (x ∷ xs) = ((x.edge.process ≡ p) × (x.edge.edge < edge_count 
 
 abbrev listed_numbers : List Accessor → List ℕ
 listed_numbers xs = map (λ x. x.edge.edge) xs
-
-weaker : (m n : ℕ) (xs : List ℕ) → m ≤ n → RisesFrom n xs → RisesFrom m xs
-weaker m n [] le h = tt
-weaker m n (x ∷ xs) le h = (omega (arith, le, h.0), h.1)
 
 module _ (g : SyncGraph) (p : ℕ) (test : Busy → Bool) where
   each_there : (m : ℕ) (row : List Busy) → EachBusyIn p (get_or g.edges p []) row → EachThere g p (accessors_from m test row)

@@ -3,11 +3,12 @@ use Rattle.std.proofs.Common.{◌≡◌, ℕ, zero, suc, ◌+◌, ◌<◌, ◌�
 use Rattle.std.specs.List.{filter, range_with_len}
 use Rattle.std.specs.Prelude.{IsTrue, Some, None, unwrap_or, nat_eq, nat_lt, ⊤}
 use Rattle.std.proofs.lemmas.Bool.{cond-true, cond-false, and_parts, cases_lt, cases_eq}
+use Rattle.std.proofs.lemmas.List.{append_assoc, append-nil}
 use Rattle.ppd_ast.specs.Members.{has, those, RisesFrom, AreBelow}
+use Rattle.ppd_ast.proofs.Those.{rises_filter}
 use Rattle.ppd_race.specs.Union.{HasBelow, IsUnion, do_rise, least_of, left_after, push_when}
-use Rattle.ppd_race.proofs.BusyRows.{rises_filtered, those_more}
+use Rattle.ppd_race.proofs.BusyRows.{those_more}
 use Rattle.ppd_race.proofs.Cells.{not_below}
-use Rattle.ppd_race.proofs.Grown.{after_append, append_none}
 
 -- ---- a rising list
 
@@ -89,7 +90,7 @@ rises_on n c [] (x ∷ xs) ys h k above = (h.0, (omega (arith, above), k.1))
 rises_on n c (a ∷ all) xs ys h k above = (h.0, rises_on (a + 1) c all xs ys h.1 k.1 above)
 
 rises_taken : (c : ℕ) (all xs : List ℕ) (t : Takes c xs) → RisesFrom 0 (all ++ xs) → RisesFrom 0 ((all ++ c ∷ []) ++ left_after c xs)
-rises_taken c all xs t h = subst (RisesFrom 0) (ap (λ zs. all ++ zs) t.is ∙ sym (after_append all (c ∷ []) t.rest) ∙ ap (λ zs. (all ++ c ∷ []) ++ zs) (sym t.left)) h
+rises_taken c all xs t h = subst (RisesFrom 0) (ap (λ zs. all ++ zs) t.is ∙ sym (append_assoc all (c ∷ []) t.rest) ∙ ap (λ zs. (all ++ c ∷ []) ++ zs) (sym t.left)) h
 
 rises_kept : (c : ℕ) (all xs ys : List ℕ) (k : Keeps c xs) (t : Takes c ys) → RisesFrom 0 (all ++ xs) → RisesFrom 0 (all ++ ys) → RisesFrom 0 ((all ++ c ∷ []) ++ left_after c xs)
 rises_kept c all xs ys k t h g = subst (λ zs. RisesFrom 0 ((all ++ c ∷ []) ++ zs)) (sym k.left) (rises_on 0 c all xs t.rest (subst (λ zs. RisesFrom 0 (all ++ zs)) t.is g) h k.above)
@@ -193,7 +194,7 @@ module _ (reads writes : List ℕ) where
   pub merged_all : (all xs ys : List ℕ) → None ≡ least_of xs ys → IsTrue (do_rise 0 reads) → IsTrue (do_rise 0 writes) → IsMerged all xs ys → IsUnion (λ c. has reads c || has writes c) all × (length all ≤ length reads + length writes)
   merged_all all [] [] none h k m = (
     record {
-      rises = subst (RisesFrom 0) (append_none all) m.reading;
+      rises = subst (RisesFrom 0) (append-nil all) m.reading;
       below = λ c t. either (has reads c) (has writes c) (sym (m.each c) ∙ or_nothing (has all c) ∙ t) (λ r. (rises_of 0 reads h).1 c r) (λ w. (rises_of 0 writes k).1 c w);
       has_all = λ c. sym (or_nothing (has all c)) ∙ m.each c;
     },
@@ -222,7 +223,7 @@ inside_range t a (suc n) c le lt = elim (cases_eq a c) [
   where
     here : (b : Bool) → t a ≡ b → a ≡ c → has (cond b (a ∷ filter t (range_with_len (a + 1) n)) (filter t (range_with_len (a + 1) n))) c ≡ t c
     here true e same = ap (λ s. s || has (filter t (range_with_len (a + 1) n)) c) (eq-eqb a c same) ∙ sym e ∙ ap t same
-    here false e same = not_below (a + 1) c (filter t (range_with_len (a + 1) n)) (rises_filtered t (a + 1) n) (omega (arith, same)) ∙ sym e ∙ ap t same
+    here false e same = not_below (a + 1) c (filter t (range_with_len (a + 1) n)) (rises_filter t (a + 1) n) (omega (arith, same)) ∙ sym e ∙ ap t same
 
     later : (b : Bool) → (a ≡ c → ⊥) → has (filter t (range_with_len (a + 1) n)) c ≡ t c → has (cond b (a ∷ filter t (range_with_len (a + 1) n)) (filter t (range_with_len (a + 1) n))) c ≡ t c
     later true d e = ap (λ s. s || has (filter t (range_with_len (a + 1) n)) c) (ne_eqb a c d) ∙ e
@@ -240,7 +241,7 @@ pub those_union : (test : ℕ → Bool) (cells : List ℕ) (n : ℕ) → n ≡ 1
 those_union test cells n end is high =
     let whole : cells ≡ those 1024 test = is ∙ ap (λ k. those k test) end in
     subst (IsUnion test) (sym whole) (record {
-      rises = rises_filtered test 0 1024;
+      rises = rises_filter test 0 1024;
       below = λ c t. elim (cases_lt c 1024) [ inl lt ↦ lt | inr le ↦ absurd (true≢false (sym t ∙ above_range test 0 1024 c (omega (arith, le)))) ];
       has_all = λ c. elim (cases_lt c 1024) [
         | inl lt ↦ inside_range test 0 1024 c (omega arith) (omega (arith, lt))

@@ -22,8 +22,9 @@ use Rattle.ppd_graph.specs.Graphs.{sets_at}
 use Rattle.ppd_graph.specs.LogRecord.{no_sets, edge_sets_in}
 use Rattle.ppd_graph.proofs.ClosedSets.{row_sets, run_sets}
 use Rattle.ppd_graph.proofs.Timed.{at_end, at_front, length_more}
+use Rattle.ppd_graph.proofs.Leads.{length_mapped}
 use Rattle.ppd_race.specs.Races.{AreCellsThere, IsThere, RunRacesAreOfLogs, cells_by, edges_of_logs, edges_of_story, races_of_logs}
-use Rattle.ppd_race.proofs.Alike.{alike_race, length_mapped}
+use Rattle.ppd_race.proofs.Alike.{alike_race}
 use Rattle.ppd_race.proofs.ByPairs.{story_races}
 
 count_range : {A : Type 0} (f : ℕ → A) (a n : ℕ) → length (map f (range_with_len a n)) ≡ n

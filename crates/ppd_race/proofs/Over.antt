@@ -3,6 +3,7 @@ use Rattle.std.proofs.Common.{◌≡◌, ℕ, zero, suc, ◌+◌, ◌-◌, ◌<�
 use Rattle.std.specs.List.{flat_map, range_with_len}
 use Rattle.std.proofs.lemmas.List.Concat.{length-flat_map}
 use Rattle.std.proofs.lemmas.List.Sums.{sum_by-cons}
+use Rattle.std.proofs.lemmas.List.{append_assoc, append-nil}
 use Rattle.ppd_ast.specs.Members.{has}
 use Rattle.ppd_model.specs.declared.graph.Race.{Race}
 use Rattle.ppd_model.specs.declared.graph.RaceKind.TheVariants.{ReadWrite, WriteRead, WriteWrite}
@@ -17,7 +18,7 @@ use Rattle.ppd_race.specs.ByCell.{AreOfCells, IsByCell}
 use Rattle.ppd_race.specs.Lists.{GrowsBy, total}
 use Rattle.ppd_race.specs.Search.{AreElsewhere, AreInOrder, CanSearch, IsElsewhere, IsWhole, against, found_if, found_over}
 use Rattle.ppd_race.proofs.BusyRows.{each_at}
-use Rattle.ppd_race.proofs.Grown.{after_append, append_none, grown_as, grown_then}
+use Rattle.ppd_race.proofs.Grown.{grown_as, grown_then}
 
 -- ---- over a cell
 
@@ -47,10 +48,10 @@ is_whole own t lists = record { readers = lists.long_readers; writers = lists.lo
 -- ---- process by process
 
 flat_range : {A : Type 0} (f : ℕ → List A) (a n : ℕ) → flat_map f (range_with_len a (suc n)) ≡ flat_map f (range_with_len a n) ++ f (a + n)
-flat_range f a zero = let e : a ≡ a + zero = omega arith in append_none (f a) ∙ ap f e
+flat_range f a zero = let e : a ≡ a + zero = omega arith in append-nil (f a) ∙ ap f e
 flat_range f a (suc n) =
     let e : (a + 1) + n ≡ a + suc n = omega arith in
-    ap (λ r. f a ++ r) (flat_range f (a + 1) n ∙ ap (λ k. flat_map f (range_with_len (a + 1) n) ++ f k) e) ∙ sym (after_append (f a) (flat_map f (range_with_len (a + 1) n)) (f (a + suc n)))
+    ap (λ r. f a ++ r) (flat_range f (a + 1) n ∙ ap (λ k. flat_map f (range_with_len (a + 1) n) ++ f k) e) ∙ sym (append_assoc (f a) (flat_map f (range_with_len (a + 1) n)) (f (a + suc n)))
 
 pub none_yet : {A : Type 0} (f : ℕ → List A) (a : ℕ) → flat_map f (range_with_len a (a - a)) ≡ []
 none_yet f a = ap (λ n. flat_map f (range_with_len a n)) (let e : a - a ≡ 0 = omega arith in e)

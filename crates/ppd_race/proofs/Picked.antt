@@ -4,6 +4,7 @@ use Rattle.std.specs.Prelude.{nat_eq, if◌then◌else◌}
 use Rattle.std.proofs.lemmas.Bool.{cond-true, cond-false}
 use Rattle.std.specs.List.{flat_map, range_with_len}
 use Rattle.ppd_ast.specs.Members.{has, AreBelow}
+use Rattle.ppd_ast.proofs.Members.{has_first}
 use Rattle.ppd_model.specs.declared.graph.Race.{Race}
 use Rattle.ppd_model.specs.declared.graph.RaceKind.TheVariants.{ReadWrite, WriteRead, WriteWrite}
 use Rattle.ppd_graph.specs.declared.sets.EdgeSets.{EdgeSets}
@@ -16,7 +17,7 @@ use Rattle.ppd_race.specs.Busy.{AreBusyRows, EachBusyIn, can_race, race_if, race
 use Rattle.ppd_race.specs.ByCell.{IsByCell, accessor, accessors_from}
 use Rattle.ppd_race.specs.Lists.{GrowsBy}
 use Rattle.ppd_race.specs.Search.{against, found_after, found_against, found_in, found_over, found_with, is_apart, picked}
-use Rattle.ppd_race.proofs.Cells.{below_rest, has_first}
+use Rattle.ppd_race.proofs.Cells.{below_rest}
 
 -- ---- one place of a list of accessors
 

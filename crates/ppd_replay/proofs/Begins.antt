@@ -19,13 +19,13 @@ use Rattle.ppd_coming.specs.Coming.{Coming, coming}
 use Rattle.ppd_nested.specs.Stack.{block_frames}
 use Rattle.ppd_coming.specs.Openings.{IsLogOf, Opening, coming_in}
 use Rattle.ppd_crossing.proofs.Crossing.{Across, whole_crossing}
-use Rattle.ppd_inforce.specs.InForce.{AreRead}
+use Rattle.ppd_alone.specs.InForce.{AreRead}
 use Rattle.ppd_openings.proofs.Begun.{begun_beside}
 use Rattle.ppd_openings.proofs.Blocks.{calls_in, closer_in, inside_in, used_in}
 use Rattle.ppd_openings.proofs.Crossed.{IsOfFunction, IsOfLoop, call_blocks, call_bodies, closer_closes, loop_blocks}
-use Rattle.ppd_facts.proofs.Fine.{states_fine}
+use Rattle.ppd_openings.proofs.Fine.{states_fine}
 use Rattle.ppd_openings.proofs.Openings.{IsAtBlock}
-use Rattle.ppd_facts.proofs.State.{IsState}
+use Rattle.ppd_openings.proofs.State.{IsState}
 use Rattle.ppd_openings.proofs.Statics.{HasStatics, statics}
 use Rattle.ppd_alone.proofs.Both.{both}
 use Rattle.ppd_alone.proofs.Turns.{given, map_drop, next_at}

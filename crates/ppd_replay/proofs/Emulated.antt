@@ -17,7 +17,7 @@ use Rattle.ppd_emul.specs.Replay.{Replayed, replay}
 use Rattle.ppd_replay.specs.Laws.{EmulationsGiveIntervals, GivesInterval, GivesIntervalAt, IsAnswerOf, ReplaysGiveIntervals, modelled_in, modelled_of, replay_of}
 
 -- an interval's items in its own steps
-abbrev replayed : Split → Span → Replayed
+abbrev pub replayed : Split → Span → Replayed
 replayed x i = record { steps = i.steps; answer = Ok (record { items = items_of x i }) }
 
 abbrev items_in : Result BlockTrace EmulError → List Item

@@ -12,7 +12,7 @@ use Rattle.ppd_sem.specs.Process.{act, started}
 use Rattle.ppd_sem.specs.Tables.{unit_of}
 use Rattle.ppd_model.specs.Marks.{Mark, opened}
 use Rattle.ppd_model.specs.Story.{Moment, cells_of_unit, unit_started, values_of_unit}
-use Rattle.ppd_inforce.specs.InForce.{AreRead, begun_in_force, in_force_after, in_force_by, with_unit}
+use Rattle.ppd_alone.specs.InForce.{AreRead, begun_in_force, in_force_after, in_force_by, with_unit}
 use Rattle.ppd_coming.specs.Coming.{unit_pieces}
 use Rattle.ppd_coming.specs.Openings.{Opening, opening, opening_by, opening_of}
 

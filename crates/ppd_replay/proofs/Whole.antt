@@ -14,7 +14,7 @@ use Rattle.ppd_model.specs.Races.{races}
 use Rattle.ppd_model.specs.Schedule.{IsWhole}
 use Rattle.ppd_model.specs.Story.{Moment, own_moments, story, told}
 use Rattle.ppd_emul.specs.Replay.{replay}
-use Rattle.ppd_inforce.proofs.Answered.{reads_are_in_force}
+use Rattle.ppd_alone.proofs.Answered.{reads_are_in_force}
 use Rattle.ppd_nested.specs.Run.{IsRun}
 use Rattle.ppd_coming.specs.Openings.{AreAlike, IsLogOf, IsSpanOf, Opening, SpansAreComing, opening_of}
 use Rattle.ppd_coming.proofs.LogsComing.{logs_are_coming}

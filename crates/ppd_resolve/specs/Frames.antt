@@ -1,6 +1,7 @@
 -- The variables of a body, and what a declaration adds to them.
-use Rattle.std.specs.Prelude.{ℕ, ◌+◌, ◌&&◌, nat_le, List, [], ◌∷◌, ◌++◌, Option, Some, None, is_some, decimal}
+use Rattle.std.specs.Prelude.{ℕ, ◌+◌, ◌&&◌, nat_le, List, [], ◌∷◌, ◌++◌, Option, None, is_some, decimal}
 use Rattle.ppd_ast.specs.declared.program.Place.{Place}
+use Rattle.ppd_ast.specs.Cells.{size}
 use Rattle.ppd_resolve.specs.declared.fault.Cause.TheVariants.{Twice, BadSize}
 use Rattle.ppd_resolve.specs.declared.fault.Fault.{Fault}
 use Rattle.ppd_resolve.specs.declared.frame.Variable.{Variable}
@@ -10,11 +11,6 @@ use Rattle.ppd_resolve.specs.Faults.{if_so, unless}
 use Rattle.ppd_resolve.specs.Names.{Scope, found, declare, in_innermost}
 use Rattle.ppd_resolve.specs.Names as N
 use Rattle.ppd_resolve.specs.Syntax.{Name, Number}
-
--- a variable's cells: one, or its length
-abbrev pub size : Option ℕ → ℕ
-size None = 1
-size (Some n) = n
 
 -- the cell after a variable that begins at cell n
 abbrev pub after_cells : ℕ → Option ℕ → ℕ

@@ -8,7 +8,8 @@ use Rattle.ppd_resolve.specs.declared.globals.Sort.{Sort}
 use Rattle.ppd_resolve.specs.declared.globals.Sort.TheVariants.{Array, Semaphore, Channel}
 use Rattle.ppd_resolve.specs.Nodes.{label_name}
 use Rattle.ppd_resolve.specs.Syntax.{Name, Number, Item, shared_array, semaphore, channel}
-use Rattle.ppd_resolve.specs.Reading.{Phrase, phrase, kind, is_name, is_assign, is_bracket, name_at, number_at}
+use Rattle.ppd_resolve.specs.Reading.{Phrase, phrase, kind, is_name, is_bracket, name_at, number_at}
+use Rattle.ppd_parse.specs.Stack.{is_assign}
 
 -- a number as the definitions have it
 abbrev pub size_number : Size → Number

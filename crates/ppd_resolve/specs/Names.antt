@@ -60,9 +60,9 @@ is_channel (channel k) = true
 is_channel m = false
 
 -- may stand with an index, or without one
-abbrev pub fits : Bool → Meaning → Bool
-fits true m = is_array m
-fits false m = is_scalar m
+abbrev pub fits_index : Bool → Meaning → Bool
+fits_index true m = is_array m
+fits_index false m = is_scalar m
 
 -- the number of a semaphore, of a channel and of a function, and 0 where it is none
 abbrev pub semaphore_of : Option Meaning → ℕ

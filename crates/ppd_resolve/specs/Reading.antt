@@ -11,6 +11,7 @@ use Rattle.ppd_lex.specs.declared.token.Kind.TheVariants as K
 use Rattle.ppd_parse.specs.declared.symbol.Rule.{Rule}
 use Rattle.ppd_parse.specs.declared.symbol.Rule.TheVariants as R
 use Rattle.ppd_parse.specs.Grammar.{kind_of, Shape, leaf, node, Shapes, no_shapes, shape_then}
+use Rattle.ppd_parse.specs.Stack.{is_assign}
 use Rattle.ppd_resolve.specs.Syntax.{Name, Number, Formula, number, variable, element, negated, inverted, two, both, either, Goal, scalar, item, Value, plain, result, received, Simple, fresh, array, store, change, call, give_back, take, give, send, print, assert, Row, stop, simple, block, choice, repeat, count, Block, Item, shared, shared_array, semaphore, channel, function, process, Source}
 
 -- what a node says: its token, or what its rule makes of its children
@@ -55,10 +56,6 @@ is_name _ = false
 abbrev pub is_bracket : Kind → Bool
 is_bracket K.LeftBracket = true
 is_bracket _ = false
-
-abbrev pub is_assign : Kind → Bool
-is_assign K.AssignMark = true
-is_assign _ = false
 
 abbrev pub is_minus : Kind → Bool
 is_minus K.MinusMark = true
@@ -347,10 +344,10 @@ abbrev mutual
   all_said (shape_then t ts) = said t ∷ all_said ts
 
 -- the place of the last token below a root
-abbrev pub end_of : Shape → Place
-end_of (leaf t) = t.place
-end_of (node r ts) = (as_token (last (all_said ts))).place
+abbrev pub last_place : Shape → Place
+last_place (leaf t) = t.place
+last_place (node r ts) = (as_token (last (all_said ts))).place
 
 -- the source that a tree says
 abbrev pub source_of : Shape → Source
-source_of t = record { items = as_items (said t); end = end_of t }
+source_of t = record { items = as_items (said t); end = last_place t }

@@ -4,7 +4,7 @@ ghost use Rattle.std.specs.List.{flat_map};
 ghost use Rattle.ppd_parse.specs.Tree.{tree_of};
 ghost use Rattle.ppd_resolve.specs.Faults.{first, first_of_both, unless};
 ghost use Rattle.ppd_resolve.specs.declared.fault.Cause.TheVariants.{NoProcess};
-ghost use Rattle.ppd_resolve.specs.Reading.{as_items, end_of, source_of};
+ghost use Rattle.ppd_resolve.specs.Reading.{as_items, last_place, source_of};
 ghost use Rattle.ppd_resolve.specs.Nodes.{phrase_of, no_node, below};
 ghost use Rattle.ppd_resolve.specs.Holding.{Holds, Declares, DeclaresAt};
 ghost use Rattle.ppd_resolve.specs.Globals.{Globals as Held, globals, no_globals, with_items, items_faults, count_faults};
@@ -108,7 +108,7 @@ fn root_token(source: Source<'_>) -> Option<&Token>
 
 // The place of a source's end: that of the last token below its root.
 pub fn end_at(source: Source<'_>) -> Place
-    ensures { result ≡ end_of (tree_of source.entry.nodes.now) }
+    ensures { result ≡ last_place (tree_of source.entry.nodes.now) }
 {
     match root_token(source) {
         Some(token) => token.place,
@@ -148,7 +148,7 @@ fn has_process(globals: &Globals) -> bool
 pub fn note_no_process(source: Source<'_>, globals: &Globals, found: &mut Option<Fault>)
     ensures { (held : Held) → Holds source.entry.nodes.now globals.now held
         → found.new ≡ first_of_both found.old
-        (first (unless (nat_lt 0 (length held.processes)) (end_of (tree_of source.entry.nodes.now)) NoProcess)) }
+        (first (unless (nat_lt 0 (length held.processes)) (last_place (tree_of source.entry.nodes.now)) NoProcess)) }
 {
     let end = end_at(source);
     note_unless(found, has_process(globals), end, Cause::NoProcess);

@@ -37,41 +37,19 @@ pub enum Cause {
     BadSize,
 }
 
-/// A broken rule and its place.
-#[derive(Clone, Copy, PartialEq, Eq, Debug)]
+/// A broken rule and its place. Broken rules are ordered by their places, then in the rules' order.
+#[derive(Clone, Copy, PartialEq, Eq, PartialOrd, Ord, Debug)]
 pub struct Fault {
     pub place: Place,
     pub cause: Cause,
 }
 
-// What broken rules are ordered by: their places, then the rules in their order.
-#[derive(Clone, Copy, PartialEq, Eq, PartialOrd, Ord)]
-struct Turn {
-    line: u32,
-    column: u32,
-    cause: Cause,
-}
-
 impl Fault {
-    fn turn(&self) -> Turn
-        ensures { result ≡ record {
-          line = self.now.place.line;
-          column = self.now.place.column;
-          cause = self.now.cause;
-        } }
-    {
-        Turn {
-            line: self.place.line,
-            column: self.place.column,
-            cause: self.cause,
-        }
-    }
-
     // Whether it stands before another: by line, column and the rule's number.
     fn is_before(&self, other: &Fault) -> bool
         ensures { result ≡ is_before self.now other.now }
     {
-        self.turn() < other.turn()
+        self < other
     }
 }
 

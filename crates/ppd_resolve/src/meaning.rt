@@ -1,6 +1,6 @@
 // What a name stands for.
 ghost use Rattle.std.specs.Prelude.{◌≡◌};
-ghost use Rattle.ppd_resolve.specs.Names.{is_scalar, is_array, is_semaphore, is_channel, fits};
+ghost use Rattle.ppd_resolve.specs.Names.{is_scalar, is_array, is_semaphore, is_channel, fits_index};
 
 /// What a name can mean. Variables have their first cell and, as arrays, their length.
 #[derive(Clone, Copy, PartialEq, Eq, Debug)]
@@ -32,7 +32,7 @@ impl Meaning {
 
     // Whether it may stand with an index, or without one.
     pub fn fits(&self, indexed: bool) -> bool
-        ensures { result ≡ fits indexed self.now }
+        ensures { result ≡ fits_index indexed self.now }
     {
         if indexed {
             self.is_array()

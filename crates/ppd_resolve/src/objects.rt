@@ -1,7 +1,8 @@
 // The semaphores and channels of a declaration.
 ghost use Rattle.std.specs.Prelude.{◌≡◌, ◌<◌, ◌||◌, OnOk, IfOk, List, length, ◌≤◌, ◌+◌, ◌*◌};
 ghost use Rattle.ppd_parse.specs.declared.node.Node.{Node as NodeOf};
-ghost use Rattle.ppd_resolve.specs.Reading.{is_name, is_assign, is_bracket, numbered};
+ghost use Rattle.ppd_parse.specs.Stack.{is_assign};
+ghost use Rattle.ppd_resolve.specs.Reading.{is_name, is_bracket, numbered};
 ghost use Rattle.ppd_resolve.specs.Syntax.{Name, Number, Item};
 ghost use Rattle.ppd_resolve.specs.Items.{size_number, number_after, numbered_at, numbered_item, said_item};
 ghost use Rattle.ppd_resolve.specs.Holding.{Declares};

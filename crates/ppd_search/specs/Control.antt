@@ -7,13 +7,13 @@ use Rattle.ppd_ast.specs.declared.plan.Plan.{Plan}
 use Rattle.ppd_ast.specs.declared.program.Kind.{Kind}
 use Rattle.ppd_ast.specs.declared.program.Kind.TheVariants as kind
 use Rattle.ppd_ast.specs.declared.program.Program.{Program}
-use Rattle.ppd_ast.specs.Lookups.{kind_of}
+use Rattle.ppd_ast.specs.Lookups.{kind_of, parent_if}
 use Rattle.ppd_sem.specs.declared.event.Event.{Event}
 use Rattle.ppd_model.specs.declared.flow.Item.{Item}
 use Rattle.ppd_model.specs.declared.flow.Item.TheVariants as item
 use Rattle.ppd_model.specs.declared.flow.Origin.{Origin}
 use Rattle.ppd_model.specs.declared.flow.Origin.TheVariants as origin
-use Rattle.ppd_model.specs.FullTrace.{is_passed, or_else, parent_if}
+use Rattle.ppd_model.specs.FullTrace.{is_passed, or_else}
 use Rattle.ppd_search.specs.declared.last_test.LastTest.{LastTest}
 use Rattle.ppd_search.specs.declared.leaf_call.LeafCall.{LeafCall}
 use Rattle.ppd_search.specs.Locals.{begins_leaf, frame_in, leaf_at}

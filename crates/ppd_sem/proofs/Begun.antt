@@ -15,13 +15,14 @@ use Rattle.ppd_ast.specs.declared.program.Body.{Body}
 use Rattle.ppd_ast.specs.declared.program.Program.{Program}
 use Rattle.ppd_ast.specs.declared.program.Stmt.{Stmt}
 use Rattle.ppd_ast.specs.Lookups.{top_of_body, body_of_stmt}
+use Rattle.ppd_ast.proofs.ValidLaws.{valid_body, some_and}
 use Rattle.ppd_sem.specs.declared.proc.Todo.{Todo}
 use Rattle.ppd_sem.specs.Blocks.{at_block, block_body, block_kind, block_todo, kind_in, prelog_cells, with_values}
 use Rattle.ppd_sem.specs.Process.{cells_for, todos}
 use Rattle.ppd_sem.specs.Runs.{AreOfFunction, AreOver, IsRunning, size_if, size_of, stmt_size}
 use Rattle.ppd_sem.proofs.Kept.{cells_count, function_over, size_small}
 use Rattle.ppd_sem.proofs.Starts.{started_over}
-use Rattle.ppd_sem.proofs.Validity.{body_at, function_top, get_at, some_at, valid-runnable}
+use Rattle.ppd_sem.proofs.Validity.{function_top, get_at, valid-runnable}
 
 -- ---- values
 
@@ -55,7 +56,7 @@ body_over p f None e v = subst (λ (o : Option Body). AreOver p (size_if o ∷ [
 body_over p f (Some b) e v = by (nat_le p.functions f) refl
   where
     valid : IsValidBody p f b
-    valid = body_at p f b v e
+    valid = valid_body p f b v e
 
     by : (t : Bool) → nat_le p.functions f ≡ t → AreOver p (size_of p f ∷ []) (todos (top_of_body (slice_get p.bodies f)))
     by true t =
@@ -74,7 +75,7 @@ kind_over : (p : Program) (k : BlockKind) (b : Block) → IsValid p → IsBlockO
 kind_over p (block.Function f) b v h = body_over p f (slice_get p.bodies f) refl v
 kind_over p (block.Process f) b v h = body_over p f (slice_get p.bodies f) refl v
 kind_over p (block.Loop s) b v h =
-    let at = some_at (λ (x : Stmt). IsSomeAnd (slice_get p.bodies x.body) (λ y. IsLoopBlock y.cells b)) (slice_get p.stmts s) h in
+    let at = some_and (λ (x : Stmt). IsSomeAnd (slice_get p.bodies x.body) (λ y. IsLoopBlock y.cells b)) (slice_get p.stmts s) h in
     let body : body_of_stmt (slice_get p.stmts s) ≡ at.0.body = ap body_of_stmt at.1 in (
       record {
         there = slice_get_within p.stmts s at.0 at.1;

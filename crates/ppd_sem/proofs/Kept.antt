@@ -23,7 +23,7 @@ use Rattle.ppd_sem.specs.declared.proc.Todo.{Todo}
 use Rattle.ppd_sem.specs.Asked.{Asked}
 use Rattle.ppd_sem.specs.Deed.{Deed, set_local, set_shared, clear, branch, turn, leave, invoke, back, take, give, send, receive, print, pass, finish, ask_deed}
 use Rattle.ppd_sem.specs.Process.{act, act_at, act_by_asked, act_by_deed, act_by_need, cells_for, charged, clear_cells, clear_top, cost, head_deed, into_of, need_of, need_of_head, receive_at, returned, returned_from, todos, top_cells, within_budget, write_top}
-use Rattle.ppd_sem.specs.Runs.{AreOfFunction, AreOver, IsCallable, IsInner, IsOver, IsRunnable, IsRunnableStmt, IsRunning, LeadsOn, left_by, returns, size_if, size_of, sizes, stmt_size}
+use Rattle.ppd_sem.specs.Runs.{AreOfFunction, AreOver, IsCallable, IsInner, RunsOver, IsRunnable, IsRunnableStmt, IsRunning, LeadsOn, left_by, returns, size_if, size_of, sizes, stmt_size}
 use Rattle.ppd_sem.proofs.Offers.{CompletesSend, head_completes, send_stays}
 use Rattle.ppd_sem.proofs.Progress.{SamePurse, asked_purse, need_at_status, need_at_todo, stays_at}
 use Rattle.ppd_sem.proofs.OfKind.{IsDeedOf, OfAsked, asked_holds, goes_first, goes_second, invokes, goes_round}
@@ -55,7 +55,7 @@ there_at Q [] i h lt = absurd (omega arith)
 there_at Q (x ∷ xs) zero h lt = (x, refl, h 0 x (omega arith))
 there_at Q (x ∷ xs) (suc i) h lt = there_at (λ j. Q (suc j)) xs i (λ k d b. h (suc k) d (omega arith)) (omega arith)
 
-pub leads_at : (p : Program) (n s : ℕ) → IsRunnable p → IsOver p n s → LeadsOn p n (kind_of p s)
+pub leads_at : (p : Program) (n s : ℕ) → IsRunnable p → RunsOver p n s → LeadsOn p n (kind_of p s)
 leads_at p n s h over =
     let found : There (λ _ x. IsRunnableStmt p x) p.stmts s = there_at (λ _ x. IsRunnableStmt p x) p.stmts s h.stmts over.there in
     let size : size_of p found.0.body ≡ n = sym (ap (stmt_size p) found.1) ∙ over.size in
@@ -83,7 +83,7 @@ sizes-write : (c : ℕ) (v : ℤ) (frames : List Frame) → sizes (write_top c v
 sizes-write c v [] = refl
 sizes-write c v (f ∷ fs) = ap (λ n. n ∷ sizes fs) (length-set f.cells c v)
 
-length-clear : (base len : ℕ) (cells : List ℤ) → length (clear_cells base len cells) ≡ length cells
+pub length-clear : (base len : ℕ) (cells : List ℤ) → length (clear_cells base len cells) ≡ length cells
 length-clear base zero cells = refl
 length-clear base (suc n) cells = length-set (clear_cells base n cells) (base + n) (pos 0) ∙ length-clear base n cells
 

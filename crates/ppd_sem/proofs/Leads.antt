@@ -11,7 +11,7 @@ use Rattle.ppd_sem.specs.Ask.{ask}
 use Rattle.ppd_sem.specs.Asked.{Asked, once}
 use Rattle.ppd_sem.specs.Described.{valued}
 use Rattle.ppd_sem.specs.Effects.{arguments_of, given}
-use Rattle.ppd_sem.specs.Runs.{AreUses, IsOver, IsRunnable, IsUse, LeadsOn, size_of}
+use Rattle.ppd_sem.specs.Runs.{AreUses, RunsOver, IsRunnable, IsUse, LeadsOn, size_of}
 use Rattle.ppd_sem.proofs.Kept.{leads_at, size_small}
 
 pub arguments_used : (es : List Expr) (n : ℕ) (k : Kind) → AreUses es n k → All (IsUse es n) (arguments_of k)
@@ -37,7 +37,7 @@ given_few es (a ∷ as') cells answers = first (ask (term es a) cells answers) (
     first (Err pause) rest h = omega arith
 
 -- a call's arguments are fewer than 2 ^ 16
-pub arguments_few : (p : Program) (n s : ℕ) (cells answers : List ℤ) → IsRunnable p → IsOver p n s → length (given p.exprs (arguments_of (kind_of p s)) cells answers) < 2 ^ 16
+pub arguments_few : (p : Program) (n s : ℕ) (cells answers : List ℤ) → IsRunnable p → RunsOver p n s → length (given p.exprs (arguments_of (kind_of p s)) cells answers) < 2 ^ 16
 arguments_few p n s cells answers h over = by (kind_of p s) (leads_at p n s h over)
   where
     by : (k : Kind) → LeadsOn p n k → length (given p.exprs (arguments_of k) cells answers) < 2 ^ 16

@@ -22,6 +22,7 @@ use Rattle.ppd_ast.specs.Term.{Term, const, local, local_at, shared, shared_at, 
 use Rattle.ppd_ast.specs.Uses.{kind_uses}
 use Rattle.ppd_ast.specs.Valid.{HasObject, IsValid, IsValidKind, IsValidStmt, IsValidUse}
 use Rattle.ppd_ast.specs.Lookups.{kind_of_stmt, kind_of}
+use Rattle.ppd_ast.proofs.ValidLaws.{some_and, array_below, scalar_below}
 use Rattle.ppd_sem.specs.declared.asking.Pause.TheVariants.{Wants, Traps}
 use Rattle.ppd_sem.specs.declared.proc.Need.{Need}
 use Rattle.ppd_sem.specs.declared.proc.Need.TheVariants as need
@@ -35,7 +36,7 @@ use Rattle.ppd_sem.specs.Process.{chan_of, cost, entry_of, head_deed, need_by_en
 use Rattle.ppd_sem.specs.Tables.{capacity_of}
 use Rattle.ppd_sem.proofs.Offers.{offer_there}
 use Rattle.ppd_sem.proofs.Kept.{There, there_at}
-use Rattle.ppd_sem.proofs.Validity.{array_in, each_of, scalar_in, some_at}
+use Rattle.ppd_sem.proofs.Validity.{each_of}
 
 -- ---- expressions
 
@@ -56,8 +57,8 @@ shared_below : (ss ls : List Var) (n : ℕ) (t : Term) → CoverCells ss n → N
 shared_below ss ls n (const v) cover h = tt
 shared_below ss ls n (local c) cover h = tt
 shared_below ss ls n (local_at base len i) cover h = shared_below ss ls n i cover h.1
-shared_below ss ls n (shared c) cover h = scalar_in ss n c cover h
-shared_below ss ls n (shared_at base len i) cover h = (array_in ss n base len cover h.0, shared_below ss ls n i cover h.1)
+shared_below ss ls n (shared c) cover h = scalar_below ss n c cover h
+shared_below ss ls n (shared_at base len i) cover h = (array_below ss n base len cover h.0, shared_below ss ls n i cover h.1)
 shared_below ss ls n (neg a) cover h = shared_below ss ls n a cover h
 shared_below ss ls n (not a) cover h = shared_below ss ls n a cover h
 shared_below ss ls n (two op a b) cover h = (shared_below ss ls n a cover h.0, shared_below ss ls n b cover h.1)
@@ -70,7 +71,7 @@ Gives n Q (Ok p) = Q p.0
 Gives n Q (Err (Wants c)) = c < n
 Gives n Q (Err (Traps t)) = ⊤
 
-abbrev free : {A : Type 0} → A → Type 0
+abbrev pub free : {A : Type 0} → A → Type 0
 free x = ⊤
 
 then_gives : {A B : Type 0} (n : ℕ) (Q : A → Type 0) (R : B → Type 0) (a : Asked A) (next : A → List ℤ → Asked B) → Gives n Q a → ((x : A) (left : List ℤ) → Q x → Gives n R (next x left)) → Gives n R (and_then a next)
@@ -140,8 +141,8 @@ WritesBelow n k = ⊤
 writes_below : (ss ls : List Var) (n : ℕ) (k : Kind) → CoverCells ss n → WritesWhole ss ls k → WritesBelow n k
 writes_below ss ls n (kind.Set (target.Local c) e) cover h = tt
 writes_below ss ls n (kind.Set (target.LocalAt base len i) e) cover h = tt
-writes_below ss ls n (kind.Set (target.Shared c) e) cover h = scalar_in ss n c cover h
-writes_below ss ls n (kind.Set (target.SharedAt base len i) e) cover h = array_in ss n base len cover h
+writes_below ss ls n (kind.Set (target.Shared c) e) cover h = scalar_below ss n c cover h
+writes_below ss ls n (kind.Set (target.SharedAt base len i) e) cover h = array_below ss n base len cover h
 writes_below ss ls n (kind.Zero base len) cover h = tt
 writes_below ss ls n (kind.If e first second) cover h = tt
 writes_below ss ls n (kind.While e body) cover h = tt
@@ -174,7 +175,7 @@ kind_at p i (Some s) v e =
     let stmt : There (IsValidStmt p) p.stmts i = there_at (IsValidStmt p) p.stmts i v.stmts (slice_get_within p.stmts i s e) in
     let same : stmt.0 ≡ s = cc (stmt.1) in
     let valid : IsValidStmt p i s = subst (IsValidStmt p i) same stmt.2 in
-    let at = some_at (λ (b : Body). IsValidKind p b i s.kind) (slice_get p.bodies s.body) valid.kind in
+    let at = some_and (λ (b : Body). IsValidKind p b i s.kind) (slice_get p.bodies s.body) valid.kind in
     kind_valid p at.0 i s.kind v.cells at.2
 
 -- ---- what is done

@@ -5,7 +5,7 @@ use Rattle.std.specs.List.{All, count_by, flat_map, range_with_len}
 use Rattle.std.proofs.lemmas.Bool.Decides.{nat_tests}
 use Rattle.std.proofs.lemmas.List.Sums.{sum_by-append}
 use Rattle.std.proofs.lemmas.Option.{slice_get-get_or, slice_get_within}
-use Rattle.ppd_ast.specs.Cells.{AreParams, CoverCells, IsArrayOf, IsScalarOf, NamesWhole, WritesWhole, after, size}
+use Rattle.ppd_ast.specs.Cells.{AreParams, CoverCells, NamesWhole, WritesWhole, after, size}
 use Rattle.ppd_ast.specs.Order.{StandIn, inner, preorder, inner_at}
 use Rattle.ppd_ast.specs.Term.{Term, const, local, local_at, shared, shared_at, neg, not, two, and, or, term}
 use Rattle.ppd_ast.specs.Uses.{kind_uses}
@@ -21,34 +21,22 @@ use Rattle.ppd_ast.specs.declared.program.Stmt.{Stmt}
 use Rattle.ppd_ast.specs.declared.program.Target.TheVariants as target
 use Rattle.ppd_ast.specs.declared.program.Var.{Var}
 use Rattle.ppd_ast.specs.Lookups.{kind_of_stmt, kind_of, top_of_body}
-use Rattle.ppd_sem.specs.Runs.{AreOfFunction, AreUses, IsCallable, IsInner, IsNumbered, IsOver, IsRunnable, IsRunnableBody, IsRunnableStmt, IsUse, LeadsOn, returns, size_if, size_of, stmt_size}
+use Rattle.ppd_ast.proofs.ValidLaws.{valid_body, some_and, array_below, scalar_below}
+use Rattle.ppd_ast.proofs.BareValid.{some_and_is}
+use Rattle.ppd_sem.specs.Runs.{AreOfFunction, AreUses, IsCallable, IsInner, IsNumbered, RunsOver, IsRunnable, IsRunnableBody, IsRunnableStmt, IsUse, LeadsOn, returns, size_if, size_of, stmt_size}
 use Rattle.ppd_sem.specs.Within.{IsWithin}
 use Rattle.ppd_sem.proofs.Kept.{There, there_at}
 
 -- ---- cells
 
-pub scalar_in : (vs : List Var) (n c : ℕ) → CoverCells vs n → IsScalarOf vs c → c < n
-scalar_in vs n c h g =
-    let within : after g.1 ≤ n = subst (λ (v : Var). after v ≤ n) g.3 (h.within g.0 g.1 g.2) in
-    let one : size g.1.len ≡ 1 = ap size g.4.1 in
-    let base : g.1.base ≡ c = g.4.0 in
-    omega arith
-
-pub array_in : (vs : List Var) (n base len : ℕ) → CoverCells vs n → IsArrayOf vs base len → base + len ≤ n
-array_in vs n base len h g =
-    let within : after g.1 ≤ n = subst (λ (v : Var). after v ≤ n) g.3 (h.within g.0 g.1 g.2) in
-    let all : size g.1.len ≡ len = ap size g.4.1 in
-    let first : g.1.base ≡ base = g.4.0 in
-    omega arith
-
 -- an expression that names whole variables names cells of the frame
 names_within : (shareds locals : List Var) (m n : ℕ) (t : Term) → m < 2 ^ 16 → CoverCells shareds m → CoverCells locals n → NamesWhole shareds locals t → IsWithin n t
 names_within ss ls m n (const v) lt hs hl h = tt
-names_within ss ls m n (local c) lt hs hl h = scalar_in ls n c hl h
-names_within ss ls m n (local_at base len i) lt hs hl h = (array_in ls n base len hl h.0, names_within ss ls m n i lt hs hl h.1)
+names_within ss ls m n (local c) lt hs hl h = scalar_below ls n c hl h
+names_within ss ls m n (local_at base len i) lt hs hl h = (array_below ls n base len hl h.0, names_within ss ls m n i lt hs hl h.1)
 names_within ss ls m n (shared c) lt hs hl h = tt
 names_within ss ls m n (shared_at base len i) lt hs hl h =
-    let most : base + len ≤ m = array_in ss m base len hs h.0 in
+    let most : base + len ≤ m = array_below ss m base len hs h.0 in
     (omega arith, names_within ss ls m n i lt hs hl h.1)
 names_within ss ls m n (neg a) lt hs hl h = names_within ss ls m n a lt hs hl h
 names_within ss ls m n (not a) lt hs hl h = names_within ss ls m n a lt hs hl h
@@ -58,10 +46,6 @@ names_within ss ls m n (or a b) lt hs hl h = (names_within ss ls m n a lt hs hl 
 
 -- ---- lists
 
-pub some_at : {X : Type 0} (Q : X → Type 0) (o : Option X) → IsSomeAnd o Q → (x : X) × (o ≡ Some x) × Q x
-some_at Q None h = absurd h
-some_at Q (Some x) h = (x, refl, h)
-
 pub get_at : {X : Type 0} (Q : X → Type 0) (xs : List X) (m : ℕ) (x : X) → All Q xs → slice_get xs m ≡ Some x → Q x
 get_at Q [] m x h e = absurd cc
 get_at Q (y ∷ ys) zero x h e = let is : y ≡ x = cc in subst Q is (h 0 y (omega arith))
@@ -70,12 +54,12 @@ get_at Q (y ∷ ys) (suc m) x h e = get_at Q ys m x (λ k d lt. h (suc k) d (ome
 pub each_of : {X : Type 0} (Q R : X → Type 0) (xs : List X) → ((x : X) → Q x → R x) → All Q xs → All R xs
 each_of Q R xs f h = λ k d lt. f (get_or xs k d) (h k d lt)
 
-front : {X : Type 0} (Q : X → Type 0) (xs ys : List X) → All Q (xs ++ ys) → All Q xs
+pub front : {X : Type 0} (Q : X → Type 0) (xs ys : List X) → All Q (xs ++ ys) → All Q xs
 front Q [] ys h k d lt = absurd (omega arith)
 front Q (x ∷ xs) ys h zero d lt = h 0 d (omega arith)
 front Q (x ∷ xs) ys h (suc k) d lt = front Q xs ys (λ i e b. h (suc i) e (omega arith)) k d (omega arith)
 
-tail : {X : Type 0} (Q : X → Type 0) (xs ys : List X) → All Q (xs ++ ys) → All Q ys
+pub tail : {X : Type 0} (Q : X → Type 0) (xs ys : List X) → All Q (xs ++ ys) → All Q ys
 tail Q [] ys h = h
 tail Q (x ∷ xs) ys h = tail Q xs ys (λ i e b. h (suc i) e (omega arith))
 
@@ -136,16 +120,16 @@ found (y ∷ ys) (suc m) x e =
     let all : many x (y ∷ ys) ≡ cond (nat_eq x y) 1 0 + many x ys = many-cons x y ys in
     omega arith
 
-last_cons : (s t : ℕ) (ss : List ℕ) → last_of (s ∷ t ∷ ss) ≡ last_of (t ∷ ss)
+pub last_cons : (s t : ℕ) (ss : List ℕ) → last_of (s ∷ t ∷ ss) ≡ last_of (t ∷ ss)
 last_cons s t ss =
     let e : length (s ∷ t ∷ ss) - 1 ≡ suc (length (t ∷ ss) - 1) = omega arith in
     ap (λ m. slice_get (s ∷ t ∷ ss) m) e
 
 -- ---- statements
 
-over_of : (p : Program) (parent : Option ℕ) (body n i : ℕ) → size_of p body ≡ n → IsSomeAnd (slice_get p.stmts i) (λ s. (s.parent ≡ parent) × (s.body ≡ body)) → IsOver p n i
+over_of : (p : Program) (parent : Option ℕ) (body n i : ℕ) → size_of p body ≡ n → IsSomeAnd (slice_get p.stmts i) (λ s. (s.parent ≡ parent) × (s.body ≡ body)) → RunsOver p n i
 over_of p parent body n i size h =
-    let at = some_at (λ (s : Stmt). (s.parent ≡ parent) × (s.body ≡ body)) (slice_get p.stmts i) h in
+    let at = some_and (λ (s : Stmt). (s.parent ≡ parent) × (s.body ≡ body)) (slice_get p.stmts i) h in
     record {
       there = slice_get_within p.stmts i at.0 at.1;
       size = ap (stmt_size p) at.1 ∙ ap (size_of p) at.2.1 ∙ size;
@@ -170,7 +154,7 @@ returning p i s v e r =
     let valid : IsValidStmt p i s = subst (IsValidStmt p i) same stmt.2 in
     let kind : kind_of p i ≡ s.kind = ap kind_of_stmt e in
     let rs : returns s.kind ≡ true = sym (ap returns kind) ∙ r in
-    let at = some_at (λ (b : Body). IsValidKind p b i s.kind) (slice_get p.bodies s.body) valid.kind in
+    let at = some_and (λ (b : Body). IsValidKind p b i s.kind) (slice_get p.bodies s.body) valid.kind in
     let end = ends at.0 i s.kind at.2.ending rs in
     let body : There (IsValidBody p) p.bodies s.body = there_at (IsValidBody p) p.bodies s.body v.bodies (slice_get_within p.bodies s.body at.0 at.1) in
     let one : body.0 ≡ at.0 = cc (body.1, at.1) in
@@ -181,13 +165,13 @@ parentless : (p : Program) (i : ℕ) (s : Stmt) → IsValid p → slice_get p.st
 parentless p i s v e r =
     let found = returning p i s v e r in
     let stands = get_at (λ (j : ℕ). IsSomeAnd (slice_get p.stmts j) (λ x. (x.parent ≡ None) × (x.body ≡ s.body))) found.0.top (length found.0.top - 1) i found.1.valid.top found.1.last in
-    let at = some_at (λ (x : Stmt). (x.parent ≡ None) × (x.body ≡ s.body)) (slice_get p.stmts i) stands in
+    let at = some_and (λ (x : Stmt). (x.parent ≡ None) × (x.body ≡ s.body)) (slice_get p.stmts i) stands in
     let same : at.0 ≡ s = cc (at.1) in
     subst (λ (x : Stmt). x.parent ≡ None) same at.2.0
 
 inner_of : (p : Program) (k body n i : ℕ) → IsValid p → size_of p body ≡ n → IsSomeAnd (slice_get p.stmts i) (λ s. (s.parent ≡ Some k) × (s.body ≡ body)) → IsInner p n i
 inner_of p k body n i v size h =
-    let at = some_at (λ (s : Stmt). (s.parent ≡ Some k) × (s.body ≡ body)) (slice_get p.stmts i) h in
+    let at = some_and (λ (s : Stmt). (s.parent ≡ Some k) × (s.body ≡ body)) (slice_get p.stmts i) h in
     record { over = over_of p (Some k) body n i size h; stays = not_so (returns (kind_of p i)) refl at.0 at.1 at.2.0 }
   where
     not_so : (b : Bool) → returns (kind_of p i) ≡ b → (s : Stmt) → slice_get p.stmts i ≡ Some s → s.parent ≡ Some k → b ≡ false
@@ -196,7 +180,7 @@ inner_of p k body n i v size h =
 
 process_of : (p : Program) (body n i : ℕ) (b : Body) → IsValid p → size_of p body ≡ n → slice_get p.bodies body ≡ Some b → b.process ≡ true → IsSomeAnd (slice_get p.stmts i) (λ s. (s.parent ≡ None) × (s.body ≡ body)) → IsInner p n i
 process_of p body n i b v size g pr h =
-    let at = some_at (λ (s : Stmt). (s.parent ≡ None) × (s.body ≡ body)) (slice_get p.stmts i) h in
+    let at = some_and (λ (s : Stmt). (s.parent ≡ None) × (s.body ≡ body)) (slice_get p.stmts i) h in
     record { over = over_of p None body n i size h; stays = not_so (returns (kind_of p i)) refl at.0 at.1 at.2.1 }
   where
     not_so : (t : Bool) → returns (kind_of p i) ≡ t → (s : Stmt) → slice_get p.stmts i ≡ Some s → s.body ≡ body → t ≡ false
@@ -211,11 +195,11 @@ process_of p body n i b v size g pr h =
 
 -- ---- a function's statements
 
-of_function : (p : Program) (n : ℕ) (xs : List ℕ) → All (IsOver p n) xs → All (λ i. returns (kind_of p i) ≡ true → last_of xs ≡ Some i) xs → ((x : ℕ) → many x xs ≤ 1) → IsSomeAnd (last_of xs) (λ i. returns (kind_of p i) ≡ true) → AreOfFunction p n xs
+of_function : (p : Program) (n : ℕ) (xs : List ℕ) → All (RunsOver p n) xs → All (λ i. returns (kind_of p i) ≡ true → last_of xs ≡ Some i) xs → ((x : ℕ) → many x xs ≤ 1) → IsSomeAnd (last_of xs) (λ i. returns (kind_of p i) ≡ true) → AreOfFunction p n xs
 of_function p n [] over rets once last = absurd last
 of_function p n (s ∷ []) over rets once last = (over 0 s (omega arith), last)
 of_function p n (s ∷ t ∷ ss) over rets once last =
-    let later : All (IsOver p n) (t ∷ ss) = λ k d b. over (suc k) d (omega arith) in
+    let later : All (RunsOver p n) (t ∷ ss) = λ k d b. over (suc k) d (omega arith) in
     let fewer : (x : ℕ) → many x (t ∷ ss) ≤ 1 = λ x. fewer_of x (once x) in
     let ends : IsSomeAnd (last_of (t ∷ ss)) (λ i. returns (kind_of p i) ≡ true) = subst (λ (o : Option ℕ). IsSomeAnd o (λ i. returns (kind_of p i) ≡ true)) (last_cons s t ss) last in
     let others : All (λ i. returns (kind_of p i) ≡ true → last_of (t ∷ ss) ≡ Some i) (t ∷ ss) = λ k d b r. sym (last_cons s t ss) ∙ rets (suc k) d (omega arith) r in
@@ -250,9 +234,6 @@ ending_returns b i (kind.Recv c into) e h g = absurd h
 ending_returns b i (kind.Print e') e h g = absurd h
 ending_returns b i (kind.Assert e') e h g = absurd h
 
-some_and : {X : Type 0} (Q : X → Type 0) (o : Option X) (x : X) → o ≡ Some x → Q x → IsSomeAnd o Q
-some_and Q o x e h = subst (λ (y : Option _). IsSomeAnd y Q) (sym e) h
-
 -- body j, a function, as its statements stand in it
 pub function_top : (p : Program) (j : ℕ) (b : Body) → IsValid p → slice_get p.bodies j ≡ Some b → b.process ≡ false → IsValidBody p j b → AreOfFunction p b.cells b.top
 function_top p j b v e pr h = of_function p b.cells b.top over rets once last
@@ -260,12 +241,12 @@ function_top p j b v e pr h = of_function p b.cells b.top over rets once last
     size : size_of p j ≡ b.cells
     size = ap size_if e
 
-    over : All (IsOver p b.cells) b.top
-    over = each_of (λ i. IsSomeAnd (slice_get p.stmts i) (λ s. (s.parent ≡ None) × (s.body ≡ j))) (IsOver p b.cells) b.top (λ i g. over_of p None j b.cells i size g) h.top
+    over : All (RunsOver p b.cells) b.top
+    over = each_of (λ i. IsSomeAnd (slice_get p.stmts i) (λ s. (s.parent ≡ None) × (s.body ≡ j))) (RunsOver p b.cells) b.top (λ i g. over_of p None j b.cells i size g) h.top
 
     ret : (i : ℕ) → IsSomeAnd (slice_get p.stmts i) (λ s. (s.parent ≡ None) × (s.body ≡ j)) → returns (kind_of p i) ≡ true → last_of b.top ≡ Some i
     ret i g r =
-        let at = some_at (λ (s : Stmt). (s.parent ≡ None) × (s.body ≡ j)) (slice_get p.stmts i) g in
+        let at = some_and (λ (s : Stmt). (s.parent ≡ None) × (s.body ≡ j)) (slice_get p.stmts i) g in
         let found = returning p i at.0 v at.1 r in
         let there : slice_get p.bodies j ≡ Some found.0 = ap (λ m. slice_get p.bodies m) (sym at.2.1) ∙ found.1.is in
         let one : found.0 ≡ b = cc in
@@ -283,20 +264,20 @@ function_top p j b v e pr h = of_function p b.cells b.top over rets once last
 
     last : IsSomeAnd (last_of b.top) (λ i. returns (kind_of p i) ≡ true)
     last =
-        let at = some_at (λ i. IsSomeAnd (slice_get p.stmts i) (λ s. IsEnding s.kind)) (last_of b.top) h.ending in
-        let stmt = some_at (λ (s : Stmt). IsEnding s.kind) (slice_get p.stmts at.0) at.2 in
+        let at = some_and (λ i. IsSomeAnd (slice_get p.stmts i) (λ s. IsEnding s.kind)) (last_of b.top) h.ending in
+        let stmt = some_and (λ (s : Stmt). IsEnding s.kind) (slice_get p.stmts at.0) at.2 in
         let stands = get_at (λ (i : ℕ). IsSomeAnd (slice_get p.stmts i) (λ s. (s.parent ≡ None) × (s.body ≡ j))) b.top (length b.top - 1) at.0 h.top at.1 in
-        some_and (λ i. returns (kind_of p i) ≡ true) (last_of b.top) at.0 at.1 (last_is at.0 stmt.0 stmt.1 stmt.2 stands)
+        some_and_is (λ i. returns (kind_of p i) ≡ true) (last_of b.top) at.0 at.1 (last_is at.0 stmt.0 stmt.1 stmt.2 stands)
       where
         last_is : (i : ℕ) (s : Stmt) → slice_get p.stmts i ≡ Some s → IsEnding s.kind → IsSomeAnd (slice_get p.stmts i) (λ s. (s.parent ≡ None) × (s.body ≡ j)) → returns (kind_of p i) ≡ true
         last_is i s g en st =
-            let at = some_at (λ (x : Stmt). (x.parent ≡ None) × (x.body ≡ j)) (slice_get p.stmts i) st in
+            let at = some_and (λ (x : Stmt). (x.parent ≡ None) × (x.body ≡ j)) (slice_get p.stmts i) st in
             let same : at.0 ≡ s = cc (at.1) in
             let body : s.body ≡ j = subst (λ (x : Stmt). x.body ≡ j) same at.2.1 in
             let stmt : There (IsValidStmt p) p.stmts i = there_at (IsValidStmt p) p.stmts i v.stmts (slice_get_within p.stmts i s g) in
             let one : stmt.0 ≡ s = cc (stmt.1) in
             let valid : IsValidStmt p i s = subst (IsValidStmt p i) one stmt.2 in
-            let kinds = some_at (λ (x : Body). IsValidKind p x i s.kind) (slice_get p.bodies s.body) valid.kind in
+            let kinds = some_and (λ (x : Body). IsValidKind p x i s.kind) (slice_get p.bodies s.body) valid.kind in
             let there : slice_get p.bodies j ≡ Some kinds.0 = ap (λ m. slice_get p.bodies m) (sym body) ∙ kinds.1 in
             let mine : kinds.0 ≡ b = cc in
             let end : EndsBody b i s.kind = subst (λ (x : Body). EndsBody x i s.kind) mine kinds.2.ending in
@@ -310,13 +291,13 @@ use_of p b e lt ss ls h = record { there = h.there; within = names_within p.shar
 uses_of : (p : Program) (b : Body) (k : Kind) → length p.starts < 2 ^ 16 → b.cells < 2 ^ 16 → CoverCells p.shared (length p.starts) → CoverCells b.locals b.cells → All (IsValidUse p b) (kind_uses k) → WritesWhole p.shared b.locals k → AreUses p.exprs b.cells k
 uses_of p b (kind.Set (target.Local c) e) lt small ss ls u w = (tt, use_of p b e lt ss ls (u 0 e (omega arith)))
 uses_of p b (kind.Set (target.LocalAt base len i) e) lt small ss ls u w =
-    let most : base + len ≤ b.cells = array_in b.locals b.cells base len ls w in
+    let most : base + len ≤ b.cells = array_below b.locals b.cells base len ls w in
     ((use_of p b i lt ss ls (u 0 e (omega arith)), omega arith), use_of p b e lt ss ls (u 1 e (omega arith)))
 uses_of p b (kind.Set (target.Shared c) e) lt small ss ls u w = (tt, use_of p b e lt ss ls (u 0 e (omega arith)))
 uses_of p b (kind.Set (target.SharedAt base len i) e) lt small ss ls u w =
-    let most : base + len ≤ length p.starts = array_in p.shared (length p.starts) base len ss w in
+    let most : base + len ≤ length p.starts = array_below p.shared (length p.starts) base len ss w in
     ((use_of p b i lt ss ls (u 0 e (omega arith)), omega arith), use_of p b e lt ss ls (u 1 e (omega arith)))
-uses_of p b (kind.Zero base len) lt small ss ls u w = let most : base + len ≤ b.cells = array_in b.locals b.cells base len ls w in omega arith
+uses_of p b (kind.Zero base len) lt small ss ls u w = let most : base + len ≤ b.cells = array_below b.locals b.cells base len ls w in omega arith
 uses_of p b (kind.If e first second) lt small ss ls u w = use_of p b e lt ss ls (u 0 e (omega arith))
 uses_of p b (kind.While e body) lt small ss ls u w = use_of p b e lt ss ls (u 0 e (omega arith))
 uses_of p b (kind.Call f arguments into) lt small ss ls u w = each_of (IsValidUse p b) (IsUse p.exprs b.cells) arguments (λ e h. use_of p b e lt ss ls h) u
@@ -333,22 +314,15 @@ uses_of p b kind.End lt small ss ls u w = tt
 params_fit : (locals : List Var) (params n : ℕ) → AreParams locals params → CoverCells locals n → params ≤ n
 params_fit locals zero n h ls = omega arith
 params_fit locals (suc k) n h ls =
-    let at = some_at (λ (v : Var). (v.base ≡ k) × (v.len ≡ None)) (slice_get locals k) (h k (omega arith)) in
+    let at = some_and (λ (v : Var). (v.base ≡ k) × (v.len ≡ None)) (slice_get locals k) (h k (omega arith)) in
     let within : after at.0 ≤ n = get_at (λ (v : Var). after v ≤ n) locals k at.0 ls.within at.1 in
     let one : size at.0.len ≡ 1 = ap size at.2.1 in
     let base : at.0.base ≡ k = at.2.0 in
     omega arith
 
--- the body with this number
-pub body_at : (p : Program) (j : ℕ) (b : Body) → IsValid p → slice_get p.bodies j ≡ Some b → IsValidBody p j b
-body_at p j b v e =
-    let body : There (IsValidBody p) p.bodies j = there_at (IsValidBody p) p.bodies j v.bodies (slice_get_within p.bodies j b e) in
-    let one : body.0 ≡ b = cc (body.1) in
-    subst (IsValidBody p j) one body.2
-
 callable : (p : Program) (f count : ℕ) (g : Body) → IsValid p → f < p.functions → slice_get p.bodies f ≡ Some g → count ≡ g.params → IsCallable p f count
 callable p f count g v lt e n =
-    let valid : IsValidBody p f g = body_at p f g v e in
+    let valid : IsValidBody p f g = valid_body p f g v e in
     let size : size_of p f ≡ g.cells = ap size_if e in
     let fit : g.params ≤ g.cells = params_fit g.locals g.params g.cells valid.params valid.cells in
     let test : nat_le p.functions f ≡ false = grind (arith, nat_tests) in
@@ -390,8 +364,8 @@ valid-runnable p v = record {
 
     stmt : (k : ℕ) (s : Stmt) → IsValidStmt p k s → IsRunnableStmt p s
     stmt k s h =
-        let at = some_at (λ (b : Body). IsValidKind p b k s.kind) (slice_get p.bodies s.body) h.kind in
-        let valid : IsValidBody p s.body at.0 = body_at p s.body at.0 v at.1 in
+        let at = some_and (λ (b : Body). IsValidKind p b k s.kind) (slice_get p.bodies s.body) h.kind in
+        let valid : IsValidBody p s.body at.0 = valid_body p s.body at.0 v at.1 in
         let size : size_of p s.body ≡ at.0.cells = ap size_if at.1 in
         let frame : at.0.cells ≤ 256 = valid.frame in
         let uses : AreUses p.exprs at.0.cells s.kind = uses_of p at.0 s.kind small (omega arith) v.cells valid.cells at.2.uses at.2.writes in

@@ -67,19 +67,19 @@ stmt_size program None = 0
 stmt_size program (Some s) = size_of program s.body
 
 -- a statement that runs over frames of n cells
-pub record IsOver (program : Program) (n : ℕ) (stmt : ℕ) : Type 0 where
+pub record RunsOver (program : Program) (n : ℕ) (stmt : ℕ) : Type 0 where
   pub there : stmt < length program.stmts
   pub size : stmt_size program (slice_get program.stmts stmt) ≡ n
 
 -- statements over frames of n cells, none of which returns
 pub record IsInner (program : Program) (n : ℕ) (stmt : ℕ) : Type 0 where
-  pub over : IsOver program n stmt
+  pub over : RunsOver program n stmt
   pub stays : returns (kind_of program stmt) ≡ false
 
 -- a function's outermost statements, over frames of n cells: the last one returns, and no other
 abbrev pub AreOfFunction : Program → ℕ → List ℕ → Type 0
 AreOfFunction program n [] = ⊥
-AreOfFunction program n (s ∷ []) = IsOver program n s × (returns (kind_of program s) ≡ true)
+AreOfFunction program n (s ∷ []) = RunsOver program n s × (returns (kind_of program s) ≡ true)
 AreOfFunction program n (s ∷ t ∷ ss) = IsInner program n s × AreOfFunction program n (t ∷ ss)
 
 -- a function that is there, takes so many arguments, and whose statements end with its return
@@ -117,6 +117,10 @@ pub record IsNumbered (plan : Plan) : Type 0 where
 
 -- ---- a process state
 
+-- the bodies of the frames
+abbrev pub bodies_in : List Frame → List ℕ
+bodies_in frames = map (λ f. f.body) frames
+
 abbrev pub sizes : List Frame → List ℕ
 sizes frames = map (λ f. length f.cells) frames
 
@@ -130,7 +134,7 @@ abbrev pub AreOver : Program → List ℕ → List Todo → Type 0
 AreOver program ns [] = ⊤
 AreOver program [] (t ∷ ts) = ⊥
 AreOver program (n ∷ ns) (t ∷ ts) =
-    IsOver program n t.stmt × AreOver program (left_by (returns (kind_of program t.stmt)) n ns) ts
+    RunsOver program n t.stmt × AreOver program (left_by (returns (kind_of program t.stmt)) n ns) ts
 
 -- a process state of the program: what is to do runs over its frames, each step cost at least 1, and
 -- the budget is not overspent
@@ -146,4 +150,4 @@ pub record IsHead (program : Program) (s : Proc) (t : Todo) : Type 0 where
   pub runnable : IsRunnable program
   pub first : slice_get s.todo 0 ≡ Some t
   pub cells : length (top_cells s.frames) < 2 ^ 16
-  pub over : IsOver program (length (top_cells s.frames)) t.stmt
+  pub over : RunsOver program (length (top_cells s.frames)) t.stmt

@@ -9,7 +9,7 @@ ghost use Rattle.ppd_sem.specs.Runs.{IsHead, IsNumbered, IsRunnable, IsRunning};
 use crate::asking::ask;
 use crate::effect::Effect;
 use crate::event::{Access, Event, Spot};
-use crate::feeding::{argument_values, value_in};
+use crate::feeding::argument_values;
 use crate::looking::{body_of, head, head_effect, look, top_cells};
 use crate::proc::{Answer, Need, Proc, Todo};
 use crate::reading::push_kind_reads;
@@ -142,7 +142,7 @@ fn effect_writes(
             let values = argument_values(head.program, head.todo, head.proc)?;
             parameters(alloc, frame + 1, values.as_slice())
         }
-        Effect::Receive(_, into) => one(alloc, local_write(frame, into, value_in(answer))),
+        Effect::Receive(_, into) => one(alloc, local_write(frame, into, answer.value_given())),
         // a return has no write: its value is written by the caller's receiving local
         Effect::Back(_)
         | Effect::Branch(_)

@@ -3,7 +3,7 @@ ghost use Rattle.ppd_ast.specs.declared.status.Status.TheVariants as status;
 ghost use Rattle.ppd_ast.specs.Lookups.{kind_of};
 ghost use Rattle.ppd_sem.specs.Effects.{arguments_of, given, head_deed_of};
 ghost use Rattle.ppd_sem.specs.Feeding.{finished, hold_at, invoked};
-ghost use Rattle.ppd_sem.specs.Process.{act, act_by_asked, act_by_deed, act_by_need, charged, cost as cost_of, head_deed, need_of, todos, top_cells as top_cells_of, value_of};
+ghost use Rattle.ppd_sem.specs.Process.{act, act_by_asked, act_by_deed, act_by_need, charged, cost as cost_of, head_deed, need_of, todos, top_cells as top_cells_of};
 ghost use Rattle.ppd_sem.specs.Runs.{IsHead, IsNumbered, IsRunnable, IsRunning};
 
 use crate::asking::Pause;
@@ -16,16 +16,6 @@ use crate::proc::{Answer, Need, Proc, Todo};
 use crate::tables::{arguments_in, body_in, branch_in, kind_at, top_at};
 use crate::todos::{put_before, put_in_place};
 use ppd_ast::{Memory, Nums, Plan, Program, Status};
-
-/// The value that a step is given, and 0 without one.
-pub(crate) fn value_in(answer: &Answer) -> i64
-    ensures { result ≡ value_of answer.now }
-{
-    match *answer {
-        Answer::Value(value) => value,
-        Answer::Go => 0,
-    }
-}
 
 /// Takes the head statement off, with its answers.
 pub(crate) fn finish(proc: &mut Proc)
@@ -138,7 +128,7 @@ fn do_effect(
         Effect::SetLocal(cell, value) => write_top(&mut proc.frames, cell, value),
         Effect::Clear(base, len) => clear_top(&mut proc.frames, base, len),
         Effect::Back(value) => return_from(program, &mut proc.frames, value),
-        Effect::Receive(_, into) => write_top(&mut proc.frames, into, value_in(answer)),
+        Effect::Receive(_, into) => write_top(&mut proc.frames, into, answer.value_given()),
         Effect::Finish => proc.status = Some(Status::Ended),
         _ => {}
     }
@@ -151,7 +141,7 @@ fn hold(proc: &mut Proc, pause: Pause, answer: &Answer) -> Result<(), Memory>
     ensures err { OnErr result (proc.new ≡ proc.old) }
 {
     match pause {
-        Pause::Wants(_) => proc.answers.push(value_in(answer))?,
+        Pause::Wants(_) => proc.answers.push(answer.value_given())?,
         Pause::Traps(trap) => proc.status = Some(Status::Trap(trap)),
     }
     Ok(())

@@ -45,8 +45,8 @@ fn pad(values: &mut Nums, size: u16) -> Result<(), Memory>
     Ok(())
 }
 
-/// The size of a body's frame, and 0 past the table.
-fn size_at(program: &Program, body: u16) -> u16
+/// The size in cells of the frame of the body with this number, from 0, and 0 past the table.
+pub fn size_at(program: &Program, body: u16) -> u16
     ensures { result ≡ size_of program.now body }
 {
     match program.bodies.as_slice().get(body as usize) {

@@ -30,12 +30,13 @@ pub use describing::describe;
 pub use effect::Effect;
 pub use event::{Access, Event, Spot};
 pub use feeding::feed;
+pub use frame::size_at;
 pub use laws::{
     arguments_come_first, arithmetic_is_exact, divides_toward_zero, index_comes_first,
     needs_are_there, offers_are_completed, reads_are_answers, steps_end, stops_early,
     valid_can_run, valid_is_numbered,
 };
-pub use looking::look;
+pub use looking::{capacity_of, look};
 pub use passing::{call_values, local_cells, next_effect, next_stmt, returned_value};
 pub use ppd_ast::{Status, SyncKind, Trap};
 pub use proc::{Answer, Frame, Need, Proc, Todo};

@@ -136,8 +136,8 @@ fn ending_need(plan: &Plan, body: u16) -> Need
     }
 }
 
-/// The capacity of a channel, and 0 where there is none.
-fn capacity(program: &Program, chan: u8) -> u8
+/// How many values the channel with this number, from 0, holds at most, and 0 past the table.
+pub fn capacity_of(program: &Program, chan: u8) -> u8
     ensures { result ≡ capacity_of program.now chan }
 {
     match program.chans.as_slice().get(chan as usize) {
@@ -181,7 +181,7 @@ fn effect_need(program: &Program, plan: &Plan, todo: Todo, proc: &Proc, effect: 
             unit: find_unit(plan, after),
         },
         Effect::Send(chan, value) => {
-            send_need(plan, todo.stmt, capacity(program, chan), chan, value)
+            send_need(plan, todo.stmt, capacity_of(program, chan), chan, value)
         }
         Effect::Receive(chan, _) => Need::Recv {
             chan,

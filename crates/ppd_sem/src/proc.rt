@@ -1,3 +1,6 @@
+ghost use Rattle.std.specs.Prelude.{◌≡◌};
+ghost use Rattle.ppd_sem.specs.Process.{value_of};
+
 use crate::stack::Stack;
 use ppd_ast::{Nums, Status, Trap};
 
@@ -81,6 +84,18 @@ pub enum Answer {
     Value(i64),
     /// Leave to take a step that needs no value.
     Go,
+}
+
+impl Answer {
+    /// The value that the step is given, and 0 without one.
+    pub fn value_given(self) -> i64
+        ensures { result ≡ value_of self }
+    {
+        match self {
+            Answer::Value(value) => value,
+            Answer::Go => 0,
+        }
+    }
 }
 
 /// An activation: its body, its local cells and the `Call` statement that began it, if any.

@@ -13,24 +13,22 @@ use Rattle.ppd_entry.specs.declared.entry.Logs.{Logs}
 use Rattle.ppd_entry.specs.IntervalLogs.{Indexed, indexed, interval_log, log_in}
 use Rattle.ppd_model.specs.Bounds.{AreEach}
 use Rattle.ppd_model.specs.Extents.{Extent, IsSameInterval, extents}
-use Rattle.ppd_model.specs.Intervals.{Span, Split, items_of, splits, splits_from}
+use Rattle.ppd_model.specs.Intervals.{Span, Split, items_of, splits}
 use Rattle.ppd_model.specs.declared.state.Logging.{Logging}
 use Rattle.ppd_model.specs.Logs.{closed_log, closed_logs, loggings, logs_from}
 use Rattle.ppd_model.specs.Schedule.{IsWhole}
 use Rattle.ppd_model.specs.declared.graph.Race.{Race}
 use Rattle.ppd_model.specs.Races.{races}
-use Rattle.ppd_model.specs.declared.tracing.Story.{Story}
-use Rattle.ppd_model.specs.declared.tracing.Taken.{Taken}
 use Rattle.ppd_model.specs.Story.{Moment, steps_of, story, told}
 use Rattle.ppd_model.proofs.LoggedSpans.{intervals_of_logs}
 use Rattle.ppd_race.specs.Races.{races_of_logs}
 use Rattle.ppd_race.proofs.OfRuns.{of_runs}
-use Rattle.ppd_replay.proofs.Theorem.{replays_give_intervals}
-use Rattle.ppd_replay.specs.Laws.{modelled_in, modelled_of, replay_of}
+use Rattle.ppd_past.proofs.Theorem.{replays_give_intervals}
+use Rattle.ppd_past.specs.Laws.{modelled_in, modelled_of, replay_of}
 use Rattle.ppd_flow.specs.Answers.{answer_if}
 use Rattle.ppd_flow.specs.Runs.{edges_or_none}
 use Rattle.ppd_model.specs.declared.flow.FlowEdge.{FlowEdge}
-use Rattle.ppd_own_loops.proofs.OwnParts.{own_parts}
+use Rattle.ppd_flow.proofs.OwnParts.{own_parts}
 use Rattle.ppd_search.specs.Found.{edges_if, edges_replays, found_edges}
 use Rattle.ppd_search.specs.Seen.{Seen, items_at, seen_of}
 use Rattle.ppd_search.specs.Shared.{found_last, last_replays, seen_at}
@@ -41,6 +39,7 @@ use Rattle.ppd_past.proofs.Runs.{replays_are_seen}
 use Rattle.ppd_past.specs.ByReplays.{failure_or, first_failed}
 use Rattle.ppd_past.specs.SeenBy.{failed_at, failure_of, seen_by}
 use Rattle.ppd_model.specs.FlowbackEdges.{edges, edges_in}
+use Rattle.ppd_model.proofs.Items.{splits_length}
 use Rattle.ppd_walk.specs.SharedCells.{answer_of}
 use Rattle.ppd_session.specs.Known.{Flow, Interval, Known, Last, Told, flow_by, flow_told, of_processes, known_of_logs, known_of_run, last_by, last_told, of_cells, of_extent, of_span, of_split, seens, told_by, told_of_entries, told_of_split, unless_failed, unless_raced}
 
@@ -64,10 +63,6 @@ same_shown f g (x ∷ xs) (y ∷ ys) e h =
     let n : length xs ≡ length ys = cc in
     let head : f x ≡ g y = h 0 x y refl refl in
     let tail = same_shown f g xs ys n (λ p z w k l. h (suc p) z w k l) in cc
-
-length-splits : (program : Program) (plan : Plan) (budget : ℕ) (s : Story) (q : ℕ) (steps : List (List Taken)) → length (splits_from program plan budget s q steps) ≡ length steps
-length-splits program plan budget s q [] = refl
-length-splits program plan budget s q (x ∷ xs) = ap suc (length-splits program plan budget s (q + 1) xs)
 
 length-logs : (program : Program) (plan : Plan) (budget q : ℕ) (moments : List (List Moment)) → length (logs_from program plan budget q moments) ≡ length moments
 length-logs program plan budget q [] = refl
@@ -121,7 +116,7 @@ module _ (program : Program) (policy : Policy) (budget : ℕ) (h : List ℕ) (va
 
   same_count : length (splits program plan budget (story program plan budget h)) ≡ length (loggings program plan budget h)
   same_count =
-      length-splits program plan budget (story program plan budget h) 0 (story program plan budget h).steps
+      splits_length program plan budget (story program plan budget h) 0 (story program plan budget h).steps
       ∙ (length-map (told program plan budget h).moments steps_of ∙ sym (length-logs program plan budget 0 (told program plan budget h).moments))
 
   same_intervals_all : map of_split (splits program plan budget (story program plan budget h)) ≡ map shown_log (loggings program plan budget h)

@@ -6,6 +6,7 @@ use Rattle.std.proofs.lemmas.List.{length-map}
 use Rattle.std.proofs.lemmas.Option.{same_Some}
 use Rattle.ppd_ast.specs.declared.plan.Plan.{Plan}
 use Rattle.ppd_ast.specs.declared.program.Program.{Program}
+use Rattle.ppd_ast.proofs.Walks.{got_none}
 use Rattle.ppd_emul.specs.declared.trace.BlockTrace.{BlockTrace}
 use Rattle.ppd_emul.specs.declared.trace.EmulError.{EmulError}
 use Rattle.ppd_emul.specs.declared.trace.EmulError.TheVariants.{Diverged, Memory}
@@ -23,7 +24,7 @@ use Rattle.ppd_past.specs.declared.flow_error.FlowError.TheVariants as flow_erro
 use Rattle.ppd_past.specs.declared.past.Past.{Past}
 use Rattle.ppd_past.specs.ByReplays.{AreReplayed, IsFoundBy, failure_or, first_failed_in}
 use Rattle.ppd_past.specs.SeenBy.{failed_in, failure_by, failure_of, items_by, items_in}
-use Rattle.ppd_replay.specs.Laws.{replay_of}
+use Rattle.ppd_past.specs.Laws.{replay_of}
 use Rattle.ppd_session.specs.Known.{Known, Told, told_by, told_of_entries}
 use Rattle.ppd_session.specs.Sessions.{IsCause, IsWhy, error_of, known_by}
 use Rattle.ppd_session.specs.Texts.{failure_at, failure_in, item_failure, items_text, told_at, told_failure, told_text}
@@ -35,12 +36,6 @@ slice_get-map f [] zero = refl
 slice_get-map f [] (suc k) = refl
 slice_get-map f (x ∷ xs) zero = refl
 slice_get-map f (x ∷ xs) (suc k) = slice_get-map f xs k
-
-past_end : {A : Type 0} (xs : List A) (k : ℕ) → length xs ≤ k → slice_get xs k ≡ None
-past_end [] zero le = refl
-past_end [] (suc k) le = refl
-past_end (x ∷ xs) zero le = absurd (omega arith)
-past_end (x ∷ xs) (suc k) le = past_end xs k (omega arith)
 
 module _ (program : Program) (plan : Plan) (budget : ℕ) where
   abbrev answer_of : Indexed → Result BlockTrace EmulError
@@ -168,7 +163,7 @@ module _ (past : Past) (q k : ℕ) where
       let count = each_count past.plan.now past.index.now.tables past.logs.now.lists q h in
       let long : length (told_of_entries past.program.now past.plan.now past.budget entries) ≤ k =
       omega (arith, length-map (indexed past.plan.now entries) (told_of past.program.now past.plan.now past.budget), count) in
-      told_here ∙ past_end (told_of_entries past.program.now past.plan.now past.budget entries) k long
+      told_here ∙ got_none (told_of_entries past.program.now past.plan.now past.budget entries) k long
 
   -- a replay that does not fail tells its items
   pub tells : (items : List Item) (b e : ℕ) → IsIndexOf past.plan.now past.logs.now past.index.now.tables → k < length (rows_at past.index.now.tables q)

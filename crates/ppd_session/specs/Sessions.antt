@@ -4,7 +4,7 @@ use Rattle.ppd_ast.specs.declared.program.Program.{Program}
 use Rattle.ppd_entry.specs.declared.entry.At.{At}
 use Rattle.ppd_model.specs.declared.flow.Item.{Item}
 use Rattle.ppd_model.specs.declared.graph.Race.{Race}
-use Rattle.ppd_past.specs.declared.flow_error.FlowError.{FlowError}
+pub use Rattle.ppd_past.specs.declared.flow_error.FlowError.{FlowError}
 use Rattle.ppd_past.specs.declared.flow_error.FlowError.TheVariants as flow_error
 use Rattle.ppd_past.specs.declared.past.Past.{Past}
 use Rattle.ppd_past.specs.Pasts.{IsPast}

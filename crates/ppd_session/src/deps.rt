@@ -1,17 +1,16 @@
 // The static edges into a statement as a text.
-ghost use Rattle.std.specs.Prelude.{◌≡◌, ◌<◌, ◌++◌, OnOk, length, slice_get};
+ghost use Rattle.std.specs.Prelude.{◌≡◌, ◌<◌, ◌++◌, OnOk, length};
 ghost use Rattle.std.specs.List.{flat_map};
 ghost use Rattle.ppd_ast.specs.Valid.{IsValid};
 ghost use Rattle.ppd_ast.specs.Lookups.{body_of, locals_of};
 ghost use Rattle.ppd_deps.specs.Edges.{edges_of};
 ghost use Rattle.ppd_deps.specs.Tables.{IsDepGraph};
-ghost use Rattle.ppd_show.specs.Names.{var_name as var_name_of};
 ghost use Rattle.ppd_session.specs.Texts.{deps_text, edge_line, variables_at as variables_in};
 
 use ppd_ast::{Memory, Program, Var};
 use ppd_deps::{DepGraph, StaticEdge, static_graph};
 use ppd_sets::sets;
-use ppd_show::put_stmt_at;
+use ppd_show::{put_stmt_at, var_name};
 use ppd_text::{put, put_number};
 use std::alloc::Global;
 
@@ -36,15 +35,6 @@ fn variables_at(program: &Program, stmt: u32, shared: bool) -> &[Var]
         return program.shared.as_slice();
     }
     locals_round(program, stmt)
-}
-
-fn var_name(vars: &[Var], var: u16) -> &[u8]
-    ensures { result.now ≡ var_name_of (slice_get vars.now var) }
-{
-    match vars.get(var as usize) {
-        Some(var) => var.name.as_slice(),
-        None => &[],
-    }
 }
 
 // Appends an edge into a statement.

@@ -1,5 +1,5 @@
 -- The rows of calls.
-use Rattle.std.proofs.Common.{◌≡◌, ℕ, zero, suc, ◌+◌, ◌-◌, ◌<◌, ◌≤◌, List, [], ◌∷◌, ◌++◌, Option, Some, None, length, map, refl, sym, ap, ◌∙◌, subst, arith, true≢false, inl, inr}
+use Rattle.std.proofs.Common.{◌≡◌, ℕ, suc, ◌+◌, ◌-◌, ◌<◌, ◌≤◌, List, [], ◌∷◌, ◌++◌, Option, Some, None, length, map, refl, sym, ap, ◌∙◌, subst, arith, true≢false, inl, inr}
 use Rattle.std.specs.Prelude.{IsTrue, slice_get}
 use Rattle.std.specs.List.{flat_map, range_with_len}
 use Rattle.ppd_ast.specs.declared.program.Kind.{Kind}
@@ -13,9 +13,10 @@ use Rattle.ppd_ast.proofs.ValidLaws.{stmt_in_body}
 use Rattle.ppd_ast.specs.Members.{has, AreBelow}
 use Rattle.ppd_ast.specs.Lookups.{kind_of_stmt, kind_of}
 use Rattle.ppd_ast.proofs.Members.{has_cons, flat_gives}
+use Rattle.ppd_ast.proofs.Those.{counting}
 use Rattle.ppd_cfg.specs.Lists.{row}
 use Rattle.ppd_cfg.specs.WorkList.{AreRowsBelow}
-use Rattle.ppd_cfg.proofs.Rows.{row_at, length_rows}
+use Rattle.ppd_cfg.proofs.Rows.{row_at, length_rows, map_push}
 use Rattle.ppd_cfg.proofs.Leading.{row_there}
 use Rattle.ppd_sets.specs.Used.{callee, calls_at, call_rows, numbers_in, stmts_at}
 use Rattle.ppd_sets.proofs.Statements.{flat_range}
@@ -31,20 +32,12 @@ calls_more p first k old new one h before is now =
 pub at_body : {X : Type 0} (p : Program) (f : ℕ → List X) (b : ℕ) (body : Body) → slice_get p.bodies b ≡ Some body → flat_map f (stmts_at p b) ≡ flat_map f (numbers_of p.stmts body)
 at_body p f b body at = ap (λ (o : Option Body). flat_map f (numbers_in p o)) at
 
-map_push : (f : ℕ → List ℕ) (xs : List ℕ) (x : ℕ) → map f (xs ++ x ∷ []) ≡ map f xs ++ f x ∷ []
-map_push f [] x = refl
-map_push f (y ∷ xs) x = ap (λ zs. f y ∷ zs) (map_push f xs x)
-
-range_next : (a n j : ℕ) → a + n ≡ j → range_with_len a (suc n) ≡ range_with_len a n ++ j ∷ []
-range_next a zero j e = let same : a ≡ j = omega arith in ap (λ x. x ∷ []) same
-range_next a (suc n) j e = ap (λ xs. a ∷ xs) (range_next (a + 1) n j (omega arith))
-
 -- one more row
 pub map_more : (f : ℕ → List ℕ) (k : ℕ) (rows new : List (List ℕ)) (one : List ℕ) → rows ≡ map f (range_with_len 0 k) → one ≡ f k → new ≡ rows ++ one ∷ [] → new ≡ map f (range_with_len 0 (k + 1))
 map_more f k rows new one before is now =
     let on : k + 1 ≡ suc k = omega arith in
     now ∙ ap (λ r. r ++ one ∷ []) before ∙ ap (λ r. map f (range_with_len 0 k) ++ r ∷ []) is
-    ∙ sym (ap (λ n. map f (range_with_len 0 n)) on ∙ ap (map f) (range_next 0 k k (omega arith)) ∙ map_push f (range_with_len 0 k) k)
+    ∙ sym (ap (λ n. map f (range_with_len 0 n)) on ∙ ap (map f) (counting 0 k k (omega arith)) ∙ map_push f (range_with_len 0 k) k)
 
 -- ---- calls are of functions that are there
 

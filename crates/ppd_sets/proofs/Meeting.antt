@@ -13,7 +13,7 @@ use Rattle.ppd_ast.specs.Valid.{IsValid}
 use Rattle.ppd_ast.proofs.ValidLaws.{slice_get_below}
 use Rattle.ppd_ast.specs.Members.{has, those}
 use Rattle.ppd_ast.specs.Lookups.{kind_of}
-use Rattle.ppd_ast.proofs.Those.{those_yes, those_no}
+use Rattle.ppd_ast.proofs.Those.{those_yes, those_no, both}
 use Rattle.ppd_ast.proofs.Walks.{got_some}
 use Rattle.ppd_ast.proofs.Members.{any_from, any_gives, below_range, filter_same_in}
 use Rattle.ppd_sets.specs.Used.{AreSmall, is_met, vars_met, sorted, loop_stmts, loop_used_of, loop_defined_of, reads_at, writes_at, body_reads, body_writes, called_from, used_of, defined_of}
@@ -68,12 +68,6 @@ met_by set cells x few same t =
     let c = any_gives (λ c. holds c x) set t in
     let high : c.0 < after x = (held_is c.0 x c.2).1 in
     any_from (λ c. holds c x) cells c.0 (sym (same c.0 (omega arith)) ∙ c.1) c.2
-
-both : (b c : Bool) → (IsTrue b → IsTrue c) → (IsTrue c → IsTrue b) → b ≡ c
-both true true f g = refl
-both true false f g = absurd (true≢false (sym (f refl)))
-both false true f g = absurd (true≢false (sym (g refl)))
-both false false f g = refl
 
 met_same : (set cells : List ℕ) (vars : List Var) (v : ℕ) (o : Option Var) → AreSmall vars → HasCells set cells → slice_get vars v ≡ o → is_met set o ≡ is_met cells o
 met_same set cells vars v None all same at = refl

@@ -10,8 +10,8 @@ use ppd_ast::limits::MOST_SHARED_CELLS;
 use ppd_ast::{Expr, Kind, Program, Target};
 use ppd_bits::CellSet;
 
-// Adds the cell. None of a valid program is `MOST_SHARED_CELLS` or more.
-fn add_cell(cells: &mut CellSet, cell: u32)
+/// Adds the cell. None of a valid program is `MOST_SHARED_CELLS` or more; such a one is left out.
+pub fn add_cell(cells: &mut CellSet, cell: u32)
     ensures { Gains cells.old cells.new (cell ∷ []) }
 {
     if cell as usize >= MOST_SHARED_CELLS {

@@ -4,13 +4,11 @@ ghost use Rattle.ppd_ast.specs.Cells.{size, after, holds};
 ghost use Rattle.ppd_ast.specs.declared.limits.TheConstants.{MOST_SHARED_CELLS};
 ghost use Rattle.ppd_ast.specs.Table.{EachAt, AreChildrenBelow};
 ghost use Rattle.ppd_ast.specs.Valid.{IsValid};
-ghost use Rattle.ppd_ast.specs.Numbered.{is_while};
-ghost use Rattle.ppd_ast.specs.Lookups.{kind_of};
 ghost use Rattle.ppd_sets.specs.Used.{AreSmall, vars_met, used_of, defined_of, loop_used_of, loop_defined_of, loop_stmts, reads_at, writes_at, sorted};
 
 use crate::bodies::{calls, touched_by_bodies, touched_from};
 use crate::loops::loop_touched;
-use ppd_ast::{Cells, Kind, Memory, Program, Seq, Var};
+use ppd_ast::{Cells, Memory, Program, Seq, Var};
 use ppd_bits::CellSet;
 use std::alloc::Global;
 
@@ -109,7 +107,7 @@ fn loop_row(alloc: Global, program: &Program, stmt: u32) -> Result<Row, Memory>
     ensures used { IfOk result (λ row. row.used ≡ loop_used_of program.now stmt) }
     ensures defined { IfOk result (λ row. row.defined ≡ loop_defined_of program.now stmt) }
 {
-    if is_while_at(program, stmt) {
+    if program.is_while(stmt) {
         let row = loop_cells(alloc, program, stmt)?;
         return Ok(row);
     }
@@ -117,18 +115,6 @@ fn loop_row(alloc: Global, program: &Program, stmt: u32) -> Result<Row, Memory>
         used: Cells::new(alloc),
         defined: Cells::new(alloc),
     })
-}
-
-fn is_while_at(program: &Program, stmt: u32) -> bool
-    ensures { result ≡ is_while (kind_of program.now stmt) }
-{
-    match program.stmts.as_slice().get(stmt as usize) {
-        None => false,
-        Some(found) => match &found.kind {
-            Kind::While(_, _) => true,
-            _ => false,
-        },
-    }
 }
 
 // What each loop uses and defines.

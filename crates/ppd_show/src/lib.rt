@@ -9,5 +9,5 @@ mod plans;
 
 pub use kinds::{put_kind, put_named};
 pub use lines::{put_stmt_at, table};
-pub use names::{body_name, chan_name, sem_name};
-pub use plans::put_block_what;
+pub use names::{body_name, chan_name, sem_name, var_name};
+pub use plans::{block_locals, locals_of, locals_round, put_block_what};

@@ -43,7 +43,8 @@ pub fn chan_name(program: &Program, chan: u8) -> &[u8]
     }
 }
 
-fn var_name(vars: &[Var], var: u16) -> &[u8]
+/// The name of the variable with this number, from 0, and none past the list.
+pub fn var_name(vars: &[Var], var: u16) -> &[u8]
     ensures { result.now ≡ var_name_of (slice_get vars.now var) }
 {
     match vars.get(var as usize) {

@@ -41,7 +41,8 @@ pub fn put_block_what(text: &mut Vec<u8>, program: &Program, kind: BlockKind) ->
     }
 }
 
-fn locals_of(program: &Program, body: u16) -> &[Var]
+/// The local variables of a body, none where there is none of this number.
+pub fn locals_of(program: &Program, body: u16) -> &[Var]
     ensures { result.now ≡ locals_of_body (slice_get program.now.bodies body) }
 {
     match program.bodies.as_slice().get(body as usize) {
@@ -50,7 +51,8 @@ fn locals_of(program: &Program, body: u16) -> &[Var]
     }
 }
 
-fn locals_round(program: &Program, stmt: u32) -> &[Var]
+/// The local variables of the body in which a statement stands.
+pub fn locals_round(program: &Program, stmt: u32) -> &[Var]
     ensures { result.now ≡ locals_round_stmt program.now (slice_get program.now.stmts stmt) }
 {
     match program.stmts.as_slice().get(stmt as usize) {
@@ -59,8 +61,8 @@ fn locals_round(program: &Program, stmt: u32) -> &[Var]
     }
 }
 
-// The variables of the body that a block is, or in which its loop stands.
-fn block_locals(program: &Program, kind: BlockKind) -> &[Var]
+/// The local variables of the body that a block is, or in which its loop stands.
+pub fn block_locals(program: &Program, kind: BlockKind) -> &[Var]
     ensures { result.now ≡ locals_of_block program.now kind }
 {
     match kind {

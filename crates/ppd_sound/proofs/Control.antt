@@ -6,7 +6,7 @@ use Rattle.ppd_model.specs.declared.tracing.Tracing.{Tracing}
 use Rattle.std.specs.Prelude.{slice_get, nat_eq, ◌&&◌, if◌then◌else◌}
 use Rattle.std.specs.List.{Contains}
 use Rattle.std.proofs.lemmas.Bool.{and_parts, cond-true, cond-false, eqb-true}
-use Rattle.ppd_ast.specs.Numbered.{is_while as is_loop}
+use Rattle.ppd_ast.specs.Numbered.{is_while as is_loop, is_while, is_call}
 use Rattle.ppd_ast.specs.Valid.{IsValid}
 use Rattle.ppd_ast.specs.declared.plan.Plan.{Plan}
 use Rattle.ppd_ast.specs.declared.program.Kind.{Kind}
@@ -14,7 +14,7 @@ use Rattle.ppd_ast.specs.declared.program.Kind.TheVariants.{Call, While}
 use Rattle.ppd_ast.specs.declared.program.Program.{Program}
 use Rattle.ppd_ast.specs.declared.program.Stmt.{Stmt}
 use Rattle.ppd_ast.proofs.ValidLaws.{slice_get_there}
-use Rattle.ppd_ast.specs.Lookups.{kind_of_stmt, kind_of}
+use Rattle.ppd_ast.specs.Lookups.{kind_of_stmt, kind_of, parent_if}
 use Rattle.ppd_deps.specs.declared.edges.StaticEdge.{StaticEdge}
 use Rattle.ppd_deps.specs.declared.edges.StaticEdge.TheVariants.{ControlEntry, Control}
 use Rattle.ppd_deps.specs.Edges.{control_into, control_of, data_into, edges_of, outer_edge}
@@ -22,9 +22,9 @@ use Rattle.ppd_sem.specs.declared.proc.Todo.{Todo}
 use Rattle.ppd_sem.specs.Process.{need_of, started}
 use Rattle.ppd_sem.specs.Described.{is_event}
 use Rattle.ppd_model.specs.declared.trace.EventId.{EventId}
-use Rattle.ppd_model.specs.FullTrace.{begun_tracing, event_of, full_trace, parent_if}
+use Rattle.ppd_model.specs.FullTrace.{begun_tracing, event_of, full_trace}
 use Rattle.ppd_model.specs.LocalTags.{AreOwn}
-use Rattle.ppd_model.specs.Parents.{IsBegunBy, IsFromStart, IsLatestTest, is_call, is_choice, is_test_at, is_while}
+use Rattle.ppd_model.specs.Parents.{IsBegunBy, IsFromStart, IsLatestTest, is_choice, is_test_at}
 use Rattle.ppd_model.specs.Story.{own_steps, story}
 use Rattle.ppd_model.proofs.LocalTags.{own_steps_told}
 use Rattle.ppd_model.proofs.Parents.{own_from}

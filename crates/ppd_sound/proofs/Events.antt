@@ -13,10 +13,11 @@ use Rattle.ppd_sem.specs.Process.{started}
 use Rattle.ppd_sem.specs.Described.{is_event}
 use Rattle.ppd_model.specs.declared.trace.EventId.{EventId}
 use Rattle.ppd_model.specs.declared.trace.TracedEvent.{TracedEvent}
-use Rattle.ppd_model.specs.FullTrace.{begun_tracing, event_of, events_from, full_trace, me_in, trace_by, trace_step, traced_by, tracing_of}
+use Rattle.ppd_model.specs.FullTrace.{begun_tracing, event_of, full_trace, me_in, trace_by, trace_step, traced_by, tracing_of}
 use Rattle.ppd_model.specs.Story.{own_steps, story}
+use Rattle.ppd_model.proofs.ParentEvents.{events_at}
+use Rattle.ppd_model.proofs.CountedOn.{last_at, kept_at}
 use Rattle.ppd_sound.specs.Sound.{IsEventOf, event_at}
-use Rattle.ppd_sound.proofs.Lists.{at_length, in_front}
 
 module _ (program : Program) (plan : Plan) (story : Story) (p : ℕ) where
   abbrev after_all : Tracing → List Taken → Tracing
@@ -30,7 +31,7 @@ module _ (program : Program) (plan : Plan) (story : Story) (p : ℕ) where
   kept_by x (Enter b u) t i e h = h
   kept_by x Budget t i e h = h
   kept_by x Stopped t i e h = h
-  kept_by x n t i e h = in_front t.events (traced t x ∷ []) i e h
+  kept_by x n t i e h = kept_at t.events (traced t x ∷ []) i e h
 
   -- the events so far stay
   pub kept : (t : Tracing) (xs : List Taken) (i : ℕ) (e : TracedEvent) → slice_get t.events i ≡ Some e → slice_get (after_all t xs).events i ≡ Some e
@@ -42,7 +43,7 @@ module _ (program : Program) (plan : Plan) (story : Story) (p : ℕ) where
   new_by x (Enter b u) t e = absurd (cc)
   new_by x Budget t e = absurd (cc)
   new_by x Stopped t e = absurd (cc)
-  new_by x n t e = at_length t.events (traced t x)
+  new_by x n t e = last_at t.events (traced t x)
 
   -- a step's event stays at its number
   pub there : (t : Tracing) (before : List Taken) (x : Taken) (after : List Taken) → is_event x.need ≡ true
@@ -88,13 +89,6 @@ module _ (program : Program) (plan : Plan) (story : Story) (p : ℕ) where
     ]
     | inr s ↦ inr (record { before = x ∷ s.before; taken = s.taken; after = s.after; steps_are = ap (λ ys. x ∷ ys) s.steps_are; finishes = s.finishes; event_is = s.event_is })
   ]
-
--- the events of a process are those of its own steps
-events_at : (program : Program) (plan : Plan) (budget : ℕ) (s : Story) (p i : ℕ) (steps : List (List Taken)) → get_or (events_from program plan budget s p steps) i [] ≡ (tracing_of program plan budget s (p + i) (get_or steps i [])).events
-events_at program plan budget s p i [] = refl
-events_at program plan budget s p zero (xs ∷ rest) = ap (λ n. (tracing_of program plan budget s n xs).events) (let e : p ≡ p + 0 = omega arith in e)
-events_at program plan budget s p (suc i) (xs ∷ rest) =
-    events_at program plan budget s (p + 1) i rest ∙ ap (λ n. (tracing_of program plan budget s n (get_or rest i [])).events) (let e : p + 1 + i ≡ p + suc i = omega arith in e)
 
 module _ (program : Program) (plan : Plan) (budget : ℕ) (h : List ℕ) (p : ℕ) where
   abbrev told_story : Story

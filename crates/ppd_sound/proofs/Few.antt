@@ -11,12 +11,10 @@ use Rattle.ppd_ast.specs.declared.program.Program.{Program}
 use Rattle.ppd_ast.specs.declared.program.Var.{Var}
 use Rattle.ppd_ast.proofs.ValidLaws.{valid_body}
 use Rattle.ppd_ast.specs.Lookups.{locals_of_body}
+use Rattle.ppd_ast.specs.Counting.{one_if}
 use Rattle.ppd_sound.specs.Sound.{HaveCells, VariablesAreFew}
 
 -- ---- how often the cells below n are held
-
-abbrev one_if : Bool → ℕ
-one_if b = cond b 1 0
 
 total : ℕ → List Var → ℕ
 total zero vs = 0

@@ -13,6 +13,7 @@ use Rattle.ppd_model.specs.declared.tracing.Taken.{Taken}
 use Rattle.ppd_model.specs.declared.tracing.Tracing.{Tracing}
 use Rattle.ppd_model.specs.FullTrace.{trace_by, trace_step, traced_by, event_of}
 use Rattle.ppd_model.specs.Intervals.{Span, Split, innermost, own, with_own, with_part, with_step}
+use Rattle.ppd_model.proofs.CountedOn.{last_at}
 use Rattle.ppd_coming.specs.Coming.{Inner}
 use Rattle.ppd_spans.proofs.SpanSteps.{SpanAt, SpanPast, change_inner, change_own, change_past}
 
@@ -59,10 +60,6 @@ put_there [] y k i e = absurd (none-some i e)
 put_there (x ∷ xs) y zero i e = e
 put_there (x ∷ xs) y (suc k) i e = put_there xs y k i e
 
-put_last : {A : Type 0} (xs : List A) (y : A) → slice_get (xs ++ y ∷ []) (length xs) ≡ Some y
-put_last [] y = refl
-put_last (x ∷ xs) y = put_last xs y
-
 module _ (program : Program) (plan : Plan) (story : Story) (p : ℕ) where
   abbrev pub event_at : Taken → Tracing → TracedEvent
   event_at x t = traced_by program story x t (event_of program plan t.proc x t.proc.todo)
@@ -88,4 +85,4 @@ module _ (program : Program) (plan : Plan) (story : Story) (p : ℕ) where
   events_stay (x ∷ xs) t e v h = events_stay xs (trace_step program plan story p t x) e v (event_stays x t e v h)
 
   pub event_last : (x : Taken) (t : Tracing) → is_event x.need ≡ true → slice_get (trace_step program plan story p t x).events (length t.events) ≡ Some (event_at x t)
-  event_last x t h = ap (λ es. slice_get es (length t.events)) (events_are x.need x t ∙ ap (λ b. events_by b x t) h) ∙ put_last t.events (event_at x t)
+  event_last x t h = ap (λ es. slice_get es (length t.events)) (events_are x.need x t ∙ ap (λ b. events_by b x t) h) ∙ last_at t.events (event_at x t)

@@ -20,9 +20,10 @@ use Rattle.ppd_model.specs.FullTrace.{Tag, event_of}
 use Rattle.ppd_model.specs.Intervals.{Part, Span, Split, begin_span, end_span, item_of, item_of_span, nested, split_step, with_part}
 use Rattle.ppd_model.specs.Marks.{Mark}
 use Rattle.ppd_model.specs.Story.{Moment, steps_of, unit_started}
+use Rattle.ppd_model.proofs.Extents.{Fall}
 use Rattle.ppd_coming.specs.Coming.{Coming, Inner, After, before, coming, event_items, inner_opens, leaves, own_ends, own_opens, since_after, step_pieces, unit_pieces}
 use Rattle.ppd_coming.specs.Openings.{opening, opening_by}
-use Rattle.ppd_coming.proofs.Indexes.{Falls, falls_on}
+use Rattle.ppd_coming.proofs.Indexes.{falls_on}
 use Rattle.ppd_spans.proofs.Grown.{IsGrown}
 use Rattle.ppd_spans.proofs.SpanBody.{body, body_inner, body_own, body_past, event_last, events_stay, gain}
 use Rattle.ppd_spans.proofs.SpanEnd.{gain_event, grown_step, rest_inner}
@@ -42,7 +43,7 @@ drop_length : (n : ℕ) (ks : List ℕ) → length ks ≡ suc n → length (drop
 drop_length n [] e = absurd (omega (arith, e))
 drop_length n (k ∷ ks) e = omega (arith, e)
 
-drop_falls : (n : ℕ) (ks : List ℕ) → Falls n ks → Falls n (drop 1 ks)
+drop_falls : (n : ℕ) (ks : List ℕ) → Fall n ks → Fall n (drop 1 ks)
 drop_falls n [] f = tt
 drop_falls n (k ∷ ks) f = falls_on k n ks f.1 f.0
 
@@ -85,7 +86,7 @@ module _ (program : Program) (plan : Plan) (story : Story) (p : ℕ) (x : Split)
     pub inner : (j : Inner) (k : ℕ) (i : Span) (ps : List Part) (next since : ℕ) → length x.running ≡ n → length x.spans ≡ next → i.parts ≡ ps ++ nested j.interval ∷ [] → SpanAt x.spans x.running (Some j) k i
         → IsGrown last ps i.steps i.block (inner_opens j m next since o c st next_coming) (slice_get last.spans k)
     pub past : (k : ℕ) (i : Span) → length x.running ≡ n → SpanPast x.spans x.running k i → slice_get last.spans k ≡ Some i
-    pub begins : (q next : ℕ) → length x.running ≡ n → length x.spans ≡ next → Falls (length x.spans) x.running
+    pub begins : (q next : ℕ) → length x.running ≡ n → length x.spans ≡ next → Fall (length x.spans) x.running
         → Begins program plan story p last (next + q) (opening_by o q (unit_pieces (unit_started m.taken.need) m.unit_values) after ms (opening program plan after ms)) (slice_get last.spans (next + q))
 
   -- what is to come from these spans and running numbers on
@@ -112,8 +113,8 @@ module _ (program : Program) (plan : Plan) (story : Story) (p : ℕ) (x : Split)
   long : (n : ℕ) → length x.spans ≡ n → length z1.spans ≡ n
   long n h = body_length b x ∙ h
 
-  fallen : Falls (length x.spans) x.running → Falls (length z1.spans) z1.running
-  fallen f = subst (λ ks. Falls (length z1.spans) ks) (sym (body_running b x)) (subst (λ n. Falls n x.running) (sym (body_length b x)) f)
+  fallen : Fall (length x.spans) x.running → Fall (length z1.spans) z1.running
+  fallen f = subst (λ ks. Fall (length z1.spans) ks) (sym (body_running b x)) (subst (λ n. Fall n x.running) (sym (body_length b x)) f)
 
   -- ---- it opens an interval
 
@@ -127,12 +128,12 @@ module _ (program : Program) (plan : Plan) (story : Story) (p : ℕ) (x : Split)
     one_longer : (next : ℕ) → length x.spans ≡ next → length zo.spans ≡ next + 1
     one_longer next h = begun_length a.block frame control z1 ∙ ap (λ k. k + 1) (long next h)
 
-    new_at : (next : ℕ) → length x.running ≡ n → length x.spans ≡ next → Falls (length x.spans) x.running → IsGrown last [] 0 a.block (coming program plan after ms None (next + 1) 0) (slice_get last.spans next)
+    new_at : (next : ℕ) → length x.running ≡ n → length x.spans ≡ next → Fall (length x.spans) x.running → IsGrown last [] 0 a.block (coming program plan after ms None (next + 1) 0) (slice_get last.spans next)
     new_at next hn hl f =
         subst (λ k. IsGrown last [] 0 a.block (coming program plan after ms None (k + 1) 0) (slice_get last.spans k)) (long next hl)
         (g.own (length z1.spans) _ (length z1.spans + 1) 0 (more_run hn) (begun_length a.block frame control z1) (begun_new a.block frame control z1 (fallen f)))
 
-    begins_opened : (q next : ℕ) → length x.running ≡ n → length x.spans ≡ next → Falls (length x.spans) x.running
+    begins_opened : (q next : ℕ) → length x.running ≡ n → length x.spans ≡ next → Fall (length x.spans) x.running
         → Begins program plan story p last (next + q) (opening_by (Some a) q (unit_pieces (unit_started m.taken.need) m.unit_values) after ms (opening program plan after ms)) (slice_get last.spans (next + q))
     begins_opened zero next hn hl f =
         let same : next ≡ next + 0 = omega arith in
@@ -213,7 +214,7 @@ module _ (program : Program) (plan : Plan) (story : Story) (p : ℕ) (x : Split)
             (g.past k (ended a.values left z1 (gain b e i)) (fewer_run hn) (end_span_own (ended a.values left z1) z1.spans z1.running k (gain b e i) (body_own b x k i at)));
         inner = λ j k i ps next since hn hl parts at. inner_closed j.level j.interval j.block k i ps next since hn hl parts at;
         past = λ k i hn at. g.past k i (fewer_run hn) (end_span_past (ended a.values left z1) z1.spans z1.running k i (body_past b x k i at));
-        begins = λ q next hn hl f. g.begins q next (fewer_run hn) (as_long next hl) (subst (λ l. Falls l zc.running) (sym (ended_length a.values left z1)) (drop_falls (length z1.spans) z1.running (fallen f)));
+        begins = λ q next hn hl f. g.begins q next (fewer_run hn) (as_long next hl) (subst (λ l. Fall l zc.running) (sym (ended_length a.values left z1)) (drop_falls (length z1.spans) z1.running (fallen f)));
       }
 
     -- ---- it closes the process's own interval

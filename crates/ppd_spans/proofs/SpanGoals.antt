@@ -14,9 +14,9 @@ use Rattle.ppd_model.specs.FullTrace.{trace_step}
 use Rattle.ppd_model.specs.Intervals.{Part, Span, Split, items_of, nested, split_step}
 use Rattle.ppd_model.specs.Logs.{status_of}
 use Rattle.ppd_model.specs.Story.{Moment, steps_of}
+use Rattle.ppd_model.proofs.Extents.{Fall}
 use Rattle.ppd_coming.specs.Coming.{After, Coming, Inner, coming, own_ends}
 use Rattle.ppd_coming.specs.Openings.{Opening, coming_in, opening}
-use Rattle.ppd_coming.proofs.Indexes.{Falls}
 use Rattle.ppd_spans.proofs.Grown.{IsGrown}
 use Rattle.ppd_spans.proofs.SpanBody.{IsOwnStep}
 use Rattle.ppd_spans.proofs.SpanSteps.{SpanAt, SpanPast}
@@ -94,7 +94,7 @@ module _ (program : Program) (plan : Plan) (story : Story) (p : ℕ) where
     pub inner : (j : Inner) (k : ℕ) (i : Span) (ps : List Part) (next since : ℕ) → length running ≡ n → length spans ≡ next → i.parts ≡ ps ++ nested j.interval ∷ [] → SpanAt spans running (Some j) k i
         → IsGrown last ps i.steps i.block (coming program plan s ms (Some j) next since) (slice_get last.spans k)
     pub past : (k : ℕ) (i : Span) → length running ≡ n → SpanPast spans running k i → slice_get last.spans k ≡ Some i
-    pub begins : (q next : ℕ) → length running ≡ n → length spans ≡ next → Falls (length spans) running → Begins last (next + q) (opening program plan s ms q) (slice_get last.spans (next + q))
+    pub begins : (q next : ℕ) → length running ≡ n → length spans ≡ next → Fall (length spans) running → Begins last (next + q) (opening program plan s ms q) (slice_get last.spans (next + q))
 
   -- nothing comes
   pub record Stops (y : Split) (s : Proc) (ms : List Moment) : Type 0 where

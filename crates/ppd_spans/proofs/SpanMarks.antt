@@ -12,15 +12,11 @@ use Rattle.ppd_model.specs.declared.tracing.Taken.{Taken}
 use Rattle.ppd_model.specs.FullTrace.{Tag, me_in, top_tags}
 use Rattle.ppd_model.specs.Intervals.{Span, Split, begin_if, begin_span, change_first, control_by, end_if, end_span, left_by, nested, new_span, own, split_step, with_marks, with_part}
 use Rattle.ppd_model.specs.Marks.{Mark, opened, closed}
-use Rattle.ppd_model.proofs.Changes.{length-change}
+use Rattle.ppd_model.proofs.Extents.{Fall}
+use Rattle.ppd_model.proofs.Items.{first_length}
 use Rattle.ppd_coming.specs.Coming.{Inner}
-use Rattle.ppd_coming.proofs.Indexes.{Falls}
 use Rattle.ppd_spans.proofs.SpanBody.{IsOwnStep, body, body_is, step_gain}
 use Rattle.ppd_spans.proofs.SpanSteps.{SpanAt, SpanPast, begin_inner, begin_new, begin_own, begin_past, change_inner, change_own, change_past}
-
-first_length : (f : Span → Span) (ks : List ℕ) (xs : List Span) → length (change_first f ks xs) ≡ length xs
-first_length f [] xs = refl
-first_length f (k ∷ ks) xs = length-change f k xs
 
 pub body_length : (b : Bool) (x : Split) → length (body b x).spans ≡ length x.spans
 body_length false x = first_length step_gain x.running x.spans
@@ -89,12 +85,12 @@ module _ (b frame : ℕ) (control : Option EventId) (x : Split) where
       subst (λ n. SpanPast (outer ++ born ∷ []) (n ∷ x.running) k i) same_length
       (begin_past outer x.running born k i (change_past (with_part (nested (length x.spans))) x.spans x.running k i a))
 
-  pub begun_new : Falls (length x.spans) x.running → SpanAt (begin_span b frame control x).spans (begin_span b frame control x).running None (length x.spans) born
+  pub begun_new : Fall (length x.spans) x.running → SpanAt (begin_span b frame control x).spans (begin_span b frame control x).running None (length x.spans) born
   begun_new f =
       subst (λ n. SpanAt (outer ++ born ∷ []) (n ∷ x.running) None n born) same_length
-      (begin_new outer x.running born (subst (λ n. Falls n x.running) (sym same_length) f))
+      (begin_new outer x.running born (subst (λ n. Fall n x.running) (sym same_length) f))
 
-  pub begun_falls : Falls (length x.spans) x.running → Falls (length (begin_span b frame control x).spans) (begin_span b frame control x).running
+  pub begun_falls : Fall (length x.spans) x.running → Fall (length (begin_span b frame control x).spans) (begin_span b frame control x).running
   begun_falls f = (begun_new f).falls
 
 -- ---- the innermost ends

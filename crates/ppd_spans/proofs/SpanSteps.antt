@@ -8,8 +8,10 @@ use Rattle.ppd_model.specs.declared.flow.Item.TheVariants as item
 use Rattle.ppd_model.specs.Intervals.{Span, change_first, item_of_span}
 use Rattle.ppd_model.specs.World.{change}
 use Rattle.ppd_model.proofs.Changes.{length-change}
+use Rattle.ppd_model.proofs.Extents.{Fall}
 use Rattle.ppd_coming.specs.Coming.{Inner}
-use Rattle.ppd_coming.proofs.Indexes.{Falls, IsNext, Rests, falls_on, falls_rest, next_below}
+use Rattle.ppd_coming.proofs.Indexes.{IsNext, Rests, falls_on, next_below}
+use Rattle.ppd_coming.proofs.IndexSteps.{rest_below}
 
 pub changed_same : (f : Span → Span) (k : ℕ) (xs : List Span) (i : Span) → slice_get xs k ≡ Some i → slice_get (change f k xs) k ≡ Some (f i)
 changed_same f k [] i e = absurd (none-some i e)
@@ -57,32 +59,32 @@ abbrev pub RunsAt : (ℕ → List Item) → List ℕ → Option Inner → ℕ �
 RunsAt v ks None k = IsNext ks k
 RunsAt v ks (Some i) k = RunsIn v ks i.level i.interval i.block k
 
-pub in_below : (v : ℕ → List Item) (n : ℕ) (ks : List ℕ) (level m b k : ℕ) → Falls n ks → RunsIn v ks level m b k → k < n
+pub in_below : (v : ℕ → List Item) (n : ℕ) (ks : List ℕ) (level m b k : ℕ) → Fall n ks → RunsIn v ks level m b k → k < n
 in_below v n [] level m b k f h = absurd h
 in_below v n (j ∷ ks) zero m b k f h = let z : k < j = next_below j ks k f.1 h.2 in omega (arith, f.0, z)
 in_below v n (j ∷ ks) (suc level) m b k f h = let z : k < j = in_below v j ks level m b k f.1 h in omega (arith, f.0, z)
 
-pub in_alike : (v w : ℕ → List Item) (n : ℕ) (ks : List ℕ) (level m b k : ℕ) → Falls n ks → ((j : ℕ) → j < n → w j ≡ v j) → RunsIn v ks level m b k → RunsIn w ks level m b k
+pub in_alike : (v w : ℕ → List Item) (n : ℕ) (ks : List ℕ) (level m b k : ℕ) → Fall n ks → ((j : ℕ) → j < n → w j ≡ v j) → RunsIn v ks level m b k → RunsIn w ks level m b k
 in_alike v w n [] level m b k f e h = absurd h
 in_alike v w n (j ∷ ks) zero m b k f e h = (h.0, e j f.0 ∙ h.1, h.2)
 in_alike v w n (j ∷ ks) (suc level) m b k f e h = in_alike v w j ks level m b k f.1 (λ l q. e l (omega (arith, q, f.0))) h
 
-pub other_head : (v : ℕ → List Item) (n j : ℕ) (ks : List ℕ) (level m b k : ℕ) → Falls n (j ∷ ks) → RunsIn v (j ∷ ks) level m b k → j ≡ k → ⊥
+pub other_head : (v : ℕ → List Item) (n j : ℕ) (ks : List ℕ) (level m b k : ℕ) → Fall n (j ∷ ks) → RunsIn v (j ∷ ks) level m b k → j ≡ k → ⊥
 other_head v n j ks zero m b k f h e = let z : k < j = next_below j ks k f.1 h.2 in omega (arith, z, e)
 other_head v n j ks (suc level) m b k f h e = let z : k < j = in_below v j ks level m b k f.1 h in omega (arith, z, e)
 
 pub record SpanAt (xs : List Span) (ks : List ℕ) (inner : Option Inner) (k : ℕ) (i : Span) : Type 0 where
-  pub falls : Falls (length xs) ks
+  pub falls : Fall (length xs) ks
   pub runs : RunsAt (Seen xs) ks inner k
   pub there : slice_get xs k ≡ Some i
 
 pub record SpanPast (xs : List Span) (ks : List ℕ) (k : ℕ) (i : Span) : Type 0 where
-  pub falls : Falls (length xs) ks
+  pub falls : Fall (length xs) ks
   pub rests : Rests ks k
   pub there : slice_get xs k ≡ Some i
 
-falls_change : (f : Span → Span) (j : ℕ) (xs : List Span) (ks : List ℕ) → Falls (length xs) ks → Falls (length (change f j xs)) ks
-falls_change f j xs ks h = subst (λ m. Falls m ks) (sym (length-change f j xs)) h
+falls_change : (f : Span → Span) (j : ℕ) (xs : List Span) (ks : List ℕ) → Fall (length xs) ks → Fall (length (change f j xs)) ks
+falls_change f j xs ks h = subst (λ m. Fall m ks) (sym (length-change f j xs)) h
 
 -- ---- the innermost is changed, and stays the same as an item
 
@@ -108,7 +110,7 @@ change_past f xs (j ∷ ks) k i h = record { falls = falls_change f j xs (j ∷ 
 
 -- ---- an interval begins
 
-begin_falls : (xs : List Span) (ks : List ℕ) (y : Span) → Falls (length xs) ks → Falls (length (xs ++ y ∷ [])) (length xs ∷ ks)
+begin_falls : (xs : List Span) (ks : List ℕ) (y : Span) → Fall (length xs) ks → Fall (length (xs ++ y ∷ [])) (length xs ∷ ks)
 begin_falls xs ks y f = (let e : length (xs ++ y ∷ []) ≡ length xs + 1 = length-append xs (y ∷ []) in let z : length xs < length (xs ++ y ∷ []) = omega (arith, e) in z, f)
 
 span_below : (xs : List Span) (k : ℕ) (i : Span) → slice_get xs k ≡ Some i → k < length xs
@@ -143,19 +145,16 @@ begin_past xs ks y k i h = record {
   there = put_span xs y k (span_below xs k i h.there) ∙ h.there;
 }
 
-pub begin_new : (xs : List Span) (ks : List ℕ) (y : Span) → Falls (length xs) ks → SpanAt (xs ++ y ∷ []) (length xs ∷ ks) None (length xs) y
+pub begin_new : (xs : List Span) (ks : List ℕ) (y : Span) → Fall (length xs) ks → SpanAt (xs ++ y ∷ []) (length xs ∷ ks) None (length xs) y
 begin_new xs ks y f = record { falls = begin_falls xs ks y f; runs = refl; there = last_span xs y }
 
 -- ---- the innermost ends
-
-rest_under : (j k : ℕ) (ks : List ℕ) → Falls j ks → j ≡ k → Rests ks k
-rest_under j k ks f e = subst (λ l. Rests ks l) e (falls_rest j ks f)
 
 pub end_span_own : (f : Span → Span) (xs : List Span) (ks : List ℕ) (k : ℕ) (i : Span) → SpanAt xs ks None k i → SpanPast (change_first f ks xs) (drop 1 ks) k (f i)
 end_span_own f xs [] k i h = absurd h.runs
 end_span_own f xs (j ∷ ks) k i h = record {
   falls = falls_change f j xs ks (falls_on j (length xs) ks h.falls.1 h.falls.0);
-  rests = rest_under j k ks h.falls.1 h.runs;
+  rests = rest_below j k ks h.falls.1 h.runs;
   there = ap (λ l. slice_get (change f l xs) k) h.runs ∙ changed_same f k xs i h.there;
 }
 
@@ -191,7 +190,7 @@ pub end_span_leaves : (f : Span → Span) (xs : List Span) (ks : List ℕ) (m b 
 end_span_leaves f xs [] m b k i h = absurd h.runs
 end_span_leaves f xs (j ∷ ks) m b k i h = by (slice_get xs j) refl
   where
-    falls : Falls (length (change f j xs)) ks
+    falls : Fall (length (change f j xs)) ks
     falls = falls_change f j xs ks (falls_on j (length xs) ks h.falls.1 h.falls.0)
 
     by : (o : Option Span) → slice_get xs j ≡ o → HasEnded f xs (j ∷ ks) m b k i
@@ -203,7 +202,7 @@ end_span_leaves f xs (j ∷ ks) m b k i h = by (slice_get xs j) refl
       at = record { falls = falls; runs = h.runs.2; there = changed_other f j k xs (λ q. let z : k < j = next_below j ks k h.falls.1 h.runs.2 in omega (arith, z, q)) ∙ h.there };
       span = x;
       block = ap (block_in 0) (sym (ap (item_of_span j) e) ∙ h.runs.1);
-      past = record { falls = falls; rests = rest_under j m ks h.falls.1 h.runs.0; there = subst (λ l. slice_get (change f j xs) l ≡ Some (f x)) h.runs.0 (changed_same f j xs x e) };
+      past = record { falls = falls; rests = rest_below j m ks h.falls.1 h.runs.0; there = subst (λ l. slice_get (change f j xs) l ≡ Some (f x)) h.runs.0 (changed_same f j xs x e) };
     }
 
 -- ---- at the end

@@ -12,13 +12,12 @@ use Rattle.ppd_sem.specs.declared.proc.Need.TheVariants.{Budget, Stopped}
 use Rattle.ppd_sem.specs.declared.proc.Proc.{Proc}
 use Rattle.ppd_sem.specs.Process.{act, started}
 use Rattle.ppd_model.specs.declared.tracing.Story.{Story}
-use Rattle.ppd_model.specs.declared.tracing.Taken.{Taken}
-use Rattle.ppd_model.specs.Intervals.{Span, Split, begun_split, split_of, split_step, splits, splits_from, with_marks, with_own, with_step}
+use Rattle.ppd_model.specs.Intervals.{Span, Split, begun_split, split_of, split_step, splits, with_marks, with_own, with_step}
 use Rattle.ppd_model.specs.Logs.{status_of}
 use Rattle.ppd_model.specs.Marks.{Mark, opened, closed}
 use Rattle.ppd_model.specs.Story.{Moment, Telling, own_moments, own_steps, steps_of, story, told, unit_started}
 use Rattle.ppd_model.specs.Synchronizations.{sync_of}
-use Rattle.ppd_model.proofs.Items.{split_found}
+use Rattle.ppd_model.proofs.Items.{split_found, splits_length}
 use Rattle.ppd_model.proofs.Prefixes.{objects_stay}
 use Rattle.ppd_nested.specs.Run.{IsGiven, IsRun}
 use Rattle.ppd_nested.specs.Stack.{stack}
@@ -146,11 +145,6 @@ module _ (program : Program) (plan : Plan) (budget : ℕ) (story' : Story) (p : 
       let same : 1 + q ≡ suc q = omega arith in
       subst (λ k. Begins program plan story' p ended_split k (opening program plan (started program plan p budget) ms q) (slice_get ended_split.spans k)) same
       ((comes program plan story' p ms (begun_split program plan p (started program plan p budget)) 1 h live).begins q 1 refl refl (one, tt))
-
--- as many processes as lists of steps
-splits_length : (program : Program) (plan : Plan) (budget : ℕ) (story' : Story) (q : ℕ) (steps : List (List Taken)) → length (splits_from program plan budget story' q steps) ≡ length steps
-splits_length program plan budget story' q [] = refl
-splits_length program plan budget story' q (xs ∷ rest) = ap suc (splits_length program plan budget story' (q + 1) rest)
 
 pub spans_are_coming : SpansAreComing
 spans_are_coming program policy budget h p k x v whole at =

@@ -11,7 +11,7 @@ use Rattle.ppd_sem.specs.declared.proc.Need.TheVariants.{Read, Stopped}
 use Rattle.ppd_sem.specs.declared.proc.Proc.{Proc}
 use Rattle.ppd_sem.specs.Process.{act, need_of, started, top_call}
 use Rattle.ppd_sem.specs.Passed.{next_stmt_of}
-use Rattle.ppd_sets.specs.Used.{reads_at}
+use Rattle.ppd_blocks.specs.Used.{reads_at}
 use Rattle.ppd_step_laws.specs.Course.{BeginsList, GoesUntilEnd, IsOnCourse, LeadsTo}
 
 -- a process of a valid program begins on course, at the first statement of its body

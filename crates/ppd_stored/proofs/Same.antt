@@ -29,6 +29,7 @@ use Rattle.ppd_stored.specs.Laws.{RefusedOrAccepted}
 use Rattle.ppd_stored.specs.Recordings.{IsRefusedBy}
 use Rattle.ppd_stored.specs.Recordings.IsRefusedBy.{by_bytes, by_log, by_sync}
 use Rattle.ppd_stored.specs.Refusals.{refused_bytes, refused_log, refused_sync}
+use Rattle.ppd_graphed.proofs.Ordered.{way_before}
 
 -- ---- of one recording
 
@@ -72,10 +73,6 @@ index_as bytes r q d e none =
     ∙ (ap (λ (l : Logs). first_in_lists r.program r.plan 0 l.lists) s.logs_are ∙ none))
 
 -- ---- logs that have a graph are not refused one
-
-way_before : (program : Program) (rows : List (List Sync)) (a : NodeId) (way : List NodeId) (z : NodeId) → IsWay program rows a way z → Before program rows a z
-way_before program rows a [] z d = direct d
-way_before program rows a (b ∷ bs) z w = through (direct w.0) (way_before program rows b bs z w.1)
 
 graphed_not : (program : Program) (of : Logs) → AreOrdered program of → (e : BadSync) → e ≢ sync.Memory → IsNoGraph program of e → ⊥
 graphed_not program of o (sync.NoObject at) other r = none-some at (sym o.numbered.objects ∙ r)

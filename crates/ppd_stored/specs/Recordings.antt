@@ -19,7 +19,7 @@ use Rattle.ppd_lawful.specs.Lawful.{IsWithinRange}
 use Rattle.ppd_model.specs.Logs.{closed_logs}
 use Rattle.ppd_model.specs.Schedule.{IsWhole}
 use Rattle.ppd_session.specs.Known.{Known, known_of_logs}
-use Rattle.ppd_past.specs.Pasts.{BelongTogether}
+use Rattle.ppd_session.specs.Pasts.{BelongTogether}
 use Rattle.ppd_stored.specs.Refusals.{refused_bytes, refused_log, refused_sync}
 use Rattle.ppd_stored.specs.declared.recalling.NoRecall.{NoRecall}
 use Rattle.ppd_stored.specs.declared.recalling.NoRecall.TheVariants.{Refused, Memory}

@@ -1,6 +1,7 @@
 -- The line that says why a recording is refused.
 use Rattle.std.specs.Prelude.{◌++◌, ℕ, List, [], codes, decimal, slice_get}
 use Rattle.std.specs.List.{flat_map}
+use Rattle.ppd_ast.specs.declared.limits.TheConstants.{MOST_RECORDING_BYTES}
 use Rattle.ppd_ast.specs.declared.program.Program.{Program}
 use Rattle.ppd_ast.specs.declared.status.SyncKind.{SyncKind}
 use Rattle.ppd_ast.specs.declared.status.SyncKind.TheVariants as kind
@@ -47,7 +48,7 @@ refused_bytes (bytes.Short n) = at_offset (codes "recording refused bytes 3 Shor
 refused_bytes (bytes.Range n f) = codes "recording refused bytes 4 Range " ++ decimal n ++ codes " " ++ field_word f ++ codes "\n"
 refused_bytes (bytes.Trailing n) = at_offset (codes "recording refused bytes 5 Trailing ") n
 refused_bytes (bytes.Source e) = codes "recording refused bytes 6 Source " ++ stage_text e ++ codes "\n"
-refused_bytes bytes.TooLong = codes "recording refused bytes 7 TooLong 268435456\n"
+refused_bytes bytes.TooLong = codes "recording refused bytes 7 TooLong " ++ decimal MOST_RECORDING_BYTES ++ codes "\n"
 refused_bytes bytes.Memory = []
 
 -- ---- logs and synchronization

@@ -10,6 +10,7 @@ ghost use Rattle.ppd_stored.specs.Refusals.{node_text, object_text, refused_byte
 ghost use Rattle.ppd_stored.specs.Refusals.{refused_sync};
 
 use crate::stage::put_stage;
+use ppd_ast::limits::MOST_RECORDING_BYTES;
 use ppd_ast::{Memory, Program, SyncKind};
 use ppd_check::SourceError;
 use ppd_codec::{BadBytes, Field};
@@ -19,7 +20,7 @@ use ppd_index::BadLog;
 use ppd_model::NodeId;
 use ppd_session::SessionError;
 use ppd_show::{chan_name, sem_name};
-use ppd_text::{put, put_number};
+use ppd_text::{put, put_count, put_number};
 use ppd_why::process_name;
 use std::alloc::Global;
 
@@ -77,11 +78,14 @@ fn source_line(alloc: Global, error: SourceError) -> Result<Vec<u8>, Memory>
     Ok(line)
 }
 
+/// The line of bytes past the limit, which it names.
 fn too_long_line(alloc: Global) -> Result<Vec<u8>, Memory>
     ensures { IfOk result (λ line. line.items ≡ refused_bytes bytes.TooLong) }
 {
     let mut line = Vec::new(alloc);
-    put(&mut line, b"recording refused bytes 7 TooLong 268435456\n")?;
+    put(&mut line, b"recording refused bytes 7 TooLong ")?;
+    put_count(&mut line, MOST_RECORDING_BYTES)?;
+    put(&mut line, b"\n")?;
     Ok(line)
 }
 

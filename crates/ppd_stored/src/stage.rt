@@ -1,5 +1,6 @@
 // The first fault of a source, as a part of a line.
-ghost use Rattle.std.specs.Prelude.{◌≡◌, ◌++◌, OnOk};
+ghost use Rattle.std.specs.Prelude.{◌≡◌, ◌≢◌, ◌++◌, OnOk};
+ghost use Rattle.ppd_check.specs.declared.error.SourceError.TheVariants as source;
 ghost use Rattle.ppd_text.specs.Texts.{place_text};
 ghost use Rattle.ppd_stored.specs.Stages.{stage_of_check, stage_of_lex, stage_of_syntax, stage_text};
 
@@ -61,7 +62,8 @@ fn put_check(text: &mut Vec<u8>, error: CheckError) -> Result<(), Memory>
 /// Appends the stage, the number, the name and the place of a source's first fault. The error is want of memory, and
 /// is also what comes where that is the fault.
 pub fn put_stage(text: &mut Vec<u8>, error: SourceError) -> Result<(), Memory>
-    ensures { OnOk result (text.new.items ≡ text.old.items ++ stage_text error) }
+    ensures text { OnOk result (text.new.items ≡ text.old.items ++ stage_text error) }
+    ensures fault { OnOk result (error ≢ source.Memory) }
 {
     match error {
         SourceError::Lex(error) => put_lex(text, error),

@@ -3,6 +3,8 @@ ghost use Rattle.std.specs.Prelude.{◌≡◌, ◌≤◌, length};
 ghost use Rattle.std.specs.List.{list_all};
 ghost use Rattle.ppd_ast.specs.Digits.{number_in as number_of, value_from, is_digit};
 
+use ppd_ast::is_digit;
+
 /// The value of digits, at most 9.
 fn value_of(digits: &[u8]) -> u64
     requires { length digits.now ≤ 9 }
@@ -13,12 +15,6 @@ fn value_of(digits: &[u8]) -> u64
         value = value * 10 + u64::from(digit.saturating_sub(b'0'));
     }
     value
-}
-
-fn is_digit(byte: u8) -> bool
-    ensures { result ≡ is_digit byte }
-{
-    b'0' <= byte && byte <= b'9'
 }
 
 fn are_digits(word: &[u8]) -> bool

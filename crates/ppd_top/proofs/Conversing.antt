@@ -12,7 +12,7 @@ use Rattle.ppd_io.specs.Lines.{GivesLine, Lined, lines_of}
 use Rattle.ppd_io.proofs.Prefixes.{appends_nothing, appends_twice}
 use Rattle.ppd_session.specs.Known.{Known}
 use Rattle.ppd_session.specs.Questions.{is_quit}
-use Rattle.ppd_past.specs.declared.flow_error.FlowError.{FlowError}
+use Rattle.ppd_session.specs.Sessions.{FlowError}
 use Rattle.ppd_session.specs.Texts.{failure_of, text_of}
 use Rattle.ppd_stored.specs.Refusals.{refused_replay}
 use Rattle.ppd_session.specs.Sessions.{IsWhy, error_of}
@@ -24,6 +24,8 @@ use Rattle.ppd_top.specs.Output.{AreAnswered, AreCommands, ArePlain, AppendsFron
 use Rattle.ppd_top.specs.Output.Talks.{whole, unread, unwritten, unfinished}
 use Rattle.ppd_top.specs.Top.{Finished}
 use Rattle.ppd_top.proofs.Split.{Goes_on, Is_long, after_all, after_long, after_more, at_end, append_more, no_further, plain_more, read_more, taken_so_far}
+use Rattle.ppd_model.proofs.Changes.{some}
+use Rattle.ppd_model.proofs.Parents.{none_some}
 
 pub texts_more : (x : Known) (ls : List (List ℕ)) (l : List ℕ) → texts x (ls ++ l ∷ []) ≡ texts x ls ++ text_of x l
 texts_more x [] l = append-nil (text_of x l)
@@ -337,16 +339,10 @@ module _ (x : Known) (n : ℕ) (a b c : Standing) where
       let w : Appends a.written c.written (texts x q.lines) = subst (λ v. Appends a.written v (texts x q.lines)) (sym same) q.written in
       unfinished h.on.commands h.on.told (subst (λ (o : Output). AppendsFront a.written c.written o.text) (sym all) (front_after a.written c.written (texts x q.lines) (answers_from x (length q.lines) (now.line ∷ h.rest)).text w))
 
-some_is : {A : Type 0} {x y : A} → Some x ≡ Some y → x ≡ y
-some_is {x = x} e = ap (λ o. elim o [ None ↦ x | Some z ↦ z ]) e
-
-none_some : {A : Type 0} {x : A} → None ≡ Some x → ⊥
-none_some e = absurd (cc)
-
 -- what is mapped to something is something
 mapped : {A B : Type 0} (f : A → B) (o : Option A) (v : B) → option_map f o ≡ Some v → (a : A) × (o ≡ Some a) × (f a ≡ v)
 mapped f None v e = absurd (none_some e)
-mapped f (Some a) v e = (a, refl, some_is e)
+mapped f (Some a) v e = (a, refl, some e)
 
 -- a line without an answer
 pub failed_becomes : (x : Known) (line : List ℕ) (error : SessionError) (old new : Option (List ℕ)) (before now status : ℕ)

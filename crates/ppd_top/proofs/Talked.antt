@@ -15,7 +15,7 @@ use Rattle.ppd_race.specs.Races.{races_of_logs}
 use Rattle.ppd_race.proofs.OfRuns.{of_runs}
 use Rattle.ppd_session.specs.Known.{Known, known_of_logs}
 use Rattle.ppd_session.specs.Questions.{is_quit}
-use Rattle.ppd_past.specs.declared.flow_error.FlowError.{FlowError}
+use Rattle.ppd_session.specs.Sessions.{FlowError}
 use Rattle.ppd_session.specs.Texts.{failure_of, text_of}
 use Rattle.ppd_session.proofs.Honest.{known_as}
 use Rattle.ppd_top.specs.declared.options.Options.{Options}

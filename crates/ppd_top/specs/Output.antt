@@ -7,7 +7,7 @@ use Rattle.ppd_io.specs.Content.{Appends, AppendsPart, Takes}
 use Rattle.ppd_io.specs.Lines.{HasNoNewline, lines_of}
 use Rattle.ppd_session.specs.Known.{Known}
 use Rattle.ppd_session.specs.Questions.{is_quit}
-use Rattle.ppd_past.specs.declared.flow_error.FlowError.{FlowError}
+use Rattle.ppd_session.specs.Sessions.{FlowError}
 use Rattle.ppd_session.specs.Sessions.{error_of}
 use Rattle.ppd_session.specs.Texts.{failure_of, text_of}
 use Rattle.ppd_stored.specs.Refusals.{refused_replay}

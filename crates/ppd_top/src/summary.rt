@@ -1,12 +1,12 @@
 // What is written of a run.
 ghost use Rattle.std.specs.Prelude.{◌≡◌, ◌++◌, ◌+◌, ◌<◌, ◌≤◌, ◌^◌, length, OnOk, IfOk, slice_get};
-ghost use Rattle.ppd_ast.specs.Lookups.{name_of_body};
 ghost use Rattle.ppd_top.specs.Summary.{place_at as place_for, end_text, end_texts, summary_of};
 
 use crate::text::{put_prints, put_status};
 use ppd_ast::{Memory, Place, Program};
 use ppd_model::ProcEnd;
 use ppd_session::Session;
+use ppd_show::body_name;
 use ppd_text::{put, put_number};
 use std::alloc::Global;
 
@@ -16,16 +16,6 @@ fn place_at(program: &Program, stmt: u32) -> Place
     match program.stmts.as_slice().get(stmt as usize) {
         Some(stmt) => stmt.place,
         None => Place { line: 1, column: 1 },
-    }
-}
-
-/// The name of a body.
-fn name_at(program: &Program, body: usize) -> &[u8]
-    ensures { result.now ≡ name_of_body (slice_get program.now.bodies body) }
-{
-    match program.bodies.as_slice().get(body) {
-        Some(body) => body.name.as_slice(),
-        None => &[],
     }
 }
 
@@ -55,7 +45,7 @@ fn put_ends(
     ensures { OnOk result (text.new.items ≡ text.old.items ++ end_texts program.now first ends.now) }
 {
     for index in 0..ends.len() {
-        let name = name_at(program, first as usize + index);
+        let name = body_name(program, first as usize + index);
         put_end(text, program, name, &ends[index])?;
     }
     Ok(())

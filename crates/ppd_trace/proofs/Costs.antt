@@ -74,6 +74,13 @@ module _ (program : Program) (s : Story) (k old : ℕ) where
       let all : k * sum_by length (take i s.steps) ≤ k * steps_in s = mul-le k (sum_by length (take i s.steps)) k (steps_in s) (omega arith) steps in
       omega arith
 
+  -- the same of a process's turn after which no other is taken
+  pub process_ends : (i : ℕ) (own : List Taken) (before now : ℕ) → i < length s.steps → own ≡ get_or s.steps i own → program.functions + i < length program.bodies → before ≤ spent_to i
+      → now ≤ before + 4 + 2 * size_if (slice_get program.bodies (program.functions + i)) + k * length own
+      → now ≤ old + 4 * length program.bodies + 2 * sum_by (λ b. b.cells) program.bodies + k * steps_in s
+  process_ends i own before now lt is there h g =
+      processes_within (i + 1) now (omega (arith, there)) (process_on i own before now lt is there h g)
+
 -- ---- list by list
 
 module _ (lists : List (List Taken)) (old i : ℕ) (own : List Taken) (before now : ℕ) (lt : i < length lists) (is : own ≡ get_or lists i own)

@@ -12,11 +12,12 @@ use Rattle.ppd_model.specs.declared.tracing.Taken.{Taken}
 use Rattle.ppd_model.specs.Bounds.{steps_left}
 use Rattle.ppd_model.specs.Schedule.{run, started_procs, started_world}
 use Rattle.ppd_model.specs.Story.{Moment, Telling, begun, count_events, moment_of, steps_of, tell, told}
-use Rattle.ppd_model.specs.World.{World, change}
+use Rattle.ppd_model.specs.World.{World, change, Each}
 use Rattle.ppd_model.proofs.Bounded.{ArePaid, in_all, started_all, started_count, started_paid}
 use Rattle.ppd_model.proofs.Changes.{length-change}
+use Rattle.ppd_model.proofs.Earlier.{each_more}
 use Rattle.ppd_trace.specs.Telling.{counts_after}
-use Rattle.ppd_world.proofs.Lists.{Every, every_change, every_more}
+use Rattle.ppd_world.proofs.Lists.{every_change}
 
 -- ---- one more moment
 
@@ -59,27 +60,27 @@ count_at (suc p) (ms ∷ rest) = count_at p rest
 -- ---- how few they are
 
 module _ (program : Program) (plan : Plan) where
-  told_within : (t : Telling) (n : ℕ) (h : List ℕ) → Every (λ (ms : List Moment). length ms ≤ n) t.moments → Every (λ (ms : List Moment). length ms ≤ n + length h) (fold (tell program plan) t h).moments
-  told_within t n [] e = every_more (λ (ms : List Moment). length ms ≤ n) (λ (ms : List Moment). length ms ≤ n + 0) t.moments (λ ms lt. omega arith) e
+  told_within : (t : Telling) (n : ℕ) (h : List ℕ) → Each (λ (ms : List Moment). length ms ≤ n) t.moments → Each (λ (ms : List Moment). length ms ≤ n + length h) (fold (tell program plan) t h).moments
+  told_within t n [] e = each_more (λ (ms : List Moment). length ms ≤ n) (λ (ms : List Moment). length ms ≤ n + 0) t.moments (λ ms lt. omega arith) e
   told_within t n (p ∷ h) e =
       let m : Moment = moment_of program plan t p in
-      let next : Every (λ (ms : List Moment). length ms ≤ n + 1) (tell program plan t p).moments =
+      let next : Each (λ (ms : List Moment). length ms ≤ n + 1) (tell program plan t p).moments =
       every_change (λ (ms : List Moment). length ms ≤ n) (λ (ms : List Moment). length ms ≤ n + 1) (λ ms. ms ++ m ∷ []) p t.moments (λ ms lt. omega arith)
       (λ ms is lt. let one : length (ms ++ m ∷ []) ≡ length ms + 1 = length-append ms (m ∷ []) in omega arith) e in
-      let all : Every (λ (ms : List Moment). length ms ≤ n + 1 + length h) (fold (tell program plan) (tell program plan t p) h).moments = told_within (tell program plan t p) (n + 1) h next in
-      every_more (λ (ms : List Moment). length ms ≤ n + 1 + length h) (λ (ms : List Moment). length ms ≤ n + length (p ∷ h)) (fold (tell program plan) (tell program plan t p) h).moments (λ ms lt. omega arith) all
+      let all : Each (λ (ms : List Moment). length ms ≤ n + 1 + length h) (fold (tell program plan) (tell program plan t p) h).moments = told_within (tell program plan t p) (n + 1) h next in
+      each_more (λ (ms : List Moment). length ms ≤ n + 1 + length h) (λ (ms : List Moment). length ms ≤ n + length (p ∷ h)) (fold (tell program plan) (tell program plan t p) h).moments (λ ms lt. omega arith) all
 
   same_length : (t : Telling) (h : List ℕ) → length (fold (tell program plan) t h).moments ≡ length t.moments
   same_length t [] = refl
   same_length t (p ∷ h) = same_length (tell program plan t p) h ∙ length-change (λ ms. ms ++ moment_of program plan t p ∷ []) p t.moments
 
-none_yet : (n : ℕ) (ps : List Proc) → Every (λ (ms : List Moment). length ms ≤ n) (map (λ _. []) ps)
+none_yet : (n : ℕ) (ps : List Proc) → Each (λ (ms : List Moment). length ms ≤ n) (map (λ _. []) ps)
 none_yet n [] = tt
 none_yet n (s ∷ ss) = (omega arith, none_yet n ss)
 
-pub moments_within : (program : Program) (plan : Plan) (budget : ℕ) (h : List ℕ) → Every (λ (ms : List Moment). length ms ≤ length h) (told program plan budget h).moments
+pub moments_within : (program : Program) (plan : Plan) (budget : ℕ) (h : List ℕ) → Each (λ (ms : List Moment). length ms ≤ length h) (told program plan budget h).moments
 moments_within program plan budget h =
-    every_more (λ (ms : List Moment). length ms ≤ 0 + length h) (λ (ms : List Moment). length ms ≤ length h) (told program plan budget h).moments (λ ms lt. omega arith)
+    each_more (λ (ms : List Moment). length ms ≤ 0 + length h) (λ (ms : List Moment). length ms ≤ length h) (told program plan budget h).moments (λ ms lt. omega arith)
     (told_within program plan (begun (started_world program plan budget)) 0 h (none_yet 0 (started_world program plan budget).procs))
 
 length_none : (ps : List Proc) → length {A = List Moment} (map (λ _. []) ps) ≡ length ps
@@ -91,7 +92,7 @@ how_many program plan budget h =
     same_length program plan (begun (started_world program plan budget)) h ∙ length_none (started_world program plan budget).procs
     ∙ started_count program plan budget 0 (length program.bodies - program.functions)
 
-count_within : (k p : ℕ) (moments : List (List Moment)) → Every (λ (ms : List Moment). length ms ≤ k) moments → get_or (map count_events moments) p 0 ≤ k
+count_within : (k p : ℕ) (moments : List (List Moment)) → Each (λ (ms : List Moment). length ms ≤ k) moments → get_or (map count_events moments) p 0 ≤ k
 count_within k p [] e = omega arith
 count_within k zero (ms ∷ rest) e =
     let within : count_events ms ≤ length ms = count_by-le-length (λ m. is_event m.taken.need) ms in

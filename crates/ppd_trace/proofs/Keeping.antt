@@ -8,7 +8,7 @@ use Rattle.ppd_ast.specs.declared.plan.Plan.{Plan}
 use Rattle.ppd_ast.specs.declared.program.Kind.{Kind}
 use Rattle.ppd_ast.specs.declared.program.Kind.TheVariants.{If, While}
 use Rattle.ppd_ast.specs.declared.program.Program.{Program}
-use Rattle.ppd_ast.specs.Lookups.{kind_of}
+use Rattle.ppd_ast.specs.Lookups.{kind_of, parent_if}
 use Rattle.ppd_sem.specs.declared.event.Event.{Event}
 use Rattle.ppd_sem.specs.declared.proc.Need.{Need}
 use Rattle.ppd_sem.specs.declared.proc.Need.TheVariants.{Trap}
@@ -27,7 +27,7 @@ use Rattle.ppd_model.specs.declared.tracing.Taken.{Taken}
 use Rattle.ppd_model.specs.declared.tracing.Test.{Test}
 use Rattle.ppd_model.specs.declared.tracing.Tracing.{Tracing}
 use Rattle.ppd_model.specs.FullTrace as trace
-use Rattle.ppd_model.specs.FullTrace.{Tag, event_of, into_at, latest, of_run, or_else, parent_if, tags_of}
+use Rattle.ppd_model.specs.FullTrace.{Tag, event_of, into_at, latest, of_run, or_else, tags_of}
 use Rattle.ppd_model.specs.Synchronizations.{paired_of}
 use Rattle.ppd_trace.specs.declared.tracer.Run.{Run}
 use Rattle.ppd_trace.specs.declared.tracer.Tracer.{Tracer}

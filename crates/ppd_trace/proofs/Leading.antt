@@ -18,7 +18,7 @@ use Rattle.ppd_model.specs.FullTrace.{or_else}
 use Rattle.ppd_model.specs.Numbers.{sync}
 use Rattle.ppd_sem.specs.Tables.{capacity_of}
 use Rattle.ppd_model.specs.Synchronizations.{Sync, event_or, is_number, kind_of_sync, leading_from, leading_in, leads_at, led_to, numbered, paired_of, sync_of}
-use Rattle.ppd_world.proofs.Lists.{get_or_any}
+use Rattle.ppd_model.proofs.Lists.{get_or_any}
 use Rattle.ppd_trace.specs.Leading.{HavePairs, KeepsFirst, found_in, is_target, looked_up, target, with_number}
 
 -- both words for an event say the same

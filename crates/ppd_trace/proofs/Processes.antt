@@ -15,7 +15,7 @@ use Rattle.ppd_model.specs.declared.tracing.Tracing.{Tracing}
 use Rattle.ppd_model.specs.FullTrace as trace
 use Rattle.ppd_model.specs.FullTrace.{Tag, begun_tracing}
 use Rattle.ppd_model.specs.LocalTags.{AreOwn}
-use Rattle.ppd_world.proofs.Lists.{get_or_any}
+use Rattle.ppd_model.proofs.Lists.{get_or_any}
 use Rattle.ppd_trace.specs.declared.tracer.Run.{Run}
 use Rattle.ppd_trace.specs.declared.tracer.Tracer.{Tracer}
 use Rattle.ppd_trace.specs.Runs.{begun_body, trace_by, trace_step, tracer_of}

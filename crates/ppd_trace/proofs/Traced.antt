@@ -16,8 +16,10 @@ use Rattle.ppd_model.specs.LocalTags.{AreOwn}
 use Rattle.ppd_model.specs.Story.{Moment, own_steps, steps_of, story, told}
 use Rattle.ppd_model.specs.World.{enabled}
 use Rattle.ppd_model.proofs.LocalTags.{own_steps_told}
+use Rattle.ppd_model.proofs.Earlier.{each_more}
+use Rattle.ppd_model.proofs.Lists.{get_or_any}
 use Rattle.ppd_world.specs.Running.{IsCause, Running, can_step}
-use Rattle.ppd_world.proofs.Lists.{every_all, every_map, every_more, get_or_any}
+use Rattle.ppd_world.proofs.Lists.{every_all, every_map}
 use Rattle.ppd_world.proofs.Reached.{at_place}
 use Rattle.ppd_trace.specs.Telling.{HasTold, Tells}
 use Rattle.ppd_trace.specs.Traced.{IsRefused, IsStoryOf, IsStuckAt, IsTraceable}
@@ -72,7 +74,7 @@ module _ (program : Program) (plan : Plan) (budget : ℕ) where
   few_steps h lt =
       every_all (λ (xs : List Taken). length xs < 2 ^ 32) (map steps_of (told program plan budget h).moments)
       (every_map (λ (xs : List Taken). length xs < 2 ^ 32) steps_of (told program plan budget h).moments
-      (every_more (λ (ms : List Moment). length ms ≤ length h) (λ (ms : List Moment). length (steps_of ms) < 2 ^ 32) (told program plan budget h).moments
+      (each_more (λ (ms : List Moment). length ms ≤ length h) (λ (ms : List Moment). length (steps_of ms) < 2 ^ 32) (told program plan budget h).moments
       (λ ms few. let same : length (steps_of ms) ≡ length ms = length-map ms (λ m. m.taken) in omega arith)
       (moments_within program plan budget h)))
 

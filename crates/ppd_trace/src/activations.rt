@@ -11,7 +11,7 @@ use crate::subject::Subject;
 use crate::tracer::Run;
 use ppd_ast::{Kind, Memory, Program, Seq, Steps};
 use ppd_model::EventId;
-use ppd_sem::{Effect, Need, Proc, Stack, call_values, next_effect};
+use ppd_sem::{Effect, Need, Proc, Stack, call_values, next_effect, size_at};
 use std::alloc::Global;
 use std::sync::ledger::Ledger;
 
@@ -72,16 +72,6 @@ pub(crate) fn push_copies<L: Ledger>(
     Ok(())
 }
 
-/// The size of a body's frame, and 0 past the table.
-fn size_of(program: &Program, body: u16) -> u16
-    ensures { result ≡ size_if (slice_get program.now.bodies body) }
-{
-    match program.bodies.as_slice().get(body as usize) {
-        Some(body) => body.cells,
-        None => 0,
-    }
-}
-
 /// The run that a call begins: its parameters, so many, have the call's tag.
 fn called<L: Ledger>(
     alloc: Global,
@@ -94,7 +84,7 @@ fn called<L: Ledger>(
     ensures value { IfOk result (λ run. run ≡ called_of program.now function count call) }
     ensures cost { steps.new ≤ steps.old + 2 * (count + size_if (slice_get program.now.bodies function)) }
 {
-    let others = (size_of(program, function) as usize).saturating_sub(count);
+    let others = (size_at(program, function) as usize).saturating_sub(count);
     let mut tags = Seq::new(alloc);
     push_copies(&mut tags, call, count, steps)?;
     push_copies(&mut tags, None, others, steps)?;

@@ -1,6 +1,6 @@
 ghost use Rattle.std.specs.Prelude.{◌≡◌, ◌+◌, ◌≤◌, slice_get, OnOk};
-ghost use Rattle.ppd_ast.specs.Lookups.{kind_of};
-ghost use Rattle.ppd_model.specs.FullTrace.{is_passed as is_passed_of, of_run as of_run_tests, or_else as or_else_of, parent_if};
+ghost use Rattle.ppd_ast.specs.Lookups.{kind_of, parent_if};
+ghost use Rattle.ppd_model.specs.FullTrace.{is_passed as is_passed_of, of_run as of_run_tests, or_else as or_else_of};
 ghost use Rattle.ppd_trace.specs.Runs.{of_outer as of_outer_tests, parent_at as parent_at_todo, parent_in as parent_in_run, tests_after, with_test};
 ghost use Rattle.ppd_trace.specs.Tagging.{passed_event as passed_event_of};
 

@@ -8,11 +8,13 @@ mod control;
 mod events;
 mod pairs;
 mod reads;
+mod setting;
 mod steps;
 mod subject;
 mod tellers;
 mod tracer;
 mod whole;
 
+pub use setting::Setting;
 pub use tellers::tell_story_in;
 pub use whole::{full_trace, full_trace_in};

@@ -3,14 +3,13 @@ ghost use Rattle.std.specs.List.{All};
 ghost use Rattle.ppd_model.specs.FullTrace.{or_else};
 ghost use Rattle.ppd_model.specs.Numbers.{sync};
 ghost use Rattle.ppd_model.specs.Synchronizations.{event_or, kind_of_sync as kind_of, leading_in, led_to as number_led_to, paired_of, sync_of};
-ghost use Rattle.ppd_sem.specs.Tables.{capacity_of as capacity_in_program};
 ghost use Rattle.ppd_sem.specs.Described.{is_event};
 ghost use Rattle.ppd_trace.specs.Leading.{HavePairs, KeepsFirst, LeadTo, found_in, looked_up, target};
 ghost use Rattle.ppd_trace.specs.Spending.{steps_in};
 
 use ppd_ast::{Memory, Program, Steps, SyncKind};
 use ppd_model::{EventId, Story, Taken};
-use ppd_sem::Need;
+use ppd_sem::{Need, capacity_of};
 use std::alloc::Global;
 use std::collections::HashMap;
 use std::sync::ledger::Ledger;
@@ -26,16 +25,6 @@ pub(crate) struct PairedStory {
     receives: Leads,
     sends: Leads,
     completes: Leads,
-}
-
-/// How many values a channel holds at most, and 0 past the table.
-fn capacity_of(program: &Program, chan: u8) -> u8
-    ensures { result ≡ capacity_in_program program.now chan }
-{
-    match program.chans.as_slice().get(chan as usize) {
-        Some(chan) => chan.capacity,
-        None => 0,
-    }
 }
 
 /// The kind and the object of a synchronization.
@@ -143,9 +132,8 @@ fn add_process<L: Ledger>(
     ensures cost { steps.new ≤ steps.old + 3 * length own.now }
 {
     let mut number = 0;
-    for index in 0..own.len() {
+    for taken in own {
         steps.tick();
-        let taken = &own[index];
         let target = target_of(program, kind, taken);
         keep_first(leads, target, EventId { process, number }, steps)?;
         number = number_after(number, taken);
@@ -168,9 +156,9 @@ fn leads_to<L: Ledger>(
 {
     let lists = story.steps.as_slice();
     let mut leads = HashMap::new(alloc);
-    for process in 0..lists.len() {
+    for (process, own) in lists.iter().enumerate() {
         steps.tick();
-        let own = lists[process].as_slice();
+        let own = own.as_slice();
         add_process(program, kind, process as u8, own, &mut leads, steps)?;
     }
     Ok(leads)

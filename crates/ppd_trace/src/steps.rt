@@ -124,9 +124,8 @@ pub(crate) fn trace_process<L: Ledger>(
         + (3 * most_cells subject.now.program.now + 12) * length own.now }
 {
     let mut tracer = begin(subject, budget, steps)?;
-    for index in 0..own.len() {
+    for taken in own {
         steps.tick();
-        let taken = &own[index];
         trace_step(subject, taken, &mut tracer, steps)?;
     }
     Ok(tracer.events)

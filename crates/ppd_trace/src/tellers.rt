@@ -1,15 +1,14 @@
 ghost use Rattle.std.specs.Prelude.{◌≡◌, ◌+◌, ◌-◌, ◌*◌, ◌<◌, ◌≤◌, ◌^◌, ◌++◌, ◌∷◌, [], get_or, length, replicate, true, IfErr, IfOk, OnOk, None};
 ghost use Rattle.ppd_ast.specs.Valid.{IsValid};
-ghost use Rattle.ppd_ast.specs.ValidPlan.{IsValidPlan};
 ghost use Rattle.ppd_model.specs.World.{change};
 ghost use Rattle.ppd_world.specs.Running.{IsCause, IsReached, can_step};
 ghost use Rattle.ppd_trace.specs.Telling.{HasTold, Tells, counts_after, with_writer, writers_set};
-ghost use Rattle.ppd_trace.specs.Traced.{IsStoryOf};
+ghost use Rattle.ppd_trace.specs.Traced.{IsStoryOf, IsTraceable};
 
 use crate::activations::push_copies;
 use crate::reads::tag_in;
-use ppd_ast::limits::MOST_BUDGET;
-use ppd_ast::{Ids, Memory, Nums, Plan, Program, Seq, Steps};
+use crate::setting::Setting;
+use ppd_ast::{Ids, Memory, Nums, Program, Seq, Steps};
 use ppd_model::{DriveError, EventId, Story, Taken};
 use ppd_sem::Need;
 use ppd_world::World;
@@ -212,21 +211,16 @@ fn process_count(program: &Program) -> usize
 }
 
 /// Before the first step nothing is told.
-fn begin<'a, L: Ledger>(
-    alloc: Global,
-    program: &'a Program,
-    plan: &'a Plan,
-    budget: u32,
-    steps: &mut Steps<L>,
-) -> Result<Teller<'a>, Memory>
-    requires program { IsValid program.now }
-    requires plan { IsValidPlan program.now plan.now }
-    requires budget { budget ≤ MOST_BUDGET }
-    ensures cost { steps.new ≤ steps.old + 4 * (length program.now.starts + length program.now.bodies) }
-    ensures told { IfOk result (λ t. Tells program.now plan.now budget [] t.world t.counts t.writers t.steps.items) }
+fn begin<'a, L: Ledger>(setting: &Setting<'a>, steps: &mut Steps<L>) -> Result<Teller<'a>, Memory>
+    ensures cost { steps.new
+        ≤ steps.old + 4 * (length setting.now.program.starts + length setting.now.program.bodies) }
+    ensures told { IfOk result
+        (λ t. Tells setting.now.program setting.now.plan setting.now.budget [] t.world t.counts t.writers
+        t.steps.items) }
 {
-    let world = World::new(alloc, program, plan, budget)?;
-    let count = process_count(program);
+    let alloc = setting.alloc;
+    let world = World::new(alloc, setting.program, setting.plan, setting.budget)?;
+    let count = process_count(setting.program);
     Ok(Teller {
         counts: zeros(alloc, count, steps)?,
         writers: no_writers(alloc, world.cells().len(), steps)?,
@@ -274,32 +268,29 @@ fn close<L: Ledger>(alloc: Global, teller: Teller, steps: &mut Steps<L>) -> Resu
     })
 }
 
-/// The story of a schedule of a valid program with a valid plan. The budget, at most 500,000, is
-/// that of each process. `NotEnabled(n)`: the first `n` steps can be taken, and number `n`, from 0,
+/// The story of a schedule. `NotEnabled(n)`: the first `n` steps can be taken, and number `n`, from 0,
 /// is the first that names no enabled process. `Memory` is want of memory. It is told in at most 7
 /// steps for each number of the schedule and for each shared cell and body of the program, also
 /// where it ends in an error. A step is a turn of a loop, an item that is put into a list, or a call
 /// that lets one statement be evaluated; so the memory that is taken is bounded by as much, but for
 /// what the world takes.
 pub fn tell_story_in<L: Ledger>(
-    alloc: Global,
-    program: &Program,
-    plan: &Plan,
-    budget: u32,
+    setting: &Setting,
     schedule: &[u8],
     steps: &mut Steps<L>,
 ) -> Result<Story, DriveError>
-    requires budget { budget ≤ MOST_BUDGET }
-    requires program { IsValid program.now }
-    requires plan { IsValidPlan program.now plan.now }
-    ensures story { IsStoryOf program.now plan.now budget schedule.now result }
+    ensures story { IsStoryOf setting.now.program setting.now.plan setting.now.budget schedule.now result }
+    ensures traceable { IfOk result
+        (IsTraceable setting.now.program setting.now.plan setting.now.budget) }
     ensures cost { steps.new
-        ≤ steps.old + 7 * (length schedule.now + length program.now.starts + length program.now.bodies) }
+        ≤ steps.old
+        + 7 * (length schedule.now + length setting.now.program.starts + length setting.now.program.bodies) }
 {
-    let mut teller = begin(alloc, program, plan, budget, steps)?;
-    for index in 0..schedule.len() {
+    let alloc = setting.alloc;
+    let mut teller = begin(setting, steps)?;
+    for (index, number) in schedule.iter().enumerate() {
         steps.tick();
-        teller.follow(schedule[index], index as u32, steps)?;
+        teller.follow(*number, index as u32, steps)?;
     }
     Ok(close(alloc, teller, steps)?)
 }

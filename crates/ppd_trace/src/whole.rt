@@ -3,12 +3,12 @@ ghost use Rattle.std.specs.List.{sum_by};
 ghost use Rattle.ppd_ast.specs.Valid.{IsValid};
 ghost use Rattle.ppd_ast.specs.ValidPlan.{IsValidPlan};
 ghost use Rattle.ppd_model.specs.FullTrace.{trace_of};
-ghost use Rattle.ppd_sem.specs.Runs.{IsNumbered, IsRunnable};
 ghost use Rattle.ppd_trace.specs.Subjects.{ArePaired};
 ghost use Rattle.ppd_trace.specs.Spending.{extent, most_cells, steps_in};
 ghost use Rattle.ppd_trace.specs.Traced.{IsTraceOf, IsTraceOfAgreeing, IsTraceable};
 
 use crate::pairs::{PairedStory, find_pairs};
+use crate::setting::Setting;
 use crate::steps::trace_process;
 use crate::subject::Subject;
 use crate::tellers::tell_story_in;
@@ -21,35 +21,33 @@ use std::sync::ledger::{Blank, Ledger};
 
 /// The trace of a story.
 fn trace_all<L: Ledger>(
-    alloc: Global,
-    program: &Program,
-    plan: &Plan,
-    budget: u32,
+    setting: &Setting,
     told: &PairedStory,
     steps: &mut Steps<L>,
 ) -> Result<Trace, Memory>
-    requires program { IsRunnable program.now }
-    requires plan { IsNumbered plan.now }
-    requires story { IsTraceable program.now plan.now budget told.now.story }
-    requires pairs { ArePaired program.now told.now }
-    ensures trace { IfOk result (λ trace. trace ≡ trace_of program.now plan.now budget told.now.story) }
+    requires story { IsTraceable setting.now.program setting.now.plan setting.now.budget told.now.story }
+    requires pairs { ArePaired setting.now.program told.now }
+    ensures trace { IfOk result
+        (λ trace. trace
+        ≡ trace_of setting.now.program setting.now.plan setting.now.budget told.now.story) }
     ensures cost { steps.new
-        ≤ steps.old + 4 * length program.now.bodies + 2 * sum_by (λ b. b.cells) program.now.bodies
-        + (3 * most_cells program.now + 12) * steps_in told.now.story }
+        ≤ steps.old + 4 * length setting.now.program.bodies + 2 * sum_by (λ b. b.cells) setting.now.program.bodies
+        + (3 * most_cells setting.now.program + 12) * steps_in told.now.story }
 {
+    let alloc = setting.alloc;
     let lists = told.story.steps.as_slice();
     let mut events = Seq::new(alloc);
-    for process in 0..lists.len() {
+    for (process, own) in lists.iter().enumerate() {
         steps.tick();
-        let own = lists[process].as_slice();
+        let own = own.as_slice();
         let subject = Subject {
             alloc,
-            program,
-            plan,
+            program: setting.program,
+            plan: setting.plan,
             told,
             process: process as u8,
         };
-        let traced = trace_process(&subject, budget, own, steps)?;
+        let traced = trace_process(&subject, setting.budget, own, steps)?;
         steps.tick();
         events.push(traced)?;
     }
@@ -58,21 +56,19 @@ fn trace_all<L: Ledger>(
 
 /// The trace of the story of a valid program's schedule.
 fn trace_story<L: Ledger>(
-    alloc: Global,
-    program: &Program,
-    plan: &Plan,
-    budget: u32,
+    setting: &Setting,
     story: Story,
     steps: &mut Steps<L>,
 ) -> Result<Trace, Memory>
-    requires program { IsValid program.now }
-    requires plan { IsValidPlan program.now plan.now }
-    requires story { IsTraceable program.now plan.now budget story }
-    ensures trace { IfOk result (λ trace. trace ≡ trace_of program.now plan.now budget story) }
-    ensures cost { steps.new ≤ steps.old + 8 * extent program.now + (3 * most_cells program.now + 24) * steps_in story }
+    requires story { IsTraceable setting.now.program setting.now.plan setting.now.budget story }
+    ensures trace { IfOk result
+        (λ trace. trace ≡ trace_of setting.now.program setting.now.plan setting.now.budget story) }
+    ensures cost { steps.new
+        ≤ steps.old + 8 * extent setting.now.program
+        + (3 * most_cells setting.now.program + 24) * steps_in story }
 {
-    let told = find_pairs(alloc, program, story, steps)?;
-    trace_all(alloc, program, plan, budget, &told, steps)
+    let told = find_pairs(setting.alloc, setting.program, story, steps)?;
+    trace_all(setting, &told, steps)
 }
 
 /// The full trace, as `full_trace` answers it, in a number of steps that is linear in the schedule. A
@@ -80,46 +76,33 @@ fn trace_story<L: Ledger>(
 /// that lets one statement be evaluated; so the memory that is taken is linear in the schedule too.
 /// What one number of the schedule costs depends on the program alone, by the cells that one of its
 /// statements reads and writes at most. Beside it the shared cells, the bodies and the cells of their
-/// frames are counted once. The bound holds for an error too. The budget is at most 500,000, and the
-/// errors are those of `full_trace`.
+/// frames are counted once. The bound holds for an error too. The errors are those of `full_trace`.
 pub fn full_trace_in<L: Ledger>(
-    alloc: Global,
-    program: &Program,
-    plan: &Plan,
-    budget: u32,
+    setting: &Setting,
     schedule: &[u8],
     steps: &mut Steps<L>,
 ) -> Result<Trace, DriveError>
-    requires program { IsValid program.now }
-    requires plan { IsValidPlan program.now plan.now }
-    requires budget { budget ≤ MOST_BUDGET }
-    ensures trace { IsTraceOf program.now plan.now budget schedule.now result }
+    ensures trace { IsTraceOf setting.now.program setting.now.plan setting.now.budget schedule.now result }
     ensures cost { steps.new
-        ≤ steps.old + (3 * most_cells program.now + 31) * (length schedule.now + extent program.now) }
+        ≤ steps.old + (3 * most_cells setting.now.program + 31) * (length schedule.now + extent setting.now.program) }
 {
-    let story = tell_story_in(alloc, program, plan, budget, schedule, steps)?;
-    Ok(trace_story(alloc, program, plan, budget, story, steps)?)
+    let story = tell_story_in(setting, schedule, steps)?;
+    Ok(trace_story(setting, story, steps)?)
 }
 
 /// The full trace, with steps that nobody reads.
 fn full_trace_from<L: Ledger>(
-    alloc: Global,
-    program: &Program,
-    plan: &Plan,
-    budget: u32,
+    setting: &Setting,
     schedule: &[u8],
     blank: Blank,
 ) -> Result<Trace, DriveError>
     requires name { blank.name ≡ L.name }
     requires parts { blank.parts ≡ L.parts }
     requires some { 0 < blank.parts }
-    requires program { IsValid program.now }
-    requires plan { IsValidPlan program.now plan.now }
-    requires budget { budget ≤ MOST_BUDGET }
-    ensures { IsTraceOf program.now plan.now budget schedule.now result }
+    ensures { IsTraceOf setting.now.program setting.now.plan setting.now.budget schedule.now result }
 {
     let mut steps: Steps<L> = Steps::new(blank);
-    full_trace_in(alloc, program, plan, budget, schedule, &mut steps)
+    full_trace_in(setting, schedule, &mut steps)
 }
 
 /// The full trace of a schedule of a valid program with a valid plan (Choi, Miller and Netzer 1991,
@@ -143,5 +126,6 @@ pub fn full_trace(
     ensures trace { IsTraceOf program.now plan.now budget schedule.now result }
     ensures agreeing { IsTraceOfAgreeing program.now plan.now budget schedule.now result }
 {
-    full_trace_from::<Brand>(alloc, program, plan, budget, schedule, Blank::new(1))
+    let setting = Setting::new(alloc, program, plan, budget);
+    full_trace_from::<Brand>(&setting, schedule, Blank::new(1))
 }

@@ -4,3 +4,4 @@
 mod devices;
 
 pub use devices::{Devices, Trial};
+pub use ppd_top::{FollowError, Options, follow, ppd};

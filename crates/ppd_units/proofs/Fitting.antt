@@ -1,6 +1,6 @@
 -- In a valid program what follows a statement is a statement.
 use Rattle.std.proofs.Common.{◌≡◌, ℕ, zero, suc, ◌<◌, List, [], ◌∷◌, Bool, Option, Some, None, refl, sym, subst, inl, inr, length, true≢false}
-use Rattle.std.specs.Prelude.{nat_eq, nat_lt, slice_get, ⊤, if◌then◌else◌}
+use Rattle.std.specs.Prelude.{nat_eq, nat_lt, slice_get, ⊤, if◌then◌else◌, option_to_list}
 use Rattle.std.proofs.lemmas.Bool.{cases_Bool, cond-true, cond-false}
 use Rattle.ppd_ast.specs.declared.program.Kind.{Kind}
 use Rattle.ppd_ast.specs.declared.program.Kind.TheVariants as K
@@ -13,8 +13,9 @@ use Rattle.ppd_ast.proofs.ValidLaws.{inner_below, top_below, slice_get_below}
 use Rattle.ppd_ast.specs.Members.{has, AreBelow}
 use Rattle.ppd_ast.specs.Lookups.{kind_of_stmt, kind_of, top_of_body, top_of}
 use Rattle.ppd_ast.proofs.Members.{has_first, has_later, has_cons, has_left, has_right, all_has}
-use Rattle.ppd_cfg.specs.Lists.{to_list, first_or, rising, rising_pair}
+use Rattle.ppd_cfg.specs.Lists.{first_or, rising, rising_pair}
 use Rattle.ppd_cfg.specs.Flow.{next_in, follow_within, follow_under, follow_of, follow_at, follow, successors, next_of}
+use Rattle.ppd_sets.proofs.Calling.{one_below}
 
 -- the number, if there is one, is below n
 abbrev pub Fits : ℕ → Option ℕ → Type 0
@@ -24,10 +25,7 @@ Fits n (Some x) = x < n
 pub none_below : (n : ℕ) → AreBelow n []
 none_below n x h = absurd (true≢false (sym h))
 
-pub one_below : (n b : ℕ) → b < n → AreBelow n (b ∷ [])
-one_below n b l x h = elim (has_cons b x [] h) [ inl e ↦ subst (λ y. y < n) e l | inr t ↦ absurd (true≢false (sym t)) ]
-
-pub listed_below : (n : ℕ) (o : Option ℕ) → Fits n o → AreBelow n (to_list o)
+pub listed_below : (n : ℕ) (o : Option ℕ) → Fits n o → AreBelow n (option_to_list o)
 listed_below n None f = none_below n
 listed_below n (Some x) f = one_below n x f
 

@@ -1,6 +1,6 @@
 -- The cells of a unit by flow paths, and that they are shared cells, rising.
 use Rattle.std.proofs.Common.{◌≡◌, ℕ, zero, suc, ◌+◌, ◌<◌, ◌≤◌, List, [], ◌∷◌, ◌++◌, Bool, true, false, Option, Some, None, length, get_or, refl, sym, ap, subst, arith, inl, inr, true≢false}
-use Rattle.std.specs.Prelude.{IsTrue, not}
+use Rattle.std.specs.Prelude.{IsTrue, not, option_to_list}
 use Rattle.std.specs.List.{All, flat_map, range_with_len, filter}
 use Rattle.std.specs.List.Sorted.{IsStrictlyIncreasing}
 use Rattle.std.proofs.lemmas.List.Kept.{IsStrictlyIncreasing-filter}
@@ -9,7 +9,6 @@ use Rattle.ppd_ast.specs.declared.program.Program.{Program}
 use Rattle.ppd_ast.specs.declared.plan.Start.{Start}
 use Rattle.ppd_ast.specs.Members.{has, those}
 use Rattle.ppd_ast.proofs.Members.{has_first, has_later, has_cons, has_filter, filter_has, from_zero, flat_gives, flat_from}
-use Rattle.ppd_cfg.specs.Lists.{to_list}
 use Rattle.ppd_cfg.specs.Reach.{Reached, start, next, closure, leads}
 use Rattle.ppd_cfg.specs.Flow.{next_of}
 use Rattle.ppd_cfg.proofs.Leading.{leads-tests}
@@ -24,7 +23,7 @@ at_place [] k d h = absurd (omega arith)
 at_place (x ∷ xs) zero d h = has_first x xs
 at_place (x ∷ xs) (suc k) d h = has_later x (get_or xs k d) xs (at_place xs k d (omega arith))
 
-not_true : (b : Bool) → IsTrue (not b) → b ≡ false
+pub not_true : (b : Bool) → IsTrue (not b) → b ≡ false
 not_true true h = absurd (true≢false (sym h))
 not_true false h = refl
 
@@ -79,7 +78,7 @@ none_reached : (rows : List (List ℕ)) (t : ℕ) → Reached rows [] t → ⊥
 none_reached rows t (start h) = absurd (true≢false (sym h))
 none_reached rows t (next {a = a} r h) = none_reached rows a r
 
-begun : (p : Program) (loops : List ℕ) (s : Start) (c t : ℕ) (o : Option ℕ) → begin_of p loops s ≡ o → Reached (unit_rows p loops) (to_list o) t → IsTrue (has (reads_at true p t) c) → MayRead p loops s c
+begun : (p : Program) (loops : List ℕ) (s : Start) (c t : ℕ) (o : Option ℕ) → begin_of p loops s ≡ o → Reached (unit_rows p loops) (option_to_list o) t → IsTrue (has (reads_at true p t) c) → MayRead p loops s c
 begun p loops s c t None e r h = absurd (none_reached (unit_rows p loops) t r)
 begun p loops s c t (Some first) e r h = let way = chain p loops first t r in record { first = first; begins = e; rest = way.0; stmt = t; path = way.1; read = h }
 
@@ -87,7 +86,7 @@ pub cells_by_paths : CellsByPaths
 cells_by_paths p loops s c v =
     let n : ℕ = length p.stmts in
     let rows : List (List ℕ) = unit_rows p loops in
-    let starts : List ℕ = to_list (begin_of p loops s) in
+    let starts : List ℕ = option_to_list (begin_of p loops s) in
     let test : ℕ → Bool = leads (closure rows) starts in
     let cells : List ℕ = flat_map (reads_at true p) (those n test) in (
       (λ h.
@@ -95,7 +94,7 @@ cells_by_paths p loops s c v =
           let reached = (leads-tests rows starts t.0).0 (has_filter test (range_with_len 0 n) t.0 t.1).1 in
           begun p loops s c t.0 (begin_of p loops s) refl reached t.2),
       (λ (m : MayRead p loops s c).
-          let first : Reached rows starts m.first = subst (λ (o : Option ℕ). Reached rows (to_list o) m.first) (sym m.begins) (start (has_first m.first [])) in
+          let first : Reached rows starts m.first = subst (λ (o : Option ℕ). Reached rows (option_to_list o) m.first) (sym m.begins) (start (has_first m.first [])) in
           let reached : Reached rows starts m.stmt = along p loops starts m.first m.rest m.stmt first m.path in
           let stands = filter_has test (range_with_len 0 n) m.stmt (from_zero m.stmt n (read_is_stmt p m.stmt c m.read)) ((leads-tests rows starts m.stmt).1 reached) in
           let few : length p.starts ≤ 1024 = v.limits.starts in
@@ -106,7 +105,7 @@ cells_by_paths p loops s c v =
 pub cells_are_shared : CellsAreShared
 cells_are_shared p loops s v =
     let rows : List (List ℕ) = unit_rows p loops in
-    let starts : List ℕ = to_list (begin_of p loops s) in
+    let starts : List ℕ = option_to_list (begin_of p loops s) in
     let stmts : List ℕ = those (length p.stmts) (leads (closure rows) starts) in
     let cells : List ℕ = flat_map (reads_at true p) stmts in
     record {

@@ -1,6 +1,6 @@
 -- The ways that stay in a unit.
-use Rattle.std.proofs.Common.{◌≡◌, ◌≢◌, ℕ, zero, suc, ◌+◌, ◌-◌, ◌<◌, ◌≤◌, List, [], Bool, true, false, Option, Some, None, refl, sym, ap, ◌∙◌, subst, arith, inl, inr, length, get_or, drop, cond}
-use Rattle.std.specs.Prelude.{IsTrue, nat_eq, not, ◌||◌, slice_get}
+use Rattle.std.proofs.Common.{◌≡◌, ◌≢◌, ℕ, zero, suc, ◌+◌, ◌-◌, ◌<◌, ◌≤◌, List, [], Bool, true, false, Option, Some, None, refl, sym, ap, ◌∙◌, subst, arith, inl, inr, length, cond}
+use Rattle.std.specs.Prelude.{IsTrue, nat_eq, not, ◌||◌, slice_get, option_to_list}
 use Rattle.std.specs.List.{filter}
 use Rattle.std.proofs.lemmas.Bool.{cases_Bool, cond-true, cond-false}
 use Rattle.ppd_ast.specs.declared.program.Stmt.{Stmt}
@@ -9,25 +9,14 @@ use Rattle.ppd_ast.specs.declared.plan.Start.TheVariants.{Entry, After, Enter, E
 use Rattle.ppd_ast.specs.Valid.{IsValid}
 use Rattle.ppd_ast.specs.Members.{has, AreBelow}
 use Rattle.ppd_ast.proofs.Members.{has_filter, filter_has}
-use Rattle.ppd_cfg.specs.Lists.{row, to_list}
+use Rattle.ppd_ast.specs.Lookups.{parent_if}
+use Rattle.ppd_cfg.specs.Lists.{row}
 use Rattle.ppd_cfg.specs.WorkList.{AreRowsBelow}
 use Rattle.ppd_cfg.specs.Flow.{next_of, flow_rows}
 use Rattle.ppd_cfg.proofs.Rows.{row_at, rows_are, length_rows}
-use Rattle.ppd_cfg.proofs.Searches as S
 use Rattle.ppd_cfg.proofs.Leading.{row_there}
-use Rattle.ppd_units.specs.Walk.{parent_of, stands_at, enters, is_between, unit_next, unit_rows, unless, begin_of}
+use Rattle.ppd_units.specs.Walk.{stands_at, enters, is_between, unit_next, unit_rows, unless, begin_of}
 use Rattle.ppd_units.proofs.Fitting.{Fits, listed_below, next_below, follow_fits, first_of_body_fits}
-
--- ---- a search
-
-pub nothing_left : (xs : List ℕ) (i : ℕ) → length xs ≤ i → drop i xs ≡ []
-nothing_left xs i h = S.nothing_left xs i h
-
-pub has_here : (xs : List ℕ) (i n : ℕ) → i < length xs → nat_eq (get_or xs i 0) n ≡ true → has (drop i xs) n ≡ true
-has_here xs i n h e = S.has_here xs i n h e
-
-pub has_on : (xs : List ℕ) (i n : ℕ) → i < length xs → nat_eq (get_or xs i 0) n ≡ false → has (drop i xs) n ≡ has (drop (i + 1) xs) n
-has_on xs i n h e = S.has_on xs i n h e
 
 -- ---- what a statement stands in
 
@@ -40,10 +29,10 @@ unfolding stands_at
 stands_none zero stmts q = refl
 stands_none (suc d) stmts q = refl
 
-pub stands_some : (depth : ℕ) (stmts : List Stmt) (q s : ℕ) → depth ≢ 0 → stands_at depth stmts q (Some s) ≡ (nat_eq s q || stands_at (depth - 1) stmts q (parent_of (slice_get stmts s)))
+pub stands_some : (depth : ℕ) (stmts : List Stmt) (q s : ℕ) → depth ≢ 0 → stands_at depth stmts q (Some s) ≡ (nat_eq s q || stands_at (depth - 1) stmts q (parent_if (slice_get stmts s)))
 unfolding stands_at
 stands_some zero stmts q s h = absurd (h refl)
-stands_some (suc d) stmts q s h = let e : d ≡ suc d - 1 = omega arith in ap (λ k. nat_eq s q || stands_at k stmts q (parent_of (slice_get stmts s))) e
+stands_some (suc d) stmts q s h = let e : d ≡ suc d - 1 = omega arith in ap (λ k. nat_eq s q || stands_at k stmts q (parent_if (slice_get stmts s))) e
 
 -- ---- the rows
 
@@ -82,14 +71,14 @@ unless_fits n test (Some x) f = elim (cases_Bool (test x)) [
   | inr e ↦ subst (Fits n) (sym (unless_no test x e)) f
 ]
 
-pub entry_below : (p : Program) (loops : List ℕ) (b : ℕ) → IsValid p → AreBelow (length p.stmts) (to_list (begin_of p loops (Entry b)))
+pub entry_below : (p : Program) (loops : List ℕ) (b : ℕ) → IsValid p → AreBelow (length p.stmts) (option_to_list (begin_of p loops (Entry b)))
 entry_below p loops b v = listed_below (length p.stmts) (begin_of p loops (Entry b)) (unless_fits (length p.stmts) (has loops) _ (first_of_body_fits p b v))
 
-pub after_below : (p : Program) (loops : List ℕ) (s : ℕ) → IsValid p → AreBelow (length p.stmts) (to_list (begin_of p loops (After s)))
+pub after_below : (p : Program) (loops : List ℕ) (s : ℕ) → IsValid p → AreBelow (length p.stmts) (option_to_list (begin_of p loops (After s)))
 after_below p loops s v = listed_below (length p.stmts) (begin_of p loops (After s)) (unless_fits (length p.stmts) (enters p loops s) _ (follow_fits p s v))
 
-pub exit_below : (p : Program) (loops : List ℕ) (s : ℕ) → IsValid p → AreBelow (length p.stmts) (to_list (begin_of p loops (Exit s)))
+pub exit_below : (p : Program) (loops : List ℕ) (s : ℕ) → IsValid p → AreBelow (length p.stmts) (option_to_list (begin_of p loops (Exit s)))
 exit_below p loops s v = listed_below (length p.stmts) (begin_of p loops (Exit s)) (unless_fits (length p.stmts) (enters p loops s) _ (follow_fits p s v))
 
-pub enter_below : (p : Program) (loops : List ℕ) (s : ℕ) → s < length p.stmts → AreBelow (length p.stmts) (to_list (begin_of p loops (Enter s)))
+pub enter_below : (p : Program) (loops : List ℕ) (s : ℕ) → s < length p.stmts → AreBelow (length p.stmts) (option_to_list (begin_of p loops (Enter s)))
 enter_below p loops s h = listed_below (length p.stmts) (Some s) h

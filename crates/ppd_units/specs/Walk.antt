@@ -1,5 +1,5 @@
 -- What the walk of a unit reaches, and the shared cells that it may read.
-use Rattle.std.specs.Prelude.{ℕ, zero, suc, nat_eq, Bool, true, false, not, ◌&&◌, ◌||◌, List, map, length, Option, Some, None, slice_get, if◌then◌else◌}
+use Rattle.std.specs.Prelude.{ℕ, zero, suc, nat_eq, Bool, true, false, not, ◌&&◌, ◌||◌, List, map, length, Option, Some, None, slice_get, if◌then◌else◌, option_to_list}
 use Rattle.std.specs.List.{flat_map, range_with_len, filter}
 use Rattle.ppd_ast.specs.declared.program.Stmt.{Stmt}
 use Rattle.ppd_ast.specs.declared.program.Program.{Program}
@@ -8,23 +8,19 @@ use Rattle.ppd_ast.specs.declared.plan.Start.TheVariants.{Entry, After, Enter, E
 use Rattle.ppd_ast.specs.declared.limits.TheConstants.{MOST_NESTING}
 use Rattle.ppd_ast.specs.Numbered.{is_left}
 use Rattle.ppd_ast.specs.Members.{has, those}
-use Rattle.ppd_ast.specs.Lookups.{kind_of, top_of}
-use Rattle.ppd_cfg.specs.Lists.{to_list, first_or}
+use Rattle.ppd_ast.specs.Lookups.{kind_of, top_of, parent_if}
+use Rattle.ppd_cfg.specs.Lists.{first_or}
 use Rattle.ppd_cfg.specs.Reach.{closure, leads}
 use Rattle.ppd_cfg.specs.Flow.{follow, next_of}
 use Rattle.ppd_sets.specs.Used.{reads_at, sorted}
 
 -- ---- the ways of a unit
 
-abbrev pub parent_of : Option Stmt → Option ℕ
-parent_of None = None
-parent_of (Some x) = x.parent
-
 -- whether q is among this statement and those that it stands in, so many of them
 unfoldable pub stands_at : (depth : ℕ) → List Stmt → (q : ℕ) → Option ℕ → Bool
 stands_at zero stmts q o = false
 stands_at (suc d) stmts q None = false
-stands_at (suc d) stmts q (Some s) = nat_eq s q || stands_at d stmts q (parent_of (slice_get stmts s))
+stands_at (suc d) stmts q (Some s) = nat_eq s q || stands_at d stmts q (parent_if (slice_get stmts s))
 
 -- whether statement s is q or stands in it
 abbrev pub stands_in : Program → (s q : ℕ) → Bool
@@ -74,4 +70,4 @@ cells_along p rows starts = sorted (flat_map (reads_at true p) (those (length p.
 
 -- the shared cells that a unit may read
 abbrev pub unit_cells : Program → (loops : List ℕ) → Start → List ℕ
-unit_cells p loops start = cells_along p (unit_rows p loops) (to_list (begin_of p loops start))
+unit_cells p loops start = cells_along p (unit_rows p loops) (option_to_list (begin_of p loops start))

@@ -1,18 +1,16 @@
 // The shared cells that a unit may read.
-ghost use Rattle.std.specs.Prelude.{◌≡◌, true, length, IfOk};
+ghost use Rattle.std.specs.Prelude.{◌≡◌, true, length, IfOk, option_to_list};
 ghost use Rattle.std.specs.List.{flat_map};
 ghost use Rattle.ppd_ast.specs.Valid.{IsValid};
 ghost use Rattle.ppd_ast.specs.Members.{AreBelow};
-ghost use Rattle.ppd_cfg.specs.Lists.{to_list};
 ghost use Rattle.ppd_cfg.specs.WorkList.{AreRowsBelow};
 ghost use Rattle.ppd_sets.specs.Gained.{Gains, HasCells};
 ghost use Rattle.ppd_sets.specs.Used.{reads_at};
 ghost use Rattle.ppd_units.specs.Walk.{cells_along};
 
 use ppd_ast::{Cells, Ids, Memory, Program, Seq};
-use ppd_bits::CellSet;
 use ppd_cfg::reached;
-use ppd_sets::add_shared_reads;
+use ppd_sets::{CellSet, add_shared_reads};
 use std::alloc::Global;
 
 // Adds the shared cells that a statement may read, if it is there.
@@ -68,8 +66,8 @@ pub(crate) fn cells_of(
     requires valid { IsValid program.now }
     requires rows { AreRowsBelow rows.now }
     requires long { length rows.now ≡ length program.now.stmts }
-    requires begin { AreBelow (length program.now.stmts) (to_list begin) }
-    ensures { IfOk result (λ cells. cells ≡ cells_along program.now rows.now (to_list begin)) }
+    requires begin { AreBelow (length program.now.stmts) (option_to_list begin) }
+    ensures { IfOk result (λ cells. cells ≡ cells_along program.now rows.now (option_to_list begin)) }
 {
     match begin {
         None => cells_from(alloc, program, rows, &[]),

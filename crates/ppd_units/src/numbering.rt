@@ -1,9 +1,8 @@
-ghost use Rattle.std.specs.Prelude.{◌≡◌, ◌<◌, ◌∷◌, [], ◌++◌, map, length, IfOk, OnOk};
+ghost use Rattle.std.specs.Prelude.{◌≡◌, ◌<◌, ◌∷◌, [], ◌++◌, map, length, IfOk, OnOk, option_to_list};
 ghost use Rattle.std.specs.List.{flat_map};
 ghost use Rattle.ppd_ast.specs.Numbered.{numbers_of};
 ghost use Rattle.ppd_ast.specs.Valid.{IsValid};
 ghost use Rattle.ppd_ast.specs.Members.{AreBelow};
-ghost use Rattle.ppd_cfg.specs.Lists.{to_list};
 ghost use Rattle.ppd_units.specs.Walk.{unit_rows, begin_of};
 ghost use Rattle.ppd_units.specs.Starts.{unit_starts_at, unit_of, units_of};
 
@@ -26,7 +25,7 @@ fn add_unit(units: &mut Seq<Unit>, alloc: Global, ways: &Ways, start: Start) -> 
     requires valid { IsValid ways.now.program.now }
     requires rows { ways.now.rows.now ≡ unit_rows ways.now.program.now ways.now.loops.now }
     requires begin { AreBelow (length ways.now.program.now.stmts)
-        (to_list (begin_of ways.now.program.now ways.now.loops.now start)) }
+        (option_to_list (begin_of ways.now.program.now ways.now.loops.now start)) }
     ensures { OnOk result
         (units.new ≡ units.old ++ unit_of ways.now.program.now ways.now.loops.now start ∷ []) }
 {

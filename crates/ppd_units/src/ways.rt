@@ -4,30 +4,24 @@ ghost use Rattle.std.specs.List.{range_with_len};
 ghost use Rattle.ppd_ast.specs.Numbered.{is_left};
 ghost use Rattle.ppd_ast.specs.Valid.{IsValid};
 ghost use Rattle.ppd_ast.specs.Members.{has};
-ghost use Rattle.ppd_ast.specs.Lookups.{kind_of, top_of};
+ghost use Rattle.ppd_ast.specs.Lookups.{kind_of, top_of, parent_if};
 ghost use Rattle.ppd_cfg.specs.Lists.{first_or};
 ghost use Rattle.ppd_cfg.specs.Flow.{follow};
-ghost use Rattle.ppd_units.specs.Walk.{parent_of, stands_at, enters, leaves, is_between, unit_next, unit_rows, unless, begin_of};
+ghost use Rattle.ppd_units.specs.Walk.{stands_at, enters, leaves, is_between, unit_next, unit_rows, unless, begin_of};
 
 use ppd_ast::limits::MOST_NESTING;
 use ppd_ast::{Ids, Kind, Memory, Program, Seq, Start, Stmt};
 use ppd_cfg::{next_after, successors_of};
 use std::alloc::Global;
 
-#[tactic(auto, using(crate::proofs::Staying::has_here, crate::proofs::Staying::has_on, crate::proofs::Staying::nothing_left))]
 pub(crate) fn contains(list: &[u32], number: u32) -> bool
     ensures { result ≡ has list.now number }
 {
-    for item in list {
-        if *item == number {
-            return true;
-        }
-    }
-    false
+    list.contains(&number)
 }
 
 fn parent(stmts: &[Stmt], number: u32) -> Option<u32>
-    ensures { result ≡ parent_of (slice_get stmts.now number) }
+    ensures { result ≡ parent_if (slice_get stmts.now number) }
 {
     match stmts.get(number as usize) {
         None => None,

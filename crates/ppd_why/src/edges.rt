@@ -6,10 +6,11 @@ ghost use Rattle.ppd_why.specs.Edges.{locals_if as locals_of_block, origin_text,
 ghost use Rattle.ppd_why.specs.Names.{process_name as process_name_of};
 
 use crate::items::{put_cell_value, put_item};
-use crate::names::{block_locals, locals_round, process_name};
+use crate::names::process_name;
 use ppd_ast::{Memory, Plan, Program, Var};
 use ppd_model::{EdgeKind, FlowEdge, Item, Origin};
 use ppd_sem::Spot;
+use ppd_show::{block_locals, locals_round};
 use ppd_text::{put, put_number, put_value};
 
 fn put_place_of(

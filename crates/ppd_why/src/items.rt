@@ -7,10 +7,11 @@ ghost use Rattle.ppd_why.specs.Items.{open_text, outcome_text, result_text, retu
 ghost use Rattle.ppd_why.specs.Items.{value_text, written_locals as locals_written};
 
 use crate::kinds::put_event_kind;
-use crate::names::{body_locals, locals_round, put_cell, put_trap, put_what};
+use crate::names::{put_cell, put_trap, put_what};
 use ppd_ast::{Block, BlockKind, Kind, Memory, Plan, Program, Stmt, Trap, Var};
 use ppd_model::Item;
 use ppd_sem::{Access, Event, Spot};
+use ppd_show::{locals_of, locals_round};
 use ppd_text::{put, put_count, put_number, put_place, put_value};
 
 // ---- cells with their values
@@ -76,8 +77,8 @@ fn written_locals<'a>(program: &'a Program, body: u16, kind: &Kind) -> &'a [Var]
     ensures { result.now ≡ locals_written program.now body kind.now }
 {
     match kind {
-        Kind::Call { function, .. } => body_locals(program, *function),
-        _ => body_locals(program, body),
+        Kind::Call { function, .. } => locals_of(program, *function),
+        _ => locals_of(program, body),
     }
 }
 
@@ -91,7 +92,7 @@ fn put_accesses(
     ensures { OnOk result (text.new.items ≡ text.old.items ++ accesses_text program.now event.now stmt.now) }
 {
     let (own, written) = (
-        body_locals(program, stmt.body),
+        locals_of(program, stmt.body),
         written_locals(program, stmt.body, &stmt.kind),
     );
     put_each_access(text, b" read ", program, own, event.reads.as_slice())?;

@@ -1,11 +1,9 @@
 // How processes, cells and the words of traps are written, and whose cells are named.
 ghost use Rattle.std.specs.Prelude.{◌≡◌, ◌≤◌, ◌++◌, OnOk, slice_get};
 ghost use Rattle.ppd_ast.specs.Cells.{holds as holds_of};
-ghost use Rattle.ppd_ast.specs.Lookups.{locals_of};
-ghost use Rattle.ppd_show.specs.Plans.{block_locals as locals_of_block, locals_round as locals_round_stmt};
 ghost use Rattle.ppd_why.specs.Names.{cell_text, index_text, process_name as process_name_of, trap_word, what_text};
 
-use ppd_ast::{BlockKind, Memory, Plan, Program, Trap, Var};
+use ppd_ast::{Memory, Plan, Program, Trap, Var};
 use ppd_show::{body_name, put_block_what};
 use ppd_text::{put, put_number};
 
@@ -79,37 +77,5 @@ pub fn put_trap(text: &mut Vec<u8>, trap: Trap) -> Result<(), Memory>
         Trap::Index => put(text, b"index"),
         Trap::Assert => put(text, b"assert"),
         Trap::Depth => put(text, b"depth"),
-    }
-}
-
-// ---- local variables
-
-/// The local variables of a body, none where there is none of this number.
-pub(crate) fn body_locals(program: &Program, body: u16) -> &[Var]
-    ensures { result.now ≡ locals_of program.now body }
-{
-    match program.bodies.as_slice().get(body as usize) {
-        Some(body) => body.locals.as_slice(),
-        None => &[],
-    }
-}
-
-/// Those of the body in which a statement stands.
-pub(crate) fn locals_round(program: &Program, stmt: u32) -> &[Var]
-    ensures { result.now ≡ locals_round_stmt program.now (slice_get program.now.stmts stmt) }
-{
-    match program.stmts.as_slice().get(stmt as usize) {
-        Some(stmt) => body_locals(program, stmt.body),
-        None => &[],
-    }
-}
-
-/// Those of the body that a block is, or in which its loop stands.
-pub(crate) fn block_locals(program: &Program, kind: BlockKind) -> &[Var]
-    ensures { result.now ≡ locals_of_block program.now kind }
-{
-    match kind {
-        BlockKind::Function(body) | BlockKind::Process(body) => body_locals(program, body),
-        BlockKind::Loop(stmt) => locals_round(program, stmt),
     }
 }

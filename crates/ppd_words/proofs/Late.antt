@@ -3,7 +3,7 @@ use Rattle.std.proofs.Common.{◌≡◌, ◌∙◌, ◌+◌, ◌&&◌, Bool, tru
 use Rattle.std.specs.Prelude.{if◌then◌else◌, is_none, slice_get}
 use Rattle.std.specs.List.{list_all}
 use Rattle.ppd_words.specs.Tested.{are_good, if_good, only_good, tested_from}
-use Rattle.ppd_words.specs.Words.{Given, Kind, Text, Uses, after_word, and_words, ends, given_from, has, name, other, sets, waits, with_kind, with_name, with_name_at, with_use, with_value, with_word}
+use Rattle.ppd_words.specs.Words.{Given, Kind, Text, Uses, after_word, and_words, ends, given_from, was_used, name, other, sets, waits, with_kind, with_name, with_name_at, with_use, with_value, with_word}
 
 module _ (good : Text → Text → Bool) (spell : Text → Kind) (ids : List Text) where
   StillBad : Option Given → Type 0
@@ -28,7 +28,7 @@ module _ (good : Text → Text → Bool) (spell : Text → Kind) (ids : List Tex
       ap (λ (x : Given). are_good good x.uses) (sym same) ∙ bad
 
   bad_use : (id value : Text) (g : Given) → are_good good g.uses ≡ false → StillBad (with_use id value g)
-  bad_use id value g bad = go (has id g.uses)
+  bad_use id value g bad = go (was_used id g.uses)
     where
       go : (b : Bool) → StillBad (if b then None else Some (record g { uses = g.uses ++ (id, value) ∷ [] }))
       go true = none_bad
@@ -68,7 +68,7 @@ module _ (good : Text → Text → Bool) (spell : Text → Kind) (ids : List Tex
 
   bad_ends : (ws : List Text) (g : Given) → are_good good g.uses ≡ false → only_good good (given_from spell ids g ws) ≡ None
   unfolding StillBad
-  bad_ends [] g bad = go (is_none g.waiting && list_all (λ id. has id g.uses) ids)
+  bad_ends [] g bad = go (is_none g.waiting && list_all (λ id. was_used id g.uses) ids)
     where
       go : (b : Bool) → only_good good (if b then Some g.uses else None) ≡ None
       go true = ap (λ (t : Bool). if t then Some g.uses else None) bad
@@ -81,7 +81,7 @@ module _ (good : Text → Text → Bool) (spell : Text → Kind) (ids : List Tex
       go (Some h) still_bad next = next h (still_bad h refl)
 
   pub tested_is : (ws : List Text) (g : Given) → are_good good g.uses ≡ true → tested_from good spell ids g ws ≡ only_good good (given_from spell ids g ws)
-  tested_is [] g fine = go (is_none g.waiting && list_all (λ id. has id g.uses) ids)
+  tested_is [] g fine = go (is_none g.waiting && list_all (λ id. was_used id g.uses) ids)
     where
       go : (b : Bool) → (if b then Some g.uses else None) ≡ only_good good (if b then Some g.uses else None)
       go true = sym (ap (λ (t : Bool). if t then Some g.uses else None) fine)

@@ -11,8 +11,8 @@ Text = List ℕ
 abbrev pub Uses : Type 0
 Uses = List (Text × Text)
 
-abbrev pub has : Text → Uses → Bool
-has id uses = list_any (λ u. bytes_eq u.0 id) uses
+abbrev pub was_used : Text → Uses → Bool
+was_used id uses = list_any (λ u. bytes_eq u.0 id) uses
 
 -- the word of an option or of a name
 abbrev pub value_of : Text → Uses → Option Text
@@ -40,7 +40,7 @@ nothing_given = record { waiting = None; ended = false; count = 0; uses = [] }
 
 -- each at most once
 abbrev pub with_use : Text → Text → Given → Option Given
-with_use id value g = if has id g.uses then None else Some (record g { uses = g.uses ++ (id, value) ∷ [] })
+with_use id value g = if was_used id g.uses then None else Some (record g { uses = g.uses ++ (id, value) ∷ [] })
 
 -- the next of the names
 abbrev pub with_name_at : Option Text → Text → Given → Option Given
@@ -72,7 +72,7 @@ after_word spell names g w = if g.ended then with_name names w g else with_word 
 
 -- no option waits, and each name is there
 abbrev pub complete : List Text → Given → Option Uses
-complete names g = if is_none g.waiting && list_all (λ id. has id g.uses) names then Some g.uses else None
+complete names g = if is_none g.waiting && list_all (λ id. was_used id g.uses) names then Some g.uses else None
 
 abbrev pub and_words : Option Given → (Given → Option Uses) → Option Uses
 and_words None next = None

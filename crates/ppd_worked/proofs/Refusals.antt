@@ -4,10 +4,11 @@ use Rattle.std.specs.Prelude.{pos, List, [], ◌∷◌, Option, Some, None}
 use Rattle.ppd_ast.specs.declared.status.Status.TheVariants as status
 use Rattle.ppd_entry.specs.declared.entry.Entry.{Entry}
 use Rattle.ppd_entry.specs.declared.entry.Entry.TheVariants as entry
+use Rattle.ppd_entry.specs.Entries.{at_entry}
 use Rattle.ppd_worked.proofs.Runs.BudgetStop.{plan, program}
 use Rattle.ppd_index.specs.declared.refusal.BadLog.{BadLog}
 use Rattle.ppd_index.specs.declared.refusal.BadLog.TheVariants.{AfterEnd, NoEnd, Unpaired, WrongValues}
-use Rattle.ppd_index.specs.Refusals.{at_entry, first_bad}
+use Rattle.ppd_index.specs.Refusals.{first_bad}
 
 abbrev found : List Entry → Option BadLog
 found entries = first_bad program plan 0 entries

@@ -18,9 +18,11 @@ use Rattle.ppd_model.specs.Logs.{log_step}
 use Rattle.ppd_model.specs.Story.{Moment, number_of, unit_started, values_at_start}
 use Rattle.ppd_model.specs.World.{World, answer, change, can, need, need_at, step_by}
 use Rattle.ppd_model.proofs.Changes.{some}
+use Rattle.ppd_model.proofs.Earlier.{each_more}
+use Rattle.ppd_model.proofs.Lists.{map_change, map_get, every_at}
 use Rattle.ppd_world.specs.Plain.{ComesPlainly, GoesPlainly, gone_on, stepped_times}
 use Rattle.ppd_world.specs.Running.{IsOf, IsReached, Running, Takes, can_step, stepped}
-use Rattle.ppd_world.proofs.Lists.{every_all, every_at, every_more, get_map, map_change}
+use Rattle.ppd_world.proofs.Lists.{every_all}
 use Rattle.ppd_world.proofs.Reached.{of_step, reached_step}
 use Rattle.ppd_world.proofs.Sound.{IsSoundLogging, reached_sound}
 
@@ -82,7 +84,7 @@ pub record IsAt (r : Running) (p : ℕ) (s : Proc) : Type 0 where
 pub is_at : (r : Running) (p : ℕ) (s : Proc) → IsReached r → slice_get r.world.procs p ≡ Some s → IsAt r p s
 is_at r p s h e = record {
   procs = e;
-  logs = λ l g. some (sym (get_map (λ (y : Logging). y.proc) r.loggings p l g) ∙ ap (λ (ps : List Proc). slice_get ps p) (reached_sound r h).same ∙ e);
+  logs = λ l g. some (sym (map_get (λ (y : Logging). y.proc) r.loggings p l g) ∙ ap (λ (ps : List Proc). slice_get ps p) (reached_sound r h).same ∙ e);
 }
 
 -- process p has another state, and n more steps without an entry
@@ -185,7 +187,7 @@ rests_fit r p n t h c =
     let few : n ≤ measure got.0.proc = goes_few r.program r.plan n got.0.proc t own.proc.spent (subst (λ (x : Proc). GoesPlainly r.program r.plan x n t) (sym got.2) c.goes) in
     let most : got.0.rest + measure got.0.proc ≤ 500001 = own.rest in
     every_all (λ (l : Logging). l.rest + n < 2 ^ 32) r.loggings
-    (every_more (IsSoundLogging r.program) (λ (l : Logging). l.rest + n < 2 ^ 32) r.loggings (λ l q. let rest : l.rest + measure l.proc ≤ 500001 = q.rest in omega arith) s.logs)
+    (each_more (IsSoundLogging r.program) (λ (l : Logging). l.rest + n < 2 ^ 32) r.loggings (λ l q. let rest : l.rest + measure l.proc ≤ 500001 = q.rest in omega arith) s.logs)
 
 -- ---- the world from its parts
 

@@ -8,13 +8,9 @@ use Rattle.ppd_ast.specs.declared.plan.Plan.{Plan}
 use Rattle.ppd_sem.specs.declared.proc.Proc.{Proc}
 use Rattle.ppd_sem.specs.Process.{started}
 use Rattle.ppd_model.specs.Schedule.{IsOver, run_from, started_world}
-use Rattle.ppd_model.specs.World.{World, can, change, enabled, need_at, step}
+use Rattle.ppd_model.specs.World.{World, can, enabled, need_at, step}
+use Rattle.ppd_model.proofs.Changes.{length-change}
 use Rattle.ppd_world.specs.Running.{Running, IsReached, can_step}
-
-length-change : {A : Type 0} (f : A → A) (i : ℕ) (xs : List A) → length (change f i xs) ≡ length xs
-length-change f i [] = refl
-length-change f zero (x ∷ xs) = refl
-length-change f (suc i) (x ∷ xs) = ap suc (length-change f i xs)
 
 step_keeps : (program : Program) (plan : Plan) (w : World) (p : ℕ) → length (step program plan w p).procs ≡ length w.procs
 step_keeps program plan w p = length-change _ p w.procs
@@ -34,7 +30,7 @@ reached_few r i =
     let started = length-map-range_with_len (λ p. started r.program r.plan p r.budget) 0 (length r.program.bodies - r.program.functions) in
     omega (arith, kept, started, i.program.limits.processes)
 
-past : (program : Program) (plan : Plan) (w : World) (ps : List Proc) (q : ℕ) → length ps ≤ q → can w (need_at program plan (slice_get ps q)) ≡ false
+pub past : (program : Program) (plan : Plan) (w : World) (ps : List Proc) (q : ℕ) → length ps ≤ q → can w (need_at program plan (slice_get ps q)) ≡ false
 past program plan w [] q h = refl
 past program plan w (s ∷ ps) zero h = absurd (omega arith)
 past program plan w (s ∷ ps) (suc q) h = past program plan w ps q (omega arith)

@@ -29,11 +29,12 @@ use Rattle.ppd_model.proofs.Bounded.{Goes, goes}
 use Rattle.ppd_model.proofs.Changes.{some}
 use Rattle.ppd_model.proofs.States.{logs_grow}
 use Rattle.ppd_model.proofs.Stories.{stories_are_of_runs}
+use Rattle.ppd_model.proofs.Earlier.{each_more}
 use Rattle.ppd_world.specs.Parts.{IsReady, IsSmallChan, IsSmallLogging, IsSmallSem, store, world_of}
 use Rattle.ppd_world.specs.Running.{IsCause, IsDriven, IsFollowed, IsOf, IsReached, Running, Takes, begun, can_step, closed_run, stepped}
 use Rattle.ppd_world.specs.Starts.{begun_chans, begun_logs, begun_sems}
 use Rattle.ppd_world.proofs.Begun.{logs_begun, procs_begun}
-use Rattle.ppd_world.proofs.Lists.{every_all, every_more}
+use Rattle.ppd_world.proofs.Lists.{every_all}
 use Rattle.ppd_world.proofs.Sound.{IsSound, IsSoundChan, IsSoundLogging, IsSoundSem, left_less, most, reached_sound}
 
 -- ---- schedules
@@ -182,9 +183,9 @@ parts_ready program plan budget s ls ks r view same h =
     let ready : IsReady program plan s ls = record {
       runnable = runnable _ reached;
       numbered = numbered _ reached;
-      sems = every_all IsSmallSem s.sems (every_more (IsSoundSem left) IsSmallSem s.sems (small_sem left) sound.sems);
-      chans = every_all IsSmallChan s.chans (every_more (IsSoundChan left) IsSmallChan s.chans (small_chan left) sound.chans);
-      small = every_all (IsSmallLogging program) ls (every_more (IsSoundLogging program) (IsSmallLogging program) ls (small_logging program) sound.logs);
+      sems = every_all IsSmallSem s.sems (each_more (IsSoundSem left) IsSmallSem s.sems (small_sem left) sound.sems);
+      chans = every_all IsSmallChan s.chans (each_more (IsSoundChan left) IsSmallChan s.chans (small_chan left) sound.chans);
+      small = every_all (IsSmallLogging program) ls (each_more (IsSoundLogging program) (IsSmallLogging program) ls (small_logging program) sound.logs);
     } in
     subst (λ (x : List Logging). IsReady program plan s x) (sym same) ready
 

@@ -28,13 +28,15 @@ use Rattle.ppd_model.specs.Laws.{logged_moment}
 use Rattle.ppd_model.specs.Logs.{begun_log, entries_of, log_step, loggings, logs_from, rest_after}
 use Rattle.ppd_model.specs.Schedule.{run, run_from, started_procs, started_world}
 use Rattle.ppd_model.specs.Story.{Moment, Telling, begun, moment_of, tell, told}
-use Rattle.ppd_model.specs.World.{World, answer, can, can_complete, can_receive, can_take, change, effect, need, need_at, step}
+use Rattle.ppd_model.specs.World.{World, answer, can, can_complete, can_receive, can_take, change, effect, need, need_at, step, Each}
 use Rattle.ppd_model.proofs.Bounded.{ArePaid, Goes, all_falls, goes, not_stopped, started_all}
 use Rattle.ppd_model.proofs.States.{logs-change}
 use Rattle.ppd_model.proofs.Stories.{stories_are_of_runs}
+use Rattle.ppd_model.proofs.Earlier.{each_more}
+use Rattle.ppd_model.proofs.Lists.{map_change, map_get}
 use Rattle.ppd_world.specs.Running.{IsReached, Running, begun as begun_running, can_step, stepped}
 use Rattle.ppd_world.proofs.Begun.{logs_begun, procs_begun}
-use Rattle.ppd_world.proofs.Lists.{Every, all_every, every_change, every_more, get_map, map_change}
+use Rattle.ppd_world.proofs.Lists.{all_every, every_change}
 
 -- the greatest initial value of a semaphore and all steps of 16 processes
 abbrev pub most : ℕ
@@ -58,9 +60,9 @@ pub record IsSoundChan (left : ℕ) (x : Channel) : Type 0 where
 
 pub record IsSound (r : Running) : Type 0 where
   pub same : map (λ l. l.proc) r.loggings ≡ r.world.procs
-  pub logs : Every (IsSoundLogging r.program) r.loggings
-  pub sems : Every (IsSoundSem (steps_left r.world.procs)) r.world.sems
-  pub chans : Every (IsSoundChan (steps_left r.world.procs)) r.world.chans
+  pub logs : Each (IsSoundLogging r.program) r.loggings
+  pub sems : Each (IsSoundSem (steps_left r.world.procs)) r.world.sems
+  pub chans : Each (IsSoundChan (steps_left r.world.procs)) r.world.chans
   pub few : steps_left r.world.procs ≤ most
 
 -- ---- a step
@@ -69,7 +71,7 @@ rest_le : (rest : ℕ) (es : List Entry) → rest_after rest es ≤ rest + 1
 rest_le rest [] = omega arith
 rest_le rest (e ∷ es) = omega arith
 
-paid_of : (program : Program) (ls : List Logging) → Every (IsSoundLogging program) ls → ArePaid (map (λ l. l.proc) ls)
+paid_of : (program : Program) (ls : List Logging) → Each (IsSoundLogging program) ls → ArePaid (map (λ l. l.proc) ls)
 paid_of program [] h = tt
 paid_of program (l ∷ ls) h = (h.0.proc.spent, paid_of program ls h.1)
 
@@ -118,25 +120,25 @@ module _ (w : World) (j k : ℕ) (less : k + 1 ≤ j) where
   weak_chan : (x : Channel) → IsSoundChan j x → IsSoundChan k x
   weak_chan x h = fewer_chan j k x (omega arith) h
 
-  sems_sound : (n : Need) → can w n ≡ true → Every (IsSoundSem j) w.sems → Every (IsSoundSem k) (effect w n).sems
+  sems_sound : (n : Need) → can w n ≡ true → Each (IsSoundSem j) w.sems → Each (IsSoundSem k) (effect w n).sems
   sems_sound (P s u) e h = every_change (IsSoundSem j) (IsSoundSem k) (λ x. record x { taken = x.taken + 1 }) s w.sems weak_sem (λ x is b. taken_sound j k x less (sym (ap can_take is) ∙ e) b) h
   sems_sound (V s u) e h = every_change (IsSoundSem j) (IsSoundSem k) (λ x. record x { given = x.given + 1 }) s w.sems weak_sem (λ x is b. given_sound j k x less b) h
-  sems_sound (Write c v) e h = every_more (IsSoundSem j) (IsSoundSem k) w.sems weak_sem h
-  sems_sound (Send c v u) e h = every_more (IsSoundSem j) (IsSoundSem k) w.sems weak_sem h
-  sems_sound (Offer c v) e h = every_more (IsSoundSem j) (IsSoundSem k) w.sems weak_sem h
-  sems_sound (Done c u) e h = every_more (IsSoundSem j) (IsSoundSem k) w.sems weak_sem h
-  sems_sound (Recv c u) e h = every_more (IsSoundSem j) (IsSoundSem k) w.sems weak_sem h
-  sems_sound n e h = every_more (IsSoundSem j) (IsSoundSem k) w.sems weak_sem h
+  sems_sound (Write c v) e h = each_more (IsSoundSem j) (IsSoundSem k) w.sems weak_sem h
+  sems_sound (Send c v u) e h = each_more (IsSoundSem j) (IsSoundSem k) w.sems weak_sem h
+  sems_sound (Offer c v) e h = each_more (IsSoundSem j) (IsSoundSem k) w.sems weak_sem h
+  sems_sound (Done c u) e h = each_more (IsSoundSem j) (IsSoundSem k) w.sems weak_sem h
+  sems_sound (Recv c u) e h = each_more (IsSoundSem j) (IsSoundSem k) w.sems weak_sem h
+  sems_sound n e h = each_more (IsSoundSem j) (IsSoundSem k) w.sems weak_sem h
 
-  chans_sound : (n : Need) → can w n ≡ true → Every (IsSoundChan j) w.chans → Every (IsSoundChan k) (effect w n).chans
+  chans_sound : (n : Need) → can w n ≡ true → Each (IsSoundChan j) w.chans → Each (IsSoundChan k) (effect w n).chans
   chans_sound (Send c v u) e h = every_change (IsSoundChan j) (IsSoundChan k) (λ x. record x { sent = x.sent ++ v ∷ [] }) c w.chans weak_chan (λ x is b. sent_sound j k x v less b) h
   chans_sound (Offer c v) e h = every_change (IsSoundChan j) (IsSoundChan k) (λ x. record x { sent = x.sent ++ v ∷ [] }) c w.chans weak_chan (λ x is b. sent_sound j k x v less b) h
   chans_sound (Done c u) e h = every_change (IsSoundChan j) (IsSoundChan k) (λ x. record x { completed = x.completed + 1 }) c w.chans weak_chan (λ x is b. completed_sound j k x less (sym (ap can_complete is) ∙ e) b) h
   chans_sound (Recv c u) e h = every_change (IsSoundChan j) (IsSoundChan k) (λ x. record x { received = x.received + 1 }) c w.chans weak_chan (λ x is b. received_sound j k x less (sym (ap can_receive is) ∙ e) b) h
-  chans_sound (Write c v) e h = every_more (IsSoundChan j) (IsSoundChan k) w.chans weak_chan h
-  chans_sound (P s u) e h = every_more (IsSoundChan j) (IsSoundChan k) w.chans weak_chan h
-  chans_sound (V s u) e h = every_more (IsSoundChan j) (IsSoundChan k) w.chans weak_chan h
-  chans_sound n e h = every_more (IsSoundChan j) (IsSoundChan k) w.chans weak_chan h
+  chans_sound (Write c v) e h = each_more (IsSoundChan j) (IsSoundChan k) w.chans weak_chan h
+  chans_sound (P s u) e h = each_more (IsSoundChan j) (IsSoundChan k) w.chans weak_chan h
+  chans_sound (V s u) e h = each_more (IsSoundChan j) (IsSoundChan k) w.chans weak_chan h
+  chans_sound n e h = each_more (IsSoundChan j) (IsSoundChan k) w.chans weak_chan h
 
 logging_sound : (program : Program) (plan : Plan) (w : World) (l : Logging) (x : Moment) → IsRunnable program → can w (need_of program plan l.proc) ≡ true → IsSoundLogging program l → IsSoundLogging program (log_step program plan l x)
 logging_sound program plan w l x run e h =
@@ -157,7 +159,7 @@ step_sound r p run e s =
     let less : steps_left (stepped r p).world.procs + 1 ≤ steps_left r.world.procs = left_less r p e s in
     let few : steps_left r.world.procs ≤ most = s.few in
     let at : (l : Logging) → slice_get r.loggings p ≡ Some l → can r.world (need_of r.program r.plan l.proc) ≡ true =
-    λ l is. let found : slice_get r.world.procs p ≡ Some l.proc = ap (λ (ps : List Proc). slice_get ps p) (sym s.same) ∙ get_map (λ (y : Logging). y.proc) r.loggings p l is in
+    λ l is. let found : slice_get r.world.procs p ≡ Some l.proc = ap (λ (ps : List Proc). slice_get ps p) (sym s.same) ∙ map_get (λ (y : Logging). y.proc) r.loggings p l is in
     sym (ap (λ (o : Option Proc). can r.world (need_at r.program r.plan o)) found) ∙ e in
     record {
       same = map_change (λ l. l.proc) (λ l. log_step r.program r.plan l x) (λ t. act r.program r.plan t x.taken.answer) p r.loggings (λ l. refl) ∙ ap (λ (ps : List Proc). change (λ t. act r.program r.plan t x.taken.answer) p ps) s.same;
@@ -169,18 +171,18 @@ step_sound r p run e s =
 
 -- ---- the start
 
-logs_sound : (program : Program) (plan : Plan) (budget p n : ℕ) → IsRunnable program → budget ≤ 500000 → program.functions + (p + n) ≤ length program.bodies → Every (IsSoundLogging program) (map (λ q. begun_log program plan budget q) (range_with_len p n))
+logs_sound : (program : Program) (plan : Plan) (budget p n : ℕ) → IsRunnable program → budget ≤ 500000 → program.functions + (p + n) ≤ length program.bodies → Each (IsSoundLogging program) (map (λ q. begun_log program plan budget q) (range_with_len p n))
 logs_sound program plan budget p zero run few lt = tt
 logs_sound program plan budget p (suc n) run few lt = (
   record { proc = started_runs program (program.functions + p) budget run (omega arith) (omega arith); rest = omega arith },
   logs_sound program plan budget (p + 1) n run few (omega arith),
 )
 
-sems_begun : (left : ℕ) (sems : List Sem) → left ≤ 8000016 → Every (λ s. s.start ≤ 65535) sems → Every (IsSoundSem left) (map (λ s. record { given = s.start; taken = 0 }) sems)
+sems_begun : (left : ℕ) (sems : List Sem) → left ≤ 8000016 → Each (λ s. s.start ≤ 65535) sems → Each (IsSoundSem left) (map (λ s. record { given = s.start; taken = 0 }) sems)
 sems_begun left [] few h = tt
 sems_begun left (s ∷ ss) few h = let start : s.start ≤ 65535 = h.0 in (record { given = omega arith; taken = omega arith }, sems_begun left ss few h.1)
 
-chans_begun : (left : ℕ) (chans : List Chan) → left ≤ 8000016 → Every (IsSoundChan left) (map (λ c. record { capacity = c.capacity; sent = []; received = 0; completed = 0 }) chans)
+chans_begun : (left : ℕ) (chans : List Chan) → left ≤ 8000016 → Each (IsSoundChan left) (map (λ c. record { capacity = c.capacity; sent = []; received = 0; completed = 0 }) chans)
 chans_begun left [] few = tt
 chans_begun left (c ∷ cs) few = (record { sent = omega arith; received = omega arith; completed = omega arith }, chans_begun left cs few)
 
@@ -196,10 +198,10 @@ begun_sound program plan budget v h =
     let left : steps_left (started_procs program plan budget n) ≡ n * (budget + 1) = started_all program plan budget 0 n in
     let few : n * (budget + 1) ≤ 8000016 = few_steps n budget (omega arith) h in
     let logs : loggings program plan budget [] ≡ map (λ q. begun_log program plan budget q) (range_with_len 0 n) = logs_begun program plan budget 0 n in
-    let starts : Every (λ (s : Sem). s.start ≤ 65535) program.sems = all_every (λ (s : Sem). s.start ≤ 65535) program.sems (λ i d lt. (v.limits.sems i d lt).1) in
+    let starts : Each (λ (s : Sem). s.start ≤ 65535) program.sems = all_every (λ (s : Sem). s.start ≤ 65535) program.sems (λ i d lt. (v.limits.sems i d lt).1) in
     record {
       same = ap (λ (ls : List Logging). map (λ l. l.proc) ls) logs ∙ procs_begun program plan budget 0 n;
-      logs = subst (λ (ls : List Logging). Every (IsSoundLogging program) ls) (sym logs) (logs_sound program plan budget 0 n run h (omega arith));
+      logs = subst (λ (ls : List Logging). Each (IsSoundLogging program) ls) (sym logs) (logs_sound program plan budget 0 n run h (omega arith));
       sems = sems_begun (steps_left (started_procs program plan budget n)) program.sems (omega arith) starts;
       chans = chans_begun (steps_left (started_procs program plan budget n)) program.chans (omega arith);
       few = omega arith;

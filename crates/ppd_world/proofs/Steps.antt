@@ -18,9 +18,11 @@ use Rattle.ppd_model.specs.Laws.{logged_moment}
 use Rattle.ppd_model.specs.Logs.{log_step}
 use Rattle.ppd_model.specs.Schedule.{IsOver}
 use Rattle.ppd_model.specs.Story.{Moment, number_of, unit_started, values_at_start}
-use Rattle.ppd_model.specs.World.{World, answer, can, change, effect, enabled, need, need_at, step}
-use Rattle.ppd_world.specs.Parts.{IsReceivable, IsSmallChan, finished, moment_with, need_of_logging, sent, sent_after, unsent, unsent_after, with_value, without_last, world_of}
-use Rattle.ppd_world.proofs.Lists.{Every, all_every, change_back, every_all, every_change, every_more, map_change}
+use Rattle.ppd_model.specs.World.{World, answer, can, change, effect, enabled, need, need_at, step, with_value, Each}
+use Rattle.ppd_model.proofs.Earlier.{each_more}
+use Rattle.ppd_model.proofs.Lists.{map_change}
+use Rattle.ppd_world.specs.Parts.{IsReceivable, IsSmallChan, finished, moment_with, need_of_logging, sent, sent_after, unsent, unsent_after, without_last, world_of}
+use Rattle.ppd_world.proofs.Lists.{all_every, change_back, every_all, every_change}
 
 -- the shared state after a step, in its parts
 pub effect_is : (w : World) (n : Need) → effect w n ≡ finished (sent w n) n
@@ -183,10 +185,10 @@ receivable x h = record { received = h.received; completed = h.completed }
 pub receivable_after : (before now : World) (n : Need) → All IsSmallChan before.chans → now ≡ sent before n → All IsReceivable now.chans
 receivable_after w now n h e = subst (λ (x : World). All IsReceivable x.chans) (sym e) (every_all IsReceivable (sent_after w.chans n) (by n))
   where
-    before : Every IsSmallChan w.chans
+    before : Each IsSmallChan w.chans
     before = all_every IsSmallChan w.chans h
 
-    by : (n : Need) → Every IsReceivable (sent_after w.chans n)
+    by : (n : Need) → Each IsReceivable (sent_after w.chans n)
     by (Send c v u) = every_change IsSmallChan IsReceivable (with_value v) c w.chans receivable (λ x is s. record { received = s.received; completed = s.completed }) before
     by (Offer c v) = every_change IsSmallChan IsReceivable (with_value v) c w.chans receivable (λ x is s. record { received = s.received; completed = s.completed }) before
-    by n = every_more IsSmallChan IsReceivable w.chans receivable before
+    by n = each_more IsSmallChan IsReceivable w.chans receivable before

@@ -15,7 +15,7 @@ use Rattle.ppd_model.specs.declared.state.Counts.{Counts}
 use Rattle.ppd_model.specs.declared.state.Logging.{Logging}
 use Rattle.ppd_model.specs.Logs.{rest_after}
 use Rattle.ppd_model.specs.Story.{Moment, unit_started, values_at_start}
-use Rattle.ppd_model.specs.World.{World, change}
+use Rattle.ppd_model.specs.World.{World, change, one_taken, one_given, with_value, one_received, one_completed}
 use Rattle.ppd_world.specs.declared.note.Note.{Note}
 use Rattle.ppd_world.specs.declared.note.Note.TheVariants.{Nothing, Reads, Writes, Anew}
 
@@ -70,31 +70,15 @@ abbrev pub shared_after : List ℤ → Need → List ℤ
 shared_after shared (Write c v) = slice_set shared c v
 shared_after shared need = shared
 
--- a semaphore taken once more
-abbrev pub one_taken : Counts → Counts
-one_taken x = record x { taken = x.taken + 1 }
-
--- a semaphore given once more
-abbrev pub one_given : Counts → Counts
-one_given x = record x { given = x.given + 1 }
-
 -- the semaphores after a step of this need
 abbrev pub sems_after : List Counts → Need → List Counts
 sems_after sems (P s u) = change one_taken s sems
 sems_after sems (V s u) = change one_given s sems
 sems_after sems need = sems
 
--- a channel with one more value
-abbrev pub with_value : ℤ → Channel → Channel
-with_value v x = record x { sent = x.sent ++ v ∷ [] }
-
 -- a channel without what was sent last
 abbrev pub without_last : Channel → Channel
 without_last x = record x { sent = take (length x.sent - 1) x.sent }
-
--- a channel from which one more was received
-abbrev pub one_received : Channel → Channel
-one_received x = record x { received = x.received + 1 }
 
 -- the channels with what a step of this need sends
 abbrev pub sent_after : List Channel → Need → List Channel
@@ -107,10 +91,6 @@ abbrev pub unsent_after : List Channel → Need → List Channel
 unsent_after chans (Send c v u) = change without_last c chans
 unsent_after chans (Offer c v) = change without_last c chans
 unsent_after chans need = chans
-
--- a channel on which one more send was completed
-abbrev pub one_completed : Channel → Channel
-one_completed x = record x { completed = x.completed + 1 }
 
 -- the channels with what a step of this need receives or completes
 abbrev pub received_after : List Channel → Need → List Channel

@@ -3,7 +3,6 @@ ghost use Rattle.ppd_model.specs.Logs.{ends, entries_of as entries_of_step, pass
 ghost use Rattle.ppd_model.specs.Marks.{closed, opened};
 ghost use Rattle.ppd_model.specs.Story.{unit_started as unit_started_of, values_at_start, values_of_unit};
 ghost use Rattle.ppd_model.specs.Synchronizations.{sync_of};
-ghost use Rattle.ppd_sem.specs.Process.{value_of};
 ghost use Rattle.ppd_sem.specs.Runs.{IsRunnable, IsRunning};
 ghost use Rattle.ppd_world.specs.Parts.{moment_with};
 
@@ -81,22 +80,13 @@ fn push_closed(entries: &mut Vec<Entry>, code: &Code, proc: &Proc, need: Need) -
     }
 }
 
-fn value_in(answer: Answer) -> i64
-    ensures { result ≡ value_of answer }
-{
-    match answer {
-        Answer::Value(value) => value,
-        Answer::Go => 0,
-    }
-}
-
 /// What a synchronization passes, and 0 for a semaphore and a completion.
 fn passed(need: Need, answer: Answer) -> i64
     ensures { result ≡ passed_of need answer }
 {
     match need {
         Need::Send { value, .. } | Need::Offer { value, .. } => value,
-        Need::Recv { .. } => value_in(answer),
+        Need::Recv { .. } => answer.value_given(),
         _ => 0,
     }
 }

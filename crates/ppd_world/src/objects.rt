@@ -1,8 +1,8 @@
 ghost use Rattle.std.specs.Prelude.{◌≡◌, [], slice_get, OnOk, OnErr};
 ghost use Rattle.std.specs.List.{All};
 ghost use Rattle.ppd_model.specs.Story.{number_of as number_of_need};
-ghost use Rattle.ppd_model.specs.World.{can_complete as can_complete_of, can_receive as can_receive_of, can_send as can_send_of, can_take as can_take_of, change, next_value as next_value_of, room as room_of_channel};
-ghost use Rattle.ppd_world.specs.Parts.{IsReceivable, IsSmallChan, IsSmallSem, one_completed, one_given, one_received, one_taken, store, with_value, without_last};
+ghost use Rattle.ppd_model.specs.World.{can_complete as can_complete_of, can_receive as can_receive_of, can_send as can_send_of, can_take as can_take_of, change, next_value as next_value_of, room as room_of_channel, one_taken, one_given, with_value, one_received, one_completed};
+ghost use Rattle.ppd_world.specs.Parts.{IsReceivable, IsSmallChan, IsSmallSem, store, without_last};
 
 use ppd_ast::Memory;
 use ppd_model::{Channel, Counts, value_at};

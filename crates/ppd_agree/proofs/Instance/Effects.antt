@@ -13,7 +13,7 @@ use Rattle.ppd_model.specs.declared.state.Counts.{Counts}
 use Rattle.ppd_model.specs.declared.trace.EventId.{EventId}
 use Rattle.ppd_model.specs.Story.{Telling, next_event, writers_after}
 use Rattle.ppd_model.specs.Numbers.{count_in, count_of}
-use Rattle.ppd_model.specs.World.{can, can_complete, can_receive, can_send, can_take, change, effect}
+use Rattle.ppd_model.specs.World.{can, can_complete, can_receive, can_send, can_take, change, effect, one_taken, one_given, with_value, one_received, one_completed}
 use Rattle.ppd_model.specs.Prefixes.{Sizes}
 use Rattle.ppd_model.proofs.Counting.{as_before, raised}
 use Rattle.ppd_agree.proofs.Machine.Model.{Want, Write, Sync, Writes}
@@ -41,21 +41,6 @@ raised_or count f (x ∷ xs) (suc o) (suc o') up = elim (raised_or count f xs o 
 
 -- ---- the five changes
 
-abbrev take_one : Counts → Counts
-take_one x = record x { taken = x.taken + 1 }
-
-abbrev give_one : Counts → Counts
-give_one x = record x { given = x.given + 1 }
-
-abbrev send_one : ℤ → Channel → Channel
-send_one v x = record x { sent = x.sent ++ v ∷ [] }
-
-abbrev receive_one : Channel → Channel
-receive_one x = record x { received = x.received + 1 }
-
-abbrev complete_one : Channel → Channel
-complete_one x = record x { completed = x.completed + 1 }
-
 more_sent : (v : ℤ) (x : Channel) → length (x.sent ++ v ∷ []) ≡ length x.sent + 1
 more_sent v x = length-append x.sent (v ∷ [])
 
@@ -77,16 +62,16 @@ module _ (program : Program) (t : Telling) (sizes : Sizes program t) (e : EventI
       ap (λ (b : Bool). if_there b w) (lt-ltb s (length program.sems) below)
 
   pub counted : (need : Need) (kind : SyncKind) (o : ℕ) → Counted need kind o
-  counted (n.P s u) P o = elim (raised_or (λ (x : Counts). x.taken) take_one t.world.sems s o (λ x. refl)) [
+  counted (n.P s u) P o = elim (raised_or (λ (x : Counts). x.taken) one_taken t.world.sems s o (λ x. refl)) [
     | inl same ↦ inl same
     | inr r ↦ inr (blank, ap (λ (k : ℕ). line P k blank) (sym r.0), r.2)
   ]
-  counted (n.P s u) V o = inl (as_before (λ (x : Counts). x.given) take_one t.world.sems s o (λ e x. refl))
+  counted (n.P s u) V o = inl (as_before (λ (x : Counts). x.given) one_taken t.world.sems s o (λ e x. refl))
   counted (n.P s u) Send o = inl refl
   counted (n.P s u) Recv o = inl refl
   counted (n.P s u) Done o = inl refl
-  counted (n.V s u) P o = inl (as_before (λ (x : Counts). x.taken) give_one t.world.sems s o (λ e x. refl))
-  counted (n.V s u) V o = elim (raised_or (λ (x : Counts). x.given) give_one t.world.sems s o (λ x. refl)) [
+  counted (n.V s u) P o = inl (as_before (λ (x : Counts). x.taken) one_given t.world.sems s o (λ e x. refl))
+  counted (n.V s u) V o = elim (raised_or (λ (x : Counts). x.given) one_given t.world.sems s o (λ x. refl)) [
     | inl same ↦ inl same
     | inr r ↦ inr (blank, there_is s (line V s blank) r.1 ∙ ap (λ (k : ℕ). line V k blank) (sym r.0), r.2)
   ]
@@ -95,33 +80,33 @@ module _ (program : Program) (t : Telling) (sizes : Sizes program t) (e : EventI
   counted (n.V s u) Done o = inl refl
   counted (n.Send c v u) P o = inl refl
   counted (n.Send c v u) V o = inl refl
-  counted (n.Send c v u) Send o = elim (raised_or (λ (x : Channel). length x.sent) (send_one v) t.world.chans c o (more_sent v)) [
+  counted (n.Send c v u) Send o = elim (raised_or (λ (x : Channel). length x.sent) (with_value v) t.world.chans c o (more_sent v)) [
     | inl same ↦ inl same
     | inr r ↦ inr ((v, None), ap (λ (k : ℕ). line Send k (v, None)) (sym r.0), r.2)
   ]
-  counted (n.Send c v u) Recv o = inl (as_before (λ (x : Channel). x.received) (send_one v) t.world.chans c o (λ e x. refl))
-  counted (n.Send c v u) Done o = inl (as_before (λ (x : Channel). x.completed) (send_one v) t.world.chans c o (λ e x. refl))
+  counted (n.Send c v u) Recv o = inl (as_before (λ (x : Channel). x.received) (with_value v) t.world.chans c o (λ e x. refl))
+  counted (n.Send c v u) Done o = inl (as_before (λ (x : Channel). x.completed) (with_value v) t.world.chans c o (λ e x. refl))
   counted (n.Offer c v) P o = inl refl
   counted (n.Offer c v) V o = inl refl
-  counted (n.Offer c v) Send o = elim (raised_or (λ (x : Channel). length x.sent) (send_one v) t.world.chans c o (more_sent v)) [
+  counted (n.Offer c v) Send o = elim (raised_or (λ (x : Channel). length x.sent) (with_value v) t.world.chans c o (more_sent v)) [
     | inl same ↦ inl same
     | inr r ↦ inr ((v, None), ap (λ (k : ℕ). line Send k (v, None)) (sym r.0), r.2)
   ]
-  counted (n.Offer c v) Recv o = inl (as_before (λ (x : Channel). x.received) (send_one v) t.world.chans c o (λ e x. refl))
-  counted (n.Offer c v) Done o = inl (as_before (λ (x : Channel). x.completed) (send_one v) t.world.chans c o (λ e x. refl))
+  counted (n.Offer c v) Recv o = inl (as_before (λ (x : Channel). x.received) (with_value v) t.world.chans c o (λ e x. refl))
+  counted (n.Offer c v) Done o = inl (as_before (λ (x : Channel). x.completed) (with_value v) t.world.chans c o (λ e x. refl))
   counted (n.Recv c u) P o = inl refl
   counted (n.Recv c u) V o = inl refl
-  counted (n.Recv c u) Send o = inl (as_before (λ (x : Channel). length x.sent) receive_one t.world.chans c o (λ e x. refl))
-  counted (n.Recv c u) Recv o = elim (raised_or (λ (x : Channel). x.received) receive_one t.world.chans c o (λ x. refl)) [
+  counted (n.Recv c u) Send o = inl (as_before (λ (x : Channel). length x.sent) one_received t.world.chans c o (λ e x. refl))
+  counted (n.Recv c u) Recv o = elim (raised_or (λ (x : Channel). x.received) one_received t.world.chans c o (λ x. refl)) [
     | inl same ↦ inl same
     | inr r ↦ inr (blank, ap (λ (k : ℕ). line Recv k blank) (sym r.0), r.2)
   ]
-  counted (n.Recv c u) Done o = inl (as_before (λ (x : Channel). x.completed) receive_one t.world.chans c o (λ e x. refl))
+  counted (n.Recv c u) Done o = inl (as_before (λ (x : Channel). x.completed) one_received t.world.chans c o (λ e x. refl))
   counted (n.Done c u) P o = inl refl
   counted (n.Done c u) V o = inl refl
-  counted (n.Done c u) Send o = inl (as_before (λ (x : Channel). length x.sent) complete_one t.world.chans c o (λ e x. refl))
-  counted (n.Done c u) Recv o = inl (as_before (λ (x : Channel). x.received) complete_one t.world.chans c o (λ e x. refl))
-  counted (n.Done c u) Done o = elim (raised_or (λ (x : Channel). x.completed) complete_one t.world.chans c o (λ x. refl)) [
+  counted (n.Done c u) Send o = inl (as_before (λ (x : Channel). length x.sent) one_completed t.world.chans c o (λ e x. refl))
+  counted (n.Done c u) Recv o = inl (as_before (λ (x : Channel). x.received) one_completed t.world.chans c o (λ e x. refl))
+  counted (n.Done c u) Done o = elim (raised_or (λ (x : Channel). x.completed) one_completed t.world.chans c o (λ x. refl)) [
     | inl same ↦ inl same
     | inr r ↦ inr (blank, ap (λ (k : ℕ). line Done k blank) (sym r.0), r.2)
   ]
@@ -137,12 +122,12 @@ module _ (program : Program) (t : Telling) (sizes : Sizes program t) (e : EventI
 
   -- a count on the line of the synchronization is one larger
   count_by : (need : Need) (l : Line) (v : Tagged) → Syncs program need l v → can t.world need ≡ true → counts_after need l ≡ suc (count_of t.world l.0 l.1)
-  count_by _ _ _ (takes s u) h = up_one (λ (x : Counts). x.taken) take_one t.world.sems s (λ x. refl) (can_there can_take t.world.sems s refl h)
-  count_by _ _ _ (gives s u there) h = up_one (λ (x : Counts). x.given) give_one t.world.sems s (λ x. refl) (omega (arith, there, sizes.sems))
-  count_by _ _ _ (sends c v u) h = up_one (λ (x : Channel). length x.sent) (send_one v) t.world.chans c (more_sent v) (can_there can_send t.world.chans c refl h)
-  count_by _ _ _ (offers c v) h = up_one (λ (x : Channel). length x.sent) (send_one v) t.world.chans c (more_sent v) (can_there can_send t.world.chans c refl h)
-  count_by _ _ _ (completes c u) h = up_one (λ (x : Channel). x.completed) complete_one t.world.chans c (λ x. refl) (can_there can_complete t.world.chans c refl h)
-  count_by _ _ _ (receives c u) h = up_one (λ (x : Channel). x.received) receive_one t.world.chans c (λ x. refl) (can_there can_receive t.world.chans c refl h)
+  count_by _ _ _ (takes s u) h = up_one (λ (x : Counts). x.taken) one_taken t.world.sems s (λ x. refl) (can_there can_take t.world.sems s refl h)
+  count_by _ _ _ (gives s u there) h = up_one (λ (x : Counts). x.given) one_given t.world.sems s (λ x. refl) (omega (arith, there, sizes.sems))
+  count_by _ _ _ (sends c v u) h = up_one (λ (x : Channel). length x.sent) (with_value v) t.world.chans c (more_sent v) (can_there can_send t.world.chans c refl h)
+  count_by _ _ _ (offers c v) h = up_one (λ (x : Channel). length x.sent) (with_value v) t.world.chans c (more_sent v) (can_there can_send t.world.chans c refl h)
+  count_by _ _ _ (completes c u) h = up_one (λ (x : Channel). x.completed) one_completed t.world.chans c (λ x. refl) (can_there can_complete t.world.chans c refl h)
+  count_by _ _ _ (receives c u) h = up_one (λ (x : Channel). x.received) one_received t.world.chans c (λ x. refl) (can_there can_receive t.world.chans c refl h)
 
   pub count_new : (need : Need) → can t.world need ≡ true → (l : Line) (v : Tagged) → sorted program e need ≡ Sync l v → counts_after need l ≡ suc (count_of t.world l.0 l.1)
   count_new need h l v is = count_by need l v (synced_need program need e l v is) h
@@ -150,7 +135,7 @@ module _ (program : Program) (t : Telling) (sizes : Sizes program t) (e : EventI
   -- ---- what lines were given
 
   new_sent : (v : ℤ) (xs : List Channel) (c : ℕ) → c < length xs
-      → sent_in (slice_get (change (send_one v) c xs) c) (suc (count_in (λ (x : Channel). length x.sent) (slice_get xs c))) ≡ v
+      → sent_in (slice_get (change (with_value v) c xs) c) (suc (count_in (λ (x : Channel). length x.sent) (slice_get xs c))) ≡ v
   new_sent v [] c h = absurd (omega (arith, h))
   new_sent v (x ∷ xs) zero h = get_or_push x.sent v (pos 0) (length x.sent) refl
   new_sent v (x ∷ xs) (suc c) h = new_sent v xs c (omega (arith, h))
@@ -167,7 +152,7 @@ module _ (program : Program) (t : Telling) (sizes : Sizes program t) (e : EventI
   pay_new need h l v is = pay_by need l v (synced_need program need e l v is) h
 
   still_sent : (v : ℤ) (xs : List Channel) (c o k : ℕ) → k ≤ count_in (λ (x : Channel). length x.sent) (slice_get xs o)
-      → sent_in (slice_get (change (send_one v) c xs) o) k ≡ sent_in (slice_get xs o) k
+      → sent_in (slice_get (change (with_value v) c xs) o) k ≡ sent_in (slice_get xs o) k
   still_sent v [] c o k low = refl
   still_sent v (x ∷ xs) zero zero zero low = refl
   still_sent v (x ∷ xs) zero zero (suc k) low = get_or_append_left x.sent (v ∷ []) (pos 0) k (omega (arith, low))
@@ -191,8 +176,8 @@ module _ (program : Program) (t : Telling) (sizes : Sizes program t) (e : EventI
   pay_kept need Done o k low = refl
   pay_kept (n.Send c v u) Send o k low = ap (λ (x : ℤ). (x, None)) (still_sent v t.world.chans c o k low)
   pay_kept (n.Offer c v) Send o k low = ap (λ (x : ℤ). (x, None)) (still_sent v t.world.chans c o k low)
-  pay_kept (n.Recv c u) Send o k low = ap (λ (x : ℤ). (x, None)) (sent_kept receive_one t.world.chans c o k (λ x. refl))
-  pay_kept (n.Done c u) Send o k low = ap (λ (x : ℤ). (x, None)) (sent_kept complete_one t.world.chans c o k (λ x. refl))
+  pay_kept (n.Recv c u) Send o k low = ap (λ (x : ℤ). (x, None)) (sent_kept one_received t.world.chans c o k (λ x. refl))
+  pay_kept (n.Done c u) Send o k low = ap (λ (x : ℤ). (x, None)) (sent_kept one_completed t.world.chans c o k (λ x. refl))
   pay_kept (n.P s u) Send o k low = refl
   pay_kept (n.V s u) Send o k low = refl
   pay_kept need Send o k low = refl

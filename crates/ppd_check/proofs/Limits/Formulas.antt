@@ -12,15 +12,16 @@ use Rattle.ppd_resolve.specs.Syntax.{Formula}
 use Rattle.ppd_resolve.specs.Reading.{Phrase, token, formula, goal, phrase, goal_formula, as_formula, kind, is_bracket, formula_at, joined, unary, goal_of, made, said, all_said}
 use Rattle.ppd_check.proofs.Limits.Trees.{signs, signs_in, levels, levels_in, IsJoined, Fits, FitsIn}
 use Rattle.ppd_check.proofs.Limits.Depths.{place_in}
-use Rattle.ppd_check.proofs.Limits.Small.{operators, indexes}
+use Rattle.ppd_check.proofs.Limits.Small.{indexes}
+use Rattle.ppd_check.specs.Sizes.{operators_in}
 
 -- Small expressions among phrases.
 
 -- how many operators a phrase has: one of a token that is an operator in an expression
 abbrev pub weight : Phrase → ℕ
 weight (token t) = cond (is_sign (kind_of t.kind)) 1 0
-weight (formula f) = operators f
-weight (goal g) = operators (goal_formula g)
+weight (formula f) = operators_in f
+weight (goal g) = operators_in (goal_formula g)
 weight p = 0
 
 abbrev weight_all : List Phrase → ℕ
@@ -35,7 +36,7 @@ depth p = 0
 abbrev Below : ℕ → List Phrase → Type 0
 Below n ps = AllByRecursion (λ p. depth p ≤ n) ps
 
-few_operators : (p : Phrase) → operators (as_formula p) ≤ weight p
+few_operators : (p : Phrase) → operators_in (as_formula p) ≤ weight p
 few_operators (token t) = omega arith
 few_operators p = omega arith
 
@@ -80,13 +81,13 @@ below_at n (p ∷ ps) (suc k) h = below_at n ps k h.1
 
 -- Expressions by their parts.
 
-formula_few : (ps : List Phrase) (k : ℕ) → operators (formula_at ps k) ≤ weight (phrase ps k)
+formula_few : (ps : List Phrase) (k : ℕ) → operators_in (formula_at ps k) ≤ weight (phrase ps k)
 formula_few ps k = few_operators (phrase ps k)
 
 formula_below : (n : ℕ) (ps : List Phrase) (k : ℕ) → Below n ps → indexes (formula_at ps k) ≤ n
 formula_below n ps k h = few_indexes (phrase ps k) n (below_at n ps k h)
 
-unary_few : (ps : List Phrase) (k : Kind) → kind (phrase ps 0) ≡ k → operators (unary ps) ≤ weight_all ps
+unary_few : (ps : List Phrase) (k : Kind) → kind (phrase ps 0) ≡ k → operators_in (unary ps) ≤ weight_all ps
 unary_few ps K.LeftParen e = rw (e) (omega (arith, formula_few ps 1, one_weight ps 1))
 unary_few ps K.MinusMark e = rw (e) (omega (arith, formula_few ps 1, two_weights ps, sign_weight (phrase ps 0) K.MinusMark e refl))
 unary_few ps K.NotMark e = rw (e) (omega (arith, formula_few ps 1, two_weights ps, sign_weight (phrase ps 0) K.NotMark e refl))
@@ -100,7 +101,7 @@ unary_below n ps K.NotMark e h = rw (e) (formula_below n ps 1 h)
 unary_below n ps K.Number e h = rw (e) (omega arith)
 unary_below n ps k e h = rw (e) (formula_below n ps 0 h)
 
-joined_few : (k : Kind) (a b : Formula) → operators (joined k a b) ≡ 1 + operators a + operators b
+joined_few : (k : Kind) (a b : Formula) → operators_in (joined k a b) ≡ 1 + operators_in a + operators_in b
 joined_few K.OrMark a b = refl
 joined_few k a b = refl
 
@@ -118,7 +119,7 @@ joined_sign no_shapes h = absurd h
 joined_sign (shape_then t no_shapes) h = absurd h
 joined_sign (shape_then t (shape_then (node r f) ts)) h = absurd h
 
-goal_few : (ps : List Phrase) (b : Bool) → is_bracket (kind (phrase ps 1)) ≡ b → operators (goal_formula (goal_of ps)) ≤ weight_all ps
+goal_few : (ps : List Phrase) (b : Bool) → is_bracket (kind (phrase ps 1)) ≡ b → operators_in (goal_formula (goal_of ps)) ≤ weight_all ps
 goal_few ps true e = rw (e) (omega (arith, formula_few ps 2, one_weight ps 2))
 goal_few ps false e = rw (e) (omega arith)
 

@@ -7,12 +7,14 @@ use Rattle.ppd_lex.specs.declared.token.Kind.TheVariants as K
 use Rattle.ppd_parse.specs.declared.symbol.Rule.{Rule}
 use Rattle.ppd_parse.specs.declared.symbol.Rule.TheVariants as R
 use Rattle.ppd_parse.specs.Grammar.{Shape, leaf, node, Shapes, no_shapes, shape_then}
+use Rattle.ppd_parse.specs.Stack.{is_assign}
 use Rattle.ppd_resolve.specs.Syntax.{Name, Number, Formula, number, variable, plain, received, fresh, array, Row, stop, simple, block, choice, repeat, count, Item, semaphore, channel}
-use Rattle.ppd_resolve.specs.Reading.{Phrase, token, formula, goal, value, calling, changing, row, body, names, items, nowhere, name_of, phrase, last, as_token, goal_formula, as_formula, as_goal, called, as_value, as_row, as_block, as_names, as_items, kind, is_bracket, is_assign, is_minus, is_semicolon, is_int, is_recv, is_name, is_formula, name_at, formula_at, before, beyond, formulas, goal_of, value_said, local_item, changed, followed, rows, locals, some_change, for_start, for_test, for_row, returned, worded, statement, shared_item, number_behind, numbered, params, made, said, all_said, number_at}
+use Rattle.ppd_resolve.specs.Reading.{Phrase, token, formula, goal, value, calling, changing, row, body, names, items, nowhere, name_of, phrase, last, as_token, goal_formula, as_formula, as_goal, called, as_value, as_row, as_block, as_names, as_items, kind, is_bracket, is_minus, is_semicolon, is_int, is_recv, is_name, is_formula, name_at, formula_at, before, beyond, formulas, goal_of, value_said, local_item, changed, followed, rows, locals, some_change, for_start, for_test, for_row, returned, worded, statement, shared_item, number_behind, numbered, params, made, said, all_said, number_at}
 use Rattle.ppd_check.proofs.Limits.Trees.{signs_in, levels, levels_in, OwnFits, is_for, starts_for, Fits, FitsIn, statement_in}
 use Rattle.ppd_check.proofs.Limits.Depths.{place_in}
-use Rattle.ppd_check.proofs.Limits.Small.{operators, IsSmall, IsShort, IsSmallGoal, IsSmallValue, IsSmallIfAny, IsSmallSimple, IsSmallChange, IsSmallRow, IsSmallItem}
+use Rattle.ppd_check.proofs.Limits.Small.{IsSmall, IsShort, IsSmallGoal, IsSmallValue, IsSmallIfAny, IsSmallSimple, IsSmallChange, IsSmallRow, IsSmallItem}
 use Rattle.ppd_check.proofs.Limits.Formulas.{weight, depth, said_few, said_below}
+use Rattle.ppd_check.specs.Sizes.{operators_in}
 
 -- Small phrases, whose rows are at most n deep.
 
@@ -98,7 +100,7 @@ short_name n p h = omega arith
 
 -- Lists of phrases.
 
-either_holds : {A : Type 0} (P : A → Type 0) (b : Bool) (x y : A) → P x → P y → P (if b then x else y)
+pub either_holds : {A : Type 0} (P : A → Type 0) (b : Bool) (x y : A) → P x → P y → P (if b then x else y)
 either_holds P true x y h i = h
 either_holds P false x y h i = i
 
@@ -123,7 +125,7 @@ short_params : (n : ℕ) (ps : List Phrase) → AreSmall n ps → AllByRecursion
 short_params n [] h = tt
 short_params n (p ∷ ps) h = either_holds (AllByRecursion IsShort) (is_name (kind p)) (name_of (as_token p) ∷ params ps) (params ps) (short_name n p h.0, short_params n ps h.1) (short_params n ps h.1)
 
-all_join : {X : Type 0} (P : X → Type 0) (xs ys : List X) → AllByRecursion P xs → AllByRecursion P ys → AllByRecursion P (xs ++ ys)
+pub all_join : {X : Type 0} (P : X → Type 0) (xs ys : List X) → AllByRecursion P xs → AllByRecursion P ys → AllByRecursion P (xs ++ ys)
 all_join P [] ys h i = i
 all_join P (x ∷ xs) ys h i = (h.0, all_join P xs ys h.1 i)
 
@@ -266,7 +268,7 @@ made_small n m R.Unary ts k h = record { few = omega (arith, k.own, k.weight_few
 made_small n m R.Binary ts k h = record { few = omega (arith, k.own.0, k.weight_few); shallow = k.shallow }
 made_small n m R.Place ts k h = record { few = goal_operators (is_bracket (kind (phrase (all_said ts) 1))) refl; shallow = k.shallow }
   where
-    goal_operators : (b : Bool) → is_bracket (kind (phrase (all_said ts) 1)) ≡ b → operators (goal_formula (goal_of (all_said ts))) ≤ 256
+    goal_operators : (b : Bool) → is_bracket (kind (phrase (all_said ts) 1)) ≡ b → operators_in (goal_formula (goal_of (all_said ts))) ≤ 256
     goal_operators true e = rw (e) (formula_small m (all_said ts) 2 h).few
     goal_operators false e = rw (e) (omega arith)
 made_small n m R.Leaf ts k h = omega arith

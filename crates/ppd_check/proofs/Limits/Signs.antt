@@ -90,7 +90,7 @@ one_tier L.And (side (left d)) = one_tier L.Equal d
 one_tier L.Or (side (left d)) = one_tier L.And d
 one_tier l (side (right (grouped {r} {t = t} d))) = (node r (forest t), refl)
 
-or_true : (a b : Bool) → b ≡ true → (a || b) ≡ true
+pub or_true : (a b : Bool) → b ≡ true → (a || b) ≡ true
 or_true true b e = refl
 or_true false b e = e
 

@@ -4,19 +4,9 @@ use Rattle.std.specs.Prelude.{⊤}
 use Rattle.std.specs.List.{AllByRecursion}
 use Rattle.ppd_resolve.specs.Syntax.{Name, Formula, number, variable, element, negated, inverted, two, both, either, Goal, Value, plain, result, received, Simple, fresh, array, store, change, call, give_back, take, give, send, print, assert, Row, stop, simple, block, choice, repeat, count, Item, shared, shared_array, semaphore, channel, function, process}
 use Rattle.ppd_resolve.specs.Reading.{goal_formula, params}
+use Rattle.ppd_check.specs.Sizes.{operators_in}
 
 -- Measures of expressions.
-
--- the operators
-abbrev pub operators : Formula → ℕ
-operators (number n) = 0
-operators (variable x) = 0
-operators (element x i) = operators i
-operators (negated e) = 1 + operators e
-operators (inverted e) = 1 + operators e
-operators (two op a b) = 1 + operators a + operators b
-operators (both a b) = 1 + operators a + operators b
-operators (either a b) = 1 + operators a + operators b
 
 -- how deep elements stand in the indexes of elements
 abbrev pub indexes : Formula → ℕ
@@ -30,7 +20,7 @@ indexes (both a b) = max (indexes a) (indexes b)
 indexes (either a b) = max (indexes a) (indexes b)
 
 pub record IsSmall (f : Formula) : Type 0 where
-  pub few : operators f ≤ 256
+  pub few : operators_in f ≤ 256
   pub shallow : indexes f ≤ 64
 
 abbrev pub IsShort : Name → Type 0

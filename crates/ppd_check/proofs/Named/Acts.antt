@@ -11,26 +11,23 @@ use Rattle.ppd_ast.specs.Term.{Term}
 use Rattle.ppd_ast.specs.Cells.{IsScalarOf, IsArrayOf, NamesWhole, IsWholeTarget, IsScalarIfAny}
 use Rattle.ppd_ast.specs.Valid.{CallsRightly}
 use Rattle.ppd_resolve.specs.declared.fault.Cause.TheVariants.{Arity, VoidValue}
-use Rattle.ppd_resolve.specs.Names.{Scope, meaning, fits, is_semaphore, is_channel, semaphore_of, channel_of, function_of}
+use Rattle.ppd_resolve.specs.Names.{Scope, meaning, fits_index, is_semaphore, is_channel, semaphore_of, channel_of, function_of}
 use Rattle.ppd_resolve.specs.declared.meaning.Meaning.{Meaning}
 use Rattle.ppd_resolve.specs.declared.meaning.Meaning.TheVariants as M
 use Rattle.ppd_resolve.specs.Faults.{unless, if_so}
 use Rattle.ppd_lower.specs.Code as C
 use Rattle.ppd_lower.specs.Code.{Spot}
-use Rattle.ppd_lower.specs.Table.{roots, target, spot_terms, weight, kind}
+use Rattle.ppd_lower.specs.Table.{roots, target, spot_terms, kind}
 use Rattle.ppd_resolve.specs.Syntax.{Name, Formula, Goal, scalar, item, Value, plain, result, received}
 use Rattle.ppd_resolve.specs.Reading.{goal_formula}
 use Rattle.ppd_lower.specs.Expressions.{read_scalar, read_element, term_of, wrong_use, name_faults, formula_faults, wrong_call, call_faults}
 use Rattle.ppd_lower.specs.Statements.{spot, spot_of, put, value_faults}
+use Rattle.ppd_lower.proofs.Costs.Tables.{length_roots}
 use Rattle.ppd_check.proofs.Named.Rightly.{IsThere, AreAllThere, IsNamedRightly}
 use Rattle.ppd_check.proofs.Named.Terms.{nil_left, nil_right, not_nil, unless_true, if_so_false, scalar_used, array_used, meaning_there, formula_whole, formulas_whole}
 
-nat_eq_same : (a b : ℕ) → nat_eq a b ≡ true → a ≡ b
+pub nat_eq_same : (a b : ℕ) → nat_eq a b ≡ true → a ≡ b
 nat_eq_same a b h = grind (arith, h)
-
-length_roots : (m : ℕ) (ts : List Term) → length (roots m ts) ≡ length ts
-length_roots m [] = refl
-length_roots m (t ∷ ts) = let r : length (roots (m + weight t) ts) ≡ length ts = length_roots (m + weight t) ts in omega (arith, r)
 
 -- a value is received only where one is given
 received_given : (into : Option ℕ) (gives : Bool) → is_some into && not gives ≡ false → IsSome into → IsTrue gives
@@ -61,11 +58,11 @@ module _ (p : Program) (locals : List Var) where
   target_whole (C.shared c) k h = h
   target_whole (C.shared_at base n i) k h = h.0
 
-  scalar_spot : (o : Option Meaning) (q : Place) → IfSome o (IsThere p locals) → wrong_use (fits false) o q ≡ [] → IsWholeSpot (spot (read_scalar o))
+  scalar_spot : (o : Option Meaning) (q : Place) → IfSome o (IsThere p locals) → wrong_use (fits_index false) o q ≡ [] → IsWholeSpot (spot (read_scalar o))
   scalar_spot o q a h =
       scalar_used (λ m. IfSome m (IsThere p locals) → IsWholeSpot (spot (read_scalar m))) (λ base b. b) (λ base b. b) o q h a
 
-  element_spot : (o : Option Meaning) (q : Place) (i : Term) → IfSome o (IsThere p locals) → wrong_use (fits true) o q ≡ [] → NamesWhole p.shared locals i
+  element_spot : (o : Option Meaning) (q : Place) (i : Term) → IfSome o (IsThere p locals) → wrong_use (fits_index true) o q ≡ [] → NamesWhole p.shared locals i
       → IsWholeSpot (spot (read_element o i))
   element_spot o q i a h w =
       array_used (λ m. IfSome m (IsThere p locals) → IsWholeSpot (spot (read_element m i))) (λ base n b. (b, w)) (λ base n b. (b, w)) o q h a
@@ -73,8 +70,8 @@ module _ (p : Program) (locals : List Var) where
   pub spot_whole : (s : List Scope) (g : Goal) → AreAllThere p locals s → formula_faults s (goal_formula g) ≡ [] → IsWholeSpot (spot_of s g)
   spot_whole s (scalar x) there h = scalar_spot (meaning s x.text) x.place (meaning_there p locals s x.text there) h
   spot_whole s (item x i) there h =
-      element_spot (meaning s x.text) x.place (term_of s i) (meaning_there p locals s x.text there) (nil_left (name_faults (fits true) s x) (formula_faults s i) h)
-      (formula_whole p locals s i there (nil_right (name_faults (fits true) s x) (formula_faults s i) h))
+      element_spot (meaning s x.text) x.place (term_of s i) (meaning_there p locals s x.text there) (nil_left (name_faults (fits_index true) s x) (formula_faults s i) h)
+      (formula_whole p locals s i there (nil_right (name_faults (fits_index true) s x) (formula_faults s i) h))
 
   -- One statement.
 

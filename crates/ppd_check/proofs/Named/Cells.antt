@@ -3,25 +3,24 @@ use Rattle.std.proofs.Common.{◌≡◌, refl, sym, ap, subst, ◌∙◌, ℕ, z
 use Rattle.std.specs.List.{All, count_by}
 use Rattle.std.proofs.lemmas.List.Elements.{All-nil, All-cons}
 use Rattle.std.proofs.lemmas.List.Sums.{sum_by-cons}
+use Rattle.std.proofs.lemmas.Bool.{ltb-false}
 use Rattle.ppd_ast.specs.declared.program.Var.{Var}
 use Rattle.ppd_ast.specs.Cells as A
-use Rattle.ppd_ast.specs.Cells.{holds, CoverCells, AreParams}
+use Rattle.ppd_ast.specs.Cells.{holds, CoverCells, AreParams, size}
+use Rattle.ppd_ast.specs.Counting.{one_if}
 use Rattle.ppd_resolve.specs.declared.fault.Cause.TheVariants.{TooMany}
 use Rattle.ppd_resolve.specs.declared.fault.Limit.{Limit}
 use Rattle.ppd_resolve.specs.declared.frame.Variable.{Variable}
 use Rattle.ppd_resolve.specs.Faults.{if_so}
 use Rattle.ppd_resolve.specs.Fitted.{as_short}
 use Rattle.ppd_resolve.specs.Syntax.{Name}
-use Rattle.ppd_resolve.specs.Frames.{size, after_cells, variable_of}
+use Rattle.ppd_resolve.specs.Frames.{after_cells, variable_of}
 use Rattle.ppd_lower.specs.Sources.{vars}
 use Rattle.ppd_resolve.specs.Globals.{past_cells}
+use Rattle.ppd_resolve.proofs.Declared.Counted.{end_cells}
 use Rattle.ppd_check.proofs.Named.Terms.{nil_left, nil_right, if_so_false}
-use Rattle.ppd_check.proofs.Named.Frames.{cells_after}
 
 -- Numbers.
-
-pub not_less : (a b : ℕ) → nat_lt a b ≡ false → b ≤ a
-not_less a b h = grind (arith, h)
 
 short_is : (n most : ℕ) → most < 2 ^ 16 - 1 → as_short n ≤ most → as_short n ≡ n
 short_is n most small h = omega (arith, small, h)
@@ -47,12 +46,8 @@ abbrev pub total : List Variable → ℕ
 total [] = 0
 total (v ∷ vs) = size v.length + total vs
 
--- 1 where a test holds, else 0
-abbrev bit : Bool → ℕ
-bit b = cond b 1 0
-
-count_cons : (c : ℕ) (v : Var) (vs : List Var) → count_by (holds c) (v ∷ vs) ≡ bit (holds c v) + count_by (holds c) vs
-count_cons c v vs = sum_by-cons (λ x. bit (holds c x)) v vs
+count_cons : (c : ℕ) (v : Var) (vs : List Var) → count_by (holds c) (v ∷ vs) ≡ one_if (holds c v) + count_by (holds c) vs
+count_cons c v vs = sum_by-cons (λ x. one_if (holds c x)) v vs
 
 -- a variable that begins at cell n
 abbrev var_at : ℕ → Variable → Var
@@ -64,7 +59,7 @@ module _ (most : ℕ) (limit : Limit) (small : most < 2 ^ 16 - 1) where
   first_within n v vs h =
       let a : nat_lt most (after_cells n v.length) ≡ false =
       if_so_false (nat_lt most (after_cells n v.length)) v.place (TooMany limit) (nil_left (if_so (nat_lt most (after_cells n v.length)) v.place (TooMany limit)) _ h) in
-      let b : after_cells n v.length ≤ most = not_less most (after_cells n v.length) a in
+      let b : after_cells n v.length ≤ most = ltb-false most (after_cells n v.length) a in
       let c : after_cells n v.length ≡ n + size v.length = short_is (n + size v.length) most small b in
       (c, subst (λ k. k ≤ most) c b)
 
@@ -73,17 +68,17 @@ module _ (most : ℕ) (limit : Limit) (small : most < 2 ^ 16 - 1) where
       subst (λ k. past_cells most limit k vs ≡ []) (first_within n v vs h).0
       (nil_right (if_so (nat_lt most (after_cells n v.length)) v.place (TooMany limit)) (past_cells most limit (after_cells n v.length) vs) h)
 
-  pub cells_total : (n : ℕ) (vs : List Variable) → past_cells most limit n vs ≡ [] → cells_after n vs ≡ n + total vs
+  pub cells_total : (n : ℕ) (vs : List Variable) → past_cells most limit n vs ≡ [] → end_cells n vs ≡ n + total vs
   cells_total n [] h = omega arith
   cells_total n (v ∷ vs) h =
       let a : after_cells n v.length ≡ n + size v.length = (first_within n v vs h).0 in
-      let b : cells_after (n + size v.length) vs ≡ n + size v.length + total vs = cells_total (n + size v.length) vs (rest_within n v vs h) in
-      ap (λ k. cells_after k vs) a ∙ omega (arith, b)
+      let b : end_cells (n + size v.length) vs ≡ n + size v.length + total vs = cells_total (n + size v.length) vs (rest_within n v vs h) in
+      ap (λ k. end_cells k vs) a ∙ omega (arith, b)
 
-  pub cells_within : (n : ℕ) (vs : List Variable) → n ≤ most → past_cells most limit n vs ≡ [] → cells_after n vs ≤ most
+  pub cells_within : (n : ℕ) (vs : List Variable) → n ≤ most → past_cells most limit n vs ≡ [] → end_cells n vs ≤ most
   cells_within n [] le h = le
   cells_within n (v ∷ vs) le h =
-      subst (λ k. cells_after k vs ≤ most) (sym (first_within n v vs h).0)
+      subst (λ k. end_cells k vs ≤ most) (sym (first_within n v vs h).0)
       (cells_within (n + size v.length) vs (first_within n v vs h).1 (rest_within n v vs h))
 
   -- Each cell is one variable's.
@@ -97,8 +92,8 @@ module _ (most : ℕ) (limit : Limit) (small : most < 2 ^ 16 - 1) where
   none_before n c (v ∷ vs) h l =
       let w : Var = var_at n v in
       let a : count_by (holds c) (vars (n + size v.length) vs) ≡ 0 = none_before (n + size v.length) c vs (rest_within n v vs h) (omega (arith, l)) in
-      let b : bit (holds c w) ≡ 0 = ap bit (holds_before n c (A.after w) l) in
-      let d : count_by (holds c) (w ∷ vars (n + size v.length) vs) ≡ bit (holds c w) + count_by (holds c) (vars (n + size v.length) vs) = count_cons c w (vars (n + size v.length) vs) in
+      let b : one_if (holds c w) ≡ 0 = ap one_if (holds_before n c (A.after w) l) in
+      let d : count_by (holds c) (w ∷ vars (n + size v.length) vs) ≡ one_if (holds c w) + count_by (holds c) (vars (n + size v.length) vs) = count_cons c w (vars (n + size v.length) vs) in
       ap (count_by (holds c)) (vars_cons n v vs h) ∙ omega (arith, a, b, d)
 
   pub once_inside : (n c : ℕ) (vs : List Variable) → past_cells most limit n vs ≡ [] → n ≤ c → c < n + total vs → count_by (holds c) (vars n vs) ≡ 1
@@ -108,7 +103,7 @@ module _ (most : ℕ) (limit : Limit) (small : most < 2 ^ 16 - 1) where
       end : n + size v.length ≡ A.after (var_at n v)
       end = ap (λ k. n + k) (size_same v.length)
 
-      counted : (k m : ℕ) → bit (holds c (var_at n v)) ≡ k → count_by (holds c) (vars (n + size v.length) vs) ≡ m → k + m ≡ 1 → count_by (holds c) (vars n (v ∷ vs)) ≡ 1
+      counted : (k m : ℕ) → one_if (holds c (var_at n v)) ≡ k → count_by (holds c) (vars (n + size v.length) vs) ≡ m → k + m ≡ 1 → count_by (holds c) (vars n (v ∷ vs)) ≡ 1
       counted k m a b e =
           ap (count_by (holds c)) (vars_cons n v vs h)
           ∙ count_cons c (var_at n v) (vars (n + size v.length) vs)
@@ -119,8 +114,8 @@ module _ (most : ℕ) (limit : Limit) (small : most < 2 ^ 16 - 1) where
       go : (c < n + size v.length) ⊎ (n + size v.length ≤ c) → (n + size v.length ≤ c → c < n + size v.length + total vs → count_by (holds c) (vars (n + size v.length) vs) ≡ 1)
           → count_by (holds c) (vars n (v ∷ vs)) ≡ 1
       go (inl i) more =
-          counted 1 0 (ap bit (holds_inside n c (A.after (var_at n v)) le (subst (λ k. c < k) end i))) (none_before (n + size v.length) c vs (rest_within n v vs h) i) (omega arith)
-      go (inr i) more = counted 0 1 (ap bit (holds_past n c (A.after (var_at n v)) (subst (λ k. k ≤ c) end i))) (more i (omega (arith, l))) (omega arith)
+          counted 1 0 (ap one_if (holds_inside n c (A.after (var_at n v)) le (subst (λ k. c < k) end i))) (none_before (n + size v.length) c vs (rest_within n v vs h) i) (omega arith)
+      go (inr i) more = counted 0 1 (ap one_if (holds_past n c (A.after (var_at n v)) (subst (λ k. k ≤ c) end i))) (more i (omega (arith, l))) (omega arith)
 
   all_within : (n : ℕ) (vs : List Variable) → past_cells most limit n vs ≡ [] → All (λ v. A.after v ≤ n + total vs) (vars n vs)
   all_within n [] h = All-nil (λ v. A.after v ≤ n + total [])

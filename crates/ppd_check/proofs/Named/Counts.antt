@@ -3,6 +3,7 @@ use Rattle.std.proofs.Common.{◌≡◌, refl, sym, ap, subst, ◌∙◌, ℕ, z
 use Rattle.std.specs.List.{All, Contains, flat_map, filter, count_by}
 use Rattle.std.proofs.lemmas.List.{length-append, length-drop}
 use Rattle.std.proofs.lemmas.List.Elements.{All-nil, All-cons, All-weaker, All-contains}
+use Rattle.std.proofs.lemmas.Bool.{ltb-false}
 use Rattle.ppd_ast.specs.declared.limits.TheConstants.{MOST_STATEMENTS}
 use Rattle.ppd_ast.specs.declared.program.Place.{Place}
 use Rattle.ppd_resolve.specs.declared.fault.Cause.TheVariants.{TooMany}
@@ -14,7 +15,6 @@ use Rattle.ppd_resolve.specs.Syntax.{Name}
 use Rattle.ppd_lower.specs.Code.{Code, done, act, choice, loop, places, count}
 use Rattle.ppd_lower.specs.Table.{stmts, weight, weights, terms, act_terms}
 use Rattle.ppd_check.proofs.PastMost.{up_to_itself, count_all}
-use Rattle.ppd_check.proofs.Named.Cells.{not_less}
 use Rattle.ppd_lower.specs.Sources.{is_up_to, past_statements, all_stmts}
 use Rattle.ppd_resolve.specs.Globals.{past}
 
@@ -94,7 +94,7 @@ few_statements (x ∷ xs) h =
     let none : All (λ q. nat_lt MOST_STATEMENTS (count_by (is_up_to q) ps) ≡ false) ps =
     none_pass (λ q. nat_lt MOST_STATEMENTS (count_by (is_up_to q) ps)) ps (map_nil (λ q. at q (TooMany L.Statements)) (filter (λ q. nat_lt MOST_STATEMENTS (count_by (is_up_to q) ps)) ps) h) in
     let a : count_by (is_up_to top.0) ps ≤ MOST_STATEMENTS =
-    not_less MOST_STATEMENTS (count_by (is_up_to top.0) ps) (All-contains (λ q. nat_lt MOST_STATEMENTS (count_by (is_up_to q) ps) ≡ false) ps top.0 none top.1) in
+    ltb-false MOST_STATEMENTS (count_by (is_up_to top.0) ps) (All-contains (λ q. nat_lt MOST_STATEMENTS (count_by (is_up_to q) ps) ≡ false) ps top.0 none top.1) in
     subst (λ n. n ≤ MOST_STATEMENTS) (count_all (is_up_to top.0) ps top.2) a
 
 pub few_names : (n : ℕ) (limit : Limit) (xs : List Name) → past n limit xs ≡ [] → length xs ≤ n

@@ -11,8 +11,9 @@ use Rattle.ppd_resolve.specs.declared.frame.Frame.{Frame}
 use Rattle.ppd_resolve.specs.declared.meaning.Meaning.TheVariants as M
 use Rattle.ppd_resolve.specs.Fitted.{as_short}
 use Rattle.ppd_resolve.specs.Syntax.{Name, Simple, fresh, array, store, change, call, give_back, take, give, send, print, assert, Row, stop, simple, block, choice, repeat, count}
-use Rattle.ppd_lower.specs.Statements.{opened, closed, goal_name, spot_of, via_hidden, return_via_hidden, hidden_if, after, after_any, after_row}
+use Rattle.ppd_lower.specs.Statements.{opened, with_scopes_of, goal_name, spot_of, via_hidden, return_via_hidden, hidden_if, after, after_any, after_row}
 use Rattle.ppd_resolve.specs.Frames.{after_cells, variable_of, declared, with_hidden}
+use Rattle.ppd_resolve.proofs.Declared.Counted.{end_cells, end_cells_more}
 use Rattle.ppd_lower.specs.Sources.{vars}
 use Rattle.ppd_check.proofs.Named.Rightly.{IsThere, AreAllThere}
 use Rattle.ppd_check.proofs.Named.Terms.{innermost_there}
@@ -32,15 +33,6 @@ leads_on xs ys = (ys, refl)
 
 -- The cells of variables.
 
--- the cell after some variables, of which the first begins at cell n
-abbrev pub cells_after : ℕ → List Variable → ℕ
-cells_after n [] = n
-cells_after n (v ∷ vs) = cells_after (after_cells n v.length) vs
-
-pub cells_push : (n : ℕ) (xs : List Variable) (v : Variable) → cells_after n (xs ++ v ∷ []) ≡ after_cells (cells_after n xs) v.length
-cells_push n [] v = refl
-cells_push n (x ∷ xs) v = cells_push (after_cells n x.length) xs v
-
 any_first : {X : Type 0} (P : X → Type 0) (x : X) (xs : List X) → P x → Any P (x ∷ xs)
 any_first P x xs h = (zero, x, omega arith, refl, h)
 
@@ -50,15 +42,15 @@ any_later P x xs h = let l : h.0 < length xs = h.2 in (suc h.0, h.1, omega (arit
 abbrev HasCells : ℕ → Option ℕ → Var → Type 0
 HasCells c n w = (w.base ≡ c) × (w.len ≡ n)
 
-var_there : (n : ℕ) (xs : List Variable) (v : Variable) (more : List Variable) → Any (HasCells (cells_after n xs) v.length) (vars n (xs ++ v ∷ more))
+var_there : (n : ℕ) (xs : List Variable) (v : Variable) (more : List Variable) → Any (HasCells (end_cells n xs) v.length) (vars n (xs ++ v ∷ more))
 var_there n [] v more = any_first (HasCells n v.length) _ _ (refl, refl)
-var_there n (x ∷ xs) v more = any_later (HasCells (cells_after n (x ∷ xs)) v.length) _ _ (var_there (after_cells n x.length) xs v more)
+var_there n (x ∷ xs) v more = any_later (HasCells (end_cells n (x ∷ xs)) v.length) _ _ (var_there (after_cells n x.length) xs v more)
 
 -- a variable with those before it
-pub last_there : (vs xs : List Variable) (v : Variable) (c : ℕ) → LeadsTo (xs ++ v ∷ []) vs → c ≡ cells_after 0 xs → Any (HasCells c v.length) (vars 0 vs)
+pub last_there : (vs xs : List Variable) (v : Variable) (c : ℕ) → LeadsTo (xs ++ v ∷ []) vs → c ≡ end_cells 0 xs → Any (HasCells c v.length) (vars 0 vs)
 last_there vs xs v c leads at =
     subst (λ n. Any (HasCells n v.length) (vars 0 vs)) (sym at)
-    (subst (λ l. Any (HasCells (cells_after 0 xs) v.length) (vars 0 l)) (sym (leads.1 ∙ append_assoc xs (v ∷ []) leads.0))
+    (subst (λ l. Any (HasCells (end_cells 0 xs) v.length) (vars 0 l)) (sym (leads.1 ∙ append_assoc xs (v ∷ []) leads.0))
     (var_there 0 xs v leads.0))
 
 -- How frames grow.
@@ -87,20 +79,20 @@ after_any_leads (Some s) f = after_leads s f
 pub row_leads : (r : Row) (f : Frame) → LeadsTo f.variables (after_row r f).variables
 row_leads stop f = leads_itself f.variables
 row_leads (simple s r) f = leads_further _ _ _ (after_leads s f) (row_leads r (after s f))
-row_leads (block b r) f = leads_further _ _ _ (row_leads b (opened f)) (row_leads r (closed f (after_row b (opened f))))
+row_leads (block b r) f = leads_further _ _ _ (row_leads b (opened f)) (row_leads r (with_scopes_of f (after_row b (opened f))))
 row_leads (choice q e a b r) f =
     leads_further _ _ _ (row_leads a f) (leads_further _ _ _ (row_leads b (after_row a f)) (row_leads r (after_row b (after_row a f))))
 row_leads (repeat q e b r) f = leads_further _ _ _ (row_leads b f) (row_leads r (after_row b f))
 row_leads (count q start e step b r) f =
     leads_further _ _ _ (after_any_leads start (opened f))
-    (leads_further _ _ _ (row_leads b (after_any start (opened f))) (row_leads r (closed f (after_row b (after_any start (opened f))))))
+    (leads_further _ _ _ (row_leads b (after_any start (opened f))) (row_leads r (with_scopes_of f (after_row b (after_any start (opened f))))))
 
 -- Frames.
 
 -- a frame in a body with the variables vs: its next cell comes after its variables, which are the first of the body's, and its names
 -- mean what is there
 pub record IsOnTheWay (p : Program) (vs : List Variable) (f : Frame) : Type 0 where
-  pub cells : f.cells ≡ cells_after 0 f.variables
+  pub cells : f.cells ≡ end_cells 0 f.variables
   pub leads : LeadsTo f.variables vs
   pub names : AreAllThere p (vars 0 vs) f.scopes
 
@@ -112,7 +104,7 @@ module _ (p : Program) (vs : List Variable) where
   pub declared_on : (x : Name) (n : Option ℕ) (f : Frame) → IsOnTheWay p vs f → LeadsTo (declared x n f).variables vs → IsOnTheWay p vs (declared x n f)
   declared_on x n f way l =
       record {
-        cells = ap (λ c. after_cells c n) way.cells ∙ sym (cells_push 0 f.variables (variable_of x n));
+        cells = ap (λ c. after_cells c n) way.cells ∙ sym (end_cells_more 0 f.variables (variable_of x n));
         leads = l;
         names = innermost_there p (vars 0 vs) f.scopes x.text (M.Local f.cells n) (local_there n x f way l) way.names;
       }
@@ -121,13 +113,13 @@ module _ (p : Program) (vs : List Variable) where
   hidden_there q f way l = last_there vs f.variables _ f.cells l way.cells
 
   hidden_on : (b : Bool) (q : Place) (f : Frame) → IsOnTheWay p vs f → LeadsTo (hidden_if b q f).variables vs → IsOnTheWay p vs (hidden_if b q f)
-  hidden_on true q f way l = record { cells = ap (λ c. after_cells c None) way.cells ∙ sym (cells_push 0 f.variables _); leads = l; names = way.names }
+  hidden_on true q f way l = record { cells = ap (λ c. after_cells c None) way.cells ∙ sym (end_cells_more 0 f.variables _); leads = l; names = way.names }
   hidden_on false q f way l = way
 
   pub opened_on : (f : Frame) → IsOnTheWay p vs f → IsOnTheWay p vs (opened f)
   opened_on f way = record { cells = way.cells; leads = way.leads; names = (tt, way.names) }
 
-  pub closed_on : (f g : Frame) → IsOnTheWay p vs f → IsOnTheWay p vs g → IsOnTheWay p vs (closed f g)
+  pub closed_on : (f g : Frame) → IsOnTheWay p vs f → IsOnTheWay p vs g → IsOnTheWay p vs (with_scopes_of f g)
   closed_on f g way inner = record { cells = inner.cells; leads = inner.leads; names = way.names }
 
   pub after_on : (s : Simple) (f : Frame) → IsOnTheWay p vs f → LeadsTo (after s f).variables vs → IsOnTheWay p vs (after s f)
@@ -152,8 +144,8 @@ module _ (p : Program) (vs : List Variable) where
   row_on (simple s r) f way l = row_on r (after s f) (after_on s f way (leads_further _ _ _ (row_leads r (after s f)) l)) l
   row_on (block b r) f way l =
       let g : Frame = after_row b (opened f) in
-      let m : LeadsTo g.variables vs = leads_further _ _ _ (row_leads r (closed f g)) l in
-      row_on r (closed f g) (closed_on f g way (row_on b (opened f) (opened_on f way) m)) l
+      let m : LeadsTo g.variables vs = leads_further _ _ _ (row_leads r (with_scopes_of f g)) l in
+      row_on r (with_scopes_of f g) (closed_on f g way (row_on b (opened f) (opened_on f way) m)) l
   row_on (choice q e a b r) f way l =
       let g : Frame = after_row a f in
       let h : Frame = after_row b g in
@@ -163,5 +155,5 @@ module _ (p : Program) (vs : List Variable) where
   row_on (count q start e step b r) f way l =
       let g : Frame = after_any start (opened f) in
       let h : Frame = after_row b g in
-      let m : LeadsTo h.variables vs = leads_further _ _ _ (row_leads r (closed f h)) l in
-      row_on r (closed f h) (closed_on f h way (row_on b g (after_any_on start (opened f) (opened_on f way) (leads_further _ _ _ (row_leads b g) m)) m)) l
+      let m : LeadsTo h.variables vs = leads_further _ _ _ (row_leads r (with_scopes_of f h)) l in
+      row_on r (with_scopes_of f h) (closed_on f h way (row_on b g (after_any_on start (opened f) (opened_on f way) (leads_further _ _ _ (row_leads b g) m)) m)) l

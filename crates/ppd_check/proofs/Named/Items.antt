@@ -4,6 +4,7 @@ use Rattle.std.specs.List.{flat_map}
 use Rattle.std.proofs.lemmas.List.{append_assoc, append-nil, length-append, length-replicate}
 use Rattle.ppd_ast.specs.declared.limits.TheConstants.{MOST_LOCAL_CELLS}
 use Rattle.ppd_ast.specs.declared.program.Program.{Program}
+use Rattle.ppd_ast.specs.Cells.{size}
 use Rattle.ppd_resolve.specs.declared.fault.Fault.{Fault}
 use Rattle.ppd_resolve.specs.declared.fault.Limit.TheVariants as L
 use Rattle.ppd_resolve.specs.declared.frame.Variable.{Variable}
@@ -14,11 +15,12 @@ use Rattle.ppd_lower.specs.Code.{count}
 use Rattle.ppd_lower.specs.Table.{flats, terms}
 use Rattle.ppd_resolve.specs.Syntax.{Name, Item, shared, shared_array, semaphore, channel, function, process, Source}
 use Rattle.ppd_lower.specs.Statements.{row_faults}
-use Rattle.ppd_resolve.specs.Frames.{size, after_cells, variable_of, declared}
+use Rattle.ppd_resolve.specs.Frames.{after_cells, variable_of, declared}
 use Rattle.ppd_lower.specs.Sources.{with_params, params_faults, outer, entry, head_code, head_frame, return_faults, head_faults, heads, codes, vars, body, bodies, all_stmts, core_of}
 use Rattle.ppd_resolve.specs.Globals.{Head, Globals, with_item, with_items, globals, past_cells, sem, chan}
+use Rattle.ppd_resolve.proofs.Declared.Counted.{end_cells, end_cells_more}
 use Rattle.ppd_check.proofs.Named.Terms.{nil_left, nil_right}
-use Rattle.ppd_check.proofs.Named.Frames.{LeadsTo, leads_itself, leads_further, leads_on, cells_after, cells_push, row_leads}
+use Rattle.ppd_check.proofs.Named.Frames.{LeadsTo, leads_itself, leads_further, leads_on, row_leads}
 use Rattle.ppd_check.proofs.Named.Cells.{total, cells_total, cells_within}
 
 -- the table of what is declared
@@ -82,9 +84,9 @@ has_items (i ∷ is) g = has_further g (with_item i g) (with_items is (with_item
 
 -- The cells of shared variables.
 
-pub item_cells : (i : Item) (g : Globals) → g.cells ≡ cells_after 0 g.shared → (with_item i g).cells ≡ cells_after 0 (with_item i g).shared
-item_cells (shared x v) g h = ap (λ c. after_cells c None) h ∙ sym (cells_push 0 g.shared (variable_of x None))
-item_cells (shared_array x n) g h = ap (λ c. after_cells c (Some (as_short n.value))) h ∙ sym (cells_push 0 g.shared (variable_of x (Some (as_short n.value))))
+pub item_cells : (i : Item) (g : Globals) → g.cells ≡ end_cells 0 g.shared → (with_item i g).cells ≡ end_cells 0 (with_item i g).shared
+item_cells (shared x v) g h = ap (λ c. after_cells c None) h ∙ sym (end_cells_more 0 g.shared (variable_of x None))
+item_cells (shared_array x n) g h = ap (λ c. after_cells c (Some (as_short n.value))) h ∙ sym (end_cells_more 0 g.shared (variable_of x (Some (as_short n.value))))
 item_cells (semaphore x n) g h = h
 item_cells (channel x n) g h = h
 item_cells (function gives x params b) g h = h
@@ -153,8 +155,8 @@ pub few_params : (scope : Scope) (h : Head) → head_faults scope h ≡ [] → a
 few_params scope h e =
     let lead : LeadsTo (map (λ x. variable_of x None) h.params) (head_frame scope h).variables = params_lead scope h in
     let within : past_cells MOST_LOCAL_CELLS L.Locals 0 (head_frame scope h).variables ≡ [] = cells_faults scope h e in
-    let a : cells_after 0 (head_frame scope h).variables ≤ MOST_LOCAL_CELLS = cells_within MOST_LOCAL_CELLS L.Locals few_locals 0 (head_frame scope h).variables (omega arith) within in
-    let b : cells_after 0 (head_frame scope h).variables ≡ 0 + total (head_frame scope h).variables = cells_total MOST_LOCAL_CELLS L.Locals few_locals 0 (head_frame scope h).variables within in
+    let a : end_cells 0 (head_frame scope h).variables ≤ MOST_LOCAL_CELLS = cells_within MOST_LOCAL_CELLS L.Locals few_locals 0 (head_frame scope h).variables (omega arith) within in
+    let b : end_cells 0 (head_frame scope h).variables ≡ 0 + total (head_frame scope h).variables = cells_total MOST_LOCAL_CELLS L.Locals few_locals 0 (head_frame scope h).variables within in
     let c : length h.params ≤ total (head_frame scope h).variables = subst (λ l. length h.params ≤ total l) (sym lead.1) (names_total h.params lead.0) in
     short_small (length h.params) (omega (arith, a, b, c))
   where

@@ -1,8 +1,9 @@
 -- The numbers of an accepted source are within the limits.
-use Rattle.std.proofs.Common.{◌≡◌, refl, sym, ap, subst, ◌∙◌, ℕ, suc, ◌+◌, ◌-◌, ◌^◌, ◌<◌, ◌≤◌, arith, Bool, true, false, ◌&&◌, nat_lt, nat_le, List, [], ◌∷◌, ◌++◌, map, length}
+use Rattle.std.proofs.Common.{◌≡◌, refl, sym, subst, ◌∙◌, ℕ, ◌+◌, ◌-◌, ◌^◌, ◌<◌, ◌≤◌, arith, Bool, true, false, ◌&&◌, nat_lt, nat_le, List, [], ◌∷◌, ◌++◌, map, length}
 use Rattle.std.specs.List.{All, flat_map}
 use Rattle.std.proofs.lemmas.List.{length-append, length-map}
 use Rattle.std.proofs.lemmas.List.Elements.{All-nil, All-push, All-weaker, All-map}
+use Rattle.std.proofs.lemmas.Bool.{ltb-true}
 use Rattle.ppd_ast.specs.declared.limits.TheConstants.{MOST_STATEMENTS, MOST_FUNCTIONS, MOST_PROCESSES, MOST_SHARED_CELLS, MOST_SEMAPHORES, MOST_CHANNELS, MOST_START, LEAST_CAPACITY, MOST_CAPACITY}
 use Rattle.ppd_ast.specs.Cells.{CoverCells}
 use Rattle.ppd_resolve.specs.declared.fault.Cause.TheVariants.{NoProcess, BadSize}
@@ -10,14 +11,14 @@ use Rattle.ppd_resolve.specs.declared.fault.Fault.{Fault}
 use Rattle.ppd_resolve.specs.declared.fault.Limit.TheVariants as L
 use Rattle.ppd_resolve.specs.Faults.{unless}
 use Rattle.ppd_resolve.specs.Fitted.{as_byte, as_short, as_word}
-use Rattle.ppd_resolve.specs.Names.{Scope}
-use Rattle.ppd_lower.specs.Code.{places, count}
+use Rattle.ppd_lower.specs.Code.{places}
 use Rattle.ppd_resolve.specs.Syntax.{Number, Item, shared, shared_array, semaphore, channel, function, process, Source}
 use Rattle.ppd_resolve.specs.Frames.{twice_faults, size_faults}
-use Rattle.ppd_lower.specs.Sources.{past_statements, head_faults, head_code, heads, codes, vars, bodies, core_of, faults_in}
-use Rattle.ppd_resolve.specs.Globals.{Head, Object, Globals, no_globals, item_name, item_size_faults, with_item, with_items, globals, items_faults, past, past_cells, head_name, object_name, count_faults, sem, chan}
+use Rattle.ppd_lower.specs.Sources.{past_statements, head_faults, heads, codes, vars, bodies, core_of, faults_in}
+use Rattle.ppd_lower.proofs.Functions.Heading.{length_bodies}
+use Rattle.ppd_resolve.specs.Globals.{Object, Globals, no_globals, item_name, item_size_faults, with_item, with_items, globals, items_faults, past, past_cells, head_name, object_name, count_faults, sem, chan}
+use Rattle.ppd_resolve.proofs.Declared.Counted.{end_cells, le_true}
 use Rattle.ppd_check.proofs.Named.Terms.{nil_left, nil_right, unless_true}
-use Rattle.ppd_check.proofs.Named.Frames.{cells_after}
 use Rattle.ppd_check.proofs.Named.Cells.{total, cells_total, cells_within, cover_cells}
 use Rattle.ppd_check.proofs.Named.Counts.{few_statements, few_names, length_all_stmts}
 use Rattle.ppd_check.proofs.Named.Items.{items_starts}
@@ -29,12 +30,6 @@ both_true : (a b : Bool) → a && b ≡ true → (a ≡ true) × (b ≡ true)
 both_true true true h = (refl, refl)
 both_true true false h = cc
 both_true false b h = cc
-
-le_true : (a b : ℕ) → nat_le a b ≡ true → a ≤ b
-le_true a b h = grind (arith, h)
-
-lt_true : (a b : ℕ) → nat_lt a b ≡ true → a < b
-lt_true a b h = grind (arith, h)
 
 pub sized : (least most : ℕ) (n : Number) → size_faults least most n ≡ [] → (least ≤ n.value) × (n.value ≤ most)
 sized least most n h =
@@ -99,7 +94,7 @@ breaks_none s h =
     record {
       items = nil_left (items_faults s.items no_globals) f1 h;
       counts = nil_left (count_faults g) f2 h1;
-      process = lt_true 0 (length g.processes) (unless_true (nat_lt 0 (length g.processes)) s.end NoProcess (nil_left (unless (nat_lt 0 (length g.processes)) s.end NoProcess) f3 h2));
+      process = ltb-true 0 (length g.processes) (unless_true (nat_lt 0 (length g.processes)) s.end NoProcess (nil_left (unless (nat_lt 0 (length g.processes)) s.end NoProcess) f3 h2));
       bodies = nil_left (flat_map (head_faults g.scope) (heads g)) f4 h3;
       statements = nil_right (flat_map (head_faults g.scope) (heads g)) f4 h3;
     }
@@ -148,13 +143,9 @@ shared_cells s few =
 few_starts : (s : Source) → AreFew (globals s) → length (globals s).starts ≤ MOST_SHARED_CELLS
 few_starts s few =
     let a : length (globals s).starts ≡ total (globals s).shared = items_starts s.items no_globals refl in
-    let b : cells_after 0 (globals s).shared ≡ 0 + total (globals s).shared = cells_total MOST_SHARED_CELLS L.Shared few_shared 0 (globals s).shared few.shared in
-    let c : cells_after 0 (globals s).shared ≤ MOST_SHARED_CELLS = cells_within MOST_SHARED_CELLS L.Shared few_shared 0 (globals s).shared (omega arith) few.shared in
+    let b : end_cells 0 (globals s).shared ≡ 0 + total (globals s).shared = cells_total MOST_SHARED_CELLS L.Shared few_shared 0 (globals s).shared few.shared in
+    let c : end_cells 0 (globals s).shared ≤ MOST_SHARED_CELLS = cells_within MOST_SHARED_CELLS L.Shared few_shared 0 (globals s).shared (omega arith) few.shared in
     omega (arith, a, b, c)
-
-pub length_bodies : (scope : Scope) (n : ℕ) (hs : List Head) → length (bodies scope n hs) ≡ length hs
-length_bodies scope n [] = refl
-length_bodies scope n (h ∷ hs) = ap suc (length_bodies scope (n + count (head_code scope h)) hs)
 
 -- numbers within the limits are not capped
 pub functions_fit : (n : ℕ) → n ≤ MOST_FUNCTIONS → as_short n ≡ n

@@ -17,7 +17,7 @@ use Rattle.ppd_resolve.specs.Syntax.{Name, Value, plain, result, received, Simpl
 use Rattle.ppd_resolve.specs.Syntax as S
 use Rattle.ppd_resolve.specs.Reading.{goal_formula}
 use Rattle.ppd_lower.specs.Expressions.{term_of, name_faults, formula_faults}
-use Rattle.ppd_lower.specs.Statements.{opened, closed, goal_name, spot_of, via_hidden, hidden_if, after, after_any, after_row, put, store_acts, place_of, acts_of, code_of, code_of_any, row_code, value_faults, faults_of, faults_of_any, row_faults}
+use Rattle.ppd_lower.specs.Statements.{opened, with_scopes_of, goal_name, spot_of, via_hidden, hidden_if, after, after_any, after_row, put, store_acts, place_of, acts_of, code_of, code_of_any, row_code, value_faults, faults_of, faults_of_any, row_faults}
 use Rattle.ppd_resolve.specs.Frames.{declared, twice_faults}
 use Rattle.ppd_lower.specs.Sources.{vars}
 use Rattle.ppd_check.proofs.Named.Rightly.{IsNamedRightly, AreNamedRightly}
@@ -163,11 +163,11 @@ module _ (p : Program) (vs : List Variable) where
       (row_rightly r g (after_on p vs t f way m) l s (nil_right (faults_of t f) (row_faults r g) h))
   row_rightly (block b r) f way l s h =
       let g : Frame = after_row b (opened f) in
-      let m : LeadsTo g.variables vs = leads_further _ _ _ (row_leads r (closed f g)) l in
+      let m : LeadsTo g.variables vs = leads_further _ _ _ (row_leads r (with_scopes_of f g)) l in
       let inner : IsOnTheWay p vs (opened f) = opened_on p vs f way in
-      join_rightly p (vars 0 vs) (row_code b (opened f)) (row_code r (closed f g))
-      (row_rightly b (opened f) inner m s.0 (nil_left (row_faults b (opened f)) (row_faults r (closed f g)) h))
-      (row_rightly r (closed f g) (closed_on p vs f g way (row_on p vs b (opened f) inner m)) l s.1 (nil_right (row_faults b (opened f)) (row_faults r (closed f g)) h))
+      join_rightly p (vars 0 vs) (row_code b (opened f)) (row_code r (with_scopes_of f g))
+      (row_rightly b (opened f) inner m s.0 (nil_left (row_faults b (opened f)) (row_faults r (with_scopes_of f g)) h))
+      (row_rightly r (with_scopes_of f g) (closed_on p vs f g way (row_on p vs b (opened f) inner m)) l s.1 (nil_right (row_faults b (opened f)) (row_faults r (with_scopes_of f g)) h))
   row_rightly (S.choice q e a b r) f way l s h =
       let g : Frame = after_row a f in
       let k : Frame = after_row b g in
@@ -195,12 +195,12 @@ module _ (p : Program) (vs : List Variable) where
   row_rightly (count q start e step b r) f way l s h =
       let g : Frame = after_any start (opened f) in
       let k : Frame = after_row b g in
-      let m : LeadsTo k.variables vs = leads_further _ _ _ (row_leads r (closed f k)) l in
+      let m : LeadsTo k.variables vs = leads_further _ _ _ (row_leads r (with_scopes_of f k)) l in
       let n : LeadsTo g.variables vs = leads_further _ _ _ (row_leads b g) m in
       let inner : IsOnTheWay p vs (opened f) = opened_on p vs f way in
       let begun : IsOnTheWay p vs g = after_any_on p vs start (opened f) inner n in
       let turned : IsOnTheWay p vs k = row_on p vs b g begun m in
-      let f4 : List Fault = row_faults r (closed f k) in
+      let f4 : List Fault = row_faults r (with_scopes_of f k) in
       let f3 : List Fault = faults_of_any step k ++ f4 in
       let f2 : List Fault = row_faults b g ++ f3 in
       let f1 : List Fault = formula_faults g.scopes e ++ f2 in
@@ -208,11 +208,11 @@ module _ (p : Program) (vs : List Variable) where
       let h2 : f2 ≡ [] = nil_right (formula_faults g.scopes e) f2 h1 in
       let h3 : f3 ≡ [] = nil_right (row_faults b g) f3 h2 in
       let turn : Code = join (row_code b g) (code_of_any step k) in
-      join_rightly p (vars 0 vs) (code_of_any start (opened f)) (loop q (term_of g.scopes e) turn (row_code r (closed f k)))
+      join_rightly p (vars 0 vs) (code_of_any start (opened f)) (loop q (term_of g.scopes e) turn (row_code r (with_scopes_of f k)))
       (any_rightly start (opened f) inner n (nil_left (faults_of_any start (opened f)) f1 h)) (
         formula_whole p (vars 0 vs) g.scopes e begun.names (nil_left (formula_faults g.scopes e) f2 h1),
         join_rightly p (vars 0 vs) (row_code b g) (code_of_any step k)
             (row_rightly b g begun m s.1 (nil_left (row_faults b g) f3 h2))
             (any_rightly step k turned (step_leads step k vs s.0 m) (nil_left (faults_of_any step k) f4 h3)),
-        row_rightly r (closed f k) (closed_on p vs f k way turned) l s.2 (nil_right (faults_of_any step k) f4 h3),
+        row_rightly r (with_scopes_of f k) (closed_on p vs f k way turned) l s.2 (nil_right (faults_of_any step k) f4 h3),
       )

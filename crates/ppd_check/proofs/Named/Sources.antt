@@ -20,10 +20,11 @@ use Rattle.ppd_lower.specs.Statements.{row_code, row_faults}
 use Rattle.ppd_resolve.specs.Frames.{variable_of, declared}
 use Rattle.ppd_lower.specs.Sources.{with_params, params_faults, outer, entry, ends_with_return, close_code, head_code, head_frame, return_faults, head_faults, heads, vars, body, bodies}
 use Rattle.ppd_resolve.specs.Globals.{Head, Globals, no_globals, item_name, item_meaning, with_item, with_items, past_cells, sem, chan}
+use Rattle.ppd_resolve.proofs.Declared.Counted.{end_cells}
 use Rattle.ppd_check.proofs.Named.Rightly.{IsThere, AreThere, AreNamedRightly}
 use Rattle.ppd_check.proofs.Named.Terms.{nil_left, nil_right, declare_there}
 use Rattle.ppd_check.proofs.Named.Acts.{bare_back_rightly, finish_rightly}
-use Rattle.ppd_check.proofs.Named.Frames.{LeadsTo, leads_itself, leads_further, cells_after, last_there, row_leads, IsOnTheWay, declared_on, row_on}
+use Rattle.ppd_check.proofs.Named.Frames.{LeadsTo, leads_itself, leads_further, last_there, row_leads, IsOnTheWay, declared_on, row_on}
 use Rattle.ppd_check.proofs.Named.Rows.{HasSteps, row_rightly, join_rightly}
 use Rattle.ppd_check.proofs.Named.Cells.{total, cells_total, cells_within, cover_cells, params_first}
 use Rattle.ppd_check.proofs.Named.Items.{table_of, HasAll, has_itself, has_items, has_further, item_cells, flat_map_at, body_at, params_lead, cells_faults, few_locals, few_params}
@@ -81,7 +82,7 @@ function_there g locals before h allowed lead = (
         (subst (λ o. IsSomeAnd o (λ b. (length h.params ≡ b.params) × (h.gives ≡ b.value))) (sym at.1) (sym (few_params g.scope h breaks_none), refl))
 
 -- what the next item declares is there
-item_there : (g : Globals) (locals : List Var) (i : Item) (k : Globals) → IsAllowed g → k.cells ≡ cells_after 0 k.shared → HasAll (with_item i k) g → IsThere (table_of g) locals (item_meaning k i)
+item_there : (g : Globals) (locals : List Var) (i : Item) (k : Globals) → IsAllowed g → k.cells ≡ end_cells 0 k.shared → HasAll (with_item i k) g → IsThere (table_of g) locals (item_meaning k i)
 item_there g locals (shared x v) k allowed cells has = last_there g.shared k.shared (variable_of x None) k.cells has.shared cells
 item_there g locals (shared_array x n) k allowed cells has = last_there g.shared k.shared (variable_of x (Some (as_short n.value))) k.cells has.shared cells
 item_there g locals (semaphore x n) k allowed cells has =
@@ -92,7 +93,7 @@ item_there g locals (function gives x params b) k allowed cells has =
     function_there g locals k.functions (record { process = false; gives = gives; name = x; params = params; block = b }) allowed has.functions
 item_there g locals (process x b) k allowed cells has = tt
 
-items_there : (g : Globals) (locals : List Var) (is : List Item) (k : Globals) → IsAllowed g → k.cells ≡ cells_after 0 k.shared → AreThere (table_of g) locals k.scope → HasAll (with_items is k) g
+items_there : (g : Globals) (locals : List Var) (is : List Item) (k : Globals) → IsAllowed g → k.cells ≡ end_cells 0 k.shared → AreThere (table_of g) locals k.scope → HasAll (with_items is k) g
     → AreThere (table_of g) locals (with_items is k).scope
 items_there g locals [] k allowed cells there has = there
 items_there g locals (i ∷ is) k allowed cells there has =
@@ -151,11 +152,11 @@ pub record HasFrame (scope : Scope) (h : Head) : Type 0 where
   pub cells : CoverCells (vars 0 (head_frame scope h).variables) (head_frame scope h).cells
   pub params : AreParams (vars 0 (head_frame scope h).variables) (as_short (length h.params))
 
-frame_of : (vs : List Variable) (cells n : ℕ) (xs : List Name) → cells ≡ cells_after 0 vs → n ≤ length xs → LeadsTo (map (λ x. variable_of x None) xs) vs → past_cells MOST_LOCAL_CELLS L.Locals 0 vs ≡ []
+frame_of : (vs : List Variable) (cells n : ℕ) (xs : List Name) → cells ≡ end_cells 0 vs → n ≤ length xs → LeadsTo (map (λ x. variable_of x None) xs) vs → past_cells MOST_LOCAL_CELLS L.Locals 0 vs ≡ []
     → (cells ≤ MOST_LOCAL_CELLS) × CoverCells (vars 0 vs) cells × AreParams (vars 0 vs) n
 frame_of vs cells n xs is few lead h =
-    let a : cells_after 0 vs ≤ MOST_LOCAL_CELLS = cells_within MOST_LOCAL_CELLS L.Locals few_locals 0 vs (omega arith) h in
-    let b : cells_after 0 vs ≡ 0 + total vs = cells_total MOST_LOCAL_CELLS L.Locals few_locals 0 vs h in
+    let a : end_cells 0 vs ≤ MOST_LOCAL_CELLS = cells_within MOST_LOCAL_CELLS L.Locals few_locals 0 vs (omega arith) h in
+    let b : end_cells 0 vs ≡ 0 + total vs = cells_total MOST_LOCAL_CELLS L.Locals few_locals 0 vs h in
     let c : total vs ≡ cells = omega (arith, b, is) in (
       subst (λ k. k ≤ MOST_LOCAL_CELLS) (sym is) a,
       subst (λ k. CoverCells (vars 0 vs) k) c (cover_cells MOST_LOCAL_CELLS L.Locals few_locals vs h),

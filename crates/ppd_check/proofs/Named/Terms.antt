@@ -9,7 +9,7 @@ use Rattle.ppd_ast.specs.declared.program.Program.{Program}
 use Rattle.ppd_ast.specs.Term.{Term}
 use Rattle.ppd_ast.specs.Cells.{NamesWhole}
 use Rattle.ppd_resolve.specs.declared.fault.Cause.{Cause}
-use Rattle.ppd_resolve.specs.Names.{Scope, found, else_in, meaning, declare, in_innermost, fits}
+use Rattle.ppd_resolve.specs.Names.{Scope, found, else_in, meaning, declare, in_innermost, fits_index}
 use Rattle.ppd_resolve.specs.declared.meaning.Meaning.{Meaning}
 use Rattle.ppd_resolve.specs.declared.meaning.Meaning.TheVariants as M
 use Rattle.ppd_resolve.specs.Faults.{unless, if_so}
@@ -38,19 +38,16 @@ pub if_so_false : (b : Bool) (q : Place) (c : Cause) → if_so b q c ≡ [] → 
 if_so_false true q c h = absurd (not_nil _ _ h)
 if_so_false false q c h = refl
 
-true_not_false : true ≡ false → ⊥
-true_not_false h = cc
-
 -- A name that may stand without an index is a scalar variable, and one with an index an array.
 
 pub scalar_used : (P : Option Meaning → Type 0) → ((base : ℕ) → P (Some (M.Shared base None))) → ((base : ℕ) → P (Some (M.Local base None)))
-    → (o : Option Meaning) (q : Place) → wrong_use (fits false) o q ≡ [] → P o
+    → (o : Option Meaning) (q : Place) → wrong_use (fits_index false) o q ≡ [] → P o
 scalar_used P s l (Some (M.Shared base None)) q h = s base
 scalar_used P s l (Some (M.Local base None)) q h = l base
 scalar_used P s l o q h = absurd (not_nil _ _ h)
 
 pub array_used : (P : Option Meaning → Type 0) → ((base n : ℕ) → P (Some (M.Shared base (Some n)))) → ((base n : ℕ) → P (Some (M.Local base (Some n))))
-    → (o : Option Meaning) (q : Place) → wrong_use (fits true) o q ≡ [] → P o
+    → (o : Option Meaning) (q : Place) → wrong_use (fits_index true) o q ≡ [] → P o
 array_used P s l (Some (M.Shared base (Some n))) q h = s base n
 array_used P s l (Some (M.Local base (Some n))) q h = l base n
 array_used P s l o q h = absurd (not_nil _ _ h)
@@ -91,11 +88,11 @@ module _ (p : Program) (locals : List Var) where
 
   -- Expressions.
 
-  scalar_whole : (o : Option Meaning) (q : Place) → IfSome o (IsThere p locals) → wrong_use (fits false) o q ≡ [] → NamesWhole p.shared locals (read_scalar o)
+  scalar_whole : (o : Option Meaning) (q : Place) → IfSome o (IsThere p locals) → wrong_use (fits_index false) o q ≡ [] → NamesWhole p.shared locals (read_scalar o)
   scalar_whole o q a h =
       scalar_used (λ m. IfSome m (IsThere p locals) → NamesWhole p.shared locals (read_scalar m)) (λ base b. b) (λ base b. b) o q h a
 
-  element_whole : (o : Option Meaning) (q : Place) (i : Term) → IfSome o (IsThere p locals) → wrong_use (fits true) o q ≡ [] → NamesWhole p.shared locals i
+  element_whole : (o : Option Meaning) (q : Place) (i : Term) → IfSome o (IsThere p locals) → wrong_use (fits_index true) o q ≡ [] → NamesWhole p.shared locals i
       → NamesWhole p.shared locals (read_element o i)
   element_whole o q i a h w =
       array_used (λ m. IfSome m (IsThere p locals) → NamesWhole p.shared locals (read_element m i)) (λ base n b. (b, w)) (λ base n b. (b, w)) o q h a
@@ -104,8 +101,8 @@ module _ (p : Program) (locals : List Var) where
   formula_whole s (number n) there h = tt
   formula_whole s (variable x) there h = scalar_whole (meaning s x.text) x.place (meaning_there s x.text there) h
   formula_whole s (element x i) there h =
-      element_whole (meaning s x.text) x.place (term_of s i) (meaning_there s x.text there) (nil_left (name_faults (fits true) s x) (formula_faults s i) h)
-      (formula_whole s i there (nil_right (name_faults (fits true) s x) (formula_faults s i) h))
+      element_whole (meaning s x.text) x.place (term_of s i) (meaning_there s x.text there) (nil_left (name_faults (fits_index true) s x) (formula_faults s i) h)
+      (formula_whole s i there (nil_right (name_faults (fits_index true) s x) (formula_faults s i) h))
   formula_whole s (negated e) there h = formula_whole s e there h
   formula_whole s (inverted e) there h = formula_whole s e there h
   formula_whole s (two op a b) there h =

@@ -1,5 +1,5 @@
 -- The statements and bodies of the table are valid, where their terms and statements are before they are numbered.
-use Rattle.std.proofs.Common.{◌≡◌, refl, sym, ap, subst, ℕ, suc, ◌+◌, ◌<◌, nat_le, false, arith, List, [], ◌∷◌, ◌++◌, map, length, Option, Some, None, IsTrue}
+use Rattle.std.proofs.Common.{◌≡◌, refl, sym, ap, subst, ℕ, ◌+◌, ◌<◌, nat_le, false, arith, List, [], ◌∷◌, ◌++◌, map, length, Option, Some, None, IsTrue}
 use Rattle.std.specs.Prelude.{slice_get}
 use Rattle.std.specs.List.{All, AllByRecursion, flat_map}
 use Rattle.std.proofs.lemmas.List.{length-append}
@@ -204,7 +204,3 @@ follow scope (h ∷ hs) j n m =
     let l : length (stmts (as_short j) None n m c ++ all_stmts (j + 1) n1 m1 cs) ≡ length (stmts (as_short j) None n m c) + length (all_stmts (j + 1) n1 m1 cs) = length-append (stmts (as_short j) None n m c) (all_stmts (j + 1) n1 m1 cs) in
     let e : n1 + length (all_stmts (j + 1) n1 m1 cs) ≡ n + length (stmts (as_short j) None n m c ++ all_stmts (j + 1) n1 m1 cs) = omega (arith, l, length_stmts (as_short j) None n m c) in
     (refl, omega arith, subst (Follow n1 (bodies scope n1 hs)) e (follow scope hs (j + 1) n1 m1))
-
-pub length_bodies : (scope : Scope) (n : ℕ) (hs : List Head) → length (bodies scope n hs) ≡ length hs
-length_bodies scope n [] = refl
-length_bodies scope n (h ∷ hs) = ap suc (length_bodies scope (n + count (head_code scope h)) hs)

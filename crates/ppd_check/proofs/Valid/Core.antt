@@ -21,13 +21,15 @@ use Rattle.ppd_lower.specs.Sources.{head_faults, params_faults, return_faults, p
 use Rattle.ppd_resolve.specs.Globals.{Head, Globals, no_globals, globals, items_faults, count_faults}
 use Rattle.ppd_check.specs.Sizes.{SourceFits}
 use Rattle.ppd_lower.proofs.Table.Writing.{length_flats}
+use Rattle.ppd_lower.proofs.Functions.Heading.{length_bodies}
 use Rattle.ppd_check.proofs.Valid.Facts.{HeadNames, SourceNames}
 use Rattle.ppd_check.proofs.Valid.Items.{IsFunction, IsProcess, AreSorted, tree_sorted, AreFit, source_fit, within_limits}
-use Rattle.ppd_check.proofs.Valid.Lists.{EachFrom, all_join, all_parts, each_append, each_at, nil_parts, stands_all}
+use Rattle.ppd_check.proofs.Valid.Lists.{EachFrom, all_parts, each_append, each_at, nil_parts, stands_all}
 use Rattle.ppd_check.proofs.Valid.Sizes.{HeadFits, head_sized}
 use Rattle.ppd_check.proofs.Valid.Terms.{all_children_below}
 use Rattle.ppd_check.proofs.Valid.Uses.{used_once}
-use Rattle.ppd_check.proofs.Valid.Bodies.{IsRightHead, heads_valid, follow, length_bodies}
+use Rattle.ppd_check.proofs.Valid.Bodies.{IsRightHead, heads_valid, follow}
+use Rattle.ppd_check.proofs.Limits.Said.{all_join}
 
 -- Functions and processes.
 

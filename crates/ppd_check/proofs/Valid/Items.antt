@@ -14,8 +14,8 @@ use Rattle.ppd_resolve.specs.Globals.{Head, Object, Globals, no_globals, with_it
 use Rattle.ppd_check.specs.Sizes.{IsShort, ItemFits, SourceFits}
 use Rattle.ppd_check.proofs.Valid.Facts.{AreCounted}
 use Rattle.ppd_check.proofs.Valid.Headers.{HeadersPass, ItemPasses, tree_passes}
-use Rattle.ppd_check.proofs.Valid.Lists.{all_join}
 use Rattle.ppd_check.proofs.Valid.Sizes.{AreShort, HeadFits, vars_short}
+use Rattle.ppd_check.proofs.Limits.Said.{all_join}
 
 -- Functions and processes.
 

@@ -21,18 +21,8 @@ use Rattle.ppd_resolve.specs.Syntax as S
 use Rattle.ppd_check.specs.Sizes as Z
 use Rattle.ppd_check.proofs.Limits.Small as L
 
-operators_same : (f : Formula) → Z.operators_in f ≤ L.operators f
-operators_same (number n) = omega arith
-operators_same (variable x) = omega arith
-operators_same (element x i) = operators_same i
-operators_same (negated e) = omega (arith, operators_same e)
-operators_same (inverted e) = omega (arith, operators_same e)
-operators_same (two op a b) = omega (arith, operators_same a, operators_same b)
-operators_same (both a b) = omega (arith, operators_same a, operators_same b)
-operators_same (either a b) = omega (arith, operators_same a, operators_same b)
-
 -- each part on the way down is an operator, an element or the last one
-depth_few : (f : Formula) → Z.depth_in f ≤ 1 + L.operators f + L.indexes f
+depth_few : (f : Formula) → Z.depth_in f ≤ 1 + Z.operators_in f + L.indexes f
 depth_few (number n) = omega arith
 depth_few (variable x) = omega arith
 depth_few (element x i) = omega (arith, depth_few i)
@@ -43,7 +33,7 @@ depth_few (both a b) = omega (arith, depth_few a, depth_few b)
 depth_few (either a b) = omega (arith, depth_few a, depth_few b)
 
 small : (f : Formula) → L.IsSmall f → Z.IsSmall f
-small f h = (omega (arith, operators_same f, h.few), omega (arith, depth_few f, h.few, h.shallow))
+small f h = (omega (arith, h.few), omega (arith, depth_few f, h.few, h.shallow))
 
 all_small : (fs : List Formula) → AllByRecursion L.IsSmall fs → Z.AreSmall fs
 all_small [] h = tt

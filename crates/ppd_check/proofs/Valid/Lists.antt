@@ -54,10 +54,6 @@ each_at P xs h k d l = let e : 0 + k ≡ k = omega arith in subst (λ i. P i (sl
 
 -- What holds of each element.
 
-pub all_join : {X : Type 0} (P : X → Type 0) (xs ys : List X) → AllByRecursion P xs → AllByRecursion P ys → AllByRecursion P (xs ++ ys)
-all_join P [] ys h i = i
-all_join P (x ∷ xs) ys h i = (h.0, all_join P xs ys h.1 i)
-
 pub all_parts : {X : Type 0} (P : X → Type 0) (xs ys : List X) → AllByRecursion P (xs ++ ys) → AllByRecursion P xs × AllByRecursion P ys
 all_parts P [] ys h = (tt, h)
 all_parts P (x ∷ xs) ys h = let p : AllByRecursion P xs × AllByRecursion P ys = all_parts P xs ys h.1 in ((h.0, p.0), p.1)

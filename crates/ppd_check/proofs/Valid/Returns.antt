@@ -15,7 +15,7 @@ use Rattle.ppd_resolve.specs.Names.{Scope}
 use Rattle.ppd_lower.specs.Code.{Code, Act, Spot, done, act, choice, loop, join, acts, count}
 use Rattle.ppd_lower.specs.Code as C
 use Rattle.ppd_lower.specs.Table.{weights, terms, kind, numbers, stmts, some_root}
-use Rattle.ppd_lower.specs.Statements.{spot_of, put, store_acts, acts_of, code_of, code_of_any, row_code, opened, closed, after_row, after_any, after, place_of}
+use Rattle.ppd_lower.specs.Statements.{spot_of, put, store_acts, acts_of, code_of, code_of_any, row_code, opened, with_scopes_of, after_row, after_any, after, place_of}
 use Rattle.ppd_resolve.specs.Frames.{declared}
 use Rattle.ppd_resolve.specs.Syntax as S
 use Rattle.ppd_resolve.specs.Syntax.{Simple, Row, Value}
@@ -27,7 +27,8 @@ use Rattle.ppd_lower.proofs.Rows.Walking.{join_assoc}
 use Rattle.ppd_lower.proofs.Table.Writing.{length_stmts}
 use Rattle.ppd_check.proofs.Valid.Facts.{acts_in}
 use Rattle.ppd_check.proofs.Valid.Headers.{Passes, PassesIfAny, HeadersPass}
-use Rattle.ppd_check.proofs.Valid.Lists.{Stands, all_join, all_parts, nil_parts, some_and, stands_append}
+use Rattle.ppd_check.proofs.Valid.Lists.{Stands, all_parts, nil_parts, some_and, stands_append}
+use Rattle.ppd_check.proofs.Limits.Said.{all_join}
 
 -- Statements that end no body.
 
@@ -104,7 +105,7 @@ row_inner (S.simple s r) f h e =
     code_join (code_of s f) (row_code r (after s f)) (code_inner s f n.0) (row_inner r (after s f) h n.1)
 row_inner (S.block b r) f h e =
     let n = nil_parts (returns b) (returns r) e in
-    code_join (row_code b (opened f)) (row_code r (closed f (after_row b (opened f)))) (row_inner b (opened f) h.0 n.0) (row_inner r (closed f (after_row b (opened f))) h.1 n.1)
+    code_join (row_code b (opened f)) (row_code r (with_scopes_of f (after_row b (opened f)))) (row_inner b (opened f) h.0 n.0) (row_inner r (with_scopes_of f (after_row b (opened f))) h.1 n.1)
 row_inner (S.choice p t a b r) f h e =
     let n = nil_parts (returns a) (returns b ++ returns r) e in
     let m = nil_parts (returns b) (returns r) n.1 in
@@ -119,7 +120,7 @@ row_inner (S.count p start t step b r) f h e =
     code_join (code_of_any start (opened f)) _ (any_inner start (opened f) h.0)
     (all_join IsInner (acts_in (join (row_code b g) (code_of_any step (after_row b g)))) _
     (code_join (row_code b g) (code_of_any step (after_row b g)) (row_inner b g h.2 n.0) (any_inner step (after_row b g) h.1))
-    (row_inner r (closed f (after_row b g)) h.3 n.1))
+    (row_inner r (with_scopes_of f (after_row b g)) h.3 n.1))
 
 -- The last statement.
 
@@ -169,7 +170,7 @@ row_ends gives close (S.simple s r) f h e l =
     ends_behind (Closes false gives) (code_of s f) (row_code r (after s f)) (code_inner s f n.0) (row_ends gives close r (after s f) h n.1 l)
 row_ends gives close (S.block b r) f h e l =
     let n = nil_parts (returns b) (last_return gives close r) e in
-    ends_behind (Closes false gives) (row_code b (opened f)) _ (row_inner b (opened f) h.0 n.0) (row_ends gives close r (closed f (after_row b (opened f))) h.1 n.1 l)
+    ends_behind (Closes false gives) (row_code b (opened f)) _ (row_inner b (opened f) h.0 n.0) (row_ends gives close r (with_scopes_of f (after_row b (opened f))) h.1 n.1 l)
 row_ends gives close (S.choice p t a b r) f h e l =
     let n = nil_parts (returns a) (returns b ++ last_return gives close r) e in
     let m = nil_parts (returns b) (last_return gives close r) n.1 in
@@ -187,7 +188,7 @@ row_ends gives close (S.count p start t step b r) f h e l =
     ends_behind (Closes false gives) (code_of_any start (opened f)) _ (any_inner start (opened f) h.0)
     (ends_behind (Closes false gives) (loop p _ turn done) _
     (all_join IsInner (acts_in turn) [] (code_join (row_code b g) (code_of_any step (after_row b g)) (row_inner b g h.2 n.0) (any_inner step (after_row b g) h.1)) tt)
-    (row_ends gives close r (closed f (after_row b g)) h.3 n.1 l))
+    (row_ends gives close r (with_scopes_of f (after_row b g)) h.3 n.1 l))
 
 none_gives : (gives : Bool) (close : Place) → if_so gives close ReturnPlace ≡ [] → false ≡ gives
 none_gives true close e = absurd (cc)
@@ -203,7 +204,7 @@ row_open gives close (S.simple s r) f h e l =
     (code_join (code_of s f) (row_code r (after s f)) (code_inner s f n.0) i.0, i.1)
 row_open gives close (S.block b r) f h e l =
     let n = nil_parts (returns b) (last_return gives close r) e in
-    let i = row_open gives close r (closed f (after_row b (opened f))) h.1 n.1 l in
+    let i = row_open gives close r (with_scopes_of f (after_row b (opened f))) h.1 n.1 l in
     (code_join (row_code b (opened f)) _ (row_inner b (opened f) h.0 n.0) i.0, i.1)
 row_open gives close (S.choice p t a b r) f h e l =
     let n = nil_parts (returns a) (returns b ++ last_return gives close r) e in
@@ -217,7 +218,7 @@ row_open gives close (S.repeat p t b r) f h e l =
 row_open gives close (S.count p start t step b r) f h e l =
     let n = nil_parts (returns b) (last_return gives close r) e in
     let g : Frame = after_any start (opened f) in
-    let i = row_open gives close r (closed f (after_row b g)) h.3 n.1 l in (
+    let i = row_open gives close r (with_scopes_of f (after_row b g)) h.3 n.1 l in (
       code_join (code_of_any start (opened f)) _ (any_inner start (opened f) h.0)
           (all_join IsInner (acts_in (join (row_code b g) (code_of_any step (after_row b g)))) _
           (code_join (row_code b g) (code_of_any step (after_row b g)) (row_inner b g h.2 n.0) (any_inner step (after_row b g) h.1)) i.0),

@@ -23,14 +23,14 @@ use Rattle.ppd_resolve.specs.Reading.{goal_formula}
 use Rattle.ppd_resolve.specs.Syntax.{Name, Formula, number, variable, element, negated, inverted, two, both, either, Goal, scalar, item, Value, plain, result, received, Simple, Row}
 use Rattle.ppd_resolve.specs.Syntax as S
 use Rattle.ppd_lower.specs.Table.{spot_terms, act_terms, terms}
-use Rattle.ppd_lower.specs.Statements.{spot, spot_of, put, store_acts, return_acts, acts_of, code_of, code_of_any, row_code, hidden_if, via_hidden, return_via_hidden, goal_name, opened, closed, after, after_any, after_row, place_of}
+use Rattle.ppd_lower.specs.Statements.{spot, spot_of, put, store_acts, return_acts, acts_of, code_of, code_of_any, row_code, hidden_if, via_hidden, return_via_hidden, goal_name, opened, with_scopes_of, after, after_any, after_row, place_of}
 use Rattle.ppd_resolve.specs.Frames.{declared, hidden_name, after_cells}
 use Rattle.ppd_lower.specs.Sources.{close_code, head_code, head_frame, outer, entry, with_params, ends_with_return, vars}
 use Rattle.ppd_resolve.specs.Globals.{Head}
 use Rattle.ppd_check.specs.Sizes.{operators_in, depth_in, IsSmall, AreSmall, IsShort, GoalFits, ValueFits, ValueFitsIfAny, SimpleFits, SimpleFitsIfAny, RowFits, nested}
 use Rattle.ppd_lower.proofs.Table.Joined.{terms_join}
 use Rattle.ppd_check.proofs.Valid.Facts.{TermSmall, nesting, HeadSizes}
-use Rattle.ppd_check.proofs.Valid.Lists.{all_join}
+use Rattle.ppd_check.proofs.Limits.Said.{all_join}
 
 -- The terms of expressions are as large.
 
@@ -168,7 +168,7 @@ row_small S.stop f h = tt
 row_small (S.simple s r) f h =
     joined_small (code_of s f) (row_code r (after s f)) (listed_small (place_of s) (acts_of s f) (acts_small s f h.0)) (row_small r (after s f) h.1)
 row_small (S.block b r) f h =
-    joined_small (row_code b (opened f)) (row_code r (closed f (after_row b (opened f)))) (row_small b (opened f) h.0) (row_small r (closed f (after_row b (opened f))) h.1)
+    joined_small (row_code b (opened f)) (row_code r (with_scopes_of f (after_row b (opened f)))) (row_small b (opened f) h.0) (row_small r (with_scopes_of f (after_row b (opened f))) h.1)
 row_small (S.choice p e a b r) f h = (
   term_small f.scopes e h.0,
   all_join TermSmall (terms (row_code a f)) _ (row_small a f h.1)
@@ -179,10 +179,10 @@ row_small (S.repeat p e b r) f h =
 row_small (S.count p start e step b r) f h =
     let g : Frame = after_any start (opened f) in
     let turn : Code = join (row_code b g) (code_of_any step (after_row b g)) in
-    let rest : Code = row_code r (closed f (after_row b g)) in
+    let rest : Code = row_code r (with_scopes_of f (after_row b g)) in
     joined_small (code_of_any start (opened f)) (loop p (term_of g.scopes e) turn rest) (any_small start (opened f) h.0) (
       term_small g.scopes e h.1,
-      all_join TermSmall (terms turn) (terms rest) (joined_small (row_code b g) (code_of_any step (after_row b g)) (row_small b g h.3) (any_small step (after_row b g) h.2)) (row_small r (closed f (after_row b g)) h.4),
+      all_join TermSmall (terms turn) (terms rest) (joined_small (row_code b g) (code_of_any step (after_row b g)) (row_small b g h.3) (any_small step (after_row b g) h.2)) (row_small r (with_scopes_of f (after_row b g)) h.4),
     )
 
 either_code : (P : Code → Type 0) (b : Bool) (c d : Code) → P c → P d → P (if b then c else d)
@@ -216,7 +216,7 @@ nesting_row S.stop f = omega arith
 nesting_row (S.simple s r) f =
     nesting_join (code_of s f) (row_code r (after s f)) (max 1 (nested r)) (omega (arith, nesting_acts (place_of s) (acts_of s f))) (omega (arith, nesting_row r (after s f)))
 nesting_row (S.block b r) f =
-    nesting_join (row_code b (opened f)) (row_code r (closed f (after_row b (opened f)))) (max (nested b) (nested r)) (omega (arith, nesting_row b (opened f))) (omega (arith, nesting_row r (closed f (after_row b (opened f)))))
+    nesting_join (row_code b (opened f)) (row_code r (with_scopes_of f (after_row b (opened f)))) (max (nested b) (nested r)) (omega (arith, nesting_row b (opened f))) (omega (arith, nesting_row r (with_scopes_of f (after_row b (opened f)))))
 nesting_row (S.choice p e a b r) f =
     let x : nesting (row_code a f) ≤ nested a = nesting_row a f in
     let y : nesting (row_code b (after_row a f)) ≤ nested b = nesting_row b (after_row a f) in
@@ -229,10 +229,10 @@ nesting_row (S.repeat p e b r) f =
 nesting_row (S.count p start e step b r) f =
     let g : Frame = after_any start (opened f) in
     let turn : Code = join (row_code b g) (code_of_any step (after_row b g)) in
-    let rest : Code = row_code r (closed f (after_row b g)) in
+    let rest : Code = row_code r (with_scopes_of f (after_row b g)) in
     let y : nesting turn ≤ max 1 (nested b) =
     nesting_join (row_code b g) (code_of_any step (after_row b g)) (max 1 (nested b)) (omega (arith, nesting_row b g)) (omega (arith, nesting_any step (after_row b g))) in
-    let z : nesting rest ≤ nested r = nesting_row r (closed f (after_row b g)) in
+    let z : nesting rest ≤ nested r = nesting_row r (with_scopes_of f (after_row b g)) in
     let k : ℕ = max (suc (max 1 (nested b))) (nested r) in
     nesting_join (code_of_any start (opened f)) (loop p (term_of g.scopes e) turn rest) k (omega (arith, nesting_any start (opened f))) (omega (arith, y, z))
 
@@ -274,11 +274,11 @@ any_short (Some s) f h i = after_short s f h i
 row_short : (r : Row) (f : Frame) → RowFits r → AreShort f.variables → AreShort (after_row r f).variables
 row_short S.stop f h i = i
 row_short (S.simple s r) f h i = row_short r (after s f) h.1 (after_short s f h.0 i)
-row_short (S.block b r) f h i = row_short r (closed f (after_row b (opened f))) h.1 (row_short b (opened f) h.0 i)
+row_short (S.block b r) f h i = row_short r (with_scopes_of f (after_row b (opened f))) h.1 (row_short b (opened f) h.0 i)
 row_short (S.choice p e a b r) f h i = row_short r (after_row b (after_row a f)) h.3 (row_short b (after_row a f) h.2 (row_short a f h.1 i))
 row_short (S.repeat p e b r) f h i = row_short r (after_row b f) h.2 (row_short b f h.1 i)
 row_short (S.count p start e step b r) f h i =
-    row_short r (closed f (after_row b (after_any start (opened f)))) h.4 (row_short b (after_any start (opened f)) h.3 (any_short start (opened f) h.0 i))
+    row_short r (with_scopes_of f (after_row b (after_any start (opened f)))) h.4 (row_short b (after_any start (opened f)) h.3 (any_short start (opened f) h.0 i))
 
 params_short : (xs : List Name) (f : Frame) → AllByRecursion IsShort xs → AreShort f.variables → AreShort (with_params xs f).variables
 params_short [] f h i = i

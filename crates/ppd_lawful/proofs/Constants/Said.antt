@@ -9,7 +9,8 @@ use Rattle.ppd_parse.specs.declared.symbol.Rule.{Rule}
 use Rattle.ppd_parse.specs.declared.symbol.Rule.TheVariants as R
 use Rattle.ppd_parse.specs.Grammar.{Shape, leaf, node, Shapes, no_shapes, shape_then}
 use Rattle.ppd_parse.specs.Leaves.{leaves, leaves_in}
-use Rattle.ppd_resolve.specs.Reading.{Phrase, token, goal, calling, changing, body, value_of, phrase, last, as_token, as_value, as_row, called, kind, name_at, name_of, number_behind, formula_at, number_at, beyond, before, joined, unary, formulas, goal_of, value_said, local_item, changed, followed, rows, locals, for_start, for_test, for_row, some_change, returned, worded, statement, shared_item, numbered, made, said, all_said, is_semicolon, is_bracket, is_assign, is_minus, is_int, is_recv, is_name}
+use Rattle.ppd_parse.specs.Stack.{is_assign}
+use Rattle.ppd_resolve.specs.Reading.{Phrase, token, goal, calling, changing, body, value_of, phrase, last, as_token, as_value, as_row, called, kind, name_at, name_of, number_behind, formula_at, number_at, beyond, before, joined, unary, formulas, goal_of, value_said, local_item, changed, followed, rows, locals, for_start, for_test, for_row, some_change, returned, worded, statement, shared_item, numbered, made, said, all_said, is_semicolon, is_bracket, is_minus, is_int, is_recv, is_name}
 use Rattle.ppd_resolve.specs.Syntax.{Formula, number, scalar, item, plain, received, fresh, array, Row, stop, simple, block, choice, repeat, count, Item, shared, shared_array, semaphore, channel}
 use Rattle.ppd_lawful.proofs.Fit.{All, Fit, SomeFits, all_left, all_right, choose}
 use Rattle.ppd_lawful.proofs.Constants.Phrases.{FormulaFits, GoalFits, ValueFits, SimpleFits, RowFits, ItemFits, PhraseFits, token_fits, goal_fits, called_fits, value_fits, row_fits, block_fits, change_fits, AllFit, at_fits, last_fits, formula_at_fits, drop_fits, before_fits, beyond_fits, all_items_fit, formulas_fit}

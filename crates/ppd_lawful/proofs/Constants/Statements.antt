@@ -9,7 +9,7 @@ use Rattle.ppd_resolve.specs.Names.{Scope, meaning}
 use Rattle.ppd_resolve.specs.declared.meaning.Meaning.{Meaning}
 use Rattle.ppd_resolve.specs.declared.meaning.Meaning.TheVariants as N
 use Rattle.ppd_resolve.specs.Reading.{goal_formula}
-use Rattle.ppd_lower.specs.Statements.{acts_of, after, after_any, after_row, closed, code_of, code_of_any, opened, put, return_acts, row_code, spot, spot_of, store_acts}
+use Rattle.ppd_lower.specs.Statements.{acts_of, after, after_any, after_row, with_scopes_of, code_of, code_of_any, opened, put, return_acts, row_code, spot, spot_of, store_acts}
 use Rattle.ppd_resolve.specs.Frames.{declared}
 use Rattle.ppd_resolve.specs.Syntax.{Formula, number, variable, element, negated, inverted, two, both, either, Goal, Value, plain, result, received, Simple, fresh, array, store, change, call, give_back, take, give, send, print, assert, Row, stop, simple, block, choice as choosing, repeat, count}
 use Rattle.ppd_lower.specs.Table.{act_terms, spot_terms, terms}
@@ -129,7 +129,7 @@ pub row_fits : (r : Row) (f : Frame) → RowFits r → CodeFits (row_code r f)
 row_fits stop f h = tt
 row_fits (simple s r) f h = join_fits (code_of s f) (row_code r (after s f)) (simple_fits s f h.0) (row_fits r (after s f) h.1)
 row_fits (block b r) f h =
-    join_fits (row_code b (opened f)) (row_code r (closed f (after_row b (opened f)))) (row_fits b (opened f) h.0) (row_fits r (closed f (after_row b (opened f))) h.1)
+    join_fits (row_code b (opened f)) (row_code r (with_scopes_of f (after_row b (opened f)))) (row_fits b (opened f) h.0) (row_fits r (with_scopes_of f (after_row b (opened f))) h.1)
 row_fits (choosing p e a b r) f h =
     let rest : Code = row_code r (after_row b (after_row a f)) in (
       term_fits f.scopes e h.0,
@@ -143,9 +143,9 @@ row_fits (repeat p e b r) f h = (
 row_fits (count p s e t b r) f h =
     let g : Frame = after_any s (opened f) in
     let inside : Code = join (row_code b g) (code_of_any t (after_row b g)) in
-    let rest : Code = row_code r (closed f (after_row b g)) in
+    let rest : Code = row_code r (with_scopes_of f (after_row b g)) in
     let in_loop : CodeFits (loop p (term_of g.scopes e) inside rest) = (
       term_fits g.scopes e h.1,
-      all_append TermFits (terms inside) (terms rest) (join_fits (row_code b g) (code_of_any t (after_row b g)) (row_fits b g h.3) (some_simple_fits t (after_row b g) h.2)) (row_fits r (closed f (after_row b g)) h.4),
+      all_append TermFits (terms inside) (terms rest) (join_fits (row_code b g) (code_of_any t (after_row b g)) (row_fits b g h.3) (some_simple_fits t (after_row b g) h.2)) (row_fits r (with_scopes_of f (after_row b g)) h.4),
     ) in
     join_fits (code_of_any s (opened f)) (loop p (term_of g.scopes e) inside rest) (some_simple_fits s (opened f) h.0) in_loop

@@ -41,7 +41,7 @@ use Rattle.ppd_lawful.proofs.Values.Kept.{LocalsFit, NeedFits, arguments_fit, ce
 use Rattle.ppd_lawful.proofs.Logs.Numbers.{NeedNumbered, Small, block_small, calls, loop_postlog, loop_prelog}
 use Rattle.ppd_lawful.proofs.Logs.Rows.{IsRow, row_lawful}
 
-signed : (vs : List ℤ) → All Fit vs → All (FitsSigned w64) vs
+pub signed : (vs : List ℤ) → All Fit vs → All (FitsSigned w64) vs
 signed vs h = all_more Fit (FitsSigned w64) vs true-fits h
 
 numbered_lawful : (b : ℕ) (vs : List ℤ) → Small b → Small (length vs) → All Fit vs → numbered_form.Lawful (b, vs)

@@ -5,7 +5,7 @@ use Rattle.std.specs.List.{position}
 use Rattle.std.specs.List as L
 use Rattle.std.specs.List.Sorted.{IsStrictlyIncreasing}
 use Rattle.std.proofs.lemmas.List.Quantifiers.{position-Some}
-use Rattle.std.proofs.lemmas.Option.{none-some}
+use Rattle.std.proofs.lemmas.Option.{none-some, slice_get-get_or}
 use Rattle.ppd_ast.specs.Valid.{IsValid}
 use Rattle.ppd_ast.specs.ValidPlan.{AreCells, IsBlockOf, IsLoopBlock, IsValidPlan}
 use Rattle.ppd_ast.specs.declared.limits.TheConstants.{MOST_SHARED_CELLS}
@@ -23,6 +23,7 @@ use Rattle.ppd_ast.specs.declared.program.Program.{Program}
 use Rattle.ppd_ast.specs.declared.program.Stmt.{Stmt}
 use Rattle.ppd_ast.specs.declared.status.Status.{Status}
 use Rattle.ppd_ast.specs.Lookups.{kind_of_stmt, kind_of}
+use Rattle.ppd_ast.proofs.ValidLaws.{some_and, slice_get_below as is_below}
 use Rattle.ppd_sem.specs.declared.asking.Pause.TheVariants.{Wants, Traps}
 use Rattle.ppd_sem.specs.declared.proc.Need.{Need}
 use Rattle.ppd_sem.specs.declared.proc.Need.TheVariants as n
@@ -36,10 +37,9 @@ use Rattle.ppd_sem.specs.Runs.{IsNumbered, IsRunnable, IsRunnableStmt, LeadsOn, 
 use Rattle.ppd_sem.specs.Tables.{block_of, capacity_of, or_zero, same_block, same_start, unit_of}
 use Rattle.ppd_sem.proofs.Kept.{There, size_small, there_at}
 use Rattle.ppd_sem.proofs.Progress.{need_at_status}
-use Rattle.ppd_sem.proofs.Validity.{some_at, valid-numbered, valid-runnable}
+use Rattle.ppd_sem.proofs.Validity.{valid-numbered, valid-runnable}
 use Rattle.ppd_model.specs.Story.{cells_of_unit}
 use Rattle.ppd_model.proofs.Changes.{some}
-use Rattle.ppd_model.proofs.Lists.{below_at as is_below}
 use Rattle.ppd_lawful.proofs.Values.Asked.{CallIs}
 use Rattle.ppd_lawful.proofs.Fit.{SomeFits}
 
@@ -47,11 +47,6 @@ abbrev pub Small : ℕ → Type 0
 Small k = k < 2 ^ 16
 
 -- ---- lists
-
-get_there : {A : Type 0} (xs : List A) (i : ℕ) (d : A) → i < length xs → slice_get xs i ≡ Some (get_or xs i d)
-get_there [] i d lt = absurd (omega (arith, lt))
-get_there (x ∷ xs) zero d lt = refl
-get_there (x ∷ xs) (suc i) d lt = get_there xs i d (omega (arith, lt))
 
 -- what is found stands there, passes, and has what all have
 record IsFound {A : Type 0} (test : A → Bool) (P : A → Type 0) (xs : List A) (i : ℕ) : Type 0 where
@@ -65,7 +60,7 @@ found : {A : Type 0} (test : A → Bool) (P : A → Type 0) (xs : List A) (i : �
 found test P [] i all e = absurd (none-some i e)
 found test P (x ∷ xs) i all e =
     let p = position-Some test (x ∷ xs) i x e in
-    record { element = get_or (x ∷ xs) i x; below = p.0; there = get_there (x ∷ xs) i x p.0; passes = p.1; has = all i x p.0 }
+    record { element = get_or (x ∷ xs) i x; below = p.0; there = slice_get-get_or (x ∷ xs) i x p.0; passes = p.1; has = all i x p.0 }
 
 below_at : {A : Type 0} (test : A → Bool) (xs : List A) (i : ℕ) → position test xs ≡ Some i → i < length xs
 below_at test xs i e = (found test (λ x. ⊤) xs i (λ k d lt. tt) e).below
@@ -129,8 +124,8 @@ module _ (program : Program) (plan : Plan) (v : IsValid program) (w : IsValidPla
   loop_block t (block.Function f) x h e = absurd (true≢false (sym e))
   loop_block t (block.Process f) x h e = absurd (true≢false (sym e))
   loop_block t (block.Loop q) x h e =
-      let s = some_at (λ (s : Stmt). IsSomeAnd (slice_get program.bodies s.body) (λ b. IsLoopBlock b.cells x)) (slice_get program.stmts q) h in
-      let b = some_at (λ (b : Body). IsLoopBlock b.cells x) (slice_get program.bodies s.0.body) s.2 in
+      let s = some_and (λ (s : Stmt). IsSomeAnd (slice_get program.bodies s.body) (λ b. IsLoopBlock b.cells x)) (slice_get program.stmts q) h in
+      let b = some_and (λ (b : Body). IsLoopBlock b.cells x) (slice_get program.bodies s.0.body) s.2 in
       let small : b.0.cells < 2 ^ 16 = subst (λ o. size_if o < 2 ^ 16) b.1 (size_small program s.0.body runs) in
       record { prelog = omega (arith, small, few_cells b.0.cells x.prelog b.2.prelog); postlog = omega (arith, small, few_cells b.0.cells x.postlog b.2.postlog) }
 
@@ -151,7 +146,7 @@ module _ (program : Program) (plan : Plan) (v : IsValid program) (w : IsValidPla
       by None e = omega arith
       by (Some x) e =
           let lt : u < length plan.units = is_below plan.units u x e in
-          let is : x ≡ get_or plan.units u x = some (sym e ∙ get_there plan.units u x lt) in
+          let is : x ≡ get_or plan.units u x = some (sym e ∙ slice_get-get_or plan.units u x lt) in
           let cells : AreCells (length program.starts) x.cells = subst (λ (y : UnitOf). AreCells (length program.starts) y.cells) (sym is) (w.units u x lt) in
           omega (arith, few_cells (length program.starts) x.cells cells, v.limits.starts)
 

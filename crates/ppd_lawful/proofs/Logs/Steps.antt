@@ -1,5 +1,5 @@
 -- A log stays lawful by each step of its process.
-use Rattle.std.proofs.Common.{◌≡◌, ◌≢◌, ℕ, zero, suc, ◌+◌, ◌*◌, ◌<◌, ◌≤◌, ◌^◌, ℤ, true, false, Bool, List, [], ◌∷◌, ◌++◌, Option, Some, None, refl, ap, sym, ◌∙◌, subst, length, arith, inl, inr, ◌⊎◌}
+use Rattle.std.proofs.Common.{◌≡◌, ◌≢◌, ℕ, zero, suc, ◌+◌, ◌*◌, ◌<◌, ◌≤◌, ◌^◌, ℤ, true, List, [], ◌∷◌, ◌++◌, Option, Some, None, refl, ap, sym, ◌∙◌, subst, length, arith, inl, inr, ◌⊎◌}
 use Rattle.std.specs.Prelude.{nat_eq, slice_get, ◌||◌}
 use Rattle.std.specs.List.{list_any}
 use Rattle.std.proofs.lemmas.Bool.Decides.{nat_tests}
@@ -36,17 +36,14 @@ use Rattle.ppd_lawful.proofs.Values.Kept.{LocalsFit, NeedFits, act_kept, need_fi
 use Rattle.ppd_lawful.proofs.Logs.Numbers.{NeedNumbered, Small, calls, need_numbered}
 use Rattle.ppd_lawful.proofs.Logs.Rows.{row_with}
 use Rattle.ppd_lawful.proofs.Logs.Sizes.{ending, going, noted, sizes, sizes_append, stopping}
+use Rattle.ppd_check.proofs.Limits.Signs.{or_true}
 
 -- ---- channels of capacity 0
-
-or_later : (a b : Bool) → b ≡ true → (a || b) ≡ true
-or_later true b e = refl
-or_later false b e = e
 
 any_there : (chans : List Chan) (c : ℕ) → c < length chans → capacity_in (slice_get chans c) ≡ 0 → list_any is_rendezvous chans ≡ true
 any_there [] c lt e = absurd (omega (arith, lt))
 any_there (x ∷ xs) zero lt e = let f : nat_eq x.capacity 0 ≡ true = grind (arith, nat_tests) in rw (f) refl
-any_there (x ∷ xs) (suc c) lt e = or_later (is_rendezvous x) (list_any is_rendezvous xs) (any_there xs c (omega (arith, lt)) e)
+any_there (x ∷ xs) (suc c) lt e = or_true (is_rendezvous x) (list_any is_rendezvous xs) (any_there xs c (omega (arith, lt)) e)
 
 version_two : (chans : List Chan) → list_any is_rendezvous chans ≡ true → nat_eq (version_of chans) 2 ≡ true
 version_two chans e = rw (e) refl

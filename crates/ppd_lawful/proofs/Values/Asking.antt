@@ -135,9 +135,6 @@ calc_fits op.Ge x y h k = truth_fits (int_le y x)
 calc_fits op.Eq x y h k = truth_fits (int_eq x y)
 calc_fits op.Ne x y h k = truth_fits (negated (int_eq x y))
 
-abbrev pub Any : {A : Type 0} → A → Type 0
-Any x = ⊤
-
 pub any_given : {A : Type 0} (r : Result A Trap) → GivenFits (λ (x : A). ⊤) r
 any_given (Ok x) = tt
 any_given (Err e) = tt

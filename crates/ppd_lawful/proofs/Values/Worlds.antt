@@ -12,7 +12,7 @@ use Rattle.ppd_sem.specs.Process.{act, started, value_of}
 use Rattle.ppd_ast.specs.declared.program.Kind.{Kind}
 use Rattle.ppd_ast.specs.declared.program.Kind.TheVariants as kind
 use Rattle.ppd_ast.specs.Lookups.{kind_of}
-use Rattle.ppd_sem.proofs.Arithmetic.{fits-true, true-fits}
+use Rattle.ppd_sem.proofs.Arithmetic.{fits-true}
 use Rattle.ppd_model.specs.Schedule.{started_world}
 use Rattle.ppd_model.specs.Story.{Telling, begun, tell, told}
 use Rattle.ppd_model.specs.declared.state.Channel.{Channel}
@@ -22,6 +22,7 @@ use Rattle.ppd_lawful.proofs.Values.Asked.{CallIs}
 use Rattle.ppd_lawful.proofs.Values.Asking.{get_fits}
 use Rattle.ppd_lawful.proofs.Values.Kept.{FrameFits, LocalsFit, NeedFits, act_kept, need_fits, set_fits, started_fits}
 use Rattle.ppd_lawful.proofs.Fit.{All, Fit, all_append, all_at, all_change, all_more}
+use Rattle.ppd_lawful.proofs.Logs.Entries.{signed}
 
 pub record WorldFits (w : World) : Type 0 where
   pub shared : All Fit w.shared
@@ -94,9 +95,6 @@ world_fits program plan budget h k =
       sent = chans_fit program plan k.exprs program.chans;
       procs = procs_fit program plan k.exprs budget (range_with_len 0 (length program.bodies - program.functions));
     })
-
-signed : (vs : List ℤ) → All Fit vs → All (FitsSigned w64) vs
-signed vs h = all_more Fit (FitsSigned w64) vs true-fits h
 
 pub values_have : ValuesHave64Bits
 values_have program plan budget h k =

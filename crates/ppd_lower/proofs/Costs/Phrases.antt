@@ -9,8 +9,9 @@ use Rattle.ppd_parse.specs.declared.symbol.Rule.{Rule}
 use Rattle.ppd_parse.specs.declared.symbol.Rule.TheVariants as R
 use Rattle.ppd_parse.specs.Grammar.{Shape, leaf, node, Shapes, no_shapes, shape_then}
 use Rattle.ppd_parse.specs.Size.{weigh, weigh_in}
+use Rattle.ppd_parse.specs.Stack.{is_assign}
 use Rattle.ppd_resolve.specs.Syntax.{Name, Number, Formula, number, variable, element, negated, inverted, two, both, either, plain, Simple, fresh, array, Row, stop, simple, block, choice, repeat, count, Item, shared, shared_array, semaphore, channel, function, process}
-use Rattle.ppd_resolve.specs.Reading.{Phrase, token, formula, goal, value, calling, changing, row, body, names, items, name_of, phrase, last, as_token, as_formula, as_goal, called, as_value, as_row, as_block, as_names, as_items, kind, is_bracket, is_assign, is_minus, is_semicolon, is_int, is_recv, is_name, name_at, formula_at, before, beyond, joined, unary, formulas, goal_of, value_said, local_item, changed, followed, rows, locals, some_change, for_start, for_test, for_row, returned, worded, statement, shared_item, number_behind, numbered, params, made, said, all_said, number_at}
+use Rattle.ppd_resolve.specs.Reading.{Phrase, token, formula, goal, value, calling, changing, row, body, names, items, name_of, phrase, last, as_token, as_formula, as_goal, called, as_value, as_row, as_block, as_names, as_items, kind, is_bracket, is_minus, is_semicolon, is_int, is_recv, is_name, name_at, formula_at, before, beyond, joined, unary, formulas, goal_of, value_said, local_item, changed, followed, rows, locals, some_change, for_start, for_test, for_row, returned, worded, statement, shared_item, number_behind, numbered, params, made, said, all_said, number_at}
 use Rattle.ppd_lower.proofs.Costs.Rows.{size, args_size, value_size, any_value_size, goal_size, simple_size, any_size, row_size}
 
 -- Measures of what phrases say.

@@ -15,7 +15,7 @@ use Rattle.ppd_lower.specs.Expressions.{term_of, read_scalar, read_element}
 use Rattle.ppd_resolve.specs.Reading.{goal_formula}
 use Rattle.ppd_resolve.specs.Syntax as S
 use Rattle.ppd_resolve.specs.Syntax.{Name, Formula, Goal, Value, plain, result, received, Simple, fresh, array, store, change, call, give_back, take, give, send, print, assert, Row, stop, simple, block, repeat, count}
-use Rattle.ppd_lower.specs.Statements.{opened, closed, spot, spot_of, via_hidden, return_via_hidden, hidden_if, after, after_any, after_row, place_of, put, store_acts, return_acts, acts_of, code_of, code_of_any, row_code, goal_name}
+use Rattle.ppd_lower.specs.Statements.{opened, with_scopes_of, spot, spot_of, via_hidden, return_via_hidden, hidden_if, after, after_any, after_row, place_of, put, store_acts, return_acts, acts_of, code_of, code_of_any, row_code, goal_name}
 use Rattle.ppd_resolve.specs.Frames.{variable_of, declared, hidden_name}
 use Rattle.ppd_lower.specs.Table.{weight, weights, spot_terms}
 use Rattle.ppd_lower.proofs.Table.Joined.{weights_append}
@@ -210,7 +210,7 @@ pub row_load : (r : Row) (f : Frame) → load (row_code r f) + length (after_row
 row_load stop f = omega arith
 row_load (simple s r) f = omega (arith, load_join (code_of s f) (row_code r (after s f)), code_load s f, row_load r (after s f))
 row_load (block b r) f =
-    let g : Frame = closed f (after_row b (opened f)) in
+    let g : Frame = with_scopes_of f (after_row b (opened f)) in
     omega (arith, load_join (row_code b (opened f)) (row_code r g), row_load b (opened f), row_load r g)
 row_load (S.choice p e a b r) f =
     let g : Frame = after_row a f in
@@ -221,7 +221,7 @@ row_load (count p start e step b r) f =
     let g : Frame = after_any start (opened f) in
     let h : Frame = after_row b g in
     let inside : Code = join (row_code b g) (code_of_any step h) in
-    let rest : Code = row_code r (closed f h) in
+    let rest : Code = row_code r (with_scopes_of f h) in
     omega (
       arith,
       load_join (code_of_any start (opened f)) (loop p (term_of g.scopes e) inside rest),
@@ -230,5 +230,5 @@ row_load (count p start e step b r) f =
       any_load start (opened f),
       row_load b g,
       step_load step h,
-      row_load r (closed f h),
+      row_load r (with_scopes_of f h),
     )

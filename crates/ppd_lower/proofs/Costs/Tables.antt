@@ -30,7 +30,7 @@ load (act p a c) = act_load a + load c
 load (choice p e a b c) = 2 + weight e + load a + load b + load c
 load (loop p e inside c) = 2 + weight e + load inside + load c
 
-length_roots : (m : ℕ) (ts : List Term) → length (roots m ts) ≡ length ts
+pub length_roots : (m : ℕ) (ts : List Term) → length (roots m ts) ≡ length ts
 length_roots m [] = refl
 length_roots m (t ∷ ts) = ap suc (length_roots (m + weight t) ts)
 

@@ -49,7 +49,7 @@ all_append b n m (c ∷ cs) ds =
     (omega arith) (omega arith) (omega (arith, w))))
     ∙ sym (append_assoc xs ys (all_stmts (b + suc (length cs)) (n + (count c + counts cs)) (m + weights (flat_map terms (c ∷ cs))) ds))
 
-length_bodies : (scope : Scope) (n : ℕ) (hs : List Head) → length (bodies scope n hs) ≡ length hs
+pub length_bodies : (scope : Scope) (n : ℕ) (hs : List Head) → length (bodies scope n hs) ≡ length hs
 length_bodies scope n [] = refl
 length_bodies scope n (h ∷ hs) = ap suc (length_bodies scope (n + count (head_code scope h)) hs)
 

@@ -14,6 +14,7 @@ use Rattle.ppd_lex.specs.declared.token.Kind.TheVariants as K
 use Rattle.ppd_parse.specs.declared.symbol.Rule.{Rule}
 use Rattle.ppd_parse.specs.declared.symbol.Rule.TheVariants as R
 use Rattle.ppd_parse.specs.Grammar.{Shape, leaf, node, Shapes, no_shapes, shape_then}
+use Rattle.ppd_parse.specs.Stack.{is_assign}
 use Rattle.ppd_resolve.specs.declared.fault.Cause.TheVariants.{ReturnPlace}
 use Rattle.ppd_resolve.specs.declared.fault.Fault.{Fault}
 use Rattle.ppd_lower.specs.declared.endings.Ending.{Ending}
@@ -27,10 +28,10 @@ use Rattle.ppd_lower.specs.Expressions.{term_of}
 use Rattle.ppd_resolve.specs.Faults.{at, unless, if_so, first, first_of_both}
 use Rattle.ppd_resolve.specs.Names.{Scope}
 use Rattle.ppd_resolve.specs.Nodes.{tree_at, phrase_of}
-use Rattle.ppd_resolve.specs.Reading.{Phrase, token, goal, calling, changing, row, body, phrase, last, kind, is_semicolon, is_int, is_bracket, is_assign, as_row, as_block, as_value, name_at, number_at, formula_at, rows, locals, local_item, changed, statement, worded, followed, before, beyond, for_start, for_row, some_change, made, said, all_said}
+use Rattle.ppd_resolve.specs.Reading.{Phrase, token, goal, calling, changing, row, body, phrase, last, kind, is_semicolon, is_int, is_bracket, as_row, as_block, as_value, name_at, number_at, formula_at, rows, locals, local_item, changed, statement, worded, followed, before, beyond, for_start, for_row, some_change, made, said, all_said}
 use Rattle.ppd_lower.specs.Sources.{simple_returns, returns, last_return, return_faults}
 use Rattle.ppd_resolve.specs.Globals.{Head}
-use Rattle.ppd_lower.specs.Statements.{put, store_acts, spot_of, code_of, code_of_any, after, after_any, after_row, row_code, opened, closed}
+use Rattle.ppd_lower.specs.Statements.{put, store_acts, spot_of, code_of, code_of_any, after, after_any, after_row, row_code, opened, with_scopes_of}
 use Rattle.ppd_resolve.specs.Syntax.{number, Value, plain, result, received, Simple, fresh, array, store, change, call, give_back, take as take_sem, give, send, print, assert, Row, stop, simple, block, repeat}
 use Rattle.ppd_resolve.specs.Syntax as S
 use Rattle.ppd_lower.specs.Table.{weight, weights, root, terms, act_terms, numbers, stmts, kind as kind_of}
@@ -314,7 +315,7 @@ returned_row (simple s r) f h =
     ∙ ap (λ l. l ++ code_returned (row_code r (after s f))) (returned_simple s f)
     ∙ ap (λ l. simple_returns s ++ l) (returned_row r (after s f) h)
 returned_row (block b r) f h =
-    let g : Frame = closed f (after_row b (opened f)) in
+    let g : Frame = with_scopes_of f (after_row b (opened f)) in
     returned_join (row_code b (opened f)) (row_code r g)
     ∙ ap (λ l. l ++ code_returned (row_code r g)) (returned_row b (opened f) h.0)
     ∙ ap (λ l. returns b ++ l) (returned_row r g h.1)
@@ -332,13 +333,13 @@ returned_row (S.count p i e t b r) f h =
     let g : Frame = after_any i (opened f) in
     let k : Frame = after_row b g in
     let inside : Code = join (row_code b g) (code_of_any t k) in
-    let rest : Code = row_code r (closed f k) in
+    let rest : Code = row_code r (with_scopes_of f k) in
     returned_join (code_of_any i (opened f)) (loop p (term_of g.scopes e) inside rest)
     ∙ ap (λ l. l ++ (code_returned inside ++ code_returned rest)) (returned_any i (opened f) h.0)
     ∙ ap (λ l. l ++ code_returned rest) (returned_join (row_code b g) (code_of_any t k))
     ∙ ap (λ l. (code_returned (row_code b g) ++ l) ++ code_returned rest) (returned_any t k h.1)
     ∙ ap (λ l. l ++ code_returned rest) (append-nil (code_returned (row_code b g)) ∙ returned_row b g h.2)
-    ∙ ap (λ l. returns b ++ l) (returned_row r (closed f k) h.3)
+    ∙ ap (λ l. returns b ++ l) (returned_row r (with_scopes_of f k) h.3)
 
 -- A row that ends with a `return`.
 
@@ -434,7 +435,7 @@ ended (simple (give_back q w) (S.count o i e t b r)) f p v n h =
     ended_after q w (S.count o i e t b r) f p v (full_other (ending r)) (λ gives close. refl) h (λ k. ended (S.count o i e t b r) (after (give_back q w) f) p v n k)
 ended (simple s r) f p v n h = ended_other s r f p v refl (λ gives close. refl) h (λ k. ended r (after s f) p v n k)
 ended (block b r) f p v n h =
-    let g : Frame = closed f (after_row b (opened f)) in
+    let g : Frame = with_scopes_of f (after_row b (opened f)) in
     before_ended (block b r) r f g p v (row_code b (opened f)) (returns b) (returned_row b (opened f) n.0) refl (λ gives close. refl)
     (ended r g p v n.1 (rest_other (ending r) p v h))
 ended (S.choice o e a b r) f p v n h =
@@ -455,7 +456,7 @@ ended (S.count o i e t b r) f p v n h =
     let k : Frame = after_row b g in
     let inside : Code = join (row_code b g) (code_of_any t k) in
     let turning : Code = loop o (term_of g.scopes e) inside done in
-    before_ended (S.count o i e t b r) r f (closed f k) p v (join (code_of_any i (opened f)) turning) (returns b)
+    before_ended (S.count o i e t b r) r f (with_scopes_of f k) p v (join (code_of_any i (opened f)) turning) (returns b)
     (returned_join (code_of_any i (opened f)) turning
     ∙ ap (λ l. l ++ code_returned turning) (returned_any i (opened f) n.0)
     ∙ append-nil (code_returned inside)
@@ -463,9 +464,9 @@ ended (S.count o i e t b r) f p v n h =
     ∙ ap (λ l. code_returned (row_code b g) ++ l) (returned_any t k n.1)
     ∙ append-nil (code_returned (row_code b g))
     ∙ returned_row b g n.2)
-    (sym (join_assoc (code_of_any i (opened f)) turning (row_code r (closed f k))))
+    (sym (join_assoc (code_of_any i (opened f)) turning (row_code r (with_scopes_of f k))))
     (λ gives close. refl)
-    (ended r (closed f k) p v n.3 (rest_other (ending r) p v h))
+    (ended r (with_scopes_of f k) p v n.3 (rest_other (ending r) p v h))
 
 -- A row that does not.
 

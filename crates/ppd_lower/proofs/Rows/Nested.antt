@@ -10,7 +10,7 @@ use Rattle.ppd_lower.specs.Code.{Code, done, act, choice as choose, loop, join}
 use Rattle.ppd_resolve.specs.Names.{Scope, in_innermost}
 use Rattle.ppd_resolve.specs.Nodes.{phrase_of, phrases_of}
 use Rattle.ppd_resolve.specs.Reading.{Phrase, as_row, rows, followed}
-use Rattle.ppd_lower.specs.Statements.{after, after_any, after_row, hidden_if, opened, closed, row_code, row_faults}
+use Rattle.ppd_lower.specs.Statements.{after, after_any, after_row, hidden_if, opened, with_scopes_of, row_code, row_faults}
 use Rattle.ppd_resolve.specs.Syntax.{Simple, fresh, array, store, change, call, give_back, take as take_sem, give, send, print, assert, Row, stop, simple, block, choice, repeat, count}
 use Rattle.ppd_lower.specs.Writing.{Wrote, Walked}
 use Rattle.ppd_lower.proofs.Rows.Declaring.{walked_followed, phrases_more}
@@ -83,17 +83,17 @@ outer_any (Some s) f = outer_after s f
 pub outer_row : (r : Row) (f : Frame) → drop 1 (after_row r f).scopes ≡ drop 1 f.scopes
 outer_row stop f = refl
 outer_row (simple s r) f = outer_row r (after s f) ∙ outer_after s f
-outer_row (block b r) f = outer_row r (closed f (after_row b (opened f)))
+outer_row (block b r) f = outer_row r (with_scopes_of f (after_row b (opened f)))
 outer_row (choice p e a b r) f = outer_row r (after_row b (after_row a f)) ∙ outer_row b (after_row a f) ∙ outer_row a f
 outer_row (repeat p e b r) f = outer_row r (after_row b f) ∙ outer_row b f
-outer_row (count p i e t b r) f = outer_row r (closed f (after_row b (after_any i (opened f))))
+outer_row (count p i e t b r) f = outer_row r (with_scopes_of f (after_row b (after_any i (opened f))))
 
 -- a block leaves the scopes as they were
 pub block_closed : (r : Row) (f g h : Frame) → g ≡ after_row r (opened f) → h ≡ record g { scopes = drop 1 g.scopes } → h ≡ after_row (block r stop) f
 block_closed r f g h e d =
     let n : Frame = after_row r (opened f) in
     let inner : record g { scopes = drop 1 g.scopes } ≡ record n { scopes = drop 1 n.scopes } = ap (λ (k : Frame). record k { scopes = drop 1 k.scopes }) e in
-    let outer : record n { scopes = drop 1 n.scopes } ≡ closed f n = ap (λ (s : List Scope). record n { scopes = s }) (outer_row r (opened f)) in
+    let outer : record n { scopes = drop 1 n.scopes } ≡ with_scopes_of f n = ap (λ (s : List Scope). record n { scopes = s }) (outer_row r (opened f)) in
     d ∙ inner ∙ outer
 
 pub walked_block : (site : Site) (r : Row) (f o g h : Frame) (u v : Writer) (a b : List ℕ) → o ≡ opened f → Walked site r o g u v a b → h ≡ record g { scopes = drop 1 g.scopes }

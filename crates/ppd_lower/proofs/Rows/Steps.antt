@@ -15,7 +15,7 @@ use Rattle.ppd_lower.specs.Expressions.{term_of, formula_faults}
 use Rattle.ppd_resolve.specs.Nodes.{SaysBy}
 use Rattle.ppd_lower.specs.Plain.{row_any}
 use Rattle.ppd_resolve.specs.Reading.{Phrase, as_row, followed}
-use Rattle.ppd_lower.specs.Statements.{after, after_any, after_row, code_of, code_of_any, faults_of, faults_of_any, row_code, row_faults, opened, closed}
+use Rattle.ppd_lower.specs.Statements.{after, after_any, after_row, code_of, code_of_any, faults_of, faults_of_any, row_code, row_faults, opened, with_scopes_of}
 use Rattle.ppd_resolve.specs.Syntax.{Simple, Formula, Row, stop, repeat, count}
 use Rattle.ppd_lower.specs.Writing.{Wrote, WroteRow, Walked, inside}
 use Rattle.ppd_lower.proofs.Rows.Inside.{Begun, Ended, walked_repeat}
@@ -103,5 +103,5 @@ walked_count site p i t e b f o g k m h u v w x y z a hs n number ids ids' row r
       wrote =
           subst (λ (c : Code). Wrote site.body site.parent c (row_faults (count p i e t b stop) f) u a row row'') (count_code p i t e b f)
           (subst (λ (fs : List Fault). Wrote site.body site.parent (row_code (followed (row_any i) r) (opened f)) fs u a row row'') (count_faults p i t e b f) inner);
-      frame = block_closed (followed (row_any i) b) f k h reached (close ∙ same) ∙ ap (closed f) (after_start i b (opened f));
+      frame = block_closed (followed (row_any i) b) f k h reached (close ∙ same) ∙ ap (with_scopes_of f) (after_start i b (opened f));
     }

@@ -16,7 +16,7 @@ use Rattle.ppd_lower.specs.Expressions.{term_of, formula_faults}
 use Rattle.ppd_lower.specs.Code.{Code, done, act, choice, loop, join, count}
 use Rattle.ppd_lower.specs.Table.{weight, weights, flat, flats, root, terms, numbers, stmts}
 use Rattle.ppd_resolve.specs.Reading.{followed}
-use Rattle.ppd_lower.specs.Statements.{code_of, code_of_any, faults_of, faults_of_any, after, after_any, after_row, row_code, row_faults, opened, closed}
+use Rattle.ppd_lower.specs.Statements.{code_of, code_of_any, faults_of, faults_of_any, after, after_any, after_row, row_code, row_faults, opened, with_scopes_of}
 use Rattle.ppd_resolve.specs.Syntax.{Row, stop, simple, block, repeat}
 use Rattle.ppd_resolve.specs.Syntax as S
 use Rattle.ppd_lower.specs.Writing.{Wrote, WroteRow}
@@ -49,23 +49,23 @@ row_wrote site (S.count p i e t x r) f u v a b w = w
 pub after_followed : (r q : Row) (f : Frame) → after_row (followed r q) f ≡ after_row q (after_row r f)
 after_followed stop q f = refl
 after_followed (simple s r) q f = after_followed r q (after s f)
-after_followed (block b r) q f = after_followed r q (closed f (after_row b (opened f)))
+after_followed (block b r) q f = after_followed r q (with_scopes_of f (after_row b (opened f)))
 after_followed (S.choice p e a b r) q f = after_followed r q (after_row b (after_row a f))
 after_followed (repeat p e b r) q f = after_followed r q (after_row b f)
-after_followed (S.count p i e t b r) q f = after_followed r q (closed f (after_row b (after_any i (opened f))))
+after_followed (S.count p i e t b r) q f = after_followed r q (with_scopes_of f (after_row b (after_any i (opened f))))
 
 pub code_followed : (r q : Row) (f : Frame) → row_code (followed r q) f ≡ join (row_code r f) (row_code q (after_row r f))
 code_followed stop q f = refl
 code_followed (simple s r) q f =
     ap (join (code_of s f)) (code_followed r q (after s f)) ∙ sym (join_assoc (code_of s f) (row_code r (after s f)) (row_code q (after_row r (after s f))))
 code_followed (block b r) q f =
-    let g : Frame = closed f (after_row b (opened f)) in
+    let g : Frame = with_scopes_of f (after_row b (opened f)) in
     ap (join (row_code b (opened f))) (code_followed r q g) ∙ sym (join_assoc (row_code b (opened f)) (row_code r g) (row_code q (after_row r g)))
 code_followed (S.choice p e a b r) q f = ap (choice p (term_of f.scopes e) (row_code a f) (row_code b (after_row a f))) (code_followed r q (after_row b (after_row a f)))
 code_followed (repeat p e b r) q f = ap (loop p (term_of f.scopes e) (row_code b f)) (code_followed r q (after_row b f))
 code_followed (S.count p i e t b r) q f =
     let g : Frame = after_any i (opened f) in
-    let h : Frame = closed f (after_row b g) in
+    let h : Frame = with_scopes_of f (after_row b g) in
     ap (λ c. join (code_of_any i (opened f)) (loop p (term_of g.scopes e) (join (row_code b g) (code_of_any t (after_row b g))) c)) (code_followed r q h)
     ∙ sym (join_assoc (code_of_any i (opened f)) (loop p (term_of g.scopes e) (join (row_code b g) (code_of_any t (after_row b g))) (row_code r h)) (row_code q (after_row r h)))
 
@@ -84,7 +84,7 @@ faults_followed (simple s r) q f =
     let g : Frame = after s f in
     ap (λ l. faults_of s f ++ l) (faults_followed r q g) ∙ sym (append_assoc (faults_of s f) (row_faults r g) (row_faults q (after_row r g)))
 faults_followed (block b r) q f =
-    let g : Frame = closed f (after_row b (opened f)) in
+    let g : Frame = with_scopes_of f (after_row b (opened f)) in
     ap (λ l. row_faults b (opened f) ++ l) (faults_followed r q g) ∙ sym (append_assoc (row_faults b (opened f)) (row_faults r g) (row_faults q (after_row r g)))
 faults_followed (S.choice p e a b r) q f =
     let g : Frame = after_row a f in
@@ -98,7 +98,7 @@ faults_followed (repeat p e b r) q f =
 faults_followed (S.count p i e t b r) q f =
     let g : Frame = after_any i (opened f) in
     let k : Frame = after_row b g in
-    let h : Frame = closed f k in
+    let h : Frame = with_scopes_of f k in
     ap (λ l. faults_of_any i (opened f) ++ (formula_faults g.scopes e ++ (row_faults b g ++ (faults_of_any t k ++ l)))) (faults_followed r q h)
     ∙ assoc_five (faults_of_any i (opened f)) (formula_faults g.scopes e) (row_faults b g) (faults_of_any t k) (row_faults r h) (row_faults q (after_row r h))
 

@@ -1,5 +1,5 @@
 -- The arguments of a call, child after child.
-use Rattle.std.proofs.Common.{◌≡◌, refl, sym, ap, subst, ◌∙◌, ℕ, suc, ◌+◌, ◌<◌, Bool, true, false, if◌then◌else◌, List, [], ◌∷◌, ◌++◌, map, take, length, get_or, Option}
+use Rattle.std.proofs.Common.{◌≡◌, refl, sym, ap, subst, ◌∙◌, ℕ, ◌+◌, ◌<◌, Bool, true, false, if◌then◌else◌, List, [], ◌∷◌, ◌++◌, map, take, length, get_or, Option}
 use Rattle.std.specs.List.{flat_map}
 use Rattle.std.proofs.lemmas.List.{take_more, map-append, append-nil, length-map}
 use Rattle.std.proofs.lemmas.List.Concat.{flat_map-append}
@@ -12,12 +12,11 @@ use Rattle.ppd_resolve.specs.Syntax.{Formula}
 use Rattle.ppd_resolve.specs.Reading.{Phrase, as_formula, is_formula, formulas}
 use Rattle.ppd_lower.specs.Expressions.{term_of, formula_faults}
 use Rattle.ppd_resolve.specs.Nodes.{phrase_of, phrases_of, phrases_below, children_of}
-use Rattle.ppd_ast.specs.Term.{Term}
-use Rattle.ppd_lower.specs.Table.{weight, roots}
 use Rattle.ppd_lower.specs.Forms.{Added}
 use Rattle.ppd_lower.specs.Writing.{AddedAll, Argued}
 use Rattle.ppd_resolve.proofs.Found.First.{found_in_both, first_of_both_none, first-swap}
 use Rattle.ppd_lower.proofs.Table.Writing.{added_none, added_first, added_join}
+use Rattle.ppd_lower.proofs.Costs.Tables.{length_roots}
 
 pub argued_none : (ns : List Node) (s : List Scope) (old : List Expr) (ids : List ℕ) (found : Option Fault) → Argued ns s [] old old ids ids found found
 argued_none ns s old ids found = record { added = added_none old ids; noted = sym (first_of_both_none found) }
@@ -92,10 +91,6 @@ argued_call ns s i old new ids found found' found'' fs a f = (
   found_in_both found found' found'' (flat_map (formula_faults s) (formulas (phrases_below ns i))) fs a.noted f
       ∙ ap (first_of_both found) (first-swap (flat_map (formula_faults s) (formulas (phrases_below ns i))) fs),
 )
-
-length_roots : (m : ℕ) (ts : List Term) → length (roots m ts) ≡ length ts
-length_roots m [] = refl
-length_roots m (t ∷ ts) = ap suc (length_roots (m + weight t) ts)
 
 -- as many numbers as arguments
 pub argued_count : (ns : List Node) (s : List Scope) (i : ℕ) (old new : List Expr) (ids : List ℕ) (found found' : Option Fault)

@@ -45,14 +45,14 @@ added_length old t new n a =
     ap length a.table ∙ length-append old (flat (length old) t) ∙ ap (λ k. length old + k) (length_flat (length old) t)
 
 -- the expression of a node over one part, and over two
-abbrev pub IsOver : (Term → Term) → (ℕ → Expr) → Type 0
-IsOver over e = (m : ℕ) (t : Term) → (flat m (over t) ≡ flat m t ++ e (root m t) ∷ []) × (below (over t) ≡ weight t)
+abbrev pub IsNodeOver : (Term → Term) → (ℕ → Expr) → Type 0
+IsNodeOver over e = (m : ℕ) (t : Term) → (flat m (over t) ≡ flat m t ++ e (root m t) ∷ []) × (below (over t) ≡ weight t)
 
 abbrev pub IsOverTwo : (Term → Term → Term) → (ℕ → ℕ → Expr) → Type 0
 IsOverTwo over e = (m : ℕ) (a b : Term)
     → (flat m (over a b) ≡ flat m a ++ (flat (m + weight a) b ++ e (root m a) (root (m + weight a) b) ∷ [])) × (below (over a b) ≡ weight a + weight b)
 
-pub added_over : (over : Term → Term) (e : ℕ → Expr) → IsOver over e → (old mid new : List Expr) (t : Term) (k n : ℕ)
+pub added_over : (over : Term → Term) (e : ℕ → Expr) → IsNodeOver over e → (old mid new : List Expr) (t : Term) (k n : ℕ)
     → Added old t mid k → new ≡ mid ++ e k ∷ [] → n ≡ length mid → Added old (over t) new n
 added_over over e o old mid new t k n a added number =
     let m = length old in
@@ -140,7 +140,3 @@ added_inverted s f old mid new j n a e h = added_over not Not (λ m t. (refl, re
 pub with_ok : {E : Type 0} (r : Result ℕ E) (P : Type 0) (Q R : ℕ → Type 0) → ((n : ℕ) → P → Q n → R n) → OnOk r P → IfOk r Q → IfOk r R
 with_ok (Ok n) P Q R f p q = f n p q
 with_ok (Err e) P Q R f p q = tt
-
-pub on_ok : {X E : Type 0} (r : Result X E) (P : Type 0) → P → OnOk r P
-on_ok (Ok x) P p = p
-on_ok (Err e) P p = tt

@@ -8,9 +8,8 @@ use Rattle.ppd_model.specs.declared.trace.TracedEvent.{TracedEvent}
 use Rattle.ppd_model.specs.Intervals.{Part, own, nested, Span, Split, is_closed, item_of, item_of_event, item_of_span}
 use Rattle.ppd_model.proofs.Tested.{In, here as first_in, there as later_in}
 use Rattle.ppd_shared_edges.specs.Within.{AreDistinct}
-use Rattle.ppd_shared_edges.proofs.Near.Distinct.{not_in_list}
+use Rattle.ppd_shared_edges.proofs.Near.Distinct.{not_in_list, out_of_list}
 use Rattle.ppd_shared_edges.proofs.Sources.Members.{in_cases, in_either, no_member}
-use Rattle.ppd_near.proofs.Own.Lists.{out_of_list}
 
 -- ---- the intervals among items
 

@@ -16,10 +16,10 @@ use Rattle.ppd_search.specs.declared.writer.Writer.TheVariants.{Before, Fresh, A
 use Rattle.ppd_search.specs.Locals.{Scan, in_loops, local_in, local_in_replays, loop_replays, scan, writer_at, writer_replays}
 use Rattle.ppd_search.specs.Seen.{Seen, items_at, last_item, seen_of, unless}
 use Rattle.ppd_shared_edges.specs.Within.{AreDistinct}
-use Rattle.ppd_shared_edges.proofs.Near.Distinct.{not_in_list}
+use Rattle.ppd_shared_edges.proofs.Near.Distinct.{not_in_list, distinct_both, out_of_list}
 use Rattle.ppd_shared_edges.proofs.Near.Tree.{HasTree}
 use Rattle.ppd_shared_edges.proofs.Sources.Members.{in_cases, in_either, no_member}
-use Rattle.ppd_near.proofs.Own.Lists.{distinct_both, distinct_one, in_one, out_of_list}
+use Rattle.ppd_near.proofs.Own.Lists.{distinct_one, in_one}
 use Rattle.ppd_near.proofs.Own.Scans.{IsLoopIn, IsOtherIn, IsScanned, scanned_at, scanned_whole}
 
 -- no interval is a loop and none

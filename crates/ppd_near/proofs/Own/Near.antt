@@ -20,6 +20,7 @@ use Rattle.ppd_shared_edges.proofs.Near.Distinct.{not_in_list}
 use Rattle.ppd_shared_edges.proofs.Near.Nearby.{member_is}
 use Rattle.ppd_shared_edges.proofs.Sources.Members.{in_cases, no_member}
 use Rattle.ppd_shared_edges.proofs.Within.{replays_within}
+use Rattle.ppd_shared_edges.proofs.Near.Cheap.{or_right, or_left}
 use Rattle.ppd_near.specs.Costs.{steps_in, steps_of_all}
 use Rattle.ppd_near.proofs.Own.Scans.{IsLoopIn}
 
@@ -61,13 +62,6 @@ pub parts_steps : (xs : List Split) (q : ℕ) (ms ns : List ℕ) → steps_of_al
 parts_steps xs q ms ns = ap (steps_of_all xs) (process_both q ms ns) ∙ both_steps xs (of_process q ms) (of_process q ns)
 
 -- ---- tests
-
-or_left : (b c : Bool) → b ≡ true → (b || c) ≡ true
-or_left b c e = ap (λ z. z || c) e
-
-or_right : (b c : Bool) → c ≡ true → (b || c) ≡ true
-or_right true c e = refl
-or_right false c e = e
 
 any_in : (f : FlowEdge → Bool) (es : List FlowEdge) (e : FlowEdge) → In e es → f e ≡ true → list_any f es ≡ true
 any_in f [] e i g = absurd (no_member i)

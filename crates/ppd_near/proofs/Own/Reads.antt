@@ -21,8 +21,9 @@ use Rattle.ppd_search.specs.Seen.{Seen, items_at, kind_at, last_item, outer_of, 
 use Rattle.ppd_search.specs.Shared.{of_process}
 use Rattle.ppd_shared_edges.proofs.Near.Tree.{HasTree}
 use Rattle.ppd_shared_edges.proofs.Sources.Members.{in_either}
+use Rattle.ppd_shared_edges.proofs.Near.Distinct.{distinct_both}
 use Rattle.ppd_near.specs.Costs.{steps_of_all}
-use Rattle.ppd_near.proofs.Own.Lists.{distinct_both, distinct_one, in_one}
+use Rattle.ppd_near.proofs.Own.Lists.{distinct_one, in_one}
 use Rattle.ppd_near.proofs.Own.Locals.{AreGood, IsGood, good_above, local_good}
 use Rattle.ppd_near.proofs.Own.Near.{IsNear, near_edge, near_in, near_little, near_loop, one_little, parts_steps}
 use Rattle.ppd_near.proofs.Own.Outer.{AllStand, IsOuter, outer_is}

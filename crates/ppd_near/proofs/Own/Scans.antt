@@ -19,10 +19,9 @@ use Rattle.ppd_search.specs.Locals.{Scan, begins_leaf, begun_scan, frame_in, is_
 use Rattle.ppd_search.specs.Seen.{items_at, seen_of}
 use Rattle.ppd_shared_edges.specs.Within.{AreDistinct}
 use Rattle.ppd_shared_edges.proofs.Back.Walks.{map_at}
-use Rattle.ppd_shared_edges.proofs.Near.Distinct.{not_in_list}
+use Rattle.ppd_shared_edges.proofs.Near.Distinct.{not_in_list, out_of_list}
 use Rattle.ppd_shared_edges.proofs.Near.Tree.{HasTree}
 use Rattle.ppd_shared_edges.proofs.Sources.Members.{in_cases, no_member}
-use Rattle.ppd_near.proofs.Own.Lists.{out_of_list}
 use Rattle.ppd_near.proofs.Own.Items.{distinct_numbers, distinct_taken, in_taken, nested_in, numbers}
 
 -- ---- the scan

@@ -29,7 +29,7 @@ use Rattle.ppd_search.specs.Seen.{items_at, seen_of}
 use Rattle.ppd_sound.proofs.SharedCells.Writers.{events_in}
 use Rattle.ppd_shared_edges.specs.Near.{IsOpenAt}
 use Rattle.ppd_shared_edges.proofs.Back.Walks.{items_are}
-use Rattle.ppd_shared_edges.proofs.LogPlaces.EdgeEnds.{EndsAt, at_sync, place_of_event}
+use Rattle.ppd_shared_edges.proofs.LogPlaces.EdgeEnds.{EndsAt, at_sync, place_of_event, ending_is}
 use Rattle.ppd_shared_edges.proofs.LogPlaces.EdgePlaces.{first_edge_is, none_is}
 use Rattle.ppd_shared_edges.proofs.LogPlaces.Innermost.{innermost_is, innermost_none}
 use Rattle.ppd_shared_edges.proofs.Sources.InEdges.{sync_event}
@@ -41,7 +41,6 @@ use Rattle.ppd_shared_edges.proofs.StepEvents.Marks.{length_is}
 use Rattle.ppd_shared_edges.proofs.StepEvents.Processes.{Facts}
 use Rattle.ppd_shared_edges.proofs.StepEvents.Timeline.{cut_once, did}
 use Rattle.ppd_shared_edges.proofs.StepEvents.Writers.{AreNone, HasEvent, ev_at, ev_count, syncs_both, syncs_none}
-use Rattle.ppd_near.proofs.Steps.Entries.{ending_is}
 use Rattle.ppd_near.proofs.Steps.Lasting.{Holds, are_begun}
 use Rattle.ppd_near.proofs.Steps.Open.{IsUnleft, open_if, tiled_unleft, unclosed}
 use Rattle.ppd_near.proofs.Steps.Prefixes.{IsHome, all_is, edge_of_step, home, runs_open, upto_long, zero_runs}

@@ -3,13 +3,14 @@ use Rattle.std.proofs.Common.{◌≡◌, ℕ, ◌+◌, ◌<◌, Bool, true, fals
 use Rattle.std.specs.Prelude.{fold, is_some}
 use Rattle.ppd_ast.specs.declared.plan.Plan.{Plan}
 use Rattle.ppd_ast.specs.declared.program.Program.{Program}
+use Rattle.ppd_ast.specs.Counting.{one_if}
 use Rattle.ppd_model.specs.Intervals.{Split, split_step}
 use Rattle.ppd_model.specs.Record.{edge_after}
 use Rattle.ppd_model.specs.Story.{Moment, steps_of}
 use Rattle.ppd_model.specs.Synchronizations.{sync_of, syncs_of}
 use Rattle.ppd_model.specs.declared.tracing.Story.{Story}
 use Rattle.ppd_model.specs.declared.tracing.Taken.{Taken}
-use Rattle.ppd_shared_edges.proofs.Spans.Facts.{one_if}
+use Rattle.ppd_model.proofs.OneHistory.{bare_moment}
 use Rattle.ppd_shared_edges.proofs.StepEvents.Marks.{syncs_length}
 use Rattle.ppd_shared_edges.proofs.StepEvents.Writers.{AreNone}
 
@@ -24,12 +25,9 @@ cut_at (x ∷ xs) (suc n) lt = let r = cut_at xs n (omega (arith, lt)) in (x ∷
 
 -- ---- moments without values of units
 
-abbrev pub bare : Taken → Moment
-bare t = record { taken = t; unit_values = [] }
-
 abbrev pub bares : List Taken → List Moment
 bares [] = []
-bares (t ∷ ts) = bare t ∷ bares ts
+bares (t ∷ ts) = bare_moment t ∷ bares ts
 
 pub bares_are : (ts : List Taken) → steps_of (bares ts) ≡ ts
 bares_are [] = refl

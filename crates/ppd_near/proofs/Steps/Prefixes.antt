@@ -29,11 +29,11 @@ use Rattle.ppd_sound.proofs.SharedCells.Writers.{events_in}
 use Rattle.ppd_shared_edges.specs.Near.{IsOpenAt}
 use Rattle.ppd_shared_edges.proofs.Near.Timed.{edge_at}
 use Rattle.ppd_shared_edges.proofs.Spans.Kept.{IsKept, kept}
-use Rattle.ppd_shared_edges.proofs.Spans.Steps.{AreNumbered}
 use Rattle.ppd_shared_edges.proofs.Spans.Told.{AreTiled, IsInnermost}
 use Rattle.ppd_shared_edges.proofs.StepEvents.Marks.{length_is, numbered_to}
 use Rattle.ppd_shared_edges.proofs.StepEvents.Processes.{Facts, closed_told}
 use Rattle.ppd_shared_edges.proofs.StepEvents.Timeline.{did}
+use Rattle.ppd_shared_edges.proofs.Spans.Steps.{AreNumbered}
 use Rattle.ppd_near.proofs.Steps.Lasting.{Holds, Lasts, all_steps, are_begun, marks_hold, step_holds}
 use Rattle.ppd_near.proofs.Steps.Open.{IsUnleft, open_if, tiled_unleft, tiled_zero, unclosed}
 use Rattle.ppd_near.proofs.Steps.Moments.{bares, bares_are, edge_counts, edges_long}

@@ -5,19 +5,20 @@ use Rattle.std.proofs.lemmas.Option.{none-some}
 use Rattle.ppd_model.specs.declared.graph.EdgeId.{EdgeId}
 use Rattle.ppd_model.specs.declared.trace.TracedEvent.{TracedEvent}
 use Rattle.ppd_model.proofs.Changes.{some}
-use Rattle.ppd_model.proofs.Lists.{at_below}
 use Rattle.ppd_model.proofs.Tested.{In, here as first_in, there as later_in}
 use Rattle.ppd_search.specs.Shared.{greater, greatest}
 use Rattle.ppd_shared_edges.specs.Events.{AreQuiet, synchronizes}
 use Rattle.ppd_shared_edges.proofs.Back.Walked.{same_count}
 use Rattle.ppd_shared_edges.proofs.LogPlaces.EdgePlaces.{count_one}
-use Rattle.ppd_shared_edges.proofs.Spans.Facts.{count_to, one_if}
+use Rattle.ppd_shared_edges.proofs.Spans.Facts.{count_to}
+use Rattle.ppd_ast.proofs.ValidLaws.{slice_get_there}
+use Rattle.ppd_ast.specs.Counting.{one_if}
 
 -- the writer is of the edge that ends after it
 pub writer_count : (events : List TracedEvent) (c a b : ℕ) → synchronizes (slice_get events a) ≡ false → AreQuiet events c (a + 1) b → a < b → b ≤ length events → count_to events a ≡ count_to events b
 writer_count events c a b plain q less le =
     let rest : count_to events (a + 1) ≡ count_to events b = same_count events c (a + 1) b (omega (arith, less)) le q in
-    let y = at_below events a (omega (arith, less, le)) in
+    let y = slice_get_there events a (omega (arith, less, le)) in
     let one : count_to events (a + 1) ≡ count_to events a + one_if (is_some y.0.event.number) = count_one events a y.0 y.1 in
     let none : one_if (is_some y.0.event.number) ≡ 0 = ap one_if (sym (ap synchronizes y.1) ∙ plain) in
     let z : count_to events a ≡ count_to events (a + 1) = omega (arith, one, none) in

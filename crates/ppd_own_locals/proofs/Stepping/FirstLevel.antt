@@ -19,7 +19,7 @@ use Rattle.ppd_model.specs.LocalTags.{HasTags, TagsItsWrites, is_in_writes}
 use Rattle.ppd_model.specs.declared.trace.TracedEvent.{TracedEvent}
 use Rattle.ppd_model.specs.declared.tracing.Story.{Story}
 use Rattle.ppd_model.specs.declared.tracing.Taken.{Taken}
-use Rattle.ppd_model.proofs.CountedOn.{last_at}
+use Rattle.ppd_model.proofs.CountedOn.{last_at, kept_at}
 use Rattle.ppd_model.proofs.LocalSteps.{tags_its_writes}
 use Rattle.ppd_search.specs.Locals.{frame_in}
 use Rattle.ppd_places.specs.Closing.{closing}
@@ -28,7 +28,6 @@ use Rattle.ppd_places.specs.Leaves.{AreBegun, Begun, begun_by, leaf_of, open_at}
 use Rattle.ppd_places.proofs.Following.{IsFollowed, process_there}
 use Rattle.ppd_places.proofs.Frames.{frame_tells}
 use Rattle.ppd_places.proofs.Later.{event_placed, later_then, step_stands}
-use Rattle.ppd_places.proofs.Levels.{still_at}
 use Rattle.ppd_places.proofs.Opening.{Own}
 use Rattle.ppd_places.proofs.Steps.{event_there}
 use Rattle.ppd_places.proofs.Telling.{stmt_now, trap_now}
@@ -114,8 +113,8 @@ module _ (program : Program) (policy : Policy) (v : IsValid program) (story : St
           let j = later.spans l.interval g.0 g.1 in
           part_there y l.interval (length l.parts) j.0 (own n) j.1
           (ap (λ ps. slice_get ps (length l.parts)) (j.2.parts ∙ ap (λ ps. ps ++ j.2.more) g.3)
-          ∙ still_at ((l.parts ++ own n ∷ []) ++ g.2) j.2.more (length l.parts) (own n)
-          (still_at (l.parts ++ own n ∷ []) g.2 (length l.parts) (own n) (last_at l.parts (own n))))
+          ∙ kept_at ((l.parts ++ own n ∷ []) ++ g.2) j.2.more (length l.parts) (own n)
+          (kept_at (l.parts ++ own n ∷ []) g.2 (length l.parts) (own n) (last_at l.parts (own n))))
 
     pub is_first : program.functions + p < length program.bodies → x.trace.proc.status ≡ None → HasTags x.trace
         → (h : Todo) (hs : List Todo) → x.trace.proc.todo ≡ h ∷ hs

@@ -29,6 +29,7 @@ use Rattle.ppd_model.specs.declared.trace.TracedEvent.{TracedEvent}
 use Rattle.ppd_model.specs.declared.tracing.Story.{Story}
 use Rattle.ppd_model.specs.declared.tracing.Taken.{Taken}
 use Rattle.ppd_model.proofs.Changes.{some}
+use Rattle.ppd_model.proofs.Lists.{get_mapped}
 use Rattle.ppd_search.specs.Locals.{Scan, frame_in, scan}
 use Rattle.ppd_search.specs.Seen.{items_at, last_item, seen_of}
 use Rattle.ppd_places.specs.Closing.{closing}
@@ -50,7 +51,6 @@ use Rattle.ppd_own_locals.proofs.Closes.{IsLeftNow, left_now}
 use Rattle.ppd_own_locals.proofs.Inside.{IsInside}
 use Rattle.ppd_own_locals.proofs.Once.{first_begun, returned_is}
 use Rattle.ppd_own_locals.proofs.Received.{into_is, received_back, result_is}
-use Rattle.ppd_own_locals.proofs.Returned.{get_mapped}
 use Rattle.ppd_own_locals.proofs.Stepping.FirstLevel.{IsFirst, TellsThen, count_then, event_by}
 use Rattle.ppd_own_locals.proofs.Stepping.Others.{leaf_put, other}
 use Rattle.ppd_own_locals.proofs.Tells.Back.{back_told}

@@ -33,11 +33,12 @@ use Rattle.ppd_own_locals.proofs.Cells.Events.{writes}
 use Rattle.ppd_own_locals.proofs.Cells.Postlogs.{into_in, writes_in}
 use Rattle.ppd_own_locals.proofs.Cells.Writes.{among_in, any_own, event_cell, event_other}
 use Rattle.ppd_own_locals.proofs.Inside.{IsInside}
-use Rattle.ppd_own_locals.proofs.Once.{begins_none, no_leaf_call, receives_none}
+use Rattle.ppd_own_locals.proofs.Once.{begins_none, receives_none}
 use Rattle.ppd_own_locals.proofs.Received.{received_other}
 use Rattle.ppd_own_locals.proofs.Stepping.FirstLevel.{IsFirst, TellsThen, count_then, event_by}
 use Rattle.ppd_own_locals.proofs.Tells.Put.{leaf_goes, loop_event, put_told}
 use Rattle.ppd_own_locals.proofs.Tells.Tags.{TellsOf}
+use Rattle.ppd_own_control.proofs.AtLevel.{no_leaf_kind}
 
 pub loop_there : (k : BlockKind) → is_loop k ≡ true → (q : ℕ) × (k ≡ block.Loop q)
 loop_there (block.Loop q) h = (q, refl)
@@ -117,7 +118,7 @@ module _ (program : Program) (policy : Policy) (v : IsValid program) {story : St
       let a : ℕ = own_number program plan y l ls in
       put_told (m.event_at event) (λ c. none c ∙ sym (r a c)) (λ i c lt. r i c) (omega (arith, same, m.counted)) t
       (leaf_goes (m.event_at event)
-      (begins_none program plan e.event (no_leaf_call plan (kind_of program e.event.stmt) no_call))
+      (begins_none program plan e.event (no_leaf_kind plan (kind_of program e.event.stmt) no_call))
       lf (λ c. r (suc a) c) same t)
       (loop_put t (λ c loop got. absurd (true≢false (sym got ∙ none c)))
       (λ loop call j. (t.0.loop loop).leaf_in call (sym lf ∙ j)))

@@ -1,6 +1,7 @@
 -- What is told of the tags, after an event at the first level.
 use Rattle.std.proofs.Common.{◌≡◌, ℕ, suc, ◌<◌, ◌≤◌, Bool, true, false, not, ◌&&◌, List, ◌∷◌, Option, Some, None, refl, ap, sym, subst, ◌∙◌, arith, true≢false}
 use Rattle.std.specs.Prelude.{nat_eq}
+use Rattle.std.proofs.Math.Bool.{and-false}
 use Rattle.ppd_ast.specs.declared.plan.BlockKind.{BlockKind}
 use Rattle.ppd_ast.specs.declared.plan.BlockKind.TheVariants as block
 use Rattle.ppd_ast.specs.declared.plan.Plan.{Plan}
@@ -16,7 +17,6 @@ use Rattle.ppd_places.specs.Leaves.{leaf_of}
 use Rattle.ppd_own_locals.specs.Says.{SaysOr, activations, with_own}
 use Rattle.ppd_own_locals.specs.LoopTells.{IsBefore, IsLoopTold, LeafTold, LoopTells, OwnTold, Takes, here, own_number}
 use Rattle.ppd_own_locals.proofs.Cells.Events.{here_event, here_same, loops_event, writes}
-use Rattle.ppd_own_locals.proofs.Once.{and_false}
 use Rattle.ppd_own_locals.proofs.Tells.Same.{cover, tells_same}
 use Rattle.ppd_own_locals.proofs.Tells.Tags.{Change, IsEventAt}
 
@@ -50,7 +50,7 @@ module _ {program : Program} {plan : Plan} {p : ℕ} {y : Split} {l : Level} {ls
       here_event program plan p y n l e g.there g.whole g.placed 0 c (k.tags_then a c)
       (IsBefore program plan p y l.block (block_kind plan l.block) ls c (k.tags_then a c))
       (λ w. g.tagged.writes a c (g.own_writes c ∙ w) less)
-      (λ w b. absurd (true≢false (sym b ∙ and_false (begins_leaf program plan e.event))))
+      (λ w b. absurd (true≢false (sym b ∙ and-false (begins_leaf program plan e.event))))
       (λ w b q. g.tagged.receives a c (sym (r c) ∙ q) less)
       (λ w b q.
       subst (λ t. SaysOr y p (here program plan p y l 0 c) t
@@ -97,7 +97,7 @@ module _ {program : Program} {plan : Plan} {p : ℕ} {y : Split} {l : Level} {ls
     kept = λ c out.
         here_same program plan p y n l e g.there g.whole g.placed 0 c
         (unless_in (writes 0 c e.event) (is_in c (postlog_cells plan l.block)) (w c) out)
-        (and_false (begins_leaf program plan e.event))
+        (and-false (begins_leaf program plan e.event))
         (unless_in (receives program 0 c e.event (leaf_of program plan y l)) (is_in c (postlog_cells plan l.block))
         (r c) out)
         ∙ h.kept c out;

@@ -1,7 +1,8 @@
 -- What a step does to the tags: the cells that its event writes or receives have its tag, the others what they had.
-use Rattle.std.proofs.Common.{◌≡◌, ℕ, suc, ◌+◌, ◌<◌, ◌≤◌, Bool, true, false, ◌&&◌, ◌||◌, List, Some, None, refl, ap, ap₂, ◌∙◌, length}
+use Rattle.std.proofs.Common.{◌≡◌, ℕ, suc, ◌+◌, ◌<◌, ◌≤◌, Bool, true, false, ◌&&◌, ◌||◌, List, Some, None, ap, ap₂, ◌∙◌, length}
 use Rattle.std.specs.List.{list_any}
 use Rattle.std.specs.Prelude.{slice_get}
+use Rattle.std.proofs.Math.Bool.{and-false, or-true}
 use Rattle.ppd_ast.specs.declared.plan.Plan.{Plan}
 use Rattle.ppd_ast.specs.declared.program.Program.{Program}
 use Rattle.ppd_sem.specs.Blocks.{block_kind}
@@ -22,7 +23,6 @@ use Rattle.ppd_own_locals.specs.Says.{activations, with_own}
 use Rattle.ppd_own_locals.specs.LoopTells.{LoopTells}
 use Rattle.ppd_own_locals.proofs.Cells.Events.{writes}
 use Rattle.ppd_own_locals.proofs.Cells.Spots.{any_none, any_same, cell_at, cell_below}
-use Rattle.ppd_own_locals.proofs.Once.{and_false}
 
 -- what is told of the tags of a process
 abbrev pub TellsOf : Program → Plan → ℕ → Split → Tracing → List Level → Type 0
@@ -74,10 +74,6 @@ pub record IsEventAt (program : Program) (plan : Plan) (p : ℕ) (y : Split) (l 
   pub leaf_writes : (c : ℕ) → k.written (suc a) c ≡ writes 1 c e.event
   pub low_writes : (i c : ℕ) → i < a → k.written i c ≡ false
 
-or_true : (b : Bool) → (b || true) ≡ true
-or_true true = refl
-or_true false = refl
-
 module _ (program : Program) (plan : Plan) (story : Story) (p : ℕ) (x : Split) (taken : Taken)
     (tags : TagsItsWrites program plan p x.trace (trace_step program plan story p x.trace taken) taken) where
   abbrev k : Change
@@ -85,7 +81,7 @@ module _ (program : Program) (plan : Plan) (story : Story) (p : ℕ) (x : Split)
 
   unwritten : (i c : ℕ) → k.written i c ≡ false → k.received i c ≡ false
       → is_local_write program plan i c x.trace.proc taken ≡ false
-  unwritten i c w r = ap₂ (λ a b. is_event taken.need && (a || b)) w r ∙ and_false (is_event taken.need)
+  unwritten i c w r = ap₂ (λ a b. is_event taken.need && (a || b)) w r ∙ and-false (is_event taken.need)
 
   pub are_tagged : is_event taken.need ≡ true → AreTagged (change_of program plan story p x taken) (Some (me_in p x.trace))
   are_tagged event = record {
@@ -93,7 +89,7 @@ module _ (program : Program) (plan : Plan) (story : Story) (p : ℕ) (x : Split)
         tags.written i c (ap (λ b. b && (k.written i c || k.received i c)) event ∙ ap (λ b. b || k.received i c) w) lt;
     receives = λ i c r lt.
         tags.written i c (ap (λ b. b && (k.written i c || k.received i c)) event ∙ ap (λ b. k.written i c || b) r
-        ∙ or_true (k.written i c)) lt;
+        ∙ or-true (k.written i c)) lt;
     keeps = λ i c w r lt lt'. tags.kept i c (unwritten i c w r) lt lt';
     begins = λ i c w r le. tags.fresh i c (unwritten i c w r) le;
     sized = tags.same_cells;

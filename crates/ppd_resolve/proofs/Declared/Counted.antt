@@ -73,7 +73,7 @@ drop_all (suc n) [] h = refl
 drop_all zero (x ∷ l) h = absurd (omega (arith, h))
 drop_all (suc n) (x ∷ l) h = drop_all n l (omega (arith, h))
 
-le_true : (m n : ℕ) → nat_le m n ≡ true → m ≤ n
+pub le_true : (m n : ℕ) → nat_le m n ≡ true → m ≤ n
 le_true m n h = grind (arith, h)
 
 le_false : (m n : ℕ) → nat_le m n ≡ false → n < m

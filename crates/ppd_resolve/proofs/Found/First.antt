@@ -1,6 +1,6 @@
 -- The first of broken rules that come in pieces.
 use Rattle.std.proofs.Common.{◌≡◌, refl, sym, ap, ◌∙◌, ℕ, ◌<◌, ◌≤◌, ◌⊎◌, arith, Bool, true, false, nat_lt, nat_eq, List, [], ◌∷◌, ◌++◌, Option, Some, None, inl, inr, if◌then◌else◌}
-use Rattle.std.proofs.lemmas.Bool.{true_from_ne_false, false_from_ne_true}
+use Rattle.std.proofs.lemmas.Bool.{true_from_ne_false, false_from_ne_true, true≢false, ltb-false, ltb-true}
 use Rattle.ppd_resolve.specs.declared.fault.Fault.{Fault}
 use Rattle.ppd_resolve.specs.declared.fault.Cause.{Cause}
 use Rattle.ppd_resolve.specs.declared.fault.Cause.TheVariants as R
@@ -28,20 +28,14 @@ lex_map : (m n : ℕ) (P Q : Type 0) → (P → Q) → Lex m n P → Lex m n Q
 lex_map m n P Q f (inl l) = inl l
 lex_map m n P Q f (inr e) = inr (e.0, f e.1)
 
-rank_true : (a b : ℕ) → nat_lt a b ≡ true → a < b
-rank_true a b h = grind (arith, h)
-
-rank_false : (a b : ℕ) → nat_lt a b ≡ false → b ≤ a
-rank_false a b h = grind (arith, h)
-
 before_true : (a b : Fault) → is_before a b ≡ true → Precedes a b
 before_true a b h =
-    lex_map _ _ _ _ (λ g. lex_map _ _ _ _ (rank_true (rank a.cause) (rank b.cause)) (then_true a.place.column b.place.column (nat_lt (rank a.cause) (rank b.cause)) g))
+    lex_map _ _ _ _ (λ g. lex_map _ _ _ _ (ltb-true (rank a.cause) (rank b.cause)) (then_true a.place.column b.place.column (nat_lt (rank a.cause) (rank b.cause)) g))
     (then_true a.place.line b.place.line (by_then a.place.column b.place.column (nat_lt (rank a.cause) (rank b.cause))) h)
 
 before_false : (a b : Fault) → is_before a b ≡ false → FollowsOrSame a b
 before_false a b h =
-    lex_map _ _ _ _ (λ g. lex_map _ _ _ _ (rank_false (rank a.cause) (rank b.cause)) (then_false a.place.column b.place.column (nat_lt (rank a.cause) (rank b.cause)) g))
+    lex_map _ _ _ _ (λ g. lex_map _ _ _ _ (ltb-false (rank a.cause) (rank b.cause)) (then_false a.place.column b.place.column (nat_lt (rank a.cause) (rank b.cause)) g))
     (then_false a.place.line b.place.line (by_then a.place.column b.place.column (nat_lt (rank a.cause) (rank b.cause))) h)
 
 -- three rows of numbers in order, the last two by P, Q and R
@@ -66,18 +60,15 @@ precedes_trans a b c p q = lex_trans _ _ _ _ _ _ (λ u v. lex_trans _ _ _ _ _ _ 
 follows_trans : (a b c : Fault) → FollowsOrSame b a → FollowsOrSame c b → FollowsOrSame c a
 follows_trans a b c p q = lex_trans _ _ _ _ _ _ (λ u v. lex_trans _ _ _ _ _ _ (λ x y. omega (arith, x, y)) u v) p q
 
-true_not_false : true ≡ false → ⊥
-true_not_false h = grind (arith, h)
-
 -- the choices among three faults, by which stands before which: gf, hg and hf
 three : (f g h : Fault) (gf hg hf : Bool) → (gf ≡ true → hg ≡ true → hf ≡ true) → (gf ≡ false → hg ≡ false → hf ≡ false)
     → (if hg then (if hf then Some h else Some f) else (if gf then Some g else Some f)) ≡ (if gf then (if hg then Some h else Some g) else (if hf then Some h else Some f))
 three f g h true true true p q = refl
-three f g h true true false p q = absurd (true_not_false (sym (p refl refl)))
+three f g h true true false p q = absurd (true≢false (sym (p refl refl)))
 three f g h true false hf p q = refl
 three f g h false true hf p q = refl
 three f g h false false false p q = refl
-three f g h false false true p q = absurd (true_not_false (q refl refl))
+three f g h false false true p q = absurd (true≢false (q refl refl))
 
 lift : (x y z : Option Fault) (b : Bool) → first_of_both (if b then x else y) z ≡ (if b then first_of_both x z else first_of_both y z)
 lift x y z true = refl

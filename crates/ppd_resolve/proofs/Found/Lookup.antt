@@ -3,25 +3,23 @@ use Rattle.std.proofs.Common.{◌≡◌, refl, sym, ap, ◌∙◌, ℕ, ◌+◌,
 use Rattle.std.specs.Cmp.Lexicographic.{pointwise}
 use Rattle.std.specs.Map.{lookup}
 use Rattle.std.proofs.lemmas.List.{take_more, map-append, reverse-append, length-reverse, length-map}
+use Rattle.std.proofs.lemmas.Bool.{true≢false}
 use Rattle.indexmap.specs.IndexMap.{IndexMap, get_by, insert_entry}
 use Rattle.ppd_resolve.specs.Names.{Meaning, Scope, found, else_in, meaning, scope_of, declare, in_innermost}
-
-true_not_false : true ≡ false → ⊥
-true_not_false h = grind (arith, h)
 
 pub declare_known : (s : Scope) (x : List ℕ) (v : Meaning) → is_some (found s x) ≡ true → s ≡ declare x v s
 declare_known s x v h = go (is_some (found s x)) h
   where
     go : (b : Bool) → b ≡ true → s ≡ (if b then s else s ++ (x, v) ∷ [])
     go true e = refl
-    go false e = absurd (true_not_false (sym e))
+    go false e = absurd (true≢false (sym e))
 
 declare_last : (s : Scope) (x : List ℕ) (v : Meaning) → is_some (found s x) ≡ false → s ++ (x, v) ∷ [] ≡ declare x v s
 declare_last s x v h = go (is_some (found s x)) h
   where
     go : (b : Bool) → b ≡ false → s ++ (x, v) ∷ [] ≡ (if b then s else s ++ (x, v) ∷ [])
     go false e = refl
-    go true e = absurd (true_not_false e)
+    go true e = absurd (true≢false e)
 
 innermost_push : (g : Scope → Scope) (l : List Scope) (z : Scope) → 0 < length l → in_innermost g (l ++ z ∷ []) ≡ in_innermost g l ++ z ∷ []
 innermost_push g [] z h = absurd (omega (arith, h))
@@ -61,7 +59,7 @@ module _ {A : Type 0} where
     where
       go : (b : Bool) → b ≡ is_key k.items e.0 → (is_some (lookup (is_key k.items) es) ≡ false → insert_entry eq es k v ≡ es ++ (k, v) ∷ [])
           → (if b then (e.0, v) ∷ es else e ∷ insert_entry eq es k v) ≡ e ∷ (es ++ (k, v) ∷ [])
-      go true is rest = absurd (true_not_false (ap (λ b. is_some (cond b (Some e.1) (lookup (is_key k.items) es))) is ∙ h))
+      go true is rest = absurd (true≢false (ap (λ b. is_some (cond b (Some e.1) (lookup (is_key k.items) es))) is ∙ h))
       go false is rest = ap (λ l. e ∷ l) (rest (ap (λ b. is_some (cond b (Some e.1) (lookup (is_key k.items) es))) is ∙ h))
 
   pub declare_new : {S : Type 0} (eq : Vec ℕ A → Vec ℕ A → Bool) → ((a b : Vec ℕ A) → eq a b ≡ is_key a.items b) → (m n : IndexMap (Vec ℕ A) Meaning S) (k : Vec ℕ A) (x : List ℕ) (v : Meaning)

@@ -2,20 +2,19 @@
 use Rattle.std.proofs.Common.{◌≡◌, refl, sym, ap, subst, ◌∙◌, ℕ, zero, suc, ◌+◌, ◌<◌, ◌||◌, arith, ℤ, pos, neg_ℤ, Bool, true, false, if◌then◌else◌, List, [], ◌∷◌, ◌++◌, length, Option}
 use Rattle.ppd_ast.specs.declared.program.Place.{Place}
 use Rattle.ppd_parse.specs.declared.node.Node.{Node}
+use Rattle.ppd_parse.specs.Stack.{is_assign}
 use Rattle.ppd_lex.specs.declared.token.Kind.{Kind}
 use Rattle.ppd_lex.specs.declared.token.Kind.TheVariants as K
 use Rattle.ppd_resolve.specs.declared.fault.Fault.{Fault}
 use Rattle.ppd_resolve.specs.declared.globals.Globals.{Globals}
 use Rattle.ppd_resolve.specs.Syntax.{Name, Number, Item, shared, shared_array}
-use Rattle.ppd_resolve.specs.Reading.{Phrase, phrase, kind, is_name, is_assign, is_bracket, is_minus, as_token, name_of, name_at, number_at, value_of, number_behind, numbered, shared_item}
+use Rattle.ppd_resolve.specs.Reading.{Phrase, phrase, kind, is_name, is_bracket, is_minus, as_token, name_of, name_at, number_at, value_of, number_behind, numbered, shared_item}
 use Rattle.std.proofs.lemmas.List.{length-map}
+use Rattle.std.proofs.lemmas.Bool.{true≢false}
 use Rattle.ppd_resolve.specs.Nodes.{phrase_of, phrases_below, children_of}
 use Rattle.ppd_resolve.specs.Items.{number_after, numbered_at}
 use Rattle.ppd_resolve.specs.Holding.{Declares, start_said}
 use Rattle.ppd_resolve.proofs.Declared.Declarations.{declares_both}
-
-true_not_false : true ≡ false → ⊥
-true_not_false h = grind (arith, h)
 
 -- A shared variable that is no array.
 
@@ -35,7 +34,7 @@ shared_scalar ps k x v other is a b =
         ≡ (if b then shared_array (name_at ps 0) (number_at ps 2) else if c then shared (name_at ps 0) (neg_ℤ (pos (number_at ps 3).value)) else shared (name_at ps 0) (value_of (as_token (phrase ps 2)).kind))
     go false true e = refl
     go false false e = refl
-    go true c e = absurd (true_not_false e)
+    go true c e = absurd (true≢false e)
 
 -- Names with numbers behind them.
 

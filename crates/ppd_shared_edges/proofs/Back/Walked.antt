@@ -13,8 +13,9 @@ use Rattle.ppd_search.specs.declared.walked.Walked.TheVariants.{Stopped, Passed,
 use Rattle.ppd_search.specs.Shared.{Missing, own_or}
 use Rattle.ppd_shared_edges.specs.Events.{AreQuiet, IsLastSync, IsLastWriter, IsWalk, synchronizes, written_by}
 use Rattle.ppd_shared_edges.proofs.LogPlaces.EdgePlaces.{count_one}
-use Rattle.ppd_shared_edges.proofs.Spans.Facts.{count_to, one_if}
-use Rattle.ppd_model.proofs.Lists.{at_below}
+use Rattle.ppd_shared_edges.proofs.Spans.Facts.{count_to}
+use Rattle.ppd_ast.proofs.ValidLaws.{slice_get_there}
+use Rattle.ppd_ast.specs.Counting.{one_if}
 
 -- the write that a walk found is that of this event
 pub record IsFoundAt (x : Split) (w : Walked) (m : ℕ) (v : ℤ) : Type 0 where
@@ -63,7 +64,7 @@ same_count events c lo (suc hi) le end' q = elim (cases_eq lo (suc hi)) [
   | inl same ↦ ap (count_to events) same
   | inr other ↦
       let rest : count_to events lo ≡ count_to events hi = same_count events c lo hi (omega (arith, le, other)) (omega (arith, end')) (λ n ge lt. q n ge (omega (arith, lt))) in
-      let e = at_below events hi (omega (arith, end')) in
+      let e = slice_get_there events hi (omega (arith, end')) in
       let plain : one_if (is_some e.0.event.number) ≡ 0 = ap one_if (sym (ap synchronizes e.1) ∙ (q hi (omega (arith, le, other)) (omega arith)).plain) in
       let one : count_to events (hi + 1) ≡ count_to events hi + one_if (is_some e.0.event.number) = count_one events hi e.0 e.1 in
       let z : hi + 1 ≡ suc hi = omega arith in

@@ -10,13 +10,15 @@ use Rattle.ppd_model.specs.declared.flow.Item.TheVariants as item
 use Rattle.ppd_model.specs.declared.trace.TracedEvent.{TracedEvent}
 use Rattle.ppd_model.specs.FlowbackEdges.{part_at, part_in}
 use Rattle.ppd_model.specs.Intervals.{Part, own, nested, Span, Split, is_closed, item_of, item_of_event, item_of_span, items_of}
-use Rattle.ppd_model.proofs.Lists.{at_below, below_at}
+use Rattle.ppd_model.proofs.CountedOn.{kept_at}
 use Rattle.ppd_search.specs.declared.walked.Walked.{Walked}
 use Rattle.ppd_search.specs.declared.walked.Walked.TheVariants.{Stopped, Passed, Found}
 use Rattle.ppd_search.specs.Seen.{Seen, is_item_of, items_at, place_of, seen_of}
 use Rattle.ppd_search.specs.Walk.{back, back_from, back_over, backwards, found_or, inside as inside_of, onward, over_event, value_to, walk, walk_out}
 use Rattle.ppd_shared_edges.specs.Events.{AreQuiet, IsLastSync, IsLastWriter, IsQuiet, IsWalk, synchronizes, written_by}
 use Rattle.ppd_shared_edges.proofs.Spans.Tiles.{Stands, Tiles, ends, event, inside, outermost, within, IsNowhere, rises}
+use Rattle.ppd_ast.proofs.ValidLaws.{slice_get_there, slice_get_below}
+use Rattle.ppd_graph.proofs.Leads.{length_mapped}
 
 -- ---- lists
 
@@ -24,15 +26,6 @@ pub map_at : {A B : Type 0} (f : A → B) (xs : List A) (k : ℕ) (x : A) (d : B
 map_at f [] k x d e = absurd (none-some x e)
 map_at f (y ∷ ys) zero x d e = ap f (let same : y ≡ x = ap (λ o. unwrap_or o y) e in same)
 map_at f (y ∷ ys) (suc k) x d e = map_at f ys k x d e
-
-pub length-mapped : {A B : Type 0} (f : A → B) (xs : List A) → length (map f xs) ≡ length xs
-length-mapped f [] = refl
-length-mapped f (x ∷ xs) = ap (λ n. suc n) (length-mapped f xs)
-
-front_at : {A : Type 0} (xs ys : List A) (i : ℕ) (x : A) → slice_get xs i ≡ Some x → slice_get (xs ++ ys) i ≡ Some x
-front_at [] ys i x e = absurd (none-some x e)
-front_at (z ∷ xs) ys zero x e = e
-front_at (z ∷ xs) ys (suc i) x e = front_at xs ys i x e
 
 module _ (x : Split) (c : ℕ) where
   abbrev events : List TracedEvent
@@ -93,7 +86,7 @@ module _ (x : Split) (c : ℕ) where
     over k from a lo [] hi before right place (ends e) le fl h = subst (λ n. IsWalk x c from n (back_over inner c k before)) e h
     over k from a lo (own n ∷ ps) hi before right place (event e t) le fl h =
         let up : lo + 1 ≤ hi = rises F x.spans k (lo + 1) ps hi t in
-        let there = at_below events n (omega (arith, e, up, le)) in
+        let there = slice_get_there events n (omega (arith, e, up, le)) in
         let here : part_at x k a ≡ Some (own n) = ap (λ z. part_at x k z) (let z : a ≡ a + 0 = omega arith in z) ∙ place 0 (own n) refl in
         let one : IsWalk x c from (lo + 1) (over_event c k a there.0.event (back_over inner c k before)) =
         subst (λ z. IsWalk x c from (z + 1) (over_event c k a there.0.event (back_over inner c k before))) e
@@ -118,7 +111,7 @@ module _ (x : Split) (c : ℕ) where
     items_are k i at = map_at (items_of x) x.spans k i [] at
 
     pub whole : (fuel m lo hi : ℕ) (i : Span) → slice_get x.spans m ≡ Some i → length x.spans ≤ fuel + m → Tiles F x.spans m lo i.parts hi → hi ≤ length events → IsWalk x c lo hi (back fuel seen c m)
-    whole zero m lo hi i at enough t le = let below : m < length x.spans = below_at x.spans m i at in absurd (omega (arith, below, enough))
+    whole zero m lo hi i at enough t le = let below : m < length x.spans = slice_get_below x.spans m i at in absurd (omega (arith, below, enough))
     whole (suc fuel) m lo hi i at enough t le =
         subst (λ l. IsWalk x c lo hi (back_over (back fuel seen c) c m (backwards 0 l []))) (sym (items_are m i at))
         (over F (back fuel seen c) m lo 0 lo i.parts hi [] (λ k low mid j lt there u le'. whole fuel k low mid j there (omega (arith, lt, enough)) u le')
@@ -130,7 +123,7 @@ module _ (x : Split) (c : ℕ) where
     taken k lo [] qs hi (ends e) le = refl
     taken k lo (own n ∷ ps) qs hi (event e t) le =
         let up : lo + 1 ≤ hi = rises F x.spans k (lo + 1) ps hi t in
-        let there = at_below events n (omega (arith, e, up, le)) in
+        let there = slice_get_there events n (omega (arith, e, up, le)) in
         subst (λ l. take (suc (length ps)) (l ++ items_in (ps ++ qs)) ≡ l ++ items_in ps) (sym (ap item_of_event there.1))
         (ap (λ l. item.Own there.0.event ∷ l) (taken k (lo + 1) ps qs hi t le))
     taken k lo (nested m ∷ ps) qs hi (inside i mid lt at closed f t u) le =
@@ -145,7 +138,7 @@ module _ (x : Split) (c : ℕ) where
         (ap (λ b. cond b (Some a) (position_from (is_item_of m) (a + 1) (items_in qs))) (eq-eqb m m refl) ∙ ap (λ z. Some z) (let z : a ≡ a + 0 = omega arith in z))
     found_at k lo m a (own n ∷ ps) qs hi i at apart (event e t) le =
         let up : lo + 1 ≤ hi = rises F x.spans k (lo + 1) ps hi t in
-        let there = at_below events n (omega (arith, e, up, le)) in
+        let there = slice_get_there events n (omega (arith, e, up, le)) in
         subst (λ l. position_from (is_item_of m) a (l ++ items_in (ps ++ nested m ∷ qs)) ≡ Some (a + suc (length ps))) (sym (ap item_of_event there.1))
         (found_at k (lo + 1) m (a + 1) ps qs hi i at apart t le ∙ ap (λ z. Some z) (let z : a + 1 + length ps ≡ a + suc (length ps) = omega arith in z))
     found_at k lo m a (nested n ∷ ps) qs hi i at apart (inside j mid lt there closed f t u) le =
@@ -160,7 +153,7 @@ module _ (x : Split) (c : ℕ) where
 
     pub right_inside : (k : ℕ) → IsRight F (inside_of seen c) k
     right_inside k m lo mid i lt at t le =
-        let long : length seen.items ≡ length x.spans = length-mapped (items_of x) x.spans in
+        let long : length seen.items ≡ length x.spans = length_mapped (items_of x) x.spans in
         whole (length seen.items) m lo mid i at (omega (arith, long)) t le
 
     -- from after these parts of interval k
@@ -170,7 +163,7 @@ module _ (x : Split) (c : ℕ) where
         subst (λ l. IsWalk x c first n (back_over (inside_of seen c) c k (backwards 0 l [])))
         (sym (ap (λ l. take (length ps) l) (items_are k i at ∙ ap (λ l. items_in l) parts) ∙ taken k first ps qs n t le))
         (over F (inside_of seen c) k first 0 first ps n [] (right_inside k)
-        (λ j q f. ap (λ z. part_at x k z) (let z : 0 + j ≡ j = omega arith in z) ∙ ap (λ o. part_in o j) at ∙ ap (λ l. slice_get l j) parts ∙ front_at ps qs j q f) t le (omega arith) (none_quiet first))
+        (λ j q f. ap (λ z. part_at x k z) (let z : 0 + j ≡ j = omega arith in z) ∙ ap (λ o. part_in o j) at ∙ ap (λ l. slice_get l j) parts ∙ kept_at ps qs j q f) t le (omega arith) (none_quiet first))
 
     pub out : (k first : ℕ) (rest : List ℕ) (ps qs : List Part) (n : ℕ) (i : Span) → slice_get x.spans k ≡ Some i → i.parts ≡ ps ++ qs → Tiles F x.spans k first ps n → n ≤ length events → Stands F x.spans k rest first
         → IsWalk x c 0 n (walk_out (inside_of seen c) seen c k (length ps) rest)

@@ -5,6 +5,7 @@ use Rattle.std.specs.List.{flat_map, list_any}
 use Rattle.std.proofs.lemmas.List.{append-nil, append_assoc}
 use Rattle.std.proofs.lemmas.Option.{none-some}
 use Rattle.ppd_ast.specs.declared.status.Status.{Status}
+use Rattle.ppd_ast.proofs.ValidLaws.{slice_get_there}
 use Rattle.ppd_entry.specs.declared.entry.Entry.{Entry}
 use Rattle.ppd_entry.specs.declared.entry.Entry.TheVariants as entry
 use Rattle.ppd_entry.specs.Entries.{is_end}
@@ -13,7 +14,6 @@ use Rattle.ppd_model.specs.Extents.{Extending}
 use Rattle.ppd_model.specs.FlowbackEdges.{part_at, part_in}
 use Rattle.ppd_model.specs.Intervals.{Part, own, Span, Split, item_of}
 use Rattle.ppd_model.specs.RecordedSets.{sync_in}
-use Rattle.ppd_model.proofs.Lists.{at_below}
 use Rattle.ppd_search.specs.Ends.{edge_at, end_interval, end_item, ending, ends_edge, first_edge, innermost_at, is_sync, sync_item}
 use Rattle.ppd_search.specs.Seen.{items_at, seen_of}
 use Rattle.ppd_search.specs.Walk.{walk}
@@ -71,11 +71,11 @@ none_front (x ∷ xs) ys h = by (is_end x) refl h (none_front xs ys)
 
 -- ---- the entry that ends an edge
 
-plain_entry : (i : ℕ) (y : Entry) (es : List Entry) (n : ℕ) → ends_edge y ≡ false → is_sync y ≡ false → ending i es ≡ n → ending i (y ∷ es) ≡ suc n
+pub plain_entry : (i : ℕ) (y : Entry) (es : List Entry) (n : ℕ) → ends_edge y ≡ false → is_sync y ≡ false → ending i es ≡ n → ending i (y ∷ es) ≡ suc n
 plain_entry zero y es n a b r = ap (λ c. if c then 0 else suc (ending zero es)) a ∙ ap (λ k. suc k) r
 plain_entry (suc i) y es n a b r = ap (λ c. if c then suc (ending i es) else suc (ending (suc i) es)) b ∙ ap (λ k. suc k) r
 
-ending_is : (before : List Entry) (e : Entry) (after : List Entry) → ends_edge e ≡ true → list_any is_end before ≡ false → ending (syncs before) (before ++ e ∷ after) ≡ length before
+pub ending_is : (before : List Entry) (e : Entry) (after : List Entry) → ends_edge e ≡ true → list_any is_end before ≡ false → ending (syncs before) (before ++ e ∷ after) ≡ length before
 ending_is [] e after ends none = ap (λ b. if b then 0 else suc (ending 0 after)) ends
 ending_is (x ∷ xs) e after ends none = by x none (ending_is xs e after ends)
   where
@@ -150,7 +150,7 @@ module _ (x : Split) (entries : List Entry) (h : IsTold entries x.trace.events x
         let interval : end_interval entries (count_to events n) ≡ s.interval =
         ap (innermost_at entries) ends ∙ ap (λ es. innermost_at es (length s.before)) in_mid ∙ innermost_is s.before (s.sync ∷ mid.0) st r reads writes s.interval s.rest s.runs in
         let q = place_of_event s.interval s.part.place n s.part.span s.part.there s.part.at_place s.within in
-        let e = at_below events n s.within in
+        let e = slice_get_there events n s.within in
         let numbered : is_some e.0.event.number ≡ true = sym (ap synchronizes e.1) ∙ is in
         let item : end_item entries (seen_of x) (count_to events n) ≡ length q.1 =
         ap (λ k. sync_item entries (count_to events n) (first_edge entries k) (items_at (seen_of x) k)) interval

@@ -15,15 +15,16 @@ use Rattle.ppd_model.specs.Intervals.{Part, own, nested, Span, Split, is_closed,
 use Rattle.ppd_model.specs.RecordedSets.{sync_in}
 use Rattle.ppd_model.proofs.Changes.{change-at, some}
 use Rattle.ppd_model.proofs.CountedOn.{last_at}
-use Rattle.ppd_model.proofs.Extents.{IsIn, entry_number}
-use Rattle.ppd_model.proofs.Lists.{at_below, below_at}
+use Rattle.ppd_model.proofs.Extents.{IsIn, entry_number, Fall}
 use Rattle.ppd_search.specs.Ends.{begins_in, edge_at, first_edge, is_sync_item, sync_item, syncs_before, syncs_inside, syncs_of_item}
 use Rattle.ppd_search.specs.Seen.{seen_of}
-use Rattle.ppd_shared_edges.proofs.LogPlaces.Extended.{Falls, is_log, stays, still_one}
-use Rattle.ppd_shared_edges.proofs.Spans.Facts.{LeavesAt, Logged, OpensAt, at, count_to, one_if, syncs}
+use Rattle.ppd_shared_edges.proofs.LogPlaces.Extended.{is_log, stays, still_one}
+use Rattle.ppd_shared_edges.proofs.Spans.Facts.{LeavesAt, Logged, OpensAt, at, count_to, syncs}
 use Rattle.ppd_shared_edges.proofs.LogPlaces.Innermost.{not_in}
 use Rattle.ppd_shared_edges.proofs.Spans.Tiles.{Tiles, ends, event, inside, rises}
 use Rattle.ppd_shared_edges.proofs.Back.Walks.{items_are, taken}
+use Rattle.ppd_ast.proofs.ValidLaws.{slice_get_there, slice_get_below}
+use Rattle.ppd_ast.specs.Counting.{one_if}
 
 -- ---- lists
 
@@ -101,8 +102,8 @@ inside_is entries events m lo mid h =
     let l : LeavesAt entries events m mid = h.1 in
     let begins = opened_at entries events m lo o in
     let y : Extending = at l.before in
-    let falls : Falls (length y.extents) (m ∷ l.rest) = subst (λ ks. Falls (length y.extents) ks) l.runs (is_log l.before).falls in
-    let there = at_below y.extents m falls.0 in
+    let falls : Fall (length y.extents) (m ∷ l.rest) = subst (λ ks. Fall (length y.extents) ks) l.runs (is_log l.before).falls in
+    let there = slice_get_there y.extents m falls.0 in
     let left : Extending = extend y (entry.Postlog l.block l.values) in
     let here : slice_get left.extents m ≡ Some (record there.0 { last = Some y.entry; closed = true }) =
     ap (λ ks. slice_get (extents_left y.entry ks y.extents) m) l.runs ∙ change-at (λ (z : Extent). record z { last = Some y.entry; closed = true }) m y.extents ∙ ap (option_map (λ (z : Extent). record z { last = Some y.entry; closed = true })) there.1 in
@@ -115,10 +116,10 @@ inside_is entries events m lo mid h =
     (ap (syncs_before entries) (entry_number l.before) ∙ before_it entries l.before (entry.Postlog l.block l.values ∷ l.after) l.entries_are ∙ l.count)
     (ap (syncs_before entries) (ap (λ (z : Extent). z.prelog) same ∙ begins.2) ∙ before_it entries o.before (entry.Prelog o.block o.values ∷ o.after) o.entries_are ∙ o.count)
   where
-    not_rest : (m : ℕ) (ks : List ℕ) → (m < length (at h.1.before).extents) × Falls m ks → IsIn m ks → ⊥
+    not_rest : (m : ℕ) (ks : List ℕ) → (m < length (at h.1.before).extents) × Fall m ks → IsIn m ks → ⊥
     not_rest m ks f i = above_all m ks f.1 i
       where
-        above_all : (n : ℕ) (js : List ℕ) → Falls n js → IsIn n js → ⊥
+        above_all : (n : ℕ) (js : List ℕ) → Fall n js → IsIn n js → ⊥
         above_all n js g i' = not_in n js n g (omega arith) i'
 
 -- ---- items
@@ -138,7 +139,7 @@ module _ (x : Split) (entries : List Entry) where
   sums k lo [] hi (ends e) le = (let z : count_to events lo + 0 ≡ count_to events lo = omega arith in z) ∙ ap (count_to events) e
   sums k lo (own n ∷ ps) hi (event e t) le =
       let up : lo + 1 ≤ hi = rises F x.spans k (lo + 1) ps hi t in
-      let there = at_below events n (omega (arith, e, up, le)) in
+      let there = slice_get_there events n (omega (arith, e, up, le)) in
       let it : Item = item.Own there.0.event in
       let rest : count_to events (lo + 1) + sum_by (syncs_of_item entries) (items_in ps) ≡ count_to events hi = sums k (lo + 1) ps hi t le in
       let one : count_to events (n + 1) ≡ count_to events n + cond (is_some there.0.event.number) 1 0 = count_one events n there.0 there.1 in
@@ -181,7 +182,7 @@ module _ (x : Split) (entries : List Entry) where
   over i k lo [] hi rest (ends e) le below = ap (λ n. sync_item entries i (count_to events n) rest) e ∙ (let z : sync_item entries i (count_to events hi) rest ≡ 0 + sync_item entries i (count_to events hi) rest = omega arith in z)
   over i k lo (own n ∷ ps) hi rest (event e t) le below =
       let up : lo + 1 ≤ hi = rises F x.spans k (lo + 1) ps hi t in
-      let there = at_below events n (omega (arith, e, up, le)) in
+      let there = slice_get_there events n (omega (arith, e, up, le)) in
       let at_lo : slice_get events lo ≡ Some there.0 = ap (λ z. slice_get events z) (sym e) ∙ there.1 in
       let one : count_to events (lo + 1) ≡ count_to events lo + cond (is_some there.0.event.number) 1 0 = count_one events lo there.0 at_lo in
       let plain : (is_some there.0.event.number && nat_eq (count_to events lo) i) ≡ false =
@@ -211,7 +212,7 @@ module _ (x : Split) (entries : List Entry) where
   -- the place of the synchronization
   pub sync_is : (k lo : ℕ) (ps qs : List Part) (n : ℕ) (e : TracedEvent) → Tiles F x.spans k lo ps n → slice_get events n ≡ Some e → is_some e.event.number ≡ true → sync_item entries (count_to events n) (count_to events lo) (items_in (ps ++ own n ∷ qs)) ≡ length ps
   sync_is k lo ps qs n e t there is =
-      let le : n ≤ length events = (let lt : n < length events = below_at events n e there in omega (arith, lt)) in
+      let le : n ≤ length events = (let lt : n < length events = slice_get_below events n e there in omega (arith, lt)) in
       ap (λ l. sync_item entries (count_to events n) (count_to events lo) l) (items_both ps (own n ∷ qs))
       ∙ over (count_to events n) k lo ps n (items_in (own n ∷ qs)) t le (omega arith)
       ∙ ap (λ l. length ps + sync_item entries (count_to events n) (count_to events n) (l ++ items_in qs)) (ap item_of_event there)

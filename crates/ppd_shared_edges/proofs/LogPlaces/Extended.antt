@@ -9,41 +9,26 @@ use Rattle.ppd_model.specs.Extents.{Extending, Extent, begun_extents, ended_by, 
 use Rattle.ppd_model.specs.World.{change}
 use Rattle.ppd_model.proofs.Changes.{change-at, change-else, length-change, some}
 use Rattle.ppd_model.proofs.CountedOn.{kept_at}
-use Rattle.ppd_model.proofs.Extents.{IsIn}
-use Rattle.ppd_model.proofs.Lists.{at_below, below_at}
+use Rattle.ppd_model.proofs.Extents.{IsIn, Fall, ended_length, close_by, last_by}
 use Rattle.ppd_shared_edges.proofs.Spans.Facts.{at}
+use Rattle.ppd_ast.proofs.ValidLaws.{slice_get_there, slice_get_below}
 
 -- ---- one entry
 
-abbrev pub Falls : ℕ → List ℕ → Type 0
-Falls n [] = ⊤
-Falls n (k ∷ ks) = (k < n) × Falls k ks
-
-pub falls_below : (n : ℕ) (ks : List ℕ) (k : ℕ) → Falls n ks → IsIn k ks → k < n
-falls_below n [] k f i = absurd i
-falls_below n (m ∷ ms) k f (inl e) = omega (arith, e, f.0)
-falls_below n (m ∷ ms) k f (inr i) = let lt : k < m = falls_below m ms k f.1 i in omega (arith, lt, f.0)
-
-falls_on : (m n : ℕ) (ks : List ℕ) → m ≤ n → Falls m ks → Falls n ks
+falls_on : (m n : ℕ) (ks : List ℕ) → m ≤ n → Fall m ks → Fall n ks
 falls_on m n [] le f = tt
 falls_on m n (k ∷ ks) le f = (omega (arith, le, f.0), f.1)
 
-falls_rest : (n : ℕ) (ks : List ℕ) → Falls n ks → Falls n (drop 1 ks)
+falls_rest : (n : ℕ) (ks : List ℕ) → Fall n ks → Fall n (drop 1 ks)
 falls_rest n [] f = tt
 falls_rest n (k ∷ ks) f = falls_on k n ks (omega (arith, f.0)) f.1
-
-abbrev pub closes : ℕ → Extent → Extent
-closes j x = record x { last = Some j; closed = true }
-
-abbrev pub lasts : ℕ → Extent → Extent
-lasts j x = record x { last = Some j }
 
 -- an interval that is not running stays as it is; one that is there keeps its prelog; its last entry is that of
 -- before or the new one
 ended_else : (j m : ℕ) (ks : List ℕ) (xs : List Extent) → (IsIn m ks → ⊥) → slice_get (ended_by j ks xs) m ≡ slice_get xs m
 ended_else j m [] xs out = refl
 ended_else j m (k ∷ ks) xs out =
-    ended_else j m ks (change (lasts j) k xs) (λ i. out (inr i)) ∙ change-else (lasts j) k m xs (λ e. out (inl e))
+    ended_else j m ks (change (last_by j) k xs) (λ i. out (inr i)) ∙ change-else (last_by j) k m xs (λ e. out (inl e))
 
 -- what an entry makes of an interval
 pub record Became (j : ℕ) (x y : Extent) : Type 0 where
@@ -68,26 +53,26 @@ changed_one j f becomes k m xs x e = elim (cases_eq m k) [
 pub ended_one : (j m : ℕ) (ks : List ℕ) (xs : List Extent) (x : Extent) → slice_get xs m ≡ Some x → (y : Extent) × (slice_get (ended_by j ks xs) m ≡ Some y) × Became j x y
 ended_one j m [] xs x e = (x, e, became_same j x)
 ended_one j m (k ∷ ks) xs x e =
-    let one = changed_one j (lasts j) (λ z. record { prelog = refl; last = inr refl }) k m xs x e in
-    let rest = ended_one j m ks (change (lasts j) k xs) one.0 one.1 in
+    let one = changed_one j (last_by j) (λ z. record { prelog = refl; last = inr refl }) k m xs x e in
+    let rest = ended_one j m ks (change (last_by j) k xs) one.0 one.1 in
     (rest.0, rest.1, became_two j x one.0 rest.0 one.2 rest.2)
 
 -- an end is the last entry of each that runs
 pub ended_in : (j m : ℕ) (ks : List ℕ) (xs : List Extent) (x : Extent) → slice_get xs m ≡ Some x → IsIn m ks → (y : Extent) × (slice_get (ended_by j ks xs) m ≡ Some y) × (y.prelog ≡ x.prelog) × (y.last ≡ Some j)
 ended_in j m [] xs x e i = absurd i
 ended_in j m (k ∷ ks) xs x e (inl same) =
-    let here : slice_get (change (lasts j) k xs) m ≡ Some (record x { last = Some j }) =
-    ap (λ z. slice_get (change (lasts j) k xs) z) same ∙ change-at (lasts j) k xs ∙ ap (option_map (lasts j)) (ap (λ z. slice_get xs z) (sym same) ∙ e) in
-    let rest = ended_one j m ks (change (lasts j) k xs) (record x { last = Some j }) here in
+    let here : slice_get (change (last_by j) k xs) m ≡ Some (record x { last = Some j }) =
+    ap (λ z. slice_get (change (last_by j) k xs) z) same ∙ change-at (last_by j) k xs ∙ ap (option_map (last_by j)) (ap (λ z. slice_get xs z) (sym same) ∙ e) in
+    let rest = ended_one j m ks (change (last_by j) k xs) (record x { last = Some j }) here in
     (rest.0, rest.1, rest.2.prelog, elim rest.2.last [ inl f ↦ f | inr f ↦ f ])
 ended_in j m (k ∷ ks) xs x e (inr i) =
-    let one = changed_one j (lasts j) (λ z. record { prelog = refl; last = inr refl }) k m xs x e in
-    let rest = ended_in j m ks (change (lasts j) k xs) one.0 one.1 i in
+    let one = changed_one j (last_by j) (λ z. record { prelog = refl; last = inr refl }) k m xs x e in
+    let rest = ended_in j m ks (change (last_by j) k xs) one.0 one.1 i in
     (rest.0, rest.1, rest.2 ∙ one.2.prelog, rest.3)
 
 pub left_one : (j m : ℕ) (ks : List ℕ) (xs : List Extent) (x : Extent) → slice_get xs m ≡ Some x → (y : Extent) × (slice_get (left_by j ks xs) m ≡ Some y) × Became j x y
 left_one j m [] xs x e = (x, e, became_same j x)
-left_one j m (k ∷ ks) xs x e = changed_one j (closes j) (λ z. record { prelog = refl; last = inr refl }) k m xs x e
+left_one j m (k ∷ ks) xs x e = changed_one j (close_by j) (λ z. record { prelog = refl; last = inr refl }) k m xs x e
 
 -- an entry keeps each interval, in this way
 pub stays : (y : Extending) (e : Entry) (m : ℕ) (x : Extent) → slice_get y.extents m ≡ Some x → (z : Extent) × (slice_get (extend y e).extents m ≡ Some z) × Became y.entry x z
@@ -100,11 +85,7 @@ stays y e m x at' = (x, at', became_same y.entry x)
 
 pub left_length : (j : ℕ) (ks : List ℕ) (xs : List Extent) → length (left_by j ks xs) ≡ length xs
 left_length j [] xs = refl
-left_length j (k ∷ ks) xs = length-change (closes j) k xs
-
-pub ended_length : (j : ℕ) (ks : List ℕ) (xs : List Extent) → length (ended_by j ks xs) ≡ length xs
-ended_length j [] xs = refl
-ended_length j (k ∷ ks) xs = ended_length j ks (change (lasts j) k xs) ∙ length-change (lasts j) k xs
+left_length j (k ∷ ks) xs = length-change (close_by j) k xs
 
 out_rest : (m : ℕ) (ks : List ℕ) → (IsIn m ks → ⊥) → IsIn m (drop 1 ks) → ⊥
 out_rest m [] out i = out i
@@ -112,12 +93,12 @@ out_rest m (k ∷ ks) out i = out (inr i)
 
 left_else : (j m : ℕ) (ks : List ℕ) (xs : List Extent) → (IsIn m ks → ⊥) → slice_get (left_by j ks xs) m ≡ slice_get xs m
 left_else j m [] xs out = refl
-left_else j m (k ∷ ks) xs out = change-else (closes j) k m xs (λ e. out (inl e))
+left_else j m (k ∷ ks) xs out = change-else (close_by j) k m xs (λ e. out (inl e))
 
 pub still_one : (y : Extending) (es : List Entry) (m : ℕ) (x : Extent) → slice_get y.extents m ≡ Some x → (IsIn m y.running → ⊥) → slice_get (fold extend y es).extents m ≡ Some x
 still_one y [] m x e out = e
 still_one y (entry.Prelog b vs ∷ es) m x e out =
-    still_one (extend y (entry.Prelog b vs)) es m x (kept_at y.extents _ m x e) (λ i. elim i [ inl f ↦ (let lt : m < length y.extents = below_at y.extents m x e in omega (arith, lt, f)) | inr i' ↦ out i' ])
+    still_one (extend y (entry.Prelog b vs)) es m x (kept_at y.extents _ m x e) (λ i. elim i [ inl f ↦ (let lt : m < length y.extents = slice_get_below y.extents m x e in omega (arith, lt, f)) | inr i' ↦ out i' ])
 still_one y (entry.Postlog b vs ∷ es) m x e out =
     still_one (extend y (entry.Postlog b vs)) es m x (left_else y.entry m y.running y.extents out ∙ e) (out_rest m y.running out)
 still_one y (entry.End st rest reads writes ∷ es) m x e out =
@@ -130,7 +111,7 @@ still_one y (entry.Sync kind object number value reads writes ∷ es) m x e out 
 -- running numbers fall and are of intervals; an interval stands after its prelog, and one that is not running has a
 -- last entry
 pub record IsLog (y : Extending) : Type 0 where
-  pub falls : Falls (length y.extents) y.running
+  pub falls : Fall (length y.extents) y.running
   pub prelogs : (m : ℕ) (x : Extent) → slice_get y.extents m ≡ Some x → x.prelog < y.entry
   pub left : (m : ℕ) (x : Extent) → slice_get y.extents m ≡ Some x → IsIn m y.running ⊎ ((l : ℕ) × (x.last ≡ Some l) × (l < y.entry))
 
@@ -144,8 +125,8 @@ new_cases (x ∷ xs) y (suc k) j e = elim (new_cases xs y k j e) [ inl a ↦ inl
 pub came : (y : Extending) (xs : List Extent) → length xs ≡ length y.extents → ((m : ℕ) (x : Extent) → slice_get y.extents m ≡ Some x → (z : Extent) × (slice_get xs m ≡ Some z) × Became y.entry x z)
     → (m : ℕ) (z : Extent) → slice_get xs m ≡ Some z → (x : Extent) × (slice_get y.extents m ≡ Some x) × Became y.entry x z
 came y xs same stay m z e =
-    let lt : m < length xs = below_at xs m z e in
-    let old = at_below y.extents m (omega (arith, lt, same)) in
+    let lt : m < length xs = slice_get_below xs m z e in
+    let old = slice_get_there y.extents m (omega (arith, lt, same)) in
     let now = stay m old.0 old.1 in
     (old.0, old.1, subst (λ w. Became y.entry old.0 w) (some (sym now.1 ∙ e)) now.2)
 
@@ -170,7 +151,7 @@ log_one y (entry.Prelog b vs) h = record {
 log_one y (entry.Postlog b vs) h =
     let stay = λ (m : ℕ) (x : Extent) (e : slice_get y.extents m ≡ Some x). left_one y.entry m y.running y.extents x e in
     record {
-      falls = subst (λ k. Falls k (drop 1 y.running)) (sym (left_length y.entry y.running y.extents)) (falls_rest (length y.extents) y.running h.falls);
+      falls = subst (λ k. Fall k (drop 1 y.running)) (sym (left_length y.entry y.running y.extents)) (falls_rest (length y.extents) y.running h.falls);
       prelogs = λ m z f.
           let c = came y (left_by y.entry y.running y.extents) (left_length y.entry y.running y.extents) stay m z f in
           let lt = h.prelogs m c.0 c.1 in
@@ -187,15 +168,15 @@ log_one y (entry.Postlog b vs) h =
     by : (m : ℕ) (z x : Extent) (ks : List ℕ) → slice_get (left_by y.entry ks y.extents) m ≡ Some z → slice_get y.extents m ≡ Some x → IsIn m ks → IsIn m (drop 1 ks) ⊎ ((l : ℕ) × (z.last ≡ Some l) × (l < y.entry + 1))
     by m z x [] f g i = absurd i
     by m z x (k ∷ ks) f g (inl same) =
-        let here : slice_get (change (closes y.entry) k y.extents) m ≡ Some (record x { last = Some y.entry; closed = true }) =
-        ap (λ w. slice_get (change (closes y.entry) k y.extents) w) same ∙ change-at (closes y.entry) k y.extents
-        ∙ ap (option_map (closes y.entry)) (ap (λ w. slice_get y.extents w) (sym same) ∙ g) in
+        let here : slice_get (change (close_by y.entry) k y.extents) m ≡ Some (record x { last = Some y.entry; closed = true }) =
+        ap (λ w. slice_get (change (close_by y.entry) k y.extents) w) same ∙ change-at (close_by y.entry) k y.extents
+        ∙ ap (option_map (close_by y.entry)) (ap (λ w. slice_get y.extents w) (sym same) ∙ g) in
         inr (y.entry, ap (λ (w : Extent). w.last) (some (sym f ∙ here)), omega arith)
     by m z x (k ∷ ks) f g (inr i) = inl i
 log_one y (entry.End st rest reads writes) h =
     let stay = λ (m : ℕ) (x : Extent) (e : slice_get y.extents m ≡ Some x). ended_one y.entry m y.running y.extents x e in
     record {
-      falls = subst (λ k. Falls k y.running) (sym (ended_length y.entry y.running y.extents)) h.falls;
+      falls = subst (λ k. Fall k y.running) (sym (ended_length y.entry y.running y.extents)) h.falls;
       prelogs = λ m z f.
           let c = came y (ended_by y.entry y.running y.extents) (ended_length y.entry y.running y.extents) stay m z f in
           let lt = h.prelogs m c.0 c.1 in

@@ -6,17 +6,17 @@ use Rattle.std.proofs.lemmas.Bool.Decides.{nat_tests}
 use Rattle.std.proofs.lemmas.List.Sums.{fold-append}
 use Rattle.std.proofs.lemmas.Option.{none-some}
 use Rattle.ppd_ast.specs.declared.status.Status.{Status}
+use Rattle.ppd_ast.proofs.ValidLaws.{slice_get_there, slice_get_below}
 use Rattle.ppd_entry.specs.declared.entry.Entry.{Entry}
 use Rattle.ppd_entry.specs.declared.entry.Entry.TheVariants as entry
 use Rattle.ppd_model.specs.Extents.{Extending, Extent, begun_extents, ended_by, extend, extents, left_by}
 use Rattle.ppd_model.specs.World.{change}
 use Rattle.ppd_model.proofs.Changes.{change-at, some}
 use Rattle.ppd_model.proofs.CountedOn.{kept_at}
-use Rattle.ppd_model.proofs.Extents.{IsIn, entry_number}
-use Rattle.ppd_model.proofs.Lists.{at_below, below_at}
+use Rattle.ppd_model.proofs.Extents.{IsIn, entry_number, Fall, in_below, ended_length, close_by}
 use Rattle.ppd_search.specs.Ends.{innermost_at, innermost_from, is_in_extent}
 use Rattle.ppd_shared_edges.proofs.Spans.Facts.{at}
-use Rattle.ppd_shared_edges.proofs.LogPlaces.Extended.{Became, Falls, came, closes, ended_in, ended_length, ended_one, falls_below, is_log, left_length, left_one, new_cases, still_one}
+use Rattle.ppd_shared_edges.proofs.LogPlaces.Extended.{Became, came, ended_in, ended_one, is_log, left_length, left_one, new_cases, still_one}
 
 -- ---- the last one in which an entry stands
 
@@ -64,8 +64,8 @@ module _ (n k p : ℕ) where
       by [] i = absurd i
       by (m ∷ ms) (inl same) = record {
         extent = record h.extent { last = Some y.entry; closed = true };
-        there = ap (λ w. slice_get (change (closes y.entry) m y.extents) w) same ∙ change-at (closes y.entry) m y.extents
-            ∙ ap (option_map (closes y.entry)) (ap (λ w. slice_get y.extents w) (sym same) ∙ h.there);
+        there = ap (λ w. slice_get (change (close_by y.entry) m y.extents) w) same ∙ change-at (close_by y.entry) m y.extents
+            ∙ ap (option_map (close_by y.entry)) (ap (λ w. slice_get y.extents w) (sym same) ∙ h.there);
         prelog = h.prelog;
         goes = inr (y.entry, refl, le);
       }
@@ -151,10 +151,10 @@ stands_before n x le = ap (λ b. b && nat_le n (unwrap_or x.last 0)) under
     under : nat_lt x.prelog n ≡ false
     under = grind (arith, nat_tests)
 
-pub not_in : (m : ℕ) (ks : List ℕ) (k : ℕ) → Falls m ks → m ≤ k → IsIn k ks → ⊥
-not_in m ks k f le i = let lt : k < m = falls_below m ks k f i in omega (arith, lt, le)
+pub not_in : (m : ℕ) (ks : List ℕ) (k : ℕ) → Fall m ks → m ≤ k → IsIn k ks → ⊥
+not_in m ks k f le i = let lt : k < m = in_below m ks k f i in omega (arith, lt, le)
 
-above_first : (n k : ℕ) (ks : List ℕ) (j : ℕ) → Falls n (k ∷ ks) → k < j → IsIn j (k ∷ ks) → ⊥
+above_first : (n k : ℕ) (ks : List ℕ) (j : ℕ) → Fall n (k ∷ ks) → k < j → IsIn j (k ∷ ks) → ⊥
 above_first n k ks j f lt (inl e) = omega (arith, e, lt)
 above_first n k ks j f lt (inr i) = not_in k ks j f.1 (omega (arith, lt)) i
 
@@ -180,7 +180,7 @@ module _ (before mid : List Entry) (st : Status) (rest : ℕ) (reads writes : Li
   -- one that is there and does not run
   past_is : (j : ℕ) (y : Extent) → j < length (at before).extents → (IsIn j (at before).running → ⊥) → slice_get (extents all) j ≡ Some y → is_in_extent n y ≡ false
   past_is j y lt out e =
-      let old = at_below (at before).extents j lt in
+      let old = slice_get_there (at before).extents j lt in
       let still : slice_get (extents all) j ≡ Some old.0 = ap (λ (z : Extending). slice_get z.extents j) final ∙ still_one (at before) (mid ++ stop ∷ []) j old.0 old.1 out in
       let same : old.0 ≡ y = some (sym still ∙ e) in
       elim ((is_log before).left j old.0 old.1) [
@@ -193,13 +193,13 @@ module _ (before mid : List Entry) (st : Status) (rest : ℕ) (reads writes : Li
 
   later_is : (j : ℕ) (y : Extent) → length (at before).extents ≤ j → slice_get (extents all) j ≡ Some y → is_in_extent n y ≡ false
   later_is j y ge e =
-      let none : AreLater n (length (at before).extents) (at before) = λ i x le f. absurd (let lt : i < length (at before).extents = below_at (at before).extents i x f in omega (arith, lt, le)) in
+      let none : AreLater n (length (at before).extents) (at before) = λ i x le f. absurd (let lt : i < length (at before).extents = slice_get_below (at before).extents i x f in omega (arith, lt, le)) in
       stands_before n y (later_all n (length (at before).extents) (at before) (mid ++ stop ∷ []) entry_is none j y ge (ap (λ (z : Extending). slice_get z.extents j) (sym final) ∙ e))
 
   pub innermost_is : (k : ℕ) (ks : List ℕ) → (at before).running ≡ k ∷ ks → innermost_at all n ≡ k
   innermost_is k ks runs =
-      let falls : Falls (length (at before).extents) (k ∷ ks) = subst (λ l. Falls (length (at before).extents) l) runs (is_log before).falls in
-      let there = at_below (at before).extents k falls.0 in
+      let falls : Fall (length (at before).extents) (k ∷ ks) = subst (λ l. Fall (length (at before).extents) l) runs (is_log before).falls in
+      let there = slice_get_there (at before).extents k falls.0 in
       let number : (at before).entry ≡ length before = entry_number before in
       let less : there.0.prelog < (at before).entry = (is_log before).prelogs k there.0 there.1 in
       let begins : Goes n k there.0.prelog (at before) = record { extent = there.0; there = there.1; prelog = refl; goes = inl (subst (λ l. IsIn k l) (sym runs) (inl refl)) } in

@@ -6,6 +6,7 @@ use Rattle.std.proofs.lemmas.Option.{none-some}
 use Rattle.ppd_ast.specs.Valid.{IsValid}
 use Rattle.ppd_ast.specs.declared.plan.Plan.{Plan}
 use Rattle.ppd_ast.specs.declared.program.Program.{Program}
+use Rattle.ppd_ast.proofs.ValidLaws.{slice_get_below}
 use Rattle.ppd_sem.specs.Blocks.{block_kind}
 use Rattle.ppd_model.specs.declared.trace.TracedEvent.{TracedEvent}
 use Rattle.ppd_model.specs.FlowbackEdges.{edges, part_at, part_in}
@@ -14,7 +15,6 @@ use Rattle.ppd_model.specs.Logs.{closed_log, log_of}
 use Rattle.ppd_model.specs.NearIntervals.{edge_of_event, edges_or_none, is_in, is_inside, is_loop, is_near, is_near_origin, is_open_at, is_open_in, is_round, surroundings}
 use Rattle.ppd_model.specs.Story.{own_moments, steps_of, story, told}
 use Rattle.ppd_model.proofs.Changes.{some}
-use Rattle.ppd_model.proofs.Lists.{below_at}
 use Rattle.ppd_model.proofs.Tested.{In}
 use Rattle.ppd_search.specs.Seen.{seen_of}
 use Rattle.ppd_search.specs.Walk.{walk_replays}
@@ -29,10 +29,10 @@ use Rattle.ppd_shared_edges.proofs.Sources.Members.{in_cases}
 use Rattle.ppd_shared_edges.proofs.StepEvents.Processes.{closed_told}
 use Rattle.ppd_shared_edges.proofs.Within.{replays_within}
 
-or_left : (b c : Bool) → b ≡ true → (b || c) ≡ true
+pub or_left : (b c : Bool) → b ≡ true → (b || c) ≡ true
 or_left b c e = ap (λ z. z || c) e
 
-or_right : (b c : Bool) → c ≡ true → (b || c) ≡ true
+pub or_right : (b c : Bool) → c ≡ true → (b || c) ≡ true
 or_right true c e = refl
 or_right false c e = e
 
@@ -49,7 +49,7 @@ module _ (program : Program) (plan : Plan) (budget : ℕ) (h : List ℕ) (v : Is
       by : (o : Option Span) → slice_get x.spans k ≡ o → part_in o j ≡ Some (own n) → AreDistinct (k ∷ walk_replays (seen_of x) c k j)
       by None g f = absurd (none-some (own n) f)
       by (Some s) g f =
-          let lt = below_at x.trace.events n e at in
+          let lt = slice_get_below x.trace.events n e at in
           let q = place_of_event x (closed_log (log_of program plan budget p (own_moments (told program plan budget h) p))) (closed_told program plan budget h v p x there).2 k j n s g f lt in
           subst (λ z. AreDistinct (k ∷ walk_replays (seen_of x) c k z)) q.4
           (walk_distinct x tree c (Logged (closed_log (log_of program plan budget p (own_moments (told program plan budget h) p))) x.trace.events) k q.0.first q.1 (own n ∷ q.2) n s g q.3 q.5 (omega (arith, lt)) q.0.stands)

@@ -8,7 +8,6 @@ use Rattle.ppd_model.specs.declared.trace.TracedEvent.{TracedEvent}
 use Rattle.ppd_model.specs.Intervals.{Part, own, nested, Span, Split, is_closed, item_of, item_of_event, item_of_span}
 use Rattle.ppd_model.proofs.Changes.{some}
 use Rattle.ppd_model.proofs.CountedOn.{kept_at}
-use Rattle.ppd_model.proofs.Lists.{at_below}
 use Rattle.ppd_model.proofs.Tested.{In, here as first_in, there as later_in}
 use Rattle.ppd_search.specs.declared.walked.Walked.{Walked}
 use Rattle.ppd_search.specs.declared.walked.Walked.TheVariants.{Stopped, Passed, Found}
@@ -19,6 +18,7 @@ use Rattle.ppd_shared_edges.proofs.Spans.Tiles.{Stands, Tiles, ends, event, insi
 use Rattle.ppd_shared_edges.proofs.Back.Walks.{items_are, map_at, place_is, taken}
 use Rattle.ppd_shared_edges.proofs.Near.Tree.{HasTree}
 use Rattle.ppd_shared_edges.proofs.Sources.Members.{in_cases, in_either, no_member}
+use Rattle.ppd_ast.proofs.ValidLaws.{slice_get_there}
 
 -- ---- lists
 
@@ -26,11 +26,11 @@ pub not_in_list : (m : ℕ) (xs : List ℕ) → (In m xs → ⊥) → IsNotIn m 
 not_in_list m [] out = tt
 not_in_list m (x ∷ xs) out = ((λ e. out (subst (λ z. In z (x ∷ xs)) e first_in)), not_in_list m xs (λ i. out (later_in i)))
 
-out_of_list : (m : ℕ) (xs : List ℕ) → IsNotIn m xs → In m xs → ⊥
+pub out_of_list : (m : ℕ) (xs : List ℕ) → IsNotIn m xs → In m xs → ⊥
 out_of_list m [] out i = no_member i
 out_of_list m (x ∷ xs) out i = elim (in_cases m x xs i) [ inl e ↦ out.0 (sym e) | inr j ↦ out_of_list m xs out.1 j ]
 
-distinct_both : (xs ys : List ℕ) → AreDistinct xs → AreDistinct ys → ((m : ℕ) → In m xs → In m ys → ⊥) → AreDistinct (xs ++ ys)
+pub distinct_both : (xs ys : List ℕ) → AreDistinct xs → AreDistinct ys → ((m : ℕ) → In m xs → In m ys → ⊥) → AreDistinct (xs ++ ys)
 distinct_both [] ys h h' apart = h'
 distinct_both (x ∷ xs) ys h h' apart = (
   not_in_list x (xs ++ ys) (λ i. elim (in_either x xs ys i) [ inl a ↦ out_of_list x xs h.0 a | inr b ↦ apart x first_in b ]),
@@ -143,7 +143,7 @@ module _ (x : Split) (h : HasTree x) where
       over k a lo i [] hi before here right place (ends e) le u = subst (λ z. AreUnder k z (over_replays inner touched c k before)) (let z : a ≡ a + 0 = omega arith in z) u
       over k a lo i (own n ∷ ps) hi before here right place (event e t) le u =
           let up : lo + 1 ≤ hi = rises F x.spans k (lo + 1) ps hi t in
-          let there = at_below events n (omega (arith, e, up, le)) in
+          let there = slice_get_there events n (omega (arith, e, up, le)) in
           subst (λ l. AreUnder k (a + suc (length ps)) (over_replays inner touched c k (backwards a (l ++ items_in ps) before))) (sym (ap item_of_event there.1))
           (subst (λ z. AreUnder k z (over_replays inner touched c k (backwards (a + 1) (items_in ps) ((a, item.Own there.0.event) ∷ before)))) (let z : a + 1 + length ps ≡ a + suc (length ps) = omega arith in z)
           (over k (a + 1) (lo + 1) i ps hi ((a, item.Own there.0.event) ∷ before) here right (λ j q f. ap (λ z. slice_get i.parts z) (let z : a + 1 + j ≡ a + suc j = omega arith in z) ∙ place (suc j) q f) t le

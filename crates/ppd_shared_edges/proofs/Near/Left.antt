@@ -8,6 +8,7 @@ use Rattle.std.proofs.lemmas.List.Sums.{fold-append}
 use Rattle.std.proofs.lemmas.Option.{none-some}
 use Rattle.ppd_ast.specs.declared.plan.Plan.{Plan}
 use Rattle.ppd_ast.specs.declared.program.Program.{Program}
+use Rattle.ppd_ast.proofs.ValidLaws.{slice_get_there}
 use Rattle.ppd_entry.specs.declared.entry.Entry.{Entry}
 use Rattle.ppd_entry.specs.declared.entry.Entry.TheVariants as entry
 use Rattle.ppd_sem.specs.Process.{started}
@@ -22,9 +23,8 @@ use Rattle.ppd_model.specs.RecordedSets.{sync_in}
 use Rattle.ppd_model.specs.Story.{Moment, steps_of}
 use Rattle.ppd_model.specs.Written.{AreOfSteps, IsOfSteps, IsWrittenBy}
 use Rattle.ppd_model.proofs.Changes.{change-at, some}
-use Rattle.ppd_model.proofs.Extents.{IsIn, entry_number}
-use Rattle.ppd_model.proofs.Lists.{at_below}
-use Rattle.ppd_shared_edges.proofs.LogPlaces.Extended.{Falls, is_log, still_one}
+use Rattle.ppd_model.proofs.Extents.{IsIn, entry_number, Fall}
+use Rattle.ppd_shared_edges.proofs.LogPlaces.Extended.{is_log, still_one}
 use Rattle.ppd_shared_edges.proofs.LogPlaces.Innermost.{not_in}
 use Rattle.ppd_shared_edges.proofs.Spans.Facts.{LeavesAt, Logged, at, count_to, syncs}
 use Rattle.ppd_shared_edges.proofs.Near.Timed.{before_postlog, edge_at, edge_is, in_middle, size_both}
@@ -54,8 +54,8 @@ record IsLeft (entries : List Entry) (m place : ℕ) : Type 0 where
 left_at : (entries : List Entry) (events : List TracedEvent) (m mid : ℕ) (l : LeavesAt entries events m mid) → IsLeft entries m (length l.before)
 left_at entries events m mid l =
     let y : Extending = at l.before in
-    let falls : Falls (length y.extents) (m ∷ l.rest) = subst (λ ks. Falls (length y.extents) ks) l.runs (is_log l.before).falls in
-    let there = at_below y.extents m falls.0 in
+    let falls : Fall (length y.extents) (m ∷ l.rest) = subst (λ ks. Fall (length y.extents) ks) l.runs (is_log l.before).falls in
+    let there = slice_get_there y.extents m falls.0 in
     let number : y.entry ≡ length l.before = entry_number l.before in
     let low : there.0.prelog < y.entry = (is_log l.before).prelogs m there.0 there.1 in
     let left : Extending = extend y (entry.Postlog l.block l.values) in

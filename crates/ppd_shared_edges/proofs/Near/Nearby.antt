@@ -8,13 +8,14 @@ use Rattle.std.proofs.lemmas.Option.{none-some}
 use Rattle.ppd_ast.specs.Valid.{IsValid}
 use Rattle.ppd_ast.specs.declared.plan.Plan.{Plan}
 use Rattle.ppd_ast.specs.declared.program.Program.{Program}
+use Rattle.ppd_ast.proofs.ValidLaws.{slice_get_there, slice_get_below}
+use Rattle.ppd_ast.specs.Counting.{one_if}
 use Rattle.ppd_model.specs.declared.trace.TracedEvent.{TracedEvent}
 use Rattle.ppd_model.specs.FlowbackEdges.{part_at, part_in}
 use Rattle.ppd_model.specs.Intervals.{own, Span, Split, splits}
 use Rattle.ppd_model.specs.Logs.{closed_log, log_of}
 use Rattle.ppd_model.specs.NearIntervals.{edge_of_event, is_in, round_of, surroundings, through_step}
 use Rattle.ppd_model.specs.Story.{Moment, own_moments, story, told}
-use Rattle.ppd_model.proofs.Lists.{at_below, below_at}
 use Rattle.ppd_model.proofs.Tested.{In, here as first_in, there as later_in}
 use Rattle.ppd_search.specs.Seen.{seen_of}
 use Rattle.ppd_search.specs.Walk.{walk_replays}
@@ -24,7 +25,7 @@ use Rattle.ppd_shared_edges.proofs.LogPlaces.EdgeEnds.{place_of_event}
 use Rattle.ppd_shared_edges.proofs.LogPlaces.EdgePlaces.{count_one}
 use Rattle.ppd_shared_edges.proofs.Near.Left.{IsLeftBy, left_by_step, open_at}
 use Rattle.ppd_shared_edges.proofs.Near.Touched.{ArePlain, IsTouched, all_walked}
-use Rattle.ppd_shared_edges.proofs.Spans.Facts.{Logged, count_to, one_if}
+use Rattle.ppd_shared_edges.proofs.Spans.Facts.{Logged, count_to}
 use Rattle.ppd_shared_edges.proofs.Spans.Told.{IsTold}
 use Rattle.ppd_shared_edges.proofs.Sources.Members.{no_member}
 use Rattle.ppd_shared_edges.proofs.StepEvents.Processes.{closed_told}
@@ -68,7 +69,7 @@ plain_count events lo (suc hi) le end' q = elim (cases_eq lo (suc hi)) [
   | inl same ↦ ap (count_to events) same
   | inr other ↦
       let rest : count_to events lo ≡ count_to events hi = plain_count events lo hi (omega (arith, le, other)) (omega (arith, end')) (λ n ge lt. q n ge (omega (arith, lt))) in
-      let e = at_below events hi (omega (arith, end')) in
+      let e = slice_get_there events hi (omega (arith, end')) in
       let plain : one_if (is_some e.0.event.number) ≡ 0 = ap one_if (sym (ap synchronizes e.1) ∙ q hi (omega (arith, le, other)) (omega arith)) in
       let one : count_to events (hi + 1) ≡ count_to events hi + one_if (is_some e.0.event.number) = count_one events hi e.0 e.1 in
       let z : hi + 1 ≡ suc hi = omega arith in
@@ -102,7 +103,7 @@ module _ (program : Program) (plan : Plan) (budget : ℕ) (h : List ℕ) (v : Is
   near_walk k j n c e place at m i = by (slice_get x.spans k) refl place
     where
       lt : n < length x.trace.events
-      lt = below_at x.trace.events n e at
+      lt = slice_get_below x.trace.events n e at
 
       told_by : IsTold (closed_log (log_of program plan budget p (own_moments (told program plan budget h) p))) x.trace.events x.spans x.running
       told_by = (closed_told program plan budget h v p x there).2

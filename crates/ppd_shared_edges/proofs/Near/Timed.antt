@@ -7,6 +7,7 @@ use Rattle.std.proofs.lemmas.List.Sums.{fold-append}
 use Rattle.ppd_ast.specs.declared.plan.Plan.{Plan}
 use Rattle.ppd_ast.specs.declared.program.Program.{Program}
 use Rattle.ppd_ast.specs.declared.status.Status.{Status}
+use Rattle.ppd_ast.specs.Counting.{one_if}
 use Rattle.ppd_entry.specs.declared.entry.Entry.{Entry}
 use Rattle.ppd_entry.specs.declared.entry.Entry.TheVariants as entry
 use Rattle.ppd_sem.specs.declared.proc.Need.{Need}
@@ -23,7 +24,7 @@ use Rattle.ppd_model.specs.RecordedSets.{sync_in}
 use Rattle.ppd_model.specs.Story.{Moment, steps_of, unit_started}
 use Rattle.ppd_model.specs.Synchronizations.{Sync, kind_of_sync, numbered, sync_of}
 use Rattle.ppd_model.proofs.CountedOn.{kept_at, last_at}
-use Rattle.ppd_shared_edges.proofs.Spans.Facts.{one_if, syncs}
+use Rattle.ppd_shared_edges.proofs.Spans.Facts.{syncs}
 
 -- ---- the edges of steps
 

@@ -7,7 +7,6 @@ use Rattle.ppd_model.specs.declared.flow.Item.{Item}
 use Rattle.ppd_model.specs.declared.flow.Item.TheVariants as item
 use Rattle.ppd_model.specs.declared.trace.TracedEvent.{TracedEvent}
 use Rattle.ppd_model.specs.Intervals.{Part, own, nested, Span, Split, is_closed, item_of, item_of_event, item_of_span}
-use Rattle.ppd_model.proofs.Lists.{at_below}
 use Rattle.ppd_model.proofs.Tested.{In, here as first_in, there as later_in}
 use Rattle.ppd_search.specs.declared.walked.Walked.{Walked}
 use Rattle.ppd_search.specs.declared.walked.Walked.TheVariants.{Stopped, Passed, Found}
@@ -15,8 +14,10 @@ use Rattle.ppd_search.specs.Seen.{Seen, items_at, place_of, seen_of}
 use Rattle.ppd_search.specs.Walk.{back, back_from, back_over, back_replays, backwards, found_or, if_passed, inside as inside_of, inside_replays, out_replays, over_event, over_replays, value_to, walk_replays}
 use Rattle.ppd_shared_edges.specs.Events.{IsWalk, synchronizes}
 use Rattle.ppd_shared_edges.proofs.Spans.Tiles.{Stands, Tiles, ends, event, inside, outermost, within, rises}
-use Rattle.ppd_shared_edges.proofs.Back.Walks.{here, items_are, length-mapped, map_at, place_is, right_inside, taken, whole}
+use Rattle.ppd_shared_edges.proofs.Back.Walks.{here, items_are, map_at, place_is, right_inside, taken, whole}
 use Rattle.ppd_shared_edges.proofs.Sources.Members.{in_cases, in_either, no_member}
+use Rattle.ppd_ast.proofs.ValidLaws.{slice_get_there}
+use Rattle.ppd_graph.proofs.Leads.{length_mapped}
 
 -- none of the events from number lo up to number hi is a synchronization
 abbrev pub ArePlain : List TracedEvent → ℕ → ℕ → Type 0
@@ -88,7 +89,7 @@ module _ (x : Split) (c : ℕ) (F : ℕ → ℕ → ℕ → Type 0) where
     over k a lo [] hi before right (ends e) le h = subst (λ n. AreTouched x F n (over_replays inner touched c k before)) e h
     over k a lo (own n ∷ ps) hi before right (event e t) le h =
         let up : lo + 1 ≤ hi = rises F x.spans k (lo + 1) ps hi t in
-        let there = at_below events n (omega (arith, e, up, le)) in
+        let there = slice_get_there events n (omega (arith, e, up, le)) in
         let at_lo : slice_get events lo ≡ Some there.0 = ap (λ z. slice_get events z) (sym e) ∙ there.1 in
         subst (λ l. AreTouched x F hi (over_replays inner touched c k (backwards a (l ++ items_in ps) before))) (sym (ap item_of_event there.1))
         (over k (a + 1) (lo + 1) ps hi ((a, item.Own there.0.event) ∷ before) right t le (past_event k a lo there.0 (over_replays inner touched c k before) at_lo h))
@@ -120,7 +121,7 @@ module _ (x : Split) (c : ℕ) (F : ℕ → ℕ → ℕ → Type 0) where
 
   all_inside : (k : ℕ) → AreInside (inside_of seen c) (inside_replays seen c) k
   all_inside k m lo mid i lt at closed f t le =
-      let long : length seen.items ≡ length x.spans = length-mapped _ x.spans in
+      let long : length seen.items ≡ length x.spans = length_mapped _ x.spans in
       (right_inside x c F k m lo mid i lt at t le, all_whole (length seen.items) m lo mid i at closed f (omega (arith, long)) t le)
 
   all_here : (k first : ℕ) (ps qs : List Part) (n : ℕ) (i : Span) → slice_get x.spans k ≡ Some i → i.parts ≡ ps ++ qs → Tiles F x.spans k first ps n → n ≤ length events

@@ -5,6 +5,7 @@ use Rattle.std.proofs.lemmas.Bool.{cases_eq}
 use Rattle.std.proofs.lemmas.Option.{none-some}
 use Rattle.ppd_ast.specs.declared.plan.Plan.{Plan}
 use Rattle.ppd_ast.specs.declared.program.Program.{Program}
+use Rattle.ppd_ast.proofs.ValidLaws.{slice_get_below}
 use Rattle.ppd_sem.specs.Described.{frame_of, is_event}
 use Rattle.ppd_sem.specs.Process.{started}
 use Rattle.ppd_sem.specs.declared.proc.Need.{Need}
@@ -17,8 +18,7 @@ use Rattle.ppd_model.specs.Intervals.{Part, own, nested, Span, Split, begin_if, 
 use Rattle.ppd_model.specs.Marks.{Mark, closed, opened}
 use Rattle.ppd_model.specs.World.{change}
 use Rattle.ppd_model.proofs.Changes.{change-at, change-else, length-change, some}
-use Rattle.ppd_model.proofs.CountedOn.{kept_at, last_at}
-use Rattle.ppd_model.proofs.Lists.{below_at}
+use Rattle.ppd_model.proofs.CountedOn.{kept_at, last_at, cases_at}
 
 -- each of these is there, and those after it are round it
 abbrev pub AreRound : List Span → List ℕ → Type 0
@@ -94,12 +94,6 @@ module _ (f : Span → Span) (rounds : (i : Span) → (f i).round ≡ i.round) w
 
 -- ---- an interval that begins
 
-last_cases : {A : Type 0} (xs : List A) (y : A) (k : ℕ) (j : A) → slice_get (xs ++ y ∷ []) k ≡ Some j → (slice_get xs k ≡ Some j) ⊎ ((k ≡ length xs) × (y ≡ j))
-last_cases [] y zero j e = inr (refl, some e)
-last_cases [] y (suc k) j e = absurd (none-some j e)
-last_cases (x ∷ xs) y zero j e = inl e
-last_cases (x ∷ xs) y (suc k) j e = elim (last_cases xs y k j e) [ inl a ↦ inl a | inr b ↦ inr (ap (λ n. suc n) b.0, b.1) ]
-
 abbrev number_of : Part → ℕ
 number_of (own m) = 0
 number_of (nested m) = m
@@ -128,21 +122,21 @@ module _ (spans : List Span) (m : ℕ) (rest : List ℕ) (new : Span) (round : n
   head_round i e = ap (λ (z : Span). z.round) (some (sym e ∙ h.chain.1)) ∙ h.chain.2
 
   not_new : (k j l : ℕ) (i : Span) → slice_get spans k ≡ Some i → slice_get i.parts j ≡ Some (nested l) → l ≡ length spans → ⊥
-  not_new k j l i e g same = let p = h.parent k j l i e g in let lt : l < length spans = below_at spans l p.span p.is_there in omega (arith, lt, same)
+  not_new k j l i e g same = let p = h.parent k j l i e g in let lt : l < length spans = slice_get_below spans l p.span p.is_there in omega (arith, lt, same)
 
   parent_new : (k j l : ℕ) (i : Span) → slice_get (change (with_part (nested (length spans))) m spans ++ new ∷ []) k ≡ Some i → slice_get i.parts j ≡ Some (nested l) → IsParent (change (with_part (nested (length spans))) m spans ++ new ∷ []) k l i.round
-  parent_new k j l i e g = elim (last_cases (change f m spans) new k i e) [
+  parent_new k j l i e g = elim (cases_at (change f m spans) new k i e) [
     | inr is ↦ absurd (no_part j l (ap (λ (z : Span). slice_get z.parts j) is.1 ∙ g))
     | inl e' ↦
         let c = changed f m spans k i e' in
         elim c.2 [
           | inr old ↦ subst (λ (z : Span). IsParent after k l z.round) (sym old) (parent_on spans after keeps k l c.0.round (h.parent k j l c.0 c.1 (ap (λ (z : Span). slice_get z.parts j) (sym old) ∙ g)))
           | inl is ↦ subst (λ (z : Span). IsParent after k l z.round) (sym is.1)
-              (elim (last_cases c.0.parts (nested (length spans)) j (nested l) (ap (λ (z : Span). slice_get z.parts j) (sym is.1) ∙ g)) [
+              (elim (cases_at c.0.parts (nested (length spans)) j (nested l) (ap (λ (z : Span). slice_get z.parts j) (sym is.1) ∙ g)) [
                 | inl old ↦ parent_on spans after keeps k l c.0.round (h.parent k j l c.0 c.1 old)
                 | inr last ↦
                     let number : length spans ≡ l = ap number_of last.1 in
-                    let lt : k < length spans = below_at spans k c.0 c.1 in
+                    let lt : k < length spans = slice_get_below spans k c.0 c.1 in
                     record {
                       span = new;
                       is_there = subst (λ z. slice_get after z ≡ Some new) number at_new;
@@ -154,18 +148,18 @@ module _ (spans : List Span) (m : ℕ) (rest : List ℕ) (new : Span) (round : n
   ]
 
   once_new : (k j j' l : ℕ) (i : Span) → slice_get (change (with_part (nested (length spans))) m spans ++ new ∷ []) k ≡ Some i → slice_get i.parts j ≡ Some (nested l) → slice_get i.parts j' ≡ Some (nested l) → j ≡ j'
-  once_new k j j' l i e g g' = elim (last_cases (change f m spans) new k i e) [
+  once_new k j j' l i e g g' = elim (cases_at (change f m spans) new k i e) [
     | inr is ↦ absurd (no_part j l (ap (λ (z : Span). slice_get z.parts j) is.1 ∙ g))
     | inl e' ↦
         let c = changed f m spans k i e' in
         elim c.2 [
           | inr old ↦ h.once k j j' l c.0 c.1 (ap (λ (z : Span). slice_get z.parts j) (sym old) ∙ g) (ap (λ (z : Span). slice_get z.parts j') (sym old) ∙ g')
-          | inl is ↦ elim (last_cases c.0.parts (nested (length spans)) j (nested l) (ap (λ (z : Span). slice_get z.parts j) (sym is.1) ∙ g)) [
-            | inl a ↦ elim (last_cases c.0.parts (nested (length spans)) j' (nested l) (ap (λ (z : Span). slice_get z.parts j') (sym is.1) ∙ g')) [
+          | inl is ↦ elim (cases_at c.0.parts (nested (length spans)) j (nested l) (ap (λ (z : Span). slice_get z.parts j) (sym is.1) ∙ g)) [
+            | inl a ↦ elim (cases_at c.0.parts (nested (length spans)) j' (nested l) (ap (λ (z : Span). slice_get z.parts j') (sym is.1) ∙ g')) [
               | inl b ↦ h.once k j j' l c.0 c.1 a b
               | inr b ↦ absurd (not_new k j l c.0 c.1 a (sym (ap number_of b.1)))
             ]
-            | inr a ↦ elim (last_cases c.0.parts (nested (length spans)) j' (nested l) (ap (λ (z : Span). slice_get z.parts j') (sym is.1) ∙ g')) [
+            | inr a ↦ elim (cases_at c.0.parts (nested (length spans)) j' (nested l) (ap (λ (z : Span). slice_get z.parts j') (sym is.1) ∙ g')) [
               | inl b ↦ absurd (not_new k j' l c.0 c.1 b (sym (ap number_of a.1)))
               | inr b ↦ a.0 ∙ sym b.0
             ]
@@ -184,11 +178,11 @@ module _ (spans : List Span) (new : Span) (round : new.round ≡ []) (parts : ne
   first_tree : IsTree (spans ++ new ∷ []) (length spans ∷ [])
   first_tree = record {
     chain = (new, last_at spans new, round, tt);
-    parent = λ k j l i e g. elim (last_cases spans new k i e) [
+    parent = λ k j l i e g. elim (cases_at spans new k i e) [
       | inr is ↦ absurd (none-some (nested l) (sym (ap (λ ps. slice_get ps j) parts) ∙ ap (λ (z : Span). slice_get z.parts j) is.1 ∙ g))
       | inl old ↦ parent_on spans (spans ++ new ∷ []) keeps_more k l i.round (h.parent k j l i old g)
     ];
-    once = λ k j j' l i e g g'. elim (last_cases spans new k i e) [
+    once = λ k j j' l i e g g'. elim (cases_at spans new k i e) [
       | inr is ↦ absurd (none-some (nested l) (sym (ap (λ ps. slice_get ps j) parts) ∙ ap (λ (z : Span). slice_get z.parts j) is.1 ∙ g))
       | inl old ↦ h.once k j j' l i old g g'
     ];
@@ -233,7 +227,7 @@ own_tree : (need : Need) (x : Split) → HasTree x → HasTree (with_own need x)
 own_tree need x h = by (is_event need)
   where
     no_interval : (i : Span) (j m : ℕ) → slice_get (i.parts ++ own (length x.trace.events) ∷ []) j ≡ Some (nested m) → slice_get i.parts j ≡ Some (nested m)
-    no_interval i j m e = elim (last_cases i.parts (own (length x.trace.events)) j (nested m) e) [
+    no_interval i j m e = elim (cases_at i.parts (own (length x.trace.events)) j (nested m) e) [
       | inl old ↦ old
       | inr last ↦ absurd (true≢false (sym (ap is_nested last.1)))
     ]

@@ -5,11 +5,12 @@ use Rattle.std.specs.List.{cons_option}
 use Rattle.std.proofs.lemmas.Option.{none-some}
 use Rattle.ppd_sem.specs.Described.{is_event}
 use Rattle.ppd_ast.specs.declared.program.Program.{Program}
+use Rattle.ppd_ast.specs.Counting.{one_if}
 use Rattle.ppd_model.specs.declared.trace.EventId.{EventId}
 use Rattle.ppd_model.specs.declared.tracing.Taken.{Taken}
 use Rattle.ppd_model.specs.Synchronizations.{Sync, event_or, leading_from, leading_in, leads_at, sync_of, syncs_of}
 use Rattle.ppd_model.proofs.Changes.{some}
-use Rattle.ppd_sound.proofs.SharedCells.Writers.{events_in, one_if}
+use Rattle.ppd_sound.proofs.SharedCells.Writers.{events_in}
 
 -- ---- synchronizations among steps
 

@@ -1,5 +1,5 @@
 -- The pair of a synchronization is where the model has it.
-use Rattle.std.proofs.Common.{◌≡◌, ℕ, zero, suc, ◌+◌, ◌<◌, true, false, List, [], ◌∷◌, ◌++◌, Option, Some, None, refl, ap, ap₂, sym, subst, ◌∙◌, arith, length, map, get_or, true≢false, inl, inr, ◌⊎◌}
+use Rattle.std.proofs.Common.{◌≡◌, ℕ, ◌+◌, ◌<◌, true, false, List, [], ◌∷◌, ◌++◌, Option, Some, None, refl, ap, ap₂, sym, subst, ◌∙◌, arith, length, get_or, true≢false, inl, inr, ◌⊎◌}
 use Rattle.std.specs.Prelude.{IsTrue, fold, is_some, slice_get}
 use Rattle.std.proofs.lemmas.Option.{none-some}
 use Rattle.ppd_ast.specs.Valid.{IsValid}
@@ -10,13 +10,14 @@ use Rattle.ppd_ast.specs.declared.program.Program.{Program}
 use Rattle.ppd_ast.specs.declared.status.SyncKind.{SyncKind}
 use Rattle.ppd_ast.specs.declared.status.SyncKind.TheVariants as sync_kind
 use Rattle.ppd_ast.specs.Lookups.{kind_of}
+use Rattle.ppd_ast.proofs.ValidLaws.{slice_get_below}
 use Rattle.ppd_entry.specs.declared.entry.Logs.{Logs}
 use Rattle.ppd_entry.specs.Entries.{entries_at}
 use Rattle.ppd_graph.specs.declared.paired.Paired.{Paired}
 use Rattle.ppd_graph.specs.declared.paired.Paired.TheVariants.{Nothing, Initial, Node}
 use Rattle.ppd_graph.specs.Partners.{found, paired_by, pairs_of, partner_of, wanted}
 use Rattle.ppd_graph.specs.Times.{ArePartners, node_of, pair_at}
-use Rattle.ppd_graph.proofs.Leads.{partners_found}
+use Rattle.ppd_graph.proofs.Leads.{partners_found, row_mapped}
 use Rattle.ppd_sem.specs.declared.proc.Need.{Need}
 use Rattle.ppd_sem.specs.declared.proc.Need.TheVariants as need
 use Rattle.ppd_sem.specs.Process.{need_of, started}
@@ -41,11 +42,11 @@ use Rattle.ppd_model.specs.Story.{own_steps, story, told}
 use Rattle.ppd_model.specs.Synchronizations.{Sync, kind_of_sync, leading_from, leads_at, numbered, paired_of, sync_of, syncs_of}
 use Rattle.ppd_model.proofs.Accesses.{record_at}
 use Rattle.ppd_model.proofs.Changes.{some}
-use Rattle.ppd_model.proofs.Lists.{below_at}
 use Rattle.ppd_model.proofs.Numbered.{AreNumbered as AreNumberedModel, steps_numbered}
 use Rattle.ppd_model.proofs.Numbers.{are_counted}
 use Rattle.ppd_model.proofs.Parents.{own_from}
 use Rattle.ppd_model.proofs.RecordedSyncs.{record_syncs}
+use Rattle.ppd_model.proofs.Lists.{get_mapped}
 use Rattle.ppd_search.specs.Ends.{edge_at, end_interval, end_item}
 use Rattle.ppd_search.specs.Found.{pair_edges, sync_edges}
 use Rattle.ppd_search.specs.Seen.{seen_of}
@@ -60,26 +61,16 @@ use Rattle.ppd_shared_edges.proofs.Sources.LastOrigins.{below_moments, split_the
 use Rattle.ppd_shared_edges.proofs.PairPlaces.PairKinds.{is_take, takes, takes_is}
 use Rattle.ppd_shared_edges.proofs.StepEvents.Processes.{Facts, facts}
 use Rattle.ppd_shared_edges.proofs.StepEvents.ReadSteps.{IsStep, step_of}
-use Rattle.ppd_shared_edges.proofs.Spans.Steps.{AreNumbered, headed, new_event}
+use Rattle.ppd_shared_edges.proofs.Spans.Steps.{headed, new_event, AreNumbered}
 use Rattle.ppd_shared_edges.proofs.StepEvents.Timeline.{did, numbered_told, own_is}
 use Rattle.ppd_shared_edges.proofs.StepEvents.Writers.{HasEvent, ev_at, ev_count}
 use Rattle.ppd_shared_edges.proofs.PairPlaces.Leading.{LeadsFrom, leading_all, sync_step, sync_there}
 
 -- ---- pairs of all synchronizations
 
-mapped_at : {A B : Type 0} (f : A → B) (xs : List A) (i : ℕ) (d : B) (y : A) → slice_get xs i ≡ Some y → get_or (map f xs) i d ≡ f y
-mapped_at f [] i d y e = absurd (none-some y e)
-mapped_at f (x ∷ xs) zero d y e = ap f (some e)
-mapped_at f (x ∷ xs) (suc i) d y e = mapped_at f xs i d y e
-
-row_mapped : {A B : Type 0} (f : A → B) (rows : List (List A)) (q : ℕ) → get_or (map (map f) rows) q [] ≡ map f (get_or rows q [])
-row_mapped f [] q = refl
-row_mapped f (r ∷ rows) zero = refl
-row_mapped f (r ∷ rows) (suc q) = row_mapped f rows q
-
 pair_is : (program : Program) (syncs : List (List Sync)) (p i : ℕ) (s : Sync) → sync_at syncs (node p i) ≡ Some s → pair_at (pairs_of program syncs) (node p i) ≡ partner_of program syncs s
 pair_is program syncs p i s e =
-    ap (λ l. get_or l i Nothing) (row_mapped (partner_of program syncs) syncs p) ∙ mapped_at (partner_of program syncs) (own_syncs syncs p) i Nothing s e
+    ap (λ l. get_or l i Nothing) (row_mapped (partner_of program syncs) syncs p) ∙ get_mapped (partner_of program syncs) (own_syncs syncs p) i Nothing s e
 
 to_node : (pair : Paired) (a : NodeId) → node_of pair ≡ Some a → pair ≡ Node a
 to_node (Node b) a e = ap (λ z. Node z) (some e)
@@ -258,7 +249,7 @@ pairs_found program plan budget h v p k j x number e there placed event_is =
     let f : Facts program plan budget h v p x = facts program plan budget h v p x there in
     let steps : List Taken = did (told program plan budget h) p in
     let told_story : Story = story program plan budget h in
-    let lt : number < length x.trace.events = below_at x.trace.events number e event_is in
+    let lt : number < length x.trace.events = slice_get_below x.trace.events number e event_is in
     let long : length x.trace.events ≡ events_in steps = ap length f.events_are ∙ length_is program plan budget told_story p steps f.steps_own f.steps_numbered steps in
     let s : IsStep steps number = step_of steps number (omega (arith, lt, long)) in
     let u : Tracing = fold (trace_step program plan told_story p) (begun_tracing (started program plan p budget)) s.before in

@@ -1,5 +1,5 @@
 -- Shared reads and last values: the search finds the writer that the run had.
-use Rattle.std.proofs.Common.{◌≡◌, ◌↔◌, ℕ, zero, suc, ◌+◌, ◌<◌, ℤ, pos, Bool, true, false, List, [], ◌∷◌, ◌++◌, Some, None, Ok, refl, ap, ap₂, sym, subst, ◌∙◌, arith, length, length-append, map, get_or, true≢false, inl, inr, ◌⊎◌, eq-eqb}
+use Rattle.std.proofs.Common.{◌≡◌, ◌↔◌, ℕ, zero, suc, ◌+◌, ◌<◌, ℤ, pos, Bool, true, false, List, [], ◌∷◌, ◌++◌, Some, Ok, refl, ap, ap₂, sym, subst, ◌∙◌, arith, length, length-append, map, get_or, true≢false, inl, inr, ◌⊎◌, eq-eqb}
 use Rattle.std.specs.Prelude.{IsTrue, fold, slice_get}
 use Rattle.std.proofs.lemmas.List.{append-nil}
 use Rattle.std.proofs.lemmas.List.Sums.{fold-append}
@@ -15,7 +15,6 @@ use Rattle.ppd_model.specs.declared.tracing.Story.{Story}
 use Rattle.ppd_model.specs.declared.tracing.Taken.{Taken}
 use Rattle.ppd_model.specs.FlowbackEdges.{from_writer, last}
 use Rattle.ppd_model.specs.Forward.{edge_in}
-use Rattle.ppd_model.specs.FullTrace.{Tag}
 use Rattle.ppd_model.specs.HappenedBefore.{EdgeBefore, edge, is_edge_before}
 use Rattle.ppd_model.specs.Intervals.{Split, ref, splits, splits_from}
 use Rattle.ppd_model.specs.Laws.{IsAtStart, IsUnwritten, begins}
@@ -33,6 +32,7 @@ use Rattle.ppd_model.proofs.RecordedSyncs.{record_syncs}
 use Rattle.ppd_model.proofs.SharedReads.{last_greatest, steps_access, writes_step}
 use Rattle.ppd_model.proofs.Tags.{tags}
 use Rattle.ppd_model.proofs.Tested.{In, tests_edges}
+use Rattle.ppd_model.proofs.LocalDeeds.{no_tag}
 use Rattle.ppd_search.specs.Shared.{found_last, greatest, greatest_writing, is_before_in, writing, written_in, written_or_start}
 use Rattle.ppd_sound.proofs.SharedCells.Writers.{count_is, events_in}
 use Rattle.ppd_shared_edges.specs.SharedEdges.{LastWritesAreFound, all_seen}
@@ -43,9 +43,6 @@ use Rattle.ppd_shared_edges.proofs.StepEvents.Processes.{Facts, facts}
 use Rattle.ppd_shared_edges.proofs.StepEvents.Timeline.{NoWrites, did, next, own_is}
 use Rattle.ppd_shared_edges.proofs.StepEvents.Writers.{IsWrite, as_write, edge_is_count, first_sync, syncs_both}
 use Rattle.ppd_shared_edges.proofs.Sources.Writing.{writing_all, writing_only}
-
-abbrev no_tag : Tag
-no_tag = None
 
 -- ---- lists
 

@@ -6,6 +6,8 @@ use Rattle.std.proofs.lemmas.List.Sums.{fold-append}
 use Rattle.ppd_ast.specs.Valid.{IsValid}
 use Rattle.ppd_ast.specs.declared.plan.Plan.{Plan}
 use Rattle.ppd_ast.specs.declared.program.Program.{Program}
+use Rattle.ppd_ast.proofs.ValidLaws.{slice_get_there, slice_get_below}
+use Rattle.ppd_ast.specs.Counting.{one_if}
 use Rattle.ppd_entry.specs.declared.entry.Logs.{Logs}
 use Rattle.ppd_entry.specs.Entries.{entries_at}
 use Rattle.ppd_sem.specs.declared.proc.Need.{Need}
@@ -29,7 +31,6 @@ use Rattle.ppd_model.specs.Story.{Telling, next_event, own_moments, story, tell,
 use Rattle.ppd_model.specs.Synchronizations.{kind_of_sync, numbered, syncs_of}
 use Rattle.ppd_model.specs.World.{World, writes_cell}
 use Rattle.ppd_model.proofs.AccessSets.{accesses_there}
-use Rattle.ppd_model.proofs.Lists.{at_below, below_at}
 use Rattle.ppd_model.proofs.SharedReads.{shared_found, steps_access}
 use Rattle.ppd_search.specs.declared.walked.Walked.{Walked}
 use Rattle.ppd_search.specs.Seen.{seen_of}
@@ -41,7 +42,7 @@ use Rattle.ppd_shared_edges.specs.Events.{AreQuiet, IsLastWriter, synchronizes, 
 use Rattle.ppd_shared_edges.specs.SharedEdges.{SharedOriginsAreFound, all_seen}
 use Rattle.ppd_shared_edges.proofs.LogPlaces.EdgeEnds.{IsAt, at_place}
 use Rattle.ppd_shared_edges.proofs.LogPlaces.EdgePlaces.{count_one}
-use Rattle.ppd_shared_edges.proofs.Spans.Facts.{count_to, one_if}
+use Rattle.ppd_shared_edges.proofs.Spans.Facts.{count_to}
 use Rattle.ppd_shared_edges.proofs.Sources.Greatest.{greatest_is}
 use Rattle.ppd_shared_edges.proofs.Sources.InEdges.{in_ended, ref_of}
 use Rattle.ppd_shared_edges.proofs.Sources.Members.{filter_in, filter_none, in_filter}
@@ -124,7 +125,7 @@ module _ (program : Program) (plan : Plan) (budget : ℕ) (h : List ℕ) (w : Wo
         plain_to : (a b : ℕ) → synchronizes (slice_get x.trace.events a) ≡ false → AreQuiet x.trace.events c (a + 1) b → a < b → b ≤ length x.trace.events → count_to x.trace.events a ≡ count_to x.trace.events b
         plain_to a b plain q less le =
             let rest' : count_to x.trace.events (a + 1) ≡ count_to x.trace.events b = same_count x.trace.events c (a + 1) b (omega (arith, less)) le q in
-            let y = at_below x.trace.events a (omega (arith, less, le)) in
+            let y = slice_get_there x.trace.events a (omega (arith, less, le)) in
             let one : count_to x.trace.events (a + 1) ≡ count_to x.trace.events a + one_if (is_some y.0.event.number) = count_one x.trace.events a y.0 y.1 in
             let zero' : one_if (is_some y.0.event.number) ≡ 0 = ap one_if (sym (ap synchronizes y.1) ∙ plain) in
             let z : count_to x.trace.events a ≡ count_to x.trace.events (a + 1) = omega (arith, one, zero') in
@@ -241,5 +242,5 @@ shared_origins program plan budget h w v r free p k j c tag s =
     let lt : c < length program.starts = accesses_there program plan budget (a.sooner ++ p ∷ a.later) p m.0 (record { edge = edge_in program plan budget a.sooner p; cell = c; writes = false }) v m.1 in
     let found : IsFound program plan budget a.sooner (a.sooner ++ p ∷ a.later) p c =
     shared_found program plan budget a.sooner p a.later w (subst (λ l. run program plan budget l ≡ Some w) a.schedule_is r) (subst (λ l. races program plan budget l ≡ []) a.schedule_is free) c lt a.needs in
-    by_found program plan budget h w v r free p k j c s.number s.split f s.placed (below_at s.split.trace.events s.number s.event s.event_is) a.sooner a.later a.schedule_is a.needs a.events_are tag a.tag_is
+    by_found program plan budget h w v r free p k j c s.number s.split f s.placed (slice_get_below s.split.trace.events s.number s.event s.event_is) a.sooner a.later a.schedule_is a.needs a.events_are tag a.tag_is
     (subst (λ l. IsFound program plan budget a.sooner l p c) (sym a.schedule_is) found)

@@ -8,6 +8,7 @@ use Rattle.ppd_ast.specs.Valid.{IsValid}
 use Rattle.ppd_ast.specs.declared.plan.Plan.{Plan}
 use Rattle.ppd_ast.specs.declared.program.Program.{Program}
 use Rattle.ppd_ast.specs.Members.{has}
+use Rattle.ppd_ast.proofs.ValidLaws.{slice_get_below}
 use Rattle.ppd_graph.specs.declared.sets.EdgeSets.{EdgeSets}
 use Rattle.ppd_graph.specs.LogRecord.{sets_from, edge_sets_in}
 use Rattle.ppd_graph.proofs.ClosedSets.{row_sets, run_sets}
@@ -21,9 +22,10 @@ use Rattle.ppd_model.specs.SharedReads.{WritesIn}
 use Rattle.ppd_model.specs.Story.{story}
 use Rattle.ppd_model.proofs.AccessSets.{cells_are}
 use Rattle.ppd_model.proofs.Changes.{some}
-use Rattle.ppd_model.proofs.Lists.{below_at}
 use Rattle.ppd_model.proofs.Tested.{In, here, there, in_left, in_right}
+use Rattle.ppd_model.proofs.RaceFree.{any_at}
 use Rattle.ppd_shared_edges.proofs.Sources.Members.{in_cases, in_either, no_member}
+use Rattle.ppd_shared_edges.proofs.Near.Cheap.{or_right}
 use Rattle.ppd_search.specs.Shared.{writing, writing_from, writing_in}
 
 -- ---- membership
@@ -112,15 +114,6 @@ any_found t (x ∷ xs) e = by (t x) refl e (any_found t xs)
     by true f g rest = (0, x, refl, f)
     by false f g rest = let r = rest g in (suc r.0, r.1, r.2, r.3)
 
-either : (b c : Bool) → c ≡ true → (b || c) ≡ true
-either true c e = refl
-either false c e = e
-
-any_there : {A : Type 0} (t : A → Bool) (xs : List A) (m : ℕ) (a : A) → slice_get xs m ≡ Some a → t a ≡ true → list_any t xs ≡ true
-any_there t [] m a e f = absurd (none-some a e)
-any_there t (x ∷ xs) zero a e f = ap (λ b. b || list_any t xs) (ap t (some e) ∙ f)
-any_there t (x ∷ xs) (suc m) a e f = either (t x) (list_any t xs) (any_there t xs m a e f)
-
 -- a list of the first n and one more
 through_at : {A : Type 0} (f : ℕ → A) (n i : ℕ) → i ≤ n → slice_get (map f (range_with_len 0 n) ++ f n ∷ []) i ≡ Some (f i)
 through_at f n i le = by 0 n (omega arith) i le ∙ ap (λ k. Some (f k)) (let z : 0 + i ≡ i = omega arith in z)
@@ -133,7 +126,7 @@ through_at f n i le = by 0 n (omega arith) i le ∙ ap (λ k. Some (f k)) (let z
 
 through_only : {A : Type 0} (f : ℕ → A) (n i : ℕ) (y : A) → slice_get (map f (range_with_len 0 n) ++ f n ∷ []) i ≡ Some y → y ≡ f i
 through_only f n i y e = elim (cases_lt n i) [
-  | inl over ↦ absurd (let lt : i < length (map f (range_with_len 0 n) ++ f n ∷ []) = below_at (map f (range_with_len 0 n) ++ f n ∷ []) i y e in let long : length (map f (range_with_len 0 n) ++ f n ∷ []) ≡ n + 1 = length-append (map f (range_with_len 0 n)) (f n ∷ []) ∙ ap (λ k. k + 1) (count 0 n) in omega (arith, lt, long, over))
+  | inl over ↦ absurd (let lt : i < length (map f (range_with_len 0 n) ++ f n ∷ []) = slice_get_below (map f (range_with_len 0 n) ++ f n ∷ []) i y e in let long : length (map f (range_with_len 0 n) ++ f n ∷ []) ≡ n + 1 = length-append (map f (range_with_len 0 n)) (f n ∷ []) ∙ ap (λ k. k + 1) (count 0 n) in omega (arith, lt, long, over))
   | inr within ↦ some (sym e ∙ through_at f n i within)
 ]
   where
@@ -171,7 +164,7 @@ module _ (program : Program) (plan : Plan) (budget : ℕ) (h : List ℕ) (valid 
   writing_all c q i w lt le =
       let there' : slice_get (get_or (edge_sets_in (closed_logs program plan budget h)) q []) i ≡ Some (run_sets (story program plan budget h) q i) = ap (λ l. slice_get l i) (row_sets program plan budget h valid q lt) ∙ through_at (run_sets (story program plan budget h) q) (last_edge (story program plan budget h) q) i le in
       let access : has_access (story program plan budget h) q i c true ≡ true =
-      any_there (λ (b : SharedAccess). nat_eq b.edge i && nat_eq b.cell c && writes_or_not b true) (accesses (story program plan budget h) q) w.number w.access w.there
+      any_at (λ (b : SharedAccess). nat_eq b.edge i && nat_eq b.cell c && writes_or_not b true) (accesses (story program plan budget h) q) w.number w.access w.there
       (ap₂ (λ x y. x && y) (ap₂ (λ x y. x && y) (eq-eqb w.access.edge i w.edge_is) (eq-eqb w.access.cell c w.cell)) w.writes) in
       let z : 0 + q ≡ q = omega arith in
       subst (λ k. In (edge k i) (writing (closed_logs program plan budget h) c)) z (rows_all c 0 (edge_sets_in (closed_logs program plan budget h)) q i (run_sets (story program plan budget h) q i) there' (has_is q i c ∙ access))

@@ -13,9 +13,6 @@ use Rattle.ppd_shared_edges.proofs.Spans.Tiles.{HaveGrown}
 
 -- ---- synchronizations
 
-abbrev pub one_if : Bool → ℕ
-one_if b = cond b 1 0
-
 -- how many of the first n events are synchronizations
 abbrev pub count_to : List TracedEvent → ℕ → ℕ
 count_to [] n = 0

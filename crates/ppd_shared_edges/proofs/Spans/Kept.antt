@@ -24,7 +24,7 @@ use Rattle.ppd_model.proofs.Items.{begin_count, begins_is, end_count, ends_is, o
 use Rattle.ppd_shared_edges.proofs.Spans.Facts.{OpensAt}
 use Rattle.ppd_shared_edges.proofs.Spans.Tiles.{none, ends as no_parts, outermost}
 use Rattle.ppd_shared_edges.proofs.Spans.Told.{IsPlaced, IsTold, outside}
-use Rattle.ppd_shared_edges.proofs.Spans.Steps.{AreNumbered, IsNumbered, at_stop, by_step}
+use Rattle.ppd_shared_edges.proofs.Spans.Steps.{IsNumbered, at_stop, by_step, AreNumbered}
 
 module _ (program : Program) (plan : Plan) (story' : Story) (p : ℕ) where
   counts : (x : Split) (t : Taken) → length (split_step program plan story' p x t).running ≡ running_after t.need (length x.running)

@@ -12,10 +12,10 @@ use Rattle.ppd_model.specs.Intervals.{nested, Span, is_closed, with_part}
 use Rattle.ppd_model.specs.World.{change}
 use Rattle.ppd_model.proofs.Changes.{length-change, some}
 use Rattle.ppd_model.proofs.CountedOn.{kept_at, last_at}
-use Rattle.ppd_model.proofs.Lists.{below_at}
 use Rattle.ppd_shared_edges.proofs.Spans.Facts.{Logged, More, OpensAt, at, opens_on, syncs, syncs_on}
 use Rattle.ppd_shared_edges.proofs.Spans.Tiles.{Covers, none, HaveGrown, Stands, Tiles, all_covered, ends, nowhere, one_interval, then_runs}
 use Rattle.ppd_shared_edges.proofs.Spans.Told.{Around, outside, last_of, IsInnermost, IsPlaced, IsTold, AreTiled, around_on, at_last, changed_at, changed_below, changed_cases, grown_by, none_more, placed_on, stands_of, syncs_last, tiles_on}
+use Rattle.ppd_ast.proofs.ValidLaws.{slice_get_below}
 
 -- ---- an interval begins
 
@@ -39,7 +39,7 @@ module _ (entries : List Entry) (events : List TracedEvent) (spans : List Span) 
   after = change (with_part (nested (length spans))) m spans ++ new ∷ []
 
   below : m < length spans
-  below = below_at spans m h.tiled.span h.tiled.there
+  below = slice_get_below spans m h.tiled.span h.tiled.there
 
   long : length changed ≡ length spans
   unfolding changed
@@ -105,7 +105,7 @@ module _ (entries : List Entry) (events : List TracedEvent) (spans : List Span) 
   unfolding number
   new_around =
       last_of (with_part (nested (length spans)) h.tiled.span) h.tiled.span.parts h.tiled.first outer_there h.tiled.runs h.tiled.round below refl
-      (nowhere (Logged entries events) spans m h.tiled.first h.tiled.span.parts (length events) (length spans) h.tiled.parts (λ i e. let lt : length spans < length spans = below_at spans (length spans) i e in omega (arith, lt)))
+      (nowhere (Logged entries events) spans m h.tiled.first h.tiled.span.parts (length events) (length spans) h.tiled.parts (λ i e. let lt : length spans < length spans = slice_get_below spans (length spans) i e in omega (arith, lt)))
       opened around tiles
 
   pub open_told : new.round ≡ m ∷ rest → new.parts ≡ [] → is_closed new ≡ false → IsTold (entries ++ entry.Prelog b values ∷ []) events (change (with_part (nested (length spans))) m spans ++ new ∷ []) (length spans ∷ m ∷ rest)

@@ -1,7 +1,7 @@
 -- After each step of a process its entries tell of its intervals and events.
 use Rattle.std.proofs.Common.{◌≡◌, ℕ, ◌<◌, ℤ, Bool, true, false, List, [], ◌∷◌, ◌++◌, Option, Some, None, refl, ap, ap₂, sym, subst, ◌∙◌, arith, length, true≢false, inl, inr, ◌⊎◌, if◌then◌else◌}
 use Rattle.std.specs.Prelude.{⊤, drop, is_some}
-use Rattle.std.proofs.lemmas.List.{append-nil, append_assoc}
+use Rattle.std.proofs.lemmas.List.{append-nil}
 use Rattle.std.proofs.lemmas.Option.{none-some}
 use Rattle.ppd_ast.specs.declared.plan.Plan.{Plan}
 use Rattle.ppd_ast.specs.declared.program.Program.{Program}
@@ -22,16 +22,15 @@ use Rattle.ppd_model.specs.declared.state.Logging.{Logging}
 use Rattle.ppd_model.specs.declared.tracing.Story.{Story}
 use Rattle.ppd_model.specs.declared.tracing.Taken.{Taken}
 use Rattle.ppd_model.specs.declared.tracing.Tracing.{Tracing}
-use Rattle.ppd_model.specs.Extents.{Extent, ended_by}
 use Rattle.ppd_model.specs.FullTrace.{Tag, event_of, me_in, top_tags, trace_by, traced_by}
 use Rattle.ppd_model.specs.Intervals.{own, nested, Span, Split, begin_if, change_first, control_by, end_if, innermost, left_by, split_step, with_marks, with_own, with_part, with_step}
 use Rattle.ppd_model.specs.Logs.{ends, entries_of, passed_value, postlogs, prelogs, status_of, syncs as sync_entries, units}
 use Rattle.ppd_model.specs.Marks.{Mark, closed, opened}
 use Rattle.ppd_model.specs.Story.{unit_started}
 use Rattle.ppd_model.specs.Synchronizations.{Sync, kind_of_sync, numbered, sync_of}
-use Rattle.ppd_model.specs.World.{change}
-use Rattle.ppd_model.proofs.Changes.{length-change}
 use Rattle.ppd_model.proofs.Items.{own_keeps, step_keeps}
+use Rattle.ppd_model.proofs.WrittenSpans.{in_order}
+use Rattle.ppd_model.proofs.Extents.{ended_length}
 use Rattle.ppd_shared_edges.proofs.Spans.Facts.{at}
 use Rattle.ppd_shared_edges.proofs.Spans.Opened.{close_told, open_told}
 use Rattle.ppd_shared_edges.proofs.Spans.Told.{IsTold}
@@ -56,10 +55,6 @@ step_told need es events x h = quiet_told es events x.spans x.running h
 units_told : (o : Option ℕ) (values : List ℤ) (es : List Entry) (events : List TracedEvent) (spans : List Span) (running : List ℕ) → IsTold es events spans running → IsTold (es ++ units o values) events spans running
 units_told None values es events spans running h = subst (λ l. IsTold l events spans running) (sym (append-nil es)) h
 units_told (Some u) values es events spans running h = entry_told es events spans running (entry.Unit u values) refl refl refl h
-
-ended_length : (j : ℕ) (ks : List ℕ) (xs : List Extent) → length (ended_by j ks xs) ≡ length xs
-ended_length j [] xs = refl
-ended_length j (k ∷ ks) xs = ended_length j ks (change (λ x. record x { last = Some j }) k xs) ∙ length-change (λ x. record x { last = Some j }) k xs
 
 pub end_told : (st : Status) (rest : ℕ) (reads writes : List ℕ) (es : List Entry) (events : List TracedEvent) (spans : List Span) (running : List ℕ) → IsTold es events spans running → IsTold (es ++ entry.End st rest reads writes ∷ []) events spans running
 end_told st rest reads writes es events spans running h =
@@ -98,11 +93,6 @@ marks_told (Some k) None l t None frame control tags es events x (inr e) lt h = 
         (open_told es events x.spans m rest k.block k.values (record { block = k.block; round = x.running; frame = frame; control = control; parts = []; steps = 0; opened = length x.edges; closed = None; values = []; left = [] }) told f refl refl)))
 marks_told (Some k) (Some j) l t sy frame control tags es events x (inr e) lt h = absurd (none-some j (sym e.0))
 marks_told (Some k) None l t (Some s) frame control tags es events x (inr e) lt h = absurd (none-some s (sym e.1))
-
-in_order : (es a b c d e : List Entry) → es ++ (a ++ b ++ c ++ d ++ e) ≡ es ++ a ++ b ++ c ++ d ++ e
-in_order es a b c d e =
-    sym (append_assoc es (a ++ b ++ c ++ d) e)
-    ∙ ap (λ z. z ++ e) (sym (append_assoc es (a ++ b ++ c) d) ∙ ap (λ z. z ++ d) (sym (append_assoc es (a ++ b) c) ∙ ap (λ z. z ++ c) (sym (append_assoc es a b))))
 
 -- a step that enters a block neither leaves one nor synchronizes
 apart : (program : Program) (plan : Plan) (s : Proc) (need : Need) (o : Option ℕ) → (opened program plan s need ≡ None) ⊎ ((closed program plan s need ≡ None) × (numbered (kind_of_sync need) o ≡ None))

@@ -8,6 +8,7 @@ use Rattle.std.proofs.lemmas.List.Sums.{fold-append}
 use Rattle.ppd_ast.specs.declared.plan.Plan.{Plan}
 use Rattle.ppd_ast.specs.declared.program.Program.{Program}
 use Rattle.ppd_ast.specs.declared.status.SyncKind.{SyncKind}
+use Rattle.ppd_ast.proofs.ValidLaws.{slice_get_below}
 use Rattle.ppd_sem.specs.Process.{need_of, started}
 use Rattle.ppd_sem.specs.Described.{is_event}
 use Rattle.ppd_model.specs.declared.trace.TracedEvent.{TracedEvent}
@@ -17,14 +18,13 @@ use Rattle.ppd_model.specs.declared.tracing.Tracing.{Tracing}
 use Rattle.ppd_model.specs.FullTrace.{begun_tracing, event_of, trace_step, tracing_of}
 use Rattle.ppd_model.specs.LocalTags.{AreOwn}
 use Rattle.ppd_model.specs.Synchronizations.{Sync, kind_of_sync, numbered, sync_of, syncs_of}
-use Rattle.ppd_model.proofs.Lists.{below_at}
 use Rattle.ppd_model.proofs.Parents.{own_from, own_to}
 use Rattle.ppd_sound.proofs.Events.{there}
 use Rattle.ppd_sound.proofs.SharedCells.Writers.{events_in}
 use Rattle.ppd_sound.proofs.SharedCells.Writing.{count_events}
 use Rattle.ppd_shared_edges.specs.Events.{AreQuiet, IsQuiet, synchronizes, written_by}
 use Rattle.ppd_shared_edges.proofs.Spans.Facts.{count_front, count_last, count_to}
-use Rattle.ppd_shared_edges.proofs.Spans.Steps.{AreNumbered, IsNumbered, events_are, headed, new_event, no_sync, told_events}
+use Rattle.ppd_shared_edges.proofs.Spans.Steps.{IsNumbered, events_are, headed, new_event, no_sync, told_events, AreNumbered}
 use Rattle.ppd_shared_edges.proofs.StepEvents.Writes.{event_writes, write_to}
 
 -- the step neither writes the cell nor is a synchronization
@@ -160,7 +160,7 @@ module _ (program : Program) (plan : Plan) (budget : ℕ) (story' : Story) (p : 
       let numbers : IsNumbered x = (numbered_from before (x ∷ after) (subst AreNumbered e w)).0 in
       let at = at_event before x after e finishes in
       record {
-        within = below_at events (events_in before) (new_event program plan story' p x u) at;
+        within = slice_get_below events (events_in before) (new_event program plan story' p x u) at;
         is_sync = ap synchronizes at ∙ new_number program plan story' p u x mine numbers finishes;
         writes = λ c. ap (written_by c) at ∙ new_writes program plan story' p u x mine numbers finishes c;
       }

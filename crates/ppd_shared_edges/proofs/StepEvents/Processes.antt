@@ -26,9 +26,10 @@ use Rattle.ppd_model.proofs.LocalTags.{own_steps_told}
 use Rattle.ppd_model.proofs.RecordedSets.{record_sets}
 use Rattle.ppd_model.proofs.States.{follow}
 use Rattle.ppd_model.proofs.WrittenSpans.{intervals_of_steps}
+use Rattle.ppd_model.proofs.Lists.{map_get}
 use Rattle.ppd_search.specs.Seen.{seen_of}
 use Rattle.ppd_search.specs.Shared.{seen_at}
-use Rattle.ppd_shared_edges.proofs.Spans.Steps.{AreNumbered, end_told}
+use Rattle.ppd_shared_edges.proofs.Spans.Steps.{end_told, AreNumbered}
 use Rattle.ppd_shared_edges.proofs.Spans.Kept.{IsKept, kept}
 use Rattle.ppd_shared_edges.proofs.StepEvents.Timeline.{did, numbered_told, own_is}
 use Rattle.ppd_shared_edges.proofs.Spans.Told.{IsTold}
@@ -37,11 +38,6 @@ got_or : {A : Type 0} (xs : List A) (i : ℕ) (d y : A) → slice_get xs i ≡ S
 got_or [] i d y e = absurd (none-some y e)
 got_or (x ∷ xs) zero d y e = some e
 got_or (x ∷ xs) (suc i) d y e = got_or xs i d y e
-
-mapped_at : {A B : Type 0} (f : A → B) (xs : List A) (i : ℕ) (y : A) → slice_get xs i ≡ Some y → slice_get (map f xs) i ≡ Some (f y)
-mapped_at f [] i y e = absurd (none-some y e)
-mapped_at f (x ∷ xs) zero y e = ap (λ z. Some (f z)) (some e)
-mapped_at f (x ∷ xs) (suc i) y e = mapped_at f xs i y e
 
 module _ (program : Program) (plan : Plan) (budget : ℕ) where
   -- the moments of a process that has intervals
@@ -119,5 +115,5 @@ module _ (program : Program) (plan : Plan) (budget : ℕ) where
               (subst (λ (y : Split). IsTold (closed_log (log_of program plan budget p ms)) y.trace.events y.spans y.running) split_is
               (closing p (log_of program plan budget p ms) (split_of program plan budget s p (steps_of ms)) k.told));
           records = record_sets program plan budget h p (entries_at (closed_logs program plan budget h) p) v (log_there ∙ ap (λ l. Some l) (sym entries_are));
-          seen_is = got_or (map (λ z. seen_of z) xs) p (record { items = []; blocks = []; rounds = [] }) (seen_of x) (mapped_at (λ z. seen_of z) xs p x e);
+          seen_is = got_or (map (λ z. seen_of z) xs) p (record { items = []; blocks = []; rounds = [] }) (seen_of x) (map_get (λ z. seen_of z) xs p x e);
         }

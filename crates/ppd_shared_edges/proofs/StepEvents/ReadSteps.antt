@@ -1,18 +1,17 @@
 -- Each shared read of an event is of a step that read the cell, with its tag then.
-use Rattle.std.proofs.Common.{◌≡◌, ℕ, zero, suc, ◌+◌, ◌<◌, Bool, true, false, List, [], ◌∷◌, ◌++◌, Option, Some, None, refl, ap, ap₂, sym, subst, ◌∙◌, arith, length, get_or, true≢false}
+use Rattle.std.proofs.Common.{◌≡◌, ℕ, zero, suc, ◌+◌, ◌<◌, Bool, true, false, List, [], ◌∷◌, ◌++◌, Some, None, refl, ap, ap₂, sym, subst, ◌∙◌, arith, length, get_or, true≢false}
 use Rattle.std.specs.Prelude.{fold, slice_get}
 use Rattle.std.proofs.lemmas.List.{append_assoc}
 use Rattle.ppd_ast.specs.Valid.{IsValid}
 use Rattle.ppd_ast.specs.declared.plan.Plan.{Plan}
 use Rattle.ppd_ast.specs.declared.program.Program.{Program}
-use Rattle.ppd_ast.specs.declared.status.Status.{Status}
+use Rattle.ppd_ast.proofs.ValidLaws.{slice_get_below}
+use Rattle.ppd_ast.specs.Counting.{one_if}
 use Rattle.ppd_sem.specs.declared.event.Access.{Access}
 use Rattle.ppd_sem.specs.declared.event.Spot.TheVariants.{Shared}
 use Rattle.ppd_sem.specs.declared.proc.Need.{Need}
 use Rattle.ppd_sem.specs.declared.proc.Need.TheVariants as n
-use Rattle.ppd_sem.specs.declared.proc.Proc.{Proc}
 use Rattle.ppd_sem.specs.Process.{need_of, started}
-use Rattle.ppd_sem.proofs.Progress.{need_at_status}
 use Rattle.ppd_sem.specs.Described.{is_event}
 use Rattle.ppd_model.specs.declared.trace.TracedEvent.{TracedEvent}
 use Rattle.ppd_model.specs.declared.tracing.Taken.{Taken}
@@ -24,9 +23,9 @@ use Rattle.ppd_model.specs.LocalTags.{AreOwn}
 use Rattle.ppd_model.specs.SharedReads.{need_after}
 use Rattle.ppd_model.specs.Story.{story, told, writer_of}
 use Rattle.ppd_model.proofs.Changes.{some}
-use Rattle.ppd_model.proofs.Lists.{below_at}
 use Rattle.ppd_model.proofs.Parents.{own_from, own_to}
-use Rattle.ppd_sound.proofs.SharedCells.Writers.{events_in, one_if}
+use Rattle.ppd_sound.proofs.SharedCells.Writers.{events_in}
+use Rattle.ppd_sound.proofs.SharedCells.SharedReads.{runs_on}
 use Rattle.ppd_shared_edges.proofs.StepEvents.Marks.{at_event, length_is}
 use Rattle.ppd_shared_edges.proofs.StepEvents.Processes.{Facts}
 use Rattle.ppd_shared_edges.proofs.StepEvents.ReadTags.{HasAnswers, ReadIs, answers_all, answers_start, read_is}
@@ -57,13 +56,6 @@ step_of (x ∷ xs) n lt = by (is_event x.need) refl n lt (step_of xs)
     by false e m lt' rest =
         let none : one_if (is_event x.need) ≡ 0 = ap one_if e in
         more m m (let z : one_if (is_event x.need) + m ≡ m = omega (arith, none) in z) (rest m (omega (arith, lt', none)))
-
-runs_on : (program : Program) (plan : Plan) (s : Proc) → is_event (need_of program plan s) ≡ true → s.status ≡ None
-runs_on program plan s e = by s.status refl
-  where
-    by : (o : Option Status) → s.status ≡ o → s.status ≡ None
-    by None f = f
-    by (Some st) f = absurd (true≢false (sym e ∙ ap is_event (need_at_status program plan s (Some st) f)))
 
 module _ (program : Program) (plan : Plan) (budget : ℕ) (h : List ℕ) (v : IsValid program) where
   -- a step of process p reads the cell, with this tag, after so many of its events
@@ -111,7 +103,7 @@ module _ (program : Program) (plan : Plan) (budget : ℕ) (h : List ℕ) (v : Is
     -- a shared read of an event
     pub reads_at : (number : ℕ) (e : TracedEvent) (i c : ℕ) (a : Access) (tag : Tag) → slice_get x.trace.events number ≡ Some e → slice_get e.event.reads i ≡ Some a → a.spot ≡ Shared c → slice_get e.writers i ≡ Some tag → ReadsAt p number c tag
     reads_at number e i c a tag there read spot writer =
-        let lt : number < length x.trace.events = below_at x.trace.events number e there in
+        let lt : number < length x.trace.events = slice_get_below x.trace.events number e there in
         let long : length x.trace.events ≡ events_in steps = ap length f.events_are ∙ length_is program plan budget (story program plan budget h) p steps f.steps_own f.steps_numbered steps in
         let s : IsStep steps number = step_of steps number (omega (arith, lt, long)) in
         let u : Tracing = after_all s.before in

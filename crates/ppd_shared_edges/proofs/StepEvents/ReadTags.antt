@@ -14,20 +14,20 @@ use Rattle.ppd_sem.specs.declared.asking.Pause.TheVariants.{Wants, Traps}
 use Rattle.ppd_sem.specs.declared.event.Access.{Access}
 use Rattle.ppd_sem.specs.declared.event.Spot.{Spot}
 use Rattle.ppd_sem.specs.declared.event.Spot.TheVariants.{Local, Shared}
-use Rattle.ppd_sem.specs.declared.proc.Answer.{Answer}
 use Rattle.ppd_sem.specs.declared.proc.Need.{Need}
 use Rattle.ppd_sem.specs.declared.proc.Need.TheVariants.{Read, Write, Enter, Offer, Done, Trap, Budget, Stopped}
 use Rattle.ppd_sem.specs.declared.proc.Proc.{Proc}
 use Rattle.ppd_sem.specs.declared.proc.Todo.{Todo}
 use Rattle.ppd_sem.specs.Asked.{Asked}
 use Rattle.ppd_sem.specs.Consumed.{Takes, WantsInTurn, shared_of, shared_with, values_read}
-use Rattle.ppd_sem.specs.Deed.{Deed, set_local, clear, invoke, back, receive, ask_deed}
+use Rattle.ppd_sem.specs.Deed.{Deed}
 use Rattle.ppd_sem.specs.Described.{evaluates, frame_of, is_event}
-use Rattle.ppd_sem.specs.Process.{act, act_at, act_by_asked, act_by_deed, act_by_need, head_deed, need_by_status, need_of, started, top_cells, value_of}
+use Rattle.ppd_sem.specs.Process.{act, act_at, act_by_asked, act_by_need, head_deed, need_by_status, need_of, started, top_cells, value_of}
 use Rattle.ppd_sem.specs.Reads.{reads_of_kind}
 use Rattle.ppd_sem.proofs.Consumed.{reads_taken}
 use Rattle.ppd_sem.proofs.Progress.{act-stopped}
 use Rattle.ppd_sound.proofs.SharedCells.Asking.{Finishes, Tells, need_tells}
+use Rattle.ppd_sound.proofs.SharedCells.Aligned.{deed_answers, evaluates_at}
 use Rattle.ppd_shared_edges.proofs.Spans.Steps.{events_are, new_event, told_events}
 
 -- ---- answers and their tags
@@ -85,10 +85,6 @@ module _ (P : ℕ → Tag → Type 0) (ev : List ℤ → Asked Deed) where
 
 -- ---- one step
 
--- what a statement asks for, by its answers
-abbrev pub evaluates_at : Program → Todo → Proc → List ℤ → Asked Deed
-evaluates_at program t s answers = ask_deed program.exprs (kind_of program t.stmt) (top_cells s.frames) answers
-
 abbrev pub TakenAt : (ℕ → Tag → Type 0) → Program → Proc → List Tag → List Todo → Type 0
 TakenAt P program s tags [] = ⊤
 TakenAt P program s tags (t ∷ ts) = AreTaken P (evaluates_at program t s) [] s.answers tags
@@ -100,14 +96,6 @@ HasAnswers P program s tags = s.status ≡ None → TakenAt P program s tags s.t
 none_taken : (P : ℕ → Tag → Type 0) (program : Program) (s : Proc) (todo : List Todo) → s.answers ≡ [] → TakenAt P program s [] todo
 none_taken P program s [] e = tt
 none_taken P program s (t ∷ ts) e = subst (λ vs. AreTaken P (evaluates_at program t s) [] vs []) (sym e) tt
-
-deed_answers : (program : Program) (a : Answer) (t : Todo) (ts : List Todo) (d : Deed) (s : Proc) → (act_by_deed program a t ts d s).answers ≡ s.answers
-deed_answers program a t ts (set_local c v) s = refl
-deed_answers program a t ts (clear base len) s = refl
-deed_answers program a t ts (invoke f values into) s = refl
-deed_answers program a t ts (back value) s = refl
-deed_answers program a t ts (receive chan into) s = refl
-deed_answers program a t ts d s = refl
 
 -- a read has such a tag
 abbrev pub ReadIs : (ℕ → Tag → Type 0) → Need → Tag → Type 0

@@ -19,7 +19,8 @@ use Rattle.ppd_model.specs.Story.{Moment, Telling, moment_of, number_of, own_mom
 use Rattle.ppd_model.specs.Synchronizations.{kind_of_sync}
 use Rattle.ppd_model.specs.World.{change, need, need_at, writes_cell}
 use Rattle.ppd_model.proofs.States.{states_told}
-use Rattle.ppd_shared_edges.proofs.Spans.Steps.{AreNumbered, IsNumbered}
+use Rattle.ppd_model.proofs.Stories.{steps_append}
+use Rattle.ppd_shared_edges.proofs.Spans.Steps.{IsNumbered, AreNumbered}
 
 -- ---- lists
 
@@ -41,10 +42,6 @@ map_found : {A B : Type 0} (f : List A → List B) → f [] ≡ [] → (xs : Lis
 map_found f none [] p = sym none
 map_found f none (x ∷ xs) zero = refl
 map_found f none (x ∷ xs) (suc p) = map_found f none xs p
-
-steps_append : (ms ns : List Moment) → steps_of (ms ++ ns) ≡ steps_of ms ++ steps_of ns
-steps_append [] ns = refl
-steps_append (m ∷ ms) ns = ap (λ l. m.taken ∷ l) (steps_append ms ns)
 
 abbrev no_moments : List Moment
 no_moments = []

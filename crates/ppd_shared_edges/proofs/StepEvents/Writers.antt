@@ -7,6 +7,7 @@ use Rattle.std.proofs.lemmas.Option.{none-some}
 use Rattle.ppd_ast.specs.Valid.{IsValid}
 use Rattle.ppd_ast.specs.declared.plan.Plan.{Plan}
 use Rattle.ppd_ast.specs.declared.program.Program.{Program}
+use Rattle.ppd_ast.specs.Counting.{one_if}
 use Rattle.ppd_sem.specs.declared.proc.Need.{Need}
 use Rattle.ppd_sem.specs.declared.proc.Need.TheVariants as n
 use Rattle.ppd_sem.specs.Described.{is_event}
@@ -20,7 +21,7 @@ use Rattle.ppd_model.specs.Story.{Telling, story, tell, told}
 use Rattle.ppd_model.specs.Synchronizations.{Sync, kind_of_sync, numbered, sync_of, syncs_of}
 use Rattle.ppd_model.proofs.Accesses.{record_at}
 use Rattle.ppd_model.specs.World.{writes_cell}
-use Rattle.ppd_sound.proofs.SharedCells.Writers.{events_in, one_if}
+use Rattle.ppd_sound.proofs.SharedCells.Writers.{events_in}
 use Rattle.ppd_shared_edges.specs.Events.{AreQuiet, IsLastWriter, synchronizes, written_by}
 use Rattle.ppd_shared_edges.proofs.Spans.Facts.{count_to}
 use Rattle.ppd_shared_edges.proofs.StepEvents.Marks.{AreStill, count_is, event_is, events_within, quiet_is, syncs_length}

@@ -1,5 +1,6 @@
 -- Every step of a process of a valid program: the last writes of the local cells come to where the process then is.
 use Rattle.std.proofs.Common.{◌≡◌, ℕ, ◌<◌, ℤ, true, List, [], ◌∷◌, ◌++◌, Option, Some, None, Ok, Err, length, refl, sym, ap, ◌∙◌, subst}
+use Rattle.std.specs.Prelude.{option_to_list}
 use Rattle.ppd_model.specs.declared.tracing.Activation.{Activation}
 use Rattle.ppd_ast.specs.Valid.{IsValid}
 use Rattle.ppd_ast.specs.declared.plan.Plan.{Plan}
@@ -9,14 +10,13 @@ use Rattle.ppd_ast.specs.declared.program.Program.{Program}
 use Rattle.ppd_ast.specs.Lookups.{kind_of, body_of}
 use Rattle.ppd_cfg.specs.Flow.{successors}
 use Rattle.ppd_step_laws.proofs.Course.Deeds.{DeedFits, Fits}
-use Rattle.ppd_step_laws.proofs.Course.Outward.{none_some}
-use Rattle.ppd_cfg.specs.Lists.{to_list}
 use Rattle.ppd_deps.specs.Edges.{scalar_written}
 use Rattle.ppd_model.specs.declared.trace.EventId.{EventId}
 use Rattle.ppd_model.specs.FullTrace.{tagged_after, tagged_at, tagged_by}
 use Rattle.ppd_model.specs.LocalTags.{locals}
 use Rattle.ppd_model.proofs.Homes.{AskedOf, DeedOf, IsHome, head_of as head_tells}
 use Rattle.ppd_model.proofs.LocalSteps.{Fits as FitsNeed, IsSend}
+use Rattle.ppd_model.proofs.Parents.{none_some}
 use Rattle.ppd_sem.specs.declared.asking.Pause.TheVariants.{Wants, Traps}
 use Rattle.ppd_sem.specs.declared.proc.Answer.{Answer}
 use Rattle.ppd_sem.specs.declared.proc.Frame.{Frame}
@@ -46,12 +46,12 @@ module _ (program : Program) (plan : Plan) (v : IsValid program) (E : EventId �
   Left d left = Leaves program plan v E a t ts me there is_me s acts b d left
 
   -- a statement that writes no local cell and goes on with what follows it
-  plain : IsHome program (record s { todo = ts; answers = [] }) → is_own k ≡ true → ((after : Option ℕ) → successors t.stmt k after ≡ to_list after) → scalar_written k ≡ None → After ts s.frames acts
+  plain : IsHome program (record s { todo = ts; answers = [] }) → is_own k ≡ true → ((after : Option ℕ) → successors t.stmt k after ≡ option_to_list after) → scalar_written k ≡ None → After ts s.frames acts
   plain home own goes no_scalar =
       unmoved program plan v E a t ts me there is_me s acts b ts home own (to_next program plan v E a t ts me there is_me s acts b own goes) no_scalar
 
   -- such a statement of this kind
-  of_kind : (kind : Kind) → k ≡ kind → is_own kind ≡ true → ((after : Option ℕ) → successors t.stmt kind after ≡ to_list after) → scalar_written kind ≡ None → IsHome program (record s { todo = ts; answers = [] }) → After ts s.frames acts
+  of_kind : (kind : Kind) → k ≡ kind → is_own kind ≡ true → ((after : Option ℕ) → successors t.stmt kind after ≡ option_to_list after) → scalar_written kind ≡ None → IsHome program (record s { todo = ts; answers = [] }) → After ts s.frames acts
   of_kind kind is own goes no_scalar home =
       plain home (ap is_own is ∙ own) (λ after. ap (λ (q : Kind). successors t.stmt q after) is ∙ goes after) (ap scalar_written is ∙ no_scalar)
 

@@ -17,14 +17,14 @@ use Rattle.ppd_step_laws.proofs.Course.Ways.{head_todos}
 use Rattle.ppd_model.specs.declared.trace.EventId.{EventId}
 use Rattle.ppd_model.specs.FullTrace.{Tag, into_at, tagged_into}
 use Rattle.ppd_model.specs.LocalTags.{locals}
-use Rattle.ppd_model.proofs.Homes.{AreHome, AreTop, bodies_of, bodies-returned}
+use Rattle.ppd_model.proofs.Homes.{AreHome, AreTop, bodies-returned}
 use Rattle.ppd_sem.specs.declared.proc.Answer.{Answer}
 use Rattle.ppd_sem.specs.declared.proc.Frame.{Frame}
 use Rattle.ppd_sem.specs.declared.proc.Proc.{Proc}
 use Rattle.ppd_sem.specs.declared.proc.Todo.{Todo}
 use Rattle.ppd_sem.specs.Deed.{invoke, back}
 use Rattle.ppd_sem.specs.Process.{into_of, returned, todos, top_call}
-use Rattle.ppd_sem.specs.Runs.{returns, size_if}
+use Rattle.ppd_sem.specs.Runs.{returns, size_if, bodies_in}
 use Rattle.ppd_sem.specs.Passed.{next_stmt_of}
 use Rattle.ppd_sound.proofs.Frames.{AreLinked, IsCalled, links}
 use Rattle.ppd_sound.proofs.OwnCells.Moving.{behind_call, head_body, into_tags, new_frame}
@@ -65,7 +65,7 @@ module _ (program : Program) (plan : Plan) (v : IsValid program) (E : EventId �
         (λ h is.
         let first : first_or (top_of_body (slice_get program.bodies f)) (next_stmt_of ts) ≡ Some h = sym (head_todos (top_of_body (slice_get program.bodies f)) ts) ∙ is in
         first_of program f h (top_of_body (slice_get program.bodies f)) (next_stmt_of ts) top first)
-        (λ h is. head_body program f (bodies_of s.frames) (todos (top_of_body (slice_get program.bodies f)) ++ ts) h home is),
+        (λ h is. head_body program f (bodies_in s.frames) (todos (top_of_body (slice_get program.bodies f)) ++ ts) h home is),
     b.come,
   )
 
@@ -88,7 +88,7 @@ module _ (program : Program) (plan : Plan) (v : IsValid program) (E : EventId �
 
   module _ (is_return : (e : Option ℕ) × (k ≡ K.Return e)) where
     to_caller : (value : Option ℤ) (f g : Frame) (fs : List Frame) (tags : List (List Tag)) → body_of program t.stmt ≡ f.body → IsCalled program f.body f.call g.body → is_some value ≡ gives_value (slice_get program.bodies f.body)
-        → next_stmt_of ts ≡ follow_if program f.call → AreHome program (bodies_of (g ∷ fs)) ts → AllCome program E (Some t.stmt ∷ f.call ∷ g.call ∷ calls_of fs) tags → Back value (f ∷ g ∷ fs) tags
+        → next_stmt_of ts ≡ follow_if program f.call → AreHome program (bodies_in (g ∷ fs)) ts → AllCome program E (Some t.stmt ∷ f.call ∷ g.call ∷ calls_of fs) tags → Back value (f ∷ g ∷ fs) tags
     to_caller value f g fs [] body l gives follows home old = tt
     to_caller value f g fs (x ∷ []) body l gives follows home old = tt
     to_caller value f g fs (x ∷ y ∷ ys) body l gives follows home old =
@@ -97,12 +97,12 @@ module _ (program : Program) (plan : Plan) (v : IsValid program) (E : EventId �
         let given : is_some value ≡ gives_value (slice_get program.bodies (body_of program t.stmt)) = gives ∙ ap (λ n. gives_value (slice_get program.bodies n)) (sym body) in (
           subst (λ o. AreCome program E (next_stmt_of ts) (into_tags o value (Some me) y)) (sym into)
               (behind_call program E v t.stmt there me is_me is_return l.by g.body l.args l.into value (next_stmt_of ts) y kind l.of_body given (follows ∙ ap (follow_if program) l.call_is)
-              (λ h is. head_body program g.body (bodies_of fs) ts h home is) (subst (λ o. AreCome program E o y) l.call_is old.1.0)),
+              (λ h is. head_body program g.body (bodies_in fs) ts h home is) (subst (λ o. AreCome program E o y) l.call_is old.1.0)),
           old.1.1,
         )
 
-    by_frames : (value : Option ℤ) (frames : List Frame) (tags : List (List Tag)) → AreHome program (bodies_of frames) (t ∷ ts) → AreLinked program (links frames) → is_some value ≡ gives_value (slice_get program.bodies (body_of program t.stmt))
-        → next_stmt_of ts ≡ follow_if program (top_call_of (calls_of frames)) → AreHome program (drop 1 (bodies_of frames)) ts → AllCome program E (Some t.stmt ∷ calls_of frames) tags → Back value frames tags
+    by_frames : (value : Option ℤ) (frames : List Frame) (tags : List (List Tag)) → AreHome program (bodies_in frames) (t ∷ ts) → AreLinked program (links frames) → is_some value ≡ gives_value (slice_get program.bodies (body_of program t.stmt))
+        → next_stmt_of ts ≡ follow_if program (top_call_of (calls_of frames)) → AreHome program (drop 1 (bodies_in frames)) ts → AllCome program E (Some t.stmt ∷ calls_of frames) tags → Back value frames tags
     by_frames value [] tags home linked gives follows after old = absurd home
     by_frames value (f ∷ []) tags home linked gives follows after old = no_frame value tags f linked follows
     by_frames value (f ∷ g ∷ fs) tags home linked gives follows after old =
@@ -112,7 +112,7 @@ module _ (program : Program) (plan : Plan) (v : IsValid program) (E : EventId �
         → HomeAfter program plan v E a t ts me there is_me s acts b (back value) → Leaves program plan v E a t ts me there is_me s acts b (back value) left
     backs_on s acts b value left gives home =
         let behind_is : IsBehind program plan (top_call_of (calls_of s.frames)) ts = subst (λ r. IsBehind program plan (behind r t.stmt (calls_of s.frames)) ts) (ap returns is_return.1) b.way.0 in
-        let after : AreHome program (drop 1 (bodies_of s.frames)) ts = subst (λ bs. AreHome program bs ts) (bodies-returned program value s.frames) home in
+        let after : AreHome program (drop 1 (bodies_in s.frames)) ts = subst (λ bs. AreHome program bs ts) (bodies-returned program value s.frames) home in
         let tags : locals (tagged_into (into_at program (top_call s.frames)) value (Some me) (drop 1 acts)) ≡ top_changed (into_tags (into_at program (top_call s.frames)) value (Some me)) (drop 1 (locals acts)) =
         into_locals (into_at program (top_call s.frames)) value (Some me) (drop 1 acts) ∙ ap (top_changed (into_tags (into_at program (top_call s.frames)) value (Some me))) (drop_locals acts) in
         subst (λ (xs : List (List Tag)). AllCome program E (next_stmt_of ts ∷ calls_of (returned program value s.frames)) xs) (sym tags)

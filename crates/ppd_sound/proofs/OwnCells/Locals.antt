@@ -15,17 +15,18 @@ use Rattle.ppd_step_laws.proofs.Course.Beginning.{starts_on_course}
 use Rattle.ppd_step_laws.proofs.Course.Leading.{stays_on_course}
 use Rattle.ppd_model.specs.declared.trace.EventId.{EventId}
 use Rattle.ppd_model.specs.declared.trace.TracedEvent.{TracedEvent}
-use Rattle.ppd_model.specs.FullTrace.{Tag, begun_tracing, event_of, me_in, tagged_after, trace_step, with_test}
+use Rattle.ppd_model.specs.FullTrace.{begun_tracing, event_of, me_in, tagged_after, trace_step, with_test}
 use Rattle.ppd_model.specs.LocalTags.{AreOwn, locals}
-use Rattle.ppd_model.proofs.Homes.{AreHome, IsHome, act-home, bodies_of, started-home}
-use Rattle.ppd_model.proofs.LocalSteps.{Fits, FitsHead, fits}
+use Rattle.ppd_model.proofs.Homes.{AreHome, IsHome, act-home, started-home}
+use Rattle.ppd_model.proofs.LocalSteps.{Fits, FitsHead, fits, test_locals}
 use Rattle.ppd_model.proofs.TestSteps.{event_acts, other_acts}
+use Rattle.ppd_model.proofs.LocalDeeds.{no_tag}
 use Rattle.ppd_sem.specs.declared.proc.Frame.{Frame}
 use Rattle.ppd_sem.specs.declared.proc.Need.{Need}
 use Rattle.ppd_sem.specs.declared.proc.Proc.{Proc}
 use Rattle.ppd_sem.specs.declared.proc.Todo.{Todo}
 use Rattle.ppd_sem.specs.Process.{act, act_at, act_by_need, head_deed, need_of, started, top_cells}
-use Rattle.ppd_sem.specs.Runs.{IsRunning}
+use Rattle.ppd_sem.specs.Runs.{IsRunning, bodies_in}
 use Rattle.ppd_sem.proofs.Kept.{act-runs}
 use Rattle.ppd_sem.proofs.Offers.{completes}
 use Rattle.ppd_sem.proofs.Running.{head_over}
@@ -37,11 +38,7 @@ use Rattle.ppd_sound.proofs.Events.{kept_by, new_by, traced}
 use Rattle.ppd_sound.proofs.Frames.{AreSound, IsOfTop, links, relinked, relinks, started_sound}
 use Rattle.ppd_sound.proofs.States.{runs_all}
 use Rattle.ppd_sound.proofs.OwnCells.Still.{IsStill, none_to_do, still_need}
-use Rattle.ppd_sound.proofs.OwnCells.Tagging.{test_locals}
 use Rattle.ppd_sound.proofs.OwnCells.Ways.{AllCome, AreCome, IsCome, more_all}
-
-abbrev no_tag : Tag
-no_tag = None
 
 module _ (program : Program) (plan : Plan) (story : Story) (p : ℕ) (v : IsValid program) where
   abbrev next : Tracing → Taken → Tracing
@@ -114,7 +111,7 @@ module _ (program : Program) (plan : Plan) (story : Story) (p : ℕ) (v : IsVali
           let went = by_need program plan v (IsIn (next u x)) x.answer t ts (me_in p u) there me u.proc tested
           (record {
             way = subst (λ todo. IsWay program plan (calls_of u.proc.frames) todo) is holds.course;
-            home = subst (λ todo. AreHome program (bodies_of u.proc.frames) todo) is holds.home;
+            home = subst (λ todo. AreHome program (bodies_in u.proc.frames) todo) is holds.home;
             linked = holds.sound.linked;
             come = old;
           })
@@ -127,9 +124,9 @@ module _ (program : Program) (plan : Plan) (story : Story) (p : ℕ) (v : IsVali
       sound_on : AreSound program (links (act program plan u.proc x.answer).frames)
       sound_on =
           relinked program v t.stmt there (links u.proc.frames) (links (act program plan u.proc x.answer).frames) (relinks program plan u.proc x.answer t ts is)
-          (of_top u.proc.frames (subst (λ todo. AreHome program (bodies_of u.proc.frames) todo) is holds.home)) holds.sound
+          (of_top u.proc.frames (subst (λ todo. AreHome program (bodies_in u.proc.frames) todo) is holds.home)) holds.sound
         where
-          of_top : (frames : List Frame) → AreHome program (bodies_of frames) (t ∷ ts) → IsOfTop program v t.stmt there (links frames)
+          of_top : (frames : List Frame) → AreHome program (bodies_in frames) (t ∷ ts) → IsOfTop program v t.stmt there (links frames)
           of_top [] h = absurd h
           of_top (f ∷ fs) h = h.0
 

@@ -1,6 +1,6 @@
 -- Where a process of a valid program is after a step, and what its frames' cells have then.
 use Rattle.std.proofs.Common.{◌≡◌, ℕ, ◌<◌, ℤ, true, false, List, [], ◌∷◌, ◌++◌, Option, Some, None, length, get_or, refl, sym, ap, ◌∙◌, subst, inl, inr, true≢false}
-use Rattle.std.specs.Prelude.{IsTrue, IsSome, nat_lt, is_some, replicate, slice_get, slice_set, if◌then◌else◌}
+use Rattle.std.specs.Prelude.{IsTrue, IsSome, nat_lt, is_some, replicate, slice_get, slice_set, if◌then◌else◌, option_to_list}
 use Rattle.std.specs.List.{filter, flat_map}
 use Rattle.std.proofs.lemmas.Bool.{and_from, cases_eq, cases_lt, cond-true, lt-ltb, ne_eqb}
 use Rattle.ppd_ast.specs.Bare.{gives as gives_value}
@@ -15,9 +15,8 @@ use Rattle.ppd_ast.specs.Members.{has}
 use Rattle.ppd_ast.specs.Lookups.{kind_of_stmt, kind_of, top_of, body_of, params_of}
 use Rattle.ppd_ast.proofs.Members.{has_first, has_right, filter_has}
 use Rattle.ppd_cfg.specs.Flow.{follow, next_of, successors}
-use Rattle.ppd_cfg.specs.Lists.{first_or, to_list}
+use Rattle.ppd_cfg.specs.Lists.{first_or}
 use Rattle.ppd_cfg.specs.Reach.{start}
-use Rattle.ppd_step_laws.proofs.Course.Outward.{none_some, some_is}
 use Rattle.ppd_deps.specs.Edges.{begins, is_cell, scalar_written}
 use Rattle.ppd_deps.specs.Named.{calls, local_writes, passes, places, places_by}
 use Rattle.ppd_deps.proofs.Arriving.{IsOwn, own_by}
@@ -25,6 +24,8 @@ use Rattle.ppd_deps.proofs.Bodies.{stands_among}
 use Rattle.ppd_model.specs.declared.trace.EventId.{EventId}
 use Rattle.ppd_model.specs.FullTrace.{Tag}
 use Rattle.ppd_model.proofs.Homes.{AreHome}
+use Rattle.ppd_model.proofs.Changes.{some}
+use Rattle.ppd_model.proofs.Parents.{none_some}
 use Rattle.ppd_sem.specs.declared.proc.Todo.{Todo}
 use Rattle.ppd_sem.specs.Runs.{returns}
 use Rattle.ppd_sem.specs.Passed.{next_stmt_of}
@@ -39,7 +40,7 @@ use Rattle.ppd_sound.proofs.OwnCells.Ways.{AllCome, AreCome, IsCome, NewTag, kep
 -- the head is of the body of the top frame
 pub head_body : (p : Program) (b : ℕ) (bs : List ℕ) (todo : List Todo) (h : ℕ) → AreHome p (b ∷ bs) todo → next_stmt_of todo ≡ Some h → body_of p h ≡ b
 head_body p b bs [] h home e = absurd (none_some e)
-head_body p b bs (t ∷ ts) h home e = ap (body_of p) (sym (some_is e)) ∙ home.0
+head_body p b bs (t ∷ ts) h home e = ap (body_of p) (sym (some e)) ∙ home.0
 
 -- where the frames are the same the next head is of the same body
 pub same_body : (p : Program) (bs : List ℕ) (t : Todo) (ts todo : List Todo) (h : ℕ) → AreHome p bs (t ∷ ts) → AreHome p bs todo → next_stmt_of todo ≡ Some h → body_of p h ≡ body_of p t.stmt
@@ -104,8 +105,8 @@ module _ (p : Program) (E : EventId → ℕ → Type 0) (v : IsValid p) (at : �
   param_begins k h lt first =
       let called : IsTrue (calls p at f) = subst (λ (q : Kind). IsTrue (has (callee q) f)) (sym is) (has_first f []) in
       let passed : passes p f at k ≡ true = and_from (calls p at f) (nat_lt k (params_of p f)) called (lt-ltb k (params_of p f) lt) in
-      let list : (if passes p f at k then to_list (first_or (top_of p f) None) else []) ≡ h ∷ [] = cond-true (passes p f at k) (to_list (first_or (top_of p f) None)) [] passed ∙ ap to_list first in
-      has_right (flat_map (next_of p) (filter (λ c. has (local_writes p c) k) (places p f at))) (if passes p f at k then to_list (first_or (top_of p f) None) else []) h
+      let list : (if passes p f at k then option_to_list (first_or (top_of p f) None) else []) ≡ h ∷ [] = cond-true (passes p f at k) (option_to_list (first_or (top_of p f) None)) [] passed ∙ ap option_to_list first in
+      has_right (flat_map (next_of p) (filter (λ c. has (local_writes p c) k) (places p f at))) (if passes p f at k then option_to_list (first_or (top_of p f) None) else []) h
       (subst (λ xs. IsTrue (has xs h)) (sym list) (has_first h []))
 
   new_tags : (n k h c : ℕ) → n ≡ params_of p f → first_or (top_of p f) None ≡ Some h → IsCome p E f h c (get_or (replicate n (Some me) ++ replicate k None) c None)
@@ -154,7 +155,7 @@ module _ (p : Program) (E : EventId → ℕ → Type 0) (v : IsValid p) (at : �
       → o ≡ follow p c → ((h : ℕ) → o ≡ Some h → body_of p h ≡ g) → AreCome p E (Some c) ts → AreCome p E o (into_tags into value (Some me) ts)
   behind_call c g args into value None ts is of_body gives follows body old = tt
   behind_call c g args into value (Some h) ts is of_body gives follows body old =
-      let next_is : next_of p c ≡ h ∷ [] = ap (λ (q : Kind). successors c q (follow p c)) is ∙ ap to_list (sym follows) in
+      let next_is : next_of p c ≡ h ∷ [] = ap (λ (q : Kind). successors c q (follow p c)) is ∙ ap option_to_list (sym follows) in
       let leads : IsTrue (has (next_of p c) h) = subst (λ xs. IsTrue (has xs h)) (sym next_is) (has_first h []) in
       let needs : IsSome into → is_some value ≡ true = λ r. gives ∙ call_gives p c (body_of p at) args into v is r in
       step_way p E v c h (call_there p c (body_of p at) args into is) leads at me there is_me (return_place c args into is) ts (into_tags into value (Some me) ts) (body h refl ∙ sym of_body)

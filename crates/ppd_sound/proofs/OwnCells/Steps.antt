@@ -1,7 +1,7 @@
 -- After each step of a process of a valid program the last writes of its local cells come to where it is.
 use Rattle.std.proofs.Common.{◌≡◌, ℕ, ◌+◌, ◌<◌, ℤ, true, false, List, [], ◌∷◌, ◌++◌, Option, Some, None, Ok, length, get_or, refl, sym, ap, ◌∙◌, subst, inl, inr}
 use Rattle.ppd_model.specs.declared.tracing.Activation.{Activation}
-use Rattle.std.specs.Prelude.{IsTrue, slice_set}
+use Rattle.std.specs.Prelude.{IsTrue, slice_set, option_to_list}
 use Rattle.std.proofs.lemmas.Bool.{cases_eq, cases_lt}
 use Rattle.ppd_ast.specs.Valid.{IsEnding, IsValid}
 use Rattle.ppd_ast.specs.declared.plan.Plan.{Plan}
@@ -12,26 +12,26 @@ use Rattle.ppd_ast.specs.Members.{has}
 use Rattle.ppd_ast.specs.Lookups.{kind_of, body_of}
 use Rattle.ppd_ast.proofs.Members.{has_first, in_bounds_has}
 use Rattle.ppd_cfg.specs.Flow.{follow, next_of, successors}
-use Rattle.ppd_cfg.specs.Lists.{first_or, to_list}
+use Rattle.ppd_cfg.specs.Lists.{first_or}
 use Rattle.ppd_step_laws.specs.Course.{IsBehind, IsWay, behind, calls_of}
 use Rattle.ppd_step_laws.proofs.Course.Deeds.{DeedFits, IsBranch}
 use Rattle.ppd_step_laws.proofs.Course.Frames.{calls_clear, calls_write}
 use Rattle.ppd_step_laws.proofs.Course.Last.{ends_are_last}
-use Rattle.ppd_step_laws.proofs.Course.Outward.{none_some}
 use Rattle.ppd_step_laws.proofs.Course.Successors.{has_rising_left, has_rising_right}
 use Rattle.ppd_step_laws.proofs.Course.Ways.{head_todos}
 use Rattle.ppd_deps.specs.Edges.{scalar_written}
 use Rattle.ppd_model.specs.declared.trace.EventId.{EventId}
 use Rattle.ppd_model.specs.FullTrace.{Tag, tagged_by}
 use Rattle.ppd_model.specs.LocalTags.{locals}
-use Rattle.ppd_model.proofs.Homes.{AreHome, IsHome, bodies_of, bodies-clear, bodies-write}
+use Rattle.ppd_model.proofs.Homes.{AreHome, IsHome, bodies-clear, bodies-write}
+use Rattle.ppd_model.proofs.Parents.{none_some}
 use Rattle.ppd_sem.specs.declared.proc.Answer.{Answer}
 use Rattle.ppd_sem.specs.declared.proc.Frame.{Frame}
 use Rattle.ppd_sem.specs.declared.proc.Proc.{Proc}
 use Rattle.ppd_sem.specs.declared.proc.Todo.{Todo}
 use Rattle.ppd_sem.specs.Deed.{Deed, set_local, clear, receive}
 use Rattle.ppd_sem.specs.Process.{act_by_deed, clear_top, todos, value_of, write_top}
-use Rattle.ppd_sem.specs.Runs.{returns}
+use Rattle.ppd_sem.specs.Runs.{returns, bodies_in}
 use Rattle.ppd_sem.specs.Passed.{next_stmt_of}
 use Rattle.ppd_sound.proofs.OwnCells.Does.{IsLocalWrite, is_own, other_cell}
 use Rattle.ppd_sound.proofs.Frames.{AreLinked, links}
@@ -75,7 +75,7 @@ module _ (program : Program) (plan : Plan) (v : IsValid program) (E : EventId �
   -- before the step
   pub record Before (s : Proc) (tags : List (List Tag)) : Type 0 where
     pub way : IsWay program plan (calls_of s.frames) (t ∷ ts)
-    pub home : AreHome program (bodies_of s.frames) (t ∷ ts)
+    pub home : AreHome program (bodies_in s.frames) (t ∷ ts)
     pub linked : AreLinked program (links s.frames)
     pub come : AllCome program E (Some t.stmt ∷ calls_of s.frames) tags
 
@@ -89,9 +89,9 @@ module _ (program : Program) (plan : Plan) (v : IsValid program) (E : EventId �
     abbrev pub Leads : List Todo → Type 0
     Leads todo = (h : ℕ) → next_stmt_of todo ≡ Some h → IsTrue (has (next_of program t.stmt) h)
 
-    pub to_next : is_own k ≡ true → ((after : Option ℕ) → successors t.stmt k after ≡ to_list after) → Leads ts
+    pub to_next : is_own k ≡ true → ((after : Option ℕ) → successors t.stmt k after ≡ option_to_list after) → Leads ts
     to_next own goes h is =
-        let e : next_of program t.stmt ≡ h ∷ [] = goes (follow program t.stmt) ∙ ap to_list (sym (follows (own_stays k own)) ∙ is) in
+        let e : next_of program t.stmt ≡ h ∷ [] = goes (follow program t.stmt) ∙ ap option_to_list (sym (follows (own_stays k own)) ∙ is) in
         subst (λ xs. IsTrue (has xs h)) (sym e) (has_first h [])
 
     pub to_branch : (stmts : List ℕ) → IsBranch k stmts → Leads (todos stmts ++ ts)
@@ -120,18 +120,18 @@ module _ (program : Program) (plan : Plan) (v : IsValid program) (E : EventId �
 
     -- ---- the frames and the tags
 
-    in_body : (todo : List Todo) (frames : List Frame) → bodies_of frames ≡ bodies_of s.frames → AreHome program (bodies_of frames) todo → (h : ℕ) → next_stmt_of todo ≡ Some h → body_of program h ≡ body_of program t.stmt
-    in_body todo frames bodies home h is = same_body program (bodies_of s.frames) t ts todo h b.home (subst (λ bs. AreHome program bs todo) bodies home) is
+    in_body : (todo : List Todo) (frames : List Frame) → bodies_in frames ≡ bodies_in s.frames → AreHome program (bodies_in frames) todo → (h : ℕ) → next_stmt_of todo ≡ Some h → body_of program h ≡ body_of program t.stmt
+    in_body todo frames bodies home h is = same_body program (bodies_in s.frames) t ts todo h b.home (subst (λ bs. AreHome program bs todo) bodies home) is
 
     -- with other tags of the top frame
-    moved : (todo : List Todo) (frames : List Frame) (f : List Tag → List Tag) (tags : List (List Tag)) → calls_of frames ≡ calls_of s.frames → bodies_of frames ≡ bodies_of s.frames → AreHome program (bodies_of frames) todo
+    moved : (todo : List Todo) (frames : List Frame) (f : List Tag → List Tag) (tags : List (List Tag)) → calls_of frames ≡ calls_of s.frames → bodies_in frames ≡ bodies_in s.frames → AreHome program (bodies_in frames) todo
         → is_own k ≡ true → Leads todo → ((xs : List Tag) (c : ℕ) → NewTag k me c (get_or xs c None) (get_or (f xs) c None)) → tags ≡ top_changed f (locals acts) → Come todo frames tags
     moved todo frames f tags calls bodies home own leads new e =
         subst (λ (xs : List (List Tag)). Come todo frames xs) (sym e) (subst (λ cs. AllCome program E (next_stmt_of todo ∷ cs) (top_changed f (locals acts))) (sym calls)
         (same_frame program E v t.stmt there me is_me own f (calls_of s.frames) (locals acts) (next_stmt_of todo) leads (in_body todo frames bodies home) new b.come))
 
     -- with the same tags
-    pub unmoved : (todo : List Todo) → AreHome program (bodies_of s.frames) todo → is_own k ≡ true → Leads todo → scalar_written k ≡ None → Come todo s.frames (locals acts)
+    pub unmoved : (todo : List Todo) → AreHome program (bodies_in s.frames) todo → is_own k ≡ true → Leads todo → scalar_written k ≡ None → Come todo s.frames (locals acts)
     unmoved todo home own leads unset =
         same_tags program E v t.stmt there me is_me own (calls_of s.frames) (locals acts) (next_stmt_of todo) leads (in_body todo s.frames refl home) unset b.come
 

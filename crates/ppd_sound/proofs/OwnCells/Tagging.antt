@@ -3,11 +3,9 @@ use Rattle.std.proofs.Common.{◌≡◌, ◌≢◌, ℕ, zero, suc, ◌+◌, ◌
 use Rattle.ppd_model.specs.declared.tracing.Activation.{Activation}
 use Rattle.std.specs.Prelude.{replicate, slice_set}
 use Rattle.std.proofs.lemmas.Bool.{cases_eq}
-use Rattle.ppd_sem.specs.declared.event.Event.{Event}
-use Rattle.ppd_ast.specs.declared.program.Program.{Program}
-use Rattle.ppd_model.specs.declared.trace.EventId.{EventId}
-use Rattle.ppd_model.specs.FullTrace.{Tag, all_tagged, tagged, with_test}
+use Rattle.ppd_model.specs.FullTrace.{Tag, all_tagged, tagged}
 use Rattle.ppd_model.specs.LocalTags.{locals}
+use Rattle.ppd_model.proofs.LocalDeeds.{replicate_none}
 
 -- ---- one cell
 
@@ -77,11 +75,6 @@ all_locals base n me (x ∷ xs) = more n
     more zero = refl
     more (suc n) = tagged_locals (base + n) me (all_tagged base n me (x ∷ xs)) ∙ ap (top_changed (λ ts. slice_set ts (base + n) me)) (more n)
 
--- a test leaves the tags
-pub test_locals : (program : Program) (me : EventId) (e : Event) (xs : List Activation) → locals (with_test program me e xs) ≡ locals xs
-test_locals program me e [] = refl
-test_locals program me e (x ∷ xs) = refl
-
 -- ---- the parameters of a new activation
 
 pub copied : (n k c : ℕ) (me : Tag) → c < n → get_or (replicate n me ++ replicate k None) c None ≡ me
@@ -89,15 +82,7 @@ copied zero k c me lt = absurd (omega arith)
 copied (suc n) k zero me lt = refl
 copied (suc n) k (suc c) me lt = copied n k c me (omega arith)
 
-abbrev no_tag : Tag
-no_tag = None
-
-no_tags : (k c : ℕ) → get_or (replicate k no_tag) c None ≡ None
-no_tags zero c = refl
-no_tags (suc k) zero = refl
-no_tags (suc k) (suc c) = no_tags k c
-
 pub uncopied : (n k c : ℕ) (me : Tag) → n ≤ c → get_or (replicate n me ++ replicate k None) c None ≡ None
-uncopied zero k c me le = no_tags k c
+uncopied zero k c me le = replicate_none k c
 uncopied (suc n) k zero me le = absurd (omega arith)
 uncopied (suc n) k (suc c) me le = uncopied n k c me (omega arith)

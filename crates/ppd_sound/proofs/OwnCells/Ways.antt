@@ -1,6 +1,6 @@
 -- From the last write of a local cell a way along the flow graph is kept to the statement that comes next.
 use Rattle.std.proofs.Common.{◌≡◌, ℕ, ◌<◌, true, false, List, [], ◌∷◌, Option, Some, None, length, get_or, refl, sym, ap, ◌∙◌, subst}
-use Rattle.std.specs.Prelude.{IsTrue, ⊤, nat_eq, not, ◌&&◌, slice_get, if◌then◌else◌}
+use Rattle.std.specs.Prelude.{IsTrue, ⊤, nat_eq, not, ◌&&◌, slice_get, if◌then◌else◌, option_to_list}
 use Rattle.std.specs.List.{filter, flat_map}
 use Rattle.std.proofs.lemmas.Bool.{and_from, cond-true, eq-eqb}
 use Rattle.ppd_ast.specs.Valid.{IsValid}
@@ -11,7 +11,7 @@ use Rattle.ppd_ast.specs.Members.{has}
 use Rattle.ppd_ast.specs.Lookups.{kind_of, top_of, body_of, locals_of}
 use Rattle.ppd_ast.proofs.Members.{has_first, has_left, filter_has, flat_from}
 use Rattle.ppd_cfg.specs.Flow.{next_of}
-use Rattle.ppd_cfg.specs.Lists.{first_or, row, to_list}
+use Rattle.ppd_cfg.specs.Lists.{first_or, row}
 use Rattle.ppd_cfg.specs.Reach.{Reached, next, start}
 use Rattle.ppd_deps.specs.Edges.{begins, ends_paths, is_cell, kept_rows, scalar_written}
 use Rattle.ppd_deps.specs.Named.{local_writes, passes, places}
@@ -101,7 +101,7 @@ module _ (p : Program) (E : EventId → ℕ → Type 0) (v : IsValid p) (at to :
 
   begin_at : (s w : ℕ) → IsTrue (has (places p (body_of p at) s) at) → IsTrue (has (local_writes p at) w) → IsTrue (has (begins p (body_of p at) s w) to)
   begin_at s w place written =
-      has_left (flat_map (next_of p) (filter (λ c. has (local_writes p c) w) (places p (body_of p at) s))) (if passes p (body_of p at) s w then to_list (first_or (top_of p (body_of p at)) None) else []) to
+      has_left (flat_map (next_of p) (filter (λ c. has (local_writes p c) w) (places p (body_of p at) s))) (if passes p (body_of p at) s w then option_to_list (first_or (top_of p (body_of p at)) None) else []) to
       (flat_from (next_of p) (filter (λ c. has (local_writes p c) w) (places p (body_of p at) s)) at to
       (filter_has (λ c. has (local_writes p c) w) (places p (body_of p at) s) at place written) leads)
 

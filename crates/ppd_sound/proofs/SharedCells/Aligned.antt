@@ -10,6 +10,7 @@ use Rattle.ppd_ast.specs.declared.status.Status.{Status}
 use Rattle.ppd_ast.specs.Lookups.{kind_of}
 use Rattle.ppd_model.specs.FullTrace.{Tag, answers_past, tag_at, tags_of, trace_by, trace_step}
 use Rattle.ppd_model.specs.LocalTags.{AreOwn}
+use Rattle.ppd_model.proofs.Parents.{none_some}
 use Rattle.ppd_sem.specs.declared.asking.Pause.TheVariants.{Wants, Traps}
 use Rattle.ppd_sem.specs.declared.event.Access.{Access}
 use Rattle.ppd_sem.specs.declared.event.Spot.{Spot}
@@ -24,7 +25,6 @@ use Rattle.ppd_sem.specs.Consumed.{WantsInTurn, shared_of, shared_with, values_r
 use Rattle.ppd_sem.specs.Deed.{Deed, set_local, clear, invoke, back, receive, ask_deed}
 use Rattle.ppd_sem.specs.Process.{act, act_at, act_by_asked, act_by_deed, act_by_need, head_deed, need_by_status, need_of, started, top_cells, value_of}
 use Rattle.ppd_sem.proofs.Progress.{act-stopped}
-use Rattle.ppd_step_laws.proofs.Course.Outward.{none_some}
 use Rattle.ppd_sound.proofs.SharedCells.Asking.{Finishes, Tells, need_tells}
 use Rattle.ppd_sound.proofs.SharedCells.Writers.{EachReadIs, IsWriter, ReadIs}
 
@@ -98,7 +98,7 @@ none_taken : (program : Program) (steps : List (List Taken)) (s : Proc) (todo : 
 none_taken program steps s [] e = tt
 none_taken program steps s (t ∷ ts) e = subst (λ vs. AreTaken steps (evaluates_at program t s) [] vs []) (sym e) tt
 
-deed_answers : (program : Program) (a : Answer) (t : Todo) (ts : List Todo) (d : Deed) (s : Proc) → (act_by_deed program a t ts d s).answers ≡ s.answers
+pub deed_answers : (program : Program) (a : Answer) (t : Todo) (ts : List Todo) (d : Deed) (s : Proc) → (act_by_deed program a t ts d s).answers ≡ s.answers
 deed_answers program a t ts (set_local c v) s = refl
 deed_answers program a t ts (clear base len) s = refl
 deed_answers program a t ts (invoke f values into) s = refl

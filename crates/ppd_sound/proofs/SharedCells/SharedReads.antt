@@ -17,7 +17,7 @@ use Rattle.ppd_model.specs.declared.trace.EventId.{EventId}
 use Rattle.ppd_model.specs.declared.trace.TracedEvent.{TracedEvent}
 use Rattle.ppd_model.specs.FullTrace.{Tag, begun_tracing, event_of, full_trace, me_in, tags_of, top_tags}
 use Rattle.ppd_model.specs.Story.{own_steps, story}
-use Rattle.ppd_model.proofs.Homes.{AreHome, bodies_of}
+use Rattle.ppd_model.proofs.Homes.{AreHome}
 use Rattle.ppd_model.proofs.Parents.{own_to}
 use Rattle.ppd_sem.specs.declared.event.Access.{Access}
 use Rattle.ppd_sem.specs.declared.event.Event.{Event}
@@ -30,6 +30,7 @@ use Rattle.ppd_sem.specs.Described.{evaluates, frame_of, is_event}
 use Rattle.ppd_sem.specs.Process.{need_by_status, need_of, started, top_cells}
 use Rattle.ppd_sem.specs.Reads.{reads_of_kind}
 use Rattle.ppd_sem.proofs.Consumed.{reads_taken}
+use Rattle.ppd_sem.specs.Runs.{bodies_in}
 use Rattle.ppd_sets.specs.Named.{reads}
 use Rattle.ppd_sets.specs.Used.{reads_at, vars_met, writes_at}
 use Rattle.ppd_sound.specs.Sound.{ComesOverData, HasWriter, IsEventOf, SharedReadsComeOverEdges, event_at}
@@ -56,7 +57,7 @@ spot_there (x ∷ xs) zero a h = let same : x ≡ a = cc in ap (λ (y : Access).
 spot_there (x ∷ xs) (suc i) a h = spot_there xs i a h
 
 -- a process of which an event comes goes on
-runs_on : (program : Program) (plan : Plan) (s : Proc) → is_event (need_of program plan s) ≡ true → s.status ≡ None
+pub runs_on : (program : Program) (plan : Plan) (s : Proc) → is_event (need_of program plan s) ≡ true → s.status ≡ None
 runs_on program plan s e = by s.status refl
   where
     by : (o : Option Status) → s.status ≡ o → s.status ≡ None
@@ -100,7 +101,7 @@ module _ (program : Program) (plan : Plan) (budget : ℕ) (h : List ℕ) (v : Is
         there = below;
         is_of = record { event = of.event; there = ap (λ n. event_at (full_trace program plan budget h) q n) (sym counted) ∙ of.there; stmt_is = of.stmt_is };
         writes = written program plan u.proc head.head head.rest c w.value head.is need;
-        runs = is_running program (body_of program t) (body_there program t v below) (head_runs program u.proc.frames head.head head.rest (subst (λ todo. AreHome program (bodies_of u.proc.frames) todo) head.is holds.home) holds.sound.run);
+        runs = is_running program (body_of program t) (body_there program t v below) (head_runs program u.proc.frames head.head head.rest (subst (λ todo. AreHome program (bodies_in u.proc.frames) todo) head.is holds.home) holds.sound.run);
       }
 
   -- a write gives an edge

@@ -6,7 +6,6 @@ use Rattle.std.proofs.lemmas.Bool.{cases_eq}
 use Rattle.ppd_ast.specs.declared.plan.Plan.{Plan}
 use Rattle.ppd_ast.specs.declared.program.Program.{Program}
 use Rattle.ppd_ast.proofs.ValidLaws.{slice_get_below}
-use Rattle.ppd_model.specs.FullTrace.{Tag}
 use Rattle.ppd_model.specs.Schedule.{started_world}
 use Rattle.ppd_model.specs.States.{states_from}
 use Rattle.ppd_model.specs.Story.{Moment, Telling, begun, moment_of, next_event, own_moments, own_steps, steps_of, story, tell, writer_of, writers_after}
@@ -14,14 +13,12 @@ use Rattle.ppd_model.specs.World.{change, need, need_at}
 use Rattle.ppd_model.proofs.Changes.{own-at}
 use Rattle.ppd_model.proofs.States.{states-begun, states-tell}
 use Rattle.ppd_model.proofs.Stories.{steps-change}
+use Rattle.ppd_model.proofs.LocalDeeds.{no_tag}
 use Rattle.ppd_sem.specs.declared.proc.Need.{Need}
 use Rattle.ppd_sem.specs.declared.proc.Need.TheVariants.{Read, Write, Stopped}
 use Rattle.ppd_sem.specs.declared.proc.Proc.{Proc}
 use Rattle.ppd_sound.proofs.OwnCells.Tagging.{set_other, set_same}
 use Rattle.ppd_sound.proofs.SharedCells.Writers.{EachReadIs, IsWrite, IsWriter, ReadIs, count_is, grown, more_reads, more_writer, reads_append}
-
-abbrev no_tag : Tag
-no_tag = None
 
 -- ---- what is told
 

@@ -10,11 +10,9 @@ use Rattle.ppd_model.specs.World.{change}
 use Rattle.ppd_sem.specs.declared.proc.Need.{Need}
 use Rattle.ppd_sem.specs.declared.proc.Need.TheVariants.{Read, Write}
 use Rattle.ppd_sem.specs.Described.{is_event}
+use Rattle.ppd_ast.specs.Counting.{one_if}
 
 -- ---- how many events there are in these steps
-
-abbrev pub one_if : Bool → ℕ
-one_if b = cond b 1 0
 
 abbrev pub events_in : List Taken → ℕ
 events_in [] = 0

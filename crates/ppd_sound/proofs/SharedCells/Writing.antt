@@ -10,11 +10,12 @@ use Rattle.ppd_ast.specs.declared.program.Program.{Program}
 use Rattle.ppd_ast.specs.Members.{has}
 use Rattle.ppd_ast.specs.Lookups.{kind_of, body_of}
 use Rattle.ppd_ast.proofs.Members.{filter_has, from_zero}
+use Rattle.ppd_ast.specs.Counting.{one_if}
 use Rattle.ppd_cfg.specs.Reach.{closure, leads}
 use Rattle.ppd_cfg.proofs.Leading.{leads-tests}
 use Rattle.ppd_deps.specs.Named.{processes, running}
 use Rattle.ppd_model.specs.FullTrace.{trace_by, trace_step}
-use Rattle.ppd_model.proofs.Homes.{AreHome, bodies_of}
+use Rattle.ppd_model.proofs.Homes.{AreHome}
 use Rattle.ppd_sem.specs.declared.proc.Frame.{Frame}
 use Rattle.ppd_sem.specs.declared.proc.Need.{Need}
 use Rattle.ppd_sem.specs.declared.proc.Need.TheVariants.{Read, Write, Enter, Budget, Stopped}
@@ -24,11 +25,12 @@ use Rattle.ppd_sem.specs.Asked.{Asked}
 use Rattle.ppd_sem.specs.Deed.{Deed}
 use Rattle.ppd_sem.specs.Process.{head_deed, need_of, top_cells}
 use Rattle.ppd_sem.specs.Described.{is_event}
+use Rattle.ppd_sem.specs.Runs.{bodies_in}
 use Rattle.ppd_sets.specs.Used.{call_rows, writes_at}
 use Rattle.ppd_sound.proofs.SharedCells.Asking.{Tells, need_tells}
 use Rattle.ppd_sound.proofs.OwnCells.Does.{AskedDoes, deed_does}
 use Rattle.ppd_sound.proofs.Frames.{AllRun, Runs, links}
-use Rattle.ppd_sound.proofs.SharedCells.Writers.{events_in, one_if}
+use Rattle.ppd_sound.proofs.SharedCells.Writers.{events_in}
 
 -- ---- a statement that writes
 
@@ -46,7 +48,7 @@ is_running program b lt run =
     filter_has (leads (closure (call_rows program)) (processes program)) (range_with_len 0 (length program.bodies)) b (from_zero b (length program.bodies) lt) ((leads-tests (call_rows program) (processes program) b).1 (run lt))
 
 -- the head is of a body that runs
-pub head_runs : (program : Program) (frames : List Frame) (t : Todo) (ts : List Todo) → AreHome program (bodies_of frames) (t ∷ ts) → AllRun program (links frames) → Runs program (body_of program t.stmt)
+pub head_runs : (program : Program) (frames : List Frame) (t : Todo) (ts : List Todo) → AreHome program (bodies_in frames) (t ∷ ts) → AllRun program (links frames) → Runs program (body_of program t.stmt)
 head_runs program [] t ts home run = absurd home
 head_runs program (f ∷ fs) t ts home run = subst (λ b. Runs program b) (sym home.0) run.0
 

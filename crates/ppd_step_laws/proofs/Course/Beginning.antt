@@ -17,22 +17,22 @@ use Rattle.ppd_sem.proofs.Validity.{valid-runnable}
 use Rattle.ppd_step_laws.specs.Course.{BeginsList, IsWay}
 use Rattle.ppd_step_laws.specs.Laws.{StartsOnCourse}
 use Rattle.ppd_step_laws.proofs.Course.Chains.{top_chain}
-use Rattle.ppd_step_laws.proofs.Course.Outward.{some_is}
 use Rattle.ppd_step_laws.proofs.Course.Steps.{none_returns}
 use Rattle.ppd_step_laws.proofs.Course.Ways.{list_way}
+use Rattle.ppd_model.proofs.Changes.{some}
 
 begins : (xs : List ℕ) → BeginsList xs (todos xs)
 begins [] = record { first = refl; unmarked = λ u us same. absurd cc }
 begins (x ∷ xs) = record {
   first = refl;
-  unmarked = λ u us same. let one : (record { stmt = x; entered = false; offered = false }) ≡ u = some_is (ap (λ l. slice_get l 0) same) in sym (ap (λ (z : Todo). z.entered) one);
+  unmarked = λ u us same. let one : (record { stmt = x; entered = false; offered = false }) ≡ u = some (ap (λ l. slice_get l 0) same) in sym (ap (λ (z : Todo). z.entered) one);
 }
 
 way_of : (p : Program) (plan : Plan) (f : ℕ) (o : Option Body) → IsValid p → p.functions ≤ f → slice_get p.bodies f ≡ o → IsWay p plan (None ∷ []) (todos (top_of_body o))
 way_of p plan f None v le at = tt
 way_of p plan f (Some b) v le at =
     let found = there_at (IsRunnableBody p) p.bodies f (valid-runnable p v).bodies (slice_get_below p.bodies f b at) in
-    let same : found.0 ≡ b = some_is (sym found.1 ∙ at) in
+    let same : found.0 ≡ b = some (sym found.1 ∙ at) in
     let inside : All (IsInner p b.cells) b.top = subst (λ (x : Body). All (IsInner p x.cells) x.top) same (found.2.top le) in
     subst (λ l. IsWay p plan (None ∷ []) l) (append-nil (todos b.top))
     (list_way p plan (None ∷ []) b.top [] None (top_chain p f b v at) (none_returns p b.cells b.top inside) refl (λ x h. tt) tt)

@@ -1,13 +1,12 @@
 -- What each kind of statement does once its values are there.
 use Rattle.std.proofs.Common.{◌≡◌, ℕ, ℤ, Bool, true, false, List, Option, Ok, Err, refl, inl, inr, ◌⊎◌, if◌then◌else◌}
-use Rattle.std.specs.Prelude.{⊤}
+use Rattle.std.specs.Prelude.{⊤, option_to_list}
 use Rattle.ppd_ast.specs.declared.program.Expr.{Expr}
 use Rattle.ppd_ast.specs.declared.program.Kind.{Kind}
 use Rattle.ppd_ast.specs.declared.program.Kind.TheVariants as K
 use Rattle.ppd_ast.specs.Numbered.{is_left, is_while}
 use Rattle.ppd_ast.specs.Term.{term}
 use Rattle.ppd_cfg.specs.Flow.{successors}
-use Rattle.ppd_cfg.specs.Lists.{to_list}
 use Rattle.ppd_sem.specs.Ask.{ask, is_zero}
 use Rattle.ppd_sem.specs.Asked.{Asked, and_then, gives}
 use Rattle.ppd_sem.specs.Deed.{Deed, set_local, set_shared, clear, branch, turn, leave, invoke, back, take, give, send, receive, print, pass, finish, ask_deed}
@@ -17,7 +16,7 @@ use Rattle.ppd_sem.proofs.OfKind.{IsDeedOf, OfAsked, asked_holds, backs, backs_v
 -- a statement after which the process goes on with what follows it, in the same unit
 pub record IsLocal (k : Kind) : Type 0 where
   pub stays : returns k ≡ false
-  pub goes : (s : ℕ) (after : Option ℕ) → successors s k after ≡ to_list after
+  pub goes : (s : ℕ) (after : Option ℕ) → successors s k after ≡ option_to_list after
   pub same_unit : is_left k ≡ false
   pub no_loop : is_while k ≡ false
 

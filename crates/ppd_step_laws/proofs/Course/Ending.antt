@@ -32,8 +32,9 @@ use Rattle.ppd_sem.specs.Tables.{capacity_of, block_of, unit_of}
 use Rattle.ppd_sem.proofs.Progress.{act-stopped, need_at_status, need_at_todo}
 use Rattle.ppd_step_laws.specs.Course.{EndsWithEnd, GoesUntilEnd}
 use Rattle.ppd_step_laws.specs.Laws.{NeverRunsOut}
-use Rattle.ppd_step_laws.proofs.Course.Outward.{none_some, some_is}
 use Rattle.ppd_step_laws.proofs.Course.Rising.{top_stands}
+use Rattle.ppd_model.proofs.Changes.{some}
+use Rattle.ppd_model.proofs.Parents.{none_some}
 
 -- ---- what is to do
 
@@ -188,7 +189,7 @@ module _ (p : Program) where
 
 list_ends : (p : Program) (xs : List ℕ) (k : ℕ) → last_of xs ≡ Some k → kind_of p k ≡ K.End → EndsWithEnd p (todos xs)
 list_ends p [] k last is = absurd (none_some last)
-list_ends p (x ∷ []) k last is = subst (λ i. kind_of p i ≡ K.End) (sym (some_is last)) is
+list_ends p (x ∷ []) k last is = subst (λ i. kind_of p i ≡ K.End) (sym (some last)) is
 list_ends p (x ∷ y ∷ xs) k last is =
     let shorter : length (x ∷ y ∷ xs) - 1 ≡ suc (length (y ∷ xs) - 1) = omega arith in
     list_ends p (y ∷ xs) k (sym (ap (λ i. slice_get (x ∷ y ∷ xs) i) shorter) ∙ last) is
@@ -209,9 +210,9 @@ ends_process b k (K.Recv c into) process ending h = absurd ending
 ends_process b k (K.Print e) process ending h = absurd ending
 ends_process b k (K.Assert e) process ending h = absurd ending
 
-slice_has : (xs : List ℕ) (i k : ℕ) → slice_get xs i ≡ Some k → IsTrue (has xs k)
+pub slice_has : (xs : List ℕ) (i k : ℕ) → slice_get xs i ≡ Some k → IsTrue (has xs k)
 slice_has [] i k e = absurd (none_some e)
-slice_has (x ∷ xs) zero k e = subst (λ y. IsTrue (has (x ∷ xs) y)) (some_is e) (has_first x xs)
+slice_has (x ∷ xs) zero k e = subst (λ y. IsTrue (has (x ∷ xs) y)) (some e) (has_first x xs)
 slice_has (x ∷ xs) (suc i) k e = has_later x k xs (slice_has xs i k e)
 
 body_ends : (p : Program) (j : ℕ) (b : Body) → IsValid p → p.functions ≤ j → slice_get p.bodies j ≡ Some b → EndsWithEnd p (todos b.top)
@@ -221,9 +222,9 @@ body_ends p j b v le at =
     let last = some_and (λ i. IsSomeAnd (slice_get p.stmts i) (λ (s : Stmt). IsEnding s.kind)) (last_of b.top) valid.ending in
     let x = some_and (λ (s : Stmt). IsEnding s.kind) (slice_get p.stmts last.0) last.2 in
     let y = top_stands p j last.0 b v at (slice_has b.top (length b.top - 1) last.0 last.1) in
-    let same : y.0 ≡ x.0 = some_is (sym y.1 ∙ x.1) in
+    let same : y.0 ≡ x.0 = some (sym y.1 ∙ x.1) in
     let own = stmt_in_body p last.0 x.0 v x.1 in
-    let mine : own.0 ≡ b = some_is (sym own.1 ∙ ap (slice_get p.bodies) (sym (ap (λ (s : Stmt). s.body) same) ∙ y.3) ∙ at) in
+    let mine : own.0 ≡ b = some (sym own.1 ∙ ap (slice_get p.bodies) (sym (ap (λ (s : Stmt). s.body) same) ∙ y.3) ∙ at) in
     let ends : EndsBody b last.0 x.0.kind = subst (λ (body : Body). EndsBody body last.0 x.0.kind) mine own.2.ending in
     list_ends p b.top last.0 last.1 (ap kind_of_stmt x.1 ∙ ends_process b last.0 x.0.kind (valid.process ∙ late) x.2 ends)
 

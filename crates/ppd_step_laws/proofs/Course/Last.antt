@@ -13,11 +13,12 @@ use Rattle.ppd_cfg.specs.Flow.{follow}
 use Rattle.ppd_cfg.proofs.Depths.{follow_none}
 use Rattle.ppd_step_laws.specs.Laws.{EndsAreLast}
 use Rattle.ppd_step_laws.proofs.Course.Chains.{IsChain, top_chain}
-use Rattle.ppd_step_laws.proofs.Course.Outward.{none_some, some_is}
+use Rattle.ppd_model.proofs.Changes.{some}
+use Rattle.ppd_model.proofs.Parents.{none_some}
 
 chain_last : (p : Program) (xs : List ℕ) (s : ℕ) → IsChain p None xs → last_of xs ≡ Some s → follow p s ≡ None
 chain_last p [] s chain last = absurd (none_some last)
-chain_last p (x ∷ []) s chain last = subst (λ i. follow p i ≡ None) (some_is last) chain.0
+chain_last p (x ∷ []) s chain last = subst (λ i. follow p i ≡ None) (some last) chain.0
 chain_last p (x ∷ y ∷ xs) s chain last =
     let shorter : length (x ∷ y ∷ xs) - 1 ≡ suc (length (y ∷ xs) - 1) = omega arith in
     chain_last p (y ∷ xs) s chain.2 (sym (ap (λ i. slice_get (x ∷ y ∷ xs) i) shorter) ∙ last)

@@ -31,8 +31,9 @@ use Rattle.ppd_step_laws.specs.Course.{IsBehind, IsOnCourse, IsWay, LeadsTo, Ret
 use Rattle.ppd_step_laws.specs.Laws.{StaysOnCourse, StepsLead}
 use Rattle.ppd_step_laws.proofs.Course.Deeds.{DeedFits, Fits, IsInvoke, IsLeaving, deed_fits}
 use Rattle.ppd_step_laws.proofs.Course.Frames.{calls_clear, calls_returned, calls_write, top_call_is}
-use Rattle.ppd_step_laws.proofs.Course.Outward.{none_some, some_is}
 use Rattle.ppd_step_laws.proofs.Course.Steps.{call_begins, call_way, called, choice_on, choice_way, leave_on, local_on, turn_on, turn_way}
+use Rattle.ppd_model.proofs.Changes.{some}
+use Rattle.ppd_model.proofs.Parents.{none_some}
 
 -- the step of this need, where the head statement asks for this
 abbrev acts : Program → Plan → Answer → Todo → List Todo → Asked Deed → Need → Proc → Proc
@@ -231,7 +232,7 @@ led_at p plan s a h None (t ∷ ts) v course is todo_is head =
     let moved : act p plan s a ≡ act_by_need p plan a t ts (need_of p plan s) s = ap (λ l. act_at p plan a l s) todo_is in
     let led_need : Led p plan (need_of p plan s) t.stmt s (act_by_need p plan a t ts (need_of p plan s) s) =
     subst (λ (n : Need). Led p plan n t.stmt s (act_by_need p plan a t ts n s)) (sym need) led in
-    subst (λ i. Led p plan (need_of p plan s) i s (act p plan s a)) (some_is head) (subst (λ (after : Proc). Led p plan (need_of p plan s) t.stmt s after) (sym moved) led_need)
+    subst (λ i. Led p plan (need_of p plan s) i s (act p plan s a)) (some head) (subst (λ (after : Proc). Led p plan (need_of p plan s) t.stmt s after) (sym moved) led_need)
 
 stays_at : (p : Program) (plan : Plan) (s : Proc) (a : Answer) (todo : List Todo) → IsValid p → IsOnCourse p plan s → s.todo ≡ todo → IsOnCourse p plan (act p plan s a)
 stays_at p plan s a [] v course is = subst (λ (after : Proc). IsOnCourse p plan after) (sym (ap (λ l. act_at p plan a l s) is)) course

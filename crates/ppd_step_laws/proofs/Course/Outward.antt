@@ -19,17 +19,13 @@ use Rattle.ppd_cfg.proofs.Following.{follows_its_list}
 use Rattle.ppd_units.specs.Walk.{stands_in}
 use Rattle.ppd_step_laws.proofs.Course.Rising.{child_stands, inner_kind, parent_below, parent_same, top_stands}
 use Rattle.ppd_step_laws.proofs.Course.Standing.{as_parent}
-
-pub some_is : {A : Type 0} {x y : A} → Some x ≡ Some y → x ≡ y
-some_is {x = x} e = ap (λ o. elim o [ None ↦ x | Some z ↦ z ]) e
-
-pub none_some : {A : Type 0} {x : A} → None ≡ Some x → ⊥
-none_some e = absurd (cc)
+use Rattle.ppd_model.proofs.Changes.{some}
+use Rattle.ppd_model.proofs.Parents.{none_some}
 
 -- the next one is of the list, or what follows it
 first_cases : (xs : List ℕ) (after : Option ℕ) (u : ℕ) → first_or xs after ≡ Some u → IsTrue (has xs u) ⊎ (after ≡ Some u)
 first_cases [] after u h = inr h
-first_cases (x ∷ xs) after u h = inl (subst (λ y. IsTrue (has (x ∷ xs) y)) (some_is h) (has_first x xs))
+first_cases (x ∷ xs) after u h = inl (subst (λ y. IsTrue (has (x ∷ xs) y)) (some h) (has_first x xs))
 
 next_cases : (xs : List ℕ) (s : ℕ) (after : Option ℕ) (u : ℕ) → next_in xs s after ≡ Some u → IsTrue (has xs u) ⊎ (after ≡ Some u)
 next_cases [] s after u h = absurd (none_some h)
@@ -53,7 +49,7 @@ top_orphan p j u r y v h at is = by (slice_get p.bodies j) refl h
     by None e i = absurd (true≢false (sym i))
     by (Some b) e i =
         let z = top_stands p j u b v e i in
-        let same : z.0 ≡ y = some_is (sym z.1 ∙ at) in
+        let same : z.0 ≡ y = some (sym z.1 ∙ at) in
         none_some (sym z.2 ∙ ap (λ (x : Stmt). x.parent) same ∙ is)
 
 module _ (p : Program) (v : IsValid p) (u r : ℕ) (y : Stmt) (at : slice_get p.stmts u ≡ Some y) (is : y.parent ≡ Some r) where
@@ -74,7 +70,7 @@ module _ (p : Program) (v : IsValid p) (u r : ℕ) (y : Stmt) (at : slice_get p.
       elim (next_cases body t (Some q) u g) [
         | inl i ↦ let same : r ≡ q = of_parent q (K.While e body) is_k i in omega arith
         | inr o ↦
-            let loop : q ≡ u = some_is o in
+            let loop : q ≡ u = some o in
             let out : r < u = parent_below p u r y v at is in
             omega arith
       ]

@@ -29,18 +29,17 @@ use Rattle.ppd_sem.specs.Deed.{Deed, set_local, set_shared, branch, turn, leave,
 use Rattle.ppd_sem.specs.Process.{need_by_offer, offer_of, cost, entry_of, head_deed, need_by_entry, need_by_status, need_of_deed, need_of_head, need_of_running, top_cells}
 use Rattle.ppd_sem.specs.Passed.{next_stmt_of}
 use Rattle.ppd_sem.proofs.Offers.{IsDeedNeed, deed_need}
-use Rattle.ppd_sets.specs.Named.{cells_in, reads}
+use Rattle.ppd_sem.proofs.Needs.{free}
+use Rattle.ppd_blocks.specs.Named.{cells_in, reads}
 use Rattle.ppd_step_laws.specs.Laws.{ReadsItsCells}
-use Rattle.ppd_step_laws.proofs.Course.Outward.{none_some, some_is}
+use Rattle.ppd_model.proofs.Changes.{some}
+use Rattle.ppd_model.proofs.Parents.{none_some}
 
 -- the value is such, or what is wanted is such a cell
 abbrev Gives : {A : Type 0} → (ℕ → Type 0) → (A → Type 0) → Asked A → Type 0
 Gives W Q (Ok p) = Q p.0
 Gives W Q (Err (Wants c)) = W c
 Gives W Q (Err (Traps t)) = ⊤
-
-abbrev free : {A : Type 0} → A → Type 0
-free x = ⊤
 
 then_gives : {A B : Type 0} (W : ℕ → Type 0) (Q : A → Type 0) (a : Asked A) (next : A → List ℤ → Asked B) → Gives W Q a → ((x : A) (left : List ℤ) → Q x → Gives W free (next x left)) → Gives W free (and_then a next)
 then_gives W Q (Ok p) next h f = f p.0 p.1 h
@@ -175,7 +174,7 @@ head_need p plan t s =
 running_need : (p : Program) (plan : Plan) (ts : List Todo) (s : Proc) (h : ℕ) → next_stmt_of ts ≡ Some h → ReadsSuch (λ c. IsTrue (has (reads true p.exprs (kind_of p h)) c)) (need_of_running p plan ts s)
 running_need p plan [] s h e = absurd (none_some e)
 running_need p plan (t ∷ ts) s h e =
-    subst (λ i. ReadsSuch (λ c. IsTrue (has (reads true p.exprs (kind_of p i)) c)) (need_of_running p plan (t ∷ ts) s)) (some_is e)
+    subst (λ i. ReadsSuch (λ c. IsTrue (has (reads true p.exprs (kind_of p i)) c)) (need_of_running p plan (t ∷ ts) s)) (some e)
     (if_reads (λ c. IsTrue (has (reads true p.exprs (kind_of p t.stmt)) c)) (nat_lt s.budget (s.spent + cost plan (need_of_head p plan t s))) need.Budget (need_of_head p plan t s) tt (head_need p plan t s))
 
 status_need : (p : Program) (plan : Plan) (o : Option Status) (s : Proc) (h : ℕ) → next_stmt_of s.todo ≡ Some h → ReadsSuch (λ c. IsTrue (has (reads true p.exprs (kind_of p h)) c)) (need_by_status p plan o s)

@@ -1,6 +1,6 @@
 -- Where each deed leads a process that is on course.
 use Rattle.std.proofs.Common.{◌≡◌, ℕ, Bool, true, false, List, [], ◌∷◌, ◌++◌, length, Option, Some, None, refl, sym, subst, ap, ◌∙◌, inl, inr, ◌⊎◌, true≢false, if◌then◌else◌}
-use Rattle.std.specs.Prelude.{IsTrue, slice_get}
+use Rattle.std.specs.Prelude.{IsTrue, slice_get, option_to_list}
 use Rattle.std.specs.List.{All}
 use Rattle.ppd_ast.specs.declared.plan.BlockKind.TheVariants as block
 use Rattle.ppd_ast.specs.declared.plan.Plan.{Plan}
@@ -17,7 +17,7 @@ use Rattle.ppd_ast.specs.Members.{has}
 use Rattle.ppd_ast.specs.Lookups.{kind_of_stmt, kind_of, top_of_body, top_of}
 use Rattle.ppd_ast.proofs.Members.{has_first, has_left, has_right, all_has}
 use Rattle.ppd_cfg.specs.Flow.{follow, next_of, successors}
-use Rattle.ppd_cfg.specs.Lists.{first_or, rising, to_list}
+use Rattle.ppd_cfg.specs.Lists.{first_or, rising}
 use Rattle.ppd_sem.specs.declared.proc.Todo.{Todo}
 use Rattle.ppd_sem.specs.Process.{entry_of, loop_of, todos}
 use Rattle.ppd_sem.specs.Runs.{AreOfFunction, IsCallable, IsInner, IsRunnable, IsRunnableStmt, LeadsOn, returns, size_of}
@@ -29,11 +29,13 @@ use Rattle.ppd_units.specs.Walk.{stands_in}
 use Rattle.ppd_step_laws.specs.Course.{BeginsList, GoesOn, IsBehind, IsMarkedBehind, IsWay}
 use Rattle.ppd_step_laws.proofs.Course.Chains.{IsChain, body_chain, first_chain, second_chain, top_chain}
 use Rattle.ppd_step_laws.proofs.Course.Deeds.{IsBranch, IsInvoke, IsLocal}
-use Rattle.ppd_step_laws.proofs.Course.Outward.{as_parent_behind, none_some, some_is}
+use Rattle.ppd_step_laws.proofs.Course.Outward.{as_parent_behind}
 use Rattle.ppd_step_laws.proofs.Course.Rising.{child_stands, inner_kind, parent_below}
 use Rattle.ppd_step_laws.proofs.Course.Standing.{in_itself, in_parent, not_in_later}
 use Rattle.ppd_step_laws.proofs.Course.Successors.{has_rising_left, has_rising_right}
 use Rattle.ppd_step_laws.proofs.Course.Ways.{function_way, head_todos, list_way}
+use Rattle.ppd_model.proofs.Changes.{some}
+use Rattle.ppd_model.proofs.Parents.{none_some}
 
 -- ---- what a valid program's tables say of a statement
 
@@ -41,7 +43,7 @@ some_leads : (p : Program) (s : ℕ) (o : Option Stmt) → IsRunnable p → slic
 some_leads p s None run at = (0, tt)
 some_leads p s (Some x) run at =
     let found = there_at (λ _ x. IsRunnableStmt p x) p.stmts s run.stmts (slice_get_below p.stmts s x at) in
-    let same : found.0 ≡ x = some_is (sym found.1 ∙ at) in
+    let same : found.0 ≡ x = some (sym found.1 ∙ at) in
     (size_of p x.body, subst (λ (y : Stmt). LeadsOn p (size_of p y.body) y.kind) same found.2.leads)
 
 leads : (p : Program) (s : ℕ) → IsValid p → (n : ℕ) × LeadsOn p n (kind_of p s)
@@ -71,7 +73,7 @@ module _ (p : Program) (plan : Plan) (v : IsValid p) (t : Todo) (ts : List Todo)
   local_on l h u us e =
       let f : follow p t.stmt ≡ Some u.stmt = sym h.follows ∙ ap next_stmt_of e in
       record {
-        next = subst (λ xs. IsTrue (has xs u.stmt)) (sym (l.goes t.stmt (follow p t.stmt) ∙ ap to_list f)) (has_first u.stmt []);
+        next = subst (λ xs. IsTrue (has xs u.stmt)) (sym (l.goes t.stmt (follow p t.stmt) ∙ ap option_to_list f)) (has_first u.stmt []);
         same_unit = l.same_unit;
         marks = marks_of t.stmt u us ts e h.marks;
         inside = λ b w is. absurd (true≢false (sym w ∙ l.no_loop));
@@ -120,7 +122,7 @@ module _ (p : Program) (plan : Plan) (v : IsValid p) (t : Todo) (ts : List Todo)
         → (b : ℕ) → block_of plan (block.Loop u.stmt) ≡ Some b → u.entered ≡ stands_in p t.stmt u.stmt
     choice_begins [] c h u us same = marks_of t.stmt u us ts same h.marks
     choice_begins (x ∷ xs) c h u us same =
-        let one : (record { stmt = x; entered = false; offered = false }) ≡ u = some_is (ap (λ l. slice_get l 0) same) in
+        let one : (record { stmt = x; entered = false; offered = false }) ≡ u = some (ap (λ l. slice_get l 0) same) in
         let no : stands_in p t.stmt x ≡ false = not_round (K.If e first second) x is_if (part (x ∷ xs) c x (has_first x xs)) in
         λ b is. subst (λ (z : Todo). z.entered ≡ stands_in p t.stmt z.stmt) one (sym no)
 
@@ -169,11 +171,11 @@ module _ (p : Program) (plan : Plan) (v : IsValid p) (t : Todo) (ts : List Todo)
     turn_begins : (stmts : List ℕ) → body ≡ stmts → (u : Todo) (us : List Todo) → todos stmts ++ t ∷ ts ≡ u ∷ us
         → ((b : ℕ) → block_of plan (block.Loop u.stmt) ≡ Some b → u.entered ≡ stands_in p t.stmt u.stmt) × (stands_in p u.stmt t.stmt ≡ true)
     turn_begins [] c u us same =
-        let one : t ≡ u = some_is (ap (λ l. slice_get l 0) same) in
+        let one : t ≡ u = some (ap (λ l. slice_get l 0) same) in
         subst (λ (z : Todo). ((b : ℕ) → block_of plan (block.Loop z.stmt) ≡ Some b → z.entered ≡ stands_in p t.stmt z.stmt) × (stands_in p z.stmt t.stmt ≡ true)) one
         (λ b is. is_entered b is ∙ sym (in_itself p t.stmt), in_itself p t.stmt)
     turn_begins (x ∷ xs) c u us same =
-        let one : (record { stmt = x; entered = false; offered = false }) ≡ u = some_is (ap (λ l. slice_get l 0) same) in
+        let one : (record { stmt = x; entered = false; offered = false }) ≡ u = some (ap (λ l. slice_get l 0) same) in
         let i : IsTrue (has body x) = subst (λ l. IsTrue (has l x)) (sym c) (has_first x xs) in
         let y = child (K.While e body) x is_while_of i in
         let no : stands_in p t.stmt x ≡ false = not_round (K.While e body) x is_while_of i in
@@ -222,7 +224,7 @@ module _ (p : Program) (plan : Plan) (v : IsValid p) (t : Todo) (ts : List Todo)
       where
         list : (xs : List ℕ) → AreOfFunction p n xs → BeginsList xs (todos xs ++ ts)
         list [] ends = absurd ends
-        list (x ∷ xs) ends = record { first = refl; unmarked = λ u us same. let one : (record { stmt = x; entered = false; offered = false }) ≡ u = some_is (ap (λ l. slice_get l 0) same) in sym (ap (λ (z : Todo). z.entered) one) }
+        list (x ∷ xs) ends = record { first = refl; unmarked = λ u us same. let one : (record { stmt = x; entered = false; offered = false }) ≡ u = some (ap (λ l. slice_get l 0) same) in sym (ap (λ (z : Todo). z.entered) one) }
 
         by : (o : Option Body) → AreOfFunction p n (top_of_body o) → BeginsList (top_of_body o) (todos (top_of_body o) ++ ts)
         by None ends = absurd ends

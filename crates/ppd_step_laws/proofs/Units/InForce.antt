@@ -1,6 +1,6 @@
 -- The head of what a process has to do is reached in the unit in force, or is a block loop that is yet to be entered.
 use Rattle.std.proofs.Common.{◌≡◌, ℕ, ◌<◌, true, false, List, [], ◌∷◌, Option, Some, None, refl, ap, sym, subst, ◌∙◌, inl, inr, ◌⊎◌, length, true≢false}
-use Rattle.std.specs.Prelude.{⊤, get_or, IsSome, not, ◌&&◌, ◌||◌, slice_get, unwrap_or}
+use Rattle.std.specs.Prelude.{⊤, get_or, IsSome, not, ◌&&◌, ◌||◌, slice_get, unwrap_or, option_to_list}
 use Rattle.std.proofs.lemmas.Bool.{cases_Bool}
 use Rattle.std.proofs.lemmas.Option.{slice_get_within}
 use Rattle.ppd_ast.specs.declared.program.Body.{Body}
@@ -19,7 +19,7 @@ use Rattle.ppd_ast.specs.Members.{has}
 use Rattle.ppd_ast.specs.Lookups.{kind_of_stmt, kind_of, top_of_body, top_of}
 use Rattle.ppd_ast.proofs.Members.{has_first}
 use Rattle.ppd_cfg.specs.Flow.{follow}
-use Rattle.ppd_cfg.specs.Lists.{first_or, to_list}
+use Rattle.ppd_cfg.specs.Lists.{first_or}
 use Rattle.ppd_cfg.specs.Reach.{Reached, next, start as starts_at}
 use Rattle.ppd_units.specs.Starts.{all_starts}
 use Rattle.ppd_units.specs.Walk.{begin_of, enters, is_between, leaves, stands_in, unit_rows, unless}
@@ -63,7 +63,7 @@ module _ (program : Program) (policy : Policy) where
 
   -- the unit with this start reaches the statement
   abbrev pub IsInUnit : Start → ℕ → Type 0
-  IsInUnit s stmt = Reached (unit_rows program loops) (to_list (begin_of program loops s)) stmt
+  IsInUnit s stmt = Reached (unit_rows program loops) (option_to_list (begin_of program loops s)) stmt
 
   -- a unit that is there, and reaches the head
   pub record HasHead (unit : ℕ) (t : Todo) : Type 0 where
@@ -95,7 +95,7 @@ module _ (program : Program) (policy : Policy) where
       ]
 
   begun : (s : Start) (n : ℕ) (o : Option ℕ) → begin_of program loops s ≡ o → o ≡ Some n → IsInUnit s n
-  begun s n o e is = subst (λ (x : Option ℕ). Reached (unit_rows program loops) (to_list x) n) (sym (e ∙ is)) (starts_at (has_first n []))
+  begun s n o e is = subst (λ (x : Option ℕ). Reached (unit_rows program loops) (option_to_list x) n) (sym (e ∙ is)) (starts_at (has_first n []))
 
   by_follow : (a : ℕ) (origin : Start) (t : Todo) → begin_of program loops origin ≡ unless (enters program loops a) (follow program a) → Some t.stmt ≡ follow program a → IsMarked a t
       → IsYetToEnter t ⊎ IsInUnit origin t.stmt

@@ -1,6 +1,6 @@
 -- Each shared read of a run lies in the cells of the unit in force.
 use Rattle.std.proofs.Common.{◌≡◌, ℕ, ◌<◌, ◌≤◌, true, List, [], ◌∷◌, ◌++◌, refl, ap, sym, subst, ◌∙◌, inl, inr, arith, length}
-use Rattle.std.specs.Prelude.{IsSome, IsTrue, fold, slice_get, unwrap_or, ◌+◌}
+use Rattle.std.specs.Prelude.{IsSome, IsTrue, fold, slice_get, unwrap_or, ◌+◌, option_to_list}
 use Rattle.std.specs.List.{flat_map, range_with_len}
 use Rattle.ppd_ast.specs.declared.program.Program.{Program}
 use Rattle.ppd_ast.specs.declared.plan.Plan.{Plan}
@@ -10,10 +10,9 @@ use Rattle.ppd_ast.specs.declared.plan.Start.TheVariants.{Entry}
 use Rattle.ppd_ast.specs.Valid.{IsValid}
 use Rattle.ppd_ast.specs.Members.{has, those}
 use Rattle.ppd_ast.proofs.Members.{filter_has, from_zero, flat_from}
-use Rattle.ppd_cfg.specs.Lists.{to_list}
 use Rattle.ppd_cfg.specs.Reach.{Reached, closure, leads}
 use Rattle.ppd_cfg.proofs.Leading.{leads-tests}
-use Rattle.ppd_sets.specs.Used.{reads_at}
+use Rattle.ppd_blocks.specs.Used.{reads_at}
 use Rattle.ppd_units.specs.Starts.{unit_of as unit_from}
 use Rattle.ppd_units.specs.Walk.{begin_of, unit_cells, unit_rows}
 use Rattle.ppd_units.proofs.Paths.{sorted_from}
@@ -40,11 +39,11 @@ use Rattle.ppd_step_laws.proofs.Units.Needs.{AreCalled, IsEntering, read_has, re
 use Rattle.ppd_step_laws.proofs.Units.Numbers.{unit_there}
 
 -- a cell that a reached statement may read is among those of the unit
-cells_have : (p : Program) (loops : List ℕ) (origin : Start) (s c : ℕ) → IsValid p → Reached (unit_rows p loops) (to_list (begin_of p loops origin)) s → IsTrue (has (reads_at true p s) c) → IsTrue (has (unit_cells p loops origin) c)
+cells_have : (p : Program) (loops : List ℕ) (origin : Start) (s c : ℕ) → IsValid p → Reached (unit_rows p loops) (option_to_list (begin_of p loops origin)) s → IsTrue (has (reads_at true p s) c) → IsTrue (has (unit_cells p loops origin) c)
 cells_have p loops origin s c v reached read =
     let n : ℕ = length p.stmts in
     let rows : List (List ℕ) = unit_rows p loops in
-    let starts : List ℕ = to_list (begin_of p loops origin) in
+    let starts : List ℕ = option_to_list (begin_of p loops origin) in
     let stmts : List ℕ = those n (leads (closure rows) starts) in
     let stands = filter_has (leads (closure rows) starts) (range_with_len 0 n) s (from_zero s n (read_is_stmt p s c read)) ((leads-tests rows starts s).1 reached) in
     let few : length p.starts ≤ 1024 = v.limits.starts in
@@ -95,7 +94,7 @@ module _ (program : Program) (policy : Policy) (v : IsValid program) where
   reads_head u c s [] is need h = absurd (read_has program plan s c need is)
   reads_head u c s (t ∷ ts) is need h =
       let loops : List ℕ = block_loops program policy in
-      let reached : Reached (unit_rows program loops) (to_list (begin_of program loops h.origin)) t.stmt = in_unit program policy s t ts u is h (λ k. subst IsEntering need k) in
+      let reached : Reached (unit_rows program loops) (option_to_list (begin_of program loops h.origin)) t.stmt = in_unit program policy s t ts u is h (λ k. subst IsEntering need k) in
       record {
         found = unit_from program loops h.origin;
         there = ap (slice_get plan.units) h.unit_is ∙ unit_there program policy h.origin h.listed;

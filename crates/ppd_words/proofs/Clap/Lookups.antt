@@ -72,10 +72,6 @@ long_of_names : (i : ℕ) (ids : List Text) (name : Text) → arg_by_long (names
 long_of_names i [] name = refl
 long_of_names i (id ∷ ids) name = long_of_names (min (i + 1) usize_max) ids name
 
-or_false : (b : Bool) → (b || false) ≡ b
-or_false true = refl
-or_false false = refl
-
 pub by_long : (i : ℕ) (longs ids : List Text) (name : Text) → arg_by_long (rules_from i longs ids) name ≡ cond (is_among longs name) (Some (option_at name)) None
 by_long i [] ids name = long_of_names i ids name
 by_long i (l ∷ longs) ids name = go (bytes_eq l name) (same-equal l name) (by_long i longs ids name)

@@ -5,6 +5,7 @@ use Rattle.std.specs.List.{before_first}
 use Rattle.std.specs.Str.{bytes_eq}
 use Rattle.std.proofs.lemmas.Bool.Decides.{nat_tests}
 use Rattle.std.proofs.lemmas.List.{drop_at, take-append-drop, take_at}
+use Rattle.std.proofs.Math.Bool.{and-false}
 use Rattle.clap.specs.Lexer.{has_byte, long_of_rest, name_and_value, short_of, short_of_rest, strip_byte}
 use Rattle.clap.proofs.CutLemmas.{Lacks, before_first-at, list_any-at}
 use Rattle.clap.proofs.LexerLemmas.{name_and_value-at, name_and_value-without}
@@ -16,10 +17,6 @@ use Rattle.ppd_words.specs.Words.{Given, Kind, Text, after_word, and_words, ends
 is_false : (t : Bool) → (t ≡ true → ⊥) → t ≡ false
 is_false true h = absurd (h refl)
 is_false false h = refl
-
-and_false : (b : Bool) → (b && false) ≡ false
-and_false true = refl
-and_false false = refl
 
 clash : (t : Bool) → t ≡ true → t ≡ false → ⊥
 clash t a b = true≢false (sym a ∙ b)
@@ -162,7 +159,7 @@ one_hyphen longs c bs all = go (c == 45) refl
 
 pub spelled_alike : (longs : List Text) (w : Text) → HaveNoEquals longs → clap_spelled longs w ≡ spelled longs w
 spelled_alike longs [] all = sym (not_long longs [] (λ x. refl) (λ n x. refl))
-spelled_alike longs (b ∷ []) all = go (b == 45) (not_long longs (b ∷ []) (λ x. and_false (b == 45)) (λ n x. and_false (b == 45)))
+spelled_alike longs (b ∷ []) all = go (b == 45) (not_long longs (b ∷ []) (λ x. and-false (b == 45)) (λ n x. and-false (b == 45)))
   where
     go : (t : Bool) → by_beginning longs (b ∷ []) ≡ name
         → (if t && false then ends else long_kind longs (option_and_then long_of_rest (option_and_then (strip_byte 45) (if t then Some [] else None))) (option_and_then short_of_rest (if t then Some [] else None)))

@@ -6,6 +6,7 @@ use Rattle.std.specs.Option.{option_map_or}
 use Rattle.std.specs.Str.{bytes_eq, chars}
 use Rattle.std.proofs.Math.Nat.{min-eq_left}
 use Rattle.std.proofs.lemmas.Str.{chars-nil}
+use Rattle.std.proofs.Math.Bool.{and-false}
 use Rattle.clap.specs.Lexer.{long_of, short_of, usize_max}
 use Rattle.clap.specs.Faults.{bundle_fault, bundle_step_fault, check_fault, defaults_fault, flag_word_fault, flags_fault, long_fault, positional_fault, settle_fault, short_fault, step_fault, stray_fault, turn_fault, use_fault}
 use Rattle.clap.specs.Kinds.{Kinds, or_else}
@@ -17,7 +18,7 @@ use Rattle.ppd_words.proofs.Clap.Kinds.{clap_spelled, is_among, kind_by, option_
 use Rattle.ppd_words.proofs.Clap.Lookups.{IsPlain, got_below, got_is_among, name_at, name_found, option_at, plain_rule, same-refl}
 use Rattle.ppd_words.proofs.Clap.Rows.{fresh, has_row-for}
 use Rattle.ppd_words.proofs.Clap.Taken.{rows_for, unless}
-use Rattle.ppd_words.specs.Words.{Given, Uses, and_words, given_from, has, other, with_kind, with_name, with_name_at, with_use, with_value}
+use Rattle.ppd_words.specs.Words.{Given, Uses, and_words, given_from, was_used, other, with_kind, with_name, with_name_at, with_use, with_value}
 
 -- ---- faults
 
@@ -36,10 +37,6 @@ first_fails (x ∷ k) l f = tt
 pub both_unless : (k l : Kinds) (z : Option (List Row)) → unless (or_else k l) z ≡ unless k (unless l z)
 both_unless [] l z = refl
 both_unless (x ∷ k) l z = refl
-
-and_false : (b : Bool) → (b && false) ≡ false
-and_false true = refl
-and_false false = refl
 
 -- the word's flags begin with a character
 abbrev pub HasFirst : Text → Type 0
@@ -65,7 +62,7 @@ pub record Serves (c : List Rule) (longs ids : List Text) : Type 0 where
   pub place : (k : ℕ) → arg_by_index c (k + 1) ≡ name_found (k + 1) (slice_get ids k)
   pub unfaulted : (rows : List Row) → defaults_fault rows c ≡ []
   pub kept : (rows : List Row) → fold with_default rows c ≡ rows
-  pub wanted : (u : Uses) → list_any (λ a. a.required && not (is_given a.id (rows_for u))) c ≡ not (list_all (λ id. has id u) ids)
+  pub wanted : (u : Uses) → list_any (λ a. a.required && not (is_given a.id (rows_for u))) c ≡ not (list_all (λ id. was_used id u) ids)
 
 module _ (title : Text) (c : List Rule) where
   abbrev pub end_of : Held → Option (List Row)
@@ -137,7 +134,7 @@ module _ (title : Text) (c : List Rule) where
         → unless (option_map_or (λ a. positional_fault c false a (held_at rows p)) (name_found (k + 1) o) (stray_fault (shape_with title c))) z ≡ None
     place_fails rows p k None z f = refl
     place_fails rows p k (Some id) z f =
-        ap (λ (b : Bool). unless (if b then [] else settle_fault c false (held_at rows p)) z) (and_false (is_pending (name_at (k + 1) id) p))
+        ap (λ (b : Bool). unless (if b then [] else settle_fault c false (held_at rows p)) z) (and-false (is_pending (name_at (k + 1) id) p))
         ∙ go (settle_fault c false (held_at rows p)) f
       where
         go : (s : Kinds) → Fails s → unless s z ≡ None
@@ -214,25 +211,25 @@ module _ (title : Text) (c : List Rule) where
     repeats b = if b then kind.ArgumentConflict ∷ [] else []
 
     -- one use of a rule
-    use_is : (long : Option Text) (index : Option ℕ) (is_required : Bool) (id word : Text) (u : Uses) → use_fault false (plain_rule long index is_required id) (word ∷ []) (rows_for u) ≡ repeats (has id u)
-    use_is long index is_required id word u = ap (λ (b : Bool). or_else (if b && not false then kind.ArgumentConflict ∷ [] else []) []) (has_row-for id u) ∙ go (has id u)
+    use_is : (long : Option Text) (index : Option ℕ) (is_required : Bool) (id word : Text) (u : Uses) → use_fault false (plain_rule long index is_required id) (word ∷ []) (rows_for u) ≡ repeats (was_used id u)
+    use_is long index is_required id word u = ap (λ (b : Bool). or_else (if b && not false then kind.ArgumentConflict ∷ [] else []) []) (has_row-for id u) ∙ go (was_used id u)
       where
         go : (b : Bool) → or_else (if b && not false then kind.ArgumentConflict ∷ [] else []) [] ≡ repeats b
         go true = refl
         go false = refl
 
     -- the value that is pending
-    one_settles : (id word : Text) (u : Uses) → IsPlain c id → settle_fault c false (held_at (rows_for u) (Some (id, word ∷ []))) ≡ repeats (has id u)
+    one_settles : (id word : Text) (u : Uses) → IsPlain c id → settle_fault c false (held_at (rows_for u) (Some (id, word ∷ []))) ≡ repeats (was_used id u)
     one_settles id word u is = ap (λ (o : Option Rule). option_map_or (λ a. use_fault false a (word ∷ []) (rows_for u)) o []) is.found ∙ use_is is.long is.index is.is_required id word u
 
-    one_settled : (id word : Text) (u : Uses) → IsPlain c id → has id u ≡ false → settled_rows c (Some (id, word ∷ [])) (rows_for u) ≡ rows_for (u ++ (id, word) ∷ [])
+    one_settled : (id word : Text) (u : Uses) → IsPlain c id → was_used id u ≡ false → settled_rows c (Some (id, word ∷ [])) (rows_for u) ≡ rows_for (u ++ (id, word) ∷ [])
     one_settled id word u is e = ap (λ (o : Option Rule). used_by_id o (word ∷ []) (rows_for u)) is.found ∙ fresh id word u e
 
     held_gives : (ws : List Text) → AllRead ws → Gives ws → (id word : Text) (u : Uses) (k : ℕ) (t : Bool) → IsPlain c id
         → total (walk_at (rows_for u) (Some (id, word ∷ [])) idle k t) ws ≡ wanted_after (with_use id word (so_far None t k u)) ws
-    held_gives ws r next id word u k t is = go (has id u) refl
+    held_gives ws r next id word u k t is = go (was_used id u) refl
       where
-        go : (b : Bool) → has id u ≡ b → total (walk_at (rows_for u) (Some (id, word ∷ [])) idle k t) ws
+        go : (b : Bool) → was_used id u ≡ b → total (walk_at (rows_for u) (Some (id, word ∷ [])) idle k t) ws
             ≡ wanted_after (if b then None else Some (so_far None t k (u ++ (id, word) ∷ []))) ws
         go true e = doomed (rows_for u) (Some (id, word ∷ [])) k t ws r (subst Fails (sym (one_settles id word u is ∙ ap repeats e)) tt)
         go false e = next.on_idle (u ++ (id, word) ∷ []) k t (rows_for u) (Some (id, word ∷ [])) (one_settles id word u is ∙ ap repeats e) (one_settled id word u is e)
@@ -250,7 +247,7 @@ module _ (title : Text) (c : List Rule) where
         let h : Held = held_at rows p in
         let trailing_is : (t || false) ≡ t = or_false t in
         let first : to_positional c (Some (name_at (k + 1) id)) word (walk_at rows p idle k t) h ≡ record { held = held_at (settled_rows c p rows) (Some (id, word ∷ [])); waiting = idle; position = min (k + 1 + 1) usize_max; is_trailing = t || false; stopped = None } =
-        ap (λ (b : Bool). walk_with (pushed id word (if b then h else settled c h)) k t) (and_false (is_pending (name_at (k + 1) id) p)) in
+        ap (λ (b : Bool). walk_with (pushed id word (if b then h else settled c h)) k t) (and-false (is_pending (name_at (k + 1) id) p)) in
         let second : ◌≡◌ {A = Walk} (record { held = held_at (settled_rows c p rows) (Some (id, word ∷ [])); waiting = idle; position = min (k + 1 + 1) usize_max; is_trailing = t || false; stopped = None }) (walk_at (rows_for u) (Some (id, word ∷ [])) idle (k + 1) t) =
         λ i. record { held = held_at (rows_is i) (Some (id, word ∷ [])); waiting = idle; position = position_is i; is_trailing = trailing_is i; stopped = None } in
         first ∙ second
@@ -269,7 +266,7 @@ module _ (title : Text) (c : List Rule) where
             let below : k < length ids = got_below ids k id e in
             let position_is : min (k + 1 + 1) usize_max ≡ k + 1 + 1 = min-eq_left (omega (arith, serves.few)) in
             let w : Walk = to_positional c (Some (name_at (k + 1) id)) word (walk_at rows p idle k t) (held_at rows p) in
-            ap (λ (b : Bool). unless (if b then [] else settle_fault c false (held_at rows p)) (total w ws)) (and_false (is_pending (name_at (k + 1) id) p))
+            ap (λ (b : Bool). unless (if b then [] else settle_fault c false (held_at rows p)) (total w ws)) (and-false (is_pending (name_at (k + 1) id) p))
             ∙ ap (λ (f : Kinds). unless f (total w ws)) ok
             ∙ ap (λ (v : Walk). total v ws) (walk_is id word u k t rows p rows_is position_is)
             ∙ held_gives ws r next id word u (k + 1) t (serves.name_id id (got_is_among ids k id e))
@@ -282,7 +279,7 @@ module _ (title : Text) (c : List Rule) where
         ap (λ (found : Option Rule). outcome (walk_at rows p idle k false) x (long_fault c false found q.1 (held_at rows p)) (after_flag c idle x (long_met c found q.1 (held_at rows p)).0 (long_met c found q.1 (held_at rows p)).1) xs) (serves.long q.0)
         ∙ go (is_among longs q.0) refl q.1
       where
-        used_go : (v : Text) (b : Bool) → has q.0 u ≡ b → unless (or_else (repeats b) []) (total (walk_at (used (option_at q.0) (v ∷ []) (rows_for u)) None idle k false) xs)
+        used_go : (v : Text) (b : Bool) → was_used q.0 u ≡ b → unless (or_else (repeats b) []) (total (walk_at (used (option_at q.0) (v ∷ []) (rows_for u)) None idle k false) xs)
             ≡ wanted_after (if b then None else Some (so_far None false k (u ++ (q.0, v) ∷ []))) xs
         used_go v true e = refl
         used_go v false e = next.on_idle (u ++ (q.0, v) ∷ []) k false (used (option_at q.0) (v ∷ []) (rows_for u)) None refl (fresh q.0 v u e)
@@ -298,7 +295,7 @@ module _ (title : Text) (c : List Rule) where
             ap (λ (f : Kinds). unless (or_else (or_else f (use_fault false (option_at q.0) (v ∷ []) (settled_rows c p rows))) []) (total (walk_at (used (option_at q.0) (v ∷ []) (settled_rows c p rows)) None idle k false) xs)) ok
             ∙ ap (λ (rs : List Row). unless (or_else (use_fault false (option_at q.0) (v ∷ []) rs) []) (total (walk_at (used (option_at q.0) (v ∷ []) rs) None idle k false) xs)) rows_is
             ∙ ap (λ (f : Kinds). unless (or_else f []) (total (walk_at (used (option_at q.0) (v ∷ []) (rows_for u)) None idle k false) xs)) (use_is (Some q.0) None false q.0 v u)
-            ∙ used_go v (has q.0 u) refl
+            ∙ used_go v (was_used q.0 u) refl
     idle_by xs r next x u k rows p ok rows_is false None (Some flags) first = unless_fails (bundle_fault c false flags (held_at rows p)) _ _ (bundle_fails rows p flags (first flags refl))
     idle_by xs r next x u k rows p ok rows_is false None None first = named_gives xs r next x u k false rows p ok rows_is
 
@@ -331,7 +328,7 @@ module _ (title : Text) (c : List Rule) where
         ∙ ap (λ (f : Kinds). unless (or_else f (check_fault (shape_with title c) (finished c h) false)) (Some (finished c h))) (serves.unfaulted (settled_rows c p rows))
         ∙ ap (λ (rs : List Row). unless (check_fault (shape_with title c) rs false) (Some rs)) (serves.kept (settled_rows c p rows) ∙ rows_is)
         ∙ ap (λ (b : Bool). unless (if b then kind.MissingRequiredArgument ∷ [] else []) (Some (rows_for u))) (serves.wanted u)
-        ∙ go (list_all (λ id. has id u) ids)
+        ∙ go (list_all (λ id. was_used id u) ids)
       where
         go : (b : Bool) → unless (if not b then kind.MissingRequiredArgument ∷ [] else []) (Some (rows_for u)) ≡ option_map rows_for (if b then Some u else None)
         go true = refl

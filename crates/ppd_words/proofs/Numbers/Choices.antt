@@ -101,14 +101,6 @@ pub none_is : {X : Type 0} (o : Option X) → is_none o ≡ not (is_some o)
 none_is None = refl
 none_is (Some x) = refl
 
-pub or_false : (b : Bool) → (b || false) ≡ b
-or_false true = refl
-or_false false = refl
-
-pub or_true : (b : Bool) → (b || true) ≡ true
-or_true true = refl
-or_true false = refl
-
 -- ---- what a word may be
 
 pub among_back : (id : Text) → is_among flow_longs id ≡ true → id_of (choice_of id) ≡ id

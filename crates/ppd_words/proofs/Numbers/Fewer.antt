@@ -3,23 +3,20 @@ use Rattle.std.proofs.Common.{◌≡◌, ◌∙◌, ◌+◌, ◌&&◌, ◌||◌,
 use Rattle.std.specs.Prelude.{◌⊎◌, ⊤, if◌then◌else◌, is_none, slice_get}
 use Rattle.std.specs.List.{list_all}
 use Rattle.std.specs.Str.{bytes_eq}
+use Rattle.std.proofs.Math.Bool.{or-true}
 use Rattle.clap.specs.Lexer.{long_of, short_of}
 use Rattle.ppd_words.proofs.Clap.Kinds.{clap_gives, clap_spelled, is_among, kind_by, option_kind}
 use Rattle.ppd_words.proofs.Clap.Lookups.{same-equal, same-refl}
 use Rattle.ppd_words.proofs.Uses.{has_push}
-use Rattle.ppd_words.specs.Words.{Given, Kind, Text, Uses, after_word, and_words, ends, given_from, has, name, nothing_given, other, sets, waits, with_kind, with_name, with_name_at, with_use, with_value, with_word}
+use Rattle.ppd_words.specs.Words.{Given, Kind, Text, Uses, after_word, and_words, ends, given_from, was_used, name, nothing_given, other, sets, waits, with_kind, with_name, with_name_at, with_use, with_value, with_word}
 
 abbrev pub without : Text → Option Uses → Option Uses
 without l None = None
-without l (Some u) = if has l u then None else Some u
-
-or_true : (b : Bool) → (b || true) ≡ true
-or_true true = refl
-or_true false = refl
+without l (Some u) = if was_used l u then None else Some u
 
 module _ (l : Text) (longs ids : List Text) where
   abbrev IsDoomed : Given → Type 0
-  IsDoomed g = (has l g.uses ≡ true) ⊎ (g.waiting ≡ Some l)
+  IsDoomed g = (was_used l g.uses ≡ true) ⊎ (g.waiting ≡ Some l)
 
   StaysDoomed : Option Given → Type 0
   StaysDoomed o = (h : Given) → o ≡ Some h → IsDoomed h
@@ -35,7 +32,7 @@ module _ (l : Text) (longs ids : List Text) where
       subst IsDoomed same d
 
   use_doomed : (id value : Text) (g : Given) → IsDoomed g → StaysDoomed (with_use id value g)
-  use_doomed id value g d = go (has id g.uses)
+  use_doomed id value g d = go (was_used id g.uses)
     where
       after : IsDoomed g → IsDoomed (record g { uses = g.uses ++ (id, value) ∷ [] })
       after (inl e) = inl (has_push l g.uses (id, value) ∙ ap (λ (b : Bool). b || bytes_eq id l) e)
@@ -52,7 +49,7 @@ module _ (l : Text) (longs ids : List Text) where
       go None = none_doomed
       go (Some id) = use_doomed id w (record g { count = g.count + 1 }) d
 
-  kind_doomed : (k : Kind) (w : Text) (g : Given) → has l g.uses ≡ true → StaysDoomed (with_kind ids k w g)
+  kind_doomed : (k : Kind) (w : Text) (g : Given) → was_used l g.uses ≡ true → StaysDoomed (with_kind ids k w g)
   kind_doomed ends w g e = some_doomed (record g { ended = true }) (inl e)
   kind_doomed (waits id) w g e = some_doomed (record g { waiting = Some id }) (inl e)
   kind_doomed (sets id value) w g e = use_doomed id value g (inl e)
@@ -65,14 +62,14 @@ module _ (l : Text) (longs ids : List Text) where
   value_doomed id (sets x v) w g is d = none_doomed
   value_doomed id other w g is d = none_doomed
   value_doomed id name w g is (inl e) = use_doomed id w (record g { waiting = None }) (inl e)
-  value_doomed id name w g is (inr e) = go (has id g.uses)
+  value_doomed id name w g is (inr e) = go (was_used id g.uses)
     where
       go : (b : Bool) → StaysDoomed (if b then None else Some (record g { waiting = None; uses = g.uses ++ (id, w) ∷ [] }))
       go true = none_doomed
       go false =
           let same : id ≡ l = cc in
           some_doomed (record g { waiting = None; uses = g.uses ++ (id, w) ∷ [] })
-          (inl (has_push l g.uses (id, w) ∙ ap (λ (x : Text). has l g.uses || bytes_eq x l) same ∙ ap (λ (b : Bool). has l g.uses || b) (same-refl l) ∙ or_true (has l g.uses)))
+          (inl (has_push l g.uses (id, w) ∙ ap (λ (x : Text). was_used l g.uses || bytes_eq x l) same ∙ ap (λ (b : Bool). was_used l g.uses || b) (same-refl l) ∙ or-true (was_used l g.uses)))
 
   after_doomed : (all : List Text) (w : Text) (g : Given) → IsDoomed g → StaysDoomed (after_word (clap_spelled all) ids g w)
   after_doomed all w g d = by_end g.ended
@@ -88,8 +85,8 @@ module _ (l : Text) (longs ids : List Text) where
 
   doomed : (all : List Text) (ws : List Text) (g : Given) → IsDoomed g → without l (given_from (clap_spelled all) ids g ws) ≡ None
   unfolding StaysDoomed
-  doomed all [] g (inr e) = ap (λ (o : Option Text). without l (if is_none o && list_all (λ id. has id g.uses) ids then Some g.uses else None)) e
-  doomed all [] g (inl e) = go (is_none g.waiting && list_all (λ id. has id g.uses) ids)
+  doomed all [] g (inr e) = ap (λ (o : Option Text). without l (if is_none o && list_all (λ id. was_used id g.uses) ids then Some g.uses else None)) e
+  doomed all [] g (inl e) = go (is_none g.waiting && list_all (λ id. was_used id g.uses) ids)
     where
       go : (b : Bool) → without l (if b then Some g.uses else None) ≡ None
       go true = ap (λ (t : Bool). if t then None else Some g.uses) e
@@ -103,7 +100,7 @@ module _ (l : Text) (longs ids : List Text) where
   -- ---- a command that does not know the option
 
   pub record Fine (g : Given) : Type 0 where
-    pub unused : has l g.uses ≡ false
+    pub unused : was_used l g.uses ≡ false
     pub elsewhere : (id : Text) → g.waiting ≡ Some id → bytes_eq id l ≡ false
 
   abbrev AreFine : Option Given → Type 0
@@ -113,11 +110,11 @@ module _ (l : Text) (longs ids : List Text) where
   abbrev Steps : Option Given → Option Given → Type 0
   Steps o p = ((o ≡ p) × AreFine o) ⊎ ((o ≡ None) × StaysDoomed p)
 
-  push_fine : (id value : Text) (u : Uses) → has l u ≡ false → bytes_eq id l ≡ false → has l (u ++ (id, value) ∷ []) ≡ false
+  push_fine : (id value : Text) (u : Uses) → was_used l u ≡ false → bytes_eq id l ≡ false → was_used l (u ++ (id, value) ∷ []) ≡ false
   push_fine id value u e f = has_push l u (id, value) ∙ ap₂ (λ (a b : Bool). a || b) e f
 
   use_fine : (id value : Text) (g : Given) → Fine g → bytes_eq id l ≡ false → AreFine (with_use id value g)
-  use_fine id value g fine f = go (has id g.uses)
+  use_fine id value g fine f = go (was_used id g.uses)
     where
       go : (b : Bool) → AreFine (if b then None else Some (record g { uses = g.uses ++ (id, value) ∷ [] }))
       go true = tt
@@ -144,12 +141,12 @@ module _ (l : Text) (longs ids : List Text) where
 
         new : (v : Option Text) → p.0 ≡ l → StaysDoomed (with_kind ids (option_kind p.0 v) w g)
         new None same = some_doomed (record g { waiting = Some p.0 }) (inr (ap Some same))
-        new (Some v) same = by (has p.0 g.uses)
+        new (Some v) same = by (was_used p.0 g.uses)
           where
             by : (b : Bool) → StaysDoomed (if b then None else Some (record g { uses = g.uses ++ (p.0, v) ∷ [] }))
             by true = none_doomed
             by false = some_doomed (record g { uses = g.uses ++ (p.0, v) ∷ [] })
-                (inl (has_push l g.uses (p.0, v) ∙ ap (λ (x : Text). has l g.uses || bytes_eq x l) same ∙ ap (λ (b : Bool). has l g.uses || b) (same-refl l) ∙ or_true (has l g.uses)))
+                (inl (has_push l g.uses (p.0, v) ∙ ap (λ (x : Text). was_used l g.uses || bytes_eq x l) same ∙ ap (λ (b : Bool). was_used l g.uses || b) (same-refl l) ∙ or-true (was_used l g.uses)))
 
         go : (t : Bool) → bytes_eq l p.0 ≡ t → Steps (with_kind ids (if is_among longs p.0 then option_kind p.0 p.1 else other) w g) (with_kind ids (if t || is_among longs p.0 then option_kind p.0 p.1 else other) w g)
         go true e =
@@ -190,7 +187,7 @@ module _ (l : Text) (longs ids : List Text) where
 
     pub fewer : (ws : List Text) (g : Given) → Fine g → given_from (clap_spelled longs) ids g ws ≡ without l (given_from (clap_spelled (l ∷ longs)) ids g ws)
     unfolding StaysDoomed
-    fewer [] g fine = go (is_none g.waiting && list_all (λ id. has id g.uses) ids)
+    fewer [] g fine = go (is_none g.waiting && list_all (λ id. was_used id g.uses) ids)
       where
         go : (b : Bool) → (if b then Some g.uses else None) ≡ without l (if b then Some g.uses else None)
         go true = sym (ap (λ (t : Bool). if t then None else Some g.uses) fine.unused)

@@ -3,18 +3,19 @@ use Rattle.std.proofs.Common.{◌≡◌, ◌∙◌, ◌+◌, ◌&&◌, ◌||◌,
 use Rattle.std.specs.Prelude.{⊤, if◌then◌else◌, is_none, is_some, nat_le, not, option_and_then, slice_get}
 use Rattle.std.specs.Borrow.{Bor}
 use Rattle.std.specs.Str.{bytes_eq}
+use Rattle.std.proofs.Math.Bool.{or-true, or-false}
 use Rattle.clap.specs.Lexer.{long_of, short_of}
 use Rattle.ppd_ast.specs.Digits.{number_in}
 use Rattle.ppd_words.proofs.Clap.Kinds.{clap_gives, clap_spelled}
 use Rattle.ppd_words.proofs.Clap.Lookups.{same-equal}
 use Rattle.ppd_words.proofs.Late.{tested_is}
-use Rattle.ppd_words.proofs.Numbers.Choices.{among_back, asks_after, ended_after, given_after, given_asks, given_ended, given_source, id_of, ids_same, is_same, no_number, none_is, not_source, or_false, or_true, sets_known, source_after, source_id, source_not, waits_known}
+use Rattle.ppd_words.proofs.Numbers.Choices.{among_back, asks_after, ended_after, given_after, given_asks, given_ended, given_source, id_of, ids_same, is_same, no_number, none_is, not_source, sets_known, source_after, source_id, source_not, waits_known}
 use Rattle.ppd_words.proofs.Uses.{has_push, value_new, value_other}
 use Rattle.ppd_words.proofs.Numbers.Words.{flow_longs, spelled_is, word_of}
 use Rattle.ppd_words.specs.Numbers.{Asked, Choice, NumbersGiven, Word, after_one, after_wait, all_given, allows, and_more, asked_for, asked_of, budget, choice_of, given_in, good, leaf, loops, named_of, no_numbers, numbers_from, with_number, with_option, with_source, with_spelled}
 use Rattle.ppd_words.specs.Reads.{texts_in}
 use Rattle.ppd_words.specs.Tested.{are_good, if_good, only_good, tested_from}
-use Rattle.ppd_words.specs.Words.{Given, Kind, Text, Uses, after_word, and_words, complete, ends, has, name, nothing_given, other, sets, value_of, waits, with_kind, with_name, with_name_at, with_use, with_value, with_word}
+use Rattle.ppd_words.specs.Words.{Given, Kind, Text, Uses, after_word, and_words, complete, ends, was_used, name, nothing_given, other, sets, value_of, waits, with_kind, with_name, with_name_at, with_use, with_value, with_word}
 
 abbrev asked_with : Option ℕ → Option ℕ → Option ℕ → Text → Asked
 asked_with b f o s = record { budget_is = b; leaf_is = f; loops_is = o; source = s }
@@ -40,9 +41,9 @@ module _ (allowed : Choice → ℕ → Bool) where
   record Along (l : NumbersGiven) (g : Given) : Type 0 where
     ended : g.ended ≡ l.ended
     numbers : (c : Choice) → option_and_then number_in (value_of (id_of c) g.uses) ≡ given_in c l
-    used : (c : Choice) → has (id_of c) g.uses ≡ is_some (given_in c l)
+    used : (c : Choice) → was_used (id_of c) g.uses ≡ is_some (given_in c l)
     source : value_of source_id g.uses ≡ option_map (λ s. s.now) l.source
-    named : has source_id g.uses ≡ is_some l.source
+    named : was_used source_id g.uses ≡ is_some l.source
     count : g.count ≡ (if is_some l.source then 1 else 0)
     fine : are_good (good allowed) g.uses ≡ true
 
@@ -56,16 +57,16 @@ module _ (allowed : Choice → ℕ → Bool) where
   Both None (Some g) = ⊥
   Both (Some l) None = ⊥
 
-  with_number_along : (c : Choice) (v : Text) (n : ℕ) (l : NumbersGiven) (g : Given) → Along l g → g.waiting ≡ None → number_in v ≡ Some n → has (id_of c) g.uses ≡ false → allowed c n ≡ true
+  with_number_along : (c : Choice) (v : Text) (n : ℕ) (l : NumbersGiven) (g : Given) → Along l g → g.waiting ≡ None → number_in v ≡ Some n → was_used (id_of c) g.uses ≡ false → allowed c n ≡ true
       → Full (with_option c n l) (record g { uses = g.uses ++ (id_of c, v) ∷ [] })
   with_number_along c v n l g a waits_is e none may = record {
     waiting = waits_is ∙ sym (ap (option_map id_of) (asks_after c n l));
     along = record {
       ended = a.ended ∙ sym (ended_after c n l);
       numbers = λ b. number_at b (is_same c b) refl ∙ sym (given_after c b n l);
-      used = λ b. has_push (id_of b) g.uses (id_of c, v) ∙ ap (λ (t : Bool). has (id_of b) g.uses || t) (ids_same c b) ∙ used_at b (is_same c b) ∙ sym (ap is_some (given_after c b n l));
+      used = λ b. has_push (id_of b) g.uses (id_of c, v) ∙ ap (λ (t : Bool). was_used (id_of b) g.uses || t) (ids_same c b) ∙ used_at b (is_same c b) ∙ sym (ap is_some (given_after c b n l));
       source = value_other source_id g.uses (id_of c, v) (not_source c) ∙ a.source ∙ sym (ap (option_map (λ s. s.now)) (source_after c n l));
-      named = has_push source_id g.uses (id_of c, v) ∙ ap (λ (t : Bool). has source_id g.uses || t) (not_source c) ∙ or_false (has source_id g.uses) ∙ a.named ∙ sym (ap is_some (source_after c n l));
+      named = has_push source_id g.uses (id_of c, v) ∙ ap (λ (t : Bool). was_used source_id g.uses || t) (not_source c) ∙ or-false (was_used source_id g.uses) ∙ a.named ∙ sym (ap is_some (source_after c n l));
       count = a.count ∙ sym (ap (λ (o : Option (Bor Text)). if is_some o then 1 else 0) (source_after c n l));
       fine = good_push g.uses (id_of c, v) a.fine ∙ good_number c v ∙ ap (allows allowed c) e ∙ may;
     };
@@ -74,17 +75,17 @@ module _ (allowed : Choice → ℕ → Bool) where
       number_at : (b : Choice) (t : Bool) → is_same c b ≡ t → option_and_then number_in (value_of (id_of b) (g.uses ++ (id_of c, v) ∷ [])) ≡ (if t then Some n else given_in b l)
       number_at b true s =
           let same : id_of c ≡ id_of b = same-equal (id_of c) (id_of b) (ids_same c b ∙ s) in
-          ap (option_and_then number_in) (value_new (id_of b) g.uses (id_of c, v) (ap (λ (i : Text). has i g.uses) (sym same) ∙ none) (ids_same c b ∙ s)) ∙ e
+          ap (option_and_then number_in) (value_new (id_of b) g.uses (id_of c, v) (ap (λ (i : Text). was_used i g.uses) (sym same) ∙ none) (ids_same c b ∙ s)) ∙ e
       number_at b false s = ap (option_and_then number_in) (value_other (id_of b) g.uses (id_of c, v) (ids_same c b ∙ s)) ∙ a.numbers b
 
-      used_at : (b : Choice) (t : Bool) → (has (id_of b) g.uses || t) ≡ is_some (if t then Some n else given_in b l)
-      used_at b true = or_true (has (id_of b) g.uses)
-      used_at b false = or_false (has (id_of b) g.uses) ∙ a.used b
+      used_at : (b : Choice) (t : Bool) → (was_used (id_of b) g.uses || t) ≡ is_some (if t then Some n else given_in b l)
+      used_at b true = or-true (was_used (id_of b) g.uses)
+      used_at b false = or-false (was_used (id_of b) g.uses) ∙ a.used b
 
   on_number : (c : Choice) (v : Text) (l : NumbersGiven) (g : Given) → Along l g → g.waiting ≡ None → Both (with_number allowed c (number_in v) l) (if_good (good allowed) (with_use (id_of c) v g))
-  on_number c v l g a waits_is = go (number_in v) refl (has (id_of c) g.uses) refl
+  on_number c v l g a waits_is = go (number_in v) refl (was_used (id_of c) g.uses) refl
     where
-      go : (o : Option ℕ) → number_in v ≡ o → (h : Bool) → has (id_of c) g.uses ≡ h → Both (with_number allowed c o l) (if_good (good allowed) (if h then None else Some (record g { uses = g.uses ++ (id_of c, v) ∷ [] })))
+      go : (o : Option ℕ) → number_in v ≡ o → (h : Bool) → was_used (id_of c) g.uses ≡ h → Both (with_number allowed c o l) (if_good (good allowed) (if h then None else Some (record g { uses = g.uses ++ (id_of c, v) ∷ [] })))
       go None e true h = tt
       go None e false h =
           subst (λ (b : Bool). Both None (if b then Some (record g { uses = g.uses ++ (id_of c, v) ∷ [] }) else None)) (sym (good_push g.uses (id_of c, v) a.fine ∙ good_number c v ∙ ap (allows allowed c) e)) tt
@@ -104,15 +105,15 @@ module _ (allowed : Choice → ℕ → Bool) where
     where
       new : l.source ≡ None → nat_le 1 (length w.now) ≡ true → Full (record l { source = Some w }) (record g { count = g.count + 1; uses = g.uses ++ (source_id, w.now) ∷ [] })
       new is long =
-          let none : has source_id g.uses ≡ false = a.named ∙ ap is_some is in
+          let none : was_used source_id g.uses ≡ false = a.named ∙ ap is_some is in
           record {
             waiting = waits_is;
             along = record {
               ended = a.ended;
               numbers = λ c. ap (option_and_then number_in) (value_other (id_of c) g.uses (source_id, w.now) (source_not c)) ∙ a.numbers c ∙ sym (given_source c w l);
-              used = λ c. has_push (id_of c) g.uses (source_id, w.now) ∙ ap (λ (t : Bool). has (id_of c) g.uses || t) (source_not c) ∙ or_false (has (id_of c) g.uses) ∙ a.used c ∙ sym (ap is_some (given_source c w l));
+              used = λ c. has_push (id_of c) g.uses (source_id, w.now) ∙ ap (λ (t : Bool). was_used (id_of c) g.uses || t) (source_not c) ∙ or-false (was_used (id_of c) g.uses) ∙ a.used c ∙ sym (ap is_some (given_source c w l));
               source = value_new source_id g.uses (source_id, w.now) none refl;
-              named = has_push source_id g.uses (source_id, w.now) ∙ or_true (has source_id g.uses);
+              named = has_push source_id g.uses (source_id, w.now) ∙ or-true (was_used source_id g.uses);
               count = ap (λ (k : ℕ). k + 1) (a.count ∙ ap (λ (o : Option (Bor Text)). if is_some o then 1 else 0) is);
               fine = good_push g.uses (source_id, w.now) a.fine ∙ long;
             };
@@ -178,9 +179,9 @@ module _ (allowed : Choice → ℕ → Bool) where
   at_end : (l : NumbersGiven) (g : Given) → Full l g → all_given l ≡ asked_of (complete (source_id ∷ []) g)
   at_end l g full =
       by_wait l.asks refl
-      ∙ sym (ap (λ (o : Option Text). asked_of (if is_none o && (has source_id g.uses && true) then Some g.uses else None)) full.waiting)
+      ∙ sym (ap (λ (o : Option Text). asked_of (if is_none o && (was_used source_id g.uses && true) then Some g.uses else None)) full.waiting)
     where
-      by_source : (o : Option (Bor Text)) → l.source ≡ o → asked_for l o ≡ asked_of (if has source_id g.uses && true then Some g.uses else None)
+      by_source : (o : Option (Bor Text)) → l.source ≡ o → asked_for l o ≡ asked_of (if was_used source_id g.uses && true then Some g.uses else None)
       by_source None is = sym (ap (λ (b : Bool). asked_of (if b && true then Some g.uses else None)) (full.along.named ∙ ap is_some is))
       by_source (Some w) is =
           sym (ap (λ (b : Bool). asked_of (if b && true then Some g.uses else None)) (full.along.named ∙ ap is_some is)
@@ -190,13 +191,13 @@ module _ (allowed : Choice → ℕ → Bool) where
           three : {p q r x y z : Option ℕ} → p ≡ x → q ≡ y → r ≡ z → Some (asked_with p q r w.now) ≡ Some (asked_with x y z w.now)
           three i j k = cc
 
-      by_wait : (o : Option Choice) → l.asks ≡ o → all_given l ≡ asked_of (if is_none (option_map id_of l.asks) && (has source_id g.uses && true) then Some g.uses else None)
+      by_wait : (o : Option Choice) → l.asks ≡ o → all_given l ≡ asked_of (if is_none (option_map id_of l.asks) && (was_used source_id g.uses && true) then Some g.uses else None)
       by_wait None is =
           ap (λ (o : Option Choice). if is_some o then None else asked_for l l.source) is ∙ by_source l.source refl
-          ∙ sym (ap (λ (o : Option Choice). asked_of (if is_none (option_map id_of o) && (has source_id g.uses && true) then Some g.uses else None)) is)
+          ∙ sym (ap (λ (o : Option Choice). asked_of (if is_none (option_map id_of o) && (was_used source_id g.uses && true) then Some g.uses else None)) is)
       by_wait (Some c) is =
           ap (λ (o : Option Choice). if is_some o then None else asked_for l l.source) is
-          ∙ sym (ap (λ (o : Option Choice). asked_of (if is_none (option_map id_of o) && (has source_id g.uses && true) then Some g.uses else None)) is)
+          ∙ sym (ap (λ (o : Option Choice). asked_of (if is_none (option_map id_of o) && (was_used source_id g.uses && true) then Some g.uses else None)) is)
 
   along_all : (ws : List (Bor Text)) (l : NumbersGiven) (g : Given) → Full l g → numbers_from allowed l ws ≡ asked_of (tested_from (good allowed) (clap_spelled flow_longs) (source_id ∷ []) g (texts_in ws))
   along_all [] l g full = at_end l g full

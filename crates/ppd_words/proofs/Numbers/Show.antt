@@ -13,7 +13,7 @@ use Rattle.ppd_words.proofs.Uses.{value_none}
 use Rattle.ppd_words.specs.Numbers.{Asked, Choice, NumbersGiven, after_one, all_given, all_shown, and_more, asked_for, asked_of, budget, good, named_of, no_numbers, numbers_from, shown_from}
 use Rattle.ppd_words.specs.Reads.{texts_in}
 use Rattle.ppd_words.specs.Tested.{are_good, only_good}
-use Rattle.ppd_words.specs.Words.{Text, Uses, has, value_of}
+use Rattle.ppd_words.specs.Words.{Text, Uses, was_used, value_of}
 
 abbrev show_only : Option Asked → Option Asked
 show_only None = None
@@ -43,7 +43,7 @@ module _ (allowed : Choice → ℕ → Bool) where
       go (Some h) next = next h
 
   -- a good use of the budget has a number
-  number_there : (u : Uses) → are_good (good allowed) u ≡ true → has (codes "budget") u ≡ true → is_some (option_and_then number_in (value_of (codes "budget") u)) ≡ true
+  number_there : (u : Uses) → are_good (good allowed) u ≡ true → was_used (codes "budget") u ≡ true → is_some (option_and_then number_in (value_of (codes "budget") u)) ≡ true
   number_there [] e h = absurd (true≢false (sym h))
   number_there (y ∷ u) e h = go (bytes_eq y.0 (codes "budget")) refl h (number_there u (parts (good allowed y.0 y.1) (are_good (good allowed) u) e).1)
     where
@@ -60,14 +60,14 @@ module _ (allowed : Choice → ℕ → Bool) where
           allows None = false
           allows (Some n) = allowed budget n
 
-      go : (b : Bool) → bytes_eq y.0 (codes "budget") ≡ b → (b || has (codes "budget") u) ≡ true → (has (codes "budget") u ≡ true → is_some (option_and_then number_in (value_of (codes "budget") u)) ≡ true)
+      go : (b : Bool) → bytes_eq y.0 (codes "budget") ≡ b → (b || was_used (codes "budget") u) ≡ true → (was_used (codes "budget") u ≡ true → is_some (option_and_then number_in (value_of (codes "budget") u)) ≡ true)
           → is_some (option_and_then number_in (option_map (λ (z : Text × Text). z.1) (cond b (Some y) (find (λ z. bytes_eq z.0 (codes "budget")) u)))) ≡ true
       go false is h next = next h
       go true is h next = number (number_in y.1) refl (ap (λ (i : Text). good allowed i y.1) (sym (same-equal y.0 (codes "budget") is)) ∙ (parts (good allowed y.0 y.1) (are_good (good allowed) u) e).0)
 
   tested_late : (g : Option Uses) → show_only (asked_of (only_good (good allowed) g)) ≡ asked_of (only_good (good allowed) (without (codes "budget") g))
   tested_late None = refl
-  tested_late (Some u) = ap show_only (at_left (are_good (good allowed) u)) ∙ go (are_good (good allowed) u) refl (has (codes "budget") u) refl (value_of (codes "source") u) ∙ sym (at_right (has (codes "budget") u))
+  tested_late (Some u) = ap show_only (at_left (are_good (good allowed) u)) ∙ go (are_good (good allowed) u) refl (was_used (codes "budget") u) refl (value_of (codes "source") u) ∙ sym (at_right (was_used (codes "budget") u))
     where
       at_left : (b : Bool) → asked_of (if b then Some u else None) ≡ asked_at (if b then Some u else None) (value_of (codes "source") u)
       at_left true = refl
@@ -77,10 +77,10 @@ module _ (allowed : Choice → ℕ → Bool) where
       at_right true = refl
       at_right false = at_left (are_good (good allowed) u)
 
-      none_there : has (codes "budget") u ≡ false → option_and_then number_in (value_of (codes "budget") u) ≡ None
+      none_there : was_used (codes "budget") u ≡ false → option_and_then number_in (value_of (codes "budget") u) ≡ None
       none_there h = ap (option_and_then number_in) (value_none (codes "budget") u h)
 
-      go : (a : Bool) → are_good (good allowed) u ≡ a → (h : Bool) → has (codes "budget") u ≡ h → (s : Option Text)
+      go : (a : Bool) → are_good (good allowed) u ≡ a → (h : Bool) → was_used (codes "budget") u ≡ h → (s : Option Text)
           → show_only (asked_at (if a then Some u else None) s) ≡ asked_at (only_good (good allowed) (if h then None else Some u)) s
       go false e true f s = refl
       go false e false f s = sym (ap (λ (b : Bool). asked_at (if b then Some u else None) s) e)

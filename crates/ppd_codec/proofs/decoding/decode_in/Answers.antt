@@ -9,6 +9,7 @@ use Rattle.ppd_codec.specs.Came.{Came}
 use Rattle.ppd_codec.specs.Format.{back, front}
 use Rattle.ppd_codec.specs.Recordings.{IsBad, IsDecoded, IsMade, facts_of, front_of, nothing_left}
 use Rattle.ppd_codec.proofs.Answered.{are_bytes, bad_back, bad_front, bad_long, bad_source, handed_on, is_refused, lawful_again, made_decoded, past_front}
+use Rattle.ppd_codec.proofs.Coming.{from_start}
 use Rattle.ppd_codec.proofs.Mapped.{map_err, map_ok}
 use Rattle.ppd_codec.proofs.decoding.decode_in.Goals as goal
 
@@ -21,17 +22,18 @@ returns-in_err-front-clause-decoding g c =
     let short : length c.args.bytes.now ≤ MOST_RECORDING_BYTES = omega (arith, c.if-bytes-gt-MOST_RECORDING_BYTES.false) in
     let e = c.in_err-front.field-0.0 in
     handed_on c.args.bytes.now c.from_residual.result e c.from_residual.ensures.1
-    (is_refused c.args.bytes.now e (λ m. bad_front c.args.bytes.now e short (c.in_err-front.ensures.err m)) (λ m. absurd (c.in_err-front.ensures.early m)))
+    (is_refused c.args.bytes.now e (λ m. bad_front c.args.bytes.now e short (from_start front.read _ c.new-cursor.result.at c.new-cursor.result.rest.now c.args.bytes.now c.new-cursor.ensures.at c.new-cursor.ensures.rest (c.in_err-front.ensures.err m))) (λ m. absurd (c.in_err-front.ensures.early m)))
 
 pub returns-in-Err-clause-decoding : goal.returns-in-Err-clause-decoding
 returns-in-Err-clause-decoding g c =
     let short : length c.args.bytes.now ≤ MOST_RECORDING_BYTES = omega (arith, c.if-bytes-gt-MOST_RECORDING_BYTES.false) in
     let f = c.in_ok-front.front in
     let h = front_of f.version f.header f.source.now in
+    let came : Came front.read 0 c.args.bytes.now c.front.new.self.at c.front.new.self.rest.now h = from_start front.read _ c.new-cursor.result.at c.new-cursor.result.rest.now c.args.bytes.now c.new-cursor.ensures.at c.new-cursor.ensures.rest c.in_ok-front.ensures.ok in
     is_refused c.args.bytes.now c.refusal.result
     (subst (λ (x : BadBytes). x ≢ bad.Memory → IsBad c.args.bytes.now x) (sym c.refusal.ensures)
-    (bad_source c.args.bytes.now h c.front.new.self.at c.front.new.self.rest.now short c.in_ok-front.ensures.ok c.in-Err.error c.in-Err.ensures.refused))
-    (λ m. past_front c.args.bytes.now h c.front.new.self.at c.front.new.self.rest.now short c.in_ok-front.ensures.ok)
+    (bad_source c.args.bytes.now h c.front.new.self.at c.front.new.self.rest.now short came c.in-Err.error c.in-Err.ensures.refused))
+    (λ m. past_front c.args.bytes.now h c.front.new.self.at c.front.new.self.rest.now short came)
 
 pub returns-in_err-lists-clause-decoding : goal.returns-in_err-lists-clause-decoding
 returns-in_err-lists-clause-decoding g c =
@@ -40,7 +42,7 @@ returns-in_err-lists-clause-decoding g c =
     let h = front_of f.version f.header f.source.now in
     let p = c.in-Ok.program in
     let facts : c.facts_of-facts.result ≡ facts_of p = c.facts_of-facts.ensures in
-    let came : Came front.read 0 c.args.bytes.now c.front.new.self.at c.front.new.self.rest.now h = c.in_ok-front.ensures.ok in
+    let came : Came front.read 0 c.args.bytes.now c.front.new.self.at c.front.new.self.rest.now h = from_start front.read _ c.new-cursor.result.at c.new-cursor.result.rest.now c.args.bytes.now c.new-cursor.ensures.at c.new-cursor.ensures.rest c.in_ok-front.ensures.ok in
     let e = c.in_err-lists.field-0.0 in
     handed_on c.args.bytes.now c.from_residual-in_err-lists.result e c.from_residual-in_err-lists.ensures.1
     (is_refused c.args.bytes.now e
@@ -55,7 +57,7 @@ returns-clause-decoding g c =
     let p = c.in-Ok.program in
     let facts : c.facts_of-facts.result ≡ facts_of p = c.facts_of-facts.ensures in
     let b = are_bytes c.args.bytes.now (λ k l. first_of (omega (arith, c.type_inv.bytes k), search rules)) in
-    let came : Came front.read 0 c.args.bytes.now c.front.new.self.at c.front.new.self.rest.now (front_of f.version f.header f.source.now) = c.in_ok-front.ensures.ok in
+    let came : Came front.read 0 c.args.bytes.now c.front.new.self.at c.front.new.self.rest.now (front_of f.version f.header f.source.now) = from_start front.read _ c.new-cursor.result.at c.new-cursor.result.rest.now c.args.bytes.now c.new-cursor.ensures.at c.new-cursor.ensures.rest c.in_ok-front.ensures.ok in
     let last : nothing_left ((back f.version (facts_of p)).read c.front.new.self.at c.front.new.self.rest.now) ≡ Ok c.in_ok-lists.lists =
     subst (λ (x : Facts). nothing_left ((back f.version x).read c.front.new.self.at c.front.new.self.rest.now) ≡ Ok c.in_ok-lists.lists) facts c.in_ok-lists.ensures.ok in
     let decoded : (r : Recording) → IsMade f.header f.source.now p c.in_ok-lists.lists r → IsDecoded c.args.bytes.now r =

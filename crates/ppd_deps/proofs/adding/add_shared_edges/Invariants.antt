@@ -6,5 +6,5 @@ use Rattle.ppd_deps.specs.Named.{shared_reads}
 use Rattle.ppd_deps.specs.Rows.{Adds}
 use Rattle.ppd_deps.proofs.adding.add_shared_edges.Given as goal
 
-abbrev pub invariant-loop-index : goal.invariant-loop-index
-invariant-loop-index l = Adds l.initial.rows l.rows (λ t. map (shared_edge l.stmt) (filter (has (shared_reads l.program t)) (take l.index l.vars)))
+abbrev pub invariant-loop-var : goal.invariant-loop-var
+invariant-loop-var l = Adds l.initial.rows l.rows (λ t. map (shared_edge l.stmt) (filter (has (shared_reads l.program t)) (take l.var-index l.vars)))

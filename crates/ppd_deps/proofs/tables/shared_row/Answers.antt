@@ -4,15 +4,15 @@ use Rattle.std.specs.List.{filter}
 use Rattle.ppd_ast.specs.declared.program.Var.{Var}
 use Rattle.ppd_cfg.specs.Lists.{row}
 use Rattle.ppd_sets.specs.Used.{AreSmall, is_met}
+use Rattle.ppd_sets.proofs.Meeting.{shared_small}
 use Rattle.ppd_deps.proofs.Bodies.{reads_of_used, used_long, used_row}
-use Rattle.ppd_deps.proofs.Naming.{shareds_small}
 use Rattle.ppd_deps.proofs.tables.shared_row.Goals as goal
 
 pub used-used-requires : goal.used-used-requires
 used-used-requires c = omega (arith, c.body_at.ensures, used_long c.args.program.now c.args.sets.now c.args.stmt c.requires.valid c.requires.sets c.requires.there)
 
 pub vars_of-requires : goal.vars_of-requires
-vars_of-requires c = subst AreSmall (sym c.as_slice.ensures) (shareds_small c.args.program.now c.requires.valid)
+vars_of-requires c = subst AreSmall (sym c.as_slice.ensures) (shared_small c.args.program.now c.requires.valid)
 
 pub returns : goal.returns
 returns c =

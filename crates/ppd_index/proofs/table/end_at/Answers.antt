@@ -1,8 +1,8 @@
 use Rattle.std.proofs.Common.{rules, ◌≤◌, length, sym, arith}
 use Rattle.std.proofs.lemmas.Grind.{common_steps}
 use Rattle.ppd_index.specs.Tables.{ended_by}
-use Rattle.ppd_index.proofs.Lists.{change_past, set_is_change}
 use Rattle.ppd_index.proofs.table.end_at.Goals as goal
+use Rattle.ppd_model.proofs.Lists.{change_past, set_is_change}
 
 pub returns-then-place-len : goal.returns-then-place-len
 returns-then-place-len c =

@@ -3,9 +3,10 @@ use Rattle.ppd_lower.specs.Forms.{Added}
 use Rattle.ppd_resolve.specs.Nodes.{operand_formula}
 use Rattle.ppd_lower.specs.Expressions.{term_of, formula_faults, name_faults, read_element}
 use Rattle.ppd_resolve.specs.Faults.{first, first_of_both}
-use Rattle.ppd_resolve.specs.Names.{fits}
-use Rattle.ppd_lower.proofs.Table.Flat.{added_element, added_negated, added_inverted, added_joined, with_ok, on_ok, faults_joined}
+use Rattle.ppd_resolve.specs.Names.{fits_index}
+use Rattle.ppd_lower.proofs.Table.Flat.{added_element, added_negated, added_inverted, added_joined, with_ok, faults_joined}
 use Rattle.ppd_resolve.proofs.Found.First.{found_in_both}
+use Rattle.ppd_resolve.proofs.Declared.Costs.{ok_any}
 use Rattle.ppd_lower.proofs.formulas.+formula.Goals as goal
 
 pub formula_at-returns-in_ok-at-in-Element-clause-added : goal.formula_at-returns-in_ok-at-in-Element-clause-added
@@ -18,9 +19,9 @@ formula_at-returns-in_ok-at-in-Element-clause-added g t c =
 
 pub formula_at-returns-in_ok-at-in-Element-clause-faults : goal.formula_at-returns-in_ok-at-in-Element-clause-faults
 formula_at-returns-in_ok-at-in-Element-clause-faults g t c =
-    on_ok c.put-in-Element.result _
+    ok_any c.put-in-Element.result _
     (found_in_both c.args.found.now c.used-meaning-in-Element.new.found c.formula.new.found
-    (name_faults (fits true) c.args.scopes.now (record { text = c.in-Element.name.text.now; place = c.in-Element.name.place }))
+    (name_faults (fits_index true) c.args.scopes.now (record { text = c.in-Element.name.text.now; place = c.in-Element.name.place }))
     (formula_faults c.args.scopes.now (operand_formula c.args.source.nodes.now c.in-Element.index)) c.used-meaning-in-Element.ensures.faults c.in_ok-at-in-Element.ensures.faults
     ∙ ap (λ f. first_of_both c.args.found.now (first (formula_faults c.args.scopes.now f))) c.in-Element.ensures.formula)
 
@@ -48,7 +49,7 @@ formula_at-returns-in_ok-b-in-Joined-clause-added g t c =
 
 pub formula_at-returns-in_ok-b-in-Joined-clause-faults : goal.formula_at-returns-in_ok-b-in-Joined-clause-faults
 formula_at-returns-in_ok-b-in-Joined-clause-faults g t c =
-    on_ok c.put-in-Joined.result _
+    ok_any c.put-in-Joined.result _
     (found_in_both c.args.found.now c.formula-in-Joined.new.found c.formula-in-Joined-2.new.found (formula_faults c.args.scopes.now (operand_formula c.args.source.nodes.now c.in-Joined.left)) (formula_faults c.args.scopes.now (operand_formula c.args.source.nodes.now c.in-Joined.right)) c.in_ok-a-in-Joined.ensures.faults c.in_ok-b-in-Joined.ensures.faults
     ∙ ap (λ fs. first_of_both c.args.found.now (first fs)) (sym (faults_joined c.args.scopes.now c.in-Joined.operator _ _))
     ∙ ap (λ f. first_of_both c.args.found.now (first (formula_faults c.args.scopes.now f))) c.in-Joined.ensures.formula)

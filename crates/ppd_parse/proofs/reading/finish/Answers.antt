@@ -4,7 +4,7 @@ use Rattle.ppd_parse.specs.declared.symbol.Want.{Want}
 use Rattle.ppd_parse.specs.declared.symbol.Want.TheVariants.{Close}
 use Rattle.ppd_parse.specs.Machine.{state_of}
 use Rattle.ppd_parse.specs.Rank.{rank}
-use Rattle.ppd_parse.specs.Stack.{IsOver}
+use Rattle.ppd_parse.specs.Stack.{HasEndsAlone}
 use Rattle.ppd_parse.specs.Table.{shapes_of}
 use Rattle.ppd_parse.proofs.Ends.{Ends, ends_close, ends_as, popped}
 use Rattle.ppd_parse.proofs.reading.finish.Goals as goal
@@ -17,7 +17,7 @@ loop-want-preserved-in-Continue-1 g c =
     let a = state_of c.args.wants.now.items c.args.grove.now in
     let stack : reverse c.loop-want.wants.items ≡ Close c.in-Close.rule c.in-Close.base ∷ ws = popped c.pop.new.self.items c.in-Some.want c.in-Some.ensures.items ∙ ap (λ w. w ∷ ws) c.in-Close.is in
     record {
-      over = subst IsOver stack c.loop-want.invariant.over;
+      over = subst HasEndsAlone stack c.loop-want.invariant.over;
       ends = ends_close a c.in-Close.rule c.in-Close.base ws (shapes_of w.nodes.items w.roots.items) (shapes_of new.nodes.items new.roots.items) c.in_ok-close-in-Close.ensures
           (subst (λ (v : List Want). Ends a (record { wants = v; shapes = shapes_of w.nodes.items w.roots.items })) stack c.loop-want.invariant.ends);
       spent = omega (arith, ap rank stack, c.loop-want.invariant.spent, c.tick.ensures);
@@ -27,7 +27,7 @@ pub loop-want-preserved : goal.loop-want-preserved
 loop-want-preserved g c =
     let ws = reverse c.pop.new.self.items in
     let stack : reverse c.loop-want.wants.items ≡ c.in-Some.want ∷ ws = popped c.pop.new.self.items c.in-Some.want c.in-Some.ensures.items in
-    absurd (subst (λ (w : Want). IsOver (w ∷ ws)) c.in-Get.is (subst IsOver stack c.loop-want.invariant.over))
+    absurd (subst (λ (w : Want). HasEndsAlone (w ∷ ws)) c.in-Get.is (subst HasEndsAlone stack c.loop-want.invariant.over))
 
 pub returns-clause-ends : goal.returns-clause-ends
 returns-clause-ends g c =

@@ -1,8 +1,9 @@
 use Rattle.std.proofs.Common.{ap, sym, ◌∙◌, arith, subst}
 use Rattle.std.specs.Prelude.{◌||◌}
 use Rattle.std.proofs.lemmas.List.{drop_all}
+use Rattle.std.proofs.Math.Bool.{or-false}
 use Rattle.ppd_ast.specs.Members.{has, AreBelow}
-use Rattle.ppd_race.proofs.BusyRows.{none_below, or_none, set_more}
+use Rattle.ppd_race.proofs.BusyRows.{none_below, set_more}
 use Rattle.ppd_race.proofs.rows.set_of.Goals as goal
 
 pub loop-cell-init : goal.loop-cell-init
@@ -22,6 +23,6 @@ loop-cell-preserved g c = record {
 pub returns-clause-set : goal.returns-clause-set
 returns-clause-set g c = record {
   low = λ k lt.
-      sym (or_none (has c.loop-cell.set k)) ∙ ap (λ ys. has c.loop-cell.set k || has ys k) (sym (drop_all c.loop-cell.cell-index c.args.cells.now c.loop-cell-test.false)) ∙ c.loop-cell.invariant.holds k lt;
+      sym (or-false (has c.loop-cell.set k)) ∙ ap (λ ys. has c.loop-cell.set k || has ys k) (sym (drop_all c.loop-cell.cell-index c.args.cells.now c.loop-cell-test.false)) ∙ c.loop-cell.invariant.holds k lt;
   high = c.loop-cell.invariant.below;
 }

@@ -3,16 +3,17 @@ use Rattle.std.specs.List.{flat_map, range_with_len}
 use Rattle.std.proofs.lemmas.List.Sums.{sum_by-take-le, sum_by_more}
 use Rattle.ppd_race.specs.Lists.{GrowsBy}
 use Rattle.ppd_race.specs.Search.{found_in, row_cost}
-use Rattle.ppd_race.proofs.Grown.{at_any, grown_none}
+use Rattle.ppd_race.proofs.Grown.{grown_none}
 use Rattle.ppd_race.proofs.Over.{grown_range, none_yet, row_cells, row_elsewhere}
 use Rattle.ppd_race.proofs.search.add_later.Goals as goal
+use Rattle.ppd_model.proofs.Lists.{get_or_any}
 
 pub add_row-requires-clause-cells : goal.add_row-requires-clause-cells
 add_row-requires-clause-cells g c =
     let rows = c.args.rows.now in
     let q = c.loop-q.q in
     let inside : q < length rows = omega (arith, c.loop-q-test.true) in
-    row_cells c.args.graph.now rows c.requires.rows q c.as_slice.result.now inside (c.as_slice.ensures ∙ c.index-rows-q.is ∙ at_any rows q c.index-rows-q.result [] inside)
+    row_cells c.args.graph.now rows c.requires.rows q c.as_slice.result.now inside (c.as_slice.ensures ∙ c.index-rows-q.is ∙ get_or_any rows q c.index-rows-q.result [] inside)
 
 pub loop-q-preserved : goal.loop-q-preserved
 loop-q-preserved g c =
@@ -20,7 +21,7 @@ loop-q-preserved g c =
     let q = c.loop-q.q in
     let above : c.args.p + 1 ≤ q = omega (arith, c.loop-q.auto.q) in
     let inside : q < length rows = omega (arith, c.loop-q-test.true) in
-    let row_is : c.as_slice.result.now ≡ get_or rows q [] = c.as_slice.ensures ∙ c.index-rows-q.is ∙ at_any rows q c.index-rows-q.result [] inside in
+    let row_is : c.as_slice.result.now ≡ get_or rows q [] = c.as_slice.ensures ∙ c.index-rows-q.is ∙ get_or_any rows q c.index-rows-q.result [] inside in
     let more = sum_by_more row_cost rows q [] inside in
     let same = ap row_cost row_is in
     record {

@@ -1,16 +1,16 @@
 use Rattle.std.proofs.Common.{◌≡◌, ◌∙◌, [], ap, sym, subst, get_or, length}
 use Rattle.ppd_graph.proofs.Rows.{length_replicated, none_at}
 use Rattle.ppd_race.specs.Busy.{IsBusyRow}
-use Rattle.ppd_race.proofs.Grown.{at_any}
 use Rattle.ppd_race.proofs.Listed.{can_search}
 use Rattle.ppd_race.proofs.Over.{is_whole, row_cells}
 use Rattle.ppd_race.proofs.Spent.{process_spent}
 use Rattle.ppd_race.proofs.Picked.{process_is}
 use Rattle.ppd_race.proofs.search.races_of_process.Goals as goal
+use Rattle.ppd_model.proofs.Lists.{get_or_any}
 
 pub list_by_cell-requires : goal.list_by_cell-requires
 list_by_cell-requires g c = record {
-  cells = row_cells c.args.graph.now c.args.rows.now c.requires.rows c.args.p c.as_slice-own.result.now c.requires.there (c.as_slice-own.ensures ∙ c.index-rows-p.is ∙ at_any c.args.rows.now c.args.p c.index-rows-p.result [] c.requires.there);
+  cells = row_cells c.args.graph.now c.args.rows.now c.requires.rows c.args.p c.as_slice-own.result.now c.requires.there (c.as_slice-own.ensures ∙ c.index-rows-p.is ∙ get_or_any c.args.rows.now c.args.p c.index-rows-p.result [] c.requires.there);
 }
 
 pub add_later-requires-clause-whole : goal.add_later-requires-clause-whole
@@ -21,7 +21,7 @@ returns-clause-races g c = λ rising.
     let graph = c.args.graph.now in
     let rows = c.args.rows.now in
     let own = c.as_slice-own.result.now in
-    let own_is : own ≡ get_or rows c.args.p [] = c.as_slice-own.ensures ∙ c.index-rows-p.is ∙ at_any rows c.args.p c.index-rows-p.result [] c.requires.there in
+    let own_is : own ≡ get_or rows c.args.p [] = c.as_slice-own.ensures ∙ c.index-rows-p.is ∙ get_or_any rows c.args.p c.index-rows-p.result [] c.requires.there in
     let can = can_search graph c.args.p own c.in_ok-lists.lists rising (subst (IsBusyRow c.args.p (get_or graph.edges c.args.p [])) (sym own_is) (c.requires.rows.row c.args.p c.requires.there)) c.in_ok-lists.ensures.lists in
     let first = c.in_ok-found.ensures.none in
     c.in_ok-races.ensures.races
@@ -32,6 +32,6 @@ pub returns-clause-cost : goal.returns-clause-cost
 returns-clause-cost g c =
     let rows = c.args.rows.now in
     let own = c.as_slice-own.result.now in
-    let own_is : own ≡ get_or rows c.args.p [] = c.as_slice-own.ensures ∙ c.index-rows-p.is ∙ at_any rows c.args.p c.index-rows-p.result [] c.requires.there in
+    let own_is : own ≡ get_or rows c.args.p [] = c.as_slice-own.ensures ∙ c.index-rows-p.is ∙ get_or_any rows c.args.p c.index-rows-p.result [] c.requires.there in
     process_spent c.args.steps.now own (get_or rows c.args.p []) rows c.list_by_cell.new.steps c.no_lists.new.steps c.add_later.new.steps _ c.in_ok-found.found.items c.add_later.new.found.items c.in_ok-races.races own_is
     c.in_ok-found.ensures.none c.in_ok-races.ensures.races c.in_ok-add_later.ensures.long c.in_ok-lists.ensures.cost c.in_ok-found.ensures.cost c.in_ok-add_later.ensures.cost c.in_ok-races.ensures.cost

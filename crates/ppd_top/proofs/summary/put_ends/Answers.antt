@@ -10,6 +10,6 @@ loop-index-preserved c =
     let b = c.args.first in
     let es = c.args.ends.now in
     let e = c.index-ends-index.result in
-    let name = c.name_at-name.result.now in
+    let name = c.body_name-name.result.now in
     appended c.args.text.now.items (end_texts program b (take i es)) c.loop-index.text.items (end_text program name e) (end_texts program b (take (i + 1) es)) c.put_end.new.text.items
-    c.loop-index.invariant (end_texts-taken program b es i e name c.loop-index-test.true c.index-ends-index.is c.name_at-name.ensures) c.in_ok-put_end.ensures
+    c.loop-index.invariant (end_texts-taken program b es i e name c.loop-index-test.true c.index-ends-index.is c.body_name-name.ensures) c.in_ok-put_end.ensures

@@ -1,5 +1,5 @@
 use Rattle.std.proofs.Common.{rules}
-use Rattle.ppd_past.specs.Pasts.{BelongTogether}
+use Rattle.ppd_session.specs.Pasts.{BelongTogether}
 use Rattle.ppd_top.proofs.Conversing.{nothing_yet}
 use Rattle.ppd_top.proofs.Told.{together, told_ends}
 use Rattle.ppd_top.proofs.telling.tell.Goals as goal

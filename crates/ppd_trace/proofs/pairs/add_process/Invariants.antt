@@ -5,10 +5,10 @@ use Rattle.ppd_model.specs.Synchronizations.{event_or, leading_in}
 use Rattle.ppd_trace.specs.Leading.{found_in}
 use Rattle.ppd_trace.proofs.pairs.add_process.Given as goal
 
-abbrev pub invariant-loop-index : goal.invariant-loop-index
-invariant-loop-index g l = record {
-  kept : (o k : ℕ) → or_else (found_in l.leads o k) (event_or l.process (leading_in l.program (Some (sync l.kind o k)) l.number (drop l.index l.own)) None)
+abbrev pub invariant-loop-taken : goal.invariant-loop-taken
+invariant-loop-taken g l = record {
+  kept : (o k : ℕ) → or_else (found_in l.leads o k) (event_or l.process (leading_in l.program (Some (sync l.kind o k)) l.number (drop l.taken-index l.own)) None)
       ≡ or_else (found_in l.initial.leads o k) (event_or l.process (leading_in l.program (Some (sync l.kind o k)) 0 l.own) None);
-  few : l.number ≤ l.index;
-  spent : l.steps ≤ l.fn.steps + 3 * l.index;
+  few : l.number ≤ l.taken-index;
+  spent : l.steps ≤ l.fn.steps + 3 * l.taken-index;
 }

@@ -9,11 +9,11 @@ use Rattle.ppd_trace.specs.Spending.{most_cells}
 use Rattle.ppd_trace.specs.Subjects.{body_size}
 use Rattle.ppd_trace.proofs.steps.trace_process.Given as goal
 
-abbrev pub invariant-loop-index : goal.invariant-loop-index
-invariant-loop-index g l = record {
-  traced : l.tracer ≡ tracer_of (fold (trace_step l.subject.program.now l.subject.plan.now l.subject.told.now.story l.subject.process) (begun_tracing (started l.subject.program.now l.subject.plan.now l.subject.process l.budget)) (take l.index l.own));
-  own : AreOwn l.subject.program.now l.subject.plan.now l.tracer.proc (drop l.index l.own);
+abbrev pub invariant-loop-taken : goal.invariant-loop-taken
+invariant-loop-taken g l = record {
+  traced : l.tracer ≡ tracer_of (fold (trace_step l.subject.program.now l.subject.plan.now l.subject.told.now.story l.subject.process) (begun_tracing (started l.subject.program.now l.subject.plan.now l.subject.process l.budget)) (take l.taken-index l.own));
+  own : AreOwn l.subject.program.now l.subject.plan.now l.tracer.proc (drop l.taken-index l.own);
   running : IsRunning l.subject.program.now l.tracer.proc;
-  few : length l.tracer.events ≤ l.index;
-  spent : l.steps ≤ l.fn.steps + 2 + 2 * body_size l.subject + (3 * most_cells l.subject.program.now + 12) * l.index;
+  few : length l.tracer.events ≤ l.taken-index;
+  spent : l.steps ≤ l.fn.steps + 2 + 2 * body_size l.subject + (3 * most_cells l.subject.program.now + 12) * l.taken-index;
 }

@@ -1,7 +1,7 @@
 use Rattle.std.proofs.Common.{rules, ◌≤◌, ◌++◌, ◌∷◌, [], length, sym, arith}
 use Rattle.std.proofs.lemmas.Grind.{common_steps}
-use Rattle.ppd_world.proofs.Lists.{change_past, set_is_change}
 use Rattle.ppd_trace.proofs.tellers.push_step.Goals as goal
+use Rattle.ppd_model.proofs.Lists.{change_past, set_is_change}
 
 pub returns-then-process-len-clause-value : goal.returns-then-process-len-clause-value
 returns-then-process-len-clause-value g c =

@@ -4,7 +4,7 @@ use Rattle.ppd_trace.proofs.tellers.tell_story_in.Given as goal
 
 abbrev pub invariant-loop-index : goal.invariant-loop-index
 invariant-loop-index g l = record {
-  tells : Tells l.program l.plan l.budget (take l.index l.schedule) l.teller.world l.teller.counts l.teller.writers l.teller.steps.items;
+  tells : Tells l.setting.program l.setting.plan l.setting.budget (take l.index l.schedule) l.teller.world l.teller.counts l.teller.writers l.teller.steps.items;
   few : l.index ≤ 8000016;
-  spent : l.steps ≤ l.fn.steps + 4 * (length l.program.starts + length l.program.bodies) + 7 * l.index;
+  spent : l.steps ≤ l.fn.steps + 4 * (length l.setting.program.starts + length l.setting.program.bodies) + 7 * l.index;
 }

@@ -5,8 +5,8 @@ use Rattle.ppd_trace.specs.Spending.{most_cells}
 use Rattle.ppd_trace.proofs.whole.trace_all.Given as goal
 
 abbrev pub invariant-loop-process : goal.invariant-loop-process
-invariant-loop-process g l = record {
-  traced : l.events ++ events_from l.program l.plan l.budget l.told.story l.process (drop l.process l.told.story.steps) ≡ events_from l.program l.plan l.budget l.told.story 0 l.told.story.steps;
-  spent : l.steps ≤ l.fn.steps + 4 * l.process + 2 * sum_by (λ b. b.cells) (take (l.program.functions + l.process) l.program.bodies)
-      + (3 * most_cells l.program + 12) * sum_by length (take l.process l.told.story.steps);
+invariant-loop-process g l = let s = l.setting-inside in record {
+  traced : l.events ++ events_from s.program.now s.plan.now s.budget l.told.story l.process (drop l.process l.told.story.steps) ≡ events_from s.program.now s.plan.now s.budget l.told.story 0 l.told.story.steps;
+  spent : l.steps ≤ l.fn.steps + 4 * l.process + 2 * sum_by (λ b. b.cells) (take (s.program.now.functions + l.process) s.program.now.bodies)
+      + (3 * most_cells s.program.now + 12) * sum_by length (take l.process l.told.story.steps);
 }

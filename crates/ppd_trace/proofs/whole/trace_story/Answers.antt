@@ -1,8 +1,7 @@
-use Rattle.ppd_sem.proofs.Validity.{valid-numbered, valid-runnable}
+use Rattle.std.proofs.Common.{subst}
+use Rattle.ppd_trace.specs.Settings.{Setup}
+use Rattle.ppd_trace.specs.Subjects.{ArePaired}
 use Rattle.ppd_trace.proofs.whole.trace_story.Goals as goal
 
-pub trace_all-requires-clause-program : goal.trace_all-requires-clause-program
-trace_all-requires-clause-program g c = valid-runnable c.args.program.now c.requires.program
-
-pub trace_all-requires-clause-plan : goal.trace_all-requires-clause-plan
-trace_all-requires-clause-plan g c = valid-numbered c.args.program.now c.args.plan.now c.requires.program c.requires.plan
+pub trace_all-requires-clause-pairs : goal.trace_all-requires-clause-pairs
+trace_all-requires-clause-pairs g c = subst (λ (s : Setup). ArePaired s.program c.in_ok-told.told) c.setting.view_is c.in_ok-told.ensures.pairs

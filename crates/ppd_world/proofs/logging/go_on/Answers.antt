@@ -1,7 +1,7 @@
 use Rattle.std.proofs.Common.{arith}
 use Rattle.std.proofs.lemmas.Grind.{common_steps}
-use Rattle.ppd_world.proofs.Lists.{set_is_change}
 use Rattle.ppd_world.proofs.logging.go_on.Goals as goal
+use Rattle.ppd_model.proofs.Lists.{set_is_change}
 
 pub returns : goal.returns
 returns c = grind (arith, common_steps, set_is_change)

@@ -9,6 +9,6 @@ bounds-as_slice-stmt c = table_long (local_reads c.args.program.now) c.as_slice.
 
 pub returns : goal.returns
 returns c =
-    c.contains.ensures
+    c.contains.ensures.value
     ∙ ap (λ l. has l c.args.var)
     (c.as_slice-2.ensures ∙ table_at (local_reads c.args.program.now) c.as_slice.result.now (length c.args.program.now.stmts) c.args.stmt c.index-as_slice-stmt.result (c.as_slice.ensures ∙ c.requires.tables.local) c.requires.there c.index-as_slice-stmt.is)

@@ -1,8 +1,8 @@
 use Rattle.std.proofs.Common.{ℕ, ◌+◌, ◌<◌, ◌≤◌, length, get_or, take, sym, subst, arith}
 use Rattle.std.proofs.lemmas.Result.{err_from_is_err_and}
 use Rattle.ppd_model.specs.Bounds.{steps_left}
+use Rattle.ppd_model.proofs.Lists.{get_or_any}
 use Rattle.ppd_world.specs.Running.{IsFollowed, Running, Takes}
-use Rattle.ppd_world.proofs.Lists.{get_or_any}
 use Rattle.ppd_world.proofs.Reached.{driven_part, driven_whole, few_left, fewer_left, takes_followed, takes_more, takes_none}
 use Rattle.ppd_world.proofs.Sound.{most}
 use Rattle.ppd_world.proofs.world.World.drive.Goals as goal

@@ -1,0 +1,1 @@
+pub use Rattle.ppd_inforce.specs.InForce
