@@ -234,52 +234,27 @@ COLUMNS = ["run", "races", "why", "final", "stored", "read", "whole"]
 SIZES = ["flow", "run", "debug", "file"]
 
 
+def asked(name, lines, why, sources):
+    """A row of a source that runs: how many lines its answers have, and the question that is asked."""
+    return {"name": name, "kind": "flow", "lines": lines, "why": why, "sources": sources}
+
+
 def rows():
     """Each row: its name, its two sources with their work in steps and synchronizations, and how it is asked."""
     for name, number in (("drill 0", 0), ("drill 7", 7)):
         stages, turns = 2 + number % 6, 1000 * (1 + number % 20)
-        yield {
-            "name": name,
-            "kind": "flow",
-            "lines": stages + 3,
-            "why": f"why p{stages} 0 5",
-            "sources": [(f"{2 * stages * t} syncs", t, pipeline(stages, t, number)) for t in (turns, turns // 2)],
-        }
-    yield {
-        "name": "16 processes, few",
-        "kind": "flow",
-        "lines": 17,
-        "why": "why p15 0 5",
-        "sources": [(f"{16 * 2 * t} steps", t, few(t)) for t in (249_990, 124_995)],
-    }
-    yield {
-        "name": "16 processes, many",
-        "kind": "flow",
-        "lines": 18,
-        "why": "why p15 0 5",
-        "sources": [(f"{30 * t} syncs", t, pipeline(15, t)) for t in (124_990, 62_495)],
-    }
-    yield {
-        "name": "races, ordered",
-        "kind": "flow",
-        "lines": 6,
-        "why": "why p3 0 5",
-        "sources": [(f"{6 * t} syncs", t, pipeline(3, t, 7, "own[K] = i; ")) for t in (8000, 4000)],
-    }
-    yield {
-        "name": "races, unordered",
-        "kind": "flow",
-        "lines": 5,
-        "why": "why p3 0 5",
-        "sources": [(f"{4 * t} syncs", t, apart(t)) for t in (12_000, 6000)],
-    }
-    yield {
-        "name": "many cells in one interval",
-        "kind": "flow",
-        "lines": 2,
-        "why": "why p 0 5",
-        "sources": [(f"{3 * 512 * k} steps, {k} cells", k, many_cells(k)) for k in (256, 128)],
-    }
+        sources = [(f"{2 * stages * t} syncs", t, pipeline(stages, t, number)) for t in (turns, turns // 2)]
+        yield asked(name, stages + 3, f"why p{stages} 0 5", sources)
+    sources = [(f"{16 * 2 * t} steps", t, few(t)) for t in (249_990, 124_995)]
+    yield asked("16 processes, few", 17, "why p15 0 5", sources)
+    sources = [(f"{30 * t} syncs", t, pipeline(15, t)) for t in (124_990, 62_495)]
+    yield asked("16 processes, many", 18, "why p15 0 5", sources)
+    sources = [(f"{6 * t} syncs", t, pipeline(3, t, 7, "own[K] = i; ")) for t in (8000, 4000)]
+    yield asked("races, ordered", 6, "why p3 0 5", sources)
+    sources = [(f"{4 * t} syncs", t, apart(t)) for t in (12_000, 6000)]
+    yield asked("races, unordered", 5, "why p3 0 5", sources)
+    sources = [(f"{3 * 512 * k} steps, {k} cells", k, many_cells(k)) for k in (256, 128)]
+    yield asked("many cells in one interval", 2, "why p 0 5", sources)
     big = [(f"{16 * k} statements", k, largest(k)) for k in (256, 128)]
     bad = [(size, work, source.replace("f000();", "g000();", 1)) for size, work, source in big]
     yield {"name": "largest, refused", "kind": "refused", "sources": bad}

@@ -1,6 +1,5 @@
 -- Lists that are compared piece by piece.
-use Rattle.std.proofs.Common.{◌≡◌, ℕ, suc, ◌+◌, ◌<◌, ◌≤◌, List, [], ◌∷◌, ◌++◌, length, get_or, map, drop, Option, Some, None, sym, ap, ◌∙◌, arith, subst}
-use Rattle.std.proofs.lemmas.Grind.{common_steps}
+use Rattle.std.proofs.Common.{◌≡◌, ℕ, suc, ◌+◌, ◌<◌, List, [], ◌∷◌, ◌++◌, length, get_or, map, drop, Option, Some, None, sym, ap, ◌∙◌, arith, subst}
 use Rattle.std.proofs.lemmas.List.{append_assoc, append_cancel_left, drop-map}
 use Rattle.std.proofs.Math.Seq.{drop-cons}
 use Rattle.ppd_ast.specs.Begins.{Begins}
@@ -19,13 +18,6 @@ begins_not f us place u x h e g rest same =
     let is : f u ∷ drop (place + 1) (map f us) ≡ x ∷ rest = sym (drop_at f us place u h e) ∙ same in
     g (cc)
 
-pub begins_past : {U X : Type 0} (f : U → X) (us : List U) (place : ℕ) (x : X) → length us ≤ place → Begins None (map f us) place (x ∷ [])
-begins_past f us place x h rest same =
-    let none : drop place us ≡ [] = grind (arith, common_steps) in
-    let is : map f (drop place us) ≡ x ∷ rest = sym (drop-map f place us) ∙ same in
-    let no : [] ≡ x ∷ rest = ap (map f) (sym none) ∙ is in
-    cc
-
 pub begins_stop : {X : Type 0} (list : List X) (place : ℕ) (items more : List X) → Begins None list place items → Begins None list place (items ++ more)
 begins_stop list place items more h rest same = h (more ++ rest) (same ∙ append_assoc items more rest)
 
@@ -37,6 +29,3 @@ begins_then list place n items more None h g =
 -- the same at a list that is these items and more
 pub begins_stop_at : {X : Type 0} (list : List X) (place : ℕ) (items more all : List X) → all ≡ items ++ more → Begins None list place items → Begins None list place all
 begins_stop_at list place items more all e h = subst (λ l. Begins None list place l) (sym e) (begins_stop list place items more h)
-
-pub begins_then_at : {X : Type 0} (list : List X) (place n : ℕ) (items more all : List X) (after : Option ℕ) → all ≡ items ++ more → Begins (Some n) list place items → Begins after list n more → Begins after list place all
-begins_then_at list place n items more all after e h g = subst (λ l. Begins after list place l) (sym e) (begins_then list place n items more after h g)

@@ -1,5 +1,5 @@
 -- Walks over the numbers of statements and over bodies.
-use Rattle.std.proofs.Common.{◌≡◌, ℕ, zero, suc, ◌+◌, ◌-◌, ◌<◌, ◌≤◌, Bool, true, false, List, [], ◌∷◌, ◌++◌, length, get_or, take, drop, None, sym, ap, ◌∙◌, arith, length-append, length-take, length-drop}
+use Rattle.std.proofs.Common.{◌≡◌, ℕ, zero, suc, ◌+◌, ◌-◌, ◌<◌, ◌≤◌, Bool, true, false, List, [], ◌∷◌, ◌++◌, length, get_or, take, drop, None, sym, ap, ◌∙◌, arith, length-take}
 use Rattle.std.specs.Prelude.{◌||◌}
 use Rattle.std.specs.List.{flat_map, range_with_len, list_any}
 use Rattle.std.proofs.lemmas.List.{append_assoc, append-nil, take_more}
@@ -93,15 +93,3 @@ pub any_found : (p : ℕ → Bool) (a k e : ℕ) → a ≤ k → k < e → p k �
 any_found p a k e low high g =
     ap (list_any p) (range_split a k e low high) ∙ list_any-append p (range_with_len a (k - a) ++ k ∷ []) (range_with_len (k + 1) (e - (k + 1)))
     ∙ ap (λ b. b || list_any p (range_with_len (k + 1) (e - (k + 1)))) (list_any-append p (range_with_len a (k - a)) (k ∷ [])) ∙ grind (arith, common_steps)
-
--- the whole list is these items just where they stand in it from its beginning and nothing is left
-pub whole_is : {X : Type 0} (list items : List X) (n : ℕ) → length list ≤ n → drop 0 list ≡ items ++ drop n list → list ≡ items
-whole_is list items n e h =
-    let none : drop n list ≡ [] = grind (arith, common_steps) in
-    h ∙ ap (λ l. items ++ l) none ∙ append-nil items
-
-pub whole_ends : {X : Type 0} (list items : List X) (n : ℕ) → list ≡ items → drop 0 list ≡ items ++ drop n list → length list ≤ n
-whole_ends list items n e h =
-    let l : length list ≡ length items + length (drop n list) = ap length h ∙ length-append items (drop n list) in
-    let m : length items ≡ length list = ap length (sym e) in
-    omega (arith, l, m, length-drop n list)

@@ -1,5 +1,5 @@
 -- What marks say of the numbers that were met.
-use Rattle.std.proofs.Common.{◌≡◌, ℕ, ◌+◌, ◌<◌, min, List, [], ◌∷◌, ◌++◌, length, get_or, cond, nat_eq, refl, ap, sym, ◌∙◌, arith}
+use Rattle.std.proofs.Common.{◌≡◌, ℕ, ◌+◌, ◌<◌, min, List, [], ◌∷◌, ◌++◌, length, get_or, cond, nat_eq, ap, sym, ◌∙◌, arith}
 use Rattle.std.specs.List.{fold, count_by}
 use Rattle.std.proofs.lemmas.List.Sums.{sum_by-cons, fold-append}
 use Rattle.std.proofs.lemmas.Grind.{common_steps}
@@ -8,10 +8,6 @@ use Rattle.ppd_ast.specs.Tally.{tally, more, IsOnce}
 
 pub length-tally : (start : ℕ) (marks : List ℕ) (n : ℕ) → length (tally start marks n) ≡ length marks
 length-tally start marks n = grind (arith, nat_tests, common_steps)
-
-pub length-tallies : (start : ℕ) (marks us : List ℕ) → length (fold (tally start) marks us) ≡ length marks
-length-tallies start marks [] = refl
-length-tallies start marks (u ∷ us) = length-tallies start (tally start marks u) us ∙ length-tally start marks u
 
 two_of_more : (m : ℕ) → min 2 (more m) ≡ min 2 (m + 1)
 two_of_more m = grind (arith, nat_tests)

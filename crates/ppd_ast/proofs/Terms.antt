@@ -53,7 +53,3 @@ pub term_read : (es : List Expr) (i : ℕ) (d e : Expr) → EachAt AreChildrenBe
 term_read es i d e below inside read =
     let is : slice_get es i ≡ Some e = slice_get-get_or es i d inside ∙ ap Some read in
     term-node es i e is (subst (AreChildrenBelow i) read (below i d inside))
-
--- the children of an expression that the code has read
-pub children_read : (es : List Expr) (i : ℕ) (d e : Expr) → EachAt AreChildrenBelow es → i < length es → get_or es i d ≡ e → AreChildrenBelow i e
-children_read es i d e below inside read = subst (AreChildrenBelow i) read (below i d inside)

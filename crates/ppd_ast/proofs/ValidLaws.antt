@@ -3,7 +3,6 @@ use Rattle.std.proofs.Common.{◌≡◌, ℕ, zero, suc, ◌+◌, ◌<◌, ◌�
 use Rattle.std.specs.Prelude.{slice_get, ⊤}
 use Rattle.std.specs.List.{All}
 use Rattle.std.proofs.lemmas.Option.{get_or_from_slice_get}
-use Rattle.ppd_ast.specs.declared.program.Expr.{Expr}
 use Rattle.ppd_ast.specs.declared.program.Var.{Var}
 use Rattle.ppd_ast.specs.declared.program.Target.{Target}
 use Rattle.ppd_ast.specs.declared.program.Target.TheVariants as T
@@ -11,13 +10,12 @@ use Rattle.ppd_ast.specs.declared.program.Kind.{Kind}
 use Rattle.ppd_ast.specs.declared.program.Stmt.{Stmt}
 use Rattle.ppd_ast.specs.declared.program.Body.{Body}
 use Rattle.ppd_ast.specs.declared.program.Program.{Program}
-use Rattle.ppd_ast.specs.Table.{EachAt, AreChildrenBelow}
-use Rattle.ppd_ast.specs.Term.{Term, const, local, local_at, shared, shared_at, neg, not, two, and, or, node, term, terms}
+use Rattle.ppd_ast.specs.Table.{EachAt}
+use Rattle.ppd_ast.specs.Term.{Term, const, local, local_at, shared, shared_at, neg, not, two, and, or, term}
 use Rattle.ppd_ast.specs.Uses.{kind_uses}
 use Rattle.ppd_ast.specs.Cells.{size, after, CoverCells, IsScalarOf, IsArrayOf, NamesWhole, IsWholeTarget}
 use Rattle.ppd_ast.specs.Order.{inner}
 use Rattle.ppd_ast.specs.Valid.{IsValid, IsValidBody, IsValidStmt, IsValidKind}
-use Rattle.ppd_ast.proofs.Terms.{term-node}
 
 -- a number at which something stands is in range
 pub slice_get_below : {X : Type 0} (xs : List X) (i : ℕ) (x : X) → slice_get xs i ≡ Some x → i < length xs
@@ -38,10 +36,6 @@ each_at P xs i x each h = subst (λ y. P i y) (get_or_from_slice_get xs i x x h)
 pub some_and : {X : Type 0} (P : X → Type 0) (o : Option X) → IsSomeAnd o P → (x : X) × (o ≡ Some x) × P x
 some_and P None h = absurd h
 some_and P (Some x) h = (x, refl, h)
-
--- the tree of an expression is made of its children's
-pub valid_term : (p : Program) (i : ℕ) (e : Expr) → IsValid p → slice_get p.exprs i ≡ Some e → term p.exprs i ≡ node (terms p.exprs) e
-valid_term p i e v h = term-node p.exprs i e h (each_at AreChildrenBelow p.exprs i e v.children h)
 
 pub valid_stmt : (p : Program) (k : ℕ) (s : Stmt) → IsValid p → slice_get p.stmts k ≡ Some s → IsValidStmt p k s
 valid_stmt p k s v h = each_at (IsValidStmt p) p.stmts k s v.stmts h

@@ -1,10 +1,9 @@
 -- One more element of a list that a loop goes over.
 use Rattle.std.proofs.Common.{subst, inl, inr, ◌≡◌, ℕ, zero, suc, ◌+◌, ◌<◌, ◌≤◌, arith, Some, None, sym, List, [], ◌∷◌, ◌++◌, length, get_or, take, refl, ap, ◌∙◌}
 use Rattle.std.specs.Prelude.{slice_get}
-use Rattle.std.specs.List.{fold, flat_map}
+use Rattle.std.specs.List.{flat_map}
 use Rattle.std.proofs.lemmas.Option.{slice_get-get_or}
 use Rattle.std.proofs.lemmas.List.{take_more, append-nil}
-use Rattle.std.proofs.lemmas.List.Sums.{fold-append}
 use Rattle.std.proofs.lemmas.Bool.{cases_lt}
 use Rattle.std.proofs.lemmas.Grind.{flat_map-append}
 
@@ -13,15 +12,6 @@ pub flat_more : {X A : Type 0} (g : X → List A) (xs : List X) (i : ℕ) (d : X
 flat_more g xs i d h =
     ap (flat_map g) (take_more xs i d h) ∙ flat_map-append g (take i xs) (get_or xs i d ∷ [])
     ∙ ap (λ l. flat_map g (take i xs) ++ l) (append-nil (g (get_or xs i d)))
-
-pub fold_more : {X B : Type 0} (f : B → X → B) (a : B) (xs : List X) (i : ℕ) (d : X) → i < length xs
-    → fold f a (take (i + 1) xs) ≡ f (fold f a (take i xs)) (get_or xs i d)
-fold_more f a xs i d h = ap (fold f a) (take_more xs i d h) ∙ fold-append f a (take i xs) (get_or xs i d ∷ [])
-
-pub fold_flat_more : {X A B : Type 0} (f : B → A → B) (a : B) (g : X → List A) (xs : List X) (i : ℕ) (d : X) → i < length xs
-    → fold f a (flat_map g (take (i + 1) xs)) ≡ fold f (fold f a (flat_map g (take i xs))) (g (get_or xs i d))
-fold_flat_more f a g xs i d h =
-    ap (fold f a) (flat_more g xs i d h) ∙ fold-append f a (flat_map g (take i xs)) (g (get_or xs i d))
 
 -- what `get` found, and that it found nothing
 pub got_some : {X : Type 0} (xs : List X) (i : ℕ) (x : X) → i < length xs → x ≡ get_or xs i x → slice_get xs i ≡ Some x

@@ -2,7 +2,7 @@
 ghost use Rattle.std.specs.Prelude.{◌≡◌, ◌<◌, ◌^◌, [], ◌∷◌, ◌++◌, IfOk, OnOk, length, map};
 ghost use Rattle.std.specs.List.{flat_map};
 ghost use Rattle.ppd_ast.specs.Bare.{bare, bare_block, bare_unit, gives_value};
-ghost use Rattle.ppd_ast.specs.Numbered.{body_kind, each_from, is_block_loop, loops_at, numbers_of, of_body, starts_at};
+ghost use Rattle.ppd_ast.specs.Numbered.{body_kind, each_from, is_block_loop, numbers_of, of_body};
 ghost use Rattle.ppd_ast.specs.Valid.{IsValid};
 ghost use Rattle.ppd_ast.specs.ValidPlan.{IsValidPlan, IsValidPolicy};
 

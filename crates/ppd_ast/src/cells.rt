@@ -1,6 +1,6 @@
 ghost use Rattle.std.specs.Prelude.{◌≡◌, ◌<◌, ◌≤◌, ◌↔◌, ℕ, IsTrue, length};
 ghost use Rattle.std.specs.List.{All, count_by};
-ghost use Rattle.ppd_ast.specs.Cells.{size, after, holds, CoverCells, IsScalarOf, IsArrayOf, AreParams, NamesWhole, IsWholeTarget, IsScalarIfAny, WritesWhole};
+ghost use Rattle.ppd_ast.specs.Cells.{after, holds, CoverCells, IsScalarOf, IsArrayOf, AreParams, NamesWhole, IsWholeTarget, IsScalarIfAny, WritesWhole};
 ghost use Rattle.ppd_ast.specs.Table.{EachAt, AreChildrenBelow};
 ghost use Rattle.ppd_ast.specs.Term.{term};
 

@@ -1,7 +1,7 @@
 ghost use Rattle.std.specs.Prelude.{◌≡◌, ◌↔◌, ◌<◌, ◌-◌, [], ◌∷◌, IsTrue, length, map, min, if◌then◌else◌};
 ghost use Rattle.std.specs.List.{flat_map};
 ghost use Rattle.ppd_ast.specs.Begins.{Begins};
-ghost use Rattle.ppd_ast.specs.Numbered.{is_while, is_call, is_left, numbers_of, in_while, inside_count, is_block_loop, has_call, is_block_body, body_kind, loops_of, loops_at, starts_at, of_body, each_from};
+ghost use Rattle.ppd_ast.specs.Numbered.{is_while, is_call, is_left, numbers_of, in_while, is_block_loop, has_call, is_block_body, body_kind, loops_at, starts_at, of_body, each_from};
 ghost use Rattle.ppd_ast.specs.Order.{inner, preorder};
 
 use crate::limits::MOST_NESTING;

@@ -1,4 +1,4 @@
-ghost use Rattle.std.specs.Prelude.{◌≡◌, ◌+◌, option_copied, slice_get};
+ghost use Rattle.std.specs.Prelude.{◌≡◌, option_copied, slice_get};
 ghost use Rattle.std.specs.Slice.{IsItemAt};
 ghost use Rattle.ppd_ast.specs.Lookups.{kind_of, parent_if};
 ghost use Rattle.ppd_ast.specs.Numbered.{is_while};
@@ -172,14 +172,5 @@ impl Program {
         ensures value { option_copied result ≡ slice_get self.now.bodies number }
     {
         self.bodies.get(number as usize)
-    }
-
-    /// The body of the process with this number, from 0, and none where there are fewer processes: the
-    /// processes' bodies come after those of the functions.
-    pub fn body_of_process(&self, process: u8) -> Option<&Body>
-        ensures item { IsItemAt self.now.bodies (self.now.functions + process) result }
-        ensures value { option_copied result ≡ slice_get self.now.bodies (self.now.functions + process) }
-    {
-        self.bodies.get(self.functions as usize + process as usize)
     }
 }

@@ -1,4 +1,4 @@
-ghost use Rattle.std.specs.Prelude.{◌≡◌, ◌<◌, ◌≤◌, ◌↔◌, ◌+◌, ◌-◌, ℕ, nat_le, IsTrue, IsSome, IsSomeAnd, length, slice_get, Some, None, false};
+ghost use Rattle.std.specs.Prelude.{◌≡◌, ◌<◌, ◌≤◌, ◌↔◌, ◌+◌, ◌-◌, nat_le, IsTrue, IsSome, IsSomeAnd, length, slice_get, Some, None, false};
 ghost use Rattle.std.specs.List.{All, flat_map, range_with_len};
 ghost use Rattle.ppd_ast.specs.Table.{EachAt, AreChildrenBelow};
 ghost use Rattle.ppd_ast.specs.Cells.{CoverCells, AreParams};

@@ -1,7 +1,7 @@
-ghost use Rattle.std.specs.Prelude.{◌≡◌, ◌<◌, ◌↔◌, IsTrue, IsSomeAnd, length, slice_get};
+ghost use Rattle.std.specs.Prelude.{◌<◌, ◌↔◌, IsTrue, IsSomeAnd, slice_get};
 ghost use Rattle.std.specs.List.{All};
 ghost use Rattle.std.specs.List.Sorted.{IsStrictlyIncreasing};
-ghost use Rattle.ppd_ast.specs.ValidPlan.{AreCells, IsValidPolicy, IsFunctionBlock, IsProcessBlock, IsLoopBlock, IsBlockOf, IsValidBlock, IsValidPlan};
+ghost use Rattle.ppd_ast.specs.ValidPlan.{AreCells, IsValidPolicy, IsFunctionBlock, IsProcessBlock, IsLoopBlock, IsValidBlock, IsValidPlan};
 
 use crate::limits::MOST_POLICY;
 use crate::numbered::are_numbered;

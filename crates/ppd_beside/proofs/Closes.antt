@@ -7,6 +7,7 @@ use Rattle.ppd_ast.specs.declared.plan.Plan.{Plan}
 use Rattle.ppd_ast.specs.declared.plan.Start.TheVariants as start
 use Rattle.ppd_ast.specs.declared.program.Program.{Program}
 use Rattle.ppd_ast.specs.declared.status.Trap.TheVariants as trap
+use Rattle.ppd_ast.specs.declared.limits.TheConstants.{MOST_CALLS}
 use Rattle.ppd_sem.specs.Blocks.{postlog_cells}
 use Rattle.ppd_sem.specs.declared.asking.Pause.TheVariants.{Wants, Traps}
 use Rattle.ppd_sem.specs.declared.proc.Frame.{Frame}
@@ -215,7 +216,7 @@ module _ (program : Program) (plan : Plan) (used inside : ℕ → Type 0) (calls
         (or_zero (block_of plan (block.Process (top_body r.frames))))
         (ap (λ x. or_zero (block_of plan (block.Process x))) (bodies_are s.frames r.frames (t ∷ ts) stacked)) es er
     by_deed (invoke f vs into) left e es er =
-        none_closes es (calls_none (nat_lt 64 (s.below + length s.frames)) (block_of plan (block.Function f))
+        none_closes es (calls_none (nat_lt MOST_CALLS (s.below + length s.frames)) (block_of plan (block.Function f))
         (unit_of plan (start.Entry f)))
     by_deed (set_local a v) left e es er = none_closes es refl
     by_deed (set_shared a v) left e es er = none_closes es refl

@@ -13,6 +13,7 @@ use Rattle.ppd_ast.specs.declared.plan.BlockKind.TheVariants as block_kind
 use Rattle.ppd_ast.specs.declared.plan.Start.TheVariants as start
 use Rattle.ppd_ast.specs.declared.status.Trap.TheVariants as trap
 use Rattle.ppd_ast.specs.Lookups.{kind_of}
+use Rattle.ppd_ast.specs.declared.limits.TheConstants.{MOST_CALLS}
 use Rattle.ppd_sem.specs.declared.proc.Need.{Need}
 use Rattle.ppd_sem.specs.declared.proc.Need.TheVariants.{Invoke, Back, Trap}
 use Rattle.ppd_sem.specs.Process.{need_of_deed, need_of_asked, need_by_entry, need_of_head, need_of_call, need_by_offer, offer_of, call_unit, top_body, top_call, head_deed, top_cells, entry_of}
@@ -53,7 +54,7 @@ module _ (program : Program) (used inside : ℕ → Type 0) (calls : Type 0) (cl
 
   call_same : (plan : Plan) (f : ℕ) (s r : Proc) → s.below + length s.frames ≡ r.below + length r.frames
       → need_of_call plan f s ≡ need_of_call plan f r
-  call_same plan f s r e = ap (λ n. if nat_lt 64 n then Trap trap.Depth else Invoke
+  call_same plan f s r e = ap (λ n. if nat_lt MOST_CALLS n then Trap trap.Depth else Invoke
       (block_of plan (block_kind.Function f)) (unit_of plan (start.Entry f))) e
 
   deed_need : (plan : Plan) (t : Todo) (s r : Proc) (ts : List Todo) (d : Deed) → IsOpenAlike s r

@@ -21,6 +21,7 @@ use Rattle.ppd_ast.specs.declared.plan.BlockKind.TheVariants as block
 use Rattle.ppd_ast.specs.declared.plan.Start.TheVariants as start
 use Rattle.ppd_ast.specs.declared.status.Trap.TheVariants as trap
 use Rattle.ppd_ast.specs.Lookups.{kind_of}
+use Rattle.ppd_ast.specs.declared.limits.TheConstants.{MOST_CALLS}
 use Rattle.ppd_model.specs.Marks.{values_at}
 use Rattle.ppd_sem.specs.Blocks.{skipped}
 use Rattle.ppd_beside.specs.Beside.{HasEnds, IsBeside, IsBlock, Rests, Stacked, at_base, called}
@@ -50,7 +51,7 @@ module _ (program : Program) (plan : Plan) where
   deed_is : (t : ℕ) (s : Proc) (d : Deed) → leave_need (need_of_deed program plan t s d) ≡ true → d ≡ leave
   unfolding leave_need
   deed_is t s leave e = refl
-  deed_is t s (invoke f vs into) e = absurd (true≢false (sym e ∙ by (nat_lt 64 (s.below + length s.frames))))
+  deed_is t s (invoke f vs into) e = absurd (true≢false (sym e ∙ by (nat_lt MOST_CALLS (s.below + length s.frames))))
     where
       by : (x : Bool) → leave_need
           (if x then Trap trap.Depth else Invoke (block_of plan (block.Function f)) (unit_of plan (start.Entry f)))

@@ -22,6 +22,7 @@ use Rattle.ppd_ast.specs.declared.plan.Start.TheVariants as start
 use Rattle.ppd_ast.specs.declared.status.Trap.TheVariants as trap
 use Rattle.ppd_ast.specs.Lookups.{kind_of, top_of_body, body_of_stmt}
 use Rattle.ppd_ast.specs.Counting.{one_if}
+use Rattle.ppd_ast.specs.declared.limits.TheConstants.{MOST_CALLS}
 use Rattle.ppd_model.specs.Marks.{opened, closed}
 use Rattle.ppd_beside.specs.Beside.{IsCallOf, IsReturn, IsEnd, Suits, Yields}
 use Rattle.ppd_beside.specs.Opens.{IsCountable, IsCountedStep, IsHome, IsWhile, ends_block, open_at, opens}
@@ -242,7 +243,7 @@ module _ (program : Program) (plan : Plan) (c : IsCountable program plan) where
         (act_by_need program plan a t ts (need_of_leaving plan t.stmt (block_of plan (block.Loop t.stmt))) s)
         (leaves_todo (block_of plan (block.Loop t.stmt)) left e)
     deed_step (invoke f values into) left e h =
-        calls_so f values into (nat_lt 64 (s.below + length s.frames)) (block_of plan (block.Function f))
+        calls_so f values into (nat_lt MOST_CALLS (s.below + length s.frames)) (block_of plan (block.Function f))
         (unit_of plan (start.Entry f)) (head_deed program t s) refl left e refl h.suits_so
     deed_step (back value) left e h =
         omega (

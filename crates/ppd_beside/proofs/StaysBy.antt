@@ -13,6 +13,7 @@ use Rattle.ppd_ast.specs.declared.plan.BlockKind.TheVariants as block_kind
 use Rattle.ppd_ast.specs.declared.plan.Start.TheVariants as start
 use Rattle.ppd_ast.specs.declared.status.Trap.TheVariants as trap
 use Rattle.ppd_ast.specs.Lookups.{kind_of}
+use Rattle.ppd_ast.specs.declared.limits.TheConstants.{MOST_CALLS}
 use Rattle.ppd_sem.specs.declared.asking.Pause.TheVariants.{Wants, Traps}
 use Rattle.ppd_sem.specs.declared.proc.Need.{Need}
 use Rattle.ppd_sem.specs.declared.proc.Need.TheVariants.{Invoke, Offer, Done, Trap}
@@ -42,7 +43,7 @@ module _ (program : Program) (used inside : ℕ → Type 0) (calls : Type 0) (cl
       leaving : (o : Option ℕ) → StaysBy t fs gs todo (need_of_leaving plan t.stmt o) (Ok (leave, left)) x
       leaving None = k
       leaving (Some b) = k
-  deed_stays plan t s fs gs todo (invoke f values into) left x k = calling_by (nat_lt 64 (s.below + length s.frames))
+  deed_stays plan t s fs gs todo (invoke f values into) left x k = calling_by (nat_lt MOST_CALLS (s.below + length s.frames))
     where
       calling_by : (deep : Bool)
           → StaysBy t fs gs todo (if deep then Trap trap.Depth else Invoke (block_of plan (block_kind.Function f))

@@ -8,8 +8,9 @@ use lib.Bits.{bit_or}
 use mir.Syntax.{w64}
 use Rattle.ppd_ast.specs.Members.{has, those, with_cell}
 use Rattle.ppd_ast.proofs.Those.{those_has, those_same, those_again, those_none}
+use Rattle.ppd_ast.specs.declared.limits.TheConstants.{MOST_SHARED_CELLS}
 use Rattle.ppd_bits.specs.CellSets.{is_held, held, IsSetBelow}
-use Rattle.ppd_bits.proofs.Sets.{those_more, those_set, has_with}
+use Rattle.ppd_bits.proofs.Sets.{those_more, those_set}
 
 zero_at : (n k : ℕ) → ◌≡◌ {A = ℕ} (get_or (replicate n 0) k 0) 0
 zero_at zero k = refl
@@ -21,7 +22,7 @@ none_held cell = ap (λ w. nat_eq (bit_at w (cell % 64)) 1) (zero_at 16 (cell / 
 
 pub held_none : held (replicate 16 0) ≡ []
 unfolding held
-held_none = those_none 1024 (is_held (replicate 16 0)) (λ x h. none_held x)
+held_none = those_none MOST_SHARED_CELLS (is_held (replicate 16 0)) (λ x h. none_held x)
 
 -- ---- one more cell
 
@@ -67,28 +68,25 @@ beside_word words cell x h =
 held_more : (words : List ℕ) (cell x : ℕ) → cell / 64 < length words → is_held (with_bit words cell) x ≡ (nat_eq cell x || is_held words x)
 held_more words cell x h = elim (cases_eq (x / 64) (cell / 64)) [ inl e ↦ in_word words cell x h e | inr n ↦ beside_word words cell x n ]
 
-pub held_with : (words : List ℕ) (cell : ℕ) → length words ≡ 16 → cell < 1024 → held (with_bit words cell) ≡ with_cell cell (held words)
+pub held_with : (words : List ℕ) (cell : ℕ) → length words ≡ 16 → cell < MOST_SHARED_CELLS → held (with_bit words cell) ≡ with_cell cell (held words)
 unfolding held
 held_with words cell long h =
     let there : cell / 64 < length words = (let below : cell / 64 < 16 = omega arith in omega arith) in
-    those_same 1024 (is_held (with_bit words cell)) (λ x. nat_eq cell x || is_held words x) (λ x k. held_more words cell x there) ∙ those_more cell 1024 (is_held words) h
+    those_same MOST_SHARED_CELLS (is_held (with_bit words cell)) (λ x. nat_eq cell x || is_held words x) (λ x k. held_more words cell x there) ∙ those_more cell MOST_SHARED_CELLS (is_held words) h
 
-pub held_has : (words : List ℕ) (cell x : ℕ) → length words ≡ 16 → cell < 1024 → has (held (with_bit words cell)) x ≡ (nat_eq cell x || has (held words) x)
-held_has words cell x long h = ap (λ xs. has xs x) (held_with words cell long h) ∙ has_with cell (held words) x
-
-pub held_at : (words : List ℕ) (cell : ℕ) → cell < 1024 → has (held words) cell ≡ is_held words cell
+pub held_at : (words : List ℕ) (cell : ℕ) → cell < MOST_SHARED_CELLS → has (held words) cell ≡ is_held words cell
 unfolding held
-held_at words cell h = those_has 1024 (is_held words) cell h
+held_at words cell h = those_has MOST_SHARED_CELLS (is_held words) cell h
 
 -- a set from its cells, gathered one by one
-pub gathered : (words cells : List ℕ) (n : ℕ) → n ≡ 1024 → cells ≡ those n (is_held words) → cells ≡ held words
+pub gathered : (words cells : List ℕ) (n : ℕ) → n ≡ MOST_SHARED_CELLS → cells ≡ those n (is_held words) → cells ≡ held words
 unfolding held
 gathered words cells n end e = e ∙ ap (λ k. those k (is_held words)) end
 
-pub held_set : (words : List ℕ) → IsSetBelow 1024 (held words)
+pub held_set : (words : List ℕ) → IsSetBelow MOST_SHARED_CELLS (held words)
 unfolding held
-held_set words = those_set 1024 (is_held words)
+held_set words = those_set MOST_SHARED_CELLS (is_held words)
 
-pub held_whole : (words : List ℕ) → held words ≡ those 1024 (has (held words))
+pub held_whole : (words : List ℕ) → held words ≡ those MOST_SHARED_CELLS (has (held words))
 unfolding held
-held_whole words = sym (those_again 1024 (is_held words))
+held_whole words = sym (those_again MOST_SHARED_CELLS (is_held words))

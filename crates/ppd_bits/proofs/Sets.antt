@@ -37,9 +37,6 @@ past_head : (b : Bool) (c a : ℕ) (new rest : List ℕ) → a < c → new ≡ w
 past_head true c a new rest h e = ap (λ zs. a ∷ zs) e ∙ sym (with_later c a rest h)
 past_head false c a new rest h e = e
 
-more_test : ℕ → (ℕ → Bool) → ℕ → Bool
-more_test c test x = nat_eq c x || test x
-
 more_filter : (c : ℕ) (test : ℕ → Bool) (a n : ℕ) → a ≤ c → c < a + n → filter (λ x. nat_eq c x || test x) (range_with_len a n) ≡ with_cell c (filter test (range_with_len a n))
 more_filter c test a zero h k = absurd (omega arith)
 more_filter c test a (suc n) h k =

@@ -1,8 +1,8 @@
 -- Words compared lane by lane.
-use Rattle.std.proofs.Common.{◌≡◌, ℕ, zero, suc, ◌+◌, ◌<◌, ◌≤◌, ◌*◌, ◌/◌, ◌%◌, ◌^◌, List, [], ◌∷◌, false, not, refl, sym, subst, ap, ◌∙◌, arith, inl, inr, ◌⊎◌, length, get_or, min, max, true≢false, ◌||◌, lt_of_le_of_lt}
+use Rattle.std.proofs.Common.{◌≡◌, ℕ, zero, suc, ◌+◌, ◌<◌, ◌≤◌, ◌*◌, ◌/◌, ◌%◌, ◌^◌, List, [], ◌∷◌, false, not, refl, sym, subst, ap, ◌∙◌, arith, inl, inr, length, get_or, min, max, true≢false, ◌||◌, lt_of_le_of_lt}
 use Rattle.std.specs.Prelude.{IsTrue, nat_eq}
 use Rattle.std.specs.Int.{bit_at, trailing_zeros}
-use Rattle.std.proofs.lemmas.Bool.{eqb-true, ne_eqb, cases_eq, cases_lt, cases_Bool}
+use Rattle.std.proofs.lemmas.Bool.{eqb-true, ne_eqb, cases_lt, cases_Bool}
 use Rattle.std.proofs.lemmas.Nat.Bits.{bit_at-zero, bit_at_and, bit_at_or, bit_at-lt, bit_at-trailing_zeros}
 use Rattle.std.proofs.lemmas.Simd.{get_or-zip2, length-zip2}
 use lib.Bits.{bit_and, bit_or, and_le_l}
@@ -11,10 +11,8 @@ use mir.Syntax.{w64}
 use Rattle.ppd_ast.specs.Members.{has}
 use Rattle.ppd_ast.proofs.Members.{any_from, any_gives}
 use Rattle.ppd_ast.proofs.Those.{both, those_has, those_below}
+use Rattle.ppd_ast.specs.declared.limits.TheConstants.{MOST_SHARED_CELLS}
 use Rattle.ppd_bits.specs.CellSets.{meet, is_held, held}
-
-IsSet : ℕ → ℕ → Type 0
-IsSet n i = bit_at n i ≡ 1
 
 nothing : (n : ℕ) → (0 < n → ⊥) → n ≡ 0
 nothing zero h = refl
@@ -45,24 +43,6 @@ or_has a [] i j h k = absurd (omega arith)
 or_has a (x ∷ xs) zero j h k =
     keeps (bit_or a x) xs j (bit_at_or a x j ∙ (let low : bit_at a j < 2 = bit_at-lt a j in let e : max (bit_at a j) (bit_at x j) ≡ 1 = omega arith in e))
 or_has a (x ∷ xs) (suc i) j h k = or_has (bit_or a x) xs i j (omega arith) k
-
-one_of : (a b : ℕ) → a < 2 → b < 2 → max a b ≡ 1 → (a ≡ 1) ⊎ (b ≡ 1)
-one_of a b h k e = elim (cases_eq a 1) [ inl is ↦ inl is | inr other ↦ inr (let low : a ≡ 0 = small a h other in omega arith) ] where
-  small : (a : ℕ) → a < 2 → (a ≡ 1 → ⊥) → a ≡ 0
-  small zero h f = refl
-  small (suc zero) h f = absurd (f refl)
-  small (suc (suc a)) h f = absurd (omega arith)
-
-pub or_from : (a : ℕ) (xs : List ℕ) (j : ℕ) → bit_at (fold_l bit_or a xs) j ≡ 1 → (bit_at a j ≡ 1) ⊎ ((i : ℕ) × (i < length xs) × (bit_at (get_or xs i 0) j ≡ 1))
-or_from a [] j h = inl h
-or_from a (x ∷ xs) j h =
-    elim (or_from (bit_or a x) xs j h) [
-      | inl here ↦ elim (one_of (bit_at a j) (bit_at x j) (bit_at-lt a j) (bit_at-lt x j) (sym (bit_at_or a x j) ∙ here)) [
-        | inl before ↦ inl before
-        | inr now ↦ inr (zero, omega arith, now)
-      ]
-      | inr later ↦ inr (suc later.0, (let below = later.1 in omega (arith, below)), later.2)
-    ]
 
 zero_or : (a x : ℕ) → a ≡ 0 → x ≡ 0 → bit_or a x ≡ 0
 zero_or a x e f = ap (λ n. bit_or n x) e ∙ ap (bit_or 0) f
@@ -96,8 +76,8 @@ unfolding held
 cell_in words i j h k e =
     let word : (64 * i + j) / 64 ≡ i = omega arith in
     let bit : (64 * i + j) % 64 ≡ j = omega arith in
-    let below : 64 * i + j < 1024 = omega arith in
-    those_has 1024 (is_held words) (64 * i + j) below
+    let below : 64 * i + j < MOST_SHARED_CELLS = omega arith in
+    those_has MOST_SHARED_CELLS (is_held words) (64 * i + j) below
     ∙ ap (λ n. nat_eq (bit_at (get_or words n 0) ((64 * i + j) % 64)) 1) word ∙ ap (λ n. nat_eq (bit_at (get_or words i 0) n) 1) bit ∙ ap (λ b. nat_eq b 1) e
 
 -- words that share no bit hold no cell both
@@ -123,31 +103,31 @@ meet_is xs ys lx ly fits =
     (λ t.
     let cell = any_gives (has (held ys)) (held xs) t in
     let x : ℕ = cell.0 in
-    let below : x < 1024 = those_below 1024 (is_held xs) x cell.1 in
-    let a : bit_at (get_or xs (x / 64) 0) (x % 64) ≡ 1 = eqb-true (bit_at (get_or xs (x / 64) 0) (x % 64)) 1 (sym (those_has 1024 (is_held xs) x below) ∙ cell.1) in
-    let b : bit_at (get_or ys (x / 64) 0) (x % 64) ≡ 1 = eqb-true (bit_at (get_or ys (x / 64) 0) (x % 64)) 1 (sym (those_has 1024 (is_held ys) x below) ∙ cell.2) in
+    let below : x < MOST_SHARED_CELLS = those_below MOST_SHARED_CELLS (is_held xs) x cell.1 in
+    let a : bit_at (get_or xs (x / 64) 0) (x % 64) ≡ 1 = eqb-true (bit_at (get_or xs (x / 64) 0) (x % 64)) 1 (sym (those_has MOST_SHARED_CELLS (is_held xs) x below) ∙ cell.1) in
+    let b : bit_at (get_or ys (x / 64) 0) (x % 64) ≡ 1 = eqb-true (bit_at (get_or ys (x / 64) 0) (x % 64)) 1 (sym (those_has MOST_SHARED_CELLS (is_held ys) x below) ∙ cell.2) in
     let word : x / 64 < 16 = omega arith in
     let one : bit_at (get_or all (x / 64) 0) (x % 64) ≡ 1 = ap (λ n. bit_at n (x % 64)) (lane (x / 64) word) ∙ set_both (get_or xs (x / 64) 0) (get_or ys (x / 64) 0) (x % 64) a b in
     ap not (zero_unless found (x % 64) (or_has 0 all (x / 64) (x % 64) (omega arith) one)))
 
 -- ---- the cells of both
 
-either_held : (xs ys : List ℕ) (x : ℕ) → length xs ≡ 16 → length ys ≡ 16 → x < 1024 → is_held (zip2 bit_or xs ys) x ≡ (is_held xs x || is_held ys x)
+either_held : (xs ys : List ℕ) (x : ℕ) → length xs ≡ 16 → length ys ≡ 16 → x < MOST_SHARED_CELLS → is_held (zip2 bit_or xs ys) x ≡ (is_held xs x || is_held ys x)
 either_held xs ys x lx ly h =
     let word : x / 64 < 16 = omega arith in
     let lane : get_or (zip2 bit_or xs ys) (x / 64) 0 ≡ bit_or (get_or xs (x / 64) 0) (get_or ys (x / 64) 0) = get_or-zip2 bit_or xs ys (x / 64) 0 0 0 (omega arith) (omega arith) in
     ap (λ n. nat_eq (bit_at n (x % 64)) 1) lane ∙ ap (λ b. nat_eq b 1) (bit_at_or (get_or xs (x / 64) 0) (get_or ys (x / 64) 0) (x % 64))
     ∙ larger (bit_at (get_or xs (x / 64) 0) (x % 64)) (bit_at (get_or ys (x / 64) 0) (x % 64)) (bit_at-lt (get_or xs (x / 64) 0) (x % 64)) (bit_at-lt (get_or ys (x / 64) 0) (x % 64))
 
-above : (words : List ℕ) (x : ℕ) → 1024 ≤ x → has (held words) x ≡ false
+above : (words : List ℕ) (x : ℕ) → MOST_SHARED_CELLS ≤ x → has (held words) x ≡ false
 unfolding held
-above words x h = elim (cases_Bool (has (held words) x)) [ inl t ↦ absurd (let below = those_below 1024 (is_held words) x t in omega (arith, below)) | inr f ↦ f ]
+above words x h = elim (cases_Bool (has (held words) x)) [ inl t ↦ absurd (let below = those_below MOST_SHARED_CELLS (is_held words) x t in omega (arith, below)) | inr f ↦ f ]
 
 pub either_has : (xs ys : List ℕ) (x : ℕ) → length xs ≡ 16 → length ys ≡ 16 → has (held (zip2 bit_or xs ys)) x ≡ (has (held xs) x || has (held ys) x)
 unfolding held
-either_has xs ys x lx ly = elim (cases_lt x 1024) [
+either_has xs ys x lx ly = elim (cases_lt x MOST_SHARED_CELLS) [
   | inl below ↦
-      those_has 1024 (is_held (zip2 bit_or xs ys)) x below ∙ either_held xs ys x lx ly below
-      ∙ ap (λ b. b || is_held ys x) (sym (those_has 1024 (is_held xs) x below)) ∙ ap (λ b. has (held xs) x || b) (sym (those_has 1024 (is_held ys) x below))
+      those_has MOST_SHARED_CELLS (is_held (zip2 bit_or xs ys)) x below ∙ either_held xs ys x lx ly below
+      ∙ ap (λ b. b || is_held ys x) (sym (those_has MOST_SHARED_CELLS (is_held xs) x below)) ∙ ap (λ b. has (held xs) x || b) (sym (those_has MOST_SHARED_CELLS (is_held ys) x below))
   | inr high ↦ above (zip2 bit_or xs ys) x high ∙ sym (ap (λ b. b || has (held ys) x) (above xs x high) ∙ above ys x high)
 ]

@@ -1,5 +1,5 @@
 -- The block loops, and that the units start where the policy says.
-use Rattle.std.proofs.Common.{◌≡◌, ℕ, ◌+◌, List, [], ◌∷◌, ◌++◌, Bool, true, false, Option, Some, None, refl, sym, ap, ◌∙◌, subst, inl, inr, map, true≢false}
+use Rattle.std.proofs.Common.{◌≡◌, ℕ, ◌+◌, List, [], ◌∷◌, ◌++◌, Bool, true, false, Option, Some, None, refl, sym, ap, ◌∙◌, subst, inl, inr, true≢false}
 use Rattle.std.specs.Prelude.{IsTrue, slice_get, if◌then◌else◌}
 use Rattle.std.specs.List.{flat_map}
 use Rattle.std.proofs.lemmas.Bool.{cases_Bool}
@@ -13,7 +13,7 @@ use Rattle.ppd_ast.specs.declared.plan.Start.TheVariants.{Entry, After, Enter, E
 use Rattle.ppd_ast.specs.Numbered.{is_left, is_block_loop, is_block_body, body_kind, loops_of, loops_at, blocks_of, starts_of, body_starts, starts_by, numbers_of, each_from}
 use Rattle.ppd_ast.specs.Numbered.{starts_at as starts_of_policy}
 use Rattle.ppd_ast.specs.Members.{has}
-use Rattle.ppd_ast.specs.Lookups.{kind_of_stmt, kind_of}
+use Rattle.ppd_ast.specs.Lookups.{kind_of_stmt}
 use Rattle.ppd_ast.proofs.Members.{has_first, has_cons, has_left, has_right, has_cases}
 use Rattle.ppd_units.specs.Starts.{unit_starts_at, starts_in, all_starts}
 use Rattle.ppd_blocks.specs.Blocks.{loop_in, block_loops}

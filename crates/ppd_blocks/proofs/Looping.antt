@@ -16,6 +16,7 @@ use Rattle.ppd_ast.proofs.ValidLaws.{AreBelow, stmt_in_body, uses_below, valid_b
 use Rattle.ppd_ast.specs.Members.{has}
 use Rattle.ppd_ast.specs.Lookups.{kind_of_stmt, kind_of}
 use Rattle.ppd_ast.proofs.Members.{has_cases, flat_gives, all_has}
+use Rattle.ppd_ast.specs.declared.limits.TheConstants.{MOST_NESTING}
 use Rattle.ppd_sets.specs.Named.{cells_in, reads, writes}
 use Rattle.ppd_sets.proofs.InBody.{InBody, inside_in}
 use Rattle.ppd_sets.proofs.Looping.{cells_below, writes_below}
@@ -29,7 +30,7 @@ unfolding InBody
 itself p q x at = (x, at, refl)
 
 loop_in_body : (p : Program) (q s : ℕ) (x : Stmt) → IsValid p → slice_get p.stmts q ≡ Some x → IsTrue (has (loop_stmts p q) s) → InBody p x.body s
-loop_in_body p q s x v at h = inside_in 64 p q s x.body v (itself p q x at) h
+loop_in_body p q s x v at h = inside_in MOST_NESTING p q s x.body v (itself p q x at) h
 
 -- ---- what a statement names lies in its frame
 

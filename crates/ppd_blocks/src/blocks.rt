@@ -1,7 +1,6 @@
 // The blocks with what their prelogs and postlogs hold.
 ghost use Rattle.std.specs.Prelude.{◌≡◌, [], ◌++◌, map, slice_get, IfOk, OnOk};
 ghost use Rattle.std.specs.List.{flat_map, range_with_len};
-ghost use Rattle.ppd_ast.specs.Valid.{IsValid};
 ghost use Rattle.ppd_sets.specs.Gained.{Gains};
 ghost use Rattle.ppd_sets.specs.SetsOf.{AreSetsOf};
 ghost use Rattle.ppd_sets.specs.Used.{loop_used_of, loop_defined_of, sorted};

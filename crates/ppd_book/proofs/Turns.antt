@@ -1,6 +1,5 @@
 -- One more turn, and the last one.
-use Rattle.std.proofs.Common.{◌≡◌, ℕ, List, [], ◌∷◌, ◌++◌, length, take, refl, ap, sym, ◌∙◌, subst}
-use Rattle.std.proofs.Math.Seq.{take-append_seam}
+use Rattle.std.proofs.Common.{◌≡◌, ℕ, List, [], ◌∷◌, ◌++◌, ap, sym, ◌∙◌, subst}
 use Rattle.std.proofs.lemmas.List.{append_assoc, append-nil}
 use Rattle.ppd_model.specs.Schedule.{IsOver}
 use Rattle.ppd_world.specs.Running.{Running, IsLowest, stepped}
@@ -10,18 +9,11 @@ pub goes_more : (r last : Running) (h : List ℕ) (p : ℕ) → GoesLowest r h l
 goes_more r last [] p g l = (subst (λ (x : Running). IsLowest x p) (sym g) l, ap (λ (x : Running). stepped x p) g)
 goes_more r last (q ∷ h) p g l = (g.0, goes_more (stepped r q) last h p g.1 l)
 
--- what was pushed is taken back
-pub taken_back : (old new now : List ℕ) (p count : ℕ) → count ≡ length old → new ≡ old ++ p ∷ [] → now ≡ take count new → now ≡ old
-taken_back old new now p count c e t = t ∙ ap (λ (n : ℕ). take n new) c ∙ ap (λ (xs : List ℕ). take (length old) xs) e ∙ take-append_seam old (p ∷ [])
-
 -- what has been done by now in a close: the turns since it began
 pub record HasTaken (first : Running) (before : List ℕ) (now : Running) (after : List ℕ) : Type 0 where
   pub rest : List ℕ
   pub grew : after ≡ before ++ rest
   pub goes : GoesLowest first rest now
-
-pub none_taken : (r : Running) (h : List ℕ) → HasTaken r h r h
-none_taken r h = record { rest = []; grew = sym (append-nil h); goes = refl }
 
 pub one_taken : (first now next : Running) (before after then : List ℕ) (p : ℕ) → HasTaken first before now after → IsLowest now p → next ≡ stepped now p → then ≡ after ++ p ∷ [] → HasTaken first before next then
 one_taken first now next before after then p t l e f = record {

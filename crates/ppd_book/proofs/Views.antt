@@ -13,6 +13,7 @@ use Rattle.ppd_world.specs.Plain.{GoesPlainly}
 use Rattle.ppd_world.specs.Running.{IsHeld, Running}
 use Rattle.ppd_world.proofs.Processes.{reached_count}
 use Rattle.ppd_world.proofs.Reached.{numbered, runnable}
+use Rattle.ppd_book.specs.declared.view.TheConstants.{MOST_VIEW_STEPS}
 use Rattle.ppd_book.specs.Views.{HasMore, IsView, Seen}
 use Rattle.ppd_book.proofs.Budgets.{of_budget, of_running}
 
@@ -27,7 +28,7 @@ pub view_advanced : (program : Program) (plan : Plan) (budget : ℕ) (p : Progra
 view_advanced program plan budget p q v is can next e running =
     let same : next ≡ act program plan v.after Go = e ∙ ap (λ (x : Program). act x q v.after Go) is.is_program ∙ ap (λ (x : Plan). act program x v.after Go) is.is_plan in
     let more : suc v.count ≡ v.count + 1 = omega arith in
-    let few : v.count < 64 = can.few in
+    let few : v.count < MOST_VIEW_STEPS = can.few in
     record {
       is_program = is.is_program;
       is_plan = is.is_plan;

@@ -28,7 +28,8 @@ impl<'a, J: Job> Model for View<'a, J> {
 
     ghost view = { λ v. record { worker = v.worker; before = v.before; after = v.after; count = v.count } };
 
-    ghost invariant = { λ v. IsView J.program J.plan J.budget v.program.now v.plan.now (record { worker = v.worker; before = v.before; after = v.after; count = v.count }) };
+    ghost invariant = { λ v. IsView J.program J.plan J.budget v.program.now v.plan.now
+        (record { worker = v.worker; before = v.before; after = v.after; count = v.count }) };
 }
 
 impl<'a, J: Job> View<'a, J> {

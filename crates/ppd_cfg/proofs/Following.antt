@@ -3,7 +3,6 @@ use Rattle.std.proofs.Common.{◌≡◌, ℕ, zero, suc, ◌+◌, ◌-◌, ◌<�
 use Rattle.std.specs.Prelude.{IsTrue, IsSomeAnd, slice_get, ⊤}
 use Rattle.std.specs.List.{flat_map, range_with_len}
 use Rattle.std.proofs.lemmas.Bool.{cases_lt}
-use Rattle.ppd_ast.specs.declared.program.Kind.TheVariants as K
 use Rattle.ppd_ast.specs.declared.program.Stmt.{Stmt}
 use Rattle.ppd_ast.specs.declared.program.Body.{Body}
 use Rattle.ppd_ast.specs.declared.program.Program.{Program}
@@ -13,7 +12,8 @@ use Rattle.ppd_ast.proofs.ValidLaws.{slice_get_below, valid_stmt, valid_body, so
 use Rattle.ppd_ast.specs.Members.{has}
 use Rattle.ppd_ast.specs.Lookups.{kind_of}
 use Rattle.ppd_ast.proofs.Members.{has_cons, in_bounds_has, flat_gives, all_has}
-use Rattle.ppd_cfg.specs.Flow.{follow, follow_at, follow_of, follow_under, follow_within}
+use Rattle.ppd_ast.specs.declared.limits.TheConstants.{MOST_NESTING}
+use Rattle.ppd_cfg.specs.Flow.{follow_at, follow_of, follow_under, follow_within}
 use Rattle.ppd_cfg.specs.Laws.{FollowsItsList}
 
 -- ---- in so few others
@@ -106,7 +106,7 @@ in_some (b ∷ bs) n end s f l h = elim (cases_lt s b.end) [
   | inr past ↦ (let more = in_some bs b.end end s f.2 past h in (suc more.0, more.1, more.2, more.3, more.4))
 ]
 
-valid_within : (p : Program) (s : ℕ) (x : Stmt) → IsValid p → slice_get p.stmts s ≡ Some x → Within 64 p s
+valid_within : (p : Program) (s : ℕ) (x : Stmt) → IsValid p → slice_get p.stmts s ≡ Some x → Within MOST_NESTING p s
 valid_within p s x v at =
     let place = in_some p.bodies 0 (length p.stmts) s v.ranges (omega arith) (slice_get_below p.stmts s x at) in
     let b : Body = place.1 in
@@ -114,27 +114,27 @@ valid_within p s x v at =
     let low : b.first ≤ s = place.3 in
     let high : s < b.end = place.4 in
     let number : IsTrue (has (range_with_len b.first (b.end - b.first)) s) = in_bounds_has b.first (b.end - b.first) s low (omega arith) in
-    let listed : IsTrue (has (flat_map (preorder 64 p.stmts) b.top) s) = subst (λ xs. IsTrue (has xs s)) (sym valid.order) number in
-    let t = flat_gives (preorder 64 p.stmts) b.top s listed in
+    let listed : IsTrue (has (flat_map (preorder MOST_NESTING p.stmts) b.top) s) = subst (λ xs. IsTrue (has xs s)) (sym valid.order) number in
+    let t = flat_gives (preorder MOST_NESTING p.stmts) b.top s listed in
     let stands = all_has (λ i. IsSomeAnd (slice_get p.stmts i) (λ s. (s.parent ≡ None) × (s.body ≡ place.0))) b.top t.0 valid.top t.1 in
     let y = some_and (λ (s : Stmt). (s.parent ≡ None) × (s.body ≡ place.0)) (slice_get p.stmts t.0) stands in
-    inside_within 64 1 64 p t.0 s v (omega arith) (top_within p t.0 y.0 y.1 y.2.0) t.2
+    inside_within MOST_NESTING 1 MOST_NESTING p t.0 s v (omega arith) (top_within p t.0 y.0 y.1 y.2.0) t.2
 
 above_valid : (p : Program) (d s : ℕ) (o : Option Stmt) (x : Stmt) → o ≡ Some x → HoldsOf (Within d p) o → HoldsAbove (Within d p) x.parent
 unfolding HoldsOf
 above_valid p d s None x e h = cc
 above_valid p d s (Some y) x e h = let same : y ≡ x = cc in subst (λ (z : Stmt). HoldsAbove (Within d p) z.parent) same h
 
-open_follow : (p : Program) (s : ℕ) (x : Stmt) → slice_get p.stmts s ≡ Some x → follow_at 64 p s ≡ follow_under p (follow_at 63 p) x.body s x.parent
+open_follow : (p : Program) (s : ℕ) (x : Stmt) → slice_get p.stmts s ≡ Some x → follow_at MOST_NESTING p s ≡ follow_under p (follow_at (MOST_NESTING - 1) p) x.body s x.parent
 unfolding follow_at
-open_follow p s x at = ap (follow_of p (follow_at 63 p) s) at
+open_follow p s x at = ap (follow_of p (follow_at (MOST_NESTING - 1) p) s) at
 
-open_within : (p : Program) (s : ℕ) → Within 64 p s → HoldsOf (Within 63 p) (slice_get p.stmts s)
+open_within : (p : Program) (s : ℕ) → Within MOST_NESTING p s → HoldsOf (Within (MOST_NESTING - 1) p) (slice_get p.stmts s)
 unfolding Within
 open_within p s h = h
 
 pub follows_its_list : FollowsItsList
 follows_its_list p s x v at =
-    let within : Within 64 p s = valid_within p s x v at in
+    let within : Within MOST_NESTING p s = valid_within p s x v at in
     open_follow p s x at
-    ∙ under_same p (follow_at 63 p) (follow_at 64 p) x.body s x.parent (Within 63 p) (above_valid p 63 s (slice_get p.stmts s) x at (open_within p s within)) (λ q k. deeper_same 63 p q k)
+    ∙ under_same p (follow_at (MOST_NESTING - 1) p) (follow_at MOST_NESTING p) x.body s x.parent (Within (MOST_NESTING - 1) p) (above_valid p (MOST_NESTING - 1) s (slice_get p.stmts s) x at (open_within p s within)) (λ q k. deeper_same (MOST_NESTING - 1) p q k)

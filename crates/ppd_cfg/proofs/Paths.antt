@@ -3,7 +3,6 @@ use Rattle.std.proofs.Common.{ℕ, List, [], ◌∷◌, ◌++◌, refl, sym, sub
 use Rattle.std.specs.Prelude.{IsTrue}
 use Rattle.ppd_ast.specs.declared.program.Program.{Program}
 use Rattle.ppd_ast.specs.Members.{has}
-use Rattle.ppd_cfg.specs.Lists.{row}
 use Rattle.ppd_cfg.specs.Reach.{Reached, start, next}
 use Rattle.ppd_cfg.specs.Flow.{next_of, flow_rows, IsPath, FlowsTo}
 use Rattle.ppd_cfg.specs.Laws.{PathsAreChains}

@@ -11,7 +11,7 @@ use Rattle.ppd_parse.specs.Limits.{IsTree}
 use Rattle.ppd_resolve.specs.Names.{Scope}
 use Rattle.ppd_check.specs.Read.{IsTreeOf, IsRead}
 use Rattle.ppd_resolve.specs.Reading.{source_of}
-use Rattle.ppd_lower.specs.Sources.{heads, head_frame, head_code, vars, core, Accepted}
+use Rattle.ppd_bodies.specs.Sources.{heads, head_frame, head_code, vars, core, Accepted}
 use Rattle.ppd_resolve.specs.Globals.{Head, globals}
 use Rattle.ppd_check.proofs.Valid.Core.{core_valid}
 use Rattle.ppd_check.proofs.Named.Accepted.{IsNamedHead, accepted_heads, accepted_counted, accepted_cells}

@@ -23,13 +23,14 @@ use Rattle.ppd_lower.specs.Statements.{row_code}
 use Rattle.ppd_resolve.specs.Frames.{variable_of}
 use Rattle.ppd_resolve.specs.Syntax.{Item, shared, shared_array, semaphore, channel, function, process}
 use Rattle.ppd_lower.specs.Table.{terms}
-use Rattle.ppd_lower.specs.Sources.{outer, entry, ends_with_return, close_code, head_code, head_frame, heads, codes, core, Accepted}
+use Rattle.ppd_bodies.specs.Sources.{outer, entry, ends_with_return, close_code, head_code, head_frame, heads, codes, core, Accepted}
 use Rattle.ppd_resolve.specs.Globals.{Head, Globals, no_globals, with_item, with_items, globals, sem, chan}
-use Rattle.ppd_lower.proofs.Functions.Filling.{params_count}
+use Rattle.ppd_bodies.proofs.Filling.{params_count}
 use Rattle.ppd_lower.proofs.Table.Writing.{length_flats}
 use Rattle.ppd_lower.specs.Elements.{elements_of}
 use Rattle.ppd_check.proofs.LinearNodes.{tree_within}
-use Rattle.ppd_lower.proofs.Costs.Tables.{load, length_vars, heads_load, heads_hold}
+use Rattle.ppd_lower.proofs.Costs.Tables.{load}
+use Rattle.ppd_bodies.proofs.Tables.{length_vars, heads_load, heads_hold}
 use Rattle.ppd_lower.proofs.Costs.Rows.{row_size, load_join, row_load}
 use Rattle.ppd_lower.proofs.Costs.Phrases.{item_size, items_size, items_few}
 

@@ -3,7 +3,6 @@ pub mod Accepted
 pub mod Acts
 pub mod Cells
 pub mod Counts
-pub mod Fields
 pub mod Frames
 pub mod Items
 pub mod Limits

@@ -13,7 +13,7 @@ use Rattle.ppd_resolve.specs.declared.fault.Cause.TheVariants.{TooMany}
 use Rattle.ppd_resolve.specs.declared.fault.Limit.TheVariants as L
 use Rattle.ppd_resolve.specs.declared.fault.Fault.{Fault}
 use Rattle.ppd_resolve.specs.Faults.{at, by_then, is_before, first, first_of_two, first_of_both}
-use Rattle.ppd_lower.specs.Sources.{is_up_to}
+use Rattle.ppd_bodies.specs.Sources.{is_up_to}
 use Rattle.ppd_resolve.proofs.Found.First.{first_of_both_assoc, first_of_both_swap}
 
 abbrev too_many : Place → Fault

@@ -20,15 +20,15 @@ use Rattle.ppd_resolve.specs.declared.fault.Limit.TheVariants as L
 use Rattle.ppd_resolve.specs.declared.frame.Variable.{Variable}
 use Rattle.ppd_resolve.specs.declared.globals.Globals.{Globals}
 use Rattle.ppd_resolve.specs.declared.writer.Writer.{Writer}
-use Rattle.ppd_lower.specs.Bodies.{WroteHeads}
+use Rattle.ppd_bodies.specs.Bodies.{WroteHeads}
 use Rattle.ppd_lower.specs.Code.{Code, places}
 use Rattle.ppd_resolve.specs.Faults.{at, unless, if_so, first_of_two, is_before, first, first_of_both}
 use Rattle.ppd_resolve.specs.Fitted.{as_short}
 use Rattle.ppd_resolve.specs.Holding.{head_at, Holds}
 use Rattle.ppd_resolve.specs.Names.{innermost}
 use Rattle.ppd_resolve.specs.Globals as S
-use Rattle.ppd_lower.specs.Sources.{past_statements, head_faults, heads, codes, faults_in, vars, bodies, all_stmts, core_of, Accepted, core, faults, first_fault}
-use Rattle.ppd_resolve.specs.Globals.{no_globals, globals, with_item, with_items, items_faults, count_faults, past, past_cells, sem, chan}
+use Rattle.ppd_bodies.specs.Sources.{past_statements, head_faults, heads, codes, faults_in, vars, bodies, all_stmts, core_of, Accepted, core, faults, first_fault}
+use Rattle.ppd_resolve.specs.Globals.{no_globals, globals, with_item, with_items, items_faults, count_faults, past, past_cells, sem}
 use Rattle.ppd_resolve.specs.Frames.{after_cells}
 use Rattle.ppd_resolve.specs.Syntax.{Item, Source}
 use Rattle.ppd_lower.specs.Table.{flats, terms}
@@ -122,9 +122,6 @@ heads_held ns s g h = ap (λ l. l ++ map (head_at ns) g.processes) h.functions �
 
 scope_held : (ns : List Node) (s : Source) (g : Globals) → Holds ns g (globals s) → innermost g.scopes ≡ (globals s).scope
 scope_held ns s g h = ap innermost h.scopes
-
-pub one_scope : (ns : List Node) (g : Globals) (s : S.Globals) → Holds ns g s → g.scopes ≡ innermost g.scopes ∷ []
-one_scope ns g s h = h.scopes ∙ ap (λ x. x ∷ []) (sym (ap innermost h.scopes))
 
 all_wrote : (ns : List Node) (s : Source) (g : Globals) (w : Writer) (bs : List Body) (last : Option Fault) → (x : Parts ns s g w bs last)
     → WroteHeads (globals s).scope (heads (globals s)) (record { exprs = []; stmts = []; found = x.next_found }) w [] bs

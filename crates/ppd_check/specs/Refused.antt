@@ -5,7 +5,7 @@ use Rattle.ppd_check.specs.declared.error.CheckError.{CheckError}
 use Rattle.ppd_check.specs.declared.error.CheckError.TheVariants as E
 use Rattle.ppd_resolve.specs.declared.fault.Cause.TheVariants.{Twice, Unknown, WrongKind, Arity, ReturnPlace, VoidValue, NoProcess, TooMany, BadSize}
 use Rattle.ppd_resolve.specs.Faults.{at}
-use Rattle.ppd_lower.specs.Sources.{first_fault}
+use Rattle.ppd_bodies.specs.Sources.{first_fault}
 
 -- Why a tree is refused: the first rule that it breaks, with its place. Want of memory may come at any.
 abbrev pub IsRefused : Shape → CheckError → Type 0

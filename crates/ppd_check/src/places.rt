@@ -2,7 +2,7 @@
 ghost use Rattle.std.specs.Prelude.{◌≡◌, map, List, OnOk, IfOk, ◌≤◌, ◌+◌, ◌*◌, length};
 ghost use Rattle.std.specs.List.{flat_map};
 ghost use Rattle.ppd_resolve.specs.Faults.{first, first_of_both};
-ghost use Rattle.ppd_lower.specs.Sources.{past_statements, all_stmts};
+ghost use Rattle.ppd_bodies.specs.Sources.{past_statements, all_stmts};
 ghost use Rattle.ppd_lower.specs.Code.{Code, places};
 ghost use Rattle.ppd_check.specs.Placed.{place_of};
 

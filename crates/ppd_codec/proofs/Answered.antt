@@ -1,6 +1,6 @@
 -- What decoding answers, by the parts of reading.
 use Rattle.std.specs.Prelude.{IsErrAnd, nat_eq, nat_le}
-use Rattle.std.proofs.Common.{◌≡◌, ◌≢◌, ℕ, suc, ◌+◌, ◌<◌, ◌≤◌, List, [], ◌∷◌, ◌++◌, length, get_or, Bool, true, false, cond, Result, Ok, Err, refl, ap, sym, ◌∙◌, subst, arith}
+use Rattle.std.proofs.Common.{◌≡◌, ◌^◌, ◌≢◌, ℕ, suc, ◌+◌, ◌<◌, ◌≤◌, List, [], ◌∷◌, ◌++◌, length, get_or, Bool, true, false, cond, Result, Ok, Err, refl, ap, sym, ◌∙◌, subst, arith}
 use Rattle.std.proofs.lemmas.Bool.Decides.{nat_tests}
 use Rattle.std.proofs.lemmas.List.{append-nil}
 use Rattle.ppd_ast.specs.declared.limits.TheConstants.{MOST_RECORDING_BYTES}
@@ -25,7 +25,7 @@ use Rattle.ppd_codec.proofs.Inverts.{AreBytes, Wrote, got, ok_is}
 use Rattle.ppd_codec.proofs.Built.{Holds}
 use Rattle.ppd_codec.proofs.Parts.{recording_holds}
 
-pub are_bytes : (xs : List ℕ) → ((k : ℕ) → k < length xs → get_or xs k 0 < 256) → AreBytes xs
+pub are_bytes : (xs : List ℕ) → ((k : ℕ) → k < length xs → get_or xs k 0 < 2 ^ 8) → AreBytes xs
 are_bytes [] h = tt
 are_bytes (x ∷ xs) h = (h 0 (omega arith), are_bytes xs (λ k l. h (suc k) (omega arith)))
 

@@ -1,13 +1,13 @@
 -- Reading undoes spelling, both ways; and what is built of readers for which this holds.
 use Rattle.std.specs.Prelude.{⊤}
-use Rattle.std.proofs.Common.{◌≡◌, ℕ, ◌+◌, ◌<◌, List, [], ◌∷◌, ◌++◌, length, Bool, true, false, cond, Option, Some, None, Result, Ok, Err, refl, ap, sym, ◌∙◌, subst, arith, length-append}
+use Rattle.std.proofs.Common.{◌≡◌, ◌^◌, ℕ, ◌+◌, ◌<◌, List, [], ◌∷◌, ◌++◌, length, Bool, true, false, cond, Option, Some, None, Result, Ok, Err, refl, ap, sym, ◌∙◌, subst, arith, length-append}
 use Rattle.std.proofs.lemmas.List.{append_assoc}
 use Rattle.ppd_codec.specs.declared.bad.BadBytes.{BadBytes}
 use Rattle.ppd_codec.specs.Reader.{Got, Reader, after, checked, done, kept, or_refuse, next}
 
 abbrev pub AreBytes : List ℕ → Type 0
 AreBytes [] = ⊤
-AreBytes (b ∷ bs) = (b < 256) × AreBytes bs
+AreBytes (b ∷ bs) = (b < 2 ^ 8) × AreBytes bs
 
 pub bytes_after : (xs ys : List ℕ) → AreBytes (xs ++ ys) → AreBytes ys
 bytes_after [] ys h = h

@@ -27,7 +27,7 @@ bytes_front zero xs h = tt
 bytes_front (suc n) [] h = tt
 bytes_front (suc n) (x ∷ xs) h = (h.0, bytes_front n xs h.1)
 
-pub byte_at : (xs : List ℕ) → AreBytes xs → (i : ℕ) → get_or xs i 0 < 256
+pub byte_at : (xs : List ℕ) → AreBytes xs → (i : ℕ) → get_or xs i 0 < 2 ^ 8
 byte_at [] h i = omega arith
 byte_at (x ∷ xs) h zero = h.0
 byte_at (x ∷ xs) h (suc i) = byte_at xs h.1 i
@@ -74,13 +74,13 @@ field_inverts w of bytes_of P f = record {
 -- ---- numbers
 
 bound_2 : (bs : List ℕ) → length bs ≡ 2 → AreBytes bs → from_be_bytes w16 bs < 2 ^ 16
-bound_2 (a ∷ b ∷ []) l h = let x : a < 256 = h.0 in let y : b < 256 = h.1.0 in omega arith
+bound_2 (a ∷ b ∷ []) l h = let x : a < 2 ^ 8 = h.0 in let y : b < 2 ^ 8 = h.1.0 in omega arith
 bound_2 [] l h = absurd (omega arith)
 bound_2 (a ∷ []) l h = absurd (omega arith)
 bound_2 (a ∷ b ∷ c ∷ bs) l h = absurd (omega arith)
 
 bound_4 : (bs : List ℕ) → length bs ≡ 4 → AreBytes bs → from_be_bytes w32 bs < 2 ^ 32
-bound_4 (a ∷ b ∷ c ∷ d ∷ []) l h = let x : a < 256 = h.0 in let y : b < 256 = h.1.0 in let z : c < 256 = h.1.1.0 in let u : d < 256 = h.1.1.1.0 in omega arith
+bound_4 (a ∷ b ∷ c ∷ d ∷ []) l h = let x : a < 2 ^ 8 = h.0 in let y : b < 2 ^ 8 = h.1.0 in let z : c < 2 ^ 8 = h.1.1.0 in let u : d < 2 ^ 8 = h.1.1.1.0 in omega arith
 bound_4 [] l h = absurd (omega arith)
 bound_4 (a ∷ []) l h = absurd (omega arith)
 bound_4 (a ∷ b ∷ []) l h = absurd (omega arith)
@@ -103,7 +103,7 @@ width_4 = record {
   back = λ bs l h. be_bytes_4 bs (from_be_bytes w32 bs) l (byte_at bs h) refl;
 }
 
-pub width_1 : IsWidth 1 (λ bs. get_or bs 0 0) (λ b. b ∷ []) (λ b. b < 256)
+pub width_1 : IsWidth 1 (λ bs. get_or bs 0 0) (λ b. b ∷ []) (λ b. b < 2 ^ 8)
 width_1 = record {
   long = λ n. refl;
   there = λ n l. refl;

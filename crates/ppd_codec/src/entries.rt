@@ -1,5 +1,5 @@
 ghost use Rattle.ppd_codec.specs.Came.{AnswersAs};
-ghost use Rattle.ppd_codec.specs.Format.{numbered as numbered_form, synced as synced_form, ended as ended_form, an_entry, log as log_form, logs as logs_form, row, sync_of, end_entry_of};
+ghost use Rattle.ppd_codec.specs.Format.{numbered as numbered_form, an_entry, log as log_form, logs as logs_form, row};
 
 use crate::bad::BadBytes;
 use crate::cursor::Cursor;

@@ -1,4 +1,4 @@
-ghost use Rattle.std.specs.Prelude.{◌≡◌, ◌<◌, ◌≤◌, length};
+ghost use Rattle.std.specs.Prelude.{◌≡◌};
 ghost use Rattle.ppd_ast.specs.Valid.{IsValid};
 ghost use Rattle.ppd_codec.specs.Recordings.{facts_of as facts_in, is_rendezvous, version_of as version_in};
 ghost use Rattle.std.specs.List.{list_any};

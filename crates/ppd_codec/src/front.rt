@@ -1,4 +1,4 @@
-ghost use Rattle.std.specs.Prelude.{◌≡◌, ◌≢◌, ◌+◌, ◌≤◌, length, IfErr, IfOk};
+ghost use Rattle.std.specs.Prelude.{◌≢◌, ◌+◌, ◌≤◌, length, IfErr, IfOk};
 ghost use Rattle.ppd_ast.specs.declared.limits.TheConstants.{MOST_BUDGET};
 ghost use Rattle.ppd_ast.specs.ValidPlan.{IsValidPolicy};
 ghost use Rattle.ppd_codec.specs.Came.{Came, Refuses};

@@ -9,6 +9,7 @@ use Rattle.ppd_ast.specs.declared.program.Program.{Program}
 use Rattle.ppd_ast.specs.declared.status.Trap.TheVariants as trap
 use Rattle.ppd_ast.specs.Lookups.{kind_of, top_of_body}
 use Rattle.ppd_ast.specs.Counting.{one_if}
+use Rattle.ppd_ast.specs.declared.limits.TheConstants.{MOST_CALLS}
 use Rattle.ppd_sem.specs.declared.asking.Pause.TheVariants.{Wants, Traps}
 use Rattle.ppd_sem.specs.declared.proc.Answer.{Answer}
 use Rattle.ppd_sem.specs.declared.proc.Need.{Need}
@@ -52,7 +53,7 @@ module _ (program : Program) (plan : Plan) where
   deed_calls : (s : Proc) (t : Todo) (b : ℕ) (d : Deed) (left : List ℤ) → head_deed program t s ≡ Ok (d, left)
       → Suits (kind_of program t.stmt) d → block_or (need_of_deed program plan t.stmt s d) ≡ Some b → IsCalling s t b
   unfolding block_or
-  deed_calls s t b (invoke f values into) left e su n = by (nat_lt 64 (s.below + length s.frames)) n
+  deed_calls s t b (invoke f values into) left e su n = by (nat_lt MOST_CALLS (s.below + length s.frames)) n
     where
       by : (x : Bool) → block_or
           (if x then Trap trap.Depth else Invoke (block_of plan (block.Function f)) (unit_of plan (start.Entry f)))

@@ -7,6 +7,7 @@ use Rattle.ppd_ast.specs.declared.plan.Start.TheVariants as start
 use Rattle.ppd_ast.specs.declared.program.Program.{Program}
 use Rattle.ppd_ast.specs.declared.status.Trap.TheVariants as trap
 use Rattle.ppd_ast.specs.Lookups.{kind_of}
+use Rattle.ppd_ast.specs.declared.limits.TheConstants.{MOST_CALLS}
 use Rattle.ppd_sem.specs.declared.asking.Pause.TheVariants.{Wants, Traps}
 use Rattle.ppd_sem.specs.declared.proc.Answer.{Answer}
 use Rattle.ppd_sem.specs.declared.proc.Need.{Need}
@@ -69,7 +70,7 @@ module _ (program : Program) (plan : Plan) where
       (call_unit plan (top_call x.frames)) refl e refl h su
   deed_ending x t finish left e su of h goes = absurd (true≢false (ap is_some goes))
   deed_ending x t (invoke f vs into) left e su of h goes =
-      absurd (true≢false (sym h ∙ calls_none x (nat_lt 64 (x.below + length x.frames))
+      absurd (true≢false (sym h ∙ calls_none x (nat_lt MOST_CALLS (x.below + length x.frames))
       (block_of plan (block.Function f)) (unit_of plan (start.Entry f))))
   deed_ending x t (send c v) left e su of h goes =
       absurd (true≢false (sym h ∙ sends_none x t.stmt (capacity_of program c) c v))

@@ -17,6 +17,7 @@ use Rattle.ppd_ast.specs.declared.plan.BlockKind.TheVariants as block
 use Rattle.ppd_ast.specs.declared.plan.Start.TheVariants as start
 use Rattle.ppd_ast.specs.declared.status.Trap.TheVariants as trap
 use Rattle.ppd_ast.specs.Lookups.{kind_of}
+use Rattle.ppd_ast.specs.declared.limits.TheConstants.{MOST_CALLS}
 use Rattle.ppd_sem.specs.Described.{ends_body}
 use Rattle.ppd_sem.specs.Process.{act, act_at, act_by_asked, act_by_need, charged, entry_of, head_deed, need_by_entry, need_by_offer, need_of, need_of_asked, need_of_deed, need_of_head, need_of_leaving, need_of_send, offer_of, top_cells}
 use Rattle.ppd_sem.proofs.Offers.{DoneSuch, entry_done}
@@ -72,7 +73,7 @@ module _ (program : Program) (plan : Plan) where
       by : (o : Option ℕ) → is_enter (need_of_leaving plan t o) ≡ false
       by None = refl
       by (Some b) = refl
-  deed_no_enter t s (invoke f vs into) = by (nat_lt 64 (s.below + length s.frames))
+  deed_no_enter t s (invoke f vs into) = by (nat_lt MOST_CALLS (s.below + length s.frames))
     where
       by : (x : Bool) → is_enter
           (if x then Trap trap.Depth else Invoke (block_of plan (block.Function f)) (unit_of plan (start.Entry f)))
@@ -153,7 +154,7 @@ module _ (program : Program) (plan : Plan) where
           by : (o : Option ℕ) → LongIf (need_of_leaving plan t.stmt o)
           by None = tt
           by (Some c) = tt
-      deed_long (invoke f vs into) k = by (nat_lt 64 (x.below + length x.frames))
+      deed_long (invoke f vs into) k = by (nat_lt MOST_CALLS (x.below + length x.frames))
         where
           by : (deep : Bool) → LongIf
               (if deep then Trap trap.Depth else Invoke (block_of plan (block.Function f))

@@ -24,22 +24,6 @@ pub record AddsFirst (k : ℕ) (old new : List (List StaticEdge)) (more : ℕ �
   pub done : (t : ℕ) → t < k → row_at new t ≡ row_at old t ++ more t
   pub rest : (t : ℕ) → k ≤ t → row_at new t ≡ row_at old t
 
-pub first_none : (old : List (List StaticEdge)) (more : ℕ → List StaticEdge) → AddsFirst 0 old old more
-first_none old more = record { long = refl; done = λ t lt. absurd (omega arith); rest = λ t le. refl }
-
-pub first_all : (k : ℕ) (old new : List (List StaticEdge)) (more : ℕ → List StaticEdge) → length old ≤ k → AddsFirst k old new more → Adds old new more
-first_all k old new more le h = record { long = h.long; each = λ t lt. h.done t (omega arith) }
-
-pub first_skip : (k : ℕ) (old now : List (List StaticEdge)) (more : ℕ → List StaticEdge) → more k ≡ [] → AddsFirst k old now more → AddsFirst (k + 1) old now more
-first_skip k old now more none h = record {
-  long = h.long;
-  done = λ t lt. elim (cases_order t k) [
-    | inl same ↦ h.rest t (omega arith) ∙ sym (append-nil (row_at old t)) ∙ ap (λ r. row_at old t ++ r) (sym none ∙ ap more (sym same))
-    | inr other ↦ elim other [ inl low ↦ h.done t low | inr up ↦ absurd (omega arith) ]
-  ];
-  rest = λ t le. h.rest t (omega arith);
-}
-
 pub first_push : (k : ℕ) (old now new : List (List StaticEdge)) (row : List StaticEdge) (more : ℕ → List StaticEdge) → k < length now → AddsFirst k old now more → new ≡ set now k row → row ≡ row_at now k ++ more k → AddsFirst (k + 1) old new more
 first_push k old now new row more lt h is row_is = record {
   long = ap length is ∙ length-set now k row ∙ h.long;

@@ -16,6 +16,7 @@ use Rattle.ppd_ast.specs.Members.{has, those}
 use Rattle.ppd_ast.specs.Lookups.{body_of_stmt, body_of}
 use Rattle.ppd_ast.proofs.Members.{has_first, any_from, any_gives, in_bounds_has, flat_gives, flat_from, all_has, filter_same_in}
 use Rattle.ppd_ast.proofs.Those.{both}
+use Rattle.ppd_ast.specs.declared.limits.TheConstants.{MOST_NESTING}
 use Rattle.ppd_cfg.proofs.Following.{in_some}
 use Rattle.ppd_cfg.proofs.Rows.{length_rows, row_at}
 use Rattle.ppd_cfg.specs.Lists.{row}
@@ -49,11 +50,11 @@ stands_among p s v lt =
     let low : b.first ≤ s = place.3 in
     let high : s < b.end = place.4 in
     let number : IsTrue (has (range_with_len b.first (b.end - b.first)) s) = in_bounds_has b.first (b.end - b.first) s low (omega arith) in
-    let listed : IsTrue (has (flat_map (preorder 64 p.stmts) b.top) s) = subst (λ xs. IsTrue (has xs s)) (sym valid.order) number in
-    let t = flat_gives (preorder 64 p.stmts) b.top s listed in
+    let listed : IsTrue (has (flat_map (preorder MOST_NESTING p.stmts) b.top) s) = subst (λ xs. IsTrue (has xs s)) (sym valid.order) number in
+    let t = flat_gives (preorder MOST_NESTING p.stmts) b.top s listed in
     let stands = all_has (λ i. IsSomeAnd (slice_get p.stmts i) (λ s. (s.parent ≡ None) × (s.body ≡ place.0))) b.top t.0 valid.top t.1 in
     let y = some_and (λ (s : Stmt). (s.parent ≡ None) × (s.body ≡ place.0)) (slice_get p.stmts t.0) stands in
-    let body : body_of p s ≡ place.0 = named p place.0 s (inside_in 64 p t.0 s place.0 v (topped p place.0 t.0 y.0 y.1 y.2.1) t.2) in
+    let body : body_of p s ≡ place.0 = named p place.0 s (inside_in MOST_NESTING p t.0 s place.0 v (topped p place.0 t.0 y.0 y.1 y.2.1) t.2) in
     let here : IsTrue (has (numbers_of p.stmts b) s) = in_bounds_has b.first (min b.end (length p.stmts) - b.first) s low (omega arith) in
     subst (λ j. IsTrue (has (stmts_at p j) s)) (sym body) (subst (λ (o : Option Body). IsTrue (has (numbers_in p o) s)) (sym place.2) here)
 

@@ -1,4 +1,4 @@
-ghost use Rattle.std.specs.Prelude.{◌≡◌, length, replicate, [], IfOk};
+ghost use Rattle.std.specs.Prelude.{◌≡◌, replicate, [], IfOk};
 ghost use Rattle.ppd_ast.specs.Valid.{IsValid};
 ghost use Rattle.ppd_sets.specs.SetsOf.{AreSetsOf};
 ghost use Rattle.ppd_deps.specs.Tables.{IsDepGraph};

@@ -1,5 +1,5 @@
 -- The place of a cell's newest pair gives the value that is in force.
-use Rattle.std.proofs.Common.{◌≡◌, ◌≢◌, ℕ, zero, suc, ◌+◌, ◌-◌, ◌<◌, ℤ, pos, nat_eq, Bool, true, false, List, [], ◌∷◌, ◌++◌, length, drop, reverse, get_or, Option, Some, None, refl, ap, sym, ◌∙◌, subst, arith}
+use Rattle.std.proofs.Common.{◌≡◌, ◌≢◌, ℕ, zero, suc, ◌+◌, ◌-◌, ◌<◌, ℤ, nat_eq, Bool, true, false, List, [], ◌∷◌, ◌++◌, length, drop, reverse, get_or, Option, Some, None, refl, ap, sym, ◌∙◌, subst, arith}
 use Rattle.std.specs.Prelude.{slice_get, slice_set, zip, min}
 use Rattle.std.proofs.lemmas.Bool.Decides.{nat_tests}
 use Rattle.std.proofs.lemmas.List.{drop_more, reverse-append}
@@ -7,19 +7,6 @@ use Rattle.std.proofs.lemmas.Slice.Zip.{get_or-zip}
 use Rattle.ppd_emulate.specs.Held.{looked_up, value_from, value_if}
 use Rattle.ppd_emul.specs.Replay.{value_in_force}
 use Rattle.ppd_model.proofs.CountedOn.{last_at}
-
--- ---- more room
-
-grown_at : (places : List (Option ℕ)) (held : List (ℕ × ℤ)) (i c : ℕ)
-    → value_from held c (slice_get (places ++ None ∷ []) i) ≡ value_from held c (slice_get places i)
-grown_at [] held zero c = refl
-grown_at [] held (suc i) c = refl
-grown_at (x ∷ xs) held zero c = refl
-grown_at (x ∷ xs) held (suc i) c = grown_at xs held i c
-
--- a place more that tells nothing changes no value
-pub grown : (places : List (Option ℕ)) (held : List (ℕ × ℤ)) (c : ℕ) → looked_up (places ++ None ∷ []) held c ≡ looked_up places held c
-grown places held c = grown_at places held c c
 
 -- ---- a pair more
 
@@ -64,15 +51,6 @@ put_found places held c v lt is d =
         let other : d ≢ c = λ q. let yes : nat_eq c d ≡ true = grind (arith, nat_tests) in cc in
         ap (value_from (held ++ (c, v) ∷ []) d) (set_there places c d (Some (length held)) other) ∙
         other_from (slice_get places d) held c d v e ∙ is d ∙ rw e refl
-
--- without a pair no place tells anything
-pub none_held : (places : List (Option ℕ)) (d : ℕ) → looked_up places [] d ≡ pos 0
-none_held places d = by (slice_get places d)
-  where
-    by : (o : Option (Option ℕ)) → value_from [] d o ≡ pos 0
-    by None = refl
-    by (Some None) = refl
-    by (Some (Some i)) = refl
 
 -- ---- a unit's cells
 

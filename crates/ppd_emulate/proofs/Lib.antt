@@ -1,7 +1,6 @@
 pub use Rattle.ppd_replay.proofs.Theorem
 pub use Rattle.ppd_replay.proofs.Emulated
 pub mod Held
-pub mod Meets
 pub mod Followed
 pub mod Given
 pub mod Spent

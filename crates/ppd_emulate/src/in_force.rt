@@ -1,4 +1,4 @@
-ghost use Rattle.std.specs.Prelude.{◌≡◌, ◌<◌, ◌∷◌, ℕ, ℤ, List, [], length, zip, IfOk, OnOk};
+ghost use Rattle.std.specs.Prelude.{◌≡◌, ◌<◌, ◌∷◌, ℕ, ℤ, List, [], length, zip, OnOk};
 ghost use Rattle.ppd_emulate.specs.Held.{looked_up};
 ghost use Rattle.ppd_emul.specs.Replay.{value_in_force};
 

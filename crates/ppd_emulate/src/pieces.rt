@@ -1,4 +1,4 @@
-ghost use Rattle.std.specs.Prelude.{◌≡◌, ◌<◌, drop, get_or, length};
+ghost use Rattle.std.specs.Prelude.{◌≡◌, ◌<◌, drop, get_or};
 ghost use Rattle.ppd_ast.specs.declared.status.Status.TheVariants.{Ended};
 ghost use Rattle.ppd_entry.specs.Pieces.{finish, piece_of};
 

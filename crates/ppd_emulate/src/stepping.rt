@@ -1,10 +1,10 @@
 ghost use Rattle.std.specs.Prelude.{◌≡◌, ◌<◌, ◌^◌, true, false, Err, None, OnOk};
 ghost use Rattle.ppd_emulate.specs.Emulated.{IfFailed, IfMore, IfTold, IsAtNeed, IsGoing, IsSound, IsTurn, Meets, alone, replaying, skipped_over, turned};
 ghost use Rattle.ppd_emul.specs.Fits.{wanted_of as wanted_of_need};
-ghost use Rattle.ppd_emul.specs.Replay.{counted, fail as fail_of, finished, is_budget, past_piece, received as received_by, skip_nested as skip_nested_of, step_with as step_with_of, step_without as step_without_of, synchronize as synchronize_of, take_unit as take_unit_of, take_unit_if as take_unit_if_of, with_call, with_event, with_item};
+ghost use Rattle.ppd_emul.specs.Replay.{counted, fail as fail_of, finished, is_budget, received as received_by, skip_nested as skip_nested_of, step_with as step_with_of, step_without as step_without_of, synchronize as synchronize_of, take_unit as take_unit_of, take_unit_if as take_unit_if_of, with_call, with_event, with_item};
 ghost use Rattle.ppd_entry.specs.Pieces.{piece_of, unfinished};
 ghost use Rattle.ppd_model.specs.declared.flow.Item.TheVariants.{Nested};
-ghost use Rattle.ppd_sem.specs.Blocks.{head_stmt as head_stmt_of, skipped, unit_past as unit_past_of};
+ghost use Rattle.ppd_sem.specs.Blocks.{head_stmt as head_stmt_of, unit_past as unit_past_of};
 ghost use Rattle.ppd_sem.specs.Described.{is_event};
 ghost use Rattle.ppd_sem.specs.Entries.{Begins};
 ghost use Rattle.ppd_sem.specs.Process.{need_of};

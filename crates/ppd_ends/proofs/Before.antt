@@ -1,16 +1,14 @@
 -- The times of a past's graph order its edges as happened-before does, also to an edge that is none of its.
-use Rattle.std.proofs.Common.{◌≡◌, ◌↔◌, ℕ, zero, suc, ◌+◌, ◌<◌, ◌≤◌, IsTrue, Bool, true, false, ◌&&◌, ◌||◌, List, [], ◌∷◌, Option, Some, None, inl, inr, ◌⊎◌, refl, ap, ap₂, sym, subst, ◌∙◌, arith, length, get_or, map}
+use Rattle.std.proofs.Common.{◌≡◌, ℕ, zero, suc, ◌+◌, ◌<◌, ◌≤◌, Bool, true, false, ◌&&◌, ◌||◌, List, [], ◌∷◌, None, inl, inr, ◌⊎◌, refl, ap, ap₂, sym, subst, ◌∙◌, arith, length, get_or, map}
 use Rattle.std.specs.Prelude.{filter_map, is_some, nat_eq, nat_lt, if◌then◌else◌}
 use Rattle.std.proofs.lemmas.Option.{slice_get_past}
 use Rattle.std.proofs.Math.Bool.{and-false}
 use Rattle.ppd_ast.specs.declared.program.Program.{Program}
 use Rattle.ppd_entry.specs.declared.entry.Entry.{Entry}
-use Rattle.ppd_entry.specs.declared.entry.Entry.TheVariants as entry
 use Rattle.ppd_entry.specs.declared.entry.Logs.{Logs}
-use Rattle.ppd_graph.specs.declared.sets.EdgeSets.{EdgeSets}
 use Rattle.ppd_graph.specs.declared.sync_graph.SyncGraph.{SyncGraph}
 use Rattle.ppd_graph.specs.Graphs.{IsEdge, IsGraphOf, edge_count, is_before_by}
-use Rattle.ppd_graph.specs.LogRecord.{found_after, sets_from}
+use Rattle.ppd_graph.specs.LogRecord.{sets_from}
 use Rattle.ppd_graph.proofs.Built.{sets_count}
 use Rattle.ppd_model.specs.declared.graph.EdgeId.{EdgeId}
 use Rattle.ppd_model.specs.declared.graph.NodeId.{NodeId}
@@ -44,12 +42,6 @@ none_before program syncs p i q (suc j) lt =
     no_way program syncs (nodes syncs) (node p i) (node q j) (slice_get_past (own_syncs syncs q) j (omega arith))
 
 -- ---- how many edges there are
-
-few_syncs : (lists : List (List Entry)) (q : ℕ)
-    → length (get_or (map (filter_map sync_in) lists) q []) ≤ length (get_or (map (sets_from None) lists) q [])
-few_syncs [] q = omega arith
-few_syncs (es ∷ lists) zero = let count = sets_count None es in omega (arith, count)
-few_syncs (es ∷ lists) (suc q) = few_syncs lists q
 
 there_or_none : (lists : List (List Entry)) (q j : ℕ) → length (get_or (map (sets_from None) lists) q []) ≤ j
     → (length (get_or (map (filter_map sync_in) lists) q []) < j) ⊎ (j ≡ 0)

@@ -1,5 +1,5 @@
 -- Where an edge's recorded write set has a cell, the entry that ends the edge records it.
-use Rattle.std.proofs.Common.{◌≡◌, ℕ, zero, suc, ◌+◌, Bool, true, false, ◌||◌, List, [], ◌∷◌, Option, Some, None, refl, sym, get_or, map, true≢false}
+use Rattle.std.proofs.Common.{◌≡◌, ℕ, zero, suc, ◌+◌, Bool, true, false, ◌||◌, List, [], ◌∷◌, Some, None, refl, sym, get_or, map, true≢false}
 use Rattle.std.specs.Prelude.{slice_get, ⊤}
 use Rattle.ppd_ast.specs.declared.plan.Plan.{Plan}
 use Rattle.ppd_ast.specs.declared.program.Program.{Program}
@@ -12,7 +12,6 @@ use Rattle.ppd_graph.specs.declared.sets.EdgeSets.{EdgeSets}
 use Rattle.ppd_graph.specs.LogRecord.{no_sets, sets_from}
 use Rattle.ppd_index.specs.Refusals.{first_bad, first_from, first_in_lists, refusal, standing}
 use Rattle.ppd_index.proofs.Fitting.{or_none}
-use Rattle.ppd_model.specs.FullTrace.{or_else}
 use Rattle.ppd_ends.specs.Missing.{writes_of}
 use Rattle.ppd_search.specs.Ends.{ending}
 

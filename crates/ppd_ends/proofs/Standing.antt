@@ -1,8 +1,7 @@
 -- Where intervals begin and end, as the index of a past has them.
-use Rattle.std.proofs.Common.{◌≡◌, ℕ, zero, suc, ◌+◌, ◌-◌, ◌<◌, Bool, true, false, ◌&&◌, List, [], ◌∷◌, Option, Some, None, refl, ap, sym, ◌∙◌, arith, drop, length}
+use Rattle.std.proofs.Common.{◌≡◌, ℕ, ◌+◌, ◌-◌, ◌<◌, Bool, false, ◌&&◌, List, [], Option, Some, None, refl, ap, sym, ◌∙◌, drop, length}
 use Rattle.std.specs.Prelude.{nat_le, nat_lt, option_map, slice_get, if◌then◌else◌}
-use Rattle.std.proofs.lemmas.List.{drop_more, length-map}
-use Rattle.std.proofs.lemmas.Option.{get_or_from_slice_get, slice_get_within}
+use Rattle.std.proofs.lemmas.List.{length-map}
 use Rattle.ppd_entry.specs.declared.entry.Entry.{Entry}
 use Rattle.ppd_entry.specs.Entries.{entries_at}
 use Rattle.ppd_index.specs.declared.interval.Interval.{Interval}
@@ -14,7 +13,7 @@ use Rattle.ppd_model.proofs.Lists.{left_from}
 use Rattle.ppd_past.specs.declared.past.Past.{Past}
 use Rattle.ppd_past.proofs.Outward.{extent_at, rows_are}
 use Rattle.ppd_ends.specs.Found.{stands_there}
-use Rattle.ppd_search.specs.Ends.{begins_in, ending, ends_edge, first_edge, innermost_from, is_sync, syncs_before, syncs_inside}
+use Rattle.ppd_search.specs.Ends.{begins_in, first_edge, innermost_from, syncs_before, syncs_inside}
 use Rattle.ppd_ast.proofs.ValidLaws.{slice_get_there}
 
 abbrev first_or : List Entry → Option Interval → ℕ
@@ -67,25 +66,6 @@ module _ (past : Past) (p k : ℕ) (h : IsIndexOf past.plan.now past.logs.now pa
       ∙ ap (stands_there n) (sym (extent_at past p k h))
 
 -- ---- loops over lists
-
--- one more entry where the edge's end is looked for
-pub ending_at : (e : Entry) (es : List Entry) → ends_edge e ≡ true → ending 0 (e ∷ es) ≡ 0
-ending_at e es h = ap (λ b. if b then 0 else suc (ending 0 es)) h
-
-pub ending_past : (e : Entry) (es : List Entry) → ends_edge e ≡ false → ending 0 (e ∷ es) ≡ suc (ending 0 es)
-ending_past e es h = ap (λ b. if b then 0 else suc (ending 0 es)) h
-
-pub ending_sync : (i : ℕ) (e : Entry) (es : List Entry) → (i ≡ 0 → ⊥) → is_sync e ≡ true
-    → ending i (e ∷ es) ≡ suc (ending (i - 1) es)
-ending_sync zero e es n h = absurd (n refl)
-ending_sync (suc i) e es n h =
-    ap (λ b. if b then suc (ending i es) else suc (ending (suc i) es)) h
-    ∙ (let is : i ≡ suc i - 1 = omega arith in ap (λ j. suc (ending j es)) is)
-
-pub ending_other : (i : ℕ) (e : Entry) (es : List Entry) → (i ≡ 0 → ⊥) → is_sync e ≡ false
-    → ending i (e ∷ es) ≡ suc (ending i es)
-ending_other zero e es n h = absurd (n refl)
-ending_other (suc i) e es n h = ap (λ b. if b then suc (ending i es) else suc (ending (suc i) es)) h
 
 pub innermost_next : (n m k : ℕ) (xs : List Extent) (b : Bool) → k < length xs → b ≡ stands_there n (slice_get xs k)
     → innermost_from n m k (drop k xs) ≡ innermost_from n (if b then k else m) (k + 1) (drop (k + 1) xs)

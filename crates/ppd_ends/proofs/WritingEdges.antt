@@ -1,13 +1,10 @@
 -- The greatest edge that writes a cell, found in one pass over the sets of all edges.
-use Rattle.std.proofs.Common.{◌≡◌, ℕ, ◌+◌, ◌<◌, Bool, true, false, cond, ◌&&◌, List, [], ◌∷◌, ◌++◌, Option, Some, None, refl, ap, sym, subst, ◌∙◌, length}
-use Rattle.std.specs.Prelude.{filter, fold, slice_get, if◌then◌else◌}
+use Rattle.std.proofs.Common.{◌≡◌, ℕ, ◌+◌, Bool, true, false, cond, ◌&&◌, List, [], ◌∷◌, ◌++◌, Option, Some, None, refl, ap, sym, ◌∙◌}
+use Rattle.std.specs.Prelude.{filter, fold, if◌then◌else◌}
 use Rattle.std.proofs.lemmas.List.Elements.{filter-append}
 use Rattle.std.proofs.lemmas.List.Sums.{fold-append}
-use Rattle.std.proofs.lemmas.Option.{get_or_from_slice_get}
 use Rattle.ppd_ast.specs.Members.{has}
 use Rattle.ppd_graph.specs.declared.sets.EdgeSets.{EdgeSets}
-use Rattle.ppd_graph.specs.declared.sync_graph.SyncGraph.{SyncGraph}
-use Rattle.ppd_graph.specs.Graphs.{IsEdge}
 use Rattle.ppd_model.specs.declared.graph.EdgeId.{EdgeId}
 use Rattle.ppd_model.specs.HappenedBefore.{edge}
 use Rattle.ppd_ends.specs.Found.{greater_if, greatest_from, greatest_in, is_within}
@@ -69,9 +66,3 @@ of_every before c sets = of_all before c None 0 None sets
 pub of_those : (before : EdgeId → EdgeId → Bool) (c : ℕ) (e : EdgeId) (sets : List (List EdgeSets))
     → greatest_from before c (Some e) 0 None sets ≡ greatest before (filter (λ a. before a e) (writing_from c 0 sets))
 of_those before c e sets = of_all before c (Some e) 0 None sets
-
--- an edge whose sets are there is one of the graph
-pub edge_there : (g : SyncGraph) (p i : ℕ) (ss : List EdgeSets) → slice_get g.edges p ≡ Some ss → i < length ss
-    → IsEdge g (edge p i)
-edge_there g p i ss e lt = subst (λ (xs : List EdgeSets). i < length xs) (sym
-    (get_or_from_slice_get g.edges p ss [] e)) lt

@@ -2,7 +2,6 @@ ghost use Rattle.std.specs.Prelude.{◌≡◌, ◌&&◌, IfOk, nat_eq, nat_lt, s
 ghost use Rattle.ppd_ast.specs.Members.{has};
 ghost use Rattle.ppd_ends.specs.Found.{IsEdgeIf, greater_if as greater_with, greatest_from, greatest_in, is_within as is_in_limit};
 ghost use Rattle.ppd_graph.specs.Graphs.{IsEdge};
-ghost use Rattle.ppd_model.specs.HappenedBefore.{edge as edge_of};
 ghost use Rattle.ppd_past.specs.Pasts.{IsPast};
 ghost use Rattle.ppd_search.specs.Shared.{greater as greater_of, greatest_before as greatest_before_of, greatest_writing as greatest_of_all, is_before_in};
 

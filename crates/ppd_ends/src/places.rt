@@ -1,4 +1,4 @@
-ghost use Rattle.std.specs.Prelude.{◌≡◌, ◌+◌, IfOk, IfSome, IfNone, sum_by};
+ghost use Rattle.std.specs.Prelude.{◌≡◌, ◌+◌, IfOk, sum_by};
 ghost use Rattle.ppd_entry.specs.Entries.{entries_at};
 ghost use Rattle.ppd_past.specs.Pasts.{IsPast};
 ghost use Rattle.ppd_search.specs.Ends.{first_edge as first_edge_of, syncs_inside as syncs_inside_of, syncs_of_item as syncs_of};

@@ -19,6 +19,7 @@ use Rattle.ppd_ast.proofs.ValidLaws.{some_and, stmt_in_body, valid_body, valid_s
 use Rattle.ppd_ast.specs.Members.{has}
 use Rattle.ppd_ast.specs.Lookups.{kind_of_stmt, kind_of, body_of_stmt}
 use Rattle.ppd_ast.proofs.Members.{has_cons, any_from, in_bounds_has, below_range, flat_gives, flat_from, all_has}
+use Rattle.ppd_ast.specs.declared.limits.TheConstants.{MOST_NESTING}
 use Rattle.ppd_blocks.specs.Blocks.{plan_of}
 use Rattle.ppd_step_laws.proofs.Course.Rising.{Place, place_of, top_stands}
 use Rattle.ppd_sem.specs.declared.proc.Frame.{Frame}
@@ -62,10 +63,10 @@ numbered p s x b v at body =
     let top = top_stands p place.number place.outer place.body v place.body_is place.is_top in
     let outer : body_of_stmt (slice_get p.stmts place.outer) ≡ place.number = ap body_of_stmt top.1 ∙ top.3 in
     let number : x.body ≡ place.number =
-    sym (ap body_of_stmt at) ∙ inside_body 64 p place.outer s place.number v outer place.inside in
+    sym (ap body_of_stmt at) ∙ inside_body MOST_NESTING p place.outer s place.number v outer place.inside in
     let same : b ≡ place.body = some (sym body ∙ ap (λ j. slice_get p.bodies j) number ∙ place.body_is) in
-    let listed : IsTrue (has (flat_map (preorder 64 p.stmts) place.body.top) s) =
-    flat_from (preorder 64 p.stmts) place.body.top place.outer s place.is_top place.inside in
+    let listed : IsTrue (has (flat_map (preorder MOST_NESTING p.stmts) place.body.top) s) =
+    flat_from (preorder MOST_NESTING p.stmts) place.body.top place.outer s place.is_top place.inside in
     let range : IsTrue (has (range_with_len place.body.first (place.body.end - place.body.first)) s) =
     subst (λ xs. IsTrue (has xs s)) (valid_body p place.number place.body v place.body_is).order listed in
     let within = below_range place.body.first (place.body.end - place.body.first) s range in

@@ -6,6 +6,7 @@ use Rattle.ppd_ast.specs.declared.program.Program.{Program}
 use Rattle.ppd_ast.specs.declared.status.Status.{Status}
 use Rattle.ppd_ast.specs.declared.status.Trap.TheVariants as trap
 use Rattle.ppd_ast.specs.Lookups.{kind_of}
+use Rattle.ppd_ast.specs.declared.limits.TheConstants.{MOST_CALLS}
 use Rattle.ppd_sem.specs.declared.asking.Pause.TheVariants.{Wants, Traps}
 use Rattle.ppd_sem.specs.declared.proc.Need.{Need}
 use Rattle.ppd_sem.specs.declared.proc.Need.TheVariants as need
@@ -42,7 +43,7 @@ module _ (program : Program) (plan : Plan) (s : Proc) (t : Todo) where
   deed_end finish h = h
   deed_end leave h = leaving_end _ plan t.stmt _
   deed_end (invoke f values into) h =
-      if_end _ (nat_lt 64 (s.below + length s.frames)) (need.Trap trap.Depth) (need.Invoke _ _) tt tt
+      if_end _ (nat_lt MOST_CALLS (s.below + length s.frames)) (need.Trap trap.Depth) (need.Invoke _ _) tt tt
   deed_end (send c v) h = send_end _ plan t.stmt (capacity_of program c) c v
   deed_end d h = tt
 

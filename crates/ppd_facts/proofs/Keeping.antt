@@ -8,6 +8,7 @@ use Rattle.ppd_ast.specs.declared.program.Program.{Program}
 use Rattle.ppd_ast.specs.declared.status.Status.{Status}
 use Rattle.ppd_ast.specs.declared.status.Trap.TheVariants as trap
 use Rattle.ppd_ast.specs.Lookups.{kind_of}
+use Rattle.ppd_ast.specs.declared.limits.TheConstants.{MOST_CALLS}
 use Rattle.ppd_sem.specs.declared.asking.Pause.TheVariants.{Wants, Traps}
 use Rattle.ppd_sem.specs.declared.proc.Answer.{Answer}
 use Rattle.ppd_sem.specs.declared.proc.Frame.{Frame}
@@ -60,7 +61,7 @@ module _ (program : Program) (plan : Plan) (Q : List Frame → List Todo → Lis
     Does n = (is_doing n ≡ true) ⊎ ((n ≡ Trap trap.Depth) ⊎ ((c : ℕ) × (v : ℤ) × (n ≡ Offer c v)))
 
     does : (d : Deed) → Does (need_of_deed program plan t.stmt s d)
-    does (invoke f vs into) = by (nat_lt 64 (s.below + length s.frames))
+    does (invoke f vs into) = by (nat_lt MOST_CALLS (s.below + length s.frames))
       where
         by : (c : Bool) → Does (if c then Trap trap.Depth else Invoke (block_of plan (block.Function f))
             (unit_of plan (start.Entry f)))

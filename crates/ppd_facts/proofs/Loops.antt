@@ -13,6 +13,7 @@ use Rattle.ppd_ast.specs.Valid.{IsValid}
 use Rattle.ppd_ast.specs.Members.{has}
 use Rattle.ppd_ast.specs.Lookups.{kind_of, body_of_stmt}
 use Rattle.ppd_ast.proofs.Members.{has_first, has_later, has_cons, has_left, has_right, has_filter, below_range}
+use Rattle.ppd_ast.specs.declared.limits.TheConstants.{MOST_SHARED_CELLS}
 use Rattle.ppd_blocks.specs.Blocks.{plan_of, prelog_of}
 use Rattle.ppd_sem.specs.Blocks.{postlog_cells, postlog_in}
 use Rattle.ppd_sem.specs.declared.proc.Todo.{Todo}
@@ -55,19 +56,19 @@ used_each : (used : ℕ → Type 0) (cs : List ℕ) → ((c : ℕ) → IsTrue (h
 used_each used [] h = tt
 used_each used (c ∷ cs) h = (h c (has_first c cs), used_each used cs (λ d i. h d (has_later c d cs i)))
 
-sorted_small : (cells : List ℕ) (c : ℕ) → IsTrue (has (sorted cells) c) → c < 1024
+sorted_small : (cells : List ℕ) (c : ℕ) → IsTrue (has (sorted cells) c) → c < MOST_SHARED_CELLS
 unfolding sorted
 sorted_small cells c h = let r =
-    below_range 0 1024 c (has_filter (has cells) (range_with_len 0 1024) c h).0 in omega (arith, r.1)
+    below_range 0 MOST_SHARED_CELLS c (has_filter (has cells) (range_with_len 0 MOST_SHARED_CELLS) c h).0 in omega (arith, r.1)
 
 module _ (program : Program) (q : ℕ) (is : is_while (kind_of program q) ≡ true) where
-  used_small : (c : ℕ) → IsTrue (has (loop_used_of program q) c) → c < 1024
+  used_small : (c : ℕ) → IsTrue (has (loop_used_of program q) c) → c < MOST_SHARED_CELLS
   used_small c h = sorted_small _ c
       (subst (λ l. IsTrue (has l c))
       (cond-true (is_while (kind_of program q))
       (sorted (flat_map (reads_at false program) (loop_stmts program q))) [] is) h)
 
-  defined_small : (c : ℕ) → IsTrue (has (loop_defined_of program q) c) → c < 1024
+  defined_small : (c : ℕ) → IsTrue (has (loop_defined_of program q) c) → c < MOST_SHARED_CELLS
   defined_small c h = sorted_small _ c
       (subst (λ l. IsTrue (has l c))
       (cond-true (is_while (kind_of program q))

@@ -1,5 +1,5 @@
 -- In a valid program: the statements inside a loop by the parents, and by the order of the loop's statements.
-use Rattle.std.proofs.Common.{◌≡◌, ℕ, zero, suc, true, false, Option, Some, None, refl, sym, subst, ◌∙◌, inl, inr, ◌⊎◌, true≢false}
+use Rattle.std.proofs.Common.{◌-◌, ◌≡◌, ℕ, zero, suc, true, false, Option, Some, None, refl, sym, subst, ◌∙◌, inl, inr, ◌⊎◌, true≢false}
 use Rattle.std.specs.Prelude.{IsTrue, nat_eq, slice_get}
 use Rattle.std.specs.List.{flat_map}
 use Rattle.std.proofs.lemmas.Bool.{cases_eq, eqb-true, or_cases}
@@ -10,6 +10,7 @@ use Rattle.ppd_ast.specs.Valid.{IsValid}
 use Rattle.ppd_ast.specs.Members.{has}
 use Rattle.ppd_ast.proofs.Members.{has_first, has_later, has_cons, flat_gives, flat_from}
 use Rattle.ppd_ast.specs.Lookups.{parent_if}
+use Rattle.ppd_ast.specs.declared.limits.TheConstants.{MOST_NESTING}
 use Rattle.ppd_step_laws.proofs.Course.Rising.{child_stands, stands_in_parent}
 use Rattle.ppd_step_laws.proofs.Course.Standing.{as_parent, in_itself, in_parent, outwards, none_outer}
 use Rattle.ppd_sets.specs.Used.{loop_stmts}
@@ -47,11 +48,11 @@ out_of p d q x h = by (slice_get p.stmts x) refl h
     by None at g = absurd (true≢false (sym g ∙ none_outer d p q))
     by (Some y) at g = parents y y.parent at refl g
 
-pub within_cases : (p : Program) (q x : ℕ) → stands_in p x q ≡ true → (x ≡ q) ⊎ IsOut p 63 q x
-within_cases p q x h = elim (or_cases (nat_eq x q) (stands_at 63 p.stmts q (parent_if (slice_get p.stmts x)))
-    (sym (outwards 63 p q x) ∙ h)) [
+pub within_cases : (p : Program) (q x : ℕ) → stands_in p x q ≡ true → (x ≡ q) ⊎ IsOut p (MOST_NESTING - 1) q x
+within_cases p q x h = elim (or_cases (nat_eq x q) (stands_at (MOST_NESTING - 1) p.stmts q (parent_if (slice_get p.stmts x)))
+    (sym (outwards (MOST_NESTING - 1) p q x) ∙ h)) [
       | inl e ↦ inl (eqb-true x q e)
-      | inr e ↦ inr (out_of p 63 q x e)
+      | inr e ↦ inr (out_of p (MOST_NESTING - 1) q x e)
     ]
 
 -- to stand in goes on
@@ -68,7 +69,7 @@ stands_on (suc d) p q s x v h g =
 
 pub stands_through : (p : Program) (q s x : ℕ) → IsValid p → stands_in p x s ≡ true → stands_in p s q ≡ true
     → stands_in p x q ≡ true
-stands_through p q s x v h g = stands_on 64 p q s x v h g
+stands_through p q s x v h g = stands_on MOST_NESTING p q s x v h g
 
 -- ---- in order
 
@@ -103,7 +104,7 @@ listed_at (suc d) p q x v h =
 
 -- what stands in a loop is one of its statements
 pub within_listed : (p : Program) (q x : ℕ) → IsValid p → stands_in p x q ≡ true → IsTrue (has (loop_stmts p q) x)
-within_listed p q x v h = listed_at 64 p q x v h
+within_listed p q x v h = listed_at MOST_NESTING p q x v h
 
 within_at : (d : ℕ) (p : Program) (q x : ℕ) → IsValid p → IsTrue (has (preorder d p.stmts q) x) → stands_in p x q ≡ true
 unfolding preorder
@@ -118,4 +119,4 @@ within_at (suc d) p q x v h = elim (has_cons q x (flat_map (preorder d p.stmts) 
 
 -- and the other way
 pub listed_within : (p : Program) (q x : ℕ) → IsValid p → IsTrue (has (loop_stmts p q) x) → stands_in p x q ≡ true
-listed_within p q x v h = within_at 64 p q x v h
+listed_within p q x v h = within_at MOST_NESTING p q x v h

@@ -5,7 +5,7 @@ use Rattle.ppd_past.specs.declared.flow_error.FlowError.{FlowError}
 use Rattle.ppd_past.specs.declared.flow_error.FlowError.TheVariants.{Diverged, NoEvent, Sets, Memory}
 use Rattle.ppd_past.specs.declared.past.Past.{Past}
 use Rattle.ppd_past.specs.ByReplays.{IsFoundBy}
-use Rattle.ppd_past.proofs.Found.{found_err, found_then}
+use Rattle.ppd_past.proofs.Found.{found_err}
 use Rattle.ppd_search.specs.Found.{if_found}
 use Rattle.ppd_search.specs.Shared.{Missing}
 use Rattle.ppd_walk.specs.SharedCells.{answer_of}
@@ -23,13 +23,6 @@ found_is {A = A} (Ok y) x e = ap (λ (r : Result A FlowError). as_missing r) e
 found_is (Err m) x e = absurd (cc e)
 
 module _ (past : Past) where
-  -- it was found, and then these replays gave their answer
-  pub after_found : {A B : Type 0} (ms ns : List (ℕ × ℕ)) (q : Result A Missing) (b : Result B FlowError) (x : A) (n m o : ℕ) (r : Result B FlowError)
-      → IsFoundBy past ms (answer_of q) n m (Ok x) → IsFoundBy past ns b m o r → IsFoundBy past (ms ++ if_found q ns) b n o r
-  after_found {A = A} {B = B} ms ns q b x n m o r f g =
-      subst (λ (z : Result A Missing). IsFoundBy past (ms ++ if_found z ns) b n o r) (sym (found_is q x f.1))
-      (found_then past ms ns (answer_of q) b x n m o r f g)
-
   -- it was not found
   pub not_found : {A B : Type 0} (ms ns : List (ℕ × ℕ)) (v : A) (q : Result A Missing) (b : Result B FlowError) (n m : ℕ) (e : FlowError)
       → ((k : Missing) → q ≡ Err k → b ≡ Err (Sets k.process k.entry k.cell))

@@ -9,7 +9,7 @@ use Rattle.ppd_past.specs.declared.flow_error.FlowError.TheVariants.{NoEvent}
 use Rattle.ppd_past.specs.declared.past.Past.{Past}
 use Rattle.ppd_past.specs.ByReplays.{IsFoundBy}
 use Rattle.ppd_past.specs.SeenBy.{items_in}
-use Rattle.ppd_past.proofs.Found.{found_err, found_then}
+use Rattle.ppd_past.proofs.Found.{found_then}
 use Rattle.ppd_search.specs.Found.{edges_if, item_edges, item_replays}
 use Rattle.ppd_search.specs.Seen.{Seen, items_at}
 use Rattle.ppd_search.specs.Shared.{seen_at}
@@ -47,9 +47,6 @@ module _ (past : Past) (p k j n m : ℕ) where
   moved : (o : Option Item) (r : Result (List FlowEdge) FlowError) (l : ℕ) → there ≡ o
       → IsFoundBy past ((p, k) ∷ replays_of o) (answer_for o) n l r → IsEdges past p k j n l r
   moved o r l e f = subst (λ (z : Option Item). IsFoundBy past ((p, k) ∷ replays_of z) (answer_for z) n l r) (sym e) f
-
-  pub failed_there : (x : FlowError) → IsFoundBy past ((p, k) ∷ []) (Ok (items_in past p k)) n m (Err x) → IsEdges past p k j n m (Err x)
-  failed_there x f = moved there (Err x) m refl (found_err past ((p, k) ∷ []) (replays_of there) (items_in past p k) (answer_for there) n m x f)
 
   module _ (items : List Item) (got : IsFoundBy past ((p, k) ∷ []) (Ok (items_in past p k)) n m (Ok items)) where
     items_are : items_at (seen_at (seens_in past) p) k ≡ items

@@ -179,11 +179,11 @@ fn edges_found<L: Ledger>(
 /// has no item of this number. `Sets`: the write set of this entry has the cell, and the replay of the internal edge
 /// that it ends writes it nowhere. `Memory` is want of memory, also for items that have no 32-bit numbers.
 ///
-/// Of what is kept of a whole run without a race, under the plan of a policy, the answer is the
-/// item's edges in the run, or `NoEvent` exactly where there is no such item, or `Memory`; and where it has n edges, the
-/// counter rose by at most 2 (n + 1) times the own steps of the intervals near to the item: those round it with the
-/// loops directly inside these, those open in the item's internal edge, and of each edge's origin its interval and those
-/// open in its internal edge.
+/// Of what is kept of a whole run without a race, under the plan of a policy, the answer is the item's edges in the
+/// run, or `NoEvent` exactly where there is no such item, or `Memory`; and where it has n edges, the counter rose by at
+/// most 2 (n + 1) times the own steps of the intervals near to the item: those round it with the loops directly inside
+/// these, those open in the item's internal edge, and of each edge's origin its interval and those open in its internal
+/// edge.
 pub fn edges<L: Ledger>(
     alloc: Global,
     past: &Past,

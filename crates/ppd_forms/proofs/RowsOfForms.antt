@@ -9,7 +9,7 @@ use Rattle.ppd_lex.specs.declared.token.TokenKind.TheVariants as T
 use Rattle.ppd_parse.specs.declared.symbol.Rule.TheVariants as R
 use Rattle.ppd_parse.specs.declared.node.Node.{Node}
 use Rattle.ppd_parse.specs.Tree.{tree_of}
-use Rattle.ppd_lower.specs.Sources.{core, faults}
+use Rattle.ppd_bodies.specs.Sources.{core, faults}
 use Rattle.ppd_forms.proofs.RowTables.{place, node, tok, stmt}
 
 -- chan c[4]; shared int g[3], h = -7; int f(int a) { return f(a); } process p { int b[2]; g[1] += 2; b[0]--; b[b[1]] -= h; g[0] = f(1); h = recv(c); b[1] = recv(c); int k = f(2); k = f(3); f(4); ; { } }

@@ -9,7 +9,7 @@ use Rattle.ppd_lex.specs.declared.token.TokenKind.TheVariants as T
 use Rattle.ppd_parse.specs.declared.symbol.Rule.TheVariants as R
 use Rattle.ppd_parse.specs.declared.node.Node.{Node}
 use Rattle.ppd_parse.specs.Tree.{tree_of}
-use Rattle.ppd_lower.specs.Sources.{core, faults}
+use Rattle.ppd_bodies.specs.Sources.{core, faults}
 use Rattle.ppd_forms.proofs.RowTables.{place, node, tok, stmt}
 
 -- process a { int i = 3; while (i < 3) { i = i + 1; } print(i); }

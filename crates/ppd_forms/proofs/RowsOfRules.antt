@@ -8,7 +8,7 @@ use Rattle.ppd_parse.specs.Tree.{tree_of}
 use Rattle.ppd_resolve.specs.declared.fault.Cause.TheVariants.{Unknown, Arity, ReturnPlace, VoidValue, TooMany, BadSize}
 use Rattle.ppd_resolve.specs.declared.fault.Limit.TheVariants as L
 use Rattle.ppd_resolve.specs.Faults.{at}
-use Rattle.ppd_lower.specs.Sources.{first_fault}
+use Rattle.ppd_bodies.specs.Sources.{first_fault}
 use Rattle.ppd_forms.proofs.RowTables.{place, node, tok}
 
 -- process p { return; }

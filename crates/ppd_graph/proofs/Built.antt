@@ -1,5 +1,5 @@
 -- What is put together is the graph of the logs.
-use Rattle.std.proofs.Common.{◌≡◌, ℕ, zero, suc, ◌+◌, ◌^◌, ◌<◌, ◌≤◌, List, [], ◌∷◌, ◌++◌, Option, Some, None, Bool, true, refl, ap, sym, subst, ◌∙◌, arith, length, map, get_or, filter_map}
+use Rattle.std.proofs.Common.{◌≡◌, ℕ, zero, suc, ◌+◌, ◌^◌, ◌<◌, ◌≤◌, List, [], ◌∷◌, ◌++◌, Option, None, Bool, true, refl, ap, sym, subst, ◌∙◌, arith, length, map, get_or, filter_map}
 use Rattle.std.specs.Prelude.{IsTrue}
 use Rattle.std.specs.List.{cons_option}
 use Rattle.ppd_ast.specs.declared.program.Program.{Program}
@@ -10,18 +10,15 @@ use Rattle.ppd_model.specs.declared.graph.NodeId.{NodeId}
 use Rattle.ppd_model.specs.HappenedBefore.{own_syncs}
 use Rattle.ppd_model.specs.Synchronizations.{Sync}
 use Rattle.ppd_graph.specs.declared.paired.Paired.{Paired}
-use Rattle.ppd_graph.specs.declared.placed.Placed.{Placed}
-use Rattle.ppd_graph.specs.declared.refusal.BadSync.{BadSync}
-use Rattle.ppd_graph.specs.declared.refusal.BadSync.TheVariants.{Cycle, NoObject, NumberTwice, NumberMissing, Memory}
+use Rattle.ppd_graph.specs.declared.refusal.BadSync.TheVariants.{Cycle}
 use Rattle.ppd_graph.specs.declared.sets.EdgeSets.{EdgeSets}
-use Rattle.ppd_graph.specs.ByNumber.{IsTwice}
 use Rattle.ppd_graph.specs.Cycles.{AllWait, IsCycle, IsRoundsCycle}
 use Rattle.ppd_graph.specs.Graphs.{IsGraphOf}
 use Rattle.ppd_model.specs.RecordedSets.{record_in, sync_in}
 use Rattle.ppd_model.proofs.Lists.{get_or_map}
 use Rattle.ppd_graph.specs.LogRecord.{AreFew, ended_by, found_after, sets_from, edge_sets_in}
 use Rattle.ppd_graph.specs.Partners.{pairs_of, partner_of}
-use Rattle.ppd_graph.specs.Refusals.{AreNumbered, AreOrdered, IsRefused, IsRefusedFor, placed, without_object}
+use Rattle.ppd_graph.specs.Refusals.{AreNumbered, AreOrdered, IsRefused, placed}
 use Rattle.ppd_graph.specs.Times.{ArePartners, AreTimed, HasAll, IsReady, own_pairs, own_times}
 use Rattle.ppd_graph.proofs.Closing.{rounds_are_cycles}
 use Rattle.ppd_graph.proofs.Leads.{length_mapped, partners_found, row_mapped}
@@ -80,9 +77,6 @@ module _ (logs : Logs) where
           omega (arith, le, small)
 
 module _ (program : Program) (logs : Logs) (pairs : List (List Paired)) (are : pairs ≡ pairs_of program (record_in logs)) where
-  pub processes_same : length pairs ≡ length logs.lists
-  processes_same = ap length are ∙ length_mapped (map (partner_of program (record_in logs))) (record_in logs) ∙ length_mapped (filter_map sync_in) logs.lists
-
   own_same : (q : ℕ) → length (own_pairs pairs q) ≡ length (own_syncs (record_in logs) q)
   own_same q =
       ap (λ rows. length (own_pairs rows q)) are ∙ ap length (row_mapped (partner_of program (record_in logs)) (record_in logs) q)
@@ -139,19 +133,3 @@ few_of b seen lists e h yes_it = subst AreFew e (h yes_it)
 
 pub seen_both : (Holds : List (List Paired) → List (List (List ℕ)) → Type 0) (p p' : List (List Paired)) (t t' : List (List (List ℕ))) → p ≡ p' → t ≡ t' → Holds p t → Holds p' t'
 seen_both Holds p p' t t' e f h = subst (λ q. Holds q t') e (subst (Holds p) f h)
-
--- ---- refusals of the tests
-
-pub twice_refused : (program : Program) (syncs : List Placed) (e : BadSync) → without_object program syncs ≡ None → IsTwice program syncs e → IsRefusedFor program syncs e
-twice_refused program syncs (NumberTwice at) none h = (none, h)
-twice_refused program syncs Memory none h = tt
-twice_refused program syncs (NumberMissing kind object number) none h = absurd h
-twice_refused program syncs (Cycle nodes) none h = absurd h
-twice_refused program syncs (NoObject at) none h = absurd h
-
-pub refused_so : (program : Program) (logs : Logs) (e : BadSync) → IsRefusedFor program (placed logs) e → IsRefused program logs e
-refused_so program logs (NumberTwice at) h = h
-refused_so program logs Memory h = tt
-refused_so program logs (NumberMissing kind object number) h = h
-refused_so program logs (Cycle nodes) h = absurd h
-refused_so program logs (NoObject at) h = h

@@ -1,5 +1,5 @@
 -- The sets of the edges of a process, as its closed log records them, are those of the run.
-use Rattle.std.proofs.Common.{◌≡◌, ℕ, zero, suc, ◌<◌, List, [], ◌∷◌, ◌++◌, Some, None, true, false, refl, ap, ◌∙◌, arith, length, map, get_or, filter_map, true≢false, ◌||◌}
+use Rattle.std.proofs.Common.{◌≡◌, ℕ, ◌<◌, List, [], ◌∷◌, ◌++◌, None, true, false, refl, ap, ◌∙◌, arith, length, map, get_or, filter_map, true≢false, ◌||◌}
 use Rattle.std.specs.Prelude.{slice_get}
 use Rattle.std.specs.List.{cons_option, list_any, range_with_len}
 use Rattle.std.proofs.lemmas.Option.{slice_get-get_or}

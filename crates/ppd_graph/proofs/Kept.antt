@@ -127,6 +127,3 @@ module _ (program : Program) where
   unfolding KeepsFor
   kept_whole t i xs past kept kind o n =
       sym (or_none (node_kept t kind o n)) ∙ ap (λ ys. or_else (node_kept t kind o n) (node_among (sync kind o n) ys)) (sym (drop_all i xs past)) ∙ kept kind o n
-
-  pub twice_whole : (t : ByNumber) (i : ℕ) (xs : List Placed) (all : Option At) → length xs ≤ i → twice_by program (is_kept t) (drop i xs) ≡ all → all ≡ None
-  twice_whole t i xs all past twice = sym twice ∙ ap (twice_by program (is_kept t)) (drop_all i xs past)

@@ -1,5 +1,5 @@
 -- Where every synchronization has its time, the times order the internal edges, and nothing happens before itself.
-use Rattle.std.proofs.Common.{◌≡◌, ℕ, zero, suc, ◌+◌, ◌<◌, ◌≤◌, List, Option, Some, None, refl, ap, sym, ◌∙◌, arith, length, true≢false, eq-eqb, ne_eqb, lt-ltb, ltb-true, inl, inr, subst, ◌↔◌}
+use Rattle.std.proofs.Common.{◌≡◌, ℕ, zero, suc, ◌+◌, ◌<◌, ◌≤◌, List, refl, ap, sym, ◌∙◌, arith, length, true≢false, eq-eqb, ne_eqb, lt-ltb, ltb-true, inl, inr, subst, ◌↔◌}
 use Rattle.std.specs.Prelude.{IsTrue, is_some, nat_eq, nat_lt, ◌&&◌}
 use Rattle.std.proofs.lemmas.Bool.{and_parts, cases_eq, cond-false, cond-true, or_cases}
 use Rattle.ppd_ast.specs.declared.program.Program.{Program}

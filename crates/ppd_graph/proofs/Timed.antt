@@ -15,9 +15,6 @@ use Rattle.ppd_graph.proofs.Rows.{left_less, length_replicated, no_items, none_a
 
 -- ---- lists
 
-get_default : {A : Type 0} (d : A) (n : ℕ) → get_or [] n d ≡ d
-get_default d n = refl
-
 pub at_changed : {A : Type 0} (f : List A → List A) (q : ℕ) (xs : List (List A)) → q < length xs → get_or (change f q xs) q [] ≡ f (get_or xs q [])
 at_changed f q [] h = absurd (omega arith)
 at_changed f zero (x ∷ xs) h = refl
@@ -125,9 +122,6 @@ module _ (program : Program) (syncs : List (List Sync)) where
     module _ (pairs : List (List Paired)) (partners : ArePartners program syncs pairs) (q : ℕ) (r : IsReady pairs times q) where
       j : ℕ
       j = length (own_times times q)
-
-      here : NodeId
-      here = next_of times q
 
       in_syncs : length (own_times times q) < length (own_syncs syncs q)
       in_syncs = subst (λ n. length (own_times times q) < n) (partners.counts q) r.there

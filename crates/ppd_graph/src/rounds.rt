@@ -1,7 +1,5 @@
-ghost use Rattle.std.specs.Prelude.{◌≡◌, ◌<◌, ◌≤◌, ◌+◌, ◌-◌, ◌^◌, ℕ, [], ◌∷◌, ◌++◌, length, get_or, map, drop, take, IfOk, OnOk, MatchOption};
-ghost use Rattle.std.specs.List.{range_with_len};
-ghost use Rattle.ppd_model.specs.HappenedBefore.{node};
-ghost use Rattle.ppd_graph.specs.Cycles.{AllWait, AreAtLeast, IsLeastRoundOf, IsRoundOf, IsRoundsCycle, IsStuck, IsTurned, cycle_of, first_or, runs, stretch, through_first, waited as waited_of};
+ghost use Rattle.std.specs.Prelude.{◌≡◌, ◌<◌, ◌≤◌, ◌+◌, ◌-◌, ◌^◌, ℕ, [], ◌∷◌, ◌++◌, length, get_or, drop, IfOk, OnOk, MatchOption};
+ghost use Rattle.ppd_graph.specs.Cycles.{AllWait, AreAtLeast, IsRoundOf, IsRoundsCycle, IsStuck, IsTurned, cycle_of, first_or, stretch, through_first, waited as waited_of};
 ghost use Rattle.ppd_graph.specs.Times.{HasAll, next_of, own_pairs, own_times};
 
 use crate::paired::Paired;

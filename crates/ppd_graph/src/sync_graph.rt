@@ -1,4 +1,4 @@
-ghost use Rattle.std.specs.Prelude.{◌≡◌, IsTrue, ◌<◌, ◌^◌};
+ghost use Rattle.std.specs.Prelude.{◌≡◌, ◌<◌, ◌^◌};
 ghost use Rattle.ppd_graph.specs.Graphs.{IsEdge, count_at, edge_count, is_before_by, reads_in, writes_in};
 ghost use Rattle.ppd_graph.specs.Times.{pair_at};
 

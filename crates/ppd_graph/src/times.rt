@@ -1,8 +1,7 @@
-ghost use Rattle.std.specs.Prelude.{◌≡◌, ◌↔◌, ◌<◌, ◌≤◌, ◌^◌, ℕ, ◌+◌, [], ◌∷◌, ◌++◌, length, get_or, replicate, IsTrue, IfOk, OnOk, OnErr, MatchOption};
+ghost use Rattle.std.specs.Prelude.{◌≡◌, ◌↔◌, ◌<◌, ◌≤◌, ◌^◌, ℕ, ◌+◌, [], ◌∷◌, ◌++◌, length, get_or, replicate, IsTrue, IfOk, OnOk, MatchOption};
 ghost use Rattle.ppd_model.specs.HappenedBefore.{node};
-ghost use Rattle.ppd_model.specs.World.{change};
 ghost use Rattle.ppd_graph.specs.Spending.{times_cost};
-ghost use Rattle.ppd_graph.specs.Times.{AreTimed, HasAll, IsDone, IsReady, next_of, next_count, next_time as next_time_of, node_of as node_in, own_pairs, own_times, pair_at, time_at, time_before, time_of, time_paired, with_time};
+ghost use Rattle.ppd_graph.specs.Times.{AreTimed, IsDone, IsReady, next_count, next_time as next_time_of, node_of as node_in, own_pairs, own_times, pair_at, time_at, time_before, time_paired, with_time};
 
 use crate::paired::Paired;
 use ppd_ast::{Ids, Memory, Seq, Steps};

@@ -10,6 +10,7 @@ use Rattle.ppd_ast.specs.declared.program.Program.{Program}
 use Rattle.ppd_ast.specs.declared.status.Status.{Status}
 use Rattle.ppd_ast.specs.declared.status.SyncKind.{SyncKind}
 use Rattle.ppd_ast.specs.declared.status.SyncKind.TheVariants.{P, V, Send, Recv, Done}
+use Rattle.ppd_ast.specs.declared.limits.TheConstants.{MOST_CALLS}
 use Rattle.ppd_sem.specs.declared.asking.Pause.TheVariants.{Wants, Traps}
 use Rattle.ppd_sem.specs.declared.proc.Need.{Need}
 use Rattle.ppd_sem.specs.declared.proc.Need.TheVariants as need
@@ -58,7 +59,7 @@ module _ (program : Program) (plan : Plan) where
   of_deed t s (branch ss) = tt
   of_deed t s (turn ss) = tt
   of_deed t s leave = leaving t (block_of plan (block.Loop t))
-  of_deed t s (invoke f vs into) = either (nat_lt 64 (s.below + length s.frames)) _ _ tt tt
+  of_deed t s (invoke f vs into) = either (nat_lt MOST_CALLS (s.below + length s.frames)) _ _ tt tt
   of_deed t s (back x) = tt
   of_deed t s (take o) = tt
   of_deed t s (give o) = tt

@@ -3,6 +3,7 @@ use Rattle.std.proofs.Common.{◌≡◌, ℕ, zero, suc, ◌+◌, ◌≤◌, ◌
 use Rattle.std.specs.Prelude.{ℤ, fold, nat_eq, slice_get, ⊤, ◌||◌, if◌then◌else◌}
 use Rattle.std.proofs.lemmas.Bool.{eqb-true}
 use Rattle.ppd_ast.specs.declared.plan.Plan.{Plan}
+use Rattle.ppd_ast.specs.declared.limits.TheConstants.{MOST_CALLS}
 use Rattle.ppd_entry.specs.declared.entry.Entry.{Entry}
 use Rattle.ppd_entry.specs.declared.entry.Entry.TheVariants as entry
 use Rattle.ppd_entry.specs.IntervalLogs.{IntervalLog, Indexed, Indexing, add_piece, add_piece_at, begun_indexing, depth_of, index_step, indexed, inner, interval_at, left_interval, left_open, log_in, new_interval, interval_log}
@@ -37,12 +38,12 @@ add : (plan : Plan) (n : ℕ) (p : Piece) (ks : List ℕ) (is : List Indexed) �
 add plan n p [] is h f = h
 add plan n p (k ∷ ks) is h f = add_at plan n p k is h (f (interval_at is k).log.block)
 
-depth_at : (plan : Plan) (k : ℕ) (is : List Indexed) → EachFits plan is → (interval_at is k).log.depth ≤ 64
+depth_at : (plan : Plan) (k : ℕ) (is : List Indexed) → EachFits plan is → (interval_at is k).log.depth ≤ MOST_CALLS
 depth_at plan k [] h = omega arith
 depth_at plan zero (i ∷ is) h = h.0.depth
 depth_at plan (suc k) (i ∷ is) h = depth_at plan k is h.1
 
-depth_within : (plan : Plan) (ks : List ℕ) (is : List Indexed) → EachFits plan is → depth_of ks is ≤ 64
+depth_within : (plan : Plan) (ks : List ℕ) (is : List Indexed) → EachFits plan is → depth_of ks is ≤ MOST_CALLS
 depth_within plan [] is h = omega arith
 depth_within plan (k ∷ ks) is h = depth_at plan k is h
 
@@ -52,8 +53,8 @@ open_fits plan (k ∷ ks) is h =
     let i = interval_at is k in
     open_fits plan ks (add_piece i.first (unfinished k i.log.block) ks is) (add plan i.first (unfinished k i.log.block) ks is h (λ b. refl))
 
-depth_more : (f : Bool) (d : ℕ) → d ≤ 64 → (f ≡ true → d < 64) → d + (if f then 1 else 0) ≤ 64
-depth_more true d h r = let lt : d < 64 = r refl in omega (arith, lt)
+depth_more : (f : Bool) (d : ℕ) → d ≤ MOST_CALLS → (f ≡ true → d < MOST_CALLS) → d + (if f then 1 else 0) ≤ MOST_CALLS
+depth_more true d h r = let lt : d < MOST_CALLS = r refl in omega (arith, lt)
 depth_more false d h r = omega (arith, h)
 
 same_block : (b c : ℕ) → nat_eq c b ≡ true → b ≡ c

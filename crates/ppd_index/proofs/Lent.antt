@@ -1,23 +1,20 @@
 -- What an index lends is the interval's log.
-use Rattle.std.proofs.Common.{◌≡◌, ℕ, zero, suc, ◌+◌, ◌<◌, List, [], ◌∷◌, Option, Some, None, length, get_or, subst, refl, ap, sym, ◌∙◌}
-use Rattle.std.specs.Prelude.{option_map, slice_get}
+use Rattle.std.proofs.Common.{◌≡◌, ℕ, zero, suc, ◌+◌, ◌<◌, List, [], ◌∷◌, Some, None, length, get_or, subst, ap, sym, ◌∙◌}
+use Rattle.std.specs.Prelude.{slice_get}
 use Rattle.ppd_ast.specs.declared.plan.Plan.{Plan}
 use Rattle.ppd_ast.specs.declared.program.Program.{Program}
 use Rattle.ppd_ast.proofs.Walks.{got_some}
 use Rattle.ppd_entry.specs.declared.entry.Entry.{Entry}
 use Rattle.ppd_entry.specs.declared.entry.Logs.{Logs}
 use Rattle.ppd_entry.specs.IntervalLogs.{IntervalLog, Indexed, interval_log, log_in}
-use Rattle.ppd_entry.specs.Pieces.{Piece}
 use Rattle.ppd_entry.specs.Entries.{entries_at}
 use Rattle.ppd_model.specs.Bounds.{AreEach}
 use Rattle.ppd_model.proofs.Lists.{map_get}
-use Rattle.ppd_index.specs.declared.row.Mark.{Mark}
-use Rattle.ppd_index.specs.declared.row.Mark.TheVariants as mark
 use Rattle.ppd_index.specs.declared.row.Row.{Row}
 use Rattle.ppd_index.specs.Fitting.{AreFittingLogs, IsFittingLog}
-use Rattle.ppd_index.specs.Indexes.{AreIntervals, IsLogOf, entry_of, piece_in, rows_at}
+use Rattle.ppd_index.specs.Indexes.{AreIntervals, IsLogOf, rows_at}
 use Rattle.ppd_index.specs.Refusals.{first_bad, first_in_lists}
-use Rattle.ppd_index.specs.Tables.{indexed_of, log_of, number_of, piece_at}
+use Rattle.ppd_index.specs.Tables.{indexed_of, log_of}
 use Rattle.ppd_index.proofs.Fitting.{logs_fit, or_none}
 
 lent_in : (plan : Plan) (tables : List (List Row)) (lists : List (List Entry)) (p k : ℕ) (row : Row) → AreEach (AreIntervals plan) tables lists → slice_get (get_or tables p []) k ≡ Some row → interval_log plan (get_or lists p []) k ≡ Some (log_of (get_or lists p []) row)
@@ -29,18 +26,6 @@ lent_in plan (rows ∷ tables) (es ∷ lists) (suc p) k row h e = lent_in plan t
 
 pub lent : (logs : Logs) (tables : List (List Row)) (p k : ℕ) (row : Row) → slice_get (rows_at tables p) k ≡ Some row → IsLogOf logs tables p k (log_of (entries_at logs p) row)
 lent logs tables p k row e = λ plan h. lent_in plan tables logs.lists p k row h e
-
-pub piece_found : (entries : List Entry) (row : Row) (n : ℕ) (m : Mark) → slice_get row.marks n ≡ Some m → piece_in (log_of entries row) n ≡ Some (piece_at entries m).1
-piece_found entries row n m e = ap (λ (o : Option (ℕ × Piece)). option_map (λ x. x.1) o) (map_get (piece_at entries) row.marks n m e)
-
-number_is : (entries : List Entry) (m : Mark) → (piece_at entries m).0 ≡ number_of m
-number_is entries (mark.Own n) = refl
-number_is entries (mark.Left k b first last) = refl
-number_is entries (mark.Open k b first) = refl
-
-pub entry_found : (entries : List Entry) (row : Row) (n : ℕ) (m : Mark) → slice_get row.marks n ≡ Some m → entry_of (log_of entries row) n ≡ Some (number_of m)
-entry_found entries row n m e =
-    ap (λ (o : Option (ℕ × Piece)). option_map (λ x. x.0) o) (map_get (piece_at entries) row.marks n m e) ∙ ap (λ (i : ℕ). Some i) (number_is entries m)
 
 fit_in : (program : Program) (plan : Plan) (q : ℕ) (lists : List (List Entry)) (p k : ℕ) (log : IntervalLog) → first_in_lists program plan q lists ≡ None → interval_log plan (get_or lists p []) k ≡ Some log → IsFittingLog plan log
 fit_in program plan q [] p k log none e = absurd (cc e)

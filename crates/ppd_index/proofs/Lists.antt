@@ -1,29 +1,15 @@
 -- Look-ups and changes of lists.
-use Rattle.std.proofs.Common.{◌≡◌, ℕ, zero, suc, ◌+◌, ◌<◌, ◌≤◌, List, [], ◌∷◌, ◌++◌, Some, None, length, get_or, map, drop, slice_set, refl, ap, sym, ◌∙◌, arith}
+use Rattle.std.proofs.Common.{◌≡◌, ℕ, zero, suc, ◌+◌, List, [], ◌∷◌, Some, None, drop, refl, ap, ◌∙◌, arith}
 use Rattle.std.specs.Prelude.{slice_get}
-use Rattle.std.specs.List.{All}
 use Rattle.ppd_model.specs.Extents.{first_of}
-use Rattle.ppd_model.specs.World.{change}
 use Rattle.ppd_index.specs.declared.row.Row.{Row}
 use Rattle.ppd_index.specs.Tables.{open_one, open_rows}
-
-pub all_more : {A : Type 0} (P : A → Type 0) (xs : List A) (y : A) → All P xs → P y → All P (xs ++ y ∷ [])
-all_more P [] y h is zero d lt = is
-all_more P [] y h is (suc k) d lt = absurd (omega arith)
-all_more P (x ∷ xs) y h is zero d lt = h 0 d (omega arith)
-all_more P (x ∷ xs) y h is (suc k) d lt = all_more P xs y (λ i e l. h (suc i) e (omega (arith, l))) is k d (omega arith)
 
 -- ---- the intervals that run
 
 pub first_is_get : (ks : List ℕ) → first_of ks ≡ slice_get ks 0
 first_is_get [] = refl
 first_is_get (k ∷ ks) = refl
-
-pub first_of_drop : (ks : List ℕ) (i : ℕ) → first_of (drop i ks) ≡ slice_get ks i
-first_of_drop [] zero = refl
-first_of_drop [] (suc i) = refl
-first_of_drop (k ∷ ks) zero = refl
-first_of_drop (k ∷ ks) (suc i) = first_of_drop ks i
 
 next_of : (n : ℕ) (ks : List ℕ) (i k : ℕ) (rows : List Row) → slice_get ks i ≡ Some k → open_rows n (drop i ks) rows ≡ open_rows n (drop (suc i) ks) (open_one n k (slice_get ks (suc i)) rows)
 next_of n [] i k rows e = absurd (cc e)

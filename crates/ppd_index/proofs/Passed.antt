@@ -6,6 +6,7 @@ use Rattle.ppd_ast.specs.declared.plan.Block.{Block}
 use Rattle.ppd_ast.specs.declared.plan.BlockKind.{BlockKind}
 use Rattle.ppd_ast.specs.declared.plan.BlockKind.TheVariants as block
 use Rattle.ppd_ast.specs.declared.plan.Plan.{Plan}
+use Rattle.ppd_ast.specs.declared.limits.TheConstants.{MOST_CALLS}
 use Rattle.ppd_entry.specs.declared.entry.Entry.{Entry}
 use Rattle.ppd_entry.specs.declared.entry.Entry.TheVariants as entry
 use Rattle.ppd_sem.specs.Blocks.{block_kind, is_function, kind_in}
@@ -56,18 +57,18 @@ few false b c true h is = absurd (true≢false (sym h))
 few true true c true h is = absurd (true≢false (sym h))
 few true false false true h is = absurd (true≢false (sym is))
 
-below : (n : ℕ) → nat_le 64 n ≡ false → n < 64
-below n h = leb-false 64 n h
+below : (n : ℕ) → nat_le MOST_CALLS n ≡ false → n < MOST_CALLS
+below n h = leb-false MOST_CALLS n h
 
-room_by : (plan : Plan) (body : ℕ) (s : Standing) (b : ℕ) (values : List ℤ) (first : Bool) → nat_eq s.entry 0 ≡ first → is_paired plan body s (entry.Prelog b values) ≡ true → is_of_function (kind_at plan b) ≡ true → s.functions < 64
+room_by : (plan : Plan) (body : ℕ) (s : Standing) (b : ℕ) (values : List ℤ) (first : Bool) → nat_eq s.entry 0 ≡ first → is_paired plan body s (entry.Prelog b values) ≡ true → is_of_function (kind_at plan b) ≡ true → s.functions < MOST_CALLS
 room_by plan body s b values true at h is =
-    let begins : is_body body (kind_at plan b) ≡ true = ap (λ c. if c then is_body body (kind_at plan b) else (is_some s.innermost && not (is_process (kind_at plan b)) && not (is_of_function (kind_at plan b) && nat_le 64 s.functions))) (sym at) ∙ h in
+    let begins : is_body body (kind_at plan b) ≡ true = ap (λ c. if c then is_body body (kind_at plan b) else (is_some s.innermost && not (is_process (kind_at plan b)) && not (is_of_function (kind_at plan b) && nat_le MOST_CALLS s.functions))) (sym at) ∙ h in
     absurd (body_is_none body (kind_at plan b) begins is)
 room_by plan body s b values false at h is =
-    let goes : is_some s.innermost && not (is_process (kind_at plan b)) && not (is_of_function (kind_at plan b) && nat_le 64 s.functions) ≡ true =
-    ap (λ c. if c then is_body body (kind_at plan b) else (is_some s.innermost && not (is_process (kind_at plan b)) && not (is_of_function (kind_at plan b) && nat_le 64 s.functions))) (sym at) ∙ h in
-    below s.functions (few (is_some s.innermost) (is_process (kind_at plan b)) (is_of_function (kind_at plan b)) (nat_le 64 s.functions) goes is)
+    let goes : is_some s.innermost && not (is_process (kind_at plan b)) && not (is_of_function (kind_at plan b) && nat_le MOST_CALLS s.functions) ≡ true =
+    ap (λ c. if c then is_body body (kind_at plan b) else (is_some s.innermost && not (is_process (kind_at plan b)) && not (is_of_function (kind_at plan b) && nat_le MOST_CALLS s.functions))) (sym at) ∙ h in
+    below s.functions (few (is_some s.innermost) (is_process (kind_at plan b)) (is_of_function (kind_at plan b)) (nat_le MOST_CALLS s.functions) goes is)
 
 -- where a function's block begins, fewer than 64 intervals of functions run
-pub room : (plan : Plan) (body : ℕ) (s : Standing) (b : ℕ) (values : List ℤ) → is_paired plan body s (entry.Prelog b values) ≡ true → is_function (block_kind plan b) ≡ true → s.functions < 64
+pub room : (plan : Plan) (body : ℕ) (s : Standing) (b : ℕ) (values : List ℤ) → is_paired plan body s (entry.Prelog b values) ≡ true → is_function (block_kind plan b) ≡ true → s.functions < MOST_CALLS
 room plan body s b values h is = room_by plan body s b values (nat_eq s.entry 0) refl h (sym (function_same (slice_get plan.blocks b)) ∙ is)

@@ -1,5 +1,5 @@
 -- The rows of a process's entries are its intervals, and their logs.
-use Rattle.std.proofs.Common.{◌≡◌, ℕ, ◌+◌, List, [], ◌∷◌, ◌++◌, Option, Some, refl, ap, ap₂, sym, subst, ◌∙◌, length, map, length-append}
+use Rattle.std.proofs.Common.{◌≡◌, ℕ, ◌+◌, List, [], ◌∷◌, ◌++◌, Option, Some, refl, ap, ap₂, sym, subst, ◌∙◌, length, map}
 use Rattle.std.specs.Prelude.{drop, fold, slice_get, if◌then◌else◌}
 use Rattle.std.proofs.lemmas.List.{append-nil, append_assoc, length-map, map-append}
 use Rattle.ppd_ast.specs.declared.plan.Plan.{Plan}

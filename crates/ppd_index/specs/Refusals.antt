@@ -9,7 +9,6 @@ use Rattle.ppd_ast.specs.declared.plan.Unit.{Unit}
 use Rattle.ppd_ast.specs.declared.program.Program.{Program}
 use Rattle.ppd_ast.specs.declared.status.Status.{Status}
 use Rattle.ppd_ast.specs.declared.status.Status.TheVariants as status
-use Rattle.ppd_entry.specs.declared.entry.At.{At}
 use Rattle.ppd_entry.specs.declared.entry.Entry.{Entry}
 use Rattle.ppd_entry.specs.declared.entry.Entry.TheVariants as entry
 use Rattle.ppd_entry.specs.IntervalLogs.{Indexed, Indexing, begun_indexing, depth_of, index_step, interval_at}

@@ -16,6 +16,7 @@ use Rattle.ppd_ast.specs.declared.program.Program.{Program}
 use Rattle.ppd_ast.specs.declared.status.Trap.TheVariants as trap
 use Rattle.ppd_ast.specs.Lookups.{kind_of, body_of, params_of_body}
 use Rattle.ppd_ast.specs.Counting.{one_if}
+use Rattle.ppd_ast.specs.declared.limits.TheConstants.{MOST_CALLS}
 use Rattle.ppd_blocks.specs.Blocks.{params_of, plan_of}
 use Rattle.ppd_sem.specs.declared.asking.Pause.TheVariants.{Wants, Traps}
 use Rattle.ppd_sem.specs.declared.proc.Frame.{Frame}
@@ -60,7 +61,7 @@ module _ (program : Program) (policy : Policy) (v : IsValid program) where
   pub record IsPrelog (deep : ℕ) (m : Mark) : Type 0 where
     pub fits : fits_prelog (slice_get plan.blocks m.block) m.values ≡ true
     pub process : is_process (kind_at plan m.block) ≡ false
-    pub few : (is_of_function (kind_at plan m.block) && nat_le 64 deep) ≡ false
+    pub few : (is_of_function (kind_at plan m.block) && nat_le MOST_CALLS deep) ≡ false
 
   -- and one that is left
   abbrev pub IsPostlog : Mark → Type 0
@@ -101,7 +102,7 @@ module _ (program : Program) (policy : Policy) (v : IsValid program) where
           fits = prelog_fits program policy v (block.Loop t.stmt) b found (values_at s (prelog_cells plan b))
               (length-map (prelog_cells plan b) (cell_of (top_cells s.frames)) ∙ ap (λ cs. length cs) (prelog_cells_are program policy (block.Loop t.stmt) b found));
           process = ap is_process (kind_found program policy v (block.Loop t.stmt) b found);
-          few = ap (λ k. is_of_function k && nat_le 64 (block_frames plan s.frames)) (kind_found program policy v (block.Loop t.stmt) b found);
+          few = ap (λ k. is_of_function k && nat_le MOST_CALLS (block_frames plan s.frames)) (kind_found program policy v (block.Loop t.stmt) b found);
         })
 
     leaving : (o : Option ℕ) → block_of plan (block.Loop t.stmt) ≡ o → Marks (need_of_leaving plan t.stmt o)
@@ -113,17 +114,17 @@ module _ (program : Program) (policy : Policy) (v : IsValid program) where
 
     -- ---- calls
 
-    few_frames : nat_lt 64 (s.below + length s.frames) ≡ false → nat_le 64 (block_frames plan s.frames) ≡ false
+    few_frames : nat_lt MOST_CALLS (s.below + length s.frames) ≡ false → nat_le MOST_CALLS (block_frames plan s.frames) ≡ false
     few_frames shallow = by s.frames framed shallow
       where
-        small : (n k below : ℕ) → n ≤ k → nat_lt 64 (below + suc k) ≡ false → nat_le 64 n ≡ false
+        small : (n k below : ℕ) → n ≤ k → nat_lt MOST_CALLS (below + suc k) ≡ false → nat_le MOST_CALLS n ≡ false
         small n k below few lt = grind (arith, nat_tests)
 
-        by : (frames : List Frame) → bodies_in frames ≡ returning program (t ∷ ts) ++ base ∷ [] → nat_lt 64 (s.below + length frames) ≡ false → nat_le 64 (block_frames plan frames) ≡ false
+        by : (frames : List Frame) → bodies_in frames ≡ returning program (t ∷ ts) ++ base ∷ [] → nat_lt MOST_CALLS (s.below + length frames) ≡ false → nat_le MOST_CALLS (block_frames plan frames) ≡ false
         by [] e lt = let none : 0 ≡ length (returning program (t ∷ ts) ++ base ∷ []) = ap (λ bs. length bs) e in let some : length (returning program (t ∷ ts) ++ base ∷ []) ≡ length (returning program (t ∷ ts)) + 1 = length-append (returning program (t ∷ ts)) (base ∷ []) in absurd (omega (arith, none, some))
         by (f ∷ fs) e lt = let few : block_frames plan (f ∷ fs) ≤ length fs = few_blocks plan f fs in small (block_frames plan (f ∷ fs)) (length fs) s.below few lt
 
-    invoking : (f : ℕ) (values : List ℤ) (into : Option ℕ) (left : List ℤ) → head_deed program t s ≡ Ok (invoke f values into, left) → length values ≡ params_of_body (slice_get program.bodies f) → nat_le 64 (block_frames plan s.frames) ≡ false
+    invoking : (f : ℕ) (values : List ℤ) (into : Option ℕ) (left : List ℤ) → head_deed program t s ≡ Ok (invoke f values into, left) → length values ≡ params_of_body (slice_get program.bodies f) → nat_le MOST_CALLS (block_frames plan s.frames) ≡ false
         → (o : Option ℕ) → block_of plan (block.Function f) ≡ o → (u : ℕ) → Marks (need.Invoke o u)
     invoking f values into left head count few None e u = neither (need.Invoke None u) refl refl
     invoking f values into left head count few (Some b) e u =
@@ -131,10 +132,10 @@ module _ (program : Program) (policy : Policy) (v : IsValid program) where
         opens_one (need.Invoke (Some b) u) _ refl refl (record {
           fits = prelog_fits program policy v (block.Function f) b e (arguments_at program s) (ap (λ vs. length vs) same ∙ count ∙ sym (params_length (slice_get program.bodies f)));
           process = ap is_process (kind_found program policy v (block.Function f) b e);
-          few = ap (λ k. is_of_function k && nat_le 64 (block_frames plan s.frames)) (kind_found program policy v (block.Function f) b e) ∙ few;
+          few = ap (λ k. is_of_function k && nat_le MOST_CALLS (block_frames plan s.frames)) (kind_found program policy v (block.Function f) b e) ∙ few;
         })
 
-    calling : (x : Bool) (f : ℕ) (values : List ℤ) (into : Option ℕ) (left : List ℤ) → head_deed program t s ≡ Ok (invoke f values into, left) → length values ≡ params_of_body (slice_get program.bodies f) → nat_lt 64 (s.below + length s.frames) ≡ x
+    calling : (x : Bool) (f : ℕ) (values : List ℤ) (into : Option ℕ) (left : List ℤ) → head_deed program t s ≡ Ok (invoke f values into, left) → length values ≡ params_of_body (slice_get program.bodies f) → nat_lt MOST_CALLS (s.below + length s.frames) ≡ x
         → Marks (if x then need.Trap trap.Depth else need.Invoke (block_of plan (block.Function f)) (unit_of plan (start.Entry f)))
     calling true f values into left head count e = neither (need.Trap trap.Depth) refl refl
     calling false f values into left head count e = invoking f values into left head count (few_frames e) (block_of plan (block.Function f)) refl (unit_of plan (start.Entry f))
@@ -166,7 +167,7 @@ module _ (program : Program) (policy : Policy) (v : IsValid program) where
     by_deed (branch stmts) left head h = neither need.Plain refl refl
     by_deed (turn stmts) left head h = neither need.Plain refl refl
     by_deed leave left head h = leaving (block_of plan (block.Loop t.stmt)) refl
-    by_deed (invoke f values into) left head h = calling (nat_lt 64 (s.below + length s.frames)) f values into left head h.1.1 refl
+    by_deed (invoke f values into) left head h = calling (nat_lt MOST_CALLS (s.below + length s.frames)) f values into left head h.1.1 refl
     by_deed (back value) left head h = returning_back value left head h
     by_deed (take x) left head h = neither (need.P x (unit_of plan (start.After t.stmt))) refl refl
     by_deed (give x) left head h = neither (need.V x (unit_of plan (start.After t.stmt))) refl refl

@@ -8,6 +8,7 @@ use Rattle.ppd_ast.specs.declared.plan.Policy.{Policy}
 use Rattle.ppd_ast.specs.declared.program.Program.{Program}
 use Rattle.ppd_ast.specs.declared.status.Status.{Status}
 use Rattle.ppd_ast.specs.declared.status.Status.TheVariants as status
+use Rattle.ppd_ast.specs.declared.limits.TheConstants.{MOST_CALLS}
 use Rattle.ppd_blocks.specs.Blocks.{plan_of}
 use Rattle.ppd_step_laws.specs.Course.{EndsWithEnd}
 use Rattle.ppd_entry.specs.declared.entry.Entry.{Entry}
@@ -88,7 +89,7 @@ module _ (program : Program) (policy : Policy) (v : IsValid program) (p : ℕ) (
           let i = inside_some (open_blocks program plan s.todo) (process_block program plan p) in
           one_more plan body p x (entry.Prelog a.block a.values) ((units u values ++ []) ++ es)
           (fit_prelog plan body x i.0 i.1 (subst (Stands plan x) i.2 stands) a.block a.values h.process
-          (subst (λ bs. (is_of_function (kind_at plan a.block) && nat_le 64 (functions_in plan bs)) ≡ false) i.2 h.few) h.fits) refl
+          (subst (λ bs. (is_of_function (kind_at plan a.block) && nat_le MOST_CALLS (functions_in plan bs)) ≡ false) i.2 h.few) h.fits) refl
           (units_inside u (index_step plan x (entry.Prelog a.block a.values)) after fits
           (subst (Stands plan (index_step plan x (entry.Prelog a.block a.values))) (sym move) (after_prelog plan x (Open s) a.block a.values (next_later plan x.entry) stands.falls stands.are)) next)
 

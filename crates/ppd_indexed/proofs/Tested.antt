@@ -5,6 +5,7 @@ use Rattle.ppd_ast.specs.declared.plan.Plan.{Plan}
 use Rattle.ppd_ast.specs.declared.status.Status.{Status}
 use Rattle.ppd_ast.specs.declared.status.Status.TheVariants as status
 use Rattle.ppd_ast.specs.declared.status.SyncKind.{SyncKind}
+use Rattle.ppd_ast.specs.declared.limits.TheConstants.{MOST_CALLS}
 use Rattle.ppd_entry.specs.declared.entry.Entry.{Entry}
 use Rattle.ppd_entry.specs.declared.entry.Entry.TheVariants as entry
 use Rattle.ppd_entry.specs.IntervalLogs.{Indexing, depth_of, index_step}
@@ -49,13 +50,13 @@ module _ (plan : Plan) where
         fits_by body x (entry.Postlog b values)
         (paired_by body x (entry.Postlog b values) s.later (ap (λ o. is_same b o) (innermost_by plan x.intervals x.running b bs s.are) ∙ same)) fits
 
-    pub fit_prelog : (c : ℕ) (values : List ℤ) → is_process (kind_at plan c) ≡ false → (is_of_function (kind_at plan c) && nat_le 64 (functions_in plan (b ∷ bs))) ≡ false → is_fitting plan (entry.Prelog c values) ≡ true → IsFit body x (entry.Prelog c values)
+    pub fit_prelog : (c : ℕ) (values : List ℤ) → is_process (kind_at plan c) ≡ false → (is_of_function (kind_at plan c) && nat_le MOST_CALLS (functions_in plan (b ∷ bs))) ≡ false → is_fitting plan (entry.Prelog c values) ≡ true → IsFit body x (entry.Prelog c values)
     fit_prelog c values process few fits =
         fits_by body x (entry.Prelog c values)
         (paired_by body x (entry.Prelog c values) s.later
-        (ap (λ y. y && not (is_process (kind_at plan c)) && not (is_of_function (kind_at plan c) && nat_le 64 (depth_of x.running x.intervals))) some_inside
-        ∙ ap (λ y. not y && not (is_of_function (kind_at plan c) && nat_le 64 (depth_of x.running x.intervals))) process
-        ∙ ap (λ n. not (is_of_function (kind_at plan c) && nat_le 64 n)) (depth_by plan x.intervals x.running (b ∷ bs) s.are) ∙ ap not few)) fits
+        (ap (λ y. y && not (is_process (kind_at plan c)) && not (is_of_function (kind_at plan c) && nat_le MOST_CALLS (depth_of x.running x.intervals))) some_inside
+        ∙ ap (λ y. not y && not (is_of_function (kind_at plan c) && nat_le MOST_CALLS (depth_of x.running x.intervals))) process
+        ∙ ap (λ n. not (is_of_function (kind_at plan c) && nat_le MOST_CALLS n)) (depth_by plan x.intervals x.running (b ∷ bs) s.are) ∙ ap not few)) fits
 
     -- an end inside: the process was stopped, or waits
     pub fit_end : (how : Status) (rest : ℕ) (reads writes : List ℕ) → IsInsideEnd how → IsFit body x (entry.End how rest reads writes)

@@ -12,5 +12,7 @@ use Rattle.ppd_model.specs.Schedule.{IsWhole}
 -- the plan says, each list begins with its process's block, and one end comes last
 abbrev pub LogsOfRunsAreIndexed : Type 0
 LogsOfRunsAreIndexed =
-    (program : Program) (policy : Policy) (budget : ℕ) (h : List ℕ) → IsValid program → IsWhole program (plan_of program policy) budget h
-    → first_in_lists program (plan_of program policy) 0 (closed_logs program (plan_of program policy) budget h).lists ≡ None
+    (program : Program) (policy : Policy) (budget : ℕ) (h : List ℕ) → IsValid program
+    → IsWhole program (plan_of program policy) budget h
+    → first_in_lists program (plan_of program policy) 0 (closed_logs program (plan_of program policy) budget h).lists
+    ≡ None

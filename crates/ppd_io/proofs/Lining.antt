@@ -8,10 +8,6 @@ use Rattle.ppd_io.specs.Lines.{Took, HasNoNewline, lines_of, before_lines, Lined
 use Rattle.ppd_io.specs.declared.lines.LineError.{LineError}
 use Rattle.ppd_io.specs.declared.lines.LineError.TheVariants.{Failed, LongLine}
 
-pub takes_nothing : (a : Option (List ℕ)) → Takes a a []
-takes_nothing None = tt
-takes_nothing (Some xs) = refl
-
 pub takes_twice : (a b c : Option (List ℕ)) (xs ys : List ℕ) → Takes a b xs → Takes b c ys → Takes a c (xs ++ ys)
 takes_twice a b None xs ys h k = tt
 takes_twice a None (Some zs) xs ys h k = absurd k
@@ -25,9 +21,6 @@ took_twice a b c was line held more h k = record {
   takes = takes_twice a b c h.read k.read h.takes k.takes;
   whole = sym (append_assoc was h.read k.read) ∙ (ap (λ w. w ++ k.read) h.whole ∙ (append_assoc line held k.read ∙ ap (λ w. line ++ w) k.whole));
 }
-
-pub took_nothing : (a : Option (List ℕ)) (was : List ℕ) → Took a a was was
-took_nothing a was = record { read = []; takes = takes_nothing a; whole = append-nil was }
 
 -- one byte more
 pub took_byte : (a b c : Option (List ℕ)) (was line held later : List ℕ) (byte : ℕ) → Took a b was (line ++ held) → Took b c held (byte ∷ later) → Took a c was ((line ++ byte ∷ []) ++ later)

@@ -1,7 +1,7 @@
 -- Bytes written in pieces.
 use Rattle.std.specs.Prelude.{None, Some, Option}
-use Rattle.std.proofs.Common.{◌≡◌, ℕ, ◌+◌, ◌≤◌, List, [], ◌++◌, length, take, drop, arith, ap, sym, ◌∙◌, append_assoc, append-nil}
-use Rattle.std.proofs.lemmas.List.{drop-take, take-take, take-append-drop, take_all, take_at, drop-drop}
+use Rattle.std.proofs.Common.{◌≡◌, ℕ, ◌+◌, List, [], ◌++◌, take, drop, arith, ap, sym, ◌∙◌, append_assoc, append-nil}
+use Rattle.std.proofs.lemmas.List.{drop-take, take-take, take-append-drop}
 use Rattle.ppd_io.specs.Content.{Appends}
 
 pub take_plus : (m n : ℕ) (xs : List ℕ) → take m xs ++ take n (drop m xs) ≡ take (m + n) xs
@@ -24,13 +24,3 @@ appends_nothing (Some xs) = sym (append-nil xs)
 -- the next piece after some first bytes
 pub appends_more : (a b c : Option (List ℕ)) (m n : ℕ) (xs : List ℕ) → Appends a b (take m xs) → Appends b c (take n (drop m xs)) → Appends a c (take (m + n) xs)
 appends_more a b c m n xs h k = let P : List ℕ → Type 0 = λ w. Appends a c w in rw (← take_plus m n xs) (appends_twice a b c (take m xs) (take n (drop m xs)) h k)
-
-pub appends_all : (a b : Option (List ℕ)) (m : ℕ) (xs : List ℕ) → Appends a b (take m xs) → length xs ≤ m → Appends a b xs
-appends_all a b m xs h le = let e : take m xs ≡ xs = take_all m xs le in rw e at h
-
--- what a read of n bytes gave, and what is left
-pub gave : (xs ys tail : List ℕ) (at n : ℕ) → length ys ≡ n → ys ≡ take n (drop at xs) → drop at xs ≡ take n (ys ++ tail) ++ drop (at + n) xs
-gave xs ys tail at n e is =
-    let a : take n (ys ++ tail) ≡ ys = take_at ys tail n e in
-    let b : take n (drop at xs) ++ drop n (drop at xs) ≡ drop at xs = take-append-drop n (drop at xs) in
-    let d : drop n (drop at xs) ≡ drop (at + n) xs = drop-drop n at xs in cc

@@ -1,5 +1,6 @@
 ghost use Rattle.std.specs.Prelude.{◌≡◌, ◌≢◌, ◌↔◌, ◌<◌, [], ◌∷◌, length, IfOk, IsTrue, MatchOption, OnErr};
 ghost use Rattle.ppd_io.specs.Causes.{HasCause};
+ghost use Rattle.ppd_io.specs.declared.bytes.TheConstants.{CHUNK_BYTES};
 ghost use Rattle.ppd_io.specs.Lines.{Took, IsAtEnd, IsFilled};
 
 use crate::sink::Failed;
@@ -8,8 +9,8 @@ use ppd_ast::Memory;
 use std::alloc::Global;
 use std::marker::Model;
 
-/// How many bytes are asked of the source at once.
-const CHUNK: usize = 4096;
+/// Bytes that are asked of a source at once.
+pub const CHUNK_BYTES: usize = 4096;
 
 /// Gives the bytes of a source one by one, and reads only where it holds none.
 #[derive(Drop)]
@@ -21,12 +22,13 @@ pub(crate) struct ByteReader {
 
 impl Model for ByteReader {
     ghost use Rattle.std.specs.Prelude.{◌≡◌, ◌-◌, ◌≤◌, ℕ, List, take, drop, vec_len};
+    ghost use Rattle.ppd_io.specs.declared.bytes.TheConstants.{CHUNK_BYTES};
 
     ghost Value = { List ℕ };
 
     ghost view = { λ s. take (s.end - s.at) (drop s.at s.chunk.items) };
 
-    ghost invariant = { λ s. (s.at ≤ s.end) × (s.end ≤ vec_len s.chunk) × (vec_len s.chunk ≡ 4096) };
+    ghost invariant = { λ s. (s.at ≤ s.end) × (s.end ≤ vec_len s.chunk) × (vec_len s.chunk ≡ CHUNK_BYTES) };
 }
 
 impl ByteReader {
@@ -34,7 +36,7 @@ impl ByteReader {
     pub(crate) fn new(alloc: Global) -> Result<ByteReader, Memory>
         ensures { IfOk result (λ r. r ≡ []) }
     {
-        let chunk = vec![in alloc; 0; CHUNK]?;
+        let chunk = vec![in alloc; 0; CHUNK_BYTES]?;
         Ok(ByteReader {
             chunk,
             at: 0,
@@ -46,7 +48,7 @@ impl ByteReader {
     fn take_held(&mut self) -> u8
         requires { self.old ≢ [] }
         ensures byte { self.old ≡ result ∷ self.new }
-        ensures few { length self.new < 4096 }
+        ensures few { length self.new < CHUNK_BYTES }
     {
         let byte = self.chunk[self.at];
         self.at += 1;
@@ -78,7 +80,7 @@ impl ByteReader {
         ensures byte { IfOk result (λ b. MatchOption b (Took (I.left source.old) (I.left source.new) self.old [] × (self.new ≡ []) × IsAtEnd (I.left source.new)) (λ byte. Took (I.left source.old) (I.left source.new) self.old (byte ∷ self.new))) }
         ensures err { OnErr result (Took (I.left source.old) (I.left source.new) self.old [] × (self.new ≡ [])) }
         ensures cause { HasCause (I.faults source.old) (I.faults source.new) result }
-        ensures few { length self.new < 4096 }
+        ensures few { length self.new < CHUNK_BYTES }
     {
         if !self.is_empty() {
             return Ok(Some(self.take_held()));

@@ -17,6 +17,7 @@ mod source;
 mod steady;
 
 pub use adapters::{Counted, StdSink, StdSource};
+pub use bytes::CHUNK_BYTES;
 pub use gate::{FreeGate, Gate};
 pub use host::HostShelf;
 pub use lines::{LineError, LineReader};

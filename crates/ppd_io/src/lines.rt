@@ -1,6 +1,7 @@
 ghost use Rattle.std.specs.Prelude.{◌≡◌, [], true, false, length, IfOk, IsErrOf, vec_capacity, ◌≤◌, ◌<◌};
 ghost use Rattle.ppd_ast.specs.declared.limits.TheConstants.{MOST_LINE_BYTES};
-ghost use Rattle.ppd_io.specs.Causes.{HasCause, Rose};
+ghost use Rattle.ppd_io.specs.Causes.{Rose};
+ghost use Rattle.ppd_io.specs.declared.bytes.TheConstants.{CHUNK_BYTES};
 ghost use Rattle.ppd_io.specs.Lines.{Fills, GivesLine, StaysOver, TellsLine};
 
 use crate::bytes::ByteReader;
@@ -30,13 +31,14 @@ pub struct LineReader {
 impl Model for LineReader {
     ghost use Rattle.std.specs.Prelude.{◌<◌, length, vec_capacity};
     ghost use Rattle.ppd_ast.specs.declared.limits.TheConstants.{MOST_LINE_BYTES};
+    ghost use Rattle.ppd_io.specs.declared.bytes.TheConstants.{CHUNK_BYTES};
     ghost use Rattle.ppd_io.specs.Lines.{Lined};
 
     ghost Value = { Lined };
 
     ghost view = { λ s. record { line = s.line.items; held = s.bytes; ended = s.ended } };
 
-    ghost invariant = { λ s. (MOST_LINE_BYTES < vec_capacity s.line) × (length s.bytes < 4096) };
+    ghost invariant = { λ s. (MOST_LINE_BYTES < vec_capacity s.line) × (length s.bytes < CHUNK_BYTES) };
 }
 
 /// Puts the bytes up to the next newline into an empty line, and answers whether the end was met in its place.
@@ -47,12 +49,12 @@ fn fill_line<I: Source>(
 ) -> Result<bool, LineError>
     requires empty { line.old.items ≡ [] }
     requires room { MOST_LINE_BYTES < vec_capacity line.old }
-    requires few { length bytes.old < 4096 }
+    requires few { length bytes.old < CHUNK_BYTES }
     ensures filled { Fills (I.left source.old) (I.left source.new) bytes.old line.new.items bytes.new result }
     ensures cause { IsErrOf result LineError.Failed → Rose (I.faults source.old) (I.faults source.new) }
     ensures later { I.faults source.old ≤ I.faults source.new }
     ensures room { MOST_LINE_BYTES < vec_capacity line.new }
-    ensures few { length bytes.new < 4096 }
+    ensures few { length bytes.new < CHUNK_BYTES }
 {
     while line.len() <= MOST_LINE_BYTES {
         match bytes.next(source) {
@@ -89,7 +91,7 @@ impl LineReader {
         ensures over { self.old.ended ≡ true → (result ≡ Ok false) × (source.new ≡ source.old) × StaysOver self.old self.new }
         ensures failed { IsErrOf result LineError.Failed → Rose (I.faults source.old) (I.faults source.new) }
         ensures later { I.faults source.old ≤ I.faults source.new }
-        ensures few { length self.new.held < 4096 }
+        ensures few { length self.new.held < CHUNK_BYTES }
     {
         self.line.clear();
         if self.ended {
@@ -103,7 +105,8 @@ impl LineReader {
     /// one. A last line without a newline is one where it is not empty. Once the end was met, nothing is read.
     ///
     /// `Failed` comes only where a read failed and the source's count of faults rose; `LongLine` exactly
-    /// where the next line has more than 4,096 bytes. Of the bytes after the line fewer than 4,096 are read.
+    /// where the next line has more than 4,096 bytes. Of the bytes after the line fewer than `CHUNK_BYTES`
+    /// are read.
     /// After an error the lines that follow mean nothing.
     pub fn next<I: Source>(&mut self, source: &mut I) -> Result<bool, LineError>
         ensures given { self.old.ended ≡ false → GivesLine (I.left source.old) (I.left source.new) self.old.held self.new result }
@@ -111,7 +114,7 @@ impl LineReader {
         ensures over { self.old.ended ≡ true → (result ≡ Ok false) × (source.new ≡ source.old) × StaysOver self.old self.new }
         ensures failed { IsErrOf result LineError.Failed → Rose (I.faults source.old) (I.faults source.new) }
         ensures later { I.faults source.old ≤ I.faults source.new }
-        ensures few { length self.new.held < 4096 }
+        ensures few { length self.new.held < CHUNK_BYTES }
     {
         self.advance(source)
     }

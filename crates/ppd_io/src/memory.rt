@@ -1,4 +1,4 @@
-ghost use Rattle.std.specs.Prelude.{◌≡◌, ◌↔◌, ℕ, List, [], Some, ◌<◌, ◌≤◌, length, take, vec_len, is_ok, is_err, IfOk, OnOk, OnErr, IsErrOf, IsTrue};
+ghost use Rattle.std.specs.Prelude.{◌≡◌, ◌↔◌, ℕ, List, [], Some, ◌<◌, ◌≤◌, length, vec_len, is_ok, is_err, IfOk, OnOk, OnErr, IsErrOf, IsTrue};
 ghost use Rattle.ppd_io.specs.Causes.{HasCause, Rose};
 ghost use Rattle.ppd_io.specs.Content.{Reads, Writes, Loads, Stores, StoreFails};
 ghost use Rattle.ppd_io.specs.Entries.{find_entry, put_entry};

@@ -1,7 +1,7 @@
-ghost use Rattle.std.specs.Prelude.{◌≡◌, ℕ, List, [], ◌<◌, ◌≤◌, length, take, drop, true, vec_len, IfOk, OnOk, OnErr, IsOk, IsErrOf};
-ghost use Rattle.ppd_io.specs.Causes.{HasCause, Rose};
-ghost use Rattle.ppd_io.specs.Content.{Reads, Writes, Loads, Stores, StoreFails};
-ghost use Rattle.ppd_io.specs.Entries.{find_entry, put_entry};
+ghost use Rattle.std.specs.Prelude.{◌≡◌, ℕ, List, [], ◌<◌, ◌≤◌, length, take, drop, true, vec_len, IfOk, OnErr, IsOk, IsErrOf};
+ghost use Rattle.ppd_io.specs.Causes.{HasCause};
+ghost use Rattle.ppd_io.specs.Content.{Reads, Writes};
+ghost use Rattle.ppd_io.specs.Entries.{find_entry};
 ghost use Rattle.ppd_io.specs.Forms.{read_size, after_read, told_bytes, after_steady_write};
 
 use crate::entries::Entries;

@@ -6,7 +6,7 @@ use Rattle.std.proofs.lemmas.Bool.Decides.{nat_tests}
 use Rattle.std.proofs.lemmas.List.{append-nil, length-map}
 use Rattle.ppd_ast.specs.Valid.{IsValid}
 use Rattle.ppd_ast.specs.ValidPlan.{IsValidPlan}
-use Rattle.ppd_ast.specs.declared.limits.TheConstants.{MOST_BUDGET, MOST_POLICY, MOST_RECORDING_BYTES, MOST_SOURCE_BYTES}
+use Rattle.ppd_ast.specs.declared.limits.TheConstants.{MOST_BUDGET, MOST_POLICY, MOST_RECORDING_BYTES, MOST_SOURCE_BYTES, MOST_PROCESSES}
 use Rattle.ppd_ast.specs.declared.plan.Plan.{Plan}
 use Rattle.ppd_ast.specs.declared.program.Chan.{Chan}
 use Rattle.ppd_ast.specs.declared.program.Program.{Program}
@@ -122,7 +122,7 @@ logs_lawful source program header h r range run =
     (run_fine program plan v w (whole program header.policy w) k header.budget range.most h run.last run.runs) in
     let lists : List (List Entry) = map closed_log (loggings program plan header.budget h) in
     let count : length lists ≡ length program.bodies - program.functions = count_of program plan v w k header.budget range.most h in
-    let few : length program.bodies ≤ program.functions + 16 = v.limits.processes in
+    let few : length program.bodies ≤ program.functions + MOST_PROCESSES = v.limits.processes in
     let long : length source ≤ 2 ^ 18 = r.parsed.lexed.short in
     let many : length (flat_map (log (facts_of program)).bytes lists) ≤ MOST * length lists = all_short (log (facts_of program)).bytes MOST lists (all_few program plan v w k header.budget range.most lists all) in
     let begins : length (front.bytes (front_of (version_of program.chans) header source)) ≡ suc (suc (suc (suc (suc (suc (suc (suc (suc (suc (suc (suc (suc (suc (suc (suc (suc (length source))))))))))))))))) = refl in

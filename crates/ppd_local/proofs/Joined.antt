@@ -67,12 +67,6 @@ module _ (s : Search) where
   else_origin ms ns o y n m k r f g =
       subst (λ z. IsFound s (ms ++ unless z ns) (unwrap_or z y) n k r) (sym (none_is ms o n m f)) (joined ms ns o None y n m k r f g)
 
-  pub some_origin : (ms ns : List ℕ) (o : Option Origin) (x y : Origin) (n m : ℕ) → IsFound s ms o n m (Ok (Some x))
-      → IsFound s (ms ++ unless o ns) (unwrap_or o y) n m (Ok x)
-  some_origin ms ns o x y n m f =
-      subst (λ z. IsFound s (ms ++ unless z ns) (unwrap_or z y) n m (Ok x)) (sym (is_given ms o (Some x) n m f))
-      (joined ms [] o (Some x) x n m m (Ok x) f (nothing x x m refl))
-
   pub else_either : (ms ns : List ℕ) (o y : Option Origin) (n m k : ℕ) (r : Result (Option Origin) FlowError)
       → IsFound s ms o n m (Ok None) → IsFound s ns y m k r → IsFound s (ms ++ unless o ns) (or_else o y) n k r
   else_either ms ns o y n m k r f g =
@@ -89,9 +83,3 @@ module _ (s : Search) where
       → o ≡ None → IsFound s ms v n m (Ok v') → IsFound s ns y m k r → IsFound s (ms ++ unless o ns) (unwrap_or o y) n k r
   after_none ms ns v v' o y n m k r e f g =
       subst (λ z. IsFound s (ms ++ unless z ns) (unwrap_or z y) n k r) (sym e) (joined ms ns v v' y n m k r f g)
-
-  pub after_some : {A : Type 0} (ms ns : List ℕ) (v v' : A) (o : Option Origin) (x y : Origin) (n m : ℕ)
-      → o ≡ Some x → IsFound s ms v n m (Ok v') → IsFound s (ms ++ unless o ns) (unwrap_or o y) n m (Ok x)
-  after_some ms ns v v' o x y n m e f =
-      subst (λ z. IsFound s (ms ++ unless z ns) (unwrap_or z y) n m (Ok x)) (sym e)
-      (joined ms [] v v' x n m m (Ok x) f (nothing x x m refl))

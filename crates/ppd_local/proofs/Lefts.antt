@@ -17,10 +17,6 @@ abbrev pub prefixed : List FlowEdge → Result (List FlowEdge) FlowError → Res
 prefixed es (Ok xs) = Ok (es ++ xs)
 prefixed es (Err e) = Err e
 
-pub prefixed_none : (r : Result (List FlowEdge) FlowError) → prefixed [] r ≡ r
-prefixed_none (Ok xs) = refl
-prefixed_none (Err e) = refl
-
 pub prefixed_both : (es fs : List FlowEdge) (r : Result (List FlowEdge) FlowError) → prefixed (es ++ fs) r ≡ prefixed es (prefixed fs r)
 prefixed_both es fs (Ok xs) = ap (λ (ys : List FlowEdge). prefixed [] (Ok ys)) (append_assoc es fs xs)
 prefixed_both es fs (Err e) = refl

@@ -1,5 +1,5 @@
 -- One loop after another is looked into.
-use Rattle.std.proofs.Common.{◌≡◌, ℕ, zero, suc, ◌+◌, List, [], ◌∷◌, drop, Result, Ok, Err, Option, Some, None, ap, sym, ◌∙◌, subst, add-one}
+use Rattle.std.proofs.Common.{◌≡◌, ℕ, ◌+◌, List, [], ◌∷◌, drop, Result, Ok, Err, Option, Some, None, sym, subst}
 use Rattle.std.specs.Prelude.{slice_get}
 use Rattle.ppd_model.specs.declared.flow.Origin.{Origin}
 use Rattle.ppd_model.proofs.Lists.{left_from}
@@ -10,12 +10,6 @@ use Rattle.ppd_search.specs.declared.writer.Writer.{Writer}
 use Rattle.ppd_local.specs.declared.search.Search.{Search}
 use Rattle.ppd_local.specs.Searches.{IsFound, plan_in, program_in, seen}
 use Rattle.ppd_local.proofs.Joined.{else_either, failed, some_either}
-
--- the item with this number, and those after it
-drop_suc : {A : Type 0} (xs : List A) (i : ℕ) (x : A) → slice_get xs i ≡ Some x → drop i xs ≡ x ∷ drop (suc i) xs
-drop_suc [] i x e = absurd (cc e)
-drop_suc {A = A} (y ∷ ys) zero x e = ap (λ z. z ∷ ys) (ap (λ (o : Option A). elim o [ None ↦ y | Some z ↦ z ]) e)
-drop_suc (y ∷ ys) (suc i) x e = drop_suc ys i x e
 
 module _ (s : Search) (c : ℕ) where
   abbrev pub all_replays : List ℕ → List ℕ

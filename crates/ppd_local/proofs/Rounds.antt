@@ -1,5 +1,5 @@
 -- From an interval to the one round it.
-use Rattle.std.proofs.Common.{◌≡◌, ℕ, List, [], ◌∷◌, ◌++◌, Result, Ok, Option, Some, None, ap, sym, ◌∙◌, subst, take}
+use Rattle.std.proofs.Common.{◌≡◌, ℕ, List, [], ◌∷◌, ◌++◌, Result, Ok, Option, None, ap, sym, ◌∙◌, subst, take}
 use Rattle.std.specs.Prelude.{unwrap_or}
 use Rattle.ppd_ast.specs.declared.plan.BlockKind.TheVariants as block
 use Rattle.ppd_model.specs.declared.flow.Item.{Item}
@@ -12,7 +12,7 @@ use Rattle.ppd_search.specs.Own.{frame_at}
 use Rattle.ppd_search.specs.Seen.{items_at, kind_at, outer_of, outer_place, place_of, unless}
 use Rattle.ppd_local.specs.declared.search.Search.{Search}
 use Rattle.ppd_local.specs.Searches.{IsFound, plan_in, program_in, seen}
-use Rattle.ppd_local.proofs.Joined.{after_none, after_some, is_given, joined}
+use Rattle.ppd_local.proofs.Joined.{after_none, is_given, joined}
 
 module _ (s : Search) where
   -- what is found by a scan of the items before a place
@@ -58,12 +58,6 @@ module _ (s : Search) where
         → control_goal (outer_of (seen s) k) (outer_place (seen s) k) stmt o r
     control_moved stmt o r f =
         subst (λ at. control_goal at (place_of k (items_at (seen s) at)) stmt o r) out (subst (λ j. control_goal outer j stmt o r) item_is f)
-
-    pub control_some : (stmt : ℕ) (x : Origin) → Some x ≡ control_in (program_in s) (plan_in s) (seen s) s.process outer item stmt
-        → IsFound s (control_above_replays (program_in s) (plan_in s) (seen s) s.process k (block.Loop stmt)) (control_above (program_in s) (plan_in s) (seen s) s.process k (block.Loop stmt)) n m (Ok x)
-    control_some stmt x e = control_moved stmt m (Ok x)
-        (after_some s (outer ∷ []) (call_replays (seen s) outer (kind_at (plan_in s) (seen s) outer)) (items_at (seen s) outer) items
-        (control_in (program_in s) (plan_in s) (seen s) s.process outer item stmt) x (call_or_entry (seen s) s.process outer (kind_at (plan_in s) (seen s) outer)) n m (sym e) got)
 
     pub control_none : (stmt o : ℕ) (r : Result Origin FlowError) → None ≡ control_in (program_in s) (plan_in s) (seen s) s.process outer item stmt
         → IsFound s (call_replays (seen s) outer (kind_at (plan_in s) (seen s) outer)) (call_or_entry (seen s) s.process outer (kind_at (plan_in s) (seen s) outer)) m o r

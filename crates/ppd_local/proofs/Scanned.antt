@@ -15,11 +15,6 @@ use Rattle.ppd_local.specs.Scans.{leaf_past}
 pub at_next : {A : Type 0} (xs : List A) (i : ℕ) (x : A) → i < length xs → x ≡ get_or xs i x → drop i xs ≡ x ∷ drop (i + 1) xs
 at_next xs i x h is = drop-cons xs i x h ∙ (ap (λ y. y ∷ drop (suc i) xs) (sym is) ∙ ap (λ n. x ∷ drop n xs) (sym (add-one i)))
 
--- one more step of a fold
-pub fold_next : {A B : Type 0} (f : B → A → B) (b now whole : B) (xs : List A) (i : ℕ) (x : A) → i < length xs → x ≡ get_or xs i x → now ≡ f b x
-    → fold f b (drop i xs) ≡ whole → fold f now (drop (i + 1) xs) ≡ whole
-fold_next f b now whole xs i x h is step so = ap (λ y. fold f y (drop (i + 1) xs)) step ∙ (ap (λ ys. fold f b ys) (sym (at_next xs i x h is)) ∙ so)
-
 module _ (program : Program) (plan : Plan) where
   -- ---- the call whose activation goes on
 

@@ -1,11 +1,11 @@
-ghost use Rattle.std.specs.Prelude.{◌≡◌, ◌∷◌, [], IfOk, slice_get, take};
+ghost use Rattle.std.specs.Prelude.{◌≡◌, [], IfOk, slice_get, take};
 ghost use Rattle.ppd_ast.specs.declared.plan.BlockKind.TheVariants as block;
 ghost use Rattle.ppd_ast.specs.Lookups.{kind_of, parent_if};
 ghost use Rattle.ppd_local.specs.Searches.{IsControlFound, IsFound, IsPlace, plan_in, program_in, seen};
 ghost use Rattle.ppd_model.specs.FullTrace.{or_else};
 ghost use Rattle.ppd_past.specs.Pasts.{IsPast};
-ghost use Rattle.ppd_search.specs.Control.{call_or_entry as call_or_entry_of, call_replays, control_above as control_above_of, control_above_replays, control_in as control_in_of, control_origin as control_origin_of, control_replays, last_test as last_test_among, leaf_call_at, test_of_run as test_of_run_by, test_round as test_round_by};
-ghost use Rattle.ppd_search.specs.Seen.{kind_at, outer_of as outer_at, outer_place as outer_place_of, unless};
+ghost use Rattle.ppd_search.specs.Control.{call_or_entry as call_or_entry_of, call_replays, control_above as control_above_of, control_above_replays, control_in as control_in_of, last_test as last_test_among, leaf_call_at, test_of_run as test_of_run_by, test_round as test_round_by};
+ghost use Rattle.ppd_search.specs.Seen.{kind_at};
 
 use crate::leaf::frame_in;
 use crate::search::{Place, Search, place_of};

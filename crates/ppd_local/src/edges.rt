@@ -5,7 +5,7 @@ ghost use Rattle.ppd_model.specs.declared.flow.EdgeKind.TheVariants as edge_kind
 ghost use Rattle.ppd_model.specs.declared.flow.Origin.TheVariants as origin;
 ghost use Rattle.ppd_model.specs.FlowbackEdges.{bare_edge};
 ghost use Rattle.ppd_past.specs.Pasts.{IsPast};
-ghost use Rattle.ppd_sem.specs.Blocks.{block_kind as kind_of_block, postlog_cells as postlog_of};
+ghost use Rattle.ppd_sem.specs.Blocks.{block_kind as kind_of_block};
 ghost use Rattle.ppd_search.specs.Own.{edges_of_nested, left_edges as left_edges_of, left_replays, nested_replays, returned_edges as returned_edges_of, returned_replays};
 
 use crate::scan::LocalCell;

@@ -1,6 +1,5 @@
 -- How much is written, and in how many steps, by the nodes of a source.
 pub mod Children
-pub mod Heads
 pub mod Phrases
 pub mod Rows
 pub mod Tables

@@ -1,4 +1,3 @@
 pub mod Costs
-pub mod Functions
 pub mod Rows
 pub mod Table

@@ -3,12 +3,9 @@ pub mod Expressions
 pub mod Code
 pub mod Statements
 pub mod Table
-pub mod Sources
 pub mod Forms
 pub mod Values
 pub mod Writing
 pub mod Outputs
 pub mod Plain
-pub mod Endings
-pub mod Bodies
 pub mod Elements

@@ -2,13 +2,9 @@
 use Rattle.std.specs.Prelude.{◌≡◌, ℕ, List, Option}
 use Rattle.ppd_ast.specs.declared.program.Place.{Place}
 use Rattle.ppd_resolve.specs.declared.fault.Fault.{Fault}
-use Rattle.ppd_resolve.specs.declared.frame.Frame.{Frame}
-use Rattle.ppd_resolve.specs.declared.writer.Output.{Output}
 use Rattle.ppd_resolve.specs.declared.writer.Site.{Site}
 use Rattle.ppd_lower.specs.declared.lowering.Lowering.{Lowering}
-use Rattle.ppd_lower.specs.Bodies.{Filled}
 use Rattle.ppd_lower.specs.Code.{Code, Act}
-use Rattle.ppd_resolve.specs.Globals.{Head}
 use Rattle.ppd_resolve.specs.Syntax.{Simple, Row}
 use Rattle.ppd_lower.specs.Writing.{Wrote, WroteSimple, WroteRow, WroteAct, Walked}
 
@@ -40,6 +36,3 @@ PutsAct site p a faults old new =
 abbrev pub Walks : {L : Type 0} → Site → Row → (old new : Lowering L) → Type 0
 Walks site r old new =
     Walked site r old.frame.now new.frame.now old.out.now.table new.out.now.table old.out.now.row new.out.now.row
-
-abbrev pub Fills : Site → Head → (f g : Frame) (old new : Output) → Type 0
-Fills site h f g old new = Filled site h f g old.table new.table old.row new.row

@@ -1,5 +1,5 @@
 -- What a walk of statements adds to the table.
-use Rattle.std.specs.Prelude.{◌≡◌, ℕ, List, [], ◌++◌, ◌∷◌, map, length, Option, Some}
+use Rattle.std.specs.Prelude.{◌≡◌, ℕ, List, [], ◌++◌, ◌∷◌, map, length, Option, Some, None}
 use Rattle.std.specs.List.{flat_map}
 use Rattle.ppd_ast.specs.declared.program.Expr.{Expr}
 use Rattle.ppd_ast.specs.declared.program.Kind.TheVariants.{End}
@@ -10,16 +10,21 @@ use Rattle.ppd_resolve.specs.Faults.{first, first_of_both}
 use Rattle.ppd_lower.specs.Forms.{Added}
 use Rattle.ppd_parse.specs.declared.node.Node.{Node}
 use Rattle.ppd_resolve.specs.Names.{Scope}
-use Rattle.ppd_resolve.specs.Reading.{formulas}
+use Rattle.ppd_resolve.specs.Reading.{formulas, token, nowhere, as_block}
 use Rattle.ppd_lower.specs.Expressions.{term_of, formula_faults}
-use Rattle.ppd_resolve.specs.Nodes.{phrases_of}
+use Rattle.ppd_resolve.specs.Nodes.{phrase_of, phrases_of}
 use Rattle.ppd_ast.specs.declared.program.Place.{Place}
 use Rattle.ppd_resolve.specs.declared.frame.Frame.{Frame}
 use Rattle.ppd_resolve.specs.declared.writer.Site.{Site}
-use Rattle.ppd_resolve.specs.Syntax.{Simple, Row, stop, simple}
+use Rattle.ppd_resolve.specs.Syntax.{Simple, Row, stop, simple, Block}
 use Rattle.ppd_lower.specs.Statements.{code_of, faults_of, row_code, row_faults, after_row}
 use Rattle.ppd_lower.specs.Code.{Code, Act, done, act}
 use Rattle.ppd_lower.specs.Table.{flats, roots, terms, numbers, stmts}
+
+-- the block at a node, and an empty one where there is none
+abbrev pub block_at : List Node → Option ℕ → Block
+block_at ns None = as_block (token nowhere)
+block_at ns (Some i) = as_block (phrase_of ns i)
 
 -- Statements of a body that stand directly in `parent` were added with their expressions, and their numbers to a row;
 -- the rules that they break were noted.

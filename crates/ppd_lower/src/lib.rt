@@ -1,13 +1,12 @@
-//! The statements and bodies of the core form, with the rules that they break.
+//! The statements of the core form, with the rules that they break.
 #![tactic(auto)]
 
 mod arrays;
 mod begun;
-mod bodies;
+mod blocks;
 mod calls;
 mod changes;
 mod counts;
-mod endings;
 mod forms;
 mod formulas;
 mod held;
@@ -15,7 +14,6 @@ mod hidden;
 mod locals;
 mod lowering;
 mod parts;
-mod returns;
 mod simple;
 mod statements;
 mod stores;
@@ -24,4 +22,4 @@ mod values;
 mod walk;
 mod words;
 
-pub use bodies::{Heads, vars_of, write_heads};
+pub use blocks::write_block;

@@ -19,7 +19,7 @@ use crate::calls::{Use, arguments, channel_number, function, used};
 use crate::formulas::{element_expr, formula, put, scalar_expr, write_term};
 use crate::lowering::Lowering;
 use crate::values::{Goal, Value};
-use ppd_ast::{Expr, Ids, Kind, Memory, Seq, Steps, Target};
+use ppd_ast::{Ids, Kind, Memory, Steps, Target};
 use ppd_resolve::{
     Frame, Here, Label, Level, Meaning, Source, Writer, declare, label_at, put_stmt,
 };

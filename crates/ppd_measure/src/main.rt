@@ -3,19 +3,20 @@
 
 ghost use Rattle.std.specs.Prelude.{◌<◌, ◌^◌};
 
+use ppd_ast::limits::{MOST_SHARED_CELLS, MOST_SOURCE_BYTES, MOST_STATEMENTS};
 use ppd_ast::{Body, Bytes, Expr, Ids, Kind, Op, Place, Program, Seq, Stmt, Var};
 use ppd_lex::lex;
 use std::alloc::{AllocError, Global};
 use std::env;
 
 /// The most bytes of a source.
-const BYTES: usize = 262_144;
+const BYTES: usize = MOST_SOURCE_BYTES;
 /// The statements of the largest program, without the one that ends its process.
-const PRINTS: u32 = 4095;
+const PRINTS: u32 = MOST_STATEMENTS as u32 - 1;
 /// The expressions of each statement: a sum of 16 operands.
 const NODES: u32 = 31;
 /// The shared scalars of the largest program. Each operand names the last one.
-const CELLS: u16 = 1024;
+const CELLS: u16 = MOST_SHARED_CELLS as u16;
 
 /// A source of names of one byte, for which the lexer works longest.
 fn source(alloc: Global) -> Result<Vec<u8>, AllocError> {

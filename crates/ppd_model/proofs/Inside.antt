@@ -19,6 +19,7 @@ use Rattle.ppd_ast.specs.declared.status.Trap.TheVariants.{Depth}
 use Rattle.ppd_ast.specs.Lookups.{kind_of_stmt, kind_of, top_of_body, body_of_stmt, body_of}
 use Rattle.ppd_ast.proofs.ValidLaws.{some_and}
 use Rattle.ppd_ast.specs.Counting.{one_if}
+use Rattle.ppd_ast.specs.declared.limits.TheConstants.{MOST_CALLS}
 use Rattle.ppd_sem.specs.declared.asking.Pause.TheVariants.{Wants, Traps}
 use Rattle.ppd_sem.specs.declared.proc.Answer.{Answer}
 use Rattle.ppd_sem.specs.declared.proc.Frame.{Frame}
@@ -216,7 +217,7 @@ module _ (program : Program) (plan : Plan) (v : IsValid program) (a : Answer) (t
         let same : entered (todos stmts ++ t ∷ ts) ≡ entered (t ∷ ts) = entered-todos stmts (t ∷ ts) in
         moved need.Plain (turn stmts) left at (plain need.Plain (after (turn stmts)) refl refl (omega (arith, same)) refl)
     by_deed leave left at h = leaving (block_of plan (block.Loop t.stmt)) left at refl h
-    by_deed (invoke f values into) left at h = calling (nat_lt 64 (s.below + length s.frames)) f values into left at
+    by_deed (invoke f values into) left at h = calling (nat_lt MOST_CALLS (s.below + length s.frames)) f values into left at
     by_deed (back value) left at h = returning value left at h
     by_deed (take x) left at h = moved (need.P x (unit_of plan (start.After t.stmt))) (take x) left at (plain (need.P x (unit_of plan (start.After t.stmt))) (after (take x)) refl refl fewer refl)
     by_deed (give x) left at h = moved (need.V x (unit_of plan (start.After t.stmt))) (give x) left at (plain (need.V x (unit_of plan (start.After t.stmt))) (after (give x)) refl refl fewer refl)

@@ -10,6 +10,7 @@ use Rattle.ppd_ast.specs.declared.status.Status.{Status}
 use Rattle.ppd_ast.specs.declared.status.Status.TheVariants as status
 use Rattle.ppd_ast.specs.declared.status.Trap.TheVariants.{Depth}
 use Rattle.ppd_ast.specs.Lookups.{kind_of, top_of_body}
+use Rattle.ppd_ast.specs.declared.limits.TheConstants.{MOST_CALLS}
 use Rattle.ppd_sem.specs.declared.asking.Pause.TheVariants.{Wants, Traps}
 use Rattle.ppd_sem.specs.declared.proc.Answer.{Answer}
 use Rattle.ppd_sem.specs.declared.proc.Need.{Need}
@@ -68,7 +69,7 @@ module _ (program : Program) (plan : Plan) (a : Answer) (t : Todo) (ts : List To
       leaving : (o : Option ℕ) → Leaves (need_of_leaving plan t.stmt o)
       leaving None = inl (subst by_asked_deed (sym at) rest, tt)
       leaving (Some b) = inl (subst by_asked_deed (sym at) rest, tt)
-  by_deed (invoke f values into) left at = calling (nat_lt 64 (s.below + length s.frames))
+  by_deed (invoke f values into) left at = calling (nat_lt MOST_CALLS (s.below + length s.frames))
     where
       calling : (b : Bool) → Leaves (if b then need.Trap Depth else need.Invoke (block_of plan (block.Function f)) (unit_of plan (start.Entry f)))
       calling true = inl (same_todo, tt)

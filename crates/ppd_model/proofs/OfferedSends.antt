@@ -7,6 +7,7 @@ use Rattle.ppd_ast.specs.declared.plan.Start.TheVariants as start
 use Rattle.ppd_ast.specs.declared.program.Program.{Program}
 use Rattle.ppd_ast.specs.declared.status.Trap.TheVariants as trap
 use Rattle.ppd_ast.specs.Lookups.{kind_of}
+use Rattle.ppd_ast.specs.declared.limits.TheConstants.{MOST_CALLS}
 use Rattle.ppd_sem.specs.declared.asking.Pause.TheVariants.{Wants, Traps}
 use Rattle.ppd_sem.specs.declared.proc.Need.{Need}
 use Rattle.ppd_sem.specs.declared.proc.Need.TheVariants as need
@@ -44,7 +45,7 @@ deed_offers p plan t s (clear base len) h = tt
 deed_offers p plan t s (branch stmts) h = tt
 deed_offers p plan t s (turn stmts) h = tt
 deed_offers p plan t s leave h = leaving_offers p plan t (block_of plan (block.Loop t))
-deed_offers p plan t s (invoke f values into) h = if_offers p t (nat_lt 64 (s.below + length s.frames)) (need.Trap trap.Depth) (need.Invoke (block_of plan (block.Function f)) (unit_of plan (start.Entry f))) tt tt
+deed_offers p plan t s (invoke f values into) h = if_offers p t (nat_lt MOST_CALLS (s.below + length s.frames)) (need.Trap trap.Depth) (need.Invoke (block_of plan (block.Function f)) (unit_of plan (start.Entry f))) tt tt
 deed_offers p plan t s (back value) h = tt
 deed_offers p plan t s (take sem) h = tt
 deed_offers p plan t s (give sem) h = tt

@@ -5,6 +5,7 @@ use Rattle.ppd_ast.specs.declared.plan.Plan.{Plan}
 use Rattle.ppd_ast.specs.declared.plan.Start.TheVariants as start
 use Rattle.ppd_ast.specs.declared.program.Program.{Program}
 use Rattle.ppd_ast.specs.declared.status.Trap.TheVariants.{Depth}
+use Rattle.ppd_ast.specs.declared.limits.TheConstants.{MOST_CALLS}
 use Rattle.ppd_sem.specs.declared.asking.Pause.TheVariants.{Wants, Traps}
 use Rattle.ppd_sem.specs.declared.proc.Answer.{Answer}
 use Rattle.ppd_sem.specs.declared.proc.Need.{Need}
@@ -34,7 +35,7 @@ module _ (program : Program) (plan : Plan) (a : Answer) (t : Todo) (ts : List To
       leaving : (o : Option ℕ) → Tells (need_of_leaving plan t.stmt o)
       leaving None = ap (λ x. (act_by_asked program a t ts x s).status) is ∙ runs
       leaving (Some b) = ap (λ x. (act_by_asked program a t ts x s).status) is ∙ runs
-  by_deed (invoke f values into) left is = calling (nat_lt 64 (s.below + length s.frames))
+  by_deed (invoke f values into) left is = calling (nat_lt MOST_CALLS (s.below + length s.frames))
     where
       calling : (b : Bool) → Tells (if b then need.Trap Depth else need.Invoke (block_of plan (block.Function f)) (unit_of plan (start.Entry f)))
       calling true = refl

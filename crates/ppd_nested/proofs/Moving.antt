@@ -10,6 +10,7 @@ use Rattle.ppd_ast.specs.declared.plan.Start.TheVariants as start
 use Rattle.ppd_ast.specs.declared.program.Program.{Program}
 use Rattle.ppd_ast.specs.declared.status.Trap.TheVariants as trap
 use Rattle.ppd_ast.specs.Lookups.{kind_of, top_of_body, body_of}
+use Rattle.ppd_ast.specs.declared.limits.TheConstants.{MOST_CALLS}
 use Rattle.ppd_step_laws.specs.Course.{IsWay, behind, calls_of, follow_if}
 use Rattle.ppd_step_laws.proofs.Course.Deeds.{IsLoopDeed}
 use Rattle.ppd_step_laws.proofs.Course.Last.{ends_are_last}
@@ -197,7 +198,7 @@ module _ (program : Program) (plan : Plan) (p : ℕ) (v : IsValid program) (a : 
 
         leaving_by : (o : Option ℕ) → block_of plan (block.Loop t.stmt) ≡ o → Tells (need_of_leaving plan t.stmt o)
         leaving_by o e = leaving o left at (loop_is plan t.stmt (kind_of program t.stmt) loop ∙ e) h
-    by_deed (invoke f values into) left at h = calling (nat_lt 64 (s.below + length s.frames)) f values into left at h
+    by_deed (invoke f values into) left at h = calling (nat_lt MOST_CALLS (s.below + length s.frames)) f values into left at h
     by_deed (back value) left at h = returning_back value left at h.0
     by_deed (take x) left at h = plain (take x) left at (λ body z. z) h refl
     by_deed (give x) left at h = plain (give x) left at (λ body z. z) h refl

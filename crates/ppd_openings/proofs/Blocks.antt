@@ -8,6 +8,7 @@ use Rattle.ppd_ast.specs.declared.program.Body.{Body}
 use Rattle.ppd_ast.specs.declared.program.Program.{Program}
 use Rattle.ppd_ast.specs.Valid.{IsValid}
 use Rattle.ppd_ast.specs.Lookups.{top_of_body, body_of_stmt}
+use Rattle.ppd_ast.specs.declared.limits.TheConstants.{MOST_NESTING}
 use Rattle.ppd_blocks.specs.Blocks.{plan_of, postlog_of}
 use Rattle.ppd_sem.specs.Blocks.{block_body, block_todo}
 use Rattle.ppd_sem.specs.declared.proc.Frame.{Frame}
@@ -112,7 +113,7 @@ pub inside_home : (program : Program) → IsValid program → (kind : BlockKind)
 inside_home program v (block.Function f) i h = ap body_of_stmt h.there ∙ h.body
 inside_home program v (block.Process f) i h = ap body_of_stmt h.there ∙ h.body
 inside_home program v (block.Loop q) i h =
-    inside_body 64 program q i (body_of_stmt (slice_get program.stmts q)) v refl (within_listed program q i v h)
+    inside_body MOST_NESTING program q i (body_of_stmt (slice_get program.stmts q)) v refl (within_listed program q i v h)
 
 -- so is the count of frames where one of the statements is a call
 pub opening_frames : (program : Program) (policy : Policy) (s : Proc) (kind : BlockKind) (f : Frame)

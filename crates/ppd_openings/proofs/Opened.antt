@@ -11,6 +11,7 @@ use Rattle.ppd_ast.specs.declared.program.Program.{Program}
 use Rattle.ppd_ast.specs.declared.status.Trap.TheVariants as trap
 use Rattle.ppd_ast.specs.Valid.{IsValid}
 use Rattle.ppd_ast.specs.Lookups.{kind_of, params_of_body, body_of}
+use Rattle.ppd_ast.specs.declared.limits.TheConstants.{MOST_CALLS}
 use Rattle.ppd_sem.specs.Blocks.{block_body, block_todo, block_unit, prelog_cells}
 use Rattle.ppd_sem.specs.declared.asking.Pause.TheVariants.{Wants, Traps}
 use Rattle.ppd_sem.specs.Ask.{cell_of}
@@ -164,7 +165,7 @@ module _ (program : Program) (plan : Plan) (v : IsValid program) (s : Proc) (a :
   doing : (d : Deed) (left : List ℤ) → head_deed program t s ≡ Ok (d, left) → Suits (kind_of program t.stmt) d
       → Goal (need_of_deed program plan t.stmt s d)
   doing (invoke g values into) left e k =
-      calling g values into left e k (nat_lt 64 (s.below + length s.frames)) (block_of plan (block.Function g)) refl
+      calling g values into left e k (nat_lt MOST_CALLS (s.below + length s.frames)) (block_of plan (block.Function g)) refl
   doing (send c x) left e k = sending c x (capacity_of program c)
   doing leave left e k = leaving (block_of plan (block.Loop t.stmt))
   doing d left e k = unmarked (need_of_deed program plan t.stmt s d) refl

@@ -1,5 +1,5 @@
 -- The search at the place at which a process stands finds what the search over its running intervals finds.
-use Rattle.std.proofs.Common.{◌≡◌, ℕ, ◌+◌, ◌-◌, Bool, true, false, List, [], ◌∷◌, ◌++◌, Option, Some, None, refl, ap, sym, subst, ◌∙◌, arith, length, append-nil, eq-eqb}
+use Rattle.std.proofs.Common.{◌≡◌, ℕ, ◌+◌, ◌-◌, false, List, [], ◌∷◌, ◌++◌, Option, Some, None, refl, ap, sym, subst, ◌∙◌, arith, length, append-nil, eq-eqb}
 use Rattle.std.specs.List.{flat_map, position_from}
 use Rattle.std.specs.Prelude.{⊤, option_map, slice_get, take, unwrap_or}
 use Rattle.std.proofs.lemmas.Iterator.Adapters.{position_from-zero}
@@ -145,10 +145,6 @@ module _ (program : Program) (policy : Policy) (p : ℕ) (y : Split) (whole : Ar
       → call_or_entry (seen_of y) p l.interval kind ≡ begun_by program policy p r rs kind
   begun_is n inner signs l [] r [] at seen ends (block.Function f) e = absurd (not_process f ends.0 (sym e ∙ ends.1))
     where
-      function_if : BlockKind → Bool
-      function_if (block.Function f) = true
-      function_if k = false
-
       not_process : (f b : ℕ) → block.Function f ≡ block.Process b → ⊥
       not_process f b e = absurd (cc)
   begun_is n inner signs l [] r (q ∷ rs) at seen ends (block.Function f) e = absurd seen.1

@@ -9,6 +9,7 @@ use Rattle.ppd_ast.specs.declared.program.Kind.TheVariants as kind
 use Rattle.ppd_ast.specs.declared.program.Program.{Program}
 use Rattle.ppd_ast.specs.declared.status.Status.{Status}
 use Rattle.ppd_ast.specs.Lookups.{kind_of}
+use Rattle.ppd_ast.specs.declared.limits.TheConstants.{MOST_CALLS}
 use Rattle.ppd_sem.specs.declared.asking.Pause.TheVariants.{Wants, Traps}
 use Rattle.ppd_sem.specs.declared.proc.Need.{Need}
 use Rattle.ppd_sem.specs.declared.proc.Need.TheVariants as need
@@ -43,7 +44,7 @@ module _ (program : Program) (plan : Plan) (t : Todo) (s : Proc) where
 
   by_deed : (d : Deed) → Opens (need_of_deed program plan t.stmt s d)
   by_deed leave = by_leaving (block_of plan (block.Loop t.stmt))
-  by_deed (invoke f values into) = by_call (nat_lt 64 (s.below + length s.frames)) f _ _ tt
+  by_deed (invoke f values into) = by_call (nat_lt MOST_CALLS (s.below + length s.frames)) f _ _ tt
   by_deed (send c v) = by_send (capacity_of program c) c v
   by_deed d = tt
 

@@ -1,6 +1,6 @@
 -- Of a valid program and the plan of a policy: block loops do not stand in one another, what is called without an
 -- interval calls nothing, and what blocks are the code of.
-use Rattle.std.proofs.Common.{◌≡◌, ℕ, zero, suc, ◌≤◌, Bool, true, false, ◌⊎◌, List, Option, Some, None, refl, ap, sym, ◌∙◌, arith, inl, inr, true≢false}
+use Rattle.std.proofs.Common.{◌-◌, ◌≡◌, ℕ, zero, suc, ◌≤◌, Bool, true, false, ◌⊎◌, List, Option, Some, None, refl, ap, sym, ◌∙◌, arith, inl, inr, true≢false}
 use Rattle.std.specs.Prelude.{◌&&◌, is_some, nat_eq, nat_lt, nat_le, not, slice_get}
 use Rattle.std.proofs.lemmas.Bool.{and_parts, both_ways, cases_Bool, cases_eq, eqb-true, or_cases, or_left, or_right}
 use Rattle.std.proofs.lemmas.Option.{none-some}
@@ -121,14 +121,14 @@ module _ (program : Program) (policy : Policy) where
     | inr out ↦ absurd (nested out)
   ]
     where
-      nested : IsOut program 63 l w → ⊥
+      nested : IsOut program (MOST_NESTING - 1) l w → ⊥
       nested o =
           let inner : BlockLoop program w = block_loop_is w is_w in
           let outer : BlockLoop program l = block_loop_is l is_l in
           let same : o.stmt ≡ inner.stmt = some (sym o.there ∙ inner.there) in
           let parent : inner.stmt.parent ≡ Some o.outer = ap (λ (s : Stmt). s.parent) (sym same) ∙ o.parent in
           let round : in_while MOST_NESTING program.stmts (Some o.outer) ≡ true =
-          stands_while 63 64 program.stmts l outer.stmt outer.there outer.loops (omega arith) (Some o.outer) o.on in
+          stands_while (MOST_NESTING - 1) MOST_NESTING program.stmts l outer.stmt outer.there outer.loops (omega arith) (Some o.outer) o.on in
           both_ways (in_while MOST_NESTING program.stmts inner.stmt.parent) inner.outermost
           (ap (in_while MOST_NESTING program.stmts) parent ∙ round)
 

@@ -10,6 +10,7 @@ use Rattle.ppd_ast.specs.declared.plan.Start.TheVariants as start
 use Rattle.ppd_ast.specs.declared.program.Program.{Program}
 use Rattle.ppd_ast.specs.declared.status.Trap.TheVariants.{Depth}
 use Rattle.ppd_ast.specs.Lookups.{kind_of, top_of_body, body_of}
+use Rattle.ppd_ast.specs.declared.limits.TheConstants.{MOST_CALLS}
 use Rattle.ppd_beside.specs.Beside.{IsCallOf}
 use Rattle.ppd_sem.specs.declared.asking.Pause.TheVariants.{Wants, Traps}
 use Rattle.ppd_sem.specs.declared.proc.Answer.{Answer}
@@ -135,7 +136,7 @@ module _ (program : Program) (plan : Plan) (valid : IsValid program) (a : Answer
         (listed_inside program t.stmt (kind_of program t.stmt) stmts (leads program t.stmt valid) h.0, g.1) refl refl)
     by_deed leave left at h g = leaving (block_of plan (block.Loop t.stmt)) left at refl h
     by_deed (invoke f values into) left at h g = calling
-        (nat_lt 64 (s.below + length s.frames)) f values into left at h g.1.0
+        (nat_lt MOST_CALLS (s.below + length s.frames)) f values into left at h g.1.0
     by_deed (back value) left at h g =
         moved (need.Back (block_of plan (block.Function (top_body s.frames))) (call_unit plan (top_call s.frames)))
         (Ok (back value, left)) at

@@ -5,7 +5,6 @@ use Rattle.std.specs.Prelude.{is_some, nat_eq, option_to_list}
 use Rattle.std.proofs.Math.Bool.{and-false}
 use Rattle.ppd_ast.specs.declared.plan.Plan.{Plan}
 use Rattle.ppd_ast.specs.declared.program.Body.{Body}
-use Rattle.ppd_ast.specs.declared.program.Kind.TheVariants as kind
 use Rattle.ppd_ast.specs.declared.program.Program.{Program}
 use Rattle.ppd_ast.specs.Lookups.{kind_of, params_of_body}
 use Rattle.ppd_blocks.specs.Blocks.{params_of}

@@ -1,5 +1,5 @@
 -- What is seen of a level's items, and where its interval stands in the one outside.
-use Rattle.std.proofs.Common.{◌≡◌, ℕ, ◌+◌, ◌-◌, ◌<◌, false, List, [], ◌∷◌, ◌++◌, Some, refl, ap, subst, ◌∙◌, arith, length, append_assoc, eq-eqb, if◌then◌else◌}
+use Rattle.std.proofs.Common.{◌≡◌, ℕ, ◌+◌, ◌-◌, false, List, [], ◌∷◌, ◌++◌, Some, refl, ap, subst, ◌∙◌, arith, length, append_assoc, eq-eqb}
 use Rattle.std.specs.List.{flat_map, position_from}
 use Rattle.std.specs.Prelude.{slice_get, take, unwrap_or}
 use Rattle.std.proofs.lemmas.Iterator.Adapters.{position_from-zero}

@@ -18,9 +18,9 @@ pub fn loops_left_are_found()
     ensures { LoopsLeftAreFound }
 {}
 
-/// Law: in every schedule of a valid program, with the plan of a policy, the search within a process finds for each item
-/// the origins of its local reads and of its control, and all edges of an interval, as the model has them: with this all
-/// edges of an item are found.
+/// Law: in every schedule of a valid program, with the plan of a policy, the search within a process finds for each
+/// item the origins of its local reads and of its control, and all edges of an interval, as the model has them: with
+/// this all edges of an item are found.
 pub fn all_own_parts_are_found()
     ensures { AllOwnPartsAreFound }
 {}

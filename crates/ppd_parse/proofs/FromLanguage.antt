@@ -13,7 +13,7 @@ use Rattle.ppd_parse.specs.Language.{Side, source_side, shared_side, shared_item
 use Rattle.ppd_parse.proofs.Usual.{declarations, expressions}
 use Rattle.ppd_parse.proofs.Given.{Gives, here, token_here, token_below, one, cons, cons_two, rows_as, free, plain_by, nothing_by, node_by, Next, next_kind, next_left, next_right, is_not, other_kind, is_opening, binds, binds_or, binds_operator, goes, Calm}
 use Rattle.ppd_parse.proofs.Given as G
-use Rattle.ppd_parse.proofs.Ways.{scalar, element, PlaceWays, place_ways, UnaryWays, place_way, other_way, unary_gives, Ways, TierWays, ended, below_ways, first_operand, next_operand, ExprWays, expr_ways, expr_gives, value_gives, CallWays, call_ways, call_gives, call_statement, ChangeWays, change_ways, set_to, add_to, subtract_from, up, down, AnswerWays, received, change_gives, change_statement, answer_statement}
+use Rattle.ppd_parse.proofs.Ways.{scalar, element, PlaceWays, place_ways, UnaryWays, place_way, other_way, unary_gives, TierWays, ended, below_ways, first_operand, next_operand, ExprWays, expr_ways, expr_gives, value_gives, CallWays, call_ways, call_gives, call_statement, ChangeWays, change_ways, set_to, add_to, subtract_from, up, down, AnswerWays, received, change_gives, change_statement, answer_statement}
 use Rattle.ppd_parse.proofs.Ways as W
 use Rattle.ppd_parse.proofs.Seen.{begins_start, item_goes, Goal, below_goal, Seen, one_token, one_sign, one_side, pair, first, second, no_more, one_more, missing, there, not_next, deep, inner, tree, seen}
 use Rattle.ppd_parse.specs.Stack.{is_comma, is_assign}

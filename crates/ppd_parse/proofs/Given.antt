@@ -12,7 +12,7 @@ use Rattle.ppd_parse.specs.declared.symbol.At.{At}
 use Rattle.ppd_parse.specs.declared.symbol.Part.{Part}
 use Rattle.ppd_parse.specs.declared.symbol.Part.TheVariants as P
 use Rattle.ppd_parse.specs.declared.symbol.Want.TheVariants.{Get, Close}
-use Rattle.ppd_parse.specs.Grammar.{Shape, leaf, node, forest, close, Marked, kind_at, is_operator, deeper, inside, Production, parts, Stands, MayStand, want_in, wants_in, base_in, Reads, ReadsAll, exact, wrap, by, nothing, next}
+use Rattle.ppd_parse.specs.Grammar.{Shape, leaf, node, forest, close, Marked, kind_at, is_operator, deeper, Production, parts, Stands, MayStand, want_in, wants_in, base_in, Reads, ReadsAll, exact, wrap, by, nothing, next}
 use Rattle.ppd_parse.proofs.Usual.{close_front}
 use Rattle.ppd_parse.proofs.Unfolded.{join}
 
@@ -30,9 +30,6 @@ here g = given g
 
 pub below : {y : Symbol} {a : At} {ts rest : List Marked} {t : List Shape} → Gives y (deeper a) ts t rest → Given a (P.Deeper y) ts t rest
 below g = given g
-
-pub within : {y : Symbol} {a : At} {ts rest : List Marked} {t : List Shape} → Gives y (inside a) ts t rest → Given a (P.Inside y) ts t rest
-within g = given g
 
 pub token_here : {k : Kind} {a : At} {x : Marked} {rest : List Marked} → kind_at x ≡ k → x.at ≡ a → Given a (P.Here (S.Exact k)) (x ∷ rest) (leaf x.token ∷ []) rest
 token_here e m = given (λ s b. exact e m)

@@ -1,5 +1,5 @@
 -- What holds of the nodes that the parser made still holds with a node more.
-use Rattle.std.proofs.Common.{◌≡◌, ◌≢◌, ◌<◌, ◌≤◌, ℕ, zero, suc, ◌+◌, ◌⊎◌, inl, inr, Bool, cond, nat_eq, List, [], ◌∷◌, ◌++◌, length, take, drop, get_or, Option, Some, None, refl, sym, ◌∙◌, ap, subst, arith}
+use Rattle.std.proofs.Common.{◌≡◌, ◌≢◌, ◌<◌, ◌≤◌, ℕ, zero, suc, ◌+◌, ◌⊎◌, inl, inr, nat_eq, List, [], ◌∷◌, ◌++◌, length, take, drop, get_or, Option, Some, None, refl, sym, ◌∙◌, ap, subst, arith}
 use Rattle.std.specs.List.{count_by, sum_by}
 use Rattle.std.proofs.lemmas.Bool.Decides.{nat_tests}
 use Rattle.std.proofs.lemmas.List.{append-nil, length-append, take-append-drop, map-append, get_or_append_left, get_or_push}
@@ -68,9 +68,6 @@ module _ (ns : List Growth) (n : Growth) where
       go (inr same) = subst (P k) (sym (get_or_push ns n d k (sym same))) (subst (λ j. P j n) (sym same) p)
 
   module _ (roots : List ℕ) (b : ℕ) (le : b ≤ length roots) (grown : IsGrown ns roots) (leafy : IsLeafy n) (kids : n.children.items ≡ drop b roots) where
-    more : List Growth
-    more = ns ++ n ∷ []
-
     low : AreBelow (length ns) (take b roots)
     low = All-take (λ i. i < length ns) b roots grown.0
 
@@ -133,12 +130,6 @@ pub grown_add : (ns : List Growth) (n : Growth) (roots : List ℕ) (b : ℕ) {ms
 grown_add ns n roots b {ms} {cut} {js} {k} grown le leafy kids em ec ej ek =
     let tail : js ≡ take b roots ++ length ns ∷ [] = ej ∙ (ap (λ u. u ++ k ∷ []) ec ∙ ap (λ i. take b roots ++ i ∷ []) ek) in
     subst (λ (u : List Growth). IsGrown u js) (sym em) (subst (IsGrown (ns ++ n ∷ [])) (sym tail) (grown_after ns n roots b le grown leafy kids))
-
-pub grown_none : (ms : List Growth) (js : List ℕ) → ms ≡ [] → js ≡ [] → IsGrown ms js
-grown_none ms js em ej = subst (λ (u : List Growth). IsGrown u js) (sym em) (subst (IsGrown []) (sym ej) none)
-  where
-    none : IsGrown [] []
-    none = (λ k d lt. absurd (omega arith), λ k d lt. absurd (omega arith), λ c lt. absurd (omega arith), λ k d lt. absurd (omega arith), λ m w. refl)
 
 -- the nodes are as many as those of the trees
 pub counted_size : (ns : List Growth) (roots : List ℕ) → AreCounted ns roots → length ns ≡ size_of (shapes_of ns roots)

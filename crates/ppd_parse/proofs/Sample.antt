@@ -212,9 +212,6 @@ operator_for L.Equal = (K.EqualMark, refl, λ ws a b. refl)
 operator_for L.And = (K.AndMark, refl, λ ws a b. refl)
 operator_for L.Or = (K.OrMark, refl, λ ws a b. refl)
 
-lead_exact : (k : Kind) (ws : List Want) (a : At) (b : ℕ) → k ≡ lead (Get (S.Exact k) a b ∷ ws)
-lead_exact k ws a b = refl
-
 abbrev Given : (y : Symbol) → Choice y → List Want → At → ℕ → List Shape → Type 0
 Given y refused ws a b s = Unit {0}
 Given y (chosen p) ws a b s = Completion (Get y a b ∷ ws) s

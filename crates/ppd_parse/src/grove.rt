@@ -8,7 +8,7 @@ use crate::growth::Grove;
 use crate::node::Growth;
 use crate::symbol::Rule;
 use ppd_lex::{Token, TokenKind};
-use std::alloc::{AllocError, AllocFailed, Global};
+use std::alloc::{AllocError, Global};
 
 // A copy of what a token is.
 fn copy_kind(kind: &TokenKind) -> Result<TokenKind, AllocError>

@@ -1,8 +1,8 @@
 // The parser's way through the tokens.
-ghost use Rattle.std.specs.Prelude.{◌≡◌, ◌<◌, ◌≤◌, ◌+◌, ◌*◌, ◌^◌, ℕ, [], ◌∷◌, length, IfOk, IfErr, OnOk, reverse};
+ghost use Rattle.std.specs.Prelude.{◌≡◌, ◌<◌, ◌≤◌, ◌+◌, ◌*◌, ◌^◌, [], ◌∷◌, length, IfOk, IfErr, OnOk, reverse};
 ghost use Rattle.ppd_lex.specs.Formed.{EndOnce};
 ghost use Rattle.ppd_parse.specs.Answer.{IsParseOf};
-ghost use Rattle.ppd_parse.specs.Grammar.{Marked, outside};
+ghost use Rattle.ppd_parse.specs.Grammar.{outside};
 ghost use Rattle.ppd_parse.specs.Limits.{count_with, is_sign, EndsAs, IsRefused, IsTree, Stepped};
 ghost use Rattle.ppd_parse.specs.Machine.{state_of};
 ghost use Rattle.ppd_parse.specs.Rank.{rank};

@@ -1,13 +1,10 @@
 -- What the replay of one interval gives of a past.
-use Rattle.std.proofs.Common.{◌≡◌, ℕ, zero, suc, ◌+◌, ◌≤◌, List, [], ◌∷◌, Option, Some, None, Ok, Err, refl, ap, sym, ◌∙◌, arith, length, map, get_or}
+use Rattle.std.proofs.Common.{◌≡◌, ℕ, zero, suc, ◌+◌, ◌≤◌, List, [], ◌∷◌, Option, Some, None, Ok, refl, ap, sym, ◌∙◌, arith, length, map, get_or}
 use Rattle.std.specs.Prelude.{slice_get}
 use Rattle.std.proofs.lemmas.List.{length-map}
 use Rattle.std.proofs.lemmas.Option.{none-some, same_Some, slice_get_past}
 use Rattle.ppd_ast.specs.declared.plan.Plan.{Plan}
 use Rattle.ppd_emul.specs.declared.trace.BlockTrace.{BlockTrace}
-use Rattle.ppd_emul.specs.declared.trace.EmulError.TheVariants.{Diverged}
-use Rattle.ppd_emul.specs.declared.wanted.Found.{Found}
-use Rattle.ppd_emul.specs.declared.wanted.Wanted.{Wanted}
 use Rattle.ppd_emul.specs.Replay.{Replayed, replay}
 use Rattle.ppd_entry.specs.declared.entry.Entry.{Entry}
 use Rattle.ppd_entry.specs.IntervalLogs.{Indexed, IntervalLog, indexed, interval_log, log_in}
@@ -17,7 +14,6 @@ use Rattle.ppd_index.specs.Indexes.{AreIntervals, IsIndexOf, rows_at}
 use Rattle.ppd_index.specs.Tables.{indexed_of}
 use Rattle.ppd_model.specs.Bounds.{AreEach}
 use Rattle.ppd_model.specs.declared.flow.Item.{Item}
-use Rattle.ppd_past.specs.declared.flow_error.FlowError.TheVariants as flow_error
 use Rattle.ppd_past.specs.declared.past.Past.{Past}
 use Rattle.ppd_past.specs.ByReplays.{IsFoundBy, failure_or}
 use Rattle.ppd_past.specs.SeenBy.{failed_in, failure_by, failure_of, items_by, items_in, steps_in, steps_of}
@@ -81,9 +77,3 @@ module _ (past : Past) (p k : ℕ) where
         let steps : steps_in past p k ≡ (replayed log).steps = ap (λ o. steps_of (in_past o)) is in
         let fine : failed_in past p k ≡ None = ap (λ o. failure_of (in_past o)) is ∙ ap failure_by (sym answer) in
         (ap (λ o. failure_or p o None) fine, ap (λ (xs : List Item). Ok xs) items, omega arith)
-
-    pub given_failure : (e n m : ℕ) (w : Wanted) (f : Found) → Err (Diverged e w f) ≡ (replayed log).answer
-        → IsFoundBy {A = List Item} past ((p, k) ∷ []) (Ok (items_in past p k)) n m (Err (flow_error.Diverged p e))
-    given_failure e n m w f answer =
-        let failed : failed_in past p k ≡ Some e = ap (λ o. failure_of (in_past o)) is ∙ ap failure_by (sym answer) in
-        ap (λ o. failure_or p o None) failed

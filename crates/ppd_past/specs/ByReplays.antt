@@ -38,7 +38,8 @@ abbrev pub IsFoundBy : {A : Type 0} → Past → List (ℕ × ℕ) → Result A 
 IsFoundBy past ms answer before after (Ok x) =
     (first_failed_in past ms ≡ None) × (answer ≡ Ok x) × (after ≡ before + cost past ms)
 IsFoundBy past ms answer before after (Err NoEvent) = (first_failed_in past ms ≡ None) × (answer ≡ Err NoEvent)
-IsFoundBy past ms answer before after (Err (Sets p n c)) = (first_failed_in past ms ≡ None) × (answer ≡ Err (Sets p n c))
+IsFoundBy past ms answer before after (Err (Sets p n c)) = (first_failed_in past ms ≡ None)
+    × (answer ≡ Err (Sets p n c))
 IsFoundBy past ms answer before after (Err (Diverged p n)) =
     first_failed_in past ms ≡ Some (record { process = p; entry = n })
 IsFoundBy past ms answer before after (Err Memory) = ⊤

@@ -11,6 +11,7 @@ use Rattle.ppd_ast.specs.declared.program.Kind.{Kind}
 use Rattle.ppd_ast.specs.declared.program.Program.{Program}
 use Rattle.ppd_ast.specs.declared.status.Trap.TheVariants as trap
 use Rattle.ppd_ast.specs.Lookups.{kind_of, top_of_body, body_of}
+use Rattle.ppd_ast.specs.declared.limits.TheConstants.{MOST_CALLS}
 use Rattle.ppd_step_laws.proofs.Course.Deeds.{IsLoopDeed}
 use Rattle.ppd_model.proofs.Deeds.{AskedOf as DoesIf, asked_of as does}
 use Rattle.ppd_sem.specs.declared.asking.Pause.TheVariants.{Wants, Traps}
@@ -251,7 +252,7 @@ module _ (program : Program) (plan : Plan) (p : ℕ) (v : IsValid program) (a : 
         loop : is_while (kind_of program t.stmt) ≡ true
         loop = subst (DoesIf (kind_of program t.stmt)) at (does program.exprs (kind_of program t.stmt)
             (top_cells s.frames) s.answers)
-    by_deed (invoke f values into) left at h = calling (nat_lt 64 (s.below + length s.frames)) f values into left at h
+    by_deed (invoke f values into) left at h = calling (nat_lt MOST_CALLS (s.below + length s.frames)) f values into left at h
     by_deed (back value) left at h = returning_back value left at h.0
     by_deed (take x) left at h = plain (take x) left at (λ body z. z) (λ z. z) h refl
     by_deed (give x) left at h = plain (give x) left at (λ body z. z) (λ z. z) h refl

@@ -1,5 +1,5 @@
 -- Edges that are alike have the same races; so have a graph and its logs.
-use Rattle.std.proofs.Common.{◌≡◌, ◌↔◌, ℕ, zero, suc, ◌+◌, ◌-◌, ◌<◌, ◌≤◌, List, [], ◌∷◌, ◌++◌, false, not, refl, ap, ap₂, sym, subst, ◌∙◌, arith, length, map, filter, get_or, ◌&&◌, ◌||◌}
+use Rattle.std.proofs.Common.{◌≡◌, ℕ, zero, suc, ◌+◌, ◌-◌, ◌<◌, ◌≤◌, List, [], ◌∷◌, ◌++◌, false, not, refl, ap, ap₂, sym, subst, ◌∙◌, arith, length, map, filter, get_or, ◌&&◌, ◌||◌}
 use Rattle.std.specs.Prelude.{nat_eq, if◌then◌else◌, ⊤}
 use Rattle.std.specs.List.{flat_map, range_with_len}
 use Rattle.std.proofs.lemmas.Bool.{and_left}

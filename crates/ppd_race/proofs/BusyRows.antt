@@ -6,6 +6,7 @@ use Rattle.std.proofs.lemmas.Bool.{cases_eq}
 use Rattle.std.proofs.lemmas.List.{drop_more}
 use Rattle.ppd_ast.specs.Members.{has, those, RisesFrom, AreBelow}
 use Rattle.ppd_ast.proofs.Those.{rises_filter, nothing_more}
+use Rattle.ppd_ast.specs.declared.limits.TheConstants.{MOST_SHARED_CELLS}
 use Rattle.ppd_model.specs.declared.graph.EdgeId.{EdgeId}
 use Rattle.ppd_model.specs.HappenedBefore.{edge}
 use Rattle.ppd_model.proofs.AccessSets.{or-assoc}
@@ -107,12 +108,12 @@ rows_more sets n rows after row seen own lt long grows busy is at before = (ap l
 
 -- ---- what stands in a row
 
-pub not_here : (x c : ℕ) (b : Bool) → 1024 ≤ x → c < 1024 → b ≡ (nat_eq x c || b)
+pub not_here : (x c : ℕ) (b : Bool) → MOST_SHARED_CELLS ≤ x → c < MOST_SHARED_CELLS → b ≡ (nat_eq x c || b)
 not_here x c b le lt = ap (λ e. e || b) (sym (ne_eqb x c (λ e. absurd (omega (arith, e, le, lt)))))
 
 -- one more of the cells is in the set
-pub set_more : (xs : List ℕ) (i d : ℕ) (s s' : List ℕ) → i < length xs → ((c : ℕ) → c < 1024 → has s' c ≡ (nat_eq (get_or xs i d) c || has s c)) → ((c : ℕ) → c < 1024 → (has s c || has (drop i xs) c) ≡ has xs c)
-    → (c : ℕ) → c < 1024 → (has s' c || has (drop (i + 1) xs) c) ≡ has xs c
+pub set_more : (xs : List ℕ) (i d : ℕ) (s s' : List ℕ) → i < length xs → ((c : ℕ) → c < MOST_SHARED_CELLS → has s' c ≡ (nat_eq (get_or xs i d) c || has s c)) → ((c : ℕ) → c < MOST_SHARED_CELLS → (has s c || has (drop i xs) c) ≡ has xs c)
+    → (c : ℕ) → c < MOST_SHARED_CELLS → (has s' c || has (drop (i + 1) xs) c) ≡ has xs c
 set_more xs i d s s' lt puts inv c less =
     ap (λ b. b || has (drop (i + 1) xs) c) (puts c less) ∙ or-assoc (nat_eq (get_or xs i d) c) (has s c) (has (drop (i + 1) xs) c)
     ∙ ap (λ ys. has s c || has ys c) (sym (drop_more xs i d lt)) ∙ inv c less
@@ -148,10 +149,10 @@ names_rise q own row busy = subst (RisesFrom 0) (sym busy.names) (rises_filter (
 
 -- ---- sets below a number
 
-pub none_below : AreBelow 1024 []
+pub none_below : AreBelow MOST_SHARED_CELLS []
 none_below c t = absurd (true≢false (sym t))
 
-pub one_below : (cell : ℕ) (old new : List ℕ) → cell < 1024 → ((c : ℕ) → has new c ≡ (nat_eq cell c || has old c)) → AreBelow 1024 old → AreBelow 1024 new
+pub one_below : (cell : ℕ) (old new : List ℕ) → cell < MOST_SHARED_CELLS → ((c : ℕ) → has new c ≡ (nat_eq cell c || has old c)) → AreBelow MOST_SHARED_CELLS old → AreBelow MOST_SHARED_CELLS new
 one_below cell old new lt puts below c t = elim (cases_eq cell c) [
   | inl same ↦ omega (arith, same, lt)
   | inr other ↦ below c (ap (λ b. b || has old c) (sym (ne_eqb cell c other)) ∙ sym (puts c) ∙ t)

@@ -20,10 +20,6 @@ pub flat_append : {A B : Type 0} (f : A → List B) (xs ys : List A) → flat_ma
 flat_append f [] ys = refl
 flat_append f (x ∷ xs) ys = ap (λ r. f x ++ r) (flat_append f xs ys) ∙ sym (append_assoc (f x) (flat_map f xs) (flat_map f ys))
 
-flat_flat : {A B C : Type 0} (f : B → List C) (g : A → List B) (xs : List A) → flat_map f (flat_map g xs) ≡ flat_map (λ x. flat_map f (g x)) xs
-flat_flat f g [] = refl
-flat_flat f g (x ∷ xs) = flat_append f (g x) (flat_map g xs) ∙ ap (λ r. flat_map f (g x) ++ r) (flat_flat f g xs)
-
 pub flat_of_map : {A B C : Type 0} (f : B → List C) (g : A → B) (xs : List A) → flat_map f (map g xs) ≡ flat_map (λ x. f (g x)) xs
 flat_of_map f g [] = refl
 flat_of_map f g (x ∷ xs) = ap (λ r. f (g x) ++ r) (flat_of_map f g xs)
@@ -50,10 +46,6 @@ filter_flat test f [] = refl
 filter_flat test f (x ∷ xs) = filter_append test (f x) (flat_map f xs) ∙ ap (λ r. filter test (f x) ++ r) (filter_flat test f xs)
 
 -- ---- pairs
-
--- those of one group, none of which pairs with another of it, and then the later ones
-pairs_group : {A B : Type 0} (f : A → A → List B) (xs later : List A) → ((a : A) → flat_map (f a) xs ≡ []) → ((a : A) → flat_map (f a) (xs ++ later) ≡ flat_map (f a) later)
-pairs_group f xs later none a = flat_append (f a) xs later ∙ ap (λ r. r ++ flat_map (f a) later) (none a)
 
 module _ (e : Edges) where
   f : EdgeId → EdgeId → List Race

@@ -5,6 +5,7 @@ use Rattle.std.specs.List.{flat_map, range_with_len}
 use Rattle.std.proofs.lemmas.Bool.{and_left, and_right, cases_eq, or_parts}
 use Rattle.ppd_ast.specs.Members.{has, RisesFrom, AreBelow}
 use Rattle.ppd_ast.proofs.Members.{has_first}
+use Rattle.ppd_ast.specs.declared.limits.TheConstants.{MOST_SHARED_CELLS}
 use Rattle.ppd_model.specs.declared.graph.EdgeId.{EdgeId}
 use Rattle.ppd_model.specs.declared.graph.Race.{Race}
 use Rattle.ppd_model.specs.declared.graph.RaceKind.{RaceKind}
@@ -15,7 +16,7 @@ use Rattle.ppd_graph.specs.declared.sync_graph.SyncGraph.{SyncGraph}
 use Rattle.ppd_graph.specs.Graphs.{is_before_by, reads_in, sets_at, writes_in}
 use Rattle.ppd_race.specs.declared.busy.Busy.{Busy}
 use Rattle.ppd_race.specs.Busy.{IsBusyOf, is_busy, is_none, race_if, race_of, races_all, races_at, races_between}
-use Rattle.ppd_race.specs.Races.{Edges, are_apart, candidates_at, edges_of_graph, is_race_in, most_cells}
+use Rattle.ppd_race.specs.Races.{are_apart, candidates_at, edges_of_graph, is_race_in, most_cells}
 use Rattle.ppd_race.proofs.ByPairs.{filter_flat, flat_none, none_if_ordered}
 
 flat_range_same : {A : Type 0} (f g : ℕ → List A) (a n m : ℕ) → a + n ≡ m → ((c : ℕ) → c < m → f c ≡ g c) → flat_map f (range_with_len a n) ≡ flat_map g (range_with_len a n)
@@ -72,18 +73,15 @@ with_true : (x b : Bool) → b ≡ true → (x && b) ≡ x
 with_true true b e = e
 with_true false b e = refl
 
-under : (c : ℕ) → c < most_cells → c < 1024
+under : (c : ℕ) → c < most_cells → c < MOST_SHARED_CELLS
 unfolding most_cells
 under c h = h
 
-below_most : (xs : List ℕ) → AreBelow 1024 xs → AreBelow most_cells xs
+below_most : (xs : List ℕ) → AreBelow MOST_SHARED_CELLS xs → AreBelow most_cells xs
 unfolding most_cells
 below_most xs h = h
 
 module _ (g : SyncGraph) where
-  graph_edges : Edges
-  graph_edges = edges_of_graph g
-
   cell_races : (a b : Busy) (c : ℕ) → c < most_cells → IsBusyOf a.edge (sets_at g.edges a.edge) a → IsBusyOf b.edge (sets_at g.edges b.edge) b → are_apart (edges_of_graph g) a.edge b.edge ≡ true
       → filter (is_race_in (edges_of_graph g)) (map (race a.edge.process a.edge.edge b.edge.process b.edge.edge c) kinds) ≡ races_at a b c
   cell_races a b c lt x y apart =

@@ -104,10 +104,6 @@ not_true : (b : Bool) → not b ≡ true → b ≡ false
 not_true true h = absurd (true≢false (sym h))
 not_true false h = refl
 
-not_false : (b : Bool) → not b ≡ false → b ≡ true
-not_false true h = refl
-not_false false h = absurd (true≢false h)
-
 module _ (g : SyncGraph) (p : ℕ) (list : List Accessor) (b : EdgeId) (rising : IsRising g) (order : AreInOrder g p list) (elsewhere : IsElsewhere g p b) where
   is_before : (a : EdgeId) → a.process ≡ p → is_before_by g a b ≡ nat_lt a.edge (count_at g.times b.process b.edge p)
   is_before a e =

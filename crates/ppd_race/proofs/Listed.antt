@@ -4,6 +4,7 @@ use Rattle.std.specs.Prelude.{nat_eq, if◌then◌else◌, ⊤}
 use Rattle.std.proofs.lemmas.Bool.{cases_eq}
 use Rattle.std.proofs.lemmas.List.{drop_all, drop_more, append_assoc, append-nil}
 use Rattle.ppd_ast.specs.Members.{has, RisesFrom}
+use Rattle.ppd_ast.specs.declared.limits.TheConstants.{MOST_SHARED_CELLS}
 use Rattle.ppd_graph.specs.declared.sync_graph.SyncGraph.{SyncGraph}
 use Rattle.ppd_graph.specs.Graphs.{edge_count}
 use Rattle.ppd_race.specs.declared.busy.Accessor.{Accessor}
@@ -97,17 +98,17 @@ pub writes_listed : (a : Busy) (one : Accessor) (c : ℕ) → has a.cells c ≡ 
 writes_listed a one c e = ap (λ b. if b then one ∷ [] else []) (ap (λ b. b && has a.writes c) e ∙ both_right (has a.reads c) (has a.writes c))
 
 -- one more edge at each cell
-pub edge_listed : (test : ℕ → Busy → Bool) (own : List Busy) (i : ℕ) (a : Busy) (now new : List (List Accessor)) (part : ℕ → List Accessor) → i < length own → a ≡ get_or own i a → length now ≡ 1024 → GrowsBy part now new
+pub edge_listed : (test : ℕ → Busy → Bool) (own : List Busy) (i : ℕ) (a : Busy) (now new : List (List Accessor)) (part : ℕ → List Accessor) → i < length own → a ≡ get_or own i a → length now ≡ MOST_SHARED_CELLS → GrowsBy part now new
     → ((c : ℕ) → part c ≡ (if test c a then accessor i a ∷ [] else []))
-    → ((c : ℕ) → c < 1024 → get_or now c [] ++ accessors_from i (test c) (drop i own) ≡ accessors_from 0 (test c) own)
-    → (c : ℕ) → c < 1024 → get_or new c [] ++ accessors_from (i + 1) (test c) (drop (i + 1) own) ≡ accessors_from 0 (test c) own
+    → ((c : ℕ) → c < MOST_SHARED_CELLS → get_or now c [] ++ accessors_from i (test c) (drop i own) ≡ accessors_from 0 (test c) own)
+    → (c : ℕ) → c < MOST_SHARED_CELLS → get_or new c [] ++ accessors_from (i + 1) (test c) (drop (i + 1) own) ≡ accessors_from 0 (test c) own
 edge_listed test own i a now new part lt is long grows parts h c less =
     ap (λ r. r ++ accessors_from (i + 1) (test c) (drop (i + 1) own)) (grows.at c (subst (λ n. c < n) (sym long) less) ∙ ap (λ r. get_or now c [] ++ r) (parts c))
     ∙ append_assoc (get_or now c []) (if test c a then accessor i a ∷ [] else []) (accessors_from (i + 1) (test c) (drop (i + 1) own))
     ∙ ap (λ ys. get_or now c [] ++ accessors_from i (test c) ys) (ap (λ x. x ∷ drop (i + 1) own) is ∙ sym (drop_more own i a lt)) ∙ h c less
 
-pub edges_listed : (test : ℕ → Busy → Bool) (own : List Busy) (i : ℕ) (now : List (List Accessor)) → length own ≤ i → ((c : ℕ) → c < 1024 → get_or now c [] ++ accessors_from i (test c) (drop i own) ≡ accessors_from 0 (test c) own)
-    → (c : ℕ) → c < 1024 → get_or now c [] ≡ accessors_from 0 (test c) own
+pub edges_listed : (test : ℕ → Busy → Bool) (own : List Busy) (i : ℕ) (now : List (List Accessor)) → length own ≤ i → ((c : ℕ) → c < MOST_SHARED_CELLS → get_or now c [] ++ accessors_from i (test c) (drop i own) ≡ accessors_from 0 (test c) own)
+    → (c : ℕ) → c < MOST_SHARED_CELLS → get_or now c [] ≡ accessors_from 0 (test c) own
 edges_listed test own i now past h c less = sym (append-nil (get_or now c [])) ∙ ap (λ ys. get_or now c [] ++ accessors_from i (test c) ys) (sym (drop_all i own past)) ∙ h c less
 
 -- ---- they are edges of the process, in order

@@ -6,7 +6,8 @@ use Rattle.std.proofs.lemmas.Bool.{cond-true, cond-false, and_parts, cases_lt, c
 use Rattle.std.proofs.lemmas.List.{append_assoc, append-nil}
 use Rattle.ppd_ast.specs.Members.{has, those, RisesFrom, AreBelow}
 use Rattle.ppd_ast.proofs.Those.{rises_filter}
-use Rattle.ppd_race.specs.Union.{HasBelow, IsUnion, do_rise, least_of, left_after, push_when}
+use Rattle.ppd_ast.specs.declared.limits.TheConstants.{MOST_SHARED_CELLS}
+use Rattle.ppd_race.specs.Union.{IsUnion, do_rise, least_of, left_after, push_when}
 use Rattle.ppd_race.proofs.BusyRows.{those_more}
 use Rattle.ppd_race.proofs.Cells.{not_below}
 
@@ -16,13 +17,13 @@ later_or : (b : Bool) → b ≡ false → (c : Bool) → (b || c) ≡ c
 later_or true e c = absurd (true≢false e)
 later_or false e c = refl
 
-pub rises_of : (n : ℕ) (cells : List ℕ) → IsTrue (do_rise n cells) → RisesFrom n cells × AreBelow 1024 cells
+pub rises_of : (n : ℕ) (cells : List ℕ) → IsTrue (do_rise n cells) → RisesFrom n cells × AreBelow MOST_SHARED_CELLS cells
 rises_of n [] h = (tt, λ c t. absurd (true≢false (sym t)))
 rises_of n (x ∷ xs) h =
-    let parts = and_parts (not (nat_lt x n) && nat_lt x 1024) (do_rise (x + 1) xs) h in
-    let both = and_parts (not (nat_lt x n)) (nat_lt x 1024) parts.0 in
+    let parts = and_parts (not (nat_lt x n) && nat_lt x MOST_SHARED_CELLS) (do_rise (x + 1) xs) h in
+    let both = and_parts (not (nat_lt x n)) (nat_lt x MOST_SHARED_CELLS) parts.0 in
     let low : n ≤ x = elim (cases_lt x n) [ inl lt ↦ absurd (true≢false (sym both.0 ∙ ap not (lt-ltb x n lt))) | inr le ↦ omega (arith, le) ] in
-    let high = ltb-true x 1024 both.1 in
+    let high = ltb-true x MOST_SHARED_CELLS both.1 in
     let rest = rises_of (x + 1) xs parts.1 in (
       (low, rest.0),
       λ c t. elim (cases_eq x c) [
@@ -237,22 +238,22 @@ above_range t a (suc n) c le = later (t a) (above_range t (a + 1) n c (omega (ar
     later true e = ap (λ s. s || has (filter t (range_with_len (a + 1) n)) c) (ne_eqb a c (λ k. omega (arith, k, le))) ∙ e
     later false e = e
 
-pub those_union : (test : ℕ → Bool) (cells : List ℕ) (n : ℕ) → n ≡ 1024 → cells ≡ those n test → ((c : ℕ) → 1024 ≤ c → test c ≡ false) → IsUnion test cells
+pub those_union : (test : ℕ → Bool) (cells : List ℕ) (n : ℕ) → n ≡ MOST_SHARED_CELLS → cells ≡ those n test → ((c : ℕ) → MOST_SHARED_CELLS ≤ c → test c ≡ false) → IsUnion test cells
 those_union test cells n end is high =
-    let whole : cells ≡ those 1024 test = is ∙ ap (λ k. those k test) end in
+    let whole : cells ≡ those MOST_SHARED_CELLS test = is ∙ ap (λ k. those k test) end in
     subst (IsUnion test) (sym whole) (record {
-      rises = rises_filter test 0 1024;
-      below = λ c t. elim (cases_lt c 1024) [ inl lt ↦ lt | inr le ↦ absurd (true≢false (sym t ∙ above_range test 0 1024 c (omega (arith, le)))) ];
-      has_all = λ c. elim (cases_lt c 1024) [
-        | inl lt ↦ inside_range test 0 1024 c (omega arith) (omega (arith, lt))
-        | inr le ↦ above_range test 0 1024 c (omega (arith, le)) ∙ sym (high c le)
+      rises = rises_filter test 0 MOST_SHARED_CELLS;
+      below = λ c t. elim (cases_lt c MOST_SHARED_CELLS) [ inl lt ↦ lt | inr le ↦ absurd (true≢false (sym t ∙ above_range test 0 MOST_SHARED_CELLS c (omega (arith, le)))) ];
+      has_all = λ c. elim (cases_lt c MOST_SHARED_CELLS) [
+        | inl lt ↦ inside_range test 0 MOST_SHARED_CELLS c (omega arith) (omega (arith, lt))
+        | inr le ↦ above_range test 0 MOST_SHARED_CELLS c (omega (arith, le)) ∙ sym (high c le)
       ];
     })
 
-pub none_high : (xs ys : List ℕ) → AreBelow 1024 xs → AreBelow 1024 ys → (c : ℕ) → 1024 ≤ c → (has xs c || has ys c) ≡ false
+pub none_high : (xs ys : List ℕ) → AreBelow MOST_SHARED_CELLS xs → AreBelow MOST_SHARED_CELLS ys → (c : ℕ) → MOST_SHARED_CELLS ≤ c → (has xs c || has ys c) ≡ false
 none_high xs ys h k c le = by (has xs c) (has ys c) (h c) (k c)
   where
-    by : (s t : Bool) → (IsTrue s → c < 1024) → (IsTrue t → c < 1024) → (s || t) ≡ false
+    by : (s t : Bool) → (IsTrue s → c < MOST_SHARED_CELLS) → (IsTrue t → c < MOST_SHARED_CELLS) → (s || t) ≡ false
     by true t f g = let lt = f refl in absurd (omega (arith, lt, le))
     by false true f g = let lt = g refl in absurd (omega (arith, lt, le))
     by false false f g = refl
@@ -265,15 +266,3 @@ one_more cells new test c b e grows is size =
     longer [] true = omega arith
     longer [] false = omega arith
     longer (x ∷ xs) b = let e = longer xs b in omega (arith, e)
-
--- ---- a set with the cells of a list
-
-pub same_union : (set list set' list' cells : List ℕ) → HasBelow set list → HasBelow set' list' → AreBelow 1024 list → AreBelow 1024 list' → IsUnion (λ c. has list c || has list' c) cells → IsUnion (λ c. has set c || has set' c) cells
-same_union set list set' list' cells h k low low' u = record {
-  rises = u.rises;
-  below = u.below;
-  has_all = λ c. elim (cases_lt c 1024) [
-    | inl lt ↦ u.has_all c ∙ ap₂ (λ s t. s || t) (sym (h.low c lt)) (sym (k.low c lt))
-    | inr le ↦ u.has_all c ∙ none_high list list' low low' c le ∙ sym (none_high set set' h.high k.high c le)
-  ];
-}

@@ -5,6 +5,7 @@ use Rattle.std.proofs.lemmas.List.Concat.{length-flat_map}
 use Rattle.std.proofs.lemmas.List.Sums.{sum_by-cons}
 use Rattle.std.proofs.lemmas.List.{append_assoc, append-nil}
 use Rattle.ppd_ast.specs.Members.{has}
+use Rattle.ppd_ast.specs.declared.limits.TheConstants.{MOST_SHARED_CELLS}
 use Rattle.ppd_model.specs.declared.graph.Race.{Race}
 use Rattle.ppd_model.specs.declared.graph.RaceKind.TheVariants.{ReadWrite, WriteRead, WriteWrite}
 use Rattle.ppd_graph.specs.declared.sync_graph.SyncGraph.{SyncGraph}
@@ -30,7 +31,7 @@ one_kind g w w' list list' x x' old new p e e' e'' rising order elsewhere grows 
     (grows rising p (subst (AreInOrder g p) (sym e') order) (subst (λ (y : Against). IsElsewhere g p y.edge) (sym e'') elsewhere))
 
 pub over_cell : (g : SyncGraph) (t : ByCell) (b : Busy) (c : ℕ) (reads writes : Bool) (readers writers : List Accessor) (x y z : Against) (old now next new : List (List Race))
-    → c < 1024 → reads ≡ has b.reads c → writes ≡ has b.writes c → readers ≡ get_or t.readers.items c [] → writers ≡ get_or t.writers.items c [] → x ≡ against b.edge c ReadWrite → y ≡ against b.edge c WriteRead → z ≡ against b.edge c WriteWrite
+    → c < MOST_SHARED_CELLS → reads ≡ has b.reads c → writes ≡ has b.writes c → readers ≡ get_or t.readers.items c [] → writers ≡ get_or t.writers.items c [] → x ≡ against b.edge c ReadWrite → y ≡ against b.edge c WriteRead → z ≡ against b.edge c WriteWrite
     → (IsRising g → (p : ℕ) → AreInOrder g p readers → IsElsewhere g p x.edge → GrowsBy (found_if writes g readers x) old now)
     → (IsRising g → (p : ℕ) → AreInOrder g p writers → IsElsewhere g p y.edge → GrowsBy (found_if reads g writers y) now next)
     → (IsRising g → (p : ℕ) → AreInOrder g p writers → IsElsewhere g p z.edge → GrowsBy (found_if writes g writers z) next new)

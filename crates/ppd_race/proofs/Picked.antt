@@ -5,6 +5,7 @@ use Rattle.std.proofs.lemmas.Bool.{cond-true, cond-false}
 use Rattle.std.specs.List.{flat_map, range_with_len}
 use Rattle.ppd_ast.specs.Members.{has, AreBelow}
 use Rattle.ppd_ast.proofs.Members.{has_first}
+use Rattle.ppd_ast.specs.declared.limits.TheConstants.{MOST_SHARED_CELLS}
 use Rattle.ppd_model.specs.declared.graph.Race.{Race}
 use Rattle.ppd_model.specs.declared.graph.RaceKind.TheVariants.{ReadWrite, WriteRead, WriteWrite}
 use Rattle.ppd_graph.specs.declared.sets.EdgeSets.{EdgeSets}
@@ -93,7 +94,7 @@ module _ (g : SyncGraph) (own : List Busy) (t : ByCell) (lists : IsByCell own t)
       → found_against g list x m ≡ (if test (get_or own m d) && is_apart g x.edge (accessor m (get_or own m d)) then race_of (get_or own m d).edge x.edge x.cell x.kind ∷ [] else [])
   against_is test list x is = ap (λ xs. flat_map (picked m x) (filter (is_apart g x.edge) xs)) is ∙ picked_is test (is_apart g x.edge) x 0 m m own d (omega arith) there
 
-  over_is : (b : Busy) (c : ℕ) → c < 1024 → found_over g t b c m ≡ (if can_race g (get_or own m d) b then races_at (get_or own m d) b c else [])
+  over_is : (b : Busy) (c : ℕ) → c < MOST_SHARED_CELLS → found_over g t b c m ≡ (if can_race g (get_or own m d) b then races_at (get_or own m d) b c else [])
   over_is b c lt =
       let apart : Bool = can_race g (get_or own m d) b in
       let first = same_if (has b.writes c) _ _ (against_is (λ x. has x.reads c) (get_or t.readers.items c []) (against b.edge c ReadWrite) (lists.readers c lt))
@@ -106,8 +107,8 @@ module _ (g : SyncGraph) (own : List Busy) (t : ByCell) (lists : IsByCell own t)
       ∙ three_kinds apart (race_if (has (get_or own m d).reads c && has b.writes c) (race_of (get_or own m d).edge b.edge c ReadWrite)) (race_if (has (get_or own m d).writes c && has b.reads c) (race_of (get_or own m d).edge b.edge c WriteRead))
       (race_if (has (get_or own m d).writes c && has b.writes c) (race_of (get_or own m d).edge b.edge c WriteWrite))
 
-  with_is : (b : Busy) → AreBelow 1024 b.cells → found_with g t b m ≡ races_between g (get_or own m d) b
-  with_is b below = flat_if (can_race g (get_or own m d) b) (λ c. found_over g t b c m) (races_at (get_or own m d) b) b.cells 1024 below (λ c lt. over_is b c lt)
+  with_is : (b : Busy) → AreBelow MOST_SHARED_CELLS b.cells → found_with g t b m ≡ races_between g (get_or own m d) b
+  with_is b below = flat_if (can_race g (get_or own m d) b) (λ c. found_over g t b c m) (races_at (get_or own m d) b) b.cells MOST_SHARED_CELLS below (λ c lt. over_is b c lt)
 
   in_is : (q : ℕ) (sets : List EdgeSets) (row : List Busy) → EachBusyIn q sets row → found_in g t row m ≡ flat_map (races_between g (get_or own m d)) row
   in_is q sets [] h = refl

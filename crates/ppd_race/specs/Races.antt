@@ -127,10 +127,6 @@ races_of_pair e a b =
 abbrev pub StoryRacesAreAmong : Type 0
 StoryRacesAreAmong = (program : Program) (s : Story) → races_of program s ≡ races_among (edges_of_story program s)
 
--- the races among edges are those of the pairs of all edges in order
-abbrev pub RacesGoByPairs : Type 0
-RacesGoByPairs = (e : Edges) → races_among e ≡ pairs_among (races_of_pair e) (edges_from e 0 e.processes)
-
 -- ---- one list for two
 
 -- an edge that is there

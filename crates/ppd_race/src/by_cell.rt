@@ -1,8 +1,8 @@
-ghost use Rattle.std.specs.Prelude.{◌≡◌, ◌<◌, ◌≤◌, ◌+◌, ◌*◌, IfOk, OnOk, length};
+ghost use Rattle.std.specs.Prelude.{◌<◌, ◌≤◌, ◌+◌, ◌*◌, IfOk, OnOk, length};
 ghost use Rattle.std.specs.List.{sum_by};
 ghost use Rattle.ppd_ast.specs.Members.{RisesFrom, AreBelow};
 ghost use Rattle.ppd_race.specs.ByCell.{AreOfCells, IsByCell, accessor as accessor_of, listed_if, listed_in, listing_cost};
-ghost use Rattle.ppd_race.specs.Lists.{GrowsBy, total};
+ghost use Rattle.ppd_race.specs.Lists.{GrowsBy};
 
 use crate::busy::{Accessor, Busy};
 use crate::lists::{Lists, no_lists, push_at};

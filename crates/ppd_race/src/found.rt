@@ -1,5 +1,5 @@
-ghost use Rattle.std.specs.Prelude.{◌≡◌, ◌<◌, ◌≤◌, ◌+◌, ◌*◌, ◌++◌, ℕ, [], OnOk, get_or, length};
-ghost use Rattle.std.specs.List.{flat_map, sum_by};
+ghost use Rattle.std.specs.Prelude.{◌≡◌, ◌<◌, ◌≤◌, ◌+◌, ◌*◌, ℕ, [], OnOk, get_or, length};
+ghost use Rattle.std.specs.List.{sum_by};
 ghost use Rattle.ppd_ast.specs.Members.{AreBelow};
 ghost use Rattle.ppd_race.specs.Busy.{IsRising, race_of};
 ghost use Rattle.ppd_race.specs.ByCell.{AreOfCells};

@@ -1,4 +1,4 @@
-ghost use Rattle.std.specs.Prelude.{◌≡◌, ◌<◌, ◌≤◌, ◌+◌, ◌*◌, ◌^◌, ℕ, ◌||◌, IfOk, OnOk, IsTrue, nat_eq, ◌&&◌, [], get_or, length};
+ghost use Rattle.std.specs.Prelude.{◌≡◌, ◌<◌, ◌≤◌, ◌+◌, ◌*◌, ◌^◌, ℕ, ◌||◌, IfOk, OnOk, IsTrue, nat_eq, ◌&&◌, [], length};
 ghost use Rattle.std.specs.List.{sum_by};
 ghost use Rattle.ppd_ast.specs.Members.{has, AreBelow};
 ghost use Rattle.ppd_race.specs.Search.{edge_cost, row_cost};

@@ -1,7 +1,6 @@
-ghost use Rattle.std.specs.Prelude.{◌≡◌, ◌<◌, ◌≤◌, ◌+◌, ◌*◌, ◌++◌, ℕ, [], IfOk, OnOk, get_or, length, map};
+ghost use Rattle.std.specs.Prelude.{◌≡◌, ◌<◌, ◌≤◌, ◌+◌, ◌*◌, [], IfOk, OnOk, get_or, length, map};
 ghost use Rattle.std.specs.List.{flat_map, range_with_len, sum_by};
 ghost use Rattle.ppd_race.specs.Busy.{AreBusyRows, IsRising, races_by_rows, races_from};
-ghost use Rattle.ppd_race.specs.ByCell.{listing_cost};
 ghost use Rattle.ppd_race.specs.Lists.{GrowsBy, total};
 ghost use Rattle.ppd_race.specs.Races.{AreRacesOf};
 ghost use Rattle.ppd_race.specs.Search.{CanSearch, IsWhole, found_after, own_cost, row_cost};

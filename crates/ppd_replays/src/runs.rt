@@ -1,7 +1,6 @@
 //! Runs of sources with their logs, and the replay of an interval from them.
 
 ghost use Rattle.std.specs.Prelude.{◌≡◌, ◌<◌, IfSome};
-ghost use Rattle.ppd_ast.specs.Valid.{IsValid};
 ghost use Rattle.ppd_world.specs.Running.{IsReached};
 
 use ppd_ast::limits::{MOST_BUDGET, MOST_CALLS, MOST_POLICY, MOST_PROCESSES};

@@ -1,8 +1,6 @@
 //! Worlds of worked programs, driven by a schedule or by the lowest enabled process.
 
 ghost use Rattle.std.specs.Prelude.{IfSome};
-ghost use Rattle.ppd_ast.specs.Valid.{IsValid};
-ghost use Rattle.ppd_ast.specs.ValidPlan.{IsValidPlan};
 ghost use Rattle.ppd_world.specs.Running.{IsReached};
 
 use ppd_ast::limits::MOST_BUDGET;

@@ -1,18 +1,15 @@
--- The edges of an item whose origins are found within its process: all but those of shared reads and of pairs.
-use Rattle.std.specs.Prelude.{ℕ, ◌+◌, ◌-◌, ℤ, List, [], ◌∷◌, ◌++◌, take, slice_get, Option, Some, None}
-use Rattle.std.specs.List.{flat_map}
+-- The edge of a read from its origin, and the edges of an item that is an interval inside, whose origins are found
+-- within its process.
+use Rattle.std.specs.Prelude.{ℕ, ◌+◌, ◌-◌, ℤ, List, [], ◌∷◌, ◌++◌, take, Some, None}
 use Rattle.ppd_ast.specs.declared.plan.BlockKind.{BlockKind}
 use Rattle.ppd_ast.specs.declared.plan.BlockKind.TheVariants as block
 use Rattle.ppd_ast.specs.declared.plan.Plan.{Plan}
 use Rattle.ppd_ast.specs.declared.program.Program.{Program}
 use Rattle.ppd_sem.specs.declared.event.Access.{Access}
-use Rattle.ppd_sem.specs.declared.event.Spot.{Spot}
-use Rattle.ppd_sem.specs.declared.event.Spot.TheVariants.{Local, Shared}
-use Rattle.ppd_sem.specs.Blocks.{block_kind, postlog_cells}
+use Rattle.ppd_sem.specs.declared.event.Spot.TheVariants.{Local}
+use Rattle.ppd_sem.specs.Blocks.{postlog_cells}
 use Rattle.ppd_model.specs.declared.flow.EdgeKind.TheVariants.{Read, Left, Returned, Control}
 use Rattle.ppd_model.specs.declared.flow.FlowEdge.{FlowEdge}
-use Rattle.ppd_model.specs.declared.flow.Item.{Item}
-use Rattle.ppd_model.specs.declared.flow.Item.TheVariants as item
 use Rattle.ppd_model.specs.declared.flow.Origin.{Origin}
 use Rattle.ppd_model.specs.declared.flow.Origin.TheVariants as origin
 use Rattle.ppd_model.specs.FlowbackEdges.{bare_edge}
@@ -25,15 +22,6 @@ use Rattle.ppd_search.specs.Seen.{Seen, items_at, last_item}
 -- from the origin of what is read
 abbrev pub read_from : Access → Origin → FlowEdge
 read_from a from = record { kind = Read; spot = Some a.spot; value = Some a.value; from = from }
-
--- from the last write of a local cell; a shared one has its edge elsewhere
-abbrev pub local_read : Program → Plan → Seen → ℕ → ℕ → ℕ → Access → Spot → List FlowEdge
-local_read program plan x p k j a (Local frame c) = read_from a (local_origin program plan x p k j frame c) ∷ []
-local_read program plan x p k j a (Shared c) = []
-
--- one for each read of a local cell
-abbrev pub local_reads : Program → Plan → Seen → ℕ → ℕ → ℕ → List Access → List FlowEdge
-local_reads program plan x p k j reads = flat_map (λ a. local_read program plan x p k j a a.spot) reads
 
 -- ---- of an interval
 
@@ -66,20 +54,6 @@ edges_of_nested program plan x p k j m b values (block.Loop l) =
     ++ bare_edge Control (control_origin program plan x p k j l) ∷ []
 edges_of_nested program plan x p k j m b values kind =
     returned_edges x p m values ++ bare_edge Control (origin.Item p k (j - 1)) ∷ []
-
--- ---- of an item
-
--- item j of interval k is this one
-abbrev pub own_edges_of : Program → Plan → Seen → ℕ → ℕ → ℕ → Option Item → List FlowEdge
-own_edges_of program plan x p k j None = []
-own_edges_of program plan x p k j (Some (item.Own e)) =
-    local_reads program plan x p k j e.reads ++ bare_edge Control (control_origin program plan x p k j e.stmt) ∷ []
-own_edges_of program plan x p k j (Some (item.Nested m b values closed)) =
-    edges_of_nested program plan x p k j m b values (block_kind plan b)
-
--- the edges of item j of interval k of process p but those of shared reads and of pairs, in order
-abbrev pub own_edges : Program → Plan → Seen → ℕ → ℕ → ℕ → List FlowEdge
-own_edges program plan x p k j = own_edges_of program plan x p k j (slice_get (items_at x k) j)
 
 -- ---- the intervals that are replayed, in order, where those of interval k are there
 

@@ -16,6 +16,7 @@ use Rattle.ppd_ast.specs.declared.program.Program.{Program}
 use Rattle.ppd_ast.specs.declared.program.Stmt.{Stmt}
 use Rattle.ppd_ast.specs.Lookups.{top_of_body, body_of_stmt}
 use Rattle.ppd_ast.proofs.ValidLaws.{valid_body, some_and}
+use Rattle.ppd_ast.specs.declared.limits.TheConstants.{MOST_CALLS}
 use Rattle.ppd_sem.specs.declared.proc.Todo.{Todo}
 use Rattle.ppd_sem.specs.Blocks.{at_block, block_body, block_kind, block_todo, kind_in, prelog_cells, with_values}
 use Rattle.ppd_sem.specs.Process.{cells_for, todos}
@@ -92,7 +93,7 @@ one_small : (n : ℕ) → n < 2 ^ 16 → All (λ m. m < 2 ^ 16) (n ∷ [])
 one_small n small zero d b = small
 one_small n small (suc k) d b = absurd (omega arith)
 
-pub at_block_runs : (p : Program) (plan : Plan) (b : ℕ) (values : List ℤ) (depth budget : ℕ) → IsValid p → IsValidPlan p plan → depth ≤ 64 → IsRunning p (at_block p plan b values depth budget)
+pub at_block_runs : (p : Program) (plan : Plan) (b : ℕ) (values : List ℤ) (depth budget : ℕ) → IsValid p → IsValidPlan p plan → depth ≤ MOST_CALLS → IsRunning p (at_block p plan b values depth budget)
 at_block_runs p plan b values depth budget v h most =
     let f : ℕ = block_body p (block_kind plan b) in
     let few : 0 ≤ size_if (slice_get p.bodies f) = omega arith in

@@ -1,13 +1,12 @@
 -- Steps of the loops that describe an event.
-use Rattle.std.proofs.Common.{◌≡◌, ℕ, suc, ◌+◌, ◌-◌, ◌<◌, ℤ, Bool, true, false, List, take, [], ◌∷◌, ◌++◌, length, drop, reverse, get_or, refl, ap, sym, ◌∙◌, arith}
+use Rattle.std.proofs.Common.{◌≡◌, ℕ, suc, ◌+◌, ◌-◌, ◌<◌, Bool, true, false, List, take, [], ◌∷◌, length, drop, reverse, get_or, refl, ap, sym, ◌∙◌, arith}
 use Rattle.std.specs.Prelude.{◌||◌, cond, not, take_while}
 use Rattle.std.specs.List.{list_any, prefix_len}
-use Rattle.std.proofs.lemmas.List.{append_assoc, drop_more, get_or-reverse, length-reverse}
+use Rattle.std.proofs.lemmas.List.{drop_more, get_or-reverse, length-reverse}
 use Rattle.ppd_ast.specs.declared.program.Program.{Program}
 use Rattle.ppd_ast.specs.Lookups.{kind_of}
-use Rattle.ppd_sem.specs.declared.event.Access.{Access}
 use Rattle.ppd_sem.specs.declared.proc.Todo.{Todo}
-use Rattle.ppd_sem.specs.Described.{ends_body, is_in_loop, local_write, parameters, top_todo}
+use Rattle.ppd_sem.specs.Described.{ends_body, is_in_loop, top_todo}
 
 -- ---- what is to do, from its top
 
@@ -40,10 +39,3 @@ pub next_top : (program : Program) (items todo : List Todo) (i n : ℕ) (t : Tod
 next_top program items todo i n t v e lt is =
     ap (λ l. is_in_loop program (drop i l)) (sym v) ∙ ap (is_in_loop program) (drop_top items i n t e lt) ∙
     ap (λ x. is_in_loop program (x ∷ drop (i + 1) (reverse items))) (sym is) ∙ ap (λ l. is_in_loop program (t ∷ drop (i + 1) l)) v
-
--- ---- parameters
-
-pub one_more : (frame c i : ℕ) (vs : List ℤ) (d : ℤ) (written : List Access) → i < length vs → written ++ parameters frame c (drop i vs) ≡ (written ++ local_write frame c (get_or vs i d) ∷ []) ++ parameters frame (c + 1) (drop (i + 1) vs)
-one_more frame c i vs d written lt =
-    ap (λ l. written ++ parameters frame c l) (drop_more vs i d lt) ∙
-    sym (append_assoc written (local_write frame c (get_or vs i d) ∷ []) (parameters frame (c + 1) (drop (i + 1) vs)))

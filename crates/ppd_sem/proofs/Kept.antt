@@ -13,6 +13,7 @@ use Rattle.ppd_ast.specs.declared.program.Program.{Program}
 use Rattle.ppd_ast.specs.declared.status.Status.{Status}
 use Rattle.ppd_ast.specs.declared.status.Status.TheVariants as status
 use Rattle.ppd_ast.specs.Lookups.{kind_of_stmt, kind_of, top_of_body}
+use Rattle.ppd_ast.specs.declared.limits.TheConstants.{MOST_CALLS}
 use Rattle.ppd_sem.specs.declared.asking.Pause.TheVariants.{Wants, Traps}
 use Rattle.ppd_sem.specs.declared.proc.Answer.{Answer}
 use Rattle.ppd_sem.specs.declared.proc.Frame.{Frame}
@@ -199,7 +200,7 @@ paid_runs p plan n s t run same shape paid =
     let steps : t.steps ≡ s.steps = same.steps in
     let below : t.below ≡ s.below = same.below in
     let before : s.steps ≤ s.spent = run.steps in
-    let most : s.below ≤ 64 = run.below in
+    let most : s.below ≤ MOST_CALLS = run.below in
     record { todo = shape.todo; frames = shape.sizes; below = omega arith; steps = omega arith; spent = omega arith }
 
 asked_runs : (p : Program) (plan : Plan) (a : Answer) (t : Todo) (ts : List Todo) (n : Need) (s : Proc) → IsRunnable p → IsRunning p s → s.todo ≡ t ∷ ts → s.spent + cost plan n ≤ s.budget → IsRunning p (charged plan n (act_by_asked p a t ts (head_deed p t s) s))

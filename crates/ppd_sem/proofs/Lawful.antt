@@ -11,6 +11,7 @@ use Rattle.ppd_ast.specs.declared.program.Program.{Program}
 use Rattle.ppd_ast.specs.declared.status.Trap.TheVariants.{Overflow, Index, Depth}
 use Rattle.ppd_ast.specs.Term.{Term, and, or, term}
 use Rattle.ppd_ast.specs.Lookups.{kind_of}
+use Rattle.ppd_ast.specs.declared.limits.TheConstants.{MOST_CALLS}
 use Rattle.ppd_sem.specs.declared.asking.Pause.TheVariants.{Traps}
 use Rattle.ppd_sem.specs.declared.proc.Need.TheVariants as need
 use Rattle.ppd_sem.specs.declared.proc.Proc.{Proc}
@@ -202,8 +203,8 @@ call_need program plan t s f arguments into r k h =
     ap (λ o. need_by_entry program plan t.stmt s o (head_deed program t s)) (no_entry program plan t f arguments into k) ∙
     ap (λ d. need_of_asked program plan t.stmt s d) (call_deed program t s f arguments into r k h)
 
-deep_call : (plan : Plan) (f : ℕ) (s : Proc) → 64 < s.below + length s.frames → need_of_call plan f s ≡ need.Trap Depth
-deep_call plan f s h = let test : nat_lt 64 (s.below + length s.frames) ≡ true = grind (arith, nat_tests) in rw test refl
+deep_call : (plan : Plan) (f : ℕ) (s : Proc) → MOST_CALLS < s.below + length s.frames → need_of_call plan f s ≡ need.Trap Depth
+deep_call plan f s h = let test : nat_lt MOST_CALLS (s.below + length s.frames) ≡ true = grind (arith, nat_tests) in rw test refl
 
 pub arguments_first : ArgumentsComeFirst
 arguments_first = record {

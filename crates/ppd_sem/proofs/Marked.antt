@@ -8,6 +8,7 @@ use Rattle.ppd_ast.specs.declared.program.Program.{Program}
 use Rattle.ppd_ast.specs.declared.status.Status.{Status}
 use Rattle.ppd_ast.specs.declared.status.Trap.TheVariants as trap
 use Rattle.ppd_ast.specs.Lookups.{kind_of}
+use Rattle.ppd_ast.specs.declared.limits.TheConstants.{MOST_CALLS}
 use Rattle.ppd_sem.specs.declared.asking.Pause.TheVariants.{Wants, Traps}
 use Rattle.ppd_sem.specs.declared.proc.Need.{Need}
 use Rattle.ppd_sem.specs.declared.proc.Need.TheVariants.{Invoke, Offer, Done, Trap, Budget}
@@ -98,7 +99,7 @@ deed_offer k p plan t s (clear base len) h = tt
 deed_offer k p plan t s (branch stmts) h = tt
 deed_offer k p plan t s (turn stmts) h = tt
 deed_offer k p plan t s leave h = leaving_offer k plan t _
-deed_offer k p plan t s (invoke f values into) h = if_offer k (nat_lt 64 (s.below + length s.frames)) (Trap trap.Depth) (Invoke _ _) tt tt
+deed_offer k p plan t s (invoke f values into) h = if_offer k (nat_lt MOST_CALLS (s.below + length s.frames)) (Trap trap.Depth) (Invoke _ _) tt tt
 deed_offer k p plan t s (back value) h = tt
 deed_offer k p plan t s (take sem) h = tt
 deed_offer k p plan t s (give sem) h = tt

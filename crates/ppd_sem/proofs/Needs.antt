@@ -23,6 +23,7 @@ use Rattle.ppd_ast.specs.Uses.{kind_uses}
 use Rattle.ppd_ast.specs.Valid.{HasObject, IsValid, IsValidKind, IsValidStmt, IsValidUse}
 use Rattle.ppd_ast.specs.Lookups.{kind_of_stmt, kind_of}
 use Rattle.ppd_ast.proofs.ValidLaws.{some_and, array_below, scalar_below}
+use Rattle.ppd_ast.specs.declared.limits.TheConstants.{MOST_CALLS}
 use Rattle.ppd_sem.specs.declared.asking.Pause.TheVariants.{Wants, Traps}
 use Rattle.ppd_sem.specs.declared.proc.Need.{Need}
 use Rattle.ppd_sem.specs.declared.proc.Need.TheVariants as need
@@ -244,7 +245,7 @@ deed_need p plan t s (clear base len) h = tt
 deed_need p plan t s (branch stmts) h = tt
 deed_need p plan t s (turn stmts) h = tt
 deed_need p plan t s leave h = leaving p plan t _
-deed_need p plan t s (invoke f values into) h = if_there p (nat_lt 64 (s.below + length s.frames)) (need.Trap trap.Depth) (need.Invoke _ _) tt tt
+deed_need p plan t s (invoke f values into) h = if_there p (nat_lt MOST_CALLS (s.below + length s.frames)) (need.Trap trap.Depth) (need.Invoke _ _) tt tt
 deed_need p plan t s (back value) h = tt
 deed_need p plan t s (take sem) h = h
 deed_need p plan t s (give sem) h = h

@@ -9,6 +9,7 @@ use Rattle.ppd_ast.specs.declared.program.Program.{Program}
 use Rattle.ppd_ast.specs.declared.status.Status.{Status}
 use Rattle.ppd_ast.specs.declared.status.Trap.TheVariants as trap
 use Rattle.ppd_ast.specs.Lookups.{kind_of}
+use Rattle.ppd_ast.specs.declared.limits.TheConstants.{MOST_CALLS}
 use Rattle.ppd_sem.specs.declared.asking.Pause.TheVariants.{Wants, Traps}
 use Rattle.ppd_sem.specs.declared.proc.Need.{Need}
 use Rattle.ppd_sem.specs.declared.proc.Need.TheVariants as need
@@ -53,7 +54,7 @@ calling false f u = tt
 
 pub deed_need : (p : Program) (plan : Plan) (t : ℕ) (s : Proc) (d : Deed) → IsDeedNeed (need_of_deed p plan t s d)
 deed_need p plan t s leave = leaving plan t _
-deed_need p plan t s (invoke f values into) = calling (nat_lt 64 (s.below + length s.frames)) _ _
+deed_need p plan t s (invoke f values into) = calling (nat_lt MOST_CALLS (s.below + length s.frames)) _ _
 deed_need p plan t s (send chan value) = sending plan t (capacity_of p chan) chan value
 deed_need p plan t s d = tt
 

@@ -23,6 +23,7 @@ use Rattle.ppd_ast.specs.declared.program.Var.{Var}
 use Rattle.ppd_ast.specs.Lookups.{kind_of_stmt, kind_of, top_of_body}
 use Rattle.ppd_ast.proofs.ValidLaws.{valid_body, some_and, array_below, scalar_below}
 use Rattle.ppd_ast.proofs.BareValid.{some_and_is}
+use Rattle.ppd_ast.specs.declared.limits.TheConstants.{MOST_SHARED_CELLS, MOST_FUNCTIONS, MOST_LOCAL_CELLS, MOST_NESTING, MOST_PROCESSES, MOST_STATEMENTS}
 use Rattle.ppd_sem.specs.Runs.{AreOfFunction, AreUses, IsCallable, IsInner, IsNumbered, RunsOver, IsRunnable, IsRunnableBody, IsRunnableStmt, IsUse, LeadsOn, returns, size_if, size_of, stmt_size}
 use Rattle.ppd_sem.specs.Within.{IsWithin}
 use Rattle.ppd_sem.proofs.Kept.{There, there_at}
@@ -100,9 +101,9 @@ counted f rest heads x (i ∷ is) =
     let two : many x (i ∷ (rest i ++ flat_map f is)) ≡ cond (nat_eq x i) 1 0 + many x (rest i ++ flat_map f is) = many-cons x i (rest i ++ flat_map f is) in
     omega arith
 
-in_preorder : (stmts : List Stmt) (x : ℕ) (is : List ℕ) → many x is ≤ many x (flat_map (preorder 64 stmts) is)
+in_preorder : (stmts : List Stmt) (x : ℕ) (is : List ℕ) → many x is ≤ many x (flat_map (preorder MOST_NESTING stmts) is)
 unfolding preorder
-in_preorder stmts x is = counted (preorder 64 stmts) (λ i. flat_map (preorder 63 stmts) (inner_at stmts i)) (λ i. refl) x is
+in_preorder stmts x is = counted (preorder MOST_NESTING stmts) (λ i. flat_map (preorder (MOST_NESTING - 1) stmts) (inner_at stmts i)) (λ i. refl) x is
 
 one_if : (x y : ℕ) → nat_eq x y ≡ true → cond {A = ℕ} (nat_eq x y) 1 0 ≡ 1
 one_if x y e = ap (λ (b : Bool). cond {A = ℕ} b 1 0) e
@@ -257,9 +258,9 @@ function_top p j b v e pr h = of_function p b.cells b.top over rets once last
 
     once : (x : ℕ) → many x b.top ≤ 1
     once x =
-        let few : many x b.top ≤ many x (flat_map (preorder 64 p.stmts) b.top) = in_preorder p.stmts x b.top in
+        let few : many x b.top ≤ many x (flat_map (preorder MOST_NESTING p.stmts) b.top) = in_preorder p.stmts x b.top in
         let most : many x (range_with_len b.first (b.end - b.first)) ≤ 1 = at_most_once b.first (b.end - b.first) x in
-        let same : many x (flat_map (preorder 64 p.stmts) b.top) ≡ many x (range_with_len b.first (b.end - b.first)) = ap (many x) h.order in
+        let same : many x (flat_map (preorder MOST_NESTING p.stmts) b.top) ≡ many x (range_with_len b.first (b.end - b.first)) = ap (many x) h.order in
         omega arith
 
     last : IsSomeAnd (last_of b.top) (λ i. returns (kind_of p i) ≡ true)
@@ -357,7 +358,7 @@ valid-runnable p v = record {
 }
   where
     small : length p.starts < 2 ^ 16
-    small = let most : length p.starts ≤ 1024 = v.limits.starts in omega arith
+    small = let most : length p.starts ≤ MOST_SHARED_CELLS = v.limits.starts in omega arith
 
     there_get : (j : ℕ) (b : Body) → j < length p.bodies → slice_get p.bodies j ≡ Some (get_or p.bodies j b)
     there_get j b lt = slice_get-get_or p.bodies j b lt
@@ -367,7 +368,7 @@ valid-runnable p v = record {
         let at = some_and (λ (b : Body). IsValidKind p b k s.kind) (slice_get p.bodies s.body) h.kind in
         let valid : IsValidBody p s.body at.0 = valid_body p s.body at.0 v at.1 in
         let size : size_of p s.body ≡ at.0.cells = ap size_if at.1 in
-        let frame : at.0.cells ≤ 256 = valid.frame in
+        let frame : at.0.cells ≤ MOST_LOCAL_CELLS = valid.frame in
         let uses : AreUses p.exprs at.0.cells s.kind = uses_of p at.0 s.kind small (omega arith) v.cells valid.cells at.2.uses at.2.writes in
         record {
           uses = subst (λ (n : ℕ). AreUses p.exprs n s.kind) (sym size) uses;
@@ -376,7 +377,7 @@ valid-runnable p v = record {
 
     body : (j : ℕ) (b : Body) → IsValidBody p j b → slice_get p.bodies j ≡ Some b → IsRunnableBody p j b
     body j b h e =
-        let frame : b.cells ≤ 256 = h.frame in
+        let frame : b.cells ≤ MOST_LOCAL_CELLS = h.frame in
         record {
           cells = omega arith;
           top = λ from. each_of (λ i. IsSomeAnd (slice_get p.stmts i) (λ s. (s.parent ≡ None) × (s.body ≡ j))) (IsInner p b.cells) b.top (λ i g. process_of p j b.cells i b v (ap size_if e) e (process from) g) h.top;
@@ -388,9 +389,9 @@ valid-runnable p v = record {
 -- the numbers of a valid plan's blocks and units have 16 bits
 pub valid-numbered : (program : Program) (plan : Plan) → IsValid program → IsValidPlan program plan → IsNumbered plan
 valid-numbered p plan v h =
-    let stmts : length p.stmts ≤ 4096 = v.limits.stmts in
-    let functions : p.functions ≤ 256 = v.limits.functions in
-    let bodies : length p.bodies ≤ p.functions + 16 = v.limits.processes in
+    let stmts : length p.stmts ≤ MOST_STATEMENTS = v.limits.stmts in
+    let functions : p.functions ≤ MOST_FUNCTIONS = v.limits.functions in
+    let bodies : length p.bodies ≤ p.functions + MOST_PROCESSES = v.limits.processes in
     record {
       blocks = omega (arith, few_plan_blocks p plan v h);
       units = omega (arith, few_plan_units p plan v h);

@@ -1,8 +1,8 @@
-ghost use Rattle.std.specs.Prelude.{◌≡◌, ◌≤◌, IfOk, None, [], ◌∷◌, true, false, slice_get};
+ghost use Rattle.std.specs.Prelude.{◌≡◌, ◌≤◌, IfOk, None, [], ◌∷◌, true, false};
 ghost use Rattle.ppd_ast.specs.declared.limits.TheConstants.{MOST_CALLS};
 ghost use Rattle.ppd_ast.specs.Valid.{IsValid};
 ghost use Rattle.ppd_ast.specs.ValidPlan.{IsValidPlan};
-ghost use Rattle.ppd_sem.specs.Blocks.{at_block as at_block_of, block_body as body_of_block, block_todo as todo_of_block, prelog_cells as prelog_cells_of, with_values};
+ghost use Rattle.ppd_sem.specs.Blocks.{at_block as at_block_of, block_todo as todo_of_block, with_values};
 ghost use Rattle.ppd_sem.specs.Process.{new_frame as new_frame_of};
 ghost use Rattle.ppd_sem.specs.Runs.{IsRunning};
 

@@ -1,4 +1,4 @@
-ghost use Rattle.std.specs.Prelude.{◌≡◌, ◌<◌, ◌^◌, length};
+ghost use Rattle.std.specs.Prelude.{◌≡◌};
 ghost use Rattle.ppd_sem.specs.Blocks.{block_body as body_of_block, block_kind as kind_of_block, block_unit as unit_of_block, postlog_cells as postlog_cells_of, prelog_cells as prelog_cells_of, with_values};
 ghost use Rattle.ppd_sem.specs.Runs.{IsNumbered};
 

@@ -1,4 +1,4 @@
-ghost use Rattle.std.specs.Prelude.{◌≡◌, ◌*◌, ◌+◌, ◌<◌, ◌≤◌, ◌^◌};
+ghost use Rattle.std.specs.Prelude.{◌≡◌, ◌+◌, ◌<◌, ◌≤◌, ◌^◌};
 ghost use Rattle.ppd_sem.specs.Process.{cost as cost_of, values_of, within_budget as within_budget_of};
 ghost use Rattle.ppd_sem.specs.Tables.{postlog_length as postlog_length_of, prelog_length as prelog_length_of, returned_length as returned_length_of, unit_length as unit_length_of};
 

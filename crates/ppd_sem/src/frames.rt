@@ -1,4 +1,4 @@
-ghost use Rattle.std.specs.Prelude.{◌≡◌, ◌<◌, length, None, Some};
+ghost use Rattle.std.specs.Prelude.{◌≡◌, ◌<◌, None, Some};
 ghost use Rattle.ppd_ast.specs.Lookups.{kind_of};
 ghost use Rattle.ppd_sem.specs.Process.{clear_cells as clear_cells_of, clear_top as clear_top_of, into_of, receive_at as receive_at_of, returned, returned_from, write_top as write_top_of};
 

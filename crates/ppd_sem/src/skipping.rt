@@ -1,4 +1,4 @@
-ghost use Rattle.std.specs.Prelude.{◌≡◌, ◌<◌, ◌^◌, length, slice_get};
+ghost use Rattle.std.specs.Prelude.{◌≡◌, ◌<◌};
 ghost use Rattle.ppd_sem.specs.Blocks.{frames_past, head_stmt as head_stmt_of, skipped, write_all as write_all_of};
 ghost use Rattle.ppd_sem.specs.Entries.{Begins};
 ghost use Rattle.ppd_sem.specs.Process.{need_of};

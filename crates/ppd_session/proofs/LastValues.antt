@@ -1,6 +1,6 @@
 -- Last values that are found one after another, and why one is not found.
 use Rattle.std.specs.Prelude.{Some, None, option_map}
-use Rattle.std.proofs.Common.{◌≡◌, ℕ, zero, suc, ◌+◌, ◌<◌, ℤ, List, [], ◌∷◌, ◌++◌, Option, Result, Ok, Err, refl, ap, sym, subst, ◌∙◌, append-nil, append_assoc, arith}
+use Rattle.std.proofs.Common.{◌≡◌, ℕ, zero, suc, ◌+◌, ◌<◌, ℤ, List, [], ◌∷◌, ◌++◌, Option, Ok, Err, refl, ap, sym, subst, ◌∙◌, append-nil, append_assoc, arith}
 use Rattle.ppd_ast.specs.declared.program.Program.{Program}
 use Rattle.ppd_entry.specs.declared.entry.At.{At}
 use Rattle.ppd_model.specs.declared.flow.Origin.{Origin}
@@ -8,7 +8,7 @@ use Rattle.ppd_past.specs.declared.flow_error.FlowError.{FlowError}
 use Rattle.ppd_past.specs.declared.flow_error.FlowError.TheVariants as flow_error
 use Rattle.ppd_past.specs.declared.past.Past.{Past}
 use Rattle.ppd_past.specs.ByReplays.{IsFoundBy, first_failed_in}
-use Rattle.ppd_search.specs.Shared.{Missing, found_last, last_replays}
+use Rattle.ppd_search.specs.Shared.{found_last, last_replays}
 use Rattle.ppd_session.specs.Known.{Last, last_by, of_cells, unless_failed}
 use Rattle.ppd_session.specs.Sessions.{IsLineOf, IsWhy, error_of, unfound}
 use Rattle.ppd_session.specs.Texts.{first_unfound, lasts_text}
@@ -41,16 +41,6 @@ module _ (past : Past) (c : ℕ) where
   last_fails b e flow_error.NoEvent f = tt
   last_fails b e (flow_error.Sets p n k) f = ap (λ (l : Last). option_map error_of (unfound l)) (known_by_failure None f.0 ∙ f.1)
   last_fails b e flow_error.Memory f = tt
-
-  not_event : (r : Result (ℤ × Origin) Missing) → answer_of r ≡ Err flow_error.NoEvent → ⊥
-  not_event (Ok x) e = cc
-  not_event (Err m) e = cc
-
-  pub never_event : (b e : ℕ) (error : FlowError) → IsFoundBy past replays answer b e (Err error) → error ≡ flow_error.NoEvent → ⊥
-  never_event b e (flow_error.Diverged p n) f is = cc
-  never_event b e flow_error.NoEvent f is = not_event (found_last past.program.now past.logs.now (seens_in past) c) f.1
-  never_event b e (flow_error.Sets p n k) f is = cc
-  never_event b e flow_error.Memory f is = cc
 
 -- ---- one cell after another
 

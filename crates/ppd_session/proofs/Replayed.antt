@@ -183,9 +183,3 @@ module _ (past : Past) (q k : ℕ) where
   causes b e flow_error.NoEvent f = tt
   causes b e (flow_error.Sets p n c) f = let never : Ok (items_in past q k) ≡ Err (flow_error.Sets p n c) = f.1 in absurd (cc)
   causes b e flow_error.Memory f = tt
-
-  pub no_event : (b e : ℕ) (error : FlowError) → IsFoundBy past ((q, k) ∷ []) (Ok (items_in past q k)) b e (Err error) → error ≡ flow_error.NoEvent → ⊥
-  no_event b e (flow_error.Diverged p n) f is = cc
-  no_event b e flow_error.NoEvent f is = let never : Ok (items_in past q k) ≡ Err flow_error.NoEvent = f.1 in cc
-  no_event b e (flow_error.Sets p n c) f is = cc
-  no_event b e flow_error.Memory f is = cc

@@ -35,7 +35,8 @@ race_word WriteWrite = codes "write-write"
 
 abbrev pub race_line : Program → Race → List ℕ
 race_line p r =
-    codes "race " ++ process_name p r.p ++ codes " " ++ decimal r.i ++ codes " " ++ process_name p r.q ++ codes " " ++ decimal r.j
+    codes "race " ++ process_name p r.p ++ codes " " ++ decimal r.i ++ codes " " ++ process_name p r.q ++ codes " "
+    ++ decimal r.j
     ++ codes " " ++ cell_text p.shared r.cell ++ codes " " ++ race_word r.kind ++ codes "\n"
 
 -- the race list
@@ -75,7 +76,8 @@ variables_at p s false = locals_of p (body_of p s)
 
 -- an edge into statement s
 abbrev pub edge_line : Program → (s : ℕ) → StaticEdge → List ℕ
-edge_line p s (Data from shared v) = codes "data " ++ decimal from ++ codes " " ++ var_name (slice_get (variables_at p s shared) v) ++ codes "\n"
+edge_line p s (Data from shared v) = codes "data " ++ decimal from ++ codes " "
+    ++ var_name (slice_get (variables_at p s shared) v) ++ codes "\n"
 edge_line p s ControlEntry = codes "control entry\n"
 edge_line p s (Control from) = codes "control " ++ decimal from ++ codes "\n"
 

@@ -1,5 +1,5 @@
 // The intervals of a process as a text.
-ghost use Rattle.std.specs.Prelude.{◌≡◌, ◌<◌, ◌++◌, OnOk, length, slice_get, map};
+ghost use Rattle.std.specs.Prelude.{◌≡◌, ◌<◌, ◌++◌, OnOk, slice_get, map};
 ghost use Rattle.ppd_index.specs.Indexes.{rows_at};
 ghost use Rattle.ppd_session.specs.Rows.{of_interval, of_row, shown_at};
 ghost use Rattle.ppd_session.specs.Texts.{interval_line, interval_lines, parent_text, state_text};

@@ -1,5 +1,5 @@
 // The race list as a text.
-ghost use Rattle.std.specs.Prelude.{◌≡◌, ◌++◌, [], OnOk, codes, decimal, length};
+ghost use Rattle.std.specs.Prelude.{◌≡◌, ◌++◌, [], OnOk, codes, decimal};
 ghost use Rattle.std.specs.List.{flat_map};
 ghost use Rattle.ppd_session.specs.Texts.{race_line, race_word, raced, races_text};
 ghost use Rattle.ppd_why.specs.Names.{process_name as process_name_of};

@@ -1,5 +1,5 @@
 // An item with its flowback edges.
-ghost use Rattle.std.specs.Prelude.{◌≡◌, ◌<◌, ◌++◌, [], List, Some, None, Ok, IfOk, OnOk, IfErr, length, slice_get};
+ghost use Rattle.std.specs.Prelude.{◌≡◌, ◌<◌, ◌++◌, [], Some, None, Ok, IfOk, OnOk, IfErr, slice_get};
 ghost use Rattle.ppd_past.specs.Pasts.{IsPast};
 ghost use Rattle.ppd_session.specs.Known.{flow_by};
 ghost use Rattle.ppd_session.specs.Sessions.{IsItemThere, IsWhy, known_by};

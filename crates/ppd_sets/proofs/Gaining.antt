@@ -1,15 +1,13 @@
 -- What sets of cells gain, one after another.
-use Rattle.std.proofs.Common.{◌≡◌, ℕ, zero, suc, ◌+◌, ◌<◌, ◌≤◌, List, [], ◌∷◌, ◌++◌, Bool, true, false, refl, sym, subst, ap, ◌∙◌, arith, ◌||◌, take, length, get_or}
+use Rattle.std.proofs.Common.{◌≡◌, ℕ, zero, suc, ◌+◌, ◌<◌, List, [], ◌∷◌, ◌++◌, Bool, true, false, refl, sym, subst, ap, ◌∙◌, arith, ◌||◌, take, length, get_or}
 use Rattle.std.specs.Prelude.{IsTrue, nat_eq}
 use Rattle.std.specs.List.{flat_map, range_with_len}
-use Rattle.std.proofs.lemmas.Bool.{ne_eqb}
 use Rattle.std.proofs.lemmas.List.Folds.{list_any-append}
-use Rattle.ppd_ast.specs.declared.limits.TheConstants.{MOST_SHARED_CELLS}
 use Rattle.ppd_ast.proofs.Walks.{flat_more}
 use Rattle.ppd_ast.specs.Members.{has}
 use Rattle.ppd_ast.proofs.Members.{has_first as first_is, has_later}
 use Rattle.ppd_sets.specs.declared.touched.Touched.{Touched}
-use Rattle.ppd_sets.specs.Gained.{Gains, GainsBoth, HasCells, HasBoth}
+use Rattle.ppd_sets.specs.Gained.{Gains, GainsBoth, HasCells}
 
 or_none : (a : Bool) → a ≡ (a || false)
 or_none true = refl
@@ -18,12 +16,6 @@ or_none false = refl
 or_assoc : (a b d : Bool) → ((a || b) || d) ≡ (a || (b || d))
 or_assoc true b d = refl
 or_assoc false b d = refl
-
-or_swap : (a b : Bool) → (a || b) ≡ (b || a)
-or_swap true true = refl
-or_swap true false = refl
-or_swap false true = refl
-or_swap false false = refl
 
 pub has_append : (xs ys : List ℕ) (c : ℕ) → has (xs ++ ys) c ≡ (has xs c || has ys c)
 has_append xs ys c = list_any-append (λ y. nat_eq y c) xs ys
@@ -50,21 +42,6 @@ gains_both_as {a} {b} r s w v e f g = record { reads = gains_as r s e g.reads; w
 
 -- ---- cells
 
--- what is added is one cell below 1024
-pub gains_one : (a b : List ℕ) (cell : ℕ) → ((c : ℕ) → has b c ≡ (nat_eq cell c || has a c)) → Gains a b (cell ∷ [])
-gains_one a b cell h = record {
-  each = λ c k. h c ∙ or_swap (nat_eq cell c) (has a c) ∙ ap (λ t. has a c || t) (or_none (nat_eq cell c));
-}
-
--- a cell past them is left out
-pub gains_past : (a : List ℕ) (cell : ℕ) → MOST_SHARED_CELLS ≤ cell → Gains a a (cell ∷ [])
-gains_past a cell past = record {
-  each = λ c h. or_none (has a c) ∙ ap (λ t. has a c || (t || false)) (sym (ne_eqb cell c (λ e. omega arith)));
-}
-
-pub gains_all : (a b other : List ℕ) → ((c : ℕ) → has b c ≡ (has a c || has other c)) → Gains a b other
-gains_all a b other h = record { each = λ c k. h c }
-
 pub range_push : (a n : ℕ) → range_with_len a (n + 1) ≡ range_with_len a n ++ (a + n) ∷ []
 range_push a zero = let e : a ≡ a + zero = omega arith in ap (λ x. x ∷ []) e
 range_push a (suc n) =
@@ -82,17 +59,10 @@ pub gains_more : {X : Type 0} {a b d : List ℕ} (f : X → List ℕ) (xs : List
 gains_more f xs i dflt h g k =
     gains_as (flat_map f (take i xs) ++ f (get_or xs i dflt)) (flat_map f (take (i + 1) xs)) (sym (flat_more f xs i dflt h)) (gains_then g k)
 
-pub gains_both_more : {X : Type 0} {a b d : Touched} (f g : X → List ℕ) (xs : List X) (i : ℕ) (dflt : X) → i < length xs → GainsBoth a b (flat_map f (take i xs)) (flat_map g (take i xs)) → GainsBoth b d (f (get_or xs i dflt)) (g (get_or xs i dflt)) →
-    GainsBoth a d (flat_map f (take (i + 1) xs)) (flat_map g (take (i + 1) xs))
-gains_both_more f g xs i dflt h r k = record { reads = gains_more f xs i dflt h r.reads k.reads; writes = gains_more g xs i dflt h r.writes k.writes }
-
 -- ---- from nothing
 
 pub has_first : {set cells : List ℕ} (old : List ℕ) → old ≡ [] → Gains old set cells → HasCells set cells
 has_first {set} {cells} old e g = record { each = λ c h. g.each c h ∙ ap (λ xs. has xs c || has cells c) e }
-
-pub has_both_first : {t : Touched} {r w : List ℕ} (old : Touched) → old.reads ≡ [] → old.writes ≡ [] → GainsBoth old t r w → HasBoth t r w
-has_both_first old e f g = record { reads = has_first old.reads e g.reads; writes = has_first old.writes f g.writes }
 
 -- ---- the same cells by two functions
 

@@ -3,7 +3,7 @@ use Rattle.std.proofs.Common.{◌≡◌, ℕ, ◌+◌, ◌-◌, ◌<◌, ◌≤�
 use Rattle.std.specs.Prelude.{IsTrue, nat_le, nat_lt, slice_get}
 use Rattle.std.specs.List.{flat_map, range_with_len, list_any}
 use Rattle.ppd_ast.specs.Numbered.{is_while}
-use Rattle.std.proofs.lemmas.Bool.{and_parts, and_from, leb-true, ltb-true, le-leb, lt-ltb, cases_order, false_from_ne_true, cond-true, cond-false}
+use Rattle.std.proofs.lemmas.Bool.{and_parts, and_from, leb-true, ltb-true, le-leb, lt-ltb, cases_order, false_from_ne_true, cond-true}
 use Rattle.std.proofs.lemmas.Option.{slice_get-get_or}
 use Rattle.ppd_ast.specs.declared.limits.TheConstants.{MOST_SHARED_CELLS}
 use Rattle.ppd_ast.specs.declared.program.Var.{Var}
@@ -109,12 +109,6 @@ while_used p q list is_one e = e ∙ sym (cond-true (is_while (kind_of p q)) (so
 
 pub while_defined : (p : Program) (q : ℕ) (list : List ℕ) → is_while (kind_of p q) ≡ true → list ≡ sorted (flat_map (writes_at false p) (loop_stmts p q)) → list ≡ loop_defined_of p q
 while_defined p q list is_one e = e ∙ sym (cond-true (is_while (kind_of p q)) (sorted (flat_map (writes_at false p) (loop_stmts p q))) [] is_one)
-
-pub other_used : (p : Program) (q : ℕ) (list : List ℕ) → is_while (kind_of p q) ≡ false → list ≡ [] → list ≡ loop_used_of p q
-other_used p q list none e = e ∙ sym (cond-false (is_while (kind_of p q)) (sorted (flat_map (reads_at false p) (loop_stmts p q))) [] none)
-
-pub other_defined : (p : Program) (q : ℕ) (list : List ℕ) → is_while (kind_of p q) ≡ false → list ≡ [] → list ≡ loop_defined_of p q
-other_defined p q list none e = e ∙ sym (cond-false (is_while (kind_of p q)) (sorted (flat_map (writes_at false p) (loop_stmts p q))) [] none)
 
 -- what a body uses, from the cells of the bodies that it reaches
 pub used_is : (p : Program) (b : ℕ) (set list : List ℕ) → IsValid p → list ≡ vars_met p.shared set → HasCells set (flat_map (body_reads p) (called_from p b)) → list ≡ used_of p b

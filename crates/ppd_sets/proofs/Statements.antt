@@ -1,5 +1,5 @@
 -- The cells of the statements of a body, one after another.
-use Rattle.std.proofs.Common.{◌≡◌, ℕ, ◌+◌, ◌-◌, ◌≤◌, min, List, ◌++◌, Some, sym, ap, ◌∙◌}
+use Rattle.std.proofs.Common.{◌≡◌, ℕ, ◌+◌, ◌-◌, ◌≤◌, List, ◌++◌, Some, sym, ap, ◌∙◌}
 use Rattle.std.specs.Prelude.{slice_get}
 use Rattle.std.specs.List.{flat_map, range_with_len}
 use Rattle.ppd_ast.specs.declared.program.Stmt.{Stmt}
@@ -23,7 +23,3 @@ body_more f g r w first k h e e' before now =
     gains_both_as (flat_map f (range_with_len first (k - first)) ++ r) (flat_map f (range_with_len first (k + 1 - first))) (flat_map g (range_with_len first (k - first)) ++ w) (flat_map g (range_with_len first (k + 1 - first)))
     (ap (λ l. flat_map f (range_with_len first (k - first)) ++ l) e ∙ flat_range f first k h) (ap (λ l. flat_map g (range_with_len first (k - first)) ++ l) e' ∙ flat_range g first k h)
     (gains_both_then before now)
-
--- where the range ends
-pub range_end : (first k end n : ℕ) → k - first ≡ min end n - first → range_with_len first (k - first) ≡ range_with_len first (min end n - first)
-range_end first k end n e = ap (range_with_len first) e

@@ -34,7 +34,8 @@ pub record HasOwnParts (program : Program) (plan : Plan) (xs : List Split) (x : 
       → edges_of_nested program plan (seen_of x) p k j m i.block i.values (block_kind plan i.block)
       ≡ model_edges_of_nested plan xs i
 
--- then, in a run of a valid program without a race, the edges found are the item's, and none where there is no such item
+-- then, in a run of a valid program without a race, the edges found are the item's, and none where there is no such
+-- item
 abbrev pub EdgesAreFound : Type 0
 EdgesAreFound =
     (program : Program) (plan : Plan) (budget : ℕ) (h : List ℕ) (w : World) → IsValid program

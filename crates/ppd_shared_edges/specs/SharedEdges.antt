@@ -24,7 +24,8 @@ abbrev pub all_seen : Program → Plan → ℕ → List ℕ → List Seen
 all_seen program plan budget h = map (λ x. seen_of x) (splits program plan budget (story program plan budget h))
 
 -- event n of process p, at place j of its interval k, reads shared cell c as its read i, which is tagged so
-pub record IsSharedRead (program : Program) (plan : Plan) (budget : ℕ) (h : List ℕ) (p k j c : ℕ) (tag : Tag) : Type 0 where
+pub record IsSharedRead (program : Program) (plan : Plan) (budget : ℕ) (h : List ℕ) (p k j c : ℕ)
+    (tag : Tag) : Type 0 where
   pub split : Split
   pub there : slice_get (splits program plan budget (story program plan budget h)) p ≡ Some split
   pub number : ℕ
@@ -65,4 +66,5 @@ PairsAreFound =
     → slice_get (splits program plan budget (story program plan budget h)) p ≡ Some x
     → part_at x k j ≡ Some (own n) → slice_get x.trace.events n ≡ Some e
     → sync_edges program (closed_logs program plan budget h) (all_seen program plan budget h) p k j e.event.number
-    ≡ model_sync_edges (splits program plan budget (story program plan budget h)) (kind_of program e.event.stmt) e.paired
+    ≡ model_sync_edges (splits program plan budget (story program plan budget h))
+    (kind_of program e.event.stmt) e.paired

@@ -1,7 +1,5 @@
 // What a statement is, in a word and the name of what it is about.
-ghost use Rattle.std.specs.Prelude.{◌≡◌, ◌++◌, OnOk, slice_get, codes};
-ghost use Rattle.ppd_ast.specs.Lookups.{name_of_body};
-ghost use Rattle.ppd_show.specs.Names.{sem_name as sem_name_of, chan_name as chan_name_of};
+ghost use Rattle.std.specs.Prelude.{◌≡◌, ◌++◌, OnOk};
 ghost use Rattle.ppd_show.specs.Kinds.{kind_text};
 
 use crate::names::{chan_name, function_name, sem_name};

@@ -1,5 +1,5 @@
 -- Variables that each have a cell, and share none, are no more than the cells.
-use Rattle.std.proofs.Common.{◌≡◌, ℕ, zero, suc, ◌+◌, ◌<◌, ◌≤◌, Bool, true, cond, List, [], ◌∷◌, Option, Some, None, length, refl, sym, ap, ◌∙◌, arith, inl, inr}
+use Rattle.std.proofs.Common.{◌≡◌, ℕ, zero, suc, ◌+◌, ◌<◌, ◌≤◌, true, cond, List, [], ◌∷◌, Option, Some, None, length, refl, sym, ap, ◌∙◌, arith, inl, inr}
 use Rattle.std.specs.Prelude.{count_by, nat_le, nat_lt, slice_get}
 use Rattle.std.specs.List.{All}
 use Rattle.std.proofs.lemmas.Bool.{and_from, cases_eq, cond-true, le-leb, lt-ltb}
@@ -12,6 +12,7 @@ use Rattle.ppd_ast.specs.declared.program.Var.{Var}
 use Rattle.ppd_ast.proofs.ValidLaws.{valid_body}
 use Rattle.ppd_ast.specs.Lookups.{locals_of_body}
 use Rattle.ppd_ast.specs.Counting.{one_if}
+use Rattle.ppd_ast.specs.declared.limits.TheConstants.{MOST_SHARED_CELLS, MOST_LOCAL_CELLS}
 use Rattle.ppd_sound.specs.Sound.{HaveCells, VariablesAreFew}
 
 -- ---- how often the cells below n are held
@@ -78,16 +79,16 @@ few n vs covers have =
     let e : total n vs ≡ n = total_is n vs covers.once in
     omega arith
 
-locals_few : (p : Program) (b : ℕ) (o : Option Body) → IsValid p → slice_get p.bodies b ≡ o → HaveCells (locals_of_body o) → length (locals_of_body o) ≤ 256
+locals_few : (p : Program) (b : ℕ) (o : Option Body) → IsValid p → slice_get p.bodies b ≡ o → HaveCells (locals_of_body o) → length (locals_of_body o) ≤ MOST_LOCAL_CELLS
 locals_few p b None v at have = omega arith
 locals_few p b (Some x) v at have =
     let valid : IsValidBody p b x = valid_body p b x v at in
     let l : length x.locals ≤ x.cells = few x.cells x.locals valid.cells have in
-    let frame : x.cells ≤ 256 = valid.frame in
+    let frame : x.cells ≤ MOST_LOCAL_CELLS = valid.frame in
     omega arith
 
 pub variables_few : VariablesAreFew
 variables_few p v = record {
-  shared = λ have. (let l : length p.shared ≤ length p.starts = few (length p.starts) p.shared v.cells have in let most : length p.starts ≤ 1024 = v.limits.starts in omega arith);
+  shared = λ have. (let l : length p.shared ≤ length p.starts = few (length p.starts) p.shared v.cells have in let most : length p.starts ≤ MOST_SHARED_CELLS = v.limits.starts in omega arith);
   local = λ b have. locals_few p b (slice_get p.bodies b) v refl have;
 }

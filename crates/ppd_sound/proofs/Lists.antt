@@ -1,5 +1,5 @@
 -- What lists have.
-use Rattle.std.proofs.Common.{◌≡◌, ℕ, zero, suc, List, [], ◌∷◌, ◌++◌, refl, arith}
+use Rattle.std.proofs.Common.{zero, suc, List, [], ◌∷◌, ◌++◌, refl, arith}
 use Rattle.std.specs.List.{Contains}
 
 pub here : {A : Type 0} (x : A) (xs : List A) → Contains (x ∷ xs) x

@@ -17,10 +17,6 @@ use Rattle.ppd_graph.specs.Graphs.{sets_at}
 use Rattle.ppd_graph.specs.LogRecord.{edge_sets_in, ended_by, found_after, no_sets, sets_from}
 use Rattle.ppd_race.specs.Races.{AreCellsThere, cells_by}
 
--- all these cells are below n
-AllBelow : ℕ → List ℕ → Type 0
-AllBelow n cells = AllByRecursion (λ c. c < n) cells
-
 record AreBelow (n : ℕ) (s : EdgeSets) : Type 0 where
   pub reads : AllByRecursion (λ c. c < n) s.reads
   pub writes : AllByRecursion (λ c. c < n) s.writes

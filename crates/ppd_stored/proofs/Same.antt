@@ -1,6 +1,6 @@
 -- Bytes are the recording of one thing at most, and are not both accepted and refused.
 use Rattle.std.specs.Prelude.{Option, None}
-use Rattle.std.proofs.Common.{◌≡◌, ◌≢◌, ℕ, List, [], ◌∷◌, refl, sym, subst, ◌∙◌, ap}
+use Rattle.std.proofs.Common.{◌≡◌, ◌≢◌, ℕ, List, [], refl, sym, subst, ◌∙◌, ap}
 use Rattle.std.proofs.lemmas.Option.{none-some}
 use Rattle.ppd_ast.specs.declared.plan.Plan.{Plan}
 use Rattle.ppd_ast.specs.declared.program.Program.{Program}
@@ -14,11 +14,7 @@ use Rattle.ppd_codec.specs.declared.recording.Header.{Header}
 use Rattle.ppd_codec.specs.declared.recording.Recording.{Recording}
 use Rattle.ppd_codec.proofs.Spelling.{no_recording_is_bad, same_three}
 use Rattle.ppd_entry.specs.declared.entry.Logs.{Logs}
-use Rattle.ppd_graph.specs.Cycles.{IsWay}
-use Rattle.ppd_model.specs.declared.graph.NodeId.{NodeId}
-use Rattle.ppd_model.specs.HappenedBefore.{Before, direct, through}
 use Rattle.ppd_model.specs.RecordedSets.{record_in}
-use Rattle.ppd_model.specs.Synchronizations.{Sync}
 use Rattle.ppd_graph.specs.Refusals.{AreOrdered, IsRefused as IsNoGraph}
 use Rattle.ppd_graph.specs.declared.refusal.BadSync.{BadSync}
 use Rattle.ppd_graph.specs.declared.refusal.BadSync.TheVariants as sync

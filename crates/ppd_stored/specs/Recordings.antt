@@ -41,7 +41,8 @@ pub record AreOfSomeRun (source : List ℕ) (header : Header) (logs : Logs) : Ty
   pub of_run : AreOfRun source header program schedule logs
 
 -- these bytes are the recording of this whole schedule
-pub record IsRunRecorded (source : List ℕ) (header : Header) (program : Program) (h : List ℕ) (bytes : List ℕ) : Type 0 where
+pub record IsRunRecorded (source : List ℕ) (header : Header) (program : Program) (h : List ℕ)
+    (bytes : List ℕ) : Type 0 where
   pub accepted : IsRead source program
   pub whole : IsWhole program (plan_of program header.policy) header.budget h
   pub is : IsRecordingOf source header (closed_logs program (plan_of program header.policy) header.budget h) bytes

@@ -45,7 +45,8 @@ abbrev pub refused_bytes : BadBytes → List ℕ
 refused_bytes (bytes.Magic n) = at_offset (codes "recording refused bytes 1 Magic ") n
 refused_bytes (bytes.Version n) = at_offset (codes "recording refused bytes 2 Version ") n
 refused_bytes (bytes.Short n) = at_offset (codes "recording refused bytes 3 Short ") n
-refused_bytes (bytes.Range n f) = codes "recording refused bytes 4 Range " ++ decimal n ++ codes " " ++ field_word f ++ codes "\n"
+refused_bytes (bytes.Range n f) = codes "recording refused bytes 4 Range " ++ decimal n ++ codes " " ++ field_word f
+    ++ codes "\n"
 refused_bytes (bytes.Trailing n) = at_offset (codes "recording refused bytes 5 Trailing ") n
 refused_bytes (bytes.Source e) = codes "recording refused bytes 6 Source " ++ stage_text e ++ codes "\n"
 refused_bytes bytes.TooLong = codes "recording refused bytes 7 TooLong " ++ decimal MOST_RECORDING_BYTES ++ codes "\n"
@@ -85,7 +86,9 @@ node_text program n = codes " " ++ process_name program n.process ++ codes " " +
 abbrev pub refused_sync : Program → BadSync → List ℕ
 refused_sync program (sync.NumberTwice at) = at_entry program (codes "recording refused sync 1 NumberTwice ") at
 refused_sync program (sync.NumberMissing kind object number) =
-    codes "recording refused sync 2 NumberMissing " ++ object_text program kind object ++ codes " " ++ decimal number ++ codes "\n"
-refused_sync program (sync.Cycle nodes) = codes "recording refused sync 3 Cycle" ++ flat_map (node_text program) nodes ++ codes "\n"
+    codes "recording refused sync 2 NumberMissing " ++ object_text program kind object ++ codes " " ++ decimal number
+    ++ codes "\n"
+refused_sync program (sync.Cycle nodes) = codes "recording refused sync 3 Cycle" ++ flat_map (node_text program) nodes
+    ++ codes "\n"
 refused_sync program (sync.NoObject at) = at_entry program (codes "recording refused sync 4 NoObject ") at
 refused_sync program sync.Memory = []

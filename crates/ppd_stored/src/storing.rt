@@ -1,4 +1,4 @@
-ghost use Rattle.std.specs.Prelude.{◌≡◌, IfOk};
+ghost use Rattle.std.specs.Prelude.{IfOk};
 ghost use Rattle.ppd_codec.specs.Recordings.{IsRecordingOf};
 ghost use Rattle.ppd_stored.specs.Recordings.{AreOfSomeRun};
 

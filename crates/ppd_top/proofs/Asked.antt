@@ -1,18 +1,15 @@
 -- What the words ask for, by the request that was read of them.
-use Rattle.std.specs.Prelude.{Option, Some, None, IfSome, option_map}
-use Rattle.std.proofs.Common.{◌≡◌, ℕ, List, sym, ◌∙◌, ap, subst}
+use Rattle.std.specs.Prelude.{Option, Some, option_map}
+use Rattle.std.proofs.Common.{◌≡◌, ℕ, List, sym, ◌∙◌, ap}
 use Rattle.ppd_words.specs.Words.{Text}
 use Rattle.ppd_top.specs.declared.words.Request.{Request as GivenRequest}
 use Rattle.ppd_top.specs.declared.words.Request.TheVariants.{Source, Recording, Drill}
 use Rattle.ppd_top.specs.declared.words.SourceRequest.{SourceRequest}
 use Rattle.std.specs.Borrow.{Bor}
-use Rattle.ppd_top.specs.Words.{AreInRange, Command, IsInRange, Request, asked, command_of, request_of}
+use Rattle.ppd_top.specs.Words.{Command, asked, command_of, request_of}
 use Rattle.ppd_top.specs.Words.Request.{on_source, on_recording, on_number}
 
 module _ (words : List Text) (o : Option GivenRequest) (is : option_map request_of o ≡ asked words) where
-  pub asks_none : o ≡ None → asked words ≡ None
-  asks_none e = sym is ∙ ap (λ (p : Option GivenRequest). option_map request_of p) e
-
   asks_some : (q : GivenRequest) → o ≡ Some q → asked words ≡ Some (request_of q)
   asks_some q e = sym is ∙ ap (λ (p : Option GivenRequest). option_map request_of p) e
 
@@ -25,7 +22,3 @@ module _ (words : List Text) (o : Option GivenRequest) (is : option_map request_
 
   pub asks_drill : (q : GivenRequest) (n : ℕ) → o ≡ Some q → q ≡ Drill n → asked words ≡ Some (on_number n)
   asks_drill q n e f = asks_some q e ∙ ap (λ (p : GivenRequest). Some (request_of p)) f
-
--- the options of a request are in their range
-pub range_of : (o : Option GivenRequest) (q : GivenRequest) (r : SourceRequest) → IfSome o IsInRange → o ≡ Some q → q ≡ Source r → AreInRange r.options
-range_of o q r h e f = subst IsInRange f (subst (λ (p : Option GivenRequest). IfSome p IsInRange) e h)

@@ -4,6 +4,7 @@ use Rattle.std.proofs.Common.{◌≡◌, ◌<◌, ◌≤◌, ◌+◌, ℕ, suc, 
 use Rattle.std.proofs.lemmas.Bool.{le-leb, le-ltb, lt-leb, lt-ltb}
 use Rattle.std.proofs.lemmas.List.{length_push, take-append-le}
 use Rattle.ppd_ast.specs.declared.limits.TheConstants.{MOST_INPUT_LINES, MOST_LINE_BYTES}
+use Rattle.ppd_io.specs.declared.bytes.TheConstants.{CHUNK_BYTES}
 use Rattle.ppd_io.specs.Causes.{Rose}
 use Rattle.ppd_io.specs.Content.{Appends, AppendsPart, Takes}
 use Rattle.ppd_io.specs.declared.lines.LineError.{LineError}
@@ -36,9 +37,6 @@ answered_more x [] l h few goes none = (few, goes, none, tt)
 answered_more x (k ∷ ls) l h few goes none = (h.0, h.1, h.2, answered_more x ls l h.3 few goes none)
 
 -- ---- the answers, line by line
-
-same_output : (a b : Output) → a.status ≡ b.status → a.text ≡ b.text → a ≡ b
-same_output a b e f = ap (λ s. output s a.text) e ∙ ap (output b.status) f
 
 -- one line that is answered
 one_answered : (x : Known) (n : ℕ) (l : List ℕ) (ls : List (List ℕ)) → n < MOST_INPUT_LINES → length l ≤ MOST_LINE_BYTES → is_quit l ≡ false → failure_of x l ≡ None → answers_from x n (l ∷ ls) ≡ before (text_of x l) (answers_from x (n + 1) ls)
@@ -170,7 +168,7 @@ or_some false o v e = rw e refl
 
 -- a `quit` did, or a replay that failed
 was_quit : (x : Known) (a c : Option (List ℕ)) (ls rest : List (List ℕ)) (l : List ℕ) (g : Goes_on a c ls (l ∷ rest)) (n : ℕ) → length ls ≡ n → n < MOST_INPUT_LINES → length l ≤ MOST_LINE_BYTES → (is_quit l || is_some (failure_of x l)) ≡ true → AreAnswered x ls
-    → IfSome c (λ left. length g.commands < length (ended (ls ++ l ∷ [])) + 4096 + length left) → IsReadNoFurther x g.commands c
+    → IfSome c (λ left. length g.commands < length (ended (ls ++ l ∷ [])) + CHUNK_BYTES + length left) → IsReadNoFurther x g.commands c
 was_quit x a c ls rest l g n count few short quits h few_bytes =
     let t : nat_le MOST_INPUT_LINES n ≡ false = lt-leb MOST_INPUT_LINES n few in
     let u : nat_lt MOST_LINE_BYTES (length l) ≡ false = le-ltb MOST_LINE_BYTES (length l) short in
@@ -209,9 +207,9 @@ module _ (x : Known) (n : ℕ) (a b c : Standing) where
   pub record HasRead (was now : Lined) (result : Result Bool LineError) : Type 0 where
     pub given : was.ended ≡ false → GivesLine b.left c.left was.held now result
     pub over : was.ended ≡ true → (result ≡ Ok false) × (c.left ≡ b.left)
-    pub few : length now.held < 4096
+    pub few : length now.held < CHUNK_BYTES
 
-  pub read_as : (was now : Lined) (r result : Result Bool LineError) → r ≡ result → (was.ended ≡ false → GivesLine b.left c.left was.held now r) → (was.ended ≡ true → (r ≡ Ok false) × (c.left ≡ b.left)) → length now.held < 4096 → HasRead was now result
+  pub read_as : (was now : Lined) (r result : Result Bool LineError) → r ≡ result → (was.ended ≡ false → GivesLine b.left c.left was.held now r) → (was.ended ≡ true → (r ≡ Ok false) × (c.left ≡ b.left)) → length now.held < CHUNK_BYTES → HasRead was now result
   read_as was now r result e given over few = record {
     given = λ still. subst (GivesLine b.left c.left was.held now) e (given still);
     over = λ ended_now. let o = over ended_now in (sym e ∙ o.0, o.1);
@@ -359,14 +357,6 @@ failed_becomes x line (session_error.Sets at) old new before now status why (inr
     refused m.0 status m.1
     (subst (λ (e : SessionError). Finished old new before now status 6 (refused_replay x.program e)) (sym m.2) f.1)
 failed_becomes x line session_error.Memory old new before now status why (inr f) = absurd (f.0 refl)
-
--- before the first line
-pub begun : (x : Known) (a : Standing) → IsAsked x 0 (record { line = []; held = []; ended = false }) a a
-begun x a = record { lines = []; count = refl; plain = tt; answered = tt; read = at_first a.left; written = appends_nothing a.written; reads = omega arith; writes = omega arith }
-  where
-    at_first : (o : Option (List ℕ)) → IsReadTo o o (record { line = []; held = []; ended = false }) []
-    at_first None = tt
-    at_first (Some xs) = refl
 
 -- ---- behind a first text
 

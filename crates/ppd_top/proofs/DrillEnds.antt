@@ -5,6 +5,7 @@ use Rattle.std.proofs.Common.{◌≡◌, ℕ, List, [], ◌∷◌, ◌++◌, ari
 use Rattle.std.proofs.lemmas.Option.{none-some}
 use Rattle.std.proofs.Math.Nat.{min-eq_left}
 use Rattle.ppd_ast.specs.declared.program.Program.{Program}
+use Rattle.ppd_ast.specs.declared.limits.TheConstants.{MOST_INPUT_LINES, MOST_LINE_BYTES}
 use Rattle.ppd_check.specs.Read.{IsRead}
 use Rattle.ppd_check.proofs.Excluded.{read_or_refused}
 use Rattle.ppd_drill.specs.Drills.{generated}
@@ -61,8 +62,8 @@ module _ (program : Program) (schedule : List ℕ) where
   -- all answers end well
   drill_status : (drill_out program schedule).status ≡ 0
   drill_status =
-      let few : 0 < 65536 = omega arith in
-      let short : 5 ≤ 4096 = omega arith in
+      let few : 0 < MOST_INPUT_LINES = omega arith in
+      let short : 5 ≤ MOST_LINE_BYTES = omega arith in
       fine_end (known_of program drill_options schedule) (no_failure program drill_options schedule) 0 (lines_of drill_commands) (few, short, λ e. tt)
 
   module _ (a b : Standing) (rest : List ℕ) (e : a.left ≡ Some drill_commands) (f : b.left ≡ Some rest) (none : Rose a.reads b.reads → ⊥) where

@@ -1,6 +1,6 @@
 -- A schedule that is handed in, taken from the start of a program.
 use Rattle.std.specs.Prelude.{Option, Some, None, IsSomeAnd, slice_get}
-use Rattle.std.proofs.Common.{◌≡◌, ℕ, List, [], take, true, false, Ok, Err, refl, sym, ◌∙◌, ap, subst}
+use Rattle.std.proofs.Common.{◌≡◌, ℕ, List, [], take, true, false, Err, refl, sym, ◌∙◌, ap, subst}
 use Rattle.ppd_ast.specs.declared.program.Program.{Program}
 use Rattle.ppd_model.specs.declared.trace.DriveError.{DriveError}
 use Rattle.ppd_model.specs.declared.trace.DriveError.TheVariants as drive
@@ -55,6 +55,3 @@ pub fails_at : (program : Program) (options : Options) (w v : Running) (schedule
 fails_at program options w v schedule (drive.NotEnabled n) e first none driven is =
     subst (StopsAt program options schedule) (sym is) (stuck_at program options w v first none (take n schedule) driven.0 schedule n refl driven.1)
 fails_at program options w v schedule drive.Memory e first none driven is = subst (StopsAt program options schedule) (sym is) tt
-
-pub driven_ok : (w v : Running) (schedule : List ℕ) (u : _) → IsDriven w schedule v (Ok u) → Takes w schedule v
-driven_ok w v schedule u d = d

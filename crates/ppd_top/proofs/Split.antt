@@ -2,6 +2,7 @@
 use Rattle.std.specs.Prelude.{None, Some, Option, true, false, Ok, Err, IfSome, ◌==◌, if◌then◌else◌}
 use Rattle.std.proofs.Common.{◌≡◌, ◌≢◌, ◌<◌, ◌≤◌, ◌+◌, ℕ, suc, List, [], ◌∷◌, ◌++◌, length, length-append, Bool, refl, ap, sym, subst, ◌∙◌, append_assoc, append-nil, arith, inl, inr}
 use Rattle.ppd_ast.specs.declared.limits.TheConstants.{MOST_LINE_BYTES}
+use Rattle.ppd_io.specs.declared.bytes.TheConstants.{CHUNK_BYTES}
 use Rattle.ppd_io.specs.Content.{Takes}
 use Rattle.ppd_io.specs.declared.lines.LineError.TheVariants.{Failed, LongLine}
 use Rattle.ppd_io.specs.Lines.{EndsLine, GivesLine, HasNoNewline, Lined, before_lines, lines_of}
@@ -149,7 +150,7 @@ all_ended (b ∷ bs) =
       | false ↦ let f = first_line_ended b (lines_of bs) (length bs) h in omega arith
     ]
 
-pub no_further : (a c : Option (List ℕ)) (lines : List (List ℕ)) (now : Lined) (commands : List ℕ) → AreCommands a c commands → IsReadTo a c now lines → length now.held < 4096 → IfSome c (λ rest. length commands < length (ended lines) + 4096 + length rest)
+pub no_further : (a c : Option (List ℕ)) (lines : List (List ℕ)) (now : Lined) (commands : List ℕ) → AreCommands a c commands → IsReadTo a c now lines → length now.held < CHUNK_BYTES → IfSome c (λ rest. length commands < length (ended lines) + CHUNK_BYTES + length rest)
 no_further a None lines now commands told read few = tt
 no_further None (Some zs) lines now commands told read few = absurd read
 no_further (Some xs) (Some zs) lines now commands told read few = by now.ended read
@@ -157,7 +158,7 @@ no_further (Some xs) (Some zs) lines now commands told read few = by now.ended r
     same : length commands ≡ length xs
     same = ap length told
 
-    by : (b : Bool) → IsSplit b xs lines (now.held ++ zs) → length commands < length (ended lines) + 4096 + length zs
+    by : (b : Bool) → IsSplit b xs lines (now.held ++ zs) → length commands < length (ended lines) + CHUNK_BYTES + length zs
     by false s =
         let n : length xs ≡ length (ended lines) + (length now.held + length zs) = ap length s ∙ (length-append (ended lines) (now.held ++ zs) ∙ ap (λ k. length (ended lines) + k) (length-append now.held zs)) in
         omega (arith, same)

@@ -6,6 +6,7 @@ use Rattle.std.proofs.lemmas.Option.{none-some}
 use Rattle.ppd_ast.specs.Valid.{IsValid}
 use Rattle.ppd_ast.specs.declared.plan.Plan.{Plan}
 use Rattle.ppd_ast.specs.declared.program.Program.{Program}
+use Rattle.ppd_ast.specs.declared.limits.TheConstants.{MOST_PROCESSES, MOST_NAMED}
 use Rattle.ppd_blocks.specs.Blocks.{plan_of as plan_by_policy}
 use Rattle.ppd_check.specs.Read.{IsRead}
 use Rattle.ppd_model.specs.declared.closed.Closed.{Closed}
@@ -39,7 +40,7 @@ use Rattle.ppd_top.specs.Output.{Output, Standing, Talks, answers, before, outpu
 use Rattle.ppd_top.specs.Ran.{FailsBy, IsClosed, RanTo, ScheduleFails, StopsAt, WasTold}
 use Rattle.ppd_top.specs.Runs.{CanBeTold, IsRunOf}
 use Rattle.ppd_top.specs.Summary.{summary_of}
-use Rattle.ppd_top.specs.Top.{Follows, IsWholeRun, known_of, out_of, plan_of, summary_of_run}
+use Rattle.ppd_top.specs.Top.{Follows, IsWholeRun, out_of, plan_of, summary_of_run}
 use Rattle.ppd_top.proofs.Agreeing.{of_agreeing}
 use Rattle.ppd_top.proofs.Talked.{known_from, summary_from, talks_of_run}
 
@@ -57,10 +58,10 @@ module _ (program : Program) (plan : Plan) (budget : ℕ) (h : List ℕ) where
       ∙ (ap length (s.logged ∙ sym s.worlds) ∙ (objects_stay program plan budget h).processes)
 
 module _ (program : Program) (plan : Plan) (budget : ℕ) (closed : Closed) (t : CanBeTold program plan budget closed) where
-  few : length program.bodies - program.functions ≤ 16
+  few : length program.bodies - program.functions ≤ MOST_PROCESSES
   few = omega (arith, t.program_ok.limits.processes)
 
-  pub told_lists : length closed.logs.lists ≤ 256
+  pub told_lists : length closed.logs.lists ≤ MOST_NAMED
   told_lists =
       let e : length closed.logs.lists ≡ length program.bodies - program.functions =
       ap (λ (c : Closed). length c.logs.lists) t.is ∙ (length-map (loggings program plan budget t.schedule) closed_log ∙ how_many program plan budget t.schedule) in

@@ -48,12 +48,15 @@ IsFailed program error old new before now status =
     ((status ≡ 5) × (new ≡ old))
     ⊎ ((error ≢ Memory) × Finished old new before now status 6 (refused_replay program error))
 
--- what becomes of one line: it is answered and was no `quit`, or was one; the write failed; a replay failed; or memory ran
--- out
+-- what becomes of one line: it is answered and was no `quit`, or was one; the write failed; a replay failed; or memory
+-- ran out
 pub data Becomes (x : Known) (line : List ℕ) (old new : Option (List ℕ)) (before now : ℕ) : Option ℕ → Type 0 where
-  answered : is_quit line ≡ false → failure_of x line ≡ None → Appends old new (text_of x line) → Becomes x line old new before now None
-  quit : is_quit line ≡ true → failure_of x line ≡ None → Appends old new (text_of x line) → Becomes x line old new before now (Some 0)
-  unwritten : failure_of x line ≡ None → Rose before now → AppendsPart old new (text_of x line) → Becomes x line old new before now (Some 4)
+  answered : is_quit line ≡ false → failure_of x line ≡ None → Appends old new (text_of x line)
+      → Becomes x line old new before now None
+  quit : is_quit line ≡ true → failure_of x line ≡ None → Appends old new (text_of x line)
+      → Becomes x line old new before now (Some 0)
+  unwritten : failure_of x line ≡ None → Rose before now → AppendsPart old new (text_of x line)
+      → Becomes x line old new before now (Some 4)
   refused : (error : FlowError) (status : ℕ) → failure_of x line ≡ Some error
       → Finished old new before now status 6 (refused_replay x.program (error_of error))
       → Becomes x line old new before now (Some status)

@@ -2,6 +2,7 @@
 use Rattle.std.specs.Prelude.{◌≡◌, ◌||◌, is_some, ℕ, ◌+◌, ◌<◌, ◌≤◌, nat_lt, nat_le, Bool, false, List, [], ◌∷◌, ◌++◌, length, take, Option, Some, None, IfSome, codes, if◌then◌else◌}
 use Rattle.std.specs.List.{flat_map}
 use Rattle.ppd_ast.specs.declared.limits.TheConstants.{MOST_INPUT_LINES, MOST_LINE_BYTES}
+use Rattle.ppd_io.specs.declared.bytes.TheConstants.{CHUNK_BYTES}
 use Rattle.ppd_io.specs.Causes.{Rose}
 use Rattle.ppd_io.specs.Content.{Appends, AppendsPart, Takes}
 use Rattle.ppd_io.specs.Lines.{HasNoNewline, lines_of}
@@ -81,11 +82,12 @@ through_quit x n (l ∷ ls) =
     else if is_quit l || is_some (failure_of x l) then Some (l ∷ [])
     else with_line l (through_quit x (n + 1) ls)
 
--- nothing was read after the line that so ended the answers: of the bytes behind its line fewer than 4,096 were taken,
--- with those of the line
+-- nothing was read after the line that so ended the answers: of the bytes behind its line fewer than are asked for at
+-- once were taken, with those of the line
 abbrev pub IsReadNoFurther : Known → (commands : List ℕ) → (left : Option (List ℕ)) → Type 0
 IsReadNoFurther x commands left =
-    IfSome (through_quit x 0 (lines_of commands)) (λ lines. IfSome left (λ rest. length commands < length (ended lines) + 4096 + length rest))
+    IfSome (through_quit x 0 (lines_of commands)) (λ lines. IfSome left
+    (λ rest. length commands < length (ended lines) + CHUNK_BYTES + length rest))
 
 -- the whole lines among these bytes, and what stands after them
 pub record AreWholeLines (bytes : List ℕ) (lines : List (List ℕ)) (rest : List ℕ) : Type 0 where
@@ -131,7 +133,10 @@ pub record IsBroken (x : Known) (head : List ℕ) (a b : Standing) : Type 0 wher
 -- from one standing to another by this status: all was written; a read failed; a write failed, after a proper prefix;
 -- or memory ran out, after some prefix
 pub data Talks (x : Known) (head : List ℕ) (a b : Standing) : ℕ → Type 0 where
-  whole : (commands : List ℕ) → AreCommands a.left b.left commands → IsReadNoFurther x commands b.left → Appends a.written b.written (head ++ (answers x commands).text) → Talks x head a b (answers x commands).status
+  whole : (commands : List ℕ) → AreCommands a.left b.left commands → IsReadNoFurther x commands b.left
+      → Appends a.written b.written (head ++ (answers x commands).text) → Talks x head a b (answers x commands).status
   unread : IsBroken x head a b → Talks x head a b 3
-  unwritten : (commands : List ℕ) → AreCommands a.left b.left commands → Rose a.writes b.writes → AppendsPart a.written b.written (head ++ (answers x commands).text) → Talks x head a b 4
-  unfinished : (commands : List ℕ) → AreCommands a.left b.left commands → AppendsFront a.written b.written (head ++ (answers x commands).text) → Talks x head a b 5
+  unwritten : (commands : List ℕ) → AreCommands a.left b.left commands → Rose a.writes b.writes
+      → AppendsPart a.written b.written (head ++ (answers x commands).text) → Talks x head a b 4
+  unfinished : (commands : List ℕ) → AreCommands a.left b.left commands
+      → AppendsFront a.written b.written (head ++ (answers x commands).text) → Talks x head a b 5

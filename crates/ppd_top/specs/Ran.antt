@@ -34,7 +34,8 @@ pub record DidNothing (schedule : List ℕ) (a b : Standing) : Type 0 where
   pub written : b.written ≡ a.written
 
 -- a whole schedule was told
-pub record WasTold (program : Program) (options : Options) (schedule : List ℕ) (a b : Standing) (status : ℕ) : Type 0 where
+pub record WasTold (program : Program) (options : Options) (schedule : List ℕ) (a b : Standing)
+    (status : ℕ) : Type 0 where
   pub whole : IsWholeRun program options schedule
   pub talks : Talks (known_of program options schedule) (summary_of_run program options schedule) a b status
 
@@ -47,7 +48,8 @@ Flows program options schedule a b status =
 abbrev pub Shows : Program → Options → (schedule : List ℕ) → (a b : Standing) → (status : ℕ) → Type 0
 Shows program options schedule a b status =
     ((status ≡ 5) × DidNothing schedule a b)
-    ⊎ ((schedule ≡ []) × Finished a.written b.written a.writes b.writes status 0 (table_of program (plan_of program options)))
+    ⊎ ((schedule ≡ []) × Finished a.written b.written a.writes b.writes status 0
+    (table_of program (plan_of program options)))
 
 -- how a shelf and an output stand: what they are told to hold, and their counts of stores and writes that failed
 pub record Keeping : Type 0 where
@@ -62,15 +64,19 @@ keeping held stores written writes = record { held = held; stores = stores; writ
 -- a recording was to be stored under a name, and then a summary written: memory ran out, or the store failed, and
 -- nothing was written; or the recording was stored
 pub data Keeps (IsRecording : List ℕ → Type 0) (name summary : List ℕ) (x y : Keeping) (status : ℕ) : Type 0 where
-  not_kept : status ≡ 5 → StoreFails x.held y.held name → y.written ≡ x.written → Keeps IsRecording name summary x y status
-  store_failed : status ≡ 4 → Rose (x.stores name) (y.stores name) → StoreFails x.held y.held name → y.written ≡ x.written → Keeps IsRecording name summary x y status
+  not_kept : status ≡ 5 → StoreFails x.held y.held name → y.written ≡ x.written
+      → Keeps IsRecording name summary x y status
+  store_failed : status ≡ 4 → Rose (x.stores name) (y.stores name) → StoreFails x.held y.held name
+      → y.written ≡ x.written → Keeps IsRecording name summary x y status
   kept : (bytes : List ℕ) → IsRecording bytes → Stores x.held y.held name bytes → StoreFails x.held y.held name
       → Finished x.written y.written x.writes y.writes status 0 summary → Keeps IsRecording name summary x y status
 
 -- a whole schedule was recorded
-pub record WasRecorded (source : List ℕ) (program : Program) (options : Options) (name schedule : List ℕ) (x y : Keeping) (status : ℕ) : Type 0 where
+pub record WasRecorded (source : List ℕ) (program : Program) (options : Options) (name schedule : List ℕ)
+    (x y : Keeping) (status : ℕ) : Type 0 where
   pub whole : IsWholeRun program options schedule
-  pub keeps : Keeps (IsRecordingOfRun source program options schedule) name (summary_of_run program options schedule) x y status
+  pub keeps : Keeps (IsRecordingOfRun source program options schedule) name
+      (summary_of_run program options schedule) x y status
 
 -- nothing came to its end, and nothing was stored or written
 pub record KeptNothing (schedule : List ℕ) (x y : Keeping) : Type 0 where
@@ -80,14 +86,16 @@ pub record KeptNothing (schedule : List ℕ) (x y : Keeping) : Type 0 where
   pub written : y.written ≡ x.written
 
 -- what `run` comes to for a program
-abbrev pub Records : (source : List ℕ) → Program → Options → (name schedule : List ℕ) → (x y : Keeping) → (status : ℕ) → Type 0
+abbrev pub Records : (source : List ℕ) → Program → Options → (name schedule : List ℕ) → (x y : Keeping) → (status : ℕ)
+    → Type 0
 Records source program options name schedule x y status =
     ((status ≡ 5) × KeptNothing schedule x y) ⊎ WasRecorded source program options name schedule x y status
 
 -- what `debug` comes to for the bytes of a recording: want of memory, a refusal, or answers
 pub data Debugs (bytes : List ℕ) (a b : Standing) (status : ℕ) : Type 0 where
   no_recall : status ≡ 5 → b.written ≡ a.written → Debugs bytes a b status
-  recording_refused : (line : List ℕ) → IsRefusedBy bytes line → b.left ≡ a.left → Finished a.written b.written a.writes b.writes status 6 line → Debugs bytes a b status
+  recording_refused : (line : List ℕ) → IsRefusedBy bytes line → b.left ≡ a.left
+      → Finished a.written b.written a.writes b.writes status 6 line → Debugs bytes a b status
   recalled : (r : Recording) → IsAccepted bytes r → Talks (known_of_recording r) [] a b status → Debugs bytes a b status
 
 -- the status of a load that was not done
@@ -102,7 +110,8 @@ Refuses error old new before now status =
 
 -- what is written of a drill's run by this schedule: all of it, or a proper prefix where a write failed, or some prefix
 -- where memory ran out
-pub record WasDrilledBy (program : Program) (schedule : List ℕ) (old new : Option (List ℕ)) (before now : ℕ) (status : ℕ) : Type 0 where
+pub record WasDrilledBy (program : Program) (schedule : List ℕ) (old new : Option (List ℕ)) (before now : ℕ)
+    (status : ℕ) : Type 0 where
   pub whole : IsWholeRun program drill_options schedule
   pub ends : Finished old new before now status 0 (drill_out program schedule).text
       ⊎ ((status ≡ 5) × AppendsFront old new (drill_out program schedule).text)
@@ -113,7 +122,8 @@ Drills program schedule old new before now status =
     ((status ≡ 5) × (schedule ≡ []) × (new ≡ old)) ⊎ WasDrilledBy program schedule old new before now status
 
 -- what `drill` comes to for a number: want of memory before it had a source, a refusal of its source, or a program
-pub data Drilled (number : ℕ) (schedule : List ℕ) (old new : Option (List ℕ)) (before now : ℕ) (status : ℕ) : Type 0 where
+pub data Drilled (number : ℕ) (schedule : List ℕ) (old new : Option (List ℕ)) (before now : ℕ)
+    (status : ℕ) : Type 0 where
   no_source : status ≡ 5 → schedule ≡ [] → new ≡ old → Drilled number schedule old new before now status
   refused_drill : (error : SourceError) → IsRefused (generated number) error → schedule ≡ []
       → Refuses error old new before now status → Drilled number schedule old new before now status
@@ -149,7 +159,8 @@ pub data Comes (words : List (Bor (List ℕ))) (x y : Around) (schedule : List �
       → Finished x.io.written y.io.written x.io.writes y.io.writes status 2 usage → Comes words x y schedule status
   no_memory : status ≡ 5 → LeftShelf x y → DidNothing schedule x.io y.io → Comes words x y schedule status
   not_loaded : (command : Command) (name : List ℕ) (options : Options) → Asks words command name options → LeftShelf x y
-      → status ≡ 3 → Rose (x.loads name) (y.loads name) → DidNothing schedule x.io y.io → Comes words x y schedule status
+      → status ≡ 3 → Rose (x.loads name) (y.loads name) → DidNothing schedule x.io y.io
+      → Comes words x y schedule status
   refusal : (command : Command) (name : List ℕ) (options : Options) (bytes : List ℕ) (error : SourceError)
       → Asks words command name options → Loads x.held name most_bytes bytes → IsRefused bytes error → LeftShelf x y
       → schedule ≡ [] → y.io.left ≡ x.io.left → Refuses error x.io.written y.io.written x.io.writes y.io.writes status
@@ -169,7 +180,8 @@ pub data Comes (words : List (Bor (List ℕ))) (x y : Around) (schedule : List �
   debug_done : (name bytes : List ℕ) → AsksDebug words name → Loads x.held name most_recording bytes → LeftShelf x y
       → schedule ≡ [] → Debugs bytes x.io y.io status → Comes words x y schedule status
   drill_done : (number : ℕ) → AsksDrill words number → LeftShelf x y → y.io.left ≡ x.io.left
-      → Drilled number schedule x.io.written y.io.written x.io.writes y.io.writes status → Comes words x y schedule status
+      → Drilled number schedule x.io.written y.io.written x.io.writes y.io.writes status
+      → Comes words x y schedule status
 
 -- ---- a schedule that is handed in
 

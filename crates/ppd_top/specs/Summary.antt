@@ -42,7 +42,8 @@ end_text program name e =
 -- the processes in order; the first one's body has number b
 abbrev pub end_texts : Program → ℕ → List ProcEnd → List ℕ
 end_texts program b [] = []
-end_texts program b (e ∷ es) = end_text program (name_of_body (slice_get program.bodies b)) e ++ end_texts program (b + 1) es
+end_texts program b (e ∷ es) = end_text program (name_of_body (slice_get program.bodies b)) e
+    ++ end_texts program (b + 1) es
 
 -- how the processes ended, then the race list
 abbrev pub summary_of : Program → List ProcEnd → List Race → List ℕ

@@ -94,11 +94,16 @@ abbrev pub usage : List ℕ
 usage = codes "usage: ppd flow|run|debug|show|drill\n"
 
 -- what a command writes in all for a source, with which status and schedule, where the input has these commands
-pub data Answers (bytes : List ℕ) (options : Options) (commands : List ℕ) : (command : Command) (schedule : List ℕ) → Output → Type 0 where
-  refusal : (command : Command) (error : SourceError) → error ≢ source.Memory → IsRefused bytes error → Answers bytes options commands command [] (output 1 (refused error))
-  run : (program : Program) (schedule : List ℕ) → IsRead bytes program → IsWholeRun program options schedule → Answers bytes options commands Flow schedule (out_of program options schedule commands)
-  stored : (program : Program) (name schedule : List ℕ) → IsRead bytes program → IsWholeRun program options schedule → Answers bytes options commands (Run name) schedule (output 0 (summary_of_run program options schedule))
-  tables : (program : Program) → IsRead bytes program → Answers bytes options commands Show [] (output 0 (table_of program (plan_of program options)))
+pub data Answers (bytes : List ℕ) (options : Options) (commands : List ℕ) : (command : Command) (schedule : List ℕ)
+    → Output → Type 0 where
+  refusal : (command : Command) (error : SourceError) → error ≢ source.Memory → IsRefused bytes error
+      → Answers bytes options commands command [] (output 1 (refused error))
+  run : (program : Program) (schedule : List ℕ) → IsRead bytes program → IsWholeRun program options schedule
+      → Answers bytes options commands Flow schedule (out_of program options schedule commands)
+  stored : (program : Program) (name schedule : List ℕ) → IsRead bytes program → IsWholeRun program options schedule
+      → Answers bytes options commands (Run name) schedule (output 0 (summary_of_run program options schedule))
+  tables : (program : Program) → IsRead bytes program → Answers bytes options commands Show []
+      (output 0 (table_of program (plan_of program options)))
 
 -- what `debug` writes in all for a recording, with which status
 pub data Recalls (bytes : List ℕ) (commands : List ℕ) : Output → Type 0 where
@@ -106,20 +111,28 @@ pub data Recalls (bytes : List ℕ) (commands : List ℕ) : Output → Type 0 wh
   answered : (r : Recording) → IsAccepted bytes r → Recalls bytes commands (answers (known_of_recording r) commands)
 
 -- what the command writes in all: said of the words, the shelf, the schedule and the commands
-pub data Writes (words : List (Bor (List ℕ))) (held : Option (List ℕ → Option (List ℕ))) (schedule commands : List ℕ) : Output → Type 0 where
+pub data Writes (words : List (Bor (List ℕ))) (held : Option (List ℕ → Option (List ℕ)))
+    (schedule commands : List ℕ) : Output → Type 0 where
   for_words : IsNotAsked words → schedule ≡ [] → Writes words held schedule commands (output 2 usage)
-  for_source : (command : Command) (name : List ℕ) (options : Options) (bytes : List ℕ) → Asks words command name options → Loads held name most_bytes bytes → (out : Output) → Answers bytes options commands command schedule out → Writes words held schedule commands out
-  for_recording : (name : List ℕ) (bytes : List ℕ) → AsksDebug words name → Loads held name most_recording bytes → schedule ≡ [] → (out : Output) → Recalls bytes commands out → Writes words held schedule commands out
-  for_number : (number : ℕ) → AsksDrill words number → (out : Output) → Answers (generated number) drill_options drill_commands Flow schedule out → Writes words held schedule commands out
+  for_source : (command : Command) (name : List ℕ) (options : Options) (bytes : List ℕ)
+      → Asks words command name options → Loads held name most_bytes bytes → (out : Output)
+      → Answers bytes options commands command schedule out → Writes words held schedule commands out
+  for_recording : (name : List ℕ) (bytes : List ℕ) → AsksDebug words name → Loads held name most_recording bytes
+      → schedule ≡ [] → (out : Output) → Recalls bytes commands out → Writes words held schedule commands out
+  for_number : (number : ℕ) → AsksDrill words number → (out : Output)
+      → Answers (generated number) drill_options drill_commands Flow schedule out
+      → Writes words held schedule commands out
 
 -- what a text leaves: all of it with its status, or a proper prefix with status 4 and a rise of the count
 abbrev pub Finished : Option (List ℕ) → Option (List ℕ) → ℕ → ℕ → ℕ → ℕ → List ℕ → Type 0
-Finished old new before now result status text = ((result ≡ status) × Appends old new text) ⊎ ((result ≡ 4) × Rose before now × AppendsPart old new text)
+Finished old new before now result status text = ((result ≡ status) × Appends old new text)
+    ⊎ ((result ≡ 4) × Rose before now × AppendsPart old new text)
 
 -- ---- the clauses of the top call, with what the shelf holds, and how input and output stood before and after
 
 -- the words ask for this command of a source, which was loaded and is that of this program
-pub record WasRead (words : List (Bor (List ℕ))) (held : Option (List ℕ → Option (List ℕ))) (command : Command) : Type 0 where
+pub record WasRead (words : List (Bor (List ℕ))) (held : Option (List ℕ → Option (List ℕ)))
+    (command : Command) : Type 0 where
   pub name : List ℕ
   pub options : Options
   pub bytes : List ℕ
@@ -130,7 +143,8 @@ pub record WasRead (words : List (Bor (List ℕ))) (held : Option (List ℕ → 
 
 -- statuses 0, 7 and 8 of `flow`: the loaded source's program ran under this schedule until nobody could take a step,
 -- and all that belongs to it and to the commands was written, with its status
-pub record RanWhole (words : List (Bor (List ℕ))) (held : Option (List ℕ → Option (List ℕ))) (schedule : List ℕ) (a b : Standing) (status : ℕ) : Type 0 where
+pub record RanWhole (words : List (Bor (List ℕ))) (held : Option (List ℕ → Option (List ℕ))) (schedule : List ℕ)
+    (a b : Standing) (status : ℕ) : Type 0 where
   pub read : WasRead words held Flow
   pub commands : List ℕ
   pub whole : IsWholeRun read.program read.options schedule
@@ -138,17 +152,20 @@ pub record RanWhole (words : List (Bor (List ℕ))) (held : Option (List ℕ →
   pub unread : IsReadNoFurther (known_of read.program read.options schedule) commands b.left
   pub status_is : status ≡ (out_of read.program read.options schedule commands).status
   pub written : Appends a.written b.written (out_of read.program read.options schedule commands).text
-  pub agreeing : IsOfAgreeing read.program read.options schedule commands (out_of read.program read.options schedule commands)
+  pub agreeing : IsOfAgreeing read.program read.options schedule commands
+      (out_of read.program read.options schedule commands)
 
 -- status 0 of `show`: the tables of the loaded source's program and its plan were written, and nothing ran
-pub record WasShown (words : List (Bor (List ℕ))) (held : Option (List ℕ → Option (List ℕ))) (schedule : List ℕ) (old new : Option (List ℕ)) : Type 0 where
+pub record WasShown (words : List (Bor (List ℕ))) (held : Option (List ℕ → Option (List ℕ))) (schedule : List ℕ)
+    (old new : Option (List ℕ)) : Type 0 where
   pub read : WasRead words held Show
   pub no_run : schedule ≡ []
   pub written : Appends old new (table_of read.program (plan_of read.program read.options))
 
--- status 0 of `run`: the loaded source's program ran under this schedule until nobody could take a step, the shelf holds
--- the recording of that run under its name and all others as before, and the summary was written
-pub record WasStored (words : List (Bor (List ℕ))) (held now : Option (List ℕ → Option (List ℕ))) (schedule : List ℕ) (old new : Option (List ℕ)) : Type 0 where
+-- status 0 of `run`: the loaded source's program ran under this schedule until nobody could take a step, the shelf
+-- holds the recording of that run under its name and all others as before, and the summary was written
+pub record WasStored (words : List (Bor (List ℕ))) (held now : Option (List ℕ → Option (List ℕ))) (schedule : List ℕ)
+    (old new : Option (List ℕ)) : Type 0 where
   pub recording : List ℕ
   pub read : WasRead words held (Run recording)
   pub stored : List ℕ
@@ -158,8 +175,8 @@ pub record WasStored (words : List (Bor (List ℕ))) (held now : Option (List �
   pub others : StoreFails held now recording
   pub written : Appends old new (summary_of_run read.program read.options schedule)
 
--- status 0 of `drill`: the program of the source that the number makes ran under this schedule until nobody could take a
--- step, and all that `flow` writes of it and of `final` was written
+-- status 0 of `drill`: the program of the source that the number makes ran under this schedule until nobody could take
+-- a step, and all that `flow` writes of it and of `final` was written
 pub record WasDrilled (words : List (Bor (List ℕ))) (schedule : List ℕ) (old new : Option (List ℕ)) : Type 0 where
   pub number : ℕ
   pub program : Program
@@ -171,7 +188,8 @@ pub record WasDrilled (words : List (Bor (List ℕ))) (schedule : List ℕ) (old
   pub agreeing : IsOfAgreeing program drill_options schedule drill_commands (drill_out program schedule)
 
 -- a loaded recording that was accepted, and what is known of it: of the run, where it is that of a whole one
-pub record IsRecalledFrom (words : List (Bor (List ℕ))) (held : Option (List ℕ → Option (List ℕ))) (recording : Recording) : Type 0 where
+pub record IsRecalledFrom (words : List (Bor (List ℕ))) (held : Option (List ℕ → Option (List ℕ)))
+    (recording : Recording) : Type 0 where
   pub name : List ℕ
   pub bytes : List ℕ
   pub asked : AsksDebug words name
@@ -179,9 +197,11 @@ pub record IsRecalledFrom (words : List (Bor (List ℕ))) (held : Option (List �
   pub accepted : IsAccepted bytes recording
   pub of_runs : IsKnownOfRuns bytes (known_of_recording recording)
 
--- statuses 0, 7 and 8 of `debug`, and 6 where a replay failed: the loaded recording was accepted, nothing ran, and all that belongs to it and to the
--- commands was written, with its status: of the recording of a run, all that is written of the run but the summary
-pub record WasAnswered (words : List (Bor (List ℕ))) (held : Option (List ℕ → Option (List ℕ))) (schedule : List ℕ) (a b : Standing) (status : ℕ) : Type 0 where
+-- statuses 0, 7 and 8 of `debug`, and 6 where a replay failed: the loaded recording was accepted, nothing ran, and all
+-- that belongs to it and to the commands was written, with its status: of the recording of a run, all that is written
+-- of the run but the summary
+pub record WasAnswered (words : List (Bor (List ℕ))) (held : Option (List ℕ → Option (List ℕ))) (schedule : List ℕ)
+    (a b : Standing) (status : ℕ) : Type 0 where
   pub recording : Recording
   pub commands : List ℕ
   pub recalled : IsRecalledFrom words held recording
@@ -193,7 +213,8 @@ pub record WasAnswered (words : List (Bor (List ℕ))) (held : Option (List ℕ 
 
 -- status 6: the loaded bytes are refused, and the line that says why was written; they are accepted by no recording,
 -- and are that of no whole run
-pub record WasNotRecalled (words : List (Bor (List ℕ))) (held : Option (List ℕ → Option (List ℕ))) (schedule : List ℕ) (a b : Standing) : Type 0 where
+pub record WasNotRecalled (words : List (Bor (List ℕ))) (held : Option (List ℕ → Option (List ℕ))) (schedule : List ℕ)
+    (a b : Standing) : Type 0 where
   pub name : List ℕ
   pub bytes : List ℕ
   pub line : List ℕ
@@ -201,19 +222,23 @@ pub record WasNotRecalled (words : List (Bor (List ℕ))) (held : Option (List �
   pub loaded : Loads held name most_recording bytes
   pub cause : IsRefusedBy bytes line
   pub not_accepted : (r : Recording) → IsAccepted bytes r → ⊥
-  pub of_no_run : (source : List ℕ) (header : Header) (program : Program) (h : List ℕ) → IsRunRecorded source header program h bytes → ⊥
+  pub of_no_run : (source : List ℕ) (header : Header) (program : Program) (h : List ℕ)
+      → IsRunRecorded source header program h bytes → ⊥
   pub no_run : schedule ≡ []
   pub unread : b.left ≡ a.left
   pub written : Appends a.written b.written line
 
 -- or a replay failed that the answer to a line needs, and the answers before it and the line that says so were written;
 -- the recording is that of no whole run
-pub record ReplayRefused (words : List (Bor (List ℕ))) (held : Option (List ℕ → Option (List ℕ))) (schedule : List ℕ) (a b : Standing) : Type 0 where
+pub record ReplayRefused (words : List (Bor (List ℕ))) (held : Option (List ℕ → Option (List ℕ))) (schedule : List ℕ)
+    (a b : Standing) : Type 0 where
   pub answered : WasAnswered words held schedule a b 6
-  pub of_no_run : (source : List ℕ) (header : Header) (program : Program) (h : List ℕ) → IsRunRecorded source header program h answered.recalled.bytes → ⊥
+  pub of_no_run : (source : List ℕ) (header : Header) (program : Program) (h : List ℕ)
+      → IsRunRecorded source header program h answered.recalled.bytes → ⊥
 
 -- status 1: the loaded source has no program, and the line that says why was written
-pub record WasRefused (words : List (Bor (List ℕ))) (held : Option (List ℕ → Option (List ℕ))) (old new : Option (List ℕ)) : Type 0 where
+pub record WasRefused (words : List (Bor (List ℕ))) (held : Option (List ℕ → Option (List ℕ)))
+    (old new : Option (List ℕ)) : Type 0 where
   pub command : Command
   pub name : List ℕ
   pub options : Options
@@ -242,7 +267,8 @@ pub record WasNotAsked (words : List (Bor (List ℕ))) (old new : Option (List �
   pub written : Appends old new usage
 
 -- status 3: a load of the source's name failed, nothing ran, and nothing was written
-pub record LoadFailed (words : List (Bor (List ℕ))) (before now : List ℕ → ℕ) (schedule : List ℕ) (old new : Option (List ℕ)) : Type 0 where
+pub record LoadFailed (words : List (Bor (List ℕ))) (before now : List ℕ → ℕ) (schedule : List ℕ)
+    (old new : Option (List ℕ)) : Type 0 where
   pub command : Command
   pub name : List ℕ
   pub options : Options
@@ -252,7 +278,8 @@ pub record LoadFailed (words : List (Bor (List ℕ))) (before now : List ℕ →
   pub written : new ≡ old
 
 -- or in `debug` a load of the recording's name
-pub record RecordingUnread (words : List (Bor (List ℕ))) (before now : List ℕ → ℕ) (schedule : List ℕ) (old new : Option (List ℕ)) : Type 0 where
+pub record RecordingUnread (words : List (Bor (List ℕ))) (before now : List ℕ → ℕ) (schedule : List ℕ)
+    (old new : Option (List ℕ)) : Type 0 where
   pub name : List ℕ
   pub asked : AsksDebug words name
   pub rose : Rose (before name) (now name)
@@ -261,20 +288,24 @@ pub record RecordingUnread (words : List (Bor (List ℕ))) (before now : List �
 
 -- or in `flow` a read of the input failed, and the summary with the answers to the whole lines among the bytes taken
 -- was written; none of these lines ends the answers
-pub record InputFailed (words : List (Bor (List ℕ))) (held : Option (List ℕ → Option (List ℕ))) (schedule : List ℕ) (a b : Standing) : Type 0 where
+pub record InputFailed (words : List (Bor (List ℕ))) (held : Option (List ℕ → Option (List ℕ))) (schedule : List ℕ)
+    (a b : Standing) : Type 0 where
   pub read : WasRead words held Flow
   pub whole : IsWholeRun read.program read.options schedule
-  pub broken : IsBroken (known_of read.program read.options schedule) (summary_of_run read.program read.options schedule) a b
+  pub broken : IsBroken (known_of read.program read.options schedule)
+      (summary_of_run read.program read.options schedule) a b
 
 -- or in `debug`, where the answers to the whole lines among the bytes taken were written
-pub record LinesFailed (words : List (Bor (List ℕ))) (held : Option (List ℕ → Option (List ℕ))) (schedule : List ℕ) (a b : Standing) : Type 0 where
+pub record LinesFailed (words : List (Bor (List ℕ))) (held : Option (List ℕ → Option (List ℕ))) (schedule : List ℕ)
+    (a b : Standing) : Type 0 where
   pub recording : Recording
   pub recalled : IsRecalledFrom words held recording
   pub no_run : schedule ≡ []
   pub broken : IsBroken (known_of_recording recording) [] a b
 
 -- status 4: a write failed, and a proper prefix of what the command writes went out
-pub record WriteFailed (words : List (Bor (List ℕ))) (held : Option (List ℕ → Option (List ℕ))) (schedule : List ℕ) (a b : Standing) : Type 0 where
+pub record WriteFailed (words : List (Bor (List ℕ))) (held : Option (List ℕ → Option (List ℕ))) (schedule : List ℕ)
+    (a b : Standing) : Type 0 where
   pub rose : Rose a.writes b.writes
   pub commands : List ℕ
   pub told : AreCommands a.left b.left commands
@@ -283,7 +314,8 @@ pub record WriteFailed (words : List (Bor (List ℕ))) (held : Option (List ℕ 
   pub written : AppendsPart a.written b.written out.text
 
 -- or in `run` a store under the recording's name failed, after the run came to its end, and nothing was written
-pub record StoreFailed (words : List (Bor (List ℕ))) (held now : Option (List ℕ → Option (List ℕ))) (stores_before stores_now : List ℕ → ℕ) (schedule : List ℕ) (old new : Option (List ℕ)) : Type 0 where
+pub record StoreFailed (words : List (Bor (List ℕ))) (held now : Option (List ℕ → Option (List ℕ)))
+    (stores_before stores_now : List ℕ → ℕ) (schedule : List ℕ) (old new : Option (List ℕ)) : Type 0 where
   pub recording : List ℕ
   pub read : WasRead words held (Run recording)
   pub whole : IsWholeRun read.program read.options schedule
@@ -293,13 +325,15 @@ pub record StoreFailed (words : List (Bor (List ℕ))) (held now : Option (List 
 
 -- status 5: want of memory, perhaps before the words were read; nothing came to its end, and nothing was stored or
 -- written
-pub record MemoryRanOut (held now : Option (List ℕ → Option (List ℕ))) (schedule : List ℕ) (old new : Option (List ℕ)) : Type 0 where
+pub record MemoryRanOut (held now : Option (List ℕ → Option (List ℕ))) (schedule : List ℕ)
+    (old new : Option (List ℕ)) : Type 0 where
   pub kept : now ≡ held
   pub no_run : schedule ≡ []
   pub written : new ≡ old
 
 -- or in `flow` want of memory after the run, and a prefix of what the command writes went out
-pub record WasCutOff (words : List (Bor (List ℕ))) (held : Option (List ℕ → Option (List ℕ))) (schedule : List ℕ) (a b : Standing) : Type 0 where
+pub record WasCutOff (words : List (Bor (List ℕ))) (held : Option (List ℕ → Option (List ℕ))) (schedule : List ℕ)
+    (a b : Standing) : Type 0 where
   pub read : WasRead words held Flow
   pub commands : List ℕ
   pub whole : IsWholeRun read.program read.options schedule
@@ -307,7 +341,8 @@ pub record WasCutOff (words : List (Bor (List ℕ))) (held : Option (List ℕ �
   pub written : AppendsFront a.written b.written (out_of read.program read.options schedule commands).text
 
 -- or in `run` want of memory after the run, and nothing was written
-pub record WasNotStored (words : List (Bor (List ℕ))) (held now : Option (List ℕ → Option (List ℕ))) (schedule : List ℕ) (old new : Option (List ℕ)) : Type 0 where
+pub record WasNotStored (words : List (Bor (List ℕ))) (held now : Option (List ℕ → Option (List ℕ)))
+    (schedule : List ℕ) (old new : Option (List ℕ)) : Type 0 where
   pub recording : List ℕ
   pub read : WasRead words held (Run recording)
   pub whole : IsWholeRun read.program read.options schedule
@@ -324,7 +359,8 @@ pub record DrillCutOff (words : List (Bor (List ℕ))) (schedule : List ℕ) (ol
   pub written : AppendsFront old new (drill_out program schedule).text
 
 -- or in `debug` want of memory, and a prefix of what the command writes went out
-pub record AnswersCutOff (words : List (Bor (List ℕ))) (held : Option (List ℕ → Option (List ℕ))) (schedule : List ℕ) (a b : Standing) : Type 0 where
+pub record AnswersCutOff (words : List (Bor (List ℕ))) (held : Option (List ℕ → Option (List ℕ))) (schedule : List ℕ)
+    (a b : Standing) : Type 0 where
   pub recording : Recording
   pub commands : List ℕ
   pub recalled : IsRecalledFrom words held recording
@@ -344,7 +380,8 @@ pub record IsFineInput (a b : Standing) : Type 0 where
 
 -- A told source of the language succeeds, but for want of memory, where no load of its name and no write failed, in
 -- `flow` the input is fine, and in `run` no store of the recording's name failed.
-pub record IsPromised (words : List (Bor (List ℕ))) (held : Option (List ℕ → Option (List ℕ))) (loads_before loads_now stores_before stores_now : List ℕ → ℕ) (a b : Standing) : Type 0 where
+pub record IsPromised (words : List (Bor (List ℕ))) (held : Option (List ℕ → Option (List ℕ)))
+    (loads_before loads_now stores_before stores_now : List ℕ → ℕ) (a b : Standing) : Type 0 where
   pub command : Command
   pub name : List ℕ
   pub options : Options
@@ -358,11 +395,13 @@ pub record IsPromised (words : List (Bor (List ℕ))) (held : Option (List ℕ �
   pub no_load_fault : Rose (loads_before name) (loads_now name) → ⊥
   pub no_write_fault : Rose a.writes b.writes → ⊥
   pub fine : command ≡ Flow → IsFineInput a b
-  pub no_store_fault : (recording : List ℕ) → command ≡ Run recording → Rose (stores_before recording) (stores_now recording) → ⊥
+  pub no_store_fault : (recording : List ℕ) → command ≡ Run recording
+      → Rose (stores_before recording) (stores_now recording) → ⊥
 
--- The told recording of a whole run succeeds, but for want of memory, where no load of its name and no write failed, and
--- the input is fine.
-pub record IsPromisedAnswers (words : List (Bor (List ℕ))) (held : Option (List ℕ → Option (List ℕ))) (loads_before loads_now : List ℕ → ℕ) (a b : Standing) : Type 0 where
+-- The told recording of a whole run succeeds, but for want of memory, where no load of its name and no write failed,
+-- and the input is fine.
+pub record IsPromisedAnswers (words : List (Bor (List ℕ))) (held : Option (List ℕ → Option (List ℕ)))
+    (loads_before loads_now : List ℕ → ℕ) (a b : Standing) : Type 0 where
   pub name : List ℕ
   pub at : List ℕ → Option (List ℕ)
   pub all : List ℕ
@@ -419,8 +458,12 @@ pub record EndsWith (program : Program) (options : Options) (commands schedule :
 -- why there is no text: a refused source comes first, then what the schedule lacks, then the lines
 abbrev pub FollowFails : List ℕ → Options → (commands schedule : List ℕ) → FollowError → Type 0
 FollowFails bytes options commands schedule (Refused error) = (error ≢ source.Memory) × IsRefused bytes error
-FollowFails bytes options commands schedule (NotEnabled n) = (program : Program) × IsRead bytes program × IsStuckAt program options schedule n
-FollowFails bytes options commands schedule NotWhole = (program : Program) × IsRead bytes program × IsUnfinished program options schedule
-FollowFails bytes options commands schedule LongLine = (program : Program) × IsRead bytes program × EndsWith program options commands schedule 7
-FollowFails bytes options commands schedule ManyLines = (program : Program) × IsRead bytes program × EndsWith program options commands schedule 8
+FollowFails bytes options commands schedule (NotEnabled n) = (program : Program) × IsRead bytes program
+    × IsStuckAt program options schedule n
+FollowFails bytes options commands schedule NotWhole = (program : Program) × IsRead bytes program
+    × IsUnfinished program options schedule
+FollowFails bytes options commands schedule LongLine = (program : Program) × IsRead bytes program
+    × EndsWith program options commands schedule 7
+FollowFails bytes options commands schedule ManyLines = (program : Program) × IsRead bytes program
+    × EndsWith program options commands schedule 8
 FollowFails bytes options commands schedule Memory = Unit {0}

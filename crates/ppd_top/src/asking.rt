@@ -1,6 +1,6 @@
 // The command lines of an input, each answered before the next is read.
-ghost use Rattle.std.specs.Prelude.{◌≡◌, ◌+◌, ◌<◌, ◌≤◌, ℕ, List, [], false, None};
-ghost use Rattle.ppd_ast.specs.declared.limits.TheConstants.{MOST_INPUT_LINES, MOST_LINE_BYTES};
+ghost use Rattle.std.specs.Prelude.{◌≡◌, ◌<◌, ◌≤◌, ℕ, List, [], false, None};
+ghost use Rattle.ppd_ast.specs.declared.limits.TheConstants.{MOST_INPUT_LINES};
 ghost use Rattle.ppd_session.specs.Known.{Known};
 ghost use Rattle.ppd_session.specs.Questions.{is_quit};
 ghost use Rattle.ppd_session.specs.Texts.{failure_of, text_of};
@@ -21,7 +21,8 @@ const MANY_LINES: &[u8] = b"many lines\n";
 
 /// Writes all that there is to write, and answers the status.
 pub(crate) fn finish<O: Sink>(output: &mut O, text: &[u8], status: u8) -> u8
-    ensures end { Finished (O.written output.old) (O.written output.new) (O.faults output.old) (O.faults output.new) result status text.now }
+    ensures end { Finished (O.written output.old) (O.written output.new) (O.faults output.old)
+        (O.faults output.new) result status text.now }
     ensures later { O.faults output.old ≤ O.faults output.new }
 {
     match put_all(output, text) {
@@ -32,8 +33,10 @@ pub(crate) fn finish<O: Sink>(output: &mut O, text: &[u8], status: u8) -> u8
 
 /// Writes a reply, and says with which status that ends, if it ends.
 fn deliver<O: Sink>(reply: &Reply, output: &mut O) -> Option<u8>
-    ensures becomes { (x : Known) (line : List ℕ) → failure_of x line ≡ None → reply.now.text ≡ text_of x line → reply.now.quit ≡ is_quit line
-        → Becomes x line (O.written output.old) (O.written output.new) (O.faults output.old) (O.faults output.new) result }
+    ensures becomes { (x : Known) (line : List ℕ) → failure_of x line ≡ None → reply.now.text ≡ text_of x line
+        → reply.now.quit ≡ is_quit line
+        → Becomes x line (O.written output.old) (O.written output.new) (O.faults output.old)
+        (O.faults output.new) result }
     ensures later { O.faults output.old ≤ O.faults output.new }
 {
     match put_all(output, reply.text.as_slice()) {
@@ -54,7 +57,8 @@ fn refuse_replay<O: Sink>(
     error: SessionError,
     output: &mut O,
 ) -> u8
-    ensures failed { IsFailed program.now error (O.written output.old) (O.written output.new) (O.faults output.old) (O.faults output.new) result }
+    ensures failed { IsFailed program.now error (O.written output.old) (O.written output.new) (O.faults output.old)
+        (O.faults output.new) result }
     ensures later { O.faults output.old ≤ O.faults output.new }
 {
     match replay_line(alloc, program, error) {
@@ -72,7 +76,8 @@ fn answer_line<O: Sink>(
     output: &mut O,
 ) -> Option<u8>
     requires { session.old.program ≡ program.now }
-    ensures becomes { Becomes session.old line.now (O.written output.old) (O.written output.new) (O.faults output.old) (O.faults output.new) result }
+    ensures becomes { Becomes session.old line.now (O.written output.old) (O.written output.new) (O.faults output.old)
+        (O.faults output.new) result }
     ensures same { session.new ≡ session.old }
     ensures later { O.faults output.old ≤ O.faults output.new }
 {
@@ -92,7 +97,10 @@ fn answer_next<I: Source, O: Sink>(
     output: &mut O,
 ) -> Option<u8>
     requires { session.old.program ≡ program.now }
-    ensures goes { (a : Standing) (n : ℕ) → n < MOST_INPUT_LINES → IsAsked session.old n reader.old a (standing (I.left input.old) (I.faults input.old) (O.written output.old) (O.faults output.old)) → Goes session.old n reader.new a (standing (I.left input.new) (I.faults input.new) (O.written output.new) (O.faults output.new)) result }
+    ensures goes { (a : Standing) (n : ℕ) → n < MOST_INPUT_LINES
+        → IsAsked session.old n reader.old a (standing (I.left input.old) (I.faults input.old) (O.written output.old)
+        (O.faults output.old)) → Goes session.old n reader.new a
+        (standing (I.left input.new) (I.faults input.new) (O.written output.new) (O.faults output.new)) result }
     ensures same { session.new ≡ session.old }
 {
     match reader.next(input) {
@@ -105,7 +113,10 @@ fn answer_next<I: Source, O: Sink>(
 
 /// Ends after as many lines as there may be: with one more they are too many.
 fn end_lines<I: Source, O: Sink>(reader: &mut LineReader, input: &mut I, output: &mut O) -> u8
-    ensures { (a : Standing) → (x : Known) → IsAsked x MOST_INPUT_LINES reader.old a (standing (I.left input.old) (I.faults input.old) (O.written output.old) (O.faults output.old)) → Talks x [] a (standing (I.left input.new) (I.faults input.new) (O.written output.new) (O.faults output.new)) result }
+    ensures { (a : Standing) → (x : Known) → IsAsked x MOST_INPUT_LINES reader.old a
+        (standing (I.left input.old) (I.faults input.old) (O.written output.old) (O.faults output.old))
+        → Talks x [] a (standing (I.left input.new) (I.faults input.new) (O.written output.new)
+        (O.faults output.new)) result }
 {
     match reader.next(input) {
         Err(LineError::Failed) => 3,
@@ -127,7 +138,9 @@ pub(crate) fn talk<I: Source, O: Sink>(
 ) -> u8
     requires program { session.old.program ≡ program.now }
     requires reader { reader.old ≡ record { line = []; held = []; ended = false } }
-    ensures { Talks session.old [] (standing (I.left input.old) (I.faults input.old) (O.written output.old) (O.faults output.old)) (standing (I.left input.new) (I.faults input.new) (O.written output.new) (O.faults output.new)) result }
+    ensures { Talks session.old [] (standing (I.left input.old) (I.faults input.old) (O.written output.old)
+        (O.faults output.old)) (standing (I.left input.new) (I.faults input.new) (O.written output.new)
+        (O.faults output.new)) result }
 {
     for _number in 0..MOST_INPUT_LINES {
         if let Some(status) = answer_next(alloc, program, session, reader, input, output) {

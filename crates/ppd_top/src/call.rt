@@ -1,5 +1,5 @@
 // The top call.
-ghost use Rattle.std.specs.Prelude.{◌≡◌, ◌<◌, ◌≤◌, ◌⊎◌, ℕ, List, []};
+ghost use Rattle.std.specs.Prelude.{◌≡◌, ◌<◌, ◌⊎◌, ℕ, List, []};
 ghost use Rattle.std.specs.Borrow.{Bor};
 ghost use Rattle.ppd_io.specs.Content.{StoreFails};
 ghost use Rattle.ppd_top.specs.declared.options.Options.{Options as OptionsOf};
@@ -59,8 +59,8 @@ const MOST_RECORDING: usize = MOST_RECORDING_BYTES + 1;
 ///   `debug` all answers; in `drill` the summary and the last values.
 /// - 1: the source, in `drill` that of the number, has no program, and the line that says why was written.
 /// - 2: the words are others, and the usage line was written.
-/// - 3: the shelf failed to load the source or the recording, and nothing was written; or in `flow` and `debug` a read of
-///   the input failed, and in `flow` the summary, in both the answers to the whole lines before were written.
+/// - 3: the shelf failed to load the source or the recording, and nothing was written; or in `flow` and `debug` a read
+///   of the input failed, and in `flow` the summary, in both the answers to the whole lines before were written.
 /// - 4: the output failed, and a proper prefix of what belongs there was written; or in `run` the store failed.
 /// - 5: want of memory, and a prefix of what belongs there was written; nothing where no run came to its end. It may
 ///   come whatever the words are.
@@ -85,7 +85,8 @@ pub fn ppd<F: Shelf, I: Source, O: Sink, G: Gate, R: Threads + Wait + Sync>(
         (standing (I.left input.old) (I.faults input.old) (O.written output.old) (O.faults output.old))
         (standing (I.left input.new) (I.faults input.new) (O.written output.new) (O.faults output.new)) 0
         ⊎ (WasShown words.now (F.held shelf.old) result.schedule (O.written output.old) (O.written output.new)
-        ⊎ (WasStored words.now (F.held shelf.old) (F.held shelf.new) result.schedule (O.written output.old) (O.written output.new)
+        ⊎ (WasStored words.now (F.held shelf.old) (F.held shelf.new) result.schedule (O.written output.old)
+        (O.written output.new)
         ⊎ (WasAnswered words.now (F.held shelf.old) result.schedule
         (standing (I.left input.old) (I.faults input.old) (O.written output.old) (O.faults output.old))
         (standing (I.left input.new) (I.faults input.new) (O.written output.new) (O.faults output.new)) 0
@@ -96,28 +97,34 @@ pub fn ppd<F: Shelf, I: Source, O: Sink, G: Gate, R: Threads + Wait + Sync>(
         ⊎ WasAnswered words.now (F.held shelf.old) result.schedule
         (standing (I.left input.old) (I.faults input.old) (O.written output.old) (O.faults output.old))
         (standing (I.left input.new) (I.faults input.new) (O.written output.new) (O.faults output.new)) result.status }
-    ensures refused { result.status ≡ 1 → WasRefused words.now (F.held shelf.old) (O.written output.old) (O.written output.new)
+    ensures refused { result.status ≡ 1 → WasRefused words.now (F.held shelf.old) (O.written output.old)
+        (O.written output.new)
         ⊎ WasNotDrilled words.now (O.written output.old) (O.written output.new) }
     ensures usage { result.status ≡ 2 → WasNotAsked words.now (O.written output.old) (O.written output.new) }
     ensures read { result.status ≡ 3
-        → LoadFailed words.now (F.failed_loads shelf.old) (F.failed_loads shelf.new) result.schedule (O.written output.old) (O.written output.new)
+        → LoadFailed words.now (F.failed_loads shelf.old) (F.failed_loads shelf.new) result.schedule
+        (O.written output.old) (O.written output.new)
         ⊎ (InputFailed words.now (F.held shelf.old) result.schedule
         (standing (I.left input.old) (I.faults input.old) (O.written output.old) (O.faults output.old))
         (standing (I.left input.new) (I.faults input.new) (O.written output.new) (O.faults output.new))
-        ⊎ (RecordingUnread words.now (F.failed_loads shelf.old) (F.failed_loads shelf.new) result.schedule (O.written output.old) (O.written output.new)
+        ⊎ (RecordingUnread words.now (F.failed_loads shelf.old) (F.failed_loads shelf.new) result.schedule
+        (O.written output.old) (O.written output.new)
         ⊎ LinesFailed words.now (F.held shelf.old) result.schedule
         (standing (I.left input.old) (I.faults input.old) (O.written output.old) (O.faults output.old))
         (standing (I.left input.new) (I.faults input.new) (O.written output.new) (O.faults output.new)))) }
     ensures write { result.status ≡ 4 → WriteFailed words.now (F.held shelf.old) result.schedule
         (standing (I.left input.old) (I.faults input.old) (O.written output.old) (O.faults output.old))
         (standing (I.left input.new) (I.faults input.new) (O.written output.new) (O.faults output.new))
-        ⊎ StoreFailed words.now (F.held shelf.old) (F.held shelf.new) (F.failed_stores shelf.old) (F.failed_stores shelf.new) result.schedule (O.written output.old) (O.written output.new) }
+        ⊎ StoreFailed words.now (F.held shelf.old) (F.held shelf.new) (F.failed_stores shelf.old)
+        (F.failed_stores shelf.new) result.schedule (O.written output.old) (O.written output.new) }
     ensures memory { result.status ≡ 5
-        → MemoryRanOut (F.held shelf.old) (F.held shelf.new) result.schedule (O.written output.old) (O.written output.new)
+        → MemoryRanOut (F.held shelf.old) (F.held shelf.new) result.schedule (O.written output.old)
+        (O.written output.new)
         ⊎ (WasCutOff words.now (F.held shelf.old) result.schedule
         (standing (I.left input.old) (I.faults input.old) (O.written output.old) (O.faults output.old))
         (standing (I.left input.new) (I.faults input.new) (O.written output.new) (O.faults output.new))
-        ⊎ (WasNotStored words.now (F.held shelf.old) (F.held shelf.new) result.schedule (O.written output.old) (O.written output.new)
+        ⊎ (WasNotStored words.now (F.held shelf.old) (F.held shelf.new) result.schedule (O.written output.old)
+        (O.written output.new)
         ⊎ (AnswersCutOff words.now (F.held shelf.old) result.schedule
         (standing (I.left input.old) (I.faults input.old) (O.written output.old) (O.faults output.old))
         (standing (I.left input.new) (I.faults input.new) (O.written output.new) (O.faults output.new))
@@ -133,7 +140,8 @@ pub fn ppd<F: Shelf, I: Source, O: Sink, G: Gate, R: Threads + Wait + Sync>(
         (standing (I.left input.old) (I.faults input.old) (O.written output.old) (O.faults output.old))
         (standing (I.left input.new) (I.faults input.new) (O.written output.new) (O.faults output.new))
         → (result.status ≡ 0) ⊎ (result.status ≡ 5) }
-    ensures answers { IsPromisedAnswers words.now (F.held shelf.old) (F.failed_loads shelf.old) (F.failed_loads shelf.new)
+    ensures answers { IsPromisedAnswers words.now (F.held shelf.old) (F.failed_loads shelf.old)
+        (F.failed_loads shelf.new)
         (standing (I.left input.old) (I.faults input.old) (O.written output.old) (O.faults output.old))
         (standing (I.left input.new) (I.faults input.new) (O.written output.new) (O.faults output.new))
         → (result.status ≡ 0) ⊎ (result.status ≡ 5) }
@@ -201,13 +209,15 @@ fn on_source<F: Shelf, I: Source, O: Sink, G: Gate, R: Threads + Wait + Sync>(
     output: &mut O,
 ) -> Outcome
     requires range { AreInRange request.now.options }
-    ensures comes { (words : List (Bor (List ℕ))) → Asks words (command_of request.now.command) request.now.name.now request.now.options → Comes words
+    ensures comes { (words : List (Bor (List ℕ))) → Asks words
+        (command_of request.now.command) request.now.name.now request.now.options → Comes words
         (around (F.held shelf.old) (F.failed_loads shelf.old) (F.failed_stores shelf.old)
         (standing (I.left input.old) (I.faults input.old) (O.written output.old) (O.faults output.old)))
         (around (F.held shelf.new) (F.failed_loads shelf.new) (F.failed_stores shelf.new)
         (standing (I.left input.new) (I.faults input.new) (O.written output.new) (O.faults output.new)))
         result.schedule result.status }
-    ensures input { (result.status ≡ 1) ⊎ ((result.status ≡ 2) ⊎ (command_of request.now.command ≡ Flow → ⊥)) → input.new ≡ input.old }
+    ensures input { (result.status ≡ 1) ⊎ ((result.status ≡ 2) ⊎ (command_of request.now.command ≡ Flow → ⊥))
+        → input.new ≡ input.old }
 {
     match shelf.load(means.alloc, request.name, MOST_BYTES) {
         Err(error) => unloaded(means.alloc, error),
@@ -285,7 +295,8 @@ fn unloaded(alloc: Global, error: ShelfError) -> Outcome
 
 /// Writes why a source is refused.
 pub(crate) fn refuse<O: Sink>(alloc: Global, error: SourceError, output: &mut O) -> Outcome
-    ensures refused { Refuses error (O.written output.old) (O.written output.new) (O.faults output.old) (O.faults output.new) result.status }
+    ensures refused { Refuses error (O.written output.old) (O.written output.new) (O.faults output.old)
+        (O.faults output.new) result.status }
     ensures schedule { result.schedule ≡ [] }
 {
     match refusal_line(alloc, error) {

@@ -1,5 +1,5 @@
 // The command `debug`: the lines of the input are answered on a recording.
-ghost use Rattle.std.specs.Prelude.{◌≡◌, []};
+ghost use Rattle.std.specs.Prelude.{[]};
 ghost use Rattle.ppd_stored.specs.Recordings.{IsRecalled, known_of};
 ghost use Rattle.ppd_top.specs.Output.{Talks, standing};
 ghost use Rattle.ppd_top.specs.Ran.{Debugs};

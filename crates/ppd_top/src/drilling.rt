@@ -1,5 +1,4 @@
 // The command `drill`: `flow` on a source that a number makes, with one line in place of the input.
-ghost use Rattle.std.specs.Prelude.{◌≡◌};
 ghost use Rattle.ppd_ast.specs.Valid.{IsValid};
 ghost use Rattle.ppd_top.specs.Ran.{Drilled, Drills};
 
@@ -11,7 +10,7 @@ use ppd_ast::limits::MOST_BUDGET;
 use ppd_ast::{Policy, Program};
 use ppd_check::read_source;
 use ppd_drill::generate;
-use ppd_io::{Gate, Sink, SteadySource};
+use ppd_io::{CHUNK_BYTES, Gate, Sink, SteadySource};
 use std::sync::Wait;
 use std::thread::Threads;
 
@@ -25,12 +24,13 @@ fn drill_program<O: Sink, G: Gate, R: Threads + Wait + Sync>(
     output: &mut O,
 ) -> Outcome
     requires { IsValid program.now }
-    ensures { Drills program.now result.schedule (O.written output.old) (O.written output.new) (O.faults output.old) (O.faults output.new) result.status }
+    ensures { Drills program.now result.schedule (O.written output.old) (O.written output.new) (O.faults output.old)
+        (O.faults output.new) result.status }
 {
     let Ok(commands) = Vec::from_slice(means.alloc, COMMANDS) else {
         return ended(means.alloc, 5);
     };
-    let mut input = SteadySource::new(commands, 4096);
+    let mut input = SteadySource::new(commands, CHUNK_BYTES);
     let task = Task {
         program,
         options: Options {
@@ -47,7 +47,8 @@ pub(crate) fn drill<O: Sink, G: Gate, R: Threads + Wait + Sync>(
     number: u32,
     output: &mut O,
 ) -> Outcome
-    ensures { Drilled number result.schedule (O.written output.old) (O.written output.new) (O.faults output.old) (O.faults output.new) result.status }
+    ensures { Drilled number result.schedule (O.written output.old) (O.written output.new) (O.faults output.old)
+        (O.faults output.new) result.status }
 {
     let Ok(source) = generate(means.alloc, number) else {
         return ended(means.alloc, 5);

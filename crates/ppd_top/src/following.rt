@@ -20,7 +20,7 @@ use crate::text_sink::TextSink;
 use ppd_ast::{Memory, Plan, Program};
 use ppd_blocks::partition;
 use ppd_check::{SourceError, read_source};
-use ppd_io::SteadySource;
+use ppd_io::{CHUNK_BYTES, SteadySource};
 use ppd_model::{Closed, DriveError};
 use ppd_world::World;
 use std::alloc::Global;
@@ -112,14 +112,17 @@ fn tell_all(
     commands: &[u8],
 ) -> Result<Vec<u8>, FollowError>
     requires { CanBeTold run.now.program.now run.now.plan run.now.budget run.now.closed }
-    ensures text { IfOk result (λ text. before (summary_of run.now.program.now run.now.closed.ends (races_of_logs run.now.program.now run.now.closed.logs))
-        (answers (known_of_logs run.now.program.now run.now.plan run.now.budget run.now.closed.logs) commands.now) ≡ output 0 text.items) }
-    ensures error { IfErr result (λ e. FailsBy (answers (known_of_logs run.now.program.now run.now.plan run.now.budget run.now.closed.logs) commands.now).status e) }
+    ensures text { IfOk result (λ text. before (summary_of run.now.program.now run.now.closed.ends
+        (races_of_logs run.now.program.now run.now.closed.logs))
+        (answers (known_of_logs run.now.program.now run.now.plan run.now.budget run.now.closed.logs) commands.now)
+        ≡ output 0 text.items) }
+    ensures error { IfErr result (λ e. FailsBy (answers
+        (known_of_logs run.now.program.now run.now.plan run.now.budget run.now.closed.logs) commands.now).status e) }
 {
     let Ok(bytes) = Vec::from_slice(alloc, commands) else {
         return Err(FollowError::Memory);
     };
-    let mut input = SteadySource::new(bytes, 4096);
+    let mut input = SteadySource::new(bytes, CHUNK_BYTES);
     let mut output = TextSink::new(alloc);
     match tell(rt, alloc, run, &mut input, &mut output) {
         0 => Ok(output.into_text()),

@@ -1,5 +1,5 @@
 // The command `run`: a run whose recording is stored.
-ghost use Rattle.std.specs.Prelude.{◌≡◌, ◌≤◌, ℕ, List, []};
+ghost use Rattle.std.specs.Prelude.{◌≡◌, []};
 ghost use Rattle.ppd_ast.specs.Valid.{IsValid};
 ghost use Rattle.ppd_check.specs.Read.{IsRead};
 ghost use Rattle.ppd_codec.specs.Recordings.{IsRecordingOf};
@@ -52,7 +52,8 @@ fn store<F: Shelf, O: Sink>(
 ) -> u8
     requires told { CanBeTold run.now.program.now run.now.plan run.now.budget run.now.closed }
     requires of_run { AreOfSomeRun task.now.source.now (header_for task.now.task.options) run.now.closed.logs }
-    ensures { Keeps (IsRecordingOf task.now.source.now (header_for task.now.task.options) run.now.closed.logs) task.now.recording.now
+    ensures { Keeps (IsRecordingOf task.now.source.now
+        (header_for task.now.task.options) run.now.closed.logs) task.now.recording.now
         (summary_of run.now.program.now run.now.closed.ends (races_of_logs run.now.program.now run.now.closed.logs))
         (keeping (F.held shelf.old) (F.failed_stores shelf.old) (O.written output.old) (O.faults output.old))
         (keeping (F.held shelf.new) (F.failed_stores shelf.new) (O.written output.new) (O.faults output.new)) result }
@@ -81,9 +82,11 @@ pub(crate) fn record_run<F: Shelf, O: Sink, G: Gate, R: Threads + Wait + Sync>(
     requires program { IsValid task.now.task.program.now }
     requires range { AreInRange task.now.task.options }
     requires read { IsRead task.now.source.now task.now.task.program.now }
-    ensures { Records task.now.source.now task.now.task.program.now task.now.task.options task.now.recording.now result.schedule
+    ensures { Records task.now.source.now task.now.task.program.now task.now.task.options task.now.recording.now
+        result.schedule
         (keeping (F.held shelf.old) (F.failed_stores shelf.old) (O.written output.old) (O.faults output.old))
-        (keeping (F.held shelf.new) (F.failed_stores shelf.new) (O.written output.new) (O.faults output.new)) result.status }
+        (keeping (F.held shelf.new) (F.failed_stores shelf.new) (O.written output.new)
+        (O.faults output.new)) result.status }
 {
     let Ok(by) = run_task(means, &task.task) else {
         return ended(means.alloc, 5);

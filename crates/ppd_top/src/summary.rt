@@ -1,5 +1,5 @@
 // What is written of a run.
-ghost use Rattle.std.specs.Prelude.{◌≡◌, ◌++◌, ◌+◌, ◌<◌, ◌≤◌, ◌^◌, length, OnOk, IfOk, slice_get};
+ghost use Rattle.std.specs.Prelude.{◌≡◌, ◌++◌, ◌+◌, ◌<◌, ◌^◌, length, OnOk, IfOk, slice_get};
 ghost use Rattle.ppd_top.specs.Summary.{place_at as place_for, end_text, end_texts, summary_of};
 
 use crate::text::{put_prints, put_status};

@@ -1,12 +1,12 @@
 // What is told of a run: its summary, and then the answers to the lines of an input.
-ghost use Rattle.std.specs.Prelude.{◌≡◌, ◌<◌, ◌≤◌, ◌^◌, [], length, IfOk, OnOk};
+ghost use Rattle.std.specs.Prelude.{◌≡◌, ◌<◌, ◌^◌, [], length, IfOk, OnOk};
 ghost use Rattle.ppd_graph.specs.Graphs.{IsGraphOf};
 ghost use Rattle.ppd_graph.specs.declared.refusal.BadSync.TheVariants as no_graph;
 ghost use Rattle.ppd_index.specs.Fitting.{AreFittingLogs};
 ghost use Rattle.ppd_index.specs.Indexes.{IsIndexOf};
 ghost use Rattle.ppd_index.specs.declared.refusal.BadLog.TheVariants as no_index;
 ghost use Rattle.ppd_race.specs.Races.{races_of_logs};
-ghost use Rattle.ppd_session.specs.Known.{Known, known_of_logs};
+ghost use Rattle.ppd_session.specs.Known.{known_of_logs};
 ghost use Rattle.ppd_top.specs.Output.{Talks, standing};
 ghost use Rattle.ppd_top.specs.Runs.{CanBeTold};
 ghost use Rattle.ppd_top.specs.Summary.{summary_of};
@@ -96,7 +96,8 @@ pub(crate) fn summarize(
     run: &ClosedRun<'_>,
 ) -> Result<Vec<u8>, Memory>
     requires { CanBeTold run.now.program.now run.now.plan run.now.budget run.now.closed }
-    ensures { IfOk result (λ text. text.items ≡ summary_of run.now.program.now run.now.closed.ends (races_of_logs run.now.program.now run.now.closed.logs)) }
+    ensures { IfOk result (λ text. text.items ≡ summary_of run.now.program.now run.now.closed.ends
+        (races_of_logs run.now.program.now run.now.closed.logs)) }
 {
     let index = index_of(alloc, run)?;
     let graph = graph_of(alloc, run)?;

@@ -1,4 +1,4 @@
-ghost use Rattle.std.specs.Prelude.{◌≡◌, ◌++◌, OnOk, codes};
+ghost use Rattle.std.specs.Prelude.{◌≡◌, ◌++◌, OnOk};
 ghost use Rattle.ppd_top.specs.Summary.{status_text, print_text, print_texts};
 
 use ppd_ast::{Memory, Place, Status};

@@ -1,6 +1,4 @@
-ghost use Rattle.std.specs.Prelude.{◌≡◌, [], ◌<◌, ◌≤◌, length, IfOk};
-ghost use Rattle.ppd_io.specs.Causes.{HasCause};
-ghost use Rattle.ppd_io.specs.Content.{Writes};
+ghost use Rattle.std.specs.Prelude.{◌≡◌, [], ◌<◌};
 
 use ppd_io::{Failed, Sink};
 use std::alloc::Global;

@@ -99,7 +99,8 @@ fn run_of<'a>(given: &CommandWords<'a>) -> Option<Command<'a>>
 
 /// A command on a source, if there is one.
 fn on_source<'a>(command: Option<Command<'a>>, given: &CommandWords<'a>) -> Option<Request<'a>>
-    ensures request { option_map request_of result ≡ asked_by (option_map command_of command.entry) (first_value (found_of given.now.matches)) }
+    ensures request { option_map request_of result ≡ asked_by (option_map command_of command.entry)
+        (first_value (found_of given.now.matches)) }
     ensures range { IfSome result IsInRange }
 {
     let command = command?;
@@ -133,7 +134,8 @@ fn on_number<'a>(given: &CommandWords<'a>) -> Option<Request<'a>>
 
 /// The request of a command with its words, if its numbers and names are right.
 fn request_in<'a>(given: &CommandWords<'a>) -> Option<Request<'a>>
-    ensures request { option_map request_of result ≡ asked_of given.now.command (first_value (found_of given.now.matches)) }
+    ensures request { option_map request_of result ≡ asked_of given.now.command
+        (first_value (found_of given.now.matches)) }
     ensures range { IfSome result IsInRange }
 {
     match given.command {

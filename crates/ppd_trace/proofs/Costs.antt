@@ -22,12 +22,6 @@ turn_on old k i before now h g =
     let one : k * 1 ≡ k = omega arith in
     omega arith
 
-pub turns_within : (old k i n now : ℕ) → i ≤ n → now ≤ old + k * i → now ≤ old + k * n
-turns_within old k i n now lt h = let less : k * i ≤ k * n = mul-le k i k n (omega arith) lt in omega arith
-
-pub turn_within : (old k i n before now : ℕ) → i < n → before ≤ old + k * i → now ≤ before + k → now ≤ old + k * n
-turn_within old k i n before now lt h g = turns_within old k (i + 1) n now (omega arith) (turn_on old k i before now h g)
-
 -- ---- process by process
 
 some_there : {A : Type 0} (xs : List A) (i : ℕ) → i < length xs → None ≡ slice_get xs i → ⊥
@@ -98,23 +92,6 @@ module _ (lists : List (List Taken)) (old i : ℕ) (own : List Taken) (before no
       omega arith
 
 -- ---- the whole
-
-pub story_cost : (program : Program) (s : Story) (m old pairs now : ℕ) → program.functions + length s.steps ≤ length program.bodies → pairs ≤ old + 4 * length s.steps + 12 * steps_in s
-    → now ≤ pairs + 4 * length program.bodies + 2 * sum_by (λ b. b.cells) program.bodies + (3 * m + 12) * steps_in s → now ≤ old + 8 * extent program + (3 * m + 24) * steps_in s
-story_cost program s m old pairs now few h g =
-    let apart : (3 * m + 12 + 12) * steps_in s ≡ (3 * m + 12) * steps_in s + 12 * steps_in s = add-mul (3 * m + 12) 12 (steps_in s) in
-    let same : 3 * m + 24 ≡ 3 * m + 12 + 12 = omega arith in
-    let all : (3 * m + 24) * steps_in s ≡ (3 * m + 12 + 12) * steps_in s = ap (λ (n : ℕ). n * steps_in s) same in
-    omega arith
-
-pub pairs_cost : (program : Program) (s : Story) (m old now : ℕ) → program.functions + length s.steps ≤ length program.bodies → now ≤ old + 4 * length s.steps + 12 * steps_in s
-    → now ≤ old + 8 * extent program + (3 * m + 24) * steps_in s
-pairs_cost program s m old now few h = story_cost program s m old now now few h (omega arith)
-
-pub told_cost : (program : Program) (m n old now : ℕ) → now ≤ old + 7 * (n + length program.starts + length program.bodies) → now ≤ old + (3 * m + 31) * (n + extent program)
-told_cost program m n old now h =
-    let least : 7 * (n + extent program) ≤ (3 * m + 31) * (n + extent program) = mul-le 7 (n + extent program) (3 * m + 31) (n + extent program) (omega arith) (omega arith) in
-    omega arith
 
 pub whole_cost : (program : Program) (s : Story) (m n old told now : ℕ) → steps_in s ≤ n → told ≤ old + 7 * (n + length program.starts + length program.bodies)
     → now ≤ told + 8 * extent program + (3 * m + 24) * steps_in s → now ≤ old + (3 * m + 31) * (n + extent program)

@@ -6,6 +6,7 @@ use Rattle.std.proofs.lemmas.Nat.{mul-le}
 use Rattle.ppd_ast.specs.Valid.{IsValid}
 use Rattle.ppd_ast.specs.declared.plan.Plan.{Plan}
 use Rattle.ppd_ast.specs.declared.program.Program.{Program}
+use Rattle.ppd_ast.specs.declared.limits.TheConstants.{MOST_BUDGET, MOST_PROCESSES}
 use Rattle.ppd_sem.specs.declared.proc.Proc.{Proc}
 use Rattle.ppd_sem.specs.Described.{is_event}
 use Rattle.ppd_model.specs.declared.tracing.Taken.{Taken}
@@ -101,20 +102,20 @@ count_within k zero (ms ∷ rest) e =
 count_within k (suc p) (ms ∷ rest) e = count_within k p rest e.1
 
 -- the steps of 16 processes with the greatest budget
-pub few_taken : (program : Program) (plan : Plan) (budget : ℕ) (h : List ℕ) (w : World) → IsValid program → budget ≤ 500000 → run program plan budget h ≡ Some w → length h ≤ 8000016
+pub few_taken : (program : Program) (plan : Plan) (budget : ℕ) (h : List ℕ) (w : World) → IsValid program → budget ≤ MOST_BUDGET → run program plan budget h ≡ Some w → length h ≤ MOST_PROCESSES * (MOST_BUDGET + 1)
 few_taken program plan budget h w v few e =
     let n : ℕ = length program.bodies - program.functions in
-    let processes : length program.bodies ≤ program.functions + 16 = v.limits.processes in
+    let processes : length program.bodies ≤ program.functions + MOST_PROCESSES = v.limits.processes in
     let paid : ArePaid (started_procs program plan budget n) = started_paid program plan budget 0 n in
     let all : length h + steps_left w.procs ≤ steps_left (started_procs program plan budget n) = in_all program plan (started_world program plan budget) w h paid e in
     let left : steps_left (started_procs program plan budget n) ≡ n * (budget + 1) = started_all program plan budget 0 n in
-    let most : n * (budget + 1) ≤ 16 * 500001 = mul-le n (budget + 1) 16 500001 (omega arith) (omega arith) in
+    let most : n * (budget + 1) ≤ MOST_PROCESSES * (MOST_BUDGET + 1) = mul-le n (budget + 1) MOST_PROCESSES (MOST_BUDGET + 1) (omega arith) (omega arith) in
     omega arith
 
-pub few_events_at : (program : Program) (plan : Plan) (budget p : ℕ) (h : List ℕ) (w : World) → IsValid program → budget ≤ 500000 → run program plan budget h ≡ Some w
-    → get_or (map count_events (told program plan budget h).moments) p 0 ≤ 8000016
+pub few_events_at : (program : Program) (plan : Plan) (budget p : ℕ) (h : List ℕ) (w : World) → IsValid program → budget ≤ MOST_BUDGET → run program plan budget h ≡ Some w
+    → get_or (map count_events (told program plan budget h).moments) p 0 ≤ MOST_PROCESSES * (MOST_BUDGET + 1)
 few_events_at program plan budget p h w v few e =
-    let taken : length h ≤ 8000016 = few_taken program plan budget h w v few e in
+    let taken : length h ≤ MOST_PROCESSES * (MOST_BUDGET + 1) = few_taken program plan budget h w v few e in
     let within : get_or (map count_events (told program plan budget h).moments) p 0 ≤ length h = count_within (length h) p (told program plan budget h).moments (moments_within program plan budget h) in
     omega arith
 

@@ -1,16 +1,15 @@
 -- A search through the steps of a story, step by step, and maps that answer it.
-use Rattle.std.proofs.Common.{◌≡◌, ℕ, zero, suc, ◌+◌, ◌<◌, ◌≤◌, Bool, true, false, cond, List, [], ◌∷◌, length, drop, get_or, Option, Some, None, refl, ap, sym, ◌∙◌, subst, arith}
+use Rattle.std.proofs.Common.{◌≡◌, ℕ, zero, suc, ◌+◌, ◌<◌, Bool, true, false, cond, List, [], ◌∷◌, length, drop, get_or, Option, Some, None, refl, ap, sym, ◌∙◌, subst, arith}
 use Rattle.std.specs.Prelude.{◌&&◌, is_some, nat_eq}
 use Rattle.std.specs.HashMap.{HashMap, get}
 use Rattle.std.proofs.lemmas.Bool.{false≢true}
-use Rattle.std.proofs.lemmas.List.{drop_all, drop_more}
+use Rattle.std.proofs.lemmas.List.{drop_more}
 use Rattle.ppd_ast.specs.declared.program.Program.{Program}
 use Rattle.ppd_ast.specs.declared.status.SyncKind.{SyncKind}
 use Rattle.ppd_ast.specs.declared.status.SyncKind.TheVariants.{P, V, Send, Recv, Done}
 use Rattle.ppd_sem.specs.declared.proc.Need.{Need}
-use Rattle.ppd_sem.specs.declared.proc.Need.TheVariants.{Read, Enter, Budget, Stopped}
 use Rattle.ppd_sem.specs.declared.proc.Need.TheVariants as need
-use Rattle.ppd_sem.specs.Described.{is_event as is_event_of, is_event}
+use Rattle.ppd_sem.specs.Described.{is_event}
 use Rattle.ppd_model.specs.declared.trace.EventId.{EventId}
 use Rattle.ppd_model.specs.declared.tracing.Story.{Story}
 use Rattle.ppd_model.specs.declared.tracing.Taken.{Taken}
@@ -21,14 +20,6 @@ use Rattle.ppd_model.specs.Synchronizations.{Sync, event_or, is_number, kind_of_
 use Rattle.ppd_model.proofs.Lists.{get_or_any}
 use Rattle.ppd_trace.specs.Leading.{HavePairs, KeepsFirst, found_in, is_target, looked_up, target, with_number}
 
--- both words for an event say the same
-pub same_event : (n : Need) → is_event_of n ≡ is_event n
-same_event (Read c) = refl
-same_event (Enter b u) = refl
-same_event Budget = refl
-same_event Stopped = refl
-same_event n = refl
-
 abbrev pub event_id : ℕ → ℕ → EventId
 event_id p n = record { process = p; number = n }
 
@@ -38,17 +29,9 @@ pub unnumbered : (k : Option (SyncKind × ℕ)) → numbered k None ≡ None
 unnumbered None = refl
 unnumbered (Some k) = refl
 
-pub no_number : (k : Option ℕ) → numbered None k ≡ None
-no_number None = refl
-no_number (Some n) = refl
-
 pub leads_to_none : (program : Program) (a : Option Sync) → leads_at program a None ≡ false
 leads_to_none program None = refl
 leads_to_none program (Some a) = refl
-
-pub none_leads : (program : Program) (b : Option Sync) → leads_at program None b ≡ false
-none_leads program None = refl
-none_leads program (Some b) = refl
 
 -- a search among these steps finds nothing where nothing leads
 nothing_in : (program : Program) (b : Option Sync) → ((a : Option Sync) → leads_at program a b ≡ false) → (n : ℕ) (xs : List Taken) → leading_in program b n xs ≡ None
@@ -154,12 +137,6 @@ module _ {S : Type 0} (program : Program) (kind : SyncKind) where
       ∙ ap (λ (c : Bool). or_else (found_in old o k) (event_or p (cond c (Some n) rest) None)) same
       ∙ ap (λ (y : Option ℕ). or_else (found_in old o k) (event_or p y None)) (sym (opened program b n i xs x lt is)) ∙ inv
 
-  pub kept_whole : (leads : HashMap (ℕ × ℕ) EventId S) (p n i : ℕ) (xs : List Taken) (o k : ℕ) (all : Option EventId) → length xs ≤ i
-      → or_else (found_in leads o k) (event_or p (leading_in program (Some (sync kind o k)) n (drop i xs)) None) ≡ all → found_in leads o k ≡ all
-  kept_whole leads p n i xs o k all lt inv =
-      sym (or_none (found_in leads o k))
-      ∙ ap (λ (l : List Taken). or_else (found_in leads o k) (event_or p (leading_in program (Some (sync kind o k)) n l) None)) (sym (drop_all i xs lt)) ∙ inv
-
   -- one process
   pub processes_on : (old new : HashMap (ℕ × ℕ) EventId S) (p : ℕ) (lists : List (List Taken)) (steps : List Taken) (o k : ℕ) (all : Option EventId) → p < length lists → steps ≡ get_or lists p steps
       → found_in new o k ≡ or_else (found_in old o k) (event_or p (leading_in program (Some (sync kind o k)) 0 steps) None)
@@ -172,21 +149,10 @@ module _ {S : Type 0} (program : Program) (kind : SyncKind) where
       ∙ or_assoc (found_in old o k) (event_or p (leading_in program b 0 steps) None) rest
       ∙ ap (λ (y : Option EventId). or_else (found_in old o k) y) (after_or p (leading_in program b 0 steps) rest ∙ sym (from program b p lists steps lt is)) ∙ inv
 
-  pub processes_whole : (leads : HashMap (ℕ × ℕ) EventId S) (p : ℕ) (lists : List (List Taken)) (o k : ℕ) (all : Option EventId) → length lists ≤ p
-      → or_else (found_in leads o k) (leading_from program (Some (sync kind o k)) p (drop p lists)) ≡ all → found_in leads o k ≡ all
-  processes_whole leads p lists o k all lt inv =
-      sym (or_none (found_in leads o k))
-      ∙ ap (λ (l : List (List Taken)). or_else (found_in leads o k) (leading_from program (Some (sync kind o k)) p l)) (sym (drop_all p lists lt)) ∙ inv
-
 -- ---- putting an event into a map
 
 same_key : (a o b k : ℕ) → nat_eq a o && nat_eq b k ≡ true → (a ≡ o) × (b ≡ k)
 same_key a o b k e = search (arith)
-
-kept_there : (b : Bool) (x y : Option EventId) (e : EventId) → (b ≡ true → is_some x ≡ true) → x ≡ or_else x (cond b (Some e) None)
-kept_there b (Some v) y e h = refl
-kept_there true None y e h = absurd (false≢true (h refl))
-kept_there false None y e h = refl
 
 put_there : (b : Bool) (x : Option EventId) (e : EventId) → (b ≡ true → x ≡ None) → cond b (Some e) x ≡ or_else x (cond b (Some e) None)
 put_there true x e h = sym (ap (λ (y : Option EventId). or_else y (Some e)) (h refl))
@@ -197,15 +163,6 @@ none_there None e = refl
 none_there (Some v) e = absurd (false≢true (sym e))
 
 module _ {S : Type 0} where
-  pub keeps_none : (m : HashMap (ℕ × ℕ) EventId S) (e : EventId) → KeepsFirst m m None e
-  keeps_none m e o k = sym (or_none (found_in m o k))
-
-  pub keeps_old : (m : HashMap (ℕ × ℕ) EventId S) (object number : ℕ) (e : EventId) → is_some (found_in m object number) ≡ true → KeepsFirst m m (Some (object, number)) e
-  keeps_old m object number e there o k =
-      kept_there (nat_eq object o && nat_eq number k) (found_in m o k) None e (λ same.
-      let both = same_key object o number k same in
-      ap (λ (q : ℕ). is_some (found_in m q k)) (sym both.0) ∙ ap (λ (q : ℕ). is_some (found_in m object q)) (sym both.1) ∙ there)
-
   pub keeps_new : (old new : HashMap (ℕ × ℕ) EventId S) (object number : ℕ) (e : EventId) → is_some (found_in old object number) ≡ false
       → ((q : ℕ × ℕ) → get (λ x y. nat_eq x.0 y.0 && nat_eq x.1 y.1) new q ≡ cond (nat_eq object q.0 && nat_eq number q.1) (Some e) (get (λ x y. nat_eq x.0 y.0 && nat_eq x.1 y.1) old q))
       → KeepsFirst old new (Some (object, number)) e

@@ -7,7 +7,7 @@ use Rattle.std.proofs.lemmas.List.Sums.{fold-append}
 use Rattle.ppd_ast.specs.declared.plan.Plan.{Plan}
 use Rattle.ppd_ast.specs.declared.program.Program.{Program}
 use Rattle.ppd_sem.specs.declared.proc.Proc.{Proc}
-use Rattle.ppd_sem.specs.Process.{act, need_of, started, top_cells}
+use Rattle.ppd_sem.specs.Process.{act, started, top_cells}
 use Rattle.ppd_model.specs.declared.trace.TracedEvent.{TracedEvent}
 use Rattle.ppd_model.specs.declared.tracing.Story.{Story}
 use Rattle.ppd_model.specs.declared.tracing.Taken.{Taken}
@@ -71,9 +71,6 @@ own_begun program plan p budget own t e h = subst (λ (s : Proc). AreOwn program
 
 pub none_begun : (program : Program) (plan : Plan) (p budget : ℕ) (t : Tracer) → t ≡ tracer_of (begun_tracing (started program plan p budget)) → length t.events ≤ 0
 none_begun program plan p budget t e = let same : length t.events ≡ 0 = ap (λ (v : Tracer). length v.events) e in omega arith
-
-pub need_next : (program : Program) (plan : Plan) (s : Proc) (own : List Taken) (i : ℕ) (x : Taken) → i < length own → x ≡ get_or own i x → AreOwn program plan s (drop i own) → x.need ≡ need_of program plan s
-need_next program plan s own i x lt is h = (own_next program plan s own i x lt is h).0
 
 pub own_after : (program : Program) (plan : Plan) (story : Story) (p : ℕ) (own : List Taken) (i : ℕ) (x : Taken) (t u : Tracer) → i < length own → x ≡ get_or own i x → AreOwn program plan t.proc (drop i own)
     → u ≡ trace_step program plan story p t x → AreOwn program plan u.proc (drop (i + 1) own)

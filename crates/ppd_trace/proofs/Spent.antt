@@ -36,7 +36,7 @@ use Rattle.ppd_model.specs.Story.{Moment, Telling, begun, moment_of, steps_of, s
 use Rattle.ppd_model.specs.World.{World, change, effect, need}
 use Rattle.ppd_world.specs.Running.{Running}
 use Rattle.ppd_trace.specs.Telling.{Tells}
-use Rattle.ppd_trace.specs.Spending.{cells_in, cells_of_step, most, most_cells, reads_in, reads_in_all, steps_in, writes_in, written_by}
+use Rattle.ppd_trace.specs.Spending.{cells_in, cells_of_step, most, most_statement_cells, reads_in, reads_in_all, steps_in, writes_in, written_by}
 
 zero_le : (n : ℕ) → 0 ≤ n
 zero_le n = omega arith
@@ -222,16 +222,16 @@ most_at program [] i = zero_le 0
 most_at program (s ∷ ss) zero = omega arith
 most_at program (s ∷ ss) (suc i) = let rest : cells_in program (kind_of_stmt (slice_get ss i)) ≤ most (map (λ s. cells_in program s.kind) ss) = most_at program ss i in omega arith
 
-most_at_head : (program : Program) (todo : List Todo) → cells_in program (kind_if program (slice_get todo 0)) ≤ most_cells program
-most_at_head program [] = zero_le (most_cells program)
+most_at_head : (program : Program) (todo : List Todo) → cells_in program (kind_if program (slice_get todo 0)) ≤ most_statement_cells program
+most_at_head program [] = zero_le (most_statement_cells program)
 most_at_head program (t ∷ ts) = most_at program program.stmts t.stmt
 
 -- a step reads and writes no more cells than its statement
-pub cells_within : (program : Program) (plan : Plan) (s : Proc) (x : Taken) → cells_of_step program plan s x ≤ most_cells program
+pub cells_within : (program : Program) (plan : Plan) (s : Proc) (x : Taken) → cells_of_step program plan s x ≤ most_statement_cells program
 cells_within program plan s x =
     let reads : length (event_of program plan s x s.todo).reads ≤ reads_in_all program.exprs (kind_uses (kind_if program (slice_get s.todo 0))) = few_of_event program plan s x s.todo in
     let writes : written_by program s (deed_at program s) ≤ writes_in program (kind_if program (slice_get s.todo 0)) = few_of_head program s s.todo refl in
-    let all : cells_in program (kind_if program (slice_get s.todo 0)) ≤ most_cells program = most_at_head program s.todo in
+    let all : cells_in program (kind_if program (slice_get s.todo 0)) ≤ most_statement_cells program = most_at_head program s.todo in
     omega arith
 
 -- ---- a story

@@ -1,10 +1,11 @@
 -- What is told of a schedule with one more step.
-use Rattle.std.proofs.Common.{◌≡◌, ℕ, ◌+◌, ◌-◌, ◌<◌, ◌≤◌, ◌^◌, true, List, [], ◌∷◌, ◌++◌, length, map, get_or, slice_set, Some, None, refl, ap, sym, ◌∙◌, subst, arith}
+use Rattle.std.proofs.Common.{◌*◌, ◌≡◌, ℕ, ◌+◌, ◌-◌, ◌<◌, ◌≤◌, ◌^◌, true, List, [], ◌∷◌, ◌++◌, length, map, get_or, slice_set, Some, None, refl, ap, sym, ◌∙◌, subst, arith}
 use Rattle.std.specs.Prelude.{replicate}
 use Rattle.ppd_ast.specs.Valid.{IsValid}
 use Rattle.ppd_ast.specs.ValidPlan.{IsValidPlan}
 use Rattle.ppd_ast.specs.declared.plan.Plan.{Plan}
 use Rattle.ppd_ast.specs.declared.program.Program.{Program}
+use Rattle.ppd_ast.specs.declared.limits.TheConstants.{MOST_BUDGET, MOST_PROCESSES}
 use Rattle.ppd_sem.specs.declared.proc.Need.{Need}
 use Rattle.ppd_sem.specs.declared.proc.Need.TheVariants.{Read, Write}
 use Rattle.ppd_sem.specs.declared.proc.Proc.{Proc}
@@ -98,7 +99,7 @@ module _ (program : Program) (plan : Plan) (budget : ℕ) (h : List ℕ) (p : �
 -- ---- what the code asks
 
 module _ (program : Program) (plan : Plan) (budget : ℕ) (h : List ℕ) (r : Running) (counts : List ℕ) (writers : List Tag) (steps : List (List Taken)) where
-  pub reached : IsValid program → IsValidPlan program plan → budget ≤ 500000 → Tells program plan budget h r counts writers steps → IsReached r
+  pub reached : IsValid program → IsValidPlan program plan → budget ≤ MOST_BUDGET → Tells program plan budget h r counts writers steps → IsReached r
   reached v w few b = subst (λ (x : Running). IsReached x) (sym b.world) record {
     program = v;
     plan = w;
@@ -107,9 +108,9 @@ module _ (program : Program) (plan : Plan) (budget : ℕ) (h : List ℕ) (r : Ru
     comes = record { runs = b.runs; logs = refl };
   }
 
-  pub few_more : (p : ℕ) → IsValid program → budget ≤ 500000 → Tells program plan budget h r counts writers steps → get_or counts p 0 + 1 < 2 ^ 32
+  pub few_more : (p : ℕ) → IsValid program → budget ≤ MOST_BUDGET → Tells program plan budget h r counts writers steps → get_or counts p 0 + 1 < 2 ^ 32
   few_more p v few b =
-      let within : get_or (map count_events (told program plan budget h).moments) p 0 ≤ 8000016 = few_events_at program plan budget p h (told program plan budget h).world v few b.runs in
+      let within : get_or (map count_events (told program plan budget h).moments) p 0 ≤ MOST_PROCESSES * (MOST_BUDGET + 1) = few_events_at program plan budget p h (told program plan budget h).world v few b.runs in
       let same : get_or counts p 0 ≡ get_or (map count_events (told program plan budget h).moments) p 0 = ap (λ (ks : List ℕ). get_or ks p 0) b.counted in
       omega arith
 

@@ -1,23 +1,21 @@
 -- The story and the trace of a schedule that was taken, and the number at which one ends.
-use Rattle.std.proofs.Common.{◌≡◌, ℕ, ℤ, ◌+◌, ◌-◌, ◌<◌, ◌≤◌, ◌^◌, true, false, List, [], ◌∷◌, ◌++◌, length, map, take, drop, get_or, Ok, ap, sym, ◌∙◌, subst, arith}
+use Rattle.std.proofs.Common.{◌*◌, ◌≡◌, ℕ, ℤ, ◌+◌, ◌-◌, ◌<◌, ◌≤◌, ◌^◌, true, false, List, [], ◌∷◌, ◌++◌, length, map, take, drop, get_or, Ok, ap, sym, ◌∙◌, subst, arith}
 use Rattle.std.specs.List.{All}
-use Rattle.std.proofs.lemmas.List.{append_assoc, append-nil, drop_all, drop_more, length-map, length-take-le, take_all, take_more}
+use Rattle.std.proofs.lemmas.List.{append_assoc, drop_more, length-map, length-take-le, take_all, take_more}
 use Rattle.ppd_ast.specs.Valid.{IsValid}
 use Rattle.ppd_ast.specs.declared.plan.Plan.{Plan}
 use Rattle.ppd_ast.specs.declared.program.Program.{Program}
-use Rattle.ppd_sem.specs.Process.{started}
+use Rattle.ppd_ast.specs.declared.limits.TheConstants.{MOST_BUDGET, MOST_FUNCTIONS, MOST_PROCESSES}
 use Rattle.ppd_model.specs.declared.tracing.Story.{Story}
 use Rattle.ppd_model.specs.declared.tracing.Taken.{Taken}
 use Rattle.ppd_model.specs.declared.trace.DriveError.{DriveError}
 use Rattle.ppd_model.specs.declared.trace.DriveError.TheVariants.{NotEnabled, Memory}
 use Rattle.ppd_model.specs.declared.trace.TracedEvent.{TracedEvent}
 use Rattle.ppd_model.specs.FullTrace.{Tag, events_from, tracing_of}
-use Rattle.ppd_model.specs.LocalTags.{AreOwn}
-use Rattle.ppd_model.specs.Story.{Moment, own_steps, steps_of, story, told}
+use Rattle.ppd_model.specs.Story.{Moment, steps_of, story, told}
 use Rattle.ppd_model.specs.World.{enabled}
 use Rattle.ppd_model.proofs.LocalTags.{own_steps_told}
 use Rattle.ppd_model.proofs.Earlier.{each_more}
-use Rattle.ppd_model.proofs.Lists.{get_or_any}
 use Rattle.ppd_world.specs.Running.{IsCause, Running, can_step}
 use Rattle.ppd_world.proofs.Lists.{every_all, every_map}
 use Rattle.ppd_world.proofs.Reached.{at_place}
@@ -36,10 +34,10 @@ module _ (program : Program) (plan : Plan) (budget : ℕ) where
       let more : take (i + 1) h ≡ take i h ++ p ∷ [] = take_more h i p lt ∙ ap (λ (x : ℕ). take i h ++ x ∷ []) (sym is) in
       subst (λ (l : List ℕ). Tells program plan budget l next counts' writers' steps') (sym more) (tells_more program plan budget (take i h) p r counts writers steps next counts' writers' steps' b can s)
 
-  pub few_numbers : (h : List ℕ) (i : ℕ) (r : Running) (counts : List ℕ) (writers : List Tag) (steps : List (List Taken)) → i ≤ length h → IsValid program → budget ≤ 500000
-      → Tells program plan budget (take i h) r counts writers steps → i ≤ 8000016
+  pub few_numbers : (h : List ℕ) (i : ℕ) (r : Running) (counts : List ℕ) (writers : List Tag) (steps : List (List Taken)) → i ≤ length h → IsValid program → budget ≤ MOST_BUDGET
+      → Tells program plan budget (take i h) r counts writers steps → i ≤ MOST_PROCESSES * (MOST_BUDGET + 1)
   few_numbers h i r counts writers steps lt v few b =
-      let taken : length (take i h) ≤ 8000016 = few_taken program plan budget (take i h) (told program plan budget (take i h)).world v few b.runs in
+      let taken : length (take i h) ≤ MOST_PROCESSES * (MOST_BUDGET + 1) = few_taken program plan budget (take i h) (told program plan budget (take i h)).world v few b.runs in
       let count : length (take i h) ≡ i = length-take-le i h lt in
       omega arith
 
@@ -70,7 +68,7 @@ module _ (program : Program) (plan : Plan) (budget : ℕ) where
 
   -- ---- the story can be traced
 
-  few_steps : (h : List ℕ) → length h ≤ 8000016 → All (λ (xs : List Taken). length xs < 2 ^ 32) (map steps_of (told program plan budget h).moments)
+  few_steps : (h : List ℕ) → length h ≤ MOST_PROCESSES * (MOST_BUDGET + 1) → All (λ (xs : List Taken). length xs < 2 ^ 32) (map steps_of (told program plan budget h).moments)
   few_steps h lt =
       every_all (λ (xs : List Taken). length xs < 2 ^ 32) (map steps_of (told program plan budget h).moments)
       (every_map (λ (xs : List Taken). length xs < 2 ^ 32) steps_of (told program plan budget h).moments
@@ -78,12 +76,12 @@ module _ (program : Program) (plan : Plan) (budget : ℕ) where
       (λ ms few. let same : length (steps_of ms) ≡ length ms = length-map ms (λ m. m.taken) in omega arith)
       (moments_within program plan budget h)))
 
-  pub traceable : (h : List ℕ) (s : Story) → IsValid program → budget ≤ 500000 → IsStoryOf program plan budget h (Ok s) → IsTraceable program plan budget s
+  pub traceable : (h : List ℕ) (s : Story) → IsValid program → budget ≤ MOST_BUDGET → IsStoryOf program plan budget h (Ok s) → IsTraceable program plan budget s
   traceable h s v few e =
-      let taken : length h ≤ 8000016 = few_taken program plan budget h e.0.last v few e.0.runs in
-      let functions : program.functions ≤ 256 = v.limits.functions in
+      let taken : length h ≤ MOST_PROCESSES * (MOST_BUDGET + 1) = few_taken program plan budget h e.0.last v few e.0.runs in
+      let functions : program.functions ≤ MOST_FUNCTIONS = v.limits.functions in
       let process : program.functions < length program.bodies = v.limits.process in
-      let processes : length program.bodies ≤ program.functions + 16 = v.limits.processes in
+      let processes : length program.bodies ≤ program.functions + MOST_PROCESSES = v.limits.processes in
       let many : length (story program plan budget h).steps ≡ length program.bodies - program.functions = length-map (told program plan budget h).moments steps_of ∙ how_many program plan budget h in
       subst (λ (x : Story). IsTraceable program plan budget x) (sym e.1) record {
         own = λ p. own_steps_told program plan budget h p;
@@ -95,14 +93,6 @@ module _ (program : Program) (plan : Plan) (budget : ℕ) where
 
   -- ---- process by process
 
-  pub own_at : (s : Story) (p : ℕ) (own : List Taken) → p < length s.steps → own ≡ get_or s.steps p own → IsTraceable program plan budget s → AreOwn program plan (started program plan p budget) own
-  own_at s p own lt is h =
-      let same : own_steps s p ≡ own = get_or_any s.steps p [] own lt ∙ sym is in
-      subst (λ (xs : List Taken). AreOwn program plan (started program plan p budget) xs) same (h.own p)
-
-  pub few_at : (s : Story) (p : ℕ) (own : List Taken) → p < length s.steps → own ≡ get_or s.steps p own → IsTraceable program plan budget s → length own < 2 ^ 32
-  few_at s p own lt is h = subst (λ (xs : List Taken). length xs < 2 ^ 32) (sym is) (h.few p own lt)
-
   pub one_traced : (s : Story) (p : ℕ) (own : List Taken) (before now : List (List TracedEvent)) (events : List TracedEvent) (all : List (List TracedEvent)) → p < length s.steps → own ≡ get_or s.steps p own
       → events ≡ (tracing_of program plan budget s p own).events → now ≡ before ++ events ∷ [] → before ++ events_from program plan budget s p (drop p s.steps) ≡ all
       → now ++ events_from program plan budget s (p + 1) (drop (p + 1) s.steps) ≡ all
@@ -111,7 +101,3 @@ module _ (program : Program) (plan : Plan) (budget : ℕ) where
       ap (λ (x : List (List TracedEvent)). x ++ rest) pushed ∙ append_assoc before (events ∷ []) rest
       ∙ ap (λ (x : List TracedEvent). before ++ x ∷ rest) (traced ∙ ap (λ (x : List Taken). (tracing_of program plan budget s p x).events) is)
       ∙ ap (λ (l : List (List Taken)). before ++ events_from program plan budget s p l) (sym (drop_more s.steps p own lt)) ∙ inv
-
-  pub all_traced : (s : Story) (p : ℕ) (before all : List (List TracedEvent)) → length s.steps ≤ p → before ++ events_from program plan budget s p (drop p s.steps) ≡ all → before ≡ all
-  all_traced s p before all lt inv =
-      sym (append-nil before) ∙ ap (λ (l : List (List Taken)). before ++ events_from program plan budget s p l) (sym (drop_all p s.steps lt)) ∙ inv

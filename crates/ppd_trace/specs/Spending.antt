@@ -51,8 +51,8 @@ most [] = 0
 most (n ∷ ns) = max n (most ns)
 
 -- the cells of the statement that has the most
-abbrev pub most_cells : Program → ℕ
-most_cells program = most (map (λ s. cells_in program s.kind) program.stmts)
+abbrev pub most_statement_cells : Program → ℕ
+most_statement_cells program = most (map (λ s. cells_in program s.kind) program.stmts)
 
 -- the shared cells, the bodies and the cells of their frames
 abbrev pub extent : Program → ℕ

@@ -1,9 +1,9 @@
-ghost use Rattle.std.specs.Prelude.{◌≡◌, ◌+◌, ◌*◌, ◌<◌, ◌≤◌, ◌^◌, length, slice_get, IfOk, OnOk};
+ghost use Rattle.std.specs.Prelude.{◌≡◌, ◌+◌, ◌*◌, ◌<◌, ◌≤◌, ◌^◌, length, IfOk, OnOk};
 ghost use Rattle.ppd_model.specs.FullTrace.{begun_tracing, tracing_of};
 ghost use Rattle.ppd_model.specs.LocalTags.{AreOwn};
 ghost use Rattle.ppd_sem.specs.Runs.{IsNumbered, IsRunnable, IsRunning};
 ghost use Rattle.ppd_trace.specs.Runs.{tracer_of};
-ghost use Rattle.ppd_trace.specs.Spending.{cells_of_step, most_cells};
+ghost use Rattle.ppd_trace.specs.Spending.{cells_of_step, most_statement_cells};
 ghost use Rattle.ppd_trace.specs.Subjects.{ArePaired, HasBody, IsToTrace, added, body_size, started_with, stepped};
 ghost use Rattle.ppd_trace.specs.Tagging.{answers_by};
 
@@ -63,7 +63,7 @@ fn trace_step<L: Ledger>(
     requires { IsToTrace subject.now tracer.old taken.now }
     ensures ok { OnOk result (tracer.new ≡ stepped subject.now taken.now tracer.old) }
     ensures kept { OnOk result (IsRunning subject.now.program.now tracer.new.proc) }
-    ensures cost { steps.new ≤ steps.old + 11 + 3 * most_cells subject.now.program.now }
+    ensures cost { steps.new ≤ steps.old + 11 + 3 * most_statement_cells subject.now.program.now }
 {
     trace_by(subject, taken, tracer, steps)?;
     steps.tick();
@@ -121,7 +121,7 @@ pub(crate) fn trace_process<L: Ledger>(
         own.now).events) }
     ensures cost { steps.new
         ≤ steps.old + 2 + 2 * body_size subject.now
-        + (3 * most_cells subject.now.program.now + 12) * length own.now }
+        + (3 * most_statement_cells subject.now.program.now + 12) * length own.now }
 {
     let mut tracer = begin(subject, budget, steps)?;
     for taken in own {

@@ -109,7 +109,9 @@ impl<'a> Teller<'a> {
         requires enabled { can_step self.old.world p ≡ true }
         requires few { get_or self.old.counts p 0 + 1 < 2 ^ 32 }
         ensures cost { steps.new ≤ steps.old + 5 }
-        ensures told { OnOk result (HasTold self.old.world self.old.counts self.old.writers self.old.steps.items p self.new.world self.new.counts self.new.writers self.new.steps.items) }
+        ensures told { OnOk result
+            (HasTold self.old.world self.old.counts self.old.writers self.old.steps.items p
+            self.new.world self.new.counts self.new.writers self.new.steps.items) }
     {
         let process = p as usize;
         let event = EventId {
@@ -136,7 +138,9 @@ impl<'a> Teller<'a> {
         requires reached { IsReached self.old.world }
         requires few { get_or self.old.counts p 0 + 1 < 2 ^ 32 }
         ensures enabled { OnOk result (can_step self.old.world p ≡ true) }
-        ensures told { OnOk result (HasTold self.old.world self.old.counts self.old.writers self.old.steps.items p self.new.world self.new.counts self.new.writers self.new.steps.items) }
+        ensures told { OnOk result
+            (HasTold self.old.world self.old.counts self.old.writers self.old.steps.items p
+            self.new.world self.new.counts self.new.writers self.new.steps.items) }
         ensures cause { IfErr result (IsCause self.old.world p index) }
         ensures cost { steps.new ≤ steps.old + 6 }
     {

@@ -4,7 +4,7 @@ ghost use Rattle.ppd_ast.specs.Valid.{IsValid};
 ghost use Rattle.ppd_ast.specs.ValidPlan.{IsValidPlan};
 ghost use Rattle.ppd_model.specs.FullTrace.{trace_of};
 ghost use Rattle.ppd_trace.specs.Subjects.{ArePaired};
-ghost use Rattle.ppd_trace.specs.Spending.{extent, most_cells, steps_in};
+ghost use Rattle.ppd_trace.specs.Spending.{extent, most_statement_cells, steps_in};
 ghost use Rattle.ppd_trace.specs.Traced.{IsTraceOf, IsTraceOfAgreeing, IsTraceable};
 
 use crate::pairs::{PairedStory, find_pairs};
@@ -32,7 +32,7 @@ fn trace_all<L: Ledger>(
         ≡ trace_of setting.now.program setting.now.plan setting.now.budget told.now.story) }
     ensures cost { steps.new
         ≤ steps.old + 4 * length setting.now.program.bodies + 2 * sum_by (λ b. b.cells) setting.now.program.bodies
-        + (3 * most_cells setting.now.program + 12) * steps_in told.now.story }
+        + (3 * most_statement_cells setting.now.program + 12) * steps_in told.now.story }
 {
     let alloc = setting.alloc;
     let lists = told.story.steps.as_slice();
@@ -65,7 +65,7 @@ fn trace_story<L: Ledger>(
         (λ trace. trace ≡ trace_of setting.now.program setting.now.plan setting.now.budget story) }
     ensures cost { steps.new
         ≤ steps.old + 8 * extent setting.now.program
-        + (3 * most_cells setting.now.program + 24) * steps_in story }
+        + (3 * most_statement_cells setting.now.program + 24) * steps_in story }
 {
     let told = find_pairs(setting.alloc, setting.program, story, steps)?;
     trace_all(setting, &told, steps)
@@ -84,7 +84,8 @@ pub fn full_trace_in<L: Ledger>(
 ) -> Result<Trace, DriveError>
     ensures trace { IsTraceOf setting.now.program setting.now.plan setting.now.budget schedule.now result }
     ensures cost { steps.new
-        ≤ steps.old + (3 * most_cells setting.now.program + 31) * (length schedule.now + extent setting.now.program) }
+        ≤ steps.old + (3 * most_statement_cells setting.now.program + 31) *
+        (length schedule.now + extent setting.now.program) }
 {
     let story = tell_story_in(setting, schedule, steps)?;
     Ok(trace_story(setting, story, steps)?)

@@ -1,7 +1,7 @@
 // The devices of a call, and what the call comes to.
 ghost use Rattle.std.specs.Prelude.{◌<◌, IfOk};
 
-use ppd_io::{FreeGate, MemoryShelf, MemorySink, MemorySource, Shelf};
+use ppd_io::{CHUNK_BYTES, FreeGate, MemoryShelf, MemorySink, MemorySource, Shelf};
 use ppd_top::ppd;
 use std::alloc::Global;
 use std::sync::Wait;
@@ -10,9 +10,6 @@ use std::thread::Threads;
 
 /// The room of an output that takes all, in bytes.
 const ROOM: usize = 16_384;
-
-/// The bytes of a read of the input, at most.
-const CHUNK: usize = 4096;
 
 /// How a call of the program ended: its status, all that it wrote, and its schedule.
 #[derive(Drop)]
@@ -44,7 +41,7 @@ impl<'a> Devices<'a> {
             file,
             shelf_fails: &[],
             input: &[],
-            chunk: CHUNK,
+            chunk: CHUNK_BYTES,
             input_fails: &[],
             room: ROOM,
             output_fails: &[],

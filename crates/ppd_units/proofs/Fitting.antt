@@ -11,8 +11,9 @@ use Rattle.ppd_ast.specs.Order.{inner}
 use Rattle.ppd_ast.specs.Valid.{IsValid}
 use Rattle.ppd_ast.proofs.ValidLaws.{inner_below, top_below, slice_get_below}
 use Rattle.ppd_ast.specs.Members.{has, AreBelow}
-use Rattle.ppd_ast.specs.Lookups.{kind_of_stmt, kind_of, top_of_body, top_of}
+use Rattle.ppd_ast.specs.Lookups.{kind_of_stmt, top_of_body, top_of}
 use Rattle.ppd_ast.proofs.Members.{has_first, has_later, has_cons, has_left, has_right, all_has}
+use Rattle.ppd_ast.specs.declared.limits.TheConstants.{MOST_NESTING}
 use Rattle.ppd_cfg.specs.Lists.{first_or, rising, rising_pair}
 use Rattle.ppd_cfg.specs.Flow.{next_in, follow_within, follow_under, follow_of, follow_at, follow, successors, next_of}
 use Rattle.ppd_sets.proofs.Calling.{one_below}
@@ -78,7 +79,7 @@ at_fits zero p s v = tt
 at_fits (suc d) p s v = of_fits p (follow_at d p) s (slice_get p.stmts s) v (λ q. at_fits d p q v)
 
 pub follow_fits : (p : Program) (s : ℕ) → IsValid p → Fits (length p.stmts) (follow p s)
-follow_fits p s v = at_fits 64 p s v
+follow_fits p s v = at_fits MOST_NESTING p s v
 
 pub first_of_body_fits : (p : Program) (b : ℕ) → IsValid p → Fits (length p.stmts) (first_or (top_of p b) None)
 first_of_body_fits p b v = first_fits (length p.stmts) (top_of p b) None (tops_are_below p b (slice_get p.bodies b) v refl) tt

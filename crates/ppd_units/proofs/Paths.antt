@@ -9,6 +9,7 @@ use Rattle.ppd_ast.specs.declared.program.Program.{Program}
 use Rattle.ppd_ast.specs.declared.plan.Start.{Start}
 use Rattle.ppd_ast.specs.Members.{has, those}
 use Rattle.ppd_ast.proofs.Members.{has_first, has_later, has_cons, has_filter, filter_has, from_zero, flat_gives, flat_from}
+use Rattle.ppd_ast.specs.declared.limits.TheConstants.{MOST_SHARED_CELLS}
 use Rattle.ppd_cfg.specs.Reach.{Reached, start, next, closure, leads}
 use Rattle.ppd_cfg.specs.Flow.{next_of}
 use Rattle.ppd_cfg.proofs.Leading.{leads-tests}
@@ -50,11 +51,11 @@ chain p loops s t (next {a = a} r h) =
 
 pub sorted_gives : (cells : List ℕ) (c : ℕ) → IsTrue (has (sorted cells) c) → IsTrue (has cells c)
 unfolding sorted
-sorted_gives cells c h = (has_filter (has cells) (range_with_len 0 1024) c h).1
+sorted_gives cells c h = (has_filter (has cells) (range_with_len 0 MOST_SHARED_CELLS) c h).1
 
-pub sorted_from : (cells : List ℕ) (c : ℕ) → c < 1024 → IsTrue (has cells c) → IsTrue (has (sorted cells) c)
+pub sorted_from : (cells : List ℕ) (c : ℕ) → c < MOST_SHARED_CELLS → IsTrue (has cells c) → IsTrue (has (sorted cells) c)
 unfolding sorted
-sorted_from cells c l h = filter_has (has cells) (range_with_len 0 1024) c (from_zero c 1024 l) h
+sorted_from cells c l h = filter_has (has cells) (range_with_len 0 MOST_SHARED_CELLS) c (from_zero c MOST_SHARED_CELLS l) h
 
 pub range_rises : (a n : ℕ) → IsStrictlyIncreasing (range_with_len a n)
 range_rises a n k h =
@@ -66,7 +67,7 @@ range_rises a n k h =
 
 pub sorted_rises : (cells : List ℕ) → IsStrictlyIncreasing (sorted cells)
 unfolding sorted
-sorted_rises cells = IsStrictlyIncreasing-filter (has cells) (range_with_len 0 1024) (range_rises 0 1024)
+sorted_rises cells = IsStrictlyIncreasing-filter (has cells) (range_with_len 0 MOST_SHARED_CELLS) (range_rises 0 MOST_SHARED_CELLS)
 
 -- what holds of each number that the list has holds of each of its elements
 pub all_from : (P : ℕ → Type 0) (xs : List ℕ) → ((x : ℕ) → IsTrue (has xs x) → P x) → All P xs
@@ -97,7 +98,7 @@ cells_by_paths p loops s c v =
           let first : Reached rows starts m.first = subst (λ (o : Option ℕ). Reached rows (option_to_list o) m.first) (sym m.begins) (start (has_first m.first [])) in
           let reached : Reached rows starts m.stmt = along p loops starts m.first m.rest m.stmt first m.path in
           let stands = filter_has test (range_with_len 0 n) m.stmt (from_zero m.stmt n (read_is_stmt p m.stmt c m.read)) ((leads-tests rows starts m.stmt).1 reached) in
-          let few : length p.starts ≤ 1024 = v.limits.starts in
+          let few : length p.starts ≤ MOST_SHARED_CELLS = v.limits.starts in
           let below : c < length p.starts = reads_below p m.stmt c v m.read in
           sorted_from cells c (omega (arith, few, below)) (flat_from (reads_at true p) (those n test) m.stmt c stands m.read)),
     )

@@ -13,6 +13,7 @@ use Rattle.ppd_ast.proofs.Walks.{got_none}
 use Rattle.ppd_ast.specs.Members.{has, those}
 use Rattle.ppd_ast.specs.Lookups.{kind_of_stmt}
 use Rattle.ppd_ast.proofs.Members.{has_cases, below_range, flat_gives, all_has}
+use Rattle.ppd_ast.specs.declared.limits.TheConstants.{MOST_SHARED_CELLS}
 use Rattle.ppd_cfg.specs.Reach.{closure, leads}
 use Rattle.ppd_sets.specs.Gained.{Gains, HasCells}
 use Rattle.ppd_sets.specs.Named.{shared_cells, cells_in, reads}
@@ -24,9 +25,6 @@ use Rattle.ppd_units.specs.Walk.{cells_along}
 pub reads_past : (a : List ℕ) (p : Program) (s : ℕ) → slice_get p.stmts s ≡ None → Gains a a (reads_at true p s)
 reads_past a p s at = gains_as [] (reads_at true p s) (sym (ap (λ (o : Option Stmt). reads true p.exprs (kind_of_stmt o)) at)) (gains_none a)
 
-pub reads_there : (a b : List ℕ) (p : Program) (s : ℕ) (x : Stmt) → slice_get p.stmts s ≡ Some x → Gains a b (reads true p.exprs x.kind) → Gains a b (reads_at true p s)
-reads_there a b p s x at g = gains_as (reads true p.exprs x.kind) (reads_at true p s) (sym (ap (λ (o : Option Stmt). reads true p.exprs (kind_of_stmt o)) at)) g
-
 -- only a statement that is there reads
 pub read_is_stmt : (p : Program) (s c : ℕ) → IsTrue (has (reads_at true p s) c) → s < length p.stmts
 read_is_stmt p s c h = elim (cases_lt s (length p.stmts)) [
@@ -36,7 +34,7 @@ read_is_stmt p s c h = elim (cases_lt s (length p.stmts)) [
 
 -- the cells of the statements that the rows lead to
 pub along_is : (p : Program) (rows : List (List ℕ)) (starts stmts set cells : List ℕ) → length rows ≡ length p.stmts → stmts ≡ those (length rows) (leads (closure rows) starts) →
-    HasCells set (flat_map (reads_at true p) stmts) → cells ≡ those 1024 (has set) → cells ≡ cells_along p rows starts
+    HasCells set (flat_map (reads_at true p) stmts) → cells ≡ those MOST_SHARED_CELLS (has set) → cells ≡ cells_along p rows starts
 along_is p rows starts stmts set cells long found has_them is =
     sorted_is set (flat_map (reads_at true p) stmts) cells is has_them
     ∙ ap (λ ss. sorted (flat_map (reads_at true p) ss)) (found ∙ ap (λ n. those n (leads (closure rows) starts)) long)

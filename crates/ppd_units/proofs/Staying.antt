@@ -1,11 +1,10 @@
 -- The ways that stay in a unit.
-use Rattle.std.proofs.Common.{◌≡◌, ◌≢◌, ℕ, zero, suc, ◌+◌, ◌-◌, ◌<◌, ◌≤◌, List, [], Bool, true, false, Option, Some, None, refl, sym, ap, ◌∙◌, subst, arith, inl, inr, length, cond}
+use Rattle.std.proofs.Common.{◌≡◌, ◌≢◌, ℕ, zero, suc, ◌+◌, ◌-◌, ◌<◌, List, [], Bool, true, false, Option, Some, None, refl, sym, ap, ◌∙◌, subst, arith, inl, inr, length, cond}
 use Rattle.std.specs.Prelude.{IsTrue, nat_eq, not, ◌||◌, slice_get, option_to_list}
-use Rattle.std.specs.List.{filter}
 use Rattle.std.proofs.lemmas.Bool.{cases_Bool, cond-true, cond-false}
 use Rattle.ppd_ast.specs.declared.program.Stmt.{Stmt}
 use Rattle.ppd_ast.specs.declared.program.Program.{Program}
-use Rattle.ppd_ast.specs.declared.plan.Start.TheVariants.{Entry, After, Enter, Exit}
+use Rattle.ppd_ast.specs.declared.plan.Start.TheVariants.{Entry, After, Exit}
 use Rattle.ppd_ast.specs.Valid.{IsValid}
 use Rattle.ppd_ast.specs.Members.{has, AreBelow}
 use Rattle.ppd_ast.proofs.Members.{has_filter, filter_has}
@@ -79,6 +78,3 @@ after_below p loops s v = listed_below (length p.stmts) (begin_of p loops (After
 
 pub exit_below : (p : Program) (loops : List ℕ) (s : ℕ) → IsValid p → AreBelow (length p.stmts) (option_to_list (begin_of p loops (Exit s)))
 exit_below p loops s v = listed_below (length p.stmts) (begin_of p loops (Exit s)) (unless_fits (length p.stmts) (enters p loops s) _ (follow_fits p s v))
-
-pub enter_below : (p : Program) (loops : List ℕ) (s : ℕ) → s < length p.stmts → AreBelow (length p.stmts) (option_to_list (begin_of p loops (Enter s)))
-enter_below p loops s h = listed_below (length p.stmts) (Some s) h

@@ -1,6 +1,5 @@
 // The ways that stay in a unit.
-ghost use Rattle.std.specs.Prelude.{◌≡◌, map, length, slice_get, IfOk, Some, None};
-ghost use Rattle.std.specs.List.{range_with_len};
+ghost use Rattle.std.specs.Prelude.{◌≡◌, slice_get, IfOk, Some, None};
 ghost use Rattle.ppd_ast.specs.Numbered.{is_left};
 ghost use Rattle.ppd_ast.specs.Valid.{IsValid};
 ghost use Rattle.ppd_ast.specs.Members.{has};

@@ -1,4 +1,4 @@
-ghost use Rattle.std.specs.Prelude.{◌≡◌, [], ◌∷◌, Ok};
+ghost use Rattle.std.specs.Prelude.{[], ◌∷◌, Ok};
 ghost use Rattle.ppd_entry.specs.Entries.{entries_at};
 ghost use Rattle.ppd_past.specs.ByReplays.{IsFoundBy};
 ghost use Rattle.ppd_past.specs.Pasts.{IsPast};

@@ -1,9 +1,8 @@
 ghost use Rattle.std.specs.Prelude.{◌≡◌, IfOk, Ok, Some};
-ghost use Rattle.ppd_graph.specs.Times.{pair_at};
 ghost use Rattle.ppd_past.specs.ByReplays.{IsFoundBy};
 ghost use Rattle.ppd_past.specs.Pasts.{IsPast};
 ghost use Rattle.ppd_past.specs.SeenBy.{items_in};
-ghost use Rattle.ppd_search.specs.Shared.{pair_of as pair_of_place, pair_origin as pair_origin_of, pair_place, pair_replays, place_replays};
+ghost use Rattle.ppd_search.specs.Shared.{pair_of as pair_of_place, pair_origin as pair_origin_of, pair_replays};
 ghost use Rattle.ppd_walk.specs.SharedCells.{IsNodeFound, seens_in};
 
 use crate::edge_end::edge_end;

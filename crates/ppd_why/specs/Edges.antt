@@ -1,5 +1,5 @@
 -- The line of each flowback edge of an item, and of each shared cell with its last value and write.
-use Rattle.std.specs.Prelude.{ℕ, ◌+◌, ℤ, List, [], ◌∷◌, ◌++◌, Option, Some, None, codes, decimal, slice_get}
+use Rattle.std.specs.Prelude.{ℕ, ◌+◌, ℤ, List, [], ◌++◌, Option, Some, None, codes, decimal, slice_get}
 use Rattle.std.specs.Fmt.{signed_decimal}
 use Rattle.std.specs.List.{flat_map}
 use Rattle.ppd_ast.specs.declared.plan.Block.{Block}
@@ -69,12 +69,3 @@ why_text p plan j i edges = item_line p plan j i ++ flat_map (edge_line p (item_
 -- shared cell c with its last value and the write of it
 abbrev pub last_line : Program → (c : ℕ) → ℤ × Origin → List ℕ
 last_line p c x = cell_text p.shared c ++ codes "=" ++ signed_decimal x.0 ++ from_text p x.1
-
--- the shared cells from number c on
-abbrev pub last_lines : Program → (c : ℕ) → List (ℤ × Origin) → List ℕ
-last_lines p c [] = []
-last_lines p c (x ∷ xs) = last_line p c x ++ last_lines p (c + 1) xs
-
--- all of them, as `final` writes them
-abbrev pub final_text : Program → List (ℤ × Origin) → List ℕ
-final_text p lasts = last_lines p 0 lasts

@@ -1,6 +1,6 @@
 // The line of each shared cell with its last value and the write of it.
 ghost use Rattle.std.specs.Prelude.{◌≡◌, ◌++◌, OnOk};
-ghost use Rattle.ppd_why.specs.Edges.{final_text, last_line};
+ghost use Rattle.ppd_why.specs.Edges.{last_line};
 
 use crate::edges::put_from;
 use crate::names::put_cell;

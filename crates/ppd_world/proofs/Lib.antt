@@ -5,6 +5,5 @@ pub mod Steps
 pub mod Sound
 pub mod Reached
 pub mod Processes
-pub mod Closed
 pub mod Paid
 pub mod Plain

@@ -5,6 +5,7 @@ use Rattle.std.proofs.Common.{◌≡◌, ℕ, ℤ, zero, suc, ◌+◌, ◌<◌, 
 use Rattle.std.proofs.lemmas.List.{append_assoc, append-nil}
 use Rattle.ppd_ast.specs.declared.plan.Plan.{Plan}
 use Rattle.ppd_ast.specs.declared.program.Program.{Program}
+use Rattle.ppd_ast.specs.declared.limits.TheConstants.{MOST_BUDGET}
 use Rattle.ppd_entry.specs.declared.entry.Entry.{Entry}
 use Rattle.ppd_sem.specs.declared.proc.Answer.TheVariants.{Go}
 use Rattle.ppd_sem.specs.declared.proc.Need.{Need}
@@ -185,9 +186,9 @@ rests_fit r p n t h c =
     let got = got_map (λ (l : Logging). l.proc) p r.loggings c.before (ap (λ (ps : List Proc). slice_get ps p) s.same ∙ c.there) in
     let own : IsSoundLogging r.program got.0 = every_at (IsSoundLogging r.program) r.loggings p got.0 s.logs got.1 in
     let few : n ≤ measure got.0.proc = goes_few r.program r.plan n got.0.proc t own.proc.spent (subst (λ (x : Proc). GoesPlainly r.program r.plan x n t) (sym got.2) c.goes) in
-    let most : got.0.rest + measure got.0.proc ≤ 500001 = own.rest in
+    let most : got.0.rest + measure got.0.proc ≤ MOST_BUDGET + 1 = own.rest in
     every_all (λ (l : Logging). l.rest + n < 2 ^ 32) r.loggings
-    (each_more (IsSoundLogging r.program) (λ (l : Logging). l.rest + n < 2 ^ 32) r.loggings (λ l q. let rest : l.rest + measure l.proc ≤ 500001 = q.rest in omega arith) s.logs)
+    (each_more (IsSoundLogging r.program) (λ (l : Logging). l.rest + n < 2 ^ 32) r.loggings (λ l q. let rest : l.rest + measure l.proc ≤ MOST_BUDGET + 1 = q.rest in omega arith) s.logs)
 
 -- ---- the world from its parts
 

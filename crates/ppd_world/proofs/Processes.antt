@@ -23,13 +23,6 @@ run_keeps program plan w v (p ∷ h) e =
       | false ↦ λ r. absurd (cc)
     ]) e
 
--- a world that was reached has at most 16 processes
-pub reached_few : (r : Running) → IsReached r → length r.world.procs ≤ 16
-reached_few r i =
-    let kept = run_keeps r.program r.plan (started_world r.program r.plan r.budget) r.world i.schedule i.comes.runs in
-    let started = length-map-range_with_len (λ p. started r.program r.plan p r.budget) 0 (length r.program.bodies - r.program.functions) in
-    omega (arith, kept, started, i.program.limits.processes)
-
 pub past : (program : Program) (plan : Plan) (w : World) (ps : List Proc) (q : ℕ) → length ps ≤ q → can w (need_at program plan (slice_get ps q)) ≡ false
 past program plan w [] q h = refl
 past program plan w (s ∷ ps) zero h = absurd (omega arith)
@@ -40,10 +33,6 @@ pub none_of_all : (r : Running) → ((q : ℕ) → q < length r.world.procs → 
 none_of_all r none = record {
   nobody = λ q. elim (cases_lt q (length r.world.procs)) [ inl lt ↦ none q lt | inr le ↦ past r.program r.plan r.world r.world.procs q le ];
 }
-
--- where none of the first 16 can take a step, nobody can
-pub none_of_16 : (r : Running) → IsReached r → ((q : ℕ) → q < 16 → can_step r q ≡ false) → IsOver r.program r.plan r.world
-none_of_16 r i none = none_of_all r (λ q lt. none q (omega (arith, reached_few r i)))
 
 -- there are as many as the program has processes
 pub reached_count : (r : Running) → IsReached r → length r.world.procs ≡ length r.program.bodies - r.program.functions

@@ -12,8 +12,6 @@ use Rattle.ppd_sem.proofs.Validity.{valid-numbered, valid-runnable}
 use Rattle.ppd_ast.specs.Valid.{IsValid}
 use Rattle.ppd_ast.specs.ValidPlan.{IsValidPlan}
 use Rattle.ppd_ast.specs.declared.limits.TheConstants.{MOST_BUDGET}
-use Rattle.ppd_ast.specs.declared.lists.Memory.{Memory as MemoryOf}
-use Rattle.ppd_model.specs.declared.closed.Closed.{Closed}
 use Rattle.ppd_model.specs.declared.trace.DriveError.{DriveError}
 use Rattle.ppd_model.specs.declared.trace.DriveError.TheVariants.{NotEnabled, Memory}
 use Rattle.ppd_model.specs.declared.state.Channel.{Channel}
@@ -21,7 +19,7 @@ use Rattle.ppd_model.specs.declared.state.Counts.{Counts}
 use Rattle.ppd_model.specs.declared.state.Logging.{Logging}
 use Rattle.ppd_model.specs.Bounds.{steps_left}
 use Rattle.ppd_model.specs.Laws.{logged_moment}
-use Rattle.ppd_model.specs.Logs.{close, closed_logs_of, ends_from, log_step, loggings}
+use Rattle.ppd_model.specs.Logs.{log_step, loggings}
 use Rattle.ppd_model.specs.Schedule.{run_from, started_procs, started_world}
 use Rattle.ppd_model.specs.Story.{told}
 use Rattle.ppd_model.specs.World.{World, change, enabled, step}
@@ -31,7 +29,7 @@ use Rattle.ppd_model.proofs.States.{logs_grow}
 use Rattle.ppd_model.proofs.Stories.{stories_are_of_runs}
 use Rattle.ppd_model.proofs.Earlier.{each_more}
 use Rattle.ppd_world.specs.Parts.{IsReady, IsSmallChan, IsSmallLogging, IsSmallSem, store, world_of}
-use Rattle.ppd_world.specs.Running.{IsCause, IsDriven, IsFollowed, IsOf, IsReached, Running, Takes, begun, can_step, closed_run, stepped}
+use Rattle.ppd_world.specs.Running.{IsCause, IsDriven, IsFollowed, IsOf, IsReached, Running, Takes, begun, can_step, stepped}
 use Rattle.ppd_world.specs.Starts.{begun_chans, begun_logs, begun_sems}
 use Rattle.ppd_world.proofs.Begun.{logs_begun, procs_begun}
 use Rattle.ppd_world.proofs.Lists.{every_all}
@@ -145,10 +143,6 @@ driven_whole old now h i lt t = subst (λ (l : List ℕ). Takes old l now) (take
 pub takes_followed : (r now : Running) (p : ℕ) → IsFollowed r p now → Takes r (p ∷ []) now
 takes_followed r now p f = takes_step r now p f.enabled f.stepped_to
 
-pub followed_by : (r : Result (Unit {0}) MemoryOf) (old now : Running) (p : ℕ) → can_step old p ≡ true → OnOk r (now ≡ stepped old p) → OnOk r (IsFollowed old p now)
-followed_by (Ok u) old now p can e = record { enabled = can; stepped_to = e }
-followed_by (Err x) old now p can e = tt
-
 -- ---- what the code asks
 
 small_sem : (left : ℕ) (x : Counts) → IsSoundSem left x → IsSmallSem x
@@ -165,7 +159,7 @@ small_chan left x s =
     record { sent = omega arith; received = omega arith; completed = omega arith }
 
 small_logging : (program : Program) (l : Logging) → IsSoundLogging program l → IsSmallLogging program l
-small_logging program l s = let rest : l.rest + measure l.proc ≤ 500001 = s.rest in record { proc = s.proc; rest = omega arith }
+small_logging program l s = let rest : l.rest + measure l.proc ≤ MOST_BUDGET + 1 = s.rest in record { proc = s.proc; rest = omega arith }
 
 pub runnable : (r : Running) → IsReached r → IsRunnable r.program
 runnable r h = valid-runnable r.program h.program
@@ -189,17 +183,7 @@ parts_ready program plan budget s ls ks r view same h =
     } in
     subst (λ (x : List Logging). IsReady program plan s x) (sym same) ready
 
--- ---- the end
-
-pub closed_is : (r : Running) (c : Closed) → c ≡ closed_run r → (h : List ℕ) → IsOf h r → c ≡ close r.program r.plan r.budget h
-closed_is r c e h o = e ∙ ap (λ (ls : List Logging). record { logs = closed_logs_of ls; ends = ends_from r.program r.program.functions ls }) o.logs
-
 -- ---- the start
-
-pub few_processes : (program : Program) → IsValid program → length program.bodies - program.functions ≤ 16
-few_processes program v =
-    let processes : length program.bodies ≤ program.functions + 16 = v.limits.processes in
-    omega arith
 
 pub begun_is : (program : Program) (plan : Plan) (budget n : ℕ) (shared : List ℤ) (sems : List Counts) (chans : List Channel) (ls : List Logging) → n ≡ length program.bodies - program.functions → shared ≡ program.starts → sems ≡ begun_sems program → chans ≡ begun_chans program → ls ≡ begun_logs program plan budget n
     → running program plan budget (world_of (store shared sems chans) ls) ls ≡ begun program plan budget

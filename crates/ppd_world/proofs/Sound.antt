@@ -9,6 +9,7 @@ use Rattle.ppd_ast.specs.declared.plan.Plan.{Plan}
 use Rattle.ppd_ast.specs.declared.program.Chan.{Chan}
 use Rattle.ppd_ast.specs.declared.program.Program.{Program}
 use Rattle.ppd_ast.specs.declared.program.Sem.{Sem}
+use Rattle.ppd_ast.specs.declared.limits.TheConstants.{MOST_BUDGET, MOST_PROCESSES, MOST_START}
 use Rattle.ppd_entry.specs.declared.entry.Entry.{Entry}
 use Rattle.ppd_sem.specs.declared.proc.Need.{Need}
 use Rattle.ppd_sem.specs.declared.proc.Need.TheVariants.{Write, P, V, Send, Offer, Done, Recv}
@@ -45,7 +46,7 @@ most = 8065551
 -- a process of the program, whose steps since its last entry and those to come are within the budget
 pub record IsSoundLogging (program : Program) (l : Logging) : Type 0 where
   pub proc : IsRunning program l.proc
-  pub rest : l.rest + measure l.proc ≤ 500001
+  pub rest : l.rest + measure l.proc ≤ MOST_BUDGET + 1
 
 -- each semaphore can still be given by all steps that are left
 pub record IsSoundSem (left : ℕ) (x : Counts) : Type 0 where
@@ -144,7 +145,7 @@ logging_sound : (program : Program) (plan : Plan) (w : World) (l : Logging) (x :
 logging_sound program plan w l x run e h =
     let falls : measure (act program plan l.proc x.taken.answer) < measure l.proc = act-falls program plan l.proc x.taken.answer (not_stopped w (need_of program plan l.proc) e) h.proc.spent in
     let rest : (log_step program plan l x).rest ≤ l.rest + 1 = rest_le l.rest (entries_of program plan l x) in
-    let within : l.rest + measure l.proc ≤ 500001 = h.rest in
+    let within : l.rest + measure l.proc ≤ MOST_BUDGET + 1 = h.rest in
     record { proc = act-runs program plan l.proc x.taken.answer run h.proc; rest = omega arith }
 
 pub left_less : (r : Running) (p : ℕ) → can_step r p ≡ true → IsSound r → steps_left (stepped r p).world.procs + 1 ≤ steps_left r.world.procs
@@ -171,34 +172,34 @@ step_sound r p run e s =
 
 -- ---- the start
 
-logs_sound : (program : Program) (plan : Plan) (budget p n : ℕ) → IsRunnable program → budget ≤ 500000 → program.functions + (p + n) ≤ length program.bodies → Each (IsSoundLogging program) (map (λ q. begun_log program plan budget q) (range_with_len p n))
+logs_sound : (program : Program) (plan : Plan) (budget p n : ℕ) → IsRunnable program → budget ≤ MOST_BUDGET → program.functions + (p + n) ≤ length program.bodies → Each (IsSoundLogging program) (map (λ q. begun_log program plan budget q) (range_with_len p n))
 logs_sound program plan budget p zero run few lt = tt
 logs_sound program plan budget p (suc n) run few lt = (
   record { proc = started_runs program (program.functions + p) budget run (omega arith) (omega arith); rest = omega arith },
   logs_sound program plan budget (p + 1) n run few (omega arith),
 )
 
-sems_begun : (left : ℕ) (sems : List Sem) → left ≤ 8000016 → Each (λ s. s.start ≤ 65535) sems → Each (IsSoundSem left) (map (λ s. record { given = s.start; taken = 0 }) sems)
+sems_begun : (left : ℕ) (sems : List Sem) → left ≤ MOST_PROCESSES * (MOST_BUDGET + 1) → Each (λ s. s.start ≤ MOST_START) sems → Each (IsSoundSem left) (map (λ s. record { given = s.start; taken = 0 }) sems)
 sems_begun left [] few h = tt
-sems_begun left (s ∷ ss) few h = let start : s.start ≤ 65535 = h.0 in (record { given = omega arith; taken = omega arith }, sems_begun left ss few h.1)
+sems_begun left (s ∷ ss) few h = let start : s.start ≤ MOST_START = h.0 in (record { given = omega arith; taken = omega arith }, sems_begun left ss few h.1)
 
-chans_begun : (left : ℕ) (chans : List Chan) → left ≤ 8000016 → Each (IsSoundChan left) (map (λ c. record { capacity = c.capacity; sent = []; received = 0; completed = 0 }) chans)
+chans_begun : (left : ℕ) (chans : List Chan) → left ≤ MOST_PROCESSES * (MOST_BUDGET + 1) → Each (IsSoundChan left) (map (λ c. record { capacity = c.capacity; sent = []; received = 0; completed = 0 }) chans)
 chans_begun left [] few = tt
 chans_begun left (c ∷ cs) few = (record { sent = omega arith; received = omega arith; completed = omega arith }, chans_begun left cs few)
 
-few_steps : (n budget : ℕ) → n ≤ 16 → budget ≤ 500000 → n * (budget + 1) ≤ 8000016
-few_steps n budget h k = mul-le n (budget + 1) 16 500001 h (omega arith)
+few_steps : (n budget : ℕ) → n ≤ MOST_PROCESSES → budget ≤ MOST_BUDGET → n * (budget + 1) ≤ MOST_PROCESSES * (MOST_BUDGET + 1)
+few_steps n budget h k = mul-le n (budget + 1) MOST_PROCESSES (MOST_BUDGET + 1) h (omega arith)
 
-pub begun_sound : (program : Program) (plan : Plan) (budget : ℕ) → IsValid program → budget ≤ 500000 → IsSound (begun_running program plan budget)
+pub begun_sound : (program : Program) (plan : Plan) (budget : ℕ) → IsValid program → budget ≤ MOST_BUDGET → IsSound (begun_running program plan budget)
 begun_sound program plan budget v h =
     let n : ℕ = length program.bodies - program.functions in
     let run : IsRunnable program = valid-runnable program v in
     let process : program.functions < length program.bodies = v.limits.process in
-    let processes : length program.bodies ≤ program.functions + 16 = v.limits.processes in
+    let processes : length program.bodies ≤ program.functions + MOST_PROCESSES = v.limits.processes in
     let left : steps_left (started_procs program plan budget n) ≡ n * (budget + 1) = started_all program plan budget 0 n in
-    let few : n * (budget + 1) ≤ 8000016 = few_steps n budget (omega arith) h in
+    let few : n * (budget + 1) ≤ MOST_PROCESSES * (MOST_BUDGET + 1) = few_steps n budget (omega arith) h in
     let logs : loggings program plan budget [] ≡ map (λ q. begun_log program plan budget q) (range_with_len 0 n) = logs_begun program plan budget 0 n in
-    let starts : Each (λ (s : Sem). s.start ≤ 65535) program.sems = all_every (λ (s : Sem). s.start ≤ 65535) program.sems (λ i d lt. (v.limits.sems i d lt).1) in
+    let starts : Each (λ (s : Sem). s.start ≤ MOST_START) program.sems = all_every (λ (s : Sem). s.start ≤ MOST_START) program.sems (λ i d lt. (v.limits.sems i d lt).1) in
     record {
       same = ap (λ (ls : List Logging). map (λ l. l.proc) ls) logs ∙ procs_begun program plan budget 0 n;
       logs = subst (λ (ls : List Logging). Each (IsSoundLogging program) ls) (sym logs) (logs_sound program plan budget 0 n run h (omega arith));

@@ -1,5 +1,5 @@
 -- The parts of a step of a world.
-use Rattle.std.specs.Prelude.{◌+◌, ◌-◌, ◌<◌, ◌^◌, ℤ, List, [], ◌∷◌, ◌++◌, length, map, take, slice_set, Option, Some, None}
+use Rattle.std.specs.Prelude.{◌+◌, ◌-◌, ◌<◌, ◌^◌, ℤ, List, [], ◌++◌, length, map, take, slice_set, Option, Some, None}
 use Rattle.std.specs.List.{All}
 use Rattle.ppd_ast.specs.declared.plan.Plan.{Plan}
 use Rattle.ppd_ast.specs.declared.program.Program.{Program}

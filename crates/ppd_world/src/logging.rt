@@ -1,4 +1,4 @@
-ghost use Rattle.std.specs.Prelude.{◌≡◌, ◌+◌, ◌<◌, ◌++◌, ◌^◌, nat_eq, if◌then◌else◌, length, slice_get, OnOk, OnErr};
+ghost use Rattle.std.specs.Prelude.{◌≡◌, ◌+◌, ◌<◌, ◌++◌, ◌^◌, length, slice_get, OnOk, OnErr};
 ghost use Rattle.std.specs.List.{All};
 ghost use Rattle.ppd_model.specs.Logs.{log_step, rest_after};
 ghost use Rattle.ppd_model.specs.World.{change};

@@ -35,7 +35,13 @@ impl<'a> Model for World<'a> {
 
     ghost Value = { Running };
 
-    ghost view = { λ w. record { program = w.code.program.now; plan = w.code.plan.now; budget = w.budget; world = world_of w.store w.loggings.items; loggings = w.loggings.items } };
+    ghost view = { λ w. record {
+      program = w.code.program.now;
+      plan = w.code.plan.now;
+      budget = w.budget;
+      world = world_of w.store w.loggings.items;
+      loggings = w.loggings.items;
+    } };
 }
 
 fn copy_values(values: &Nums) -> Result<Nums, Memory>

@@ -1,7 +1,8 @@
 -- What is read within the limits keeps the depth: how deep statements and the indexes of places stand in one another.
-use Rattle.std.proofs.Common.{◌≡◌, refl, sym, ap, ◌∙◌, ℕ, zero, suc, ◌+◌, ◌-◌, ◌≤◌, max, nat_le, Bool, true, false, ◌&&◌, ◌||◌, List, [], ◌∷◌, arith}
+use Rattle.std.proofs.Common.{◌≡◌, refl, sym, ap, ◌∙◌, ℕ, zero, suc, ◌+◌, ◌-◌, ◌≤◌, ◌<◌, max, nat_le, Bool, true, false, ◌&&◌, ◌||◌, List, [], ◌∷◌, arith}
 use Rattle.std.specs.Prelude.{⊤}
 use Rattle.std.proofs.lemmas.Bool.Decides.{nat_tests}
+use Rattle.ppd_ast.specs.declared.limits.TheConstants.{MOST_OPEN}
 use Rattle.ppd_parse.specs.declared.symbol.Level.TheVariants as L
 use Rattle.ppd_parse.specs.declared.symbol.Rule.{Rule}
 use Rattle.ppd_parse.specs.declared.symbol.Rule.TheVariants as R
@@ -16,7 +17,7 @@ use Rattle.ppd_check.proofs.Limits.Trees.{levels_of, statement_in, levels_append
 
 abbrev DepthsKept : List Marked → Type 0
 DepthsKept [] = ⊤
-DepthsKept (x ∷ xs) = (x.at.depth ≤ 64) × DepthsKept xs
+DepthsKept (x ∷ xs) = (x.at.depth ≤ MOST_OPEN) × DepthsKept xs
 
 depths_of : (n : ℕ) (ts : List Marked) → KeepLimits n ts → DepthsKept ts
 depths_of n [] h = tt
@@ -46,35 +47,35 @@ side_solid y = refl
 
 record Bounded (c : Rule → ℕ) (extra : ℕ) (reading : Bool) (a : At) (t : List Shape) (rest : List Marked) : Type 0 where
   depths : DepthsKept rest
-  bound : levels_of c t ≤ (64 + extra) - a.depth
-  near : reading ≡ true → a.depth ≤ 64
-  inner : 1 ≤ levels_of c t → a.depth ≤ 64
+  bound : levels_of c t ≤ (MOST_OPEN + extra) - a.depth
+  near : reading ≡ true → a.depth ≤ MOST_OPEN
+  inner : 1 ≤ levels_of c t → a.depth ≤ MOST_OPEN
 
-or_of : (a b : Bool) {n : ℕ} → (a ≡ true → n ≤ 64) → (b ≡ true → n ≤ 64) → (a || b) ≡ true → n ≤ 64
+or_of : (a b : Bool) {n : ℕ} → (a ≡ true → n ≤ MOST_OPEN) → (b ≡ true → n ≤ MOST_OPEN) → (a || b) ≡ true → n ≤ MOST_OPEN
 or_of true b h i e = h refl
 or_of false b h i e = i e
 
-inner_both : (m n d : ℕ) → (1 ≤ m → d ≤ 64) → (1 ≤ n → d ≤ 64) → 1 ≤ max m n → d ≤ 64
+inner_both : (m n d : ℕ) → (1 ≤ m → d ≤ MOST_OPEN) → (1 ≤ n → d ≤ MOST_OPEN) → 1 ≤ max m n → d ≤ MOST_OPEN
 inner_both zero n d h i e = i (omega (arith, e))
 inner_both (suc m) n d h i e = h (omega arith)
 
-deeper_depth : (a : At) → (nat_le a.depth 64 ≡ true → (deeper a).depth ≡ a.depth + 1) × (nat_le a.depth 64 ≡ false → (deeper a).depth ≡ a.depth)
+deeper_depth : (a : At) → (nat_le a.depth MOST_OPEN ≡ true → (deeper a).depth ≡ a.depth + 1) × (nat_le a.depth MOST_OPEN ≡ false → (deeper a).depth ≡ a.depth)
 deeper_depth a = (λ e. rw e refl, λ e. rw e refl)
 
-none_far : (depth extra m : ℕ) → (1 ≤ m → depth ≤ 64) → 65 ≤ depth → m ≤ (64 + (extra - 1)) - depth
+none_far : (depth extra m : ℕ) → (1 ≤ m → depth ≤ MOST_OPEN) → MOST_OPEN < depth → m ≤ (MOST_OPEN + (extra - 1)) - depth
 none_far depth extra zero h far = omega arith
 none_far depth extra (suc m) h far = absurd (omega (arith, far, h (omega arith)))
 
 bounded_within : (c : Rule → ℕ) (extra : ℕ) (reading : Bool) (a : At) (t : List Shape) (rest : List Marked) → Bounded c extra reading (deeper a) t rest → Bounded c (extra - 1) reading a t rest
-bounded_within c extra reading a t rest b = by (nat_le a.depth 64) refl
+bounded_within c extra reading a t rest b = by (nat_le a.depth MOST_OPEN) refl
   where
-    by : (test : Bool) → nat_le a.depth 64 ≡ test → Bounded c (extra - 1) reading a t rest
+    by : (test : Bool) → nat_le a.depth MOST_OPEN ≡ test → Bounded c (extra - 1) reading a t rest
     by true e =
         let d : (deeper a).depth ≡ a.depth + 1 = (deeper_depth a).0 e in
         record { depths = b.depths; bound = omega (arith, b.bound, d); near = λ i. omega (arith, b.near i, d); inner = λ i. omega (arith, b.inner i, d) }
     by false e =
         let d : (deeper a).depth ≡ a.depth = (deeper_depth a).1 e in
-        let far : 65 ≤ a.depth = grind (arith, nat_tests) in
+        let far : MOST_OPEN < a.depth = grind (arith, nat_tests) in
         record { depths = b.depths; bound = none_far a.depth extra (levels_of c t) (λ i. omega (arith, b.inner i, d)) far; near = λ i. omega (arith, b.near i, d); inner = λ i. omega (arith, b.inner i, d) }
 
 module _ (c : Rule → ℕ) (s : Side → ℕ) (few : (r : Rule) → c r ≤ 1) (lifts : (y : Side) → lift c s (phrase y) ≡ s y) where
@@ -126,7 +127,7 @@ module _ (c : Rule → ℕ) (s : Side → ℕ) (few : (r : Rule) → c r ≤ 1) 
       record { depths = b.depths; bound = b.bound; near = b.near; inner = b.inner }
   bounded (grouped {r} {f} {a} {t} d) o h =
       let b = bounded d (and_right (reads f) (solid f) o) h in
-      let depth : a.depth ≤ 64 = b.near (and_left (reads f) (solid f) o) in
+      let depth : a.depth ≤ MOST_OPEN = b.near (and_left (reads f) (solid f) o) in
       record { depths = b.depths; bound = omega (arith, b.bound, depth, levels_forest c t, few r); near = b.near; inner = λ i. depth }
 
 -- Statements in statements, and places in the indexes of places.
@@ -170,8 +171,8 @@ place_lifts y = refl
 
 -- A program within the limits.
 
-pub statements_program : {ts : List Marked} {f : List Shape} → IsProgram ts f → KeepLimits 0 ts → levels_of statement_in f ≤ 64
+pub statements_program : {ts : List Marked} {f : List Shape} → IsProgram ts f → KeepLimits 0 ts → levels_of statement_in f ≤ MOST_OPEN
 statements_program {ts} p h = (bounded statement_in statement_side statement_few statement_lifts p refl (depths_of 0 ts h)).bound
 
-pub places_program : {ts : List Marked} {f : List Shape} → IsProgram ts f → KeepLimits 0 ts → levels_of place_in f ≤ 64
+pub places_program : {ts : List Marked} {f : List Shape} → IsProgram ts f → KeepLimits 0 ts → levels_of place_in f ≤ MOST_OPEN
 places_program {ts} p h = (bounded place_in indexed_side place_few place_lifts p refl (depths_of 0 ts h)).bound

@@ -2,6 +2,7 @@
 use Rattle.std.proofs.Common.{◌≡◌, refl, sym, ap, ◌∙◌, ℕ, zero, suc, ◌+◌, ◌-◌, ◌≤◌, ℤ, pos, Bool, true, false, if◌then◌else◌, List, [], ◌∷◌, ◌++◌, drop, Some, None, arith}
 use Rattle.std.specs.Prelude.{⊤}
 use Rattle.std.specs.List.{AllByRecursion, flat_map}
+use Rattle.ppd_ast.specs.declared.limits.TheConstants.{MOST_OPEN, MOST_SOURCE_OPERATORS}
 use Rattle.ppd_lex.specs.declared.token.Kind.{Kind}
 use Rattle.ppd_lex.specs.declared.token.Kind.TheVariants as K
 use Rattle.ppd_parse.specs.declared.symbol.Rule.{Rule}
@@ -258,17 +259,17 @@ for_first (shape_then (node r f) ts) e = let d : K.End ≡ K.ForWord = sym (ende
 record Known (n m : ℕ) (r : Rule) (ts : Shapes) : Type 0 where
   own : OwnFits r ts
   weight_few : weight (made r (all_said ts)) ≤ signs_in ts
-  shallow : depth (made r (all_said ts)) ≤ 64
+  shallow : depth (made r (all_said ts)) ≤ MOST_OPEN
   inner : m ≡ levels_in statement_in ts
   levels_few : statement_in r + m ≤ n
-  most : n ≤ 64
+  most : n ≤ MOST_OPEN
 
 made_small : (n m : ℕ) (r : Rule) (ts : Shapes) → Known n m r ts → AreSmall m (all_said ts) → IsSmallPhrase n (made r (all_said ts))
 made_small n m R.Unary ts k h = record { few = omega (arith, k.own, k.weight_few); shallow = k.shallow }
 made_small n m R.Binary ts k h = record { few = omega (arith, k.own.0, k.weight_few); shallow = k.shallow }
 made_small n m R.Place ts k h = record { few = goal_operators (is_bracket (kind (phrase (all_said ts) 1))) refl; shallow = k.shallow }
   where
-    goal_operators : (b : Bool) → is_bracket (kind (phrase (all_said ts) 1)) ≡ b → operators_in (goal_formula (goal_of (all_said ts))) ≤ 256
+    goal_operators : (b : Bool) → is_bracket (kind (phrase (all_said ts) 1)) ≡ b → operators_in (goal_formula (goal_of (all_said ts))) ≤ MOST_SOURCE_OPERATORS
     goal_operators true e = rw (e) (formula_small m (all_said ts) 2 h).few
     goal_operators false e = rw (e) (omega arith)
 made_small n m R.Leaf ts k h = omega arith
@@ -277,9 +278,9 @@ made_small n m R.Shared ts k h = all_items m (all_said ts) h
 made_small n m R.Sitem ts k h = (shared_small m (all_said ts) h, tt)
 made_small n m R.Sems ts k h = numbered_small m semaphore (λ x i s. s) (all_said ts) h
 made_small n m R.Chans ts k h = numbered_small m channel (λ x i s. s) (all_said ts) h
-made_small n m R.Function ts k h = ((name_short m (all_said ts) 1 h, all_names m (all_said ts) h, row_more m 64 (as_block (last (all_said ts))).row (omega (arith, k.levels_few, k.most)) (small_block m (last (all_said ts)) (last_small m (all_said ts) h))), tt)
+made_small n m R.Function ts k h = ((name_short m (all_said ts) 1 h, all_names m (all_said ts) h, row_more m MOST_OPEN (as_block (last (all_said ts))).row (omega (arith, k.levels_few, k.most)) (small_block m (last (all_said ts)) (last_small m (all_said ts) h))), tt)
 made_small n m R.Params ts k h = short_params m (all_said ts) h
-made_small n m R.Process ts k h = ((name_short m (all_said ts) 1 h, row_more m 64 (as_block (last (all_said ts))).row (omega (arith, k.levels_few, k.most)) (small_block m (last (all_said ts)) (last_small m (all_said ts) h))), tt)
+made_small n m R.Process ts k h = ((name_short m (all_said ts) 1 h, row_more m MOST_OPEN (as_block (last (all_said ts))).row (omega (arith, k.levels_few, k.most)) (small_block m (last (all_said ts)) (last_small m (all_said ts) h))), tt)
 made_small n m R.Block ts k h = row_more m n (rows (all_said ts)) (omega (arith, k.levels_few)) (small_rows m (all_said ts) h)
 made_small n m R.Local ts k h = small_locals m n (all_said ts) (omega (arith, k.levels_few)) h
 made_small n m R.Litem ts k h = local_small m (all_said ts) h
@@ -299,24 +300,24 @@ abbrev mutual
   AreShortIn (shape_then t ts) = AreShort t × AreShortIn ts
 
 mutual
-  pub said_small : (n : ℕ) (t : Shape) → n ≤ 64 → AreShort t → Fits t → levels place_in t ≤ 64 → levels statement_in t ≤ n → IsSmallPhrase n (said t)
+  pub said_small : (n : ℕ) (t : Shape) → n ≤ MOST_OPEN → AreShort t → Fits t → levels place_in t ≤ MOST_OPEN → levels statement_in t ≤ n → IsSmallPhrase n (said t)
   said_small n (leaf t) le s f p l = s
   said_small n (node r ts) le s f p l =
       let m : ℕ = levels_in statement_in ts in
       let known : Known n (levels_in statement_in ts) r ts = record {
         own = f.0;
         weight_few = said_few (node r ts) f;
-        shallow = said_below 64 (node r ts) p;
+        shallow = said_below MOST_OPEN (node r ts) p;
         inner = refl;
         levels_few = l;
         most = le;
       } in
       made_small n (levels_in statement_in ts) r ts known (all_small (levels_in statement_in ts) ts (omega (arith, l, le)) s f.1 (omega (arith, p)) (omega arith))
 
-  pub all_small : (n : ℕ) (ts : Shapes) → n ≤ 64 → AreShortIn ts → FitsIn ts → levels_in place_in ts ≤ 64 → levels_in statement_in ts ≤ n → AreSmall n (all_said ts)
+  pub all_small : (n : ℕ) (ts : Shapes) → n ≤ MOST_OPEN → AreShortIn ts → FitsIn ts → levels_in place_in ts ≤ MOST_OPEN → levels_in statement_in ts ≤ n → AreSmall n (all_said ts)
   all_small n no_shapes le s f p l = tt
   all_small n (shape_then t ts) le s f p l = (said_small n t le s.0 f.0 (omega (arith, p)) (omega (arith, l)), all_small n ts le s.1 f.1 (omega (arith, p)) (omega (arith, l)))
 
 -- the items of a tree within the limits
-pub small_source : (t : Shape) → AreShort t → Fits t → levels place_in t ≤ 64 → levels statement_in t ≤ 64 → AllByRecursion IsSmallItem (as_items (said t))
-small_source t s f p l = small_items 64 (said t) (said_small 64 t (omega arith) s f p l)
+pub small_source : (t : Shape) → AreShort t → Fits t → levels place_in t ≤ MOST_OPEN → levels statement_in t ≤ MOST_OPEN → AllByRecursion IsSmallItem (as_items (said t))
+small_source t s f p l = small_items MOST_OPEN (said t) (said_small MOST_OPEN t (omega arith) s f p l)

@@ -1,6 +1,7 @@
 -- What is read within the limits keeps the count of operators: the trees of a program fit.
 use Rattle.std.proofs.Common.{◌≡◌, refl, sym, ap, ◌∙◌, subst, ℕ, ◌+◌, ◌≤◌, Bool, true, false, cond, not, ◌&&◌, ◌||◌, if◌then◌else◌, List, [], ◌∷◌, ◌++◌, arith}
 use Rattle.std.specs.Prelude.{⊤}
+use Rattle.ppd_ast.specs.declared.limits.TheConstants.{MOST_SOURCE_OPERATORS}
 use Rattle.ppd_lex.specs.declared.token.Token.{Token}
 use Rattle.ppd_lex.specs.declared.token.Kind.{Kind}
 use Rattle.ppd_parse.specs.declared.symbol.Level.{Level}
@@ -184,12 +185,12 @@ stated_levels {f} {t = t} h d s = one_of (mild f) (heavy f) t (mild_first d) (he
 
 record Kept (n : ℕ) (a : At) (t : List Shape) (rest : List Marked) : Type 0 where
   m : ℕ
-  few : m ≤ 256
+  few : m ≤ MOST_SOURCE_OPERATORS
   keeps : KeepLimits m rest
   count : a.inside ≡ true → m ≡ n + signs_of t
   fits : FitsAll t
 
-own_fits : (i : Bool) (r : Rule) {f : Phrase} {a : At} {t : List Shape} {ts rest : List Marked} → own_sound i r f ≡ true → (i ≡ true → signs_of t ≤ 256) → Is f a ts t rest → OwnFits r (forest t)
+own_fits : (i : Bool) (r : Rule) {f : Phrase} {a : At} {t : List Shape} {ts rest : List Marked} → own_sound i r f ≡ true → (i ≡ true → signs_of t ≤ MOST_SOURCE_OPERATORS) → Is f a ts t rest → OwnFits r (forest t)
 own_fits i R.Unary {t = t} e few d = omega (arith, signs_forest t, few e)
 own_fits i R.Binary {f} {t = t} e few d = (omega (arith, signs_forest t, few (and_left i (joins f) e)), joined_of (and_right i (joins f) e) d)
 own_fits i R.Stmt {t = t} e few d = λ s. omega (arith, stated_levels e d s, levels_forest statement_in t)
@@ -209,7 +210,7 @@ kept_token n a x rest e h = record {
   fits = (tt, tt);
 }
 
-kept_none : (n : ℕ) (a : At) (rest : List Marked) → n ≤ 256 → KeepLimits n rest → Kept n a [] rest
+kept_none : (n : ℕ) (a : At) (rest : List Marked) → n ≤ MOST_SOURCE_OPERATORS → KeepLimits n rest → Kept n a [] rest
 kept_none n a rest le h = record { m = n; few = le; keeps = h; count = λ i. omega arith; fits = tt }
 
 kept_both : (n : ℕ) (a : At) (t u : List Shape) (mid rest : List Marked) → (k : Kept n a t mid) → Kept k.m a u rest → Kept n a (t ++ u) rest
@@ -221,7 +222,7 @@ kept_both n a t u mid rest k j = record {
   fits = fits_append t u k.fits j.fits;
 }
 
-kept : {f : Phrase} {a : At} {t : List Shape} {ts rest : List Marked} → Is f a ts t rest → (n : ℕ) → sound a.inside f ≡ true → n ≤ 256 → KeepLimits n ts → Kept n a t rest
+kept : {f : Phrase} {a : At} {t : List Shape} {ts rest : List Marked} → Is f a ts t rest → (n : ℕ) → sound a.inside f ≡ true → n ≤ MOST_SOURCE_OPERATORS → KeepLimits n ts → Kept n a t rest
 kept (token {a = a} {x = x} {rest = rest} e m) n s le h = kept_token n a x rest m h
 kept (sign {a = a} {x = x} {rest = rest} e m) n s le h = kept_token n a x rest m h
 kept (side {y} {a} d) n s le h = kept d n (side_sound a.inside y s) le h

@@ -2,6 +2,7 @@
 use Rattle.std.proofs.Common.{ℕ, ◌+◌, ◌-◌, ◌≤◌, max, length, Option, Some, None}
 use Rattle.std.specs.Prelude.{⊤}
 use Rattle.std.specs.List.{AllByRecursion}
+use Rattle.ppd_ast.specs.declared.limits.TheConstants.{MOST_NAME_BYTES, MOST_OPEN, MOST_SOURCE_OPERATORS}
 use Rattle.ppd_resolve.specs.Syntax.{Name, Formula, number, variable, element, negated, inverted, two, both, either, Goal, Value, plain, result, received, Simple, fresh, array, store, change, call, give_back, take, give, send, print, assert, Row, stop, simple, block, choice, repeat, count, Item, shared, shared_array, semaphore, channel, function, process}
 use Rattle.ppd_resolve.specs.Reading.{goal_formula, params}
 use Rattle.ppd_check.specs.Sizes.{operators_in}
@@ -20,11 +21,11 @@ indexes (both a b) = max (indexes a) (indexes b)
 indexes (either a b) = max (indexes a) (indexes b)
 
 pub record IsSmall (f : Formula) : Type 0 where
-  pub few : operators_in f ≤ 256
-  pub shallow : indexes f ≤ 64
+  pub few : operators_in f ≤ MOST_SOURCE_OPERATORS
+  pub shallow : indexes f ≤ MOST_OPEN
 
 abbrev pub IsShort : Name → Type 0
-IsShort x = length x.text ≤ 64
+IsShort x = length x.text ≤ MOST_NAME_BYTES
 
 -- Values and statements of small expressions and short names.
 
@@ -71,5 +72,5 @@ IsSmallItem (shared x v) = IsShort x
 IsSmallItem (shared_array x n) = IsShort x
 IsSmallItem (semaphore x n) = IsShort x
 IsSmallItem (channel x n) = IsShort x
-IsSmallItem (function gives x params b) = IsShort x × AllByRecursion IsShort params × IsSmallRow 64 b.row
-IsSmallItem (process x b) = IsShort x × IsSmallRow 64 b.row
+IsSmallItem (function gives x params b) = IsShort x × AllByRecursion IsShort params × IsSmallRow MOST_OPEN b.row
+IsSmallItem (process x b) = IsShort x × IsSmallRow MOST_OPEN b.row

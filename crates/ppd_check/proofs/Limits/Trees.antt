@@ -1,6 +1,7 @@
 -- How many operators the expressions of trees have, how deep nodes of some rules stand in one another, and what trees within the limits are.
 use Rattle.std.proofs.Common.{◌≡◌, refl, ap, ℕ, ◌+◌, ◌≤◌, max, Bool, true, false, cond, List, [], ◌∷◌, ◌++◌, arith}
 use Rattle.std.specs.Prelude.{⊤}
+use Rattle.ppd_ast.specs.declared.limits.TheConstants.{MOST_SOURCE_OPERATORS}
 use Rattle.ppd_lex.specs.declared.token.Kind.{Kind}
 use Rattle.ppd_lex.specs.declared.token.Kind.TheVariants as K
 use Rattle.ppd_parse.specs.declared.symbol.Rule.{Rule}
@@ -61,8 +62,8 @@ starts_for _ = false
 
 abbrev pub OwnFits : Rule → Shapes → Type 0
 OwnFits R.Stmt ts = starts_for ts ≡ true → 1 ≤ levels_in statement_in ts
-OwnFits R.Unary ts = signs_in ts ≤ 256
-OwnFits R.Binary ts = (signs_in ts ≤ 256) × IsJoined ts
+OwnFits R.Unary ts = signs_in ts ≤ MOST_SOURCE_OPERATORS
+OwnFits R.Binary ts = (signs_in ts ≤ MOST_SOURCE_OPERATORS) × IsJoined ts
 OwnFits r ts = ⊤
 
 -- each expression has at most 256 operators, each binary one has its operator, and each `for` has a statement inside it

@@ -11,7 +11,7 @@ use Rattle.ppd_parse.specs.Limits.{IsTree}
 use Rattle.ppd_resolve.specs.Names.{Scope}
 use Rattle.ppd_resolve.specs.Reading.{source_of}
 use Rattle.ppd_resolve.specs.Syntax.{Source}
-use Rattle.ppd_lower.specs.Sources.{heads, head_faults, head_code, head_frame, vars, core, Accepted}
+use Rattle.ppd_bodies.specs.Sources.{heads, head_faults, head_code, head_frame, vars, core, Accepted}
 use Rattle.ppd_resolve.specs.Globals.{Head, globals}
 use Rattle.ppd_check.proofs.Named.Rightly.{AreThere, AreNamedRightly}
 use Rattle.ppd_check.proofs.Named.Terms.{nil_left, nil_right}

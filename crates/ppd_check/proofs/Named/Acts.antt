@@ -1,5 +1,5 @@
 -- Statements that break no rule name what is there.
-use Rattle.std.proofs.Common.{◌≡◌, refl, sym, subst, ◌∙◌, ℕ, ◌+◌, ◌<◌, arith, Bool, true, false, ◌&&◌, not, nat_eq, List, [], ◌∷◌, map, length, Option, Some, None, is_some, IsSomeAnd, IfSome, slice_get, IsSome, IsTrue}
+use Rattle.std.proofs.Common.{◌≡◌, refl, sym, subst, ◌∙◌, ℕ, ◌<◌, arith, Bool, true, false, ◌&&◌, not, nat_eq, List, [], ◌∷◌, map, length, Option, Some, None, is_some, IsSomeAnd, IfSome, slice_get, IsSome, IsTrue}
 use Rattle.std.specs.List.{All, flat_map}
 use Rattle.std.proofs.lemmas.List.{length-map}
 use Rattle.std.proofs.lemmas.List.Elements.{All-nil, All-cons, All-append}

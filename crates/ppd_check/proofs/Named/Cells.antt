@@ -1,5 +1,5 @@
 -- Variables that are within a limit share no cell and cover their cells.
-use Rattle.std.proofs.Common.{◌≡◌, refl, sym, ap, subst, ◌∙◌, ℕ, zero, suc, ◌+◌, ◌-◌, ◌^◌, ◌<◌, ◌≤◌, arith, Bool, true, false, cond, ◌&&◌, nat_lt, nat_le, List, [], ◌∷◌, ◌++◌, map, length, Option, Some, None, IsSomeAnd, slice_get, ◌⊎◌, inl, inr}
+use Rattle.std.proofs.Common.{◌≡◌, refl, sym, ap, subst, ◌∙◌, ℕ, zero, suc, ◌+◌, ◌-◌, ◌^◌, ◌<◌, ◌≤◌, arith, true, false, ◌&&◌, nat_lt, nat_le, List, [], ◌∷◌, ◌++◌, map, length, Option, Some, None, IsSomeAnd, slice_get, ◌⊎◌, inl, inr}
 use Rattle.std.specs.List.{All, count_by}
 use Rattle.std.proofs.lemmas.List.Elements.{All-nil, All-cons}
 use Rattle.std.proofs.lemmas.List.Sums.{sum_by-cons}
@@ -15,7 +15,7 @@ use Rattle.ppd_resolve.specs.Faults.{if_so}
 use Rattle.ppd_resolve.specs.Fitted.{as_short}
 use Rattle.ppd_resolve.specs.Syntax.{Name}
 use Rattle.ppd_resolve.specs.Frames.{after_cells, variable_of}
-use Rattle.ppd_lower.specs.Sources.{vars}
+use Rattle.ppd_bodies.specs.Sources.{vars}
 use Rattle.ppd_resolve.specs.Globals.{past_cells}
 use Rattle.ppd_resolve.proofs.Declared.Counted.{end_cells}
 use Rattle.ppd_check.proofs.Named.Terms.{nil_left, nil_right, if_so_false}

@@ -15,7 +15,7 @@ use Rattle.ppd_resolve.specs.Syntax.{Name}
 use Rattle.ppd_lower.specs.Code.{Code, done, act, choice, loop, places, count}
 use Rattle.ppd_lower.specs.Table.{stmts, weight, weights, terms, act_terms}
 use Rattle.ppd_check.proofs.PastMost.{up_to_itself, count_all}
-use Rattle.ppd_lower.specs.Sources.{is_up_to, past_statements, all_stmts}
+use Rattle.ppd_bodies.specs.Sources.{is_up_to, past_statements, all_stmts}
 use Rattle.ppd_resolve.specs.Globals.{past}
 
 -- Places in order.

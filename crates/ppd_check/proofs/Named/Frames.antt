@@ -14,7 +14,7 @@ use Rattle.ppd_resolve.specs.Syntax.{Name, Simple, fresh, array, store, change, 
 use Rattle.ppd_lower.specs.Statements.{opened, with_scopes_of, goal_name, spot_of, via_hidden, return_via_hidden, hidden_if, after, after_any, after_row}
 use Rattle.ppd_resolve.specs.Frames.{after_cells, variable_of, declared, with_hidden}
 use Rattle.ppd_resolve.proofs.Declared.Counted.{end_cells, end_cells_more}
-use Rattle.ppd_lower.specs.Sources.{vars}
+use Rattle.ppd_bodies.specs.Sources.{vars}
 use Rattle.ppd_check.proofs.Named.Rightly.{IsThere, AreAllThere}
 use Rattle.ppd_check.proofs.Named.Terms.{innermost_there}
 

@@ -13,11 +13,11 @@ use Rattle.ppd_resolve.specs.Fitted.{as_short}
 use Rattle.ppd_resolve.specs.Names.{Scope}
 use Rattle.ppd_lower.specs.Code.{count}
 use Rattle.ppd_lower.specs.Table.{flats, terms}
-use Rattle.ppd_resolve.specs.Syntax.{Name, Item, shared, shared_array, semaphore, channel, function, process, Source}
+use Rattle.ppd_resolve.specs.Syntax.{Name, Item, shared, shared_array, semaphore, channel, function, process}
 use Rattle.ppd_lower.specs.Statements.{row_faults}
 use Rattle.ppd_resolve.specs.Frames.{after_cells, variable_of, declared}
-use Rattle.ppd_lower.specs.Sources.{with_params, params_faults, outer, entry, head_code, head_frame, return_faults, head_faults, heads, codes, vars, body, bodies, all_stmts, core_of}
-use Rattle.ppd_resolve.specs.Globals.{Head, Globals, with_item, with_items, globals, past_cells, sem, chan}
+use Rattle.ppd_bodies.specs.Sources.{with_params, params_faults, outer, entry, head_code, head_frame, return_faults, head_faults, heads, codes, vars, body, bodies, all_stmts}
+use Rattle.ppd_resolve.specs.Globals.{Head, Globals, with_item, with_items, past_cells, sem, chan}
 use Rattle.ppd_resolve.proofs.Declared.Counted.{end_cells, end_cells_more}
 use Rattle.ppd_check.proofs.Named.Terms.{nil_left, nil_right}
 use Rattle.ppd_check.proofs.Named.Frames.{LeadsTo, leads_itself, leads_further, leads_on, row_leads}
@@ -36,9 +36,6 @@ table_of g =
       sems = map sem g.semaphores;
       chans = map chan g.channels;
     }
-
-pub table_is : (s : Source) → core_of s ≡ table_of (globals s)
-table_is s = refl
 
 -- What is declared grows.
 
@@ -160,5 +157,5 @@ few_params scope h e =
     let c : length h.params ≤ total (head_frame scope h).variables = subst (λ l. length h.params ≤ total l) (sym lead.1) (names_total h.params lead.0) in
     short_small (length h.params) (omega (arith, a, b, c))
   where
-    short_small : (n : ℕ) → n ≤ 256 → as_short n ≡ n
+    short_small : (n : ℕ) → n ≤ MOST_LOCAL_CELLS → as_short n ≡ n
     short_small n le = omega (arith, le)

@@ -14,8 +14,8 @@ use Rattle.ppd_resolve.specs.Fitted.{as_byte, as_short, as_word}
 use Rattle.ppd_lower.specs.Code.{places}
 use Rattle.ppd_resolve.specs.Syntax.{Number, Item, shared, shared_array, semaphore, channel, function, process, Source}
 use Rattle.ppd_resolve.specs.Frames.{twice_faults, size_faults}
-use Rattle.ppd_lower.specs.Sources.{past_statements, head_faults, heads, codes, vars, bodies, core_of, faults_in}
-use Rattle.ppd_lower.proofs.Functions.Heading.{length_bodies}
+use Rattle.ppd_bodies.specs.Sources.{past_statements, head_faults, heads, codes, vars, bodies, core_of, faults_in}
+use Rattle.ppd_bodies.proofs.Heading.{length_bodies}
 use Rattle.ppd_resolve.specs.Globals.{Object, Globals, no_globals, item_name, item_size_faults, with_item, with_items, globals, items_faults, past, past_cells, head_name, object_name, count_faults, sem, chan}
 use Rattle.ppd_resolve.proofs.Declared.Counted.{end_cells, le_true}
 use Rattle.ppd_check.proofs.Named.Terms.{nil_left, nil_right, unless_true}
@@ -156,14 +156,6 @@ start_fits n h = omega (arith, h)
 
 pub capacity_fits : (n : ℕ) → n ≤ MOST_CAPACITY → as_byte n ≡ n
 capacity_fits n h = omega (arith, h)
-
--- the number of a body is not capped
-pub body_fits : (g : Globals) (j : ℕ) → AreFew g → j < length (heads g) → as_short j ≡ j
-body_fits g j few h =
-    let a : length (heads g) ≡ length g.functions + length g.processes = length-append g.functions g.processes in
-    let b : length g.functions ≤ MOST_FUNCTIONS = few.functions in
-    let c : length g.processes ≤ MOST_PROCESSES = few.processes in
-    omega (arith, a, b, c, h)
 
 -- the numbers of a program's parts, its start values and its capacities are as the limits have it
 pub counted : (s : Source) → BreaksNone s → AreCounted (core_of s)

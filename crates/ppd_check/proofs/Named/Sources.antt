@@ -18,7 +18,7 @@ use Rattle.ppd_lower.specs.Code.{act, done}
 use Rattle.ppd_resolve.specs.Syntax.{Name, Item, shared, shared_array, semaphore, channel, function, process}
 use Rattle.ppd_lower.specs.Statements.{row_code, row_faults}
 use Rattle.ppd_resolve.specs.Frames.{variable_of, declared}
-use Rattle.ppd_lower.specs.Sources.{with_params, params_faults, outer, entry, ends_with_return, close_code, head_code, head_frame, return_faults, head_faults, heads, vars, body, bodies}
+use Rattle.ppd_bodies.specs.Sources.{with_params, params_faults, outer, entry, ends_with_return, close_code, head_code, head_frame, return_faults, head_faults, heads, vars, body, bodies}
 use Rattle.ppd_resolve.specs.Globals.{Head, Globals, no_globals, item_name, item_meaning, with_item, with_items, past_cells, sem, chan}
 use Rattle.ppd_resolve.proofs.Declared.Counted.{end_cells}
 use Rattle.ppd_check.proofs.Named.Rightly.{IsThere, AreThere, AreNamedRightly}

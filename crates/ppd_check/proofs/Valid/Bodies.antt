@@ -18,7 +18,7 @@ use Rattle.ppd_resolve.specs.Fitted.{as_short}
 use Rattle.ppd_resolve.specs.Names.{Scope}
 use Rattle.ppd_lower.specs.Code.{Code, Act, done, act, choice, loop, count}
 use Rattle.ppd_lower.specs.Table.{weight, weights, root, roots, flats, terms, act_terms, kind, numbers, stmts}
-use Rattle.ppd_lower.specs.Sources.{head_code, head_frame, return_faults, vars, body, bodies, all_stmts}
+use Rattle.ppd_bodies.specs.Sources.{head_code, head_frame, return_faults, vars, body, bodies, all_stmts}
 use Rattle.ppd_resolve.specs.Globals.{Head}
 use Rattle.ppd_lower.proofs.Table.Joined.{flats_append}
 use Rattle.ppd_lower.proofs.Table.Writing.{length_flats, length_stmts}

@@ -17,11 +17,11 @@ use Rattle.ppd_lower.specs.Code.{Code, places}
 use Rattle.ppd_resolve.specs.Reading.{source_of}
 use Rattle.ppd_lower.specs.Table.{terms}
 use Rattle.ppd_lower.specs.Statements.{row_faults}
-use Rattle.ppd_lower.specs.Sources.{head_faults, params_faults, return_faults, past_statements, heads, codes, bodies, all_stmts, outer, entry, core, Accepted}
+use Rattle.ppd_bodies.specs.Sources.{head_faults, params_faults, return_faults, past_statements, heads, codes, bodies, all_stmts, outer, entry, core, Accepted}
 use Rattle.ppd_resolve.specs.Globals.{Head, Globals, no_globals, globals, items_faults, count_faults}
 use Rattle.ppd_check.specs.Sizes.{SourceFits}
 use Rattle.ppd_lower.proofs.Table.Writing.{length_flats}
-use Rattle.ppd_lower.proofs.Functions.Heading.{length_bodies}
+use Rattle.ppd_bodies.proofs.Heading.{length_bodies}
 use Rattle.ppd_check.proofs.Valid.Facts.{HeadNames, SourceNames}
 use Rattle.ppd_check.proofs.Valid.Items.{IsFunction, IsProcess, AreSorted, tree_sorted, AreFit, source_fit, within_limits}
 use Rattle.ppd_check.proofs.Valid.Lists.{EachFrom, all_parts, each_append, each_at, nil_parts, stands_all}

@@ -14,7 +14,7 @@ use Rattle.ppd_resolve.specs.Names.{Scope}
 use Rattle.ppd_lower.specs.Code.{Act, Code, done, act, choice, loop}
 use Rattle.ppd_resolve.specs.Reading.{source_of}
 use Rattle.ppd_lower.specs.Table.{terms, kind}
-use Rattle.ppd_lower.specs.Sources.{head_code, head_frame, vars, heads, core}
+use Rattle.ppd_bodies.specs.Sources.{head_code, head_frame, vars, heads, core}
 use Rattle.ppd_resolve.specs.Globals.{Head, globals}
 
 -- the statements that have none inside them, in order

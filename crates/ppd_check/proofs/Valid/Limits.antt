@@ -2,6 +2,7 @@
 use Rattle.std.proofs.Common.{◌≡◌, sym, ◌∙◌, subst, ℕ, ◌+◌, ◌-◌, ◌≤◌, arith, List, [], ◌∷◌, length, Option, Some, None}
 use Rattle.std.specs.List.{AllByRecursion}
 use Rattle.std.proofs.lemmas.List.Elements.{recursion_from_All}
+use Rattle.ppd_ast.specs.declared.limits.TheConstants.{MOST_NAME_BYTES, MOST_OPEN}
 use Rattle.ppd_lex.specs.declared.token.Token.{Token}
 use Rattle.ppd_lex.specs.declared.token.TokenKind.{TokenKind}
 use Rattle.ppd_lex.specs.declared.token.TokenKind.TheVariants as W
@@ -92,8 +93,8 @@ item_fits (shared x v) h = h
 item_fits (shared_array x n) h = h
 item_fits (semaphore x n) h = h
 item_fits (channel x n) h = h
-item_fits (function gives x params b) h = (h.0, h.1, row_fits 64 b.row h.2, row_nested 64 b.row h.2)
-item_fits (process x b) h = (h.0, row_fits 64 b.row h.1, row_nested 64 b.row h.1)
+item_fits (function gives x params b) h = (h.0, h.1, row_fits MOST_OPEN b.row h.2, row_nested MOST_OPEN b.row h.2)
+item_fits (process x b) h = (h.0, row_fits MOST_OPEN b.row h.1, row_nested MOST_OPEN b.row h.1)
 
 pub items_fit : (is : List Item) → AllByRecursion L.IsSmallItem is → AllByRecursion Z.ItemFits is
 items_fit [] h = tt
@@ -105,7 +106,7 @@ each_of : {X : Type 0} (P Q : X → Type 0) → ((x : X) → P x → Q x) → (x
 each_of P Q f [] h = tt
 each_of P Q f (x ∷ xs) h = (f x h.0, each_of P Q f xs h.1)
 
-kind_short : (k : TokenKind) → IsKind k → length (text_of k) ≤ 64
+kind_short : (k : TokenKind) → IsKind k → length (text_of k) ≤ MOST_NAME_BYTES
 kind_short (W.Name text) h = h.1
 kind_short (W.Number n) h = omega arith
 kind_short (W.Word n) h = omega arith
@@ -113,7 +114,7 @@ kind_short (W.Mark n) h = omega arith
 kind_short W.End h = omega arith
 
 abbrev TokenIsShort : Token → Type 0
-TokenIsShort x = length (text_of x.kind) ≤ 64
+TokenIsShort x = length (text_of x.kind) ≤ MOST_NAME_BYTES
 
 mutual
   short_tree : (t : Shape) → AllByRecursion TokenIsShort (leaves t) → AreShort t
@@ -133,6 +134,6 @@ tree_fits size ts t formed tree =
     let same : leaves_of (t ∷ []) ≡ ts = program_leaves tree.program ∙ tree.tokens in
     let short : AreShort t = short_tree t (all_parts TokenIsShort (leaves t) [] (subst (λ (xs : List Token). AllByRecursion TokenIsShort xs) (sym same) all)).0 in
     let fits : FitsAll (t ∷ []) = fits_program tree.program tree.limits in
-    let statements : levels statement_in t ≤ 64 = omega (arith, statements_program tree.program tree.limits) in
-    let places : levels place_in t ≤ 64 = omega (arith, places_program tree.program tree.limits) in
+    let statements : levels statement_in t ≤ MOST_OPEN = omega (arith, statements_program tree.program tree.limits) in
+    let places : levels place_in t ≤ MOST_OPEN = omega (arith, places_program tree.program tree.limits) in
     items_fit (as_items (said t)) (small_source t short fits.0 places statements)

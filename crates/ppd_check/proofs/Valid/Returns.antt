@@ -19,7 +19,7 @@ use Rattle.ppd_lower.specs.Statements.{spot_of, put, store_acts, acts_of, code_o
 use Rattle.ppd_resolve.specs.Frames.{declared}
 use Rattle.ppd_resolve.specs.Syntax as S
 use Rattle.ppd_resolve.specs.Syntax.{Simple, Row, Value}
-use Rattle.ppd_lower.specs.Sources.{simple_returns, returns, last_return, return_faults, ends_with_return, head_code, entry}
+use Rattle.ppd_bodies.specs.Sources.{simple_returns, returns, last_return, return_faults, ends_with_return, head_code, entry}
 use Rattle.ppd_resolve.specs.Globals.{Head}
 use Rattle.ppd_lower.proofs.Table.Joined.{numbers_join, stmts_join}
 use Rattle.ppd_lower.proofs.Rows.Nested.{join_done}

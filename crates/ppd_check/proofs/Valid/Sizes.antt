@@ -4,7 +4,7 @@ use Rattle.std.specs.Prelude.{decimal}
 use Rattle.std.specs.List.{AllByRecursion}
 use Rattle.std.proofs.lemmas.Fmt.{length-decimal-le}
 use Rattle.std.proofs.lemmas.List.Elements.{All-from_recursion}
-use Rattle.ppd_ast.specs.declared.limits.TheConstants.{MOST_NESTING}
+use Rattle.ppd_ast.specs.declared.limits.TheConstants.{MOST_NESTING, MOST_OPERATORS, MOST_SOURCE_OPERATORS}
 use Rattle.ppd_ast.specs.declared.program.Place.{Place}
 use Rattle.ppd_ast.specs.Term.{Term}
 use Rattle.ppd_ast.specs.Term as T
@@ -25,7 +25,7 @@ use Rattle.ppd_resolve.specs.Syntax as S
 use Rattle.ppd_lower.specs.Table.{spot_terms, act_terms, terms}
 use Rattle.ppd_lower.specs.Statements.{spot, spot_of, put, store_acts, return_acts, acts_of, code_of, code_of_any, row_code, hidden_if, via_hidden, return_via_hidden, goal_name, opened, with_scopes_of, after, after_any, after_row, place_of}
 use Rattle.ppd_resolve.specs.Frames.{declared, hidden_name, after_cells}
-use Rattle.ppd_lower.specs.Sources.{close_code, head_code, head_frame, outer, entry, with_params, ends_with_return, vars}
+use Rattle.ppd_bodies.specs.Sources.{close_code, head_code, head_frame, outer, entry, with_params, ends_with_return, vars}
 use Rattle.ppd_resolve.specs.Globals.{Head}
 use Rattle.ppd_check.specs.Sizes.{operators_in, depth_in, IsSmall, AreSmall, IsShort, GoalFits, ValueFits, ValueFitsIfAny, SimpleFits, SimpleFitsIfAny, RowFits, nested}
 use Rattle.ppd_lower.proofs.Table.Joined.{terms_join}
@@ -127,7 +127,7 @@ return_small (Some (plain e)) f h = ((term_small f.scopes e h, tt), tt)
 return_small (Some (result g args)) f h = (put_small f.scopes f.cells (result g args) h, ((cell_small f.cells, tt), tt))
 return_small (Some (received x)) f h = (tt, ((cell_small f.cells, tt), tt))
 
-goal_size : (g : Goal) → GoalFits g → (operators_in (goal_formula g) ≤ 256) × (depth_in (goal_formula g) ≤ 513)
+goal_size : (g : Goal) → GoalFits g → (operators_in (goal_formula g) ≤ MOST_SOURCE_OPERATORS) × (depth_in (goal_formula g) ≤ MOST_OPERATORS)
 goal_size (scalar x) h = (omega arith, omega arith)
 goal_size (item x i) h = (h.0, omega (arith, h.1))
 

@@ -14,7 +14,7 @@ use Rattle.ppd_lower.specs.Code.{Code, Act, done, act, choice, loop, count}
 use Rattle.ppd_lower.specs.Code as C
 use Rattle.ppd_resolve.specs.Fitted.{as_short}
 use Rattle.ppd_lower.specs.Table.{weight, weights, root, roots, flat, flats, terms, act_terms, kind, stmts}
-use Rattle.ppd_lower.specs.Sources.{all_stmts}
+use Rattle.ppd_bodies.specs.Sources.{all_stmts}
 use Rattle.ppd_lower.proofs.Table.Writing.{roots_append}
 use Rattle.ppd_check.proofs.Valid.Order.{range_join}
 

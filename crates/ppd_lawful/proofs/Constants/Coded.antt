@@ -17,11 +17,11 @@ use Rattle.ppd_parse.specs.Leaves.{leaves}
 use Rattle.ppd_parse.specs.Limits.{IsTree}
 use Rattle.ppd_parse.proofs.TreeLeaves.{program_leaves}
 use Rattle.ppd_lower.specs.Code as C
-use Rattle.ppd_lower.specs.Code.{Code, done, act, join}
+use Rattle.ppd_lower.specs.Code.{done, act}
 use Rattle.ppd_resolve.specs.Fitted.{as_short}
 use Rattle.ppd_resolve.specs.Names.{Scope}
 use Rattle.ppd_resolve.specs.Reading.{said, source_of, as_items, value_of}
-use Rattle.ppd_lower.specs.Sources.{close_code, codes, ends_with_return, entry, head_code, heads}
+use Rattle.ppd_bodies.specs.Sources.{close_code, codes, ends_with_return, entry, head_code, heads}
 use Rattle.ppd_resolve.specs.Globals.{Globals, Head, globals, no_globals, with_item, with_items}
 use Rattle.ppd_lower.specs.Statements.{row_code}
 use Rattle.ppd_resolve.specs.Syntax.{Item, shared, shared_array, semaphore, channel, function, process}

@@ -89,7 +89,7 @@ module _ (program : Program) (plan : Plan) (v : IsValid program) (w : IsValidPla
   abbrev pub IsLawful : Entry → Type 0
   IsLawful e = (an_entry (facts_of program)).Lawful e
 
-  few : length program.starts ≤ 1024
+  few : length program.starts ≤ MOST_SHARED_CELLS
   few = v.limits.starts
 
   pub prelog_lawful : (b : ℕ) (vs : List ℤ) → Small b → Small (length vs) → All Fit vs → IsLawful (entry.Prelog b vs)

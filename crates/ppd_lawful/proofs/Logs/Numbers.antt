@@ -8,7 +8,7 @@ use Rattle.std.proofs.lemmas.List.Quantifiers.{position-Some}
 use Rattle.std.proofs.lemmas.Option.{none-some, slice_get-get_or}
 use Rattle.ppd_ast.specs.Valid.{IsValid}
 use Rattle.ppd_ast.specs.ValidPlan.{AreCells, IsBlockOf, IsLoopBlock, IsValidPlan}
-use Rattle.ppd_ast.specs.declared.limits.TheConstants.{MOST_SHARED_CELLS}
+use Rattle.ppd_ast.specs.declared.limits.TheConstants.{MOST_SHARED_CELLS, MOST_CALLS}
 use Rattle.ppd_ast.specs.declared.plan.Block.{Block}
 use Rattle.ppd_ast.specs.declared.plan.BlockKind.{BlockKind}
 use Rattle.ppd_ast.specs.declared.plan.BlockKind.TheVariants as block
@@ -208,7 +208,7 @@ module _ (program : Program) (plan : Plan) (v : IsValid program) (w : IsValidPla
   of_deed t s (turn ss) = tt
   of_deed t s leave = leaving t (block_of plan (block.Loop t)) refl
   of_deed t s (invoke f vs into) =
-      either (nat_lt 64 (s.below + length s.frames)) _ _ tt (some_block (block.Function f) (block_of plan (block.Function f)) refl, unit_small (start.Entry f))
+      either (nat_lt MOST_CALLS (s.below + length s.frames)) _ _ tt (some_block (block.Function f) (block_of plan (block.Function f)) refl, unit_small (start.Entry f))
   of_deed t s (back x) = (some_block (block.Function (top_body s.frames)) (block_of plan (block.Function (top_body s.frames))) refl, unit_after (top_call s.frames))
   of_deed t s (take o) = unit_small (start.After t)
   of_deed t s (give o) = unit_small (start.After t)

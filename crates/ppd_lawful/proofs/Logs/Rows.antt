@@ -4,6 +4,7 @@ use Rattle.std.specs.Prelude.{nat_eq, nat_le, nat_lt}
 use Rattle.std.proofs.lemmas.Bool.{and_parts, cases_eq, cases_lt}
 use Rattle.std.proofs.lemmas.Bool.Decides.{nat_tests}
 use Rattle.ppd_ast.specs.Members.{with_cell}
+use Rattle.ppd_ast.specs.declared.limits.TheConstants.{MOST_SHARED_CELLS}
 use Rattle.ppd_codec.specs.Form.{Along}
 use Rattle.ppd_codec.specs.Format.{cells, is_next, past}
 use Rattle.ppd_lawful.proofs.Fit.{All}
@@ -61,11 +62,11 @@ row_length shared low (x ∷ xs) le h =
     let r : length xs + (x + 1) ≤ shared = row_length shared (past x) xs (omega (arith, b)) h.1 in
     omega (arith, a, r)
 
-row_small : (shared low : ℕ) (xs : List ℕ) → shared ≤ 1024 → IsRow shared low xs → All (λ c. c < 2 ^ 16) xs
+row_small : (shared low : ℕ) (xs : List ℕ) → shared ≤ MOST_SHARED_CELLS → IsRow shared low xs → All (λ c. c < 2 ^ 16) xs
 row_small shared low [] few h = tt
 row_small shared low (x ∷ xs) few h = let b : x < shared = below_of shared low x h.0 in (omega (arith, b, few), row_small shared (past x) xs few h.1)
 
-pub row_lawful : (shared : ℕ) (xs : List ℕ) → shared ≤ 1024 → IsRow shared 0 xs → (cells shared).Lawful xs
+pub row_lawful : (shared : ℕ) (xs : List ℕ) → shared ≤ MOST_SHARED_CELLS → IsRow shared 0 xs → (cells shared).Lawful xs
 row_lawful shared xs few h =
     let r : length xs + 0 ≤ shared = row_length shared 0 xs (omega arith) h in
     (omega (arith, few, r), row_small shared 0 xs few h, h)

@@ -6,7 +6,7 @@ use Rattle.std.proofs.lemmas.List.Sums.{fold-append}
 use Rattle.std.proofs.lemmas.Option.{none-some}
 use Rattle.ppd_ast.specs.Valid.{IsValid}
 use Rattle.ppd_ast.specs.ValidPlan.{IsValidPlan}
-use Rattle.ppd_ast.specs.declared.limits.TheConstants.{MOST_BUDGET, MOST_SHARED_CELLS, MOST_START}
+use Rattle.ppd_ast.specs.declared.limits.TheConstants.{MOST_BUDGET, MOST_SHARED_CELLS, MOST_START, MOST_PROCESSES}
 use Rattle.ppd_ast.specs.declared.plan.BlockKind.TheVariants as block
 use Rattle.ppd_ast.specs.declared.plan.Plan.{Plan}
 use Rattle.ppd_ast.specs.declared.plan.Start.TheVariants as start
@@ -167,8 +167,8 @@ module _ (program : Program) (plan : Plan) (v : IsValid program) (w : IsValidPla
       let bound : length h ≤ length last.procs * (budget + 1) = (bounded program plan budget h last e).all in
       let procs : length (now h).procs ≡ length program.bodies - program.functions = (objects_stay program plan budget h).processes in
       let same : length (now h).procs ≡ length last.procs = ap (λ (x : World). length x.procs) (stories_are_of_runs program plan budget h last e) in
-      let few : length program.bodies ≤ program.functions + 16 = v.limits.processes in
-      let times : (budget + 1) * length last.procs ≤ (budget + 1) * 16 = times_less (budget + 1) (length last.procs) 16 (omega (arith, procs, same, few)) in
+      let few : length program.bodies ≤ program.functions + MOST_PROCESSES = v.limits.processes in
+      let times : (budget + 1) * length last.procs ≤ (budget + 1) * MOST_PROCESSES = times_less (budget + 1) (length last.procs) MOST_PROCESSES (omega (arith, procs, same, few)) in
       let turned : length last.procs * (budget + 1) ≡ (budget + 1) * length last.procs = omega arith in
       omega (arith, bound, times, turned, most)
 

@@ -1,12 +1,12 @@
 -- A log stays lawful by each step of its process.
 use Rattle.std.proofs.Common.{◌≡◌, ◌≢◌, ℕ, zero, suc, ◌+◌, ◌*◌, ◌<◌, ◌≤◌, ◌^◌, ℤ, true, List, [], ◌∷◌, ◌++◌, Option, Some, None, refl, ap, sym, ◌∙◌, subst, length, arith, inl, inr, ◌⊎◌}
-use Rattle.std.specs.Prelude.{nat_eq, slice_get, ◌||◌}
+use Rattle.std.specs.Prelude.{nat_eq, slice_get}
 use Rattle.std.specs.List.{list_any}
 use Rattle.std.proofs.lemmas.Bool.Decides.{nat_tests}
 use Rattle.std.proofs.lemmas.Option.{none-some}
 use Rattle.ppd_ast.specs.Valid.{IsValid}
 use Rattle.ppd_ast.specs.ValidPlan.{IsValidPlan}
-use Rattle.ppd_ast.specs.declared.limits.TheConstants.{MOST_SHARED_CELLS}
+use Rattle.ppd_ast.specs.declared.limits.TheConstants.{MOST_SHARED_CELLS, MOST_BUDGET}
 use Rattle.ppd_ast.specs.declared.plan.Plan.{Plan}
 use Rattle.ppd_ast.specs.declared.program.Chan.{Chan}
 use Rattle.ppd_ast.specs.declared.program.Program.{Program}
@@ -103,7 +103,7 @@ module _ (program : Program) (plan : Plan) (v : IsValid program) (w : IsValidPla
     pub values : All Fit vs
 
   module _ (l : Logging) (need : Need) (a : Answer) (number : Option ℕ) (vs : List ℤ) (is : need ≡ need_of program plan l.proc) (goes : need ≢ n.Stopped) (given : IsGiven a number vs)
-      (cost : CostsWhatItWrites program plan budget l (moment program plan v w table need a number vs)) (fine : IsFine l) (most : budget ≤ 500000) where
+      (cost : CostsWhatItWrites program plan budget l (moment program plan v w table need a number vs)) (fine : IsFine l) (most : budget ≤ MOST_BUDGET) where
     abbrev m : Moment
     m = moment program plan v w table need a number vs
 

@@ -6,6 +6,7 @@ use Rattle.ppd_ast.specs.declared.program.Body.{Body}
 use Rattle.ppd_ast.specs.declared.program.Program.{Program}
 use Rattle.ppd_ast.specs.declared.status.Status.{Status}
 use Rattle.ppd_ast.specs.Lookups.{kind_of}
+use Rattle.ppd_ast.specs.declared.limits.TheConstants.{MOST_CALLS}
 use Rattle.ppd_sem.specs.declared.asking.Pause.TheVariants.{Wants, Traps}
 use Rattle.ppd_sem.specs.declared.proc.Answer.{Answer}
 use Rattle.ppd_sem.specs.declared.proc.Frame.{Frame}
@@ -151,7 +152,7 @@ module _ (S : ℕ → Type 0) (program : Program) where
     deed_need t s (branch ss) h = tt
     deed_need t s (turn ss) h = tt
     deed_need t s leave h = leaving_need t (block_of plan _)
-    deed_need t s (invoke g vs into) h = call_need (nat_lt 64 (s.below + length s.frames)) _ _ tt tt
+    deed_need t s (invoke g vs into) h = call_need (nat_lt MOST_CALLS (s.below + length s.frames)) _ _ tt tt
     deed_need t s (back v) h = tt
     deed_need t s (take o) h = tt
     deed_need t s (give o) h = tt

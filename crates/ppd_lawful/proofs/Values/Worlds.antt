@@ -1,5 +1,5 @@
 -- All values of a run have 64 bits.
-use Rattle.std.proofs.Common.{◌≡◌, ℕ, ◌-◌, ℤ, List, [], ◌∷◌, Option, Some, None, refl, map, length, w64, FitsSigned}
+use Rattle.std.proofs.Common.{◌≡◌, ℕ, ◌-◌, List, [], ◌∷◌, Option, Some, None, refl, map, length, w64, FitsSigned}
 use Rattle.std.specs.Prelude.{fold, slice_get, ⊤}
 use Rattle.std.specs.List.{range_with_len}
 use Rattle.ppd_ast.specs.declared.plan.Plan.{Plan}

@@ -1,18 +1,10 @@
 -- What a table holds, by the core statements of its bodies.
-use Rattle.std.proofs.Common.{◌≡◌, refl, ap, ◌∙◌, ℕ, suc, ◌+◌, arith, List, [], ◌∷◌, ◌++◌, length, map, Option, Some, None}
-use Rattle.std.specs.List.{flat_map}
-use Rattle.std.proofs.lemmas.List.Concat.{flat_map-cons}
+use Rattle.std.proofs.Common.{◌≡◌, refl, ap, ℕ, suc, ◌+◌, arith, List, [], ◌∷◌, ◌++◌, length, Option, Some}
 use Rattle.ppd_ast.specs.declared.program.Stmt.{Stmt}
 use Rattle.ppd_ast.specs.Term.{Term}
-use Rattle.ppd_resolve.specs.declared.frame.Variable.{Variable}
 use Rattle.ppd_lower.specs.Code.{Act, set, clear, call, give_back, take, give, send, receive, print, assert, finish, Code, done, act, choice, loop, count}
-use Rattle.ppd_resolve.specs.Fitted.{as_short}
-use Rattle.ppd_resolve.specs.Names.{Scope}
-use Rattle.ppd_resolve.specs.Frames.{after_cells}
 use Rattle.ppd_lower.specs.Table.{weight, weights, roots, terms, act_terms, kind, numbers, stmts}
-use Rattle.ppd_lower.specs.Sources.{head_code, head_frame, vars, bodies, all_stmts}
-use Rattle.ppd_resolve.specs.Globals.{Head}
-use Rattle.ppd_lower.specs.Elements.{listed_by, stmts_elements, bodies_elements}
+use Rattle.ppd_lower.specs.Elements.{listed_by, stmts_elements}
 use Rattle.ppd_lower.proofs.Table.Joined.{weights_append}
 
 -- the arguments of a call
@@ -47,7 +39,7 @@ listed_act m (print e) = refl
 listed_act m (assert e) = refl
 listed_act m finish = refl
 
-elements_append : (xs ys : List Stmt) → stmts_elements (xs ++ ys) ≡ stmts_elements xs + stmts_elements ys
+pub elements_append : (xs ys : List Stmt) → stmts_elements (xs ++ ys) ≡ stmts_elements xs + stmts_elements ys
 elements_append [] ys = omega arith
 elements_append (s ∷ xs) ys = omega (arith, elements_append xs ys)
 
@@ -80,28 +72,3 @@ row_holds b q n m (loop p e x c) =
     let xs : List Stmt = stmts b (Some n) n1 m1 x in
     let zs : List Stmt = stmts b q (n1 + count x) (m1 + weights (terms x)) c in
     omega (arith, weights_append (terms x) (terms c), elements_append xs zs, row_holds b (Some n) n1 m1 x, row_holds b q (n1 + count x) (m1 + weights (terms x)) c)
-
-pub length_vars : (n : ℕ) (vs : List Variable) → length (vars n vs) ≡ length vs
-length_vars n [] = refl
-length_vars n (v ∷ vs) = ap suc (length_vars (after_cells n v.length) vs)
-
--- bodies with their variables and what their rows have
-abbrev pub heads_load : Scope → List Head → ℕ
-heads_load scope [] = 0
-heads_load scope (h ∷ hs) = 1 + length (head_frame scope h).variables + load (head_code scope h) + heads_load scope hs
-
-pub heads_hold : (scope : Scope) (b n m : ℕ) (hs : List Head)
-    → weights (flat_map terms (map (head_code scope) hs)) + stmts_elements (all_stmts b n m (map (head_code scope) hs)) + bodies_elements (bodies scope n hs) ≡ heads_load scope hs
-heads_hold scope b n m [] = refl
-heads_hold scope b n m (h ∷ hs) =
-    let c : Code = head_code scope h in
-    let cs : List Code = map (head_code scope) hs in
-    let w : weights (flat_map terms (c ∷ cs)) ≡ weights (terms c) + weights (flat_map terms cs) = ap weights (flat_map-cons terms c cs) ∙ weights_append (terms c) (flat_map terms cs) in
-    omega (
-      arith,
-      w,
-      elements_append (stmts (as_short b) None n m c) (all_stmts (b + 1) (n + count c) (m + weights (terms c)) cs),
-      row_holds (as_short b) None n m c,
-      length_vars 0 (head_frame scope h).variables,
-      heads_hold scope (b + 1) (n + count c) (m + weights (terms c)) hs,
-    )

@@ -1,5 +1,5 @@
 -- The rows of blocks, and the scopes round them.
-use Rattle.std.proofs.Common.{◌≡◌, refl, sym, ap, subst, ◌∙◌, ℕ, ◌+◌, ◌<◌, Bool, true, false, List, [], ◌∷◌, ◌++◌, take, drop, length, get_or, Option, Some, None}
+use Rattle.std.proofs.Common.{◌≡◌, refl, sym, ap, subst, ◌∙◌, ℕ, ◌+◌, ◌<◌, Bool, true, false, List, [], ◌∷◌, ◌++◌, take, drop, length, get_or}
 use Rattle.std.proofs.lemmas.List.{append-nil}
 use Rattle.ppd_ast.specs.declared.program.Place.{Place}
 use Rattle.ppd_parse.specs.declared.node.Node.{Node}
@@ -75,10 +75,6 @@ outer_after (give p x) f = refl
 outer_after (send p x e) f = refl
 outer_after (print p e) f = refl
 outer_after (assert p e) f = refl
-
-outer_any : (o : Option Simple) (f : Frame) → drop 1 (after_any o f).scopes ≡ drop 1 f.scopes
-outer_any None f = refl
-outer_any (Some s) f = outer_after s f
 
 pub outer_row : (r : Row) (f : Frame) → drop 1 (after_row r f).scopes ≡ drop 1 f.scopes
 outer_row stop f = refl

@@ -1,6 +1,6 @@
 -- The first semicolon among phrases.
 use Rattle.std.proofs.Common.{pos, ◌≡◌, refl, sym, ap, ◌∙◌, ℕ, zero, suc, ◌+◌, ◌-◌, ◌<◌, ◌≤◌, arith, Bool, true, false, if◌then◌else◌, List, [], ◌∷◌, ◌++◌, take, drop, length, get_or}
-use Rattle.std.proofs.lemmas.List.{take_more, drop_more, drop_all, get_or_past, get_or-drop, length-drop, append_assoc, append-nil}
+use Rattle.std.proofs.lemmas.List.{take_more, drop_more, drop_all, get_or_past, get_or-drop, length-drop, append_assoc}
 use Rattle.ppd_resolve.specs.Reading.{Phrase, token, nowhere, kind, phrase, before, beyond, is_semicolon, is_formula, as_formula, formulas, for_test}
 use Rattle.ppd_resolve.specs.Syntax.{Formula, number}
 
@@ -22,14 +22,6 @@ before_other p ps false h = refl
 beyond_other : (ps qs : List Phrase) (b : Bool) → b ≡ false → (if b then ps else qs) ≡ qs
 beyond_other ps qs true h = absurd (grind (arith, h))
 beyond_other ps qs false h = refl
-
-before_found : (p : Phrase) (ps : List Phrase) (b : Bool) → b ≡ true → (if b then [] else p ∷ ps) ≡ []
-before_found p ps true h = refl
-before_found p ps false h = absurd (grind (arith, h))
-
-beyond_found : (ps qs : List Phrase) (b : Bool) → b ≡ true → (if b then ps else qs) ≡ ps
-beyond_found ps qs true h = refl
-beyond_found ps qs false h = absurd (grind (arith, h))
 
 pub searched_more : (ps : List Phrase) (from at : ℕ) → at < length ps → is_semicolon (kind (phrase ps at)) ≡ false → Searched ps from at → Searched ps from (at + 1)
 searched_more ps from at h other s =
@@ -59,30 +51,6 @@ pub record Found (ps : List Phrase) (from at : ℕ) : Type 0 where
   pub past : from ≤ at
   pub before : before (drop from ps) ≡ take (at - from) (drop from ps)
   pub beyond : beyond (drop from ps) ≡ drop (at + 1) ps
-
-pub found_there : (ps : List Phrase) (from at : ℕ) → at < length ps → is_semicolon (kind (phrase ps at)) ≡ true → Searched ps from at → Found ps from at
-found_there ps from at h so s =
-    let p : Phrase = phrase ps at in
-    let split : drop at ps ≡ p ∷ drop (at + 1) ps = drop_more ps at (token nowhere) h in
-    record {
-      past = s.past;
-      before =
-          s.before
-          ∙ ap (λ l. take (at - from) (drop from ps) ++ before l) split
-          ∙ ap (λ l. take (at - from) (drop from ps) ++ l) (before_found p (before (drop (at + 1) ps)) (is_semicolon (kind p)) so)
-          ∙ append-nil (take (at - from) (drop from ps));
-      beyond = s.beyond ∙ ap beyond split ∙ beyond_found (drop (at + 1) ps) (beyond (drop (at + 1) ps)) (is_semicolon (kind p)) so;
-    }
-
-pub found_none : (ps : List Phrase) (from at : ℕ) → length ps ≤ at → Searched ps from at → Found ps from at
-found_none ps from at h s =
-    let none : drop at ps ≡ [] = drop_all at ps h in
-    let after : drop (at + 1) ps ≡ [] = drop_all (at + 1) ps (omega (arith, h)) in
-    record {
-      past = s.past;
-      before = s.before ∙ ap (λ l. take (at - from) (drop from ps) ++ before l) none ∙ append-nil (take (at - from) (drop from ps));
-      beyond = s.beyond ∙ ap beyond none ∙ sym after;
-    }
 
 -- behind a semicolon, or behind all
 pub behind_found : (ps : List Phrase) (from at : ℕ) → beyond (drop from ps) ≡ drop (at + 1) ps → drop (at + 1) ps ≡ beyond (drop from ps)

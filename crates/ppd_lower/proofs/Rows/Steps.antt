@@ -4,30 +4,20 @@ use Rattle.std.proofs.lemmas.List.{append-nil}
 use Rattle.ppd_ast.specs.declared.program.Kind.TheVariants as K
 use Rattle.ppd_ast.specs.declared.program.Stmt.{Stmt}
 use Rattle.ppd_ast.specs.declared.program.Place.{Place}
-use Rattle.ppd_parse.specs.declared.symbol.Rule.{Rule}
-use Rattle.ppd_parse.specs.declared.symbol.Rule.TheVariants as R
 use Rattle.ppd_resolve.specs.declared.fault.Fault.{Fault}
 use Rattle.ppd_resolve.specs.declared.frame.Frame.{Frame}
 use Rattle.ppd_resolve.specs.declared.writer.Writer.{Writer}
 use Rattle.ppd_resolve.specs.declared.writer.Site.{Site}
 use Rattle.ppd_lower.specs.Code.{Code, done, join, loop}
 use Rattle.ppd_lower.specs.Expressions.{term_of, formula_faults}
-use Rattle.ppd_resolve.specs.Nodes.{SaysBy}
 use Rattle.ppd_lower.specs.Plain.{row_any}
-use Rattle.ppd_resolve.specs.Reading.{Phrase, as_row, followed}
+use Rattle.ppd_resolve.specs.Reading.{followed}
 use Rattle.ppd_lower.specs.Statements.{after, after_any, after_row, code_of, code_of_any, faults_of, faults_of_any, row_code, row_faults, opened, with_scopes_of}
 use Rattle.ppd_resolve.specs.Syntax.{Simple, Formula, Row, stop, repeat, count}
 use Rattle.ppd_lower.specs.Writing.{Wrote, WroteRow, Walked, inside}
 use Rattle.ppd_lower.proofs.Rows.Inside.{Begun, Ended, walked_repeat}
 use Rattle.ppd_lower.proofs.Rows.Nested.{join_done, block_closed}
 use Rattle.ppd_lower.proofs.Rows.Walking.{row_wrote, code_followed, faults_followed, after_followed, wrote_followed}
-
--- what is no row of statements
-pub as_row_other : (r : Rule) (ps : List Phrase) (p : Phrase) → (r ≡ R.Local → ⊥) → (r ≡ R.Stmt → ⊥) → SaysBy r ps p → as_row p ≡ stop
-as_row_other R.Local ps p h i e = absurd (h refl)
-as_row_other R.Stmt ps p h i e = absurd (i refl)
-as_row_other R.Leaf ps p h i e = ap as_row e.1
-as_row_other r ps p h i e = ap as_row e
 
 -- a row of one statement, with the frame after it
 pub row_walked : (site : Site) (r : Row) (f g : Frame) (u v : Writer) (a b : List ℕ) → WroteRow site r f u v a b → g ≡ after_row r f → Walked site r f g u v a b
@@ -63,9 +53,6 @@ count_faults : (p : Place) (i t : Option Simple) (e : Formula) (b : Row) (f : Fr
     → row_faults (followed (row_any i) (repeat p e (followed b (row_any t)) stop)) (opened f) ≡ row_faults (count p i e t b stop) f
 count_faults p None t e b f = loop_faults t e b (opened f)
 count_faults p (Some s) t e b f = ap (λ l. faults_of s (opened f) ++ l) (loop_faults t e b (after s (opened f)))
-
-abbrev turning : Place → Option Simple → Formula → Option Simple → Row → Row
-turning p i e t b = followed (row_any i) (repeat p e (followed b (row_any t)) stop)
 
 after_start : (i : Option Simple) (b : Row) (f : Frame) → after_row (followed (row_any i) b) f ≡ after_row b (after_any i f)
 after_start None b f = refl

@@ -6,7 +6,7 @@ use Rattle.ppd_parse.specs.declared.symbol.Rule.{Rule}
 use Rattle.ppd_parse.specs.declared.symbol.Rule.TheVariants as R
 use Rattle.ppd_resolve.specs.Nodes.{SaysBy}
 use Rattle.ppd_lower.specs.Plain.{plain_word, plain_statement}
-use Rattle.ppd_resolve.specs.Reading.{Phrase, statement, worded, kind, phrase}
+use Rattle.ppd_resolve.specs.Reading.{Phrase, statement}
 use Rattle.ppd_resolve.specs.Syntax.{stop, block}
 
 -- no word of a statement without statements inside it
@@ -35,10 +35,3 @@ pub named_statement : (r : Rule) (qs : List Phrase) (p : Phrase) (ps : List Phra
 named_statement R.Leaf qs p ps a b e = absurd (a refl)
 named_statement R.Block qs p ps a b e = absurd (b refl)
 named_statement r qs p ps a b e = ap (λ q. statement q ps) e ∙ sym (ap (λ q. plain_statement q ps) e)
-
--- the statement of a word that is none of `if`, `while` and `for`
-pub worded_plain : (ps : List Phrase) (k : Kind) → kind (phrase ps 0) ≡ k → (k ≡ K.IfWord → ⊥) → (k ≡ K.WhileWord → ⊥) → (k ≡ K.ForWord → ⊥) → worded ps ≡ plain_word k ps
-worded_plain ps K.IfWord h a b c = absurd (a refl)
-worded_plain ps K.WhileWord h a b c = absurd (b refl)
-worded_plain ps K.ForWord h a b c = absurd (c refl)
-worded_plain ps k h a b c = rw (h)

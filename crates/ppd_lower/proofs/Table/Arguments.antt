@@ -1,7 +1,7 @@
 -- The arguments of a call, child after child.
 use Rattle.std.proofs.Common.{◌≡◌, refl, sym, ap, subst, ◌∙◌, ℕ, ◌+◌, ◌<◌, Bool, true, false, if◌then◌else◌, List, [], ◌∷◌, ◌++◌, map, take, length, get_or, Option}
 use Rattle.std.specs.List.{flat_map}
-use Rattle.std.proofs.lemmas.List.{take_more, map-append, append-nil, length-map}
+use Rattle.std.proofs.lemmas.List.{take_more, map-append, length-map}
 use Rattle.std.proofs.lemmas.List.Concat.{flat_map-append}
 use Rattle.ppd_ast.specs.declared.program.Expr.{Expr}
 use Rattle.ppd_parse.specs.declared.node.Node.{Node}
@@ -12,14 +12,10 @@ use Rattle.ppd_resolve.specs.Syntax.{Formula}
 use Rattle.ppd_resolve.specs.Reading.{Phrase, as_formula, is_formula, formulas}
 use Rattle.ppd_lower.specs.Expressions.{term_of, formula_faults}
 use Rattle.ppd_resolve.specs.Nodes.{phrase_of, phrases_of, phrases_below, children_of}
-use Rattle.ppd_lower.specs.Forms.{Added}
 use Rattle.ppd_lower.specs.Writing.{AddedAll, Argued}
-use Rattle.ppd_resolve.proofs.Found.First.{found_in_both, first_of_both_none, first-swap}
-use Rattle.ppd_lower.proofs.Table.Writing.{added_none, added_first, added_join}
+use Rattle.ppd_resolve.proofs.Found.First.{found_in_both, first-swap}
+use Rattle.ppd_lower.proofs.Table.Writing.{added_join}
 use Rattle.ppd_lower.proofs.Costs.Tables.{length_roots}
-
-pub argued_none : (ns : List Node) (s : List Scope) (old : List Expr) (ids : List ℕ) (found : Option Fault) → Argued ns s [] old old ids ids found found
-argued_none ns s old ids found = record { added = added_none old ids; noted = sym (first_of_both_none found) }
 
 formulas_cons : (q : Phrase) (ps qs : List Phrase) → formulas (ps ++ qs) ≡ formulas ps ++ formulas qs → (b : Bool)
     → (if b then as_formula q ∷ formulas (ps ++ qs) else formulas (ps ++ qs)) ≡ (if b then as_formula q ∷ formulas ps else formulas ps) ++ formulas qs
@@ -56,29 +52,6 @@ pub argued_more : (ns : List Node) (s : List Scope) (cs : List ℕ) (i c : ℕ) 
 argued_more ns s cs i c old mid new ids ids' ids'' found found' found'' h is a b =
     subst (λ l. Argued ns s l old new ids ids'' found found'') (ap (λ d. take i cs ++ d ∷ []) is ∙ sym (take_more cs i c h))
     (argued_join ns s (take i cs) (c ∷ []) old mid new ids ids' ids'' found found' found'' a b)
-
--- a child that is none, and one that is one
-one_formula : (ns : List Node) (c : ℕ) (b : Bool) → is_formula (phrase_of ns c) ≡ b → (if b then as_formula (phrase_of ns c) ∷ [] else []) ≡ formulas (phrases_of ns (c ∷ []))
-one_formula ns c b e = ap (λ d. if d then as_formula (phrase_of ns c) ∷ [] else []) (sym e)
-
-pub argued_other : (ns : List Node) (s : List Scope) (c : ℕ) (old : List Expr) (ids : List ℕ) (found : Option Fault) → is_formula (phrase_of ns c) ≡ false → Argued ns s (c ∷ []) old old ids ids found found
-argued_other ns s c old ids found e =
-    record {
-      added = subst (λ fs. AddedAll old (map (term_of s) fs) old ids ids) (one_formula ns c false e) (added_none old ids);
-      noted = sym (first_of_both_none found) ∙ ap (λ fs. first_of_both found (first (flat_map (formula_faults s) fs))) (one_formula ns c false e);
-    }
-
-pub argued_one : (ns : List Node) (s : List Scope) (c n : ℕ) (old new : List Expr) (ids ids' : List ℕ) (found found' : Option Fault) → is_formula (phrase_of ns c) ≡ true
-    → Added old (term_of s (as_formula (phrase_of ns c))) new n → ids' ≡ ids ++ n ∷ [] → found' ≡ first_of_both found (first (formula_faults s (as_formula (phrase_of ns c))))
-    → Argued ns s (c ∷ []) old new ids ids' found found'
-argued_one ns s c n old new ids ids' found found' e a o f =
-    record {
-      added = subst (λ fs. AddedAll old (map (term_of s) fs) new ids ids') (one_formula ns c true e) (added_first old new (term_of s (as_formula (phrase_of ns c))) n ids ids' a o);
-      noted =
-          f
-          ∙ ap (λ l. first_of_both found (first l)) (sym (append-nil (formula_faults s (as_formula (phrase_of ns c)))))
-          ∙ ap (λ fs. first_of_both found (first (flat_map (formula_faults s) fs))) (one_formula ns c true e);
-    }
 
 -- the arguments of a call with what is wrong with the call, which is noted after them
 pub argued_call : (ns : List Node) (s : List Scope) (i : ℕ) (old new : List Expr) (ids : List ℕ) (found found' found'' : Option Fault) (fs : List Fault)

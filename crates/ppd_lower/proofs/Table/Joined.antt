@@ -4,14 +4,8 @@ use Rattle.std.proofs.lemmas.List.{append_assoc}
 use Rattle.ppd_ast.specs.declared.program.Stmt.{Stmt}
 use Rattle.ppd_ast.specs.declared.program.Kind.TheVariants.{If, While}
 use Rattle.ppd_ast.specs.Term.{Term}
-use Rattle.ppd_lower.specs.Code.{Code, done, act, choice, loop, join, count, places}
+use Rattle.ppd_lower.specs.Code.{Code, done, act, choice, loop, join, count}
 use Rattle.ppd_lower.specs.Table.{weight, weights, below, flat, flats, terms, act_terms, kind, numbers, stmts}
-
-pub count_join : (c d : Code) → count (join c d) ≡ count c + count d
-count_join done d = omega arith
-count_join (act p a c) d = let h : count (join c d) ≡ count c + count d = count_join c d in omega (arith, h)
-count_join (choice p e x y c) d = let h : count (join c d) ≡ count c + count d = count_join c d in omega (arith, h)
-count_join (loop p e x c) d = let h : count (join c d) ≡ count c + count d = count_join c d in omega (arith, h)
 
 pub terms_join : (c d : Code) → terms (join c d) ≡ terms c ++ terms d
 terms_join done d = refl
@@ -23,17 +17,6 @@ terms_join (choice p e x y c) d =
 terms_join (loop p e x c) d =
     ap (λ t. e ∷ (terms x ++ t)) (terms_join c d)
     ∙ ap (λ t. e ∷ t) (sym (append_assoc (terms x) (terms c) (terms d)))
-
-pub places_join : (c d : Code) → places (join c d) ≡ places c ++ places d
-places_join done d = refl
-places_join (act p a c) d = ap (λ t. p ∷ t) (places_join c d)
-places_join (choice p e x y c) d =
-    ap (λ t. p ∷ (places x ++ (places y ++ t))) (places_join c d)
-    ∙ ap (λ t. p ∷ (places x ++ t)) (sym (append_assoc (places y) (places c) (places d)))
-    ∙ ap (λ t. p ∷ t) (sym (append_assoc (places x) (places y ++ places c) (places d)))
-places_join (loop p e x c) d =
-    ap (λ t. p ∷ (places x ++ t)) (places_join c d)
-    ∙ ap (λ t. p ∷ t) (sym (append_assoc (places x) (places c) (places d)))
 
 pub numbers_join : (n : ℕ) (c d : Code) → numbers n (join c d) ≡ numbers n c ++ numbers (n + count c) d
 numbers_join n done d = ap (λ k. numbers k d) (omega arith)

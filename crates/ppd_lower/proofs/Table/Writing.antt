@@ -119,10 +119,6 @@ wrote_put b q p a k fs u v r s ss w e i t o f =
 pub added_one : (old : List Expr) (t : Term) (new : List Expr) (n : ℕ) → Added old t new n → new ≡ old ++ flats (length old) (t ∷ [])
 added_one old t new n a = a.table ∙ ap (λ l. old ++ l) (sym (append-nil (flat (length old) t)))
 
--- no terms, and one more
-pub added_none : (old : List Expr) (ids : List ℕ) → AddedAll old [] old ids ids
-added_none old ids = record { table = sym (append-nil old); numbers = sym (append-nil ids) }
-
 pub roots_append : (m : ℕ) (ts us : List Term) → roots m (ts ++ us) ≡ roots m ts ++ roots (m + weights ts) us
 roots_append m [] us = ap (λ k. roots k us) (omega arith)
 roots_append m (t ∷ ts) us = ap (λ l. root m t ∷ l) (roots_append (m + weight t) ts us ∙ ap (λ k. roots (m + weight t) ts ++ roots k us) (omega arith))
@@ -146,9 +142,6 @@ added_join old mid new ts us ids ids' ids'' a b =
           ∙ ap (λ k. ids ++ (roots m ts ++ roots k us)) long
           ∙ ap (λ l. ids ++ l) (sym (roots_append m ts us));
     }
-
-pub added_first : (old new : List Expr) (t : Term) (n : ℕ) (ids ids' : List ℕ) → Added old t new n → ids' ≡ ids ++ n ∷ [] → AddedAll old (t ∷ []) new ids ids'
-added_first old new t n ids ids' a e = record { table = added_one old t new n a; numbers = e ∙ ap (λ k. ids ++ k ∷ []) a.number }
 
 -- one term after others, its number, and what was added
 pub record AddedAfter (old : List Expr) (ts : List Term) (t : Term) (new : List Expr) (n : ℕ) : Type 0 where

@@ -1,5 +1,5 @@
 -- Lists of numbers without repetition.
-use Rattle.std.proofs.Common.{◌≡◌, ℕ, [], ◌∷◌, ◌++◌, inl, inr}
+use Rattle.std.proofs.Common.{◌≡◌, ℕ, [], ◌∷◌, inl, inr}
 use Rattle.ppd_model.proofs.Tested.{In}
 use Rattle.ppd_shared_edges.specs.Within.{AreDistinct}
 use Rattle.ppd_shared_edges.proofs.Sources.Members.{in_cases, no_member}

@@ -1,10 +1,9 @@
 -- The entry that ends an edge, and the log of a process among all logs.
-use Rattle.std.proofs.Common.{◌≡◌, ℕ, zero, suc, ◌+◌, List, [], ◌∷◌, ◌++◌, Some, ap, ◌∙◌, arith, map, true≢false, get_or, if◌then◌else◌, ◌||◌}
+use Rattle.std.proofs.Common.{◌≡◌, ℕ, zero, suc, ◌+◌, List, [], ◌∷◌, Some, ap, ◌∙◌, arith, map, true≢false, get_or}
 use Rattle.std.specs.Prelude.{slice_get}
 use Rattle.std.proofs.lemmas.Option.{none-some}
 use Rattle.ppd_ast.specs.declared.plan.Plan.{Plan}
 use Rattle.ppd_ast.specs.declared.program.Program.{Program}
-use Rattle.ppd_entry.specs.declared.entry.Entry.TheVariants as entry
 use Rattle.ppd_entry.specs.Entries.{entries_at}
 use Rattle.ppd_model.specs.Intervals.{Split, splits_from, splits}
 use Rattle.ppd_model.specs.Logs.{closed_log, closed_logs, log_of, logs_from}

@@ -26,9 +26,6 @@ use Rattle.ppd_resolve.specs.Globals as S
 use Rattle.ppd_resolve.specs.Globals.{Object, sem, chan, item_name, item_size_faults, with_item, with_items}
 use Rattle.ppd_resolve.proofs.Found.First.{found_in_both, first_of_both_none}
 
-pub declares_none : (ns : List Node) (g : Globals) (f : Option Fault) → Declares ns [] g g f f
-declares_none ns g f = record { holds = λ s h. h; notes = λ s h. sym (first_of_both_none f) }
-
 with_both : (is js : List Item) (s : S.Globals) → with_items (is ++ js) s ≡ with_items js (with_items is s)
 with_both [] js s = refl
 with_both (i ∷ is) js s = with_both is js (with_item i s)

@@ -5,7 +5,6 @@ use Rattle.std.proofs.lemmas.List.{take_more, map-append, length-append, length-
 use Rattle.std.proofs.lemmas.List.Concat.{flat_map-append}
 use Rattle.ppd_ast.specs.declared.limits.TheConstants.{MOST_FUNCTIONS, MOST_PROCESSES}
 use Rattle.ppd_parse.specs.declared.node.Node.{Node}
-use Rattle.ppd_parse.specs.declared.symbol.Rule.{Rule}
 use Rattle.ppd_parse.specs.declared.symbol.Rule.TheVariants as R
 use Rattle.ppd_resolve.specs.declared.fault.Fault.{Fault}
 use Rattle.ppd_resolve.specs.declared.fault.Limit.TheVariants as L
@@ -54,12 +53,6 @@ names_all ns i k m cs is e a =
     let long : length (phrases_of ns (children_of ns i)) ≡ length (children_of ns i) = length-map (children_of ns i) (phrase_of ns) in
     let same : length cs ≡ length (children_of ns i) = ap length is in
     a ∙ ap (λ l. length (params l)) (take_all k (phrases_of ns (children_of ns i)) (omega (arith, e, long, same)))
-
--- what is no list of parameters
-pub names_other : (r : Rule) (ps : List Phrase) (p : Phrase) → (r ≡ R.Params → ⊥) → SaysBy r ps p → as_names p ≡ []
-names_other R.Params ps p h e = absurd (h refl)
-names_other R.Leaf ps p h e = ap as_names e.1
-names_other r ps p h e = ap as_names e
 
 -- Parameters of children.
 

@@ -5,36 +5,18 @@ use Rattle.std.proofs.lemmas.List.{take_more, take_all, map-append, append-nil, 
 use Rattle.std.proofs.lemmas.List.Concat.{flat_map-append}
 use Rattle.std.proofs.lemmas.List.Elements.{All-nil}
 use Rattle.ppd_parse.specs.declared.node.Node.{Node}
-use Rattle.ppd_parse.specs.declared.symbol.Rule.{Rule}
-use Rattle.ppd_parse.specs.declared.symbol.Rule.TheVariants as R
 use Rattle.ppd_resolve.specs.declared.fault.Fault.{Fault}
 use Rattle.ppd_resolve.specs.declared.globals.Globals.{Globals}
 use Rattle.ppd_resolve.specs.Faults.{first, first_of_both}
 use Rattle.ppd_resolve.specs.Syntax.{Item}
-use Rattle.ppd_resolve.specs.Reading.{Phrase, as_items}
-use Rattle.ppd_resolve.specs.Nodes.{phrase_of, phrases_of, phrases_below, children_of, SaysBy}
+use Rattle.ppd_resolve.specs.Reading.{as_items}
+use Rattle.ppd_resolve.specs.Nodes.{phrase_of, phrases_of, phrases_below, children_of}
 use Rattle.ppd_resolve.specs.Declaring.{nothing}
 use Rattle.ppd_resolve.specs.Holding.{head_at, IsHeadAt, Holds, Declares}
 use Rattle.ppd_resolve.specs.Globals as S
 use Rattle.ppd_resolve.specs.Globals.{no_globals, with_items, items_faults, count_faults}
 use Rattle.ppd_resolve.proofs.Declared.Counted.{noted_all}
-use Rattle.ppd_resolve.proofs.Declared.Declarations.{declares_none, declares_both}
-
--- what declares nothing
-pub items_other : (r : Rule) (ps : List Phrase) (p : Phrase) → (r ≡ R.Source → ⊥) → (r ≡ R.Shared → ⊥) → (r ≡ R.Sitem → ⊥) → (r ≡ R.Sems → ⊥) → (r ≡ R.Chans → ⊥)
-    → (r ≡ R.Function → ⊥) → (r ≡ R.Process → ⊥) → SaysBy r ps p → as_items p ≡ []
-items_other R.Source ps p a b c d f g h e = absurd (a refl)
-items_other R.Shared ps p a b c d f g h e = absurd (b refl)
-items_other R.Sitem ps p a b c d f g h e = absurd (c refl)
-items_other R.Sems ps p a b c d f g h e = absurd (d refl)
-items_other R.Chans ps p a b c d f g h e = absurd (f refl)
-items_other R.Function ps p a b c d f g h e = absurd (g refl)
-items_other R.Process ps p a b c d f g h e = absurd (h refl)
-items_other R.Leaf ps p a b c d f g h e = ap as_items e.1
-items_other r ps p a b c d f g h e = ap as_items e
-
-pub declares_other : (ns : List Node) (p : Phrase) (g : Globals) (f : Option Fault) → as_items p ≡ [] → Declares ns (as_items p) g g f f
-declares_other ns p g f e = subst (λ is. Declares ns is g g f f) (sym e) (declares_none ns g f)
+use Rattle.ppd_resolve.proofs.Declared.Declarations.{declares_both}
 
 -- one child more of a list
 pub declares_next : (ns : List Node) (cs : List ℕ) (i c : ℕ) (old mid new : Globals) (f f' f'' : Option Fault) → i < length cs → c ≡ get_or cs i c
@@ -75,9 +57,6 @@ holds_none ns =
 
 held_first : (ns : List Node) (g : Globals) → g ≡ nothing → Holds ns g no_globals
 held_first ns g e = subst (λ h. Holds ns h no_globals) (sym e) (holds_none ns)
-
-pub declared_all : (ns : List Node) (is : List Item) (old new : Globals) (f f' : Option Fault) → old ≡ nothing → Declares ns is old new f f' → Holds ns new (with_items is no_globals)
-declared_all ns is old new f f' e a = a.holds no_globals (held_first ns old e)
 
 pub noted_source : (ns : List Node) (is : List Item) (old new : Globals) (f f' : Option Fault) → old ≡ nothing → Declares ns is old new f f'
     → f' ≡ first_of_both f (first (items_faults is no_globals ++ count_faults (with_items is no_globals)))

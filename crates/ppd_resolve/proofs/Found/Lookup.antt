@@ -7,13 +7,6 @@ use Rattle.std.proofs.lemmas.Bool.{true≢false}
 use Rattle.indexmap.specs.IndexMap.{IndexMap, get_by, insert_entry}
 use Rattle.ppd_resolve.specs.Names.{Meaning, Scope, found, else_in, meaning, scope_of, declare, in_innermost}
 
-pub declare_known : (s : Scope) (x : List ℕ) (v : Meaning) → is_some (found s x) ≡ true → s ≡ declare x v s
-declare_known s x v h = go (is_some (found s x)) h
-  where
-    go : (b : Bool) → b ≡ true → s ≡ (if b then s else s ++ (x, v) ∷ [])
-    go true e = refl
-    go false e = absurd (true≢false (sym e))
-
 declare_last : (s : Scope) (x : List ℕ) (v : Meaning) → is_some (found s x) ≡ false → s ++ (x, v) ∷ [] ≡ declare x v s
 declare_last s x v h = go (is_some (found s x)) h
   where

@@ -84,17 +84,6 @@ numbered_all make [] = refl
 numbered_all make (p ∷ ps) =
     ap (λ l. if is_name (kind p) then make (name_of (as_token p)) (number_behind (name_of (as_token p)) ps) ∷ l else l) (numbered_all make ps)
 
--- a child that is a name, and one that is none
-pub numbered_name : (make : Name → Number → Item) (ps : List Phrase) (k : ℕ) (x : Name) (n : Number) → is_name (kind (phrase ps k)) ≡ true → x ≡ name_at ps k
-    → n ≡ number_after x.place ps k → make x n ∷ [] ≡ numbered_at make ps k
-numbered_name make ps k x n is a b =
-    ap (λ y. make y n ∷ []) a
-    ∙ ap (λ m. make (name_at ps k) m ∷ []) (b ∙ ap (λ y. number_after y.place ps k) a)
-    ∙ ap (λ t. if t then make (name_at ps k) (number_after (name_at ps k).place ps k) ∷ [] else []) (sym is)
-
-pub numbered_other : (make : Name → Number → Item) (ps : List Phrase) (k : ℕ) → is_name (kind (phrase ps k)) ≡ false → [] ≡ numbered_at make ps k
-numbered_other make ps k is = ap (λ t. if t then make (name_at ps k) (number_after (name_at ps k).place ps k) ∷ [] else []) (sym is)
-
 -- one child more
 pub declares_more : (ns : List Node) (make : Name → Number → Item) (ps : List Phrase) (n : ℕ) (old mid new : Globals) (f f' f'' : Option Fault) → n < length ps
     → Declares ns (first_numbered make n ps) old mid f f' → Declares ns (numbered_at make ps n) mid new f' f'' → Declares ns (first_numbered make (n + 1) ps) old new f f''

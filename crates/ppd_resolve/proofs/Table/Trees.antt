@@ -80,9 +80,6 @@ pub phrase_step : (ns : List Node) (i : ℕ) (n : Node) → IsTable ns → i < l
 unfolding phrase_of
 phrase_step ns i n table h is = ap said (tree_step ns i n table h is) ∙ said_or ns n.token n.rule n.children
 
-pub children_inside : (ns : List Node) (i : ℕ) → IsTable ns → i < length ns → AreInside ns i (children_of ns i)
-children_inside ns i table h = table.larger i no_node h
-
 -- the children of a node that was read
 pub children_read : (ns : List Node) (i : ℕ) (n : Node) → i < length ns → n ≡ get_or ns i n → n.children ≡ children_of ns i
 children_read ns i n h is = ap (λ m. m.children) (is ∙ get_or_default ns i n no_node h)

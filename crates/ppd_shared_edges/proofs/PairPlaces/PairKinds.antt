@@ -11,6 +11,7 @@ use Rattle.ppd_ast.specs.declared.program.Program.{Program}
 use Rattle.ppd_ast.specs.declared.status.Status.{Status}
 use Rattle.ppd_ast.specs.declared.status.Trap.TheVariants as trap
 use Rattle.ppd_ast.specs.Lookups.{kind_of}
+use Rattle.ppd_ast.specs.declared.limits.TheConstants.{MOST_CALLS}
 use Rattle.ppd_sem.specs.declared.asking.Pause.TheVariants.{Wants, Traps}
 use Rattle.ppd_sem.specs.declared.proc.Need.{Need}
 use Rattle.ppd_sem.specs.declared.proc.Need.TheVariants as need
@@ -73,7 +74,7 @@ leaving plan t None = refl
 leaving plan t (Some b) = refl
 
 calling : (plan : Plan) (f : ℕ) (s : Proc) → takes (need_of_call plan f s) ≡ false
-calling plan f s = by (nat_lt 64 (s.below + length s.frames))
+calling plan f s = by (nat_lt MOST_CALLS (s.below + length s.frames))
   where
     by : (b : Bool) → takes (if b then need.Trap trap.Depth else need.Invoke (block_of plan (block.Function f)) (unit_of plan (start.Entry f))) ≡ false
     by true = refl

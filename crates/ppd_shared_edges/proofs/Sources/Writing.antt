@@ -25,7 +25,6 @@ use Rattle.ppd_model.proofs.Changes.{some}
 use Rattle.ppd_model.proofs.Tested.{In, here, there, in_left, in_right}
 use Rattle.ppd_model.proofs.RaceFree.{any_at}
 use Rattle.ppd_shared_edges.proofs.Sources.Members.{in_cases, in_either, no_member}
-use Rattle.ppd_shared_edges.proofs.Near.Cheap.{or_right}
 use Rattle.ppd_search.specs.Shared.{writing, writing_from, writing_in}
 
 -- ---- membership

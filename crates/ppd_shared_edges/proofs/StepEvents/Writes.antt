@@ -12,6 +12,7 @@ use Rattle.ppd_ast.specs.declared.status.Status.{Status}
 use Rattle.ppd_ast.specs.declared.status.Trap.TheVariants as trap
 use Rattle.ppd_ast.specs.Term.{term}
 use Rattle.ppd_ast.specs.Lookups.{kind_of}
+use Rattle.ppd_ast.specs.declared.limits.TheConstants.{MOST_CALLS}
 use Rattle.ppd_sem.specs.declared.asking.Pause.TheVariants.{Wants, Traps}
 use Rattle.ppd_sem.specs.declared.event.Access.{Access}
 use Rattle.ppd_sem.specs.declared.proc.Answer.{Answer}
@@ -60,7 +61,7 @@ module _ (c frame : ℕ) (a : Answer) where
   leaving plan t (Some b) left e = refl
 
   calling : (plan : Plan) (f : ℕ) (s : Proc) (values : List ℤ) (into : Option ℕ) (left : List ℤ) → Fits (need_of_call plan f s) (Ok (invoke f values into, left))
-  calling plan f s values into left = by (nat_lt 64 (s.below + length s.frames))
+  calling plan f s values into left = by (nat_lt MOST_CALLS (s.below + length s.frames))
     where
       by : (b : Bool) → Fits (if b then need.Trap trap.Depth else need.Invoke (block_of plan (block.Function f)) (unit_of plan (start.Entry f))) (Ok (invoke f values into, left))
       by true e = refl

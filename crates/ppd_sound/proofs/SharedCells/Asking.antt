@@ -7,6 +7,7 @@ use Rattle.ppd_ast.specs.declared.plan.Start.TheVariants as start
 use Rattle.ppd_ast.specs.declared.program.Program.{Program}
 use Rattle.ppd_ast.specs.declared.status.Status.{Status}
 use Rattle.ppd_ast.specs.declared.status.Trap.TheVariants as trap
+use Rattle.ppd_ast.specs.declared.limits.TheConstants.{MOST_CALLS}
 use Rattle.ppd_sem.specs.declared.asking.Pause.TheVariants.{Wants, Traps}
 use Rattle.ppd_sem.specs.declared.proc.Need.{Need}
 use Rattle.ppd_sem.specs.declared.proc.Need.TheVariants as need
@@ -41,7 +42,7 @@ leaving plan t None left = tt
 leaving plan t (Some b) left = tt
 
 calling : (plan : Plan) (f : ℕ) (s : Proc) (values : List ℤ) (into : Option ℕ) (left : List ℤ) → Tells (need_of_call plan f s) (Ok (invoke f values into, left))
-calling plan f s values into left = by (nat_lt 64 (s.below + length s.frames))
+calling plan f s values into left = by (nat_lt MOST_CALLS (s.below + length s.frames))
   where
     by : (b : Bool) → Tells (if b then need.Trap trap.Depth else need.Invoke (block_of plan (block.Function f)) (unit_of plan (start.Entry f))) (Ok (invoke f values into, left))
     by true = tt

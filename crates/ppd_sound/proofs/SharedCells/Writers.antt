@@ -1,5 +1,5 @@
 -- The tag of a shared cell, and of each answer to a read of it, is the event of a step that writes the cell.
-use Rattle.std.proofs.Common.{◌≡◌, ℕ, zero, suc, ◌+◌, ℤ, Bool, cond, List, [], ◌∷◌, ◌++◌, Some, None, get_or, refl, ap, ◌∙◌, arith, inl, inr, ◌⊎◌, append_assoc}
+use Rattle.std.proofs.Common.{◌≡◌, ℕ, zero, suc, ◌+◌, ℤ, cond, List, [], ◌∷◌, ◌++◌, Some, None, get_or, refl, ap, ◌∙◌, arith, inl, inr, ◌⊎◌, append_assoc}
 use Rattle.ppd_model.specs.declared.tracing.Taken.{Taken}
 use Rattle.std.specs.Prelude.{⊤}
 use Rattle.std.proofs.lemmas.List.Sums.{sum_by-append}

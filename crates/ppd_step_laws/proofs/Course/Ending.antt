@@ -18,6 +18,7 @@ use Rattle.ppd_ast.proofs.ValidLaws.{slice_get_there, some_and, stmt_in_body, va
 use Rattle.ppd_ast.specs.Members.{has}
 use Rattle.ppd_ast.specs.Lookups.{kind_of_stmt, kind_of, top_of_body}
 use Rattle.ppd_ast.proofs.Members.{has_first, has_later}
+use Rattle.ppd_ast.specs.declared.limits.TheConstants.{MOST_CALLS}
 use Rattle.ppd_sem.specs.declared.asking.Pause.TheVariants.{Wants, Traps}
 use Rattle.ppd_sem.specs.declared.proc.Answer.{Answer}
 use Rattle.ppd_sem.specs.declared.proc.Need.{Need}
@@ -153,7 +154,7 @@ module _ (p : Program) where
   deed_needs plan t s (turn stmts) e = cc
   deed_needs plan t s leave e = leaves_some plan t (block_of plan (block.Loop t)) e
   deed_needs plan t s (invoke f values into) e =
-      calls_some (unit_of plan (start.Entry f)) (block_of plan (block.Function f)) (nat_lt 64 (s.below + length s.frames)) e
+      calls_some (unit_of plan (start.Entry f)) (block_of plan (block.Function f)) (nat_lt MOST_CALLS (s.below + length s.frames)) e
   deed_needs plan t s (back value) e = cc
   deed_needs plan t s (take sem) e = cc
   deed_needs plan t s (give sem) e = cc

@@ -9,6 +9,7 @@ use Rattle.ppd_ast.specs.declared.program.Stmt.{Stmt}
 use Rattle.ppd_ast.specs.Valid.{EndsBody, IsEnding, IsValid, last_of}
 use Rattle.ppd_ast.proofs.ValidLaws.{stmt_in_body}
 use Rattle.ppd_ast.specs.Lookups.{kind_of_stmt}
+use Rattle.ppd_ast.specs.declared.limits.TheConstants.{MOST_NESTING}
 use Rattle.ppd_cfg.specs.Flow.{follow}
 use Rattle.ppd_cfg.proofs.Depths.{follow_none}
 use Rattle.ppd_step_laws.specs.Laws.{EndsAreLast}
@@ -39,7 +40,7 @@ ends_top b k (K.Print e) ending h = absurd ending
 ends_top b k (K.Assert e) ending h = absurd ending
 
 last_at : (p : Program) (s : ℕ) (o : Option Stmt) → IsValid p → slice_get p.stmts s ≡ o → IsEnding (kind_of_stmt o) → follow p s ≡ None
-last_at p s None v at ending = follow_none 64 p s (λ z. cc) at
+last_at p s None v at ending = follow_none MOST_NESTING p s (λ z. cc) at
 last_at p s (Some x) v at ending =
     let own = stmt_in_body p s x v at in
     chain_last p own.0.top s (top_chain p x.body own.0 v own.1) (ends_top own.0 s x.kind ending own.2.ending)

@@ -12,6 +12,7 @@ use Rattle.ppd_ast.specs.declared.status.Status.TheVariants as status
 use Rattle.ppd_ast.specs.declared.status.Trap.TheVariants as trap
 use Rattle.ppd_ast.specs.Valid.{IsValid}
 use Rattle.ppd_ast.specs.Lookups.{kind_of}
+use Rattle.ppd_ast.specs.declared.limits.TheConstants.{MOST_CALLS}
 use Rattle.ppd_sem.specs.declared.asking.Pause.TheVariants.{Wants, Traps}
 use Rattle.ppd_sem.specs.declared.proc.Answer.{Answer}
 use Rattle.ppd_sem.specs.declared.proc.Frame.{Frame}
@@ -152,7 +153,7 @@ module _ (p : Program) (plan : Plan) (v : IsValid p) (a : Answer) (t : Todo) (ts
   by_deed (turn stmts) left none l =
       record { course = turn_way p plan v t ts l.test stmts l.kind_is none (calls_of s.frames) way; leads = turn_on p plan v t ts l.test stmts l.kind_is none }
   by_deed leave left none l = leaving (block_of plan (block.Loop t.stmt)) none l refl left
-  by_deed (invoke f values into) left none i = invoking f values into (nat_lt 64 (s.below + length s.frames)) i left
+  by_deed (invoke f values into) left none i = invoking f values into (nat_lt MOST_CALLS (s.below + length s.frames)) i left
   by_deed (back value) left none e = record { course = back_way value e; leads = goes_back (top_call s.frames) (is_back e) }
   by_deed (take sem) left none e = record { course = rest_way e; leads = starts (start.After t.stmt) e }
   by_deed (give sem) left none e = record { course = rest_way e; leads = starts (start.After t.stmt) e }

@@ -12,6 +12,7 @@ use Rattle.ppd_ast.specs.Valid.{IsValid}
 use Rattle.ppd_ast.specs.Members.{has}
 use Rattle.ppd_ast.specs.Lookups.{kind_of, top_of_body, top_of}
 use Rattle.ppd_ast.proofs.Members.{has_first, has_later, has_left, has_right}
+use Rattle.ppd_ast.specs.declared.limits.TheConstants.{MOST_NESTING}
 use Rattle.ppd_cfg.specs.Flow.{follow, follow_under, follow_within, next_in}
 use Rattle.ppd_cfg.specs.Lists.{first_or}
 use Rattle.ppd_cfg.proofs.Depths.{follow_none}
@@ -85,7 +86,7 @@ module _ (p : Program) (v : IsValid p) (u r : ℕ) (y : Stmt) (at : slice_get p.
       within q t (kind_of p q) refl less (further q less) (sym (follows_its_list p t x v e ∙ ap (follow_under p (follow p) x.body t) some) ∙ f)
 
   here : (t : ℕ) (o : Option Stmt) → slice_get p.stmts t ≡ o → ((q : ℕ) → q < t → follow p q ≡ Some u → r < q) → follow p t ≡ Some u → r < t
-  here t None e further f = absurd (none_some (sym (follow_none 64 p t (λ z. cc) e) ∙ f))
+  here t None e further f = absurd (none_some (sym (follow_none MOST_NESTING p t (λ z. cc) e) ∙ f))
   here t (Some x) e further f = under t x x.parent e refl further f
 
   -- what follows a statement stands in none but those round the statement

@@ -12,6 +12,7 @@ use Rattle.ppd_ast.proofs.ValidLaws.{slice_get_below, some_and, valid_body, vali
 use Rattle.ppd_ast.specs.Members.{has, RisesFrom}
 use Rattle.ppd_ast.specs.Lookups.{kind_of_stmt, kind_of}
 use Rattle.ppd_ast.proofs.Members.{has_first, has_cons, in_bounds_has, flat_gives, all_has}
+use Rattle.ppd_ast.specs.declared.limits.TheConstants.{MOST_NESTING}
 use Rattle.ppd_cfg.proofs.Following.{in_some}
 
 -- ---- lists that rise
@@ -122,7 +123,7 @@ pub record Place (p : Program) (c : ℕ) : Type 0 where
   pub body_is : slice_get p.bodies number ≡ Some body
   pub outer : ℕ
   pub is_top : IsTrue (has body.top outer)
-  pub inside : IsTrue (has (preorder 64 p.stmts outer) c)
+  pub inside : IsTrue (has (preorder MOST_NESTING p.stmts outer) c)
 
 pub place_of : (p : Program) (c : ℕ) (x : Stmt) → IsValid p → slice_get p.stmts c ≡ Some x → Place p c
 place_of p c x v at =
@@ -132,8 +133,8 @@ place_of p c x v at =
     let low : b.first ≤ c = place.3 in
     let high : c < b.end = place.4 in
     let number : IsTrue (has (range_with_len b.first (b.end - b.first)) c) = in_bounds_has b.first (b.end - b.first) c low (omega arith) in
-    let listed : IsTrue (has (flat_map (preorder 64 p.stmts) b.top) c) = subst (λ xs. IsTrue (has xs c)) (sym valid.order) number in
-    let t = flat_gives (preorder 64 p.stmts) b.top c listed in
+    let listed : IsTrue (has (flat_map (preorder MOST_NESTING p.stmts) b.top) c) = subst (λ xs. IsTrue (has xs c)) (sym valid.order) number in
+    let t = flat_gives (preorder MOST_NESTING p.stmts) b.top c listed in
     record { number = place.0; body = b; body_is = place.2; outer = t.0; is_top = t.1; inside = t.2 }
 
 -- an outermost statement is there, and has no parent
@@ -143,19 +144,19 @@ top_stands p j c b v at h =
     let y = some_and (λ (s : Stmt). (s.parent ≡ None) × (s.body ≡ j)) (slice_get p.stmts c) stands in
     (y.0, y.1, y.2.0, y.2.1)
 
-all_rise : (p : Program) (j : ℕ) (b : Body) → IsValid p → slice_get p.bodies j ≡ Some b → RisesFrom b.first (flat_map (preorder 64 p.stmts) b.top)
+all_rise : (p : Program) (j : ℕ) (b : Body) → IsValid p → slice_get p.bodies j ≡ Some b → RisesFrom b.first (flat_map (preorder MOST_NESTING p.stmts) b.top)
 all_rise p j b v at = subst (RisesFrom b.first) (sym (valid_body p j b v at).order) (range_rises b.first (b.end - b.first))
 
 pub top_rises : (p : Program) (j : ℕ) (b : Body) → IsValid p → slice_get p.bodies j ≡ Some b → RisesFrom b.first b.top
 unfolding preorder
-top_rises p j b v at = heads_rise (preorder 64 p.stmts) (λ i. flat_map (preorder 63 p.stmts) (inner_at p.stmts i)) (λ i. refl) b.first b.top (all_rise p j b v at)
+top_rises p j b v at = heads_rise (preorder MOST_NESTING p.stmts) (λ i. flat_map (preorder (MOST_NESTING - 1) p.stmts) (inner_at p.stmts i)) (λ i. refl) b.first b.top (all_rise p j b v at)
 
 pub stands_in_parent : (p : Program) (c s : ℕ) (x : Stmt) → IsValid p → slice_get p.stmts c ≡ Some x → x.parent ≡ Some s → StandsIn p c s
 stands_in_parent p c s x v at is =
     let place : Place p c = place_of p c x v at in
     let top = top_stands p place.number place.outer place.body v place.body_is place.is_top in
-    inside_rises p v c s x at is 64 place.body.first place.outer
-    (member_rises (preorder 64 p.stmts) place.body.first place.body.top place.outer (all_rise p place.number place.body v place.body_is) place.is_top)
+    inside_rises p v c s x at is MOST_NESTING place.body.first place.outer
+    (member_rises (preorder MOST_NESTING p.stmts) place.body.first place.body.top place.outer (all_rise p place.number place.body v place.body_is) place.is_top)
     place.inside
     (λ same. absurd (none_is_some (sym top.2 ∙ parent_at top.0 (sym top.1 ∙ ap (slice_get p.stmts) (sym same) ∙ at))))
   where

@@ -1,5 +1,5 @@
 -- In a valid program: whether a statement stands in another one.
-use Rattle.std.proofs.Common.{◌≡◌, ◌≢◌, ℕ, zero, suc, ◌+◌, ◌<◌, ◌≤◌, Bool, true, false, Option, Some, None, refl, sym, subst, ap, ◌∙◌, arith, inl, inr, true≢false, ◌||◌}
+use Rattle.std.proofs.Common.{◌-◌, ◌≡◌, ◌≢◌, ℕ, zero, suc, ◌+◌, ◌<◌, ◌≤◌, Bool, true, false, Option, Some, None, refl, sym, subst, ap, ◌∙◌, arith, inl, inr, true≢false, ◌||◌}
 use Rattle.std.specs.Prelude.{IsTrue, nat_eq, slice_get, ⊤}
 use Rattle.std.specs.List.{flat_map}
 use Rattle.std.proofs.lemmas.Bool.{eq-eqb, ne_eqb}
@@ -10,6 +10,7 @@ use Rattle.ppd_ast.specs.Valid.{IsValid}
 use Rattle.ppd_ast.specs.Members.{has}
 use Rattle.ppd_ast.proofs.Members.{has_cons, flat_gives}
 use Rattle.ppd_ast.specs.Lookups.{parent_if}
+use Rattle.ppd_ast.specs.declared.limits.TheConstants.{MOST_NESTING}
 use Rattle.ppd_units.specs.Walk.{stands_at, stands_in}
 use Rattle.ppd_step_laws.proofs.Course.Rising.{Place, child_stands, parent_below, place_of, top_stands}
 
@@ -47,7 +48,7 @@ above_all (suc d) p n (Some q) v h =
 
 pub not_in_later : (p : Program) (s t : ℕ) → IsValid p → s < t → stands_in p s t ≡ false
 unfolding IsBelow
-not_in_later p s t v lt = above_all 64 p t (Some s) v lt
+not_in_later p s t v lt = above_all MOST_NESTING p t (Some s) v lt
 
 -- ---- one step outwards
 
@@ -60,11 +61,11 @@ outwards_to d p u x t y at is = outwards d p u x ∙ ap (λ (o : Option Stmt). n
 
 -- a statement stands in itself, and in its parent
 pub in_itself : (p : Program) (t : ℕ) → stands_in p t t ≡ true
-in_itself p t = outwards 63 p t t ∙ or_yes (nat_eq t t) (stands_at 63 p.stmts t (parent_if (slice_get p.stmts t))) (eq-eqb t t refl)
+in_itself p t = outwards (MOST_NESTING - 1) p t t ∙ or_yes (nat_eq t t) (stands_at (MOST_NESTING - 1) p.stmts t (parent_if (slice_get p.stmts t))) (eq-eqb t t refl)
 
 pub in_parent : (p : Program) (x t : ℕ) (y : Stmt) → slice_get p.stmts x ≡ Some y → y.parent ≡ Some t → stands_in p x t ≡ true
 in_parent p x t y at is =
-    outwards_to 63 p t x t y at is
+    outwards_to (MOST_NESTING - 1) p t x t y at is
     ∙ ap (λ b. nat_eq x t || b) (outwards 62 p t t ∙ or_yes (nat_eq t t) (stands_at 62 p.stmts t (parent_if (slice_get p.stmts t))) (eq-eqb t t refl)) ∙ or_true (nat_eq x t)
   where
     or_true : (b : Bool) → (b || true) ≡ true
@@ -99,26 +100,26 @@ unfolding IsDeep
 child_deep e p c t y at is h zero u l = absurd (omega arith)
 child_deep e p c t y at is h (suc m) u l = outwards_to m p u c t y at is ∙ ap (λ b. nat_eq c u || b) (h m u (omega arith)) ∙ sym (outwards_to e p u c t y at is)
 
-inside_deep : (d e : ℕ) (p : Program) (t s : ℕ) → IsValid p → e + d ≤ 65 → IsDeep e p t → IsTrue (has (preorder d p.stmts t) s) → IsDeep 64 p s
+inside_deep : (d e : ℕ) (p : Program) (t s : ℕ) → IsValid p → e + d ≤ (MOST_NESTING + 1) → IsDeep e p t → IsTrue (has (preorder d p.stmts t) s) → IsDeep MOST_NESTING p s
 unfolding preorder
 inside_deep zero e p t s v l k h = absurd (true≢false (sym h))
 inside_deep (suc d) e p t s v l k h =
     elim (has_cons t s (flat_map (preorder d p.stmts) (inner_at p.stmts t)) h) [
-      | inl same ↦ subst (IsDeep 64 p) same (deeper e 64 p t (omega arith) k)
+      | inl same ↦ subst (IsDeep MOST_NESTING p) same (deeper e MOST_NESTING p t (omega arith) k)
       | inr later ↦
           let c = flat_gives (preorder d p.stmts) (inner_at p.stmts t) s later in
           let y = child_stands p t c.0 v c.1 in
           inside_deep d (suc e) p c.0 s v (omega arith) (child_deep e p c.0 t y.0 y.1 y.2 k) c.2
     ]
 
-all_deep : (p : Program) (s : ℕ) (x : Stmt) → IsValid p → slice_get p.stmts s ≡ Some x → IsDeep 64 p s
+all_deep : (p : Program) (s : ℕ) (x : Stmt) → IsValid p → slice_get p.stmts s ≡ Some x → IsDeep MOST_NESTING p s
 all_deep p s x v at =
     let place : Place p s = place_of p s x v at in
     let top = top_stands p place.number place.outer place.body v place.body_is place.is_top in
-    inside_deep 64 1 p place.outer s v (omega arith) (top_deep p place.outer top.0 top.1 top.2) place.inside
+    inside_deep MOST_NESTING 1 p place.outer s v (omega arith) (top_deep p place.outer top.0 top.1 top.2) place.inside
 
 -- a statement stands in another one where its parent does
 pub as_parent : (p : Program) (x t u : ℕ) (y : Stmt) → IsValid p → slice_get p.stmts x ≡ Some y → y.parent ≡ Some t → x ≢ u → stands_in p x u ≡ stands_in p t u
 unfolding IsDeep
 as_parent p x t u y v at is other =
-    sym (all_deep p x y v at 65 u (omega arith)) ∙ outwards_to 64 p u x t y at is ∙ ap (λ b. b || stands_at 64 p.stmts u (Some t)) (ne_eqb x u other)
+    sym (all_deep p x y v at (MOST_NESTING + 1) u (omega arith)) ∙ outwards_to MOST_NESTING p u x t y at is ∙ ap (λ b. b || stands_at MOST_NESTING p.stmts u (Some t)) (ne_eqb x u other)

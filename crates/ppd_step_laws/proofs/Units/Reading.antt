@@ -10,6 +10,7 @@ use Rattle.ppd_ast.specs.declared.plan.Start.TheVariants.{Entry}
 use Rattle.ppd_ast.specs.Valid.{IsValid}
 use Rattle.ppd_ast.specs.Members.{has, those}
 use Rattle.ppd_ast.proofs.Members.{filter_has, from_zero, flat_from}
+use Rattle.ppd_ast.specs.declared.limits.TheConstants.{MOST_SHARED_CELLS}
 use Rattle.ppd_cfg.specs.Reach.{Reached, closure, leads}
 use Rattle.ppd_cfg.proofs.Leading.{leads-tests}
 use Rattle.ppd_blocks.specs.Used.{reads_at}
@@ -46,7 +47,7 @@ cells_have p loops origin s c v reached read =
     let starts : List ℕ = option_to_list (begin_of p loops origin) in
     let stmts : List ℕ = those n (leads (closure rows) starts) in
     let stands = filter_has (leads (closure rows) starts) (range_with_len 0 n) s (from_zero s n (read_is_stmt p s c read)) ((leads-tests rows starts s).1 reached) in
-    let few : length p.starts ≤ 1024 = v.limits.starts in
+    let few : length p.starts ≤ MOST_SHARED_CELLS = v.limits.starts in
     let below : c < length p.starts = reads_below p s c v read in
     sorted_from (flat_map (reads_at true p) stmts) c (omega (arith, few, below)) (flat_from (reads_at true p) stmts s c stands read)
 

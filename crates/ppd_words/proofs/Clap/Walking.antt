@@ -161,9 +161,6 @@ module _ (title : Text) (c : List Rule) where
         go true None = f
         go true (Some word) = first_fails (settle_fault c false h) _ f
 
-    unknown_fails : (h : Held) (name : Text) (v : Option Text) → is_among longs name ≡ false → Fails (long_fault c false (arg_by_long c name) v h)
-    unknown_fails h name v e = subst (λ (o : Option Rule). Fails (long_fault c false o v h)) (sym (serves.long name ∙ ap (λ (b : Bool). cond b (Some (option_at name)) None) e)) tt
-
     bundle_fails : (rows : List Row) (p : Option (Text × List Text)) (flags : Text) → HasFirst flags → Fails (bundle_fault c false flags (held_at rows p))
     unfolding flags_fault
     bundle_fails rows p [] first = absurd (none (ap (λ (cs : List ℕ). slice_get cs 0) (sym chars-nil) ∙ first.1))

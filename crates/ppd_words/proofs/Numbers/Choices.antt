@@ -52,11 +52,6 @@ given_after loops budget n l = refl
 given_after loops leaf n l = refl
 given_after loops loops n l = refl
 
-pub choice_back : (c : Choice) → choice_of (id_of c) ≡ c
-choice_back budget = refl
-choice_back leaf = refl
-choice_back loops = refl
-
 pub asks_after : (c : Choice) (n : ℕ) (l : NumbersGiven) → (with_option c n l).asks ≡ None
 asks_after budget n l = refl
 asks_after leaf n l = refl

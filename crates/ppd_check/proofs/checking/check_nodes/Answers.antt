@@ -2,7 +2,7 @@ use Rattle.std.proofs.Common.{◌∙◌, ap, arith, List, length}
 use Rattle.ppd_parse.specs.Tree.{tree_of}
 use Rattle.ppd_resolve.specs.Fitted.{as_short}
 use Rattle.ppd_resolve.specs.Reading.{source_of}
-use Rattle.ppd_lower.specs.Sources.{vars}
+use Rattle.ppd_bodies.specs.Sources.{vars}
 use Rattle.ppd_resolve.specs.Globals.{globals}
 use Rattle.ppd_check.proofs.Sourced.{parts_of, parts_found, parts_table}
 use Rattle.ppd_resolve.specs.declared.frame.Variable.{Variable}

@@ -1,5 +1,6 @@
-use Rattle.std.proofs.Common.{◌++◌, length, ◌≤◌, ◌<◌, ◌-◌, vec_len, vec_capacity}
+use Rattle.std.proofs.Common.{◌+◌, ◌++◌, length, ◌≤◌, ◌<◌, ◌-◌, vec_len, vec_capacity}
 use Rattle.ppd_ast.specs.declared.limits.TheConstants.{MOST_LINE_BYTES}
+use Rattle.ppd_io.specs.declared.bytes.TheConstants.{CHUNK_BYTES}
 use Rattle.ppd_io.specs.Lines.{Took, HasNoNewline}
 use Rattle.ppd_io.proofs.lines.fill_line.Given as goal
 
@@ -9,9 +10,9 @@ invariant-loop-bytes g l = record {
   plain : HasNoNewline l.line.items;
   later : g.I.Source.faults l.initial.source ≤ g.I.Source.faults l.source;
   room : MOST_LINE_BYTES < vec_capacity l.line;
-  within : vec_len l.line ≤ 4097;
-  few : length l.bytes < 4096;
+  within : vec_len l.line ≤ MOST_LINE_BYTES + 1;
+  few : length l.bytes < CHUNK_BYTES;
 }
 
 abbrev pub decreases-loop-bytes : goal.decreases-loop-bytes
-decreases-loop-bytes g l = 4097 - vec_len l.line
+decreases-loop-bytes g l = MOST_LINE_BYTES + 1 - vec_len l.line

@@ -1,6 +1,7 @@
 use Rattle.std.proofs.Common.{◌∙◌, ◌++◌, [], ap, sym, subst, arith, get_or, length}
 use Rattle.std.proofs.lemmas.List.Sums.{sum_by-take-le, sum_by_more}
 use Rattle.ppd_ast.specs.Members.{has}
+use Rattle.ppd_ast.specs.declared.limits.TheConstants.{MOST_SHARED_CELLS}
 use Rattle.ppd_graph.proofs.Rows.{length_replicated, no_items, none_at}
 use Rattle.ppd_race.specs.declared.busy.Accessor.{Accessor}
 use Rattle.ppd_race.specs.declared.busy.Busy.{Busy}
@@ -10,10 +11,10 @@ use Rattle.ppd_race.proofs.by_cell.list_by_cell.Goals as goal
 
 pub loop-place-init : goal.loop-place-init
 loop-place-init g c = record {
-  long_readers = ap length c.in_ok-no_lists.ensures.none ∙ length_replicated 1024 (no_items Accessor);
-  long_writers = ap length c.in_ok-no_lists-2.ensures.none ∙ length_replicated 1024 (no_items Accessor);
-  readers = λ k lt. ap (λ lists. get_or lists k [] ++ accessors_from 0 (λ a. has a.reads k) c.args.own.now) c.in_ok-no_lists.ensures.none ∙ ap (λ list. list ++ accessors_from 0 (λ a. has a.reads k) c.args.own.now) (none_at 1024 k);
-  writers = λ k lt. ap (λ lists. get_or lists k [] ++ accessors_from 0 (λ a. has a.writes k) c.args.own.now) c.in_ok-no_lists-2.ensures.none ∙ ap (λ list. list ++ accessors_from 0 (λ a. has a.writes k) c.args.own.now) (none_at 1024 k);
+  long_readers = ap length c.in_ok-no_lists.ensures.none ∙ length_replicated MOST_SHARED_CELLS (no_items Accessor);
+  long_writers = ap length c.in_ok-no_lists-2.ensures.none ∙ length_replicated MOST_SHARED_CELLS (no_items Accessor);
+  readers = λ k lt. ap (λ lists. get_or lists k [] ++ accessors_from 0 (λ a. has a.reads k) c.args.own.now) c.in_ok-no_lists.ensures.none ∙ ap (λ list. list ++ accessors_from 0 (λ a. has a.reads k) c.args.own.now) (none_at MOST_SHARED_CELLS k);
+  writers = λ k lt. ap (λ lists. get_or lists k [] ++ accessors_from 0 (λ a. has a.writes k) c.args.own.now) c.in_ok-no_lists-2.ensures.none ∙ ap (λ list. list ++ accessors_from 0 (λ a. has a.writes k) c.args.own.now) (none_at MOST_SHARED_CELLS k);
   spent = omega (arith, c.no_lists.ensures.cost, c.no_lists-2.ensures.cost);
 }
 

@@ -1,10 +1,11 @@
 use Rattle.std.proofs.Common.{refl, arith}
+use Rattle.ppd_ast.specs.declared.limits.TheConstants.{MOST_SHARED_CELLS}
 use Rattle.ppd_race.proofs.BusyRows.{below_at}
 use Rattle.ppd_race.proofs.Listed.{listed_all, listed_more, listed_none}
 use Rattle.ppd_race.proofs.by_cell.list_cells.Goals as goal
 
 pub contains-requires : goal.contains-requires
-contains-requires g c = below_at 1024 c.args.cells.now c.args.cells.now c.loop-cell.cell-index _ refl c.requires.below c.loop-cell-test.true
+contains-requires g c = below_at MOST_SHARED_CELLS c.args.cells.now c.args.cells.now c.loop-cell.cell-index _ refl c.requires.below c.loop-cell-test.true
 
 pub loop-cell-init : goal.loop-cell-init
 loop-cell-init g c = record { listed = λ rises. listed_none c.args.set.now c.args.cells.now c.args.one c.args.lists.now.items; spent = omega arith }

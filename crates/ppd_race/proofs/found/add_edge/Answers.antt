@@ -1,12 +1,13 @@
 use Rattle.std.proofs.Common.{refl, ◌∙◌, ap, arith, length}
 use Rattle.std.specs.List.{flat_map}
+use Rattle.ppd_ast.specs.declared.limits.TheConstants.{MOST_SHARED_CELLS}
 use Rattle.ppd_race.specs.Search.{found_over, found_with}
 use Rattle.ppd_race.proofs.BusyRows.{below_at}
 use Rattle.ppd_race.proofs.Grown.{grown_as, past_all, past_more, past_none}
 use Rattle.ppd_race.proofs.found.add_edge.Goals as goal
 
 pub add_cell-requires-clause-cell : goal.add_cell-requires-clause-cell
-add_cell-requires-clause-cell g c = below_at 1024 c.args.b.now.cells c.as_slice-cells.result.now c.loop-cell.cell-index _ c.as_slice-cells.ensures c.requires.below c.loop-cell-test.true
+add_cell-requires-clause-cell g c = below_at MOST_SHARED_CELLS c.args.b.now.cells c.as_slice-cells.result.now c.loop-cell.cell-index _ c.as_slice-cells.ensures c.requires.below c.loop-cell-test.true
 
 pub loop-cell-init : goal.loop-cell-init
 loop-cell-init g c = record {

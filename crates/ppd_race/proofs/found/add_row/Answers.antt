@@ -1,6 +1,7 @@
 use Rattle.std.proofs.Common.{refl, ◌∙◌, ap, sym, subst, arith}
 use Rattle.std.proofs.lemmas.List.Sums.{sum_by-take-le, sum_by_more}
 use Rattle.ppd_ast.specs.Members.{AreBelow}
+use Rattle.ppd_ast.specs.declared.limits.TheConstants.{MOST_SHARED_CELLS}
 use Rattle.ppd_race.specs.declared.busy.Busy.{Busy}
 use Rattle.ppd_race.specs.Lists.{GrowsBy}
 use Rattle.ppd_race.specs.Search.{IsElsewhere, edge_cost, found_with}
@@ -8,7 +9,7 @@ use Rattle.ppd_race.proofs.Grown.{past_all, past_more, past_none}
 use Rattle.ppd_race.proofs.found.add_row.Goals as goal
 
 pub add_edge-requires-clause-below : goal.add_edge-requires-clause-below
-add_edge-requires-clause-below g c = subst (λ (b : Busy). AreBelow 1024 b.cells) (sym c.b-item.is) (c.requires.cells c.loop-b.b-index c.b-item.result c.loop-b-test.true).below
+add_edge-requires-clause-below g c = subst (λ (b : Busy). AreBelow MOST_SHARED_CELLS b.cells) (sym c.b-item.is) (c.requires.cells c.loop-b.b-index c.b-item.result c.loop-b-test.true).below
 
 pub loop-b-init : goal.loop-b-init
 loop-b-init g c = record { long = refl; grown = λ p can elsewhere. past_none (λ m b. found_with c.args.graph.now c.args.lists.now b m) c.args.row.now c.args.found.now.items; spent = omega arith }

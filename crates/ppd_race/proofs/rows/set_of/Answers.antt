@@ -3,13 +3,14 @@ use Rattle.std.specs.Prelude.{◌||◌}
 use Rattle.std.proofs.lemmas.List.{drop_all}
 use Rattle.std.proofs.Math.Bool.{or-false}
 use Rattle.ppd_ast.specs.Members.{has, AreBelow}
+use Rattle.ppd_ast.specs.declared.limits.TheConstants.{MOST_SHARED_CELLS}
 use Rattle.ppd_race.proofs.BusyRows.{none_below, set_more}
 use Rattle.ppd_race.proofs.rows.set_of.Goals as goal
 
 pub loop-cell-init : goal.loop-cell-init
 loop-cell-init g c = record {
   holds = λ k lt. ap (λ xs. has xs k || has c.args.cells.now k) c.new-set.ensures;
-  below = subst (AreBelow 1024) (sym c.new-set.ensures) none_below;
+  below = subst (AreBelow MOST_SHARED_CELLS) (sym c.new-set.ensures) none_below;
   spent = omega arith;
 }
 

@@ -1,7 +1,7 @@
 use Rattle.std.proofs.Common.{◌+◌, ◌*◌, ◌<◌, length, arith}
 use Rattle.ppd_sem.specs.Process.{started}
 use Rattle.ppd_model.specs.FullTrace.{begun_tracing}
-use Rattle.ppd_trace.specs.Spending.{most_cells}
+use Rattle.ppd_trace.specs.Spending.{most_statement_cells}
 use Rattle.ppd_trace.proofs.Costs.{turn_on}
 use Rattle.ppd_trace.proofs.Processes.{few_on, none_begun, own_begun, own_on, traced_on, traced_whole}
 use Rattle.ppd_trace.proofs.steps.trace_process.Goals as goal
@@ -34,7 +34,7 @@ loop-taken-preserved g c =
       own = own_on program plan story p own i _ before now inside e c.loop-taken.invariant.own;
       running = c.in_ok-trace_step.ensures.kept;
       few = few_on program plan story p own i _ before now inside e c.loop-taken.invariant.few;
-      spent = turn_on _ (3 * most_cells program + 12) i c.loop-taken.steps c.trace_step.new.steps c.loop-taken.invariant.spent (omega (arith, c.tick.ensures, c.in_ok-trace_step.ensures.cost));
+      spent = turn_on _ (3 * most_statement_cells program + 12) i c.loop-taken.steps c.trace_step.new.steps c.loop-taken.invariant.spent (omega (arith, c.tick.ensures, c.in_ok-trace_step.ensures.cost));
     }
 
 pub returns-clause-events : goal.returns-clause-events

@@ -5,7 +5,7 @@ use Rattle.ppd_sem.specs.Runs.{IsRunning}
 use Rattle.ppd_model.specs.FullTrace.{begun_tracing, trace_step}
 use Rattle.ppd_model.specs.LocalTags.{AreOwn}
 use Rattle.ppd_trace.specs.Runs.{tracer_of}
-use Rattle.ppd_trace.specs.Spending.{most_cells}
+use Rattle.ppd_trace.specs.Spending.{most_statement_cells}
 use Rattle.ppd_trace.specs.Subjects.{body_size}
 use Rattle.ppd_trace.proofs.steps.trace_process.Given as goal
 
@@ -15,5 +15,5 @@ invariant-loop-taken g l = record {
   own : AreOwn l.subject.program.now l.subject.plan.now l.tracer.proc (drop l.taken-index l.own);
   running : IsRunning l.subject.program.now l.tracer.proc;
   few : length l.tracer.events ≤ l.taken-index;
-  spent : l.steps ≤ l.fn.steps + 2 + 2 * body_size l.subject + (3 * most_cells l.subject.program.now + 12) * l.taken-index;
+  spent : l.steps ≤ l.fn.steps + 2 + 2 * body_size l.subject + (3 * most_statement_cells l.subject.program.now + 12) * l.taken-index;
 }

@@ -1,7 +1,7 @@
 use Rattle.std.proofs.Common.{◌≡◌, ◌+◌, ◌*◌, ◌<◌, length, get_or, ap, rules, subst, sym, arith}
 use Rattle.ppd_sem.proofs.Validity.{valid-numbered, valid-runnable}
 use Rattle.ppd_trace.specs.Settings.{Setup}
-use Rattle.ppd_trace.specs.Spending.{most_cells}
+use Rattle.ppd_trace.specs.Spending.{most_statement_cells}
 use Rattle.ppd_trace.specs.Traced.{IsTraceable}
 use Rattle.ppd_trace.proofs.Costs.{process_ends, process_on}
 use Rattle.ppd_trace.proofs.Traced.{one_traced}
@@ -25,7 +25,7 @@ loop-process-preserved g c =
     let there : p.functions + i < length p.bodies = omega (arith, story.processes) in
     record {
       traced = one_traced p c.setting.inside.plan.now c.setting.inside.budget s i own c.loop-process.events c.push.new.self c.in_ok-traced.traced _ inside is c.in_ok-traced.ensures.events c.in_ok-push.ensures.ok c.loop-process.invariant.traced;
-      spent = process_on p s (3 * most_cells p + 12) c.args.steps.now i own c.loop-process.steps c.tick-in-loop-process.new.self inside is there c.loop-process.invariant.spent
+      spent = process_on p s (3 * most_statement_cells p + 12) c.args.steps.now i own c.loop-process.steps c.tick-in-loop-process.new.self inside is there c.loop-process.invariant.spent
           (omega (arith, c.tick.ensures, c.in_ok-traced.ensures.cost, c.tick-in-loop-process.ensures));
     }
 
@@ -35,7 +35,7 @@ returns-in_err-traced-clause-cost g c =
     let own = c.as_slice-own.result.now in
     let story : IsTraceable p c.setting.inside.plan.now c.setting.inside.budget c.args.told.now.story = subst (λ (v : Setup). IsTraceable v.program v.plan v.budget c.args.told.now.story) (sym c.setting.view_is) c.requires.story in
     let is : own ≡ get_or c.args.told.now.story.steps c.loop-process.process own = search rules in
-    rw (← c.setting.view_is) (process_ends p c.args.told.now.story (3 * most_cells p + 12) c.args.steps.now c.loop-process.process own c.loop-process.steps c.trace_process.new.steps
+    rw (← c.setting.view_is) (process_ends p c.args.told.now.story (3 * most_statement_cells p + 12) c.args.steps.now c.loop-process.process own c.loop-process.steps c.trace_process.new.steps
     (omega (arith, ap length c.as_slice-lists.ensures)) is (omega (arith, story.processes, ap length c.as_slice-lists.ensures)) c.loop-process.invariant.spent
     (omega (arith, c.tick.ensures, c.in_err-traced.ensures.cost)))
 
@@ -45,6 +45,6 @@ returns-in_err-push-clause-cost g c =
     let own = c.as_slice-own.result.now in
     let story : IsTraceable p c.setting.inside.plan.now c.setting.inside.budget c.args.told.now.story = subst (λ (v : Setup). IsTraceable v.program v.plan v.budget c.args.told.now.story) (sym c.setting.view_is) c.requires.story in
     let is : own ≡ get_or c.args.told.now.story.steps c.loop-process.process own = search rules in
-    rw (← c.setting.view_is) (process_ends p c.args.told.now.story (3 * most_cells p + 12) c.args.steps.now c.loop-process.process own c.loop-process.steps c.tick-in-loop-process.new.self
+    rw (← c.setting.view_is) (process_ends p c.args.told.now.story (3 * most_statement_cells p + 12) c.args.steps.now c.loop-process.process own c.loop-process.steps c.tick-in-loop-process.new.self
     (omega (arith, ap length c.as_slice-lists.ensures)) is (omega (arith, story.processes, ap length c.as_slice-lists.ensures)) c.loop-process.invariant.spent
     (omega (arith, c.tick.ensures, c.in_ok-traced.ensures.cost, c.tick-in-loop-process.ensures)))

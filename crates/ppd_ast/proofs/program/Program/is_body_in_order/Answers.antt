@@ -5,10 +5,11 @@ use Rattle.ppd_ast.specs.Counting.{counted}
 use Rattle.ppd_ast.specs.declared.program.Stmt.{Stmt}
 use Rattle.ppd_ast.proofs.Countings.{counted_is_range, range_is_counted, is_that, that_is}
 use Rattle.ppd_ast.proofs.program.Program.is_body_in_order.Goals as goal
+use Rattle.ppd_ast.specs.declared.limits.TheConstants.{MOST_NESTING}
 
 pub returns : goal.returns
 returns c =
-    let order : List Stmt → List ℕ → List ℕ = λ ss l. flat_map (preorder 64 ss) l in
+    let order : List Stmt → List ℕ → List ℕ = λ ss l. flat_map (preorder MOST_NESTING ss) l in
     let list : List ℕ = order c.args.self.now.stmts c.args.body.now.top in
     let same : c.counted_in.result ≡ counted list c.args.body.now.first =
     c.counted_in.ensures ∙ ap (λ (ss : List Stmt). counted (order ss c.as_slice.result.now) c.args.body.now.first) c.as_slice-stmts.ensures

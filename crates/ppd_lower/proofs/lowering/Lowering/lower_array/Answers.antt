@@ -1,6 +1,7 @@
 use Rattle.std.proofs.Common.{◌∙◌, sym, ap, ◌++◌}
 use Rattle.std.proofs.lemmas.List.{append-nil}
 use Rattle.ppd_ast.specs.declared.program.Kind.TheVariants as K
+use Rattle.ppd_ast.specs.declared.limits.TheConstants.{MOST_LOCAL_CELLS}
 use Rattle.ppd_resolve.specs.declared.fault.Cause.TheVariants.{BadSize}
 use Rattle.ppd_resolve.specs.Fitted.{as_short}
 use Rattle.ppd_lower.specs.Code as C
@@ -16,7 +17,7 @@ pub returns-clause-wrote : goal.returns-clause-wrote
 returns-clause-wrote g c =
     let u = c.args.self.now.out.now.table in
     let twice = twice_faults (innermost c.args.self.now.frame.now.scopes) (record { text = c.args.label.text.now; place = c.args.label.place }) in
-    let size = size_faults 1 256 (record { value = c.args.size.value; place = c.args.size.place }) in
+    let size = size_faults 1 MOST_LOCAL_CELLS (record { value = c.args.size.value; place = c.args.size.place }) in
     both_ok c.put_stmt.result _ _ _ c.put_stmt.ensures.stmts c.put_stmt.ensures.row
     (λ t o. wrote_act c.args.site.body c.args.site.parent c.args.label.place (C.clear c.args.self.now.frame.now.cells (as_short c.args.size.value)) (K.Zero c.args.self.now.frame.now.cells c.as_short-len.result) (twice ++ size) u c.put_stmt.new.out.table c.args.self.now.out.now.row c.put_stmt.new.out.row
     (c.put_stmt.ensures.exprs ∙ sym (append-nil u.exprs))
