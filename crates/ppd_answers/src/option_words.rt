@@ -10,7 +10,7 @@ use std::thread::Threads;
 /// Words, with the name, the budget, `leaf` and `loops` that they give.
 type Row = (&'static [&'static str], &'static str, u32, u16, u16);
 
-const USAGE: &[u8] = b"usage: ppd flow|run|debug|show|drill\n";
+const USAGE: &[u8] = b"usage: ppd flow|run|debug|show|drill|slice\n";
 
 const NONE: &[u8] = &[];
 

@@ -1,14 +1,18 @@
 -- Views: how they begin, go on and are committed.
 use Rattle.std.specs.Prelude.{slice_get}
-use Rattle.std.proofs.Common.{◌≡◌, ℕ, zero, suc, ◌+◌, ◌-◌, ◌<◌, List, length, Some, ap, sym, ◌∙◌, subst, arith}
+use Rattle.std.proofs.Common.{◌≡◌, ℕ, zero, suc, ◌+◌, ◌-◌, ◌<◌, List, length, Option, Some, ap, sym, ◌∙◌, subst, arith}
 use Rattle.std.proofs.lemmas.Option.{slice_get_within}
 use Rattle.ppd_ast.specs.declared.plan.Plan.{Plan}
 use Rattle.ppd_ast.specs.declared.program.Program.{Program}
 use Rattle.ppd_sem.specs.declared.proc.Answer.TheVariants.{Go}
+use Rattle.ppd_sem.specs.declared.proc.Need.{Need}
 use Rattle.ppd_sem.specs.declared.proc.Need.TheVariants.{Plain}
 use Rattle.ppd_sem.specs.declared.proc.Proc.{Proc}
+use Rattle.ppd_sem.specs.Printed.{unprinted}
 use Rattle.ppd_sem.specs.Process.{act, need_of}
 use Rattle.ppd_sem.specs.Runs.{IsNumbered, IsRunnable, IsRunning}
+use Rattle.ppd_sem.proofs.Printed.{need_unprinted}
+use Rattle.ppd_model.specs.World.{need, need_at}
 use Rattle.ppd_world.specs.Plain.{GoesPlainly}
 use Rattle.ppd_world.specs.Running.{IsHeld, Running}
 use Rattle.ppd_world.proofs.Processes.{reached_count}
@@ -23,9 +27,9 @@ goes_more : (program : Program) (plan : Plan) (n : ℕ) (s t : Proc) → GoesPla
 goes_more program plan zero s t g e = (ap (λ (x : Proc). need_of program plan x) g ∙ e, ap (λ (x : Proc). act program plan x Go) g)
 goes_more program plan (suc n) s t g e = (g.0, goes_more program plan n (act program plan s Go) t g.1 e)
 
-pub view_advanced : (program : Program) (plan : Plan) (budget : ℕ) (p : Program) (q : Plan) (v : Seen) → IsView program plan budget p q v → HasMore program plan v
-    → (next : Proc) → next ≡ act p q v.after Go → IsRunning p next → IsView program plan budget p q (record v { after = next; count = v.count + 1 })
-view_advanced program plan budget p q v is can next e running =
+pub view_advanced : (program : Program) (plan : Plan) (budget : ℕ) (p : Program) (q : Plan) (n : Need) (v : Seen) → IsView program plan budget p q n v → HasMore program plan v
+    → (next : Proc) → next ≡ act p q v.after Go → IsRunning p next → (then : Need) → then ≡ need_of p q next → IsView program plan budget p q then (record v { after = next; count = v.count + 1 })
+view_advanced program plan budget p q n v is can next e running then need =
     let same : next ≡ act program plan v.after Go = e ∙ ap (λ (x : Program). act x q v.after Go) is.is_program ∙ ap (λ (x : Plan). act program x v.after Go) is.is_plan in
     let more : suc v.count ≡ v.count + 1 = omega arith in
     let few : v.count < MOST_VIEW_STEPS = can.few in
@@ -37,16 +41,21 @@ view_advanced program plan budget p q v is can next e running =
       worker = is.worker;
       running = running;
       is_budget = is.is_budget;
+      is_unprinted = is.is_unprinted;
       goes = subst (λ (n : ℕ). GoesPlainly program plan v.before n next) more
           (subst (λ (x : Proc). GoesPlainly program plan v.before (suc v.count) x) (sym same) (goes_more program plan v.count v.before v.after is.goes can.plain));
       few = omega arith;
+      is_need = need;
     }
 
 -- ---- a fresh one
 
-pub fresh_view : (program : Program) (plan : Plan) (budget : ℕ) (r : Running) (h : List ℕ) (p : Program) (q : Plan) (w : ℕ) (s a b : Proc) → IsHeld program plan budget r h → slice_get r.world.procs w ≡ Some s → p ≡ r.program → q ≡ r.plan → a ≡ s → b ≡ s
-    → IsView program plan budget p q (record { worker = w; before = a; after = b; count = 0 })
-fresh_view program plan budget r h p q w s a b held there e f g k =
+running_unprinted : (program : Program) (s : Proc) → IsRunning program s → IsRunning program (unprinted s)
+running_unprinted program s h = record { todo = h.todo; frames = h.frames; below = h.below; steps = h.steps; spent = h.spent }
+
+pub fresh_view : (program : Program) (plan : Plan) (budget : ℕ) (r : Running) (h : List ℕ) (p : Program) (q : Plan) (w : ℕ) (s a b : Proc) → IsHeld program plan budget r h → slice_get r.world.procs w ≡ Some s → p ≡ r.program → q ≡ r.plan → a ≡ unprinted s → b ≡ unprinted s → need r.program r.plan r.world w ≡ Plain
+    → IsView program plan budget p q Plain (record { worker = w; before = a; after = b; count = 0 })
+fresh_view program plan budget r h p q w s a b held there e f g k plain =
     let within : w < length r.world.procs = slice_get_within r.world.procs w s there in
     let own : w < length r.program.bodies - r.program.functions = omega (arith, reached_count r held.reached) in
     record {
@@ -55,16 +64,19 @@ fresh_view program plan budget r h p q w s a b held there e f g k =
       runnable = subst (λ (x : Program). IsRunnable x) (sym e) (runnable r held.reached);
       numbered = subst (λ (x : Plan). IsNumbered x) (sym f) (numbered r held.reached);
       worker = subst (λ (x : Program). w < length x.bodies - x.functions) held.is_program own;
-      running = subst (λ (x : Program). IsRunning x b) (sym e) (subst (λ (x : Proc). IsRunning r.program x) (sym k) (of_running r w s held.reached there));
+      running = subst (λ (x : Program). IsRunning x b) (sym e) (subst (λ (x : Proc). IsRunning r.program x) (sym k) (running_unprinted r.program s (of_running r w s held.reached there)));
       is_budget = ap (λ (x : Proc). x.budget) g ∙ of_budget r w s held.reached there ∙ held.is_budget;
+      is_unprinted = ap (λ (x : Proc). x.prints) g;
       goes = g ∙ sym k;
       few = omega arith;
+      is_need = sym (ap (λ (x : Program). need_of x q b) e ∙ ap (λ (x : Plan). need_of r.program x b) f ∙ ap (λ (x : Proc). need_of r.program r.plan x) k
+          ∙ need_unprinted r.program r.plan s ∙ ap (λ (o : Option Proc). need_at r.program r.plan o) (sym there) ∙ plain);
     }
 
 -- ---- a commit
 
 -- the worker is there
-pub worker_there : (program : Program) (plan : Plan) (budget : ℕ) (p : Program) (q : Plan) (r : Running) (h : List ℕ) (v : Seen) → IsHeld program plan budget r h → IsView program plan budget p q v → v.worker < length r.world.procs
-worker_there program plan budget p q r h v held is =
+pub worker_there : (program : Program) (plan : Plan) (budget : ℕ) (p : Program) (q : Plan) (r : Running) (h : List ℕ) (n : Need) (v : Seen) → IsHeld program plan budget r h → IsView program plan budget p q n v → v.worker < length r.world.procs
+worker_there program plan budget p q r h n v held is =
     let own : v.worker < length r.program.bodies - r.program.functions = subst (λ (x : Program). v.worker < length x.bodies - x.functions) (sym held.is_program) is.worker in
     omega (arith, reached_count r held.reached)

@@ -1,11 +1,12 @@
 -- A process on a copy, which goes on by Plain steps, and their commit.
-use Rattle.std.specs.Prelude.{◌≡◌, ◌≢◌, ℕ, ◌+◌, ◌-◌, ◌<◌, ◌≤◌, ◌++◌, length, replicate, slice_get, Option, Some, None}
+use Rattle.std.specs.Prelude.{◌≡◌, ◌≢◌, ℕ, ◌+◌, ◌-◌, ◌<◌, ◌≤◌, [], ◌++◌, length, replicate, slice_get, Option, Some, None}
 use Rattle.ppd_ast.specs.declared.plan.Plan.{Plan}
 use Rattle.ppd_ast.specs.declared.program.Program.{Program}
 use Rattle.ppd_sem.specs.declared.proc.Answer.TheVariants.{Go}
 use Rattle.ppd_sem.specs.declared.proc.Need.{Need}
 use Rattle.ppd_sem.specs.declared.proc.Need.TheVariants.{Plain}
 use Rattle.ppd_sem.specs.declared.proc.Proc.{Proc}
+use Rattle.ppd_sem.specs.Printed.{unprinted}
 use Rattle.ppd_sem.specs.Process.{act, need_of}
 use Rattle.ppd_sem.specs.Runs.{IsNumbered, IsRunnable, IsRunning}
 use Rattle.ppd_model.specs.World.{need}
@@ -17,7 +18,8 @@ use Rattle.ppd_book.specs.Held.{Held}
 
 -- ---- a view
 
--- a worker's process: its state when the view was made, and its state after so many steps
+-- a worker's process: its state when the view was made, and its state after so many steps, each without what it had
+-- printed before the view
 pub record Seen : Type 0 where
   pub worker : ℕ
   pub before : Proc
@@ -25,8 +27,9 @@ pub record Seen : Type 0 where
   pub count : ℕ
 
 -- with these tables, which are the run's: the worker is a process of the program, with this budget, and it comes
--- from the first state to the second by that many Plain steps, not more than a view goes on by
-pub record IsView (program : Program) (plan : Plan) (budget : ℕ) (p : Program) (q : Plan) (v : Seen) : Type 0 where
+-- from the first state, which printed nothing, to the second by that many Plain steps, not more than a view goes on
+-- by; this is what it needs there
+pub record IsView (program : Program) (plan : Plan) (budget : ℕ) (p : Program) (q : Plan) (n : Need) (v : Seen) : Type 0 where
   pub is_program : p ≡ program
   pub is_plan : q ≡ plan
   pub runnable : IsRunnable p
@@ -34,8 +37,10 @@ pub record IsView (program : Program) (plan : Plan) (budget : ℕ) (p : Program)
   pub worker : v.worker < length program.bodies - program.functions
   pub running : IsRunning p v.after
   pub is_budget : v.before.budget ≡ budget
+  pub is_unprinted : v.before.prints ≡ []
   pub goes : GoesPlainly program plan v.before v.count v.after
   pub few : v.count ≤ MOST_VIEW_STEPS
+  pub is_need : n ≡ need_of p q v.after
 
 -- the next step is Plain, and there were fewer than a view goes on by
 pub record HasMore (program : Program) (plan : Plan) (v : Seen) : Type 0 where
@@ -52,23 +57,32 @@ advanced program plan v = record v { after = act program plan v.after Go; count 
 abbrev pub need_in : Held → ℕ → Need
 need_in held p = need held.world.program held.world.plan held.world.world p
 
--- the process as it is, before its first step
+abbrev pub unprinted_if : Option Proc → Option Proc
+unprinted_if None = None
+unprinted_if (Some s) = Some (unprinted s)
+
+-- the state of process p, what it printed aside, if it is there
+abbrev pub state_in : Held → ℕ → Option Proc
+state_in held p = unprinted_if (slice_get held.world.world.procs p)
+
+-- before the first step of a view
 pub record IsFresh (worker : ℕ) (v : Seen) : Type 0 where
   pub is_worker : v.worker ≡ worker
   pub after : v.after ≡ v.before
   pub count : v.count ≡ 0
 
--- a fresh view where the worker's process needs nothing but itself, and none exactly where it needs more
+-- a fresh view of the state of the worker's process where this needs nothing but itself, and none exactly where it
+-- needs more
 abbrev pub IsViewed : Held → ℕ → Option Seen → Type 0
 IsViewed held worker None = need_in held worker ≢ Plain
 IsViewed held worker (Some v) =
-    (need_in held worker ≡ Plain) × (slice_get held.world.world.procs worker ≡ Some v.before) × IsFresh worker v
+    (need_in held worker ≡ Plain) × (state_in held worker ≡ Some v.before) × IsFresh worker v
 
 -- ---- its commit
 
 -- the process is in the state that was copied
 abbrev pub IsCurrent : Held → Seen → Type 0
-IsCurrent held v = slice_get held.world.world.procs v.worker ≡ Some v.before
+IsCurrent held v = state_in held v.worker ≡ Some v.before
 
 -- where it is in that state, it took the view's steps, and its number was written down once for each; where it is in
 -- another, nothing changed

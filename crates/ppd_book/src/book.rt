@@ -2,6 +2,7 @@ ghost use Rattle.std.specs.Prelude.{◌≡◌, [], IfOk, IfSome};
 ghost use Rattle.ppd_world.specs.Running.{IsOf, IsReached};
 
 use crate::commit::Commit;
+use crate::going::Going;
 use crate::job::Job;
 use crate::kept::Kept;
 use crate::turn::{Ran, Turn};
@@ -17,6 +18,7 @@ pub struct Book<'a, J: Job> {
 }
 
 impl<'a, J: Job> Book<'a, J> {
+    ghost use Rattle.ppd_book.specs.Gone.{IsOfWorker};
     ghost use Rattle.ppd_book.specs.Turns.{IsOfProcess, KeepsBudget, RanToEnd};
     ghost use Rattle.ppd_book.specs.Views.{IsFresh};
 
@@ -47,6 +49,14 @@ impl<'a, J: Job> Book<'a, J> {
         ensures { IfOk result (λ seen. IfSome seen (IsFresh worker)) }
     {
         self.kept.lock(rt).view(worker)
+    }
+
+    /// A view of this worker's process where there is one, else its turn, under one hold of the lock: `Kept::go`.
+    /// `Memory` is want of memory.
+    pub fn go<R: Wait>(&self, rt: &R, worker: u8) -> Result<Going<'a, J>, Memory>
+        ensures { IfOk result (IsOfWorker J.program worker) }
+    {
+        self.kept.lock(rt).go(worker)
     }
 
     /// Takes the steps of a view where its process is still in the state that was copied, under the lock:

@@ -3,6 +3,7 @@ ghost use Rattle.ppd_model.specs.Schedule.{IsOver};
 ghost use Rattle.ppd_world.specs.Running.{IsHeld, IsLowest, IsOf, IsReached, can_step, stepped};
 
 use crate::commit::Commit;
+use crate::going::Going;
 use crate::job::Job;
 use crate::turn::{Ran, Turn};
 use crate::view::View;
@@ -49,6 +50,7 @@ impl<'a, J: Job> Model for Kept<'a, J> {
 }
 
 impl<'a, J: Job> Kept<'a, J> {
+    ghost use Rattle.ppd_book.specs.Gone.{HasGone, IsOfWorker, WantsToGo};
     ghost use Rattle.ppd_book.specs.Turns.{CanGoOn, ClosesFrom, IsOfProcess, IsTurn, KeepsBudget};
     ghost use Rattle.ppd_book.specs.Views.{IsCommit, IsCurrent, IsViewed, need_in};
     ghost use Rattle.ppd_sem.specs.declared.proc.Need.TheVariants.{Plain};
@@ -121,8 +123,9 @@ impl<'a, J: Job> Kept<'a, J> {
         }
     }
 
-    /// The process of this worker on a copy, as it is now, where its next step needs nothing but the process
-    /// itself; none where it needs more. `Memory` is want of memory, and the next step needs nothing else.
+    /// The process of this worker on a copy, as it is now but for what it printed, where its next step needs
+    /// nothing but the process itself; none where it needs more. `Memory` is want of memory, and the next step
+    /// needs nothing else.
     pub fn view(&self, worker: u8) -> Result<Option<View<'a, J>>, Memory>
         ensures view { IfOk result (IsViewed self.now worker) }
         ensures cause { OnErr result (need_in self.now worker ≡ Plain) }
@@ -135,11 +138,26 @@ impl<'a, J: Job> Kept<'a, J> {
             program: self.world.program(),
             plan: self.world.plan(),
             worker,
-            before: proc.copy()?,
-            after: proc.copy()?,
+            before: proc.copy_unprinted()?,
+            after: proc.copy_unprinted()?,
+            need: Need::Plain,
             count: 0,
             of: PhantomData,
         }))
+    }
+
+    /// A view of this worker's process where there is one, else its turn: `Kept::view`, and where that gives none
+    /// `Kept::turn`. `Memory` is want of memory: nothing changes.
+    pub fn go(&mut self, worker: u8) -> Result<Going<'a, J>, Memory>
+        ensures going { IfOk result (HasGone self.old self.new worker) }
+        ensures worker { IfOk result (IsOfWorker J.program worker) }
+        ensures same { OnErr result (self.new ≡ self.old) }
+        ensures cause { OnErr result (WantsToGo self.old worker) }
+    {
+        match self.view(worker)? {
+            Some(view) => Ok(Going::Viewed(view)),
+            None => Ok(Going::Turned(self.turn(worker)?)),
+        }
     }
 
     /// Takes the steps of a view at once, and writes its worker's number down once for each, where the process
@@ -156,14 +174,19 @@ impl<'a, J: Job> Kept<'a, J> {
             worker,
             before,
             after,
+            need: _,
             count,
             of: _,
         } = view;
-        if !self.world.proc(worker).same(&before) {
+        if !self.world.proc(worker).same_unprinted(&before) {
             return Ok(Commit::Stale);
         }
+        let first = self.schedule.len();
         write_down(&mut self.schedule, worker, count)?;
-        self.world.put(worker, after, count);
+        if self.world.put_printing(worker, after, count).is_err() {
+            self.schedule.truncate(first);
+            return Err(Memory);
+        }
         Ok(Commit::Done)
     }
 

@@ -2,14 +2,15 @@ ghost use Rattle.std.specs.Prelude.{◌≡◌, ◌↔◌, IsTrue, OnErr, OnOk};
 
 use crate::job::Job;
 use ppd_ast::{Memory, Plan, Program};
-use ppd_sem::{Answer, Need, Proc, feed, look};
+use ppd_sem::{Answer, Need, Proc, look, meet};
 use std::marker::{Model, PhantomData};
 
 /// Steps that a view goes on by, at most.
 pub const MOST_VIEW_STEPS: u32 = 64;
 
 /// A process of the run that `J` names, on a copy: its worker's number, its state when the view was made, the
-/// state that it came to since by steps that need nothing but the process itself, and how many these were.
+/// state that it came to since by steps that need nothing but the process itself, what it needs there, and how many
+/// steps these were.
 #[derive(Drop)]
 pub struct View<'a, J: Job> {
     pub(crate) program: &'a Program,
@@ -17,6 +18,7 @@ pub struct View<'a, J: Job> {
     pub(crate) worker: u8,
     pub(crate) before: Proc,
     pub(crate) after: Proc,
+    pub(crate) need: Need,
     pub(crate) count: u32,
     pub(crate) of: PhantomData<J>,
 }
@@ -28,7 +30,7 @@ impl<'a, J: Job> Model for View<'a, J> {
 
     ghost view = { λ v. record { worker = v.worker; before = v.before; after = v.after; count = v.count } };
 
-    ghost invariant = { λ v. IsView J.program J.plan J.budget v.program.now v.plan.now
+    ghost invariant = { λ v. IsView J.program J.plan J.budget v.program.now v.plan.now v.need
         (record { worker = v.worker; before = v.before; after = v.after; count = v.count }) };
 }
 
@@ -40,8 +42,7 @@ impl<'a, J: Job> View<'a, J> {
     pub fn more(&self) -> bool
         ensures { IsTrue result ↔ HasMore J.program J.plan self.now }
     {
-        self.count < MOST_VIEW_STEPS
-            && matches!(look(self.program, self.plan, &self.after), Need::Plain)
+        self.count < MOST_VIEW_STEPS && matches!(self.need, Need::Plain)
     }
 
     /// Takes one step on the copy. `Memory` is want of memory: the view is as before.
@@ -50,7 +51,14 @@ impl<'a, J: Job> View<'a, J> {
         ensures ok { OnOk result (self.new ≡ advanced J.program J.plan self.old) }
         ensures err { OnErr result (self.new ≡ self.old) }
     {
-        feed(self.program, self.plan, &mut self.after, &Answer::Go)?;
+        meet(
+            self.program,
+            self.plan,
+            &mut self.after,
+            self.need,
+            &Answer::Go,
+        )?;
+        self.need = look(self.program, self.plan, &self.after);
         self.count += 1;
         Ok(())
     }

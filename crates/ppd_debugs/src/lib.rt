@@ -1,4 +1,4 @@
-//! The commands `run` and `debug` on worked recordings and failing devices: tests.
+//! The commands `run`, `debug` and `slice` on worked recordings and failing devices: tests.
 #![tactic(auto)]
 
 #[cfg(test)]
@@ -9,3 +9,5 @@ mod recordings;
 mod refusals;
 #[cfg(test)]
 mod replays;
+#[cfg(test)]
+mod slices;

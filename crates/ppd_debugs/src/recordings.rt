@@ -69,7 +69,7 @@ const FAILURES: [(&[&str], u32, u8, &[u8]); 6] = [
         &["run", "row1.c"],
         9,
         2,
-        b"usage: ppd flow|run|debug|show|drill\n",
+        b"usage: ppd flow|run|debug|show|drill|slice\n",
     ),
 ];
 

@@ -1,6 +1,6 @@
 mod Counted
 mod Standing
-mod Before
-mod WritingEdges
+pub mod Before
+pub mod WritingEdges
 mod RecordedWrites
 mod MissingWrites

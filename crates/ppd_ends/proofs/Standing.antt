@@ -50,20 +50,20 @@ module _ (past : Past) (p k : ℕ) (h : IsIndexOf past.plan.now past.logs.now pa
       → first_or entries o ≡ first_edge entries k
   first_is o e =
       ap (first_or entries) e ∙ sym (first_by entries (slice_get (rows_at past.index.now.tables p) k))
-      ∙ ap (begins_in entries) (sym (extent_at past p k h))
+      ∙ ap (begins_in entries) (sym (extent_at past.plan.now past.logs.now past.index.now.tables p k h))
 
   pub inside_is : (o : Option Interval) → o ≡ option_map interval_of (slice_get (rows_at past.index.now.tables p) k)
       → inside_or entries o ≡ syncs_inside entries (slice_get (extents entries) k)
   inside_is o e =
       ap (inside_or entries) e ∙ sym (inside_by entries (slice_get (rows_at past.index.now.tables p) k))
-      ∙ ap (syncs_inside entries) (sym (extent_at past p k h))
+      ∙ ap (syncs_inside entries) (sym (extent_at past.plan.now past.logs.now past.index.now.tables p k h))
 
   pub stands_is : (n : ℕ) (o : Option Interval)
       → o ≡ option_map interval_of (slice_get (rows_at past.index.now.tables p) k)
       → stands_or n o ≡ stands_there n (slice_get (extents entries) k)
   stands_is n o e =
       ap (stands_or n) e ∙ sym (stands_by n (slice_get (rows_at past.index.now.tables p) k))
-      ∙ ap (stands_there n) (sym (extent_at past p k h))
+      ∙ ap (stands_there n) (sym (extent_at past.plan.now past.logs.now past.index.now.tables p k h))
 
 -- ---- loops over lists
 

@@ -34,7 +34,7 @@ use Rattle.ppd_flow.proofs.OfRuns.{at_each_log, gives_edges, is_seen, seens_are}
 module _ (law : ReplaysAreSeen) (past : Past) (policy : Policy) (h : List ℕ) (v : IsValid past.program.now) (r : IsOfRun past policy h) where
   own_steps : (p i : ℕ) → replayed_steps past p i ≡ steps_in (slice_get (splits_in past h) p) i
   own_steps p i =
-      ap (λ (logs : Logs). own_steps_of past.program.now past.plan.now past.budget (get_or logs.lists p []) i) r.logs_are
+      ap (λ (logs : Logs). own_steps_of past.program.now past.plan.now past.budget (get_or logs.lists p []) i) r.cut_are
       ∙ at_each_log past.program.now past.plan.now past.budget (story_in past h)
       (λ es x. own_steps_of past.program.now past.plan.now past.budget es i ≡ steps_in x i) refl 0
       (told past.program.now past.plan.now past.budget h).moments

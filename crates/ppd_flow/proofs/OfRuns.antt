@@ -81,12 +81,12 @@ module _ (law : ReplaysAreSeen) (past : Past) (policy : Policy) (h : List ℕ) (
 
   pub seens_are : seens_in past ≡ all_seen program plan budget h
   seens_are =
-      ap (λ (logs : Logs). map (λ entries. seen_by program plan budget entries) logs.lists) r.logs_are
+      ap (λ (logs : Logs). map (λ entries. seen_by program plan budget entries) logs.lists) r.cut_are
       ∙ all_from program plan budget (story_in past h) (λ entries. seen_by program plan budget entries) 0 (told program plan budget h).moments (λ p x e. (is_seen p x e).seen)
 
   never : (p k : ℕ) → failed_in past p k ≡ None
   never p k =
-      ap (λ (logs : Logs). failed_at program plan budget (get_or logs.lists p []) k) r.logs_are
+      ap (λ (logs : Logs). failed_at program plan budget (get_or logs.lists p []) k) r.cut_are
       ∙ at_each_log program plan budget (story_in past h) (λ es x. failed_at program plan budget es k ≡ None) refl 0
       (told program plan budget h).moments (λ q x e. (is_seen q x e).never_fails k) p
 

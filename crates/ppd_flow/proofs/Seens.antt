@@ -14,4 +14,4 @@ at_process f d (es ∷ lists) (suc p) e = at_process f d lists p e
 
 pub same_seen : (past : Past) (p : ℕ) → seen_in past p ≡ seen_at (seens_in past) p
 same_seen past p =
-    sym (at_process (λ entries. seen_by past.program.now past.plan.now past.budget entries) (record { items = []; blocks = []; rounds = [] }) past.logs.now.lists p refl)
+    sym (at_process (λ entries. seen_by past.program.now past.plan.now past.budget entries) (record { items = []; blocks = []; rounds = [] }) past.cut.now.lists p refl)

@@ -20,10 +20,11 @@ use Rattle.ppd_shared_edges.specs.Assembled.{HasOwnParts}
 use Rattle.ppd_walk.specs.SharedCells.{IsMemoryOr}
 use Rattle.ppd_flow.specs.Answers.{IsEdges}
 
--- what is kept of a whole schedule without a race, under the plan of a policy
+-- what is kept of a whole schedule without a race, under the plan of a policy, of which no log is cut
 pub record IsOfRun (past : Past) (policy : Policy) (h : List ℕ) : Type 0 where
   pub plan_is : past.plan.now ≡ plan_of past.program.now policy
   pub logs_are : past.logs.now ≡ closed_logs past.program.now past.plan.now past.budget h
+  pub cut_are : past.cut.now ≡ closed_logs past.program.now past.plan.now past.budget h
   pub whole : IsWhole past.program.now past.plan.now past.budget h
   pub no_race : races past.program.now past.plan.now past.budget h ≡ []
 

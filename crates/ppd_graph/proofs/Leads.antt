@@ -12,9 +12,10 @@ use Rattle.ppd_model.specs.HappenedBefore.{node, own_syncs, sync_at}
 use Rattle.ppd_model.specs.Numbers.{sync}
 use Rattle.ppd_model.specs.Synchronizations.{Sync, is_number, leads, leads_at, led_to}
 use Rattle.ppd_sem.specs.Tables.{capacity_of}
+use Rattle.ppd_model.proofs.SameSyncs.{same_is, same_self}
 use Rattle.ppd_graph.specs.declared.paired.Paired.TheVariants.{Nothing}
 use Rattle.ppd_graph.specs.Partners.{IsOnce, PartnersAreFound, found, found_from, found_in_row, paired_by, pairs_of, partner_of, wanted, wanted_by}
-use Rattle.ppd_graph.specs.Refusals.{same_sync}
+use Rattle.ppd_model.specs.SameSyncs.{same_sync}
 use Rattle.ppd_graph.specs.Times.{ArePartners, node_of, pair_at}
 
 pub some_is : {A : Type 0} (x y : A) → Some x ≡ Some y → x ≡ y
@@ -73,30 +74,6 @@ wanted_leads program s k o n e =
     (subst (λ x. IsTrue (is_number (led_to (capacity_of program x) s.kind k s.number) n)) (sym l.0) l.1)
 
 -- ---- where one stands
-
-pub same_kind_is : (a b : SyncKind) → IsTrue (same_kind a b) → a ≡ b
-same_kind_is P P h = refl
-same_kind_is V V h = refl
-same_kind_is Send Send h = refl
-same_kind_is Recv Recv h = refl
-same_kind_is Done Done h = refl
-same_kind_is a b h = absurd (true≢false (sym h))
-
-pub same_kind_self : (a : SyncKind) → IsTrue (same_kind a a)
-same_kind_self P = refl
-same_kind_self V = refl
-same_kind_self Send = refl
-same_kind_self Recv = refl
-same_kind_self Done = refl
-
-pub same_is : (a b : Sync) → IsTrue (same_sync a b) → a ≡ b
-same_is a b h =
-    let two = and_parts (same_kind a.kind b.kind && nat_eq a.object b.object) (nat_eq a.number b.number) h in
-    let one = and_parts (same_kind a.kind b.kind) (nat_eq a.object b.object) two.0 in
-    ap (λ k. sync k a.object a.number) (same_kind_is a.kind b.kind one.0) ∙ ap (λ o. sync b.kind o a.number) (eqb-true a.object b.object one.1) ∙ ap (sync b.kind b.object) (eqb-true a.number b.number two.1)
-
-pub same_self : (a : Sync) → IsTrue (same_sync a a)
-same_self a = and_from (same_kind a.kind a.kind && nat_eq a.object a.object) (nat_eq a.number a.number) (and_from (same_kind a.kind a.kind) (nat_eq a.object a.object) (same_kind_self a.kind) (eq-eqb a.object a.object refl)) (eq-eqb a.number a.number refl)
 
 -- what is found in a row stands there
 row_sound : (s : Sync) (p i : ℕ) (row : List Sync) (a : NodeId) → found_in_row s p i row ≡ Some a → (k : ℕ) × (a ≡ node p (i + k)) × (slice_get row k ≡ Some s)

@@ -19,7 +19,8 @@ use Rattle.ppd_graph.specs.declared.placed.Placed.{Placed}
 use Rattle.ppd_graph.specs.ByNumber.{AllGreatest, KeepsAll, node_among, node_wanted, numbered_kept, partner_kept}
 use Rattle.ppd_model.specs.RecordedSets.{record_in, sync_in}
 use Rattle.ppd_graph.specs.Partners.{found, found_from, found_in_row, paired_by, pairs_of, partner_of, wanted}
-use Rattle.ppd_graph.specs.Refusals.{Numbered, count_on, missing, missing_by, numbered_in, numbers_of, place, placed, placed_from, placed_lists, same_sync, sync_placed}
+use Rattle.ppd_graph.specs.Refusals.{Numbered, count_on, missing, missing_by, numbered_in, numbers_of, place, placed, placed_from, placed_lists, sync_placed}
+use Rattle.ppd_model.specs.SameSyncs.{same_sync}
 
 -- ---- where the first stands
 

@@ -15,7 +15,8 @@ use Rattle.ppd_graph.specs.declared.placed.Placed.{Placed}
 use Rattle.ppd_graph.specs.declared.refusal.BadSync.{BadSync}
 use Rattle.ppd_graph.specs.declared.refusal.BadSync.TheVariants.{NumberTwice, Memory}
 use Rattle.ppd_graph.specs.Partners.{paired_by, wanted}
-use Rattle.ppd_graph.specs.Refusals.{Numbered, greatest, is_from_start, numbers_of, same_sync, sync_placed, twice_after}
+use Rattle.ppd_graph.specs.Refusals.{Numbered, greatest, is_from_start, numbers_of, sync_placed, twice_after}
+use Rattle.ppd_model.specs.SameSyncs.{same_sync}
 
 module _ {S : Type 0} where
   -- what a map has for an object and a number

@@ -13,7 +13,8 @@ use Rattle.ppd_sem.specs.Tables.{capacity_of}
 use Rattle.ppd_graph.specs.declared.paired.Paired.{Paired}
 use Rattle.ppd_graph.specs.declared.paired.Paired.TheVariants.{Nothing, Initial, Node}
 use Rattle.ppd_model.specs.RecordedSets.{record_in}
-use Rattle.ppd_graph.specs.Refusals.{placed, same_sync, twice_after}
+use Rattle.ppd_graph.specs.Refusals.{placed, twice_after}
+use Rattle.ppd_model.specs.SameSyncs.{same_sync}
 use Rattle.ppd_graph.specs.Times.{ArePartners}
 
 -- the one that leads to a synchronization by its number, by the capacity of its object: to a `P` the `V`, to

@@ -14,6 +14,7 @@ use Rattle.ppd_model.specs.declared.graph.NodeId.{NodeId}
 use Rattle.ppd_model.specs.FullTrace.{or_else}
 use Rattle.ppd_model.specs.HappenedBefore.{Before, node}
 use Rattle.ppd_model.specs.Numbers.{sync}
+use Rattle.ppd_model.specs.SameSyncs.{same_sync}
 use Rattle.ppd_model.specs.Synchronizations.{Sync}
 use Rattle.ppd_sem.specs.Tables.{capacity_of}
 use Rattle.ppd_graph.specs.declared.missing.Objects.{Objects}
@@ -70,9 +71,6 @@ without_object program [] = None
 without_object program (x ∷ xs) = if has_object program x.kind x.object then without_object program xs else Some x.at
 
 -- ---- a number twice
-
-abbrev pub same_sync : Sync → Sync → Bool
-same_sync a b = same_kind a.kind b.kind && nat_eq a.object b.object && nat_eq a.number b.number
 
 abbrev pub start_in : Option Sem → ℕ
 start_in None = 0

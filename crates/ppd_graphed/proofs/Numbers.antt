@@ -8,8 +8,9 @@ use Rattle.ppd_ast.specs.declared.status.SyncKind.{SyncKind}
 use Rattle.ppd_ast.specs.Members.{has}
 use Rattle.ppd_model.specs.Numbers.{sync}
 use Rattle.ppd_model.specs.Synchronizations.{Sync}
-use Rattle.ppd_graph.specs.Refusals.{absent, greatest, number_in, numbers_of, same_sync}
-use Rattle.ppd_graph.proofs.Leads.{same_is, same_kind_is, same_kind_self, same_self}
+use Rattle.ppd_graph.specs.Refusals.{absent, greatest, number_in, numbers_of}
+use Rattle.ppd_model.specs.SameSyncs.{same_sync}
+use Rattle.ppd_model.proofs.SameSyncs.{same_is, same_kind_is, same_kind_self, same_self}
 use Rattle.ppd_graphed.proofs.Flat.{stands}
 
 -- ---- a row of numbers that are all there

@@ -6,8 +6,9 @@ use Rattle.std.specs.List.{list_any}
 use Rattle.std.proofs.lemmas.Bool.{or_from, or_left, or_parts, or_right}
 use Rattle.ppd_ast.specs.declared.program.Program.{Program}
 use Rattle.ppd_model.specs.Synchronizations.{Sync}
-use Rattle.ppd_graph.specs.Refusals.{has_object, is_from_start, same_sync, sync_placed, twice_after, without_object}
-use Rattle.ppd_graph.proofs.Leads.{same_is, same_self}
+use Rattle.ppd_graph.specs.Refusals.{has_object, is_from_start, sync_placed, twice_after, without_object}
+use Rattle.ppd_model.specs.SameSyncs.{same_sync}
+use Rattle.ppd_model.proofs.SameSyncs.{same_is, same_self}
 use Rattle.ppd_graphed.proofs.Flat.{EachOnce, not_so, stands}
 
 -- none of the second list stands in the first

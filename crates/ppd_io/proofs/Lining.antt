@@ -1,10 +1,10 @@
 -- What is taken from a source in several reads, and how lines come out of bytes.
 use Rattle.std.specs.Prelude.{None, Some, Option, Bool, true, false, if◌then◌else◌, ◌==◌, Result, Ok, Err}
-use Rattle.std.proofs.Common.{◌≡◌, ◌≢◌, ◌<◌, ◌≤◌, ℕ, List, [], ◌∷◌, ◌++◌, length, ap, sym, ◌∙◌, refl, append_assoc, append-nil, arith, inl, inr}
+use Rattle.std.proofs.Common.{◌≡◌, ◌≢◌, ◌<◌, ◌≤◌, ℕ, List, [], ◌∷◌, ◌++◌, length, ap, sym, ◌∙◌, refl, append_assoc, append-nil, subst, arith, inl, inr}
 use Rattle.std.proofs.lemmas.Bool.{eqb-true, false_from_ne_true}
 use Rattle.ppd_ast.specs.declared.limits.TheConstants.{MOST_LINE_BYTES}
 use Rattle.ppd_io.specs.Content.{Takes}
-use Rattle.ppd_io.specs.Lines.{Took, HasNoNewline, lines_of, before_lines, Lined, EndsLine, GivesLine, TellsLine, IsLong}
+use Rattle.ppd_io.specs.Lines.{Took, HasNewline, HasNoNewline, lines_of, before_lines, Lined, EndsLine, GivesLine, TellsLine, IsLong}
 use Rattle.ppd_io.specs.declared.lines.LineError.{LineError}
 use Rattle.ppd_io.specs.declared.lines.LineError.TheVariants.{Failed, LongLine}
 
@@ -31,6 +31,14 @@ took_byte a b c was line held later byte h k =
 pub plain_byte : (line : List ℕ) (byte : ℕ) → HasNoNewline line → byte ≢ 10 → HasNoNewline (line ++ byte ∷ [])
 plain_byte [] byte h ne = (ne, tt)
 plain_byte (b ∷ line) byte h ne = (h.0, plain_byte line byte h.1 ne)
+
+pub holds_some : (bytes : List ℕ) → HasNewline bytes → bytes ≢ []
+holds_some [] h e = h
+holds_some (b ∷ bytes) h e = absurd (cc e)
+
+-- a newline that is not the first byte is among those after it
+pub later_newline : (bytes later : List ℕ) (byte : ℕ) → bytes ≡ byte ∷ later → byte ≢ 10 → HasNewline bytes → HasNewline later
+later_newline bytes later byte e ne h = elim (subst (λ (bs : List ℕ). HasNewline bs) e h) [ inl first ↦ absurd (ne first) | inr among ↦ among ]
 
 plain_is : (b : ℕ) → b ≢ 10 → (b == 10) ≡ false
 plain_is b ne = false_from_ne_true (b == 10) (λ h. ne (eqb-true b 10 h))

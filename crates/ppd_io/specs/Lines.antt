@@ -1,5 +1,5 @@
 -- The lines of bytes, and what a reader of lines takes from a source.
-use Rattle.std.specs.Prelude.{◌≡◌, ◌≢◌, ◌==◌, ◌<◌, ◌≤◌, ◌⊎◌, ℕ, List, [], ◌∷◌, ◌++◌, length, Bool, true, false, Option, Result, Ok, Err, IfSome, if◌then◌else◌}
+use Rattle.std.specs.Prelude.{◌≡◌, ◌≢◌, ◌==◌, ◌<◌, ◌≤◌, ◌⊎◌, ℕ, List, [], ◌∷◌, ◌++◌, length, Bool, true, false, Option, Some, None, Result, Ok, Err, IfSome, if◌then◌else◌}
 use Rattle.ppd_ast.specs.declared.limits.TheConstants.{MOST_LINE_BYTES}
 use Rattle.ppd_io.specs.Content.{Takes}
 use Rattle.ppd_io.specs.declared.lines.LineError.{LineError}
@@ -20,6 +20,11 @@ lines_of (b ∷ bs) = if b == 10 then [] ∷ lines_of bs else before_lines b (li
 abbrev pub HasNoNewline : List ℕ → Type 0
 HasNoNewline [] = Unit {0}
 HasNoNewline (b ∷ bs) = (b ≢ 10) × HasNoNewline bs
+
+-- a byte is a newline
+abbrev pub HasNewline : List ℕ → Type 0
+HasNewline [] = ⊥
+HasNewline (b ∷ bs) = (b ≡ 10) ⊎ HasNewline bs
 
 -- the line that was given last, the bytes that were read and belong to later lines, and whether the end was met,
 -- after which nothing is read
@@ -42,6 +47,12 @@ IsAtEnd left = IfSome left (λ bytes. bytes ≡ [])
 abbrev pub IsFilled : Bool → Option (List ℕ) → List ℕ → Type 0
 IsFilled true new held = held ≢ []
 IsFilled false new held = (held ≡ []) × IsAtEnd new
+
+-- the first of the bytes that were held is given, and the others are held
+abbrev pub IsOfHeld : {E : Type 0} → List ℕ → List ℕ → Result (Option ℕ) E → Type 0
+IsOfHeld old new (Ok (Some b)) = old ≡ b ∷ new
+IsOfHeld old new (Ok None) = ⊥
+IsOfHeld old new (Err e) = ⊥
 
 -- the end was met, and nothing is held
 pub record IsAtLinesEnd (new : Option (List ℕ)) (now : Lined) : Type 0 where

@@ -1,7 +1,7 @@
 ghost use Rattle.std.specs.Prelude.{◌≡◌, ◌≢◌, ◌↔◌, ◌<◌, [], ◌∷◌, length, IfOk, IsTrue, MatchOption, OnErr};
 ghost use Rattle.ppd_io.specs.Causes.{HasCause};
 ghost use Rattle.ppd_io.specs.declared.bytes.TheConstants.{CHUNK_BYTES};
-ghost use Rattle.ppd_io.specs.Lines.{Took, IsAtEnd, IsFilled};
+ghost use Rattle.ppd_io.specs.Lines.{Took, IsAtEnd, IsFilled, IsOfHeld};
 
 use crate::sink::Failed;
 use crate::source::Source;
@@ -75,11 +75,13 @@ impl ByteReader {
         self.at == self.end
     }
 
-    /// The next byte; none at the end. `Failed` comes only where the source's count of faults rose.
+    /// The next byte; none at the end. `Failed` comes only where the source's count of faults rose. Where bytes
+    /// are held, nothing is read.
     pub(crate) fn next<I: Source>(&mut self, source: &mut I) -> Result<Option<u8>, Failed>
         ensures byte { IfOk result (λ b. MatchOption b (Took (I.left source.old) (I.left source.new) self.old [] × (self.new ≡ []) × IsAtEnd (I.left source.new)) (λ byte. Took (I.left source.old) (I.left source.new) self.old (byte ∷ self.new))) }
         ensures err { OnErr result (Took (I.left source.old) (I.left source.new) self.old [] × (self.new ≡ [])) }
         ensures cause { HasCause (I.faults source.old) (I.faults source.new) result }
+        ensures quiet { self.old ≢ [] → (source.new ≡ source.old) × IsOfHeld self.old self.new result }
         ensures few { length self.new < CHUNK_BYTES }
     {
         if !self.is_empty() {

@@ -2,7 +2,7 @@ ghost use Rattle.std.specs.Prelude.{◌≡◌, [], true, false, length, IfOk, Is
 ghost use Rattle.ppd_ast.specs.declared.limits.TheConstants.{MOST_LINE_BYTES};
 ghost use Rattle.ppd_io.specs.Causes.{Rose};
 ghost use Rattle.ppd_io.specs.declared.bytes.TheConstants.{CHUNK_BYTES};
-ghost use Rattle.ppd_io.specs.Lines.{Fills, GivesLine, StaysOver, TellsLine};
+ghost use Rattle.ppd_io.specs.Lines.{Fills, GivesLine, HasNewline, StaysOver, TellsLine};
 
 use crate::bytes::ByteReader;
 use crate::source::Source;
@@ -53,6 +53,7 @@ fn fill_line<I: Source>(
     ensures filled { Fills (I.left source.old) (I.left source.new) bytes.old line.new.items bytes.new result }
     ensures cause { IsErrOf result LineError.Failed → Rose (I.faults source.old) (I.faults source.new) }
     ensures later { I.faults source.old ≤ I.faults source.new }
+    ensures quiet { HasNewline bytes.old → source.new ≡ source.old }
     ensures room { MOST_LINE_BYTES < vec_capacity line.new }
     ensures few { length bytes.new < CHUNK_BYTES }
 {
@@ -91,6 +92,7 @@ impl LineReader {
         ensures over { self.old.ended ≡ true → (result ≡ Ok false) × (source.new ≡ source.old) × StaysOver self.old self.new }
         ensures failed { IsErrOf result LineError.Failed → Rose (I.faults source.old) (I.faults source.new) }
         ensures later { I.faults source.old ≤ I.faults source.new }
+        ensures quiet { HasNewline self.old.held → source.new ≡ source.old }
         ensures few { length self.new.held < CHUNK_BYTES }
     {
         self.line.clear();
@@ -106,7 +108,7 @@ impl LineReader {
     ///
     /// `Failed` comes only where a read failed and the source's count of faults rose; `LongLine` exactly
     /// where the next line has more than 4,096 bytes. Of the bytes after the line fewer than `CHUNK_BYTES`
-    /// are read.
+    /// are read, and nothing is read where a whole line is held (more than a line's length never is).
     /// After an error the lines that follow mean nothing.
     pub fn next<I: Source>(&mut self, source: &mut I) -> Result<bool, LineError>
         ensures given { self.old.ended ≡ false → GivesLine (I.left source.old) (I.left source.new) self.old.held self.new result }
@@ -114,6 +116,7 @@ impl LineReader {
         ensures over { self.old.ended ≡ true → (result ≡ Ok false) × (source.new ≡ source.old) × StaysOver self.old self.new }
         ensures failed { IsErrOf result LineError.Failed → Rose (I.faults source.old) (I.faults source.new) }
         ensures later { I.faults source.old ≤ I.faults source.new }
+        ensures quiet { HasNewline self.old.held → source.new ≡ source.old }
         ensures few { length self.new.held < CHUNK_BYTES }
     {
         self.advance(source)

@@ -78,7 +78,7 @@ each_set P [] (suc i) y new h = h
 each_set P (x ∷ xs) zero y new h = (new, h.1)
 each_set P (x ∷ xs) (suc i) y new h = (h.0, each_set P xs i y new h.1)
 
-each_at : {A : Type 0} (P : A → Type 0) (xs : List A) (i : ℕ) (d : A) → P d → Each P xs → P (get_or xs i d)
+pub each_at : {A : Type 0} (P : A → Type 0) (xs : List A) (i : ℕ) (d : A) → P d → Each P xs → P (get_or xs i d)
 each_at P [] i d none h = none
 each_at P (x ∷ xs) zero d none h = h.0
 each_at P (x ∷ xs) (suc i) d none h = each_at P xs i d none h.1
@@ -98,18 +98,18 @@ each_drop P (x ∷ xs) h = h.1
 -- ---- earlier events
 
 module _ (p : ℕ) where
-  later : (j k : ℕ) (w : Tag) → j ≤ k → IsEarlier p j w → IsEarlier p k w
+  pub later : (j k : ℕ) (w : Tag) → j ≤ k → IsEarlier p j w → IsEarlier p k w
   later j k None le h = tt
   later j k (Some e) le h = (h.0, omega (arith, h.1))
 
-  abbrev IsEarlierTest : ℕ → Test → Type 0
+  abbrev pub IsEarlierTest : ℕ → Test → Type 0
   IsEarlierTest k x = IsEarlier p k (Some x.event)
 
   -- the tags, the call and the tests of an activation
-  record IsPast (k : ℕ) (x : Activation) : Type 0 where
-    call : IsEarlier p k x.call
-    tags : Each (IsEarlier p k) x.tags
-    tests : Each (IsEarlierTest k) x.tests
+  pub record IsPast (k : ℕ) (x : Activation) : Type 0 where
+    pub call : IsEarlier p k x.call
+    pub tags : Each (IsEarlier p k) x.tags
+    pub tests : Each (IsEarlierTest k) x.tests
 
   past_later : (j k : ℕ) (x : Activation) → j ≤ k → IsPast j x → IsPast k x
   past_later j k x le h = record {
@@ -169,7 +169,7 @@ module _ (p : ℕ) where
 
   -- ---- what an event names
 
-  top_past : (k : ℕ) (xs : List Activation) → Each (IsPast k) xs → Each (IsEarlier p k) (top_tags xs)
+  pub top_past : (k : ℕ) (xs : List Activation) → Each (IsPast k) xs → Each (IsEarlier p k) (top_tags xs)
   top_past k [] h = tt
   top_past k (x ∷ xs) h = h.0.tags
 
@@ -221,7 +221,7 @@ module _ (p : ℕ) where
       (run_past k (kind_of program s) (latest s x.tests) (latest_past k s x.tests h.tests))
       (else_past k (of_outer (parent_if (slice_get program.stmts s)) x.tests) x.call (outer_past k (parent_if (slice_get program.stmts s)) x.tests h.tests) h.call)
 
-  parent_past : (k : ℕ) (program : Program) (xs : List Activation) (todo : List Todo) → Each (IsPast k) xs → IsEarlier p k (parent_at program xs todo)
+  pub parent_past : (k : ℕ) (program : Program) (xs : List Activation) (todo : List Todo) → Each (IsPast k) xs → IsEarlier p k (parent_at program xs todo)
   parent_past k program [] todo h = tt
   parent_past k program (x ∷ xs) [] h = tt
   parent_past k program (x ∷ xs) (t ∷ ts) h = in_past k program t.stmt x h.0
@@ -234,9 +234,9 @@ module _ (p : ℕ) where
       let same : k + length (x ∷ xs) ≡ (k + 1) + length xs = omega arith in
       (h.0, one_more (k + 1) xs e h.1 (subst (λ (n : ℕ). NamesEarlier p n e) same new))
 
-  record IsGood (t : Tracing) : Type 0 where
-    past : Each (IsPast (length t.events)) t.activations
-    events : EachNamesEarlier p 0 t.events
+  pub record IsGood (t : Tracing) : Type 0 where
+    pub past : Each (IsPast (length t.events)) t.activations
+    pub events : EachNamesEarlier p 0 t.events
 
   module _ (program : Program) (plan : Plan) (story : Story) where
     named : (x : Taken) (t : Tracing) (e : Event) → Each (IsPast (length t.events)) t.activations → NamesEarlier p (length t.events) (traced_by program story x t e)
@@ -269,7 +269,7 @@ module _ (p : ℕ) where
     by_good x t Stopped g = g
     by_good x t n g = event_good x t g
 
-    step_good : (x : Taken) (t : Tracing) → IsGood t → IsGood (trace_step program plan story p t x)
+    pub step_good : (x : Taken) (t : Tracing) → IsGood t → IsGood (trace_step program plan story p t x)
     step_good x t g = let h : IsGood (trace_by program plan story p x x.need t) = by_good x t x.need g in record { past = h.past; events = h.events }
 
     fold_good : (t : Tracing) (xs : List Taken) → IsGood t → IsGood (fold (trace_step program plan story p) t xs)
@@ -280,7 +280,7 @@ module _ (p : ℕ) where
   none_past k [] = tt
   none_past k (v ∷ vs) = (tt, none_past k vs)
 
-  begun_past : (k : ℕ) (frames : List Frame) → Each (IsPast k) (map (λ f. record { call = None; tags = map (λ _. None) f.cells; tests = [] }) frames)
+  pub begun_past : (k : ℕ) (frames : List Frame) → Each (IsPast k) (map (λ f. record { call = None; tags = map (λ _. None) f.cells; tests = [] }) frames)
   begun_past k [] = tt
   begun_past k (f ∷ fs) = (record { call = tt; tags = none_past k f.cells; tests = tt }, begun_past k fs)
 

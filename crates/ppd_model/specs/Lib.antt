@@ -30,3 +30,4 @@ pub mod Rendezvous
 pub mod Items
 pub mod Extents
 pub mod Written
+pub mod SameSyncs

@@ -47,7 +47,7 @@ no_log plan (rows ∷ tables) (es ∷ lists) (suc p) k h le = no_log plan tables
 
 module _ (past : Past) (p k : ℕ) where
   abbrev entries : List Entry
-  entries = entries_at past.logs.now p
+  entries = entries_at past.cut.now p
 
   abbrev replayed : IntervalLog → Replayed
   replayed log = replay past.program.now past.plan.now log past.budget
@@ -56,12 +56,12 @@ module _ (past : Past) (p k : ℕ) where
   in_past o = replay_of past.program.now past.plan.now past.budget o
 
   -- an interval that is not there
-  pub given_none : (n : ℕ) → IsIndexOf past.plan.now past.logs.now past.index.now.tables
-      → length (rows_at past.index.now.tables p) ≤ k
+  pub given_none : (n : ℕ) → IsIndexOf past.plan.now past.cut.now past.cut_index.now.tables
+      → length (rows_at past.cut_index.now.tables p) ≤ k
       → IsFoundBy past ((p, k) ∷ []) (Ok (items_in past p k)) n n (Ok [])
   given_none n h le =
       let none : interval_log past.plan.now entries k
-      ≡ None = no_log past.plan.now past.index.now.tables past.logs.now.lists p k h le in
+      ≡ None = no_log past.plan.now past.cut_index.now.tables past.cut.now.lists p k h le in
       let items : items_in past p k ≡ [] = none_at (λ log. items_by (replayed log).answer)
       (indexed past.plan.now entries) k none in
       let steps : steps_in past p k ≡ 0 = ap (λ o. steps_of (in_past o)) none in

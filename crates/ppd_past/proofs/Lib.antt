@@ -1,6 +1,6 @@
 pub use Rattle.ppd_emulate.proofs.Theorem
-mod Lists
-mod Rounds
+pub mod Lists
+pub mod Rounds
 pub mod Runs
 pub mod Parents
 pub mod Outward

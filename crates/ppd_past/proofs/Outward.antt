@@ -6,6 +6,7 @@ use Rattle.std.proofs.lemmas.Option.{slice_get-map, unwrap_or-slice_get}
 use Rattle.ppd_ast.specs.declared.plan.Plan.{Plan}
 use Rattle.ppd_entry.specs.declared.entry.Entry.{Entry}
 use Rattle.ppd_entry.specs.IntervalLogs.{Indexed, indexed}
+use Rattle.ppd_entry.specs.declared.entry.Logs.{Logs}
 use Rattle.ppd_entry.specs.Entries.{entries_at}
 use Rattle.ppd_emul.specs.Replay.{replay}
 use Rattle.ppd_index.specs.declared.interval.Interval.{Interval}
@@ -45,24 +46,25 @@ parent_by : (o : Option Row) → unwrap_or (option_map (λ (z : Extent). z.paren
 parent_by None = refl
 parent_by (Some r) = refl
 
-module _ (past : Past) (p k : ℕ) (h : IsIndexOf past.plan.now past.logs.now past.index.now.tables) where
+-- the extents of an index's logs
+module _ (plan : Plan) (logs : Logs) (tables : List (List Row)) (p k : ℕ) (h : IsIndexOf plan logs tables) where
+  pub extent_at : slice_get (extents (entries_at logs p)) k ≡ option_map extent_of (slice_get (rows_at tables p) k)
+  extent_at =
+      ap (λ (xs : List Extent). slice_get xs k) (sym (rows_are plan tables logs.lists p h))
+      ∙ slice_get-map extent_of (rows_at tables p) k
+
+module _ (past : Past) (p k : ℕ) (h : IsIndexOf past.plan.now past.cut.now past.cut_index.now.tables) where
   abbrev rows : List Row
-  rows = rows_at past.index.now.tables p
+  rows = rows_at past.cut_index.now.tables p
 
   abbrev all : List Extent
-  all = extents (entries_at past.logs.now p)
-
-  pub extent_at : slice_get all k ≡ option_map extent_of (slice_get rows k)
-  extent_at =
-      ap (λ (xs : List Extent). slice_get xs k) (sym
-      (rows_are past.plan.now past.index.now.tables past.logs.now.lists p h))
-      ∙ slice_get-map extent_of rows k
+  all = extents (entries_at past.cut.now p)
 
   pub block_is : (o : Option Interval) → o ≡ option_map interval_of (slice_get rows k)
       → block_or o ≡ get_or (seen_in past p).blocks k 0
   block_is o e =
       ap block_or e ∙ sym (block_by (slice_get rows k))
-      ∙ ap (λ x. unwrap_or (option_map (λ (z : Extent). z.block) x) 0) (sym extent_at)
+      ∙ ap (λ x. unwrap_or (option_map (λ (z : Extent). z.block) x) 0) (sym (extent_at past.plan.now past.cut.now past.cut_index.now.tables p k h))
       ∙ ap (λ x. unwrap_or x 0) (sym (slice_get-map (λ (z : Extent). z.block) all k))
       ∙ unwrap_or-slice_get (map (λ (z : Extent). z.block) all) k 0
 
@@ -70,14 +72,14 @@ module _ (past : Past) (p k : ℕ) (h : IsIndexOf past.plan.now past.logs.now pa
       → parent_or o ≡ first_of (get_or (seen_in past p).rounds k [])
   outer_is o e =
       ap parent_or e ∙ sym (parent_by (slice_get rows k))
-      ∙ ap (λ x. unwrap_or (option_map (λ (z : Extent). z.parent) x) None) (sym extent_at)
+      ∙ ap (λ x. unwrap_or (option_map (λ (z : Extent). z.parent) x) None) (sym (extent_at past.plan.now past.cut.now past.cut_index.now.tables p k h))
       ∙ ap (λ x. unwrap_or x None) (sym (slice_get-map (λ (z : Extent). z.parent) all k))
-      ∙ sym (first_round (entries_at past.logs.now p) k)
+      ∙ sym (first_round (entries_at past.cut.now p) k)
 
   -- as many as have items
   pub count_is : length rows ≡ length (seen_in past p).items
-  count_is = sym (as_many past.plan.now past.index.now.tables past.logs.now.lists p h)
-      ∙ sym (length-map (indexed past.plan.now (entries_at past.logs.now p)) (λ (i : Indexed). items_by
+  count_is = sym (as_many past.plan.now past.cut_index.now.tables past.cut.now.lists p h)
+      ∙ sym (length-map (indexed past.plan.now (entries_at past.cut.now p)) (λ (i : Indexed). items_by
       (replay past.program.now past.plan.now i.log past.budget).answer))
     where
       as_many : (plan : Plan) (tables : List (List Row)) (lists : List (List Entry)) (q : ℕ)

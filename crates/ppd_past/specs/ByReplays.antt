@@ -25,7 +25,7 @@ first_failed program plan budget logs (m ∷ ms) =
 
 -- of a past
 abbrev pub first_failed_in : Past → List (ℕ × ℕ) → Option At
-first_failed_in past ms = first_failed past.program.now past.plan.now past.budget past.logs.now ms
+first_failed_in past ms = first_failed past.program.now past.plan.now past.budget past.cut.now ms
 
 -- the steps that the replays of these intervals take
 abbrev pub cost : Past → List (ℕ × ℕ) → ℕ

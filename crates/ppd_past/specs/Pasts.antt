@@ -12,17 +12,20 @@ use Rattle.ppd_index.specs.Indexes.{IsIndexOf}
 use Rattle.ppd_past.specs.declared.past.Past.{Past}
 use Rattle.ppd_race.specs.Races.{AreCellsThere}
 
--- a program and a plan that are valid, logs that name cells of the program, with their index, which accepted them,
--- and their graph
-pub record BelongTogether (program : Program) (plan : Plan) (logs : Logs) (index : LogIndex)
-    (graph : SyncGraph) : Type 0 where
+-- a program and a plan that are valid, logs that name cells of the program, with their index and their graph, and the
+-- logs that are replayed with their index, which accepted them
+pub record BelongTogether (program : Program) (plan : Plan) (logs : Logs) (index : LogIndex) (graph : SyncGraph)
+    (cut : Logs) (cut_index : LogIndex) : Type 0 where
   pub program_ok : IsValid program
   pub plan_ok : IsValidPlan program plan
   pub cells : AreCellsThere program logs
   pub index_is : IsIndexOf plan logs index.tables
-  pub fitting : AreFittingLogs plan logs
   pub graph_is : IsGraphOf program logs graph
+  pub cut_index_is : IsIndexOf plan cut cut_index.tables
+  pub fitting : AreFittingLogs plan cut
 
 -- so do the parts of a past
 abbrev pub IsPast : Past → Type 0
-IsPast past = BelongTogether past.program.now past.plan.now past.logs.now past.index.now past.graph.now
+IsPast past =
+    BelongTogether past.program.now past.plan.now past.logs.now past.index.now past.graph.now past.cut.now
+    past.cut_index.now

@@ -70,13 +70,13 @@ seen_by program plan budget entries = record {
 -- ---- of a past
 
 abbrev pub seen_in : Past → ℕ → Seen
-seen_in past p = seen_by past.program.now past.plan.now past.budget (entries_at past.logs.now p)
+seen_in past p = seen_by past.program.now past.plan.now past.budget (entries_at past.cut.now p)
 
 abbrev pub items_in : Past → ℕ → ℕ → List Item
 items_in past p k = items_at (seen_in past p) k
 
 abbrev pub failed_in : Past → ℕ → ℕ → Option ℕ
-failed_in past p k = failed_at past.program.now past.plan.now past.budget (entries_at past.logs.now p) k
+failed_in past p k = failed_at past.program.now past.plan.now past.budget (entries_at past.cut.now p) k
 
 abbrev pub steps_in : Past → ℕ → ℕ → ℕ
-steps_in past p k = own_steps_of past.program.now past.plan.now past.budget (entries_at past.logs.now p) k
+steps_in past p k = own_steps_of past.program.now past.plan.now past.budget (entries_at past.cut.now p) k

@@ -11,7 +11,7 @@ pub fn block_of(past: &Past, process: u8, interval: u32) -> u16
     requires { IsPast past.now }
     ensures { result ≡ get_or (seen_in past.now process).blocks interval 0 }
 {
-    match past.index.interval(process, interval) {
+    match past.cut_index.interval(process, interval) {
         Some(found) => found.block,
         None => 0,
     }
@@ -22,7 +22,7 @@ pub fn outer_of(past: &Past, process: u8, interval: u32) -> Option<u32>
     requires { IsPast past.now }
     ensures { result ≡ first_of (round_at (seen_in past.now process) interval) }
 {
-    match past.index.interval(process, interval) {
+    match past.cut_index.interval(process, interval) {
         Some(found) => found.parent,
         None => None,
     }
@@ -33,5 +33,5 @@ pub fn count_of(past: &Past, process: u8) -> u32
     requires { IsPast past.now }
     ensures { result ≡ length (seen_in past.now process).items }
 {
-    past.index.count(process)
+    past.cut_index.count(process)
 }

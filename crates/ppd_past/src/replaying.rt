@@ -35,10 +35,10 @@ pub fn replayed<L: Ledger>(
     ensures { IsFoundBy past.now ((process, interval) ∷ []) (Ok (items_in past.now process interval)) steps.old
         steps.new result }
 {
-    if interval >= past.index.count(process) {
+    if interval >= past.cut_index.count(process) {
         return Ok(Seq::new(alloc));
     }
-    let log = past.index.log(past.logs, process, interval);
+    let log = past.cut_index.log(past.cut, process, interval);
     match emulate(alloc, past.program, past.plan, &log, past.budget, steps) {
         Ok(trace) => Ok(trace.items),
         Err(EmulError::Diverged { entry, .. }) => Err(FlowError::Diverged { process, entry }),

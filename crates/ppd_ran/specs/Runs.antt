@@ -5,5 +5,5 @@ use Rattle.ppd_past.specs.Pasts.{BelongTogether}
 use Rattle.ppd_ran.specs.declared.runs.Ran.{Ran}
 
 pub record IsRan (r : Ran) : Type 0 where
-  pub parts : BelongTogether r.program r.plan r.logs r.index r.graph
+  pub parts : BelongTogether r.program r.plan r.logs r.index r.graph r.logs r.index
   pub budget : r.budget ≤ MOST_BUDGET

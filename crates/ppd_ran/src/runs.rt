@@ -43,6 +43,8 @@ impl Ran {
             logs: &self.logs,
             index: &self.index,
             graph: &self.graph,
+            cut: &self.logs,
+            cut_index: &self.index,
             budget: self.budget,
         }
     }

@@ -6,7 +6,7 @@ ghost use Rattle.ppd_book.specs.Turns.{KeepsBudget, RanToEnd};
 ghost use Rattle.ppd_world.specs.Running.{IsOf, IsReached};
 
 use ppd_ast::{Memory, Plan, Program};
-use ppd_book::{Book, Commit, Job, Ran, Turn, View};
+use ppd_book::{Book, Commit, Going, Job, Ran, Turn, View};
 use ppd_io::Gate;
 use ppd_world::World;
 use std::alloc::Global;
@@ -117,9 +117,9 @@ fn take_round<J: Job, G: Gate, R: Wait>(
     passes: &mut Passes<'_, G>,
 ) -> bool {
     passes.pass();
-    match book.view(rt, passes.worker) {
-        Ok(Some(view)) => take_view(rt, book, view, passes),
-        Ok(None) => take_turn(rt, book, passes.worker),
+    match book.go(rt, passes.worker) {
+        Ok(Going::Viewed(view)) => take_view(rt, book, view, passes),
+        Ok(Going::Turned(turn)) => matches!(turn, Turn::Stepped(_)),
         Err(_) => false,
     }
 }

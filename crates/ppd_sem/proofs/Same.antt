@@ -9,6 +9,7 @@ use Rattle.std.proofs.lemmas.Slice.Eq.{slice_eq-Decides}
 use Rattle.std.proofs.lemmas.List.{reverse-reverse}
 use Rattle.ppd_sem.specs.declared.proc.Frame.{Frame}
 use Rattle.ppd_sem.specs.declared.proc.Proc.{Proc}
+use Rattle.ppd_sem.specs.Printed.{unprinted}
 
 pub option_decides : {A : Type 0} {E : A → A → Bool} → ((a b : A) → Decides (E a b) (a ≡ b)) → (x y : Option A) → Decides (option_eq E x y) (x ≡ y)
 option_decides d None None = search rules
@@ -26,10 +27,10 @@ pub stacks_decide : {A : Type 0} {E : A → A → Bool} → ((a b : A) → Decid
 stacks_decide d xs ys r h =
     Decides-like r (λ p. ap reverse p) (λ p. sym (reverse-reverse xs) ∙ ap reverse p ∙ reverse-reverse ys) (slice_eq-Decides d xs ys r h)
 
--- the parts of two process states, test by test
-pub processes_decide : (a b : Proc) (r s t u v : Bool) → Decides r (a.frames ≡ b.frames) → Decides s (a.todo ≡ b.todo) → t ≡ pointwise int_eq a.answers b.answers → u ≡ pointwise int_eq a.prints b.prints → Decides v (a.status ≡ b.status) → Decides (((((((((r && s) && t) && nat_eq a.below b.below) && nat_eq a.budget b.budget) && nat_eq a.spent b.spent) && nat_eq a.steps b.steps) && u) && v)) (a ≡ b)
-processes_decide a b r s t u v h i j k l =
-    Decides-like _ (λ p. search rules) (λ p. ((((((((ap (λ x. x.frames) p, ap (λ x. x.todo) p), ap (λ x. x.answers) p), ap (λ x. x.below) p), ap (λ x. x.budget) p), ap (λ x. x.spent) p), ap (λ x. x.steps) p), ap (λ x. x.prints) p), ap (λ x. x.status) p))
-    (Decides-and _ _ (Decides-and _ _ (Decides-and _ _ (Decides-and _ _ (Decides-and _ _ (Decides-and _ _ (Decides-and _ _ (Decides-and _ _ h i)
+-- the parts of two process states but their prints, test by test
+pub processes_decide : (a b : Proc) (r s t v : Bool) → Decides r (a.frames ≡ b.frames) → Decides s (a.todo ≡ b.todo) → t ≡ pointwise int_eq a.answers b.answers → Decides v (a.status ≡ b.status) → Decides ((((((((r && s) && t) && nat_eq a.below b.below) && nat_eq a.budget b.budget) && nat_eq a.spent b.spent) && nat_eq a.steps b.steps) && v)) (unprinted a ≡ unprinted b)
+processes_decide a b r s t v h i j l =
+    Decides-like _ (λ p. search rules) (λ p. (((((((ap (λ x. x.frames) p, ap (λ x. x.todo) p), ap (λ x. x.answers) p), ap (λ x. x.below) p), ap (λ x. x.budget) p), ap (λ x. x.spent) p), ap (λ x. x.steps) p), ap (λ x. x.status) p))
+    (Decides-and _ _ (Decides-and _ _ (Decides-and _ _ (Decides-and _ _ (Decides-and _ _ (Decides-and _ _ (Decides-and _ _ h i)
     (slice_eq-Decides Decides-int_eq a.answers b.answers t j)) (Decides-eqb a.below b.below)) (Decides-eqb a.budget b.budget))
-    (Decides-eqb a.spent b.spent)) (Decides-eqb a.steps b.steps)) (slice_eq-Decides Decides-int_eq a.prints b.prints u k)) l)
+    (Decides-eqb a.spent b.spent)) (Decides-eqb a.steps b.steps)) l)

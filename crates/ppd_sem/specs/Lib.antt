@@ -12,6 +12,7 @@ pub mod Laws
 pub mod Measure
 pub mod Offers
 pub mod Passed
+pub mod Printed
 pub mod Process
 pub mod Reads
 pub mod Runs

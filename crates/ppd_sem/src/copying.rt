@@ -1,5 +1,6 @@
-ghost use Rattle.std.specs.Prelude.{◌≡◌, IfOk};
+ghost use Rattle.std.specs.Prelude.{◌≡◌, IfOk, OnErr, OnOk};
 ghost use Rattle.std.specs.Bool.{Decides};
+ghost use Rattle.ppd_sem.specs.Printed.{printed_before, unprinted};
 
 use crate::proc::{Frame, Proc, Todo};
 use crate::stack::Stack;
@@ -67,9 +68,9 @@ fn is_same_status(one: Option<Status>, other: Option<Status>) -> bool
 }
 
 impl Proc {
-    /// An equal process state. `Memory` is want of memory.
-    pub fn copy(&self) -> Result<Proc, Memory>
-        ensures { IfOk result (λ copy. copy ≡ self.now) }
+    /// The same process state, but that nothing was printed. `Memory` is want of memory.
+    pub fn copy_unprinted(&self) -> Result<Proc, Memory>
+        ensures { IfOk result (λ copy. copy ≡ unprinted self.now) }
     {
         Ok(Proc {
             frames: copy_frames(&self.frames)?,
@@ -79,14 +80,24 @@ impl Proc {
             budget: self.budget,
             spent: self.spent,
             steps: self.steps,
-            prints: copy_values(&self.prints)?,
+            prints: Nums::new(self.frames.allocator()),
             status: self.status,
         })
     }
 
-    /// Whether the process states are equal. It takes no memory.
-    pub fn same(&self, other: &Proc) -> bool
-        ensures { Decides result (self.now ≡ other.now) }
+    /// An equal process state. `Memory` is want of memory.
+    pub fn copy(&self) -> Result<Proc, Memory>
+        ensures { IfOk result (λ copy. copy ≡ self.now) }
+    {
+        let prints = copy_values(&self.prints)?;
+        let mut copy = self.copy_unprinted()?;
+        copy.prints = prints;
+        Ok(copy)
+    }
+
+    /// Whether the process states are equal but for what was printed. It takes no memory.
+    pub fn same_unprinted(&self, other: &Proc) -> bool
+        ensures { Decides result (unprinted self.now ≡ unprinted other.now) }
     {
         self.frames.is_same(&other.frames)
             & self.todo.is_same(&other.todo)
@@ -95,7 +106,42 @@ impl Proc {
             & (self.budget == other.budget)
             & (self.spent == other.spent)
             & (self.steps == other.steps)
-            & (self.prints == other.prints)
             & is_same_status(self.status, other.status)
+    }
+
+    /// Whether the process states are equal. It takes no memory.
+    pub fn same(&self, other: &Proc) -> bool
+        ensures { Decides result (self.now ≡ other.now) }
+    {
+        self.same_unprinted(other) & (self.prints == other.prints)
+    }
+
+    /// Goes on to this state, whose prints come after those that were printed before. `Memory` is want of
+    /// memory: the process state is as before.
+    pub fn go_to(&mut self, after: Proc) -> Result<(), Memory>
+        ensures ok { OnOk result (self.new ≡ printed_before self.old.prints after) }
+        ensures err { OnErr result (self.new ≡ self.old) }
+    {
+        let Proc {
+            frames,
+            todo,
+            answers,
+            below,
+            budget,
+            spent,
+            steps,
+            prints,
+            status,
+        } = after;
+        self.prints.append(prints.into_vec())?;
+        self.frames = frames;
+        self.todo = todo;
+        self.answers = answers;
+        self.below = below;
+        self.budget = budget;
+        self.spent = spent;
+        self.steps = steps;
+        self.status = status;
+        Ok(())
     }
 }

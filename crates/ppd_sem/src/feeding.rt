@@ -201,25 +201,25 @@ fn offer(todo: Todo, proc: &mut Proc)
     proc.answers.clear();
 }
 
-/// Takes the step of a need that is there to be met.
+/// Takes the step of this need, which is the process's own.
 #[tactic(auto, using(crate::proofs::Running::head_is))]
 fn step(
     program: &Program,
     plan: &Plan,
     todo: Todo,
     proc: &mut Proc,
+    need: Need,
     answer: &Answer,
 ) -> Result<(), Memory>
     requires program { IsRunnable program.now }
-    requires plan { IsNumbered plan.now }
     requires proc { IsRunning program.now proc.old }
     requires head { slice_get proc.old.todo 0 ≡ Some todo }
+    requires need { need ≡ need_of program.now plan.now proc.old }
     ensures ok { OnOk result
         (proc.new ≡ act_by_need program.now plan.now answer.now todo (drop 1 proc.old.todo)
         (need_of program.now plan.now proc.old) proc.old) }
     ensures err { OnErr result (proc.new ≡ proc.old) }
 {
-    let need = look(program, plan, proc);
     match need {
         Need::Stopped => Ok(()),
         Need::Budget => {
@@ -259,18 +259,38 @@ fn step_of_head(
     program: &Program,
     plan: &Plan,
     proc: &mut Proc,
+    need: Need,
     answer: &Answer,
 ) -> Result<(), Memory>
     requires program { IsRunnable program.now }
-    requires plan { IsNumbered plan.now }
     requires proc { IsRunning program.now proc.old }
+    requires need { need ≡ need_of program.now plan.now proc.old }
     ensures ok { OnOk result (proc.new ≡ act program.now plan.now proc.old answer.now) }
     ensures err { OnErr result (proc.new ≡ proc.old) }
 {
     match head(proc) {
-        Some(todo) => step(program, plan, todo, proc, answer),
+        Some(todo) => step(program, plan, todo, proc, need, answer),
         None => Ok(()),
     }
+}
+
+/// Takes the next step of a process, of which it is known that it needs this. `Value` goes with a need for a
+/// value, `Go` with the others. `Memory` is want of memory: the process is as before.
+pub fn meet(
+    program: &Program,
+    plan: &Plan,
+    proc: &mut Proc,
+    need: Need,
+    answer: &Answer,
+) -> Result<(), Memory>
+    requires program { IsRunnable program.now }
+    requires proc { IsRunning program.now proc.old }
+    requires need { need ≡ need_of program.now plan.now proc.old }
+    ensures ok { OnOk result (proc.new ≡ act program.now plan.now proc.old answer.now) }
+    ensures err { OnErr result (proc.new ≡ proc.old) }
+    ensures kept { IsRunning program.now proc.new }
+{
+    step_of_head(program, plan, proc, need, answer)
 }
 
 /// Takes the next step of a process. `Value` goes with a need for a value, `Go` with the
@@ -283,5 +303,6 @@ pub fn feed(program: &Program, plan: &Plan, proc: &mut Proc, answer: &Answer) ->
     ensures err { OnErr result (proc.new ≡ proc.old) }
     ensures kept { IsRunning program.now proc.new }
 {
-    step_of_head(program, plan, proc, answer)
+    let need = look(program, plan, proc);
+    meet(program, plan, proc, need, answer)
 }

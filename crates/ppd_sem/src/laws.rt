@@ -1,4 +1,5 @@
 ghost use Rattle.ppd_sem.specs.Laws.{ArgumentsComeFirst, ArithmeticIsExact, DividesTowardZero, IndexComesFirst, NeedsAreThere, OffersAreCompleted, ReadsAreAnswers, StepsEnd, StopsEarly, ValidCanRun, ValidIsNumbered};
+ghost use Rattle.ppd_sem.specs.Printed.{PrintsAreNotRead};
 
 // Laws of what the other calls give: each is the contract of a function that does nothing.
 
@@ -69,4 +70,10 @@ pub fn reads_are_answers()
 #[tactic(auto, using(crate::proofs::Offering::offers_completed))]
 pub fn offers_are_completed()
     ensures { OffersAreCompleted }
+{}
+
+/// What a process needs and what its step does depend on nothing that it printed.
+#[tactic(auto, using(crate::proofs::Printed::not_read))]
+pub fn prints_are_not_read()
+    ensures { PrintsAreNotRead }
 {}

@@ -29,12 +29,12 @@ pub use blocks::{block_kind, block_unit, postlog_cells, prelog_cells};
 pub use describing::describe;
 pub use effect::Effect;
 pub use event::{Access, Event, Spot};
-pub use feeding::feed;
+pub use feeding::{feed, meet};
 pub use frame::size_at;
 pub use laws::{
     arguments_come_first, arithmetic_is_exact, divides_toward_zero, index_comes_first,
-    needs_are_there, offers_are_completed, reads_are_answers, steps_end, stops_early,
-    valid_can_run, valid_is_numbered,
+    needs_are_there, offers_are_completed, prints_are_not_read, reads_are_answers, steps_end,
+    stops_early, valid_can_run, valid_is_numbered,
 };
 pub use looking::{capacity_of, look};
 pub use passing::{call_values, local_cells, next_effect, next_stmt, returned_value};

@@ -44,7 +44,7 @@ module _ (program : Program) (plan : Plan) (budget : ℕ) (h : List ℕ) where
   abbrev told : ℕ → Last
   told = last_told program plan budget (story program plan budget h)
 
-  of_name : (q : Option ℕ) (k : ℕ) → failure_at known q k ≡ None
+  pub of_name : (q : Option ℕ) (k : ℕ) → failure_at known q k ≡ None
   of_name None k = refl
   of_name (Some q) k = of_races (races program plan budget h) q (splits program plan budget (story program plan budget h)) k
 
@@ -69,7 +69,7 @@ module _ (program : Program) (plan : Plan) (budget : ℕ) (h : List ℕ) where
   of_row p zero m j (t ∷ ts) = of_cells_told p m j t
   of_row p (suc k) m j (t ∷ ts) = of_row p k (m + 1) j ts
 
-  of_table : (q p k j : ℕ) (rows : List (List Told)) → unfound_flow (get_or (get_or (get_or (of_processes flows p rows) q []) k []) j (Err flow_error.NoEvent)) ≡ None
+  pub of_table : (q p k j : ℕ) (rows : List (List Told)) → unfound_flow (get_or (get_or (get_or (of_processes flows p rows) q []) k []) j (Err flow_error.NoEvent)) ≡ None
   of_table q p k j [] = refl
   of_table zero p k j (ts ∷ rows) = of_row p k 0 j ts
   of_table (suc q) p k j (ts ∷ rows) = of_table q (p + 1) k j rows

@@ -1,21 +1,23 @@
 -- The edges of an item as replays give them.
 use Rattle.std.specs.Prelude.{Some, None, slice_get}
-use Rattle.std.proofs.Common.{◌≡◌, ℕ, zero, suc, ◌+◌, ◌<◌, List, [], ◌∷◌, get_or, length, Option, Result, Ok, Err, ap, sym, ◌∙◌, arith}
+use Rattle.std.proofs.Common.{◌≡◌, ℕ, zero, suc, ◌+◌, ◌<◌, List, [], ◌∷◌, get_or, length, map, Option, Result, Ok, Err, ap, sym, ◌∙◌, arith}
 use Rattle.ppd_entry.specs.declared.entry.At.{At}
+use Rattle.ppd_entry.specs.declared.entry.Logs.{Logs}
 use Rattle.ppd_flow.specs.Answers.{answer_if}
 use Rattle.ppd_model.specs.declared.flow.FlowEdge.{FlowEdge}
 use Rattle.ppd_model.specs.declared.flow.Item.{Item}
 use Rattle.ppd_past.specs.declared.flow_error.FlowError.{FlowError}
 use Rattle.ppd_past.specs.declared.flow_error.FlowError.TheVariants as flow_error
 use Rattle.ppd_past.specs.declared.past.Past.{Past}
-use Rattle.ppd_past.specs.ByReplays.{IsFoundBy, first_failed_in}
+use Rattle.ppd_past.specs.ByReplays.{IsFoundBy, first_failed, first_failed_in}
+use Rattle.ppd_past.specs.SeenBy.{seen_by}
 use Rattle.ppd_search.specs.Found.{edges_replays, found_edges}
 use Rattle.ppd_session.specs.Known.{Flow, Told, flow_by, of_cells, of_intervals, of_items, of_processes, unless_failed}
 use Rattle.ppd_session.specs.Sessions.{IsItemThere, known_by}
 use Rattle.ppd_session.specs.Texts.{flow_at}
 use Rattle.ppd_walk.specs.SharedCells.{IsMemoryOr, seens_in}
 
-module _ (past : Past) (q k j : ℕ) where
+module _ (past : Past) (uncut : past.cut.now ≡ past.logs.now) (q k j : ℕ) where
   abbrev replays : List (ℕ × ℕ)
   replays = edges_replays past.program.now past.plan.now past.logs.now (seens_in past) q k j
 
@@ -25,8 +27,15 @@ module _ (past : Past) (q k j : ℕ) where
   abbrev known : Flow
   known = flow_by past.program.now past.plan.now past.budget past.logs.now q k j
 
+  -- by the logs that are replayed, and by the logs
+  pub same : unless_failed (first_failed_in past replays) answer ≡ known
+  same =
+      ap (λ (l : Logs). unless_failed
+      (first_failed past.program.now past.plan.now past.budget l (edges_replays past.program.now past.plan.now past.logs.now (map (λ entries. seen_by past.program.now past.plan.now past.budget entries) l.lists) q k j))
+      (answer_if (found_edges past.program.now past.plan.now past.logs.now (map (λ entries. seen_by past.program.now past.plan.now past.budget entries) l.lists) q k j))) uncut
+
   by_failure : (o : Option At) → first_failed_in past replays ≡ o → known ≡ unless_failed o answer
-  by_failure o e = ap (λ (f : Option At). unless_failed f answer) e
+  by_failure o e = sym same ∙ ap (λ (f : Option At). unless_failed f answer) e
 
   pub flow_found : (b e : ℕ) (r : Result (List FlowEdge) FlowError) → IsFoundBy past replays answer b e r → IsMemoryOr known r
   flow_found b e (Ok x) f = sym (by_failure None f.0 ∙ f.1)

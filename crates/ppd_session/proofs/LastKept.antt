@@ -23,7 +23,7 @@ first_fails : (p : ℕ) (f : Option ℕ) (rest : Option At) (at : At) → failur
 first_fails p None rest at e = absurd (cc)
 first_fails p (Some n) rest at e = e
 
-module _ (past : Past) (c : ℕ) (l : LastEdge) where
+module _ (past : Past) (uncut : past.cut.now ≡ past.logs.now) (c : ℕ) (l : LastEdge) where
   replays_fail : (at : At) (o : Option EdgeId) → option_map (with_end past) o ≡ Some l
       → first_failed_in past ((l.edge.process, l.interval) ∷ []) ≡ Some at
       → first_failed_in past (start_replays past.logs.now (seens_in past) c o) ≡ Some at
@@ -37,8 +37,8 @@ module _ (past : Past) (c : ℕ) (l : LastEdge) where
       → IsCause (failure_at (known_by past []) (Some l.edge.process) l.interval) e
       → IsWhy (unfound (last_by past.program.now past.plan.now past.budget past.logs.now c)) e
   last_replay_fails (Diverged at) is h =
-      last_fails past c 0 0 (flow_error.Diverged at.process at.entry)
+      last_fails past uncut c 0 0 (flow_error.Diverged at.process at.entry)
       (replays_fail at (greatest_writing past.program.now past.logs.now c) is
-      (same_failure past l.edge.process l.interval ∙ h))
+      (same_failure past uncut l.edge.process l.interval ∙ h))
   last_replay_fails (Sets at) is h = absurd h
   last_replay_fails Memory is h = tt

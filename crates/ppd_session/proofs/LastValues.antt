@@ -1,13 +1,15 @@
 -- Last values that are found one after another, and why one is not found.
 use Rattle.std.specs.Prelude.{Some, None, option_map}
-use Rattle.std.proofs.Common.{◌≡◌, ℕ, zero, suc, ◌+◌, ◌<◌, ℤ, List, [], ◌∷◌, ◌++◌, Option, Ok, Err, refl, ap, sym, subst, ◌∙◌, append-nil, append_assoc, arith}
+use Rattle.std.proofs.Common.{◌≡◌, ℕ, zero, suc, ◌+◌, ◌<◌, ℤ, List, [], ◌∷◌, ◌++◌, map, Option, Ok, Err, refl, ap, sym, subst, ◌∙◌, append-nil, append_assoc, arith}
 use Rattle.ppd_ast.specs.declared.program.Program.{Program}
 use Rattle.ppd_entry.specs.declared.entry.At.{At}
+use Rattle.ppd_entry.specs.declared.entry.Logs.{Logs}
 use Rattle.ppd_model.specs.declared.flow.Origin.{Origin}
 use Rattle.ppd_past.specs.declared.flow_error.FlowError.{FlowError}
 use Rattle.ppd_past.specs.declared.flow_error.FlowError.TheVariants as flow_error
 use Rattle.ppd_past.specs.declared.past.Past.{Past}
-use Rattle.ppd_past.specs.ByReplays.{IsFoundBy, first_failed_in}
+use Rattle.ppd_past.specs.ByReplays.{IsFoundBy, first_failed, first_failed_in}
+use Rattle.ppd_past.specs.SeenBy.{seen_by}
 use Rattle.ppd_search.specs.Shared.{found_last, last_replays}
 use Rattle.ppd_session.specs.Known.{Last, last_by, of_cells, unless_failed}
 use Rattle.ppd_session.specs.Sessions.{IsLineOf, IsWhy, error_of, unfound}
@@ -19,7 +21,7 @@ use Rattle.ppd_why.specs.Edges.{last_line}
 
 -- ---- the search for a last write
 
-module _ (past : Past) (c : ℕ) where
+module _ (past : Past) (uncut : past.cut.now ≡ past.logs.now) (c : ℕ) where
   abbrev replays : List (ℕ × ℕ)
   replays = last_replays past.program.now past.logs.now (seens_in past) c
 
@@ -29,8 +31,15 @@ module _ (past : Past) (c : ℕ) where
   abbrev known : Last
   known = last_by past.program.now past.plan.now past.budget past.logs.now c
 
+  -- by the logs that are replayed, and by the logs
+  same : unless_failed (first_failed_in past replays) answer ≡ known
+  same =
+      ap (λ (l : Logs). unless_failed
+      (first_failed past.program.now past.plan.now past.budget l (last_replays past.program.now past.logs.now (map (λ entries. seen_by past.program.now past.plan.now past.budget entries) l.lists) c))
+      (answer_of (found_last past.program.now past.logs.now (map (λ entries. seen_by past.program.now past.plan.now past.budget entries) l.lists) c))) uncut
+
   known_by_failure : (o : Option At) → first_failed_in past replays ≡ o → known ≡ unless_failed o answer
-  known_by_failure o e = ap (λ (f : Option At). unless_failed f answer) e
+  known_by_failure o e = sym same ∙ ap (λ (f : Option At). unless_failed f answer) e
 
   pub last_found : (b e : ℕ) (x : ℤ × Origin) → IsFoundBy past replays answer b e (Ok x) → known ≡ Ok x
   last_found b e x f = known_by_failure None f.0 ∙ f.1

@@ -12,6 +12,7 @@ use Rattle.ppd_emul.specs.declared.trace.EmulError.{EmulError}
 use Rattle.ppd_emul.specs.declared.trace.EmulError.TheVariants.{Diverged, Memory}
 use Rattle.ppd_emul.specs.Replay.{replay}
 use Rattle.ppd_entry.specs.declared.entry.Entry.{Entry}
+use Rattle.ppd_entry.specs.declared.entry.Logs.{Logs}
 use Rattle.ppd_entry.specs.IntervalLogs.{Indexed, indexed, log_in}
 use Rattle.ppd_entry.specs.Entries.{entries_at}
 use Rattle.ppd_index.specs.declared.row.Row.{Row}
@@ -22,8 +23,9 @@ use Rattle.ppd_model.specs.declared.flow.Item.{Item}
 use Rattle.ppd_past.specs.declared.flow_error.FlowError.{FlowError}
 use Rattle.ppd_past.specs.declared.flow_error.FlowError.TheVariants as flow_error
 use Rattle.ppd_past.specs.declared.past.Past.{Past}
-use Rattle.ppd_past.specs.ByReplays.{AreReplayed, IsFoundBy, failure_or, first_failed_in}
-use Rattle.ppd_past.specs.SeenBy.{failed_in, failure_by, failure_of, items_by, items_in}
+use Rattle.ppd_past.specs.ByReplays.{AreReplayed, IsFoundBy, failure_or, first_failed, first_failed_in}
+use Rattle.ppd_past.specs.SeenBy.{failed_in, failure_by, failure_of, items_by, items_in, seen_by}
+use Rattle.ppd_search.specs.Seen.{items_at}
 use Rattle.ppd_past.specs.Laws.{replay_of}
 use Rattle.ppd_session.specs.Known.{Known, Told, told_by, told_of_entries}
 use Rattle.ppd_session.specs.Sessions.{IsCause, IsWhy, error_of, known_by}
@@ -137,7 +139,7 @@ no_failure q (Some n) e = absurd (cc)
 
 -- ---- of a past
 
-module _ (past : Past) (q k : ℕ) where
+module _ (past : Past) (uncut : past.cut.now ≡ past.logs.now) (q k : ℕ) where
   abbrev entries : List Entry
   entries = entries_at past.logs.now q
 
@@ -147,14 +149,19 @@ module _ (past : Past) (q k : ℕ) where
   -- the failure of the replay is the one that is told
   pub same_failure : first_failed_in past ((q, k) ∷ []) ≡ failure_at (known_by past []) (Some q) k
   same_failure =
-      failure_as past.program.now past.plan.now past.budget q (slice_get (indexed past.plan.now entries) k)
+      ap (λ (l : Logs). first_failed past.program.now past.plan.now past.budget l ((q, k) ∷ [])) uncut
+      ∙ failure_as past.program.now past.plan.now past.budget q (slice_get (indexed past.plan.now entries) k)
       ∙ ap (failure_in q) (sym (told_here ∙ slice_get-map _ (indexed past.plan.now entries) k))
+
+  -- what the replays give of the logs
+  same_items : items_in past q k ≡ items_at (seen_by past.program.now past.plan.now past.budget entries) k
+  same_items = ap (λ (l : Logs). items_at (seen_by past.program.now past.plan.now past.budget (entries_at l q)) k) uncut
 
   -- the items that are told are those of a replay that does not fail
   pub are_replayed : (items : List Item) → told_at (known_by past []) q k ≡ Some (Ok items) → AreReplayed past q k items
   are_replayed items e = (
     no_failure q (failed_in past q k) (same_failure ∙ ap (failure_in q) e),
-    given_as past.program.now past.plan.now past.budget (indexed past.plan.now entries) k items (sym told_here ∙ e),
+    given_as past.program.now past.plan.now past.budget (indexed past.plan.now entries) k items (sym told_here ∙ e) ∙ sym same_items,
   )
 
   -- of an interval that is not there nothing is told
@@ -172,9 +179,11 @@ module _ (past : Past) (q k : ℕ) where
       let is : ◌≡◌ {A = Result (List Item) FlowError} (Ok (items_in past q k)) (Ok items) = f.1 in
       let count = each_count past.plan.now past.index.now.tables past.logs.now.lists q h in
       let there : k < length (indexed past.plan.now entries) = omega (arith, count) in
-      let same : items_in past q k ≡ items = cc in
+      let found : items_in past q k ≡ items = cc in
+      let same : items_at (seen_by past.program.now past.plan.now past.budget entries) k ≡ items = sym same_items ∙ found in
+      let none = sym (ap (λ (l : Logs). first_failed past.program.now past.plan.now past.budget l ((q, k) ∷ [])) uncut) ∙ f.0 in
       told_here
-      ∙ (told_as past.program.now past.plan.now past.budget q (indexed past.plan.now entries) k there f.0
+      ∙ (told_as past.program.now past.plan.now past.budget q (indexed past.plan.now entries) k there none
       ∙ ap (λ (i : List Item). Some (Ok i)) same)
 
   -- and else why
@@ -183,3 +192,21 @@ module _ (past : Past) (q k : ℕ) where
   causes b e flow_error.NoEvent f = tt
   causes b e (flow_error.Sets p n c) f = let never : Ok (items_in past q k) ≡ Err (flow_error.Sets p n c) = f.1 in absurd (cc)
   causes b e flow_error.Memory f = tt
+
+  -- an interval with an item is there
+  items_there : (is : List Indexed) (m j : ℕ) (t : Item) → slice_get (get_or (map (λ i. items_by (answer_of past.program.now past.plan.now past.budget i)) is) m []) j ≡ Some t → m < length is
+  items_there [] m zero t e = absurd (cc)
+  items_there [] m (suc j) t e = absurd (cc)
+  items_there (i ∷ is) zero j t e = omega arith
+  items_there (i ∷ is) (suc m) j t e = let lt = items_there is m j t e in omega (arith, lt)
+
+  -- so that its items are told where its replay does not fail
+  pub tells_items : (j : ℕ) (t : Item) → failed_in past q k ≡ None → slice_get (items_in past q k) j ≡ Some t → told_at (known_by past []) q k ≡ Some (Ok (items_in past q k))
+  tells_items j t none e =
+      let item = subst (λ (is : List Item). slice_get is j ≡ Some t) same_items e in
+      let there : k < length (indexed past.plan.now entries) = items_there (indexed past.plan.now entries) k j t item in
+      let fine : failure_or q (failed_in past q k) None ≡ None = ap (λ (o : Option ℕ). failure_or q o None) none in
+      let none_failed = sym (ap (λ (l : Logs). first_failed past.program.now past.plan.now past.budget l ((q, k) ∷ [])) uncut) ∙ fine in
+      told_here
+      ∙ (told_as past.program.now past.plan.now past.budget q (indexed past.plan.now entries) k there none_failed
+      ∙ ap (λ (i : List Item). Some (Ok i)) (sym same_items))

@@ -25,10 +25,11 @@ AreTold x kept =
     (place : Place) (items : List Item) → Contains kept (place, items)
     → told_at x place.process place.interval ≡ Some (Ok items)
 
--- what a session answers of: a past whose parts belong together, and kept blocks that are as they are told of it with
+-- what a session answers of: a past whose parts belong together, of which no log is cut, and kept blocks that are as they are told of it with
 -- these races
 pub record IsSession (past : Past) (races : List Race) (kept : List (Place × List Item)) : Type 0 where
   pub together : IsPast past
+  pub uncut : past.cut.now ≡ past.logs.now
   pub told : AreTold (known_by past races) kept
 
 -- why there is no answer, where this is the failure of the replay that the answer needs, if it fails

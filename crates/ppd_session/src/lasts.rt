@@ -34,6 +34,7 @@ fn last_in<L: Ledger>(
     requires parts { blank.parts ≡ L.parts }
     requires some { 0 < blank.parts }
     requires past { IsPast past.now }
+    requires uncut { past.now.cut.now ≡ past.now.logs.now }
     ensures value { IfOk result
         (λ x. last_by past.now.program.now past.now.plan.now past.now.budget past.now.logs.now cell ≡ Ok x) }
     ensures error { IfErr result
@@ -48,7 +49,8 @@ fn last_in<L: Ledger>(
 
 /// The last value of a shared cell with the write of it, by replays.
 fn last_of(alloc: Global, past: &Past, cell: u16) -> Result<(i64, Origin), SessionError>
-    requires { IsPast past.now }
+    requires past { IsPast past.now }
+    requires uncut { past.now.cut.now ≡ past.now.logs.now }
     ensures value { IfOk result
         (λ x. last_by past.now.program.now past.now.plan.now past.now.budget past.now.logs.now cell ≡ Ok x) }
     ensures error { IfErr result
@@ -71,6 +73,7 @@ fn last_told_in<L: Ledger>(
     requires parts { blank.parts ≡ L.parts }
     requires some { 0 < blank.parts }
     requires past { IsPast past.now }
+    requires uncut { past.now.cut.now ≡ past.now.logs.now }
     requires last { last_edge_of past.now cell ≡ Some last }
     requires told { told_at (known_by past.now []) last.edge.process last.interval ≡ Some (Ok items.now) }
     ensures value { IfOk result
@@ -94,6 +97,7 @@ fn last_told(
     items: &[Item],
 ) -> Result<(i64, Origin), SessionError>
     requires past { IsPast past.now }
+    requires uncut { past.now.cut.now ≡ past.now.logs.now }
     requires last { last_edge_of past.now cell ≡ Some last }
     requires told { told_at (known_by past.now []) last.edge.process last.interval ≡ Some (Ok items.now) }
     ensures value { IfOk result
@@ -114,6 +118,7 @@ fn last_kept(
     last: LastEdge,
 ) -> Result<(i64, Origin), SessionError>
     requires past { IsPast past.now }
+    requires uncut { past.now.cut.now ≡ past.now.logs.now }
     requires kept { AreTold (known_by past.now []) kept.old }
     requires last { last_edge_of past.now cell ≡ Some last }
     requires there { last.interval < length (rows_at past.now.index.now.tables last.edge.process) }
@@ -145,6 +150,7 @@ fn last_of_cell(
     cell: u16,
 ) -> Result<(i64, Origin), SessionError>
     requires past { IsPast past.now }
+    requires uncut { past.now.cut.now ≡ past.now.logs.now }
     requires kept { AreTold (known_by past.now []) kept.old }
     ensures value { IfOk result
         (λ x. last_by past.now.program.now past.now.plan.now past.now.budget past.now.logs.now cell ≡ Ok x) }
@@ -186,6 +192,7 @@ fn put_cell_line(
     cell: u16,
 ) -> Result<(), SessionError>
     requires past { IsPast past.now }
+    requires uncut { past.now.cut.now ≡ past.now.logs.now }
     requires kept { AreTold (known_by past.now []) kept.old }
     ensures told { OnOk result
         (IsLineOf past.now.program.now cell
@@ -207,6 +214,7 @@ fn put_lines(
     kept: &mut Kept,
 ) -> Result<(), SessionError>
     requires past { IsPast past.now }
+    requires uncut { past.now.cut.now ≡ past.now.logs.now }
     requires kept { AreTold (known_by past.now []) kept.old }
     ensures text { OnOk result
         (text.new.items ≡ text.old.items ++ lasts_text past.now.program.now 0 (known_by past.now []).lasts) }

@@ -29,7 +29,7 @@ use std::sync::ledger::{Blank, Ledger};
 // ---- replays
 
 /// Why a replay gives no items, or a search no last write.
-pub(crate) fn no_items(error: FlowError) -> SessionError
+pub fn no_items(error: FlowError) -> SessionError
     requires event { (error ≡ flow_error.NoEvent) → ⊥ }
     ensures { result ≡ error_of error }
 {
@@ -51,6 +51,7 @@ fn replayed_in<L: Ledger>(
     requires parts { blank.parts ≡ L.parts }
     requires some { 0 < blank.parts }
     requires past { IsPast past.now }
+    requires uncut { past.now.cut.now ≡ past.now.logs.now }
     requires there { place.interval < length (rows_at past.now.index.now.tables place.process) }
     ensures items { IfOk result
         (λ items. told_at (known_by past.now []) place.process place.interval ≡ Some (Ok items)) }
@@ -67,6 +68,7 @@ fn replayed_in<L: Ledger>(
 /// The items of an interval that is there, by its replay.
 pub(crate) fn replay(alloc: Global, past: &Past, place: Place) -> Result<Seq<Item>, SessionError>
     requires past { IsPast past.now }
+    requires uncut { past.now.cut.now ≡ past.now.logs.now }
     requires there { place.interval < length (rows_at past.now.index.now.tables place.process) }
     ensures items { IfOk result
         (λ items. told_at (known_by past.now []) place.process place.interval ≡ Some (Ok items)) }
@@ -97,6 +99,7 @@ fn put_told(
     items: &[Item],
 ) -> Result<(), SessionError>
     requires past { IsPast past.now }
+    requires uncut { past.now.cut.now ≡ past.now.logs.now }
     requires told { told_at (known_by past.now []) place.process place.interval ≡ Some (Ok items.now) }
     ensures text { OnOk result
         (text.new.items
@@ -122,6 +125,7 @@ fn put_block(
     item: Option<u64>,
 ) -> Result<(), SessionError>
     requires past { IsPast past.now }
+    requires uncut { past.now.cut.now ≡ past.now.logs.now }
     requires kept { AreTold (known_by past.now []) kept.old }
     requires there { place.interval < length (rows_at past.now.index.now.tables place.process) }
     ensures text { OnOk result
@@ -150,7 +154,7 @@ fn put_block(
 }
 
 /// The number of an interval of a process, if it is there.
-fn interval_there(past: &Past, process: u8, interval: u64) -> Option<u32>
+pub fn interval_there(past: &Past, process: u8, interval: u64) -> Option<u32>
     requires { IsPast past.now }
     ensures known { is_some result ≡ nat_lt interval (length (intervals_at (known_by past.now []) process)) }
     ensures there { IfSome result
@@ -172,6 +176,7 @@ fn put_interval(
     opening: Opening,
 ) -> Result<(), SessionError>
     requires past { IsPast past.now }
+    requires uncut { past.now.cut.now ≡ past.now.logs.now }
     requires kept { AreTold (known_by past.now []) kept.old }
     ensures text { OnOk result (text.new.items ≡ text.old.items ++ opened_text (known_by past.now []) opening) }
     ensures told { OnOk result

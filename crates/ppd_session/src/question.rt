@@ -73,7 +73,8 @@ fn process_bodies(program: &Program) -> &[Body]
     &program.bodies.as_slice()[program.functions as usize..]
 }
 
-fn process_named(program: &Program, name: &[u8]) -> Option<u8>
+/// The process of this name.
+pub fn process_named(program: &Program, name: &[u8]) -> Option<u8>
     requires { IsValid program.now }
     ensures { result ≡ process_by_name program.now name.now }
 {

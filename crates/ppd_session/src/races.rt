@@ -63,7 +63,7 @@ pub(crate) fn put_races(text: &mut Vec<u8>, program: &Program, races: &[Race]) -
 }
 
 /// Appends how many races there are, where there are some: then no answer may rest on the order of accesses.
-pub(crate) fn put_racy(text: &mut Vec<u8>, races: &[Race]) -> Result<(), Memory>
+pub fn put_racy(text: &mut Vec<u8>, races: &[Race]) -> Result<(), Memory>
     ensures { OnOk result (text.new.items ≡ text.old.items ++ raced races.now []) }
 {
     if races.is_empty() {

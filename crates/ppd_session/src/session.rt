@@ -73,7 +73,8 @@ impl<'a> Session<'a> {
         alloc: Global,
         past: Past<'a>,
     ) -> Result<Session<'a>, Memory>
-        requires { IsPast past }
+        requires past { IsPast past }
+        requires uncut { past.cut.now ≡ past.logs.now }
         ensures { IfOk result
             (λ s. s
             ≡ known_of_logs past.entry.program.now past.entry.plan.now past.entry.budget past.entry.logs.now) }
@@ -88,7 +89,8 @@ impl<'a> Session<'a> {
         past: Past<'a>,
         blocks: u32,
     ) -> Result<Session<'a>, Memory>
-        requires { IsPast past }
+        requires past { IsPast past }
+        requires uncut { past.cut.now ≡ past.logs.now }
         ensures { IfOk result
             (λ s. s
             ≡ known_of_logs past.entry.program.now past.entry.plan.now past.entry.budget past.entry.logs.now) }

@@ -61,6 +61,7 @@ fn edges_in<L: Ledger>(
     requires parts { blank.parts ≡ L.parts }
     requires some { 0 < blank.parts }
     requires past { IsPast past.now }
+    requires uncut { past.now.cut.now ≡ past.now.logs.now }
     ensures { IsMemoryOr
         (flow_by past.now.program.now past.now.plan.now past.now.budget past.now.logs.now place.process place.interval
         item)
@@ -72,7 +73,8 @@ fn edges_in<L: Ledger>(
 
 /// The edges of an item, by replays.
 fn edges_of(alloc: Global, past: &Past, place: Place, item: u32) -> Result<Seq<FlowEdge>, FlowError>
-    requires { IsPast past.now }
+    requires past { IsPast past.now }
+    requires uncut { past.now.cut.now ≡ past.now.logs.now }
     ensures { IsMemoryOr
         (flow_by past.now.program.now past.now.plan.now past.now.budget past.now.logs.now place.process place.interval
         item)
@@ -106,7 +108,8 @@ fn put_flow(
     item: u32,
     shown: &Item,
 ) -> Result<(), SessionError>
-    requires { IsPast past.now }
+    requires past { IsPast past.now }
+    requires uncut { past.now.cut.now ≡ past.now.logs.now }
     ensures text { OnOk result
         (text.new.items
         ≡ text.old.items
@@ -141,6 +144,7 @@ fn put_told(
     shown: &Item,
 ) -> Result<(), SessionError>
     requires past { IsPast past.now }
+    requires uncut { past.now.cut.now ≡ past.now.logs.now }
     requires there { IsItemThere (known_by past.now []) place.process place.interval item }
     ensures text { OnOk result
         (text.new.items
@@ -165,6 +169,7 @@ pub(crate) fn put_item_of(
     items: &[Item],
 ) -> Result<(), SessionError>
     requires past { IsPast past.now }
+    requires uncut { past.now.cut.now ≡ past.now.logs.now }
     requires told { told_at (known_by past.now []) place.process place.interval ≡ Some (Ok items.now) }
     ensures text { OnOk result
         (text.new.items

@@ -15,14 +15,11 @@ use Rattle.ppd_shared_edges.proofs.PartItems.{first_of, item_at, item_if}
 use Rattle.ppd_model.specs.declared.flow.EdgeKind.TheVariants.{Control}
 use Rattle.ppd_model.specs.declared.trace.TracedEvent.{TracedEvent}
 use Rattle.ppd_model.specs.Earlier.{AreEarlier, EachNamesEarlier}
-use Rattle.ppd_model.specs.FlowbackEdges.{bare_edge, edges, edges_if as model_edges_if, edges_in, edges_of_event, edges_of_nested as model_edges_of_nested, edges_of_part, from_parent, part_at, part_in, read_edge as model_read_edge, sync_edges as model_sync_edges}
+use Rattle.ppd_model.specs.FlowbackEdges.{bare_edge, edges, edges_if as model_edges_if, edges_in, edges_of_event, edges_of_nested as model_edges_of_nested, edges_of_part, from_parent, from_writer, part_at, part_in, read_edge as model_read_edge, sync_edges as model_sync_edges}
 use Rattle.ppd_model.specs.FullTrace.{Tag, tracing_of}
 use Rattle.ppd_model.specs.Intervals.{Part, own, nested, Span, Split, item_of_event, item_of_span, items_of, splits, item_of}
 use Rattle.ppd_model.specs.Logs.{closed_logs}
-use Rattle.ppd_model.specs.Races.{races}
-use Rattle.ppd_model.specs.Schedule.{run}
 use Rattle.ppd_model.specs.Story.{story, told}
-use Rattle.ppd_model.specs.World.{World}
 use Rattle.ppd_model.proofs.Changes.{some}
 use Rattle.ppd_model.proofs.Earlier.{name_earlier}
 use Rattle.ppd_model.proofs.Items.{items_whole}
@@ -31,9 +28,9 @@ use Rattle.ppd_search.specs.Found.{and_more, before_others, edges_if, event_edge
 use Rattle.ppd_search.specs.Locals.{local_origin}
 use Rattle.ppd_search.specs.Own.{edges_of_nested, read_from}
 use Rattle.ppd_search.specs.Seen.{items_at}
-use Rattle.ppd_search.specs.Shared.{seen_at}
+use Rattle.ppd_search.specs.Shared.{seen_at, shared_origin}
 use Rattle.ppd_shared_edges.specs.Assembled.{EdgesAreFound, HasOwnParts}
-use Rattle.ppd_shared_edges.specs.SharedEdges.{all_seen}
+use Rattle.ppd_shared_edges.specs.SharedEdges.{IsSharedRead, all_seen}
 use Rattle.ppd_shared_edges.proofs.Back.Walks.{map_at}
 use Rattle.ppd_shared_edges.proofs.StepEvents.Processes.{Facts, facts}
 use Rattle.ppd_shared_edges.proofs.StepEvents.Timeline.{did}
@@ -62,7 +59,8 @@ zip_at (x ∷ xs) [] i a w e = absurd (none-some (a, w) e)
 zip_at (x ∷ xs) (y ∷ ys) zero a w e = (ap (λ (o : Option (Access × Tag)). elim o [ None ↦ Some x | Some z ↦ Some z.0 ]) e, ap (λ (o : Option (Access × Tag)). elim o [ None ↦ Some y | Some z ↦ Some z.1 ]) e)
 zip_at (x ∷ xs) (y ∷ ys) (suc i) a w e = zip_at xs ys i a w e
 
-module _ (program : Program) (plan : Plan) (budget : ℕ) (h : List ℕ) (w : World) (v : IsValid program) (r : run program plan budget h ≡ Some w) (free : races program plan budget h ≡ []) (p k j : ℕ) (x : Split) (there : slice_get (splits program plan budget (story program plan budget h)) p ≡ Some x) (parts : HasOwnParts program plan (splits program plan budget (story program plan budget h)) x p k j) where
+module _ (program : Program) (plan : Plan) (budget : ℕ) (h : List ℕ) (v : IsValid program) (p k j : ℕ) (x : Split) (there : slice_get (splits program plan budget (story program plan budget h)) p ≡ Some x) (parts : HasOwnParts program plan (splits program plan budget (story program plan budget h)) x p k j)
+    (shared : (c : ℕ) (tag : Tag) → IsSharedRead program plan budget h p k j c tag → shared_origin program (closed_logs program plan budget h) (all_seen program plan budget h) p k j c ≡ Ok (from_writer (splits program plan budget (story program plan budget h)) tag)) where
   abbrev xs : List Split
   xs = splits program plan budget (story program plan budget h)
 
@@ -76,7 +74,7 @@ module _ (program : Program) (plan : Plan) (budget : ℕ) (h : List ℕ) (w : Wo
       ap (λ q. Ok (read_from a (local_origin program plan q p k j frame c))) f.seen_is ∙ ap (λ o. Ok (read_from a o)) (parts.locals n i frame c e a t place at z spot)
   one_read n i e a t place at z (Shared c) spot =
       let both = zip_at e.event.reads e.writers i a t z in
-      ap (read_if a) (shared_origins program plan budget h w v r free p k j c t (record {
+      ap (read_if a) (shared c t (record {
         split = x;
         there = there;
         number = n;
@@ -151,4 +149,4 @@ module _ (program : Program) (plan : Plan) (budget : ℕ) (h : List ℕ) (w : Wo
           ∙ sym (ap (λ s. option_map (λ es. Ok es) (model_edges_if program plan xs x (part_in s j))) g)
 
 pub assembled : EdgesAreFound
-assembled program plan budget h w v r free p k j x there parts = all_edges program plan budget h w v r free p k j x there parts
+assembled program plan budget h w v r free p k j x there parts = all_edges program plan budget h v p k j x there parts (λ c tag s. shared_origins program plan budget h w v r free p k j c tag s)

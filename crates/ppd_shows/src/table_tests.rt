@@ -234,7 +234,7 @@ unit 3 after 5 reads -
 /// The room of the tests' output, in bytes.
 const ROOM: usize = 2_048;
 
-const USAGE: Written = ["usage: ppd flow|run|debug|show|drill\n", ""];
+const USAGE: Written = ["usage: ppd flow|run|debug|show|drill|slice\n", ""];
 
 // What the top call answers for these words over a shelf that holds a source as `row.c`, and an output of this room.
 fn call<R: Threads + Wait + Sync>(

@@ -74,4 +74,5 @@ IsNotRecalled bytes Memory = ⊤
 
 -- what is taken from accepted bytes belongs together
 abbrev pub IsRecalled : Recalled → Type 0
-IsRecalled r = BelongTogether r.recording.program r.recording.plan r.recording.logs r.index r.graph
+IsRecalled r =
+    BelongTogether r.recording.program r.recording.plan r.recording.logs r.index r.graph r.recording.logs r.index

@@ -4,10 +4,13 @@ use Rattle.std.proofs.Common.{◌≡◌, ℕ, List, sym, ◌∙◌, ap}
 use Rattle.ppd_words.specs.Words.{Text}
 use Rattle.ppd_top.specs.declared.words.Request.{Request as GivenRequest}
 use Rattle.ppd_top.specs.declared.words.Request.TheVariants.{Source, Recording, Drill}
+use Rattle.ppd_top.specs.declared.words.Request.TheVariants.{Query as query}
+use Rattle.ppd_query.specs.declared.query.Query.{Query as GivenQuery}
+use Rattle.ppd_query.specs.Queries.{query_of}
 use Rattle.ppd_top.specs.declared.words.SourceRequest.{SourceRequest}
 use Rattle.std.specs.Borrow.{Bor}
 use Rattle.ppd_top.specs.Words.{Command, asked, command_of, request_of}
-use Rattle.ppd_top.specs.Words.Request.{on_source, on_recording, on_number}
+use Rattle.ppd_top.specs.Words.Request.{on_source, on_recording, on_number, on_query}
 
 module _ (words : List Text) (o : Option GivenRequest) (is : option_map request_of o ≡ asked words) where
   asks_some : (q : GivenRequest) → o ≡ Some q → asked words ≡ Some (request_of q)
@@ -19,6 +22,9 @@ module _ (words : List Text) (o : Option GivenRequest) (is : option_map request_
 
   pub asks_recording : (q : GivenRequest) (n : Bor Text) → o ≡ Some q → q ≡ Recording n → asked words ≡ Some (on_recording n.now)
   asks_recording q n e f = asks_some q e ∙ ap (λ (p : GivenRequest). Some (request_of p)) f
+
+  pub asks_query : (q : GivenRequest) (n : Bor Text) (a : GivenQuery) → o ≡ Some q → q ≡ query n a → asked words ≡ Some (on_query n.now (query_of a))
+  asks_query q n a e f = asks_some q e ∙ ap (λ (p : GivenRequest). Some (request_of p)) f
 
   pub asks_drill : (q : GivenRequest) (n : ℕ) → o ≡ Some q → q ≡ Drill n → asked words ≡ Some (on_number n)
   asks_drill q n e f = asks_some q e ∙ ap (λ (p : GivenRequest). Some (request_of p)) f

@@ -129,7 +129,7 @@ module _ (words : List (Bor (List ℕ))) (held : Option (List ℕ → Option (Li
     name = name;
     bytes = bytes;
     line = line;
-    asked = asks;
+    asked = inl asks;
     loaded = loads;
     cause = why;
     not_accepted = λ r accepted. refused_or_accepted bytes line r accepted why;

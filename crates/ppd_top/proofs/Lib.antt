@@ -12,6 +12,7 @@ pub mod Recorded
 pub mod StoredRuns
 pub mod Debugged
 pub mod DrillEnds
+pub mod Queried
 pub mod Unloaded
 pub mod Inputs
 pub mod Clauses

@@ -99,12 +99,13 @@ module _ (program : Program) (plan : Plan) (budget : ℕ) (closed : Closed) (t :
       refused program plan budget t.schedule t.whole.last t.whole.runs e other r'
 
 -- with their index and graph they are what a session is about
-pub together : (program : Program) (plan : Plan) (budget : ℕ) (closed : Closed) (index : LogIndex) (graph : SyncGraph) → CanBeTold program plan budget closed → IsIndexOf plan closed.logs index.tables → AreFittingLogs plan closed.logs → IsGraphOf program closed.logs graph → BelongTogether program plan closed.logs index graph
+pub together : (program : Program) (plan : Plan) (budget : ℕ) (closed : Closed) (index : LogIndex) (graph : SyncGraph) → CanBeTold program plan budget closed → IsIndexOf plan closed.logs index.tables → AreFittingLogs plan closed.logs → IsGraphOf program closed.logs graph → BelongTogether program plan closed.logs index graph closed.logs index
 together program plan budget closed index graph t i f k = record {
   program_ok = t.program_ok;
   plan_ok = t.plan_ok;
   cells = told_cells program plan budget closed t;
   index_is = i;
+  cut_index_is = i;
   fitting = f;
   graph_is = k;
 }

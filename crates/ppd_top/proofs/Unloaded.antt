@@ -8,14 +8,14 @@ use Rattle.ppd_io.specs.declared.shelf.ShelfError.TheVariants as shelf
 use Rattle.ppd_top.specs.declared.options.Options.{Options}
 use Rattle.ppd_top.specs.Ran.{Around, Comes, DidNothing, IsUnloaded, LeftShelf}
 use Rattle.ppd_top.specs.Ran.Comes.{no_memory, not_loaded, recording_not_loaded}
-use Rattle.ppd_top.specs.Words.{Asks, AsksDebug, Command}
+use Rattle.ppd_top.specs.Words.{Asks, AsksRecording, Command}
 
 module _ (words : List (Bor (List ℕ))) (x y : Around) (schedule : List ℕ) (status : ℕ) (name : List ℕ) (left : LeftShelf x y) (none : DidNothing schedule x.io y.io) where
   pub source_unloaded : (command : Command) (options : Options) (error : ShelfError) → Asks words command name options → (error ≡ shelf.Failed → Rose (x.loads name) (y.loads name)) → IsUnloaded error status → Comes words x y schedule status
   source_unloaded command options shelf.Failed asks rose is = not_loaded command name options asks left is (rose refl) none
   source_unloaded command options shelf.Memory asks rose is = no_memory is left none
 
-  pub recording_unloaded : (error : ShelfError) → AsksDebug words name → (error ≡ shelf.Failed → Rose (x.loads name) (y.loads name)) → IsUnloaded error status → Comes words x y schedule status
+  pub recording_unloaded : (error : ShelfError) → AsksRecording words name → (error ≡ shelf.Failed → Rose (x.loads name) (y.loads name)) → IsUnloaded error status → Comes words x y schedule status
   recording_unloaded shelf.Failed asks rose is = recording_not_loaded name asks left is (rose refl) none
   recording_unloaded shelf.Memory asks rose is = no_memory is left none
 

@@ -21,7 +21,8 @@ use Rattle.ppd_top.specs.declared.following.FollowError.TheVariants.{Refused, No
 use Rattle.ppd_top.specs.Output.{AppendsFront, Standing, Talks, output}
 use Rattle.ppd_top.specs.Refusals.{refused}
 use Rattle.ppd_top.specs.Top.{EndsWith, Finished, IsStuckAt, IsUnfinished, IsWholeRun, drill_options, drill_out, known_of, most_bytes, out_of, plan_of, summary_of_run, usage, most_recording, IsRecordingOfRun}
-use Rattle.ppd_top.specs.Words.{Asks, AsksDebug, AsksDrill, Command, IsNotAsked}
+use Rattle.ppd_query.specs.Queries.{Gives, Query}
+use Rattle.ppd_top.specs.Words.{Asks, AsksDebug, AsksDrill, AsksQuery, AsksRecording, Command, IsNotAsked}
 use Rattle.ppd_top.specs.Words.Command.{Flow, Run, Show}
 use Rattle.ppd_codec.specs.declared.recording.Recording.{Recording}
 use Rattle.ppd_stored.specs.Recordings.{IsAccepted, IsRefusedBy, known_of as known_of_recording}
@@ -98,6 +99,21 @@ pub data Debugs (bytes : List ℕ) (a b : Standing) (status : ℕ) : Type 0 wher
       → Finished a.written b.written a.writes b.writes status 6 line → Debugs bytes a b status
   recalled : (r : Recording) → IsAccepted bytes r → Talks (known_of_recording r) [] a b status → Debugs bytes a b status
 
+-- what a query comes to for an accepted recording: want of memory, or what belongs to it
+abbrev pub IsTold : Recording → Query → Option (List ℕ) → Option (List ℕ) → ℕ → ℕ → ℕ → Type 0
+IsTold r query old new before now status =
+    ((status ≡ 5) × (new ≡ old))
+    ⊎ ((given : ℕ) × (text : List ℕ) × Gives r query [] given text × Finished old new before now status given text)
+
+-- what a query comes to for the bytes of a recording: want of memory, a refusal, or what belongs to it
+pub data Queries (bytes : List ℕ) (query : Query) (schedule : List ℕ) (old new : Option (List ℕ)) (before now : ℕ)
+    (status : ℕ) : Type 0 where
+  no_query : status ≡ 5 → schedule ≡ [] → new ≡ old → Queries bytes query schedule old new before now status
+  query_refused : (line : List ℕ) → IsRefusedBy bytes line → schedule ≡ []
+      → Finished old new before now status 6 line → Queries bytes query schedule old new before now status
+  queried : (r : Recording) → IsAccepted bytes r → (given : ℕ) (text : List ℕ) → Gives r query schedule given text
+      → Finished old new before now status given text → Queries bytes query schedule old new before now status
+
 -- the status of a load that was not done
 abbrev pub IsUnloaded : ShelfError → ℕ → Type 0
 IsUnloaded shelf.Failed status = status ≡ 3
@@ -153,7 +169,7 @@ pub record LeftShelf (x y : Around) : Type 0 where
   pub stores : (n : List ℕ) → y.stores n ≡ x.stores n
 
 -- what a call comes to, by how far it came: to words that ask for nothing, to want of memory, to a load that failed, to
--- a refused source, to a program, to a recording, or to a drill
+-- a refused source, to a program, to a recording, to a drill, or to a query
 pub data Comes (words : List (Bor (List ℕ))) (x y : Around) (schedule : List ℕ) (status : ℕ) : Type 0 where
   not_asked : IsNotAsked words → LeftShelf x y → schedule ≡ [] → y.io.left ≡ x.io.left
       → Finished x.io.written y.io.written x.io.writes y.io.writes status 2 usage → Comes words x y schedule status
@@ -175,12 +191,16 @@ pub data Comes (words : List (Bor (List ℕ))) (x y : Around) (schedule : List �
       → Asks words (Run recording) name options → Loads x.held name most_bytes bytes → IsRead bytes program
       → y.io.left ≡ x.io.left → Records bytes program options recording schedule (kept_in x) (kept_in y) status
       → Comes words x y schedule status
-  recording_not_loaded : (name : List ℕ) → AsksDebug words name → LeftShelf x y → status ≡ 3
+  recording_not_loaded : (name : List ℕ) → AsksRecording words name → LeftShelf x y → status ≡ 3
       → Rose (x.loads name) (y.loads name) → DidNothing schedule x.io y.io → Comes words x y schedule status
   debug_done : (name bytes : List ℕ) → AsksDebug words name → Loads x.held name most_recording bytes → LeftShelf x y
       → schedule ≡ [] → Debugs bytes x.io y.io status → Comes words x y schedule status
   drill_done : (number : ℕ) → AsksDrill words number → LeftShelf x y → y.io.left ≡ x.io.left
       → Drilled number schedule x.io.written y.io.written x.io.writes y.io.writes status
+      → Comes words x y schedule status
+  query_done : (name : List ℕ) (query : Query) (bytes : List ℕ) → AsksQuery words name query
+      → Loads x.held name most_recording bytes → LeftShelf x y → y.io.left ≡ x.io.left
+      → Queries bytes query schedule x.io.written y.io.written x.io.writes y.io.writes status
       → Comes words x y schedule status
 
 -- ---- a schedule that is handed in

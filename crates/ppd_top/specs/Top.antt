@@ -24,10 +24,11 @@ use Rattle.ppd_top.specs.declared.following.FollowError.TheVariants.{Refused, No
 use Rattle.ppd_top.specs.Output.{AppendsFront, AreCommands, AreFine, IsBroken, IsReadNoFurther, Output, Standing, answers, before, output}
 use Rattle.ppd_top.specs.Refusals.{refused}
 use Rattle.ppd_top.specs.Summary.{summary}
-use Rattle.ppd_top.specs.Words.{Asks, AsksDebug, AsksDrill, Command, IsNotAsked}
+use Rattle.ppd_top.specs.Words.{Asks, AsksDebug, AsksDrill, AsksQuery, AsksRecording, Command, IsNotAsked}
 use Rattle.ppd_top.specs.Words.Command.{Flow, Run, Show}
 use Rattle.ppd_codec.specs.declared.recording.Header.{Header}
 use Rattle.ppd_codec.specs.declared.recording.Recording.{Recording}
+use Rattle.ppd_query.specs.Queries.{Gives, Query}
 use Rattle.ppd_stored.specs.Laws.{IsKnownOfRuns}
 use Rattle.ppd_stored.specs.Recordings.{IsAccepted, IsRefusedBy, IsRunRecorded, known_of as known_of_recording}
 
@@ -91,7 +92,7 @@ IsRecordingOfRun source program options schedule recording =
 -- ---- what is written
 
 abbrev pub usage : List ℕ
-usage = codes "usage: ppd flow|run|debug|show|drill\n"
+usage = codes "usage: ppd flow|run|debug|show|drill|slice\n"
 
 -- what a command writes in all for a source, with which status and schedule, where the input has these commands
 pub data Answers (bytes : List ℕ) (options : Options) (commands : List ℕ) : (command : Command) (schedule : List ℕ)
@@ -110,6 +111,12 @@ pub data Recalls (bytes : List ℕ) (commands : List ℕ) : Output → Type 0 wh
   refused_recording : (line : List ℕ) → IsRefusedBy bytes line → Recalls bytes commands (output 6 line)
   answered : (r : Recording) → IsAccepted bytes r → Recalls bytes commands (answers (known_of_recording r) commands)
 
+-- what is written in all for what is asked of a recording, with which status, and which schedule was taken then
+pub data Tells (bytes : List ℕ) (query : Query) : (schedule : List ℕ) → Output → Type 0 where
+  not_recalled : (line : List ℕ) → IsRefusedBy bytes line → Tells bytes query [] (output 6 line)
+  given : (r : Recording) (schedule : List ℕ) (status : ℕ) (text : List ℕ) → IsAccepted bytes r
+      → Gives r query schedule status text → Tells bytes query schedule (output status text)
+
 -- what the command writes in all: said of the words, the shelf, the schedule and the commands
 pub data Writes (words : List (Bor (List ℕ))) (held : Option (List ℕ → Option (List ℕ)))
     (schedule commands : List ℕ) : Output → Type 0 where
@@ -121,6 +128,9 @@ pub data Writes (words : List (Bor (List ℕ))) (held : Option (List ℕ → Opt
       → schedule ≡ [] → (out : Output) → Recalls bytes commands out → Writes words held schedule commands out
   for_number : (number : ℕ) → AsksDrill words number → (out : Output)
       → Answers (generated number) drill_options drill_commands Flow schedule out
+      → Writes words held schedule commands out
+  for_query : (name : List ℕ) (query : Query) (bytes : List ℕ) → AsksQuery words name query
+      → Loads held name most_recording bytes → (out : Output) → Tells bytes query schedule out
       → Writes words held schedule commands out
 
 -- what a text leaves: all of it with its status, or a proper prefix with status 4 and a rise of the count
@@ -211,6 +221,23 @@ pub record WasAnswered (words : List (Bor (List ℕ))) (held : Option (List ℕ 
   pub status_is : status ≡ (answers (known_of_recording recording) commands).status
   pub written : Appends a.written b.written (answers (known_of_recording recording) commands).text
 
+-- statuses 0 and 6 of a query: the loaded recording was accepted, and what belongs to the query was written, with its
+-- status. What is known of the recording is what is known of the run, where it is that of a whole one, and of each
+-- schedule that agrees with a run without a race
+pub record WasQueried (words : List (Bor (List ℕ))) (held : Option (List ℕ → Option (List ℕ))) (schedule : List ℕ)
+    (old new : Option (List ℕ)) (status : ℕ) : Type 0 where
+  pub name : List ℕ
+  pub query : Query
+  pub bytes : List ℕ
+  pub recording : Recording
+  pub text : List ℕ
+  pub asked : AsksQuery words name query
+  pub loaded : Loads held name most_recording bytes
+  pub accepted : IsAccepted bytes recording
+  pub of_runs : IsKnownOfRuns bytes (known_of_recording recording)
+  pub gives : Gives recording query schedule status text
+  pub written : Appends old new text
+
 -- status 6: the loaded bytes are refused, and the line that says why was written; they are accepted by no recording,
 -- and are that of no whole run
 pub record WasNotRecalled (words : List (Bor (List ℕ))) (held : Option (List ℕ → Option (List ℕ))) (schedule : List ℕ)
@@ -218,7 +245,7 @@ pub record WasNotRecalled (words : List (Bor (List ℕ))) (held : Option (List �
   pub name : List ℕ
   pub bytes : List ℕ
   pub line : List ℕ
-  pub asked : AsksDebug words name
+  pub asked : AsksRecording words name
   pub loaded : Loads held name most_recording bytes
   pub cause : IsRefusedBy bytes line
   pub not_accepted : (r : Recording) → IsAccepted bytes r → ⊥
@@ -235,6 +262,14 @@ pub record ReplayRefused (words : List (Bor (List ℕ))) (held : Option (List �
   pub answered : WasAnswered words held schedule a b 6
   pub of_no_run : (source : List ℕ) (header : Header) (program : Program) (h : List ℕ)
       → IsRunRecorded source header program h answered.recalled.bytes → ⊥
+
+-- or a replay failed that the answer to a query needs, and the line that says so was written; the recording is that of
+-- no whole run
+pub record QueryRefused (words : List (Bor (List ℕ))) (held : Option (List ℕ → Option (List ℕ))) (schedule : List ℕ)
+    (old new : Option (List ℕ)) : Type 0 where
+  pub queried : WasQueried words held schedule old new 6
+  pub of_no_run : (source : List ℕ) (header : Header) (program : Program) (h : List ℕ)
+      → IsRunRecorded source header program h queried.bytes → ⊥
 
 -- status 1: the loaded source has no program, and the line that says why was written
 pub record WasRefused (words : List (Bor (List ℕ))) (held : Option (List ℕ → Option (List ℕ)))
@@ -277,11 +312,11 @@ pub record LoadFailed (words : List (Bor (List ℕ))) (before now : List ℕ →
   pub no_run : schedule ≡ []
   pub written : new ≡ old
 
--- or in `debug` a load of the recording's name
+-- or, where the words ask for a recording, a load of its name
 pub record RecordingUnread (words : List (Bor (List ℕ))) (before now : List ℕ → ℕ) (schedule : List ℕ)
     (old new : Option (List ℕ)) : Type 0 where
   pub name : List ℕ
-  pub asked : AsksDebug words name
+  pub asked : AsksRecording words name
   pub rose : Rose (before name) (now name)
   pub no_run : schedule ≡ []
   pub written : new ≡ old
@@ -416,6 +451,25 @@ pub record IsPromisedAnswers (words : List (Bor (List ℕ))) (held : Option (Lis
   pub no_load_fault : Rose (loads_before name) (loads_now name) → ⊥
   pub no_write_fault : Rose a.writes b.writes → ⊥
   pub fine : IsFineInput a b
+
+-- A query of the told recording of a whole run succeeds, but for want of memory, where no load of its name and no write
+-- failed.
+pub record IsPromisedQuery (words : List (Bor (List ℕ))) (held : Option (List ℕ → Option (List ℕ)))
+    (loads_before loads_now : List ℕ → ℕ) (writes_before writes_now : ℕ) : Type 0 where
+  pub name : List ℕ
+  pub query : Query
+  pub at : List ℕ → Option (List ℕ)
+  pub all : List ℕ
+  pub source : List ℕ
+  pub header : Header
+  pub program : Program
+  pub schedule : List ℕ
+  pub asked : AsksQuery words name query
+  pub told : held ≡ Some at
+  pub there : at name ≡ Some all
+  pub of_run : IsRunRecorded source header program schedule (take most_recording all)
+  pub no_load_fault : Rose (loads_before name) (loads_now name) → ⊥
+  pub no_write_fault : Rose writes_before writes_now → ⊥
 
 -- A drill whose number makes a source of the language succeeds, but for want of memory, where no write failed.
 pub record IsPromisedDrill (words : List (Bor (List ℕ))) (writes_before writes_now : ℕ) : Type 0 where

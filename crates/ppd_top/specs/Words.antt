@@ -1,6 +1,6 @@
 -- The words after the program's name: the command that they give, with its options and the name of a source, or its
 -- number.
-use Rattle.std.specs.Prelude.{◌≡◌, ℕ, ◌≤◌, ◌&&◌, nat_le, List, [], ◌∷◌, Option, Some, None, if◌then◌else◌, codes, option_map, ⊤}
+use Rattle.std.specs.Prelude.{◌≡◌, ◌⊎◌, ℕ, ◌≤◌, ◌&&◌, nat_le, List, [], ◌∷◌, Option, Some, None, if◌then◌else◌, codes, option_map, ⊤}
 use Rattle.std.specs.Borrow.{Bor}
 use Rattle.ppd_ast.specs.ValidPlan.{IsValidPolicy}
 use Rattle.ppd_ast.specs.declared.limits.TheConstants.{DEFAULT_BUDGET, MOST_BUDGET, MOST_DRILL, MOST_POLICY}
@@ -15,6 +15,9 @@ use Rattle.ppd_top.specs.declared.words.Command.{Command as GivenCommand}
 use Rattle.ppd_top.specs.declared.words.Command.TheVariants as given
 use Rattle.ppd_top.specs.declared.words.Request.{Request as GivenRequest}
 use Rattle.ppd_top.specs.declared.words.Request.TheVariants.{Source, Recording, Drill}
+use Rattle.ppd_top.specs.declared.words.Request.TheVariants as request
+use Rattle.ppd_query.specs.Queries.{ItemAsked, Query, query_of}
+use Rattle.ppd_query.specs.Queries.Query.{Slice}
 
 -- ---- the words of options and names
 
@@ -59,11 +62,12 @@ pub data Command : Type 0 where
   Show : Command
 
 -- a command on the source of this name, with these options, or the lines of the input on the recording of this name, or
--- the run of the source that this number makes
+-- the run of the source that this number makes, or a query of the recording of this name
 pub data Request : Type 0 where
   on_source : Command → (name : Text) → Options → Request
   on_recording : (name : Text) → Request
   on_number : ℕ → Request
+  on_query : (name : Text) → Query → Request
 
 abbrev pub command_of : GivenCommand → Command
 command_of given.Flow = Flow
@@ -74,6 +78,7 @@ abbrev pub request_of : GivenRequest → Request
 request_of (Source r) = on_source (command_of r.command) r.name.now r.options
 request_of (Recording name) = on_recording name.now
 request_of (Drill number) = on_number number
+request_of (request.Query name query) = on_query name.now (query_of query)
 
 -- what a command on a source asks for, where all its names and its options are there
 abbrev pub with_source : Option Command → Option Text → Option Options → Option Request
@@ -91,13 +96,42 @@ abbrev pub drill_in : Option Text → Option ℕ
 drill_in None = None
 drill_in (Some w) = within 0 MOST_DRILL (number_of_word w)
 
--- what each command asks for
+-- the number of an interval or of an item, in 1 to 9 digits, which must be there
+abbrev pub item_number_in : Option Text → Option ℕ
+item_number_in None = None
+item_number_in (Some w) = within 0 999999999 (number_of_word w)
+
+-- an item, where the name of its process and both numbers are there
+abbrev pub with_item : Option Text → Option ℕ → Option ℕ → Option ItemAsked
+with_item (Some p) (Some k) (Some j) = Some (record { process = p; interval = k; item = j })
+with_item _ _ _ = None
+
+abbrev pub item_in : Values → Option ItemAsked
+item_in v =
+    with_item (name_in (v (codes "process"))) (item_number_in (v (codes "interval"))) (item_number_in (v (codes "item")))
+
+abbrev pub slice_in : Values → Option Query
+slice_in v = option_map Slice (item_in v)
+
+-- a query of a recording, where it and the name are there
+abbrev pub with_query : Option Query → Option Text → Option Request
+with_query (Some query) (Some name) = Some (on_query name query)
+with_query _ _ = None
+
+abbrev pub query_by : Values → Option Query → Option Request
+query_by v query = with_query query (name_in (v (codes "recording")))
+
+-- what each command asks for; those that are not built yet ask for nothing
 abbrev pub asked_of : Word → Values → Option Request
 asked_of word.Flow v = asked_by (Some Flow) v
 asked_of word.Run v = asked_by (run_in v) v
 asked_of word.Debug v = option_map on_recording (name_in (v (codes "recording")))
 asked_of word.Show v = asked_by (Some Show) v
 asked_of word.Drill v = option_map on_number (drill_in (v (codes "number")))
+asked_of word.Slice v = query_by v (slice_in v)
+asked_of word.Rerun v = None
+asked_of word.Clean v = None
+asked_of word.Whole v = None
 
 abbrev pub with_given : Option (Word × Uses) → Option Request
 with_given None = None
@@ -119,6 +153,14 @@ AsksDebug words name = asked (texts_in words) ≡ Some (on_recording name)
 abbrev pub AsksDrill : List (Bor (List ℕ)) → (number : ℕ) → Type 0
 AsksDrill words number = asked (texts_in words) ≡ Some (on_number number)
 
+-- the words ask for this query of the recording of this name
+abbrev pub AsksQuery : List (Bor (List ℕ)) → (name : List ℕ) → Query → Type 0
+AsksQuery words name query = asked (texts_in words) ≡ Some (on_query name query)
+
+-- the words ask for the recording of this name, for the lines of the input or for a query
+abbrev pub AsksRecording : List (Bor (List ℕ)) → (name : List ℕ) → Type 0
+AsksRecording words name = AsksDebug words name ⊎ ((query : Query) × AsksQuery words name query)
+
 -- the words ask for nothing
 abbrev pub IsNotAsked : List (Bor (List ℕ)) → Type 0
 IsNotAsked words = asked (texts_in words) ≡ None
@@ -133,4 +175,5 @@ pub record AreInRange (options : Options) : Type 0 where
 abbrev pub IsInRange : GivenRequest → Type 0
 IsInRange (Source r) = AreInRange r.options
 IsInRange (Recording name) = ⊤
+IsInRange (request.Query name query) = ⊤
 IsInRange (Drill number) = number ≤ MOST_DRILL

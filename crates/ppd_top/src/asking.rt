@@ -51,7 +51,7 @@ fn deliver<O: Sink>(reply: &Reply, output: &mut O) -> Option<u8>
 }
 
 /// Ends the answers where a line has none, with a line that says why, and answers the status.
-fn refuse_replay<O: Sink>(
+pub(crate) fn refuse_replay<O: Sink>(
     alloc: Global,
     program: &Program,
     error: SessionError,

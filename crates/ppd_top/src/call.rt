@@ -1,18 +1,20 @@
 // The top call.
-ghost use Rattle.std.specs.Prelude.{◌≡◌, ◌<◌, ◌⊎◌, ℕ, List, []};
+ghost use Rattle.std.specs.Prelude.{◌≡◌, ◌<◌, ◌⊎◌, ℕ, List, [], Option};
 ghost use Rattle.std.specs.Borrow.{Bor};
 ghost use Rattle.ppd_io.specs.Content.{StoreFails};
 ghost use Rattle.ppd_top.specs.declared.options.Options.{Options as OptionsOf};
 ghost use Rattle.ppd_top.specs.Output.{standing};
 ghost use Rattle.ppd_top.specs.Ran.{Comes, IsUnloaded, Refuses, around};
-ghost use Rattle.ppd_top.specs.Top.{AnswersCutOff, DrillCutOff, InputFailed, IsPromised, IsPromisedAnswers, IsPromisedDrill, LinesFailed, LoadFailed, MemoryRanOut, RanWhole, RecordingUnread, ReplayRefused, StoreFailed, WasAnswered, WasCutOff, WasDrilled, WasNotAsked, WasNotDrilled, WasNotRecalled, WasNotStored, WasRefused, WasShown, WasStored, WriteFailed};
-ghost use Rattle.ppd_top.specs.Words.{AreInRange, Asks, AsksDebug, command_of};
+ghost use Rattle.ppd_top.specs.Top.{AnswersCutOff, DrillCutOff, InputFailed, IsPromised, IsPromisedAnswers, IsPromisedDrill, IsPromisedQuery, LinesFailed, LoadFailed, MemoryRanOut, QueryRefused, RanWhole, RecordingUnread, ReplayRefused, StoreFailed, WasAnswered, WasCutOff, WasDrilled, WasNotAsked, WasNotDrilled, WasNotRecalled, WasNotStored, WasQueried, WasRefused, WasShown, WasStored, WriteFailed};
+ghost use Rattle.ppd_query.specs.Queries.{query_of};
+ghost use Rattle.ppd_top.specs.Words.{AreInRange, Asks, AsksDebug, AsksQuery, command_of};
 ghost use Rattle.ppd_top.specs.Words.Command.{Flow, Run};
 
 use crate::asking::finish;
 use crate::debugging::debug;
 use crate::drilling::drill;
 use crate::flow::{flow, show};
+use crate::querying::tell_query;
 use crate::refusal::refusal_line;
 use crate::run::{Means, Task};
 use crate::storing::{RecordTask, record_run};
@@ -21,6 +23,7 @@ use ppd_ast::limits::{MOST_RECORDING_BYTES, MOST_SOURCE_BYTES};
 use ppd_ast::{Bytes, Memory, Seq};
 use ppd_check::{SourceError, read_source};
 use ppd_io::{Gate, Shelf, ShelfError, Sink, Source};
+use ppd_query::Query;
 use std::alloc::Global;
 use std::sync::Wait;
 use std::thread::Threads;
@@ -33,7 +36,7 @@ pub struct Outcome {
     pub schedule: Bytes,
 }
 
-const USAGE: &[u8] = b"usage: ppd flow|run|debug|show|drill\n";
+const USAGE: &[u8] = b"usage: ppd flow|run|debug|show|drill|slice\n";
 
 /// One byte more than the longest source, so that a longer one is seen.
 const MOST_BYTES: usize = MOST_SOURCE_BYTES + 1;
@@ -43,8 +46,9 @@ const MOST_RECORDING: usize = MOST_RECORDING_BYTES + 1;
 
 /// Does all that the program does. The words are those after the program's name: a command, its options in any order,
 /// each at most once, and its names. The options of `flow` and `run` are `--budget N`, `--leaf N` and `--loops N`, each
-/// also as `--budget=N`; `show` has the last two, and `debug` and `drill` none. The name of `drill` is a number of
-/// at most 999,999.
+/// also as `--budget=N`; `show` has the last two, and the others none. The name of `drill` is a number of
+/// at most 999,999; after the name of its recording `slice` has that of a process, and the numbers of an interval and of
+/// an item, each in 1 to 9 digits.
 ///
 /// In `flow`, `run` and `drill` each process has a thread, which passes the gate before it copies its process, before
 /// it commits the steps that it took on the copy, and before the turn that follows a commit in vain. The schedule is
@@ -52,11 +56,12 @@ const MOST_RECORDING: usize = MOST_RECORDING_BYTES + 1;
 /// summary, and then answers the lines of the input, each before the next is read, through the first `quit` or else to
 /// the end. `debug` tests the bytes of a recording, then its logs, then their synchronization, and answers the lines.
 /// `drill` does what `flow` does, on the source that its number makes, with a budget of 500,000 and the one line
-/// `final` in place of the input.
+/// `final` in place of the input. `slice` tests the bytes of a recording as `debug` does, and then writes what the item
+/// came from, or why it does not.
 ///
 /// - 0: in `flow` the source's program ran to its end, and its summary and all answers were written; in `run` its
 ///   recording was stored and its summary written; in `show` the tables of the source's program were written; in
-///   `debug` all answers; in `drill` the summary and the last values.
+///   `debug` all answers; in `drill` the summary and the last values; in `slice` the answer, or one line that refuses it.
 /// - 1: the source, in `drill` that of the number, has no program, and the line that says why was written.
 /// - 2: the words are others, and the usage line was written.
 /// - 3: the shelf failed to load the source or the recording, and nothing was written; or in `flow` and `debug` a read
@@ -64,13 +69,13 @@ const MOST_RECORDING: usize = MOST_RECORDING_BYTES + 1;
 /// - 4: the output failed, and a proper prefix of what belongs there was written; or in `run` the store failed.
 /// - 5: want of memory, and a prefix of what belongs there was written; nothing where no run came to its end. It may
 ///   come whatever the words are.
-/// - 6: in `debug` the recording is refused, and the line that says why was written; or a replay failed that the answer
-///   to a line needs, and the answers before it and the line that says so were written.
+/// - 6: in `debug` and `slice` the recording is refused, and the line that says why was written; or a replay failed that
+///   the answer needs, to a line in `debug`, and the answers before it and the line that says so were written.
 /// - 7: in `flow` or `debug` a line has more than 4,096 bytes, and `long line` was written in place of its answer.
 /// - 8: in `flow` or `debug` there is a line number 65,537 and no `quit` before it, and `many lines` was written.
 ///
-/// In `run`, `show` and `drill` the input is not read; in `show` and `debug` the gate is not called. But for a store of
-/// `run` the shelf holds what it held.
+/// In `run`, `show`, `drill` and `slice` the input is not read; in `show`, `debug` and `slice` the gate is not called. But
+/// for a store of `run` the shelf holds what it held.
 pub fn ppd<F: Shelf, I: Source, O: Sink, G: Gate, R: Threads + Wait + Sync>(
     rt: &R,
     alloc: Global,
@@ -90,7 +95,8 @@ pub fn ppd<F: Shelf, I: Source, O: Sink, G: Gate, R: Threads + Wait + Sync>(
         ⊎ (WasAnswered words.now (F.held shelf.old) result.schedule
         (standing (I.left input.old) (I.faults input.old) (O.written output.old) (O.faults output.old))
         (standing (I.left input.new) (I.faults input.new) (O.written output.new) (O.faults output.new)) 0
-        ⊎ WasDrilled words.now result.schedule (O.written output.old) (O.written output.new)))) }
+        ⊎ (WasDrilled words.now result.schedule (O.written output.old) (O.written output.new)
+        ⊎ WasQueried words.now (F.held shelf.old) result.schedule (O.written output.old) (O.written output.new) 0)))) }
     ensures lines { (result.status ≡ 7) ⊎ (result.status ≡ 8) → RanWhole words.now (F.held shelf.old) result.schedule
         (standing (I.left input.old) (I.faults input.old) (O.written output.old) (O.faults output.old))
         (standing (I.left input.new) (I.faults input.new) (O.written output.new) (O.faults output.new)) result.status
@@ -132,9 +138,10 @@ pub fn ppd<F: Shelf, I: Source, O: Sink, G: Gate, R: Threads + Wait + Sync>(
     ensures recording { result.status ≡ 6 → WasNotRecalled words.now (F.held shelf.old) result.schedule
         (standing (I.left input.old) (I.faults input.old) (O.written output.old) (O.faults output.old))
         (standing (I.left input.new) (I.faults input.new) (O.written output.new) (O.faults output.new))
-        ⊎ ReplayRefused words.now (F.held shelf.old) result.schedule
+        ⊎ (ReplayRefused words.now (F.held shelf.old) result.schedule
         (standing (I.left input.old) (I.faults input.old) (O.written output.old) (O.faults output.old))
-        (standing (I.left input.new) (I.faults input.new) (O.written output.new) (O.faults output.new)) }
+        (standing (I.left input.new) (I.faults input.new) (O.written output.new) (O.faults output.new))
+        ⊎ QueryRefused words.now (F.held shelf.old) result.schedule (O.written output.old) (O.written output.new)) }
     ensures complete { IsPromised words.now (F.held shelf.old) (F.failed_loads shelf.old) (F.failed_loads shelf.new)
         (F.failed_stores shelf.old) (F.failed_stores shelf.new)
         (standing (I.left input.old) (I.faults input.old) (O.written output.old) (O.faults output.old))
@@ -146,6 +153,9 @@ pub fn ppd<F: Shelf, I: Source, O: Sink, G: Gate, R: Threads + Wait + Sync>(
         (standing (I.left input.new) (I.faults input.new) (O.written output.new) (O.faults output.new))
         → (result.status ≡ 0) ⊎ (result.status ≡ 5) }
     ensures drills { IsPromisedDrill words.now (O.faults output.old) (O.faults output.new)
+        → (result.status ≡ 0) ⊎ (result.status ≡ 5) }
+    ensures queries { IsPromisedQuery words.now (F.held shelf.old) (F.failed_loads shelf.old)
+        (F.failed_loads shelf.new) (O.faults output.old) (O.faults output.new)
         → (result.status ≡ 0) ⊎ (result.status ≡ 5) }
     ensures no_run { (result.status ≡ 1) ⊎ (result.status ≡ 2) → result.schedule ≡ [] }
     ensures shelf { (result.status ≡ 1) ⊎ ((result.status ≡ 2) ⊎ ((result.status ≡ 3)
@@ -197,6 +207,9 @@ fn answer<F: Shelf, I: Source, O: Sink, G: Gate, R: Threads + Wait + Sync>(
             on_recording(means.rt, means.alloc, name, shelf, input, output)
         }
         Request::Drill(number) => drill(means, number, output),
+        Request::Query(name, query) => {
+            on_query(means.rt, means.alloc, name, &query, shelf, output)
+        }
     }
 }
 
@@ -266,6 +279,32 @@ fn on_recording<F: Shelf, I: Source, O: Sink>(
         Err(error) => unloaded(alloc, error),
         Ok(recording) => Outcome {
             status: debug(rt, alloc, &recording, input, output),
+            schedule: Seq::new(alloc),
+        },
+    }
+}
+
+/// Answers what is asked of the recording of this name.
+fn on_query<F: Shelf, O: Sink>(
+    rt: &(impl Threads + Sync),
+    alloc: Global,
+    name: &str,
+    query: &Query<'_>,
+    shelf: &mut F,
+    output: &mut O,
+) -> Outcome
+    ensures { (words : List (Bor (List ℕ))) (left : Option (List ℕ)) (reads : ℕ)
+        → AsksQuery words name.now (query_of query.now) → Comes words
+        (around (F.held shelf.old) (F.failed_loads shelf.old) (F.failed_stores shelf.old)
+        (standing left reads (O.written output.old) (O.faults output.old)))
+        (around (F.held shelf.new) (F.failed_loads shelf.new) (F.failed_stores shelf.new)
+        (standing left reads (O.written output.new) (O.faults output.new)))
+        result.schedule result.status }
+{
+    match shelf.load(alloc, name, MOST_RECORDING) {
+        Err(error) => unloaded(alloc, error),
+        Ok(recording) => Outcome {
+            status: tell_query(rt, alloc, &recording, query, output),
             schedule: Seq::new(alloc),
         },
     }

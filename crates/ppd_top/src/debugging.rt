@@ -30,6 +30,8 @@ fn converse<I: Source, O: Sink>(
         logs: &recalled.recording.logs,
         index: &recalled.index,
         graph: &recalled.graph,
+        cut: &recalled.recording.logs,
+        cut_index: &recalled.index,
         budget: recalled.recording.header.budget,
     };
     let Ok(mut session) = Session::new(rt, alloc, past) else {

@@ -9,6 +9,7 @@ mod drilling;
 mod flow;
 mod following;
 mod options;
+mod querying;
 mod refusal;
 mod run;
 mod storing;

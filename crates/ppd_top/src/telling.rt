@@ -107,6 +107,8 @@ pub(crate) fn summarize(
         logs: &run.closed.logs,
         index: &index,
         graph: &graph,
+        cut: &run.closed.logs,
+        cut_index: &index,
         budget: run.budget,
     };
     let session = Session::new(rt, alloc, past)?;
@@ -140,6 +142,8 @@ pub(crate) fn tell<I: Source, O: Sink>(
         logs: &run.closed.logs,
         index: &index,
         graph: &graph,
+        cut: &run.closed.logs,
+        cut_index: &index,
         budget: run.budget,
     };
     let Ok(mut session) = Session::new(rt, alloc, past) else {

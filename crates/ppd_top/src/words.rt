@@ -3,14 +3,21 @@ ghost use Rattle.std.specs.Prelude.{◌≡◌, ◌<◌, ◌≤◌, IfOk, IfSome,
 ghost use Rattle.ppd_words.specs.Reads.{texts_in};
 ghost use Rattle.ppd_words.specs.declared.commands.Command.TheVariants as word;
 ghost use Rattle.clap.specs.Matches.{first_value, found_of};
-ghost use Rattle.ppd_top.specs.Words.{AreInRange, IsInRange, asked as asked_for, asked_by, asked_of, command_of, name_in, number_in as number_for, options_in as options_for, request_of, run_in};
+ghost use Rattle.ppd_query.specs.Queries.{asked_of as item_asked, query_of};
+ghost use Rattle.ppd_top.specs.Words.{AreInRange, IsInRange, asked as asked_for, asked_by, asked_of, command_of};
+ghost use Rattle.ppd_top.specs.Words.{item_in, item_number_in, name_in, number_in as number_for};
+ghost use Rattle.ppd_top.specs.Words.{options_in as options_for, query_by, request_of, run_in, slice_in};
 
 use crate::options::Options;
 use ppd_ast::limits::{DEFAULT_BUDGET, MOST_BUDGET, MOST_DRILL, MOST_POLICY};
 use ppd_ast::{Memory, Policy};
+use ppd_query::{AskedItem, Query};
 use ppd_text::number_in;
 use ppd_words::{Command as Word, CommandWords, read_command};
 use std::alloc::Global;
+
+/// The greatest number of 9 digits.
+const MOST_ITEM_NUMBER: u32 = 999_999_999;
 
 /// What a source is loaded for.
 #[derive(Clone, Copy)]
@@ -41,6 +48,8 @@ pub(crate) enum Request<'a> {
     Recording(&'a str),
     /// The source that this number makes is run, and its summary and last values are written.
     Drill(u32),
+    /// This is asked of the recording of this name.
+    Query(&'a str, Query<'a>),
 }
 
 /// An option's number, from `least` to `most`: that of its word, or the usual one where it has none.
@@ -59,6 +68,14 @@ fn number_of(word: Option<&str>, usual: u32, least: u32, most: u32) -> Option<u3
         return Some(number as u32);
     }
     None
+}
+
+/// The number of an interval or of an item, in 1 to 9 digits.
+fn item_number_of(given: &CommandWords<'_>, id: &str) -> Option<u32>
+    ensures { result ≡ item_number_in (first_value (found_of given.now.matches) id.now) }
+{
+    let word = given.value(id)?;
+    number_of(Some(word), 0, 0, MOST_ITEM_NUMBER)
 }
 
 /// The options, each with its default where it was not given.
@@ -132,6 +149,39 @@ fn on_number<'a>(given: &CommandWords<'a>) -> Option<Request<'a>>
     Some(Request::Drill(number))
 }
 
+/// An item of a recording, by the words of its process, interval and number.
+fn item_of<'a>(given: &CommandWords<'a>) -> Option<AskedItem<'a>>
+    ensures { option_map item_asked result ≡ item_in (first_value (found_of given.now.matches)) }
+{
+    let process = name_of(given, "process")?;
+    let interval = item_number_of(given, "interval")?;
+    let item = item_number_of(given, "item")?;
+    Some(AskedItem {
+        process,
+        interval,
+        item,
+    })
+}
+
+/// What is asked of a recording, with its name, if both are there.
+fn on_query<'a>(given: &CommandWords<'a>, query: Option<Query<'a>>) -> Option<Request<'a>>
+    ensures request { option_map request_of result
+        ≡ query_by (first_value (found_of given.now.matches)) (option_map query_of query.entry) }
+    ensures range { IfSome result IsInRange }
+{
+    let query = query?;
+    let name = name_of(given, "recording")?;
+    Some(Request::Query(name, query))
+}
+
+/// The query of `slice`, if its item is there.
+fn slice_of<'a>(given: &CommandWords<'a>) -> Option<Query<'a>>
+    ensures { option_map query_of result ≡ slice_in (first_value (found_of given.now.matches)) }
+{
+    let item = item_of(given)?;
+    Some(Query::Slice(item))
+}
+
 /// The request of a command with its words, if its numbers and names are right.
 fn request_in<'a>(given: &CommandWords<'a>) -> Option<Request<'a>>
     ensures request { option_map request_of result ≡ asked_of given.now.command
@@ -144,11 +194,13 @@ fn request_in<'a>(given: &CommandWords<'a>) -> Option<Request<'a>>
         Word::Debug => on_recording(given),
         Word::Show => on_source(Some(Command::Show), given),
         Word::Drill => on_number(given),
+        Word::Slice => on_query(given, slice_of(given)),
+        Word::Rerun | Word::Clean | Word::Whole => None,
     }
 }
 
 /// What the words ask for: `flow`, `run` or `show`, its options in any order, each at most once, and its names; or
-/// `debug` and its name, or `drill` and its number. None where they ask for nothing. The error is want of memory, and
+/// `debug` and its name, or `drill` and its number, or `slice` with the name of a recording and an item. None where they ask for nothing. The error is want of memory, and
 /// may come whatever the words are.
 pub(crate) fn asked<'a>(alloc: Global, words: &'a [&'a str]) -> Result<Option<Request<'a>>, Memory>
     ensures is { IfOk result (λ o. option_map request_of o ≡ asked_for (texts_in words.entry.now)) }

@@ -40,7 +40,7 @@ module _ (past : Past) where
   seen entries = seen_by past.program.now past.plan.now past.budget entries
 
   pub seen_there : (p : ℕ) → seen_at xs p ≡ seen_in past p
-  seen_there p = by past.logs.now.lists p
+  seen_there p = by past.cut.now.lists p
     where
       by : (lists : List (List Entry)) (q : ℕ) → seen_at (map seen lists) q ≡ seen (get_or lists q [])
       by [] q = refl

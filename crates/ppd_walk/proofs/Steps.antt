@@ -148,13 +148,13 @@ module _ (past : Past) (p c : ℕ) where
       (backwards 0 first []))) o q r) deep g))
 
   pub outer_below : (k m : ℕ) → Some m ≡ first_of (round_at x k) → m < k
-  outer_below k m e = round_is_before (entries_at past.logs.now p) k m (sym e)
+  outer_below k m e = round_is_before (entries_at past.cut.now p) k m (sym e)
 
   round_next : (k m : ℕ) → Some m ≡ first_of (round_at x k) → round_at x k ≡ m ∷ round_at x m
-  round_next k m e = round_goes_on (entries_at past.logs.now p) k ∙ ap (round_by x.rounds) (sym e)
+  round_next k m e = round_goes_on (entries_at past.cut.now p) k ∙ ap (round_by x.rounds) (sym e)
 
   round_none : (k : ℕ) → None ≡ first_of (round_at x k) → round_at x k ≡ []
-  round_none k e = round_goes_on (entries_at past.logs.now p) k ∙ ap (round_by x.rounds) (sym e)
+  round_none k e = round_goes_on (entries_at past.cut.now p) k ∙ ap (round_by x.rounds) (sym e)
 
   module _ (ms : List ℕ) (v : Walked) (before : ℕ) where
     abbrev Out : ℕ → ℕ → Type 0

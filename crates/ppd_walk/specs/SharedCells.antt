@@ -22,7 +22,7 @@ use Rattle.ppd_walk.specs.declared.last.LastEdge.{LastEdge}
 
 -- what the replays of each process of a past give
 abbrev pub seens_in : Past → List Seen
-seens_in past = map (λ entries. seen_by past.program.now past.plan.now past.budget entries) past.logs.now.lists
+seens_in past = map (λ entries. seen_by past.program.now past.plan.now past.budget entries) past.cut.now.lists
 
 -- a write that is missing is the error that names its entry
 abbrev pub answer_of : {A : Type 0} → Result A Missing → Result A FlowError

@@ -40,7 +40,8 @@ pub(crate) fn put_cell_value(
     put_value(text, value)
 }
 
-fn put_access(
+/// Appends this word and a cell with the value that was read or written; a local cell is of these variables.
+pub fn put_access(
     text: &mut Vec<u8>,
     word: &[u8],
     program: &Program,
@@ -53,7 +54,8 @@ fn put_access(
     put_cell_value(text, program, locals, access.spot, access.value)
 }
 
-fn put_each_access(
+/// Appends each of these accesses so.
+pub fn put_each_access(
     text: &mut Vec<u8>,
     word: &[u8],
     program: &Program,
@@ -73,7 +75,7 @@ fn put_each_access(
 // ---- events
 
 /// Whose locals an event of a statement of this kind in this body writes.
-fn written_locals<'a>(program: &'a Program, body: u16, kind: &Kind) -> &'a [Var]
+pub fn written_locals<'a>(program: &'a Program, body: u16, kind: &Kind) -> &'a [Var]
     ensures { result.now ≡ locals_written program.now body kind.now }
 {
     match kind {
@@ -135,7 +137,8 @@ fn put_trap_if(text: &mut Vec<u8>, trap: Option<Trap>) -> Result<(), Memory>
     }
 }
 
-fn put_outcome(text: &mut Vec<u8>, event: &Event) -> Result<(), Memory>
+/// Appends the value, the number of the synchronization and the trap of an event, where it has them.
+pub fn put_outcome(text: &mut Vec<u8>, event: &Event) -> Result<(), Memory>
     ensures { OnOk result (text.new.items ≡ text.old.items ++ outcome_text event.now) }
 {
     put_value_if(text, event.value)?;

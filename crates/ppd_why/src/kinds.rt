@@ -30,7 +30,7 @@ fn put_send(
 }
 
 /// Appends what an event of a statement of this kind is.
-pub(crate) fn put_event_kind(
+pub fn put_event_kind(
     text: &mut Vec<u8>,
     program: &Program,
     event: &Event,

@@ -8,6 +8,7 @@ mod lasts;
 mod names;
 
 pub use edges::put_why;
-pub use items::{put_item, put_items};
+pub use items::{put_access, put_each_access, put_item, put_items, put_outcome, written_locals};
+pub use kinds::put_event_kind;
 pub use lasts::put_last;
 pub use names::{process_name, put_cell, put_trap, put_what};

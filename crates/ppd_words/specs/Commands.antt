@@ -1,8 +1,8 @@
--- The five commands: the word of each, its options and its names.
+-- The commands: the word of each, its options and its names.
 use Rattle.std.specs.Prelude.{List, [], ◌∷◌, Option, Some, None, if◌then◌else◌, codes, option_map}
 use Rattle.std.specs.Str.{bytes_eq}
 use Rattle.ppd_words.specs.declared.commands.Command.{Command}
-use Rattle.ppd_words.specs.declared.commands.Command.TheVariants.{Flow, Run, Debug, Show, Drill}
+use Rattle.ppd_words.specs.declared.commands.Command.TheVariants.{Flow, Run, Debug, Show, Drill, Slice, Rerun, Clean, Whole}
 use Rattle.ppd_words.specs.Words.{Text, Uses}
 use Rattle.ppd_words.specs.Spelling.{words_give}
 
@@ -13,6 +13,10 @@ command_of w =
     else if bytes_eq w (codes "debug") then Some Debug
     else if bytes_eq w (codes "show") then Some Show
     else if bytes_eq w (codes "drill") then Some Drill
+    else if bytes_eq w (codes "slice") then Some Slice
+    else if bytes_eq w (codes "rerun") then Some Rerun
+    else if bytes_eq w (codes "clean") then Some Clean
+    else if bytes_eq w (codes "whole") then Some Whole
     else None
 
 -- the options, by their long names
@@ -22,6 +26,14 @@ longs_of Run = codes "budget" ∷ codes "leaf" ∷ codes "loops" ∷ []
 longs_of Debug = []
 longs_of Show = codes "leaf" ∷ codes "loops" ∷ []
 longs_of Drill = []
+longs_of Slice = []
+longs_of Rerun = []
+longs_of Clean = []
+longs_of Whole = codes "workers" ∷ []
+
+-- the names of an item of a recording
+abbrev pub item_names : List Text
+item_names = codes "recording" ∷ codes "process" ∷ codes "interval" ∷ codes "item" ∷ []
 
 abbrev pub names_of : Command → List Text
 names_of Flow = codes "source" ∷ []
@@ -29,6 +41,10 @@ names_of Run = codes "source" ∷ codes "recording" ∷ []
 names_of Debug = codes "recording" ∷ []
 names_of Show = codes "source" ∷ []
 names_of Drill = codes "number" ∷ []
+names_of Slice = item_names
+names_of Rerun = codes "recording" ∷ []
+names_of Clean = item_names
+names_of Whole = codes "recording" ∷ []
 
 abbrev pub given_to : Option Command → List Text → Option (Command × Uses)
 given_to None words = None

@@ -22,6 +22,14 @@ pub enum Command {
     Show,
     /// A source made from a number is run.
     Drill,
+    /// What an item of a recording came from is written.
+    Slice,
+    /// A recording is run again under its own synchronization.
+    Rerun,
+    /// An item of a recording is answered whose past touches no race.
+    Clean,
+    /// The whole trace of a recording is written.
+    Whole,
 }
 
 /// What the words give: the command, and the words of its options and its names.
@@ -43,7 +51,8 @@ impl<'a> CommandWords<'a> {
     }
 }
 
-/// The command that a word names: `flow`, `run`, `debug`, `show` or `drill`; `None` for any other word.
+/// The command that a word names: `flow`, `run`, `debug`, `show`, `drill`, `slice`, `rerun`, `clean` or `whole`; `None`
+/// for any other word.
 pub fn command_of(word: &str) -> Option<Command>
     ensures { result ≡ command_named word.now }
 {
@@ -57,6 +66,14 @@ pub fn command_of(word: &str) -> Option<Command>
         Some(Command::Show)
     } else if word == "drill" {
         Some(Command::Drill)
+    } else if word == "slice" {
+        Some(Command::Slice)
+    } else if word == "rerun" {
+        Some(Command::Rerun)
+    } else if word == "clean" {
+        Some(Command::Clean)
+    } else if word == "whole" {
+        Some(Command::Whole)
     } else {
         None
     }
@@ -90,6 +107,22 @@ fn read_rest<'a>(
         Command::Debug => read_words(alloc, "debug", &[], &["recording"], words),
         Command::Show => read_words(alloc, "show", &["leaf", "loops"], &["source"], words),
         Command::Drill => read_words(alloc, "drill", &[], &["number"], words),
+        Command::Slice => read_words(
+            alloc,
+            "slice",
+            &[],
+            &["recording", "process", "interval", "item"],
+            words,
+        ),
+        Command::Rerun => read_words(alloc, "rerun", &[], &["recording"], words),
+        Command::Clean => read_words(
+            alloc,
+            "clean",
+            &[],
+            &["recording", "process", "interval", "item"],
+            words,
+        ),
+        Command::Whole => read_words(alloc, "whole", &["workers"], &["recording"], words),
     }
 }
 
@@ -103,6 +136,9 @@ fn read_rest<'a>(
 /// | `debug` | | `recording` |
 /// | `show` | `leaf`, `loops` | `source` |
 /// | `drill` | | `number` |
+/// | `slice`, `clean` | | `recording`, `process`, `interval`, `item` |
+/// | `rerun` | | `recording` |
+/// | `whole` | `workers` | `recording` |
 ///
 /// `None` exactly where the words give none of them. Numbers, limits and empty names are not tested. The error is
 /// want of memory, and may come whatever the words after the first are.

@@ -7,3 +7,4 @@ pub mod Reached
 pub mod Processes
 pub mod Paid
 pub mod Plain
+pub mod KeptNeeds

@@ -12,7 +12,9 @@ use Rattle.ppd_sem.specs.declared.proc.Need.{Need}
 use Rattle.ppd_sem.specs.declared.proc.Need.TheVariants.{Plain}
 use Rattle.ppd_sem.specs.declared.proc.Proc.{Proc}
 use Rattle.ppd_sem.specs.Measure.{measure}
+use Rattle.ppd_sem.specs.Printed.{printed_before, unprinted}
 use Rattle.ppd_sem.specs.Process.{act, need_of}
+use Rattle.ppd_sem.proofs.Printed.{same_need, same_step, with_own}
 use Rattle.ppd_sem.proofs.Progress.{act-falls, act-within}
 use Rattle.ppd_model.specs.declared.state.Logging.{Logging}
 use Rattle.ppd_model.specs.Logs.{log_step}
@@ -21,7 +23,7 @@ use Rattle.ppd_model.specs.World.{World, answer, change, can, need, need_at, ste
 use Rattle.ppd_model.proofs.Changes.{some}
 use Rattle.ppd_model.proofs.Earlier.{each_more}
 use Rattle.ppd_model.proofs.Lists.{map_change, map_get, every_at}
-use Rattle.ppd_world.specs.Plain.{ComesPlainly, GoesPlainly, gone_on, stepped_times}
+use Rattle.ppd_world.specs.Plain.{ComesPlainly, ComesPrinting, GoesPlainly, gone_on, gone_on_printing, stepped_times}
 use Rattle.ppd_world.specs.Running.{IsOf, IsReached, Running, Takes, can_step, stepped}
 use Rattle.ppd_world.proofs.Lists.{every_all}
 use Rattle.ppd_world.proofs.Reached.{of_step, reached_step}
@@ -208,3 +210,28 @@ module _ (r now : Running) (p n : ℕ) (t : Proc) (h : IsReached r) (c : ComesPl
 
   pub went_reached : IsReached now
   went_reached = subst (λ (x : Running). IsReached x) (sym went) (times_reached n r p c.before t (is_at r p c.before h c.there) c.goes h)
+
+-- ---- what was printed before
+
+goes_printed : (program : Program) (plan : Plan) (ps : List ℤ) (n : ℕ) (s t : Proc) → GoesPlainly program plan s n t → GoesPlainly program plan (printed_before ps s) n (printed_before ps t)
+goes_printed program plan ps zero s t g = ap (λ (x : Proc). printed_before ps x) g
+goes_printed program plan ps (suc n) s t g = (
+  same_need program plan ps s ∙ g.0,
+  subst (λ (x : Proc). GoesPlainly program plan x n (printed_before ps t)) (sym (same_step program plan ps Go s)) (goes_printed program plan ps n (act program plan s Go) t g.1),
+)
+
+-- from the state with what was printed before, by the same steps
+pub comes_printed : (r : Running) (p n : ℕ) (after : Proc) → (c : ComesPrinting r p n after) → ComesPlainly r p n (printed_before c.before.prints after)
+comes_printed r p n after c = record {
+  before = c.before;
+  there = c.there;
+  goes = subst (λ (x : Proc). GoesPlainly r.program r.plan x n (printed_before c.before.prints after)) (with_own c.before)
+      (goes_printed r.program r.plan c.before.prints n (unprinted c.before) after c.goes);
+}
+
+-- the process at the changed place is the one that is there
+pub own_printed : (r : Running) (p n : ℕ) (after : Proc) → IsReached r → (c : ComesPrinting r p n after)
+    → change (gone_on_printing after n) p r.loggings ≡ change (gone_on (printed_before c.before.prints after) n) p r.loggings
+own_printed r p n after h c =
+    change_at (gone_on_printing after n) (gone_on (printed_before c.before.prints after) n) p r.loggings
+    (λ l g. ap (λ (s : Proc). gone_on (printed_before s.prints after) n l) ((is_at r p c.before h c.there).logs l g))

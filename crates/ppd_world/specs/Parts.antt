@@ -65,6 +65,15 @@ abbrev pub need_of_logging : Program → Plan → Option Logging → Need
 need_of_logging program plan None = Stopped
 need_of_logging program plan (Some l) = need_of program plan l.proc
 
+-- what each process needs
+abbrev pub needs_of : Program → Plan → List Logging → List Need
+needs_of program plan loggings = map (λ l. need_of program plan l.proc) loggings
+
+-- what is kept of a need, and nothing where no process is
+abbrev pub or_stopped : Option Need → Need
+or_stopped None = Stopped
+or_stopped (Some n) = n
+
 -- the shared cells after a step of this need
 abbrev pub shared_after : List ℤ → Need → List ℤ
 shared_after shared (Write c v) = slice_set shared c v

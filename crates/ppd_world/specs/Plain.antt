@@ -5,6 +5,7 @@ use Rattle.ppd_ast.specs.declared.program.Program.{Program}
 use Rattle.ppd_sem.specs.declared.proc.Answer.TheVariants.{Go}
 use Rattle.ppd_sem.specs.declared.proc.Need.TheVariants.{Plain}
 use Rattle.ppd_sem.specs.declared.proc.Proc.{Proc}
+use Rattle.ppd_sem.specs.Printed.{printed_before, unprinted}
 use Rattle.ppd_sem.specs.Process.{act, need_of}
 use Rattle.ppd_model.specs.declared.state.Logging.{Logging}
 use Rattle.ppd_world.specs.Running.{Running, stepped}
@@ -21,6 +22,12 @@ pub record ComesPlainly (r : Running) (p n : ℕ) (after : Proc) : Type 0 where
   pub there : slice_get r.world.procs p ≡ Some before
   pub goes : GoesPlainly r.program r.plan before n after
 
+-- process p, which is there, would come to this state by n such steps if it had printed nothing before
+pub record ComesPrinting (r : Running) (p n : ℕ) (after : Proc) : Type 0 where
+  pub before : Proc
+  pub there : slice_get r.world.procs p ≡ Some before
+  pub goes : GoesPlainly r.program r.plan (unprinted before) n after
+
 -- process p takes n steps
 abbrev pub stepped_times : Running → ℕ → ℕ → Running
 stepped_times r p zero = r
@@ -29,3 +36,7 @@ stepped_times r p (suc n) = stepped_times (stepped r p) p n
 -- a process with its log after n steps that wrote no entry
 abbrev pub gone_on : Proc → ℕ → Logging → Logging
 gone_on after n l = record l { proc = after; rest = l.rest + n }
+
+-- the same, with what it had printed before these steps before what is printed here
+abbrev pub gone_on_printing : Proc → ℕ → Logging → Logging
+gone_on_printing after n l = gone_on (printed_before l.proc.prints after) n l

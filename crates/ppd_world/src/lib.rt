@@ -5,6 +5,7 @@ mod closing;
 mod code;
 mod entries;
 mod logging;
+mod needs;
 mod note;
 mod objects;
 mod starting;

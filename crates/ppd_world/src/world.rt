@@ -4,33 +4,37 @@ ghost use Rattle.ppd_ast.specs.ValidPlan.{IsValidPlan};
 ghost use Rattle.ppd_model.specs.Laws.{logged_moment};
 ghost use Rattle.ppd_model.specs.Logs.{close as close_of};
 ghost use Rattle.ppd_model.specs.Schedule.{IsOver};
-ghost use Rattle.ppd_world.specs.Plain.{ComesPlainly, stepped_times};
+ghost use Rattle.ppd_world.specs.Plain.{ComesPlainly, ComesPrinting, stepped_times};
 ghost use Rattle.ppd_world.specs.Running.{IsCause, IsDriven, IsFollowed, IsLowest, IsOf, IsPaidStep, IsReached, Takes, begun, can_step, closed_run as closed_of, stepped};
 
 use crate::closing::close_all;
 use crate::code::Code;
-use crate::logging::go_on;
+use crate::logging::{go_on, go_on_printing};
+use crate::needs::{look_at, need_at, set_need, start_needs};
 use crate::starting::{start_chans, start_logs, start_sems};
-use crate::stepping::{is_enabled, is_over, next_step, take_step};
+use crate::stepping::{next_step, take_step};
 use crate::store::Store;
 use ppd_ast::limits::MOST_BUDGET;
 use ppd_ast::{Memory, Nums, Plan, Program};
 use ppd_model::{Closed, DriveError, Logging, Taken};
-use ppd_sem::Proc;
+use ppd_sem::{Need, Proc};
 use std::alloc::Global;
 use std::marker::Model;
 
-/// The shared state of a program's run with all its processes and their logs.
+/// The shared state of a program's run with all its processes and their logs. What each process needs is kept
+/// from its last step on, so that no statement is evaluated twice for it.
 #[derive(Drop)]
 pub struct World<'a> {
     code: Code<'a>,
     budget: u32,
     store: Store,
     loggings: Vec<Logging>,
+    needs: Vec<Need>,
 }
 
 impl<'a> Model for World<'a> {
-    ghost use Rattle.ppd_world.specs.Parts.{world_of};
+    ghost use Rattle.std.specs.Prelude.{◌≡◌};
+    ghost use Rattle.ppd_world.specs.Parts.{needs_of, world_of};
     ghost use Rattle.ppd_world.specs.Running.{Running};
 
     ghost Value = { Running };
@@ -42,6 +46,8 @@ impl<'a> Model for World<'a> {
       world = world_of w.store w.loggings.items;
       loggings = w.loggings.items;
     } };
+
+    ghost invariant = { λ w. w.needs.items ≡ needs_of w.code.program.now w.code.plan.now w.loggings.items };
 }
 
 fn copy_values(values: &Nums) -> Result<Nums, Memory>
@@ -82,15 +88,18 @@ impl<'a> World<'a> {
             sems: start_sems(alloc, program)?,
             chans: start_chans(alloc, program)?,
         };
+        let code = Code {
+            alloc,
+            program,
+            plan,
+        };
+        let needs = start_needs(alloc, &code, loggings.as_slice())?;
         Ok(World {
-            code: Code {
-                alloc,
-                program,
-                plan,
-            },
+            code,
             budget,
             store,
             loggings,
+            needs,
         })
     }
 
@@ -99,7 +108,8 @@ impl<'a> World<'a> {
         requires { IsReached self.now }
         ensures { result ≡ can_step self.now p }
     {
-        is_enabled(&self.code, &self.store, &self.loggings, p as usize)
+        self.store
+            .is_met(need_at(self.needs.as_slice(), p as usize))
     }
 
     /// How many processes there are, at most 16: those of the program.
@@ -130,7 +140,10 @@ impl<'a> World<'a> {
         requires { IsReached self.now }
         ensures { IsTrue result ↔ IsOver self.now.program self.now.plan self.now.world }
     {
-        is_over(&self.code, &self.store, &self.loggings)
+        match self.lowest() {
+            Some(_) => false,
+            None => true,
+        }
     }
 
     /// What the next step of process `p` needs, `Stopped` for a number that is no process, what it is
@@ -139,7 +152,7 @@ impl<'a> World<'a> {
         requires { IsReached self.now }
         ensures { result ≡ (logged_moment self.now.program self.now.plan self.now.world p).taken }
     {
-        next_step(&self.code, &self.store, &self.loggings, p as usize)
+        next_step(&self.store, need_at(self.needs.as_slice(), p as usize))
     }
 
     /// The program that is run.
@@ -178,7 +191,13 @@ impl<'a> World<'a> {
         ensures err { OnErr result (self.new ≡ self.old) }
     {
         let place = p as usize;
-        take_step(&self.code, &mut self.store, &mut self.loggings, place)
+        take_step(
+            &self.code,
+            &mut self.store,
+            &mut self.loggings,
+            &mut self.needs,
+            place,
+        )
     }
 
     /// Process `p`, which is enabled, takes its step and writes its entries. The step costs 1 and the count
@@ -206,7 +225,28 @@ impl<'a> World<'a> {
         ensures comes { Takes self.old (replicate steps p) self.new }
         ensures kept { IsReached self.new }
     {
-        go_on(&mut self.loggings, p as usize, proc, steps);
+        let place = p as usize;
+        go_on(&mut self.loggings, place, proc, steps);
+        let need = look_at(&self.code, self.loggings.as_slice(), place);
+        set_need(&mut self.needs, place, need);
+    }
+
+    /// Takes so many steps of process `p` at once, each of which needs nothing but the process itself: this is
+    /// the state that it would come to by them if it had printed nothing before. Only what they print is
+    /// appended to its prints. `Memory` is want of memory: the world is as before.
+    pub fn put_printing(&mut self, p: u8, after: Proc, steps: u32) -> Result<(), Memory>
+        requires reached { IsReached self.old }
+        requires comes { ComesPrinting self.old p steps after }
+        ensures steps { OnOk result (self.new ≡ stepped_times self.old p steps) }
+        ensures comes { OnOk result (Takes self.old (replicate steps p) self.new) }
+        ensures err { OnErr result (self.new ≡ self.old) }
+        ensures kept { IsReached self.new }
+    {
+        let place = p as usize;
+        go_on_printing(&mut self.loggings, place, after, steps)?;
+        let need = look_at(&self.code, self.loggings.as_slice(), place);
+        set_need(&mut self.needs, place, need);
+        Ok(())
     }
 
     /// Takes the step of process `p`, which is number `index` of a schedule.

@@ -74,7 +74,7 @@ module _ (program : Program) (plan : Plan) (budget : ℕ) where
   lists_length k [] = refl
   lists_length k (m ∷ ms) = ap (λ z. suc z) (lists_length (k + 1) ms)
 
-  module _ (h : List ℕ) (w : World) (v : IsValid program) (r : run program plan budget h ≡ Some w) (free : races program plan budget h ≡ []) where
+  module _ (h : List ℕ) (w : World) (v : IsValid program) (r : run program plan budget h ≡ Some w) where
     abbrev xs : List Split
     xs = splits program plan budget (story program plan budget h)
 
@@ -194,9 +194,9 @@ module _ (program : Program) (plan : Plan) (budget : ℕ) where
         ]
         ∙ ap (λ (id : EventId). Ok (u, ref xs id)) number
 
-    last_by : (c : ℕ) → c < length program.starts → (u : ℤ) → (x : IsWrittenBy program plan budget h c) → need_after program plan budget x.before x.process ≡ n.Write c u
+    last_by : races program plan budget h ≡ [] → (c : ℕ) → c < length program.starts → (u : ℤ) → (x : IsWrittenBy program plan budget h c) → need_after program plan budget x.before x.process ≡ n.Write c u
         → found_last program logs (all_seen program plan budget h) c ≡ Ok (u, from_writer xs (Some (next_event (told program plan budget x.before) x.process)))
-    last_by c lt u x needs =
+    last_by free c lt u x needs =
         let top : EdgeId = edge x.process (edge_in program plan budget x.before x.process) in
         let great : IsGreatest program plan budget h c x.process (edge_in program plan budget x.before x.process) = last_greatest program plan budget h w r free c lt x in
         let is : greatest_writing program logs c ≡ Some top =
@@ -221,8 +221,8 @@ module _ (program : Program) (plan : Plan) (budget : ℕ) where
         none_tag (z ∷ zs) zero = refl
         none_tag (z ∷ zs) (suc k) = none_tag zs k
 
-    pub last_is : (c : ℕ) → c < length program.starts → found_last program logs (all_seen program plan budget h) c ≡ Ok (last program plan budget (story program plan budget h) c)
-    last_is c lt = elim (tags program plan budget h c lt) [
+    pub last_is : races program plan budget h ≡ [] → (c : ℕ) → c < length program.starts → found_last program logs (all_seen program plan budget h) c ≡ Ok (last program plan budget (story program plan budget h) c)
+    last_is free c lt = elim (tags program plan budget h c lt) [
       | inl s ↦ last_at_start c s
       | inr t ↦
           let x : IsWrittenBy program plan budget h c = record {
@@ -234,7 +234,7 @@ module _ (program : Program) (plan : Plan) (budget : ℕ) where
             tag_is = t.tag_is ∙ ap (λ z. Some z) t.last.event_is;
             unwritten = subst (λ z. IsUnwritten program plan c z t.last.after) (sym (fold-append (tell program plan) (begins program plan budget) t.last.before (t.last.process ∷ []))) t.last.unwritten;
           } in
-          last_by c lt (get_or (told program plan budget h).world.shared c (pos 0)) x t.last.writes
+          last_by free c lt (get_or (told program plan budget h).world.shared c (pos 0)) x t.last.writes
           ∙ ap (λ z. Ok (get_or (told program plan budget h).world.shared c (pos 0), from_writer xs z)) (sym x.tag_is)
     ]
 

@@ -57,7 +57,7 @@ use Rattle.ppd_shared_edges.proofs.Sources.Writing.{writing_only}
 write_yes : (c : ℕ) (m : Need) (u : ℤ) → m ≡ n.Write c u → writes_cell c m ≡ true
 write_yes c m u e = ap (writes_cell c) e ∙ eq-eqb c c refl
 
-module _ (program : Program) (plan : Plan) (budget : ℕ) (h : List ℕ) (w : World) (v : IsValid program) (r : run program plan budget h ≡ Some w) (free : races program plan budget h ≡ []) where
+module _ (program : Program) (plan : Plan) (budget : ℕ) (h : List ℕ) (w : World) (v : IsValid program) (r : run program plan budget h ≡ Some w) where
   abbrev xs : List Split
   xs = splits program plan budget (story program plan budget h)
 
@@ -136,7 +136,7 @@ module _ (program : Program) (plan : Plan) (budget : ℕ) (h : List ℕ) (w : Wo
     from_start s =
         let none : filter (λ a. is_before_in program logs a (edge p (edge_in program plan budget g p))) (writing logs c) ≡ [] =
         filter_none (λ a. is_before_in program logs a (edge p (edge_in program plan budget g p))) (writing logs c)
-        (λ a m. not_before program plan budget h w v r free a (edge p (edge_in program plan budget g p)) (λ b. s.none a.process a.edge (writing_only program plan budget h v c a m) b)) in
+        (λ a m. not_before program plan budget h w v r a (edge p (edge_in program plan budget g p)) (λ b. s.none a.process a.edge (writing_only program plan budget h v c a m) b)) in
         search_is
         ∙ not_found x c number p here _ (at.walks c) (λ m u l. (found_step m u l).5 s.unwritten)
         ∙ ap (λ l. origin_in (written_or_start program logs (all_seen program plan budget h) c (greatest (is_before_in program logs) l))) none
@@ -157,7 +157,7 @@ module _ (program : Program) (plan : Plan) (budget : ℕ) (h : List ℕ) (w : Wo
 
       -- what the writer's process did up to the read
       in_g : IsWrite program plan budget y.before y.after y.process c
-      in_g = as_write program plan budget y.before y.after y.process c (goes program plan budget h w v r free c (need_after program plan budget y.before y.process) y.writes)
+      in_g = as_write program plan budget y.before y.after y.process c (goes program plan budget h w v r c (need_after program plan budget y.before y.process) y.writes)
 
       done_g : did (told program plan budget g) y.process ≡ did (told program plan budget y.before) y.process ++ next program plan (told program plan budget y.before) y.process ∷ in_g.mid
       done_g = ap (λ l. did (told program plan budget l) y.process) y.schedule_is ∙ in_g.steps_are
@@ -201,8 +201,8 @@ module _ (program : Program) (plan : Plan) (budget : ℕ) (h : List ℕ) (w : Wo
           (λ a m.
           let both = in_filter (λ d. is_before_in program logs d mine) a (writing logs c) m in
           let wr : WritesIn program plan budget h c a.process a.edge = writing_only program plan budget h v c a both.0 in
-          under program plan budget h w v r free y.before y.process (y.after ++ p ∷ rest) c a before_h wr (z.greatest a.process a.edge wr ((before_is program plan budget h w v r free a mine).0 both.1)))
-          (filter_in (λ d. is_before_in program logs d mine) top (writing logs c) (listed program plan budget h w v r free y.before y.process (y.after ++ p ∷ rest) c before_h y.writes) ((before_is program plan budget h w v r free top mine).1 z.before)) in
+          under program plan budget h w v r y.before y.process (y.after ++ p ∷ rest) c a before_h wr (z.greatest a.process a.edge wr ((before_is program plan budget h w v r a mine).0 both.1)))
+          (filter_in (λ d. is_before_in program logs d mine) top (writing logs c) (listed program plan budget h w v r y.before y.process (y.after ++ p ∷ rest) c before_h y.writes) ((before_is program plan budget h w v r top mine).1 z.before)) in
           let lt_q : y.process < length (told program plan budget h).moments = below_moments (told program plan budget h).moments y.process (did (told program plan budget y.before) y.process) (next program plan (told program plan budget y.before) y.process) (in_g.mid ++ later_h.0) later_h.1 in
           let s = split_there program plan budget (story program plan budget h) 0 (told program plan budget h).moments y.process lt_q in
           let fq : Facts program plan budget h v y.process s.0 = facts program plan budget h v y.process s.0 s.1 in
@@ -224,12 +224,12 @@ module _ (program : Program) (plan : Plan) (budget : ℕ) (h : List ℕ) (w : Wo
               let front : edge_in program plan budget y.before y.process ≡ length (syncs_of (did (told program plan budget y.before) y.process)) = edge_is_count program plan budget y.before y.process in
               let total : edge_in program plan budget g y.process ≡ length (syncs_of (did (told program plan budget y.before) y.process ++ next program plan (told program plan budget y.before) y.process ∷ in_g.mid)) = edge_is_count program plan budget g y.process ∙ ap (λ l. length (syncs_of l)) done_g in
               let same : edge_in program plan budget y.before y.process ≡ edge_in program plan budget g y.process = omega (arith, none, sum, front, total) in
-              later_not program plan budget h w v r free g [] (p ∷ rest) (are ∙ ap (λ l. l ++ p ∷ rest) (sym (append-nil g))) p y.process
+              later_not program plan budget h w v r g [] (p ∷ rest) (are ∙ ap (λ l. l ++ p ∷ rest) (sym (append-nil g))) p y.process
               (subst (λ l. EdgeBefore program (sync_record program plan budget h) (edge y.process (edge_in program plan budget l y.process)) (edge p (edge_in program plan budget g p))) (sym (append-nil g))
               (subst (λ i. EdgeBefore program (sync_record program plan budget h) (edge y.process i) (edge p (edge_in program plan budget g p))) same z.before))
 
     -- by what is known of the read
-    by_found : (tag : Tag) → tag ≡ get_or (told program plan budget g).writers c None → IsFound program plan budget g h p c → shared_origin program logs (all_seen program plan budget h) p k j c ≡ Ok (from_writer xs tag)
+    pub by_found : (tag : Tag) → tag ≡ get_or (told program plan budget g).writers c None → IsFound program plan budget g h p c → shared_origin program logs (all_seen program plan budget h) p k j c ≡ Ok (from_writer xs tag)
     by_found tag is (inl s) = from_start s ∙ ap (λ t. Ok (from_writer xs t)) (sym (is ∙ s.tag_is))
     by_found tag is (inr (y, inl same)) = own_edge y same.0 same.1 ∙ ap (λ t. Ok (from_writer xs t)) (sym (is ∙ y.tag_is))
     by_found tag is (inr (y, inr other)) = across y other ∙ ap (λ t. Ok (from_writer xs t)) (sym (is ∙ y.tag_is))
@@ -242,5 +242,5 @@ shared_origins program plan budget h w v r free p k j c tag s =
     let lt : c < length program.starts = accesses_there program plan budget (a.sooner ++ p ∷ a.later) p m.0 (record { edge = edge_in program plan budget a.sooner p; cell = c; writes = false }) v m.1 in
     let found : IsFound program plan budget a.sooner (a.sooner ++ p ∷ a.later) p c =
     shared_found program plan budget a.sooner p a.later w (subst (λ l. run program plan budget l ≡ Some w) a.schedule_is r) (subst (λ l. races program plan budget l ≡ []) a.schedule_is free) c lt a.needs in
-    by_found program plan budget h w v r free p k j c s.number s.split f s.placed (slice_get_below s.split.trace.events s.number s.event s.event_is) a.sooner a.later a.schedule_is a.needs a.events_are tag a.tag_is
+    by_found program plan budget h w v r p k j c s.number s.split f s.placed (slice_get_below s.split.trace.events s.number s.event s.event_is) a.sooner a.later a.schedule_is a.needs a.events_are tag a.tag_is
     (subst (λ l. IsFound program plan budget a.sooner l p c) (sym a.schedule_is) found)

@@ -1,6 +1,6 @@
-use Rattle.std.proofs.Common.{rules, arith, ◌≡◌, [], ◌∷◌, ◌++◌}
+use Rattle.std.proofs.Common.{rules, arith, ◌≡◌, [], ◌∷◌, ◌++◌, ◌∙◌}
 use Rattle.ppd_io.specs.Lines.{Took}
-use Rattle.ppd_io.proofs.Lining.{took_byte, plain_byte}
+use Rattle.ppd_io.proofs.Lining.{holds_some, later_newline, took_byte, plain_byte}
 use Rattle.ppd_io.proofs.lines.fill_line.Goals as goal
 
 pub loop-bytes-preserved : goal.loop-bytes-preserved
@@ -14,4 +14,9 @@ loop-bytes-preserved g c =
       room = search rules;
       within = omega arith;
       few = c.next.ensures.few;
+      quiet = λ h.
+          let was = c.loop-bytes.invariant.quiet h in
+          let now = c.next.ensures.quiet (holds_some c.loop-bytes.bytes was.1) in
+          let first : c.loop-bytes.bytes ≡ c.in-Ok-Some.byte ∷ c.next.new.self = search rules in
+          (now.0 ∙ was.0, later_newline _ _ _ first c.in-Ok-Some.byte-test.1 was.1);
     }

@@ -11,8 +11,8 @@ charge-requires-in_default c =
     let after : Proc = c.act_on_head.new.proc in
     let same : SamePurse before after =
     subst (λ (t : Proc). SamePurse before t) (sym c.in_ok-act_on_head-in_default.ensures.ok) (asked_purse c.args.program.now c.args.answer.now c.args.todo (drop 1 before.todo) (head_deed c.args.program.now c.args.todo before) before) in
-    let paid : before.spent + cost c.args.plan.now c.look-need.result ≤ before.budget =
-    need-paid c.args.program.now c.args.plan.now before c.look-need.result (sym c.look-need.ensures) c.in_default.not-Stopped c.in_default.not-Budget in
+    let paid : before.spent + cost c.args.plan.now c.args.need ≤ before.budget =
+    need-paid c.args.program.now c.args.plan.now before c.args.need (sym c.requires.need) c.in_default.not-Stopped c.in_default.not-Budget in
     let budget : after.budget ≡ before.budget = same.budget in
     let spent : after.spent ≡ before.spent = same.spent in
     let steps : after.steps ≡ before.steps = same.steps in

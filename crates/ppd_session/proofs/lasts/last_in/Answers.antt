@@ -5,11 +5,11 @@ use Rattle.ppd_session.proofs.LastValues.{last_fails, last_found}
 use Rattle.ppd_session.proofs.lasts.last_in.Goals as goal
 
 pub returns-in-Ok-clause-value : goal.returns-in-Ok-clause-value
-returns-in-Ok-clause-value g c = last_found c.args.past.now c.args.cell _ _ c.in-Ok.found c.in-Ok.ensures.found
+returns-in-Ok-clause-value g c = last_found c.args.past.now c.requires.uncut c.args.cell _ _ c.in-Ok.found c.in-Ok.ensures.found
 
 pub returns-clause-error : goal.returns-clause-error
 returns-clause-error g c =
     let past = c.args.past.now in
     subst
     (IsWhy (unfound (last_by past.program.now past.plan.now past.budget past.logs.now c.args.cell)))
-    (sym c.no_items.ensures) (last_fails past c.args.cell 0 0 c.in-Err.error c.in-Err.ensures.found)
+    (sym c.no_items.ensures) (last_fails past c.requires.uncut c.args.cell 0 0 c.in-Err.error c.in-Err.ensures.found)

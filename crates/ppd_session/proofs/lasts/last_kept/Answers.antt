@@ -24,7 +24,7 @@ returns-in-Some-clause-kept c = λ place items h. c.requires.kept place items (c
 pub returns-in_err-items-clause-error : goal.returns-in_err-items-clause-error
 returns-in_err-items-clause-error c =
     let e = err_from_is_err_and c.from_residual.result c.from_residual.ensures.1 in
-    rw (e.1, e.2) (last_replay_fails c.args.past.now c.args.cell c.args.last c.in_err-items.field-0.0 c.requires.last
+    rw (e.1, e.2) (last_replay_fails c.args.past.now c.requires.uncut c.args.cell c.args.last c.in_err-items.field-0.0 c.requires.last
     c.in_err-items.ensures.error)
 
 pub returns-in_err-items-clause-kept : goal.returns-in_err-items-clause-kept

@@ -9,15 +9,15 @@ pub last_from-requires : goal.last_from-requires
 last_from-requires g c = record {
   together = c.requires.past;
   last = c.requires.last;
-  replayed = are_replayed c.args.past.now c.args.last.edge.process c.args.last.interval c.args.items.now c.requires.told;
+  replayed = are_replayed c.args.past.now c.requires.uncut c.args.last.edge.process c.args.last.interval c.args.items.now c.requires.told;
 }
 
 pub returns-in-Ok-clause-value : goal.returns-in-Ok-clause-value
-returns-in-Ok-clause-value g c = last_found c.args.past.now c.args.cell _ _ c.in-Ok.found c.in-Ok.ensures.found
+returns-in-Ok-clause-value g c = last_found c.args.past.now c.requires.uncut c.args.cell _ _ c.in-Ok.found c.in-Ok.ensures.found
 
 pub returns-clause-error : goal.returns-clause-error
 returns-clause-error g c =
     let past = c.args.past.now in
     subst
     (IsWhy (unfound (last_by past.program.now past.plan.now past.budget past.logs.now c.args.cell)))
-    (sym c.no_items.ensures) (last_fails past c.args.cell 0 0 c.in-Err.error c.in-Err.ensures.found)
+    (sym c.no_items.ensures) (last_fails past c.requires.uncut c.args.cell 0 0 c.in-Err.error c.in-Err.ensures.found)

@@ -12,5 +12,5 @@ returns-in_default-interval_there-clause-told c =
     on_ok c.put_refusal-in_default-interval_there.result
     (subst (λ (q : Option ℕ). opening_failure x q c.args.opening.interval c.args.opening.item ≡ None) (sym c.in-Some.is)
     (ap (told_failure x c.in-Some.process c.args.opening.interval c.args.opening.item)
-    (not_told past c.in-Some.process c.args.opening.interval c.requires.past.index_is
+    (not_told past c.requires.uncut c.in-Some.process c.args.opening.interval c.requires.past.index_is
     (c.interval_there.ensures.none c.in_default-interval_there.is))))

@@ -7,11 +7,11 @@ use Rattle.ppd_session.proofs.opening.replayed_in.Goals as goal
 
 pub returns-in-Ok-clause-items : goal.returns-in-Ok-clause-items
 returns-in-Ok-clause-items g c =
-    tells c.args.past.now c.args.place.process c.args.place.interval c.in-Ok.items _ _ c.requires.past.index_is
+    tells c.args.past.now c.requires.uncut c.args.place.process c.args.place.interval c.in-Ok.items _ _ c.requires.past.index_is
     c.requires.there c.in-Ok.ensures
 
 pub returns-clause-error : goal.returns-clause-error
 returns-clause-error g c =
     subst (IsCause (failure_at (known_by c.args.past.now []) (Some c.args.place.process) c.args.place.interval))
     (sym c.no_items.ensures)
-    (causes c.args.past.now c.args.place.process c.args.place.interval 0 0 c.in-Err.error c.in-Err.ensures)
+    (causes c.args.past.now c.requires.uncut c.args.place.process c.args.place.interval 0 0 c.in-Err.error c.in-Err.ensures)

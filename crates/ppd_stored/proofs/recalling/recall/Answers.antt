@@ -9,6 +9,7 @@ returns-clause-together c =
       plan_ok = c.in_ok-recording.ensures.plan;
       cells = cells_there r.program r.source r.header r.logs c.in_ok-recording.ensures.ok.lawful;
       index_is = c.in_ok-index.ensures.index;
+      cut_index_is = c.in_ok-index.ensures.index;
       fitting = c.in_ok-index.ensures.fitting;
       graph_is = c.in_ok-graph.ensures.graph;
     }

@@ -2,7 +2,7 @@ use Rattle.std.proofs.Common.{refl}
 use Rattle.ppd_words.specs.Reads.{texts_in}
 use Rattle.ppd_top.specs.Words.{command_of}
 use Rattle.ppd_top.specs.Ran.Comes.{drill_done}
-use Rattle.ppd_top.proofs.Asked.{asks_drill, asks_recording, asks_source}
+use Rattle.ppd_top.proofs.Asked.{asks_drill, asks_query, asks_recording, asks_source}
 use Rattle.ppd_top.proofs.Inputs.{source_input, recording_input}
 use Rattle.ppd_top.proofs.call.answer.Goals as goal
 
@@ -28,3 +28,8 @@ pub returns-in-Drill-clause-comes : goal.returns-in-Drill-clause-comes
 returns-in-Drill-clause-comes g c =
     drill_done c.in-Drill.number (asks_drill (texts_in c.args.words.now) c.in-Ok.asked c.in-Ok.ensures.is c.in-Some.request c.in-Drill.number c.in-Some.is c.in-Drill.is)
     (record { held = refl; stores = λ n. refl }) refl c.drill.ensures
+
+pub returns-in-Query-clause-comes : goal.returns-in-Query-clause-comes
+returns-in-Query-clause-comes g c =
+    c.on_query.ensures c.args.words.now (g.I.Source.left c.args.input.now) (g.I.Source.faults c.args.input.now)
+    (asks_query (texts_in c.args.words.now) c.in-Ok.asked c.in-Ok.ensures.is c.in-Some.request c.in-Query.name c.in-Query.query c.in-Some.is c.in-Query.is)

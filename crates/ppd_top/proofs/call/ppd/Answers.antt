@@ -1,4 +1,4 @@
-use Rattle.ppd_top.proofs.Clauses.{has_no_run, in_range, is_answered, is_complete, is_drilled, keeps_others, keeps_shelf, keeps_stores, was_done, was_ended, was_not_asked, was_not_recalled, was_out, was_refused, was_unread, was_unwritten}
+use Rattle.ppd_top.proofs.Clauses.{has_no_run, in_range, is_answered, is_complete, is_drilled, is_queried, keeps_others, keeps_shelf, keeps_stores, was_done, was_ended, was_not_asked, was_not_recalled, was_out, was_refused, was_unread, was_unwritten}
 use Rattle.ppd_top.proofs.call.ppd.Goals as goal
 
 pub returns-clause-range : goal.returns-clause-range
@@ -36,6 +36,9 @@ returns-clause-answers g c = is_answered _ _ _ _ _ c.answer.ensures.comes
 
 pub returns-clause-drills : goal.returns-clause-drills
 returns-clause-drills g c = is_drilled _ _ _ _ _ c.answer.ensures.comes
+
+pub returns-clause-queries : goal.returns-clause-queries
+returns-clause-queries g c = is_queried _ _ _ _ _ c.answer.ensures.comes
 
 pub returns-clause-no_run : goal.returns-clause-no_run
 returns-clause-no_run g c = has_no_run _ _ _ _ _ c.answer.ensures.comes

@@ -1,5 +1,5 @@
 use Rattle.ppd_top.proofs.Told.{together}
 use Rattle.ppd_top.proofs.telling.summarize.Goals as goal
 
-pub new-requires-after_bounds : goal.new-requires-after_bounds
-new-requires-after_bounds g c κs within = together c.args.run.now.program.now c.args.run.now.plan c.args.run.now.budget c.args.run.now.closed c.in_ok-index.index c.in_ok-graph.graph c.requires c.in_ok-index.ensures.index c.in_ok-index.ensures.fitting c.in_ok-graph.ensures
+pub new-requires-clause-past : goal.new-requires-clause-past
+new-requires-clause-past g c = together c.args.run.now.program.now c.args.run.now.plan c.args.run.now.budget c.args.run.now.closed c.in_ok-index.index c.in_ok-graph.graph c.requires c.in_ok-index.ensures.index c.in_ok-index.ensures.fitting c.in_ok-graph.ensures

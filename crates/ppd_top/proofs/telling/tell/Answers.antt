@@ -13,9 +13,9 @@ returns-in_default-graph_of g c = nothing_yet _ _ _
 pub returns-in_default-new : goal.returns-in_default-new
 returns-in_default-new g c = nothing_yet _ _ _
 
-pub new-requires-after_bounds : goal.new-requires-after_bounds
-new-requires-after_bounds g c =
-    let t : BelongTogether c.args.run.now.program.now c.args.run.now.plan c.args.run.now.closed.logs c.in-Ok.index c.in-Ok-graph_of.graph =
+pub new-requires-clause-past : goal.new-requires-clause-past
+new-requires-clause-past g c =
+    let t : BelongTogether c.args.run.now.program.now c.args.run.now.plan c.args.run.now.closed.logs c.in-Ok.index c.in-Ok-graph_of.graph c.args.run.now.closed.logs c.in-Ok.index =
     together c.args.run.now.program.now c.args.run.now.plan c.args.run.now.budget c.args.run.now.closed c.in-Ok.index c.in-Ok-graph_of.graph c.requires c.in-Ok.ensures.index c.in-Ok.ensures.fitting c.in-Ok-graph_of.ensures in
     search rules
 

@@ -14,6 +14,7 @@ reply-requires c =
 pub invariant_of-self : goal.invariant_of-self
 invariant_of-self c = record {
   together = c.self.invariant.together;
+  uncut = c.self.invariant.uncut;
   told = subst (λ (rs : List Race). AreTold (known_by c.self.inside.past rs) c.reply.new.kept)
       c.as_slice.ensures c.reply.ensures.kept;
 }

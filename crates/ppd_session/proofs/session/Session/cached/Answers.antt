@@ -8,5 +8,5 @@ unfolding most_cells
 returns g c =
     let past = c.args.past in
     ap (known_by past)
-    (c.in_ok-races.ensures past.program.now past.logs.now c.requires.graph_is c.requires.program_ok.limits.starts
-    c.requires.cells)
+    (c.in_ok-races.ensures past.program.now past.logs.now c.requires.past.graph_is c.requires.past.program_ok.limits.starts
+    c.requires.past.cells)

@@ -1,17 +1,10 @@
-use Rattle.std.proofs.Common.{List, ap, ◌∙◌}
-use Rattle.ppd_model.specs.declared.state.Logging.{Logging}
-use Rattle.ppd_model.specs.World.{enabled}
-use Rattle.ppd_world.specs.Parts.{world_of}
-use Rattle.ppd_world.proofs.Reached.{parts_ready}
+use Rattle.std.proofs.Common.{◌∙◌}
+use Rattle.ppd_world.proofs.KeptNeeds.{need_is_kept}
+use Rattle.ppd_world.proofs.Steps.{enabled_is}
 use Rattle.ppd_world.proofs.world.World.enabled.Goals as goal
-
-pub is_enabled-requires : goal.is_enabled-requires
-is_enabled-requires c =
-    let f = c.self.inside in
-    parts_ready f.code.program.now f.code.plan.now f.budget f.store f.loggings.items _ _ c.self.view_is c.deref.ensures.value c.requires
 
 pub returns : goal.returns
 returns c =
     let f = c.self.inside in
     rw (← c.self.view_is)
-    (c.is_enabled.ensures ∙ ap (λ (ls : List Logging). enabled f.code.program.now f.code.plan.now (world_of f.store ls) c.args.p) c.deref.ensures.value)
+    (c.is_met.ensures ∙ enabled_is f.code.program.now f.code.plan.now f.store f.loggings.items c.args.p c.need_at.result (c.need_at.ensures ∙ need_is_kept f.code.program.now f.code.plan.now c.as_slice.result.now f.loggings.items c.args.p (c.as_slice.ensures.value ∙ c.self.invariant)))

@@ -1,8 +1,13 @@
-use Rattle.std.proofs.Common.{◌<◌, length, map, arith, refl, sym, subst}
+use Rattle.std.specs.Prelude.{slice_get}
+use Rattle.std.proofs.Common.{◌<◌, List, length, map, arith, refl, ap, sym, ◌∙◌, subst}
+use Rattle.ppd_model.specs.declared.state.Logging.{Logging}
 use Rattle.std.proofs.lemmas.List.{length-map}
 use Rattle.std.proofs.lemmas.Option.{slice_get_within}
-use Rattle.ppd_world.specs.Plain.{ComesPlainly}
+use Rattle.ppd_world.specs.Parts.{need_of_logging}
+use Rattle.ppd_world.specs.Plain.{ComesPlainly, gone_on}
 use Rattle.ppd_world.specs.Running.{IsReached, Running}
+use Rattle.ppd_world.proofs.KeptNeeds.{kept_after}
+use Rattle.ppd_world.proofs.Reached.{parts_ready}
 use Rattle.ppd_world.proofs.Plain.{now_moved, rests_fit, went, went_reached, went_taken}
 use Rattle.ppd_world.proofs.world.World.put.Goals as goal
 
@@ -30,3 +35,27 @@ returns-clause-comes c =
 pub returns-clause-kept : goal.returns-clause-kept
 returns-clause-kept c =
     went_reached _ _ c.args.p c.args.steps c.args.proc (subst (λ (r : Running). IsReached r) (sym c.self.view_is) c.requires.reached) (subst (λ (r : Running). ComesPlainly r c.args.p c.args.steps c.args.proc) (sym c.self.view_is) c.requires.comes) (now_moved _ c.go_on.new.loggings.items c.args.p c.args.steps c.args.proc refl c.go_on.ensures)
+
+pub look_at-need-requires-clause-program : goal.look_at-need-requires-clause-program
+look_at-need-requires-clause-program c =
+    let f = c.self.inside in
+    let reached = went_reached _ _ c.args.p c.args.steps c.args.proc (subst (λ (r : Running). IsReached r) (sym c.self.view_is) c.requires.reached) (subst (λ (r : Running). ComesPlainly r c.args.p c.args.steps c.args.proc) (sym c.self.view_is) c.requires.comes) (now_moved _ c.go_on.new.loggings.items c.args.p c.args.steps c.args.proc refl c.go_on.ensures) in
+    (parts_ready f.code.program.now f.code.plan.now f.budget f.store c.go_on.new.loggings.items c.as_slice.result.now _ refl c.as_slice.ensures.value reached).runnable
+
+pub look_at-need-requires-clause-plan : goal.look_at-need-requires-clause-plan
+look_at-need-requires-clause-plan c =
+    let f = c.self.inside in
+    let reached = went_reached _ _ c.args.p c.args.steps c.args.proc (subst (λ (r : Running). IsReached r) (sym c.self.view_is) c.requires.reached) (subst (λ (r : Running). ComesPlainly r c.args.p c.args.steps c.args.proc) (sym c.self.view_is) c.requires.comes) (now_moved _ c.go_on.new.loggings.items c.args.p c.args.steps c.args.proc refl c.go_on.ensures) in
+    (parts_ready f.code.program.now f.code.plan.now f.budget f.store c.go_on.new.loggings.items c.as_slice.result.now _ refl c.as_slice.ensures.value reached).numbered
+
+pub look_at-need-requires-clause-loggings : goal.look_at-need-requires-clause-loggings
+look_at-need-requires-clause-loggings c =
+    let f = c.self.inside in
+    let reached = went_reached _ _ c.args.p c.args.steps c.args.proc (subst (λ (r : Running). IsReached r) (sym c.self.view_is) c.requires.reached) (subst (λ (r : Running). ComesPlainly r c.args.p c.args.steps c.args.proc) (sym c.self.view_is) c.requires.comes) (now_moved _ c.go_on.new.loggings.items c.args.p c.args.steps c.args.proc refl c.go_on.ensures) in
+    (parts_ready f.code.program.now f.code.plan.now f.budget f.store c.go_on.new.loggings.items c.as_slice.result.now _ refl c.as_slice.ensures.value reached).small
+
+pub invariant_of-self : goal.invariant_of-self
+invariant_of-self c =
+    let f = c.self.inside in
+    kept_after f.code.program.now f.code.plan.now (gone_on c.args.proc c.args.steps) c.args.p f.loggings.items c.go_on.new.loggings.items f.needs.items c.set_need.new.needs.items c.look_at-need.result
+    c.self.invariant c.go_on.ensures (c.look_at-need.ensures ∙ ap (λ (x : List Logging). need_of_logging f.code.program.now f.code.plan.now (slice_get x c.args.p)) c.as_slice.ensures.value) c.set_need.ensures

@@ -1,10 +1,11 @@
 use Rattle.std.proofs.Common.{refl}
 use Rattle.ppd_world.specs.Parts.{world_of}
+use Rattle.ppd_world.proofs.KeptNeeds.{kept_by_step}
 use Rattle.ppd_world.proofs.Reached.{left_it, parts_ready, took}
 use Rattle.ppd_world.proofs.world.World.take.Goals as goal
 
-pub take_step-requires : goal.take_step-requires
-take_step-requires c =
+pub take_step-requires-clause-ready : goal.take_step-requires-clause-ready
+take_step-requires-clause-ready c =
     let f = c.self.inside in
     parts_ready f.code.program.now f.code.plan.now f.budget f.store f.loggings.items _ _ c.self.view_is refl c.requires
 
@@ -20,3 +21,9 @@ returns-clause-err c =
     let e = c.take_step.ensures in
     rw (← c.self.view_is)
     (left_it c.take_step.result f.code.program.now f.code.plan.now f.budget f.store c.take_step.new.store f.loggings.items c.take_step.new.loggings.items e.same_store e.same_loggings)
+
+pub invariant_of-self : goal.invariant_of-self
+invariant_of-self c =
+    let f = c.self.inside in
+    let e = c.take_step.ensures in
+    kept_by_step f.code.program.now f.code.plan.now c.take_step.result f.loggings.items c.take_step.new.loggings.items f.needs.items c.take_step.new.needs.items c.self.invariant e.needs e.same_needs e.same_loggings

@@ -1,0 +1,110 @@
+// The events of all processes, what they leave, and their lines.
+ghost use Rattle.std.specs.Prelude.{◌≡◌, ◌<◌, ◌^◌, ℕ, [], IsTrue, drop, get_or, length, map, take, IfOk};
+ghost use Rattle.std.specs.List.{flat_map};
+ghost use Rattle.ppd_linking.specs.Marks.{marks_after};
+ghost use Rattle.ppd_past.specs.Pasts.{IsPast};
+ghost use Rattle.ppd_walk.specs.SharedCells.{seens_in};
+ghost use Rattle.ppd_whole.specs.Told.{AreMarked, all_events, told_processes};
+
+use crate::lines::put_process;
+use ppd_ast::{Memory, Seq};
+use ppd_linking::{Marks, events_of, marks_of};
+use ppd_model::Item;
+use ppd_past::{Past, count_of};
+use ppd_sem::Event;
+use std::alloc::Global;
+
+/// The first rows, at most so many.
+fn first_rows(rows: &[Seq<Item>], count: usize) -> &[Seq<Item>]
+    ensures { result.now ≡ take count rows.now }
+{
+    if count < rows.len() {
+        &rows[..count]
+    } else {
+        rows
+    }
+}
+
+/// The rows after the first, so many.
+fn later_rows(rows: &[Seq<Item>], count: usize) -> &[Seq<Item>]
+    ensures { result.now ≡ drop count rows.now }
+{
+    if count < rows.len() {
+        &rows[count..]
+    } else {
+        &[]
+    }
+}
+
+/// The events of each process, joined from the items of all intervals.
+pub(crate) fn events_of_all<'a>(
+    alloc: Global,
+    past: &Past,
+    rows: &'a [Seq<Item>],
+) -> Result<Vec<Vec<&'a Event>>, Memory>
+    requires past { IsPast past.now }
+    requires uncut { past.now.cut.now ≡ past.now.logs.now }
+    requires rows { rows.now ≡ flat_map (λ x. x.items) (seens_in past.now) }
+    ensures { IfOk result
+        (λ all. map (λ es. map (λ e. e.now) es.items) all.items ≡ all_events past.now) }
+{
+    let mut all = Vec::new(alloc);
+    let mut left = rows;
+    for p in 0..past.logs.lists.len() {
+        let Ok(process) = u8::try_from(p) else {
+            return Err(Memory);
+        };
+        let count = count_of(past, process) as usize;
+        let events = events_of(alloc, first_rows(left, count))?;
+        all.push(events)?;
+        left = later_rows(left, count);
+    }
+    Ok(all)
+}
+
+/// What the events of each process leave.
+pub(crate) fn marks_of_all(alloc: Global, events: &[Vec<&Event>]) -> Result<Vec<Marks>, Memory>
+    ensures marks { IfOk result
+        (λ marks. marks.items ≡ map (λ es. marks_after (map (λ e. e.now) es.items)) events.now) }
+{
+    let mut all = Vec::new(alloc);
+    for own in events {
+        let marks = marks_of(alloc, own)?;
+        all.push(marks)?;
+    }
+    Ok(all)
+}
+
+/// Whether the events of each process have 32-bit numbers.
+pub(crate) fn are_few(events: &[Vec<&Event>]) -> bool
+    ensures { IsTrue result → (q : ℕ) → length (get_or (map (λ es. map (λ e. e.now) es.items) events.now) q []) < 2 ^ 32 }
+{
+    for own in events {
+        if own.len() >= 4294967296 {
+            return false;
+        }
+    }
+    true
+}
+
+/// The lines of the events of all processes.
+pub(crate) fn lines_of_all(
+    alloc: Global,
+    past: &Past,
+    marks: &[Marks],
+    events: &[Vec<&Event>],
+) -> Result<Vec<u8>, Memory>
+    requires past { IsPast past.now }
+    requires marks { AreMarked past.now marks.now }
+    ensures { IfOk result
+        (λ text. text.items ≡ told_processes past.now 0 (map (λ es. map (λ e. e.now) es.items) events.now)) }
+{
+    let mut text = Vec::new(alloc);
+    for p in 0..events.len() {
+        let Ok(process) = u8::try_from(p) else {
+            return Err(Memory);
+        };
+        put_process(&mut text, alloc, past, marks, process, &events[p])?;
+    }
+    Ok(text)
+}
