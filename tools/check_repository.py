@@ -74,7 +74,7 @@ if subprocess.run([sys.executable, "tools/index_definitions.py", "--check"], che
     wrong.append("the index of docs/definitions.md is stale")
 
 # an example is the data that a program is run on, or the very text of a test
-tests = "".join(text_of(name) for name in NAMES if name.startswith("crates/ppd_examples/src/"))
+tests = "".join(text_of(name) for name in NAMES if name.startswith("crates/test_examples/src/"))
 for name in NAMES:
     if name.startswith("examples/") and name.endswith(".c"):
         source = text_of(name)

@@ -10,7 +10,7 @@ TOP = os.path.dirname(os.path.dirname(os.path.abspath(__file__)))
 DOCUMENT = os.path.join(TOP, "docs", "definitions.md")
 TITLE = "## Index\n"
 RULE = re.compile(r"^\*\*([^*]+?)\.\*\* ?(.*)$")
-STATED = re.compile(r"`(ppd_[a-z_]+)/(specs/[A-Za-z/]+\.antt|src/[a-z_/]+\.rt)`")
+STATED = re.compile(r"`((?:ppd|law|rows|test)_[a-z_]+)/(specs/[A-Za-z/]+\.antt|src/[a-z_/]+\.rt)`")
 # how many files of code a row names at most
 MOST = 3
 
@@ -43,7 +43,7 @@ def code_of(crate, stated, texts):
     """The files of code that cite the definitions of a file: those of its own crate first."""
     if stated.startswith("src/"):
         return []
-    module = f"{crate}.specs.{os.path.splitext(os.path.basename(stated))[0]}."
+    module = f"{crate}.{os.path.splitext(stated)[0].replace('/', '.')}."
     citing = [place for place, text in texts.items() if f"Rattle.{module}" in text]
     own = sorted(place for place in citing if place.startswith(f"crates/{crate}/"))
     others = sorted(place for place in citing if place not in own)

@@ -9,12 +9,12 @@ top="$(cd "$(dirname "$0")/.." && pwd)"
 python3 "$top/tools/measure.py" "$top/.built/ppd" --beside "$@" || exit 1
 echo
 python3 "$top/tools/measure.py" "$top/.built/ppd" "$@" || exit 1
-cd "$top/crates/ppd_measure" || exit 2
+cd "$top/crates/bench_front" || exit 2
 rt run >/dev/null 2>&1 </dev/null || { rt run; exit 1; }
 for word in lex valid; do
     for _ in 1 2 3; do
         began=$(date +%s%N)
-        ./out/ppd_measure "$word" || exit 1
+        ./out/bench_front "$word" || exit 1
         echo "$word: $((($(date +%s%N) - began) / 1000000)) ms"
     done
 done

@@ -8,11 +8,11 @@ use Rattle.ppd_lex.specs.declared.token.Token.{Token}
 use Rattle.ppd_lex.proofs.FormedTokens.{formed}
 use Rattle.ppd_parse.specs.Grammar.{Shape}
 use Rattle.ppd_parse.specs.Limits.{IsTree}
-use Rattle.ppd_resolve.specs.Names.{Scope}
+use Rattle.ppd_check_names.specs.Names.{Scope}
 use Rattle.ppd_check.specs.Read.{IsTreeOf, IsRead}
-use Rattle.ppd_resolve.specs.Reading.{source_of}
-use Rattle.ppd_bodies.specs.Sources.{heads, head_frame, head_code, vars, core, Accepted}
-use Rattle.ppd_resolve.specs.Globals.{Head, globals}
+use Rattle.ppd_check_names.specs.Reading.{source_of}
+use Rattle.ppd_check_bodies.specs.Sources.{heads, head_frame, head_code, vars, core, Accepted}
+use Rattle.ppd_check_names.specs.Globals.{Head, globals}
 use Rattle.ppd_check.proofs.Valid.Core.{core_valid}
 use Rattle.ppd_check.proofs.Named.Accepted.{IsNamedHead, accepted_heads, accepted_counted, accepted_cells}
 use Rattle.ppd_check.proofs.Valid.Facts.{HeadNames, SourceNames}

@@ -3,28 +3,28 @@ use Rattle.std.proofs.Common.{◌≡◌, refl, ap, ◌∙◌, ℕ, ◌+◌, ◌*
 use Rattle.ppd_ast.specs.declared.program.Stmt.{Stmt}
 use Rattle.ppd_parse.specs.declared.node.Node.{Node}
 use Rattle.ppd_parse.specs.Tree.{tree_of, IsTable}
-use Rattle.ppd_resolve.specs.declared.globals.Globals.{Globals}
-use Rattle.ppd_resolve.specs.Cost.{nodes_at, total, heads_nodes}
-use Rattle.ppd_resolve.specs.declared.frame.Variable.{Variable}
-use Rattle.ppd_resolve.proofs.Declared.Costs.{heads_apart}
-use Rattle.ppd_resolve.specs.Reading.{source_of}
-use Rattle.ppd_bodies.specs.Sources.{codes, all_stmts, past_statements}
-use Rattle.ppd_resolve.specs.Globals.{globals, no_globals, items_faults, count_faults}
-use Rattle.ppd_bodies.proofs.HeadCosts.{elements_some}
+use Rattle.ppd_check_names.specs.declared.globals.Globals.{Globals}
+use Rattle.ppd_check_names.specs.Cost.{nodes_at, total, heads_nodes}
+use Rattle.ppd_check_names.specs.declared.frame.Variable.{Variable}
+use Rattle.ppd_check_names.proofs.Declared.Costs.{heads_apart}
+use Rattle.ppd_check_names.specs.Reading.{source_of}
+use Rattle.ppd_check_bodies.specs.Sources.{codes, all_stmts, past_statements}
+use Rattle.ppd_check_names.specs.Globals.{globals, no_globals, items_faults, count_faults}
+use Rattle.ppd_check_bodies.proofs.HeadCosts.{elements_some}
 use Rattle.ppd_check.proofs.Linear.{core_few}
 use Rattle.ppd_check.proofs.LinearNodes.{tree_within}
-use Rattle.ppd_bodies.proofs.Tables.{length_vars}
+use Rattle.ppd_check_bodies.proofs.Tables.{length_vars}
 use Rattle.ppd_ast.specs.declared.program.Body.{Body}
 use Rattle.ppd_ast.specs.declared.program.Expr.{Expr}
-use Rattle.ppd_resolve.specs.declared.fault.Cause.TheVariants.{NoProcess}
-use Rattle.ppd_resolve.specs.declared.fault.Fault.{Fault}
-use Rattle.ppd_resolve.specs.declared.writer.Writer.{Writer}
-use Rattle.ppd_bodies.specs.Bodies.{WroteHeads}
-use Rattle.ppd_resolve.specs.Faults.{first, first_of_both, unless}
-use Rattle.ppd_resolve.specs.Holding.{head_at, Holds}
-use Rattle.ppd_resolve.specs.Names.{innermost}
+use Rattle.ppd_check_names.specs.declared.fault.Cause.TheVariants.{NoProcess}
+use Rattle.ppd_check_names.specs.declared.fault.Fault.{Fault}
+use Rattle.ppd_check_names.specs.declared.writer.Writer.{Writer}
+use Rattle.ppd_check_bodies.specs.Bodies.{WroteHeads}
+use Rattle.ppd_check_names.specs.Faults.{first, first_of_both, unless}
+use Rattle.ppd_check_names.specs.Holding.{head_at, Holds}
+use Rattle.ppd_check_names.specs.Names.{innermost}
 use Rattle.ppd_check.specs.Placed.{place_of}
-use Rattle.ppd_resolve.specs.Syntax.{Source}
+use Rattle.ppd_check_names.specs.Syntax.{Source}
 use Rattle.ppd_check.proofs.Placing.{all_places}
 use Rattle.ppd_check.proofs.Sourced.{parts_of, parts_stmts}
 

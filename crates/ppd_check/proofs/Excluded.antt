@@ -13,10 +13,10 @@ use Rattle.ppd_parse.proofs.Excluded.{tree_or_refused}
 use Rattle.ppd_check.specs.declared.error.CheckError.TheVariants as C
 use Rattle.ppd_check.specs.declared.error.SourceError.{SourceError}
 use Rattle.ppd_check.specs.declared.error.SourceError.TheVariants as S
-use Rattle.ppd_resolve.specs.declared.fault.Fault.{Fault}
-use Rattle.ppd_resolve.specs.Faults.{first}
+use Rattle.ppd_check_names.specs.declared.fault.Fault.{Fault}
+use Rattle.ppd_check_names.specs.Faults.{first}
 use Rattle.ppd_check.specs.Read.{IsTreeOf, IsRead, IsRefused}
-use Rattle.ppd_bodies.specs.Sources.{Accepted, core, faults, first_fault}
+use Rattle.ppd_check_bodies.specs.Sources.{Accepted, core, faults, first_fault}
 
 abbrev head_or : Shape → List Shape → Shape
 head_or t [] = t

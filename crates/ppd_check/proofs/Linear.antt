@@ -14,25 +14,25 @@ use Rattle.ppd_parse.specs.Tree.{tree_of, IsTable}
 use Rattle.ppd_parse.proofs.FromLanguage.{program_parsed}
 use Rattle.ppd_parse.proofs.Sizes.{program_size}
 use Rattle.ppd_parse.proofs.Counted.{counted_from}
-use Rattle.ppd_resolve.specs.declared.frame.Frame.{Frame}
-use Rattle.ppd_resolve.specs.Names.{Scope}
+use Rattle.ppd_check_names.specs.declared.frame.Frame.{Frame}
+use Rattle.ppd_check_names.specs.Names.{Scope}
 use Rattle.ppd_check.specs.Read.{IsTreeOf}
-use Rattle.ppd_resolve.specs.Reading.{source_of}
-use Rattle.ppd_resolve.specs.Fitted.{as_short}
-use Rattle.ppd_lower.specs.Statements.{row_code}
-use Rattle.ppd_resolve.specs.Frames.{variable_of}
-use Rattle.ppd_resolve.specs.Syntax.{Item, shared, shared_array, semaphore, channel, function, process}
-use Rattle.ppd_lower.specs.Table.{terms}
-use Rattle.ppd_bodies.specs.Sources.{outer, entry, ends_with_return, close_code, head_code, head_frame, heads, codes, core, Accepted}
-use Rattle.ppd_resolve.specs.Globals.{Head, Globals, no_globals, with_item, with_items, globals, sem, chan}
-use Rattle.ppd_bodies.proofs.Filling.{params_count}
-use Rattle.ppd_lower.proofs.Table.Writing.{length_flats}
-use Rattle.ppd_lower.specs.Elements.{elements_of}
+use Rattle.ppd_check_names.specs.Reading.{source_of}
+use Rattle.ppd_check_names.specs.Fitted.{as_short}
+use Rattle.ppd_check_stmts.specs.Statements.{row_code}
+use Rattle.ppd_check_names.specs.Frames.{variable_of}
+use Rattle.ppd_check_names.specs.Syntax.{Item, shared, shared_array, semaphore, channel, function, process}
+use Rattle.ppd_check_stmts.specs.Table.{terms}
+use Rattle.ppd_check_bodies.specs.Sources.{outer, entry, ends_with_return, close_code, head_code, head_frame, heads, codes, core, Accepted}
+use Rattle.ppd_check_names.specs.Globals.{Head, Globals, no_globals, with_item, with_items, globals, sem, chan}
+use Rattle.ppd_check_bodies.proofs.Filling.{params_count}
+use Rattle.ppd_check_stmts.proofs.Table.Writing.{length_flats}
+use Rattle.ppd_check_stmts.specs.Elements.{elements_of}
 use Rattle.ppd_check.proofs.LinearNodes.{tree_within}
-use Rattle.ppd_lower.proofs.Costs.Tables.{load}
-use Rattle.ppd_bodies.proofs.Tables.{length_vars, heads_load, heads_hold}
-use Rattle.ppd_lower.proofs.Costs.Rows.{row_size, load_join, row_load}
-use Rattle.ppd_lower.proofs.Costs.Phrases.{item_size, items_size, items_few}
+use Rattle.ppd_check_stmts.proofs.Costs.Tables.{load}
+use Rattle.ppd_check_bodies.proofs.Tables.{length_vars, heads_load, heads_hold}
+use Rattle.ppd_check_stmts.proofs.Costs.Rows.{row_size, load_join, row_load}
+use Rattle.ppd_check_stmts.proofs.Costs.Phrases.{item_size, items_size, items_few}
 
 -- Functions and processes.
 

@@ -9,12 +9,12 @@ use Rattle.std.proofs.lemmas.List.Sorted.{sum_by-IsPermutation, Contains-permuta
 use Rattle.std.proofs.lemmas.Bool.{true≢false, ltb-true}
 use Rattle.ppd_ast.specs.declared.program.Place.{Place}
 use Rattle.ppd_ast.specs.Counting.{one_if}
-use Rattle.ppd_resolve.specs.declared.fault.Cause.TheVariants.{TooMany}
-use Rattle.ppd_resolve.specs.declared.fault.Limit.TheVariants as L
-use Rattle.ppd_resolve.specs.declared.fault.Fault.{Fault}
-use Rattle.ppd_resolve.specs.Faults.{at, by_then, is_before, first, first_of_two, first_of_both}
-use Rattle.ppd_bodies.specs.Sources.{is_up_to}
-use Rattle.ppd_resolve.proofs.Found.First.{first_of_both_assoc, first_of_both_swap}
+use Rattle.ppd_check_names.specs.declared.fault.Cause.TheVariants.{TooMany}
+use Rattle.ppd_check_names.specs.declared.fault.Limit.TheVariants as L
+use Rattle.ppd_check_names.specs.declared.fault.Fault.{Fault}
+use Rattle.ppd_check_names.specs.Faults.{at, by_then, is_before, first, first_of_two, first_of_both}
+use Rattle.ppd_check_bodies.specs.Sources.{is_up_to}
+use Rattle.ppd_check_names.proofs.Found.First.{first_of_both_assoc, first_of_both_swap}
 
 abbrev too_many : Place → Fault
 too_many p = at p (TooMany L.Statements)

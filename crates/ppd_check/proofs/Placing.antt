@@ -5,10 +5,10 @@ use Rattle.std.proofs.lemmas.List.{map-append}
 use Rattle.std.proofs.lemmas.List.Concat.{flat_map-cons}
 use Rattle.ppd_ast.specs.declared.program.Place.{Place}
 use Rattle.ppd_ast.specs.declared.program.Stmt.{Stmt}
-use Rattle.ppd_resolve.specs.Fitted.{as_short}
-use Rattle.ppd_lower.specs.Code.{Code, done, act, choice, loop, count, places}
-use Rattle.ppd_lower.specs.Table.{weight, weights, act_terms, terms, stmts}
-use Rattle.ppd_bodies.specs.Sources.{all_stmts}
+use Rattle.ppd_check_names.specs.Fitted.{as_short}
+use Rattle.ppd_check_stmts.specs.Code.{Code, done, act, choice, loop, count, places}
+use Rattle.ppd_check_stmts.specs.Table.{weight, weights, act_terms, terms, stmts}
+use Rattle.ppd_check_bodies.specs.Sources.{all_stmts}
 use Rattle.ppd_check.specs.Placed.{place_of}
 
 both : (xs ys : List Stmt) (ps qs : List Place) → map place_of xs ≡ ps → map place_of ys ≡ qs → map place_of (xs ++ ys) ≡ ps ++ qs

@@ -13,27 +13,27 @@ use Rattle.ppd_ast.specs.declared.program.Sem.{Sem}
 use Rattle.ppd_ast.specs.declared.program.Chan.{Chan}
 use Rattle.ppd_parse.specs.declared.node.Node.{Node}
 use Rattle.ppd_parse.specs.Tree.{tree_of}
-use Rattle.ppd_resolve.specs.declared.fault.Cause.TheVariants.{NoProcess, TooMany}
-use Rattle.ppd_resolve.specs.declared.fault.Fault.{Fault}
-use Rattle.ppd_resolve.specs.declared.fault.Limit.{Limit}
-use Rattle.ppd_resolve.specs.declared.fault.Limit.TheVariants as L
-use Rattle.ppd_resolve.specs.declared.frame.Variable.{Variable}
-use Rattle.ppd_resolve.specs.declared.globals.Globals.{Globals}
-use Rattle.ppd_resolve.specs.declared.writer.Writer.{Writer}
-use Rattle.ppd_bodies.specs.Bodies.{WroteHeads}
-use Rattle.ppd_lower.specs.Code.{Code, places}
-use Rattle.ppd_resolve.specs.Faults.{at, unless, if_so, first_of_two, is_before, first, first_of_both}
-use Rattle.ppd_resolve.specs.Fitted.{as_short}
-use Rattle.ppd_resolve.specs.Holding.{head_at, Holds}
-use Rattle.ppd_resolve.specs.Names.{innermost}
-use Rattle.ppd_resolve.specs.Globals as S
-use Rattle.ppd_bodies.specs.Sources.{past_statements, head_faults, heads, codes, faults_in, vars, bodies, all_stmts, core_of, Accepted, core, faults, first_fault}
-use Rattle.ppd_resolve.specs.Globals.{no_globals, globals, with_item, with_items, items_faults, count_faults, past, past_cells, sem}
-use Rattle.ppd_resolve.specs.Frames.{after_cells}
-use Rattle.ppd_resolve.specs.Syntax.{Item, Source}
-use Rattle.ppd_lower.specs.Table.{flats, terms}
-use Rattle.ppd_resolve.proofs.Declared.Counted.{end_cells, Celled, celled_item}
-use Rattle.ppd_resolve.proofs.Found.First.{found_in_both}
+use Rattle.ppd_check_names.specs.declared.fault.Cause.TheVariants.{NoProcess, TooMany}
+use Rattle.ppd_check_names.specs.declared.fault.Fault.{Fault}
+use Rattle.ppd_check_names.specs.declared.fault.Limit.{Limit}
+use Rattle.ppd_check_names.specs.declared.fault.Limit.TheVariants as L
+use Rattle.ppd_check_names.specs.declared.frame.Variable.{Variable}
+use Rattle.ppd_check_names.specs.declared.globals.Globals.{Globals}
+use Rattle.ppd_check_names.specs.declared.writer.Writer.{Writer}
+use Rattle.ppd_check_bodies.specs.Bodies.{WroteHeads}
+use Rattle.ppd_check_stmts.specs.Code.{Code, places}
+use Rattle.ppd_check_names.specs.Faults.{at, unless, if_so, first_of_two, is_before, first, first_of_both}
+use Rattle.ppd_check_names.specs.Fitted.{as_short}
+use Rattle.ppd_check_names.specs.Holding.{head_at, Holds}
+use Rattle.ppd_check_names.specs.Names.{innermost}
+use Rattle.ppd_check_names.specs.Globals as S
+use Rattle.ppd_check_bodies.specs.Sources.{past_statements, head_faults, heads, codes, faults_in, vars, bodies, all_stmts, core_of, Accepted, core, faults, first_fault}
+use Rattle.ppd_check_names.specs.Globals.{no_globals, globals, with_item, with_items, items_faults, count_faults, past, past_cells, sem}
+use Rattle.ppd_check_names.specs.Frames.{after_cells}
+use Rattle.ppd_check_names.specs.Syntax.{Item, Source}
+use Rattle.ppd_check_stmts.specs.Table.{flats, terms}
+use Rattle.ppd_check_names.proofs.Declared.Counted.{end_cells, Celled, celled_item}
+use Rattle.ppd_check_names.proofs.Found.First.{found_in_both}
 
 -- Nothing was found where no rule is broken.
 

@@ -4,8 +4,8 @@ use Rattle.ppd_ast.specs.declared.program.Program.{Program}
 use Rattle.ppd_ast.specs.Valid.{IsValid}
 use Rattle.ppd_parse.specs.declared.node.Node.{Node}
 use Rattle.ppd_parse.specs.Tree.{tree_of}
-use Rattle.ppd_lower.specs.Elements.{elements_of}
-use Rattle.ppd_bodies.specs.Sources as Lowering
+use Rattle.ppd_check_stmts.specs.Elements.{elements_of}
+use Rattle.ppd_check_bodies.specs.Sources as Lowering
 use Rattle.ppd_check.specs.declared.error.CheckError.{CheckError}
 use Rattle.ppd_check.specs.Read.{IsTreeOf}
 use Rattle.ppd_check.specs.Refused.{IsRefused}

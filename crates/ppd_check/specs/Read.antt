@@ -15,7 +15,7 @@ use Rattle.ppd_check.specs.declared.error.CheckError.{CheckError}
 use Rattle.ppd_check.specs.declared.error.CheckError.TheVariants as C
 use Rattle.ppd_check.specs.declared.error.SourceError.{SourceError}
 use Rattle.ppd_check.specs.declared.error.SourceError.TheVariants as S
-use Rattle.ppd_bodies.specs.Sources.{Accepted, core}
+use Rattle.ppd_check_bodies.specs.Sources.{Accepted, core}
 use Rattle.ppd_check.specs.Refused as Checking
 
 -- the bytes have tokens, and these have this tree

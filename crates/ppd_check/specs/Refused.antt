@@ -3,9 +3,9 @@ use Rattle.std.specs.Prelude.{◌≡◌, Some}
 use Rattle.ppd_parse.specs.Grammar.{Shape}
 use Rattle.ppd_check.specs.declared.error.CheckError.{CheckError}
 use Rattle.ppd_check.specs.declared.error.CheckError.TheVariants as E
-use Rattle.ppd_resolve.specs.declared.fault.Cause.TheVariants.{Twice, Unknown, WrongKind, Arity, ReturnPlace, VoidValue, NoProcess, TooMany, BadSize}
-use Rattle.ppd_resolve.specs.Faults.{at}
-use Rattle.ppd_bodies.specs.Sources.{first_fault}
+use Rattle.ppd_check_names.specs.declared.fault.Cause.TheVariants.{Twice, Unknown, WrongKind, Arity, ReturnPlace, VoidValue, NoProcess, TooMany, BadSize}
+use Rattle.ppd_check_names.specs.Faults.{at}
+use Rattle.ppd_check_bodies.specs.Sources.{first_fault}
 
 -- Why a tree is refused: the first rule that it breaks, with its place. Want of memory may come at any.
 abbrev pub IsRefused : Shape → CheckError → Type 0

@@ -4,8 +4,8 @@ use Rattle.std.specs.Prelude.{ℕ, suc, ◌+◌, ◌*◌, ◌≤◌, max, List, 
 use Rattle.std.specs.List.{AllByRecursion}
 use Rattle.ppd_ast.specs.declared.limits.TheConstants.{MOST_NESTING, MOST_SOURCE_OPERATORS}
 use Rattle.ppd_ast.specs.Valid.{IsName}
-use Rattle.ppd_resolve.specs.Syntax.{Name, Formula, number, variable, element, negated, inverted, two, both, either, Goal, scalar, item, Value, plain, result, received, Simple, Row, Item, shared, shared_array, semaphore, channel, function, process, Source}
-use Rattle.ppd_resolve.specs.Syntax as S
+use Rattle.ppd_check_names.specs.Syntax.{Name, Formula, number, variable, element, negated, inverted, two, both, either, Goal, scalar, item, Value, plain, result, received, Simple, Row, Item, shared, shared_array, semaphore, channel, function, process, Source}
+use Rattle.ppd_check_names.specs.Syntax as S
 
 -- Expressions.
 

@@ -4,21 +4,21 @@ ghost use Rattle.ppd_check.specs.Answer.{IsCheckOf};
 ghost use Rattle.std.specs.List.{All};
 ghost use Rattle.ppd_parse.specs.Grammar.{Shape};
 ghost use Rattle.ppd_parse.specs.Tree.{tree_of, IsTable};
-ghost use Rattle.ppd_bodies.specs.Bodies.{WroteHeads};
-ghost use Rattle.ppd_resolve.specs.Holding.{head_at, IsHeadAt};
-ghost use Rattle.ppd_resolve.specs.Names.{innermost};
-ghost use Rattle.ppd_bodies.specs.Sources.{Accepted, core, first_fault};
+ghost use Rattle.ppd_check_bodies.specs.Bodies.{WroteHeads};
+ghost use Rattle.ppd_check_names.specs.Holding.{head_at, IsHeadAt};
+ghost use Rattle.ppd_check_names.specs.Names.{innermost};
+ghost use Rattle.ppd_check_bodies.specs.Sources.{Accepted, core, first_fault};
 ghost use Rattle.ppd_check.specs.Refused.{IsRefused};
-ghost use Rattle.ppd_resolve.specs.Cost.{nodes_at, total};
+ghost use Rattle.ppd_check_names.specs.Cost.{nodes_at, total};
 
 use crate::error::CheckError;
 use crate::places::note_statements;
 use ppd_ast::{Body, Memory, Program, Seq, Steps};
-use ppd_bodies::{Heads, vars_of, write_heads};
-use ppd_parse::Tree;
-use ppd_resolve::{
+use ppd_check_bodies::{Heads, vars_of, write_heads};
+use ppd_check_names::{
     Cause, Fault, Output, Scopes, Source, Writer, as_short, globals_of, note_no_process,
 };
+use ppd_parse::Tree;
 use std::alloc::Global;
 use std::marker::Brand;
 use std::sync::ledger::{Blank, Ledger};

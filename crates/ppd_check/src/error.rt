@@ -3,9 +3,9 @@ ghost use Rattle.ppd_check.specs.declared.error.CheckError.TheVariants as C;
 ghost use Rattle.ppd_check.specs.declared.error.SourceError.TheVariants as S;
 
 use ppd_ast::Place;
+use ppd_check_names::Limit;
 use ppd_lex::LexError;
 use ppd_parse::SyntaxError;
-use ppd_resolve::Limit;
 
 /// Why a source has no core form: the first rule that it breaks, with its place.
 #[derive(Clone, Copy, PartialEq, Eq, Debug, Drop)]

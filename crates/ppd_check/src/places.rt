@@ -1,14 +1,14 @@
 // The statements past the most that there may be.
 ghost use Rattle.std.specs.Prelude.{◌≡◌, map, List, OnOk, IfOk, ◌≤◌, ◌+◌, ◌*◌, length};
 ghost use Rattle.std.specs.List.{flat_map};
-ghost use Rattle.ppd_resolve.specs.Faults.{first, first_of_both};
-ghost use Rattle.ppd_bodies.specs.Sources.{past_statements, all_stmts};
-ghost use Rattle.ppd_lower.specs.Code.{Code, places};
+ghost use Rattle.ppd_check_names.specs.Faults.{first, first_of_both};
+ghost use Rattle.ppd_check_bodies.specs.Sources.{past_statements, all_stmts};
+ghost use Rattle.ppd_check_stmts.specs.Code.{Code, places};
 ghost use Rattle.ppd_check.specs.Placed.{place_of};
 
 use ppd_ast::limits::MOST_STATEMENTS;
 use ppd_ast::{Memory, Place, Steps, Stmt};
-use ppd_resolve::{Cause, Fault, Limit, note};
+use ppd_check_names::{Cause, Fault, Limit, note};
 use std::alloc::Global;
 use std::sync::ledger::Ledger;
 

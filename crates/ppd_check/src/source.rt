@@ -1,6 +1,6 @@
 ghost use Rattle.std.specs.Prelude.{◌≡◌, ◌≤◌, ◌+◌, ◌*◌, length, IfOk, IfErr};
 ghost use Rattle.ppd_ast.specs.Valid.{IsValid};
-ghost use Rattle.ppd_lower.specs.Elements.{elements_of};
+ghost use Rattle.ppd_check_stmts.specs.Elements.{elements_of};
 ghost use Rattle.ppd_check.specs.Read.{IsRead, IsRefused, by_check};
 
 use crate::checking::check;

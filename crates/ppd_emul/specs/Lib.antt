@@ -1,5 +1,5 @@
--- The replay of one interval from its own log: no schedule and no other process is known to it.
-pub mod Fits
-pub mod Replay
-pub mod Laws
-pub mod Ending
+-- The replay of one interval in code: its parts and what they answer.
+pub use Rattle.law_replay.specs.Theorem.Laws
+pub mod Held
+pub mod Emulated
+pub mod Spending

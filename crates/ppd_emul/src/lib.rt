@@ -1,14 +1,14 @@
-//! The replay of one log interval from its own log, as a definition, and the types of its values.
+//! The replay of one log interval from its own log.
 #![tactic(auto)]
 
-mod laws;
-mod trace;
-mod wanted;
+mod emulating;
+mod fitting;
+mod in_force;
+mod pieces;
+mod replayer;
+mod stepping;
+mod turning;
+mod wanting;
 
-pub use laws::{
-    failures_differ, replays_are_within_budget, replays_count_their_steps, replays_end_by_turns,
-};
-pub use ppd_entry::Piece;
-pub use ppd_model::Item;
-pub use trace::{BlockTrace, EmulError};
-pub use wanted::{Found, Wanted};
+pub use emulating::{Counters, emulate, emulate_in};
+pub use ppd_emul_model::{BlockTrace, EmulError, Found, Item, Piece, Wanted};

@@ -8,19 +8,19 @@ use Rattle.ppd_model.specs.declared.flow.EdgeKind.TheVariants.{Control}
 use Rattle.ppd_model.specs.declared.flow.FlowEdge.{FlowEdge}
 use Rattle.ppd_model.specs.declared.flow.Origin.{Origin}
 use Rattle.ppd_model.specs.FlowbackEdges.{bare_edge}
-use Rattle.ppd_past.specs.declared.flow_error.FlowError.{FlowError}
-use Rattle.ppd_past.specs.declared.past.Past.{Past}
-use Rattle.ppd_past.specs.ByReplays.{IsFoundBy}
-use Rattle.ppd_past.proofs.Found.{err_any, found_err, found_then}
-use Rattle.ppd_search.specs.Control.{control_origin, control_replays}
-use Rattle.ppd_search.specs.Found.{and_more, event_edges, event_replays, if_found, pair_edges, sync_edges}
-use Rattle.ppd_search.specs.Seen.{Seen}
-use Rattle.ppd_search.specs.Shared.{Missing, of_process, pair_origin, seen_at}
-use Rattle.ppd_walk.specs.SharedCells.{answer_of, seens_in}
-use Rattle.ppd_local.specs.declared.search.Place.{Place}
-use Rattle.ppd_local.specs.declared.search.Search.{Search}
-use Rattle.ppd_local.specs.Searches.{IsControlFound}
-use Rattle.ppd_local.proofs.Joined.{the_ok}
+use Rattle.ppd_flow_past.specs.declared.flow_error.FlowError.{FlowError}
+use Rattle.ppd_flow_past.specs.declared.past.Past.{Past}
+use Rattle.ppd_flow_past.specs.ByReplays.{IsFoundBy}
+use Rattle.ppd_flow_past.proofs.Found.{err_any, found_err, found_then}
+use Rattle.ppd_flow_model.specs.Control.{control_origin, control_replays}
+use Rattle.ppd_flow_model.specs.Found.{and_more, event_edges, event_replays, if_found, pair_edges, sync_edges}
+use Rattle.ppd_flow_model.specs.Seen.{Seen}
+use Rattle.ppd_flow_model.specs.Shared.{Missing, of_process, pair_origin, seen_at}
+use Rattle.ppd_flow_shared.specs.SharedCells.{answer_of, seens_in}
+use Rattle.ppd_flow_local.specs.declared.search.Place.{Place}
+use Rattle.ppd_flow_local.specs.declared.search.Search.{Search}
+use Rattle.ppd_flow_local.specs.Searches.{IsControlFound}
+use Rattle.ppd_flow_local.proofs.Joined.{the_ok}
 use Rattle.ppd_flow.specs.Answers.{pair_edge_at, pair_edge_if, pair_replays_at, reads_at, reads_replays_at}
 use Rattle.ppd_flow.proofs.Answered.{found_is, not_found, so_found}
 use Rattle.ppd_flow.proofs.Seens.{same_seen}

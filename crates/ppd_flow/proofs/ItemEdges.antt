@@ -4,16 +4,16 @@ use Rattle.std.specs.Prelude.{slice_get}
 use Rattle.std.proofs.lemmas.Option.{slice_get_past}
 use Rattle.ppd_model.specs.declared.flow.FlowEdge.{FlowEdge}
 use Rattle.ppd_model.specs.declared.flow.Item.{Item}
-use Rattle.ppd_past.specs.declared.flow_error.FlowError.{FlowError}
-use Rattle.ppd_past.specs.declared.flow_error.FlowError.TheVariants.{NoEvent}
-use Rattle.ppd_past.specs.declared.past.Past.{Past}
-use Rattle.ppd_past.specs.ByReplays.{IsFoundBy}
-use Rattle.ppd_past.specs.SeenBy.{items_in}
-use Rattle.ppd_past.proofs.Found.{found_then}
-use Rattle.ppd_search.specs.Found.{edges_if, item_edges, item_replays}
-use Rattle.ppd_search.specs.Seen.{Seen, items_at}
-use Rattle.ppd_search.specs.Shared.{seen_at}
-use Rattle.ppd_walk.specs.SharedCells.{answer_of, seens_in}
+use Rattle.ppd_flow_past.specs.declared.flow_error.FlowError.{FlowError}
+use Rattle.ppd_flow_past.specs.declared.flow_error.FlowError.TheVariants.{NoEvent}
+use Rattle.ppd_flow_past.specs.declared.past.Past.{Past}
+use Rattle.ppd_flow_past.specs.ByReplays.{IsFoundBy}
+use Rattle.ppd_flow_past.specs.SeenBy.{items_in}
+use Rattle.ppd_flow_past.proofs.Found.{found_then}
+use Rattle.ppd_flow_model.specs.Found.{edges_if, item_edges, item_replays}
+use Rattle.ppd_flow_model.specs.Seen.{Seen, items_at}
+use Rattle.ppd_flow_model.specs.Shared.{seen_at}
+use Rattle.ppd_flow_shared.specs.SharedCells.{answer_of, seens_in}
 use Rattle.ppd_flow.specs.Answers.{IsEdges, answer_if}
 use Rattle.ppd_flow.proofs.Seens.{same_seen}
 

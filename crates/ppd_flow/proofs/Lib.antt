@@ -1,4 +1,4 @@
-pub use Rattle.ppd_own_loops.proofs.OwnParts
+pub use Rattle.law_flow_own.proofs.Loops.OwnParts
 mod Answered
 mod Costing
 mod Events

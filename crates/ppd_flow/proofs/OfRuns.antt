@@ -17,19 +17,19 @@ use Rattle.ppd_model.specs.Logs.{closed_log, closed_logs, logs_from}
 use Rattle.ppd_model.specs.Races.{races}
 use Rattle.ppd_model.specs.Schedule.{IsWhole}
 use Rattle.ppd_model.specs.Story.{Moment, steps_of, story, told}
-use Rattle.ppd_own_loops.specs.AllOwnParts.{AllOwnPartsAreFound}
-use Rattle.ppd_past.specs.declared.flow_error.FlowError.{FlowError}
-use Rattle.ppd_past.specs.declared.flow_error.FlowError.TheVariants.{Diverged, NoEvent, Sets, Memory}
-use Rattle.ppd_past.specs.declared.past.Past.{Past}
-use Rattle.ppd_past.specs.ByReplays.{IsFoundBy, failure_or, first_failed_in}
-use Rattle.ppd_past.specs.Honest.{IsSeen, ReplaysAreSeen}
-use Rattle.ppd_past.specs.SeenBy.{failed_at, failed_in, seen_by}
-use Rattle.ppd_search.specs.Found.{edges_replays, found_edges}
-use Rattle.ppd_search.specs.Seen.{Seen, seen_of}
-use Rattle.ppd_search.specs.Shared.{Missing, found_last}
-use Rattle.ppd_shared_edges.specs.Assembled.{EdgesAreFound, HasOwnParts}
-use Rattle.ppd_shared_edges.specs.SharedEdges.{LastWritesAreFound, all_seen}
-use Rattle.ppd_walk.specs.SharedCells.{IsMemoryOr, answer_of, seens_in}
+use Rattle.law_flow_own.specs.Loops.AllOwnParts.{AllOwnPartsAreFound}
+use Rattle.ppd_flow_past.specs.declared.flow_error.FlowError.{FlowError}
+use Rattle.ppd_flow_past.specs.declared.flow_error.FlowError.TheVariants.{Diverged, NoEvent, Sets, Memory}
+use Rattle.ppd_flow_past.specs.declared.past.Past.{Past}
+use Rattle.ppd_flow_past.specs.ByReplays.{IsFoundBy, failure_or, first_failed_in}
+use Rattle.ppd_flow_past.specs.Honest.{IsSeen, ReplaysAreSeen}
+use Rattle.ppd_flow_past.specs.SeenBy.{failed_at, failed_in, seen_by}
+use Rattle.ppd_flow_model.specs.Found.{edges_replays, found_edges}
+use Rattle.ppd_flow_model.specs.Seen.{Seen, seen_of}
+use Rattle.ppd_flow_model.specs.Shared.{Missing, found_last}
+use Rattle.law_flow_shared.specs.Edges.Assembled.{EdgesAreFound, HasOwnParts}
+use Rattle.law_flow_shared.specs.Edges.SharedEdges.{LastWritesAreFound, all_seen}
+use Rattle.ppd_flow_shared.specs.SharedCells.{IsMemoryOr, answer_of, seens_in}
 use Rattle.ppd_flow.specs.Answers.{IsEdges, answer_if}
 use Rattle.ppd_flow.specs.Runs.{AnswersAreOfRuns, GivesEdges, GivesLast, IsOfRun, edges_or_none, splits_in, story_in}
 

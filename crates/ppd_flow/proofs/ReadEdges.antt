@@ -7,18 +7,18 @@ use Rattle.ppd_sem.specs.declared.event.Spot.TheVariants.{Local, Shared}
 use Rattle.ppd_model.specs.declared.flow.FlowEdge.{FlowEdge}
 use Rattle.ppd_model.specs.declared.flow.Origin.{Origin}
 use Rattle.ppd_model.specs.declared.flow.Origin.TheVariants as origin
-use Rattle.ppd_past.specs.declared.flow_error.FlowError.{FlowError}
-use Rattle.ppd_past.specs.declared.flow_error.FlowError.TheVariants.{Diverged, NoEvent, Sets, Memory}
-use Rattle.ppd_past.specs.declared.past.Past.{Past}
-use Rattle.ppd_past.specs.ByReplays.{IsFoundBy}
-use Rattle.ppd_past.proofs.Found.{found_none, found_then}
-use Rattle.ppd_search.specs.Found.{before_others, if_found, read_edge, read_if}
-use Rattle.ppd_search.specs.Own.{read_from}
-use Rattle.ppd_search.specs.Shared.{Missing}
-use Rattle.ppd_walk.specs.SharedCells.{answer_of, seens_in}
-use Rattle.ppd_local.specs.declared.search.Place.{Place}
-use Rattle.ppd_local.specs.declared.search.Search.{Search}
-use Rattle.ppd_local.proofs.Lefts.{prefixed_both, prefixed}
+use Rattle.ppd_flow_past.specs.declared.flow_error.FlowError.{FlowError}
+use Rattle.ppd_flow_past.specs.declared.flow_error.FlowError.TheVariants.{Diverged, NoEvent, Sets, Memory}
+use Rattle.ppd_flow_past.specs.declared.past.Past.{Past}
+use Rattle.ppd_flow_past.specs.ByReplays.{IsFoundBy}
+use Rattle.ppd_flow_past.proofs.Found.{found_none, found_then}
+use Rattle.ppd_flow_model.specs.Found.{before_others, if_found, read_edge, read_if}
+use Rattle.ppd_flow_model.specs.Own.{read_from}
+use Rattle.ppd_flow_model.specs.Shared.{Missing}
+use Rattle.ppd_flow_shared.specs.SharedCells.{answer_of, seens_in}
+use Rattle.ppd_flow_local.specs.declared.search.Place.{Place}
+use Rattle.ppd_flow_local.specs.declared.search.Search.{Search}
+use Rattle.ppd_flow_local.proofs.Lefts.{prefixed_both, prefixed}
 use Rattle.ppd_flow.specs.Answers.{reads_at, reads_replays_at, spot_origin, spot_replays}
 use Rattle.ppd_flow.proofs.Answered.{found_is, not_found}
 

@@ -1,11 +1,11 @@
 -- What is seen of one process of a past among what is seen of all.
 use Rattle.std.proofs.Common.{◌≡◌, ℕ, zero, suc, List, [], ◌∷◌, refl, sym, get_or, map}
 use Rattle.ppd_entry.specs.declared.entry.Entry.{Entry}
-use Rattle.ppd_search.specs.Seen.{Seen}
-use Rattle.ppd_search.specs.Shared.{seen_at}
-use Rattle.ppd_past.specs.declared.past.Past.{Past}
-use Rattle.ppd_past.specs.SeenBy.{seen_by, seen_in}
-use Rattle.ppd_walk.specs.SharedCells.{seens_in}
+use Rattle.ppd_flow_model.specs.Seen.{Seen}
+use Rattle.ppd_flow_model.specs.Shared.{seen_at}
+use Rattle.ppd_flow_past.specs.declared.past.Past.{Past}
+use Rattle.ppd_flow_past.specs.SeenBy.{seen_by, seen_in}
+use Rattle.ppd_flow_shared.specs.SharedCells.{seens_in}
 
 at_process : (f : List Entry → Seen) (d : Seen) (lists : List (List Entry)) (p : ℕ) → f [] ≡ d → get_or (map f lists) p d ≡ f (get_or lists p [])
 at_process f d [] p e = sym e

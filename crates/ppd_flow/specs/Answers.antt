@@ -7,16 +7,16 @@ use Rattle.ppd_model.specs.declared.flow.EdgeKind.TheVariants.{Sync}
 use Rattle.ppd_model.specs.declared.flow.FlowEdge.{FlowEdge}
 use Rattle.ppd_model.specs.declared.flow.Origin.{Origin}
 use Rattle.ppd_model.specs.FlowbackEdges.{bare_edge}
-use Rattle.ppd_search.specs.Found.{found_edges, read_edges, read_replays, reads_replays, edges_replays, sync_replays}
-use Rattle.ppd_search.specs.Locals.{local_origin}
-use Rattle.ppd_search.specs.Shared.{Missing, pair_origin, seen_at, shared_origin}
-use Rattle.ppd_past.specs.declared.flow_error.FlowError.{FlowError}
-use Rattle.ppd_past.specs.declared.flow_error.FlowError.TheVariants.{NoEvent}
-use Rattle.ppd_past.specs.declared.past.Past.{Past}
-use Rattle.ppd_past.specs.ByReplays.{IsFoundBy}
-use Rattle.ppd_walk.specs.SharedCells.{answer_of, seens_in}
-use Rattle.ppd_local.specs.declared.search.Place.{Place}
-use Rattle.ppd_local.specs.declared.search.Search.{Search}
+use Rattle.ppd_flow_model.specs.Found.{found_edges, read_edges, read_replays, reads_replays, edges_replays, sync_replays}
+use Rattle.ppd_flow_model.specs.Locals.{local_origin}
+use Rattle.ppd_flow_model.specs.Shared.{Missing, pair_origin, seen_at, shared_origin}
+use Rattle.ppd_flow_past.specs.declared.flow_error.FlowError.{FlowError}
+use Rattle.ppd_flow_past.specs.declared.flow_error.FlowError.TheVariants.{NoEvent}
+use Rattle.ppd_flow_past.specs.declared.past.Past.{Past}
+use Rattle.ppd_flow_past.specs.ByReplays.{IsFoundBy}
+use Rattle.ppd_flow_shared.specs.SharedCells.{answer_of, seens_in}
+use Rattle.ppd_flow_local.specs.declared.search.Place.{Place}
+use Rattle.ppd_flow_local.specs.declared.search.Search.{Search}
 
 -- ---- of a past
 

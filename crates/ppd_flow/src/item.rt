@@ -1,24 +1,23 @@
 ghost use Rattle.std.specs.Prelude.{◌≡◌, ◌<◌, ◌∷◌, ◌++◌, [], length, Ok, OnOk, Some, option_to_list};
 ghost use Rattle.ppd_flow.specs.Answers.{IsEdges, pair_edge_at, pair_replays_at};
 ghost use Rattle.ppd_flow.specs.Runs.{CostsEdges, GivesEdges};
-ghost use Rattle.ppd_local.specs.Searches.{IsPlace};
+ghost use Rattle.ppd_flow_local.specs.Searches.{IsPlace};
 ghost use Rattle.ppd_model.specs.declared.flow.EdgeKind.TheVariants as edge_kind;
 ghost use Rattle.ppd_model.specs.FlowbackEdges.{bare_edge};
-ghost use Rattle.ppd_past.specs.ByReplays.{IsFoundBy};
-ghost use Rattle.ppd_past.specs.Pasts.{IsPast};
-ghost use Rattle.ppd_search.specs.Found.{event_edges as event_edges_of, event_replays, item_edges as item_edges_of, item_replays};
-ghost use Rattle.ppd_walk.specs.SharedCells.{answer_of, seens_in};
+ghost use Rattle.ppd_flow_past.specs.ByReplays.{IsFoundBy};
+ghost use Rattle.ppd_flow_past.specs.Pasts.{IsPast};
+ghost use Rattle.ppd_flow_model.specs.Found.{event_edges as event_edges_of, event_replays, item_edges as item_edges_of, item_replays};
+ghost use Rattle.ppd_flow_shared.specs.SharedCells.{answer_of, seens_in};
 
 use crate::reads::read_edges;
+use law_flow_own::all_own_parts_are_found;
+use law_flow_shared::{edges_are_found, edges_cost_little};
 use ppd_ast::{Memory, Seq, Steps};
-use ppd_local::{Place, Search, control_edge};
+use ppd_flow_local::{Place, Search, control_edge};
+use ppd_flow_past::{FlowError, Past, replays_are_seen};
+use ppd_flow_shared::{Place as PairPlace, pair_origin};
 use ppd_model::{EdgeKind, FlowEdge, Item, Origin};
-use ppd_near::edges_cost_little;
-use ppd_own_loops::all_own_parts_are_found;
-use ppd_past::{FlowError, Past, replays_are_seen};
 use ppd_sem::Event;
-use ppd_shared_edges::edges_are_found;
-use ppd_walk::{Place as PairPlace, pair_origin};
 use std::alloc::Global;
 use std::sync::ledger::Ledger;
 

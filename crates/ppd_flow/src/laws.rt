@@ -1,7 +1,7 @@
 ghost use Rattle.ppd_flow.specs.Runs.{AnswersAreOfRuns};
 
-use ppd_past::replays_are_seen;
-use ppd_shared_edges::edges_are_found;
+use law_flow_shared::edges_are_found;
+use ppd_flow_past::replays_are_seen;
 
 /// Law: of what is kept of a whole run without a race, under the plan of a policy, whatever `edges` answers for an item
 /// is exactly the item's edges in the run, or `NoEvent` exactly where there is no such item, or want of memory, where

@@ -8,7 +8,7 @@ mod value;
 
 pub use item::edges;
 pub use laws::answers_are_of_runs;
+pub use ppd_flow_past::{FlowError, Past};
+pub use ppd_flow_shared::{LastEdge, last_edge};
 pub use ppd_model::{EdgeKind, FlowEdge, Origin};
-pub use ppd_past::{FlowError, Past};
-pub use ppd_walk::{LastEdge, last_edge};
 pub use value::{last, last_from};

@@ -1,17 +1,17 @@
 ghost use Rattle.std.specs.Prelude.{◌≡◌};
 ghost use Rattle.ppd_flow.specs.Answers.{reads_at, reads_replays_at, spot_origin, spot_replays};
-ghost use Rattle.ppd_local.specs.Searches.{IsPlace};
-ghost use Rattle.ppd_past.specs.ByReplays.{IsFoundBy};
-ghost use Rattle.ppd_past.specs.Pasts.{IsPast};
-ghost use Rattle.ppd_search.specs.Own.{read_from};
-ghost use Rattle.ppd_walk.specs.SharedCells.{answer_of};
+ghost use Rattle.ppd_flow_local.specs.Searches.{IsPlace};
+ghost use Rattle.ppd_flow_past.specs.ByReplays.{IsFoundBy};
+ghost use Rattle.ppd_flow_past.specs.Pasts.{IsPast};
+ghost use Rattle.ppd_flow_model.specs.Own.{read_from};
+ghost use Rattle.ppd_flow_shared.specs.SharedCells.{answer_of};
 
 use ppd_ast::{Seq, Steps};
-use ppd_local::{LocalCell, Place, Search};
+use ppd_flow_local::{LocalCell, Place, Search};
+use ppd_flow_past::FlowError;
+use ppd_flow_shared::CellSearch;
 use ppd_model::{EdgeKind, FlowEdge, Origin};
-use ppd_past::FlowError;
 use ppd_sem::{Access, Spot};
-use ppd_walk::CellSearch;
 use std::sync::ledger::Ledger;
 
 /// The edge of a read, from where what is read was written.

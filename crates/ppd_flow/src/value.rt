@@ -1,15 +1,14 @@
 ghost use Rattle.std.specs.Prelude.{◌+◌};
 ghost use Rattle.ppd_flow.specs.Runs.{CostsLast, GivesLast};
-ghost use Rattle.ppd_past.specs.Pasts.{IsPast};
-ghost use Rattle.ppd_past.specs.SeenBy.{steps_in};
-ghost use Rattle.ppd_walk.specs.SharedCells.{AreItemsOfLast, IsLastFound};
+ghost use Rattle.ppd_flow_past.specs.Pasts.{IsPast};
+ghost use Rattle.ppd_flow_past.specs.SeenBy.{steps_in};
+ghost use Rattle.ppd_flow_shared.specs.SharedCells.{AreItemsOfLast, IsLastFound};
 
+use law_flow_shared::{last_costs_little, last_writes_are_found};
 use ppd_ast::Steps;
+use ppd_flow_past::{FlowError, Past, replays_are_seen};
+use ppd_flow_shared::{LastEdge, last_write, last_write_from};
 use ppd_model::{Item, Origin};
-use ppd_near::last_costs_little;
-use ppd_past::{FlowError, Past, replays_are_seen};
-use ppd_shared_edges::last_writes_are_found;
-use ppd_walk::{LastEdge, last_write, last_write_from};
 use std::alloc::Global;
 use std::sync::ledger::Ledger;
 

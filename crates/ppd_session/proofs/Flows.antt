@@ -6,16 +6,16 @@ use Rattle.ppd_entry.specs.declared.entry.Logs.{Logs}
 use Rattle.ppd_flow.specs.Answers.{answer_if}
 use Rattle.ppd_model.specs.declared.flow.FlowEdge.{FlowEdge}
 use Rattle.ppd_model.specs.declared.flow.Item.{Item}
-use Rattle.ppd_past.specs.declared.flow_error.FlowError.{FlowError}
-use Rattle.ppd_past.specs.declared.flow_error.FlowError.TheVariants as flow_error
-use Rattle.ppd_past.specs.declared.past.Past.{Past}
-use Rattle.ppd_past.specs.ByReplays.{IsFoundBy, first_failed, first_failed_in}
-use Rattle.ppd_past.specs.SeenBy.{seen_by}
-use Rattle.ppd_search.specs.Found.{edges_replays, found_edges}
+use Rattle.ppd_flow_past.specs.declared.flow_error.FlowError.{FlowError}
+use Rattle.ppd_flow_past.specs.declared.flow_error.FlowError.TheVariants as flow_error
+use Rattle.ppd_flow_past.specs.declared.past.Past.{Past}
+use Rattle.ppd_flow_past.specs.ByReplays.{IsFoundBy, first_failed, first_failed_in}
+use Rattle.ppd_flow_past.specs.SeenBy.{seen_by}
+use Rattle.ppd_flow_model.specs.Found.{edges_replays, found_edges}
 use Rattle.ppd_session.specs.Known.{Flow, Told, flow_by, of_cells, of_intervals, of_items, of_processes, unless_failed}
 use Rattle.ppd_session.specs.Sessions.{IsItemThere, known_by}
 use Rattle.ppd_session.specs.Texts.{flow_at}
-use Rattle.ppd_walk.specs.SharedCells.{IsMemoryOr, seens_in}
+use Rattle.ppd_flow_shared.specs.SharedCells.{IsMemoryOr, seens_in}
 
 module _ (past : Past) (uncut : past.cut.now ≡ past.logs.now) (q k j : ℕ) where
   abbrev replays : List (ℕ × ℕ)

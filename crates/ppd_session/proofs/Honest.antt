@@ -7,7 +7,7 @@ use Rattle.ppd_ast.specs.declared.plan.Plan.{Plan}
 use Rattle.ppd_ast.specs.declared.plan.Policy.{Policy}
 use Rattle.ppd_ast.specs.declared.program.Program.{Program}
 use Rattle.ppd_blocks.specs.Blocks.{plan_of}
-use Rattle.ppd_emul.specs.Replay.{Replayed, replay}
+use Rattle.ppd_emul_model.specs.Replay.{Replayed, replay}
 use Rattle.ppd_entry.specs.declared.entry.Entry.{Entry}
 use Rattle.ppd_entry.specs.declared.entry.Logs.{Logs}
 use Rattle.ppd_entry.specs.IntervalLogs.{Indexed, indexed, interval_log, log_in}
@@ -23,24 +23,24 @@ use Rattle.ppd_model.specs.Story.{Moment, steps_of, story, told}
 use Rattle.ppd_model.proofs.LoggedSpans.{intervals_of_logs}
 use Rattle.ppd_race.specs.Races.{races_of_logs}
 use Rattle.ppd_race.proofs.OfRuns.{of_runs}
-use Rattle.ppd_past.proofs.Theorem.{replays_give_intervals}
-use Rattle.ppd_past.specs.Laws.{modelled_in, modelled_of, replay_of}
+use Rattle.ppd_flow_past.proofs.Replays.{replays_give_intervals}
+use Rattle.ppd_flow_past.specs.Laws.{modelled_in, modelled_of, replay_of}
 use Rattle.ppd_flow.specs.Answers.{answer_if}
 use Rattle.ppd_flow.specs.Runs.{edges_or_none}
 use Rattle.ppd_model.specs.declared.flow.FlowEdge.{FlowEdge}
 use Rattle.ppd_flow.proofs.OwnParts.{own_parts}
-use Rattle.ppd_search.specs.Found.{edges_if, edges_replays, found_edges}
-use Rattle.ppd_search.specs.Seen.{Seen, items_at, seen_of}
-use Rattle.ppd_search.specs.Shared.{found_last, last_replays, seen_at}
-use Rattle.ppd_shared_edges.proofs.Assembled.{assembled}
-use Rattle.ppd_shared_edges.proofs.Sources.LastOrigins.{last_found}
-use Rattle.ppd_shared_edges.specs.SharedEdges.{all_seen}
-use Rattle.ppd_past.proofs.Runs.{replays_are_seen}
-use Rattle.ppd_past.specs.ByReplays.{failure_or, first_failed}
-use Rattle.ppd_past.specs.SeenBy.{failed_at, failure_of, seen_by}
+use Rattle.ppd_flow_model.specs.Found.{edges_if, edges_replays, found_edges}
+use Rattle.ppd_flow_model.specs.Seen.{Seen, items_at, seen_of}
+use Rattle.ppd_flow_model.specs.Shared.{found_last, last_replays, seen_at}
+use Rattle.law_flow_shared.proofs.Edges.Assembled.{assembled}
+use Rattle.law_flow_shared.proofs.Edges.Sources.LastOrigins.{last_found}
+use Rattle.law_flow_shared.specs.Edges.SharedEdges.{all_seen}
+use Rattle.ppd_flow_past.proofs.Runs.{replays_are_seen}
+use Rattle.ppd_flow_past.specs.ByReplays.{failure_or, first_failed}
+use Rattle.ppd_flow_past.specs.SeenBy.{failed_at, failure_of, seen_by}
 use Rattle.ppd_model.specs.FlowbackEdges.{edges, edges_in}
 use Rattle.ppd_model.proofs.Items.{splits_length}
-use Rattle.ppd_walk.specs.SharedCells.{answer_of}
+use Rattle.ppd_flow_shared.specs.SharedCells.{answer_of}
 use Rattle.ppd_session.specs.Known.{Flow, Interval, Known, Last, Told, flow_by, flow_told, of_processes, known_of_logs, known_of_run, last_by, last_told, of_cells, of_extent, of_span, of_split, seens, told_by, told_of_entries, told_of_split, unless_failed, unless_raced}
 
 same_interval : (i : Span) (x : Extent) → IsSameInterval i x → of_span i ≡ of_extent x

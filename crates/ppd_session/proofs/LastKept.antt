@@ -4,11 +4,11 @@ use Rattle.std.proofs.Common.{◌≡◌, ℕ, [], ◌∷◌, Option, Some, None,
 use Rattle.std.proofs.lemmas.Option.{none-some, same_Some}
 use Rattle.ppd_entry.specs.declared.entry.At.{At}
 use Rattle.ppd_model.specs.declared.graph.EdgeId.{EdgeId}
-use Rattle.ppd_past.specs.declared.flow_error.FlowError.TheVariants as flow_error
-use Rattle.ppd_past.specs.declared.past.Past.{Past}
-use Rattle.ppd_past.specs.ByReplays.{failure_or, first_failed_in}
-use Rattle.ppd_past.specs.SeenBy.{failed_in}
-use Rattle.ppd_search.specs.Shared.{greatest_writing, start_replays}
+use Rattle.ppd_flow_past.specs.declared.flow_error.FlowError.TheVariants as flow_error
+use Rattle.ppd_flow_past.specs.declared.past.Past.{Past}
+use Rattle.ppd_flow_past.specs.ByReplays.{failure_or, first_failed_in}
+use Rattle.ppd_flow_past.specs.SeenBy.{failed_in}
+use Rattle.ppd_flow_model.specs.Shared.{greatest_writing, start_replays}
 use Rattle.ppd_session.specs.Known.{last_by}
 use Rattle.ppd_session.specs.Sessions.{IsCause, IsWhy, known_by, unfound}
 use Rattle.ppd_session.specs.Texts.{failure_at}
@@ -16,8 +16,8 @@ use Rattle.ppd_session.specs.declared.reply.SessionError.{SessionError}
 use Rattle.ppd_session.specs.declared.reply.SessionError.TheVariants.{Diverged, Sets, Memory}
 use Rattle.ppd_session.proofs.LastValues.{last_fails}
 use Rattle.ppd_session.proofs.Replayed.{same_failure}
-use Rattle.ppd_walk.specs.declared.last.LastEdge.{LastEdge}
-use Rattle.ppd_walk.specs.SharedCells.{last_edge, seens_in, with_end}
+use Rattle.ppd_flow_shared.specs.declared.last.LastEdge.{LastEdge}
+use Rattle.ppd_flow_shared.specs.SharedCells.{last_edge, seens_in, with_end}
 
 first_fails : (p : ℕ) (f : Option ℕ) (rest : Option At) (at : At) → failure_or p f None ≡ Some at → failure_or p f rest ≡ Some at
 first_fails p None rest at e = absurd (cc)

@@ -5,19 +5,19 @@ use Rattle.ppd_ast.specs.declared.program.Program.{Program}
 use Rattle.ppd_entry.specs.declared.entry.At.{At}
 use Rattle.ppd_entry.specs.declared.entry.Logs.{Logs}
 use Rattle.ppd_model.specs.declared.flow.Origin.{Origin}
-use Rattle.ppd_past.specs.declared.flow_error.FlowError.{FlowError}
-use Rattle.ppd_past.specs.declared.flow_error.FlowError.TheVariants as flow_error
-use Rattle.ppd_past.specs.declared.past.Past.{Past}
-use Rattle.ppd_past.specs.ByReplays.{IsFoundBy, first_failed, first_failed_in}
-use Rattle.ppd_past.specs.SeenBy.{seen_by}
-use Rattle.ppd_search.specs.Shared.{found_last, last_replays}
+use Rattle.ppd_flow_past.specs.declared.flow_error.FlowError.{FlowError}
+use Rattle.ppd_flow_past.specs.declared.flow_error.FlowError.TheVariants as flow_error
+use Rattle.ppd_flow_past.specs.declared.past.Past.{Past}
+use Rattle.ppd_flow_past.specs.ByReplays.{IsFoundBy, first_failed, first_failed_in}
+use Rattle.ppd_flow_past.specs.SeenBy.{seen_by}
+use Rattle.ppd_flow_model.specs.Shared.{found_last, last_replays}
 use Rattle.ppd_session.specs.Known.{Last, last_by, of_cells, unless_failed}
 use Rattle.ppd_session.specs.Sessions.{IsLineOf, IsWhy, error_of, unfound}
 use Rattle.ppd_session.specs.Texts.{first_unfound, lasts_text}
 use Rattle.ppd_session.specs.declared.reply.SessionError.{SessionError}
 use Rattle.ppd_session.specs.declared.reply.SessionError.TheVariants.{Diverged, Sets, Memory}
-use Rattle.ppd_walk.specs.SharedCells.{answer_of, seens_in}
-use Rattle.ppd_why.specs.Edges.{last_line}
+use Rattle.ppd_flow_shared.specs.SharedCells.{answer_of, seens_in}
+use Rattle.ppd_text_items.specs.Edges.{last_line}
 
 -- ---- the search for a last write
 

@@ -7,10 +7,10 @@ use Rattle.std.proofs.lemmas.Option.{same_Some}
 use Rattle.ppd_ast.specs.declared.plan.Plan.{Plan}
 use Rattle.ppd_ast.specs.declared.program.Program.{Program}
 use Rattle.ppd_ast.proofs.Walks.{got_none}
-use Rattle.ppd_emul.specs.declared.trace.BlockTrace.{BlockTrace}
-use Rattle.ppd_emul.specs.declared.trace.EmulError.{EmulError}
-use Rattle.ppd_emul.specs.declared.trace.EmulError.TheVariants.{Diverged, Memory}
-use Rattle.ppd_emul.specs.Replay.{replay}
+use Rattle.ppd_emul_model.specs.declared.trace.BlockTrace.{BlockTrace}
+use Rattle.ppd_emul_model.specs.declared.trace.EmulError.{EmulError}
+use Rattle.ppd_emul_model.specs.declared.trace.EmulError.TheVariants.{Diverged, Memory}
+use Rattle.ppd_emul_model.specs.Replay.{replay}
 use Rattle.ppd_entry.specs.declared.entry.Entry.{Entry}
 use Rattle.ppd_entry.specs.declared.entry.Logs.{Logs}
 use Rattle.ppd_entry.specs.IntervalLogs.{Indexed, indexed, log_in}
@@ -20,13 +20,13 @@ use Rattle.ppd_index.specs.Indexes.{AreIntervals, IsIndexOf, rows_at}
 use Rattle.ppd_index.specs.Tables.{indexed_of}
 use Rattle.ppd_model.specs.Bounds.{AreEach}
 use Rattle.ppd_model.specs.declared.flow.Item.{Item}
-use Rattle.ppd_past.specs.declared.flow_error.FlowError.{FlowError}
-use Rattle.ppd_past.specs.declared.flow_error.FlowError.TheVariants as flow_error
-use Rattle.ppd_past.specs.declared.past.Past.{Past}
-use Rattle.ppd_past.specs.ByReplays.{AreReplayed, IsFoundBy, failure_or, first_failed, first_failed_in}
-use Rattle.ppd_past.specs.SeenBy.{failed_in, failure_by, failure_of, items_by, items_in, seen_by}
-use Rattle.ppd_search.specs.Seen.{items_at}
-use Rattle.ppd_past.specs.Laws.{replay_of}
+use Rattle.ppd_flow_past.specs.declared.flow_error.FlowError.{FlowError}
+use Rattle.ppd_flow_past.specs.declared.flow_error.FlowError.TheVariants as flow_error
+use Rattle.ppd_flow_past.specs.declared.past.Past.{Past}
+use Rattle.ppd_flow_past.specs.ByReplays.{AreReplayed, IsFoundBy, failure_or, first_failed, first_failed_in}
+use Rattle.ppd_flow_past.specs.SeenBy.{failed_in, failure_by, failure_of, items_by, items_in, seen_by}
+use Rattle.ppd_flow_model.specs.Seen.{items_at}
+use Rattle.ppd_flow_past.specs.Laws.{replay_of}
 use Rattle.ppd_session.specs.Known.{Known, Told, told_by, told_of_entries}
 use Rattle.ppd_session.specs.Sessions.{IsCause, IsWhy, error_of, known_by}
 use Rattle.ppd_session.specs.Texts.{failure_at, failure_in, item_failure, items_text, told_at, told_failure, told_text}

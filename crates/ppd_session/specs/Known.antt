@@ -3,10 +3,10 @@
 use Rattle.std.specs.Prelude.{ℕ, zero, suc, ◌+◌, ℤ, Bool, List, [], ◌∷◌, map, length, Option, Some, None, Result, Ok, Err}
 use Rattle.ppd_ast.specs.declared.plan.Plan.{Plan}
 use Rattle.ppd_ast.specs.declared.program.Program.{Program}
-use Rattle.ppd_emul.specs.declared.trace.BlockTrace.{BlockTrace}
-use Rattle.ppd_emul.specs.declared.trace.EmulError.{EmulError}
-use Rattle.ppd_emul.specs.declared.trace.EmulError.TheVariants.{Diverged, Memory}
-use Rattle.ppd_emul.specs.Replay.{replay}
+use Rattle.ppd_emul_model.specs.declared.trace.BlockTrace.{BlockTrace}
+use Rattle.ppd_emul_model.specs.declared.trace.EmulError.{EmulError}
+use Rattle.ppd_emul_model.specs.declared.trace.EmulError.TheVariants.{Diverged, Memory}
+use Rattle.ppd_emul_model.specs.Replay.{replay}
 use Rattle.ppd_entry.specs.declared.entry.At.{At}
 use Rattle.ppd_entry.specs.declared.entry.Entry.{Entry}
 use Rattle.ppd_entry.specs.declared.entry.Logs.{Logs}
@@ -23,15 +23,15 @@ use Rattle.ppd_model.specs.Intervals.{Span, Split, is_closed, items_of, splits}
 use Rattle.ppd_model.specs.Races.{races_of}
 use Rattle.ppd_model.specs.declared.tracing.Story.{Story}
 use Rattle.ppd_model.specs.Story.{story}
-use Rattle.ppd_past.specs.declared.flow_error.FlowError.{FlowError}
-use Rattle.ppd_past.specs.declared.flow_error.FlowError.TheVariants as flow_error
-use Rattle.ppd_past.specs.ByReplays.{first_failed}
-use Rattle.ppd_past.specs.SeenBy.{seen_by}
+use Rattle.ppd_flow_past.specs.declared.flow_error.FlowError.{FlowError}
+use Rattle.ppd_flow_past.specs.declared.flow_error.FlowError.TheVariants as flow_error
+use Rattle.ppd_flow_past.specs.ByReplays.{first_failed}
+use Rattle.ppd_flow_past.specs.SeenBy.{seen_by}
 use Rattle.ppd_race.specs.Races.{races_of_logs}
-use Rattle.ppd_search.specs.Found.{edges_replays, found_edges}
-use Rattle.ppd_search.specs.Seen.{Seen}
-use Rattle.ppd_search.specs.Shared.{found_last, last_replays}
-use Rattle.ppd_walk.specs.SharedCells.{answer_of}
+use Rattle.ppd_flow_model.specs.Found.{edges_replays, found_edges}
+use Rattle.ppd_flow_model.specs.Seen.{Seen}
+use Rattle.ppd_flow_model.specs.Shared.{found_last, last_replays}
+use Rattle.ppd_flow_shared.specs.SharedCells.{answer_of}
 
 -- an interval: its block, the interval directly round it, and whether it was left
 pub record Interval : Type 0 where

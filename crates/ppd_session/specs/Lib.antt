@@ -1,5 +1,5 @@
 -- What command lines ask, and what is answered.
-pub use Rattle.ppd_past.specs.Pasts
+pub use Rattle.ppd_flow_past.specs.Pasts
 pub mod Questions
 pub mod Known
 pub mod Texts

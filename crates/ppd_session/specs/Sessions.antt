@@ -4,11 +4,11 @@ use Rattle.ppd_ast.specs.declared.program.Program.{Program}
 use Rattle.ppd_entry.specs.declared.entry.At.{At}
 use Rattle.ppd_model.specs.declared.flow.Item.{Item}
 use Rattle.ppd_model.specs.declared.graph.Race.{Race}
-pub use Rattle.ppd_past.specs.declared.flow_error.FlowError.{FlowError}
-use Rattle.ppd_past.specs.declared.flow_error.FlowError.TheVariants as flow_error
-use Rattle.ppd_past.specs.declared.past.Past.{Past}
-use Rattle.ppd_past.specs.Pasts.{IsPast}
-use Rattle.ppd_why.specs.Edges.{last_line}
+pub use Rattle.ppd_flow_past.specs.declared.flow_error.FlowError.{FlowError}
+use Rattle.ppd_flow_past.specs.declared.flow_error.FlowError.TheVariants as flow_error
+use Rattle.ppd_flow_past.specs.declared.past.Past.{Past}
+use Rattle.ppd_flow_past.specs.Pasts.{IsPast}
+use Rattle.ppd_text_items.specs.Edges.{last_line}
 use Rattle.ppd_session.specs.Known.{Known, Last, known_with}
 use Rattle.ppd_session.specs.Texts.{told_at}
 use Rattle.ppd_session.specs.declared.place.Place.{Place}

@@ -1,6 +1,6 @@
 // The answer to each question.
 ghost use Rattle.std.specs.Prelude.{◌≡◌, ◌++◌, None, OnOk, IfErr};
-ghost use Rattle.ppd_past.specs.Pasts.{IsPast};
+ghost use Rattle.ppd_flow_past.specs.Pasts.{IsPast};
 ghost use Rattle.ppd_session.specs.Sessions.{AreTold, IsSession, IsWhy, known_by};
 ghost use Rattle.ppd_session.specs.Texts.{answer_text, blocks_text, failure, plain_text, statement_text};
 
@@ -13,8 +13,8 @@ use crate::question::{Question, is_final, opening_of};
 use crate::races::put_races;
 use crate::reply::SessionError;
 use ppd_ast::Memory;
+use ppd_flow_past::Past;
 use ppd_model::Race;
-use ppd_past::Past;
 use ppd_text::put;
 use std::alloc::Global;
 

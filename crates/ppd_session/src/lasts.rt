@@ -1,13 +1,13 @@
 // The last values of the shared cells.
 ghost use Rattle.std.specs.Prelude.{◌≡◌, ◌<◌, ◌++◌, [], Ok, None, Some, IfOk, IfErr, OnOk, length};
 ghost use Rattle.ppd_index.specs.Indexes.{rows_at};
-ghost use Rattle.ppd_past.specs.Pasts.{IsPast};
+ghost use Rattle.ppd_flow_past.specs.Pasts.{IsPast};
 ghost use Rattle.ppd_session.specs.Known.{last_by};
 ghost use Rattle.ppd_session.specs.Sessions.{AreTold, IsSession, IsLineOf, IsWhy, known_by, unfound};
 ghost use Rattle.ppd_session.specs.declared.reply.SessionError.TheVariants as session_error;
 ghost use Rattle.ppd_session.specs.Texts.{first_unfound, lasts_text, raced, told_at};
-ghost use Rattle.ppd_walk.specs.SharedCells.{last_edge as last_edge_of};
-ghost use Rattle.ppd_why.specs.Edges.{last_line};
+ghost use Rattle.ppd_flow_shared.specs.SharedCells.{last_edge as last_edge_of};
+ghost use Rattle.ppd_text_items.specs.Edges.{last_line};
 
 use crate::kept::Kept;
 use crate::opening::{no_items, put_many_races, replay};
@@ -15,9 +15,9 @@ use crate::place::Place;
 use crate::reply::SessionError;
 use ppd_ast::Steps;
 use ppd_flow::{LastEdge, last, last_edge, last_from};
+use ppd_flow_past::Past;
 use ppd_model::{Item, Origin, Race};
-use ppd_past::Past;
-use ppd_why::put_last;
+use ppd_text_items::put_last;
 use std::alloc::Global;
 use std::marker::Brand;
 use std::sync::ledger::{Blank, Ledger};

@@ -21,7 +21,7 @@ mod words;
 pub use laws::{logs_tell_runs, runs_are_answered};
 pub use opening::{interval_there, no_items};
 pub use ppd_entry::At;
-pub use ppd_past::Past;
+pub use ppd_flow_past::Past;
 pub use question::process_named;
 pub use races::put_racy;
 pub use reply::{Reply, SessionError};

@@ -1,5 +1,5 @@
 ghost use Rattle.std.specs.Prelude.{◌≡◌, None, IfOk, IfErr, OnOk};
-ghost use Rattle.ppd_past.specs.Pasts.{IsPast};
+ghost use Rattle.ppd_flow_past.specs.Pasts.{IsPast};
 ghost use Rattle.ppd_session.specs.Known.{known_of_logs};
 ghost use Rattle.ppd_session.specs.Sessions.{AreTold, IsSession, IsWhy, known_by};
 ghost use Rattle.ppd_session.specs.Questions.{is_quit};
@@ -12,8 +12,8 @@ use crate::races::put_races;
 use crate::reply::{Reply, SessionError};
 use crate::words::words_of;
 use ppd_ast::{Memory, Seq};
+use ppd_flow_past::Past;
 use ppd_model::Race;
-use ppd_past::Past;
 use ppd_race::races;
 use std::alloc::Global;
 use std::marker::Model;

@@ -1,12 +1,12 @@
 // An item with its flowback edges.
 ghost use Rattle.std.specs.Prelude.{◌≡◌, ◌<◌, ◌++◌, [], Some, None, Ok, IfOk, OnOk, IfErr, slice_get};
-ghost use Rattle.ppd_past.specs.Pasts.{IsPast};
+ghost use Rattle.ppd_flow_past.specs.Pasts.{IsPast};
 ghost use Rattle.ppd_session.specs.Known.{flow_by};
 ghost use Rattle.ppd_session.specs.Sessions.{IsItemThere, IsWhy, known_by};
 ghost use Rattle.ppd_session.specs.Texts.{flow_at, flow_text, item_failure_of, item_text_of, told_at, unfound_flow};
 ghost use Rattle.ppd_session.specs.declared.reply.SessionError.TheVariants as session_error;
-ghost use Rattle.ppd_walk.specs.SharedCells.{IsMemoryOr};
-ghost use Rattle.ppd_why.specs.Edges.{why_text as why_text_of};
+ghost use Rattle.ppd_flow_shared.specs.SharedCells.{IsMemoryOr};
+ghost use Rattle.ppd_text_items.specs.Edges.{why_text as why_text_of};
 
 use crate::opening::no_items;
 use crate::place::Place;
@@ -14,9 +14,9 @@ use crate::refusing::put_refusal;
 use crate::reply::SessionError;
 use ppd_ast::{Memory, Seq, Steps};
 use ppd_flow::edges;
+use ppd_flow_past::{FlowError, Past, number};
 use ppd_model::{FlowEdge, Item};
-use ppd_past::{FlowError, Past, number};
-use ppd_why::put_why;
+use ppd_text_items::put_why;
 use std::alloc::Global;
 use std::marker::Brand;
 use std::sync::ledger::{Blank, Ledger};

@@ -1,7 +1,7 @@
 -- The output of a schedule with no race is that of each schedule that agrees with it.
 use Rattle.std.proofs.Common.{◌≡◌, ℕ, List, ap, ◌∙◌}
 use Rattle.ppd_ast.specs.declared.program.Program.{Program}
-use Rattle.ppd_agree.proofs.Agreeing.{agreeing_histories, agreeing_stories}
+use Rattle.law_agreement.proofs.Agreeing.{agreeing_histories, agreeing_stories}
 use Rattle.ppd_model.specs.Logs.{close}
 use Rattle.ppd_session.specs.Known.{Known, known_of_story}
 use Rattle.ppd_top.specs.declared.options.Options.{Options}

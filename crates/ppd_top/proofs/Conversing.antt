@@ -15,7 +15,7 @@ use Rattle.ppd_session.specs.Known.{Known}
 use Rattle.ppd_session.specs.Questions.{is_quit}
 use Rattle.ppd_session.specs.Sessions.{FlowError}
 use Rattle.ppd_session.specs.Texts.{failure_of, text_of}
-use Rattle.ppd_stored.specs.Refusals.{refused_replay}
+use Rattle.ppd_codec_runs.specs.Refusals.{refused_replay}
 use Rattle.ppd_session.specs.Sessions.{IsWhy, error_of}
 use Rattle.ppd_session.specs.declared.reply.SessionError.{SessionError}
 use Rattle.ppd_session.specs.declared.reply.SessionError.TheVariants as session_error

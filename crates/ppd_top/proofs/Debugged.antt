@@ -11,9 +11,9 @@ use Rattle.ppd_session.specs.Known.{Known}
 use Rattle.ppd_session.specs.Texts.{failure_of}
 use Rattle.ppd_session.proofs.Answered.{run_answered}
 use Rattle.ppd_io.specs.Content.{Loads}
-use Rattle.ppd_stored.specs.Recordings.{IsAccepted, IsRunRecorded, known_of as known_of_recording}
-use Rattle.ppd_stored.proofs.Runs.{no_run_is_refused, runs_are_recalled}
-use Rattle.ppd_stored.proofs.Same.{refused_or_accepted}
+use Rattle.ppd_codec_runs.specs.Recordings.{IsAccepted, IsRunRecorded, known_of as known_of_recording}
+use Rattle.ppd_codec_runs.proofs.Runs.{no_run_is_refused, runs_are_recalled}
+use Rattle.ppd_codec_runs.proofs.Same.{refused_or_accepted}
 use Rattle.ppd_top.specs.Output.{Standing, Talks, answers, output}
 use Rattle.ppd_top.specs.Ran.{Debugs}
 use Rattle.ppd_top.specs.Ran.Debugs.{no_recall, recording_refused, recalled}

@@ -8,7 +8,7 @@ use Rattle.ppd_ast.specs.declared.program.Program.{Program}
 use Rattle.ppd_ast.specs.declared.limits.TheConstants.{MOST_INPUT_LINES, MOST_LINE_BYTES}
 use Rattle.ppd_check.specs.Read.{IsRead}
 use Rattle.ppd_check.proofs.Excluded.{read_or_refused}
-use Rattle.ppd_drill.specs.Drills.{generated}
+use Rattle.ppd_top_drill.specs.Drills.{generated}
 use Rattle.ppd_io.specs.Causes.{Rose}
 use Rattle.ppd_io.specs.Content.{Appends, AppendsPart}
 use Rattle.ppd_io.specs.Lines.{lines_of}
@@ -21,7 +21,7 @@ use Rattle.ppd_top.specs.Refusals.{refused}
 use Rattle.ppd_top.specs.Top.{Answers, DrillCutOff, Finished, IsPromisedDrill, MemoryRanOut, WasDrilled, WasNotDrilled, WriteFailed, drill_commands, drill_options, drill_out, known_of, summary_of_run}
 use Rattle.ppd_top.specs.Top.Answers.{refusal, run}
 use Rattle.ppd_top.specs.Top.Writes.{for_number}
-use Rattle.ppd_words.specs.Reads.{texts_in}
+use Rattle.ppd_top_words.specs.Reads.{texts_in}
 use Rattle.ppd_top.specs.Words.{Asks, AsksDebug, AsksDrill, Command, IsNotAsked, asked}
 use Rattle.ppd_top.specs.Words.Command.{Flow}
 use Rattle.ppd_top.specs.Words.Request.{on_source, on_recording, on_number}

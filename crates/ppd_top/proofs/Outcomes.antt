@@ -8,7 +8,7 @@ use Rattle.ppd_ast.specs.declared.program.Program.{Program}
 use Rattle.ppd_check.specs.declared.error.SourceError.{SourceError}
 use Rattle.ppd_check.specs.Read.{IsRead, IsRefused}
 use Rattle.ppd_check.proofs.Excluded.{read_or_refused}
-use Rattle.ppd_show.specs.Table.{table_of}
+use Rattle.ppd_text_tables.specs.Table.{table_of}
 use Rattle.ppd_session.specs.Texts.{failure_of}
 use Rattle.ppd_session.proofs.Answered.{run_answered}
 use Rattle.ppd_top.specs.declared.options.Options.{Options}
@@ -18,7 +18,7 @@ use Rattle.ppd_top.specs.Refusals.{refused}
 use Rattle.ppd_top.specs.Top.{most_bytes, known_of, out_of, plan_of, summary_of_run, Writes, Finished, InputFailed, IsPromised, MemoryRanOut, RanWhole, WasCutOff, WasRead, WasRefused, WasShown, WriteFailed}
 use Rattle.ppd_top.specs.Top.Answers.{refusal, run, tables}
 use Rattle.ppd_top.specs.Top.Writes.{for_source}
-use Rattle.ppd_words.specs.Reads.{texts_in}
+use Rattle.ppd_top_words.specs.Reads.{texts_in}
 use Rattle.ppd_top.specs.Words.{Asks, AsksDebug, Command, IsNotAsked, Request, asked}
 use Rattle.ppd_top.specs.Words.Command.{Flow, Run, Show}
 use Rattle.ppd_top.specs.Words.Request.{on_source, on_recording}

@@ -7,18 +7,18 @@ use Rattle.ppd_ast.specs.declared.program.Program.{Program}
 use Rattle.ppd_codec.specs.declared.recording.Header.{Header}
 use Rattle.ppd_codec.specs.declared.recording.Recording.{Recording}
 use Rattle.ppd_io.specs.Content.{Appends, Loads}
-use Rattle.ppd_query.specs.Queries.{Gives, IsWritten, Query}
-use Rattle.ppd_query.specs.Queries.Query.{Slice}
-use Rattle.ppd_query.specs.Replies.{IsFailed as IsQueryFailed}
+use Rattle.ppd_top_query.specs.Queries.{Gives, IsWritten, Query}
+use Rattle.ppd_top_query.specs.Queries.Query.{Slice}
+use Rattle.ppd_top_query.specs.Replies.{IsFailed as IsQueryFailed}
 use Rattle.ppd_session.specs.declared.reply.SessionError.{SessionError}
 use Rattle.ppd_session.specs.declared.reply.SessionError.TheVariants.{Diverged, Sets, Memory}
-use Rattle.ppd_stored.specs.Refusals.{refused_replay}
+use Rattle.ppd_codec_runs.specs.Refusals.{refused_replay}
 use Rattle.ppd_top.specs.Asking.{IsFailed}
-use Rattle.ppd_query.proofs.Ends.{queries_end, runs_are_told}
-use Rattle.ppd_stored.specs.Recordings.{IsAccepted, IsRunRecorded, known_of}
-use Rattle.ppd_stored.proofs.Runs.{no_run_is_refused, runs_are_recalled}
-use Rattle.ppd_stored.proofs.Same.{refused_or_accepted}
-use Rattle.ppd_words.specs.Reads.{texts_in}
+use Rattle.ppd_top_query.proofs.Ends.{queries_end, runs_are_told}
+use Rattle.ppd_codec_runs.specs.Recordings.{IsAccepted, IsRunRecorded, known_of}
+use Rattle.ppd_codec_runs.proofs.Runs.{no_run_is_refused, runs_are_recalled}
+use Rattle.ppd_codec_runs.proofs.Same.{refused_or_accepted}
+use Rattle.ppd_top_words.specs.Reads.{texts_in}
 use Rattle.ppd_top.specs.declared.options.Options.{Options}
 use Rattle.ppd_top.specs.Output.{Standing, output}
 use Rattle.ppd_top.specs.Ran.{IsTold, Queries}

@@ -13,7 +13,7 @@ use Rattle.ppd_model.specs.Logs.{close, closed_logs}
 use Rattle.ppd_model.specs.Schedule.{IsWhole}
 use Rattle.ppd_entry.specs.declared.entry.Logs.{Logs}
 use Rattle.ppd_race.specs.Races.{races_of_logs}
-use Rattle.ppd_stored.specs.Recordings.{AreOfSomeRun}
+use Rattle.ppd_codec_runs.specs.Recordings.{AreOfSomeRun}
 use Rattle.ppd_top.specs.declared.options.Options.{Options}
 use Rattle.ppd_top.specs.declared.run.ClosedRun.{ClosedRun}
 use Rattle.ppd_top.specs.Ran.{Keeping, Keeps, Records, WasRecorded, keeping}

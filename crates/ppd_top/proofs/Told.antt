@@ -20,14 +20,14 @@ use Rattle.ppd_graph.specs.declared.refusal.BadSync.{BadSync}
 use Rattle.ppd_graph.specs.declared.refusal.BadSync.TheVariants as no_graph
 use Rattle.ppd_graph.specs.Graphs.{IsGraphOf}
 use Rattle.ppd_graph.specs.Refusals.{IsRefused as IsNoGraph}
-use Rattle.ppd_graphed.proofs.Ordered.{refused}
+use Rattle.law_logs.proofs.Graph.Ordered.{refused}
 use Rattle.ppd_index.specs.declared.log_index.LogIndex.{LogIndex}
 use Rattle.ppd_index.specs.declared.refusal.BadLog.{BadLog}
 use Rattle.ppd_index.specs.declared.refusal.BadLog.TheVariants as no_index
 use Rattle.ppd_index.specs.Fitting.{AreFittingLogs}
 use Rattle.ppd_index.specs.Indexes.{IsIndexOf}
 use Rattle.ppd_index.specs.Refusals.{IsRefused as IsNoIndex, first_in_lists}
-use Rattle.ppd_indexed.proofs.Found.{logs_indexed}
+use Rattle.law_logs.proofs.Index.Found.{logs_indexed}
 use Rattle.ppd_race.specs.Races.{AreCellsThere, races_of_logs}
 use Rattle.ppd_race.proofs.OfRuns.{of_runs}
 use Rattle.ppd_session.specs.Known.{Known, known_of_logs}

@@ -11,7 +11,7 @@ use Rattle.ppd_session.specs.Sessions.{error_of}
 use Rattle.ppd_session.specs.Texts.{failure_of, text_of}
 use Rattle.ppd_session.specs.declared.reply.SessionError.{SessionError}
 use Rattle.ppd_session.specs.declared.reply.SessionError.TheVariants.{Memory}
-use Rattle.ppd_stored.specs.Refusals.{refused_replay}
+use Rattle.ppd_codec_runs.specs.Refusals.{refused_replay}
 use Rattle.ppd_top.specs.Top.{Finished}
 use Rattle.ppd_top.specs.Output.{AreAnswered, ArePlain, Standing, Talks, ended, texts}
 

@@ -11,7 +11,7 @@ use Rattle.ppd_session.specs.Questions.{is_quit}
 use Rattle.ppd_session.specs.Sessions.{FlowError}
 use Rattle.ppd_session.specs.Sessions.{error_of}
 use Rattle.ppd_session.specs.Texts.{failure_of, text_of}
-use Rattle.ppd_stored.specs.Refusals.{refused_replay}
+use Rattle.ppd_codec_runs.specs.Refusals.{refused_replay}
 
 -- a status, and all that is written with it
 pub record Output : Type 0 where

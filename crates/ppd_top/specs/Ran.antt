@@ -3,7 +3,7 @@ use Rattle.std.specs.Prelude.{◌≡◌, ◌≢◌, ◌⊎◌, ℕ, List, [], Op
 use Rattle.std.specs.Borrow.{Bor}
 use Rattle.ppd_ast.specs.declared.program.Program.{Program}
 use Rattle.ppd_check.specs.Read.{IsRead, IsRefused}
-use Rattle.ppd_drill.specs.Drills.{generated}
+use Rattle.ppd_top_drill.specs.Drills.{generated}
 use Rattle.ppd_io.specs.Causes.{Rose}
 use Rattle.ppd_io.specs.Content.{Loads, StoreFails, Stores}
 use Rattle.ppd_io.specs.declared.shelf.ShelfError.{ShelfError}
@@ -14,18 +14,18 @@ use Rattle.ppd_model.specs.declared.trace.DriveError.{DriveError}
 use Rattle.ppd_model.specs.declared.trace.DriveError.TheVariants as drive
 use Rattle.ppd_model.specs.declared.closed.Closed.{Closed}
 use Rattle.ppd_model.specs.Logs.{close}
-use Rattle.ppd_show.specs.Table.{table_of}
+use Rattle.ppd_text_tables.specs.Table.{table_of}
 use Rattle.ppd_top.specs.declared.options.Options.{Options}
 use Rattle.ppd_top.specs.declared.following.FollowError.{FollowError}
 use Rattle.ppd_top.specs.declared.following.FollowError.TheVariants.{Refused, NotEnabled, NotWhole, LongLine, ManyLines, Memory}
 use Rattle.ppd_top.specs.Output.{AppendsFront, Standing, Talks, output}
 use Rattle.ppd_top.specs.Refusals.{refused}
 use Rattle.ppd_top.specs.Top.{EndsWith, Finished, IsStuckAt, IsUnfinished, IsWholeRun, drill_options, drill_out, known_of, most_bytes, out_of, plan_of, summary_of_run, usage, most_recording, IsRecordingOfRun}
-use Rattle.ppd_query.specs.Queries.{Gives, Query}
+use Rattle.ppd_top_query.specs.Queries.{Gives, Query}
 use Rattle.ppd_top.specs.Words.{Asks, AsksDebug, AsksDrill, AsksQuery, AsksRecording, Command, IsNotAsked}
 use Rattle.ppd_top.specs.Words.Command.{Flow, Run, Show}
 use Rattle.ppd_codec.specs.declared.recording.Recording.{Recording}
-use Rattle.ppd_stored.specs.Recordings.{IsAccepted, IsRefusedBy, known_of as known_of_recording}
+use Rattle.ppd_codec_runs.specs.Recordings.{IsAccepted, IsRefusedBy, known_of as known_of_recording}
 
 -- ---- a command
 

@@ -12,9 +12,9 @@ use Rattle.ppd_ast.specs.declared.limits.TheConstants.{
 use Rattle.ppd_check.specs.declared.error.CheckError.TheVariants as check
 use Rattle.ppd_check.specs.declared.error.SourceError.{SourceError}
 use Rattle.ppd_check.specs.declared.error.SourceError.TheVariants as source
-use Rattle.ppd_resolve.specs.declared.fault.Limit.{Limit}
-use Rattle.ppd_resolve.specs.declared.fault.Limit.TheVariants as limit
-use Rattle.ppd_stored.specs.Stages.{stage_text}
+use Rattle.ppd_check_names.specs.declared.fault.Limit.{Limit}
+use Rattle.ppd_check_names.specs.declared.fault.Limit.TheVariants as limit
+use Rattle.ppd_codec_runs.specs.Stages.{stage_text}
 
 abbrev pub limit_word : Limit → List ℕ
 limit_word limit.Statements = codes "statements "

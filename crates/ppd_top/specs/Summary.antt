@@ -14,7 +14,7 @@ use Rattle.ppd_model.specs.declared.graph.Race.{Race}
 use Rattle.ppd_model.specs.Logs.{close}
 use Rattle.ppd_model.specs.Races.{races}
 use Rattle.ppd_session.specs.Texts.{races_text}
-use Rattle.ppd_why.specs.Names.{trap_word}
+use Rattle.ppd_text_items.specs.Names.{trap_word}
 
 abbrev pub status_text : Status → Place → List ℕ
 status_text status.Ended place = codes "ended"

@@ -10,14 +10,14 @@ use Rattle.ppd_blocks.specs.Blocks.{plan_of as plan_by_policy}
 use Rattle.ppd_check.specs.declared.error.SourceError.{SourceError}
 use Rattle.ppd_check.specs.declared.error.SourceError.TheVariants as source
 use Rattle.ppd_check.specs.Read.{IsRead, IsRefused}
-use Rattle.ppd_drill.specs.Drills.{generated}
+use Rattle.ppd_top_drill.specs.Drills.{generated}
 use Rattle.ppd_model.specs.Agreement.{Agree}
 use Rattle.ppd_model.specs.Races.{races}
 use Rattle.ppd_model.specs.Schedule.{IsWhole, run as run_of}
 use Rattle.ppd_model.specs.World.{World, enabled}
 use Rattle.ppd_io.specs.Lines.{lines_of}
 use Rattle.ppd_session.specs.Known.{Known, known_of_run}
-use Rattle.ppd_show.specs.Table.{table_of}
+use Rattle.ppd_text_tables.specs.Table.{table_of}
 use Rattle.ppd_top.specs.declared.options.Options.{Options}
 use Rattle.ppd_top.specs.declared.following.FollowError.{FollowError}
 use Rattle.ppd_top.specs.declared.following.FollowError.TheVariants.{Refused, NotEnabled, NotWhole, LongLine, ManyLines, Memory}
@@ -28,9 +28,9 @@ use Rattle.ppd_top.specs.Words.{Asks, AsksDebug, AsksDrill, AsksQuery, AsksRecor
 use Rattle.ppd_top.specs.Words.Command.{Flow, Run, Show}
 use Rattle.ppd_codec.specs.declared.recording.Header.{Header}
 use Rattle.ppd_codec.specs.declared.recording.Recording.{Recording}
-use Rattle.ppd_query.specs.Queries.{Gives, Query}
-use Rattle.ppd_stored.specs.Laws.{IsKnownOfRuns}
-use Rattle.ppd_stored.specs.Recordings.{IsAccepted, IsRefusedBy, IsRunRecorded, known_of as known_of_recording}
+use Rattle.ppd_top_query.specs.Queries.{Gives, Query}
+use Rattle.ppd_codec_runs.specs.Laws.{IsKnownOfRuns}
+use Rattle.ppd_codec_runs.specs.Recordings.{IsAccepted, IsRefusedBy, IsRunRecorded, known_of as known_of_recording}
 
 -- ---- the run of a program
 

@@ -5,19 +5,19 @@ use Rattle.std.specs.Borrow.{Bor}
 use Rattle.ppd_ast.specs.ValidPlan.{IsValidPolicy}
 use Rattle.ppd_ast.specs.declared.limits.TheConstants.{DEFAULT_BUDGET, MOST_BUDGET, MOST_DRILL, MOST_POLICY}
 use Rattle.ppd_ast.specs.Digits.{number_in as number_of_word}
-use Rattle.ppd_words.specs.declared.commands.Command.{Command as Word}
-use Rattle.ppd_words.specs.declared.commands.Command.TheVariants as word
-use Rattle.ppd_words.specs.Words.{Text, Uses, value_of}
-use Rattle.ppd_words.specs.Commands.{command_gives}
-use Rattle.ppd_words.specs.Reads.{texts_in}
+use Rattle.ppd_top_words.specs.declared.commands.Command.{Command as Word}
+use Rattle.ppd_top_words.specs.declared.commands.Command.TheVariants as word
+use Rattle.ppd_top_words.specs.Words.{Text, Uses, value_of}
+use Rattle.ppd_top_words.specs.Commands.{command_gives}
+use Rattle.ppd_top_words.specs.Reads.{texts_in}
 use Rattle.ppd_top.specs.declared.options.Options.{Options}
 use Rattle.ppd_top.specs.declared.words.Command.{Command as GivenCommand}
 use Rattle.ppd_top.specs.declared.words.Command.TheVariants as given
 use Rattle.ppd_top.specs.declared.words.Request.{Request as GivenRequest}
 use Rattle.ppd_top.specs.declared.words.Request.TheVariants.{Source, Recording, Drill}
 use Rattle.ppd_top.specs.declared.words.Request.TheVariants as request
-use Rattle.ppd_query.specs.Queries.{ItemAsked, Query, query_of}
-use Rattle.ppd_query.specs.Queries.Query.{Slice}
+use Rattle.ppd_top_query.specs.Queries.{ItemAsked, Query, query_of}
+use Rattle.ppd_top_query.specs.Queries.Query.{Slice}
 
 -- ---- the words of options and names
 

@@ -10,9 +10,9 @@ ghost use Rattle.ppd_top.specs.Top.{Finished};
 
 use ppd_ast::limits::MOST_INPUT_LINES;
 use ppd_ast::{Memory, Program};
+use ppd_codec_runs::replay_line;
 use ppd_io::{LineError, LineReader, Sink, Source, put_all};
 use ppd_session::{Reply, Session, SessionError};
-use ppd_stored::replay_line;
 use std::alloc::Global;
 
 const LONG_LINE: &[u8] = b"long line\n";

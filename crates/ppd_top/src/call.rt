@@ -6,7 +6,7 @@ ghost use Rattle.ppd_top.specs.declared.options.Options.{Options as OptionsOf};
 ghost use Rattle.ppd_top.specs.Output.{standing};
 ghost use Rattle.ppd_top.specs.Ran.{Comes, IsUnloaded, Refuses, around};
 ghost use Rattle.ppd_top.specs.Top.{AnswersCutOff, DrillCutOff, InputFailed, IsPromised, IsPromisedAnswers, IsPromisedDrill, IsPromisedQuery, LinesFailed, LoadFailed, MemoryRanOut, QueryRefused, RanWhole, RecordingUnread, ReplayRefused, StoreFailed, WasAnswered, WasCutOff, WasDrilled, WasNotAsked, WasNotDrilled, WasNotRecalled, WasNotStored, WasQueried, WasRefused, WasShown, WasStored, WriteFailed};
-ghost use Rattle.ppd_query.specs.Queries.{query_of};
+ghost use Rattle.ppd_top_query.specs.Queries.{query_of};
 ghost use Rattle.ppd_top.specs.Words.{AreInRange, Asks, AsksDebug, AsksQuery, command_of};
 ghost use Rattle.ppd_top.specs.Words.Command.{Flow, Run};
 
@@ -23,7 +23,7 @@ use ppd_ast::limits::{MOST_RECORDING_BYTES, MOST_SOURCE_BYTES};
 use ppd_ast::{Bytes, Memory, Seq};
 use ppd_check::{SourceError, read_source};
 use ppd_io::{Gate, Shelf, ShelfError, Sink, Source};
-use ppd_query::Query;
+use ppd_top_query::Query;
 use std::alloc::Global;
 use std::sync::Wait;
 use std::thread::Threads;

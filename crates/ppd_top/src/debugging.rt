@@ -1,13 +1,13 @@
 // The command `debug`: the lines of the input are answered on a recording.
 ghost use Rattle.std.specs.Prelude.{[]};
-ghost use Rattle.ppd_stored.specs.Recordings.{IsRecalled, known_of};
+ghost use Rattle.ppd_codec_runs.specs.Recordings.{IsRecalled, known_of};
 ghost use Rattle.ppd_top.specs.Output.{Talks, standing};
 ghost use Rattle.ppd_top.specs.Ran.{Debugs};
 
 use crate::asking::{finish, talk};
+use ppd_codec_runs::{NoRecall, Recalled, recall};
 use ppd_io::{LineReader, Sink, Source};
 use ppd_session::{Past, Session};
-use ppd_stored::{NoRecall, Recalled, recall};
 use std::alloc::Global;
 use std::thread::Threads;
 

@@ -9,8 +9,8 @@ use crate::run::{Means, Task};
 use ppd_ast::limits::MOST_BUDGET;
 use ppd_ast::{Policy, Program};
 use ppd_check::read_source;
-use ppd_drill::generate;
 use ppd_io::{CHUNK_BYTES, Gate, Sink, SteadySource};
+use ppd_top_drill::generate;
 use std::sync::Wait;
 use std::thread::Threads;
 

@@ -3,7 +3,7 @@ ghost use Rattle.std.specs.Prelude.{◌≡◌, ◌≤◌, ℕ, List, [], IfOk, O
 ghost use Rattle.ppd_ast.specs.Valid.{IsValid};
 ghost use Rattle.ppd_ast.specs.ValidPlan.{IsValidPolicy};
 ghost use Rattle.ppd_ast.specs.declared.limits.TheConstants.{MOST_BUDGET};
-ghost use Rattle.ppd_show.specs.Table.{table_of};
+ghost use Rattle.ppd_text_tables.specs.Table.{table_of};
 ghost use Rattle.ppd_top.specs.Output.{standing};
 ghost use Rattle.ppd_top.specs.Ran.{Flows, Shows};
 ghost use Rattle.ppd_top.specs.Top.{plan_of};
@@ -17,7 +17,7 @@ use ppd_ast::{Memory, Program, Seq};
 use ppd_blocks::partition;
 use ppd_io::{Gate, Sink, Source};
 use ppd_sets::sets;
-use ppd_show::table;
+use ppd_text_tables::table;
 use std::alloc::Global;
 use std::sync::Wait;
 use std::thread::Threads;

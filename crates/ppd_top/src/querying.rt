@@ -1,13 +1,13 @@
 // What is asked of a recording without an input.
 ghost use Rattle.std.specs.Prelude.{[]};
-ghost use Rattle.ppd_query.specs.Queries.{query_of};
-ghost use Rattle.ppd_stored.specs.Recordings.{IsRecalled};
+ghost use Rattle.ppd_top_query.specs.Queries.{query_of};
+ghost use Rattle.ppd_codec_runs.specs.Recordings.{IsRecalled};
 ghost use Rattle.ppd_top.specs.Ran.{IsTold, Queries};
 
 use crate::asking::{finish, refuse_replay};
+use ppd_codec_runs::{NoRecall, Recalled, recall};
 use ppd_io::Sink;
-use ppd_query::{Query, answer};
-use ppd_stored::{NoRecall, Recalled, recall};
+use ppd_top_query::{Query, answer};
 use std::alloc::Global;
 use std::thread::Threads;
 

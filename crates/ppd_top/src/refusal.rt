@@ -9,8 +9,8 @@ use ppd_ast::limits::{
     MOST_SHARED_CELLS, MOST_STATEMENTS,
 };
 use ppd_check::{CheckError, SourceError};
-use ppd_resolve::Limit;
-use ppd_stored::put_stage;
+use ppd_check_names::Limit;
+use ppd_codec_runs::put_stage;
 use ppd_text::{put, put_count};
 use std::alloc::Global;
 

@@ -6,8 +6,8 @@ use crate::text::{put_prints, put_status};
 use ppd_ast::{Memory, Place, Program};
 use ppd_model::ProcEnd;
 use ppd_session::Session;
-use ppd_show::body_name;
 use ppd_text::{put, put_number};
+use ppd_text_tables::body_name;
 use std::alloc::Global;
 
 fn place_at(program: &Program, stmt: u32) -> Place

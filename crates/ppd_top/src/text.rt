@@ -3,7 +3,7 @@ ghost use Rattle.ppd_top.specs.Summary.{status_text, print_text, print_texts};
 
 use ppd_ast::{Memory, Place, Status};
 use ppd_text::{put, put_place, put_value};
-use ppd_why::put_trap;
+use ppd_text_items::put_trap;
 
 pub(crate) fn put_status(text: &mut Vec<u8>, status: Status, place: Place) -> Result<(), Memory>
     ensures { OnOk result (text.new.items ≡ text.old.items ++ status_text status place) }

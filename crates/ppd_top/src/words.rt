@@ -1,9 +1,9 @@
 // What the words of the command line ask for.
 ghost use Rattle.std.specs.Prelude.{◌≡◌, ◌<◌, ◌≤◌, IfOk, IfSome, option_map};
-ghost use Rattle.ppd_words.specs.Reads.{texts_in};
-ghost use Rattle.ppd_words.specs.declared.commands.Command.TheVariants as word;
+ghost use Rattle.ppd_top_words.specs.Reads.{texts_in};
+ghost use Rattle.ppd_top_words.specs.declared.commands.Command.TheVariants as word;
 ghost use Rattle.clap.specs.Matches.{first_value, found_of};
-ghost use Rattle.ppd_query.specs.Queries.{asked_of as item_asked, query_of};
+ghost use Rattle.ppd_top_query.specs.Queries.{asked_of as item_asked, query_of};
 ghost use Rattle.ppd_top.specs.Words.{AreInRange, IsInRange, asked as asked_for, asked_by, asked_of, command_of};
 ghost use Rattle.ppd_top.specs.Words.{item_in, item_number_in, name_in, number_in as number_for};
 ghost use Rattle.ppd_top.specs.Words.{options_in as options_for, query_by, request_of, run_in, slice_in};
@@ -11,9 +11,9 @@ ghost use Rattle.ppd_top.specs.Words.{options_in as options_for, query_by, reque
 use crate::options::Options;
 use ppd_ast::limits::{DEFAULT_BUDGET, MOST_BUDGET, MOST_DRILL, MOST_POLICY};
 use ppd_ast::{Memory, Policy};
-use ppd_query::{AskedItem, Query};
 use ppd_text::number_in;
-use ppd_words::{Command as Word, CommandWords, read_command};
+use ppd_top_query::{AskedItem, Query};
+use ppd_top_words::{Command as Word, CommandWords, read_command};
 use std::alloc::Global;
 
 /// The greatest number of 9 digits.

@@ -6,7 +6,7 @@ use Rattle.ppd_ast.specs.declared.program.Program.{Program}
 use Rattle.ppd_model.specs.declared.trace.DriveError.{DriveError}
 use Rattle.ppd_model.specs.declared.trace.Trace.{Trace}
 use Rattle.ppd_model.specs.FullTrace.{trace_of}
-use Rattle.ppd_agree.proofs.Agreeing.{agreeing_stories}
+use Rattle.law_agreement.proofs.Agreeing.{agreeing_stories}
 use Rattle.ppd_trace.specs.Traced.{IsTraceOf, IsTraceOfAgreeing}
 
 pub of_agreeing : (program : Program) (plan : Plan) (budget : ℕ) (h : List ℕ) (r : Result Trace DriveError) → IsTraceOf program plan budget h r → IsTraceOfAgreeing program plan budget h r

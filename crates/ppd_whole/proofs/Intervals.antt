@@ -8,10 +8,10 @@ use Rattle.std.proofs.lemmas.Simd.{map-map}
 use Rattle.ppd_entry.specs.declared.entry.Entry.{Entry}
 use Rattle.ppd_entry.specs.declared.entry.Logs.{Logs}
 use Rattle.ppd_model.specs.declared.flow.Item.{Item}
-use Rattle.ppd_past.specs.declared.past.Past.{Past}
-use Rattle.ppd_past.specs.SeenBy.{items_in, seen_by, seen_in}
-use Rattle.ppd_search.specs.Seen.{Seen}
-use Rattle.ppd_walk.specs.SharedCells.{seens_in}
+use Rattle.ppd_flow_past.specs.declared.past.Past.{Past}
+use Rattle.ppd_flow_past.specs.SeenBy.{items_in, seen_by, seen_in}
+use Rattle.ppd_flow_model.specs.Seen.{Seen}
+use Rattle.ppd_flow_shared.specs.SharedCells.{seens_in}
 use Rattle.ppd_whole.specs.Answers.{all_intervals, intervals_from, intervals_of}
 
 module _ (past : Past) (uncut : past.cut.now ≡ past.logs.now) where

@@ -2,9 +2,9 @@
 ghost use Rattle.std.specs.Prelude.{◌≡◌, ◌<◌, IfOk};
 ghost use Rattle.std.specs.Result.{result_map_both};
 ghost use Rattle.std.specs.List.{flat_map};
-ghost use Rattle.ppd_linked.specs.Linked.{joined_trace};
-ghost use Rattle.ppd_past.specs.Pasts.{IsPast};
-ghost use Rattle.ppd_walk.specs.SharedCells.{seens_in};
+ghost use Rattle.law_whole.specs.Linked.{joined_trace};
+ghost use Rattle.ppd_flow_past.specs.Pasts.{IsPast};
+ghost use Rattle.ppd_flow_shared.specs.SharedCells.{seens_in};
 ghost use Rattle.ppd_whole.specs.Answers.{GivesWhole, IsWholeOf};
 ghost use Rattle.ppd_whole.specs.WholeText.{whole_text};
 
@@ -13,9 +13,9 @@ use crate::processes::{are_few, events_of_all, lines_of_all, marks_of_all};
 use crate::replays::all_items;
 use crate::whole_error::WholeError;
 use ppd_ast::{Memory, Seq};
-use ppd_linking::{linkers_are_linked, marks_are_writers};
+use ppd_flow_past::Past;
 use ppd_model::Item;
-use ppd_past::Past;
+use ppd_whole_link::{linkers_are_linked, marks_are_writers};
 use std::alloc::Global;
 use std::thread::Threads;
 

@@ -1,11 +1,11 @@
 // All intervals, by process and number.
 ghost use Rattle.std.specs.Prelude.{◌≡◌, ◌++◌, map, IfOk, OnOk};
 ghost use Rattle.std.specs.List.{range_with_len};
-ghost use Rattle.ppd_past.specs.Pasts.{IsPast};
+ghost use Rattle.ppd_flow_past.specs.Pasts.{IsPast};
 ghost use Rattle.ppd_whole.specs.Answers.{all_intervals};
 
 use ppd_ast::Memory;
-use ppd_past::{Past, count_of};
+use ppd_flow_past::{Past, count_of};
 use std::alloc::Global;
 
 /// An interval by its process and its number.

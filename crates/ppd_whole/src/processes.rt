@@ -1,17 +1,17 @@
 // The events of all processes, what they leave, and their lines.
 ghost use Rattle.std.specs.Prelude.{◌≡◌, ◌<◌, ◌^◌, ℕ, [], IsTrue, drop, get_or, length, map, take, IfOk};
 ghost use Rattle.std.specs.List.{flat_map};
-ghost use Rattle.ppd_linking.specs.Marks.{marks_after};
-ghost use Rattle.ppd_past.specs.Pasts.{IsPast};
-ghost use Rattle.ppd_walk.specs.SharedCells.{seens_in};
+ghost use Rattle.ppd_whole_link.specs.Marks.{marks_after};
+ghost use Rattle.ppd_flow_past.specs.Pasts.{IsPast};
+ghost use Rattle.ppd_flow_shared.specs.SharedCells.{seens_in};
 ghost use Rattle.ppd_whole.specs.Told.{AreMarked, all_events, told_processes};
 
 use crate::lines::put_process;
 use ppd_ast::{Memory, Seq};
-use ppd_linking::{Marks, events_of, marks_of};
+use ppd_flow_past::{Past, count_of};
 use ppd_model::Item;
-use ppd_past::{Past, count_of};
 use ppd_sem::Event;
+use ppd_whole_link::{Marks, events_of, marks_of};
 use std::alloc::Global;
 
 /// The first rows, at most so many.

@@ -1,15 +1,15 @@
 // The items of all intervals, by replays that are split among workers.
 ghost use Rattle.std.specs.Prelude.{◌≡◌, ◌<◌, map, Ok, IfErr, IfOk};
 ghost use Rattle.std.specs.List.{AllZip};
-ghost use Rattle.ppd_past.specs.Pasts.{IsPast};
+ghost use Rattle.ppd_flow_past.specs.Pasts.{IsPast};
 ghost use Rattle.ppd_whole.specs.Answers.{all_intervals};
 ghost use Rattle.ppd_whole.specs.Replays.{AreReplays, IsReplay, StopsAt};
 
 use crate::jobs::{Job, jobs_of};
 use crate::whole_error::WholeError;
 use ppd_ast::{Memory, Seq, Steps};
+use ppd_flow_past::{FlowError, Past, replayed};
 use ppd_model::Item;
-use ppd_past::{FlowError, Past, replayed};
 use rayon::prelude::*;
 use std::alloc::{AllocError, Global};
 use std::marker::Brand;
@@ -90,7 +90,11 @@ fn rows_of(alloc: Global, found: Found) -> Result<Seq<Seq<Item>>, WholeError>
     let mut rows = Seq::new(alloc);
     for one in found {
         match one {
-            Ok(items) => { if rows.push(items).is_err() { return Err(WholeError::Memory); } }
+            Ok(items) => {
+                if rows.push(items).is_err() {
+                    return Err(WholeError::Memory);
+                }
+            }
             Err(error) => return Err(error),
         }
     }

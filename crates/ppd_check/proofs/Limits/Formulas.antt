@@ -8,8 +8,8 @@ use Rattle.ppd_parse.specs.declared.symbol.Rule.TheVariants as R
 use Rattle.ppd_parse.specs.Grammar.{Shape, leaf, node, Shapes, no_shapes, shape_then, kind_of}
 use Rattle.ppd_parse.specs.Limits.{is_sign}
 use Rattle.ppd_parse.specs.Stack.{is_binary}
-use Rattle.ppd_resolve.specs.Syntax.{Formula}
-use Rattle.ppd_resolve.specs.Reading.{Phrase, token, formula, goal, phrase, goal_formula, as_formula, kind, is_bracket, formula_at, joined, unary, goal_of, made, said, all_said}
+use Rattle.ppd_check_names.specs.Syntax.{Formula}
+use Rattle.ppd_check_names.specs.Reading.{Phrase, token, formula, goal, phrase, goal_formula, as_formula, kind, is_bracket, formula_at, joined, unary, goal_of, made, said, all_said}
 use Rattle.ppd_check.proofs.Limits.Trees.{signs, signs_in, levels, levels_in, IsJoined, Fits, FitsIn}
 use Rattle.ppd_check.proofs.Limits.Depths.{place_in}
 use Rattle.ppd_check.proofs.Limits.Small.{indexes}

@@ -9,8 +9,8 @@ use Rattle.ppd_parse.specs.declared.symbol.Rule.{Rule}
 use Rattle.ppd_parse.specs.declared.symbol.Rule.TheVariants as R
 use Rattle.ppd_parse.specs.Grammar.{Shape, leaf, node, Shapes, no_shapes, shape_then}
 use Rattle.ppd_parse.specs.Stack.{is_assign}
-use Rattle.ppd_resolve.specs.Syntax.{Name, Number, Formula, number, variable, plain, received, fresh, array, Row, stop, simple, block, choice, repeat, count, Item, semaphore, channel}
-use Rattle.ppd_resolve.specs.Reading.{Phrase, token, formula, goal, value, calling, changing, row, body, names, items, nowhere, name_of, phrase, last, as_token, goal_formula, as_formula, as_goal, called, as_value, as_row, as_block, as_names, as_items, kind, is_bracket, is_minus, is_semicolon, is_int, is_recv, is_name, is_formula, name_at, formula_at, before, beyond, formulas, goal_of, value_said, local_item, changed, followed, rows, locals, some_change, for_start, for_test, for_row, returned, worded, statement, shared_item, number_behind, numbered, params, made, said, all_said, number_at}
+use Rattle.ppd_check_names.specs.Syntax.{Name, Number, Formula, number, variable, plain, received, fresh, array, Row, stop, simple, block, choice, repeat, count, Item, semaphore, channel}
+use Rattle.ppd_check_names.specs.Reading.{Phrase, token, formula, goal, value, calling, changing, row, body, names, items, nowhere, name_of, phrase, last, as_token, goal_formula, as_formula, as_goal, called, as_value, as_row, as_block, as_names, as_items, kind, is_bracket, is_minus, is_semicolon, is_int, is_recv, is_name, is_formula, name_at, formula_at, before, beyond, formulas, goal_of, value_said, local_item, changed, followed, rows, locals, some_change, for_start, for_test, for_row, returned, worded, statement, shared_item, number_behind, numbered, params, made, said, all_said, number_at}
 use Rattle.ppd_check.proofs.Limits.Trees.{signs_in, levels, levels_in, OwnFits, is_for, starts_for, Fits, FitsIn, statement_in}
 use Rattle.ppd_check.proofs.Limits.Depths.{place_in}
 use Rattle.ppd_check.proofs.Limits.Small.{IsSmall, IsShort, IsSmallGoal, IsSmallValue, IsSmallIfAny, IsSmallSimple, IsSmallChange, IsSmallRow, IsSmallItem}

@@ -8,11 +8,11 @@ use Rattle.ppd_ast.specs.Cells.{CoverCells}
 use Rattle.ppd_lex.specs.declared.token.Token.{Token}
 use Rattle.ppd_parse.specs.Grammar.{Shape}
 use Rattle.ppd_parse.specs.Limits.{IsTree}
-use Rattle.ppd_resolve.specs.Names.{Scope}
-use Rattle.ppd_resolve.specs.Reading.{source_of}
-use Rattle.ppd_resolve.specs.Syntax.{Source}
-use Rattle.ppd_bodies.specs.Sources.{heads, head_faults, head_code, head_frame, vars, core, Accepted}
-use Rattle.ppd_resolve.specs.Globals.{Head, globals}
+use Rattle.ppd_check_names.specs.Names.{Scope}
+use Rattle.ppd_check_names.specs.Reading.{source_of}
+use Rattle.ppd_check_names.specs.Syntax.{Source}
+use Rattle.ppd_check_bodies.specs.Sources.{heads, head_faults, head_code, head_frame, vars, core, Accepted}
+use Rattle.ppd_check_names.specs.Globals.{Head, globals}
 use Rattle.ppd_check.proofs.Named.Rightly.{AreThere, AreNamedRightly}
 use Rattle.ppd_check.proofs.Named.Terms.{nil_left, nil_right}
 use Rattle.ppd_check.proofs.Named.Rows.{HasSteps}

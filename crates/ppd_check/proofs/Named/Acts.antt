@@ -10,19 +10,19 @@ use Rattle.ppd_ast.specs.declared.program.Program.{Program}
 use Rattle.ppd_ast.specs.Term.{Term}
 use Rattle.ppd_ast.specs.Cells.{IsScalarOf, IsArrayOf, NamesWhole, IsWholeTarget, IsScalarIfAny}
 use Rattle.ppd_ast.specs.Valid.{CallsRightly}
-use Rattle.ppd_resolve.specs.declared.fault.Cause.TheVariants.{Arity, VoidValue}
-use Rattle.ppd_resolve.specs.Names.{Scope, meaning, fits_index, is_semaphore, is_channel, semaphore_of, channel_of, function_of}
-use Rattle.ppd_resolve.specs.declared.meaning.Meaning.{Meaning}
-use Rattle.ppd_resolve.specs.declared.meaning.Meaning.TheVariants as M
-use Rattle.ppd_resolve.specs.Faults.{unless, if_so}
-use Rattle.ppd_lower.specs.Code as C
-use Rattle.ppd_lower.specs.Code.{Spot}
-use Rattle.ppd_lower.specs.Table.{roots, target, spot_terms, kind}
-use Rattle.ppd_resolve.specs.Syntax.{Name, Formula, Goal, scalar, item, Value, plain, result, received}
-use Rattle.ppd_resolve.specs.Reading.{goal_formula}
-use Rattle.ppd_lower.specs.Expressions.{read_scalar, read_element, term_of, wrong_use, name_faults, formula_faults, wrong_call, call_faults}
-use Rattle.ppd_lower.specs.Statements.{spot, spot_of, put, value_faults}
-use Rattle.ppd_lower.proofs.Costs.Tables.{length_roots}
+use Rattle.ppd_check_names.specs.declared.fault.Cause.TheVariants.{Arity, VoidValue}
+use Rattle.ppd_check_names.specs.Names.{Scope, meaning, fits_index, is_semaphore, is_channel, semaphore_of, channel_of, function_of}
+use Rattle.ppd_check_names.specs.declared.meaning.Meaning.{Meaning}
+use Rattle.ppd_check_names.specs.declared.meaning.Meaning.TheVariants as M
+use Rattle.ppd_check_names.specs.Faults.{unless, if_so}
+use Rattle.ppd_check_stmts.specs.Code as C
+use Rattle.ppd_check_stmts.specs.Code.{Spot}
+use Rattle.ppd_check_stmts.specs.Table.{roots, target, spot_terms, kind}
+use Rattle.ppd_check_names.specs.Syntax.{Name, Formula, Goal, scalar, item, Value, plain, result, received}
+use Rattle.ppd_check_names.specs.Reading.{goal_formula}
+use Rattle.ppd_check_stmts.specs.Expressions.{read_scalar, read_element, term_of, wrong_use, name_faults, formula_faults, wrong_call, call_faults}
+use Rattle.ppd_check_stmts.specs.Statements.{spot, spot_of, put, value_faults}
+use Rattle.ppd_check_stmts.proofs.Costs.Tables.{length_roots}
 use Rattle.ppd_check.proofs.Named.Rightly.{IsThere, AreAllThere, IsNamedRightly}
 use Rattle.ppd_check.proofs.Named.Terms.{nil_left, nil_right, not_nil, unless_true, if_so_false, scalar_used, array_used, meaning_there, formula_whole, formulas_whole}
 

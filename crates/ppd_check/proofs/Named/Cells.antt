@@ -8,16 +8,16 @@ use Rattle.ppd_ast.specs.declared.program.Var.{Var}
 use Rattle.ppd_ast.specs.Cells as A
 use Rattle.ppd_ast.specs.Cells.{holds, CoverCells, AreParams, size}
 use Rattle.ppd_ast.specs.Counting.{one_if}
-use Rattle.ppd_resolve.specs.declared.fault.Cause.TheVariants.{TooMany}
-use Rattle.ppd_resolve.specs.declared.fault.Limit.{Limit}
-use Rattle.ppd_resolve.specs.declared.frame.Variable.{Variable}
-use Rattle.ppd_resolve.specs.Faults.{if_so}
-use Rattle.ppd_resolve.specs.Fitted.{as_short}
-use Rattle.ppd_resolve.specs.Syntax.{Name}
-use Rattle.ppd_resolve.specs.Frames.{after_cells, variable_of}
-use Rattle.ppd_bodies.specs.Sources.{vars}
-use Rattle.ppd_resolve.specs.Globals.{past_cells}
-use Rattle.ppd_resolve.proofs.Declared.Counted.{end_cells}
+use Rattle.ppd_check_names.specs.declared.fault.Cause.TheVariants.{TooMany}
+use Rattle.ppd_check_names.specs.declared.fault.Limit.{Limit}
+use Rattle.ppd_check_names.specs.declared.frame.Variable.{Variable}
+use Rattle.ppd_check_names.specs.Faults.{if_so}
+use Rattle.ppd_check_names.specs.Fitted.{as_short}
+use Rattle.ppd_check_names.specs.Syntax.{Name}
+use Rattle.ppd_check_names.specs.Frames.{after_cells, variable_of}
+use Rattle.ppd_check_bodies.specs.Sources.{vars}
+use Rattle.ppd_check_names.specs.Globals.{past_cells}
+use Rattle.ppd_check_names.proofs.Declared.Counted.{end_cells}
 use Rattle.ppd_check.proofs.Named.Terms.{nil_left, nil_right, if_so_false}
 
 -- Numbers.

@@ -6,17 +6,17 @@ use Rattle.std.proofs.lemmas.List.Elements.{All-nil, All-cons, All-weaker, All-c
 use Rattle.std.proofs.lemmas.Bool.{ltb-false}
 use Rattle.ppd_ast.specs.declared.limits.TheConstants.{MOST_STATEMENTS}
 use Rattle.ppd_ast.specs.declared.program.Place.{Place}
-use Rattle.ppd_resolve.specs.declared.fault.Cause.TheVariants.{TooMany}
-use Rattle.ppd_resolve.specs.declared.fault.Limit.{Limit}
-use Rattle.ppd_resolve.specs.declared.fault.Limit.TheVariants as L
-use Rattle.ppd_resolve.specs.Faults.{at, by_then}
-use Rattle.ppd_resolve.specs.Fitted.{as_short}
-use Rattle.ppd_resolve.specs.Syntax.{Name}
-use Rattle.ppd_lower.specs.Code.{Code, done, act, choice, loop, places, count}
-use Rattle.ppd_lower.specs.Table.{stmts, weight, weights, terms, act_terms}
+use Rattle.ppd_check_names.specs.declared.fault.Cause.TheVariants.{TooMany}
+use Rattle.ppd_check_names.specs.declared.fault.Limit.{Limit}
+use Rattle.ppd_check_names.specs.declared.fault.Limit.TheVariants as L
+use Rattle.ppd_check_names.specs.Faults.{at, by_then}
+use Rattle.ppd_check_names.specs.Fitted.{as_short}
+use Rattle.ppd_check_names.specs.Syntax.{Name}
+use Rattle.ppd_check_stmts.specs.Code.{Code, done, act, choice, loop, places, count}
+use Rattle.ppd_check_stmts.specs.Table.{stmts, weight, weights, terms, act_terms}
 use Rattle.ppd_check.proofs.PastMost.{up_to_itself, count_all}
-use Rattle.ppd_bodies.specs.Sources.{is_up_to, past_statements, all_stmts}
-use Rattle.ppd_resolve.specs.Globals.{past}
+use Rattle.ppd_check_bodies.specs.Sources.{is_up_to, past_statements, all_stmts}
+use Rattle.ppd_check_names.specs.Globals.{past}
 
 -- Places in order.
 

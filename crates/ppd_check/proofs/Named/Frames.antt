@@ -6,15 +6,15 @@ use Rattle.ppd_ast.specs.declared.program.Place.{Place}
 use Rattle.ppd_ast.specs.declared.program.Var.{Var}
 use Rattle.ppd_ast.specs.declared.program.Program.{Program}
 use Rattle.ppd_ast.specs.Cells.{IsScalarOf}
-use Rattle.ppd_resolve.specs.declared.frame.Variable.{Variable}
-use Rattle.ppd_resolve.specs.declared.frame.Frame.{Frame}
-use Rattle.ppd_resolve.specs.declared.meaning.Meaning.TheVariants as M
-use Rattle.ppd_resolve.specs.Fitted.{as_short}
-use Rattle.ppd_resolve.specs.Syntax.{Name, Simple, fresh, array, store, change, call, give_back, take, give, send, print, assert, Row, stop, simple, block, choice, repeat, count}
-use Rattle.ppd_lower.specs.Statements.{opened, with_scopes_of, goal_name, spot_of, via_hidden, return_via_hidden, hidden_if, after, after_any, after_row}
-use Rattle.ppd_resolve.specs.Frames.{after_cells, variable_of, declared, with_hidden}
-use Rattle.ppd_resolve.proofs.Declared.Counted.{end_cells, end_cells_more}
-use Rattle.ppd_bodies.specs.Sources.{vars}
+use Rattle.ppd_check_names.specs.declared.frame.Variable.{Variable}
+use Rattle.ppd_check_names.specs.declared.frame.Frame.{Frame}
+use Rattle.ppd_check_names.specs.declared.meaning.Meaning.TheVariants as M
+use Rattle.ppd_check_names.specs.Fitted.{as_short}
+use Rattle.ppd_check_names.specs.Syntax.{Name, Simple, fresh, array, store, change, call, give_back, take, give, send, print, assert, Row, stop, simple, block, choice, repeat, count}
+use Rattle.ppd_check_stmts.specs.Statements.{opened, with_scopes_of, goal_name, spot_of, via_hidden, return_via_hidden, hidden_if, after, after_any, after_row}
+use Rattle.ppd_check_names.specs.Frames.{after_cells, variable_of, declared, with_hidden}
+use Rattle.ppd_check_names.proofs.Declared.Counted.{end_cells, end_cells_more}
+use Rattle.ppd_check_bodies.specs.Sources.{vars}
 use Rattle.ppd_check.proofs.Named.Rightly.{IsThere, AreAllThere}
 use Rattle.ppd_check.proofs.Named.Terms.{innermost_there}
 

@@ -5,20 +5,20 @@ use Rattle.std.proofs.lemmas.List.{append_assoc, append-nil, length-append, leng
 use Rattle.ppd_ast.specs.declared.limits.TheConstants.{MOST_LOCAL_CELLS}
 use Rattle.ppd_ast.specs.declared.program.Program.{Program}
 use Rattle.ppd_ast.specs.Cells.{size}
-use Rattle.ppd_resolve.specs.declared.fault.Fault.{Fault}
-use Rattle.ppd_resolve.specs.declared.fault.Limit.TheVariants as L
-use Rattle.ppd_resolve.specs.declared.frame.Variable.{Variable}
-use Rattle.ppd_resolve.specs.declared.frame.Frame.{Frame}
-use Rattle.ppd_resolve.specs.Fitted.{as_short}
-use Rattle.ppd_resolve.specs.Names.{Scope}
-use Rattle.ppd_lower.specs.Code.{count}
-use Rattle.ppd_lower.specs.Table.{flats, terms}
-use Rattle.ppd_resolve.specs.Syntax.{Name, Item, shared, shared_array, semaphore, channel, function, process}
-use Rattle.ppd_lower.specs.Statements.{row_faults}
-use Rattle.ppd_resolve.specs.Frames.{after_cells, variable_of, declared}
-use Rattle.ppd_bodies.specs.Sources.{with_params, params_faults, outer, entry, head_code, head_frame, return_faults, head_faults, heads, codes, vars, body, bodies, all_stmts}
-use Rattle.ppd_resolve.specs.Globals.{Head, Globals, with_item, with_items, past_cells, sem, chan}
-use Rattle.ppd_resolve.proofs.Declared.Counted.{end_cells, end_cells_more}
+use Rattle.ppd_check_names.specs.declared.fault.Fault.{Fault}
+use Rattle.ppd_check_names.specs.declared.fault.Limit.TheVariants as L
+use Rattle.ppd_check_names.specs.declared.frame.Variable.{Variable}
+use Rattle.ppd_check_names.specs.declared.frame.Frame.{Frame}
+use Rattle.ppd_check_names.specs.Fitted.{as_short}
+use Rattle.ppd_check_names.specs.Names.{Scope}
+use Rattle.ppd_check_stmts.specs.Code.{count}
+use Rattle.ppd_check_stmts.specs.Table.{flats, terms}
+use Rattle.ppd_check_names.specs.Syntax.{Name, Item, shared, shared_array, semaphore, channel, function, process}
+use Rattle.ppd_check_stmts.specs.Statements.{row_faults}
+use Rattle.ppd_check_names.specs.Frames.{after_cells, variable_of, declared}
+use Rattle.ppd_check_bodies.specs.Sources.{with_params, params_faults, outer, entry, head_code, head_frame, return_faults, head_faults, heads, codes, vars, body, bodies, all_stmts}
+use Rattle.ppd_check_names.specs.Globals.{Head, Globals, with_item, with_items, past_cells, sem, chan}
+use Rattle.ppd_check_names.proofs.Declared.Counted.{end_cells, end_cells_more}
 use Rattle.ppd_check.proofs.Named.Terms.{nil_left, nil_right}
 use Rattle.ppd_check.proofs.Named.Frames.{LeadsTo, leads_itself, leads_further, leads_on, row_leads}
 use Rattle.ppd_check.proofs.Named.Cells.{total, cells_total, cells_within}

@@ -6,18 +6,18 @@ use Rattle.std.proofs.lemmas.List.Elements.{All-nil, All-push, All-weaker, All-m
 use Rattle.std.proofs.lemmas.Bool.{ltb-true}
 use Rattle.ppd_ast.specs.declared.limits.TheConstants.{MOST_STATEMENTS, MOST_FUNCTIONS, MOST_PROCESSES, MOST_SHARED_CELLS, MOST_SEMAPHORES, MOST_CHANNELS, MOST_START, LEAST_CAPACITY, MOST_CAPACITY}
 use Rattle.ppd_ast.specs.Cells.{CoverCells}
-use Rattle.ppd_resolve.specs.declared.fault.Cause.TheVariants.{NoProcess, BadSize}
-use Rattle.ppd_resolve.specs.declared.fault.Fault.{Fault}
-use Rattle.ppd_resolve.specs.declared.fault.Limit.TheVariants as L
-use Rattle.ppd_resolve.specs.Faults.{unless}
-use Rattle.ppd_resolve.specs.Fitted.{as_byte, as_short, as_word}
-use Rattle.ppd_lower.specs.Code.{places}
-use Rattle.ppd_resolve.specs.Syntax.{Number, Item, shared, shared_array, semaphore, channel, function, process, Source}
-use Rattle.ppd_resolve.specs.Frames.{twice_faults, size_faults}
-use Rattle.ppd_bodies.specs.Sources.{past_statements, head_faults, heads, codes, vars, bodies, core_of, faults_in}
-use Rattle.ppd_bodies.proofs.Heading.{length_bodies}
-use Rattle.ppd_resolve.specs.Globals.{Object, Globals, no_globals, item_name, item_size_faults, with_item, with_items, globals, items_faults, past, past_cells, head_name, object_name, count_faults, sem, chan}
-use Rattle.ppd_resolve.proofs.Declared.Counted.{end_cells, le_true}
+use Rattle.ppd_check_names.specs.declared.fault.Cause.TheVariants.{NoProcess, BadSize}
+use Rattle.ppd_check_names.specs.declared.fault.Fault.{Fault}
+use Rattle.ppd_check_names.specs.declared.fault.Limit.TheVariants as L
+use Rattle.ppd_check_names.specs.Faults.{unless}
+use Rattle.ppd_check_names.specs.Fitted.{as_byte, as_short, as_word}
+use Rattle.ppd_check_stmts.specs.Code.{places}
+use Rattle.ppd_check_names.specs.Syntax.{Number, Item, shared, shared_array, semaphore, channel, function, process, Source}
+use Rattle.ppd_check_names.specs.Frames.{twice_faults, size_faults}
+use Rattle.ppd_check_bodies.specs.Sources.{past_statements, head_faults, heads, codes, vars, bodies, core_of, faults_in}
+use Rattle.ppd_check_bodies.proofs.Heading.{length_bodies}
+use Rattle.ppd_check_names.specs.Globals.{Object, Globals, no_globals, item_name, item_size_faults, with_item, with_items, globals, items_faults, past, past_cells, head_name, object_name, count_faults, sem, chan}
+use Rattle.ppd_check_names.proofs.Declared.Counted.{end_cells, le_true}
 use Rattle.ppd_check.proofs.Named.Terms.{nil_left, nil_right, unless_true}
 use Rattle.ppd_check.proofs.Named.Cells.{total, cells_total, cells_within, cover_cells}
 use Rattle.ppd_check.proofs.Named.Counts.{few_statements, few_names, length_all_stmts}

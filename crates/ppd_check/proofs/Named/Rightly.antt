@@ -6,11 +6,11 @@ use Rattle.ppd_ast.specs.declared.program.Var.{Var}
 use Rattle.ppd_ast.specs.declared.program.Program.{Program}
 use Rattle.ppd_ast.specs.Cells.{IsScalarOf, IsArrayOf, NamesWhole, WritesWhole}
 use Rattle.ppd_ast.specs.Valid.{HasObject, CallsRightly}
-use Rattle.ppd_resolve.specs.Names.{Scope}
-use Rattle.ppd_resolve.specs.declared.meaning.Meaning.{Meaning}
-use Rattle.ppd_resolve.specs.declared.meaning.Meaning.TheVariants as M
-use Rattle.ppd_lower.specs.Code.{Act, Code, done, act, choice, loop}
-use Rattle.ppd_lower.specs.Table.{act_terms, kind}
+use Rattle.ppd_check_names.specs.Names.{Scope}
+use Rattle.ppd_check_names.specs.declared.meaning.Meaning.{Meaning}
+use Rattle.ppd_check_names.specs.declared.meaning.Meaning.TheVariants as M
+use Rattle.ppd_check_stmts.specs.Code.{Act, Code, done, act, choice, loop}
+use Rattle.ppd_check_stmts.specs.Table.{act_terms, kind}
 
 -- what a name means is there: a whole variable, a semaphore, a channel, or a function with the parameters and the value of its body
 abbrev pub IsThere : Program → (locals : List Var) → Meaning → Type 0

@@ -6,20 +6,20 @@ use Rattle.ppd_ast.specs.declared.program.Var.{Var}
 use Rattle.ppd_ast.specs.declared.program.Program.{Program}
 use Rattle.ppd_ast.specs.Term as T
 use Rattle.ppd_ast.specs.Cells.{IsScalarOf}
-use Rattle.ppd_resolve.specs.declared.fault.Fault.{Fault}
-use Rattle.ppd_resolve.specs.declared.frame.Variable.{Variable}
-use Rattle.ppd_resolve.specs.declared.frame.Frame.{Frame}
-use Rattle.ppd_resolve.specs.Fitted.{as_short}
-use Rattle.ppd_resolve.specs.Names.{innermost, is_channel}
-use Rattle.ppd_lower.specs.Code as C
-use Rattle.ppd_lower.specs.Code.{Spot, Act, Code, done, act, choice, loop, join, acts}
-use Rattle.ppd_resolve.specs.Syntax.{Value, plain, result, received, Simple, fresh, array, store, change, call, give_back, take, give, send, print, assert, Row, stop, simple, block, repeat, count}
-use Rattle.ppd_resolve.specs.Syntax as S
-use Rattle.ppd_resolve.specs.Reading.{goal_formula}
-use Rattle.ppd_lower.specs.Expressions.{term_of, name_faults, formula_faults}
-use Rattle.ppd_lower.specs.Statements.{opened, with_scopes_of, goal_name, spot_of, via_hidden, hidden_if, after, after_any, after_row, put, store_acts, place_of, acts_of, code_of, code_of_any, row_code, value_faults, faults_of, faults_of_any, row_faults}
-use Rattle.ppd_resolve.specs.Frames.{declared, twice_faults}
-use Rattle.ppd_bodies.specs.Sources.{vars}
+use Rattle.ppd_check_names.specs.declared.fault.Fault.{Fault}
+use Rattle.ppd_check_names.specs.declared.frame.Variable.{Variable}
+use Rattle.ppd_check_names.specs.declared.frame.Frame.{Frame}
+use Rattle.ppd_check_names.specs.Fitted.{as_short}
+use Rattle.ppd_check_names.specs.Names.{innermost, is_channel}
+use Rattle.ppd_check_stmts.specs.Code as C
+use Rattle.ppd_check_stmts.specs.Code.{Spot, Act, Code, done, act, choice, loop, join, acts}
+use Rattle.ppd_check_names.specs.Syntax.{Value, plain, result, received, Simple, fresh, array, store, change, call, give_back, take, give, send, print, assert, Row, stop, simple, block, repeat, count}
+use Rattle.ppd_check_names.specs.Syntax as S
+use Rattle.ppd_check_names.specs.Reading.{goal_formula}
+use Rattle.ppd_check_stmts.specs.Expressions.{term_of, name_faults, formula_faults}
+use Rattle.ppd_check_stmts.specs.Statements.{opened, with_scopes_of, goal_name, spot_of, via_hidden, hidden_if, after, after_any, after_row, put, store_acts, place_of, acts_of, code_of, code_of_any, row_code, value_faults, faults_of, faults_of_any, row_faults}
+use Rattle.ppd_check_names.specs.Frames.{declared, twice_faults}
+use Rattle.ppd_check_bodies.specs.Sources.{vars}
 use Rattle.ppd_check.proofs.Named.Rightly.{IsNamedRightly, AreNamedRightly}
 use Rattle.ppd_check.proofs.Named.Terms.{nil_left, nil_right, formula_whole}
 use Rattle.ppd_check.proofs.Named.Acts.{IsWholeSpot, spot_whole, set_rightly, clear_rightly, back_rightly, bare_back_rightly, print_rightly, assert_rightly, take_rightly, give_rightly, send_rightly, call_rightly, put_rightly}

@@ -6,21 +6,21 @@ use Rattle.ppd_ast.specs.declared.limits.TheConstants.{MOST_FUNCTIONS, MOST_LOCA
 use Rattle.ppd_ast.specs.declared.program.Var.{Var}
 use Rattle.ppd_ast.specs.declared.program.Program.{Program}
 use Rattle.ppd_ast.specs.Cells.{CoverCells, AreParams}
-use Rattle.ppd_resolve.specs.declared.fault.Fault.{Fault}
-use Rattle.ppd_resolve.specs.declared.fault.Limit.TheVariants as L
-use Rattle.ppd_resolve.specs.declared.frame.Variable.{Variable}
-use Rattle.ppd_resolve.specs.declared.frame.Frame.{Frame}
-use Rattle.ppd_resolve.specs.declared.meaning.Meaning.TheVariants as M
-use Rattle.ppd_resolve.specs.Fitted.{as_byte, as_short}
-use Rattle.ppd_resolve.specs.Names.{Scope}
-use Rattle.ppd_lower.specs.Code as C
-use Rattle.ppd_lower.specs.Code.{act, done}
-use Rattle.ppd_resolve.specs.Syntax.{Name, Item, shared, shared_array, semaphore, channel, function, process}
-use Rattle.ppd_lower.specs.Statements.{row_code, row_faults}
-use Rattle.ppd_resolve.specs.Frames.{variable_of, declared}
-use Rattle.ppd_bodies.specs.Sources.{with_params, params_faults, outer, entry, ends_with_return, close_code, head_code, head_frame, return_faults, head_faults, heads, vars, body, bodies}
-use Rattle.ppd_resolve.specs.Globals.{Head, Globals, no_globals, item_name, item_meaning, with_item, with_items, past_cells, sem, chan}
-use Rattle.ppd_resolve.proofs.Declared.Counted.{end_cells}
+use Rattle.ppd_check_names.specs.declared.fault.Fault.{Fault}
+use Rattle.ppd_check_names.specs.declared.fault.Limit.TheVariants as L
+use Rattle.ppd_check_names.specs.declared.frame.Variable.{Variable}
+use Rattle.ppd_check_names.specs.declared.frame.Frame.{Frame}
+use Rattle.ppd_check_names.specs.declared.meaning.Meaning.TheVariants as M
+use Rattle.ppd_check_names.specs.Fitted.{as_byte, as_short}
+use Rattle.ppd_check_names.specs.Names.{Scope}
+use Rattle.ppd_check_stmts.specs.Code as C
+use Rattle.ppd_check_stmts.specs.Code.{act, done}
+use Rattle.ppd_check_names.specs.Syntax.{Name, Item, shared, shared_array, semaphore, channel, function, process}
+use Rattle.ppd_check_stmts.specs.Statements.{row_code, row_faults}
+use Rattle.ppd_check_names.specs.Frames.{variable_of, declared}
+use Rattle.ppd_check_bodies.specs.Sources.{with_params, params_faults, outer, entry, ends_with_return, close_code, head_code, head_frame, return_faults, head_faults, heads, vars, body, bodies}
+use Rattle.ppd_check_names.specs.Globals.{Head, Globals, no_globals, item_name, item_meaning, with_item, with_items, past_cells, sem, chan}
+use Rattle.ppd_check_names.proofs.Declared.Counted.{end_cells}
 use Rattle.ppd_check.proofs.Named.Rightly.{IsThere, AreThere, AreNamedRightly}
 use Rattle.ppd_check.proofs.Named.Terms.{nil_left, nil_right, declare_there}
 use Rattle.ppd_check.proofs.Named.Acts.{bare_back_rightly, finish_rightly}

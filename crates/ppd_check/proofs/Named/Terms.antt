@@ -8,13 +8,13 @@ use Rattle.ppd_ast.specs.declared.program.Var.{Var}
 use Rattle.ppd_ast.specs.declared.program.Program.{Program}
 use Rattle.ppd_ast.specs.Term.{Term}
 use Rattle.ppd_ast.specs.Cells.{NamesWhole}
-use Rattle.ppd_resolve.specs.declared.fault.Cause.{Cause}
-use Rattle.ppd_resolve.specs.Names.{Scope, found, else_in, meaning, declare, in_innermost, fits_index}
-use Rattle.ppd_resolve.specs.declared.meaning.Meaning.{Meaning}
-use Rattle.ppd_resolve.specs.declared.meaning.Meaning.TheVariants as M
-use Rattle.ppd_resolve.specs.Faults.{unless, if_so}
-use Rattle.ppd_resolve.specs.Syntax.{Formula, number, variable, element, negated, inverted, two, both, either}
-use Rattle.ppd_lower.specs.Expressions.{read_scalar, read_element, term_of, wrong_use, name_faults, formula_faults}
+use Rattle.ppd_check_names.specs.declared.fault.Cause.{Cause}
+use Rattle.ppd_check_names.specs.Names.{Scope, found, else_in, meaning, declare, in_innermost, fits_index}
+use Rattle.ppd_check_names.specs.declared.meaning.Meaning.{Meaning}
+use Rattle.ppd_check_names.specs.declared.meaning.Meaning.TheVariants as M
+use Rattle.ppd_check_names.specs.Faults.{unless, if_so}
+use Rattle.ppd_check_names.specs.Syntax.{Formula, number, variable, element, negated, inverted, two, both, either}
+use Rattle.ppd_check_stmts.specs.Expressions.{read_scalar, read_element, term_of, wrong_use, name_faults, formula_faults}
 use Rattle.ppd_check.proofs.Named.Rightly.{IsThere, AreThere, AreAllThere}
 
 -- Lists of no faults.

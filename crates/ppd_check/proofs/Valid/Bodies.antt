@@ -14,14 +14,14 @@ use Rattle.ppd_ast.specs.Order.{StandIn}
 use Rattle.ppd_ast.specs.Uses.{kind_uses}
 use Rattle.ppd_ast.specs.Cells.{NamesWhole, WritesWhole}
 use Rattle.ppd_ast.specs.Valid.{Follow, HasObject, CallsRightly, IsValidUse, IsValidKind, IsValidStmt, IsValidBody}
-use Rattle.ppd_resolve.specs.Fitted.{as_short}
-use Rattle.ppd_resolve.specs.Names.{Scope}
-use Rattle.ppd_lower.specs.Code.{Code, Act, done, act, choice, loop, count}
-use Rattle.ppd_lower.specs.Table.{weight, weights, root, roots, flats, terms, act_terms, kind, numbers, stmts}
-use Rattle.ppd_bodies.specs.Sources.{head_code, head_frame, return_faults, vars, body, bodies, all_stmts}
-use Rattle.ppd_resolve.specs.Globals.{Head}
-use Rattle.ppd_lower.proofs.Table.Joined.{flats_append}
-use Rattle.ppd_lower.proofs.Table.Writing.{length_flats, length_stmts}
+use Rattle.ppd_check_names.specs.Fitted.{as_short}
+use Rattle.ppd_check_names.specs.Names.{Scope}
+use Rattle.ppd_check_stmts.specs.Code.{Code, Act, done, act, choice, loop, count}
+use Rattle.ppd_check_stmts.specs.Table.{weight, weights, root, roots, flats, terms, act_terms, kind, numbers, stmts}
+use Rattle.ppd_check_bodies.specs.Sources.{head_code, head_frame, return_faults, vars, body, bodies, all_stmts}
+use Rattle.ppd_check_names.specs.Globals.{Head}
+use Rattle.ppd_check_stmts.proofs.Table.Joined.{flats_append}
+use Rattle.ppd_check_stmts.proofs.Table.Writing.{length_flats, length_stmts}
 use Rattle.ppd_check.proofs.Valid.Facts.{TermSmall, acts_in, CodeNames, HeadNames, CodeSizes, HeadSizes}
 use Rattle.ppd_check.proofs.Valid.Headers.{HeadersPass}
 use Rattle.ppd_check.proofs.Valid.Lists.{EachFrom, Stands, all_parts, all_three, all_two, each_append, some_and, stands_append}

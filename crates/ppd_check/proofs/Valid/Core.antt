@@ -8,20 +8,20 @@ use Rattle.ppd_ast.specs.declared.program.Program.{Program}
 use Rattle.ppd_ast.specs.Table.{AreChildrenBelow}
 use Rattle.ppd_ast.specs.Valid.{Follow, IsValid, IsValidBody, IsValidStmt}
 use Rattle.ppd_parse.specs.Grammar.{Shape}
-use Rattle.ppd_resolve.specs.declared.fault.Fault.{Fault}
-use Rattle.ppd_resolve.specs.declared.fault.Cause.TheVariants.{NoProcess}
-use Rattle.ppd_resolve.specs.Faults.{unless}
-use Rattle.ppd_resolve.specs.Fitted.{as_short}
-use Rattle.ppd_resolve.specs.Names.{Scope}
-use Rattle.ppd_lower.specs.Code.{Code, places}
-use Rattle.ppd_resolve.specs.Reading.{source_of}
-use Rattle.ppd_lower.specs.Table.{terms}
-use Rattle.ppd_lower.specs.Statements.{row_faults}
-use Rattle.ppd_bodies.specs.Sources.{head_faults, params_faults, return_faults, past_statements, heads, codes, bodies, all_stmts, outer, entry, core, Accepted}
-use Rattle.ppd_resolve.specs.Globals.{Head, Globals, no_globals, globals, items_faults, count_faults}
+use Rattle.ppd_check_names.specs.declared.fault.Fault.{Fault}
+use Rattle.ppd_check_names.specs.declared.fault.Cause.TheVariants.{NoProcess}
+use Rattle.ppd_check_names.specs.Faults.{unless}
+use Rattle.ppd_check_names.specs.Fitted.{as_short}
+use Rattle.ppd_check_names.specs.Names.{Scope}
+use Rattle.ppd_check_stmts.specs.Code.{Code, places}
+use Rattle.ppd_check_names.specs.Reading.{source_of}
+use Rattle.ppd_check_stmts.specs.Table.{terms}
+use Rattle.ppd_check_stmts.specs.Statements.{row_faults}
+use Rattle.ppd_check_bodies.specs.Sources.{head_faults, params_faults, return_faults, past_statements, heads, codes, bodies, all_stmts, outer, entry, core, Accepted}
+use Rattle.ppd_check_names.specs.Globals.{Head, Globals, no_globals, globals, items_faults, count_faults}
 use Rattle.ppd_check.specs.Sizes.{SourceFits}
-use Rattle.ppd_lower.proofs.Table.Writing.{length_flats}
-use Rattle.ppd_bodies.proofs.Heading.{length_bodies}
+use Rattle.ppd_check_stmts.proofs.Table.Writing.{length_flats}
+use Rattle.ppd_check_bodies.proofs.Heading.{length_bodies}
 use Rattle.ppd_check.proofs.Valid.Facts.{HeadNames, SourceNames}
 use Rattle.ppd_check.proofs.Valid.Items.{IsFunction, IsProcess, AreSorted, tree_sorted, AreFit, source_fit, within_limits}
 use Rattle.ppd_check.proofs.Valid.Lists.{EachFrom, all_parts, each_append, each_at, nil_parts, stands_all}

@@ -9,13 +9,13 @@ use Rattle.ppd_ast.specs.Uses.{operators_of, depth_of}
 use Rattle.ppd_ast.specs.Cells.{CoverCells, AreParams, NamesWhole, WritesWhole}
 use Rattle.ppd_ast.specs.Valid.{IsName, AreNamed, HasObject, CallsRightly}
 use Rattle.ppd_parse.specs.Grammar.{Shape}
-use Rattle.ppd_resolve.specs.Fitted.{as_short}
-use Rattle.ppd_resolve.specs.Names.{Scope}
-use Rattle.ppd_lower.specs.Code.{Act, Code, done, act, choice, loop}
-use Rattle.ppd_resolve.specs.Reading.{source_of}
-use Rattle.ppd_lower.specs.Table.{terms, kind}
-use Rattle.ppd_bodies.specs.Sources.{head_code, head_frame, vars, heads, core}
-use Rattle.ppd_resolve.specs.Globals.{Head, globals}
+use Rattle.ppd_check_names.specs.Fitted.{as_short}
+use Rattle.ppd_check_names.specs.Names.{Scope}
+use Rattle.ppd_check_stmts.specs.Code.{Act, Code, done, act, choice, loop}
+use Rattle.ppd_check_names.specs.Reading.{source_of}
+use Rattle.ppd_check_stmts.specs.Table.{terms, kind}
+use Rattle.ppd_check_bodies.specs.Sources.{head_code, head_frame, vars, heads, core}
+use Rattle.ppd_check_names.specs.Globals.{Head, globals}
 
 -- the statements that have none inside them, in order
 abbrev pub acts_in : Code → List Act

@@ -8,9 +8,9 @@ use Rattle.ppd_parse.specs.declared.symbol.Rule.{Rule}
 use Rattle.ppd_parse.specs.declared.symbol.Rule.TheVariants as R
 use Rattle.ppd_parse.specs.Grammar.{Shape, leaf, node, Shapes, no_shapes, shape_then}
 use Rattle.ppd_parse.specs.Stack.{is_assign}
-use Rattle.ppd_resolve.specs.Syntax.{Simple, Row, stop, simple, block, choice, repeat, count, Item, shared, shared_array, semaphore, channel, function, process, Name, Number}
-use Rattle.ppd_resolve.specs.Reading.{Phrase, token, formula, goal, value, calling, changing, row, body, names, items, phrase, as_row, as_block, as_items, before, beyond, is_semicolon, kind, is_name, is_bracket, is_minus, is_int, followed, rows, locals, some_change, for_start, for_row, worded, statement, local_item, changed, shared_item, numbered, number_behind, name_of, as_token, made, said, all_said, last}
-use Rattle.ppd_bodies.specs.Sources.{simple_returns}
+use Rattle.ppd_check_names.specs.Syntax.{Simple, Row, stop, simple, block, choice, repeat, count, Item, shared, shared_array, semaphore, channel, function, process, Name, Number}
+use Rattle.ppd_check_names.specs.Reading.{Phrase, token, formula, goal, value, calling, changing, row, body, names, items, phrase, as_row, as_block, as_items, before, beyond, is_semicolon, kind, is_name, is_bracket, is_minus, is_int, followed, rows, locals, some_change, for_start, for_row, worded, statement, local_item, changed, shared_item, numbered, number_behind, name_of, as_token, made, said, all_said, last}
+use Rattle.ppd_check_bodies.specs.Sources.{simple_returns}
 use Rattle.ppd_check.proofs.Limits.Said.{all_join}
 
 -- a statement that is no `return`

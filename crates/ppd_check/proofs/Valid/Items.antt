@@ -7,10 +7,10 @@ use Rattle.ppd_ast.specs.declared.program.Sem.{Sem}
 use Rattle.ppd_ast.specs.declared.program.Chan.{Chan}
 use Rattle.ppd_ast.specs.Valid.{IsName, AreWithinLimits}
 use Rattle.ppd_parse.specs.Grammar.{Shape}
-use Rattle.ppd_resolve.specs.Syntax.{Source, Item, shared, shared_array, semaphore, channel, function, process}
-use Rattle.ppd_resolve.specs.Reading.{source_of, said, as_items}
-use Rattle.ppd_bodies.specs.Sources.{vars, core}
-use Rattle.ppd_resolve.specs.Globals.{Head, Object, Globals, no_globals, with_item, with_items, globals, sem, chan}
+use Rattle.ppd_check_names.specs.Syntax.{Source, Item, shared, shared_array, semaphore, channel, function, process}
+use Rattle.ppd_check_names.specs.Reading.{source_of, said, as_items}
+use Rattle.ppd_check_bodies.specs.Sources.{vars, core}
+use Rattle.ppd_check_names.specs.Globals.{Head, Object, Globals, no_globals, with_item, with_items, globals, sem, chan}
 use Rattle.ppd_check.specs.Sizes.{IsShort, ItemFits, SourceFits}
 use Rattle.ppd_check.proofs.Valid.Facts.{AreCounted}
 use Rattle.ppd_check.proofs.Valid.Headers.{HeadersPass, ItemPasses, tree_passes}

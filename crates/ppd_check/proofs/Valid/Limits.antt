@@ -11,14 +11,14 @@ use Rattle.ppd_parse.specs.Grammar.{Shape, leaf, node, Shapes, no_shapes, shape_
 use Rattle.ppd_parse.specs.Leaves.{leaves, leaves_in, leaves_of}
 use Rattle.ppd_parse.specs.Limits.{IsTree}
 use Rattle.ppd_parse.proofs.TreeLeaves.{program_leaves}
-use Rattle.ppd_resolve.specs.Reading.{text_of, source_of, said, as_items}
+use Rattle.ppd_check_names.specs.Reading.{text_of, source_of, said, as_items}
 use Rattle.ppd_check.proofs.Valid.Lists.{all_parts}
 use Rattle.ppd_check.proofs.Limits.Trees.{levels, FitsAll, statement_in}
 use Rattle.ppd_check.proofs.Limits.Signs.{fits_program}
 use Rattle.ppd_check.proofs.Limits.Depths.{place_in, statements_program, places_program}
 use Rattle.ppd_check.proofs.Limits.Said.{AreShort, AreShortIn, small_source}
-use Rattle.ppd_resolve.specs.Syntax.{Formula, number, variable, element, negated, inverted, two, both, either, Goal, scalar, item, Value, plain, result, received, Simple, Row, Item, shared, shared_array, semaphore, channel, function, process}
-use Rattle.ppd_resolve.specs.Syntax as S
+use Rattle.ppd_check_names.specs.Syntax.{Formula, number, variable, element, negated, inverted, two, both, either, Goal, scalar, item, Value, plain, result, received, Simple, Row, Item, shared, shared_array, semaphore, channel, function, process}
+use Rattle.ppd_check_names.specs.Syntax as S
 use Rattle.ppd_check.specs.Sizes as Z
 use Rattle.ppd_check.proofs.Limits.Small as L
 

@@ -6,8 +6,8 @@ use Rattle.ppd_ast.specs.declared.program.Var.{Var}
 use Rattle.ppd_ast.specs.declared.program.Program.{Program}
 use Rattle.ppd_ast.specs.Cells.{NamesWhole, WritesWhole}
 use Rattle.ppd_ast.specs.Valid.{HasObject, CallsRightly}
-use Rattle.ppd_lower.specs.Code.{Act, Code, done, act, choice, loop}
-use Rattle.ppd_lower.specs.Table.{act_terms, terms, kind}
+use Rattle.ppd_check_stmts.specs.Code.{Act, Code, done, act, choice, loop}
+use Rattle.ppd_check_stmts.specs.Table.{act_terms, terms, kind}
 use Rattle.ppd_check.proofs.Named.Rightly.{IsNamedRightly, AreNamedRightly}
 use Rattle.ppd_check.proofs.Valid.Facts.{acts_in, CodeNames}
 

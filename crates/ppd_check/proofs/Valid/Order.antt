@@ -5,10 +5,10 @@ use Rattle.std.specs.List.{AllByRecursion, flat_map, range_with_len}
 use Rattle.std.proofs.lemmas.Grind.{flat_map-append}
 use Rattle.ppd_ast.specs.declared.program.Stmt.{Stmt}
 use Rattle.ppd_ast.specs.Order.{inner, inner_of, inner_at, preorder}
-use Rattle.ppd_lower.specs.Code.{Code, Act, done, act, choice, loop, count}
-use Rattle.ppd_lower.specs.Code as C
-use Rattle.ppd_lower.specs.Table.{weight, weights, terms, act_terms, kind, numbers, stmts}
-use Rattle.ppd_lower.proofs.Table.Writing.{length_stmts}
+use Rattle.ppd_check_stmts.specs.Code.{Code, Act, done, act, choice, loop, count}
+use Rattle.ppd_check_stmts.specs.Code as C
+use Rattle.ppd_check_stmts.specs.Table.{weight, weights, terms, act_terms, kind, numbers, stmts}
+use Rattle.ppd_check_stmts.proofs.Table.Writing.{length_stmts}
 use Rattle.ppd_check.proofs.Valid.Facts.{nesting}
 use Rattle.ppd_check.proofs.Valid.Lists.{Stands, some_and, stands_append}
 

@@ -8,23 +8,23 @@ use Rattle.ppd_ast.specs.declared.program.Body.{Body}
 use Rattle.ppd_ast.specs.declared.program.Stmt.{Stmt}
 use Rattle.ppd_ast.specs.Term.{Term}
 use Rattle.ppd_ast.specs.Valid.{EndsBody, IsEnding, last_of}
-use Rattle.ppd_resolve.specs.declared.fault.Cause.TheVariants.{ReturnPlace}
-use Rattle.ppd_resolve.specs.declared.frame.Frame.{Frame}
-use Rattle.ppd_resolve.specs.Faults.{unless, if_so}
-use Rattle.ppd_resolve.specs.Names.{Scope}
-use Rattle.ppd_lower.specs.Code.{Code, Act, Spot, done, act, choice, loop, join, acts, count}
-use Rattle.ppd_lower.specs.Code as C
-use Rattle.ppd_lower.specs.Table.{weights, terms, kind, numbers, stmts, some_root}
-use Rattle.ppd_lower.specs.Statements.{spot_of, put, store_acts, acts_of, code_of, code_of_any, row_code, opened, with_scopes_of, after_row, after_any, after, place_of}
-use Rattle.ppd_resolve.specs.Frames.{declared}
-use Rattle.ppd_resolve.specs.Syntax as S
-use Rattle.ppd_resolve.specs.Syntax.{Simple, Row, Value}
-use Rattle.ppd_bodies.specs.Sources.{simple_returns, returns, last_return, return_faults, ends_with_return, head_code, entry}
-use Rattle.ppd_resolve.specs.Globals.{Head}
-use Rattle.ppd_lower.proofs.Table.Joined.{numbers_join, stmts_join}
-use Rattle.ppd_lower.proofs.Rows.Nested.{join_done}
-use Rattle.ppd_lower.proofs.Rows.Walking.{join_assoc}
-use Rattle.ppd_lower.proofs.Table.Writing.{length_stmts}
+use Rattle.ppd_check_names.specs.declared.fault.Cause.TheVariants.{ReturnPlace}
+use Rattle.ppd_check_names.specs.declared.frame.Frame.{Frame}
+use Rattle.ppd_check_names.specs.Faults.{unless, if_so}
+use Rattle.ppd_check_names.specs.Names.{Scope}
+use Rattle.ppd_check_stmts.specs.Code.{Code, Act, Spot, done, act, choice, loop, join, acts, count}
+use Rattle.ppd_check_stmts.specs.Code as C
+use Rattle.ppd_check_stmts.specs.Table.{weights, terms, kind, numbers, stmts, some_root}
+use Rattle.ppd_check_stmts.specs.Statements.{spot_of, put, store_acts, acts_of, code_of, code_of_any, row_code, opened, with_scopes_of, after_row, after_any, after, place_of}
+use Rattle.ppd_check_names.specs.Frames.{declared}
+use Rattle.ppd_check_names.specs.Syntax as S
+use Rattle.ppd_check_names.specs.Syntax.{Simple, Row, Value}
+use Rattle.ppd_check_bodies.specs.Sources.{simple_returns, returns, last_return, return_faults, ends_with_return, head_code, entry}
+use Rattle.ppd_check_names.specs.Globals.{Head}
+use Rattle.ppd_check_stmts.proofs.Table.Joined.{numbers_join, stmts_join}
+use Rattle.ppd_check_stmts.proofs.Rows.Nested.{join_done}
+use Rattle.ppd_check_stmts.proofs.Rows.Walking.{join_assoc}
+use Rattle.ppd_check_stmts.proofs.Table.Writing.{length_stmts}
 use Rattle.ppd_check.proofs.Valid.Facts.{acts_in}
 use Rattle.ppd_check.proofs.Valid.Headers.{Passes, PassesIfAny, HeadersPass}
 use Rattle.ppd_check.proofs.Valid.Lists.{Stands, all_parts, nil_parts, some_and, stands_append}

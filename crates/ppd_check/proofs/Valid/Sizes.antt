@@ -10,25 +10,25 @@ use Rattle.ppd_ast.specs.Term.{Term}
 use Rattle.ppd_ast.specs.Term as T
 use Rattle.ppd_ast.specs.Uses.{operators_of, depth_of}
 use Rattle.ppd_ast.specs.Valid.{IsName}
-use Rattle.ppd_resolve.specs.declared.meaning.Meaning.TheVariants as M
-use Rattle.ppd_resolve.specs.declared.frame.Variable.{Variable}
-use Rattle.ppd_resolve.specs.declared.frame.Frame.{Frame}
-use Rattle.ppd_resolve.specs.Fitted.{as_short}
-use Rattle.ppd_resolve.specs.declared.meaning.Meaning.{Meaning}
-use Rattle.ppd_resolve.specs.Names.{Scope, meaning}
-use Rattle.ppd_lower.specs.Code.{Code, Act, Spot, done, act, choice, loop, join, acts}
-use Rattle.ppd_lower.specs.Code as C
-use Rattle.ppd_lower.specs.Expressions.{term_of, read_scalar, read_element}
-use Rattle.ppd_resolve.specs.Reading.{goal_formula}
-use Rattle.ppd_resolve.specs.Syntax.{Name, Formula, number, variable, element, negated, inverted, two, both, either, Goal, scalar, item, Value, plain, result, received, Simple, Row}
-use Rattle.ppd_resolve.specs.Syntax as S
-use Rattle.ppd_lower.specs.Table.{spot_terms, act_terms, terms}
-use Rattle.ppd_lower.specs.Statements.{spot, spot_of, put, store_acts, return_acts, acts_of, code_of, code_of_any, row_code, hidden_if, via_hidden, return_via_hidden, goal_name, opened, with_scopes_of, after, after_any, after_row, place_of}
-use Rattle.ppd_resolve.specs.Frames.{declared, hidden_name, after_cells}
-use Rattle.ppd_bodies.specs.Sources.{close_code, head_code, head_frame, outer, entry, with_params, ends_with_return, vars}
-use Rattle.ppd_resolve.specs.Globals.{Head}
+use Rattle.ppd_check_names.specs.declared.meaning.Meaning.TheVariants as M
+use Rattle.ppd_check_names.specs.declared.frame.Variable.{Variable}
+use Rattle.ppd_check_names.specs.declared.frame.Frame.{Frame}
+use Rattle.ppd_check_names.specs.Fitted.{as_short}
+use Rattle.ppd_check_names.specs.declared.meaning.Meaning.{Meaning}
+use Rattle.ppd_check_names.specs.Names.{Scope, meaning}
+use Rattle.ppd_check_stmts.specs.Code.{Code, Act, Spot, done, act, choice, loop, join, acts}
+use Rattle.ppd_check_stmts.specs.Code as C
+use Rattle.ppd_check_stmts.specs.Expressions.{term_of, read_scalar, read_element}
+use Rattle.ppd_check_names.specs.Reading.{goal_formula}
+use Rattle.ppd_check_names.specs.Syntax.{Name, Formula, number, variable, element, negated, inverted, two, both, either, Goal, scalar, item, Value, plain, result, received, Simple, Row}
+use Rattle.ppd_check_names.specs.Syntax as S
+use Rattle.ppd_check_stmts.specs.Table.{spot_terms, act_terms, terms}
+use Rattle.ppd_check_stmts.specs.Statements.{spot, spot_of, put, store_acts, return_acts, acts_of, code_of, code_of_any, row_code, hidden_if, via_hidden, return_via_hidden, goal_name, opened, with_scopes_of, after, after_any, after_row, place_of}
+use Rattle.ppd_check_names.specs.Frames.{declared, hidden_name, after_cells}
+use Rattle.ppd_check_bodies.specs.Sources.{close_code, head_code, head_frame, outer, entry, with_params, ends_with_return, vars}
+use Rattle.ppd_check_names.specs.Globals.{Head}
 use Rattle.ppd_check.specs.Sizes.{operators_in, depth_in, IsSmall, AreSmall, IsShort, GoalFits, ValueFits, ValueFitsIfAny, SimpleFits, SimpleFitsIfAny, RowFits, nested}
-use Rattle.ppd_lower.proofs.Table.Joined.{terms_join}
+use Rattle.ppd_check_stmts.proofs.Table.Joined.{terms_join}
 use Rattle.ppd_check.proofs.Valid.Facts.{TermSmall, nesting, HeadSizes}
 use Rattle.ppd_check.proofs.Limits.Said.{all_join}
 

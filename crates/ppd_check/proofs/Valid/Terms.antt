@@ -8,8 +8,8 @@ use Rattle.ppd_ast.specs.Term.{Term, const, local, local_at, shared, shared_at, 
 use Rattle.ppd_ast.specs.Term as T
 use Rattle.ppd_ast.specs.Table.{AreChildrenBelow}
 use Rattle.ppd_ast.proofs.Terms.{term-node}
-use Rattle.ppd_lower.specs.Table.{weight, root, roots, flat, flats}
-use Rattle.ppd_lower.proofs.Table.Flat.{length_flat}
+use Rattle.ppd_check_stmts.specs.Table.{weight, root, roots, flat, flats}
+use Rattle.ppd_check_stmts.proofs.Table.Flat.{length_flat}
 use Rattle.ppd_check.proofs.Valid.Lists.{EachFrom, Stands, each_append, stands_append}
 
 -- Children.

@@ -10,12 +10,12 @@ use Rattle.ppd_ast.specs.declared.program.Expr.{Expr}
 use Rattle.ppd_ast.specs.declared.program.Stmt.{Stmt}
 use Rattle.ppd_ast.specs.Term.{Term, const, local, local_at, shared, shared_at, neg, not, two, and, or}
 use Rattle.ppd_ast.specs.Uses.{children, kind_uses, stmt_uses}
-use Rattle.ppd_lower.specs.Code.{Code, Act, done, act, choice, loop, count}
-use Rattle.ppd_lower.specs.Code as C
-use Rattle.ppd_resolve.specs.Fitted.{as_short}
-use Rattle.ppd_lower.specs.Table.{weight, weights, root, roots, flat, flats, terms, act_terms, kind, stmts}
-use Rattle.ppd_bodies.specs.Sources.{all_stmts}
-use Rattle.ppd_lower.proofs.Table.Writing.{roots_append}
+use Rattle.ppd_check_stmts.specs.Code.{Code, Act, done, act, choice, loop, count}
+use Rattle.ppd_check_stmts.specs.Code as C
+use Rattle.ppd_check_names.specs.Fitted.{as_short}
+use Rattle.ppd_check_stmts.specs.Table.{weight, weights, root, roots, flat, flats, terms, act_terms, kind, stmts}
+use Rattle.ppd_check_bodies.specs.Sources.{all_stmts}
+use Rattle.ppd_check_stmts.proofs.Table.Writing.{roots_append}
 use Rattle.ppd_check.proofs.Valid.Order.{range_join}
 
 -- Numbers among numbers.

@@ -1,13 +1,13 @@
 use Rattle.std.proofs.Common.{◌∙◌, ap, arith, List, length}
 use Rattle.ppd_parse.specs.Tree.{tree_of}
-use Rattle.ppd_resolve.specs.Fitted.{as_short}
-use Rattle.ppd_resolve.specs.Reading.{source_of}
-use Rattle.ppd_bodies.specs.Sources.{vars}
-use Rattle.ppd_resolve.specs.Globals.{globals}
+use Rattle.ppd_check_names.specs.Fitted.{as_short}
+use Rattle.ppd_check_names.specs.Reading.{source_of}
+use Rattle.ppd_check_bodies.specs.Sources.{vars}
+use Rattle.ppd_check_names.specs.Globals.{globals}
 use Rattle.ppd_check.proofs.Sourced.{parts_of, parts_found, parts_table}
-use Rattle.ppd_resolve.specs.declared.frame.Variable.{Variable}
+use Rattle.ppd_check_names.specs.declared.frame.Variable.{Variable}
 use Rattle.ppd_check.proofs.CheckCosts.{root_few, source_few, all_few}
-use Rattle.ppd_resolve.proofs.Declared.Costs.{heads_apart}
+use Rattle.ppd_check_names.proofs.Declared.Costs.{heads_apart}
 use Rattle.ppd_check.proofs.checking.check_nodes.Goals as goal
 
 pub returns-clause-found : goal.returns-clause-found

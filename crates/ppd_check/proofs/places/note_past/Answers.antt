@@ -2,8 +2,8 @@ use Rattle.std.proofs.Common.{rules, ◌∙◌, sym, ap, get_or}
 use Rattle.ppd_ast.specs.declared.limits.TheConstants.{MOST_STATEMENTS}
 use Rattle.ppd_ast.specs.declared.program.Place.{Place}
 use Rattle.std.proofs.lemmas.List.Sorted.{answers_always}
-use Rattle.ppd_resolve.specs.Faults.{first_of_both}
-use Rattle.ppd_resolve.proofs.Found.First.{first_of_both_none}
+use Rattle.ppd_check_names.specs.Faults.{first_of_both}
+use Rattle.ppd_check_names.proofs.Found.First.{first_of_both_none}
 use Rattle.ppd_check.proofs.PastMost.{none_past, first_past, from_key}
 use Rattle.ppd_check.proofs.places.note_past.Goals as goal
 

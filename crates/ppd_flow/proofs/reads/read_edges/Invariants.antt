@@ -1,11 +1,11 @@
 use Rattle.std.proofs.Common.{ℕ, List, drop, Result}
 use Rattle.ppd_model.specs.declared.flow.FlowEdge.{FlowEdge}
-use Rattle.ppd_past.specs.declared.flow_error.FlowError.{FlowError}
-use Rattle.ppd_past.specs.ByReplays.{IsFoundBy}
-use Rattle.ppd_walk.specs.SharedCells.{answer_of}
+use Rattle.ppd_flow_past.specs.declared.flow_error.FlowError.{FlowError}
+use Rattle.ppd_flow_past.specs.ByReplays.{IsFoundBy}
+use Rattle.ppd_flow_shared.specs.SharedCells.{answer_of}
 use Rattle.ppd_flow.specs.Answers.{reads_at, reads_replays_at}
 use Rattle.ppd_flow.proofs.reads.read_edges.Given as goal
-use Rattle.ppd_local.proofs.Lefts.{prefixed}
+use Rattle.ppd_flow_local.proofs.Lefts.{prefixed}
 
 abbrev pub invariant-loop-read : goal.invariant-loop-read
 invariant-loop-read g l =

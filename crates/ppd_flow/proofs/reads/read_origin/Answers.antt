@@ -1,10 +1,10 @@
 use Rattle.std.proofs.Common.{Ok, sym, subst}
 use Rattle.ppd_sem.specs.declared.event.Spot.{Spot}
-use Rattle.ppd_search.specs.Locals.{local_origin, local_replays}
-use Rattle.ppd_search.specs.Seen.{Seen}
-use Rattle.ppd_search.specs.Shared.{of_process}
-use Rattle.ppd_past.specs.ByReplays.{IsFoundBy}
-use Rattle.ppd_walk.specs.SharedCells.{answer_of}
+use Rattle.ppd_flow_model.specs.Locals.{local_origin, local_replays}
+use Rattle.ppd_flow_model.specs.Seen.{Seen}
+use Rattle.ppd_flow_model.specs.Shared.{of_process}
+use Rattle.ppd_flow_past.specs.ByReplays.{IsFoundBy}
+use Rattle.ppd_flow_shared.specs.SharedCells.{answer_of}
 use Rattle.ppd_flow.specs.Answers.{spot_origin, spot_replays}
 use Rattle.ppd_flow.proofs.Seens.{same_seen}
 use Rattle.ppd_flow.proofs.reads.read_origin.Goals as goal

@@ -1,5 +1,5 @@
-use Rattle.ppd_search.specs.Shared.{last_replays}
-use Rattle.ppd_walk.specs.SharedCells.{seens_in}
+use Rattle.ppd_flow_model.specs.Shared.{last_replays}
+use Rattle.ppd_flow_shared.specs.SharedCells.{seens_in}
 use Rattle.ppd_flow.proofs.Costing.{costs_last}
 use Rattle.ppd_flow.proofs.OfRuns.{gives_last}
 use Rattle.ppd_flow.proofs.value.last.Goals as goal

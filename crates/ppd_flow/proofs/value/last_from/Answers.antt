@@ -1,7 +1,7 @@
 use Rattle.std.proofs.Common.{◌+◌}
-use Rattle.ppd_past.specs.SeenBy.{steps_in}
-use Rattle.ppd_search.specs.Shared.{last_replays}
-use Rattle.ppd_walk.specs.SharedCells.{seens_in}
+use Rattle.ppd_flow_past.specs.SeenBy.{steps_in}
+use Rattle.ppd_flow_model.specs.Shared.{last_replays}
+use Rattle.ppd_flow_shared.specs.SharedCells.{seens_in}
 use Rattle.ppd_flow.proofs.Costing.{costs_last}
 use Rattle.ppd_flow.proofs.OfRuns.{gives_last}
 use Rattle.ppd_flow.proofs.value.last_from.Goals as goal

@@ -7,7 +7,7 @@ use Rattle.ppd_session.specs.declared.place.Place.{Place}
 use Rattle.ppd_session.proofs.Keeping.{told_more}
 use Rattle.ppd_session.proofs.LastKept.{last_replay_fails}
 use Rattle.ppd_session.proofs.lasts.last_kept.Goals as goal
-use Rattle.ppd_walk.specs.declared.last.LastEdge.{LastEdge}
+use Rattle.ppd_flow_shared.specs.declared.last.LastEdge.{LastEdge}
 
 abbrev place_of : LastEdge → Place
 place_of l = record { process = l.edge.process; interval = l.interval }

@@ -1,5 +1,5 @@
 use Rattle.std.proofs.Common.{refl}
-use Rattle.ppd_words.specs.Reads.{texts_in}
+use Rattle.ppd_top_words.specs.Reads.{texts_in}
 use Rattle.ppd_top.specs.Words.{command_of}
 use Rattle.ppd_top.specs.Ran.Comes.{drill_done}
 use Rattle.ppd_top.proofs.Asked.{asks_drill, asks_query, asks_recording, asks_source}

@@ -1,6 +1,6 @@
 use Rattle.std.proofs.Common.{Err, List, ℕ, inr, refl, ap, subst, sym, ◌∙◌}
 use Rattle.ppd_io.specs.Content.{Loads}
-use Rattle.ppd_query.specs.Queries.{query_of}
+use Rattle.ppd_top_query.specs.Queries.{query_of}
 use Rattle.ppd_top.specs.Output.{standing}
 use Rattle.ppd_top.specs.Ran.{Queries, around}
 use Rattle.ppd_top.specs.Ran.Comes.{query_done}

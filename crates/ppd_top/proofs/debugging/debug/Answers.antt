@@ -1,5 +1,5 @@
 use Rattle.std.proofs.Common.{◌≡◌, refl, subst}
-use Rattle.ppd_stored.specs.Recordings.{IsNotRecalled, IsRefusedBy}
+use Rattle.ppd_codec_runs.specs.Recordings.{IsNotRecalled, IsRefusedBy}
 use Rattle.ppd_top.specs.Ran.Debugs.{recalled, recording_refused}
 use Rattle.ppd_top.specs.Top.{Finished}
 use Rattle.ppd_top.proofs.debugging.debug.Goals as goal

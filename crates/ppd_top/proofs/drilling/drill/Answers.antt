@@ -1,6 +1,6 @@
 use Rattle.std.proofs.Common.{◌≡◌, ◌∙◌, subst}
 use Rattle.ppd_check.specs.Read.{IsRead, IsRefused}
-use Rattle.ppd_drill.specs.Drills.{generated}
+use Rattle.ppd_top_drill.specs.Drills.{generated}
 use Rattle.ppd_top.specs.Ran.Drilled.{drilled, refused_drill}
 use Rattle.ppd_top.proofs.drilling.drill.Goals as goal
 

@@ -1,5 +1,5 @@
 use Rattle.std.proofs.Common.{◌≡◌, ◌∙◌, inl, inr, sym}
-use Rattle.ppd_query.specs.Queries.{query_of}
+use Rattle.ppd_top_query.specs.Queries.{query_of}
 use Rattle.ppd_top.proofs.Queried.{tells_failure, tells_text}
 use Rattle.ppd_top.proofs.querying.tell.Goals as goal
 

@@ -1,9 +1,9 @@
 use Rattle.std.proofs.Common.{◌≡◌, ◌∙◌, ◌+◌, ◌<◌, ◌++◌, ℕ, List, length, map, drop, ap, sym, arith}
 use Rattle.std.specs.List.{range_with_len}
 use Rattle.std.proofs.lemmas.List.{append_assoc}
-use Rattle.ppd_past.specs.declared.past.Past.{Past}
-use Rattle.ppd_past.specs.SeenBy.{seen_in}
-use Rattle.ppd_walk.specs.SharedCells.{seens_in}
+use Rattle.ppd_flow_past.specs.declared.past.Past.{Past}
+use Rattle.ppd_flow_past.specs.SeenBy.{seen_in}
+use Rattle.ppd_flow_shared.specs.SharedCells.{seens_in}
 use Rattle.ppd_whole.specs.Answers.{all_intervals, intervals_from, intervals_of}
 use Rattle.ppd_whole.proofs.Intervals.{intervals_drop}
 use Rattle.ppd_whole.proofs.jobs.jobs_of.Goals as goal

@@ -3,12 +3,12 @@ use Rattle.std.specs.List.{flat_map}
 use Rattle.std.proofs.Math.Seq.{drop-append_seam, take-append_seam}
 use Rattle.std.proofs.lemmas.List.{map-append}
 use Rattle.ppd_model.specs.declared.flow.Item.{Item}
-use Rattle.ppd_past.specs.declared.past.Past.{Past}
-use Rattle.ppd_past.specs.SeenBy.{seen_in}
-use Rattle.ppd_search.specs.Seen.{Seen}
+use Rattle.ppd_flow_past.specs.declared.past.Past.{Past}
+use Rattle.ppd_flow_past.specs.SeenBy.{seen_in}
+use Rattle.ppd_flow_model.specs.Seen.{Seen}
 use Rattle.ppd_sem.specs.declared.event.Event.{Event}
-use Rattle.ppd_linked.specs.Joined.{events_in}
-use Rattle.ppd_walk.specs.SharedCells.{seens_in}
+use Rattle.law_whole.specs.Joined.{events_in}
+use Rattle.ppd_flow_shared.specs.SharedCells.{seens_in}
 use Rattle.ppd_whole.proofs.Intervals.{seens_drop, seens_take}
 use Rattle.ppd_whole.proofs.processes.events_of_all.Goals as goal
 

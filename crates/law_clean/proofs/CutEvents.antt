@@ -1,0 +1,121 @@
+-- The edges of an event of a clean past: the search by the whole logs, over what the processes have after beginnings of
+-- the schedule, finds those that it finds over what they have at the end.
+use Rattle.std.proofs.Common.{◌≡◌, ℕ, true, zero, suc, ◌+◌, List, [], ◌∷◌, ◌++◌, length, Option, Some, None, Ok, refl, ap, ap₂, sym, subst, ◌∙◌, arith}
+use Rattle.std.proofs.lemmas.Option.{none-some}
+use Rattle.std.specs.Prelude.{is_some, slice_get, zip}
+use Rattle.ppd_ast.specs.declared.plan.Plan.{Plan}
+use Rattle.ppd_ast.specs.declared.plan.Policy.{Policy}
+use Rattle.ppd_ast.specs.declared.program.Program.{Program}
+use Rattle.ppd_ast.specs.Valid.{IsValid}
+use Rattle.ppd_ast.proofs.ValidLaws.{slice_get_there}
+use Rattle.ppd_blocks.specs.Blocks.{plan_of}
+use Rattle.ppd_entry.specs.declared.entry.Logs.{Logs}
+use Rattle.ppd_sem.specs.declared.event.Access.{Access}
+use Rattle.ppd_sem.specs.declared.event.Spot.{Spot}
+use Rattle.ppd_sem.specs.declared.event.Spot.TheVariants.{Local, Shared}
+use Rattle.ppd_model.specs.declared.flow.EdgeKind.TheVariants.{Control}
+use Rattle.ppd_model.specs.declared.flow.Item.TheVariants as item
+use Rattle.ppd_model.specs.declared.trace.TracedEvent.{TracedEvent}
+use Rattle.ppd_model.specs.Earlier.{AreEarlier, EachNamesEarlier}
+use Rattle.ppd_model.specs.FlowbackEdges.{bare_edge}
+use Rattle.ppd_model.specs.FullTrace.{Tag}
+use Rattle.ppd_model.specs.HappenedBefore.{Before, EdgeBefore, edge, node}
+use Rattle.ppd_model.specs.Intervals.{Split, splits}
+use Rattle.ppd_model.specs.Logs.{closed_logs}
+use Rattle.ppd_model.specs.Record.{sync_record}
+use Rattle.ppd_model.specs.Schedule.{run}
+use Rattle.ppd_model.specs.Story.{story, told}
+use Rattle.ppd_model.specs.World.{World}
+use Rattle.ppd_model.proofs.Earlier.{name_earlier}
+use Rattle.ppd_flow_model.specs.Control.{control_origin}
+use Rattle.ppd_flow_model.specs.Found.{and_more, before_others, edges_if, event_edges, found_edges, pair_edges, read_edge, read_edges, read_if, sync_edges}
+use Rattle.ppd_flow_model.specs.Locals.{local_origin}
+use Rattle.ppd_flow_model.specs.Own.{read_from}
+use Rattle.ppd_flow_model.specs.Seen.{Seen, items_at, seen_of}
+use Rattle.law_flow_shared.specs.Edges.SharedEdges.{all_seen}
+use Rattle.law_flow_shared.proofs.Edges.StepEvents.Processes.{Facts, facts}
+use Rattle.law_flow_shared.proofs.Edges.StepEvents.Timeline.{did}
+use Rattle.law_clean.proofs.CutShared.{HasEnded, HasPlace, IsBegun, here_in, pair_same, shared_same}
+use Rattle.law_clean.proofs.OwnSame.{control_same, item_is, item_same, local_same}
+
+-- as many writers as reads
+same_many : (p k : ℕ) (as' : List Access) (ws : List Tag) → AreEarlier p k as' ws → length as' ≡ length ws
+same_many p k [] [] h = refl
+same_many p k [] (w ∷ ws) h = absurd h
+same_many p k (a ∷ as') [] h = absurd h
+same_many p k (a ∷ as') (w ∷ ws) h = ap (λ z. suc z) (same_many p k as' ws h.1)
+
+each_at : (p k : ℕ) (es : List TracedEvent) (n : ℕ) (e : TracedEvent) → EachNamesEarlier p k es → slice_get es n ≡ Some e → length e.event.reads ≡ length e.writers
+each_at p k [] n e h f = absurd (none-some e f)
+each_at p k (y ∷ es) zero e h f =
+    let same : y ≡ e = ap (λ (o : Option TracedEvent). elim o [ None ↦ y | Some z ↦ z ]) f in
+    subst (λ (z : TracedEvent). length z.event.reads ≡ length z.writers) same (same_many p k y.event.reads y.writers h.0.writers)
+each_at p k (y ∷ es) (suc n) e h f = each_at p (k + 1) es n e h.1 f
+
+module _ (program : Program) (policy : Policy) (budget : ℕ) (h : List ℕ) (w : World) (v : IsValid program)
+    (r : run program (plan_of program policy) budget h ≡ Some w) (xs : List Seen) (p k j : ℕ) (y : Split)
+    (at : slice_get (splits program (plan_of program policy) budget (story program (plan_of program policy) budget h)) p ≡ Some y)
+    (place : HasPlace program policy budget h w v r xs p k j)
+    (keeps : (q i : ℕ) → EdgeBefore program (sync_record program (plan_of program policy) budget h) (edge q i) (edge p (here_in program policy budget h w v r xs p k j y at place)) → HasEnded program policy budget h w v r xs q i)
+    (keeps_ends : (e : TracedEvent) → slice_get place.begun.split.trace.events place.number ≡ Some e → is_some e.event.number ≡ true
+    → (q i : ℕ) → Before program (sync_record program (plan_of program policy) budget h) (node q i) (node p (here_in program policy budget h w v r xs p k j y at place)) → HasEnded program policy budget h w v r xs q i) where
+  abbrev plan : Plan
+  plan = plan_of program policy
+
+  abbrev all : List Seen
+  all = all_seen program plan budget h
+
+  abbrev logs : Logs
+  logs = closed_logs program plan budget h
+
+  abbrev b : IsBegun program policy budget h w v r xs p
+  b = place.begun
+
+  fy : Facts program plan budget h v p y
+  fy = facts program plan budget h v p y at
+
+  at' : slice_get (splits program plan budget (story program plan budget (b.before ++ b.rest))) p ≡ Some y
+  at' = subst (λ l. slice_get (splits program plan budget (story program plan budget l)) p ≡ Some y) b.schedule_is at
+
+  -- one read of the event
+  one_read : (e : TracedEvent) → slice_get b.split.trace.events place.number ≡ Some e → (i : ℕ) (a : Access) (t : Tag) → slice_get (zip e.event.reads e.writers) i ≡ Some (a, t) → (s : Spot) → a.spot ≡ s
+      → read_edge program plan logs xs p k j a s ≡ read_edge program plan logs all p k j a s
+  one_read e is i a t z (Local frame c) spot =
+      ap (λ q. Ok (read_from a (local_origin program plan q p k j frame c))) b.seen_is
+      ∙ ap (λ o. Ok (read_from a o)) (local_same program policy budget b.before b.rest p v b.split y b.there at' k j place.number place.placed e is i frame c a t z spot)
+      ∙ sym (ap (λ q. Ok (read_from a (local_origin program plan q p k j frame c))) fy.seen_is)
+  one_read e is i a t z (Shared c) spot = ap (read_if a) (shared_same program policy budget h w v r xs p k j y at place c keeps)
+
+  all_reads : (e : TracedEvent) → slice_get b.split.trace.events place.number ≡ Some e → (as' : List Access) (ws : List Tag) → length as' ≡ length ws
+      → ((i : ℕ) (a : Access) (t : Tag) → slice_get (zip as' ws) i ≡ Some (a, t) → (m : ℕ) × (slice_get (zip e.event.reads e.writers) m ≡ Some (a, t)))
+      → read_edges program plan logs xs p k j as' ≡ read_edges program plan logs all p k j as'
+  all_reads e is [] ws same among = refl
+  all_reads e is (a ∷ as') [] same among = absurd (let z : suc (length as') ≡ 0 = same in omega (arith, z))
+  all_reads e is (a ∷ as') (t ∷ ws) same among =
+      let m = among 0 a t refl in
+      ap₂ before_others (one_read e is m.0 a t m.1 a.spot refl)
+      (all_reads e is as' ws (let z : suc (length as') ≡ suc (length ws) = same in omega (arith, z)) (λ i c u g. among (suc i) c u g))
+
+  sync_same : (e : TracedEvent) → slice_get b.split.trace.events place.number ≡ Some e → (o : Option ℕ) → e.event.number ≡ o → sync_edges program logs xs p k j o ≡ sync_edges program logs all p k j o
+  sync_same e is None number = refl
+  sync_same e is (Some i) number = ap pair_edges (pair_same program policy budget h w v r xs p k j y at place (keeps_ends e is (ap is_some number)))
+
+  event_same : (e : TracedEvent) → slice_get b.split.trace.events place.number ≡ Some e → event_edges program plan logs xs p k j e.event ≡ event_edges program plan logs all p k j e.event
+  event_same e is =
+      let fx : Facts program plan budget b.before v p b.split = facts program plan budget b.before v p b.split b.there in
+      let many : length e.event.reads ≡ length e.writers =
+      each_at p 0 b.split.trace.events place.number e (subst (EachNamesEarlier p 0) (sym fx.events_are) (name_earlier program plan budget (story program plan budget b.before) p (did (told program plan budget b.before) p))) is in
+      ap₂ and_more (all_reads e is e.event.reads e.writers many (λ i a t g. (i, g)))
+      (ap₂ (λ es o. es ++ bare_edge Control o ∷ []) (sync_same e is e.event.number refl)
+      (ap (λ q. control_origin program plan q p k j e.event.stmt) b.seen_is
+      ∙ control_same program policy budget b.before b.rest p v b.split y b.there at' k j place.number place.placed e is
+      ∙ sym (ap (λ q. control_origin program plan q p k j e.event.stmt) fy.seen_is)))
+
+  pub event_edges_same : found_edges program plan logs xs p k j ≡ found_edges program plan logs all p k j
+  event_edges_same =
+      let s = slice_get_there b.split.trace.events place.number place.within in
+      let mine : slice_get (items_at (seen_of b.split) k) j ≡ Some (item.Own s.0.event) = item_is program policy budget b.before b.rest p v b.split y b.there at' k j place.number place.placed s.0 s.1 in
+      let both : slice_get (items_at (seen_of b.split) k) j ≡ slice_get (items_at (seen_of y) k) j = item_same program policy budget b.before b.rest p v b.split y b.there at' k j place.number place.placed s.0 s.1 in
+      ap (edges_if program plan logs xs p k j) (ap (λ q. slice_get (items_at q k) j) b.seen_is ∙ mine)
+      ∙ ap (λ z. Some z) (event_same s.0 s.1)
+      ∙ sym (ap (edges_if program plan logs all p k j) (ap (λ q. slice_get (items_at q k) j) fy.seen_is ∙ sym both ∙ mine))

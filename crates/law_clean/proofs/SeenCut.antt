@@ -1,0 +1,196 @@
+-- What replays of cut logs give of each process: what it has after a beginning of the schedule, if no race has an edge
+-- of it up to there.
+use Rattle.std.proofs.Common.{◌≡◌, ℕ, zero, suc, ◌+◌, ◌<◌, ◌≤◌, Bool, true, false, List, [], ◌∷◌, ◌++◌, length, map, Option, Some, None, refl, ap, ap₂, sym, subst, ◌∙◌, arith, append-nil, true≢false, if◌then◌else◌}
+use Rattle.std.proofs.lemmas.Option.{get_or_from_slice_get, none-some, slice_get-map}
+use Rattle.std.specs.Prelude.{filter_map, is_some, option_map, option_to_list, slice_get}
+use Rattle.ppd_ast.specs.declared.plan.Plan.{Plan}
+use Rattle.ppd_ast.specs.declared.plan.Policy.{Policy}
+use Rattle.ppd_ast.specs.declared.program.Program.{Program}
+use Rattle.ppd_ast.specs.Valid.{IsValid}
+use Rattle.ppd_ast.proofs.ValidLaws.{slice_get_there}
+use Rattle.ppd_blocks.specs.Blocks.{plan_of}
+use Rattle.ppd_entry.specs.declared.entry.Entry.{Entry}
+use Rattle.ppd_entry.specs.declared.entry.Entry.TheVariants as entry
+use Rattle.ppd_entry.specs.declared.entry.Logs.{Logs}
+use Rattle.ppd_entry.specs.IntervalLogs.{indexed, interval_log}
+use Rattle.law_replay.specs.InForce.Values.{AreRead, begun_in_force}
+use Rattle.ppd_model.specs.declared.flow.Item.{Item}
+use Rattle.ppd_model.specs.declared.state.Logging.{Logging}
+use Rattle.ppd_model.specs.declared.tracing.Story.{Story}
+use Rattle.ppd_model.specs.Bounds.{AreEach}
+use Rattle.ppd_model.specs.Extents.{Extent, IsSameInterval, extents}
+use Rattle.ppd_model.specs.Forward.{edge_in}
+use Rattle.ppd_model.specs.Intervals.{Span, Split, items_of, splits}
+use Rattle.ppd_model.specs.Logs.{closed_log, closed_logs, log_of, loggings, logs_from}
+use Rattle.ppd_model.specs.RecordedSets.{sync_in}
+use Rattle.ppd_model.specs.Schedule.{IsWhole, run}
+use Rattle.ppd_model.specs.SharedReads.{need_after}
+use Rattle.ppd_model.specs.Story.{Moment, moment_of, own_moments, steps_of, story, told}
+use Rattle.ppd_model.specs.Synchronizations.{Sync, sync_of, syncs_of}
+use Rattle.ppd_model.proofs.Forward.{fewer}
+use Rattle.ppd_model.proofs.LoggedSpans.{intervals_of_logs}
+use Rattle.law_steps.proofs.OpenBlocks.Runs.{schedules_run}
+use Rattle.ppd_flow_past.specs.SeenBy.{rounds_by, seen_by}
+use Rattle.law_flow_own.proofs.Places.LeafTells.{split_is}
+use Rattle.law_replay.proofs.Theorem.Processes.{process_there}
+use Rattle.law_replay.specs.Theorem.Laws.{modelled_of, replay_of}
+use Rattle.law_steps.proofs.OpenBlocks.Told.{own_steps_are}
+use Rattle.ppd_flow_model.specs.Ends.{ending, ends_edge, is_sync}
+use Rattle.ppd_flow_model.specs.Seen.{Seen, seen_of}
+use Rattle.ppd_flow_model.specs.Shared.{seen_at}
+use Rattle.ppd_sem.specs.declared.proc.Need.TheVariants.{Read}
+use Rattle.ppd_model.specs.Intervals.{split_of}
+use Rattle.law_flow_shared.proofs.Edges.PairPlaces.Leading.{IsSyncStep, sync_step}
+use Rattle.law_flow_shared.proofs.Edges.Sources.LastOrigins.{below_moments, split_there}
+use Rattle.law_flow_shared.proofs.Edges.StepEvents.Timeline.{did, none_did}
+use Rattle.law_flow_shared.proofs.Edges.StepEvents.Writers.{edge_is_count}
+use Rattle.law_clean.specs.Cuts.{cut, cut_at, cut_from, cut_logs, is_sync_there}
+use Rattle.law_clean.specs.Ordered.{AreUnracedReads, IsUnracedIn}
+use Rattle.law_clean.proofs.CutLogs.{cut_of_log}
+use Rattle.law_clean.proofs.CutSeen.{cut_seen, items_same, logging_at, rounds_same, same_blocks, same_parents}
+use Rattle.law_clean.proofs.CutShared.{HasEnded, IsBegun}
+use Rattle.law_clean.proofs.EdgeEnds.{EndsEdge, edge_ends, edge_own}
+use Rattle.law_clean.proofs.ReadsAnswered.{unraced_reads}
+use Rattle.law_clean.proofs.Replays.{replays_alike}
+
+-- ---- cut lists
+
+cut_from_at : (last : ℕ → Option ℕ) (lists : List (List Entry)) (p q : ℕ) (es : List Entry) → slice_get lists q ≡ Some es → slice_get (cut_from last p lists) q ≡ Some (cut (last (p + q)) es)
+cut_from_at last [] p q es e = absurd (none-some es e)
+cut_from_at last (x ∷ xs) p zero es e =
+    let z : p ≡ p + 0 = omega arith in
+    ap (λ k. Some (cut (last k) x)) z ∙ ap (λ o. option_map (cut (last (p + 0))) o) e
+cut_from_at last (x ∷ xs) p (suc q) es e =
+    let z : (p + 1) + q ≡ p + suc q = omega arith in
+    cut_from_at last xs (p + 1) q es e ∙ ap (λ k. Some (cut (last k) es)) z
+
+-- past all synchronizations no synchronization ends an edge
+past_syncs : (i : ℕ) (es : List Entry) → length (filter_map sync_in es) ≤ i → is_sync_there (slice_get es (ending i es)) ≡ false
+past_syncs i [] le = refl
+past_syncs zero (entry.Sync k o m z rs ws ∷ es) le = absurd (omega (arith, le))
+past_syncs zero (entry.End s m rs ws ∷ es) le = refl
+past_syncs zero (entry.Prelog b vs ∷ es) le = past_syncs zero es le
+past_syncs zero (entry.Postlog b vs ∷ es) le = past_syncs zero es le
+past_syncs zero (entry.Unit u vs ∷ es) le = past_syncs zero es le
+past_syncs (suc i) (entry.Sync k o m z rs ws ∷ es) le = past_syncs i es (omega (arith, le))
+past_syncs (suc i) (entry.End s m rs ws ∷ es) le = past_syncs (suc i) es le
+past_syncs (suc i) (entry.Prelog b vs ∷ es) le = past_syncs (suc i) es le
+past_syncs (suc i) (entry.Postlog b vs ∷ es) le = past_syncs (suc i) es le
+past_syncs (suc i) (entry.Unit u vs ∷ es) le = past_syncs (suc i) es le
+
+-- so a log that is cut after such an edge stays whole
+pub stays_whole : (i : ℕ) (es : List Entry) → length (filter_map sync_in es) ≤ i → cut (Some i) es ≡ es
+stays_whole i es le = ap (λ b. if b then cut_at es (ending i es + 1) else es) (past_syncs i es le)
+
+pub one_of : (o : Option Sync) → is_some o ≡ true → length (option_to_list o) ≡ 1
+one_of None e = absurd (true≢false (sym e))
+one_of (Some z) e = refl
+
+-- a process that synchronized has intervals
+pub has_split : (program : Program) (plan : Plan) (budget : ℕ) (g : List ℕ) (q i : ℕ) → i < edge_in program plan budget g q → (x : Split) × (slice_get (splits program plan budget (story program plan budget g)) q ≡ Some x)
+has_split program plan budget g q i lt =
+    let t = slice_get_there (syncs_of (did (told program plan budget g) q)) i (subst (λ z. i < z) (edge_is_count program plan budget g q) lt) in
+    let st : IsSyncStep (did (told program plan budget g) q) i t.0 = sync_step (did (told program plan budget g) q) i t.0 t.1 in
+    split_there program plan budget (story program plan budget g) 0 (told program plan budget g).moments q
+    (below_moments (told program plan budget g).moments q st.before st.step st.after st.are)
+
+module _ (program : Program) (policy : Policy) (budget : ℕ) (h : List ℕ) (v : IsValid program) (whole : IsWhole program (plan_of program policy) budget h) where
+  abbrev plan : Plan
+  plan = plan_of program policy
+
+  abbrev own_log : ℕ → List Entry
+  own_log q = closed_log (log_of program plan budget q (own_moments (told program plan budget h) q))
+
+  -- the replays of cut logs
+  pub seen_there : (last : ℕ → Option ℕ) (q : ℕ) (y : Split) → slice_get (splits program plan budget (story program plan budget h)) q ≡ Some y
+      → seen_at (map (λ es. seen_by program plan budget es) (cut_logs last (closed_logs program plan budget h)).lists) q
+      ≡ seen_by program plan budget (cut (last q) (closed_log (log_of program plan budget q (own_moments (told program plan budget h) q))))
+  seen_there last q y at =
+      let lists : List (List Entry) = (closed_logs program plan budget h).lists in
+      let listed : slice_get lists q ≡ Some (closed_log (log_of program plan budget (0 + q) (own_moments (told program plan budget h) q))) =
+      slice_get-map closed_log (logs_from program plan budget 0 (told program plan budget h).moments) q
+      ∙ ap (option_map closed_log) (logging_at program plan budget (story program plan budget h) 0 (told program plan budget h).moments q y at) in
+      let z : 0 + q ≡ q = omega arith in
+      get_or_from_slice_get (map (λ es. seen_by program plan budget es) (cut_from last 0 lists)) q
+      (seen_by program plan budget (cut (last (0 + q)) (closed_log (log_of program plan budget (0 + q) (own_moments (told program plan budget h) q)))))
+      (record { items = []; blocks = []; rounds = [] })
+      (slice_get-map (λ es. seen_by program plan budget es) (cut_from last 0 lists) q
+      ∙ ap (option_map (λ es. seen_by program plan budget es)) (cut_from_at last lists 0 q (closed_log (log_of program plan budget (0 + q) (own_moments (told program plan budget h) q))) listed))
+      ∙ ap (λ k. seen_by program plan budget (cut (last k) (closed_log (log_of program plan budget k (own_moments (told program plan budget h) q))))) z
+
+  -- ---- where a synchronization ends the last edge
+
+  pub cut_begun : (xs : List Seen) (q i : ℕ) → i < edge_in program plan budget h q → ((e : ℕ) → e ≤ i → IsUnracedIn program plan budget h q e)
+      → seen_at xs q ≡ seen_by program plan budget (cut (Some i) (own_log q)) → HasEnded program policy budget h whole.last v whole.runs xs q i
+  cut_begun xs q i ended clear seen =
+      let none : edge_in program plan budget [] q ≡ 0 = edge_is_count program plan budget [] q ∙ ap (λ ts. length (syncs_of ts)) (none_did program plan budget q) in
+      let ends : EndsEdge program plan budget h q i = edge_ends program plan budget h q i ended none in
+      let g : List ℕ = ends.before ++ q ∷ [] in
+      let more : length (option_to_list (sync_of (moment_of program plan (told program plan budget ends.before) q).taken)) ≡ 1 = one_of (sync_of (moment_of program plan (told program plan budget ends.before) q).taken) ends.is_sync in
+      let grew : edge_in program plan budget g q ≡ edge_in program plan budget ends.before q + length (option_to_list (sync_of (moment_of program plan (told program plan budget ends.before) q).taken)) =
+      edge_own program plan budget ends.before q ends.there in
+      let is : edge_in program plan budget ends.before q ≡ i = ends.edge_is in
+      let x = has_split program plan budget g q i (omega (arith, grew, more, is)) in
+      record {
+        begun = record {
+          before = g;
+          rest = ends.rest;
+          schedule_is = ends.schedule_is;
+          split = x.0;
+          there = x.1;
+          seen_is = seen
+              ∙ ap (seen_by program plan budget) (cut_of_log program policy budget h q i v whole ends clear)
+              ∙ cut_seen program policy budget h q i v whole ends clear x.0 x.1;
+        };
+        ended = omega (arith, grew, more, is);
+      }
+
+  -- ---- where none does, and the log stays whole
+
+  module _ (p : ℕ) (y : Split) (at : slice_get (splits program plan budget (story program plan budget h)) p ≡ Some y)
+      (clear : (e : ℕ) → e ≤ edge_in program plan budget h p → IsUnracedIn program plan budget h p e) where
+    there : program.functions + p < length program.bodies
+    there = process_there program plan budget h p y at
+
+    h_is : h ++ [] ≡ h
+    h_is = append-nil h
+
+    runs : run program plan budget (h ++ []) ≡ Some whole.last
+    runs = subst (λ l. run program plan budget l ≡ Some whole.last) (sym h_is) whole.runs
+
+    reads_clear : AreUnracedReads program plan budget h (h ++ []) p
+    reads_clear b more c is reads =
+        subst (λ l. IsUnracedIn program plan budget l p (edge_in program plan budget b p)) (sym h_is)
+        (clear (edge_in program plan budget b p)
+        (let up : edge_in program plan budget b p ≤ edge_in program plan budget (b ++ p ∷ more) p = fewer program plan budget b (p ∷ more) whole.last (subst (λ l. run program plan budget l ≡ Some whole.last) is whole.runs) p in
+        subst (λ l. edge_in program plan budget b p ≤ edge_in program plan budget l p) (sym is) up))
+
+    reads : AreRead plan (begun_in_force program plan p) (own_moments (told program plan budget h) p)
+    reads = unraced_reads program policy budget h [] whole.last p v runs reads_clear
+
+    replays : (k : ℕ) → replay_of program plan budget (interval_log plan (own_log p) k) ≡ modelled_of y (slice_get y.spans k)
+    replays k =
+        replays_alike program policy v budget p 0 (omega arith) there (own_moments (told program plan budget h) p) (schedules_run program plan budget h p v whole there) (story program plan budget h) reads k
+        ∙ ap (λ (z : Split). modelled_of z (slice_get z.spans k)) (ap (split_of program plan budget (story program plan budget h) p) (sym (own_steps_are program plan budget h p)) ∙ split_is program plan budget h p y at)
+
+    abbrev seen : List (List Item) → List ℕ → List (List ℕ) → Seen
+    seen items blocks rounds = record { items = items; blocks = blocks; rounds = rounds }
+
+    logged : slice_get (loggings program plan budget h) p ≡ Some (log_of program plan budget p (own_moments (told program plan budget h) p))
+    logged =
+        let z : 0 + p ≡ p = omega arith in
+        logging_at program plan budget (story program plan budget h) 0 (told program plan budget h).moments p y at
+        ∙ ap (λ k. Some (log_of program plan budget k (own_moments (told program plan budget h) p))) z
+
+    whole_seen : seen_by program plan budget (own_log p) ≡ seen_of y
+    whole_seen =
+        let entries : List Entry = own_log p in
+        let each : AreEach IsSameInterval y.spans (extents entries) = (intervals_of_logs program plan budget h p y (log_of program plan budget p (own_moments (told program plan budget h) p)) at logged).closed_are in
+        ap₂ (λ a b. seen a b (rounds_by (map (λ (z : Extent). z.parent) (extents entries))))
+        (items_same program plan budget (indexed plan entries) y replays) (same_blocks y.spans (extents entries) each)
+        ∙ ap (seen (map (items_of y) y.spans) (map (λ (i : Span). i.block) y.spans))
+        (ap rounds_by (same_parents y.spans (extents entries) each) ∙ rounds_same program plan budget h p y at)
+
+    pub whole_begun : (xs : List Seen) → seen_at xs p ≡ seen_by program plan budget (own_log p)
+        → (b : IsBegun program policy budget h whole.last v whole.runs xs p) × (b.split ≡ y) × (b.before ≡ h)
+    whole_begun xs seen_is = (record { before = h; rest = []; schedule_is = sym h_is; split = y; there = at; seen_is = seen_is ∙ whole_seen }, refl, refl)

@@ -1,0 +1,47 @@
+-- Logs that are cut after the last wanted edge of each process.
+use Rattle.std.specs.Prelude.{ℕ, ◌+◌, Bool, true, false, List, [], ◌∷◌, ◌++◌, slice_get, take, Option, Some, None, if◌then◌else◌}
+use Rattle.ppd_ast.specs.declared.status.Status.TheVariants as status
+use Rattle.ppd_entry.specs.declared.entry.Entry.{Entry}
+use Rattle.ppd_entry.specs.declared.entry.Entry.TheVariants as entry
+use Rattle.ppd_entry.specs.declared.entry.Logs.{Logs}
+use Rattle.ppd_flow_model.specs.Ends.{ending, is_sync}
+
+-- ---- one log
+
+-- the end of a log that is cut
+abbrev pub stop : Entry
+stop = entry.End status.Budget 0 [] []
+
+abbrev pub is_unit : Option Entry → Bool
+is_unit (Some (entry.Unit u values)) = true
+is_unit e = false
+
+abbrev pub is_sync_there : Option Entry → Bool
+is_sync_there None = false
+is_sync_there (Some e) = is_sync e
+
+-- past entry n too where it is a unit
+abbrev pub past_unit : List Entry → ℕ → ℕ
+past_unit entries n = if is_unit (slice_get entries n) then n + 1 else n
+
+-- the first n entries, with a unit that follows, and the end
+abbrev pub cut_at : List Entry → ℕ → List Entry
+cut_at entries n = take (past_unit entries n) entries ++ stop ∷ []
+
+-- the log of a process whose last wanted edge is this one: through the synchronization that ends it, whole where none
+-- does, and the start entries alone where no edge is wanted
+abbrev pub cut : Option ℕ → List Entry → List Entry
+cut None entries = cut_at entries 1
+cut (Some i) entries =
+    if is_sync_there (slice_get entries (ending i entries)) then cut_at entries (ending i entries + 1) else entries
+
+-- ---- all logs
+
+-- the lists of the processes from number p on, each cut after the last edge that is wanted of its process
+abbrev pub cut_from : (ℕ → Option ℕ) → ℕ → List (List Entry) → List (List Entry)
+cut_from last p [] = []
+cut_from last p (entries ∷ rest) = cut (last p) entries ∷ cut_from last (p + 1) rest
+
+-- logs without the edges that are not wanted
+abbrev pub cut_logs : (ℕ → Option ℕ) → Logs → Logs
+cut_logs last logs = record { lists = cut_from last 0 logs.lists }

@@ -1,0 +1,90 @@
+-- Laws of runs with races: replays of logs that are cut where no race was, and the edges of clean items by them.
+use Rattle.std.specs.Prelude.{◌≡◌, ℕ, ◌<◌, ◌≤◌, true, List, [], ◌∷◌, ◌++◌, length, is_some, option_map, slice_get, Option, Some, None, Ok}
+use Rattle.ppd_ast.specs.Valid.{IsValid}
+use Rattle.ppd_ast.specs.declared.plan.Plan.{Plan}
+use Rattle.ppd_ast.specs.declared.plan.Policy.{Policy}
+use Rattle.ppd_ast.specs.declared.program.Program.{Program}
+use Rattle.ppd_blocks.specs.Blocks.{plan_of}
+use Rattle.ppd_entry.specs.declared.entry.Entry.{Entry}
+use Rattle.ppd_entry.specs.declared.entry.Logs.{Logs}
+use Rattle.ppd_entry.specs.Entries.{entries_at}
+use Rattle.ppd_entry.specs.IntervalLogs.{interval_log}
+use Rattle.ppd_index.specs.Refusals.{first_in_lists}
+use Rattle.ppd_model.specs.declared.graph.EdgeId.{EdgeId}
+use Rattle.ppd_model.specs.FlowbackEdges.{edges, part_at}
+use Rattle.ppd_model.specs.Forward.{edge_in}
+use Rattle.ppd_model.specs.Intervals.{Part, Span, Split, splits}
+use Rattle.ppd_model.specs.Logs.{closed_logs, log_of}
+use Rattle.ppd_model.specs.Races.{races}
+use Rattle.ppd_model.specs.Schedule.{IsWhole, run}
+use Rattle.ppd_model.specs.Story.{moment_of, own_moments, own_steps, story, told}
+use Rattle.ppd_model.specs.Synchronizations.{sync_of, syncs_of}
+use Rattle.ppd_model.specs.World.{World}
+use Rattle.law_replay.specs.Theorem.Laws.{modelled_of, replay_of}
+use Rattle.ppd_flow_model.specs.Found.{found_edges}
+use Rattle.law_flow_shared.specs.Edges.SharedEdges.{all_seen}
+use Rattle.law_clean.specs.Answers.{answer_of}
+use Rattle.law_clean.specs.Cuts.{cut_logs, stop}
+use Rattle.law_clean.specs.Ordered.{IsUnracedIn}
+use Rattle.law_clean.specs.Pasts.{is_clean, lies}
+use Rattle.law_clean.specs.Search.{clean_by}
+
+-- the log of process p after a beginning of a schedule, cut off there
+abbrev pub cut_after : Program → Plan → ℕ → List ℕ → ℕ → List Entry
+cut_after program plan budget g p =
+    (log_of program plan budget p (own_moments (told program plan budget g) p)).entries ++ stop ∷ []
+
+-- in a whole schedule of a valid program with the plan of a policy, racy or not, process p does its synchronization i
+-- after `before`, and no race has an edge of p up to the one that it ends. Then each interval of p's log, cut off after
+-- that synchronization, is replayed to what it has by then
+abbrev pub CutsAreReplayed : Type 0
+CutsAreReplayed =
+    (program : Program) (policy : Policy) (budget : ℕ) (before rest : List ℕ) (p i k : ℕ) (x : Split)
+    → IsValid program → IsWhole program (plan_of program policy) budget ((before ++ p ∷ []) ++ rest)
+    → edge_in program (plan_of program policy) budget before p ≡ i
+    → is_some (sync_of (moment_of program (plan_of program policy)
+    (told program (plan_of program policy) budget before) p).taken) ≡ true
+    → p < length (told program (plan_of program policy) budget before).world.procs
+    → ((e : ℕ) → e ≤ i → IsUnracedIn program (plan_of program policy) budget ((before ++ p ∷ []) ++ rest) p e)
+    → slice_get (splits program (plan_of program policy) budget
+    (story program (plan_of program policy) budget (before ++ p ∷ []))) p ≡ Some x
+    → replay_of program (plan_of program policy) budget (interval_log (plan_of program policy)
+    (cut_after program (plan_of program policy) budget (before ++ p ∷ []) p) k)
+    ≡ modelled_of x (slice_get x.spans k)
+
+-- in a schedule, racy or not: the search over what its processes are in their intervals finds the edges of each clean
+-- item
+abbrev pub CleanEdgesAreFound : Type 0
+CleanEdgesAreFound =
+    (program : Program) (policy : Policy) (budget : ℕ) (h : List ℕ) (w : World) (p k j : ℕ) (x : Split) (part : Part)
+    → IsValid program → run program (plan_of program policy) budget h ≡ Some w
+    → slice_get (splits program (plan_of program policy) budget
+    (story program (plan_of program policy) budget h)) p ≡ Some x
+    → part_at x k j ≡ Some part
+    → p < length (story program (plan_of program policy) budget h).steps
+    → (lies (entries_at (closed_logs program (plan_of program policy) budget h) p) x part).edge ≤ length (syncs_of (own_steps (story program (plan_of program policy) budget h) p))
+    → is_clean program (story program (plan_of program policy) budget h) p (lies (entries_at (closed_logs program (plan_of program policy) budget h) p) x part) ≡ true
+    → found_edges program (plan_of program policy) (closed_logs program (plan_of program policy) budget h)
+    (all_seen program (plan_of program policy) budget h) p k j
+    ≡ option_map (λ es. Ok es)
+    (edges program (plan_of program policy) budget (story program (plan_of program policy) budget h) p k j)
+
+-- in a whole schedule of a valid program with the plan of a policy, racy or not: what is found of an item by its logs
+-- and the replays of cut ones is what is to be answered
+abbrev pub AnswersAreOfRuns : Type 0
+AnswersAreOfRuns =
+    (program : Program) (policy : Policy) (budget : ℕ) (h : List ℕ) (p k j : ℕ) (x : Split) (i : Span)
+    → IsValid program → IsWhole program (plan_of program policy) budget h
+    → slice_get (splits program (plan_of program policy) budget
+    (story program (plan_of program policy) budget h)) p ≡ Some x
+    → slice_get x.spans k ≡ Some i
+    → clean_by program (plan_of program policy) budget (closed_logs program (plan_of program policy) budget h)
+    (races program (plan_of program policy) budget h) p k j
+    ≡ answer_of program (plan_of program policy) budget h p k j
+
+-- of any logs, honest or not: where none of the lists is refused, none of the cut ones is
+abbrev pub CutsAreAccepted : Type 0
+CutsAreAccepted =
+    (program : Program) (plan : Plan) (last : ℕ → Option ℕ) (logs : Logs)
+    → first_in_lists program plan 0 logs.lists ≡ None
+    → first_in_lists program plan 0 (cut_logs last logs).lists ≡ None

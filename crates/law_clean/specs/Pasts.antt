@@ -1,0 +1,100 @@
+-- The past of an item, and whether a race touches it.
+use Rattle.std.specs.Prelude.{ℕ, ◌+◌, ◌-◌, nat_eq, Bool, false, ◌&&◌, ◌||◌, not, List, map, filter, filter_map, find, length, slice_get, Option, Some, None, is_some, unwrap_or, if◌then◌else◌}
+use Rattle.std.specs.List.{flat_map, list_any, range_with_len}
+use Rattle.ppd_ast.specs.declared.program.Program.{Program}
+use Rattle.ppd_entry.specs.declared.entry.Entry.{Entry}
+use Rattle.ppd_model.specs.declared.graph.EdgeId.{EdgeId}
+use Rattle.ppd_model.specs.declared.graph.Race.{Race}
+use Rattle.ppd_model.specs.declared.trace.TracedEvent.{TracedEvent}
+use Rattle.ppd_model.specs.declared.tracing.Story.{Story}
+use Rattle.ppd_model.specs.HappenedBefore.{edge, is_before, is_edge_before, node}
+use Rattle.ppd_model.specs.Extents.{Extent, extents}
+use Rattle.ppd_model.specs.Intervals.{Part, own, nested, Split}
+use Rattle.ppd_model.specs.NearIntervals.{edge_of_event}
+use Rattle.ppd_model.specs.Races.{edges_of, races_of}
+use Rattle.ppd_model.specs.Record.{record_of}
+use Rattle.ppd_model.specs.RecordedSets.{sync_in}
+use Rattle.ppd_flow_model.specs.Ends.{syncs_before}
+
+-- ---- races that have an edge
+
+-- the edge is one of the two of the race
+abbrev pub is_of_race : EdgeId → Race → Bool
+is_of_race e r = (nat_eq r.p e.process && nat_eq r.i e.edge) || (nat_eq r.q e.process && nat_eq r.j e.edge)
+
+-- some race has the edge
+abbrev pub is_raced : List Race → EdgeId → Bool
+is_raced rs e = list_any (is_of_race e) rs
+
+-- ---- the past of an edge
+
+-- all internal edges of a story, by process and number
+abbrev pub all_edges : Story → List EdgeId
+all_edges s = flat_map (λ p. map (edge p) (edges_of s p)) (range_with_len 0 (length s.steps))
+
+abbrev pub is_same_edge : EdgeId → EdgeId → Bool
+is_same_edge a b = nat_eq a.process b.process && nat_eq a.edge b.edge
+
+-- edge a is edge e, or is before it
+abbrev pub is_past : Program → Story → EdgeId → EdgeId → Bool
+is_past program s e a = is_same_edge a e || is_edge_before program (record_of s) a e
+
+abbrev pub past_of : Program → Story → EdgeId → List EdgeId
+past_of program s e = filter (is_past program s e) (all_edges s)
+
+-- some race has an edge of these
+abbrev pub are_raced : Program → Story → List EdgeId → Bool
+are_raced program s es = list_any (is_raced (races_of program s)) es
+
+-- ---- the past of an item
+
+-- the last edge of its process in which a step of an item lies, and whether the item is the synchronization
+-- that ends that edge
+pub record Lies : Type 0 where
+  pub edge : ℕ
+  pub ends : Bool
+
+abbrev pub is_sync_event : Option TracedEvent → Bool
+is_sync_event None = false
+is_sync_event (Some e) = is_some e.event.number
+
+-- the edge in which an interval of these entries is left: that of its postlog, and the last edge where it has none
+abbrev pub left_in : List Entry → Option Extent → ℕ
+left_in entries None = 0
+left_in entries (Some x) =
+    if x.closed then syncs_before entries (unwrap_or x.last 0) else length (filter_map sync_in entries)
+
+abbrev pub left_edge : List Entry → ℕ → ℕ
+left_edge entries m = left_in entries (slice_get (extents entries) m)
+
+-- of a process with these entries
+abbrev pub lies : List Entry → Split → Part → Lies
+lies entries x (own n) = record { edge = edge_of_event x n; ends = is_sync_event (slice_get x.trace.events n) }
+lies entries x (nested m) = record { edge = left_edge entries m; ends = false }
+
+-- edge a ends in a synchronization that is before the one that ends edge e
+abbrev pub leads_to_end : Program → Story → EdgeId → EdgeId → Bool
+leads_to_end program s e a = is_before program (record_of s) (node a.process a.edge) (node e.process e.edge)
+
+-- the past of an item of process p that lies so: that of its last edge, and for a synchronization also every edge that
+-- ends in a synchronization before it
+abbrev pub is_item_past : Program → Story → ℕ → Lies → EdgeId → Bool
+is_item_past program s p l a =
+    is_past program s (edge p l.edge) a || (l.ends && leads_to_end program s (edge p l.edge) a)
+
+abbrev pub item_past : Program → Story → ℕ → Lies → List EdgeId
+item_past program s p l = filter (is_item_past program s p l) (all_edges s)
+
+-- no race has an edge of it
+abbrev pub is_clean : Program → Story → ℕ → Lies → Bool
+is_clean program s p l = not (are_raced program s (item_past program s p l))
+
+-- ---- where there is no clean item
+
+-- the least of these edges of process p whose past has a race
+abbrev pub first_unclean : Program → Story → ℕ → List ℕ → Option ℕ
+first_unclean program s p es = find (λ i. are_raced program s (past_of program s (edge p i))) es
+
+-- the edges from one through another
+abbrev pub edges_between : ℕ → ℕ → List ℕ
+edges_between from to = range_with_len from (to + 1 - from)

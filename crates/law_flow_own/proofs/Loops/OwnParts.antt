@@ -1,0 +1,140 @@
+-- Of each item what is found within the process is as the model has it.
+use Rattle.std.proofs.Common.{◌≡◌, ℕ, ◌+◌, ℤ, suc, Bool, true, false, List, [], ◌∷◌, ◌++◌, Some, None, refl, ap, ap₂, sym, subst, ◌∙◌, map}
+use Rattle.std.specs.Prelude.{slice_get}
+use Rattle.std.proofs.lemmas.Option.{none-some}
+use Rattle.ppd_ast.specs.Valid.{IsValid}
+use Rattle.ppd_ast.specs.declared.plan.BlockKind.{BlockKind}
+use Rattle.ppd_ast.specs.declared.plan.BlockKind.TheVariants as block
+use Rattle.ppd_ast.specs.declared.plan.Plan.{Plan}
+use Rattle.ppd_ast.specs.declared.plan.Policy.{Policy}
+use Rattle.ppd_ast.specs.declared.program.Program.{Program}
+use Rattle.ppd_blocks.specs.Blocks.{plan_of}
+use Rattle.ppd_sem.specs.Blocks.{block_kind, postlog_cells}
+use Rattle.ppd_sem.specs.declared.event.Spot.TheVariants.{Local}
+use Rattle.ppd_model.specs.declared.flow.EdgeKind.TheVariants.{Left, Returned, Control}
+use Rattle.ppd_model.specs.declared.flow.FlowEdge.{FlowEdge}
+use Rattle.ppd_model.specs.declared.flow.Origin.{Origin}
+use Rattle.ppd_model.specs.FlowbackEdges.{bare_edge, edges_of_nested as model_nested, from_parent, from_writer, left_edges as model_left, part_at, result_edges, returned_edges as model_returned}
+use Rattle.ppd_model.specs.FullTrace.{Tag, me_in}
+use Rattle.ppd_model.specs.Intervals.{nested, Span, Split, is_closed, split_of, splits}
+use Rattle.ppd_model.specs.NearIntervals.{is_loop}
+use Rattle.ppd_model.specs.Story.{own_steps, story}
+use Rattle.ppd_flow_model.specs.Locals.{local_origin}
+use Rattle.ppd_flow_model.specs.Own.{edges_of_nested, frame_at, left_edges, returned_edges}
+use Rattle.ppd_flow_model.specs.Seen.{seen_of}
+use Rattle.law_flow_own.proofs.Places.LeafTells.{split_is}
+use Rattle.law_flow_own.proofs.Control.Whole.{controls_found}
+use Rattle.law_flow_own.proofs.Locals.Returned.{leaving, left_by_return, returns_found}
+use Rattle.law_flow_own.specs.Loops.AllOwnParts.{AllOwnPartsAreFound}
+use Rattle.law_flow_own.proofs.Locals.LocalReads.{all_reads_found}
+use Rattle.law_flow_own.proofs.Loops.LoopsLeft.{IsLeftFrom, left_from}
+use Rattle.law_flow_own.proofs.Locals.OpenSpans.{are_empty}
+
+-- a function's interval that is left has the tag of its return
+function_left : (program : Program) (policy : Policy) (budget : ℕ) (h : List ℕ) (p m : ℕ) (y : Split) (i : Span)
+    → IsValid program
+    → slice_get (splits program (plan_of program policy) budget (story program (plan_of program policy) budget h)) p
+    ≡ Some y
+    → slice_get y.spans m ≡ Some i → is_closed i ≡ true → is_loop (block_kind (plan_of program policy) i.block) ≡ false
+    → (w : Tag) × (i.left ≡ w ∷ [])
+function_left program policy budget h p m y i v at there is_so no_loop = (
+  Some (me_in p (split_of program (plan_of program policy) budget (story program (plan_of program policy) budget h) p
+      (leaving program policy budget h p m y i v at there is_so).before).trace),
+  left_by_return program policy budget h p m y i v at there is_so no_loop,
+)
+
+module _ (program : Program) (plan : Plan) (xs : List Split) (y : Split) (p k j : ℕ) where
+  no_values : (frame : ℕ) (cells : List ℕ) → left_edges program plan (seen_of y) p k j frame cells [] ≡ []
+  no_values frame [] = refl
+  no_values frame (c ∷ cs) = refl
+
+  no_left : (frame : ℕ) (cells : List ℕ) (left : List Tag) → model_left xs frame cells [] left ≡ []
+  no_left frame [] left = refl
+  no_left frame (c ∷ cs) left = refl
+
+  left_same : (frame : ℕ) (tag : ℕ → Tag) (cells : List ℕ) (values : List ℤ)
+      → ((n c : ℕ) → slice_get cells n ≡ Some c
+      → local_origin program plan (seen_of y) p k (j + 1) frame c ≡ from_writer xs (tag c))
+      → left_edges program plan (seen_of y) p k j frame cells values
+      ≡ model_left xs frame cells values (map tag cells)
+  left_same frame tag [] values h = refl
+  left_same frame tag (c ∷ cs) [] h = refl
+  left_same frame tag (c ∷ cs) (v ∷ vs) h =
+      ap₂ (λ (o : Origin) (es : List FlowEdge). record {
+        kind = Left;
+        spot = Some (Local frame c);
+        value = Some v;
+        from = o;
+      } ∷ es) (h 0 c refl) (left_same frame tag cs vs (λ n d at. h (suc n) d at))
+
+module _ (program : Program) (policy : Policy) (budget : ℕ) (h : List ℕ) (p k j : ℕ) (y : Split) (v : IsValid program)
+    (at : slice_get (splits program (plan_of program policy) budget (story program (plan_of program policy) budget h)) p
+    ≡ Some y) (m : ℕ) (i : Span) (part : part_at y k j ≡ Some (nested m)) (there : slice_get y.spans m ≡ Some i) where
+  abbrev plan : Plan
+  plan = plan_of program policy
+
+  abbrev xs : List Split
+  xs = splits program plan budget (story program plan budget h)
+
+  empty : is_closed i ≡ false → i.values ≡ []
+  empty = subst (λ (z : Split). (a : ℕ) (b : Span) → slice_get z.spans a ≡ Some b → is_closed b ≡ false → b.values ≡ [])
+      (split_is program plan budget h p y at)
+      (are_empty program plan (story program plan budget h) p budget (own_steps (story program plan budget h) p)) m i
+      there
+
+  -- with a value it was left
+  was_left : (value : ℤ) (values : List ℤ) → i.values ≡ value ∷ values → is_closed i ≡ true
+  was_left value values is = by (is_closed i) refl
+    where
+      by : (b : Bool) → is_closed i ≡ b → is_closed i ≡ true
+      by true e = e
+      by false e = absurd (none-some value (ap (λ vs. slice_get vs 0) (sym (empty e) ∙ is)))
+
+  lefts : (q : ℕ) → block_kind plan i.block ≡ block.Loop q → (values : List ℤ) → i.values ≡ values
+      → left_edges program plan (seen_of y) p k j (frame_at program plan (seen_of y) k j) (postlog_cells plan i.block)
+      values ≡ model_left xs i.frame (postlog_cells plan i.block) values i.left
+  lefts q kind [] is =
+      no_values program plan xs y p k j (frame_at program plan (seen_of y) k j) (postlog_cells plan i.block)
+      ∙ sym (no_left program plan xs y p k j i.frame (postlog_cells plan i.block) i.left)
+  lefts q kind (z ∷ zs) is =
+      let l : IsLeftFrom program plan xs y p k j i =
+      left_from program policy budget h p k j m 0 q y i z v at part there (was_left z zs is) kind
+      (ap (λ vs. slice_get vs 0) is) in
+      left_same program plan xs y p k j (frame_at program plan (seen_of y) k j) l.tag (postlog_cells plan i.block)
+      (z ∷ zs) l.found
+      ∙ ap₂ (λ f ts. model_left xs f (postlog_cells plan i.block) (z ∷ zs) ts) l.frame_is (sym l.left_are)
+
+  returned : is_loop (block_kind plan i.block) ≡ false → (values : List ℤ) → i.values ≡ values
+      → returned_edges (seen_of y) p m values ≡ model_returned xs values i.left
+  returned isnt [] is = refl
+  returned isnt (z ∷ zs) is =
+      let is_so : is_closed i ≡ true = was_left z zs is in
+      let w = function_left program policy budget h p m y i v at there is_so isnt in
+      ap (λ o. record { kind = Returned; spot = None; value = Some z; from = o } ∷ [])
+      (returns_found program policy budget h p m y i w.0 v at there is_so isnt (ap (λ ts. slice_get ts 0) w.1))
+      ∙ ap (model_returned xs (z ∷ zs)) (sym w.1)
+
+  by_kind : (kind : BlockKind) → block_kind plan i.block ≡ kind
+      → edges_of_nested program plan (seen_of y) p k j m i.block i.values kind
+      ≡ result_edges plan xs kind i ++ bare_edge Control (from_parent xs i.control) ∷ []
+  by_kind (block.Loop q) e =
+      ap₂ (λ es o. es ++ bare_edge Control o ∷ []) (lefts q e i.values refl)
+      ((controls_found program policy budget h p y v at k j).loop m q i part there e)
+  by_kind (block.Function g) e =
+      ap₂ (λ es o. es ++ bare_edge Control o ∷ []) (returned (ap is_loop e) i.values refl)
+      ((controls_found program policy budget h p y v at k j).function m i part there (ap is_loop e))
+  by_kind (block.Process g) e =
+      ap₂ (λ es o. es ++ bare_edge Control o ∷ []) (returned (ap is_loop e) i.values refl)
+      ((controls_found program policy budget h p y v at k j).function m i part there (ap is_loop e))
+
+  pub nested_found : edges_of_nested program plan (seen_of y) p k j m i.block i.values (block_kind plan i.block)
+      ≡ model_nested plan xs i
+  nested_found = by_kind (block_kind plan i.block) refl
+
+pub own_parts : AllOwnPartsAreFound
+own_parts program policy budget h p k j x v at = record {
+  locals = λ n i frame c e a w part traced read local.
+      all_reads_found program policy budget h p k j n i x e a w frame c v at part traced read local;
+  control = λ n e part traced. (controls_found program policy budget h p x v at k j).event n e part traced;
+  inside = λ m i part there. nested_found program policy budget h p k j x v at m i part there;
+}

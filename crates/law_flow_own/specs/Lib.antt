@@ -1,0 +1,4 @@
+pub mod Places
+pub mod Control
+pub mod Locals
+pub mod Loops

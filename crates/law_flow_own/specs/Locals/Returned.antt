@@ -1,0 +1,26 @@
+-- What a function's interval returned comes from its last item.
+use Rattle.std.specs.Prelude.{◌≡◌, ℕ, true, false, List, slice_get, Some}
+use Rattle.ppd_ast.specs.Valid.{IsValid}
+use Rattle.ppd_ast.specs.declared.plan.Policy.{Policy}
+use Rattle.ppd_ast.specs.declared.program.Program.{Program}
+use Rattle.ppd_blocks.specs.Blocks.{plan_of}
+use Rattle.ppd_sem.specs.Blocks.{block_kind}
+use Rattle.ppd_model.specs.FlowbackEdges.{from_writer}
+use Rattle.ppd_model.specs.FullTrace.{Tag}
+use Rattle.ppd_model.specs.Intervals.{Span, Split, is_closed, splits}
+use Rattle.ppd_model.specs.NearIntervals.{is_loop}
+use Rattle.ppd_model.specs.Story.{story}
+use Rattle.ppd_flow_model.specs.Seen.{last_item, seen_of}
+
+-- in every schedule of a valid program, whole or not, racy or not, with the plan of a policy: the tag of the value
+-- that a closed interval of a function left is of the event that the search names, the interval's last item
+abbrev pub ReturnsAreFound : Type 0
+ReturnsAreFound =
+    (program : Program) (policy : Policy) (budget : ℕ) (h : List ℕ) (p m : ℕ) (y : Split) (i : Span) (w : Tag)
+    → IsValid program
+    → slice_get (splits program (plan_of program policy) budget (story program (plan_of program policy) budget h)) p
+    ≡ Some y
+    → slice_get y.spans m ≡ Some i → is_closed i ≡ true → is_loop (block_kind (plan_of program policy) i.block) ≡ false
+    → slice_get i.left 0 ≡ Some w
+    → last_item (seen_of y) p m
+    ≡ from_writer (splits program (plan_of program policy) budget (story program (plan_of program policy) budget h)) w

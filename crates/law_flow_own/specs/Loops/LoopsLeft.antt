@@ -1,0 +1,33 @@
+-- What the search finds for what a loop left.
+use Rattle.std.specs.Prelude.{◌≡◌, ℕ, ◌+◌, ℤ, true, List, slice_get, zip, Some}
+use Rattle.ppd_ast.specs.Valid.{IsValid}
+use Rattle.ppd_ast.specs.declared.plan.BlockKind.TheVariants as block
+use Rattle.ppd_ast.specs.declared.plan.Policy.{Policy}
+use Rattle.ppd_ast.specs.declared.program.Program.{Program}
+use Rattle.ppd_blocks.specs.Blocks.{plan_of}
+use Rattle.ppd_sem.specs.Blocks.{block_kind, postlog_cells}
+use Rattle.ppd_model.specs.FlowbackEdges.{from_writer, part_at}
+use Rattle.ppd_model.specs.FullTrace.{Tag}
+use Rattle.ppd_model.specs.Intervals.{nested, Span, Split, is_closed, splits}
+use Rattle.ppd_model.specs.Story.{story}
+use Rattle.ppd_flow_model.specs.Locals.{local_origin}
+use Rattle.ppd_flow_model.specs.Own.{frame_at}
+use Rattle.ppd_flow_model.specs.Seen.{seen_of}
+
+-- in every schedule of a valid program, whole or not, racy or not, with the plan of a policy: for each value that a
+-- closed interval of a loop left, which is item j of interval k, the search from after that item finds the event that
+-- last wrote the value's cell in the loop's activation, and the start value where none did
+abbrev pub LoopsLeftAreFound : Type 0
+LoopsLeftAreFound =
+    (program : Program) (policy : Policy) (budget : ℕ) (h : List ℕ) (p k j m n q : ℕ) (y : Split) (i : Span)
+    (c : ℕ) (value : ℤ) (w : Tag)
+    → IsValid program
+    → slice_get (splits program (plan_of program policy) budget (story program (plan_of program policy) budget h)) p
+    ≡ Some y
+    → part_at y k j ≡ Some (nested m) → slice_get y.spans m ≡ Some i → is_closed i ≡ true
+    → block_kind (plan_of program policy) i.block ≡ block.Loop q
+    → slice_get (zip (postlog_cells (plan_of program policy) i.block) i.left) n ≡ Some (c, w)
+    → slice_get i.values n ≡ Some value
+    → local_origin program (plan_of program policy) (seen_of y) p k (j + 1)
+    (frame_at program (plan_of program policy) (seen_of y) k j) c
+    ≡ from_writer (splits program (plan_of program policy) budget (story program (plan_of program policy) budget h)) w

@@ -1,0 +1,10 @@
+//! What the search for flowback edges finds within a process, of control, of local cells, of returned values and
+//! of loops, is what the run did: laws.
+#![tactic(auto)]
+
+mod laws;
+
+pub use laws::control::own_controls_are_found;
+pub use laws::locals::{local_reads_are_found, returns_are_found};
+pub use laws::loops::{all_local_reads_are_found, all_own_parts_are_found, loops_left_are_found};
+pub use laws::places::leaf_tells;

@@ -1,0 +1,177 @@
+-- The replays for the reads of an event, for a synchronization, for control, and for an interval.
+use Rattle.std.proofs.Common.{◌≡◌, ℕ, suc, ◌+◌, ◌*◌, ◌≤◌, ℤ, List, [], ◌∷◌, ◌++◌, Option, Some, None, refl, ap, sym, ◌∙◌, subst, arith, length, length-append, Result, Ok, Err, ap₂}
+use Rattle.std.specs.Prelude.{slice_get, ◌-◌}
+use Rattle.ppd_ast.specs.Valid.{IsValid}
+use Rattle.ppd_ast.specs.declared.plan.BlockKind.{BlockKind}
+use Rattle.ppd_ast.specs.declared.plan.BlockKind.TheVariants as block
+use Rattle.ppd_ast.specs.declared.plan.Plan.{Plan}
+use Rattle.ppd_ast.specs.declared.program.Program.{Program}
+use Rattle.ppd_entry.specs.Entries.{entries_at}
+use Rattle.ppd_graph.specs.declared.paired.Paired.{Paired}
+use Rattle.ppd_graph.specs.declared.paired.Paired.TheVariants.{Nothing, Initial, Node}
+use Rattle.ppd_sem.specs.Blocks.{postlog_cells}
+use Rattle.ppd_sem.specs.declared.event.Spot.TheVariants.{Local, Shared}
+use Rattle.ppd_model.specs.declared.flow.EdgeKind.TheVariants.{Left, Returned, Sync, Control}
+use Rattle.ppd_model.specs.declared.flow.FlowEdge.{FlowEdge}
+use Rattle.ppd_model.specs.declared.flow.Origin.TheVariants as origin
+use Rattle.ppd_model.specs.FlowbackEdges.{bare_edge, edges, part_at}
+use Rattle.ppd_model.specs.Intervals.{Span, Split, splits, own}
+use Rattle.ppd_model.specs.Logs.{closed_logs}
+use Rattle.ppd_model.specs.Story.{own_moments, steps_of, story, told}
+use Rattle.ppd_model.proofs.Tested.{In, here as first_in, there as later_in}
+use Rattle.ppd_flow_model.specs.Control.{control_origin, control_replays}
+use Rattle.ppd_flow_model.specs.Found.{sync_edges, sync_replays, pair_edges, before_others, if_found, read_edge, read_edges, read_if, read_replays, reads_replays}
+use Rattle.ppd_flow_model.specs.Ends.{end_interval, end_item}
+use Rattle.ppd_flow_model.specs.Locals.{local_origin, local_replays}
+use Rattle.ppd_flow_model.specs.Own.{edges_of_nested, frame_at, left_edges, left_replays, nested_replays, returned_edges, returned_replays}
+use Rattle.ppd_flow_model.specs.Seen.{Seen, items_at, last_item, seen_of}
+use Rattle.ppd_flow_model.specs.Shared.{of_process, pair_of, pair_place, place_replays, seen_at, Missing, shared_origin, shared_replays}
+use Rattle.law_flow_shared.specs.Edges.SharedEdges.{all_seen}
+use Rattle.law_flow_shared.proofs.Edges.Near.Tree.{HasTree, has_tree}
+use Rattle.law_flow_shared.proofs.Edges.Spans.Facts.{Logged}
+use Rattle.law_flow_shared.proofs.Edges.StepEvents.Processes.{Facts, closed_told, facts}
+use Rattle.law_flow_shared.proofs.Costs.Own.Near.{parts_steps, both_steps}
+use Rattle.law_flow_shared.proofs.Costs.Own.Parts.{both_times, one_times}
+use Rattle.law_flow_shared.proofs.Costs.Own.Outer.{AllStand}
+use Rattle.law_flow_shared.proofs.Costs.Own.Reads.{control_little, local_little}
+use Rattle.law_flow_shared.proofs.Costs.Edges.Answers.{in_left, not_ok, ok_is}
+use Rattle.law_flow_shared.proofs.Costs.Edges.Shared.{origin_little, shared_little}
+use Rattle.ppd_sem.specs.declared.event.Access.{Access}
+use Rattle.ppd_sem.specs.declared.event.Spot.{Spot}
+use Rattle.ppd_model.specs.declared.flow.Origin.{Origin}
+use Rattle.ppd_model.specs.declared.trace.TracedEvent.{TracedEvent}
+use Rattle.law_flow_shared.proofs.Costs.Words.{Words, words_of}
+
+module _ (program : Program) (plan : Plan) (budget : ℕ) (h : List ℕ) (v : IsValid program) (p k j : ℕ) (x : Split)
+    (there : slice_get (splits program plan budget (story program plan budget h)) p ≡ Some x) (es : List FlowEdge) (edges_are : edges program plan budget (story program plan budget h) p k j ≡ Some es) where
+  abbrev words : Words
+  words = words_of program plan budget h p k j
+
+  open words use {xs, logs, seens, N, steps}
+
+  f : Facts program plan budget h v p x
+  f = facts program plan budget h v p x there
+
+  tree : HasTree x
+  tree =
+      let t = closed_told program plan budget h v p x there in
+      subst (λ y. HasTree y) t.0 (has_tree program plan (story program plan budget h) p budget (steps_of (own_moments (told program plan budget h) p)))
+
+  abbrev F : ℕ → ℕ → ℕ → Type 0
+  F = Logged (entries_at (closed_logs program plan budget h) p) x.trace.events
+
+  stands : AllStand (Logged (entries_at (closed_logs program plan budget h) p) x.trace.events) x
+  stands m i g = let q = f.told_by.placed m i g in (q.first, q.stands)
+
+  seen_is : seen_at (all_seen program plan budget h) p ≡ seen_of x
+  seen_is = f.seen_is
+
+  -- ---- the reads of an event
+
+  module _ (n : ℕ) (ev : TracedEvent) (place : part_at x k j ≡ Some (own n)) (at_event : slice_get x.trace.events n ≡ Some ev) where
+    module _ (i : Span) (at : slice_get x.spans k ≡ Some i) where
+      local_read : (frame c : ℕ) (e : FlowEdge) → In e es → e.from ≡ local_origin program plan (seen_at seens p) p k j frame c → steps (of_process p (local_replays program plan (seen_at seens p) p k j frame c)) ≤ N + N
+      local_read frame c e g is =
+          subst (λ (s : Seen). steps (of_process p (local_replays program plan s p k j frame c)) ≤ N + N) (sym seen_is)
+          (local_little program plan budget h p k j x there es edges_are tree F stands i at c j frame e g (is ∙ ap (λ (s : Seen). local_origin program plan s p k j frame c) seen_is))
+
+      read_little : (a : Access) (spot : Spot) (e : FlowEdge) → read_edge program plan logs seens p k j a spot ≡ Ok e → In e es → steps (read_replays program plan logs seens p k j spot) ≤ N + N
+      read_little a (Local frame c) e found g = local_read frame c e g (ap (λ (y : FlowEdge). y.from) (sym (ok_is found)))
+      read_little a (Shared c) e found g = by (shared_origin program logs seens p k j c) refl
+        where
+          by : (t : Result Origin Missing) → shared_origin program logs seens p k j c ≡ t → steps (shared_replays program logs seens p k j c) ≤ N + N
+          by (Ok from) z = shared_little program plan budget h v p k j x there es edges_are n ev place at_event c from e g (ap (λ (y : FlowEdge). y.from) (sym (ok_is (sym (ap (read_if a) z) ∙ found)))) z
+          by (Err m) z = absurd (not_ok (sym (ap (read_if a) z) ∙ found))
+
+      pub reads_little : (as' : List Access) (rs : List FlowEdge) → read_edges program plan logs seens p k j as' ≡ Ok rs → ((e : FlowEdge) → In e rs → In e es) → steps (reads_replays program plan logs seens p k j as') ≤ length rs * (N + N)
+      reads_little [] rs found all = subst (λ l. 0 ≤ length l * (N + N)) (ok_is found) (omega arith)
+      reads_little (a ∷ as') rs found all = by (λ more y all'. reads_little as' more y all') (read_edge program plan logs seens p k j a a.spot) refl (read_edges program plan logs seens p k j as') refl
+        where
+          by : ((more : List FlowEdge) → read_edges program plan logs seens p k j as' ≡ Ok more → ((e : FlowEdge) → In e more → In e es) → steps (reads_replays program plan logs seens p k j as') ≤ length more * (N + N))
+              → (t : Result FlowEdge Missing) → read_edge program plan logs seens p k j a a.spot ≡ t → (u : Result (List FlowEdge) Missing) → read_edges program plan logs seens p k j as' ≡ u
+              → steps (read_replays program plan logs seens p k j a.spot ++ if_found (read_edge program plan logs seens p k j a a.spot) (reads_replays program plan logs seens p k j as')) ≤ length rs * (N + N)
+          by again (Err m) z u y = absurd (not_ok (sym (ap (λ (t : Result FlowEdge Missing). before_others t (read_edges program plan logs seens p k j as')) z) ∙ found))
+          by again (Ok e) z (Err m) y = absurd (not_ok (sym (ap₂ before_others z y) ∙ found))
+          by again (Ok e) z (Ok more) y =
+              let same : e ∷ more ≡ rs = ok_is (sym (ap₂ before_others z y) ∙ found) in
+              let one = read_little a a.spot e z (all e (subst (λ l. In e l) same first_in)) in
+              let rest = again more y (λ d i. all d (subst (λ l. In d l) same (later_in i))) in
+              let sum = both_steps xs (read_replays program plan logs seens p k j a.spot) (reads_replays program plan logs seens p k j as') in
+              subst (λ l. steps (read_replays program plan logs seens p k j a.spot ++ if_found (read_edge program plan logs seens p k j a a.spot) (reads_replays program plan logs seens p k j as')) ≤ length l * (N + N)) same
+              (subst (λ (t : Result FlowEdge Missing). steps (read_replays program plan logs seens p k j a.spot ++ if_found t (reads_replays program plan logs seens p k j as')) ≤ suc (length more) * (N + N)) (sym z)
+              (subst (λ s. s ≤ suc (length more) * (N + N)) (sym sum)
+              (one_times (steps (read_replays program plan logs seens p k j a.spot)) (steps (reads_replays program plan logs seens p k j as')) (length more) (N + N) one rest)))
+
+  -- ---- synchronization
+
+  pub alone : (a : ℕ) → a ≤ N → a ≤ 1 * (N + N)
+  alone a le = let r = one_times a 0 0 (N + N) (omega (arith, le)) (omega arith) in omega (arith, r)
+
+  pub sync_little : (number : Option ℕ) → ((e : FlowEdge) → In e (sync_edges program logs seens p k j number) → In e es)
+      → steps (sync_replays program logs seens p k j number) ≤ length (sync_edges program logs seens p k j number) * (N + N)
+  sync_little None all = omega arith
+  sync_little (Some number) all = by (pair_of program logs seens p k j) all
+    where
+      by : (u : Paired) → ((e : FlowEdge) → In e (pair_edges (pair_place logs seens u)) → In e es) → steps (place_replays logs u) ≤ length (pair_edges (pair_place logs seens u)) * (N + N)
+      by Nothing all' = omega arith
+      by Initial all' = omega arith
+      by (Node a) all' =
+          let m : ℕ = end_interval (entries_at logs a.process) a.sync in
+          let n : ℕ = end_item (entries_at logs a.process) (seen_at seens a.process) a.sync in
+          let e : FlowEdge = bare_edge Sync (origin.Item a.process m n) in
+          alone (steps (of_process a.process (m ∷ []))) (origin_little program plan budget h v p k j x there es edges_are a.process m n e (all' e first_in) refl)
+
+  -- ---- an interval
+
+  module _ (i : Span) (at : slice_get x.spans k ≡ Some i) where
+    pub control_here : (s : ℕ) → steps (of_process p (control_replays program plan (seen_at seens p) p k j s)) ≤ N + N
+    control_here s =
+        subst (λ (z : Seen). steps (of_process p (control_replays program plan z p k j s)) ≤ N + N) (sym seen_is)
+        (control_little program plan budget h p k j x there es edges_are tree F stands i at j s)
+
+    abbrev leaving : ℕ → ℕ → ℤ → FlowEdge
+    leaving frame c u = record { kind = Left; spot = Some (Local frame c); value = Some u; from = local_origin program plan (seen_at seens p) p k (j + 1) frame c }
+
+    left_little : (frame : ℕ) (cs : List ℕ) (vs : List ℤ) → ((e : FlowEdge) → In e (left_edges program plan (seen_at seens p) p k j frame cs vs) → In e es)
+        → steps (of_process p (left_replays program plan (seen_at seens p) p k j frame cs vs)) ≤ length (left_edges program plan (seen_at seens p) p k j frame cs vs) * (N + N)
+    left_little frame [] vs all = omega arith
+    left_little frame (c ∷ cs) [] all = omega arith
+    left_little frame (c ∷ cs) (u ∷ vs) all =
+        let one : steps (of_process p (local_replays program plan (seen_at seens p) p k (j + 1) frame c)) ≤ N + N =
+        subst (λ (s : Seen). steps (of_process p (local_replays program plan s p k (j + 1) frame c)) ≤ N + N) (sym seen_is)
+        (local_little program plan budget h p k j x there es edges_are tree F stands i at c (j + 1) frame (leaving frame c u) (all (leaving frame c u) first_in) (ap (λ (s : Seen). local_origin program plan s p k (j + 1) frame c) seen_is)) in
+        let rest = left_little frame cs vs (λ e q. all e (later_in q)) in
+        let sum = parts_steps xs p (local_replays program plan (seen_at seens p) p k (j + 1) frame c) (left_replays program plan (seen_at seens p) p k j frame cs vs) in
+        subst (λ s. s ≤ suc (length (left_edges program plan (seen_at seens p) p k j frame cs vs)) * (N + N)) (sym sum)
+        (one_times (steps (of_process p (local_replays program plan (seen_at seens p) p k (j + 1) frame c))) (steps (of_process p (left_replays program plan (seen_at seens p) p k j frame cs vs)))
+        (length (left_edges program plan (seen_at seens p) p k j frame cs vs)) (N + N) one rest)
+
+    -- these and one more
+    pub and_one : (a b n : ℕ) → a ≤ n * (N + N) → b ≤ N + N → a + b ≤ (n + 1) * (N + N)
+    and_one a b n l l' = both_times a b n 1 (N + N) l (let o = one_times b 0 0 (N + N) l' (omega arith) in omega (arith, o))
+
+    abbrev brought : ℕ → ℤ → FlowEdge
+    brought m u = record { kind = Returned; spot = None; value = Some u; from = last_item (seen_at seens p) p m }
+
+    returned : (m : ℕ) (u : ℤ) (vs : List ℤ) → returned_edges (seen_at seens p) p m (u ∷ vs) ++ bare_edge Control (origin.Item p k (j - 1)) ∷ [] ≡ es → steps (of_process p (returned_replays m (u ∷ vs))) ≤ length es * (N + N)
+    returned m u vs are =
+        let a = origin_little program plan budget h v p k j x there es edges_are p m (length (items_at (seen_at seens p) m) - 1) (brought m u) (subst (λ z. In (brought m u) z) are first_in) refl in
+        let one = and_one (steps (of_process p (m ∷ []))) 0 1 (alone (steps (of_process p (m ∷ []))) a) (omega arith) in
+        subst (λ l. steps (of_process p (m ∷ [])) ≤ length l * (N + N)) are (omega (arith, one))
+
+    pub nested_little : (m b : ℕ) (vs : List ℤ) (kind : BlockKind) → edges_of_nested program plan (seen_at seens p) p k j m b vs kind ≡ es
+        → steps (of_process p (nested_replays program plan (seen_at seens p) p k j m b vs kind)) ≤ length es * (N + N)
+    nested_little m b vs (block.Loop l) are =
+        let frame : ℕ = frame_at program plan (seen_at seens p) k j in
+        let ls : List FlowEdge = left_edges program plan (seen_at seens p) p k j frame (postlog_cells plan b) vs in
+        let last : FlowEdge = bare_edge Control (control_origin program plan (seen_at seens p) p k j l) in
+        let a = left_little frame (postlog_cells plan b) vs (λ e q. subst (λ z. In e z) are (in_left e ls (last ∷ []) q)) in
+        let c = control_here l in
+        let sum = parts_steps xs p (left_replays program plan (seen_at seens p) p k j frame (postlog_cells plan b) vs) (control_replays program plan (seen_at seens p) p k j l) in
+        let long : length es ≡ length ls + 1 = sym (ap length are) ∙ length-append ls (last ∷ []) in
+        subst (λ n. steps (of_process p (nested_replays program plan (seen_at seens p) p k j m b vs (block.Loop l))) ≤ n * (N + N)) (sym long)
+        (subst (λ s. s ≤ (length ls + 1) * (N + N)) (sym sum) (and_one _ _ (length ls) a c))
+    nested_little m b [] (block.Function g) are = omega arith
+    nested_little m b [] (block.Process g) are = omega arith
+    nested_little m b (u ∷ vs) (block.Function g) are = returned m u vs are
+    nested_little m b (u ∷ vs) (block.Process g) are = returned m u vs are

@@ -1,0 +1,222 @@
+-- The replays for one local cell have at most twice the own steps of the near intervals, those for control too.
+use Rattle.std.proofs.Common.{◌≡◌, ℕ, ◌+◌, ◌<◌, ◌≤◌, Bool, true, false, get_or, List, [], ◌∷◌, ◌++◌, Option, Some, None, refl, ap, ap₂, sym, ◌∙◌, subst, arith, inl, inr, ◌⊎◌, eq-eqb, if◌then◌else◌}
+use Rattle.std.specs.Prelude.{length, slice_get, unwrap_or, ◌-◌, ◌&&◌, ◌||◌}
+use Rattle.std.proofs.lemmas.Option.{none-some}
+use Rattle.ppd_ast.specs.declared.plan.BlockKind.{BlockKind}
+use Rattle.ppd_ast.specs.declared.plan.BlockKind.TheVariants as block
+use Rattle.ppd_ast.specs.declared.plan.Plan.{Plan}
+use Rattle.ppd_ast.specs.declared.program.Program.{Program}
+use Rattle.ppd_sem.specs.Blocks.{prelog_cells}
+use Rattle.ppd_model.specs.declared.flow.FlowEdge.{FlowEdge}
+use Rattle.ppd_model.specs.declared.flow.Origin.{Origin}
+use Rattle.ppd_model.specs.FlowbackEdges.{edges, part_at}
+use Rattle.ppd_model.specs.Intervals.{Span, Split, splits}
+use Rattle.ppd_model.specs.NearIntervals.{is_in, is_near_origin, is_open_at, near_steps, round_of, surroundings}
+use Rattle.ppd_model.specs.Story.{story}
+use Rattle.ppd_model.proofs.Changes.{some}
+use Rattle.ppd_model.proofs.Tested.{In, here as first_in}
+use Rattle.ppd_flow_model.specs.Control.{call_replays, control_above_replays, control_in, control_replays}
+use Rattle.ppd_flow_model.specs.Locals.{above_replays, local_above, local_in, local_in_replays, local_origin, local_replays, outer_frame, parameter, parameter_replays}
+use Rattle.ppd_flow_model.specs.Seen.{Seen, items_at, kind_at, last_item, outer_of, outer_place, seen_of, unless}
+use Rattle.ppd_flow_model.specs.Shared.{of_process}
+use Rattle.law_flow_shared.proofs.Edges.Near.Tree.{HasTree}
+use Rattle.law_flow_shared.proofs.Edges.Sources.Members.{in_either}
+use Rattle.law_flow_shared.proofs.Edges.Near.Distinct.{distinct_both}
+use Rattle.law_flow_shared.specs.Costs.Bounds.{steps_of_all}
+use Rattle.law_flow_shared.proofs.Costs.Own.Lists.{distinct_one, in_one}
+use Rattle.law_flow_shared.proofs.Costs.Own.Locals.{AreGood, IsGood, good_above, local_good}
+use Rattle.law_flow_shared.proofs.Costs.Own.Near.{IsNear, near_edge, near_in, near_little, near_loop, one_little, parts_steps}
+use Rattle.law_flow_shared.proofs.Costs.Own.Outer.{AllStand, IsOuter, outer_is}
+
+module _ (program : Program) (plan : Plan) (budget : ℕ) (h : List ℕ) (p k j : ℕ) (x : Split) (there : slice_get (splits program plan budget (story program plan budget h)) p ≡ Some x) (es : List FlowEdge)
+    (edges_are : edges program plan budget (story program plan budget h) p k j ≡ Some es) (tree : HasTree x) (F : ℕ → ℕ → ℕ → Type 0) (stands : AllStand F x) (i : Span) (at : slice_get x.spans k ≡ Some i) where
+  abbrev xs : List Split
+  xs = splits program plan budget (story program plan budget h)
+
+  abbrev N : ℕ
+  N = near_steps program plan budget (story program plan budget h) p k j
+
+  abbrev seen : Seen
+  seen = seen_of x
+
+  o : IsOuter x k i
+  o = outer_is F x stands k i at
+
+  oo : IsOuter x (outer_of (seen_of x) k) o.span
+  oo = outer_is F x stands (outer_of (seen_of x) k) o.span o.there
+
+  around : (z : ℕ) → In z (k ∷ i.round) → In z (surroundings x k)
+  around z f = subst (λ l. In z (k ∷ round_of l)) (sym at) f
+
+  outer_around : In (outer_of (seen_of x) k) (surroundings x k)
+  outer_around = around (outer_of (seen_of x) k) o.near
+
+  farther_around : In (outer_of (seen_of x) (outer_of (seen_of x) k)) (surroundings x k)
+  farther_around = around (outer_of (seen_of x) (outer_of (seen_of x) k)) (o.round (outer_of (seen_of x) (outer_of (seen_of x) k)) oo.near)
+
+  -- the intervals found in one of those round the item are near, where another one is the origin of an edge
+  good_near : (c b : ℕ) (found : Option Origin) (from : Origin) → In b (surroundings x k) → (found ≡ None) ⊎ (found ≡ Some from) → (e : FlowEdge) → In e es → e.from ≡ from
+      → (z : ℕ) (s : Span) → IsGood program plan x tree p c b found z → slice_get x.spans z ≡ Some s → IsNear program plan budget h p k j x there es edges_are p x z s
+  good_near c b found from near f e g is z s (inl l) at' = near_loop program plan budget h p k j x there es edges_are b z s near l at'
+  good_near c b found from near (inl none) e g is z s (inr r) at' = absurd (none-some (last_item seen p z) (sym none ∙ r.1))
+  good_near c b found from near (inr same) e g is z s (inr r) at' =
+      let item : e.from ≡ last_item seen p z = is ∙ some (sym same ∙ r.1) in
+      near_edge program plan budget h p k j x there es edges_are e g p x z s
+      (ap (is_near_origin p x z s) item ∙ ap₂ (λ a b'. a && (b' || is_open_at x (part_at x z (length (items_at seen z) - 1)) s)) (eq-eqb p p refl) (eq-eqb z z refl))
+
+  -- lists of intervals in k or round k, and one more that is round it with a smaller number
+  with_one : (c b m : ℕ) (found : Option Origin) (from : Origin) (rs : List ℕ) → In b (surroundings x k) → In m (surroundings x k) → m ≤ b → (found ≡ None) ⊎ (found ≡ Some from) → (e : FlowEdge) → In e es → e.from ≡ from
+      → AreGood program plan x tree p c b found rs → steps_of_all xs (of_process p rs) + steps_of_all xs (of_process p (m ∷ [])) ≤ N
+  with_one c b m found from rs near near' le f e g is good =
+      let sum = parts_steps xs p rs (m ∷ []) in
+      let little : steps_of_all xs (of_process p (rs ++ m ∷ [])) ≤ N = near_little program plan budget h p k j x there es edges_are p x (rs ++ m ∷ []) there (record {
+        once = distinct_both rs (m ∷ []) good.once (distinct_one m) (λ z a b'.
+            let lt : b < z = good_above program plan x tree p c b found z (good.each z a) in
+            let same : z ≡ m = in_one z m b' in
+            omega (arith, lt, same, le));
+        close = λ z s q at'. elim (in_either z rs (m ∷ []) q) [
+          | inl a ↦ good_near c b found from near f e g is z s (good.each z a) at'
+          | inr b' ↦ near_in program plan budget h p k j x there es edges_are z s (subst (λ y. In y (surroundings x k)) (sym (in_one z m b')) near')
+        ];
+      }) in
+      omega (arith, sum, little)
+
+  -- without one more
+  alone : (c b : ℕ) (found : Option Origin) (from : Origin) (rs : List ℕ) → In b (surroundings x k) → (found ≡ None) ⊎ (found ≡ Some from) → (e : FlowEdge) → In e es → e.from ≡ from
+      → AreGood program plan x tree p c b found rs → steps_of_all xs (of_process p rs) ≤ N
+  alone c b found from rs near f e g is good = let r = with_one c b b found from rs near near (omega arith) f e g is good in omega (arith, r)
+
+  -- with the interval that they are in
+  and_itself : (c b : ℕ) (found : Option Origin) (from : Origin) (rs : List ℕ) → In b (surroundings x k) → (found ≡ None) ⊎ (found ≡ Some from) → (e : FlowEdge) → In e es → e.from ≡ from
+      → AreGood program plan x tree p c b found rs → steps_of_all xs (of_process p (b ∷ rs)) ≤ N
+  and_itself c b found from rs near f e g is good =
+      let one = with_one c b b found from rs near near (omega arith) f e g is good in
+      let sum = parts_steps xs p (b ∷ []) rs in
+      omega (arith, one, sum)
+
+  -- ---- a local cell
+
+  module _ (c at_place frame : ℕ) (e : FlowEdge) (g : In e es) (is : e.from ≡ local_origin program plan (seen_of x) p k at_place frame c) where
+    abbrev rs : List ℕ
+    rs = local_in_replays program plan (seen_of x) p k at_place frame c
+
+    abbrev outer : ℕ
+    outer = outer_of (seen_of x) k
+
+    good : AreGood program plan x tree p c k (local_in program plan (seen_of x) p k at_place frame c) (local_in_replays program plan (seen_of x) p k at_place frame c)
+    good = local_good program plan x tree p c k at_place frame i at
+
+    abbrev rs' : List ℕ
+    rs' = local_in_replays program plan (seen_of x) p (outer_of (seen_of x) k) (outer_place (seen_of x) k) (outer_frame program plan (seen_of x) k) c
+
+    abbrev found' : Option Origin
+    found' = local_in program plan (seen_of x) p (outer_of (seen_of x) k) (outer_place (seen_of x) k) (outer_frame program plan (seen_of x) k) c
+
+    good' : AreGood program plan x tree p c outer found' rs'
+    good' = local_good program plan x tree p c outer (outer_place (seen_of x) k) (outer_frame program plan (seen_of x) k) o.span o.there
+
+    here : In k (surroundings x k)
+    here = around k first_in
+
+    -- a parameter of an interval: the one round it, or none
+    parameter_cases : (m : ℕ) (kind : BlockKind) → (parameter_replays plan (seen_of x) m c kind ≡ []) ⊎ (parameter_replays plan (seen_of x) m c kind ≡ outer_of (seen_of x) m ∷ [])
+    parameter_cases m (block.Function f) = by (is_in c (prelog_cells plan (get_or (seen_of x).blocks m 0)))
+      where
+        by : (b : Bool) → ((if b then outer_of (seen_of x) m ∷ [] else []) ≡ []) ⊎ ((if b then outer_of (seen_of x) m ∷ [] else []) ≡ outer_of (seen_of x) m ∷ [])
+        by true = inr refl
+        by false = inl refl
+    parameter_cases m (block.Process q) = inl refl
+    parameter_cases m (block.Loop l) = inl refl
+
+    -- with a parameter of k or of the one round it
+    with_parameter : (m : ℕ) (kind : BlockKind) (from : Origin) → In (outer_of (seen_of x) m) (surroundings x k) → outer_of (seen_of x) m ≤ k
+        → (local_in program plan (seen_of x) p k at_place frame c ≡ None) ⊎ (local_in program plan (seen_of x) p k at_place frame c ≡ Some from) → e.from ≡ from
+        → steps_of_all xs (of_process p rs) + steps_of_all xs (of_process p (parameter_replays plan (seen_of x) m c kind)) ≤ N
+    with_parameter m kind from near le f same = elim (parameter_cases m kind) [
+      | inl none ↦
+          let r = alone c k (local_in program plan (seen_of x) p k at_place frame c) from rs here f e g same good in
+          let z : steps_of_all xs (of_process p (parameter_replays plan (seen_of x) m c kind)) ≡ 0 = ap (λ l. steps_of_all xs (of_process p l)) none in
+          omega (arith, r, z)
+      | inr one ↦
+          let r = with_one c k (outer_of (seen_of x) m) (local_in program plan (seen_of x) p k at_place frame c) from rs here near le f e g same good in
+          let z : steps_of_all xs (of_process p (parameter_replays plan (seen_of x) m c kind)) ≡ steps_of_all xs (of_process p (outer_of (seen_of x) m ∷ [])) = ap (λ l. steps_of_all xs (of_process p l)) one in
+          omega (arith, r, z)
+    ]
+
+    abbrev Bounded : List ℕ → Type 0
+    Bounded l = steps_of_all xs (of_process p (rs ++ l)) ≤ N + N
+
+    plain : (kind : BlockKind) → local_in program plan (seen_of x) p k at_place frame c ≡ None → Bounded (parameter_replays plan (seen_of x) k c kind)
+    plain kind none =
+        let a = with_parameter k kind e.from outer_around o.below (inl none) refl in
+        let sum = parts_steps xs p rs (parameter_replays plan (seen_of x) k c kind) in
+        omega (arith, a, sum)
+
+    -- nothing is found in k
+    by_kind : (kind : BlockKind) → local_in program plan (seen_of x) p k at_place frame c ≡ None → e.from ≡ local_above program plan (seen_of x) p k c kind → Bounded (above_replays program plan (seen_of x) p k c kind)
+    by_kind (block.Loop l) none same = by found' refl
+      where
+        first : (w : List ℕ) → steps_of_all xs (of_process p (rs ++ outer ∷ (rs' ++ w))) ≡ steps_of_all xs (of_process p rs) + (steps_of_all xs (of_process p (outer ∷ rs')) + steps_of_all xs (of_process p w))
+        first w = parts_steps xs p rs (outer ∷ (rs' ++ w)) ∙ ap (λ z. steps_of_all xs (of_process p rs) + z) (parts_steps xs p (outer ∷ rs') w)
+
+        by : (f : Option Origin) → found' ≡ f
+            → Bounded (outer ∷ (rs' ++ unless found' (parameter_replays plan (seen_of x) outer c (kind_at plan (seen_of x) outer))))
+        by (Some from) q =
+            let from_is : e.from ≡ from = same ∙ ap (λ (w : Option Origin). unwrap_or w (parameter plan (seen_of x) p outer c (kind_at plan (seen_of x) outer))) q in
+            let a = alone c k (local_in program plan (seen_of x) p k at_place frame c) from rs here (inl none) e g from_is good in
+            let b = and_itself c outer found' from rs' outer_around (inr q) e g from_is good' in
+            let sum = first [] in
+            subst (λ (w : Option Origin). Bounded (outer ∷ (rs' ++ unless w (parameter_replays plan (seen_of x) outer c (kind_at plan (seen_of x) outer))))) (sym q)
+            (let z : steps_of_all xs (of_process p []) ≡ 0 = refl in omega (arith, a, b, sum, z))
+        by None q =
+            let a = with_parameter outer (kind_at plan (seen_of x) outer) e.from farther_around (let l1 = o.below in let l2 = oo.below in omega (arith, l1, l2)) (inl none) refl in
+            let b = and_itself c outer found' e.from rs' outer_around (inl q) e g refl good' in
+            let sum = first (parameter_replays plan (seen_of x) outer c (kind_at plan (seen_of x) outer)) in
+            subst (λ (w : Option Origin). Bounded (outer ∷ (rs' ++ unless w (parameter_replays plan (seen_of x) outer c (kind_at plan (seen_of x) outer))))) (sym q)
+            (omega (arith, a, b, sum))
+    by_kind (block.Function f) none same = plain (block.Function f) none
+    by_kind (block.Process f) none same = plain (block.Process f) none
+
+    -- all
+    pub local_little : steps_of_all (splits program plan budget (story program plan budget h)) (of_process p (local_replays program plan (seen_of x) p k at_place frame c))
+        ≤ near_steps program plan budget (story program plan budget h) p k j + near_steps program plan budget (story program plan budget h) p k j
+    local_little = by (local_in program plan (seen_of x) p k at_place frame c) refl
+      where
+        by : (f : Option Origin) → local_in program plan (seen_of x) p k at_place frame c ≡ f
+            → Bounded (unless (local_in program plan (seen_of x) p k at_place frame c) (above_replays program plan (seen_of x) p k c (kind_at plan (seen_of x) k)))
+        by (Some from) q =
+            let from_is : e.from ≡ from = is ∙ ap (λ (w : Option Origin). unwrap_or w (local_above program plan (seen_of x) p k c (kind_at plan (seen_of x) k))) q in
+            let a = alone c k (local_in program plan (seen_of x) p k at_place frame c) from rs here (inr q) e g from_is good in
+            let sum = parts_steps xs p rs [] in
+            subst (λ (w : Option Origin). Bounded (unless w (above_replays program plan (seen_of x) p k c (kind_at plan (seen_of x) k)))) (sym q)
+            (let z : steps_of_all xs (of_process p []) ≡ 0 = refl in omega (arith, a, sum, z))
+        by None q =
+            subst (λ (w : Option Origin). Bounded (unless w (above_replays program plan (seen_of x) p k c (kind_at plan (seen_of x) k)))) (sym q)
+            (by_kind (kind_at plan (seen_of x) k) q (is ∙ ap (λ (w : Option Origin). unwrap_or w (local_above program plan (seen_of x) p k c (kind_at plan (seen_of x) k))) q))
+
+  -- ---- control
+
+  call_little : (m : ℕ) (kind : BlockKind) → In (outer_of (seen_of x) m) (surroundings x k) → steps_of_all xs (of_process p (call_replays (seen_of x) m kind)) ≤ N
+  call_little m (block.Function f) near = one_little program plan budget h p k j x there es edges_are (outer_of (seen_of x) m) near
+  call_little m (block.Process f) near = omega arith
+  call_little m (block.Loop l) near = omega arith
+
+  unless_little : (f : Option Origin) (ms : List ℕ) (n : ℕ) → steps_of_all xs (of_process p ms) ≤ n → steps_of_all xs (of_process p (unless f ms)) ≤ n
+  unless_little None ms n le = le
+  unless_little (Some from) ms n le = omega arith
+
+  above_little : (kind : BlockKind) → steps_of_all xs (of_process p (control_above_replays program plan (seen_of x) p k kind)) ≤ N + N
+  above_little (block.Loop l) =
+      let outer : ℕ = outer_of (seen_of x) k in
+      let rest : List ℕ = unless (control_in program plan (seen_of x) p outer (outer_place (seen_of x) k) l) (call_replays (seen_of x) outer (kind_at plan (seen_of x) outer)) in
+      let a = one_little program plan budget h p k j x there es edges_are outer outer_around in
+      let b = unless_little (control_in program plan (seen_of x) p outer (outer_place (seen_of x) k) l) (call_replays (seen_of x) outer (kind_at plan (seen_of x) outer)) N
+      (call_little outer (kind_at plan (seen_of x) outer) farther_around) in
+      let sum = parts_steps xs p (outer ∷ []) rest in
+      omega (arith, a, b, sum)
+  above_little (block.Function f) = let a = call_little k (block.Function f) outer_around in omega (arith, a)
+  above_little (block.Process f) = let a = call_little k (block.Process f) outer_around in omega (arith, a)
+
+  pub control_little : (place s : ℕ) → steps_of_all (splits program plan budget (story program plan budget h)) (of_process p (control_replays program plan (seen_of x) p k place s))
+      ≤ near_steps program plan budget (story program plan budget h) p k j + near_steps program plan budget (story program plan budget h) p k j
+  control_little place s = unless_little (control_in program plan (seen_of x) p k place s) (control_above_replays program plan (seen_of x) p k (kind_at plan (seen_of x) k)) (N + N) (above_little (kind_at plan (seen_of x) k))

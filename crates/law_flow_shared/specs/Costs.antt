@@ -1,0 +1,2 @@
+-- What the replays for an item's edges cost.
+pub mod Bounds

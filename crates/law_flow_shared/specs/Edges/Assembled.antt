@@ -1,0 +1,46 @@
+-- All edges of an item are found, where those within the process are.
+use Rattle.std.specs.Prelude.{◌≡◌, ℕ, List, [], slice_get, zip, option_map, Some, Ok}
+use Rattle.ppd_ast.specs.Valid.{IsValid}
+use Rattle.ppd_ast.specs.declared.plan.Plan.{Plan}
+use Rattle.ppd_ast.specs.declared.program.Program.{Program}
+use Rattle.ppd_sem.specs.declared.event.Access.{Access}
+use Rattle.ppd_sem.specs.declared.event.Spot.TheVariants.{Local}
+use Rattle.ppd_sem.specs.Blocks.{block_kind}
+use Rattle.ppd_model.specs.declared.trace.TracedEvent.{TracedEvent}
+use Rattle.ppd_model.specs.FlowbackEdges.{edges, edges_of_nested as model_edges_of_nested, from_parent, from_writer, part_at}
+use Rattle.ppd_model.specs.FullTrace.{Tag}
+use Rattle.ppd_model.specs.Intervals.{own, nested, Span, Split, splits}
+use Rattle.ppd_model.specs.Logs.{closed_logs}
+use Rattle.ppd_model.specs.Races.{races}
+use Rattle.ppd_model.specs.Schedule.{run}
+use Rattle.ppd_model.specs.Story.{story}
+use Rattle.ppd_model.specs.World.{World}
+use Rattle.ppd_flow_model.specs.Control.{control_origin}
+use Rattle.ppd_flow_model.specs.Found.{found_edges}
+use Rattle.ppd_flow_model.specs.Locals.{local_origin}
+use Rattle.ppd_flow_model.specs.Own.{edges_of_nested}
+use Rattle.ppd_flow_model.specs.Seen.{seen_of}
+use Rattle.law_flow_shared.specs.Edges.SharedEdges.{all_seen}
+
+-- what is found within the process for item j of interval k is as the model has it: of an event the writers of the
+-- local cells that it reads and its control, of an interval all edges
+pub record HasOwnParts (program : Program) (plan : Plan) (xs : List Split) (x : Split) (p k j : ℕ) : Type 0 where
+  pub locals : (n i frame c : ℕ) (e : TracedEvent) (a : Access) (w : Tag) → part_at x k j ≡ Some (own n)
+      → slice_get x.trace.events n ≡ Some e → slice_get (zip e.event.reads e.writers) i ≡ Some (a, w)
+      → a.spot ≡ Local frame c → local_origin program plan (seen_of x) p k j frame c ≡ from_writer xs w
+  pub control : (n : ℕ) (e : TracedEvent) → part_at x k j ≡ Some (own n) → slice_get x.trace.events n ≡ Some e
+      → control_origin program plan (seen_of x) p k j e.event.stmt ≡ from_parent xs e.parent
+  pub inside : (m : ℕ) (i : Span) → part_at x k j ≡ Some (nested m) → slice_get x.spans m ≡ Some i
+      → edges_of_nested program plan (seen_of x) p k j m i.block i.values (block_kind plan i.block)
+      ≡ model_edges_of_nested plan xs i
+
+-- then, in a run of a valid program without a race, the edges found are the item's, and none where there is no such
+-- item
+abbrev pub EdgesAreFound : Type 0
+EdgesAreFound =
+    (program : Program) (plan : Plan) (budget : ℕ) (h : List ℕ) (w : World) → IsValid program
+    → run program plan budget h ≡ Some w → races program plan budget h ≡ []
+    → (p k j : ℕ) (x : Split) → slice_get (splits program plan budget (story program plan budget h)) p ≡ Some x
+    → HasOwnParts program plan (splits program plan budget (story program plan budget h)) x p k j
+    → found_edges program plan (closed_logs program plan budget h) (all_seen program plan budget h) p k j
+    ≡ option_map (λ es. Ok es) (edges program plan budget (story program plan budget h) p k j)

@@ -1,0 +1,5 @@
+//! Laws of what the other calls give: each is the contract of a function that does nothing.
+
+pub mod graph;
+pub mod index;
+pub mod recording;

@@ -1,0 +1,30 @@
+-- A replay of an interval beside the process that ran it: the invariant between them, which each
+-- step keeps, and the blocks that are open by what is still to do.
+pub mod Todos
+pub mod LoopKinds
+pub mod Entries
+pub mod Needs
+pub mod Sends
+pub mod Asked
+pub mod Deeds
+pub mod OfLoop
+pub mod Frames
+pub mod Framed
+pub mod DeedSteps
+pub mod StaysBy
+pub mod HeadNeeds
+pub mod Steps
+pub mod Events
+pub mod Turned
+pub mod Opens
+pub mod Staying
+pub mod Kept
+pub mod Closes
+pub mod Instance
+pub mod KeptFine
+pub mod Filled
+pub mod Skipped
+pub mod Closing
+pub mod Writes
+pub mod Held
+pub mod Left

@@ -1,0 +1,201 @@
+-- What each entry makes of the index, as it matters to one interval.
+use Rattle.std.proofs.Common.{◌≡◌, ℕ, zero, suc, ◌+◌, ◌<◌, ◌≤◌, List, [], ◌∷◌, ◌++◌, length, Some, None, refl, ◌∙◌, subst, arith}
+use Rattle.std.proofs.lemmas.List.{length-append}
+use Rattle.std.proofs.lemmas.Option.{none-some}
+use Rattle.std.specs.Prelude.{slice_get, ℤ}
+use Rattle.ppd_entry.specs.IntervalLogs.{Indexed, add_piece, add_piece_at, interval_at, left_open, with_piece}
+use Rattle.ppd_entry.specs.Pieces.{Piece, nested, unfinished, postlog}
+use Rattle.law_replay.specs.Coming.Pieces.{Inner}
+use Rattle.law_replay.proofs.Coming.Indexes.{added_length, At, Grows, IsInside, Past, Rests, falls_on, falls_rest, more, piece_inner, piece_own, piece_past, put_block, put_last, put_last_block, put_there, runs_alike, same}
+use Rattle.ppd_model.proofs.Extents.{Fall}
+
+pub piece_length : (n : ℕ) (p : Piece) (ks : List ℕ) (xs : List Indexed) → length (add_piece n p ks xs) ≡ length xs
+piece_length n p [] xs = refl
+piece_length n p (k ∷ ks) xs = added_length n p k xs
+
+pub open_length : (ks : List ℕ) (xs : List Indexed) → length (left_open ks xs) ≡ length xs
+open_length [] xs = refl
+open_length (k ∷ ks) xs =
+    let i = interval_at xs k in
+    open_length ks (add_piece i.first (unfinished k i.log.block) ks xs) ∙ piece_length i.first
+    (unfinished k i.log.block) ks xs
+
+-- ---- a prelog
+
+put_falls : (xs : List Indexed) (ks : List ℕ) (y : Indexed) → Fall (length xs) ks
+    → Fall (length (xs ++ y ∷ [])) (length xs ∷ ks)
+put_falls xs ks y f = (
+  let e : length (xs ++ y ∷ []) ≡ length xs + 1 = length-append xs
+      (y ∷ []) in let z : length xs < length (xs ++ y ∷ []) = omega (arith, e) in z,
+  f,
+)
+
+pub put_own : (xs : List Indexed) (ks : List ℕ) (y : Indexed) (k : ℕ) (i : Indexed) → At xs ks None k i
+    → At (xs ++ y ∷ []) (length xs ∷ ks) (Some (record { level = 0; interval = length xs; block = y.log.block })) k i
+put_own xs ks y k i a = record {
+  falls = put_falls xs ks y a.falls;
+  runs = (refl, put_last_block xs y, a.runs);
+  there = put_there xs y k i a.there;
+}
+
+pub put_inner : (xs : List Indexed) (ks : List ℕ) (y : Indexed) (m : Inner) (k : ℕ) (i : Indexed)
+    → At xs ks (Some m) k i → At (xs ++ y ∷ []) (length xs ∷ ks) (Some (record m { level = m.level + 1 })) k i
+put_inner xs ks y m k i a = record {
+  falls = put_falls xs ks y a.falls;
+  runs = let e : suc m.level ≡ m.level + 1 = omega arith in
+      subst (λ l. IsInside (xs ++ y ∷ []) (length xs ∷ ks) l m.interval m.block k) e
+      (runs_alike xs (xs ++ y ∷ []) (length xs) ks (Some m) k a.falls (λ j h. put_block xs y j h) a.runs);
+  there = put_there xs y k i a.there;
+}
+
+pub put_new : (xs : List Indexed) (ks : List ℕ) (y : Indexed) → Fall (length xs) ks
+    → At (xs ++ y ∷ []) (length xs ∷ ks) None (length xs) y
+put_new xs ks y f = record { falls = put_falls xs ks y f; runs = refl; there = put_last xs y }
+
+pub there_below : (xs : List Indexed) (k : ℕ) (i : Indexed) → slice_get xs k ≡ Some i → k < length xs
+there_below [] k i e = absurd (none-some i e)
+there_below (x ∷ xs) zero i e = omega arith
+there_below (x ∷ xs) (suc k) i e = let z : k < length xs = there_below xs k i e in omega (arith, z)
+
+pub put_past : (xs : List Indexed) (ks : List ℕ) (y : Indexed) (k : ℕ) (i : Indexed) → Past xs ks k i
+    → Past (xs ++ y ∷ []) (length xs ∷ ks) k i
+put_past xs ks y k i a = record {
+  falls = put_falls xs ks y a.falls;
+  rests = (λ e. let z : k < length xs = there_below xs k i a.there in omega (arith, z, e), a.rests);
+  there = put_there xs y k i a.there;
+}
+
+-- ---- a postlog
+
+abbrev pub popped : ℕ → List ℤ → ℕ → List ℕ → List Indexed → List Indexed
+popped n values j ks xs =
+    add_piece (interval_at xs j).first (nested j (interval_at xs j).log.block values) ks
+    (add_piece_at n (postlog values) j xs)
+
+down : (xs : List Indexed) (j : ℕ) (ks : List ℕ) → Fall (length xs) (j ∷ ks) → Fall (length xs) ks
+down xs j ks f = falls_on j (length xs) ks f.1 f.0
+
+pub rest_below : (j k : ℕ) (ks : List ℕ) → Fall j ks → j ≡ k → Rests ks k
+rest_below j k ks f e = subst (λ l. Rests ks l) e (falls_rest j ks f)
+
+pub pop_own : (n : ℕ) (values : List ℤ) (xs : List Indexed) (j : ℕ) (ks : List ℕ) (k : ℕ) (i : Indexed)
+    → At xs (j ∷ ks) None k i → Past (popped n values j ks xs) ks k (with_piece n (postlog values) i)
+pop_own n values xs j ks k i a =
+    let b : At (add_piece_at n (postlog values) j xs) (j ∷ ks) None k (with_piece n (postlog values) i) =
+    piece_own n (postlog values) xs (j ∷ ks) k i a in
+    piece_past (interval_at xs j).first (nested j (interval_at xs j).log.block values)
+    (add_piece_at n (postlog values) j xs) ks k (with_piece n (postlog values) i)
+    (record {
+      falls = down (add_piece_at n (postlog values) j xs) j ks b.falls;
+      rests = rest_below j k ks a.falls.1 a.runs;
+      there = b.there;
+    })
+
+pub pop_leaves : (n : ℕ) (values : List ℤ) (xs : List Indexed) (j : ℕ) (ks : List ℕ) (m b k : ℕ) (i : Indexed)
+    → At xs (j ∷ ks) (Some (record { level = zero; interval = m; block = b })) k i
+    → At (popped n values j ks xs) ks None k (with_piece (interval_at xs j).first (nested m b values) i)
+pop_leaves n values xs j ks m b k i a =
+    let o : At (add_piece_at n (postlog values) j xs) (j ∷ ks)
+    (Some (record { level = zero; interval = m; block = b })) k i =
+    piece_inner n (postlog values) xs (j ∷ ks) (record { level = zero; interval = m; block = b }) k i a in
+    let p : At (add_piece_at n (postlog values) j xs) ks None k i =
+    record {
+      falls = down (add_piece_at n (postlog values) j xs) j ks o.falls;
+      runs = o.runs.2;
+      there = o.there;
+    } in
+    let q : At (popped n values j ks xs) ks None k
+    (with_piece (interval_at xs j).first (nested j (interval_at xs j).log.block values) i) =
+    piece_own (interval_at xs j).first (nested j (interval_at xs j).log.block values)
+    (add_piece_at n (postlog values) j xs) ks k i p in
+    subst (λ l. At (popped n values j ks xs) ks None k
+    (with_piece (interval_at xs j).first (nested l b values) i)) a.runs.0
+    (subst (λ l. At (popped n values j ks xs) ks None k
+    (with_piece (interval_at xs j).first (nested j l values) i)) a.runs.1 q)
+
+pub pop_inner : (n : ℕ) (values : List ℤ) (xs : List Indexed) (j : ℕ) (ks : List ℕ) (level m b k : ℕ) (i : Indexed)
+    → At xs (j ∷ ks) (Some (record { level = suc level; interval = m; block = b })) k i
+    → At (popped n values j ks xs) ks (Some (record { level = level; interval = m; block = b })) k i
+pop_inner n values xs j ks level m b k i a =
+    let o : At (add_piece_at n (postlog values) j xs) (j ∷ ks)
+    (Some (record { level = suc level; interval = m; block = b })) k i =
+    piece_inner n (postlog values) xs (j ∷ ks) (record { level = suc level; interval = m; block = b }) k i a in
+    piece_inner (interval_at xs j).first (nested j (interval_at xs j).log.block values)
+    (add_piece_at n (postlog values) j xs) ks (record { level = level; interval = m; block = b }) k i
+    (record { falls = down (add_piece_at n (postlog values) j xs) j ks o.falls; runs = o.runs; there = o.there })
+
+pub pop_past : (n : ℕ) (values : List ℤ) (xs : List Indexed) (j : ℕ) (ks : List ℕ) (k : ℕ) (i : Indexed)
+    → Past xs (j ∷ ks) k i → Past (popped n values j ks xs) ks k i
+pop_past n values xs j ks k i a =
+    let o : Past (add_piece_at n (postlog values) j xs) (j ∷ ks) k i =
+    piece_past n (postlog values) xs (j ∷ ks) k i a in
+    piece_past (interval_at xs j).first (nested j (interval_at xs j).log.block values)
+    (add_piece_at n (postlog values) j xs) ks k i
+    (record { falls = down (add_piece_at n (postlog values) j xs) j ks o.falls; rests = o.rests.1; there = o.there })
+
+-- ---- an end
+
+pub open_past : (xs : List Indexed) (ks : List ℕ) (k : ℕ) (i : Indexed) → Past xs ks k i
+    → slice_get (left_open ks xs) k ≡ Some i
+open_past xs [] k i a = a.there
+open_past xs (j ∷ ks) k i a =
+    let x = interval_at xs j in
+    open_past (add_piece x.first (unfinished j x.log.block) ks xs) ks k i
+    (piece_past x.first (unfinished j x.log.block) xs ks k i
+    (record { falls = down xs j ks a.falls; rests = a.rests.1; there = a.there }))
+
+pub open_own : (xs : List Indexed) (ks : List ℕ) (k : ℕ) (i : Indexed) → At xs ks None k i
+    → slice_get (left_open ks xs) k ≡ Some i
+open_own xs [] k i a = absurd a.runs
+open_own xs (j ∷ ks) k i a =
+    let x = interval_at xs j in
+    open_past (add_piece x.first (unfinished j x.log.block) ks xs) ks k i
+    (piece_past x.first (unfinished j x.log.block) xs ks k i
+    (record { falls = down xs j ks a.falls; rests = rest_below j k ks a.falls.1 a.runs; there = a.there }))
+
+pub open_inner : (xs : List Indexed) (ks : List ℕ) (level m b k : ℕ) (i : Indexed)
+    → At xs ks (Some (record { level = level; interval = m; block = b })) k i
+    → Grows i (unfinished m b ∷ []) (slice_get (left_open ks xs) k)
+open_inner xs [] level m b k i a = absurd a.runs
+open_inner xs (j ∷ ks) zero m b k i a =
+    let x = interval_at xs j in
+    let q : At (add_piece x.first (unfinished j x.log.block) ks xs) ks None k
+    (with_piece x.first (unfinished j x.log.block) i) =
+    piece_own x.first (unfinished j x.log.block) xs ks k i
+    (record { falls = down xs j ks a.falls; runs = a.runs.2; there = a.there }) in
+    subst (λ l. Grows i (unfinished l b ∷ []) (slice_get (left_open (j ∷ ks) xs) k)) a.runs.0
+    (subst (λ l. Grows i (unfinished j l ∷ []) (slice_get (left_open (j ∷ ks) xs) k)) a.runs.1
+    (more x.first (unfinished j x.log.block) i [] (slice_get (left_open (j ∷ ks) xs) k)
+    (same (with_piece x.first (unfinished j x.log.block) i) (slice_get (left_open (j ∷ ks) xs) k)
+    (open_own (add_piece x.first (unfinished j x.log.block) ks xs) ks k
+    (with_piece x.first (unfinished j x.log.block) i) q))))
+open_inner xs (j ∷ ks) (suc level) m b k i a =
+    let x = interval_at xs j in
+    open_inner (add_piece x.first (unfinished j x.log.block) ks xs) ks level m b k i
+    (piece_inner x.first (unfinished j x.log.block) xs ks (record { level = level; interval = m; block = b }) k i
+    (record { falls = down xs j ks a.falls; runs = a.runs; there = a.there }))
+
+-- the end of the process, in the innermost and in those round it
+pub end_own : (n : ℕ) (p : Piece) (xs : List Indexed) (ks : List ℕ) (k : ℕ) (i : Indexed) → At xs ks None k i
+    → Grows i (p ∷ []) (slice_get (left_open ks (add_piece n p ks xs)) k)
+end_own n p xs ks k i a =
+    let o = slice_get (left_open ks (add_piece n p ks xs)) k in
+    more n p i [] o (same (with_piece n p i) o
+    (open_own (add_piece n p ks xs) ks k (with_piece n p i) (piece_own n p xs ks k i a)))
+
+pub end_inner : (n : ℕ) (p : Piece) (xs : List Indexed) (ks : List ℕ) (m : Inner) (k : ℕ) (i : Indexed)
+    → At xs ks (Some m) k i → Grows i (unfinished m.interval m.block ∷ [])
+    (slice_get (left_open ks (add_piece n p ks xs)) k)
+end_inner n p xs ks m k i a =
+    open_inner (add_piece n p ks xs) ks m.level m.interval m.block k i (piece_inner n p xs ks m k i a)
+
+pub end_past : (n : ℕ) (p : Piece) (xs : List Indexed) (ks : List ℕ) (k : ℕ) (i : Indexed) → Past xs ks k i
+    → Grows i [] (slice_get (left_open ks (add_piece n p ks xs)) k)
+end_past n p xs ks k i a =
+    same i (slice_get (left_open ks (add_piece n p ks xs)) k)
+    (open_past (add_piece n p ks xs) ks k i (piece_past n p xs ks k i a))
+
+pub none_past : (xs : List Indexed) (k : ℕ) → length xs ≤ k → slice_get xs k ≡ None
+none_past [] k h = refl
+none_past (x ∷ xs) zero h = let z : ⊥ = omega (arith, h) in absurd z
+none_past (x ∷ xs) (suc k) h = none_past xs k (omega (arith, h))

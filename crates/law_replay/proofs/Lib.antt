@@ -1,0 +1,9 @@
+pub mod Beside
+pub mod Crossing
+pub mod InForce
+pub mod Coming
+pub mod Spans
+pub mod Facts
+pub mod Alone
+pub mod Openings
+pub mod Theorem

@@ -1,0 +1,4 @@
+pub mod Beside
+pub mod InForce
+pub mod Coming
+pub mod Theorem

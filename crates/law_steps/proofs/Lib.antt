@@ -1,0 +1,4 @@
+pub mod Course
+pub mod Units
+pub mod Policies
+pub mod OpenBlocks

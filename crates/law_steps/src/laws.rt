@@ -1,0 +1,4 @@
+//! Laws of what the other calls give: each is the contract of a function that does nothing.
+
+pub mod open_blocks;
+pub mod steps;

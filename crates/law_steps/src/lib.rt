@@ -1,0 +1,11 @@
+//! Laws on the steps of a process: where each leads along the flow graph, what it reads and what it costs, and
+//! which blocks are open at each of them.
+#![tactic(auto)]
+
+mod laws;
+
+pub use laws::open_blocks::{schedules_are_runs, steps_move_blocks};
+pub use laws::steps::{
+    ends_are_last, never_runs_out, policy_steps_cost_what_they_write, reads_its_cells,
+    reads_lie_in_cells, starts_on_course, stays_on_course, steps_lead, unit_in_force_is_logged,
+};

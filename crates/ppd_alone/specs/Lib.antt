@@ -1,1 +1,0 @@
-pub use Rattle.ppd_inforce.specs.InForce

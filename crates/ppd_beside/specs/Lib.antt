@@ -1,9 +1,0 @@
-pub mod Laws
-pub mod Over
-pub mod Beside
-pub mod Held
-pub mod Opens
-pub mod Alone
-pub mod Across
-pub mod Fine
-pub mod Calls

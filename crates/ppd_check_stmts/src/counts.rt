@@ -1,0 +1,131 @@
+// The parts of a `for`, as statements.
+ghost use Rattle.std.specs.Prelude.{◌≡◌, ◌<◌, ◌≤◌, ◌-◌, OnOk, length, take, drop, ◌+◌, ◌*◌};
+ghost use Rattle.ppd_check_names.specs.Nodes.{operand_formula, IsOperand, below};
+ghost use Rattle.ppd_check_stmts.specs.Plain.{row_any};
+ghost use Rattle.ppd_check_names.specs.Reading.{phrase, before, beyond, last, formulas, for_start, for_test, some_change};
+ghost use Rattle.ppd_check_stmts.specs.Statements.{code_of_any, faults_of_any};
+ghost use Rattle.ppd_check_names.specs.Cost.{plain_below, operand_nodes};
+ghost use Rattle.ppd_check_stmts.specs.Outputs.{Keeps, Puts, Walks};
+
+use crate::lowering::Lowering;
+use crate::parts::{part_of, past_semicolon, semicolon_from, test_among};
+use crate::values::Value;
+use ppd_ast::{Memory, Steps};
+use ppd_check_names::{Level, Operand, Source, children_of, kind_at, label_at, operand_at};
+use ppd_parse::Kind;
+use std::sync::ledger::Ledger;
+
+// The number of the last child; where there is none, that of no child.
+#[tactic(auto, using(ppd_check_names::proofs::Table::Trees::count_below))]
+pub fn last_of(source: Source<'_>, id: u32) -> usize
+    requires within { id < length source.nodes.now }
+    ensures { phrase (below source.entry id) result ≡ last (below source.entry id) }
+{
+    children_of(source, id).len().saturating_sub(1)
+}
+
+impl<L: Ledger> Lowering<'_, L> {
+    // The first part, up to the child `end`: a declared variable, or a change.
+    fn lower_first(&mut self, level: Level<'_>, id: u32, end: usize) -> Result<(), Memory>
+        requires within { id < length level.source.nodes.now }
+        requires past { 2 ≤ end }
+        ensures kept { Keeps self.old self.new }
+        ensures walked { OnOk result (Walks level.entry.site (row_any (for_start (take (end - 2) (drop 2
+            (below level.entry.source id))))) self.old self.new) }
+        ensures cost { self.new.steps.now ≤ self.old.steps.now + 18 * plain_below level.entry.source.nodes.now id + 10 }
+    {
+        let first = part_of(level.source, id, 2, end, 0);
+        match kind_at(level.source, id, first) {
+            Kind::IntWord => {
+                let name = label_at(level.source, id, part_of(level.source, id, 2, end, 1));
+                let value = Value::Plain(operand_at(
+                    level.source,
+                    id,
+                    part_of(level.source, id, 2, end, 3),
+                ));
+                self.lower_fresh(level, name, value)
+            }
+            _ => self.lower_changing(level, id, first),
+        }
+    }
+
+    // What a `for` says before its first turn.
+    pub fn lower_start(&mut self, level: Level<'_>, id: u32) -> Result<(), Memory>
+        requires within { id < length level.source.nodes.now }
+        ensures kept { Keeps self.old self.new }
+        ensures walked { OnOk result (Walks level.entry.site (row_any (for_start (before (drop 2
+            (below level.entry.source id))))) self.old self.new) }
+        ensures cost { self.new.steps.now ≤ self.old.steps.now + length (below level.entry.source id) + 18 *
+            plain_below level.entry.source.nodes.now id + 10 }
+    {
+        let end = semicolon_from(level.source, id, 2, self.steps);
+        self.lower_first(level, id, end)
+    }
+}
+
+// The test of a `for`.
+pub fn test_of<L: Ledger>(source: Source<'_>, id: u32, steps: &mut Steps<L>) -> Operand
+    requires within { id < length source.nodes.now }
+    ensures formula { operand_formula source.entry.nodes.now result ≡ for_test (formulas (before (beyond (drop 2
+        (below source.entry id))))) }
+    ensures within { IsOperand source.entry.nodes.now result }
+    ensures nodes { operand_nodes source.entry.nodes.now result ≤ plain_below source.entry.nodes.now id }
+    ensures cost { steps.new ≤ steps.old + 3 * length (below source.entry id) }
+{
+    let from = past_semicolon(source, id, 2, steps);
+    let end = semicolon_from(source, id, from, steps);
+    test_among(source, id, from, end, steps)
+}
+
+// The number of the child that a `for` says after each turn; where it says nothing, that of none that says anything.
+fn step_of<L: Ledger>(source: Source<'_>, id: u32, steps: &mut Steps<L>) -> usize
+    requires within { id < length source.nodes.now }
+    ensures value { phrase (below source.entry id) result ≡ phrase (beyond (beyond (drop 2
+        (below source.entry id)))) 0 }
+    ensures cost { steps.new ≤ steps.old + 2 * length (below source.entry id) }
+{
+    let from = past_semicolon(source, id, 2, steps);
+    past_semicolon(source, id, from, steps)
+}
+
+impl<L: Ledger> Lowering<'_, L> {
+    // What a child says that is no variable of the scope afterwards.
+    fn lower_undeclared(&mut self, level: Level<'_>, id: u32, k: usize) -> Result<(), Memory>
+        requires within { id < length level.source.nodes.now }
+        ensures kept { Keeps self.old self.new }
+        ensures wrote { OnOk result (Puts level.entry.site.body level.entry.site.parent (code_of_any (some_change
+            (phrase (below level.entry.source id) k)) self.old.frame.now) (faults_of_any (some_change (phrase
+            (below level.entry.source id) k)) self.old.frame.now) self.old self.new) }
+        ensures frame { OnOk result
+            (record self.new.frame.now { scopes = drop 1 self.new.frame.now.scopes }
+            ≡ record self.old.frame.now { scopes = drop 1 self.old.frame.now.scopes }) }
+        ensures cost { self.new.steps.now ≤ self.old.steps.now + 18 * plain_below level.entry.source.nodes.now id }
+    {
+        let before = self.frame.variables.len();
+        let cells = self.frame.cells;
+        let hidden = self.frame.hidden;
+        self.lower_changing(level, id, k)?;
+        self.frame.variables.truncate(before);
+        self.frame.cells = cells;
+        self.frame.hidden = hidden;
+        Ok(())
+    }
+
+    // What a `for` says after each turn. The variables and cells that this would declare are none of the body's.
+    pub fn lower_step(&mut self, level: Level<'_>, id: u32) -> Result<(), Memory>
+        requires within { id < length level.source.nodes.now }
+        ensures kept { Keeps self.old self.new }
+        ensures wrote { OnOk result (Puts level.entry.site.body level.entry.site.parent (code_of_any (some_change
+            (phrase (beyond (beyond (drop 2 (below level.entry.source id)))) 0)) self.old.frame.now) (faults_of_any
+            (some_change (phrase (beyond (beyond (drop 2 (below level.entry.source id)))) 0)) self.old.frame.now)
+            self.old self.new) }
+        ensures frame { OnOk result
+            (record self.new.frame.now { scopes = drop 1 self.new.frame.now.scopes }
+            ≡ record self.old.frame.now { scopes = drop 1 self.old.frame.now.scopes }) }
+        ensures cost { self.new.steps.now ≤ self.old.steps.now + 2 * length (below level.entry.source id) + 18 *
+            plain_below level.entry.source.nodes.now id }
+    {
+        let step = step_of(level.source, id, self.steps);
+        self.lower_undeclared(level, id, step)
+    }
+}

@@ -1,0 +1,15 @@
+use Rattle.ppd_codec_runs.proofs.Cells.{cells_there}
+use Rattle.ppd_codec_runs.proofs.recalling.recall.Goals as goal
+
+pub returns-clause-together : goal.returns-clause-together
+returns-clause-together c =
+    let r = c.in_ok-recording.recording in
+    record {
+      program_ok = c.in_ok-recording.ensures.program;
+      plan_ok = c.in_ok-recording.ensures.plan;
+      cells = cells_there r.program r.source r.header r.logs c.in_ok-recording.ensures.ok.lawful;
+      index_is = c.in_ok-index.ensures.index;
+      cut_index_is = c.in_ok-index.ensures.index;
+      fitting = c.in_ok-index.ensures.fitting;
+      graph_is = c.in_ok-graph.ensures.graph;
+    }

@@ -1,5 +1,0 @@
-//! Static edges of worked sources: tests.
-#![tactic(auto)]
-
-#[cfg(test)]
-mod tests;

@@ -1,8 +1,0 @@
--- What a replay costs beside the steps of its interval.
-use Rattle.std.specs.Prelude.{ℕ, ◌+◌, ◌*◌, ◌≤◌, length, Result, IfOk}
-use Rattle.ppd_emul.specs.declared.trace.BlockTrace.{BlockTrace}
-use Rattle.ppd_emul.specs.declared.trace.EmulError.{EmulError}
-
--- there are at most two items for each own step: a call and the interval that it begins
-abbrev pub HasFewItems : (before after : ℕ) → Result BlockTrace EmulError → Type 0
-HasFewItems before after answer = IfOk answer (λ t. length t.items + 2 * before ≤ 2 * after)

@@ -1,6 +1,0 @@
-mod Counted
-mod Standing
-pub mod Before
-pub mod WritingEdges
-mod RecordedWrites
-mod MissingWrites

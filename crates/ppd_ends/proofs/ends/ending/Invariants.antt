@@ -1,7 +1,0 @@
-use Rattle.std.proofs.Common.{◌≡◌, ◌+◌, drop}
-use Rattle.ppd_search.specs.Ends.{ending}
-use Rattle.ppd_ends.proofs.ends.ending.Given as goal
-
--- so many entries stand before the end, and those that are looked for among the rest
-abbrev pub invariant-loop-n : goal.invariant-loop-n
-invariant-loop-n l = l.n + ending l.left (drop l.n l.entries) ≡ ending l.edge l.entries

@@ -1,6 +1,0 @@
-use Rattle.std.proofs.Common.{◌∙◌}
-use Rattle.ppd_ends.proofs.Counted.{count_is}
-use Rattle.ppd_ends.proofs.syncs.syncs_among.Goals as goal
-
-pub returns : goal.returns
-returns c = c.count_syncs.ensures ∙ count_is c.args.entries.now

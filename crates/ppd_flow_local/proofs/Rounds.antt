@@ -1,0 +1,67 @@
+-- From an interval to the one round it.
+use Rattle.std.proofs.Common.{◌≡◌, ℕ, List, [], ◌∷◌, ◌++◌, Result, Ok, Option, None, ap, sym, ◌∙◌, subst, take}
+use Rattle.std.specs.Prelude.{unwrap_or}
+use Rattle.ppd_ast.specs.declared.plan.BlockKind.TheVariants as block
+use Rattle.ppd_model.specs.declared.flow.Item.{Item}
+use Rattle.ppd_model.specs.declared.flow.Origin.{Origin}
+use Rattle.ppd_model.specs.FullTrace.{or_else}
+use Rattle.ppd_flow_past.specs.declared.flow_error.FlowError.{FlowError}
+use Rattle.ppd_flow_model.specs.Control.{call_or_entry, call_replays, control_above, control_above_replays, control_in}
+use Rattle.ppd_flow_model.specs.Locals.{Scan, in_loops, local_in, local_in_replays, local_outside, loop_replays, outer_frame, outside_replays, scan, writer_at, writer_replays}
+use Rattle.ppd_flow_model.specs.Own.{frame_at}
+use Rattle.ppd_flow_model.specs.Seen.{items_at, kind_at, outer_of, outer_place, place_of, unless}
+use Rattle.ppd_flow_local.specs.declared.search.Search.{Search}
+use Rattle.ppd_flow_local.specs.Searches.{IsFound, plan_in, program_in, seen}
+use Rattle.ppd_flow_local.proofs.Joined.{after_none, is_given, joined}
+
+module _ (s : Search) where
+  -- what is found by a scan of the items before a place
+  pub by_scan : (k j frame c : ℕ) (items : List Item) (st : Scan) (n o : ℕ) (r : Result (Option Origin) FlowError)
+      → items ≡ items_at (seen s) k → st ≡ scan (program_in s) (plan_in s) frame c (take j items)
+      → IsFound s (loop_replays (program_in s) (plan_in s) (seen s) s.process c st.loops ++ unless (in_loops (program_in s) (plan_in s) (seen s) s.process c st.loops) (writer_replays st.writer))
+      (or_else (in_loops (program_in s) (plan_in s) (seen s) s.process c st.loops) (writer_at (seen s) s.process k st.writer)) n o r
+      → IsFound s (local_in_replays (program_in s) (plan_in s) (seen s) s.process k j frame c) (local_in (program_in s) (plan_in s) (seen s) s.process k j frame c) n o r
+  by_scan k j frame c items st n o r i e f =
+      subst (λ (z : List Item). IsFound s
+      (loop_replays (program_in s) (plan_in s) (seen s) s.process c (scan (program_in s) (plan_in s) frame c (take j z)).loops ++ unless (in_loops (program_in s) (plan_in s) (seen s) s.process c (scan (program_in s) (plan_in s) frame c (take j z)).loops) (writer_replays (scan (program_in s) (plan_in s) frame c (take j z)).writer))
+      (or_else (in_loops (program_in s) (plan_in s) (seen s) s.process c (scan (program_in s) (plan_in s) frame c (take j z)).loops) (writer_at (seen s) s.process k (scan (program_in s) (plan_in s) frame c (take j z)).writer)) n o r) i
+      (subst (λ (z : Scan). IsFound s
+      (loop_replays (program_in s) (plan_in s) (seen s) s.process c z.loops ++ unless (in_loops (program_in s) (plan_in s) (seen s) s.process c z.loops) (writer_replays z.writer))
+      (or_else (in_loops (program_in s) (plan_in s) (seen s) s.process c z.loops) (writer_at (seen s) s.process k z.writer)) n o r) e f)
+
+  module _ (k outer item : ℕ) (items : List Item) (n m : ℕ) (out : outer ≡ outer_of (seen s) k)
+      (place : item ≡ place_of k items) (got : IsFound s (outer ∷ []) (items_at (seen s) outer) n m (Ok items)) where
+    item_is : item ≡ place_of k (items_at (seen s) outer)
+    item_is = place ∙ ap (place_of k) (sym (is_given s (outer ∷ []) (items_at (seen s) outer) items n m got))
+
+    abbrev local_goal : ℕ → ℕ → ℕ → ℕ → ℕ → Result Origin FlowError → Type 0
+    local_goal at j frame c o r =
+        IsFound s (at ∷ outside_replays (program_in s) (plan_in s) (seen s) s.process at j frame c)
+        (local_outside (program_in s) (plan_in s) (seen s) s.process at j frame c) n o r
+
+    pub local_from : (frame c o : ℕ) (r : Result Origin FlowError) → frame ≡ frame_at (program_in s) (plan_in s) (seen s) outer item
+        → IsFound s (outside_replays (program_in s) (plan_in s) (seen s) s.process outer item frame c) (local_outside (program_in s) (plan_in s) (seen s) s.process outer item frame c) m o r
+        → local_goal (outer_of (seen s) k) (outer_place (seen s) k) (outer_frame (program_in s) (plan_in s) (seen s) k) c o r
+    local_from frame c o r fr f =
+        subst (λ at. local_goal at (place_of k (items_at (seen s) at)) (frame_at (program_in s) (plan_in s) (seen s) at (place_of k (items_at (seen s) at))) c o r) out
+        (subst (λ j. local_goal outer j (frame_at (program_in s) (plan_in s) (seen s) outer j) c o r) item_is
+        (subst (λ h. local_goal outer item h c o r) fr
+        (joined s (outer ∷ []) (outside_replays (program_in s) (plan_in s) (seen s) s.process outer item frame c) (items_at (seen s) outer) items
+        (local_outside (program_in s) (plan_in s) (seen s) s.process outer item frame c) n m o r got f)))
+
+    abbrev control_goal : ℕ → ℕ → ℕ → ℕ → Result Origin FlowError → Type 0
+    control_goal at j stmt o r =
+        IsFound s (at ∷ unless (control_in (program_in s) (plan_in s) (seen s) s.process at j stmt) (call_replays (seen s) at (kind_at (plan_in s) (seen s) at)))
+        (unwrap_or (control_in (program_in s) (plan_in s) (seen s) s.process at j stmt) (call_or_entry (seen s) s.process at (kind_at (plan_in s) (seen s) at))) n o r
+
+    control_moved : (stmt o : ℕ) (r : Result Origin FlowError) → control_goal outer item stmt o r
+        → control_goal (outer_of (seen s) k) (outer_place (seen s) k) stmt o r
+    control_moved stmt o r f =
+        subst (λ at. control_goal at (place_of k (items_at (seen s) at)) stmt o r) out (subst (λ j. control_goal outer j stmt o r) item_is f)
+
+    pub control_none : (stmt o : ℕ) (r : Result Origin FlowError) → None ≡ control_in (program_in s) (plan_in s) (seen s) s.process outer item stmt
+        → IsFound s (call_replays (seen s) outer (kind_at (plan_in s) (seen s) outer)) (call_or_entry (seen s) s.process outer (kind_at (plan_in s) (seen s) outer)) m o r
+        → IsFound s (control_above_replays (program_in s) (plan_in s) (seen s) s.process k (block.Loop stmt)) (control_above (program_in s) (plan_in s) (seen s) s.process k (block.Loop stmt)) n o r
+    control_none stmt o r e f = control_moved stmt o r
+        (after_none s (outer ∷ []) (call_replays (seen s) outer (kind_at (plan_in s) (seen s) outer)) (items_at (seen s) outer) items
+        (control_in (program_in s) (plan_in s) (seen s) s.process outer item stmt) (call_or_entry (seen s) s.process outer (kind_at (plan_in s) (seen s) outer)) n m o r (sym e) got f)

@@ -1,0 +1,12 @@
+use Rattle.std.proofs.Common.{ℕ, drop, Result, Option}
+use Rattle.ppd_model.specs.declared.flow.Origin.{Origin}
+use Rattle.ppd_flow_past.specs.declared.flow_error.FlowError.{FlowError}
+use Rattle.ppd_flow_local.specs.Searches.{IsFound}
+use Rattle.ppd_flow_local.proofs.Loops.{all_replays, found_in}
+use Rattle.ppd_flow_local.proofs.search.Search.in_loops.Given as goal
+
+abbrev pub invariant-loop-place : goal.invariant-loop-place
+invariant-loop-place g l =
+    (o : ℕ) (r : Result (Option Origin) FlowError)
+    → IsFound l.self (all_replays l.self l.cell (drop l.place l.loops)) (found_in l.self l.cell (drop l.place l.loops)) l.steps o r
+    → IsFound l.self (all_replays l.self l.cell l.loops) (found_in l.self l.cell l.loops) l.initial.steps o r

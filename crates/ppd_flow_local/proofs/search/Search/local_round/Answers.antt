@@ -1,0 +1,10 @@
+use Rattle.std.proofs.Common.{◌∙◌, ap}
+use Rattle.ppd_flow_model.specs.Seen.{place_of}
+use Rattle.ppd_flow_local.proofs.Rounds.{local_from}
+use Rattle.ppd_flow_local.proofs.search.Search.local_round.Goals as goal
+
+pub returns : goal.returns
+returns g c =
+    local_from c.args.self.now c.args.interval c.outer-outer.result c.place_of.result c.in_ok-items.items c.args.steps.now c.items.new.steps c.outer-outer.ensures
+    (c.place_of.ensures.place ∙ ap (place_of c.args.interval) c.as_slice-2.ensures) c.in_ok-items.ensures
+    c.in_ok-frame.frame c.args.cell c.local_outside.new.steps c.local_outside.result c.in_ok-frame.ensures c.local_outside.ensures

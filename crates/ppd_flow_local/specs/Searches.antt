@@ -1,0 +1,72 @@
+-- What the searches within one process answer.
+use Rattle.std.specs.Prelude.{◌≡◌, ℕ, ◌+◌, ◌<◌, ◌≤◌, ℤ, List, length, Result, Ok, Some}
+use Rattle.ppd_ast.specs.declared.plan.Plan.{Plan}
+use Rattle.ppd_ast.specs.declared.program.Program.{Program}
+use Rattle.ppd_sem.specs.declared.event.Spot.TheVariants.{Local}
+use Rattle.ppd_model.specs.declared.flow.EdgeKind.TheVariants.{Left}
+use Rattle.ppd_model.specs.declared.flow.FlowEdge.{FlowEdge}
+use Rattle.ppd_model.specs.declared.flow.Origin.{Origin}
+use Rattle.ppd_flow_model.specs.Control.{control_origin, control_replays}
+use Rattle.ppd_flow_model.specs.Locals.{local_origin, local_replays}
+use Rattle.ppd_flow_model.specs.Seen.{Seen, items_at}
+use Rattle.ppd_flow_model.specs.Shared.{of_process}
+use Rattle.ppd_flow_past.specs.declared.flow_error.FlowError.{FlowError}
+use Rattle.ppd_flow_past.specs.ByReplays.{IsFoundBy}
+use Rattle.ppd_flow_past.specs.SeenBy.{seen_in}
+use Rattle.ppd_flow_local.specs.declared.scan.LocalCell.{LocalCell}
+use Rattle.ppd_flow_local.specs.declared.search.Place.{Place}
+use Rattle.ppd_flow_local.specs.declared.search.Search.{Search}
+
+abbrev pub program_in : Search → Program
+program_in s = s.past.now.program.now
+
+abbrev pub plan_in : Search → Plan
+plan_in s = s.past.now.plan.now
+
+-- what replays of the process give
+abbrev pub seen : Search → Seen
+seen s = seen_in s.past.now s.process
+
+-- found by the replays of these intervals of the process
+abbrev pub IsFound : {A : Type 0} → Search → List ℕ → A → (before after : ℕ) → Result A FlowError → Type 0
+IsFound s ms x before after result = IsFoundBy s.past.now (of_process s.process ms) (Ok x) before after result
+
+-- the items are those of the interval, and the place is before one of them or after the last
+pub record IsPlace (s : Search) (place : Place) : Type 0 where
+  pub items_are : place.items.now ≡ items_at (seen s) place.interval
+  pub within : place.item ≤ length place.items.now
+
+-- and it is before one of them
+pub record IsItemPlace (s : Search) (place : Place) : Type 0 where
+  pub is : IsPlace s place
+  pub there : place.item < length place.items.now
+
+-- ---- of a local cell before a place
+
+-- where it was written last is found
+abbrev pub IsLocalFound : Search → Place → LocalCell → (before after : ℕ) → Result Origin FlowError → Type 0
+IsLocalFound s place w before after result =
+    IsFound s (local_replays (program_in s) (plan_in s) (seen s) s.process place.interval place.item w.frame w.cell)
+    (local_origin (program_in s) (plan_in s) (seen s) s.process place.interval place.item w.frame w.cell) before after
+    result
+
+-- the edge of a cell that a loop left with this value
+abbrev pub left_from : LocalCell → ℤ → Origin → FlowEdge
+left_from w v from = record { kind = Left; spot = Some (Local w.frame w.cell); value = Some v; from = from }
+
+-- for a cell that the loop at a place left: the last write before the loop's end
+abbrev pub left_origin_at : Search → Place → LocalCell → Origin
+left_origin_at s place w =
+    local_origin (program_in s) (plan_in s) (seen s) s.process place.interval (place.item + 1) w.frame w.cell
+
+abbrev pub left_replays_at : Search → Place → LocalCell → List ℕ
+left_replays_at s place w =
+    local_replays (program_in s) (plan_in s) (seen s) s.process place.interval (place.item + 1) w.frame w.cell
+
+-- ---- of a statement at a place
+
+-- what let it run is found
+abbrev pub IsControlFound : Search → Place → (stmt before after : ℕ) → Result Origin FlowError → Type 0
+IsControlFound s place stmt before after result =
+    IsFound s (control_replays (program_in s) (plan_in s) (seen s) s.process place.interval place.item stmt)
+    (control_origin (program_in s) (plan_in s) (seen s) s.process place.interval place.item stmt) before after result

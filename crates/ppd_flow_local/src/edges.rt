@@ -1,0 +1,208 @@
+ghost use Rattle.std.specs.Prelude.{◌≡◌, ◌<◌, ◌-◌, ◌∷◌, ◌++◌, [], get_or, length, pos, ℕ};
+ghost use Rattle.ppd_ast.specs.declared.plan.BlockKind.TheVariants as blocks;
+ghost use Rattle.ppd_flow_local.specs.Searches.{IsFound, IsItemPlace, left_from, left_origin_at, left_replays_at, plan_in, program_in, seen};
+ghost use Rattle.ppd_model.specs.declared.flow.EdgeKind.TheVariants as edge_kind;
+ghost use Rattle.ppd_model.specs.declared.flow.Origin.TheVariants as origin;
+ghost use Rattle.ppd_model.specs.FlowbackEdges.{bare_edge};
+ghost use Rattle.ppd_flow_past.specs.Pasts.{IsPast};
+ghost use Rattle.ppd_sem.specs.Blocks.{block_kind as kind_of_block};
+ghost use Rattle.ppd_flow_model.specs.Own.{edges_of_nested, left_edges as left_edges_of, left_replays, nested_replays, returned_edges as returned_edges_of, returned_replays};
+
+use crate::scan::LocalCell;
+use crate::search::{Place, Search};
+use ppd_ast::{BlockKind, Seq, Steps};
+use ppd_flow_past::{FlowError, number};
+use ppd_model::{EdgeKind, FlowEdge, Origin};
+use ppd_sem::{Spot, block_kind, postlog_cells};
+use std::sync::ledger::Ledger;
+
+/// The edge from what let an item run.
+pub fn control_edge(from: Origin) -> FlowEdge
+    ensures { result ≡ bare_edge edge_kind.Control from }
+{
+    FlowEdge {
+        kind: EdgeKind::Control,
+        spot: None,
+        value: None,
+        from,
+    }
+}
+
+/// The edge from the last write of a local cell that a loop left with this value.
+fn left_edge(wanted: LocalCell, value: i64, from: Origin) -> FlowEdge
+    ensures { result ≡ left_from wanted value from }
+{
+    let LocalCell { frame, cell } = wanted;
+    FlowEdge {
+        kind: EdgeKind::Left,
+        spot: Some(Spot::Local { frame, cell }),
+        value: Some(value),
+        from,
+    }
+}
+
+fn cell_at(cells: &[u16], i: usize) -> u16
+    requires { i < length cells.now }
+    ensures { result ≡ get_or cells.now i 0 }
+{
+    cells[i]
+}
+
+fn value_at(values: &[i64], i: usize) -> i64
+    requires { i < length values.now }
+    ensures { result ≡ get_or values.now i (pos 0) }
+{
+    values[i]
+}
+
+impl<'a> Search<'a> {
+    /// The last write of a local cell before the end of the loop at a place.
+    fn left_origin<L: Ledger>(
+        &self,
+        place: &Place,
+        wanted: LocalCell,
+        steps: &mut Steps<L>,
+    ) -> Result<Origin, FlowError>
+        requires past { IsPast self.now.past.now }
+        requires item { IsItemPlace self.now place.now }
+        ensures { IsFound self.now (left_replays_at self.now place.now wanted)
+            (left_origin_at self.now place.now wanted) steps.old steps.new result }
+    {
+        let after = Place {
+            interval: place.interval,
+            items: place.items,
+            item: place.item + 1,
+        };
+        self.local_origin(&after, wanted, steps)
+    }
+
+    /// One edge for each local cell that the loop at a place left.
+    fn left_edges<L: Ledger>(
+        &self,
+        place: &Place,
+        frame: u8,
+        cells: &[u16],
+        values: &[i64],
+        steps: &mut Steps<L>,
+    ) -> Result<Seq<FlowEdge>, FlowError>
+        requires past { IsPast self.now.past.now }
+        requires item { IsItemPlace self.now place.now }
+        ensures { IsFound self.now
+            (left_replays (program_in self.now) (plan_in self.now) (seen self.now) self.now.process
+            place.now.interval place.now.item frame cells.now values.now)
+            (left_edges_of (program_in self.now) (plan_in self.now) (seen self.now) self.now.process
+            place.now.interval place.now.item frame cells.now values.now)
+            steps.old steps.new result }
+    {
+        let mut edges = Seq::new(self.alloc);
+        for i in 0..cells.len().min(values.len()) {
+            let cell = cell_at(cells, i);
+            let value = value_at(values, i);
+            let wanted = LocalCell { frame, cell };
+            let from = self.left_origin(place, wanted, steps)?;
+            edges.push(left_edge(wanted, value, from))?;
+        }
+        Ok(edges)
+    }
+
+    /// The edges of a loop at a place: what it left, and what let it run.
+    fn loop_edges<L: Ledger>(
+        &self,
+        place: &Place,
+        stmt: u32,
+        block: u16,
+        values: &[i64],
+        steps: &mut Steps<L>,
+    ) -> Result<Seq<FlowEdge>, FlowError>
+        requires past { IsPast self.now.past.now }
+        requires item { IsItemPlace self.now place.now }
+        ensures { (m : ℕ) → IsFound self.now
+            (nested_replays (program_in self.now) (plan_in self.now) (seen self.now) self.now.process
+            place.now.interval place.now.item m block values.now (blocks.Loop stmt))
+            (edges_of_nested (program_in self.now) (plan_in self.now) (seen self.now) self.now.process
+            place.now.interval place.now.item m block values.now (blocks.Loop stmt))
+            steps.old steps.new result }
+    {
+        let frame = self.frame_at(place)?;
+        let cells = postlog_cells(self.past.plan, block);
+        let mut edges = self.left_edges(place, frame, cells, values, steps)?;
+        let from = self.control_origin(place, stmt, steps)?;
+        edges.push(control_edge(from))?;
+        Ok(edges)
+    }
+
+    /// The edge from the last item of a function's interval, where it returned a value.
+    fn returned_edges<L: Ledger>(
+        &self,
+        interval: u32,
+        values: &[i64],
+        steps: &mut Steps<L>,
+    ) -> Result<Seq<FlowEdge>, FlowError>
+        requires { IsPast self.now.past.now }
+        ensures { IsFound self.now (returned_replays interval values.now)
+            (returned_edges_of (seen self.now) self.now.process interval values.now) steps.old steps.new result }
+    {
+        let mut edges = Seq::new(self.alloc);
+        let Some(value) = values.first().copied() else {
+            return Ok(edges);
+        };
+        let from = self.last_item(interval, steps)?;
+        let edge = FlowEdge {
+            kind: EdgeKind::Returned,
+            spot: None,
+            value: Some(value),
+            from,
+        };
+        edges.push(edge)?;
+        Ok(edges)
+    }
+
+    /// The edges of a function's interval at a place: what it returned, and its call, which stands straight before it.
+    fn function_edges<L: Ledger>(
+        &self,
+        place: &Place,
+        interval: u32,
+        values: &[i64],
+        steps: &mut Steps<L>,
+    ) -> Result<Seq<FlowEdge>, FlowError>
+        requires { IsPast self.now.past.now }
+        ensures { IsFound self.now (returned_replays interval values.now)
+            (returned_edges_of (seen self.now) self.now.process interval values.now
+            ++ bare_edge edge_kind.Control (origin.Item self.now.process place.now.interval (place.now.item - 1)) ∷ [])
+            steps.old steps.new result }
+    {
+        let call = number(place.item.saturating_sub(1))?;
+        let mut edges = self.returned_edges(interval, values, steps)?;
+        edges.push(control_edge(self.origin(place.interval, call)))?;
+        Ok(edges)
+    }
+
+    /// The edges of an interval that is the item at a place, in order: what its loop left, or what its function
+    /// returned, and what let it run. The interval of the place is not replayed. The counter rises by the own steps of
+    /// the intervals that are, each as often as it is.
+    ///
+    /// `Diverged`: the replay of one of these intervals fails, the first that does. `Memory` is want of memory, also
+    /// for items that have no 32-bit numbers. No other error comes.
+    pub fn nested_edges<L: Ledger>(
+        &self,
+        place: &Place,
+        interval: u32,
+        block: u16,
+        values: &[i64],
+        steps: &mut Steps<L>,
+    ) -> Result<Seq<FlowEdge>, FlowError>
+        requires past { IsPast self.now.past.now }
+        requires item { IsItemPlace self.now place.now }
+        ensures { IsFound self.now
+            (nested_replays (program_in self.now) (plan_in self.now) (seen self.now) self.now.process
+            place.now.interval place.now.item interval block values.now (kind_of_block (plan_in self.now) block))
+            (edges_of_nested (program_in self.now) (plan_in self.now) (seen self.now) self.now.process
+            place.now.interval place.now.item interval block values.now (kind_of_block (plan_in self.now) block))
+            steps.old steps.new result }
+    {
+        match block_kind(self.past.plan, block) {
+            BlockKind::Loop(stmt) => self.loop_edges(place, stmt, block, values, steps),
+            _ => self.function_edges(place, interval, values, steps),
+        }
+    }
+}

@@ -1,0 +1,238 @@
+ghost use Rattle.std.specs.Prelude.{◌≡◌, ◌<◌, ◌∷◌, length, slice_get, Some, IfOk};
+ghost use Rattle.ppd_flow_local.specs.Scans.{scanned as scan_by};
+ghost use Rattle.ppd_flow_local.specs.Searches.{IsFound, IsLocalFound, IsPlace, plan_in, program_in, seen};
+ghost use Rattle.ppd_flow_past.specs.Pasts.{IsPast};
+ghost use Rattle.ppd_flow_model.specs.Locals.{above_replays, in_loops as in_loops_of, local_above as local_above_of, local_in as local_in_of, local_in_replays, local_outside as local_outside_of, loop_replays, outer_frame as outer_frame_of, outside_replays, parameter as parameter_of, parameter_replays, scan as scan_of, writer_at as writer_in, writer_replays};
+ghost use Rattle.ppd_flow_model.specs.Seen.{items_at, kind_at, outer_of as outer_at, outer_place as outer_place_of};
+
+use crate::scan::{LocalCell, Scan, has_cell};
+use crate::search::{Place, Search, place_of};
+use ppd_ast::{BlockKind, Memory, Steps};
+use ppd_flow_model::Writer;
+use ppd_flow_past::{FlowError, block_of};
+use ppd_model::{Item, Origin};
+use ppd_sem::{Stack, prelog_cells};
+use std::sync::ledger::Ledger;
+
+/// The loop with this number from the top.
+fn loop_at(loops: &Stack<u32>, place: usize) -> u32
+    requires { place < length loops.now }
+    ensures { slice_get loops.now place ≡ Some result }
+{
+    match loops.get(place) {
+        Some(interval) => *interval,
+        None => 0,
+    }
+}
+
+impl<'a> Search<'a> {
+    /// These items, for a local cell.
+    fn scanned(&self, wanted: LocalCell, items: &[Item]) -> Result<Scan, Memory>
+        ensures { IfOk result (λ state. scan_by state
+            ≡ scan_of (program_in self.now) (plan_in self.now) wanted.frame wanted.cell items.now) }
+    {
+        Scan::over(self.alloc, &self.code(), wanted, items)
+    }
+
+    /// Where the writer among the items of an interval is, if there is one.
+    fn writer_at<L: Ledger>(
+        &self,
+        interval: u32,
+        writer: Writer,
+        steps: &mut Steps<L>,
+    ) -> Result<Option<Origin>, FlowError>
+        requires { IsPast self.now.past.now }
+        ensures { IsFound self.now (writer_replays writer)
+            (writer_in (seen self.now) self.now.process interval writer) steps.old steps.new result }
+    {
+        match writer {
+            Writer::Before => Ok(None),
+            Writer::Fresh => Ok(Some(Origin::Initial)),
+            Writer::At(item) => Ok(Some(self.origin(interval, item))),
+            Writer::Of(function) => Ok(Some(self.last_item(function, steps)?)),
+        }
+    }
+
+    /// The last write of a cell in a loop.
+    fn in_loop<L: Ledger>(
+        &self,
+        interval: u32,
+        cell: u16,
+        steps: &mut Steps<L>,
+    ) -> Result<Option<Origin>, FlowError>
+        requires { IsPast self.now.past.now }
+        ensures { let items = items_at (seen self.now) interval in
+            let writer = (scan_of (program_in self.now) (plan_in self.now) 0 cell items).writer in
+            IsFound self.now (interval ∷ writer_replays writer)
+            (writer_in (seen self.now) self.now.process interval writer) steps.old steps.new result }
+    {
+        let items = self.items(interval, steps)?;
+        let wanted = LocalCell { frame: 0, cell };
+        let state = self.scanned(wanted, items.as_slice())?;
+        self.writer_at(interval, state.writer, steps)
+    }
+
+    /// The last write in the first of these loops, from the top, in which the cell is written.
+    fn in_loops<L: Ledger>(
+        &self,
+        loops: &Stack<u32>,
+        cell: u16,
+        steps: &mut Steps<L>,
+    ) -> Result<Option<Origin>, FlowError>
+        requires { IsPast self.now.past.now }
+        ensures { IsFound self.now
+            (loop_replays (program_in self.now) (plan_in self.now) (seen self.now) self.now.process cell loops.now)
+            (in_loops_of (program_in self.now) (plan_in self.now) (seen self.now) self.now.process cell loops.now)
+            steps.old steps.new result }
+    {
+        for place in 0..loops.len() {
+            match self.in_loop(loop_at(loops, place), cell, steps)? {
+                None => {}
+                Some(origin) => return Ok(Some(origin)),
+            }
+        }
+        Ok(None)
+    }
+
+    /// The last write of a local cell in an interval before a place.
+    fn local_in<L: Ledger>(
+        &self,
+        place: &Place,
+        wanted: LocalCell,
+        steps: &mut Steps<L>,
+    ) -> Result<Option<Origin>, FlowError>
+        requires past { IsPast self.now.past.now }
+        requires place { IsPlace self.now place.now }
+        ensures { IsFound self.now
+            (local_in_replays (program_in self.now) (plan_in self.now) (seen self.now) self.now.process
+            place.now.interval place.now.item wanted.frame wanted.cell)
+            (local_in_of (program_in self.now) (plan_in self.now) (seen self.now) self.now.process
+            place.now.interval place.now.item wanted.frame wanted.cell)
+            steps.old steps.new result }
+    {
+        let state = self.scanned(wanted, &place.items[..place.item])?;
+        match self.in_loops(&state.loops, wanted.cell, steps)? {
+            None => self.writer_at(place.interval, state.writer, steps),
+            Some(origin) => Ok(Some(origin)),
+        }
+    }
+
+    /// The call, for a parameter of an interval of a function; else the start value.
+    fn parameter<L: Ledger>(
+        &self,
+        interval: u32,
+        cell: u16,
+        steps: &mut Steps<L>,
+    ) -> Result<Origin, FlowError>
+        requires { IsPast self.now.past.now }
+        ensures { let kind = kind_at (plan_in self.now) (seen self.now) interval in
+            IsFound self.now (parameter_replays (plan_in self.now) (seen self.now) interval cell kind)
+            (parameter_of (plan_in self.now) (seen self.now) self.now.process interval cell kind)
+            steps.old steps.new result }
+    {
+        let BlockKind::Function(_) = self.kind(interval) else {
+            return Ok(Origin::Initial);
+        };
+        let block = block_of(self.past, self.process, interval);
+        if has_cell(prelog_cells(self.past.plan, block), cell) {
+            self.call_of(interval, steps)
+        } else {
+            Ok(Origin::Initial)
+        }
+    }
+
+    /// The last write in an interval before a place, or what the interval began with.
+    fn local_outside<L: Ledger>(
+        &self,
+        place: &Place,
+        wanted: LocalCell,
+        steps: &mut Steps<L>,
+    ) -> Result<Origin, FlowError>
+        requires past { IsPast self.now.past.now }
+        requires place { IsPlace self.now place.now }
+        ensures { IsFound self.now
+            (outside_replays (program_in self.now) (plan_in self.now) (seen self.now) self.now.process
+            place.now.interval place.now.item wanted.frame wanted.cell)
+            (local_outside_of (program_in self.now) (plan_in self.now) (seen self.now) self.now.process
+            place.now.interval place.now.item wanted.frame wanted.cell)
+            steps.old steps.new result }
+    {
+        match self.local_in(place, wanted, steps)? {
+            Some(origin) => Ok(origin),
+            None => self.parameter(place.interval, wanted.cell, steps),
+        }
+    }
+
+    /// What a local cell had when an interval of a loop began: the last write before it in the interval round it.
+    fn local_round<L: Ledger>(
+        &self,
+        interval: u32,
+        cell: u16,
+        steps: &mut Steps<L>,
+    ) -> Result<Origin, FlowError>
+        requires { IsPast self.now.past.now }
+        ensures { let outer = outer_at (seen self.now) interval in
+            let item = outer_place_of (seen self.now) interval in
+            let frame = outer_frame_of (program_in self.now) (plan_in self.now) (seen self.now) interval in
+            IsFound self.now
+            (outer
+            ∷ outside_replays (program_in self.now) (plan_in self.now) (seen self.now) self.now.process outer item
+            frame cell)
+            (local_outside_of (program_in self.now) (plan_in self.now) (seen self.now) self.now.process outer item
+            frame cell)
+            steps.old steps.new result }
+    {
+        let outer = self.outer(interval);
+        let items = self.items(outer, steps)?;
+        let place = Place {
+            interval: outer,
+            items: items.as_slice(),
+            item: place_of(interval, items.as_slice()),
+        };
+        let frame = self.frame_at(&place)?;
+        self.local_outside(&place, LocalCell { frame, cell }, steps)
+    }
+
+    /// What a local cell had when an interval began.
+    fn local_above<L: Ledger>(
+        &self,
+        interval: u32,
+        cell: u16,
+        steps: &mut Steps<L>,
+    ) -> Result<Origin, FlowError>
+        requires { IsPast self.now.past.now }
+        ensures { let kind = kind_at (plan_in self.now) (seen self.now) interval in
+            IsFound self.now
+            (above_replays (program_in self.now) (plan_in self.now) (seen self.now) self.now.process interval cell kind)
+            (local_above_of (program_in self.now) (plan_in self.now) (seen self.now) self.now.process interval cell
+            kind)
+            steps.old steps.new result }
+    {
+        match self.kind(interval) {
+            BlockKind::Loop(_) => self.local_round(interval, cell, steps),
+            _ => self.parameter(interval, cell, steps),
+        }
+    }
+
+    /// The last write of a local cell of a frame before a place: the item of the write, a parameter's call, or the
+    /// start value. The interval of the place is not replayed. The counter rises by the own steps of the intervals
+    /// that are.
+    ///
+    /// `Diverged`: the replay of one of these intervals fails, the first that does. `Memory` is want of memory, also
+    /// for items that have no 32-bit numbers. No other error comes.
+    pub fn local_origin<L: Ledger>(
+        &self,
+        place: &Place,
+        wanted: LocalCell,
+        steps: &mut Steps<L>,
+    ) -> Result<Origin, FlowError>
+        requires past { IsPast self.now.past.now }
+        requires place { IsPlace self.now place.now }
+        ensures { IsLocalFound self.now place.now wanted steps.old steps.new result }
+    {
+        match self.local_in(place, wanted, steps)? {
+            Some(origin) => Ok(origin),
+            None => self.local_above(place.interval, wanted.cell, steps),
+        }
+    }
+}

@@ -1,0 +1,76 @@
+-- The edge of a read from its origin, and the edges of an item that is an interval inside, whose origins are found
+-- within its process.
+use Rattle.std.specs.Prelude.{ℕ, ◌+◌, ◌-◌, ℤ, List, [], ◌∷◌, ◌++◌, take, Some, None}
+use Rattle.ppd_ast.specs.declared.plan.BlockKind.{BlockKind}
+use Rattle.ppd_ast.specs.declared.plan.BlockKind.TheVariants as block
+use Rattle.ppd_ast.specs.declared.plan.Plan.{Plan}
+use Rattle.ppd_ast.specs.declared.program.Program.{Program}
+use Rattle.ppd_sem.specs.declared.event.Access.{Access}
+use Rattle.ppd_sem.specs.declared.event.Spot.TheVariants.{Local}
+use Rattle.ppd_sem.specs.Blocks.{postlog_cells}
+use Rattle.ppd_model.specs.declared.flow.EdgeKind.TheVariants.{Read, Left, Returned, Control}
+use Rattle.ppd_model.specs.declared.flow.FlowEdge.{FlowEdge}
+use Rattle.ppd_model.specs.declared.flow.Origin.{Origin}
+use Rattle.ppd_model.specs.declared.flow.Origin.TheVariants as origin
+use Rattle.ppd_model.specs.FlowbackEdges.{bare_edge}
+use Rattle.ppd_flow_model.specs.Control.{control_origin, control_replays}
+use Rattle.ppd_flow_model.specs.Locals.{frame_in, leaf_at, local_origin, local_replays}
+use Rattle.ppd_flow_model.specs.Seen.{Seen, items_at, last_item}
+
+-- ---- of a read
+
+-- from the origin of what is read
+abbrev pub read_from : Access → Origin → FlowEdge
+read_from a from = record { kind = Read; spot = Some a.spot; value = Some a.value; from = from }
+
+-- ---- of an interval
+
+-- the frame of place j in interval k
+abbrev pub frame_at : Program → Plan → Seen → ℕ → ℕ → ℕ
+frame_at program plan x k j = frame_in (leaf_at program plan (take j (items_at x k)))
+
+-- one for each local cell of a loop's postlog: the last write before the loop's end
+abbrev pub left_edges : Program → Plan → Seen → ℕ → ℕ → ℕ → ℕ → List ℕ → List ℤ → List FlowEdge
+left_edges program plan x p k j frame (c ∷ cs) (v ∷ vs) =
+    record {
+      kind = Left;
+      spot = Some (Local frame c);
+      value = Some v;
+      from = local_origin program plan x p k (j + 1) frame c;
+    } ∷ left_edges program plan x p k j frame cs vs
+left_edges program plan x p k j frame cs vs = []
+
+-- one for a returned value: the last item of the function's interval m
+abbrev pub returned_edges : Seen → ℕ → ℕ → List ℤ → List FlowEdge
+returned_edges x p m [] = []
+returned_edges x p m (v ∷ vs) =
+    record { kind = Returned; spot = None; value = Some v; from = last_item x p m } ∷ []
+
+-- item j of interval k is interval m of block b with these values: what it brought, and control; the call of a
+-- function's interval stands straight before it
+abbrev pub edges_of_nested : Program → Plan → Seen → ℕ → ℕ → ℕ → ℕ → ℕ → List ℤ → BlockKind → List FlowEdge
+edges_of_nested program plan x p k j m b values (block.Loop l) =
+    left_edges program plan x p k j (frame_at program plan x k j) (postlog_cells plan b) values
+    ++ bare_edge Control (control_origin program plan x p k j l) ∷ []
+edges_of_nested program plan x p k j m b values kind =
+    returned_edges x p m values ++ bare_edge Control (origin.Item p k (j - 1)) ∷ []
+
+-- ---- the intervals that are replayed, in order, where those of interval k are there
+
+-- for what a loop left
+abbrev pub left_replays : Program → Plan → Seen → ℕ → ℕ → ℕ → ℕ → List ℕ → List ℤ → List ℕ
+left_replays program plan x p k j frame (c ∷ cs) (v ∷ vs) =
+    local_replays program plan x p k (j + 1) frame c ++ left_replays program plan x p k j frame cs vs
+left_replays program plan x p k j frame cs vs = []
+
+-- for a returned value
+abbrev pub returned_replays : ℕ → List ℤ → List ℕ
+returned_replays m [] = []
+returned_replays m (v ∷ vs) = m ∷ []
+
+-- for what an interval brought, and control
+abbrev pub nested_replays : Program → Plan → Seen → ℕ → ℕ → ℕ → ℕ → ℕ → List ℤ → BlockKind → List ℕ
+nested_replays program plan x p k j m b values (block.Loop l) =
+    left_replays program plan x p k j (frame_at program plan x k j) (postlog_cells plan b) values
+    ++ control_replays program plan x p k j l
+nested_replays program plan x p k j m b values kind = returned_replays m values

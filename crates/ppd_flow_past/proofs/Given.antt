@@ -1,0 +1,79 @@
+-- What the replay of one interval gives of a past.
+use Rattle.std.proofs.Common.{◌≡◌, ℕ, zero, suc, ◌+◌, ◌≤◌, List, [], ◌∷◌, Option, Some, None, Ok, refl, ap, sym, ◌∙◌, arith, length, map, get_or}
+use Rattle.std.specs.Prelude.{slice_get}
+use Rattle.std.proofs.lemmas.List.{length-map}
+use Rattle.std.proofs.lemmas.Option.{none-some, same_Some, slice_get_past}
+use Rattle.ppd_ast.specs.declared.plan.Plan.{Plan}
+use Rattle.ppd_emul_model.specs.declared.trace.BlockTrace.{BlockTrace}
+use Rattle.ppd_emul_model.specs.Replay.{Replayed, replay}
+use Rattle.ppd_entry.specs.declared.entry.Entry.{Entry}
+use Rattle.ppd_entry.specs.IntervalLogs.{Indexed, IntervalLog, indexed, interval_log, log_in}
+use Rattle.ppd_entry.specs.Entries.{entries_at}
+use Rattle.ppd_index.specs.declared.row.Row.{Row}
+use Rattle.ppd_index.specs.Indexes.{AreIntervals, IsIndexOf, rows_at}
+use Rattle.ppd_index.specs.Tables.{indexed_of}
+use Rattle.ppd_model.specs.Bounds.{AreEach}
+use Rattle.ppd_model.specs.declared.flow.Item.{Item}
+use Rattle.ppd_flow_past.specs.declared.past.Past.{Past}
+use Rattle.ppd_flow_past.specs.ByReplays.{IsFoundBy, failure_or}
+use Rattle.ppd_flow_past.specs.SeenBy.{failed_in, failure_by, failure_of, items_by, items_in, steps_in, steps_of}
+use Rattle.ppd_emul.specs.Laws.{replay_of}
+
+found_at : (f : IntervalLog → List Item) (is : List Indexed) (k : ℕ) (log : IntervalLog)
+    → log_in (slice_get is k) ≡ Some log
+    → get_or (map (λ (i : Indexed). f i.log) is) k [] ≡ f log
+found_at f [] k log e = absurd (none-some log e)
+found_at f (i ∷ is) zero log e = ap f (same_Some i.log log e)
+found_at f (i ∷ is) (suc k) log e = found_at f is k log e
+
+none_at : (f : IntervalLog → List Item) (is : List Indexed) (k : ℕ) → log_in (slice_get is k) ≡ None
+    → get_or (map (λ (i : Indexed). f i.log) is) k [] ≡ []
+none_at f [] k e = refl
+none_at f (i ∷ is) zero e = absurd (none-some i.log (sym e))
+none_at f (i ∷ is) (suc k) e = none_at f is k e
+
+no_log : (plan : Plan) (tables : List (List Row)) (lists : List (List Entry)) (p k : ℕ)
+    → AreEach (AreIntervals plan) tables lists
+    → length (get_or tables p []) ≤ k → interval_log plan (get_or lists p []) k ≡ None
+no_log plan [] [] p k h le = refl
+no_log plan [] (es ∷ lists) p k h le = absurd h
+no_log plan (rows ∷ tables) [] p k h le = absurd h
+no_log plan (rows ∷ tables) (es ∷ lists) zero k h le =
+    let count : length (indexed plan es) ≡ length rows = sym (ap length h.0.logs_are)
+    ∙ length-map rows (indexed_of es) in
+    let past : length (indexed plan es) ≤ k = omega arith in
+    ap log_in (slice_get_past (indexed plan es) k past)
+no_log plan (rows ∷ tables) (es ∷ lists) (suc p) k h le = no_log plan tables lists p k h.1 le
+
+module _ (past : Past) (p k : ℕ) where
+  abbrev entries : List Entry
+  entries = entries_at past.cut.now p
+
+  abbrev replayed : IntervalLog → Replayed
+  replayed log = replay past.program.now past.plan.now log past.budget
+
+  abbrev in_past : Option IntervalLog → Option Replayed
+  in_past o = replay_of past.program.now past.plan.now past.budget o
+
+  -- an interval that is not there
+  pub given_none : (n : ℕ) → IsIndexOf past.plan.now past.cut.now past.cut_index.now.tables
+      → length (rows_at past.cut_index.now.tables p) ≤ k
+      → IsFoundBy past ((p, k) ∷ []) (Ok (items_in past p k)) n n (Ok [])
+  given_none n h le =
+      let none : interval_log past.plan.now entries k
+      ≡ None = no_log past.plan.now past.cut_index.now.tables past.cut.now.lists p k h le in
+      let items : items_in past p k ≡ [] = none_at (λ log. items_by (replayed log).answer)
+      (indexed past.plan.now entries) k none in
+      let steps : steps_in past p k ≡ 0 = ap (λ o. steps_of (in_past o)) none in
+      (ap (λ o. failure_or p (failure_of (in_past o)) None) none, ap (λ (is : List Item). Ok is) items, omega arith)
+
+  module _ (log : IntervalLog) (is : interval_log past.plan.now entries k ≡ Some log) where
+    pub given_items : (trace : BlockTrace) (n m : ℕ) → Ok trace ≡ (replayed log).answer → m ≡ n + (replayed log).steps
+        → IsFoundBy past ((p, k) ∷ []) (Ok (items_in past p k)) n m (Ok trace.items)
+    given_items trace n m answer after =
+        let items : items_in past p k ≡ trace.items =
+        found_at (λ l. items_by (replayed l).answer) (indexed past.plan.now entries) k log is
+        ∙ ap items_by (sym answer) in
+        let steps : steps_in past p k ≡ (replayed log).steps = ap (λ o. steps_of (in_past o)) is in
+        let fine : failed_in past p k ≡ None = ap (λ o. failure_of (in_past o)) is ∙ ap failure_by (sym answer) in
+        (ap (λ o. failure_or p o None) fine, ap (λ (xs : List Item). Ok xs) items, omega arith)

@@ -1,0 +1,9 @@
+pub use Rattle.ppd_emul.proofs.Replays
+pub mod Lists
+pub mod Rounds
+pub mod Runs
+pub mod Parents
+pub mod Outward
+pub mod Found
+mod Given
+pub mod Edges

@@ -1,0 +1,25 @@
+//! What is kept of a run: the replay of one of its intervals, which gives items, or where the log is not one of a
+//! run; and its internal edges: that of a place, where one ends, and the greatest that writes a cell.
+#![tactic(auto)]
+
+mod edge_laws;
+mod ends;
+mod flow_error;
+mod greatest;
+mod intervals;
+mod laws;
+mod past;
+mod places;
+mod replaying;
+mod syncs;
+
+pub use edge_laws::missing_writes_are_recorded;
+pub use ends::{end_interval, ending, sync_item};
+pub use flow_error::FlowError;
+pub use greatest::{greatest_before, greatest_writing};
+pub use intervals::{block_of, count_of, outer_of};
+pub use laws::replays_are_seen;
+pub use past::Past;
+pub use places::edge_at;
+pub use replaying::{number, replayed};
+pub use syncs::entries_of;

@@ -1,0 +1,161 @@
+-- Where a shared cell was written, by what the replays on the way answer.
+use Rattle.std.proofs.Common.{◌≡◌, ℕ, zero, suc, ◌+◌, ℤ, List, [], ◌∷◌, ◌++◌, None, Result, Ok, Err, refl, ap, sym, subst, get_or, map}
+use Rattle.std.proofs.lemmas.List.{append-nil}
+use Rattle.ppd_entry.specs.declared.entry.Entry.{Entry}
+use Rattle.ppd_entry.specs.Entries.{entries_at}
+use Rattle.ppd_model.specs.declared.flow.Origin.{Origin}
+use Rattle.ppd_model.specs.declared.flow.Origin.TheVariants as origin
+use Rattle.ppd_model.specs.declared.graph.EdgeId.{EdgeId}
+use Rattle.ppd_flow_past.specs.declared.flow_error.FlowError.{FlowError}
+use Rattle.ppd_flow_past.specs.declared.past.Past.{Past}
+use Rattle.ppd_flow_past.specs.ByReplays.{IsFoundBy}
+use Rattle.ppd_flow_past.specs.SeenBy.{failed_in, seen_by, seen_in, steps_in}
+use Rattle.ppd_flow_past.proofs.Found.{found_err, found_given, found_then}
+use Rattle.ppd_flow_model.specs.declared.walked.Walked.{Walked}
+use Rattle.ppd_flow_model.specs.declared.walked.Walked.TheVariants.{Stopped, Passed, Found}
+use Rattle.ppd_flow_model.specs.Ends.{end_interval, end_item}
+use Rattle.ppd_flow_model.specs.Seen.{Seen}
+use Rattle.ppd_flow_model.specs.Shared.{Missing, of_process, own_or, seen_at, unless_found, written_at, written_in, written_replays}
+use Rattle.ppd_flow_model.specs.Walk.{walk, walk_replays}
+use Rattle.ppd_flow_shared.specs.declared.edge_end.EdgeEnd.{EdgeEnd}
+use Rattle.ppd_flow_shared.specs.SharedCells.{IsWalked, answer_of, edge_end_of, seens_in}
+
+-- ---- answers
+
+abbrev end_or : EdgeEnd → Result EdgeEnd FlowError → EdgeEnd
+end_or d (Ok u) = u
+end_or d (Err e) = d
+
+abbrev walked_or : Walked → Result Walked FlowError → Walked
+walked_or d (Ok w) = w
+walked_or d (Err e) = d
+
+-- ---- processes
+
+module _ (past : Past) where
+  abbrev xs : List Seen
+  xs = seens_in past
+
+  abbrev seen : List Entry → Seen
+  seen entries = seen_by past.program.now past.plan.now past.budget entries
+
+  pub seen_there : (p : ℕ) → seen_at xs p ≡ seen_in past p
+  seen_there p = by past.cut.now.lists p
+    where
+      by : (lists : List (List Entry)) (q : ℕ) → seen_at (map seen lists) q ≡ seen (get_or lists q [])
+      by [] q = refl
+      by (es ∷ lists) zero = refl
+      by (es ∷ lists) (suc q) = by lists q
+
+  -- ---- the end of an edge
+
+  module _ (e : EdgeId) where
+    abbrev entries : List Entry
+    entries = entries_at past.logs.now e.process
+
+    abbrev k : ℕ
+    k = end_interval entries e.edge
+
+    -- ---- the last write in an edge
+
+    module _ (c : ℕ) where
+      abbrev Whole : Seen → ℕ → ℕ → Result (ℤ × Origin) FlowError → Type 0
+      Whole y n q r =
+          IsFoundBy past ((e.process, k) ∷ of_process e.process (walk_replays y c k (end_item entries y e.edge)))
+          (answer_of (written_at past.logs.now c e (walk y c k (end_item entries y e.edge)))) n q r
+
+      as_written : (n q : ℕ) (r : Result (ℤ × Origin) FlowError) → Whole (seen_in past e.process) n q r
+          → IsFoundBy past (written_replays past.logs.now xs c e) (answer_of (written_in past.logs.now xs c e)) n q r
+      as_written n q r f = subst (λ y. Whole y n q r) (sym (seen_there e.process)) f
+
+      abbrev x : Seen
+      x = seen_in past e.process
+
+      abbrev pub Before : ℕ → ℕ → ℕ → ℕ → Result (ℤ × Origin) FlowError → Type 0
+      Before m j n q r =
+          IsFoundBy past (of_process e.process (walk_replays x c m j))
+          (answer_of (written_at past.logs.now c e (walk x c m j))) n q r
+
+      -- the walk from where the edge ends, by its replay
+      pub written_from_end : (end : EdgeEnd) (n o q : ℕ) (r : Result (ℤ × Origin) FlowError)
+          → IsFoundBy past ((e.process, k) ∷ []) (Ok (edge_end_of past e)) n o (Ok end)
+          → Before end.interval end.place o q r
+          → IsFoundBy past (written_replays past.logs.now xs c e) (answer_of (written_in past.logs.now xs c e)) n q r
+      written_from_end end n o q r f g =
+          let is : edge_end_of past e ≡ end = ap (end_or end) f.1 in
+          let j = end_item entries x e.edge in
+          as_written n q r
+          (found_then past ((e.process, k) ∷ []) (of_process e.process (walk_replays x c k j)) (Ok (edge_end_of past e))
+          (answer_of (written_at past.logs.now c e (walk x c k j))) end n o q r f
+          (subst (λ (u : EdgeEnd). Before u.interval u.place o q r) (sym is) g))
+
+      -- or by its items, which are there
+      pub written_from_items : (n o : ℕ) (r : Result (ℤ × Origin) FlowError) → failed_in past e.process k ≡ None
+          → Before k (end_item entries x e.edge) n o r
+          → IsFoundBy past (written_replays past.logs.now xs c e) (answer_of (written_in past.logs.now xs c e)) n
+          (o + steps_in past e.process k) r
+      written_from_items n o r fine g =
+          let j = end_item entries x e.edge in
+          as_written n (o + steps_in past e.process k) r
+          (found_given past e.process k (of_process e.process (walk_replays x c k j))
+          (answer_of (written_at past.logs.now c e (walk x c k j))) n o r fine g)
+
+  -- ---- a shared read
+
+  module _ (p c i j : ℕ) (rest : List (ℕ × ℕ)) (other : Result Origin Missing) where
+    abbrev Read : Seen → ℕ → ℕ → Result Origin FlowError → Type 0
+    Read y n q r =
+        IsFoundBy past (of_process p (walk_replays y c i j) ++ unless_found (walk y c i j) rest)
+        (answer_of (own_or p (walk y c i j) other)) n q r
+
+    at_there : (n q : ℕ) (r : Result Origin FlowError) → Read (seen_in past p) n q r → Read (seen_at xs p) n q r
+    at_there n q r f = subst (λ y. Read y n q r) (sym (seen_there p)) f
+
+    abbrev here : Seen
+    here = seen_in past p
+
+    abbrev w0 : Walked
+    w0 = walk here c i j
+
+    -- after the walk, which found this
+    after_walk : (w : Walked) (n q : ℕ) (r : Result Origin FlowError) → w0 ≡ w
+        → IsFoundBy past (of_process p (walk_replays here c i j) ++ unless_found w rest) (answer_of
+        (own_or p w other)) n q r
+        → Read (seen_at xs p) n q r
+    after_walk w n q r is f =
+        at_there n q r
+        (subst (λ u. IsFoundBy past (of_process p (walk_replays here c i j) ++ unless_found u rest) (answer_of
+        (own_or p u other)) n q r) (sym is) f)
+
+    pub read_failed : (n q : ℕ) (u : FlowError)
+        → IsWalked past p c i j n q (Err u)
+        → Read (seen_at xs p) n q (Err u)
+    read_failed n q u f =
+        at_there n q (Err u)
+        (found_err past (of_process p (walk_replays here c i j)) (unless_found w0 rest) w0 (answer_of
+        (own_or p w0 other)) n q u f)
+
+    pub read_own : (m t : ℕ) (v : ℤ) (n q : ℕ)
+        → IsWalked past p c i j n q (Ok (Found m t v))
+        → Read (seen_at xs p) n q (Ok (origin.Item p m t))
+    read_own m t v n q f =
+        let is : w0 ≡ Found m t v = ap (walked_or (Found m t v)) f.1 in
+        let alone : of_process p (walk_replays here c i j) ++ []
+        ≡ of_process p (walk_replays here c i j) = append-nil (of_process p (walk_replays here c i j)) in
+        after_walk (Found m t v) n q (Ok (origin.Item p m t)) is
+        (subst (λ ks. IsFoundBy past ks (Ok (origin.Item p m t)) n q (Ok (origin.Item p m t))) (sym alone)
+        (f.0, refl, f.2))
+
+    pub read_stopped : (n m q : ℕ) (r : Result Origin FlowError)
+        → IsWalked past p c i j n m (Ok Stopped)
+        → IsFoundBy past rest (answer_of other) m q r → Read (seen_at xs p) n q r
+    read_stopped n m q r f g =
+        after_walk Stopped n q r (ap (walked_or Stopped) f.1)
+        (found_then past (of_process p (walk_replays here c i j)) rest (Ok w0) (answer_of other) Stopped n m q r f g)
+
+    pub read_passed : (n m q : ℕ) (r : Result Origin FlowError)
+        → IsWalked past p c i j n m (Ok Passed)
+        → IsFoundBy past rest (answer_of other) m q r → Read (seen_at xs p) n q r
+    read_passed n m q r f g =
+        after_walk Passed n q r (ap (walked_or Passed) f.1)
+        (found_then past (of_process p (walk_replays here c i j)) rest (Ok w0) (answer_of other) Passed n m q r f g)

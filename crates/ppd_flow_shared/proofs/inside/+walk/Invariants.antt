@@ -1,0 +1,29 @@
+use Rattle.std.proofs.Common.{[], ◌+◌, ◌*◌, ◌≤◌, length}
+use Rattle.ppd_flow_model.specs.Walk.{back_from, backwards}
+use Rattle.ppd_flow_shared.specs.Items.{seen_for}
+use Rattle.ppd_flow_shared.proofs.Leads.{Leads}
+use Rattle.ppd_flow_shared.proofs.Over.{over, replays}
+use Rattle.ppd_flow_shared.proofs.inside.+walk.Given as goal
+
+abbrev pub decreases-over_items : goal.decreases-over_items
+decreases-over_items g l = 3 * l.depth + 2
+
+abbrev pub decreases-over_item : goal.decreases-over_item
+decreases-over_item g l = 3 * l.depth + 1
+
+abbrev pub decreases-over_interval : goal.decreases-over_interval
+decreases-over_interval g l = 3 * l.depth
+
+-- the items before this one are left
+abbrev pub invariant-over_items-loop-left : goal.invariant-over_items-loop-left
+invariant-over_items-loop-left g l = record {
+  within : l.left ≤ length l.items;
+  leads : Leads l.search.past.now l.search.process
+      (replays (seen_for l.search) l.depth l.search.cell l.interval (backwards 0 l.items []))
+      (over (seen_for l.search) l.depth l.search.cell l.interval (backwards 0 l.items [])) l.fn.steps
+      (replays (seen_for l.search) l.depth l.search.cell l.interval (back_from l.left l.items))
+      (over (seen_for l.search) l.depth l.search.cell l.interval (back_from l.left l.items)) l.steps;
+}
+
+abbrev pub decreases-over_items-loop-left : goal.decreases-over_items-loop-left
+decreases-over_items-loop-left g l = l.left

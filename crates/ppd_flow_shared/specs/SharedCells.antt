@@ -1,0 +1,84 @@
+-- What the search for where a shared cell was written answers.
+use Rattle.std.specs.Prelude.{◌≡◌, ℕ, ℤ, List, [], ◌∷◌, map, Option, Some, option_map, Result, Ok, Err, ⊤}
+use Rattle.ppd_entry.specs.Entries.{entries_at}
+use Rattle.ppd_model.specs.declared.flow.Item.{Item}
+use Rattle.ppd_model.specs.declared.flow.Origin.{Origin}
+use Rattle.ppd_model.specs.declared.flow.Origin.TheVariants as origin
+use Rattle.ppd_model.specs.declared.graph.EdgeId.{EdgeId}
+use Rattle.ppd_model.specs.declared.graph.NodeId.{NodeId}
+use Rattle.ppd_flow_past.specs.declared.flow_error.FlowError.{FlowError}
+use Rattle.ppd_flow_past.specs.declared.flow_error.FlowError.TheVariants.{Sets, Memory}
+use Rattle.ppd_flow_past.specs.declared.past.Past.{Past}
+use Rattle.ppd_flow_past.specs.ByReplays.{AreReplayed, IsFoundBy}
+use Rattle.ppd_flow_past.specs.Pasts.{IsPast}
+use Rattle.ppd_flow_past.specs.SeenBy.{items_in, seen_by, seen_in}
+use Rattle.ppd_flow_model.specs.Ends.{end_interval, end_item}
+use Rattle.ppd_flow_model.specs.Seen.{Seen}
+use Rattle.ppd_flow_model.specs.Shared.{Missing, found_last, greatest_writing, last_replays, of_process}
+use Rattle.ppd_flow_model.specs.Walk.{walk, walk_replays}
+use Rattle.ppd_flow_model.specs.declared.walked.Walked.{Walked}
+use Rattle.ppd_flow_shared.specs.declared.edge_end.EdgeEnd.{EdgeEnd}
+use Rattle.ppd_flow_shared.specs.declared.last.LastEdge.{LastEdge}
+
+-- what the replays of each process of a past give
+abbrev pub seens_in : Past → List Seen
+seens_in past = map (λ entries. seen_by past.program.now past.plan.now past.budget entries) past.cut.now.lists
+
+-- a write that is missing is the error that names its entry
+abbrev pub answer_of : {A : Type 0} → Result A Missing → Result A FlowError
+answer_of (Ok x) = Ok x
+answer_of (Err m) = Err (Sets m.process m.entry m.cell)
+
+-- want of memory is answered, or this
+abbrev pub IsMemoryOr : {A : Type 0} → Result A FlowError → Result A FlowError → Type 0
+IsMemoryOr answer (Err Memory) = ⊤
+IsMemoryOr answer result = result ≡ answer
+
+-- where an edge of a past ends
+abbrev pub edge_end_of : Past → EdgeId → EdgeEnd
+edge_end_of past e =
+    let entries = entries_at past.logs.now e.process in
+    record {
+      interval = end_interval entries e.edge;
+      items = items_in past e.process (end_interval entries e.edge);
+      place = end_item entries (seen_in past e.process) e.edge;
+    }
+
+-- the item that is a synchronization
+abbrev pub node_origin : Past → NodeId → Origin
+node_origin past a =
+    let e : EdgeId = record { process = a.process; edge = a.sync } in
+    origin.Item a.process (edge_end_of past e).interval (edge_end_of past e).place
+
+-- it is found by the replay of the interval in which its edge ends
+abbrev pub IsNodeFound : Past → NodeId → (before after : ℕ) → Result Origin FlowError → Type 0
+IsNodeFound past a before after result =
+    IsFoundBy past ((a.process, end_interval (entries_at past.logs.now a.process) a.sync) ∷ []) (Ok
+    (node_origin past a)) before after result
+
+-- the interval in which this edge ends
+abbrev pub with_end : Past → EdgeId → LastEdge
+with_end past e = record { edge = e; interval = end_interval (entries_at past.logs.now e.process) e.edge }
+
+-- the edge with the last write of cell c, if there is one
+abbrev pub last_edge : Past → ℕ → Option LastEdge
+last_edge past c = option_map (with_end past) (greatest_writing past.program.now past.logs.now c)
+
+-- of a past, whose parts belong together: this edge wrote cell c last, and the interval in which it ends has these
+-- items, by a replay that does not fail
+pub record AreItemsOfLast (past : Past) (c : ℕ) (edge : LastEdge) (items : List Item) : Type 0 where
+  pub together : IsPast past
+  pub last : last_edge past c ≡ Some edge
+  pub replayed : AreReplayed past edge.edge.process edge.interval items
+
+-- the last value of cell c with the write of it, found by the replays that the search for that write needs
+abbrev pub IsLastFound : Past → (c before after : ℕ) → Result (ℤ × Origin) FlowError → Type 0
+IsLastFound past c before after result =
+    IsFoundBy past (last_replays past.program.now past.logs.now (seens_in past) c)
+    (answer_of (found_last past.program.now past.logs.now (seens_in past) c)) before after result
+
+-- what a walk for cell c finds from place j in interval k of process p back, found by its replays
+abbrev pub IsWalked : Past → (p c k j before after : ℕ) → Result Walked FlowError → Type 0
+IsWalked past p c k j before after result =
+    IsFoundBy past (of_process p (walk_replays (seen_in past p) c k j)) (Ok (walk (seen_in past p) c k j)) before after
+    result

@@ -1,0 +1,97 @@
+ghost use Rattle.std.specs.Prelude.{◌≡◌, [], Ok};
+ghost use Rattle.ppd_flow_past.specs.ByReplays.{IsFoundBy};
+ghost use Rattle.ppd_flow_past.specs.Pasts.{IsPast};
+ghost use Rattle.ppd_flow_model.specs.Shared.{of_process};
+ghost use Rattle.ppd_flow_model.specs.Walk.{back, back_over, back_replays, backwards, over_replays};
+ghost use Rattle.ppd_flow_shared.specs.Items.{at_item, is_passed as is_start, item_replays, seen_for};
+
+use crate::event::over_event;
+use crate::search::CellSearch;
+use ppd_ast::Steps;
+use ppd_flow_model::Walked;
+use ppd_flow_past::{FlowError, number, replayed};
+use ppd_model::Item;
+use std::sync::ledger::Ledger;
+
+/// Whether the walk came to the start of what it went over.
+pub(crate) fn is_passed(walked: Walked) -> bool
+    ensures { result ≡ is_start walked }
+{
+    matches!(walked, Walked::Passed)
+}
+
+/// Walks over these items of an interval, the last first; intervals inside are walked over in their turn, `depth`
+/// of them in one another at most.
+#[cycle(walk)]
+pub(crate) fn over_items<L: Ledger>(
+    search: &CellSearch,
+    depth: u32,
+    interval: u32,
+    items: &[Item],
+    steps: &mut Steps<L>,
+) -> Result<Walked, FlowError>
+    requires { IsPast search.now.past.now }
+    ensures { IsFoundBy search.now.past.now
+        (of_process search.now.process
+        (over_replays (back depth (seen_for search.now) search.now.cell)
+        (back_replays depth (seen_for search.now) search.now.cell) search.now.cell interval
+        (backwards 0 items.now [])))
+        (Ok (back_over (back depth (seen_for search.now) search.now.cell) search.now.cell interval
+        (backwards 0 items.now [])))
+        steps.old steps.new result }
+{
+    let mut left = items.len();
+    while left > 0 {
+        left -= 1;
+        let walked = over_item(search, depth, (interval, left), &items[left], steps)?;
+        if !is_passed(walked) {
+            return Ok(walked);
+        }
+    }
+    Ok(Walked::Passed)
+}
+
+// Walks over one item, by its interval and its number there.
+#[cycle(walk)]
+fn over_item<L: Ledger>(
+    search: &CellSearch,
+    depth: u32,
+    place: (u32, usize),
+    item: &Item,
+    steps: &mut Steps<L>,
+) -> Result<Walked, FlowError>
+    requires { IsPast search.now.past.now }
+    ensures { IsFoundBy search.now.past.now
+        (of_process search.now.process (item_replays (seen_for search.now) depth search.now.cell item.now))
+        (Ok (at_item (seen_for search.now) depth search.now.cell place.0 place.1 item.now))
+        steps.old steps.new result }
+{
+    match item {
+        Item::Own(event) => {
+            let at = number(place.1)?;
+            Ok(over_event(search.cell, place.0, at, event))
+        }
+        Item::Nested { interval, .. } => over_interval(search, depth, *interval, steps),
+    }
+}
+
+// Walks over a whole interval, which is replayed.
+#[cycle(walk)]
+fn over_interval<L: Ledger>(
+    search: &CellSearch,
+    depth: u32,
+    interval: u32,
+    steps: &mut Steps<L>,
+) -> Result<Walked, FlowError>
+    requires { IsPast search.now.past.now }
+    ensures { IsFoundBy search.now.past.now
+        (of_process search.now.process (back_replays depth (seen_for search.now) search.now.cell interval))
+        (Ok (back depth (seen_for search.now) search.now.cell interval))
+        steps.old steps.new result }
+{
+    if depth == 0 {
+        return Ok(Walked::Passed);
+    }
+    let items = replayed(search.alloc, search.past, search.process, interval, steps)?;
+    over_items(search, depth - 1, interval, items.as_slice(), steps)
+}

@@ -1,0 +1,59 @@
+ghost use Rattle.std.specs.Prelude.{◌≡◌, ◌+◌, IfOk};
+ghost use Rattle.ppd_flow_past.specs.Pasts.{IsPast};
+ghost use Rattle.ppd_flow_past.specs.SeenBy.{steps_in};
+ghost use Rattle.ppd_flow_shared.specs.SharedCells.{AreItemsOfLast, IsLastFound, last_edge as last_edge_of};
+
+use crate::search::CellSearch;
+use crate::written::written_before;
+use ppd_ast::{Memory, Steps};
+use ppd_flow_past::{FlowError, Past, end_interval, greatest_writing, sync_item};
+use ppd_model::{EdgeId, Item, Origin};
+use std::alloc::Global;
+use std::sync::ledger::Ledger;
+
+/// The internal edge with the last write of a shared cell, and the interval in which it ends.
+#[derive(Clone, Copy, PartialEq, Eq, Debug)]
+pub struct LastEdge {
+    pub edge: EdgeId,
+    pub interval: u32,
+}
+
+/// The greatest internal edge whose write set has the cell, with the interval in which it ends, if there is one.
+/// Nothing is replayed. `Memory` is want of memory, also for edges that have no numbers.
+pub fn last_edge(past: &Past, cell: u16) -> Result<Option<LastEdge>, Memory>
+    requires { IsPast past.now }
+    ensures { IfOk result (λ last. last ≡ last_edge_of past.now cell) }
+{
+    match greatest_writing(past, cell)? {
+        Some(edge) => Ok(Some(LastEdge {
+            edge,
+            interval: end_interval(past, edge.process, edge.edge),
+        })),
+        None => Ok(None),
+    }
+}
+
+/// What `last_write` answers for a cell that this edge wrote last, from the items of the interval in which the edge
+/// ends: that interval is not replayed again, and the counter does not rise by its steps.
+pub fn last_write_from<L: Ledger>(
+    alloc: Global,
+    past: &Past,
+    cell: u16,
+    last: LastEdge,
+    items: &[Item],
+    steps: &mut Steps<L>,
+) -> Result<(i64, Origin), FlowError>
+    requires { AreItemsOfLast past.now cell last items.now }
+    ensures { IsLastFound past.now cell steps.old
+        (steps.new + steps_in past.now last.edge.process last.interval) result }
+{
+    let EdgeId { process, edge } = last.edge;
+    let place = sync_item(past, process, edge, last.interval, items)?;
+    let search = CellSearch {
+        alloc,
+        past,
+        process,
+        cell,
+    };
+    written_before(&search, edge, last.interval, items, place, steps)
+}

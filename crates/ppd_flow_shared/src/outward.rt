@@ -1,0 +1,132 @@
+ghost use Rattle.std.specs.Prelude.{◌≡◌, Ok, position, take};
+ghost use Rattle.ppd_flow_past.specs.ByReplays.{IsFoundBy};
+ghost use Rattle.ppd_flow_past.specs.Pasts.{IsPast};
+ghost use Rattle.ppd_flow_model.specs.Seen.{is_item_of, items_at, place_of as place_among, round_at};
+ghost use Rattle.ppd_flow_model.specs.Shared.{of_process};
+ghost use Rattle.ppd_flow_shared.specs.SharedCells.{IsWalked};
+ghost use Rattle.ppd_flow_shared.specs.Items.{before_inner, before_inner_replays, out_of, out_of_replays, seen_for};
+
+use crate::inside::{is_passed, over_items};
+use crate::search::CellSearch;
+use ppd_ast::Steps;
+use ppd_flow_model::Walked;
+use ppd_flow_past::{FlowError, count_of, outer_of, replayed};
+use ppd_model::Item;
+use std::sync::ledger::Ledger;
+
+fn is_interval(interval: u32, item: &Item) -> bool
+    ensures { result ≡ is_item_of interval item.now }
+{
+    match item {
+        Item::Own(_) => false,
+        Item::Nested {
+            interval: inner,
+            ..
+        } => interval == *inner,
+    }
+}
+
+fn position_of(interval: u32, items: &[Item]) -> Option<usize>
+    ensures { result ≡ position (is_item_of interval) items.now }
+{
+    items.iter().position(|item| is_interval(interval, item))
+}
+
+/// The place of an interval among these items, and 0 where it is none of them.
+fn place_of(interval: u32, items: &[Item]) -> usize
+    ensures { result ≡ place_among interval items.now }
+{
+    match position_of(interval, items) {
+        Some(at) => at,
+        None => 0,
+    }
+}
+
+/// The first items, so many, or all where there are fewer.
+pub(crate) fn first_items(items: &[Item], count: usize) -> &[Item]
+    ensures { result.now ≡ take count items.now }
+{
+    if count < items.len() {
+        &items[..count]
+    } else {
+        items
+    }
+}
+
+// Replays an interval, and walks over its items before an interval inside it.
+fn over_before<L: Ledger>(
+    search: &CellSearch,
+    outer: u32,
+    inner: u32,
+    steps: &mut Steps<L>,
+) -> Result<Walked, FlowError>
+    requires { IsPast search.now.past.now }
+    ensures { IsFoundBy search.now.past.now
+        (of_process search.now.process (before_inner_replays (seen_for search.now) search.now.cell outer inner))
+        (Ok (before_inner (seen_for search.now) search.now.cell outer inner))
+        steps.old steps.new result }
+{
+    let depth = count_of(search.past, search.process);
+    let items = replayed(search.alloc, search.past, search.process, outer, steps)?;
+    let at = place_of(inner, items.as_slice());
+    over_items(
+        search,
+        depth,
+        outer,
+        first_items(items.as_slice(), at),
+        steps,
+    )
+}
+
+// Walks on from the start of an interval, through the intervals round it.
+fn outward<L: Ledger>(
+    search: &CellSearch,
+    interval: u32,
+    steps: &mut Steps<L>,
+) -> Result<Walked, FlowError>
+    requires { IsPast search.now.past.now }
+    ensures { IsFoundBy search.now.past.now
+        (of_process search.now.process (out_of_replays (seen_for search.now) search.now.cell interval
+        (round_at (seen_for search.now) interval)))
+        (Ok (out_of (seen_for search.now) search.now.cell interval (round_at (seen_for search.now) interval)))
+        steps.old steps.new result }
+{
+    let mut inner = interval;
+    while let Some(outer) = outer_of(search.past, search.process, inner) {
+        let walked = over_before(search, outer, inner, steps)?;
+        if !is_passed(walked) {
+            return Ok(walked);
+        }
+        inner = outer;
+    }
+    Ok(Walked::Passed)
+}
+
+impl<'a> CellSearch<'a> {
+    /// Walks back over the internal edge of a place in an interval, from before that place to a write of the cell
+    /// or to the synchronization at which the edge begins; `items` are those of the interval. An interval inside is
+    /// walked over before what comes before it, and from the start of an interval the walk goes on in the interval
+    /// round it, before its place there. Intervals of functions are at most 64 deep, each with a loop at most and a
+    /// loop of a function without an interval, so that the walk calls itself no deeper than about 130 intervals.
+    ///
+    /// The counter rises by the own steps of the intervals that are replayed. `Diverged`: the replay of one of
+    /// them, the first that fails, does so at this entry. `Memory` is want of memory. No other error comes.
+    pub fn walk<L: Ledger>(
+        &self,
+        interval: u32,
+        items: &[Item],
+        place: usize,
+        steps: &mut Steps<L>,
+    ) -> Result<Walked, FlowError>
+        requires past { IsPast self.now.past.now }
+        requires items { items.now ≡ items_at (seen_for self.now) interval }
+        ensures { IsWalked self.now.past.now self.now.process self.now.cell interval place steps.old steps.new result }
+    {
+        let depth = count_of(self.past, self.process);
+        let walked = over_items(self, depth, interval, first_items(items, place), steps)?;
+        if !is_passed(walked) {
+            return Ok(walked);
+        }
+        outward(self, interval, steps)
+    }
+}

@@ -1,0 +1,93 @@
+ghost use Rattle.std.specs.Prelude.{◌≡◌, IfOk, Ok, Some};
+ghost use Rattle.ppd_flow_past.specs.ByReplays.{IsFoundBy};
+ghost use Rattle.ppd_flow_past.specs.Pasts.{IsPast};
+ghost use Rattle.ppd_flow_past.specs.SeenBy.{items_in};
+ghost use Rattle.ppd_flow_model.specs.Shared.{pair_of as pair_of_place, pair_origin as pair_origin_of, pair_replays};
+ghost use Rattle.ppd_flow_shared.specs.SharedCells.{IsNodeFound, seens_in};
+
+use crate::edge_end::edge_end;
+use crate::outward::first_items;
+use ppd_ast::{Memory, Steps};
+use ppd_flow_past::{FlowError, Past, edge_at, number};
+use ppd_graph::Paired;
+use ppd_model::{EdgeId, Item, NodeId, Origin};
+use std::alloc::Global;
+use std::sync::ledger::Ledger;
+
+/// A place in an interval of a process: before the item of this number.
+#[derive(Clone, Copy, PartialEq, Eq, Debug)]
+pub struct Place {
+    pub process: u8,
+    pub interval: u32,
+    pub item: usize,
+}
+
+// What leads to the synchronization at a place. `Memory` is want of memory.
+fn pair_of(past: &Past, place: Place, items: &[Item]) -> Result<Paired, Memory>
+    requires past { IsPast past.now }
+    requires items { items.now ≡ items_in past.now place.process place.interval }
+    ensures { IfOk result (λ pair. pair
+        ≡ pair_of_place past.now.program.now past.now.logs.now (seens_in past.now) place.process place.interval
+        place.item) }
+{
+    let before = first_items(items, place.item);
+    let sync = edge_at(past, place.process, place.interval, before)?;
+    Ok(
+        past.graph.paired(NodeId {
+            process: place.process,
+            sync,
+        }),
+    )
+}
+
+// Where a synchronization is an item.
+fn node_place<L: Ledger>(
+    alloc: Global,
+    past: &Past,
+    node: NodeId,
+    steps: &mut Steps<L>,
+) -> Result<Origin, FlowError>
+    requires { IsPast past.now }
+    ensures { IsNodeFound past.now node steps.old steps.new result }
+{
+    let edge = EdgeId {
+        process: node.process,
+        edge: node.sync,
+    };
+    let end = edge_end(alloc, past, edge, steps)?;
+    let item = number(end.place)?;
+    Ok(Origin::Item {
+        process: node.process,
+        interval: end.interval,
+        item,
+    })
+}
+
+/// Where the pair of the synchronization at a place of an interval is an item, whose items these are: the item
+/// that is the synchronization which leads to it, `Initial` for a `P` that the initial value let through, and
+/// none where nothing leads to it.
+///
+/// The counter rises by the own steps of the interval in which the pair is. `Diverged`: its replay fails at
+/// this entry. `Memory` is want of memory, also for places that have no 32-bit numbers. No other error comes.
+pub fn pair_origin<L: Ledger>(
+    alloc: Global,
+    past: &Past,
+    place: Place,
+    items: &[Item],
+    steps: &mut Steps<L>,
+) -> Result<Option<Origin>, FlowError>
+    requires past { IsPast past.now }
+    requires items { items.now ≡ items_in past.now place.process place.interval }
+    ensures { IsFoundBy past.now
+        (pair_replays past.now.program.now past.now.logs.now (seens_in past.now) place.process place.interval
+        place.item)
+        (Ok (pair_origin_of past.now.program.now past.now.logs.now (seens_in past.now) place.process place.interval
+        place.item))
+        steps.old steps.new result }
+{
+    match pair_of(past, place, items)? {
+        Paired::Nothing => Ok(None),
+        Paired::Initial => Ok(Some(Origin::Initial)),
+        Paired::Node(node) => Ok(Some(node_place(alloc, past, node, steps)?)),
+    }
+}

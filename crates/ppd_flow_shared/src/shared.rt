@@ -1,0 +1,128 @@
+ghost use Rattle.std.specs.Prelude.{◌≡◌, IfOk};
+ghost use Rattle.ppd_flow_past.specs.ByReplays.{IsFoundBy};
+ghost use Rattle.ppd_flow_past.specs.Pasts.{IsPast};
+ghost use Rattle.ppd_flow_model.specs.Seen.{items_at};
+ghost use Rattle.ppd_flow_model.specs.Shared.{edge_of_place, greatest_before as greatest_before_of, origin_in, shared_origin as shared_origin_of, shared_replays, start_replays, written_or_start as written_or_start_of};
+ghost use Rattle.ppd_flow_shared.specs.Items.{seen_for};
+ghost use Rattle.ppd_flow_shared.specs.SharedCells.{IsLastFound, answer_of, seens_in};
+
+use crate::outward::first_items;
+use crate::search::CellSearch;
+use crate::written::written_or_start;
+use ppd_ast::{Memory, Steps};
+use ppd_flow_model::Walked;
+use ppd_flow_past::{FlowError, Past, edge_at, greatest_before, greatest_writing};
+use ppd_model::{EdgeId, Item, Origin};
+use std::alloc::Global;
+use std::sync::ledger::Ledger;
+
+impl<'a> CellSearch<'a> {
+    // The greatest edge before that of a place that writes the cell. `Memory` is want of memory.
+    fn edge_before(
+        &self,
+        interval: u32,
+        items: &[Item],
+        place: usize,
+    ) -> Result<Option<EdgeId>, Memory>
+        requires past { IsPast self.now.past.now }
+        requires items { items.now ≡ items_at (seen_for self.now) interval }
+        ensures { IfOk result (λ best. best
+            ≡ greatest_before_of self.now.past.now.program.now self.now.past.now.logs.now
+            (edge_of_place self.now.past.now.logs.now (seens_in self.now.past.now) self.now.process interval place)
+            self.now.cell) }
+    {
+        let before = first_items(items, place);
+        let edge = edge_at(self.past, self.process, interval, before)?;
+        let own = EdgeId {
+            process: self.process,
+            edge,
+        };
+        greatest_before(self.past, own, self.cell)
+    }
+
+    // The origin of a write in an edge before that of a place, or the start value.
+    fn origin_before<L: Ledger>(
+        &self,
+        interval: u32,
+        items: &[Item],
+        place: usize,
+        steps: &mut Steps<L>,
+    ) -> Result<Origin, FlowError>
+        requires past { IsPast self.now.past.now }
+        requires items { items.now ≡ items_at (seen_for self.now) interval }
+        ensures { IsFoundBy self.now.past.now
+            (start_replays self.now.past.now.logs.now (seens_in self.now.past.now) self.now.cell
+            (greatest_before_of self.now.past.now.program.now self.now.past.now.logs.now
+            (edge_of_place self.now.past.now.logs.now (seens_in self.now.past.now) self.now.process interval place)
+            self.now.cell))
+            (answer_of (origin_in (written_or_start_of self.now.past.now.program.now self.now.past.now.logs.now
+            (seens_in self.now.past.now) self.now.cell
+            (greatest_before_of self.now.past.now.program.now self.now.past.now.logs.now
+            (edge_of_place self.now.past.now.logs.now (seens_in self.now.past.now) self.now.process interval place)
+            self.now.cell))))
+            steps.old steps.new result }
+    {
+        let best = self.edge_before(interval, items, place)?;
+        let (_, origin) = written_or_start(self, best, steps)?;
+        Ok(origin)
+    }
+
+    /// Where the cell was written that is read at a place in an interval, whose items these are: the last write
+    /// before it in the internal edge of the place, else the last write in the greatest edge before this one
+    /// whose write set has the cell, else the start value. In a run without a race under the plan of a policy
+    /// it is the write whose value was read.
+    ///
+    /// The counter rises by the own steps of the intervals that are replayed. `Diverged`: the replay of one of them,
+    /// the first that fails, does so at this entry. `Sets`: the write set of this entry has the cell, and the
+    /// walk over the edge that it ends finds no write of it. `Memory` is want of memory, also for places that
+    /// have no 32-bit numbers. No other error comes.
+    pub fn shared_origin<L: Ledger>(
+        &self,
+        interval: u32,
+        items: &[Item],
+        place: usize,
+        steps: &mut Steps<L>,
+    ) -> Result<Origin, FlowError>
+        requires past { IsPast self.now.past.now }
+        requires items { items.now ≡ items_at (seen_for self.now) interval }
+        ensures { IsFoundBy self.now.past.now
+            (shared_replays self.now.past.now.program.now self.now.past.now.logs.now (seens_in self.now.past.now)
+            self.now.process interval place self.now.cell)
+            (answer_of (shared_origin_of self.now.past.now.program.now self.now.past.now.logs.now
+            (seens_in self.now.past.now) self.now.process interval place self.now.cell))
+            steps.old steps.new result }
+    {
+        let walked = self.walk(interval, items, place, steps)?;
+        match walked {
+            Walked::Found { interval, item, .. } => Ok(Origin::Item {
+                process: self.process,
+                interval,
+                item,
+            }),
+            Walked::Stopped | Walked::Passed => {
+                self.origin_before(interval, items, place, steps)
+            }
+        }
+    }
+}
+
+/// The last value of a shared cell and where it was written: by the last write in the greatest internal edge whose
+/// write set has the cell, else at the start. The counter and the errors are those of `shared_origin`.
+pub fn last_write<L: Ledger>(
+    alloc: Global,
+    past: &Past,
+    cell: u16,
+    steps: &mut Steps<L>,
+) -> Result<(i64, Origin), FlowError>
+    requires { IsPast past.now }
+    ensures { IsLastFound past.now cell steps.old steps.new result }
+{
+    let search = CellSearch {
+        alloc,
+        past,
+        process: 0,
+        cell,
+    };
+    let best = greatest_writing(past, cell)?;
+    written_or_start(&search, best, steps)
+}

@@ -1,9 +1,0 @@
-pub mod Standing
-pub mod Tested
-pub mod Valued
-pub mod OfKind
-pub mod Marked
-pub mod Started
-pub mod Endings
-pub mod Passing
-pub mod Found

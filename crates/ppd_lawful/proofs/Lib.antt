@@ -1,6 +1,0 @@
-pub mod Constants
-pub mod Fit
-pub mod Logs
-pub mod Terms
-pub mod Values
-pub mod Whole

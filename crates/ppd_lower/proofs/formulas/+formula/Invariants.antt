@@ -1,9 +1,0 @@
-use Rattle.std.proofs.Common.{◌-◌, ◌*◌, length}
-use Rattle.ppd_resolve.proofs.Table.Trees.{left_at}
-use Rattle.ppd_lower.proofs.formulas.+formula.Given as goal
-
-abbrev pub decreases-formula : goal.decreases-formula
-decreases-formula g l = left_at l.source.nodes.now l.operand
-
-abbrev pub decreases-formula_at : goal.decreases-formula_at
-decreases-formula_at g l = 2 * (length l.source.nodes.now - l.id)

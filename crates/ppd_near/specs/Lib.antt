@@ -1,2 +1,0 @@
--- What the replays for an item's edges cost.
-pub mod Costs

@@ -1,9 +1,0 @@
-pub mod Told
-pub mod Runs
-pub mod Planned
-pub mod Framed
-pub mod DeedKinds
-pub mod Opened
-pub mod Moving
-pub mod Depths
-pub mod Stacks

@@ -1,4 +1,0 @@
--- What a process of a run does step by step, and which blocks are open at each of its steps.
-pub use Rattle.ppd_step_laws.specs.Blocks
-pub mod Run
-pub mod Stack

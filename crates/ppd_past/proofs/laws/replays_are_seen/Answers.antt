@@ -1,5 +1,0 @@
-use Rattle.ppd_past.proofs.Runs.{replays_are_seen}
-use Rattle.ppd_past.proofs.laws.replays_are_seen.Goals as goal
-
-pub returns : goal.returns
-returns c = replays_are_seen

@@ -1,6 +1,0 @@
--- What is kept of a run, and what replays of its intervals give.
-pub use Rattle.ppd_emulate.specs.Laws
-pub mod Pasts
-pub mod SeenBy
-pub mod ByReplays
-pub mod Honest

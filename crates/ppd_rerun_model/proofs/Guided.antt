@@ -1,0 +1,94 @@
+-- The guided schedule of the record of a whole schedule without a race is whole and has its story.
+use Rattle.std.proofs.Common.{◌≡◌, ℕ, List, [], Some, Bool, true, false, refl, ap, sym, subst, ◌∙◌, arith, length, take_all}
+use Rattle.ppd_ast.specs.declared.plan.Plan.{Plan}
+use Rattle.ppd_ast.specs.declared.program.Program.{Program}
+use Rattle.ppd_model.specs.declared.tracing.Story.{Story}
+use Rattle.ppd_model.specs.Agreement.{Agree}
+use Rattle.ppd_model.specs.HappenedBefore.{own_syncs}
+use Rattle.ppd_model.specs.Laws.{begins}
+use Rattle.ppd_model.specs.Prefixes.{Good, told_to}
+use Rattle.ppd_model.specs.Races.{races}
+use Rattle.ppd_model.specs.Record.{record_of, sync_record}
+use Rattle.ppd_model.specs.Schedule as sched
+use Rattle.ppd_model.specs.Story.{Telling, next_event, story, told}
+use Rattle.ppd_model.specs.Synchronizations as s
+use Rattle.ppd_model.specs.World.{World, enabled, need}
+use Rattle.ppd_model.proofs.Prefixes.{good_to}
+use Rattle.ppd_model.proofs.Stories.{stories_are_of_runs}
+use Rattle.law_agreement.proofs.Machine.Model.{Enabled, IsFinal, Run, Want}
+use Rattle.law_agreement.proofs.Instance.Wants.{Line, Tagged, machine, view}
+use Rattle.law_agreement.proofs.Instance.Given.{enabled_there}
+use Rattle.law_agreement.proofs.Schedules.Records.{sheet}
+use Rattle.law_agreement.proofs.Schedules.Steps.{run_of, want_is}
+use Rattle.law_agreement.proofs.Agreeing.{final, fresh, recorded, run_ordered, story_by}
+use Rattle.ppd_rerun_model.specs.Guided.{guided}
+use Rattle.ppd_rerun_model.specs.Laws.{EndsGuided, GuidedSchedulesAgree, IsGuidedAlike, guided_end}
+use Rattle.ppd_rerun_model.proofs.Ending.{ends_guided}
+use Rattle.ppd_rerun_model.proofs.Following.{Comes, comes}
+use Rattle.ppd_rerun_model.proofs.Lines.{monotone, once}
+use Rattle.ppd_rerun_model.proofs.Taking.{guided_run}
+
+module _ (program : Program) (plan : Plan) (budget : ℕ) where
+  module _ (h : List ℕ) (last : World) (e : sched.run_from program plan (sched.started_world program plan budget) h ≡ Some last) where
+    abbrev t : Telling
+    t = told_to program plan budget h (length h)
+
+    world_is : t.world ≡ last
+    world_is = ap (λ (xs : List ℕ). (told program plan budget xs).world) (take_all (length h) h (omega arith)) ∙ stories_are_of_runs program plan budget h last e
+
+    good_last : Good program plan budget t
+    good_last = good_to program plan budget h (length h)
+
+    nobody_by : IsFinal (run_of program plan budget h last e) → (p : ℕ) (b : Bool) → enabled program plan last p ≡ b → enabled program plan last p ≡ false
+    unfolding run_of
+    nobody_by done p false is = is
+    nobody_by done p true is =
+        absurd (done p
+        (subst (λ (w : Want Line Tagged). Enabled (machine program plan budget) (view t) w) (sym (want_is program plan budget t p good_last))
+        (enabled_there program plan budget t good_last.sizes (next_event t p) (need program plan t.world p)
+        (ap (λ (w : World). enabled program plan w p) world_is ∙ is))))
+
+    -- where a schedule's run is final, nobody is enabled after it
+    over_by : IsFinal (run_of program plan budget h last e) → sched.IsOver program plan last
+    over_by done = record { nobody = λ p. nobody_by done p (enabled program plan last p) refl }
+
+  module _ (h : List ℕ) (w : sched.IsWhole program plan budget h) (none : races program plan budget h ≡ []) where
+    abbrev syncs : List (List s.Sync)
+    syncs = sync_record program plan budget h
+
+    abbrev g : List ℕ
+    g = guided program plan budget syncs
+
+    abbrev last_world : World
+    last_world = (guided_end program plan budget syncs).world
+
+    ends : EndsGuided program plan budget syncs
+    ends = ends_guided program plan budget syncs
+
+    come : Comes (run_of program plan budget h w.last w.runs) (run_of program plan budget g last_world ends.runs)
+    come =
+        comes (run_of program plan budget h w.last w.runs) (sheet (own_syncs syncs))
+        (recorded program plan budget h w syncs refl)
+        (run_ordered program plan budget h w none)
+        (final program plan budget h w)
+        (run_of program plan budget g last_world ends.runs)
+        (guided_run program plan budget syncs ends.runs)
+        (fresh program plan budget)
+        (once program plan budget h)
+        (monotone program plan budget)
+
+    one_story : story program plan budget g ≡ story program plan budget h
+    one_story = sym (story_by program plan budget h g w.last last_world w.runs ends.runs come.agrees)
+
+    pub alike : IsGuidedAlike program plan budget h
+    alike = record {
+      agree = record {
+        first = w;
+        second = record { last = last_world; runs = ends.runs; over = over_by g last_world ends.runs come.final };
+        records = ap record_of (sym one_story);
+      };
+      story_is = one_story;
+    }
+
+pub schedules_agree : GuidedSchedulesAgree
+schedules_agree program plan budget h w none = alike program plan budget h w none

@@ -1,0 +1,134 @@
+-- Verdicts on logs are one, and on the logs of a whole schedule without a race they are yes.
+use Rattle.std.proofs.Common.{◌≡◌, ℕ, ◌<◌, ◌≤◌, List, [], Option, Some, None, Ok, refl, ap, ap₂, sym, subst, ◌∙◌, arith, length, get_or, ⊎_elim}
+use Rattle.std.specs.Prelude.{slice_get}
+use Rattle.std.proofs.lemmas.Bool.{cases_eq, cases_lt}
+use Rattle.ppd_ast.specs.Valid.{IsValid}
+use Rattle.ppd_ast.specs.declared.plan.Plan.{Plan}
+use Rattle.ppd_ast.specs.declared.plan.Policy.{Policy}
+use Rattle.ppd_ast.specs.declared.program.Program.{Program}
+use Rattle.ppd_blocks.specs.Blocks.{plan_of}
+use Rattle.ppd_entry.specs.declared.entry.Logs.{Logs}
+use Rattle.ppd_emul_model.specs.Replay.{Replayed}
+use Rattle.ppd_model.specs.declared.tracing.Story.{Story}
+use Rattle.ppd_model.specs.Intervals.{Span, Split, items, items_at, items_in, splits}
+use Rattle.ppd_model.specs.Logs.{closed_logs}
+use Rattle.ppd_model.specs.Races.{races}
+use Rattle.ppd_model.specs.Record.{record_of, sync_record}
+use Rattle.ppd_model.specs.RecordedSets.{record_in}
+use Rattle.ppd_model.specs.Schedule.{IsWhole}
+use Rattle.ppd_model.specs.Story.{story}
+use Rattle.ppd_model.specs.Synchronizations as s
+use Rattle.ppd_model.proofs.RecordedSyncs.{record_syncs}
+use Rattle.law_replay.specs.Theorem.Laws.{model_at, modelled_in, modelled_of, replay_at}
+use Rattle.law_replay.proofs.Theorem.Replays.{replays_give_intervals}
+use Rattle.ppd_rerun_model.specs.declared.verdict.No.TheVariants.{Record, Interval}
+use Rattle.ppd_rerun_model.specs.declared.verdict.Verdict.{Verdict}
+use Rattle.ppd_rerun_model.specs.declared.verdict.Verdict.TheVariants as verdict
+use Rattle.ppd_rerun_model.specs.Guided.{guided}
+use Rattle.ppd_rerun_model.specs.Laws.{IsGuidedAlike, RerunsSayYes, VerdictsAreOne}
+use Rattle.ppd_rerun_model.specs.Verdicts.{HasRecordOf, IsFirstOther, IsIntervalNo, IsRecordNo, IsSame, IsVerdict, IsYes, Matches, guided_by}
+use Rattle.ppd_rerun_model.proofs.Guided.{schedules_agree}
+
+-- ---- one verdict
+
+module _ (program : Program) (plan : Plan) (budget : ℕ) (logs : Logs) where
+  abbrev g : List ℕ
+  g = guided_by program plan budget logs
+
+  -- of two first ones neither comes before the other
+  first_once : (p k q m : ℕ) → IsFirstOther program plan budget logs g p k → IsFirstOther program plan budget logs g q m → verdict.No (Interval p k) ≡ verdict.No (Interval q m)
+  first_once p k q m a b =
+      ⊎_elim
+      (λ (lt : p < q). absurd (a.other (b.processes p k lt)))
+      (λ (ge : q ≤ p).
+      ⊎_elim
+      (λ (lt : q < p). absurd (b.other (a.processes q m lt)))
+      (λ (ge2 : p ≤ q).
+      let same : p ≡ q = omega arith in
+      ⊎_elim
+      (λ (lt : k < m). absurd (a.other (subst (λ (x : ℕ). IsSame program plan budget logs g x k) (sym same) (b.intervals k lt))))
+      (λ (ge3 : m ≤ k).
+      ⊎_elim
+      (λ (lt : m < k). absurd (b.other (subst (λ (x : ℕ). IsSame program plan budget logs g x m) same (a.intervals m lt))))
+      (λ (ge4 : k ≤ m).
+      let same2 : k ≡ m = omega arith in
+      ap₂ (λ (x y : ℕ). verdict.No (Interval x y)) same same2)
+      (cases_lt m k))
+      (cases_lt k m))
+      (cases_lt q p))
+      (cases_lt p q)
+
+  -- a yes follows the record with every interval the same
+  follows : (h : List ℕ) → IsYes program plan budget logs h → HasRecordOf program plan budget logs g
+  follows h y = subst (λ (x : List ℕ). HasRecordOf program plan budget logs x) y.schedule y.follows
+
+  same_in : (h : List ℕ) → IsYes program plan budget logs h → (p k : ℕ) → IsSame program plan budget logs g p k
+  same_in h y p k = subst (λ (x : List ℕ). IsSame program plan budget logs x p k) y.schedule (y.same p k)
+
+  pub one : (a b : Verdict) → IsVerdict program plan budget logs a → IsVerdict program plan budget logs b → a ≡ b
+  one (verdict.Yes h) (verdict.Yes h2) a b = ap (λ (x : List ℕ). verdict.Yes x) (a.schedule ∙ sym b.schedule)
+  one (verdict.Yes h) (verdict.No (Record n)) a b = absurd (b.other (follows h a))
+  one (verdict.Yes h) (verdict.No (Interval q m)) a b = absurd (b.first.other (same_in h a q m))
+  one (verdict.No (Record n)) (verdict.Yes h) a b = absurd (a.other (follows h b))
+  one (verdict.No (Record n)) (verdict.No (Record n2)) a b = ap (λ (x : ℕ). verdict.No (Record x)) (a.length_is ∙ sym b.length_is)
+  one (verdict.No (Record n)) (verdict.No (Interval q m)) a b = absurd (a.other b.follows)
+  one (verdict.No (Interval p k)) (verdict.Yes h) a b = absurd (a.first.other (same_in h b p k))
+  one (verdict.No (Interval p k)) (verdict.No (Record n)) a b = absurd (b.other a.follows)
+  one (verdict.No (Interval p k)) (verdict.No (Interval q m)) a b = first_once p k q m a.first b.first
+
+pub verdicts_are_one : VerdictsAreOne
+verdicts_are_one program plan budget logs a b x y = one program plan budget logs a b x y
+
+-- ---- yes
+
+-- an interval of a story matches its own items
+matches_span : (x : Split) (o : Option Span) → Matches (modelled_of x o) (items_at x o)
+matches_span x None = tt
+matches_span x (Some i) = refl
+
+matches_in : (k : ℕ) (o : Option Split) → Matches (modelled_in k o) (items_in k o)
+matches_in k None = tt
+matches_in k (Some x) = matches_span x (slice_get x.spans k)
+
+module _ (program : Program) (policy : Policy) (budget : ℕ) (h : List ℕ) (v : IsValid program)
+    (w : IsWhole program (plan_of program policy) budget h) (none : races program (plan_of program policy) budget h ≡ []) where
+  abbrev plan : Plan
+  plan = plan_of program policy
+
+  abbrev kept : Logs
+  kept = closed_logs program plan budget h
+
+  abbrev again : List ℕ
+  again = guided_by program plan budget kept
+
+  -- the record in the logs is the schedule's
+  recorded : record_in kept ≡ sync_record program plan budget h
+  recorded = (record_syncs program plan budget h).closed
+
+  alike : IsGuidedAlike program plan budget h
+  alike = schedules_agree program plan budget h w none
+
+  guided_is : again ≡ guided program plan budget (sync_record program plan budget h)
+  guided_is = ap (λ (syncs : List (List s.Sync)). guided program plan budget syncs) recorded
+
+  story_is : story program plan budget again ≡ story program plan budget h
+  story_is = ap (λ (x : List ℕ). story program plan budget x) guided_is ∙ alike.story_is
+
+  same : (p k : ℕ) → IsSame program plan budget kept again p k
+  same p k =
+      subst (λ (x : Story). Matches (replay_at program plan budget h p k) (items program plan budget x p k)) (sym story_is)
+      (subst (λ (r : Option Replayed). Matches r (items program plan budget (story program plan budget h) p k)) (sym (replays_give_intervals program policy budget h p k v w none))
+      (matches_in k (slice_get (splits program plan budget (story program plan budget h)) p)))
+
+  pub yes_is : IsVerdict program plan budget kept (verdict.Yes again)
+  yes_is = record {
+    schedule = refl;
+    follows = record {
+      whole = subst (λ (x : List ℕ). IsWhole program plan budget x) (sym guided_is) alike.agree.second;
+      record_is = ap record_of story_is ∙ sym recorded;
+    };
+    same = same;
+  }
+
+pub reruns_say_yes : RerunsSayYes
+reruns_say_yes program policy budget h v w none = yes_is program policy budget h v w none

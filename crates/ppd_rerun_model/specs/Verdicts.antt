@@ -1,0 +1,78 @@
+-- What a controlled re-execution answers of logs: the program runs under the recorded synchronization, and each interval
+-- of the logs is replayed and compared with the run.
+use Rattle.std.specs.Prelude.{◌≡◌, ℕ, ◌<◌, List, [], length, get_or, Option, Some, None, Result, Ok, ⊤}
+use Rattle.ppd_ast.specs.declared.plan.Plan.{Plan}
+use Rattle.ppd_ast.specs.declared.program.Program.{Program}
+use Rattle.ppd_entry.specs.IntervalLogs.{interval_log}
+use Rattle.ppd_entry.specs.declared.entry.Logs.{Logs}
+use Rattle.ppd_emul_model.specs.Replay.{Replayed}
+use Rattle.ppd_emul_model.specs.declared.trace.BlockTrace.{BlockTrace}
+use Rattle.ppd_emul_model.specs.declared.trace.EmulError.{EmulError}
+use Rattle.ppd_model.specs.declared.flow.Item.{Item}
+use Rattle.ppd_model.specs.Intervals.{items as items_of_interval}
+use Rattle.ppd_model.specs.Record.{sync_record}
+use Rattle.ppd_model.specs.RecordedSets.{record_in}
+use Rattle.ppd_model.specs.Schedule.{IsWhole}
+use Rattle.ppd_model.specs.Story.{story}
+use Rattle.law_replay.specs.Theorem.Laws.{replay_of}
+use Rattle.ppd_rerun_model.specs.declared.verdict.No.TheVariants.{Record, Interval}
+use Rattle.ppd_rerun_model.specs.declared.verdict.Verdict.{Verdict}
+use Rattle.ppd_rerun_model.specs.declared.verdict.Verdict.TheVariants as verdict
+use Rattle.ppd_rerun_model.specs.Guided.{guided}
+
+-- the guided schedule of what is recorded in logs
+abbrev pub guided_by : Program → Plan → ℕ → Logs → List ℕ
+guided_by program plan budget logs = guided program plan budget (record_in logs)
+
+-- the schedule is whole, and its record is that of the logs
+pub record HasRecordOf (program : Program) (plan : Plan) (budget : ℕ) (logs : Logs) (h : List ℕ) : Type 0 where
+  pub whole : IsWhole program plan budget h
+  pub record_is : sync_record program plan budget h ≡ record_in logs
+
+-- the answer of a replay that gives these items
+abbrev pub giving : List Item → Result BlockTrace EmulError
+giving items = Ok (record { items = items })
+
+-- a replay and an interval's items: both are there, and these are the items that the replay gives; or neither is
+abbrev pub Matches : Option Replayed → Option (List Item) → Type 0
+Matches None None = ⊤
+Matches (Some r) (Some items) = r.answer ≡ giving items
+Matches r items = ⊥
+
+-- the replay of interval k of process p, from its log in these logs, if it is there
+abbrev pub replay_in : Program → Plan → ℕ → Logs → ℕ → ℕ → Option Replayed
+replay_in program plan budget logs p k =
+    replay_of program plan budget (interval_log plan (get_or logs.lists p []) k)
+
+-- interval k of process p: the logs and the schedule both have it, and its replay gives its items; or neither has it
+abbrev pub IsSame : Program → Plan → ℕ → Logs → List ℕ → ℕ → ℕ → Type 0
+IsSame program plan budget logs h p k =
+    Matches (replay_in program plan budget logs p k) (items_of_interval program plan budget (story program plan budget h) p k)
+
+-- interval k of process p is the first, by process and number, that is not so
+pub record IsFirstOther (program : Program) (plan : Plan) (budget : ℕ) (logs : Logs) (h : List ℕ) (p k : ℕ) : Type 0 where
+  pub other : IsSame program plan budget logs h p k → ⊥
+  pub processes : (q m : ℕ) → q < p → IsSame program plan budget logs h q m
+  pub intervals : (m : ℕ) → m < k → IsSame program plan budget logs h p m
+
+-- yes: the schedule is the guided one, it is whole with the record of the logs, and every interval is the same
+pub record IsYes (program : Program) (plan : Plan) (budget : ℕ) (logs : Logs) (h : List ℕ) : Type 0 where
+  pub schedule : h ≡ guided_by program plan budget logs
+  pub follows : HasRecordOf program plan budget logs h
+  pub same : (p k : ℕ) → IsSame program plan budget logs h p k
+
+-- no, for the record: so many steps were taken, and the guided schedule is not whole or has another record
+pub record IsRecordNo (program : Program) (plan : Plan) (budget : ℕ) (logs : Logs) (taken : ℕ) : Type 0 where
+  pub length_is : taken ≡ length (guided_by program plan budget logs)
+  pub other : HasRecordOf program plan budget logs (guided_by program plan budget logs) → ⊥
+
+-- no, for an interval: the record is followed, and this interval is the first other one
+pub record IsIntervalNo (program : Program) (plan : Plan) (budget : ℕ) (logs : Logs) (p k : ℕ) : Type 0 where
+  pub follows : HasRecordOf program plan budget logs (guided_by program plan budget logs)
+  pub first : IsFirstOther program plan budget logs (guided_by program plan budget logs) p k
+
+-- the verdict on logs
+abbrev pub IsVerdict : Program → Plan → ℕ → Logs → Verdict → Type 0
+IsVerdict program plan budget logs (verdict.Yes h) = IsYes program plan budget logs h
+IsVerdict program plan budget logs (verdict.No (Record taken)) = IsRecordNo program plan budget logs taken
+IsVerdict program plan budget logs (verdict.No (Interval p k)) = IsIntervalNo program plan budget logs p k

@@ -1,1 +1,0 @@
--- The intervals of a story have the items and the steps that are to come: a law alone.

@@ -1,8 +1,0 @@
-use Rattle.ppd_step_laws.proofs.laws.policy_steps_cost_what_they_write.Goals as goal
-use Rattle.ppd_step_laws.proofs.Policies.{policy_logs, policy_steps}
-
-pub returns-clause-steps : goal.returns-clause-steps
-returns-clause-steps c = policy_steps
-
-pub returns-clause-logs : goal.returns-clause-logs
-returns-clause-logs c = policy_logs

@@ -1,6 +1,0 @@
--- Where the steps of a process lead, what they read, and what they cost.
-pub use Rattle.ppd_blocks.specs.Blocks
-pub mod Course
-pub mod Laws
-pub mod Units
-pub mod Policies

@@ -1,8 +1,0 @@
-use Rattle.ppd_stored.proofs.Runs.{no_run_is_refused, runs_are_recalled}
-use Rattle.ppd_stored.proofs.laws.recalled_runs.Goals as goal
-
-pub returns-clause-known : goal.returns-clause-known
-returns-clause-known c = runs_are_recalled
-
-pub returns-clause-accepted : goal.returns-clause-accepted
-returns-clause-accepted c = no_run_is_refused

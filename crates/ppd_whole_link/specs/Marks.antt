@@ -1,0 +1,62 @@
+-- Which event of a process last wrote each shared cell in each internal edge, and which events are synchronizations.
+use Rattle.std.specs.Prelude.{ℕ, ◌+◌, ◌*◌, List, [], ◌∷◌, ◌++◌, fold, Option, Some, None}
+use Rattle.std.specs.FinMap.{FinMap, empty, get, insert}
+use Rattle.std.specs.Ordering.{nat_cmp}
+use Rattle.ppd_sem.specs.declared.event.Access.{Access}
+use Rattle.ppd_sem.specs.declared.event.Event.{Event}
+use Rattle.ppd_sem.specs.declared.event.Spot.{Spot}
+use Rattle.ppd_sem.specs.declared.event.Spot.TheVariants.{Local, Shared}
+use Rattle.law_whole.specs.Following.{edge_past}
+use Rattle.ppd_whole_link.specs.declared.marks.Marks.{Marks}
+
+-- the number of an event, by cell and edge
+abbrev pub Written : Type 0
+Written = FinMap nat_cmp ℕ
+
+-- a cell in an edge, which has 32 bits
+abbrev pub key : ℕ → ℕ → ℕ
+key c i = c * 4294967296 + i
+
+-- event n, of edge i, writes this spot
+abbrev pub mark_spot : ℕ → ℕ → Written → Spot → Written
+mark_spot i n m (Local frame c) = m
+mark_spot i n m (Shared c) = insert m (key c i) n
+
+abbrev pub mark_access : ℕ → ℕ → Written → Access → Written
+mark_access i n m a = mark_spot i n m a.spot
+
+-- a synchronization writes no shared cell
+abbrev pub written_past : Option ℕ → ℕ → ℕ → List Access → Written → Written
+written_past (Some number) i n writes m = m
+written_past None i n writes m = fold (mark_access i n) m writes
+
+abbrev pub syncs_past : Option ℕ → ℕ → List ℕ → List ℕ
+syncs_past (Some number) n syncs = syncs ++ n ∷ []
+syncs_past None n syncs = syncs
+
+-- one more event
+abbrev pub mark_event : Marks → Event → Marks
+mark_event x e = record {
+  written = written_past e.number x.edge x.number e.writes x.written;
+  syncs = syncs_past e.number x.number x.syncs;
+  number = x.number + 1;
+  edge = edge_past x.edge e.number;
+}
+
+-- before the first event
+abbrev pub no_marks : Marks
+no_marks = record { written = empty; syncs = []; number = 0; edge = 0 }
+
+-- what these events of a process leave
+abbrev pub marks_after : List Event → Marks
+marks_after events = fold mark_event no_marks events
+
+-- ---- of all processes
+
+abbrev pub written_if : Option Marks → Written
+written_if None = empty
+written_if (Some x) = x.written
+
+abbrev pub syncs_if : Option Marks → List ℕ
+syncs_if None = []
+syncs_if (Some x) = x.syncs
