@@ -6,44 +6,59 @@ use ppd_ast::Place;
 use ppd_check_names::Limit;
 use ppd_lex::LexError;
 use ppd_parse::SyntaxError;
+use thiserror::Error;
 
 /// Why a source has no core form: the first rule that it breaks, with its place.
-#[derive(Clone, Copy, PartialEq, Eq, Debug, Drop)]
+#[derive(Clone, Copy, PartialEq, Eq, Debug, Drop, Error)]
 pub enum CheckError {
     /// The second name: it is declared before in the same scope.
+    #[error("{}:{}: this name is declared twice", .0.line, .0.column)]
     Twice(Place),
     /// A name that is used and not declared in sight.
+    #[error("{}:{}: this name is not declared", .0.line, .0.column)]
     Unknown(Place),
     /// A name that is used as what it is not.
+    #[error("{}:{}: this name stands for something of another kind", .0.line, .0.column)]
     WrongKind(Place),
     /// The name of a function that is called with another count of arguments.
+    #[error("{}:{}: this function has another count of parameters", .0.line, .0.column)]
     Arity(Place),
     /// A `return` where none may stand, one with or without a value where the other is asked, or the
     /// closing brace of a function that should end with one.
+    #[error("{}:{}: a return is missing here or may not stand here", .0.line, .0.column)]
     ReturnPlace(Place),
     /// The name of a function without a value whose value is used.
+    #[error("{}:{}: this function has no value", .0.line, .0.column)]
     VoidValue(Place),
     /// The source's end: it has no process.
+    #[error("{}:{}: the source has no process", .0.line, .0.column)]
     NoProcess(Place),
     /// The first item past a limit.
+    #[error("{}:{}: a limit is passed here", .0.line, .0.column)]
     TooMany(Place, Limit),
     /// A length, a capacity or an initial value outside its range.
+    #[error("{}:{}: this number is outside its range", .0.line, .0.column)]
     BadSize(Place),
     /// Want of memory.
+    #[error("want of memory")]
     Memory,
 }
 
 /// Why a source has no program: its first lexical fault, else the first token that breaks the grammar or
 /// one of its limits, else the first rule that it breaks. Want of memory is the outer `Memory` alone.
-#[derive(Clone, Copy, PartialEq, Eq, Debug, Drop)]
+#[derive(Clone, Copy, PartialEq, Eq, Debug, Drop, Error)]
 pub enum SourceError {
     /// The first lexical fault.
+    #[error(transparent)]
     Lex(LexError),
     /// The first token that breaks the grammar or one of its limits.
+    #[error(transparent)]
     Syntax(SyntaxError),
     /// The first broken rule of the language.
+    #[error(transparent)]
     Check(CheckError),
     /// Want of memory.
+    #[error("want of memory")]
     Memory,
 }
 

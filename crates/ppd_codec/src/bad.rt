@@ -1,5 +1,6 @@
 use ppd_ast::Memory;
 use ppd_check::SourceError;
+use thiserror::Error;
 
 /// The field of a recording that has no lawful value.
 #[derive(Clone, Copy, PartialEq, Eq, Debug, Drop)]
@@ -20,23 +21,31 @@ pub enum Field {
 
 /// Why bytes are no recording: the first field, in their order, that is not whole or not lawful. A number is an
 /// offset in bytes, from 0, mostly that of the field.
-#[derive(Clone, Copy, PartialEq, Eq, Debug, Drop)]
+#[derive(Clone, Copy, PartialEq, Eq, Debug, Drop, Error)]
 pub enum BadBytes {
     /// The first four bytes are not `PPDR`.
+    #[error("byte {0}: this is no recording")]
     Magic(u32),
     /// The version is neither 1 nor 2.
+    #[error("byte {0}: this version is not known")]
     Version(u32),
     /// The bytes end before this field does.
+    #[error("byte {0}: the recording ends before this field does")]
     Short(u32),
     /// The field has no lawful value. `Version` is at 4: it is not the one that the source asks for.
+    #[error("byte {0}: this field has no lawful value")]
     Range(u32, Field),
     /// A byte follows the last entry.
+    #[error("byte {0}: bytes follow the last entry")]
     Trailing(u32),
     /// The source is not accepted: its first fault, which is never want of memory.
+    #[error(transparent)]
     Source(SourceError),
     /// There are more than 268,435,456 bytes; tested first.
+    #[error("the recording is too long")]
     TooLong,
     /// Want of memory.
+    #[error("want of memory")]
     Memory,
 }
 

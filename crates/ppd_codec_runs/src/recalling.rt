@@ -16,6 +16,7 @@ use ppd_codec::{Recording, decode};
 use ppd_graph::{SyncGraph, graph};
 use ppd_index::{LogIndex, index};
 use std::alloc::Global;
+use thiserror::Error;
 
 /// A recording that was accepted, with the index and the graph of its logs.
 #[derive(Drop)]
@@ -26,11 +27,13 @@ pub struct Recalled {
 }
 
 /// Why nothing is taken from bytes.
-#[derive(Drop)]
+#[derive(Drop, Debug, Error)]
 pub enum NoRecall {
     /// They are refused; the line that says why.
+    #[error("the recording is refused")]
     Refused(Vec<u8>),
     /// Want of memory.
+    #[error("want of memory")]
     Memory,
 }
 

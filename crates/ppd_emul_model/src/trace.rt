@@ -1,6 +1,7 @@
 use crate::wanted::{Found, Wanted};
 use ppd_ast::{Memory, Seq};
 use ppd_model::Item;
+use thiserror::Error;
 
 /// What the replay of an interval gives: its items in order.
 #[derive(Drop, Debug, Clone, PartialEq)]
@@ -9,17 +10,19 @@ pub struct BlockTrace {
 }
 
 /// Why an interval could not be replayed.
-#[derive(Drop, Debug, Clone, PartialEq)]
+#[derive(Drop, Debug, Clone, PartialEq, Error)]
 pub enum EmulError {
     /// The log is not one of a run of this interval: the entry of this number in the process's log
     /// is the first that the replay cannot go on with. `wanted` is what it needed there, and
     /// `found` what stands there.
+    #[error("the replay cannot go on with entry {entry}")]
     Diverged {
         entry: u32,
         wanted: Wanted,
         found: Found,
     },
     /// Want of memory.
+    #[error("want of memory")]
     Memory,
 }
 

@@ -1,22 +1,28 @@
 use ppd_ast::Memory;
 use ppd_entry::At;
+use thiserror::Error;
 
 /// Why logs have no index. The tests go through the processes and their entries in order, and of each entry
 /// AfterEnd comes first, then Unpaired, then WrongValues.
-#[derive(Clone, Copy, PartialEq, Eq, Debug)]
+#[derive(Clone, Copy, PartialEq, Eq, Debug, Error)]
 pub enum BadLog {
     /// The entry stands where it cannot: entry 0 is no prelog of the process's own block, a later prelog names a
     /// process's block or is a function's while 64 intervals of functions run, a postlog names another block
     /// than the innermost running interval's, an entry other than an End with status ended stands where no
     /// interval runs, or that End where one does.
+    #[error("process {}, entry {}: the entry may not stand here", .0.process, .0.entry)]
     Unpaired(At),
     /// The list is over without an End; the number is the count of its entries.
+    #[error("process {}, entry {}: the log is over without an End", .0.process, .0.entry)]
     NoEnd(At),
     /// The entry stands after an End.
+    #[error("process {}, entry {}: the entry stands after an End", .0.process, .0.entry)]
     AfterEnd(At),
     /// The plan has no such block or unit, or another count of values for it.
+    #[error("process {}, entry {}: the plan has no such block or unit, or other values", .0.process, .0.entry)]
     WrongValues(At),
     /// Want of memory, also for a log whose entries have no 32-bit numbers.
+    #[error("want of memory")]
     Memory,
 }
 

@@ -10,13 +10,16 @@ use ppd_ast::Memory;
 use ppd_ast::limits::MOST_LINE_BYTES;
 use std::alloc::Global;
 use std::marker::Model;
+use thiserror::Error;
 
 /// Why there is no next line.
-#[derive(Clone, Copy, Debug, PartialEq, Eq)]
+#[derive(Clone, Copy, Debug, PartialEq, Eq, Error)]
 pub enum LineError {
     /// A read failed.
+    #[error("a read failed")]
     Failed,
     /// The next line has more than 4,096 bytes.
+    #[error("the line is too long")]
     LongLine,
 }
 

@@ -4,13 +4,16 @@ ghost use Rattle.ppd_io.specs.Causes.{Rose};
 ghost use Rattle.ppd_io.specs.Content.{Loads, Stores, StoreFails};
 
 use std::alloc::{AllocError, Global};
+use thiserror::Error;
 
 /// Why a load or a store was not done.
-#[derive(Clone, Copy, Debug, PartialEq, Eq)]
+#[derive(Clone, Copy, Debug, PartialEq, Eq, Error)]
 pub enum ShelfError {
     /// The shelf failed, or has no such name.
+    #[error("the shelf failed, or has no such name")]
     Failed,
     /// Want of memory.
+    #[error("want of memory")]
     Memory,
 }
 

@@ -3,8 +3,11 @@ ghost use Rattle.std.specs.declared.option.Option.{Option};
 ghost use Rattle.ppd_io.specs.Causes.{HasCause};
 ghost use Rattle.ppd_io.specs.Content.{Writes};
 
+use thiserror::Error;
+
 /// A read or a write failed.
-#[derive(Clone, Copy, Debug, PartialEq, Eq)]
+#[derive(Clone, Copy, Debug, PartialEq, Eq, Error)]
+#[error("a read or a write failed")]
 pub struct Failed;
 
 /// Where bytes are written.

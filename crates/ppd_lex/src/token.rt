@@ -3,6 +3,7 @@ ghost use Rattle.ppd_lex.specs.declared.token.LexError.TheVariants.{Memory};
 
 use ppd_ast::{Bytes, Place};
 use std::alloc::{AllocError, AllocFailed};
+use thiserror::Error;
 
 /// What a token is to the grammar: its sort, without a name's bytes or a number's value.
 #[derive(Clone, Copy, Debug, PartialEq, Eq, Drop)]
@@ -81,19 +82,25 @@ pub struct Token {
 }
 
 /// Why a source has no tokens: the first lexical fault, with its place.
-#[derive(Clone, Copy, PartialEq, Eq, Debug)]
+#[derive(Clone, Copy, PartialEq, Eq, Debug, Error)]
 pub enum LexError {
     /// A byte that starts no token.
+    #[error("{}:{}: this byte starts no token", .0.line, .0.column)]
     BadByte(Place),
     /// A digit followed at once by letters, digits or `_` that do not make a number.
+    #[error("{}:{}: these characters are no number", .0.line, .0.column)]
     BadNumber(Place),
     /// `/*` without an end.
+    #[error("{}:{}: this comment does not end", .0.line, .0.column)]
     OpenComment(Place),
     /// More than 262,144 bytes; before every other fault, at 1:1.
+    #[error("{}:{}: the source is too long", .0.line, .0.column)]
     TooLong(Place),
     /// A name of more than 64 bytes.
+    #[error("{}:{}: this name is too long", .0.line, .0.column)]
     LongName(Place),
     /// Want of memory.
+    #[error("want of memory")]
     Memory,
 }
 

@@ -1,5 +1,6 @@
 use ppd_ast::{Memory, Seq};
 use ppd_sem::Event;
+use thiserror::Error;
 
 /// An event of a run by its process and its number among that process's events, both from 0.
 #[derive(Clone, Copy, PartialEq, Eq, Debug)]
@@ -27,12 +28,14 @@ pub struct Trace {
 }
 
 /// Why a schedule could not be taken.
-#[derive(Clone, Copy, PartialEq, Eq, Debug)]
+#[derive(Clone, Copy, PartialEq, Eq, Debug, Error)]
 pub enum DriveError {
     /// The number at this place of the schedule, from 0, names no enabled process, and it is the
     /// first such.
+    #[error("number {0} of the schedule names no process that can take a step")]
     NotEnabled(u32),
     /// Want of memory.
+    #[error("want of memory")]
     Memory,
 }
 

@@ -3,17 +3,22 @@ ghost use Rattle.ppd_parse.specs.declared.error.SyntaxError.TheVariants.{Memory}
 
 use ppd_ast::Place;
 use std::alloc::AllocError;
+use thiserror::Error;
 
 /// Why tokens are no program within the limits: the first token that breaks the grammar or a limit.
-#[derive(Clone, Copy, PartialEq, Eq, Debug, Drop)]
+#[derive(Clone, Copy, PartialEq, Eq, Debug, Drop, Error)]
 pub enum SyntaxError {
     /// No program begins with the tokens through this one.
+    #[error("{}:{}: no program goes on with this token", .0.line, .0.column)]
     Unexpected(Place),
     /// The token makes 65 constructs open.
+    #[error("{}:{}: too many constructs are open here", .0.line, .0.column)]
     Deep(Place),
     /// The token is the 257th operator of one expression that is no part of another.
+    #[error("{}:{}: this expression has too many operators", .0.line, .0.column)]
     Wide(Place),
     /// Want of memory.
+    #[error("want of memory")]
     Memory,
 }
 

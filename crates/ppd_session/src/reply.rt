@@ -1,5 +1,6 @@
 use ppd_ast::{Bytes, Memory};
 use ppd_entry::At;
+use thiserror::Error;
 
 /// The answer to a line, and whether the line ends the session.
 #[derive(Drop)]
@@ -9,13 +10,16 @@ pub struct Reply {
 }
 
 /// Why a line has no answer.
-#[derive(Clone, Copy, PartialEq, Eq, Debug)]
+#[derive(Clone, Copy, PartialEq, Eq, Debug, Error)]
 pub enum SessionError {
     /// The replay of the interval that holds this entry cannot go on with it.
+    #[error("process {}: the replay cannot go on with entry {}", .0.process, .0.entry)]
     Diverged(At),
     /// The write set of this entry has a cell that the replays of its internal edge write nowhere.
+    #[error("process {}: what entry {} ends does not write a cell of its write set", .0.process, .0.entry)]
     Sets(At),
     /// Want of memory.
+    #[error("want of memory")]
     Memory,
 }
 

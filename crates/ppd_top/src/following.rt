@@ -25,21 +25,28 @@ use ppd_model::{Closed, DriveError};
 use ppd_world::World;
 use std::alloc::Global;
 use std::thread::Threads;
+use thiserror::Error;
 
 /// Why there is no text for a source and a schedule.
-#[derive(Clone, Copy, PartialEq, Eq, Debug, Drop)]
+#[derive(Clone, Copy, PartialEq, Eq, Debug, Drop, Error)]
 pub enum FollowError {
     /// The source has no program: its first fault, which is never want of memory.
+    #[error(transparent)]
     Refused(SourceError),
     /// This number of the schedule, from 0, is the first that names no process that can take a step.
+    #[error("number {0} of the schedule names no process that can take a step")]
     NotEnabled(u32),
     /// Every number could be taken, and some process can take a step afterwards.
+    #[error("a process can take a step after the schedule")]
     NotWhole,
     /// A command line of more than 4,096 bytes, with no `quit` line before it.
+    #[error("a command line is too long")]
     LongLine,
     /// More than 65,536 command lines, with no `quit` line among the first ones.
+    #[error("there are too many command lines")]
     ManyLines,
     /// Want of memory.
+    #[error("want of memory")]
     Memory,
 }
 
