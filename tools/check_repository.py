@@ -70,19 +70,78 @@ for name in NAMES:
             if OUTSIDE.search(line):
                 wrong.append(f"{name}:{number} names something outside: {line.strip()[:80]}")
 
+# a document names files of crates that are there
+NAMED = re.compile(r"`(?:crates/)?((?:ppd|law|rows|test|bench)(?:_[a-z_]+)?/(?:src|specs|proofs)/[\w+/]+\.(?:rt|antt))`")
+for name in NAMES:
+    if name.endswith(".md"):
+        for file in sorted(set(NAMED.findall(text_of(name)))):
+            if f"crates/{file}" not in NAMES:
+                wrong.append(f"{name} names {file}, which is not there")
+
+# what docs/debugging.md shows of a source is what stands beside the source, which a case compares
+for name in NAMES:
+    if name.startswith("docs/debugging/") and name.endswith(".flow") and f"\n{text_of(name)}```\n" not in text_of("docs/debugging.md"):
+        wrong.append(f"docs/debugging.md shows something else than {name}")
+
 if subprocess.run([sys.executable, "tools/index_definitions.py", "--check"], check=False).returncode != 0:
     wrong.append("the index of docs/definitions.md is stale")
+if subprocess.run([sys.executable, "tools/crates_table.py", "--check"], check=False).returncode != 0:
+    wrong.append("what docs/architecture.md and README.md say of the crates is stale")
 
-# an example is the data that a program is run on, or the very text of a test
-tests = "".join(text_of(name) for name in NAMES if name.startswith("crates/test_examples/src/"))
+
+# an edit that must fail: each text that it replaces stands once in the file that it names
+def fault_of_edit(crate, text):
+    file, old, texts, pairs = None, None, {}, 0
+    for line in text.splitlines():
+        if line.startswith("file: "):
+            file = line[len("file: ") :].strip()
+            if not re.fullmatch(r"(src|specs|proofs)/\S+", file) or f"crates/{crate}/{file}" not in NAMES:
+                return f"{file} is no file of {crate}"
+            texts.setdefault(file, text_of(f"crates/{crate}/{file}"))
+        elif line.startswith("old: "):
+            old = line[len("old: ") :]
+        elif line.startswith("new:"):
+            if file is None or not old:
+                return "a line new: has no file: or old: before it"
+            count = texts[file].count(old)
+            if count != 1:
+                return f"its text stands {count} times in {file}, and not once: {old.strip()[:60]}"
+            texts[file] = texts[file].replace(old, line[len("new:") :].removeprefix(" "))
+            old, pairs = None, pairs + 1
+    if old is not None or not pairs:
+        return "a line old: has no new: after it" if old is not None else "it replaces nothing"
+    if all(changed == text_of(f"crates/{crate}/{file}") for file, changed in texts.items()):
+        return "it changes nothing"
+    return None
+
+
+EDIT = re.compile(r"(?:crates/([^/]+)/must-fail|edits/([^/]+))/[A-Za-z0-9_-][A-Za-z0-9_.-]*\.edit")
+for name in NAMES:
+    if "/must-fail/" in name or name.startswith("edits/"):
+        edit = EDIT.fullmatch(name)
+        if name.endswith(".md"):
+            continue
+        if not edit or (edit[1] or edit[2]) not in crates:
+            wrong.append(f"{name} is no edit of a crate, whose name is of letters, digits, _, - and . and ends in .edit")
+            continue
+        fault = fault_of_edit(edit[1] or edit[2], text_of(name))
+        if fault:
+            wrong.append(f"{name} cannot be applied: {fault}")
+
+# an example is the data that a program is run on, or stands line by line in a file of cases
+def as_content(source):
+    *whole, rest = source.split("\n")
+    return "".join(f"| {line}".rstrip() + "\n" for line in whole) + (f"> {rest}\n" if rest else "")
+
+
+cases = "".join(text_of(name) for name in NAMES if name.startswith("crates/test_cases/data/"))
 for name in NAMES:
     if name.startswith("examples/") and name.endswith(".c"):
         source = text_of(name)
         data = f"crates/ppd/data/{os.path.basename(name)}"
         as_data = os.path.isfile(data) and text_of(data) == source
-        literal = source.replace("\\", "\\\\").replace('"', '\\"').replace("\n", "\\n").replace("\t", "\\t")
-        if not as_data and f'"{literal}"' not in tests:
-            wrong.append(f"{name} is neither a program's data nor a test's source")
+        if not as_data and f"\n{as_content(source)}" not in cases:
+            wrong.append(f"{name} is neither a program's data nor in a file of cases")
 
 for line in wrong:
     print(line)

@@ -2,12 +2,16 @@
 """Proves a crate and those that it stands on side by side: each as soon as those below it are proved, that on which the
 longest chain waits first. One check at a time works in one copy of the repository, so each processor has a copy of its
 own; what is kept of a proved crate is linked into the others, so that none proves it again. Tells on standard error how
-far it is: at a terminal in one line that changes, else once a minute. Where a check fails, the end of what it wrote goes
-there, and the status is 1. Prints the folder of the crate, in the copy in which it was proved last.
+far it is, in crates, functions and processor minutes, which are an estimate from the lengths of sources and proofs: at a
+terminal in one line that changes, else once a minute. Where a check fails, the end of what it wrote goes there, and the
+status is 1. Prints the folder of the crate, in the copy in which it was proved last.
 
     prove.py FOLDER CRATE [WORKERS]     FOLDER: for the copies; WORKERS: how many processors to use, all where none is given
+    prove.py --keep FOLDER CRATE PLACE  once all is built in PLACE, what the first form printed: that copy alone stays, cut
+                                        to 2 GB of built libraries, the lowest first, which a later call takes as proved
 """
 import filecmp
+import hashlib
 import os
 import re
 import shutil
@@ -17,9 +21,15 @@ import time
 
 TOP = os.path.dirname(os.path.dirname(os.path.abspath(__file__)))
 PARTS = ("src", "specs", "proofs")
+# the sources: what the repository tracks there, and nothing that an editor leaves
+SOURCE = re.compile(r"[^.#].*\.(rt|antt)")
 COUNTED = re.compile(r", (\d+) of (\d+)\s*$")
 FUNCTION = re.compile(r"^[^/\n]*\bfn \w", re.MULTILINE)
 PROVED = re.compile(r"^logic=proved functions=(\d+)", re.MULTILINE)
+# what proofs take on one processor, about: seconds for each crate, for each function, and for each line of proofs
+EACH_CRATE, EACH_FUNCTION, EACH_LINE = 10.0, 1.5, 0.04
+# the bytes of built libraries that may stay
+MOST_KEPT = 2_000_000_000
 
 
 def crates_below(name):
@@ -40,39 +50,85 @@ def crates_below(name):
 
 
 def files_of(folder):
-    """The files below a folder, by their names from it."""
+    """The sources below a folder, by their names from it."""
     return {
         os.path.relpath(os.path.join(at, name), folder)
         for part in PARTS
         for at, _, names in os.walk(os.path.join(folder, part))
         for name in names
+        if SOURCE.fullmatch(name)
     }
 
 
 def functions_in(crate):
-    """How many functions the sources of a crate have: about the seconds that its proofs take on one processor."""
+    """How many functions the sources of a crate have."""
     folder = os.path.join(TOP, "crates", crate)
-    sources = [os.path.join(folder, name) for name in files_of(folder) if name.startswith("src")]
-    count = 0
-    for source in sources:
-        with open(source, encoding="utf-8") as file:
-            count += len(FUNCTION.findall(file.read()))
-    return count
+    return sum(len(FUNCTION.findall(text_of(os.path.join(folder, name)))) for name in files_of(folder) if name.startswith("src"))
 
 
-def weights_of(below):
-    """For each crate the functions of the longest chain that begins with it, and ten for what each reads at first."""
+def seconds_of(crate):
+    """About how long the proofs of a crate take on one processor."""
+    folder = os.path.join(TOP, "crates", crate)
+    lines = sum(text_of(os.path.join(folder, name)).count("\n") for name in files_of(folder) if name.startswith("proofs"))
+    return EACH_CRATE + EACH_FUNCTION * functions_in(crate) + EACH_LINE * lines
+
+
+def weights_of(below, seconds):
+    """For each crate the seconds of the longest chain that begins with it."""
     weights = {}
 
     def weight(crate):
         if crate not in weights:
             above = [weight(other) for other in below if crate in below[other]]
-            weights[crate] = functions_in(crate) + 10 + max(above, default=0)
+            weights[crate] = seconds[crate] + max(above, default=0)
         return weights[crate]
 
     for crate in below:
         weight(crate)
     return weights
+
+
+def lowest_first(below):
+    """The crates, each after those that it stands on."""
+    found = []
+
+    def visit(crate):
+        for other in below[crate]:
+            if other not in found:
+                visit(other)
+        if crate not in found:
+            found.append(crate)
+
+    for crate in below:
+        visit(crate)
+    return found
+
+
+def marks_of(below):
+    """For each crate a sum of all that its proof reads: the kit, its sources, and the same of those below."""
+    kit = os.path.realpath(shutil.which("rt"))
+    marks = {}
+    for crate in lowest_first(below):
+        folder = os.path.join(TOP, "crates", crate)
+        told = hashlib.sha256(repr((kit, os.stat(kit).st_mtime_ns, crate, [marks[it] for it in below[crate]])).encode())
+        for name in sorted(files_of(folder)):
+            with open(os.path.join(folder, name), "rb") as file:
+                told.update(repr((name, file.read())).encode())
+        for name in ("HANDLES", "crates.txt"):
+            with open(os.path.join(TOP, name), encoding="utf-8") as file:
+                lines = [line for line in file if name == "HANDLES" or line.split(":")[0].split()[:1] == [crate]]
+            told.update(repr(lines).encode())
+        marks[crate] = told.hexdigest()
+    return marks
+
+
+def text_of(name):
+    """The text of a file, empty where there is none."""
+    try:
+        with open(name, encoding="utf-8", errors="replace") as file:
+            return file.read()
+    except OSError:
+        return ""
 
 
 class Copy:
@@ -103,6 +159,17 @@ class Copy:
     def crate(self, name):
         return os.path.join(self.folder, "crates", name)
 
+    def holds(self, name, mark):
+        """Whether a library of just these sources stands here, built after its proof."""
+        out = os.path.join(self.crate(name), "out")
+        return text_of(os.path.join(out, "proved")) == mark and os.path.isfile(os.path.join(out, "rlib", "stamp"))
+
+    def note(self, name, mark):
+        """Keeps that the crate is proved as it stands."""
+        os.makedirs(os.path.join(self.crate(name), "out"), exist_ok=True)
+        with open(os.path.join(self.crate(name), "out", "proved"), "w", encoding="utf-8") as file:
+            file.write(mark)
+
     def lend(self, name, others):
         """Links what is kept here of a proved crate into the other copies."""
         kept = os.path.join(self.crate(name), "out")
@@ -123,37 +190,58 @@ class Check:
             self.process = subprocess.Popen(words, cwd=copy.crate(crate), stdin=subprocess.DEVNULL, stdout=file, stderr=file)
 
     def output(self):
-        with open(self.log, encoding="utf-8", errors="replace") as file:
-            return file.read()
+        return text_of(self.log)
 
     def functions(self):
-        """How many functions it has proved: of a check that goes on, as far as it says."""
-        said = self.output()
-        whole = PROVED.findall(said)
+        """How many functions it has proved."""
+        whole = PROVED.findall(self.output())
         return int(whole[-1]) if whole else 0
 
+    def counted(self):
+        """How many functions of how many it says to be through."""
+        found = [COUNTED.search(line) for line in self.output().splitlines()]
+        last = [each for each in found if each][-1:]
+        return (int(last[0][1]), int(last[0][2])) if last else (0, 0)
+
     def progress(self):
-        for line in reversed(self.output().splitlines()):
-            counted = COUNTED.search(line)
-            if counted:
-                return f"{self.crate} {counted[1]} of {counted[2]}"
-        return self.crate
+        through, whole = self.counted()
+        return f"{self.crate} {through} of {whole}" if whole else self.crate
+
+    def share(self):
+        through, whole = self.counted()
+        return min(through / whole, 1.0) if whole else 0.0
 
 
 class Teller:
     """Says how far the proofs are."""
 
-    def __init__(self, count):
-        self.count, self.began, self.told = count, time.monotonic(), -60.0
+    def __init__(self, count, seconds):
+        self.count, self.seconds, self.began, self.told = count, seconds, time.monotonic(), -60.0
+        self.kept, self.left = 0.0, sum(seconds.values())
         self.terminal = sys.stderr.isatty()
+
+    def begin(self, proved, workers):
+        self.kept = sum(self.seconds[crate] for crate in proved)
+        self.left = sum(self.seconds.values()) - self.kept
+        print(
+            f"ppd: {self.count - len(proved)} of {self.count} crates are to be proved, {workers} at a time: about"
+            f" {minutes(self.left)} processor minutes, by an estimate from the lengths of sources and proofs",
+            file=sys.stderr,
+            flush=True,
+        )
 
     def tell(self, proved, functions, checks):
         now = time.monotonic() - self.began
         if now - self.told < (1.0 if self.terminal else 60.0):
             return
         self.told = now
+        done = sum(self.seconds[crate] for crate in proved) - self.kept
+        done += sum(each.share() * self.seconds[each.crate] for each in checks)
         working = ", ".join(each.progress() for each in checks)
-        text = f"ppd: {proved} of {self.count} crates with {functions} functions proved, {int(now)} s; at {working}"
+        text = (
+            f"ppd: {len(proved)} of {self.count} crates proved, {functions} functions in {int(now)} s;"
+            f" about {round(done / 60)} of {minutes(self.left)} processor minutes (estimated); at {working}"
+        )
         if self.terminal:
             columns = os.get_terminal_size(sys.stderr.fileno()).columns
             print("\r\x1b[K" + text[: max(columns - 1, 20)], end="", file=sys.stderr, flush=True)
@@ -165,12 +253,22 @@ class Teller:
             print("\r\x1b[K", end="", file=sys.stderr, flush=True)
 
 
+def minutes(seconds):
+    return max(1, round(seconds / 60))
+
+
 def prove(below, copies):
     """The copy in which the last crate was proved, or None where one is not proved."""
-    weights = weights_of(below)
-    waiting = sorted(below, key=lambda crate: -weights[crate])
-    free, proved, functions, checks = list(copies), set(), 0, []
-    teller, last = Teller(len(below)), copies[0]
+    seconds, marks = {crate: seconds_of(crate) for crate in below}, marks_of(below)
+    weights = weights_of(below, seconds)
+    # what an earlier call kept stands in the first copy
+    proved = {crate for crate in below if copies[0].holds(crate, marks[crate])}
+    for crate in proved:
+        copies[0].lend(crate, copies[1:])
+    waiting = sorted(set(below) - proved, key=lambda crate: -weights[crate])
+    free, functions, checks = list(copies), 0, []
+    teller, last = Teller(len(below), seconds), copies[0]
+    teller.begin(proved, len(copies))
     while waiting or checks:
         ready = [crate for crate in waiting if proved.issuperset(below[crate])]
         spare = len(copies) - sum(each.jobs for each in checks)
@@ -192,16 +290,47 @@ def prove(below, copies):
                 print(*each.output().splitlines()[-20:], sep="\n", file=sys.stderr)
                 print(f"ppd: {each.crate} is not proved", file=sys.stderr)
                 return None
+            each.copy.note(each.crate, marks[each.crate])
             each.copy.lend(each.crate, [copy for copy in copies if copy is not each.copy])
             proved.add(each.crate)
             functions += each.functions()
             last = each.copy
-        teller.tell(len(proved), functions, checks)
+        teller.tell(proved, functions, checks)
     teller.end()
     return last
 
 
+def size_of(folder):
+    """The bytes of the files below a folder."""
+    return sum(os.lstat(os.path.join(at, name)).st_size for at, _, names in os.walk(folder) for name in names)
+
+
+def keep(folder, crate, place):
+    """Leaves of all copies that in which the crate was built, and of it the libraries of the lowest crates."""
+    copy = os.path.dirname(os.path.dirname(place))
+    for name in os.listdir(folder):
+        if os.path.join(folder, name) != copy:
+            shutil.rmtree(os.path.join(folder, name), ignore_errors=True)
+    below, kept, room = crates_below(crate), set(), MOST_KEPT
+    for each in lowest_first(below):
+        out = os.path.join(copy, "crates", each, "out")
+        size = size_of(os.path.join(out, "rlib"))
+        stays = each != crate and size <= room and kept.issuperset(below[each])
+        for name in os.listdir(out) if os.path.isdir(out) else []:
+            if not (stays and name in ("rlib", "proved")):
+                one = os.path.join(out, name)
+                (shutil.rmtree if os.path.isdir(one) and not os.path.islink(one) else os.remove)(one)
+        if stays:
+            kept.add(each)
+            room -= size
+    if copy != os.path.join(folder, "0"):
+        os.rename(copy, os.path.join(folder, "0"))
+
+
 def main():
+    if sys.argv[1] == "--keep":
+        keep(*sys.argv[2:5])
+        return 0
     folder, crate = sys.argv[1:3]
     workers = int(sys.argv[3]) if len(sys.argv) > 3 else len(os.sched_getaffinity(0))
     below = crates_below(crate)

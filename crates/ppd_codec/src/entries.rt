@@ -6,8 +6,8 @@ use crate::cursor::Cursor;
 use crate::facts::Facts;
 use crate::lists::push;
 use crate::tag::Tag;
-use ppd_ast::{Nums, Seq, Steps};
-use ppd_entry::Entry;
+use ppd_ast::{Seq, Steps};
+use ppd_entry::{BoxedNums, Entry};
 use std::alloc::Global;
 use std::sync::ledger::Ledger;
 
@@ -17,11 +17,11 @@ impl<'a> Cursor<'a> {
         &mut self,
         alloc: Global,
         steps: &mut Steps<L>,
-    ) -> Result<(u16, Nums), BadBytes>
+    ) -> Result<(u16, BoxedNums), BadBytes>
         ensures { AnswersAs numbered_form.read self.old self.new steps.old steps.new result }
     {
         let number = self.number_2(steps)?;
-        let values = self.values(alloc, steps)?;
+        let values = self.boxed_values(alloc, steps)?;
         Ok((number, values))
     }
 
@@ -38,8 +38,8 @@ impl<'a> Cursor<'a> {
         let object = self.byte(steps)?;
         let number = self.sync_number(steps)?;
         let value = self.sync_value(kind, steps)?;
-        let reads = self.cells(alloc, facts.shared, steps)?;
-        let writes = self.cells(alloc, facts.shared, steps)?;
+        let reads = self.boxed_cells(alloc, facts.shared, steps)?;
+        let writes = self.boxed_cells(alloc, facts.shared, steps)?;
         Ok(Entry::Sync {
             kind,
             object,
@@ -61,8 +61,8 @@ impl<'a> Cursor<'a> {
     {
         let status = self.status(steps)?;
         let rest = self.number_4(steps)?;
-        let reads = self.cells(alloc, facts.shared, steps)?;
-        let writes = self.cells(alloc, facts.shared, steps)?;
+        let reads = self.boxed_cells(alloc, facts.shared, steps)?;
+        let writes = self.boxed_cells(alloc, facts.shared, steps)?;
         Ok(Entry::End {
             status,
             rest,

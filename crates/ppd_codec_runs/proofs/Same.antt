@@ -24,7 +24,7 @@ use Rattle.ppd_index.specs.declared.refusal.BadLog.TheVariants as log
 use Rattle.ppd_codec_runs.specs.Laws.{RefusedOrAccepted}
 use Rattle.ppd_codec_runs.specs.Recordings.{IsRefusedBy}
 use Rattle.ppd_codec_runs.specs.Recordings.IsRefusedBy.{by_bytes, by_log, by_sync}
-use Rattle.ppd_codec_runs.specs.Refusals.{refused_bytes, refused_log, refused_sync}
+use Rattle.ppd_text_refusals.specs.Recordings.{refused_bytes, refused_log, refused_sync}
 use Rattle.law_logs.proofs.Graph.Ordered.{way_before}
 
 -- ---- of one recording

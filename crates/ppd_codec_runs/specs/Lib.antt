@@ -1,5 +1,3 @@
--- Recordings of runs, which are accepted, and the line that says why one is refused.
-pub mod Stages
-pub mod Refusals
+-- Recordings of runs, and which are accepted.
 pub mod Recordings
 pub mod Laws

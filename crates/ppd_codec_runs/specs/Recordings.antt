@@ -20,7 +20,7 @@ use Rattle.ppd_model.specs.Logs.{closed_logs}
 use Rattle.ppd_model.specs.Schedule.{IsWhole}
 use Rattle.ppd_session.specs.Known.{Known, known_of_logs}
 use Rattle.ppd_session.specs.Pasts.{BelongTogether}
-use Rattle.ppd_codec_runs.specs.Refusals.{refused_bytes, refused_log, refused_sync}
+use Rattle.ppd_text_refusals.specs.Recordings.{refused_bytes, refused_log, refused_sync}
 use Rattle.ppd_codec_runs.specs.declared.recalling.NoRecall.{NoRecall}
 use Rattle.ppd_codec_runs.specs.declared.recalling.NoRecall.TheVariants.{Refused, Memory}
 use Rattle.ppd_codec_runs.specs.declared.recalling.Recalled.{Recalled}

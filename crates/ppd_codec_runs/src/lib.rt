@@ -3,12 +3,8 @@
 
 mod laws;
 mod recalling;
-mod refusal;
-mod stage;
 mod storing;
 
 pub use laws::{recalled_runs, refused_or_accepted};
 pub use recalling::{NoRecall, Recalled, recall};
-pub use refusal::replay_line;
-pub use stage::put_stage;
 pub use storing::record;

@@ -10,11 +10,11 @@ ghost use Rattle.ppd_index.specs.Indexes.{IsIndexOf};
 ghost use Rattle.ppd_index.specs.Refusals.{first_in_lists};
 ghost use Rattle.ppd_codec_runs.specs.Recordings.{IsAccepted, IsNotRecalled, IsRecalled};
 
-use crate::refusal::{bytes_line, log_line, sync_line};
 use ppd_ast::Memory;
 use ppd_codec::{Recording, decode};
 use ppd_graph::{SyncGraph, graph};
 use ppd_index::{LogIndex, index};
+use ppd_text_refusals::{bytes_line, log_line, sync_line};
 use std::alloc::Global;
 use thiserror::Error;
 

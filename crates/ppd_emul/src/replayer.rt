@@ -9,7 +9,7 @@ use crate::in_force::InForce;
 use crate::pieces::Pieces;
 use ppd_ast::{Memory, Plan, Program, Seq, Steps};
 use ppd_model::Item;
-use ppd_sem::{Answer, Need, Proc, describe, feed};
+use ppd_sem::{Answer, Need, Proc, describe, meet};
 use std::alloc::Global;
 use std::sync::ledger::Ledger;
 
@@ -102,23 +102,26 @@ pub(crate) fn add_event(
     state.push(Item::Own(event))
 }
 
-/// Takes the next step of the process and counts it. `Memory` is want of memory: none is counted.
+/// Takes the next step of the process, which needs this, and counts it. `Memory` is want of memory: none is
+/// counted.
 pub(crate) fn take_step<L: Ledger>(
     code: &Code,
     state: &mut Replayer,
+    need: Need,
     answer: Answer,
     steps: &mut Steps<L>,
 ) -> Result<(), Memory>
     requires code { IsSound code.now }
     requires state { IsGoing code.now state.old }
     requires few { state.old.steps < 2 ^ 40 }
+    requires need { need ≡ need_of code.now.program.now code.now.plan.now state.old.proc }
     ensures stepped { OnOk result
         (replaying state.new ≡ stepped code.now.program.now code.now.plan.now answer (replaying state.old)) }
     ensures going { OnOk result (IsGoing code.now state.new) }
     ensures one { state.new.steps ≤ state.old.steps + 1 }
     ensures ticks { steps.new + state.old.steps ≡ steps.old + state.new.steps }
 {
-    feed(code.program, code.plan, &mut state.proc, &answer)?;
+    meet(code.program, code.plan, &mut state.proc, need, &answer)?;
     state.count(steps);
     Ok(())
 }

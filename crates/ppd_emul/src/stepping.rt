@@ -95,7 +95,7 @@ fn synchronize<L: Ledger>(
 {
     let answer = received(need, value);
     add_event(code, state, answer, Some(number))?;
-    take_step(code, state, answer, steps)?;
+    take_step(code, state, need, answer, steps)?;
     state.pass();
     take_unit_if(code, state, unit_started(need))
 }
@@ -277,7 +277,7 @@ fn step_alone<L: Ledger>(
 {
     add_event(code, state, Answer::Go, None)?;
     state.write(need)?;
-    take_step(code, state, Answer::Go, steps)?;
+    take_step(code, state, need, Answer::Go, steps)?;
     take_unit_if(code, state, unit_started(need))
 }
 
@@ -293,7 +293,7 @@ fn read<L: Ledger>(
         (step_without_of code.now.program.now code.now.plan.now (Read cell) (replaying state.old)) }
 {
     let value = state.in_force.value(cell);
-    take_step(code, state, Answer::Value(value), steps)?;
+    take_step(code, state, Need::Read(cell), Answer::Value(value), steps)?;
     Ok(Turned::More)
 }
 

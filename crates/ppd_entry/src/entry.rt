@@ -1,7 +1,8 @@
 ghost use Rattle.std.specs.Prelude.{◌≡◌};
 ghost use Rattle.ppd_entry.specs.Entries.{same_kind};
 
-use ppd_ast::{Cells, Nums, Seq, Status, SyncKind};
+use ppd_ast::{Seq, Status, SyncKind};
+use ppd_entry_lists::{BoxedCells, BoxedNums};
 
 /// An entry of a process's log. Numbers of blocks and units are those of the plan, cells are
 /// shared cells, rising. `reads` and `writes` are the cells accessed since the previous
@@ -12,12 +13,12 @@ pub enum Entry {
     /// local cells that it may read or write.
     Prelog {
         block: u16,
-        values: Nums,
+        values: BoxedNums,
     },
     /// A synchronization unit started: the values of the shared cells that it may read.
     Unit {
         unit: u16,
-        values: Nums,
+        values: BoxedNums,
     },
     /// A synchronization: its number, from 1, among those of its kind and object, and the value
     /// that was sent or received, 0 for a `P` or a `V`.
@@ -26,22 +27,22 @@ pub enum Entry {
         object: u8,
         number: u32,
         value: i64,
-        reads: Cells,
-        writes: Cells,
+        reads: BoxedCells,
+        writes: BoxedCells,
     },
     /// A block was left: of a function the value that it returned, if any, of a loop the values of
     /// the local cells that it may write.
     Postlog {
         block: u16,
-        values: Nums,
+        values: BoxedNums,
     },
     /// The process came to its end: `rest` counts the steps after the last earlier one that wrote
     /// an entry, or from the start; the step that writes this entry is not counted.
     End {
         status: Status,
         rest: u32,
-        reads: Cells,
-        writes: Cells,
+        reads: BoxedCells,
+        writes: BoxedCells,
     },
 }
 

@@ -7,3 +7,4 @@ mod piece;
 pub use entry::{At, Entry, Logs, same_kind};
 pub use piece::Piece;
 pub use ppd_ast::{Status, SyncKind, Trap};
+pub use ppd_entry_lists::{Boxed, BoxedCells, BoxedNums};

@@ -1,4 +1,5 @@
-//! Flowback: where each value that an item read, was left or was given came from, and what let it run.
+//! Flowback: where each value that an item read, was left or was given came from, what let it run, and where a shared
+//! cell got its last value.
 #![tactic(auto)]
 
 mod item;

@@ -1,5 +1,5 @@
-//! What is kept of a run: the replay of one of its intervals, which gives items, or where the log is not one of a
-//! run; and its internal edges: that of a place, where one ends, and the greatest that writes a cell.
+//! What is kept of a run: a past, with the replay of each of its intervals, and its internal edges: that of a place,
+//! where one ends, and the greatest that writes a cell.
 #![tactic(auto)]
 
 mod edge_laws;

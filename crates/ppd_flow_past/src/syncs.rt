@@ -24,7 +24,13 @@ pub(crate) fn is_sync(entry: &Entry) -> bool
 fn count_syncs(entries: &[Entry]) -> usize
     ensures { result ≡ count_by is_sync_entry entries.now }
 {
-    entries.iter().filter(|entry| is_sync(entry)).count()
+    let mut count = 0;
+    for entry in entries {
+        if is_sync(entry) {
+            count += 1;
+        }
+    }
+    count
 }
 
 /// How many synchronizations are among these entries.

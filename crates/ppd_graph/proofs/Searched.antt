@@ -1,6 +1,6 @@
 -- Searches through numbers and objects go on, and greatest numbers rise.
 use Rattle.std.proofs.Common.{◌≡◌, ℕ, zero, suc, ◌+◌, ◌-◌, ◌<◌, List, [], ◌∷◌, ◌++◌, length, drop, get_or, map, Option, Some, None, Bool, true, false, not, find, cond, refl, ap, sym, ◌∙◌, true≢false, arith}
-use Rattle.std.specs.Prelude.{is_some}
+use Rattle.std.specs.Prelude.{is_some, IfNone}
 use Rattle.std.specs.List.{cons_option, range_with_len}
 use Rattle.std.proofs.lemmas.List.{drop_more}
 use Rattle.ppd_ast.specs.declared.status.SyncKind.{SyncKind}
@@ -25,6 +25,11 @@ absent_more is_there b last t all lt there test inv =
     find_on f (b + 1) (range_with_len ((b + 1) + 1) (last - (b + 1))) all (ap not (there ∙ ap not test)) (sym (ap (λ n. find f (range_with_len (b + 1) n)) count) ∙ inv)
 
 -- ---- the first object with something missing
+
+-- what holds where nothing is found
+pub none_so : {A P : Type 0} (o : Option A) (b : Bool) → b ≡ is_some o → b ≡ false → IfNone o P → P
+none_so None b is none h = h
+none_so (Some x) b is none h = absurd (true≢false (sym is ∙ none))
 
 or_some : (x y : Option Missing) → is_some x ≡ true → or_else x y ≡ x
 or_some (Some m) y e = refl

@@ -1,4 +1,4 @@
-ghost use Rattle.std.specs.Prelude.{◌≡◌, ◌<◌, ◌≤◌, ◌+◌, ◌*◌, [], length, IsTrue, IfOk, OnOk, IfErr};
+ghost use Rattle.std.specs.Prelude.{◌≡◌, ◌<◌, ◌≤◌, ◌+◌, ◌*◌, [], length, IsTrue, IfNone, IfOk, OnOk, IfErr, ◌↔◌};
 ghost use Rattle.ppd_graph.specs.ByNumber.{KeepsAll};
 ghost use Rattle.ppd_graph.specs.Graphs.{IsGraphOf};
 ghost use Rattle.ppd_model.specs.RecordedSets.{record_in};
@@ -45,6 +45,7 @@ fn first_without_object<L: Ledger>(
     steps: &mut Steps<L>,
 ) -> Option<At>
     ensures cost { steps.new ≤ steps.old + length placed.now }
+    ensures taken { IfNone result (steps.new ≡ steps.old + length placed.now) }
     ensures value { result ≡ without_object program.now placed.now }
 {
     for one in placed {
@@ -107,6 +108,7 @@ fn pair_all<L: Ledger>(
     let lists = logs.lists.as_slice();
     let placed = all_placed(alloc, lists, steps)?;
     let nodes = number_all(alloc, program, placed.as_slice(), steps)?;
+    drop(placed);
     let pairs = all_pairs(alloc, program, &nodes, lists, steps)?;
     Ok(pairs)
 }
@@ -114,7 +116,8 @@ fn pair_all<L: Ledger>(
 // Whether the entries of each list have 32-bit numbers, and one is left.
 fn are_few<L: Ledger>(lists: &[Seq<Entry>], steps: &mut Steps<L>) -> bool
     ensures cost { steps.new ≤ steps.old + length lists.now }
-    ensures few { IsTrue result → AreFew lists.now }
+    ensures taken { IsTrue result → steps.new ≡ steps.old + length lists.now }
+    ensures few { IsTrue result ↔ AreFew lists.now }
 {
     for list in lists {
         steps.tick();

@@ -111,6 +111,7 @@ pub(crate) fn keep_all<L: Ledger>(
     steps: &mut Steps<L>,
 ) -> Result<ByNumber, BadSync>
     ensures cost { steps.new ≤ steps.old + length placed.now }
+    ensures taken { OnOk result (steps.new ≡ steps.old + length placed.now) }
     ensures kept { IfOk result (λ numbers. KeepsAll numbers placed.now) }
     ensures once { IfOk result (λ numbers. twice_after program.now [] placed.now ≡ None) }
     ensures twice { IfErr result (IsTwice program.now placed.now) }

@@ -1,4 +1,4 @@
-ghost use Rattle.std.specs.Prelude.{◌≡◌, ◌≤◌, ◌+◌, ◌*◌, ℕ, ◌∷◌, [], get_or, length, IfOk};
+ghost use Rattle.std.specs.Prelude.{◌≡◌, ◌≤◌, ◌+◌, ◌*◌, ℕ, ◌∷◌, [], get_or, length, IfOk, OnOk};
 ghost use Rattle.ppd_graph.specs.ByNumber.{AllGreatest, AreGreatest, greatest_kept};
 ghost use Rattle.ppd_graph.specs.Refusals.{greatest as greatest_among, numbers_of, sync_placed};
 
@@ -22,6 +22,7 @@ pub(crate) struct Greatest {
 #[tactic(auto, using(crate::proofs::Searched::zero_more))]
 fn no_numbers<L: Ledger>(alloc: Global, count: usize, steps: &mut Steps<L>) -> Result<Ids, Memory>
     ensures cost { steps.new ≤ steps.old + count }
+    ensures taken { OnOk result (steps.new ≡ steps.old + count) }
     ensures long { IfOk result (λ numbers. length numbers ≡ count) }
     ensures none { IfOk result (λ numbers. (o : ℕ) → get_or numbers o 0 ≡ 0) }
 {
@@ -57,6 +58,7 @@ fn greatest_of<L: Ledger>(
     steps: &mut Steps<L>,
 ) -> Result<Ids, Memory>
     ensures cost { steps.new ≤ steps.old + MOST_NAMED + length placed.now }
+    ensures taken { OnOk result (steps.new ≡ steps.old + MOST_NAMED + length placed.now) }
     ensures greatest { IfOk result (AreGreatest kind placed.now) }
 {
     let mut numbers = no_numbers(alloc, MOST_NAMED, steps)?;
@@ -83,6 +85,7 @@ impl Greatest {
         steps: &mut Steps<L>,
     ) -> Result<Greatest, Memory>
         ensures cost { steps.new ≤ steps.old + 5 * (MOST_NAMED + length placed.now) }
+        ensures taken { OnOk result (steps.new ≡ steps.old + 5 * (MOST_NAMED + length placed.now)) }
         ensures greatest { IfOk result (AllGreatest placed.now) }
     {
         let takes = greatest_of(alloc, placed, SyncKind::P, steps)?;

@@ -1,4 +1,4 @@
-ghost use Rattle.std.specs.Prelude.{◌≡◌, ◌≤◌, ◌+◌, ◌-◌, length, is_some};
+ghost use Rattle.std.specs.Prelude.{◌≡◌, ◌≤◌, ◌+◌, ◌-◌, length, is_some, IfNone};
 ghost use Rattle.std.specs.List.{range_with_len};
 ghost use Rattle.ppd_graph.specs.ByNumber.{greatest_kept, node_kept, numbered_kept};
 ghost use Rattle.ppd_graph.specs.Spending.{chan_numbers, done_numbers, missing_cost, object_numbers, objects_cost, sem_numbers};
@@ -51,6 +51,7 @@ impl<'a> Numbers<'a> {
         steps: &mut Steps<L>,
     ) -> Option<u32>
         ensures cost { steps.new ≤ steps.old + (last - first) }
+        ensures taken { IfNone result (steps.new ≡ steps.old + (last - first)) }
         ensures value { result ≡ absent_by first last (λ n. is_some (node_kept self.now.nodes kind object n)) }
     {
         for before in first..last {
@@ -65,6 +66,8 @@ impl<'a> Numbers<'a> {
 
     fn missing_of_sem<L: Ledger>(&self, sem: u8, steps: &mut Steps<L>) -> Option<Missing>
         ensures cost { steps.new ≤ steps.old + sem_numbers self.now.program.now self.now.greatest sem }
+        ensures taken { IfNone result
+            (steps.new ≡ steps.old + sem_numbers self.now.program.now self.now.greatest sem) }
         ensures value { result
             ≡ missing_of_semaphore sem (start_in_program self.now.program.now sem)
             (numbered_kept self.now.nodes self.now.greatest SyncKind.P sem)
@@ -94,6 +97,7 @@ impl<'a> Numbers<'a> {
         steps: &mut Steps<L>,
     ) -> Option<Missing>
         ensures cost { steps.new ≤ steps.old + greatest_kept self.now.greatest SyncKind.Done chan }
+        ensures taken { IfNone result (steps.new ≡ steps.old + greatest_kept self.now.greatest SyncKind.Done chan) }
         ensures value { result
             ≡ missing_of_offers chan sent received
             (numbered_kept self.now.nodes self.now.greatest SyncKind.Done chan) }
@@ -121,6 +125,9 @@ impl<'a> Numbers<'a> {
     ) -> Option<Missing>
         ensures cost { steps.new
             ≤ steps.old + done_numbers (capacity_in_program self.now.program.now chan) self.now.greatest chan }
+        ensures taken { IfNone result
+            (steps.new
+            ≡ steps.old + done_numbers (capacity_in_program self.now.program.now chan) self.now.greatest chan) }
         ensures value { result
             ≡ missing_of_room (capacity_in_program self.now.program.now chan) chan sent received
             (numbered_kept self.now.nodes self.now.greatest SyncKind.Done chan) }
@@ -137,6 +144,8 @@ impl<'a> Numbers<'a> {
 
     fn missing_of_chan<L: Ledger>(&self, chan: u8, steps: &mut Steps<L>) -> Option<Missing>
         ensures cost { steps.new ≤ steps.old + chan_numbers self.now.program.now self.now.greatest chan }
+        ensures taken { IfNone result
+            (steps.new ≡ steps.old + chan_numbers self.now.program.now self.now.greatest chan) }
         ensures value { result
             ≡ missing_of_channel chan (capacity_in_program self.now.program.now chan)
             (numbered_kept self.now.nodes self.now.greatest SyncKind.Send chan)
@@ -165,6 +174,8 @@ impl<'a> Numbers<'a> {
         steps: &mut Steps<L>,
     ) -> Option<Missing>
         ensures cost { steps.new ≤ steps.old + object_numbers objects self.now.program.now self.now.greatest object }
+        ensures taken { IfNone result
+            (steps.new ≡ steps.old + object_numbers objects self.now.program.now self.now.greatest object) }
         ensures value { result
             ≡ object_misses objects self.now.program.now (numbered_kept self.now.nodes self.now.greatest) object }
     {
@@ -177,6 +188,8 @@ impl<'a> Numbers<'a> {
     fn missing_among<L: Ledger>(&self, objects: Objects, steps: &mut Steps<L>) -> Option<Missing>
         requires { object_count objects self.now.program.now ≤ MOST_NAMED }
         ensures cost { steps.new ≤ steps.old + objects_cost objects self.now.program.now self.now.greatest }
+        ensures taken { IfNone result
+            (steps.new ≡ steps.old + objects_cost objects self.now.program.now self.now.greatest) }
         ensures value { result
             ≡ first_missing (object_misses objects self.now.program.now (numbered_kept self.now.nodes self.now.greatest))
             (range_with_len 0 (object_count objects self.now.program.now)) }
@@ -197,6 +210,7 @@ impl<'a> Numbers<'a> {
         requires sems { length self.now.program.now.sems ≤ MOST_NAMED }
         requires chans { length self.now.program.now.chans ≤ MOST_NAMED }
         ensures cost { steps.new ≤ steps.old + missing_cost self.now.program.now self.now.greatest }
+        ensures taken { IfNone result (steps.new ≡ steps.old + missing_cost self.now.program.now self.now.greatest) }
         ensures value { result ≡ missing_by self.now.program.now (numbered_kept self.now.nodes self.now.greatest) }
     {
         if let Some(missing) = self.missing_among(Objects::Semaphores, steps) {

@@ -108,6 +108,7 @@ fn own_pairs<L: Ledger>(
     steps: &mut Steps<L>,
 ) -> Result<Seq<Paired>, Memory>
     ensures cost { steps.new ≤ steps.old + length entries.now }
+    ensures taken { OnOk result (steps.new ≡ steps.old + length entries.now) }
     ensures pairs { IfOk result
         (λ pairs. pairs ≡ map (partner_kept program.now nodes.now) (filter_map sync_in entries.now)) }
 {
@@ -128,6 +129,7 @@ pub(crate) fn all_pairs<L: Ledger>(
     steps: &mut Steps<L>,
 ) -> Result<Seq<Seq<Paired>>, Memory>
     ensures cost { steps.new ≤ steps.old + sum_by list_cost lists.now }
+    ensures taken { OnOk result (steps.new ≡ steps.old + sum_by list_cost lists.now) }
     ensures pairs { IfOk result
         (λ all. all ≡ map (map (partner_kept program.now nodes.now)) (map (filter_map sync_in) lists.now)) }
 {

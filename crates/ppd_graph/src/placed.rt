@@ -65,6 +65,7 @@ fn place_own<L: Ledger>(
 ) -> Result<(), Memory>
     requires { length entries.now + 1 < 2 ^ 32 }
     ensures cost { steps.new ≤ steps.old + length entries.now }
+    ensures taken { OnOk result (steps.new ≡ steps.old + length entries.now) }
     ensures placed { OnOk result (placed.new ≡ placed.old ++ placed_from process 0 0 entries.now) }
 {
     let mut sync = 0;
@@ -85,6 +86,7 @@ pub(crate) fn all_placed<L: Ledger>(
     requires few { AreFew lists.now }
     ensures placed { IfOk result (λ placed. placed ≡ placed_lists 0 lists.now) }
     ensures cost { steps.new ≤ steps.old + sum_by list_cost lists.now }
+    ensures taken { OnOk result (steps.new ≡ steps.old + sum_by list_cost lists.now) }
 {
     let mut placed = Seq::new(alloc);
     for (process, list) in lists.iter().enumerate() {

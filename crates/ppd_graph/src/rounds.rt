@@ -1,4 +1,4 @@
-ghost use Rattle.std.specs.Prelude.{◌≡◌, ◌<◌, ◌≤◌, ◌+◌, ◌-◌, ◌^◌, ℕ, [], ◌∷◌, ◌++◌, length, get_or, drop, IfOk, OnOk, MatchOption};
+ghost use Rattle.std.specs.Prelude.{◌≡◌, ◌<◌, ◌≤◌, ◌+◌, ◌-◌, ◌^◌, ℕ, [], ◌∷◌, ◌++◌, length, get_or, drop, IfNone, IfOk, OnOk, MatchOption};
 ghost use Rattle.ppd_graph.specs.Cycles.{AllWait, AreAtLeast, IsRoundOf, IsRoundsCycle, IsStuck, IsTurned, cycle_of, first_or, stretch, through_first, waited as waited_of};
 ghost use Rattle.ppd_graph.specs.Times.{HasAll, next_of, own_pairs, own_times};
 
@@ -18,6 +18,7 @@ pub(crate) fn first_stuck<L: Ledger>(
 ) -> Option<u8>
     requires { length pairs.now ≤ MOST_NAMED }
     ensures cost { steps.new ≤ steps.old + length pairs.now }
+    ensures taken { IfNone result (steps.new ≡ steps.old + length pairs.now) }
     ensures stuck { MatchOption result ((q : ℕ) → HasAll pairs.now times.now q) (λ q. IsStuck pairs.now times.now q) }
 {
     for q in 0..pairs.len() {

@@ -1,27 +1,27 @@
-ghost use Rattle.std.specs.Prelude.{◌≡◌, ◌++◌, [], None, IfOk, ◌≤◌, ◌+◌, length, map, unwrap_or};
+ghost use Rattle.std.specs.Prelude.{◌≡◌, ◌++◌, [], None, IfOk, OnOk, ◌≤◌, ◌+◌, length, map, unwrap_or};
 ghost use Rattle.std.specs.List.{sum_by};
 ghost use Rattle.ppd_graph.specs.Spending.{list_cost};
 ghost use Rattle.ppd_graph.specs.LogRecord.{edge_sets, ended_by, found_after, no_sets, sets_from};
 
 use ppd_ast::{Cells, Memory, Seq, Steps};
-use ppd_entry::Entry;
+use ppd_entry::{Boxed, BoxedCells, Entry};
 use std::alloc::Global;
 use std::sync::ledger::Ledger;
 
 /// The shared cells that an internal edge accesses, rising.
 #[derive(Drop)]
 pub struct EdgeSets {
-    pub reads: Cells,
-    pub writes: Cells,
+    pub reads: BoxedCells,
+    pub writes: BoxedCells,
 }
 
-fn copy_of(alloc: Global, cells: &[u16]) -> Result<Cells, Memory>
+fn copy_of(alloc: Global, cells: &[u16]) -> Result<BoxedCells, Memory>
     ensures { IfOk result (λ copy. copy ≡ cells.now) }
 {
-    Ok(Cells::from_vec(Vec::from_slice(alloc, cells)?))
+    Boxed::from_seq(alloc, Cells::from_vec(Vec::from_slice(alloc, cells)?))
 }
 
-fn copy_sets(alloc: Global, reads: &Cells, writes: &Cells) -> Result<EdgeSets, Memory>
+fn copy_sets(alloc: Global, reads: &BoxedCells, writes: &BoxedCells) -> Result<EdgeSets, Memory>
     ensures { IfOk result (λ sets. sets ≡ edge_sets reads.now writes.now) }
 {
     let reads = copy_of(alloc, reads.as_slice())?;
@@ -33,8 +33,8 @@ fn copy_sets(alloc: Global, reads: &Cells, writes: &Cells) -> Result<EdgeSets, M
 fn first_of(
     alloc: Global,
     found: Option<EdgeSets>,
-    reads: &Cells,
-    writes: &Cells,
+    reads: &BoxedCells,
+    writes: &BoxedCells,
 ) -> Result<EdgeSets, Memory>
     ensures { IfOk result (λ sets. sets ≡ unwrap_or found (edge_sets reads.now writes.now)) }
 {
@@ -68,14 +68,14 @@ fn take_entry(
     }
 }
 
-fn or_none(alloc: Global, found: Option<EdgeSets>) -> EdgeSets
+fn or_none(found: Option<EdgeSets>) -> EdgeSets
     ensures { result ≡ unwrap_or found no_sets }
 {
     match found {
         Some(sets) => sets,
         None => EdgeSets {
-            reads: Cells::new(alloc),
-            writes: Cells::new(alloc),
+            reads: Boxed::new(),
+            writes: Boxed::new(),
         },
     }
 }
@@ -87,6 +87,7 @@ fn own_sets<L: Ledger>(
     steps: &mut Steps<L>,
 ) -> Result<Seq<EdgeSets>, Memory>
     ensures cost { steps.new ≤ steps.old + length entries.now }
+    ensures taken { OnOk result (steps.new ≡ steps.old + length entries.now) }
     ensures edges { IfOk result (λ edges. edges ≡ sets_from None entries.now) }
 {
     let mut edges = Seq::new(alloc);
@@ -95,7 +96,7 @@ fn own_sets<L: Ledger>(
         steps.tick();
         found = take_entry(alloc, &mut edges, found, entry)?;
     }
-    edges.push(or_none(alloc, found))?;
+    edges.push(or_none(found))?;
     Ok(edges)
 }
 
@@ -106,6 +107,7 @@ pub(crate) fn all_sets<L: Ledger>(
     steps: &mut Steps<L>,
 ) -> Result<Seq<Seq<EdgeSets>>, Memory>
     ensures cost { steps.new ≤ steps.old + sum_by list_cost lists.now }
+    ensures taken { OnOk result (steps.new ≡ steps.old + sum_by list_cost lists.now) }
     ensures edges { IfOk result (λ all. all ≡ map (sets_from None) lists.now) }
 {
     let mut all = Seq::new(alloc);

@@ -1,4 +1,4 @@
-ghost use Rattle.std.specs.Prelude.{◌≡◌, ◌↔◌, ◌<◌, ◌≤◌, ◌^◌, ℕ, ◌+◌, [], ◌∷◌, ◌++◌, length, get_or, replicate, IsTrue, IfOk, OnOk, MatchOption};
+ghost use Rattle.std.specs.Prelude.{◌≡◌, ◌↔◌, ◌<◌, ◌≤◌, ◌^◌, ℕ, ◌+◌, [], ◌∷◌, ◌++◌, length, get_or, replicate, IsTrue, IfNone, IfOk, OnOk, MatchOption};
 ghost use Rattle.ppd_model.specs.HappenedBefore.{node};
 ghost use Rattle.ppd_graph.specs.Spending.{times_cost};
 ghost use Rattle.ppd_graph.specs.Times.{AreTimed, IsDone, IsReady, next_count, next_time as next_time_of, node_of as node_in, own_pairs, own_times, pair_at, time_at, time_before, time_paired, with_time};
@@ -74,6 +74,7 @@ fn ready<L: Ledger>(
     steps: &mut Steps<L>,
 ) -> Option<usize>
     ensures cost { steps.new ≤ steps.old + length pairs.now }
+    ensures taken { MatchOption result (steps.new ≡ steps.old + length pairs.now) (λ q. steps.new ≡ steps.old + q + 1) }
     ensures ready { MatchOption result ((q : ℕ) → IsReady pairs.now times.now q → ⊥)
         (λ q. IsReady pairs.now times.now q) }
 {
@@ -96,6 +97,7 @@ fn next_time<L: Ledger>(
 ) -> Result<Ids, Memory>
     requires few { length (own_times times.now q) + 1 < 2 ^ 32 }
     ensures cost { steps.new ≤ steps.old + length pairs.now }
+    ensures taken { OnOk result (steps.new ≡ steps.old + length pairs.now) }
     ensures time { IfOk result (λ time. time ≡ next_time_of pairs.now times.now q) }
 {
     let done = done_count(times, q);
@@ -184,6 +186,7 @@ fn push_empty(times: &mut Times, alloc: Global) -> Result<(), Memory>
 
 fn no_times<L: Ledger>(alloc: Global, count: usize, steps: &mut Steps<L>) -> Result<Times, Memory>
     ensures cost { steps.new ≤ steps.old + count }
+    ensures taken { OnOk result (steps.new ≡ steps.old + count) }
     ensures none { IfOk result (λ times. times.items ≡ replicate count []) }
 {
     let mut times = Vec::new(alloc);

@@ -4,7 +4,7 @@ ghost use Rattle.ppd_entry.specs.Entries.{is_end};
 ghost use Rattle.ppd_index.specs.Fitting.{AreFittingLogs};
 ghost use Rattle.ppd_index.specs.Indexes.{IsIndexOf};
 ghost use Rattle.ppd_index.specs.Refusals.{IsRefused, bad as bad_at, first_bad, first_in_lists, refusal, unended};
-ghost use Rattle.ppd_index.specs.Spending.{index_cost, still_open};
+ghost use Rattle.ppd_index.specs.Spending.{index_cost, index_least, still_open};
 ghost use Rattle.ppd_index.specs.Tables.{rows_of, standing_in, table_step, tabled};
 
 use crate::log_index::LogIndex;
@@ -57,6 +57,7 @@ fn take_entry<L: Ledger>(
         (steps.new + still_open (place.1 || is_end entry.now) table.new.running
         ≤ steps.old + still_open place.1 table.old.running + 1) }
     ensures most { steps.new ≤ steps.old + still_open place.1 table.old.running }
+    ensures least { OnOk result (steps.old ≤ steps.new) }
 {
     let (n, ended) = place;
     let standing = table.standing(n, ended);
@@ -67,10 +68,11 @@ fn take_entry<L: Ledger>(
     Ok(())
 }
 
-/// A list that is over after so many entries has an End.
+/// A list that is over after so many entries has an End. `Memory` is the answer for a count of more than 32 bits.
 fn check_end(process: u8, entries: usize, ended: bool) -> Result<(), BadLog>
     ensures passed { OnOk result (unended process entries ended ≡ None) }
     ensures refused { IfErr result (IsRefused (unended process entries ended)) }
+    ensures large { IfErr result (λ e. e ≡ BadLog.Memory → 2 ^ 32 ≤ entries) }
 {
     if ended {
         return Ok(());
@@ -92,6 +94,7 @@ fn own_rows<L: Ledger>(
     ensures passed { OnOk result (first_bad program.now plan.now process entries.now ≡ None) }
     ensures refused { IfErr result (IsRefused (first_bad program.now plan.now process entries.now)) }
     ensures cost { steps.new ≤ steps.old + 2 * length entries.now }
+    ensures least { OnOk result (steps.old + length entries.now ≤ steps.new) }
 {
     let owner = Owner {
         process,
@@ -123,6 +126,7 @@ fn few_rows<L: Ledger>(
     ensures passed { OnOk result (first_bad program.now plan.now process entries.now ≡ None) }
     ensures refused { IfErr result (IsRefused (first_bad program.now plan.now process entries.now)) }
     ensures cost { steps.new ≤ steps.old + 2 * length entries.now }
+    ensures least { OnOk result (steps.old + length entries.now ≤ steps.new) }
 {
     let rows = own_rows(alloc, program, plan, process, entries, steps)?;
     number(rows.len())?;
@@ -144,6 +148,7 @@ pub fn index_in<L: Ledger>(
     ensures passed { OnOk result (first_in_lists program.now plan.now 0 logs.now.lists ≡ None) }
     ensures refused { IfErr result (IsRefused (first_in_lists program.now plan.now 0 logs.now.lists)) }
     ensures cost { steps.new ≤ steps.old + index_cost logs.now }
+    ensures least { OnOk result (steps.old + index_least logs.now ≤ steps.new) }
 {
     let mut tables = Seq::new(alloc);
     let lists = logs.lists.as_slice();

@@ -1,4 +1,4 @@
-ghost use Rattle.std.specs.Prelude.{◌≡◌, ◌+◌, ◌≤◌, ◌++◌, ◌∷◌, [], drop, IfOk, length, slice_get, if◌then◌else◌, OnOk};
+ghost use Rattle.std.specs.Prelude.{◌≡◌, ◌+◌, ◌≤◌, ◌++◌, ◌∷◌, [], drop, IfOk, length, slice_get, if◌then◌else◌, OnErr, OnOk, ◌^◌};
 ghost use Rattle.ppd_entry.specs.Entries.{is_end};
 ghost use Rattle.ppd_sem.specs.Blocks.{block_kind, is_function};
 ghost use Rattle.ppd_model.specs.Extents.{first_of};
@@ -156,6 +156,7 @@ fn open_all<L: Ledger>(
 ) -> Result<(), Memory>
     ensures rows { OnOk result (rows.new.items ≡ open_rows last running.now rows.old.items) }
     ensures cost { steps.new ≤ steps.old + length running.now }
+    ensures taken { OnOk result (steps.new ≡ steps.old + length running.now) }
 {
     for place in 0..running.len() {
         steps.tick();
@@ -197,9 +198,10 @@ fn new_row(plan: &Plan, table: &Table, first: u32, block: u16) -> Row
     }
 }
 
-/// The number as one of 32 bits. `Memory` is the answer for one that has more.
+/// The number as one of 32 bits. `Memory` is the answer for one that has more, and for no other.
 pub(crate) fn number(n: usize) -> Result<u32, Memory>
-    ensures { IfOk result (λ number. number ≡ n) }
+    ensures value { IfOk result (λ number. number ≡ n) }
+    ensures large { OnErr result (2 ^ 32 ≤ n) }
 {
     if n > 0xffff_ffff {
         Err(Memory)
@@ -275,6 +277,7 @@ impl Table {
             ≡ open_rows entry self.old.running (add_mark (mark.Own entry) self.old.running self.old.rows.items)) }
         ensures running { OnOk result (self.new.running ≡ self.old.running) }
         ensures cost { steps.new ≤ steps.old + length self.old.running }
+        ensures taken { OnOk result (steps.new ≡ steps.old + length self.old.running) }
     {
         self.add_mark(Mark::Own(entry))?;
         open_all(&mut self.rows, &self.running, entry, steps)
@@ -294,6 +297,7 @@ impl Table {
             (steps.new + still_open (is_end entry.now) self.new.running
             ≤ steps.old + length self.old.running + 1) }
         ensures most { steps.new ≤ steps.old + length self.old.running }
+        ensures least { OnOk result (steps.old ≤ steps.new) }
     {
         match entry {
             Entry::Prelog { block, .. } => self.enter(plan, n, *block),

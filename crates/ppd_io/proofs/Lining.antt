@@ -1,10 +1,10 @@
 -- What is taken from a source in several reads, and how lines come out of bytes.
-use Rattle.std.specs.Prelude.{None, Some, Option, Bool, true, false, if◌then◌else◌, ◌==◌, Result, Ok, Err}
+use Rattle.std.specs.Prelude.{◌⊎◌, None, Some, Option, Bool, true, false, if◌then◌else◌, ◌==◌, Result, Ok, Err}
 use Rattle.std.proofs.Common.{◌≡◌, ◌≢◌, ◌<◌, ◌≤◌, ℕ, List, [], ◌∷◌, ◌++◌, length, ap, sym, ◌∙◌, refl, append_assoc, append-nil, subst, arith, inl, inr}
 use Rattle.std.proofs.lemmas.Bool.{eqb-true, false_from_ne_true}
 use Rattle.ppd_ast.specs.declared.limits.TheConstants.{MOST_LINE_BYTES}
 use Rattle.ppd_io.specs.Content.{Takes}
-use Rattle.ppd_io.specs.Lines.{Took, HasNewline, HasNoNewline, lines_of, before_lines, Lined, EndsLine, GivesLine, TellsLine, IsLong}
+use Rattle.ppd_io.specs.Lines.{IsAtNeed, Took, HasNewline, HasNoNewline, lines_of, before_lines, Lined, EndsLine, GivesLine, TellsLine, IsLong}
 use Rattle.ppd_io.specs.declared.lines.LineError.{LineError}
 use Rattle.ppd_io.specs.declared.lines.LineError.TheVariants.{Failed, LongLine}
 
@@ -39,6 +39,19 @@ holds_some (b ∷ bytes) h e = absurd (cc e)
 -- a newline that is not the first byte is among those after it
 pub later_newline : (bytes later : List ℕ) (byte : ℕ) → bytes ≡ byte ∷ later → byte ≢ 10 → HasNewline bytes → HasNewline later
 later_newline bytes later byte e ne h = elim (subst (λ (bs : List ℕ). HasNewline bs) e h) [ inl first ↦ absurd (ne first) | inr among ↦ among ]
+
+-- the next byte is a held one, and nothing is read; or nothing is held, and a read begins, with no newline so far
+pub need_goes_on : (S : Type 0) (left last : S → Option (List ℕ)) (a b c : S) (was line held : List ℕ) → Took (left a) (left b) was (line ++ held) → HasNoNewline line → (b ≡ a) ⊎ IsAtNeed (left a) (last b) was → (held ≡ [] → last c ≡ left b) → (held ≢ [] → c ≡ b) → (c ≡ a) ⊎ IsAtNeed (left a) (last c) was
+need_goes_on S left last a b c was line [] took plain need begun quiet =
+    let e : last c ≡ left b = begun refl in
+    let t : Took (left a) (left b) was line = rw (append-nil line) at took in
+    inr (record { all = line; took = subst (λ (o : Option (List ℕ)). Took (left a) o was line) (sym e) t; plain = plain })
+need_goes_on S left last a b c was line (h ∷ held) took plain (inl same) begun quiet =
+    let e : c ≡ b = quiet (λ n. absurd (cc)) in
+    inl (e ∙ same)
+need_goes_on S left last a b c was line (h ∷ held) took plain (inr need) begun quiet =
+    let e : c ≡ b = quiet (λ n. absurd (cc)) in
+    inr (subst (λ (s : S). IsAtNeed (left a) (last s) was) (sym e) need)
 
 plain_is : (b : ℕ) → b ≢ 10 → (b == 10) ≡ false
 plain_is b ne = false_from_ne_true (b == 10) (λ h. ne (eqb-true b 10 h))

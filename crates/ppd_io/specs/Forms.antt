@@ -18,17 +18,27 @@ fails_next c = list_any (λ n. n == c.next) c.fails
 abbrev pub after_call : Calls → Calls
 after_call c = record { fails = c.fails; next = one_more c.next }
 
--- the bytes that are left to read, and how many a call gives at most
+-- the bytes that are left to read, those that were left when the last read began (all, before any), and how many a call
+-- gives at most
 pub record Feed : Type 0 where
   pub left : List ℕ
+  pub before : List ℕ
   pub chunk : ℕ
+
+-- none of whose bytes was read
+abbrev pub new_feed : List ℕ → ℕ → Feed
+new_feed bytes chunk = record { left = bytes; before = bytes; chunk = chunk }
 
 -- how many bytes a read into this much room takes
 abbrev pub read_size : Feed → ℕ → ℕ
 read_size f room = min (min room f.chunk) (length f.left)
 
 abbrev pub after_read : Feed → ℕ → Feed
-after_read f room = record { left = drop (read_size f room) f.left; chunk = f.chunk }
+after_read f room = record { left = drop (read_size f room) f.left; before = f.left; chunk = f.chunk }
+
+-- a read began, and gave nothing
+abbrev pub after_vain_read : Feed → Feed
+after_vain_read f = record { left = f.left; before = f.left; chunk = f.chunk }
 
 -- a feed whose listed calls fail, with the count of failures
 pub record FaultyFeed : Type 0 where
@@ -39,7 +49,7 @@ pub record FaultyFeed : Type 0 where
 abbrev pub after_faulty_read : FaultyFeed → ℕ → FaultyFeed
 after_faulty_read s room =
     if fails_next s.calls
-    then (record { feed = s.feed; calls = after_call s.calls; faults = one_more s.faults })
+    then (record { feed = after_vain_read s.feed; calls = after_call s.calls; faults = one_more s.faults })
     else (record { feed = after_read s.feed room; calls = after_call s.calls; faults = s.faults })
 
 -- the bytes that a steady sink keeps, how many it has room for, and whether all that was written is there

@@ -39,6 +39,12 @@ pub record Took (old new : Option (List ℕ)) (held all : List ℕ) : Type 0 whe
   pub takes : Takes old new read
   pub whole : held ++ read ≡ all
 
+-- no whole line was at hand when the last read began: what was held, with what the source gave before it, has no newline
+pub record IsAtNeed (old last : Option (List ℕ)) (held : List ℕ) : Type 0 where
+  pub all : List ℕ
+  pub took : Took old last held all
+  pub plain : HasNoNewline all
+
 -- nothing is left, where the source tells
 abbrev pub IsAtEnd : Option (List ℕ) → Type 0
 IsAtEnd left = IfSome left (λ bytes. bytes ≡ [])

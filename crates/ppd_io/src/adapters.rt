@@ -50,6 +50,8 @@ impl<R: Read> Source for Counted<R> {
 
     ghost left = { λ s. None };
 
+    ghost before_last = { λ s. None };
+
     ghost faults = { λ s. s };
 
     fn read(&mut self, into: &mut [u8]) -> Result<usize, Failed> {

@@ -60,6 +60,7 @@ impl ByteReader {
         requires { self.old ≡ [] }
         ensures ok { IfOk result (λ some. Took (I.left source.old) (I.left source.new) [] self.new × IsFilled some (I.left source.new) self.new) }
         ensures err { OnErr result ((self.new ≡ []) × (I.left source.new ≡ I.left source.old)) }
+        ensures last { I.before_last source.new ≡ I.left source.old }
         ensures cause { HasCause (I.faults source.old) (I.faults source.new) result }
     {
         self.at = 0;
@@ -81,6 +82,7 @@ impl ByteReader {
         ensures byte { IfOk result (λ b. MatchOption b (Took (I.left source.old) (I.left source.new) self.old [] × (self.new ≡ []) × IsAtEnd (I.left source.new)) (λ byte. Took (I.left source.old) (I.left source.new) self.old (byte ∷ self.new))) }
         ensures err { OnErr result (Took (I.left source.old) (I.left source.new) self.old [] × (self.new ≡ [])) }
         ensures cause { HasCause (I.faults source.old) (I.faults source.new) result }
+        ensures last { self.old ≡ [] → I.before_last source.new ≡ I.left source.old }
         ensures quiet { self.old ≢ [] → (source.new ≡ source.old) × IsOfHeld self.old self.new result }
         ensures few { length self.new < CHUNK_BYTES }
     {

@@ -1,8 +1,8 @@
-ghost use Rattle.std.specs.Prelude.{◌≡◌, [], true, false, length, IfOk, IsErrOf, vec_capacity, ◌≤◌, ◌<◌};
+ghost use Rattle.std.specs.Prelude.{◌≡◌, ◌⊎◌, [], true, false, length, IfOk, IsErrOf, vec_capacity, ◌≤◌, ◌<◌};
 ghost use Rattle.ppd_ast.specs.declared.limits.TheConstants.{MOST_LINE_BYTES};
 ghost use Rattle.ppd_io.specs.Causes.{Rose};
 ghost use Rattle.ppd_io.specs.declared.bytes.TheConstants.{CHUNK_BYTES};
-ghost use Rattle.ppd_io.specs.Lines.{Fills, GivesLine, HasNewline, StaysOver, TellsLine};
+ghost use Rattle.ppd_io.specs.Lines.{Fills, GivesLine, HasNewline, IsAtNeed, StaysOver, TellsLine};
 
 use crate::bytes::ByteReader;
 use crate::source::Source;
@@ -57,6 +57,7 @@ fn fill_line<I: Source>(
     ensures cause { IsErrOf result LineError.Failed → Rose (I.faults source.old) (I.faults source.new) }
     ensures later { I.faults source.old ≤ I.faults source.new }
     ensures quiet { HasNewline bytes.old → source.new ≡ source.old }
+    ensures need { (source.new ≡ source.old) ⊎ IsAtNeed (I.left source.old) (I.before_last source.new) bytes.old }
     ensures room { MOST_LINE_BYTES < vec_capacity line.new }
     ensures few { length bytes.new < CHUNK_BYTES }
 {
@@ -96,6 +97,8 @@ impl LineReader {
         ensures failed { IsErrOf result LineError.Failed → Rose (I.faults source.old) (I.faults source.new) }
         ensures later { I.faults source.old ≤ I.faults source.new }
         ensures quiet { HasNewline self.old.held → source.new ≡ source.old }
+        ensures need { (source.new ≡ source.old)
+            ⊎ IsAtNeed (I.left source.old) (I.before_last source.new) self.old.held }
         ensures few { length self.new.held < CHUNK_BYTES }
     {
         self.line.clear();
@@ -111,7 +114,8 @@ impl LineReader {
     ///
     /// `Failed` comes only where a read failed and the source's count of faults rose; `LongLine` exactly
     /// where the next line has more than 4,096 bytes. Of the bytes after the line fewer than `CHUNK_BYTES`
-    /// are read, and nothing is read where a whole line is held (more than a line's length never is).
+    /// are read, and nothing is read where a whole line is held (more than a line's length never is): where
+    /// something is read, what is held and what was read before the last read have no newline.
     /// After an error the lines that follow mean nothing.
     pub fn next<I: Source>(&mut self, source: &mut I) -> Result<bool, LineError>
         ensures given { self.old.ended ≡ false → GivesLine (I.left source.old) (I.left source.new) self.old.held self.new result }
@@ -120,6 +124,8 @@ impl LineReader {
         ensures failed { IsErrOf result LineError.Failed → Rose (I.faults source.old) (I.faults source.new) }
         ensures later { I.faults source.old ≤ I.faults source.new }
         ensures quiet { HasNewline self.old.held → source.new ≡ source.old }
+        ensures need { (source.new ≡ source.old)
+            ⊎ IsAtNeed (I.left source.old) (I.before_last source.new) self.old.held }
         ensures few { length self.new.held < CHUNK_BYTES }
     {
         self.advance(source)

@@ -2,7 +2,7 @@ ghost use Rattle.std.specs.Prelude.{◌≡◌, ◌↔◌, ℕ, List, [], Some, �
 ghost use Rattle.ppd_io.specs.Causes.{HasCause, Rose};
 ghost use Rattle.ppd_io.specs.Content.{Reads, Writes, Loads, Stores, StoreFails};
 ghost use Rattle.ppd_io.specs.Entries.{find_entry, put_entry};
-ghost use Rattle.ppd_io.specs.Forms.{fails_next, read_size, after_faulty_read, fails_write, write_size, after_faulty_write, fails_load, after_load, after_store};
+ghost use Rattle.ppd_io.specs.Forms.{fails_next, new_feed, read_size, after_faulty_read, fails_write, write_size, after_faulty_write, fails_load, after_load, after_store};
 
 use crate::calls::ListedCalls;
 use crate::entries::Entries;
@@ -35,7 +35,7 @@ impl MemorySource {
     /// from 0, are listed.
     pub fn new(bytes: Vec<u8>, chunk: usize, fails: Vec<u32>) -> MemorySource
         requires { 0 < chunk }
-        ensures { result ≡ record { feed = record { left = bytes.items; chunk = chunk }; calls = record { fails = fails.items; next = 0 }; faults = 0 } }
+        ensures { result ≡ record { feed = new_feed bytes.items chunk; calls = record { fails = fails.items; next = 0 }; faults = 0 } }
     {
         MemorySource {
             source: SteadySource::new(bytes, chunk),
@@ -50,18 +50,22 @@ impl Source for MemorySource {
 
     ghost left = { λ s. Some s.feed.left };
 
+    ghost before_last = { λ s. Some s.feed.before };
+
     ghost faults = { λ s. s.faults };
 
     /// Fails exactly at the listed calls.
     fn read(&mut self, into: &mut [u8]) -> Result<usize, Failed>
         ensures bound { IfOk result (λ n. n ≤ length into.new) }
         ensures bytes { Reads (Some self.old.feed.left) (Some self.new.feed.left) result into.new }
+        ensures last { Some self.new.feed.before ≡ Some self.old.feed.left }
         ensures cause { HasCause self.old.faults self.new.faults result }
         ensures fails { is_err result ≡ fails_next self.old.calls }
         ensures count { IfOk result (λ n. n ≡ read_size self.old.feed (length into.old)) }
         ensures after { self.new ≡ after_faulty_read self.old (length into.old) }
     {
         if self.calls.fails_next() {
+            self.source.give_nothing();
             self.faults = self.faults.saturating_add(1);
             return Err(Failed);
         }
@@ -223,6 +227,7 @@ impl Shelf for MemoryShelf {
     fn store(&mut self, alloc: Global, name: &str, bytes: &[u8]) -> Result<(), ShelfError>
         ensures bytes { OnOk result (Stores (Some (find_entry self.old.entries)) (Some (find_entry self.new.entries)) name.now bytes.now) }
         ensures others { StoreFails (Some (find_entry self.old.entries)) (Some (find_entry self.new.entries)) name.now }
+        ensures memory { IsErrOf result ShelfError.Memory → Some (find_entry self.new.entries) ≡ Some (find_entry self.old.entries) }
         ensures failed { IsErrOf result ShelfError.Failed → Rose self.old.failed_stores self.new.failed_stores }
         ensures later { (n : List ℕ) → self.old.failed_stores ≤ self.new.failed_stores }
         ensures loads { (n : List ℕ) → self.new.failed_loads ≡ self.old.failed_loads }

@@ -58,11 +58,13 @@ pub trait Shelf {
         ensures later { (n : List ℕ) → failed_loads self.old n ≤ failed_loads self.new n }
         ensures stores { (n : List ℕ) → failed_stores self.new n ≡ failed_stores self.old n };
 
-    /// Sets the bytes of that name. After an error that name may hold anything; the others are as
-    /// before. `Failed` comes only where the count of failed stores of that name rose.
+    /// Sets the bytes of that name. After `Failed` that name may hold anything; the others are as
+    /// before. After want of memory the shelf holds what it held. `Failed` comes only where the count of
+    /// failed stores of that name rose.
     fn store(&mut self, alloc: Global, name: &str, bytes: &[u8]) -> Result<(), ShelfError>
         ensures bytes { OnOk result (Stores (held self.old) (held self.new) name.now bytes.now) }
         ensures others { StoreFails (held self.old) (held self.new) name.now }
+        ensures memory { IsErrOf result ShelfError.Memory → held self.new ≡ held self.old }
         ensures failed { IsErrOf result ShelfError.Failed → Rose (failed_stores self.old name.now) (failed_stores self.new name.now) }
         ensures later { (n : List ℕ) → failed_stores self.old n ≤ failed_stores self.new n }
         ensures loads { (n : List ℕ) → failed_loads self.new n ≡ failed_loads self.old n };

@@ -2,7 +2,7 @@ ghost use Rattle.std.specs.Prelude.{◌≡◌, ℕ, List, [], ◌<◌, ◌≤◌
 ghost use Rattle.ppd_io.specs.Causes.{HasCause};
 ghost use Rattle.ppd_io.specs.Content.{Reads, Writes};
 ghost use Rattle.ppd_io.specs.Entries.{find_entry};
-ghost use Rattle.ppd_io.specs.Forms.{read_size, after_read, told_bytes, after_steady_write};
+ghost use Rattle.ppd_io.specs.Forms.{new_feed, read_size, after_read, after_vain_read, told_bytes, after_steady_write};
 
 use crate::entries::Entries;
 use crate::shelf::{Shelf, ShelfError};
@@ -17,6 +17,7 @@ use std::marker::Model;
 pub struct SteadySource {
     bytes: Vec<u8>,
     at: usize,
+    began: usize,
     chunk: usize,
 }
 
@@ -26,7 +27,7 @@ impl Model for SteadySource {
 
     ghost Value = { Feed };
 
-    ghost view = { λ s. record { left = drop s.at s.bytes.items; chunk = s.chunk } };
+    ghost view = { λ s. record { left = drop s.at s.bytes.items; before = drop s.began s.bytes.items; chunk = s.chunk } };
 
     ghost invariant = { λ s. (s.at ≤ vec_len s.bytes) × (0 < s.chunk) };
 }
@@ -35,11 +36,12 @@ impl SteadySource {
     /// Gives at most `chunk` bytes in a call, which is at least 1.
     pub fn new(bytes: Vec<u8>, chunk: usize) -> SteadySource
         requires { 0 < chunk }
-        ensures { result ≡ record { left = bytes.items; chunk = chunk } }
+        ensures { result ≡ new_feed bytes.items chunk }
     {
         SteadySource {
             bytes,
             at: 0,
+            began: 0,
             chunk,
         }
     }
@@ -54,8 +56,16 @@ impl SteadySource {
     {
         let count = into.len().min(self.chunk).min(self.bytes.len() - self.at);
         into[..count].copy_from_slice(&self.bytes[self.at..self.at + count]);
+        self.began = self.at;
         self.at += count;
         count
+    }
+
+    /// Notes a read that gives nothing.
+    pub(crate) fn give_nothing(&mut self)
+        ensures { self.new ≡ after_vain_read self.old }
+    {
+        self.began = self.at;
     }
 }
 
@@ -64,11 +74,14 @@ impl Source for SteadySource {
 
     ghost left = { λ s. Some s.left };
 
+    ghost before_last = { λ s. Some s.before };
+
     ghost faults = { λ s. 0 };
 
     fn read(&mut self, into: &mut [u8]) -> Result<usize, Failed>
         ensures bound { IfOk result (λ n. n ≤ length into.new) }
         ensures bytes { Reads (Some self.old.left) (Some self.new.left) result into.new }
+        ensures last { Some self.new.before ≡ Some self.old.left }
         ensures cause { HasCause 0 0 result }
         ensures ok { IsOk result }
         ensures count { IfOk result (λ n. n ≡ read_size self.old (length into.old)) }

@@ -77,6 +77,33 @@ next_halves size new old before now n le one h within =
     let more : now - old ≡ (before - old) + 1 = omega (arith, le, one) in
     subst (λ t. new * 2 ^ t ≤ n) (sym more) (half_less size new (before - old) n h within)
 
+-- of what is left at most one more than half is gone
+half_more : (size new t n : ℕ) → size ≤ new + new + 2 → n + 2 ≤ (size + 2) * 2 ^ t → n + 2 ≤ (new + 2) * 2 ^ (t + 1)
+half_more size new t n h within =
+    let more : t + 1 ≡ suc t = omega arith in
+    let twice : 2 ^ suc t ≡ 2 ^ t * 2 = pow-suc 2 t in
+    let both : 2 ^ (t + 1) ≡ 2 ^ t + 2 ^ t = ap (λ k. 2 ^ k) more ∙ twice ∙ (let e : 2 ^ t * 2 ≡ 2 ^ t + 2 ^ t = omega arith in e) in
+    let one : (new + 2) * 2 ^ (t + 1) ≡ (new + 2) * 2 ^ t + (new + 2) * 2 ^ t = ap (λ k. (new + 2) * k) both ∙ mul-add (new + 2) (2 ^ t) (2 ^ t) in
+    let two : ((new + 2) + (new + 2)) * 2 ^ t ≡ (new + 2) * 2 ^ t + (new + 2) * 2 ^ t = add-mul (new + 2) (new + 2) (2 ^ t) in
+    let less : (size + 2) * 2 ^ t ≤ ((new + 2) + (new + 2)) * 2 ^ t = mul-le (size + 2) (2 ^ t) ((new + 2) + (new + 2)) (2 ^ t) (omega (arith, h)) (omega arith) in
+    omega (arith, one, two, less, within)
+
+pub first_left : (n m s : ℕ) → n ≡ m → m + 2 ≤ (n - 0 + 2) * 2 ^ (s - s)
+first_left n m s e =
+    let none : s - s ≡ 0 = omega arith in
+    let same : (n - 0 + 2) * 2 ^ (s - s) ≡ (n - 0 + 2) * 1 = ap (λ t. (n - 0 + 2) * 2 ^ t) none in
+    omega (arith, same, e)
+
+pub next_left : (size new old before now n : ℕ) → old ≤ before → now ≡ before + 1 → size ≤ new + new + 2 → n + 2 ≤ (size + 2) * 2 ^ (before - old) → n + 2 ≤ (new + 2) * 2 ^ (now - old)
+next_left size new old before now n le one h within =
+    let more : now - old ≡ (before - old) + 1 = omega (arith, le, one) in
+    subst (λ t. n + 2 ≤ (new + 2) * 2 ^ t) (sym more) (half_more size new (before - old) n h within)
+
+pub last_left : (size t n : ℕ) → size ≡ 0 → n + 2 ≤ (size + 2) * 2 ^ t → n + 2 ≤ 2 * 2 ^ t
+last_left size t n none within =
+    let two : size + 2 ≡ 2 = omega (arith, none) in
+    subst (λ k. n + 2 ≤ k * 2 ^ t) two within
+
 -- ---- the part of a list that passes a test
 
 none_passes : {A : Type 0} (test : A → Bool) (xs : List A) → ((k : ℕ) (d : A) → k < length xs → test (get_or xs k d) ≡ false) → filter test xs ≡ []

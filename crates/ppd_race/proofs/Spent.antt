@@ -41,6 +41,13 @@ process_spent old own row rows listed begun found now first last races is none a
     let count = ap length none ∙ length_replicated (length own) (no_items Race) in
     omega (arith, same, zero, sum, count, long, a, b, c, d)
 
+pub process_least : (old n : ℕ) (listed begun found now : ℕ) (first last : List (List Race)) (races : List Race) → first ≡ replicate n (no_items Race) → races ≡ flat_map (λ part. part) last
+    → old + 2048 ≤ listed → listed ≤ begun → begun + total last ≤ found + total first → found ≤ now → old + 2048 + length races ≤ now
+process_least old n listed begun found now first last races none all a b c d =
+    let zero = total_at_first n first none in
+    let sum = total_joined last races all in
+    omega (arith, zero, sum, a, b, c, d)
+
 pub search_spent : (g : SyncGraph) (rows : List (List Busy)) (old before now found : ℕ) → length rows ≡ length g.edges → sum_by row_cost rows ≤ work_of g → before ≤ old + work_of g + length g.edges
     → now ≤ before + length rows * (2049 + sum_by row_cost rows) + sum_by own_cost rows + found → now ≤ old + search_cost g + found
 search_spent g rows old before now found long size first second =

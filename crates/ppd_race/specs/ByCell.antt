@@ -45,3 +45,6 @@ listed_in set cells one c = if has cells c && has set c then one ∷ [] else []
 
 abbrev pub listing_cost : Busy → ℕ
 listing_cost a = 1 + 4 * length a.cells
+
+abbrev pub listing_least : Busy → ℕ
+listing_least a = 1 + 2 * length a.cells

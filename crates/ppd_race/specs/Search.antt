@@ -110,6 +110,10 @@ AreElsewhere g p row = (k : ℕ) (d : Busy) → k < length row → IsElsewhere g
 abbrev pub edge_cost : Busy → ℕ
 edge_cost b = 1 + 385 * length b.cells
 
+-- a look at each
+abbrev pub edge_least : Busy → ℕ
+edge_least b = 1 + length b.cells
+
 abbrev pub row_cost : List Busy → ℕ
 row_cost row = 1 + sum_by edge_cost row
 

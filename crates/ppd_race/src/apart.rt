@@ -1,4 +1,4 @@
-ghost use Rattle.std.specs.Prelude.{◌≡◌, ◌<◌, ◌≤◌, ◌+◌, ◌^◌, ℕ, filter, length};
+ghost use Rattle.std.specs.Prelude.{◌≡◌, ◌<◌, ◌≤◌, ◌+◌, ◌-◌, ◌*◌, ◌^◌, ℕ, filter, length};
 ghost use Rattle.ppd_race.specs.Busy.{IsRising};
 ghost use Rattle.ppd_race.specs.Search.{AreInOrder, AreParted, IsCut, IsElsewhere, is_apart, is_on as is_on_by};
 
@@ -31,7 +31,8 @@ fn count_of(list: &[Accessor]) -> usize
     list.len()
 }
 
-// How many of the edges, the first ones, stand on this side of an edge: by halves, of which there are at most 64.
+// How many of the edges, the first ones, stand on this side of an edge: by halves, of which there are at most 64, and
+// as many as leave none.
 fn count_on<L: Ledger>(
     graph: &SyncGraph,
     side: Side,
@@ -42,6 +43,8 @@ fn count_on<L: Ledger>(
     ensures within { result ≤ length list.now }
     ensures cut { AreParted (is_on_by graph.now side b) list.now → IsCut (is_on_by graph.now side b) list.now result }
     ensures cost { steps.new ≤ steps.old + 64 }
+    ensures on { steps.old ≤ steps.new }
+    ensures least { length list.now + 2 ≤ 2 * 2 ^ (steps.new - steps.old) }
 {
     let mut low = 0;
     let mut high = count_of(list);
@@ -68,6 +71,7 @@ pub(crate) fn window<'a, L: Ledger>(
     ensures apart { IsRising graph.now → (p : ℕ) → AreInOrder graph.now p list.now → IsElsewhere graph.now p b
         → result.now ≡ filter (is_apart graph.now b) list.now }
     ensures cost { steps.new ≤ steps.old + 128 }
+    ensures on { steps.old ≤ steps.new }
 {
     let from = count_on(graph, Side::Before, list, b, steps);
     let to = count_on(graph, Side::NotAfter, list, b, steps);

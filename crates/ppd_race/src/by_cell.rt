@@ -1,7 +1,7 @@
 ghost use Rattle.std.specs.Prelude.{◌<◌, ◌≤◌, ◌+◌, ◌*◌, IfOk, OnOk, length};
 ghost use Rattle.std.specs.List.{sum_by};
 ghost use Rattle.ppd_ast.specs.Members.{RisesFrom, AreBelow};
-ghost use Rattle.ppd_race.specs.ByCell.{AreOfCells, IsByCell, accessor as accessor_of, listed_if, listed_in, listing_cost};
+ghost use Rattle.ppd_race.specs.ByCell.{AreOfCells, IsByCell, accessor as accessor_of, listed_if, listed_in, listing_cost, listing_least};
 ghost use Rattle.ppd_race.specs.Lists.{GrowsBy};
 
 use crate::busy::{Accessor, Busy};
@@ -28,6 +28,7 @@ fn push_if<L: Ledger>(
 ) -> Result<(), Memory>
     ensures listed { OnOk result (GrowsBy (listed_if holds cell one) lists.old.items lists.new.items) }
     ensures cost { steps.new ≤ steps.old + 1 }
+    ensures on { steps.old ≤ steps.new }
 {
     if holds {
         return push_at(lists, cell as usize, one, steps);
@@ -47,6 +48,7 @@ fn list_cells<L: Ledger>(
     ensures listed { OnOk result
         (RisesFrom 0 cells.now → GrowsBy (listed_in set.now cells.now one) lists.old.items lists.new.items) }
     ensures cost { steps.new ≤ steps.old + 2 * length cells.now }
+    ensures least { OnOk result (steps.old + length cells.now ≤ steps.new) }
 {
     for cell in cells {
         steps.tick();
@@ -72,6 +74,7 @@ fn list_edge<L: Ledger>(
         → GrowsBy (listed_in a.now.writes a.now.cells
         (accessor_of place a.now)) lists.old.writers.items lists.new.writers.items) }
     ensures cost { steps.new ≤ steps.old + 4 * length a.now.cells }
+    ensures least { OnOk result (steps.old + 2 * length a.now.cells ≤ steps.new) }
 {
     let one = Accessor {
         place,
@@ -92,6 +95,7 @@ pub(crate) fn list_by_cell<L: Ledger>(
     requires cells { AreOfCells own.now }
     ensures lists { IfOk result (IsByCell own.now) }
     ensures cost { steps.new ≤ steps.old + 2048 + sum_by listing_cost own.now }
+    ensures least { OnOk result (steps.old + 2048 + sum_by listing_least own.now ≤ steps.new) }
 {
     let mut lists = ByCell {
         readers: no_lists(alloc, MOST_SHARED_CELLS, steps)?,

@@ -4,7 +4,7 @@ ghost use Rattle.ppd_ast.specs.Members.{AreBelow};
 ghost use Rattle.ppd_race.specs.Busy.{IsRising, race_of};
 ghost use Rattle.ppd_race.specs.ByCell.{AreOfCells};
 ghost use Rattle.ppd_race.specs.Lists.{GrowsBy, total};
-ghost use Rattle.ppd_race.specs.Search.{AreElsewhere, AreInOrder, CanSearch, IsElsewhere, IsWhole, against as against_of, edge_cost, found_against, found_if, found_in, found_over, found_with};
+ghost use Rattle.ppd_race.specs.Search.{AreElsewhere, AreInOrder, CanSearch, IsElsewhere, IsWhole, against as against_of, edge_cost, edge_least, found_against, found_if, found_in, found_over, found_with};
 
 use crate::apart::window;
 use crate::busy::{Accessor, Against, Busy};
@@ -51,6 +51,7 @@ fn add_against<L: Ledger>(
         (IsRising graph.now → (p : ℕ) → AreInOrder graph.now p list.now → IsElsewhere graph.now p against.edge
         → GrowsBy (found_against graph.now list.now against) found.old.items found.new.items) }
     ensures cost { OnOk result (steps.new + total found.old.items ≤ steps.old + total found.new.items + 128) }
+    ensures least { OnOk result (steps.old + total found.new.items ≤ steps.new + total found.old.items) }
 {
     let apart = window(graph, list, against.edge, steps);
     for one in apart {
@@ -72,6 +73,7 @@ fn add_if<L: Ledger>(
         (IsRising graph.now → (p : ℕ) → AreInOrder graph.now p list.now → IsElsewhere graph.now p against.edge
         → GrowsBy (found_if holds graph.now list.now against) found.old.items found.new.items) }
     ensures cost { OnOk result (steps.new + total found.old.items ≤ steps.old + total found.new.items + 128) }
+    ensures least { OnOk result (steps.old + total found.new.items ≤ steps.new + total found.old.items) }
 {
     if holds {
         return add_against(found, graph, list, against, steps);
@@ -103,6 +105,7 @@ fn add_cell<L: Ledger>(
         ((p : ℕ) → CanSearch graph.now p lists.now → IsElsewhere graph.now p b.now.edge
         → GrowsBy (found_over graph.now lists.now b.now cell) found.old.items found.new.items) }
     ensures cost { OnOk result (steps.new + total found.old.items ≤ steps.old + total found.new.items + 384) }
+    ensures least { OnOk result (steps.old + total found.new.items ≤ steps.new + total found.old.items) }
 {
     let reads = b.reads.contains(cell);
     let writes = b.writes.contains(cell);
@@ -133,6 +136,8 @@ fn add_edge<L: Ledger>(
         → GrowsBy (found_with graph.now lists.now b.now) found.old.items found.new.items) }
     ensures cost { OnOk result
         (steps.new + total found.old.items ≤ steps.old + total found.new.items + 385 * length b.now.cells) }
+    ensures least { OnOk result
+        (steps.old + total found.new.items + length b.now.cells ≤ steps.new + total found.old.items) }
 {
     let cells = b.cells.as_slice();
     for cell in cells {
@@ -158,6 +163,8 @@ pub(crate) fn add_row<L: Ledger>(
         → GrowsBy (found_in graph.now lists.now row.now) found.old.items found.new.items) }
     ensures cost { OnOk result
         (steps.new + total found.old.items ≤ steps.old + total found.new.items + sum_by edge_cost row.now) }
+    ensures least { OnOk result
+        (steps.old + total found.new.items + sum_by edge_least row.now ≤ steps.new + total found.old.items) }
 {
     for b in row {
         steps.tick();

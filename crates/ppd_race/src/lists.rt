@@ -24,6 +24,7 @@ pub(crate) fn no_lists<T: Drop, L: Ledger>(
 ) -> Result<Lists<T>, Memory>
     ensures none { IfOk result (λ lists. lists.items ≡ replicate count []) }
     ensures cost { steps.new ≤ steps.old + count }
+    ensures taken { OnOk result (steps.new ≡ steps.old + count) }
 {
     let mut lists = Vec::new(alloc);
     for _place in 0..count {
@@ -54,8 +55,9 @@ pub(crate) fn push_at<T: Drop, L: Ledger>(
     steps: &mut Steps<L>,
 ) -> Result<(), Memory>
     ensures grows { OnOk result (GrowsBy (one_at place item) lists.old.items lists.new.items) }
-    ensures spent { OnOk result (steps.new + total lists.old.items ≤ steps.old + total lists.new.items) }
+    ensures spent { OnOk result (steps.new + total lists.old.items ≡ steps.old + total lists.new.items) }
     ensures cost { steps.new ≤ steps.old + 1 }
+    ensures on { steps.old ≤ steps.new }
 {
     if place >= lists.len() {
         return Ok(());

@@ -1,16 +1,17 @@
-ghost use Rattle.std.specs.Prelude.{◌≡◌, ◌<◌, ◌≤◌, ◌+◌, ◌*◌, ◌^◌, ℕ, ◌||◌, IfOk, OnOk, IsTrue, nat_eq, ◌&&◌, [], length};
+ghost use Rattle.std.specs.Prelude.{◌≡◌, ◌<◌, ◌≤◌, ◌+◌, ◌*◌, ◌^◌, ℕ, ◌||◌, IfOk, OnOk, IsTrue, ◌↔◌, nat_eq, ◌&&◌, [], length};
 ghost use Rattle.std.specs.List.{sum_by};
 ghost use Rattle.ppd_ast.specs.Members.{has, AreBelow};
 ghost use Rattle.ppd_race.specs.Search.{edge_cost, row_cost};
-ghost use Rattle.ppd_race.specs.Spending.{set_cost, sets_cost};
+ghost use Rattle.ppd_race.specs.Spending.{set_cost, sets_cost, sets_least};
 ghost use Rattle.ppd_race.specs.Union.{HasBelow, size_of};
 ghost use Rattle.ppd_race.specs.Busy.{AreBusyRows, AreFew, IsBusyOf, IsBusyRow, Takes, is_busy, is_none};
 
 use crate::busy::Busy;
 use crate::union::union_of;
 use ppd_ast::limits::{MOST_NAMED, MOST_SHARED_CELLS};
-use ppd_ast::{Cells, Memory, Seq, Steps};
+use ppd_ast::{Memory, Seq, Steps};
 use ppd_bits::CellSet;
+use ppd_entry::BoxedCells;
 use ppd_graph::EdgeSets;
 use ppd_model::EdgeId;
 use std::alloc::Global;
@@ -18,8 +19,9 @@ use std::sync::ledger::Ledger;
 
 /// Whether the processes have 8-bit numbers, and their edges 32-bit ones.
 pub(crate) fn are_few<L: Ledger>(sets: &[Seq<EdgeSets>], steps: &mut Steps<L>) -> bool
-    ensures few { IsTrue result → AreFew sets.now }
+    ensures few { IsTrue result ↔ AreFew sets.now }
     ensures cost { steps.new ≤ steps.old + length sets.now }
+    ensures taken { IsTrue result → steps.new ≡ steps.old + length sets.now }
 {
     if sets.len() > MOST_NAMED {
         return false;
@@ -48,7 +50,7 @@ fn insert_below(set: &mut CellSet, cell: u16)
 // The set of these cells, as far as they are below 1,024.
 fn set_of<L: Ledger>(cells: &[u16], steps: &mut Steps<L>) -> CellSet
     ensures set { HasBelow result cells.now }
-    ensures cost { steps.new ≤ steps.old + length cells.now }
+    ensures cost { steps.new ≡ steps.old + length cells.now }
 {
     let mut set = CellSet::new();
     for cell in cells {
@@ -68,6 +70,7 @@ fn busy_edge<L: Ledger>(
     ensures busy { IfOk result (IsBusyOf edge sets.now) }
     ensures size { IfOk result (λ b. length b.cells ≤ size_of sets.now) }
     ensures cost { steps.new ≤ steps.old + 3 * size_of sets.now }
+    ensures least { OnOk result (steps.old + length sets.now.reads + length sets.now.writes ≤ steps.new) }
 {
     let reads = set_of(sets.reads.as_slice(), steps);
     let writes = set_of(sets.writes.as_slice(), steps);
@@ -80,7 +83,7 @@ fn busy_edge<L: Ledger>(
     })
 }
 
-fn is_empty(cells: &Cells) -> bool
+fn is_empty(cells: &BoxedCells) -> bool
     ensures { result ≡ is_none cells.now }
 {
     cells.len() == 0
@@ -104,6 +107,7 @@ fn take_edge<L: Ledger>(
     ensures takes { OnOk result (Takes (is_busy sets.now) row.old row.new edge sets.now) }
     ensures size { OnOk result (sum_by edge_cost row.new ≤ sum_by edge_cost row.old + set_cost sets.now) }
     ensures cost { steps.new ≤ steps.old + 3 * size_of sets.now }
+    ensures on { OnOk result (steps.old ≤ steps.new) }
 {
     if is_idle(sets) {
         return Ok(());
@@ -124,6 +128,7 @@ fn busy_row<L: Ledger>(
     ensures busy { IfOk result (IsBusyRow process own.now) }
     ensures size { IfOk result (λ row. sum_by edge_cost row ≤ sum_by set_cost own.now) }
     ensures cost { steps.new ≤ steps.old + sum_by set_cost own.now }
+    ensures least { OnOk result (steps.old + length own.now ≤ steps.new) }
 {
     let mut row = Seq::new(alloc);
     for edge in 0..own.len() {
@@ -147,6 +152,7 @@ pub(crate) fn busy_rows<L: Ledger>(
     ensures busy { IfOk result (AreBusyRows sets.now) }
     ensures size { IfOk result (λ rows. sum_by row_cost rows ≤ sum_by sets_cost sets.now) }
     ensures cost { steps.new ≤ steps.old + sum_by sets_cost sets.now }
+    ensures least { OnOk result (steps.old + sum_by sets_least sets.now ≤ steps.new) }
 {
     let mut rows = Seq::new(alloc);
     for process in 0..sets.len() {

@@ -1,10 +1,10 @@
-ghost use Rattle.std.specs.Prelude.{◌≡◌, ◌<◌, ◌≤◌, ◌+◌, ◌*◌, [], IfOk, OnOk, get_or, length, map};
+ghost use Rattle.std.specs.Prelude.{◌≡◌, ◌<◌, ◌≤◌, ◌+◌, ◌-◌, ◌*◌, [], IfOk, OnOk, get_or, length, map};
 ghost use Rattle.std.specs.List.{flat_map, range_with_len, sum_by};
 ghost use Rattle.ppd_race.specs.Busy.{AreBusyRows, IsRising, races_by_rows, races_from};
 ghost use Rattle.ppd_race.specs.Lists.{GrowsBy, total};
 ghost use Rattle.ppd_race.specs.Races.{AreRacesOf};
 ghost use Rattle.ppd_race.specs.Search.{CanSearch, IsWhole, found_after, own_cost, row_cost};
-ghost use Rattle.ppd_race.specs.Spending.{search_cost, work_of};
+ghost use Rattle.ppd_race.specs.Spending.{search_cost, search_least, sets_least, work_of};
 
 use crate::busy::Busy;
 use crate::by_cell::{ByCell, list_by_cell};
@@ -40,6 +40,8 @@ fn add_later<L: Ledger>(
         → GrowsBy (found_after graph.now lists.now rows.now p) found.old.items found.new.items) }
     ensures cost { OnOk result
         (steps.new + total found.old.items ≤ steps.old + total found.new.items + sum_by row_cost rows.now) }
+    ensures least { OnOk result
+        (steps.old + total found.new.items + (length rows.now - (p + 1)) ≤ steps.new + total found.old.items) }
 {
     for q in p + 1..rows.len() {
         steps.tick();
@@ -55,6 +57,7 @@ fn joined<L: Ledger>(
 ) -> Result<Seq<Race>, Memory>
     ensures races { IfOk result (λ races. races ≡ flat_map (λ part. part) parts.items) }
     ensures cost { steps.new ≤ steps.old + length parts.items }
+    ensures taken { OnOk result (steps.new ≡ steps.old + length parts.items) }
 {
     let mut races = Seq::new(alloc);
     for part in parts {
@@ -79,6 +82,7 @@ fn races_of_process<L: Ledger>(
     ensures cost { IfOk result
         (λ races. steps.new
         ≤ steps.old + 2048 + own_cost (get_or rows.now p []) + sum_by row_cost rows.now + length races) }
+    ensures least { IfOk result (λ races. steps.old + 2048 + length races ≤ steps.new) }
 {
     let own = rows[p].as_slice();
     let lists = list_by_cell(alloc, own, steps)?;
@@ -163,6 +167,8 @@ fn busy_in<L: Ledger>(
     ensures busy { IfOk result (AreBusyRows graph.now.edges) }
     ensures size { IfOk result (λ rows. sum_by row_cost rows ≤ work_of graph.now) }
     ensures cost { steps.new ≤ steps.old + work_of graph.now + length graph.now.edges }
+    ensures least { OnOk result
+        (steps.old + length graph.now.edges + sum_by sets_least graph.now.edges ≤ steps.new) }
 {
     let sets = graph.edge_sets();
     if !are_few(sets, steps) {
@@ -183,6 +189,7 @@ fn all_races<L: Ledger>(
     ensures cost { IfOk result
         (λ races. steps.new
         ≤ steps.old + length rows.now * (2049 + sum_by row_cost rows.now) + sum_by own_cost rows.now + length races) }
+    ensures least { IfOk result (λ races. steps.old + 2049 * length rows.now + length races ≤ steps.new) }
 {
     let mut races = Seq::new(alloc);
     for p in 0..rows.len() {
@@ -202,6 +209,7 @@ pub fn races_in<L: Ledger>(
 ) -> Result<Seq<Race>, Memory>
     ensures races { IfOk result (AreRacesOf graph.now) }
     ensures cost { IfOk result (λ races. steps.new ≤ steps.old + search_cost graph.now + length races) }
+    ensures least { IfOk result (λ races. steps.old + search_least graph.now + length races ≤ steps.new) }
 {
     let rows = busy_in(alloc, graph, steps)?;
     let races = all_races(alloc, graph, rows.as_slice(), steps)?;

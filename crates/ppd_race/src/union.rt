@@ -13,6 +13,8 @@ use std::sync::ledger::Ledger;
 fn do_rise<L: Ledger>(cells: &[u16], steps: &mut Steps<L>) -> bool
     ensures value { result ≡ rise_by 0 cells.now }
     ensures cost { steps.new ≤ steps.old + length cells.now }
+    ensures on { steps.old ≤ steps.new }
+    ensures taken { IsTrue result → steps.new ≡ steps.old + length cells.now }
 {
     let mut next = 0;
     for cell in cells {
@@ -59,6 +61,7 @@ fn merged<L: Ledger>(
     ensures union { IfOk result (IsUnion (λ c. has reads.now c || has writes.now c)) }
     ensures size { IfOk result (λ cells. length cells ≤ length reads.now + length writes.now) }
     ensures cost { steps.new ≤ steps.old + length reads.now + length writes.now }
+    ensures taken { IfOk result (λ cells. steps.new ≡ steps.old + length cells) }
 {
     let mut cells = Cells::new(alloc);
     let mut read = 0;
@@ -100,6 +103,7 @@ fn walked<L: Ledger>(
     ensures union { IfOk result (IsUnion (λ c. has reads.now c || has writes.now c)) }
     ensures size { IfOk result (λ cells. length cells ≤ MOST_SHARED_CELLS) }
     ensures cost { steps.new ≤ steps.old + MOST_SHARED_CELLS }
+    ensures taken { OnOk result (steps.new ≡ steps.old + MOST_SHARED_CELLS) }
 {
     let mut cells = Cells::new(alloc);
     for cell in 0..MOST_SHARED_CELLS as u16 {
@@ -122,6 +126,7 @@ pub(crate) fn union_of<L: Ledger>(
     ensures union { IfOk result (IsUnion (λ c. has reads.now c || has writes.now c)) }
     ensures size { IfOk result (λ cells. length cells ≤ size_of sets.now) }
     ensures cost { steps.new ≤ steps.old + 2 * size_of sets.now }
+    ensures on { OnOk result (steps.old ≤ steps.new) }
 {
     let read = sets.reads.as_slice();
     let written = sets.writes.as_slice();

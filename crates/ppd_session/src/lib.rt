@@ -1,5 +1,5 @@
-//! Questions about a run, and their answers: its races, the intervals of its processes with their items, and static
-//! edges.
+//! Questions about a run, and their answers: its races, the intervals of its processes with their items, where values
+//! came from, last values, and static edges.
 #![tactic(auto)]
 
 mod answers;

@@ -1,5 +1,5 @@
 -- From the lines that were read and answered to what comes of asking.
-use Rattle.std.specs.Prelude.{None, Some, Option, option_map, IfSome, is_some, ◌||◌, true, false, Result, Ok, Err, nat_le, nat_lt, codes}
+use Rattle.std.specs.Prelude.{◌⊎◌, None, Some, Option, option_map, IfSome, is_some, ◌||◌, true, false, Result, Ok, Err, nat_le, nat_lt, codes}
 use Rattle.std.proofs.Common.{◌≡◌, ◌<◌, ◌≤◌, ◌+◌, ℕ, suc, List, [], ◌∷◌, ◌++◌, length, take, Bool, refl, ap, sym, subst, ◌∙◌, append_assoc, append-nil, length-append, arith, inl, inr}
 use Rattle.std.proofs.lemmas.Bool.{le-leb, le-ltb, lt-leb, lt-ltb}
 use Rattle.std.proofs.lemmas.List.{length_push, take-append-le}
@@ -9,22 +9,22 @@ use Rattle.ppd_io.specs.Causes.{Rose}
 use Rattle.ppd_io.specs.Content.{Appends, AppendsPart, Takes}
 use Rattle.ppd_io.specs.declared.lines.LineError.{LineError}
 use Rattle.ppd_io.specs.declared.lines.LineError.TheVariants.{Failed, LongLine}
-use Rattle.ppd_io.specs.Lines.{GivesLine, Lined, lines_of}
+use Rattle.ppd_io.specs.Lines.{GivesLine, IsAtNeed, Lined, lines_of}
 use Rattle.ppd_io.proofs.Prefixes.{appends_nothing, appends_twice}
 use Rattle.ppd_session.specs.Known.{Known}
 use Rattle.ppd_session.specs.Questions.{is_quit}
 use Rattle.ppd_session.specs.Sessions.{FlowError}
 use Rattle.ppd_session.specs.Texts.{failure_of, text_of}
-use Rattle.ppd_codec_runs.specs.Refusals.{refused_replay}
+use Rattle.ppd_text_refusals.specs.Recordings.{refused_replay}
 use Rattle.ppd_session.specs.Sessions.{IsWhy, error_of}
 use Rattle.ppd_session.specs.declared.reply.SessionError.{SessionError}
 use Rattle.ppd_session.specs.declared.reply.SessionError.TheVariants as session_error
-use Rattle.ppd_top.specs.Asking.{Becomes, Goes, IsAsked, IsFailed, IsReadTo}
+use Rattle.ppd_top.specs.Asking.{Becomes, Goes, IsAsked, IsFailed, IsReadAtNeed, IsReadTo}
 use Rattle.ppd_top.specs.Asking.Becomes.{answered, quit, refused, unwritten as unwritten_line, unfinished as unfinished_line}
-use Rattle.ppd_top.specs.Output.{AreAnswered, AreCommands, ArePlain, AppendsFront, IsReadNoFurther, Output, Standing, Talks, answers, answers_from, before, ended, output, texts, through_quit, with_line}
+use Rattle.ppd_top.specs.Output.{AreAnswered, AreCommands, AreNotYetTaken, ArePlain, AppendsFront, IsReadNoFurther, Output, Standing, Talks, answers, answers_from, before, ended, output, texts, through_quit, with_line}
 use Rattle.ppd_top.specs.Output.Talks.{whole, unread, unwritten, unfinished}
 use Rattle.ppd_top.specs.Top.{Finished}
-use Rattle.ppd_top.proofs.Split.{Goes_on, Is_long, after_all, after_long, after_more, at_end, append_more, no_further, plain_more, read_more, taken_so_far}
+use Rattle.ppd_top.proofs.Split.{Goes_on, Is_long, after_all, after_long, after_more, at_end, append_more, both_bytes, need_more, no_further, plain_more, read_more, taken_so_far}
 use Rattle.ppd_model.proofs.Changes.{some}
 use Rattle.ppd_model.proofs.Parents.{none_some}
 
@@ -154,8 +154,8 @@ many_through x n (l ∷ ls) rest few h =
     ∙ ap (with_line l) (many_through x (n + 1) ls rest (omega arith) h.3 ∙ ap (λ k. with_lines ls (through_quit x k rest)) count)
 
 -- no `quit` ended the answers
-not_quit : (x : Known) (a c : Option (List ℕ)) (ls rest : List (List ℕ)) (g : Goes_on a c ls rest) (n : ℕ) → length ls ≡ n → n ≤ MOST_INPUT_LINES → AreAnswered x ls → through_quit x n rest ≡ None → IsReadNoFurther x g.commands c
-not_quit x a c ls rest g n count few h none =
+not_quit : (x : Known) (a c : Option (List ℕ)) (ls rest : List (List ℕ)) (g : Goes_on a c ls rest) (n : ℕ) → length ls ≡ n → n ≤ MOST_INPUT_LINES → AreAnswered x ls → through_quit x n rest ≡ None → (last : Option (List ℕ)) → IsReadNoFurther x g.commands c last
+not_quit x a c ls rest g n count few h none last =
     let few' : 0 + length ls ≤ MOST_INPUT_LINES = omega arith in
     let counted : 0 + length ls ≡ n = omega arith in
     let e : through_quit x 0 (lines_of g.commands) ≡ None =
@@ -168,8 +168,8 @@ or_some false o v e = rw e refl
 
 -- a `quit` did, or a replay that failed
 was_quit : (x : Known) (a c : Option (List ℕ)) (ls rest : List (List ℕ)) (l : List ℕ) (g : Goes_on a c ls (l ∷ rest)) (n : ℕ) → length ls ≡ n → n < MOST_INPUT_LINES → length l ≤ MOST_LINE_BYTES → (is_quit l || is_some (failure_of x l)) ≡ true → AreAnswered x ls
-    → IfSome c (λ left. length g.commands < length (ended (ls ++ l ∷ [])) + CHUNK_BYTES + length left) → IsReadNoFurther x g.commands c
-was_quit x a c ls rest l g n count few short quits h few_bytes =
+    → (last : Option (List ℕ)) → IfSome c (λ left. (length g.commands < length (ended (ls ++ l ∷ [])) + CHUNK_BYTES + length left) × AreNotYetTaken g.commands (ls ++ l ∷ []) last) → IsReadNoFurther x g.commands c last
+was_quit x a c ls rest l g n count few short quits h last few_bytes =
     let t : nat_le MOST_INPUT_LINES n ≡ false = lt-leb MOST_INPUT_LINES n few in
     let u : nat_lt MOST_LINE_BYTES (length l) ≡ false = le-ltb MOST_LINE_BYTES (length l) short in
     let here : through_quit x n (l ∷ rest) ≡ Some (l ∷ []) = rw (t, u, quits) in
@@ -179,10 +179,15 @@ was_quit x a c ls rest l g n count few short quits h few_bytes =
     ap (through_quit x 0) g.lines ∙ (many_through x 0 ls (l ∷ rest) few' h ∙ (ap (with_lines ls) (ap (λ k. through_quit x k (l ∷ rest)) counted ∙ here) ∙ with_some ls (l ∷ []))) in
     rw e few_bytes
 
+-- a call that read nothing leaves the source as it was
+pub need_as : (S : Type 0) (left last : S → Option (List ℕ)) (old new : S) (held : List ℕ) → (new ≡ old) ⊎ IsAtNeed (left old) (last new) held → ((left new ≡ left old) × (last new ≡ last old)) ⊎ IsAtNeed (left old) (last new) held
+need_as S left last old new held (inl same) = inl (ap left same, ap last same)
+need_as S left last old new held (inr need) = inr need
+
 module _ (x : Known) (n : ℕ) (a b c : Standing) where
   -- what is left to write is written, with its status
   pub finished : (was : Lined) (q : IsAsked x n was a b) (rest : List (List ℕ)) (g : Goes_on a.left c.left q.lines rest) (status : ℕ) (text : List ℕ) (result : ℕ)
-      → IsReadNoFurther x g.commands c.left → n ≤ MOST_INPUT_LINES → answers_from x n rest ≡ output status text → Finished b.written c.written b.writes c.writes result status text → Talks x [] a c result
+      → IsReadNoFurther x g.commands c.left c.last → n ≤ MOST_INPUT_LINES → answers_from x n rest ≡ output status text → Finished b.written c.written b.writes c.writes result status text → Talks x [] a c result
   finished was q rest g status text result further few is f = by f all
     where
       count : answers_from x (length q.lines) rest ≡ output status text
@@ -208,12 +213,14 @@ module _ (x : Known) (n : ℕ) (a b c : Standing) where
     pub given : was.ended ≡ false → GivesLine b.left c.left was.held now result
     pub over : was.ended ≡ true → (result ≡ Ok false) × (c.left ≡ b.left)
     pub few : length now.held < CHUNK_BYTES
+    pub need : ((c.left ≡ b.left) × (c.last ≡ b.last)) ⊎ IsAtNeed b.left c.last was.held
 
-  pub read_as : (was now : Lined) (r result : Result Bool LineError) → r ≡ result → (was.ended ≡ false → GivesLine b.left c.left was.held now r) → (was.ended ≡ true → (r ≡ Ok false) × (c.left ≡ b.left)) → length now.held < CHUNK_BYTES → HasRead was now result
-  read_as was now r result e given over few = record {
+  pub read_as : (was now : Lined) (r result : Result Bool LineError) → r ≡ result → (was.ended ≡ false → GivesLine b.left c.left was.held now r) → (was.ended ≡ true → (r ≡ Ok false) × (c.left ≡ b.left)) → length now.held < CHUNK_BYTES → ((c.left ≡ b.left) × (c.last ≡ b.last)) ⊎ IsAtNeed b.left c.last was.held → HasRead was now result
+  read_as was now r result e given over few need = record {
     given = λ still. subst (GivesLine b.left c.left was.held now) e (given still);
     over = λ ended_now. let o = over ended_now in (sym e ∙ o.0, o.1);
     few = few;
+    need = need;
   }
 
   -- a read failed
@@ -245,7 +252,7 @@ module _ (x : Known) (n : ℕ) (a b c : Standing) where
       on false e = after_all a.left b.left c.left q.lines was now e q.plain q.read (r.given e)
 
       by : (e : Bool) → was.ended ≡ e → Talks x [] a c 0
-      by e is = finished was q [] (on e is) 0 [] 0 (not_quit x a.left c.left q.lines [] (on e is) n q.count few q.answered refl) few refl (inl (refl, subst (λ w. Appends b.written w []) (sym same) (appends_nothing b.written)))
+      by e is = finished was q [] (on e is) 0 [] 0 (not_quit x a.left c.left q.lines [] (on e is) n q.count few q.answered refl c.last) few refl (inl (refl, subst (λ w. Appends b.written w []) (sym same) (appends_nothing b.written)))
 
   -- the next line is too long, or is one too many
   pub long_there : (was now : Lined) (q : IsAsked x n was a b) → HasRead was now (Err LongLine) → Is_long a.left c.left q.lines
@@ -261,7 +268,7 @@ module _ (x : Known) (n : ℕ) (a b c : Standing) where
       let t : nat_le MOST_INPUT_LINES n ≡ false = lt-leb MOST_INPUT_LINES n few in
       let u : nat_lt MOST_LINE_BYTES (length l.first) ≡ true = lt-ltb MOST_LINE_BYTES (length l.first) l.long in
       let none : through_quit x n (l.first ∷ l.more) ≡ None = rw (t, u) in
-      finished was q (l.first ∷ l.more) l.on 7 (codes "long line\n") result (not_quit x a.left c.left q.lines (l.first ∷ l.more) l.on n q.count (omega arith) q.answered none) (omega arith) (long_text x n l.first l.more few l.long) f
+      finished was q (l.first ∷ l.more) l.on 7 (codes "long line\n") result (not_quit x a.left c.left q.lines (l.first ∷ l.more) l.on n q.count (omega arith) q.answered none c.last) (omega arith) (long_text x n l.first l.more few l.long) f
 
   -- ---- one line more
 
@@ -269,6 +276,7 @@ module _ (x : Known) (n : ℕ) (a b c : Standing) where
     pub plain : ArePlain (q.lines ++ now.line ∷ [])
     pub short : length now.line ≤ MOST_LINE_BYTES
     pub read : IsReadTo a.left c.left now (q.lines ++ now.line ∷ [])
+    pub need : IsReadAtNeed a.left c.left c.last now (q.lines ++ now.line ∷ [])
     pub rest : List (List ℕ)
     pub on : Goes_on a.left c.left q.lines (now.line ∷ rest)
 
@@ -286,6 +294,7 @@ module _ (x : Known) (n : ℕ) (a b c : Standing) where
             plain = plain;
             short = g.1;
             read = read;
+            need = need_more a.left b.left c.left b.last c.last q.lines was now e q.read q.need g r.need;
             rest = m.0;
             on = record { commands = m.1.commands; told = m.1.told; lines = m.1.lines ∙ append_more q.lines now.line m.0 };
           }
@@ -295,7 +304,7 @@ module _ (x : Known) (n : ℕ) (a b c : Standing) where
       let many : nat_le MOST_INPUT_LINES n ≡ true = le-leb MOST_INPUT_LINES n (omega arith) in
       let t : answers_from x n (l ∷ rest) ≡ output 8 (codes "many lines\n") = rw many in
       let none : through_quit x n (l ∷ rest) ≡ None = rw many in
-      finished was q (l ∷ rest) on 8 (codes "many lines\n") result (not_quit x a.left c.left q.lines (l ∷ rest) on n q.count (omega arith) q.answered none) (omega arith) t f
+      finished was q (l ∷ rest) on 8 (codes "many lines\n") result (not_quit x a.left c.left q.lines (l ∷ rest) on n q.count (omega arith) q.answered none c.last) (omega arith) t f
 
   -- what becomes of the line
   pub goes_on : (was now : Lined) (q : IsAsked x n was a b) (result : Option ℕ) → HasRead was now (Ok true) → n < MOST_INPUT_LINES → b.reads ≤ c.reads → b.writes ≤ c.writes → Becomes x now.line b.written c.written b.writes c.writes result → Goes x n now a c result
@@ -307,6 +316,7 @@ module _ (x : Known) (n : ℕ) (a b c : Standing) where
         plain = h.plain;
         answered = answered_more x q.lines now.line q.answered h.short goes none;
         read = h.read;
+        need = h.need;
         written = subst (Appends a.written c.written) (sym (texts_more x q.lines now.line)) (appends_twice a.written b.written c.written (texts x q.lines) (text_of x now.line) q.written w);
         reads = omega (arith, q.reads);
         writes = omega (arith, q.writes);
@@ -314,12 +324,12 @@ module _ (x : Known) (n : ℕ) (a b c : Standing) where
   goes_on was now q (Some _) r few reads writes (quit ends none w) =
       let h = has_line was now q r in
       let bytes = no_further a.left c.left (q.lines ++ now.line ∷ []) now h.on.commands h.on.told h.read r.few in
-      let further = was_quit x a.left c.left q.lines h.rest now.line h.on n q.count few h.short (rw ends refl) q.answered bytes in
+      let further = was_quit x a.left c.left q.lines h.rest now.line h.on n q.count few h.short (rw ends refl) q.answered c.last (both_bytes a.left c.left c.last q.lines now h.on.commands h.on.told h.need bytes) in
       finished was q (now.line ∷ h.rest) h.on 0 (text_of x now.line) 0 further (omega arith) (quit_text x n now.line h.rest few h.short ends none) (inl (refl, w))
   goes_on was now q (Some _) r few reads writes (refused error status failed f) =
       let h = has_line was now q r in
       let bytes = no_further a.left c.left (q.lines ++ now.line ∷ []) now h.on.commands h.on.told h.read r.few in
-      let further = was_quit x a.left c.left q.lines h.rest now.line h.on n q.count few h.short (or_some (is_quit now.line) (failure_of x now.line) error failed) q.answered bytes in
+      let further = was_quit x a.left c.left q.lines h.rest now.line h.on n q.count few h.short (or_some (is_quit now.line) (failure_of x now.line) error failed) q.answered c.last (both_bytes a.left c.left c.last q.lines now h.on.commands h.on.told h.need bytes) in
       finished was q (now.line ∷ h.rest) h.on 6 (refused_replay x.program (error_of error)) status further (omega arith) (failed_text x n now.line h.rest error few h.short failed) f
   goes_on was now q (Some _) r few reads writes (unwritten_line none rose part) =
       let h = has_line was now q r in
@@ -336,6 +346,28 @@ module _ (x : Known) (n : ℕ) (a b c : Standing) where
       let all = all_answered x a.left c.left q.lines (now.line ∷ h.rest) h.on few' q.answered in
       let w : Appends a.written c.written (texts x q.lines) = subst (λ v. Appends a.written v (texts x q.lines)) (sym same) q.written in
       unfinished h.on.commands h.on.told (subst (λ (o : Output). AppendsFront a.written c.written o.text) (sym all) (front_after a.written c.written (texts x q.lines) (answers_from x (length q.lines) (now.line ∷ h.rest)).text w))
+
+-- before the first line
+read_none : (o : Option (List ℕ)) → IsReadTo o o (record { line = []; held = []; ended = false }) []
+read_none None = tt
+read_none (Some xs) = refl
+
+need_none : (o last : Option (List ℕ)) → IsReadAtNeed o o last (record { line = []; held = []; ended = false }) []
+need_none None last = tt
+need_none (Some xs) last = inl (refl, refl)
+
+pub asked_none : (x : Known) (r : Lined) (a : Standing) → r ≡ record { line = []; held = []; ended = false } → IsAsked x 0 r a a
+asked_none x r a new = record {
+  lines = [];
+  count = refl;
+  plain = tt;
+  answered = tt;
+  read = subst (λ (s : Lined). IsReadTo a.left a.left s []) (sym new) (read_none a.left);
+  need = subst (λ (s : Lined). IsReadAtNeed a.left a.left a.last s []) (sym new) (need_none a.left a.last);
+  written = appends_nothing a.written;
+  reads = omega arith;
+  writes = omega arith;
+}
 
 -- what is mapped to something is something
 mapped : {A B : Type 0} (f : A → B) (o : Option A) (v : B) → option_map f o ≡ Some v → (a : A) × (o ≡ Some a) × (f a ≡ v)

@@ -17,7 +17,7 @@ use Rattle.ppd_top.specs.Output.{AppendsFront, Standing, Talks, answers, output}
 use Rattle.ppd_top.specs.Output.Talks.{whole, unread, unwritten, unfinished}
 use Rattle.ppd_top.specs.Ran.{Drilled, Drills, Flows, Refuses}
 use Rattle.ppd_top.specs.Ran.Drilled.{no_source, refused_drill, drilled}
-use Rattle.ppd_top.specs.Refusals.{refused}
+use Rattle.ppd_text_refusals.specs.Sources.{refused}
 use Rattle.ppd_top.specs.Top.{Answers, DrillCutOff, Finished, IsPromisedDrill, MemoryRanOut, WasDrilled, WasNotDrilled, WriteFailed, drill_commands, drill_options, drill_out, known_of, summary_of_run}
 use Rattle.ppd_top.specs.Top.Answers.{refusal, run}
 use Rattle.ppd_top.specs.Top.Writes.{for_number}

@@ -14,7 +14,7 @@ use Rattle.ppd_session.proofs.Answered.{run_answered}
 use Rattle.ppd_top.specs.declared.options.Options.{Options}
 use Rattle.ppd_top.specs.Output.{AreCommands, Standing, output}
 use Rattle.ppd_top.specs.Ran.{Flows, Refuses, Shows, WasTold}
-use Rattle.ppd_top.specs.Refusals.{refused}
+use Rattle.ppd_text_refusals.specs.Sources.{refused}
 use Rattle.ppd_top.specs.Top.{most_bytes, known_of, out_of, plan_of, summary_of_run, Writes, Finished, InputFailed, IsPromised, MemoryRanOut, RanWhole, WasCutOff, WasRead, WasRefused, WasShown, WriteFailed}
 use Rattle.ppd_top.specs.Top.Answers.{refusal, run, tables}
 use Rattle.ppd_top.specs.Top.Writes.{for_source}

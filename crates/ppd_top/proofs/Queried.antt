@@ -12,7 +12,7 @@ use Rattle.ppd_top_query.specs.Queries.Query.{Slice}
 use Rattle.ppd_top_query.specs.Replies.{IsFailed as IsQueryFailed}
 use Rattle.ppd_session.specs.declared.reply.SessionError.{SessionError}
 use Rattle.ppd_session.specs.declared.reply.SessionError.TheVariants.{Diverged, Sets, Memory}
-use Rattle.ppd_codec_runs.specs.Refusals.{refused_replay}
+use Rattle.ppd_text_refusals.specs.Recordings.{refused_replay}
 use Rattle.ppd_top.specs.Asking.{IsFailed}
 use Rattle.ppd_top_query.proofs.Ends.{queries_end, runs_are_told}
 use Rattle.ppd_codec_runs.specs.Recordings.{IsAccepted, IsRunRecorded, known_of}

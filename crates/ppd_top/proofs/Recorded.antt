@@ -31,7 +31,7 @@ module _ (words : List (Bor (List ℕ))) (name recording : List ℕ) (options : 
   read = was_read words x.held name options bytes loads (Run recording) asks program accepted
 
   keeps_any : Keeps (IsRecordingOfRun bytes program options schedule) recording (summary_of_run program options schedule) (kept_in x) (kept_in y) status → IsIn status (0 ∷ 4 ∷ 5 ∷ [])
-  keeps_any (not_kept is others written) = inr (inr (inl is))
+  keeps_any (not_kept is unstored written) = inr (inr (inl is))
   keeps_any (store_failed is rose others written) = inr (inl is)
   keeps_any (kept b of s others (inl h)) = inl h.0
   keeps_any (kept b of s others (inr h)) = inr (inl h.0)
@@ -45,7 +45,7 @@ module _ (words : List (Bor (List ℕ))) (name recording : List ℕ) (options : 
   run_others (inr r) = by r.keeps
     where
       by : Keeps (IsRecordingOfRun bytes program options schedule) recording (summary_of_run program options schedule) (kept_in x) (kept_in y) status → StoreFails x.held y.held recording
-      by (not_kept is others written) = others
+      by (not_kept is unstored written) = others_same x.held y.held recording unstored
       by (store_failed is rose others written) = others
       by (kept b of s others f) = others
 
@@ -54,7 +54,7 @@ module _ (words : List (Bor (List ℕ))) (name recording : List ℕ) (options : 
   run_stored (inr r) e = by r.keeps
     where
       by : Keeps (IsRecordingOfRun bytes program options schedule) recording (summary_of_run program options schedule) (kept_in x) (kept_in y) status → WasStored words x.held y.held schedule x.io.written y.io.written
-      by (not_kept is others written) = absurd (omega arith)
+      by (not_kept is unstored written) = absurd (omega arith)
       by (store_failed is rose others written) = absurd (omega arith)
       by (kept b of s others (inl h)) = record {
         recording = recording;
@@ -74,7 +74,7 @@ module _ (words : List (Bor (List ℕ))) (name recording : List ℕ) (options : 
     where
       by : Keeps (IsRecordingOfRun bytes program options schedule) recording (summary_of_run program options schedule) (kept_in x) (kept_in y) status
           → WriteFailed words x.held schedule x.io y.io ⊎ StoreFailed words x.held y.held x.stores y.stores schedule x.io.written y.io.written
-      by (not_kept is others written) = absurd (omega arith)
+      by (not_kept is unstored written) = absurd (omega arith)
       by (store_failed is rose others written) = inr (record {
         recording = recording;
         read = read;
@@ -95,11 +95,11 @@ module _ (words : List (Bor (List ℕ))) (name recording : List ℕ) (options : 
     where
       by : Keeps (IsRecordingOfRun bytes program options schedule) recording (summary_of_run program options schedule) (kept_in x) (kept_in y) status
           → MemoryRanOut x.held y.held schedule x.io.written y.io.written ⊎ WasNotStored words x.held y.held schedule x.io.written y.io.written
-      by (not_kept is others written) = inr (record {
+      by (not_kept is unstored written) = inr (record {
         recording = recording;
         read = read;
         whole = r.whole;
-        others = others;
+        kept = unstored;
         written = written;
       })
       by (store_failed is rose others written) = absurd (omega arith)
@@ -111,7 +111,7 @@ module _ (words : List (Bor (List ℕ))) (name recording : List ℕ) (options : 
   run_complete l m (inr r) p = by r.keeps
     where
       by : Keeps (IsRecordingOfRun bytes program options schedule) recording (summary_of_run program options schedule) (kept_in x) (kept_in y) status → (status ≡ 0) ⊎ (status ≡ 5)
-      by (not_kept is others written) = inr is
+      by (not_kept is unstored written) = inr is
       by (store_failed is rose others written) = absurd (p.no_store_fault recording (sym (one_command words (Run recording) p.command name p.name options p.options asks p.asked)) rose)
       by (kept b of s others (inl h)) = inl h.0
       by (kept b of s others (inr h)) = absurd (p.no_write_fault h.1)

@@ -1,14 +1,14 @@
 -- Lines that were read, and the lines of all bytes.
-use Rattle.std.specs.Prelude.{None, Some, Option, true, false, Ok, Err, IfSome, ◌==◌, if◌then◌else◌}
+use Rattle.std.specs.Prelude.{◌⊎◌, None, Some, Option, true, false, Ok, Err, IfSome, ◌==◌, if◌then◌else◌}
 use Rattle.std.proofs.Common.{◌≡◌, ◌≢◌, ◌<◌, ◌≤◌, ◌+◌, ℕ, suc, List, [], ◌∷◌, ◌++◌, length, length-append, Bool, refl, ap, sym, subst, ◌∙◌, append_assoc, append-nil, arith, inl, inr}
 use Rattle.ppd_ast.specs.declared.limits.TheConstants.{MOST_LINE_BYTES}
 use Rattle.ppd_io.specs.declared.bytes.TheConstants.{CHUNK_BYTES}
 use Rattle.ppd_io.specs.Content.{Takes}
 use Rattle.ppd_io.specs.declared.lines.LineError.TheVariants.{Failed, LongLine}
-use Rattle.ppd_io.specs.Lines.{EndsLine, GivesLine, HasNoNewline, Lined, before_lines, lines_of}
+use Rattle.ppd_io.specs.Lines.{EndsLine, GivesLine, HasNoNewline, IsAtNeed, Lined, before_lines, lines_of}
 use Rattle.ppd_io.proofs.Lining.{line_front, line_whole, told, took_all}
-use Rattle.ppd_top.specs.Asking.{IsReadTo, IsSplit}
-use Rattle.ppd_top.specs.Output.{AreCommands, ArePlain, ended}
+use Rattle.ppd_top.specs.Asking.{IsReadAtNeed, IsReadTo, IsSplit}
+use Rattle.ppd_top.specs.Output.{AreCommands, AreNotYetTaken, ArePlain, ended}
 
 pub ended_more : (ls : List (List ℕ)) (l : List ℕ) → ended (ls ++ l ∷ []) ≡ ended ls ++ (l ++ 10 ∷ [])
 ended_more [] l = append-nil (l ++ 10 ∷ [])
@@ -165,3 +165,97 @@ no_further (Some xs) (Some zs) lines now commands told read few = by now.ended r
     by true s =
         let n : length xs ≤ length (ended lines) = subst (λ ls. length xs ≤ length (ended ls)) s.0 (all_ended xs) in
         omega (arith, same)
+
+-- ---- when did the last read begin
+
+-- bytes without a newline, before others, where a line stands
+within_line : (before rest line tail : List ℕ) → HasNoNewline before → before ++ rest ≡ line ++ 10 ∷ tail → length before ≤ length line
+within_line [] rest line tail plain e = omega arith
+within_line (b ∷ before) rest [] tail plain e =
+    let first : b ≡ 10 = cc in
+    absurd (plain.0 first)
+within_line (b ∷ before) rest (l ∷ line) tail plain e =
+    let later : before ++ rest ≡ line ++ 10 ∷ tail = cc in
+    let few = within_line before rest line tail plain.1 later in
+    omega (arith, few)
+
+-- or where the last line stands
+within_end : (before rest line after : List ℕ) → after ≡ [] → before ++ rest ≡ line ++ after → length before ≤ length line
+within_end before rest line after none e =
+    let f : before ++ rest ≡ line = e ∙ (ap (λ w. line ++ w) none ∙ append-nil line) in
+    let n : length before + length rest ≡ length line = sym (length-append before rest) ∙ ap length f in
+    omega (arith, n)
+
+line_length : (ls : List (List ℕ)) (l : List ℕ) → length (ended (ls ++ l ∷ [])) ≡ length (ended ls) + (length l + 1)
+line_length ls l = ap length (ended_more ls l) ∙ (length-append (ended ls) (l ++ 10 ∷ []) ∙ ap (λ n. length (ended ls) + n) (length-append l (10 ∷ [])))
+
+counted : (xs ys rest : List ℕ) (ls : List (List ℕ)) (held line all : List ℕ) → xs ≡ ended ls ++ (held ++ ys) → held ++ ys ≡ all ++ rest → length all ≤ length line → length xs < length (ended (ls ++ line ∷ [])) + length rest
+counted xs ys rest ls held line all s e few =
+    let n : length xs ≡ length (ended ls) + (length all + length rest) = ap length s ∙ (length-append (ended ls) (held ++ ys) ∙ ap (λ k. length (ended ls) + k) (ap length e ∙ length-append all rest)) in
+    let m = line_length ls line in
+    omega (arith, n, m, few)
+
+-- a read began, and no more than the line was at hand
+begun_within : (xs ys zs rest : List ℕ) (ls : List (List ℕ)) (was now : Lined) → IsAtNeed (Some ys) (Some rest) was.held → xs ≡ ended ls ++ (was.held ++ ys) → EndsLine (Some ys) (Some zs) was.held now → length xs < length (ended (ls ++ now.line ∷ [])) + length rest
+begun_within xs ys zs rest ls was now need s (inl t) =
+    let e : was.held ++ ys ≡ need.all ++ rest = took_all ys rest was.held need.all need.took in
+    let g : was.held ++ ys ≡ now.line ++ 10 ∷ (now.held ++ zs) = took_all ys zs was.held _ t.0 ∙ append_assoc now.line (10 ∷ now.held) zs in
+    counted xs ys rest ls was.held now.line need.all s e (within_line need.all rest now.line (now.held ++ zs) need.plain (sym e ∙ g))
+begun_within xs ys zs rest ls was now need s (inr t) =
+    let e : was.held ++ ys ≡ need.all ++ rest = took_all ys rest was.held need.all need.took in
+    let g : was.held ++ ys ≡ now.line ++ zs = took_all ys zs was.held now.line t.0 in
+    counted xs ys rest ls was.held now.line need.all s e (within_end need.all rest now.line zs t.2.left (sym e ∙ g))
+
+no_bytes : (l : List ℕ) → length l ≡ 0 → l ≡ []
+no_bytes [] e = refl
+no_bytes (b ∷ l) e = absurd (omega (arith, e))
+
+-- where nothing is held and nothing is read, no line comes
+not_unread : (ys zs : List ℕ) (was now : Lined) → zs ≡ ys → was.held ≡ [] → EndsLine (Some ys) (Some zs) was.held now → ⊥
+not_unread ys zs was now same empty (inl t) =
+    let g : ys ≡ now.line ++ 10 ∷ (now.held ++ zs) = ap (λ w. w ++ ys) (sym empty) ∙ (took_all ys zs was.held _ t.0 ∙ append_assoc now.line (10 ∷ now.held) zs) in
+    let n : length ys ≡ length now.line + suc (length now.held + length zs) = ap length g ∙ (length-append now.line (10 ∷ (now.held ++ zs)) ∙ ap (λ k. length now.line + suc k) (length-append now.held zs)) in
+    let m : length zs ≡ length ys = ap length same in
+    omega (arith, n, m)
+not_unread ys zs was now same empty (inr t) =
+    let g : ys ≡ now.line ++ zs = ap (λ w. w ++ ys) (sym empty) ∙ took_all ys zs was.held now.line t.0 in
+    let n : length ys ≡ length now.line + length zs = ap length g ∙ length-append now.line zs in
+    let m : length zs ≡ length ys = ap length same in
+    let none : now.line ≡ [] = no_bytes now.line (omega (arith, n, m)) in
+    t.1 none
+
+one_line : (xs ys zs : List ℕ) (before last : Option (List ℕ)) (ls : List (List ℕ)) (was now : Lined) → xs ≡ ended ls ++ (was.held ++ ys) → ((ls ≡ []) × (was.held ≡ [])) ⊎ AreNotYetTaken xs ls before → EndsLine (Some ys) (Some zs) was.held now
+    → ((Some zs ≡ Some ys) × (last ≡ before)) ⊎ IsAtNeed (Some ys) last was.held → AreNotYetTaken xs (ls ++ now.line ∷ []) last
+one_line xs ys zs before None ls was now s need ends how = tt
+one_line xs ys zs before (Some rest) ls was now s need ends (inr begun) = begun_within xs ys zs rest ls was now begun s ends
+one_line xs ys zs before (Some rest) ls was now s (inl first) ends (inl same) =
+    let told = same.0 in
+    let e : zs ≡ ys = cc in
+    absurd (not_unread ys zs was now e first.1 ends)
+one_line xs ys zs before (Some rest) ls was now s (inr need) ends (inl same) =
+    let k : length xs < length (ended ls) + length rest = subst (AreNotYetTaken xs ls) (sym same.1) need in
+    let m = line_length ls now.line in
+    omega (arith, k, m)
+
+-- after one line more
+pub need_more : (a b c before last : Option (List ℕ)) (ls : List (List ℕ)) (was now : Lined) → was.ended ≡ false → IsReadTo a b was ls → IsReadAtNeed a b before was ls → GivesLine b c was.held now (Ok true) → ((c ≡ b) × (last ≡ before)) ⊎ IsAtNeed b last was.held
+    → IsReadAtNeed a c last now (ls ++ now.line ∷ [])
+need_more None b c before last ls was now still read need g how = tt
+need_more (Some xs) b None before last ls was now still read need g how = tt
+need_more (Some xs) None (Some zs) before last ls was now still read need (here, few, inl t) how = absurd t.0.takes
+need_more (Some xs) None (Some zs) before last ls was now still read need (here, few, inr t) how = absurd t.0.takes
+need_more (Some xs) (Some ys) (Some zs) before last ls was now still read need g how =
+    let s : xs ≡ ended ls ++ (was.held ++ ys) = subst (λ b. IsSplit b xs ls (was.held ++ ys)) still read in
+    inr (one_line xs ys zs before last ls was now s need g.2 how)
+
+never_empty : (ls : List (List ℕ)) (l : List ℕ) → ls ++ l ∷ [] ≡ [] → ⊥
+never_empty [] l e = absurd (cc)
+never_empty (k ∷ ls) l e = absurd (cc)
+
+-- how far was read, and when the last read began
+pub both_bytes : (a c last : Option (List ℕ)) (ls : List (List ℕ)) (now : Lined) (commands : List ℕ) → AreCommands a c commands → IsReadAtNeed a c last now (ls ++ now.line ∷ []) → IfSome c (λ rest. length commands < length (ended (ls ++ now.line ∷ [])) + CHUNK_BYTES + length rest)
+    → IfSome c (λ rest. (length commands < length (ended (ls ++ now.line ∷ [])) + CHUNK_BYTES + length rest) × AreNotYetTaken commands (ls ++ now.line ∷ []) last)
+both_bytes a None last ls now commands told need few = tt
+both_bytes None (Some zs) last ls now commands told need few = absurd told
+both_bytes (Some xs) (Some zs) last ls now commands told (inl none) few = absurd (never_empty ls now.line none.0)
+both_bytes (Some xs) (Some zs) last ls now commands told (inr need) few = (few, subst (λ w. AreNotYetTaken w (ls ++ now.line ∷ []) last) (sym told) need)

@@ -25,7 +25,7 @@ use Rattle.ppd_top.specs.Words.{AreInRange}
 use Rattle.ppd_top.proofs.Talked.{summary_from}
 
 keeps_as : (P Q : List ℕ → Type 0) (name summary : List ℕ) (x y : Keeping) (status : ℕ) → ((b : List ℕ) → P b → Q b) → Keeps P name summary x y status → Keeps Q name summary x y status
-keeps_as P Q name summary x y status f (not_kept is others written) = not_kept is others written
+keeps_as P Q name summary x y status f (not_kept is unstored written) = not_kept is unstored written
 keeps_as P Q name summary x y status f (store_failed is rose others written) = store_failed is rose others written
 keeps_as P Q name summary x y status f (kept b p s others end) = kept b (f b p) s others end
 
@@ -77,7 +77,7 @@ module _ (source : List ℕ) (program : Program) (options : Options) (h : List �
 
 module _ (held before : Option (List ℕ → Option (List ℕ))) (stores once : List ℕ → ℕ) (written : Option (List ℕ)) (writes : ℕ) (y : Keeping) (status : ℕ) (same : before ≡ held) (counts : (n : List ℕ) → once n ≡ stores n) where
   keeps_from : (P : List ℕ → Type 0) (name summary : List ℕ) → Keeps P name summary (keeping before once written writes) y status → Keeps P name summary (keeping held stores written writes) y status
-  keeps_from P name summary (not_kept is others w) = not_kept is (subst (λ h. StoreFails h y.held name) same others) w
+  keeps_from P name summary (not_kept is unstored w) = not_kept is (unstored ∙ same) w
   keeps_from P name summary (store_failed is rose others w) = store_failed is (subst (λ n. Rose n (y.stores name)) (counts name) rose) (subst (λ h. StoreFails h y.held name) same others) w
   keeps_from P name summary (kept b p s others end) = kept b p (subst (λ h. Stores h y.held name b) same s) (subst (λ h. StoreFails h y.held name) same others) end
 

@@ -93,7 +93,7 @@ module _ (x : Known) (head : List ℕ) (a b : Standing) where
   pub record IsWhole (status : ℕ) : Type 0 where
     pub commands : List ℕ
     pub told : AreCommands a.left b.left commands
-    pub unread : IsReadNoFurther x commands b.left
+    pub unread : IsReadNoFurther x commands b.left b.last
     pub status_is : status ≡ (answers x commands).status
     pub written : Appends a.written b.written (head ++ (answers x commands).text)
 

@@ -11,9 +11,9 @@ use Rattle.ppd_session.specs.Sessions.{error_of}
 use Rattle.ppd_session.specs.Texts.{failure_of, text_of}
 use Rattle.ppd_session.specs.declared.reply.SessionError.{SessionError}
 use Rattle.ppd_session.specs.declared.reply.SessionError.TheVariants.{Memory}
-use Rattle.ppd_codec_runs.specs.Refusals.{refused_replay}
+use Rattle.ppd_text_refusals.specs.Recordings.{refused_replay}
 use Rattle.ppd_top.specs.Top.{Finished}
-use Rattle.ppd_top.specs.Output.{AreAnswered, ArePlain, Standing, Talks, ended, texts}
+use Rattle.ppd_top.specs.Output.{AreAnswered, AreNotYetTaken, ArePlain, Standing, Talks, ended, texts}
 
 -- these lines were read of these bytes, and what is left of them: before the end was met, and after it
 abbrev pub IsSplit : Bool → (bytes : List ℕ) → (lines : List (List ℕ)) → (rest : List ℕ) → Type 0
@@ -26,6 +26,13 @@ IsReadTo old None r lines = Unit {0}
 IsReadTo None (Some ys) r lines = ⊥
 IsReadTo (Some xs) (Some ys) r lines = IsSplit r.ended xs lines (r.held ++ ys)
 
+-- no line was read, and nothing is held; or the lines that were read were not yet taken whole when the last read began:
+-- where the source's bytes are told
+abbrev pub IsReadAtNeed : Option (List ℕ) → Option (List ℕ) → (last : Option (List ℕ)) → Lined → List (List ℕ) → Type 0
+IsReadAtNeed None new last r lines = Unit {0}
+IsReadAtNeed (Some xs) None last r lines = Unit {0}
+IsReadAtNeed (Some xs) (Some ys) last r lines = ((lines ≡ []) × (r.held ≡ [])) ⊎ AreNotYetTaken xs lines last
+
 -- n lines were read and answered
 pub record IsAsked (x : Known) (n : ℕ) (r : Lined) (a b : Standing) : Type 0 where
   pub lines : List (List ℕ)
@@ -33,6 +40,7 @@ pub record IsAsked (x : Known) (n : ℕ) (r : Lined) (a b : Standing) : Type 0 w
   pub plain : ArePlain lines
   pub answered : AreAnswered x lines
   pub read : IsReadTo a.left b.left r lines
+  pub need : IsReadAtNeed a.left b.left b.last r lines
   pub written : Appends a.written b.written (texts x lines)
   pub reads : a.reads ≤ b.reads
   pub writes : a.writes ≤ b.writes

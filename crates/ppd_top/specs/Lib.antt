@@ -3,7 +3,6 @@ pub mod Asking
 pub mod Kept
 pub mod Output
 pub mod Ran
-pub mod Refusals
 pub mod Runs
 pub mod Summary
 pub mod Top

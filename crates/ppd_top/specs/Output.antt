@@ -11,7 +11,7 @@ use Rattle.ppd_session.specs.Questions.{is_quit}
 use Rattle.ppd_session.specs.Sessions.{FlowError}
 use Rattle.ppd_session.specs.Sessions.{error_of}
 use Rattle.ppd_session.specs.Texts.{failure_of, text_of}
-use Rattle.ppd_codec_runs.specs.Refusals.{refused_replay}
+use Rattle.ppd_text_refusals.specs.Recordings.{refused_replay}
 
 -- a status, and all that is written with it
 pub record Output : Type 0 where
@@ -82,12 +82,18 @@ through_quit x n (l ∷ ls) =
     else if is_quit l || is_some (failure_of x l) then Some (l ∷ [])
     else with_line l (through_quit x (n + 1) ls)
 
--- nothing was read after the line that so ended the answers: of the bytes behind its line fewer than are asked for at
--- once were taken, with those of the line
-abbrev pub IsReadNoFurther : Known → (commands : List ℕ) → (left : Option (List ℕ)) → Type 0
-IsReadNoFurther x commands left =
+-- these lines were not yet taken whole when the last read began: fewer bytes were taken before it than the lines have
+-- with their newlines
+abbrev pub AreNotYetTaken : (commands : List ℕ) → (lines : List (List ℕ)) → (last : Option (List ℕ)) → Type 0
+AreNotYetTaken commands lines last = IfSome last (λ rest. length commands < length (ended lines) + length rest)
+
+-- no read follows the line that so ended the answers: when the last one began, that line was not yet taken whole; and
+-- of the bytes behind it fewer than are asked for at once were taken
+abbrev pub IsReadNoFurther : Known → (commands : List ℕ) → (left last : Option (List ℕ)) → Type 0
+IsReadNoFurther x commands left last =
     IfSome (through_quit x 0 (lines_of commands)) (λ lines. IfSome left
-    (λ rest. length commands < length (ended lines) + CHUNK_BYTES + length rest))
+    (λ rest. (length commands < length (ended lines) + CHUNK_BYTES + length rest)
+    × AreNotYetTaken commands lines last))
 
 -- the whole lines among these bytes, and what stands after them
 pub record AreWholeLines (bytes : List ℕ) (lines : List (List ℕ)) (rest : List ℕ) : Type 0 where
@@ -107,15 +113,18 @@ AppendsFront old new bytes = (k : ℕ) × (k ≤ length bytes) × Appends old ne
 
 -- ---- what comes of asking
 
--- an input and an output: what is told of the bytes left and of those written, and their counts of faults
+-- an input and an output: what is told of the bytes left, of those left when the last read began, and of those written,
+-- and their counts of faults
 pub record Standing : Type 0 where
   pub left : Option (List ℕ)
+  pub last : Option (List ℕ)
   pub reads : ℕ
   pub written : Option (List ℕ)
   pub writes : ℕ
 
-abbrev pub standing : Option (List ℕ) → ℕ → Option (List ℕ) → ℕ → Standing
-standing left reads written writes = record { left = left; reads = reads; written = written; writes = writes }
+abbrev pub standing : (left last : Option (List ℕ)) → ℕ → Option (List ℕ) → ℕ → Standing
+standing left last reads written writes =
+    record { left = left; last = last; reads = reads; written = written; writes = writes }
 
 -- a read failed: the answers to the whole lines among the bytes taken were written, and none of these lines ends the
 -- answers
@@ -133,7 +142,7 @@ pub record IsBroken (x : Known) (head : List ℕ) (a b : Standing) : Type 0 wher
 -- from one standing to another by this status: all was written; a read failed; a write failed, after a proper prefix;
 -- or memory ran out, after some prefix
 pub data Talks (x : Known) (head : List ℕ) (a b : Standing) : ℕ → Type 0 where
-  whole : (commands : List ℕ) → AreCommands a.left b.left commands → IsReadNoFurther x commands b.left
+  whole : (commands : List ℕ) → AreCommands a.left b.left commands → IsReadNoFurther x commands b.left b.last
       → Appends a.written b.written (head ++ (answers x commands).text) → Talks x head a b (answers x commands).status
   unread : IsBroken x head a b → Talks x head a b 3
   unwritten : (commands : List ℕ) → AreCommands a.left b.left commands → Rose a.writes b.writes

@@ -19,7 +19,7 @@ use Rattle.ppd_top.specs.declared.options.Options.{Options}
 use Rattle.ppd_top.specs.declared.following.FollowError.{FollowError}
 use Rattle.ppd_top.specs.declared.following.FollowError.TheVariants.{Refused, NotEnabled, NotWhole, LongLine, ManyLines, Memory}
 use Rattle.ppd_top.specs.Output.{AppendsFront, Standing, Talks, output}
-use Rattle.ppd_top.specs.Refusals.{refused}
+use Rattle.ppd_text_refusals.specs.Sources.{refused}
 use Rattle.ppd_top.specs.Top.{EndsWith, Finished, IsStuckAt, IsUnfinished, IsWholeRun, drill_options, drill_out, known_of, most_bytes, out_of, plan_of, summary_of_run, usage, most_recording, IsRecordingOfRun}
 use Rattle.ppd_top_query.specs.Queries.{Gives, Query}
 use Rattle.ppd_top.specs.Words.{Asks, AsksDebug, AsksDrill, AsksQuery, AsksRecording, Command, IsNotAsked}
@@ -62,10 +62,10 @@ pub record Keeping : Type 0 where
 abbrev pub keeping : Option (List ℕ → Option (List ℕ)) → (List ℕ → ℕ) → Option (List ℕ) → ℕ → Keeping
 keeping held stores written writes = record { held = held; stores = stores; written = written; writes = writes }
 
--- a recording was to be stored under a name, and then a summary written: memory ran out, or the store failed, and
--- nothing was written; or the recording was stored
+-- a recording was to be stored under a name, and then a summary written: memory ran out, and the shelf is as before, or
+-- the store failed, and nothing was written; or the recording was stored
 pub data Keeps (IsRecording : List ℕ → Type 0) (name summary : List ℕ) (x y : Keeping) (status : ℕ) : Type 0 where
-  not_kept : status ≡ 5 → StoreFails x.held y.held name → y.written ≡ x.written
+  not_kept : status ≡ 5 → y.held ≡ x.held → y.written ≡ x.written
       → Keeps IsRecording name summary x y status
   store_failed : status ≡ 4 → Rose (x.stores name) (y.stores name) → StoreFails x.held y.held name
       → y.written ≡ x.written → Keeps IsRecording name summary x y status

@@ -22,7 +22,7 @@ use Rattle.ppd_top.specs.declared.options.Options.{Options}
 use Rattle.ppd_top.specs.declared.following.FollowError.{FollowError}
 use Rattle.ppd_top.specs.declared.following.FollowError.TheVariants.{Refused, NotEnabled, NotWhole, LongLine, ManyLines, Memory}
 use Rattle.ppd_top.specs.Output.{AppendsFront, AreCommands, AreFine, IsBroken, IsReadNoFurther, Output, Standing, answers, before, output}
-use Rattle.ppd_top.specs.Refusals.{refused}
+use Rattle.ppd_text_refusals.specs.Sources.{refused}
 use Rattle.ppd_top.specs.Summary.{summary}
 use Rattle.ppd_top.specs.Words.{Asks, AsksDebug, AsksDrill, AsksQuery, AsksRecording, Command, IsNotAsked}
 use Rattle.ppd_top.specs.Words.Command.{Flow, Run, Show}
@@ -159,7 +159,7 @@ pub record RanWhole (words : List (Bor (List ℕ))) (held : Option (List ℕ →
   pub commands : List ℕ
   pub whole : IsWholeRun read.program read.options schedule
   pub told : AreCommands a.left b.left commands
-  pub unread : IsReadNoFurther (known_of read.program read.options schedule) commands b.left
+  pub unread : IsReadNoFurther (known_of read.program read.options schedule) commands b.left b.last
   pub status_is : status ≡ (out_of read.program read.options schedule commands).status
   pub written : Appends a.written b.written (out_of read.program read.options schedule commands).text
   pub agreeing : IsOfAgreeing read.program read.options schedule commands
@@ -217,7 +217,7 @@ pub record WasAnswered (words : List (Bor (List ℕ))) (held : Option (List ℕ 
   pub recalled : IsRecalledFrom words held recording
   pub no_run : schedule ≡ []
   pub told : AreCommands a.left b.left commands
-  pub unread : IsReadNoFurther (known_of_recording recording) commands b.left
+  pub unread : IsReadNoFurther (known_of_recording recording) commands b.left b.last
   pub status_is : status ≡ (answers (known_of_recording recording) commands).status
   pub written : Appends a.written b.written (answers (known_of_recording recording) commands).text
 
@@ -375,13 +375,13 @@ pub record WasCutOff (words : List (Bor (List ℕ))) (held : Option (List ℕ �
   pub told : AreCommands a.left b.left commands
   pub written : AppendsFront a.written b.written (out_of read.program read.options schedule commands).text
 
--- or in `run` want of memory after the run, and nothing was written
+-- or in `run` want of memory after the run: the shelf is as before, and nothing was written
 pub record WasNotStored (words : List (Bor (List ℕ))) (held now : Option (List ℕ → Option (List ℕ)))
     (schedule : List ℕ) (old new : Option (List ℕ)) : Type 0 where
   pub recording : List ℕ
   pub read : WasRead words held (Run recording)
   pub whole : IsWholeRun read.program read.options schedule
-  pub others : StoreFails held now recording
+  pub kept : now ≡ held
   pub written : new ≡ old
 
 -- or in `drill` want of memory after the run, and a prefix of what the command writes went out

@@ -10,9 +10,9 @@ ghost use Rattle.ppd_top.specs.Top.{Finished};
 
 use ppd_ast::limits::MOST_INPUT_LINES;
 use ppd_ast::{Memory, Program};
-use ppd_codec_runs::replay_line;
 use ppd_io::{LineError, LineReader, Sink, Source, put_all};
 use ppd_session::{Reply, Session, SessionError};
+use ppd_text_refusals::replay_line;
 use std::alloc::Global;
 
 const LONG_LINE: &[u8] = b"long line\n";
@@ -98,9 +98,11 @@ fn answer_next<I: Source, O: Sink>(
 ) -> Option<u8>
     requires { session.old.program ≡ program.now }
     ensures goes { (a : Standing) (n : ℕ) → n < MOST_INPUT_LINES
-        → IsAsked session.old n reader.old a (standing (I.left input.old) (I.faults input.old) (O.written output.old)
+        → IsAsked session.old n reader.old a (standing (I.left input.old) (I.before_last input.old)
+        (I.faults input.old) (O.written output.old)
         (O.faults output.old)) → Goes session.old n reader.new a
-        (standing (I.left input.new) (I.faults input.new) (O.written output.new) (O.faults output.new)) result }
+        (standing (I.left input.new) (I.before_last input.new)
+        (I.faults input.new) (O.written output.new) (O.faults output.new)) result }
     ensures same { session.new ≡ session.old }
 {
     match reader.next(input) {
@@ -114,8 +116,10 @@ fn answer_next<I: Source, O: Sink>(
 /// Ends after as many lines as there may be: with one more they are too many.
 fn end_lines<I: Source, O: Sink>(reader: &mut LineReader, input: &mut I, output: &mut O) -> u8
     ensures { (a : Standing) → (x : Known) → IsAsked x MOST_INPUT_LINES reader.old a
-        (standing (I.left input.old) (I.faults input.old) (O.written output.old) (O.faults output.old))
-        → Talks x [] a (standing (I.left input.new) (I.faults input.new) (O.written output.new)
+        (standing (I.left input.old) (I.before_last input.old)
+        (I.faults input.old) (O.written output.old) (O.faults output.old))
+        → Talks x [] a (standing (I.left input.new) (I.before_last input.new)
+        (I.faults input.new) (O.written output.new)
         (O.faults output.new)) result }
 {
     match reader.next(input) {
@@ -138,9 +142,11 @@ pub(crate) fn talk<I: Source, O: Sink>(
 ) -> u8
     requires program { session.old.program ≡ program.now }
     requires reader { reader.old ≡ record { line = []; held = []; ended = false } }
-    ensures { Talks session.old [] (standing (I.left input.old) (I.faults input.old) (O.written output.old)
-        (O.faults output.old)) (standing (I.left input.new) (I.faults input.new) (O.written output.new)
-        (O.faults output.new)) result }
+    ensures { Talks session.old []
+        (standing (I.left input.old) (I.before_last input.old)
+        (I.faults input.old) (O.written output.old) (O.faults output.old))
+        (standing (I.left input.new) (I.before_last input.new)
+        (I.faults input.new) (O.written output.new) (O.faults output.new)) result }
 {
     for _number in 0..MOST_INPUT_LINES {
         if let Some(status) = answer_next(alloc, program, session, reader, input, output) {

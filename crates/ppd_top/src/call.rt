@@ -15,7 +15,6 @@ use crate::debugging::debug;
 use crate::drilling::drill;
 use crate::flow::{flow, show};
 use crate::querying::tell_query;
-use crate::refusal::refusal_line;
 use crate::run::{Means, Task};
 use crate::storing::{RecordTask, record_run};
 use crate::words::{Command, Request, SourceRequest, asked};
@@ -23,6 +22,7 @@ use ppd_ast::limits::{MOST_RECORDING_BYTES, MOST_SOURCE_BYTES};
 use ppd_ast::{Bytes, Memory, Seq};
 use ppd_check::{SourceError, read_source};
 use ppd_io::{Gate, Shelf, ShelfError, Sink, Source};
+use ppd_text_refusals::refusal_line;
 use ppd_top_query::Query;
 use std::alloc::Global;
 use std::sync::Wait;
@@ -67,15 +67,15 @@ const MOST_RECORDING: usize = MOST_RECORDING_BYTES + 1;
 /// - 3: the shelf failed to load the source or the recording, and nothing was written; or in `flow` and `debug` a read
 ///   of the input failed, and in `flow` the summary, in both the answers to the whole lines before were written.
 /// - 4: the output failed, and a proper prefix of what belongs there was written; or in `run` the store failed.
-/// - 5: want of memory, and a prefix of what belongs there was written; nothing where no run came to its end. It may
-///   come whatever the words are.
+/// - 5: want of memory, and a prefix of what belongs there was written; nothing where no run came to its end. The shelf
+///   holds what it held. It may come whatever the words are.
 /// - 6: in `debug` and `slice` the recording is refused, and the line that says why was written; or a replay failed that
 ///   the answer needs, to a line in `debug`, and the answers before it and the line that says so were written.
 /// - 7: in `flow` or `debug` a line has more than 4,096 bytes, and `long line` was written in place of its answer.
 /// - 8: in `flow` or `debug` there is a line number 65,537 and no `quit` before it, and `many lines` was written.
 ///
-/// In `run`, `show`, `drill` and `slice` the input is not read; in `show`, `debug` and `slice` the gate is not called. But
-/// for a store of `run` the shelf holds what it held.
+/// No read follows the `quit` line. In `run`, `show`, `drill` and `slice` the input is not read; in `show`, `debug` and
+/// `slice` the gate is not called. But for a store of `run` the shelf holds what it held.
 pub fn ppd<F: Shelf, I: Source, O: Sink, G: Gate, R: Threads + Wait + Sync>(
     rt: &R,
     alloc: Global,
@@ -87,22 +87,30 @@ pub fn ppd<F: Shelf, I: Source, O: Sink, G: Gate, R: Threads + Wait + Sync>(
 ) -> Outcome
     ensures range { result.status < 9 }
     ensures run { result.status ≡ 0 → RanWhole words.now (F.held shelf.old) result.schedule
-        (standing (I.left input.old) (I.faults input.old) (O.written output.old) (O.faults output.old))
-        (standing (I.left input.new) (I.faults input.new) (O.written output.new) (O.faults output.new)) 0
+        (standing (I.left input.old) (I.before_last input.old)
+        (I.faults input.old) (O.written output.old) (O.faults output.old))
+        (standing (I.left input.new) (I.before_last input.new)
+        (I.faults input.new) (O.written output.new) (O.faults output.new)) 0
         ⊎ (WasShown words.now (F.held shelf.old) result.schedule (O.written output.old) (O.written output.new)
         ⊎ (WasStored words.now (F.held shelf.old) (F.held shelf.new) result.schedule (O.written output.old)
         (O.written output.new)
         ⊎ (WasAnswered words.now (F.held shelf.old) result.schedule
-        (standing (I.left input.old) (I.faults input.old) (O.written output.old) (O.faults output.old))
-        (standing (I.left input.new) (I.faults input.new) (O.written output.new) (O.faults output.new)) 0
+        (standing (I.left input.old) (I.before_last input.old)
+        (I.faults input.old) (O.written output.old) (O.faults output.old))
+        (standing (I.left input.new) (I.before_last input.new)
+        (I.faults input.new) (O.written output.new) (O.faults output.new)) 0
         ⊎ (WasDrilled words.now result.schedule (O.written output.old) (O.written output.new)
         ⊎ WasQueried words.now (F.held shelf.old) result.schedule (O.written output.old) (O.written output.new) 0)))) }
     ensures lines { (result.status ≡ 7) ⊎ (result.status ≡ 8) → RanWhole words.now (F.held shelf.old) result.schedule
-        (standing (I.left input.old) (I.faults input.old) (O.written output.old) (O.faults output.old))
-        (standing (I.left input.new) (I.faults input.new) (O.written output.new) (O.faults output.new)) result.status
+        (standing (I.left input.old) (I.before_last input.old)
+        (I.faults input.old) (O.written output.old) (O.faults output.old))
+        (standing (I.left input.new) (I.before_last input.new)
+        (I.faults input.new) (O.written output.new) (O.faults output.new)) result.status
         ⊎ WasAnswered words.now (F.held shelf.old) result.schedule
-        (standing (I.left input.old) (I.faults input.old) (O.written output.old) (O.faults output.old))
-        (standing (I.left input.new) (I.faults input.new) (O.written output.new) (O.faults output.new)) result.status }
+        (standing (I.left input.old) (I.before_last input.old)
+        (I.faults input.old) (O.written output.old) (O.faults output.old))
+        (standing (I.left input.new) (I.before_last input.new)
+        (I.faults input.new) (O.written output.new) (O.faults output.new)) result.status }
     ensures refused { result.status ≡ 1 → WasRefused words.now (F.held shelf.old) (O.written output.old)
         (O.written output.new)
         ⊎ WasNotDrilled words.now (O.written output.old) (O.written output.new) }
@@ -111,46 +119,64 @@ pub fn ppd<F: Shelf, I: Source, O: Sink, G: Gate, R: Threads + Wait + Sync>(
         → LoadFailed words.now (F.failed_loads shelf.old) (F.failed_loads shelf.new) result.schedule
         (O.written output.old) (O.written output.new)
         ⊎ (InputFailed words.now (F.held shelf.old) result.schedule
-        (standing (I.left input.old) (I.faults input.old) (O.written output.old) (O.faults output.old))
-        (standing (I.left input.new) (I.faults input.new) (O.written output.new) (O.faults output.new))
+        (standing (I.left input.old) (I.before_last input.old)
+        (I.faults input.old) (O.written output.old) (O.faults output.old))
+        (standing (I.left input.new) (I.before_last input.new)
+        (I.faults input.new) (O.written output.new) (O.faults output.new))
         ⊎ (RecordingUnread words.now (F.failed_loads shelf.old) (F.failed_loads shelf.new) result.schedule
         (O.written output.old) (O.written output.new)
         ⊎ LinesFailed words.now (F.held shelf.old) result.schedule
-        (standing (I.left input.old) (I.faults input.old) (O.written output.old) (O.faults output.old))
-        (standing (I.left input.new) (I.faults input.new) (O.written output.new) (O.faults output.new)))) }
+        (standing (I.left input.old) (I.before_last input.old)
+        (I.faults input.old) (O.written output.old) (O.faults output.old))
+        (standing (I.left input.new) (I.before_last input.new)
+        (I.faults input.new) (O.written output.new) (O.faults output.new)))) }
     ensures write { result.status ≡ 4 → WriteFailed words.now (F.held shelf.old) result.schedule
-        (standing (I.left input.old) (I.faults input.old) (O.written output.old) (O.faults output.old))
-        (standing (I.left input.new) (I.faults input.new) (O.written output.new) (O.faults output.new))
+        (standing (I.left input.old) (I.before_last input.old)
+        (I.faults input.old) (O.written output.old) (O.faults output.old))
+        (standing (I.left input.new) (I.before_last input.new)
+        (I.faults input.new) (O.written output.new) (O.faults output.new))
         ⊎ StoreFailed words.now (F.held shelf.old) (F.held shelf.new) (F.failed_stores shelf.old)
         (F.failed_stores shelf.new) result.schedule (O.written output.old) (O.written output.new) }
     ensures memory { result.status ≡ 5
         → MemoryRanOut (F.held shelf.old) (F.held shelf.new) result.schedule (O.written output.old)
         (O.written output.new)
         ⊎ (WasCutOff words.now (F.held shelf.old) result.schedule
-        (standing (I.left input.old) (I.faults input.old) (O.written output.old) (O.faults output.old))
-        (standing (I.left input.new) (I.faults input.new) (O.written output.new) (O.faults output.new))
+        (standing (I.left input.old) (I.before_last input.old)
+        (I.faults input.old) (O.written output.old) (O.faults output.old))
+        (standing (I.left input.new) (I.before_last input.new)
+        (I.faults input.new) (O.written output.new) (O.faults output.new))
         ⊎ (WasNotStored words.now (F.held shelf.old) (F.held shelf.new) result.schedule (O.written output.old)
         (O.written output.new)
         ⊎ (AnswersCutOff words.now (F.held shelf.old) result.schedule
-        (standing (I.left input.old) (I.faults input.old) (O.written output.old) (O.faults output.old))
-        (standing (I.left input.new) (I.faults input.new) (O.written output.new) (O.faults output.new))
+        (standing (I.left input.old) (I.before_last input.old)
+        (I.faults input.old) (O.written output.old) (O.faults output.old))
+        (standing (I.left input.new) (I.before_last input.new)
+        (I.faults input.new) (O.written output.new) (O.faults output.new))
         ⊎ DrillCutOff words.now result.schedule (O.written output.old) (O.written output.new)))) }
     ensures recording { result.status ≡ 6 → WasNotRecalled words.now (F.held shelf.old) result.schedule
-        (standing (I.left input.old) (I.faults input.old) (O.written output.old) (O.faults output.old))
-        (standing (I.left input.new) (I.faults input.new) (O.written output.new) (O.faults output.new))
+        (standing (I.left input.old) (I.before_last input.old)
+        (I.faults input.old) (O.written output.old) (O.faults output.old))
+        (standing (I.left input.new) (I.before_last input.new)
+        (I.faults input.new) (O.written output.new) (O.faults output.new))
         ⊎ (ReplayRefused words.now (F.held shelf.old) result.schedule
-        (standing (I.left input.old) (I.faults input.old) (O.written output.old) (O.faults output.old))
-        (standing (I.left input.new) (I.faults input.new) (O.written output.new) (O.faults output.new))
+        (standing (I.left input.old) (I.before_last input.old)
+        (I.faults input.old) (O.written output.old) (O.faults output.old))
+        (standing (I.left input.new) (I.before_last input.new)
+        (I.faults input.new) (O.written output.new) (O.faults output.new))
         ⊎ QueryRefused words.now (F.held shelf.old) result.schedule (O.written output.old) (O.written output.new)) }
     ensures complete { IsPromised words.now (F.held shelf.old) (F.failed_loads shelf.old) (F.failed_loads shelf.new)
         (F.failed_stores shelf.old) (F.failed_stores shelf.new)
-        (standing (I.left input.old) (I.faults input.old) (O.written output.old) (O.faults output.old))
-        (standing (I.left input.new) (I.faults input.new) (O.written output.new) (O.faults output.new))
+        (standing (I.left input.old) (I.before_last input.old)
+        (I.faults input.old) (O.written output.old) (O.faults output.old))
+        (standing (I.left input.new) (I.before_last input.new)
+        (I.faults input.new) (O.written output.new) (O.faults output.new))
         → (result.status ≡ 0) ⊎ (result.status ≡ 5) }
     ensures answers { IsPromisedAnswers words.now (F.held shelf.old) (F.failed_loads shelf.old)
         (F.failed_loads shelf.new)
-        (standing (I.left input.old) (I.faults input.old) (O.written output.old) (O.faults output.old))
-        (standing (I.left input.new) (I.faults input.new) (O.written output.new) (O.faults output.new))
+        (standing (I.left input.old) (I.before_last input.old)
+        (I.faults input.old) (O.written output.old) (O.faults output.old))
+        (standing (I.left input.new) (I.before_last input.new)
+        (I.faults input.new) (O.written output.new) (O.faults output.new))
         → (result.status ≡ 0) ⊎ (result.status ≡ 5) }
     ensures drills { IsPromisedDrill words.now (O.faults output.old) (O.faults output.new)
         → (result.status ≡ 0) ⊎ (result.status ≡ 5) }
@@ -184,9 +210,11 @@ fn answer<F: Shelf, I: Source, O: Sink, G: Gate, R: Threads + Wait + Sync>(
 ) -> Outcome
     ensures comes { Comes words.now
         (around (F.held shelf.old) (F.failed_loads shelf.old) (F.failed_stores shelf.old)
-        (standing (I.left input.old) (I.faults input.old) (O.written output.old) (O.faults output.old)))
+        (standing (I.left input.old) (I.before_last input.old)
+        (I.faults input.old) (O.written output.old) (O.faults output.old)))
         (around (F.held shelf.new) (F.failed_loads shelf.new) (F.failed_stores shelf.new)
-        (standing (I.left input.new) (I.faults input.new) (O.written output.new) (O.faults output.new)))
+        (standing (I.left input.new) (I.before_last input.new)
+        (I.faults input.new) (O.written output.new) (O.faults output.new)))
         result.schedule result.status }
     ensures input { (result.status ≡ 1) ⊎ ((result.status ≡ 2)
         ⊎ (((name : List ℕ) (options : OptionsOf) → Asks words.now Flow name options → ⊥)
@@ -225,9 +253,11 @@ fn on_source<F: Shelf, I: Source, O: Sink, G: Gate, R: Threads + Wait + Sync>(
     ensures comes { (words : List (Bor (List ℕ))) → Asks words
         (command_of request.now.command) request.now.name.now request.now.options → Comes words
         (around (F.held shelf.old) (F.failed_loads shelf.old) (F.failed_stores shelf.old)
-        (standing (I.left input.old) (I.faults input.old) (O.written output.old) (O.faults output.old)))
+        (standing (I.left input.old) (I.before_last input.old)
+        (I.faults input.old) (O.written output.old) (O.faults output.old)))
         (around (F.held shelf.new) (F.failed_loads shelf.new) (F.failed_stores shelf.new)
-        (standing (I.left input.new) (I.faults input.new) (O.written output.new) (O.faults output.new)))
+        (standing (I.left input.new) (I.before_last input.new)
+        (I.faults input.new) (O.written output.new) (O.faults output.new)))
         result.schedule result.status }
     ensures input { (result.status ≡ 1) ⊎ ((result.status ≡ 2) ⊎ (command_of request.now.command ≡ Flow → ⊥))
         → input.new ≡ input.old }
@@ -269,9 +299,11 @@ fn on_recording<F: Shelf, I: Source, O: Sink>(
 ) -> Outcome
     ensures comes { (words : List (Bor (List ℕ))) → AsksDebug words name.now → Comes words
         (around (F.held shelf.old) (F.failed_loads shelf.old) (F.failed_stores shelf.old)
-        (standing (I.left input.old) (I.faults input.old) (O.written output.old) (O.faults output.old)))
+        (standing (I.left input.old) (I.before_last input.old)
+        (I.faults input.old) (O.written output.old) (O.faults output.old)))
         (around (F.held shelf.new) (F.failed_loads shelf.new) (F.failed_stores shelf.new)
-        (standing (I.left input.new) (I.faults input.new) (O.written output.new) (O.faults output.new)))
+        (standing (I.left input.new) (I.before_last input.new)
+        (I.faults input.new) (O.written output.new) (O.faults output.new)))
         result.schedule result.status }
     ensures status { (result.status ≡ 1) ⊎ (result.status ≡ 2) → ⊥ }
 {
@@ -293,12 +325,12 @@ fn on_query<F: Shelf, O: Sink>(
     shelf: &mut F,
     output: &mut O,
 ) -> Outcome
-    ensures { (words : List (Bor (List ℕ))) (left : Option (List ℕ)) (reads : ℕ)
+    ensures { (words : List (Bor (List ℕ))) (left last : Option (List ℕ)) (reads : ℕ)
         → AsksQuery words name.now (query_of query.now) → Comes words
         (around (F.held shelf.old) (F.failed_loads shelf.old) (F.failed_stores shelf.old)
-        (standing left reads (O.written output.old) (O.faults output.old)))
+        (standing left last reads (O.written output.old) (O.faults output.old)))
         (around (F.held shelf.new) (F.failed_loads shelf.new) (F.failed_stores shelf.new)
-        (standing left reads (O.written output.new) (O.faults output.new)))
+        (standing left last reads (O.written output.new) (O.faults output.new)))
         result.schedule result.status }
 {
     match shelf.load(alloc, name, MOST_RECORDING) {

@@ -21,8 +21,10 @@ fn converse<I: Source, O: Sink>(
 ) -> u8
     requires { IsRecalled recalled.now }
     ensures { Talks (known_of recalled.now.recording) []
-        (standing (I.left input.old) (I.faults input.old) (O.written output.old) (O.faults output.old))
-        (standing (I.left input.new) (I.faults input.new) (O.written output.new) (O.faults output.new)) result }
+        (standing (I.left input.old) (I.before_last input.old)
+        (I.faults input.old) (O.written output.old) (O.faults output.old))
+        (standing (I.left input.new) (I.before_last input.new)
+        (I.faults input.new) (O.written output.new) (O.faults output.new)) result }
 {
     let past = Past {
         program: &recalled.recording.program,
@@ -54,8 +56,10 @@ pub(crate) fn debug<I: Source, O: Sink>(
     output: &mut O,
 ) -> u8
     ensures { Debugs bytes.now
-        (standing (I.left input.old) (I.faults input.old) (O.written output.old) (O.faults output.old))
-        (standing (I.left input.new) (I.faults input.new) (O.written output.new) (O.faults output.new)) result }
+        (standing (I.left input.old) (I.before_last input.old)
+        (I.faults input.old) (O.written output.old) (O.faults output.old))
+        (standing (I.left input.new) (I.before_last input.new)
+        (I.faults input.new) (O.written output.new) (O.faults output.new)) result }
 {
     match recall(alloc, bytes) {
         Err(NoRecall::Memory) => 5,

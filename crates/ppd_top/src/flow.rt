@@ -37,9 +37,9 @@ fn tables(alloc: Global, program: &Program, options: &Options) -> Result<Vec<u8>
 pub(crate) fn show<O: Sink>(alloc: Global, task: &Task<'_>, output: &mut O) -> Outcome
     requires program { IsValid task.now.program.now }
     requires policy { IsValidPolicy task.now.options.policy }
-    ensures { (left : Option (List ℕ)) (reads : ℕ) → Shows task.now.program.now task.now.options result.schedule
-        (standing left reads (O.written output.old) (O.faults output.old))
-        (standing left reads (O.written output.new) (O.faults output.new)) result.status }
+    ensures { (left last : Option (List ℕ)) (reads : ℕ) → Shows task.now.program.now task.now.options result.schedule
+        (standing left last reads (O.written output.old) (O.faults output.old))
+        (standing left last reads (O.written output.new) (O.faults output.new)) result.status }
 {
     match tables(alloc, task.program, &task.options) {
         Err(Memory) => ended(alloc, 5),
@@ -61,8 +61,10 @@ pub(crate) fn flow<I: Source, O: Sink, G: Gate, R: Threads + Wait + Sync>(
     requires budget { task.now.options.budget ≤ MOST_BUDGET }
     requires policy { IsValidPolicy task.now.options.policy }
     ensures { Flows task.now.program.now task.now.options result.schedule
-        (standing (I.left input.old) (I.faults input.old) (O.written output.old) (O.faults output.old))
-        (standing (I.left input.new) (I.faults input.new) (O.written output.new) (O.faults output.new)) result.status }
+        (standing (I.left input.old) (I.before_last input.old)
+        (I.faults input.old) (O.written output.old) (O.faults output.old))
+        (standing (I.left input.new) (I.before_last input.new)
+        (I.faults input.new) (O.written output.new) (O.faults output.new)) result.status }
 {
     let Ok(by) = run_task(means, task) else {
         return ended(means.alloc, 5);

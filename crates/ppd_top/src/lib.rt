@@ -1,5 +1,5 @@
-//! The top call: from words and bytes to the run of a program, its summary and the answers to questions about it, or to
-//! the program's static tables.
+//! The top call: from the words of a command and the bytes of files and of the input to what is written and stored, and
+//! to the status; and what a run by a schedule that is handed in would write.
 #![tactic(auto)]
 
 mod asking;
@@ -10,7 +10,6 @@ mod flow;
 mod following;
 mod options;
 mod querying;
-mod refusal;
 mod run;
 mod storing;
 mod summary;

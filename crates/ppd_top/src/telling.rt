@@ -33,8 +33,10 @@ fn tell_session<I: Source, O: Sink>(
     requires program { session.old.program ≡ run.now.program.now }
     requires few { length run.now.closed.ends < 2 ^ 62 }
     ensures { Talks session.old (summary_of run.now.program.now run.now.closed.ends session.old.races)
-        (standing (I.left input.old) (I.faults input.old) (O.written output.old) (O.faults output.old))
-        (standing (I.left input.new) (I.faults input.new) (O.written output.new) (O.faults output.new)) result }
+        (standing (I.left input.old) (I.before_last input.old)
+        (I.faults input.old) (O.written output.old) (O.faults output.old))
+        (standing (I.left input.new) (I.before_last input.new)
+        (I.faults input.new) (O.written output.new) (O.faults output.new)) result }
 {
     let Ok(text) = summary(alloc, run.program, run.closed.ends.as_slice(), session) else {
         return 5;
@@ -127,8 +129,10 @@ pub(crate) fn tell<I: Source, O: Sink>(
     requires { CanBeTold run.now.program.now run.now.plan run.now.budget run.now.closed }
     ensures { Talks (known_of_logs run.now.program.now run.now.plan run.now.budget run.now.closed.logs)
         (summary_of run.now.program.now run.now.closed.ends (races_of_logs run.now.program.now run.now.closed.logs))
-        (standing (I.left input.old) (I.faults input.old) (O.written output.old) (O.faults output.old))
-        (standing (I.left input.new) (I.faults input.new) (O.written output.new) (O.faults output.new)) result }
+        (standing (I.left input.old) (I.before_last input.old)
+        (I.faults input.old) (O.written output.old) (O.faults output.old))
+        (standing (I.left input.new) (I.before_last input.new)
+        (I.faults input.new) (O.written output.new) (O.faults output.new)) result }
 {
     let Ok(index) = index_of(alloc, run) else {
         return 5;

@@ -20,7 +20,7 @@ use Rattle.ppd_session.specs.declared.reply.SessionError.{SessionError}
 use Rattle.ppd_session.specs.declared.reply.SessionError.TheVariants.{Diverged, Sets, Memory}
 use Rattle.ppd_slice.specs.Slices.{places_found}
 use Rattle.ppd_codec_runs.specs.Recordings.{known_of}
-use Rattle.ppd_codec_runs.specs.Refusals.{refused_replay}
+use Rattle.ppd_text_refusals.specs.Recordings.{refused_replay}
 use Rattle.ppd_text_items.specs.Names.{process_name}
 
 -- ---- what is asked

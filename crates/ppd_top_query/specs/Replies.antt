@@ -4,7 +4,7 @@ use Rattle.ppd_session.specs.Known.{Known}
 use Rattle.ppd_session.specs.Texts.{told_at}
 use Rattle.ppd_session.specs.declared.reply.SessionError.{SessionError}
 use Rattle.ppd_session.specs.declared.reply.SessionError.TheVariants.{Memory}
-use Rattle.ppd_codec_runs.specs.Refusals.{refused_replay}
+use Rattle.ppd_text_refusals.specs.Recordings.{refused_replay}
 use Rattle.ppd_top_query.specs.Queries.{IsFailure, IsSliceText, IsWritten, ItemAsked, Query, event_refusal}
 use Rattle.ppd_top_query.specs.Queries.Query.{Slice}
 

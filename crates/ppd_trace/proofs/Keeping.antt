@@ -1,14 +1,8 @@
 -- What is kept of a trace goes on as the trace does.
 use Rattle.std.proofs.Common.{◌≡◌, ℕ, zero, suc, ◌+◌, ◌≤◌, ℤ, Bool, true, false, cond, List, [], ◌∷◌, ◌++◌, length, map, drop, Option, Some, None, Ok, Err, refl, ap, sym, ◌∙◌, arith, length-append}
-use Rattle.std.specs.Prelude.{nat_eq, option_map, slice_get}
-use Rattle.std.specs.Cmp.{nat_cmp_total}
-use Rattle.std.specs.FinMap.{get, get-empty, get-insert}
-use Rattle.std.specs.Ordering.{nat_cmp}
+use Rattle.std.specs.Prelude.{slice_get}
 use Rattle.ppd_ast.specs.declared.plan.Plan.{Plan}
-use Rattle.ppd_ast.specs.declared.program.Kind.{Kind}
-use Rattle.ppd_ast.specs.declared.program.Kind.TheVariants.{If, While}
 use Rattle.ppd_ast.specs.declared.program.Program.{Program}
-use Rattle.ppd_ast.specs.Lookups.{kind_of, parent_if}
 use Rattle.ppd_sem.specs.declared.event.Event.{Event}
 use Rattle.ppd_sem.specs.declared.proc.Need.{Need}
 use Rattle.ppd_sem.specs.declared.proc.Need.TheVariants.{Trap}
@@ -24,45 +18,23 @@ use Rattle.ppd_model.specs.declared.trace.TracedEvent.{TracedEvent}
 use Rattle.ppd_model.specs.declared.tracing.Activation.{Activation}
 use Rattle.ppd_model.specs.declared.tracing.Story.{Story}
 use Rattle.ppd_model.specs.declared.tracing.Taken.{Taken}
-use Rattle.ppd_model.specs.declared.tracing.Test.{Test}
 use Rattle.ppd_model.specs.declared.tracing.Tracing.{Tracing}
 use Rattle.ppd_model.specs.FullTrace as trace
-use Rattle.ppd_model.specs.FullTrace.{Tag, event_of, into_at, latest, of_run, or_else, tags_of}
+use Rattle.ppd_model.specs.FullTrace.{Tag, event_of, into_at, tags_of}
 use Rattle.ppd_model.specs.Synchronizations.{paired_of}
-use Rattle.ppd_trace.specs.declared.tracer.Run.{Run}
+use Rattle.ppd_activations.specs.declared.runs.Run.{Run}
+use Rattle.ppd_activations.specs.Runs.{called, run_of, tagged, top_tags, with_test}
+use Rattle.ppd_activations.proofs.Keeping.{parent_in_as, returned_as, tagged_as, top_tags_as, with_test_as}
 use Rattle.ppd_trace.specs.declared.tracer.Tracer.{Tracer}
-use Rattle.ppd_trace.specs.Runs.{all_tagged, called, latest_of, of_outer, parent_at, parent_in, run_of, tagged, tagged_after, tagged_deed, tagged_into, tests_after, top_tags, trace_by, trace_step, traced_by, tracer_of, with_event, with_test}
+use Rattle.ppd_trace.specs.Runs.{all_tagged, parent_at, tagged_after, tagged_deed, trace_by, trace_step, traced_by, tracer_of, with_event}
 use Rattle.ppd_trace.specs.Tagging.{answers_by}
 use Rattle.ppd_trace.proofs.Following.{by_event, without_event}
-use Rattle.ppd_trace.proofs.Kept.{same_number}
-
--- ---- tests
-
--- the look-up finds the latest test
-pub found_latest : (s : ℕ) (tests : List Test) → get (latest_of tests) s ≡ latest s tests
-found_latest s [] = get-empty nat_cmp s
-found_latest s (x ∷ xs) =
-    get-insert nat_cmp_total (latest_of xs) x.stmt x s ∙ ap (λ (b : Bool). cond b (Some x) (get (latest_of xs) s)) (same_number s x.stmt)
-    ∙ ap (λ (o : Option Test). cond (nat_eq x.stmt s) (Some x) o) (found_latest s xs)
 
 -- ---- tags
-
-tagged_as : (c : ℕ) (me : Tag) (xs : List Activation) → map run_of (trace.tagged c me xs) ≡ tagged c me (map run_of xs)
-tagged_as c me [] = refl
-tagged_as c me (x ∷ xs) = refl
 
 all_tagged_as : (base n : ℕ) (me : Tag) (xs : List Activation) → map run_of (trace.all_tagged base n me xs) ≡ all_tagged base n me (map run_of xs)
 all_tagged_as base zero me xs = refl
 all_tagged_as base (suc n) me xs = tagged_as (base + n) me (trace.all_tagged base n me xs) ∙ ap (λ (l : List Run). tagged (base + n) me l) (all_tagged_as base n me xs)
-
-tagged_into_as : (into : Option ℕ) (value : Option ℤ) (me : Tag) (xs : List Activation) → map run_of (trace.tagged_into into value me xs) ≡ tagged_into into value me (map run_of xs)
-tagged_into_as (Some c) (Some v) me xs = tagged_as c me xs
-tagged_into_as (Some c) None me xs = refl
-tagged_into_as None value me xs = refl
-
-below_as : (xs : List Activation) → map run_of (drop 1 xs) ≡ drop 1 (map run_of xs)
-below_as [] = refl
-below_as (x ∷ xs) = refl
 
 by_asked : (program : Program) (s : Proc) (me : Tag) (asked : Asked Deed) (xs : List Activation) → arguments_at program s ≡ arguments_by (outcome asked)
     → map run_of (trace.tagged_by program s me asked xs) ≡ tagged_deed program s me (deed_by (outcome asked)) (map run_of xs)
@@ -70,7 +42,7 @@ by_asked program s me (Ok (set_local c v, left)) xs e = tagged_as c me xs
 by_asked program s me (Ok (clear base len, left)) xs e = all_tagged_as base len me xs
 by_asked program s me (Ok (invoke f values into, left)) xs e = ap (λ (vs : List ℤ). called program f (length vs) me ∷ map run_of xs) (sym e)
 by_asked program s me (Ok (back value, left)) xs e =
-    tagged_into_as (into_at program (top_call s.frames)) value me (drop 1 xs) ∙ ap (λ (l : List Run). tagged_into (into_at program (top_call s.frames)) value me l) (below_as xs)
+    returned_as (into_at program (top_call s.frames)) value me xs
 by_asked program s me (Ok (receive chan into, left)) xs e = tagged_as into me xs
 by_asked program s me (Ok (deed, left)) xs e = refl
 by_asked program s me (Err pause) xs e = refl
@@ -92,33 +64,11 @@ tagged_after_as : (program : Program) (s : Proc) (me : Tag) (n : Need) (xs : Lis
 tagged_after_as program s me (Trap t) xs = refl
 tagged_after_as program s me n xs = by_deed program s me xs
 
-top_tags_as : (xs : List Activation) → trace.top_tags xs ≡ top_tags (map run_of xs)
-top_tags_as [] = refl
-top_tags_as (x ∷ xs) = refl
-
 -- ---- control
 
-tests_as : (k : Kind) (s : ℕ) (me : EventId) (value : Option ℤ) (tests : List Test) → latest_of (trace.tests_after k s me value tests) ≡ tests_after k s me value (latest_of tests)
-tests_as (If e first second) s me value tests = refl
-tests_as (While e body) s me value tests = refl
-tests_as k s me value tests = refl
-
-with_test_as : (program : Program) (me : EventId) (e : Event) (xs : List Activation) → map run_of (trace.with_test program me e xs) ≡ with_test program me e (map run_of xs)
-with_test_as program me e [] = refl
-with_test_as program me e (x ∷ xs) = ap (λ l. record { call = x.call; tags = x.tags; latest = l } ∷ map run_of xs) (tests_as (kind_of program e.stmt) e.stmt me e.value x.tests)
-
-outer_as : (s : Option ℕ) (tests : List Test) → of_outer s (latest_of tests) ≡ trace.of_outer s tests
-outer_as None tests = refl
-outer_as (Some s) tests = ap (λ (o : Option Test). option_map (λ x. x.event) o) (found_latest s tests)
-
-parent_in_as : (program : Program) (s : ℕ) (x : Activation) → parent_in program s (run_of x) ≡ trace.parent_in program s x
-parent_in_as program s x =
-    let outer : Option EventId = of_outer (parent_if (slice_get program.stmts s)) (latest_of x.tests) in
-    ap (λ (o : Option Test). or_else (of_run (kind_of program s) o) (or_else outer x.call)) (found_latest s x.tests)
-    ∙ ap (λ (o : Option EventId). or_else (of_run (kind_of program s) (latest s x.tests)) (or_else o x.call)) (outer_as (parent_if (slice_get program.stmts s)) x.tests)
-
 parent_at_as : (program : Program) (xs : List Activation) (todo : List Todo) → parent_at program (map run_of xs) todo ≡ trace.parent_at program xs todo
-parent_at_as program [] todo = refl
+parent_at_as program [] [] = refl
+parent_at_as program [] (t ∷ ts) = refl
 parent_at_as program (x ∷ xs) [] = refl
 parent_at_as program (x ∷ xs) (t ∷ ts) = parent_in_as program t.stmt x
 
@@ -130,7 +80,7 @@ traced e writers parent paired = record { event = e; writers = writers; parent =
 traced_by_as : (program : Program) (story : Story) (x : Taken) (t : Tracing) (e : Event) → trace.traced_by program story x t e ≡ traced_by program story x (tracer_of t) e
 unfolding traced
 traced_by_as program story x t e =
-    ap (λ (l : List Tag). traced e (tags_of l t.answers e.reads) (trace.parent_at program t.activations t.proc.todo) (paired_of program story x)) (top_tags_as t.activations)
+    ap (λ (l : List Tag). traced e (tags_of l t.answers e.reads) (trace.parent_at program t.activations t.proc.todo) (paired_of program story x)) (sym (top_tags_as t.activations))
     ∙ ap (λ (o : Option EventId). traced e (tags_of (top_tags (map run_of t.activations)) t.answers e.reads) o (paired_of program story x)) (sym (parent_at_as program t.activations t.proc.todo))
 
 -- a process with its runs, the tags of the answers and the events

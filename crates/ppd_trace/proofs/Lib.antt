@@ -1,6 +1,5 @@
 pub mod Leading
 pub mod Following
-pub mod Kept
 pub mod Keeping
 pub mod Processes
 pub mod Costs

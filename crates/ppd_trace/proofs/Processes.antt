@@ -16,7 +16,7 @@ use Rattle.ppd_model.specs.FullTrace as trace
 use Rattle.ppd_model.specs.FullTrace.{Tag, begun_tracing}
 use Rattle.ppd_model.specs.LocalTags.{AreOwn}
 use Rattle.ppd_model.proofs.Lists.{get_or_any}
-use Rattle.ppd_trace.specs.declared.tracer.Run.{Run}
+use Rattle.ppd_activations.specs.declared.runs.Run.{Run}
 use Rattle.ppd_trace.specs.declared.tracer.Tracer.{Tracer}
 use Rattle.ppd_trace.specs.Runs.{begun_body, trace_by, trace_step, tracer_of}
 use Rattle.ppd_trace.proofs.Keeping.{few_events, parts, same_proc, step_as}

@@ -1,12 +1,7 @@
--- What is kept of a trace while it is made: of the tests of each activation the latest of each statement.
-use Rattle.std.specs.Prelude.{ℕ, zero, suc, ◌+◌, ◌-◌, ℤ, List, [], ◌∷◌, ◌++◌, map, drop, length, replicate, slice_get, slice_set, Option, Some, None, option_map, if◌then◌else◌}
-use Rattle.std.specs.FinMap.{FinMap, empty, get, insert}
-use Rattle.std.specs.Ordering.{nat_cmp}
+-- What is kept of a trace while it is made.
+use Rattle.std.specs.Prelude.{ℕ, zero, suc, ◌+◌, List, [], ◌∷◌, ◌++◌, map, drop, length, Option, Some, None, if◌then◌else◌}
 use Rattle.ppd_ast.specs.declared.plan.Plan.{Plan}
-use Rattle.ppd_ast.specs.declared.program.Kind.{Kind}
-use Rattle.ppd_ast.specs.declared.program.Kind.TheVariants.{If, While}
 use Rattle.ppd_ast.specs.declared.program.Program.{Program}
-use Rattle.ppd_ast.specs.Lookups.{kind_of, parent_if}
 use Rattle.ppd_sem.specs.declared.event.Event.{Event}
 use Rattle.ppd_sem.specs.declared.proc.Need.{Need}
 use Rattle.ppd_sem.specs.declared.proc.Need.TheVariants.{Trap}
@@ -16,32 +11,17 @@ use Rattle.ppd_sem.specs.Deed.{Deed, set_local, clear, invoke, back, receive}
 use Rattle.ppd_sem.specs.Described.{is_event}
 use Rattle.ppd_sem.specs.Passed.{arguments_at, deed_at}
 use Rattle.ppd_sem.specs.Process.{act, top_call}
-use Rattle.ppd_sem.specs.Runs.{size_if}
 use Rattle.ppd_model.specs.declared.trace.EventId.{EventId}
 use Rattle.ppd_model.specs.declared.trace.TracedEvent.{TracedEvent}
-use Rattle.ppd_model.specs.declared.tracing.Activation.{Activation}
 use Rattle.ppd_model.specs.declared.tracing.Story.{Story}
 use Rattle.ppd_model.specs.declared.tracing.Taken.{Taken}
-use Rattle.ppd_model.specs.declared.tracing.Test.{Test}
 use Rattle.ppd_model.specs.declared.tracing.Tracing.{Tracing}
-use Rattle.ppd_model.specs.FullTrace.{Tag, event_of, into_at, is_passed, of_run, or_else, tags_of}
+use Rattle.ppd_model.specs.FullTrace.{Tag, event_of, into_at, tags_of}
 use Rattle.ppd_model.specs.Synchronizations.{paired_of}
-use Rattle.ppd_trace.specs.declared.tracer.Run.{Run}
+use Rattle.ppd_activations.specs.declared.runs.Run.{Run}
+use Rattle.ppd_activations.specs.Runs.{begun_run, called, parent_of, run_of, tagged, tagged_into, top_tags, with_test}
 use Rattle.ppd_trace.specs.declared.tracer.Tracer.{Tracer}
 use Rattle.ppd_trace.specs.Tagging.{answers_by}
-
--- the latest test of each statement
-abbrev pub Tests : Type 0
-Tests = FinMap nat_cmp Test
-
--- the latest of these tests
-abbrev pub latest_of : List Test → Tests
-latest_of [] = empty
-latest_of (x ∷ xs) = insert (latest_of xs) x.stmt x
-
--- what is kept of an activation
-abbrev pub run_of : Activation → Run
-run_of x = record { call = x.call; tags = x.tags; latest = latest_of x.tests }
 
 -- what is kept of a trace
 abbrev pub tracer_of : Tracing → Tracer
@@ -49,33 +29,10 @@ tracer_of t = record { proc = t.proc; runs = map run_of t.activations; answers =
 
 -- ---- the tags
 
--- the tags of the local cells of the top frame
-abbrev pub top_tags : List Run → List Tag
-top_tags [] = []
-top_tags (x ∷ xs) = x.tags
-
--- the top run with a new tag of cell c
-abbrev pub tagged : ℕ → Tag → List Run → List Run
-tagged c me [] = []
-tagged c me (x ∷ xs) = record x { tags = slice_set x.tags c me } ∷ xs
-
 -- the top run with a new tag of each cell of an array
 abbrev pub all_tagged : ℕ → ℕ → Tag → List Run → List Run
 all_tagged base zero me xs = xs
 all_tagged base (suc n) me xs = tagged (base + n) me (all_tagged base n me xs)
-
--- the run that a call begins, which writes so many parameters
-abbrev pub called : Program → ℕ → ℕ → Option EventId → Run
-called program f count me = record {
-  call = me;
-  tags = replicate count me ++ replicate (size_if (slice_get program.bodies f) - count) None;
-  latest = empty;
-}
-
--- the receiving local has the tag of the return, where there are a local and a value
-abbrev pub tagged_into : Option ℕ → Option ℤ → Tag → List Run → List Run
-tagged_into (Some c) (Some v) me xs = tagged c me xs
-tagged_into into value me xs = xs
 
 -- the runs with that of function f, which the head statement calls
 abbrev pub begun_call : Program → Proc → ℕ → Tag → List Run → List Run
@@ -97,41 +54,14 @@ tagged_after program s me need xs = tagged_deed program s me (deed_at program s)
 
 -- the run of a process's body with so many local cells
 abbrev pub begun_body : ℕ → List Run
-begun_body n = record { call = None; tags = replicate n None; latest = empty } ∷ []
+begun_body n = begun_run n ∷ []
 
--- ---- control
-
--- the latest test of the statement in which another one directly stands
-abbrev pub of_outer : Option ℕ → Tests → Option EventId
-of_outer None tests = None
-of_outer (Some s) tests = option_map (λ x. x.event) (get tests s)
-
--- the control parent of statement s in its run
-abbrev pub parent_in : Program → ℕ → Run → Option EventId
-parent_in program s x =
-    or_else (of_run (kind_of program s) (get x.latest s))
-    (or_else (of_outer (parent_if (slice_get program.stmts s)) x.latest) x.call)
+-- ---- one step
 
 -- the control parent of an event of the head, and None in a process by itself
 abbrev pub parent_at : Program → List Run → List Todo → Option EventId
-parent_at program [] todo = None
 parent_at program xs [] = None
-parent_at program (x ∷ xs) (t ∷ ts) = parent_in program t.stmt x
-
--- the latest tests with one more, where the statement is an `If` or a `While`
-abbrev pub tests_after : Kind → ℕ → EventId → Option ℤ → Tests → Tests
-tests_after (If e first second) s me value tests =
-    insert tests s (record { stmt = s; event = me; passed = is_passed value })
-tests_after (While e body) s me value tests = insert tests s (record { stmt = s; event = me; passed = is_passed value })
-tests_after k s me value tests = tests
-
--- the top run with the event, if it is of a test
-abbrev pub with_test : Program → EventId → Event → List Run → List Run
-with_test program me e [] = []
-with_test program me e (x ∷ xs) =
-    record x { latest = tests_after (kind_of program e.stmt) e.stmt me e.value x.latest } ∷ xs
-
--- ---- one step
+parent_at program xs (t ∷ ts) = parent_of program xs t.stmt
 
 -- the next event of process p
 abbrev pub me_in : ℕ → Tracer → EventId

@@ -1,15 +1,8 @@
 -- The parts of a step of a trace that need no activation.
-use Rattle.std.specs.Prelude.{List, [], ◌∷◌, ◌++◌, Option, Some, None, if◌then◌else◌}
+use Rattle.std.specs.Prelude.{List, [], ◌∷◌, ◌++◌}
 use Rattle.ppd_sem.specs.declared.proc.Need.{Need}
 use Rattle.ppd_sem.specs.declared.proc.Need.TheVariants.{Read}
-use Rattle.ppd_model.specs.declared.tracing.Test.{Test}
-use Rattle.ppd_model.specs.declared.trace.EventId.{EventId}
 use Rattle.ppd_model.specs.FullTrace.{Tag}
-
--- the event of a test whose value was true
-abbrev pub passed_event : Option Test → Option EventId
-passed_event None = None
-passed_event (Some x) = if x.passed then Some x.event else None
 
 -- the tags of the answers after a step that is no event: a read has one more
 abbrev pub answers_by : Need → Tag → List Tag → List Tag

@@ -3,19 +3,19 @@ ghost use Rattle.ppd_model.specs.FullTrace.{event_of as event_of_step};
 ghost use Rattle.ppd_sem.specs.Described.{is_event};
 ghost use Rattle.ppd_sem.specs.Process.{need_of};
 ghost use Rattle.ppd_sem.specs.Runs.{IsNumbered, IsRunnable, IsRunning};
-ghost use Rattle.ppd_trace.specs.Runs.{traced_by as traced_by_step, with_event};
+ghost use Rattle.ppd_trace.specs.Runs.{parent_at as parent_at_todo, traced_by as traced_by_step, with_event};
 ghost use Rattle.ppd_trace.specs.Spending.{cells_of_step};
 ghost use Rattle.ppd_trace.specs.Subjects.{ArePaired, IsToTrace};
 
 use crate::activations::tag_writes;
-use crate::control::{add_test, parent_at};
 use crate::pairs::paired;
-use crate::reads::{tags_of, top_tags};
+use crate::reads::tags_of;
 use crate::subject::Subject;
 use crate::tracer::Tracer;
-use ppd_ast::{Memory, Steps};
+use ppd_activations::{Run, add_test, parent_of, top_tags};
+use ppd_ast::{Memory, Program, Steps};
 use ppd_model::{EventId, Taken, TracedEvent};
-use ppd_sem::{Event, Proc, describe};
+use ppd_sem::{Event, Proc, Stack, describe, next_stmt};
 use std::sync::ledger::Ledger;
 
 /// The event of a process's next step, with the number of a synchronization.
@@ -45,6 +45,22 @@ fn event_of<L: Ledger>(
     )?;
     event.number = taken.number;
     Ok(event)
+}
+
+/// The control parent of the event that comes next, and None where nothing is to do. It takes two look-ups.
+fn parent_at<L: Ledger>(
+    program: &Program,
+    runs: &Stack<Run>,
+    proc: &Proc,
+    steps: &mut Steps<L>,
+) -> Option<EventId>
+    ensures value { result ≡ parent_at_todo program.now runs.now proc.now.todo }
+    ensures cost { steps.new ≤ steps.old + 2 }
+{
+    match next_stmt(proc) {
+        Some(stmt) => parent_of(program, runs, stmt, steps),
+        None => None,
+    }
 }
 
 /// The event with the writers of its reads, its parent and its pair.

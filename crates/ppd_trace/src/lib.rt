@@ -3,8 +3,6 @@
 #![tactic(auto)]
 
 mod activations;
-mod by_stmt;
-mod control;
 mod events;
 mod pairs;
 mod reads;

@@ -1,33 +1,12 @@
-ghost use Rattle.std.specs.Prelude.{◌≡◌, ◌+◌, ◌*◌, ◌≤◌, ◌++◌, get_or, length, None, IfOk, OnOk};
+ghost use Rattle.std.specs.Prelude.{◌≡◌, ◌+◌, ◌*◌, ◌≤◌, ◌++◌, length, IfOk, OnOk};
 ghost use Rattle.ppd_model.specs.FullTrace.{answers_past as answers_past_spot, first_tag as first_tag_of, tag_at as tag_at_spot, tags_of as tags_of_reads};
-ghost use Rattle.ppd_trace.specs.Runs.{top_tags as top_tags_of};
 
-use crate::tracer::Run;
+use ppd_activations::tag_in;
 use ppd_ast::{Memory, Seq, Steps};
 use ppd_model::EventId;
-use ppd_sem::{Access, Spot, Stack};
+use ppd_sem::{Access, Spot};
 use std::alloc::Global;
 use std::sync::ledger::Ledger;
-
-/// The tags of the local cells of the top run.
-pub(crate) fn top_tags(runs: &Stack<Run>) -> &[Option<EventId>]
-    ensures { result.now ≡ top_tags_of runs.now }
-{
-    match runs.top() {
-        Some(own) => own.tags.as_slice(),
-        None => &[],
-    }
-}
-
-/// The tag at this place, and None past the end.
-pub(crate) fn tag_in(tags: &[Option<EventId>], place: usize) -> Option<EventId>
-    ensures { result ≡ get_or tags.now place None }
-{
-    match tags.get(place) {
-        Some(tag) => *tag,
-        None => None,
-    }
-}
 
 fn first_tag(tags: &[Option<EventId>]) -> Option<EventId>
     ensures { result ≡ first_tag_of tags.now }

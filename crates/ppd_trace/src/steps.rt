@@ -13,7 +13,7 @@ use crate::subject::Subject;
 use crate::tracer::Tracer;
 use ppd_ast::{Memory, Seq, Steps};
 use ppd_model::{EventId, Taken, TracedEvent};
-use ppd_sem::{Need, Proc, feed, local_cells};
+use ppd_sem::{Need, Proc, local_cells, meet};
 use std::sync::ledger::Ledger;
 
 /// Keeps the writer of a read for the event that it is of.
@@ -67,10 +67,11 @@ fn trace_step<L: Ledger>(
 {
     trace_by(subject, taken, tracer, steps)?;
     steps.tick();
-    feed(
+    meet(
         subject.program,
         subject.plan,
         &mut tracer.proc,
+        taken.need,
         &taken.answer,
     )
 }

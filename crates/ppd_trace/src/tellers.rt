@@ -5,9 +5,8 @@ ghost use Rattle.ppd_world.specs.Running.{IsCause, IsReached, can_step};
 ghost use Rattle.ppd_trace.specs.Telling.{HasTold, Tells, counts_after, with_writer, writers_set};
 ghost use Rattle.ppd_trace.specs.Traced.{IsStoryOf, IsTraceable};
 
-use crate::activations::push_copies;
-use crate::reads::tag_in;
 use crate::setting::Setting;
+use ppd_activations::{push_copies, tag_in};
 use ppd_ast::{Ids, Memory, Nums, Program, Seq, Steps};
 use ppd_model::{DriveError, EventId, Story, Taken};
 use ppd_sem::Need;

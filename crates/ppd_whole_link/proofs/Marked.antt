@@ -14,12 +14,12 @@ use Rattle.law_whole.specs.Following.{edge_past}
 use Rattle.law_whole.specs.Linked.{syncs_from}
 use Rattle.law_whole.specs.Writers as writers
 use Rattle.law_whole.specs.Writers.{Mark, Marking, mark_in, marked, marks_of, own_write, unmarked, writes}
+use Rattle.ppd_activations.proofs.Kept.{alike, same_number}
 use Rattle.ppd_whole_link.specs.declared.linker.Mark as kept
 use Rattle.ppd_whole_link.specs.declared.marks.Marks.{Marks}
 use Rattle.ppd_whole_link.specs.Laws.{AreMarksIf, AreMarksOf, MarksAreWriters}
 use Rattle.ppd_whole_link.specs.Linkers.{Own, own_access, own_in, own_past}
 use Rattle.ppd_whole_link.specs.Marks.{Written, key, mark_access, mark_event, marks_after, no_marks, syncs_if, syncs_past, written_if, written_past}
-use Rattle.ppd_whole_link.proofs.Kept.{alike, same_number}
 
 -- ---- keys
 

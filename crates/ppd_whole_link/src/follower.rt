@@ -1,26 +1,19 @@
 // A process, followed by its events alone.
-ghost use Rattle.std.specs.Prelude.{◌≡◌, ◌+◌, get_or, slice_get, None, IfOk, OnOk};
+ghost use Rattle.std.specs.Prelude.{◌≡◌, ◌+◌, ◌<◌, get_or, slice_get, None, Some, IfOk, OnOk};
 ghost use Rattle.ppd_ast.specs.Lookups.{kind_of};
 ghost use Rattle.ppd_sem.specs.Runs.{size_if};
 ghost use Rattle.law_whole.specs.Following.{calls_by_kind, calls_unless, edge_past as edge_past_of, top_of};
-ghost use Rattle.ppd_whole_link.specs.Runs.{begun, begun_run as begun_run_of, follow as follow_of, me_in, parent_of as parent_of_runs, top_tags};
+ghost use Rattle.ppd_activations.specs.Runs.{begun_run as begun_run_of, parent_of as parent_of_runs, top_tags as top_tags_of, with_test};
+ghost use Rattle.ppd_whole_link.specs.Runs.{begun, follow as follow_of, tagged_unless};
 
-use crate::by_number::ByNumber;
-use crate::control::{add_test, parent_of};
-use crate::tags::{At, push_copies, tag_event};
-use ppd_ast::{Kind, Memory, Program, Seq};
-use ppd_model::{EventId, Test};
+use crate::tags::{At, tag_event};
+use ppd_activations::{Run, add_test, begun_run, parent_of, tag_in, top_tags};
+use ppd_ast::{Kind, Memory, Program, Steps};
+use ppd_model::EventId;
 use ppd_sem::{Event, Stack};
 use std::alloc::Global;
-
-/// A body's run as it is followed: the event of the call that began it, none in a process, the event that last wrote
-/// each local cell, and the latest test of each statement.
-#[derive(Drop)]
-pub(crate) struct Run {
-    pub(crate) call: Option<EventId>,
-    pub(crate) tags: Seq<Option<EventId>>,
-    pub(crate) latest: ByNumber<Test>,
-}
+use std::marker::Brand;
+use std::sync::ledger::{Blank, Ledger};
 
 /// A process after some of its events: the runs of its bodies with the calls that began them, the running one at the
 /// top, the number of the next event, and the internal edge in which that lies.
@@ -66,16 +59,52 @@ fn cells_of(program: &Program, process: u8) -> usize
     }
 }
 
-fn begun_run(alloc: Global, count: usize) -> Result<Run, Memory>
+/// The run of a process's body, with steps that nobody reads.
+fn begun_from<L: Ledger>(alloc: Global, count: usize, blank: Blank) -> Result<Run, Memory>
+    requires name { blank.name ≡ L.name }
+    requires parts { blank.parts ≡ L.parts }
+    requires some { 0 < blank.parts }
     ensures { IfOk result (λ run. run ≡ begun_run_of count) }
 {
-    let mut tags = Seq::new(alloc);
-    push_copies(&mut tags, None, count)?;
-    Ok(Run {
-        call: None,
-        tags,
-        latest: ByNumber::new(alloc),
-    })
+    let mut steps: Steps<L> = Steps::new(blank);
+    begun_run(alloc, count, &mut steps)
+}
+
+/// The control parent of the next event, with steps that nobody reads.
+fn parent_from<L: Ledger>(
+    program: &Program,
+    runs: &Stack<Run>,
+    stmt: u32,
+    blank: Blank,
+) -> Option<EventId>
+    requires name { blank.name ≡ L.name }
+    requires parts { blank.parts ≡ L.parts }
+    requires some { 0 < blank.parts }
+    ensures { result ≡ parent_of_runs program.now runs.now stmt }
+{
+    let mut steps: Steps<L> = Steps::new(blank);
+    parent_of(program, runs, stmt, &mut steps)
+}
+
+/// The runs after an event, with steps that nobody reads.
+fn add_from<L: Ledger>(
+    at: &At,
+    me: EventId,
+    event: &Event,
+    runs: &mut Stack<Run>,
+    blank: Blank,
+) -> Result<(), Memory>
+    requires name { blank.name ≡ L.name }
+    requires parts { blank.parts ≡ L.parts }
+    requires some { 0 < blank.parts }
+    ensures { OnOk result
+        (runs.new
+        ≡ tagged_unless event.now.trap at.now.program.now at.now.call (Some me) event.now
+        (with_test at.now.program.now me event.now runs.old)) }
+{
+    let mut steps: Steps<L> = Steps::new(blank);
+    add_test(at.program, me, event, runs, &mut steps)?;
+    tag_event(at, Some(me), event, runs, &mut steps)
 }
 
 /// The call that began the running body.
@@ -131,7 +160,7 @@ impl Follower {
     pub(crate) fn new(alloc: Global, program: &Program, process: u8) -> Result<Follower, Memory>
         ensures { IfOk result (λ f. f ≡ begun program.now process) }
     {
-        let run = begun_run(alloc, cells_of(program, process))?;
+        let run = begun_from::<Brand>(alloc, cells_of(program, process), Blank::new(1))?;
         let mut runs = Stack::new(alloc);
         runs.push(run)?;
         let mut calls = Stack::new(alloc);
@@ -146,22 +175,16 @@ impl Follower {
 
     /// The event that last wrote a local cell of the running body.
     pub(crate) fn local(&self, cell: u16) -> Option<EventId>
-        ensures { result ≡ get_or (top_tags self.now.runs) cell None }
+        ensures { result ≡ get_or (top_tags_of self.now.runs) cell None }
     {
-        match self.runs.top() {
-            Some(own) => match own.tags.get(cell as usize) {
-                Some(tag) => *tag,
-                None => None,
-            },
-            None => None,
-        }
+        tag_in(top_tags(&self.runs), cell as usize)
     }
 
     /// The control parent of the next event, one of this statement.
     pub(crate) fn parent(&self, program: &Program, stmt: u32) -> Option<EventId>
         ensures { result ≡ parent_of_runs program.now self.now.runs stmt }
     {
-        parent_of(program, &self.runs, stmt)
+        parent_from::<Brand>(program, &self.runs, stmt, Blank::new(1))
     }
 
     /// One more event. `Memory` also for an event that has no 32-bit number.
@@ -183,8 +206,7 @@ impl Follower {
             program,
             call: top_call(&self.calls),
         };
-        add_test(program, me, event, &mut self.runs)?;
-        tag_event(&at, Some(me), event, &mut self.runs)?;
+        add_from::<Brand>(&at, me, event, &mut self.runs, Blank::new(1))?;
         call_on(program, &mut self.calls, event)?;
         self.number = next(self.number)?;
         self.edge = edge_past(self.edge, event.number)?;

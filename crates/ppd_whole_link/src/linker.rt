@@ -1,11 +1,11 @@
 // A process, followed by its events alone, with its last write of each shared cell.
 ghost use Rattle.std.specs.Prelude.{◌≡◌, fold, get_or, None, IfOk, OnOk};
 ghost use Rattle.std.specs.FinMap as finite;
+ghost use Rattle.ppd_activations.specs.Runs.{parent_of as parent_of_runs, top_tags};
 ghost use Rattle.ppd_whole_link.specs.Linkers.{link, own_access, own_in, own_past, own_spot, unlinked};
-ghost use Rattle.ppd_whole_link.specs.Runs.{parent_of as parent_of_runs, top_tags};
 
-use crate::by_number::ByNumber;
 use crate::follower::Follower;
+use ppd_activations::ByNumber;
 use ppd_ast::{Memory, Program};
 use ppd_model::EventId;
 use ppd_sem::{Access, Event, Spot};

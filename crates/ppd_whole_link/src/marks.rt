@@ -8,8 +8,8 @@ ghost use Rattle.ppd_whole_link.specs.Laws.{AreAllMarks};
 ghost use Rattle.ppd_model.specs.HappenedBefore.{edge as edge_of};
 ghost use Rattle.ppd_sem.specs.declared.event.Event.{Event};
 
-use crate::by_number::ByNumber;
 use crate::follower::{edge_past, next};
+use ppd_activations::ByNumber;
 use ppd_ast::{Memory, Seq};
 use ppd_model::{EventId, NodeId};
 use ppd_sem::{Access, Event, Spot};

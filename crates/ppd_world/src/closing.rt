@@ -50,7 +50,7 @@ fn close_log(alloc: Global, logging: &Logging) -> Result<Vec<Entry>, Memory>
     ensures { IfOk result (λ entries. entries.items ≡ ends logging.now (blocked_of logging.now.proc.status)) }
 {
     let mut last = Vec::new(alloc);
-    push_end(&mut last, logging, blocked(&logging.proc))?;
+    push_end(alloc, &mut last, logging, blocked(&logging.proc))?;
     Ok(last)
 }
 

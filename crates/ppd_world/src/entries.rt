@@ -8,7 +8,7 @@ ghost use Rattle.ppd_world.specs.Parts.{moment_with};
 
 use crate::code::Code;
 use ppd_ast::{Cells, Memory, Nums, Plan, Status, SyncKind};
-use ppd_entry::Entry;
+use ppd_entry::{Boxed, BoxedCells, BoxedNums, Entry};
 use ppd_model::{Logging, Taken, closed_block, unit_cells, unit_started, values_at};
 use ppd_sem::{Answer, Need, Proc, call_values, local_cells, prelog_cells};
 use std::alloc::Global;
@@ -20,10 +20,11 @@ fn push(entries: &mut Vec<Entry>, entry: Entry) -> Result<(), Memory>
     Ok(())
 }
 
-fn copy_cells(cells: &Cells) -> Result<Cells, Memory>
+fn copy_cells(alloc: Global, cells: &Cells) -> Result<BoxedCells, Memory>
     ensures { IfOk result (λ copy. copy ≡ cells.now) }
 {
-    Ok(cells.clone()?)
+    let copy = cells.clone()?;
+    Boxed::from_seq(alloc, copy)
 }
 
 /// The values of a unit's cells.
@@ -32,10 +33,24 @@ pub(crate) fn unit_values(
     plan: &Plan,
     shared: &[i64],
     unit: u16,
-) -> Result<Nums, Memory>
+) -> Result<BoxedNums, Memory>
     ensures { IfOk result (λ values. values ≡ values_of_unit plan.now shared.now unit) }
 {
-    values_at(alloc, shared, unit_cells(plan, unit))
+    let values = values_at(alloc, shared, unit_cells(plan, unit))?;
+    Boxed::from_seq(alloc, values)
+}
+
+/// The prelog of a block with these values.
+fn push_prelog(
+    alloc: Global,
+    entries: &mut Vec<Entry>,
+    block: u16,
+    values: Nums,
+) -> Result<(), Memory>
+    ensures { OnOk result (entries.new.items ≡ entries.old.items ++ Entry.Prelog block values ∷ []) }
+{
+    let values = Boxed::from_seq(alloc, values)?;
+    push(entries, Entry::Prelog { block, values })
 }
 
 /// The prelog of the block that a step of this need enters.
@@ -53,14 +68,14 @@ fn push_opened(entries: &mut Vec<Entry>, code: &Code, proc: &Proc, need: Need) -
                 local_cells(proc),
                 prelog_cells(code.plan, block),
             )?;
-            push(entries, Entry::Prelog { block, values })
+            push_prelog(code.alloc, entries, block, values)
         }
         Need::Invoke {
             block: Some(block),
             ..
         } => {
             let values = call_values(code.alloc, code.program, proc)?;
-            push(entries, Entry::Prelog { block, values })
+            push_prelog(code.alloc, entries, block, values)
         }
         _ => Ok(()),
     }
@@ -75,7 +90,10 @@ fn push_closed(entries: &mut Vec<Entry>, code: &Code, proc: &Proc, need: Need) -
         ≡ entries.old.items ++ postlogs (closed code.now.program.now code.now.plan.now proc.now need)) }
 {
     match closed_block(code.alloc, code.program, code.plan, proc, need)? {
-        Some((block, values)) => push(entries, Entry::Postlog { block, values }),
+        Some((block, values)) => {
+            let values = Boxed::from_seq(code.alloc, values)?;
+            push(entries, Entry::Postlog { block, values })
+        }
         None => Ok(()),
     }
 }
@@ -92,7 +110,12 @@ fn passed(need: Need, answer: Answer) -> i64
 }
 
 /// The entry of a synchronization that takes this number.
-fn push_sync(entries: &mut Vec<Entry>, logging: &Logging, taken: Taken) -> Result<(), Memory>
+fn push_sync(
+    alloc: Global,
+    entries: &mut Vec<Entry>,
+    logging: &Logging,
+    taken: Taken,
+) -> Result<(), Memory>
     ensures { OnOk result
         (entries.new.items ≡ entries.old.items ++ syncs logging.now taken (sync_of taken)) }
 {
@@ -108,8 +131,8 @@ fn push_sync(entries: &mut Vec<Entry>, logging: &Logging, taken: Taken) -> Resul
         return Ok(());
     };
     let value = passed(taken.need, taken.answer);
-    let reads = copy_cells(&logging.reads)?;
-    let writes = copy_cells(&logging.writes)?;
+    let reads = copy_cells(alloc, &logging.reads)?;
+    let writes = copy_cells(alloc, &logging.writes)?;
     push(
         entries,
         Entry::Sync {
@@ -157,6 +180,7 @@ fn status_of(need: Need) -> Option<Status>
 
 /// The end of the process, where there is a status.
 pub(crate) fn push_end(
+    alloc: Global,
     entries: &mut Vec<Entry>,
     logging: &Logging,
     status: Option<Status>,
@@ -166,8 +190,8 @@ pub(crate) fn push_end(
     let Some(status) = status else {
         return Ok(());
     };
-    let reads = copy_cells(&logging.reads)?;
-    let writes = copy_cells(&logging.writes)?;
+    let reads = copy_cells(alloc, &logging.reads)?;
+    let writes = copy_cells(alloc, &logging.writes)?;
     push(
         entries,
         Entry::End {
@@ -194,9 +218,9 @@ pub(crate) fn entries_of(
 {
     let mut entries = Vec::new(code.alloc);
     push_opened(&mut entries, code, &logging.proc, taken.need)?;
-    push_sync(&mut entries, logging, taken)?;
+    push_sync(code.alloc, &mut entries, logging, taken)?;
     push_closed(&mut entries, code, &logging.proc, taken.need)?;
     push_unit(&mut entries, code, shared, taken.need)?;
-    push_end(&mut entries, logging, status_of(taken.need))?;
+    push_end(code.alloc, &mut entries, logging, status_of(taken.need))?;
     Ok(entries)
 }

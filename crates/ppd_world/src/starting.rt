@@ -7,7 +7,7 @@ ghost use Rattle.ppd_world.specs.Starts.{begun_chans, begun_logs, begun_sems, fi
 
 use crate::entries::unit_values;
 use ppd_ast::{BlockKind, Memory, Nums, Plan, Program, Seq, Start};
-use ppd_entry::Entry;
+use ppd_entry::{Boxed, Entry};
 use ppd_model::{Channel, Counts, Logging};
 use ppd_sem::{Proc, find_block, find_unit};
 use std::alloc::Global;
@@ -38,7 +38,7 @@ fn first_entries(
     let mut entries = Seq::new(alloc);
     entries.push(Entry::Prelog {
         block,
-        values: Nums::new(alloc),
+        values: Boxed::new(),
     })?;
     entries.push(Entry::Unit { unit, values })?;
     Ok(entries)

@@ -4,8 +4,8 @@ use Rattle.std.specs.Prelude.{ℕ, List, [], ◌∷◌}
 use Rattle.ppd_ast.specs.Term.{terms}
 use Rattle.ppd_slice_model.specs.declared.reached.Reached.{Reached}
 use Rattle.ppd_slice_model.specs.OfRuns.{reach}
-use Rattle.rows_whole.proofs.Recursion as recursion
-use Rattle.rows_whole.proofs.Smallest as smallest
+use Rattle.rows_runs.proofs.Runs.Recursion as recursion
+use Rattle.rows_runs.proofs.Runs.Smallest as smallest
 
 abbrev at : ℕ → ℕ → ℕ → ℕ → Reached
 at d p k j = record { process = p; interval = k; item = j; depth = d }

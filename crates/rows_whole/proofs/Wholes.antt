@@ -6,10 +6,10 @@ use Rattle.ppd_ast.specs.Term.{terms}
 use Rattle.ppd_ast.specs.declared.plan.Plan.{Plan}
 use Rattle.ppd_ast.specs.declared.program.Program.{Program}
 use Rattle.ppd_model.specs.FullTrace.{full_trace}
-use Rattle.rows_whole.specs.WholeText.{whole_text}
-use Rattle.rows_whole.proofs.Smallest as smallest
-use Rattle.rows_whole.proofs.CalleeWrite as callee
-use Rattle.rows_whole.proofs.LockOrder as locks
+use Rattle.ppd_whole.specs.WholeText.{whole_text}
+use Rattle.rows_runs.proofs.Runs.Smallest as smallest
+use Rattle.rows_runs.proofs.Runs.CalleeWrite as callee
+use Rattle.rows_runs.proofs.Runs.LockOrder as locks
 
 -- the text of a schedule's trace
 abbrev text : Program → Plan → List ℕ → List ℕ

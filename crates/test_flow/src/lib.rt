@@ -1,17 +1,10 @@
-//! Flowback edges and last values of worked sources, as they are written and as the full trace has them; the
-//! searches for shared cells; and what sessions keep: tests.
+//! The edges of worked sources as the full trace has them, the searches for shared cells, and what sessions keep: tests.
 #![tactic(auto)]
 
 #[cfg(test)]
 mod answered;
 #[cfg(test)]
-mod asked;
-#[cfg(test)]
 mod kept_tests;
-#[cfg(test)]
-mod row_tests;
-#[cfg(test)]
-mod schedules;
 #[cfg(test)]
 mod told;
 #[cfg(test)]

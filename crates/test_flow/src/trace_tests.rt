@@ -1,5 +1,4 @@
 use crate::answered::{answers, trace_of};
-use crate::asked::Asked;
 use ppd_ast::Policy;
 use std::alloc::Global;
 use std::process::Abort;
@@ -9,7 +8,7 @@ use test_pasts::{Row, by_default};
 fn compare(rt: &impl Abort, alloc: Global, row: &Row, schedule: &[u8], text: &str) {
     let other = Row { schedule, ..*row };
     let trace = trace_of(alloc, &other).expect(rt, "a trace");
-    let found = answers(alloc, row, &[Asked::Traced(&trace)]).expect(rt, "answers");
+    let found = answers(alloc, row, &trace).expect(rt, "answers");
     assert_eq!(rt; found.as_slice(), text.as_bytes());
 }
 

@@ -2,7 +2,7 @@
 
 use ppd_ast::limits::MOST_NAMED;
 use ppd_ast::{Bytes, Cells, Chan, Memory, Nums, Program, Sem, Seq, SyncKind};
-use ppd_entry::{Entry, Logs, Status};
+use ppd_entry::{Boxed, BoxedCells, Entry, Logs, Status};
 use ppd_graph::{BadSync, SyncGraph, graph};
 use std::alloc::Global;
 
@@ -54,8 +54,8 @@ pub fn program(alloc: Global, objects: Objects) -> Result<Program, Memory> {
     })
 }
 
-fn cells(alloc: Global, items: &[u16]) -> Result<Cells, Memory> {
-    Ok(Cells::from_vec(Vec::from_slice(alloc, items)?))
+fn cells(alloc: Global, items: &[u16]) -> Result<BoxedCells, Memory> {
+    Boxed::from_seq(alloc, Cells::from_vec(Vec::from_slice(alloc, items)?))
 }
 
 fn sync(
@@ -79,7 +79,7 @@ fn entry_of(alloc: Global, wrote: Wrote) -> Result<Entry, Memory> {
     match wrote {
         Wrote::Unit => Ok(Entry::Unit {
             unit: 0,
-            values: Nums::new(alloc),
+            values: Boxed::new(),
         }),
         Wrote::Silent(kind, number) => sync(alloc, kind, 0, number, (&[], &[])),
         Wrote::Sync(kind, object, number, reads, writes) => {

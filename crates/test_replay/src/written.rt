@@ -2,7 +2,7 @@
 
 use crate::runs::{Run, read};
 use ppd_ast::{Memory, Policy, Seq, Status, SyncKind};
-use ppd_entry::{Entry, Logs};
+use ppd_entry::{Boxed, BoxedNums, Entry, Logs};
 use std::alloc::Global;
 
 /// An entry with the parts that a replay looks at.
@@ -17,8 +17,8 @@ pub enum Wrote<'a> {
     End(Status, u32),
 }
 
-fn values(alloc: Global, items: &[i64]) -> Result<Seq<i64>, Memory> {
-    Ok(Seq::from_vec(Vec::from_slice(alloc, items)?))
+fn values(alloc: Global, items: &[i64]) -> Result<BoxedNums, Memory> {
+    Boxed::from_seq(alloc, Seq::from_vec(Vec::from_slice(alloc, items)?))
 }
 
 fn entry_of(alloc: Global, wrote: Wrote) -> Result<Entry, Memory> {
@@ -36,8 +36,8 @@ fn entry_of(alloc: Global, wrote: Wrote) -> Result<Entry, Memory> {
             object: 0,
             number,
             value,
-            reads: Seq::new(alloc),
-            writes: Seq::new(alloc),
+            reads: Boxed::new(),
+            writes: Boxed::new(),
         },
         Wrote::Postlog(block, items) => Entry::Postlog {
             block,
@@ -46,8 +46,8 @@ fn entry_of(alloc: Global, wrote: Wrote) -> Result<Entry, Memory> {
         Wrote::End(status, rest) => Entry::End {
             status,
             rest,
-            reads: Seq::new(alloc),
-            writes: Seq::new(alloc),
+            reads: Boxed::new(),
+            writes: Boxed::new(),
         },
     })
 }

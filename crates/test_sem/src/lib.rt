@@ -1,5 +1,4 @@
-//! Worked programs of one process, and tables that are valid or not: tests of the crates that speak of
-//! programs and plans.
+//! Worked programs of one process, step by step, and which tables of programs and plans are valid: tests.
 #![tactic(auto)]
 
 #[cfg(test)]

@@ -1,13 +1,7 @@
-//! Worked programs of several processes, driven by schedules: tests of the world.
+//! A worked program over its bare plan and over one with cells, driven by its lowest process: a test of the world.
 #![tactic(auto)]
 
 #[cfg(test)]
-mod log_tests;
-#[cfg(test)]
-mod logged;
-#[cfg(test)]
-mod parallel;
-#[cfg(test)]
-mod world_tests;
+mod buffer_tests;
 #[cfg(test)]
 mod worlds;

@@ -1,4 +1,4 @@
-//! Worlds of worked programs, driven by a schedule or by the lowest enabled process.
+//! Worlds of worked programs, driven by the lowest enabled process.
 
 ghost use Rattle.std.specs.Prelude.{IfSome};
 ghost use Rattle.ppd_world.specs.Running.{IsReached};
@@ -6,16 +6,9 @@ ghost use Rattle.ppd_world.specs.Running.{IsReached};
 use ppd_ast::limits::MOST_BUDGET;
 use ppd_ast::{Memory, Plan, Policy, Program};
 use ppd_blocks::partition;
-use ppd_model::{Closed, DriveError};
+use ppd_model::Closed;
 use ppd_world::World;
 use std::alloc::Global;
-
-/// What a schedule came to: the answer of `drive`, and the closed run where nobody is enabled.
-#[derive(Drop)]
-pub struct Driven {
-    pub answer: Result<(), DriveError>,
-    pub closed: Option<Closed>,
-}
 
 /// The bare plan of a valid program. None where it is not valid, or memory is wanting.
 pub fn bare_plan(alloc: Global, program: &Program) -> Option<Plan> {
@@ -52,20 +45,6 @@ fn close(world: World) -> Option<Closed>
     } else {
         None
     }
-}
-
-/// Drives the program by the schedule, and closes it where nobody is enabled then.
-pub fn drive(
-    alloc: Global,
-    program: &Program,
-    plan: &Plan,
-    budget: u32,
-    schedule: &[u8],
-) -> Option<Driven> {
-    let mut world = start(alloc, program, plan, budget)?;
-    let answer = world.drive(schedule);
-    let closed = close(world);
-    Some(Driven { answer, closed })
 }
 
 /// Takes the step of the lowest process that is enabled, if one is.

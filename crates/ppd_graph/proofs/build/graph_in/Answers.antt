@@ -11,7 +11,7 @@ use Rattle.ppd_graph.proofs.build.graph_in.Goals as goal
 
 pub all_times-requires : goal.all_times-requires
 all_times-requires g c =
-    let few = few_of c.are_few.result c.as_slice.result.now c.args.logs.now.lists c.as_slice.ensures c.are_few.ensures.few (search rules) in
+    let few = few_of c.are_few.result c.as_slice.result.now c.args.logs.now.lists c.as_slice.ensures c.are_few.ensures.few.0 (search rules) in
     record { few = pairs_few c.args.program.now c.args.logs.now c.as_slice-2.result.now (c.as_slice-2.ensures ∙ c.in_ok-pairs.ensures.pairs) few }
 
 pub cycle-requires-clause-wait : goal.cycle-requires-clause-wait
@@ -28,7 +28,7 @@ cycle-requires-clause-wait g c =
 
 pub cycle-requires-clause-few : goal.cycle-requires-clause-few
 cycle-requires-clause-few g c =
-    let few = few_of c.are_few.result c.as_slice.result.now c.args.logs.now.lists c.as_slice.ensures c.are_few.ensures.few (search rules) in
+    let few = few_of c.are_few.result c.as_slice.result.now c.args.logs.now.lists c.as_slice.ensures c.are_few.ensures.few.0 (search rules) in
     pairs_few c.args.program.now c.args.logs.now c.as_slice-in-Some.result.now (c.as_slice-in-Some.ensures ∙ c.in_ok-pairs.ensures.pairs) few
 
 pub cycle-requires-clause-done : goal.cycle-requires-clause-done
@@ -40,7 +40,7 @@ cycle-requires-clause-done g c =
     let are = c.in_ok-pairs.ensures.pairs in
     let numbered = c.in_ok-pairs.ensures.passed in
     let timed : AreTimed pairs times = subst (λ p. AreTimed p times) c.as_slice-2.ensures c.in_ok-times.ensures.timed in
-    let few = few_of c.are_few.result c.as_slice.result.now c.args.logs.now.lists c.as_slice.ensures c.are_few.ensures.few (search rules) in
+    let few = few_of c.are_few.result c.as_slice.result.now c.args.logs.now.lists c.as_slice.ensures c.are_few.ensures.few.0 (search rules) in
     subst (λ ts. (q : ℕ) → length (own_times ts q) < 2 ^ 32) (sym c.as_slice-in-Some-2.ensures.value) (times_few program logs pairs are numbered times timed few)
 
 pub returns-in-Some-clause-refused : goal.returns-in-Some-clause-refused
@@ -65,7 +65,7 @@ returns-clause-graph g c =
     let are = c.in_ok-pairs.ensures.pairs in
     let numbered = c.in_ok-pairs.ensures.passed in
     let timed : AreTimed pairs times = subst (λ p. AreTimed p times) c.as_slice-2.ensures c.in_ok-times.ensures.timed in
-    let few = few_of c.are_few.result c.as_slice.result.now c.args.logs.now.lists c.as_slice.ensures c.are_few.ensures.few (search rules) in
+    let few = few_of c.are_few.result c.as_slice.result.now c.args.logs.now.lists c.as_slice.ensures c.are_few.ensures.few.0 (search rules) in
     let all = seen_both (λ p t. (q : ℕ) → HasAll p t q) c.as_slice-3.result.now pairs c.as_slice-4.result.now times c.as_slice-3.ensures c.as_slice-4.ensures.value c.in_default.ensures.stuck in
     let edges = c.in_ok-edges.edges in
     subst (λ ts. IsGraphOf program logs (record { edges = edges; times = ts; pairs = pairs })) (sym c.from_vec.ensures)

@@ -1,4 +1,4 @@
-use Rattle.std.proofs.Common.{◌≡◌, [], drop, ◌+◌, ◌≤◌}
+use Rattle.std.proofs.Common.{◌≡◌, [], drop, ◌+◌}
 use Rattle.ppd_graph.specs.ByNumber.{is_kept, twice_by}
 use Rattle.ppd_graph.specs.Refusals.{twice_after}
 use Rattle.ppd_graph.proofs.Kept.{KeepsFor}
@@ -8,5 +8,5 @@ abbrev pub invariant-loop-one : goal.invariant-loop-one
 invariant-loop-one g l = record {
   kept : KeepsFor l.program l.numbers (drop l.one-index l.placed) l.placed;
   twice : twice_by l.program (is_kept l.numbers) (drop l.one-index l.placed) ≡ twice_after l.program [] l.placed;
-  spent : l.steps ≤ l.fn.steps + l.one-index;
+  spent : l.steps ≡ l.fn.steps + l.one-index;
 }

@@ -1,5 +1,6 @@
 use Rattle.std.proofs.Common.{◌∙◌, ◌++◌, ap, arith, take}
 use Rattle.std.specs.List.{sum_by}
+use Rattle.std.proofs.lemmas.List.{take_all}
 use Rattle.std.proofs.lemmas.List.Sums.{sum_by-take-le, sum_by_more}
 use Rattle.ppd_graph.specs.Refusals.{placed_from}
 use Rattle.ppd_graph.specs.Spending.{list_cost}
@@ -15,8 +16,13 @@ loop-process-preserved g c =
     let same = ap list_cost is in
     record {
       holds = placed_more lists p c.index-lists-process.result c.loop-process.placed c.place_own.new.placed _ c.loop-process-test.true c.loop-process.invariant.holds (c.in_ok-place_own.ensures.placed ∙ ap (λ xs. c.loop-process.placed ++ placed_from p 0 0 xs) is);
-      spent = omega (arith, more, same, c.tick.ensures, c.in_ok-place_own.ensures.cost, c.loop-process.invariant.spent);
+      spent = omega (arith, more, same, c.tick.ensures, c.in_ok-place_own.ensures.taken, c.loop-process.invariant.spent);
     }
 
 pub returns-clause-cost : goal.returns-clause-cost
 returns-clause-cost g c = let less = sum_by-take-le list_cost c.args.lists.now c.loop-process.process in omega (arith, less, c.loop-process.invariant.spent)
+
+pub returns-clause-taken : goal.returns-clause-taken
+returns-clause-taken g c =
+    let all = ap (sum_by list_cost) (take_all c.loop-process.process c.args.lists.now (omega (arith, c.loop-process-test.false))) in
+    omega (arith, all, c.loop-process.invariant.spent)

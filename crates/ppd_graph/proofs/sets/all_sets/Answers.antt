@@ -1,5 +1,6 @@
 use Rattle.std.proofs.Common.{◌∙◌, ◌∷◌, ◌++◌, [], None, ap, arith, take}
 use Rattle.std.specs.List.{sum_by}
+use Rattle.std.proofs.lemmas.List.{take_all}
 use Rattle.std.proofs.lemmas.List.Sums.{sum_by-take-le, sum_by_more}
 use Rattle.ppd_graph.specs.LogRecord.{sets_from}
 use Rattle.ppd_graph.specs.Spending.{list_cost}
@@ -16,8 +17,13 @@ loop-list-preserved g c =
     record {
       holds = mapped_more (sets_from None) lists i c.list-item.result c.loop-list.all c.push.new.self _ c.loop-list-test.true c.loop-list.invariant.holds
           (c.in_ok-push.ensures.ok ∙ ap (λ e. c.loop-list.all ++ e ∷ []) (c.in_ok-edges.ensures.edges ∙ ap (sets_from None) is));
-      spent = omega (arith, more, same, c.tick.ensures, c.in_ok-edges.ensures.cost, c.loop-list.invariant.spent);
+      spent = omega (arith, more, same, c.tick.ensures, c.in_ok-edges.ensures.taken, c.loop-list.invariant.spent);
     }
 
 pub returns-clause-cost : goal.returns-clause-cost
 returns-clause-cost g c = let less = sum_by-take-le list_cost c.args.lists.now c.loop-list.list-index in omega (arith, less, c.loop-list.invariant.spent)
+
+pub returns-clause-taken : goal.returns-clause-taken
+returns-clause-taken g c =
+    let all = ap (sum_by list_cost) (take_all c.loop-list.list-index c.args.lists.now (omega (arith, c.loop-list-test.false))) in
+    omega (arith, all, c.loop-list.invariant.spent)

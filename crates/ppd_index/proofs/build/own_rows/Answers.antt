@@ -10,7 +10,7 @@ pub returns-in_err-take_entry-clause-refused : goal.returns-in_err-take_entry-cl
 returns-in_err-take_entry-clause-refused g c =
     let e = err_from_is_err_and c.from_residual-in_err-take_entry.result c.from_residual-in_err-take_entry.ensures.1 in
     rw (e.1, e.2) (refused_at c.args.program.now c.args.plan.now c.args.process c.args.entries.now c.loop-i.i c.index-entries-i.result (tabled c.loop-i.i c.loop-i.table) c.loop-i.ended c.in_err-take_entry.field-0.0 c.loop-i-test.true c.index-entries-i.is c.loop-i.invariant.found
-    (subst (λ n. IsRefused (refusal c.args.plan.now (c.args.program.now.functions + c.args.process) c.args.process (standing_in c.loop-i.ended (tabled n c.loop-i.table)) c.index-entries-i.result) c.in_err-take_entry.field-0.0) c.in_ok-n.ensures c.in_err-take_entry.ensures.refused))
+    (subst (λ n. IsRefused (refusal c.args.plan.now (c.args.program.now.functions + c.args.process) c.args.process (standing_in c.loop-i.ended (tabled n c.loop-i.table)) c.index-entries-i.result) c.in_err-take_entry.field-0.0) c.in_ok-n.ensures.value c.in_err-take_entry.ensures.refused))
 
 pub loop-i-preserved : goal.loop-i-preserved
 loop-i-preserved g c =
@@ -19,13 +19,14 @@ loop-i-preserved g c =
     let now = tabled (c.loop-i.i + 1) c.take_entry.new.table in
     let e = c.index-entries-i.result in
     let step : now ≡ table_step c.args.plan.now t e =
-    subst (λ n. tabled (n + 1) c.take_entry.new.table ≡ table_step c.args.plan.now (tabled n c.loop-i.table) e) c.in_ok-n.ensures c.in_ok-take_entry.ensures.table in
+    subst (λ n. tabled (n + 1) c.take_entry.new.table ≡ table_step c.args.plan.now (tabled n c.loop-i.table) e) c.in_ok-n.ensures.value c.in_ok-take_entry.ensures.table in
     let none : refusal c.args.plan.now body c.args.process (standing_in c.loop-i.ended t) e ≡ None =
-    subst (λ n. refusal c.args.plan.now body c.args.process (standing_in c.loop-i.ended (tabled n c.loop-i.table)) e ≡ None) c.in_ok-n.ensures c.in_ok-take_entry.ensures.passed in
+    subst (λ n. refusal c.args.plan.now body c.args.process (standing_in c.loop-i.ended (tabled n c.loop-i.table)) e ≡ None) c.in_ok-n.ensures.value c.in_ok-take_entry.ensures.passed in
     let over = ap (λ b. still_open b now.running) c.is_over-ended.ensures in
     record {
       rows = rows_next c.args.plan.now c.args.entries.now c.loop-i.i e t now c.loop-i-test.true c.index-entries-i.is step c.loop-i.invariant.rows;
       found = found_next c.args.plan.now body c.args.process c.args.entries.now c.loop-i.i e t now c.loop-i.ended c.is_over-ended.result c.loop-i-test.true c.index-entries-i.is step c.is_over-ended.ensures none c.loop-i.invariant.found;
+      least = omega (arith, c.tick.ensures, c.in_ok-take_entry.ensures.least, c.loop-i.invariant.least);
       spent = omega (arith, over, c.tick.ensures, c.in_ok-take_entry.ensures.cost, c.loop-i.invariant.spent);
     }
 

@@ -9,5 +9,6 @@ abbrev pub invariant-loop-i : goal.invariant-loop-i
 invariant-loop-i g l = record {
   rows : fold (table_step l.plan) (tabled l.i l.table) (drop l.i l.entries) ≡ fold (table_step l.plan) begun_table l.entries;
   found : first_by l.plan l.owner.body l.owner.process (tabled l.i l.table) l.ended (drop l.i l.entries) ≡ first_by l.plan l.owner.body l.owner.process begun_table false l.entries;
+  least : l.fn.steps + l.i ≤ l.steps;
   spent : l.steps + still_open l.ended l.table.running ≤ l.fn.steps + 2 * l.i;
 }

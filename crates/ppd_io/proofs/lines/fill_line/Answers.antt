@@ -1,6 +1,6 @@
 use Rattle.std.proofs.Common.{rules, arith, ◌≡◌, [], ◌∷◌, ◌++◌, ◌∙◌}
 use Rattle.ppd_io.specs.Lines.{Took}
-use Rattle.ppd_io.proofs.Lining.{holds_some, later_newline, took_byte, plain_byte}
+use Rattle.ppd_io.proofs.Lining.{holds_some, later_newline, need_goes_on, took_byte, plain_byte}
 use Rattle.ppd_io.proofs.lines.fill_line.Goals as goal
 
 pub loop-bytes-preserved : goal.loop-bytes-preserved
@@ -19,4 +19,5 @@ loop-bytes-preserved g c =
           let now = c.next.ensures.quiet (holds_some c.loop-bytes.bytes was.1) in
           let first : c.loop-bytes.bytes ≡ c.in-Ok-Some.byte ∷ c.next.new.self = search rules in
           (now.0 ∙ was.0, later_newline _ _ _ first c.in-Ok-Some.byte-test.1 was.1);
+      need = need_goes_on _ g.I.Source.left g.I.Source.before_last _ _ _ _ _ _ c.loop-bytes.invariant.took c.loop-bytes.invariant.plain c.loop-bytes.invariant.need c.next.ensures.last (λ some. let q = c.next.ensures.quiet some in q.0);
     }

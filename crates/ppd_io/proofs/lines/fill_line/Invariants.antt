@@ -1,7 +1,7 @@
-use Rattle.std.proofs.Common.{◌≡◌, ◌+◌, ◌++◌, length, ◌≤◌, ◌<◌, ◌-◌, vec_len, vec_capacity}
+use Rattle.std.proofs.Common.{◌≡◌, ◌⊎◌, ◌+◌, ◌++◌, length, ◌≤◌, ◌<◌, ◌-◌, vec_len, vec_capacity}
 use Rattle.ppd_ast.specs.declared.limits.TheConstants.{MOST_LINE_BYTES}
 use Rattle.ppd_io.specs.declared.bytes.TheConstants.{CHUNK_BYTES}
-use Rattle.ppd_io.specs.Lines.{Took, HasNewline, HasNoNewline}
+use Rattle.ppd_io.specs.Lines.{IsAtNeed, Took, HasNewline, HasNoNewline}
 use Rattle.ppd_io.proofs.lines.fill_line.Given as goal
 
 abbrev pub invariant-loop-bytes : goal.invariant-loop-bytes
@@ -13,6 +13,7 @@ invariant-loop-bytes g l = record {
   within : vec_len l.line ≤ MOST_LINE_BYTES + 1;
   few : length l.bytes < CHUNK_BYTES;
   quiet : HasNewline l.initial.bytes → (l.source ≡ l.initial.source) × HasNewline l.bytes;
+  need : (l.source ≡ l.initial.source) ⊎ IsAtNeed (g.I.Source.left l.initial.source) (g.I.Source.before_last l.source) l.initial.bytes;
 }
 
 abbrev pub decreases-loop-bytes : goal.decreases-loop-bytes

@@ -1,6 +1,6 @@
 use Rattle.std.proofs.Common.{◌+◌, ◌-◌, ◌/◌, arith, length}
 use Rattle.ppd_race.specs.Search.{is_on}
-use Rattle.ppd_race.proofs.Halves.{few_halves, first_halves, halved_cut, halved_down, halved_none, halved_up, next_halves}
+use Rattle.ppd_race.proofs.Halves.{few_halves, first_halves, first_left, halved_cut, halved_down, halved_none, halved_up, last_left, next_halves, next_left}
 use Rattle.ppd_race.proofs.apart.count_on.Goals as goal
 
 pub loop-low-init : goal.loop-low-init
@@ -10,6 +10,7 @@ loop-low-init g c = record {
   halved = halved_none (is_on c.args.graph.now c.args.side c.args.b) c.args.list.now c.count_of-high.result c.count_of-high.ensures.count;
   on = omega arith;
   spent = omega arith;
+  some = first_left c.count_of-high.result (length c.args.list.now) c.args.steps.now c.count_of-high.ensures.count;
   halves = first_halves c.count_of-high.result (length c.args.list.now) c.args.steps.now c.count_of-high.ensures.count;
 }
 
@@ -25,6 +26,7 @@ loop-low-preserved-then-is_on g c =
       halved = halved_up test c.args.list.now low high (low + (high - low) / 2) _ c.is_on.result (omega (arith, c.loop-low-test.true, c.loop-low.invariant.within)) c.is_on.ensures c.if-is_on.true c.loop-low.invariant.halved;
       on = omega (arith, c.tick.ensures, c.loop-low.invariant.on);
       spent = omega (arith, c.tick.ensures, c.loop-low.invariant.on, few);
+      some = next_left (high - low) (high - (low + (high - low) / 2 + 1)) c.args.steps.now c.loop-low.steps c.tick.new.self (length c.args.list.now) c.loop-low.invariant.on c.tick.ensures (omega (arith, c.loop-low-test.true)) c.loop-low.invariant.some;
       halves = next_halves (high - low) (high - (low + (high - low) / 2 + 1)) c.args.steps.now c.loop-low.steps c.tick.new.self (length c.args.list.now) c.loop-low.invariant.on c.tick.ensures (omega (arith, c.loop-low-test.true)) c.loop-low.invariant.halves;
     }
 
@@ -40,8 +42,13 @@ loop-low-preserved g c =
       halved = halved_down test c.args.list.now low high (low + (high - low) / 2) _ c.is_on.result (omega (arith, c.loop-low-test.true, c.loop-low.invariant.within)) c.is_on.ensures c.if-is_on.false c.loop-low.invariant.halved;
       on = omega (arith, c.tick.ensures, c.loop-low.invariant.on);
       spent = omega (arith, c.tick.ensures, c.loop-low.invariant.on, few);
+      some = next_left (high - low) (low + (high - low) / 2 - low) c.args.steps.now c.loop-low.steps c.tick.new.self (length c.args.list.now) c.loop-low.invariant.on c.tick.ensures (omega (arith, c.loop-low-test.true)) c.loop-low.invariant.some;
       halves = next_halves (high - low) (low + (high - low) / 2 - low) c.args.steps.now c.loop-low.steps c.tick.new.self (length c.args.list.now) c.loop-low.invariant.on c.tick.ensures (omega (arith, c.loop-low-test.true)) c.loop-low.invariant.halves;
     }
 
 pub returns-clause-cut : goal.returns-clause-cut
 returns-clause-cut g c = halved_cut (is_on c.args.graph.now c.args.side c.args.b) c.args.list.now c.loop-low.low c.loop-low.high c.loop-low-test.false c.loop-low.invariant.halved
+
+pub returns-clause-least : goal.returns-clause-least
+returns-clause-least g c =
+    last_left (c.loop-low.high - c.loop-low.low) (c.loop-low.steps - c.args.steps.now) (length c.args.list.now) (omega (arith, c.loop-low-test.false)) c.loop-low.invariant.some

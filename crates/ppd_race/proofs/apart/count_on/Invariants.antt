@@ -10,6 +10,7 @@ invariant-loop-low g l = record {
   halved : Halved (is_on l.graph l.side l.b) l.list l.low l.high;
   on : l.fn.steps ≤ l.steps;
   spent : l.steps ≤ l.fn.steps + 64;
+  some : length l.list + 2 ≤ (l.high - l.low + 2) * 2 ^ (l.steps - l.fn.steps);
   halves : (l.high - l.low) * 2 ^ (l.steps - l.fn.steps) ≤ length l.list;
 }
 

@@ -5,7 +5,7 @@ use Rattle.ppd_race.proofs.Grown.{grown_as, past_all, past_none}
 use Rattle.ppd_race.proofs.found.add_against.Goals as goal
 
 pub loop-one-init : goal.loop-one-init
-loop-one-init g c = record { grown = past_none (λ m a. picked m c.args.against a) c.window-apart.result.now c.args.found.now.items; spent = omega (arith, c.window-apart.ensures.cost) }
+loop-one-init g c = record { grown = past_none (λ m a. picked m c.args.against a) c.window-apart.result.now c.args.found.now.items; least = omega (arith, c.window-apart.ensures.on); spent = omega (arith, c.window-apart.ensures.cost) }
 
 pub returns-clause-grows : goal.returns-clause-grows
 returns-clause-grows g c = λ rising p order elsewhere.

@@ -13,6 +13,7 @@ pub loop-cell-init : goal.loop-cell-init
 loop-cell-init g c = record {
   long = refl;
   grown = λ p can elsewhere. past_none (λ m k. found_over c.args.graph.now c.args.lists.now c.args.b.now k m) c.as_slice-cells.result.now c.args.found.now.items;
+  least = omega arith;
   spent = omega arith;
 }
 
@@ -22,6 +23,7 @@ loop-cell-preserved g c = record {
   grown = λ p can elsewhere.
       past_more (λ m k. found_over c.args.graph.now c.args.lists.now c.args.b.now k m) c.loop-cell.cell-index c.as_slice-cells.result.now _ c.args.found.now.items c.loop-cell.found.items c.add_cell.new.found.items c.loop-cell-test.true
       (c.loop-cell.invariant.grown p can elsewhere) (c.in_ok-add_cell.ensures.grows p can elsewhere);
+  least = omega (arith, c.tick.ensures, c.in_ok-add_cell.ensures.least, c.loop-cell.invariant.least);
   spent = omega (arith, c.tick.ensures, c.in_ok-add_cell.ensures.cost, c.loop-cell.invariant.spent);
 }
 
@@ -32,3 +34,6 @@ returns-clause-grows g c = λ p can elsewhere.
 
 pub returns-clause-cost : goal.returns-clause-cost
 returns-clause-cost g c = let same = ap length c.as_slice-cells.ensures in omega (arith, same, c.loop-cell.invariant.spent)
+
+pub returns-clause-least : goal.returns-clause-least
+returns-clause-least g c = let same = ap length c.as_slice-cells.ensures in omega (arith, same, c.loop-cell-test.false, c.loop-cell.invariant.least)

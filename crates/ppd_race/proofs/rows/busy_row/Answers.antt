@@ -11,6 +11,7 @@ loop-edge-preserved g c =
     record {
       part = part_more c.args.process c.loop-edge.edge c.args.own.now c.loop-edge.row c.take_edge.new.row c.index-own-edge.result c.loop-edge-test.true c.index-own-edge.is c.in_ok-take_edge.ensures.takes c.loop-edge.invariant.part;
       size = omega (arith, more, same, c.in_ok-take_edge.ensures.size, c.loop-edge.invariant.size);
+      least = omega (arith, c.tick.ensures, c.in_ok-take_edge.ensures.on, c.loop-edge.invariant.least);
       spent = omega (arith, more, same, c.tick.ensures, c.in_ok-take_edge.ensures.cost, c.loop-edge.invariant.spent);
     }
 

@@ -9,5 +9,6 @@ abbrev pub invariant-loop-edge : goal.invariant-loop-edge
 invariant-loop-edge g l = record {
   part : IsBusyPart l.process l.own l.edge l.row;
   size : sum_by edge_cost l.row ≤ sum_by set_cost (take l.edge l.own);
+  least : l.fn.steps + l.edge ≤ l.steps;
   spent : l.steps ≤ l.fn.steps + sum_by set_cost (take l.edge l.own);
 }

@@ -1,8 +1,9 @@
 use Rattle.std.proofs.Common.{◌∙◌, ap, arith}
 use Rattle.std.specs.List.{sum_by}
+use Rattle.std.proofs.lemmas.List.{take_all}
 use Rattle.std.proofs.lemmas.List.Sums.{sum_by-take-le, sum_by_more, sum_by_push}
 use Rattle.ppd_race.specs.Search.{row_cost}
-use Rattle.ppd_race.specs.Spending.{sets_cost}
+use Rattle.ppd_race.specs.Spending.{sets_cost, sets_least}
 use Rattle.ppd_race.proofs.BusyRows.{rows_more}
 use Rattle.ppd_race.proofs.rows.busy_rows.Goals as goal
 
@@ -12,11 +13,14 @@ loop-process-preserved g c =
     c.in_ok-push.ensures.ok c.in_ok-row.ensures.busy c.as_slice.ensures c.index-sets-process.is c.loop-process.invariant.row in
     let more = sum_by_more sets_cost c.args.sets.now c.loop-process.process c.index-sets-process.result c.loop-process-test.true in
     let same = ap sets_cost (c.as_slice.ensures ∙ c.index-sets-process.is) in
+    let more_least = sum_by_more sets_least c.args.sets.now c.loop-process.process c.index-sets-process.result c.loop-process-test.true in
+    let same_least = ap sets_least (c.as_slice.ensures ∙ c.index-sets-process.is) in
     let pushed = ap (sum_by row_cost) c.in_ok-push.ensures.ok ∙ sum_by_push row_cost c.loop-process.rows c.in_ok-row.row in
     record {
       long = now.0;
       row = now.1;
       size = omega (arith, more, same, pushed, c.in_ok-row.ensures.size, c.loop-process.invariant.size);
+      least = omega (arith, more_least, same_least, c.tick.ensures, c.in_ok-row.ensures.least, c.loop-process.invariant.least);
       spent = omega (arith, more, same, c.tick.ensures, c.in_ok-row.ensures.cost, c.loop-process.invariant.spent);
     }
 
@@ -25,3 +29,8 @@ returns-clause-size g c = let less = sum_by-take-le sets_cost c.args.sets.now c.
 
 pub returns-clause-cost : goal.returns-clause-cost
 returns-clause-cost g c = let less = sum_by-take-le sets_cost c.args.sets.now c.loop-process.process in omega (arith, less, c.loop-process.invariant.spent)
+
+pub returns-clause-least : goal.returns-clause-least
+returns-clause-least g c =
+    let all = ap (sum_by sets_least) (take_all c.loop-process.process c.args.sets.now c.loop-process-test.false) in
+    omega (arith, all, c.loop-process.invariant.least)

@@ -30,6 +30,7 @@ loop-q-preserved g c =
           grown_range (λ r. found_in c.args.graph.now c.args.lists.now (get_or rows r [])) (c.args.p + 1) q c.args.found.now.items c.loop-q.found.items c.add_row.new.found.items above (c.loop-q.invariant.grown can)
           (subst (λ row. GrowsBy (found_in c.args.graph.now c.args.lists.now row) c.loop-q.found.items c.add_row.new.found.items) row_is
           (c.in_ok-add_row.ensures.grows c.args.p can (row_elsewhere c.args.graph.now rows c.requires.rows c.args.p q c.as_slice.result.now (omega (arith, above)) inside row_is)));
+      least = omega (arith, above, c.tick.ensures, c.in_ok-add_row.ensures.least, c.loop-q.invariant.least);
       spent = omega (arith, c.tick.ensures, c.in_ok-add_row.ensures.cost, c.loop-q.invariant.spent, more, same);
     }
 
@@ -37,4 +38,7 @@ pub returns-clause-cost : goal.returns-clause-cost
 returns-clause-cost g c = let less = sum_by-take-le row_cost c.args.rows.now c.loop-q.q in omega (arith, less, c.loop-q.invariant.spent)
 
 pub loop-q-init : goal.loop-q-init
-loop-q-init g c = record { long = refl; grown = λ can. grown_none (λ m. flat_map (λ q. found_in c.args.graph.now c.args.lists.now (get_or c.args.rows.now q []) m) (range_with_len (c.args.p + 1) ((c.args.p + 1) - (c.args.p + 1)))) c.args.found.now.items (λ m lt. none_yet (λ q. found_in c.args.graph.now c.args.lists.now (get_or c.args.rows.now q []) m) (c.args.p + 1)); spent = omega arith }
+loop-q-init g c = record { long = refl; grown = λ can. grown_none (λ m. flat_map (λ q. found_in c.args.graph.now c.args.lists.now (get_or c.args.rows.now q []) m) (range_with_len (c.args.p + 1) ((c.args.p + 1) - (c.args.p + 1)))) c.args.found.now.items (λ m lt. none_yet (λ q. found_in c.args.graph.now c.args.lists.now (get_or c.args.rows.now q []) m) (c.args.p + 1)); least = omega arith; spent = omega arith }
+
+pub returns-clause-least : goal.returns-clause-least
+returns-clause-least g c = omega (arith, c.loop-q-test.false, c.loop-q.invariant.least)

@@ -20,6 +20,7 @@ loop-p-preserved g c =
     record {
       found = λ rising.
           c.in_ok-append.ensures.ok ∙ ap (λ xs. c.loop-p.races ++ xs) c.into_vec.ensures ∙ ap₂ (λ xs ys. xs ++ ys) (c.loop-p.invariant.found rising) (c.in_ok-part.ensures.races rising) ∙ from_zero (races_from c.args.graph.now rows) p;
+      least = omega (arith, long, c.tick.ensures, c.in_ok-part.ensures.least, c.loop-p.invariant.least);
       spent = omega (arith, more, times, long, c.tick.ensures, c.in_ok-part.ensures.cost, c.loop-p.invariant.spent);
     }
 
@@ -33,3 +34,6 @@ returns-clause-cost g c =
     let less = sum_by-take-le own_cost rows c.loop-p.p in
     let times : c.loop-p.p * each ≤ length rows * each = mul-le c.loop-p.p each (length rows) each (omega (arith, c.loop-p-test.false, c.loop-p.auto.p-end)) (omega arith) in
     omega (arith, less, times, c.loop-p.invariant.spent)
+
+pub returns-clause-least : goal.returns-clause-least
+returns-clause-least g c = omega (arith, c.loop-p-test.false, c.loop-p.invariant.least)

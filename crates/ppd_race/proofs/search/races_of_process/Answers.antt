@@ -1,9 +1,9 @@
-use Rattle.std.proofs.Common.{◌≡◌, ◌∙◌, [], ap, sym, subst, get_or, length}
+use Rattle.std.proofs.Common.{arith, ◌≡◌, ◌∙◌, [], ap, sym, subst, get_or, length}
 use Rattle.ppd_graph.proofs.Rows.{length_replicated, none_at}
 use Rattle.ppd_race.specs.Busy.{IsBusyRow}
 use Rattle.ppd_race.proofs.Listed.{can_search}
 use Rattle.ppd_race.proofs.Over.{is_whole, row_cells}
-use Rattle.ppd_race.proofs.Spent.{process_spent}
+use Rattle.ppd_race.proofs.Spent.{process_least, process_spent}
 use Rattle.ppd_race.proofs.Picked.{process_is}
 use Rattle.ppd_race.proofs.search.races_of_process.Goals as goal
 use Rattle.ppd_model.proofs.Lists.{get_or_any}
@@ -35,3 +35,12 @@ returns-clause-cost g c =
     let own_is : own ≡ get_or rows c.args.p [] = c.as_slice-own.ensures ∙ c.index-rows-p.is ∙ get_or_any rows c.args.p c.index-rows-p.result [] c.requires.there in
     process_spent c.args.steps.now own (get_or rows c.args.p []) rows c.list_by_cell.new.steps c.no_lists.new.steps c.add_later.new.steps _ c.in_ok-found.found.items c.add_later.new.found.items c.in_ok-races.races own_is
     c.in_ok-found.ensures.none c.in_ok-races.ensures.races c.in_ok-add_later.ensures.long c.in_ok-lists.ensures.cost c.in_ok-found.ensures.cost c.in_ok-add_later.ensures.cost c.in_ok-races.ensures.cost
+
+pub returns-clause-least : goal.returns-clause-least
+returns-clause-least g c =
+    let listed = c.in_ok-lists.ensures.least in
+    let begun = c.in_ok-found.ensures.taken in
+    let later = c.in_ok-add_later.ensures.least in
+    let joined = c.in_ok-races.ensures.taken in
+    process_least c.args.steps.now (length c.as_slice-own.result.now) c.list_by_cell.new.steps c.no_lists.new.steps c.add_later.new.steps _ c.in_ok-found.found.items c.add_later.new.found.items c.in_ok-races.races
+    c.in_ok-found.ensures.none c.in_ok-races.ensures.races (omega (arith, listed)) (omega (arith, begun)) (omega (arith, later)) (omega (arith, joined))

@@ -6,5 +6,5 @@ abbrev pub invariant-loop-cell : goal.invariant-loop-cell
 invariant-loop-cell g l = record {
   those_are : l.cells ≡ those l.cell (λ c. has l.reads c || has l.writes c);
   size : length l.cells ≤ l.cell;
-  spent : l.steps ≤ l.fn.steps + l.cell;
+  spent : l.steps ≡ l.fn.steps + l.cell;
 }

@@ -31,5 +31,5 @@ returns-in-Drill-clause-comes g c =
 
 pub returns-in-Query-clause-comes : goal.returns-in-Query-clause-comes
 returns-in-Query-clause-comes g c =
-    c.on_query.ensures c.args.words.now (g.I.Source.left c.args.input.now) (g.I.Source.faults c.args.input.now)
+    c.on_query.ensures c.args.words.now (g.I.Source.left c.args.input.now) (g.I.Source.before_last c.args.input.now) (g.I.Source.faults c.args.input.now)
     (asks_query (texts_in c.args.words.now) c.in-Ok.asked c.in-Ok.ensures.is c.in-Some.request c.in-Query.name c.in-Query.query c.in-Some.is c.in-Query.is)

@@ -13,7 +13,7 @@ use Rattle.ppd_top.proofs.call.on_source.Goals as goal
 
 pub returns-in-Err-clause-comes : goal.returns-in-Err-clause-comes
 returns-in-Err-clause-comes g c = λ words asks.
-    source_unloaded words (around (g.F.Shelf.held c.args.shelf.now) (g.F.Shelf.failed_loads c.args.shelf.now) (g.F.Shelf.failed_stores c.args.shelf.now) (standing (g.I.Source.left c.args.input.now) (g.I.Source.faults c.args.input.now) (g.O.Sink.written c.args.output.now) (g.O.Sink.faults c.args.output.now))) (around (g.F.Shelf.held c.load.new.self) (g.F.Shelf.failed_loads c.load.new.self) (g.F.Shelf.failed_stores c.load.new.self) (standing (g.I.Source.left c.args.input.now) (g.I.Source.faults c.args.input.now) (g.O.Sink.written c.args.output.now) (g.O.Sink.faults c.args.output.now))) c.unloaded.result.schedule c.unloaded.result.status c.args.request.now.name.now (record { held = c.load.ensures.same; stores = c.load.ensures.stores })
+    source_unloaded words (around (g.F.Shelf.held c.args.shelf.now) (g.F.Shelf.failed_loads c.args.shelf.now) (g.F.Shelf.failed_stores c.args.shelf.now) (standing (g.I.Source.left c.args.input.now) (g.I.Source.before_last c.args.input.now) (g.I.Source.faults c.args.input.now) (g.O.Sink.written c.args.output.now) (g.O.Sink.faults c.args.output.now))) (around (g.F.Shelf.held c.load.new.self) (g.F.Shelf.failed_loads c.load.new.self) (g.F.Shelf.failed_stores c.load.new.self) (standing (g.I.Source.left c.args.input.now) (g.I.Source.before_last c.args.input.now) (g.I.Source.faults c.args.input.now) (g.O.Sink.written c.args.output.now) (g.O.Sink.faults c.args.output.now))) c.unloaded.result.schedule c.unloaded.result.status c.args.request.now.name.now (record { held = c.load.ensures.same; stores = c.load.ensures.stores })
     (record { no_run = c.unloaded.ensures.schedule; written = refl }) (command_of c.args.request.now.command) c.args.request.now.options c.in-Err.error asks (λ e. c.load.ensures.failed (c.in-Err.is ∙ ap Err e)) c.unloaded.ensures.status
 
 pub returns-in-Err-read_source-clause-comes : goal.returns-in-Err-read_source-clause-comes
@@ -32,7 +32,7 @@ returns-in-Flow-clause-input g c = λ e. absurd (flow_not_early _ c.in-Ok-read_s
 pub returns-in-Show-clause-comes : goal.returns-in-Show-clause-comes
 returns-in-Show-clause-comes g c = λ words asks.
     let loads : Loads (g.F.Shelf.held c.args.shelf.now) c.args.request.now.name.now most_bytes c.deref.result.now = rw c.deref.ensures.value c.in-Ok.ensures.bytes in
-    show_done c.args.request.now.name.now c.args.request.now.options c.deref.result.now c.in-Ok-read_source.program (subst (λ d. Asks words d c.args.request.now.name.now c.args.request.now.options) (ap command_of c.in-Show.is) asks) loads c.in-Ok-read_source.ensures.read (record { held = c.load.ensures.same; stores = c.load.ensures.stores }) refl (c.show.ensures (g.I.Source.left c.args.input.now) (g.I.Source.faults c.args.input.now))
+    show_done c.args.request.now.name.now c.args.request.now.options c.deref.result.now c.in-Ok-read_source.program (subst (λ d. Asks words d c.args.request.now.name.now c.args.request.now.options) (ap command_of c.in-Show.is) asks) loads c.in-Ok-read_source.ensures.read (record { held = c.load.ensures.same; stores = c.load.ensures.stores }) refl (c.show.ensures (g.I.Source.left c.args.input.now) (g.I.Source.before_last c.args.input.now) (g.I.Source.faults c.args.input.now))
 
 pub returns-clause-comes : goal.returns-clause-comes
 returns-clause-comes g c = λ words asks.

@@ -4,4 +4,4 @@ use Rattle.ppd_whole_link.specs.Runs.{tag_write}
 use Rattle.ppd_whole_link.proofs.tags.tag_writes.Given as goal
 
 abbrev pub invariant-loop-access : goal.invariant-loop-access
-invariant-loop-access l = l.runs ≡ fold (tag_write l.tag) l.fn.runs (take l.access-index l.writes)
+invariant-loop-access g l = l.runs ≡ fold (tag_write l.tag) l.fn.runs (take l.access-index l.writes)

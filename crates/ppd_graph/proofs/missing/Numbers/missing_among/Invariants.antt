@@ -1,4 +1,4 @@
-use Rattle.std.proofs.Common.{◌≡◌, ◌-◌, ◌+◌, ◌≤◌}
+use Rattle.std.proofs.Common.{◌≡◌, ◌-◌, ◌+◌}
 use Rattle.std.specs.List.{range_with_len, sum_by}
 use Rattle.ppd_graph.specs.ByNumber.{numbered_kept}
 use Rattle.ppd_graph.specs.Refusals.{first_missing, object_count, object_misses}
@@ -9,5 +9,5 @@ abbrev pub invariant-loop-object : goal.invariant-loop-object
 invariant-loop-object g l = record {
   holds : first_missing (object_misses l.objects l.self.program.now (numbered_kept l.self.nodes l.self.greatest)) (range_with_len l.object (object_count l.objects l.self.program.now - l.object))
       ≡ first_missing (object_misses l.objects l.self.program.now (numbered_kept l.self.nodes l.self.greatest)) (range_with_len 0 (object_count l.objects l.self.program.now));
-  spent : l.steps ≤ l.fn.steps + sum_by (object_cost l.objects l.self.program.now l.self.greatest) (range_with_len 0 l.object);
+  spent : l.steps ≡ l.fn.steps + sum_by (object_cost l.objects l.self.program.now l.self.greatest) (range_with_len 0 l.object);
 }

@@ -1,0 +1,2 @@
+-- What is kept of the activations of a process.
+pub mod Runs

@@ -1,7 +1,0 @@
-use Rattle.std.proofs.Common.{◌≡◌, ◌++◌, take}
-use Rattle.std.specs.List.{flat_map}
-use Rattle.ppd_codec_runs.specs.Refusals.{node_text}
-use Rattle.ppd_codec_runs.proofs.refusal.put_nodes.Given as goal
-
-abbrev pub invariant-loop-node : goal.invariant-loop-node
-invariant-loop-node l = l.line.items ≡ l.initial.line.items ++ flat_map (node_text l.program) (take l.node-index l.nodes)

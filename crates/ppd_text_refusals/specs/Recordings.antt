@@ -1,0 +1,94 @@
+-- The line that says why a recording is refused.
+use Rattle.std.specs.Prelude.{◌++◌, ℕ, List, [], codes, decimal, slice_get}
+use Rattle.std.specs.List.{flat_map}
+use Rattle.ppd_ast.specs.declared.limits.TheConstants.{MOST_RECORDING_BYTES}
+use Rattle.ppd_ast.specs.declared.program.Program.{Program}
+use Rattle.ppd_ast.specs.declared.status.SyncKind.{SyncKind}
+use Rattle.ppd_ast.specs.declared.status.SyncKind.TheVariants as kind
+use Rattle.ppd_codec.specs.declared.bad.BadBytes.{BadBytes}
+use Rattle.ppd_codec.specs.declared.bad.BadBytes.TheVariants as bytes
+use Rattle.ppd_codec.specs.declared.bad.Field.{Field}
+use Rattle.ppd_codec.specs.declared.bad.Field.TheVariants as field
+use Rattle.ppd_entry.specs.declared.entry.At.{At}
+use Rattle.ppd_graph.specs.declared.refusal.BadSync.{BadSync}
+use Rattle.ppd_graph.specs.declared.refusal.BadSync.TheVariants as sync
+use Rattle.ppd_index.specs.declared.refusal.BadLog.{BadLog}
+use Rattle.ppd_index.specs.declared.refusal.BadLog.TheVariants as log
+use Rattle.ppd_model.specs.declared.graph.NodeId.{NodeId}
+use Rattle.ppd_session.specs.declared.reply.SessionError.{SessionError}
+use Rattle.ppd_session.specs.declared.reply.SessionError.TheVariants as session_error
+use Rattle.ppd_text_items.specs.Names.{process_name}
+use Rattle.ppd_text_tables.specs.Names.{chan_name, sem_name}
+use Rattle.ppd_text_refusals.specs.Stages.{stage_text}
+
+-- ---- bytes
+
+abbrev pub field_word : Field → List ℕ
+field_word field.Budget = codes "budget"
+field_word field.Leaf = codes "leaf"
+field_word field.Loops = codes "loops"
+field_word field.Source = codes "source"
+field_word field.Processes = codes "processes"
+field_word field.Tag = codes "tag"
+field_word field.Kind = codes "kind"
+field_word field.Number = codes "number"
+field_word field.Value = codes "value"
+field_word field.Cells = codes "cells"
+field_word field.Status = codes "status"
+field_word field.Version = codes "version"
+
+-- a test of this number and name that failed at an offset
+abbrev pub at_offset : List ℕ → ℕ → List ℕ
+at_offset what n = what ++ decimal n ++ codes "\n"
+
+abbrev pub refused_bytes : BadBytes → List ℕ
+refused_bytes (bytes.Magic n) = at_offset (codes "recording refused bytes 1 Magic ") n
+refused_bytes (bytes.Version n) = at_offset (codes "recording refused bytes 2 Version ") n
+refused_bytes (bytes.Short n) = at_offset (codes "recording refused bytes 3 Short ") n
+refused_bytes (bytes.Range n f) = codes "recording refused bytes 4 Range " ++ decimal n ++ codes " " ++ field_word f
+    ++ codes "\n"
+refused_bytes (bytes.Trailing n) = at_offset (codes "recording refused bytes 5 Trailing ") n
+refused_bytes (bytes.Source e) = codes "recording refused bytes 6 Source " ++ stage_text e ++ codes "\n"
+refused_bytes bytes.TooLong = codes "recording refused bytes 7 TooLong " ++ decimal MOST_RECORDING_BYTES ++ codes "\n"
+refused_bytes bytes.Memory = []
+
+-- ---- logs and synchronization
+
+-- a test of this number and name that failed at an entry of a process
+abbrev pub at_entry : Program → List ℕ → At → List ℕ
+at_entry program what at = what ++ process_name program at.process ++ codes " " ++ decimal at.entry ++ codes "\n"
+
+abbrev pub refused_log : Program → BadLog → List ℕ
+refused_log program (log.Unpaired at) = at_entry program (codes "recording refused log 1 Unpaired ") at
+refused_log program (log.NoEnd at) = at_entry program (codes "recording refused log 2 NoEnd ") at
+refused_log program (log.AfterEnd at) = at_entry program (codes "recording refused log 3 AfterEnd ") at
+refused_log program (log.WrongValues at) = at_entry program (codes "recording refused log 4 WrongValues ") at
+refused_log program log.Memory = []
+
+-- a replay that fails at an entry of a process, or replays that write a cell of its set nowhere
+abbrev pub refused_replay : Program → SessionError → List ℕ
+refused_replay program (session_error.Diverged at) = at_entry program (codes "recording refused replay 1 Diverged ") at
+refused_replay program (session_error.Sets at) = at_entry program (codes "recording refused replay 3 Sets ") at
+refused_replay program session_error.Memory = []
+
+-- the word of a kind, and the name of its object
+abbrev pub object_text : Program → SyncKind → ℕ → List ℕ
+object_text program kind.P o = codes "P " ++ sem_name (slice_get program.sems o)
+object_text program kind.V o = codes "V " ++ sem_name (slice_get program.sems o)
+object_text program kind.Send o = codes "send " ++ chan_name (slice_get program.chans o)
+object_text program kind.Recv o = codes "recv " ++ chan_name (slice_get program.chans o)
+object_text program kind.Done o = codes "done " ++ chan_name (slice_get program.chans o)
+
+-- a synchronization of a process, after a space
+abbrev pub node_text : Program → NodeId → List ℕ
+node_text program n = codes " " ++ process_name program n.process ++ codes " " ++ decimal n.sync
+
+abbrev pub refused_sync : Program → BadSync → List ℕ
+refused_sync program (sync.NumberTwice at) = at_entry program (codes "recording refused sync 1 NumberTwice ") at
+refused_sync program (sync.NumberMissing kind object number) =
+    codes "recording refused sync 2 NumberMissing " ++ object_text program kind object ++ codes " " ++ decimal number
+    ++ codes "\n"
+refused_sync program (sync.Cycle nodes) = codes "recording refused sync 3 Cycle" ++ flat_map (node_text program) nodes
+    ++ codes "\n"
+refused_sync program (sync.NoObject at) = at_entry program (codes "recording refused sync 4 NoObject ") at
+refused_sync program sync.Memory = []

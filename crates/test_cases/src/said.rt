@@ -1,0 +1,95 @@
+// What the lines of a part of a case say.
+
+use crate::content::{first_word, is_content, number};
+use crate::fault::Fault;
+use std::alloc::Global;
+
+/// Whether content may stand under a line of this word.
+fn is_head(key: &str) -> bool {
+    matches!(key, "file" | "input" | "output" | "stored")
+}
+
+/// Whether a line of this word may stand before the first call of a case.
+fn is_before(key: &str) -> bool {
+    matches!(key, "file" | "shelf-fails" | "each" | "wrong")
+}
+
+/// Whether a line of this word may stand under a call: what the call is given, and what it must come to.
+fn is_under(key: &str) -> bool {
+    matches!(
+        key,
+        "input"
+            | "chunk"
+            | "input-fails"
+            | "room"
+            | "output-fails"
+            | "budget"
+            | "leaf"
+            | "loops"
+            | "status"
+            | "output"
+            | "taken"
+            | "length"
+            | "stored"
+            | "refused"
+    )
+}
+
+/// The first line that may not stand where it does, if there is one.
+pub(crate) fn stray_line(part: &str, is_call: bool) -> Option<&str> {
+    let mut is_inside = false;
+    for line in part.lines() {
+        let (key, _) = first_word(line);
+        if is_content(key) {
+            if !is_inside {
+                return Some(line);
+            }
+        } else if is_call && is_under(key)
+            || !is_call && is_before(key)
+            || key == ""
+            || key == "#"
+        {
+            is_inside = is_head(key);
+        } else {
+            return Some(line);
+        }
+    }
+    None
+}
+
+/// What stands behind this word in the first line that begins with it.
+pub(crate) fn said<'a>(part: &'a str, key: &str) -> Option<&'a str> {
+    for line in part.lines() {
+        let (word, rest) = first_word(line);
+        if word == key {
+            return Some(rest);
+        }
+    }
+    None
+}
+
+/// The number that stands behind this word, or this one where no line begins with it.
+pub(crate) fn number_said(part: &str, key: &str, otherwise: u32) -> Result<u32, Fault> {
+    match said(part, key) {
+        Some(rest) => number(rest),
+        None => Ok(otherwise),
+    }
+}
+
+/// The numbers that stand behind this word; none where no line begins with it.
+pub(crate) fn numbers_said(alloc: Global, part: &str, key: &str) -> Result<Vec<u32>, Fault> {
+    let mut found = Vec::new(alloc);
+    for word in said(part, key).unwrap_or("").split_whitespace() {
+        found.push(number(word)?)?;
+    }
+    Ok(found)
+}
+
+/// Numbers below 256, with blanks between them.
+pub(crate) fn schedule_of(alloc: Global, text: &str) -> Result<Vec<u8>, Fault> {
+    let mut found = Vec::new(alloc);
+    for word in text.split_whitespace() {
+        found.push(word.parse::<u8>().map_err(|_| Fault::Line)?)?;
+    }
+    Ok(found)
+}

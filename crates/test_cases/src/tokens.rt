@@ -1,0 +1,75 @@
+// The tokens of sources, as text.
+
+use ppd_lex::{LexError, Token, TokenKind, lex};
+use std::alloc::{AllocError, Global};
+
+/// A token in short: n and the length of a name, a number, the kind of a keyword or mark, or the place of the end.
+fn told_token(alloc: Global, token: &Token) -> Result<String, AllocError> {
+    match &token.kind {
+        TokenKind::Name(name) => format!(in alloc; "n{}", name.len()),
+        TokenKind::Number(value) => format!(in alloc; "{value}"),
+        TokenKind::Word(kind) | TokenKind::Mark(kind) => format!(in alloc; "{kind:?}"),
+        TokenKind::End => format!(in alloc; "{}:{}", token.place.line, token.place.column),
+    }
+}
+
+fn told_list(alloc: Global, tokens: &[Token]) -> Result<String, AllocError> {
+    let mut text = String::new(alloc);
+    for token in tokens {
+        if !text.is_empty() {
+            text.push_str(" ")?;
+        }
+        let told = told_token(alloc, token)?;
+        text.push_str(&told)?;
+    }
+    Ok(text)
+}
+
+fn told_error(alloc: Global, error: LexError) -> Result<String, AllocError> {
+    format!(in alloc; "{error:?}")
+}
+
+/// The tokens of a source with blanks between them, or why it has none.
+pub(crate) fn told_tokens(alloc: Global, source: &[u8]) -> Result<String, AllocError> {
+    match lex(alloc, source) {
+        Ok(tokens) => told_list(alloc, &tokens),
+        Err(error) => told_error(alloc, error),
+    }
+}
+
+/// A name as it stands, or another token in short.
+fn told_kind(alloc: Global, token: &Token) -> Result<String, AllocError> {
+    match &token.kind {
+        TokenKind::Name(name) => std::str::from_utf8(name.as_slice())
+            .unwrap_or("?")
+            .to_string(alloc),
+        _ => told_token(alloc, token),
+    }
+}
+
+/// A token's bytes in the source from the first to behind the last, its place, and what it is.
+fn told_field(alloc: Global, token: &Token) -> Result<String, AllocError> {
+    let kind = told_kind(alloc, token)?;
+    let place = token.place;
+    format!(in alloc;
+        "{}-{} {}:{} {kind}\n",
+        token.from, token.to, place.line, place.column
+    )
+}
+
+fn told_each(alloc: Global, tokens: &[Token]) -> Result<String, AllocError> {
+    let mut text = String::new(alloc);
+    for token in tokens {
+        let told = told_field(alloc, token)?;
+        text.push_str(&told)?;
+    }
+    Ok(text)
+}
+
+/// The fields of each token of a source, one a line, or why it has none.
+pub(crate) fn told_fields(alloc: Global, source: &[u8]) -> Result<String, AllocError> {
+    match lex(alloc, source) {
+        Ok(tokens) => told_each(alloc, &tokens),
+        Err(error) => told_error(alloc, error),
+    }
+}
