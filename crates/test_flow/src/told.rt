@@ -1,4 +1,5 @@
 //! What a session over the run of a source answers.
+ghost use Rattle.std.specs.Prelude.{◌≡◌};
 ghost use Rattle.ppd_flow_past.specs.Pasts.{IsPast};
 
 use ppd_session::{Past, Session};
@@ -14,7 +15,8 @@ fn answers(
     blocks: u32,
     lines: &[&str],
 ) -> Option<Vec<u8>>
-    requires { IsPast past }
+    requires past { IsPast past }
+    requires uncut { past.cut.now ≡ past.logs.now }
 {
     let Ok(mut session) = Session::cached(rt, alloc, past, blocks) else {
         return None;

@@ -1,5 +1,5 @@
 // The run of a row, and what is kept of it.
-ghost use Rattle.std.specs.Prelude.{◌≤◌, IfSome};
+ghost use Rattle.std.specs.Prelude.{◌≡◌, ◌≤◌, IfSome};
 ghost use Rattle.ppd_ast.specs.Valid.{IsValid};
 ghost use Rattle.ppd_ast.specs.ValidPlan.{IsValidPlan};
 ghost use Rattle.ppd_flow_past.specs.Pasts.{IsPast};
@@ -35,7 +35,8 @@ impl Ran {
     /// The same as a past.
     pub fn past(&self) -> Past<'_>
         requires { IsRan self.now }
-        ensures { IsPast result }
+        ensures past { IsPast result }
+        ensures uncut { result.cut.now ≡ result.logs.now }
     {
         Past {
             program: &self.program,

@@ -1,12 +1,7 @@
-ghost use Rattle.std.specs.Prelude.{◌≡◌, ◌<◌};
-
-use ppd_ast::Steps;
-use ppd_rerun::{No, Verdict, rerun};
+use crate::verdicts::verdict;
+use ppd_rerun::{No, Verdict};
 use std::alloc::Global;
-use std::marker::Brand;
-use std::sync::ledger::{Blank, Ledger};
 use std::test::Fail;
-use test_pasts::{by_default, run_row};
 
 const SNAPSHOT: &str =
     "shared int x, y; sem s = 1; process p { P(s); if (y) { print(x); } } process q { x = 5; }";
@@ -22,37 +17,6 @@ const RECURSION: &str =
 
 const RENDEZVOUS: &str =
     "shared int x; chan c[0]; process a { send(c, 7); x = 2; } process b { int v; print(x); v = recv(c); }";
-
-/// The verdict on the run of a source by this schedule.
-fn verdict_from<L: Ledger>(
-    alloc: Global,
-    source: &str,
-    schedule: &[u8],
-    blank: Blank,
-) -> Option<Verdict>
-    requires name { blank.name ≡ L.name }
-    requires parts { blank.parts ≡ L.parts }
-    requires some { 0 < blank.parts }
-{
-    let Some(ran) = run_row(alloc, &by_default(source, schedule)) else {
-        return None;
-    };
-    let mut steps: Steps<L> = Steps::new(blank);
-    rerun(
-        alloc,
-        &ran.program,
-        &ran.plan,
-        &ran.logs,
-        &ran.index,
-        ran.budget,
-        &mut steps,
-    )
-    .ok()
-}
-
-fn verdict(alloc: Global, source: &str, schedule: &[u8]) -> Option<Verdict> {
-    verdict_from::<Brand>(alloc, source, schedule, Blank::new(1))
-}
 
 /// The schedule of a yes.
 fn confirmed(alloc: Global, source: &str, schedule: &[u8]) -> Option<Vec<u8>> {

@@ -1,4 +1,5 @@
 // What is told of the run of a source.
+ghost use Rattle.std.specs.Prelude.{◌<◌};
 
 use ppd_whole::{WholeError, whole};
 use std::alloc::Global;
@@ -11,7 +12,9 @@ pub fn told(
     alloc: Global,
     row: &Row,
     workers: u32,
-) -> Option<Result<Vec<u8>, WholeError>> {
+) -> Option<Result<Vec<u8>, WholeError>>
+    requires { 0 < workers }
+{
     let Some(ran) = run_row(alloc, row) else {
         return None;
     };
