@@ -1,7 +1,7 @@
 #!/usr/bin/env python3
-"""Tries the edits of edits/CRATE/NAME.edit, which stand outside the gate: the prover must refuse each. They are of
-crates whose contracts are equations with definitions, which refuse any other value, so they show less than those of
-crates/CRATE/must-fail/, have the same form, and are tried when such a contract or its definition is changed.
+"""Tries the edits of edits/CRATE/NAME.edit, which stand outside the gate: the prover must refuse each. Most are of
+calls whose contract is an equation with a definition, which refuses any other value, so they show less than those of
+crates/CRATE/must-fail/. They have the same form, and are tried when such a contract or its definition is changed.
 
 In a temporary copy of the crates the edits of a crate are put in the place of its own must-fail edits, and
 `rt must-fail` tries them, for one crate after the other. Prints a line for each edit. Ends with status 0 where each is
