@@ -1,7 +1,7 @@
 use crate::lists::{Cells, Seq};
 
 /// What an e-block is the code of, by number.
-#[derive(Clone, Copy, PartialEq, Eq, Debug)]
+#[derive(Clone, Copy, PartialEq)]
 pub enum BlockKind {
     /// A function's body.
     Function(u16),
@@ -12,7 +12,7 @@ pub enum BlockKind {
 }
 
 /// An e-block: the local cells of its prelog and of its postlog, rising.
-#[derive(Drop, Debug, Clone, PartialEq)]
+#[derive(Drop)]
 pub struct Block {
     pub kind: BlockKind,
     pub prelog: Cells,
@@ -22,7 +22,7 @@ pub struct Block {
 }
 
 /// Where a synchronization unit starts.
-#[derive(Clone, Copy, PartialEq, Eq, Debug)]
+#[derive(Clone, Copy, PartialEq)]
 pub enum Start {
     /// A body's entry.
     Entry(u16),
@@ -35,14 +35,14 @@ pub enum Start {
 }
 
 /// A synchronization unit: the shared cells that it may read, rising.
-#[derive(Drop, Debug, Clone, PartialEq)]
+#[derive(Drop)]
 pub struct Unit {
     pub start: Start,
     pub cells: Cells,
 }
 
 /// What makes a function or a loop an e-block; each number is 0 to 4,096.
-#[derive(Clone, Copy, PartialEq, Eq, Debug)]
+#[derive(Clone, Copy)]
 pub struct Policy {
     /// A function without a call and with fewer core statements is no block.
     pub leaf: u16,
@@ -51,7 +51,7 @@ pub struct Policy {
 }
 
 /// The e-blocks and units of a program under a policy.
-#[derive(Drop, Debug, Clone, PartialEq)]
+#[derive(Drop)]
 pub struct Plan {
     pub policy: Policy,
     pub blocks: Seq<Block>,

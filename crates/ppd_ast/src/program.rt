@@ -13,7 +13,7 @@ pub struct Place {
 }
 
 /// The binary operators that evaluate both operands.
-#[derive(Clone, Copy, PartialEq, Eq, Debug)]
+#[derive(Clone, Copy)]
 pub enum Op {
     Mul,
     Div,
@@ -31,7 +31,7 @@ pub enum Op {
 /// An expression of the table. Its children are numbers of expressions, smaller than its own.
 /// `Local` and `Shared` name a scalar's cell; `LocalAt` and `SharedAt` an array's cells, from
 /// `base` on, with the index `at`.
-#[derive(Clone, Copy, PartialEq, Eq, Debug)]
+#[derive(Clone, Copy)]
 pub enum Expr {
     Const(i64),
     Local(u16),
@@ -46,7 +46,7 @@ pub enum Expr {
 }
 
 /// What an assignment writes.
-#[derive(Clone, Copy, PartialEq, Eq, Debug)]
+#[derive(Clone, Copy)]
 pub enum Target {
     Local(u16),
     LocalAt { base: u16, len: u16, at: u32 },
@@ -55,7 +55,7 @@ pub enum Target {
 }
 
 /// A core statement. Lists in it are numbers of statements, arguments are numbers of expressions.
-#[derive(Drop, Debug, Clone, PartialEq)]
+#[derive(Drop)]
 pub enum Kind {
     Set(Target, u32),
     Zero {
@@ -80,7 +80,7 @@ pub enum Kind {
 }
 
 /// A core statement with its place, its body and the `If` or `While` in which it directly stands.
-#[derive(Drop, Debug, Clone, PartialEq)]
+#[derive(Drop)]
 pub struct Stmt {
     pub place: Place,
     pub body: u16,
@@ -89,7 +89,7 @@ pub struct Stmt {
 }
 
 /// A variable: its cells begin at `base`; an array has a length, a scalar none.
-#[derive(Drop, Debug, Clone, PartialEq)]
+#[derive(Drop)]
 pub struct Var {
     pub name: Bytes,
     pub base: u16,
@@ -99,7 +99,7 @@ pub struct Var {
 /// A function or a process. The first `params` of `locals` are the parameters; `cells` is the
 /// size of the frame; `top` lists the outermost statements; the statements are the numbers from
 /// `first` to before `end`.
-#[derive(Drop, Debug, Clone, PartialEq)]
+#[derive(Drop)]
 pub struct Body {
     pub name: Bytes,
     pub process: bool,
@@ -113,14 +113,14 @@ pub struct Body {
 }
 
 /// A semaphore with its initial value.
-#[derive(Drop, Debug, Clone, PartialEq)]
+#[derive(Drop)]
 pub struct Sem {
     pub name: Bytes,
     pub start: u32,
 }
 
 /// A channel with its capacity.
-#[derive(Drop, Debug, Clone, PartialEq)]
+#[derive(Drop)]
 pub struct Chan {
     pub name: Bytes,
     pub capacity: u8,
@@ -128,7 +128,7 @@ pub struct Chan {
 
 /// The checked program. The first `functions` bodies are the functions, the others are the
 /// processes; `starts` has the start value of each shared cell.
-#[derive(Drop, Debug, Clone, PartialEq)]
+#[derive(Drop)]
 pub struct Program {
     pub exprs: Seq<Expr>,
     pub stmts: Seq<Stmt>,

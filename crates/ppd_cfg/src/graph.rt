@@ -9,7 +9,7 @@ use std::alloc::Global;
 
 /// The flow graph of a body: for each of its statements, from the first one's number on, its
 /// successors.
-#[derive(Drop, Debug, Clone, PartialEq)]
+#[derive(Drop)]
 pub struct Cfg {
     first: u32,
     rows: Seq<Ids>,

@@ -9,7 +9,7 @@ use ppd_parse::SyntaxError;
 use thiserror::Error;
 
 /// Why a source has no core form: the first rule that it breaks, with its place.
-#[derive(Clone, Copy, PartialEq, Eq, Debug, Drop, Error)]
+#[derive(Clone, Copy, Debug, Drop, Error)]
 pub enum CheckError {
     /// The second name: it is declared before in the same scope.
     #[error("{}:{}: this name is declared twice", .0.line, .0.column)]
@@ -46,7 +46,7 @@ pub enum CheckError {
 
 /// Why a source has no program: its first lexical fault, else the first token that breaks the grammar or
 /// one of its limits, else the first rule that it breaks. Want of memory is the outer `Memory` alone.
-#[derive(Clone, Copy, PartialEq, Eq, Debug, Drop, Error)]
+#[derive(Clone, Copy, Debug, Drop, Error)]
 pub enum SourceError {
     /// The first lexical fault.
     #[error(transparent)]

@@ -24,7 +24,7 @@ pub enum Limit {
 }
 
 /// A rule that a source can break, in the order of their numbers.
-#[derive(Clone, Copy, PartialEq, Eq, PartialOrd, Ord, Debug)]
+#[derive(Clone, Copy, PartialEq, Eq, PartialOrd, Ord)]
 pub enum Cause {
     Twice,
     Unknown,
@@ -38,7 +38,7 @@ pub enum Cause {
 }
 
 /// A broken rule and its place. Broken rules are ordered by their places, then in the rules' order.
-#[derive(Clone, Copy, PartialEq, Eq, PartialOrd, Ord, Debug)]
+#[derive(Clone, Copy, PartialEq, Eq, PartialOrd, Ord)]
 pub struct Fault {
     pub place: Place,
     pub cause: Cause,

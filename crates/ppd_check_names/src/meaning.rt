@@ -3,7 +3,7 @@ ghost use Rattle.std.specs.Prelude.{◌≡◌};
 ghost use Rattle.ppd_check_names.specs.Names.{is_scalar, is_array, is_semaphore, is_channel, fits_index};
 
 /// What a name can mean. Variables have their first cell and, as arrays, their length.
-#[derive(Clone, Copy, PartialEq, Eq, Debug)]
+#[derive(Clone, Copy)]
 pub enum Meaning {
     Shared(u16, Option<u16>),
     Local(u16, Option<u16>),

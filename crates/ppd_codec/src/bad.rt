@@ -3,7 +3,7 @@ use ppd_check::SourceError;
 use thiserror::Error;
 
 /// The field of a recording that has no lawful value.
-#[derive(Clone, Copy, PartialEq, Eq, Debug, Drop)]
+#[derive(Clone, Copy, Debug, Drop)]
 pub enum Field {
     Budget,
     Leaf,
@@ -21,7 +21,7 @@ pub enum Field {
 
 /// Why bytes are no recording: the first field, in their order, that is not whole or not lawful. A number is an
 /// offset in bytes, from 0, mostly that of the field.
-#[derive(Clone, Copy, PartialEq, Eq, Debug, Drop, Error)]
+#[derive(Clone, Copy, Debug, Drop, Error)]
 pub enum BadBytes {
     /// The first four bytes are not `PPDR`.
     #[error("byte {0}: this is no recording")]

@@ -2,14 +2,14 @@ use ppd_ast::{Bytes, Plan, Policy, Program};
 use ppd_entry::Logs;
 
 /// With what a source was run: the policy of its plan, and the budget of each process, 1 to 500,000.
-#[derive(Clone, Copy, PartialEq, Eq, Debug)]
+#[derive(Clone, Copy)]
 pub struct Header {
     pub policy: Policy,
     pub budget: u32,
 }
 
 /// What a recording holds, with the program of its source and the plan of its policy.
-#[derive(Drop, Debug, Clone, PartialEq)]
+#[derive(Drop)]
 pub struct Recording {
     pub source: Bytes,
     pub program: Program,

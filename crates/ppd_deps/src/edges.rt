@@ -4,7 +4,7 @@ ghost use Rattle.ppd_deps.specs.Rows.{row_at};
 use ppd_ast::Seq;
 
 /// A static edge into a statement.
-#[derive(Clone, Copy, PartialEq, Eq, Debug)]
+#[derive(Clone, Copy, PartialEq)]
 pub enum StaticEdge {
     /// A value of the variable, by its number among the shared ones or those of the statement's
     /// body, may come from what this statement writes.
@@ -17,7 +17,7 @@ pub enum StaticEdge {
 }
 
 /// For each statement of a program, by number, the static edges into it.
-#[derive(Drop, Debug, Clone, PartialEq)]
+#[derive(Drop)]
 pub struct DepGraph {
     pub(crate) rows: Seq<Seq<StaticEdge>>,
 }

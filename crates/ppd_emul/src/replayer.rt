@@ -34,7 +34,7 @@ pub(crate) struct Replayer<'a> {
 }
 
 /// Whether a replay goes on after a turn.
-#[derive(Clone, Copy, PartialEq, Eq, Debug)]
+#[derive(Clone, Copy)]
 pub(crate) enum Turned {
     More,
     Done,

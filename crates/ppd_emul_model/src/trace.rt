@@ -4,13 +4,13 @@ use ppd_model::Item;
 use thiserror::Error;
 
 /// What the replay of an interval gives: its items in order.
-#[derive(Drop, Debug, Clone, PartialEq)]
+#[derive(Drop, PartialEq)]
 pub struct BlockTrace {
     pub items: Seq<Item>,
 }
 
 /// Why an interval could not be replayed.
-#[derive(Drop, Debug, Clone, PartialEq, Error)]
+#[derive(Drop, Debug, PartialEq, Error)]
 pub enum EmulError {
     /// The log is not one of a run of this interval: the entry of this number in the process's log
     /// is the first that the replay cannot go on with. `wanted` is what it needed there, and

@@ -7,7 +7,7 @@ use ppd_entry_lists::{BoxedCells, BoxedNums};
 /// An entry of a process's log. Numbers of blocks and units are those of the plan, cells are
 /// shared cells, rising. `reads` and `writes` are the cells accessed since the previous
 /// synchronization of the process, or since its start.
-#[derive(Drop, Debug, Clone, PartialEq)]
+#[derive(Drop)]
 pub enum Entry {
     /// A block was entered: of a function the values of its parameters, of a loop those of the
     /// local cells that it may read or write.
@@ -47,13 +47,13 @@ pub enum Entry {
 }
 
 /// The logs of a run: the entries of each process in order.
-#[derive(Drop, Debug, Clone, PartialEq)]
+#[derive(Drop)]
 pub struct Logs {
     pub lists: Seq<Seq<Entry>>,
 }
 
 /// An entry by its process and its number in that process's log, both from 0.
-#[derive(Clone, Copy, PartialEq, Eq, Debug)]
+#[derive(Clone, Copy, PartialEq, Debug)]
 pub struct At {
     pub process: u8,
     pub entry: u32,

@@ -2,7 +2,7 @@ use ppd_ast::{Status, SyncKind};
 
 /// A piece of an interval's log: an entry that the interval's own step wrote, or an interval
 /// directly inside it. Its values stand in the log of the process.
-#[derive(Clone, Copy, Debug)]
+#[derive(Clone, Copy)]
 pub enum Piece<'a> {
     /// A synchronization unit started: its number and the values of its cells.
     Unit(u16, &'a [i64]),

@@ -5,7 +5,7 @@ use std::alloc::Global;
 use std::marker::Model;
 
 /// A list of items, which contracts see as that list. It takes one word, and more only where it has items.
-#[derive(Drop, Debug, Clone)]
+#[derive(Drop)]
 pub struct Boxed<T: Drop> {
     items: Option<Box<Seq<T>>>,
 }

@@ -15,7 +15,7 @@ use ppd_sem::{Event, Spot, Stack, block_kind, postlog_cells};
 use std::alloc::Global;
 
 /// A local cell of a frame: 0 for the interval's own activation, 1 for one that goes on in it without an interval.
-#[derive(Clone, Copy, PartialEq, Eq, Debug)]
+#[derive(Clone, Copy)]
 pub struct LocalCell {
     pub frame: u8,
     pub cell: u16,
@@ -23,7 +23,7 @@ pub struct LocalCell {
 
 /// The first items of an interval, for a local cell: the number of the next item, the call whose activation goes
 /// on, the statement of the last event, the cell's writer, and the loops since that may have written it too.
-#[derive(Drop, Debug)]
+#[derive(Drop)]
 pub struct Scan {
     pub next: u32,
     pub leaf: Option<LeafCall>,

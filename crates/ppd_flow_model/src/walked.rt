@@ -1,5 +1,5 @@
 /// What a walk back over an internal edge comes to first.
-#[derive(Clone, Copy, PartialEq, Eq, Debug)]
+#[derive(Clone, Copy)]
 pub enum Walked {
     /// A synchronization, where the edge begins.
     Stopped,

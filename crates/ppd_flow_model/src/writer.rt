@@ -1,5 +1,5 @@
 /// Which of the first items of an interval wrote a local cell last.
-#[derive(Clone, Copy, PartialEq, Eq, Debug)]
+#[derive(Clone, Copy)]
 pub enum Writer {
     /// None of them, in an activation that was there before them.
     Before,

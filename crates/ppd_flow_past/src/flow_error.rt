@@ -2,7 +2,7 @@ use ppd_ast::Memory;
 use thiserror::Error;
 
 /// Why an origin is not found.
-#[derive(Clone, Copy, PartialEq, Eq, Debug, Error)]
+#[derive(Clone, Copy, PartialEq, Debug, Error)]
 pub enum FlowError {
     /// The log of an interval of this process is not one of a run: its replay cannot go on with this entry.
     #[error("the replay of process {process} cannot go on with entry {entry}")]

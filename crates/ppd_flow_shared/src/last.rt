@@ -12,7 +12,7 @@ use std::alloc::Global;
 use std::sync::ledger::Ledger;
 
 /// The internal edge with the last write of a shared cell, and the interval in which it ends.
-#[derive(Clone, Copy, PartialEq, Eq, Debug)]
+#[derive(Clone, Copy)]
 pub struct LastEdge {
     pub edge: EdgeId,
     pub interval: u32,

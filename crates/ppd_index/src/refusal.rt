@@ -4,7 +4,7 @@ use thiserror::Error;
 
 /// Why logs have no index. The tests go through the processes and their entries in order, and of each entry
 /// AfterEnd comes first, then Unpaired, then WrongValues.
-#[derive(Clone, Copy, PartialEq, Eq, Debug, Error)]
+#[derive(Clone, Copy, PartialEq, Debug, Error)]
 pub enum BadLog {
     /// The entry stands where it cannot: entry 0 is no prelog of the process's own block, a later prelog names a
     /// process's block or is a function's while 64 intervals of functions run, a postlog names another block

@@ -6,7 +6,7 @@ pub trait Gate: Sync {
 }
 
 /// A gate that holds nobody up.
-#[derive(Clone, Copy, Debug, PartialEq, Eq)]
+#[derive(Clone, Copy)]
 pub struct FreeGate;
 
 impl Gate for FreeGate {

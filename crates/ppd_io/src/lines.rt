@@ -13,7 +13,7 @@ use std::marker::Model;
 use thiserror::Error;
 
 /// Why there is no next line.
-#[derive(Clone, Copy, Debug, PartialEq, Eq, Error)]
+#[derive(Clone, Copy, Debug, Error)]
 pub enum LineError {
     /// A read failed.
     #[error("a read failed")]

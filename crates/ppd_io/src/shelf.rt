@@ -7,7 +7,7 @@ use std::alloc::{AllocError, Global};
 use thiserror::Error;
 
 /// Why a load or a store was not done.
-#[derive(Clone, Copy, Debug, PartialEq, Eq, Error)]
+#[derive(Clone, Copy, Debug, PartialEq, Error)]
 pub enum ShelfError {
     /// The shelf failed, or has no such name.
     #[error("the shelf failed, or has no such name")]

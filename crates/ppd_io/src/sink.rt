@@ -6,7 +6,7 @@ ghost use Rattle.ppd_io.specs.Content.{Writes};
 use thiserror::Error;
 
 /// A read or a write failed.
-#[derive(Clone, Copy, Debug, PartialEq, Eq, Error)]
+#[derive(Clone, Copy, Debug, PartialEq, Error)]
 #[error("a read or a write failed")]
 pub struct Failed;
 

@@ -6,7 +6,7 @@ use std::alloc::{AllocError, AllocFailed};
 use thiserror::Error;
 
 /// What a token is to the grammar: its sort, without a name's bytes or a number's value.
-#[derive(Clone, Copy, Debug, PartialEq, Eq, Drop)]
+#[derive(Clone, Copy, PartialEq, Drop)]
 pub enum Kind {
     Name,
     Number,
@@ -58,7 +58,7 @@ pub enum Kind {
 }
 
 /// What a token is.
-#[derive(Drop, Debug, Clone, PartialEq)]
+#[derive(Drop)]
 pub enum TokenKind {
     /// A name's bytes.
     Name(Bytes),
@@ -73,7 +73,7 @@ pub enum TokenKind {
 }
 
 /// A token: its bytes are those from offset `from` to just before `to`, and it begins at `place`.
-#[derive(Drop, Debug, Clone, PartialEq)]
+#[derive(Drop)]
 pub struct Token {
     pub kind: TokenKind,
     pub from: u32,
@@ -82,7 +82,7 @@ pub struct Token {
 }
 
 /// Why a source has no tokens: the first lexical fault, with its place.
-#[derive(Clone, Copy, PartialEq, Eq, Debug, Error)]
+#[derive(Clone, Copy, Debug, Error)]
 pub enum LexError {
     /// A byte that starts no token.
     #[error("{}:{}: this byte starts no token", .0.line, .0.column)]

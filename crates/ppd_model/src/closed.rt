@@ -3,7 +3,7 @@ use ppd_entry::Logs;
 
 /// How a process ended: `stmt` is the statement that ended it, that trapped or that would come
 /// next, `steps` counts its steps but a stop for the budget, and `prints` has what it printed.
-#[derive(Drop, Debug, Clone, PartialEq)]
+#[derive(Drop)]
 pub struct ProcEnd {
     pub status: Status,
     pub stmt: u32,
@@ -12,7 +12,7 @@ pub struct ProcEnd {
 }
 
 /// What is left of a run in which nobody can take a step: the logs, and how each process ended.
-#[derive(Drop, Debug, Clone, PartialEq)]
+#[derive(Drop)]
 pub struct Closed {
     pub logs: Logs,
     pub ends: Seq<ProcEnd>,

@@ -3,7 +3,7 @@ use ppd_entry::Entry;
 use ppd_sem::Proc;
 
 /// How often a semaphore was given, its initial value included, and how often it was taken.
-#[derive(Clone, Copy, PartialEq, Eq, Debug)]
+#[derive(Clone, Copy)]
 pub struct Counts {
     pub given: u32,
     pub taken: u32,
@@ -11,7 +11,7 @@ pub struct Counts {
 
 /// The values sent to a channel so far, how many of them were received, and how many sends were
 /// completed, which is 0 where the capacity is not 0.
-#[derive(Drop, Debug)]
+#[derive(Drop)]
 pub struct Channel {
     pub capacity: u8,
     pub sent: Nums,
@@ -21,7 +21,7 @@ pub struct Channel {
 
 /// A process with its entries so far, the shared cells that it accessed since its last
 /// synchronization, and its steps since the last one that wrote an entry.
-#[derive(Drop, Debug)]
+#[derive(Drop)]
 pub struct Logging {
     pub proc: Proc,
     pub reads: Cells,

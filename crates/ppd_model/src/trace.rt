@@ -3,7 +3,7 @@ use ppd_sem::Event;
 use thiserror::Error;
 
 /// An event of a run by its process and its number among that process's events, both from 0.
-#[derive(Clone, Copy, PartialEq, Eq, Debug)]
+#[derive(Clone, Copy, PartialEq)]
 pub struct EventId {
     pub process: u8,
     pub number: u32,
@@ -13,7 +13,7 @@ pub struct EventId {
 /// place, or None where the place still has its start value; `parent` is the event of the test or
 /// the call that let it run, or None where it stands in a process by itself; `paired` is the event
 /// of the synchronization that leads to this one by its number.
-#[derive(Drop, Debug, Clone, PartialEq)]
+#[derive(Drop, PartialEq)]
 pub struct TracedEvent {
     pub event: Event,
     pub writers: Seq<Option<EventId>>,
@@ -22,13 +22,13 @@ pub struct TracedEvent {
 }
 
 /// A full trace: the events of each process in order.
-#[derive(Drop, Debug, Clone, PartialEq)]
+#[derive(Drop, PartialEq)]
 pub struct Trace {
     pub events: Seq<Seq<TracedEvent>>,
 }
 
 /// Why a schedule could not be taken.
-#[derive(Clone, Copy, PartialEq, Eq, Debug, Error)]
+#[derive(Clone, Copy, Debug, Error)]
 pub enum DriveError {
     /// The number at this place of the schedule, from 0, names no enabled process, and it is the
     /// first such.

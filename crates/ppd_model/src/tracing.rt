@@ -4,7 +4,7 @@ use ppd_sem::{Answer, Need, Proc, Stack};
 
 /// A step that a process took: what it needed and was given, the event that last wrote the cell of
 /// a `Read`, and the number of a synchronization.
-#[derive(Clone, Copy, PartialEq, Eq, Debug)]
+#[derive(Clone, Copy)]
 pub struct Taken {
     pub need: Need,
     pub answer: Answer,
@@ -13,7 +13,7 @@ pub struct Taken {
 }
 
 /// The steps of each process in order, and each shared cell's last value and writer.
-#[derive(Drop, Debug)]
+#[derive(Drop)]
 pub struct Story {
     pub steps: Seq<Seq<Taken>>,
     pub cells: Nums,
@@ -21,7 +21,7 @@ pub struct Story {
 }
 
 /// An event of an `If` or a `While`, and whether its value was true.
-#[derive(Clone, Copy, PartialEq, Eq, Debug)]
+#[derive(Clone, Copy)]
 pub struct Test {
     pub stmt: u32,
     pub event: EventId,
@@ -30,7 +30,7 @@ pub struct Test {
 
 /// A body's run: the event of the call that began it, none in a process, the event that last wrote
 /// each local cell, and its tests, the latest at the top.
-#[derive(Drop, Debug)]
+#[derive(Drop)]
 pub struct Activation {
     pub call: Option<EventId>,
     pub tags: Seq<Option<EventId>>,
@@ -39,7 +39,7 @@ pub struct Activation {
 
 /// A process with its activations, the running one at the top, the writers of the head statement's
 /// answers, and the events so far.
-#[derive(Drop, Debug)]
+#[derive(Drop)]
 pub struct Tracing {
     pub proc: Proc,
     pub activations: Stack<Activation>,

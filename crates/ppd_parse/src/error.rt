@@ -6,7 +6,7 @@ use std::alloc::AllocError;
 use thiserror::Error;
 
 /// Why tokens are no program within the limits: the first token that breaks the grammar or a limit.
-#[derive(Clone, Copy, PartialEq, Eq, Debug, Drop, Error)]
+#[derive(Clone, Copy, Debug, Drop, Error)]
 pub enum SyntaxError {
     /// No program begins with the tokens through this one.
     #[error("{}:{}: no program goes on with this token", .0.line, .0.column)]

@@ -15,7 +15,7 @@ pub struct Grove {
 }
 
 // What came of a want: it stands for others or is done, it read the token there, or no program goes on so.
-#[derive(Clone, Copy, Debug, PartialEq, Eq, Drop)]
+#[derive(Clone, Copy, Drop)]
 pub enum Step {
     Moved,
     Read(At),

@@ -4,7 +4,7 @@ use ppd_ast::{Ids, Seq};
 use ppd_lex::Token;
 
 /// A node of the tree: a leaf with its token, or a rule with the numbers of its children, in source order.
-#[derive(Drop, Debug, Clone, PartialEq)]
+#[derive(Drop)]
 pub struct Node {
     pub rule: Rule,
     pub token: Option<Token>,
@@ -12,7 +12,7 @@ pub struct Node {
 }
 
 /// The tree of a source. Node 0 is its root; the children of a node have larger numbers than the node.
-#[derive(Drop, Debug, Clone, PartialEq)]
+#[derive(Drop)]
 pub struct Tree {
     pub nodes: Seq<Node>,
 }

@@ -3,7 +3,7 @@
 use ppd_lex::Kind;
 
 /// A level of binary operators, the strongest first.
-#[derive(Clone, Copy, Debug, PartialEq, Eq, Drop)]
+#[derive(Clone, Copy, Drop)]
 pub enum Level {
     Product,
     Sum,
@@ -14,7 +14,7 @@ pub enum Level {
 }
 
 /// What a node of the tree is: a token, an operator between two operands, or a left side of the grammar.
-#[derive(Clone, Copy, Debug, PartialEq, Eq, Drop)]
+#[derive(Clone, Copy, Drop)]
 pub enum Rule {
     Leaf,
     Source,
@@ -38,7 +38,7 @@ pub enum Rule {
 }
 
 /// A part of a program.
-#[derive(Clone, Copy, Debug, PartialEq, Eq, Drop)]
+#[derive(Clone, Copy, Drop)]
 pub enum Symbol {
     Exact(Kind),
     Operator(Level),
@@ -93,14 +93,14 @@ pub enum Symbol {
 }
 
 /// Where a token stands: how many constructs are open, 65 for 65 or more, and whether it is in an expression.
-#[derive(Clone, Copy, Debug, PartialEq, Eq, Drop)]
+#[derive(Clone, Copy, Debug, PartialEq, Drop)]
 pub struct At {
     pub depth: u8,
     pub inside: bool,
 }
 
 /// A part of a production: a symbol, in one more construct, or in an expression, or the end of a node.
-#[derive(Clone, Copy, Debug, PartialEq, Eq, Drop)]
+#[derive(Clone, Copy, Drop)]
 pub enum Part {
     Here(Symbol),
     Deeper(Symbol),
@@ -110,7 +110,7 @@ pub enum Part {
 }
 
 /// What is wanted next: a symbol at a place, in the construct whose trees begin at a base, or the end of a node.
-#[derive(Clone, Copy, Debug, PartialEq, Eq, Drop)]
+#[derive(Clone, Copy, Drop)]
 pub enum Want {
     Get(Symbol, At, usize),
     Close(Rule, usize),

@@ -10,7 +10,7 @@ use crate::eval::{calc, element, is_zero, negated, truth};
 use ppd_ast::{Expr, Trap};
 
 /// Why evaluation stops: the shared cell that is wanted next, or a trap.
-#[derive(Clone, Copy, PartialEq, Eq, Debug)]
+#[derive(Clone, Copy)]
 pub enum Pause {
     Wants(u16),
     Traps(Trap),

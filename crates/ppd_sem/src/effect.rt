@@ -13,7 +13,7 @@ use ppd_ast::{Expr, Kind, Target, Trap};
 
 /// What a statement does once all its values are there. Lists of statements and arguments are
 /// left in the statement.
-#[derive(Clone, Copy, PartialEq, Eq, Debug)]
+#[derive(Clone, Copy)]
 pub enum Effect {
     SetLocal(u16, i64),
     SetShared(u16, i64),

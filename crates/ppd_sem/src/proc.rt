@@ -6,7 +6,7 @@ use ppd_ast::{Nums, Status, Trap};
 
 /// What the next step of a process needs. A `unit` is the synchronization unit that starts
 /// after the step; a `block` is the block that the step enters or leaves.
-#[derive(Clone, Copy, PartialEq, Eq, Debug)]
+#[derive(Clone, Copy, PartialEq)]
 pub enum Need {
     /// The value of a shared cell.
     Read(u16),
@@ -78,7 +78,7 @@ pub enum Need {
 }
 
 /// What a step is given.
-#[derive(Clone, Copy, PartialEq, Eq, Debug)]
+#[derive(Clone, Copy)]
 pub enum Answer {
     /// The value that was read or received.
     Value(i64),
@@ -99,7 +99,7 @@ impl Answer {
 }
 
 /// An activation: its body, its local cells and the `Call` statement that began it, if any.
-#[derive(Drop, Debug, PartialEq)]
+#[derive(Drop, PartialEq)]
 pub struct Frame {
     pub body: u16,
     pub cells: Nums,
@@ -108,7 +108,7 @@ pub struct Frame {
 
 /// A statement that is still to do; a running block loop is marked as entered, a send whose offer
 /// was taken as offered.
-#[derive(Clone, Copy, PartialEq, Eq, Debug)]
+#[derive(Clone, Copy, PartialEq)]
 pub struct Todo {
     pub stmt: u32,
     pub entered: bool,
@@ -120,7 +120,7 @@ pub struct Todo {
 /// counts the calls that were open when the first frame had just begun, its own among them: 0 in
 /// a process's body, 64 at most. `spent` is what the `steps` counted so far cost; `status` is
 /// there once the process stopped.
-#[derive(Drop, Debug)]
+#[derive(Drop)]
 pub struct Proc {
     pub frames: Stack<Frame>,
     pub todo: Stack<Todo>,

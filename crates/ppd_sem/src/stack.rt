@@ -7,7 +7,7 @@ use std::alloc::Global;
 use std::marker::Model;
 
 /// A stack, which contracts see as the list from its top.
-#[derive(Drop, Debug)]
+#[derive(Drop)]
 pub struct Stack<T: Drop> {
     pub(crate) items: Vec<T>,
 }

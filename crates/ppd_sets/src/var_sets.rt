@@ -12,7 +12,7 @@ use std::alloc::Global;
 /// the local cells that its test or a statement inside reads, and that a statement inside writes,
 /// arrays whole. A call counts as writing its receiving local. Each list rises and has each number
 /// once.
-#[derive(Drop, Debug, Clone, PartialEq)]
+#[derive(Drop)]
 pub struct VarSets {
     used: Seq<Cells>,
     defined: Seq<Cells>,

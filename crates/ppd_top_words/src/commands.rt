@@ -10,7 +10,7 @@ use ppd_ast::Memory;
 use std::alloc::Global;
 
 /// What the first word asks for.
-#[derive(Clone, Copy, PartialEq, Eq, Debug)]
+#[derive(Clone, Copy, Debug)]
 pub enum Command {
     /// A source is run, its summary written, and the lines of the input are answered.
     Flow,
@@ -33,7 +33,7 @@ pub enum Command {
 }
 
 /// What the words give: the command, and the words of its options and its names.
-#[derive(Debug, Drop)]
+#[derive(Drop)]
 pub struct CommandWords<'a> {
     /// What the first word asks for.
     pub command: Command,

@@ -26,7 +26,7 @@ pub enum Asked {
 }
 
 /// What is answered.
-#[derive(Clone, Copy, PartialEq, Eq, Debug)]
+#[derive(Clone, Copy, PartialEq, Debug)]
 pub enum Told {
     Items(usize),
     Origin(Origin),

@@ -2,29 +2,34 @@ use ppd_io::{LineError, LineReader, MemorySource, Source, SteadySource};
 use std::alloc::Global;
 use std::test::Fail;
 
-/// The lines of a source up to its end or an error, each between bars, then how they ended.
+/// Appends the next line after a bar, or the mark of how the lines ended: whether there may be more.
+fn tell_next<I: Source>(
+    reader: &mut LineReader,
+    source: &mut I,
+    told: &mut Vec<u8>,
+) -> Result<bool, Fail> {
+    let mark = match reader.next(source) {
+        Ok(true) => b'|',
+        Ok(false) => b'.',
+        Err(LineError::Failed) => b'!',
+        Err(LineError::LongLine) => b'>',
+    };
+    told.push(mark)?;
+    if mark != b'|' {
+        return Ok(false);
+    }
+    told.extend_from_slice(reader.line())?;
+    Ok(true)
+}
+
+/// The lines of a source up to its end or an error, each after a bar, then how they ended.
 fn told<I: Source>(alloc: Global, source: &mut I) -> Result<Vec<u8>, Fail> {
     let mut reader = LineReader::new(alloc)?;
     let mut told = Vec::new(alloc);
     // No test has more lines.
     for _ in 0..100 {
-        match reader.next(source) {
-            Ok(true) => {
-                told.push(b'|')?;
-                told.extend_from_slice(reader.line())?;
-            }
-            Ok(false) => {
-                told.push(b'.')?;
-                return Ok(told);
-            }
-            Err(LineError::Failed) => {
-                told.push(b'!')?;
-                return Ok(told);
-            }
-            Err(LineError::LongLine) => {
-                told.push(b'>')?;
-                return Ok(told);
-            }
+        if !tell_next(&mut reader, source, &mut told)? {
+            return Ok(told);
         }
     }
     Ok(told)

@@ -9,7 +9,6 @@ use ppd_entry::{At, Piece};
 use ppd_index::{BadLog, Interval, LogIndex};
 use std::alloc::Global;
 use std::process::Abort;
-use std::test::Fail;
 
 /// Block 0 is the function, 1 the process, 2 the loop with one local cell; unit 0 reads nothing.
 const SOURCE: &str =
@@ -133,23 +132,30 @@ fn logs_without_an_index(rt: HostRuntime) {
     }
 }
 
+/// The entries of a body, of as many calls as can be open, of a loop, and of one call more.
+fn open_calls(alloc: Global) -> Option<Vec<Wrote<'static>>> {
+    let mut wrote = vec![in alloc; BODY].ok()?;
+    for _ in 0..MOST_CALLS {
+        wrote.push(Prelog(0, &[])).ok()?;
+    }
+    wrote
+        .extend_from_slice(&[Prelog(2, &[3]), Prelog(0, &[])])
+        .ok()?;
+    Some(wrote)
+}
+
 // A loop's interval is no open call, and one call more than the most cannot be.
 #[test]
-fn open_calls_at_their_most(rt: HostRuntime) -> Result<(), Fail> {
-    let mut wrote = vec![in rt.alloc(); BODY]?;
-    for _ in 0..MOST_CALLS {
-        wrote.push(Prelog(0, &[]))?;
-    }
-    wrote.push(Prelog(2, &[3]))?;
-    wrote.push(Prelog(0, &[]))?;
-    assert_eq!(rt;
-        bad(rt.alloc(), wrote.as_slice()),
-        Some(BadLog::Unpaired(At {
-            process: 0,
-            entry: 66
-        }))
-    );
-    Ok(())
+fn open_calls_at_their_most(rt: HostRuntime) {
+    let wanted = BadLog::Unpaired(At {
+        process: 0,
+        entry: 66,
+    });
+    let found = match open_calls(rt.alloc()) {
+        Some(wrote) => bad(rt.alloc(), wrote.as_slice()),
+        None => None,
+    };
+    assert_eq!(rt; found, Some(wanted));
 }
 
 /// Whether two pieces are the same.

@@ -99,19 +99,38 @@ pub fn elements(alloc: Global, nodes: u16) -> Result<Program, AllocError> {
     printing(alloc, exprs)
 }
 
+/// A loop of this number inside the one before, round the statement after it.
+fn add_loop(
+    alloc: Global,
+    exprs: &mut Vec<Expr>,
+    stmts: &mut Vec<Stmt>,
+    number: u8,
+) -> Result<(), AllocError> {
+    let number = u32::from(number);
+    let parent = if number == 0 { None } else { Some(number - 1) };
+    exprs.push(Expr::Const(1))?;
+    let inside = ids(alloc, &[number + 1])?;
+    stmts.push(stmt(parent, Kind::While(number, inside)))?;
+    Ok(())
+}
+
+/// A print inside so many loops, and the end of the process.
+fn add_print(exprs: &mut Vec<Expr>, stmts: &mut Vec<Stmt>, loops: u8) -> Result<(), AllocError> {
+    let loops = u32::from(loops);
+    let parent = if loops == 0 { None } else { Some(loops - 1) };
+    exprs.push(Expr::Const(1))?;
+    stmts.push(stmt(parent, Kind::Print(loops)))?;
+    stmts.push(stmt(None, Kind::End))?;
+    Ok(())
+}
+
 /// A print inside so many loops.
 pub fn loops(alloc: Global, count: u8) -> Result<Program, AllocError> {
-    let count = count as u32;
     let mut exprs = Vec::new(alloc);
     let mut stmts = Vec::new(alloc);
-    let mut parent = None;
     for number in 0..count {
-        exprs.push(Expr::Const(1))?;
-        stmts.push(stmt(parent, Kind::While(number, ids(alloc, &[number + 1])?)))?;
-        parent = Some(number);
+        add_loop(alloc, &mut exprs, &mut stmts, number)?;
     }
-    exprs.push(Expr::Const(1))?;
-    stmts.push(stmt(parent, Kind::Print(count)))?;
-    stmts.push(stmt(None, Kind::End))?;
-    program(alloc, exprs, stmts, &[0, count + 1])
+    add_print(&mut exprs, &mut stmts, count)?;
+    program(alloc, exprs, stmts, &[0, u32::from(count) + 1])
 }
