@@ -160,7 +160,7 @@ module _ (program : Program) (policy : Policy) (budget : ℕ) (h : List ℕ) (va
         by (Some i) = refl
 
     -- no replay fails
-    never : (ms : List (ℕ × ℕ)) → first_failed program plan budget logs ms ≡ None
+    pub never : (ms : List (ℕ × ℕ)) → first_failed program plan budget logs ms ≡ None
     never [] = refl
     never (m ∷ ms) =
         let none : failed_at program plan budget (get_or logs.lists m.0 []) m.1 ≡ None =
@@ -175,7 +175,7 @@ module _ (program : Program) (policy : Policy) (budget : ℕ) (h : List ℕ) (va
         ∙ ap (seen_by program plan budget) (entries_there (loggings program plan budget h) p l f)
 
     -- replays see what is there to be seen
-    all_there : all_seen program plan budget h ≡ seens program plan budget logs
+    pub all_there : all_seen program plan budget h ≡ seens program plan budget logs
     all_there =
         same_shown seen_of (λ (l : Logging). seen_by program plan budget (closed_log l)) (splits program plan budget (story program plan budget h)) (loggings program plan budget h) same_count seen_there
         ∙ sym (shown_logs (seen_by program plan budget) (loggings program plan budget h))

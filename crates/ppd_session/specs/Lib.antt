@@ -4,5 +4,6 @@ pub mod Questions
 pub mod Known
 pub mod Texts
 pub mod Rows
+pub mod Keeping
 pub mod Sessions
 pub mod Laws

@@ -1,17 +1,25 @@
--- What is known of a past, which blocks may be kept of it, and why a line has no answer.
-use Rattle.std.specs.Prelude.{◌≡◌, ◌<◌, ℕ, length, List, ◌++◌, Contains, Option, Some, None, option_map, Ok, Err, ⊤}
+-- What is known of a past, which blocks are kept of it and which a line asks for, and why a line has no answer.
+use Rattle.std.specs.Prelude.{◌≡◌, ◌<◌, ℕ, nat_lt, length, List, [], ◌∷◌, ◌++◌, Contains, Option, Some, None, option_map, Ok, Err, ⊤, if◌then◌else◌}
 use Rattle.ppd_ast.specs.declared.program.Program.{Program}
 use Rattle.ppd_entry.specs.declared.entry.At.{At}
 use Rattle.ppd_model.specs.declared.flow.Item.{Item}
+use Rattle.ppd_index.specs.Indexes.{rows_at}
 use Rattle.ppd_model.specs.declared.graph.Race.{Race}
 pub use Rattle.ppd_flow_past.specs.declared.flow_error.FlowError.{FlowError}
 use Rattle.ppd_flow_past.specs.declared.flow_error.FlowError.TheVariants as flow_error
 use Rattle.ppd_flow_past.specs.declared.past.Past.{Past}
 use Rattle.ppd_flow_past.specs.Pasts.{IsPast}
+use Rattle.ppd_flow_shared.specs.SharedCells.{last_edge}
+use Rattle.ppd_flow_shared.specs.declared.last.LastEdge.{LastEdge}
+use Rattle.ppd_race.specs.Races.{races_of_logs}
 use Rattle.ppd_text_items.specs.Edges.{last_line}
-use Rattle.ppd_session.specs.Known.{Known, Last, known_with}
-use Rattle.ppd_session.specs.Texts.{told_at}
+use Rattle.ppd_session.specs.Keeping.{Keeping, none_kept}
+use Rattle.ppd_session.specs.Known.{Known, Last, known_with, of_cells, unless_raced}
+use Rattle.ppd_session.specs.Questions.{question}
+use Rattle.ppd_session.specs.Texts.{intervals_at, is_final, opening_of, told_at}
 use Rattle.ppd_session.specs.declared.place.Place.{Place}
+use Rattle.ppd_session.specs.declared.question.Opening.{Opening}
+use Rattle.ppd_session.specs.declared.question.Question.{Question}
 use Rattle.ppd_session.specs.declared.reply.SessionError.{SessionError}
 use Rattle.ppd_session.specs.declared.reply.SessionError.TheVariants.{Diverged, Sets, Memory}
 
@@ -19,18 +27,78 @@ use Rattle.ppd_session.specs.declared.reply.SessionError.TheVariants.{Diverged, 
 abbrev pub known_by : Past → List Race → Known
 known_by past races = known_with past.program.now past.plan.now past.budget past.logs.now races
 
+-- ---- where a session stands
+
+-- what is known, the block with the last write of each shared cell, and what is kept
+pub record SessionState : Type 0 where
+  pub known : Known
+  pub last_blocks : List (Option Place)
+  pub kept : Keeping
+
+-- the block in which this edge ends
+abbrev pub place_of : LastEdge → Place
+place_of l = record { process = l.edge.process; interval = l.interval }
+
+-- if there is an edge, and the index has the interval
+abbrev pub block_of : Past → Option LastEdge → Option Place
+block_of past None = None
+block_of past (Some l) =
+    if nat_lt l.interval (length (rows_at past.index.now.tables l.edge.process)) then Some (place_of l) else None
+
+-- the block in which the edge ends that wrote cell c last
+abbrev pub last_block : Past → (c : ℕ) → Option Place
+last_block past c = block_of past (last_edge past c)
+
+abbrev pub last_blocks : Past → List (Option Place)
+last_blocks past = of_cells (last_block past) 0 (length past.program.now.starts)
+
+-- of a past with these races and kept blocks
+abbrev pub state_of : Past → List Race → Keeping → SessionState
+state_of past races kept =
+    record { known = known_by past races; last_blocks = last_blocks past; kept = kept }
+
+-- of a past, with its races, where at most so many blocks may be kept
+abbrev pub new_session : Past → (most : ℕ) → SessionState
+new_session past most = state_of past (races_of_logs past.program.now past.logs.now) (none_kept most)
+
+-- ---- the blocks that are asked for
+
+-- interval k of a process, if both are there
+abbrev pub block_at : Known → Option ℕ → (k : ℕ) → Option Place
+block_at x None k = None
+block_at x (Some q) k =
+    if nat_lt k (length (intervals_at x q)) then Some (record { process = q; interval = k }) else None
+
+abbrev pub opened_block : Known → Option Opening → List (Option Place)
+opened_block x None = []
+opened_block x (Some o) = block_at x o.process o.interval ∷ []
+
+-- a question asks for these blocks, in order
+abbrev pub blocks_of : SessionState → Question → List (Option Place)
+blocks_of s asked =
+    unless_raced s.known.races
+    (if is_final asked then s.last_blocks else opened_block s.known (opening_of asked))
+
+-- so does a line
+abbrev pub blocks_of_line : SessionState → List ℕ → List (Option Place)
+blocks_of_line s line = blocks_of s (question s.known.program line)
+
+-- ---- what a session answers of
+
 -- each of these is what is told of its interval
 abbrev pub AreTold : Known → List (Place × List Item) → Type 0
 AreTold x kept =
     (place : Place) (items : List Item) → Contains kept (place, items)
     → told_at x place.process place.interval ≡ Some (Ok items)
 
--- what a session answers of: a past whose parts belong together, of which no log is cut, and kept blocks that are as they are told of it with
+-- a past whose parts belong together, of which no log is cut, and kept blocks that are as they are told of it with
 -- these races
-pub record IsSession (past : Past) (races : List Race) (kept : List (Place × List Item)) : Type 0 where
+pub record IsSession (past : Past) (races : List Race) (kept : Keeping) : Type 0 where
   pub together : IsPast past
   pub uncut : past.cut.now ≡ past.logs.now
-  pub told : AreTold (known_by past races) kept
+  pub told : AreTold (known_by past races) kept.blocks
+
+-- ---- lines without an answer
 
 -- why there is no answer, where this is the failure of the replay that the answer needs, if it fails
 abbrev pub IsCause : Option At → SessionError → Type 0

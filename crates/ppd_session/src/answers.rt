@@ -1,7 +1,8 @@
 // The answer to each question.
-ghost use Rattle.std.specs.Prelude.{◌≡◌, ◌++◌, None, OnOk, IfErr};
+ghost use Rattle.std.specs.Prelude.{◌≡◌, ◌++◌, None, OnErr, OnOk, IfErr};
 ghost use Rattle.ppd_flow_past.specs.Pasts.{IsPast};
-ghost use Rattle.ppd_session.specs.Sessions.{AreTold, IsSession, IsWhy, known_by};
+ghost use Rattle.ppd_session.specs.Keeping.{AreAsked, AreAskedInPart};
+ghost use Rattle.ppd_session.specs.Sessions.{IsSession, IsWhy, blocks_of, known_by, state_of};
 ghost use Rattle.ppd_session.specs.Texts.{answer_text, blocks_text, failure, plain_text, statement_text};
 
 use crate::blocks::put_intervals;
@@ -85,7 +86,12 @@ pub(crate) fn put_answer(
         (text.new.items ≡ text.old.items ++ answer_text (known_by past.now races.now) question) }
     ensures told { OnOk result (failure (known_by past.now races.now) question ≡ None) }
     ensures error { IfErr result (IsWhy (failure (known_by past.now races.now) question)) }
-    ensures kept { AreTold (known_by past.now races.now) kept.new }
+    ensures kept { OnOk result
+        (AreAsked (known_by past.now races.now) (blocks_of (state_of past.now races.now kept.old) question)
+        kept.old kept.new) }
+    ensures part { OnErr result
+        (AreAskedInPart (known_by past.now races.now) (blocks_of (state_of past.now races.now kept.old) question)
+        kept.old kept.new) }
 {
     if is_final(question) {
         return put_final(alloc, text, past, races, kept);

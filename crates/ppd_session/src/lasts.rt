@@ -1,9 +1,11 @@
 // The last values of the shared cells.
-ghost use Rattle.std.specs.Prelude.{◌≡◌, ◌<◌, ◌++◌, [], Ok, None, Some, IfOk, IfErr, OnOk, length};
+ghost use Rattle.std.specs.Prelude.{◌≡◌, ◌⊎◌, ◌<◌, ◌++◌, [], Ok, None, Some, IfOk, IfErr, OnErr, OnOk, length};
 ghost use Rattle.ppd_index.specs.Indexes.{rows_at};
 ghost use Rattle.ppd_flow_past.specs.Pasts.{IsPast};
-ghost use Rattle.ppd_session.specs.Known.{last_by};
-ghost use Rattle.ppd_session.specs.Sessions.{AreTold, IsSession, IsLineOf, IsWhy, known_by, unfound};
+ghost use Rattle.ppd_session.specs.Known.{last_by, unless_raced};
+ghost use Rattle.ppd_session.specs.Keeping.{AreAsked, AreAskedInPart, IsAsked};
+ghost use Rattle.ppd_session.specs.Sessions.{AreTold, IsSession, IsLineOf, IsWhy, known_by, last_block, last_blocks};
+ghost use Rattle.ppd_session.specs.Sessions.{place_of, unfound};
 ghost use Rattle.ppd_session.specs.declared.reply.SessionError.TheVariants as session_error;
 ghost use Rattle.ppd_session.specs.Texts.{first_unfound, lasts_text, raced, told_at};
 ghost use Rattle.ppd_flow_shared.specs.SharedCells.{last_edge as last_edge_of};
@@ -119,14 +121,14 @@ fn last_kept(
 ) -> Result<(i64, Origin), SessionError>
     requires past { IsPast past.now }
     requires uncut { past.now.cut.now ≡ past.now.logs.now }
-    requires kept { AreTold (known_by past.now []) kept.old }
+    requires kept { AreTold (known_by past.now []) kept.old.blocks }
     requires last { last_edge_of past.now cell ≡ Some last }
     requires there { last.interval < length (rows_at past.now.index.now.tables last.edge.process) }
     ensures value { IfOk result
         (λ x. last_by past.now.program.now past.now.plan.now past.now.budget past.now.logs.now cell ≡ Ok x) }
     ensures error { IfErr result
         (IsWhy (unfound (last_by past.now.program.now past.now.plan.now past.now.budget past.now.logs.now cell))) }
-    ensures kept { AreTold (known_by past.now []) kept.new }
+    ensures kept { IsAsked (known_by past.now []) (Some (place_of last)) kept.old kept.new }
 {
     let place = Place {
         process: last.edge.process,
@@ -151,12 +153,14 @@ fn last_of_cell(
 ) -> Result<(i64, Origin), SessionError>
     requires past { IsPast past.now }
     requires uncut { past.now.cut.now ≡ past.now.logs.now }
-    requires kept { AreTold (known_by past.now []) kept.old }
+    requires kept { AreTold (known_by past.now []) kept.old.blocks }
     ensures value { IfOk result
         (λ x. last_by past.now.program.now past.now.plan.now past.now.budget past.now.logs.now cell ≡ Ok x) }
     ensures error { IfErr result
         (IsWhy (unfound (last_by past.now.program.now past.now.plan.now past.now.budget past.now.logs.now cell))) }
-    ensures kept { AreTold (known_by past.now []) kept.new }
+    ensures kept { OnOk result (IsAsked (known_by past.now []) (last_block past.now cell) kept.old kept.new) }
+    ensures part { OnErr result
+        ((kept.new ≡ kept.old) ⊎ IsAsked (known_by past.now []) (last_block past.now cell) kept.old kept.new) }
 {
     let Some(last) = last_edge(past, cell)? else {
         return last_of(alloc, past, cell);
@@ -193,14 +197,16 @@ fn put_cell_line(
 ) -> Result<(), SessionError>
     requires past { IsPast past.now }
     requires uncut { past.now.cut.now ≡ past.now.logs.now }
-    requires kept { AreTold (known_by past.now []) kept.old }
+    requires kept { AreTold (known_by past.now []) kept.old.blocks }
     ensures told { OnOk result
         (IsLineOf past.now.program.now cell
         (last_by past.now.program.now past.now.plan.now past.now.budget past.now.logs.now cell) text.old.items
         text.new.items) }
     ensures error { IfErr result
         (IsWhy (unfound (last_by past.now.program.now past.now.plan.now past.now.budget past.now.logs.now cell))) }
-    ensures kept { AreTold (known_by past.now []) kept.new }
+    ensures kept { OnOk result (IsAsked (known_by past.now []) (last_block past.now cell) kept.old kept.new) }
+    ensures part { OnErr result
+        ((kept.new ≡ kept.old) ⊎ IsAsked (known_by past.now []) (last_block past.now cell) kept.old kept.new) }
 {
     let found = last_of_cell(alloc, past, kept, cell)?;
     put_line(text, past, cell, found)
@@ -215,12 +221,13 @@ fn put_lines(
 ) -> Result<(), SessionError>
     requires past { IsPast past.now }
     requires uncut { past.now.cut.now ≡ past.now.logs.now }
-    requires kept { AreTold (known_by past.now []) kept.old }
+    requires kept { AreTold (known_by past.now []) kept.old.blocks }
     ensures text { OnOk result
         (text.new.items ≡ text.old.items ++ lasts_text past.now.program.now 0 (known_by past.now []).lasts) }
     ensures told { OnOk result (first_unfound (known_by past.now []).lasts ≡ None) }
     ensures error { IfErr result (IsWhy (first_unfound (known_by past.now []).lasts)) }
-    ensures kept { AreTold (known_by past.now []) kept.new }
+    ensures kept { OnOk result (AreAsked (known_by past.now []) (last_blocks past.now) kept.old kept.new) }
+    ensures part { OnErr result (AreAskedInPart (known_by past.now []) (last_blocks past.now) kept.old kept.new) }
 {
     for cell in 0..past.program.starts.len() {
         put_cell_line(alloc, text, past, kept, cell as u16)?;
@@ -243,7 +250,11 @@ pub(crate) fn put_final(
         ++ raced races.now (lasts_text past.now.program.now 0 (known_by past.now races.now).lasts)) }
     ensures told { OnOk result (first_unfound (known_by past.now races.now).lasts ≡ None) }
     ensures error { IfErr result (IsWhy (first_unfound (known_by past.now races.now).lasts)) }
-    ensures kept { AreTold (known_by past.now races.now) kept.new }
+    ensures kept { OnOk result
+        (AreAsked (known_by past.now races.now) (unless_raced races.now (last_blocks past.now)) kept.old kept.new) }
+    ensures part { OnErr result
+        (AreAskedInPart (known_by past.now races.now) (unless_raced races.now (last_blocks past.now))
+        kept.old kept.new) }
 {
     if !races.is_empty() {
         return put_many_races(text, races);

@@ -1,10 +1,12 @@
 // The items of an interval, and one of them.
-ghost use Rattle.std.specs.Prelude.{◌≡◌, ◌<◌, ◌≤◌, ◌++◌, [], Some, None, Ok, IfOk, IfErr, IfSome, OnOk, is_some};
+ghost use Rattle.std.specs.Prelude.{◌≡◌, ◌<◌, ◌≤◌, ◌++◌, [], ◌∷◌, Some, None, Ok, IfOk, IfErr, IfSome, OnOk, is_some};
 ghost use Rattle.std.specs.Prelude.{length, nat_lt};
 ghost use Rattle.ppd_index.specs.Indexes.{rows_at};
 ghost use Rattle.ppd_flow_past.specs.declared.flow_error.FlowError.TheVariants as flow_error;
 ghost use Rattle.ppd_flow_past.specs.Pasts.{IsPast};
-ghost use Rattle.ppd_session.specs.Sessions.{AreTold, IsSession, IsCause, IsWhy, error_of, known_by};
+ghost use Rattle.ppd_session.specs.Keeping.{AreAsked, IsAsked};
+ghost use Rattle.ppd_session.specs.Known.{unless_raced};
+ghost use Rattle.ppd_session.specs.Sessions.{AreTold, IsSession, IsCause, IsWhy, block_at, error_of, known_by};
 ghost use Rattle.ppd_text_items.specs.Items.{open_text};
 ghost use Rattle.ppd_session.specs.declared.reply.SessionError.TheVariants as session_error;
 ghost use Rattle.ppd_session.specs.Texts.{failure_at, intervals_at, item_failure, items_text, opened_text};
@@ -126,7 +128,7 @@ fn put_block(
 ) -> Result<(), SessionError>
     requires past { IsPast past.now }
     requires uncut { past.now.cut.now ≡ past.now.logs.now }
-    requires kept { AreTold (known_by past.now []) kept.old }
+    requires kept { AreTold (known_by past.now []) kept.old.blocks }
     requires there { place.interval < length (rows_at past.now.index.now.tables place.process) }
     ensures text { OnOk result
         (text.new.items
@@ -141,7 +143,7 @@ fn put_block(
         (IsWhy
         (told_failure (known_by past.now []) place.process place.interval item
         (told_at (known_by past.now []) place.process place.interval))) }
-    ensures kept { AreTold (known_by past.now []) kept.new }
+    ensures kept { IsAsked (known_by past.now []) (Some place) kept.old kept.new }
 {
     kept.touch(place);
     if let Some(items) = kept.find(place) {
@@ -177,13 +179,14 @@ fn put_interval(
 ) -> Result<(), SessionError>
     requires past { IsPast past.now }
     requires uncut { past.now.cut.now ≡ past.now.logs.now }
-    requires kept { AreTold (known_by past.now []) kept.old }
+    requires kept { AreTold (known_by past.now []) kept.old.blocks }
     ensures text { OnOk result (text.new.items ≡ text.old.items ++ opened_text (known_by past.now []) opening) }
     ensures told { OnOk result
         (opening_failure (known_by past.now []) opening.process opening.interval opening.item ≡ None) }
     ensures error { IfErr result
         (IsWhy (opening_failure (known_by past.now []) opening.process opening.interval opening.item)) }
-    ensures kept { AreTold (known_by past.now []) kept.new }
+    ensures kept { IsAsked (known_by past.now []) (block_at (known_by past.now []) opening.process opening.interval)
+        kept.old kept.new }
 {
     let Some(process) = opening.process else {
         return put_refusal(text, b"? process\n");
@@ -219,7 +222,9 @@ pub(crate) fn put_open(
         (opening_failure (known_by past.now races.now) opening.process opening.interval opening.item ≡ None) }
     ensures error { IfErr result
         (IsWhy (opening_failure (known_by past.now races.now) opening.process opening.interval opening.item)) }
-    ensures kept { AreTold (known_by past.now races.now) kept.new }
+    ensures kept { AreAsked (known_by past.now races.now)
+        (unless_raced races.now (block_at (known_by past.now races.now) opening.process opening.interval ∷ []))
+        kept.old kept.new }
 {
     if !races.is_empty() {
         return put_many_races(text, races);

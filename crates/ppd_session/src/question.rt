@@ -12,7 +12,7 @@ use ppd_ast::{Body, Program};
 use ppd_text::number_in;
 
 /// What a line asks. A process is none where no process has the name.
-#[derive(Clone, Copy, PartialEq, Eq, Debug)]
+#[derive(Clone, Copy)]
 pub(crate) enum Question {
     /// The line has no word.
     Nothing,

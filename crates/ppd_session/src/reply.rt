@@ -10,7 +10,7 @@ pub struct Reply {
 }
 
 /// Why a line has no answer.
-#[derive(Clone, Copy, PartialEq, Eq, Debug, Error)]
+#[derive(Clone, Copy, Debug, Error)]
 pub enum SessionError {
     /// The replay of the interval that holds this entry cannot go on with it.
     #[error("process {}: the replay cannot go on with entry {}", .0.process, .0.entry)]

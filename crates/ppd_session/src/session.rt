@@ -1,7 +1,7 @@
-ghost use Rattle.std.specs.Prelude.{◌≡◌, None, IfOk, IfErr, OnOk};
+ghost use Rattle.std.specs.Prelude.{◌≡◌, None, IfOk, IfErr, OnErr, OnOk};
 ghost use Rattle.ppd_flow_past.specs.Pasts.{IsPast};
-ghost use Rattle.ppd_session.specs.Known.{known_of_logs};
-ghost use Rattle.ppd_session.specs.Sessions.{AreTold, IsSession, IsWhy, known_by};
+ghost use Rattle.ppd_session.specs.Keeping.{AreAsked, AreAskedInPart};
+ghost use Rattle.ppd_session.specs.Sessions.{IsSession, IsWhy, blocks_of_line, known_by, new_session, state_of};
 ghost use Rattle.ppd_session.specs.Questions.{is_quit};
 ghost use Rattle.ppd_session.specs.Texts.{failure_of, races_text, text_of};
 
@@ -32,12 +32,11 @@ pub struct Session<'a> {
 }
 
 impl<'a> Model for Session<'a> {
-    ghost use Rattle.ppd_session.specs.Known.{Known};
-    ghost use Rattle.ppd_session.specs.Sessions.{IsSession, known_by};
+    ghost use Rattle.ppd_session.specs.Sessions.{IsSession, SessionState, state_of};
 
-    ghost Value = { Known };
+    ghost Value = { SessionState };
 
-    ghost view = { λ s. known_by s.past s.races };
+    ghost view = { λ s. state_of s.past s.races s.kept };
 
     ghost invariant = { λ s. IsSession s.past s.races s.kept };
 }
@@ -54,7 +53,12 @@ fn reply(
     ensures quit { IfOk result (λ r. r.quit ≡ is_quit line.now) }
     ensures told { OnOk result (failure_of (known_by past.now races.now) line.now ≡ None) }
     ensures error { IfErr result (IsWhy (failure_of (known_by past.now races.now) line.now)) }
-    ensures kept { AreTold (known_by past.now races.now) kept.new }
+    ensures kept { OnOk result
+        (AreAsked (known_by past.now races.now) (blocks_of_line (state_of past.now races.now kept.old) line.now)
+        kept.old kept.new) }
+    ensures part { OnErr result
+        (AreAskedInPart (known_by past.now races.now)
+        (blocks_of_line (state_of past.now races.now kept.old) line.now) kept.old kept.new) }
 {
     let words = words_of(alloc, line)?;
     let question = asked(past.program, words.as_slice());
@@ -75,9 +79,7 @@ impl<'a> Session<'a> {
     ) -> Result<Session<'a>, Memory>
         requires past { IsPast past }
         requires uncut { past.cut.now ≡ past.logs.now }
-        ensures { IfOk result
-            (λ s. s
-            ≡ known_of_logs past.entry.program.now past.entry.plan.now past.entry.budget past.entry.logs.now) }
+        ensures { IfOk result (λ s. s ≡ new_session past.entry 8) }
     {
         Session::cached(rt, alloc, past, USUAL_BLOCKS)
     }
@@ -91,9 +93,7 @@ impl<'a> Session<'a> {
     ) -> Result<Session<'a>, Memory>
         requires past { IsPast past }
         requires uncut { past.cut.now ≡ past.logs.now }
-        ensures { IfOk result
-            (λ s. s
-            ≡ known_of_logs past.entry.program.now past.entry.plan.now past.entry.budget past.entry.logs.now) }
+        ensures { IfOk result (λ s. s ≡ new_session past.entry blocks) }
     {
         let races = races(rt, alloc, past.graph)?;
         let kept = Kept::new(alloc, blocks)?;
@@ -107,7 +107,7 @@ impl<'a> Session<'a> {
 
     /// The text of the race list: how many races there are, and a line for each. `Memory` is want of memory.
     pub fn summary_races(&self) -> Result<Vec<u8>, Memory>
-        ensures { IfOk result (λ text. text.items ≡ races_text self.now.program self.now.races) }
+        ensures { IfOk result (λ text. text.items ≡ races_text self.now.known.program self.now.known.races) }
     {
         let mut text = Vec::new(self.alloc);
         put_races(&mut text, self.past.program, self.races.as_slice())?;
@@ -122,14 +122,21 @@ impl<'a> Session<'a> {
     /// are found by replays of single intervals.
     /// `Diverged` comes exactly where such a replay fails, the first that does, at its entry; `Sets` exactly where the
     /// write set of this entry has a cell that the replays write nowhere. Neither comes of the logs of a whole run, and
-    /// after them the session is not asked again. `Memory` is want of memory: the session is as before, and the line
-    /// can be asked again.
+    /// after them the session is not asked again. `Memory` is want of memory: the line can be asked again.
+    ///
+    /// After an answer each block that the line asked for was put in front of those that are kept, or, if it was not
+    /// kept, may be kept now; after an error so were the first of them.
     pub fn answer(&mut self, line: &[u8]) -> Result<Reply, SessionError>
-        ensures text { IfOk result (λ r. r.text ≡ text_of self.old line.now) }
+        ensures text { IfOk result (λ r. r.text ≡ text_of self.old.known line.now) }
         ensures quit { IfOk result (λ r. r.quit ≡ is_quit line.now) }
-        ensures told { OnOk result (failure_of self.old line.now ≡ None) }
-        ensures error { IfErr result (IsWhy (failure_of self.old line.now)) }
-        ensures same { self.new ≡ self.old }
+        ensures told { OnOk result (failure_of self.old.known line.now ≡ None) }
+        ensures error { IfErr result (IsWhy (failure_of self.old.known line.now)) }
+        ensures same { self.new.known ≡ self.old.known }
+        ensures lasts { self.new.last_blocks ≡ self.old.last_blocks }
+        ensures kept { OnOk result
+            (AreAsked self.old.known (blocks_of_line self.old line.now) self.old.kept self.new.kept) }
+        ensures part { OnErr result
+            (AreAskedInPart self.old.known (blocks_of_line self.old line.now) self.old.kept self.new.kept) }
     {
         reply(
             self.alloc,

@@ -1,6 +1,7 @@
 use Rattle.std.proofs.Common.{◌≡◌, ◌++◌, [], None}
+use Rattle.ppd_session.specs.Keeping.{AreAsked}
 use Rattle.ppd_session.specs.Known.{last_by, of_cells}
-use Rattle.ppd_session.specs.Sessions.{AreTold, known_by}
+use Rattle.ppd_session.specs.Sessions.{known_by, last_block}
 use Rattle.ppd_session.specs.Texts.{first_unfound, lasts_text}
 use Rattle.ppd_session.proofs.lasts.put_lines.Given as goal
 
@@ -13,5 +14,5 @@ invariant-loop-cell l = record {
   none : first_unfound
       (of_cells (last_by l.past.program.now l.past.plan.now l.past.budget l.past.logs.now) 0 l.cell)
       ≡ None;
-  kept : AreTold (known_by l.past []) l.kept;
+  asked : AreAsked (known_by l.past []) (of_cells (last_block l.past) 0 l.cell) l.initial.kept l.kept;
 }

@@ -1,42 +1,42 @@
 use Rattle.std.specs.Prelude.{Some}
-use Rattle.std.proofs.Common.{List, Ok, [], ap, sym, ◌∙◌}
+use Rattle.std.proofs.Common.{List, Ok, [], ap, inl, sym, ◌∙◌}
 use Rattle.std.proofs.lemmas.Result.{err_from_is_err_and, IfErr-weaker, on_ok_weaker}
 use Rattle.ppd_model.specs.declared.flow.Item.{Item}
 use Rattle.ppd_session.specs.Sessions.{known_by}
 use Rattle.ppd_session.specs.Texts.{told_at}
-use Rattle.ppd_session.proofs.Keeping.{told_more}
+use Rattle.ppd_session.proofs.Keeping.{kept_now, not_found, told_found}
 use Rattle.ppd_session.proofs.Replayed.{told_none, told_texts, told_why, why_failed}
 use Rattle.ppd_session.proofs.opening.put_block.Goals as goal
 
 pub returns-in-Some-clause-text : goal.returns-in-Some-clause-text
 returns-in-Some-clause-text c =
-    let at = c.requires.kept c.args.place c.in-Some.items.now
-    (c.touch.ensures (c.args.place, c.in-Some.items.now) c.in-Some.ensures) in
+    let at = told_found (known_by c.args.past.now []) c.args.kept.now c.touch.new.self c.args.place c.find.result c.in-Some.items
+    c.requires.kept c.touch.ensures c.find.ensures c.in-Some.is in
     on_ok_weaker c.put_told.result (told_texts (known_by c.args.past.now []) c.args.place.process c.args.place.interval c.args.item _
     c.in-Some.items.now c.as_slice.result.now at c.as_slice.ensures c.args.text.now.items
     c.put_told.new.text.items) c.put_told.ensures.text
 
 pub returns-in-Some-clause-told : goal.returns-in-Some-clause-told
 returns-in-Some-clause-told c =
-    let at = c.requires.kept c.args.place c.in-Some.items.now
-    (c.touch.ensures (c.args.place, c.in-Some.items.now) c.in-Some.ensures) in
+    let at = told_found (known_by c.args.past.now []) c.args.kept.now c.touch.new.self c.args.place c.find.result c.in-Some.items
+    c.requires.kept c.touch.ensures c.find.ensures c.in-Some.is in
     on_ok_weaker c.put_told.result (told_none (known_by c.args.past.now []) c.args.place.process c.args.place.interval c.args.item _
     c.in-Some.items.now c.as_slice.result.now at c.as_slice.ensures)
     c.put_told.ensures.told
 
 pub returns-in-Some-clause-error : goal.returns-in-Some-clause-error
 returns-in-Some-clause-error c =
-    let at = c.requires.kept c.args.place c.in-Some.items.now
-    (c.touch.ensures (c.args.place, c.in-Some.items.now) c.in-Some.ensures) in
+    let at = told_found (known_by c.args.past.now []) c.args.kept.now c.touch.new.self c.args.place c.find.result c.in-Some.items
+    c.requires.kept c.touch.ensures c.find.ensures c.in-Some.is in
     IfErr-weaker c.put_told.result _ _ (told_why (known_by c.args.past.now []) c.args.place.process c.args.place.interval c.args.item _
     c.in-Some.items.now c.as_slice.result.now at c.as_slice.ensures)
     c.put_told.ensures.error
 
 pub returns-in-Some-clause-kept : goal.returns-in-Some-clause-kept
-returns-in-Some-clause-kept c = λ place items h. c.requires.kept place items (c.touch.ensures (place, items) h)
+returns-in-Some-clause-kept c = inl c.touch.ensures
 
 pub returns-in_err-items-clause-kept : goal.returns-in_err-items-clause-kept
-returns-in_err-items-clause-kept c = λ place items h. c.requires.kept place items (c.touch.ensures (place, items) h)
+returns-in_err-items-clause-kept c = inl c.touch.ensures
 
 pub returns-in_err-items-clause-error : goal.returns-in_err-items-clause-error
 returns-in_err-items-clause-error c =
@@ -46,7 +46,7 @@ returns-in_err-items-clause-error c =
     c.in_err-items.ensures.error)
 
 pub returns-in_err-put_told-clause-kept : goal.returns-in_err-put_told-clause-kept
-returns-in_err-put_told-clause-kept c = λ place items h. c.requires.kept place items (c.touch.ensures (place, items) h)
+returns-in_err-put_told-clause-kept c = inl c.touch.ensures
 
 pub returns-in_err-put_told-clause-error : goal.returns-in_err-put_told-clause-error
 returns-in_err-put_told-clause-error c =
@@ -69,12 +69,12 @@ returns-clause-told c =
 
 pub returns-clause-kept : goal.returns-clause-kept
 returns-clause-kept c =
-    told_more (known_by c.args.past.now []) c.touch.new.self c.keep.new.self c.args.place c.in_ok-items.items
-    (λ place items h. c.requires.kept place items (c.touch.ensures (place, items) h)) c.in_ok-items.ensures.items
-    c.keep.ensures
+    kept_now (known_by c.args.past.now []) c.args.kept.now c.touch.new.self c.keep.new.self c.args.place c.in_ok-items.items
+    c.touch.ensures
+    (not_found (known_by c.args.past.now []) c.touch.new.self c.args.place c.find.result c.find.ensures c.in_default.is) c.in_ok-items.ensures.items c.keep.ensures
 
 pub put_told-requires-clause-told : goal.put_told-requires-clause-told
 put_told-requires-clause-told c =
-    c.requires.kept c.args.place c.in-Some.items.now
-    (c.touch.ensures (c.args.place, c.in-Some.items.now) c.in-Some.ensures)
+    told_found (known_by c.args.past.now []) c.args.kept.now c.touch.new.self c.args.place c.find.result c.in-Some.items
+    c.requires.kept c.touch.ensures c.find.ensures c.in-Some.is
     ∙ ap (λ (is : List Item). Some (Ok is)) (sym c.as_slice.ensures)

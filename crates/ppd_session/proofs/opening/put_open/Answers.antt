@@ -1,14 +1,16 @@
 use Rattle.std.specs.Prelude.{IfErr}
-use Rattle.std.proofs.Common.{List, subst, sym}
+use Rattle.std.proofs.Common.{List, [], ◌∷◌, refl, subst, sym}
 use Rattle.ppd_model.specs.declared.graph.Race.{Race}
-use Rattle.ppd_session.specs.Sessions.{AreTold, IsWhy, known_by}
+use Rattle.ppd_session.specs.Keeping.{AreAsked}
+use Rattle.ppd_session.specs.Known.{unless_raced}
+use Rattle.ppd_session.specs.Sessions.{AreTold, IsWhy, block_at, known_by}
 use Rattle.ppd_session.specs.Texts.{opening_failure}
 use Rattle.ppd_session.proofs.Replayed.{none_there}
 use Rattle.ppd_session.proofs.opening.put_open.Goals as goal
 
 pub put_interval-requires-clause-kept : goal.put_interval-requires-clause-kept
 put_interval-requires-clause-kept c =
-    subst (λ (rs : List Race). AreTold (known_by c.args.past.now rs) c.args.kept.now)
+    subst (λ (rs : List Race). AreTold (known_by c.args.past.now rs) c.args.kept.now.blocks)
     (none_there c.args.races.now c.if-not-is_empty.ensures) c.requires.told
 
 pub returns-clause-error : goal.returns-clause-error
@@ -20,5 +22,8 @@ returns-clause-error c =
 
 pub returns-clause-kept : goal.returns-clause-kept
 returns-clause-kept c =
-    subst (λ (rs : List Race). AreTold (known_by c.args.past.now rs) c.put_interval.new.kept)
-    (sym (none_there c.args.races.now c.if-not-is_empty.ensures)) c.put_interval.ensures.kept
+    subst
+    (λ (rs : List Race). AreAsked (known_by c.args.past.now rs)
+    (unless_raced rs (block_at (known_by c.args.past.now rs) c.args.opening.process c.args.opening.interval ∷ [])) c.args.kept.now
+    c.put_interval.new.kept)
+    (sym (none_there c.args.races.now c.if-not-is_empty.ensures)) (c.put_interval.new.kept, c.put_interval.ensures.kept, refl)

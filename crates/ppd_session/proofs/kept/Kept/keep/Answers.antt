@@ -1,15 +1,13 @@
-use Rattle.std.specs.Prelude.{Contains}
-use Rattle.std.proofs.Common.{◌≡◌, ◌&&◌, ◌⊎◌, List, nat_eq, subst}
-use Rattle.ppd_model.specs.declared.flow.Item.{Item}
-use Rattle.ppd_session.specs.declared.place.Place.{Place}
-use Rattle.ppd_session.proofs.Keeping.{kept_put, same_place}
+use Rattle.std.proofs.Common.{ap, inl, sym, ◌∙◌, arith, ◌<◌}
+use Rattle.ppd_session.specs.Keeping.{Keeping, is_place, kept_of, with_block}
+use Rattle.ppd_session.proofs.Keeping.{as_keeping, put_new}
 use Rattle.ppd_session.proofs.kept.Kept.keep.Goals as goal
 
 pub returns-in-Ok : goal.returns-in-Ok
 returns-in-Ok c =
-    λ block h. subst
-    (λ (es : List (Place × List Item)). Contains es block ⊎ (block ≡ (c.args.place, c.args.items)))
-    c.self.view_is
-    (kept_put (λ (a b : Place). nat_eq a.process b.process && nat_eq a.interval b.interval) c.args.place
-    c.args.items (λ other t. same_place c.args.place other t) c.put.result
-    c.self.inside.cache c.put.new.self c.put.ensures.entries c.put.ensures.err block h)
+    let some : 0 < c.self.inside.most = omega (arith, c.if-self-eq0.false) in
+    let none = ap (λ (k : Keeping). kept_of k c.args.place) c.self.view_is ∙ c.requires in
+    inl (ap (as_keeping c.self.inside.most) c.in-Ok.ensures.entries
+    ∙ (ap (λ es. as_keeping c.self.inside.most (record { entries = es; cap = c.self.inside.cache.cap }))
+    (put_new is_place c.args.place c.args.items c.self.inside.cache c.self.inside.most some (c.self.invariant some) none)
+    ∙ ap (with_block c.args.place c.args.items) c.self.view_is))
