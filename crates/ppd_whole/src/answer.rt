@@ -9,6 +9,7 @@ ghost use Rattle.ppd_whole.specs.Answers.{GivesWhole, IsWholeOf};
 ghost use Rattle.ppd_whole.specs.WholeText.{whole_text};
 
 use crate::laws::wholes_are_of_runs;
+use crate::linked_past::LinkedPast;
 use crate::processes::{are_few, events_of_all, lines_of_all, marks_of_all};
 use crate::replays::all_items;
 use crate::whole_error::WholeError;
@@ -16,6 +17,7 @@ use ppd_ast::{Memory, Seq};
 use ppd_flow_past::Past;
 use ppd_model::Item;
 use ppd_whole_link::{linkers_are_linked, marks_are_writers};
+use ppd_whole_writers::writing_edges;
 use std::alloc::Global;
 use std::thread::Threads;
 
@@ -33,7 +35,13 @@ fn text_of(alloc: Global, past: &Past, rows: &[Seq<Item>]) -> Result<Vec<u8>, Me
         return Err(Memory);
     }
     let marks = marks_of_all(alloc, &events)?;
-    lines_of_all(alloc, past, &marks, &events)
+    let writing = writing_edges(alloc, past)?;
+    let linked = LinkedPast {
+        past,
+        marks: &marks,
+        writing: &writing,
+    };
+    lines_of_all(alloc, &linked, &events)
 }
 
 /// The text of the full trace of what is kept of a whole run without a race, for every number of workers: every

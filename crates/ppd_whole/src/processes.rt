@@ -4,9 +4,11 @@ ghost use Rattle.std.specs.List.{flat_map};
 ghost use Rattle.ppd_whole_link.specs.Marks.{marks_after};
 ghost use Rattle.ppd_flow_past.specs.Pasts.{IsPast};
 ghost use Rattle.ppd_flow_shared.specs.SharedCells.{seens_in};
-ghost use Rattle.ppd_whole.specs.Told.{AreMarked, all_events, told_processes};
+ghost use Rattle.ppd_whole.specs.LinkedPasts.{IsLinked};
+ghost use Rattle.ppd_whole.specs.Told.{all_events, told_processes};
 
 use crate::lines::put_process;
+use crate::linked_past::LinkedPast;
 use ppd_ast::{Memory, Seq};
 use ppd_flow_past::{Past, count_of};
 use ppd_model::Item;
@@ -90,21 +92,19 @@ pub(crate) fn are_few(events: &[Vec<&Event>]) -> bool
 /// The lines of the events of all processes.
 pub(crate) fn lines_of_all(
     alloc: Global,
-    past: &Past,
-    marks: &[Marks],
+    linked: &LinkedPast,
     events: &[Vec<&Event>],
 ) -> Result<Vec<u8>, Memory>
-    requires past { IsPast past.now }
-    requires marks { AreMarked past.now marks.now }
+    requires { IsLinked linked.now }
     ensures { IfOk result
-        (λ text. text.items ≡ told_processes past.now 0 (map (λ es. map (λ e. e.now) es.items) events.now)) }
+        (λ text. text.items ≡ told_processes linked.now.past.now 0 (map (λ es. map (λ e. e.now) es.items) events.now)) }
 {
     let mut text = Vec::new(alloc);
     for p in 0..events.len() {
         let Ok(process) = u8::try_from(p) else {
             return Err(Memory);
         };
-        put_process(&mut text, alloc, past, marks, process, &events[p])?;
+        put_process(&mut text, alloc, linked, process, &events[p])?;
     }
     Ok(text)
 }

@@ -1,0 +1,2 @@
+-- The edges that write each cell.
+pub mod Writing
