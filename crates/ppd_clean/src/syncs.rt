@@ -1,0 +1,47 @@
+ghost use Rattle.std.specs.Prelude.{◌≡◌, count_by, filter_map, length, take};
+ghost use Rattle.ppd_flow_model.specs.Ends.{is_sync as is_sync_entry, syncs_before as syncs_before_in};
+ghost use Rattle.ppd_model.specs.RecordedSets.{sync_in};
+
+use ppd_entry::Entry;
+
+fn is_sync(entry: &Entry) -> bool
+    ensures { result ≡ is_sync_entry entry.now }
+{
+    matches!(entry, Entry::Sync { .. })
+}
+
+fn count_syncs(entries: &[Entry]) -> usize
+    ensures { result ≡ count_by is_sync_entry entries.now }
+{
+    let mut count = 0;
+    for entry in entries {
+        if is_sync(entry) {
+            count += 1;
+        }
+    }
+    count
+}
+
+fn syncs_among(entries: &[Entry]) -> usize
+    ensures { result ≡ length (filter_map sync_in entries.now) }
+{
+    count_syncs(entries)
+}
+
+/// The first entries, at most so many.
+pub(crate) fn first_entries(entries: &[Entry], count: usize) -> &[Entry]
+    ensures { result.now ≡ take count entries.now }
+{
+    if count < entries.len() {
+        &entries[..count]
+    } else {
+        entries
+    }
+}
+
+/// How many synchronizations stand before entry `n`.
+pub(crate) fn syncs_before(entries: &[Entry], n: u32) -> usize
+    ensures { result ≡ syncs_before_in entries.now n }
+{
+    syncs_among(first_entries(entries, n as usize))
+}
