@@ -1,7 +1,6 @@
 -- What `debug` comes to, by its status.
-use Rattle.std.specs.Prelude.{Option, None, ◌⊎◌}
-use Rattle.std.specs.Borrow.{Bor}
-use Rattle.std.proofs.Common.{◌≡◌, ℕ, List, [], ◌∷◌, arith, inl, inr, refl, subst, sym}
+use Rattle.std.specs.Prelude.{None, ◌⊎◌}
+use Rattle.std.proofs.Common.{◌≡◌, ℕ, List, [], ◌∷◌, arith, inl, inr, refl, subst, sym, ◌∙◌}
 use Rattle.ppd_ast.specs.declared.program.Program.{Program}
 use Rattle.ppd_blocks.specs.Blocks.{plan_of}
 use Rattle.ppd_codec.specs.declared.recording.Header.{Header}
@@ -17,7 +16,9 @@ use Rattle.ppd_codec_runs.proofs.Same.{refused_or_accepted}
 use Rattle.ppd_top.specs.Output.{Standing, Talks, answers, output}
 use Rattle.ppd_top.specs.Ran.{Debugs}
 use Rattle.ppd_top.specs.Ran.Debugs.{no_recall, recording_refused, recalled}
-use Rattle.ppd_top.specs.Top.{AnswersCutOff, IsPromisedAnswers, IsRecalledFrom, LinesFailed, MemoryRanOut, ReplayRefused, WasAnswered, WasNotRecalled, WriteFailed, most_recording}
+use Rattle.ppd_top.specs.Call.{Call}
+use Rattle.ppd_top.specs.Clauses.{AnswersCutOff, IsPromisedAnswers, IsRecalledFrom, LinesFailed, MemoryRanOut, ReplayRefused, WasAnswered, WasNotRecalled, WriteFailed}
+use Rattle.ppd_top.specs.Top.{most_recording}
 use Rattle.ppd_top.specs.Top.Recalls.{refused_recording, answered}
 use Rattle.ppd_top.specs.Top.Writes.{for_recording}
 use Rattle.ppd_top.specs.Words.{AsksDebug}
@@ -49,14 +50,14 @@ pub debug_not_early : (bytes : List ℕ) (a b : Standing) (status : ℕ) → Deb
 debug_not_early bytes a b status d (inl e) = other_than 1 status (0 ∷ 7 ∷ 8 ∷ 3 ∷ 4 ∷ 5 ∷ 6 ∷ []) refl e (debugs_in bytes a b status d)
 debug_not_early bytes a b status d (inr e) = other_than 2 status (0 ∷ 7 ∷ 8 ∷ 3 ∷ 4 ∷ 5 ∷ 6 ∷ []) refl e (debugs_in bytes a b status d)
 
-module _ (words : List (Bor (List ℕ))) (held : Option (List ℕ → Option (List ℕ))) (name bytes : List ℕ) (asks : AsksDebug words name) (loads : Loads held name most_recording bytes) (schedule : List ℕ) (no_run : schedule ≡ []) (a b : Standing) (status : ℕ) where
-  from : (r : Recording) → IsAccepted bytes r → IsRecalledFrom words held r
+module _ (c : Call) (name bytes : List ℕ) (asks : AsksDebug c.words name) (loads : Loads c.before.held name most_recording bytes) (no_run : c.schedule ≡ []) where
+  from : (r : Recording) → IsAccepted bytes r → IsRecalledFrom c r
   from r accepted = record { name = name; bytes = bytes; asked = asks; loaded = loads; accepted = accepted; of_runs = runs_are_recalled bytes r accepted }
 
-  pub debug_any : Debugs bytes a b status → IsIn status (0 ∷ 7 ∷ 8 ∷ 3 ∷ 4 ∷ 5 ∷ 6 ∷ [])
-  debug_any d = debugs_in bytes a b status d
+  pub debug_any : Debugs bytes c.before.io c.after.io c.status → IsIn c.status (0 ∷ 7 ∷ 8 ∷ 3 ∷ 4 ∷ 5 ∷ 6 ∷ [])
+  debug_any d = debugs_in bytes c.before.io c.after.io c.status d
 
-  not_end : IsEnd status → (n : ℕ) → status ≡ n → (n ≡ 4) ⊎ ((n ≡ 5) ⊎ (n ≡ 6)) → ⊥
+  not_end : IsEnd c.status → (n : ℕ) → c.status ≡ n → (n ≡ 4) ⊎ ((n ≡ 5) ⊎ (n ≡ 6)) → ⊥
   not_end (inl e) n is (inl k) = omega arith
   not_end (inl e) n is (inr (inl k)) = omega arith
   not_end (inl e) n is (inr (inr k)) = omega arith
@@ -67,9 +68,9 @@ module _ (words : List (Bor (List ℕ))) (held : Option (List ℕ → Option (Li
   not_end (inr (inr e)) n is (inr (inl k)) = omega arith
   not_end (inr (inr e)) n is (inr (inr k)) = omega arith
 
-  answered_so : (r : Recording) → IsAccepted bytes r → Talks (known_of_recording r) [] a b status → IsLast status → WasAnswered words held schedule a b status
+  answered_so : (r : Recording) → IsAccepted bytes r → Talks (known_of_recording r) [] c.before.io c.after.io c.status → IsLast c.status → WasAnswered c
   answered_so r accepted t e =
-      let w = talks_whole (known_of_recording r) [] a b status t e in
+      let w = talks_whole (known_of_recording r) [] c.before.io c.after.io c.status t e in
       record {
         recording = r;
         commands = w.commands;
@@ -81,26 +82,26 @@ module _ (words : List (Bor (List ℕ))) (held : Option (List ℕ → Option (Li
         written = w.written;
       }
 
-  pub debug_whole : Debugs bytes a b status → IsEnd status → WasAnswered words held schedule a b status
+  pub debug_whole : Debugs bytes c.before.io c.after.io c.status → IsEnd c.status → WasAnswered c
   debug_whole (no_recall is written) e = absurd (not_end e 5 is (inr (inl refl)))
   debug_whole (recording_refused line why same (inl h)) e = absurd (not_end e 6 h.0 (inr (inr refl)))
   debug_whole (recording_refused line why same (inr h)) e = absurd (not_end e 4 h.0 (inl refl))
   debug_whole (recalled r accepted t) e = answered_so r accepted t (inl e)
 
-  pub debug_broken : Debugs bytes a b status → status ≡ 3 → LinesFailed words held schedule a b
+  pub debug_broken : Debugs bytes c.before.io c.after.io c.status → c.status ≡ 3 → LinesFailed c
   debug_broken (no_recall is written) e = absurd (omega arith)
   debug_broken (recording_refused line why same (inl h)) e = absurd (omega (arith, h.0))
   debug_broken (recording_refused line why same (inr h)) e = absurd (omega (arith, h.0))
-  debug_broken (recalled r accepted t) e = record { recording = r; recalled = from r accepted; no_run = no_run; broken = talks_broken (known_of_recording r) [] a b status t e }
+  debug_broken (recalled r accepted t) e = record { recording = r; recalled = from r accepted; no_run = no_run; broken = talks_broken (known_of_recording r) [] c.before.io c.after.io c.status t e }
 
-  pub debug_unwritten : Debugs bytes a b status → status ≡ 4 → WriteFailed words held schedule a b
+  pub debug_unwritten : Debugs bytes c.before.io c.after.io c.status → c.status ≡ 4 → WriteFailed c
   debug_unwritten (no_recall is written) e = absurd (omega arith)
   debug_unwritten (recording_refused line why same f) e =
-      let c = same_input a.left b.left same in
-      write_failed words held schedule c.0 a b status 6 line c.1
+      let t = same_input c.before.io.left c.after.io.left same in
+      write_failed c t.0 6 line t.1
       (for_recording name bytes asks loads no_run (output 6 line) (refused_recording line why)) (λ k. omega arith) f e
   debug_unwritten (recalled r accepted t) e =
-      let u = talks_unwritten (known_of_recording r) [] a b status t e in
+      let u = talks_unwritten (known_of_recording r) [] c.before.io c.after.io c.status t e in
       record {
         rose = u.rose;
         commands = u.commands;
@@ -110,20 +111,20 @@ module _ (words : List (Bor (List ℕ))) (held : Option (List ℕ → Option (Li
         written = u.written;
       }
 
-  pub debug_out : (now : Option (List ℕ → Option (List ℕ))) → now ≡ held → Debugs bytes a b status → status ≡ 5 → MemoryRanOut held now schedule a.written b.written ⊎ AnswersCutOff words held schedule a b
-  debug_out now kept (no_recall is written) e = inl (record { kept = kept; no_run = no_run; written = written })
-  debug_out now kept (recording_refused line why same (inl h)) e = absurd (omega (arith, h.0))
-  debug_out now kept (recording_refused line why same (inr h)) e = absurd (omega (arith, h.0))
-  debug_out now kept (recalled r accepted t) e =
-      let c = talks_cut_off (known_of_recording r) [] a b status t e in
-      inr (record { recording = r; commands = c.commands; recalled = from r accepted; no_run = no_run; told = c.told; written = c.written })
+  pub debug_out : c.after.held ≡ c.before.held → Debugs bytes c.before.io c.after.io c.status → c.status ≡ 5 → MemoryRanOut c ⊎ AnswersCutOff c
+  debug_out kept (no_recall is written) e = inl (record { kept = kept; no_run = no_run; written = written })
+  debug_out kept (recording_refused line why same (inl h)) e = absurd (omega (arith, h.0))
+  debug_out kept (recording_refused line why same (inr h)) e = absurd (omega (arith, h.0))
+  debug_out kept (recalled r accepted t) e =
+      let cut = talks_cut_off (known_of_recording r) [] c.before.io c.after.io c.status t e in
+      inr (record { recording = r; commands = cut.commands; recalled = from r accepted; no_run = no_run; told = cut.told; written = cut.written })
 
   -- the recording of a run has no replay that fails
-  of_no_run : (w : WasAnswered words held schedule a b 6) (source : List ℕ) (header : Header) (program : Program) (h : List ℕ) → IsRunRecorded source header program h w.recalled.bytes → ⊥
-  of_no_run w source header program h run =
-      end_not_6 _ (answers_whole (known_of_recording w.recording) (no_failure w.recalled.bytes w.recording w.recalled.accepted source header program h run) 0 (lines_of w.commands)) (sym w.status_is)
+  of_no_run : (w : WasAnswered c) → c.status ≡ 6 → (source : List ℕ) (header : Header) (program : Program) (h : List ℕ) → IsRunRecorded source header program h w.recalled.bytes → ⊥
+  of_no_run w six source header program h run =
+      end_not_6 _ (answers_whole (known_of_recording w.recording) (no_failure w.recalled.bytes w.recording w.recalled.accepted source header program h run) 0 (lines_of w.commands)) (sym w.status_is ∙ six)
 
-  pub debug_refused : Debugs bytes a b status → status ≡ 6 → WasNotRecalled words held schedule a b ⊎ ReplayRefused words held schedule a b
+  pub debug_refused : Debugs bytes c.before.io c.after.io c.status → c.status ≡ 6 → WasNotRecalled c ⊎ ReplayRefused c
   debug_refused (no_recall is written) e = absurd (omega arith)
   debug_refused (recording_refused line why same (inl h)) e = inl (record {
     name = name;
@@ -140,21 +141,21 @@ module _ (words : List (Bor (List ℕ))) (held : Option (List ℕ → Option (Li
   })
   debug_refused (recording_refused line why same (inr h)) e = absurd (omega (arith, h.0))
   debug_refused (recalled r accepted t) e =
-      let w : WasAnswered words held schedule a b 6 = subst (WasAnswered words held schedule a b) e (answered_so r accepted t (inr e)) in
-      inr (record { answered = w; of_no_run = of_no_run w })
+      let w : WasAnswered c = answered_so r accepted t (inr e) in
+      inr (record { answered = w; of_no_run = of_no_run w e })
 
-  pub debug_complete : (l m : List ℕ → ℕ) → Debugs bytes a b status → IsPromisedAnswers words held l m a b → (status ≡ 0) ⊎ (status ≡ 5)
-  debug_complete l m (no_recall is written) p = inr is
-  debug_complete l m (recording_refused line why same f) p =
-      let names = one_recording_name words name p.name asks p.asked in
-      let P : List ℕ → Type 0 = λ n. Loads held n most_recording bytes in
-      let is = loaded held p.at most_recording p.name p.all bytes p.told p.there (subst P names loads) in
+  pub debug_complete : Debugs bytes c.before.io c.after.io c.status → IsPromisedAnswers c → (c.status ≡ 0) ⊎ (c.status ≡ 5)
+  debug_complete (no_recall is written) p = inr is
+  debug_complete (recording_refused line why same f) p =
+      let names = one_recording_name c.words name p.name asks p.asked in
+      let P : List ℕ → Type 0 = λ n. Loads c.before.held n most_recording bytes in
+      let is = loaded c.before.held p.at most_recording p.name p.all bytes p.told p.there (subst P names loads) in
       let Q : List ℕ → Type 0 = λ s. IsRunRecorded p.source p.header p.program p.schedule s in
       absurd (no_run_is_refused p.source p.header p.program p.schedule bytes line (subst Q (sym is) p.of_run) why)
-  debug_complete l m (recalled r accepted t) p =
+  debug_complete (recalled r accepted t) p =
       let f = p.fine in
-      let names = one_recording_name words name p.name asks p.asked in
-      let P : List ℕ → Type 0 = λ n. Loads held n most_recording bytes in
-      let is = loaded held p.at most_recording p.name p.all bytes p.told p.there (subst P names loads) in
+      let names = one_recording_name c.words name p.name asks p.asked in
+      let P : List ℕ → Type 0 = λ n. Loads c.before.held n most_recording bytes in
+      let is = loaded c.before.held p.at most_recording p.name p.all bytes p.told p.there (subst P names loads) in
       let Q : List ℕ → Type 0 = λ s. IsRunRecorded p.source p.header p.program p.schedule s in
-      talks_fine (known_of_recording r) (no_failure bytes r accepted p.source p.header p.program p.schedule (subst Q (sym is) p.of_run)) [] a b status f.commands f.rest t f.told f.told_still f.fine f.no_read_fault p.no_write_fault
+      talks_fine (known_of_recording r) (no_failure bytes r accepted p.source p.header p.program p.schedule (subst Q (sym is) p.of_run)) [] c.before.io c.after.io c.status f.commands f.rest t f.told f.told_still f.fine f.no_read_fault p.no_write_fault

@@ -1,5 +1,5 @@
 -- What `drill` comes to, by its status.
-use Rattle.std.specs.Prelude.{Option, Some, ◌⊎◌, ◌+◌, ◌-◌, ◌^◌, ◌<◌, ◌≤◌, min}
+use Rattle.std.specs.Prelude.{Some, ◌⊎◌, ◌+◌, ◌-◌, ◌^◌, ◌<◌, ◌≤◌, min}
 use Rattle.std.specs.Borrow.{Bor}
 use Rattle.std.proofs.Common.{◌≡◌, ℕ, List, [], ◌∷◌, ◌++◌, arith, inl, inr, refl, subst, sym, ◌∙◌, ap}
 use Rattle.std.proofs.lemmas.Option.{none-some}
@@ -18,7 +18,9 @@ use Rattle.ppd_top.specs.Output.Talks.{whole, unread, unwritten, unfinished}
 use Rattle.ppd_top.specs.Ran.{Drilled, Drills, Flows, Refuses}
 use Rattle.ppd_top.specs.Ran.Drilled.{no_source, refused_drill, drilled}
 use Rattle.ppd_text_refusals.specs.Sources.{refused}
-use Rattle.ppd_top.specs.Top.{Answers, DrillCutOff, Finished, IsPromisedDrill, MemoryRanOut, WasDrilled, WasNotDrilled, WriteFailed, drill_commands, drill_options, drill_out, known_of, summary_of_run}
+use Rattle.ppd_top.specs.Call.{Call, LeftInput}
+use Rattle.ppd_top.specs.Clauses.{DrillCutOff, IsPromisedDrill, MemoryRanOut, WasDrilled, WasNotDrilled, WriteFailed}
+use Rattle.ppd_top.specs.Top.{Answers, Finished, drill_commands, drill_options, drill_out, known_of, summary_of_run}
 use Rattle.ppd_top.specs.Top.Answers.{refusal, run}
 use Rattle.ppd_top.specs.Top.Writes.{for_number}
 use Rattle.ppd_top_words.specs.Reads.{texts_in}
@@ -94,19 +96,19 @@ drills_from program schedule a b status rest (inr t) e f none = inr (record { wh
 
 -- ---- by its status
 
-module _ (words : List (Bor (List ℕ))) (number : ℕ) (asks : AsksDrill words number) (schedule : List ℕ) (a b : Standing) (status : ℕ) where
+module _ (c : Call) (number : ℕ) (asks : AsksDrill c.words number) where
   -- what is written of a program
   abbrev Ends : Program → Type 0
   Ends program =
-      Finished a.written b.written a.writes b.writes status 0 (drill_out program schedule).text
-      ⊎ ((status ≡ 5) × AppendsFront a.written b.written (drill_out program schedule).text)
+      Finished c.before.io.written c.after.io.written c.before.io.writes c.after.io.writes c.status 0 (drill_out program c.schedule).text
+      ⊎ ((c.status ≡ 5) × AppendsFront c.before.io.written c.after.io.written (drill_out program c.schedule).text)
 
-  ends_in : (program : Program) → Ends program → IsIn status (0 ∷ 4 ∷ 5 ∷ [])
+  ends_in : (program : Program) → Ends program → IsIn c.status (0 ∷ 4 ∷ 5 ∷ [])
   ends_in program (inl (inl h)) = inl h.0
   ends_in program (inl (inr h)) = inr (inl h.0)
   ends_in program (inr h) = inr (inr (inl h.0))
 
-  pub drill_any : Drilled number schedule a.written b.written a.writes b.writes status → IsIn status (0 ∷ 1 ∷ 4 ∷ 5 ∷ [])
+  pub drill_any : Drilled number c.schedule c.before.io.written c.after.io.written c.before.io.writes c.after.io.writes c.status → IsIn c.status (0 ∷ 1 ∷ 4 ∷ 5 ∷ [])
   drill_any (no_source is empty same) = inr (inr (inr (inl is)))
   drill_any (refused_drill error cause empty (inl h)) = inr (inr (inr (inl h.0)))
   drill_any (refused_drill error cause empty (inr (real, inl h))) = inr (inl h.0)
@@ -114,36 +116,36 @@ module _ (words : List (Bor (List ℕ))) (number : ℕ) (asks : AsksDrill words 
   drill_any (drilled program read (inl h)) = inr (inr (inr (inl h.0)))
   drill_any (drilled program read (inr w)) = by (ends_in program w.ends)
     where
-      by : IsIn status (0 ∷ 4 ∷ 5 ∷ []) → IsIn status (0 ∷ 1 ∷ 4 ∷ 5 ∷ [])
+      by : IsIn c.status (0 ∷ 4 ∷ 5 ∷ []) → IsIn c.status (0 ∷ 1 ∷ 4 ∷ 5 ∷ [])
       by (inl h) = inl h
       by (inr h) = inr (inr h)
 
-  pub drill_whole : Drilled number schedule a.written b.written a.writes b.writes status → status ≡ 0 → WasDrilled words schedule a.written b.written
+  pub drill_whole : Drilled number c.schedule c.before.io.written c.after.io.written c.before.io.writes c.after.io.writes c.status → c.status ≡ 0 → WasDrilled c
   drill_whole (no_source is empty same) e = absurd (omega arith)
   drill_whole (refused_drill error cause empty r) e = absurd (by r)
     where
-      by : Refuses error a.written b.written a.writes b.writes status → ⊥
+      by : Refuses error c.before.io.written c.after.io.written c.before.io.writes c.after.io.writes c.status → ⊥
       by (inl h) = omega (arith, h.0)
       by (inr (real, inl h)) = omega (arith, h.0)
       by (inr (real, inr h)) = omega (arith, h.0)
   drill_whole (drilled program read (inl h)) e = absurd (omega (arith, h.0))
   drill_whole (drilled program read (inr w)) e = by w.ends
     where
-      by : Ends program → WasDrilled words schedule a.written b.written
+      by : Ends program → WasDrilled c
       by (inl (inl h)) = record {
         number = number;
         program = program;
         asked = asks;
         accepted = read;
         whole = w.whole;
-        status_is = drill_status program schedule;
+        status_is = drill_status program c.schedule;
         written = h.1;
-        agreeing = of_agreeing program drill_options schedule drill_commands;
+        agreeing = of_agreeing program drill_options c.schedule drill_commands;
       }
       by (inl (inr h)) = absurd (omega (arith, h.0))
       by (inr h) = absurd (omega (arith, h.0))
 
-  pub drill_refused : Drilled number schedule a.written b.written a.writes b.writes status → status ≡ 1 → WasNotDrilled words a.written b.written
+  pub drill_refused : Drilled number c.schedule c.before.io.written c.after.io.written c.before.io.writes c.after.io.writes c.status → c.status ≡ 1 → WasNotDrilled c
   drill_refused (no_source is empty same) e = absurd (omega arith)
   drill_refused (refused_drill error cause empty (inl h)) e = absurd (omega (arith, h.0))
   drill_refused (refused_drill error cause empty (inr (real, inl h))) e = record {
@@ -157,64 +159,64 @@ module _ (words : List (Bor (List ℕ))) (number : ℕ) (asks : AsksDrill words 
   }
   drill_refused (refused_drill error cause empty (inr (real, inr h))) e = absurd (omega (arith, h.0))
   drill_refused (drilled program read (inl h)) e = absurd (omega (arith, h.0))
-  drill_refused (drilled program read (inr w)) e = absurd (other_than 1 status (0 ∷ 4 ∷ 5 ∷ []) refl e (ends_in program w.ends))
+  drill_refused (drilled program read (inr w)) e = absurd (other_than 1 c.status (0 ∷ 4 ∷ 5 ∷ []) refl e (ends_in program w.ends))
 
-  pub drill_unwritten : (held : Option (List ℕ → Option (List ℕ))) → b.left ≡ a.left → Drilled number schedule a.written b.written a.writes b.writes status → status ≡ 4 → WriteFailed words held schedule a b
-  drill_unwritten held same (no_source is empty kept) e = absurd (omega arith)
-  drill_unwritten held same (refused_drill error cause empty (inl h)) e = absurd (omega (arith, h.0))
-  drill_unwritten held same (refused_drill error cause empty (inr (real, f))) e =
-      let c = same_input a.left b.left same in
-      let w : Answers (generated number) drill_options drill_commands Flow schedule (output 1 (refused error)) =
+  pub drill_unwritten : LeftInput c → Drilled number c.schedule c.before.io.written c.after.io.written c.before.io.writes c.after.io.writes c.status → c.status ≡ 4 → WriteFailed c
+  drill_unwritten same (no_source is empty kept) e = absurd (omega arith)
+  drill_unwritten same (refused_drill error cause empty (inl h)) e = absurd (omega (arith, h.0))
+  drill_unwritten same (refused_drill error cause empty (inr (real, f))) e =
+      let t = same_input c.before.io.left c.after.io.left same in
+      let w : Answers (generated number) drill_options drill_commands Flow c.schedule (output 1 (refused error)) =
       subst (λ h. Answers (generated number) drill_options drill_commands Flow h (output 1 (refused error))) (sym empty) (refusal Flow error real cause) in
-      write_failed words held schedule c.0 a b status 1 (refused error) c.1 (for_number number asks (output 1 (refused error)) w) (λ k. omega arith) f e
-  drill_unwritten held same (drilled program read (inl h)) e = absurd (omega (arith, h.0))
-  drill_unwritten held same (drilled program read (inr w)) e = by w.ends
+      write_failed c t.0 1 (refused error) t.1 (for_number number asks (output 1 (refused error)) w) (λ k. omega arith) f e
+  drill_unwritten same (drilled program read (inl h)) e = absurd (omega (arith, h.0))
+  drill_unwritten same (drilled program read (inr w)) e = by w.ends
     where
-      by : Ends program → WriteFailed words held schedule a b
+      by : Ends program → WriteFailed c
       by (inl (inl h)) = absurd (omega (arith, h.0))
       by (inl (inr h)) =
-          let c = same_input a.left b.left same in
+          let t = same_input c.before.io.left c.after.io.left same in
           record {
             rose = h.1;
-            commands = c.0;
-            told = c.1;
-            out = drill_out program schedule;
-            writes = for_number number asks (drill_out program schedule) (run program schedule read w.whole);
+            commands = t.0;
+            told = t.1;
+            out = drill_out program c.schedule;
+            writes = for_number number asks (drill_out program c.schedule) (run program c.schedule read w.whole);
             written = h.2;
           }
       by (inr h) = absurd (omega (arith, h.0))
 
-  pub drill_cut_off : (held now : Option (List ℕ → Option (List ℕ))) → now ≡ held → Drilled number schedule a.written b.written a.writes b.writes status → status ≡ 5 → MemoryRanOut held now schedule a.written b.written ⊎ DrillCutOff words schedule a.written b.written
-  drill_cut_off held now kept (no_source is empty same) e = inl (record { kept = kept; no_run = empty; written = same })
-  drill_cut_off held now kept (refused_drill error cause empty (inl h)) e = inl (record { kept = kept; no_run = empty; written = h.1 })
-  drill_cut_off held now kept (refused_drill error cause empty (inr (real, inl h))) e = absurd (omega (arith, h.0))
-  drill_cut_off held now kept (refused_drill error cause empty (inr (real, inr h))) e = absurd (omega (arith, h.0))
-  drill_cut_off held now kept (drilled program read (inl h)) e = inl (record { kept = kept; no_run = h.1; written = h.2 })
-  drill_cut_off held now kept (drilled program read (inr w)) e = by w.ends
+  pub drill_cut_off : c.after.held ≡ c.before.held → Drilled number c.schedule c.before.io.written c.after.io.written c.before.io.writes c.after.io.writes c.status → c.status ≡ 5 → MemoryRanOut c ⊎ DrillCutOff c
+  drill_cut_off kept (no_source is empty same) e = inl (record { kept = kept; no_run = empty; written = same })
+  drill_cut_off kept (refused_drill error cause empty (inl h)) e = inl (record { kept = kept; no_run = empty; written = h.1 })
+  drill_cut_off kept (refused_drill error cause empty (inr (real, inl h))) e = absurd (omega (arith, h.0))
+  drill_cut_off kept (refused_drill error cause empty (inr (real, inr h))) e = absurd (omega (arith, h.0))
+  drill_cut_off kept (drilled program read (inl h)) e = inl (record { kept = kept; no_run = h.1; written = h.2 })
+  drill_cut_off kept (drilled program read (inr w)) e = by w.ends
     where
-      by : Ends program → MemoryRanOut held now schedule a.written b.written ⊎ DrillCutOff words schedule a.written b.written
+      by : Ends program → MemoryRanOut c ⊎ DrillCutOff c
       by (inl (inl h)) = absurd (omega (arith, h.0))
       by (inl (inr h)) = absurd (omega (arith, h.0))
       by (inr h) = inr (record { number = number; program = program; asked = asks; accepted = read; whole = w.whole; written = h.1 })
 
   -- a drill that is promised is not refused
-  pub drill_complete : Drilled number schedule a.written b.written a.writes b.writes status → IsPromisedDrill words a.writes b.writes → (status ≡ 0) ⊎ (status ≡ 5)
+  pub drill_complete : Drilled number c.schedule c.before.io.written c.after.io.written c.before.io.writes c.after.io.writes c.status → IsPromisedDrill c → (c.status ≡ 0) ⊎ (c.status ≡ 5)
   drill_complete (no_source is empty same) p = inr is
   drill_complete (refused_drill error cause empty (inl h)) p = inr h.0
   drill_complete (refused_drill error cause empty (inr (real, f))) p =
-      let read : IsRead (generated number) p.program = subst (λ n. IsRead (generated n) p.program) (sym (one_number words number p.number asks p.asked)) p.accepted in
+      let read : IsRead (generated number) p.program = subst (λ n. IsRead (generated n) p.program) (sym (one_number c.words number p.number asks p.asked)) p.accepted in
       absurd (real (read_or_refused (generated number) p.program error read cause))
   drill_complete (drilled program read (inl h)) p = inr h.0
   drill_complete (drilled program read (inr w)) p = by w.ends
     where
-      by : Ends program → (status ≡ 0) ⊎ (status ≡ 5)
+      by : Ends program → (c.status ≡ 0) ⊎ (c.status ≡ 5)
       by (inl (inl h)) = inl h.0
       by (inl (inr h)) = absurd (p.no_write_fault h.1)
       by (inr h) = inr h.0
 
-  pub drill_no_run : Drilled number schedule a.written b.written a.writes b.writes status → (status ≡ 1) ⊎ (status ≡ 2) → schedule ≡ []
+  pub drill_no_run : Drilled number c.schedule c.before.io.written c.after.io.written c.before.io.writes c.after.io.writes c.status → (c.status ≡ 1) ⊎ (c.status ≡ 2) → c.schedule ≡ []
   drill_no_run (no_source is empty same) e = empty
   drill_no_run (refused_drill error cause empty r) e = empty
   drill_no_run (drilled program read (inl h)) e = h.1
-  drill_no_run (drilled program read (inr w)) (inl e) = absurd (other_than 1 status (0 ∷ 4 ∷ 5 ∷ []) refl e (ends_in program w.ends))
-  drill_no_run (drilled program read (inr w)) (inr e) = absurd (other_than 2 status (0 ∷ 4 ∷ 5 ∷ []) refl e (ends_in program w.ends))
+  drill_no_run (drilled program read (inr w)) (inl e) = absurd (other_than 1 c.status (0 ∷ 4 ∷ 5 ∷ []) refl e (ends_in program w.ends))
+  drill_no_run (drilled program read (inr w)) (inr e) = absurd (other_than 2 c.status (0 ∷ 4 ∷ 5 ∷ []) refl e (ends_in program w.ends))

@@ -15,7 +15,9 @@ use Rattle.ppd_top.specs.declared.options.Options.{Options}
 use Rattle.ppd_top.specs.Output.{AreCommands, Standing, output}
 use Rattle.ppd_top.specs.Ran.{Flows, Refuses, Shows, WasTold}
 use Rattle.ppd_text_refusals.specs.Sources.{refused}
-use Rattle.ppd_top.specs.Top.{most_bytes, known_of, out_of, plan_of, summary_of_run, Writes, Finished, InputFailed, IsPromised, MemoryRanOut, RanWhole, WasCutOff, WasRead, WasRefused, WasShown, WriteFailed}
+use Rattle.ppd_top.specs.Call.{Call, LeftInput}
+use Rattle.ppd_top.specs.Clauses.{InputFailed, IsPromised, MemoryRanOut, RanWhole, WasCutOff, WasRead, WasRefused, WasShown, WriteFailed}
+use Rattle.ppd_top.specs.Top.{Answers, most_bytes, known_of, out_of, plan_of, summary_of_run, Writes, Finished}
 use Rattle.ppd_top.specs.Top.Answers.{refusal, run, tables}
 use Rattle.ppd_top.specs.Top.Writes.{for_source}
 use Rattle.ppd_top_words.specs.Reads.{texts_in}
@@ -75,10 +77,11 @@ end_not_5 n e (inr (inl h)) = omega arith
 end_not_5 n e (inr (inr h)) = omega arith
 
 -- a text that was not written whole
-pub write_failed : (words : List (Bor (List ℕ))) (held : Option (List ℕ → Option (List ℕ))) (schedule commands : List ℕ) (a b : Standing) (result status : ℕ) (text : List ℕ)
-    → AreCommands a.left b.left commands → Writes words held schedule commands (output status text) → (status ≡ 4 → ⊥) → Finished a.written b.written a.writes b.writes result status text → result ≡ 4 → WriteFailed words held schedule a b
-write_failed words held schedule commands a b result status text told w other (inl h) is = absurd (other (sym h.0 ∙ is))
-write_failed words held schedule commands a b result status text told w other (inr h) is = record { rose = h.1; commands = commands; told = told; out = output status text; writes = w; written = h.2 }
+pub write_failed : (c : Call) (commands : List ℕ) (status : ℕ) (text : List ℕ)
+    → AreCommands c.before.io.left c.after.io.left commands → Writes c commands (output status text) → (status ≡ 4 → ⊥)
+    → Finished c.before.io.written c.after.io.written c.before.io.writes c.after.io.writes c.status status text → c.status ≡ 4 → WriteFailed c
+write_failed c commands status text told w other (inl h) is = absurd (other (sym h.0 ∙ is))
+write_failed c commands status text told w other (inr h) is = record { rose = h.1; commands = commands; told = told; out = output status text; writes = w; written = h.2 }
 
 -- of a run no replay fails
 pub no_failure : (program : Program) (options : Options) (schedule line : List ℕ) → failure_of (known_of program options schedule) line ≡ None
@@ -105,51 +108,52 @@ refused_any error a b result (inr (real, inl h)) = inl h.0
 refused_any error a b result (inr (real, inr h)) = inr (inl h.0)
 
 -- a command on a loaded source
-module _ (words : List (Bor (List ℕ))) (held : Option (List ℕ → Option (List ℕ))) (name : List ℕ) (options : Options) (bytes : List ℕ) (loads : Loads held name most_bytes bytes) where
-  abbrev pub was_read : (command : Command) → Asks words command name options → (program : Program) → IsRead bytes program → WasRead words held command
+module _ (c : Call) (name : List ℕ) (options : Options) (bytes : List ℕ) (loads : Loads c.before.held name most_bytes bytes) where
+  abbrev pub was_read : (command : Command) → Asks c.words command name options → (program : Program) → IsRead bytes program → WasRead c command
   was_read command asks program accepted = record { name = name; options = options; bytes = bytes; program = program; asked = asks; loaded = loads; accepted = accepted }
 
   -- a source that is promised is accepted
-  accepted_as : (command : Command) (l m s t : List ℕ → ℕ) (a b : Standing) → Asks words command name options → (p : IsPromised words held l m s t a b) → IsRead bytes p.program
-  accepted_as command l m s t a b asked p =
-      let same = one_name words command p.command name p.name options p.options asked p.asked in
-      let P : List ℕ → Type 0 = λ n. Loads held n most_bytes bytes in
-      let is = loaded held p.at most_bytes p.name p.all bytes p.told p.there (subst P same loads) in
+  accepted_as : (command : Command) → Asks c.words command name options → (p : IsPromised c) → IsRead bytes p.program
+  accepted_as command asked p =
+      let same = one_name c.words command p.command name p.name options p.options asked p.asked in
+      let P : List ℕ → Type 0 = λ n. Loads c.before.held n most_bytes bytes in
+      let is = loaded c.before.held p.at most_bytes p.name p.all bytes p.told p.there (subst P same loads) in
       let Q : List ℕ → Type 0 = λ s. IsRead s p.program in
       subst Q (sym is) p.accepted
 
   -- ---- a refused source
 
-  module _ (command : Command) (error : SourceError) (asked : Asks words command name options) (cause : IsRefused bytes error) (schedule : List ℕ) (no_run : schedule ≡ []) (a b : Standing) (result : ℕ) where
-    pub refused_so : Refuses error a.written b.written a.writes b.writes result → result ≡ 1 → WasRefused words held a.written b.written
+  module _ (command : Command) (error : SourceError) (asked : Asks c.words command name options) (cause : IsRefused bytes error) (no_run : c.schedule ≡ []) where
+    pub refused_so : Refuses error c.before.io.written c.after.io.written c.before.io.writes c.after.io.writes c.status → c.status ≡ 1 → WasRefused c
     refused_so (inl h) is = absurd (omega (arith, h.0))
     refused_so (inr (real, inl h)) is = record { command = command; name = name; options = options; bytes = bytes; error = error; asked = asked; loaded = loads; fault = real; cause = cause; no_program = λ p r. absurd (real (read_or_refused bytes p error r cause)); written = h.1 }
     refused_so (inr (real, inr h)) is = absurd (omega (arith, h.0))
 
-    pub refused_unwritten : b.left ≡ a.left → Refuses error a.written b.written a.writes b.writes result → result ≡ 4 → WriteFailed words held schedule a b
+    pub refused_unwritten : LeftInput c → Refuses error c.before.io.written c.after.io.written c.before.io.writes c.after.io.writes c.status → c.status ≡ 4 → WriteFailed c
     refused_unwritten same (inl h) is = absurd (omega (arith, h.0))
     refused_unwritten same (inr (real, f)) is =
-        let c = same_input a.left b.left same in
-        let w : Writes words held [] c.0 (output 1 (refused error)) = for_source command name options bytes asked loads (output 1 (refused error)) (refusal command error real cause) in
-        write_failed words held schedule c.0 a b result 1 (refused error) c.1 (subst (λ h. Writes words held h c.0 (output 1 (refused error))) (sym no_run) w) (λ e. omega arith) f is
+        let t = same_input c.before.io.left c.after.io.left same in
+        let w : Answers bytes options t.0 command c.schedule (output 1 (refused error)) =
+        subst (λ h. Answers bytes options t.0 command h (output 1 (refused error))) (sym no_run) (refusal command error real cause) in
+        write_failed c t.0 1 (refused error) t.1 (for_source command name options bytes asked loads (output 1 (refused error)) w) (λ e. omega arith) f is
 
-    pub refused_out : (now : Option (List ℕ → Option (List ℕ))) → now ≡ held → Refuses error a.written b.written a.writes b.writes result → result ≡ 5 → MemoryRanOut held now schedule a.written b.written
-    refused_out now kept (inl h) is = record { kept = kept; no_run = no_run; written = h.1 }
-    refused_out now kept (inr (real, inl h)) is = absurd (omega (arith, h.0))
-    refused_out now kept (inr (real, inr h)) is = absurd (omega (arith, h.0))
+    pub refused_out : c.after.held ≡ c.before.held → Refuses error c.before.io.written c.after.io.written c.before.io.writes c.after.io.writes c.status → c.status ≡ 5 → MemoryRanOut c
+    refused_out kept (inl h) is = record { kept = kept; no_run = no_run; written = h.1 }
+    refused_out kept (inr (real, inl h)) is = absurd (omega (arith, h.0))
+    refused_out kept (inr (real, inr h)) is = absurd (omega (arith, h.0))
 
     -- a source that is promised is not refused
-    pub refused_complete : (l m s t : List ℕ → ℕ) → Refuses error a.written b.written a.writes b.writes result → IsPromised words held l m s t a b → (result ≡ 0) ⊎ (result ≡ 5)
-    refused_complete l m s t (inl h) p = inr h.0
-    refused_complete l m s t (inr (real, f)) p =
-        absurd (real (read_or_refused bytes p.program error (accepted_as command l m s t a b asked p) cause))
+    pub refused_complete : Refuses error c.before.io.written c.after.io.written c.before.io.writes c.after.io.writes c.status → IsPromised c → (c.status ≡ 0) ⊎ (c.status ≡ 5)
+    refused_complete (inl h) p = inr h.0
+    refused_complete (inr (real, f)) p =
+        absurd (real (read_or_refused bytes p.program error (accepted_as command asked p) cause))
 
   -- ---- `flow`
 
-  module _ (asked : Asks words Flow name options) (program : Program) (accepted : IsRead bytes program) (schedule : List ℕ) (a b : Standing) (result : ℕ) where
-    whole_as : WasTold program options schedule a b result → IsEnd result → RanWhole words held schedule a b result
+  module _ (asked : Asks c.words Flow name options) (program : Program) (accepted : IsRead bytes program) where
+    whole_as : WasTold program options c.schedule c.before.io c.after.io c.status → IsEnd c.status → RanWhole c
     whole_as t e =
-        let w = talks_whole (known_of program options schedule) (summary_of_run program options schedule) a b result t.talks (inl e) in
+        let w = talks_whole (known_of program options c.schedule) (summary_of_run program options c.schedule) c.before.io c.after.io c.status t.talks (inl e) in
         record {
           read = was_read Flow asked program accepted;
           commands = w.commands;
@@ -158,72 +162,73 @@ module _ (words : List (Bor (List ℕ))) (held : Option (List ℕ → Option (Li
           unread = w.unread;
           status_is = w.status_is;
           written = w.written;
-          agreeing = of_agreeing program options schedule w.commands;
+          agreeing = of_agreeing program options c.schedule w.commands;
         }
 
-    pub flow_whole : Flows program options schedule a b result → IsEnd result → RanWhole words held schedule a b result
-    flow_whole (inl h) is = absurd (end_not_5 result h.0 is)
+    pub flow_whole : Flows program options c.schedule c.before.io c.after.io c.status → IsEnd c.status → RanWhole c
+    flow_whole (inl h) is = absurd (end_not_5 c.status h.0 is)
     flow_whole (inr t) is = whole_as t is
 
-    pub flow_broken : Flows program options schedule a b result → result ≡ 3 → InputFailed words held schedule a b
+    pub flow_broken : Flows program options c.schedule c.before.io c.after.io c.status → c.status ≡ 3 → InputFailed c
     flow_broken (inl h) is = absurd (omega (arith, h.0))
-    flow_broken (inr t) is = record { read = was_read Flow asked program accepted; whole = t.whole; broken = talks_broken (known_of program options schedule) (summary_of_run program options schedule) a b result t.talks is }
+    flow_broken (inr t) is = record { read = was_read Flow asked program accepted; whole = t.whole; broken = talks_broken (known_of program options c.schedule) (summary_of_run program options c.schedule) c.before.io c.after.io c.status t.talks is }
 
-    pub flow_unwritten : Flows program options schedule a b result → result ≡ 4 → WriteFailed words held schedule a b
+    pub flow_unwritten : Flows program options c.schedule c.before.io c.after.io c.status → c.status ≡ 4 → WriteFailed c
     flow_unwritten (inl h) is = absurd (omega (arith, h.0))
     flow_unwritten (inr t) is =
-        let u = talks_unwritten (known_of program options schedule) (summary_of_run program options schedule) a b result t.talks is in
+        let u = talks_unwritten (known_of program options c.schedule) (summary_of_run program options c.schedule) c.before.io c.after.io c.status t.talks is in
         record {
           rose = u.rose;
           commands = u.commands;
           told = u.told;
-          out = out_of program options schedule u.commands;
-          writes = for_source Flow name options bytes asked loads (out_of program options schedule u.commands) (run program schedule accepted t.whole);
+          out = out_of program options c.schedule u.commands;
+          writes = for_source Flow name options bytes asked loads (out_of program options c.schedule u.commands) (run program c.schedule accepted t.whole);
           written = u.written;
         }
 
-    pub flow_out : (now : Option (List ℕ → Option (List ℕ))) → now ≡ held → Flows program options schedule a b result → result ≡ 5 → MemoryRanOut held now schedule a.written b.written ⊎ WasCutOff words held schedule a b
-    flow_out now kept (inl h) is = inl (record { kept = kept; no_run = h.1.no_run; written = h.1.written })
-    flow_out now kept (inr t) is =
-        let c = talks_cut_off (known_of program options schedule) (summary_of_run program options schedule) a b result t.talks is in
-        inr (record { read = was_read Flow asked program accepted; commands = c.commands; whole = t.whole; told = c.told; written = c.written })
+    pub flow_out : c.after.held ≡ c.before.held → Flows program options c.schedule c.before.io c.after.io c.status → c.status ≡ 5 → MemoryRanOut c ⊎ WasCutOff c
+    flow_out kept (inl h) is = inl (record { kept = kept; no_run = h.1.no_run; written = h.1.written })
+    flow_out kept (inr t) is =
+        let cut = talks_cut_off (known_of program options c.schedule) (summary_of_run program options c.schedule) c.before.io c.after.io c.status t.talks is in
+        inr (record { read = was_read Flow asked program accepted; commands = cut.commands; whole = t.whole; told = cut.told; written = cut.written })
 
-    pub flow_any : Flows program options schedule a b result → IsIn result (0 ∷ 7 ∷ 8 ∷ 3 ∷ 4 ∷ 5 ∷ [])
-    flow_any f = flows_in program options schedule a b result f
+    pub flow_any : Flows program options c.schedule c.before.io c.after.io c.status → IsIn c.status (0 ∷ 7 ∷ 8 ∷ 3 ∷ 4 ∷ 5 ∷ [])
+    flow_any f = flows_in program options c.schedule c.before.io c.after.io c.status f
 
-    pub flow_complete : (l m s t : List ℕ → ℕ) → Flows program options schedule a b result → IsPromised words held l m s t a b → (result ≡ 0) ⊎ (result ≡ 5)
-    flow_complete l m s t (inl h) p = inr h.0
-    flow_complete l m s t (inr u) p =
-        let f = p.fine (sym (one_command words Flow p.command name p.name options p.options asked p.asked)) in
-        talks_fine (known_of program options schedule) (no_failure program options schedule) (summary_of_run program options schedule) a b result f.commands f.rest u.talks f.told f.told_still f.fine f.no_read_fault p.no_write_fault
+    pub flow_complete : Flows program options c.schedule c.before.io c.after.io c.status → IsPromised c → (c.status ≡ 0) ⊎ (c.status ≡ 5)
+    flow_complete (inl h) p = inr h.0
+    flow_complete (inr u) p =
+        let f = p.fine (sym (one_command c.words Flow p.command name p.name options p.options asked p.asked)) in
+        talks_fine (known_of program options c.schedule) (no_failure program options c.schedule) (summary_of_run program options c.schedule) c.before.io c.after.io c.status f.commands f.rest u.talks f.told f.told_still f.fine f.no_read_fault p.no_write_fault
 
   -- ---- `show`
 
-  module _ (asked : Asks words Show name options) (program : Program) (accepted : IsRead bytes program) (schedule : List ℕ) (a b : Standing) (result : ℕ) where
-    pub show_done : Shows program options schedule a b result → result ≡ 0 → WasShown words held schedule a.written b.written
+  module _ (asked : Asks c.words Show name options) (program : Program) (accepted : IsRead bytes program) where
+    pub show_done : Shows program options c.schedule c.before.io c.after.io c.status → c.status ≡ 0 → WasShown c
     show_done (inl h) is = absurd (omega (arith, h.0))
     show_done (inr (none, inl h)) is = record { read = was_read Show asked program accepted; no_run = none; written = h.1 }
     show_done (inr (none, inr h)) is = absurd (omega (arith, h.0))
 
-    pub show_unwritten : b.left ≡ a.left → Shows program options schedule a b result → result ≡ 4 → WriteFailed words held schedule a b
+    pub show_unwritten : LeftInput c → Shows program options c.schedule c.before.io c.after.io c.status → c.status ≡ 4 → WriteFailed c
     show_unwritten same (inl h) is = absurd (omega (arith, h.0))
     show_unwritten same (inr (none, f)) is =
-        let c = same_input a.left b.left same in
+        let t = same_input c.before.io.left c.after.io.left same in
         let text = table_of program (plan_of program options) in
-        let w : Writes words held [] c.0 (output 0 text) = for_source Show name options bytes asked loads (output 0 text) (tables program accepted) in
-        write_failed words held schedule c.0 a b result 0 text c.1 (subst (λ h. Writes words held h c.0 (output 0 text)) (sym none) w) (λ e. omega arith) f is
+        let w : Answers bytes options t.0 Show c.schedule (output 0 text) =
+        subst (λ h. Answers bytes options t.0 Show h (output 0 text)) (sym none) (tables program accepted) in
+        write_failed c t.0 0 text t.1 (for_source Show name options bytes asked loads (output 0 text) w) (λ e. omega arith) f is
 
-    pub show_out : (now : Option (List ℕ → Option (List ℕ))) → now ≡ held → Shows program options schedule a b result → result ≡ 5 → MemoryRanOut held now schedule a.written b.written
-    show_out now kept (inl h) is = record { kept = kept; no_run = h.1.no_run; written = h.1.written }
-    show_out now kept (inr (none, inl h)) is = absurd (omega (arith, h.0))
-    show_out now kept (inr (none, inr h)) is = absurd (omega (arith, h.0))
+    pub show_out : c.after.held ≡ c.before.held → Shows program options c.schedule c.before.io c.after.io c.status → c.status ≡ 5 → MemoryRanOut c
+    show_out kept (inl h) is = record { kept = kept; no_run = h.1.no_run; written = h.1.written }
+    show_out kept (inr (none, inl h)) is = absurd (omega (arith, h.0))
+    show_out kept (inr (none, inr h)) is = absurd (omega (arith, h.0))
 
-    pub show_any : Shows program options schedule a b result → IsIn result (0 ∷ 4 ∷ 5 ∷ [])
+    pub show_any : Shows program options c.schedule c.before.io c.after.io c.status → IsIn c.status (0 ∷ 4 ∷ 5 ∷ [])
     show_any (inl h) = inr (inr (inl h.0))
     show_any (inr (none, inl h)) = inl h.0
     show_any (inr (none, inr h)) = inr (inl h.0)
 
-    pub show_complete : (l m s t : List ℕ → ℕ) → Shows program options schedule a b result → IsPromised words held l m s t a b → (result ≡ 0) ⊎ (result ≡ 5)
-    show_complete l m s t (inl h) p = inr h.0
-    show_complete l m s t (inr (none, inl h)) p = inl h.0
-    show_complete l m s t (inr (none, inr h)) p = absurd (p.no_write_fault h.1)
+    pub show_complete : Shows program options c.schedule c.before.io c.after.io c.status → IsPromised c → (c.status ≡ 0) ⊎ (c.status ≡ 5)
+    show_complete (inl h) p = inr h.0
+    show_complete (inr (none, inl h)) p = inl h.0
+    show_complete (inr (none, inr h)) p = absurd (p.no_write_fault h.1)

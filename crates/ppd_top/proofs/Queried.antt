@@ -1,29 +1,38 @@
 -- What a query comes to, by its status.
-use Rattle.std.specs.Prelude.{Option, ◌⊎◌}
+use Rattle.std.specs.Prelude.{Option, ◌⊎◌, ◌≤◌, nat_le}
 use Rattle.std.specs.Borrow.{Bor}
-use Rattle.std.proofs.Common.{◌≡◌, ℕ, List, [], ◌∷◌, arith, inl, inr, refl, subst, sym, ◌∙◌}
+use Rattle.std.proofs.Common.{◌≡◌, ℕ, List, [], ◌∷◌, arith, inl, inr, refl, subst, sym, ◌∙◌, leb-true}
 use Rattle.std.proofs.lemmas.Option.{none-some}
+use Rattle.ppd_ast.specs.declared.limits.TheConstants.{MOST_BUDGET}
 use Rattle.ppd_ast.specs.declared.program.Program.{Program}
 use Rattle.ppd_codec.specs.declared.recording.Header.{Header}
 use Rattle.ppd_codec.specs.declared.recording.Recording.{Recording}
-use Rattle.ppd_io.specs.Content.{Appends, Loads}
-use Rattle.ppd_top_query.specs.Queries.{Gives, IsWritten, Query}
-use Rattle.ppd_top_query.specs.Queries.Query.{Slice}
-use Rattle.ppd_top_query.specs.Replies.{IsFailed as IsQueryFailed}
+use Rattle.ppd_io.specs.Content.{Loads}
+use Rattle.ppd_rerun_model.specs.Verdicts.{IsVerdict}
+use Rattle.ppd_rerun_model.specs.declared.verdict.Verdict.TheVariants.{Yes, No}
+use Rattle.ppd_top_query.specs.Queries.{Gives, IsAnswer, Query}
+use Rattle.ppd_top_query.specs.Queries.IsWritten.{refuses, answers, fails}
+use Rattle.ppd_top_query.specs.Queries.Query.{Clean, Rerun, Slice, Whole}
+use Rattle.ppd_top_query.specs.OfRuns.{AnswersAreOfRuns}
+use Rattle.ppd_top_query.specs.Replies.{IsAskable, IsError}
 use Rattle.ppd_session.specs.declared.reply.SessionError.{SessionError}
 use Rattle.ppd_session.specs.declared.reply.SessionError.TheVariants.{Diverged, Sets, Memory}
 use Rattle.ppd_text_refusals.specs.Recordings.{refused_replay}
 use Rattle.ppd_top.specs.Asking.{IsFailed}
 use Rattle.ppd_top_query.proofs.Ends.{queries_end, runs_are_told}
-use Rattle.ppd_codec_runs.specs.Recordings.{IsAccepted, IsRunRecorded, known_of}
+use Rattle.ppd_codec_runs.specs.Recordings.{IsAccepted, IsRecalled, IsRunRecorded}
+use Rattle.ppd_codec_runs.specs.declared.recalling.Recalled.{Recalled}
 use Rattle.ppd_codec_runs.proofs.Runs.{no_run_is_refused, runs_are_recalled}
 use Rattle.ppd_codec_runs.proofs.Same.{refused_or_accepted}
 use Rattle.ppd_top_words.specs.Reads.{texts_in}
 use Rattle.ppd_top.specs.declared.options.Options.{Options}
-use Rattle.ppd_top.specs.Output.{Standing, output}
+use Rattle.ppd_top.specs.Output.{output}
 use Rattle.ppd_top.specs.Ran.{IsTold, Queries}
 use Rattle.ppd_top.specs.Ran.Queries.{no_query, query_refused, queried}
-use Rattle.ppd_top.specs.Top.{Finished, IsPromisedQuery, MemoryRanOut, QueryRefused, WasNotRecalled, WasQueried, WriteFailed, Writes, most_recording}
+use Rattle.ppd_top.specs.Call.{Call, LeftInput, Wrote}
+use Rattle.ppd_top.specs.Clauses.{IsPromisedQuery, IsTaken, MemoryRanOut, QueryRefused, WasNotRecalled, WasQueried, WriteFailed}
+use Rattle.ppd_top.specs.Clauses.IsTaken.{by_rerun}
+use Rattle.ppd_top.specs.Top.{Finished, Tells, most_recording}
 use Rattle.ppd_top.specs.Top.Tells.{given, not_recalled}
 use Rattle.ppd_top.specs.Top.Writes.{for_query}
 use Rattle.ppd_top.specs.Words.{Asks, AsksDebug, AsksDrill, AsksQuery, AsksRecording, Command, IsNotAsked, asked}
@@ -31,7 +40,7 @@ use Rattle.ppd_top.specs.Words.Request.{on_source, on_recording, on_number, on_q
 use Rattle.ppd_top.proofs.Conversing.{same_input}
 use Rattle.ppd_top.proofs.DrillEnds.{not_recording}
 use Rattle.ppd_top.proofs.Outcomes.{loaded, not_both, one_recording_name, one_request, write_failed}
-use Rattle.ppd_top.proofs.Statuses.{IsIn}
+use Rattle.ppd_top.proofs.Statuses.{IsIn, right_true}
 
 -- ---- what the words ask for
 
@@ -73,19 +82,19 @@ query_recording words name other query (inr a) b = one_query_name words name oth
 
 -- ---- by its status
 
-module _ (words : List (Bor (List ℕ))) (held : Option (List ℕ → Option (List ℕ))) (name : List ℕ) (query : Query) (bytes : List ℕ) (asks : AsksQuery words name query) (loads : Loads held name most_recording bytes) (schedule : List ℕ) (a b : Standing) (status : ℕ) where
-  given_not : (r : Recording) (n : ℕ) (text : List ℕ) → Gives r query schedule n text → (m : ℕ) → n ≡ m → (m ≡ 0 → ⊥) → (m ≡ 6 → ⊥) → ⊥
-  given_not r n text g m is other than = elim (queries_end r query schedule n text g) [ inl z ↦ other (sym is ∙ z) | inr s ↦ than (sym is ∙ s) ]
+module _ (c : Call) (name : List ℕ) (query : Query) (bytes : List ℕ) (asks : AsksQuery c.words name query) (loads : Loads c.before.held name most_recording bytes) where
+  given_not : (r : Recording) (n : ℕ) (text : List ℕ) → Gives r query c.schedule n text → (m : ℕ) → n ≡ m → (m ≡ 0 → ⊥) → (m ≡ 6 → ⊥) → ⊥
+  given_not r n text g m is other than = elim (queries_end r query c.schedule n text g) [ inl z ↦ other (sym is ∙ z) | inr s ↦ than (sym is ∙ s) ]
 
-  pub query_any : Queries bytes query schedule a.written b.written a.writes b.writes status → IsIn status (0 ∷ 4 ∷ 5 ∷ 6 ∷ [])
+  pub query_any : Queries bytes query c.schedule c.before.io.written c.after.io.written c.before.io.writes c.after.io.writes c.status → IsIn c.status (0 ∷ 4 ∷ 5 ∷ 6 ∷ [])
   query_any (no_query is empty same) = inr (inr (inl is))
   query_any (query_refused line why empty (inl h)) = inr (inr (inr (inl h.0)))
   query_any (query_refused line why empty (inr h)) = inr (inl h.0)
-  query_any (queried r accepted n text g (inl h)) = elim (queries_end r query schedule n text g) [ inl z ↦ inl (h.0 ∙ z) | inr s ↦ inr (inr (inr (inl (h.0 ∙ s)))) ]
+  query_any (queried r accepted n text g (inl h)) = elim (queries_end r query c.schedule n text g) [ inl z ↦ inl (h.0 ∙ z) | inr s ↦ inr (inr (inr (inl (h.0 ∙ s)))) ]
   query_any (queried r accepted n text g (inr h)) = inr (inl h.0)
 
-  was_queried : (r : Recording) → IsAccepted bytes r → (n : ℕ) (text : List ℕ) → Gives r query schedule n text → Appends a.written b.written text → WasQueried words held schedule a.written b.written n
-  was_queried r accepted n text g w = record {
+  was_queried : AnswersAreOfRuns → (r : Recording) → IsAccepted bytes r → (n : ℕ) (text : List ℕ) → Gives r query c.schedule n text → c.status ≡ n → Wrote c text → WasQueried c
+  was_queried of_runs r accepted n text g is w = record {
     name = name;
     query = query;
     bytes = bytes;
@@ -95,44 +104,45 @@ module _ (words : List (Bor (List ℕ))) (held : Option (List ℕ → Option (Li
     loaded = loads;
     accepted = accepted;
     of_runs = runs_are_recalled bytes r accepted;
-    gives = g;
+    gives = subst (λ k. Gives r query c.schedule k text) (sym is) g;
+    answers_runs = λ zero. of_runs bytes r query c.schedule text accepted (subst (λ k. Gives r query c.schedule k text) (sym is ∙ zero) g);
     written = w;
   }
 
-  pub query_whole : Queries bytes query schedule a.written b.written a.writes b.writes status → status ≡ 0 → WasQueried words held schedule a.written b.written 0
-  query_whole (no_query is empty same) e = absurd (omega arith)
-  query_whole (query_refused line why empty (inl h)) e = absurd (omega (arith, h.0))
-  query_whole (query_refused line why empty (inr h)) e = absurd (omega (arith, h.0))
-  query_whole (queried r accepted n text g (inl h)) e = subst (WasQueried words held schedule a.written b.written) (sym h.0 ∙ e) (was_queried r accepted n text g h.1)
-  query_whole (queried r accepted n text g (inr h)) e = absurd (omega (arith, h.0))
+  pub query_whole : AnswersAreOfRuns → Queries bytes query c.schedule c.before.io.written c.after.io.written c.before.io.writes c.after.io.writes c.status → c.status ≡ 0 → WasQueried c
+  query_whole of_runs (no_query is empty same) e = absurd (omega arith)
+  query_whole of_runs (query_refused line why empty (inl h)) e = absurd (omega (arith, h.0))
+  query_whole of_runs (query_refused line why empty (inr h)) e = absurd (omega (arith, h.0))
+  query_whole of_runs (queried r accepted n text g (inl h)) e = was_queried of_runs r accepted n text g h.0 h.1
+  query_whole of_runs (queried r accepted n text g (inr h)) e = absurd (omega (arith, h.0))
 
-  pub query_unwritten : b.left ≡ a.left → Queries bytes query schedule a.written b.written a.writes b.writes status → status ≡ 4 → WriteFailed words held schedule a b
+  pub query_unwritten : LeftInput c → Queries bytes query c.schedule c.before.io.written c.after.io.written c.before.io.writes c.after.io.writes c.status → c.status ≡ 4 → WriteFailed c
   query_unwritten same (no_query is empty none) e = absurd (omega arith)
   query_unwritten same (query_refused line why empty f) e =
-      let c = same_input a.left b.left same in
-      let w : Writes words held [] c.0 (output 6 line) = for_query name query bytes asks loads (output 6 line) (not_recalled line why) in
-      write_failed words held schedule c.0 a b status 6 line c.1 (subst (λ h. Writes words held h c.0 (output 6 line)) (sym empty) w) (λ k. omega arith) f e
+      let t = same_input c.before.io.left c.after.io.left same in
+      let w : Tells bytes query c.schedule (output 6 line) = subst (λ h. Tells bytes query h (output 6 line)) (sym empty) (not_recalled line why) in
+      write_failed c t.0 6 line t.1 (for_query name query bytes asks loads (output 6 line) w) (λ k. omega arith) f e
   query_unwritten same (queried r accepted n text g f) e =
-      let c = same_input a.left b.left same in
-      write_failed words held schedule c.0 a b status n text c.1 (for_query name query bytes asks loads (output n text) (given r schedule n text accepted g))
+      let t = same_input c.before.io.left c.after.io.left same in
+      write_failed c t.0 n text t.1 (for_query name query bytes asks loads (output n text) (given r c.schedule n text accepted g))
       (λ k. given_not r n text g 4 k (λ z. omega arith) (λ z. omega arith)) f e
 
-  pub query_out : (now : Option (List ℕ → Option (List ℕ))) → now ≡ held → Queries bytes query schedule a.written b.written a.writes b.writes status → status ≡ 5 → MemoryRanOut held now schedule a.written b.written
-  query_out now kept (no_query is empty same) e = record { kept = kept; no_run = empty; written = same }
-  query_out now kept (query_refused line why empty (inl h)) e = absurd (omega (arith, h.0))
-  query_out now kept (query_refused line why empty (inr h)) e = absurd (omega (arith, h.0))
-  query_out now kept (queried r accepted n text g (inl h)) e = absurd (given_not r n text g 5 (sym h.0 ∙ e) (λ z. omega arith) (λ z. omega arith))
-  query_out now kept (queried r accepted n text g (inr h)) e = absurd (omega (arith, h.0))
+  pub query_out : c.after.held ≡ c.before.held → Queries bytes query c.schedule c.before.io.written c.after.io.written c.before.io.writes c.after.io.writes c.status → c.status ≡ 5 → MemoryRanOut c
+  query_out kept (no_query is empty same) e = record { kept = kept; no_run = empty; written = same }
+  query_out kept (query_refused line why empty (inl h)) e = absurd (omega (arith, h.0))
+  query_out kept (query_refused line why empty (inr h)) e = absurd (omega (arith, h.0))
+  query_out kept (queried r accepted n text g (inl h)) e = absurd (given_not r n text g 5 (sym h.0 ∙ e) (λ z. omega arith) (λ z. omega arith))
+  query_out kept (queried r accepted n text g (inr h)) e = absurd (omega (arith, h.0))
 
   -- of the recording of a run no replay fails
-  of_no_run : (w : WasQueried words held schedule a.written b.written 6) (source : List ℕ) (header : Header) (program : Program) (h : List ℕ) → IsRunRecorded source header program h w.bytes → ⊥
-  of_no_run w source header program h run =
-      let zero : 6 ≡ 0 = runs_are_told w.bytes w.recording w.query schedule 6 w.text w.accepted source header program h run w.gives in
-      omega (arith, zero)
+  of_no_run : (w : WasQueried c) → c.status ≡ 6 → (source : List ℕ) (header : Header) (program : Program) (h : List ℕ) → IsRunRecorded source header program h w.bytes → ⊥
+  of_no_run w six source header program h run =
+      let zero : c.status ≡ 0 = runs_are_told w.bytes w.recording w.query c.schedule c.status w.text w.accepted source header program h run w.gives in
+      omega (arith, six, zero)
 
-  pub query_not_told : b.left ≡ a.left → Queries bytes query schedule a.written b.written a.writes b.writes status → status ≡ 6 → WasNotRecalled words held schedule a b ⊎ QueryRefused words held schedule a.written b.written
-  query_not_told same (no_query is empty none) e = absurd (omega arith)
-  query_not_told same (query_refused line why empty (inl h)) e = inl (record {
+  pub query_not_told : AnswersAreOfRuns → LeftInput c → Queries bytes query c.schedule c.before.io.written c.after.io.written c.before.io.writes c.after.io.writes c.status → c.status ≡ 6 → WasNotRecalled c ⊎ QueryRefused c
+  query_not_told of_runs same (no_query is empty none) e = absurd (omega arith)
+  query_not_told of_runs same (query_refused line why empty (inl h)) e = inl (record {
     name = name;
     bytes = bytes;
     line = line;
@@ -145,41 +155,74 @@ module _ (words : List (Bor (List ℕ))) (held : Option (List ℕ → Option (Li
     unread = same;
     written = h.1;
   })
-  query_not_told same (query_refused line why empty (inr h)) e = absurd (omega (arith, h.0))
-  query_not_told same (queried r accepted n text g (inl h)) e =
-      let w : WasQueried words held schedule a.written b.written 6 = subst (WasQueried words held schedule a.written b.written) (sym h.0 ∙ e) (was_queried r accepted n text g h.1) in
-      inr (record { queried = w; of_no_run = of_no_run w })
-  query_not_told same (queried r accepted n text g (inr h)) e = absurd (omega (arith, h.0))
+  query_not_told of_runs same (query_refused line why empty (inr h)) e = absurd (omega (arith, h.0))
+  query_not_told of_runs same (queried r accepted n text g (inl h)) e =
+      let w : WasQueried c = was_queried of_runs r accepted n text g h.0 h.1 in
+      inr (record { queried = w; of_no_run = of_no_run w e })
+  query_not_told of_runs same (queried r accepted n text g (inr h)) e = absurd (omega (arith, h.0))
 
   -- the bytes that are promised are those that were loaded
-  promised : (l m : List ℕ → ℕ) (p : IsPromisedQuery words held l m a.writes b.writes) → IsRunRecorded p.source p.header p.program p.schedule bytes
-  promised l m p =
-      let names = one_query_name words name p.name query p.query asks p.asked in
-      let P : List ℕ → Type 0 = λ n. Loads held n most_recording bytes in
-      let is = loaded held p.at most_recording p.name p.all bytes p.told p.there (subst P names loads) in
+  promised : (p : IsPromisedQuery c) → IsRunRecorded p.source p.header p.program p.schedule bytes
+  promised p =
+      let names = one_query_name c.words name p.name query p.query asks p.asked in
+      let P : List ℕ → Type 0 = λ n. Loads c.before.held n most_recording bytes in
+      let is = loaded c.before.held p.at most_recording p.name p.all bytes p.told p.there (subst P names loads) in
       let Q : List ℕ → Type 0 = λ s. IsRunRecorded p.source p.header p.program p.schedule s in
       subst Q (sym is) p.of_run
 
-  pub query_complete : (l m : List ℕ → ℕ) → Queries bytes query schedule a.written b.written a.writes b.writes status → IsPromisedQuery words held l m a.writes b.writes → (status ≡ 0) ⊎ (status ≡ 5)
-  query_complete l m (no_query is empty same) p = inr is
-  query_complete l m (query_refused line why empty f) p = absurd (no_run_is_refused p.source p.header p.program p.schedule bytes line (promised l m p) why)
-  query_complete l m (queried r accepted n text g (inl h)) p = inl (h.0 ∙ runs_are_told bytes r query schedule n text accepted p.source p.header p.program p.schedule (promised l m p) g)
-  query_complete l m (queried r accepted n text g (inr h)) p = absurd (p.no_write_fault h.1)
+  pub query_complete : Queries bytes query c.schedule c.before.io.written c.after.io.written c.before.io.writes c.after.io.writes c.status → IsPromisedQuery c → (c.status ≡ 0) ⊎ (c.status ≡ 5)
+  query_complete (no_query is empty same) p = inr is
+  query_complete (query_refused line why empty f) p = absurd (no_run_is_refused p.source p.header p.program p.schedule bytes line (promised p) why)
+  query_complete (queried r accepted n text g (inl h)) p = inl (h.0 ∙ runs_are_told bytes r query c.schedule n text accepted p.source p.header p.program p.schedule (promised p) g)
+  query_complete (queried r accepted n text g (inr h)) p = absurd (p.no_write_fault h.1)
+
+-- where a schedule was taken
+confirms : (r : Recording) (query : Query) (schedule : List ℕ) (status : ℕ) (text : List ℕ) → Gives r query schedule status text → (schedule ≡ []) ⊎ ((query ≡ Rerun) × IsVerdict r.program r.plan r.header.budget r.logs (Yes schedule))
+confirms r query schedule status text (refuses line why) = inl refl
+confirms r query schedule status text (fails error none why) = inl refl
+confirms r query schedule status text (answers h t none a) = by query a
+  where
+    by : (q : Query) → IsAnswer r q h t → (h ≡ []) ⊎ ((q ≡ Rerun) × IsVerdict r.program r.plan r.header.budget r.logs (Yes h))
+    by (Slice a) b = inl b.0
+    by (Whole workers) b = inl b.0
+    by (Clean a) b = inl b.0
+    by Rerun (Yes g, is, same, line) = inr (refl, subst (λ (k : List ℕ). IsVerdict r.program r.plan r.header.budget r.logs (Yes k)) (sym same) is)
+    by Rerun (No why, is, same, line) = inl same
+
+pub query_taken : (c : Call) (name : List ℕ) (query : Query) (bytes : List ℕ) → AsksQuery c.words name query → Loads c.before.held name most_recording bytes
+    → Queries bytes query c.schedule c.before.io.written c.after.io.written c.before.io.writes c.after.io.writes c.status → (c.schedule ≡ []) ⊎ IsTaken c
+query_taken c name query bytes asks loads (no_query is empty same) = inl empty
+query_taken c name query bytes asks loads (query_refused line why empty f) = inl empty
+query_taken c name query bytes asks loads (queried r accepted n text g f) = by (confirms r query c.schedule n text g)
+  where
+    by : (c.schedule ≡ []) ⊎ ((query ≡ Rerun) × IsVerdict r.program r.plan r.header.budget r.logs (Yes c.schedule)) → (c.schedule ≡ []) ⊎ IsTaken c
+    by (inl empty) = inl empty
+    by (inr (same, is)) = inr (by_rerun name bytes r (subst (AsksQuery c.words name) same asks) loads accepted is)
 
 -- of an accepted recording
-pub told_by : (bytes : List ℕ) (query : Query) (old new : Option (List ℕ)) (before now status : ℕ) (r : Recording) → IsAccepted bytes r → IsTold r query old new before now status → Queries bytes query [] old new before now status
-told_by bytes query old new before now status r accepted (inl h) = no_query h.0 refl h.1
-told_by bytes query old new before now status r accepted (inr h) = queried r accepted h.0 h.1 h.2 h.3
+pub told_by : (bytes : List ℕ) (query : Query) (schedule : List ℕ) (old new : Option (List ℕ)) (before now status : ℕ) (r : Recording) → IsAccepted bytes r → IsTold r query schedule old new before now status → Queries bytes query schedule old new before now status
+told_by bytes query schedule old new before now status r accepted (inl h) = no_query h.0 h.1 h.2
+told_by bytes query schedule old new before now status r accepted (inr h) = queried r accepted h.0 h.1 h.2 h.3
 
-module _ (r : Recording) (query : Query) (old new : Option (List ℕ)) (before now status : ℕ) where
-  gives : (q : Query) (n : ℕ) (text : List ℕ) → IsWritten (known_of r) q n text → Gives r q [] n text
-  gives (Slice a) n text w = (refl, w)
+-- its budget is within the limit
+budget_in_range : (bytes : List ℕ) (r : Recording) → IsAccepted bytes r → r.header.budget ≤ MOST_BUDGET
+budget_in_range bytes r accepted =
+    let within = accepted.decoded.lawful.fields.0.1.1.0.1 in
+    leb-true r.header.budget MOST_BUDGET (right_true (nat_le 1 r.header.budget) (nat_le r.header.budget MOST_BUDGET) within)
 
-  pub tells_text : (text shown : List ℕ) → IsWritten (known_of r) query 0 text → shown ≡ text → Finished old new before now status 0 shown → IsTold r query old new before now status
-  tells_text text shown w e f = inr (0, text, gives query 0 text w, subst (Finished old new before now status 0) e f)
+pub askable : (bytes : List ℕ) (r : Recalled) → IsAccepted bytes r.recording → IsRecalled r → IsAskable r
+askable bytes r accepted together = record { recalled = together; budget = budget_in_range bytes r.recording accepted; ordered = accepted.ordered }
 
-  pub tells_failure : (error : SessionError) → IsQueryFailed (known_of r) query error → IsFailed r.program error old new before now status → IsTold r query old new before now status
-  tells_failure error w (inl h) = inl h
-  tells_failure (Diverged failure) w (inr h) = inr (6, refused_replay r.program (Diverged failure), gives query 6 (refused_replay r.program (Diverged failure)) w, h.1)
-  tells_failure (Sets failure) w (inr h) = inr (6, refused_replay r.program (Sets failure), gives query 6 (refused_replay r.program (Sets failure)) w, h.1)
-  tells_failure Memory w (inr h) = absurd (h.0 refl)
+module _ (r : Recording) (query : Query) (schedule : List ℕ) (old new : Option (List ℕ)) (before now status : ℕ) where
+  pub tells_text : (text shown : List ℕ) → Gives r query schedule 0 text → shown ≡ text → Finished old new before now status 0 shown → IsTold r query schedule old new before now status
+  tells_text text shown g e f = inr (0, text, g, subst (Finished old new before now status 0) e f)
+
+  -- a replay that fails takes no schedule
+  fails_so : (error : SessionError) → schedule ≡ [] → Gives r query [] 6 (refused_replay r.program error) → Finished old new before now status 6 (refused_replay r.program error) → IsTold r query schedule old new before now status
+  fails_so error empty g f = inr (6, refused_replay r.program error, subst (λ h. Gives r query h 6 (refused_replay r.program error)) (sym empty) g, f)
+
+  pub tells_failure : schedule ≡ [] → (error : SessionError) → IsError (Gives r query) r.program error → IsFailed r.program error old new before now status → IsTold r query schedule old new before now status
+  tells_failure empty error g (inl h) = inl (h.0, empty, h.1)
+  tells_failure empty (Diverged failure) g (inr h) = fails_so (Diverged failure) empty g h.1
+  tells_failure empty (Sets failure) g (inr h) = fails_so (Sets failure) empty g h.1
+  tells_failure empty Memory g (inr h) = absurd (h.0 refl)

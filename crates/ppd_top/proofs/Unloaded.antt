@@ -1,21 +1,20 @@
 -- What a call comes to where a load was not done.
 use Rattle.std.specs.Prelude.{◌⊎◌}
-use Rattle.std.specs.Borrow.{Bor}
 use Rattle.std.proofs.Common.{◌≡◌, ℕ, List, arith, inl, inr, refl}
-use Rattle.ppd_io.specs.Causes.{Rose}
 use Rattle.ppd_io.specs.declared.shelf.ShelfError.{ShelfError}
 use Rattle.ppd_io.specs.declared.shelf.ShelfError.TheVariants as shelf
 use Rattle.ppd_top.specs.declared.options.Options.{Options}
-use Rattle.ppd_top.specs.Ran.{Around, Comes, DidNothing, IsUnloaded, LeftShelf}
+use Rattle.ppd_top.specs.Call.{Call, HasFailedLoad, LeftShelf}
+use Rattle.ppd_top.specs.Ran.{Comes, DidNothing, IsUnloaded}
 use Rattle.ppd_top.specs.Ran.Comes.{no_memory, not_loaded, recording_not_loaded}
 use Rattle.ppd_top.specs.Words.{Asks, AsksRecording, Command}
 
-module _ (words : List (Bor (List ℕ))) (x y : Around) (schedule : List ℕ) (status : ℕ) (name : List ℕ) (left : LeftShelf x y) (none : DidNothing schedule x.io y.io) where
-  pub source_unloaded : (command : Command) (options : Options) (error : ShelfError) → Asks words command name options → (error ≡ shelf.Failed → Rose (x.loads name) (y.loads name)) → IsUnloaded error status → Comes words x y schedule status
+module _ (c : Call) (name : List ℕ) (left : LeftShelf c) (none : DidNothing c.schedule c.before.io c.after.io) where
+  pub source_unloaded : (command : Command) (options : Options) (error : ShelfError) → Asks c.words command name options → (error ≡ shelf.Failed → HasFailedLoad c name) → IsUnloaded error c.status → Comes c
   source_unloaded command options shelf.Failed asks rose is = not_loaded command name options asks left is (rose refl) none
   source_unloaded command options shelf.Memory asks rose is = no_memory is left none
 
-  pub recording_unloaded : (error : ShelfError) → AsksRecording words name → (error ≡ shelf.Failed → Rose (x.loads name) (y.loads name)) → IsUnloaded error status → Comes words x y schedule status
+  pub recording_unloaded : (error : ShelfError) → AsksRecording c.words name → (error ≡ shelf.Failed → HasFailedLoad c name) → IsUnloaded error c.status → Comes c
   recording_unloaded shelf.Failed asks rose is = recording_not_loaded name asks left is (rose refl) none
   recording_unloaded shelf.Memory asks rose is = no_memory is left none
 

@@ -1,6 +1,5 @@
 -- What a program's run comes to, by the schedule that was taken or by one that is handed in.
 use Rattle.std.specs.Prelude.{◌≡◌, ◌≢◌, ◌⊎◌, ℕ, List, [], Option}
-use Rattle.std.specs.Borrow.{Bor}
 use Rattle.ppd_ast.specs.declared.program.Program.{Program}
 use Rattle.ppd_check.specs.Read.{IsRead, IsRefused}
 use Rattle.ppd_top_drill.specs.Drills.{generated}
@@ -18,6 +17,7 @@ use Rattle.ppd_text_tables.specs.Table.{table_of}
 use Rattle.ppd_top.specs.declared.options.Options.{Options}
 use Rattle.ppd_top.specs.declared.following.FollowError.{FollowError}
 use Rattle.ppd_top.specs.declared.following.FollowError.TheVariants.{Refused, NotEnabled, NotWhole, LongLine, ManyLines, Memory}
+use Rattle.ppd_top.specs.Call.{Call, Devices, HasFailedLoad, LeftInput, LeftShelf}
 use Rattle.ppd_top.specs.Output.{AppendsFront, Standing, Talks, output}
 use Rattle.ppd_text_refusals.specs.Sources.{refused}
 use Rattle.ppd_top.specs.Top.{EndsWith, Finished, IsStuckAt, IsUnfinished, IsWholeRun, drill_options, drill_out, known_of, most_bytes, out_of, plan_of, summary_of_run, usage, most_recording, IsRecordingOfRun}
@@ -100,10 +100,11 @@ pub data Debugs (bytes : List ℕ) (a b : Standing) (status : ℕ) : Type 0 wher
   recalled : (r : Recording) → IsAccepted bytes r → Talks (known_of_recording r) [] a b status → Debugs bytes a b status
 
 -- what a query comes to for an accepted recording: want of memory, or what belongs to it
-abbrev pub IsTold : Recording → Query → Option (List ℕ) → Option (List ℕ) → ℕ → ℕ → ℕ → Type 0
-IsTold r query old new before now status =
-    ((status ≡ 5) × (new ≡ old))
-    ⊎ ((given : ℕ) × (text : List ℕ) × Gives r query [] given text × Finished old new before now status given text)
+abbrev pub IsTold : Recording → Query → (schedule : List ℕ) → Option (List ℕ) → Option (List ℕ) → ℕ → ℕ → ℕ → Type 0
+IsTold r query schedule old new before now status =
+    ((status ≡ 5) × (schedule ≡ []) × (new ≡ old))
+    ⊎ ((given : ℕ) × (text : List ℕ) × Gives r query schedule given text
+    × Finished old new before now status given text)
 
 -- what a query comes to for the bytes of a recording: want of memory, a refusal, or what belongs to it
 pub data Queries (bytes : List ℕ) (query : Query) (schedule : List ℕ) (old new : Option (List ℕ)) (before now : ℕ)
@@ -148,60 +149,43 @@ pub data Drilled (number : ℕ) (schedule : List ℕ) (old new : Option (List �
 
 -- ---- the top call
 
--- how the devices stand: what the shelf is told to hold, its counts of loads and of stores that failed, and input and
--- output
-pub record Around : Type 0 where
-  pub held : Option (List ℕ → Option (List ℕ))
-  pub loads : List ℕ → ℕ
-  pub stores : List ℕ → ℕ
-  pub io : Standing
-
-abbrev pub around : Option (List ℕ → Option (List ℕ)) → (loads stores : List ℕ → ℕ) → Standing → Around
-around held loads stores io = record { held = held; loads = loads; stores = stores; io = io }
-
 -- shelf and output of them
-abbrev pub kept_in : Around → Keeping
+abbrev pub kept_in : Devices → Keeping
 kept_in x = keeping x.held x.stores x.io.written x.io.writes
-
--- nothing was stored
-pub record LeftShelf (x y : Around) : Type 0 where
-  pub held : y.held ≡ x.held
-  pub stores : (n : List ℕ) → y.stores n ≡ x.stores n
 
 -- what a call comes to, by how far it came: to words that ask for nothing, to want of memory, to a load that failed, to
 -- a refused source, to a program, to a recording, to a drill, or to a query
-pub data Comes (words : List (Bor (List ℕ))) (x y : Around) (schedule : List ℕ) (status : ℕ) : Type 0 where
-  not_asked : IsNotAsked words → LeftShelf x y → schedule ≡ [] → y.io.left ≡ x.io.left
-      → Finished x.io.written y.io.written x.io.writes y.io.writes status 2 usage → Comes words x y schedule status
-  no_memory : status ≡ 5 → LeftShelf x y → DidNothing schedule x.io y.io → Comes words x y schedule status
-  not_loaded : (command : Command) (name : List ℕ) (options : Options) → Asks words command name options → LeftShelf x y
-      → status ≡ 3 → Rose (x.loads name) (y.loads name) → DidNothing schedule x.io y.io
-      → Comes words x y schedule status
+pub data Comes (c : Call) : Type 0 where
+  not_asked : IsNotAsked c.words → LeftShelf c → c.schedule ≡ [] → LeftInput c
+      → Finished c.before.io.written c.after.io.written c.before.io.writes c.after.io.writes c.status 2 usage → Comes c
+  no_memory : c.status ≡ 5 → LeftShelf c → DidNothing c.schedule c.before.io c.after.io → Comes c
+  not_loaded : (command : Command) (name : List ℕ) (options : Options) → Asks c.words command name options → LeftShelf c
+      → c.status ≡ 3 → HasFailedLoad c name → DidNothing c.schedule c.before.io c.after.io → Comes c
   refusal : (command : Command) (name : List ℕ) (options : Options) (bytes : List ℕ) (error : SourceError)
-      → Asks words command name options → Loads x.held name most_bytes bytes → IsRefused bytes error → LeftShelf x y
-      → schedule ≡ [] → y.io.left ≡ x.io.left → Refuses error x.io.written y.io.written x.io.writes y.io.writes status
-      → Comes words x y schedule status
+      → Asks c.words command name options → Loads c.before.held name most_bytes bytes → IsRefused bytes error
+      → LeftShelf c → c.schedule ≡ [] → LeftInput c
+      → Refuses error c.before.io.written c.after.io.written c.before.io.writes c.after.io.writes c.status → Comes c
   flow_done : (name : List ℕ) (options : Options) (bytes : List ℕ) (program : Program)
-      → Asks words Flow name options → Loads x.held name most_bytes bytes → IsRead bytes program → LeftShelf x y
-      → Flows program options schedule x.io y.io status → Comes words x y schedule status
+      → Asks c.words Flow name options → Loads c.before.held name most_bytes bytes → IsRead bytes program
+      → LeftShelf c → Flows program options c.schedule c.before.io c.after.io c.status → Comes c
   show_done : (name : List ℕ) (options : Options) (bytes : List ℕ) (program : Program)
-      → Asks words Show name options → Loads x.held name most_bytes bytes → IsRead bytes program → LeftShelf x y
-      → y.io.left ≡ x.io.left → Shows program options schedule x.io y.io status → Comes words x y schedule status
+      → Asks c.words Show name options → Loads c.before.held name most_bytes bytes → IsRead bytes program
+      → LeftShelf c → LeftInput c → Shows program options c.schedule c.before.io c.after.io c.status → Comes c
   run_done : (name recording : List ℕ) (options : Options) (bytes : List ℕ) (program : Program)
-      → Asks words (Run recording) name options → Loads x.held name most_bytes bytes → IsRead bytes program
-      → y.io.left ≡ x.io.left → Records bytes program options recording schedule (kept_in x) (kept_in y) status
-      → Comes words x y schedule status
-  recording_not_loaded : (name : List ℕ) → AsksRecording words name → LeftShelf x y → status ≡ 3
-      → Rose (x.loads name) (y.loads name) → DidNothing schedule x.io y.io → Comes words x y schedule status
-  debug_done : (name bytes : List ℕ) → AsksDebug words name → Loads x.held name most_recording bytes → LeftShelf x y
-      → schedule ≡ [] → Debugs bytes x.io y.io status → Comes words x y schedule status
-  drill_done : (number : ℕ) → AsksDrill words number → LeftShelf x y → y.io.left ≡ x.io.left
-      → Drilled number schedule x.io.written y.io.written x.io.writes y.io.writes status
-      → Comes words x y schedule status
-  query_done : (name : List ℕ) (query : Query) (bytes : List ℕ) → AsksQuery words name query
-      → Loads x.held name most_recording bytes → LeftShelf x y → y.io.left ≡ x.io.left
-      → Queries bytes query schedule x.io.written y.io.written x.io.writes y.io.writes status
-      → Comes words x y schedule status
+      → Asks c.words (Run recording) name options → Loads c.before.held name most_bytes bytes → IsRead bytes program
+      → LeftInput c
+      → Records bytes program options recording c.schedule (kept_in c.before) (kept_in c.after) c.status → Comes c
+  recording_not_loaded : (name : List ℕ) → AsksRecording c.words name → LeftShelf c
+      → c.status ≡ 3 → HasFailedLoad c name → DidNothing c.schedule c.before.io c.after.io → Comes c
+  debug_done : (name bytes : List ℕ) → AsksDebug c.words name → Loads c.before.held name most_recording bytes
+      → LeftShelf c → c.schedule ≡ [] → Debugs bytes c.before.io c.after.io c.status → Comes c
+  drill_done : (number : ℕ) → AsksDrill c.words number → LeftShelf c → LeftInput c
+      → Drilled number c.schedule c.before.io.written c.after.io.written c.before.io.writes c.after.io.writes c.status
+      → Comes c
+  query_done : (name : List ℕ) (query : Query) (bytes : List ℕ) → AsksQuery c.words name query
+      → Loads c.before.held name most_recording bytes → LeftShelf c → LeftInput c
+      → Queries bytes query c.schedule c.before.io.written c.after.io.written c.before.io.writes c.after.io.writes
+      c.status → Comes c
 
 -- ---- a schedule that is handed in
 

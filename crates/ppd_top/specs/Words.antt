@@ -17,7 +17,7 @@ use Rattle.ppd_top.specs.declared.words.Request.{Request as GivenRequest}
 use Rattle.ppd_top.specs.declared.words.Request.TheVariants.{Source, Recording, Drill}
 use Rattle.ppd_top.specs.declared.words.Request.TheVariants as request
 use Rattle.ppd_top_query.specs.Queries.{ItemAsked, Query, query_of}
-use Rattle.ppd_top_query.specs.Queries.Query.{Slice}
+use Rattle.ppd_top_query.specs.Queries.Query.{Clean, Rerun, Slice, Whole}
 
 -- ---- the words of options and names
 
@@ -113,6 +113,13 @@ item_in v =
 abbrev pub slice_in : Values → Option Query
 slice_in v = option_map Slice (item_in v)
 
+abbrev pub clean_in : Values → Option Query
+clean_in v = option_map Clean (item_in v)
+
+-- by 1 to 64 workers, and by 8 where the option was not given
+abbrev pub whole_in : Values → Option Query
+whole_in v = option_map Whole (number_in 8 1 64 (v (codes "workers")))
+
 -- a query of a recording, where it and the name are there
 abbrev pub with_query : Option Query → Option Text → Option Request
 with_query (Some query) (Some name) = Some (on_query name query)
@@ -121,7 +128,7 @@ with_query _ _ = None
 abbrev pub query_by : Values → Option Query → Option Request
 query_by v query = with_query query (name_in (v (codes "recording")))
 
--- what each command asks for; those that are not built yet ask for nothing
+-- what each command asks for
 abbrev pub asked_of : Word → Values → Option Request
 asked_of word.Flow v = asked_by (Some Flow) v
 asked_of word.Run v = asked_by (run_in v) v
@@ -129,9 +136,9 @@ asked_of word.Debug v = option_map on_recording (name_in (v (codes "recording"))
 asked_of word.Show v = asked_by (Some Show) v
 asked_of word.Drill v = option_map on_number (drill_in (v (codes "number")))
 asked_of word.Slice v = query_by v (slice_in v)
-asked_of word.Rerun v = None
-asked_of word.Clean v = None
-asked_of word.Whole v = None
+asked_of word.Rerun v = query_by v (Some Rerun)
+asked_of word.Clean v = query_by v (clean_in v)
+asked_of word.Whole v = query_by v (whole_in v)
 
 abbrev pub with_given : Option (Word × Uses) → Option Request
 with_given None = None

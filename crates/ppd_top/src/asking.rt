@@ -75,10 +75,10 @@ fn answer_line<O: Sink>(
     line: &[u8],
     output: &mut O,
 ) -> Option<u8>
-    requires { session.old.program ≡ program.now }
-    ensures becomes { Becomes session.old line.now (O.written output.old) (O.written output.new) (O.faults output.old)
-        (O.faults output.new) result }
-    ensures same { session.new ≡ session.old }
+    requires { session.old.known.program ≡ program.now }
+    ensures becomes { Becomes session.old.known line.now (O.written output.old) (O.written output.new)
+        (O.faults output.old) (O.faults output.new) result }
+    ensures same { session.new.known ≡ session.old.known }
     ensures later { O.faults output.old ≤ O.faults output.new }
 {
     match session.answer(line) {
@@ -96,14 +96,14 @@ fn answer_next<I: Source, O: Sink>(
     input: &mut I,
     output: &mut O,
 ) -> Option<u8>
-    requires { session.old.program ≡ program.now }
+    requires { session.old.known.program ≡ program.now }
     ensures goes { (a : Standing) (n : ℕ) → n < MOST_INPUT_LINES
-        → IsAsked session.old n reader.old a (standing (I.left input.old) (I.before_last input.old)
+        → IsAsked session.old.known n reader.old a (standing (I.left input.old) (I.before_last input.old)
         (I.faults input.old) (O.written output.old)
-        (O.faults output.old)) → Goes session.old n reader.new a
+        (O.faults output.old)) → Goes session.old.known n reader.new a
         (standing (I.left input.new) (I.before_last input.new)
         (I.faults input.new) (O.written output.new) (O.faults output.new)) result }
-    ensures same { session.new ≡ session.old }
+    ensures same { session.new.known ≡ session.old.known }
 {
     match reader.next(input) {
         Err(LineError::Failed) => Some(3),
@@ -140,9 +140,9 @@ pub(crate) fn talk<I: Source, O: Sink>(
     input: &mut I,
     output: &mut O,
 ) -> u8
-    requires program { session.old.program ≡ program.now }
+    requires program { session.old.known.program ≡ program.now }
     requires reader { reader.old ≡ record { line = []; held = []; ended = false } }
-    ensures { Talks session.old []
+    ensures { Talks session.old.known []
         (standing (I.left input.old) (I.before_last input.old)
         (I.faults input.old) (O.written output.old) (O.faults output.old))
         (standing (I.left input.new) (I.before_last input.new)

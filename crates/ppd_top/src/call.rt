@@ -1,14 +1,13 @@
 // The top call.
-ghost use Rattle.std.specs.Prelude.{◌≡◌, ◌<◌, ◌⊎◌, ℕ, List, [], Option};
+ghost use Rattle.std.specs.Prelude.{◌≡◌, ◌⊎◌, ℕ, List, [], Option};
 ghost use Rattle.std.specs.Borrow.{Bor};
-ghost use Rattle.ppd_io.specs.Content.{StoreFails};
-ghost use Rattle.ppd_top.specs.declared.options.Options.{Options as OptionsOf};
+ghost use Rattle.ppd_top.specs.Call.{call_of, devices};
+ghost use Rattle.ppd_top.specs.Clauses.{IsOutcome, ReadsNothing};
 ghost use Rattle.ppd_top.specs.Output.{standing};
-ghost use Rattle.ppd_top.specs.Ran.{Comes, IsUnloaded, Refuses, around};
-ghost use Rattle.ppd_top.specs.Top.{AnswersCutOff, DrillCutOff, InputFailed, IsPromised, IsPromisedAnswers, IsPromisedDrill, IsPromisedQuery, LinesFailed, LoadFailed, MemoryRanOut, QueryRefused, RanWhole, RecordingUnread, ReplayRefused, StoreFailed, WasAnswered, WasCutOff, WasDrilled, WasNotAsked, WasNotDrilled, WasNotRecalled, WasNotStored, WasQueried, WasRefused, WasShown, WasStored, WriteFailed};
+ghost use Rattle.ppd_top.specs.Ran.{Comes, IsUnloaded, Refuses};
 ghost use Rattle.ppd_top_query.specs.Queries.{query_of};
 ghost use Rattle.ppd_top.specs.Words.{AreInRange, Asks, AsksDebug, AsksQuery, command_of};
-ghost use Rattle.ppd_top.specs.Words.Command.{Flow, Run};
+ghost use Rattle.ppd_top.specs.Words.Command.{Flow};
 
 use crate::asking::finish;
 use crate::debugging::debug;
@@ -23,20 +22,21 @@ use ppd_ast::{Bytes, Memory, Seq};
 use ppd_check::{SourceError, read_source};
 use ppd_io::{Gate, Shelf, ShelfError, Sink, Source};
 use ppd_text_refusals::refusal_line;
-use ppd_top_query::Query;
+use ppd_top_query::{Query, answers_are_of_runs};
 use std::alloc::Global;
 use std::sync::Wait;
 use std::thread::Threads;
 
-/// How the program ended: its status, and the numbers of the processes that were stepped, empty
-/// where no run came to its end.
+/// How the program ended: its status, and the numbers of the processes that were stepped, in the run of a source or in
+/// the run again of a `rerun` that answered yes. They are empty where no run came to its end and `rerun` did not answer
+/// yes.
 #[derive(Drop)]
 pub struct Outcome {
     pub status: u8,
     pub schedule: Bytes,
 }
 
-const USAGE: &[u8] = b"usage: ppd flow|run|debug|show|drill|slice\n";
+const USAGE: &[u8] = b"usage: ppd flow|run|debug|show|drill|slice|rerun|clean|whole\n";
 
 /// One byte more than the longest source, so that a longer one is seen.
 const MOST_BYTES: usize = MOST_SOURCE_BYTES + 1;
@@ -46,9 +46,9 @@ const MOST_RECORDING: usize = MOST_RECORDING_BYTES + 1;
 
 /// Does all that the program does. The words are those after the program's name: a command, its options in any order,
 /// each at most once, and its names. The options of `flow` and `run` are `--budget N`, `--leaf N` and `--loops N`, each
-/// also as `--budget=N`; `show` has the last two, and the others none. The name of `drill` is a number of
-/// at most 999,999; after the name of its recording `slice` has that of a process, and the numbers of an interval and of
-/// an item, each in 1 to 9 digits.
+/// also as `--budget=N`; `show` has the last two, `whole` has `--workers N` with 1 to 64, and the others none. The name
+/// of `drill` is a number of at most 999,999; after the name of their recording `slice` and `clean` have that of a
+/// process, and the numbers of an interval and of an item, each in 1 to 9 digits.
 ///
 /// In `flow`, `run` and `drill` each process has a thread, which passes the gate before it copies its process, before
 /// it commits the steps that it took on the copy, and before the turn that follows a commit in vain. The schedule is
@@ -56,12 +56,16 @@ const MOST_RECORDING: usize = MOST_RECORDING_BYTES + 1;
 /// summary, and then answers the lines of the input, each before the next is read, through the first `quit` or else to
 /// the end. `debug` tests the bytes of a recording, then its logs, then their synchronization, and answers the lines.
 /// `drill` does what `flow` does, on the source that its number makes, with a budget of 500,000 and the one line
-/// `final` in place of the input. `slice` tests the bytes of a recording as `debug` does, and then writes what the item
-/// came from, or why it does not.
+/// `final` in place of the input.
+///
+/// `slice`, `rerun`, `clean` and `whole` test the bytes of a recording as `debug` does. Then `slice` writes what the
+/// item came from; `rerun` whether a run under the recorded synchronization is the recorded one; `clean` the item and
+/// what it came from directly, where no race touches its past; and `whole` each event of the run; or they write why not.
 ///
 /// - 0: in `flow` the source's program ran to its end, and its summary and all answers were written; in `run` its
 ///   recording was stored and its summary written; in `show` the tables of the source's program were written; in
-///   `debug` all answers; in `drill` the summary and the last values; in `slice` the answer, or one line that refuses it.
+///   `debug` all answers; in `drill` the summary and the last values; in `slice`, `rerun`, `clean` and `whole` the
+///   answer, or one line that refuses it.
 /// - 1: the source, in `drill` that of the number, has no program, and the line that says why was written.
 /// - 2: the words are others, and the usage line was written.
 /// - 3: the shelf failed to load the source or the recording, and nothing was written; or in `flow` and `debug` a read
@@ -69,13 +73,14 @@ const MOST_RECORDING: usize = MOST_RECORDING_BYTES + 1;
 /// - 4: the output failed, and a proper prefix of what belongs there was written; or in `run` the store failed.
 /// - 5: want of memory, and a prefix of what belongs there was written; nothing where no run came to its end. The shelf
 ///   holds what it held. It may come whatever the words are.
-/// - 6: in `debug` and `slice` the recording is refused, and the line that says why was written; or a replay failed that
-///   the answer needs, to a line in `debug`, and the answers before it and the line that says so were written.
+/// - 6: in `debug`, `slice`, `rerun`, `clean` and `whole` the recording is refused, and the line that says why was
+///   written; or, but for `rerun`, a replay failed that the answer needs, to a line in `debug`, and the answers before
+///   it and the line that says so were written.
 /// - 7: in `flow` or `debug` a line has more than 4,096 bytes, and `long line` was written in place of its answer.
 /// - 8: in `flow` or `debug` there is a line number 65,537 and no `quit` before it, and `many lines` was written.
 ///
-/// No read follows the `quit` line. In `run`, `show`, `drill` and `slice` the input is not read; in `show`, `debug` and
-/// `slice` the gate is not called. But for a store of `run` the shelf holds what it held.
+/// No read follows the `quit` line with its newline. Only `flow` and `debug` read the input; only `flow`, `run` and
+/// `drill` call the gate. But for a store of `run` the shelf holds what it held.
 pub fn ppd<F: Shelf, I: Source, O: Sink, G: Gate, R: Threads + Wait + Sync>(
     rt: &R,
     alloc: Global,
@@ -85,117 +90,17 @@ pub fn ppd<F: Shelf, I: Source, O: Sink, G: Gate, R: Threads + Wait + Sync>(
     output: &mut O,
     gate: &G,
 ) -> Outcome
-    ensures range { result.status < 9 }
-    ensures run { result.status ≡ 0 → RanWhole words.now (F.held shelf.old) result.schedule
-        (standing (I.left input.old) (I.before_last input.old)
-        (I.faults input.old) (O.written output.old) (O.faults output.old))
-        (standing (I.left input.new) (I.before_last input.new)
-        (I.faults input.new) (O.written output.new) (O.faults output.new)) 0
-        ⊎ (WasShown words.now (F.held shelf.old) result.schedule (O.written output.old) (O.written output.new)
-        ⊎ (WasStored words.now (F.held shelf.old) (F.held shelf.new) result.schedule (O.written output.old)
-        (O.written output.new)
-        ⊎ (WasAnswered words.now (F.held shelf.old) result.schedule
-        (standing (I.left input.old) (I.before_last input.old)
-        (I.faults input.old) (O.written output.old) (O.faults output.old))
-        (standing (I.left input.new) (I.before_last input.new)
-        (I.faults input.new) (O.written output.new) (O.faults output.new)) 0
-        ⊎ (WasDrilled words.now result.schedule (O.written output.old) (O.written output.new)
-        ⊎ WasQueried words.now (F.held shelf.old) result.schedule (O.written output.old) (O.written output.new) 0)))) }
-    ensures lines { (result.status ≡ 7) ⊎ (result.status ≡ 8) → RanWhole words.now (F.held shelf.old) result.schedule
-        (standing (I.left input.old) (I.before_last input.old)
-        (I.faults input.old) (O.written output.old) (O.faults output.old))
-        (standing (I.left input.new) (I.before_last input.new)
-        (I.faults input.new) (O.written output.new) (O.faults output.new)) result.status
-        ⊎ WasAnswered words.now (F.held shelf.old) result.schedule
-        (standing (I.left input.old) (I.before_last input.old)
-        (I.faults input.old) (O.written output.old) (O.faults output.old))
-        (standing (I.left input.new) (I.before_last input.new)
-        (I.faults input.new) (O.written output.new) (O.faults output.new)) result.status }
-    ensures refused { result.status ≡ 1 → WasRefused words.now (F.held shelf.old) (O.written output.old)
-        (O.written output.new)
-        ⊎ WasNotDrilled words.now (O.written output.old) (O.written output.new) }
-    ensures usage { result.status ≡ 2 → WasNotAsked words.now (O.written output.old) (O.written output.new) }
-    ensures read { result.status ≡ 3
-        → LoadFailed words.now (F.failed_loads shelf.old) (F.failed_loads shelf.new) result.schedule
-        (O.written output.old) (O.written output.new)
-        ⊎ (InputFailed words.now (F.held shelf.old) result.schedule
-        (standing (I.left input.old) (I.before_last input.old)
-        (I.faults input.old) (O.written output.old) (O.faults output.old))
-        (standing (I.left input.new) (I.before_last input.new)
-        (I.faults input.new) (O.written output.new) (O.faults output.new))
-        ⊎ (RecordingUnread words.now (F.failed_loads shelf.old) (F.failed_loads shelf.new) result.schedule
-        (O.written output.old) (O.written output.new)
-        ⊎ LinesFailed words.now (F.held shelf.old) result.schedule
-        (standing (I.left input.old) (I.before_last input.old)
-        (I.faults input.old) (O.written output.old) (O.faults output.old))
-        (standing (I.left input.new) (I.before_last input.new)
-        (I.faults input.new) (O.written output.new) (O.faults output.new)))) }
-    ensures write { result.status ≡ 4 → WriteFailed words.now (F.held shelf.old) result.schedule
-        (standing (I.left input.old) (I.before_last input.old)
-        (I.faults input.old) (O.written output.old) (O.faults output.old))
-        (standing (I.left input.new) (I.before_last input.new)
-        (I.faults input.new) (O.written output.new) (O.faults output.new))
-        ⊎ StoreFailed words.now (F.held shelf.old) (F.held shelf.new) (F.failed_stores shelf.old)
-        (F.failed_stores shelf.new) result.schedule (O.written output.old) (O.written output.new) }
-    ensures memory { result.status ≡ 5
-        → MemoryRanOut (F.held shelf.old) (F.held shelf.new) result.schedule (O.written output.old)
-        (O.written output.new)
-        ⊎ (WasCutOff words.now (F.held shelf.old) result.schedule
-        (standing (I.left input.old) (I.before_last input.old)
-        (I.faults input.old) (O.written output.old) (O.faults output.old))
-        (standing (I.left input.new) (I.before_last input.new)
-        (I.faults input.new) (O.written output.new) (O.faults output.new))
-        ⊎ (WasNotStored words.now (F.held shelf.old) (F.held shelf.new) result.schedule (O.written output.old)
-        (O.written output.new)
-        ⊎ (AnswersCutOff words.now (F.held shelf.old) result.schedule
-        (standing (I.left input.old) (I.before_last input.old)
-        (I.faults input.old) (O.written output.old) (O.faults output.old))
-        (standing (I.left input.new) (I.before_last input.new)
-        (I.faults input.new) (O.written output.new) (O.faults output.new))
-        ⊎ DrillCutOff words.now result.schedule (O.written output.old) (O.written output.new)))) }
-    ensures recording { result.status ≡ 6 → WasNotRecalled words.now (F.held shelf.old) result.schedule
-        (standing (I.left input.old) (I.before_last input.old)
-        (I.faults input.old) (O.written output.old) (O.faults output.old))
-        (standing (I.left input.new) (I.before_last input.new)
-        (I.faults input.new) (O.written output.new) (O.faults output.new))
-        ⊎ (ReplayRefused words.now (F.held shelf.old) result.schedule
-        (standing (I.left input.old) (I.before_last input.old)
-        (I.faults input.old) (O.written output.old) (O.faults output.old))
-        (standing (I.left input.new) (I.before_last input.new)
-        (I.faults input.new) (O.written output.new) (O.faults output.new))
-        ⊎ QueryRefused words.now (F.held shelf.old) result.schedule (O.written output.old) (O.written output.new)) }
-    ensures complete { IsPromised words.now (F.held shelf.old) (F.failed_loads shelf.old) (F.failed_loads shelf.new)
-        (F.failed_stores shelf.old) (F.failed_stores shelf.new)
-        (standing (I.left input.old) (I.before_last input.old)
-        (I.faults input.old) (O.written output.old) (O.faults output.old))
-        (standing (I.left input.new) (I.before_last input.new)
-        (I.faults input.new) (O.written output.new) (O.faults output.new))
-        → (result.status ≡ 0) ⊎ (result.status ≡ 5) }
-    ensures answers { IsPromisedAnswers words.now (F.held shelf.old) (F.failed_loads shelf.old)
-        (F.failed_loads shelf.new)
-        (standing (I.left input.old) (I.before_last input.old)
-        (I.faults input.old) (O.written output.old) (O.faults output.old))
-        (standing (I.left input.new) (I.before_last input.new)
-        (I.faults input.new) (O.written output.new) (O.faults output.new))
-        → (result.status ≡ 0) ⊎ (result.status ≡ 5) }
-    ensures drills { IsPromisedDrill words.now (O.faults output.old) (O.faults output.new)
-        → (result.status ≡ 0) ⊎ (result.status ≡ 5) }
-    ensures queries { IsPromisedQuery words.now (F.held shelf.old) (F.failed_loads shelf.old)
-        (F.failed_loads shelf.new) (O.faults output.old) (O.faults output.new)
-        → (result.status ≡ 0) ⊎ (result.status ≡ 5) }
-    ensures no_run { (result.status ≡ 1) ⊎ (result.status ≡ 2) → result.schedule ≡ [] }
-    ensures shelf { (result.status ≡ 1) ⊎ ((result.status ≡ 2) ⊎ ((result.status ≡ 3)
-        ⊎ ((name recording : List ℕ) (options : OptionsOf) → Asks words.now (Run recording) name options → ⊥)))
-        → F.held shelf.new ≡ F.held shelf.old }
-    ensures others { (name recording : List ℕ) (options : OptionsOf) → Asks words.now (Run recording) name options
-        → StoreFails (F.held shelf.old) (F.held shelf.new) recording }
-    ensures stores { (result.status ≡ 1) ⊎ ((result.status ≡ 2) ⊎ ((result.status ≡ 3)
-        ⊎ ((name recording : List ℕ) (options : OptionsOf) → Asks words.now (Run recording) name options → ⊥)))
-        → (n : List ℕ) → F.failed_stores shelf.new n ≡ F.failed_stores shelf.old n }
-    ensures input { (result.status ≡ 1) ⊎ ((result.status ≡ 2)
-        ⊎ (((name : List ℕ) (options : OptionsOf) → Asks words.now Flow name options → ⊥)
-        × ((name : List ℕ) → AsksDebug words.now name → ⊥))) → input.new ≡ input.old }
+    ensures outcome { IsOutcome (call_of words.now
+        (devices (F.held shelf.old) (F.failed_loads shelf.old) (F.failed_stores shelf.old)
+        (standing (I.left input.old) (I.before_last input.old) (I.faults input.old) (O.written output.old)
+        (O.faults output.old)))
+        (devices (F.held shelf.new) (F.failed_loads shelf.new) (F.failed_stores shelf.new)
+        (standing (I.left input.new) (I.before_last input.new) (I.faults input.new) (O.written output.new)
+        (O.faults output.new)))
+        result.schedule result.status) }
+    ensures input { ReadsNothing words.now result.status → input.new ≡ input.old }
 {
+    answers_are_of_runs();
     let means = Means { rt, alloc, gate };
     answer(&means, words, shelf, input, output)
 }
@@ -208,17 +113,15 @@ fn answer<F: Shelf, I: Source, O: Sink, G: Gate, R: Threads + Wait + Sync>(
     input: &mut I,
     output: &mut O,
 ) -> Outcome
-    ensures comes { Comes words.now
-        (around (F.held shelf.old) (F.failed_loads shelf.old) (F.failed_stores shelf.old)
-        (standing (I.left input.old) (I.before_last input.old)
-        (I.faults input.old) (O.written output.old) (O.faults output.old)))
-        (around (F.held shelf.new) (F.failed_loads shelf.new) (F.failed_stores shelf.new)
-        (standing (I.left input.new) (I.before_last input.new)
-        (I.faults input.new) (O.written output.new) (O.faults output.new)))
-        result.schedule result.status }
-    ensures input { (result.status ≡ 1) ⊎ ((result.status ≡ 2)
-        ⊎ (((name : List ℕ) (options : OptionsOf) → Asks words.now Flow name options → ⊥)
-        × ((name : List ℕ) → AsksDebug words.now name → ⊥))) → input.new ≡ input.old }
+    ensures comes { Comes (call_of words.now
+        (devices (F.held shelf.old) (F.failed_loads shelf.old) (F.failed_stores shelf.old)
+        (standing (I.left input.old) (I.before_last input.old) (I.faults input.old) (O.written output.old)
+        (O.faults output.old)))
+        (devices (F.held shelf.new) (F.failed_loads shelf.new) (F.failed_stores shelf.new)
+        (standing (I.left input.new) (I.before_last input.new) (I.faults input.new) (O.written output.new)
+        (O.faults output.new)))
+        result.schedule result.status) }
+    ensures input { ReadsNothing words.now result.status → input.new ≡ input.old }
 {
     let Ok(asked) = asked(means.alloc, words) else {
         return ended(means.alloc, 5);
@@ -251,14 +154,14 @@ fn on_source<F: Shelf, I: Source, O: Sink, G: Gate, R: Threads + Wait + Sync>(
 ) -> Outcome
     requires range { AreInRange request.now.options }
     ensures comes { (words : List (Bor (List ℕ))) → Asks words
-        (command_of request.now.command) request.now.name.now request.now.options → Comes words
-        (around (F.held shelf.old) (F.failed_loads shelf.old) (F.failed_stores shelf.old)
-        (standing (I.left input.old) (I.before_last input.old)
-        (I.faults input.old) (O.written output.old) (O.faults output.old)))
-        (around (F.held shelf.new) (F.failed_loads shelf.new) (F.failed_stores shelf.new)
-        (standing (I.left input.new) (I.before_last input.new)
-        (I.faults input.new) (O.written output.new) (O.faults output.new)))
-        result.schedule result.status }
+        (command_of request.now.command) request.now.name.now request.now.options → Comes (call_of words
+        (devices (F.held shelf.old) (F.failed_loads shelf.old) (F.failed_stores shelf.old)
+        (standing (I.left input.old) (I.before_last input.old) (I.faults input.old) (O.written output.old)
+        (O.faults output.old)))
+        (devices (F.held shelf.new) (F.failed_loads shelf.new) (F.failed_stores shelf.new)
+        (standing (I.left input.new) (I.before_last input.new) (I.faults input.new) (O.written output.new)
+        (O.faults output.new)))
+        result.schedule result.status) }
     ensures input { (result.status ≡ 1) ⊎ ((result.status ≡ 2) ⊎ (command_of request.now.command ≡ Flow → ⊥))
         → input.new ≡ input.old }
 {
@@ -297,14 +200,14 @@ fn on_recording<F: Shelf, I: Source, O: Sink>(
     input: &mut I,
     output: &mut O,
 ) -> Outcome
-    ensures comes { (words : List (Bor (List ℕ))) → AsksDebug words name.now → Comes words
-        (around (F.held shelf.old) (F.failed_loads shelf.old) (F.failed_stores shelf.old)
-        (standing (I.left input.old) (I.before_last input.old)
-        (I.faults input.old) (O.written output.old) (O.faults output.old)))
-        (around (F.held shelf.new) (F.failed_loads shelf.new) (F.failed_stores shelf.new)
-        (standing (I.left input.new) (I.before_last input.new)
-        (I.faults input.new) (O.written output.new) (O.faults output.new)))
-        result.schedule result.status }
+    ensures comes { (words : List (Bor (List ℕ))) → AsksDebug words name.now → Comes (call_of words
+        (devices (F.held shelf.old) (F.failed_loads shelf.old) (F.failed_stores shelf.old)
+        (standing (I.left input.old) (I.before_last input.old) (I.faults input.old) (O.written output.old)
+        (O.faults output.old)))
+        (devices (F.held shelf.new) (F.failed_loads shelf.new) (F.failed_stores shelf.new)
+        (standing (I.left input.new) (I.before_last input.new) (I.faults input.new) (O.written output.new)
+        (O.faults output.new)))
+        result.schedule result.status) }
     ensures status { (result.status ≡ 1) ⊎ (result.status ≡ 2) → ⊥ }
 {
     match shelf.load(alloc, name, MOST_RECORDING) {
@@ -326,19 +229,16 @@ fn on_query<F: Shelf, O: Sink>(
     output: &mut O,
 ) -> Outcome
     ensures { (words : List (Bor (List ℕ))) (left last : Option (List ℕ)) (reads : ℕ)
-        → AsksQuery words name.now (query_of query.now) → Comes words
-        (around (F.held shelf.old) (F.failed_loads shelf.old) (F.failed_stores shelf.old)
+        → AsksQuery words name.now (query_of query.now) → Comes (call_of words
+        (devices (F.held shelf.old) (F.failed_loads shelf.old) (F.failed_stores shelf.old)
         (standing left last reads (O.written output.old) (O.faults output.old)))
-        (around (F.held shelf.new) (F.failed_loads shelf.new) (F.failed_stores shelf.new)
+        (devices (F.held shelf.new) (F.failed_loads shelf.new) (F.failed_stores shelf.new)
         (standing left last reads (O.written output.new) (O.faults output.new)))
-        result.schedule result.status }
+        result.schedule result.status) }
 {
     match shelf.load(alloc, name, MOST_RECORDING) {
         Err(error) => unloaded(alloc, error),
-        Ok(recording) => Outcome {
-            status: tell_query(rt, alloc, &recording, query, output),
-            schedule: Seq::new(alloc),
-        },
+        Ok(recording) => tell_query(rt, alloc, &recording, query, output),
     }
 }
 

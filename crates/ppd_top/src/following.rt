@@ -28,7 +28,7 @@ use std::thread::Threads;
 use thiserror::Error;
 
 /// Why there is no text for a source and a schedule.
-#[derive(Clone, Copy, PartialEq, Eq, Debug, Drop, Error)]
+#[derive(Clone, Copy, Debug, Drop, Error)]
 pub enum FollowError {
     /// The source has no program: its first fault, which is never want of memory.
     #[error(transparent)]

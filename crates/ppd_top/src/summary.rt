@@ -58,9 +58,9 @@ pub(crate) fn summary(
     ends: &[ProcEnd],
     session: &Session<'_>,
 ) -> Result<Vec<u8>, Memory>
-    requires program { session.now.program ≡ program.now }
+    requires program { session.now.known.program ≡ program.now }
     requires few { length ends.now < 2 ^ 62 }
-    ensures { IfOk result (λ text. text.items ≡ summary_of program.now ends.now session.now.races) }
+    ensures { IfOk result (λ text. text.items ≡ summary_of program.now ends.now session.now.known.races) }
 {
     let mut text = Vec::new(alloc);
     put_ends(&mut text, program, program.functions, ends)?;

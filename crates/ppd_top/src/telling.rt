@@ -30,9 +30,9 @@ fn tell_session<I: Source, O: Sink>(
     input: &mut I,
     output: &mut O,
 ) -> u8
-    requires program { session.old.program ≡ run.now.program.now }
+    requires program { session.old.known.program ≡ run.now.program.now }
     requires few { length run.now.closed.ends < 2 ^ 62 }
-    ensures { Talks session.old (summary_of run.now.program.now run.now.closed.ends session.old.races)
+    ensures { Talks session.old.known (summary_of run.now.program.now run.now.closed.ends session.old.known.races)
         (standing (I.left input.old) (I.before_last input.old)
         (I.faults input.old) (O.written output.old) (O.faults output.old))
         (standing (I.left input.new) (I.before_last input.new)

@@ -6,7 +6,7 @@ ghost use Rattle.clap.specs.Matches.{first_value, found_of};
 ghost use Rattle.ppd_top_query.specs.Queries.{asked_of as item_asked, query_of};
 ghost use Rattle.ppd_top.specs.Words.{AreInRange, IsInRange, asked as asked_for, asked_by, asked_of, command_of};
 ghost use Rattle.ppd_top.specs.Words.{item_in, item_number_in, name_in, number_in as number_for};
-ghost use Rattle.ppd_top.specs.Words.{options_in as options_for, query_by, request_of, run_in, slice_in};
+ghost use Rattle.ppd_top.specs.Words.{options_in as options_for, query_by, request_of, run_in, clean_in, slice_in, whole_in};
 
 use crate::options::Options;
 use ppd_ast::limits::{DEFAULT_BUDGET, MOST_BUDGET, MOST_DRILL, MOST_POLICY};
@@ -18,6 +18,11 @@ use std::alloc::Global;
 
 /// The greatest number of 9 digits.
 const MOST_ITEM_NUMBER: u32 = 999_999_999;
+
+/// How many workers `whole` has where its option was not given, and at most.
+const DEFAULT_WORKERS: u32 = 8;
+
+const MOST_WORKERS: u32 = 64;
 
 /// What a source is loaded for.
 #[derive(Clone, Copy)]
@@ -182,6 +187,22 @@ fn slice_of<'a>(given: &CommandWords<'a>) -> Option<Query<'a>>
     Some(Query::Slice(item))
 }
 
+/// The query of `clean`, if its item is there.
+fn clean_of<'a>(given: &CommandWords<'a>) -> Option<Query<'a>>
+    ensures { option_map query_of result ≡ clean_in (first_value (found_of given.now.matches)) }
+{
+    let item = item_of(given)?;
+    Some(Query::Clean(item))
+}
+
+/// The query of `whole`, with the number of its workers.
+fn whole_of<'a>(given: &CommandWords<'a>) -> Option<Query<'a>>
+    ensures { option_map query_of result ≡ whole_in (first_value (found_of given.now.matches)) }
+{
+    let workers = number_of(given.value("workers"), DEFAULT_WORKERS, 1, MOST_WORKERS)?;
+    Some(Query::Whole(workers))
+}
+
 /// The request of a command with its words, if its numbers and names are right.
 fn request_in<'a>(given: &CommandWords<'a>) -> Option<Request<'a>>
     ensures request { option_map request_of result ≡ asked_of given.now.command
@@ -195,12 +216,15 @@ fn request_in<'a>(given: &CommandWords<'a>) -> Option<Request<'a>>
         Word::Show => on_source(Some(Command::Show), given),
         Word::Drill => on_number(given),
         Word::Slice => on_query(given, slice_of(given)),
-        Word::Rerun | Word::Clean | Word::Whole => None,
+        Word::Rerun => on_query(given, Some(Query::Rerun)),
+        Word::Clean => on_query(given, clean_of(given)),
+        Word::Whole => on_query(given, whole_of(given)),
     }
 }
 
 /// What the words ask for: `flow`, `run` or `show`, its options in any order, each at most once, and its names; or
-/// `debug` and its name, or `drill` and its number, or `slice` with the name of a recording and an item. None where they ask for nothing. The error is want of memory, and
+/// `debug` and its name, or `drill` and its number; or what is asked of a recording, with its name: `slice` or
+/// `clean` and an item, `rerun`, or `whole` with its option. None where they ask for nothing. The error is want of memory, and
 /// may come whatever the words are.
 pub(crate) fn asked<'a>(alloc: Global, words: &'a [&'a str]) -> Result<Option<Request<'a>>, Memory>
     ensures is { IfOk result (λ o. option_map request_of o ≡ asked_for (texts_in words.entry.now)) }

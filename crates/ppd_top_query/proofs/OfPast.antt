@@ -28,7 +28,7 @@ use Rattle.ppd_session.proofs.Flows.{flow_there, same as same_logs}
 use Rattle.ppd_session.proofs.Replayed.{are_replayed, same_failure, tells, tells_items}
 use Rattle.ppd_slice.specs.Slices.{IsAnswered, IsNoItem, IsSlice, flow_of, origins_in, places_found, unless_failed as unless_one_failed}
 use Rattle.ppd_slice.proofs.Flows.{flow_misses, flow_none, flow_there as edges_there}
-use Rattle.ppd_top_query.specs.Queries.{IsFailure, event_refusal, origins_of, origins_told}
+use Rattle.ppd_top_query.specs.Queries.{IsSliceFailure, event_refusal, origins_of, origins_told}
 
 same_some : {X : Type 0} (x y : X) → ◌≡◌ {A = Option X} (Some x) (Some y) → x ≡ y
 same_some x y e = cc
@@ -149,7 +149,7 @@ module _ (past : Past) (uncut : past.cut.now ≡ past.logs.now) where
 
   -- ---- failures
 
-  pub diverges : (q m n : ℕ) → failed_in past q m ≡ Some n → IsFailure x (Diverged (record { process = q; entry = n }))
+  pub diverges : (q m n : ℕ) → failed_in past q m ≡ Some n → IsSliceFailure x (Diverged (record { process = q; entry = n }))
   diverges q m n e = (m, by (told_at x q m) (sym (same_failure past uncut q m) ∙ ap (λ o. failure_or q o None) e))
     where
       by : (o : Option Told) → failure_in q o ≡ Some (record { process = q; entry = n }) → o ≡ Some (Err n)
@@ -159,5 +159,5 @@ module _ (past : Past) (uncut : past.cut.now ≡ past.logs.now) where
           let same : k ≡ n = ap (λ (a : At). a.entry) (same_some (record { process = q; entry = k }) (record { process = q; entry = n }) f) in
           ap (λ (i : ℕ). Some (Err i)) same
 
-  pub misses : (a : ItemAt) (q n c : ℕ) → flow_of past a ≡ Err (flow_error.Sets q n c) → IsFailure x (Sets (record { process = q; entry = n }))
+  pub misses : (a : ItemAt) (q n c : ℕ) → flow_of past a ≡ Err (flow_error.Sets q n c) → IsSliceFailure x (Sets (record { process = q; entry = n }))
   misses a q n c e = let there = flow_misses past a q n c e in (a, c, flow_as a there.0 there.1.0 there.1.1 ∙ e)

@@ -17,10 +17,9 @@ use Rattle.ppd_session.specs.Texts.{intervals_at, no_event, no_process, raced, t
 use Rattle.ppd_session.specs.declared.reply.SessionError.{SessionError}
 use Rattle.ppd_session.specs.declared.reply.SessionError.TheVariants.{Diverged, Sets, Memory}
 use Rattle.ppd_slice.specs.Slices.{IsSlice, IsSliceOf}
-use Rattle.ppd_top_query.specs.Queries.{ItemAsked, Query, block_refusal, event_refusal, process_refusal, races_refusal, reached_line, refusal, Refusal}
-use Rattle.ppd_top_query.specs.Queries.Query.{Slice}
+use Rattle.ppd_top_query.specs.Queries.{ItemAsked, block_refusal, event_refusal, process_refusal, races_refusal, reached_line, slice_refusal, Refusal}
 use Rattle.ppd_top_query.specs.Queries.IsWritten.{refuses, answers, fails}
-use Rattle.ppd_top_query.specs.Replies.{IsFailed, IsItemFailed, IsItemReply, IsReply}
+use Rattle.ppd_top_query.specs.Replies.{IsError, IsItemFailed, IsItemReply, IsSliceReply, WritesSlice}
 use Rattle.ppd_top_query.proofs.OfPast.{diverges, misses, no_item, slice_known, slice_there, some_item}
 
 -- ---- of an interval that is there
@@ -51,42 +50,42 @@ module _ (past : Past) (uncut : past.cut.now ≡ past.logs.now) (q k j : ℕ) wh
   pub item_err : (e : FlowError) → IsSliceOf past (at q k j) (Err e) → (s : SessionError) → s ≡ error_of e → IsItemFailed (known_by past []) q k j s
   item_err e u s is = subst (λ (z : SessionError). IsItemFailed (known_by past []) q k j z) (sym is) (item_fails e u)
 
--- ---- of a query
+-- ---- of a slice
 
 -- one line in place of the answer
-pub refused_reply : {A : Type 0} (x : Known) (query : Query) (line : List ℕ) → refusal x query ≡ Some line → (r : Result (Vec ℕ A) SessionError) → IfOk r (λ t. t.items ≡ line) → IfErr r (λ e. e ≡ Memory) → IsReply x query r
-refused_reply x query line is (Ok t) h m = refuses t.items (is ∙ ap Some (sym h))
-refused_reply x query line is (Err e) h m = subst (λ (s : SessionError). IsFailed x query s) (sym m) tt
+pub refused_reply : {A : Type 0} (x : Known) (a : ItemAsked) (line : List ℕ) → slice_refusal x a ≡ Some line → (r : Result (Vec ℕ A) SessionError) → IfOk r (λ t. t.items ≡ line) → IfErr r (λ e. e ≡ Memory) → IsSliceReply x a r
+refused_reply x a line is (Ok t) h m = refuses t.items (is ∙ ap Some (sym h))
+refused_reply x a line is (Err e) h m = subst (λ (s : SessionError). IsError (WritesSlice x a) x.program s) (sym m) tt
 
 -- of a past without races
 module _ (past : Past) (a : ItemAsked) where
-  pub no_process_refuses : process_named past.program.now a.process ≡ None → refusal (known_by past []) (Slice a) ≡ Some no_process
+  pub no_process_refuses : process_named past.program.now a.process ≡ None → slice_refusal (known_by past []) a ≡ Some no_process
   no_process_refuses e =
       ap (λ o. process_refusal o (λ q. block_refusal (known_by past []) q a.interval (event_refusal (told_at (known_by past []) q a.interval) a.item))) e
 
   module _ (q : ℕ) (named : process_named past.program.now a.process ≡ Some q) where
-    at_process : refusal (known_by past []) (Slice a) ≡ block_refusal (known_by past []) q a.interval (event_refusal (told_at (known_by past []) q a.interval) a.item)
+    at_process : slice_refusal (known_by past []) a ≡ block_refusal (known_by past []) q a.interval (event_refusal (told_at (known_by past []) q a.interval) a.item)
     at_process =
         ap (λ o. process_refusal o (λ q. block_refusal (known_by past []) q a.interval (event_refusal (told_at (known_by past []) q a.interval) a.item))) named
 
-    pub no_block_refuses : nat_lt a.interval (length (intervals_at (known_by past []) q)) ≡ false → refusal (known_by past []) (Slice a) ≡ Some (codes "? block\n")
+    pub no_block_refuses : nat_lt a.interval (length (intervals_at (known_by past []) q)) ≡ false → slice_refusal (known_by past []) a ≡ Some (codes "? block\n")
     no_block_refuses e =
         at_process ∙ ap (λ (b : Bool). if b then event_refusal (told_at (known_by past []) q a.interval) a.item else Some (codes "? block\n")) e
 
     module _ (there : nat_lt a.interval (length (intervals_at (known_by past []) q)) ≡ true) where
-      at_block : refusal (known_by past []) (Slice a) ≡ event_refusal (told_at (known_by past []) q a.interval) a.item
+      at_block : slice_refusal (known_by past []) a ≡ event_refusal (told_at (known_by past []) q a.interval) a.item
       at_block = at_process ∙ ap (λ (b : Bool). if b then event_refusal (told_at (known_by past []) q a.interval) a.item else Some (codes "? block\n")) there
 
-      pub told_reply : {A : Type 0} (r : Result (Vec ℕ A) SessionError) → IsItemReply (known_by past []) q a.interval a.item r → IsReply (known_by past []) (Slice a) r
+      pub told_reply : {A : Type 0} (r : Result (Vec ℕ A) SessionError) → IsItemReply (known_by past []) q a.interval a.item r → IsSliceReply (known_by past []) a r
       told_reply (Ok t) (inl e) = refuses t.items (at_block ∙ e)
-      told_reply (Ok t) (inr h) = answers t.items (at_block ∙ h.0) (q, named, h.1)
+      told_reply (Ok t) (inr h) = answers [] t.items (at_block ∙ h.0) (refl, (q, named, h.1))
       told_reply (Err (Diverged failure)) h = fails (Diverged failure) (at_block ∙ h.0) h.1
       told_reply (Err (Sets failure)) h = fails (Sets failure) (at_block ∙ h.0) h.1
       told_reply (Err Memory) h = tt
 
   -- the interval by its number as it was found
   pub told_at_number : {A : Type 0} (q k n : ℕ) (o : Option ℕ) (r : Result (Vec ℕ A) SessionError) → process_named past.program.now a.process ≡ Some q → n ≡ a.interval → o ≡ Some k → k ≡ n
-      → is_some o ≡ nat_lt n (length (intervals_at (known_by past []) q)) → IsItemReply (known_by past []) q k a.item r → IsReply (known_by past []) (Slice a) r
+      → is_some o ≡ nat_lt n (length (intervals_at (known_by past []) q)) → IsItemReply (known_by past []) q k a.item r → IsSliceReply (known_by past []) a r
   told_at_number q k n o r named from there same known h =
       let at_n : k ≡ a.interval = same ∙ from in
       let yes : nat_lt a.interval (length (intervals_at (known_by past []) q)) ≡ true =
@@ -94,16 +93,16 @@ module _ (past : Past) (a : ItemAsked) where
       told_reply q named yes r (subst (λ i. IsItemReply (known_by past []) q i a.item r) at_n h)
 
   pub none_at_number : {A : Type 0} (q n : ℕ) (o : Option ℕ) (r : Result (Vec ℕ A) SessionError) → process_named past.program.now a.process ≡ Some q → n ≡ a.interval → o ≡ None
-      → is_some o ≡ nat_lt n (length (intervals_at (known_by past []) q)) → IfOk r (λ t. t.items ≡ codes "? block\n") → IfErr r (λ e. e ≡ Memory) → IsReply (known_by past []) (Slice a) r
+      → is_some o ≡ nat_lt n (length (intervals_at (known_by past []) q)) → IfOk r (λ t. t.items ≡ codes "? block\n") → IfErr r (λ e. e ≡ Memory) → IsSliceReply (known_by past []) a r
   none_at_number q n o r named from gone known h m =
       let no : nat_lt a.interval (length (intervals_at (known_by past []) q)) ≡ false =
       ap (λ i. nat_lt i (length (intervals_at (known_by past []) q))) (sym from) ∙ (sym known ∙ ap is_some gone) in
-      refused_reply (known_by past []) (Slice a) (codes "? block\n") (no_block_refuses q named no) r h m
+      refused_reply (known_by past []) a (codes "? block\n") (no_block_refuses q named no) r h m
 
 -- of one with races
 pub races_refuse : (rs : List Race) (rest : Refusal) → (length rs == 0) ≡ false → races_refusal rs rest ≡ Some (raced rs [])
 races_refuse [] rest e = absurd (true≢false e)
 races_refuse (r ∷ rs) rest e = refl
 
-pub no_races : {A : Type 0} (past : Past) (a : ItemAsked) (races : List Race) (r : Result (Vec ℕ A) SessionError) → races ≡ [] → IsReply (known_by past []) (Slice a) r → IsReply (known_by past races) (Slice a) r
-no_races past a races r none h = subst (λ (rs : List Race). IsReply (known_by past rs) (Slice a) r) (sym none) h
+pub no_races : {A : Type 0} (past : Past) (a : ItemAsked) (races : List Race) (r : Result (Vec ℕ A) SessionError) → races ≡ [] → IsSliceReply (known_by past []) a r → IsSliceReply (known_by past races) a r
+no_races past a races r none h = subst (λ (rs : List Race). IsSliceReply (known_by past rs) a r) (sym none) h

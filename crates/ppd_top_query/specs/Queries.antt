@@ -1,10 +1,13 @@
--- What is asked of a recording without an input, and what is answered, by what is known of the recording.
-use Rattle.std.specs.Prelude.{◌≡◌, ℕ, ◌++◌, nat_lt, List, [], ◌∷◌, length, Option, Some, None, Result, Ok, Err, codes, decimal, if◌then◌else◌}
+-- What is asked of a recording without an input, and what is answered.
+use Rattle.std.specs.Prelude.{◌≡◌, ℕ, ◌++◌, nat_lt, false, List, [], ◌∷◌, length, Option, Some, None, Result, Ok, Err, codes, decimal, if◌then◌else◌}
 use Rattle.std.specs.List.{flat_map}
 use Rattle.ppd_ast.specs.declared.program.Program.{Program}
 use Rattle.ppd_codec.specs.declared.recording.Recording.{Recording}
 use Rattle.ppd_model.specs.declared.flow.FlowEdge.{FlowEdge}
 use Rattle.ppd_model.specs.declared.graph.Race.{Race}
+use Rattle.ppd_entry.specs.declared.entry.At.{At}
+use Rattle.ppd_flow_model.specs.Seen.{Seen}
+use Rattle.ppd_flow_past.specs.ByReplays.{first_failed}
 use Rattle.ppd_flow_past.specs.declared.flow_error.FlowError.{FlowError}
 use Rattle.ppd_flow_past.specs.declared.flow_error.FlowError.TheVariants as flow_error
 use Rattle.ppd_top_query.specs.declared.query.AskedItem.{AskedItem as GivenItem}
@@ -13,7 +16,22 @@ use Rattle.ppd_top_query.specs.declared.query.Query.TheVariants as given
 use Rattle.ppd_slice_model.specs.declared.reached.ItemAt.{ItemAt}
 use Rattle.ppd_slice_model.specs.declared.reached.Reached.{Reached}
 use Rattle.ppd_slice_model.specs.Reach.{IsReach, at}
-use Rattle.ppd_session.specs.Known.{Flow, Known, Told}
+use Rattle.law_clean.specs.Answers.{CleanOr, clean, no_item, unclean, unwritten}
+use Rattle.law_clean.specs.Search.{clean_by, cut_by, first_raced}
+use Rattle.law_whole.specs.Linked.{joined_trace}
+use Rattle.ppd_ast.specs.declared.plan.Plan.{Plan}
+use Rattle.ppd_clean.specs.Answers.{is_begun_unclean}
+use Rattle.ppd_entry.specs.Entries.{entries_at}
+use Rattle.ppd_entry.specs.declared.entry.Logs.{Logs}
+use Rattle.ppd_flow_model.specs.Ends.{first_edge}
+use Rattle.ppd_flow_past.specs.SeenBy.{failed_at}
+use Rattle.ppd_model.specs.RecordedSets.{record_in}
+use Rattle.ppd_model.specs.declared.graph.EdgeId.{EdgeId}
+use Rattle.ppd_text_items.specs.Edges.{why_text}
+use Rattle.ppd_rerun_model.specs.Verdicts.{IsVerdict}
+use Rattle.ppd_rerun_model.specs.declared.verdict.Verdict.{Verdict}
+use Rattle.ppd_rerun_model.specs.declared.verdict.Verdict.TheVariants as verdict
+use Rattle.ppd_session.specs.Known.{Flow, Known, Told, seens}
 use Rattle.ppd_session.specs.Questions.{process_named}
 use Rattle.ppd_session.specs.Texts.{flow_at, intervals_at, no_event, no_process, raced, told_at}
 use Rattle.ppd_session.specs.declared.reply.SessionError.{SessionError}
@@ -22,6 +40,9 @@ use Rattle.ppd_slice.specs.Slices.{places_found}
 use Rattle.ppd_codec_runs.specs.Recordings.{known_of}
 use Rattle.ppd_text_refusals.specs.Recordings.{refused_replay}
 use Rattle.ppd_text_items.specs.Names.{process_name}
+use Rattle.ppd_text_verdict.specs.Texts.{verdict_text}
+use Rattle.ppd_whole.specs.Answers.{intervals_from}
+use Rattle.ppd_whole.specs.WholeText.{whole_text}
 
 -- ---- what is asked
 
@@ -31,15 +52,24 @@ pub record ItemAsked : Type 0 where
   pub interval : ℕ
   pub item : ℕ
 
--- every item that an item came from
 pub data Query : Type 0 where
+  -- every item that an item came from
   Slice : ItemAsked → Query
+  -- the whole trace, by so many workers
+  Whole : (workers : ℕ) → Query
+  -- whether a run under the recorded synchronization is the recorded one
+  Rerun : Query
+  -- an item with its edges, where no race touches its past
+  Clean : ItemAsked → Query
 
 abbrev pub asked_of : GivenItem → ItemAsked
 asked_of a = record { process = a.process.now; interval = a.interval; item = a.item }
 
 abbrev pub query_of : GivenQuery → Query
 query_of (given.Slice a) = Slice (asked_of a)
+query_of (given.Whole workers) = Whole workers
+query_of given.Rerun = Rerun
+query_of (given.Clean a) = Clean (asked_of a)
 
 -- ---- refusals, each with what stands in its place where it does not apply
 
@@ -86,38 +116,143 @@ pub record IsSliceText (x : Known) (q k j : ℕ) (text : List ℕ) : Type 0 wher
   pub is_slice : IsReach (origins_of x) (at q k j) slice
   pub is : text ≡ flat_map (reached_line x.program) slice
 
--- ---- failures
+-- the refusal that stands in place of the slice, if one does
+abbrev pub slice_refusal : Known → ItemAsked → Refusal
+slice_refusal x a =
+    races_refusal x.races
+    (process_refusal (process_named x.program a.process)
+    (λ q. block_refusal x q a.interval (event_refusal (told_at x q a.interval) a.item)))
+
+-- what is written of the slice, without a run of its own
+abbrev pub IsSliceAnswer : Known → ItemAsked → (schedule text : List ℕ) → Type 0
+IsSliceAnswer x a schedule text = (schedule ≡ []) × ((q : ℕ) × (process_named x.program a.process ≡ Some q)
+    × IsSliceText x q a.interval a.item text)
 
 -- an interval of the process is told to fail at that entry; or edges of some item are not found, since a write that the
 -- entry records is nowhere
-abbrev pub IsFailure : Known → SessionError → Type 0
-IsFailure x (Diverged failure) = (m : ℕ) × (told_at x failure.process m ≡ Some (Err failure.entry))
-IsFailure x (Sets failure) = (a : ItemAt) × (c : ℕ)
+abbrev pub IsSliceFailure : Known → SessionError → Type 0
+IsSliceFailure x (Diverged failure) = (m : ℕ) × (told_at x failure.process m ≡ Some (Err failure.entry))
+IsSliceFailure x (Sets failure) = (a : ItemAt) × (c : ℕ)
     × (flow_at x a.process a.interval a.item ≡ Err (flow_error.Sets failure.process failure.entry c))
-IsFailure x Memory = ⊥
+IsSliceFailure x Memory = ⊥
+
+-- ---- the whole trace
+
+-- what the replays of each process of a recording give
+abbrev pub seens_of : Recording → List Seen
+seens_of r = seens r.program r.plan r.header.budget r.logs
+
+-- the failure of the first interval, by process and number, whose replay fails, if one does
+abbrev pub first_failure : Recording → Option At
+first_failure r = first_failed r.program r.plan r.header.budget r.logs (intervals_from 0 (seens_of r))
+
+-- the text of the trace that the items of all replays make
+abbrev pub IsWholeAnswer : Recording → (schedule text : List ℕ) → Type 0
+IsWholeAnswer r schedule text = (schedule ≡ []) × (first_failure r ≡ None)
+    × (text ≡ whole_text r.program (joined_trace r.program r.logs (seens_of r)))
+
+abbrev pub IsWholeFailure : Recording → SessionError → Type 0
+IsWholeFailure r (Diverged failure) = first_failure r ≡ Some failure
+IsWholeFailure r (Sets failure) = ⊥
+IsWholeFailure r Memory = ⊥
+
+-- ---- a run again
+
+-- the schedule that was taken: the guided one, where the verdict is yes
+abbrev pub schedule_of : Verdict → List ℕ
+schedule_of (verdict.Yes h) = h
+schedule_of (verdict.No why) = []
+
+-- the line of the verdict on the logs
+abbrev pub IsRerunAnswer : Recording → (schedule text : List ℕ) → Type 0
+IsRerunAnswer r schedule text = (v : Verdict) × IsVerdict r.program r.plan r.header.budget r.logs v
+    × (schedule ≡ schedule_of v) × (text ≡ verdict_text r.program v)
+
+-- ---- an item in a run with races
+
+-- the refusal that stands in place of the answer, if one does
+abbrev pub clean_refusal : Known → ItemAsked → Refusal
+clean_refusal x a = process_refusal (process_named x.program a.process) (λ q. block_refusal x q a.interval None)
+
+-- a race touches the past of this edge
+abbrev pub unclean_line : Program → EdgeId → List ℕ
+unclean_line p e = codes "? unclean " ++ process_name p e.process ++ codes " " ++ decimal e.edge ++ codes "\n"
+
+-- the item with its edges, the edge whose past has a race, or that there is no such item
+abbrev pub clean_text : Program → Plan → (j : ℕ) → CleanOr → Option (List ℕ)
+clean_text p plan j (clean t es) = Some (why_text p plan j t es)
+clean_text p plan j (unclean e) = Some (unclean_line p e)
+clean_text p plan j no_item = Some no_event
+clean_text p plan j (unwritten m) = None
+
+-- what is found of item j of interval k of process q by the logs of a recording, cut off where its races are
+abbrev pub clean_of : Recording → (q k j : ℕ) → CleanOr
+clean_of r q k j = clean_by r.program r.plan r.header.budget r.logs (known_of r).races q k j
+
+-- the least edge of process q, from the one in which the interval begins, whose past has a race
+abbrev pub first_raced_of : Recording → (q k j : ℕ) → Option ℕ
+first_raced_of r q k j =
+    first_raced r.program r.plan r.header.budget r.logs (record_in r.logs) (known_of r).races q k j
+
+-- the logs that are cut off there
+abbrev pub cut_of : Recording → (q k j : ℕ) → Logs
+cut_of r q k j =
+    cut_by r.program r.plan r.header.budget r.logs (record_in r.logs) (known_of r).races q k j (first_raced_of r q k j)
+
+-- the interval does not begin there or later, and the replay of some interval of process p from these logs fails at
+-- entry n
+abbrev pub Diverges : Recording → (q k j : ℕ) → (p n : ℕ) → Type 0
+Diverges r q k j p n =
+    (is_begun_unclean (first_edge (entries_at r.logs q) k) (first_raced_of r q k j) ≡ false)
+    × ((m : ℕ) × (failed_at r.program r.plan r.header.budget (entries_at (cut_of r q k j) p) m ≡ Some n))
+
+abbrev pub IsCleanAnswer : Recording → ItemAsked → (schedule text : List ℕ) → Type 0
+IsCleanAnswer r a schedule text = (schedule ≡ []) × ((q : ℕ) × (process_named r.program a.process ≡ Some q)
+    × (clean_text r.program r.plan a.item (clean_of r q a.interval a.item) ≡ Some text))
+
+-- the replay of some interval fails at that entry, from the cut logs; or a write that the entry records is nowhere
+abbrev pub IsCleanFailure : Recording → ItemAsked → SessionError → Type 0
+IsCleanFailure r a (Diverged failure) = (q : ℕ) × (process_named r.program a.process ≡ Some q)
+    × Diverges r q a.interval a.item failure.process failure.entry
+IsCleanFailure r a (Sets failure) = (q : ℕ) × (process_named r.program a.process ≡ Some q)
+    × ((c : ℕ) × (clean_of r q a.interval a.item
+    ≡ unwritten (record { process = failure.process; entry = failure.entry; cell = c })))
+IsCleanFailure r a Memory = ⊥
 
 -- ---- answers
 
 -- the refusal that stands in place of the answer, if one does
 abbrev pub refusal : Known → Query → Refusal
-refusal x (Slice a) =
-    races_refusal x.races
-    (process_refusal (process_named x.program a.process)
-    (λ q. block_refusal x q a.interval (event_refusal (told_at x q a.interval) a.item)))
+refusal x (Slice a) = slice_refusal x a
+refusal x (Whole workers) = races_refusal x.races None
+refusal x Rerun = None
+refusal x (Clean a) = clean_refusal x a
 
--- this is the text of the answer where nothing is refused
-abbrev pub IsAnswer : Known → Query → List ℕ → Type 0
-IsAnswer x (Slice a) text = (q : ℕ) × (process_named x.program a.process ≡ Some q)
-    × IsSliceText x q a.interval a.item text
+-- where nothing is refused: this schedule was taken, and this is the text of the answer
+abbrev pub IsAnswer : Recording → Query → (schedule text : List ℕ) → Type 0
+IsAnswer r (Slice a) schedule text = IsSliceAnswer (known_of r) a schedule text
+IsAnswer r (Whole workers) schedule text = IsWholeAnswer r schedule text
+IsAnswer r Rerun schedule text = IsRerunAnswer r schedule text
+IsAnswer r (Clean a) schedule text = IsCleanAnswer r a schedule text
 
--- what is written in all and with which status: a refusal or the answer; or, where nothing is refused, the line of a
--- replay that fails
-pub data IsWritten (x : Known) (query : Query) : (status : ℕ) → (text : List ℕ) → Type 0 where
-  refuses : (line : List ℕ) → refusal x query ≡ Some line → IsWritten x query 0 line
-  answers : (text : List ℕ) → refusal x query ≡ None → IsAnswer x query text → IsWritten x query 0 text
-  fails : (error : SessionError) → refusal x query ≡ None → IsFailure x error
-      → IsWritten x query 6 (refused_replay x.program error)
+-- or a replay that the answer needs fails
+abbrev pub IsFailure : Recording → Query → SessionError → Type 0
+IsFailure r (Slice a) error = IsSliceFailure (known_of r) error
+IsFailure r (Whole workers) error = IsWholeFailure r error
+IsFailure r Rerun error = ⊥
+IsFailure r (Clean a) error = IsCleanFailure r a error
 
--- so it is of a recording, and then this schedule was taken
+-- what is written in all, with which status, and the schedule that was taken: a refusal or the answer; or, where nothing
+-- is refused, the line of a replay that fails
+pub data IsWritten (refused : Refusal) (Answers : (schedule text : List ℕ) → Type 0) (Fails : SessionError → Type 0)
+    (program : Program) : (schedule : List ℕ) → (status : ℕ) → (text : List ℕ) → Type 0 where
+  refuses : (line : List ℕ) → refused ≡ Some line → IsWritten refused Answers Fails program [] 0 line
+  answers : (schedule text : List ℕ) → refused ≡ None → Answers schedule text
+      → IsWritten refused Answers Fails program schedule 0 text
+  fails : (error : SessionError) → refused ≡ None → Fails error
+      → IsWritten refused Answers Fails program [] 6 (refused_replay program error)
+
+-- so it is of a recording
 abbrev pub Gives : Recording → Query → (schedule : List ℕ) → (status : ℕ) → (text : List ℕ) → Type 0
-Gives r (Slice a) schedule status text = (schedule ≡ []) × IsWritten (known_of r) (Slice a) status text
+Gives r query schedule status text =
+    IsWritten (refusal (known_of r) query) (IsAnswer r query) (IsFailure r query) r.program schedule status text

@@ -1,31 +1,22 @@
 // The answer to what is asked of a recording.
-ghost use Rattle.std.specs.Prelude.{◌≡◌, [], IfErr, IfOk};
+ghost use Rattle.std.specs.Prelude.{◌≡◌, []};
 ghost use Rattle.ppd_flow_past.specs.Pasts.{IsPast};
-ghost use Rattle.ppd_top_query.specs.Queries.{asked_of, query_of};
-ghost use Rattle.ppd_top_query.specs.Replies.{IsReply, IsSliceReply};
 ghost use Rattle.ppd_session.specs.Sessions.{known_by};
-ghost use Rattle.ppd_session.specs.Texts.{raced};
-ghost use Rattle.ppd_session.specs.declared.reply.SessionError.TheVariants as session_error;
-ghost use Rattle.ppd_codec_runs.specs.Recordings.{IsRecalled, known_of};
+ghost use Rattle.ppd_top_query.specs.Queries.{asked_of, query_of};
+ghost use Rattle.ppd_top_query.specs.Queries.Query.{Slice};
+ghost use Rattle.ppd_top_query.specs.Replies.{IsAskable, IsReply, IsSliceReply};
 
-use crate::query::{AskedItem, Query};
-use crate::slices::{line_of, slice_text};
+use crate::cleans::clean_answer;
+use crate::kept::{line_of, past_of, races_of, racy, unscheduled};
+use crate::query::{Answer, AskedItem, Query};
+use crate::reruns::rerun_answer;
+use crate::slices::slice_text;
+use crate::wholes::whole_answer;
 use ppd_codec_runs::Recalled;
 use ppd_model::Race;
-use ppd_race::races;
-use ppd_session::{Past, SessionError, interval_there, process_named, put_racy};
+use ppd_session::{Past, SessionError, interval_there, process_named};
 use std::alloc::Global;
 use std::thread::Threads;
-
-/// How many races there are, as a text.
-fn racy(alloc: Global, races: &[Race]) -> Result<Vec<u8>, SessionError>
-    ensures text { IfOk result (λ text. text.items ≡ raced races.now []) }
-    ensures error { IfErr result (λ e. e ≡ session_error.Memory) }
-{
-    let mut text = Vec::new(alloc);
-    put_racy(&mut text, races)?;
-    Ok(text)
-}
 
 /// The slice of an item of a past without races, as a text, or the first refusal that applies.
 fn slice_of_process(
@@ -63,47 +54,46 @@ fn slice_unless_raced(
     slice_of_process(alloc, past, asked)
 }
 
-/// The answer to what is asked of a past with these races.
-fn answer_past(
+fn slice_answer(
+    rt: &(impl Threads + Sync),
     alloc: Global,
-    past: &Past,
-    races: &[Race],
-    query: &Query<'_>,
-) -> Result<Vec<u8>, SessionError>
-    requires past { IsPast past.now }
-    requires uncut { past.now.cut.now ≡ past.now.logs.now }
-    ensures { IsReply (known_by past.now races.now) (query_of query.now) result }
+    recalled: &Recalled,
+    asked: &AskedItem<'_>,
+) -> Result<Answer, SessionError>
+    requires { IsAskable recalled.now }
+    ensures { IsReply recalled.now.recording (Slice (asked_of asked.now)) result }
 {
-    match query {
-        Query::Slice(asked) => slice_unless_raced(alloc, past, races, asked),
-    }
+    let races = races_of(rt, alloc, recalled)?;
+    let text = slice_unless_raced(alloc, &past_of(recalled), races.as_slice(), asked);
+    unscheduled(alloc, text)
 }
 
-/// The answer to what is asked of a recording that was accepted: a text of lines, or one line that refuses, the first
-/// of `? races N`, `? process`, `? block` and `? event` that applies.
+/// The answer to what is asked of a recording that was accepted.
 ///
-/// `Diverged` comes only where the replay of an interval fails at that entry, `Sets` only where the write set of the
-/// entry has a cell that the replays write nowhere and an answer needs; neither where a refusal applies, and neither of
-/// the recording of a whole run. `Memory` is want of memory.
+/// - `Slice`: a line for each item of the slice, or one line that refuses it, the first of `? races N`, `? process`,
+///   `? block` and `? event` that applies.
+/// - `Whole`: a line for each event of the run, or the line `? races N`; the same for every number of workers.
+/// - `Rerun`: the line of the verdict, and the schedule of the run where it is yes.
+/// - `Clean`: the item and its edges as `why` answers, or `? unclean P E` for the least edge E of the process, from the
+///   one in which the interval begins, whose past a race touches, or `? event`; or `? process` or `? block`.
+///
+/// `Diverged` comes only where the replay of an interval fails at that entry, for the whole trace at the first interval
+/// by process and number; `Sets` only where the write set of the entry has a cell that the replays write nowhere and an
+/// answer needs; neither where a refusal applies, neither of the recording of a whole run, and neither of a run again.
+/// `Memory` is want of memory.
 pub fn answer(
     rt: &(impl Threads + Sync),
     alloc: Global,
     recalled: &Recalled,
     query: &Query<'_>,
-) -> Result<Vec<u8>, SessionError>
-    requires { IsRecalled recalled.now }
-    ensures { IsReply (known_of recalled.now.recording) (query_of query.now) result }
+) -> Result<Answer, SessionError>
+    requires { IsAskable recalled.now }
+    ensures { IsReply recalled.now.recording (query_of query.now) result }
 {
-    let past = Past {
-        program: &recalled.recording.program,
-        plan: &recalled.recording.plan,
-        logs: &recalled.recording.logs,
-        index: &recalled.index,
-        graph: &recalled.graph,
-        cut: &recalled.recording.logs,
-        cut_index: &recalled.index,
-        budget: recalled.recording.header.budget,
-    };
-    let races = races(rt, alloc, &recalled.graph)?;
-    answer_past(alloc, &past, races.as_slice(), query)
+    match query {
+        Query::Slice(asked) => slice_answer(rt, alloc, recalled, asked),
+        Query::Whole(workers) => whole_answer(rt, alloc, recalled, *workers),
+        Query::Rerun => rerun_answer(alloc, recalled),
+        Query::Clean(asked) => clean_answer(rt, alloc, recalled, asked),
+    }
 }

@@ -1,4 +1,9 @@
 ghost use Rattle.ppd_top_query.specs.Laws.{QueriesEnd, RunsAreTold};
+ghost use Rattle.ppd_top_query.specs.OfRuns.{AnswersAreOfRuns};
+ghost use Rattle.ppd_top_query.specs.SlicesOfRuns.{SliceTextsAreOfRuns, SlicesAreOfRuns};
+
+use ppd_model::items_are_whole;
+use ppd_slice_model::{reaches_are_slices, slices_are_one};
 
 /// Law: what is asked of a recording ends with status 0 or with status 6, and of the recording of a whole run with
 /// status 0.
@@ -6,3 +11,26 @@ pub fn queries_end()
     ensures ends { QueriesEnd }
     ensures runs { RunsAreTold }
 {}
+
+/// Law: by what is known of a run of a valid program, the text of the slice of an item that is told has a line for each
+/// item that the run's flowback edges reach from it, and no other; and so has the answer for an item that is asked for,
+/// where nothing is refused.
+pub fn slices_are_of_runs()
+    ensures texts { SliceTextsAreOfRuns }
+    ensures answers { SlicesAreOfRuns }
+{
+    items_are_whole();
+    reaches_are_slices();
+    slices_are_one();
+}
+
+/// Law: what is answered of the recording of a whole run without a race is that of the run, and of each schedule that
+/// agrees with it: a slice has what the run's flowback edges reach, the whole trace is the full trace, and a run again
+/// is confirmed by a schedule that agrees. With races or without, an item is answered as it is to be by the run.
+pub fn answers_are_of_runs()
+    ensures { AnswersAreOfRuns }
+{
+    items_are_whole();
+    reaches_are_slices();
+    slices_are_one();
+}

@@ -10,6 +10,7 @@ ghost use Rattle.ppd_session.specs.Sessions.{known_by};
 ghost use Rattle.ppd_session.specs.declared.reply.SessionError.TheVariants as session_error;
 ghost use Rattle.ppd_slice.specs.Slices.{IsSliceOf};
 
+use crate::kept::line_of;
 use ppd_ast::{Memory, Program, Seq, Steps};
 use ppd_session::{Past, SessionError, no_items};
 use ppd_slice::{FlowError, Reached, slice};
@@ -49,16 +50,6 @@ fn lines_of(alloc: Global, program: &Program, found: &[Reached]) -> Result<Vec<u
 {
     let mut text = Vec::new(alloc);
     put_all_reached(&mut text, program, found)?;
-    Ok(text)
-}
-
-/// One line as a text.
-pub(crate) fn line_of(alloc: Global, line: &[u8]) -> Result<Vec<u8>, SessionError>
-    ensures text { IfOk result (λ text. text.items ≡ line.now) }
-    ensures error { IfErr result (λ e. e ≡ session_error.Memory) }
-{
-    let mut text = Vec::new(alloc);
-    put(&mut text, line)?;
     Ok(text)
 }
 

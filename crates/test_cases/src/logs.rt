@@ -111,6 +111,17 @@ fn told_entries(alloc: Global, entries: &[Entry]) -> Result<String, AllocError> 
     Ok(text)
 }
 
+/// The entries of each process.
+pub(crate) fn told_logs(alloc: Global, logs: &Logs) -> Result<String, AllocError> {
+    let mut text = String::new(alloc);
+    for log in logs.lists.as_slice() {
+        let told = told_entries(alloc, log.as_slice())?;
+        text.push_str("log\n")?;
+        text.push_str(&told)?;
+    }
+    Ok(text)
+}
+
 /// All entries of a process, or the one of this number.
 fn told_log(alloc: Global, logs: &Logs, process: usize, which: &str) -> Result<String, Fault> {
     let log = logs.lists.as_slice().get(process).ok_or(Fault::Line)?;

@@ -1,7 +1,9 @@
 // What a schedule of a recorded program logs.
 
+use crate::logs::told_logs;
 use crate::worlds::drive;
 use ppd_codec::{Recording, decode, encode};
+use ppd_entry::Logs;
 use ppd_model::Closed;
 use std::alloc::Global;
 
@@ -9,6 +11,17 @@ use std::alloc::Global;
 fn driven(alloc: Global, recording: &Recording, schedule: &[u8]) -> Option<Closed> {
     let budget = recording.header.budget;
     drive(alloc, &recording.program, &recording.plan, budget, schedule)
+}
+
+/// Whether two logs have the same entries.
+fn are_alike(alloc: Global, first: &Logs, second: &Logs) -> bool {
+    let Ok(first) = told_logs(alloc, first) else {
+        return false;
+    };
+    let Ok(second) = told_logs(alloc, second) else {
+        return false;
+    };
+    first.as_str() == second.as_str()
 }
 
 /// Whether the bytes record what the schedule logs, and are what is encoded of it again.
@@ -27,5 +40,5 @@ pub(crate) fn records(alloc: Global, bytes: &[u8], schedule: &[u8]) -> bool {
     ) else {
         return false;
     };
-    closed.logs == recording.logs && again.as_slice() == bytes
+    are_alike(alloc, &closed.logs, &recording.logs) && again.as_slice() == bytes
 }

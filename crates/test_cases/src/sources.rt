@@ -1,6 +1,6 @@
 // What sources are read to, and why they are refused, as text.
 
-use ppd_ast::{Body, Kind, Place, Program, Stmt, Var};
+use ppd_ast::{Body, Expr, Kind, Op, Place, Program, Stmt, Target, Var};
 use ppd_check::{CheckError, SourceError, read_source};
 use std::alloc::{AllocError, Global};
 
@@ -50,9 +50,62 @@ fn call(
     format!(in alloc; "call {function} ({args}) {into:?}")
 }
 
+/// An array's cells with the index.
+fn cells(alloc: Global, word: &str, base: u16, len: u16, index: u32) -> Result<String, AllocError> {
+    format!(in alloc; "{word} {{ base: {base}, len: {len}, at: {index} }}")
+}
+
+fn told_target(alloc: Global, target: &Target) -> Result<String, AllocError> {
+    match target {
+        Target::Local(cell) => format!(in alloc; "Local({cell})"),
+        Target::LocalAt { base, len, at } => cells(alloc, "LocalAt", *base, *len, *at),
+        Target::Shared(cell) => format!(in alloc; "Shared({cell})"),
+        Target::SharedAt { base, len, at } => cells(alloc, "SharedAt", *base, *len, *at),
+    }
+}
+
+fn operator(op: &Op) -> &'static str {
+    match op {
+        Op::Mul => "Mul",
+        Op::Div => "Div",
+        Op::Rem => "Rem",
+        Op::Add => "Add",
+        Op::Sub => "Sub",
+        Op::Lt => "Lt",
+        Op::Le => "Le",
+        Op::Gt => "Gt",
+        Op::Ge => "Ge",
+        Op::Eq => "Eq",
+        Op::Ne => "Ne",
+    }
+}
+
+fn told_expr(alloc: Global, expr: &Expr) -> Result<String, AllocError> {
+    match expr {
+        Expr::Const(value) => format!(in alloc; "Const({value})"),
+        Expr::Local(cell) => format!(in alloc; "Local({cell})"),
+        Expr::LocalAt { base, len, at } => cells(alloc, "LocalAt", *base, *len, *at),
+        Expr::Shared(cell) => format!(in alloc; "Shared({cell})"),
+        Expr::SharedAt { base, len, at } => cells(alloc, "SharedAt", *base, *len, *at),
+        Expr::Neg(operand) => format!(in alloc; "Neg({operand})"),
+        Expr::Not(operand) => format!(in alloc; "Not({operand})"),
+        Expr::Two(op, left, right) => {
+            let op = operator(op);
+            format!(in alloc; "Two({op}, {left}, {right})")
+        }
+        Expr::And(left, right) => format!(in alloc; "And({left}, {right})"),
+        Expr::Or(left, right) => format!(in alloc; "Or({left}, {right})"),
+    }
+}
+
+fn set(alloc: Global, target: &Target, value: u32) -> Result<String, AllocError> {
+    let target = told_target(alloc, target)?;
+    format!(in alloc; "{target} = {value}")
+}
+
 fn kind(alloc: Global, kind: &Kind) -> Result<String, AllocError> {
     match kind {
-        Kind::Set(target, value) => format!(in alloc; "{target:?} = {value}"),
+        Kind::Set(target, value) => set(alloc, target, *value),
         Kind::Zero { base, len } => format!(in alloc; "zero {base} {len}"),
         Kind::If(test, yes, no) => branches(alloc, *test, yes.as_slice(), no.as_slice()),
         Kind::While(test, inside) => round(alloc, *test, inside.as_slice()),
@@ -119,7 +172,8 @@ fn body(alloc: Global, body: &Body) -> Result<String, AllocError> {
 fn exprs(alloc: Global, program: &Program) -> Result<String, AllocError> {
     let mut text = String::new(alloc);
     for expr in program.exprs.as_slice() {
-        add(&mut text, format!(in alloc; "{expr:?}\n"))?;
+        add(&mut text, told_expr(alloc, expr))?;
+        text.push_str("\n")?;
     }
     Ok(text)
 }

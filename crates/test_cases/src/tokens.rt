@@ -1,14 +1,72 @@
 // The tokens of sources, as text.
 
-use ppd_lex::{LexError, Token, TokenKind, lex};
+use ppd_lex::{Kind, LexError, Token, TokenKind, lex};
 use std::alloc::{AllocError, Global};
+
+/// The kind of a mark.
+fn mark(kind: Kind) -> &'static str {
+    match kind {
+        Kind::OrMark => "OrMark",
+        Kind::AndMark => "AndMark",
+        Kind::EqualMark => "EqualMark",
+        Kind::UnequalMark => "UnequalMark",
+        Kind::AtMostMark => "AtMostMark",
+        Kind::AtLeastMark => "AtLeastMark",
+        Kind::LessMark => "LessMark",
+        Kind::MoreMark => "MoreMark",
+        Kind::PlusMark => "PlusMark",
+        Kind::MinusMark => "MinusMark",
+        Kind::StarMark => "StarMark",
+        Kind::SlashMark => "SlashMark",
+        Kind::PercentMark => "PercentMark",
+        Kind::NotMark => "NotMark",
+        Kind::AssignMark => "AssignMark",
+        Kind::AddMark => "AddMark",
+        Kind::SubtractMark => "SubtractMark",
+        Kind::IncreaseMark => "IncreaseMark",
+        Kind::DecreaseMark => "DecreaseMark",
+        Kind::LeftParen => "LeftParen",
+        Kind::RightParen => "RightParen",
+        Kind::LeftBrace => "LeftBrace",
+        Kind::RightBrace => "RightBrace",
+        Kind::LeftBracket => "LeftBracket",
+        Kind::RightBracket => "RightBracket",
+        Kind::Semicolon => "Semicolon",
+        Kind::Comma => "Comma",
+        _ => "?",
+    }
+}
+
+/// The kind of a keyword or of a mark.
+fn word(kind: Kind) -> &'static str {
+    match kind {
+        Kind::SharedWord => "SharedWord",
+        Kind::IntWord => "IntWord",
+        Kind::VoidWord => "VoidWord",
+        Kind::SemWord => "SemWord",
+        Kind::ChanWord => "ChanWord",
+        Kind::ProcessWord => "ProcessWord",
+        Kind::IfWord => "IfWord",
+        Kind::ElseWord => "ElseWord",
+        Kind::WhileWord => "WhileWord",
+        Kind::ForWord => "ForWord",
+        Kind::ReturnWord => "ReturnWord",
+        Kind::TakeWord => "TakeWord",
+        Kind::GiveWord => "GiveWord",
+        Kind::SendWord => "SendWord",
+        Kind::RecvWord => "RecvWord",
+        Kind::PrintWord => "PrintWord",
+        Kind::AssertWord => "AssertWord",
+        _ => mark(kind),
+    }
+}
 
 /// A token in short: n and the length of a name, a number, the kind of a keyword or mark, or the place of the end.
 fn told_token(alloc: Global, token: &Token) -> Result<String, AllocError> {
     match &token.kind {
         TokenKind::Name(name) => format!(in alloc; "n{}", name.len()),
         TokenKind::Number(value) => format!(in alloc; "{value}"),
-        TokenKind::Word(kind) | TokenKind::Mark(kind) => format!(in alloc; "{kind:?}"),
+        TokenKind::Word(kind) | TokenKind::Mark(kind) => word(*kind).to_string(alloc),
         TokenKind::End => format!(in alloc; "{}:{}", token.place.line, token.place.column),
     }
 }

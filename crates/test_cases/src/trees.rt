@@ -2,7 +2,7 @@
 
 use ppd_ast::Place;
 use ppd_lex::lex;
-use ppd_parse::{Node, SyntaxError, Tree, parse};
+use ppd_parse::{Node, Rule, SyntaxError, Tree, parse};
 use std::alloc::{AllocError, Global};
 
 fn told_at(alloc: Global, word: &str, place: Place) -> Result<String, AllocError> {
@@ -18,6 +18,30 @@ fn told_error(alloc: Global, error: SyntaxError) -> Result<String, AllocError> {
     }
 }
 
+fn rule_name(rule: Rule) -> &'static str {
+    match rule {
+        Rule::Leaf => "Leaf",
+        Rule::Source => "Source",
+        Rule::Shared => "Shared",
+        Rule::Sitem => "Sitem",
+        Rule::Sems => "Sems",
+        Rule::Chans => "Chans",
+        Rule::Function => "Function",
+        Rule::Params => "Params",
+        Rule::Process => "Process",
+        Rule::Block => "Block",
+        Rule::Local => "Local",
+        Rule::Litem => "Litem",
+        Rule::Value => "Value",
+        Rule::Call => "Call",
+        Rule::Place => "Place",
+        Rule::Change => "Change",
+        Rule::Stmt => "Stmt",
+        Rule::Unary => "Unary",
+        Rule::Binary => "Binary",
+    }
+}
+
 /// A node: a token's text, or a rule and how many children it has.
 fn drawn_node(alloc: Global, source: &str, node: &Node) -> Result<String, AllocError> {
     match &node.token {
@@ -25,7 +49,10 @@ fn drawn_node(alloc: Global, source: &str, node: &Node) -> Result<String, AllocE
             .get(token.from as usize..token.to as usize)
             .unwrap_or("?")
             .to_string(alloc),
-        None => format!(in alloc; "{:?}{}", node.rule, node.children.len()),
+        None => {
+            let rule = rule_name(node.rule);
+            format!(in alloc; "{rule}{}", node.children.len())
+        }
     }
 }
 

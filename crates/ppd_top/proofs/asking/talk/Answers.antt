@@ -15,6 +15,6 @@ returns-in-Some g c =
     let d = standing (g.I.Source.left c.answer_next.new.input) (g.I.Source.before_last c.answer_next.new.input) (g.I.Source.faults c.answer_next.new.input) (g.O.Sink.written c.answer_next.new.output) (g.O.Sink.faults c.answer_next.new.output) in
     let n = c.loop-number._number in
     let same = c.loop-number.invariant.same in
-    let q : IsAsked c.loop-number.session n c.loop-number.reader a b = subst (λ (x : Known). IsAsked x n c.loop-number.reader a b) (sym same) c.loop-number.invariant.asked in
-    let t : Talks c.loop-number.session [] a d c.in-Some.status = c.in-Some.ensures.goes a n c.loop-number-test.true q in
+    let q : IsAsked c.loop-number.session.known n c.loop-number.reader a b = subst (λ (x : Known). IsAsked x n c.loop-number.reader a b) (sym same) c.loop-number.invariant.asked in
+    let t : Talks c.loop-number.session.known [] a d c.in-Some.status = c.in-Some.ensures.goes a n c.loop-number-test.true q in
     subst (λ (x : Known). Talks x [] a d c.in-Some.status) same t

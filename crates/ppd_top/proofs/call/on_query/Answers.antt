@@ -1,8 +1,8 @@
-use Rattle.std.proofs.Common.{Err, List, ℕ, inr, refl, ap, subst, sym, ◌∙◌}
+use Rattle.std.proofs.Common.{Err, inr, refl, ap, ◌∙◌}
 use Rattle.ppd_io.specs.Content.{Loads}
 use Rattle.ppd_top_query.specs.Queries.{query_of}
+use Rattle.ppd_top.specs.Call.{call_of, devices}
 use Rattle.ppd_top.specs.Output.{standing}
-use Rattle.ppd_top.specs.Ran.{Queries, around}
 use Rattle.ppd_top.specs.Ran.Comes.{query_done}
 use Rattle.ppd_top.specs.Top.{most_recording}
 use Rattle.ppd_top.proofs.Unloaded.{recording_unloaded}
@@ -10,11 +10,10 @@ use Rattle.ppd_top.proofs.call.on_query.Goals as goal
 
 pub returns-in-Err : goal.returns-in-Err
 returns-in-Err g c = λ words left last reads asks.
-    recording_unloaded words (around (g.F.Shelf.held c.args.shelf.now) (g.F.Shelf.failed_loads c.args.shelf.now) (g.F.Shelf.failed_stores c.args.shelf.now) (standing left last reads (g.O.Sink.written c.args.output.now) (g.O.Sink.faults c.args.output.now))) (around (g.F.Shelf.held c.load.new.self) (g.F.Shelf.failed_loads c.load.new.self) (g.F.Shelf.failed_stores c.load.new.self) (standing left last reads (g.O.Sink.written c.args.output.now) (g.O.Sink.faults c.args.output.now))) c.unloaded.result.schedule c.unloaded.result.status c.args.name.now (record { held = c.load.ensures.same; stores = c.load.ensures.stores })
+    recording_unloaded (call_of words (devices (g.F.Shelf.held c.args.shelf.now) (g.F.Shelf.failed_loads c.args.shelf.now) (g.F.Shelf.failed_stores c.args.shelf.now) (standing left last reads (g.O.Sink.written c.args.output.now) (g.O.Sink.faults c.args.output.now))) (devices (g.F.Shelf.held c.load.new.self) (g.F.Shelf.failed_loads c.load.new.self) (g.F.Shelf.failed_stores c.load.new.self) (standing left last reads (g.O.Sink.written c.args.output.now) (g.O.Sink.faults c.args.output.now))) c.unloaded.result.schedule c.unloaded.result.status) c.args.name.now (record { held = c.load.ensures.same; stores = c.load.ensures.stores })
     (record { no_run = c.unloaded.ensures.schedule; written = refl }) c.in-Err.error (inr (query_of c.args.query.now, asks)) (λ e. c.load.ensures.failed (c.in-Err.is ∙ ap Err e)) c.unloaded.ensures.status
 
 pub returns-in-Ok : goal.returns-in-Ok
 returns-in-Ok g c = λ words left last reads asks.
     let loads : Loads (g.F.Shelf.held c.args.shelf.now) c.args.name.now most_recording c.deref.result.now = rw c.deref.ensures.value c.in-Ok.ensures.bytes in
-    query_done c.args.name.now (query_of c.args.query.now) c.deref.result.now asks loads (record { held = c.load.ensures.same; stores = c.load.ensures.stores }) refl
-    (subst (λ (h : List ℕ). Queries c.deref.result.now (query_of c.args.query.now) h (g.O.Sink.written c.args.output.now) (g.O.Sink.written c.tell_query.new.output) (g.O.Sink.faults c.args.output.now) (g.O.Sink.faults c.tell_query.new.output) c.tell_query.result) (sym c.new.ensures) c.tell_query.ensures)
+    query_done c.args.name.now (query_of c.args.query.now) c.deref.result.now asks loads (record { held = c.load.ensures.same; stores = c.load.ensures.stores }) refl c.tell_query.ensures

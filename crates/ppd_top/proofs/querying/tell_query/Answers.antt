@@ -1,9 +1,9 @@
-use Rattle.std.proofs.Common.{◌≡◌, refl, subst}
+use Rattle.std.proofs.Common.{◌≡◌, subst}
 use Rattle.ppd_top_query.specs.Queries.{query_of}
 use Rattle.ppd_codec_runs.specs.Recordings.{IsNotRecalled, IsRefusedBy}
 use Rattle.ppd_top.specs.Ran.Queries.{query_refused}
 use Rattle.ppd_top.specs.Top.{Finished}
-use Rattle.ppd_top.proofs.Queried.{told_by}
+use Rattle.ppd_top.proofs.Queried.{askable, told_by}
 use Rattle.ppd_top.proofs.querying.tell_query.Goals as goal
 
 pub returns-in-Err-Refused : goal.returns-in-Err-Refused
@@ -12,8 +12,11 @@ returns-in-Err-Refused g c =
     let value = c.deref.ensures.value in
     let line = c.in-Err-Refused.line-is in
     let e : c.deref.result.now ≡ c.in-Err-Refused.line.items = cc in
-    query_refused c.in-Err-Refused.line.items why refl
+    query_refused c.in-Err-Refused.line.items why c.new.ensures
     (subst (Finished (g.O.Sink.written c.args.output.now) (g.O.Sink.written c.finish.new.output) (g.O.Sink.faults c.args.output.now) (g.O.Sink.faults c.finish.new.output) c.finish.result 6) e c.finish.ensures.end)
 
 pub returns-in-Ok : goal.returns-in-Ok
-returns-in-Ok g c = told_by c.args.bytes.now (query_of c.args.query.now) (g.O.Sink.written c.args.output.now) (g.O.Sink.written c.tell.new.output) (g.O.Sink.faults c.args.output.now) (g.O.Sink.faults c.tell.new.output) c.tell.result c.in-Ok.recalled.recording c.in-Ok.ensures.ok c.tell.ensures
+returns-in-Ok g c = told_by c.args.bytes.now (query_of c.args.query.now) c.tell.result.schedule (g.O.Sink.written c.args.output.now) (g.O.Sink.written c.tell.new.output) (g.O.Sink.faults c.args.output.now) (g.O.Sink.faults c.tell.new.output) c.tell.result.status c.in-Ok.recalled.recording c.in-Ok.ensures.ok c.tell.ensures
+
+pub tell-requires-clause-askable : goal.tell-requires-clause-askable
+tell-requires-clause-askable g c κs within = askable c.args.bytes.now c.in-Ok.recalled c.in-Ok.ensures.ok c.in-Ok.ensures.together

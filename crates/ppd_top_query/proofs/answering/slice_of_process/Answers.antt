@@ -1,6 +1,5 @@
 use Rattle.std.proofs.Common.{[], ap, sym, ◌∙◌}
 use Rattle.ppd_top_query.specs.Queries.{asked_of}
-use Rattle.ppd_top_query.specs.Queries.Query.{Slice}
 use Rattle.ppd_session.specs.Questions.{process_named}
 use Rattle.ppd_session.specs.Sessions.{known_by}
 use Rattle.ppd_session.specs.Texts.{no_process}
@@ -9,7 +8,7 @@ use Rattle.ppd_top_query.proofs.answering.slice_of_process.Goals as goal
 
 pub returns-in_default : goal.returns-in_default
 returns-in_default c =
-    refused_reply (known_by c.args.past.now []) (Slice (asked_of c.args.asked.now)) no_process (no_process_refuses c.args.past.now (asked_of c.args.asked.now) (ap (process_named c.args.past.now.program.now) (sym c.as_bytes.ensures.value) ∙ (sym c.process_named.ensures ∙ c.in_default.is)))
+    refused_reply (known_by c.args.past.now []) (asked_of c.args.asked.now) no_process (no_process_refuses c.args.past.now (asked_of c.args.asked.now) (ap (process_named c.args.past.now.program.now) (sym c.as_bytes.ensures.value) ∙ (sym c.process_named.ensures ∙ c.in_default.is)))
     c.line_of.result c.line_of.ensures.text c.line_of.ensures.error
 
 pub returns-in_default-interval_there : goal.returns-in_default-interval_there

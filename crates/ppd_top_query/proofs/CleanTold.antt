@@ -1,0 +1,96 @@
+-- What is answered of an item of a recording with or without races.
+use Rattle.std.specs.Prelude.{IfErr, IfOk, Vec, codes, false, is_some, nat_lt, if◌then◌else◌}
+use Rattle.std.proofs.Common.{◌≡◌, ℕ, List, [], Bool, true, Option, Some, None, Result, Ok, Err, length, refl, ap, sym, ◌∙◌, subst}
+use Rattle.law_clean.specs.Answers.{CleanOr, unwritten}
+use Rattle.law_clean.specs.Search.{clean_by, cut_by, first_raced}
+use Rattle.ppd_ast.specs.declared.plan.Plan.{Plan}
+use Rattle.ppd_ast.specs.declared.program.Program.{Program}
+use Rattle.ppd_clean.specs.Answers.{IsCleanBy, IsFound, IsOrdered, is_begun_unclean}
+use Rattle.ppd_clean.specs.declared.clean.Clean.{Clean as GivenClean}
+use Rattle.ppd_clean.specs.declared.clean_error.CleanError.{CleanError}
+use Rattle.ppd_codec.specs.declared.recording.Recording.{Recording}
+use Rattle.ppd_codec_runs.specs.Recordings.{known_of}
+use Rattle.ppd_entry.specs.Entries.{entries_at}
+use Rattle.ppd_entry.specs.declared.entry.Logs.{Logs}
+use Rattle.ppd_flow_model.specs.Ends.{first_edge}
+use Rattle.ppd_flow_past.specs.SeenBy.{failed_at}
+use Rattle.ppd_flow_past.specs.declared.past.Past.{Past}
+use Rattle.ppd_graph.specs.Refusals.{AreOrdered}
+use Rattle.ppd_model.specs.HappenedBefore.{Before}
+use Rattle.ppd_model.specs.RecordedSets.{record_in}
+use Rattle.ppd_model.specs.declared.graph.NodeId.{NodeId}
+use Rattle.ppd_model.specs.declared.graph.Race.{Race}
+use Rattle.ppd_race.specs.Races.{races_of_logs}
+use Rattle.ppd_session.specs.Known.{Known, known_with}
+use Rattle.ppd_session.specs.Questions.{process_named}
+use Rattle.ppd_session.specs.Sessions.{known_by}
+use Rattle.ppd_session.specs.Texts.{intervals_at, no_process}
+use Rattle.ppd_session.specs.declared.reply.SessionError.{SessionError}
+use Rattle.ppd_session.specs.declared.reply.SessionError.TheVariants.{Diverged, Sets, Memory}
+use Rattle.ppd_top_query.specs.Queries.{Gives, ItemAsked, block_refusal, clean_of, clean_refusal, clean_text, process_refusal}
+use Rattle.ppd_top_query.specs.Queries.IsWritten.{refuses, answers, fails}
+use Rattle.ppd_top_query.specs.Queries.Query.{Clean}
+use Rattle.ppd_top_query.specs.Replies.{IsCleanItem, IsError, IsFoundClean, IsTextReply}
+
+-- ---- of a past with the parts of a recording
+
+abbrev pub Fails : Program → Plan → ℕ → Logs → List Race → (q k j p n : ℕ) → Type 0
+Fails program plan budget logs races q k j p n =
+    (is_begun_unclean (first_edge (entries_at logs q) k) (first_raced program plan budget logs (record_in logs) races q k j) ≡ false)
+    × ((m : ℕ) × (failed_at program plan budget (entries_at (cut_by program plan budget logs (record_in logs) races q k j (first_raced program plan budget logs (record_in logs) races q k j)) p) m ≡ Some n))
+
+abbrev pub Found : Program → Plan → ℕ → Logs → List Race → (q k j : ℕ) → Result GivenClean CleanError → Type 0
+Found program plan budget logs races q k j res = IsFound (Fails program plan budget logs races q k j) (clean_by program plan budget logs races q k j) res
+
+module _ (r : Recording) (past : Past) (program : past.program.now ≡ r.program) (plan : past.plan.now ≡ r.plan) (logs : past.logs.now ≡ r.logs) (budget : past.budget ≡ r.header.budget) where
+  pub ordered : AreOrdered r.program r.logs → IsOrdered past
+  ordered o a b =
+      o.acyclic a (subst (λ (l : Logs). Before r.program (record_in l) a a) logs (subst (λ (p : Program). Before p (record_in past.logs.now) a a) program b))
+
+  pub races_are : (races : List Race) → races ≡ (known_of r).races → races ≡ races_of_logs past.program.now past.logs.now
+  races_are races e = e ∙ (ap (λ (p : Program). races_of_logs p r.logs) (sym program) ∙ ap (λ (l : Logs). races_of_logs past.program.now l) (sym logs))
+
+  pub found_as : (races : List Race) → races ≡ (known_of r).races → (q k j : ℕ) (res : Result GivenClean CleanError) → IsCleanBy past races q k j res → IsFoundClean r q k j res
+  found_as races e q k j res h =
+      let a : Found r.program past.plan.now past.budget past.logs.now races q k j res = subst (λ (p : Program). Found p past.plan.now past.budget past.logs.now races q k j res) program h in
+      let b : Found r.program r.plan past.budget past.logs.now races q k j res = subst (λ (p : Plan). Found r.program p past.budget past.logs.now races q k j res) plan a in
+      let c : Found r.program r.plan r.header.budget past.logs.now races q k j res = subst (λ (n : ℕ). Found r.program r.plan n past.logs.now races q k j res) budget b in
+      let d : Found r.program r.plan r.header.budget r.logs races q k j res = subst (λ (l : Logs). Found r.program r.plan r.header.budget l races q k j res) logs c in
+      subst (λ (rs : List Race). Found r.program r.plan r.header.budget r.logs rs q k j res) e d
+
+  -- the intervals of a process are the same
+  pub there_as : (q n : ℕ) → nat_lt n (length (intervals_at (known_by past []) q)) ≡ nat_lt n (length (intervals_at (known_of r) q))
+  there_as q n = ap (λ (l : Logs). nat_lt n (length (intervals_at (known_with r.program r.plan r.header.budget l []) q))) logs
+
+-- ---- an interval that is there
+
+module _ (r : Recording) (q k j : ℕ) where
+  pub item_told : {A : Type 0} (x : CleanOr) (text : List ℕ) → clean_of r q k j ≡ x → clean_text r.program r.plan j x ≡ Some text → (res : Result (Vec ℕ A) SessionError) → IfOk res (λ t. t.items ≡ text) → IfErr res (λ e. e ≡ Memory) → IsCleanItem r q k j res
+  item_told x text is told (Ok t) h m = ap (clean_text r.program r.plan j) is ∙ (told ∙ ap Some (sym h))
+  item_told {A = A} x text is told (Err e) h m = by e m
+    where
+      by : (e : SessionError) → e ≡ Memory → IsCleanItem {A = A} r q k j (Err e)
+      by e is = subst (λ (s : SessionError). IsCleanItem {A = A} r q k j (Err s)) (sym is) tt
+
+-- ---- what is asked
+
+module _ (r : Recording) (a : ItemAsked) where
+  refused_text : {A : Type 0} (line : List ℕ) → clean_refusal (known_of r) a ≡ Some line → (res : Result (Vec ℕ A) SessionError) → IfOk res (λ t. t.items ≡ line) → IfErr res (λ e. e ≡ Memory) → IsTextReply r (Clean a) res
+  refused_text line is (Ok t) h m = refuses t.items (is ∙ ap Some (sym h))
+  refused_text line is (Err e) h m = subst (λ (s : SessionError). IsError (Gives r (Clean a)) r.program s) (sym m) tt
+
+  pub no_process_told : {A : Type 0} → process_named r.program a.process ≡ None → (res : Result (Vec ℕ A) SessionError) → IfOk res (λ t. t.items ≡ no_process) → IfErr res (λ e. e ≡ Memory) → IsTextReply r (Clean a) res
+  no_process_told none = refused_text no_process (ap (λ o. process_refusal o (λ q. block_refusal (known_of r) q a.interval None)) none)
+
+  module _ (q : ℕ) (named : process_named r.program a.process ≡ Some q) where
+    at_process : clean_refusal (known_of r) a ≡ block_refusal (known_of r) q a.interval None
+    at_process = ap (λ o. process_refusal o (λ q. block_refusal (known_of r) q a.interval None)) named
+
+    pub no_block_told : {A : Type 0} → nat_lt a.interval (length (intervals_at (known_of r) q)) ≡ false → (res : Result (Vec ℕ A) SessionError) → IfOk res (λ t. t.items ≡ codes "? block\n") → IfErr res (λ e. e ≡ Memory) → IsTextReply r (Clean a) res
+    no_block_told gone = refused_text (codes "? block\n") (at_process ∙ ap (λ (b : Bool). if b then None else Some (codes "? block\n")) gone)
+
+    pub item_reply : {A : Type 0} → nat_lt a.interval (length (intervals_at (known_of r) q)) ≡ true → (res : Result (Vec ℕ A) SessionError) → IsCleanItem r q a.interval a.item res → IsTextReply r (Clean a) res
+    item_reply there (Ok t) h = answers [] t.items (at_process ∙ ap (λ (b : Bool). if b then None else Some (codes "? block\n")) there) (refl, (q, named, h))
+    item_reply there (Err (Diverged failure)) h = fails (Diverged failure) (at_process ∙ ap (λ (b : Bool). if b then None else Some (codes "? block\n")) there) (q, named, h)
+    item_reply there (Err (Sets failure)) h = fails (Sets failure) (at_process ∙ ap (λ (b : Bool). if b then None else Some (codes "? block\n")) there) (q, named, h)
+    item_reply there (Err Memory) h = tt

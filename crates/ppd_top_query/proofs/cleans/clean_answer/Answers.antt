@@ -1,0 +1,6 @@
+use Rattle.ppd_top_query.specs.Queries.{asked_of}
+use Rattle.ppd_top_query.specs.Queries.Query.{Clean}
+use Rattle.ppd_top_query.proofs.cleans.clean_answer.Goals as goal
+
+pub returns : goal.returns
+returns g c = c.unscheduled.ensures c.args.recalled.now.recording (Clean (asked_of c.args.asked.now)) c.clean_of_process-text.ensures
