@@ -1,6 +1,6 @@
 #!/usr/bin/env python3
-"""Checks of the repository's own: HANDLES, where sources stand, their size and layout, and that no text
-leans on anything outside. Prints what is wrong and ends with status 1, or says that all holds."""
+"""Checks of the repository's own: HANDLES, where sources stand, their size and layout, that no text leans on
+anything outside, that documents are fresh, and the tests of tools/. Prints what is wrong and ends with status 1, or says that all holds."""
 import os
 import re
 import shutil
@@ -78,15 +78,16 @@ for name in NAMES:
             if f"crates/{file}" not in NAMES:
                 wrong.append(f"{name} names {file}, which is not there")
 
-# what docs/debugging.md shows of a source is what stands beside the source, which a case compares
-for name in NAMES:
-    if name.startswith("docs/debugging/") and name.endswith(".flow") and f"\n{text_of(name)}```\n" not in text_of("docs/debugging.md"):
-        wrong.append(f"docs/debugging.md shows something else than {name}")
-
 if subprocess.run([sys.executable, "tools/index_definitions.py", "--check"], check=False).returncode != 0:
     wrong.append("the index of docs/definitions.md is stale")
 if subprocess.run([sys.executable, "tools/crates_table.py", "--check"], check=False).returncode != 0:
     wrong.append("what docs/architecture.md and README.md say of the crates is stale")
+
+for name in NAMES:
+    if re.fullmatch(r"tools/test_\w+\.py", name):
+        done = subprocess.run([sys.executable, name], capture_output=True, text=True, check=False)
+        if done.returncode != 0:
+            wrong.append(f"{name} fails: {' '.join(done.stderr.strip().splitlines()[-1:])}")
 
 
 # an edit that must fail: each text that it replaces stands once in the file that it names
@@ -135,13 +136,39 @@ def as_content(source):
 
 
 cases = "".join(text_of(name) for name in NAMES if name.startswith("crates/test_cases/data/"))
+cases = "\n".join(line.rstrip() for line in cases.split("\n"))
 for name in NAMES:
-    if name.startswith("examples/") and name.endswith(".c"):
+    if name.startswith(("examples/", "docs/debugging/")) and name.endswith(".c"):
         source = text_of(name)
         data = f"crates/ppd/data/{os.path.basename(name)}"
         as_data = os.path.isfile(data) and text_of(data) == source
         if not as_data and f"\n{as_content(source)}" not in cases:
             wrong.append(f"{name} is neither a program's data nor in a file of cases")
+
+# the sessions of documents: what is typed and what is answered stand in files of cases, which are run
+TYPED = re.compile(r"(why|open|blocks|deps) .*|final|races|quit")
+
+
+def faults_of_session(lines):
+    command, typed, answered, faults = None, [], [], []
+    for line in [*lines, "$ "]:
+        if not line.startswith("$ "):
+            (typed if TYPED.fullmatch(line) else answered).append(line)
+            continue
+        # the calls of tools/recording.py are compared by its test
+        if command and not command.startswith("tools/recording.py"):
+            handed = re.match(r"printf '([^'>]*)' \|", command)
+            typed += handed[1].split("\\n")[:-1] if handed else []
+            for what, told in (("asks", typed), ("shows", answered)):
+                if told and "\n" + "".join(f"| {it}\n" for it in told) not in cases:
+                    faults.append(f"what `{command}` {what} stands in no case")
+        command, typed, answered = line[2:], [], []
+    return faults
+
+
+for name in ("README.md", "docs/commands.md", "docs/debugging.md", "examples/README.md"):
+    for session in re.findall(r"^```\n(\$ .*?)^```$", text_of(name), re.DOTALL | re.MULTILINE):
+        wrong += [f"{name}: {fault}" for fault in faults_of_session(session.splitlines())]
 
 for line in wrong:
     print(line)

@@ -1,6 +1,8 @@
 #!/usr/bin/env python3
-"""Writes the index at the end of docs/definitions.md anew: each rule that the document defines, the file that states it,
-and the code whose contracts cite that file. With --check it writes nothing, and status 1 says that the index is stale.
+"""Writes the tables of docs/definitions.md anew, which say of definitions what these say of themselves: under "The headline,
+word by word" those that the headline of README.md speaks of, in its order, each with its own comment, its file and line,
+and the call that promises it; under "Every file of definitions" each file in the specs/ of a crate with the comment at its
+head and the code whose contracts cite it first. With --check it writes nothing, and status 1 says that a table is stale.
 """
 import os
 import re
@@ -8,66 +10,187 @@ import sys
 
 TOP = os.path.dirname(os.path.dirname(os.path.abspath(__file__)))
 DOCUMENT = os.path.join(TOP, "docs", "definitions.md")
-TITLE = "## Index\n"
-RULE = re.compile(r"^\*\*([^*]+?)\.\*\* ?(.*)$")
-STATED = re.compile(r"`((?:ppd|law|rows|test)_[a-z_]+)/(specs/[A-Za-z/]+\.antt|src/[a-z_/]+\.rt)`")
-# how many files of code a row names at most
-MOST = 3
+WORDS, FILES = "## The headline, word by word\n", "## Every file of definitions\n"
+NEXT = re.compile(r"^## ", re.MULTILINE)
+
+# the words of the headline, and the definitions behind them: file, name, and the call or law that promises it
+HEADLINE = [
+    (
+        "every accepted program",
+        [
+            ("ppd_lex/specs/Tokens.antt", "IsTokens", "lex"),
+            ("ppd_parse/specs/Language.antt", "IsProgram", "parse"),
+            ("ppd_check/specs/Read.antt", "IsRead", "read_source"),
+            ("ppd_check/specs/Read.antt", "IsRefused", "read_source"),
+            ("ppd_blocks/specs/Blocks.antt", "plan_of", "partition"),
+        ],
+    ),
+    (
+        "every interleaving that the threads take",
+        [
+            ("ppd_sem/specs/Process.antt", "need_of", "look"),
+            ("ppd_sem/specs/Process.antt", "act", "feed"),
+            ("ppd_model/specs/World.antt", "enabled", "World::enabled"),
+            ("ppd_model/specs/World.antt", "step", "World::step"),
+            ("ppd_model/specs/Schedule.antt", "run", "World::drive"),
+            ("ppd_model/specs/Schedule.antt", "IsWhole", "run of ppd_run"),
+            ("ppd_top/specs/Top.antt", "IsWholeRun", "ppd"),
+        ],
+    ),
+    (
+        "exactly the conflicting pairs of internal edges that the recorded synchronization leaves unordered",
+        [
+            ("ppd_model/specs/Synchronizations.antt", "Sync", "graph"),
+            ("ppd_model/specs/Synchronizations.antt", "led_to", "paired"),
+            ("ppd_model/specs/Record.antt", "sync_record", "graph"),
+            ("ppd_model/specs/Record.antt", "SharedAccess", "reads, writes"),
+            ("ppd_model/specs/HappenedBefore.antt", "Before", "graph"),
+            ("ppd_model/specs/HappenedBefore.antt", "EdgeBefore", "before"),
+            ("ppd_model/specs/Races.antt", "is_race", "races"),
+            ("ppd_model/specs/Races.antt", "races", "ppd, races"),
+        ],
+    ),
+    (
+        "every schedule agreeing with that synchronization",
+        [
+            ("ppd_model/specs/Agreement.antt", "Agree", "agreeing_schedules"),
+            ("law_agreement/specs/Agreeing.antt", "AgreeingSchedulesHaveOneHistory", "agreeing_schedules"),
+            ("ppd_top/specs/Top.antt", "IsOfAgreeing", "ppd"),
+        ],
+    ),
+    (
+        "every value and flowback edge",
+        [
+            ("ppd_model/specs/FullTrace.antt", "full_trace", "full_trace"),
+            ("ppd_model/specs/FullTrace.antt", "parent_at", "full_trace"),
+            ("ppd_model/specs/Intervals.antt", "intervals", "index"),
+            ("ppd_model/specs/Intervals.antt", "items", "emulate"),
+            ("ppd_model/specs/FlowbackEdges.antt", "edges", "edges"),
+            ("ppd_model/specs/FlowbackEdges.antt", "last", "last"),
+            ("ppd_slice_model/specs/Reach.antt", "IsReach", "slice"),
+        ],
+    ),
+    (
+        "answered by re-executing single e-blocks",
+        [
+            ("ppd_model/specs/Logs.antt", "closed_logs", "World::close"),
+            ("ppd_emul_model/specs/Replay.antt", "replay", "emulate"),
+            ("law_replay/specs/Theorem/Laws.antt", "ReplaysGiveIntervals", "replays_give_intervals"),
+            ("ppd_flow/specs/Runs.antt", "GivesEdges", "edges"),
+            ("ppd_flow/specs/Runs.antt", "CostsEdges", "edges"),
+            ("ppd_model/specs/NearIntervals.antt", "near_intervals", "edges"),
+        ],
+    ),
+    (
+        "a clause of the top call, for `flow` and, of a stored recording, for `debug`",
+        [
+            ("ppd_top/specs/Top.antt", "out_of", "ppd"),
+            ("ppd_top/specs/Clauses.antt", "RanWhole", "ppd"),
+            ("ppd_codec/specs/Recordings.antt", "IsRecordingOf", "encode, decode"),
+            ("ppd_top/specs/Clauses.antt", "WasStored", "ppd"),
+            ("ppd_codec_runs/specs/Recordings.antt", "IsAccepted", "recall"),
+            ("ppd_top/specs/Clauses.antt", "WasAnswered", "ppd"),
+        ],
+    ),
+]
 
 
-def rules_of(text):
-    """Name of each rule with the crate and file that state it."""
-    lines = text.splitlines()
-    for number, line in enumerate(lines):
-        rule = RULE.match(line)
-        if rule:
-            stated = STATED.search(" ".join([rule[2], *lines[number + 1 : number + 2]]))
-            if stated:
-                yield rule[1], stated[1], stated[2]
+def lines_of(name):
+    with open(os.path.join(TOP, "crates", name), encoding="utf-8") as file:
+        return file.read().splitlines()
 
 
-def sources():
+def as_cell(comment):
+    said = " ".join(line.removeprefix("--").strip() for line in comment).replace("|", "\\|")
+    return said[:1].upper() + said[1:].rstrip(".")
+
+
+def defined(name, word):
+    """The line of a definition, and its own comment."""
+    lines = lines_of(name)
+    declared = re.compile(rf"(?:abbrev pub|pub record|pub data) {re.escape(word)}\b")
+    number = next((n for n, line in enumerate(lines) if declared.match(line)), None)
+    if number is None:
+        sys.exit(f"index_definitions.py: {name} has no definition {word}")
+    first = number
+    while first and lines[first - 1].startswith("--") and not lines[first - 1].startswith("-- ----"):
+        first -= 1
+    if first == number:
+        sys.exit(f"index_definitions.py: {word} of {name} has no comment")
+    return number + 1, as_cell(lines[first:number])
+
+
+def headline():
+    for words, rows in HEADLINE:
+        yield f"\n*{words}*\n\n| Definition | Where | Promised by |\n|---|---|---|\n"
+        for name, word, call in rows:
+            number, said = defined(name, word)
+            yield f"| `{word}`: {said} | `{name}` {number} | `{call}` |\n"
+
+
+def code():
     """Each file of code with its text."""
     found = {}
     for crate in sorted(os.listdir(os.path.join(TOP, "crates"))):
         for at, _, names in os.walk(os.path.join(TOP, "crates", crate, "src")):
             for name in sorted(names):
-                place = os.path.relpath(os.path.join(at, name), TOP)
                 if name.endswith(".rt"):
-                    with open(os.path.join(TOP, place), encoding="utf-8") as file:
-                        found[place] = file.read()
+                    place = os.path.relpath(os.path.join(at, name), os.path.join(TOP, "crates"))
+                    found[place] = "\n".join(lines_of(place))
     return found
 
 
-def code_of(crate, stated, texts):
-    """The files of code that cite the definitions of a file: those of its own crate first."""
-    if stated.startswith("src/"):
-        return []
-    module = f"{crate}.{os.path.splitext(stated)[0].replace('/', '.')}."
-    citing = [place for place, text in texts.items() if f"Rattle.{module}" in text]
-    own = sorted(place for place in citing if place.startswith(f"crates/{crate}/"))
-    others = sorted(place for place in citing if place not in own)
-    return [place.removeprefix("crates/") for place in own + others]
+def cited_by(crate, name, texts):
+    """The first file of code that cites the definitions of a file: one of its own crate before others."""
+    module = f"Rattle.{crate}.{os.path.splitext(name)[0].replace('/', '.')}."
+    citing = [place for place, text in texts.items() if module in text]
+    own = [place.removeprefix(f"{crate}/") for place in citing if place.startswith(f"{crate}/")]
+    first = (sorted(own) or sorted(citing))[:1]
+    return f"`{first[0]}`" if first else ""
 
 
-def index_of(text):
-    texts = sources()
-    rows = ["| Rule | Stated in | Cited by the contracts of |", "|---|---|---|"]
-    for name, crate, stated in sorted(rules_of(text), key=lambda rule: (rule[0].lower(), rule[1])):
-        code = code_of(crate, stated, texts)
-        said = ", ".join(f"`{place}`" for place in code[:MOST]) + (" and more" if len(code) > MOST else "")
-        rows.append(f"| {name} | `{crate}/{stated}` | {said or 'none: by other definitions'} |")
-    return "\n".join(rows) + "\n"
+def files():
+    texts = code()
+    for crate in sorted(os.listdir(os.path.join(TOP, "crates"))):
+        specs = os.path.join(TOP, "crates", crate, "specs")
+        found = [
+            os.path.relpath(os.path.join(at, name), os.path.dirname(specs))
+            for at, _, names in os.walk(specs)
+            for name in names
+            if name.endswith(".antt") and name != "Lib.antt"
+        ]
+        if not found or crate.startswith(("rows_", "test_")):
+            continue
+        yield f"\n### `{crate}`\n\n| File | What it defines | Cited by |\n|---|---|---|\n"
+        for name in sorted(found):
+            head = []
+            for line in lines_of(f"{crate}/{name}"):
+                if not line.startswith("--"):
+                    break
+                head.append(line)
+            short = name.removeprefix("specs/").removesuffix(".antt")
+            yield f"| `{short}` | {as_cell(head)} | {cited_by(crate, name, texts)} |\n"
+
+
+def with_part(text, title, part):
+    """The text with what stands under a heading, from its first table on, in place of what stood there."""
+    before, found, after = text.partition(title)
+    if not found:
+        sys.exit(f"index_definitions.py: docs/definitions.md has no heading {title.strip()}")
+    end = NEXT.search(after)
+    rest = after[end.start() :] if end else ""
+    kept = after[: end.start() if end else None].partition("\n<!-- made by tools/index_definitions.py -->\n")[0]
+    made = "".join(part)
+    return f"{before}{title}{kept}\n<!-- made by tools/index_definitions.py -->\n{made}" + (f"\n{rest}" if rest else "")
 
 
 def main():
     with open(DOCUMENT, encoding="utf-8") as file:
         text = file.read()
-    body = text.split(TITLE)[0].rstrip("\n")
-    new = f"{body}\n\n{TITLE}\n{index_of(body)}"
+    new = with_part(with_part(text, WORDS, headline()), FILES, files())
     if "--check" in sys.argv[1:]:
         if new != text:
-            print("docs/definitions.md: the index is stale: run tools/index_definitions.py", file=sys.stderr)
+            print("docs/definitions.md: a table is stale: run tools/index_definitions.py", file=sys.stderr)
             return 1
         return 0
     with open(DOCUMENT, "w", encoding="utf-8") as file:

@@ -3,11 +3,12 @@
 0.1 seconds or 50 megabytes at least and grew more than half faster than the work. It stands outside the gate: what it
 shows is what one machine took.
 
-    measure.py PROGRAM [--times N] [--only WORD] [--beside]
+    measure.py PROGRAM [--times N] [--only WORD] [--beside | --further]
 
 PROGRAM is the built program. Each figure is the least of N tries (default: 3). `--only` takes the rows whose name has
 the word. `--beside` measures nothing of this but drill 7 beside the C program of docs/performance, alone and under the
-sanitizers that are on the path. It needs GNU time as /usr/bin/time.
+sanitizers that are on the path. `--further` measures the commands that ask a recording once: `slice`, `whole`, `rerun`
+and `clean`. It needs GNU time as /usr/bin/time.
 
 Of `flow`: `run` is from the start until the threads of the processes have ended, told from the system's list of
 threads once a millisecond; `races` is from then to the first byte of the summary: index, graph and race search. `why`
@@ -292,6 +293,75 @@ def table(program, folder, times, only):
     print("\n".join(["", "Grew faster than the work:"] + (grown or ["nothing"])))
 
 
+# ---- what is asked of a recording once
+
+
+def one_race(turns):
+    """The pipeline of drill 7, in which two processes also write a cell in no order, when all else is done."""
+    lines = pipeline(3, turns, 7).rstrip("\n").split("\n")
+    lines[0] = "shared int total, last;"
+    for k in (0, 1):
+        at = next(n for n, line in enumerate(lines) if line.startswith(f"process p{k} "))
+        lines[at] = lines[at].removesuffix("}") + f"last = {k}; }}"
+    return "\n".join(lines) + "\n"
+
+
+def last_item(program, folder, process):
+    """The number of the last item of the first interval of a process."""
+    line = f"open {process} 0\n".encode()
+    words = [program, "debug", "source.rec"]
+    answers = subprocess.run(words, cwd=folder, input=line, stdout=subprocess.PIPE, check=True).stdout
+    return answers.decode().rstrip("\n").rsplit("\n", 1)[-1].split()[1]
+
+
+def once(number, turns):
+    """The calls on the recording of the pipeline of a drill, each with the name of its row."""
+    stages = 2 + number % 6
+    yield "slice of the last item", pipeline(stages, turns, number), ["slice", "source.rec", f"p{stages}", "0", "LAST"]
+    for workers in ("1", "4"):
+        words = ["whole", "--workers", workers, "source.rec"]
+        yield f"whole, workers {workers}", pipeline(stages, turns, number), words
+    yield "rerun", pipeline(stages, turns, number), ["rerun", "source.rec"]
+    yield "clean of the first item", one_race(turns), ["clean", "source.rec", f"p{stages}", "0", "5"]
+
+
+def further_rows():
+    """Each row: its name, and its two sources with their size, their work and the words of the call."""
+    for number in (7,):
+        turns = 1000 * (1 + number % 20)
+        for (name, source, words), (_, half, _) in zip(once(number, turns), once(number, turns // 2)):
+            yield f"drill {number}, {name}", [("48000 syncs", 2, source, words), ("24000 syncs", 1, half, words)]
+    for workers in ("1", "4"):
+        words = ["whole", "--workers", workers, "source.rec"]
+        sources = [(f"{32 * t} steps", t, few(t), words) for t in (249_990, 124_995)]
+        yield f"16 processes, few, whole, workers {workers}", sources
+
+
+def further(program, folder, times, only):
+    print("| Row | Size | s | of all processors | MB | `run` s |\n|---|---|---|---|---|---|")
+    grown = []
+    for name, sources in further_rows():
+        if only and only not in name:
+            continue
+        found = []
+        for size, work, source, words in sources:
+            with open(os.path.join(folder, "source.c"), "w", encoding="utf-8") as file:
+                file.write(source)
+            run = [program, "run", "--budget", str(MOST), "source.c", "source.rec"]
+            ran, _ = least([whole(run, folder) for _ in range(times)])
+            item = last_item(program, folder, words[2]) if "LAST" in words else ""
+            call = [program] + [item if word == "LAST" else word for word in words]
+            best, peaks = least([whole(call, folder) for _ in range(times)])
+            cells = f"{best['whole']:.3f} | {best['worked']:.2f} | {peaks['flow']:.0f} | {ran['whole']:.3f}"
+            print(f"| {name} | {size} | {cells} |", flush=True)
+            found.append((work, best["whole"], peaks["flow"]))
+        (more, large, wide), (less, small, narrow) = found
+        for unit, big, little, least_big in (("s", large, small, 0.1), ("MB", wide, narrow, 50)):
+            if big >= least_big and big / little / (more / less) > 1.5:
+                grown.append(f"{name}: {unit} grew {big / little:.1f} times where the work doubled")
+    print("\n".join(["", "Grew faster than the work:"] + (grown or ["nothing"])))
+
+
 # ---- beside the sanitizers
 
 
@@ -325,11 +395,14 @@ def main():
     parser.add_argument("--times", type=int, default=3, help="how often each call is made (default: 3)")
     parser.add_argument("--only", default="", help="a word in the names of the rows to measure")
     parser.add_argument("--beside", action="store_true", help="drill 7 beside the C program and the sanitizers")
+    parser.add_argument("--further", action="store_true", help="the commands that ask a recording once")
     given = parser.parse_args()
     program = os.path.abspath(given.program)
     with tempfile.TemporaryDirectory() as folder:
         if given.beside:
             beside(program, folder, given.times)
+        elif given.further:
+            further(program, folder, given.times, given.only)
         else:
             table(program, folder, given.times, given.only)
     return 0
