@@ -306,18 +306,10 @@ def one_race(turns):
     return "\n".join(lines) + "\n"
 
 
-def last_item(program, folder, process):
-    """The number of the last item of the first interval of a process."""
-    line = f"open {process} 0\n".encode()
-    words = [program, "debug", "source.rec"]
-    answers = subprocess.run(words, cwd=folder, input=line, stdout=subprocess.PIPE, check=True).stdout
-    return answers.decode().rstrip("\n").rsplit("\n", 1)[-1].split()[1]
-
-
 def once(number, turns):
     """The calls on the recording of the pipeline of a drill, each with the name of its row."""
     stages = 2 + number % 6
-    yield "slice of the last item", pipeline(stages, turns, number), ["slice", "source.rec", f"p{stages}", "0", "LAST"]
+    yield "slice of item 21", pipeline(stages, turns, number), ["slice", "source.rec", f"p{stages}", "0", "21"]
     for workers in ("1", "4"):
         words = ["whole", "--workers", workers, "source.rec"]
         yield f"whole, workers {workers}", pipeline(stages, turns, number), words
@@ -349,9 +341,7 @@ def further(program, folder, times, only):
                 file.write(source)
             run = [program, "run", "--budget", str(MOST), "source.c", "source.rec"]
             ran, _ = least([whole(run, folder) for _ in range(times)])
-            item = last_item(program, folder, words[2]) if "LAST" in words else ""
-            call = [program] + [item if word == "LAST" else word for word in words]
-            best, peaks = least([whole(call, folder) for _ in range(times)])
+            best, peaks = least([whole([program, *words], folder) for _ in range(times)])
             cells = f"{best['whole']:.3f} | {best['worked']:.2f} | {peaks['flow']:.0f} | {ran['whole']:.3f}"
             print(f"| {name} | {size} | {cells} |", flush=True)
             found.append((work, best["whole"], peaks["flow"]))
