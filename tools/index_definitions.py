@@ -1,8 +1,9 @@
 #!/usr/bin/env python3
-"""Writes the tables of docs/definitions.md anew, which say of definitions what these say of themselves: under "The headline,
-word by word" those that the headline of README.md speaks of, in its order, each with its own comment, its file and line,
-and the call that promises it; under "Every file of definitions" each file in the specs/ of a crate with the comment at its
-head and the code whose contracts cite it first. With --check it writes nothing, and status 1 says that a table is stale.
+"""Writes the table of docs/definitions.md anew, which says of definitions what these say of themselves: those that the
+headline of README.md speaks of, in its order, each with its own comment, its file and line, the call that promises it, and
+whether the clauses of the top call reach it, by way of other definitions. With --check it writes nothing, and status 1
+says that the table is stale. With --files it prints each file of definitions in the specs/ of a crate with the comment at
+its head and the code whose contracts cite it first.
 """
 import os
 import re
@@ -10,8 +11,11 @@ import sys
 
 TOP = os.path.dirname(os.path.dirname(os.path.abspath(__file__)))
 DOCUMENT = os.path.join(TOP, "docs", "definitions.md")
-WORDS, FILES = "## The headline, word by word\n", "## Every file of definitions\n"
+WORDS = "## The headline, word by word\n"
 NEXT = re.compile(r"^## ", re.MULTILINE)
+
+# where the contract of the top call stands
+CLAUSES = [("ppd_top.specs.Clauses", "IsOutcome"), ("ppd_top.specs.Clauses", "ReadsNothing")]
 
 # the words of the headline, and the definitions behind them: file, name, and the call or law that promises it
 HEADLINE = [
@@ -120,12 +124,73 @@ def defined(name, word):
     return number + 1, as_cell(lines[first:number])
 
 
+DECLARED = re.compile(r"(?:abbrev pub|unfoldable pub|pub record|pub data|abbrev|unfoldable|record|data) (\w+)")
+USED = re.compile(r"^(?:pub )?use Rattle\.([\w.]+?)(?:\.\{([^}]*)\}| as (\w+))?$", re.MULTILINE)
+WORD = re.compile(r"(?<![\w.])([^\W\d]\w*)(?:\.([^\W\d]\w*))?")
+
+
+class Module:
+    """A file of definitions: the text of each, and what its names mean: a module with the name there, or None for all."""
+
+    def __init__(self, text):
+        text = re.sub(r"--.*", "", text)
+        self.texts, self.names = {}, {}
+        for module, listed, alias in USED.findall(re.sub(r"\{[^}]*\}", lambda it: " ".join(it[0].split()), text)):
+            for it in listed.split(",") if listed else []:
+                name, _, other = it.strip().partition(" as ")
+                self.names[other.strip() or name] = (module, name)
+            if alias or not listed:
+                self.names[alias or module.rpartition(".")[2]] = (module, None)
+        word = None
+        for line in text.splitlines():
+            declared = DECLARED.match(line)
+            if declared or line.startswith(("use ", "pub use ", "pub mod ")):
+                word = declared and declared[1]
+            if word:
+                self.texts[word] = self.texts.get(word, "") + line + "\n"
+
+    def cited(self, word):
+        """What a definition names: modules with their definitions."""
+        for name, part in WORD.findall(self.texts[word]):
+            module, named = self.names.get(name, ("", name))
+            if named is None and part:
+                yield module, part
+            elif named is not None:
+                yield module, named
+
+
+def reached():
+    """The definitions that the clauses of the top call name, and all that these name."""
+    modules, found, todo = {}, set(), list(CLAUSES)
+
+    def module_at(name):
+        if name not in modules:
+            place = os.path.join(TOP, "crates", name.replace(".", "/") + ".antt")
+            modules[name] = Module(open(place, encoding="utf-8").read()) if os.path.isfile(place) else None
+        return modules[name]
+
+    while todo:
+        module, word = todo.pop()
+        texts = module_at(module)
+        if (module, word) in found or texts is None:
+            continue
+        if word in texts.texts:
+            found.add((module, word))
+            todo += [(other or module, name) for other, name in texts.cited(word)]
+        elif word in texts.names:
+            other, name = texts.names[word]
+            todo.append((other, name or word))
+    return found
+
+
 def headline():
+    found = reached()
     for words, rows in HEADLINE:
-        yield f"\n*{words}*\n\n| Definition | Where | Promised by |\n|---|---|---|\n"
+        yield f"\n*{words}*\n\n| Definition | Where | Promised by | In `ppd` |\n|---|---|---|---|\n"
         for name, word, call in rows:
             number, said = defined(name, word)
-            yield f"| `{word}`: {said} | `{name}` {number} | `{call}` |\n"
+            known = "yes" if (name.removesuffix(".antt").replace("/", "."), word) in found else "no"
+            yield f"| `{word}`: {said} | `{name}` {number} | `{call}` | {known} |\n"
 
 
 def code():
@@ -187,7 +252,10 @@ def with_part(text, title, part):
 def main():
     with open(DOCUMENT, encoding="utf-8") as file:
         text = file.read()
-    new = with_part(with_part(text, WORDS, headline()), FILES, files())
+    if "--files" in sys.argv[1:]:
+        print("".join(files()).lstrip("\n"), end="")
+        return 0
+    new = with_part(text, WORDS, headline())
     if "--check" in sys.argv[1:]:
         if new != text:
             print("docs/definitions.md: a table is stale: run tools/index_definitions.py", file=sys.stderr)
