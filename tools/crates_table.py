@@ -1,8 +1,7 @@
 #!/usr/bin/env python3
 """Writes what docs/architecture.md says of each crate anew, under its heading "Each crate": a table for each group of
-crates.txt with each crate's name, the first sentence of its root file, and the crates that it stands on, without those
-on which another one of these stands; and the count of crates in README.md. With --check it writes nothing, and status 1
-says that one of both is stale. With --print it prints the tables.
+crates.txt with each crate's name and the first sentence of its root file; and the count of crates in README.md. With
+--check it writes nothing, and status 1 says that one of both is stale. With --print it prints the tables.
 """
 import os
 import re
@@ -12,8 +11,7 @@ TOP = os.path.dirname(os.path.dirname(os.path.abspath(__file__)))
 DOCUMENT, README = os.path.join(TOP, "docs", "architecture.md"), os.path.join(TOP, "README.md")
 TITLE = "## Each crate\n"
 HEAD = """
-By `crates.txt` and the first sentence of each root file, `tools/crates_table.py` writes these tables. A crate that
-stands on another one stands on all that the other stands on; only the uppermost are named. `crates.txt` has all.
+By the first sentence of each root file, `tools/crates_table.py` writes these tables.
 """
 COUNT = re.compile(r"\b\d+ crates\b")
 
@@ -24,14 +22,14 @@ def text_of(name):
 
 
 def groups():
-    """The groups of crates.txt: what it says of each, and its crates with what each names."""
+    """The groups of crates.txt: what it says of each, and its crates."""
     found = []
     for line in text_of(os.path.join(TOP, "crates.txt")).splitlines():
         if line.startswith("#"):
-            found.append((line.strip("# "), {}))
-        head, colon, names = line.split("#")[0].partition(":")
+            found.append((line.strip("# "), []))
+        head, colon, _ = line.split("#")[0].partition(":")
         if colon:
-            found[-1][1][head.split()[0]] = names.split()
+            found[-1][1].append(head.split()[0])
     return [(said, crates) for said, crates in found if crates]
 
 
@@ -49,36 +47,15 @@ def sentence_of(crate):
     return said[1]
 
 
-def all_below(named):
-    """For each crate all that it stands on."""
-    below = {}
-
-    def find(crate):
-        if crate not in below:
-            below[crate] = set()
-            for other in named.get(crate, []):
-                below[crate] |= {other} | find(other)
-        return below[crate]
-
-    for crate in named:
-        find(crate)
-    return below
-
-
 def tables():
-    """The tables, one for each group."""
+    """The tables, one for each group, and how many crates they have."""
     found = groups()
-    named = {crate: names for _, crates in found for crate, names in crates.items()}
-    below = all_below(named)
     parts = []
     for said, crates in found:
-        rows = [f"### {said.split(':')[0].rstrip('.')}", "", "| Crate | What it is | Stands on |", "|---|---|---|"]
-        for crate, names in crates.items():
-            upper = [it for it in names if not any(it in below.get(other, ()) for other in names if other != it)]
-            stands = ", ".join(f"`{it}`" for it in upper)
-            rows.append(f"| `{crate}` | {sentence_of(crate)} | {stands or 'none'} |")
+        rows = [f"### {said.split(':')[0].rstrip('.')}", "", "| Crate | What it is |", "|---|---|"]
+        rows += [f"| `{crate}` | {sentence_of(crate)} |" for crate in crates]
         parts.append("\n".join(rows) + "\n")
-    return "\n".join(parts), len(named)
+    return "\n".join(parts), sum(len(crates) for _, crates in found)
 
 
 def main():
