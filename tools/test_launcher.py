@@ -79,6 +79,8 @@ class LauncherTest(unittest.TestCase):
         self.write(".built/status", "3")
         self.assertEqual(self.call("flow", "none.c"), (3, "flow none.c\n", ""))
         self.assertEqual(self.call("flow", "none.c", at_terminal=True), (3, "flow none.c\n", "ppd: there is no file none.c"))
+        said = self.call("whole", "--workers", "2", "none.rec", at_terminal=True)[2]
+        self.assertEqual(said, "ppd: there is no file none.rec")
         said = self.call("flow", "--budget", "5", "a.c", at_terminal=True)[2]
         self.assertEqual(said, "ppd: a.c or the input could not be read to its end")
         self.write(".built/status", "4")
