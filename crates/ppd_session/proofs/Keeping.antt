@@ -1,27 +1,21 @@
 -- Kept blocks after each call of the cache, and after blocks were asked for.
-use Rattle.std.specs.Prelude.{Contains, OnErr, OnOk, is_some, nat_lt, if◌then◌else◌}
+use Rattle.std.specs.Prelude.{Contains, OnErr, OnOk, if◌then◌else◌}
 use Rattle.std.specs.Borrow.{Bor}
 use Rattle.std.specs.Map.{lookup, lookup_entry, remove_entry}
 use Rattle.std.specs.Option.{option_copied, option_map_or}
 use Rattle.std.proofs.Common.{◌≡◌, ℕ, zero, suc, ◌+◌, ◌-◌, ◌<◌, ◌≤◌, Bool, true, false, ◌&&◌, nat_eq, ◌⊎◌, arith, List, [], ◌∷◌, ◌++◌, length, take, Option, Some, None, Result, Ok, Err, refl, ap, ap₂, sym, ◌∙◌, subst, inl, inr}
-use Rattle.std.proofs.lemmas.Bool.{le-ltb, lt-ltb}
 use Rattle.std.proofs.lemmas.Bool.Decides.{nat_tests}
 use Rattle.lru.specs.LruCache.{LruCache, lru_cache, promoted, put_entries}
 use Rattle.lru.proofs.CallerLemmas.{Contains-lookup, Contains-lookup_entry, Contains-promoted, Contains-take}
-use Rattle.lru.proofs.Splits.{Contains-cons, Contains-nil}
-use Rattle.ppd_flow_past.specs.declared.past.Past.{Past}
-use Rattle.ppd_flow_shared.specs.SharedCells.{last_edge}
-use Rattle.ppd_flow_shared.specs.declared.last.LastEdge.{LastEdge}
-use Rattle.ppd_index.specs.Indexes.{rows_at}
+use Rattle.lru.proofs.Splits.{Contains-cons}
 use Rattle.ppd_model.specs.declared.flow.Item.{Item}
-use Rattle.ppd_model.specs.declared.graph.Race.{Race}
 use Rattle.ppd_session.specs.declared.place.Place.{Place}
 use Rattle.ppd_session.specs.declared.question.Opening.{Opening}
 use Rattle.ppd_session.specs.declared.question.Question.{Question}
-use Rattle.ppd_session.specs.Keeping.{AreAsked, AreAskedInPart, IsAsked, IsKeptNow, Keeping, in_front, is_place, kept_of, none_kept, with_block}
+use Rattle.ppd_session.specs.Keeping.{AreAsked, AreAskedInPart, IsAsked, IsKeptNow, Keeping, in_front, is_place, kept_of, with_block}
 use Rattle.ppd_session.specs.Known.{Known, of_cells, unless_raced}
-use Rattle.ppd_session.specs.Sessions.{AreTold, SessionState, block_at, block_of, blocks_of, last_block, opened_block, place_of}
-use Rattle.ppd_session.specs.Texts.{intervals_at, is_final, opening_of, told_at}
+use Rattle.ppd_session.specs.Sessions.{AreTold, SessionState, block_at, blocks_of, opened_block}
+use Rattle.ppd_session.specs.Texts.{is_final, opening_of, told_at}
 
 abbrev pub Blocks : Type 0
 Blocks = LruCache Place (List Item)
@@ -194,53 +188,12 @@ module _ (x : Known) where
   told_after (Ok y) os old new told a part = are_told os old new told a
   told_after (Err e) os old new told a part = are_told (take part.0 os) old new told part.1
 
-  pub none_told : (kept : Keeping) (most : ℕ) → kept ≡ none_kept most → AreTold x kept.blocks
-  none_told kept most is =
-      subst (λ (k : Keeping). AreTold x k.blocks) (sym is) (λ place items h. absurd (Contains-nil (place, items) h))
-
-  -- ---- which block
-
-  abbrev count : ℕ → ℕ
-  count q = length (intervals_at x q)
-
-  pub block_there : (o : Option ℕ) (q k i : ℕ) (r : Option ℕ) → o ≡ Some q → r ≡ Some i → is_some r ≡ nat_lt k (count q) → i ≡ k
-      → Some (place_at q i) ≡ block_at x o k
-  block_there o q k i r named found known same =
-      let t : nat_lt k (count q) ≡ true = sym known ∙ ap is_some found in
-      ap (λ j. Some (place_at q j)) same
-      ∙ (sym (ap (λ (b : Bool). if b then Some (place_at q k) else None) t) ∙ sym (ap (λ (p : Option ℕ). block_at x p k) named))
-
-  pub block_missing : (o : Option ℕ) (q k : ℕ) (r : Option ℕ) → o ≡ Some q → r ≡ None → is_some r ≡ nat_lt k (count q)
-      → None ≡ block_at x o k
-  block_missing o q k r named found known =
-      let f : nat_lt k (count q) ≡ false = sym known ∙ ap is_some found in
-      sym (ap (λ (b : Bool). if b then Some (place_at q k) else None) f) ∙ sym (ap (λ (p : Option ℕ). block_at x p k) named)
-
-module _ (past : Past) (c : ℕ) where
-  abbrev rows : LastEdge → ℕ
-  rows l = length (rows_at past.index.now.tables l.edge.process)
-
-  pub no_edge : last_edge past c ≡ None → None ≡ last_block past c
-  no_edge is = sym (ap (block_of past) is)
-
-  pub edge_there : (l : LastEdge) → last_edge past c ≡ Some l → l.interval < rows l → Some (place_of l) ≡ last_block past c
-  edge_there l is lt =
-      sym (ap (block_of past) is ∙ ap (λ (b : Bool). if b then Some (place_of l) else None) (lt-ltb l.interval (rows l) lt))
-
-  pub edge_missing : (l : LastEdge) → last_edge past c ≡ Some l → rows l ≤ l.interval → None ≡ last_block past c
-  edge_missing l is le =
-      sym (ap (block_of past) is ∙ ap (λ (b : Bool). if b then Some (place_of l) else None) (le-ltb l.interval (rows l) le))
-
 -- a question that opens a block asks for this one
 pub blocks_opened : (s : SessionState) (q : Question) (o : Opening) → is_final q ≡ false → opening_of q ≡ Some o
     → unless_raced s.known.races (block_at s.known o.process o.interval ∷ []) ≡ blocks_of s q
 blocks_opened s q o other is =
     sym (ap (λ (b : Bool). unless_raced s.known.races (if b then s.last_blocks else opened_block s.known (opening_of q))) other
     ∙ ap (λ (p : Option Opening). unless_raced s.known.races (opened_block s.known p)) is)
-
-pub unless_none : {A : Type 0} (rs : List Race) → ◌≡◌ {A = List A} [] (unless_raced rs [])
-unless_none [] = refl
-unless_none (r ∷ rs) = refl
 
 pub on_err : {T E P : Type 0} (r : Result T E) → P → OnErr r P
 on_err (Ok x) p = tt

@@ -1,5 +1,5 @@
 -- What is answered of the recording of a whole run, by the run itself.
-use Rattle.std.specs.Prelude.{◌≡◌, ℕ, List, [], Some, None, slice_get, ⊤}
+use Rattle.std.specs.Prelude.{◌≡◌, ℕ, List, [], Some, None, slice_get}
 use Rattle.ppd_ast.specs.declared.plan.Plan.{Plan}
 use Rattle.ppd_ast.specs.declared.program.Program.{Program}
 use Rattle.ppd_blocks.specs.Blocks.{plan_of}
@@ -21,18 +21,7 @@ use Rattle.ppd_top_query.specs.Queries.Query.{Slice, Whole, Rerun, Clean}
 use Rattle.ppd_top_query.specs.SlicesOfRuns.{IsSliceOfRun}
 use Rattle.ppd_whole.specs.WholeText.{whole_text}
 
--- without a race a slice that is not refused has what the flowback edges of the run reach; the whole trace is the text of
--- its full trace; and a run again is confirmed, by a schedule that agrees with it
-abbrev pub IsOfRun : Program → Plan → ℕ → List ℕ → Query → (schedule text : List ℕ) → Type 0
-IsOfRun program plan budget h (Slice a) schedule text =
-    slice_refusal (known_of_run program plan budget h) a ≡ None → IsSliceOfRun program plan budget h a text
-IsOfRun program plan budget h (Whole workers) schedule text =
-    text ≡ whole_text program (full_trace program plan budget h)
-IsOfRun program plan budget h Rerun schedule text = Agree program plan budget h schedule
-    × (text ≡ verdict_text program (verdict.Yes schedule))
-IsOfRun program plan budget h (Clean a) schedule text = ⊤
-
--- with races or without: of an item of an interval that is there this is what is to be answered by the run itself
+-- of an item of an interval that is there this is what is to be answered by the run itself
 abbrev pub IsCleanOfRun : Program → Plan → ℕ → List ℕ → ItemAsked → (text : List ℕ) → Type 0
 IsCleanOfRun program plan budget h a text =
     (q : ℕ) (x : Split) (i : Span) → process_named program a.process ≡ Some q
@@ -40,13 +29,24 @@ IsCleanOfRun program plan budget h a text =
     → slice_get x.spans a.interval ≡ Some i
     → clean_text program plan a.item (answer_of program plan budget h q a.interval a.item) ≡ Some text
 
--- so it is for each whole run of which the bytes are the recording; and the others for each without a race, and for each
--- schedule that agrees with it
+-- a slice that is not refused has what the flowback edges of the run reach; the whole trace is the text of its full
+-- trace; a run again is confirmed, by a schedule that agrees with it; and clean flowback is that of the run
+abbrev pub IsOfRun : Program → Plan → ℕ → List ℕ → Query → (schedule text : List ℕ) → Type 0
+IsOfRun program plan budget h (Slice a) schedule text =
+    slice_refusal (known_of_run program plan budget h) a ≡ None → IsSliceOfRun program plan budget h a text
+IsOfRun program plan budget h (Whole workers) schedule text =
+    text ≡ whole_text program (full_trace program plan budget h)
+IsOfRun program plan budget h Rerun schedule text = Agree program plan budget h schedule
+    × (text ≡ verdict_text program (verdict.Yes schedule))
+IsOfRun program plan budget h (Clean a) schedule text = IsCleanOfRun program plan budget h a text
+
+-- clean flowback is so of each whole run of which the bytes are the recording, with races or without; and the others of
+-- each without a race, and of each schedule that agrees with it
 abbrev pub IsOfRuns : List ℕ → Query → (schedule text : List ℕ) → Type 0
 IsOfRuns bytes (Clean a) schedule text =
     (source : List ℕ) (header : Header) (program : Program) (h : List ℕ)
     → IsRunRecorded source header program h bytes
-    → IsCleanOfRun program (plan_of program header.policy) header.budget h a text
+    → IsOfRun program (plan_of program header.policy) header.budget h (Clean a) schedule text
 IsOfRuns bytes query schedule text =
     (source : List ℕ) (header : Header) (program : Program) (h h' : List ℕ)
     → IsRunRecorded source header program h bytes → races program (plan_of program header.policy) header.budget h ≡ []
