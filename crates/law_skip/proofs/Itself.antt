@@ -1,5 +1,5 @@
 -- A process beside itself: what holds of its replay past a block holds of the process.
-use Rattle.std.proofs.Common.{◌≡◌, ℕ, ◌+◌, ◌<◌, ◌≤◌, ℤ, true, false, List, [], ◌∷◌, ◌++◌, length, Option, Some, None, refl, ap, ap₂, sym, subst, ◌∙◌, arith, append-nil, true≢false}
+use Rattle.std.proofs.Common.{◌≡◌, ℕ, ◌+◌, ◌<◌, ◌≤◌, ℤ, true, false, List, [], ◌∷◌, ◌++◌, length, Option, Some, None, refl, ap, ap₂, sym, subst, ◌∙◌, arith, append-nil, true≢false, inl, inr}
 use Rattle.std.proofs.lemmas.Bool.{le-leb, le-ltb}
 use Rattle.std.proofs.lemmas.Option.{none-some}
 use Rattle.std.specs.Prelude.{⊤, is_some, nat_lt, slice_get}
@@ -114,7 +114,7 @@ module _ (program : Program) (policy : Policy) (v : IsValid program) (p : ℕ)
   body : (b : Body) × (slice_get program.bodies (program.functions + p) ≡ Some b)
   body = slice_get_there program.bodies (program.functions + p) there
 
-  at : IsBodyThere program kind
+  pub at : IsBodyThere program kind
   at = (body.0, body.1, omega arith)
 
   found : block_of plan kind ≡ Some (or_zero (block_of plan kind))
