@@ -31,7 +31,6 @@ use Rattle.law_steps.specs.Course.{calls_of}
 use Rattle.law_steps.proofs.Course.Ending.{never_runs_out}
 use Rattle.law_steps.proofs.OpenBlocks.Planned.{process_found}
 use Rattle.law_replay.specs.Beside.Alone.{IsCrossing, IsKept}
-use Rattle.law_replay.specs.Beside.Held.{Among}
 use Rattle.law_replay.specs.Beside.Relation.{IsBeside, IsLast, IsSameIn, Stacked, at_base, called}
 use Rattle.law_replay.proofs.Beside.Filled.{filled_whole}
 use Rattle.law_replay.proofs.Beside.Framed.{framed}

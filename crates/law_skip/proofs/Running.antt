@@ -15,11 +15,11 @@ use Rattle.ppd_model.proofs.Changes.{change-at, change-else, some}
 use Rattle.ppd_model.specs.Intervals.{Span}
 use Rattle.ppd_model.specs.Marks.{Mark, opened, closed}
 use Rattle.ppd_model.specs.World.{change}
-use Rattle.law_replay.specs.Beside.Alone.{HasLeft, IsInside}
-use Rattle.law_replay.proofs.Facts.State.{IsState, act_state}
+use Rattle.law_replay.specs.Beside.Alone.{IsInside}
+use Rattle.law_replay.proofs.Facts.State.{IsState}
 use Rattle.law_steps.specs.OpenBlocks.Stack.{IsInOrder, stack}
 use Rattle.law_skip.specs.Skips.{BeginsBlock, IsGonePast}
-use Rattle.law_skip.proofs.Itself.{Beside, Inside, crossing, gone_past}
+use Rattle.law_skip.proofs.Itself.{Beside, Inside, crossing}
 use Rattle.law_skip.proofs.Seen.{Marks, begun, marks, seen}
 
 module _ (program : Program) (policy : Policy) (v : IsValid program) (p : ℕ)

@@ -1,5 +1,5 @@
 -- A step of a process: the intervals that run are crossed on, and one that it ends is gone past.
-use Rattle.std.proofs.Common.{◌≡◌, ℕ, suc, ◌+◌, ◌<◌, false, List, [], ◌∷◌, ◌++◌, length, Option, Some, None, refl, ap, ap₂, sym, subst, ◌∙◌, arith, inl, inr}
+use Rattle.std.proofs.Common.{◌≡◌, ℕ, suc, ◌+◌, ◌<◌, false, List, [], ◌∷◌, ◌++◌, length, Option, Some, None, refl, ap, sym, subst, ◌∙◌, arith, inl, inr}
 use Rattle.std.specs.Prelude.{drop}
 use Rattle.std.proofs.lemmas.List.{length-append}
 use Rattle.std.proofs.lemmas.Option.{none-some}
@@ -30,14 +30,13 @@ use Rattle.ppd_model.specs.Story.{unit_started}
 use Rattle.ppd_model.specs.Synchronizations.{sync_of}
 use Rattle.ppd_model.proofs.Items.{first_length, own_keeps, step_keeps}
 use Rattle.ppd_model.proofs.Statuses.{status_after}
-use Rattle.law_replay.specs.Beside.Alone.{HasLeft, IsInside}
 use Rattle.law_replay.proofs.Beside.Needs.{is_enter}
 use Rattle.law_replay.proofs.Coming.Shapes.{Shape, closes, ends, opens, passes, shape, stops}
 use Rattle.law_replay.proofs.Facts.State.{IsState, act_state}
 use Rattle.law_steps.specs.OpenBlocks.Stack.{IsInOrder, Moves, open_blocks, process_block, stack}
 use Rattle.law_steps.proofs.OpenBlocks.Stacks.{steps_move}
 use Rattle.law_skip.specs.Skips.{BeginsBlock, IsGonePast}
-use Rattle.law_skip.proofs.Itself.{Beside, Inside, begins_block, crossing, goes, gone_past, opens as opens_beside, past_itself}
+use Rattle.law_skip.proofs.Itself.{Inside, begins_block, crossing, goes, gone_past, opens as opens_beside, past_itself}
 use Rattle.law_skip.proofs.Running.{AreGonePast, AreRunning, IsLive, IsRight, Runs, Stays, past_more, past_on, past_own, run_back, run_deeper, run_on}
 use Rattle.law_skip.proofs.Seen.{Marks, begun, body_edges, body_seen, either_seen, first_changed, kept_seen, marks, new_seen, seen}
 

@@ -14,7 +14,7 @@ use Rattle.ppd_sem.specs.declared.proc.Proc.{Proc}
 use Rattle.ppd_sem.specs.Process.{act, started}
 use Rattle.ppd_model.specs.declared.tracing.Story.{Story}
 use Rattle.ppd_model.specs.declared.tracing.Taken.{Taken}
-use Rattle.ppd_model.specs.Intervals.{Span, Split, begun_split, spans_in, split_of, split_step, splits}
+use Rattle.ppd_model.specs.Intervals.{Split, begun_split, spans_in, split_of, split_step, splits}
 use Rattle.ppd_model.specs.LocalTags.{AreOwn}
 use Rattle.ppd_model.specs.States.{act_on}
 use Rattle.ppd_model.specs.Story.{own_steps, story}
