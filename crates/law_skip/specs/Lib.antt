@@ -1,0 +1,2 @@
+-- What it is to go past a block without running it.
+pub mod Skips
