@@ -10,7 +10,7 @@ use Rattle.ppd_flow_past.specs.declared.past.Past.{Past}
 use Rattle.ppd_flow_shared.specs.SharedCells.{IsLastFound, answer_of, seens_in}
 use Rattle.ppd_flow.specs.Answers.{IsEdges, answer_if}
 use Rattle.ppd_flow.specs.Missing.{IsCauseOfSets, write_at}
-use Rattle.law_flow_missing.specs.Missing.{MissingWritesAreTold}
+use Rattle.law_flow_missing.proofs.MissingWrites.{missing_writes_are_told}
 
 module _ (q n c : ℕ) where
   same_write : (m : Missing) → m.process ≡ q → m.entry ≡ n → m.cell ≡ c → m ≡ write_at q n c
@@ -31,22 +31,22 @@ module _ (q n c : ℕ) where
   missed_edges None e = absurd (cc e)
   missed_edges (Some r) e = ap Some (missed r e)
 
-pub edges_missed : MissingWritesAreTold → (past : Past) (p k j before after : ℕ) (r : Result (List FlowEdge) FlowError)
+pub edges_missed : (past : Past) (p k j before after : ℕ) (r : Result (List FlowEdge) FlowError)
     → IsEdges past p k j before after r → IsCauseOfSets past r
-edges_missed law past p k j before after (Err (Sets q n c)) f = λ indexed.
-    (law past.program.now past.plan.now past.logs.now (seens_in past) indexed).edges p k j (write_at q n c)
+edges_missed past p k j before after (Err (Sets q n c)) f = λ indexed.
+    (missing_writes_are_told past.program.now past.plan.now past.logs.now (seens_in past) indexed).edges p k j (write_at q n c)
     (missed_edges q n c (found_edges past.program.now past.plan.now past.logs.now (seens_in past) p k j) f.1)
-edges_missed law past p k j before after (Err (Diverged q n)) f = tt
-edges_missed law past p k j before after (Err NoEvent) f = tt
-edges_missed law past p k j before after (Err Memory) f = tt
-edges_missed law past p k j before after (Ok es) f = tt
+edges_missed past p k j before after (Err (Diverged q n)) f = tt
+edges_missed past p k j before after (Err NoEvent) f = tt
+edges_missed past p k j before after (Err Memory) f = tt
+edges_missed past p k j before after (Ok es) f = tt
 
-pub last_missed : MissingWritesAreTold → (past : Past) (cell before after : ℕ) (r : Result (ℤ × Origin) FlowError)
+pub last_missed : (past : Past) (cell before after : ℕ) (r : Result (ℤ × Origin) FlowError)
     → IsLastFound past cell before after r → IsCauseOfSets past r
-last_missed law past cell before after (Err (Sets q n c)) f = λ indexed.
-    (law past.program.now past.plan.now past.logs.now (seens_in past) indexed).last cell (write_at q n c)
+last_missed past cell before after (Err (Sets q n c)) f = λ indexed.
+    (missing_writes_are_told past.program.now past.plan.now past.logs.now (seens_in past) indexed).last cell (write_at q n c)
     (missed q n c (found_last past.program.now past.logs.now (seens_in past) cell) f.1)
-last_missed law past cell before after (Err (Diverged q n)) f = tt
-last_missed law past cell before after (Err NoEvent) f = tt
-last_missed law past cell before after (Err Memory) f = tt
-last_missed law past cell before after (Ok x) f = tt
+last_missed past cell before after (Err (Diverged q n)) f = tt
+last_missed past cell before after (Err NoEvent) f = tt
+last_missed past cell before after (Err Memory) f = tt
+last_missed past cell before after (Ok x) f = tt

@@ -11,7 +11,6 @@ ghost use Rattle.ppd_flow_model.specs.Found.{event_edges as event_edges_of, even
 ghost use Rattle.ppd_flow_shared.specs.SharedCells.{answer_of, seens_in};
 
 use crate::reads::read_edges;
-use law_flow_missing::missing_writes_are_told;
 use law_flow_own::all_own_parts_are_found;
 use law_flow_shared::{edges_are_found, edges_cost_little};
 use ppd_ast::{Memory, Seq, Steps};
@@ -200,7 +199,6 @@ pub fn edges<L: Ledger>(
     ensures cost { CostsEdges past.now process interval item steps.old steps.new result }
     ensures sets { IsCauseOfSets past.now result }
 {
-    missing_writes_are_told();
     replays_are_seen();
     edges_are_found();
     all_own_parts_are_found();

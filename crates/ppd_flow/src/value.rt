@@ -5,7 +5,6 @@ ghost use Rattle.ppd_flow_past.specs.Pasts.{IsPast};
 ghost use Rattle.ppd_flow_past.specs.SeenBy.{steps_in};
 ghost use Rattle.ppd_flow_shared.specs.SharedCells.{AreItemsOfLast, IsLastFound};
 
-use law_flow_missing::missing_writes_are_told;
 use law_flow_shared::{last_costs_little, last_writes_are_found};
 use ppd_ast::Steps;
 use ppd_flow_past::{FlowError, Past, replays_are_seen};
@@ -36,7 +35,6 @@ pub fn last<L: Ledger>(
     ensures cost { CostsLast past.now cell steps.old steps.new result }
     ensures sets { IsCauseOfSets past.now result }
 {
-    missing_writes_are_told();
     replays_are_seen();
     last_writes_are_found();
     last_costs_little();
@@ -62,7 +60,6 @@ pub fn last_from<L: Ledger>(
         (steps.new + steps_in past.now last.edge.process last.interval) result }
     ensures sets { IsCauseOfSets past.now result }
 {
-    missing_writes_are_told();
     replays_are_seen();
     last_writes_are_found();
     last_costs_little();

@@ -15,24 +15,24 @@ use Rattle.ppd_flow_shared.specs.SharedCells.{seens_in}
 use Rattle.ppd_slice_model.specs.declared.reached.ItemAt.{ItemAt}
 use Rattle.ppd_slice_model.specs.declared.reached.Reached.{Reached}
 use Rattle.ppd_slice.specs.Slices.{IsSliceOf, unless_failed}
-use Rattle.law_flow_missing.specs.Missing.{MissingWritesAreTold}
+use Rattle.law_flow_missing.proofs.MissingWrites.{missing_writes_are_told}
 
 found_missing : (failure : Option At) (o : Option (Result (List FlowEdge) Missing)) (q n c : ℕ)
     → unless_failed failure (answer_if o) ≡ Err (Sets q n c) → o ≡ Some (Err (write_at q n c))
 found_missing None o q n c e = missed_edges q n c o e
 found_missing (Some failure) o q n c e = absurd (cc e)
 
-pub slice_missed : MissingWritesAreTold → (past : Past) (a : ItemAt) (r : Result (List Reached) FlowError)
+pub slice_missed : (past : Past) (a : ItemAt) (r : Result (List Reached) FlowError)
     → IsSliceOf past a r → IsCauseOfSets past r
-slice_missed law past a (Err (Sets q n c)) f = λ indexed.
+slice_missed past a (Err (Sets q n c)) f = λ indexed.
     let b = f.1.0 in
-    (law past.program.now past.plan.now past.logs.now (seens_in past) indexed).edges b.process b.interval b.item
+    (missing_writes_are_told past.program.now past.plan.now past.logs.now (seens_in past) indexed).edges b.process b.interval b.item
     (write_at q n c)
     (found_missing
     (first_failed_in past
     (edges_replays past.program.now past.plan.now past.logs.now (seens_in past) b.process b.interval b.item))
     (found_edges past.program.now past.plan.now past.logs.now (seens_in past) b.process b.interval b.item) q n c f.1.1)
-slice_missed law past a (Err (Diverged q n)) f = tt
-slice_missed law past a (Err NoEvent) f = tt
-slice_missed law past a (Err Memory) f = tt
-slice_missed law past a (Ok rs) f = tt
+slice_missed past a (Err (Diverged q n)) f = tt
+slice_missed past a (Err NoEvent) f = tt
+slice_missed past a (Err Memory) f = tt
+slice_missed past a (Ok rs) f = tt

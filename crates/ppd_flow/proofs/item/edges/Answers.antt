@@ -15,5 +15,5 @@ returns-clause-cost g c =
 
 pub returns-clause-sets : goal.returns-clause-sets
 returns-clause-sets g c =
-    edges_missed c.missing_writes_are_told.ensures c.args.past.now c.args.process c.args.interval c.args.item c.args.steps.now
+    edges_missed c.args.past.now c.args.process c.args.interval c.args.item c.args.steps.now
     c.edges_found.new.steps c.edges_found.result c.edges_found.ensures

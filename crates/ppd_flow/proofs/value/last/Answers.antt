@@ -16,5 +16,5 @@ returns-clause-cost g c =
 
 pub returns-clause-sets : goal.returns-clause-sets
 returns-clause-sets g c =
-    last_missed c.missing_writes_are_told.ensures c.args.past.now c.args.cell c.args.steps.now c.last_write.new.steps
+    last_missed c.args.past.now c.args.cell c.args.steps.now c.last_write.new.steps
     c.last_write.result c.last_write.ensures
