@@ -1,6 +1,6 @@
 -- What a line needs and is not found for want of a write: the write is missing.
-use Rattle.std.specs.Prelude.{IfErr, None, Some, option_map, slice_get}
-use Rattle.std.proofs.Common.{◌≡◌, ℕ, zero, suc, ◌+◌, ℤ, Bool, true, false, List, [], ◌∷◌, get_or, length, Option, Result, Ok, Err, refl, ap, sym, ◌∙◌, if◌then◌else◌}
+use Rattle.std.specs.Prelude.{IfErr, None, Some, slice_get}
+use Rattle.std.proofs.Common.{◌≡◌, ℕ, zero, suc, ◌+◌, ℤ, Bool, true, false, List, [], ◌∷◌, get_or, length, Option, Result, Ok, Err, refl, ap, subst, ◌∙◌, if◌then◌else◌}
 use Rattle.ppd_ast.specs.declared.plan.Plan.{Plan}
 use Rattle.ppd_ast.specs.declared.program.Program.{Program}
 use Rattle.ppd_entry.specs.declared.entry.At.{At}
@@ -21,7 +21,7 @@ use Rattle.ppd_model.specs.declared.graph.Race.{Race}
 use Rattle.ppd_session.specs.Known.{Flow, Known, Last, Told, flow_by, known_with, last_by, of_cells, of_intervals, of_items, of_processes, seens, unless_failed, unless_raced}
 use Rattle.ppd_session.specs.Missing.{IsCauseOfSets, MissingWritesAreTold}
 use Rattle.ppd_session.specs.Questions.{question}
-use Rattle.ppd_session.specs.Sessions.{IsWhy, error_of}
+use Rattle.ppd_session.specs.Sessions.{IsWhy}
 use Rattle.ppd_session.specs.Texts.{failure, failure_if, failure_of, first_unfound, flow_at, is_final, item_failure, item_failure_of, opening_failure, opening_of, told_at, told_failure, unfound_flow}
 use Rattle.ppd_session.specs.declared.question.Opening.{Opening}
 use Rattle.ppd_session.specs.declared.question.Question.{Question}
@@ -164,16 +164,10 @@ module _ (program : Program) (plan : Plan) (budget : ℕ) (logs : Logs) (races :
   line_missing : (line : List ℕ) → failure_of known line ≡ Some (flow_error.Sets q n c) → Wanted
   line_missing line e = of_question (question program line) e
 
-pub missing_writes_told : MissingWritesAreTold
-missing_writes_told program plan budget logs races indexed = record {
-  flow = λ p k j q n c e. flow_missing program plan budget logs races indexed q n c p k j e;
-  lines = λ line q n c e. line_missing program plan budget logs races indexed q n c line e;
-}
-
 -- ---- the answer to a line
 
 -- an error that is `Sets` is answered for such a failure
-of_why : (o : Option FlowError) (at : At) → option_map error_of o ≡ Some (Sets at)
+of_why : (o : Option FlowError) (at : At) → IsWhy o (Sets at)
     → (c : ℕ) × (o ≡ Some (flow_error.Sets at.process at.entry c))
 of_why None at e = absurd (cc e)
 of_why (Some (flow_error.Diverged i m)) at e = absurd (cc e)
@@ -183,12 +177,19 @@ of_why (Some (flow_error.Sets i m c)) at e =
     let same : record { process = i; entry = m } ≡ at = cc e in
     (c, ap (λ (a : At). Some (flow_error.Sets a.process a.entry c)) same)
 
+pub missing_writes_told : MissingWritesAreTold
+missing_writes_told program plan budget logs races indexed = record {
+  flow = λ p k j q n c e. flow_missing program plan budget logs races indexed q n c p k j e;
+  lines = λ line at e.
+      let why = of_why (failure_of (known_with program plan budget logs races) line) at e in
+      (why.0, line_missing program plan budget logs races indexed at.process at.entry why.0 line why.1);
+}
+
 pub cause_of_sets : {A : Type 0} (x : Known) (line : List ℕ) (r : Result A SessionError)
     → IfErr r (IsWhy (failure_of x line)) → IsCauseOfSets x r
 cause_of_sets x line (Ok a) h = tt
 cause_of_sets x line (Err Memory) h = tt
 cause_of_sets x line (Err (Diverged at)) h = tt
 cause_of_sets x line (Err (Sets at)) h = λ program plan budget logs races is indexed.
-    let why = of_why (failure_of x line) at h in
-    (why.0, (missing_writes_told program plan budget logs races indexed).lines line at.process at.entry why.0
-    (ap (λ (y : Known). failure_of y line) (sym is) ∙ why.1))
+    (missing_writes_told program plan budget logs races indexed).lines line at
+    (subst (λ (y : Known). IsWhy (failure_of y line) (Sets at)) is h)

@@ -8,7 +8,9 @@ use Rattle.ppd_codec.specs.declared.recording.Recording.{Recording}
 use Rattle.ppd_io.specs.Lines.{lines_of}
 use Rattle.ppd_session.specs.Known.{Known}
 use Rattle.ppd_session.specs.Texts.{failure_of}
+use Rattle.ppd_race.specs.Races.{races_of_logs}
 use Rattle.ppd_session.proofs.Answered.{run_answered}
+use Rattle.ppd_session.proofs.Missing.{missing_writes_told}
 use Rattle.ppd_io.specs.Content.{Loads}
 use Rattle.ppd_codec_runs.specs.Recordings.{IsAccepted, IsRunRecorded, known_of as known_of_recording}
 use Rattle.ppd_codec_runs.proofs.Runs.{no_run_is_refused, runs_are_recalled}
@@ -142,7 +144,11 @@ module _ (c : Call) (name bytes : List ℕ) (asks : AsksDebug c.words name) (loa
   debug_refused (recording_refused line why same (inr h)) e = absurd (omega (arith, h.0))
   debug_refused (recalled r accepted t) e =
       let w : WasAnswered c = answered_so r accepted t (inr e) in
-      inr (record { answered = w; of_no_run = of_no_run w e })
+      inr (record {
+        answered = w;
+        missing = (missing_writes_told r.program r.plan r.header.budget r.logs (races_of_logs r.program r.logs) accepted.indexed).lines;
+        of_no_run = of_no_run w e;
+      })
 
   pub debug_complete : Debugs bytes c.before.io c.after.io c.status → IsPromisedAnswers c → (c.status ≡ 0) ⊎ (c.status ≡ 5)
   debug_complete (no_recall is written) p = inr is
