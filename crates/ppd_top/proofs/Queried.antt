@@ -159,7 +159,7 @@ module _ (c : Call) (name : List ℕ) (query : Query) (bytes : List ℕ) (asks :
   query_not_told of_runs same (query_refused line why empty (inr h)) e = absurd (omega (arith, h.0))
   query_not_told of_runs same (queried r accepted n text g (inl h)) e =
       let w : WasQueried c = was_queried of_runs r accepted n text g h.0 h.1 in
-      inr (record { queried = w; missing = λ at f. failures_missing bytes r query at accepted f; of_no_run = of_no_run w e })
+      inr (record { queried = w; missing = λ at f. failures_missing w.bytes w.recording w.query at w.accepted f; of_no_run = of_no_run w e })
   query_not_told of_runs same (queried r accepted n text g (inr h)) e = absurd (omega (arith, h.0))
 
   -- the bytes that are promised are those that were loaded
