@@ -97,7 +97,7 @@ module _ (c : ℕ) where
   tells_both es fs Stopped Passed t s = (
     earlier is_sync es fs t.0,
     ap any_write (fold-append after_event [] es fs ∙ no_sync (since_sync es) fs s.0)
-    ∙ neither (writes_cell c) (since_sync es) fs t.1 s.1,
+        ∙ neither (writes_cell c) (since_sync es) fs t.1 s.1,
   )
   tells_both es fs Passed Passed t s = (neither is_sync es fs t.0 s.0, neither (writes_cell c) es fs t.1 s.1)
 
