@@ -27,7 +27,7 @@ use Rattle.ppd_flow_model.specs.Seen.{Seen, items_at}
 use Rattle.ppd_flow_model.specs.Shared.{Missing, edge_of_place, greater, greatest_before, greatest_writing, is_before_in, missing, origin_in, own_or, seen_at, shared_origin, walk_in, writing, writing_from, writing_in, written_at, written_or_start}
 use Rattle.ppd_flow_model.specs.Ends.{end_interval, end_item}
 use Rattle.ppd_flow_model.specs.Walk.{walk}
-use Rattle.law_flow_missing.specs.Missing.{IsMissingWrite, MissingWritesAreTold, events_of, writes_cell}
+use Rattle.law_flow_missing.specs.Missing.{IsMissingWrite, MissingWritesAreTold, events_before, events_of, writes_cell}
 use Rattle.law_flow_missing.proofs.Events.{is_found, none_written, walk_tells}
 use Rattle.law_flow_missing.proofs.RecordedWrites.{all_end_last, entry_records, sets_of_process}
 
@@ -123,7 +123,8 @@ module _ (program : Program) (plan : Plan) (logs : Logs) (xs : List Seen)
         ends = e.ends;
         recorded = e.writes;
         unwritten = subst (λ i. list_any (writes_cell c) (events_of xs es (edge a.process i)) ≡ false) (sym e.before)
-            (none_written c _ (walk_in logs xs c a) f (walk_tells c x (end_interval es a.edge) (end_item es x a.edge)));
+            (none_written c (events_before x (end_interval es a.edge) (end_item es x a.edge)) (walk_in logs xs c a) f
+            (walk_tells c x (end_interval es a.edge) (end_item es x a.edge)));
       }
 
   at_walk : (c : ℕ) (a : EdgeId) (w : Walked) (m : Missing) → Writes c sets a → walk_in logs xs c a ≡ w
