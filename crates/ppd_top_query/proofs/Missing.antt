@@ -1,15 +1,10 @@
 -- A query that fails for want of a write: the write is missing.
-use Rattle.std.proofs.Common.{ℕ, List}
 use Rattle.ppd_clean.proofs.Missing.{clean_missed}
-use Rattle.ppd_codec.specs.declared.recording.Recording.{Recording}
-use Rattle.ppd_codec_runs.specs.Recordings.{IsAccepted, known_of}
-use Rattle.ppd_entry.specs.declared.entry.At.{At}
+use Rattle.ppd_codec_runs.specs.Recordings.{known_of}
 use Rattle.ppd_flow.specs.Missing.{write_at}
 use Rattle.ppd_race.specs.Races.{races_of_logs}
 use Rattle.ppd_session.proofs.Missing.{missing_writes_told}
-use Rattle.ppd_session.specs.declared.reply.SessionError.TheVariants.{Sets}
-use Rattle.ppd_top_query.specs.Missing.{FailuresAreMissing, IsMissingFor}
-use Rattle.ppd_top_query.specs.Queries.{IsFailure, Query}
+use Rattle.ppd_top_query.specs.Missing.{FailuresAreMissing}
 use Rattle.ppd_top_query.specs.Queries.Query.{Slice, Whole, Rerun, Clean}
 
 pub failures_missing : FailuresAreMissing
