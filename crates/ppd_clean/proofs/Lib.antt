@@ -10,3 +10,4 @@ pub mod FoundEdges
 pub mod Answered
 pub mod NeverFails
 pub mod OfRuns
+pub mod Missing

@@ -3,3 +3,4 @@ pub mod Firsts
 pub mod ByOrder
 pub mod Answers
 pub mod Runs
+pub mod Missing

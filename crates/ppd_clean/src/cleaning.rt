@@ -2,6 +2,7 @@ ghost use Rattle.std.specs.Prelude.{◌≡◌, ◌≤◌, length, IfOk, OnOk};
 ghost use Rattle.ppd_ast.specs.declared.limits.TheConstants.{MOST_NAMED};
 ghost use Rattle.ppd_clean.specs.Answers.{AreEdges, AreItems, Fails, FailsFrom, IsCleanBy, IsFound, IsOrdered, answer_at, answer_by, is_begun_unclean, item_at, of_flow as of_flow_error, unless_begun};
 ghost use Rattle.ppd_clean.specs.ByOrder.{cut_for};
+ghost use Rattle.ppd_clean.specs.Missing.{IsCauseOfSets};
 ghost use Rattle.ppd_clean.specs.Runs.{GivesClean};
 ghost use Rattle.ppd_flow_shared.specs.SharedCells.{seens_in};
 ghost use Rattle.ppd_flow_past.specs.Pasts.{IsPast};
@@ -179,8 +180,9 @@ fn answered_from<L: Ledger>(
 /// `Unclean`: a race touches the past of this edge, the least such edge of the process from the one in which the
 /// interval begins, and the item's past has a race, or the interval has no such item and reaches the edge. `NoEvent`:
 /// it has no such item, and reaches no such edge. `Diverged`: the replay of an interval of this process from its cut
-/// log fails at this entry. `Sets`: the write set of this entry has the cell, and the replay of the internal edge that
-/// it ends writes it nowhere. `Memory` is want of memory, also for processes, edges or items that have no numbers.
+/// log fails at this entry. `Sets`: this entry, of logs that the index accepts, ends an internal edge of the process, its
+/// write set has the cell, and no event that the replays of the cut logs give of that edge writes the cell. `Memory` is
+/// want of memory, also for processes, edges or items that have no numbers.
 ///
 /// Of what is kept of a whole run, with races or without, under the plan of a policy, the item and its edges are those
 /// of the run, `Unclean` and `NoEvent` come exactly where the run has it so, and `Diverged` and `Sets` never.
@@ -197,6 +199,7 @@ pub fn clean_edges<L: Ledger>(
     requires races { races.now ≡ races_of_logs past.now.program.now past.now.logs.now }
     ensures found { IsOrdered past.now → IsCleanBy past.now races.now process interval item result }
     ensures run { GivesClean past.now process interval item result }
+    ensures sets { IsOrdered past.now → IsCauseOfSets past.now races.now process interval item result }
 {
     cleans_are_of_runs();
     let firsts = first_edges(alloc, races, past.logs.lists.len())?;

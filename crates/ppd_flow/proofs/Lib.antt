@@ -3,6 +3,7 @@ mod Answered
 mod Costing
 mod Events
 mod ItemEdges
+pub mod Missing
 pub mod OfRuns
 mod ReadEdges
 mod Seens

@@ -1,5 +1,6 @@
 ghost use Rattle.std.specs.Prelude.{◌≡◌, ◌<◌, ◌∷◌, ◌++◌, [], length, Ok, OnOk, Some, option_to_list};
 ghost use Rattle.ppd_flow.specs.Answers.{IsEdges, pair_edge_at, pair_replays_at};
+ghost use Rattle.ppd_flow.specs.Missing.{IsCauseOfSets};
 ghost use Rattle.ppd_flow.specs.Runs.{CostsEdges, GivesEdges};
 ghost use Rattle.ppd_flow_local.specs.Searches.{IsPlace};
 ghost use Rattle.ppd_model.specs.declared.flow.EdgeKind.TheVariants as edge_kind;
@@ -175,8 +176,9 @@ fn edges_found<L: Ledger>(
 /// that it needs, in order.
 ///
 /// `Diverged`: the replay of one of these intervals fails, the first that does, at this entry. `NoEvent`: the interval
-/// has no item of this number. `Sets`: the write set of this entry has the cell, and the replay of the internal edge
-/// that it ends writes it nowhere. `Memory` is want of memory, also for items that have no 32-bit numbers.
+/// has no item of this number. `Sets`: none of these replays fails; this entry, of logs that the index accepts, ends an
+/// internal edge of the process, its write set has the cell, and no event that the replays give of that edge writes the
+/// cell. `Memory` is want of memory, also for items that have no 32-bit numbers.
 ///
 /// Of what is kept of a whole run without a race, under the plan of a policy, the answer is the item's edges in the
 /// run, or `NoEvent` exactly where there is no such item, or `Memory`; and where it has n edges, the counter rose by at
@@ -195,6 +197,7 @@ pub fn edges<L: Ledger>(
     ensures found { IsEdges past.now process interval item steps.old steps.new result }
     ensures run { GivesEdges past.now process interval item result }
     ensures cost { CostsEdges past.now process interval item steps.old steps.new result }
+    ensures sets { IsCauseOfSets past.now result }
 {
     replays_are_seen();
     edges_are_found();

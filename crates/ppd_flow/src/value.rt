@@ -1,4 +1,5 @@
 ghost use Rattle.std.specs.Prelude.{◌+◌};
+ghost use Rattle.ppd_flow.specs.Missing.{IsCauseOfSets};
 ghost use Rattle.ppd_flow.specs.Runs.{CostsLast, GivesLast};
 ghost use Rattle.ppd_flow_past.specs.Pasts.{IsPast};
 ghost use Rattle.ppd_flow_past.specs.SeenBy.{steps_in};
@@ -15,12 +16,13 @@ use std::sync::ledger::Ledger;
 /// The last value of a shared cell and where it was written: by the last write in the greatest internal edge whose
 /// write set has the cell, else at the start. The counter rises by the own steps of the intervals that are replayed.
 ///
-/// `Diverged`: the replay of one of these intervals fails, the first that does, at this entry. `Sets`: the write set of
-/// this entry has the cell, and the replay of the internal edge that it ends writes it nowhere. `Memory` is want of
-/// memory, also for items that have no 32-bit numbers. `NoEvent` never comes. Of what is kept of a whole run without a
-/// race, under the plan of a policy, the answer is the last value in the run with the item of its last write, or
-/// `Memory`; the counter rose by at most the own steps of the intervals of the writer's process that are open in the
-/// internal edge of the last write, and not at all for a start value.
+/// `Diverged`: the replay of one of these intervals fails, the first that does, at this entry. `Sets`: none of these
+/// replays fails; this entry, of logs that the index accepts, ends the internal edge, its write set has the cell, and no
+/// event that the replays give of that edge writes the cell. `Memory` is want of memory, also for items that have no
+/// 32-bit numbers. `NoEvent` never comes. Of what is kept of a whole run without a race, under the plan of a policy, the
+/// answer is the last value in the run with the item of its last write, or `Memory`; the counter rose by at most the own
+/// steps of the intervals of the writer's process that are open in the internal edge of the last write, and not at all
+/// for a start value.
 pub fn last<L: Ledger>(
     alloc: Global,
     past: &Past,
@@ -31,6 +33,7 @@ pub fn last<L: Ledger>(
     ensures found { IsLastFound past.now cell steps.old steps.new result }
     ensures run { GivesLast past.now cell result }
     ensures cost { CostsLast past.now cell steps.old steps.new result }
+    ensures sets { IsCauseOfSets past.now result }
 {
     replays_are_seen();
     last_writes_are_found();
@@ -55,6 +58,7 @@ pub fn last_from<L: Ledger>(
     ensures run { GivesLast past.now cell result }
     ensures cost { CostsLast past.now cell steps.old
         (steps.new + steps_in past.now last.edge.process last.interval) result }
+    ensures sets { IsCauseOfSets past.now result }
 {
     replays_are_seen();
     last_writes_are_found();

@@ -4,5 +4,3 @@ pub mod Counted
 pub mod Standing
 pub mod Before
 pub mod WritingEdges
-pub mod RecordedWrites
-pub mod MissingWrites

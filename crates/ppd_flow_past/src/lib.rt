@@ -2,7 +2,6 @@
 //! where one ends, and the greatest that writes a cell.
 #![tactic(auto)]
 
-mod edge_laws;
 mod ends;
 mod flow_error;
 mod greatest;
@@ -13,7 +12,6 @@ mod places;
 mod replaying;
 mod syncs;
 
-pub use edge_laws::missing_writes_are_recorded;
 pub use ends::{end_interval, ending, sync_item};
 pub use flow_error::FlowError;
 pub use greatest::{greatest_before, greatest_writing};

@@ -10,3 +10,4 @@ pub mod Keeping
 pub mod LastValues
 mod LastKept
 pub mod Flows
+pub mod Missing

@@ -7,3 +7,4 @@ pub mod Rows
 pub mod Keeping
 pub mod Sessions
 pub mod Laws
+pub mod Missing

@@ -1,6 +1,7 @@
 ghost use Rattle.std.specs.Prelude.{◌≡◌, None, IfOk, IfErr, OnErr, OnOk};
 ghost use Rattle.ppd_flow_past.specs.Pasts.{IsPast};
 ghost use Rattle.ppd_session.specs.Keeping.{AreAsked, AreAskedInPart};
+ghost use Rattle.ppd_session.specs.Missing.{IsCauseOfSets};
 ghost use Rattle.ppd_session.specs.Sessions.{IsSession, IsWhy, blocks_of_line, known_by, new_session, state_of};
 ghost use Rattle.ppd_session.specs.Questions.{is_quit};
 ghost use Rattle.ppd_session.specs.Texts.{failure_of, races_text, text_of};
@@ -120,9 +121,11 @@ impl<'a> Session<'a> {
     ///
     /// An interval is opened by its replay from its own log, or by a kept block; the edges of an item and a last value
     /// are found by replays of single intervals.
-    /// `Diverged` comes exactly where such a replay fails, the first that does, at its entry; `Sets` exactly where the
-    /// write set of this entry has a cell that the replays write nowhere. Neither comes of the logs of a whole run, and
-    /// after them the session is not asked again. `Memory` is want of memory: the line can be asked again.
+    /// `Diverged` comes exactly where such a replay fails, the first that does, at its entry. `Sets` comes exactly where
+    /// none fails and a search misses a write that this entry records: of logs that the index accepts, the entry ends an
+    /// internal edge, and its write set has a cell that no event which the replays give of that edge writes. Neither
+    /// comes of the logs of a whole run, and after them the session is not asked again. `Memory` is want of memory: the
+    /// line can be asked again.
     ///
     /// After an answer each block that the line asked for was put in front of those that are kept, or, if it was not
     /// kept, may be kept now; after an error so were the first of them.
@@ -131,6 +134,7 @@ impl<'a> Session<'a> {
         ensures quit { IfOk result (λ r. r.quit ≡ is_quit line.now) }
         ensures told { OnOk result (failure_of self.old.known line.now ≡ None) }
         ensures error { IfErr result (IsWhy (failure_of self.old.known line.now)) }
+        ensures sets { IsCauseOfSets self.old.known result }
         ensures same { self.new.known ≡ self.old.known }
         ensures lasts { self.new.last_blocks ≡ self.old.last_blocks }
         ensures kept { OnOk result

@@ -5,10 +5,17 @@ use Rattle.ppd_ast.specs.declared.program.Program.{Program}
 use Rattle.ppd_blocks.specs.Blocks.{plan_of}
 use Rattle.ppd_codec.specs.declared.recording.Header.{Header}
 use Rattle.ppd_codec.specs.declared.recording.Recording.{Recording}
+use Rattle.ppd_entry.specs.declared.entry.At.{At}
 use Rattle.ppd_io.specs.Lines.{lines_of}
 use Rattle.ppd_session.specs.Known.{Known}
+use Rattle.ppd_session.specs.Missing.{IsMissingAt}
+use Rattle.ppd_session.specs.Sessions.{IsWhy}
 use Rattle.ppd_session.specs.Texts.{failure_of}
+use Rattle.ppd_session.specs.declared.reply.SessionError.TheVariants.{Sets}
+use Rattle.ppd_top_query.specs.Queries.{seens_of}
+use Rattle.ppd_race.specs.Races.{races_of_logs}
 use Rattle.ppd_session.proofs.Answered.{run_answered}
+use Rattle.ppd_session.proofs.Missing.{missing_writes_told}
 use Rattle.ppd_io.specs.Content.{Loads}
 use Rattle.ppd_codec_runs.specs.Recordings.{IsAccepted, IsRunRecorded, known_of as known_of_recording}
 use Rattle.ppd_codec_runs.proofs.Runs.{no_run_is_refused, runs_are_recalled}
@@ -124,6 +131,15 @@ module _ (c : Call) (name bytes : List ℕ) (asks : AsksDebug c.words name) (loa
   of_no_run w six source header program h run =
       end_not_6 _ (answers_whole (known_of_recording w.recording) (no_failure w.recalled.bytes w.recording w.recalled.accepted source header program h run) 0 (lines_of w.commands)) (sym w.status_is ∙ six)
 
+  -- a write that a line asks for is missing
+  is_missing : (w : WasAnswered c) (line : List ℕ) (at : At)
+      → IsWhy (failure_of (known_of_recording w.recording) line) (Sets at)
+      → IsMissingAt w.recording.logs (seens_of w.recording) at
+  is_missing w line at f =
+      let r = w.recording in
+      (missing_writes_told r.program r.plan r.header.budget r.logs (races_of_logs r.program r.logs)
+      w.recalled.accepted.indexed).lines line at f
+
   pub debug_refused : Debugs bytes c.before.io c.after.io c.status → c.status ≡ 6 → WasNotRecalled c ⊎ ReplayRefused c
   debug_refused (no_recall is written) e = absurd (omega arith)
   debug_refused (recording_refused line why same (inl h)) e = inl (record {
@@ -142,7 +158,11 @@ module _ (c : Call) (name bytes : List ℕ) (asks : AsksDebug c.words name) (loa
   debug_refused (recording_refused line why same (inr h)) e = absurd (omega (arith, h.0))
   debug_refused (recalled r accepted t) e =
       let w : WasAnswered c = answered_so r accepted t (inr e) in
-      inr (record { answered = w; of_no_run = of_no_run w e })
+      inr (record {
+        answered = w;
+        missing = λ line at f. is_missing w line at f;
+        of_no_run = of_no_run w e;
+      })
 
   pub debug_complete : Debugs bytes c.before.io c.after.io c.status → IsPromisedAnswers c → (c.status ≡ 0) ⊎ (c.status ≡ 5)
   debug_complete (no_recall is written) p = inr is

@@ -20,6 +20,7 @@ use Rattle.ppd_session.specs.declared.reply.SessionError.TheVariants.{Diverged, 
 use Rattle.ppd_text_refusals.specs.Recordings.{refused_replay}
 use Rattle.ppd_top.specs.Asking.{IsFailed}
 use Rattle.ppd_top_query.proofs.Ends.{queries_end, runs_are_told}
+use Rattle.ppd_top_query.proofs.Missing.{failures_missing}
 use Rattle.ppd_codec_runs.specs.Recordings.{IsAccepted, IsRecalled, IsRunRecorded}
 use Rattle.ppd_codec_runs.specs.declared.recalling.Recalled.{Recalled}
 use Rattle.ppd_codec_runs.proofs.Runs.{no_run_is_refused, runs_are_recalled}
@@ -158,7 +159,7 @@ module _ (c : Call) (name : List ℕ) (query : Query) (bytes : List ℕ) (asks :
   query_not_told of_runs same (query_refused line why empty (inr h)) e = absurd (omega (arith, h.0))
   query_not_told of_runs same (queried r accepted n text g (inl h)) e =
       let w : WasQueried c = was_queried of_runs r accepted n text g h.0 h.1 in
-      inr (record { queried = w; of_no_run = of_no_run w e })
+      inr (record { queried = w; missing = λ at f. failures_missing w.bytes w.recording w.query at w.accepted f; of_no_run = of_no_run w e })
   query_not_told of_runs same (queried r accepted n text g (inr h)) e = absurd (omega (arith, h.0))
 
   -- the bytes that are promised are those that were loaded

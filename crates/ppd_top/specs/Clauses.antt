@@ -12,10 +12,16 @@ use Rattle.ppd_text_tables.specs.Table.{table_of}
 use Rattle.ppd_text_refusals.specs.Sources.{refused}
 use Rattle.ppd_codec.specs.declared.recording.Header.{Header}
 use Rattle.ppd_codec.specs.declared.recording.Recording.{Recording}
+use Rattle.ppd_entry.specs.declared.entry.At.{At}
 use Rattle.ppd_rerun_model.specs.Verdicts.{IsVerdict}
 use Rattle.ppd_rerun_model.specs.declared.verdict.Verdict.TheVariants.{Yes}
+use Rattle.ppd_session.specs.Missing.{IsMissingAt}
+use Rattle.ppd_session.specs.Sessions.{IsWhy}
+use Rattle.ppd_session.specs.Texts.{failure_of}
+use Rattle.ppd_session.specs.declared.reply.SessionError.TheVariants.{Sets}
+use Rattle.ppd_top_query.specs.Missing.{IsMissingFor}
 use Rattle.ppd_top_query.specs.OfRuns.{IsOfRuns}
-use Rattle.ppd_top_query.specs.Queries.{Gives, Query}
+use Rattle.ppd_top_query.specs.Queries.{Gives, IsFailure, Query, seens_of}
 use Rattle.ppd_top_query.specs.Queries.Query.{Rerun}
 use Rattle.ppd_codec_runs.specs.Laws.{IsKnownOfRuns}
 use Rattle.ppd_codec_runs.specs.Recordings.{IsAccepted, IsRefusedBy, IsRunRecorded, known_of as known_of_recording}
@@ -136,17 +142,21 @@ pub record WasNotRecalled (c : Call) : Type 0 where
   pub unread : LeftInput c
   pub written : Wrote c line
 
--- or a replay failed that the answer to a line needs, and the answers before it and the line that says so were written;
--- the recording is that of no whole run
+-- or a replay failed that the answer to a line needs, or a write is missing that it asks for, and the answers before it
+-- and the line that says so were written; the recording is that of no whole run
 pub record ReplayRefused (c : Call) : Type 0 where
   pub answered : WasAnswered c
+  pub missing : (line : List ℕ) (at : At) → IsWhy (failure_of (known_of_recording answered.recording) line) (Sets at)
+      → IsMissingAt answered.recording.logs (seens_of answered.recording) at
   pub of_no_run : (source : List ℕ) (header : Header) (program : Program) (h : List ℕ)
       → IsRunRecorded source header program h answered.recalled.bytes → ⊥
 
--- or a replay failed that the answer to a query needs, and the line that says so was written; the recording is that of
--- no whole run
+-- or a replay failed that the answer to a query needs, or a write is missing that it asks for, and the line that says so
+-- was written; the recording is that of no whole run
 pub record QueryRefused (c : Call) : Type 0 where
   pub queried : WasQueried c
+  pub missing : (at : At) → IsFailure queried.recording queried.query (Sets at)
+      → IsMissingFor queried.recording queried.query at
   pub of_no_run : (source : List ℕ) (header : Header) (program : Program) (h : List ℕ)
       → IsRunRecorded source header program h queried.bytes → ⊥
 

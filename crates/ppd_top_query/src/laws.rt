@@ -1,4 +1,5 @@
 ghost use Rattle.ppd_top_query.specs.Laws.{QueriesEnd, RunsAreTold};
+ghost use Rattle.ppd_top_query.specs.Missing.{FailuresAreMissing};
 ghost use Rattle.ppd_top_query.specs.OfRuns.{AnswersAreOfRuns};
 ghost use Rattle.ppd_top_query.specs.SlicesOfRuns.{SliceTextsAreOfRuns, SlicesAreOfRuns};
 
@@ -34,3 +35,10 @@ pub fn answers_are_of_runs()
     reaches_are_slices();
     slices_are_one();
 }
+
+/// Law: where a query of an accepted recording fails with `Sets` at an entry, a write that the entry records is missing:
+/// the entry ends an internal edge, its write set has the cell, and no event that the replays of the query give of that
+/// edge writes the cell.
+pub fn missing_writes_are_told()
+    ensures { FailuresAreMissing }
+{}

@@ -4,6 +4,7 @@ use Rattle.ppd_clean.specs.Answers.{IsCleanBy, IsOrdered}
 use Rattle.ppd_clean.specs.ByOrder.{first_unclean, last_edge}
 use Rattle.ppd_clean.specs.Firsts.{firsts_of}
 use Rattle.ppd_clean.proofs.Answered.{answered_by}
+use Rattle.ppd_clean.proofs.Missing.{sets_missed}
 use Rattle.ppd_entry.specs.Entries.{entries_at}
 use Rattle.ppd_flow_model.specs.Ends.{first_edge}
 use Rattle.ppd_flow_past.specs.declared.past.Past.{Past}
@@ -26,4 +27,5 @@ returns g c =
     record {
       found = found;
       run = c.cleans_are_of_runs.ensures past c.args.races.now c.args.process c.args.interval c.args.item c.answered_from.result c.requires.past.program_ok c.requires.races found;
+      sets = λ ordered. sets_missed past c.args.races.now c.args.process c.args.interval c.args.item c.answered_from.result (found ordered);
     }

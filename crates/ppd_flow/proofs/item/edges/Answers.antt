@@ -1,4 +1,5 @@
 use Rattle.ppd_flow.proofs.Costing.{costs_edges}
+use Rattle.ppd_flow.proofs.Missing.{edges_missed}
 use Rattle.ppd_flow.proofs.OfRuns.{gives_edges}
 use Rattle.ppd_flow.proofs.item.edges.Goals as goal
 
@@ -11,3 +12,8 @@ pub returns-clause-cost : goal.returns-clause-cost
 returns-clause-cost g c =
     costs_edges c.replays_are_seen.ensures c.edges_are_found.ensures c.all_own_parts_are_found.ensures c.edges_cost_little.ensures c.args.past.now c.args.process c.args.interval c.args.item c.args.steps.now
     c.edges_found.new.steps c.edges_found.result c.requires.program_ok c.edges_found.ensures
+
+pub returns-clause-sets : goal.returns-clause-sets
+returns-clause-sets g c =
+    edges_missed c.args.past.now c.args.process c.args.interval c.args.item c.args.steps.now
+    c.edges_found.new.steps c.edges_found.result c.edges_found.ensures

@@ -1,6 +1,7 @@
 use Rattle.ppd_flow_model.specs.Shared.{last_replays}
 use Rattle.ppd_flow_shared.specs.SharedCells.{seens_in}
 use Rattle.ppd_flow.proofs.Costing.{costs_last}
+use Rattle.ppd_flow.proofs.Missing.{last_missed}
 use Rattle.ppd_flow.proofs.OfRuns.{gives_last}
 use Rattle.ppd_flow.proofs.value.last.Goals as goal
 
@@ -12,3 +13,8 @@ returns-clause-run g c =
 pub returns-clause-cost : goal.returns-clause-cost
 returns-clause-cost g c =
     costs_last c.replays_are_seen.ensures c.last_costs_little.ensures c.args.past.now c.args.cell c.args.steps.now c.last_write.new.steps c.last_write.result c.requires.program_ok c.last_write.ensures
+
+pub returns-clause-sets : goal.returns-clause-sets
+returns-clause-sets g c =
+    last_missed c.args.past.now c.args.cell c.args.steps.now c.last_write.new.steps
+    c.last_write.result c.last_write.ensures

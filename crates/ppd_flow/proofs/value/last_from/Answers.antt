@@ -3,6 +3,7 @@ use Rattle.ppd_flow_past.specs.SeenBy.{steps_in}
 use Rattle.ppd_flow_model.specs.Shared.{last_replays}
 use Rattle.ppd_flow_shared.specs.SharedCells.{seens_in}
 use Rattle.ppd_flow.proofs.Costing.{costs_last}
+use Rattle.ppd_flow.proofs.Missing.{last_missed}
 use Rattle.ppd_flow.proofs.OfRuns.{gives_last}
 use Rattle.ppd_flow.proofs.value.last_from.Goals as goal
 
@@ -20,3 +21,10 @@ returns-clause-cost g c =
     let after = c.last_write_from.new.steps + steps_in past c.args.last.edge.process c.args.last.interval in
     costs_last c.replays_are_seen.ensures c.last_costs_little.ensures past c.args.cell c.args.steps.now after
     c.last_write_from.result c.requires.together.program_ok c.last_write_from.ensures
+
+pub returns-clause-sets : goal.returns-clause-sets
+returns-clause-sets g c =
+    let past = c.args.past.now in
+    let after = c.last_write_from.new.steps + steps_in past c.args.last.edge.process c.args.last.interval in
+    last_missed past c.args.cell c.args.steps.now after c.last_write_from.result
+    c.last_write_from.ensures

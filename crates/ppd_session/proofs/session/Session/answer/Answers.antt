@@ -2,9 +2,11 @@ use Rattle.std.specs.Prelude.{IfErr, IfOk, OnErr, OnOk}
 use Rattle.std.proofs.Common.{◌≡◌, List, None, ap, subst, sym, ◌∙◌}
 use Rattle.ppd_model.specs.declared.graph.Race.{Race}
 use Rattle.ppd_session.specs.Keeping.{AreAsked, AreAskedInPart}
+use Rattle.ppd_session.specs.Missing.{IsCauseOfSets}
 use Rattle.ppd_session.specs.Sessions.{AreTold, IsSession, IsWhy, SessionState, blocks_of_line, known_by, state_of}
 use Rattle.ppd_session.specs.Texts.{failure_of, text_of}
 use Rattle.ppd_session.proofs.Keeping.{told_after}
+use Rattle.ppd_session.proofs.Missing.{cause_of_sets}
 use Rattle.ppd_session.proofs.session.Session.answer.Goals as goal
 
 pub reply-requires : goal.reply-requires
@@ -42,6 +44,13 @@ returns-clause-error c =
     subst (λ (s : SessionState). IfErr c.reply.result (IsWhy (failure_of s.known c.args.line.now)))
     (ap (λ (rs : List Race). state_of c.self.inside.past rs c.self.inside.kept) c.as_slice.ensures ∙ c.self.view_is)
     c.reply.ensures.error
+
+pub returns-clause-sets : goal.returns-clause-sets
+returns-clause-sets c =
+    subst (λ (s : SessionState). IsCauseOfSets s.known c.reply.result)
+    (ap (λ (rs : List Race). state_of c.self.inside.past rs c.self.inside.kept) c.as_slice.ensures ∙ c.self.view_is)
+    (cause_of_sets (known_by c.self.inside.past c.as_slice.result.now) c.args.line.now c.reply.result
+    c.reply.ensures.error)
 
 pub returns-clause-same : goal.returns-clause-same
 returns-clause-same c = ap (λ (s : SessionState). s.known) c.self.view_is

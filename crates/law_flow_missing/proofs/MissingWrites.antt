@@ -1,6 +1,7 @@
--- A write that a search misses is one that an entry records.
+-- Each write that a search misses is missing.
 use Rattle.std.proofs.Common.{◌≡◌, ℕ, suc, ◌+◌, ℤ, Bool, true, false, List, [], ◌∷◌, ◌++◌, Option, Some, None, Result, Ok, Err, refl, ap, sym, subst, ◌∙◌, arith, get_or, cond, if◌then◌else◌}
 use Rattle.std.specs.Prelude.{filter, fold, slice_get, ⊤}
+use Rattle.std.specs.List.{list_any}
 use Rattle.ppd_ast.specs.declared.plan.Plan.{Plan}
 use Rattle.ppd_ast.specs.declared.program.Program.{Program}
 use Rattle.ppd_ast.specs.Members.{has}
@@ -19,14 +20,16 @@ use Rattle.ppd_model.specs.HappenedBefore.{edge}
 use Rattle.ppd_sem.specs.declared.event.Access.{Access}
 use Rattle.ppd_sem.specs.declared.event.Spot.{Spot}
 use Rattle.ppd_sem.specs.declared.event.Spot.TheVariants.{Local, Shared}
-use Rattle.ppd_flow_past.specs.Edges.Missing.{IsRecorded, MissingWritesAreRecorded}
-use Rattle.ppd_flow_past.proofs.Edges.RecordedWrites.{all_end_last, entry_records, sets_of_process}
 use Rattle.ppd_flow_model.specs.declared.walked.Walked.{Walked}
 use Rattle.ppd_flow_model.specs.declared.walked.Walked.TheVariants.{Stopped, Passed, Found}
 use Rattle.ppd_flow_model.specs.Found.{and_more, before_others, edges_if, item_edges, read_edge, read_edges, read_if}
 use Rattle.ppd_flow_model.specs.Seen.{Seen, items_at}
 use Rattle.ppd_flow_model.specs.Shared.{Missing, edge_of_place, greater, greatest_before, greatest_writing, is_before_in, missing, origin_in, own_or, seen_at, shared_origin, walk_in, writing, writing_from, writing_in, written_at, written_or_start}
+use Rattle.ppd_flow_model.specs.Ends.{end_interval, end_item}
 use Rattle.ppd_flow_model.specs.Walk.{walk}
+use Rattle.law_flow_missing.specs.Missing.{IsMissingWrite, MissingWritesAreTold, events_before, events_of, writes_cell}
+use Rattle.law_flow_missing.proofs.Events.{is_found, none_written, walk_tells}
+use Rattle.law_flow_missing.proofs.RecordedWrites.{all_end_last, entry_records, sets_of_process}
 
 -- each of these edges has the property
 abbrev Each : (EdgeId → Type 0) → List EdgeId → Type 0
@@ -106,27 +109,40 @@ module _ (program : Program) (plan : Plan) (logs : Logs) (xs : List Seen)
   abbrev sets : List (List EdgeSets)
   sets = edge_sets_in logs
 
-  of_edge : (c : ℕ) (a : EdgeId) → Writes c sets a → IsRecorded logs (missing logs c a)
-  of_edge c a h =
-      let e = entry_records c (entries_at logs a.process) a.edge
-      (all_end_last program plan 0 logs.lists a.process accepted)
+  -- the walk over the edge found no write
+  of_edge : (c : ℕ) (a : EdgeId) → Writes c sets a → is_found c (walk_in logs xs c a) ≡ false
+      → IsMissingWrite logs xs (missing logs c a)
+  of_edge c a h f =
+      let x = seen_at xs a.process in
+      let es = entries_at logs a.process in
+      let e = entry_records c es a.edge (all_end_last program plan 0 logs.lists a.process accepted)
       (ap (λ (u : EdgeSets). has u.writes c) (sym (sets_of_process logs.lists a.process a.edge)) ∙ h) in
-      record { entry = e.entry; there = e.there; writes = e.writes }
+      record {
+        entry = e.entry;
+        there = e.there;
+        ends = e.ends;
+        recorded = e.writes;
+        unwritten = subst (λ i. list_any (writes_cell c) (events_of xs es (edge a.process i)) ≡ false) (sym e.before)
+            (none_written c (events_before x (end_interval es a.edge) (end_item es x a.edge)) (walk_in logs xs c a) f
+            (walk_tells c x (end_interval es a.edge) (end_item es x a.edge)));
+      }
 
-  at_walk : (c : ℕ) (a : EdgeId) (w : Walked) (m : Missing) → Writes c sets a → written_at logs c a w ≡ Err m
-      → IsRecorded logs m
-  at_walk c a (Found k i v) m h e = absurd (cc e)
-  at_walk c a Stopped m h e = let is : missing logs c a ≡ m = cc e in subst (IsRecorded logs) is (of_edge c a h)
-  at_walk c a Passed m h e = let is : missing logs c a ≡ m = cc e in subst (IsRecorded logs) is (of_edge c a h)
+  at_walk : (c : ℕ) (a : EdgeId) (w : Walked) (m : Missing) → Writes c sets a → walk_in logs xs c a ≡ w
+      → written_at logs c a w ≡ Err m → IsMissingWrite logs xs m
+  at_walk c a (Found k i v) m h w e = absurd (cc e)
+  at_walk c a Stopped m h w e =
+      let is : missing logs c a ≡ m = cc e in subst (IsMissingWrite logs xs) is (of_edge c a h (ap (is_found c) w))
+  at_walk c a Passed m h w e =
+      let is : missing logs c a ≡ m = cc e in subst (IsMissingWrite logs xs) is (of_edge c a h (ap (is_found c) w))
 
   at_best : (c : ℕ) (best : Option EdgeId) (m : Missing) → If (Writes c sets) best
-      → written_or_start program logs xs c best ≡ Err m → IsRecorded logs m
+      → written_or_start program logs xs c best ≡ Err m → IsMissingWrite logs xs m
   at_best c None m h e = absurd (cc e)
-  at_best c (Some a) m h e = at_walk c a (walk_in logs xs c a) m h e
+  at_best c (Some a) m h e = at_walk c a (walk_in logs xs c a) m h refl e
 
-  last_recorded : (c : ℕ) (m : Missing) → written_or_start program logs xs c (greatest_writing program logs c)
-      ≡ Err m → IsRecorded logs m
-  last_recorded c m e =
+  last_missing : (c : ℕ) (m : Missing) → written_or_start program logs xs c (greatest_writing program logs c)
+      ≡ Err m → IsMissingWrite logs xs m
+  last_missing c m e =
       at_best c (greatest_writing program logs c) m
       (greatest_has (Writes c sets) (is_before_in program logs) None (writing logs c) tt (all_write c sets)) e
 
@@ -139,8 +155,8 @@ module _ (program : Program) (plan : Plan) (logs : Logs) (xs : List Seen)
   not_own p Stopped r m e = e
   not_own p Passed r m e = e
 
-  origin_recorded : (p k j c : ℕ) (m : Missing) → shared_origin program logs xs p k j c ≡ Err m → IsRecorded logs m
-  origin_recorded p k j c m e =
+  origin_missing : (p k j c : ℕ) (m : Missing) → shared_origin program logs xs p k j c ≡ Err m → IsMissingWrite logs xs m
+  origin_missing p k j c m e =
       let best = greatest_before program logs (edge_of_place logs xs p k j) c in
       at_best c best m
       (greatest_has (Writes c sets) (is_before_in program logs) None
@@ -154,23 +170,23 @@ module _ (program : Program) (plan : Plan) (logs : Logs) (xs : List Seen)
 
   module _ (p k j : ℕ) where
     of_read : (a : Access) (s : Spot) (m : Missing) → read_edge program plan logs xs p k j a s ≡ Err m
-        → IsRecorded logs m
+        → IsMissingWrite logs xs m
     of_read a (Local frame c) m e = absurd (cc e)
-    of_read a (Shared c) m e = origin_recorded p k j c m (by (shared_origin program logs xs p k j c) e)
+    of_read a (Shared c) m e = origin_missing p k j c m (by (shared_origin program logs xs p k j c) e)
       where
         by : (r : Result Origin Missing) → read_if a r ≡ Err m → r ≡ Err m
         by (Ok from) f = absurd (cc f)
         by (Err n) f = let is : n ≡ m = cc f in ap (λ u. Err u) is
 
     of_reads : (reads : List Access) (m : Missing) → read_edges program plan logs xs p k j reads ≡ Err m
-        → IsRecorded logs m
+        → IsMissingWrite logs xs m
     of_reads [] m e = absurd (cc e)
     of_reads (a ∷ reads) m e =
         by (read_edge program plan logs xs p k j a a.spot) (read_edges program plan logs xs p k j reads)
         (of_read a a.spot m) (of_reads reads m) e
       where
-        by : (r : Result FlowEdge Missing) (rs : Result (List FlowEdge) Missing) → (r ≡ Err m → IsRecorded logs m)
-            → (rs ≡ Err m → IsRecorded logs m) → before_others r rs ≡ Err m → IsRecorded logs m
+        by : (r : Result FlowEdge Missing) (rs : Result (List FlowEdge) Missing) → (r ≡ Err m → IsMissingWrite logs xs m)
+            → (rs ≡ Err m → IsMissingWrite logs xs m) → before_others r rs ≡ Err m → IsMissingWrite logs xs m
         by (Ok x) (Ok ys) f g h = absurd (cc h)
         by (Ok x) (Err n) f g h = let is : n ≡ m = cc h in g (ap (λ u. Err u) is)
         by (Err n) rs f g h = let is : n ≡ m = cc h in f (ap (λ u. Err u) is)
@@ -180,18 +196,18 @@ module _ (program : Program) (plan : Plan) (logs : Logs) (xs : List Seen)
     with_more (Ok es) more m e = absurd (cc e)
     with_more (Err n) more m e = let is : n ≡ m = cc e in ap (λ u. Err u) is
 
-    of_item : (t : Item) (m : Missing) → item_edges program plan logs xs p k j t ≡ Err m → IsRecorded logs m
+    of_item : (t : Item) (m : Missing) → item_edges program plan logs xs p k j t ≡ Err m → IsMissingWrite logs xs m
     of_item (item.Own ev) m e = of_reads ev.reads m (with_more (read_edges program plan logs xs p k j ev.reads) _ m e)
     of_item (item.Nested n b values closed) m e = absurd (cc e)
 
     of_there : (t : Option Item) (m : Missing) → edges_if program plan logs xs p k j t ≡ Some (Err m)
-        → IsRecorded logs m
+        → IsMissingWrite logs xs m
     of_there None m e = absurd (cc e)
     of_there (Some t) m e = let is : item_edges program plan logs xs p k j t ≡ Err m = cc e in of_item t m is
 
-pub missing_writes_are_recorded : MissingWritesAreRecorded
-missing_writes_are_recorded program plan logs xs accepted = record {
-  origins = λ p k j c m e. origin_recorded program plan logs xs accepted p k j c m e;
-  last = λ c m e. last_recorded program plan logs xs accepted c m e;
+pub missing_writes_are_told : MissingWritesAreTold
+missing_writes_are_told program plan logs xs accepted = record {
+  origins = λ p k j c m e. origin_missing program plan logs xs accepted p k j c m e;
+  last = λ c m e. last_missing program plan logs xs accepted c m e;
   edges = λ p k j m e. of_there program plan logs xs accepted p k j (slice_get (items_at (seen_at xs p) k) j) m e;
 }

@@ -1,5 +1,5 @@
 -- Where an edge's recorded write set has a cell, the entry that ends the edge records it.
-use Rattle.std.proofs.Common.{◌≡◌, ℕ, zero, suc, ◌+◌, Bool, true, false, ◌||◌, List, [], ◌∷◌, Some, None, refl, sym, get_or, map, true≢false}
+use Rattle.std.proofs.Common.{◌≡◌, ℕ, zero, suc, ◌+◌, Bool, true, false, ◌||◌, List, [], ◌∷◌, Some, None, refl, ap, sym, get_or, map, true≢false}
 use Rattle.std.specs.Prelude.{slice_get, ⊤}
 use Rattle.ppd_ast.specs.declared.plan.Plan.{Plan}
 use Rattle.ppd_ast.specs.declared.program.Program.{Program}
@@ -12,8 +12,8 @@ use Rattle.ppd_graph.specs.declared.sets.EdgeSets.{EdgeSets}
 use Rattle.ppd_graph.specs.LogRecord.{no_sets, sets_from}
 use Rattle.ppd_index.specs.Refusals.{first_bad, first_from, first_in_lists, refusal, standing}
 use Rattle.ppd_index.proofs.Fitting.{or_none}
-use Rattle.ppd_flow_past.specs.Edges.Missing.{writes_of}
-use Rattle.ppd_flow_model.specs.Ends.{ending}
+use Rattle.ppd_flow_model.specs.Ends.{ending, ends_edge, syncs_before}
+use Rattle.law_flow_missing.specs.Missing.{writes_of}
 
 -- ---- an end is the last entry
 
@@ -57,41 +57,65 @@ all_end_last program plan q (es ∷ lists) (suc p) none =
 
 -- ---- the entry that ends an edge
 
-pub record IsEntry (c : ℕ) (es : List Entry) (n : ℕ) : Type 0 where
+-- entry n ends edge i, and its write set has the cell
+pub record IsEntry (c : ℕ) (es : List Entry) (i n : ℕ) : Type 0 where
   pub entry : Entry
   pub there : slice_get es n ≡ Some entry
+  pub ends : ends_edge entry ≡ true
   pub writes : has (writes_of entry) c ≡ true
+  pub before : syncs_before es n ≡ i
 
-one_more : (c : ℕ) (e : Entry) (es : List Entry) (n : ℕ) → IsEntry c es n → IsEntry c (e ∷ es) (suc n)
-one_more c e es n h = record { entry = h.entry; there = h.there; writes = h.writes }
+-- after an entry that is no synchronization, and after one that is
+one_more : (c : ℕ) (e : Entry) (es : List Entry) (i n j : ℕ) (h : IsEntry c es i n)
+    → syncs_before (e ∷ es) (suc n) ≡ j → IsEntry c (e ∷ es) j (suc n)
+one_more c e es i n j h b =
+    record { entry = h.entry; there = h.there; ends = h.ends; writes = h.writes; before = b }
 
 module _ (c : ℕ) where
   abbrev IsIn : List EdgeSets → ℕ → Type 0
   IsIn sets i = has (get_or sets i no_sets).writes c ≡ true
 
-  pub entry_records : (es : List Entry) (i : ℕ) → EndsLast es → IsIn (sets_from None es) i → IsEntry c es (ending i es)
+  pub entry_records : (es : List Entry) (i : ℕ) → EndsLast es → IsIn (sets_from None es) i
+      → IsEntry c es i (ending i es)
   entry_records [] zero last h = absurd (true≢false (sym h))
   entry_records [] (suc i) last h = absurd (true≢false (sym h))
-  entry_records (entry.Sync kind object number value reads writes ∷ es) zero last h =
-      record { entry = entry.Sync kind object number value reads writes; there = refl; writes = h }
+  entry_records (entry.Sync kind object number value reads writes ∷ es) zero last h = record {
+    entry = entry.Sync kind object number value reads writes;
+    there = refl;
+    ends = refl;
+    writes = h;
+    before = refl;
+  }
   entry_records (entry.Sync kind object number value reads writes ∷ es) (suc i) last h =
-      one_more c (entry.Sync kind object number value reads writes) es (ending i es) (entry_records es i last.1 h)
-  entry_records (entry.End status rest reads writes ∷ []) zero last h =
-      record { entry = entry.End status rest reads writes; there = refl; writes = h }
+      let rest = entry_records es i last.1 h in
+      one_more c (entry.Sync kind object number value reads writes) es i (ending i es) (suc i) rest (ap suc rest.before)
+  entry_records (entry.End status rest reads writes ∷ []) zero last h = record {
+    entry = entry.End status rest reads writes;
+    there = refl;
+    ends = refl;
+    writes = h;
+    before = refl;
+  }
   entry_records (entry.End status rest reads writes ∷ []) (suc i) last h = absurd (true≢false (sym h))
   entry_records (entry.End status rest reads writes ∷ e ∷ es) i last h = absurd (cc (last.0 refl))
   entry_records (entry.Prelog b values ∷ es) zero last h =
-      one_more c (entry.Prelog b values) es (ending 0 es) (entry_records es 0 last.1 h)
+      let rest = entry_records es 0 last.1 h in
+      one_more c (entry.Prelog b values) es 0 (ending 0 es) 0 rest rest.before
   entry_records (entry.Prelog b values ∷ es) (suc i) last h =
-      one_more c (entry.Prelog b values) es (ending (suc i) es) (entry_records es (suc i) last.1 h)
+      let rest = entry_records es (suc i) last.1 h in
+      one_more c (entry.Prelog b values) es (suc i) (ending (suc i) es) (suc i) rest rest.before
   entry_records (entry.Unit u values ∷ es) zero last h =
-      one_more c (entry.Unit u values) es (ending 0 es) (entry_records es 0 last.1 h)
+      let rest = entry_records es 0 last.1 h in
+      one_more c (entry.Unit u values) es 0 (ending 0 es) 0 rest rest.before
   entry_records (entry.Unit u values ∷ es) (suc i) last h =
-      one_more c (entry.Unit u values) es (ending (suc i) es) (entry_records es (suc i) last.1 h)
+      let rest = entry_records es (suc i) last.1 h in
+      one_more c (entry.Unit u values) es (suc i) (ending (suc i) es) (suc i) rest rest.before
   entry_records (entry.Postlog b values ∷ es) zero last h =
-      one_more c (entry.Postlog b values) es (ending 0 es) (entry_records es 0 last.1 h)
+      let rest = entry_records es 0 last.1 h in
+      one_more c (entry.Postlog b values) es 0 (ending 0 es) 0 rest rest.before
   entry_records (entry.Postlog b values ∷ es) (suc i) last h =
-      one_more c (entry.Postlog b values) es (ending (suc i) es) (entry_records es (suc i) last.1 h)
+      let rest = entry_records es (suc i) last.1 h in
+      one_more c (entry.Postlog b values) es (suc i) (ending (suc i) es) (suc i) rest rest.before
 
 pub sets_of_process : (lists : List (List Entry)) (p i : ℕ)
     → get_or (get_or (map (sets_from None) lists) p []) i no_sets

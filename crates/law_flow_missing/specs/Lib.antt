@@ -1,0 +1,2 @@
+-- Writes that are missing.
+pub mod Missing

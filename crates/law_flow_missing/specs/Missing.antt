@@ -1,0 +1,102 @@
+-- A write that is missing: an entry that ends an internal edge has the cell in its write set, and no event of that edge,
+-- as replays give them, writes the cell.
+use Rattle.std.specs.Prelude.{◌≡◌, ℕ, zero, suc, Bool, true, false, List, [], ◌∷◌, ◌++◌, fold, length, take, slice_get, Some, None, Err, is_some, if◌then◌else◌}
+use Rattle.std.specs.List.{list_any}
+use Rattle.ppd_ast.specs.declared.plan.Plan.{Plan}
+use Rattle.ppd_ast.specs.declared.program.Program.{Program}
+use Rattle.ppd_ast.specs.Members.{has}
+use Rattle.ppd_entry.specs.declared.entry.Entry.{Entry}
+use Rattle.ppd_entry.specs.declared.entry.Entry.TheVariants as entry
+use Rattle.ppd_entry.specs.declared.entry.Logs.{Logs}
+use Rattle.ppd_entry.specs.Entries.{entries_at}
+use Rattle.ppd_index.specs.Refusals.{first_in_lists}
+use Rattle.ppd_sem.specs.declared.event.Event.{Event}
+use Rattle.ppd_model.specs.declared.flow.Item.{Item}
+use Rattle.ppd_model.specs.declared.flow.Item.TheVariants as item
+use Rattle.ppd_model.specs.declared.graph.EdgeId.{EdgeId}
+use Rattle.ppd_model.specs.HappenedBefore.{edge}
+use Rattle.ppd_flow_model.specs.Ends.{end_interval, end_item, ends_edge, syncs_before}
+use Rattle.ppd_flow_model.specs.Found.{found_edges}
+use Rattle.ppd_flow_model.specs.Seen.{Seen, items_at, place_of, round_at}
+use Rattle.ppd_flow_model.specs.Shared.{Missing, found_last, seen_at, shared_origin}
+use Rattle.ppd_flow_model.specs.Walk.{is_shared}
+
+-- ---- the entry
+
+-- the cells that an entry records as written in the edge that it ends
+abbrev pub writes_of : Entry → List ℕ
+writes_of (entry.Sync kind object number value reads writes) = writes
+writes_of (entry.End status rest reads writes) = writes
+writes_of e = []
+
+-- the internal edge that the entry ends: as many synchronizations stand before it
+abbrev pub edge_ended : Logs → Missing → EdgeId
+edge_ended logs m = edge m.process (syncs_before (entries_at logs m.process) m.entry)
+
+-- ---- the events of an internal edge, as replays give them
+
+-- the events of these items in order; `inner` are those of a whole interval
+abbrev pub events_among : (ℕ → List Event) → List Item → List Event
+events_among inner [] = []
+events_among inner (item.Own e ∷ ts) = e ∷ events_among inner ts
+events_among inner (item.Nested m b values closed ∷ ts) = inner m ++ events_among inner ts
+
+-- those of interval m and of the intervals inside it; these have larger numbers, so that no more than all stand in one
+-- another
+abbrev pub events_in : ℕ → Seen → ℕ → List Event
+events_in zero x m = []
+events_in (suc n) x m = events_among (events_in n x) (items_at x m)
+
+-- those of the first j items of interval k, after those before it in the intervals round it, the innermost first
+abbrev pub events_to : Seen → ℕ → ℕ → List ℕ → List Event
+events_to x k j [] = events_among (events_in (length x.items) x) (take j (items_at x k))
+events_to x k j (m ∷ ms) =
+    events_to x m (place_of k (items_at x m)) ms ++ events_among (events_in (length x.items) x) (take j (items_at x k))
+
+-- all events of the process before place j of interval k
+abbrev pub events_before : Seen → ℕ → ℕ → List Event
+events_before x k j = events_to x k j (round_at x k)
+
+abbrev pub after_event : List Event → Event → List Event
+after_event es e = if is_some e.number then [] else es ++ e ∷ []
+
+-- those of these events that come after the last synchronization
+abbrev pub since_sync : List Event → List Event
+since_sync es = fold after_event [] es
+
+-- the events of the edge: from the synchronization before it to the place where it ends
+abbrev pub events_of : List Seen → List Entry → EdgeId → List Event
+events_of xs entries a =
+    since_sync (events_before (seen_at xs a.process) (end_interval entries a.edge)
+    (end_item entries (seen_at xs a.process) a.edge))
+
+abbrev pub writes_cell : ℕ → Event → Bool
+writes_cell c e = list_any (λ a. is_shared c a.spot) e.writes
+
+-- ---- a write that is missing
+
+-- the entry is there and ends an internal edge of its process, a synchronization or the end; its write set has the cell;
+-- and none of the events of that edge writes the cell
+pub record IsMissingWrite (logs : Logs) (xs : List Seen) (m : Missing) : Type 0 where
+  pub entry : Entry
+  pub there : slice_get (entries_at logs m.process) m.entry ≡ Some entry
+  pub ends : ends_edge entry ≡ true
+  pub recorded : has (writes_of entry) m.cell ≡ true
+  pub unwritten : list_any (writes_cell m.cell) (events_of xs (entries_at logs m.process) (edge_ended logs m)) ≡ false
+
+-- so it is with each write that a search misses
+pub record AreMissingWrites (program : Program) (plan : Plan) (logs : Logs) (xs : List Seen) : Type 0 where
+  pub origins : (p k j c : ℕ) (m : Missing) → shared_origin program logs xs p k j c ≡ Err m → IsMissingWrite logs xs m
+  pub last : (c : ℕ) (m : Missing) → found_last program logs xs c ≡ Err m → IsMissingWrite logs xs m
+  pub edges : (p k j : ℕ) (m : Missing) → found_edges program plan logs xs p k j ≡ Some (Err m)
+      → IsMissingWrite logs xs m
+
+-- the index refuses none of these logs
+abbrev pub AreIndexed : Program → Plan → Logs → Type 0
+AreIndexed program plan logs = first_in_lists program plan 0 logs.lists ≡ None
+
+-- in logs that the index accepts, whatever is seen of the processes
+abbrev pub MissingWritesAreTold : Type 0
+MissingWritesAreTold =
+    (program : Program) (plan : Plan) (logs : Logs) (xs : List Seen)
+    → AreIndexed program plan logs → AreMissingWrites program plan logs xs

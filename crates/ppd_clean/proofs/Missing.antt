@@ -1,0 +1,95 @@
+-- The write that the search by cut logs misses is missing.
+use Rattle.std.proofs.Common.{◌≡◌, ℕ, Bool, true, false, List, Option, Some, None, Result, Ok, Err, refl, ap, ◌∙◌, if◌then◌else◌}
+use Rattle.std.specs.Prelude.{nat_le, slice_get}
+use Rattle.law_clean.specs.Answers.{no_item, unclean, unwritten}
+use Rattle.law_clean.specs.Search as sought
+use Rattle.law_flow_missing.specs.Missing.{AreIndexed, IsMissingWrite}
+use Rattle.law_flow_missing.proofs.MissingWrites.{missing_writes_are_told}
+use Rattle.ppd_ast.specs.declared.plan.Plan.{Plan}
+use Rattle.ppd_ast.specs.declared.program.Program.{Program}
+use Rattle.ppd_clean.specs.Answers.{IsCleanBy, written}
+use Rattle.ppd_clean.specs.Missing.{IsCauseOfSets}
+use Rattle.ppd_clean.specs.declared.clean_error.CleanError.{CleanError}
+use Rattle.ppd_clean.specs.declared.clean_error.CleanError.TheVariants as error
+use Rattle.ppd_clean.specs.declared.clean.Clean.{Clean}
+use Rattle.ppd_entry.specs.declared.entry.Logs.{Logs}
+use Rattle.ppd_entry.specs.Entries.{entries_at}
+use Rattle.ppd_flow_model.specs.Ends.{first_edge}
+use Rattle.ppd_flow_model.specs.Found.{found_edges}
+use Rattle.ppd_flow_model.specs.Seen.{Seen, items_at}
+use Rattle.ppd_flow_model.specs.Shared.{Missing, seen_at}
+use Rattle.ppd_flow_past.specs.declared.past.Past.{Past}
+use Rattle.ppd_model.specs.declared.flow.FlowEdge.{FlowEdge}
+use Rattle.ppd_model.specs.declared.flow.Item.{Item}
+use Rattle.ppd_model.specs.declared.graph.Race.{Race}
+use Rattle.ppd_model.specs.HappenedBefore.{edge}
+use Rattle.ppd_model.specs.RecordedSets.{record_in}
+
+module _ (program : Program) (plan : Plan) (budget : ℕ) (logs : Logs) (races : List Race) (p k j : ℕ)
+    (indexed : AreIndexed program plan logs) (m : Missing) where
+  -- what replays give where this is the first raced edge
+  abbrev seens : Option ℕ → List Seen
+  seens o = sought.seens program plan budget logs (record_in logs) races p k j o
+
+  of_edges : (o : Option ℕ) (t : Item) (r : Option (Result (List FlowEdge) Missing))
+      → found_edges program plan logs (seens o) p k j ≡ r
+      → sought.with_edges program plan budget logs (record_in logs) races p k j t r ≡ unwritten m
+      → IsMissingWrite logs (seens o) m
+  of_edges o t None e f = absurd (cc f)
+  of_edges o t (Some (Ok es)) e f = absurd (cc f)
+  of_edges o t (Some (Err n)) e f =
+      let is : n ≡ m = cc f in
+      (missing_writes_are_told program plan logs (seens o) indexed).edges p k j m (e ∙ ap (λ (x : Missing). Some (Err x)) is)
+
+  never_reached : (o : Option ℕ) → sought.reached program plan budget logs (record_in logs) races p k j o ≡ unwritten m → ⊥
+  never_reached None f = cc f
+  never_reached (Some u) f = by _ f
+    where
+      by : (b : Bool) → (if b then unclean (edge p u) else no_item) ≡ unwritten m → ⊥
+      by true f = cc f
+      by false f = cc f
+
+  never_unclean : (o : Option ℕ) → sought.unclean_at program plan budget logs (record_in logs) races p k j o ≡ unwritten m → ⊥
+  never_unclean None f = cc f
+  never_unclean (Some u) f = cc f
+
+  of_item : (o : Option ℕ) (t : Option Item)
+      → sought.by_item program plan budget logs (record_in logs) races p k j o (seens o) t ≡ unwritten m
+      → IsMissingWrite logs (seens o) m
+  of_item o None f = absurd (never_reached o f)
+  of_item o (Some t) f =
+      by (sought.is_unclean program plan budget logs (record_in logs) races p k j (seens o) o t) f
+    where
+      by : (b : Bool)
+          → (if b then sought.unclean_at program plan budget logs (record_in logs) races p k j o
+          else sought.with_edges program plan budget logs (record_in logs) races p k j t
+          (found_edges program plan logs (seens o) p k j)) ≡ unwritten m
+          → IsMissingWrite logs (seens o) m
+      by true g = absurd (never_unclean o g)
+      by false g = of_edges o t (found_edges program plan logs (seens o) p k j) refl g
+
+  of_first : (z : Option ℕ) → sought.from_first program plan budget logs (record_in logs) races p k j z ≡ unwritten m
+      → IsMissingWrite logs (seens z) m
+  of_first None f = of_item None (slice_get (items_at (seen_at (seens None) p) k) j) f
+  of_first (Some u) f = by (nat_le u (first_edge (entries_at logs p) k)) f
+    where
+      by : (b : Bool)
+          → (if b then unclean (edge p u)
+          else sought.by_first program plan budget logs (record_in logs) races p k j (Some u)) ≡ unwritten m
+          → IsMissingWrite logs (seens (Some u)) m
+      by true g = absurd (cc g)
+      by false g = of_item (Some u) (slice_get (items_at (seen_at (seens (Some u)) p) k) j) g
+
+  pub clean_missed : sought.clean_by program plan budget logs races p k j ≡ unwritten m
+      → IsMissingWrite logs (seens (sought.first_raced program plan budget logs (record_in logs) races p k j)) m
+  clean_missed f = of_first (sought.first_raced program plan budget logs (record_in logs) races p k j) f
+
+pub sets_missed : (past : Past) (races : List Race) (p k j : ℕ) (r : Result Clean CleanError)
+    → IsCleanBy past races p k j r → IsCauseOfSets past races p k j r
+sets_missed past races p k j (Err (error.Sets q n c)) f = λ indexed.
+    clean_missed past.program.now past.plan.now past.budget past.logs.now races p k j indexed (written q n c) f
+sets_missed past races p k j (Err (error.Diverged q n)) f = tt
+sets_missed past races p k j (Err (error.Unclean e)) f = tt
+sets_missed past races p k j (Err error.NoEvent) f = tt
+sets_missed past races p k j (Err error.Memory) f = tt
+sets_missed past races p k j (Ok c) f = tt
