@@ -191,7 +191,7 @@ NAMED = {
     "race.rec": header(content_of("docs/debugging/race.c"), 2) + 2 * log(end([0], [0])),
     "lost.rec": LOST + adds(1, 4, 2) + adds(2, 3, 1) + CHECK,
     "good.rec": LOST + adds(1, 2, 1) + adds(3, 4, 2) + CHECK,
-    "crates/ppd/data/buffer.rec": content_of("crates/ppd/data/buffer.rec"),
+    "docs/debugging/buffer.rec": content_of("docs/debugging/buffer.rec"),
 }
 
 

@@ -9,6 +9,8 @@
 - A pipeline of four processes, of 24,000 to 32,000 steps each, is run with its threads and without: without, each
   thread is refused by a limit on processes, so that the caller takes all turns. Both have to give the same, and
   it tells their times.
+- The race search of recordings of 1 to 16 processes, on one and on two processors: how many threads it starts, by
+  strace, which has to be there for it.
 
 Ends with status 0 where all holds, 1 where something differs, 2 where nothing could be run. It stands outside
 the gate: what it shows is what happened on this machine."""
@@ -38,6 +40,10 @@ process p1 { int i = 0; int v; while (i < 8000) { v = recv(c0); send(c1, v + 1);
 process p2 { int i = 0; int v; while (i < 8000) { v = recv(c1); send(c2, v + 2); i = i + 1; } }
 process p3 { int i = 0; int v; int sum = 0; while (i < 8000) { v = recv(c2); sum = sum + v; i = i + 1; } total = sum; print(sum); }
 """
+
+# Processors, processes, and how many threads the race search of a recording starts: it halves the processes till each
+# part is one, or there are twice as many parts as processors, and each halving starts one thread.
+SPAWNS = ((1, 1, 0), (1, 2, 1), (1, 4, 1), (1, 16, 1), (2, 1, 0), (2, 2, 1), (2, 4, 3), (2, 16, 3))
 
 # 3 * (0 + 1 + .. + 7999) + 8000 * (7 + 1 + 2) is printed
 SUMMED = """process p0 ended steps 24003
@@ -132,6 +138,36 @@ def pipeline_alike(given, folder):
     return good
 
 
+def spawns_of(program, words, folder, processors):
+    """How many threads the program starts on so many processors; None where they are not there or it fails."""
+    mine = sorted(os.sched_getaffinity(0))[:processors]
+    counted = os.path.join(folder, "counted")
+    command = ["strace", "-f", "-e", "trace=clone,clone3", "-o", counted, program, *words]
+    done = subprocess.run(command, cwd=folder, stdin=subprocess.DEVNULL, stdout=subprocess.DEVNULL, check=False,
+                          preexec_fn=lambda: os.sched_setaffinity(0, mine))
+    if done.returncode != 0 or len(mine) < processors:
+        return None
+    with open(counted, encoding="utf-8") as file:
+        return sum("clone(" in line or "clone3(" in line for line in file)
+
+
+def spawns_alike(given, folder):
+    """Whether the race search starts as many threads as its halvings."""
+    if not shutil.which("strace"):
+        print("race search: its threads are not counted, since strace is not there", flush=True)
+        return True
+    good = True
+    for processors, processes, wanted in SPAWNS:
+        writers = " ".join(f"process p{k} {{ x = {k}; }}" for k in range(processes))
+        with open(os.path.join(folder, "writers.c"), "w", encoding="utf-8") as file:
+            file.write(f"shared int x; {writers}")
+        run(given.program, ["run", "writers.c", "writers.rec"], folder, given.seconds)
+        found = spawns_of(given.program, ["debug", "writers.rec"], folder, processors)
+        good = good and found == wanted
+        print(f"race search, {processes} processes on {processors} processors: {found} threads started", flush=True)
+    return good
+
+
 def main():
     given = arguments()
     given.program = os.path.abspath(given.program)
@@ -147,6 +183,7 @@ def main():
                 file.write(source)
         good = pipeline_alike(given, folder)
         good = unguarded_answers(given, folder) and good
+        good = spawns_alike(given, folder) and good
         if given.cases:
             good = cases_alike(given) and good
     print("threads: all as it should be" if good else "threads: SOMETHING DIFFERS")

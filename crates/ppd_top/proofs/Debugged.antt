@@ -104,7 +104,7 @@ module _ (c : Call) (name bytes : List ℕ) (asks : AsksDebug c.words name) (loa
   pub debug_unwritten : Debugs bytes c.before.io c.after.io c.status → c.status ≡ 4 → WriteFailed c
   debug_unwritten (no_recall is written) e = absurd (omega arith)
   debug_unwritten (recording_refused line why same f) e =
-      let t = same_input c.before.io.left c.after.io.left same in
+      let t = same_input c.before.io.left c.after.io.left same.left in
       write_failed c t.0 6 line t.1
       (for_recording name bytes asks loads no_run (output 6 line) (refused_recording line why)) (λ k. omega arith) f e
   debug_unwritten (recalled r accepted t) e =

@@ -165,7 +165,7 @@ module _ (c : Call) (number : ℕ) (asks : AsksDrill c.words number) where
   drill_unwritten same (no_source is empty kept) e = absurd (omega arith)
   drill_unwritten same (refused_drill error cause empty (inl h)) e = absurd (omega (arith, h.0))
   drill_unwritten same (refused_drill error cause empty (inr (real, f))) e =
-      let t = same_input c.before.io.left c.after.io.left same in
+      let t = same_input c.before.io.left c.after.io.left same.left in
       let w : Answers (generated number) drill_options drill_commands Flow c.schedule (output 1 (refused error)) =
       subst (λ h. Answers (generated number) drill_options drill_commands Flow h (output 1 (refused error))) (sym empty) (refusal Flow error real cause) in
       write_failed c t.0 1 (refused error) t.1 (for_number number asks (output 1 (refused error)) w) (λ k. omega arith) f e
@@ -175,7 +175,7 @@ module _ (c : Call) (number : ℕ) (asks : AsksDrill c.words number) where
       by : Ends program → WriteFailed c
       by (inl (inl h)) = absurd (omega (arith, h.0))
       by (inl (inr h)) =
-          let t = same_input c.before.io.left c.after.io.left same in
+          let t = same_input c.before.io.left c.after.io.left same.left in
           record {
             rose = h.1;
             commands = t.0;

@@ -132,7 +132,7 @@ module _ (c : Call) (name : List ℕ) (options : Options) (bytes : List ℕ) (lo
     pub refused_unwritten : LeftInput c → Refuses error c.before.io.written c.after.io.written c.before.io.writes c.after.io.writes c.status → c.status ≡ 4 → WriteFailed c
     refused_unwritten same (inl h) is = absurd (omega (arith, h.0))
     refused_unwritten same (inr (real, f)) is =
-        let t = same_input c.before.io.left c.after.io.left same in
+        let t = same_input c.before.io.left c.after.io.left same.left in
         let w : Answers bytes options t.0 command c.schedule (output 1 (refused error)) =
         subst (λ h. Answers bytes options t.0 command h (output 1 (refused error))) (sym no_run) (refusal command error real cause) in
         write_failed c t.0 1 (refused error) t.1 (for_source command name options bytes asked loads (output 1 (refused error)) w) (λ e. omega arith) f is
@@ -212,7 +212,7 @@ module _ (c : Call) (name : List ℕ) (options : Options) (bytes : List ℕ) (lo
     pub show_unwritten : LeftInput c → Shows program options c.schedule c.before.io c.after.io c.status → c.status ≡ 4 → WriteFailed c
     show_unwritten same (inl h) is = absurd (omega (arith, h.0))
     show_unwritten same (inr (none, f)) is =
-        let t = same_input c.before.io.left c.after.io.left same in
+        let t = same_input c.before.io.left c.after.io.left same.left in
         let text = table_of program (plan_of program options) in
         let w : Answers bytes options t.0 Show c.schedule (output 0 text) =
         subst (λ h. Answers bytes options t.0 Show h (output 0 text)) (sym none) (tables program accepted) in

@@ -120,11 +120,11 @@ module _ (c : Call) (name : List ℕ) (query : Query) (bytes : List ℕ) (asks :
   pub query_unwritten : LeftInput c → Queries bytes query c.schedule c.before.io.written c.after.io.written c.before.io.writes c.after.io.writes c.status → c.status ≡ 4 → WriteFailed c
   query_unwritten same (no_query is empty none) e = absurd (omega arith)
   query_unwritten same (query_refused line why empty f) e =
-      let t = same_input c.before.io.left c.after.io.left same in
+      let t = same_input c.before.io.left c.after.io.left same.left in
       let w : Tells bytes query c.schedule (output 6 line) = subst (λ h. Tells bytes query h (output 6 line)) (sym empty) (not_recalled line why) in
       write_failed c t.0 6 line t.1 (for_query name query bytes asks loads (output 6 line) w) (λ k. omega arith) f e
   query_unwritten same (queried r accepted n text g f) e =
-      let t = same_input c.before.io.left c.after.io.left same in
+      let t = same_input c.before.io.left c.after.io.left same.left in
       write_failed c t.0 n text t.1 (for_query name query bytes asks loads (output n text) (given r c.schedule n text accepted g))
       (λ k. given_not r n text g 4 k (λ z. omega arith) (λ z. omega arith)) f e
 

@@ -85,7 +85,7 @@ module _ (c : Call) (name recording : List ℕ) (options : Options) (bytes : Lis
         written = written;
       })
       by (kept b of s others f) =
-          let t = same_input c.before.io.left c.after.io.left same in
+          let t = same_input c.before.io.left c.after.io.left same.left in
           let text = summary_of_run program options c.schedule in
           inl (write_failed c t.0 0 text t.1
           (for_source (Run recording) name options bytes asks loads (output 0 text) (stored program recording c.schedule accepted r.whole)) (λ k. omega arith) f e)

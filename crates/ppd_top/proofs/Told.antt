@@ -40,7 +40,7 @@ use Rattle.ppd_top.specs.Output.{Output, Standing, Talks, answers, before, outpu
 use Rattle.ppd_top.specs.Ran.{FailsBy, IsClosed, RanTo, ScheduleFails, StopsAt, WasTold}
 use Rattle.ppd_top.specs.Runs.{CanBeTold, IsRunOf}
 use Rattle.ppd_top.specs.Summary.{summary_of}
-use Rattle.ppd_top.specs.Top.{Follows, IsWholeRun, out_of, plan_of, summary_of_run}
+use Rattle.ppd_top.specs.Top.{EndsWith, Follows, IsWholeRun, out_of, plan_of, summary_of_run}
 use Rattle.ppd_top.proofs.Agreeing.{of_agreeing}
 use Rattle.ppd_top.proofs.Talked.{known_from, summary_from, talks_of_run}
 
@@ -147,12 +147,19 @@ module _ (program : Program) (options : Options) (commands h : List ℕ) (plan :
   ran_ok (Ok t) items e = ran_to (items t) e
   ran_ok (Err e) items k = tt
 
+  ends_with : (status : ℕ) → (answers (known_of_logs program plan options.budget closed.logs) commands).status ≡ status → EndsWith program options commands h status
+  ends_with status f = record {
+    whole = r.whole;
+    is = ap (λ (o : Output). o.status) (sym out_is) ∙ f;
+    agreeing = of_agreeing program options h commands;
+  }
+
   fails_by : (e : FollowError) → FailsBy (answers (known_of_logs program plan options.budget closed.logs) commands).status e → ScheduleFails program options commands h e
   fails_by (Refused error) f = absurd f
   fails_by (NotEnabled n) f = absurd f
   fails_by NotWhole f = absurd f
-  fails_by LongLine f = record { whole = r.whole; is = ap (λ (o : Output). o.status) (sym out_is) ∙ f }
-  fails_by ManyLines f = record { whole = r.whole; is = ap (λ (o : Output). o.status) (sym out_is) ∙ f }
+  fails_by LongLine f = ends_with 7 f
+  fails_by ManyLines f = ends_with 8 f
   fails_by Memory f = tt
 
   pub fails_err : {T : Type 0} (result : Result T FollowError) → IfErr result (λ e. FailsBy (answers (known_of_logs program plan options.budget closed.logs) commands).status e) → IfErr result (λ e. ScheduleFails program options commands h e)

@@ -3,7 +3,7 @@ use Rattle.std.specs.Prelude.{◌≡◌, ℕ, List, Option}
 use Rattle.std.specs.Borrow.{Bor}
 use Rattle.ppd_io.specs.Causes.{Rose}
 use Rattle.ppd_io.specs.Content.{Appends, AppendsPart}
-use Rattle.ppd_top.specs.Output.{AppendsFront, Standing}
+use Rattle.ppd_top.specs.Output.{AppendsFront, IsUnread, Standing}
 
 -- how the devices stand: what the shelf is told to hold, its counts of loads and of stores that failed, and input and
 -- output
@@ -46,9 +46,9 @@ WroteNothing c = c.after.io.written ≡ c.before.io.written
 
 -- ---- what it left as it was
 
--- no byte of the input was taken
+-- nothing was read of the input, and no read of it failed
 abbrev pub LeftInput : Call → Type 0
-LeftInput c = c.after.io.left ≡ c.before.io.left
+LeftInput c = IsUnread c.before.io c.after.io
 
 -- nothing was stored
 pub record LeftShelf (c : Call) : Type 0 where

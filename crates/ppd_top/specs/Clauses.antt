@@ -189,7 +189,7 @@ pub record WasNotAsked (c : Call) : Type 0 where
   pub none : IsNotAsked c.words
   pub written : Wrote c usage
 
--- status 3: a load of the source's name failed, nothing ran, and nothing was written
+-- status 3: a load of the source's name failed, nothing ran, nothing was read of the input, and nothing was written
 pub record LoadFailed (c : Call) : Type 0 where
   pub command : Command
   pub name : List ℕ
@@ -197,6 +197,7 @@ pub record LoadFailed (c : Call) : Type 0 where
   pub asked : Asks c.words command name options
   pub rose : HasFailedLoad c name
   pub no_run : c.schedule ≡ []
+  pub unread : LeftInput c
   pub written : WroteNothing c
 
 -- or, where the words ask for a recording, a load of its name
@@ -205,6 +206,7 @@ pub record RecordingUnread (c : Call) : Type 0 where
   pub asked : AsksRecording c.words name
   pub rose : HasFailedLoad c name
   pub no_run : c.schedule ≡ []
+  pub unread : LeftInput c
   pub written : WroteNothing c
 
 -- or in `flow` a read of the input failed, and the summary with the answers to the whole lines among the bytes taken

@@ -126,6 +126,12 @@ abbrev pub standing : (left last : Option (List ℕ)) → ℕ → Option (List �
 standing left last reads written writes =
     record { left = left; last = last; reads = reads; written = written; writes = writes }
 
+-- the input is as it was: no byte was taken, no read began, and none failed
+pub record IsUnread (a b : Standing) : Type 0 where
+  pub left : b.left ≡ a.left
+  pub last : b.last ≡ a.last
+  pub reads : b.reads ≡ a.reads
+
 -- a read failed: the answers to the whole lines among the bytes taken were written, and none of these lines ends the
 -- answers
 pub record IsBroken (x : Known) (head : List ℕ) (a b : Standing) : Type 0 where

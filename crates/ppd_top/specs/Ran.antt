@@ -18,7 +18,7 @@ use Rattle.ppd_top.specs.declared.options.Options.{Options}
 use Rattle.ppd_top.specs.declared.following.FollowError.{FollowError}
 use Rattle.ppd_top.specs.declared.following.FollowError.TheVariants.{Refused, NotEnabled, NotWhole, LongLine, ManyLines, Memory}
 use Rattle.ppd_top.specs.Call.{Call, Devices, HasFailedLoad, LeftInput, LeftShelf}
-use Rattle.ppd_top.specs.Output.{AppendsFront, Standing, Talks, output}
+use Rattle.ppd_top.specs.Output.{AppendsFront, IsUnread, Standing, Talks, output}
 use Rattle.ppd_text_refusals.specs.Sources.{refused}
 use Rattle.ppd_top.specs.Top.{EndsWith, Finished, IsStuckAt, IsUnfinished, IsWholeRun, drill_options, drill_out, known_of, most_bytes, out_of, plan_of, summary_of_run, usage, most_recording, IsRecordingOfRun}
 use Rattle.ppd_top_query.specs.Queries.{Gives, Query}
@@ -32,6 +32,7 @@ use Rattle.ppd_codec_runs.specs.Recordings.{IsAccepted, IsRefusedBy, known_of as
 -- nothing came to its end, and nothing was read or written
 pub record DidNothing (schedule : List ℕ) (a b : Standing) : Type 0 where
   pub no_run : schedule ≡ []
+  pub unread : IsUnread a b
   pub written : b.written ≡ a.written
 
 -- a whole schedule was told
@@ -95,7 +96,7 @@ Records source program options name schedule x y status =
 -- what `debug` comes to for the bytes of a recording: want of memory, a refusal, or answers
 pub data Debugs (bytes : List ℕ) (a b : Standing) (status : ℕ) : Type 0 where
   no_recall : status ≡ 5 → b.written ≡ a.written → Debugs bytes a b status
-  recording_refused : (line : List ℕ) → IsRefusedBy bytes line → b.left ≡ a.left
+  recording_refused : (line : List ℕ) → IsRefusedBy bytes line → IsUnread a b
       → Finished a.written b.written a.writes b.writes status 6 line → Debugs bytes a b status
   recalled : (r : Recording) → IsAccepted bytes r → Talks (known_of_recording r) [] a b status → Debugs bytes a b status
 

@@ -165,6 +165,7 @@ pub record IsUnfinished (program : Program) (options : Options) (schedule : List
 pub record EndsWith (program : Program) (options : Options) (commands schedule : List ℕ) (status : ℕ) : Type 0 where
   pub whole : IsWholeRun program options schedule
   pub is : (out_of program options schedule commands).status ≡ status
+  pub agreeing : IsOfAgreeing program options schedule commands (out_of program options schedule commands)
 
 -- why there is no text: a refused source comes first, then what the schedule lacks, then the lines
 abbrev pub FollowFails : List ℕ → Options → (commands schedule : List ℕ) → FollowError → Type 0

@@ -68,8 +68,9 @@ const MOST_RECORDING: usize = MOST_RECORDING_BYTES + 1;
 ///   answer, or one line that refuses it.
 /// - 1: the source, in `drill` that of the number, has no program, and the line that says why was written.
 /// - 2: the words are others, and the usage line was written.
-/// - 3: the shelf failed to load the source or the recording, and nothing was written; or in `flow` and `debug` a read
-///   of the input failed, and in `flow` the summary, in both the answers to the whole lines before were written.
+/// - 3: the shelf failed to load the source or the recording, and nothing was read of the input or written; or in
+///   `flow` and `debug` a read of the input failed, and in `flow` the summary, in both the answers to the whole lines
+///   before were written.
 /// - 4: the output failed, and a proper prefix of what belongs there was written; or in `run` the store failed.
 /// - 5: want of memory, and a prefix of what belongs there was written; nothing where no run came to its end. The shelf
 ///   holds what it held. It may come whatever the words are.

@@ -21,3 +21,4 @@ mod words;
 pub use call::{Outcome, ppd};
 pub use following::{FollowError, follow};
 pub use options::Options;
+pub use ppd_top_drill::generate;

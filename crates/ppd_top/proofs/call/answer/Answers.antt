@@ -27,7 +27,7 @@ returns-in-Recording-clause-input g c = λ e.
 pub returns-in-Drill-clause-comes : goal.returns-in-Drill-clause-comes
 returns-in-Drill-clause-comes g c =
     drill_done c.in-Drill.number (asks_drill (texts_in c.args.words.now) c.in-Ok.asked c.in-Ok.ensures.is c.in-Some.request c.in-Drill.number c.in-Some.is c.in-Drill.is)
-    (record { held = refl; stores = λ n. refl }) refl c.drill.ensures
+    (record { held = refl; stores = λ n. refl }) (record { left = refl; last = refl; reads = refl }) c.drill.ensures
 
 pub returns-in-Query-clause-comes : goal.returns-in-Query-clause-comes
 returns-in-Query-clause-comes g c =

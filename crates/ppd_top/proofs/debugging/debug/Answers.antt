@@ -10,7 +10,7 @@ returns-in-Err-Refused g c =
     let value = c.deref.ensures.value in
     let line = c.in-Err-Refused.line-is in
     let e : c.deref.result.now ≡ c.in-Err-Refused.line.items = cc in
-    recording_refused c.in-Err-Refused.line.items why refl
+    recording_refused c.in-Err-Refused.line.items why (record { left = refl; last = refl; reads = refl })
     (subst (Finished (g.O.Sink.written c.args.output.now) (g.O.Sink.written c.finish.new.output) (g.O.Sink.faults c.args.output.now) (g.O.Sink.faults c.finish.new.output) c.finish.result 6) e c.finish.ensures.end)
 
 pub returns-in-Ok : goal.returns-in-Ok

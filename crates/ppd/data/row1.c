@@ -1,0 +1,1 @@
+shared int x; process a { x = 2; print(x + 3); }
