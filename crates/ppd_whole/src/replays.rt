@@ -6,6 +6,7 @@ ghost use Rattle.ppd_whole.specs.Answers.{all_intervals};
 ghost use Rattle.ppd_whole.specs.Replays.{AreReplays, IsReplay, StopsAt};
 
 use crate::jobs::{Job, jobs_of};
+use crate::shares::share;
 use crate::whole_error::WholeError;
 use ppd_ast::{Memory, Seq, Steps};
 use ppd_flow_past::{FlowError, Past, replayed};
@@ -42,14 +43,6 @@ fn items_of(alloc: Global, past: &Past, job: Job) -> Result<Seq<Item>, WholeErro
     ensures { IsReplay past.now job result }
 {
     items_from::<Brand>(alloc, past, job, Blank::new(1))
-}
-
-// How many intervals a worker replays at least.
-fn share(count: usize, workers: u32) -> usize
-    requires { 0 < workers }
-{
-    let workers = workers as usize;
-    count.saturating_add(workers - 1) / workers
 }
 
 type Found = Vec<Result<Seq<Item>, WholeError>>;
@@ -131,4 +124,15 @@ pub(crate) fn all_items(
     let jobs = jobs_of(alloc, past)?;
     let found = replays(rt, alloc, past, &jobs, workers)?;
     gathered(alloc, past, &jobs, found)
+}
+
+/// Drops the items, in as many threads as found them.
+pub(crate) fn drop_all(rt: &(impl Threads + Sync), rows: Seq<Seq<Item>>, workers: u32)
+    requires { 0 < workers }
+{
+    let count = rows.len();
+    rows.into_vec()
+        .into_par_iter()
+        .with_min_len(share(count, workers))
+        .for_each(rt, |_items: Seq<Item>| {});
 }
