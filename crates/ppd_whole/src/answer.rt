@@ -24,11 +24,11 @@ use std::alloc::Global;
 use std::thread::Threads;
 
 /// The lines of each process, whose events are joined from the items of all intervals.
-fn parts_of<'a>(
+fn parts_of(
     rt: &(impl Threads + Sync),
     alloc: Global,
-    past: &'a Past<'a>,
-    rows: &'a [Seq<Item>],
+    past: &Past,
+    rows: &[Seq<Item>],
     workers: u32,
 ) -> Result<Vec<Bytes>, Memory>
     requires past { IsPast past.now }

@@ -20,10 +20,10 @@ fn marks_at(alloc: Global, events: &[Vec<&Event>], p: usize) -> Result<Marks, Me
 }
 
 /// What the events of each process leave, each found in whatever thread.
-pub(crate) fn marks_of_all<'a>(
+pub(crate) fn marks_of_all(
     rt: &(impl Threads + Sync),
     alloc: Global,
-    events: &'a [Vec<&'a Event>],
+    events: &[Vec<&Event>],
     workers: u32,
 ) -> Result<Vec<Marks>, Memory>
     requires { 0 < workers }

@@ -1,6 +1,7 @@
 // The items of all intervals, by replays that are split among workers.
-ghost use Rattle.std.specs.Prelude.{◌≡◌, ◌<◌, map, Ok, IfErr, IfOk};
+ghost use Rattle.std.specs.Prelude.{◌≡◌, ◌<◌, ◌+◌, [], ◌∷◌, map, Ok, IfErr, IfOk, OnOk};
 ghost use Rattle.std.specs.List.{AllZip};
+ghost use Rattle.ppd_flow_past.specs.ByReplays.{cost};
 ghost use Rattle.ppd_flow_past.specs.Pasts.{IsPast};
 ghost use Rattle.ppd_whole.specs.Answers.{all_intervals};
 ghost use Rattle.ppd_whole.specs.Replays.{AreReplays, IsReplay, StopsAt};
@@ -17,7 +18,25 @@ use std::marker::Brand;
 use std::sync::ledger::{Blank, Ledger};
 use std::thread::Threads;
 
-// The items of an interval, with steps that nobody reads.
+// The items of an interval, which is replayed once: the counter rises by the steps that the interval itself takes.
+fn items_in<L: Ledger>(
+    alloc: Global,
+    past: &Past,
+    job: Job,
+    steps: &mut Steps<L>,
+) -> Result<Seq<Item>, WholeError>
+    requires { IsPast past.now }
+    ensures is { IsReplay past.now job result }
+    ensures cost { OnOk result (steps.new ≡ steps.old + cost past.now (job ∷ [])) }
+{
+    match replayed(alloc, past, job.0, job.1, steps) {
+        Ok(items) => Ok(items),
+        Err(FlowError::Diverged { process, entry }) => Err(WholeError::Diverged { process, entry }),
+        Err(_) => Err(WholeError::Memory),
+    }
+}
+
+// The same, with steps that nobody reads.
 fn items_from<L: Ledger>(
     alloc: Global,
     past: &Past,
@@ -31,11 +50,7 @@ fn items_from<L: Ledger>(
     ensures { IsReplay past.now job result }
 {
     let mut steps: Steps<L> = Steps::new(blank);
-    match replayed(alloc, past, job.0, job.1, &mut steps) {
-        Ok(items) => Ok(items),
-        Err(FlowError::Diverged { process, entry }) => Err(WholeError::Diverged { process, entry }),
-        Err(_) => Err(WholeError::Memory),
-    }
+    items_in(alloc, past, job, &mut steps)
 }
 
 fn items_of(alloc: Global, past: &Past, job: Job) -> Result<Seq<Item>, WholeError>
