@@ -16,8 +16,8 @@ use std::marker::Brand;
 use std::sync::ledger::{Blank, Ledger};
 use std::thread::Threads;
 
-/// The lines of the events of process `p`, in the steps that `put_process` takes. `Memory` also for one that has no 8-bit
-/// number.
+/// The lines of the events of process `p`, in the steps that `put_process` takes. `Memory` also for one that has no
+/// 8-bit number.
 fn lines_at<L: Ledger>(
     alloc: Global,
     linked: &LinkedPast,
