@@ -5,18 +5,18 @@ use Rattle.ppd_io.specs.Content.{StoreFails}
 use Rattle.ppd_top_query.specs.OfRuns.{AnswersAreOfRuns}
 use Rattle.ppd_top.specs.declared.options.Options.{Options}
 use Rattle.ppd_top.specs.Call.{Call, HasFailedLoad, LeftShelf, Wrote}
-use Rattle.ppd_top.specs.Clauses.{AnswersCutOff, DrillCutOff, InputFailed, IsOutcome, IsPromised, IsPromisedAnswers, IsPromisedDrill, IsPromisedQuery, IsTaken, LinesFailed, LoadFailed, MemoryRanOut, QueryRefused, RanWhole, RecordingUnread, ReplayRefused, StoreFailed, StoresNothing, WasAnswered, WasCutOff, WasDrilled, WasNotAsked, WasNotDrilled, WasNotRecalled, WasNotStored, WasQueried, WasRefused, WasShown, WasStored, WriteFailed}
+use Rattle.ppd_top.specs.Clauses.{AnswersCutOff, DrillCutOff, InputFailed, IsOutcome, IsPromised, IsPromisedAnswers, IsPromisedDrill, IsPromisedQuery, IsTaken, LinesFailed, LoadFailed, MemoryRanOut, QueryRefused, RanWhole, RecordingUnread, ReplayRefused, StoreFailed, StoresNothing, WasAnswered, WasCutOff, WasDrilled, WasNotAsked, WasNotRecalled, WasNotStored, WasQueried, WasRefused, WasShown, WasStored, WriteFailed}
 use Rattle.ppd_top.specs.Clauses.IsTaken.{by_drill, by_run}
 use Rattle.ppd_top.specs.Ran.{Comes}
 use Rattle.ppd_top.specs.Ran.Comes.{not_asked, no_memory, not_loaded, refusal, flow_done, show_done, run_done, recording_not_loaded, debug_done, drill_done, query_done}
-use Rattle.ppd_top.specs.Ran.Drilled.{no_source, refused_drill, drilled}
+use Rattle.ppd_top.specs.Ran.Drilled.{no_program, drilled}
 use Rattle.ppd_top.specs.Top.{Finished, usage}
 use Rattle.ppd_top.specs.Top.Writes.{for_words}
 use Rattle.ppd_top.specs.Words.{Asks, Command}
 use Rattle.ppd_top.specs.Words.Command.{Flow, Run, Show}
 use Rattle.ppd_top.proofs.Conversing.{same_input}
 use Rattle.ppd_top.proofs.Debugged.{debug_any, debug_broken, debug_complete, debug_out, debug_refused, debug_unwritten, debug_whole}
-use Rattle.ppd_top.proofs.DrillEnds.{drill_any, drill_complete, drill_cut_off, drill_no_run, drill_refused, drill_unwritten, drill_whole, not_nothing, not_recording, not_source}
+use Rattle.ppd_top.proofs.DrillEnds.{drill_any, drill_complete, drill_cut_off, drill_no_run, drill_not_refused, drill_unwritten, drill_whole, not_nothing, not_recording, not_source}
 use Rattle.ppd_top.proofs.Outcomes.{ask_nothing, debug_nothing, one_run, flow_any, flow_broken, flow_complete, flow_out, flow_unwritten, flow_whole, not_both, one_name, refused_complete, refused_out, refused_so, refused_unwritten, refused_any, show_any, show_complete, show_done as shown, show_out, show_unwritten, was_read, write_failed}
 use Rattle.ppd_top.proofs.Queried.{debug_no_query, debug_recording, drill_no_query, query_any, query_complete, query_not_told, query_nothing, query_out, query_recording, query_taken, query_unwritten, query_whole, recording_no_drill, source_no_query, source_no_recording}
 use Rattle.ppd_top.proofs.Recorded.{others_same, run_any, run_complete, run_others, run_out, run_stored, run_unwritten}
@@ -33,7 +33,7 @@ module _ (of_runs : AnswersAreOfRuns) (c : Call) where
   in_range (run_done name recording options bytes program asks loads read same d) = all_below c.status (0 ∷ 4 ∷ 5 ∷ []) refl (run_any c name recording options bytes program asks loads read d)
   in_range (recording_not_loaded name asks left is rose none) = all_below c.status (3 ∷ []) refl (inl is)
   in_range (debug_done name bytes asks loads left empty d) = all_below c.status (0 ∷ 7 ∷ 8 ∷ 3 ∷ 4 ∷ 5 ∷ 6 ∷ []) refl (debug_any c name bytes asks loads empty d)
-  in_range (drill_done number asks left same d) = all_below c.status (0 ∷ 1 ∷ 4 ∷ 5 ∷ []) refl (drill_any c number asks d)
+  in_range (drill_done number asks left same d) = all_below c.status (0 ∷ 4 ∷ 5 ∷ []) refl (drill_any c number asks d)
   in_range (query_done name query bytes asks loads left same d) = all_below c.status (0 ∷ 4 ∷ 5 ∷ 6 ∷ []) refl (query_any c name query bytes asks loads d)
 
   was_done : Comes c → c.status ≡ 0 → RanWhole c ⊎ (WasShown c ⊎ (WasStored c ⊎ (WasAnswered c ⊎ (WasDrilled c ⊎ WasQueried c))))
@@ -63,20 +63,20 @@ module _ (of_runs : AnswersAreOfRuns) (c : Call) where
   was_ended (run_done name recording options bytes program asks loads read same d) e = absurd (not_lines (0 ∷ 4 ∷ 5 ∷ []) refl refl e (run_any c name recording options bytes program asks loads read d))
   was_ended (recording_not_loaded name asks left is rose none) e = absurd (not_lines (3 ∷ []) refl refl e (inl is))
   was_ended (debug_done name bytes asks loads left empty d) e = inr (debug_whole c name bytes asks loads empty d (inr e))
-  was_ended (drill_done number asks left same d) e = absurd (not_lines (0 ∷ 1 ∷ 4 ∷ 5 ∷ []) refl refl e (drill_any c number asks d))
+  was_ended (drill_done number asks left same d) e = absurd (not_lines (0 ∷ 4 ∷ 5 ∷ []) refl refl e (drill_any c number asks d))
   was_ended (query_done name query bytes asks loads left same d) e = absurd (not_lines (0 ∷ 4 ∷ 5 ∷ 6 ∷ []) refl refl e (query_any c name query bytes asks loads d))
 
-  was_refused : Comes c → c.status ≡ 1 → WasRefused c ⊎ WasNotDrilled c
+  was_refused : Comes c → c.status ≡ 1 → WasRefused c
   was_refused (not_asked none left empty same f) e = absurd (other_than 1 c.status (2 ∷ 4 ∷ []) refl e (finished_in c.before.io.written c.after.io.written c.before.io.writes c.after.io.writes c.status 2 usage f))
   was_refused (no_memory is left none) e = absurd (other_than 1 c.status (5 ∷ []) refl e (inl is))
   was_refused (not_loaded command name options asks left is rose none) e = absurd (other_than 1 c.status (3 ∷ []) refl e (inl is))
-  was_refused (refusal command name options bytes error asks loads cause left empty same r) e = inl (refused_so c name options bytes loads command error asks cause empty r e)
+  was_refused (refusal command name options bytes error asks loads cause left empty same r) e = refused_so c name options bytes loads command error asks cause empty r e
   was_refused (flow_done name options bytes program asks loads read left d) e = absurd (other_than 1 c.status (0 ∷ 7 ∷ 8 ∷ 3 ∷ 4 ∷ 5 ∷ []) refl e (flow_any c name options bytes loads asks program read d))
   was_refused (show_done name options bytes program asks loads read left same d) e = absurd (other_than 1 c.status (0 ∷ 4 ∷ 5 ∷ []) refl e (show_any c name options bytes loads asks program read d))
   was_refused (run_done name recording options bytes program asks loads read same d) e = absurd (other_than 1 c.status (0 ∷ 4 ∷ 5 ∷ []) refl e (run_any c name recording options bytes program asks loads read d))
   was_refused (recording_not_loaded name asks left is rose none) e = absurd (other_than 1 c.status (3 ∷ []) refl e (inl is))
   was_refused (debug_done name bytes asks loads left empty d) e = absurd (other_than 1 c.status (0 ∷ 7 ∷ 8 ∷ 3 ∷ 4 ∷ 5 ∷ 6 ∷ []) refl e (debug_any c name bytes asks loads empty d))
-  was_refused (drill_done number asks left same d) e = inr (drill_refused c number asks d e)
+  was_refused (drill_done number asks left same d) e = absurd (drill_not_refused c number asks d e)
   was_refused (query_done name query bytes asks loads left same d) e = absurd (other_than 1 c.status (0 ∷ 4 ∷ 5 ∷ 6 ∷ []) refl e (query_any c name query bytes asks loads d))
 
   asked_nothing : Finished c.before.io.written c.after.io.written c.before.io.writes c.after.io.writes c.status 2 usage → c.status ≡ 2 → Wrote c usage
@@ -93,7 +93,7 @@ module _ (of_runs : AnswersAreOfRuns) (c : Call) where
   was_not_asked (run_done name recording options bytes program asks loads read same d) e = absurd (other_than 2 c.status (0 ∷ 4 ∷ 5 ∷ []) refl e (run_any c name recording options bytes program asks loads read d))
   was_not_asked (recording_not_loaded name asks left is rose none) e = absurd (other_than 2 c.status (3 ∷ []) refl e (inl is))
   was_not_asked (debug_done name bytes asks loads left empty d) e = absurd (other_than 2 c.status (0 ∷ 7 ∷ 8 ∷ 3 ∷ 4 ∷ 5 ∷ 6 ∷ []) refl e (debug_any c name bytes asks loads empty d))
-  was_not_asked (drill_done number asks left same d) e = absurd (other_than 2 c.status (0 ∷ 1 ∷ 4 ∷ 5 ∷ []) refl e (drill_any c number asks d))
+  was_not_asked (drill_done number asks left same d) e = absurd (other_than 2 c.status (0 ∷ 4 ∷ 5 ∷ []) refl e (drill_any c number asks d))
   was_not_asked (query_done name query bytes asks loads left same d) e = absurd (other_than 2 c.status (0 ∷ 4 ∷ 5 ∷ 6 ∷ []) refl e (query_any c name query bytes asks loads d))
 
   was_unread : Comes c → c.status ≡ 3 → LoadFailed c ⊎ (InputFailed c ⊎ (RecordingUnread c ⊎ LinesFailed c))
@@ -106,7 +106,7 @@ module _ (of_runs : AnswersAreOfRuns) (c : Call) where
   was_unread (run_done name recording options bytes program asks loads read same d) e = absurd (other_than 3 c.status (0 ∷ 4 ∷ 5 ∷ []) refl e (run_any c name recording options bytes program asks loads read d))
   was_unread (recording_not_loaded name asks left is rose none) e = inr (inr (inl (record { name = name; asked = asks; rose = rose; no_run = none.no_run; unread = none.unread; written = none.written })))
   was_unread (debug_done name bytes asks loads left empty d) e = inr (inr (inr (debug_broken c name bytes asks loads empty d e)))
-  was_unread (drill_done number asks left same d) e = absurd (other_than 3 c.status (0 ∷ 1 ∷ 4 ∷ 5 ∷ []) refl e (drill_any c number asks d))
+  was_unread (drill_done number asks left same d) e = absurd (other_than 3 c.status (0 ∷ 4 ∷ 5 ∷ []) refl e (drill_any c number asks d))
   was_unread (query_done name query bytes asks loads left same d) e = absurd (other_than 3 c.status (0 ∷ 4 ∷ 5 ∷ 6 ∷ []) refl e (query_any c name query bytes asks loads d))
 
   was_unwritten : Comes c → c.status ≡ 4 → WriteFailed c ⊎ StoreFailed c
@@ -149,7 +149,7 @@ module _ (of_runs : AnswersAreOfRuns) (c : Call) where
   was_not_recalled (run_done name recording options bytes program asks loads read same d) e = absurd (other_than 6 c.status (0 ∷ 4 ∷ 5 ∷ []) refl e (run_any c name recording options bytes program asks loads read d))
   was_not_recalled (recording_not_loaded name asks left is rose none) e = absurd (other_than 6 c.status (3 ∷ []) refl e (inl is))
   was_not_recalled (debug_done name bytes asks loads left empty d) e = elim (debug_refused c name bytes asks loads empty d e) [ inl w ↦ inl w | inr w ↦ inr (inl w) ]
-  was_not_recalled (drill_done number asks left same d) e = absurd (other_than 6 c.status (0 ∷ 1 ∷ 4 ∷ 5 ∷ []) refl e (drill_any c number asks d))
+  was_not_recalled (drill_done number asks left same d) e = absurd (other_than 6 c.status (0 ∷ 4 ∷ 5 ∷ []) refl e (drill_any c number asks d))
   was_not_recalled (query_done name query bytes asks loads left same d) e = elim (query_not_told c name query bytes asks loads of_runs same d e) [ inl w ↦ inl w | inr w ↦ inr (inr w) ]
 
   -- a promise speaks of the name that was loaded
@@ -238,8 +238,7 @@ module _ (of_runs : AnswersAreOfRuns) (c : Call) where
   taken (run_done name recording options bytes program asks loads read same (inr r)) = inr (by_run (Run recording) (was_read c name options bytes loads (Run recording) asks program read) r.whole)
   taken (recording_not_loaded name asks left is rose none) = inl none.no_run
   taken (debug_done name bytes asks loads left empty d) = inl empty
-  taken (drill_done number asks left same (no_source is empty nothing)) = inl empty
-  taken (drill_done number asks left same (refused_drill error cause empty r)) = inl empty
+  taken (drill_done number asks left same (no_program is empty nothing)) = inl empty
   taken (drill_done number asks left same (drilled program read (inl h))) = inl h.1
   taken (drill_done number asks left same (drilled program read (inr w))) = inr (by_drill number program asks read w.whole)
   taken (query_done name query bytes asks loads left same d) = query_taken c name query bytes asks loads d

@@ -6,30 +6,29 @@ use Rattle.std.proofs.lemmas.Option.{none-some}
 use Rattle.std.proofs.Math.Nat.{min-eq_left}
 use Rattle.ppd_ast.specs.declared.program.Program.{Program}
 use Rattle.ppd_ast.specs.declared.limits.TheConstants.{MOST_INPUT_LINES, MOST_LINE_BYTES}
-use Rattle.ppd_check.specs.Read.{IsRead}
+use Rattle.ppd_check.specs.declared.error.SourceError.{SourceError}
+use Rattle.ppd_check.specs.Read.{IsRead, IsRefused}
 use Rattle.ppd_check.proofs.Excluded.{read_or_refused}
 use Rattle.ppd_top_drill.specs.Drills.{generated}
 use Rattle.ppd_io.specs.Causes.{Rose}
 use Rattle.ppd_io.specs.Content.{Appends, AppendsPart}
 use Rattle.ppd_io.specs.Lines.{lines_of}
 use Rattle.ppd_top.specs.declared.options.Options.{Options}
-use Rattle.ppd_top.specs.Output.{AppendsFront, Standing, Talks, answers, output}
+use Rattle.ppd_top.specs.Output.{AppendsFront, Standing, Talks, answers}
 use Rattle.ppd_top.specs.Output.Talks.{whole, unread, unwritten, unfinished}
 use Rattle.ppd_top.specs.Ran.{Drilled, Drills, Flows, Refuses}
-use Rattle.ppd_top.specs.Ran.Drilled.{no_source, refused_drill, drilled}
-use Rattle.ppd_text_refusals.specs.Sources.{refused}
+use Rattle.ppd_top.specs.Ran.Drilled.{no_program, drilled}
 use Rattle.ppd_top.specs.Call.{Call, LeftInput}
-use Rattle.ppd_top.specs.Clauses.{DrillCutOff, IsPromisedDrill, MemoryRanOut, WasDrilled, WasNotDrilled, WriteFailed}
-use Rattle.ppd_top.specs.Top.{Answers, Finished, drill_commands, drill_options, drill_out, known_of, summary_of_run}
-use Rattle.ppd_top.specs.Top.Answers.{refusal, run}
+use Rattle.ppd_top.specs.Clauses.{DrillCutOff, IsPromisedDrill, MemoryRanOut, WasDrilled, WriteFailed}
+use Rattle.ppd_top.specs.Top.{Finished, drill_commands, drill_options, drill_out, known_of, summary_of_run}
+use Rattle.ppd_top.specs.Top.Answers.{run}
 use Rattle.ppd_top.specs.Top.Writes.{for_number}
 use Rattle.ppd_top_words.specs.Reads.{texts_in}
 use Rattle.ppd_top.specs.Words.{Asks, AsksDebug, AsksDrill, Command, IsNotAsked, asked}
-use Rattle.ppd_top.specs.Words.Command.{Flow}
 use Rattle.ppd_top.specs.Words.Request.{on_source, on_recording, on_number}
 use Rattle.ppd_top.proofs.Agreeing.{of_agreeing}
 use Rattle.ppd_top.proofs.Conversing.{same_input}
-use Rattle.ppd_top.proofs.Outcomes.{no_failure, one_request, write_failed}
+use Rattle.ppd_top.proofs.Outcomes.{no_failure, one_request}
 use Rattle.ppd_top.proofs.Statuses.{IsIn, other_than}
 use Rattle.ppd_top.proofs.Talked.{fine_end, same_commands}
 
@@ -45,10 +44,6 @@ not_recording words name number a b =
 
 pub not_nothing : (words : List (Bor (List ℕ))) (number : ℕ) → IsNotAsked words → AsksDrill words number → ⊥
 not_nothing words number none a = none-some (on_number number) (sym none ∙ a)
-
-one_number : (words : List (Bor (List ℕ))) (number other : ℕ) → AsksDrill words number → AsksDrill words other → number ≡ other
-one_number words number other a b =
-    let s : on_number number ≡ on_number other = one_request _ _ (asked (texts_in words)) a b in cc
 
 -- ---- one line in place of an input that does not fail
 
@@ -94,6 +89,14 @@ pub drills_from : (program : Program) (schedule : List ℕ) (a b : Standing) (st
 drills_from program schedule a b status rest (inl h) e f none = inl (h.0, h.1.no_run, h.1.written)
 drills_from program schedule a b status rest (inr t) e f none = inr (record { whole = t.whole; ends = ends_of program schedule a b rest e f none status t.talks })
 
+-- ---- a source that has a program
+
+-- it is refused for want of memory alone
+pub never_refused : (number : ℕ) (error : SourceError) → (p : Program) × IsRead (generated number) p → IsRefused (generated number) error
+    → (schedule : List ℕ) (old new : Option (List ℕ)) (before now status : ℕ) → schedule ≡ [] → Refuses error old new before now status → Drilled number schedule old new before now status
+never_refused number error read cause schedule old new before now status empty (inl h) = no_program h.0 empty h.1
+never_refused number error read cause schedule old new before now status empty (inr (real, f)) = absurd (real (read_or_refused (generated number) read.0 error read.1 cause))
+
 -- ---- by its status
 
 module _ (c : Call) (number : ℕ) (asks : AsksDrill c.words number) where
@@ -108,26 +111,13 @@ module _ (c : Call) (number : ℕ) (asks : AsksDrill c.words number) where
   ends_in program (inl (inr h)) = inr (inl h.0)
   ends_in program (inr h) = inr (inr (inl h.0))
 
-  pub drill_any : Drilled number c.schedule c.before.io.written c.after.io.written c.before.io.writes c.after.io.writes c.status → IsIn c.status (0 ∷ 1 ∷ 4 ∷ 5 ∷ [])
-  drill_any (no_source is empty same) = inr (inr (inr (inl is)))
-  drill_any (refused_drill error cause empty (inl h)) = inr (inr (inr (inl h.0)))
-  drill_any (refused_drill error cause empty (inr (real, inl h))) = inr (inl h.0)
-  drill_any (refused_drill error cause empty (inr (real, inr h))) = inr (inr (inl h.0))
-  drill_any (drilled program read (inl h)) = inr (inr (inr (inl h.0)))
-  drill_any (drilled program read (inr w)) = by (ends_in program w.ends)
-    where
-      by : IsIn c.status (0 ∷ 4 ∷ 5 ∷ []) → IsIn c.status (0 ∷ 1 ∷ 4 ∷ 5 ∷ [])
-      by (inl h) = inl h
-      by (inr h) = inr (inr h)
+  pub drill_any : Drilled number c.schedule c.before.io.written c.after.io.written c.before.io.writes c.after.io.writes c.status → IsIn c.status (0 ∷ 4 ∷ 5 ∷ [])
+  drill_any (no_program is empty same) = inr (inr (inl is))
+  drill_any (drilled program read (inl h)) = inr (inr (inl h.0))
+  drill_any (drilled program read (inr w)) = ends_in program w.ends
 
   pub drill_whole : Drilled number c.schedule c.before.io.written c.after.io.written c.before.io.writes c.after.io.writes c.status → c.status ≡ 0 → WasDrilled c
-  drill_whole (no_source is empty same) e = absurd (omega arith)
-  drill_whole (refused_drill error cause empty r) e = absurd (by r)
-    where
-      by : Refuses error c.before.io.written c.after.io.written c.before.io.writes c.after.io.writes c.status → ⊥
-      by (inl h) = omega (arith, h.0)
-      by (inr (real, inl h)) = omega (arith, h.0)
-      by (inr (real, inr h)) = omega (arith, h.0)
+  drill_whole (no_program is empty same) e = absurd (omega arith)
   drill_whole (drilled program read (inl h)) e = absurd (omega (arith, h.0))
   drill_whole (drilled program read (inr w)) e = by w.ends
     where
@@ -145,30 +135,11 @@ module _ (c : Call) (number : ℕ) (asks : AsksDrill c.words number) where
       by (inl (inr h)) = absurd (omega (arith, h.0))
       by (inr h) = absurd (omega (arith, h.0))
 
-  pub drill_refused : Drilled number c.schedule c.before.io.written c.after.io.written c.before.io.writes c.after.io.writes c.status → c.status ≡ 1 → WasNotDrilled c
-  drill_refused (no_source is empty same) e = absurd (omega arith)
-  drill_refused (refused_drill error cause empty (inl h)) e = absurd (omega (arith, h.0))
-  drill_refused (refused_drill error cause empty (inr (real, inl h))) e = record {
-    number = number;
-    error = error;
-    asked = asks;
-    fault = real;
-    cause = cause;
-    no_program = λ p r. absurd (real (read_or_refused (generated number) p error r cause));
-    written = h.1;
-  }
-  drill_refused (refused_drill error cause empty (inr (real, inr h))) e = absurd (omega (arith, h.0))
-  drill_refused (drilled program read (inl h)) e = absurd (omega (arith, h.0))
-  drill_refused (drilled program read (inr w)) e = absurd (other_than 1 c.status (0 ∷ 4 ∷ 5 ∷ []) refl e (ends_in program w.ends))
+  pub drill_not_refused : Drilled number c.schedule c.before.io.written c.after.io.written c.before.io.writes c.after.io.writes c.status → c.status ≡ 1 → ⊥
+  drill_not_refused d e = other_than 1 c.status (0 ∷ 4 ∷ 5 ∷ []) refl e (drill_any d)
 
   pub drill_unwritten : LeftInput c → Drilled number c.schedule c.before.io.written c.after.io.written c.before.io.writes c.after.io.writes c.status → c.status ≡ 4 → WriteFailed c
-  drill_unwritten same (no_source is empty kept) e = absurd (omega arith)
-  drill_unwritten same (refused_drill error cause empty (inl h)) e = absurd (omega (arith, h.0))
-  drill_unwritten same (refused_drill error cause empty (inr (real, f))) e =
-      let t = same_input c.before.io.left c.after.io.left same.left in
-      let w : Answers (generated number) drill_options drill_commands Flow c.schedule (output 1 (refused error)) =
-      subst (λ h. Answers (generated number) drill_options drill_commands Flow h (output 1 (refused error))) (sym empty) (refusal Flow error real cause) in
-      write_failed c t.0 1 (refused error) t.1 (for_number number asks (output 1 (refused error)) w) (λ k. omega arith) f e
+  drill_unwritten same (no_program is empty kept) e = absurd (omega arith)
   drill_unwritten same (drilled program read (inl h)) e = absurd (omega (arith, h.0))
   drill_unwritten same (drilled program read (inr w)) e = by w.ends
     where
@@ -187,10 +158,7 @@ module _ (c : Call) (number : ℕ) (asks : AsksDrill c.words number) where
       by (inr h) = absurd (omega (arith, h.0))
 
   pub drill_cut_off : c.after.held ≡ c.before.held → Drilled number c.schedule c.before.io.written c.after.io.written c.before.io.writes c.after.io.writes c.status → c.status ≡ 5 → MemoryRanOut c ⊎ DrillCutOff c
-  drill_cut_off kept (no_source is empty same) e = inl (record { kept = kept; no_run = empty; written = same })
-  drill_cut_off kept (refused_drill error cause empty (inl h)) e = inl (record { kept = kept; no_run = empty; written = h.1 })
-  drill_cut_off kept (refused_drill error cause empty (inr (real, inl h))) e = absurd (omega (arith, h.0))
-  drill_cut_off kept (refused_drill error cause empty (inr (real, inr h))) e = absurd (omega (arith, h.0))
+  drill_cut_off kept (no_program is empty same) e = inl (record { kept = kept; no_run = empty; written = same })
   drill_cut_off kept (drilled program read (inl h)) e = inl (record { kept = kept; no_run = h.1; written = h.2 })
   drill_cut_off kept (drilled program read (inr w)) e = by w.ends
     where
@@ -199,13 +167,8 @@ module _ (c : Call) (number : ℕ) (asks : AsksDrill c.words number) where
       by (inl (inr h)) = absurd (omega (arith, h.0))
       by (inr h) = inr (record { number = number; program = program; asked = asks; accepted = read; whole = w.whole; written = h.1 })
 
-  -- a drill that is promised is not refused
   pub drill_complete : Drilled number c.schedule c.before.io.written c.after.io.written c.before.io.writes c.after.io.writes c.status → IsPromisedDrill c → (c.status ≡ 0) ⊎ (c.status ≡ 5)
-  drill_complete (no_source is empty same) p = inr is
-  drill_complete (refused_drill error cause empty (inl h)) p = inr h.0
-  drill_complete (refused_drill error cause empty (inr (real, f))) p =
-      let read : IsRead (generated number) p.program = subst (λ n. IsRead (generated n) p.program) (sym (one_number c.words number p.number asks p.asked)) p.accepted in
-      absurd (real (read_or_refused (generated number) p.program error read cause))
+  drill_complete (no_program is empty same) p = inr is
   drill_complete (drilled program read (inl h)) p = inr h.0
   drill_complete (drilled program read (inr w)) p = by w.ends
     where
@@ -215,8 +178,7 @@ module _ (c : Call) (number : ℕ) (asks : AsksDrill c.words number) where
       by (inr h) = inr h.0
 
   pub drill_no_run : Drilled number c.schedule c.before.io.written c.after.io.written c.before.io.writes c.after.io.writes c.status → (c.status ≡ 1) ⊎ (c.status ≡ 2) → c.schedule ≡ []
-  drill_no_run (no_source is empty same) e = empty
-  drill_no_run (refused_drill error cause empty r) e = empty
+  drill_no_run (no_program is empty same) e = empty
   drill_no_run (drilled program read (inl h)) e = h.1
   drill_no_run (drilled program read (inr w)) (inl e) = absurd (other_than 1 c.status (0 ∷ 4 ∷ 5 ∷ []) refl e (ends_in program w.ends))
   drill_no_run (drilled program read (inr w)) (inr e) = absurd (other_than 2 c.status (0 ∷ 4 ∷ 5 ∷ []) refl e (ends_in program w.ends))

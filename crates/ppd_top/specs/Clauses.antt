@@ -160,7 +160,7 @@ pub record QueryRefused (c : Call) : Type 0 where
   pub of_no_run : (source : List ℕ) (header : Header) (program : Program) (h : List ℕ)
       → IsRunRecorded source header program h queried.bytes → ⊥
 
--- status 1: the loaded source has no program, and the line that says why was written
+-- status 1, which no drill has: the loaded source has no program, and the line that says why was written
 pub record WasRefused (c : Call) : Type 0 where
   pub command : Command
   pub name : List ℕ
@@ -172,16 +172,6 @@ pub record WasRefused (c : Call) : Type 0 where
   pub fault : error ≢ source.Memory
   pub cause : IsRefused bytes error
   pub no_program : (program : Program) → IsRead bytes program → ⊥
-  pub written : Wrote c (refused error)
-
--- or the source that the number of a drill makes has none
-pub record WasNotDrilled (c : Call) : Type 0 where
-  pub number : ℕ
-  pub error : SourceError
-  pub asked : AsksDrill c.words number
-  pub fault : error ≢ source.Memory
-  pub cause : IsRefused (generated number) error
-  pub no_program : (program : Program) → IsRead (generated number) program → ⊥
   pub written : Wrote c (refused error)
 
 -- status 2: the words ask for nothing, and the usage line was written
@@ -348,12 +338,10 @@ pub record IsPromisedQuery (c : Call) : Type 0 where
   pub no_load_fault : HasFailedLoad c name → ⊥
   pub no_write_fault : HasFailedWrite c → ⊥
 
--- A drill whose number makes a source of the language succeeds, but for want of memory, where no write failed.
+-- A drill succeeds, but for want of memory, where no write failed.
 pub record IsPromisedDrill (c : Call) : Type 0 where
   pub number : ℕ
-  pub program : Program
   pub asked : AsksDrill c.words number
-  pub accepted : IsRead (generated number) program
   pub no_write_fault : HasFailedWrite c → ⊥
 
 -- the schedule is that of a run of the loaded source, or of a drill's, that came to its close, or that of the run again
@@ -377,7 +365,7 @@ StoresNothing c =
 pub record IsOutcome (c : Call) : Type 0 where
   pub range : c.status < 9
   pub run : c.status ≡ 0 → RanWhole c ⊎ (WasShown c ⊎ (WasStored c ⊎ (WasAnswered c ⊎ (WasDrilled c ⊎ WasQueried c))))
-  pub refused : c.status ≡ 1 → WasRefused c ⊎ WasNotDrilled c
+  pub refused : c.status ≡ 1 → WasRefused c
   pub usage : c.status ≡ 2 → WasNotAsked c
   pub read : c.status ≡ 3 → LoadFailed c ⊎ (InputFailed c ⊎ (RecordingUnread c ⊎ LinesFailed c))
   pub write : c.status ≡ 4 → WriteFailed c ⊎ StoreFailed c

@@ -139,12 +139,10 @@ abbrev pub Drills : Program → (schedule : List ℕ) → Option (List ℕ) → 
 Drills program schedule old new before now status =
     ((status ≡ 5) × (schedule ≡ []) × (new ≡ old)) ⊎ WasDrilledBy program schedule old new before now status
 
--- what `drill` comes to for a number: want of memory before it had a source, a refusal of its source, or a program
+-- what `drill` comes to for a number: want of memory before it had a program, or its program
 pub data Drilled (number : ℕ) (schedule : List ℕ) (old new : Option (List ℕ)) (before now : ℕ)
     (status : ℕ) : Type 0 where
-  no_source : status ≡ 5 → schedule ≡ [] → new ≡ old → Drilled number schedule old new before now status
-  refused_drill : (error : SourceError) → IsRefused (generated number) error → schedule ≡ []
-      → Refuses error old new before now status → Drilled number schedule old new before now status
+  no_program : status ≡ 5 → schedule ≡ [] → new ≡ old → Drilled number schedule old new before now status
   drilled : (program : Program) → IsRead (generated number) program
       → Drills program schedule old new before now status → Drilled number schedule old new before now status
 

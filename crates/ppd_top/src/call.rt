@@ -66,7 +66,7 @@ const MOST_RECORDING: usize = MOST_RECORDING_BYTES + 1;
 ///   recording was stored and its summary written; in `show` the tables of the source's program were written; in
 ///   `debug` all answers; in `drill` the summary and the last values; in `slice`, `rerun`, `clean` and `whole` the
 ///   answer, or one line that refuses it.
-/// - 1: the source, in `drill` that of the number, has no program, and the line that says why was written.
+/// - 1: the source has no program, and the line that says why was written; never in `drill`.
 /// - 2: the words are others, and the usage line was written.
 /// - 3: the shelf failed to load the source or the recording, and nothing was read of the input or written; or in
 ///   `flow` and `debug` a read of the input failed, and in `flow` the summary, in both the answers to the whole lines

@@ -1,11 +1,14 @@
 // The command `drill`: `flow` on a source that a number makes, with one line in place of the input.
+ghost use Rattle.std.specs.Prelude.{◌≤◌};
 ghost use Rattle.ppd_ast.specs.Valid.{IsValid};
+ghost use Rattle.ppd_ast.specs.declared.limits.TheConstants.{MOST_DRILL};
 ghost use Rattle.ppd_top.specs.Ran.{Drilled, Drills};
 
 use crate::call::{Outcome, ended, refuse};
 use crate::flow::flow;
 use crate::options::Options;
 use crate::run::{Means, Task};
+use law_drill::drills_are_read;
 use ppd_ast::limits::MOST_BUDGET;
 use ppd_ast::{Policy, Program};
 use ppd_check::read_source;
@@ -41,15 +44,18 @@ fn drill_program<O: Sink, G: Gate, R: Threads + Wait + Sync>(
     flow(means, &task, &mut input, output)
 }
 
-/// Makes the source of a number, runs it, and writes its summary and its last values.
+/// Makes the source of a number, runs it, and writes its summary and its last values. A source that has a program is
+/// refused for want of memory alone.
 pub(crate) fn drill<O: Sink, G: Gate, R: Threads + Wait + Sync>(
     means: &Means<'_, R, G>,
     number: u32,
     output: &mut O,
 ) -> Outcome
+    requires { number ≤ MOST_DRILL }
     ensures { Drilled number result.schedule (O.written output.old) (O.written output.new) (O.faults output.old)
         (O.faults output.new) result.status }
 {
+    drills_are_read();
     let Ok(source) = generate(means.alloc, number) else {
         return ended(means.alloc, 5);
     };

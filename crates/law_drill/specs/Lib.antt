@@ -1,0 +1,2 @@
+-- The sources of drills are sources of the language.
+pub mod Drilled
