@@ -11,4 +11,5 @@ mod source;
 pub use checking::{check, check_in};
 pub use error::{CheckError, SourceError};
 pub use laws::one_answer;
+pub use ppd_check_names::Limit;
 pub use source::read_source;
