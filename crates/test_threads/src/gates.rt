@@ -128,7 +128,7 @@ const ROWS: [Row; 4] = [
         &[0, 0, 0, 1, 0],
     ),
     // worker 0 is held before its commit, while worker 1, whose process waits, takes the two steps of process 0 for
-    // which it waits; then worker 1 is held, and worker 0, whose commit is in vain, takes a turn before it is held again
+    // which it waits; then worker 1 is held, and worker 0, whose commit is in vain, takes a turn, and is held again
     // until process 1 has ended
     (
         SIGNAL,
