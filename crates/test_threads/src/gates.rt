@@ -24,34 +24,31 @@ const TWO_WRITES: &str = "process a { int i; i = 1; i = 2; } process b { }";
 
 const TWO_ENDED: &[u8] = b"process a ended steps 4\nprocess b ended steps 1\nraces 0\n";
 
-const SIGNAL: &str = "sem s; process a { int i; V(s); i = 1; } process b { P(s); }";
-
-const SIGNALLED: &[u8] = b"process a ended steps 4\nprocess b ended steps 2\nraces 0\n";
-
-/// A worker that is held, the number of the pass, from 0, at which it is, and to how many passes the other worker must
-/// have come by then.
-type Hold = (u8, u32, u64);
-
-/// Holds two workers at some of their passes. Each waits for 1,000,000 yields at most.
+/// Holds worker 1 at its first pass until worker 0 has come to so many passes, and worker 0 at the pass with this
+/// number, from 0, until worker 1 has come to so many. Each waits for 1,000,000 yields at most.
 #[derive(Drop)]
 struct Held {
-    holds: &'static [Hold],
+    least_of_zero: u64,
+    stop_of_zero: u32,
+    least_of_one: u64,
     zero: AtomicU64,
     one: AtomicU64,
     gave_up: AtomicU64,
 }
 
 impl Held {
-    fn new(holds: &'static [Hold]) -> Held {
+    fn new(least_of_zero: u64, stop_of_zero: u32, least_of_one: u64) -> Held {
         Held {
-            holds,
+            least_of_zero,
+            stop_of_zero,
+            least_of_one,
             zero: AtomicU64::new(0),
             one: AtomicU64::new(0),
             gave_up: AtomicU64::new(0),
         }
     }
 
-    /// Waits until a worker has come to so many passes.
+    /// Waits until this worker has come to so many passes.
     fn wait_for(&self, passes: &AtomicU64, least: u64) {
         for _ in 0..1_000_000 {
             if passes.load(Ordering::SeqCst) >= least {
@@ -65,15 +62,12 @@ impl Held {
 
 impl Gate for Held {
     fn pass(&self, worker: u8, turn: u32) {
-        let (own, other) = match worker {
-            0 => (&self.zero, &self.one),
-            _ => (&self.one, &self.zero),
-        };
+        let own = if worker == 0 { &self.zero } else { &self.one };
         own.store(u64::from(turn) + 1, Ordering::SeqCst);
-        for (held, number, least) in self.holds {
-            if *held == worker && *number == turn {
-                self.wait_for(other, *least);
-            }
+        if worker == 0 && turn == self.stop_of_zero {
+            self.wait_for(&self.one, self.least_of_one);
+        } else if worker != 0 && turn == 0 {
+            self.wait_for(&self.zero, self.least_of_zero);
         }
     }
 }
@@ -106,36 +100,17 @@ fn flow<G: Gate, R: Threads + Wait + Sync>(
     Ok((outcome.status, bytes, outcome.schedule.into_vec()))
 }
 
-/// A source, the holds of its gate, what is written and the schedule.
-type Row = (&'static str, &'static [Hold], &'static [u8], &'static [u8]);
+/// A source, the three numbers of its gate, what is written and the schedule.
+type Row = (&'static str, (u64, u32, u64), &'static [u8], &'static [u8]);
 
-const ROWS: [Row; 4] = [
+const ROWS: [Row; 3] = [
     // worker 1 takes its own two steps and, with nothing left of its own, the first of process 0, whose worker is held
-    (SOURCE, &[(1, 0, 1), (0, 0, 5)], WRITTEN, &[1, 1, 0, 0]),
+    (SOURCE, (1, 0, 5), WRITTEN, &[1, 1, 0, 0]),
     // worker 0 has its view and is held before the commit, while worker 1 takes its own step and two of process 0, so
     // that the view is left
-    (
-        TWO_WRITES,
-        &[(1, 0, 2), (0, 1, 4)],
-        TWO_ENDED,
-        &[1, 0, 0, 0, 0],
-    ),
+    (TWO_WRITES, (2, 1, 4), TWO_ENDED, &[1, 0, 0, 0, 0]),
     // worker 0 commits the three steps of its view while worker 1 is held, and is held before the end of its process
-    (
-        TWO_WRITES,
-        &[(1, 0, 3), (0, 2, 2)],
-        TWO_ENDED,
-        &[0, 0, 0, 1, 0],
-    ),
-    // worker 0 is held before its commit, while worker 1, whose process waits, takes the two steps of process 0 for
-    // which it waits; then worker 1 is held, and worker 0, whose commit is in vain, takes a turn, and is held again
-    // until process 1 has ended
-    (
-        SIGNAL,
-        &[(1, 0, 2), (0, 1, 3), (1, 2, 4), (0, 3, 5)],
-        SIGNALLED,
-        &[0, 0, 0, 1, 1, 0],
-    ),
+    (TWO_WRITES, (3, 2, 2), TWO_ENDED, &[0, 0, 0, 1, 0]),
 ];
 
 fn check_row<R: Abort + Threads + Wait + Sync>(
@@ -143,8 +118,8 @@ fn check_row<R: Abort + Threads + Wait + Sync>(
     alloc: Global,
     row: Row,
 ) -> Result<(), Fail> {
-    let (source, holds, text, order) = row;
-    let gate = Held::new(holds);
+    let (source, (zero, stop, one), text, order) = row;
+    let gate = Held::new(zero, stop, one);
     let (status, written, schedule) = flow(rt, alloc, source, &gate)?;
     assert_eq!(rt; gate.gave_up.load(Ordering::SeqCst), 0);
     assert_eq!(rt; status, 0);
