@@ -3,8 +3,10 @@
 use Rattle.std.specs.Prelude.{⊤, option_to_list, slice_get}
 use Rattle.std.proofs.Common.{◌≡◌, ℕ, suc, ◌+◌, ◌<◌, ◌≤◌, List, [], ◌∷◌, ◌++◌, Option, Some, None, Result, Ok, Err, refl, ap, sym, ◌∙◌, subst, arith, drop, length, get_or, drop-cons, add-one}
 use Rattle.std.proofs.lemmas.List.{append-nil, append_assoc, drop_all, map-append}
+use Rattle.std.proofs.lemmas.Option.{slice_get_past}
 use Rattle.ppd_ast.specs.declared.plan.Plan.{Plan}
 use Rattle.ppd_ast.specs.declared.program.Program.{Program}
+use Rattle.ppd_entry.specs.Entries.{entries_at}
 use Rattle.ppd_graph.specs.declared.paired.Paired.{Paired}
 use Rattle.ppd_graph.specs.declared.paired.Paired.TheVariants.{Nothing, Initial, Node}
 use Rattle.ppd_sem.specs.declared.event.Access.{Access}
@@ -18,6 +20,7 @@ use Rattle.ppd_model.specs.declared.graph.EdgeId.{EdgeId}
 use Rattle.ppd_flow_model.specs.declared.walked.Walked.{Walked}
 use Rattle.ppd_flow_model.specs.declared.walked.Walked.TheVariants.{Stopped, Passed, Found}
 use Rattle.ppd_flow_model.specs.Control.{control_replays}
+use Rattle.ppd_flow_model.specs.Ends.{end_interval, end_item}
 use Rattle.ppd_flow_model.specs.Found.{edges_replays, if_found, item_replays, read_edge, read_edges, read_replays, reads_replays, sync_replays}
 use Rattle.ppd_flow_model.specs.Seen.{Seen, items_at}
 use Rattle.ppd_flow_model.specs.Shared.{Missing, edge_of_place, greatest_before, of_process, pair_of, place_replays, seen_at, start_replays, unless_found}
@@ -89,6 +92,17 @@ module _ (s : Search) (place : Place) (reads : List Access) (i : ℕ) (found : L
   far_all over =
       sym (append-nil found) ∙ ap (λ (xs : List Access). found ++ far_of_reads_at s place xs) (sym (drop_all i reads over)) ∙ so
 
+-- ---- an item, where the items of its interval are these
+
+module _ (past : Past) (p k j : ℕ) (items : List Item) (are : items_at (seen_at (seens_in past) p) k ≡ items) where
+  pub far_there : (o : Option Item) → slice_get items j ≡ o
+      → far_in past p k j ≡ far_of_item past.program.now past.logs.now (seens_in past) p k j o
+  far_there o e =
+      ap (far_of_item past.program.now past.logs.now (seens_in past) p k j) (ap (λ (ts : List Item). slice_get ts j) are ∙ e)
+
+  pub far_absent : (found : List ℕ) → found ≡ [] → length items ≤ j → found ≡ far_in past p k j
+  far_absent found none over = none ∙ sym (far_there None (slice_get_past items j over))
+
 -- ---- what is free
 
 -- no interval of the process is replayed
@@ -125,13 +139,20 @@ module _ (past : Past) where
     abbrev xs : List Seen
     xs = seens_in past
 
+    -- the intervals that are replayed for where a cell was written in this edge
+    abbrev replayed_for : ℕ → EdgeId → List ℕ
+    replayed_for c a =
+        end_interval (entries_at past.logs.now a.process) a.edge
+        ∷ walk_replays (seen_at xs a.process) c (end_interval (entries_at past.logs.now a.process) a.edge)
+        (end_item (entries_at past.logs.now a.process) (seen_at xs a.process) a.edge)
+
     edge_free : (c : ℕ) (w : Walked) (o : Option EdgeId) → AreFreeOf past (process_of (edge_unless_found w o))
         → AreFree past (unless_found w (start_replays past.logs.now xs c o))
     edge_free c (Found m i v) o h = tt
     edge_free c Stopped None h = tt
-    edge_free c Stopped (Some a) h = of_free a.process _ h.0
+    edge_free c Stopped (Some a) h = of_free a.process (replayed_for c a) h.0
     edge_free c Passed None h = tt
-    edge_free c Passed (Some a) h = of_free a.process _ h.0
+    edge_free c Passed (Some a) h = of_free a.process (replayed_for c a) h.0
 
     read_free : (spot : Spot) → AreFreeOf past (far_of_spot past.program.now past.logs.now xs p k j spot)
         → AreFree past (read_replays past.program.now past.plan.now past.logs.now xs p k j spot)
