@@ -25,6 +25,6 @@ returns-clause-cost g c =
 pub returns-clause-sets : goal.returns-clause-sets
 returns-clause-sets g c =
     let past = c.args.past.now in
-    let after = c.last_write_from.new.steps + steps_in past c.args.last.edge.process c.args.last.interval in
+    let after = c.last_write_from.new.steps + steps_to_replay past c.args.last.edge.process c.args.last.interval in
     last_missed past c.args.cell c.args.steps.now after c.last_write_from.result
     c.last_write_from.ensures
