@@ -137,4 +137,4 @@ module _ (past : Past) (a : ItemAt) (found : List Reached) (old new : Kept)
 
 -- in any order
 pub among_sorted : (found rs : List Reached) (kept : Kept) → IsSortedOf found rs → AreKeptAmong found kept → AreKeptAmong rs kept
-among_sorted found rs kept s among q some = list_any-IsPermutation (is_of q) found rs s.moved ∙ among q some
+among_sorted found rs kept s among q some = sym (list_any-IsPermutation (is_of q) found rs s.moved) ∙ among q some

@@ -1,11 +1,13 @@
 -- What is kept while the edges of items are asked, and what it costs.
-use Rattle.std.specs.Prelude.{Bor, slice_get, nat_eq, nat_lt, ⊤, ◌&&◌, ◌||◌, if◌then◌else◌}
+use Rattle.std.specs.Borrow.{Bor}
+use Rattle.std.specs.Prelude.{slice_get, nat_eq, nat_lt, ⊤, ◌&&◌, ◌||◌, if◌then◌else◌}
 use Rattle.std.specs.List.{list_any}
 use Rattle.std.proofs.Common.{◌≡◌, ℕ, zero, suc, ◌+◌, ◌<◌, ◌≤◌, ◌⊎◌, inl, inr, Bool, true, false, true≢false, List, [], ◌∷◌, ◌++◌, Option, Some, None, Result, Ok, Err, refl, ap, sym, ◌∙◌, subst, arith, get_or, length, take}
 use Rattle.std.proofs.lemmas.Bool.{cases_eq, eq-eqb, eqb-true, le-ltb, lt-ltb}
-use Rattle.std.proofs.lemmas.Option.{none-some, slice_get_past}
+use Rattle.std.proofs.lemmas.Option.{none-some, same_Some, slice_get_past}
+use Rattle.ppd_entry.specs.declared.entry.At.{At}
 use Rattle.ppd_flow.specs.Answers.{IsEdges}
-use Rattle.ppd_flow.specs.Far.{far_in}
+use Rattle.ppd_flow.specs.Far.{RoseWithin, far_in}
 use Rattle.ppd_flow.proofs.FarProcesses.{AreFreeOf, IsFree, edges_free}
 use Rattle.ppd_flow_model.specs.Found.{edges_replays}
 use Rattle.ppd_flow_past.specs.declared.flow_error.FlowError.{FlowError}
@@ -15,7 +17,8 @@ use Rattle.ppd_flow_past.specs.ByReplays.{IsFoundBy, IsReplayed, failure_or, fir
 use Rattle.ppd_flow_past.specs.Keeping.{AreKeptOf, AreOthersKept, IsAllKept, IsNoneKept, RoseByKept, count_in, process_steps, steps_kept, steps_kept_of, sum_below}
 use Rattle.ppd_flow_past.specs.Pasts.{AreKept, IsPast}
 use Rattle.ppd_flow_past.specs.SeenBy.{failed_in, items_in, steps_in}
-use Rattle.ppd_flow_past.proofs.Keeping.{costs_nothing, kept_free}
+use Rattle.ppd_flow_model.specs.Shared.{of_process}
+use Rattle.ppd_flow_past.proofs.Keeping.{AreFree, costs_nothing, kept_free}
 use Rattle.ppd_flow_shared.specs.SharedCells.{seens_in}
 use Rattle.ppd_model.specs.declared.flow.FlowEdge.{FlowEdge}
 use Rattle.ppd_model.specs.declared.flow.Item.{Item}
@@ -128,6 +131,16 @@ module _ (past : Past) where
     free_of [] h = tt
     free_of (p ∷ ps) h = (free p h.0, free_of ps h.1)
 
+    within_free : (p : ℕ) (ks : List ℕ) → IsFree known p → AreFree known (of_process p ks)
+    within_free p [] h = tt
+    within_free p (k ∷ ks) h = (h k, within_free p ks h)
+
+    pub far_free : (p : ℕ) (n m : ℕ) → IsAllKept past kept p → RoseWithin known p n m → m ≡ n
+    far_free p n m all rose =
+        let none = costs_nothing known (of_process p rose.0) (within_free p rose.0 (free p all)) in
+        let more = rose.1 in
+        omega (arith, none, more)
+
     module _ (a : ItemAt) (n m : ℕ) where
       abbrev IsItems : Result (List Item) FlowError → Type 0
       IsItems res =
@@ -156,9 +169,8 @@ module _ (past : Past) where
               → (q ≡ a.process) × (failed_in past a.process a.interval ≡ Some j)
           by None g h = absurd (cc)
           by (Some i) g h =
-              let p : a.process ≡ q = cc in
-              let at : i ≡ j = cc in
-              (sym p, g ∙ ap (λ x. Some x) at)
+              let same : record { process = a.process; entry = i } ≡ record { process = q; entry = j } = same_Some _ _ h in
+              (sym (ap (λ (x : At). x.process) same), g ∙ ap (λ (x : At). Some x.entry) same)
       why_none NoEvent f = absurd (cc f.1)
       why_none (Sets q j c) f = absurd (cc f.1)
       why_none Memory f = tt

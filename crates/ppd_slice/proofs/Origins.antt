@@ -2,6 +2,7 @@
 use Rattle.std.specs.Prelude.{slice_get}
 use Rattle.std.proofs.Common.{◌≡◌, ℕ, ℤ, ◌⊎◌, inl, inr, List, [], ◌∷◌, ◌++◌, Option, Some, None, Result, Ok, Err, refl, ap, sym, ◌∙◌, subst}
 use Rattle.ppd_entry.specs.declared.entry.At.{At}
+use Rattle.ppd_entry.specs.Entries.{entries_at}
 use Rattle.ppd_graph.specs.declared.paired.Paired.{Paired}
 use Rattle.ppd_graph.specs.declared.paired.Paired.TheVariants.{Nothing, Initial, Node}
 use Rattle.ppd_sem.specs.declared.event.Access.{Access}
@@ -21,6 +22,7 @@ use Rattle.ppd_flow.specs.Far.{far_in, far_of_item, far_of_pair, far_of_reads, f
 use Rattle.ppd_flow_model.specs.declared.walked.Walked.{Walked}
 use Rattle.ppd_flow_model.specs.declared.walked.Walked.TheVariants.{Stopped, Passed, Found}
 use Rattle.ppd_flow_model.specs.Control.{control_origin}
+use Rattle.ppd_flow_model.specs.Ends.{end_interval, end_item}
 use Rattle.ppd_flow_model.specs.Found.{and_more, before_others, edges_if, event_edges, item_edges, pair_edges, read_edge, read_edges, read_if, sync_edges}
 use Rattle.ppd_flow_model.specs.Seen.{Seen, items_at}
 use Rattle.ppd_flow_model.specs.Shared.{Missing, edge_of_place, greatest_before, origin_in, own_or, pair_of, pair_place, seen_at, walk_in, written_at, written_or_start}
@@ -71,7 +73,7 @@ of_behind : (q : ℕ) (es fs : List FlowEdge) → HasOrigin q fs → HasOrigin q
 of_behind q [] fs h = h
 of_behind q (e ∷ es) fs h = of_rest q e (es ++ fs) (of_behind q es fs h)
 
-ok_in : {A : Type 0} → A → Result A Missing → A
+abbrev ok_in : {A : Type 0} → A → Result A Missing → A
 ok_in d (Ok x) = x
 ok_in d (Err m) = d
 
@@ -139,7 +141,9 @@ module _ (past : Past) (p k j q : ℕ) where
   of_pair : (pair : Paired) → IsIn q (far_of_pair pair) → HasOrigin q (pair_edges (pair_place past.logs.now xs pair))
   of_pair Nothing s = absurd s
   of_pair Initial s = absurd s
-  of_pair (Node a) (inl e) = of_first q _ _ _ [] (ap (λ x. origin.Item x _ _) (sym e))
+  of_pair (Node a) (inl e) =
+      let entries = entries_at past.logs.now a.process in
+      (at a.process (end_interval entries a.sync) (end_item entries (seen_at xs a.process) a.sync), inl refl, sym e)
   of_pair (Node a) (inr m) = absurd m
 
   of_sync : (number : Option ℕ) → IsIn q (far_of_sync past.program.now past.logs.now xs p k j number)

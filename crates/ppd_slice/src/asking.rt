@@ -82,6 +82,25 @@ fn keep_all<L: Ledger>(
     Ok(())
 }
 
+/// The other processes that the edges of an item need, whose own process is kept.
+fn far_known<L: Ledger>(
+    alloc: Global,
+    past: &Past,
+    kept: &KeptReplays,
+    at: ItemAt,
+    steps: &mut Steps<L>,
+) -> Result<Seq<u8>, FlowError>
+    requires past { IsPast past.now }
+    requires kept { AreKeptOf past.now kept.now }
+    requires own { IsAllKept past.now kept.now at.process }
+    ensures is { IfOk result (λ found. found ≡ far_in past.now at.process at.interval at.item) }
+    ensures cost { OnOk result (steps.new ≡ steps.old) }
+    ensures error { IfErr result (IsReplayFailure past.now) }
+{
+    let known = past.with_kept(kept.as_slice());
+    far_processes(alloc, &known, at.process, at.interval, at.item, steps)
+}
+
 /// Keeps the other processes that the edges of an item need, whose own process is kept.
 fn keep_far<L: Ledger>(
     alloc: Global,
@@ -100,8 +119,7 @@ fn keep_far<L: Ledger>(
     ensures cost { OnOk result (RoseByKept past.now kept.old kept.new steps.old steps.new) }
     ensures error { IfErr result (IsReplayFailure past.now) }
 {
-    let known = past.with_kept(kept.as_slice());
-    let far = far_processes(alloc, &known, at.process, at.interval, at.item, steps)?;
+    let far = far_known(alloc, past, kept, at, steps)?;
     keep_all(alloc, past, kept, far.as_slice(), steps)
 }
 
@@ -146,7 +164,8 @@ pub(crate) fn edges_by_kept<L: Ledger>(
     ensures cost { OnOk result (RoseByKept past.now kept.old kept.new steps.old steps.new) }
 {
     kept.keep(alloc, past, at.process, steps)?;
-    if !is_there(alloc, past, kept, at, steps)? {
+    let there = is_there(alloc, past, kept, at, steps)?;
+    if !there {
         return Ok(None);
     }
     keep_far(alloc, past, kept, at, steps)?;

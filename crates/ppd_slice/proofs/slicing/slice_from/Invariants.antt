@@ -9,7 +9,7 @@ use Rattle.ppd_slice.proofs.slicing.slice_from.Given as goal
 
 abbrev pub invariant-loop-number : goal.invariant-loop-number
 invariant-loop-number g l = record {
-  searched : IsSearch (origins_in l.past) l.start l.number l.search;
+  searched : IsSearch (origins_in l.past) l.fn.start l.number l.search;
   answered : (i : ℕ) (r : Reached) → i < l.number → slice_get l.search i ≡ Some r → IsAnsweredFor l.past r;
   kept : AreKeptOf l.past l.kept;
   among : AreKeptAmong l.search l.kept;
