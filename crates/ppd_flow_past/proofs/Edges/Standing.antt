@@ -1,5 +1,5 @@
 -- Where intervals begin and end, as the index of a past has them.
-use Rattle.std.proofs.Common.{◌≡◌, ℕ, ◌+◌, ◌-◌, ◌<◌, Bool, false, ◌&&◌, List, [], Option, Some, None, refl, ap, sym, ◌∙◌, drop, length}
+use Rattle.std.proofs.Common.{◌≡◌, ℕ, ◌+◌, ◌-◌, ◌<◌, Bool, false, ◌&&◌, List, Option, Some, None, refl, ap, sym, ◌∙◌, drop, length}
 use Rattle.std.specs.Prelude.{nat_le, nat_lt, option_map, slice_get, if◌then◌else◌}
 use Rattle.std.proofs.lemmas.List.{length-map}
 use Rattle.ppd_entry.specs.declared.entry.Entry.{Entry}

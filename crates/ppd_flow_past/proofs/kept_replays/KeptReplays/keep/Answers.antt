@@ -1,7 +1,6 @@
-use Rattle.std.proofs.Common.{◌≡◌, ◌∙◌, [], List, ap, get_or, length, sym}
+use Rattle.std.proofs.Common.{◌∙◌, List, ap, sym}
 use Rattle.std.specs.Prelude.{slice_set}
 use Rattle.ppd_model.specs.declared.flow.Item.{Item}
-use Rattle.ppd_flow_past.specs.Keeping.{count_in}
 use Rattle.ppd_flow_past.proofs.Keeping.{now_kept, on_both, rose_newly}
 use Rattle.ppd_flow_past.proofs.kept_replays.KeptReplays.keep.Goals as goal
 
