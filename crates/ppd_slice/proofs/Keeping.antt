@@ -1,7 +1,7 @@
 -- Keeping of replays before the edges of items are asked, one step after another.
 use Rattle.std.specs.Borrow.{Bor}
-use Rattle.std.specs.Prelude.{IfErr, IfOk, OnOk, nat_lt, ⊤}
-use Rattle.std.proofs.Common.{◌≡◌, ℕ, zero, suc, ◌+◌, ◌<◌, ◌≤◌, Bool, true, false, List, [], ◌∷◌, ◌++◌, Option, Some, None, Result, Ok, Err, inl, inr, refl, ap, sym, ◌∙◌, subst, arith, get_or, length, take}
+use Rattle.std.specs.Prelude.{IfErr, IfOk, OnOk, nat_lt}
+use Rattle.std.proofs.Common.{◌≡◌, ℕ, zero, suc, ◌+◌, ◌<◌, ◌≤◌, true, List, [], ◌∷◌, Option, Some, None, Result, Ok, Err, inl, inr, refl, ap, sym, ◌∙◌, subst, arith, get_or, length, take}
 use Rattle.std.proofs.lemmas.List.{take_more}
 use Rattle.ppd_flow.specs.Answers.{IsEdges}
 use Rattle.ppd_flow.specs.Far.{RoseWithin, far_in}
@@ -16,7 +16,6 @@ use Rattle.ppd_model.specs.declared.flow.FlowEdge.{FlowEdge}
 use Rattle.ppd_model.specs.declared.flow.Item.{Item}
 use Rattle.ppd_slice_model.specs.declared.reached.ItemAt.{ItemAt}
 use Rattle.ppd_slice_model.specs.declared.reached.Reached.{Reached}
-use Rattle.ppd_slice_model.specs.Reach.{IsIn}
 use Rattle.ppd_slice.specs.Asked.{AreAllKept, AreKeptAmong, AreKeptFor, AreStillKept, IsAsked, IsThere}
 use Rattle.ppd_slice.specs.Slices.{CostsSlice, IsNoItem, IsSliceOf}
 use Rattle.ppd_slice.proofs.Kept.{all_more, asked_err, asked_free, asked_ok, costs_none, costs_slice, far_free, got_in, is_there, kept_next, kept_only, known_past, rose_then, still_all, still_kept, why_none}

@@ -1,9 +1,8 @@
 -- What is kept while the edges of items are asked, and what it costs.
 use Rattle.std.specs.Borrow.{Bor}
-use Rattle.std.specs.Prelude.{slice_get, nat_eq, nat_lt, ⊤, ◌&&◌, ◌||◌, if◌then◌else◌}
-use Rattle.std.specs.List.{list_any}
-use Rattle.std.proofs.Common.{◌≡◌, ℕ, zero, suc, ◌+◌, ◌<◌, ◌≤◌, ◌⊎◌, inl, inr, Bool, true, false, true≢false, List, [], ◌∷◌, ◌++◌, Option, Some, None, Result, Ok, Err, refl, ap, sym, ◌∙◌, subst, arith, get_or, length, take}
-use Rattle.std.proofs.lemmas.Bool.{cases_eq, eq-eqb, eqb-true, le-ltb, lt-ltb}
+use Rattle.std.specs.Prelude.{slice_get, nat_eq, nat_lt, if◌then◌else◌}
+use Rattle.std.proofs.Common.{◌≡◌, ℕ, zero, suc, ◌+◌, ◌<◌, ◌≤◌, ◌⊎◌, inl, inr, Bool, true, false, true≢false, List, [], ◌∷◌, ◌++◌, Option, Some, None, Result, Ok, Err, refl, ap, sym, ◌∙◌, subst, arith, get_or, length}
+use Rattle.std.proofs.lemmas.Bool.{cases_eq, cases_lt, eqb-true, le-ltb, lt-ltb}
 use Rattle.std.proofs.lemmas.Option.{none-some, same_Some, slice_get_past}
 use Rattle.ppd_entry.specs.declared.entry.At.{At}
 use Rattle.ppd_flow.specs.Answers.{IsEdges}
@@ -13,8 +12,8 @@ use Rattle.ppd_flow_model.specs.Found.{edges_replays}
 use Rattle.ppd_flow_past.specs.declared.flow_error.FlowError.{FlowError}
 use Rattle.ppd_flow_past.specs.declared.flow_error.FlowError.TheVariants.{Diverged, NoEvent, Sets, Memory}
 use Rattle.ppd_flow_past.specs.declared.past.Past.{Past}
-use Rattle.ppd_flow_past.specs.ByReplays.{IsFoundBy, IsReplayed, failure_or, first_failed_in}
-use Rattle.ppd_flow_past.specs.Keeping.{AreKeptOf, AreOthersKept, IsAllKept, IsNoneKept, RoseByKept, count_in, process_steps, steps_kept, steps_kept_of, sum_below}
+use Rattle.ppd_flow_past.specs.ByReplays.{IsFoundBy, IsReplayed, failure_or}
+use Rattle.ppd_flow_past.specs.Keeping.{AreKeptOf, AreOthersKept, IsAllKept, RoseByKept, count_in, process_steps, steps_kept, steps_kept_of, sum_below}
 use Rattle.ppd_flow_past.specs.Pasts.{AreKept, IsPast}
 use Rattle.ppd_flow_past.specs.SeenBy.{failed_in, items_in, steps_in}
 use Rattle.ppd_flow_model.specs.Shared.{of_process}
@@ -27,6 +26,7 @@ use Rattle.ppd_slice_model.specs.declared.reached.Reached.{Reached}
 use Rattle.ppd_slice_model.specs.Reach.{IsIn}
 use Rattle.ppd_slice.specs.Asked.{AreAllKept, AreKeptAmong, AreKeptFor, AreStillKept, IsAsked, IsThere}
 use Rattle.ppd_slice.specs.Slices.{CostsSlice, IsNoItem, flow_of, has_process, steps_of_processes}
+use Rattle.ppd_slice.proofs.Origins.{in_behind, in_front}
 use Rattle.ppd_slice.proofs.Flows.{flow_diverges, flow_none, found_err, found_ok, head_none}
 
 abbrev Kept : Type 0
@@ -40,11 +40,6 @@ nothing (x ∷ xs) zero e = absurd (none-some x (sym e))
 nothing (x ∷ xs) (suc k) e =
     let rest : length xs ≤ k = nothing xs k e in omega arith
 
-cases_lt' : (x y : ℕ) → (x < y) ⊎ (y ≤ x)
-cases_lt' x zero = inr (omega arith)
-cases_lt' zero (suc y) = inl (omega arith)
-cases_lt' (suc x) (suc y) = elim (cases_lt' x y) [ inl l ↦ inl (omega (arith, l)) | inr l ↦ inr (omega (arith, l)) ]
-
 -- ---- of which processes
 
 pub kept_only : (p : ℕ) (old new : Kept) → AreOthersKept p old new → AreKeptFor (p ∷ []) old new
@@ -55,15 +50,6 @@ kept_only p old new others q some = elim (cases_eq q p) [
 
 pub kept_none : (ps : List ℕ) (kept : Kept) → AreKeptFor ps kept kept
 kept_none ps kept q some = inl some
-
-in_behind : (ps qs : List ℕ) (q : ℕ) → IsIn q qs → IsIn q (ps ++ qs)
-in_behind [] qs q m = m
-in_behind (p ∷ ps) qs q m = inr (in_behind ps qs q m)
-
-in_front : (ps qs : List ℕ) (q : ℕ) → IsIn q ps → IsIn q (ps ++ qs)
-in_front [] qs q m = absurd m
-in_front (p ∷ ps) qs q (inl e) = inl e
-in_front (p ∷ ps) qs q (inr m) = inr (in_front ps qs q m)
 
 pub kept_both : (ps qs : List ℕ) (a b c : Kept) → AreKeptFor ps a b → AreKeptFor qs b c → AreKeptFor (ps ++ qs) a c
 kept_both ps qs a b c f g q some = elim (g q some) [
@@ -117,6 +103,22 @@ module _ (past : Past) where
     fitting = h.fitting;
     kept_are = subst (AreKept past.program.now past.plan.now past.budget past.cut.now) (sym e) k.items;
   }
+
+  -- it is not there
+  pub no_item : (a : ItemAt) → IsThere past a false → IsNoItem past a
+  no_item a h = (h.0, slice_get_past (items_in past a.process a.interval) a.item (over h.1))
+    where
+      over : false ≡ nat_lt a.item (length (items_in past a.process a.interval)) → length (items_in past a.process a.interval) ≤ a.item
+      over e = elim (cases_lt a.item (length (items_in past a.process a.interval))) [
+        | inl lt ↦ absurd (true≢false (sym (lt-ltb a.item (length (items_in past a.process a.interval)) lt) ∙ sym e))
+        | inr le ↦ le
+      ]
+
+  -- it is there
+  pub an_item : (a : ItemAt) → IsThere past a true → IsNoItem past a → ⊥
+  an_item a t none =
+      let over : length (items_in past a.process a.interval) ≤ a.item = nothing (items_in past a.process a.interval) a.item none.1 in
+      true≢false (t.1 ∙ le-ltb a.item (length (items_in past a.process a.interval)) over)
 
   -- ---- what is known of an item
 
@@ -195,33 +197,10 @@ module _ (past : Past) where
           by (Diverged q j) (inl g) = absurd (cc)
           by (Diverged q j) (inr g) = flow_diverges past a q j g
           by NoEvent (inl g) = absurd (cc)
-          by NoEvent (inr g) =
-              let none = (flow_none past a g).1 in
-              is_none there none
-            where
-              is_none : IsThere past a true → slice_get (items_in past a.process a.interval) a.item ≡ None → ⊥
-              is_none t e =
-                  let over : length (items_in past a.process a.interval) ≤ a.item = nothing (items_in past a.process a.interval) a.item e in
-                  true≢false (t.1 ∙ le-ltb a.item (length (items_in past a.process a.interval)) over)
+          by NoEvent (inr g) = an_item a there (flow_none past a g)
           by (Sets q j c) (inl g) = absurd (cc)
           by (Sets q j c) (inr g) = g
           by Memory g = tt
-
-  -- it is not there
-  pub no_item : (a : ItemAt) → IsThere past a false → IsNoItem past a
-  no_item a h = (h.0, slice_get_past (items_in past a.process a.interval) a.item (over h.1))
-    where
-      over : false ≡ nat_lt a.item (length (items_in past a.process a.interval)) → length (items_in past a.process a.interval) ≤ a.item
-      over e = elim (cases_lt' a.item (length (items_in past a.process a.interval))) [
-        | inl lt ↦ absurd (true≢false (sym (lt-ltb a.item (length (items_in past a.process a.interval)) lt) ∙ sym e))
-        | inr le ↦ le
-      ]
-
-  -- it is there
-  pub an_item : (a : ItemAt) → IsThere past a true → IsNoItem past a → ⊥
-  an_item a t none =
-      let over : length (items_in past a.process a.interval) ≤ a.item = nothing (items_in past a.process a.interval) a.item none.1 in
-      true≢false (t.1 ∙ le-ltb a.item (length (items_in past a.process a.interval)) over)
 
   -- ---- the sum
 

@@ -1,6 +1,6 @@
 -- Each process of which intervals are replayed for the edges of an item has an item that one of the edges comes from.
 use Rattle.std.specs.Prelude.{slice_get}
-use Rattle.std.proofs.Common.{◌≡◌, ℕ, ℤ, ◌⊎◌, inl, inr, List, [], ◌∷◌, ◌++◌, Option, Some, None, Result, Ok, Err, refl, ap, sym, ◌∙◌, subst}
+use Rattle.std.proofs.Common.{◌≡◌, ℕ, ◌⊎◌, inl, inr, List, [], ◌∷◌, ◌++◌, Option, Some, None, Result, Ok, Err, refl, ap, sym, ◌∙◌, subst}
 use Rattle.ppd_entry.specs.declared.entry.At.{At}
 use Rattle.ppd_entry.specs.Entries.{entries_at}
 use Rattle.ppd_graph.specs.declared.paired.Paired.{Paired}
@@ -12,7 +12,6 @@ use Rattle.ppd_sem.specs.declared.event.Spot.TheVariants.{Local, Shared}
 use Rattle.ppd_model.specs.declared.flow.FlowEdge.{FlowEdge}
 use Rattle.ppd_model.specs.declared.flow.Item.{Item}
 use Rattle.ppd_model.specs.declared.flow.Item.TheVariants as item
-use Rattle.ppd_model.specs.declared.flow.Origin.{Origin}
 use Rattle.ppd_model.specs.declared.flow.Origin.TheVariants as origin
 use Rattle.ppd_model.specs.declared.flow.EdgeKind.TheVariants.{Control}
 use Rattle.ppd_model.specs.declared.graph.EdgeId.{EdgeId}
@@ -40,11 +39,11 @@ use Rattle.ppd_slice.proofs.Flows.{replays}
 abbrev pub HasOrigin : ℕ → List FlowEdge → Type 0
 HasOrigin q es = (b : ItemAt) × IsIn b (places_of es) × (b.process ≡ q)
 
-in_behind : {A : Type 0} (xs ys : List A) (x : A) → IsIn x ys → IsIn x (xs ++ ys)
+pub in_behind : {A : Type 0} (xs ys : List A) (x : A) → IsIn x ys → IsIn x (xs ++ ys)
 in_behind [] ys x m = m
 in_behind (y ∷ xs) ys x m = inr (in_behind xs ys x m)
 
-in_front : {A : Type 0} (xs ys : List A) (x : A) → IsIn x xs → IsIn x (xs ++ ys)
+pub in_front : {A : Type 0} (xs ys : List A) (x : A) → IsIn x xs → IsIn x (xs ++ ys)
 in_front [] ys x m = absurd m
 in_front (y ∷ xs) ys x (inl e) = inl e
 in_front (y ∷ xs) ys x (inr m) = inr (in_front xs ys x m)
