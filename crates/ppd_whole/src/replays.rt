@@ -18,8 +18,8 @@ use std::marker::Brand;
 use std::sync::ledger::{Blank, Ledger};
 use std::thread::Threads;
 
-// The items of an interval, which is replayed once: the counter rises by the steps that the interval itself takes.
-fn items_in<L: Ledger>(
+/// The items of an interval, which is replayed once: the counter rises by the steps that the interval itself takes.
+pub(crate) fn items_in<L: Ledger>(
     alloc: Global,
     past: &Past,
     job: Job,

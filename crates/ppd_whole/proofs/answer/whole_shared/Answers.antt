@@ -1,6 +1,6 @@
 use Rattle.std.proofs.Common.{◌≡◌, ◌∙◌, Ok}
 use Rattle.ppd_whole.proofs.Intervals.{items_of_all}
-use Rattle.ppd_whole.proofs.answer.whole.Goals as goal
+use Rattle.ppd_whole.proofs.answer.whole_shared.Goals as goal
 
 pub parts_of-requires-clause-rows : goal.parts_of-requires-clause-rows
 parts_of-requires-clause-rows g c = c.as_slice.ensures ∙ c.in_ok-rows.ensures.1 ∙ items_of_all c.args.past.now c.requires.uncut
