@@ -43,9 +43,13 @@ fn rows_in<L: Ledger>(
 {
     let mut rows = Seq::new(alloc);
     for job in jobs {
-        let items = items_in(alloc, past, *job, steps)?;
-        if rows.push(items).is_err() {
-            return Err(WholeError::Memory);
+        match items_in(alloc, past, *job, steps) {
+            Ok(items) => {
+                if rows.push(items).is_err() {
+                    return Err(WholeError::Memory);
+                }
+            }
+            Err(error) => return Err(error),
         }
     }
     Ok(rows)
@@ -114,7 +118,7 @@ fn text_in<L: Ledger>(
     requires rows { rows.now ≡ flat_map (λ x. x.items) (seens_in past.now) }
     ensures text { IfOk result (λ text. text.items
         ≡ whole_text past.now.program.now (joined_trace past.now.program.now past.now.logs.now (seens_in past.now))) }
-    ensures cost { OnOk result (steps.new ≤ steps.old + lines_cost past.now (all_events past.now)) }
+    ensures cost { steps.new ≤ steps.old + lines_cost past.now (all_events past.now) }
 {
     marks_are_writers();
     linkers_are_linked();

@@ -3,7 +3,7 @@ ghost use Rattle.std.specs.Prelude.{◌≡◌, ◌<◌, ◌≤◌, ◌+◌, [], 
 ghost use Rattle.std.specs.List.{flat_map, range_with_len, sum_by};
 ghost use Rattle.ppd_whole.specs.Costs.{event_cost};
 ghost use Rattle.ppd_whole.specs.LinkedPasts.{IsLinked};
-ghost use Rattle.ppd_whole.specs.Told.{told_at, told_processes};
+ghost use Rattle.ppd_whole.specs.Told.{told_at};
 
 use crate::lines::put_process;
 use crate::linked_past::LinkedPast;

@@ -28,4 +28,4 @@ pub returns-clause-cost : goal.returns-clause-cost
 returns-clause-cost g c =
     let past : Past = c.args.past.now in
     let same = ap (map _) c.deref-4.ensures.value ∙ c.in_ok-events.ensures in
-    OnOk-given c.lines_in.result _ (subst (λ (all : List (List Event)). c.lines_in.new.steps ≤ c.args.steps.now + lines_cost past all) same c.lines_in.ensures.cost)
+    subst (λ (all : List (List Event)). c.lines_in.new.steps ≤ c.args.steps.now + lines_cost past all) same c.lines_in.ensures.cost
