@@ -1,19 +1,15 @@
-// The events of all processes, what they leave, and their lines.
+// The events of all processes.
 ghost use Rattle.std.specs.Prelude.{◌≡◌, ◌<◌, ◌^◌, ℕ, [], IsTrue, drop, get_or, length, map, take, IfOk};
 ghost use Rattle.std.specs.List.{flat_map};
-ghost use Rattle.ppd_whole_link.specs.Marks.{marks_after};
 ghost use Rattle.ppd_flow_past.specs.Pasts.{IsPast};
 ghost use Rattle.ppd_flow_shared.specs.SharedCells.{seens_in};
-ghost use Rattle.ppd_whole.specs.LinkedPasts.{IsLinked};
-ghost use Rattle.ppd_whole.specs.Told.{all_events, told_processes};
+ghost use Rattle.ppd_whole.specs.Told.{all_events};
 
-use crate::lines::put_process;
-use crate::linked_past::LinkedPast;
 use ppd_ast::{Memory, Seq};
 use ppd_flow_past::{Past, count_of};
 use ppd_model::Item;
 use ppd_sem::Event;
-use ppd_whole_link::{Marks, events_of, marks_of};
+use ppd_whole_link::events_of;
 use std::alloc::Global;
 
 /// The first rows, at most so many.
@@ -64,19 +60,6 @@ pub(crate) fn events_of_all<'a>(
     Ok(all)
 }
 
-/// What the events of each process leave.
-pub(crate) fn marks_of_all(alloc: Global, events: &[Vec<&Event>]) -> Result<Vec<Marks>, Memory>
-    ensures marks { IfOk result
-        (λ marks. marks.items ≡ map (λ es. marks_after (map (λ e. e.now) es.items)) events.now) }
-{
-    let mut all = Vec::new(alloc);
-    for own in events {
-        let marks = marks_of(alloc, own)?;
-        all.push(marks)?;
-    }
-    Ok(all)
-}
-
 /// Whether the events of each process have 32-bit numbers.
 pub(crate) fn are_few(events: &[Vec<&Event>]) -> bool
     ensures { IsTrue result → (q : ℕ) → length (get_or (map (λ es. map (λ e. e.now) es.items) events.now) q []) < 2 ^ 32 }
@@ -87,24 +70,4 @@ pub(crate) fn are_few(events: &[Vec<&Event>]) -> bool
         }
     }
     true
-}
-
-/// The lines of the events of all processes.
-pub(crate) fn lines_of_all(
-    alloc: Global,
-    linked: &LinkedPast,
-    events: &[Vec<&Event>],
-) -> Result<Vec<u8>, Memory>
-    requires { IsLinked linked.now }
-    ensures { IfOk result
-        (λ text. text.items ≡ told_processes linked.now.past.now 0 (map (λ es. map (λ e. e.now) es.items) events.now)) }
-{
-    let mut text = Vec::new(alloc);
-    for p in 0..events.len() {
-        let Ok(process) = u8::try_from(p) else {
-            return Err(Memory);
-        };
-        put_process(&mut text, alloc, linked, process, &events[p])?;
-    }
-    Ok(text)
 }

@@ -1,11 +1,13 @@
 // The items of all intervals, by replays that are split among workers.
-ghost use Rattle.std.specs.Prelude.{◌≡◌, ◌<◌, map, Ok, IfErr, IfOk};
+ghost use Rattle.std.specs.Prelude.{◌≡◌, ◌<◌, ◌+◌, [], ◌∷◌, map, Ok, IfErr, IfOk, OnOk};
 ghost use Rattle.std.specs.List.{AllZip};
+ghost use Rattle.ppd_flow_past.specs.ByReplays.{cost};
 ghost use Rattle.ppd_flow_past.specs.Pasts.{IsPast};
 ghost use Rattle.ppd_whole.specs.Answers.{all_intervals};
 ghost use Rattle.ppd_whole.specs.Replays.{AreReplays, IsReplay, StopsAt};
 
 use crate::jobs::{Job, jobs_of};
+use crate::shares::share;
 use crate::whole_error::WholeError;
 use ppd_ast::{Memory, Seq, Steps};
 use ppd_flow_past::{FlowError, Past, replayed};
@@ -16,7 +18,25 @@ use std::marker::Brand;
 use std::sync::ledger::{Blank, Ledger};
 use std::thread::Threads;
 
-// The items of an interval, with steps that nobody reads.
+/// The items of an interval, which is replayed once: the counter rises by the steps that the interval itself takes.
+pub(crate) fn items_in<L: Ledger>(
+    alloc: Global,
+    past: &Past,
+    job: Job,
+    steps: &mut Steps<L>,
+) -> Result<Seq<Item>, WholeError>
+    requires { IsPast past.now }
+    ensures is { IsReplay past.now job result }
+    ensures cost { OnOk result (steps.new ≡ steps.old + cost past.now (job ∷ [])) }
+{
+    match replayed(alloc, past, job.0, job.1, steps) {
+        Ok(items) => Ok(items),
+        Err(FlowError::Diverged { process, entry }) => Err(WholeError::Diverged { process, entry }),
+        Err(_) => Err(WholeError::Memory),
+    }
+}
+
+// The same, with steps that nobody reads.
 fn items_from<L: Ledger>(
     alloc: Global,
     past: &Past,
@@ -30,11 +50,7 @@ fn items_from<L: Ledger>(
     ensures { IsReplay past.now job result }
 {
     let mut steps: Steps<L> = Steps::new(blank);
-    match replayed(alloc, past, job.0, job.1, &mut steps) {
-        Ok(items) => Ok(items),
-        Err(FlowError::Diverged { process, entry }) => Err(WholeError::Diverged { process, entry }),
-        Err(_) => Err(WholeError::Memory),
-    }
+    items_in(alloc, past, job, &mut steps)
 }
 
 fn items_of(alloc: Global, past: &Past, job: Job) -> Result<Seq<Item>, WholeError>
@@ -42,14 +58,6 @@ fn items_of(alloc: Global, past: &Past, job: Job) -> Result<Seq<Item>, WholeErro
     ensures { IsReplay past.now job result }
 {
     items_from::<Brand>(alloc, past, job, Blank::new(1))
-}
-
-// How many intervals a worker replays at least.
-fn share(count: usize, workers: u32) -> usize
-    requires { 0 < workers }
-{
-    let workers = workers as usize;
-    count.saturating_add(workers - 1) / workers
 }
 
 type Found = Vec<Result<Seq<Item>, WholeError>>;
@@ -131,4 +139,15 @@ pub(crate) fn all_items(
     let jobs = jobs_of(alloc, past)?;
     let found = replays(rt, alloc, past, &jobs, workers)?;
     gathered(alloc, past, &jobs, found)
+}
+
+/// Drops the items, in as many threads as found them.
+pub(crate) fn drop_all(rt: &(impl Threads + Sync), rows: Seq<Seq<Item>>, workers: u32)
+    requires { 0 < workers }
+{
+    let count = rows.len();
+    rows.into_vec()
+        .into_par_iter()
+        .with_min_len(share(count, workers))
+        .for_each(rt, |_items: Seq<Item>| {});
 }
