@@ -75,6 +75,10 @@ writes_cell c e = list_any (λ a. is_shared c a.spot) e.writes
 
 -- ---- a write that is missing
 
+-- the write of cell c that entry n of process q records
+abbrev pub write_at : (q n c : ℕ) → Missing
+write_at q n c = record { process = q; entry = n; cell = c }
+
 -- the entry is there and ends an internal edge of its process, a synchronization or the end; its write set has the cell;
 -- and none of the events of that edge writes the cell
 pub record IsMissingWrite (logs : Logs) (xs : List Seen) (m : Missing) : Type 0 where

@@ -1,9 +1,10 @@
 -- The edges that a search by replays finds, or why it finds none.
 use Rattle.std.proofs.Common.{◌≡◌, ℕ, List, Option, Some, None, Result, Ok, Err, refl, ap, ◌∙◌}
 use Rattle.ppd_clean.specs.declared.asked.Asked.{Asked}
-use Rattle.ppd_clean.specs.Answers.{AreEdges, edges_in, of_flow, written}
+use Rattle.ppd_clean.specs.Answers.{AreEdges, edges_in, of_flow}
 use Rattle.ppd_clean.proofs.Found.{one_fails}
 use Rattle.ppd_flow.specs.Answers.{IsEdges, answer_if}
+use Rattle.law_flow_missing.specs.Missing.{write_at}
 use Rattle.ppd_flow_model.specs.Found.{edges_replays}
 use Rattle.ppd_flow_model.specs.Shared.{Missing}
 use Rattle.ppd_flow_past.specs.declared.flow_error.FlowError.{FlowError}
@@ -26,14 +27,14 @@ module _ (past : Past) (a : Asked) where
   no_edges (Some (Ok fs)) e = absurd (cc e)
   no_edges (Some (Err m)) e = absurd (cc e)
 
-  missing_edges : (x : Option (Result (List FlowEdge) Missing)) (q n c : ℕ) → answer_if x ≡ Err (flow_error.Sets q n c) → x ≡ Some (Err (written q n c))
+  missing_edges : (x : Option (Result (List FlowEdge) Missing)) (q n c : ℕ) → answer_if x ≡ Err (flow_error.Sets q n c) → x ≡ Some (Err (write_at q n c))
   missing_edges None q n c e = absurd (cc e)
   missing_edges (Some (Ok fs)) q n c e = absurd (cc e)
   missing_edges (Some (Err m)) q n c e =
       let p_is : m.process ≡ q = cc e in
       let n_is : m.entry ≡ n = cc e in
       let c_is : m.cell ≡ c = cc e in
-      ap (λ z. Some (Err (written z m.entry m.cell))) p_is ∙ (ap (λ z. Some (Err (written q z m.cell))) n_is ∙ ap (λ z. Some (Err (written q n z))) c_is)
+      ap (λ z. Some (Err (write_at z m.entry m.cell))) p_is ∙ (ap (λ z. Some (Err (write_at q z m.cell))) n_is ∙ ap (λ z. Some (Err (write_at q n z))) c_is)
 
   pub edges_found : (es : List FlowEdge) (n m : ℕ) → IsEdges past a.process a.interval a.item n m (Ok es) → AreEdges past a (Ok es)
   edges_found es n m f = ok_edges (edges_in past a) es f.1

@@ -3,11 +3,11 @@ use Rattle.std.proofs.Common.{◌≡◌, ℕ, Bool, true, false, List, Option, S
 use Rattle.std.specs.Prelude.{nat_le, slice_get}
 use Rattle.law_clean.specs.Answers.{no_item, unclean, unwritten}
 use Rattle.law_clean.specs.Search as sought
-use Rattle.law_flow_missing.specs.Missing.{AreIndexed, IsMissingWrite}
+use Rattle.law_flow_missing.specs.Missing.{AreIndexed, IsMissingWrite, write_at}
 use Rattle.law_flow_missing.proofs.MissingWrites.{missing_writes_are_told}
 use Rattle.ppd_ast.specs.declared.plan.Plan.{Plan}
 use Rattle.ppd_ast.specs.declared.program.Program.{Program}
-use Rattle.ppd_clean.specs.Answers.{IsCleanBy, written}
+use Rattle.ppd_clean.specs.Answers.{IsCleanBy}
 use Rattle.ppd_clean.specs.Missing.{IsCauseOfSets}
 use Rattle.ppd_clean.specs.declared.clean_error.CleanError.{CleanError}
 use Rattle.ppd_clean.specs.declared.clean_error.CleanError.TheVariants as error
@@ -87,7 +87,7 @@ module _ (program : Program) (plan : Plan) (budget : ℕ) (logs : Logs) (races :
 pub sets_missed : (past : Past) (races : List Race) (p k j : ℕ) (r : Result Clean CleanError)
     → IsCleanBy past races p k j r → IsCauseOfSets past races p k j r
 sets_missed past races p k j (Err (error.Sets q n c)) f = λ indexed.
-    clean_missed past.program.now past.plan.now past.budget past.logs.now races p k j indexed (written q n c) f
+    clean_missed past.program.now past.plan.now past.budget past.logs.now races p k j indexed (write_at q n c) f
 sets_missed past races p k j (Err (error.Diverged q n)) f = tt
 sets_missed past races p k j (Err (error.Unclean e)) f = tt
 sets_missed past races p k j (Err error.NoEvent) f = tt

@@ -22,11 +22,12 @@ use Rattle.ppd_blocks.specs.Blocks.{plan_of}
 use Rattle.ppd_clean.specs.declared.clean_error.CleanError.{CleanError}
 use Rattle.ppd_clean.specs.declared.clean_error.CleanError.TheVariants as error
 use Rattle.ppd_clean.specs.declared.clean.Clean.{Clean}
-use Rattle.ppd_clean.specs.Answers.{IsAnswer, IsFound, is_begun_unclean, written}
+use Rattle.ppd_clean.specs.Answers.{IsAnswer, IsFound, is_begun_unclean}
 use Rattle.ppd_clean.specs.Runs.{CleansAreOfRuns}
 use Rattle.ppd_clean.proofs.NeverFails.{IsClear, cuts_never}
 use Rattle.ppd_entry.specs.declared.entry.Logs.{Logs}
 use Rattle.ppd_entry.specs.Entries.{entries_at}
+use Rattle.law_flow_missing.specs.Missing.{write_at}
 use Rattle.ppd_flow_model.specs.Ends.{first_edge}
 use Rattle.ppd_flow_model.specs.Shared.{Missing}
 use Rattle.ppd_flow_past.specs.SeenBy.{failed_at}
@@ -245,7 +246,7 @@ module _ (program : Program) (budget : ℕ) (h : List ℕ) (p k j : ℕ) where
     at_plan (Err error.NoEvent) whole at f = sym (answers program policy budget h p k j x i v whole at at_k) ∙ f
     at_plan (Err (error.Diverged q n)) whole at f = never_fails program policy budget h p k j v whole x at q n f.1.0 f.0 f.1.1
     at_plan (Err (error.Sets q n c)) whole at f =
-        never_unwritten program (plan_of program policy) budget h p k j (written q n c) (sym (answers program policy budget h p k j x i v whole at at_k) ∙ f)
+        never_unwritten program (plan_of program policy) budget h p k j (write_at q n c) (sym (answers program policy budget h p k j x i v whole at at_k) ∙ f)
     at_plan (Err error.Memory) whole at f = tt
 
     pub of_plan : (result : Result Clean CleanError) (plan : Plan) → plan ≡ plan_of program policy → Gives result plan

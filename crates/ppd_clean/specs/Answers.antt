@@ -10,6 +10,7 @@ use Rattle.ppd_clean.specs.declared.clean.Clean.{Clean}
 use Rattle.ppd_clean.specs.ByOrder.{cut_for, is_unclean}
 use Rattle.ppd_entry.specs.declared.entry.Logs.{Logs}
 use Rattle.ppd_entry.specs.Entries.{entries_at}
+use Rattle.law_flow_missing.specs.Missing.{write_at}
 use Rattle.ppd_flow_model.specs.Ends.{first_edge}
 use Rattle.ppd_flow_model.specs.Found.{found_edges}
 use Rattle.ppd_flow_model.specs.Seen.{Seen, items_at}
@@ -37,9 +38,6 @@ IsAnswer x (Err (error.Diverged q n)) = ⊥
 IsAnswer x (Err (error.Sets q n c)) = ⊥
 IsAnswer x (Err error.Memory) = ⊤
 
-abbrev pub written : (q n c : ℕ) → Missing
-written q n c = record { process = q; entry = n; cell = c }
-
 -- the replay of some interval of process q, from these logs, fails at entry n
 abbrev pub Fails : Past → Logs → (q n : ℕ) → Type 0
 Fails past cut q n =
@@ -51,7 +49,7 @@ IsFound fails x (Ok c) = x ≡ clean c.item c.edges
 IsFound fails x (Err (error.Unclean e)) = x ≡ unclean e
 IsFound fails x (Err error.NoEvent) = x ≡ no_item
 IsFound fails x (Err (error.Diverged q n)) = fails q n
-IsFound fails x (Err (error.Sets q n c)) = x ≡ unwritten (written q n c)
+IsFound fails x (Err (error.Sets q n c)) = x ≡ unwritten (write_at q n c)
 IsFound fails x (Err error.Memory) = ⊤
 
 -- nothing happens before itself, as in every record that has a graph
@@ -151,7 +149,7 @@ edges_in past a =
 abbrev pub AreEdges : Past → Asked → Result (List FlowEdge) CleanError → Type 0
 AreEdges past a (Ok es) = edges_in past a ≡ Some (Ok es)
 AreEdges past a (Err (error.Diverged q n)) = Fails past past.cut.now q n
-AreEdges past a (Err (error.Sets q n c)) = edges_in past a ≡ Some (Err (written q n c))
+AreEdges past a (Err (error.Sets q n c)) = edges_in past a ≡ Some (Err (write_at q n c))
 AreEdges past a (Err error.NoEvent) = edges_in past a ≡ None
 AreEdges past a (Err error.Memory) = ⊤
 AreEdges past a (Err (error.Unclean e)) = ⊥

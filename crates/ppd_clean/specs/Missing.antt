@@ -1,7 +1,7 @@
 -- What `Sets` says of an item of a run with races: the write that it names is missing.
 use Rattle.std.specs.Prelude.{ℕ, List, Result, Err, ⊤}
-use Rattle.law_flow_missing.specs.Missing.{AreIndexed, IsMissingWrite}
-use Rattle.ppd_clean.specs.Answers.{cut_of, seens_of, written}
+use Rattle.law_flow_missing.specs.Missing.{AreIndexed, IsMissingWrite, write_at}
+use Rattle.ppd_clean.specs.Answers.{cut_of, seens_of}
 use Rattle.ppd_clean.specs.declared.clean_error.CleanError.{CleanError}
 use Rattle.ppd_clean.specs.declared.clean_error.CleanError.TheVariants as error
 use Rattle.ppd_clean.specs.declared.clean.Clean.{Clean}
@@ -13,5 +13,5 @@ use Rattle.ppd_model.specs.declared.graph.Race.{Race}
 -- that edge writes by the replays of the cut logs
 abbrev pub IsCauseOfSets : Past → List Race → (p k j : ℕ) → Result Clean CleanError → Type 0
 IsCauseOfSets past races p k j (Err (error.Sets q n c)) = AreIndexed past.program.now past.plan.now past.logs.now
-    → IsMissingWrite past.logs.now (seens_of past (cut_of past races p k j)) (written q n c)
+    → IsMissingWrite past.logs.now (seens_of past (cut_of past races p k j)) (write_at q n c)
 IsCauseOfSets past races p k j result = ⊤

@@ -6,7 +6,6 @@ use Rattle.ppd_ast.specs.declared.program.Program.{Program}
 use Rattle.ppd_entry.specs.declared.entry.At.{At}
 use Rattle.ppd_entry.specs.declared.entry.Logs.{Logs}
 use Rattle.ppd_flow.specs.Answers.{answer_if}
-use Rattle.ppd_flow.specs.Missing.{write_at}
 use Rattle.ppd_flow.proofs.Missing.{missed, missed_edges}
 use Rattle.ppd_flow_model.specs.Found.{edges_replays, found_edges}
 use Rattle.ppd_flow_model.specs.Shared.{Missing, found_last, last_replays}
@@ -27,7 +26,7 @@ use Rattle.ppd_session.specs.declared.question.Opening.{Opening}
 use Rattle.ppd_session.specs.declared.question.Question.{Question}
 use Rattle.ppd_session.specs.declared.reply.SessionError.{SessionError}
 use Rattle.ppd_session.specs.declared.reply.SessionError.TheVariants.{Diverged, Sets, Memory}
-use Rattle.law_flow_missing.specs.Missing.{AreIndexed, IsMissingWrite}
+use Rattle.law_flow_missing.specs.Missing.{AreIndexed, IsMissingWrite, write_at}
 use Rattle.law_flow_missing.proofs.MissingWrites.{missing_writes_are_told}
 
 -- ---- what holds of all that is found holds of what is looked up

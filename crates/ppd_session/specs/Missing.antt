@@ -4,7 +4,6 @@ use Rattle.ppd_ast.specs.declared.plan.Plan.{Plan}
 use Rattle.ppd_ast.specs.declared.program.Program.{Program}
 use Rattle.ppd_entry.specs.declared.entry.At.{At}
 use Rattle.ppd_entry.specs.declared.entry.Logs.{Logs}
-use Rattle.ppd_flow.specs.Missing.{write_at}
 use Rattle.ppd_flow_model.specs.Seen.{Seen}
 use Rattle.ppd_flow_past.specs.declared.flow_error.FlowError.TheVariants as flow_error
 use Rattle.ppd_model.specs.declared.graph.Race.{Race}
@@ -13,7 +12,7 @@ use Rattle.ppd_session.specs.Sessions.{IsWhy}
 use Rattle.ppd_session.specs.Texts.{failure_of, flow_at}
 use Rattle.ppd_session.specs.declared.reply.SessionError.{SessionError}
 use Rattle.ppd_session.specs.declared.reply.SessionError.TheVariants.{Sets}
-use Rattle.law_flow_missing.specs.Missing.{AreIndexed, IsMissingWrite}
+use Rattle.law_flow_missing.specs.Missing.{AreIndexed, IsMissingWrite, write_at}
 
 -- a write that the entry records is missing, where this is seen of the processes
 abbrev pub IsMissingAt : Logs → List Seen → At → Type 0

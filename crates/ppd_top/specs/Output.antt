@@ -126,7 +126,7 @@ abbrev pub standing : (left last : Option (List ℕ)) → ℕ → Option (List �
 standing left last reads written writes =
     record { left = left; last = last; reads = reads; written = written; writes = writes }
 
--- the input is as it was: no byte was taken, no read began, and none failed
+-- the input is as it was: as many bytes are left, as many were left when the last read began, and no read failed
 pub record IsUnread (a b : Standing) : Type 0 where
   pub left : b.left ≡ a.left
   pub last : b.last ≡ a.last

@@ -3,7 +3,7 @@
 use crate::asking::{Answer, answer_of, held, shelf_of};
 use crate::content::{block, number};
 use crate::fault::Fault;
-use crate::said::{number_said, said, schedule_of, stray_line};
+use crate::said::{Part, number_said, said, schedule_of, stray_line};
 use ppd_io::MemoryShelf;
 use std::alloc::Global;
 use std::sync::Wait;
@@ -97,8 +97,8 @@ fn judge_call<R: Threads + Wait + Sync>(
 }
 
 /// Stops at a line that may not stand where it does, and tells it.
-fn check_lines(told: &mut String, part: &str, is_call: bool) -> Result<(), Fault> {
-    match stray_line(part, is_call) {
+fn check_lines(told: &mut String, lines: &str, part: Part) -> Result<(), Fault> {
+    match stray_line(lines, part) {
         Some(line) => {
             told.push_str("not known: ")?;
             told.push_str(line)?;
@@ -119,7 +119,7 @@ fn judge_calls<R: Threads + Wait + Sync>(
     shelf: &mut MemoryShelf,
     told: &mut String,
 ) -> Result<bool, Fault> {
-    check_lines(told, under, true)?;
+    check_lines(told, under, Part::Under)?;
     let mut is_well = true;
     for call in calls {
         is_well = judge_call(rt, alloc, texts, call, under, shelf, told)? && is_well;
@@ -169,7 +169,7 @@ fn is_well<R: Threads + Wait + Sync>(
     told: &mut String,
 ) -> Result<bool, Fault> {
     let (_, before, calls) = parts_of(case);
-    check_lines(told, before, false)?;
+    check_lines(told, before, Part::Before)?;
     let mut shelf = shelf_of(alloc, texts, before)?;
     let is_well = judge_all(rt, alloc, texts, calls, &mut shelf, told)?;
     Ok(is_well != said(before, "wrong").is_some())
@@ -225,6 +225,7 @@ pub(crate) fn judge_file<R: Threads + Wait + Sync>(
 ) -> Result<Count, Fault> {
     let mut count = Count { cases: 0, alike: 0 };
     let (texts, cases) = text.split_once("\ncase ").unwrap_or((text, ""));
+    check_lines(told, texts, Part::Texts)?;
     for case in cases.split("\ncase ") {
         judge_each(rt, alloc, texts, case, &mut count, told)?;
     }

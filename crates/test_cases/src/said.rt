@@ -4,9 +4,20 @@ use crate::content::{first_word, is_content, number};
 use crate::fault::Fault;
 use std::alloc::Global;
 
+/// Where a line stands.
+#[derive(Clone, Copy)]
+pub(crate) enum Part {
+    /// Among the texts before the first case.
+    Texts,
+    /// Before the first call of a case.
+    Before,
+    /// Under a call.
+    Under,
+}
+
 /// Whether content may stand under a line of this word.
 fn is_head(key: &str) -> bool {
-    matches!(key, "file" | "input" | "output" | "stored")
+    matches!(key, "text" | "file" | "input" | "output" | "stored")
 }
 
 /// Whether a line of this word may stand before the first call of a case.
@@ -35,20 +46,25 @@ fn is_under(key: &str) -> bool {
     )
 }
 
+/// Whether a line of this word, which is no content, may stand there.
+fn may_stand(key: &str, part: Part) -> bool {
+    match part {
+        Part::Texts => key == "text",
+        Part::Before => is_before(key),
+        Part::Under => is_under(key),
+    }
+}
+
 /// The first line that may not stand where it does, if there is one.
-pub(crate) fn stray_line(part: &str, is_call: bool) -> Option<&str> {
+pub(crate) fn stray_line(lines: &str, part: Part) -> Option<&str> {
     let mut is_inside = false;
-    for line in part.lines() {
+    for line in lines.lines() {
         let (key, _) = first_word(line);
         if is_content(key) {
             if !is_inside {
                 return Some(line);
             }
-        } else if is_call && is_under(key)
-            || !is_call && is_before(key)
-            || key == ""
-            || key == "#"
-        {
+        } else if key == "" || key == "#" || may_stand(key, part) {
             is_inside = is_head(key);
         } else {
             return Some(line);

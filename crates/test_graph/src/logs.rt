@@ -26,22 +26,32 @@ pub struct Objects<'a> {
     pub chans: &'a [u8],
 }
 
-/// A program with no body and these objects.
-pub fn program(alloc: Global, objects: Objects) -> Result<Program, Memory> {
+fn sems_of(alloc: Global, starts: &[u32]) -> Result<Seq<Sem>, Memory> {
     let mut sems = Seq::new(alloc);
-    for start in objects.sems {
+    for start in starts {
         sems.push(Sem {
             name: Bytes::new(alloc),
             start: *start,
         })?;
     }
+    Ok(sems)
+}
+
+fn chans_of(alloc: Global, capacities: &[u8]) -> Result<Seq<Chan>, Memory> {
     let mut chans = Seq::new(alloc);
-    for capacity in objects.chans {
+    for capacity in capacities {
         chans.push(Chan {
             name: Bytes::new(alloc),
             capacity: *capacity,
         })?;
     }
+    Ok(chans)
+}
+
+/// A program with no body and these objects.
+fn program(alloc: Global, objects: Objects) -> Result<Program, Memory> {
+    let sems = sems_of(alloc, objects.sems)?;
+    let chans = chans_of(alloc, objects.chans)?;
     Ok(Program {
         exprs: Seq::new(alloc),
         stmts: Seq::new(alloc),
@@ -75,6 +85,15 @@ fn sync(
     })
 }
 
+fn end(alloc: Global, reads: &[u16], writes: &[u16]) -> Result<Entry, Memory> {
+    Ok(Entry::End {
+        status: Status::Ended,
+        rest: 0,
+        reads: cells(alloc, reads)?,
+        writes: cells(alloc, writes)?,
+    })
+}
+
 fn entry_of(alloc: Global, wrote: Wrote) -> Result<Entry, Memory> {
     match wrote {
         Wrote::Unit => Ok(Entry::Unit {
@@ -85,28 +104,33 @@ fn entry_of(alloc: Global, wrote: Wrote) -> Result<Entry, Memory> {
         Wrote::Sync(kind, object, number, reads, writes) => {
             sync(alloc, kind, object, number, (reads, writes))
         }
-        Wrote::End(reads, writes) => Ok(Entry::End {
-            status: Status::Ended,
-            rest: 0,
-            reads: cells(alloc, reads)?,
-            writes: cells(alloc, writes)?,
-        }),
+        Wrote::End(reads, writes) => end(alloc, reads, writes),
     }
+}
+
+fn push_entry(alloc: Global, entries: &mut Seq<Entry>, wrote: Wrote) -> Result<(), Memory> {
+    let entry = entry_of(alloc, wrote)?;
+    entries.push(entry)
 }
 
 fn log_of(alloc: Global, wrote: &[Wrote]) -> Result<Seq<Entry>, Memory> {
     let mut entries = Seq::new(alloc);
     for one in wrote {
-        entries.push(entry_of(alloc, *one)?)?;
+        push_entry(alloc, &mut entries, *one)?;
     }
     Ok(entries)
+}
+
+fn push_log(alloc: Global, lists: &mut Seq<Seq<Entry>>, wrote: &[Wrote]) -> Result<(), Memory> {
+    let log = log_of(alloc, wrote)?;
+    lists.push(log)
 }
 
 /// The logs of two processes.
 pub fn logs_of(alloc: Global, first: &[Wrote], second: &[Wrote]) -> Result<Logs, Memory> {
     let mut lists = Seq::new(alloc);
-    lists.push(log_of(alloc, first)?)?;
-    lists.push(log_of(alloc, second)?)?;
+    push_log(alloc, &mut lists, first)?;
+    push_log(alloc, &mut lists, second)?;
     Ok(Logs { lists })
 }
 
