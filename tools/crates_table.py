@@ -1,18 +1,14 @@
 #!/usr/bin/env python3
-"""Writes what docs/architecture.md says of each crate anew, under its heading "Each crate": a table for each group of
-crates.txt with each crate's name and the first sentence of its root file; and the count of crates in README.md. With
---check it writes nothing, and status 1 says that one of both is stale. With --print it prints the tables.
+"""Writes the count of crates in README.md anew. With --check it writes nothing, and status 1 says that the count is
+stale. With --print it prints a table for each group of crates.txt, with each crate's name and the first sentence of its
+root file.
 """
 import os
 import re
 import sys
 
 TOP = os.path.dirname(os.path.dirname(os.path.abspath(__file__)))
-DOCUMENT, README = os.path.join(TOP, "docs", "architecture.md"), os.path.join(TOP, "README.md")
-TITLE = "## Each crate\n"
-HEAD = """
-By the first sentence of each root file, `tools/crates_table.py` writes these tables.
-"""
+README = os.path.join(TOP, "README.md")
 COUNT = re.compile(r"\b\d+ crates\b")
 
 
@@ -59,25 +55,19 @@ def tables():
 
 
 def main():
-    text, readme = text_of(DOCUMENT), text_of(README)
+    readme = text_of(README)
     said, count = tables()
     if "--print" in sys.argv[1:]:
         print(said, end="")
         return 0
-    before, title, after = text.partition(TITLE)
-    if not title:
-        sys.exit(f"crates_table.py: docs/architecture.md has no heading {TITLE.strip()}")
-    rest = re.search(r"^## ", after, re.MULTILINE)
-    new = before + title + HEAD + "\n" + said + ("\n" + after[rest.start() :] if rest else "")
     counted = COUNT.sub(f"{count} crates", readme)
     if "--check" in sys.argv[1:]:
-        if new != text or counted != readme:
-            print("docs/architecture.md or README.md is stale: run tools/crates_table.py", file=sys.stderr)
+        if counted != readme:
+            print("README.md is stale: run tools/crates_table.py", file=sys.stderr)
             return 1
         return 0
-    for name, made in ((DOCUMENT, new), (README, counted)):
-        with open(name, "w", encoding="utf-8") as file:
-            file.write(made)
+    with open(README, "w", encoding="utf-8") as file:
+        file.write(counted)
     return 0
 
 

@@ -1,7 +1,7 @@
 #!/usr/bin/env python3
 """Writes the table of docs/definitions.md anew, which says of definitions what these say of themselves: those that the
-headline of README.md speaks of, in its order, each with its own comment, its file and line, the call that promises it, and
-whether the clauses of the top call reach it, by way of other definitions. With --check it writes nothing, and status 1
+headline of README.md speaks of, in its order, each with how its own comment begins, its file and line, the call that
+promises it, and whether the clauses of the top call reach it, by way of other definitions. With --check it writes nothing, and status 1
 says that the table is stale. With --files it prints each file of definitions in the specs/ of a crate with the comment at
 its head and the code whose contracts cite it first.
 """
@@ -183,14 +183,21 @@ def reached():
     return found
 
 
+def beginning(said):
+    """A comment as far as its first colon or semicolon."""
+    return re.split(r"[:;] ", said)[0]
+
+
 def headline():
     found = reached()
+    yield "\n| Definition | Where | Promised by | In `ppd` |\n|---|---|---|---|\n"
     for words, rows in HEADLINE:
-        yield f"\n*{words}*\n\n| Definition | Where | Promised by | In `ppd` |\n|---|---|---|---|\n"
+        yield f"| *{words}* | | | |\n"
         for name, word, call in rows:
             number, said = defined(name, word)
-            known = "yes" if (name.removesuffix(".antt").replace("/", "."), word) in found else "no"
-            yield f"| `{word}`: {said} | `{name}` {number} | `{call}` | {known} |\n"
+            place = name.removesuffix(".antt")
+            known = "yes" if (place.replace("/", "."), word) in found else "no"
+            yield f"| `{word}`: {beginning(said)} | `{place.replace('/specs/', '/')}` {number} | `{call}` | {known} |\n"
 
 
 def code():

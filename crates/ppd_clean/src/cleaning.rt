@@ -137,6 +137,7 @@ fn answered_by_cut<L: Ledger>(
         cut: &cut,
         cut_index: &cut_index,
         budget: past.budget,
+        kept: &[],
     };
     answered(alloc, &cut_past, asked, steps)
 }

@@ -76,3 +76,4 @@ IsNotRecalled bytes Memory = ⊤
 abbrev pub IsRecalled : Recalled → Type 0
 IsRecalled r =
     BelongTogether r.recording.program r.recording.plan r.recording.logs r.index r.graph r.recording.logs r.index
+    r.recording.header.budget []

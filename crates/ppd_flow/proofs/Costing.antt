@@ -1,5 +1,5 @@
 -- What the counter rose by, in the own steps of the run's intervals.
-use Rattle.std.proofs.Common.{◌≡◌, ℕ, ◌+◌, ◌≤◌, ℤ, List, [], ◌∷◌, Option, Some, None, Result, Ok, refl, ap, ap₂, sym, ◌∙◌, subst, arith, get_or}
+use Rattle.std.proofs.Common.{◌≡◌, ℕ, ◌+◌, ◌≤◌, ℤ, List, [], ◌∷◌, Option, Some, None, Result, Ok, refl, ap, sym, ◌∙◌, subst, arith, get_or}
 use Rattle.std.specs.Prelude.{slice_get}
 use Rattle.std.proofs.lemmas.List.Sums.{sum_by-cons}
 use Rattle.ppd_ast.specs.Valid.{IsValid}
@@ -16,7 +16,7 @@ use Rattle.law_flow_shared.specs.Costs.Bounds.{EdgesCostLittle, LastCostsLittle,
 use Rattle.law_flow_own.specs.Loops.AllOwnParts.{AllOwnPartsAreFound}
 use Rattle.ppd_flow_past.specs.declared.flow_error.FlowError.{FlowError}
 use Rattle.ppd_flow_past.specs.declared.past.Past.{Past}
-use Rattle.ppd_flow_past.specs.ByReplays.{cost}
+use Rattle.ppd_flow_past.specs.ByReplays.{cost, steps_to_replay}
 use Rattle.ppd_flow_past.specs.Honest.{ReplaysAreSeen}
 use Rattle.ppd_flow_past.specs.SeenBy.{own_steps_of, steps_in as replayed_steps}
 use Rattle.ppd_flow_model.specs.Found.{edges_replays}
@@ -28,6 +28,7 @@ use Rattle.ppd_flow_shared.specs.SharedCells.{IsLastFound, seens_in}
 use Rattle.ppd_flow.specs.Answers.{IsEdges}
 use Rattle.ppd_flow.specs.Runs.{CostsEdges, CostsLast, IsOfRun, edges_or_none, splits_in, story_in}
 use Rattle.ppd_flow.proofs.OfRuns.{at_each_log, gives_edges, is_seen, seens_are}
+use Rattle.ppd_flow_past.proofs.Found.{at_most_own}
 
 -- ---- a past of a run
 
@@ -40,11 +41,16 @@ module _ (law : ReplaysAreSeen) (past : Past) (policy : Policy) (h : List ℕ) (
       (told past.program.now past.plan.now past.budget h).moments
       (λ q x e. (is_seen law past policy h v r q x e).steps i) p
 
-  pub cost_is : (ms : List (ℕ × ℕ)) → cost past ms ≡ steps_of_all (splits_in past h) ms
-  cost_is [] = refl
-  cost_is (m ∷ ms) =
-      sum_by-cons (λ (n : ℕ × ℕ). replayed_steps past n.0 n.1) m ms ∙ ap₂ (λ a b. a + b) (own_steps m.0 m.1) (cost_is ms)
-      ∙ sym (sum_by-cons (λ (n : ℕ × ℕ). steps_in (slice_get (splits_in past h) n.0) n.1) m ms)
+  -- at most these: what is kept is not replayed
+  pub cost_within : (ms : List (ℕ × ℕ)) → cost past ms ≤ steps_of_all (splits_in past h) ms
+  cost_within [] = omega arith
+  cost_within (m ∷ ms) =
+      let all = sum_by-cons (λ (n : ℕ × ℕ). steps_to_replay past n.0 n.1) m ms in
+      let own = own_steps m.0 m.1 in
+      let first = at_most_own past m.0 m.1 in
+      let rest = cost_within ms in
+      let each = sum_by-cons (λ (n : ℕ × ℕ). steps_in (slice_get (splits_in past h) n.0) n.1) m ms in
+      omega (arith, all, own, first, rest, each)
 
 pub costs_last : ReplaysAreSeen → LastCostsLittle → (past : Past) (c n m : ℕ) (res : Result (ℤ × Origin) FlowError) → IsValid past.program.now
     → IsLastFound past c n m res → CostsLast past c n m res
@@ -54,8 +60,9 @@ costs_last law little past c n m res v f policy h answer r lt is =
     ap (λ (l : Logs). last_replays past.program.now l (seens_in past) c) r.logs_are
     ∙ ap (λ (xs : List Seen). last_replays past.program.now (closed_logs past.program.now past.plan.now past.budget h) xs c) (seens_are law past policy h v r) in
     let total : cost past (last_replays past.program.now past.logs.now (seens_in past) c)
-    ≡ steps_of_all (splits_in past h) (last_replays past.program.now (closed_logs past.program.now past.plan.now past.budget h) (all_seen past.program.now past.plan.now past.budget h) c) =
-    cost_is law past policy h v r (last_replays past.program.now past.logs.now (seens_in past) c) ∙ ap (steps_of_all (splits_in past h)) same in
+    ≤ steps_of_all (splits_in past h) (last_replays past.program.now (closed_logs past.program.now past.plan.now past.budget h) (all_seen past.program.now past.plan.now past.budget h) c) =
+    subst (λ (ms : List (ℕ × ℕ)). cost past (last_replays past.program.now past.logs.now (seens_in past) c) ≤ steps_of_all (splits_in past h) ms) same
+    (cost_within law past policy h v r (last_replays past.program.now past.logs.now (seens_in past) c)) in
     let le = little past.program.now past.plan.now past.budget h r.whole.last c v r.whole.runs r.no_race lt in
     let rose = g.2 in
     omega (arith, total, le, rose)
@@ -78,9 +85,10 @@ costs_edges law found own little past p k j n m res v f policy h x es r at is =
     ap (λ (l : Logs). edges_replays past.program.now past.plan.now l (seens_in past) p k j) r.logs_are
     ∙ ap (λ (xs : List Seen). edges_replays past.program.now past.plan.now (closed_logs past.program.now past.plan.now past.budget h) xs p k j) (seens_are law past policy h v r) in
     let total : cost past (edges_replays past.program.now past.plan.now past.logs.now (seens_in past) p k j)
-    ≡ steps_of_all (splits_in past h) (edges_replays past.program.now past.plan.now (closed_logs past.program.now past.plan.now past.budget h) (all_seen past.program.now past.plan.now past.budget h) p k j) =
-    cost_is law past policy h v r (edges_replays past.program.now past.plan.now past.logs.now (seens_in past) p k j) ∙ ap (steps_of_all (splits_in past h)) same in
+    ≤ steps_of_all (splits_in past h) (edges_replays past.program.now past.plan.now (closed_logs past.program.now past.plan.now past.budget h) (all_seen past.program.now past.plan.now past.budget h) p k j) =
+    subst (λ (ms : List (ℕ × ℕ)). cost past (edges_replays past.program.now past.plan.now past.logs.now (seens_in past) p k j) ≤ steps_of_all (splits_in past h) ms) same
+    (cost_within law past policy h v r (edges_replays past.program.now past.plan.now past.logs.now (seens_in past) p k j)) in
     rise n m _ _ _ g.2 total (little past.program.now past.plan.now past.budget h r.whole.last p k j x es v r.whole.runs r.no_race at parts' there)
   where
-    rise : (a b c d z : ℕ) → b ≡ a + c → c ≡ d → d ≤ z → b ≤ a + z
+    rise : (a b c d z : ℕ) → b ≡ a + c → c ≤ d → d ≤ z → b ≤ a + z
     rise a b c d z e1 e2 l = omega (arith, e1, e2, l)

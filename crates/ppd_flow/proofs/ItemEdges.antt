@@ -49,7 +49,7 @@ module _ (past : Past) (p k j n m : ℕ) where
   moved o r l e f = subst (λ (z : Option Item). IsFoundBy past ((p, k) ∷ replays_of z) (answer_for z) n l r) (sym e) f
 
   module _ (items : List Item) (got : IsFoundBy past ((p, k) ∷ []) (Ok (items_in past p k)) n m (Ok items)) where
-    items_are : items_at (seen_at (seens_in past) p) k ≡ items
+    pub items_are : items_at (seen_at (seens_in past) p) k ≡ items
     items_are =
         ap (λ (x : Seen). items_at x k) (sym (same_seen past p))
         ∙ ap (λ (r : Result (List Item) FlowError). items_or (items_in past p k) r) got.1

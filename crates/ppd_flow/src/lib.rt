@@ -2,14 +2,16 @@
 //! cell got its last value.
 #![tactic(auto)]
 
+mod far;
 mod item;
 mod laws;
 mod reads;
 mod value;
 
+pub use far::far_processes;
 pub use item::edges;
 pub use laws::answers_are_of_runs;
-pub use ppd_flow_past::{FlowError, Past};
+pub use ppd_flow_past::{FlowError, KeptReplays, Past, interval_items};
 pub use ppd_flow_shared::{LastEdge, last_edge};
 pub use ppd_model::{EdgeKind, FlowEdge, Origin};
 pub use value::{last, last_from};

@@ -1,8 +1,8 @@
 ghost use Rattle.std.specs.Prelude.{◌+◌};
 ghost use Rattle.ppd_flow.specs.Missing.{IsCauseOfSets};
 ghost use Rattle.ppd_flow.specs.Runs.{CostsLast, GivesLast};
+ghost use Rattle.ppd_flow_past.specs.ByReplays.{steps_to_replay};
 ghost use Rattle.ppd_flow_past.specs.Pasts.{IsPast};
-ghost use Rattle.ppd_flow_past.specs.SeenBy.{steps_in};
 ghost use Rattle.ppd_flow_shared.specs.SharedCells.{AreItemsOfLast, IsLastFound};
 
 use law_flow_shared::{last_costs_little, last_writes_are_found};
@@ -54,10 +54,10 @@ pub fn last_from<L: Ledger>(
 ) -> Result<(i64, Origin), FlowError>
     requires { AreItemsOfLast past.now cell last items.now }
     ensures found { IsLastFound past.now cell steps.old
-        (steps.new + steps_in past.now last.edge.process last.interval) result }
+        (steps.new + steps_to_replay past.now last.edge.process last.interval) result }
     ensures run { GivesLast past.now cell result }
     ensures cost { CostsLast past.now cell steps.old
-        (steps.new + steps_in past.now last.edge.process last.interval) result }
+        (steps.new + steps_to_replay past.now last.edge.process last.interval) result }
     ensures sets { IsCauseOfSets past.now result }
 {
     replays_are_seen();

@@ -8,9 +8,9 @@ ghost use Rattle.ppd_flow_model.specs.Seen.{call_of as call_at, is_item_of, item
 
 use crate::calls::Code;
 use crate::leaf::{frame_in, leaf_at};
-use ppd_ast::{BlockKind, Memory, Seq, Steps};
+use ppd_ast::{BlockKind, Memory, Steps};
 use ppd_flow_model::LeafCall;
-use ppd_flow_past::{FlowError, Past, block_of, number, outer_of, replayed};
+use ppd_flow_past::{FlowError, Items, Past, block_of, interval_items, number, outer_of};
 use ppd_model::{Item, Origin};
 use ppd_sem::block_kind;
 use std::alloc::Global;
@@ -113,16 +113,16 @@ impl<'a> Search<'a> {
         }
     }
 
-    /// The items of an interval, by its replay.
+    /// The items of an interval, kept or by its replay.
     pub fn items<L: Ledger>(
         &self,
         interval: u32,
         steps: &mut Steps<L>,
-    ) -> Result<Seq<Item>, FlowError>
+    ) -> Result<Items<'a>, FlowError>
         requires { IsPast self.now.past.now }
         ensures { IsFound self.now (interval ∷ []) (items_at (seen self.now) interval) steps.old steps.new result }
     {
-        replayed(self.alloc, self.past, self.process, interval, steps)
+        interval_items(self.alloc, self.past, self.process, interval, steps)
     }
 
     /// The last item of an interval.

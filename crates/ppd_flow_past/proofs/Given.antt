@@ -1,10 +1,13 @@
 -- What the replay of one interval gives of a past.
-use Rattle.std.proofs.Common.{◌≡◌, ℕ, zero, suc, ◌+◌, ◌≤◌, List, [], ◌∷◌, Option, Some, None, Ok, refl, ap, sym, ◌∙◌, arith, length, map, get_or}
+use Rattle.std.proofs.Common.{◌≡◌, ℕ, zero, suc, ◌+◌, ◌≤◌, List, [], ◌∷◌, Option, Some, None, Ok, Err, refl, ap, sym, ◌∙◌, arith, length, map, get_or}
 use Rattle.std.specs.Prelude.{slice_get}
 use Rattle.std.proofs.lemmas.List.{length-map}
 use Rattle.std.proofs.lemmas.Option.{none-some, same_Some, slice_get_past}
 use Rattle.ppd_ast.specs.declared.plan.Plan.{Plan}
 use Rattle.ppd_emul_model.specs.declared.trace.BlockTrace.{BlockTrace}
+use Rattle.ppd_emul_model.specs.declared.trace.EmulError.TheVariants.{Diverged}
+use Rattle.ppd_emul_model.specs.declared.wanted.Found.{Found}
+use Rattle.ppd_emul_model.specs.declared.wanted.Wanted.{Wanted}
 use Rattle.ppd_emul_model.specs.Replay.{Replayed, replay}
 use Rattle.ppd_entry.specs.declared.entry.Entry.{Entry}
 use Rattle.ppd_entry.specs.IntervalLogs.{Indexed, IntervalLog, indexed, interval_log, log_in}
@@ -15,8 +18,8 @@ use Rattle.ppd_index.specs.Tables.{indexed_of}
 use Rattle.ppd_model.specs.Bounds.{AreEach}
 use Rattle.ppd_model.specs.declared.flow.Item.{Item}
 use Rattle.ppd_flow_past.specs.declared.past.Past.{Past}
-use Rattle.ppd_flow_past.specs.ByReplays.{IsFoundBy, failure_or}
-use Rattle.ppd_flow_past.specs.SeenBy.{failed_in, failure_by, failure_of, items_by, items_in, steps_in, steps_of}
+use Rattle.ppd_flow_past.specs.ByReplays.{AreReplayed}
+use Rattle.ppd_flow_past.specs.SeenBy.{failed_in, failure_by, failure_of, items_by, items_in, seen_in, steps_in, steps_of}
 use Rattle.ppd_emul.specs.Laws.{replay_of}
 
 found_at : (f : IntervalLog → List Item) (is : List Indexed) (k : ℕ) (log : IntervalLog)
@@ -56,24 +59,40 @@ module _ (past : Past) (p k : ℕ) where
   in_past o = replay_of past.program.now past.plan.now past.budget o
 
   -- an interval that is not there
-  pub given_none : (n : ℕ) → IsIndexOf past.plan.now past.cut.now past.cut_index.now.tables
-      → length (rows_at past.cut_index.now.tables p) ≤ k
-      → IsFoundBy past ((p, k) ∷ []) (Ok (items_in past p k)) n n (Ok [])
-  given_none n h le =
-      let none : interval_log past.plan.now entries k
-      ≡ None = no_log past.plan.now past.cut_index.now.tables past.cut.now.lists p k h le in
-      let items : items_in past p k ≡ [] = none_at (λ log. items_by (replayed log).answer)
-      (indexed past.plan.now entries) k none in
-      let steps : steps_in past p k ≡ 0 = ap (λ o. steps_of (in_past o)) none in
-      (ap (λ o. failure_or p (failure_of (in_past o)) None) none, ap (λ (is : List Item). Ok is) items, omega arith)
+  module _ (none : interval_log past.plan.now entries k ≡ None) where
+    pub none_items : AreReplayed past p k []
+    none_items = (
+      ap (λ o. failure_of (in_past o)) none,
+      sym (none_at (λ log. items_by (replayed log).answer)
+          (indexed past.plan.now entries) k none),
+    )
+
+    pub none_steps : steps_in past p k ≡ 0
+    none_steps = ap (λ o. steps_of (in_past o)) none
+
+  -- its number is not below their count
+  pub not_there : IsIndexOf past.plan.now past.cut.now past.cut_index.now.tables
+      → length (rows_at past.cut_index.now.tables p) ≤ k → interval_log past.plan.now entries k ≡ None
+  not_there h le = no_log past.plan.now past.cut_index.now.tables past.cut.now.lists p k h le
+
+  pub beyond : length (seen_in past p).items ≤ k → interval_log past.plan.now entries k ≡ None
+  beyond le =
+      let count : length (seen_in past p).items ≡ length (indexed past.plan.now entries) =
+      length-map (indexed past.plan.now entries) (λ (i : Indexed). items_by (replayed i.log).answer) in
+      let far : length (indexed past.plan.now entries) ≤ k = omega arith in
+      ap log_in (slice_get_past (indexed past.plan.now entries) k far)
 
   module _ (log : IntervalLog) (is : interval_log past.plan.now entries k ≡ Some log) where
-    pub given_items : (trace : BlockTrace) (n m : ℕ) → Ok trace ≡ (replayed log).answer → m ≡ n + (replayed log).steps
-        → IsFoundBy past ((p, k) ∷ []) (Ok (items_in past p k)) n m (Ok trace.items)
-    given_items trace n m answer after =
+    pub given_items : (trace : BlockTrace) → Ok trace ≡ (replayed log).answer → AreReplayed past p k trace.items
+    given_items trace answer =
         let items : items_in past p k ≡ trace.items =
         found_at (λ l. items_by (replayed l).answer) (indexed past.plan.now entries) k log is
         ∙ ap items_by (sym answer) in
-        let steps : steps_in past p k ≡ (replayed log).steps = ap (λ o. steps_of (in_past o)) is in
-        let fine : failed_in past p k ≡ None = ap (λ o. failure_of (in_past o)) is ∙ ap failure_by (sym answer) in
-        (ap (λ o. failure_or p o None) fine, ap (λ (xs : List Item). Ok xs) items, omega arith)
+        (ap (λ o. failure_of (in_past o)) is ∙ ap failure_by (sym answer), sym items)
+
+    pub given_steps : steps_in past p k ≡ (replayed log).steps
+    given_steps = ap (λ o. steps_of (in_past o)) is
+
+    pub given_failure : (n : ℕ) (w : Wanted) (f : Found) → Err (Diverged n w f) ≡ (replayed log).answer
+        → failed_in past p k ≡ Some n
+    given_failure n w f answer = ap (λ o. failure_of (in_past o)) is ∙ ap failure_by (sym answer)

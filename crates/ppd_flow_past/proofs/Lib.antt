@@ -6,4 +6,5 @@ pub mod Parents
 pub mod Outward
 pub mod Found
 mod Given
+pub mod Keeping
 pub mod Edges

@@ -9,6 +9,7 @@ use Rattle.ppd_model.specs.declared.flow.Item.{Item}
 use Rattle.ppd_flow_past.specs.declared.flow_error.FlowError.{FlowError}
 use Rattle.ppd_flow_past.specs.declared.flow_error.FlowError.TheVariants.{Diverged, NoEvent, Sets, Memory}
 use Rattle.ppd_flow_past.specs.declared.past.Past.{Past}
+use Rattle.ppd_flow_past.specs.Pasts.{items_kept}
 use Rattle.ppd_flow_past.specs.SeenBy.{failed_at, failed_in, items_in, steps_in}
 
 -- the failure of a replay of process p, if it fails, else this
@@ -27,9 +28,18 @@ first_failed program plan budget logs (m ∷ ms) =
 abbrev pub first_failed_in : Past → List (ℕ × ℕ) → Option At
 first_failed_in past ms = first_failed past.program.now past.plan.now past.budget past.cut.now ms
 
+-- these steps, where no items are kept
+abbrev pub unless_kept : Option (List Item) → ℕ → ℕ
+unless_kept None steps = steps
+unless_kept (Some items) steps = 0
+
+-- the steps of interval k of process p, unless its items are kept, so that it is not replayed
+abbrev pub steps_to_replay : Past → (p k : ℕ) → ℕ
+steps_to_replay past p k = unless_kept (items_kept past.kept.now p k) (steps_in past p k)
+
 -- the steps that the replays of these intervals take
 abbrev pub cost : Past → List (ℕ × ℕ) → ℕ
-cost past ms = sum_by (λ m. steps_in past m.0 m.1) ms
+cost past ms = sum_by (λ m. steps_to_replay past m.0 m.1) ms
 
 -- what is answered by replays of these intervals in this order, each by its process: this answer, where none fails,
 -- and then the counter rose by their own steps; else the failure of the first that fails. Want of memory is free
@@ -47,3 +57,16 @@ IsFoundBy past ms answer before after (Err Memory) = ⊤
 -- the replay of interval k of process p does not fail, and gives these items
 abbrev pub AreReplayed : Past → (p k : ℕ) → List Item → Type 0
 AreReplayed past p k items = (failed_in past p k ≡ None) × (items ≡ items_in past p k)
+
+-- what the replay of interval k of process p answers: its items, or where it fails. Want of memory is free
+abbrev pub IsReplayed : Past → (p k : ℕ) → Result (List Item) FlowError → Type 0
+IsReplayed past p k (Ok items) = AreReplayed past p k items
+IsReplayed past p k (Err (Diverged q n)) = (q ≡ p) × (failed_in past p k ≡ Some n)
+IsReplayed past p k (Err Memory) = ⊤
+IsReplayed past p k (Err e) = ⊥
+
+-- the replay of some interval of the process fails at this entry, or want of memory
+abbrev pub IsReplayFailure : Past → FlowError → Type 0
+IsReplayFailure past (Diverged q n) = (k : ℕ) × (failed_in past q k ≡ Some n)
+IsReplayFailure past Memory = ⊤
+IsReplayFailure past e = ⊥

@@ -1,21 +1,37 @@
 -- What belongs together in what is kept of a run.
+use Rattle.std.specs.Prelude.{◌≡◌, ℕ, List, [], get_or, slice_get, Option, Some, None}
 use Rattle.ppd_ast.specs.Valid.{IsValid}
 use Rattle.ppd_ast.specs.ValidPlan.{IsValidPlan}
 use Rattle.ppd_ast.specs.declared.plan.Plan.{Plan}
 use Rattle.ppd_ast.specs.declared.program.Program.{Program}
 use Rattle.ppd_entry.specs.declared.entry.Logs.{Logs}
+use Rattle.ppd_entry.specs.Entries.{entries_at}
 use Rattle.ppd_graph.specs.declared.sync_graph.SyncGraph.{SyncGraph}
 use Rattle.ppd_graph.specs.Graphs.{IsGraphOf}
 use Rattle.ppd_index.specs.declared.log_index.LogIndex.{LogIndex}
 use Rattle.ppd_index.specs.Fitting.{AreFittingLogs}
 use Rattle.ppd_index.specs.Indexes.{IsIndexOf}
+use Rattle.ppd_flow_model.specs.Seen.{items_at}
 use Rattle.ppd_flow_past.specs.declared.past.Past.{Past}
+use Rattle.ppd_flow_past.specs.SeenBy.{failed_at, seen_by}
+use Rattle.ppd_model.specs.declared.flow.Item.{Item}
 use Rattle.ppd_race.specs.Races.{AreCellsThere}
 
--- a program and a plan that are valid, logs that name cells of the program, with their index and their graph, and the
--- logs that are replayed with their index, which accepted them
+-- the items that are kept of interval k of process p, if they are
+abbrev pub items_kept : List (List (List Item)) → (p k : ℕ) → Option (List Item)
+items_kept kept p k = slice_get (get_or kept p []) k
+
+-- whatever is kept of an interval are the items of its replay, which does not fail
+abbrev pub AreKept : Program → Plan → ℕ → Logs → List (List (List Item)) → Type 0
+AreKept program plan budget logs kept =
+    (p k : ℕ) (items : List Item) → items_kept kept p k ≡ Some items
+    → (failed_at program plan budget (entries_at logs p) k ≡ None)
+    × (items ≡ items_at (seen_by program plan budget (entries_at logs p)) k)
+
+-- a program and a plan that are valid, logs that name cells of the program, with their index and their graph, the logs
+-- that are replayed with their index, which accepted them, and the items that are kept of their replays
 pub record BelongTogether (program : Program) (plan : Plan) (logs : Logs) (index : LogIndex) (graph : SyncGraph)
-    (cut : Logs) (cut_index : LogIndex) : Type 0 where
+    (cut : Logs) (cut_index : LogIndex) (budget : ℕ) (kept : List (List (List Item))) : Type 0 where
   pub program_ok : IsValid program
   pub plan_ok : IsValidPlan program plan
   pub cells : AreCellsThere program logs
@@ -23,9 +39,10 @@ pub record BelongTogether (program : Program) (plan : Plan) (logs : Logs) (index
   pub graph_is : IsGraphOf program logs graph
   pub cut_index_is : IsIndexOf plan cut cut_index.tables
   pub fitting : AreFittingLogs plan cut
+  pub kept_are : AreKept program plan budget cut kept
 
 -- so do the parts of a past
 abbrev pub IsPast : Past → Type 0
 IsPast past =
     BelongTogether past.program.now past.plan.now past.logs.now past.index.now past.graph.now past.cut.now
-    past.cut_index.now
+    past.cut_index.now past.budget past.kept.now

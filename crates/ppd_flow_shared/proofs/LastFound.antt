@@ -9,8 +9,7 @@ use Rattle.ppd_model.specs.declared.flow.Origin.{Origin}
 use Rattle.ppd_model.specs.declared.graph.EdgeId.{EdgeId}
 use Rattle.ppd_flow_past.specs.declared.flow_error.FlowError.{FlowError}
 use Rattle.ppd_flow_past.specs.declared.past.Past.{Past}
-use Rattle.ppd_flow_past.specs.ByReplays.{AreReplayed, IsFoundBy}
-use Rattle.ppd_flow_past.specs.SeenBy.{steps_in}
+use Rattle.ppd_flow_past.specs.ByReplays.{AreReplayed, IsFoundBy, steps_to_replay}
 use Rattle.ppd_flow_model.specs.Ends.{first_edge, sync_item}
 use Rattle.ppd_flow_model.specs.Shared.{greatest_writing, start_replays, written_or_start}
 use Rattle.ppd_flow_shared.specs.declared.last.LastEdge.{LastEdge}
@@ -26,7 +25,7 @@ module _ (past : Past) (c : ℕ) where
   IsFrom a l n o r =
       IsFoundBy past (start_replays past.logs.now (seens_in past) c a)
       (answer_of (written_or_start past.program.now past.logs.now (seens_in past) c a)) n
-      (o + steps_in past l.edge.process l.interval) r
+      (o + steps_to_replay past l.edge.process l.interval) r
 
   module _ (items : List Item) (j n o : ℕ) (r : Result (ℤ × Origin) FlowError) where
     abbrev Given : LastEdge → Type 0
@@ -52,6 +51,6 @@ module _ (past : Past) (c : ℕ) where
       → last_edge past c ≡ Some l → AreReplayed past l.edge.process l.interval items
       → j ≡ sync_item (entries l) l.edge.edge (first_edge (entries l) l.interval) items
       → Before past l.edge c l.interval j n o r
-      → IsLastFound past c n (o + steps_in past l.edge.process l.interval) r
+      → IsLastFound past c n (o + steps_to_replay past l.edge.process l.interval) r
   found_from l items j n o r e given place g =
       from_last items j n o r l (greatest_writing past.program.now past.logs.now c) e (given, place, g)

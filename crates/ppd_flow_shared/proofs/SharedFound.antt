@@ -1,5 +1,5 @@
 -- Where a shared cell was written, by what the replays on the way answer.
-use Rattle.std.proofs.Common.{◌≡◌, ℕ, zero, suc, ◌+◌, ℤ, List, [], ◌∷◌, ◌++◌, None, Result, Ok, Err, refl, ap, sym, subst, get_or, map}
+use Rattle.std.proofs.Common.{◌≡◌, ℕ, zero, suc, ◌+◌, ℤ, List, [], ◌∷◌, ◌++◌, Option, None, Result, Ok, Err, refl, ap, sym, ◌∙◌, subst, get_or, map}
 use Rattle.std.proofs.lemmas.List.{append-nil}
 use Rattle.ppd_entry.specs.declared.entry.Entry.{Entry}
 use Rattle.ppd_entry.specs.Entries.{entries_at}
@@ -8,9 +8,9 @@ use Rattle.ppd_model.specs.declared.flow.Origin.TheVariants as origin
 use Rattle.ppd_model.specs.declared.graph.EdgeId.{EdgeId}
 use Rattle.ppd_flow_past.specs.declared.flow_error.FlowError.{FlowError}
 use Rattle.ppd_flow_past.specs.declared.past.Past.{Past}
-use Rattle.ppd_flow_past.specs.ByReplays.{IsFoundBy}
-use Rattle.ppd_flow_past.specs.SeenBy.{failed_in, seen_by, seen_in, steps_in}
-use Rattle.ppd_flow_past.proofs.Found.{found_err, found_given, found_then}
+use Rattle.ppd_flow_past.specs.ByReplays.{IsFoundBy, steps_to_replay}
+use Rattle.ppd_flow_past.specs.SeenBy.{failed_in, seen_by, seen_in}
+use Rattle.ppd_flow_past.proofs.Found.{err_any, found_err, found_given, found_then}
 use Rattle.ppd_flow_model.specs.declared.walked.Walked.{Walked}
 use Rattle.ppd_flow_model.specs.declared.walked.Walked.TheVariants.{Stopped, Passed, Found}
 use Rattle.ppd_flow_model.specs.Ends.{end_interval, end_item}
@@ -18,7 +18,7 @@ use Rattle.ppd_flow_model.specs.Seen.{Seen}
 use Rattle.ppd_flow_model.specs.Shared.{Missing, of_process, own_or, seen_at, unless_found, written_at, written_in, written_replays}
 use Rattle.ppd_flow_model.specs.Walk.{walk, walk_replays}
 use Rattle.ppd_flow_shared.specs.declared.edge_end.EdgeEnd.{EdgeEnd}
-use Rattle.ppd_flow_shared.specs.SharedCells.{IsWalked, answer_of, edge_end_of, seens_in}
+use Rattle.ppd_flow_shared.specs.SharedCells.{IsWalked, answer_of, edge_end_of, edge_unless_found, seens_in}
 
 -- ---- answers
 
@@ -93,10 +93,10 @@ module _ (past : Past) where
       pub written_from_items : (n o : ℕ) (r : Result (ℤ × Origin) FlowError) → failed_in past e.process k ≡ None
           → Before k (end_item entries x e.edge) n o r
           → IsFoundBy past (written_replays past.logs.now xs c e) (answer_of (written_in past.logs.now xs c e)) n
-          (o + steps_in past e.process k) r
+          (o + steps_to_replay past e.process k) r
       written_from_items n o r fine g =
           let j = end_item entries x e.edge in
-          as_written n (o + steps_in past e.process k) r
+          as_written n (o + steps_to_replay past e.process k) r
           (found_given past e.process k (of_process e.process (walk_replays x c k j))
           (answer_of (written_at past.logs.now c e (walk x c k j))) n o r fine g)
 
@@ -159,3 +159,23 @@ module _ (past : Past) where
     read_passed n m q r f g =
         after_walk Passed n q r (ap (walked_or Passed) f.1)
         (found_then past (of_process p (walk_replays here c i j)) rest (Ok w0) (answer_of other) Passed n m q r f g)
+
+-- ---- the edge before that of a place in which a cell was written
+
+module _ (past : Past) (p c i j : ℕ) (best : Option EdgeId) where
+  abbrev in_past : Seen
+  in_past = seen_in past p
+
+  abbrev Far : ℕ → ℕ → Result (Option EdgeId) FlowError → Type 0
+  Far n m r = IsFoundBy past (of_process p (walk_replays in_past c i j)) (Ok (edge_unless_found (walk in_past c i j) best)) n m r
+
+  -- what the walk found leaves this edge
+  pub far_found : (w : Walked) (o : Option EdgeId) (n m : ℕ) → IsWalked past p c i j n m (Ok w) → edge_unless_found w best ≡ o
+      → Far n m (Ok o)
+  far_found w o n m f e =
+      let is : walk in_past c i j ≡ w = ap (walked_or w) f.1 in
+      (f.0, ap (λ (u : Walked). Ok (edge_unless_found u best)) is ∙ ap (λ (x : Option EdgeId). Ok x) e, f.2)
+
+  pub far_failed : (n m : ℕ) (e : FlowError) → IsWalked past p c i j n m (Err e) → Far n m (Err e)
+  far_failed n m e f =
+      err_any past (of_process p (walk_replays in_past c i j)) (walk in_past c i j) (Ok (edge_unless_found (walk in_past c i j) best)) n m e f

@@ -1,5 +1,5 @@
 -- What the search for where a shared cell was written answers.
-use Rattle.std.specs.Prelude.{◌≡◌, ℕ, ℤ, List, [], ◌∷◌, map, Option, Some, option_map, Result, Ok, Err, ⊤}
+use Rattle.std.specs.Prelude.{◌≡◌, ℕ, ℤ, List, [], ◌∷◌, map, Option, Some, None, option_map, Result, Ok, Err, ⊤}
 use Rattle.ppd_entry.specs.Entries.{entries_at}
 use Rattle.ppd_model.specs.declared.flow.Item.{Item}
 use Rattle.ppd_model.specs.declared.flow.Origin.{Origin}
@@ -17,6 +17,7 @@ use Rattle.ppd_flow_model.specs.Seen.{Seen}
 use Rattle.ppd_flow_model.specs.Shared.{Missing, found_last, greatest_writing, last_replays, of_process}
 use Rattle.ppd_flow_model.specs.Walk.{walk, walk_replays}
 use Rattle.ppd_flow_model.specs.declared.walked.Walked.{Walked}
+use Rattle.ppd_flow_model.specs.declared.walked.Walked.TheVariants.{Found}
 use Rattle.ppd_flow_shared.specs.declared.edge_end.EdgeEnd.{EdgeEnd}
 use Rattle.ppd_flow_shared.specs.declared.last.LastEdge.{LastEdge}
 
@@ -33,6 +34,11 @@ answer_of (Err m) = Err (Sets m.process m.entry m.cell)
 abbrev pub IsMemoryOr : {A : Type 0} → Result A FlowError → Result A FlowError → Type 0
 IsMemoryOr answer (Err Memory) = ⊤
 IsMemoryOr answer result = result ≡ answer
+
+-- this edge, unless the walk found a write
+abbrev pub edge_unless_found : Walked → Option EdgeId → Option EdgeId
+edge_unless_found (Found k i v) best = None
+edge_unless_found w best = best
 
 -- where an edge of a past ends
 abbrev pub edge_end_of : Past → EdgeId → EdgeEnd

@@ -5,35 +5,35 @@ ghost use Rattle.ppd_flow_past.specs.Pasts.{IsPast};
 ghost use Rattle.ppd_flow_model.specs.Ends.{end_interval as end_interval_of};
 ghost use Rattle.ppd_flow_shared.specs.SharedCells.{edge_end_of};
 
-use ppd_ast::{Seq, Steps};
-use ppd_flow_past::{FlowError, Past, end_interval, replayed, sync_item};
-use ppd_model::{EdgeId, Item};
+use ppd_ast::Steps;
+use ppd_flow_past::{FlowError, Items, Past, end_interval, interval_items, sync_item};
+use ppd_model::EdgeId;
 use std::alloc::Global;
 use std::sync::ledger::Ledger;
 
 /// Where an internal edge ends: an interval with its items, and the place among them, that of the synchronization
 /// that ends the edge; of a last edge the place after all items.
 #[derive(Drop)]
-pub(crate) struct EdgeEnd {
+pub(crate) struct EdgeEnd<'a> {
     pub interval: u32,
-    pub items: Seq<Item>,
+    pub items: Items<'a>,
     pub place: usize,
 }
 
-/// Finds where an edge ends, by the replay of that interval.
-pub(crate) fn edge_end<L: Ledger>(
+/// Finds where an edge ends, by the items of that interval.
+pub(crate) fn edge_end<'a, L: Ledger>(
     alloc: Global,
-    past: &Past,
+    past: &Past<'a>,
     edge: EdgeId,
     steps: &mut Steps<L>,
-) -> Result<EdgeEnd, FlowError>
+) -> Result<EdgeEnd<'a>, FlowError>
     requires { IsPast past.now }
     ensures { IsFoundBy past.now
         ((edge.process, end_interval_of (entries_at past.now.logs.now edge.process) edge.edge) ∷ [])
         (Ok (edge_end_of past.now edge)) steps.old steps.new result }
 {
     let interval = end_interval(past, edge.process, edge.edge);
-    let items = replayed(alloc, past, edge.process, interval, steps)?;
+    let items = interval_items(alloc, past, edge.process, interval, steps)?;
     let place = sync_item(past, edge.process, edge.edge, interval, items.as_slice())?;
     Ok(EdgeEnd {
         interval,

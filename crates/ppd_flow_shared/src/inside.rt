@@ -9,7 +9,7 @@ use crate::event::over_event;
 use crate::search::CellSearch;
 use ppd_ast::Steps;
 use ppd_flow_model::Walked;
-use ppd_flow_past::{FlowError, number, replayed};
+use ppd_flow_past::{FlowError, interval_items, number};
 use ppd_model::Item;
 use std::sync::ledger::Ledger;
 
@@ -75,7 +75,7 @@ fn over_item<L: Ledger>(
     }
 }
 
-// Walks over a whole interval, which is replayed.
+// Walks over a whole interval, which is replayed if it is not kept.
 #[cycle(walk)]
 fn over_interval<L: Ledger>(
     search: &CellSearch,
@@ -92,6 +92,6 @@ fn over_interval<L: Ledger>(
     if depth == 0 {
         return Ok(Walked::Passed);
     }
-    let items = replayed(search.alloc, search.past, search.process, interval, steps)?;
+    let items = interval_items(search.alloc, search.past, search.process, interval, steps)?;
     over_items(search, depth - 1, interval, items.as_slice(), steps)
 }

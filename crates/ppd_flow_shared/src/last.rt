@@ -1,6 +1,6 @@
 ghost use Rattle.std.specs.Prelude.{◌≡◌, ◌+◌, IfOk};
+ghost use Rattle.ppd_flow_past.specs.ByReplays.{steps_to_replay};
 ghost use Rattle.ppd_flow_past.specs.Pasts.{IsPast};
-ghost use Rattle.ppd_flow_past.specs.SeenBy.{steps_in};
 ghost use Rattle.ppd_flow_shared.specs.SharedCells.{AreItemsOfLast, IsLastFound, last_edge as last_edge_of};
 
 use crate::search::CellSearch;
@@ -45,7 +45,7 @@ pub fn last_write_from<L: Ledger>(
 ) -> Result<(i64, Origin), FlowError>
     requires { AreItemsOfLast past.now cell last items.now }
     ensures { IsLastFound past.now cell steps.old
-        (steps.new + steps_in past.now last.edge.process last.interval) result }
+        (steps.new + steps_to_replay past.now last.edge.process last.interval) result }
 {
     let EdgeId { process, edge } = last.edge;
     let place = sync_item(past, process, edge, last.interval, items)?;

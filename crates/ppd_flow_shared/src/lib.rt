@@ -13,6 +13,6 @@ mod shared;
 mod written;
 
 pub use last::{LastEdge, last_edge, last_write_from};
-pub use pairs::{Place, pair_origin};
+pub use pairs::{Place, pair_of, pair_origin};
 pub use search::CellSearch;
 pub use shared::last_write;

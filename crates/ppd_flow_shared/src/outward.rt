@@ -10,7 +10,7 @@ use crate::inside::{is_passed, over_items};
 use crate::search::CellSearch;
 use ppd_ast::Steps;
 use ppd_flow_model::Walked;
-use ppd_flow_past::{FlowError, count_of, outer_of, replayed};
+use ppd_flow_past::{FlowError, count_of, interval_items, outer_of};
 use ppd_model::Item;
 use std::sync::ledger::Ledger;
 
@@ -53,7 +53,7 @@ pub(crate) fn first_items(items: &[Item], count: usize) -> &[Item]
     }
 }
 
-// Replays an interval, and walks over its items before an interval inside it.
+// Takes the items of an interval, and walks over its items before an interval inside it.
 fn over_before<L: Ledger>(
     search: &CellSearch,
     outer: u32,
@@ -67,7 +67,7 @@ fn over_before<L: Ledger>(
         steps.old steps.new result }
 {
     let depth = count_of(search.past, search.process);
-    let items = replayed(search.alloc, search.past, search.process, outer, steps)?;
+    let items = interval_items(search.alloc, search.past, search.process, outer, steps)?;
     let at = place_of(inner, items.as_slice());
     over_items(
         search,

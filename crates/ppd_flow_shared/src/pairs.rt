@@ -22,8 +22,9 @@ pub struct Place {
     pub item: usize,
 }
 
-// What leads to the synchronization at a place. `Memory` is want of memory.
-fn pair_of(past: &Past, place: Place, items: &[Item]) -> Result<Paired, Memory>
+/// What leads to the synchronization at a place of an interval, whose items these are. `Memory` is want of memory, also
+/// for places that have no 32-bit numbers.
+pub fn pair_of(past: &Past, place: Place, items: &[Item]) -> Result<Paired, Memory>
     requires past { IsPast past.now }
     requires items { items.now ≡ items_in past.now place.process place.interval }
     ensures { IfOk result (λ pair. pair

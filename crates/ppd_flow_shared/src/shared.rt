@@ -1,10 +1,11 @@
-ghost use Rattle.std.specs.Prelude.{◌≡◌, IfOk};
+ghost use Rattle.std.specs.Prelude.{◌≡◌, IfOk, Ok};
 ghost use Rattle.ppd_flow_past.specs.ByReplays.{IsFoundBy};
 ghost use Rattle.ppd_flow_past.specs.Pasts.{IsPast};
 ghost use Rattle.ppd_flow_model.specs.Seen.{items_at};
-ghost use Rattle.ppd_flow_model.specs.Shared.{edge_of_place, greatest_before as greatest_before_of, origin_in, shared_origin as shared_origin_of, shared_replays, start_replays, written_or_start as written_or_start_of};
+ghost use Rattle.ppd_flow_model.specs.Shared.{edge_of_place, greatest_before as greatest_before_of, of_process, origin_in, shared_origin as shared_origin_of, shared_replays, start_replays, written_or_start as written_or_start_of};
+ghost use Rattle.ppd_flow_model.specs.Walk.{walk as walk_from, walk_replays};
 ghost use Rattle.ppd_flow_shared.specs.Items.{seen_for};
-ghost use Rattle.ppd_flow_shared.specs.SharedCells.{IsLastFound, answer_of, seens_in};
+ghost use Rattle.ppd_flow_shared.specs.SharedCells.{IsLastFound, answer_of, edge_unless_found, seens_in};
 
 use crate::outward::first_items;
 use crate::search::CellSearch;
@@ -38,6 +39,39 @@ impl<'a> CellSearch<'a> {
             edge,
         };
         greatest_before(self.past, own, self.cell)
+    }
+
+    /// The edge before that of a place, in an interval whose items these are, in which the cell was written last that
+    /// is read there: none where the internal edge of the place writes it before the place, or no edge before does.
+    ///
+    /// The counter rises by the own steps of the intervals of the process that are replayed, and no interval of the
+    /// edge that is found is among these for its sake. `Diverged`: the replay of one of them, the first that fails, does
+    /// so at this entry. `Memory` is want of memory, also for places that have no 32-bit numbers. No other error comes.
+    pub fn far_edge<L: Ledger>(
+        &self,
+        interval: u32,
+        items: &[Item],
+        place: usize,
+        steps: &mut Steps<L>,
+    ) -> Result<Option<EdgeId>, FlowError>
+        requires past { IsPast self.now.past.now }
+        requires items { items.now ≡ items_at (seen_for self.now) interval }
+        ensures { IsFoundBy self.now.past.now
+            (of_process self.now.process (walk_replays (seen_for self.now) self.now.cell interval place))
+            (Ok (edge_unless_found (walk_from (seen_for self.now) self.now.cell interval place)
+            (greatest_before_of self.now.past.now.program.now self.now.past.now.logs.now
+            (edge_of_place self.now.past.now.logs.now (seens_in self.now.past.now) self.now.process interval place)
+            self.now.cell)))
+            steps.old steps.new result }
+    {
+        let walked = self.walk(interval, items, place, steps)?;
+        match walked {
+            Walked::Found { .. } => Ok(None),
+            Walked::Stopped | Walked::Passed => {
+                let best = self.edge_before(interval, items, place)?;
+                Ok(best)
+            }
+        }
     }
 
     // The origin of a write in an edge before that of a place, or the start value.

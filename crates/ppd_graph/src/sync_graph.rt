@@ -18,13 +18,13 @@ pub struct SyncGraph {
 }
 
 impl SyncGraph {
-    /// How many internal edges a process has: one more than its synchronizations; 0 past the processes.
+    /// How many internal edges a process has: one more than its synchronizations; 0 past the processes. The graph of logs
+    /// has fewer than 2^32 of each.
     pub fn edges(&self, p: u8) -> u32
-        requires { edge_count self.now p < 2 ^ 32 }
-        ensures { result ≡ edge_count self.now p }
+        ensures { edge_count self.now p < 2 ^ 32 → result ≡ edge_count self.now p }
     {
         match self.edges.get(p as usize) {
-            Some(own) => own.len() as u32,
+            Some(own) => u32::try_from(own.len()).unwrap_or(u32::MAX),
             None => 0,
         }
     }

@@ -99,7 +99,7 @@ module _ (program : Program) (plan : Plan) (budget : ℕ) (closed : Closed) (t :
       refused program plan budget t.schedule t.whole.last t.whole.runs e other r'
 
 -- with their index and graph they are what a session is about
-pub together : (program : Program) (plan : Plan) (budget : ℕ) (closed : Closed) (index : LogIndex) (graph : SyncGraph) → CanBeTold program plan budget closed → IsIndexOf plan closed.logs index.tables → AreFittingLogs plan closed.logs → IsGraphOf program closed.logs graph → BelongTogether program plan closed.logs index graph closed.logs index
+pub together : (program : Program) (plan : Plan) (budget : ℕ) (closed : Closed) (index : LogIndex) (graph : SyncGraph) → CanBeTold program plan budget closed → IsIndexOf plan closed.logs index.tables → AreFittingLogs plan closed.logs → IsGraphOf program closed.logs graph → BelongTogether program plan closed.logs index graph closed.logs index budget []
 together program plan budget closed index graph t i f k = record {
   program_ok = t.program_ok;
   plan_ok = t.plan_ok;
@@ -108,6 +108,7 @@ together program plan budget closed index graph t i f k = record {
   cut_index_is = i;
   fitting = f;
   graph_is = k;
+  kept_are = nothing_kept program plan budget closed.logs;
 }
 
 -- ---- by threads

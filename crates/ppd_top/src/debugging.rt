@@ -35,6 +35,7 @@ fn converse<I: Source, O: Sink>(
         cut: &recalled.recording.logs,
         cut_index: &recalled.index,
         budget: recalled.recording.header.budget,
+        kept: &[],
     };
     let Ok(mut session) = Session::new(rt, alloc, past) else {
         return 5;

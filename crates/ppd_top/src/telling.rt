@@ -112,6 +112,7 @@ pub(crate) fn summarize(
         cut: &run.closed.logs,
         cut_index: &index,
         budget: run.budget,
+        kept: &[],
     };
     let session = Session::new(rt, alloc, past)?;
     summary(alloc, run.program, run.closed.ends.as_slice(), &session)
@@ -149,6 +150,7 @@ pub(crate) fn tell<I: Source, O: Sink>(
         cut: &run.closed.logs,
         cut_index: &index,
         budget: run.budget,
+        kept: &[],
     };
     let Ok(mut session) = Session::new(rt, alloc, past) else {
         return 5;

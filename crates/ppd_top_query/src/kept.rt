@@ -37,6 +37,7 @@ pub(crate) fn past_of(recalled: &Recalled) -> Past<'_>
         cut: &recalled.recording.logs,
         cut_index: &recalled.index,
         budget: recalled.recording.header.budget,
+        kept: &[],
     }
 }
 

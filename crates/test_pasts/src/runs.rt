@@ -47,6 +47,7 @@ impl Ran {
             cut: &self.logs,
             cut_index: &self.index,
             budget: self.budget,
+            kept: &[],
         }
     }
 }

@@ -3,8 +3,8 @@ use Rattle.ppd_clean.proofs.by_order.last_edge.Goals as goal
 
 pub returns-then-edges-eq0-clause-is : goal.returns-then-edges-eq0-clause-is
 returns-then-edges-eq0-clause-is c =
-    last_none c.args.past.now c.requires c.args.process c.edges-edges.result c.edges-edges.ensures c.if-edges-eq0.true
+    last_none c.args.past.now c.requires c.args.process c.edges-edges.result (c.edges-edges.ensures (c.requires.graph_is.few c.args.process)) c.if-edges-eq0.true
 
 pub returns-else-edges-eq0-clause-is : goal.returns-else-edges-eq0-clause-is
 returns-else-edges-eq0-clause-is c =
-    last_some c.args.past.now c.requires c.args.process c.edges-edges.result c.edges-edges.ensures c.if-edges-eq0.false
+    last_some c.args.past.now c.requires c.args.process c.edges-edges.result (c.edges-edges.ensures (c.requires.graph_is.few c.args.process)) c.if-edges-eq0.false

@@ -1,3 +1,4 @@
+use Rattle.ppd_flow_past.proofs.Keeping.{nothing_kept}
 use Rattle.ppd_codec_runs.proofs.Cells.{cells_there}
 use Rattle.ppd_codec_runs.proofs.recalling.recall.Goals as goal
 
@@ -12,4 +13,5 @@ returns-clause-together c =
       cut_index_is = c.in_ok-index.ensures.index;
       fitting = c.in_ok-index.ensures.fitting;
       graph_is = c.in_ok-graph.ensures.graph;
+      kept_are = nothing_kept r.program r.plan r.header.budget r.logs;
     }

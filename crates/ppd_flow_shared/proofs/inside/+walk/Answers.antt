@@ -14,12 +14,12 @@ over_interval-returns g t c =
     let search = c.args.search.now in
     let given : IsFoundBy search.past.now ((search.process, c.args.interval) ∷ []) (Ok
     (items_in search.past.now search.process c.args.interval))
-    c.args.steps.now c.replayed.new.steps (Ok c.as_slice.result.now) =
+    c.args.steps.now c.interval_items.new.steps (Ok c.as_slice.result.now) =
     subst (λ (xs : List Item). IsFoundBy search.past.now ((search.process, c.args.interval) ∷ []) (Ok
     (items_in search.past.now search.process c.args.interval))
-    c.args.steps.now c.replayed.new.steps (Ok xs)) (sym c.as_slice.ensures) c.in_ok-items.ensures in
+    c.args.steps.now c.interval_items.new.steps (Ok xs)) (sym c.as_slice.ensures) c.in_ok-items.ensures in
     whole_ok search.past.now search.process search.cell c.args.depth c.args.interval c.as_slice.result.now
-    c.args.steps.now c.replayed.new.steps c.over_items.new.steps c.over_items.result c.if-depth-eq0.false given
+    c.args.steps.now c.interval_items.new.steps c.over_items.new.steps c.over_items.result c.if-depth-eq0.false given
     c.over_items.ensures
 
 pub over_interval-returns-in_err-items : goal.over_interval-returns-in_err-items
@@ -27,7 +27,7 @@ over_interval-returns-in_err-items g t c =
     let search = c.args.search.now in
     let e = err_from_is_err_and c.from_residual.result c.from_residual.ensures.1 in
     rw (e.1, e.2) (whole_err search.past.now search.process search.cell c.args.depth c.args.interval
-    c.args.steps.now c.replayed.new.steps c.in_err-items.field-0.0 c.if-depth-eq0.false c.in_err-items.ensures)
+    c.args.steps.now c.interval_items.new.steps c.in_err-items.field-0.0 c.if-depth-eq0.false c.in_err-items.ensures)
 
 pub over_items-returns-in_err-walked : goal.over_items-returns-in_err-walked
 over_items-returns-in_err-walked g t c =

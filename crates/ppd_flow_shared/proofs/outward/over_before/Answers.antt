@@ -13,6 +13,6 @@ returns g c =
     c.first_items.ensures ∙ ap (λ (xs : List Item). take c.place_of-at.result xs) c.as_slice-2.ensures in
     before_ok search.past.now search.process search.cell c.count_of-depth.result c.args.outer c.args.inner
     c.place_of-at.result
-    c.in_ok-items.items c.first_items.result.now c.args.steps.now c.replayed.new.steps c.over_items.new.steps
+    c.in_ok-items.items c.first_items.result.now c.args.steps.now c.interval_items.new.steps c.over_items.new.steps
     c.over_items.result
     c.count_of-depth.ensures at first c.in_ok-items.ensures c.over_items.ensures

@@ -1,4 +1,4 @@
-use Rattle.std.proofs.Common.{rules}
+use Rattle.std.proofs.Common.{[], rules}
 use Rattle.ppd_session.specs.Pasts.{BelongTogether}
 use Rattle.ppd_top.proofs.Conversing.{nothing_yet}
 use Rattle.ppd_top.proofs.Told.{together, told_ends}
@@ -15,7 +15,7 @@ returns-in_default-new g c = nothing_yet _ _ _
 
 pub new-requires-clause-past : goal.new-requires-clause-past
 new-requires-clause-past g c =
-    let t : BelongTogether c.args.run.now.program.now c.args.run.now.plan c.args.run.now.closed.logs c.in-Ok.index c.in-Ok-graph_of.graph c.args.run.now.closed.logs c.in-Ok.index =
+    let t : BelongTogether c.args.run.now.program.now c.args.run.now.plan c.args.run.now.closed.logs c.in-Ok.index c.in-Ok-graph_of.graph c.args.run.now.closed.logs c.in-Ok.index c.args.run.now.budget [] =
     together c.args.run.now.program.now c.args.run.now.plan c.args.run.now.budget c.args.run.now.closed c.in-Ok.index c.in-Ok-graph_of.graph c.requires c.in-Ok.ensures.index c.in-Ok.ensures.fitting c.in-Ok-graph_of.ensures in
     search rules
 

@@ -1,0 +1,42 @@
+use Rattle.std.proofs.Common.{◌∙◌, sym, arith}
+use Rattle.ppd_slice.proofs.Among.{among_first, among_sorted, got_process}
+use Rattle.ppd_slice.proofs.Kept.{rose_none, rose_then}
+use Rattle.ppd_slice.proofs.Sliced.{answers_more, begins, goes_on, is_slice, why_not}
+use Rattle.ppd_slice.proofs.slicing.slice_from.Goals as goal
+
+pub loop-number-init : goal.loop-number-init
+loop-number-init g c = record {
+  searched = begins c.args.past.now c.args.start c.new-search.result c.find.new.self c.new-search.ensures c.in_ok-find.ensures;
+  answered = λ i r lt e. absurd (omega (arith, lt));
+  kept = c.requires.kept;
+  among = among_first c.args.start c.new-search.result c.find.new.self c.args.kept.now c.requires.own c.new-search.ensures c.in_ok-find.ensures;
+  cost = rose_none c.args.past.now c.args.kept.now c.args.steps.now c.args.steps.now (omega arith);
+}
+
+pub returns-in_default-clause-is : goal.returns-in_default-clause-is
+returns-in_default-clause-is g c =
+    is_slice c.args.past.now c.args.start c.loop-number.number c.loop-number.search c.loop-number.invariant.searched c.loop-number.invariant.answered c.sorted.result
+    (sym c.get.ensures ∙ c.in_default.is) c.sorted.ensures
+
+pub returns-in_default-clause-among : goal.returns-in_default-clause-among
+returns-in_default-clause-among g c =
+    among_sorted c.loop-number.search c.sorted.result c.loop-number.kept c.sorted.ensures c.loop-number.invariant.among
+
+pub returns-in-Err-clause-is : goal.returns-in-Err-clause-is
+returns-in-Err-clause-is g c =
+    why_not c.args.past.now c.args.start c.loop-number.number c.loop-number.search c.loop-number.invariant.searched c.loop-number.invariant.answered c.in-Some.from c.in-Err.error
+    c.requires.there (sym c.get.ensures ∙ c.in-Some.is) c.in-Err.ensures.error
+
+pub loop-number-preserved : goal.loop-number-preserved
+loop-number-preserved g c = record {
+  searched = goes_on c.args.past.now c.args.start c.loop-number.number c.loop-number.search c.loop-number.invariant.searched c.loop-number.invariant.answered c.in-Some.from c.expand.new.search
+      (sym c.get.ensures ∙ c.in-Some.is) c.in_default-expand.ensures.found;
+  answered = answers_more c.args.past.now c.args.start c.loop-number.number c.loop-number.search c.loop-number.invariant.searched c.loop-number.invariant.answered c.in-Some.from c.expand.new.search
+      (sym c.get.ensures ∙ c.in-Some.is) c.in_default-expand.ensures.found c.in_default-expand.ensures.answered;
+  kept = c.expand.ensures.kept;
+  among = c.in_default-expand.ensures.among
+      (got_process c.loop-number.search c.loop-number.number c.in-Some.from (sym c.get.ensures ∙ c.in-Some.is))
+      c.loop-number.invariant.among;
+  cost = rose_then c.args.past.now c.args.kept.now c.loop-number.kept c.expand.new.kept c.args.steps.now c.loop-number.steps c.expand.new.steps
+      c.loop-number.invariant.cost c.in_default-expand.ensures.cost;
+}
