@@ -27,7 +27,7 @@ COUNTED = re.compile(r", (\d+) of (\d+)\s*$")
 FUNCTION = re.compile(r"^[^/\n]*\bfn \w", re.MULTILINE)
 PROVED = re.compile(r"^logic=proved functions=(\d+)", re.MULTILINE)
 # what proofs take on one processor, about: seconds for each crate, for each function, and for each line of proofs
-EACH_CRATE, EACH_FUNCTION, EACH_LINE = 10.0, 1.5, 0.04
+EACH_CRATE, EACH_FUNCTION, EACH_LINE = 25.0, 2.5, 0.001
 # the bytes of built libraries that may stay
 MOST_KEPT = 2_000_000_000
 
