@@ -3,12 +3,11 @@ ghost use Rattle.std.specs.Prelude.{◌≡◌, ◌≤◌, ◌+◌, map, IfOk, On
 ghost use Rattle.std.specs.Result.{result_map_both};
 ghost use Rattle.std.specs.List.{flat_map};
 ghost use Rattle.law_whole.specs.Linked.{joined_trace};
-ghost use Rattle.ppd_flow_past.specs.ByReplays.{cost};
 ghost use Rattle.ppd_flow_past.specs.Pasts.{IsPast};
 ghost use Rattle.ppd_flow_shared.specs.SharedCells.{seens_in};
 ghost use Rattle.ppd_whole_link.specs.Marks.{marks_after};
 ghost use Rattle.ppd_whole.specs.Answers.{GivesWhole, IsWholeOf, all_intervals};
-ghost use Rattle.ppd_whole.specs.Costs.{lines_cost, whole_cost};
+ghost use Rattle.ppd_whole.specs.Costs.{lines_cost, replays_cost, whole_cost};
 ghost use Rattle.ppd_whole.specs.LinkedPasts.{IsLinked};
 ghost use Rattle.ppd_whole.specs.Replays.{AreReplays};
 ghost use Rattle.ppd_whole.specs.Told.{all_events, told_processes};
@@ -39,7 +38,7 @@ fn rows_in<L: Ledger>(
 ) -> Result<Seq<Seq<Item>>, WholeError>
     requires { IsPast past.now }
     ensures is { AreReplays past.now jobs.now result }
-    ensures cost { OnOk result (steps.new ≡ steps.old + cost past.now jobs.now) }
+    ensures cost { OnOk result (steps.new ≡ steps.old + replays_cost past.now jobs.now) }
 {
     let mut rows = Seq::new(alloc);
     for job in jobs {
@@ -64,7 +63,7 @@ fn all_rows_in<L: Ledger>(
     requires past { IsPast past.now }
     requires uncut { past.now.cut.now ≡ past.now.logs.now }
     ensures is { AreReplays past.now (all_intervals past.now) result }
-    ensures cost { OnOk result (steps.new ≡ steps.old + cost past.now (all_intervals past.now)) }
+    ensures cost { OnOk result (steps.new ≡ steps.old + replays_cost past.now (all_intervals past.now)) }
 {
     let jobs = jobs_of(alloc, past)?;
     rows_in(alloc, past, &jobs, steps)

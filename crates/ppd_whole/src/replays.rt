@@ -1,9 +1,9 @@
 // The items of all intervals, by replays that are split among workers.
 ghost use Rattle.std.specs.Prelude.{◌≡◌, ◌<◌, ◌+◌, [], ◌∷◌, map, Ok, IfErr, IfOk, OnOk};
 ghost use Rattle.std.specs.List.{AllZip};
-ghost use Rattle.ppd_flow_past.specs.ByReplays.{cost};
 ghost use Rattle.ppd_flow_past.specs.Pasts.{IsPast};
 ghost use Rattle.ppd_whole.specs.Answers.{all_intervals};
+ghost use Rattle.ppd_whole.specs.Costs.{replays_cost};
 ghost use Rattle.ppd_whole.specs.Replays.{AreReplays, IsReplay, StopsAt};
 
 use crate::jobs::{Job, jobs_of};
@@ -27,7 +27,7 @@ pub(crate) fn items_in<L: Ledger>(
 ) -> Result<Seq<Item>, WholeError>
     requires { IsPast past.now }
     ensures is { IsReplay past.now job result }
-    ensures cost { OnOk result (steps.new ≡ steps.old + cost past.now (job ∷ [])) }
+    ensures cost { OnOk result (steps.new ≡ steps.old + replays_cost past.now (job ∷ [])) }
 {
     match replayed(alloc, past, job.0, job.1, steps) {
         Ok(items) => Ok(items),
