@@ -9,6 +9,7 @@ use Rattle.lru.specs.LruCache.{LruCache, lru_cache, promoted, put_entries}
 use Rattle.lru.proofs.CallerLemmas.{Contains-lookup, Contains-lookup_entry, Contains-promoted, Contains-take}
 use Rattle.lru.proofs.Splits.{Contains-cons}
 use Rattle.ppd_model.specs.declared.flow.Item.{Item}
+pub use Rattle.ppd_flow_past.proofs.Keeping.{nothing_kept}
 use Rattle.ppd_session.specs.declared.place.Place.{Place}
 use Rattle.ppd_session.specs.declared.question.Opening.{Opening}
 use Rattle.ppd_session.specs.declared.question.Question.{Question}

@@ -32,6 +32,7 @@ use Rattle.ppd_race.specs.Races.{AreCellsThere, races_of_logs}
 use Rattle.ppd_race.proofs.OfRuns.{of_runs}
 use Rattle.ppd_session.specs.Known.{Known, known_of_logs}
 use Rattle.ppd_session.specs.Pasts.{BelongTogether}
+use Rattle.ppd_session.proofs.Keeping.{nothing_kept}
 use Rattle.ppd_top.specs.declared.following.FollowError.{FollowError}
 use Rattle.ppd_top.specs.declared.following.FollowError.TheVariants.{Refused, NotEnabled, NotWhole, LongLine, ManyLines, Memory}
 use Rattle.ppd_top.specs.declared.options.Options.{Options}

@@ -1,5 +1,5 @@
-//! Calls that want memory once and are called again, as they come to their usual end: tests, which are also run with each
-//! allocation failing in turn.
+//! Calls that want memory once and are called again, as they come to their usual end: tests, for
+//! `rt try --test --fail-alloc N` with each N in turn.
 #![tactic(auto)]
 
 #[cfg(test)]

@@ -1,4 +1,4 @@
-use Rattle.ppd_flow_past.proofs.Keeping.{nothing_kept}
+use Rattle.ppd_session.proofs.Keeping.{nothing_kept}
 use Rattle.ppd_codec_runs.proofs.Cells.{cells_there}
 use Rattle.ppd_codec_runs.proofs.recalling.recall.Goals as goal
 
