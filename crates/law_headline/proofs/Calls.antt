@@ -1,0 +1,203 @@
+-- By the clauses of the top call the headline holds of each run that a call tells of.
+use Rattle.std.proofs.Common.{◌≡◌, ◌⊎◌, ℕ, List, [], Option, Some, arith, inl, inr, refl, ap, sym, subst, take, ◌∙◌}
+use Rattle.std.proofs.lemmas.Option.{same_Some}
+use Rattle.ppd_ast.specs.declared.program.Program.{Program}
+use Rattle.ppd_check.specs.Read.{HaveOneProgram, IsRead}
+use Rattle.ppd_codec_runs.specs.Recordings.{known_of as known_of_recording}
+use Rattle.ppd_io.specs.Content.{Loads}
+use Rattle.ppd_top.specs.declared.options.Options.{Options}
+use Rattle.ppd_top.specs.Call.{Call}
+use Rattle.ppd_top.specs.Clauses.{IsOutcome, IsPromised, RanWhole, WasAnswered, WasDrilled, WasQueried, WasShown, WasStored}
+use Rattle.ppd_top.specs.Top.{known_of, most_bytes, most_recording}
+use Rattle.ppd_top.specs.Words.{Request, asked}
+use Rattle.ppd_top.specs.Words.Request.{on_source, on_recording, on_number, on_query}
+use Rattle.ppd_top.specs.Words.Command.{Flow, Run as RunTo, Show}
+use Rattle.law_headline.specs.Calls.{AcceptedProgramsAreTold, AsksFlow, AsksLines, AsksRun, DebugTells, DebugTellsOfRuns, FlowTells, FlowTellsOfRuns, HasAnswered, IsRecorded, RecordedRunsAreTold, RunTells, RunTellsOfRuns, SourcesAreRecorded, promised_run}
+use Rattle.law_headline.specs.Headline.{Headline}
+use Rattle.law_headline.specs.OfRuns.{RunsHaveTheHeadline}
+use Rattle.law_headline.specs.Runs.{Run}
+
+-- ---- words ask for one thing
+
+abbrev kind_of : Request → ℕ
+kind_of (on_source Flow name options) = 0
+kind_of (on_source (RunTo recording) name options) = 1
+kind_of (on_source Show name options) = 2
+kind_of (on_recording name) = 3
+kind_of (on_number n) = 4
+kind_of (on_query name query) = 5
+
+abbrev name_of : Request → List ℕ
+name_of (on_source command name options) = name
+name_of (on_recording name) = name
+name_of (on_number n) = []
+name_of (on_query name query) = name
+
+one_kind : {o : Option Request} {x y : Request} → o ≡ Some x → o ≡ Some y → kind_of x ≡ kind_of y
+one_kind {o} {x} {y} a b = ap kind_of (same_Some x y (sym a ∙ b))
+
+one_name : {o : Option Request} {x y : Request} → o ≡ Some x → o ≡ Some y → name_of x ≡ name_of y
+one_name {o} {x} {y} a b = ap name_of (same_Some x y (sym a ∙ b))
+
+-- ---- and a told shelf holds one thing under a name
+
+loaded_as : (held : Option (List ℕ → Option (List ℕ))) (at : List ℕ → Option (List ℕ)) (name named all bytes : List ℕ) (most : ℕ)
+    → held ≡ Some at → at name ≡ Some all → named ≡ name → Loads held named most bytes → bytes ≡ take most all
+loaded_as held at name named all bytes most told there same l =
+    let w = subst (λ h. Loads h named most bytes) told l in
+    w.2 ∙ ap (take most) (same_Some w.0 all (sym w.1 ∙ (ap at same ∙ there)))
+
+-- ---- `flow`
+
+abbrev run_by : List ℕ → Program → Options → List ℕ → Run
+run_by source program options schedule =
+    record { source = source; program = program; policy = options.policy; budget = options.budget; schedule = schedule }
+
+module _ (holds : RunsHaveTheHeadline) (c : Call) (o : IsOutcome c) where
+  ran : RanWhole c → FlowTells c
+  ran w = record {
+    name = w.read.name;
+    options = w.read.options;
+    run = run_by w.read.bytes w.read.program w.read.options c.schedule;
+    known = known_of w.read.program w.read.options c.schedule;
+    commands = w.commands;
+    asked = w.read.asked;
+    loaded = w.read.loaded;
+    policy_is = refl;
+    budget_is = refl;
+    taken = refl;
+    headline = holds (run_by w.read.bytes w.read.program w.read.options c.schedule) w.read.accepted w.whole;
+    told = w.told;
+    written = w.written;
+    status_is = w.status_is;
+  }
+
+  stored : WasStored c → RunTells c
+  stored w = record {
+    name = w.read.name;
+    recording = w.recording;
+    options = w.read.options;
+    run = run_by w.read.bytes w.read.program w.read.options c.schedule;
+    known = known_of w.read.program w.read.options c.schedule;
+    stored = w.stored;
+    asked = w.read.asked;
+    loaded = w.read.loaded;
+    policy_is = refl;
+    budget_is = refl;
+    taken = refl;
+    headline = holds (run_by w.read.bytes w.read.program w.read.options c.schedule) w.read.accepted w.whole;
+    is = w.is;
+    kept = w.kept;
+    written = w.written;
+  }
+
+  answered : WasAnswered c → DebugTells c
+  answered w = record {
+    name = w.recalled.name;
+    bytes = w.recalled.bytes;
+    known = known_of_recording w.recording;
+    commands = w.commands;
+    asked = w.recalled.asked;
+    loaded = w.recalled.loaded;
+    headline = λ run is.
+        subst (Headline run)
+        (sym (w.recalled.of_runs run.source (record { policy = run.policy; budget = run.budget }) run.program run.schedule is).0)
+        (holds run is.accepted is.whole);
+    told = w.told;
+    written = w.written;
+    status_is = w.status_is;
+  }
+
+  flow : AsksFlow c → HasAnswered c → FlowTells c
+  flow a (inl is) = by (o.run is)
+    where
+      by : RanWhole c ⊎ (WasShown c ⊎ (WasStored c ⊎ (WasAnswered c ⊎ (WasDrilled c ⊎ WasQueried c)))) → FlowTells c
+      by (inl w) = ran w
+      by (inr (inl w)) = let e : 0 ≡ 2 = one_kind a.2 w.read.asked in absurd (omega (arith, e))
+      by (inr (inr (inl w))) = let e : 0 ≡ 1 = one_kind a.2 w.read.asked in absurd (omega (arith, e))
+      by (inr (inr (inr (inl w)))) = let e : 0 ≡ 3 = one_kind a.2 w.recalled.asked in absurd (omega (arith, e))
+      by (inr (inr (inr (inr (inl w))))) = let e : 0 ≡ 4 = one_kind a.2 w.asked in absurd (omega (arith, e))
+      by (inr (inr (inr (inr (inr w))))) = let e : 0 ≡ 5 = one_kind a.2 w.asked in absurd (omega (arith, e))
+  flow a (inr s) = by (o.lines s)
+    where
+      by : RanWhole c ⊎ WasAnswered c → FlowTells c
+      by (inl w) = ran w
+      by (inr w) = let e : 0 ≡ 3 = one_kind a.2 w.recalled.asked in absurd (omega (arith, e))
+
+  run : AsksRun c → c.status ≡ 0 → RunTells c
+  run a is = by (o.run is)
+    where
+      by : RanWhole c ⊎ (WasShown c ⊎ (WasStored c ⊎ (WasAnswered c ⊎ (WasDrilled c ⊎ WasQueried c)))) → RunTells c
+      by (inl w) = let e : 1 ≡ 0 = one_kind a.3 w.read.asked in absurd (omega (arith, e))
+      by (inr (inl w)) = let e : 1 ≡ 2 = one_kind a.3 w.read.asked in absurd (omega (arith, e))
+      by (inr (inr (inl w))) = stored w
+      by (inr (inr (inr (inl w)))) = let e : 1 ≡ 3 = one_kind a.3 w.recalled.asked in absurd (omega (arith, e))
+      by (inr (inr (inr (inr (inl w))))) = let e : 1 ≡ 4 = one_kind a.3 w.asked in absurd (omega (arith, e))
+      by (inr (inr (inr (inr (inr w))))) = let e : 1 ≡ 5 = one_kind a.3 w.asked in absurd (omega (arith, e))
+
+  debug : AsksLines c → HasAnswered c → DebugTells c
+  debug a (inl is) = by (o.run is)
+    where
+      by : RanWhole c ⊎ (WasShown c ⊎ (WasStored c ⊎ (WasAnswered c ⊎ (WasDrilled c ⊎ WasQueried c)))) → DebugTells c
+      by (inl w) = let e : 3 ≡ 0 = one_kind a.1 w.read.asked in absurd (omega (arith, e))
+      by (inr (inl w)) = let e : 3 ≡ 2 = one_kind a.1 w.read.asked in absurd (omega (arith, e))
+      by (inr (inr (inl w))) = let e : 3 ≡ 1 = one_kind a.1 w.read.asked in absurd (omega (arith, e))
+      by (inr (inr (inr (inl w)))) = answered w
+      by (inr (inr (inr (inr (inl w))))) = let e : 3 ≡ 4 = one_kind a.1 w.asked in absurd (omega (arith, e))
+      by (inr (inr (inr (inr (inr w))))) = let e : 3 ≡ 5 = one_kind a.1 w.asked in absurd (omega (arith, e))
+  debug a (inr s) = by (o.lines s)
+    where
+      by : RanWhole c ⊎ WasAnswered c → DebugTells c
+      by (inl w) = let e : 3 ≡ 0 = one_kind a.1 w.read.asked in absurd (omega (arith, e))
+      by (inr w) = answered w
+
+  -- ---- what is promised
+
+  -- the loaded source's program is the promised one
+  one_program : HaveOneProgram → (p : IsPromised c) (name bytes : List ℕ) (program : Program) → name ≡ p.name → Loads c.before.held name most_bytes bytes → IsRead bytes program → program ≡ p.program
+  one_program unique p name bytes program same loaded read =
+      let as_told = loaded_as c.before.held p.at p.name name p.all bytes most_bytes p.told p.there same loaded in
+      unique (take most_bytes p.all) program p.program (subst (λ b. IsRead b program) as_told read) p.accepted
+
+  programs : HaveOneProgram → (p : IsPromised c) → AsksFlow c → (c.status ≡ 5) ⊎ ((t : FlowTells c) × (t.run.program ≡ p.program))
+  programs unique p a = by (o.complete p)
+    where
+      by : (c.status ≡ 0) ⊎ (c.status ≡ 5) → (c.status ≡ 5) ⊎ ((t : FlowTells c) × (t.run.program ≡ p.program))
+      by (inl is) =
+          let t = flow a (inl is) in
+          inr (t, one_program unique p t.name t.run.source t.run.program (one_name t.asked p.asked) t.loaded t.headline.every_accepted_program)
+      by (inr five) = inl five
+
+  sources : HaveOneProgram → (p : IsPromised c) → AsksRun c → (c.status ≡ 5) ⊎ ((t : RunTells c) × (t.run.program ≡ p.program))
+  sources unique p a = by (o.complete p)
+    where
+      by : (c.status ≡ 0) ⊎ (c.status ≡ 5) → (c.status ≡ 5) ⊎ ((t : RunTells c) × (t.run.program ≡ p.program))
+      by (inl is) =
+          let t = run a is in
+          inr (t, one_program unique p t.name t.run.source t.run.program (one_name t.asked p.asked) t.loaded t.headline.every_accepted_program)
+      by (inr five) = inl five
+
+pub flow_tells : RunsHaveTheHeadline → FlowTellsOfRuns
+flow_tells holds c o a s = flow holds c o a s
+
+pub run_tells : RunsHaveTheHeadline → RunTellsOfRuns
+run_tells holds c o a s = run holds c o a s
+
+pub debug_tells : RunsHaveTheHeadline → DebugTellsOfRuns
+debug_tells holds c o a s = debug holds c o a s
+
+pub programs_told : RunsHaveTheHeadline → HaveOneProgram → AcceptedProgramsAreTold
+programs_told holds unique c o p a = programs holds c o unique p a
+
+pub sources_recorded : RunsHaveTheHeadline → HaveOneProgram → SourcesAreRecorded
+sources_recorded holds unique c o p a = sources holds c o unique p a
+
+pub runs_told : RunsHaveTheHeadline → RecordedRunsAreTold
+runs_told holds c o p = by (o.answers p)
+  where
+    by : (c.status ≡ 0) ⊎ (c.status ≡ 5) → (c.status ≡ 5) ⊎ ((t : DebugTells c) × Headline (promised_run c p) t.known)
+    by (inl is) =
+        let t = debug_tells holds c o (p.name, p.asked) (inl is) in
+        let as_told = loaded_as c.before.held p.at p.name t.name p.all t.bytes most_recording p.told p.there (one_name t.asked p.asked) t.loaded in
+        inr (t, t.headline (promised_run c p) (subst (IsRecorded (promised_run c p)) (sym as_told) p.of_run))
+    by (inr five) = inl five
