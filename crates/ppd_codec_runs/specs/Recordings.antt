@@ -1,5 +1,5 @@
 -- Recordings of whole runs, and which recordings are accepted or refused.
-use Rattle.std.specs.Prelude.{◌≡◌, ◌≢◌, ℕ, List, None, ⊤}
+use Rattle.std.specs.Prelude.{◌≡◌, ◌≢◌, ℕ, List, [], None, ⊤}
 use Rattle.ppd_ast.specs.declared.program.Program.{Program}
 use Rattle.ppd_blocks.specs.Blocks.{plan_of}
 use Rattle.ppd_check.specs.Read.{IsRead}
