@@ -16,7 +16,8 @@ use Rattle.ppd_flow_model.specs.Seen.{Seen}
 use Rattle.ppd_flow_model.specs.Spans.{steps_of_span}
 use Rattle.ppd_flow_model.specs.Shared.{found_last, last_replays}
 use Rattle.ppd_flow_past.specs.declared.flow_error.FlowError.{FlowError}
-use Rattle.ppd_flow_past.specs.ByReplays.{first_failed}
+use Rattle.ppd_flow_past.specs.ByReplays.{first_failed, unless_kept}
+use Rattle.ppd_flow_past.specs.Pasts.{items_kept}
 use Rattle.ppd_flow_past.specs.SeenBy.{failed_at, failure_of, own_steps_of, steps_of}
 use Rattle.ppd_flow_shared.specs.SharedCells.{answer_of}
 use Rattle.ppd_model.specs.declared.flow.FlowEdge.{FlowEdge}
@@ -65,7 +66,11 @@ seens_of x = seens x.program x.plan x.budget x.cut
 abbrev IsBy : {A : Type 0} → Kept → List (ℕ × ℕ) → Result A FlowError → (before after : ℕ) → A → Type 0
 IsBy x ms answer before after found =
     (first_failed x.program x.plan x.budget x.cut ms ≡ None) × (answer ≡ Ok found)
-    × (after ≡ before + sum_by (λ (m : ℕ × ℕ). own_steps_of x.program x.plan x.budget (entries_at x.cut m.0) m.1) ms)
+    × (after
+    ≡ before
+    + sum_by
+    (λ (m : ℕ × ℕ). unless_kept (items_kept x.kept m.0 m.1) (own_steps_of x.program x.plan x.budget (entries_at x.cut m.0) m.1))
+    ms)
 
 abbrev HasAnswered : (p k j before after : ℕ) → List FlowEdge → Kept → Type 0
 HasAnswered p k j before after found x =

@@ -1,5 +1,5 @@
 -- That all is answered of a run by replays of single e-blocks, each from its own log, and what they cost.
-use Rattle.std.specs.Prelude.{◌≡◌, ℕ, ◌+◌, ◌*◌, ◌<◌, ◌≤◌, ℤ, List, length, slice_get, Option, Some, None, Ok}
+use Rattle.std.specs.Prelude.{◌≡◌, ℕ, ◌+◌, ◌*◌, ◌<◌, ◌≤◌, ℤ, List, [], length, slice_get, Option, Some, None, Ok}
 use Rattle.ppd_ast.specs.declared.plan.Plan.{Plan}
 use Rattle.ppd_ast.specs.declared.program.Program.{Program}
 use Rattle.ppd_emul_model.specs.Replay.{replay}
@@ -11,6 +11,7 @@ use Rattle.ppd_flow_past.specs.declared.past.Past.{Past}
 use Rattle.ppd_flow_past.specs.SeenBy.{failed_at, own_steps_of}
 use Rattle.ppd_flow_shared.specs.SharedCells.{IsLastFound}
 use Rattle.ppd_model.specs.declared.flow.FlowEdge.{FlowEdge}
+use Rattle.ppd_model.specs.declared.flow.Item.{Item}
 use Rattle.ppd_model.specs.declared.flow.Origin.{Origin}
 use Rattle.ppd_model.specs.FlowbackEdges.{last}
 use Rattle.ppd_model.specs.NearIntervals.{last_steps, near_steps}
@@ -40,13 +41,15 @@ pub record AreByReplays (r : Run) (x : Known) : Type 0 where
 
 -- ---- what is replayed for it
 
--- what is kept of a run, of which all is answered; the intervals that are replayed are those of `cut`
+-- what is kept of a run, of which all is answered; the intervals that are replayed are those of `cut`, but for those of
+-- which the items are kept
 pub record Kept : Type 0 where
   pub program : Program
   pub plan : Plan
   pub budget : ℕ
   pub logs : Logs
   pub cut : Logs
+  pub kept : List (List (List Item))
 
 abbrev pub kept_in : Past → Kept
 kept_in past = record {
@@ -55,9 +58,10 @@ kept_in past = record {
   budget = past.budget;
   logs = past.logs.now;
   cut = past.cut.now;
+  kept = past.kept.now;
 }
 
--- of this run, with no log cut
+-- of this run, with no log cut and nothing replayed before
 abbrev pub kept_of : Run → Kept
 kept_of r = record {
   program = r.program;
@@ -65,6 +69,7 @@ kept_of r = record {
   budget = r.budget;
   logs = logs_in r;
   cut = logs_in r;
+  kept = [];
 }
 
 -- no replay fails, and each takes just its interval's own steps. Whatever is answered of what is kept of the run as
