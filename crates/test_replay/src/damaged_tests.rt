@@ -1,16 +1,14 @@
-use crate::runs::{index_of, replay};
-use crate::shown::{Shown, are_items};
-use crate::written::{Wrote, claimed};
+use crate::runs::{Outcome, replay_if};
+use crate::shown::{Shown, has_items};
+use crate::written::{Refused, Wrote, check_refusals, claimed};
 use Shown::Own;
 use Wrote::{End, Postlog, Prelog, Sync, Unit};
-use ppd_ast::{Policy, Seq};
+use ppd_ast::Policy;
 use ppd_emul::{EmulError, Found, Wanted};
 use ppd_entry::At;
 use ppd_index::BadLog;
 use ppd_sem::{Spot, Status, SyncKind, Trap};
 use std::alloc::Global;
-use std::process::Abort;
-use std::test::Fail;
 
 const BUDGET: u32 = 100_000;
 
@@ -30,33 +28,6 @@ const PAST: &str = "shared int a[2]; process p { print(a[2]); }";
 
 const SMALLEST: &str = "shared int x; process a { x = 2; print(x + 3); }";
 
-/// Why this log of the smallest source has no index.
-fn refusal(alloc: Global, wrote: &[Wrote]) -> Option<BadLog> {
-    let run = claimed(alloc, SMALLEST, &BARE, wrote)?;
-    index_of(alloc, &run).err()
-}
-
-/// Why interval `k` of this log cannot be replayed: the entry, what was wanted and what was found.
-fn failure(
-    alloc: Global,
-    source: &str,
-    policy: &Policy,
-    wrote: &[Wrote],
-    k: u32,
-) -> Option<(u32, Wanted, Found)> {
-    let run = claimed(alloc, source, policy, wrote)?;
-    match replay(alloc, &run, BUDGET, 0, k)? {
-        Err(
-            EmulError::Diverged {
-                entry,
-                wanted,
-                found,
-            },
-        ) => Some((entry, wanted, found)),
-        _ => None,
-    }
-}
-
 const BEGUN: Wrote<'static> = Prelog(0, &[]);
 
 const FIRST_UNIT: Wrote<'static> = Unit(0, &[0]);
@@ -71,7 +42,7 @@ const BLOCKED: Wrote<'static> = End(Status::Blocked, 0);
 
 // The log of the smallest run, and with one damage: a unit that is not there, an End inside no interval, no End,
 // and two.
-const DAMAGED: [(&[Wrote<'static>], Option<BadLog>); 5] = [
+const DAMAGED: [Refused<'static>; 5] = [
     (&[BEGUN, FIRST_UNIT, LEFT, OVER], None),
     (
         &[BEGUN, Unit(1, &[0]), LEFT, OVER],
@@ -105,31 +76,41 @@ const DAMAGED: [(&[Wrote<'static>], Option<BadLog>); 5] = [
 
 #[test]
 fn damaged_logs(rt: HostRuntime) {
-    for (number, row) in DAMAGED.iter().enumerate() {
-        assert_eq!(rt; refusal(rt.alloc(), row.0), row.1, "{number}");
-    }
+    check_refusals(&rt, rt.alloc(), SMALLEST, &BARE, &DAMAGED);
+}
+
+// The log of a stop for the budget without its End.
+const LEFT_OUT: [Refused<'static>; 1] = [(
+    &[BEGUN, BARE_UNIT],
+    Some(BadLog::NoEnd(At {
+        process: 0,
+        entry: 2,
+    })),
+)];
+
+#[test]
+fn rest_left_out(rt: HostRuntime) {
+    check_refusals(&rt, rt.alloc(), ENDLESS, &BARE, &LEFT_OUT);
+}
+
+/// A source of one process with its policy and a log; the budget of the replay, and the interval.
+#[derive(Clone, Copy)]
+struct Case<'a> {
+    source: &'a str,
+    policy: Policy,
+    wrote: &'a [Wrote<'a>],
+    budget: u32,
+    k: u32,
+}
+
+/// What the replay of the case's interval came to. None where the log has no index.
+fn outcome_of(alloc: Global, case: &Case) -> Outcome {
+    let run = claimed(alloc, case.source, &case.policy, case.wrote);
+    replay_if(alloc, run, case.budget, 0, case.k)
 }
 
 /// Cell 0 of the interval's own frame.
 const FIRST: Spot = Spot::Local { frame: 0, cell: 0 };
-
-/// The log of a stop for the budget after so many steps.
-fn stopped(rest: u32) -> [Wrote<'static>; 3] {
-    [BEGUN, BARE_UNIT, End(Status::Budget, rest)]
-}
-
-// The log of a stop for the budget with a rest too long: the sixth step costs more than is left.
-#[test]
-fn rest_too_long(rt: HostRuntime) {
-    let alloc = rt.alloc();
-    let long = claimed(alloc, ENDLESS, &BARE, &stopped(6)).expect(&rt, "a log");
-    let failed = EmulError::Diverged {
-        entry: 2,
-        wanted: Wanted::Fewer,
-        found: Found::End(Status::Budget),
-    };
-    assert!(rt; replay(alloc, &long, 5, 0, 0) == Some(Err(failed)));
-}
 
 /// The items of a replay of four steps.
 const FOUR_ITEMS: [Shown<'static>; 4] = [
@@ -139,84 +120,219 @@ const FOUR_ITEMS: [Shown<'static>; 4] = [
     Own(1, &[], &[], Some(1)),
 ];
 
+const TOO_SHORT: Case<'static> = Case {
+    source: ENDLESS,
+    policy: BARE,
+    wrote: &[BEGUN, BARE_UNIT, End(Status::Budget, 4)],
+    budget: 5,
+    k: 0,
+};
+
+fn shows(alloc: Global, case: &Case, items: &[Shown]) -> bool {
+    has_items(&outcome_of(alloc, case), items)
+}
+
 // With a rest too short fewer steps are replayed.
 #[test]
 fn rest_too_short(rt: HostRuntime) {
-    let alloc = rt.alloc();
-    let short = claimed(alloc, ENDLESS, &BARE, &stopped(4)).expect(&rt, "a log");
-    match replay(alloc, &short, 5, 0, 0) {
-        Some(Ok(trace)) => assert!(rt; are_items(&trace, &FOUR_ITEMS)),
-        _ => panic!(rt; "a replay"),
+    assert!(rt; shows(rt.alloc(), &TOO_SHORT, &FOUR_ITEMS));
+}
+
+/// Whether a replay failed at this entry, with this wanted and this found.
+fn is_failure(outcome: &Outcome, failed: &(u32, Wanted, Found)) -> bool {
+    match outcome {
+        Some(
+            Err(
+                EmulError::Diverged {
+                    entry,
+                    wanted,
+                    found,
+                },
+            ),
+        ) => *entry == failed.0 && *wanted == failed.1 && *found == failed.2,
+        _ => false,
     }
 }
 
-// Without its End the log of a stop for the budget has no index.
+/// Whether the replay of the case's interval fails so: the entry, what was wanted and what was found.
+fn fails(alloc: Global, case: &Case, failed: (u32, Wanted, Found)) -> bool {
+    is_failure(&outcome_of(alloc, case), &failed)
+}
+
+const TOO_LONG: Case<'static> = Case {
+    source: ENDLESS,
+    policy: BARE,
+    wrote: &[BEGUN, BARE_UNIT, End(Status::Budget, 6)],
+    budget: 5,
+    k: 0,
+};
+
+// The log of a stop for the budget with a rest too long: the sixth step costs more than is left.
 #[test]
-fn rest_left_out(rt: HostRuntime) {
-    let alloc = rt.alloc();
-    let open = claimed(alloc, ENDLESS, &BARE, &[BEGUN, BARE_UNIT]).expect(&rt, "a log");
-    let bad = index_of(alloc, &open).err();
+fn rest_too_long(rt: HostRuntime) {
     assert!(rt;
-        bad == Some(BadLog::NoEnd(At {
-            process: 0,
-            entry: 2
-        }))
+        fails(
+            rt.alloc(),
+            &TOO_LONG,
+            (2, Wanted::Fewer, Found::End(Status::Budget))
+        )
     );
 }
 
-/// Asserts why the first interval of this log cannot be replayed: the entry, what was wanted and what was found.
-fn check_failure(
-    rt: &impl Abort,
-    alloc: Global,
-    source: &str,
-    policy: &Policy,
-    wrote: &[Wrote],
-    failed: (u32, Wanted, Found),
-) {
-    assert!(rt; failure(alloc, source, policy, wrote, 0) == Some(failed));
-}
+const NO_UNIT: Case<'static> = Case {
+    source: LOCKED,
+    policy: BARE,
+    wrote: &[BEGUN, BLOCKED],
+    budget: BUDGET,
+    k: 0,
+};
+
+const OTHER_UNIT: Case<'static> = Case {
+    source: LOCKED,
+    policy: BARE,
+    wrote: &[
+        BEGUN,
+        BARE_UNIT,
+        Sync(SyncKind::P, 1, 0),
+        Unit(2, &[]),
+        BLOCKED,
+    ],
+    budget: BUDGET,
+    k: 0,
+};
 
 // Where a unit is wanted: another piece, or another unit.
 #[test]
 fn other_units(rt: HostRuntime) {
     let alloc = rt.alloc();
-    let failed = (1, Wanted::Unit(0), Found::End(Status::Blocked));
-    check_failure(&rt, alloc, LOCKED, &BARE, &[BEGUN, BLOCKED], failed);
-    let taken = Sync(SyncKind::P, 1, 0);
-    let wrote = [BEGUN, BARE_UNIT, taken, Unit(2, &[]), BLOCKED];
-    let failed = (3, Wanted::Unit(1), Found::Unit(2));
-    check_failure(&rt, alloc, LOCKED, &BARE, &wrote, failed);
+    assert!(rt;
+        fails(
+            alloc,
+            &NO_UNIT,
+            (1, Wanted::Unit(0), Found::End(Status::Blocked))
+        )
+    );
+    assert!(rt; fails(alloc, &OTHER_UNIT, (3, Wanted::Unit(1), Found::Unit(2))));
 }
+
+const OTHER_KIND: Case<'static> = Case {
+    source: LOCKED,
+    policy: BARE,
+    wrote: &[
+        BEGUN,
+        BARE_UNIT,
+        Sync(SyncKind::V, 1, 0),
+        Unit(1, &[0]),
+        BLOCKED,
+    ],
+    budget: BUDGET,
+    k: 0,
+};
+
+const OTHER_VALUE: Case<'static> = Case {
+    source: CHANNEL,
+    policy: BARE,
+    wrote: &[
+        BEGUN,
+        BARE_UNIT,
+        Sync(SyncKind::Send, 1, 9),
+        Unit(1, &[]),
+        BLOCKED,
+    ],
+    budget: BUDGET,
+    k: 0,
+};
 
 // Where a synchronization is wanted: another kind, or another value.
 #[test]
 fn other_synchronizations(rt: HostRuntime) {
     let alloc = rt.alloc();
-    let given = Sync(SyncKind::V, 1, 0);
-    let wrote = [BEGUN, BARE_UNIT, given, Unit(1, &[0]), BLOCKED];
-    let wanted = Wanted::Sync(SyncKind::P, 0, 0);
-    let failed = (2, wanted, Found::Sync(SyncKind::V, 0, 0));
-    check_failure(&rt, alloc, LOCKED, &BARE, &wrote, failed);
-    let sent = Sync(SyncKind::Send, 1, 9);
-    let wrote = [BEGUN, BARE_UNIT, sent, Unit(1, &[]), BLOCKED];
-    let wanted = Wanted::Sync(SyncKind::Send, 0, 7);
-    let failed = (2, wanted, Found::Sync(SyncKind::Send, 0, 9));
-    check_failure(&rt, alloc, CHANNEL, &BARE, &wrote, failed);
+    assert!(rt;
+        fails(
+            alloc,
+            &OTHER_KIND,
+            (
+                2,
+                Wanted::Sync(SyncKind::P, 0, 0),
+                Found::Sync(SyncKind::V, 0, 0)
+            )
+        )
+    );
+    assert!(rt;
+        fails(
+            alloc,
+            &OTHER_VALUE,
+            (
+                2,
+                Wanted::Sync(SyncKind::Send, 0, 7),
+                Found::Sync(SyncKind::Send, 0, 9)
+            )
+        )
+    );
 }
+
+const NO_INTERVAL: Case<'static> = Case {
+    source: LOOP,
+    policy: LOOPS,
+    wrote: &[BEGUN, BARE_UNIT, Unit(2, &[]), LEFT, OVER],
+    budget: BUDGET,
+    k: 0,
+};
 
 // Where an interval inside is wanted: another piece.
 #[test]
 fn other_intervals(rt: HostRuntime) {
-    let wrote = [BEGUN, BARE_UNIT, Unit(2, &[]), LEFT, OVER];
-    let failed = (2, Wanted::Nested(1), Found::Unit(2));
-    check_failure(&rt, rt.alloc(), LOOP, &LOOPS, &wrote, failed);
+    assert!(rt;
+        fails(
+            rt.alloc(),
+            &NO_INTERVAL,
+            (2, Wanted::Nested(1), Found::Unit(2))
+        )
+    );
 }
 
-// Where a postlog is wanted: other values.
+const ZERO: Status = Status::Trap(Trap::Zero);
+
+const OTHER_TRAP: Case<'static> = Case {
+    source: PAST,
+    policy: BARE,
+    wrote: &[BEGUN, Unit(0, &[0, 0]), End(ZERO, 0)],
+    budget: BUDGET,
+    k: 0,
+};
+
+const OTHER_REASON: Case<'static> = Case {
+    source: ENDLESS,
+    policy: BARE,
+    wrote: &[BEGUN, BARE_UNIT, End(Status::Blocked, 1)],
+    budget: BUDGET,
+    k: 0,
+};
+
+// Where a trap is wanted: another trap; and where fewer steps are wanted, an end for another reason.
 #[test]
-fn other_postlogs(rt: HostRuntime) -> Result<(), Fail> {
+fn other_ends(rt: HostRuntime) {
     let alloc = rt.alloc();
-    let wrote = [
+    assert!(rt;
+        fails(
+            alloc,
+            &OTHER_TRAP,
+            (2, Wanted::End(Status::Trap(Trap::Index)), Found::End(ZERO))
+        )
+    );
+    assert!(rt;
+        fails(
+            alloc,
+            &OTHER_REASON,
+            (2, Wanted::Fewer, Found::End(Status::Blocked))
+        )
+    );
+}
+
+const OTHER_POSTLOG: Case<'static> = Case {
+    source: LOOP,
+    policy: LOOPS,
+    wrote: &[
         BEGUN,
         BARE_UNIT,
         Prelog(1, &[3]),
@@ -225,32 +341,47 @@ fn other_postlogs(rt: HostRuntime) -> Result<(), Fail> {
         Unit(2, &[]),
         LEFT,
         OVER,
-    ];
-    let three = Seq::from_vec(vec![in alloc; 3]?);
-    let four = Seq::from_vec(vec![in alloc; 4]?);
-    assert!(rt;
-        failure(alloc, LOOP, &LOOPS, &wrote, 1)
-            == Some((4, Wanted::Postlog(three), Found::Postlog(four)))
-    );
-    Ok(())
+    ],
+    budget: BUDGET,
+    k: 1,
+};
+
+fn is_postlog(wanted: &Wanted, values: &[i64]) -> bool {
+    match wanted {
+        Wanted::Postlog(postlog) => postlog.as_slice() == values,
+        _ => false,
+    }
 }
 
-// Where a trap is wanted: another trap; and where fewer steps are wanted, an end for another reason.
+fn is_found_postlog(found: &Found, values: &[i64]) -> bool {
+    match found {
+        Found::Postlog(postlog) => postlog.as_slice() == values,
+        _ => false,
+    }
+}
+
+/// Whether a replay failed at entry 4, where it wanted a postlog of 3 and found one of 4.
+fn is_other_postlog(outcome: &Outcome) -> bool {
+    match outcome {
+        Some(
+            Err(
+                EmulError::Diverged {
+                    entry,
+                    wanted,
+                    found,
+                },
+            ),
+        ) => *entry == 4 && is_postlog(wanted, &[3]) && is_found_postlog(found, &[4]),
+        _ => false,
+    }
+}
+
+fn has_other_postlog(alloc: Global, case: &Case) -> bool {
+    is_other_postlog(&outcome_of(alloc, case))
+}
+
+// Where a postlog is wanted: other values.
 #[test]
-fn other_ends(rt: HostRuntime) {
-    let alloc = rt.alloc();
-    let zero = Status::Trap(Trap::Zero);
-    let trapped = [BEGUN, Unit(0, &[0, 0]), End(zero, 0)];
-    let wanted = Wanted::End(Status::Trap(Trap::Index));
-    check_failure(
-        &rt,
-        alloc,
-        PAST,
-        &BARE,
-        &trapped,
-        (2, wanted, Found::End(zero)),
-    );
-    let goes_on = [BEGUN, BARE_UNIT, End(Status::Blocked, 1)];
-    let failed = (2, Wanted::Fewer, Found::End(Status::Blocked));
-    check_failure(&rt, alloc, ENDLESS, &BARE, &goes_on, failed);
+fn other_postlogs(rt: HostRuntime) {
+    assert!(rt; has_other_postlog(rt.alloc(), &OTHER_POSTLOG));
 }

@@ -1,31 +1,19 @@
 // The index of logs that need be no run's.
 
 use crate::runs::{Run, index_of};
-use crate::written::{Wrote, claimed};
+use crate::written::{Refused, Wrote, check_refusals, claimed, refusal};
 use Wrote::{End, Postlog, Prelog, Unit};
 use ppd_ast::limits::MOST_CALLS;
 use ppd_ast::{Policy, Status};
 use ppd_entry::{At, Piece};
-use ppd_index::{BadLog, Interval, LogIndex};
+use ppd_index::{BadLog, Interval, IntervalLog, LogIndex};
 use std::alloc::Global;
-use std::process::Abort;
 
 /// Block 0 is the function, 1 the process, 2 the loop with one local cell; unit 0 reads nothing.
 const SOURCE: &str =
     "void f() { return; } process a { int i = 3; while (i < 3) { i = i + 1; } print(i); }";
 
-/// The log of the source's process.
-fn run_of(alloc: Global, wrote: &[Wrote]) -> Option<Run> {
-    claimed(alloc, SOURCE, &Policy { leaf: 0, loops: 1 }, wrote)
-}
-
-/// Why this log has no index, if it has none.
-fn bad(alloc: Global, wrote: &[Wrote]) -> Option<BadLog> {
-    match run_of(alloc, wrote) {
-        None => Some(BadLog::Memory),
-        Some(run) => index_of(alloc, &run).err(),
-    }
-}
+const LOOPS: Policy = Policy { leaf: 0, loops: 1 };
 
 const BODY: Wrote<'static> = Prelog(1, &[]);
 
@@ -37,7 +25,7 @@ const OVER: Wrote<'static> = End(Status::Ended, 5);
 
 // An entry that stands where it cannot, no End or more than one, and values that do not fit; the log of a
 // stop for the budget without its End first.
-const REFUSED: [(&[Wrote<'static>], Option<BadLog>); 13] = [
+const REFUSED: [Refused<'static>; 13] = [
     (
         &[Prelog(0, &[])],
         Some(BadLog::Unpaired(At {
@@ -127,68 +115,88 @@ const REFUSED: [(&[Wrote<'static>], Option<BadLog>); 13] = [
 
 #[test]
 fn logs_without_an_index(rt: HostRuntime) {
-    for (number, row) in REFUSED.iter().enumerate() {
-        assert_eq!(rt; bad(rt.alloc(), row.0), row.1, "{number}");
-    }
+    check_refusals(&rt, rt.alloc(), SOURCE, &LOOPS, &REFUSED);
 }
 
-/// The entries of a body, of as many calls as can be open, of a loop, and of one call more.
-fn open_calls(alloc: Global) -> Option<Vec<Wrote<'static>>> {
-    let mut wrote = vec![in alloc; BODY].ok()?;
-    for _ in 0..MOST_CALLS {
-        wrote.push(Prelog(0, &[])).ok()?;
-    }
-    wrote
-        .extend_from_slice(&[Prelog(2, &[3]), Prelog(0, &[])])
-        .ok()?;
-    Some(wrote)
-}
+const CALL: Wrote<'static> = Prelog(0, &[]);
 
-// A loop's interval is no open call, and one call more than the most cannot be.
+// A loop's interval is no open call, and one call more than the most cannot be: a body, as many calls as can be
+// open, a loop, and one call more.
 #[test]
 fn open_calls_at_their_most(rt: HostRuntime) {
+    let mut wrote = [CALL; MOST_CALLS + 3];
+    wrote[0] = BODY;
+    wrote[MOST_CALLS + 1] = Prelog(2, &[3]);
     let wanted = BadLog::Unpaired(At {
         process: 0,
         entry: 66,
     });
-    let found = match open_calls(rt.alloc()) {
-        Some(wrote) => bad(rt.alloc(), wrote.as_slice()),
-        None => None,
-    };
-    assert_eq!(rt; found, Some(wanted));
+    assert_eq!(rt; refusal(rt.alloc(), SOURCE, &LOOPS, &wrote), Some(wanted));
 }
 
-/// Whether two pieces are the same.
-fn is_piece(piece: Piece, other: Piece) -> bool {
-    match (piece, other) {
-        (Piece::Unit(unit, values), Piece::Unit(of, listed)) => unit == of && values == listed,
-        (Piece::Nested(k, block, values), Piece::Nested(of, kind, listed)) => {
-            k == of && block == kind && values == listed
-        }
-        (Piece::Unfinished(k, block), Piece::Unfinished(of, kind)) => k == of && block == kind,
-        (Piece::Postlog(values), Piece::Postlog(listed)) => values == listed,
-        (Piece::End(status, rest), Piece::End(other, left)) => status == other && rest == left,
+fn is_unit(piece: Piece, of: u16, listed: &[i64]) -> bool {
+    match piece {
+        Piece::Unit(unit, values) => unit == of && values == listed,
         _ => false,
     }
 }
 
-/// Whether interval `k` has this block, depth and values, and exactly these pieces, each with the number of its
-/// entry.
-fn has(
-    run: &Run,
-    index: &LogIndex,
+fn is_nested(piece: Piece, of: u32, kind: u16, listed: &[i64]) -> bool {
+    match piece {
+        Piece::Nested(k, block, values) => k == of && block == kind && values == listed,
+        _ => false,
+    }
+}
+
+fn is_unfinished(piece: Piece, of: u32, kind: u16) -> bool {
+    match piece {
+        Piece::Unfinished(k, block) => k == of && block == kind,
+        _ => false,
+    }
+}
+
+fn is_postlog(piece: Piece, listed: &[i64]) -> bool {
+    match piece {
+        Piece::Postlog(values) => values == listed,
+        _ => false,
+    }
+}
+
+fn is_end(piece: Piece, other: Status, left: u32) -> bool {
+    match piece {
+        Piece::End(status, rest) => status == other && rest == left,
+        _ => false,
+    }
+}
+
+/// Whether two pieces are the same.
+fn is_piece(piece: Piece, other: Piece) -> bool {
+    match other {
+        Piece::Unit(of, listed) => is_unit(piece, of, listed),
+        Piece::Nested(of, kind, listed) => is_nested(piece, of, kind, listed),
+        Piece::Unfinished(of, kind) => is_unfinished(piece, of, kind),
+        Piece::Postlog(listed) => is_postlog(piece, listed),
+        Piece::End(other, left) => is_end(piece, other, left),
+        _ => false,
+    }
+}
+
+/// A log and an interval of it: its block, depth and values, and its pieces, each with the number of its entry.
+#[derive(Clone, Copy)]
+struct Case<'a> {
+    wrote: &'a [Wrote<'a>],
     k: u32,
-    head: (u16, u8, &[i64]),
-    pieces: &[(u32, Piece)],
-) -> bool {
-    if k >= index.count(0) {
-        return false;
-    }
-    let log = index.log(&run.logs, 0, k);
+    head: (u16, u8, &'a [i64]),
+    pieces: &'a [(u32, Piece<'a>)],
+}
+
+fn has_head(log: &IntervalLog, head: (u16, u8, &[i64])) -> bool {
     let (block, depth, values) = head;
-    if log.block() != block || log.depth() != depth || log.values() != values {
-        return false;
-    }
+    log.block() == block && log.depth() == depth && log.values() == values
+}
+
+/// Whether an interval has exactly these pieces.
+fn has_pieces(log: &IntervalLog, pieces: &[(u32, Piece)]) -> bool {
     if log.pieces() != pieces.len() {
         return false;
     }
@@ -201,18 +209,27 @@ fn has(
     true
 }
 
-/// Asserts the block, depth and values of interval `k` of a log, and its pieces.
-fn check_interval(
-    rt: &impl Abort,
-    alloc: Global,
-    wrote: &[Wrote],
-    k: u32,
-    head: (u16, u8, &[i64]),
-    pieces: &[(u32, Piece)],
-) {
-    let run = run_of(alloc, wrote).expect(rt, "a log");
-    let index = index_of(alloc, &run).expect(rt, "an index");
-    assert!(rt; has(&run, &index, k, head, pieces), "{k}");
+/// Whether the case's interval is there and is as the case says.
+fn has(run: &Run, index: &LogIndex, case: &Case) -> bool {
+    if case.k >= index.count(0) {
+        return false;
+    }
+    let log = index.log(&run.logs, 0, case.k);
+    has_head(&log, case.head) && has_pieces(&log, case.pieces)
+}
+
+fn holds_of(alloc: Global, run: &Run, case: &Case) -> bool {
+    match index_of(alloc, run) {
+        Ok(index) => has(run, &index, case),
+        Err(_) => false,
+    }
+}
+
+fn holds(alloc: Global, case: &Case) -> bool {
+    match claimed(alloc, SOURCE, &LOOPS, case.wrote) {
+        Some(run) => holds_of(alloc, &run, case),
+        None => false,
+    }
 }
 
 const NEVER_ENTERED: [Wrote<'static>; 8] = [
@@ -226,44 +243,89 @@ const NEVER_ENTERED: [Wrote<'static>; 8] = [
     OVER,
 ];
 
+/// Interval `k` of a run of one process, if it is there.
+fn interval_in(alloc: Global, run: &Run, k: u32) -> Option<Interval> {
+    match index_of(alloc, run) {
+        Ok(index) => index.interval(0, k),
+        Err(_) => None,
+    }
+}
+
+/// Interval `k` of this log, if it is there.
+fn interval_of(alloc: Global, wrote: &[Wrote], k: u32) -> Option<Interval> {
+    match claimed(alloc, SOURCE, &LOOPS, wrote) {
+        Some(run) => interval_in(alloc, &run, k),
+        None => None,
+    }
+}
+
+const INNER: Interval = Interval {
+    block: 2,
+    parent: Some(0),
+    first: 2,
+    last: 4,
+    closed: true,
+    depth: 0,
+};
+
 // A loop that was never entered has an interval.
 #[test]
 fn loop_never_entered(rt: HostRuntime) {
-    let run = run_of(rt.alloc(), &NEVER_ENTERED).expect(&rt, "a log");
-    let index = index_of(rt.alloc(), &run).expect(&rt, "an index");
-    let inner = Interval {
-        block: 2,
-        parent: Some(0),
-        first: 2,
-        last: 4,
-        closed: true,
-        depth: 0,
-    };
-    assert!(rt; index.interval(0, 1) == Some(inner) && index.interval(0, 2).is_none());
+    assert!(rt; interval_of(rt.alloc(), &NEVER_ENTERED, 1) == Some(INNER));
+    assert!(rt; interval_of(rt.alloc(), &NEVER_ENTERED, 2).is_none());
 }
 
-// A loop that was never entered is a piece of the process's interval, by number, block and postlog.
-#[test]
-fn pieces_outside_and_inside_a_loop(rt: HostRuntime) {
-    let alloc = rt.alloc();
-    let outside = [
+const OUTSIDE_A_LOOP: Case<'static> = Case {
+    wrote: &NEVER_ENTERED,
+    k: 0,
+    head: (1, 0, &[]),
+    pieces: &[
         (1, Piece::Unit(0, &[])),
         (2, Piece::Nested(1, 2, &[4])),
         (5, Piece::Unit(0, &[])),
         (6, Piece::Postlog(&[])),
-    ];
-    check_interval(&rt, alloc, &NEVER_ENTERED, 0, (1, 0, &[]), &outside);
-    let inside = [(3, Piece::Unit(0, &[])), (4, Piece::Postlog(&[4]))];
-    check_interval(&rt, alloc, &NEVER_ENTERED, 1, (2, 0, &[3]), &inside);
+    ],
+};
+
+const INSIDE_A_LOOP: Case<'static> = Case {
+    wrote: &NEVER_ENTERED,
+    k: 1,
+    head: (2, 0, &[3]),
+    pieces: &[(3, Piece::Unit(0, &[])), (4, Piece::Postlog(&[4]))],
+};
+
+// A loop that was never entered is a piece of the process's interval, by number, block and postlog.
+#[test]
+fn pieces_outside_and_inside_a_loop(rt: HostRuntime) {
+    assert!(rt; holds(rt.alloc(), &OUTSIDE_A_LOOP));
+    assert!(rt; holds(rt.alloc(), &INSIDE_A_LOOP));
 }
+
+const UNFINISHED: [Wrote<'static>; 5] = [
+    BODY,
+    FIRST,
+    Prelog(0, &[]),
+    FIRST,
+    End(Status::Budget, 5),
+];
+
+const OUTSIDE_A_CALL: Case<'static> = Case {
+    wrote: &UNFINISHED,
+    k: 0,
+    head: (1, 0, &[]),
+    pieces: &[(1, Piece::Unit(0, &[])), (2, Piece::Unfinished(1, 0))],
+};
+
+const INSIDE_A_CALL: Case<'static> = Case {
+    wrote: &UNFINISHED,
+    k: 1,
+    head: (0, 1, &[]),
+    pieces: &[(3, Piece::Unit(0, &[])), (4, Piece::End(Status::Budget, 5))],
+};
 
 // Inside a call that was not left the End is the last piece, and the call is unfinished for its caller.
 #[test]
 fn unfinished_call(rt: HostRuntime) {
-    let alloc = rt.alloc();
-    let wrote = [BODY, FIRST, Prelog(0, &[]), FIRST, End(Status::Budget, 5)];
-    let outside = [(1, Piece::Unit(0, &[])), (2, Piece::Unfinished(1, 0))];
-    check_interval(&rt, alloc, &wrote, 0, (1, 0, &[]), &outside);
-    let inside = [(3, Piece::Unit(0, &[])), (4, Piece::End(Status::Budget, 5))];
-    check_interval(&rt, alloc, &wrote, 1, (0, 1, &[]), &inside);
+    assert!(rt; holds(rt.alloc(), &OUTSIDE_A_CALL));
+    assert!(rt; holds(rt.alloc(), &INSIDE_A_CALL));
 }

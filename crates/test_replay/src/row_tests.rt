@@ -1,9 +1,10 @@
-use crate::runs::{ran, replay};
-use crate::shown::{Shown, are_items};
+use crate::runs::{Run, ran, replay_if};
+use crate::shown::{Shown, has_items};
 use Shown::{Inside, Own, Synced};
 use ppd_ast::Policy;
 use ppd_sem::Spot;
 use std::alloc::Global;
+use std::process::Abort;
 
 const BUDGET: u32 = 100_000;
 
@@ -34,6 +35,7 @@ process consumer { for (int i = 0; i < 100; i++) { int v = get(); assert(v == i)
 
 /// A source with its policy and its budget, run by a schedule and then by the lowest enabled process for so many steps;
 /// a process, an interval of it, and the interval's items.
+#[derive(Clone, Copy)]
 struct Case<'a> {
     source: &'a str,
     policy: (u16, u16),
@@ -44,8 +46,8 @@ struct Case<'a> {
     items: &'a [Shown<'a>],
 }
 
-const CASES: [Case<'static>; 10] = [
-    // the call is an event and its interval an item; the print reads what the callee wrote
+// The call is an event and its interval an item; the print reads what the callee wrote.
+const ONE_CALL: [Case<'static>; 2] = [
     Case {
         source: "shared int x; void f() { x = 4; } process a { x = 1; f(); print(x); }",
         policy: (0, 0),
@@ -70,7 +72,10 @@ const CASES: [Case<'static>; 10] = [
         of: (0, 1),
         items: &[Own(0, &[], &[(X, 4)], None), Own(1, &[], &[], None)],
     },
-    // a loop that was never entered is an item with what it left
+];
+
+// A loop that was never entered is an item with what it left.
+const NOT_ENTERED: [Case<'static>; 2] = [
     Case {
         source: NEVER_ENTERED,
         policy: (0, 1),
@@ -94,7 +99,10 @@ const CASES: [Case<'static>; 10] = [
         of: (0, 1),
         items: &[Own(1, &[(A, 3)], &[], Some(0))],
     },
-    // each call of a recursion is an item of the one before it, with the value that it gave
+];
+
+// Each call of a recursion is an item of the one before it, with the value that it gave.
+const RECURSIVE: [Case<'static>; 2] = [
     Case {
         source: RECURSION,
         policy: (0, 0),
@@ -123,98 +131,148 @@ const CASES: [Case<'static>; 10] = [
             Own(3, &[(B, 0)], &[], Some(1)),
         ],
     },
-    // a process that waits for ever has the items before that
-    Case {
-        source: "sem s = 1, t = 1; process a { P(s); P(t); } process b { P(t); P(s); }",
-        policy: (0, 0),
-        budget: BUDGET,
-        schedule: &[0, 1],
-        steps: 0,
-        of: (0, 0),
-        items: &[Synced(0, 1)],
-    },
-    // so has one that stopped for its budget
-    Case {
-        source: "process a { int i; while (1) { i = i + 1; } }",
-        policy: (0, 0),
-        budget: 5,
-        schedule: &[],
-        steps: 10,
-        of: (0, 0),
-        items: &[
-            Own(0, &[], &[(A, 0)], None),
-            Own(1, &[], &[], Some(1)),
-            Own(2, &[(A, 0)], &[(A, 1)], None),
-            Own(1, &[], &[], Some(1)),
-            Own(2, &[(A, 1)], &[(A, 2)], None),
-        ],
-    },
-    // the events of a function that is no block stand in its caller's interval
-    Case {
-        source: "shared int x; void f(int k) { x = k; } process a { f(9); print(x); }",
-        policy: (3, 0),
-        budget: BUDGET,
-        schedule: &[],
-        steps: 10,
-        of: (0, 0),
-        items: &[
-            Own(2, &[], &[(CALLED, 9)], None),
-            Own(0, &[(CALLED, 9)], &[(X, 9)], None),
-            Own(1, &[], &[], None),
-            Own(3, &[(X, 9)], &[], Some(9)),
-            Own(4, &[], &[], None),
-        ],
-    },
-    // the call that brings the producer's fault: by the lowest enabled process the producer fills the buffer, and
-    // then each call of one comes between two of the other
-    Case {
-        source: BUFFER,
-        policy: (0, 0),
-        budget: BUDGET,
-        schedule: &[],
-        steps: 1800,
-        of: (1, 58),
-        items: &[
-            Own(7, &[], &[(A, 0)], None),
-            Synced(8, 58),
-            Synced(9, 119),
-            Own(10, &[(HEAD, 57), (PLACE, 0)], &[(A, 0)], None),
-            Own(11, &[(HEAD, 57)], &[(HEAD, 58)], None),
-            Synced(12, 120),
-            Synced(13, 62),
-            Own(14, &[(A, 0)], &[], Some(0)),
-        ],
-    },
 ];
 
-/// Whether the replay of a case's interval has the case's items.
-fn has_items(alloc: Global, case: &Case) -> Option<bool> {
+// A process that waits for ever has the items before that.
+const WAITING: [Case<'static>; 1] = [Case {
+    source: "sem s = 1, t = 1; process a { P(s); P(t); } process b { P(t); P(s); }",
+    policy: (0, 0),
+    budget: BUDGET,
+    schedule: &[0, 1],
+    steps: 0,
+    of: (0, 0),
+    items: &[Synced(0, 1)],
+}];
+
+// So has one that stopped for its budget.
+const STOPPED: [Case<'static>; 1] = [Case {
+    source: "process a { int i; while (1) { i = i + 1; } }",
+    policy: (0, 0),
+    budget: 5,
+    schedule: &[],
+    steps: 10,
+    of: (0, 0),
+    items: &[
+        Own(0, &[], &[(A, 0)], None),
+        Own(1, &[], &[], Some(1)),
+        Own(2, &[(A, 0)], &[(A, 1)], None),
+        Own(1, &[], &[], Some(1)),
+        Own(2, &[(A, 1)], &[(A, 2)], None),
+    ],
+}];
+
+// The events of a function that is no block stand in its caller's interval.
+const NO_BLOCK: [Case<'static>; 1] = [Case {
+    source: "shared int x; void f(int k) { x = k; } process a { f(9); print(x); }",
+    policy: (3, 0),
+    budget: BUDGET,
+    schedule: &[],
+    steps: 10,
+    of: (0, 0),
+    items: &[
+        Own(2, &[], &[(CALLED, 9)], None),
+        Own(0, &[(CALLED, 9)], &[(X, 9)], None),
+        Own(1, &[], &[], None),
+        Own(3, &[(X, 9)], &[], Some(9)),
+        Own(4, &[], &[], None),
+    ],
+}];
+
+// The call that brings the producer's fault: by the lowest enabled process the producer fills the buffer, and then
+// each call of one comes between two of the other.
+const FAULT: [Case<'static>; 1] = [Case {
+    source: BUFFER,
+    policy: (0, 0),
+    budget: BUDGET,
+    schedule: &[],
+    steps: 1800,
+    of: (1, 58),
+    items: &[
+        Own(7, &[], &[(A, 0)], None),
+        Synced(8, 58),
+        Synced(9, 119),
+        Own(10, &[(HEAD, 57), (PLACE, 0)], &[(A, 0)], None),
+        Own(11, &[(HEAD, 57)], &[(HEAD, 58)], None),
+        Synced(12, 120),
+        Synced(13, 62),
+        Own(14, &[(A, 0)], &[], Some(0)),
+    ],
+}];
+
+fn run_of(alloc: Global, case: &Case) -> Option<Run> {
     let (leaf, loops) = case.policy;
-    let (p, k) = case.of;
     let policy = Policy { leaf, loops };
-    let run = ran(
+    ran(
         alloc,
         case.source,
         &policy,
         case.budget,
         case.schedule,
         case.steps,
-    )?;
-    let trace = replay(alloc, &run, case.budget, p, k)?.ok()?;
-    Some(are_items(&trace, case.items))
+    )
+}
+
+/// Whether the replay of a case's interval has the case's items.
+fn holds(alloc: Global, case: &Case) -> bool {
+    let (p, k) = case.of;
+    has_items(
+        &replay_if(alloc, run_of(alloc, case), case.budget, p, k),
+        case.items,
+    )
+}
+
+/// Asserts that each case's interval has its items.
+fn check_cases(rt: &impl Abort, alloc: Global, cases: &[Case]) {
+    for (number, case) in cases.iter().enumerate() {
+        assert!(rt; holds(alloc, case), "{number}");
+    }
 }
 
 #[test]
-fn intervals_have_their_items(rt: HostRuntime) {
-    for (number, case) in CASES.iter().enumerate() {
-        assert_eq!(rt; has_items(rt.alloc(), case), Some(true), "{number}");
-    }
+fn call_is_an_item(rt: HostRuntime) {
+    check_cases(&rt, rt.alloc(), &ONE_CALL);
+}
+
+#[test]
+fn loop_never_entered_is_an_item(rt: HostRuntime) {
+    check_cases(&rt, rt.alloc(), &NOT_ENTERED);
+}
+
+#[test]
+fn each_call_of_a_recursion(rt: HostRuntime) {
+    check_cases(&rt, rt.alloc(), &RECURSIVE);
+}
+
+#[test]
+fn process_that_waits_for_ever(rt: HostRuntime) {
+    check_cases(&rt, rt.alloc(), &WAITING);
+}
+
+#[test]
+fn process_out_of_budget(rt: HostRuntime) {
+    check_cases(&rt, rt.alloc(), &STOPPED);
+}
+
+#[test]
+fn function_that_is_no_block(rt: HostRuntime) {
+    check_cases(&rt, rt.alloc(), &NO_BLOCK);
+}
+
+#[test]
+fn call_that_brings_the_fault(rt: HostRuntime) {
+    check_cases(&rt, rt.alloc(), &FAULT);
+}
+
+/// Whether a recursion of three calls has such an interval.
+fn has_interval(alloc: Global, k: u32) -> bool {
+    let policy = Policy { leaf: 0, loops: 0 };
+    let run = ran(alloc, RECURSION, &policy, BUDGET, &[], 20);
+    replay_if(alloc, run, BUDGET, 0, k).is_some()
 }
 
 // A recursion of three calls has four intervals.
 #[test]
 fn no_interval_after_the_last(rt: HostRuntime) {
-    let policy = Policy { leaf: 0, loops: 0 };
-    let run = ran(rt.alloc(), RECURSION, &policy, BUDGET, &[], 20).expect(&rt, "a run");
-    assert!(rt; replay(rt.alloc(), &run, BUDGET, 0, 4).is_none());
+    assert!(rt; has_interval(rt.alloc(), 3));
+    assert!(rt; !has_interval(rt.alloc(), 4));
 }

@@ -23,6 +23,9 @@ pub struct Run {
     pub logs: Logs,
 }
 
+/// What the replay of an interval came to, where it could begin.
+pub type Outcome = Option<Result<BlockTrace, EmulError>>;
+
 /// The program and the plan of a source, where both are valid.
 pub fn read(alloc: Global, source: &str, policy: &Policy) -> Option<(Program, Plan)> {
     if policy.leaf > MOST_POLICY || policy.loops > MOST_POLICY {
@@ -54,6 +57,23 @@ fn step_lowest(world: &mut World) -> Result<(), Memory>
     }
 }
 
+/// Runs by this schedule and then by the lowest enabled process, at most so many steps. Whether they
+/// could be taken.
+fn run_on(world: &mut World, schedule: &[u8], steps: u32) -> bool
+    requires { IsReached world.old }
+    ensures { IsReached world.new }
+{
+    if world.drive(schedule).is_err() {
+        return false;
+    }
+    for _ in 0..steps {
+        if step_lowest(world).is_err() {
+            return false;
+        }
+    }
+    true
+}
+
 /// The logs of a run by this schedule and then by the lowest enabled process, at most so many steps.
 fn logs_of(
     alloc: Global,
@@ -64,16 +84,22 @@ fn logs_of(
     steps: u32,
 ) -> Option<Logs> {
     let mut world = start(alloc, program, plan, budget)?;
-    if world.drive(schedule).is_err() {
-        return None;
-    }
-    for _ in 0..steps {
-        step_lowest(&mut world).ok()?;
-    }
-    if !world.over() {
+    if !run_on(&mut world, schedule, steps) || !world.over() {
         return None;
     }
     Some(world.close().ok()?.logs)
+}
+
+/// A run with these logs, if they are there.
+pub fn with_logs((program, plan): (Program, Plan), logs: Option<Logs>) -> Option<Run> {
+    match logs {
+        Some(logs) => Some(Run {
+            program,
+            plan,
+            logs,
+        }),
+        None => None,
+    }
 }
 
 /// A run of a source by this schedule and then by the lowest enabled process. None where the source
@@ -86,13 +112,9 @@ pub fn ran(
     schedule: &[u8],
     steps: u32,
 ) -> Option<Run> {
-    let (program, plan) = read(alloc, source, policy)?;
-    let logs = logs_of(alloc, &program, &plan, budget, schedule, steps)?;
-    Some(Run {
-        program,
-        plan,
-        logs,
-    })
+    let parts = read(alloc, source, policy)?;
+    let logs = logs_of(alloc, &parts.0, &parts.1, budget, schedule, steps);
+    with_logs(parts, logs)
 }
 
 /// The index of a run's logs. `Memory` also where more processes have logs than a program has.
@@ -110,7 +132,7 @@ fn replay_by<L: Ledger>(
     p: u8,
     k: u32,
     blank: Blank,
-) -> Option<Result<BlockTrace, EmulError>>
+) -> Outcome
     requires name { blank.name ≡ L.name }
     requires parts { blank.parts ≡ L.parts }
     requires some { 0 < blank.parts }
@@ -132,12 +154,14 @@ fn replay_by<L: Ledger>(
 
 /// The replay of interval `k` of process `p`. None where program, plan or logs are refused, or there
 /// is no such interval.
-pub fn replay(
-    alloc: Global,
-    run: &Run,
-    budget: u32,
-    p: u8,
-    k: u32,
-) -> Option<Result<BlockTrace, EmulError>> {
+pub fn replay(alloc: Global, run: &Run, budget: u32, p: u8, k: u32) -> Outcome {
     replay_by::<Brand>(alloc, run, budget, p, k, Blank::new(1))
+}
+
+/// The same of a run that need not be there.
+pub fn replay_if(alloc: Global, run: Option<Run>, budget: u32, p: u8, k: u32) -> Outcome {
+    match run {
+        Some(run) => replay(alloc, &run, budget, p, k),
+        None => None,
+    }
 }

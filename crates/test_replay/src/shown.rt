@@ -1,5 +1,6 @@
 //! Items as short rows.
 
+use crate::runs::Outcome;
 use ppd_emul::{BlockTrace, Item};
 use ppd_sem::{Access, Event, Spot};
 
@@ -64,8 +65,7 @@ fn is_shown(item: &Item, shown: &Shown) -> bool {
     }
 }
 
-/// Whether the items are these.
-pub fn are_items(trace: &BlockTrace, rows: &[Shown]) -> bool {
+fn are_items(trace: &BlockTrace, rows: &[Shown]) -> bool {
     let items = trace.items.as_slice();
     if items.len() != rows.len() {
         return false;
@@ -76,4 +76,12 @@ pub fn are_items(trace: &BlockTrace, rows: &[Shown]) -> bool {
         }
     }
     true
+}
+
+/// Whether an interval was replayed and has these items.
+pub fn has_items(outcome: &Outcome, rows: &[Shown]) -> bool {
+    match outcome {
+        Some(Ok(trace)) => are_items(trace, rows),
+        _ => false,
+    }
 }

@@ -1,9 +1,11 @@
 //! Logs of one process, entry by entry.
 
-use crate::runs::{Run, read};
+use crate::runs::{Run, index_of, read, with_logs};
 use ppd_ast::{Memory, Policy, Seq, Status, SyncKind};
 use ppd_entry::{Boxed, BoxedNums, Entry, Logs};
+use ppd_index::BadLog;
 use std::alloc::Global;
+use std::process::Abort;
 
 /// An entry with the parts that a replay looks at.
 #[derive(Clone, Copy)]
@@ -64,11 +66,30 @@ fn logs_of(alloc: Global, wrote: &[Wrote]) -> Result<Logs, Memory> {
 
 /// A source of one process with a log that need be no run's.
 pub fn claimed(alloc: Global, source: &str, policy: &Policy, wrote: &[Wrote]) -> Option<Run> {
-    let (program, plan) = read(alloc, source, policy)?;
-    let logs = logs_of(alloc, wrote).ok()?;
-    Some(Run {
-        program,
-        plan,
-        logs,
-    })
+    let parts = read(alloc, source, policy)?;
+    with_logs(parts, logs_of(alloc, wrote).ok())
+}
+
+/// Why a source of one process with this log has no index, if it has none.
+pub fn refusal(alloc: Global, source: &str, policy: &Policy, wrote: &[Wrote]) -> Option<BadLog> {
+    match claimed(alloc, source, policy, wrote) {
+        Some(run) => index_of(alloc, &run).err(),
+        None => Some(BadLog::Memory),
+    }
+}
+
+/// A log, and why it has no index, if it has none.
+pub type Refused<'a> = (&'a [Wrote<'a>], Option<BadLog>);
+
+/// Asserts of each log of a source of one process why it has no index.
+pub fn check_refusals(
+    rt: &impl Abort,
+    alloc: Global,
+    source: &str,
+    policy: &Policy,
+    rows: &[Refused],
+) {
+    for (number, row) in rows.iter().enumerate() {
+        assert_eq!(rt; refusal(alloc, source, policy, row.0), row.1, "{number}");
+    }
 }
