@@ -7,6 +7,8 @@ mod books;
 #[cfg(test)]
 mod parts;
 #[cfg(test)]
+mod sessions;
+#[cfg(test)]
 mod steps;
 #[cfg(test)]
 mod worlds;
