@@ -4,7 +4,7 @@ ghost use Rattle.ppd_model.specs.Marks.{closed, opened};
 ghost use Rattle.ppd_model.specs.Story.{unit_started as unit_started_of, values_at_start, values_of_unit};
 ghost use Rattle.ppd_model.specs.Synchronizations.{sync_of};
 ghost use Rattle.ppd_sem.specs.Runs.{IsRunnable, IsRunning};
-ghost use Rattle.ppd_world.specs.Parts.{moment_with};
+ghost use Rattle.ppd_world_entries.specs.Entries.{moment_with};
 
 use crate::code::Code;
 use ppd_ast::{Cells, Memory, Nums, Plan, Status, SyncKind};
@@ -28,7 +28,7 @@ fn copy_cells(alloc: Global, cells: &Cells) -> Result<BoxedCells, Memory>
 }
 
 /// The values of a unit's cells.
-pub(crate) fn unit_values(
+pub fn unit_values(
     alloc: Global,
     plan: &Plan,
     shared: &[i64],
@@ -179,7 +179,7 @@ fn status_of(need: Need) -> Option<Status>
 }
 
 /// The end of the process, where there is a status.
-pub(crate) fn push_end(
+pub fn push_end(
     alloc: Global,
     entries: &mut Vec<Entry>,
     logging: &Logging,
@@ -204,7 +204,7 @@ pub(crate) fn push_end(
 }
 
 /// The entries that this step writes. `Memory` is want of memory.
-pub(crate) fn entries_of(
+pub fn entries_of(
     code: &Code,
     logging: &Logging,
     shared: &[i64],

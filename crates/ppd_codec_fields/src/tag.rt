@@ -1,6 +1,6 @@
 /// What an entry of a log is, as its first byte says.
 #[derive(Clone, Copy)]
-pub(crate) enum Tag {
+pub enum Tag {
     Prelog,
     Unit,
     Sync,

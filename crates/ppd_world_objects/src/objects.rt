@@ -2,14 +2,14 @@ ghost use Rattle.std.specs.Prelude.{◌≡◌, [], slice_get, OnOk, OnErr};
 ghost use Rattle.std.specs.List.{All};
 ghost use Rattle.ppd_model.specs.Story.{number_of as number_of_need};
 ghost use Rattle.ppd_model.specs.World.{can_complete as can_complete_of, can_receive as can_receive_of, can_send as can_send_of, can_take as can_take_of, change, next_value as next_value_of, room as room_of_channel, one_taken, one_given, with_value, one_received, one_completed};
-ghost use Rattle.ppd_world.specs.Parts.{IsReceivable, IsSmallChan, IsSmallSem, store, without_last};
+ghost use Rattle.ppd_world_objects.specs.Objects.{IsReceivable, IsSmallChan, IsSmallSem, store, without_last};
 
 use ppd_ast::Memory;
 use ppd_model::{Channel, Counts, value_at};
 use ppd_sem::Need;
 
 /// Whether the semaphore is there and was given more often than taken.
-pub(crate) fn can_take(sems: &[Counts], sem: u8) -> bool
+pub fn can_take(sems: &[Counts], sem: u8) -> bool
     ensures { result ≡ can_take_of (slice_get sems.now sem) }
 {
     match sems.get(sem as usize) {
@@ -30,7 +30,7 @@ fn room(channel: &Channel) -> u64
 }
 
 /// Whether the channel is there and has room for one more.
-pub(crate) fn can_send(chans: &[Channel], chan: u8) -> bool
+pub fn can_send(chans: &[Channel], chan: u8) -> bool
     ensures { result ≡ can_send_of (slice_get chans.now chan) }
 {
     match chans.get(chan as usize) {
@@ -40,7 +40,7 @@ pub(crate) fn can_send(chans: &[Channel], chan: u8) -> bool
 }
 
 /// Whether the channel is there and fewer were completed on it than received.
-pub(crate) fn can_complete(chans: &[Channel], chan: u8) -> bool
+pub fn can_complete(chans: &[Channel], chan: u8) -> bool
     ensures { result ≡ can_complete_of (slice_get chans.now chan) }
 {
     match chans.get(chan as usize) {
@@ -50,7 +50,7 @@ pub(crate) fn can_complete(chans: &[Channel], chan: u8) -> bool
 }
 
 /// Whether the channel is there and fewer were received from it than sent.
-pub(crate) fn can_receive(chans: &[Channel], chan: u8) -> bool
+pub fn can_receive(chans: &[Channel], chan: u8) -> bool
     ensures { result ≡ can_receive_of (slice_get chans.now chan) }
 {
     match chans.get(chan as usize) {
@@ -60,7 +60,7 @@ pub(crate) fn can_receive(chans: &[Channel], chan: u8) -> bool
 }
 
 /// The value that is received next from this channel, and 0 where there is none.
-pub(crate) fn next_value(chans: &[Channel], chan: u8) -> i64
+pub fn next_value(chans: &[Channel], chan: u8) -> i64
     ensures { result ≡ next_value_of (slice_get chans.now chan) }
 {
     match chans.get(chan as usize) {
@@ -70,7 +70,7 @@ pub(crate) fn next_value(chans: &[Channel], chan: u8) -> i64
 }
 
 /// The number that a synchronization of this need takes.
-pub(crate) fn number_of(sems: &[Counts], chans: &[Channel], need: Need) -> Option<u32>
+pub fn number_of(sems: &[Counts], chans: &[Channel], need: Need) -> Option<u32>
     requires sems { All IsSmallSem sems.now }
     requires chans { All IsSmallChan chans.now }
     ensures { result ≡ number_of_need (store [] sems.now chans.now) need }
@@ -102,7 +102,7 @@ fn give_one(counts: &mut Counts)
 }
 
 /// Counts one more taking of a semaphore that is there.
-pub(crate) fn take(sems: &mut Vec<Counts>, sem: u8)
+pub fn take(sems: &mut Vec<Counts>, sem: u8)
     requires { All IsSmallSem sems.old.items }
     ensures { sems.new.items ≡ change one_taken sem sems.old.items }
 {
@@ -112,7 +112,7 @@ pub(crate) fn take(sems: &mut Vec<Counts>, sem: u8)
 }
 
 /// Counts one more giving of a semaphore that is there.
-pub(crate) fn give(sems: &mut Vec<Counts>, sem: u8)
+pub fn give(sems: &mut Vec<Counts>, sem: u8)
     requires { All IsSmallSem sems.old.items }
     ensures { sems.new.items ≡ change one_given sem sems.old.items }
 {
@@ -143,7 +143,7 @@ fn receive_one(channel: &mut Channel)
 }
 
 /// Appends a value to a channel that is there. `Memory` is want of memory: nothing changes.
-pub(crate) fn push_value(chans: &mut Vec<Channel>, chan: u8, value: i64) -> Result<(), Memory>
+pub fn push_value(chans: &mut Vec<Channel>, chan: u8, value: i64) -> Result<(), Memory>
     ensures ok { OnOk result (chans.new.items ≡ change (with_value value) chan chans.old.items) }
     ensures err { OnErr result (chans.new.items ≡ chans.old.items) }
 {
@@ -154,7 +154,7 @@ pub(crate) fn push_value(chans: &mut Vec<Channel>, chan: u8, value: i64) -> Resu
 }
 
 /// Takes the last value off a channel that is there.
-pub(crate) fn drop_last(chans: &mut Vec<Channel>, chan: u8)
+pub fn drop_last(chans: &mut Vec<Channel>, chan: u8)
     ensures { chans.new.items ≡ change without_last chan chans.old.items }
 {
     if let Some(channel) = chans.get_mut(chan as usize) {
@@ -163,7 +163,7 @@ pub(crate) fn drop_last(chans: &mut Vec<Channel>, chan: u8)
 }
 
 /// Counts one more receive from a channel that is there.
-pub(crate) fn receive(chans: &mut Vec<Channel>, chan: u8)
+pub fn receive(chans: &mut Vec<Channel>, chan: u8)
     requires { All IsReceivable chans.old.items }
     ensures { chans.new.items ≡ change one_received chan chans.old.items }
 {
@@ -180,7 +180,7 @@ fn complete_one(channel: &mut Channel)
 }
 
 /// Counts one more completed send on a channel that is there.
-pub(crate) fn complete(chans: &mut Vec<Channel>, chan: u8)
+pub fn complete(chans: &mut Vec<Channel>, chan: u8)
     requires { All IsReceivable chans.old.items }
     ensures { chans.new.items ≡ change one_completed chan chans.old.items }
 {

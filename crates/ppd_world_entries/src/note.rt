@@ -1,7 +1,7 @@
 ghost use Rattle.std.specs.Prelude.{◌≡◌, ◌≤◌, ◌++◌, ◌∷◌, length, take, drop, IfOk, IfSome, IfNone, OnOk};
 ghost use Rattle.ppd_ast.specs.Members.{with_cell};
 ghost use Rattle.ppd_model.specs.Logs.{with_access};
-ghost use Rattle.ppd_world.specs.Parts.{noted};
+ghost use Rattle.ppd_world_entries.specs.Entries.{noted};
 
 use ppd_ast::{Cells, Memory, Seq};
 use ppd_model::Logging;
@@ -10,7 +10,7 @@ use std::alloc::Global;
 
 /// What becomes of the cells that a process accessed since its last synchronization.
 #[derive(Drop)]
-pub(crate) enum Note {
+pub enum Note {
     /// They stay.
     Nothing,
     /// These are read now.
@@ -82,7 +82,7 @@ fn note_write(alloc: Global, logging: &Logging, cell: u16) -> Result<Note, Memor
 }
 
 /// What becomes of the accessed cells at a step of this need. `Memory` is want of memory.
-pub(crate) fn note_of(alloc: Global, logging: &Logging, need: Need) -> Result<Note, Memory>
+pub fn note_of(alloc: Global, logging: &Logging, need: Need) -> Result<Note, Memory>
     ensures { IfOk result (λ note. noted note logging.now ≡ with_access need logging.now) }
 {
     match need {
@@ -99,7 +99,7 @@ pub(crate) fn note_of(alloc: Global, logging: &Logging, need: Need) -> Result<No
 }
 
 /// Does what the note says.
-pub(crate) fn apply(note: Note, logging: &mut Logging)
+pub fn apply(note: Note, logging: &mut Logging)
     ensures { logging.new ≡ noted note logging.old }
 {
     match note {

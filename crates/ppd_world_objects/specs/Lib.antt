@@ -1,0 +1,2 @@
+-- Semaphores and channels as a step changes them.
+pub mod Objects
