@@ -1,5 +1,5 @@
 -- The parts of a step of a world.
-use Rattle.std.specs.Prelude.{◌+◌, ◌<◌, ◌^◌, ℤ, List, [], ◌++◌, map, slice_set, Option, Some, None}
+use Rattle.std.specs.Prelude.{◌+◌, ◌-◌, ◌<◌, ◌^◌, ℤ, List, [], ◌++◌, length, map, take, slice_set, Option, Some, None}
 use Rattle.std.specs.List.{All}
 use Rattle.ppd_ast.specs.declared.plan.Plan.{Plan}
 use Rattle.ppd_ast.specs.declared.program.Program.{Program}
@@ -15,10 +15,15 @@ use Rattle.ppd_model.specs.declared.state.Logging.{Logging}
 use Rattle.ppd_model.specs.Logs.{rest_after}
 use Rattle.ppd_model.specs.World.{World, change, one_taken, one_given, with_value, one_received, one_completed}
 use Rattle.ppd_world_entries.specs.declared.note.Note.{Note}
-use Rattle.ppd_world_objects.specs.Objects.{IsSmallChan, IsSmallSem, without_last}
+use Rattle.ppd_world_objects.specs.Objects.{IsSmallChan, IsSmallSem}
 use Rattle.ppd_world_entries.specs.Entries.{noted}
 
 -- ---- bounds
+
+-- one more can be received within 32 bits
+pub record IsReceivable (x : Channel) : Type 0 where
+  pub received : x.received + 1 < 2 ^ 32
+  pub completed : x.completed + 1 < 2 ^ 32
 
 -- a process of the program, and one more step can be counted within 32 bits
 pub record IsSmallLogging (program : Program) (l : Logging) : Type 0 where
@@ -63,6 +68,10 @@ abbrev pub sems_after : List Counts → Need → List Counts
 sems_after sems (P s u) = change one_taken s sems
 sems_after sems (V s u) = change one_given s sems
 sems_after sems need = sems
+
+-- a channel without what was sent last
+abbrev pub without_last : Channel → Channel
+without_last x = record x { sent = take (length x.sent - 1) x.sent }
 
 -- the channels with what a step of this need sends
 abbrev pub sent_after : List Channel → Need → List Channel

@@ -4,6 +4,7 @@
 mod closing;
 mod logging;
 mod needs;
+mod objects;
 mod starting;
 mod stepping;
 mod store;

@@ -12,7 +12,8 @@ use ppd_ast::{Memory, Seq};
 use ppd_entry::Entry;
 use ppd_model::{Logging, Taken};
 use ppd_sem::{Need, Proc, look, meet};
-use ppd_world_entries::{Code, Note, apply, entries_of, note_of};
+use ppd_world_appends::Code;
+use ppd_world_entries::{Note, apply, entries_of, note_of};
 
 /// The steps since the last one that wrote an entry, after a step that wrote these.
 fn rest_of(rest: u32, new: &[Entry]) -> u32

@@ -14,7 +14,7 @@ use crate::store::Store;
 use ppd_ast::Memory;
 use ppd_model::{Logging, Taken};
 use ppd_sem::Need;
-use ppd_world_entries::Code;
+use ppd_world_appends::Code;
 
 /// A step of this need, without the writer of what it reads.
 pub(crate) fn next_step(store: &Store, need: Need) -> Taken

@@ -2,16 +2,14 @@ ghost use Rattle.std.specs.Prelude.{◌≡◌, OnOk, OnErr};
 ghost use Rattle.std.specs.List.{All};
 ghost use Rattle.ppd_model.specs.Story.{number_of as number_of_need};
 ghost use Rattle.ppd_model.specs.World.{answer as answer_of, can};
-ghost use Rattle.ppd_world.specs.Parts.{finished, sent, unsent};
-ghost use Rattle.ppd_world_objects.specs.Objects.{IsReceivable, IsSmallChan, IsSmallSem};
+ghost use Rattle.ppd_world.specs.Parts.{finished, sent, unsent, IsReceivable};
+ghost use Rattle.ppd_world_objects.specs.Objects.{IsSmallChan, IsSmallSem};
 
+use crate::objects::{complete, drop_last, give, push_value, receive, take};
 use ppd_ast::{Memory, Nums};
 use ppd_model::{Channel, Counts, value_at};
 use ppd_sem::{Answer, Need};
-use ppd_world_objects::{
-    can_complete, can_receive, can_send, can_take, complete, drop_last, give, next_value,
-    number_of, push_value, receive, take,
-};
+use ppd_world_objects::{can_complete, can_receive, can_send, can_take, next_value, number_of};
 use std::marker::Model;
 
 /// The shared cells, semaphores and channels of a run: its world without the processes.

@@ -1,2 +1,2 @@
--- Semaphores and channels as a step changes them.
+-- Semaphores and channels as a step finds them.
 pub mod Objects

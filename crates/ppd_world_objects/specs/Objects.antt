@@ -1,5 +1,5 @@
--- Semaphores and channels as a step changes them.
-use Rattle.std.specs.Prelude.{◌+◌, ◌-◌, ◌<◌, ◌^◌, ℤ, List, [], length, take}
+-- Semaphores and channels as a step finds them.
+use Rattle.std.specs.Prelude.{◌+◌, ◌<◌, ◌^◌, ℤ, List, [], length}
 use Rattle.ppd_model.specs.declared.state.Channel.{Channel}
 use Rattle.ppd_model.specs.declared.state.Counts.{Counts}
 use Rattle.ppd_model.specs.World.{World}
@@ -8,11 +8,6 @@ use Rattle.ppd_model.specs.World.{World}
 pub record IsSmallSem (x : Counts) : Type 0 where
   pub given : x.given + 1 < 2 ^ 32
   pub taken : x.taken + 1 < 2 ^ 32
-
--- one more can be received within 32 bits
-pub record IsReceivable (x : Channel) : Type 0 where
-  pub received : x.received + 1 < 2 ^ 32
-  pub completed : x.completed + 1 < 2 ^ 32
 
 -- one more can be sent and received within 32 bits
 pub record IsSmallChan (x : Channel) : Type 0 where
@@ -23,7 +18,3 @@ pub record IsSmallChan (x : Channel) : Type 0 where
 -- a shared state without processes
 abbrev pub store : List ℤ → List Counts → List Channel → World
 store shared sems chans = record { shared = shared; sems = sems; chans = chans; procs = [] }
-
--- a channel without what was sent last
-abbrev pub without_last : Channel → Channel
-without_last x = record x { sent = take (length x.sent - 1) x.sent }
