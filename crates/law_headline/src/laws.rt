@@ -1,4 +1,5 @@
-ghost use Rattle.law_headline.specs.Calls.{AcceptedProgramsAreTold, DebugTellsOfRuns, FlowTellsOfRuns, RecordedRunsAreTold, RunTellsOfRuns, SourcesAreRecorded};
+ghost use Rattle.law_headline.specs.Calls.{AcceptedProgramsAreTold, DebugTellsOfRuns, FlowTellsOfRuns};
+ghost use Rattle.law_headline.specs.Calls.{RecordedRunsAreTold, RunTellsOfRuns, SourcesAreRecorded};
 ghost use Rattle.law_headline.specs.OfRuns.{RunsHaveTheHeadline};
 
 use law_agreement::agreeing_schedules;

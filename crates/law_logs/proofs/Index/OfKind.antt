@@ -10,7 +10,8 @@ use Rattle.ppd_ast.specs.declared.plan.BlockKind.TheVariants as block
 use Rattle.ppd_ast.specs.declared.plan.Plan.{Plan}
 use Rattle.ppd_ast.specs.declared.plan.Policy.{Policy}
 use Rattle.ppd_ast.specs.declared.program.Program.{Program}
-use Rattle.ppd_blocks.specs.Blocks.{plan_of, postlog_of, prelog_of, block_of as block_from}
+use Rattle.ppd_blocks.specs.Blocks.{plan_of, postlog_of, prelog_of}
+use Rattle.ppd_blocks.specs.Blocks.{block_of as block_from}
 use Rattle.ppd_sem.specs.Tables.{block_of, or_zero}
 use Rattle.law_steps.specs.OpenBlocks.Stack.{process_block}
 use Rattle.law_steps.proofs.OpenBlocks.Planned.{block_there, process_found}
