@@ -38,7 +38,7 @@ HEADLINE = [
             ("ppd_model/specs/World.antt", "step", "World::step"),
             ("ppd_model/specs/Schedule.antt", "run", "World::drive"),
             ("ppd_model/specs/Schedule.antt", "IsWhole", "run of ppd_run"),
-            ("ppd_top/specs/Top.antt", "IsWholeRun", "ppd"),
+            ("ppd_top_runs/specs/Commands.antt", "IsWholeRun", "ppd"),
         ],
     ),
     (

@@ -7,7 +7,8 @@ use Rattle.std.proofs.lemmas.List.{take-append-drop}
 use Rattle.ppd_codec.specs.declared.bad.BadBytes.{BadBytes}
 use Rattle.ppd_codec.specs.declared.bad.BadBytes.TheVariants as bad
 use Rattle.ppd_codec.specs.Reader.{Got, Reader, after, as_a, both, done, field, next, several}
-use Rattle.ppd_codec.specs.Form.{Along, Form, IsLawfulIn, block, bytes_in, coded, listed, listed_along, named, one_of, only, pair, ranged, tagged}
+use Rattle.ppd_codec.specs.Form.{Along, Form, IsLawfulIn, block, bytes_in, listed, listed_along, named, one_of, only, pair, ranged, tagged}
+use Rattle.ppd_codec_fields.specs.Fields.{coded}
 use Rattle.ppd_codec.proofs.Inverts.{AreBytes, Inverts, Wrote, checked_inverts, done_inverts, got, kept_inverts, next_inverts, ok_is}
 use Rattle.ppd_codec.proofs.Widths.{drop_front, length_take, take_front}
 

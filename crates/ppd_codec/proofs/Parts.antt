@@ -9,10 +9,11 @@ use Rattle.ppd_entry.specs.declared.entry.Entry.TheVariants as entry
 use Rattle.ppd_codec.specs.declared.bad.Field.TheVariants as F
 use Rattle.ppd_codec.specs.declared.bad.BadBytes.TheVariants as bad
 use Rattle.ppd_codec.specs.declared.facts.Facts.{Facts}
-use Rattle.ppd_codec.specs.declared.tag.Tag.{Tag}
-use Rattle.ppd_codec.specs.declared.tag.Tag.TheVariants as T
+use Rattle.ppd_codec_fields.specs.declared.tag.Tag.{Tag}
+use Rattle.ppd_codec_fields.specs.declared.tag.Tag.TheVariants as T
 use Rattle.ppd_codec.specs.Form.{byte, first, number_2, number_4, value, value_bytes, value_of}
-use Rattle.ppd_codec.specs.Format.{End, Sync, an_entry, back, budget, cells, end_entry_of, end_parts, end_status, ended, front, is_next, kind_code, kinds, leaf, log, logs, loops, magic, magic_code, numbered, out_of, past, postlog_of, postlog_parts, prelog_of, prelog_parts, process_count, recording, row, source, source_length, status_code, statuses, sync_kind, sync_number, sync_of, sync_parts, sync_value, synced, tag, tag_code, tag_of, tags, unit_of, unit_parts, values, version}
+use Rattle.ppd_codec.specs.Format.{End, Sync, an_entry, back, budget, cells, end_entry_of, end_parts, end_status, ended, front, leaf, log, logs, loops, magic, magic_code, numbered, out_of, past, postlog_of, postlog_parts, prelog_of, prelog_parts, process_count, recording, row, source, source_length, sync_kind, sync_number, sync_of, sync_parts, sync_value, synced, tag, tag_of, unit_of, unit_parts, values, version}
+use Rattle.ppd_codec_fields.specs.Fields.{is_next, kind_code, kinds, status_code, statuses, tag_code, tags}
 use Rattle.ppd_codec.proofs.Widths.{IsWidth, bound_8, byte_at, field_inverts, width_1, width_2, width_4}
 use Rattle.ppd_codec.proofs.Built.{Holds, block_holds, listed_along_holds, listed_holds, named_holds, one_of_holds, only_holds, pair_holds, ranged_holds, tagged_holds}
 

@@ -1,10 +1,11 @@
 -- The form of a part of a recording, from which three things follow: which values are lawful, how each is spelled, and
 -- how bytes are read. A form is built of fields by the words below.
-use Rattle.std.specs.Prelude.{◌≡◌, ℕ, ◌<◌, ◌^◌, nat_eq, ℤ, Bool, true, List, [], ◌∷◌, ◌++◌, length, get_or, Option, Some, None, if◌then◌else◌, ⊤, FitsSigned}
+use Rattle.std.specs.Prelude.{◌≡◌, ℕ, ◌<◌, ◌^◌, ℤ, Bool, true, List, [], ◌∷◌, ◌++◌, length, get_or, Option, Some, None, if◌then◌else◌, ⊤, FitsSigned}
 use Rattle.std.specs.Int.{cast_signed, cast_unsigned, w16, w32, w64, to_be_bytes, from_be_bytes}
 use Rattle.std.specs.List.{AllByRecursion, flat_map}
 use Rattle.ppd_codec.specs.declared.bad.BadBytes.{BadBytes}
 use Rattle.ppd_codec.specs.Reader.{Reader, as_a, both, checked, field, kept, next, refuse, several}
+use Rattle.ppd_codec_fields.specs.Fields.{coded}
 
 pub record Form (A : Type 0) : Type 1 where
   pub Lawful : A → Type 0
@@ -44,11 +45,6 @@ ranged bad test f = record {
   bytes = f.bytes;
   read = checked (kept test) bad f.read;
 }
-
--- the first of these that has the code
-abbrev pub coded : {A : Type 0} → (A → ℕ) → List A → ℕ → Option A
-coded code [] n = None
-coded code (x ∷ xs) n = if nat_eq (code x) n then Some x else coded code xs n
 
 -- one of these, by its code
 abbrev pub one_of : {A : Type 0} → (ℕ → BadBytes) → (A → ℕ) → List A → Form ℕ → Form A

@@ -1,11 +1,8 @@
 -- The form of a recording: its fields in order, and what is lawful in each.
-use Rattle.std.specs.Prelude.{ℕ, zero, ◌+◌, nat_eq, nat_le, nat_lt, ℤ, pos, Bool, true, false, ◌&&◌, List, [], ◌∷◌, Option, Some, None, if◌then◌else◌, ⊤}
+use Rattle.std.specs.Prelude.{ℕ, ◌+◌, nat_eq, nat_le, ℤ, Bool, ◌&&◌, List, [], ◌∷◌, Option, Some, None, ⊤}
 use Rattle.ppd_ast.specs.declared.limits.TheConstants.{MOST_BUDGET, MOST_POLICY, MOST_SOURCE_BYTES}
 use Rattle.ppd_ast.specs.declared.status.Status.{Status}
-use Rattle.ppd_ast.specs.declared.status.Status.TheVariants as status
 use Rattle.ppd_ast.specs.declared.status.SyncKind.{SyncKind}
-use Rattle.ppd_ast.specs.declared.status.SyncKind.TheVariants as kind
-use Rattle.ppd_ast.specs.declared.status.Trap.TheVariants as trap
 use Rattle.ppd_entry.specs.declared.entry.Entry.{Entry}
 use Rattle.ppd_entry.specs.declared.entry.Entry.TheVariants as entry
 use Rattle.ppd_codec.specs.declared.bad.BadBytes.{BadBytes}
@@ -13,9 +10,10 @@ use Rattle.ppd_codec.specs.declared.bad.BadBytes.TheVariants as bad
 use Rattle.ppd_codec.specs.declared.bad.Field.{Field}
 use Rattle.ppd_codec.specs.declared.bad.Field.TheVariants as F
 use Rattle.ppd_codec.specs.declared.facts.Facts.{Facts}
-use Rattle.ppd_codec.specs.declared.tag.Tag.{Tag}
-use Rattle.ppd_codec.specs.declared.tag.Tag.TheVariants as T
+use Rattle.ppd_codec_fields.specs.declared.tag.Tag.{Tag}
+use Rattle.ppd_codec_fields.specs.declared.tag.Tag.TheVariants as T
 use Rattle.ppd_codec.specs.Form.{Form, block, byte, listed, listed_along, named, number_2, number_4, one_of, only, pair, ranged, tagged, value}
+use Rattle.ppd_codec_fields.specs.Fields.{fits_kind, is_next, kind_code, kinds, status_code, statuses, tag_code, tags}
 
 abbrev pub out_of : Field → ℕ → BadBytes
 out_of f at = bad.Range at f
@@ -66,10 +64,6 @@ front = pair magic (λ m. pair version (λ v. pair budget (λ b. pair leaf (λ l
 abbrev pub values : Form (List ℤ)
 values = listed number_2 value
 
--- a cell is at least `low` and below the count of shared cells
-abbrev pub is_next : ℕ → ℕ → ℕ → Bool
-is_next shared low c = nat_le low c && nat_lt c shared
-
 abbrev pub past : ℕ → ℕ
 past c = c + 1
 
@@ -86,35 +80,11 @@ cells shared = listed_along number_2 (out_of F.Cells) (is_next shared) past 0 nu
 abbrev pub numbered : Form (ℕ × List ℤ)
 numbered = pair number_2 (λ b. values)
 
-abbrev pub kind_code : SyncKind → ℕ
-kind_code kind.P = 1
-kind_code kind.V = 2
-kind_code kind.Send = 3
-kind_code kind.Recv = 4
-kind_code kind.Done = 5
-
--- the kinds of version 1, and of version 2
-abbrev pub kinds : ℕ → List SyncKind
-kinds v = if nat_eq v 2 then kind.P ∷ kind.V ∷ kind.Send ∷ kind.Recv ∷ kind.Done ∷ []
-    else kind.P ∷ kind.V ∷ kind.Send ∷ kind.Recv ∷ []
-
 abbrev pub sync_kind : ℕ → Form SyncKind
 sync_kind v = one_of (out_of F.Kind) kind_code (kinds v) byte
 
 abbrev pub sync_number : Form ℕ
 sync_number = ranged (out_of F.Number) (λ n. nat_le 1 n) number_4
-
-abbrev pub is_zero : ℤ → Bool
-is_zero (pos zero) = true
-is_zero v = false
-
--- 0 but for what is sent and received
-abbrev pub fits_kind : SyncKind → ℤ → Bool
-fits_kind kind.P v = is_zero v
-fits_kind kind.V v = is_zero v
-fits_kind kind.Send v = true
-fits_kind kind.Recv v = true
-fits_kind kind.Done v = is_zero v
 
 abbrev pub sync_value : SyncKind → Form ℤ
 sync_value k = ranged (out_of F.Value) (fits_kind k) value
@@ -128,20 +98,6 @@ synced f = pair (sync_kind f.version)
     (λ k. pair byte
     (λ o. pair sync_number (λ n. pair (sync_value k) (λ v. pair (cells f.shared) (λ r. cells f.shared)))))
 
-abbrev pub status_code : Status → ℕ
-status_code status.Ended = 0
-status_code (status.Trap trap.Overflow) = 1
-status_code (status.Trap trap.Zero) = 2
-status_code (status.Trap trap.Index) = 3
-status_code (status.Trap trap.Assert) = 4
-status_code (status.Trap trap.Depth) = 5
-status_code status.Budget = 6
-status_code status.Blocked = 7
-
-abbrev pub statuses : List Status
-statuses = status.Ended ∷ status.Trap trap.Overflow ∷ status.Trap trap.Zero ∷ status.Trap trap.Index
-    ∷ status.Trap trap.Assert ∷ status.Trap trap.Depth ∷ status.Budget ∷ status.Blocked ∷ []
-
 abbrev pub end_status : Form Status
 end_status = one_of (out_of F.Status) status_code statuses byte
 
@@ -151,16 +107,6 @@ End = Status × (ℕ × (List ℕ × List ℕ))
 
 abbrev pub ended : Facts → Form End
 ended f = pair end_status (λ s. pair number_4 (λ n. pair (cells f.shared) (λ r. cells f.shared)))
-
-abbrev pub tag_code : Tag → ℕ
-tag_code T.Prelog = 1
-tag_code T.Unit = 2
-tag_code T.Sync = 3
-tag_code T.Postlog = 4
-tag_code T.End = 5
-
-abbrev pub tags : List Tag
-tags = T.Prelog ∷ T.Unit ∷ T.Sync ∷ T.Postlog ∷ T.End ∷ []
 
 abbrev pub tag : Form Tag
 tag = one_of (out_of F.Tag) tag_code tags byte

@@ -1,14 +1,13 @@
 ghost use Rattle.std.specs.Prelude.{◌≡◌, ◌≢◌, ◌≤◌, Some, None, IfErr, IfOk, if◌then◌else◌};
 ghost use Rattle.ppd_codec.specs.Came.{AnswersAs};
-ghost use Rattle.ppd_codec.specs.Form.{coded};
-ghost use Rattle.ppd_codec.specs.Format.{budget as budget_form, magic as magic_form, policy_number as policy_number_form, version as version_form, source_length as source_length_form, process_count as process_count_form, tag as tag_form, tags, tag_code, sync_kind as sync_kind_form, sync_number as sync_number_form, sync_value as sync_value_form, end_status, cell as cell_form, is_next as is_next_of, fits_kind as fits_kind_of, kinds, kind_code, statuses, status_code};
+ghost use Rattle.ppd_codec.specs.Format.{budget as budget_form, magic as magic_form, policy_number as policy_number_form, version as version_form, source_length as source_length_form, process_count as process_count_form, tag as tag_form, sync_kind as sync_kind_form, sync_number as sync_number_form, sync_value as sync_value_form, end_status, cell as cell_form};
 
 use crate::bad::{BadBytes, Field};
 use crate::cursor::Cursor;
 use crate::facts::Facts;
-use crate::tag::Tag;
 use ppd_ast::limits::{MOST_BUDGET, MOST_POLICY, MOST_SOURCE_BYTES};
-use ppd_ast::{Status, Steps, SyncKind, Trap};
+use ppd_ast::{Status, Steps, SyncKind};
+use ppd_codec_fields::{Tag, fits_kind, is_next, kind_at, status_at, tag_at};
 use std::sync::ledger::Ledger;
 
 // The value of a field that passes its test.
@@ -153,61 +152,4 @@ impl<'a> Cursor<'a> {
         let found = self.number_2(steps)?;
         kept(found, is_next(shared, low, found)).ok_or(BadBytes::Range(at, Field::Cells))
     }
-}
-
-fn tag_at(byte: u8) -> Option<Tag>
-    ensures { result ≡ coded tag_code tags byte }
-{
-    match byte {
-        1 => Some(Tag::Prelog),
-        2 => Some(Tag::Unit),
-        3 => Some(Tag::Sync),
-        4 => Some(Tag::Postlog),
-        5 => Some(Tag::End),
-        _ => None,
-    }
-}
-
-fn kind_at(version: u8, byte: u8) -> Option<SyncKind>
-    ensures { result ≡ coded kind_code (kinds version) byte }
-{
-    match byte {
-        1 => Some(SyncKind::P),
-        2 => Some(SyncKind::V),
-        3 => Some(SyncKind::Send),
-        4 => Some(SyncKind::Recv),
-        5 if version == 2 => Some(SyncKind::Done),
-        _ => None,
-    }
-}
-
-fn status_at(byte: u8) -> Option<Status>
-    ensures { result ≡ coded status_code statuses byte }
-{
-    match byte {
-        0 => Some(Status::Ended),
-        1 => Some(Status::Trap(Trap::Overflow)),
-        2 => Some(Status::Trap(Trap::Zero)),
-        3 => Some(Status::Trap(Trap::Index)),
-        4 => Some(Status::Trap(Trap::Assert)),
-        5 => Some(Status::Trap(Trap::Depth)),
-        6 => Some(Status::Budget),
-        7 => Some(Status::Blocked),
-        _ => None,
-    }
-}
-
-fn fits_kind(kind: SyncKind, value: i64) -> bool
-    ensures { result ≡ fits_kind_of kind value }
-{
-    match kind {
-        SyncKind::P | SyncKind::V | SyncKind::Done => value == 0,
-        SyncKind::Send | SyncKind::Recv => true,
-    }
-}
-
-fn is_next(shared: u32, low: u32, cell: u16) -> bool
-    ensures { result ≡ is_next_of shared low cell }
-{
-    low <= u32::from(cell) && u32::from(cell) < shared
 }

@@ -12,7 +12,6 @@ mod front;
 mod laws;
 mod lists;
 mod recording;
-mod tag;
 mod writer;
 mod written;
 

@@ -3,7 +3,8 @@ ghost use Rattle.std.specs.List.{All};
 ghost use Rattle.ppd_codec.specs.Counted.{IsCounted, IsCountedLog};
 ghost use Rattle.ppd_codec.specs.declared.facts.Facts.{Facts};
 ghost use Rattle.ppd_codec.specs.Form.{byte as byte_form, number_2 as number_2_form};
-ghost use Rattle.ppd_codec.specs.Format.{values as values_form, cells as cells_form, kind_code as kind_code_of, status_code as status_code_of, an_entry, log as log_form, logs as logs_form};
+ghost use Rattle.ppd_codec.specs.Format.{values as values_form, cells as cells_form, an_entry, log as log_form, logs as logs_form};
+ghost use Rattle.ppd_codec_fields.specs.Fields.{kind_code as kind_code_of, status_code as status_code_of};
 
 use crate::writer::Writer;
 use ppd_ast::{Memory, Seq, Status, Steps, SyncKind, Trap};

@@ -7,7 +7,8 @@ use Rattle.ppd_ast.specs.declared.program.Program.{Program}
 use Rattle.ppd_ast.specs.Members.{has}
 use Rattle.ppd_codec.specs.declared.recording.Header.{Header}
 use Rattle.ppd_codec.specs.Form.{Along}
-use Rattle.ppd_codec.specs.Format.{an_entry, is_next, log, past}
+use Rattle.ppd_codec.specs.Format.{an_entry, log, past}
+use Rattle.ppd_codec_fields.specs.Fields.{is_next}
 use Rattle.ppd_codec.specs.Recordings.{IsLawfulBy, facts_of}
 use Rattle.ppd_entry.specs.declared.entry.Entry.{Entry}
 use Rattle.ppd_entry.specs.declared.entry.Entry.TheVariants as entry

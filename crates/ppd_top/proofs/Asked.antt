@@ -3,8 +3,7 @@ use Rattle.std.specs.Prelude.{Option, Some, option_map}
 use Rattle.std.proofs.Common.{◌≡◌, ℕ, List, sym, ◌∙◌, ap}
 use Rattle.ppd_top_words.specs.Words.{Text}
 use Rattle.ppd_top.specs.declared.words.Request.{Request as GivenRequest}
-use Rattle.ppd_top.specs.declared.words.Request.TheVariants.{Source, Recording, Drill}
-use Rattle.ppd_top.specs.declared.words.Request.TheVariants.{Query as query}
+use Rattle.ppd_top.specs.declared.words.Request.TheVariants.{Source, Recording, Drill, Query as query}
 use Rattle.ppd_top_query.specs.declared.query.Query.{Query as GivenQuery}
 use Rattle.ppd_top_query.specs.Queries.{query_of}
 use Rattle.ppd_top.specs.declared.words.SourceRequest.{SourceRequest}

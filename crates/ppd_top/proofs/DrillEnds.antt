@@ -13,21 +13,22 @@ use Rattle.ppd_top_drill.specs.Drills.{generated}
 use Rattle.ppd_io.specs.Causes.{Rose}
 use Rattle.ppd_io.specs.Content.{Appends, AppendsPart}
 use Rattle.ppd_io.specs.Lines.{lines_of}
-use Rattle.ppd_top.specs.declared.options.Options.{Options}
-use Rattle.ppd_top.specs.Output.{AppendsFront, Standing, Talks, answers}
-use Rattle.ppd_top.specs.Output.Talks.{whole, unread, unwritten, unfinished}
-use Rattle.ppd_top.specs.Ran.{Drilled, Drills, Flows, Refuses}
+use Rattle.ppd_top_telling.specs.declared.options.Options.{Options}
+use Rattle.ppd_top_debug.specs.Output.{AppendsFront, Standing, Talks, answers, Finished}
+use Rattle.ppd_top_debug.specs.Output.Talks.{whole, unread, unwritten, unfinished}
+use Rattle.ppd_top.specs.Ran.{Drilled, Drills, Refuses}
+use Rattle.ppd_top_runs.specs.Commands.{Flows, known_of, summary_of_run}
 use Rattle.ppd_top.specs.Ran.Drilled.{no_program, drilled}
 use Rattle.ppd_top.specs.Call.{Call, LeftInput}
 use Rattle.ppd_top.specs.Clauses.{DrillCutOff, IsPromisedDrill, MemoryRanOut, WasDrilled, WriteFailed}
-use Rattle.ppd_top.specs.Top.{Finished, drill_commands, drill_options, drill_out, known_of, summary_of_run}
+use Rattle.ppd_top.specs.Top.{drill_commands, drill_options, drill_out}
 use Rattle.ppd_top.specs.Top.Answers.{run}
 use Rattle.ppd_top.specs.Top.Writes.{for_number}
 use Rattle.ppd_top_words.specs.Reads.{texts_in}
 use Rattle.ppd_top.specs.Words.{Asks, AsksDebug, AsksDrill, Command, IsNotAsked, asked}
 use Rattle.ppd_top.specs.Words.Request.{on_source, on_recording, on_number}
 use Rattle.ppd_top.proofs.Agreeing.{of_agreeing}
-use Rattle.ppd_top.proofs.Conversing.{same_input}
+use Rattle.ppd_top_debug.proofs.Conversing.{same_input}
 use Rattle.ppd_top.proofs.Outcomes.{no_failure, one_request}
 use Rattle.ppd_top.proofs.Statuses.{IsIn, other_than}
 use Rattle.ppd_top.proofs.Talked.{fine_end, same_commands}

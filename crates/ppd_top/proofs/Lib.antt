@@ -1,7 +1,5 @@
 pub mod Agreeing
 pub mod Asked
-pub mod Split
-pub mod Conversing
 pub mod Comes
 pub mod Followed
 pub mod Talked
@@ -9,11 +7,9 @@ pub mod Told
 pub mod Statuses
 pub mod Outcomes
 pub mod Recorded
-pub mod StoredRuns
 pub mod Debugged
 pub mod DrillEnds
 pub mod Queried
 pub mod Unloaded
 pub mod Inputs
 pub mod Clauses
-pub mod Printed

@@ -11,13 +11,14 @@ use Rattle.ppd_check.proofs.Excluded.{read_or_refused}
 use Rattle.ppd_text_tables.specs.Table.{table_of}
 use Rattle.ppd_session.specs.Texts.{failure_of}
 use Rattle.ppd_session.proofs.Answered.{run_answered}
-use Rattle.ppd_top.specs.declared.options.Options.{Options}
-use Rattle.ppd_top.specs.Output.{AreCommands, Standing, output}
-use Rattle.ppd_top.specs.Ran.{Flows, Refuses, Shows, WasTold}
+use Rattle.ppd_top_telling.specs.declared.options.Options.{Options}
+use Rattle.ppd_top_debug.specs.Output.{AreCommands, Standing, output, Finished}
+use Rattle.ppd_top.specs.Ran.{Refuses}
+use Rattle.ppd_top_runs.specs.Commands.{Flows, Shows, WasTold, known_of, plan_of, summary_of_run}
 use Rattle.ppd_text_refusals.specs.Sources.{refused}
 use Rattle.ppd_top.specs.Call.{Call, LeftInput}
 use Rattle.ppd_top.specs.Clauses.{InputFailed, IsPromised, MemoryRanOut, RanWhole, WasCutOff, WasRead, WasRefused, WasShown, WriteFailed}
-use Rattle.ppd_top.specs.Top.{Answers, most_bytes, known_of, out_of, plan_of, summary_of_run, Writes, Finished}
+use Rattle.ppd_top.specs.Top.{Answers, most_bytes, out_of, Writes}
 use Rattle.ppd_top.specs.Top.Answers.{refusal, run, tables}
 use Rattle.ppd_top.specs.Top.Writes.{for_source}
 use Rattle.ppd_top_words.specs.Reads.{texts_in}
@@ -25,7 +26,7 @@ use Rattle.ppd_top.specs.Words.{Asks, AsksDebug, Command, IsNotAsked, Request, a
 use Rattle.ppd_top.specs.Words.Command.{Flow, Run, Show}
 use Rattle.ppd_top.specs.Words.Request.{on_source, on_recording}
 use Rattle.ppd_top.proofs.Agreeing.{of_agreeing}
-use Rattle.ppd_top.proofs.Conversing.{same_input}
+use Rattle.ppd_top_debug.proofs.Conversing.{same_input}
 use Rattle.ppd_top.proofs.Statuses.{IsIn, any_in, but_six, other_than}
 use Rattle.ppd_top.proofs.Talked.{IsEnd, talks_any, talks_broken, talks_cut_off, talks_fine, talks_not_refused, talks_unwritten, talks_whole}
 

@@ -2,27 +2,16 @@
 use Rattle.std.specs.Prelude.{Option, Some, None, ◌⊎◌, true, false, nat_le, nat_lt, codes, if◌then◌else◌}
 use Rattle.std.proofs.Common.{◌≡◌, ℕ, ◌+◌, List, [], ◌∷◌, ◌++◌, length, Bool, arith, inl, inr, refl, subst, sym, ◌∙◌, ap}
 use Rattle.std.proofs.lemmas.Bool.{lt-leb, le-ltb}
-use Rattle.ppd_ast.specs.Valid.{IsValid}
 use Rattle.ppd_ast.specs.declared.limits.TheConstants.{MOST_INPUT_LINES, MOST_LINE_BYTES}
-use Rattle.ppd_ast.specs.declared.plan.Plan.{Plan}
-use Rattle.ppd_ast.specs.declared.program.Program.{Program}
 use Rattle.ppd_io.specs.Causes.{Rose}
 use Rattle.ppd_io.specs.Content.{Appends, AppendsPart}
 use Rattle.ppd_io.specs.Lines.{lines_of}
-use Rattle.ppd_model.specs.declared.closed.Closed.{Closed}
-use Rattle.ppd_model.specs.Logs.{close}
-use Rattle.ppd_race.specs.Races.{races_of_logs}
-use Rattle.ppd_race.proofs.OfRuns.{of_runs}
-use Rattle.ppd_session.specs.Known.{Known, known_of_logs}
+use Rattle.ppd_session.specs.Known.{Known}
 use Rattle.ppd_session.specs.Questions.{is_quit}
 use Rattle.ppd_session.specs.Sessions.{FlowError}
 use Rattle.ppd_session.specs.Texts.{failure_of, text_of}
-use Rattle.ppd_session.proofs.Honest.{known_as}
-use Rattle.ppd_top.specs.declared.options.Options.{Options}
-use Rattle.ppd_top.specs.Output.{AppendsFront, AreCommands, AreFine, IsBroken, IsReadNoFurther, Standing, Talks, answered, answers, answers_from, before, output}
-use Rattle.ppd_top.specs.Output.Talks.{whole, unread, unwritten, unfinished}
-use Rattle.ppd_top.specs.Summary.{summary_of}
-use Rattle.ppd_top.specs.Top.{IsWholeRun, known_of, plan_of, summary_of_run}
+use Rattle.ppd_top_debug.specs.Output.{AppendsFront, AreCommands, AreFine, IsBroken, IsReadNoFurther, Standing, Talks, answered, answers, answers_from, before, output}
+use Rattle.ppd_top_debug.specs.Output.Talks.{whole, unread, unwritten, unfinished}
 
 -- ---- statuses of answers
 
@@ -175,26 +164,3 @@ talks_not_refused x none head a b status (whole commands told further written) e
 talks_not_refused x none head a b status (unread broken) e = omega arith
 talks_not_refused x none head a b status (unwritten commands told rose part) e = omega arith
 talks_not_refused x none head a b status (unfinished commands told part) e = omega arith
-
--- ---- of a run, by its logs
-
-pub races_as : (program : Program) (options : Options) (closed : Closed) (h : List ℕ) → IsValid program → closed ≡ close program (plan_of program options) options.budget h → races_of_logs program closed.logs ≡ (known_of program options h).races
-races_as program options closed h valid is = ap (λ (c : Closed). races_of_logs program c.logs) is ∙ (of_runs program (plan_of program options) options.budget h valid).0
-
-pub known_from : (program : Program) (options : Options) (plan : Plan) (closed : Closed) (h : List ℕ) → IsValid program → plan ≡ plan_of program options → IsWholeRun program options h → closed ≡ close program (plan_of program options) options.budget h
-    → known_of_logs program plan options.budget closed.logs ≡ known_of program options h
-known_from program options plan closed h valid p w is =
-    ap (λ (q : Plan). known_of_logs program q options.budget closed.logs) p
-    ∙ (ap (λ (c : Closed). known_of_logs program (plan_of program options) options.budget c.logs) is ∙ known_as program options.policy options.budget h valid w)
-
-pub summary_from : (program : Program) (options : Options) (closed : Closed) (h : List ℕ) → IsValid program → closed ≡ close program (plan_of program options) options.budget h
-    → summary_of program closed.ends (races_of_logs program closed.logs) ≡ summary_of_run program options h
-summary_from program options closed h valid is =
-    ap (summary_of program closed.ends) (races_as program options closed h valid is)
-    ∙ ap (λ (c : Closed). summary_of program c.ends (known_of program options h).races) is
-
-pub talks_of_run : (program : Program) (options : Options) (plan : Plan) (closed : Closed) (h : List ℕ) (a b : Standing) (status : ℕ) → IsValid program → plan ≡ plan_of program options → IsWholeRun program options h → closed ≡ close program (plan_of program options) options.budget h
-    → Talks (known_of_logs program plan options.budget closed.logs) (summary_of program closed.ends (races_of_logs program closed.logs)) a b status → Talks (known_of program options h) (summary_of_run program options h) a b status
-talks_of_run program options plan closed h a b status valid p w is t =
-    subst (λ head. Talks (known_of program options h) head a b status) (summary_from program options closed h valid is)
-    (subst (λ (x : Known). Talks x (summary_of program closed.ends (races_of_logs program closed.logs)) a b status) (known_from program options plan closed h valid p w is) t)

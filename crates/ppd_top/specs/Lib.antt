@@ -1,11 +1,7 @@
 -- What the words ask for, and what is written for a source, its run and the commands.
-pub mod Asking
 pub mod Call
 pub mod Clauses
 pub mod Kept
-pub mod Output
 pub mod Ran
-pub mod Runs
-pub mod Summary
 pub mod Top
 pub mod Words

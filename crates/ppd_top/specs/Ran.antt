@@ -3,8 +3,7 @@ use Rattle.std.specs.Prelude.{◌≡◌, ◌≢◌, ◌⊎◌, ℕ, List, [], Op
 use Rattle.ppd_ast.specs.declared.program.Program.{Program}
 use Rattle.ppd_check.specs.Read.{IsRead, IsRefused}
 use Rattle.ppd_top_drill.specs.Drills.{generated}
-use Rattle.ppd_io.specs.Causes.{Rose}
-use Rattle.ppd_io.specs.Content.{Loads, StoreFails, Stores}
+use Rattle.ppd_io.specs.Content.{Loads}
 use Rattle.ppd_io.specs.declared.shelf.ShelfError.{ShelfError}
 use Rattle.ppd_io.specs.declared.shelf.ShelfError.TheVariants as shelf
 use Rattle.ppd_check.specs.declared.error.SourceError.{SourceError}
@@ -13,92 +12,22 @@ use Rattle.ppd_model.specs.declared.trace.DriveError.{DriveError}
 use Rattle.ppd_model.specs.declared.trace.DriveError.TheVariants as drive
 use Rattle.ppd_model.specs.declared.closed.Closed.{Closed}
 use Rattle.ppd_model.specs.Logs.{close}
-use Rattle.ppd_text_tables.specs.Table.{table_of}
-use Rattle.ppd_top.specs.declared.options.Options.{Options}
+use Rattle.ppd_top_telling.specs.declared.options.Options.{Options}
 use Rattle.ppd_top.specs.declared.following.FollowError.{FollowError}
 use Rattle.ppd_top.specs.declared.following.FollowError.TheVariants.{Refused, NotEnabled, NotWhole, LongLine, ManyLines, Memory}
 use Rattle.ppd_top.specs.Call.{Call, Devices, HasFailedLoad, LeftInput, LeftShelf}
-use Rattle.ppd_top.specs.Output.{AppendsFront, IsUnread, Standing, Talks, output}
+use Rattle.ppd_top_debug.specs.Output.{AppendsFront, output, Finished}
 use Rattle.ppd_text_refusals.specs.Sources.{refused}
-use Rattle.ppd_top.specs.Top.{EndsWith, Finished, IsStuckAt, IsUnfinished, IsWholeRun, drill_options, drill_out, known_of, most_bytes, out_of, plan_of, summary_of_run, usage, most_recording, IsRecordingOfRun}
+use Rattle.ppd_top.specs.Top.{EndsWith, IsStuckAt, IsUnfinished, drill_options, drill_out, most_bytes, out_of, usage, most_recording}
+use Rattle.ppd_top_runs.specs.Commands.{IsWholeRun, plan_of, DidNothing, Flows, Shows, Keeping, keeping, Records}
 use Rattle.ppd_top_query.specs.Queries.{Gives, Query}
 use Rattle.ppd_top.specs.Words.{Asks, AsksDebug, AsksDrill, AsksQuery, AsksRecording, Command, IsNotAsked}
 use Rattle.ppd_top.specs.Words.Command.{Flow, Run, Show}
 use Rattle.ppd_codec.specs.declared.recording.Recording.{Recording}
-use Rattle.ppd_codec_runs.specs.Recordings.{IsAccepted, IsRefusedBy, known_of as known_of_recording}
+use Rattle.ppd_codec_runs.specs.Recordings.{IsAccepted, IsRefusedBy}
+use Rattle.ppd_top_debug.specs.Debugging.{Debugs}
 
 -- ---- a command
-
--- nothing came to its end, and nothing was read or written
-pub record DidNothing (schedule : List ℕ) (a b : Standing) : Type 0 where
-  pub no_run : schedule ≡ []
-  pub unread : IsUnread a b
-  pub written : b.written ≡ a.written
-
--- a whole schedule was told
-pub record WasTold (program : Program) (options : Options) (schedule : List ℕ) (a b : Standing)
-    (status : ℕ) : Type 0 where
-  pub whole : IsWholeRun program options schedule
-  pub talks : Talks (known_of program options schedule) (summary_of_run program options schedule) a b status
-
--- what `flow` comes to for a program: want of memory before there was anything to write, or what it writes
-abbrev pub Flows : Program → Options → (schedule : List ℕ) → (a b : Standing) → (status : ℕ) → Type 0
-Flows program options schedule a b status =
-    ((status ≡ 5) × DidNothing schedule a b) ⊎ WasTold program options schedule a b status
-
--- the same of `show`
-abbrev pub Shows : Program → Options → (schedule : List ℕ) → (a b : Standing) → (status : ℕ) → Type 0
-Shows program options schedule a b status =
-    ((status ≡ 5) × DidNothing schedule a b)
-    ⊎ ((schedule ≡ []) × Finished a.written b.written a.writes b.writes status 0
-    (table_of program (plan_of program options)))
-
--- how a shelf and an output stand: what they are told to hold, and their counts of stores and writes that failed
-pub record Keeping : Type 0 where
-  pub held : Option (List ℕ → Option (List ℕ))
-  pub stores : List ℕ → ℕ
-  pub written : Option (List ℕ)
-  pub writes : ℕ
-
-abbrev pub keeping : Option (List ℕ → Option (List ℕ)) → (List ℕ → ℕ) → Option (List ℕ) → ℕ → Keeping
-keeping held stores written writes = record { held = held; stores = stores; written = written; writes = writes }
-
--- a recording was to be stored under a name, and then a summary written: memory ran out, and the shelf is as before, or
--- the store failed, and nothing was written; or the recording was stored
-pub data Keeps (IsRecording : List ℕ → Type 0) (name summary : List ℕ) (x y : Keeping) (status : ℕ) : Type 0 where
-  not_kept : status ≡ 5 → y.held ≡ x.held → y.written ≡ x.written
-      → Keeps IsRecording name summary x y status
-  store_failed : status ≡ 4 → Rose (x.stores name) (y.stores name) → StoreFails x.held y.held name
-      → y.written ≡ x.written → Keeps IsRecording name summary x y status
-  kept : (bytes : List ℕ) → IsRecording bytes → Stores x.held y.held name bytes → StoreFails x.held y.held name
-      → Finished x.written y.written x.writes y.writes status 0 summary → Keeps IsRecording name summary x y status
-
--- a whole schedule was recorded
-pub record WasRecorded (source : List ℕ) (program : Program) (options : Options) (name schedule : List ℕ)
-    (x y : Keeping) (status : ℕ) : Type 0 where
-  pub whole : IsWholeRun program options schedule
-  pub keeps : Keeps (IsRecordingOfRun source program options schedule) name
-      (summary_of_run program options schedule) x y status
-
--- nothing came to its end, and nothing was stored or written
-pub record KeptNothing (schedule : List ℕ) (x y : Keeping) : Type 0 where
-  pub no_run : schedule ≡ []
-  pub held : y.held ≡ x.held
-  pub stores : (n : List ℕ) → y.stores n ≡ x.stores n
-  pub written : y.written ≡ x.written
-
--- what `run` comes to for a program
-abbrev pub Records : (source : List ℕ) → Program → Options → (name schedule : List ℕ) → (x y : Keeping) → (status : ℕ)
-    → Type 0
-Records source program options name schedule x y status =
-    ((status ≡ 5) × KeptNothing schedule x y) ⊎ WasRecorded source program options name schedule x y status
-
--- what `debug` comes to for the bytes of a recording: want of memory, a refusal, or answers
-pub data Debugs (bytes : List ℕ) (a b : Standing) (status : ℕ) : Type 0 where
-  no_recall : status ≡ 5 → b.written ≡ a.written → Debugs bytes a b status
-  recording_refused : (line : List ℕ) → IsRefusedBy bytes line → IsUnread a b
-      → Finished a.written b.written a.writes b.writes status 6 line → Debugs bytes a b status
-  recalled : (r : Recording) → IsAccepted bytes r → Talks (known_of_recording r) [] a b status → Debugs bytes a b status
 
 -- what a query comes to for an accepted recording: want of memory, or what belongs to it
 abbrev pub IsTold : Recording → Query → (schedule : List ℕ) → Option (List ℕ) → Option (List ℕ) → ℕ → ℕ → ℕ → Type 0

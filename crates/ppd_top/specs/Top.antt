@@ -1,34 +1,29 @@
 -- What is written for the words, the source, the run and the commands, and with which status.
-use Rattle.std.specs.Prelude.{◌≡◌, ◌≢◌, ◌⊎◌, ℕ, false, true, List, [], take, Option, Some, slice_get, codes}
-use Rattle.ppd_io.specs.Causes.{Rose}
-use Rattle.ppd_io.specs.Content.{Loads, Appends, AppendsPart}
-use Rattle.ppd_ast.specs.declared.plan.Plan.{Plan}
+use Rattle.std.specs.Prelude.{◌≡◌, ◌≢◌, ℕ, false, true, List, [], take, Some, slice_get, codes}
+use Rattle.ppd_io.specs.Content.{Loads}
 use Rattle.ppd_ast.specs.declared.program.Program.{Program}
 use Rattle.ppd_ast.specs.declared.limits.TheConstants.{MOST_BUDGET}
-use Rattle.ppd_blocks.specs.Blocks.{plan_of as plan_by_policy}
 use Rattle.ppd_check.specs.declared.error.SourceError.{SourceError}
 use Rattle.ppd_check.specs.declared.error.SourceError.TheVariants as source
 use Rattle.ppd_check.specs.Read.{IsRead, IsRefused}
 use Rattle.ppd_top_drill.specs.Drills.{generated}
 use Rattle.ppd_model.specs.Agreement.{Agree}
 use Rattle.ppd_model.specs.Races.{races}
-use Rattle.ppd_model.specs.Schedule.{IsWhole, run as run_of}
+use Rattle.ppd_model.specs.Schedule.{run as run_of}
 use Rattle.ppd_model.specs.World.{World, enabled}
-use Rattle.ppd_session.specs.Known.{Known, known_of_run}
 use Rattle.ppd_text_tables.specs.Table.{table_of}
-use Rattle.ppd_top.specs.declared.options.Options.{Options}
+use Rattle.ppd_top_telling.specs.declared.options.Options.{Options}
 use Rattle.ppd_top.specs.declared.following.FollowError.{FollowError}
 use Rattle.ppd_top.specs.declared.following.FollowError.TheVariants.{Refused, NotEnabled, NotWhole, LongLine, ManyLines, Memory}
 use Rattle.ppd_top.specs.Call.{Call}
-use Rattle.ppd_top.specs.Output.{Output, answers, before, output}
+use Rattle.ppd_top_debug.specs.Output.{Output, answers, before, output}
 use Rattle.ppd_text_refusals.specs.Sources.{refused}
-use Rattle.ppd_top.specs.Summary.{summary}
 use Rattle.ppd_top.specs.Words.{Asks, AsksDebug, AsksDrill, AsksQuery, Command, IsNotAsked}
 use Rattle.ppd_top.specs.Words.Command.{Flow, Run, Show}
-use Rattle.ppd_codec.specs.declared.recording.Header.{Header}
 use Rattle.ppd_codec.specs.declared.recording.Recording.{Recording}
 use Rattle.ppd_top_query.specs.Queries.{Gives, Query}
-use Rattle.ppd_codec_runs.specs.Recordings.{IsAccepted, IsRefusedBy, IsRunRecorded, known_of as known_of_recording}
+use Rattle.ppd_codec_runs.specs.Recordings.{IsAccepted, IsRefusedBy, known_of as known_of_recording}
+use Rattle.ppd_top_runs.specs.Commands.{plan_of, IsWholeRun, summary_of_run, known_of}
 
 -- ---- the run of a program
 
@@ -39,22 +34,6 @@ most_bytes = 262145
 -- one byte more than the longest recording
 abbrev pub most_recording : ℕ
 most_recording = 268435457
-
--- the plan that a program runs with: the blocks and units of the policy, with their cells
-abbrev pub plan_of : Program → Options → Plan
-plan_of program options = plan_by_policy program options.policy
-
--- the schedule is one that the processes take until nobody can take a step
-abbrev pub IsWholeRun : Program → Options → List ℕ → Type 0
-IsWholeRun program options schedule = IsWhole program (plan_of program options) options.budget schedule
-
--- the summary of that run
-abbrev pub summary_of_run : Program → Options → List ℕ → List ℕ
-summary_of_run program options schedule = summary program (plan_of program options) options.budget schedule
-
--- what is known of that run
-abbrev pub known_of : Program → Options → List ℕ → Known
-known_of program options schedule = known_of_run program (plan_of program options) options.budget schedule
 
 -- all that is written of that run and of these commands, with its status: the summary, then the answers
 abbrev pub out_of : Program → Options → (schedule commands : List ℕ) → Output
@@ -77,15 +56,6 @@ drill_commands = codes "final\n"
 -- all that is written of a drill's run by this schedule, with its status
 abbrev pub drill_out : Program → (schedule : List ℕ) → Output
 drill_out program schedule = out_of program drill_options schedule drill_commands
-
--- with what a source is run, as its recording says it
-abbrev pub header_of : Options → Header
-header_of options = record { policy = options.policy; budget = options.budget }
-
--- these bytes are the recording of that run: of the source, the options and the logs
-abbrev pub IsRecordingOfRun : (source : List ℕ) → Program → Options → (schedule recording : List ℕ) → Type 0
-IsRecordingOfRun source program options schedule recording =
-    IsRunRecorded source (header_of options) program schedule recording
 
 -- ---- what is written
 
@@ -130,11 +100,6 @@ pub data Writes (c : Call) (commands : List ℕ) : Output → Type 0 where
   for_query : (name : List ℕ) (query : Query) (bytes : List ℕ) → AsksQuery c.words name query
       → Loads c.before.held name most_recording bytes → (out : Output) → Tells bytes query c.schedule out
       → Writes c commands out
-
--- what a text leaves: all of it with its status, or a proper prefix with status 4 and a rise of the count
-abbrev pub Finished : Option (List ℕ) → Option (List ℕ) → ℕ → ℕ → ℕ → ℕ → List ℕ → Type 0
-Finished old new before now result status text = ((result ≡ status) × Appends old new text)
-    ⊎ ((result ≡ 4) × Rose before now × AppendsPart old new text)
 
 -- ---- a run by a schedule that is handed in
 

@@ -2,7 +2,6 @@
 -- number.
 use Rattle.std.specs.Prelude.{◌≡◌, ◌⊎◌, ℕ, ◌≤◌, ◌&&◌, nat_le, List, [], ◌∷◌, Option, Some, None, if◌then◌else◌, codes, option_map, ⊤}
 use Rattle.std.specs.Borrow.{Bor}
-use Rattle.ppd_ast.specs.ValidPlan.{IsValidPolicy}
 use Rattle.ppd_ast.specs.declared.limits.TheConstants.{DEFAULT_BUDGET, MOST_BUDGET, MOST_DRILL, MOST_POLICY}
 use Rattle.ppd_ast.specs.Digits.{number_in as number_of_word}
 use Rattle.ppd_top_words.specs.declared.commands.Command.{Command as Word}
@@ -10,7 +9,7 @@ use Rattle.ppd_top_words.specs.declared.commands.Command.TheVariants as word
 use Rattle.ppd_top_words.specs.Words.{Text, Uses, value_of}
 use Rattle.ppd_top_words.specs.Commands.{command_gives}
 use Rattle.ppd_top_words.specs.Reads.{texts_in}
-use Rattle.ppd_top.specs.declared.options.Options.{Options}
+use Rattle.ppd_top_telling.specs.declared.options.Options.{Options}
 use Rattle.ppd_top.specs.declared.words.Command.{Command as GivenCommand}
 use Rattle.ppd_top.specs.declared.words.Command.TheVariants as given
 use Rattle.ppd_top.specs.declared.words.Request.{Request as GivenRequest}
@@ -18,6 +17,7 @@ use Rattle.ppd_top.specs.declared.words.Request.TheVariants.{Source, Recording, 
 use Rattle.ppd_top.specs.declared.words.Request.TheVariants as request
 use Rattle.ppd_top_query.specs.Queries.{ItemAsked, Query, query_of}
 use Rattle.ppd_top_query.specs.Queries.Query.{Clean, Rerun, Slice, Whole}
+use Rattle.ppd_top_runs.specs.Commands.{AreInRange}
 
 -- ---- the words of options and names
 
@@ -171,12 +171,6 @@ AsksRecording words name = AsksDebug words name ⊎ ((query : Query) × AsksQuer
 -- the words ask for nothing
 abbrev pub IsNotAsked : List (Bor (List ℕ)) → Type 0
 IsNotAsked words = asked (texts_in words) ≡ None
-
--- options with which a source is run: a budget of 1 to 500,000, and a policy within its limits
-pub record AreInRange (options : Options) : Type 0 where
-  pub least : 1 ≤ options.budget
-  pub most : options.budget ≤ MOST_BUDGET
-  pub policy : IsValidPolicy options.policy
 
 -- so are those of a request
 abbrev pub IsInRange : GivenRequest → Type 0

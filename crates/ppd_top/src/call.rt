@@ -3,38 +3,28 @@ ghost use Rattle.std.specs.Prelude.{◌≡◌, ◌⊎◌, ℕ, List, [], Option}
 ghost use Rattle.std.specs.Borrow.{Bor};
 ghost use Rattle.ppd_top.specs.Call.{call_of, devices};
 ghost use Rattle.ppd_top.specs.Clauses.{IsOutcome, ReadsNothing};
-ghost use Rattle.ppd_top.specs.Output.{standing};
+ghost use Rattle.ppd_top_debug.specs.Output.{standing};
 ghost use Rattle.ppd_top.specs.Ran.{Comes, IsUnloaded, Refuses};
 ghost use Rattle.ppd_top_query.specs.Queries.{query_of};
-ghost use Rattle.ppd_top.specs.Words.{AreInRange, Asks, AsksDebug, AsksQuery, command_of};
+ghost use Rattle.ppd_top.specs.Words.{Asks, AsksDebug, AsksQuery, command_of};
+ghost use Rattle.ppd_top_runs.specs.Commands.{AreInRange};
 ghost use Rattle.ppd_top.specs.Words.Command.{Flow};
 
-use crate::asking::finish;
-use crate::debugging::debug;
 use crate::drilling::drill;
-use crate::flow::{flow, show};
 use crate::querying::tell_query;
-use crate::run::{Means, Task};
-use crate::storing::{RecordTask, record_run};
 use crate::words::{Command, Request, SourceRequest, asked};
 use ppd_ast::limits::{MOST_RECORDING_BYTES, MOST_SOURCE_BYTES};
-use ppd_ast::{Bytes, Memory, Seq};
+use ppd_ast::{Memory, Seq};
 use ppd_check::{SourceError, read_source};
 use ppd_io::{Gate, Shelf, ShelfError, Sink, Source};
 use ppd_text_refusals::refusal_line;
+use ppd_top_debug::{debug, finish};
 use ppd_top_query::{Query, answers_are_of_runs};
+use ppd_top_runs::{Outcome, RecordTask, ended, flow, record_run, show};
+use ppd_top_telling::{Means, Task};
 use std::alloc::Global;
 use std::sync::Wait;
 use std::thread::Threads;
-
-/// How the program ended: its status, and the numbers of the processes that were stepped, in the run of a source or in
-/// the run again of a `rerun` that answered yes. They are empty where no run came to its end and `rerun` did not answer
-/// yes.
-#[derive(Drop)]
-pub struct Outcome {
-    pub status: u8,
-    pub schedule: Bytes,
-}
 
 const USAGE: &[u8] = b"usage: ppd flow|run|debug|show|drill|slice|rerun|clean|whole\n";
 
@@ -240,17 +230,6 @@ fn on_query<F: Shelf, O: Sink>(
     match shelf.load(alloc, name, MOST_RECORDING) {
         Err(error) => unloaded(alloc, error),
         Ok(recording) => tell_query(rt, alloc, &recording, query, output),
-    }
-}
-
-/// An end before any run.
-pub(crate) fn ended(alloc: Global, status: u8) -> Outcome
-    ensures status { result.status ≡ status }
-    ensures schedule { result.schedule ≡ [] }
-{
-    Outcome {
-        status,
-        schedule: Seq::new(alloc),
     }
 }
 

@@ -4,16 +4,15 @@ ghost use Rattle.ppd_ast.specs.Valid.{IsValid};
 ghost use Rattle.ppd_ast.specs.declared.limits.TheConstants.{MOST_DRILL};
 ghost use Rattle.ppd_top.specs.Ran.{Drilled, Drills};
 
-use crate::call::{Outcome, ended, refuse};
-use crate::flow::flow;
-use crate::options::Options;
-use crate::run::{Means, Task};
+use crate::call::refuse;
 use law_drill::drills_are_read;
 use ppd_ast::limits::MOST_BUDGET;
 use ppd_ast::{Policy, Program};
 use ppd_check::read_source;
 use ppd_io::{CHUNK_BYTES, Gate, Sink, SteadySource};
 use ppd_top_drill::generate;
+use ppd_top_runs::{Outcome, ended, flow};
+use ppd_top_telling::{Means, Options, Task};
 use std::sync::Wait;
 use std::thread::Threads;
 

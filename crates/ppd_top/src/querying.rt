@@ -3,12 +3,12 @@ ghost use Rattle.ppd_top_query.specs.Queries.{query_of};
 ghost use Rattle.ppd_top_query.specs.Replies.{IsAskable};
 ghost use Rattle.ppd_top.specs.Ran.{IsTold, Queries};
 
-use crate::asking::{finish, refuse_replay};
-use crate::call::{Outcome, ended};
 use ppd_ast::Seq;
 use ppd_codec_runs::{NoRecall, Recalled, recall};
 use ppd_io::Sink;
+use ppd_top_debug::{finish, refuse_replay};
 use ppd_top_query::{Query, answer};
+use ppd_top_runs::{Outcome, ended};
 use std::alloc::Global;
 use std::thread::Threads;
 

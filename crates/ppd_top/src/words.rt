@@ -4,15 +4,14 @@ ghost use Rattle.ppd_top_words.specs.Reads.{texts_in};
 ghost use Rattle.ppd_top_words.specs.declared.commands.Command.TheVariants as word;
 ghost use Rattle.clap.specs.Matches.{first_value, found_of};
 ghost use Rattle.ppd_top_query.specs.Queries.{asked_of as item_asked, query_of};
-ghost use Rattle.ppd_top.specs.Words.{AreInRange, IsInRange, asked as asked_for, asked_by, asked_of, command_of};
-ghost use Rattle.ppd_top.specs.Words.{item_in, item_number_in, name_in, number_in as number_for};
-ghost use Rattle.ppd_top.specs.Words.{options_in as options_for, query_by, request_of, run_in, clean_in, slice_in, whole_in};
+ghost use Rattle.ppd_top.specs.Words.{IsInRange, asked as asked_for, asked_by, asked_of, command_of, item_in, item_number_in, name_in, number_in as number_for, options_in as options_for, query_by, request_of, run_in, clean_in, slice_in, whole_in};
+ghost use Rattle.ppd_top_runs.specs.Commands.{AreInRange};
 
-use crate::options::Options;
 use ppd_ast::limits::{DEFAULT_BUDGET, MOST_BUDGET, MOST_DRILL, MOST_POLICY};
 use ppd_ast::{Memory, Policy};
 use ppd_text::number_in;
 use ppd_top_query::{AskedItem, Query};
+use ppd_top_telling::Options;
 use ppd_top_words::{Command as Word, CommandWords, read_command};
 use std::alloc::Global;
 

@@ -1,5 +1,4 @@
 pub mod Lists
-pub mod Accessed
 pub mod Begun
 pub mod Steps
 pub mod Sound

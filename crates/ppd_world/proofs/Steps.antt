@@ -21,7 +21,9 @@ use Rattle.ppd_model.specs.Story.{Moment, number_of, unit_started, values_at_sta
 use Rattle.ppd_model.specs.World.{World, answer, can, change, effect, enabled, need, need_at, step, with_value, Each}
 use Rattle.ppd_model.proofs.Earlier.{each_more}
 use Rattle.ppd_model.proofs.Lists.{map_change}
-use Rattle.ppd_world.specs.Parts.{IsReceivable, IsSmallChan, finished, moment_with, need_of_logging, sent, sent_after, unsent, unsent_after, without_last, world_of}
+use Rattle.ppd_world.specs.Parts.{finished, need_of_logging, sent, sent_after, unsent, unsent_after, world_of, IsReceivable, without_last}
+use Rattle.ppd_world_entries.specs.Entries.{moment_with}
+use Rattle.ppd_world_objects.specs.Objects.{IsSmallChan}
 use Rattle.ppd_world.proofs.Lists.{all_every, change_back, every_all, every_change}
 
 -- the shared state after a step, in its parts

@@ -9,31 +9,19 @@ use Rattle.ppd_sem.specs.declared.proc.Need.{Need}
 use Rattle.ppd_sem.specs.declared.proc.Need.TheVariants.{Write, P, V, Send, Offer, Done, Recv, Stopped}
 use Rattle.ppd_sem.specs.Process.{act, need_of}
 use Rattle.ppd_sem.specs.Runs.{IsNumbered, IsRunnable, IsRunning}
-use Rattle.ppd_model.specs.declared.tracing.Taken.{Taken}
 use Rattle.ppd_model.specs.declared.state.Channel.{Channel}
 use Rattle.ppd_model.specs.declared.state.Counts.{Counts}
 use Rattle.ppd_model.specs.declared.state.Logging.{Logging}
 use Rattle.ppd_model.specs.Logs.{rest_after}
-use Rattle.ppd_model.specs.Story.{Moment, unit_started, values_at_start}
 use Rattle.ppd_model.specs.World.{World, change, one_taken, one_given, with_value, one_received, one_completed}
-use Rattle.ppd_world.specs.declared.note.Note.{Note}
-use Rattle.ppd_world.specs.declared.note.Note.TheVariants.{Nothing, Reads, Writes, Anew}
+use Rattle.ppd_world_entries.specs.declared.note.Note.{Note}
+use Rattle.ppd_world_objects.specs.Objects.{IsSmallChan, IsSmallSem}
+use Rattle.ppd_world_entries.specs.Entries.{noted}
 
 -- ---- bounds
 
--- one more can be given and taken within 32 bits
-pub record IsSmallSem (x : Counts) : Type 0 where
-  pub given : x.given + 1 < 2 ^ 32
-  pub taken : x.taken + 1 < 2 ^ 32
-
 -- one more can be received within 32 bits
 pub record IsReceivable (x : Channel) : Type 0 where
-  pub received : x.received + 1 < 2 ^ 32
-  pub completed : x.completed + 1 < 2 ^ 32
-
--- one more can be sent and received within 32 bits
-pub record IsSmallChan (x : Channel) : Type 0 where
-  pub sent : length x.sent + 1 < 2 ^ 32
   pub received : x.received + 1 < 2 ^ 32
   pub completed : x.completed + 1 < 2 ^ 32
 
@@ -51,10 +39,6 @@ pub record IsReady (program : Program) (plan : Plan) (s : World) (loggings : Lis
   pub small : All (IsSmallLogging program) loggings
 
 -- ---- the shared state
-
--- a shared state without processes
-abbrev pub store : List ℤ → List Counts → List Channel → World
-store shared sems chans = record { shared = shared; sems = sems; chans = chans; procs = [] }
 
 -- a shared state with the processes that have these logs
 abbrev pub world_of : World → List Logging → World
@@ -124,17 +108,6 @@ finished s n = record s {
 }
 
 -- ---- a process with its log
-
--- a step with the values of its unit, the shared cells as they stand after it
-abbrev pub moment_with : Plan → List ℤ → Taken → Moment
-moment_with plan shared t = record { taken = t; unit_values = values_at_start plan shared (unit_started t.need) }
-
--- what becomes of the cells that were accessed
-abbrev pub noted : Note → Logging → Logging
-noted Nothing l = l
-noted (Reads cells) l = record l { reads = cells }
-noted (Writes cells) l = record l { writes = cells }
-noted Anew l = record l { reads = []; writes = [] }
 
 -- a process with its log after a step, with this answer, that wrote these entries
 abbrev pub logged : Program → Plan → Logging → Answer → Note → List Entry → Logging

@@ -2,11 +2,11 @@ ghost use Rattle.std.specs.Prelude.{◌≡◌, ◌<◌, ◌∷◌, slice_get, ve
 ghost use Rattle.ppd_model.specs.Logs.{closed_log, closed_logs_of, end_of as end_of_proc, ends, ends_from, last_of};
 ghost use Rattle.ppd_world.specs.Starts.{blocked_of};
 
-use crate::entries::push_end;
 use ppd_ast::{Memory, Program, Seq, Status};
 use ppd_entry::{Entry, Logs};
 use ppd_model::{Closed, Logging, ProcEnd};
 use ppd_sem::{Proc, next_stmt};
+use ppd_world_appends::push_end;
 use std::alloc::Global;
 
 /// The last statement of a body, and 0 past the table.

@@ -2,11 +2,8 @@
 #![tactic(auto)]
 
 mod closing;
-mod code;
-mod entries;
 mod logging;
 mod needs;
-mod note;
 mod objects;
 mod starting;
 mod stepping;

@@ -3,10 +3,10 @@ ghost use Rattle.std.specs.List.{All};
 ghost use Rattle.ppd_sem.specs.Runs.{IsNumbered, IsRunnable};
 ghost use Rattle.ppd_world.specs.Parts.{IsSmallLogging, need_of_logging, needs_of, or_stopped};
 
-use crate::code::Code;
 use ppd_ast::Memory;
 use ppd_model::Logging;
 use ppd_sem::{Need, look};
+use ppd_world_appends::Code;
 use std::alloc::Global;
 
 /// What the process at this place needs, as it is kept.

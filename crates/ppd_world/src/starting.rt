@@ -5,11 +5,11 @@ ghost use Rattle.ppd_sem.specs.Runs.{IsNumbered, IsRunnable};
 ghost use Rattle.ppd_sem.specs.Tables.{block_of, or_zero};
 ghost use Rattle.ppd_world.specs.Starts.{begun_chans, begun_logs, begun_sems, first_entries as first_entries_of};
 
-use crate::entries::unit_values;
 use ppd_ast::{BlockKind, Memory, Nums, Plan, Program, Seq, Start};
 use ppd_entry::{Boxed, Entry};
 use ppd_model::{Channel, Counts, Logging};
 use ppd_sem::{Proc, find_block, find_unit};
+use ppd_world_appends::unit_values;
 use std::alloc::Global;
 
 fn block_of_process(plan: &Plan, body: u16) -> u16

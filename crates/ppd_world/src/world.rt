@@ -8,7 +8,6 @@ ghost use Rattle.ppd_world.specs.Plain.{ComesPlainly, ComesPrinting, stepped_tim
 ghost use Rattle.ppd_world.specs.Running.{IsCause, IsDriven, IsFollowed, IsLowest, IsOf, IsPaidStep, IsReached, Takes, begun, can_step, closed_run as closed_of, stepped};
 
 use crate::closing::close_all;
-use crate::code::Code;
 use crate::logging::{go_on, go_on_printing};
 use crate::needs::{look_at, need_at, set_need, start_needs};
 use crate::starting::{start_chans, start_logs, start_sems};
@@ -18,6 +17,7 @@ use ppd_ast::limits::MOST_BUDGET;
 use ppd_ast::{Memory, Nums, Plan, Program};
 use ppd_model::{Closed, DriveError, Logging, Taken};
 use ppd_sem::{Need, Proc};
+use ppd_world_appends::Code;
 use std::alloc::Global;
 use std::marker::Model;
 

@@ -32,8 +32,8 @@ use Rattle.ppd_model.specs.Marks.{Mark, closed, opened}
 use Rattle.ppd_model.specs.declared.tracing.Taken.{Taken}
 use Rattle.ppd_model.specs.Story.{Moment, unit_started}
 use Rattle.ppd_model.specs.Synchronizations.{kind_of_sync, numbered, sync_of}
-use Rattle.ppd_codec.specs.Form.{coded}
-use Rattle.ppd_codec.specs.Format.{an_entry, fits_kind, kind_code, kinds, numbered as numbered_form, status_code, statuses}
+use Rattle.ppd_codec_fields.specs.Fields.{coded, fits_kind, kind_code, kinds, status_code, statuses}
+use Rattle.ppd_codec.specs.Format.{an_entry, numbered as numbered_form}
 use Rattle.ppd_codec.specs.Recordings.{facts_of, version_of}
 use Rattle.law_logs.specs.Recording.Values.{IsConstantOf64Bits}
 use Rattle.law_logs.proofs.Recording.Fit.{All, Fit, SomeFits, all_append, all_more}

@@ -6,7 +6,8 @@ use Rattle.std.proofs.lemmas.Bool.Decides.{nat_tests}
 use Rattle.ppd_ast.specs.Members.{with_cell}
 use Rattle.ppd_ast.specs.declared.limits.TheConstants.{MOST_SHARED_CELLS}
 use Rattle.ppd_codec.specs.Form.{Along}
-use Rattle.ppd_codec.specs.Format.{cells, is_next, past}
+use Rattle.ppd_codec.specs.Format.{cells, past}
+use Rattle.ppd_codec_fields.specs.Fields.{is_next}
 use Rattle.law_logs.proofs.Recording.Fit.{All}
 
 abbrev pub IsRow : ℕ → ℕ → List ℕ → Type 0

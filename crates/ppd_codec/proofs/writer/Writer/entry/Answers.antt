@@ -3,7 +3,8 @@ use Rattle.std.proofs.lemmas.Int.{to_z-of_z}
 use Rattle.ppd_entry.specs.declared.entry.Entry.TheVariants as entry
 use Rattle.ppd_entry.specs.declared.entry.Entry.{Entry}
 use Rattle.ppd_codec.specs.Form.{number_4, value}
-use Rattle.ppd_codec.specs.Format.{an_entry, cells, kind_code, status_code}
+use Rattle.ppd_codec.specs.Format.{an_entry, cells}
+use Rattle.ppd_codec_fields.specs.Fields.{kind_code, status_code}
 use Rattle.ppd_codec.proofs.Writing.{link, on_ok}
 use Rattle.ppd_codec.proofs.writer.Writer.entry.Goals as goal
 

@@ -1,0 +1,2 @@
+-- What the fields of a recording may hold.
+pub mod Fields

@@ -1,0 +1,2 @@
+-- The comparison of the intervals of a recording with what is held of a run.
+pub mod Comparisons

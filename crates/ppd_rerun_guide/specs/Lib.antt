@@ -1,0 +1,2 @@
+-- The guided run in code.
+pub mod Guides

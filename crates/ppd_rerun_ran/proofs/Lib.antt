@@ -1,0 +1,2 @@
+pub mod HeldItems
+pub mod Runs

@@ -1,0 +1,14 @@
+use Rattle.std.proofs.Common.{◌≡◌, ◌++◌, ◌-◌, map}
+use Rattle.ppd_rerun_model.specs.Guided.{guided_from, most_steps}
+use Rattle.ppd_rerun_guide.specs.Guides.{guiding_of, left_of}
+use Rattle.ppd_rerun_ran.specs.Runs.{HasCome}
+use Rattle.ppd_rerun_ran.specs.Seeing.{seen}
+use Rattle.ppd_rerun_ran.proofs.ran.run.Given as goal
+
+abbrev pub invariant-loop-step : goal.invariant-loop-step
+invariant-loop-step l = record {
+  come : HasCome l.setting.program.now l.setting.plan.now l.budget (map left_of l.initial.guide.dues.items) l.schedule l.guide.world
+      (map left_of l.guide.dues.items) (map seen l.held.items);
+  rest : l.schedule ++ guided_from l.setting.program.now l.setting.plan.now (most_steps l.setting.program.now l.budget - l._step) (guiding_of l.guide.world l.guide.dues.items)
+      ≡ guided_from l.setting.program.now l.setting.plan.now (most_steps l.setting.program.now l.budget) (guiding_of l.initial.guide.world l.initial.guide.dues.items);
+}

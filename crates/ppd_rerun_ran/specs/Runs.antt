@@ -1,0 +1,47 @@
+-- What a guided run comes to, with what is held of its processes.
+use Rattle.std.specs.Bool.{Decides}
+use Rattle.std.specs.List.{range_with_len}
+use Rattle.std.specs.Prelude.{◌≡◌, ℕ, ◌++◌, List, length, map, slice_get, Some}
+use Rattle.ppd_ast.specs.declared.plan.Plan.{Plan}
+use Rattle.ppd_ast.specs.declared.program.Program.{Program}
+use Rattle.ppd_entry.specs.declared.entry.Logs.{Logs}
+use Rattle.ppd_sem.specs.declared.proc.Proc.{Proc}
+use Rattle.ppd_model.specs.HappenedBefore.{own_syncs}
+use Rattle.ppd_model.specs.Laws.{logged_moment}
+use Rattle.ppd_model.specs.Record.{sync_record}
+use Rattle.ppd_model.specs.Story.{story}
+use Rattle.ppd_model.specs.Synchronizations.{Sync}
+use Rattle.ppd_model.specs.World.{change}
+use Rattle.ppd_world.specs.Running.{IsHeld, Running}
+use Rattle.ppd_rerun_model.specs.Verdicts.{HasRecordOf, guided_by}
+use Rattle.ppd_rerun_ran.specs.declared.ran.Ran.{Ran}
+use Rattle.ppd_rerun_ran.specs.Holding.{Holding, begun_held, courses, hold_step}
+use Rattle.ppd_rerun_ran.specs.Seeing.{seen}
+
+-- what is held of each process in a schedule
+abbrev pub helds : Program → Plan → ℕ → List ℕ → List Holding
+helds program plan budget h = map (λ g. g.held) (courses program plan budget (story program plan budget h))
+
+-- what is held of the first processes, so many, before their first steps
+abbrev pub begun_helds : Program → Plan → ℕ → List Holding
+begun_helds program plan n = map (begun_held program plan) (range_with_len 0 n)
+
+-- process p of this run takes its step, which is held
+abbrev pub HoldsStep : Running → ℕ → List Holding → List Holding → Type 0
+HoldsStep r p before after =
+    (s : Proc) → slice_get r.world.procs p ≡ Some s
+    → after ≡ change (λ x. hold_step r.program r.plan s x (logged_moment r.program r.plan r.world p).taken) p before
+
+-- the run of this schedule, and what is left of these records after it, with what is held of its processes
+pub record HasCome (program : Program) (plan : Plan) (budget : ℕ) (syncs : List (List Sync)) (h : List ℕ) (r : Running)
+    (left : List (List Sync)) (held : List Holding) : Type 0 where
+  pub run : IsHeld program plan budget r h
+  pub lists : length left ≡ length syncs
+  pub taken : (q : ℕ) → own_syncs (sync_record program plan budget h) q ++ own_syncs left q ≡ own_syncs syncs q
+  pub held_is : held ≡ helds program plan budget h
+
+-- the guided run of these logs
+pub record IsRan (program : Program) (plan : Plan) (budget : ℕ) (logs : Logs) (ran : Ran) : Type 0 where
+  pub schedule_is : ran.schedule ≡ guided_by program plan budget logs
+  pub follows : Decides ran.follows (HasRecordOf program plan budget logs ran.schedule)
+  pub held_is : map seen ran.held.items ≡ helds program plan budget ran.schedule

@@ -1,0 +1,9 @@
+//! The lines of an input, each answered before the next is read; and the command `debug`, which answers them on a
+//! recording.
+#![tactic(auto)]
+
+mod asking;
+mod debugging;
+
+pub use asking::{finish, refuse_replay, talk};
+pub use debugging::debug;

@@ -1,0 +1,2 @@
+-- What the commands on a source come to for its program.
+pub mod Commands

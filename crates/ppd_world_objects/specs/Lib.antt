@@ -1,0 +1,2 @@
+-- Semaphores and channels as a step finds them.
+pub mod Objects
