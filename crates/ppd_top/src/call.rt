@@ -65,8 +65,9 @@ const MOST_RECORDING: usize = MOST_RECORDING_BYTES + 1;
 /// - 5: want of memory, and a prefix of what belongs there was written; nothing where no run came to its end. The shelf
 ///   holds what it held. It may come whatever the words are.
 /// - 6: in `debug`, `slice`, `rerun`, `clean` and `whole` the recording is refused, and the line that says why was
-///   written; or an answer needs a replay that failed (not in `rerun`) or a write that is missing (in `debug`, `slice`
-///   and `clean`), and the answers before it and the line that says so were written.
+///   written; or an answer needs a replay that failed (not in `rerun`; in `slice` that of any interval of a process with
+///   an item of the slice) or a write that is missing (in `debug`, `slice` and `clean`), and the answers before it and
+///   the line that says so were written.
 /// - 7: in `flow` or `debug` a line has more than 4,096 bytes, and `long line` was written in place of its answer.
 /// - 8: in `flow` or `debug` there is a line number 65,537 and no `quit` before it, and `many lines` was written.
 ///
