@@ -1,5 +1,5 @@
 -- The comparison of the intervals of a recording with what is held of a run.
-use Rattle.std.specs.Prelude.{◌≡◌, ℕ, ◌<◌, List, [], length, slice_get, Option, Some, None}
+use Rattle.std.specs.Prelude.{ℕ, ◌<◌, List, [], Option, Some, None}
 use Rattle.ppd_ast.specs.Valid.{IsValid}
 use Rattle.ppd_ast.specs.ValidPlan.{IsValidPlan}
 use Rattle.ppd_index.specs.Fitting.{AreFittingLogs}
@@ -8,29 +8,8 @@ use Rattle.ppd_model.specs.declared.flow.Item.{Item}
 use Rattle.ppd_rerun_model.specs.declared.verdict.Verdict.{Verdict}
 use Rattle.ppd_rerun_model.specs.declared.verdict.Verdict.TheVariants as verdict
 use Rattle.ppd_rerun_model.specs.Verdicts.{Matches, replay_in}
-use Rattle.ppd_rerun_ran.specs.declared.held.Kept.{Kept}
-use Rattle.ppd_rerun_ran.specs.declared.held.Part.{Part}
 use Rattle.ppd_rerun_compare.specs.declared.recorded.Recorded.{Recorded}
-use Rattle.ppd_rerun_ran.specs.Holding.{Holding, held_item, held_items}
-
--- ---- items
-
--- each part is one item
-abbrev pub AreOnes : Holding → List Part → Type 0
-AreOnes h parts = (i : ℕ) (part : Part) → slice_get parts i ≡ Some part → length (held_item h part) ≡ 1
-
--- so it is in each interval
-abbrev pub AreWhole : Holding → Type 0
-AreWhole h = (k : ℕ) (i : Kept) → slice_get h.spans k ≡ Some i → AreOnes h i.parts
-
--- the items of interval k of a process of which something is held
-abbrev pub items_if : ℕ → Option Holding → Option (List Item)
-items_if k None = None
-items_if k (Some h) = held_items h k
-
--- the items of interval k of process p
-abbrev pub items_at : List Holding → ℕ → ℕ → Option (List Item)
-items_at held p k = items_if k (slice_get held p)
+use Rattle.ppd_rerun_ran.specs.Holding.{Holding, held_items, items_at}
 
 -- ---- a recording
 

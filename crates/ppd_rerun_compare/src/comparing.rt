@@ -1,98 +1,18 @@
 // The comparison of the intervals of a recording with those of the guided run.
-ghost use Rattle.std.specs.Prelude.{◌≡◌, ℕ, ◌<◌, ◌^◌, ◌∷◌, [], length, map, option_copied, slice_get, Some, IfOk};
+ghost use Rattle.std.specs.Prelude.{◌≡◌, ℕ, ◌<◌, ◌^◌, [], length, map, option_copied, slice_get, Some, IfOk};
 ghost use Rattle.std.specs.Bool.{Decides};
 ghost use Rattle.std.specs.List.{flat_map};
 ghost use Rattle.ppd_index.specs.Indexes.{rows_at};
-ghost use Rattle.ppd_model.specs.declared.flow.Item.TheVariants as item_of;
-ghost use Rattle.ppd_rerun_compare.specs.Comparisons.{AreOnes, AreWhole, IsFirst, IsFirstIn, IsLike, IsRecorded};
-ghost use Rattle.ppd_rerun_ran.specs.Holding.{Holding, held_item, held_items};
+ghost use Rattle.ppd_rerun_compare.specs.Comparisons.{IsFirst, IsFirstIn, IsLike, IsRecorded};
+ghost use Rattle.ppd_rerun_ran.specs.Holding.{AreOnes, AreWhole, Holding, held_item, held_items};
 ghost use Rattle.ppd_rerun_ran.specs.Seeing.{seen};
 
-use crate::events::same_event;
 use crate::recorded::Recorded;
-use ppd_ast::{Memory, Nums, Steps};
+use ppd_ast::{Memory, Steps};
 use ppd_emul::{EmulError, emulate};
-use ppd_model::Item;
-use ppd_rerun_ran::{Held, Kept, Part, number};
-use ppd_sem::Event;
+use ppd_rerun_ran::{Held, Kept, Part, are_items, number};
 use std::alloc::Global;
 use std::sync::ledger::Ledger;
-
-/// Whether the item is this event.
-fn is_event(item: &Item, event: &Event) -> bool
-    ensures { Decides result (item_of.Own event.now ≡ item.now) }
-{
-    match item {
-        Item::Own(own) => same_event(event, own),
-        Item::Nested { .. } => false,
-    }
-}
-
-/// Whether an interval as an item is interval `number`, which is held so.
-fn same_nested(
-    interval: u32,
-    block: u16,
-    values: &Nums,
-    closed: bool,
-    number: u32,
-    kept: &Kept,
-) -> bool
-    ensures { Decides result
-        ((number ≡ interval) × (kept.now.block ≡ block) × (kept.now.values ≡ values.now)
-        × (kept.now.closed ≡ closed)) }
-{
-    (number == interval)
-        & (kept.block == block)
-        & (kept.values == *values)
-        & (kept.closed == closed)
-}
-
-/// Whether the item is interval `number`, which is held so.
-fn is_nested(item: &Item, number: u32, kept: &Kept) -> bool
-    ensures { Decides result (item_of.Nested number kept.now.block kept.now.values kept.now.closed ≡ item.now) }
-{
-    match item {
-        Item::Nested {
-            interval,
-            block,
-            values,
-            closed,
-        } => same_nested(*interval, *block, values, *closed, number, kept),
-        Item::Own(_) => false,
-    }
-}
-
-/// Whether the item is this part.
-fn is_part(item: &Item, held: &Held, part: Part) -> bool
-    ensures { Decides result (held_item (seen held.now) part ≡ item.now ∷ []) }
-{
-    match part {
-        Part::Own(number) => match held.events.get(number as usize) {
-            Some(event) => is_event(item, event),
-            None => false,
-        },
-        Part::Nested(number) => match held.spans.get(number as usize) {
-            Some(kept) => is_nested(item, number, kept),
-            None => false,
-        },
-    }
-}
-
-/// Whether these are the items of an interval that has these parts.
-fn are_items(items: &[Item], held: &Held, parts: &[Part]) -> bool
-    requires { AreOnes (seen held.now) parts.now }
-    ensures { Decides result (items.now ≡ flat_map (held_item (seen held.now)) parts.now) }
-{
-    if items.len() != parts.len() {
-        return false;
-    }
-    for index in 0..items.len() {
-        if !is_part(&items[index], held, parts[index]) {
-            return false;
-        }
-    }
-    true
-}
 
 /// Whether the replay of interval `k` of process `p`, which is there, gives the items of an interval with these parts.
 fn gives<L: Ledger>(

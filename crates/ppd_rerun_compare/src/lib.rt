@@ -2,7 +2,6 @@
 #![tactic(auto)]
 
 mod comparing;
-mod events;
 mod recorded;
 
 pub use comparing::first_other;

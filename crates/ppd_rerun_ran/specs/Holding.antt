@@ -150,6 +150,25 @@ items_of_kept h (Some i) = Some (flat_map (held_item h) i.parts)
 abbrev pub held_items : Holding → ℕ → Option (List Item)
 held_items h k = items_of_kept h (slice_get h.spans k)
 
+-- ---- one item for each part
+
+-- each part is one item
+abbrev pub AreOnes : Holding → List Part → Type 0
+AreOnes h parts = (i : ℕ) (part : Part) → slice_get parts i ≡ Some part → length (held_item h part) ≡ 1
+
+-- so it is in each interval
+abbrev pub AreWhole : Holding → Type 0
+AreWhole h = (k : ℕ) (i : Kept) → slice_get h.spans k ≡ Some i → AreOnes h i.parts
+
+-- the items of interval k of a process of which something is held
+abbrev pub items_if : ℕ → Option Holding → Option (List Item)
+items_if k None = None
+items_if k (Some h) = held_items h k
+
+-- the items of interval k of process p
+abbrev pub items_at : List Holding → ℕ → ℕ → Option (List Item)
+items_at held p k = items_if k (slice_get held p)
+
 -- ---- the law
 
 -- what is held of a process that is there in a story gives the items of each of its intervals

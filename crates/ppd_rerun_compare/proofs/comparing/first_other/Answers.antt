@@ -4,8 +4,8 @@ use Rattle.std.proofs.lemmas.Bool.{cases_lt}
 use Rattle.std.proofs.lemmas.List.{length-map}
 use Rattle.ppd_entry.specs.IntervalLogs.{interval_log}
 use Rattle.ppd_rerun_model.proofs.Ending.{past}
-use Rattle.ppd_rerun_compare.specs.Comparisons.{IsFirstIn, IsLike, items_at, items_if}
-use Rattle.ppd_rerun_ran.specs.Holding.{Holding}
+use Rattle.ppd_rerun_compare.specs.Comparisons.{IsFirstIn, IsLike}
+use Rattle.ppd_rerun_ran.specs.Holding.{items_at, items_if, Holding}
 use Rattle.ppd_rerun_ran.specs.Seeing.{seen}
 use Rattle.ppd_rerun_compare.proofs.Likeness.{at_mapped, like_none, no_lists}
 use Rattle.ppd_rerun_compare.proofs.comparing.first_other.Goals as goal

@@ -1,5 +1,6 @@
 use Rattle.std.proofs.Common.{ℕ, ◌<◌, map}
-use Rattle.ppd_rerun_compare.specs.Comparisons.{IsLike, items_at}
+use Rattle.ppd_rerun_compare.specs.Comparisons.{IsLike}
+use Rattle.ppd_rerun_ran.specs.Holding.{items_at}
 use Rattle.ppd_rerun_ran.specs.Seeing.{seen}
 use Rattle.ppd_rerun_compare.proofs.comparing.first_other.Given as goal
 

@@ -8,10 +8,11 @@ use Rattle.ppd_index.specs.Indexes.{rows_at}
 use Rattle.ppd_model.specs.declared.flow.Item.{Item}
 use Rattle.ppd_rerun_ran.specs.declared.held.Kept.{Kept}
 use Rattle.ppd_rerun_ran.specs.declared.held.Part.{Part}
-use Rattle.ppd_rerun_compare.specs.Comparisons.{AreOnes, IsLike}
-use Rattle.ppd_rerun_ran.specs.Holding.{Holding, items_of_kept}
+use Rattle.ppd_rerun_compare.specs.Comparisons.{IsLike}
+use Rattle.ppd_rerun_ran.specs.Holding.{AreOnes, Holding, items_of_kept}
 use Rattle.ppd_rerun_ran.specs.Seeing.{seen}
-use Rattle.ppd_rerun_compare.proofs.Likeness.{items_by, no_log, none_decided, unlike_log}
+use Rattle.ppd_rerun_compare.proofs.Likeness.{no_log, none_decided, unlike_log}
+use Rattle.ppd_rerun_ran.proofs.Alike.{items_by}
 use Rattle.ppd_rerun_compare.proofs.comparing.is_same.Goals as goal
 
 pub returns-then-not-there : goal.returns-then-not-there
