@@ -1,3 +1,3 @@
 pub mod HeldItems
-pub mod Alike
+pub mod Items
 pub mod Runs

@@ -12,7 +12,7 @@ use Rattle.ppd_rerun_compare.specs.Comparisons.{IsLike}
 use Rattle.ppd_rerun_ran.specs.Holding.{AreOnes, Holding, items_of_kept}
 use Rattle.ppd_rerun_ran.specs.Seeing.{seen}
 use Rattle.ppd_rerun_compare.proofs.Likeness.{no_log, none_decided, unlike_log}
-use Rattle.ppd_rerun_ran.proofs.Alike.{items_by}
+use Rattle.ppd_rerun_ran.proofs.Items.{items_by}
 use Rattle.ppd_rerun_compare.proofs.comparing.is_same.Goals as goal
 
 pub returns-then-not-there : goal.returns-then-not-there

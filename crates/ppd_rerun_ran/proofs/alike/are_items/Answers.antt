@@ -3,7 +3,7 @@ use Rattle.std.proofs.lemmas.Bool.{false≢true}
 use Rattle.std.proofs.lemmas.List.{drop_all}
 use Rattle.ppd_model.specs.declared.flow.Item.{Item}
 use Rattle.ppd_rerun_ran.specs.Seeing.{seen}
-use Rattle.ppd_rerun_ran.proofs.Alike.{alike_at_start, alike_end, alike_next, first_part, not_alike, ones_count}
+use Rattle.ppd_rerun_ran.proofs.Items.{alike_at_start, alike_end, alike_next, first_part, not_alike, ones_count}
 use Rattle.ppd_rerun_ran.proofs.alike.are_items.Goals as goal
 
 pub returns-then-items-parts : goal.returns-then-items-parts

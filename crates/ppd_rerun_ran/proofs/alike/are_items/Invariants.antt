@@ -1,5 +1,5 @@
 use Rattle.ppd_rerun_ran.specs.Seeing.{seen}
-use Rattle.ppd_rerun_ran.proofs.Alike.{IsAlikeFrom}
+use Rattle.ppd_rerun_ran.proofs.Items.{IsAlikeFrom}
 use Rattle.ppd_rerun_ran.proofs.alike.are_items.Given as goal
 
 abbrev pub invariant-loop-index : goal.invariant-loop-index

@@ -2,7 +2,7 @@ use Rattle.std.proofs.Common.{◌≡◌, sym, subst}
 use Rattle.std.specs.Bool.{Decides}
 use Rattle.ppd_model.specs.declared.flow.Item.{Item}
 use Rattle.ppd_model.specs.declared.flow.Item.TheVariants as item
-use Rattle.ppd_rerun_ran.proofs.Alike.{nested_is}
+use Rattle.ppd_rerun_ran.proofs.Items.{nested_is}
 use Rattle.ppd_rerun_ran.proofs.alike.is_nested.Goals as goal
 
 pub returns-in-Nested : goal.returns-in-Nested

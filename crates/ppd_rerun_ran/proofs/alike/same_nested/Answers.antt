@@ -1,7 +1,7 @@
 use Rattle.std.proofs.Common.{nat_eq}
 use Rattle.std.proofs.lemmas.Bool.Decides.{Decides-eqb, Decides-int_eq}
 use Rattle.std.proofs.lemmas.Slice.Eq.{slice_eq-Decides}
-use Rattle.ppd_rerun_ran.proofs.Alike.{bool_same, four_and}
+use Rattle.ppd_rerun_ran.proofs.Items.{bool_same, four_and}
 use Rattle.ppd_rerun_ran.proofs.alike.same_nested.Goals as goal
 
 pub returns : goal.returns
