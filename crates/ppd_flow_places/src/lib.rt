@@ -1,0 +1,11 @@
+//! Tables by which the internal edges of a process and the places of an interval are looked up without going over
+//! entries or items: the edge of a place, where an edge ends, the place of an inner interval, and the last item before
+//! a place that the walk back to a write of a shared cell does not simply pass.
+#![tactic(auto)]
+
+mod edge_table;
+mod keys;
+mod place_table;
+
+pub use edge_table::EdgeTable;
+pub use place_table::PlaceTable;
