@@ -29,3 +29,9 @@ pub record ArePassed (c : ℕ) (items : List Item) (i j : ℕ) : Type 0 where
       → back_over inner c k (back_from j items) ≡ back_over inner c k (back_from i items)
   pub replays : (inner : ℕ → Walked) (touched : ℕ → List ℕ) (k : ℕ)
       → over_replays inner touched c k (back_from j items) ≡ over_replays inner touched c k (back_from i items)
+
+-- the later of two places, if there is one
+abbrev pub IsLater : (a b result : Option ℕ) → Type 0
+IsLater None b result = result ≡ b
+IsLater (Some i) None result = result ≡ Some i
+IsLater (Some i) (Some j) result = (i ≤ j → result ≡ Some j) × (j ≤ i → result ≡ Some i)

@@ -3,9 +3,15 @@
 //! a place that the walk back to a write of a shared cell does not simply pass.
 #![tactic(auto)]
 
+mod counts;
+mod edge_build;
 mod edge_table;
-mod keys;
+mod innermost;
+mod listing;
+mod marks;
+mod place_build;
 mod place_table;
+mod spans;
 
 pub use edge_table::EdgeTable;
 pub use place_table::PlaceTable;
