@@ -1,5 +1,5 @@
 // The synchronizations of a process by the edges that they end.
-ghost use Rattle.std.specs.Prelude.{◌≡◌, ◌<◌, ◌^◌, IfOk, length};
+ghost use Rattle.std.specs.Prelude.{◌≡◌, ◌+◌, ◌<◌, ◌^◌, IfOk, length, if◌then◌else◌};
 ghost use Rattle.ppd_flow_model.specs.Ends.{ends_edge as ends_an_edge, is_sync as is_sync_entry};
 ghost use Rattle.ppd_flow_places.specs.Counts.{AreCounts};
 ghost use Rattle.ppd_flow_places.specs.Tables.{AreWhere, ends_there};
@@ -21,6 +21,14 @@ fn ends_edge(entry: &Entry) -> bool
     matches!(entry, Entry::Sync { .. } | Entry::End { .. })
 }
 
+/// One more where the entry is a synchronization.
+fn count_with(count: u32, entry: &Entry) -> u32
+    requires { count + 1 < 2 ^ 32 }
+    ensures { result ≡ (if is_sync_entry entry.now then count + 1 else count) }
+{
+    if is_sync(entry) { count + 1 } else { count }
+}
+
 /// How many synchronizations stand before each entry, and before the end.
 pub(crate) fn counts_of(alloc: Global, entries: &[Entry]) -> Result<Ids, Memory>
     requires { length entries.now < 2 ^ 32 }
@@ -30,9 +38,7 @@ pub(crate) fn counts_of(alloc: Global, entries: &[Entry]) -> Result<Ids, Memory>
     let mut counts = Seq::new(alloc);
     counts.push(count)?;
     for entry in entries {
-        if is_sync(entry) {
-            count += 1;
-        }
+        count = count_with(count, entry);
         counts.push(count)?;
     }
     Ok(counts)

@@ -1,10 +1,11 @@
-ghost use Rattle.std.specs.Prelude.{◌≡◌, List, get_or, slice_get};
+ghost use Rattle.std.specs.Prelude.{◌≡◌, List, slice_get};
 ghost use Rattle.ppd_entry.specs.declared.entry.Entry.{Entry};
 ghost use Rattle.ppd_flow_model.specs.Ends.{end_interval as end_interval_of, ending as ending_in, first_edge as first_edge_of, syncs_inside as syncs_inside_of, syncs_of_item as syncs_of};
 ghost use Rattle.ppd_flow_places.specs.Tables.{IsEdgeTable};
 ghost use Rattle.ppd_model.specs.Extents.{extents};
 
 use crate::listing::Listing;
+use crate::numbers::number_at;
 use crate::spans::Spans;
 use ppd_ast::Ids;
 use ppd_model::Item;
@@ -25,10 +26,7 @@ impl EdgeTable {
     pub fn first_edge(&self, interval: u32) -> u32
         ensures { (entries : List Entry) → IsEdgeTable entries self.now → result ≡ first_edge_of entries interval }
     {
-        match self.spans.first.get(interval as usize) {
-            Some(edge) => *edge,
-            None => 0,
-        }
+        number_at(self.spans.first.as_slice(), interval as usize)
     }
 
     /// How many synchronizations an interval has, with those of the intervals inside it.
@@ -36,10 +34,7 @@ impl EdgeTable {
         ensures { (entries : List Entry) → IsEdgeTable entries self.now
             → result ≡ syncs_inside_of entries (slice_get (extents entries) interval) }
     {
-        match self.spans.inside.get(interval as usize) {
-            Some(count) => *count,
-            None => 0,
-        }
+        number_at(self.spans.inside.as_slice(), interval as usize)
     }
 
     /// How many synchronizations an item has.
@@ -63,21 +58,11 @@ impl EdgeTable {
         }
     }
 
-    /// The innermost interval at an entry.
-    fn innermost_at(&self, n: usize) -> u32
-        ensures { result ≡ get_or self.now.innermost n 0 }
-    {
-        match self.innermost.get(n) {
-            Some(interval) => *interval,
-            None => 0,
-        }
-    }
-
     /// The interval in which an internal edge ends: the innermost at the synchronization that ends it; of a last edge
     /// the innermost that was not left, or interval 0.
     pub fn end_interval(&self, edge: u32) -> u32
         ensures { (entries : List Entry) → IsEdgeTable entries self.now → result ≡ end_interval_of entries edge }
     {
-        self.innermost_at(self.ending(edge))
+        number_at(self.innermost.as_slice(), self.ending(edge))
     }
 }

@@ -9,6 +9,7 @@ mod edge_table;
 mod innermost;
 mod listing;
 mod marks;
+mod numbers;
 mod place_build;
 mod place_table;
 mod spans;

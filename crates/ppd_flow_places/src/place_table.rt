@@ -1,4 +1,4 @@
-ghost use Rattle.std.specs.Prelude.{◌≡◌, ◌+◌, ◌≤◌, ◌<◌, ◌^◌, IfOk, List, ℕ, get_or, length};
+ghost use Rattle.std.specs.Prelude.{◌≡◌, ◌+◌, ◌≤◌, ◌<◌, ◌^◌, List, ℕ};
 ghost use Rattle.ppd_entry.specs.declared.entry.Entry.{Entry};
 ghost use Rattle.ppd_flow_model.specs.Ends.{sync_item as sync_item_in, first_edge as first_edge_of};
 ghost use Rattle.ppd_flow_model.specs.Seen.{place_of as place_among};
@@ -7,6 +7,7 @@ ghost use Rattle.ppd_flow_places.specs.Tables.{IsPlaceTable, edge_of};
 ghost use Rattle.ppd_model.specs.declared.flow.Item.{Item};
 
 use crate::listing::Listing;
+use crate::numbers::number_at;
 use ppd_ast::Ids;
 
 /// The items that the walk back to a write of a shared cell does not simply pass.
@@ -57,10 +58,11 @@ impl PlaceTable {
         ensures { (entries : List Entry) (k : ℕ) (items : List Item) → IsPlaceTable entries k items self.now
             → result ≡ edge_of entries k items place }
     {
-        let place = place.min(self.count as usize);
-        match self.edges.get(place) {
-            Some(edge) => *edge,
-            None => 0,
+        let count = self.count as usize;
+        if place < count {
+            number_at(self.edges.as_slice(), place)
+        } else {
+            number_at(self.edges.as_slice(), count)
         }
     }
 

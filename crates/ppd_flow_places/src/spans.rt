@@ -7,6 +7,7 @@ ghost use Rattle.ppd_flow_past.specs.Pasts.{IsPast};
 ghost use Rattle.ppd_flow_places.specs.Counts.{AreCounts};
 ghost use Rattle.ppd_model.specs.Extents.{extents};
 
+use crate::numbers::number_at;
 use ppd_ast::{Ids, Memory, Seq};
 use ppd_flow_past::Past;
 use std::alloc::Global;
@@ -23,12 +24,11 @@ pub(crate) struct Spans {
 fn count_at(counts: &[u32], n: u32) -> u32
     ensures { (entries : List Entry) → AreCounts entries counts.now → result ≡ syncs_before entries n }
 {
-    match counts.get(n as usize) {
-        Some(count) => *count,
-        None => match counts.last() {
-            Some(count) => *count,
-            None => 0,
-        },
+    let last = counts.len().saturating_sub(1);
+    if (n as usize) < last {
+        number_at(counts, n as usize)
+    } else {
+        number_at(counts, last)
     }
 }
 
