@@ -35,8 +35,9 @@ fn paint_interval(innermost: &mut Ids, past: &Past, process: u8, interval: u32)
         ≡ (if stands_there n (slice_get (extents (entries_at past.now.logs.now process)) interval) then interval
         else get_or innermost.old n 0) }
 {
-    if let Some(found) = past.index.interval(process, interval) {
-        paint(innermost, found.first, found.last, interval);
+    match past.index.interval(process, interval) {
+        Some(found) => paint(innermost, found.first, found.last, interval),
+        None => {}
     }
 }
 

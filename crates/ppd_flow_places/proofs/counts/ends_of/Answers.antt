@@ -11,7 +11,7 @@ loop-place-preserved c =
     let entries = c.args.entries.now in
     let place = c.loop-place.place in
     up_to_more (ends_there entries) _ place c.loop-place.keys c.push_if.new.keys c.loop-place.invariant c.in_ok-push_if.ensures
-    (λ n. end_more entries c.args.counts.now place n _ _ _ _ c.ends_edge.result c.requires.counts c.loop-place-test.true refl refl c.ends_edge.ensures)
+    (λ n. end_more entries c.args.counts.now place n 0 _ c.index-entries-place.result c.index-entries-place.result c.ends_edge.result c.requires.counts c.loop-place-test.true refl c.index-entries-place.is c.ends_edge.ensures)
 
 pub returns : goal.returns
 returns c =

@@ -15,7 +15,7 @@ loop-n-preserved c =
     let lt = c.loop-n-test.true in
     let from = inv.from in
     record {
-      painted = more_painted c.args.innermost.now c.loop-n.innermost c.set.new.innermost c.args.first c.loop-n.n c.args.interval inv.painted from c.set.ensures;
+      painted = more_painted c.args.innermost.now c.loop-n.innermost c.set.new.self c.args.first c.loop-n.n c.args.interval inv.painted from c.set.ensures;
       from = omega (arith, from);
       to = inl (omega (arith, lt));
     }

@@ -8,5 +8,7 @@ returns-in-Some-clause-is c = λ n lt.
     ∙ ap (λ b. if b then c.args.interval else get_or c.args.innermost.now n 0)
     (stands_is c.args.past.now c.args.process c.args.interval c.requires.index_is n (Some c.in-Some.found) c.in-Some.ensures)
 
-pub returns-else-clause-is : goal.returns-else-clause-is
-returns-else-clause-is c = ?
+pub returns-in-None-clause-is : goal.returns-in-None-clause-is
+returns-in-None-clause-is c = λ n lt.
+    ap (λ b. if b then c.args.interval else get_or c.args.innermost.now n 0)
+    (stands_is c.args.past.now c.args.process c.args.interval c.requires.index_is n None c.in-None.ensures)

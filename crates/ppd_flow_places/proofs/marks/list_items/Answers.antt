@@ -12,7 +12,7 @@ loop-place-preserved c =
     let lt = c.loop-place-test.true in
     let more = c.requires.edges in
     up_to_more (is_marked c.args.mark edges items) _ place c.loop-place.keys c.push_item.new.keys c.loop-place.invariant c.in_ok-push_item.ensures
-    (λ n. mark_more c.args.mark edges items place n _ _ _ _ lt (omega (arith, lt, more)) refl refl)
+    (λ n. mark_more c.args.mark edges items place n 0 _ c.index-items-place.result c.index-items-place.result lt (omega (arith, lt, more)) refl c.index-items-place.is)
 
 pub returns : goal.returns
 returns c =

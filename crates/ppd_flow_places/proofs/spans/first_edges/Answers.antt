@@ -10,7 +10,7 @@ loop-interval-init c = none_first (first_edge (entries_at c.args.past.now.logs.n
 
 pub loop-interval-preserved : goal.loop-interval-preserved
 loop-interval-preserved c =
-    first_more (first_edge (entries_at c.args.past.now.logs.now c.args.process)) c.loop-interval.interval c.loop-interval.first c.push.new.first c.first_edge.result
+    first_more (first_edge (entries_at c.args.past.now.logs.now c.args.process)) c.loop-interval.interval c.loop-interval.first c.push.new.self c.first_edge.result
     c.loop-interval.invariant c.in_ok-push.ensures.ok c.first_edge.ensures
 
 pub returns : goal.returns

@@ -12,7 +12,7 @@ loop-interval-init c = none_first (λ k. syncs_inside (entries_at c.args.past.no
 
 pub loop-interval-preserved : goal.loop-interval-preserved
 loop-interval-preserved c =
-    first_more (λ k. syncs_inside (entries_at c.args.past.now.logs.now c.args.process) (slice_get (extents (entries_at c.args.past.now.logs.now c.args.process)) k)) c.loop-interval.interval c.loop-interval.inside c.push.new.inside c.syncs_inside.result
+    first_more (λ k. syncs_inside (entries_at c.args.past.now.logs.now c.args.process) (slice_get (extents (entries_at c.args.past.now.logs.now c.args.process)) k)) c.loop-interval.interval c.loop-interval.inside c.push.new.self c.syncs_inside.result
     c.loop-interval.invariant c.in_ok-push.ensures.ok c.syncs_inside.ensures
 
 pub returns : goal.returns
