@@ -1,5 +1,5 @@
 -- Lists of numbers that grow at the end, and counts of synchronizations.
-use Rattle.std.proofs.Common.{◌≡◌, ℕ, zero, suc, ◌+◌, ◌<◌, ◌≤◌, Bool, true, false, List, [], ◌∷◌, ◌++◌, refl, ap, ap₂, sym, subst, ◌∙◌, arith, inl, inr, get_or, length, length-append, take, if◌then◌else◌}
+use Rattle.std.proofs.Common.{◌≡◌, ℕ, zero, suc, ◌+◌, ◌<◌, ◌≤◌, Bool, true, false, List, [], ◌∷◌, ◌++◌, refl, ap, sym, subst, ◌∙◌, arith, inl, inr, get_or, length, length-append, take, if◌then◌else◌}
 use Rattle.std.specs.Prelude.{filter_map}
 use Rattle.std.proofs.lemmas.Bool.{cases_lt}
 use Rattle.std.proofs.lemmas.List.{get_or-append-add, get_or_append_left, get_or_past, take_all}
@@ -93,7 +93,8 @@ pub record AreCounted (entries : List Entry) (n count : ℕ) (counts : List ℕ)
 pub none_counted : (entries : List Entry) (counts counts' : List ℕ) (count : ℕ) → counts ≡ [] → count ≡ 0
     → counts' ≡ counts ++ count ∷ [] → AreCounted entries 0 count counts'
 none_counted entries counts counts' count none zero_ e = record {
-  first = first_more (syncs_before entries) 0 counts counts' count (none_first (syncs_before entries) counts none) e zero_;
+  first = first_more (syncs_before entries) 0 counts counts' count (none_first (syncs_before entries) counts none) e
+      zero_;
   last = zero_;
   most = omega (arith, zero_);
 }
@@ -108,7 +109,7 @@ pub more_counted : (entries : List Entry) (n count count' : ℕ) (counts counts'
     → AreCounted entries (n + 1) count' counts'
 more_counted entries n count count' counts counts' d e h lt is counted more =
     let now : count' ≡ syncs_before entries (n + 1) =
-        counted ∙ ap (λ m. if is_sync e then m + 1 else m) h.last ∙ sym (syncs_more entries n d e lt is) in
+    counted ∙ ap (λ m. if is_sync e then m + 1 else m) h.last ∙ sym (syncs_more entries n d e lt is) in
     record {
       first = first_more (syncs_before entries) (n + 1) counts counts' count' h.first more now;
       last = now;

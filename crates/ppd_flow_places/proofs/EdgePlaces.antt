@@ -1,13 +1,12 @@
 -- What is looked up in the tables.
-use Rattle.std.proofs.Common.{◌≡◌, ℕ, ◌+◌, ◌<◌, ◌≤◌, Bool, false, ◌&&◌, List, [], ◌∷◌, ◌++◌, Option, Some, None, refl, ap, ap₂, sym, ◌∙◌, arith, inl, inr, get_or, length, take}
+use Rattle.std.proofs.Common.{◌≡◌, ℕ, ◌+◌, ◌<◌, ◌≤◌, Bool, false, ◌&&◌, List, [], ◌∷◌, ◌++◌, Option, ap, ap₂, sym, ◌∙◌, arith, get_or, length, take}
 use Rattle.std.specs.Prelude.{nat_eq, slice_get, sum_by, unwrap_or}
-use Rattle.std.proofs.lemmas.Bool.{cases_lt}
 use Rattle.std.proofs.lemmas.List.{take_all, take_more}
 use Rattle.std.proofs.lemmas.List.Sums.{sum_by_push}
 use Rattle.ppd_entry.specs.declared.entry.Entry.{Entry}
 use Rattle.ppd_model.specs.declared.flow.Item.{Item}
 use Rattle.ppd_flow_model.specs.Ends.{ending, ends_edge, first_edge, innermost_at, is_sync_item, sync_item, syncs_before, syncs_of_item}
-use Rattle.ppd_flow_model.specs.Seen.{is_item_of, place_of}
+use Rattle.ppd_flow_model.specs.Seen.{place_of}
 use Rattle.ppd_flow_places.specs.declared.edge_table.EdgeTable.{EdgeTable}
 use Rattle.ppd_flow_places.specs.declared.marks.Mark.{Mark}
 use Rattle.ppd_flow_places.specs.declared.marks.Mark.TheVariants as mark
@@ -16,7 +15,7 @@ use Rattle.ppd_model.proofs.Lists.{get_or_any}
 use Rattle.ppd_flow_places.specs.Counts.{AreCounts}
 use Rattle.ppd_flow_places.specs.Listed.{IsFirstUnder}
 use Rattle.ppd_flow_places.specs.Tables.{IsEdgeTable, IsPlaceTable, edge_of, ends_there, is_marked, is_under, passes}
-use Rattle.ppd_flow_places.proofs.First.{IsFirst, ending_is, ending_within, first_same, first_where, first_within, place_is, sync_item_is, syncs_there}
+use Rattle.ppd_flow_places.proofs.First.{ending_is, ending_within, first_same, first_where, first_within, place_is, sync_item_is, syncs_there}
 use Rattle.ppd_flow_places.proofs.Marked.{none_passes, one_passes}
 
 -- ---- edges
@@ -28,7 +27,8 @@ module _ (entries : List Entry) (t : EdgeTable) (h : IsEdgeTable entries t) wher
   pub ending_found : (i : ℕ) (o : Option ℕ) → IsFirstUnder t.ends.keys i o → unwrap_or o t.count ≡ ending i entries
   ending_found i o found =
       ap (unwrap_or o) h.count
-      ∙ sym (ending_is entries i (unwrap_or o (length entries)) (first_where (ends_there entries) t.ends.keys (length entries) i h.ends h.few (none_ends i) o found))
+      ∙ sym (ending_is entries i (unwrap_or o (length entries))
+      (first_where (ends_there entries) t.ends.keys (length entries) i h.ends h.few (none_ends i) o found))
 
   pub innermost_found : (i n : ℕ) → n ≡ ending i entries
       → get_or t.innermost n 0 ≡ innermost_at entries (ending i entries)
@@ -56,16 +56,21 @@ module _ (entries : List Entry) (k : ℕ) (items : List Item) (t : PlaceTable) (
   sync_found i o found =
       ap (unwrap_or o) h.count
       ∙ sym (sync_item_is entries i items (first_edge entries k) (unwrap_or o (length items))
-      (first_same (is_marked mark.Sync t.edges items i) (syncs_there entries i (first_edge entries k) items) (length items)
+      (first_same (is_marked mark.Sync t.edges items i) (syncs_there entries i (first_edge entries k) items)
+      (length items)
       (unwrap_or o (length items))
-      (λ j lt. ap (λ e. passes (λ x. is_sync_item x && nat_eq i e) (slice_get items j)) (sym (h.edges.are j (omega (arith, lt)))))
-      (first_where (is_marked mark.Sync t.edges items) t.syncs.keys (length items) i h.syncs h.few (none_marked mark.Sync i) o found)))
+      (λ j lt. ap (λ e. passes (λ x. is_sync_item x && nat_eq i e) (slice_get items j))
+      (sym (h.edges.are j (omega (arith, lt)))))
+      (first_where (is_marked mark.Sync t.edges items) t.syncs.keys (length items) i h.syncs h.few
+      (none_marked mark.Sync i) o found)))
 
   pub place_found : (m : ℕ) (o : Option ℕ) → IsFirstUnder t.inner.keys m o → unwrap_or o 0 ≡ place_of m items
   place_found m o found =
       place_is m items o
-      (first_where (is_marked mark.Inner t.edges items) t.inner.keys (length items) m h.inner h.few (none_marked mark.Inner m) o found)
-      (first_within (is_marked mark.Inner t.edges items) t.inner.keys (length items) m h.inner (none_marked mark.Inner m) o found)
+      (first_where (is_marked mark.Inner t.edges items) t.inner.keys (length items) m h.inner h.few
+      (none_marked mark.Inner m) o found)
+      (first_within (is_marked mark.Inner t.edges items) t.inner.keys (length items) m h.inner
+      (none_marked mark.Inner m) o found)
 
 -- ---- the edges of places
 
@@ -74,8 +79,8 @@ edge_suc : (entries : List Entry) (k : ℕ) (items : List Item) (j : ℕ) (d t :
 edge_suc entries k items j d t lt is =
     let f = syncs_of_item entries in
     let more : sum_by f (take (j + 1) items) ≡ sum_by f (take j items) + f t =
-        ap (sum_by f) (take_more items j d lt ∙ ap (λ x. take j items ++ x ∷ []) (sym is))
-        ∙ sum_by_push f (take j items) t in
+    ap (sum_by f) (take_more items j d lt ∙ ap (λ x. take j items ++ x ∷ []) (sym is))
+    ∙ sum_by_push f (take j items) t in
     omega (arith, more)
 
 pub edge_more : (entries : List Entry) (k : ℕ) (items : List Item) (j : ℕ) (d t : Item) (edge edge' syncs : ℕ)
@@ -97,10 +102,12 @@ mark_more m edges items place n d e d' t lt lt' is is' =
     ap (λ x. is_under m x n t) (is ∙ get_or_any edges place d 0 lt')
     ∙ one_passes (is_under m (get_or edges place 0) n) items place d' t lt is'
 
-pub end_more : (entries : List Entry) (counts : List ℕ) (place n d c : ℕ) (d' e : Entry) (b : Bool) → AreCounts entries counts
+pub end_more : (entries : List Entry) (counts : List ℕ) (place n d c : ℕ) (d' e : Entry) (b : Bool) → AreCounts entries
+    counts
     → place < length entries → c ≡ get_or counts place d → e ≡ get_or entries place d' → b ≡ ends_edge e
     → (b && nat_eq n c) ≡ ends_there entries n place
 end_more entries counts place n d c d' e b are lt is is' ends =
     let long = are.long in
-    ap₂ (λ x y. x && nat_eq n y) ends (is ∙ get_or_any counts place d 0 (omega (arith, lt, long)) ∙ are.are place (omega (arith, lt)))
+    ap₂ (λ x y. x && nat_eq n y) ends (is ∙ get_or_any counts place d 0 (omega (arith, lt, long)) ∙ are.are place
+    (omega (arith, lt)))
     ∙ one_passes (λ x. ends_edge x && nat_eq n (syncs_before entries place)) entries place d' e lt is'

@@ -1,6 +1,6 @@
 -- The first place at which a test holds.
-use Rattle.std.proofs.Common.{◌≡◌, ℕ, zero, suc, ◌+◌, ◌^◌, ◌<◌, ◌≤◌, Bool, true, false, ◌&&◌, List, [], ◌∷◌, Option, Some, None, refl, ap, ap₂, sym, subst, ◌∙◌, arith, inl, inr, cond, eq-eqb, ne_eqb, get_or, length, take, true≢false, lt-ltb}
-use Rattle.std.specs.Prelude.{filter_map, nat_eq, nat_lt, slice_get, sum_by, unwrap_or, if◌then◌else◌}
+use Rattle.std.proofs.Common.{◌≡◌, ℕ, zero, suc, ◌+◌, ◌^◌, ◌<◌, ◌≤◌, Bool, true, false, ◌&&◌, List, [], ◌∷◌, Option, Some, None, refl, ap, sym, subst, ◌∙◌, arith, inl, inr, cond, eq-eqb, ne_eqb, get_or, length, take, true≢false, lt-ltb}
+use Rattle.std.specs.Prelude.{nat_eq, nat_lt, slice_get, sum_by, unwrap_or, if◌then◌else◌}
 use Rattle.std.specs.List.{position_or_len}
 use Rattle.std.proofs.Math.Bool.{and-true, and-false}
 use Rattle.std.proofs.lemmas.Bool.{cases_eq, cases_lt, le-ltb}
@@ -10,10 +10,9 @@ use Rattle.ppd_entry.specs.declared.entry.Entry.{Entry}
 use Rattle.ppd_entry.specs.declared.entry.Entry.TheVariants as entry
 use Rattle.ppd_model.specs.declared.flow.Item.{Item}
 use Rattle.ppd_model.specs.declared.flow.Item.TheVariants as item
-use Rattle.ppd_model.specs.RecordedSets.{sync_in}
 use Rattle.ppd_flow_model.specs.Ends.{ending, ends_edge, is_sync, is_sync_item, sync_item, syncs_before, syncs_of_item}
 use Rattle.ppd_flow_model.specs.Seen.{is_item_of, place_of}
-use Rattle.ppd_flow_places.specs.Listed.{IsFirstUnder, key}
+use Rattle.ppd_flow_places.specs.Listed.{IsFirstUnder}
 use Rattle.ppd_flow_places.specs.Tables.{AreWhere, ends_there, passes}
 use Rattle.ppd_flow_places.proofs.Collected.{one_sync}
 use Rattle.ppd_flow_places.proofs.Marked.{one_passes}
@@ -24,7 +23,8 @@ pub record IsFirst (test : ℕ → Bool) (n p : ℕ) : Type 0 where
   pub before : (j : ℕ) → j < p → test j ≡ false
   pub there : p < n → test p ≡ true
 
-pub first_same : (test test' : ℕ → Bool) (n p : ℕ) → ((j : ℕ) → j < n → test' j ≡ test j) → IsFirst test n p → IsFirst test' n p
+pub first_same : (test test' : ℕ → Bool) (n p : ℕ) → ((j : ℕ) → j < n → test' j ≡ test j) → IsFirst test n p → IsFirst
+    test' n p
 first_same test test' n p same h = record {
   within = h.within;
   before = λ j lt. let within = h.within in same j (omega (arith, lt, within)) ∙ h.before j lt;
@@ -117,13 +117,15 @@ ending_is (e ∷ es) zero (suc p) h =
     ∙ ap suc (ending_is es zero p (first_same (λ j. ends_there (e ∷ es) zero (suc j)) (ends_there es zero) (length es) p
     (λ j lt. on_without e es zero j (sync_ends e none)) (first_tail (ends_there (e ∷ es) zero) (length es) p h)))
 ending_is (e ∷ es) (suc i) zero h =
-    absurd (true≢false (sym (h.there (omega arith)) ∙ ap (λ b. ends_edge e && b) (ne_eqb (suc i) 0 (λ f. omega (arith, f))) ∙ and-false (ends_edge e)))
+    absurd (true≢false (sym (h.there (omega arith)) ∙ ap (λ b. ends_edge e && b)
+    (ne_eqb (suc i) 0 (λ f. omega (arith, f))) ∙ and-false (ends_edge e)))
 ending_is (e ∷ es) (suc i) (suc p) h =
     let tail = first_tail (ends_there (e ∷ es) (suc i)) (length es) p h in
     by (is_sync e) (ending i es) (ending (suc i) es)
     (λ f. ending_is es i p (first_same (λ j. ends_there (e ∷ es) (suc i) (suc j)) (ends_there es i) (length es) p
     (λ j lt. on_with e es i j f) tail))
-    (λ f. ending_is es (suc i) p (first_same (λ j. ends_there (e ∷ es) (suc i) (suc j)) (ends_there es (suc i)) (length es) p
+    (λ f. ending_is es (suc i) p (first_same (λ j. ends_there (e ∷ es) (suc i) (suc j)) (ends_there es (suc i))
+    (length es) p
     (λ j lt. on_without e es (suc i) j f) tail))
   where
     by : (b : Bool) (m n : ℕ) → (b ≡ true → m ≡ p) → (b ≡ false → n ≡ p) → (if b then suc m else suc n) ≡ suc p
@@ -197,7 +199,8 @@ module _ (m : ℕ) (items : List Item) where
       → position_or_len (is_item_of m) items ≡ p
   position_is p h =
       position_or_len_is (is_item_of m) items p d h.within
-      (λ j lt. let within = h.within in one_passes (is_item_of m) items j d (get_or items j d) (omega (arith, lt, within)) refl ∙ h.before j lt)
+      (λ j lt. let within = h.within in one_passes (is_item_of m) items j d (get_or items j d)
+      (omega (arith, lt, within)) refl ∙ h.before j lt)
       (λ lt. one_passes (is_item_of m) items p d (get_or items p d) lt refl ∙ h.there lt)
 
   at : (p : ℕ) (o : Option ℕ) → p ≡ unwrap_or o (length items) → ((i : ℕ) → o ≡ Some i → i < length items)

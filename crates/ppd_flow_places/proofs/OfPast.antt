@@ -1,5 +1,5 @@
 -- Intervals of a past that are not there.
-use Rattle.std.proofs.Common.{◌≡◌, ℕ, ◌≤◌, None, ap, sym, ◌∙◌, length, subst}
+use Rattle.std.proofs.Common.{◌≡◌, ℕ, ◌≤◌, None, ap, sym, length, subst}
 use Rattle.std.specs.Prelude.{slice_get}
 use Rattle.std.proofs.lemmas.Option.{slice_get_past}
 use Rattle.ppd_entry.specs.Entries.{entries_at}

@@ -1,5 +1,5 @@
 -- Numbers written at the places of a range.
-use Rattle.std.proofs.Common.{◌≡◌, ℕ, zero, suc, ◌+◌, ◌<◌, ◌≤◌, Bool, true, false, ◌&&◌, List, refl, ap, ap₂, sym, subst, ◌∙◌, arith, inl, inr, ◌⊎◌, get_or, length, lt-ltb, slice_set, if◌then◌else◌}
+use Rattle.std.proofs.Common.{◌≡◌, ℕ, ◌+◌, ◌<◌, ◌≤◌, true, false, ◌&&◌, List, refl, ap, ap₂, sym, ◌∙◌, arith, inl, inr, ◌⊎◌, get_or, length, lt-ltb, slice_set, if◌then◌else◌}
 use Rattle.std.specs.Prelude.{nat_le, nat_lt, replicate}
 use Rattle.std.proofs.Math.Bool.{and-false}
 use Rattle.std.proofs.lemmas.Bool.{cases_eq, cases_lt, le-ltb}
@@ -34,8 +34,10 @@ more_painted old now now' first n number h after e = record {
       ∙ elim (cases_eq m n) [
         | inl same ↦
             let long = h.long in
-            ap (λ k. get_or (slice_set now n number) k 0) same ∙ get_or-set_same now n number 0 (omega (arith, same, lt, long))
-            ∙ ap (λ b. if b then number else get_or old m 0) (sym (inside first m (n + 1) (omega (arith, same, after)) (omega (arith, same))))
+            ap (λ k. get_or (slice_set now n number) k 0) same ∙ get_or-set_same now n number 0
+            (omega (arith, same, lt, long))
+            ∙ ap (λ b. if b then number else get_or old m 0)
+            (sym (inside first m (n + 1) (omega (arith, same, after)) (omega (arith, same))))
         | inr other ↦
             get_or-set_other now n m number 0 other ∙ h.is m lt
             ∙ ap (λ b. if nat_lt first m && b then number else get_or old m 0) (elim (cases_lt m n) [
@@ -51,7 +53,8 @@ pub all_painted : (old now : List ℕ) (first n last number : ℕ) → ArePainte
     → get_or now m 0 ≡ (if nat_lt first m && nat_le m last then number else get_or old m 0)
 all_painted old now first n last number h to over m lt =
     h.is m lt ∙ ap (λ b. if b then number else get_or old m 0) (elim to [
-      | inl up ↦ let e : n ≡ last + 1 = omega (arith, up, over) in ap (λ k. nat_lt first m && nat_lt m k) e ∙ ap (λ b. nat_lt first m && b) (same m last)
+      | inl up ↦ let e : n ≡ last + 1 = omega (arith, up, over) in ap (λ k. nat_lt first m && nat_lt m k) e ∙ ap
+          (λ b. nat_lt first m && b) (same m last)
       | inr e ↦ outside first m n (λ after before. omega (arith, e, after, before)) ∙ sym (none e)
     ])
   where
@@ -62,7 +65,8 @@ all_painted old now first n last number h to over m lt =
     ]
 
     none : n ≡ first + 1 → (nat_lt first m && nat_le m last) ≡ false
-    none e = ap (λ b. nat_lt first m && b) (sym (same m last)) ∙ outside first m (last + 1) (λ after before. omega (arith, e, over, after, before))
+    none e = ap (λ b. nat_lt first m && b) (sym (same m last)) ∙ outside first m (last + 1)
+        (λ after before. omega (arith, e, over, after, before))
 
 pub zero_there : (count n : ℕ) (zeros : List ℕ) → zeros ≡ replicate count 0 → n < count → get_or zeros n 0 ≡ 0
 zero_there count n zeros e lt = ap (λ (xs : List ℕ). get_or xs n 0) e ∙ get_or-replicate count n 0 0 lt

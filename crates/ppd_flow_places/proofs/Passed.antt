@@ -1,5 +1,5 @@
 -- The walk back over items that it simply passes.
-use Rattle.std.proofs.Common.{◌≡◌, ℕ, zero, suc, ◌+◌, ◌^◌, ◌<◌, ◌≤◌, ℤ, Bool, true, false, ◌&&◌, List, [], ◌∷◌, Option, Some, None, refl, ap, ap₂, sym, subst, ◌∙◌, arith, inl, inr, ◌⊎◌, get_or, length, take, true≢false, if◌then◌else◌}
+use Rattle.std.proofs.Common.{◌≡◌, ℕ, zero, suc, ◌+◌, ◌^◌, ◌<◌, ◌≤◌, ℤ, Bool, true, false, ◌&&◌, List, [], ◌∷◌, Option, Some, None, refl, ap, ap₂, sym, ◌∙◌, arith, inl, inr, length, take, true≢false, if◌then◌else◌}
 use Rattle.std.specs.Prelude.{is_some, nat_eq, slice_get}
 use Rattle.std.proofs.Math.Bool.{and-true}
 use Rattle.std.proofs.lemmas.Bool.{cases_eq, cases_lt}
@@ -13,7 +13,7 @@ use Rattle.ppd_flow_model.specs.declared.walked.Walked.TheVariants.{Stopped, Pas
 use Rattle.ppd_flow_model.specs.Walk.{back_from, back_over, backwards, found_or, if_passed, over_event, over_replays, value_to}
 use Rattle.ppd_flow_places.specs.declared.marks.Mark.TheVariants as mark
 use Rattle.ppd_flow_places.specs.declared.place_table.PlaceTable.{PlaceTable}
-use Rattle.ppd_flow_places.specs.Listed.{IsLastUnder, key}
+use Rattle.ppd_flow_places.specs.Listed.{IsLastUnder}
 use Rattle.ppd_flow_places.specs.Stops.{ArePassed, IsLater, after, is_border, writes_cell}
 use Rattle.ppd_flow_places.specs.Tables.{AreWhere, IsPlaceTable, is_marked, passes}
 use Rattle.ppd_flow_places.proofs.EdgePlaces.{none_marked}
@@ -25,7 +25,8 @@ module _ (inner : ℕ → Walked) (touched : ℕ → List ℕ) (c k : ℕ) where
       → over_event c k i e rest ≡ rest
   event_walked i e rest none other = by (is_some e.number) (value_to c e.writes) none other
     where
-      by : (b : Bool) (v : Option ℤ) → b ≡ false → is_some v ≡ false → (if b then Stopped else found_or k i v rest) ≡ rest
+      by : (b : Bool) (v : Option ℤ) → b ≡ false → is_some v ≡ false → (if b then Stopped else found_or k i v rest)
+          ≡ rest
       by true v f g = absurd (true≢false f)
       by false None f g = refl
       by false (Some v) f g = absurd (true≢false g)
@@ -77,7 +78,8 @@ AreClear c items i j =
 
 module _ (c : ℕ) (items : List Item) (i : ℕ) where
   module _ {A : Type 0} (over : List (ℕ × Item) → A)
-      (one : (l : ℕ) (t : Item) (rest : List (ℕ × Item)) → is_border t ≡ false → writes_cell c t ≡ false → over ((l, t) ∷ rest) ≡ over rest) where
+      (one : (l : ℕ) (t : Item) (rest : List (ℕ × Item)) → is_border t ≡ false → writes_cell c t ≡ false → over
+      ((l, t) ∷ rest) ≡ over rest) where
     step : (j : ℕ) (o : Option Item) → slice_get items j ≡ o → i ≤ j → AreClear c items i (suc j)
         → over (back_from (suc j) items) ≡ over (back_from j items)
     step j None e le clear = ap (λ (ts : List Item). over (backwards 0 ts [])) (same_take items j e)
@@ -100,7 +102,8 @@ module _ (c : ℕ) (items : List Item) (i : ℕ) where
     within = within;
     before = before;
     walked = λ inner k. clear_over (back_over inner c k) (one_walked inner (λ m. []) c k) j before clear;
-    replays = λ inner touched k. clear_over (over_replays inner touched c k) (one_replayed inner touched c k) j before clear;
+    replays = λ inner touched k. clear_over (over_replays inner touched c k) (one_replayed inner touched c k) j before
+        clear;
   }
 
 -- ---- the last stop
@@ -151,20 +154,25 @@ module _ (entries : List Entry) (k : ℕ) (items : List Item) (t : PlaceTable) (
       let between = later_of border write r l in
       let first = between.0 in
       let second = between.1 in
-      let in_place = between.2 most (last_most (is_marked mark.Border t.edges items) t.stops.borders.keys 0 most h.borders border b)
-          (last_most (is_marked mark.Write t.edges items) t.stops.writes.keys c most h.writes write w) in
+      let in_place = between.2 most (last_most (is_marked mark.Border t.edges items) t.stops.borders.keys 0 most
+      h.borders border b)
+      (last_most (is_marked mark.Write t.edges items) t.stops.writes.keys c most h.writes write w) in
       are_passed c items (after r) place
       (between.2 (length items)
-      (last_within (is_marked mark.Border t.edges items) t.stops.borders.keys 0 most h.borders border b (length items) (none_marked entries k items t h mark.Border 0))
-      (last_within (is_marked mark.Write t.edges items) t.stops.writes.keys c most h.writes write w (length items) (none_marked entries k items t h mark.Write c)))
+      (last_within (is_marked mark.Border t.edges items) t.stops.borders.keys 0 most h.borders border b (length items)
+      (none_marked entries k items t h mark.Border 0))
+      (last_within (is_marked mark.Write t.edges items) t.stops.writes.keys c most h.writes write w (length items)
+      (none_marked entries k items t h mark.Write c)))
       (omega (arith, in_place, le))
       (λ i x from lt e.
       let within = slice_get_within items i x e in
       let early : i < most = small i lt (omega (arith, within, few)) in
       let no_border : (is_border x && nat_eq 0 0) ≡ false =
-          sym (ap (passes (λ y. is_border y && nat_eq 0 0)) e)
-          ∙ last_clear (is_marked mark.Border t.edges items) t.stops.borders.keys 0 most h.borders border b i (omega (arith, from, first)) early (omega (arith, within, few)) in
+      sym (ap (passes (λ y. is_border y && nat_eq 0 0)) e)
+      ∙ last_clear (is_marked mark.Border t.edges items) t.stops.borders.keys 0 most h.borders border b i
+      (omega (arith, from, first)) early (omega (arith, within, few)) in
       let no_write : writes_cell c x ≡ false =
-          sym (ap (passes (writes_cell c)) e)
-          ∙ last_clear (is_marked mark.Write t.edges items) t.stops.writes.keys c most h.writes write w i (omega (arith, from, second)) early (omega (arith, within, few)) in
+      sym (ap (passes (writes_cell c)) e)
+      ∙ last_clear (is_marked mark.Write t.edges items) t.stops.writes.keys c most h.writes write w i
+      (omega (arith, from, second)) early (omega (arith, within, few)) in
       (sym (and-true (is_border x)) ∙ no_border, no_write))

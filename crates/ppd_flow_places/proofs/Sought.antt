@@ -1,5 +1,5 @@
 -- What is found among keys in order.
-use Rattle.std.proofs.Common.{◌≡◌, ℕ, zero, suc, ◌+◌, ◌-◌, ◌*◌, ◌/◌, ◌%◌, ◌^◌, ◌<◌, ◌≤◌, Bool, true, false, ◌&&◌, ◌||◌, List, [], ◌∷◌, ◌++◌, Option, Some, None, refl, ap, ap₂, sym, subst, ◌∙◌, arith, inl, inr, get_or, length, eq-eqb, ne_eqb}
+use Rattle.std.proofs.Common.{◌≡◌, ℕ, zero, suc, ◌-◌, ◌*◌, ◌/◌, ◌%◌, ◌^◌, ◌<◌, ◌≤◌, Bool, true, false, ◌&&◌, ◌||◌, List, [], ◌∷◌, ◌++◌, Option, Some, None, refl, ap, ap₂, sym, ◌∙◌, arith, inl, inr, get_or, length, eq-eqb, ne_eqb}
 use Rattle.std.specs.Prelude.{nat_eq}
 use Rattle.std.specs.List.Sorted.{IsNonDecreasing}
 use Rattle.std.proofs.Math.Bool.{and-false, or-false, or-true}
@@ -20,7 +20,8 @@ place_not_there n k other i lt is = other (omega (arith, lt, is))
 pub has_not : (ks : List ℕ) (x : ℕ) → ((k : ℕ) → k < length ks → get_or ks k 0 ≡ x → ⊥) → has ks x ≡ false
 has_not [] x none = refl
 has_not (y ∷ ks) x none =
-    ap₂ (λ a b. a || b) (ne_eqb y x (none 0 (omega arith))) (has_not ks x (λ k lt e. none (suc k) (omega (arith, lt)) e))
+    ap₂ (λ a b. a || b) (ne_eqb y x (none 0 (omega arith)))
+    (has_not ks x (λ k lt e. none (suc k) (omega (arith, lt)) e))
 
 pub has_at : (ks : List ℕ) (x k : ℕ) → k < length ks → get_or ks k 0 ≡ x → has ks x ≡ true
 has_at [] x k lt e = absurd (omega (arith, lt))
@@ -42,7 +43,8 @@ module _ (ks : List ℕ) (rises : IsNonDecreasing ks) (n most c : ℕ) (cut : Is
   -- the first from the cut on
   first_none : most ≡ 0 → length ks ≤ c → IsFirstUnder ks n None
   first_none e over i lt =
-      has_not ks (key n i) (λ k within is. let less = below k (omega (arith, over, within)) in omega (arith, e, less, is))
+      has_not ks (key n i) (λ k within is. let less = below k (omega (arith, over, within)) in omega
+      (arith, e, less, is))
 
   first_other : most ≡ 0 → c < length ks → IsPlaceUnder n (get_or ks c 0) None → IsFirstUnder ks n None
   first_other e there other i lt =
@@ -55,13 +57,17 @@ module _ (ks : List ℕ) (rises : IsNonDecreasing ks) (n most c : ℕ) (cut : Is
             other (get_or ks c 0 - n * 2 ^ 32) (omega (arith, e, more, is, lt, least)) (omega (arith, e, least))
       ])
 
-  first_found : most ≡ 0 → c < length ks → (i : ℕ) → IsPlaceUnder n (get_or ks c 0) (Some i) → IsFirstUnder ks n (Some i)
-  first_found e there i h =
-      (h.0, has_at ks (key n i) c there h.1, λ j lt. has_not ks (key n j) (λ k within is.
-      elim (cases_lt k c) [
-        | inl before ↦ let less = below k before in omega (arith, e, less, is)
-        | inr after ↦ let more = up_to c k after within in let at = h.1 in omega (arith, more, is, lt, at)
-      ]))
+  first_found : most ≡ 0 → c < length ks → (i : ℕ) → IsPlaceUnder n (get_or ks c 0) (Some i) → IsFirstUnder ks n
+      (Some i)
+  first_found e there i h = (
+    h.0,
+    has_at ks (key n i) c there h.1,
+    λ j lt. has_not ks (key n j) (λ k within is.
+        elim (cases_lt k c) [
+          | inl before ↦ let less = below k before in omega (arith, e, less, is)
+          | inr after ↦ let more = up_to c k after within in let at = h.1 in omega (arith, more, is, lt, at)
+        ]),
+  )
 
   pub first_is : most ≡ 0 → c < length ks → (o : Option ℕ) → IsPlaceUnder n (get_or ks c 0) o → IsFirstUnder ks n o
   first_is e there None h = first_other e there h
@@ -91,15 +97,18 @@ module _ (ks : List ℕ) (rises : IsNonDecreasing ks) (n most c : ℕ) (cut : Is
   last_found some i h =
       let in_keys = cut.within in
       let at = h.1 in
-      let less = below (c - 1) (omega (arith, some)) in
-      (omega (arith, less, at), h.0, has_at ks (key n i) (c - 1) (omega (arith, some, in_keys)) at,
-      λ j lt before_most fits. has_not ks (key n j) (λ k within is.
-      elim (cases_lt k c) [
-        | inl before ↦
-            let more = up_to k (c - 1) (omega (arith, before)) (omega (arith, some, in_keys)) in
-            omega (arith, more, is, lt, at)
-        | inr after ↦ let more = above k after within in omega (arith, more, is, before_most)
-      ]))
+      let less = below (c - 1) (omega (arith, some)) in (
+        omega (arith, less, at),
+        h.0,
+        has_at ks (key n i) (c - 1) (omega (arith, some, in_keys)) at,
+        λ j lt before_most fits. has_not ks (key n j) (λ k within is.
+            elim (cases_lt k c) [
+              | inl before ↦
+                  let more = up_to k (c - 1) (omega (arith, before)) (omega (arith, some, in_keys)) in
+                  omega (arith, more, is, lt, at)
+              | inr after ↦ let more = above k after within in omega (arith, more, is, before_most)
+            ]),
+      )
 
   pub last_is : most < 2 ^ 32 → (c ≡ 0 → ⊥) → (o : Option ℕ) → IsPlaceUnder n (get_or ks (c - 1) 0) o
       → IsLastUnder ks n most o
@@ -111,7 +120,8 @@ module _ (ks : List ℕ) (rises : IsNonDecreasing ks) (n most c : ℕ) (cut : Is
 same_key : (a i n j : ℕ) → i < 2 ^ 32 → j < 2 ^ 32 → nat_eq (key a i) (key n j) ≡ (nat_eq i j && nat_eq n a)
 same_key a i n j small small' = elim (cases_eq i j) [
   | inl e ↦ elim (cases_eq a n) [
-    | inl f ↦ eq-eqb (key a i) (key n j) (omega (arith, e, f)) ∙ sym (ap₂ (λ x y. x && y) (eq-eqb i j e) (eq-eqb n a (sym f)))
+    | inl f ↦ eq-eqb (key a i) (key n j) (omega (arith, e, f)) ∙ sym
+        (ap₂ (λ x y. x && y) (eq-eqb i j e) (eq-eqb n a (sym f)))
     | inr f ↦
         ne_eqb (key a i) (key n j) (λ g. f (omega (arith, e, g)))
         ∙ sym (ap (λ x. nat_eq i j && x) (ne_eqb n a (λ g. f (sym g))) ∙ and-false (nat_eq i j))

@@ -42,7 +42,12 @@ fn paint_interval(innermost: &mut Ids, past: &Past, process: u8, interval: u32)
 }
 
 /// The innermost interval at each entry, and at the end.
-pub(crate) fn innermost_of(alloc: Global, past: &Past, process: u8, count: u32) -> Result<Ids, Memory>
+pub(crate) fn innermost_of(
+    alloc: Global,
+    past: &Past,
+    process: u8,
+    count: u32,
+) -> Result<Ids, Memory>
     requires { IsPast past.now }
     ensures { IfOk result (λ innermost. (n : ℕ) → n ≤ count → get_or innermost n 0
         ≡ innermost_at (entries_at past.now.logs.now process) n) }

@@ -41,7 +41,12 @@ pub(crate) fn push_place(keys: &mut Seq<u64>, number: u32, place: u32) -> Result
 }
 
 /// Adds it where the test holds.
-pub(crate) fn push_if(keys: &mut Seq<u64>, test: bool, number: u32, place: u32) -> Result<(), Memory>
+pub(crate) fn push_if(
+    keys: &mut Seq<u64>,
+    test: bool,
+    number: u32,
+    place: u32,
+) -> Result<(), Memory>
     ensures { OnOk result ((n i : ℕ) → i < 2 ^ 32 → has keys.new (key_of n i)
         ≡ (has keys.old (key_of n i) || (nat_eq place i && (test && nat_eq n number)))) }
 {

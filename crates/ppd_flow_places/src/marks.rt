@@ -105,7 +105,12 @@ fn push_item(
 }
 
 /// The items, which are of these edges, under their numbers.
-pub(crate) fn list_items(alloc: Global, mark: Mark, edges: &[u32], items: &[Item]) -> Result<Listing, Memory>
+pub(crate) fn list_items(
+    alloc: Global,
+    mark: Mark,
+    edges: &[u32],
+    items: &[Item],
+) -> Result<Listing, Memory>
     requires few { length items.now < 2 ^ 32 }
     requires edges { length items.now < length edges.now }
     ensures { IfOk result (λ listing. AreWhere (is_marked mark edges.now items.now) listing.keys) }

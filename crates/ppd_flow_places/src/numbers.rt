@@ -5,5 +5,9 @@ ghost use Rattle.std.specs.Prelude.{◌≡◌, get_or};
 pub(crate) fn number_at(numbers: &[u32], place: usize) -> u32
     ensures { result ≡ get_or numbers.now place 0 }
 {
-    if place < numbers.len() { numbers[place] } else { 0 }
+    if place < numbers.len() {
+        numbers[place]
+    } else {
+        0
+    }
 }

@@ -71,7 +71,12 @@ impl PlaceTable {
     /// The table of an interval, whose items these are, of the process with these edges, in steps that are linear in
     /// the items but for the sort of those that are listed. `Memory` is want of memory, also for items and edges that
     /// have no 32-bit numbers.
-    pub fn new(alloc: Global, edges: &EdgeTable, interval: u32, items: &[Item]) -> Result<PlaceTable, Memory>
+    pub fn new(
+        alloc: Global,
+        edges: &EdgeTable,
+        interval: u32,
+        items: &[Item],
+    ) -> Result<PlaceTable, Memory>
         ensures { IfOk result (λ table. (entries : List Entry) → IsEdgeTable entries edges.now
             → IsPlaceTable entries interval items.now table) }
     {

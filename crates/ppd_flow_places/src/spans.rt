@@ -87,7 +87,12 @@ fn inner_syncs(alloc: Global, past: &Past, process: u8, counts: &[u32]) -> Resul
     Ok(inside)
 }
 
-pub(crate) fn spans_of(alloc: Global, past: &Past, process: u8, counts: &[u32]) -> Result<Spans, Memory>
+pub(crate) fn spans_of(
+    alloc: Global,
+    past: &Past,
+    process: u8,
+    counts: &[u32],
+) -> Result<Spans, Memory>
     requires past { IsPast past.now }
     requires counts { AreCounts (entries_at past.now.logs.now process) counts.now }
     ensures first { IfOk result (λ spans. (k : ℕ) → get_or spans.first k 0

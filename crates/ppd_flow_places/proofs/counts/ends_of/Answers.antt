@@ -1,4 +1,4 @@
-use Rattle.std.proofs.Common.{◌≤◌, arith, refl}
+use Rattle.std.proofs.Common.{arith, refl}
 use Rattle.ppd_flow_model.specs.Ends.{ends_edge, syncs_before}
 use Rattle.std.specs.Prelude.{◌&&◌, nat_eq}
 use Rattle.ppd_flow_places.specs.Tables.{ends_there}
@@ -10,8 +10,10 @@ pub loop-place-preserved : goal.loop-place-preserved
 loop-place-preserved c =
     let entries = c.args.entries.now in
     let place = c.loop-place.place in
-    up_to_more (ends_there entries) _ place c.loop-place.keys c.push_if.new.keys c.loop-place.invariant c.in_ok-push_if.ensures
-    (λ n. end_more entries c.args.counts.now place n 0 _ c.index-entries-place.result c.index-entries-place.result c.ends_edge.result c.requires.counts c.loop-place-test.true refl c.index-entries-place.is c.ends_edge.ensures)
+    up_to_more (ends_there entries) _ place c.loop-place.keys c.push_if.new.keys c.loop-place.invariant
+    c.in_ok-push_if.ensures
+    (λ n. end_more entries c.args.counts.now place n 0 _ c.index-entries-place.result c.index-entries-place.result
+    c.ends_edge.result c.requires.counts c.loop-place-test.true refl c.index-entries-place.is c.ends_edge.ensures)
 
 pub returns : goal.returns
 returns c =

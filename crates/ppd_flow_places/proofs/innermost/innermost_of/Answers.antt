@@ -23,13 +23,14 @@ loop-interval-preserved c =
     let k = c.loop-interval.interval in
     let old = c.loop-interval.innermost in
     let count : c.count-interval-end.result ≡ length xs =
-        c.count-interval-end.ensures ∙ sym (extents_count c.args.past.now c.args.process c.requires.index_is) in
+    c.count-interval-end.ensures ∙ sym (extents_count c.args.past.now c.args.process c.requires.index_is) in
     let lt : k < length xs = subst (λ n. k < n) count c.loop-interval-test.true in
     let long = inv.long in
     record {
       long = c.paint_interval.ensures.long ∙ long;
       are = λ n le.
-          ap (λ m. innermost_from n m (k + 1) (drop (k + 1) xs)) (c.paint_interval.ensures.is n (omega (arith, le, long)))
+          ap (λ m. innermost_from n m (k + 1) (drop (k + 1) xs))
+          (c.paint_interval.ensures.is n (omega (arith, le, long)))
           ∙ sym (innermost_next n (get_or old n 0) k xs (stands_there n (slice_get xs k)) lt refl)
           ∙ inv.are n le;
     }
@@ -40,7 +41,7 @@ returns c =
     let xs = extents (entries_at c.args.past.now.logs.now c.args.process) in
     let k = c.loop-interval.interval in
     let count : c.count-interval-end.result ≡ length xs =
-        c.count-interval-end.ensures ∙ sym (extents_count c.args.past.now c.args.process c.requires.index_is) in
+    c.count-interval-end.ensures ∙ sym (extents_count c.args.past.now c.args.process c.requires.index_is) in
     let over : length xs ≤ k = subst (λ n. n ≤ k) count c.loop-interval-test.false in
     λ n le.
     sym (ap (λ (ys : List Extent). innermost_from n (get_or c.loop-interval.innermost n 0) k ys) (drop_all k xs over))

@@ -8,6 +8,7 @@ abbrev pub invariant-loop-interval : goal.invariant-loop-interval
 invariant-loop-interval l = record {
   long : length l.innermost ≡ l.count + 1;
   are : (n : ℕ) → n ≤ l.count
-      → innermost_from n (get_or l.innermost n 0) l.interval (drop l.interval (extents (entries_at l.past.logs.now l.process)))
+      → innermost_from n (get_or l.innermost n 0) l.interval
+      (drop l.interval (extents (entries_at l.past.logs.now l.process)))
       ≡ innermost_at (entries_at l.past.logs.now l.process) n;
 }

@@ -15,7 +15,8 @@ loop-n-preserved c =
     let lt = c.loop-n-test.true in
     let from = inv.from in
     record {
-      painted = more_painted c.args.innermost.now c.loop-n.innermost c.set.new.self c.args.first c.loop-n.n c.args.interval inv.painted from c.set.ensures;
+      painted = more_painted c.args.innermost.now c.loop-n.innermost c.set.new.self c.args.first c.loop-n.n
+          c.args.interval inv.painted from c.set.ensures;
       from = omega (arith, from);
       to = inl (omega (arith, lt));
     }
@@ -26,4 +27,5 @@ returns-clause-long c = c.loop-n.invariant.painted.long
 pub returns-clause-is : goal.returns-clause-is
 returns-clause-is c =
     let over = c.loop-n-test.false in
-    all_painted c.args.innermost.now c.loop-n.innermost c.args.first c.loop-n.n c.args.last c.args.interval c.loop-n.invariant.painted c.loop-n.invariant.to (omega (arith, over))
+    all_painted c.args.innermost.now c.loop-n.innermost c.args.first c.loop-n.n c.args.last c.args.interval
+    c.loop-n.invariant.painted c.loop-n.invariant.to (omega (arith, over))

@@ -6,7 +6,8 @@ pub returns-in-Some-clause-is : goal.returns-in-Some-clause-is
 returns-in-Some-clause-is c = λ n lt.
     c.paint.ensures.is n lt
     ∙ ap (λ b. if b then c.args.interval else get_or c.args.innermost.now n 0)
-    (stands_is c.args.past.now c.args.process c.args.interval c.requires.index_is n (Some c.in-Some.found) c.in-Some.ensures)
+    (stands_is c.args.past.now c.args.process c.args.interval c.requires.index_is n (Some c.in-Some.found)
+    c.in-Some.ensures)
 
 pub returns-in-None-clause-is : goal.returns-in-None-clause-is
 returns-in-None-clause-is c = λ n lt.

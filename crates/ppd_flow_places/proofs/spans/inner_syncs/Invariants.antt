@@ -6,4 +6,5 @@ use Rattle.ppd_flow_places.proofs.Collected.{AreFirst}
 use Rattle.ppd_flow_places.proofs.spans.inner_syncs.Given as goal
 
 abbrev pub invariant-loop-interval : goal.invariant-loop-interval
-invariant-loop-interval l = AreFirst (λ k. syncs_inside (entries_at l.past.logs.now l.process) (slice_get (extents (entries_at l.past.logs.now l.process)) k)) l.interval l.inside
+invariant-loop-interval l = AreFirst (λ k. syncs_inside (entries_at l.past.logs.now l.process)
+    (slice_get (extents (entries_at l.past.logs.now l.process)) k)) l.interval l.inside

@@ -10,7 +10,8 @@ returns c =
     let keys = c.as_slice.result.now in
     let rises = subst IsNonDecreasing (sym c.as_slice.ensures) c.args.self.now.rising in
     let parted = IsPartitionedBy-ltb (λ k. k) keys c.args.limit rises in
-    let point = IsPartitionPoint-from_clause (λ k. ltb k c.args.limit) keys _ c.partition_point.ensures.partitioned parted (λ a r q k. search rules) in
+    let point = IsPartitionPoint-from_clause (λ k. ltb k c.args.limit) keys _ c.partition_point.ensures.partitioned
+    parted (λ a r q k. search rules) in
     subst (λ (ks : List ℕ). IsCut c.args.limit ks c.partition_point.result) c.as_slice.ensures (record {
       within = c.partition_point.ensures.bound;
       first = λ k d h. ltb-true _ _ (point.0 k d (omega arith) h);
