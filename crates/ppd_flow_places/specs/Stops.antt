@@ -20,8 +20,8 @@ abbrev pub after : Option ℕ → ℕ
 after None = 0
 after (Some i) = i + 1
 
--- the walk for cell c passes the items between the first and place j, so that it comes to the same from either place,
--- and the same intervals are replayed for it
+-- the walk for cell c simply passes the items from place i up to place j: it comes to the same from either place, and
+-- the same intervals are replayed for it
 pub record ArePassed (c : ℕ) (items : List Item) (i j : ℕ) : Type 0 where
   pub within : i ≤ length items
   pub before : i ≤ j
