@@ -1,0 +1,3 @@
+-- Tables of the items of one interval.
+pub mod Rows
+pub mod Tables
