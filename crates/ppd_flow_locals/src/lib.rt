@@ -7,6 +7,7 @@
 mod build;
 mod calls;
 mod leaf;
+mod point;
 mod row;
 mod rows;
 mod table;

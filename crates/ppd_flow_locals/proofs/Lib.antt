@@ -1,0 +1,3 @@
+-- Lemmas on tables of an interval's items.
+pub mod RowLemmas
+pub mod Steps
