@@ -1,3 +1,5 @@
 -- Lemmas on tables of an interval's items.
+pub mod Additions
+pub mod Growth
 pub mod RowLemmas
 pub mod Steps

@@ -1,5 +1,5 @@
 -- Rows: what is between two places, where halves find it, and what one more value does.
-use Rattle.std.proofs.Common.{◌≡◌, ℕ, zero, suc, ◌+◌, ◌-◌, ◌<◌, ◌≤◌, Bool, true, false, cond, not, ◌&&◌, eqb, ltb, List, [], ◌∷◌, ◌++◌, length, length-take, map, get_or, take, drop, Option, Some, None, refl, ap, ap₂, sym, ◌∙◌, arith, le_trans, lt_of_lt_of_le, add-sub_of_le, lt-ltb, le-ltb, ltb-true, true≢false, subst, eq-eqb, ne_eqb, le_of_suc-le-suc, not-suc-le-zero, suc-le-suc, zero-le, zero-lt-suc}
+use Rattle.std.proofs.Common.{◌≡◌, ℕ, zero, suc, ◌+◌, ◌-◌, ◌<◌, ◌≤◌, Bool, true, false, cond, not, ◌&&◌, eqb, ltb, List, [], ◌∷◌, ◌++◌, length, length-take, map, get_or, take, drop, Option, Some, None, refl, ap, ap₂, sym, ◌∙◌, arith, le_trans, lt_of_lt_of_le, add-sub_of_le, lt-ltb, le-ltb, ltb-true, true≢false, subst, eq-eqb, ne_eqb, eqb-true, unwrap_or, le_of_suc-le-suc, not-suc-le-zero, suc-le-suc, zero-le, zero-lt-suc}
 use Rattle.std.specs.Prelude.{filter, IfSome, ⊤}
 use Rattle.std.specs.List.{zip}
 use Rattle.std.specs.List.Sorted.{IsNonDecreasing, IsPartitionPoint}
@@ -285,3 +285,33 @@ module _ {A : Type 0} where
       let whole : last_of ps ≡ Some (get_or ps i (m, w)) = last_whole ps i (m, w) (length_pairs (k ∷ ks) (w ∷ ws) e ∙ long) in
       let pair : get_or ps i (m, w) ≡ (get_or (k ∷ ks) i m, get_or (w ∷ ws) i w) = pair_at (k ∷ ks) (w ∷ ws) i m w (omega (arith, long)) e in
       ap (λ y. eqb y n) (at_m ∙ sym (ap (λ y. y.0) pair)) ∙ (sym (ap (is_of n) whole) ∙ ap (λ y. is_of n (last_of y)) pairs)
+
+-- ---- rows by their numbers
+
+module _ {A : Type 0} where
+  pub emptied : (t : Bool) (now old : Option (List A)) → now ≡ cond t None old → unwrap_or now [] ≡ cond t [] (unwrap_or old [])
+  emptied true now old e = ap (λ o. unwrap_or o []) e
+  emptied false now old e = ap (λ o. unwrap_or o []) e
+
+  put_back : (t : Bool) (now taken : Option (List A)) (row : List A) → now ≡ cond t (Some row) taken → unwrap_or now [] ≡ cond t row (unwrap_or taken [])
+  put_back true now taken row e = ap (λ o. unwrap_or o []) e
+  put_back false now taken row e = ap (λ o. unwrap_or o []) e
+
+module _ {A : Type 0} where
+  both_true : (a b : Bool) → (a && b) ≡ true → (a ≡ true) × (b ≡ true)
+  both_true true b e = (refl, e)
+  both_true false b e = absurd (true≢false (sym e))
+
+  noted_by : (t : Bool) (now row taken here there : List (ℕ × A)) (n : ℕ) (v : A) → now ≡ cond t row taken → row ≡ noted n v there
+      → taken ≡ cond t [] here → (t ≡ true → there ≡ here) → now ≡ cond t (noted n v here) here
+  noted_by true now row taken here there n v e1 e2 e3 same = e1 ∙ (e2 ∙ ap (λ xs. noted n v xs) (same refl))
+  noted_by false now row taken here there n v e1 e2 e3 same = e1 ∙ e3
+
+  -- a row is taken out, has one more value, and is put back
+  pub noted_in : (rows : ℕ → ℕ → List (ℕ × A)) (a b f k n : ℕ) (v : A) (now taken : Option (List (ℕ × A))) (row : List (ℕ × A))
+      → now ≡ cond (eqb a f && eqb b k) (Some row) taken → row ≡ noted n v (rows a b)
+      → unwrap_or taken [] ≡ cond (eqb a f && eqb b k) [] (rows f k)
+      → unwrap_or now [] ≡ cond (eqb a f && eqb b k) (noted n v (rows f k)) (rows f k)
+  noted_in rows a b f k n v now taken row e1 e2 e3 =
+      noted_by (eqb a f && eqb b k) _ row _ (rows f k) (rows a b) n v (put_back (eqb a f && eqb b k) now taken row e1) e2 e3
+      (λ e. let two = both_true (eqb a f) (eqb b k) e in ap₂ rows (eqb-true a f two.0) (eqb-true b k two.1))

@@ -231,7 +231,7 @@ module _ (n : ℕ) (old : Option ℕ) (us : List (ℕ × Bool)) (v : Bool) (was 
   none_now xs k =
       ap (λ es. option_map (λ x. record { item = x.0; passed = x.1 }) (last_of es)) (entries_past (n + 1) (n + 1) (n + 1) xs (le_refl (n + 1)) k)
 
-  still_now : (begun : Option ℕ) → test_in begun (n + 1) us ≡ test_in begun n us
+  pub still_now : (begun : Option ℕ) → test_in begun (n + 1) us ≡ test_in begun n us
   still_now begun = tests_same begun n (n + 1) us us (λ b. entries_later b (n + 1) n us (omega arith) h)
 
   pub test_now : (b f1 t : Bool) (k : ℕ) (found : Option LastTest) → k ≡ n → test_in (cond f1 old None) n us ≡ found

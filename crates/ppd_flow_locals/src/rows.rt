@@ -1,4 +1,4 @@
-ghost use Rattle.std.specs.Prelude.{◌≡◌, ◌+◌, ℕ, [], OnOk, map};
+ghost use Rattle.std.specs.Prelude.{◌≡◌, ◌+◌, ◌&&◌, ℕ, [], OnOk, if◌then◌else◌, map, nat_eq};
 ghost use Rattle.ppd_flow_locals.specs.Kept.{AllRowsBefore, Notes, row_of};
 ghost use Rattle.ppd_flow_locals.specs.Rows.{entries_between, last_of};
 
@@ -25,16 +25,25 @@ impl<T: Copy> Rows<T> {
         }
     }
 
+    /// Takes a row out, which then has no value.
+    fn take_row(&mut self, key: (u8, u32)) -> Row<T>
+        ensures taken { result ≡ row_of self.old key.0 key.1 }
+        ensures left { (frame number : ℕ) → row_of self.new frame number
+            ≡ (if nat_eq key.0 frame && nat_eq key.1 number then [] else row_of self.old frame number) }
+    {
+        match self.kept.remove(&key) {
+            Some(row) => row,
+            None => Row::new(self.alloc),
+        }
+    }
+
     /// Gives the latest item this value in a row, unless it has one there. `Memory` is want of memory: nothing is
     /// said of the rows.
     pub(crate) fn note(&mut self, key: (u8, u32), item: u32, value: T) -> Result<(), Memory>
         requires { AllRowsBefore (item + 1) self.old }
         ensures { OnOk result (Notes key.0 key.1 item value self.old self.new) }
     {
-        let mut row = match self.kept.remove(&key) {
-            Some(row) => row,
-            None => Row::new(self.alloc),
-        };
+        let mut row = self.take_row(key);
         row.note(item, value)?;
         self.kept.insert(key, row)?;
         Ok(())
