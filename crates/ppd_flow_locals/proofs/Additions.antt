@@ -56,10 +56,10 @@ module _ (program : Program) (plan : Plan) (frame c : ℕ) where
   call_of_interval m (block.Process f) cells (v ∷ vs) s = chosen_call _ _ s refl
 
 -- what is built says of a scan of the items so far
-pub record IsScanOf (n call : ℕ) (x : Point) (s : Scan) : Type 0 where
+pub record IsScanOf (n stmt : ℕ) (x : Point) (s : Scan) : Type 0 where
   pub next : s.next ≡ n
   pub leaf : s.leaf ≡ x.leaf
-  pub call : s.call ≡ call
+  pub call : s.call ≡ stmt
 
 module _ (program : Program) (plan : Plan) where
   pub scan_more : (f c n call : ℕ) (x : Point) (s : Scan) (i : Item) → IsScanOf n call x s
@@ -119,13 +119,17 @@ module _ (program : Program) (plan : Plan) where
   pub writes_before : (n : ℕ) (x : Point) (call : ℕ) (i : Item) (f k : ℕ) (xs : List (ℕ × Writer)) → AllBefore n xs
       → AllBefore (n + 1) (writes_of program plan n x call i f k xs)
   writes_before n x call (item.Own e) f k xs h =
-      before_noted _ (n + 1) n (At n) _ (omega arith) (before_if _ (n + 1) n (At n) xs (omega arith) (before_more n (n + 1) xs (omega arith) h))
+      let t = list_any (λ a. is_local f k a.spot) e.writes in
+      before_noted (receives program f k e x.leaf) (n + 1) n (At n) (cond t (xs ++ (n, At n) ∷ []) xs) (omega arith)
+      (before_if t (n + 1) n (At n) xs (omega arith) (before_more n (n + 1) xs (omega arith) h))
   writes_before n x call (item.Nested m b values false) f k xs h = before_more n (n + 1) xs (omega arith) h
   writes_before n x call (item.Nested m b values true) f k xs h = value_before n m call (block_kind plan b) values f k xs h
 
   pub writes_keep : (n : ℕ) (x : Point) (call : ℕ) (i : Item) (f k : ℕ) (xs : List (ℕ × Writer)) (b p : ℕ) → p ≤ n
       → entries_between b p (writes_of program plan n x call i f k xs) ≡ entries_between b p xs
-  writes_keep n x call (item.Own e) f k xs b p l = keep_noted _ b p n (At n) _ l ∙ keep_if _ b p n (At n) xs l
+  writes_keep n x call (item.Own e) f k xs b p l =
+      let t = list_any (λ a. is_local f k a.spot) e.writes in
+      keep_noted (receives program f k e x.leaf) b p n (At n) (cond t (xs ++ (n, At n) ∷ []) xs) l ∙ keep_if t b p n (At n) xs l
   writes_keep n x call (item.Nested m d values false) f k xs b p l = refl
   writes_keep n x call (item.Nested m d values true) f k xs b p l = value_keep n m call (block_kind plan d) values f k xs b p l
 

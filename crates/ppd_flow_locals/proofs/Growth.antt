@@ -1,7 +1,7 @@
 -- What holds of a table while it is built, at the start and after one more item.
 use Rattle.std.proofs.Common.{◌≡◌, ℕ, zero, suc, ◌+◌, ◌<◌, ◌≤◌, ◌⊎◌, inl, inr, Bool, true, false, cond, eqb, List, [], ◌∷◌, ◌++◌, length, get_or, take, Option, Some, None, refl, ap, ap₂, sym, subst, ◌∙◌, arith, take_all, le_refl, ltb, ltb-true, ltb-false}
 use Rattle.std.specs.Prelude.{fold}
-use Rattle.std.proofs.lemmas.List.{get_or_append_left, get_or_push, length_push, take-append-le}
+use Rattle.std.proofs.lemmas.List.{get_or_append_left, get_or_push, length_push, take-append-le, take_more}
 use Rattle.std.proofs.lemmas.List.Sums.{fold_push}
 use Rattle.ppd_ast.specs.declared.plan.Plan.{Plan}
 use Rattle.ppd_ast.specs.declared.program.Program.{Program}
@@ -227,3 +227,12 @@ module _ (program : Program) (plan : Plan) where
         loops = λ f k. before_now _ _ (step.noted.loops f k) (loops_before program plan x.next x.point i f k (row_of x.table.loops f k) (h.ready.loops f k));
       };
     }
+
+  -- the next of all items
+  pub built_next : (items : List Item) (k : ℕ) (i : Item) (x y : Building) → k < length items → i ≡ get_or items k i
+      → IsBuilt (take k items) x → IsStep program plan i x y → IsBuilt (take (k + 1) items) y
+  built_next items k i x y l is h step =
+      subst (λ js. IsBuilt js y) (ap (λ j. take k items ++ j ∷ []) is ∙ sym (take_more items k i l)) (built_more (take k items) i x y h step)
+
+  pub built_whole : (items : List Item) (k : ℕ) (x : Building) → length items ≤ k → IsBuilt (take k items) x → IsTableOf program plan items x.table
+  built_whole items k x l h = subst (λ js. IsTableOf program plan js x.table) (take_all k items l) h.table

@@ -297,11 +297,11 @@ module _ {A : Type 0} where
   put_back true now taken row e = ap (λ o. unwrap_or o []) e
   put_back false now taken row e = ap (λ o. unwrap_or o []) e
 
-module _ {A : Type 0} where
-  both_true : (a b : Bool) → (a && b) ≡ true → (a ≡ true) × (b ≡ true)
-  both_true true b e = (refl, e)
-  both_true false b e = absurd (true≢false (sym e))
+both_true : (a b : Bool) → (a && b) ≡ true → (a ≡ true) × (b ≡ true)
+both_true true b e = (refl, e)
+both_true false b e = absurd (true≢false (sym e))
 
+module _ {A : Type 0} where
   noted_by : (t : Bool) (now row taken here there : List (ℕ × A)) (n : ℕ) (v : A) → now ≡ cond t row taken → row ≡ noted n v there
       → taken ≡ cond t [] here → (t ≡ true → there ≡ here) → now ≡ cond t (noted n v here) here
   noted_by true now row taken here there n v e1 e2 e3 same = e1 ∙ (e2 ∙ ap (λ xs. noted n v xs) (same refl))

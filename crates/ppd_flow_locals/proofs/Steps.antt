@@ -209,7 +209,7 @@ pub tests_same : (begun : Option ℕ) (p q : ℕ) (us vs : List (ℕ × Bool))
 tests_same begun p q us vs e =
     ap (λ es. option_map (λ x. record { item = x.0; passed = x.1 }) (last_of es)) (e (after_of begun))
 
-found_at : ℕ → Bool → Option LastTest
+abbrev found_at : ℕ → Bool → Option LastTest
 found_at n v = Some (record { item = n; passed = v })
 
 module _ (n : ℕ) (old : Option ℕ) (us : List (ℕ × Bool)) (v : Bool) (was : BeganBefore n old) (h : AllBefore n us) where

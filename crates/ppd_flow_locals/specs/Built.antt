@@ -120,6 +120,14 @@ pub record HasPlaces (x y : Building) : Type 0 where
   pub next : y.next ≡ x.next
   pub points : y.table.points.items ≡ x.table.points.items
 
+-- all but the rows of writes is as before
+pub record IsSameButWrites (x y : Building) : Type 0 where
+  pub places : HasPlaces x y
+  pub tests : (f k : ℕ) → row_of y.table.tests f k ≡ row_of x.table.tests f k
+  pub loops : (f k : ℕ) → row_of y.table.loops f k ≡ row_of x.table.loops f k
+  pub point : y.point ≡ x.point
+  pub call : y.call ≡ x.call
+
 -- the item is noted, and there is one more place
 pub record IsStep (program : Program) (plan : Plan) (i : Item) (x y : Building) : Type 0 where
   pub noted : IsNoted program plan i x y

@@ -1,7 +1,9 @@
-ghost use Rattle.std.specs.Prelude.{◌≡◌, ◌+◌, ◌<◌, ◌^◌, ℕ, true, IfOk, OnOk};
+ghost use Rattle.std.specs.Prelude.{◌≡◌, ◌+◌, ◌<◌, ◌^◌, ℕ, true, IfOk, OnOk, if◌then◌else◌};
 ghost use Rattle.ppd_model.specs.FullTrace.{is_passed as is_passed_by};
-ghost use Rattle.ppd_flow_locals.specs.Built.{HasPlaces, IsNew, IsNoted, IsReady, IsStep, left_by, point_by, received_by, return_by, tests_by, value_by, writes_by};
+ghost use Rattle.ppd_flow_model.specs.Locals.{is_local};
+ghost use Rattle.ppd_flow_locals.specs.Built.{HasPlaces, IsNew, IsNoted, IsReady, IsSameButWrites, IsStep, left_by, point_by, received_by, return_by, tests_by, value_by, writes_by};
 ghost use Rattle.ppd_flow_locals.specs.Kept.{AllRowsBefore, row_of};
+ghost use Rattle.ppd_flow_locals.specs.Rows.{noted};
 
 use crate::calls::Code;
 use crate::leaf::{frame_in, leaf_after};
@@ -11,7 +13,7 @@ use crate::table::LocalTable;
 use ppd_ast::{BlockKind, Memory};
 use ppd_flow_model::{LeafCall, Writer};
 use ppd_model::Item;
-use ppd_sem::{Event, Spot, block_kind, postlog_cells};
+use ppd_sem::{Access, Event, Spot, block_kind, postlog_cells};
 use std::alloc::Global;
 
 /// The table of the items so far, the number of the next one, what is known at it, and the statement of the last
@@ -45,16 +47,30 @@ fn note_test(tests: &mut Rows<bool>, item: u32, event: &Event) -> Result<(), Mem
     tests.note((0, event.stmt), item, is_passed(event.value))
 }
 
-/// Notes what this item, an event, writes.
-fn note_writes(writes: &mut Rows<Writer>, item: u32, event: &Event) -> Result<(), Memory>
+/// Notes what this item writes to a spot, if that is a local cell.
+fn note_write(writes: &mut Rows<Writer>, item: u32, spot: Spot) -> Result<(), Memory>
+    requires { AllRowsBefore (item + 1) writes.old }
+    ensures { OnOk result ((f k : ℕ) → row_of writes.new f k
+        ≡ (if is_local f k spot then noted item (Writer.At item) (row_of writes.old f k) else row_of writes.old f k)) }
+{
+    match spot {
+        Spot::Local { frame, cell } => writes.note((frame, cell as u32), item, Writer::At(item)),
+        Spot::Shared(_) => Ok(()),
+    }
+}
+
+/// Notes what this item writes.
+fn note_writes(
+    writes: &mut Rows<Writer>,
+    item: u32,
+    accesses: &[Access],
+) -> Result<(), Memory>
     requires { AllRowsBefore item writes.old }
     ensures { OnOk result ((f k : ℕ) → row_of writes.new f k
-        ≡ writes_by item event.now.writes f k (row_of writes.old f k)) }
+        ≡ writes_by item accesses.now f k (row_of writes.old f k)) }
 {
-    for access in event.writes.as_slice() {
-        if let Spot::Local { frame, cell } = access.spot {
-            writes.note((frame, cell as u32), item, Writer::At(item))?;
-        }
+    for access in accesses {
+        note_write(writes, item, access.spot)?;
     }
     Ok(())
 }
@@ -63,7 +79,9 @@ fn note_writes(writes: &mut Rows<Writer>, item: u32, event: &Event) -> Result<()
 fn received(code: &Code, event: &Event, leaf: Option<LeafCall>) -> Option<u16>
     ensures { result ≡ received_by code.now.program.now event.now leaf }
 {
-    let call = leaf?;
+    let Some(call) = leaf else {
+        return None;
+    };
     if event.trap.is_none() && code.returns(event.stmt) && event.value.is_some() {
         code.receiver(call.stmt)
     } else {
@@ -173,11 +191,22 @@ impl Building {
         ensures noted { OnOk result (IsNoted code.now.program.now code.now.plan.now (Item.Own event.now) self.old self.new) }
     {
         note_test(&mut self.table.tests, self.next, event)?;
-        note_writes(&mut self.table.writes, self.next, event)?;
+        note_writes(&mut self.table.writes, self.next, event.writes.as_slice())?;
         note_return(&mut self.table.writes, code, self.next, event, self.point.leaf)?;
         self.point = point_past(code, self.next, event, self.point);
         self.call = event.stmt;
         Ok(())
+    }
+
+    fn value(&mut self, code: &Code, interval: u32, values: &[i64]) -> Result<(), Memory>
+        requires { IsReady self.old }
+        ensures same { IsSameButWrites self.old self.new }
+        ensures noted { OnOk result ((f k : ℕ) → row_of self.new.table.writes f k
+            ≡ value_by code.now.program.now self.old.next interval self.old.call values.now f k
+            (row_of self.old.table.writes f k)) }
+    {
+        let call = self.call;
+        note_value(&mut self.table.writes, code, self.next, interval, call, values)
     }
 
     fn interval(
@@ -192,12 +221,15 @@ impl Building {
         ensures noted { OnOk result (IsNoted code.now.program.now code.now.plan.now
             (Item.Nested interval block values.now true) self.old self.new) }
     {
-        if let BlockKind::Loop(_) = block_kind(code.plan, block) {
-            let frame = frame_in(self.point.leaf);
-            let cells = postlog_cells(code.plan, block);
-            return note_left(&mut self.table.loops, self.next, interval, frame, cells);
+        match block_kind(code.plan, block) {
+            BlockKind::Loop(_) => {
+                let frame = frame_in(self.point.leaf);
+                let cells = postlog_cells(code.plan, block);
+                note_left(&mut self.table.loops, self.next, interval, frame, cells)
+            }
+            BlockKind::Function(_) => self.value(code, interval, values),
+            BlockKind::Process(_) => self.value(code, interval, values),
         }
-        note_value(&mut self.table.writes, code, self.next, interval, self.call, values)
     }
 
     fn change(&mut self, code: &Code, item: &Item) -> Result<(), Memory>

@@ -1,11 +1,10 @@
-ghost use Rattle.std.specs.Prelude.{◌≡◌, ◌≤◌, List, length, take, IfOk};
+ghost use Rattle.std.specs.Prelude.{◌≡◌, ◌<◌, ◌≤◌, ◌^◌, List, length, take, IfOk, OnOk};
 ghost use Rattle.ppd_ast.specs.declared.plan.Plan.{Plan as ThePlan};
 ghost use Rattle.ppd_ast.specs.declared.program.Program.{Program as TheProgram};
 ghost use Rattle.ppd_model.specs.declared.flow.Item.{Item as AnItem};
 ghost use Rattle.ppd_flow_model.specs.Control.{last_test as last_test_among};
 ghost use Rattle.ppd_flow_model.specs.Locals.{leaf_at as leaf_among, scan};
-ghost use Rattle.ppd_flow_locals.specs.Tables.{IsLastWrite, IsTableOf, after_of as after_by, begun_in as begun_by, from_of as from_by, last_in, point_at as point_by, test_in, since as since_by, writer_of as writer_by};
-ghost use Rattle.ppd_flow_locals.specs.Kept.{row_of};
+ghost use Rattle.ppd_flow_locals.specs.Tables.{IsLastWrite, IsTableOf, after_of as after_by, begun_in as begun_by, from_of as from_by, point_at as point_by, since as since_by, writer_of as writer_by};
 
 use crate::build::Building;
 use crate::calls::Code;
@@ -32,6 +31,16 @@ pub struct LocalTable {
     pub(crate) tests: Rows<bool>,
     pub(crate) writes: Rows<Writer>,
     pub(crate) loops: Rows<u32>,
+}
+
+/// `Memory` where so many items have no 32-bit numbers.
+fn fits(count: usize) -> Result<(), Memory>
+    ensures { OnOk result (count < 2 ^ 32) }
+{
+    if count > u32::MAX as usize {
+        return Err(Memory);
+    }
+    Ok(())
 }
 
 /// The item from which a frame's activation goes on, if it began among the items.
@@ -92,7 +101,7 @@ impl LocalTable {
     ) -> Result<LocalTable, Memory>
         ensures { IfOk result (IsTableOf program.now plan.now items.now) }
     {
-        let _fits = u32::try_from(items.len()).map_err(|_| Memory)?;
+        fits(items.len())?;
         let code = Code { program, plan };
         let mut building = Building::new(alloc)?;
         for item in items {
