@@ -118,6 +118,10 @@ none_received o f k more xs e = none (eqb f 0) ∙ ap (λ q. cond (eqb f 0 && is
 
 -- ---- the value of an interval
 
+pub some_length : (n : ℕ) → eqb n 0 ≡ false → 0 < n
+some_length zero e = absurd (true≢false e)
+some_length (suc n) e = omega arith
+
 module _ (program : Program) (n m call : ℕ) where
   pub no_value : (values : List ℤ) (f k : ℕ) (xs : List (ℕ × Writer)) → length values ≡ 0 → xs ≡ value_by program n m call values f k xs
   no_value [] f k xs e = refl
