@@ -1,5 +1,5 @@
 -- What calls that note values leave in a row.
-use Rattle.std.proofs.Common.{◌≡◌, ℕ, zero, suc, ◌+◌, ◌<◌, ◌≤◌, Bool, true, false, cond, not, ◌&&◌, ◌||◌, eqb, List, [], ◌∷◌, ◌++◌, length, get_or, take, Option, Some, None, refl, ap, ap₂, sym, ◌∙◌, arith, true≢false, eqb-true, eq-eqb, subst}
+use Rattle.std.proofs.Common.{◌≡◌, ℕ, zero, suc, ◌+◌, ◌<◌, Bool, true, false, cond, not, ◌&&◌, ◌||◌, eqb, List, [], ◌∷◌, ◌++◌, length, get_or, take, Option, Some, None, refl, ap, ap₂, sym, ◌∙◌, arith, true≢false, eqb-true, eq-eqb, subst}
 use Rattle.std.specs.Prelude.{ℤ, OnOk, Ok, Err, Result, is_some}
 use Rattle.std.specs.List.{list_any}
 use Rattle.std.proofs.lemmas.List.{take_more}
@@ -56,14 +56,16 @@ same_zero f b = ap (λ t. t && b) (eqb_turned 0 f)
 
 module _ {A : Type 0} (n : ℕ) (v : A) (xs : List (ℕ × A)) (h : AllBefore n xs) where
   -- one more row is noted, or the same again
-  pub noted_more : (p t : Bool) (now new : List (ℕ × A)) → now ≡ cond p (xs ++ (n, v) ∷ []) xs → new ≡ cond t (noted n v now) now
+  pub noted_more : (p t : Bool) (now new : List (ℕ × A)) → now ≡ cond p (xs ++ (n, v) ∷ []) xs
+      → new ≡ cond t (noted n v now) now
       → new ≡ cond (p || t) (xs ++ (n, v) ∷ []) xs
   noted_more true true now new e d = d ∙ (ap (noted n v) e ∙ noted_again n v v xs)
   noted_more true false now new e d = d ∙ e
   noted_more false true now new e d = d ∙ (ap (noted n v) e ∙ noted_first n v xs h)
   noted_more false false now new e d = d ∙ e
 
-  pub noted_once : (t : Bool) (new : List (ℕ × A)) → new ≡ cond t (noted n v xs) xs → new ≡ cond t (xs ++ (n, v) ∷ []) xs
+  pub noted_once : (t : Bool) (new : List (ℕ × A)) → new ≡ cond t (noted n v xs) xs
+      → new ≡ cond t (xs ++ (n, v) ∷ []) xs
   noted_once true new e = e ∙ noted_first n v xs h
   noted_once false new e = e
 
@@ -75,9 +77,11 @@ module _ {A : Type 0} (n : ℕ) (v : A) (xs : List (ℕ × A)) (h : AllBefore n 
   noted_test false trap new e d = d
 
 module _ {A : Type 0} where
-  pub before_now : (t : Bool) (n : ℕ) (v : A) (now xs : List (ℕ × A)) → now ≡ cond t (xs ++ (n, v) ∷ []) xs → AllBefore n xs → AllBefore (n + 1) now
+  pub before_now : (t : Bool) (n : ℕ) (v : A) (now xs : List (ℕ × A)) → now ≡ cond t (xs ++ (n, v) ∷ []) xs
+      → AllBefore n xs → AllBefore (n + 1) now
   before_now t n v now xs e h =
-      subst (λ ys. AllBefore (n + 1) ys) (sym e) (before_if t (n + 1) n v xs (omega arith) (before_more n (n + 1) xs (omega arith) h))
+      subst (λ ys. AllBefore (n + 1) ys) (sym e)
+      (before_if t (n + 1) n v xs (omega arith) (before_more n (n + 1) xs (omega arith) h))
 
   pub no_test : (t trap : Bool) (more xs : List A) → trap ≡ true → xs ≡ cond (t && not trap) more xs
   no_test true true more xs e = refl
@@ -94,9 +98,11 @@ received_is program f k e None = none (eqb f 0)
     none true = refl
     none false = refl
 received_is program f k e (Some call) =
-    split (eqb f 0) (not (is_some e.trap)) (returns (kind_of program e.stmt)) (is_some e.value) (into_of (kind_of program call.stmt))
+    split (eqb f 0) (not (is_some e.trap)) (returns (kind_of program e.stmt)) (is_some e.value)
+    (into_of (kind_of program call.stmt))
   where
-    split : (a b c d : Bool) (o : Option ℕ) → (a && b && c && d && is_number o k) ≡ (a && is_number (cond (b && c && d) o None) k)
+    split : (a b c d : Bool) (o : Option ℕ)
+        → (a && b && c && d && is_number o k) ≡ (a && is_number (cond (b && c && d) o None) k)
     split false b c d o = refl
     split true false c d o = refl
     split true true false d o = refl
@@ -104,12 +110,14 @@ received_is program f k e (Some call) =
     split true true true true o = refl
 
 -- to what is received
-pub noted_received : {A : Type 0} (o : Option ℕ) (c f k : ℕ) (new more xs : List A) → o ≡ Some c → new ≡ cond (eqb 0 f && eqb c k) more xs
+pub noted_received : {A : Type 0} (o : Option ℕ) (c f k : ℕ) (new more xs : List A) → o ≡ Some c
+    → new ≡ cond (eqb 0 f && eqb c k) more xs
     → new ≡ cond (eqb f 0 && is_number o k) more xs
 noted_received o c f k new more xs e d =
     d ∙ (ap (λ t. cond t more xs) (same_zero f (eqb c k)) ∙ ap (λ q. cond (eqb f 0 && is_number q k) more xs) (sym e))
 
-pub none_received : {A : Type 0} (o : Option ℕ) (f k : ℕ) (more xs : List A) → o ≡ None → xs ≡ cond (eqb f 0 && is_number o k) more xs
+pub none_received : {A : Type 0} (o : Option ℕ) (f k : ℕ) (more xs : List A) → o ≡ None
+    → xs ≡ cond (eqb f 0 && is_number o k) more xs
 none_received o f k more xs e = none (eqb f 0) ∙ ap (λ q. cond (eqb f 0 && is_number q k) more xs) (sym e)
   where
     none : (b : Bool) → xs ≡ cond (b && false) more xs
@@ -123,7 +131,8 @@ some_length zero e = absurd (true≢false e)
 some_length (suc n) e = omega arith
 
 module _ (program : Program) (n m call : ℕ) where
-  pub no_value : (values : List ℤ) (f k : ℕ) (xs : List (ℕ × Writer)) → length values ≡ 0 → xs ≡ value_by program n m call values f k xs
+  pub no_value : (values : List ℤ) (f k : ℕ) (xs : List (ℕ × Writer)) → length values ≡ 0
+      → xs ≡ value_by program n m call values f k xs
   no_value [] f k xs e = refl
   no_value (v ∷ vs) f k xs e = absurd (omega (arith, e))
 
@@ -135,9 +144,11 @@ module _ (program : Program) (n m call : ℕ) where
 
 -- ---- the cells of a loop
 
-pub left_more : (f frame k cell : ℕ) (b : Bool) → ((eqb f frame && b) || (eqb frame f && eqb cell k)) ≡ (eqb f frame && (b || eqb k cell))
+pub left_more : (f frame k cell : ℕ) (b : Bool)
+    → ((eqb f frame && b) || (eqb frame f && eqb cell k)) ≡ (eqb f frame && (b || eqb k cell))
 left_more f frame k cell b =
-    ap₂ (λ s t. (eqb f frame && b) || (s && t)) (eqb_turned frame f) (eqb_turned cell k) ∙ both (eqb f frame) b (eqb k cell)
+    ap₂ (λ s t. (eqb f frame && b) || (s && t)) (eqb_turned frame f) (eqb_turned cell k)
+    ∙ both (eqb f frame) b (eqb k cell)
   where
     both : (a b c : Bool) → ((a && b) || (a && c)) ≡ (a && (b || c))
     both true b c = refl

@@ -1,6 +1,6 @@
 -- Rows: what is between two places, where halves find it, and what one more value does.
-use Rattle.std.proofs.Common.{◌≡◌, ℕ, zero, suc, ◌+◌, ◌-◌, ◌<◌, ◌≤◌, Bool, true, false, cond, not, ◌&&◌, eqb, ltb, List, [], ◌∷◌, ◌++◌, length, length-take, map, get_or, take, drop, Option, Some, None, refl, ap, ap₂, sym, ◌∙◌, arith, le_trans, lt_of_lt_of_le, add-sub_of_le, lt-ltb, le-ltb, ltb-true, true≢false, subst, eq-eqb, ne_eqb, eqb-true, unwrap_or, le_of_suc-le-suc, not-suc-le-zero, suc-le-suc, zero-le, zero-lt-suc}
-use Rattle.std.specs.Prelude.{filter, IfSome, ⊤}
+use Rattle.std.proofs.Common.{◌≡◌, ℕ, zero, suc, ◌+◌, ◌-◌, ◌<◌, ◌≤◌, Bool, true, false, cond, not, ◌&&◌, eqb, ltb, List, [], ◌∷◌, ◌++◌, length, length-take, map, get_or, take, drop, Option, Some, None, refl, ap, ap₂, sym, ◌∙◌, arith, lt_of_lt_of_le, add-sub_of_le, lt-ltb, le-ltb, ltb-true, true≢false, subst, eq-eqb, ne_eqb, eqb-true, unwrap_or, le_of_suc-le-suc, not-suc-le-zero, suc-le-suc, zero-le, zero-lt-suc}
+use Rattle.std.specs.Prelude.{IfSome, ⊤}
 use Rattle.std.specs.List.{zip}
 use Rattle.std.specs.List.Sorted.{IsNonDecreasing, IsPartitionPoint}
 use Rattle.std.proofs.lemmas.List.{drop_all, drop-take, take-map, drop-map}
@@ -78,7 +78,8 @@ module _ {A : Type 0} where
   values_of_pairs (n ∷ ns) [] e = absurd (omega (arith, e))
   values_of_pairs (n ∷ ns) (v ∷ vs) e = ap (λ ys. v ∷ ys) (values_of_pairs ns vs (omega (arith, e)))
 
-  pub values_at : (b p : ℕ) (ns : List ℕ) (vs : List A) (j k : ℕ) → length ns ≡ length vs → IsPoint b ns j → IsPoint p ns k
+  pub values_at : (b p : ℕ) (ns : List ℕ) (vs : List A) (j k : ℕ) → length ns ≡ length vs → IsPoint b ns j
+      → IsPoint p ns k
       → map (λ x. x.1) (entries_between b p (zip ns vs)) ≡ drop j (take k vs)
   values_at b p ns vs j k e hj hk =
       let f : ℕ × A → A = λ x. x.1 in
@@ -124,7 +125,8 @@ module _ {A : Type 0} where
   last_more x z [] e = absurd (subst IsMissing e tt)
   last_more x z (y ∷ ys) e = e
 
-  pub last_at : (xs : List A) (j i : ℕ) (d : A) → j ≤ i → i < length xs → last_of (drop j (take (suc i) xs)) ≡ Some (get_or xs i d)
+  pub last_at : (xs : List A) (j i : ℕ) (d : A) → j ≤ i → i < length xs
+      → last_of (drop j (take (suc i) xs)) ≡ Some (get_or xs i d)
   last_at [] j i d h l = absurd (not-suc-le-zero l)
   last_at (x ∷ xs) zero zero d h l = refl
   last_at (x ∷ xs) zero (suc i) d h l =
@@ -132,7 +134,8 @@ module _ {A : Type 0} where
   last_at (x ∷ xs) (suc j) zero d h l = absurd (not-suc-le-zero h)
   last_at (x ∷ xs) (suc j) (suc i) d h l = last_at xs j i d (le_of_suc-le-suc h) (le_of_suc-le-suc l)
 
-  pub last_between_at : (xs : List A) (j k : ℕ) (d : A) → j < k → k ≤ length xs → last_of (drop j (take k xs)) ≡ Some (get_or xs (k - 1) d)
+  pub last_between_at : (xs : List A) (j k : ℕ) (d : A) → j < k → k ≤ length xs
+      → last_of (drop j (take k xs)) ≡ Some (get_or xs (k - 1) d)
   last_between_at xs j zero d h l = absurd (not-suc-le-zero h)
   last_between_at xs j (suc i) d h l =
       last_at xs j i d (le_of_suc-le-suc h) l ∙ ap (λ n. Some (get_or xs n d)) (omega arith)
@@ -158,20 +161,23 @@ module _ {A : Type 0} where
   before_push n m v [] l h = (l, tt)
   before_push n m v (x ∷ xs) l h = (h.0, before_push n m v xs l h.1)
 
-  pub before_at : (n : ℕ) (ns : List ℕ) (vs : List A) (i d : ℕ) → length ns ≡ length vs → AllBefore n (zip ns vs) → i < length ns → get_or ns i d < n
+  pub before_at : (n : ℕ) (ns : List ℕ) (vs : List A) (i d : ℕ) → length ns ≡ length vs → AllBefore n (zip ns vs)
+      → i < length ns → get_or ns i d < n
   before_at n [] vs i d e h l = absurd (not-suc-le-zero l)
   before_at n (m ∷ ns) [] i d e h l = absurd (omega (arith, e))
   before_at n (m ∷ ns) (v ∷ vs) zero d e h l = h.0
   before_at n (m ∷ ns) (v ∷ vs) (suc i) d e h l = before_at n ns vs i d (omega (arith, e)) h.1 (le_of_suc-le-suc l)
 
-  pub rises_push : (ns : List ℕ) (vs : List A) (n : ℕ) → length ns ≡ length vs → IsNonDecreasing ns → AllBefore (n + 1) (zip ns vs)
+  pub rises_push : (ns : List ℕ) (vs : List A) (n : ℕ) → length ns ≡ length vs → IsNonDecreasing ns
+      → AllBefore (n + 1) (zip ns vs)
       → IsNonDecreasing (ns ++ n ∷ [])
   rises_push ns vs n e up h =
       IsNonDecreasingBy-push (λ m. m) ns n up
       (λ d l. let m = before_at (n + 1) ns vs (length ns - 1) d e h (omega (arith, l)) in omega (arith, m))
 
   -- up to a later place there is no more
-  pub entries_later : (b p n : ℕ) (xs : List (ℕ × A)) → n ≤ p → AllBefore n xs → entries_between b p xs ≡ entries_between b n xs
+  pub entries_later : (b p n : ℕ) (xs : List (ℕ × A)) → n ≤ p → AllBefore n xs
+      → entries_between b p xs ≡ entries_between b n xs
   entries_later b p n [] l h = refl
   entries_later b p n (x ∷ xs) l h =
       ap₂ (λ t ys. cond t (x ∷ ys) ys)
@@ -201,14 +207,16 @@ module _ {A : Type 0} where
       early false t e = e
   entries_keep b p n v (x ∷ xs) l = ap (λ ys. cond (is_between b p x.0) (x ∷ ys) ys) (entries_keep b p n v xs l)
 
-  cons_before : (p : ℕ) (t : Bool) (x : ℕ × A) (ys : List (ℕ × A)) → (t ≡ true → x.0 < p) → AllBefore p ys → AllBefore p (cond t (x ∷ ys) ys)
+  cons_before : (p : ℕ) (t : Bool) (x : ℕ × A) (ys : List (ℕ × A)) → (t ≡ true → x.0 < p) → AllBefore p ys
+      → AllBefore p (cond t (x ∷ ys) ys)
   cons_before p true x ys f h = (f refl, h)
   cons_before p false x ys f h = h
 
   entries_before : (b p : ℕ) (xs : List (ℕ × A)) → AllBefore p (entries_between b p xs)
   entries_before b p [] = tt
   entries_before b p (x ∷ xs) =
-      cons_before p (is_between b p x.0) x (entries_between b p xs) (λ e. ltb-true x.0 p (second (ltb x.0 b) (ltb x.0 p) e)) (entries_before b p xs)
+      cons_before p (is_between b p x.0) x (entries_between b p xs)
+      (λ e. ltb-true x.0 p (second (ltb x.0 b) (ltb x.0 p) e)) (entries_before b p xs)
     where
       second : (s t : Bool) → (not s && t) ≡ true → t ≡ true
       second true t e = absurd (true≢false (sym e))
@@ -245,7 +253,8 @@ module _ {A : Type 0} where
 
 -- ---- what a row's calls give
 
-module _ {A : Type 0} (ns : List ℕ) (vs : List A) (xs : List (ℕ × A)) (e : length ns ≡ length vs) (pairs : zip ns vs ≡ xs) where
+module _ {A : Type 0} (ns : List ℕ) (vs : List A) (xs : List (ℕ × A)) (e : length ns ≡ length vs)
+    (pairs : zip ns vs ≡ xs) where
   pub slice_is : (b p j k : ℕ) → IsPoint b ns j → IsPoint p ns k → j ≤ k → (l : List A) → l ≡ vs
       → take (k - j) (drop j l) ≡ map (λ x. x.1) (entries_between b p xs)
   slice_is b p j k hj hk le l same =
@@ -254,7 +263,8 @@ module _ {A : Type 0} (ns : List ℕ) (vs : List A) (xs : List (ℕ × A)) (e : 
       ∙ (ap (λ n. drop j (take n vs)) (add-sub_of_le le)
       ∙ (sym (values_at b p ns vs j k e hj hk) ∙ ap (λ y. map (λ x. x.1) (entries_between b p y)) pairs)))
 
-  pub slice_none : (b p j k : ℕ) → IsPoint b ns j → IsPoint p ns k → k ≤ j → [] ≡ map (λ x. x.1) (entries_between b p xs)
+  pub slice_none : (b p j k : ℕ) → IsPoint b ns j → IsPoint p ns k → k ≤ j
+      → [] ≡ map (λ x. x.1) (entries_between b p xs)
   slice_none b p j k hj hk le =
       sym (ap (λ y. map (λ x. x.1) (entries_between b p y)) (sym pairs)
       ∙ (values_at b p ns vs j k e hj hk ∙ drop_all j (take k vs) (omega (arith, le, length-take k vs))))
@@ -263,9 +273,9 @@ module _ {A : Type 0} (ns : List ℕ) (vs : List A) (xs : List (ℕ × A)) (e : 
       → n ≡ get_or ns (k - 1) n → v ≡ get_or vs (k - 1) v → Some (n, v) ≡ last_of (entries_between b p xs)
   last_is b p j k hj hk lt le n v at_n at_v =
       let whole : last_of (drop j (take k (zip ns vs))) ≡ Some (get_or (zip ns vs) (k - 1) (n, v)) =
-        last_between_at (zip ns vs) j k (n, v) lt (omega (arith, le, length_pairs ns vs e)) in
+      last_between_at (zip ns vs) j k (n, v) lt (omega (arith, le, length_pairs ns vs e)) in
       let pair : get_or (zip ns vs) (k - 1) (n, v) ≡ (get_or ns (k - 1) n, get_or vs (k - 1) v) =
-        pair_at ns vs (k - 1) n v (omega (arith, lt, le)) e in
+      pair_at ns vs (k - 1) n v (omega (arith, lt, le)) e in
       let two : (get_or ns (k - 1) n, get_or vs (k - 1) v) ≡ (n, v) = ap₂ (λ a b. (a, b)) (sym at_n) (sym at_v) in
       sym (ap (λ y. last_of (entries_between b p y)) (sym pairs)
       ∙ (ap last_of (entries_at b p ns vs j k hj hk) ∙ (whole ∙ ap Some (pair ∙ two))))
@@ -276,24 +286,30 @@ module _ {A : Type 0} (ns : List ℕ) (vs : List A) (xs : List (ℕ × A)) (e : 
       ∙ (ap last_of (entries_at b p ns vs j k hj hk) ∙ no_last (zip ns vs) j k le))
 
 module _ {A : Type 0} where
-  pub ends_at : (ns : List ℕ) (vs : List A) (xs : List (ℕ × A)) → length ns ≡ length vs → zip ns vs ≡ xs → (n i m : ℕ) → length ns ≡ suc i
+  pub ends_at : (ns : List ℕ) (vs : List A) (xs : List (ℕ × A)) → length ns ≡ length vs → zip ns vs ≡ xs
+      → (n i m : ℕ) → length ns ≡ suc i
       → m ≡ get_or ns i m → eqb m n ≡ is_of n (last_of xs)
   ends_at [] vs xs e pairs n i m long at_m = absurd (omega (arith, long))
   ends_at (k ∷ ks) [] xs e pairs n i m long at_m = absurd (omega (arith, e))
   ends_at (k ∷ ks) (w ∷ ws) xs e pairs n i m long at_m =
       let ps = zip (k ∷ ks) (w ∷ ws) in
-      let whole : last_of ps ≡ Some (get_or ps i (m, w)) = last_whole ps i (m, w) (length_pairs (k ∷ ks) (w ∷ ws) e ∙ long) in
-      let pair : get_or ps i (m, w) ≡ (get_or (k ∷ ks) i m, get_or (w ∷ ws) i w) = pair_at (k ∷ ks) (w ∷ ws) i m w (omega (arith, long)) e in
-      ap (λ y. eqb y n) (at_m ∙ sym (ap (λ y. y.0) pair)) ∙ (sym (ap (is_of n) whole) ∙ ap (λ y. is_of n (last_of y)) pairs)
+      let whole : last_of ps ≡ Some (get_or ps i (m, w)) =
+      last_whole ps i (m, w) (length_pairs (k ∷ ks) (w ∷ ws) e ∙ long) in
+      let pair : get_or ps i (m, w) ≡ (get_or (k ∷ ks) i m, get_or (w ∷ ws) i w) =
+      pair_at (k ∷ ks) (w ∷ ws) i m w (omega (arith, long)) e in
+      ap (λ y. eqb y n) (at_m ∙ sym (ap (λ y. y.0) pair))
+      ∙ (sym (ap (is_of n) whole) ∙ ap (λ y. is_of n (last_of y)) pairs)
 
 -- ---- rows by their numbers
 
 module _ {A : Type 0} where
-  pub emptied : (t : Bool) (now old : Option (List A)) → now ≡ cond t None old → unwrap_or now [] ≡ cond t [] (unwrap_or old [])
+  pub emptied : (t : Bool) (now old : Option (List A)) → now ≡ cond t None old
+      → unwrap_or now [] ≡ cond t [] (unwrap_or old [])
   emptied true now old e = ap (λ o. unwrap_or o []) e
   emptied false now old e = ap (λ o. unwrap_or o []) e
 
-  put_back : (t : Bool) (now taken : Option (List A)) (row : List A) → now ≡ cond t (Some row) taken → unwrap_or now [] ≡ cond t row (unwrap_or taken [])
+  put_back : (t : Bool) (now taken : Option (List A)) (row : List A) → now ≡ cond t (Some row) taken
+      → unwrap_or now [] ≡ cond t row (unwrap_or taken [])
   put_back true now taken row e = ap (λ o. unwrap_or o []) e
   put_back false now taken row e = ap (λ o. unwrap_or o []) e
 
@@ -302,16 +318,19 @@ both_true true b e = (refl, e)
 both_true false b e = absurd (true≢false (sym e))
 
 module _ {A : Type 0} where
-  noted_by : (t : Bool) (now row taken here there : List (ℕ × A)) (n : ℕ) (v : A) → now ≡ cond t row taken → row ≡ noted n v there
+  noted_by : (t : Bool) (now row taken here there : List (ℕ × A)) (n : ℕ) (v : A) → now ≡ cond t row taken
+      → row ≡ noted n v there
       → taken ≡ cond t [] here → (t ≡ true → there ≡ here) → now ≡ cond t (noted n v here) here
   noted_by true now row taken here there n v e1 e2 e3 same = e1 ∙ (e2 ∙ ap (λ xs. noted n v xs) (same refl))
   noted_by false now row taken here there n v e1 e2 e3 same = e1 ∙ e3
 
   -- a row is taken out, has one more value, and is put back
-  pub noted_in : (rows : ℕ → ℕ → List (ℕ × A)) (a b f k n : ℕ) (v : A) (now taken : Option (List (ℕ × A))) (row : List (ℕ × A))
+  pub noted_in : (rows : ℕ → ℕ
+      → List (ℕ × A)) (a b f k n : ℕ) (v : A) (now taken : Option (List (ℕ × A))) (row : List (ℕ × A))
       → now ≡ cond (eqb a f && eqb b k) (Some row) taken → row ≡ noted n v (rows a b)
       → unwrap_or taken [] ≡ cond (eqb a f && eqb b k) [] (rows f k)
       → unwrap_or now [] ≡ cond (eqb a f && eqb b k) (noted n v (rows f k)) (rows f k)
   noted_in rows a b f k n v now taken row e1 e2 e3 =
-      noted_by (eqb a f && eqb b k) _ row _ (rows f k) (rows a b) n v (put_back (eqb a f && eqb b k) now taken row e1) e2 e3
+      noted_by (eqb a f && eqb b k) _ row _ (rows f k) (rows a b) n v
+      (put_back (eqb a f && eqb b k) now taken row e1) e2 e3
       (λ e. let two = both_true (eqb a f) (eqb b k) e in ap₂ rows (eqb-true a f two.0) (eqb-true b k two.1))

@@ -41,7 +41,8 @@ writes_by n writes f k xs = if list_any (λ a. is_local f k a.spot) writes then 
 abbrev pub received_by : Program → Event → Option LeafCall → Option ℕ
 received_by program e None = None
 received_by program e (Some call) =
-    if not (is_some e.trap) && returns (kind_of program e.stmt) && is_some e.value then into_of (kind_of program call.stmt) else None
+    if not (is_some e.trap) && returns (kind_of program e.stmt) && is_some e.value then into_of
+    (kind_of program call.stmt) else None
 
 -- with what item n returns
 abbrev pub return_by : Program → ℕ → Event → Option LeafCall → ℕ → ℕ → List (ℕ × Writer) → List (ℕ × Writer)

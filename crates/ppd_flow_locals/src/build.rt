@@ -60,11 +60,7 @@ fn note_write(writes: &mut Rows<Writer>, item: u32, spot: Spot) -> Result<(), Me
 }
 
 /// Notes what this item writes.
-fn note_writes(
-    writes: &mut Rows<Writer>,
-    item: u32,
-    accesses: &[Access],
-) -> Result<(), Memory>
+fn note_writes(writes: &mut Rows<Writer>, item: u32, accesses: &[Access]) -> Result<(), Memory>
     requires { AllRowsBefore item writes.old }
     ensures { OnOk result ((f k : ℕ) → row_of writes.new f k
         ≡ writes_by item accesses.now f k (row_of writes.old f k)) }
@@ -188,11 +184,18 @@ impl Building {
     fn event(&mut self, code: &Code, event: &Event) -> Result<(), Memory>
         requires { IsReady self.old }
         ensures places { HasPlaces self.old self.new }
-        ensures noted { OnOk result (IsNoted code.now.program.now code.now.plan.now (Item.Own event.now) self.old self.new) }
+        ensures noted { OnOk result
+            (IsNoted code.now.program.now code.now.plan.now (Item.Own event.now) self.old self.new) }
     {
         note_test(&mut self.table.tests, self.next, event)?;
         note_writes(&mut self.table.writes, self.next, event.writes.as_slice())?;
-        note_return(&mut self.table.writes, code, self.next, event, self.point.leaf)?;
+        note_return(
+            &mut self.table.writes,
+            code,
+            self.next,
+            event,
+            self.point.leaf,
+        )?;
         self.point = point_past(code, self.next, event, self.point);
         self.call = event.stmt;
         Ok(())
@@ -206,7 +209,14 @@ impl Building {
             (row_of self.old.table.writes f k)) }
     {
         let call = self.call;
-        note_value(&mut self.table.writes, code, self.next, interval, call, values)
+        note_value(
+            &mut self.table.writes,
+            code,
+            self.next,
+            interval,
+            call,
+            values,
+        )
     }
 
     fn interval(

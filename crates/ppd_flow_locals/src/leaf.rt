@@ -6,12 +6,7 @@ use ppd_flow_model::LeafCall;
 use ppd_sem::Event;
 
 /// The call whose activation goes on without an interval of its own after an event, which is this item.
-pub fn leaf_after(
-    code: &Code,
-    item: u32,
-    event: &Event,
-    leaf: Option<LeafCall>,
-) -> Option<LeafCall>
+pub fn leaf_after(code: &Code, item: u32, event: &Event, leaf: Option<LeafCall>) -> Option<LeafCall>
     ensures { result ≡ leaf_by code.now.program.now code.now.plan.now item event.now leaf }
 {
     if code.begins_leaf(event) {

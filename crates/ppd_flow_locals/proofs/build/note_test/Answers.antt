@@ -12,9 +12,10 @@ pub returns : goal.returns
 returns c =
     on_ok c.note.result
     (λ h f k.
-      let e = c.args.event.now in
-      let xs = row_of c.args.tests.now f k in
-      noted_test c.args.item c.is_passed.result xs (c.requires f k) (eqb 0 f && eqb e.stmt k) (is_some e.trap)
-      (row_of c.note.new.self f k) (sym c.is_some.ensures ∙ c.if-is_some.false) (h f k)
-      ∙ ap (λ v. cond (eqb 0 f && eqb e.stmt k && not (is_some e.trap)) (xs ++ (c.args.item, v) ∷ []) xs) c.is_passed.ensures)
+    let e = c.args.event.now in
+    let xs = row_of c.args.tests.now f k in
+    noted_test c.args.item c.is_passed.result xs (c.requires f k) (eqb 0 f && eqb e.stmt k) (is_some e.trap)
+    (row_of c.note.new.self f k) (sym c.is_some.ensures ∙ c.if-is_some.false) (h f k)
+    ∙ ap (λ v. cond (eqb 0 f && eqb e.stmt k && not (is_some e.trap)) (xs ++ (c.args.item, v) ∷ []) xs)
+    c.is_passed.ensures)
     c.note.ensures

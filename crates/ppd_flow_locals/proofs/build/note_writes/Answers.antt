@@ -11,7 +11,8 @@ use Rattle.ppd_flow_locals.proofs.build.note_writes.Goals as goal
 
 pub note_write-requires : goal.note_write-requires
 note_write-requires c = λ f k.
-    before_now (list_any (λ a. is_local f k a.spot) (take c.loop-access.access-index c.args.accesses.now)) c.args.item (At c.args.item) _
+    before_now (list_any (λ a. is_local f k a.spot) (take c.loop-access.access-index c.args.accesses.now))
+    c.args.item (At c.args.item) _
     (row_of c.args.writes.now f k) (c.loop-access.invariant f k) (c.requires f k)
 
 pub loop-access-preserved : goal.loop-access-preserved
@@ -23,6 +24,7 @@ loop-access-preserved c = λ f k.
     let there = get_or_default c.args.accesses.now i none access c.loop-access-test.true in
     noted_more c.args.item (At c.args.item) xs (c.requires f k)
     (list_any (λ a. is_local f k a.spot) (take i c.args.accesses.now)) (is_local f k access.spot)
-    (row_of c.loop-access.writes f k) (row_of c.note_write.new.writes f k) (c.loop-access.invariant f k) (c.in_ok-note_write.ensures f k)
+    (row_of c.loop-access.writes f k) (row_of c.note_write.new.writes f k) (c.loop-access.invariant f k)
+    (c.in_ok-note_write.ensures f k)
     ∙ ap (λ b. cond b (xs ++ (c.args.item, At c.args.item) ∷ []) xs)
     (any_next (λ a. is_local f k a.spot) c.args.accesses.now i access c.loop-access-test.true there)

@@ -7,5 +7,6 @@ use Rattle.ppd_flow_locals.proofs.build.Building.event.Goals as goal
 
 pub note_return-requires : goal.note_return-requires
 note_return-requires c = λ f k.
-    before_now (list_any (λ a. is_local f k a.spot) c.as_slice.result.now) c.args.self.now.next (At c.args.self.now.next) _
+    before_now (list_any (λ a. is_local f k a.spot) c.as_slice.result.now) c.args.self.now.next
+    (At c.args.self.now.next) _
     (row_of c.args.self.now.table.writes f k) (c.in_ok-note_writes.ensures f k) (c.requires.writes f k)

@@ -1,4 +1,4 @@
-use Rattle.std.proofs.Common.{◌≡◌, ◌∙◌, ap, ap₂, map, reverse, sym}
+use Rattle.std.proofs.Common.{◌∙◌, ap, ap₂, map, reverse}
 use Rattle.ppd_flow_locals.specs.Kept.{row_of}
 use Rattle.ppd_flow_locals.specs.Rows.{entries_between, last_of}
 use Rattle.ppd_flow_locals.specs.Tables.{begun_in, from_of, point_at, since, writer_of}
@@ -16,6 +16,7 @@ returns c = λ program plan items h l.
     let whole = h.writes c.args.frame c.args.cell c.args.place l in
     record {
       writer = c.writer_of.ensures ∙ (ap₂ writer_of write_is begun_is ∙ ap (λ o. o.writer) whole);
-      loops = ap reverse (c.values_between.ensures ∙ ap (λ b. map (λ x. x.1) (entries_between b c.args.place loops)) since_is)
-        ∙ ap (λ o. o.loops) whole;
+      loops = ap reverse (c.values_between.ensures
+          ∙ ap (λ b. map (λ x. x.1) (entries_between b c.args.place loops)) since_is)
+          ∙ ap (λ o. o.loops) whole;
     }

@@ -1,4 +1,4 @@
-use Rattle.std.proofs.Common.{arith, length, length-take-le, take}
+use Rattle.std.proofs.Common.{arith, length-take-le}
 use Rattle.ppd_flow_locals.proofs.Growth.{built_new, built_next, built_whole}
 use Rattle.ppd_flow_locals.proofs.table.LocalTable.new.Goals as goal
 
@@ -16,7 +16,8 @@ item-requires-clause-room c =
 pub loop-item-preserved : goal.loop-item-preserved
 loop-item-preserved c =
     built_next c.args.program.now c.args.plan.now c.args.items.now c.loop-item.item-index c.item-item.result
-    c.loop-item.building c.item.new.self c.loop-item-test.true c.item-item.is c.loop-item.invariant c.in_ok-item.ensures
+    c.loop-item.building c.item.new.self c.loop-item-test.true c.item-item.is c.loop-item.invariant
+    c.in_ok-item.ensures
 
 pub returns : goal.returns
 returns c =
