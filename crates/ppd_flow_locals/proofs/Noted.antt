@@ -1,19 +1,15 @@
 -- What calls that note values leave in a row.
-use Rattle.std.proofs.Common.{◌≡◌, ℕ, zero, suc, ◌+◌, ◌<◌, Bool, true, false, cond, not, ◌&&◌, ◌||◌, eqb, List, [], ◌∷◌, ◌++◌, length, get_or, take, Option, Some, None, refl, ap, ap₂, sym, ◌∙◌, arith, true≢false, eqb-true, eq-eqb, subst}
-use Rattle.std.specs.Prelude.{ℤ, OnOk, Ok, Err, Result, is_some}
+use Rattle.std.proofs.Common.{◌≡◌, ℕ, zero, suc, ◌+◌, ◌<◌, Bool, true, false, cond, not, ◌&&◌, ◌||◌, eqb, List, [], ◌∷◌, ◌++◌, length, get_or, take, Option, Some, refl, ap, ap₂, sym, ◌∙◌, arith, true≢false, eqb-true, eq-eqb, subst}
+use Rattle.std.specs.Prelude.{ℤ, OnOk, Ok, Err, Result}
 use Rattle.std.specs.List.{list_any}
 use Rattle.std.proofs.lemmas.List.{take_more}
 use Rattle.ppd_ast.specs.declared.program.Program.{Program}
 use Rattle.ppd_ast.specs.Lookups.{kind_of}
-use Rattle.ppd_sem.specs.declared.event.Event.{Event}
 use Rattle.ppd_sem.specs.Process.{into_of}
-use Rattle.ppd_sem.specs.Runs.{returns}
 use Rattle.ppd_model.specs.Synchronizations.{is_number}
-use Rattle.ppd_flow_model.specs.declared.leaf_call.LeafCall.{LeafCall}
 use Rattle.ppd_flow_model.specs.declared.writer.Writer.{Writer}
 use Rattle.ppd_flow_model.specs.declared.writer.Writer.TheVariants.{Of}
-use Rattle.ppd_flow_model.specs.Locals.{receives}
-use Rattle.ppd_flow_locals.specs.Built.{received_by, value_by}
+use Rattle.ppd_flow_locals.specs.Built.{value_by}
 use Rattle.ppd_flow_locals.specs.Rows.{AllBefore, noted}
 use Rattle.ppd_flow_locals.proofs.RowLemmas.{before_more, noted_again, noted_first}
 use Rattle.ppd_flow_locals.proofs.Steps.{before_if}
@@ -83,31 +79,7 @@ module _ {A : Type 0} where
       subst (λ ys. AllBefore (n + 1) ys) (sym e)
       (before_if t (n + 1) n v xs (omega arith) (before_more n (n + 1) xs (omega arith) h))
 
-  pub no_test : (t trap : Bool) (more xs : List A) → trap ≡ true → xs ≡ cond (t && not trap) more xs
-  no_test true true more xs e = refl
-  no_test true false more xs e = absurd (true≢false (sym e))
-  no_test false trap more xs e = refl
-
 -- ---- what a call receives
-
-pub received_is : (program : Program) (f k : ℕ) (e : Event) (leaf : Option LeafCall)
-    → receives program f k e leaf ≡ (eqb f 0 && is_number (received_by program e leaf) k)
-received_is program f k e None = none (eqb f 0)
-  where
-    none : (b : Bool) → false ≡ (b && false)
-    none true = refl
-    none false = refl
-received_is program f k e (Some call) =
-    split (eqb f 0) (not (is_some e.trap)) (returns (kind_of program e.stmt)) (is_some e.value)
-    (into_of (kind_of program call.stmt))
-  where
-    split : (a b c d : Bool) (o : Option ℕ)
-        → (a && b && c && d && is_number o k) ≡ (a && is_number (cond (b && c && d) o None) k)
-    split false b c d o = refl
-    split true false c d o = refl
-    split true true false d o = refl
-    split true true true false o = refl
-    split true true true true o = refl
 
 -- to what is received
 pub noted_received : {A : Type 0} (o : Option ℕ) (c f k : ℕ) (new more xs : List A) → o ≡ Some c
@@ -116,14 +88,6 @@ pub noted_received : {A : Type 0} (o : Option ℕ) (c f k : ℕ) (new more xs : 
 noted_received o c f k new more xs e d =
     d ∙ (ap (λ t. cond t more xs) (same_zero f (eqb c k)) ∙ ap (λ q. cond (eqb f 0 && is_number q k) more xs) (sym e))
 
-pub none_received : {A : Type 0} (o : Option ℕ) (f k : ℕ) (more xs : List A) → o ≡ None
-    → xs ≡ cond (eqb f 0 && is_number o k) more xs
-none_received o f k more xs e = none (eqb f 0) ∙ ap (λ q. cond (eqb f 0 && is_number q k) more xs) (sym e)
-  where
-    none : (b : Bool) → xs ≡ cond (b && false) more xs
-    none true = refl
-    none false = refl
-
 -- ---- the value of an interval
 
 pub some_length : (n : ℕ) → eqb n 0 ≡ false → 0 < n
@@ -131,11 +95,6 @@ some_length zero e = absurd (true≢false e)
 some_length (suc n) e = omega arith
 
 module _ (program : Program) (n m call : ℕ) where
-  pub no_value : (values : List ℤ) (f k : ℕ) (xs : List (ℕ × Writer)) → length values ≡ 0
-      → xs ≡ value_by program n m call values f k xs
-  no_value [] f k xs e = refl
-  no_value (v ∷ vs) f k xs e = absurd (omega (arith, e))
-
   pub some_value : (values : List ℤ) (f k : ℕ) (new xs : List (ℕ × Writer)) → 0 < length values
       → new ≡ cond (eqb f 0 && is_number (into_of (kind_of program call)) k) (xs ++ (n, Of m) ∷ []) xs
       → new ≡ value_by program n m call values f k xs
