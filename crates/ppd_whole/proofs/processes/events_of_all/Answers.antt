@@ -9,7 +9,7 @@ use Rattle.ppd_flow_model.specs.Seen.{Seen}
 use Rattle.ppd_sem.specs.declared.event.Event.{Event}
 use Rattle.law_whole.specs.Joined.{events_in}
 use Rattle.ppd_flow_shared.specs.SharedCells.{seens_in}
-use Rattle.ppd_whole.proofs.Intervals.{seens_drop, seens_take}
+use Rattle.ppd_whole_replays.proofs.Intervals.{seens_drop, seens_take}
 use Rattle.ppd_whole.proofs.processes.events_of_all.Goals as goal
 
 pub loop-p-preserved : goal.loop-p-preserved
