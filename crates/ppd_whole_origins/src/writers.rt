@@ -61,11 +61,7 @@ fn shared_writer<L: Ledger>(point: &Point, cell: u16, steps: &mut Steps<L>) -> O
 }
 
 /// The event that wrote what the next event of a process reads in this spot, in at most 65 steps for each process.
-pub fn writer_of<L: Ledger>(
-    point: &Point,
-    spot: Spot,
-    steps: &mut Steps<L>,
-) -> Option<EventId>
+pub fn writer_of<L: Ledger>(point: &Point, spot: Spot, steps: &mut Steps<L>) -> Option<EventId>
     requires { IsLinked point.now.linked.now }
     ensures is { result ≡ writer_by point.now.linked.now.past.now point.now.process point.now.linker.now spot }
     ensures cost { steps.new ≤ steps.old + read_cost point.now.linked.now.past.now }

@@ -2,10 +2,10 @@
 ghost use Rattle.std.specs.Prelude.{◌≡◌, ◌<◌, [], get_or, length, map, IfOk};
 ghost use Rattle.ppd_whole_link.specs.Marks.{marks_after};
 
-use crate::shares::share;
 use ppd_ast::Memory;
 use ppd_sem::Event;
 use ppd_whole_link::{Marks, marks_of};
+use ppd_whole_replays::share;
 use rayon::prelude::*;
 use std::alloc::{AllocError, Global};
 use std::thread::Threads;
@@ -19,8 +19,21 @@ fn marks_at(alloc: Global, events: &[Vec<&Event>], p: usize) -> Result<Marks, Me
     marks_of(alloc, &events[p])
 }
 
+/// What the events of each process leave, found in one thread.
+pub fn marks_in_turn(alloc: Global, events: &[Vec<&Event>]) -> Result<Vec<Marks>, Memory>
+    ensures { IfOk result
+        (λ marks. marks.items ≡ map (λ es. marks_after (map (λ e. e.now) es.items)) events.now) }
+{
+    let mut all = Vec::new(alloc);
+    for own in events {
+        let marks = marks_of(alloc, own)?;
+        all.push(marks)?;
+    }
+    Ok(all)
+}
+
 /// What the events of each process leave, each found in whatever thread.
-pub(crate) fn marks_of_all(
+pub fn marks_of_all(
     rt: &(impl Threads + Sync),
     alloc: Global,
     events: &[Vec<&Event>],

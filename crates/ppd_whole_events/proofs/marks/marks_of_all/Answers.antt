@@ -6,8 +6,8 @@ use Rattle.rayon.proofs.ListFacts.{IfOk-then}
 use Rattle.rayon.proofs.ToStd.{nat_range-All}
 use Rattle.ppd_whole_link.specs.declared.marks.Marks.{Marks}
 use Rattle.ppd_whole_link.specs.Marks.{marks_after}
-use Rattle.ppd_whole.proofs.Parts.{below, made_of_all, parts_in}
-use Rattle.ppd_whole.proofs.marks.marks_of_all.Goals as goal
+use Rattle.ppd_whole_events.proofs.Parts.{below, made_of_all, parts_in}
+use Rattle.ppd_whole_events.proofs.marks.marks_of_all.Goals as goal
 
 -- the closure holds `events` at its second place
 

@@ -6,11 +6,9 @@ use Rattle.ppd_model.specs.declared.flow.Item.{Item}
 use Rattle.ppd_flow_past.specs.declared.past.Past.{Past}
 use Rattle.ppd_flow_past.specs.SeenBy.{seen_in}
 use Rattle.ppd_flow_model.specs.Seen.{Seen}
-use Rattle.ppd_sem.specs.declared.event.Event.{Event}
-use Rattle.law_whole.specs.Joined.{events_in}
 use Rattle.ppd_flow_shared.specs.SharedCells.{seens_in}
 use Rattle.ppd_whole_replays.proofs.Intervals.{seens_drop, seens_take}
-use Rattle.ppd_whole.proofs.processes.events_of_all.Goals as goal
+use Rattle.ppd_whole_events.proofs.processes.rows_by_process.Goals as goal
 
 pub loop-p-preserved : goal.loop-p-preserved
 loop-p-preserved c =
@@ -28,13 +26,12 @@ loop-p-preserved c =
     c.first_rows.ensures ∙ ap₂ (λ (n : ℕ) (l : List (List Item)). take n l) many left ∙ take-append_seam own after in
     let last : c.later_rows-left.result.now ≡ after =
     c.later_rows-left.ensures ∙ ap₂ (λ (n : ℕ) (l : List (List Item)). drop n l) many left ∙ drop-append_seam own after in
-    let events = c.in_ok-events.ensures (seen_in past p) (sym first) in
-    let ends = map-append events_in (take p (seens_in past)) (seen_in past p ∷ []) in
+    let ends = map-append (λ (x : Seen). x.items) (take p (seens_in past)) (seen_in past p ∷ []) in
     record {
       left = last;
-      joined =
+      own =
           ap (map _) c.in_ok-push.ensures.items
-          ∙ map-append _ c.loop-p.all.items (c.in_ok-events.events ∷ [])
-          ∙ ap₂ (λ (a : List (List Event)) (e : List Event). a ++ e ∷ []) c.loop-p.invariant.joined events
-          ∙ sym (ap (map events_in) (seens_take past c.requires.uncut p lt) ∙ ends);
+          ∙ map-append _ c.loop-p.all.items (c.first_rows.result ∷ [])
+          ∙ ap₂ (λ (a : List (List (List Item))) (e : List (List Item)). a ++ e ∷ []) c.loop-p.invariant.own first
+          ∙ sym (ap (map (λ (x : Seen). x.items)) (seens_take past c.requires.uncut p lt) ∙ ends);
     }
