@@ -1,5 +1,5 @@
 -- Parts that are made one by one, each by its number.
-use Rattle.std.proofs.Common.{◌≡◌, ℕ, ◌+◌, ◌<◌, List, [], ◌∷◌, length, map, get_or, Result, Ok, Err, IfOk, MatchResult, Contains, refl, ap, ap₂, sym, subst, ◌∙◌, arith}
+use Rattle.std.proofs.Common.{◌≡◌, ℕ, ◌<◌, List, [], ◌∷◌, length, map, get_or, Result, Ok, Err, IfOk, MatchResult, Contains, refl, ap, ap₂, sym, subst, ◌∙◌}
 use Rattle.std.specs.List.{AllZip, range_with_len}
 use Rattle.std.proofs.Math.ListN as math
 use Rattle.std.proofs.lemmas.List.{get_or-map, length-map}
@@ -28,13 +28,14 @@ pub made_of_all : {X Y Z : Type 0} (f : X → Y) (g : Y → Z) (xs : List X) (d 
 made_of_all f g xs d =
     sym (fill_by_all (λ p. g (get_or (map f xs) p d)) (map g (map f xs)) (length xs) (g d) (length-map (map f xs) g ∙ length-map xs f) (λ k lt. math.get_or-map g (map f xs) k d))
 
--- what is made of parts that are in step with the items of a list
-pub in_step : {X Y Z W : Type 0} (f : X → Z) (g : Y → Z) (h : Y → W) (xs : List X) (ys : List Y) (p : ℕ) (x : X) (y : Y) (z : Z) (w : W)
-    → map f xs ≡ map g ys → p < length xs → x ≡ get_or xs p x → (g (get_or ys p y) ≡ f x) × (h (get_or ys p y) ≡ get_or (map h ys) p w)
-in_step f g h xs ys p x y z w same there is =
+-- what is made alike of an item and of that of another list, which is in step with it
+pub in_step : {X Y Z W : Type 0} (f : X → Z) (g : Y → Z) (h : Y → W) (xs : List X) (ys : List Y) (p : ℕ) (x : X) (y : Y) (z : Z) (w out : W)
+    → map f xs ≡ map g ys → p < length xs → x ≡ get_or xs p x → ((v : Y) → g v ≡ f x → out ≡ h v) → out ≡ get_or (map h ys) p w
+in_step f g h xs ys p x y z w out same there is made =
     let long : length xs ≡ length ys = sym (length-map xs f) ∙ ap length same ∙ length-map ys g in
     let within : p < length ys = below there long in
-    (sym (get_or-map g ys p y z within) ∙ ap (λ l. get_or l p z) (sym same) ∙ sym (made_at f xs p x z there is), sym (get_or-map h ys p y w within))
+    made (get_or ys p y) (sym (get_or-map g ys p y z within) ∙ ap (λ l. get_or l p z) (sym same) ∙ sym (made_at f xs p x z there is))
+    ∙ sym (get_or-map h ys p y w within)
 
 -- ---- where of each what is made of it is that of its number, so it is of all
 

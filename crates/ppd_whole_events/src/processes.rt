@@ -113,7 +113,7 @@ fn events_by<'a>(
         .into_par_iter()
         .with_min_len(share(own.len(), workers))
         .map(
-            |p: usize| -> Result<Vec<&'a Event>, Memory>
+            |p: usize| -> Result<Vec<&Event>, Memory>
                 requires { (p < length own.now)
                     × (map (λ r. r.now) own.now ≡ map (λ x. x.items) (seens_in past.now)) }
                 ensures { IfOk result
