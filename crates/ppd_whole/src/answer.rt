@@ -10,16 +10,14 @@ ghost use Rattle.ppd_whole.specs.WholeText.{whole_text};
 
 use crate::in_turn::whole_in;
 use crate::laws::wholes_are_of_runs;
-use crate::linked_past::LinkedPast;
-use crate::marks::marks_of_all;
-use crate::processes::{are_few, events_of_all};
-use crate::replays::{all_items, drop_all};
 use crate::text::{joined, lines_of_all};
-use crate::whole_error::WholeError;
 use ppd_ast::{Bytes, Memory, Seq, Steps};
 use ppd_flow_past::Past;
 use ppd_model::Item;
+use ppd_whole_events::{are_few, events_of_all, marks_of_all};
 use ppd_whole_link::{linkers_are_linked, marks_are_writers};
+use ppd_whole_origins::LinkedPast;
+use ppd_whole_replays::{WholeError, all_items, drop_all};
 use ppd_whole_writers::writing_edges;
 use std::alloc::Global;
 use std::marker::Brand;
@@ -43,7 +41,7 @@ fn parts_of(
 {
     marks_are_writers();
     linkers_are_linked();
-    let events = events_of_all(alloc, past, rows)?;
+    let events = events_of_all(rt, alloc, past, rows, workers)?;
     if !are_few(&events) {
         return Err(Memory);
     }

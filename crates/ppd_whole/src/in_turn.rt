@@ -5,82 +5,26 @@ ghost use Rattle.std.specs.List.{flat_map};
 ghost use Rattle.law_whole.specs.Linked.{joined_trace};
 ghost use Rattle.ppd_flow_past.specs.Pasts.{IsPast};
 ghost use Rattle.ppd_flow_shared.specs.SharedCells.{seens_in};
-ghost use Rattle.ppd_whole_link.specs.Marks.{marks_after};
-ghost use Rattle.ppd_whole.specs.Answers.{GivesWhole, IsWholeOf, all_intervals};
-ghost use Rattle.ppd_whole.specs.Costs.{lines_cost, replays_cost, whole_cost};
-ghost use Rattle.ppd_whole.specs.LinkedPasts.{IsLinked};
-ghost use Rattle.ppd_whole.specs.Replays.{AreReplays};
-ghost use Rattle.ppd_whole.specs.Told.{all_events, told_processes};
+ghost use Rattle.ppd_whole.specs.Answers.{GivesWhole, IsWholeOf};
+ghost use Rattle.ppd_whole.specs.Costs.{lines_cost, whole_cost};
+ghost use Rattle.ppd_whole_origins.specs.LinkedPasts.{IsLinked};
+ghost use Rattle.ppd_whole_origins.specs.Origins.{all_events};
+ghost use Rattle.ppd_whole.specs.Told.{told_processes};
 ghost use Rattle.ppd_whole.specs.WholeText.{whole_text};
 
-use crate::jobs::{Job, jobs_of};
 use crate::laws::wholes_are_of_runs;
 use crate::lines::put_process;
-use crate::linked_past::LinkedPast;
-use crate::processes::{are_few, events_of_all};
-use crate::replays::items_in;
-use crate::whole_error::WholeError;
 use ppd_ast::{Memory, Seq, Steps};
 use ppd_flow_past::Past;
 use ppd_model::Item;
 use ppd_sem::Event;
-use ppd_whole_link::{Marks, linkers_are_linked, marks_are_writers, marks_of};
+use ppd_whole_events::{are_few, events_in_turn, marks_in_turn};
+use ppd_whole_link::{linkers_are_linked, marks_are_writers};
+use ppd_whole_origins::LinkedPast;
+use ppd_whole_replays::{WholeError, all_items_in};
 use ppd_whole_writers::writing_edges;
 use std::alloc::Global;
 use std::sync::ledger::Ledger;
-
-// The items of these intervals, each replayed once.
-fn rows_in<L: Ledger>(
-    alloc: Global,
-    past: &Past,
-    jobs: &[Job],
-    steps: &mut Steps<L>,
-) -> Result<Seq<Seq<Item>>, WholeError>
-    requires { IsPast past.now }
-    ensures is { AreReplays past.now jobs.now result }
-    ensures cost { OnOk result (steps.new ≡ steps.old + replays_cost past.now jobs.now) }
-{
-    let mut rows = Seq::new(alloc);
-    for job in jobs {
-        match items_in(alloc, past, *job, steps) {
-            Ok(items) => {
-                if rows.push(items).is_err() {
-                    return Err(WholeError::Memory);
-                }
-            }
-            Err(error) => return Err(error),
-        }
-    }
-    Ok(rows)
-}
-
-// Those of all intervals.
-fn all_rows_in<L: Ledger>(
-    alloc: Global,
-    past: &Past,
-    steps: &mut Steps<L>,
-) -> Result<Seq<Seq<Item>>, WholeError>
-    requires past { IsPast past.now }
-    requires uncut { past.now.cut.now ≡ past.now.logs.now }
-    ensures is { AreReplays past.now (all_intervals past.now) result }
-    ensures cost { OnOk result (steps.new ≡ steps.old + replays_cost past.now (all_intervals past.now)) }
-{
-    let jobs = jobs_of(alloc, past)?;
-    rows_in(alloc, past, &jobs, steps)
-}
-
-// What the events of each process leave.
-fn marks_in_turn(alloc: Global, events: &[Vec<&Event>]) -> Result<Vec<Marks>, Memory>
-    ensures { IfOk result
-        (λ marks. marks.items ≡ map (λ es. marks_after (map (λ e. e.now) es.items)) events.now) }
-{
-    let mut all = Vec::new(alloc);
-    for own in events {
-        let marks = marks_of(alloc, own)?;
-        all.push(marks)?;
-    }
-    Ok(all)
-}
 
 // The lines of the events of all processes.
 fn lines_in<L: Ledger>(
@@ -121,7 +65,7 @@ fn text_in<L: Ledger>(
 {
     marks_are_writers();
     linkers_are_linked();
-    let events = events_of_all(alloc, past, rows)?;
+    let events = events_in_turn(alloc, past, rows)?;
     if !are_few(&events) {
         return Err(Memory);
     }
@@ -149,7 +93,7 @@ pub fn whole_in<L: Ledger>(
     ensures cost { OnOk result (steps.new ≤ steps.old + whole_cost past.now) }
 {
     wholes_are_of_runs();
-    let rows = all_rows_in(alloc, past, steps)?;
+    let rows = all_items_in(alloc, past, steps)?;
     let text = text_in(alloc, past, rows.as_slice(), steps)?;
     Ok(text)
 }

@@ -2,14 +2,14 @@
 ghost use Rattle.std.specs.Prelude.{◌≡◌, ◌<◌, ◌≤◌, ◌+◌, [], get_or, length, map, IfOk};
 ghost use Rattle.std.specs.List.{flat_map, range_with_len, sum_by};
 ghost use Rattle.ppd_whole.specs.Costs.{event_cost};
-ghost use Rattle.ppd_whole.specs.LinkedPasts.{IsLinked};
+ghost use Rattle.ppd_whole_origins.specs.LinkedPasts.{IsLinked};
 ghost use Rattle.ppd_whole.specs.Told.{told_at};
 
 use crate::lines::put_process;
-use crate::linked_past::LinkedPast;
-use crate::shares::share;
 use ppd_ast::{Bytes, Memory, Seq, Steps};
 use ppd_sem::Event;
+use ppd_whole_origins::LinkedPast;
+use ppd_whole_replays::share;
 use rayon::prelude::*;
 use std::alloc::{AllocError, Global};
 use std::marker::Brand;

@@ -6,7 +6,8 @@ use Rattle.ppd_sem.specs.declared.event.Event.{Event}
 use Rattle.ppd_flow_past.specs.declared.past.Past.{Past}
 use Rattle.law_whole.specs.Linked.{joined_trace}
 use Rattle.ppd_flow_shared.specs.SharedCells.{seens_in}
-use Rattle.ppd_whole.specs.Told.{all_events, told_at}
+use Rattle.ppd_whole_origins.specs.Origins.{all_events}
+use Rattle.ppd_whole.specs.Told.{told_at}
 use Rattle.ppd_whole.specs.WholeText.{whole_text}
 use Rattle.ppd_whole.proofs.Parts.{told_parts}
 use Rattle.ppd_whole.proofs.Texts.{marked_by, told_of}

@@ -6,7 +6,8 @@ use Rattle.ppd_ast.specs.Lookups.{locals_of}
 use Rattle.ppd_text.specs.Texts.{place_text}
 use Rattle.ppd_model.specs.declared.trace.EventId.{EventId}
 use Rattle.ppd_text_items.specs.Items.{access_text, event_kind, outcome_text, written_locals}
-use Rattle.ppd_whole.specs.Told.{pair_by, told_read, told_stmt}
+use Rattle.ppd_whole_origins.specs.Origins.{pair_by}
+use Rattle.ppd_whole.specs.Told.{told_read, told_stmt}
 use Rattle.ppd_whole.specs.WholeText.{paired_text}
 use Rattle.ppd_whole.proofs.lines.put_stmt.Goals as goal
 

@@ -1,0 +1,2 @@
+-- Parts that are made one by one.
+pub mod Parts

@@ -1,0 +1,4 @@
+-- What events came from.
+pub mod Origins
+pub mod LinkedPasts
+pub mod Costs

@@ -1,0 +1,3 @@
+-- Replays one after the other, and the intervals of all processes.
+mod Gathered
+pub mod Intervals

@@ -1,0 +1,4 @@
+-- The replays of all intervals of a past.
+pub mod Intervals
+pub mod Replays
+pub mod Costs

@@ -1,0 +1,24 @@
+use ppd_ast::Memory;
+use thiserror::Error;
+
+/// Why there is no text.
+#[derive(Clone, Copy, Debug, Error)]
+pub enum WholeError {
+    /// The replay of an interval of this process fails, at this entry.
+    #[error("the replay of process {process} cannot go on with entry {entry}")]
+    Diverged { process: u8, entry: u32 },
+    /// Want of memory.
+    #[error("want of memory")]
+    Memory,
+}
+
+impl From<Memory> for WholeError {
+    ghost use Rattle.std.specs.Prelude.{◌≡◌};
+    ghost use Rattle.ppd_whole_replays.specs.declared.whole_error.WholeError.TheVariants as error;
+
+    ghost from_gives = { λ _ e. e ≡ error.Memory };
+
+    fn from(_memory: Memory) -> WholeError {
+        WholeError::Memory
+    }
+}
