@@ -18,7 +18,7 @@ use ppd_whole_events::{are_few, events_of_all, marks_of_all};
 use ppd_whole_link::{linkers_are_linked, marks_are_writers};
 use ppd_whole_origins::LinkedPast;
 use ppd_whole_replays::{WholeError, all_items, drop_all};
-use ppd_whole_writers::writing_edges;
+use ppd_flow_writers::writing_edges;
 use std::alloc::Global;
 use std::marker::Brand;
 use std::sync::ledger::{Blank, Ledger};

@@ -22,7 +22,7 @@ use ppd_whole_events::{are_few, events_in_turn, marks_in_turn};
 use ppd_whole_link::{linkers_are_linked, marks_are_writers};
 use ppd_whole_origins::LinkedPast;
 use ppd_whole_replays::{WholeError, all_items_in};
-use ppd_whole_writers::writing_edges;
+use ppd_flow_writers::writing_edges;
 use std::alloc::Global;
 use std::sync::ledger::Ledger;
 
