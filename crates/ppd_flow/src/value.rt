@@ -1,15 +1,17 @@
-ghost use Rattle.std.specs.Prelude.{◌+◌};
+ghost use Rattle.std.specs.Prelude.{◌+◌, IfSome, option_copied};
 ghost use Rattle.ppd_flow.specs.Missing.{IsCauseOfSets};
 ghost use Rattle.ppd_flow.specs.Runs.{CostsLast, GivesLast};
 ghost use Rattle.ppd_flow_past.specs.ByReplays.{steps_to_replay};
 ghost use Rattle.ppd_flow_past.specs.Pasts.{IsPast};
 ghost use Rattle.ppd_flow_shared.specs.SharedCells.{AreItemsOfLast, IsLastFound};
+ghost use Rattle.ppd_flow_tables.specs.Tabled.{IsOfInterval};
 
 use law_flow_shared::{last_costs_little, last_writes_are_found};
 use ppd_ast::Steps;
 use ppd_flow_past::{FlowError, Past, replays_are_seen};
 use ppd_flow_shared::{LastEdge, last_write, last_write_from};
-use ppd_model::{Item, Origin};
+use ppd_flow_tables::TabledItems;
+use ppd_model::Origin;
 use std::alloc::Global;
 use std::sync::ledger::Ledger;
 
@@ -43,16 +45,18 @@ pub fn last<L: Ledger>(
 
 /// What `last` answers for a cell that this internal edge wrote last (`last_edge`), from the items of the interval in
 /// which the edge ends, as a replay gave them: so that cells of one interval need one replay of it. The counter rises
-/// as in `last`, but not by the own steps of that interval.
+/// as in `last`, but not by the own steps of that interval, and where their tables are given the items are not gone over.
 pub fn last_from<L: Ledger>(
     alloc: Global,
     past: &Past,
     cell: u16,
     last: LastEdge,
-    items: &[Item],
+    given: TabledItems,
     steps: &mut Steps<L>,
 ) -> Result<(i64, Origin), FlowError>
-    requires { AreItemsOfLast past.now cell last items.now }
+    requires items { AreItemsOfLast past.now cell last given.items.now }
+    requires tables { IfSome (option_copied given.tables)
+        (IsOfInterval past.now last.edge.process last.interval) }
     ensures found { IsLastFound past.now cell steps.old
         (steps.new + steps_to_replay past.now last.edge.process last.interval) result }
     ensures run { GivesLast past.now cell result }
@@ -63,5 +67,5 @@ pub fn last_from<L: Ledger>(
     replays_are_seen();
     last_writes_are_found();
     last_costs_little();
-    last_write_from(alloc, past, cell, last, items, steps)
+    last_write_from(alloc, past, cell, last, given, steps)
 }

@@ -16,7 +16,7 @@ use crate::opening::{no_items, put_many_races, replay};
 use crate::place::Place;
 use crate::reply::SessionError;
 use ppd_ast::Steps;
-use ppd_flow::{LastEdge, last, last_edge, last_from};
+use ppd_flow::{LastEdge, TabledItems, last, last_edge, last_from};
 use ppd_flow_past::Past;
 use ppd_model::{Item, Origin, Race};
 use ppd_text_items::put_last;
@@ -84,7 +84,11 @@ fn last_told_in<L: Ledger>(
         (IsWhy (unfound (last_by past.now.program.now past.now.plan.now past.now.budget past.now.logs.now cell))) }
 {
     let mut steps: Steps<L> = Steps::new(blank);
-    match last_from(alloc, past, cell, last, items, &mut steps) {
+    let given = TabledItems {
+        items,
+        tables: None,
+    };
+    match last_from(alloc, past, cell, last, given, &mut steps) {
         Ok(found) => Ok(found),
         Err(error) => Err(no_items(error)),
     }
