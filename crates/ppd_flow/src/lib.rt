@@ -9,7 +9,7 @@ mod reads;
 mod value;
 
 pub use far::far_processes;
-pub use item::{edges, edges_by_tables};
+pub use item::{edges, edges_by_tables, edges_from};
 pub use laws::answers_are_of_runs;
 pub use ppd_flow_past::{FlowError, KeptReplays, Past, interval_items};
 pub use ppd_flow_shared::{LastEdge, Place, last_edge};

@@ -18,7 +18,8 @@ fn loop_at(loops: &[u32], place: usize) -> u32
     requires { place < length loops.now }
     ensures { slice_get (reverse loops.now) place ≡ Some result }
 {
-    loops[loops.len() - 1 - place]
+    let at = loops.len() - 1 - place;
+    loops[at]
 }
 
 impl<'a> Search<'a> {

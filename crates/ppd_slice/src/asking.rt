@@ -14,19 +14,6 @@ use ppd_slice_model::ItemAt;
 use std::alloc::Global;
 use std::sync::ledger::Ledger;
 
-/// The place of an item.
-fn place_of(at: ItemAt) -> Place
-    ensures process { result.process ≡ at.process }
-    ensures interval { result.interval ≡ at.interval }
-    ensures item { result.item ≡ at.item }
-{
-    Place {
-        process: at.process,
-        interval: at.interval,
-        item: at.item as usize,
-    }
-}
-
 /// Whether an interval has an item of this number. Nothing is replayed where its process is kept.
 fn is_there<L: Ledger>(
     alloc: Global,
@@ -112,7 +99,13 @@ fn far_known<L: Ledger>(
     ensures error { IfErr result (IsReplayFailure past.now) }
 {
     let known = past.with_kept(kept.replays.as_slice());
-    far_processes(alloc, &known, &kept.tables.tables(), place_of(at), steps)
+    let tables = kept.tables.tables();
+    let place = Place {
+        process: at.process,
+        interval: at.interval,
+        item: at.item as usize,
+    };
+    far_processes(alloc, &known, &tables, place, steps)
 }
 
 /// Keeps the other processes that the edges of an item need, whose own process is kept.
@@ -154,7 +147,13 @@ fn edges_known<L: Ledger>(
     ensures cost { OnOk result (steps.new ≡ steps.old) }
 {
     let known = past.with_kept(kept.replays.as_slice());
-    match edges_by_tables(alloc, &known, &kept.tables.tables(), place_of(at), steps) {
+    let tables = kept.tables.tables();
+    let place = Place {
+        process: at.process,
+        interval: at.interval,
+        item: at.item as usize,
+    };
+    match edges_by_tables(alloc, &known, &tables, place, steps) {
         Ok(edges) => Ok(Some(edges)),
         Err(error) => Err(error),
     }

@@ -25,5 +25,5 @@ pub returns : goal.returns
 returns g c =
     by_last c.args.self.now c.args.place.now.interval c.args.place.now.item c.args.wanted.frame c.args.wanted.cell
     c.args.place.now.items.now (scanned c.in_ok-state.state) (reverse c.as_slice.result.now) c.in_ok-state.state.writer
-    c.args.steps.now c.written.new.steps c.written.result c.requires.place.items_are c.in_ok-state.ensures
-    (ap (λ (ms : List ℕ). reverse ms) c.as_slice.ensures) refl c.written.ensures
+    c.args.steps.now c.written-2.new.steps c.written-2.result c.requires.place.items_are c.in_ok-state.ensures
+    (ap (λ (ms : List ℕ). reverse ms) c.as_slice.ensures) refl c.written-2.ensures
