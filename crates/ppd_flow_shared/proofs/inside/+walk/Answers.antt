@@ -15,11 +15,11 @@ over_interval-returns g t c =
     let search = c.args.search.now in
     let given : IsFoundBy search.past.now ((search.process, c.args.interval) ∷ []) (Ok
     (items_in search.past.now search.process c.args.interval))
-    c.args.steps.now c.interval_items.new.steps (Ok c.as_slice.result.now) =
+    c.args.steps.now c.interval_items.new.steps (Ok c.as_slice-items.result.now) =
     subst (λ (xs : List Item). IsFoundBy search.past.now ((search.process, c.args.interval) ∷ []) (Ok
     (items_in search.past.now search.process c.args.interval))
-    c.args.steps.now c.interval_items.new.steps (Ok xs)) (sym c.as_slice.ensures) c.in_ok-items.ensures in
-    whole_ok search.past.now search.process search.cell c.args.depth c.args.interval c.as_slice.result.now
+    c.args.steps.now c.interval_items.new.steps (Ok xs)) (sym c.as_slice-items.ensures) c.in_ok-items.ensures in
+    whole_ok search.past.now search.process search.cell c.args.depth c.args.interval c.as_slice-items.result.now
     c.args.steps.now c.interval_items.new.steps c.over_items.new.steps c.over_items.result c.if-depth-eq0.false given
     c.over_items.ensures
 
