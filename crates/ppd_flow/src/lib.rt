@@ -15,4 +15,4 @@ pub use ppd_flow_past::{FlowError, KeptReplays, Past, interval_items};
 pub use ppd_flow_shared::{LastEdge, Place, last_edge};
 pub use ppd_flow_tables::{BlockTables, KeptTables, TabledItems, Tables};
 pub use ppd_model::{EdgeKind, FlowEdge, Origin};
-pub use value::{last, last_from};
+pub use value::{block_tables, last, last_from};

@@ -1,17 +1,19 @@
-ghost use Rattle.std.specs.Prelude.{◌+◌, IfSome, option_copied};
+ghost use Rattle.std.specs.Prelude.{◌≡◌, ◌+◌, IfOk, IfSome, option_copied};
 ghost use Rattle.ppd_flow.specs.Missing.{IsCauseOfSets};
 ghost use Rattle.ppd_flow.specs.Runs.{CostsLast, GivesLast};
 ghost use Rattle.ppd_flow_past.specs.ByReplays.{steps_to_replay};
 ghost use Rattle.ppd_flow_past.specs.Pasts.{IsPast};
+ghost use Rattle.ppd_flow_past.specs.SeenBy.{items_in};
 ghost use Rattle.ppd_flow_shared.specs.SharedCells.{AreItemsOfLast, IsLastFound};
 ghost use Rattle.ppd_flow_tables.specs.Tabled.{IsOfInterval};
 
 use law_flow_shared::{last_costs_little, last_writes_are_found};
-use ppd_ast::Steps;
+use ppd_ast::{Memory, Steps};
 use ppd_flow_past::{FlowError, Past, replays_are_seen};
+use ppd_flow_places::EdgeTable;
 use ppd_flow_shared::{LastEdge, last_write, last_write_from};
-use ppd_flow_tables::TabledItems;
-use ppd_model::Origin;
+use ppd_flow_tables::{BlockTables, TabledItems};
+use ppd_model::{Item, Origin};
 use std::alloc::Global;
 use std::sync::ledger::Ledger;
 
@@ -68,4 +70,21 @@ pub fn last_from<L: Ledger>(
     last_writes_are_found();
     last_costs_little();
     last_write_from(alloc, past, cell, last, given, steps)
+}
+
+/// The tables of an interval of a process, whose items these are, by which searches look up from it. `Memory` is want of
+/// memory, also for items, entries and edges that have no 32-bit numbers.
+pub fn block_tables(
+    alloc: Global,
+    past: &Past,
+    process: u8,
+    interval: u32,
+    items: &[Item],
+) -> Result<BlockTables, Memory>
+    requires past { IsPast past.now }
+    requires items { items.now ≡ items_in past.now process interval }
+    ensures { IfOk result (IsOfInterval past.now process interval) }
+{
+    let edges = EdgeTable::new(alloc, past, process)?;
+    BlockTables::new(alloc, past, &edges, process, interval, items)
 }
