@@ -8,7 +8,7 @@ use Rattle.ppd_flow_past.specs.declared.past.Past.{Past}
 use Rattle.ppd_flow_past.specs.Keeping.{AreKeptOf, IsAllKept}
 use Rattle.ppd_flow_past.specs.SeenBy.{failed_in, items_in}
 use Rattle.ppd_flow_tables.specs.Tabled.{AreOfProcesses}
-use Rattle.ppd_slice.specs.declared.kept.Kept.{Kept}
+use Rattle.ppd_slice.specs.declared.held.Kept.{Kept}
 use Rattle.ppd_slice_model.specs.declared.reached.ItemAt.{ItemAt}
 use Rattle.ppd_slice_model.specs.declared.reached.Reached.{Reached}
 use Rattle.ppd_slice_model.specs.Reach.{IsIn}

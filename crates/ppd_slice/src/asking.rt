@@ -7,7 +7,7 @@ ghost use Rattle.ppd_flow_past.specs.Pasts.{IsPast};
 ghost use Rattle.ppd_slice.specs.Asked.{AreAllKept, AreKeptFor, AreStillKept, IsAsked, IsKept, IsThere};
 ghost use Rattle.ppd_slice.specs.Slices.{IsNoItem, IsSliceOf};
 
-use crate::kept::{Kept, keep};
+use crate::held::{Kept, keep};
 use ppd_ast::{Seq, Steps};
 use ppd_flow::{FlowEdge, FlowError, Past, Place, edges_by_tables, far_processes, interval_items};
 use ppd_slice_model::ItemAt;
