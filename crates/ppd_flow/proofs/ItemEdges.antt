@@ -1,5 +1,5 @@
 -- The edges of an item, once the items of its interval are there.
-use Rattle.std.proofs.Common.{◌≡◌, ℕ, zero, suc, ◌<◌, ◌≤◌, arith, get_or, List, [], ◌∷◌, length, Option, Some, None, Result, Ok, Err, refl, ap, sym, ◌∙◌, subst}
+use Rattle.std.proofs.Common.{◌≡◌, ℕ, zero, suc, ◌+◌, ◌<◌, ◌≤◌, arith, get_or, List, [], ◌∷◌, length, Option, Some, None, Result, Ok, Err, refl, ap, sym, ◌∙◌, subst}
 use Rattle.std.specs.Prelude.{slice_get}
 use Rattle.std.proofs.lemmas.Option.{slice_get_past}
 use Rattle.ppd_model.specs.declared.flow.FlowEdge.{FlowEdge}
@@ -7,9 +7,9 @@ use Rattle.ppd_model.specs.declared.flow.Item.{Item}
 use Rattle.ppd_flow_past.specs.declared.flow_error.FlowError.{FlowError}
 use Rattle.ppd_flow_past.specs.declared.flow_error.FlowError.TheVariants.{NoEvent}
 use Rattle.ppd_flow_past.specs.declared.past.Past.{Past}
-use Rattle.ppd_flow_past.specs.ByReplays.{IsFoundBy}
+use Rattle.ppd_flow_past.specs.ByReplays.{AreReplayed, IsFoundBy, steps_to_replay}
 use Rattle.ppd_flow_past.specs.SeenBy.{items_in}
-use Rattle.ppd_flow_past.proofs.Found.{found_then}
+use Rattle.ppd_flow_past.proofs.Found.{found_given, found_then}
 use Rattle.ppd_flow_model.specs.Found.{edges_if, item_edges, item_replays}
 use Rattle.ppd_flow_model.specs.Seen.{Seen, items_at}
 use Rattle.ppd_flow_model.specs.Shared.{seen_at}
@@ -64,3 +64,22 @@ module _ (past : Past) (p k j n m : ℕ) where
     an_item t l r e f =
         moved (Some t) r l (ap (λ (ts : List Item). slice_get ts j) items_are ∙ e)
         (found_then past ((p, k) ∷ []) (replays_of (Some t)) (Ok (items_in past p k)) (answer_for (Some t)) items n m l r got f)
+
+  -- ---- the items are given
+
+  module _ (items : List Item) (given : AreReplayed past p k items) where
+    given_are : items_at (seen_at (seens_in past) p) k ≡ items
+    given_are = ap (λ (x : Seen). items_at x k) (sym (same_seen past p)) ∙ sym given.1
+
+    pub no_item_given : length items ≤ j → IsEdges past p k j n (n + steps_to_replay past p k) (Err NoEvent)
+    no_item_given h =
+        moved None (Err NoEvent) (n + steps_to_replay past p k)
+        (ap (λ (ts : List Item). slice_get ts j) given_are ∙ slice_get_past items j h)
+        (found_given past p k [] (answer_for None) n n (Err NoEvent) given.0 (refl, refl))
+
+    pub an_item_given : (t : Item) (l : ℕ) (r : Result (List FlowEdge) FlowError) → slice_get items j ≡ Some t
+        → IsFoundBy past (replays_of (Some t)) (answer_of (item_edges past.program.now past.plan.now past.logs.now (seens_in past) p k j t)) n l r
+        → IsEdges past p k j n (l + steps_to_replay past p k) r
+    an_item_given t l r e f =
+        moved (Some t) r (l + steps_to_replay past p k) (ap (λ (ts : List Item). slice_get ts j) given_are ∙ e)
+        (found_given past p k (replays_of (Some t)) (answer_for (Some t)) n l r given.0 f)

@@ -1,15 +1,16 @@
 // The other processes of which intervals are replayed for the edges of an item.
 ghost use Rattle.std.specs.Prelude.{◌≡◌, ◌++◌, IfErr, IfOk, OnOk, option_to_list};
 ghost use Rattle.ppd_flow.specs.Far.{RoseWithin, far_in, far_of_event, far_of_reads_at, far_of_spot_at, far_of_sync_at};
-ghost use Rattle.ppd_flow_local.specs.Searches.{IsPlace};
+ghost use Rattle.ppd_flow_local.specs.Searches.{IsPlace, IsSearch};
 ghost use Rattle.ppd_flow_past.specs.ByReplays.{IsReplayFailure};
-ghost use Rattle.ppd_flow_past.specs.Pasts.{IsPast};
+ghost use Rattle.ppd_flow_tables.specs.Tabled.{IsTabled};
 ghost use Rattle.ppd_sem.specs.declared.event.Spot.TheVariants as spot;
 
 use ppd_ast::{Memory, Seq, Steps};
 use ppd_flow_local::{Place, Search};
 use ppd_flow_past::{FlowError, Past};
 use ppd_flow_shared::{CellSearch, Place as PairPlace, pair_of};
+use ppd_flow_tables::Tables;
 use ppd_graph::Paired;
 use ppd_model::Item;
 use ppd_sem::{Access, Event, Spot};
@@ -24,7 +25,7 @@ fn shared_process<L: Ledger>(
     cell: u16,
     steps: &mut Steps<L>,
 ) -> Result<Option<u8>, FlowError>
-    requires past { IsPast search.now.past.now }
+    requires past { IsSearch search.now }
     requires place { IsPlace search.now place.now }
     ensures is { IfOk result
         (λ found. option_to_list found ≡ far_of_spot_at search.now place.now (spot.Shared cell)) }
@@ -34,6 +35,7 @@ fn shared_process<L: Ledger>(
     let cells = CellSearch {
         alloc: search.alloc,
         past: search.past,
+        tables: search.tables,
         process: search.process,
         cell,
     };
@@ -51,7 +53,7 @@ fn read_process<L: Ledger>(
     spot: Spot,
     steps: &mut Steps<L>,
 ) -> Result<Option<u8>, FlowError>
-    requires past { IsPast search.now.past.now }
+    requires past { IsSearch search.now }
     requires place { IsPlace search.now place.now }
     ensures is { IfOk result (λ found. option_to_list found ≡ far_of_spot_at search.now place.now spot) }
     ensures cost { OnOk result (RoseWithin search.now.past.now search.now.process steps.old steps.new) }
@@ -80,7 +82,7 @@ fn read_processes<L: Ledger>(
     reads: &[Access],
     steps: &mut Steps<L>,
 ) -> Result<Seq<u8>, FlowError>
-    requires past { IsPast search.now.past.now }
+    requires past { IsSearch search.now }
     requires place { IsPlace search.now place.now }
     ensures is { IfOk result (λ found. found ≡ far_of_reads_at search.now place.now reads.now) }
     ensures cost { OnOk result (RoseWithin search.now.past.now search.now.process steps.old steps.new) }
@@ -96,7 +98,7 @@ fn read_processes<L: Ledger>(
 
 /// The process of the pair of the synchronization with this number at a place.
 fn pair_process(search: &Search, place: &Place, number: Option<u32>) -> Result<Option<u8>, Memory>
-    requires past { IsPast search.now.past.now }
+    requires past { IsSearch search.now }
     requires place { IsPlace search.now place.now }
     ensures { IfOk result (λ found. option_to_list found ≡ far_of_sync_at search.now place.now number) }
 {
@@ -108,7 +110,7 @@ fn pair_process(search: &Search, place: &Place, number: Option<u32>) -> Result<O
         interval: place.interval,
         item: place.item,
     };
-    match pair_of(search.past, at, place.items)? {
+    match pair_of(search.past, &search.tables, at, place.items)? {
         Paired::Node(node) => Ok(Some(node.process)),
         Paired::Nothing | Paired::Initial => Ok(None),
     }
@@ -121,7 +123,7 @@ fn event_processes<L: Ledger>(
     event: &Event,
     steps: &mut Steps<L>,
 ) -> Result<Seq<u8>, FlowError>
-    requires past { IsPast search.now.past.now }
+    requires past { IsSearch search.now }
     requires place { IsPlace search.now place.now }
     ensures is { IfOk result (λ found. found ≡ far_of_event search.now place.now event.now) }
     ensures cost { OnOk result (RoseWithin search.now.past.now search.now.process steps.old steps.new) }
@@ -142,33 +144,32 @@ fn event_processes<L: Ledger>(
 pub fn far_processes<L: Ledger>(
     alloc: Global,
     past: &Past,
-    process: u8,
-    interval: u32,
-    item: u32,
+    tables: &Tables,
+    at: PairPlace,
     steps: &mut Steps<L>,
 ) -> Result<Seq<u8>, FlowError>
-    requires { IsPast past.now }
-    ensures is { IfOk result (λ found. found ≡ far_in past.now process interval item) }
-    ensures cost { OnOk result (RoseWithin past.now process steps.old steps.new) }
+    requires { IsTabled past.now tables.now }
+    ensures is { IfOk result (λ found. found ≡ far_in past.now at.process at.interval at.item) }
+    ensures cost { OnOk result (RoseWithin past.now at.process steps.old steps.new) }
     ensures error { IfErr result (IsReplayFailure past.now) }
 {
     let search = Search {
         alloc,
         past,
-        process,
+        tables: *tables,
+        process: at.process,
     };
-    let items = search.items(interval, steps)?;
+    let items = search.items(at.interval, steps)?;
     let items = items.as_slice();
-    let item = item as usize;
-    if item >= items.len() {
+    if at.item >= items.len() {
         return Ok(Seq::new(alloc));
     }
     let place = Place {
-        interval,
+        interval: at.interval,
         items,
-        item,
+        item: at.item,
     };
-    match &items[item] {
+    match &items[at.item] {
         Item::Own(event) => event_processes(&search, &place, event, steps),
         Item::Nested { .. } => Ok(Seq::new(alloc)),
     }

@@ -1,14 +1,15 @@
-ghost use Rattle.std.specs.Prelude.{◌≡◌, ◌<◌, ◌∷◌, ◌++◌, [], length, Ok, OnOk, Some, option_to_list};
+ghost use Rattle.std.specs.Prelude.{◌≡◌, ◌+◌, ◌<◌, ◌∷◌, ◌++◌, [], length, IfSome, Ok, OnOk, Some, option_copied, option_to_list};
 ghost use Rattle.ppd_flow.specs.Answers.{IsEdges, pair_edge_at, pair_replays_at};
 ghost use Rattle.ppd_flow.specs.Missing.{IsCauseOfSets};
 ghost use Rattle.ppd_flow.specs.Runs.{CostsEdges, GivesEdges};
-ghost use Rattle.ppd_flow_local.specs.Searches.{IsPlace};
+ghost use Rattle.ppd_flow_local.specs.Searches.{IsPlace, IsSearch};
 ghost use Rattle.ppd_model.specs.declared.flow.EdgeKind.TheVariants as edge_kind;
 ghost use Rattle.ppd_model.specs.FlowbackEdges.{bare_edge};
-ghost use Rattle.ppd_flow_past.specs.ByReplays.{IsFoundBy};
+ghost use Rattle.ppd_flow_past.specs.ByReplays.{AreReplayed, IsFoundBy, steps_to_replay};
 ghost use Rattle.ppd_flow_past.specs.Pasts.{IsPast};
 ghost use Rattle.ppd_flow_model.specs.Found.{event_edges as event_edges_of, event_replays, item_edges as item_edges_of, item_replays};
 ghost use Rattle.ppd_flow_shared.specs.SharedCells.{answer_of, seens_in};
+ghost use Rattle.ppd_flow_tables.specs.Tabled.{IsOfInterval, IsTabled};
 
 use crate::reads::read_edges;
 use law_flow_own::all_own_parts_are_found;
@@ -17,6 +18,7 @@ use ppd_ast::{Memory, Seq, Steps};
 use ppd_flow_local::{Place, Search, control_edge};
 use ppd_flow_past::{FlowError, Past, replays_are_seen};
 use ppd_flow_shared::{Place as PairPlace, pair_origin};
+use ppd_flow_tables::{TabledItems, Tables};
 use ppd_model::{EdgeKind, FlowEdge, Item, Origin};
 use ppd_sem::Event;
 use std::alloc::Global;
@@ -41,7 +43,7 @@ fn pair_edge<L: Ledger>(
     number: Option<u32>,
     steps: &mut Steps<L>,
 ) -> Result<Option<FlowEdge>, FlowError>
-    requires past { IsPast search.now.past.now }
+    requires past { IsSearch search.now }
     requires place { IsPlace search.now place.now }
     ensures { IsFoundBy search.now.past.now (pair_replays_at search.now place.now number)
         (Ok (pair_edge_at search.now place.now number)) steps.old steps.new result }
@@ -54,7 +56,7 @@ fn pair_edge<L: Ledger>(
         interval: place.interval,
         item: place.item,
     };
-    match pair_origin(search.alloc, search.past, at, place.items, steps)? {
+    match pair_origin(search.alloc, search.past, &search.tables, at, place.items, steps)? {
         Some(from) => Ok(Some(sync_edge(from))),
         None => Ok(None),
     }
@@ -89,7 +91,7 @@ fn event_edges<L: Ledger>(
     event: &Event,
     steps: &mut Steps<L>,
 ) -> Result<Seq<FlowEdge>, FlowError>
-    requires past { IsPast search.now.past.now }
+    requires past { IsSearch search.now }
     requires place { IsPlace search.now place.now }
     ensures { IsFoundBy search.now.past.now
         (event_replays search.now.past.now.program.now search.now.past.now.plan.now search.now.past.now.logs.now
@@ -113,7 +115,7 @@ fn item_edges<L: Ledger>(
     item: &Item,
     steps: &mut Steps<L>,
 ) -> Result<Seq<FlowEdge>, FlowError>
-    requires past { IsPast search.now.past.now }
+    requires past { IsSearch search.now }
     requires place { IsPlace search.now place.now }
     requires item { place.now.item < length place.now.items.now }
     ensures { IsFoundBy search.now.past.now
@@ -139,31 +141,109 @@ fn item_edges<L: Ledger>(
 fn edges_found<L: Ledger>(
     alloc: Global,
     past: &Past,
-    process: u8,
-    interval: u32,
-    item: u32,
+    tables: &Tables,
+    at: PairPlace,
     steps: &mut Steps<L>,
 ) -> Result<Seq<FlowEdge>, FlowError>
-    requires { IsPast past.now }
-    ensures { IsEdges past.now process interval item steps.old steps.new result }
+    requires { IsTabled past.now tables.now }
+    ensures { IsEdges past.now at.process at.interval at.item steps.old steps.new result }
 {
     let search = Search {
         alloc,
         past,
-        process,
+        tables: *tables,
+        process: at.process,
     };
-    let items = search.items(interval, steps)?;
+    let items = search.items(at.interval, steps)?;
     let items = items.as_slice();
-    let item = item as usize;
-    if item >= items.len() {
+    if at.item >= items.len() {
         return Err(FlowError::NoEvent);
     }
     let place = Place {
-        interval,
+        interval: at.interval,
         items,
-        item,
+        item: at.item,
     };
-    item_edges(&search, &place, &items[item], steps)
+    item_edges(&search, &place, &items[at.item], steps)
+}
+
+/// What `edges` answers for an item, by the tables that are at hand: where they are those of the intervals that are
+/// needed, no items are gone over.
+pub fn edges_by_tables<L: Ledger>(
+    alloc: Global,
+    past: &Past,
+    tables: &Tables,
+    at: PairPlace,
+    steps: &mut Steps<L>,
+) -> Result<Seq<FlowEdge>, FlowError>
+    requires { IsTabled past.now tables.now }
+    ensures found { IsEdges past.now at.process at.interval at.item steps.old steps.new result }
+    ensures run { GivesEdges past.now at.process at.interval at.item result }
+    ensures cost { CostsEdges past.now at.process at.interval at.item steps.old steps.new result }
+    ensures sets { IsCauseOfSets past.now result }
+{
+    replays_are_seen();
+    edges_are_found();
+    all_own_parts_are_found();
+    edges_cost_little();
+    edges_found(alloc, past, tables, at, steps)
+}
+
+/// The same where the items of its interval are given.
+fn edges_given<L: Ledger>(
+    alloc: Global,
+    past: &Past,
+    at: PairPlace,
+    given: TabledItems,
+    steps: &mut Steps<L>,
+) -> Result<Seq<FlowEdge>, FlowError>
+    requires past { IsPast past.now }
+    requires items { AreReplayed past.now at.process at.interval given.items.now }
+    requires tables { IfSome (option_copied given.tables) (IsOfInterval past.now at.process at.interval) }
+    ensures { IsEdges past.now at.process at.interval at.item steps.old
+        (steps.new + steps_to_replay past.now at.process at.interval) result }
+{
+    let search = Search {
+        alloc,
+        past,
+        tables: given.tables_at(at.process, at.interval),
+        process: at.process,
+    };
+    if at.item >= given.items.len() {
+        return Err(FlowError::NoEvent);
+    }
+    let place = Place {
+        interval: at.interval,
+        items: given.items,
+        item: at.item,
+    };
+    item_edges(&search, &place, &given.items[at.item], steps)
+}
+
+/// What `edges` answers for an item, from the items of its interval as a replay gave them, so that this interval is not
+/// replayed again for them. The counter rises as in `edges`, but not by the own steps of that interval.
+pub fn edges_from<L: Ledger>(
+    alloc: Global,
+    past: &Past,
+    at: PairPlace,
+    given: TabledItems,
+    steps: &mut Steps<L>,
+) -> Result<Seq<FlowEdge>, FlowError>
+    requires past { IsPast past.now }
+    requires items { AreReplayed past.now at.process at.interval given.items.now }
+    requires tables { IfSome (option_copied given.tables) (IsOfInterval past.now at.process at.interval) }
+    ensures found { IsEdges past.now at.process at.interval at.item steps.old
+        (steps.new + steps_to_replay past.now at.process at.interval) result }
+    ensures run { GivesEdges past.now at.process at.interval at.item result }
+    ensures cost { CostsEdges past.now at.process at.interval at.item steps.old
+        (steps.new + steps_to_replay past.now at.process at.interval) result }
+    ensures sets { IsCauseOfSets past.now result }
+{
+    replays_are_seen();
+    edges_are_found();
+    all_own_parts_are_found();
+    edges_cost_little();
+    edges_given(alloc, past, at, given, steps)
 }
 
 /// The flowback edges of an item of an interval, in order: of an event one for each read from where what is read was
@@ -199,9 +279,10 @@ pub fn edges<L: Ledger>(
     ensures cost { CostsEdges past.now process interval item steps.old steps.new result }
     ensures sets { IsCauseOfSets past.now result }
 {
-    replays_are_seen();
-    edges_are_found();
-    all_own_parts_are_found();
-    edges_cost_little();
-    edges_found(alloc, past, process, interval, item, steps)
+    let at = PairPlace {
+        process,
+        interval,
+        item: item as usize,
+    };
+    edges_by_tables(alloc, past, &Tables::Nothing, at, steps)
 }

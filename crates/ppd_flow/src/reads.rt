@@ -1,8 +1,7 @@
 ghost use Rattle.std.specs.Prelude.{◌≡◌};
 ghost use Rattle.ppd_flow.specs.Answers.{reads_at, reads_replays_at, spot_origin, spot_replays};
-ghost use Rattle.ppd_flow_local.specs.Searches.{IsPlace};
+ghost use Rattle.ppd_flow_local.specs.Searches.{IsPlace, IsSearch};
 ghost use Rattle.ppd_flow_past.specs.ByReplays.{IsFoundBy};
-ghost use Rattle.ppd_flow_past.specs.Pasts.{IsPast};
 ghost use Rattle.ppd_flow_model.specs.Own.{read_from};
 ghost use Rattle.ppd_flow_shared.specs.SharedCells.{answer_of};
 
@@ -33,7 +32,7 @@ fn read_origin<L: Ledger>(
     spot: Spot,
     steps: &mut Steps<L>,
 ) -> Result<Origin, FlowError>
-    requires past { IsPast search.now.past.now }
+    requires past { IsSearch search.now }
     requires place { IsPlace search.now place.now }
     ensures { IsFoundBy search.now.past.now (spot_replays search.now place.now spot)
         (answer_of (spot_origin search.now place.now spot)) steps.old steps.new result }
@@ -46,6 +45,7 @@ fn read_origin<L: Ledger>(
             let cells = CellSearch {
                 alloc: search.alloc,
                 past: search.past,
+                tables: search.tables,
                 process: search.process,
                 cell,
             };
@@ -61,7 +61,7 @@ pub(crate) fn read_edges<L: Ledger>(
     reads: &[Access],
     steps: &mut Steps<L>,
 ) -> Result<Seq<FlowEdge>, FlowError>
-    requires past { IsPast search.now.past.now }
+    requires past { IsSearch search.now }
     requires place { IsPlace search.now place.now }
     ensures { IsFoundBy search.now.past.now (reads_replays_at search.now place.now reads.now)
         (answer_of (reads_at search.now place.now reads.now)) steps.old steps.new result }

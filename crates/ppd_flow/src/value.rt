@@ -1,14 +1,18 @@
-ghost use Rattle.std.specs.Prelude.{◌+◌};
+ghost use Rattle.std.specs.Prelude.{◌≡◌, ◌+◌, IfOk, IfSome, option_copied};
 ghost use Rattle.ppd_flow.specs.Missing.{IsCauseOfSets};
 ghost use Rattle.ppd_flow.specs.Runs.{CostsLast, GivesLast};
 ghost use Rattle.ppd_flow_past.specs.ByReplays.{steps_to_replay};
 ghost use Rattle.ppd_flow_past.specs.Pasts.{IsPast};
+ghost use Rattle.ppd_flow_past.specs.SeenBy.{items_in};
 ghost use Rattle.ppd_flow_shared.specs.SharedCells.{AreItemsOfLast, IsLastFound};
+ghost use Rattle.ppd_flow_tables.specs.Tabled.{IsOfInterval};
 
 use law_flow_shared::{last_costs_little, last_writes_are_found};
-use ppd_ast::Steps;
+use ppd_ast::{Memory, Steps};
 use ppd_flow_past::{FlowError, Past, replays_are_seen};
+use ppd_flow_places::EdgeTable;
 use ppd_flow_shared::{LastEdge, last_write, last_write_from};
+use ppd_flow_tables::{BlockTables, TabledItems};
 use ppd_model::{Item, Origin};
 use std::alloc::Global;
 use std::sync::ledger::Ledger;
@@ -43,16 +47,18 @@ pub fn last<L: Ledger>(
 
 /// What `last` answers for a cell that this internal edge wrote last (`last_edge`), from the items of the interval in
 /// which the edge ends, as a replay gave them: so that cells of one interval need one replay of it. The counter rises
-/// as in `last`, but not by the own steps of that interval.
+/// as in `last`, but not by the own steps of that interval, and where their tables are given the items are not gone over.
 pub fn last_from<L: Ledger>(
     alloc: Global,
     past: &Past,
     cell: u16,
     last: LastEdge,
-    items: &[Item],
+    given: TabledItems,
     steps: &mut Steps<L>,
 ) -> Result<(i64, Origin), FlowError>
-    requires { AreItemsOfLast past.now cell last items.now }
+    requires items { AreItemsOfLast past.now cell last given.items.now }
+    requires tables { IfSome (option_copied given.tables)
+        (IsOfInterval past.now last.edge.process last.interval) }
     ensures found { IsLastFound past.now cell steps.old
         (steps.new + steps_to_replay past.now last.edge.process last.interval) result }
     ensures run { GivesLast past.now cell result }
@@ -63,5 +69,22 @@ pub fn last_from<L: Ledger>(
     replays_are_seen();
     last_writes_are_found();
     last_costs_little();
-    last_write_from(alloc, past, cell, last, items, steps)
+    last_write_from(alloc, past, cell, last, given, steps)
+}
+
+/// The tables of an interval of a process, whose items these are, by which searches look up from it. `Memory` is want of
+/// memory, also for items, entries and edges that have no 32-bit numbers.
+pub fn block_tables(
+    alloc: Global,
+    past: &Past,
+    process: u8,
+    interval: u32,
+    items: &[Item],
+) -> Result<BlockTables, Memory>
+    requires past { IsPast past.now }
+    requires items { items.now ≡ items_in past.now process interval }
+    ensures { IfOk result (IsOfInterval past.now process interval) }
+{
+    let edges = EdgeTable::new(alloc, past, process)?;
+    BlockTables::new(alloc, past, &edges, process, interval, items)
 }

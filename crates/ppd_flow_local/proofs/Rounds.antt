@@ -10,8 +10,9 @@ use Rattle.ppd_flow_model.specs.Control.{call_or_entry, call_replays, control_ab
 use Rattle.ppd_flow_model.specs.Locals.{Scan, in_loops, local_in, local_in_replays, local_outside, loop_replays, outer_frame, outside_replays, scan, writer_at, writer_replays}
 use Rattle.ppd_flow_model.specs.Own.{frame_at}
 use Rattle.ppd_flow_model.specs.Seen.{items_at, kind_at, outer_of, outer_place, place_of, unless}
+use Rattle.ppd_flow_model.specs.declared.writer.Writer.{Writer}
 use Rattle.ppd_flow_local.specs.declared.search.Search.{Search}
-use Rattle.ppd_flow_local.specs.Searches.{IsFound, plan_in, program_in, seen}
+use Rattle.ppd_flow_local.specs.Searches.{IsFound, plan_in, program_in, seen, written_in, written_replays}
 use Rattle.ppd_flow_local.proofs.Joined.{after_none, is_given, joined}
 
 module _ (s : Search) where
@@ -28,6 +29,18 @@ module _ (s : Search) where
       (subst (λ (z : Scan). IsFound s
       (loop_replays (program_in s) (plan_in s) (seen s) s.process c z.loops ++ unless (in_loops (program_in s) (plan_in s) (seen s) s.process c z.loops) (writer_replays z.writer))
       (or_else (in_loops (program_in s) (plan_in s) (seen s) s.process c z.loops) (writer_at (seen s) s.process k z.writer)) n o r) e f)
+
+  -- the same by what is known of the scan
+  pub by_last : (k j frame c : ℕ) (items : List Item) (st : Scan) (loops : List ℕ) (writer : Writer) (n o : ℕ)
+      (r : Result (Option Origin) FlowError) → items ≡ items_at (seen s) k
+      → st ≡ scan (program_in s) (plan_in s) frame c (take j items) → loops ≡ st.loops → writer ≡ st.writer
+      → IsFound s (written_replays s c loops writer) (written_in s k c loops writer) n o r
+      → IsFound s (local_in_replays (program_in s) (plan_in s) (seen s) s.process k j frame c)
+      (local_in (program_in s) (plan_in s) (seen s) s.process k j frame c) n o r
+  by_last k j frame c items st loops writer n o r i e a b f =
+      by_scan k j frame c items st n o r i e
+      (subst (λ ms. IsFound s (written_replays s c ms st.writer) (written_in s k c ms st.writer) n o r) a
+      (subst (λ (w : Writer). IsFound s (written_replays s c loops w) (written_in s k c loops w) n o r) b f))
 
   module _ (k outer item : ℕ) (items : List Item) (n m : ℕ) (out : outer ≡ outer_of (seen s) k)
       (place : item ≡ place_of k items) (got : IsFound s (outer ∷ []) (items_at (seen s) outer) n m (Ok items)) where

@@ -1,5 +1,5 @@
--- What a scan in code stands for, and how the call whose activation goes on is found without one.
-use Rattle.std.specs.Prelude.{ℕ, Option}
+-- What a scan in code stands for, whose loops are seen from the last, and how the call whose activation goes on is found without one.
+use Rattle.std.specs.Prelude.{ℕ, Option, reverse}
 use Rattle.ppd_ast.specs.declared.plan.Plan.{Plan}
 use Rattle.ppd_ast.specs.declared.program.Program.{Program}
 use Rattle.ppd_model.specs.declared.flow.Item.{Item}
@@ -9,7 +9,7 @@ use Rattle.ppd_flow_model.specs.Locals.{Scan, leaf_after}
 use Rattle.ppd_flow_local.specs.declared.scan.Scan.{Scan as Kept}
 
 abbrev pub scanned : Kept → Scan
-scanned s = record { next = s.next; leaf = s.leaf; call = s.call; writer = s.writer; loops = s.loops }
+scanned s = record { next = s.next; leaf = s.leaf; call = s.call; writer = s.writer; loops = reverse s.loops }
 
 -- the call whose activation goes on after this item, which has number n
 abbrev pub leaf_past : Program → Plan → ℕ → Option LeafCall → Item → Option LeafCall

@@ -1,18 +1,21 @@
 -- What the searches within one process answer.
-use Rattle.std.specs.Prelude.{◌≡◌, ℕ, ◌+◌, ◌<◌, ◌≤◌, ℤ, List, length, Result, Ok, Some}
+use Rattle.std.specs.Prelude.{◌≡◌, ℕ, ◌+◌, ◌<◌, ◌≤◌, ◌++◌, ℤ, List, length, Option, Result, Ok, Some}
 use Rattle.ppd_ast.specs.declared.plan.Plan.{Plan}
 use Rattle.ppd_ast.specs.declared.program.Program.{Program}
 use Rattle.ppd_sem.specs.declared.event.Spot.TheVariants.{Local}
 use Rattle.ppd_model.specs.declared.flow.EdgeKind.TheVariants.{Left}
 use Rattle.ppd_model.specs.declared.flow.FlowEdge.{FlowEdge}
 use Rattle.ppd_model.specs.declared.flow.Origin.{Origin}
+use Rattle.ppd_model.specs.FullTrace.{or_else}
+use Rattle.ppd_flow_model.specs.declared.writer.Writer.{Writer}
 use Rattle.ppd_flow_model.specs.Control.{control_origin, control_replays}
-use Rattle.ppd_flow_model.specs.Locals.{local_origin, local_replays}
-use Rattle.ppd_flow_model.specs.Seen.{Seen, items_at}
+use Rattle.ppd_flow_model.specs.Locals.{in_loops, local_origin, local_replays, loop_replays, writer_at, writer_replays}
+use Rattle.ppd_flow_model.specs.Seen.{Seen, items_at, unless}
 use Rattle.ppd_flow_model.specs.Shared.{of_process}
 use Rattle.ppd_flow_past.specs.declared.flow_error.FlowError.{FlowError}
 use Rattle.ppd_flow_past.specs.ByReplays.{IsFoundBy}
 use Rattle.ppd_flow_past.specs.SeenBy.{seen_in}
+use Rattle.ppd_flow_tables.specs.Tabled.{IsTabled}
 use Rattle.ppd_flow_local.specs.declared.scan.LocalCell.{LocalCell}
 use Rattle.ppd_flow_local.specs.declared.search.Place.{Place}
 use Rattle.ppd_flow_local.specs.declared.search.Search.{Search}
@@ -26,6 +29,10 @@ plan_in s = s.past.now.plan.now
 -- what replays of the process give
 abbrev pub seen : Search → Seen
 seen s = seen_in s.past.now s.process
+
+-- the parts of the past belong together, and the tables that are at hand are its own
+abbrev pub IsSearch : Search → Type 0
+IsSearch s = IsTabled s.past.now s.tables
 
 -- found by the replays of these intervals of the process
 abbrev pub IsFound : {A : Type 0} → Search → List ℕ → A → (before after : ℕ) → Result A FlowError → Type 0
@@ -42,6 +49,16 @@ pub record IsItemPlace (s : Search) (place : Place) : Type 0 where
   pub there : place.item < length place.items.now
 
 -- ---- of a local cell before a place
+
+-- the last write in one of these loops, else that of this writer among the items of interval k, if there is one
+abbrev pub written_in : Search → (k c : ℕ) → List ℕ → Writer → Option Origin
+written_in s k c loops w =
+    or_else (in_loops (program_in s) (plan_in s) (seen s) s.process c loops) (writer_at (seen s) s.process k w)
+
+abbrev pub written_replays : Search → ℕ → List ℕ → Writer → List ℕ
+written_replays s c loops w =
+    loop_replays (program_in s) (plan_in s) (seen s) s.process c loops
+    ++ unless (in_loops (program_in s) (plan_in s) (seen s) s.process c loops) (writer_replays w)
 
 -- where it was written last is found
 abbrev pub IsLocalFound : Search → Place → LocalCell → (before after : ℕ) → Result Origin FlowError → Type 0

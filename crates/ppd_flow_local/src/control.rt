@@ -1,17 +1,16 @@
 ghost use Rattle.std.specs.Prelude.{◌≡◌, [], IfOk, slice_get, take};
 ghost use Rattle.ppd_ast.specs.declared.plan.BlockKind.TheVariants as block;
 ghost use Rattle.ppd_ast.specs.Lookups.{kind_of, parent_if};
-ghost use Rattle.ppd_flow_local.specs.Searches.{IsControlFound, IsFound, IsPlace, plan_in, program_in, seen};
+ghost use Rattle.ppd_flow_local.specs.Searches.{IsControlFound, IsFound, IsPlace, IsSearch, plan_in, program_in, seen};
 ghost use Rattle.ppd_model.specs.FullTrace.{or_else};
-ghost use Rattle.ppd_flow_past.specs.Pasts.{IsPast};
 ghost use Rattle.ppd_flow_model.specs.Control.{call_or_entry as call_or_entry_of, call_replays, control_above as control_above_of, control_above_replays, control_in as control_in_of, last_test as last_test_among, leaf_call_at, test_of_run as test_of_run_by, test_round as test_round_by};
 ghost use Rattle.ppd_flow_model.specs.Seen.{kind_at};
 
-use crate::leaf::frame_in;
-use crate::search::{Place, Search, place_of};
+use crate::search::{Place, Search};
 use crate::testing::last_test;
 use ppd_ast::{BlockKind, Memory, Steps};
-use ppd_flow_model::LeafCall;
+use ppd_flow_locals::frame_in;
+use ppd_flow_model::{LastTest, LeafCall};
 use ppd_flow_past::FlowError;
 use ppd_model::Origin;
 use std::sync::ledger::Ledger;
@@ -26,19 +25,33 @@ fn first_of(first: Option<Origin>, second: Option<Origin>) -> Option<Origin>
 }
 
 impl<'a> Search<'a> {
+    /// The latest test of a statement before a place in the activation of a frame.
+    fn last_test(&self, place: &Place, frame: u8, stmt: u32) -> Result<Option<LastTest>, Memory>
+        requires past { IsSearch self.now }
+        requires place { IsPlace self.now place.now }
+        ensures { IfOk result (λ found. found
+            ≡ last_test_among (program_in self.now) (plan_in self.now) frame stmt
+            (take place.now.item place.now.items.now)) }
+    {
+        if let Some(tables) = self.tables_of(place.interval) {
+            return Ok(tables.locals.last_test(frame, stmt, place.item));
+        }
+        last_test(&self.code(), frame, stmt, &place.items[..place.item])
+    }
+
     /// The previous test of a loop run that goes on at a place.
     fn test_of_run(&self, place: &Place, frame: u8, stmt: u32) -> Result<Option<Origin>, Memory>
-        requires { IsPlace self.now place.now }
+        requires past { IsSearch self.now }
+        requires place { IsPlace self.now place.now }
         ensures { IfOk result (λ origin. origin ≡ test_of_run_by self.now.process place.now.interval
             (kind_of (program_in self.now) stmt)
             (last_test_among (program_in self.now) (plan_in self.now) frame stmt
             (take place.now.item place.now.items.now))) }
     {
-        let code = self.code();
-        if !code.program.is_while(stmt) {
+        if !self.past.program.is_while(stmt) {
             return Ok(None);
         }
-        match last_test(&code, frame, stmt, &place.items[..place.item])? {
+        match self.last_test(place, frame, stmt)? {
             Some(test) if test.passed => Ok(Some(self.origin(place.interval, test.item))),
             _ => Ok(None),
         }
@@ -46,16 +59,16 @@ impl<'a> Search<'a> {
 
     /// The latest test before a place of the statement in which this one directly stands.
     fn test_round(&self, place: &Place, frame: u8, stmt: u32) -> Result<Option<Origin>, Memory>
-        requires { IsPlace self.now place.now }
+        requires past { IsSearch self.now }
+        requires place { IsPlace self.now place.now }
         ensures { IfOk result (λ origin. origin
             ≡ test_round_by (program_in self.now) (plan_in self.now) self.now.process place.now.interval frame
             (take place.now.item place.now.items.now) (parent_if (slice_get (program_in self.now).stmts stmt))) }
     {
-        let code = self.code();
-        let Some(outer) = code.program.parent_of(stmt) else {
+        let Some(outer) = self.past.program.parent_of(stmt) else {
             return Ok(None);
         };
-        match last_test(&code, frame, outer, &place.items[..place.item])? {
+        match self.last_test(place, frame, outer)? {
             Some(test) => Ok(Some(self.origin(place.interval, test.item))),
             None => Ok(None),
         }
@@ -73,7 +86,8 @@ impl<'a> Search<'a> {
 
     /// The control parent of a statement in an interval before a place.
     fn control_in(&self, place: &Place, stmt: u32) -> Result<Option<Origin>, Memory>
-        requires { IsPlace self.now place.now }
+        requires past { IsSearch self.now }
+        requires place { IsPlace self.now place.now }
         ensures { IfOk result (λ origin. origin
             ≡ control_in_of (program_in self.now) (plan_in self.now) (seen self.now) self.now.process
             place.now.interval place.now.item stmt) }
@@ -92,7 +106,7 @@ impl<'a> Search<'a> {
         interval: u32,
         steps: &mut Steps<L>,
     ) -> Result<Origin, FlowError>
-        requires { IsPast self.now.past.now }
+        requires { IsSearch self.now }
         ensures { let kind = kind_at (plan_in self.now) (seen self.now) interval in
             IsFound self.now (call_replays (seen self.now) interval kind)
             (call_or_entry_of (seen self.now) self.now.process interval kind) steps.old steps.new result }
@@ -110,7 +124,7 @@ impl<'a> Search<'a> {
         stmt: u32,
         steps: &mut Steps<L>,
     ) -> Result<Origin, FlowError>
-        requires { IsPast self.now.past.now }
+        requires { IsSearch self.now }
         ensures { IsFound self.now
             (control_above_replays (program_in self.now) (plan_in self.now) (seen self.now) self.now.process interval
             (block.Loop stmt))
@@ -123,7 +137,7 @@ impl<'a> Search<'a> {
         let place = Place {
             interval: outer,
             items: items.as_slice(),
-            item: place_of(interval, items.as_slice()),
+            item: self.place_of(outer, items.as_slice(), interval),
         };
         match self.control_in(&place, stmt)? {
             Some(origin) => Ok(origin),
@@ -137,7 +151,7 @@ impl<'a> Search<'a> {
         interval: u32,
         steps: &mut Steps<L>,
     ) -> Result<Origin, FlowError>
-        requires { IsPast self.now.past.now }
+        requires { IsSearch self.now }
         ensures { let kind = kind_at (plan_in self.now) (seen self.now) interval in
             IsFound self.now
             (control_above_replays (program_in self.now) (plan_in self.now) (seen self.now) self.now.process interval
@@ -163,7 +177,7 @@ impl<'a> Search<'a> {
         stmt: u32,
         steps: &mut Steps<L>,
     ) -> Result<Origin, FlowError>
-        requires past { IsPast self.now.past.now }
+        requires past { IsSearch self.now }
         requires place { IsPlace self.now place.now }
         ensures { IsControlFound self.now place.now stmt steps.old steps.new result }
     {

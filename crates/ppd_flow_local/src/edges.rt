@@ -1,10 +1,9 @@
 ghost use Rattle.std.specs.Prelude.{◌≡◌, ◌<◌, ◌-◌, ◌∷◌, ◌++◌, [], get_or, length, pos, ℕ};
 ghost use Rattle.ppd_ast.specs.declared.plan.BlockKind.TheVariants as blocks;
-ghost use Rattle.ppd_flow_local.specs.Searches.{IsFound, IsItemPlace, left_from, left_origin_at, left_replays_at, plan_in, program_in, seen};
+ghost use Rattle.ppd_flow_local.specs.Searches.{IsFound, IsItemPlace, IsSearch, left_from, left_origin_at, left_replays_at, plan_in, program_in, seen};
 ghost use Rattle.ppd_model.specs.declared.flow.EdgeKind.TheVariants as edge_kind;
 ghost use Rattle.ppd_model.specs.declared.flow.Origin.TheVariants as origin;
 ghost use Rattle.ppd_model.specs.FlowbackEdges.{bare_edge};
-ghost use Rattle.ppd_flow_past.specs.Pasts.{IsPast};
 ghost use Rattle.ppd_sem.specs.Blocks.{block_kind as kind_of_block};
 ghost use Rattle.ppd_flow_model.specs.Own.{edges_of_nested, left_edges as left_edges_of, left_replays, nested_replays, returned_edges as returned_edges_of, returned_replays};
 
@@ -63,7 +62,7 @@ impl<'a> Search<'a> {
         wanted: LocalCell,
         steps: &mut Steps<L>,
     ) -> Result<Origin, FlowError>
-        requires past { IsPast self.now.past.now }
+        requires past { IsSearch self.now }
         requires item { IsItemPlace self.now place.now }
         ensures { IsFound self.now (left_replays_at self.now place.now wanted)
             (left_origin_at self.now place.now wanted) steps.old steps.new result }
@@ -85,7 +84,7 @@ impl<'a> Search<'a> {
         values: &[i64],
         steps: &mut Steps<L>,
     ) -> Result<Seq<FlowEdge>, FlowError>
-        requires past { IsPast self.now.past.now }
+        requires past { IsSearch self.now }
         requires item { IsItemPlace self.now place.now }
         ensures { IsFound self.now
             (left_replays (program_in self.now) (plan_in self.now) (seen self.now) self.now.process
@@ -114,7 +113,7 @@ impl<'a> Search<'a> {
         values: &[i64],
         steps: &mut Steps<L>,
     ) -> Result<Seq<FlowEdge>, FlowError>
-        requires past { IsPast self.now.past.now }
+        requires past { IsSearch self.now }
         requires item { IsItemPlace self.now place.now }
         ensures { (m : ℕ) → IsFound self.now
             (nested_replays (program_in self.now) (plan_in self.now) (seen self.now) self.now.process
@@ -138,7 +137,7 @@ impl<'a> Search<'a> {
         values: &[i64],
         steps: &mut Steps<L>,
     ) -> Result<Seq<FlowEdge>, FlowError>
-        requires { IsPast self.now.past.now }
+        requires { IsSearch self.now }
         ensures { IsFound self.now (returned_replays interval values.now)
             (returned_edges_of (seen self.now) self.now.process interval values.now) steps.old steps.new result }
     {
@@ -165,7 +164,7 @@ impl<'a> Search<'a> {
         values: &[i64],
         steps: &mut Steps<L>,
     ) -> Result<Seq<FlowEdge>, FlowError>
-        requires { IsPast self.now.past.now }
+        requires { IsSearch self.now }
         ensures { IsFound self.now (returned_replays interval values.now)
             (returned_edges_of (seen self.now) self.now.process interval values.now
             ++ bare_edge edge_kind.Control (origin.Item self.now.process place.now.interval (place.now.item - 1)) ∷ [])
@@ -191,7 +190,7 @@ impl<'a> Search<'a> {
         values: &[i64],
         steps: &mut Steps<L>,
     ) -> Result<Seq<FlowEdge>, FlowError>
-        requires past { IsPast self.now.past.now }
+        requires past { IsSearch self.now }
         requires item { IsItemPlace self.now place.now }
         ensures { IsFound self.now
             (nested_replays (program_in self.now) (plan_in self.now) (seen self.now) self.now.process

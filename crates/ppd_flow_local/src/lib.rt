@@ -2,7 +2,6 @@
 //! left and what a function returned, by replays of as few intervals as they need.
 #![tactic(auto)]
 
-mod calls;
 mod control;
 mod edges;
 mod leaf;

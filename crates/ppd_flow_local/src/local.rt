@@ -1,28 +1,25 @@
-ghost use Rattle.std.specs.Prelude.{◌≡◌, ◌<◌, ◌∷◌, length, slice_get, Some, IfOk};
+ghost use Rattle.std.specs.Prelude.{◌≡◌, ◌<◌, ◌∷◌, length, reverse, slice_get, Some, IfOk};
 ghost use Rattle.ppd_flow_local.specs.Scans.{scanned as scan_by};
-ghost use Rattle.ppd_flow_local.specs.Searches.{IsFound, IsLocalFound, IsPlace, plan_in, program_in, seen};
-ghost use Rattle.ppd_flow_past.specs.Pasts.{IsPast};
+ghost use Rattle.ppd_flow_local.specs.Searches.{IsFound, IsLocalFound, IsPlace, IsSearch, plan_in, program_in, seen, written_in, written_replays};
 ghost use Rattle.ppd_flow_model.specs.Locals.{above_replays, in_loops as in_loops_of, local_above as local_above_of, local_in as local_in_of, local_in_replays, local_outside as local_outside_of, loop_replays, outer_frame as outer_frame_of, outside_replays, parameter as parameter_of, parameter_replays, scan as scan_of, writer_at as writer_in, writer_replays};
 ghost use Rattle.ppd_flow_model.specs.Seen.{items_at, kind_at, outer_of as outer_at, outer_place as outer_place_of};
 
 use crate::scan::{LocalCell, Scan, has_cell};
-use crate::search::{Place, Search, place_of};
+use crate::search::{Place, Search};
 use ppd_ast::{BlockKind, Memory, Steps};
 use ppd_flow_model::Writer;
 use ppd_flow_past::{FlowError, block_of};
 use ppd_model::{Item, Origin};
-use ppd_sem::{Stack, prelog_cells};
+use ppd_sem::prelog_cells;
 use std::sync::ledger::Ledger;
 
-/// The loop with this number from the top.
-fn loop_at(loops: &Stack<u32>, place: usize) -> u32
+/// The loop with this number from the last.
+fn loop_at(loops: &[u32], place: usize) -> u32
     requires { place < length loops.now }
-    ensures { slice_get loops.now place ≡ Some result }
+    ensures { slice_get (reverse loops.now) place ≡ Some result }
 {
-    match loops.get(place) {
-        Some(interval) => *interval,
-        None => 0,
-    }
+    let at = loops.len() - 1 - place;
+    loops[at]
 }
 
 impl<'a> Search<'a> {
@@ -34,6 +31,20 @@ impl<'a> Search<'a> {
         Scan::over(self.alloc, &self.code(), wanted, items)
     }
 
+    /// The writer of a cell of an interval's own activation among all its items.
+    fn last_writer(&self, interval: u32, items: &[Item], cell: u16) -> Result<Writer, Memory>
+        requires past { IsSearch self.now }
+        requires items { items.now ≡ items_at (seen self.now) interval }
+        ensures { IfOk result (λ writer. writer
+            ≡ (scan_of (program_in self.now) (plan_in self.now) 0 cell items.now).writer) }
+    {
+        if let Some(tables) = self.tables_of(interval) {
+            return Ok(tables.locals.last_write(0, cell, items.len()).writer);
+        }
+        let state = self.scanned(LocalCell { frame: 0, cell }, items)?;
+        Ok(state.writer)
+    }
+
     /// Where the writer among the items of an interval is, if there is one.
     fn writer_at<L: Ledger>(
         &self,
@@ -41,7 +52,7 @@ impl<'a> Search<'a> {
         writer: Writer,
         steps: &mut Steps<L>,
     ) -> Result<Option<Origin>, FlowError>
-        requires { IsPast self.now.past.now }
+        requires { IsSearch self.now }
         ensures { IsFound self.now (writer_replays writer)
             (writer_in (seen self.now) self.now.process interval writer) steps.old steps.new result }
     {
@@ -60,29 +71,30 @@ impl<'a> Search<'a> {
         cell: u16,
         steps: &mut Steps<L>,
     ) -> Result<Option<Origin>, FlowError>
-        requires { IsPast self.now.past.now }
+        requires { IsSearch self.now }
         ensures { let items = items_at (seen self.now) interval in
             let writer = (scan_of (program_in self.now) (plan_in self.now) 0 cell items).writer in
             IsFound self.now (interval ∷ writer_replays writer)
             (writer_in (seen self.now) self.now.process interval writer) steps.old steps.new result }
     {
         let items = self.items(interval, steps)?;
-        let wanted = LocalCell { frame: 0, cell };
-        let state = self.scanned(wanted, items.as_slice())?;
-        self.writer_at(interval, state.writer, steps)
+        let writer = self.last_writer(interval, items.as_slice(), cell)?;
+        self.writer_at(interval, writer, steps)
     }
 
-    /// The last write in the first of these loops, from the top, in which the cell is written.
+    /// The last write in the first of these loops, from the last, in which the cell is written.
     fn in_loops<L: Ledger>(
         &self,
-        loops: &Stack<u32>,
+        loops: &[u32],
         cell: u16,
         steps: &mut Steps<L>,
     ) -> Result<Option<Origin>, FlowError>
-        requires { IsPast self.now.past.now }
+        requires { IsSearch self.now }
         ensures { IsFound self.now
-            (loop_replays (program_in self.now) (plan_in self.now) (seen self.now) self.now.process cell loops.now)
-            (in_loops_of (program_in self.now) (plan_in self.now) (seen self.now) self.now.process cell loops.now)
+            (loop_replays (program_in self.now) (plan_in self.now) (seen self.now) self.now.process cell
+            (reverse loops.now))
+            (in_loops_of (program_in self.now) (plan_in self.now) (seen self.now) self.now.process cell
+            (reverse loops.now))
             steps.old steps.new result }
     {
         for place in 0..loops.len() {
@@ -94,6 +106,25 @@ impl<'a> Search<'a> {
         Ok(None)
     }
 
+    /// The last write in one of the loops since the last writer among the items of an interval, else that writer.
+    fn written<L: Ledger>(
+        &self,
+        interval: u32,
+        writer: Writer,
+        loops: &[u32],
+        cell: u16,
+        steps: &mut Steps<L>,
+    ) -> Result<Option<Origin>, FlowError>
+        requires { IsSearch self.now }
+        ensures { IsFound self.now (written_replays self.now cell (reverse loops.now) writer)
+            (written_in self.now interval cell (reverse loops.now) writer) steps.old steps.new result }
+    {
+        match self.in_loops(loops, cell, steps)? {
+            None => self.writer_at(interval, writer, steps),
+            Some(origin) => Ok(Some(origin)),
+        }
+    }
+
     /// The last write of a local cell in an interval before a place.
     fn local_in<L: Ledger>(
         &self,
@@ -101,7 +132,7 @@ impl<'a> Search<'a> {
         wanted: LocalCell,
         steps: &mut Steps<L>,
     ) -> Result<Option<Origin>, FlowError>
-        requires past { IsPast self.now.past.now }
+        requires past { IsSearch self.now }
         requires place { IsPlace self.now place.now }
         ensures { IsFound self.now
             (local_in_replays (program_in self.now) (plan_in self.now) (seen self.now) self.now.process
@@ -110,11 +141,13 @@ impl<'a> Search<'a> {
             place.now.interval place.now.item wanted.frame wanted.cell)
             steps.old steps.new result }
     {
-        let state = self.scanned(wanted, &place.items[..place.item])?;
-        match self.in_loops(&state.loops, wanted.cell, steps)? {
-            None => self.writer_at(place.interval, state.writer, steps),
-            Some(origin) => Ok(Some(origin)),
+        let LocalCell { frame, cell } = wanted;
+        if let Some(tables) = self.tables_of(place.interval) {
+            let last = tables.locals.last_write(frame, cell, place.item);
+            return self.written(place.interval, last.writer, last.loops, cell, steps);
         }
+        let state = self.scanned(wanted, &place.items[..place.item])?;
+        self.written(place.interval, state.writer, state.loops.as_slice(), cell, steps)
     }
 
     /// The call, for a parameter of an interval of a function; else the start value.
@@ -124,7 +157,7 @@ impl<'a> Search<'a> {
         cell: u16,
         steps: &mut Steps<L>,
     ) -> Result<Origin, FlowError>
-        requires { IsPast self.now.past.now }
+        requires { IsSearch self.now }
         ensures { let kind = kind_at (plan_in self.now) (seen self.now) interval in
             IsFound self.now (parameter_replays (plan_in self.now) (seen self.now) interval cell kind)
             (parameter_of (plan_in self.now) (seen self.now) self.now.process interval cell kind)
@@ -148,7 +181,7 @@ impl<'a> Search<'a> {
         wanted: LocalCell,
         steps: &mut Steps<L>,
     ) -> Result<Origin, FlowError>
-        requires past { IsPast self.now.past.now }
+        requires past { IsSearch self.now }
         requires place { IsPlace self.now place.now }
         ensures { IsFound self.now
             (outside_replays (program_in self.now) (plan_in self.now) (seen self.now) self.now.process
@@ -170,7 +203,7 @@ impl<'a> Search<'a> {
         cell: u16,
         steps: &mut Steps<L>,
     ) -> Result<Origin, FlowError>
-        requires { IsPast self.now.past.now }
+        requires { IsSearch self.now }
         ensures { let outer = outer_at (seen self.now) interval in
             let item = outer_place_of (seen self.now) interval in
             let frame = outer_frame_of (program_in self.now) (plan_in self.now) (seen self.now) interval in
@@ -187,7 +220,7 @@ impl<'a> Search<'a> {
         let place = Place {
             interval: outer,
             items: items.as_slice(),
-            item: place_of(interval, items.as_slice()),
+            item: self.place_of(outer, items.as_slice(), interval),
         };
         let frame = self.frame_at(&place)?;
         self.local_outside(&place, LocalCell { frame, cell }, steps)
@@ -200,7 +233,7 @@ impl<'a> Search<'a> {
         cell: u16,
         steps: &mut Steps<L>,
     ) -> Result<Origin, FlowError>
-        requires { IsPast self.now.past.now }
+        requires { IsSearch self.now }
         ensures { let kind = kind_at (plan_in self.now) (seen self.now) interval in
             IsFound self.now
             (above_replays (program_in self.now) (plan_in self.now) (seen self.now) self.now.process interval cell kind)
@@ -226,7 +259,7 @@ impl<'a> Search<'a> {
         wanted: LocalCell,
         steps: &mut Steps<L>,
     ) -> Result<Origin, FlowError>
-        requires past { IsPast self.now.past.now }
+        requires past { IsSearch self.now }
         requires place { IsPlace self.now place.now }
         ensures { IsLocalFound self.now place.now wanted steps.old steps.new result }
     {

@@ -1,17 +1,16 @@
-ghost use Rattle.std.specs.Prelude.{◌≡◌, ◌+◌, ◌<◌, ◌^◌, ◌&&◌, nat_eq, IfOk, OnOk};
+ghost use Rattle.std.specs.Prelude.{◌≡◌, ◌+◌, ◌<◌, ◌^◌, ◌∷◌, ◌&&◌, nat_eq, reverse, IfOk, OnOk};
 ghost use Rattle.std.specs.List.{list_any};
 ghost use Rattle.ppd_flow_local.specs.Scans.{scanned};
 ghost use Rattle.ppd_model.specs.NearIntervals.{is_in};
 ghost use Rattle.ppd_sem.specs.Blocks.{block_kind as kind_of_block, postlog_cells as postlog_of};
 ghost use Rattle.ppd_flow_model.specs.Locals.{begins_leaf, begun_scan, is_local as is_local_of, receives as receives_by, scan as scan_of, scan_event, scan_interval, scan_item, written_by as written_of};
 
-use crate::calls::Code;
-use crate::leaf::{frame_in, leaf_after};
-use ppd_ast::{BlockKind, Memory};
+use ppd_ast::{BlockKind, Memory, Seq};
+use ppd_flow_locals::{Code, frame_in, leaf_after};
 use ppd_flow_model::{LeafCall, Writer};
 use ppd_flow_past::number;
 use ppd_model::Item;
-use ppd_sem::{Event, Spot, Stack, block_kind, postlog_cells};
+use ppd_sem::{Event, Spot, block_kind, postlog_cells};
 use std::alloc::Global;
 
 /// A local cell of a frame: 0 for the interval's own activation, 1 for one that goes on in it without an interval.
@@ -22,14 +21,15 @@ pub struct LocalCell {
 }
 
 /// The first items of an interval, for a local cell: the number of the next item, the call whose activation goes
-/// on, the statement of the last event, the cell's writer, and the loops since that may have written it too.
+/// on, the statement of the last event, the cell's writer, and the loops since that may have written it too, the oldest
+/// first.
 #[derive(Drop)]
 pub struct Scan {
     pub next: u32,
     pub leaf: Option<LeafCall>,
     pub call: u32,
     pub writer: Writer,
-    pub loops: Stack<u32>,
+    pub loops: Seq<u32>,
 }
 
 fn is_local(wanted: LocalCell, spot: Spot) -> bool
@@ -80,6 +80,14 @@ pub(crate) fn has_cell(cells: &[u16], cell: u16) -> bool
     cells.iter().any(|found| cell == *found)
 }
 
+/// Puts a loop behind these, which are seen from the last.
+fn push_loop(loops: &mut Seq<u32>, interval: u32) -> Result<(), Memory>
+    ensures { OnOk result (reverse loops.new ≡ interval ∷ reverse loops.old) }
+{
+    loops.push(interval)?;
+    Ok(())
+}
+
 impl Scan {
     /// Before the first item.
     fn new(alloc: Global) -> Scan
@@ -90,7 +98,7 @@ impl Scan {
             leaf: None,
             call: 0,
             writer: Writer::Before,
-            loops: Stack::new(alloc),
+            loops: Seq::new(alloc),
         }
     }
 
@@ -98,7 +106,7 @@ impl Scan {
         ensures { scanned self.new ≡ written_of writer (scanned self.old) }
     {
         self.writer = writer;
-        self.loops = Stack::new(self.loops.allocator());
+        self.loops.clear();
     }
 
     /// An event writes the cell, begins the activation that it is of, or returns a value to it.
@@ -133,7 +141,7 @@ impl Scan {
         if let BlockKind::Loop(_) = block_kind(code.plan, block) {
             let cells = postlog_cells(code.plan, block);
             if wanted.frame == frame_in(self.leaf) && has_cell(cells, wanted.cell) {
-                return self.loops.push(interval);
+                return push_loop(&mut self.loops, interval);
             }
             return Ok(());
         }

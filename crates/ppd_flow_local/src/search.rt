@@ -1,26 +1,28 @@
-ghost use Rattle.std.specs.Prelude.{◌≡◌, ◌≤◌, ◌∷◌, [], length, position, take, IfOk};
-ghost use Rattle.ppd_flow_local.specs.Searches.{IsFound, IsPlace, plan_in, program_in, seen};
+ghost use Rattle.std.specs.Prelude.{◌≡◌, ◌≤◌, ◌∷◌, [], length, option_copied, take, IfOk, IfSome};
+ghost use Rattle.ppd_flow_local.specs.Searches.{IsFound, IsPlace, IsSearch, plan_in, program_in, seen};
 ghost use Rattle.ppd_model.specs.declared.flow.Origin.TheVariants as origin;
-ghost use Rattle.ppd_flow_past.specs.Pasts.{IsPast};
 ghost use Rattle.ppd_flow_model.specs.Locals.{leaf_at as leaf_among};
 ghost use Rattle.ppd_flow_model.specs.Own.{frame_at as frame_at_place};
-ghost use Rattle.ppd_flow_model.specs.Seen.{call_of as call_at, is_item_of, items_at, kind_at, last_item as last_item_at, outer_of as outer_at, place_of as place_among};
+ghost use Rattle.ppd_flow_model.specs.Seen.{call_of as call_at, items_at, kind_at, last_item as last_item_at, outer_of as outer_at, place_of as place_among};
+ghost use Rattle.ppd_flow_tables.specs.Tabled.{IsOfInterval};
 
-use crate::calls::Code;
-use crate::leaf::{frame_in, leaf_at};
+use crate::leaf::leaf_at;
 use ppd_ast::{BlockKind, Memory, Steps};
+use ppd_flow_locals::{Code, frame_in};
 use ppd_flow_model::LeafCall;
 use ppd_flow_past::{FlowError, Items, Past, block_of, interval_items, number, outer_of};
+use ppd_flow_tables::{BlockTables, Tables, place_of};
 use ppd_model::{Item, Origin};
 use ppd_sem::block_kind;
 use std::alloc::Global;
 use std::sync::ledger::Ledger;
 
-/// A search within one process of what is kept of a run.
+/// A search within one process of what is kept of a run, by the tables that are at hand of it.
 #[derive(Clone, Copy)]
 pub struct Search<'a> {
     pub alloc: Global,
     pub past: &'a Past<'a>,
+    pub tables: Tables<'a>,
     pub process: u8,
 }
 
@@ -30,29 +32,6 @@ pub struct Place<'a> {
     pub interval: u32,
     pub items: &'a [Item],
     pub item: usize,
-}
-
-fn is_interval(item: &Item, wanted: u32) -> bool
-    ensures { result ≡ is_item_of wanted item.now }
-{
-    match item {
-        Item::Own(_) => false,
-        Item::Nested { interval, .. } => wanted == *interval,
-    }
-}
-
-fn find_interval(interval: u32, items: &[Item]) -> Option<usize>
-    ensures { result ≡ position (is_item_of interval) items.now }
-{
-    items.iter().position(|item| is_interval(item, interval))
-}
-
-/// The place of an interval among these items, and 0 where it is none of them.
-pub(crate) fn place_of(interval: u32, items: &[Item]) -> usize
-    ensures place { result ≡ place_among interval items.now }
-    ensures within { result ≤ length items.now }
-{
-    find_interval(interval, items).unwrap_or(0)
 }
 
 impl<'a> Search<'a> {
@@ -66,20 +45,43 @@ impl<'a> Search<'a> {
         }
     }
 
+    /// The tables of an interval, where they are at hand.
+    pub(crate) fn tables_of(&self, interval: u32) -> Option<&'a BlockTables>
+        requires { IsSearch self.now }
+        ensures { IfSome (option_copied result) (IsOfInterval self.now.past.now self.now.process interval) }
+    {
+        self.tables.block(self.process, interval)
+    }
+
+    /// The place of an interval among these items, those of the one round it, and 0 where it is none of them.
+    pub(crate) fn place_of(&self, outer: u32, items: &[Item], interval: u32) -> usize
+        requires past { IsSearch self.now }
+        requires items { items.now ≡ items_at (seen self.now) outer }
+        ensures place { result ≡ place_among interval items.now }
+        ensures within { result ≤ length items.now }
+    {
+        place_of(&self.tables, self.process, outer, items, interval)
+    }
+
     /// The call whose activation goes on at a place without an interval of its own. `Memory` is want of memory, for
     /// items that have no 32-bit numbers.
     pub(crate) fn leaf_at(&self, place: &Place) -> Result<Option<LeafCall>, Memory>
-        requires { IsPlace self.now place.now }
+        requires past { IsSearch self.now }
+        requires place { IsPlace self.now place.now }
         ensures { IfOk result (λ leaf. leaf
             ≡ leaf_among (program_in self.now) (plan_in self.now) (take place.now.item place.now.items.now)) }
     {
+        if let Some(tables) = self.tables_of(place.interval) {
+            return Ok(tables.locals.leaf_at(place.item));
+        }
         leaf_at(&self.code(), &place.items[..place.item])
     }
 
     /// The frame of a place: 1 where an activation goes on that has no interval of its own, and 0 in the interval's
     /// own. `Memory` is want of memory, for items that have no 32-bit numbers.
     pub(crate) fn frame_at(&self, place: &Place) -> Result<u8, Memory>
-        requires { IsPlace self.now place.now }
+        requires past { IsSearch self.now }
+        requires place { IsPlace self.now place.now }
         ensures { IfOk result (λ frame. frame ≡ frame_at_place (program_in self.now) (plan_in self.now) (seen self.now)
             place.now.interval place.now.item) }
     {
@@ -89,7 +91,7 @@ impl<'a> Search<'a> {
 
     /// What the block of an interval is the code of.
     pub(crate) fn kind(&self, interval: u32) -> BlockKind
-        requires { IsPast self.now.past.now }
+        requires { IsSearch self.now }
         ensures { result ≡ kind_at (plan_in self.now) (seen self.now) interval }
     {
         block_kind(self.past.plan, block_of(self.past, self.process, interval))
@@ -97,7 +99,7 @@ impl<'a> Search<'a> {
 
     /// The interval directly round this one.
     pub(crate) fn outer(&self, interval: u32) -> u32
-        requires { IsPast self.now.past.now }
+        requires { IsSearch self.now }
         ensures { result ≡ outer_at (seen self.now) interval }
     {
         outer_of(self.past, self.process, interval).unwrap_or(interval)
@@ -119,7 +121,7 @@ impl<'a> Search<'a> {
         interval: u32,
         steps: &mut Steps<L>,
     ) -> Result<Items<'a>, FlowError>
-        requires { IsPast self.now.past.now }
+        requires { IsSearch self.now }
         ensures { IsFound self.now (interval ∷ []) (items_at (seen self.now) interval) steps.old steps.new result }
     {
         interval_items(self.alloc, self.past, self.process, interval, steps)
@@ -131,7 +133,7 @@ impl<'a> Search<'a> {
         interval: u32,
         steps: &mut Steps<L>,
     ) -> Result<Origin, FlowError>
-        requires { IsPast self.now.past.now }
+        requires { IsSearch self.now }
         ensures { IsFound self.now (interval ∷ []) (last_item_at (seen self.now) self.now.process interval)
             steps.old steps.new result }
     {
@@ -146,13 +148,14 @@ impl<'a> Search<'a> {
         interval: u32,
         steps: &mut Steps<L>,
     ) -> Result<Origin, FlowError>
-        requires { IsPast self.now.past.now }
+        requires { IsSearch self.now }
         ensures { IsFound self.now (outer_at (seen self.now) interval ∷ [])
             (call_at (seen self.now) self.now.process interval) steps.old steps.new result }
     {
         let outer = self.outer(interval);
         let items = self.items(outer, steps)?;
-        let item = number(place_of(interval, items.as_slice()).saturating_sub(1))?;
+        let place = self.place_of(outer, items.as_slice(), interval);
+        let item = number(place.saturating_sub(1))?;
         Ok(self.origin(outer, item))
     }
 }

@@ -1,6 +1,7 @@
 -- The steps of a walk, by what the replays on its way answer.
 use Rattle.std.proofs.Common.{◌≡◌, ℕ, suc, ◌+◌, ◌-◌, ◌<◌, true, false, List, [], ◌∷◌, ◌++◌, Some, None, Result, Ok, Err, ap, sym, subst, ◌∙◌, arith, length, take}
 use Rattle.std.specs.Prelude.{slice_get}
+use Rattle.std.proofs.lemmas.List.{take_all}
 use Rattle.ppd_entry.specs.Entries.{entries_at}
 use Rattle.ppd_model.specs.declared.flow.Item.{Item}
 use Rattle.ppd_model.specs.Extents.{first_of}
@@ -9,6 +10,7 @@ use Rattle.ppd_flow_past.specs.declared.past.Past.{Past}
 use Rattle.ppd_flow_past.specs.ByReplays.{IsFoundBy}
 use Rattle.ppd_flow_past.specs.SeenBy.{items_in, round_by, seen_in}
 use Rattle.ppd_flow_past.proofs.Found.{found_err, found_none, found_then}
+use Rattle.ppd_flow_places.specs.Stops.{ArePassed}
 use Rattle.ppd_flow_past.proofs.Parents.{round_goes_on, round_is_before}
 use Rattle.ppd_flow_model.specs.declared.walked.Walked.{Walked}
 use Rattle.ppd_flow_model.specs.declared.walked.Walked.TheVariants.{Passed}
@@ -28,7 +30,7 @@ module _ (past : Past) (p c : ℕ) where
   abbrev x : Seen
   x = seen_in past p
 
-  items_are : (m : ℕ) (items : List Item) (n o : ℕ)
+  pub items_are : (m : ℕ) (items : List Item) (n o : ℕ)
       → IsFoundBy past ((p, m) ∷ []) (Ok (items_in past p m)) n o (Ok items)
       → items_at x m ≡ items
   items_are m items n o f = ap items_or f.1
@@ -49,13 +51,15 @@ module _ (past : Past) (p c : ℕ) where
 
   pub whole_ok : (depth m : ℕ) (items : List Item) (n o q : ℕ) (r : Result Walked FlowError) → (depth ≡ 0 → ⊥)
       → IsFoundBy past ((p, m) ∷ []) (Ok (items_in past p m)) n o (Ok items)
-      → IsFoundBy past (of_process p (replays x (depth - 1) c m (backwards 0 items []))) (Ok (over x (depth - 1) c m
-      (backwards 0 items []))) o q r
+      → IsFoundBy past (of_process p (replays x (depth - 1) c m (back_from (length items) items))) (Ok (over x (depth - 1) c m
+      (back_from (length items) items))) o q r
       → IsFoundBy past (of_process p (back_replays depth x c m)) (Ok (back depth x c m)) n q r
   whole_ok depth m items n o q r some f g =
       let is : depth ≡ suc (depth - 1) = omega (arith, some) in
       subst (λ d. IsFoundBy past (of_process p (back_replays d x c m)) (Ok (back d x c m)) n q r) (sym is)
-      (whole_next (depth - 1) m items n o q r f g)
+      (whole_next (depth - 1) m items n o q r f
+      (subst (λ ts. IsFoundBy past (of_process p (replays x (depth - 1) c m (backwards 0 ts []))) (Ok (over x
+      (depth - 1) c m (backwards 0 ts []))) o q r) (take_all (length items) items (omega arith)) g))
 
   pub whole_err : (depth m n o : ℕ) (e : FlowError) → (depth ≡ 0 → ⊥)
       → IsFoundBy {A = List Item} past ((p, m) ∷ []) (Ok (items_in past p m)) n o (Err e)
@@ -74,58 +78,57 @@ module _ (past : Past) (p c : ℕ) where
     Left left s = Leads past p ms v before (replays x depth c k (back_from left items)) (over x depth c k
         (back_from left items)) s
 
-    module _ (left s : ℕ) (t : Item) (some : 0 < left) (leads : Left left s) (there : slice_get items (left - 1)
-        ≡ Some t) where
+    -- items that are passed may be left out
+    pub items_jump : (i j s : ℕ) → ArePassed c items i j → Left j s → Left i s
+    items_jump i j s passed leads after r g =
+        leads after r
+        (subst (λ js. IsFoundBy past (of_process p js) (Ok (over x depth c k (back_from j items))) s after r)
+        (sym (passed.replays (back depth x c) (back_replays depth x c) k))
+        (subst (λ u. IsFoundBy past (of_process p (replays x depth c k (back_from i items))) (Ok u) s after r)
+        (sym (passed.walked (back depth x c) k)) g))
+
+    module _ (i s : ℕ) (t : Item) (leads : Left (i + 1) s) (there : slice_get items i ≡ Some t) where
       parted : Leads past p ms v before
-          (item_replays x depth c t ++ if_passed (at_item x depth c k (left - 1) t) (replays x depth c k (back_from
-          (left - 1) items)))
-          (onward (at_item x depth c k (left - 1) t) (over x depth c k (back_from (left - 1) items))) s
+          (item_replays x depth c t ++ if_passed (at_item x depth c k i t) (replays x depth c k (back_from i items)))
+          (onward (at_item x depth c k i t) (over x depth c k (back_from i items))) s
       parted after r g =
-          let i = left - 1 in
-          let at : left ≡ (left - 1) + 1 = omega arith in
-          let first : back_from left items
-          ≡ (left - 1, t) ∷ back_from (left - 1) items = ap (λ j. back_from j items) at
-          ∙ one_more items (left - 1) t there in
-          let ks : replays x depth c k (back_from left items)
-          ≡ item_replays x depth c t ++ if_passed (at_item x depth c k (left - 1) t) (replays x depth c k (back_from
-          (left - 1) items)) =
-          ap (replays x depth c k) first ∙ one_replays x depth c k (left - 1) t (back_from (left - 1) items) in
-          let w : over x depth c k (back_from left items)
-          ≡ onward (at_item x depth c k (left - 1) t) (over x depth c k (back_from (left - 1) items)) =
-          ap (over x depth c k) first ∙ one_over x depth c k (left - 1) t (back_from (left - 1) items) in
+          let first : back_from (i + 1) items ≡ (i, t) ∷ back_from i items = one_more items i t there in
+          let ks : replays x depth c k (back_from (i + 1) items)
+          ≡ item_replays x depth c t ++ if_passed (at_item x depth c k i t) (replays x depth c k (back_from i items)) =
+          ap (replays x depth c k) first ∙ one_replays x depth c k i t (back_from i items) in
+          let w : over x depth c k (back_from (i + 1) items)
+          ≡ onward (at_item x depth c k i t) (over x depth c k (back_from i items)) =
+          ap (over x depth c k) first ∙ one_over x depth c k i t (back_from i items) in
           leads after r (subst (λ js. IsFoundBy past (of_process p js) (Ok (over x depth c k
-          (back_from left items))) s after r) (sym ks)
-          (subst (λ u. IsFoundBy past (of_process p (item_replays x depth c t ++ if_passed (at_item x depth c k
-          (left - 1) t) (replays x depth c k (back_from (left - 1) items)))) (Ok u) s after r) (sym w) g))
+          (back_from (i + 1) items))) s after r) (sym ks)
+          (subst (λ u. IsFoundBy past (of_process p (item_replays x depth c t ++ if_passed (at_item x depth c k i t)
+          (replays x depth c k (back_from i items)))) (Ok u) s after r) (sym w) g))
 
       pub item_failed : (m : ℕ) (e : FlowError)
-          → IsFoundBy {A = Walked} past (of_process p (item_replays x depth c t)) (Ok (at_item x depth c k
-          (left - 1) t)) s m (Err e)
+          → IsFoundBy {A = Walked} past (of_process p (item_replays x depth c t)) (Ok (at_item x depth c k i t)) s m
+          (Err e)
           → IsFoundBy {A = Walked} past (of_process p ms) (Ok v) before m (Err e)
       item_failed m e f =
-          lead_failed past p (item_replays x depth c t) (replays x depth c k (back_from (left - 1) items))
-          (at_item x depth c k (left - 1) t) (over x depth c k (back_from (left - 1) items)) s m ms v before parted e f
+          lead_failed past p (item_replays x depth c t) (replays x depth c k (back_from i items))
+          (at_item x depth c k i t) (over x depth c k (back_from i items)) s m ms v before parted e f
 
       pub item_ended : (m : ℕ) (u : Walked) → is_passed u ≡ false
-          → IsFoundBy past (of_process p (item_replays x depth c t)) (Ok (at_item x depth c k (left - 1) t)) s m (Ok u)
+          → IsFoundBy past (of_process p (item_replays x depth c t)) (Ok (at_item x depth c k i t)) s m (Ok u)
           → IsFoundBy past (of_process p ms) (Ok v) before m (Ok u)
       item_ended m u not f =
-          lead_ended past p (item_replays x depth c t) (replays x depth c k (back_from (left - 1) items))
-          (at_item x depth c k (left - 1) t) (over x depth c k (back_from
-          (left - 1) items)) s m ms v before parted u not f
+          lead_ended past p (item_replays x depth c t) (replays x depth c k (back_from i items))
+          (at_item x depth c k i t) (over x depth c k (back_from i items)) s m ms v before parted u not f
 
       pub item_passed : (m : ℕ) (u : Walked) → is_passed u ≡ true
-          → IsFoundBy past (of_process p (item_replays x depth c t)) (Ok (at_item x depth c k (left - 1) t)) s m (Ok u)
-          → Left (left - 1) m
+          → IsFoundBy past (of_process p (item_replays x depth c t)) (Ok (at_item x depth c k i t)) s m (Ok u)
+          → Left i m
       item_passed m u so f =
-          lead_on past p (item_replays x depth c t) (replays x depth c k (back_from (left - 1) items))
-          (at_item x depth c k (left - 1) t) (over x depth c k (back_from
-          (left - 1) items)) s m ms v before parted u so f
+          lead_on past p (item_replays x depth c t) (replays x depth c k (back_from i items))
+          (at_item x depth c k i t) (over x depth c k (back_from i items)) s m ms v before parted u so f
 
     -- none is left
-    pub items_passed : (left s : ℕ) → left ≡ 0 → Left left s
-        → IsFoundBy past (of_process p ms) (Ok v) before s (Ok Passed)
-    items_passed left s none leads = (subst (λ l. Left l s) none leads) s (Ok Passed) (found_none past Passed s)
+    pub items_passed : (s : ℕ) → Left 0 s → IsFoundBy past (of_process p ms) (Ok v) before s (Ok Passed)
+    items_passed s leads = leads s (Ok Passed) (found_none past Passed s)
 
   -- ---- outward
 

@@ -1,12 +1,13 @@
 ghost use Rattle.std.specs.Prelude.{[], ◌∷◌, Ok};
 ghost use Rattle.ppd_entry.specs.Entries.{entries_at};
 ghost use Rattle.ppd_flow_past.specs.ByReplays.{IsFoundBy};
-ghost use Rattle.ppd_flow_past.specs.Pasts.{IsPast};
 ghost use Rattle.ppd_flow_model.specs.Ends.{end_interval as end_interval_of};
 ghost use Rattle.ppd_flow_shared.specs.SharedCells.{edge_end_of};
+ghost use Rattle.ppd_flow_tables.specs.Tabled.{IsTabled};
 
 use ppd_ast::Steps;
-use ppd_flow_past::{FlowError, Items, Past, end_interval, interval_items, sync_item};
+use ppd_flow_past::{FlowError, Items, Past, interval_items};
+use ppd_flow_tables::{Tables, end_interval, sync_item};
 use ppd_model::EdgeId;
 use std::alloc::Global;
 use std::sync::ledger::Ledger;
@@ -24,17 +25,18 @@ pub(crate) struct EdgeEnd<'a> {
 pub(crate) fn edge_end<'a, L: Ledger>(
     alloc: Global,
     past: &Past<'a>,
+    tables: &Tables,
     edge: EdgeId,
     steps: &mut Steps<L>,
 ) -> Result<EdgeEnd<'a>, FlowError>
-    requires { IsPast past.now }
+    requires { IsTabled past.now tables.now }
     ensures { IsFoundBy past.now
         ((edge.process, end_interval_of (entries_at past.now.logs.now edge.process) edge.edge) ∷ [])
         (Ok (edge_end_of past.now edge)) steps.old steps.new result }
 {
-    let interval = end_interval(past, edge.process, edge.edge);
+    let interval = end_interval(past, tables, edge);
     let items = interval_items(alloc, past, edge.process, interval, steps)?;
-    let place = sync_item(past, edge.process, edge.edge, interval, items.as_slice())?;
+    let place = sync_item(past, tables, edge, interval, items.as_slice())?;
     Ok(EdgeEnd {
         interval,
         items,

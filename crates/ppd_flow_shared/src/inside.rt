@@ -1,15 +1,17 @@
-ghost use Rattle.std.specs.Prelude.{◌≡◌, [], Ok};
+ghost use Rattle.std.specs.Prelude.{◌≡◌, Ok};
 ghost use Rattle.ppd_flow_past.specs.ByReplays.{IsFoundBy};
-ghost use Rattle.ppd_flow_past.specs.Pasts.{IsPast};
+ghost use Rattle.ppd_flow_model.specs.Seen.{items_at};
 ghost use Rattle.ppd_flow_model.specs.Shared.{of_process};
-ghost use Rattle.ppd_flow_model.specs.Walk.{back, back_over, back_replays, backwards, over_replays};
+ghost use Rattle.ppd_flow_model.specs.Walk.{back, back_from, back_over, back_replays, over_replays};
 ghost use Rattle.ppd_flow_shared.specs.Items.{at_item, is_passed as is_start, item_replays, seen_for};
+ghost use Rattle.ppd_flow_tables.specs.Tabled.{IsTabled};
 
 use crate::event::over_event;
 use crate::search::CellSearch;
 use ppd_ast::Steps;
 use ppd_flow_model::Walked;
 use ppd_flow_past::{FlowError, interval_items, number};
+use ppd_flow_tables::stop_before;
 use ppd_model::Item;
 use std::sync::ledger::Ledger;
 
@@ -20,33 +22,36 @@ pub(crate) fn is_passed(walked: Walked) -> bool
     matches!(walked, Walked::Passed)
 }
 
-/// Walks over these items of an interval, the last first; intervals inside are walked over in their turn, `depth`
-/// of them in one another at most.
+/// Walks back over the items of an interval before a place; intervals inside are walked over in their turn, `depth` of
+/// them in one another at most.
 #[cycle(walk)]
 pub(crate) fn over_items<L: Ledger>(
     search: &CellSearch,
     depth: u32,
     interval: u32,
     items: &[Item],
+    place: usize,
     steps: &mut Steps<L>,
 ) -> Result<Walked, FlowError>
-    requires { IsPast search.now.past.now }
+    requires past { IsTabled search.now.past.now search.now.tables }
+    requires items { items.now ≡ items_at (seen_for search.now) interval }
     ensures { IsFoundBy search.now.past.now
         (of_process search.now.process
         (over_replays (back depth (seen_for search.now) search.now.cell)
         (back_replays depth (seen_for search.now) search.now.cell) search.now.cell interval
-        (backwards 0 items.now [])))
+        (back_from place items.now)))
         (Ok (back_over (back depth (seen_for search.now) search.now.cell) search.now.cell interval
-        (backwards 0 items.now [])))
+        (back_from place items.now)))
         steps.old steps.new result }
 {
-    let mut left = items.len();
-    while left > 0 {
-        left -= 1;
-        let walked = over_item(search, depth, (interval, left), &items[left], steps)?;
+    let CellSearch { tables, process, cell, .. } = *search;
+    let mut left = place;
+    while let Some(at) = stop_before(&tables, process, interval, items, cell, left) {
+        let walked = over_item(search, depth, (interval, at), &items[at], steps)?;
         if !is_passed(walked) {
             return Ok(walked);
         }
+        left = at;
     }
     Ok(Walked::Passed)
 }
@@ -60,7 +65,7 @@ fn over_item<L: Ledger>(
     item: &Item,
     steps: &mut Steps<L>,
 ) -> Result<Walked, FlowError>
-    requires { IsPast search.now.past.now }
+    requires { IsTabled search.now.past.now search.now.tables }
     ensures { IsFoundBy search.now.past.now
         (of_process search.now.process (item_replays (seen_for search.now) depth search.now.cell item.now))
         (Ok (at_item (seen_for search.now) depth search.now.cell place.0 place.1 item.now))
@@ -83,7 +88,7 @@ fn over_interval<L: Ledger>(
     interval: u32,
     steps: &mut Steps<L>,
 ) -> Result<Walked, FlowError>
-    requires { IsPast search.now.past.now }
+    requires { IsTabled search.now.past.now search.now.tables }
     ensures { IsFoundBy search.now.past.now
         (of_process search.now.process (back_replays depth (seen_for search.now) search.now.cell interval))
         (Ok (back depth (seen_for search.now) search.now.cell interval))
@@ -93,5 +98,6 @@ fn over_interval<L: Ledger>(
         return Ok(Walked::Passed);
     }
     let items = interval_items(search.alloc, search.past, search.process, interval, steps)?;
-    over_items(search, depth - 1, interval, items.as_slice(), steps)
+    let items = items.as_slice();
+    over_items(search, depth - 1, interval, items, items.len(), steps)
 }

@@ -1,13 +1,15 @@
-ghost use Rattle.std.specs.Prelude.{◌≡◌, ◌+◌, IfOk};
+ghost use Rattle.std.specs.Prelude.{◌≡◌, ◌+◌, IfOk, IfSome, option_copied};
 ghost use Rattle.ppd_flow_past.specs.ByReplays.{steps_to_replay};
 ghost use Rattle.ppd_flow_past.specs.Pasts.{IsPast};
 ghost use Rattle.ppd_flow_shared.specs.SharedCells.{AreItemsOfLast, IsLastFound, last_edge as last_edge_of};
+ghost use Rattle.ppd_flow_tables.specs.Tabled.{IsOfInterval};
 
 use crate::search::CellSearch;
 use crate::written::written_before;
 use ppd_ast::{Memory, Steps};
-use ppd_flow_past::{FlowError, Past, end_interval, greatest_writing, sync_item};
-use ppd_model::{EdgeId, Item, Origin};
+use ppd_flow_past::{FlowError, Past, end_interval, greatest_writing};
+use ppd_flow_tables::{TabledItems, sync_item};
+use ppd_model::{EdgeId, Origin};
 use std::alloc::Global;
 use std::sync::ledger::Ledger;
 
@@ -34,26 +36,32 @@ pub fn last_edge(past: &Past, cell: u16) -> Result<Option<LastEdge>, Memory>
 }
 
 /// What `last_write` answers for a cell that this edge wrote last, from the items of the interval in which the edge
-/// ends: that interval is not replayed again, and the counter does not rise by its steps.
+/// ends: that interval is not replayed again, and the counter does not rise by its steps. Where the tables of that
+/// interval are at hand, its items are not gone over.
 pub fn last_write_from<L: Ledger>(
     alloc: Global,
     past: &Past,
     cell: u16,
     last: LastEdge,
-    items: &[Item],
+    given: TabledItems,
     steps: &mut Steps<L>,
 ) -> Result<(i64, Origin), FlowError>
-    requires { AreItemsOfLast past.now cell last items.now }
+    requires items { AreItemsOfLast past.now cell last given.items.now }
+    requires tables { IfSome (option_copied given.tables)
+        (IsOfInterval past.now last.edge.process last.interval) }
     ensures { IsLastFound past.now cell steps.old
         (steps.new + steps_to_replay past.now last.edge.process last.interval) result }
 {
-    let EdgeId { process, edge } = last.edge;
-    let place = sync_item(past, process, edge, last.interval, items)?;
+    let LastEdge { edge, interval } = last;
+    let items = given.items;
+    let tables = given.tables_at(edge.process, interval);
+    let place = sync_item(past, &tables, edge, interval, items)?;
     let search = CellSearch {
         alloc,
         past,
-        process,
+        tables,
+        process: edge.process,
         cell,
     };
-    written_before(&search, edge, last.interval, items, place, steps)
+    written_before(&search, edge.edge, interval, items, place, steps)
 }

@@ -1,57 +1,19 @@
-ghost use Rattle.std.specs.Prelude.{◌≡◌, Ok, position, take};
+ghost use Rattle.std.specs.Prelude.{◌≡◌, Ok};
 ghost use Rattle.ppd_flow_past.specs.ByReplays.{IsFoundBy};
-ghost use Rattle.ppd_flow_past.specs.Pasts.{IsPast};
-ghost use Rattle.ppd_flow_model.specs.Seen.{is_item_of, items_at, place_of as place_among, round_at};
+ghost use Rattle.ppd_flow_model.specs.Seen.{items_at, round_at};
 ghost use Rattle.ppd_flow_model.specs.Shared.{of_process};
 ghost use Rattle.ppd_flow_shared.specs.SharedCells.{IsWalked};
 ghost use Rattle.ppd_flow_shared.specs.Items.{before_inner, before_inner_replays, out_of, out_of_replays, seen_for};
+ghost use Rattle.ppd_flow_tables.specs.Tabled.{IsTabled};
 
 use crate::inside::{is_passed, over_items};
 use crate::search::CellSearch;
 use ppd_ast::Steps;
 use ppd_flow_model::Walked;
 use ppd_flow_past::{FlowError, count_of, interval_items, outer_of};
+use ppd_flow_tables::place_of;
 use ppd_model::Item;
 use std::sync::ledger::Ledger;
-
-fn is_interval(interval: u32, item: &Item) -> bool
-    ensures { result ≡ is_item_of interval item.now }
-{
-    match item {
-        Item::Own(_) => false,
-        Item::Nested {
-            interval: inner,
-            ..
-        } => interval == *inner,
-    }
-}
-
-fn position_of(interval: u32, items: &[Item]) -> Option<usize>
-    ensures { result ≡ position (is_item_of interval) items.now }
-{
-    items.iter().position(|item| is_interval(interval, item))
-}
-
-/// The place of an interval among these items, and 0 where it is none of them.
-fn place_of(interval: u32, items: &[Item]) -> usize
-    ensures { result ≡ place_among interval items.now }
-{
-    match position_of(interval, items) {
-        Some(at) => at,
-        None => 0,
-    }
-}
-
-/// The first items, so many, or all where there are fewer.
-pub(crate) fn first_items(items: &[Item], count: usize) -> &[Item]
-    ensures { result.now ≡ take count items.now }
-{
-    if count < items.len() {
-        &items[..count]
-    } else {
-        items
-    }
-}
 
 // Takes the items of an interval, and walks over its items before an interval inside it.
 fn over_before<L: Ledger>(
@@ -60,7 +22,7 @@ fn over_before<L: Ledger>(
     inner: u32,
     steps: &mut Steps<L>,
 ) -> Result<Walked, FlowError>
-    requires { IsPast search.now.past.now }
+    requires { IsTabled search.now.past.now search.now.tables }
     ensures { IsFoundBy search.now.past.now
         (of_process search.now.process (before_inner_replays (seen_for search.now) search.now.cell outer inner))
         (Ok (before_inner (seen_for search.now) search.now.cell outer inner))
@@ -68,14 +30,9 @@ fn over_before<L: Ledger>(
 {
     let depth = count_of(search.past, search.process);
     let items = interval_items(search.alloc, search.past, search.process, outer, steps)?;
-    let at = place_of(inner, items.as_slice());
-    over_items(
-        search,
-        depth,
-        outer,
-        first_items(items.as_slice(), at),
-        steps,
-    )
+    let items = items.as_slice();
+    let at = place_of(&search.tables, search.process, outer, items, inner);
+    over_items(search, depth, outer, items, at, steps)
 }
 
 // Walks on from the start of an interval, through the intervals round it.
@@ -84,7 +41,7 @@ fn outward<L: Ledger>(
     interval: u32,
     steps: &mut Steps<L>,
 ) -> Result<Walked, FlowError>
-    requires { IsPast search.now.past.now }
+    requires { IsTabled search.now.past.now search.now.tables }
     ensures { IsFoundBy search.now.past.now
         (of_process search.now.process (out_of_replays (seen_for search.now) search.now.cell interval
         (round_at (seen_for search.now) interval)))
@@ -118,12 +75,12 @@ impl<'a> CellSearch<'a> {
         place: usize,
         steps: &mut Steps<L>,
     ) -> Result<Walked, FlowError>
-        requires past { IsPast self.now.past.now }
+        requires past { IsTabled self.now.past.now self.now.tables }
         requires items { items.now ≡ items_at (seen_for self.now) interval }
         ensures { IsWalked self.now.past.now self.now.process self.now.cell interval place steps.old steps.new result }
     {
         let depth = count_of(self.past, self.process);
-        let walked = over_items(self, depth, interval, first_items(items, place), steps)?;
+        let walked = over_items(self, depth, interval, items, place, steps)?;
         if !is_passed(walked) {
             return Ok(walked);
         }

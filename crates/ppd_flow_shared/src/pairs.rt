@@ -1,14 +1,14 @@
 ghost use Rattle.std.specs.Prelude.{◌≡◌, IfOk, Ok, Some};
 ghost use Rattle.ppd_flow_past.specs.ByReplays.{IsFoundBy};
-ghost use Rattle.ppd_flow_past.specs.Pasts.{IsPast};
 ghost use Rattle.ppd_flow_past.specs.SeenBy.{items_in};
 ghost use Rattle.ppd_flow_model.specs.Shared.{pair_of as pair_of_place, pair_origin as pair_origin_of, pair_replays};
 ghost use Rattle.ppd_flow_shared.specs.SharedCells.{IsNodeFound, seens_in};
+ghost use Rattle.ppd_flow_tables.specs.Tabled.{IsTabled};
 
 use crate::edge_end::edge_end;
-use crate::outward::first_items;
 use ppd_ast::{Memory, Steps};
-use ppd_flow_past::{FlowError, Past, edge_at, number};
+use ppd_flow_past::{FlowError, Past, number};
+use ppd_flow_tables::{Tables, edge_at};
 use ppd_graph::Paired;
 use ppd_model::{EdgeId, Item, NodeId, Origin};
 use std::alloc::Global;
@@ -24,18 +24,23 @@ pub struct Place {
 
 /// What leads to the synchronization at a place of an interval, whose items these are. `Memory` is want of memory, also
 /// for places that have no 32-bit numbers.
-pub fn pair_of(past: &Past, place: Place, items: &[Item]) -> Result<Paired, Memory>
-    requires past { IsPast past.now }
+pub fn pair_of(
+    past: &Past,
+    tables: &Tables,
+    place: Place,
+    items: &[Item],
+) -> Result<Paired, Memory>
+    requires past { IsTabled past.now tables.now }
     requires items { items.now ≡ items_in past.now place.process place.interval }
     ensures { IfOk result (λ pair. pair
         ≡ pair_of_place past.now.program.now past.now.logs.now (seens_in past.now) place.process place.interval
         place.item) }
 {
-    let before = first_items(items, place.item);
-    let sync = edge_at(past, place.process, place.interval, before)?;
+    let Place { process, interval, item } = place;
+    let sync = edge_at(past, tables, process, interval, items, item)?;
     Ok(
         past.graph.paired(NodeId {
-            process: place.process,
+            process,
             sync,
         }),
     )
@@ -45,17 +50,18 @@ pub fn pair_of(past: &Past, place: Place, items: &[Item]) -> Result<Paired, Memo
 fn node_place<L: Ledger>(
     alloc: Global,
     past: &Past,
+    tables: &Tables,
     node: NodeId,
     steps: &mut Steps<L>,
 ) -> Result<Origin, FlowError>
-    requires { IsPast past.now }
+    requires { IsTabled past.now tables.now }
     ensures { IsNodeFound past.now node steps.old steps.new result }
 {
     let edge = EdgeId {
         process: node.process,
         edge: node.sync,
     };
-    let end = edge_end(alloc, past, edge, steps)?;
+    let end = edge_end(alloc, past, tables, edge, steps)?;
     let item = number(end.place)?;
     Ok(Origin::Item {
         process: node.process,
@@ -73,11 +79,12 @@ fn node_place<L: Ledger>(
 pub fn pair_origin<L: Ledger>(
     alloc: Global,
     past: &Past,
+    tables: &Tables,
     place: Place,
     items: &[Item],
     steps: &mut Steps<L>,
 ) -> Result<Option<Origin>, FlowError>
-    requires past { IsPast past.now }
+    requires past { IsTabled past.now tables.now }
     requires items { items.now ≡ items_in past.now place.process place.interval }
     ensures { IsFoundBy past.now
         (pair_replays past.now.program.now past.now.logs.now (seens_in past.now) place.process place.interval
@@ -86,9 +93,9 @@ pub fn pair_origin<L: Ledger>(
         place.item))
         steps.old steps.new result }
 {
-    match pair_of(past, place, items)? {
+    match pair_of(past, tables, place, items)? {
         Paired::Nothing => Ok(None),
         Paired::Initial => Ok(Some(Origin::Initial)),
-        Paired::Node(node) => Ok(Some(node_place(alloc, past, node, steps)?)),
+        Paired::Node(node) => Ok(Some(node_place(alloc, past, tables, node, steps)?)),
     }
 }

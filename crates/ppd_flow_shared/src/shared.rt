@@ -6,13 +6,14 @@ ghost use Rattle.ppd_flow_model.specs.Shared.{edge_of_place, greatest_before as 
 ghost use Rattle.ppd_flow_model.specs.Walk.{walk as walk_from, walk_replays};
 ghost use Rattle.ppd_flow_shared.specs.Items.{seen_for};
 ghost use Rattle.ppd_flow_shared.specs.SharedCells.{IsLastFound, answer_of, edge_unless_found, seens_in};
+ghost use Rattle.ppd_flow_tables.specs.Tabled.{IsTabled};
 
-use crate::outward::first_items;
 use crate::search::CellSearch;
 use crate::written::written_or_start;
 use ppd_ast::{Memory, Steps};
 use ppd_flow_model::Walked;
-use ppd_flow_past::{FlowError, Past, edge_at, greatest_before, greatest_writing};
+use ppd_flow_past::{FlowError, Past, greatest_before, greatest_writing};
+use ppd_flow_tables::{Tables, edge_at};
 use ppd_model::{EdgeId, Item, Origin};
 use std::alloc::Global;
 use std::sync::ledger::Ledger;
@@ -25,15 +26,14 @@ impl<'a> CellSearch<'a> {
         items: &[Item],
         place: usize,
     ) -> Result<Option<EdgeId>, Memory>
-        requires past { IsPast self.now.past.now }
+        requires past { IsTabled self.now.past.now self.now.tables }
         requires items { items.now ≡ items_at (seen_for self.now) interval }
         ensures { IfOk result (λ best. best
             ≡ greatest_before_of self.now.past.now.program.now self.now.past.now.logs.now
             (edge_of_place self.now.past.now.logs.now (seens_in self.now.past.now) self.now.process interval place)
             self.now.cell) }
     {
-        let before = first_items(items, place);
-        let edge = edge_at(self.past, self.process, interval, before)?;
+        let edge = edge_at(self.past, &self.tables, self.process, interval, items, place)?;
         let own = EdgeId {
             process: self.process,
             edge,
@@ -54,7 +54,7 @@ impl<'a> CellSearch<'a> {
         place: usize,
         steps: &mut Steps<L>,
     ) -> Result<Option<EdgeId>, FlowError>
-        requires past { IsPast self.now.past.now }
+        requires past { IsTabled self.now.past.now self.now.tables }
         requires items { items.now ≡ items_at (seen_for self.now) interval }
         ensures { IsFoundBy self.now.past.now
             (of_process self.now.process (walk_replays (seen_for self.now) self.now.cell interval place))
@@ -82,7 +82,7 @@ impl<'a> CellSearch<'a> {
         place: usize,
         steps: &mut Steps<L>,
     ) -> Result<Origin, FlowError>
-        requires past { IsPast self.now.past.now }
+        requires past { IsTabled self.now.past.now self.now.tables }
         requires items { items.now ≡ items_at (seen_for self.now) interval }
         ensures { IsFoundBy self.now.past.now
             (start_replays self.now.past.now.logs.now (seens_in self.now.past.now) self.now.cell
@@ -117,7 +117,7 @@ impl<'a> CellSearch<'a> {
         place: usize,
         steps: &mut Steps<L>,
     ) -> Result<Origin, FlowError>
-        requires past { IsPast self.now.past.now }
+        requires past { IsTabled self.now.past.now self.now.tables }
         requires items { items.now ≡ items_at (seen_for self.now) interval }
         ensures { IsFoundBy self.now.past.now
             (shared_replays self.now.past.now.program.now self.now.past.now.logs.now (seens_in self.now.past.now)
@@ -154,6 +154,7 @@ pub fn last_write<L: Ledger>(
     let search = CellSearch {
         alloc,
         past,
+        tables: Tables::Nothing,
         process: 0,
         cell,
     };

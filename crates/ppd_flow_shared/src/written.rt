@@ -1,12 +1,12 @@
 ghost use Rattle.std.specs.Prelude.{◌≡◌, get_or, pos};
 ghost use Rattle.ppd_flow_past.specs.ByReplays.{IsFoundBy};
-ghost use Rattle.ppd_flow_past.specs.Pasts.{IsPast};
 ghost use Rattle.ppd_model.specs.HappenedBefore.{edge as edge_of};
 ghost use Rattle.ppd_flow_model.specs.Seen.{items_at};
 ghost use Rattle.ppd_flow_model.specs.Shared.{of_process, start_replays, written_at, written_in as written_in_edge, written_or_start as written_or_start_of, written_replays};
 ghost use Rattle.ppd_flow_model.specs.Walk.{walk as walk_from, walk_replays};
 ghost use Rattle.ppd_flow_shared.specs.Items.{seen_for};
 ghost use Rattle.ppd_flow_shared.specs.SharedCells.{IsMemoryOr, answer_of, seens_in};
+ghost use Rattle.ppd_flow_tables.specs.Tabled.{IsTabled};
 
 use crate::edge_end::edge_end;
 use crate::search::CellSearch;
@@ -59,7 +59,7 @@ pub(crate) fn written_before<L: Ledger>(
     place: usize,
     steps: &mut Steps<L>,
 ) -> Result<(i64, Origin), FlowError>
-    requires past { IsPast search.now.past.now }
+    requires past { IsTabled search.now.past.now search.now.tables }
     requires items { items.now ≡ items_at (seen_for search.now) interval }
     ensures { IsFoundBy search.now.past.now
         (of_process search.now.process (walk_replays (seen_for search.now) search.now.cell interval place))
@@ -81,16 +81,17 @@ fn written_in<L: Ledger>(
     edge: EdgeId,
     steps: &mut Steps<L>,
 ) -> Result<(i64, Origin), FlowError>
-    requires { IsPast search.now.past.now }
+    requires { IsTabled search.now.past.now search.now.tables }
     ensures { IsFoundBy search.now.past.now
         (written_replays search.now.past.now.logs.now (seens_in search.now.past.now) search.now.cell edge)
         (answer_of (written_in_edge search.now.past.now.logs.now (seens_in search.now.past.now) search.now.cell edge))
         steps.old steps.new result }
 {
-    let end = edge_end(search.alloc, search.past, edge, steps)?;
+    let end = edge_end(search.alloc, search.past, &search.tables, edge, steps)?;
     let there = CellSearch {
         alloc: search.alloc,
         past: search.past,
+        tables: search.tables,
         process: edge.process,
         cell: search.cell,
     };
@@ -119,7 +120,7 @@ pub(crate) fn written_or_start<L: Ledger>(
     edge: Option<EdgeId>,
     steps: &mut Steps<L>,
 ) -> Result<(i64, Origin), FlowError>
-    requires { IsPast search.now.past.now }
+    requires { IsTabled search.now.past.now search.now.tables }
     ensures { IsFoundBy search.now.past.now
         (start_replays search.now.past.now.logs.now (seens_in search.now.past.now) search.now.cell edge)
         (answer_of (written_or_start_of search.now.past.now.program.now search.now.past.now.logs.now

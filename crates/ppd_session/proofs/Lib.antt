@@ -9,5 +9,6 @@ pub mod Answered
 pub mod Keeping
 pub mod LastValues
 mod LastKept
+mod LastTables
 pub mod Flows
 pub mod Missing

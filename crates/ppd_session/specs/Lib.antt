@@ -5,6 +5,7 @@ pub mod Known
 pub mod Texts
 pub mod Rows
 pub mod Keeping
+pub mod LastTables
 pub mod Sessions
 pub mod Laws
 pub mod Missing

@@ -1,8 +1,10 @@
 // The last values of the shared cells.
-ghost use Rattle.std.specs.Prelude.{◌≡◌, ◌⊎◌, ◌<◌, ◌++◌, [], Ok, None, Some, IfOk, IfErr, OnErr, OnOk, length};
+ghost use Rattle.std.specs.Prelude.{◌≡◌, ◌⊎◌, ◌<◌, ◌++◌, [], Ok, None, Some, IfOk, IfErr, IfSome, OnErr, OnOk, length, option_copied};
 ghost use Rattle.ppd_index.specs.Indexes.{rows_at};
 ghost use Rattle.ppd_flow_past.specs.Pasts.{IsPast};
 ghost use Rattle.ppd_session.specs.Known.{last_by, unless_raced};
+ghost use Rattle.ppd_flow_tables.specs.Tabled.{IsOfInterval};
+ghost use Rattle.ppd_session.specs.LastTables.{AreOfLast};
 ghost use Rattle.ppd_session.specs.Keeping.{AreAsked, AreAskedInPart, IsAsked};
 ghost use Rattle.ppd_session.specs.Sessions.{AreTold, IsSession, IsLineOf, IsWhy, known_by, last_block, last_blocks};
 ghost use Rattle.ppd_session.specs.Sessions.{place_of, unfound};
@@ -12,13 +14,14 @@ ghost use Rattle.ppd_flow_shared.specs.SharedCells.{last_edge as last_edge_of};
 ghost use Rattle.ppd_text_items.specs.Edges.{last_line};
 
 use crate::kept::Kept;
+use crate::last_tables::LastTables;
 use crate::opening::{no_items, put_many_races, replay};
 use crate::place::Place;
 use crate::reply::SessionError;
 use ppd_ast::Steps;
-use ppd_flow::{LastEdge, last, last_edge, last_from};
+use ppd_flow::{LastEdge, TabledItems, last, last_edge, last_from};
 use ppd_flow_past::Past;
-use ppd_model::{Item, Origin, Race};
+use ppd_model::{Origin, Race};
 use ppd_text_items::put_last;
 use std::alloc::Global;
 use std::marker::Brand;
@@ -68,7 +71,7 @@ fn last_told_in<L: Ledger>(
     past: &Past,
     cell: u16,
     last: LastEdge,
-    items: &[Item],
+    given: TabledItems,
     blank: Blank,
 ) -> Result<(i64, Origin), SessionError>
     requires name { blank.name ≡ L.name }
@@ -77,14 +80,16 @@ fn last_told_in<L: Ledger>(
     requires past { IsPast past.now }
     requires uncut { past.now.cut.now ≡ past.now.logs.now }
     requires last { last_edge_of past.now cell ≡ Some last }
-    requires told { told_at (known_by past.now []) last.edge.process last.interval ≡ Some (Ok items.now) }
+    requires told { told_at (known_by past.now []) last.edge.process last.interval ≡ Some (Ok given.items.now) }
+    requires tables { IfSome (option_copied given.tables)
+        (IsOfInterval past.now last.edge.process last.interval) }
     ensures value { IfOk result
         (λ x. last_by past.now.program.now past.now.plan.now past.now.budget past.now.logs.now cell ≡ Ok x) }
     ensures error { IfErr result
         (IsWhy (unfound (last_by past.now.program.now past.now.plan.now past.now.budget past.now.logs.now cell))) }
 {
     let mut steps: Steps<L> = Steps::new(blank);
-    match last_from(alloc, past, cell, last, items, &mut steps) {
+    match last_from(alloc, past, cell, last, given, &mut steps) {
         Ok(found) => Ok(found),
         Err(error) => Err(no_items(error)),
     }
@@ -96,18 +101,20 @@ fn last_told(
     past: &Past,
     cell: u16,
     last: LastEdge,
-    items: &[Item],
+    given: TabledItems,
 ) -> Result<(i64, Origin), SessionError>
     requires past { IsPast past.now }
     requires uncut { past.now.cut.now ≡ past.now.logs.now }
     requires last { last_edge_of past.now cell ≡ Some last }
-    requires told { told_at (known_by past.now []) last.edge.process last.interval ≡ Some (Ok items.now) }
+    requires told { told_at (known_by past.now []) last.edge.process last.interval ≡ Some (Ok given.items.now) }
+    requires tables { IfSome (option_copied given.tables)
+        (IsOfInterval past.now last.edge.process last.interval) }
     ensures value { IfOk result
         (λ x. last_by past.now.program.now past.now.plan.now past.now.budget past.now.logs.now cell ≡ Ok x) }
     ensures error { IfErr result
         (IsWhy (unfound (last_by past.now.program.now past.now.plan.now past.now.budget past.now.logs.now cell))) }
 {
-    last_told_in::<Brand>(alloc, past, cell, last, items, Blank::new(1))
+    last_told_in::<Brand>(alloc, past, cell, last, given, Blank::new(1))
 }
 
 /// The same by a kept block, or by the replay of that interval, which is then kept: so cells that one interval wrote
@@ -116,12 +123,14 @@ fn last_kept(
     alloc: Global,
     past: &Past,
     kept: &mut Kept,
+    tables: &mut LastTables,
     cell: u16,
     last: LastEdge,
 ) -> Result<(i64, Origin), SessionError>
     requires past { IsPast past.now }
     requires uncut { past.now.cut.now ≡ past.now.logs.now }
     requires kept { AreTold (known_by past.now []) kept.old.blocks }
+    requires tables { AreOfLast past.now tables.old }
     requires last { last_edge_of past.now cell ≡ Some last }
     requires there { last.interval < length (rows_at past.now.index.now.tables last.edge.process) }
     ensures value { IfOk result
@@ -129,6 +138,7 @@ fn last_kept(
     ensures error { IfErr result
         (IsWhy (unfound (last_by past.now.program.now past.now.plan.now past.now.budget past.now.logs.now cell))) }
     ensures kept { IsAsked (known_by past.now []) (Some (place_of last)) kept.old kept.new }
+    ensures tables { AreOfLast past.now tables.new }
 {
     let place = Place {
         process: last.edge.process,
@@ -136,10 +146,17 @@ fn last_kept(
     };
     kept.touch(place);
     if let Some(items) = kept.find(place) {
-        return last_told(alloc, past, cell, last, items.as_slice());
+        let items = items.as_slice();
+        tables.ask(alloc, past, place, items);
+        let tables = tables.find(place);
+        return last_told(alloc, past, cell, last, TabledItems { items, tables });
     }
     let items = replay(alloc, past, place)?;
-    let found = last_told(alloc, past, cell, last, items.as_slice())?;
+    let given = TabledItems {
+        items: items.as_slice(),
+        tables: None,
+    };
+    let found = last_told(alloc, past, cell, last, given)?;
     kept.keep(place, items);
     Ok(found)
 }
@@ -149,11 +166,13 @@ fn last_of_cell(
     alloc: Global,
     past: &Past,
     kept: &mut Kept,
+    tables: &mut LastTables,
     cell: u16,
 ) -> Result<(i64, Origin), SessionError>
     requires past { IsPast past.now }
     requires uncut { past.now.cut.now ≡ past.now.logs.now }
     requires kept { AreTold (known_by past.now []) kept.old.blocks }
+    requires tables { AreOfLast past.now tables.old }
     ensures value { IfOk result
         (λ x. last_by past.now.program.now past.now.plan.now past.now.budget past.now.logs.now cell ≡ Ok x) }
     ensures error { IfErr result
@@ -161,12 +180,13 @@ fn last_of_cell(
     ensures kept { OnOk result (IsAsked (known_by past.now []) (last_block past.now cell) kept.old kept.new) }
     ensures part { OnErr result
         ((kept.new ≡ kept.old) ⊎ IsAsked (known_by past.now []) (last_block past.now cell) kept.old kept.new) }
+    ensures tables { AreOfLast past.now tables.new }
 {
     let Some(last) = last_edge(past, cell)? else {
         return last_of(alloc, past, cell);
     };
     if last.interval < past.index.count(last.edge.process) {
-        return last_kept(alloc, past, kept, cell, last);
+        return last_kept(alloc, past, kept, tables, cell, last);
     }
     // cannot come for the past of a run: the index has the interval in which each edge ends
     last_of(alloc, past, cell)
@@ -193,11 +213,13 @@ fn put_cell_line(
     text: &mut Vec<u8>,
     past: &Past,
     kept: &mut Kept,
+    tables: &mut LastTables,
     cell: u16,
 ) -> Result<(), SessionError>
     requires past { IsPast past.now }
     requires uncut { past.now.cut.now ≡ past.now.logs.now }
     requires kept { AreTold (known_by past.now []) kept.old.blocks }
+    requires tables { AreOfLast past.now tables.old }
     ensures told { OnOk result
         (IsLineOf past.now.program.now cell
         (last_by past.now.program.now past.now.plan.now past.now.budget past.now.logs.now cell) text.old.items
@@ -207,8 +229,9 @@ fn put_cell_line(
     ensures kept { OnOk result (IsAsked (known_by past.now []) (last_block past.now cell) kept.old kept.new) }
     ensures part { OnErr result
         ((kept.new ≡ kept.old) ⊎ IsAsked (known_by past.now []) (last_block past.now cell) kept.old kept.new) }
+    ensures tables { AreOfLast past.now tables.new }
 {
-    let found = last_of_cell(alloc, past, kept, cell)?;
+    let found = last_of_cell(alloc, past, kept, tables, cell)?;
     put_line(text, past, cell, found)
 }
 
@@ -229,8 +252,9 @@ fn put_lines(
     ensures kept { OnOk result (AreAsked (known_by past.now []) (last_blocks past.now) kept.old kept.new) }
     ensures part { OnErr result (AreAskedInPart (known_by past.now []) (last_blocks past.now) kept.old kept.new) }
 {
+    let mut tables = LastTables::new();
     for cell in 0..past.program.starts.len() {
-        put_cell_line(alloc, text, past, kept, cell as u16)?;
+        put_cell_line(alloc, text, past, kept, &mut tables, cell as u16)?;
     }
     Ok(())
 }

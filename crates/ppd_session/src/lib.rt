@@ -6,6 +6,7 @@ mod answers;
 mod blocks;
 mod deps;
 mod kept;
+mod last_tables;
 mod lasts;
 mod laws;
 mod opening;

@@ -13,7 +13,7 @@ use crate::place::Place;
 use crate::refusing::put_refusal;
 use crate::reply::SessionError;
 use ppd_ast::{Memory, Seq, Steps};
-use ppd_flow::edges;
+use ppd_flow::{Place as ItemPlace, TabledItems, edges_from};
 use ppd_flow_past::{FlowError, Past, number};
 use ppd_model::{FlowEdge, Item};
 use ppd_text_items::put_why;
@@ -50,10 +50,18 @@ pub fn why_text(
     Ok(text)
 }
 
+/// The items of an interval, as they were told.
+#[derive(Clone, Copy)]
+struct Block<'a> {
+    process: u8,
+    interval: u32,
+    items: &'a [Item],
+}
+
 fn edges_in<L: Ledger>(
     alloc: Global,
     past: &Past,
-    place: Place,
+    block: Block,
     item: u32,
     blank: Blank,
 ) -> Result<Seq<FlowEdge>, FlowError>
@@ -62,25 +70,36 @@ fn edges_in<L: Ledger>(
     requires some { 0 < blank.parts }
     requires past { IsPast past.now }
     requires uncut { past.now.cut.now ≡ past.now.logs.now }
+    requires told { told_at (known_by past.now []) block.process block.interval ≡ Some (Ok block.items.now) }
     ensures { IsMemoryOr
-        (flow_by past.now.program.now past.now.plan.now past.now.budget past.now.logs.now place.process place.interval
+        (flow_by past.now.program.now past.now.plan.now past.now.budget past.now.logs.now block.process block.interval
         item)
         result }
 {
     let mut steps: Steps<L> = Steps::new(blank);
-    edges(alloc, past, place.process, place.interval, item, &mut steps)
+    let at = ItemPlace {
+        process: block.process,
+        interval: block.interval,
+        item: item as usize,
+    };
+    let given = TabledItems {
+        items: block.items,
+        tables: None,
+    };
+    edges_from(alloc, past, at, given, &mut steps)
 }
 
-/// The edges of an item, by replays.
-fn edges_of(alloc: Global, past: &Past, place: Place, item: u32) -> Result<Seq<FlowEdge>, FlowError>
+/// The edges of an item, by replays of other intervals than its own.
+fn edges_of(alloc: Global, past: &Past, block: Block, item: u32) -> Result<Seq<FlowEdge>, FlowError>
     requires past { IsPast past.now }
     requires uncut { past.now.cut.now ≡ past.now.logs.now }
+    requires told { told_at (known_by past.now []) block.process block.interval ≡ Some (Ok block.items.now) }
     ensures { IsMemoryOr
-        (flow_by past.now.program.now past.now.plan.now past.now.budget past.now.logs.now place.process place.interval
+        (flow_by past.now.program.now past.now.plan.now past.now.budget past.now.logs.now block.process block.interval
         item)
         result }
 {
-    edges_in::<Brand>(alloc, past, place, item, Blank::new(1))
+    edges_in::<Brand>(alloc, past, block, item, Blank::new(1))
 }
 
 fn put_edges(
@@ -104,30 +123,31 @@ fn put_flow(
     alloc: Global,
     text: &mut Vec<u8>,
     past: &Past,
-    place: Place,
+    block: Block,
     item: u32,
     shown: &Item,
 ) -> Result<(), SessionError>
     requires past { IsPast past.now }
     requires uncut { past.now.cut.now ≡ past.now.logs.now }
+    requires told { told_at (known_by past.now []) block.process block.interval ≡ Some (Ok block.items.now) }
     ensures text { OnOk result
         (text.new.items
         ≡ text.old.items
         ++ flow_text past.now.program.now past.now.plan.now item shown.now
-        (flow_by past.now.program.now past.now.plan.now past.now.budget past.now.logs.now place.process place.interval
+        (flow_by past.now.program.now past.now.plan.now past.now.budget past.now.logs.now block.process block.interval
         item)) }
     ensures told { OnOk result
         (unfound_flow
-        (flow_by past.now.program.now past.now.plan.now past.now.budget past.now.logs.now place.process place.interval
+        (flow_by past.now.program.now past.now.plan.now past.now.budget past.now.logs.now block.process block.interval
         item)
         ≡ None) }
     ensures error { IfErr result
         (IsWhy
         (unfound_flow
-        (flow_by past.now.program.now past.now.plan.now past.now.budget past.now.logs.now place.process place.interval
+        (flow_by past.now.program.now past.now.plan.now past.now.budget past.now.logs.now block.process block.interval
         item))) }
 {
-    match edges_of(alloc, past, place, item) {
+    match edges_of(alloc, past, block, item) {
         Ok(edges) => put_edges(text, past, item, shown, edges.as_slice()),
         Err(FlowError::NoEvent) => put_refusal(text, b"? event\n"),
         Err(error) => Err(no_items(error)),
@@ -139,24 +159,25 @@ fn put_told(
     alloc: Global,
     text: &mut Vec<u8>,
     past: &Past,
-    place: Place,
+    block: Block,
     item: u32,
     shown: &Item,
 ) -> Result<(), SessionError>
     requires past { IsPast past.now }
     requires uncut { past.now.cut.now ≡ past.now.logs.now }
-    requires there { IsItemThere (known_by past.now []) place.process place.interval item }
+    requires told { told_at (known_by past.now []) block.process block.interval ≡ Some (Ok block.items.now) }
+    requires there { IsItemThere (known_by past.now []) block.process block.interval item }
     ensures text { OnOk result
         (text.new.items
         ≡ text.old.items
         ++ flow_text past.now.program.now past.now.plan.now item shown.now
-        (flow_at (known_by past.now []) place.process place.interval item)) }
+        (flow_at (known_by past.now []) block.process block.interval item)) }
     ensures told { OnOk result
-        (unfound_flow (flow_at (known_by past.now []) place.process place.interval item) ≡ None) }
+        (unfound_flow (flow_at (known_by past.now []) block.process block.interval item) ≡ None) }
     ensures error { IfErr result
-        (IsWhy (unfound_flow (flow_at (known_by past.now []) place.process place.interval item))) }
+        (IsWhy (unfound_flow (flow_at (known_by past.now []) block.process block.interval item))) }
 {
-    put_flow(alloc, text, past, place, item, shown)
+    put_flow(alloc, text, past, block, item, shown)
 }
 
 /// Appends item `item` of these, the items of an interval, with its edges, if it is there.
@@ -185,5 +206,10 @@ pub(crate) fn put_item_of(
         return put_refusal(text, b"? event\n");
     };
     let item = number(item as usize)?;
-    put_told(alloc, text, past, place, item, shown)
+    let block = Block {
+        process: place.process,
+        interval: place.interval,
+        items,
+    };
+    put_told(alloc, text, past, block, item, shown)
 }

@@ -12,6 +12,8 @@ use Rattle.ppd_flow_past.specs.ByReplays.{IsFoundBy, IsReplayFailure, IsReplayed
 use Rattle.ppd_flow_past.specs.Keeping.{AreKeptOf, AreOthersKept, IsAllKept, IsNoneKept, RoseByKept}
 use Rattle.ppd_flow_past.specs.Pasts.{IsPast}
 use Rattle.ppd_flow_past.specs.SeenBy.{failed_in, items_in}
+use Rattle.ppd_flow_tables.specs.declared.tables.Tables.{Tables}
+use Rattle.ppd_flow_tables.specs.Tabled.{AreTablesOf, IsTabled}
 use Rattle.ppd_model.specs.declared.flow.FlowEdge.{FlowEdge}
 use Rattle.ppd_model.specs.declared.flow.Item.{Item}
 use Rattle.ppd_slice_model.specs.declared.reached.ItemAt.{ItemAt}
@@ -137,6 +139,13 @@ module _ (past : Past) where
 module _ (past known : Past) (r : Bor Kept) (kept : Kept) (e : r.now ≡ kept) (is : known ≡ record past { kept = r }) where
   pub past_known : IsPast past → AreKeptOf past kept → IsPast known
   past_known h k = subst IsPast (sym is) (known_past past r kept e h k)
+
+  pub known_tabled : IsPast past → AreKeptOf past kept → (tables : Tables) → AreTablesOf past tables
+      → IsTabled known tables
+  known_tabled h k tables t = record {
+    past_is = past_known h k;
+    tables_are = subst (λ (x : Past). AreTablesOf x tables) (sym is) t;
+  }
 
   module _ (a : ItemAt) (n m : ℕ) where
     abbrev IsItems : Past → Result (List Item) FlowError → Type 0

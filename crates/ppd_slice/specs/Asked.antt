@@ -5,14 +5,21 @@ use Rattle.ppd_model.specs.declared.flow.Item.{Item}
 use Rattle.ppd_flow_past.specs.declared.flow_error.FlowError.{FlowError}
 use Rattle.ppd_flow_past.specs.declared.flow_error.FlowError.TheVariants.{Diverged, NoEvent, Sets, Memory}
 use Rattle.ppd_flow_past.specs.declared.past.Past.{Past}
-use Rattle.ppd_flow_past.specs.Keeping.{IsAllKept}
+use Rattle.ppd_flow_past.specs.Keeping.{AreKeptOf, IsAllKept}
 use Rattle.ppd_flow_past.specs.SeenBy.{failed_in, items_in}
+use Rattle.ppd_flow_tables.specs.Tabled.{AreOfProcesses}
+use Rattle.ppd_slice.specs.declared.held.Kept.{Kept}
 use Rattle.ppd_slice_model.specs.declared.reached.ItemAt.{ItemAt}
 use Rattle.ppd_slice_model.specs.declared.reached.Reached.{Reached}
 use Rattle.ppd_slice_model.specs.Reach.{IsIn}
 use Rattle.ppd_slice.specs.Slices.{IsNoItem, flow_of, has_process}
 
 -- ---- what is kept
+
+-- of a past, the replays with tables of their items
+pub record IsKept (past : Past) (kept : Kept) : Type 0 where
+  pub replays : AreKeptOf past kept.replays
+  pub tables : AreOfProcesses past kept.tables
 
 -- all of these processes
 abbrev pub AreAllKept : Past → List (List (List Item)) → List ℕ → Type 0

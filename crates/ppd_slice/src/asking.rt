@@ -2,13 +2,14 @@
 ghost use Rattle.std.specs.Prelude.{◌≡◌, ◌∷◌, [], true, Err, IfErr, IfOk, OnOk};
 ghost use Rattle.ppd_flow.specs.Far.{far_in};
 ghost use Rattle.ppd_flow_past.specs.ByReplays.{IsReplayFailure, IsReplayed};
-ghost use Rattle.ppd_flow_past.specs.Keeping.{AreKeptOf, IsAllKept, RoseByKept};
+ghost use Rattle.ppd_flow_past.specs.Keeping.{IsAllKept, RoseByKept};
 ghost use Rattle.ppd_flow_past.specs.Pasts.{IsPast};
-ghost use Rattle.ppd_slice.specs.Asked.{AreAllKept, AreKeptFor, AreStillKept, IsAsked, IsThere};
+ghost use Rattle.ppd_slice.specs.Asked.{AreAllKept, AreKeptFor, AreStillKept, IsAsked, IsKept, IsThere};
 ghost use Rattle.ppd_slice.specs.Slices.{IsNoItem, IsSliceOf};
 
+use crate::held::{Kept, keep};
 use ppd_ast::{Seq, Steps};
-use ppd_flow::{FlowEdge, FlowError, KeptReplays, Past, edges, far_processes, interval_items};
+use ppd_flow::{FlowEdge, FlowError, Past, Place, edges_by_tables, far_processes, interval_items};
 use ppd_slice_model::ItemAt;
 use std::alloc::Global;
 use std::sync::ledger::Ledger;
@@ -17,17 +18,17 @@ use std::sync::ledger::Ledger;
 fn is_there<L: Ledger>(
     alloc: Global,
     past: &Past,
-    kept: &KeptReplays,
+    kept: &Kept,
     at: ItemAt,
     steps: &mut Steps<L>,
 ) -> Result<bool, FlowError>
     requires past { IsPast past.now }
-    requires kept { AreKeptOf past.now kept.now }
+    requires kept { IsKept past.now kept.now }
     ensures is { IfOk result (IsThere past.now at) }
-    ensures cost { IsAllKept past.now kept.now at.process → OnOk result (steps.new ≡ steps.old) }
+    ensures cost { IsAllKept past.now kept.now.replays at.process → OnOk result (steps.new ≡ steps.old) }
     ensures error { IfErr result (λ e. IsReplayed past.now at.process at.interval (Err e)) }
 {
-    let known = past.with_kept(kept.as_slice());
+    let known = past.with_kept(kept.replays.as_slice());
     match interval_items(alloc, &known, at.process, at.interval, steps) {
         Ok(items) => Ok((at.item as usize) < items.as_slice().len()),
         Err(error) => Err(error),
@@ -39,19 +40,19 @@ fn is_there<L: Ledger>(
 pub(crate) fn keep_first<L: Ledger>(
     alloc: Global,
     past: &Past,
-    kept: &mut KeptReplays,
+    kept: &mut Kept,
     start: ItemAt,
     steps: &mut Steps<L>,
 ) -> Result<(), FlowError>
     requires past { IsPast past.now }
-    requires kept { AreKeptOf past.now kept.old }
-    ensures kept { AreKeptOf past.now kept.new }
-    ensures only { AreKeptFor (start.process ∷ []) kept.old kept.new }
+    requires kept { IsKept past.now kept.old }
+    ensures kept { IsKept past.now kept.new }
+    ensures only { AreKeptFor (start.process ∷ []) kept.old.replays kept.new.replays }
     ensures there { OnOk result (IsNoItem past.now start → ⊥) }
-    ensures cost { OnOk result (RoseByKept past.now kept.old kept.new steps.old steps.new) }
+    ensures cost { OnOk result (RoseByKept past.now kept.old.replays kept.new.replays steps.old steps.new) }
     ensures error { IfErr result (λ e. IsSliceOf past.now start (Err e)) }
 {
-    let replays = kept.keep(alloc, past, start.process, steps);
+    let replays = keep(alloc, past, kept, start.process, steps);
     match is_there(alloc, past, kept, start, steps) {
         Ok(true) => replays,
         Ok(false) => Err(FlowError::NoEvent),
@@ -63,21 +64,21 @@ pub(crate) fn keep_first<L: Ledger>(
 fn keep_all<L: Ledger>(
     alloc: Global,
     past: &Past,
-    kept: &mut KeptReplays,
+    kept: &mut Kept,
     processes: &[u8],
     steps: &mut Steps<L>,
 ) -> Result<(), FlowError>
     requires past { IsPast past.now }
-    requires kept { AreKeptOf past.now kept.old }
-    ensures kept { AreKeptOf past.now kept.new }
-    ensures still { OnOk result (AreStillKept past.now kept.old kept.new) }
-    ensures all { OnOk result (AreAllKept past.now kept.new processes.now) }
-    ensures only { AreKeptFor processes.now kept.old kept.new }
-    ensures cost { OnOk result (RoseByKept past.now kept.old kept.new steps.old steps.new) }
+    requires kept { IsKept past.now kept.old }
+    ensures kept { IsKept past.now kept.new }
+    ensures still { OnOk result (AreStillKept past.now kept.old.replays kept.new.replays) }
+    ensures all { OnOk result (AreAllKept past.now kept.new.replays processes.now) }
+    ensures only { AreKeptFor processes.now kept.old.replays kept.new.replays }
+    ensures cost { OnOk result (RoseByKept past.now kept.old.replays kept.new.replays steps.old steps.new) }
     ensures error { IfErr result (IsReplayFailure past.now) }
 {
     for process in processes {
-        kept.keep(alloc, past, *process, steps)?;
+        keep(alloc, past, kept, *process, steps)?;
     }
     Ok(())
 }
@@ -86,37 +87,43 @@ fn keep_all<L: Ledger>(
 fn far_known<L: Ledger>(
     alloc: Global,
     past: &Past,
-    kept: &KeptReplays,
+    kept: &Kept,
     at: ItemAt,
     steps: &mut Steps<L>,
 ) -> Result<Seq<u8>, FlowError>
     requires past { IsPast past.now }
-    requires kept { AreKeptOf past.now kept.now }
-    requires own { IsAllKept past.now kept.now at.process }
+    requires kept { IsKept past.now kept.now }
+    requires own { IsAllKept past.now kept.now.replays at.process }
     ensures is { IfOk result (λ found. found ≡ far_in past.now at.process at.interval at.item) }
     ensures cost { OnOk result (steps.new ≡ steps.old) }
     ensures error { IfErr result (IsReplayFailure past.now) }
 {
-    let known = past.with_kept(kept.as_slice());
-    far_processes(alloc, &known, at.process, at.interval, at.item, steps)
+    let known = past.with_kept(kept.replays.as_slice());
+    let tables = kept.tables.tables();
+    let place = Place {
+        process: at.process,
+        interval: at.interval,
+        item: at.item as usize,
+    };
+    far_processes(alloc, &known, &tables, place, steps)
 }
 
 /// Keeps the other processes that the edges of an item need, whose own process is kept.
 fn keep_far<L: Ledger>(
     alloc: Global,
     past: &Past,
-    kept: &mut KeptReplays,
+    kept: &mut Kept,
     at: ItemAt,
     steps: &mut Steps<L>,
 ) -> Result<(), FlowError>
     requires past { IsPast past.now }
-    requires kept { AreKeptOf past.now kept.old }
-    requires own { IsAllKept past.now kept.old at.process }
-    ensures kept { AreKeptOf past.now kept.new }
-    ensures still { OnOk result (AreStillKept past.now kept.old kept.new) }
-    ensures all { OnOk result (AreAllKept past.now kept.new (far_in past.now at.process at.interval at.item)) }
-    ensures only { AreKeptFor (far_in past.now at.process at.interval at.item) kept.old kept.new }
-    ensures cost { OnOk result (RoseByKept past.now kept.old kept.new steps.old steps.new) }
+    requires kept { IsKept past.now kept.old }
+    requires own { IsAllKept past.now kept.old.replays at.process }
+    ensures kept { IsKept past.now kept.new }
+    ensures still { OnOk result (AreStillKept past.now kept.old.replays kept.new.replays) }
+    ensures all { OnOk result (AreAllKept past.now kept.new.replays (far_in past.now at.process at.interval at.item)) }
+    ensures only { AreKeptFor (far_in past.now at.process at.interval at.item) kept.old.replays kept.new.replays }
+    ensures cost { OnOk result (RoseByKept past.now kept.old.replays kept.new.replays steps.old steps.new) }
     ensures error { IfErr result (IsReplayFailure past.now) }
 {
     let far = far_known(alloc, past, kept, at, steps)?;
@@ -127,20 +134,26 @@ fn keep_far<L: Ledger>(
 fn edges_known<L: Ledger>(
     alloc: Global,
     past: &Past,
-    kept: &KeptReplays,
+    kept: &Kept,
     at: ItemAt,
     steps: &mut Steps<L>,
 ) -> Result<Option<Seq<FlowEdge>>, FlowError>
     requires past { IsPast past.now }
-    requires kept { AreKeptOf past.now kept.now }
-    requires own { IsAllKept past.now kept.now at.process }
-    requires far { AreAllKept past.now kept.now (far_in past.now at.process at.interval at.item) }
+    requires kept { IsKept past.now kept.now }
+    requires own { IsAllKept past.now kept.now.replays at.process }
+    requires far { AreAllKept past.now kept.now.replays (far_in past.now at.process at.interval at.item) }
     requires there { IsThere past.now at true }
     ensures is { IsAsked past.now at result }
     ensures cost { OnOk result (steps.new ≡ steps.old) }
 {
-    let known = past.with_kept(kept.as_slice());
-    match edges(alloc, &known, at.process, at.interval, at.item, steps) {
+    let known = past.with_kept(kept.replays.as_slice());
+    let tables = kept.tables.tables();
+    let place = Place {
+        process: at.process,
+        interval: at.interval,
+        item: at.item as usize,
+    };
+    match edges_by_tables(alloc, &known, &tables, place, steps) {
         Ok(edges) => Ok(Some(edges)),
         Err(error) => Err(error),
     }
@@ -151,19 +164,19 @@ fn edges_known<L: Ledger>(
 pub(crate) fn edges_by_kept<L: Ledger>(
     alloc: Global,
     past: &Past,
-    kept: &mut KeptReplays,
+    kept: &mut Kept,
     at: ItemAt,
     steps: &mut Steps<L>,
 ) -> Result<Option<Seq<FlowEdge>>, FlowError>
     requires past { IsPast past.now }
-    requires kept { AreKeptOf past.now kept.old }
-    ensures kept { AreKeptOf past.now kept.new }
+    requires kept { IsKept past.now kept.old }
+    ensures kept { IsKept past.now kept.new }
     ensures is { IsAsked past.now at result }
     ensures only { OnOk result
-        (AreKeptFor (at.process ∷ far_in past.now at.process at.interval at.item) kept.old kept.new) }
-    ensures cost { OnOk result (RoseByKept past.now kept.old kept.new steps.old steps.new) }
+        (AreKeptFor (at.process ∷ far_in past.now at.process at.interval at.item) kept.old.replays kept.new.replays) }
+    ensures cost { OnOk result (RoseByKept past.now kept.old.replays kept.new.replays steps.old steps.new) }
 {
-    kept.keep(alloc, past, at.process, steps)?;
+    keep(alloc, past, kept, at.process, steps)?;
     let there = is_there(alloc, past, kept, at, steps)?;
     if !there {
         return Ok(None);

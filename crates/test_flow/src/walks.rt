@@ -6,6 +6,7 @@ ghost use Rattle.ppd_flow_past.specs.Pasts.{IsPast};
 use ppd_ast::Steps;
 use ppd_flow_past::{FlowError, Past, replayed};
 use ppd_flow_shared::{CellSearch, Place, last_write, pair_origin};
+use ppd_flow_tables::Tables;
 use ppd_model::Origin;
 use std::alloc::Global;
 use std::marker::Brand;
@@ -56,6 +57,7 @@ fn shared_of<L: Ledger>(alloc: Global, past: &Past, place: Place, steps: &mut St
     let search = CellSearch {
         alloc,
         past,
+        tables: Tables::Nothing,
         process: place.process,
         cell: 0,
     };
@@ -74,10 +76,12 @@ fn pair_of<L: Ledger>(alloc: Global, past: &Past, place: Place, steps: &mut Step
     requires { IsPast past.now }
 {
     match replayed(alloc, past, place.process, place.interval, steps) {
-        Ok(items) => match pair_origin(alloc, past, place, items.as_slice(), steps) {
-            Ok(origin) => Told::Pair(origin),
-            Err(error) => Told::Error(error),
-        },
+        Ok(items) => {
+            match pair_origin(alloc, past, &Tables::Nothing, place, items.as_slice(), steps) {
+                Ok(origin) => Told::Pair(origin),
+                Err(error) => Told::Error(error),
+            }
+        }
         Err(error) => Told::Error(error),
     }
 }

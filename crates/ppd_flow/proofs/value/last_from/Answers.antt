@@ -13,14 +13,14 @@ returns-clause-run g c =
     let after = c.last_write_from.new.steps + steps_to_replay past c.args.last.edge.process c.args.last.interval in
     gives_last c.replays_are_seen.ensures c.last_writes_are_found.ensures past c.args.cell c.args.steps.now after
     (last_replays past.program.now past.logs.now (seens_in past) c.args.cell) c.last_write_from.result
-    c.requires.together.program_ok c.last_write_from.ensures
+    c.requires.items.together.program_ok c.last_write_from.ensures
 
 pub returns-clause-cost : goal.returns-clause-cost
 returns-clause-cost g c =
     let past = c.args.past.now in
     let after = c.last_write_from.new.steps + steps_to_replay past c.args.last.edge.process c.args.last.interval in
     costs_last c.replays_are_seen.ensures c.last_costs_little.ensures past c.args.cell c.args.steps.now after
-    c.last_write_from.result c.requires.together.program_ok c.last_write_from.ensures
+    c.last_write_from.result c.requires.items.together.program_ok c.last_write_from.ensures
 
 pub returns-clause-sets : goal.returns-clause-sets
 returns-clause-sets g c =

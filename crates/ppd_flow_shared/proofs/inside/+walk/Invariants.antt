@@ -1,5 +1,5 @@
-use Rattle.std.proofs.Common.{[], ◌+◌, ◌*◌, ◌≤◌, length}
-use Rattle.ppd_flow_model.specs.Walk.{back_from, backwards}
+use Rattle.std.proofs.Common.{◌+◌, ◌*◌}
+use Rattle.ppd_flow_model.specs.Walk.{back_from}
 use Rattle.ppd_flow_shared.specs.Items.{seen_for}
 use Rattle.ppd_flow_shared.proofs.Leads.{Leads}
 use Rattle.ppd_flow_shared.proofs.Over.{over, replays}
@@ -14,16 +14,14 @@ decreases-over_item g l = 3 * l.depth + 1
 abbrev pub decreases-over_interval : goal.decreases-over_interval
 decreases-over_interval g l = 3 * l.depth
 
--- the items before this one are left
-abbrev pub invariant-over_items-loop-left : goal.invariant-over_items-loop-left
-invariant-over_items-loop-left g l = record {
-  within : l.left ≤ length l.items;
-  leads : Leads l.search.past.now l.search.process
-      (replays (seen_for l.search) l.depth l.search.cell l.interval (backwards 0 l.items []))
-      (over (seen_for l.search) l.depth l.search.cell l.interval (backwards 0 l.items [])) l.fn.steps
-      (replays (seen_for l.search) l.depth l.search.cell l.interval (back_from l.left l.items))
-      (over (seen_for l.search) l.depth l.search.cell l.interval (back_from l.left l.items)) l.steps;
-}
+-- the items before this place are left
+abbrev pub invariant-over_items-loop-at : goal.invariant-over_items-loop-at
+invariant-over_items-loop-at g l =
+    Leads l.search.past.now l.search.process
+    (replays (seen_for l.search) l.depth l.search.cell l.interval (back_from l.fn.place l.items))
+    (over (seen_for l.search) l.depth l.search.cell l.interval (back_from l.fn.place l.items)) l.fn.steps
+    (replays (seen_for l.search) l.depth l.search.cell l.interval (back_from l.left l.items))
+    (over (seen_for l.search) l.depth l.search.cell l.interval (back_from l.left l.items)) l.steps
 
-abbrev pub decreases-over_items-loop-left : goal.decreases-over_items-loop-left
-decreases-over_items-loop-left g l = l.left
+abbrev pub decreases-over_items-loop-at : goal.decreases-over_items-loop-at
+decreases-over_items-loop-at g l = l.left

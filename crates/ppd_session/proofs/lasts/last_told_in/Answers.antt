@@ -5,11 +5,11 @@ use Rattle.ppd_session.proofs.LastValues.{last_fails, last_found}
 use Rattle.ppd_session.proofs.Replayed.{are_replayed}
 use Rattle.ppd_session.proofs.lasts.last_told_in.Goals as goal
 
-pub last_from-requires : goal.last_from-requires
-last_from-requires g c = record {
+pub last_from-requires-clause-items : goal.last_from-requires-clause-items
+last_from-requires-clause-items g c = record {
   together = c.requires.past;
   last = c.requires.last;
-  replayed = are_replayed c.args.past.now c.requires.uncut c.args.last.edge.process c.args.last.interval c.args.items.now c.requires.told;
+  replayed = are_replayed c.args.past.now c.requires.uncut c.args.last.edge.process c.args.last.interval c.args.given.items.now c.requires.told;
 }
 
 pub returns-in-Ok-clause-value : goal.returns-in-Ok-clause-value

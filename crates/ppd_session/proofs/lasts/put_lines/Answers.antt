@@ -40,4 +40,5 @@ loop-cell-preserved c =
       none = n.none;
       asked = next_asked (known_by past []) (last_block past) c.loop-cell.cell c.args.kept.now c.loop-cell.kept c.put_cell_line.new.kept
           c.loop-cell.invariant.asked c.in_ok-put_cell_line.ensures.kept;
+      tables = c.put_cell_line.ensures.tables;
     }

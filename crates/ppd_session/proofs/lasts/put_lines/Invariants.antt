@@ -1,5 +1,6 @@
 use Rattle.std.proofs.Common.{◌≡◌, ◌++◌, [], None}
 use Rattle.ppd_session.specs.Keeping.{AreAsked}
+use Rattle.ppd_session.specs.LastTables.{AreOfLast}
 use Rattle.ppd_session.specs.Known.{last_by, of_cells}
 use Rattle.ppd_session.specs.Sessions.{known_by, last_block}
 use Rattle.ppd_session.specs.Texts.{first_unfound, lasts_text}
@@ -15,4 +16,5 @@ invariant-loop-cell l = record {
       (of_cells (last_by l.past.program.now l.past.plan.now l.past.budget l.past.logs.now) 0 l.cell)
       ≡ None;
   asked : AreAsked (known_by l.past []) (of_cells (last_block l.past) 0 l.cell) l.initial.kept l.kept;
+  tables : AreOfLast l.past l.tables;
 }

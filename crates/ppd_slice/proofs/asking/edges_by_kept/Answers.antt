@@ -23,11 +23,11 @@ returns-then-not-there-clause-is g c =
 pub returns-then-not-there-clause-only : goal.returns-then-not-there-clause-only
 returns-then-not-there-clause-only g c =
     kept_first c.args.at.process (far_in c.args.past.now c.args.at.process c.args.at.interval c.args.at.item)
-    c.args.kept.now c.keep.new.self c.keep.ensures.others
+    c.args.kept.now.replays c.keep.new.kept.replays c.keep.ensures.others
 
 pub returns-then-not-there-clause-cost : goal.returns-then-not-there-clause-cost
 returns-then-not-there-clause-cost g c =
-    rose_still c.args.past.now c.args.kept.now c.keep.new.self c.args.steps.now c.keep.new.steps c.is_there.new.steps
+    rose_still c.args.past.now c.args.kept.now.replays c.keep.new.kept.replays c.args.steps.now c.keep.new.steps c.is_there.new.steps
     c.in_ok-keep.ensures.cost (c.in_ok-there.ensures.cost c.in_ok-keep.ensures.all)
 
 pub returns-in_err-keep_far-clause-is : goal.returns-in_err-keep_far-clause-is
@@ -45,15 +45,15 @@ edges_known-requires-clause-there g c =
 pub returns-clause-only : goal.returns-clause-only
 returns-clause-only g c =
     on_any c.edges_known.result (kept_both (c.args.at.process ∷ [])
-    (far_in c.args.past.now c.args.at.process c.args.at.interval c.args.at.item) c.args.kept.now c.keep.new.self
-    c.keep_far.new.kept (kept_only c.args.at.process c.args.kept.now c.keep.new.self c.keep.ensures.others)
+    (far_in c.args.past.now c.args.at.process c.args.at.interval c.args.at.item) c.args.kept.now.replays c.keep.new.kept.replays
+    c.keep_far.new.kept.replays (kept_only c.args.at.process c.args.kept.now.replays c.keep.new.kept.replays c.keep.ensures.others)
     c.keep_far.ensures.only)
 
 pub returns-clause-cost : goal.returns-clause-cost
 returns-clause-cost g c =
     on_one c.edges_known.result c.edges_known.ensures.cost
-    (rose_still c.args.past.now c.args.kept.now c.keep_far.new.kept c.args.steps.now c.keep_far.new.steps
-    c.edges_known.new.steps (rose_then c.args.past.now c.args.kept.now c.keep.new.self c.keep_far.new.kept
+    (rose_still c.args.past.now c.args.kept.now.replays c.keep_far.new.kept.replays c.args.steps.now c.keep_far.new.steps
+    c.edges_known.new.steps (rose_then c.args.past.now c.args.kept.now.replays c.keep.new.kept.replays c.keep_far.new.kept.replays
     c.args.steps.now c.is_there.new.steps c.keep_far.new.steps
-    (rose_still c.args.past.now c.args.kept.now c.keep.new.self c.args.steps.now c.keep.new.steps c.is_there.new.steps
+    (rose_still c.args.past.now c.args.kept.now.replays c.keep.new.kept.replays c.args.steps.now c.keep.new.steps c.is_there.new.steps
     c.in_ok-keep.ensures.cost (c.in_ok-there.ensures.cost c.in_ok-keep.ensures.all)) c.in_ok-keep_far.ensures.cost))

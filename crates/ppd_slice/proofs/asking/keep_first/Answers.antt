@@ -7,7 +7,7 @@ use Rattle.ppd_slice.proofs.asking.keep_first.Goals as goal
 
 pub returns-in-Ok-true-clause-only : goal.returns-in-Ok-true-clause-only
 returns-in-Ok-true-clause-only g c =
-    kept_first c.args.start.process [] c.args.kept.now c.keep-replays.new.self c.keep-replays.ensures.others
+    kept_first c.args.start.process [] c.args.kept.now.replays c.keep-replays.new.kept.replays c.keep-replays.ensures.others
 
 pub returns-in-Ok-true-clause-there : goal.returns-in-Ok-true-clause-there
 returns-in-Ok-true-clause-there g c =
@@ -18,7 +18,7 @@ returns-in-Ok-true-clause-there g c =
 pub returns-in-Ok-true-clause-cost : goal.returns-in-Ok-true-clause-cost
 returns-in-Ok-true-clause-cost g c =
     on_both c.keep-replays.result c.keep-replays.ensures.all c.keep-replays.ensures.cost
-    (λ all rose. rose_still c.args.past.now c.args.kept.now c.keep-replays.new.self c.args.steps.now
+    (λ all rose. rose_still c.args.past.now c.args.kept.now.replays c.keep-replays.new.kept.replays c.args.steps.now
     c.keep-replays.new.steps c.is_there.new.steps rose (c.in-Ok-true.ensures.cost all))
 
 pub returns-in-Ok-true-clause-error : goal.returns-in-Ok-true-clause-error
@@ -29,7 +29,7 @@ returns-in-Ok-true-clause-error g c =
 
 pub returns-in-Ok-false-clause-only : goal.returns-in-Ok-false-clause-only
 returns-in-Ok-false-clause-only g c =
-    kept_first c.args.start.process [] c.args.kept.now c.keep-replays.new.self c.keep-replays.ensures.others
+    kept_first c.args.start.process [] c.args.kept.now.replays c.keep-replays.new.kept.replays c.keep-replays.ensures.others
 
 pub returns-in-Ok-false-clause-error : goal.returns-in-Ok-false-clause-error
 returns-in-Ok-false-clause-error g c =
@@ -38,7 +38,7 @@ returns-in-Ok-false-clause-error g c =
 
 pub returns-in-Err-clause-only : goal.returns-in-Err-clause-only
 returns-in-Err-clause-only g c =
-    kept_first c.args.start.process [] c.args.kept.now c.keep-replays.new.self c.keep-replays.ensures.others
+    kept_first c.args.start.process [] c.args.kept.now.replays c.keep-replays.new.kept.replays c.keep-replays.ensures.others
 
 pub returns-in-Err-clause-error : goal.returns-in-Err-clause-error
 returns-in-Err-clause-error g c = failed_first c.args.past.now c.args.start c.in-Err.error c.in-Err.ensures.error

@@ -9,8 +9,8 @@ loop-number-init g c = record {
   searched = begins c.args.past.now c.args.start c.new-search.result c.find.new.self c.new-search.ensures c.in_ok-find.ensures;
   answered = λ i r lt e. absurd (omega (arith, lt));
   kept = c.requires.kept;
-  among = among_first c.args.start c.new-search.result c.find.new.self c.args.kept.now c.requires.own c.new-search.ensures c.in_ok-find.ensures;
-  cost = rose_none c.args.past.now c.args.kept.now c.args.steps.now c.args.steps.now (omega arith);
+  among = among_first c.args.start c.new-search.result c.find.new.self c.args.kept.now.replays c.requires.own c.new-search.ensures c.in_ok-find.ensures;
+  cost = rose_none c.args.past.now c.args.kept.now.replays c.args.steps.now c.args.steps.now (omega arith);
 }
 
 pub returns-in_default-clause-is : goal.returns-in_default-clause-is
@@ -20,7 +20,7 @@ returns-in_default-clause-is g c =
 
 pub returns-in_default-clause-among : goal.returns-in_default-clause-among
 returns-in_default-clause-among g c =
-    among_sorted c.loop-number.search c.sorted.result c.loop-number.kept c.sorted.ensures c.loop-number.invariant.among
+    among_sorted c.loop-number.search c.sorted.result c.loop-number.kept.replays c.sorted.ensures c.loop-number.invariant.among
 
 pub returns-in-Err-clause-is : goal.returns-in-Err-clause-is
 returns-in-Err-clause-is g c =
@@ -37,6 +37,6 @@ loop-number-preserved g c = record {
   among = c.in_default-expand.ensures.among
       (got_process c.loop-number.search c.loop-number.number c.in-Some.from (sym c.get.ensures ∙ c.in-Some.is))
       c.loop-number.invariant.among;
-  cost = rose_then c.args.past.now c.args.kept.now c.loop-number.kept c.expand.new.kept c.args.steps.now c.loop-number.steps c.expand.new.steps
+  cost = rose_then c.args.past.now c.args.kept.now.replays c.loop-number.kept.replays c.expand.new.kept.replays c.args.steps.now c.loop-number.steps c.expand.new.steps
       c.loop-number.invariant.cost c.in_default-expand.ensures.cost;
 }

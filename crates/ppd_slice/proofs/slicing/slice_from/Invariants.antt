@@ -1,8 +1,8 @@
 use Rattle.std.proofs.Common.{◌≡◌, ℕ, ◌<◌, Some}
 use Rattle.std.specs.Prelude.{slice_get}
-use Rattle.ppd_flow_past.specs.Keeping.{AreKeptOf, RoseByKept}
+use Rattle.ppd_flow_past.specs.Keeping.{RoseByKept}
 use Rattle.ppd_slice_model.specs.declared.reached.Reached.{Reached}
-use Rattle.ppd_slice.specs.Asked.{AreKeptAmong}
+use Rattle.ppd_slice.specs.Asked.{AreKeptAmong, IsKept}
 use Rattle.ppd_slice.specs.Slices.{IsAnsweredFor, origins_in}
 use Rattle.ppd_slice.proofs.Searching.{IsSearch}
 use Rattle.ppd_slice.proofs.slicing.slice_from.Given as goal
@@ -11,7 +11,7 @@ abbrev pub invariant-loop-number : goal.invariant-loop-number
 invariant-loop-number g l = record {
   searched : IsSearch (origins_in l.past) l.fn.start l.number l.search;
   answered : (i : ℕ) (r : Reached) → i < l.number → slice_get l.search i ≡ Some r → IsAnsweredFor l.past r;
-  kept : AreKeptOf l.past l.kept;
-  among : AreKeptAmong l.search l.kept;
-  cost : RoseByKept l.past l.initial.kept l.kept l.initial.steps l.steps;
+  kept : IsKept l.past l.kept;
+  among : AreKeptAmong l.search l.kept.replays;
+  cost : RoseByKept l.past l.initial.kept.replays l.kept.replays l.initial.steps l.steps;
 }

@@ -1,4 +1,4 @@
-use Rattle.std.proofs.Common.{ℕ, drop, Result, Option}
+use Rattle.std.proofs.Common.{ℕ, drop, reverse, Result, Option}
 use Rattle.ppd_model.specs.declared.flow.Origin.{Origin}
 use Rattle.ppd_flow_past.specs.declared.flow_error.FlowError.{FlowError}
 use Rattle.ppd_flow_local.specs.Searches.{IsFound}
@@ -8,5 +8,5 @@ use Rattle.ppd_flow_local.proofs.search.Search.in_loops.Given as goal
 abbrev pub invariant-loop-place : goal.invariant-loop-place
 invariant-loop-place g l =
     (o : ℕ) (r : Result (Option Origin) FlowError)
-    → IsFound l.self (all_replays l.self l.cell (drop l.place l.loops)) (found_in l.self l.cell (drop l.place l.loops)) l.steps o r
-    → IsFound l.self (all_replays l.self l.cell l.loops) (found_in l.self l.cell l.loops) l.initial.steps o r
+    → IsFound l.self (all_replays l.self l.cell (drop l.place (reverse l.loops))) (found_in l.self l.cell (drop l.place (reverse l.loops))) l.steps o r
+    → IsFound l.self (all_replays l.self l.cell (reverse l.loops)) (found_in l.self l.cell (reverse l.loops)) l.initial.steps o r

@@ -1,22 +1,29 @@
-use Rattle.std.proofs.Common.{Err, Ok, Some}
-use Rattle.std.proofs.lemmas.Result.{err_from_is_err_and}
+use Rattle.std.proofs.Common.{List, ap, refl, reverse, take, ℕ}
+use Rattle.ppd_flow_model.specs.Locals.{scan}
+use Rattle.ppd_flow_model.specs.Seen.{items_at}
+use Rattle.ppd_flow_local.specs.Searches.{plan_in, program_in, seen}
+use Rattle.ppd_flow_local.proofs.Places.{table_at}
 use Rattle.ppd_flow_local.specs.Scans.{scanned}
-use Rattle.ppd_flow_local.proofs.Joined.{else_either, failed, some_either}
-use Rattle.ppd_flow_local.proofs.Rounds.{by_scan}
+use Rattle.ppd_flow_local.proofs.Rounds.{by_last}
 use Rattle.ppd_flow_local.proofs.search.Search.local_in.Goals as goal
 
-pub returns-in-None : goal.returns-in-None
-returns-in-None g c =
-    by_scan c.args.self.now c.args.place.now.interval c.args.place.now.item c.args.wanted.frame c.args.wanted.cell c.args.place.now.items.now (scanned c.in_ok-state.state) c.args.steps.now c.writer_at.new.steps c.writer_at.result c.requires.place.items_are c.in_ok-state.ensures
-    (else_either c.args.self.now _ _ _ _ c.args.steps.now c.in_loops.new.steps c.writer_at.new.steps c.writer_at.result (rw c.in-None.is at c.in_ok-in_loops.ensures) c.writer_at.ensures)
+pub returns-in-Some : goal.returns-in-Some
+returns-in-Some g c =
+    let s = c.args.self.now in
+    let table = table_at (program_in s) (plan_in s) (items_at (seen s) c.args.place.now.interval) c.args.place.now.items.now
+    c.in-Some.tables.now.locals c.requires.place.items_are c.in-Some.ensures.0 in
+    let last = c.last_write-last.ensures (program_in s) (plan_in s) c.args.place.now.items.now table
+    c.requires.place.within in
+    by_last s c.args.place.now.interval c.args.place.now.item c.args.wanted.frame c.args.wanted.cell
+    c.args.place.now.items.now
+    (scan (program_in s) (plan_in s) c.args.wanted.frame c.args.wanted.cell
+    (take c.args.place.now.item c.args.place.now.items.now)) (reverse c.last_write-last.result.loops.now)
+    c.last_write-last.result.writer c.args.steps.now c.written.new.steps c.written.result c.requires.place.items_are
+    refl last.loops last.writer c.written.ensures
 
 pub returns : goal.returns
 returns g c =
-    by_scan c.args.self.now c.args.place.now.interval c.args.place.now.item c.args.wanted.frame c.args.wanted.cell c.args.place.now.items.now (scanned c.in_ok-state.state) c.args.steps.now c.in_loops.new.steps (Ok (Some c.in-Some.origin)) c.requires.place.items_are c.in_ok-state.ensures
-    (some_either c.args.self.now _ _ _ _ c.in-Some.origin c.args.steps.now c.in_loops.new.steps (rw c.in-Some.is at c.in_ok-in_loops.ensures))
-
-pub returns-in_err-in_loops : goal.returns-in_err-in_loops
-returns-in_err-in_loops g c =
-    let e = err_from_is_err_and c.from_residual-in_err-in_loops.result c.from_residual-in_err-in_loops.ensures.1 in
-    rw (e.1, e.2) (by_scan c.args.self.now c.args.place.now.interval c.args.place.now.item c.args.wanted.frame c.args.wanted.cell c.args.place.now.items.now (scanned c.in_ok-state.state) c.args.steps.now c.in_loops.new.steps (Err c.in_err-in_loops.field-0.0) c.requires.place.items_are c.in_ok-state.ensures
-    (failed c.args.self.now _ _ _ _ c.args.steps.now c.in_loops.new.steps c.in_err-in_loops.field-0.0 c.in_err-in_loops.ensures))
+    by_last c.args.self.now c.args.place.now.interval c.args.place.now.item c.args.wanted.frame c.args.wanted.cell
+    c.args.place.now.items.now (scanned c.in_ok-state.state) (reverse c.as_slice.result.now) c.in_ok-state.state.writer
+    c.args.steps.now c.written-2.new.steps c.written-2.result c.requires.place.items_are c.in_ok-state.ensures
+    (ap (λ (ms : List ℕ). reverse ms) c.as_slice.ensures) refl c.written-2.ensures

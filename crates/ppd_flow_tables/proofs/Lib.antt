@@ -1,0 +1,2 @@
+mod Passing
+pub mod Tabled

@@ -1,0 +1,2 @@
+-- Tables that are at hand of the intervals of a past.
+pub mod Tabled

@@ -1,0 +1,80 @@
+// Tables that are kept with replays while questions about them go on.
+ghost use Rattle.std.specs.Prelude.{◌≡◌, [], IfOk, get_or};
+ghost use Rattle.ppd_flow_past.specs.declared.past.Past.{Past};
+ghost use Rattle.ppd_flow_past.specs.Keeping.{AreKeptOf};
+ghost use Rattle.ppd_flow_past.specs.Pasts.{IsPast};
+ghost use Rattle.ppd_flow_tables.specs.Tabled.{AreOfProcesses, AreTablesOf};
+
+use crate::process::ProcessTables;
+use crate::tables::Tables;
+use ppd_ast::{Memory, Seq};
+use ppd_flow_past::Past;
+use ppd_model::Item;
+use std::alloc::Global;
+use std::marker::Model;
+
+/// The tables of processes whose replays are kept.
+#[derive(Drop)]
+pub struct KeptTables {
+    processes: Seq<Option<ProcessTables>>,
+}
+
+impl Model for KeptTables {
+    ghost use Rattle.std.specs.Prelude.{List, Option};
+    ghost use Rattle.ppd_flow_tables.specs.declared.process.ProcessTables.{ProcessTables};
+
+    ghost Value = { List (Option ProcessTables) };
+
+    ghost view = { λ s. s.processes };
+}
+
+fn rows_of(kept: &[Seq<Seq<Item>>], process: u8) -> &[Seq<Item>]
+    ensures { result.now ≡ get_or kept.now process [] }
+{
+    match kept.get(process as usize) {
+        Some(rows) => rows.as_slice(),
+        None => &[],
+    }
+}
+
+impl KeptTables {
+    /// None yet, of the processes of a past. `Memory` is want of memory.
+    pub fn new(alloc: Global, past: &Past) -> Result<KeptTables, Memory>
+        ensures { IfOk result (AreOfProcesses past.now) }
+    {
+        let mut processes = Seq::new(alloc);
+        for _process in 0..past.cut.lists.len() {
+            processes.push(None)?;
+        }
+        Ok(KeptTables { processes })
+    }
+
+    /// The tables that are at hand now.
+    pub fn tables(&self) -> Tables<'_>
+        ensures { (past : Past) → AreOfProcesses past self.now → AreTablesOf past result }
+    {
+        Tables::Kept(self.processes.as_slice())
+    }
+
+    /// Makes the tables of a process, if they are not there yet, from the replays that are kept of it. `Memory` is want
+    /// of memory, also for items, entries and edges that have no 32-bit numbers.
+    pub fn make(
+        &mut self,
+        alloc: Global,
+        past: &Past,
+        kept: &[Seq<Seq<Item>>],
+        process: u8,
+    ) -> Result<(), Memory>
+        requires past { IsPast past.now }
+        requires kept { AreKeptOf past.now kept.now }
+        requires tables { AreOfProcesses past.now self.old }
+        ensures { AreOfProcesses past.now self.new }
+    {
+        if let Some(Some(_)) = self.processes.get(process as usize) {
+            return Ok(());
+        }
+        let tables = ProcessTables::new(alloc, past, process, rows_of(kept, process))?;
+        self.processes.set(process as usize, Some(tables));
+        Ok(())
+    }
+}
