@@ -12,8 +12,8 @@ use crate::search::CellSearch;
 use crate::written::written_or_start;
 use ppd_ast::{Memory, Steps};
 use ppd_flow_model::Walked;
-use ppd_flow_past::{FlowError, Past, greatest_before, greatest_writing};
-use ppd_flow_tables::{Tables, edge_at};
+use ppd_flow_past::{FlowError, Past, greatest_writing};
+use ppd_flow_tables::{Tables, edge_at, greatest_before};
 use ppd_model::{EdgeId, Item, Origin};
 use std::alloc::Global;
 use std::sync::ledger::Ledger;
@@ -33,12 +33,19 @@ impl<'a> CellSearch<'a> {
             (edge_of_place self.now.past.now.logs.now (seens_in self.now.past.now) self.now.process interval place)
             self.now.cell) }
     {
-        let edge = edge_at(self.past, &self.tables, self.process, interval, items, place)?;
+        let edge = edge_at(
+            self.past,
+            &self.tables,
+            self.process,
+            interval,
+            items,
+            place,
+        )?;
         let own = EdgeId {
             process: self.process,
             edge,
         };
-        greatest_before(self.past, own, self.cell)
+        greatest_before(self.past, &self.tables, own, self.cell)
     }
 
     /// The edge before that of a place, in an interval whose items these are, in which the cell was written last that

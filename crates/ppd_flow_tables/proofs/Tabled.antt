@@ -11,11 +11,13 @@ use Rattle.ppd_flow_places.specs.Tables.{IsEdgeTable, IsPlaceTable}
 use Rattle.ppd_flow_past.specs.Keeping.{AreFirstItems, AreKeptOf}
 use Rattle.ppd_flow_past.specs.SeenBy.{items_in}
 use Rattle.ppd_model.specs.declared.flow.Item.{Item}
+use Rattle.ppd_flow_writers.specs.declared.by_cell.WritingEdges.{WritingEdges}
+use Rattle.ppd_flow_writers.specs.Writing.{AreWritingEdges}
 use Rattle.ppd_flow_tables.specs.declared.block.BlockTables.{BlockTables}
 use Rattle.ppd_flow_tables.specs.declared.process.ProcessTables.{ProcessTables}
 use Rattle.ppd_flow_tables.specs.declared.tables.Tables.{Tables}
 use Rattle.ppd_flow_tables.specs.declared.tables.Tables.TheVariants.{Nothing, Block, Kept}
-use Rattle.ppd_flow_tables.specs.Tabled.{AreOfFirst, AreOfProcess, AreOfProcesses, AreTablesOf, IsOfInterval, block_in, blocks_of, edges_in, edges_of}
+use Rattle.ppd_flow_tables.specs.Tabled.{AreOfFirst, AreOfProcess, AreOfProcesses, AreTablesOf, IsOfInterval, block_in, blocks_of, edges_in, edges_of, writing_in}
 
 -- ---- lists
 
@@ -96,7 +98,7 @@ pub block_is : (past : Past) (ts : Tables) (p k : ℕ) (b : BlockTables) → Are
     → block_in ts p k ≡ Some b → IsOfInterval past p k b
 block_is past Nothing p k b all e = absurd (none-some b e)
 block_is past (Block q m t) p k b all e = one_block past p k q m (nat_eq p q) (nat_eq k m) refl refl t.now b all e
-block_is past (Kept ts) p k b all e = block_of_process past p k (get_or ts.now p None) (all p) b e
+block_is past (Kept ts w) p k b all e = block_of_process past p k (get_or ts.now p None) (all.0 p) b e
 
 edges_of_process : (past : Past) (p : ℕ) (o : Option ProcessTables)
     → ((t : ProcessTables) → o ≡ Some t → AreOfProcess past p t)
@@ -109,7 +111,14 @@ pub edges_are : (past : Past) (ts : Tables) (p : ℕ) (b : EdgeTable) → AreTab
     → IsEdgeTable (entries_at past.logs.now p) b
 edges_are past Nothing p b all e = absurd (none-some b e)
 edges_are past (Block q m t) p b all e = absurd (none-some b e)
-edges_are past (Kept ts) p b all e = edges_of_process past p (get_or ts.now p None) (all p) b e
+edges_are past (Kept ts w) p b all e = edges_of_process past p (get_or ts.now p None) (all.0 p) b e
+
+pub writing_is : (past : Past) (ts : Tables) (w : WritingEdges) → AreTablesOf past ts → writing_in ts ≡ Some w
+    → AreWritingEdges past.graph.now.edges w
+writing_is past Nothing w all e = absurd (none-some w e)
+writing_is past (Block q m t) w all e = absurd (none-some w e)
+writing_is past (Kept ts v) w all e =
+    subst (λ (u : WritingEdges). AreWritingEdges past.graph.now.edges u) (same_Some v.now w e) all.1
 
 pub places_at : (past : Past) (ts : Tables) (p k : ℕ) (b : BlockTables) (items : List Item) → AreTablesOf past ts
     → Some b ≡ block_in ts p k → items ≡ items_in past p k

@@ -7,7 +7,10 @@ use Rattle.ppd_flow_past.specs.Pasts.{IsPast}
 use Rattle.ppd_flow_past.specs.SeenBy.{items_in}
 use Rattle.ppd_flow_places.specs.declared.edge_table.EdgeTable.{EdgeTable}
 use Rattle.ppd_flow_places.specs.Tables.{IsEdgeTable, IsPlaceTable}
+use Rattle.ppd_flow_writers.specs.declared.by_cell.WritingEdges.{WritingEdges}
+use Rattle.ppd_flow_writers.specs.Writing.{AreWritingEdges}
 use Rattle.ppd_flow_tables.specs.declared.block.BlockTables.{BlockTables}
+use Rattle.ppd_flow_tables.specs.declared.kept.KeptTables.{KeptTables}
 use Rattle.ppd_flow_tables.specs.declared.process.ProcessTables.{ProcessTables}
 use Rattle.ppd_flow_tables.specs.declared.tables.Tables.{Tables}
 use Rattle.ppd_flow_tables.specs.declared.tables.Tables.TheVariants.{Nothing, Block, Kept}
@@ -26,13 +29,19 @@ edges_of (Some t) = Some t.edges
 abbrev pub block_in : Tables → (p k : ℕ) → Option BlockTables
 block_in Nothing p k = None
 block_in (Block q m t) p k = if nat_eq p q && nat_eq k m then Some t.now else None
-block_in (Kept ts) p k = slice_get (blocks_of (get_or ts.now p None)) k
+block_in (Kept ts w) p k = slice_get (blocks_of (get_or ts.now p None)) k
 
 -- the table of the internal edges of process p, if it is at hand
 abbrev pub edges_in : Tables → ℕ → Option EdgeTable
 edges_in Nothing p = None
 edges_in (Block q m t) p = None
-edges_in (Kept ts) p = edges_of (get_or ts.now p None)
+edges_in (Kept ts w) p = edges_of (get_or ts.now p None)
+
+-- the edges that write each cell, if they are at hand
+abbrev pub writing_in : Tables → Option WritingEdges
+writing_in Nothing = None
+writing_in (Block q m t) = None
+writing_in (Kept ts w) = Some w.now
 
 -- ---- of a past
 
@@ -58,7 +67,12 @@ AreOfProcesses past ts = (p : ℕ) (t : ProcessTables) → get_or ts p None ≡ 
 abbrev pub AreTablesOf : Past → Tables → Type 0
 AreTablesOf past Nothing = ⊤
 AreTablesOf past (Block p k t) = IsOfInterval past p k t.now
-AreTablesOf past (Kept ts) = AreOfProcesses past ts.now
+AreTablesOf past (Kept ts w) = AreOfProcesses past ts.now × AreWritingEdges past.graph.now.edges w.now
+
+-- so are those that are kept
+pub record AreKeptTables (past : Past) (kept : KeptTables) : Type 0 where
+  pub processes : AreOfProcesses past kept.processes
+  pub writing : AreWritingEdges past.graph.now.edges kept.writing
 
 -- the parts of the past belong together, and the tables are its own
 pub record IsTabled (past : Past) (tables : Tables) : Type 0 where

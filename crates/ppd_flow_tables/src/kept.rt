@@ -3,29 +3,21 @@ ghost use Rattle.std.specs.Prelude.{◌≡◌, [], IfOk, get_or};
 ghost use Rattle.ppd_flow_past.specs.declared.past.Past.{Past};
 ghost use Rattle.ppd_flow_past.specs.Keeping.{AreKeptOf};
 ghost use Rattle.ppd_flow_past.specs.Pasts.{IsPast};
-ghost use Rattle.ppd_flow_tables.specs.Tabled.{AreOfProcesses, AreTablesOf};
+ghost use Rattle.ppd_flow_tables.specs.Tabled.{AreKeptTables, AreOfProcesses, AreTablesOf};
 
 use crate::process::ProcessTables;
 use crate::tables::Tables;
 use ppd_ast::{Memory, Seq};
 use ppd_flow_past::Past;
+use ppd_flow_writers::{WritingEdges, writing_edges};
 use ppd_model::Item;
 use std::alloc::Global;
-use std::marker::Model;
 
-/// The tables of processes whose replays are kept.
+/// The tables of processes whose replays are kept, and the edges of all processes that write each cell.
 #[derive(Drop)]
 pub struct KeptTables {
-    processes: Seq<Option<ProcessTables>>,
-}
-
-impl Model for KeptTables {
-    ghost use Rattle.std.specs.Prelude.{List, Option};
-    ghost use Rattle.ppd_flow_tables.specs.declared.process.ProcessTables.{ProcessTables};
-
-    ghost Value = { List (Option ProcessTables) };
-
-    ghost view = { λ s. s.processes };
+    pub(crate) processes: Seq<Option<ProcessTables>>,
+    pub(crate) writing: WritingEdges,
 }
 
 fn rows_of(kept: &[Seq<Seq<Item>>], process: u8) -> &[Seq<Item>]
@@ -37,23 +29,36 @@ fn rows_of(kept: &[Seq<Seq<Item>>], process: u8) -> &[Seq<Item>]
     }
 }
 
+/// None yet of each process of a past. `Memory` is want of memory.
+fn none_of(alloc: Global, past: &Past) -> Result<Seq<Option<ProcessTables>>, Memory>
+    ensures { IfOk result (AreOfProcesses past.now) }
+{
+    let mut processes = Seq::new(alloc);
+    for _process in 0..past.cut.lists.len() {
+        processes.push(None)?;
+    }
+    Ok(processes)
+}
+
 impl KeptTables {
-    /// None yet, of the processes of a past. `Memory` is want of memory.
+    /// None yet, of the processes of a past. `Memory` is want of memory, also for processes that have no 8-bit numbers.
     pub fn new(alloc: Global, past: &Past) -> Result<KeptTables, Memory>
-        ensures { IfOk result (AreOfProcesses past.now) }
+        requires { IsPast past.now }
+        ensures { IfOk result (AreKeptTables past.now) }
     {
-        let mut processes = Seq::new(alloc);
-        for _process in 0..past.cut.lists.len() {
-            processes.push(None)?;
-        }
-        Ok(KeptTables { processes })
+        let writing = writing_edges(alloc, past)?;
+        let processes = none_of(alloc, past)?;
+        Ok(KeptTables { processes, writing })
     }
 
     /// The tables that are at hand now.
     pub fn tables(&self) -> Tables<'_>
-        ensures { (past : Past) → AreOfProcesses past self.now → AreTablesOf past result }
+        ensures { (past : Past) → AreKeptTables past self.now → AreTablesOf past result }
     {
-        Tables::Kept(self.processes.as_slice())
+        Tables::Kept {
+            processes: self.processes.as_slice(),
+            writing: &self.writing,
+        }
     }
 
     /// Makes the tables of a process, if they are not there yet, from the replays that are kept of it. `Memory` is want
@@ -67,8 +72,8 @@ impl KeptTables {
     ) -> Result<(), Memory>
         requires past { IsPast past.now }
         requires kept { AreKeptOf past.now kept.now }
-        requires tables { AreOfProcesses past.now self.old }
-        ensures { AreOfProcesses past.now self.new }
+        requires tables { AreKeptTables past.now self.old }
+        ensures { AreKeptTables past.now self.new }
     {
         if let Some(Some(_)) = self.processes.get(process as usize) {
             return Ok(());

@@ -3,6 +3,7 @@ ghost use Rattle.std.specs.Prelude.{◌≡◌, IfOk, position, take};
 ghost use Rattle.ppd_entry.specs.Entries.{entries_at};
 ghost use Rattle.ppd_flow_model.specs.Ends.{end_interval as end_interval_of, first_edge as first_edge_of, sync_item as sync_item_in};
 ghost use Rattle.ppd_flow_model.specs.Seen.{is_item_of, place_of as place_among};
+ghost use Rattle.ppd_flow_model.specs.Shared.{greatest_before as greatest_before_of};
 ghost use Rattle.ppd_flow_past.specs.SeenBy.{items_in};
 ghost use Rattle.ppd_flow_past.specs.declared.past.Past.{Past};
 ghost use Rattle.ppd_flow_places.specs.Stops.{ArePassed, after};
@@ -11,7 +12,10 @@ ghost use Rattle.ppd_flow_tables.specs.Tabled.{AreTablesOf, IsTabled};
 
 use crate::tables::Tables;
 use ppd_ast::Memory;
-use ppd_flow_past::{Past, edge_at as edge_among, end_interval as end_among, sync_item as sync_among};
+use ppd_flow_past::{
+    Past, edge_at as edge_among, end_interval as end_among, greatest_before as greatest_among,
+    sync_item as sync_among,
+};
 use ppd_model::{EdgeId, Item};
 
 fn is_interval(interval: u32, item: &Item) -> bool
@@ -19,7 +23,10 @@ fn is_interval(interval: u32, item: &Item) -> bool
 {
     match item {
         Item::Own(_) => false,
-        Item::Nested { interval: inner, .. } => interval == *inner,
+        Item::Nested {
+            interval: inner,
+            ..
+        } => interval == *inner,
     }
 }
 
@@ -39,7 +46,11 @@ fn place_in(interval: u32, items: &[Item]) -> usize
 fn first_items(items: &[Item], count: usize) -> &[Item]
     ensures { result.now ≡ take count items.now }
 {
-    if count < items.len() { &items[..count] } else { items }
+    if count < items.len() {
+        &items[..count]
+    } else {
+        items
+    }
 }
 
 /// The last place before this one, if there is one.
@@ -131,5 +142,23 @@ pub fn stop_before(
     match tables.block(process, interval) {
         Some(tables) => tables.places.stop_before(cell, place),
         None => last_before(place.min(items.len())),
+    }
+}
+
+/// The greatest internal edge by happened-before among those that are before an edge and whose recorded write set has
+/// the cell, if there is one. `Memory` is want of memory, also for edges that have no numbers.
+pub fn greatest_before(
+    past: &Past,
+    tables: &Tables,
+    edge: EdgeId,
+    cell: u16,
+) -> Result<Option<EdgeId>, Memory>
+    requires { IsTabled past.now tables.now }
+    ensures { IfOk result
+        (λ best. best ≡ greatest_before_of past.now.program.now past.now.logs.now edge cell) }
+{
+    match tables.writing() {
+        Some(writing) => Ok(writing.greatest_uncounted(past, edge, cell)),
+        None => greatest_among(past, edge, cell),
     }
 }

@@ -1,10 +1,11 @@
 ghost use Rattle.std.specs.Prelude.{◌≡◌, IfSome, None, get_or, option_copied, slice_get};
 ghost use Rattle.ppd_flow_past.specs.declared.past.Past.{Past};
-ghost use Rattle.ppd_flow_tables.specs.Tabled.{AreTablesOf, IsOfInterval, block_in, blocks_of, edges_in, edges_of};
+ghost use Rattle.ppd_flow_tables.specs.Tabled.{AreTablesOf, IsOfInterval, block_in, blocks_of, edges_in, edges_of, writing_in};
 
 use crate::block::BlockTables;
 use crate::process::ProcessTables;
 use ppd_flow_places::EdgeTable;
+use ppd_flow_writers::WritingEdges;
 use ppd_model::Item;
 
 /// The tables that are at hand in a search: none, those of one interval, or those of processes that are kept.
@@ -18,8 +19,11 @@ pub enum Tables<'a> {
         interval: u32,
         tables: &'a BlockTables,
     },
-    /// Those of each process that is kept, by its number.
-    Kept(&'a [Option<ProcessTables>]),
+    /// Those of each process that is kept, by its number, and the edges of all that write each cell.
+    Kept {
+        processes: &'a [Option<ProcessTables>],
+        writing: &'a WritingEdges,
+    },
 }
 
 /// The items of an interval, with their tables where they were made.
@@ -91,7 +95,7 @@ impl<'a> Tables<'a> {
                     None
                 }
             }
-            Tables::Kept(processes) => block_at(processes, process, interval),
+            Tables::Kept { processes, .. } => block_at(processes, process, interval),
         }
     }
 
@@ -101,7 +105,17 @@ impl<'a> Tables<'a> {
     {
         match self {
             Tables::Nothing | Tables::Block { .. } => None,
-            Tables::Kept(processes) => edges_at(processes, process),
+            Tables::Kept { processes, .. } => edges_at(processes, process),
+        }
+    }
+
+    /// The edges that write each cell, if they are at hand.
+    pub fn writing(&self) -> Option<&'a WritingEdges>
+        ensures { option_copied result ≡ writing_in self.now }
+    {
+        match self {
+            Tables::Nothing | Tables::Block { .. } => None,
+            Tables::Kept { writing, .. } => Some(*writing),
         }
     }
 }

@@ -20,6 +20,7 @@ pub(crate) struct Kept {
 impl Kept {
     /// None yet. `Memory` is want of memory.
     pub(crate) fn new(alloc: Global, past: &Past) -> Result<Kept, Memory>
+        requires past { IsPast past.now }
         ensures of { IfOk result (IsKept past.now) }
         ensures none { IfOk result (λ kept. IsNoneKept kept.replays) }
     {
@@ -50,7 +51,10 @@ pub(crate) fn keep<L: Ledger>(
     ensures error { IfErr result (IsReplayFailure past.now) }
 {
     match kept.replays.keep(alloc, past, process, steps) {
-        Ok(()) => match kept.tables.make(alloc, past, kept.replays.as_slice(), process) {
+        Ok(()) => match kept
+            .tables
+            .make(alloc, past, kept.replays.as_slice(), process)
+        {
             Ok(()) => Ok(()),
             Err(Memory) => Err(FlowError::Memory),
         },
