@@ -2,11 +2,10 @@
 use Rattle.std.proofs.Common.{◌≡◌, ℕ, ◌+◌, ◌<◌, List, [], ◌∷◌, ◌++◌, length, map, drop, take, get_or, Option, Some, None, Result, Ok, Err, refl, ap, ap₂, sym, subst, ◌∙◌}
 use Rattle.std.specs.List.{AllZip}
 use Rattle.ppd_entry.specs.declared.entry.At.{At}
-use Rattle.ppd_entry.specs.Entries.{entries_at}
 use Rattle.ppd_model.specs.declared.flow.Item.{Item}
 use Rattle.ppd_flow_past.specs.declared.past.Past.{Past}
 use Rattle.ppd_flow_past.specs.ByReplays.{failure_or, first_failed_in}
-use Rattle.ppd_flow_past.specs.SeenBy.{failed_at, failed_in, items_in, steps_in}
+use Rattle.ppd_flow_past.specs.SeenBy.{failed_in, items_in, steps_in}
 use Rattle.ppd_whole_replays.specs.declared.whole_error.WholeError.{WholeError}
 use Rattle.ppd_whole_replays.specs.declared.whole_error.WholeError.TheVariants.{Diverged, Memory}
 use Rattle.std.specs.Prelude.{IfErr, IfOk}

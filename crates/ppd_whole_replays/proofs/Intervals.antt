@@ -1,8 +1,8 @@
 -- The intervals of all processes, one process after the other.
-use Rattle.std.proofs.Common.{◌≡◌, ℕ, zero, suc, ◌+◌, ◌<◌, ◌≤◌, List, [], ◌∷◌, ◌++◌, length, map, drop, take, get_or, refl, ap, ap₂, sym, subst, ◌∙◌, arith}
+use Rattle.std.proofs.Common.{◌≡◌, ℕ, zero, suc, ◌+◌, ◌<◌, List, [], ◌∷◌, ◌++◌, length, map, drop, take, get_or, refl, ap, ap₂, sym, ◌∙◌, arith}
 use Rattle.std.specs.List.{flat_map, range_with_len}
 use Rattle.std.proofs.Math.ListN as math
-use Rattle.std.proofs.lemmas.List.{append_assoc, drop_all, drop_more, length-map, map-append, take_more}
+use Rattle.std.proofs.lemmas.List.{drop_all, drop_more, length-map, map-append, take_more}
 use Rattle.std.proofs.lemmas.List.FromFn.{fill_by_all}
 use Rattle.std.proofs.lemmas.Simd.{map-map}
 use Rattle.ppd_entry.specs.declared.entry.Entry.{Entry}

@@ -1,6 +1,5 @@
-use Rattle.std.proofs.Common.{◌≡◌, ◌+◌, ◌<◌, Bool, false, length, take, Result, Ok, Err, arith}
+use Rattle.std.proofs.Common.{◌≡◌, false, Result, Ok, Err, arith}
 use Rattle.std.specs.Result.{OnOk, is_err}
-use Rattle.ppd_whole_replays.specs.Costs.{replays_cost}
 use Rattle.ppd_whole_replays.proofs.Gathered.{cost_at, fails_at, good_at, rows_at}
 use Rattle.ppd_whole_replays.proofs.in_turn.rows_in.Goals as goal
 

@@ -1,6 +1,5 @@
-use Rattle.std.proofs.Common.{◌≡◌, ◌∙◌, ◌++◌, [], ◌∷◌, Ok, Err, List, Result, ap, map, sym}
-use Rattle.std.proofs.lemmas.List.{map-append}
-use Rattle.ppd_whole_replays.proofs.Gathered.{rows_on, stops}
+use Rattle.std.proofs.Common.{◌∙◌, ◌∷◌, ap}
+use Rattle.ppd_whole_replays.proofs.Gathered.{stops}
 use Rattle.ppd_whole_replays.proofs.replays.rows_of.Goals as goal
 
 pub returns-in-Err-clause-err : goal.returns-in-Err-clause-err
