@@ -13,7 +13,8 @@ use ppd_ast::Steps;
 use ppd_flow_past::Past;
 use ppd_graph::SyncGraph;
 use ppd_model::EdgeId;
-use std::sync::ledger::Ledger;
+use std::marker::Brand;
+use std::sync::ledger::{Blank, Ledger};
 
 /// How many edges of a process are before an edge; of another process none are before an edge that is not there.
 fn limit(graph: &SyncGraph, edge: EdgeId, process: u8) -> u32
@@ -117,5 +118,33 @@ impl WritingEdges {
             best = later(past, best, process as u8, last);
         }
         best
+    }
+
+    /// The same edge, with steps that nobody reads.
+    fn greatest_from<L: Ledger>(
+        &self,
+        past: &Past,
+        edge: EdgeId,
+        cell: u16,
+        blank: Blank,
+    ) -> Option<EdgeId>
+        requires past { IsPast past.now }
+        requires edges { AreWritingEdges past.now.graph.now.edges self.now }
+        requires name { blank.name ≡ L.name }
+        requires parts { blank.parts ≡ L.parts }
+        requires some { 0 < blank.parts }
+        ensures { result ≡ greatest_before_of past.now.program.now past.now.logs.now edge cell }
+    {
+        let mut steps: Steps<L> = Steps::new(blank);
+        self.greatest_before(past, edge, cell, &mut steps)
+    }
+
+    /// The edge that `greatest_before` finds, in as many steps, which are not counted.
+    pub fn greatest_uncounted(&self, past: &Past, edge: EdgeId, cell: u16) -> Option<EdgeId>
+        requires past { IsPast past.now }
+        requires edges { AreWritingEdges past.now.graph.now.edges self.now }
+        ensures { result ≡ greatest_before_of past.now.program.now past.now.logs.now edge cell }
+    {
+        self.greatest_from::<Brand>(past, edge, cell, Blank::new(1))
     }
 }
