@@ -91,7 +91,12 @@ fn edges_in<L: Ledger>(
 }
 
 /// The edges of an item, by replays of other intervals than its own.
-fn edges_of(alloc: Global, past: &Past, block: &Block, item: u32) -> Result<Seq<FlowEdge>, FlowError>
+fn edges_of(
+    alloc: Global,
+    past: &Past,
+    block: &Block,
+    item: u32,
+) -> Result<Seq<FlowEdge>, FlowError>
     requires past { IsPast past.now }
     requires uncut { past.now.cut.now ≡ past.now.logs.now }
     requires told { told_at (known_by past.now []) block.now.process block.now.interval
