@@ -56,7 +56,14 @@ fn pair_edge<L: Ledger>(
         interval: place.interval,
         item: place.item,
     };
-    match pair_origin(search.alloc, search.past, &search.tables, at, place.items, steps)? {
+    match pair_origin(
+        search.alloc,
+        search.past,
+        &search.tables,
+        at,
+        place.items,
+        steps,
+    )? {
         Some(from) => Ok(Some(sync_edge(from))),
         None => Ok(None),
     }

@@ -147,7 +147,13 @@ impl<'a> Search<'a> {
             return self.written(place.interval, last.writer, last.loops, cell, steps);
         }
         let state = self.scanned(wanted, &place.items[..place.item])?;
-        self.written(place.interval, state.writer, state.loops.as_slice(), cell, steps)
+        self.written(
+            place.interval,
+            state.writer,
+            state.loops.as_slice(),
+            cell,
+            steps,
+        )
     }
 
     /// The call, for a parameter of an interval of a function; else the start value.

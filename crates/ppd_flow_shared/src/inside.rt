@@ -44,7 +44,12 @@ pub(crate) fn over_items<L: Ledger>(
         (back_from place items.now)))
         steps.old steps.new result }
 {
-    let CellSearch { tables, process, cell, .. } = *search;
+    let CellSearch {
+        tables,
+        process,
+        cell,
+        ..
+    } = *search;
     let mut left = place;
     while let Some(at) = stop_before(&tables, process, interval, items, cell, left) {
         let walked = over_item(search, depth, (interval, at), &items[at], steps)?;

@@ -24,26 +24,20 @@ pub struct Place {
 
 /// What leads to the synchronization at a place of an interval, whose items these are. `Memory` is want of memory, also
 /// for places that have no 32-bit numbers.
-pub fn pair_of(
-    past: &Past,
-    tables: &Tables,
-    place: Place,
-    items: &[Item],
-) -> Result<Paired, Memory>
+pub fn pair_of(past: &Past, tables: &Tables, place: Place, items: &[Item]) -> Result<Paired, Memory>
     requires past { IsTabled past.now tables.now }
     requires items { items.now ≡ items_in past.now place.process place.interval }
     ensures { IfOk result (λ pair. pair
         ≡ pair_of_place past.now.program.now past.now.logs.now (seens_in past.now) place.process place.interval
         place.item) }
 {
-    let Place { process, interval, item } = place;
+    let Place {
+        process,
+        interval,
+        item,
+    } = place;
     let sync = edge_at(past, tables, process, interval, items, item)?;
-    Ok(
-        past.graph.paired(NodeId {
-            process,
-            sync,
-        }),
-    )
+    Ok(past.graph.paired(NodeId { process, sync }))
 }
 
 // Where a synchronization is an item.

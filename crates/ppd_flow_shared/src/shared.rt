@@ -33,7 +33,14 @@ impl<'a> CellSearch<'a> {
             (edge_of_place self.now.past.now.logs.now (seens_in self.now.past.now) self.now.process interval place)
             self.now.cell) }
     {
-        let edge = edge_at(self.past, &self.tables, self.process, interval, items, place)?;
+        let edge = edge_at(
+            self.past,
+            &self.tables,
+            self.process,
+            interval,
+            items,
+            place,
+        )?;
         let own = EdgeId {
             process: self.process,
             edge,

@@ -8,6 +8,7 @@ use Rattle.ppd_flow_past.specs.SeenBy.{items_in}
 use Rattle.ppd_flow_places.specs.declared.edge_table.EdgeTable.{EdgeTable}
 use Rattle.ppd_flow_places.specs.Tables.{IsEdgeTable, IsPlaceTable}
 use Rattle.ppd_flow_tables.specs.declared.block.BlockTables.{BlockTables}
+use Rattle.ppd_flow_tables.specs.declared.kept.KeptTables.{KeptTables}
 use Rattle.ppd_flow_tables.specs.declared.process.ProcessTables.{ProcessTables}
 use Rattle.ppd_flow_tables.specs.declared.tables.Tables.{Tables}
 use Rattle.ppd_flow_tables.specs.declared.tables.Tables.TheVariants.{Nothing, Block, Kept}
@@ -53,6 +54,10 @@ AreOfProcess past p t = IsEdgeTable (entries_at past.logs.now p) t.edges × AreO
 -- whatever is there are the tables of the process of that number
 abbrev pub AreOfProcesses : Past → List (Option ProcessTables) → Type 0
 AreOfProcesses past ts = (p : ℕ) (t : ProcessTables) → get_or ts p None ≡ Some t → AreOfProcess past p t
+
+-- those that are kept are
+abbrev pub AreKeptTables : Past → KeptTables → Type 0
+AreKeptTables past kept = AreOfProcesses past kept.processes
 
 -- whatever is at hand are tables of the past
 abbrev pub AreTablesOf : Past → Tables → Type 0

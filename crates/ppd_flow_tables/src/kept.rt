@@ -3,7 +3,7 @@ ghost use Rattle.std.specs.Prelude.{◌≡◌, [], IfOk, get_or};
 ghost use Rattle.ppd_flow_past.specs.declared.past.Past.{Past};
 ghost use Rattle.ppd_flow_past.specs.Keeping.{AreKeptOf};
 ghost use Rattle.ppd_flow_past.specs.Pasts.{IsPast};
-ghost use Rattle.ppd_flow_tables.specs.Tabled.{AreOfProcesses, AreTablesOf};
+ghost use Rattle.ppd_flow_tables.specs.Tabled.{AreKeptTables, AreTablesOf};
 
 use crate::process::ProcessTables;
 use crate::tables::Tables;
@@ -11,21 +11,11 @@ use ppd_ast::{Memory, Seq};
 use ppd_flow_past::Past;
 use ppd_model::Item;
 use std::alloc::Global;
-use std::marker::Model;
 
 /// The tables of processes whose replays are kept.
 #[derive(Drop)]
 pub struct KeptTables {
-    processes: Seq<Option<ProcessTables>>,
-}
-
-impl Model for KeptTables {
-    ghost use Rattle.std.specs.Prelude.{List, Option};
-    ghost use Rattle.ppd_flow_tables.specs.declared.process.ProcessTables.{ProcessTables};
-
-    ghost Value = { List (Option ProcessTables) };
-
-    ghost view = { λ s. s.processes };
+    pub(crate) processes: Seq<Option<ProcessTables>>,
 }
 
 fn rows_of(kept: &[Seq<Seq<Item>>], process: u8) -> &[Seq<Item>]
@@ -40,7 +30,7 @@ fn rows_of(kept: &[Seq<Seq<Item>>], process: u8) -> &[Seq<Item>]
 impl KeptTables {
     /// None yet, of the processes of a past. `Memory` is want of memory.
     pub fn new(alloc: Global, past: &Past) -> Result<KeptTables, Memory>
-        ensures { IfOk result (AreOfProcesses past.now) }
+        ensures { IfOk result (AreKeptTables past.now) }
     {
         let mut processes = Seq::new(alloc);
         for _process in 0..past.cut.lists.len() {
@@ -51,7 +41,7 @@ impl KeptTables {
 
     /// The tables that are at hand now.
     pub fn tables(&self) -> Tables<'_>
-        ensures { (past : Past) → AreOfProcesses past self.now → AreTablesOf past result }
+        ensures { (past : Past) → AreKeptTables past self.now → AreTablesOf past result }
     {
         Tables::Kept(self.processes.as_slice())
     }
@@ -67,8 +57,8 @@ impl KeptTables {
     ) -> Result<(), Memory>
         requires past { IsPast past.now }
         requires kept { AreKeptOf past.now kept.now }
-        requires tables { AreOfProcesses past.now self.old }
-        ensures { AreOfProcesses past.now self.new }
+        requires tables { AreKeptTables past.now self.old }
+        ensures { AreKeptTables past.now self.new }
     {
         if let Some(Some(_)) = self.processes.get(process as usize) {
             return Ok(());

@@ -11,7 +11,9 @@ ghost use Rattle.ppd_flow_tables.specs.Tabled.{AreTablesOf, IsTabled};
 
 use crate::tables::Tables;
 use ppd_ast::Memory;
-use ppd_flow_past::{Past, edge_at as edge_among, end_interval as end_among, sync_item as sync_among};
+use ppd_flow_past::{
+    Past, edge_at as edge_among, end_interval as end_among, sync_item as sync_among,
+};
 use ppd_model::{EdgeId, Item};
 
 fn is_interval(interval: u32, item: &Item) -> bool
@@ -19,7 +21,10 @@ fn is_interval(interval: u32, item: &Item) -> bool
 {
     match item {
         Item::Own(_) => false,
-        Item::Nested { interval: inner, .. } => interval == *inner,
+        Item::Nested {
+            interval: inner,
+            ..
+        } => interval == *inner,
     }
 }
 
@@ -39,7 +44,11 @@ fn place_in(interval: u32, items: &[Item]) -> usize
 fn first_items(items: &[Item], count: usize) -> &[Item]
     ensures { result.now ≡ take count items.now }
 {
-    if count < items.len() { &items[..count] } else { items }
+    if count < items.len() {
+        &items[..count]
+    } else {
+        items
+    }
 }
 
 /// The last place before this one, if there is one.

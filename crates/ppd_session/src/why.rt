@@ -61,7 +61,7 @@ struct Block<'a> {
 fn edges_in<L: Ledger>(
     alloc: Global,
     past: &Past,
-    block: Block,
+    block: &Block,
     item: u32,
     blank: Blank,
 ) -> Result<Seq<FlowEdge>, FlowError>
@@ -70,10 +70,11 @@ fn edges_in<L: Ledger>(
     requires some { 0 < blank.parts }
     requires past { IsPast past.now }
     requires uncut { past.now.cut.now ≡ past.now.logs.now }
-    requires told { told_at (known_by past.now []) block.process block.interval ≡ Some (Ok block.items.now) }
+    requires told { told_at (known_by past.now []) block.now.process block.now.interval
+        ≡ Some (Ok block.now.items.now) }
     ensures { IsMemoryOr
-        (flow_by past.now.program.now past.now.plan.now past.now.budget past.now.logs.now block.process block.interval
-        item)
+        (flow_by past.now.program.now past.now.plan.now past.now.budget past.now.logs.now block.now.process
+        block.now.interval item)
         result }
 {
     let mut steps: Steps<L> = Steps::new(blank);
@@ -90,13 +91,19 @@ fn edges_in<L: Ledger>(
 }
 
 /// The edges of an item, by replays of other intervals than its own.
-fn edges_of(alloc: Global, past: &Past, block: Block, item: u32) -> Result<Seq<FlowEdge>, FlowError>
+fn edges_of(
+    alloc: Global,
+    past: &Past,
+    block: &Block,
+    item: u32,
+) -> Result<Seq<FlowEdge>, FlowError>
     requires past { IsPast past.now }
     requires uncut { past.now.cut.now ≡ past.now.logs.now }
-    requires told { told_at (known_by past.now []) block.process block.interval ≡ Some (Ok block.items.now) }
+    requires told { told_at (known_by past.now []) block.now.process block.now.interval
+        ≡ Some (Ok block.now.items.now) }
     ensures { IsMemoryOr
-        (flow_by past.now.program.now past.now.plan.now past.now.budget past.now.logs.now block.process block.interval
-        item)
+        (flow_by past.now.program.now past.now.plan.now past.now.budget past.now.logs.now block.now.process
+        block.now.interval item)
         result }
 {
     edges_in::<Brand>(alloc, past, block, item, Blank::new(1))
@@ -123,29 +130,30 @@ fn put_flow(
     alloc: Global,
     text: &mut Vec<u8>,
     past: &Past,
-    block: Block,
+    block: &Block,
     item: u32,
     shown: &Item,
 ) -> Result<(), SessionError>
     requires past { IsPast past.now }
     requires uncut { past.now.cut.now ≡ past.now.logs.now }
-    requires told { told_at (known_by past.now []) block.process block.interval ≡ Some (Ok block.items.now) }
+    requires told { told_at (known_by past.now []) block.now.process block.now.interval
+        ≡ Some (Ok block.now.items.now) }
     ensures text { OnOk result
         (text.new.items
         ≡ text.old.items
         ++ flow_text past.now.program.now past.now.plan.now item shown.now
-        (flow_by past.now.program.now past.now.plan.now past.now.budget past.now.logs.now block.process block.interval
-        item)) }
+        (flow_by past.now.program.now past.now.plan.now past.now.budget past.now.logs.now block.now.process
+        block.now.interval item)) }
     ensures told { OnOk result
         (unfound_flow
-        (flow_by past.now.program.now past.now.plan.now past.now.budget past.now.logs.now block.process block.interval
-        item)
+        (flow_by past.now.program.now past.now.plan.now past.now.budget past.now.logs.now block.now.process
+        block.now.interval item)
         ≡ None) }
     ensures error { IfErr result
         (IsWhy
         (unfound_flow
-        (flow_by past.now.program.now past.now.plan.now past.now.budget past.now.logs.now block.process block.interval
-        item))) }
+        (flow_by past.now.program.now past.now.plan.now past.now.budget past.now.logs.now block.now.process
+        block.now.interval item))) }
 {
     match edges_of(alloc, past, block, item) {
         Ok(edges) => put_edges(text, past, item, shown, edges.as_slice()),
@@ -159,23 +167,24 @@ fn put_told(
     alloc: Global,
     text: &mut Vec<u8>,
     past: &Past,
-    block: Block,
+    block: &Block,
     item: u32,
     shown: &Item,
 ) -> Result<(), SessionError>
     requires past { IsPast past.now }
     requires uncut { past.now.cut.now ≡ past.now.logs.now }
-    requires told { told_at (known_by past.now []) block.process block.interval ≡ Some (Ok block.items.now) }
-    requires there { IsItemThere (known_by past.now []) block.process block.interval item }
+    requires told { told_at (known_by past.now []) block.now.process block.now.interval
+        ≡ Some (Ok block.now.items.now) }
+    requires there { IsItemThere (known_by past.now []) block.now.process block.now.interval item }
     ensures text { OnOk result
         (text.new.items
         ≡ text.old.items
         ++ flow_text past.now.program.now past.now.plan.now item shown.now
-        (flow_at (known_by past.now []) block.process block.interval item)) }
+        (flow_at (known_by past.now []) block.now.process block.now.interval item)) }
     ensures told { OnOk result
-        (unfound_flow (flow_at (known_by past.now []) block.process block.interval item) ≡ None) }
+        (unfound_flow (flow_at (known_by past.now []) block.now.process block.now.interval item) ≡ None) }
     ensures error { IfErr result
-        (IsWhy (unfound_flow (flow_at (known_by past.now []) block.process block.interval item))) }
+        (IsWhy (unfound_flow (flow_at (known_by past.now []) block.now.process block.now.interval item))) }
 {
     put_flow(alloc, text, past, block, item, shown)
 }
@@ -211,5 +220,5 @@ pub(crate) fn put_item_of(
         interval: place.interval,
         items,
     };
-    put_told(alloc, text, past, block, item, shown)
+    put_told(alloc, text, past, &block, item, shown)
 }

@@ -7,7 +7,7 @@ use Rattle.ppd_flow_past.specs.declared.flow_error.FlowError.TheVariants.{Diverg
 use Rattle.ppd_flow_past.specs.declared.past.Past.{Past}
 use Rattle.ppd_flow_past.specs.Keeping.{AreKeptOf, IsAllKept}
 use Rattle.ppd_flow_past.specs.SeenBy.{failed_in, items_in}
-use Rattle.ppd_flow_tables.specs.Tabled.{AreOfProcesses}
+use Rattle.ppd_flow_tables.specs.Tabled.{AreKeptTables}
 use Rattle.ppd_slice.specs.declared.held.Kept.{Kept}
 use Rattle.ppd_slice_model.specs.declared.reached.ItemAt.{ItemAt}
 use Rattle.ppd_slice_model.specs.declared.reached.Reached.{Reached}
@@ -19,7 +19,7 @@ use Rattle.ppd_slice.specs.Slices.{IsNoItem, flow_of, has_process}
 -- of a past, the replays with tables of their items
 pub record IsKept (past : Past) (kept : Kept) : Type 0 where
   pub replays : AreKeptOf past kept.replays
-  pub tables : AreOfProcesses past kept.tables
+  pub tables : AreKeptTables past kept.tables
 
 -- all of these processes
 abbrev pub AreAllKept : Past → List (List (List Item)) → List ℕ → Type 0

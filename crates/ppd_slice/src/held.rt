@@ -50,7 +50,10 @@ pub(crate) fn keep<L: Ledger>(
     ensures error { IfErr result (IsReplayFailure past.now) }
 {
     match kept.replays.keep(alloc, past, process, steps) {
-        Ok(()) => match kept.tables.make(alloc, past, kept.replays.as_slice(), process) {
+        Ok(()) => match kept
+            .tables
+            .make(alloc, past, kept.replays.as_slice(), process)
+        {
             Ok(()) => Ok(()),
             Err(Memory) => Err(FlowError::Memory),
         },

@@ -77,7 +77,14 @@ fn pair_of<L: Ledger>(alloc: Global, past: &Past, place: Place, steps: &mut Step
 {
     match replayed(alloc, past, place.process, place.interval, steps) {
         Ok(items) => {
-            match pair_origin(alloc, past, &Tables::Nothing, place, items.as_slice(), steps) {
+            match pair_origin(
+                alloc,
+                past,
+                &Tables::Nothing,
+                place,
+                items.as_slice(),
+                steps,
+            ) {
                 Ok(origin) => Told::Pair(origin),
                 Err(error) => Told::Error(error),
             }
