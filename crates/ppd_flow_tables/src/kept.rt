@@ -61,6 +61,11 @@ impl KeptTables {
         }
     }
 
+    /// Whether those of a process are there.
+    fn has(&self, process: u8) -> bool {
+        matches!(self.processes.get(process as usize), Some(Some(_)))
+    }
+
     /// Makes the tables of a process, if they are not there yet, from the replays that are kept of it. `Memory` is want
     /// of memory, also for items, entries and edges that have no 32-bit numbers.
     pub fn make(
@@ -75,7 +80,7 @@ impl KeptTables {
         requires tables { AreKeptTables past.now self.old }
         ensures { AreKeptTables past.now self.new }
     {
-        if let Some(Some(_)) = self.processes.get(process as usize) {
+        if self.has(process) {
             return Ok(());
         }
         let tables = ProcessTables::new(alloc, past, process, rows_of(kept, process))?;

@@ -19,9 +19,9 @@ use crate::opening::{no_items, put_many_races, replay};
 use crate::place::Place;
 use crate::reply::SessionError;
 use ppd_ast::Steps;
-use ppd_flow::{LastEdge, TabledItems, last, last_edge, last_from};
+use ppd_flow::{BlockTables, LastEdge, TabledItems, last, last_edge, last_from};
 use ppd_flow_past::Past;
-use ppd_model::{Origin, Race};
+use ppd_model::{Item, Origin, Race};
 use ppd_text_items::put_last;
 use std::alloc::Global;
 use std::marker::Brand;
@@ -117,6 +117,28 @@ fn last_told(
     last_told_in::<Brand>(alloc, past, cell, last, given, Blank::new(1))
 }
 
+/// The same with the tables of these items, where they were made.
+fn last_looked_up<'a>(
+    alloc: Global,
+    past: &Past,
+    cell: u16,
+    last: LastEdge,
+    items: &'a [Item],
+    tables: Option<&'a BlockTables>,
+) -> Result<(i64, Origin), SessionError>
+    requires past { IsPast past.now }
+    requires uncut { past.now.cut.now ≡ past.now.logs.now }
+    requires last { last_edge_of past.now cell ≡ Some last }
+    requires told { told_at (known_by past.now []) last.edge.process last.interval ≡ Some (Ok items.now) }
+    requires tables { IfSome (option_copied tables) (IsOfInterval past.now last.edge.process last.interval) }
+    ensures value { IfOk result
+        (λ x. last_by past.now.program.now past.now.plan.now past.now.budget past.now.logs.now cell ≡ Ok x) }
+    ensures error { IfErr result
+        (IsWhy (unfound (last_by past.now.program.now past.now.plan.now past.now.budget past.now.logs.now cell))) }
+{
+    last_told(alloc, past, cell, last, TabledItems { items, tables })
+}
+
 /// The same by a kept block, or by the replay of that interval, which is then kept: so cells that one interval wrote
 /// need one replay of it.
 fn last_kept(
@@ -148,8 +170,7 @@ fn last_kept(
     if let Some(items) = kept.find(place) {
         let items = items.as_slice();
         tables.ask(alloc, past, place, items);
-        let tables = tables.find(place);
-        return last_told(alloc, past, cell, last, TabledItems { items, tables });
+        return last_looked_up(alloc, past, cell, last, items, tables.find(place));
     }
     let items = replay(alloc, past, place)?;
     let given = TabledItems {

@@ -7,11 +7,11 @@ use Rattle.ppd_session.proofs.Keeping.{kept_now, not_found, told_found}
 use Rattle.ppd_session.proofs.LastKept.{last_replay_fails}
 use Rattle.ppd_session.proofs.lasts.last_kept.Goals as goal
 
-pub last_told-requires-clause-told : goal.last_told-requires-clause-told
-last_told-requires-clause-told c =
+pub last_looked_up-requires-clause-told : goal.last_looked_up-requires-clause-told
+last_looked_up-requires-clause-told c =
     told_found (known_by c.args.past.now []) c.args.kept.now c.touch.new.self (place_of c.args.last) c.find.result c.in-Some.items
     c.requires.kept c.touch.ensures c.find.ensures c.in-Some.is
-    ∙ ap (λ (is : List Item). Some (Ok is)) (sym c.as_slice.ensures)
+    ∙ ap (λ (is : List Item). Some (Ok is)) (sym c.as_slice-items.ensures)
 
 pub returns-in-Some-clause-kept : goal.returns-in-Some-clause-kept
 returns-in-Some-clause-kept c = inl c.touch.ensures
