@@ -13,8 +13,8 @@ returns-in_err-tables c = c.requires.tables
 pub returns : goal.returns
 returns c = record {
   processes =
-    subst (AreOfProcesses c.args.past.now) (sym c.set.ensures)
-    (process_more c.args.past.now c.args.process c.args.self.now.processes c.in_ok-tables.tables
-    c.requires.tables.processes c.in_ok-tables.ensures);
+      subst (AreOfProcesses c.args.past.now) (sym c.set.ensures)
+      (process_more c.args.past.now c.args.process c.args.self.now.processes c.in_ok-tables.tables
+      c.requires.tables.processes c.in_ok-tables.ensures);
   writing = c.requires.tables.writing;
 }
