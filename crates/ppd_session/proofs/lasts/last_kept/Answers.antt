@@ -5,7 +5,15 @@ use Rattle.ppd_model.specs.declared.flow.Item.{Item}
 use Rattle.ppd_session.specs.Sessions.{known_by, place_of}
 use Rattle.ppd_session.proofs.Keeping.{kept_now, not_found, told_found}
 use Rattle.ppd_session.proofs.LastKept.{last_replay_fails}
+use Rattle.ppd_session.proofs.Replayed.{are_replayed}
 use Rattle.ppd_session.proofs.lasts.last_kept.Goals as goal
+
+pub ask-requires-clause-items : goal.ask-requires-clause-items
+ask-requires-clause-items c =
+    (are_replayed c.args.past.now c.requires.uncut c.args.last.edge.process c.args.last.interval c.as_slice-items.result.now
+    (told_found (known_by c.args.past.now []) c.args.kept.now c.touch.new.self (place_of c.args.last) c.find.result
+    c.in-Some.items c.requires.kept c.touch.ensures c.find.ensures c.in-Some.is
+    ∙ ap (λ (is : List Item). Some (Ok is)) (sym c.as_slice-items.ensures))).1
 
 pub last_looked_up-requires-clause-told : goal.last_looked_up-requires-clause-told
 last_looked_up-requires-clause-told c =
