@@ -1,10 +1,19 @@
-use Rattle.std.proofs.Common.{◌<◌, [], arith, length}
+use Rattle.std.proofs.Common.{◌<◌, [], arith, length, refl, sym}
+use Rattle.std.proofs.lemmas.List.{append-nil}
 use Rattle.std.proofs.lemmas.Result.{err_from_is_err_and}
 use Rattle.ppd_session.specs.Known.{last_by, of_cells}
 use Rattle.ppd_session.specs.Sessions.{known_by, last_block}
 use Rattle.ppd_session.proofs.Keeping.{are_told, next_asked, part_asked}
 use Rattle.ppd_session.proofs.LastValues.{next, why}
 use Rattle.ppd_session.proofs.lasts.put_lines.Goals as goal
+
+pub loop-cell-init : goal.loop-cell-init
+loop-cell-init c = record {
+  text = sym (append-nil c.args.text.now.items);
+  none = refl;
+  asked = refl;
+  tables = c.new-tables.ensures c.args.past.now;
+}
 
 pub put_cell_line-requires-clause-kept : goal.put_cell_line-requires-clause-kept
 put_cell_line-requires-clause-kept c =
