@@ -309,7 +309,9 @@ def one_race(turns):
 def once(number, turns):
     """The calls on the recording of the pipeline of a drill, each with the name of its row."""
     stages = 2 + number % 6
-    yield "slice of item 21", pipeline(stages, turns, number), ["slice", "source.rec", f"p{stages}", "0", "21"]
+    # three declarations, four events a turn and the last test stand before `total = sum` and the print
+    last = str(4 * turns + 5)
+    yield "slice of the print", pipeline(stages, turns, number), ["slice", "source.rec", f"p{stages}", "0", last]
     for workers in ("1", "4"):
         words = ["whole", "--workers", workers, "source.rec"]
         yield f"whole, workers {workers}", pipeline(stages, turns, number), words
