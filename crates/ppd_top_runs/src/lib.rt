@@ -1,10 +1,10 @@
 //! The commands `flow`, `run` and `show` for the program of a source.
 #![tactic(auto)]
 
-mod flow;
+mod answering;
 mod outcome;
 mod storing;
 
-pub use flow::{flow, show};
+pub use answering::{flow, show};
 pub use outcome::{Outcome, ended};
 pub use storing::{RecordTask, record_run};
