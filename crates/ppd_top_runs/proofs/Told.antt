@@ -11,7 +11,6 @@ use Rattle.ppd_session.specs.Known.{Known, known_of_logs}
 use Rattle.ppd_session.proofs.Honest.{known_as}
 use Rattle.ppd_top_telling.specs.declared.options.Options.{Options}
 use Rattle.ppd_top_debug.specs.Output.{Standing, Talks}
-use Rattle.ppd_top_debug.specs.Output.Talks.{whole}
 use Rattle.ppd_top_telling.specs.Summary.{summary_of}
 use Rattle.ppd_top_runs.specs.Commands.{IsWholeRun, known_of, plan_of, summary_of_run, WasTold}
 use Rattle.ppd_model.specs.Schedule.{IsWhole}
@@ -45,9 +44,9 @@ talks_of_run program options plan closed h a b status valid p w is t =
 
 pub was_told : (program : Program) (options : Options) (plan : Plan) (closed : Closed) (h : List ℕ) (a b : Standing) (status : ℕ) → IsValid program → plan ≡ plan_of program options → IsWhole program plan options.budget h → closed ≡ close program plan options.budget h
     → Talks (known_of_logs program plan options.budget closed.logs) (summary_of program closed.ends (races_of_logs program closed.logs)) a b status → WasTold program options h a b status
-was_told program options plan closed h a b status valid p whole is t =
+was_told program options plan closed h a b status valid p all is t =
     let c : closed ≡ close program (plan_of program options) options.budget h = is ∙ ap (λ (q : Plan). close program q options.budget h) p in
-    let w : IsWholeRun program options h = subst (λ (q : Plan). IsWhole program q options.budget h) p whole in
+    let w : IsWholeRun program options h = subst (λ (q : Plan). IsWhole program q options.budget h) p all in
     record {
       whole = w;
       talks = talks_of_run program options plan closed h a b status valid p w c t;
