@@ -44,7 +44,7 @@ use Rattle.ppd_flow_model.specs.Found.{found_edges}
 use Rattle.ppd_flow_model.specs.Seen.{Seen, items_at, seen_of}
 use Rattle.ppd_flow_model.specs.Shared.{seen_at}
 use Rattle.law_flow_shared.specs.Edges.SharedEdges.{all_seen}
-use Rattle.law_flow_shared.specs.Edges.Events.{synchronizes}
+use Rattle.law_flow_shared.proofs.Vocabulary.Events.{synchronizes}
 use Rattle.law_flow_shared.proofs.Edges.LogPlaces.EdgeEnds.{IsAt, at_place}
 use Rattle.law_flow_shared.proofs.Edges.LogPlaces.EdgePlaces.{count_below}
 use Rattle.law_flow_shared.proofs.Edges.Near.Nearby.{counted}

@@ -27,7 +27,7 @@ use Rattle.law_steps.proofs.OpenBlocks.Stacks.{steps_move}
 use Rattle.law_steps.specs.OpenBlocks.Run.{IsGiven, IsRun}
 use Rattle.law_steps.specs.OpenBlocks.Stack.{IsInOrder, block_frames, functions_in, process_block, stack}
 use Rattle.law_replay.specs.Coming.Pieces.{unit_pieces}
-use Rattle.law_replay.specs.Coming.Nested.{IsNested}
+use Rattle.law_replay.proofs.Vocabulary.Nested.{IsNested}
 use Rattle.law_replay.specs.Coming.Openings.{AreAlike, IsLogOf, IsSpanOf, Opening, opening}
 use Rattle.law_replay.proofs.Coming.DeepOpenings.{deep_openings, frames_in}
 use Rattle.law_replay.proofs.Coming.Depths.{AreDeep, depth_at, final_depth, one_more}

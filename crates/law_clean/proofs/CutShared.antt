@@ -42,7 +42,7 @@ use Rattle.ppd_flow_model.specs.Ends.{edge_at, end_interval, end_item}
 use Rattle.ppd_flow_model.specs.Seen.{Seen, seen_of}
 use Rattle.ppd_flow_model.specs.Shared.{greater, greatest, greatest_before, is_before_in, origin_in, own_or, pair_origin, pair_place, seen_at, shared_origin, written_at, written_or_start, writing}
 use Rattle.ppd_flow_model.specs.Walk.{walk}
-use Rattle.law_flow_shared.specs.Edges.Events.{synchronizes}
+use Rattle.law_flow_shared.proofs.Vocabulary.Events.{synchronizes}
 use Rattle.law_flow_shared.specs.Edges.SharedEdges.{all_seen}
 use Rattle.law_flow_shared.proofs.Edges.LogPlaces.EdgeEnds.{EndsAt, at_sync}
 use Rattle.law_flow_shared.proofs.Edges.LogPlaces.EdgePlaces.{count_below}

@@ -17,7 +17,7 @@ use Rattle.ppd_model.proofs.Items.{items_whole}
 use Rattle.ppd_flow_model.specs.declared.walked.Walked.{Walked}
 use Rattle.ppd_flow_model.specs.declared.walked.Walked.TheVariants.{Stopped, Passed, Found}
 use Rattle.ppd_flow_model.specs.Shared.{Missing, own_or}
-use Rattle.law_flow_shared.specs.Edges.Events.{AreQuiet, IsLastSync, IsLastWriter, IsQuiet, IsWalk, synchronizes, written_by}
+use Rattle.law_flow_shared.proofs.Vocabulary.Events.{AreQuiet, IsLastSync, IsLastWriter, IsQuiet, IsWalk, synchronizes, written_by}
 use Rattle.law_flow_shared.proofs.Edges.Back.Walked.{IsFoundAt, found_is, not_found}
 use Rattle.law_clean.proofs.Items.{event_kept, part_kept}
 

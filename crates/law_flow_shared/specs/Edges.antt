@@ -1,5 +1,4 @@
 -- Shared reads and last values: what the search finds is what the run did.
-pub mod Events
 pub mod SharedEdges
 pub mod Assembled
 pub mod Within

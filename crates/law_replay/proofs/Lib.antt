@@ -7,3 +7,4 @@ pub mod Facts
 pub mod Alone
 pub mod Openings
 pub mod Theorem
+pub mod Vocabulary

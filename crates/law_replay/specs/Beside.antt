@@ -1,11 +1,5 @@
 -- A replay of an interval beside the process that ran it: the invariant between them, which each
 -- step keeps, and the blocks that are open by what is still to do.
 pub mod Laws
-pub mod Over
 pub mod Relation
-pub mod Held
 pub mod Opens
-pub mod Alone
-pub mod Across
-pub mod Fine
-pub mod Calls

@@ -1,4 +1,3 @@
 -- What is to come in an interval, and that the logs and the story of a schedule have just that.
 pub mod Pieces
-pub mod Nested
 pub mod Openings

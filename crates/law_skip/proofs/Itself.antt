@@ -30,8 +30,8 @@ use Rattle.ppd_emul_model.specs.Replay.{is_budget}
 use Rattle.law_steps.specs.Course.{calls_of}
 use Rattle.law_steps.proofs.Course.Ending.{never_runs_out}
 use Rattle.law_steps.proofs.OpenBlocks.Planned.{process_found}
-use Rattle.law_replay.specs.Beside.Alone.{IsCrossing, IsKept}
-use Rattle.law_replay.specs.Beside.Relation.{IsBeside, IsLast, IsSameIn, Stacked, at_base, called}
+use Rattle.law_replay.proofs.Vocabulary.Alone.{IsCrossing, IsKept}
+use Rattle.law_replay.proofs.Vocabulary.Relation.{IsBeside, IsLast, IsSameIn, Stacked, at_base, called}
 use Rattle.law_replay.proofs.Beside.Filled.{filled_whole}
 use Rattle.law_replay.proofs.Beside.Framed.{framed}
 use Rattle.law_replay.proofs.Beside.KeptFine.{kept_fine}

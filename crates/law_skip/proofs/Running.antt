@@ -15,7 +15,7 @@ use Rattle.ppd_model.proofs.Changes.{change-at, change-else, some}
 use Rattle.ppd_model.specs.Intervals.{Span}
 use Rattle.ppd_model.specs.Marks.{Mark, opened, closed}
 use Rattle.ppd_model.specs.World.{change}
-use Rattle.law_replay.specs.Beside.Alone.{IsInside}
+use Rattle.law_replay.proofs.Vocabulary.Alone.{IsInside}
 use Rattle.law_replay.proofs.Facts.State.{IsState}
 use Rattle.law_steps.specs.OpenBlocks.Stack.{IsInOrder, stack}
 use Rattle.law_skip.specs.Skips.{BeginsBlock, IsGonePast}

@@ -10,7 +10,7 @@ use Rattle.ppd_sem.specs.declared.event.Event.{Event}
 use Rattle.ppd_model.specs.declared.trace.TracedEvent.{TracedEvent}
 use Rattle.ppd_model.proofs.Lists.{map_get}
 use Rattle.ppd_flow_model.specs.Walk.{value_to}
-use Rattle.law_flow_shared.specs.Edges.Events.{AreQuiet, IsLastWriter, IsQuiet, synchronizes, written_by}
+use Rattle.law_flow_shared.proofs.Vocabulary.Events.{AreQuiet, IsLastWriter, IsQuiet, synchronizes, written_by}
 use Rattle.law_flow_shared.proofs.Edges.LogPlaces.EdgePlaces.{count_one}
 use Rattle.law_flow_shared.proofs.Edges.Spans.Facts.{count_to}
 use Rattle.law_whole.specs.Following.{edge_past}

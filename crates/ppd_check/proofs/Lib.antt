@@ -10,3 +10,4 @@ pub mod Phrases
 pub mod Placing
 pub mod Sourced
 pub mod Valid
+pub mod Vocabulary

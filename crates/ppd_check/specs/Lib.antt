@@ -2,5 +2,4 @@
 pub mod Answer
 pub mod Placed
 pub mod Read
-pub mod Sizes
 pub mod Refused

@@ -29,7 +29,8 @@ use Rattle.ppd_model.specs.NearIntervals.{is_loop}
 use Rattle.ppd_model.specs.Story.{story}
 use Rattle.ppd_model.proofs.Changes.{some}
 use Rattle.ppd_model.proofs.CountedOn.{last_at}
-use Rattle.law_flow_own.specs.Places.Levels.{IsLater, StandsIn, levels_after, numbers, Level as Place}
+use Rattle.law_flow_own.specs.Places.Levels.{IsLater, StandsIn, numbers, Level as Place}
+use Rattle.law_flow_own.proofs.Vocabulary.Levels.{levels_after}
 use Rattle.law_flow_own.proofs.Places.Later.{later_then, step_stands}
 use Rattle.law_flow_own.proofs.Control.Moments.{Moment, events_after}
 use Rattle.law_flow_own.proofs.Control.NewParts.{IsNew, new_event, new_inner, new_interval, new_parts}

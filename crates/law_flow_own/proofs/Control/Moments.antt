@@ -32,7 +32,8 @@ use Rattle.ppd_model.specs.Marks.{closed, opened}
 use Rattle.ppd_model.proofs.CountedOn.{last_at}
 use Rattle.ppd_model.proofs.Homes.{AreHome, IsHome}
 use Rattle.ppd_model.proofs.TestSteps.{View, event_acts, other_acts, views}
-use Rattle.law_flow_own.specs.Places.Levels.{levels_after, Level as Place}
+use Rattle.law_flow_own.specs.Places.Levels.{Level as Place}
+use Rattle.law_flow_own.proofs.Vocabulary.Levels.{levels_after}
 use Rattle.law_flow_own.proofs.Control.Along.{EventOf, Given, runs_after}
 use Rattle.law_flow_own.proofs.Control.Advance.{advance}
 use Rattle.law_flow_own.proofs.Control.Levels.{AllHold, Level, TopLeaf, runs_of, todo_of, views_of}

@@ -7,7 +7,8 @@ use Rattle.ppd_sem.specs.declared.event.Event.{Event}
 use Rattle.ppd_model.specs.declared.trace.TracedEvent.{TracedEvent}
 use Rattle.ppd_model.specs.Intervals.{Part, own, nested}
 use Rattle.ppd_model.specs.Marks.{Mark}
-use Rattle.law_flow_own.specs.Places.Levels.{begin_level, end_level, with_event, Level as Place}
+use Rattle.law_flow_own.specs.Places.Levels.{Level as Place}
+use Rattle.law_flow_own.proofs.Vocabulary.Levels.{begin_level, end_level, with_event}
 use Rattle.law_flow_own.proofs.Control.Sights.{Sign}
 use Rattle.law_flow_own.proofs.Control.Levels.{Run}
 use Rattle.law_flow_own.proofs.Control.Moved.{begun, ended, owned}

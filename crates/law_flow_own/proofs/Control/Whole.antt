@@ -16,7 +16,8 @@ use Rattle.ppd_model.specs.Story.{own_steps, story}
 use Rattle.ppd_model.proofs.Homes.{IsHome, act-home, started-home}
 use Rattle.ppd_model.proofs.LocalTags.{own_steps_told}
 use Rattle.law_steps.specs.OpenBlocks.Stack.{process_block}
-use Rattle.law_flow_own.specs.Places.Levels.{IsLater, StandsIn, levels_after, Level as Place}
+use Rattle.law_flow_own.specs.Places.Levels.{IsLater, StandsIn, Level as Place}
+use Rattle.law_flow_own.proofs.Vocabulary.Levels.{levels_after}
 use Rattle.law_flow_own.proofs.Places.Following.{process_there}
 use Rattle.law_flow_own.proofs.Places.Later.{step_stands, steps_later}
 use Rattle.law_flow_own.proofs.Places.LeafTells.{begins, process_below, split_is}

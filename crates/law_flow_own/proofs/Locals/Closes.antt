@@ -15,7 +15,8 @@ use Rattle.ppd_model.specs.declared.tracing.Taken.{Taken}
 use Rattle.ppd_model.specs.declared.tracing.Tracing.{Tracing}
 use Rattle.ppd_model.proofs.Changes.{change-at}
 use Rattle.ppd_model.proofs.Items.{own_keeps, step_keeps}
-use Rattle.law_flow_own.specs.Places.Levels.{Level, StandsIn, own_level, put, with_event}
+use Rattle.law_flow_own.specs.Places.Levels.{Level, StandsIn}
+use Rattle.law_flow_own.proofs.Vocabulary.Levels.{own_level, put, with_event}
 use Rattle.law_flow_own.proofs.Places.Later.{own_later, step_later}
 use Rattle.law_flow_own.proofs.Locals.Ends.{IsLeftAs, begin_closed, closed_at, closed_in, end_closes, own_closed, step_closed}
 

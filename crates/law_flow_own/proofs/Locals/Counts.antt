@@ -1,7 +1,7 @@
 -- How many activations there are, by the levels.
 use Rattle.std.proofs.Common.{◌≡◌, ℕ, suc, ◌+◌, ◌≤◌, List, [], ◌∷◌, Option, Some, None, refl, sym, ap, ◌∙◌, map, arith, length}
 use Rattle.std.proofs.lemmas.List.{length-map}
-use Rattle.law_flow_own.specs.Locals.Says.{activations, with_own}
+use Rattle.law_flow_own.proofs.Vocabulary.Says.{activations, with_own}
 use Rattle.ppd_ast.specs.declared.plan.BlockKind.{BlockKind}
 use Rattle.ppd_ast.specs.declared.plan.BlockKind.TheVariants as block
 use Rattle.ppd_ast.specs.declared.plan.Plan.{Plan}

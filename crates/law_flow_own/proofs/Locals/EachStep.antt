@@ -18,16 +18,17 @@ use Rattle.ppd_model.specs.LocalTags.{AreOwn, HasTags, cells_in, local_tag}
 use Rattle.ppd_model.specs.declared.tracing.Story.{Story}
 use Rattle.ppd_model.specs.declared.tracing.Taken.{Taken}
 use Rattle.ppd_model.proofs.LocalSteps.{tags_its_writes}
-use Rattle.law_flow_own.specs.Places.Levels.{IsLater, Level, StandsIn, levels_after}
+use Rattle.law_flow_own.specs.Places.Levels.{IsLater, Level, StandsIn}
+use Rattle.law_flow_own.proofs.Vocabulary.Levels.{levels_after}
 use Rattle.law_flow_own.proofs.Places.Following.{IsFollowed, followed_step, process_kind, process_there}
 use Rattle.law_flow_own.proofs.Places.Later.{later_then, levels_to, step_stands, steps_later}
 use Rattle.law_flow_own.proofs.Places.Whole.{AreWhole}
-use Rattle.law_flow_own.specs.Locals.Says.{with_own}
+use Rattle.law_flow_own.proofs.Vocabulary.Says.{with_own}
 use Rattle.ppd_model.specs.NearIntervals.{is_loop}
 use Rattle.ppd_model.proofs.Homes.{IsHome, act-home}
 use Rattle.law_flow_own.proofs.Control.Moments.{Moment, step_moment}
 use Rattle.law_flow_own.proofs.Control.Start.{start_moment}
-use Rattle.law_flow_own.specs.Locals.LoopTells.{IsBefore, IsCalledIn}
+use Rattle.law_flow_own.proofs.Vocabulary.LoopTells.{IsBefore, IsCalledIn}
 use Rattle.law_flow_own.proofs.Locals.Stepping.Going.{tells_step}
 use Rattle.law_flow_own.proofs.Locals.Tells.Tags.{TellsOf}
 

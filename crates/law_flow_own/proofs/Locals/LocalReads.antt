@@ -40,10 +40,10 @@ use Rattle.law_flow_own.proofs.Places.Following.{IsFollowed, something}
 use Rattle.law_flow_own.proofs.Places.LeafTells.{all_whole, followed_at, later_at, levels_at, split_is, there}
 use Rattle.law_flow_own.proofs.Places.Opening.{not_nil}
 use Rattle.law_flow_own.proofs.Places.Whole.{AreWhole}
-use Rattle.law_flow_own.specs.Locals.Says.{Says, activations, with_own}
+use Rattle.law_flow_own.proofs.Vocabulary.Says.{Says, activations, with_own}
 use Rattle.law_flow_own.specs.Locals.AllReads.{AllLocalReadsAreFound}
 use Rattle.law_flow_own.specs.Locals.LocalReads.{LocalReadsAreFound}
-use Rattle.law_flow_own.specs.Locals.LoopTells.{own_number}
+use Rattle.law_flow_own.proofs.Vocabulary.LoopTells.{own_number}
 use Rattle.law_flow_own.proofs.Locals.Turns.{Turns, turns}
 use Rattle.law_flow_own.proofs.Locals.Stepping.FirstLevel.{IsFirst, is_first}
 use Rattle.law_flow_own.proofs.Locals.Tells.Tags.{TellsOf}

@@ -18,8 +18,8 @@ use Rattle.ppd_flow_model.specs.Seen.{call_of, items_at, kind_at, outer_of, oute
 use Rattle.law_flow_own.specs.Places.Levels.{AreLevels, IsLater, Level, StandsIn, numbers}
 use Rattle.law_flow_own.specs.Places.Leaves.{leaf_of}
 use Rattle.law_flow_own.proofs.Places.Whole.{AreWhole, LevelAt}
-use Rattle.law_flow_own.specs.Locals.Says.{IsPassed, IsUnwritten, Says, SaysOr, activations, with_own}
-use Rattle.law_flow_own.specs.Locals.LoopTells.{IsBefore, IsOutside, LoopTells, here, of_scan, own_number}
+use Rattle.law_flow_own.proofs.Vocabulary.Says.{IsPassed, IsUnwritten, Says, SaysOr, activations, with_own}
+use Rattle.law_flow_own.proofs.Vocabulary.LoopTells.{IsBefore, IsOutside, LoopTells, here, of_scan, own_number}
 use Rattle.law_flow_own.proofs.Locals.Places.{OuterAt, call_is, first_ones, kind_is, level_from, outer_from, outer_is, place_of_is}
 
 -- the number of the activation that goes on at a level

@@ -30,14 +30,15 @@ use Rattle.ppd_model.proofs.LocalSteps.{tags_its_writes}
 use Rattle.ppd_flow_model.specs.declared.leaf_call.LeafCall.{LeafCall}
 use Rattle.ppd_flow_model.specs.Locals.{frame_in, local_origin}
 use Rattle.ppd_flow_model.specs.Seen.{seen_of}
-use Rattle.law_flow_own.specs.Places.Levels.{IsLater, Level, StandsIn, put}
+use Rattle.law_flow_own.specs.Places.Levels.{IsLater, Level, StandsIn}
+use Rattle.law_flow_own.proofs.Vocabulary.Levels.{put}
 use Rattle.law_flow_own.specs.Places.Leaves.{leaf_of}
 use Rattle.law_flow_own.proofs.Places.Moves.{IsLeft}
 use Rattle.law_flow_own.proofs.Places.Opening.{leaf_interval}
 use Rattle.law_flow_own.proofs.Places.Whole.{AreWhole}
-use Rattle.law_flow_own.specs.Locals.Says.{Says, activations, with_own}
+use Rattle.law_flow_own.proofs.Vocabulary.Says.{Says, activations, with_own}
 use Rattle.law_flow_own.proofs.Locals.Received.{received_other}
-use Rattle.law_flow_own.specs.Locals.LoopTells.{LoopTells}
+use Rattle.law_flow_own.proofs.Vocabulary.LoopTells.{LoopTells}
 use Rattle.law_flow_own.proofs.Locals.Origins.{number_at, origin_at}
 
 -- a test that fails writes nothing

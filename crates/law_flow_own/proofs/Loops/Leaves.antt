@@ -34,19 +34,20 @@ use Rattle.ppd_flow_model.specs.Locals.{frame_in, local_origin}
 use Rattle.ppd_flow_model.specs.Seen.{seen_of}
 use Rattle.law_flow_own.specs.Places.Closing.{closing}
 use Rattle.law_flow_own.specs.Places.Leaves.{leaf_of, open_at}
-use Rattle.law_flow_own.specs.Places.Levels.{IsLater, Level, levels_after, put}
+use Rattle.law_flow_own.specs.Places.Levels.{IsLater, Level}
+use Rattle.law_flow_own.proofs.Vocabulary.Levels.{levels_after, put}
 use Rattle.law_flow_own.proofs.Places.Following.{IsFollowed, followed_step, something}
 use Rattle.law_flow_own.proofs.Places.LeafTells.{there}
 use Rattle.law_flow_own.proofs.Places.Moves.{IsLeft}
 use Rattle.law_flow_own.proofs.Places.Opening.{first_block, leaf_interval, not_nil}
 use Rattle.law_flow_own.proofs.Places.Steps.{IsStep, step_is}
 use Rattle.law_flow_own.proofs.Places.Whole.{AreWhole}
-use Rattle.law_flow_own.specs.Locals.Says.{Says, activations, with_own}
+use Rattle.law_flow_own.proofs.Vocabulary.Says.{Says, activations, with_own}
 use Rattle.law_flow_own.proofs.Locals.Closes.{IsLeftNow, left_now}
 use Rattle.law_flow_own.proofs.Locals.Moments.{need_is}
 use Rattle.law_flow_own.proofs.Locals.Reading.{top_size}
 use Rattle.law_flow_own.proofs.Locals.Stepping.FirstLevel.{TellsThen, count_of, is_first}
-use Rattle.law_flow_own.specs.Locals.LoopTells.{IsFramed}
+use Rattle.law_flow_own.proofs.Vocabulary.LoopTells.{IsFramed}
 use Rattle.law_flow_own.proofs.Locals.EachStep.{AtMoment}
 use Rattle.law_flow_own.proofs.Locals.Stepping.Going.{tells_step}
 use Rattle.law_flow_own.proofs.Locals.Inside.{not_function, loop_number}

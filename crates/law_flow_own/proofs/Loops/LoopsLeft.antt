@@ -30,14 +30,14 @@ use Rattle.law_flow_own.specs.Places.Levels.{IsLater, StandsIn, numbers}
 use Rattle.law_flow_own.proofs.Places.Following.{IsFollowed}
 use Rattle.law_flow_own.proofs.Places.LeafTells.{all_whole, followed_at, later_at, split_is, there}
 use Rattle.law_flow_own.proofs.Places.Whole.{AreWhole, LevelAt}
-use Rattle.law_flow_own.specs.Locals.Says.{activations}
+use Rattle.law_flow_own.proofs.Vocabulary.Says.{activations}
 use Rattle.law_flow_own.proofs.Locals.LocalReads.{says_is}
 use Rattle.law_flow_own.proofs.Locals.Moments.{need_is, next_later, running}
 use Rattle.law_flow_own.proofs.Locals.Places.{OuterAt, first_ones, level_from, outer_from}
 use Rattle.law_flow_own.proofs.Locals.Returned.{closing_step, leaving}
 use Rattle.law_flow_shared.proofs.Edges.Near.Tree.{IsTree, has_tree}
 use Rattle.law_flow_own.specs.Loops.LoopsLeft.{LoopsLeftAreFound}
-use Rattle.law_flow_own.specs.Locals.LoopTells.{IsFramed}
+use Rattle.law_flow_own.proofs.Vocabulary.LoopTells.{IsFramed}
 use Rattle.law_flow_own.proofs.Locals.AtSteps.{tagged_at, told_at}
 use Rattle.law_flow_own.proofs.Locals.EachStep.{AtMoment}
 use Rattle.law_flow_own.proofs.Loops.InFrame.{zipped}

@@ -37,7 +37,8 @@ use Rattle.ppd_model.specs.declared.tracing.Story.{Story}
 use Rattle.ppd_model.specs.declared.tracing.Taken.{Taken}
 use Rattle.ppd_model.proofs.Statuses.{status_after}
 use Rattle.law_flow_own.specs.Places.Closing.{closing}
-use Rattle.law_flow_own.specs.Places.Levels.{IsLater, Level, StandsIn, levels_after}
+use Rattle.law_flow_own.specs.Places.Levels.{IsLater, Level, StandsIn}
+use Rattle.law_flow_own.proofs.Vocabulary.Levels.{levels_after}
 use Rattle.law_flow_own.specs.Places.Leaves.{AreBegun, begun_by}
 use Rattle.law_flow_own.proofs.Places.Later.{later_then, levels_to, step_stands, steps_later}
 use Rattle.law_flow_own.proofs.Places.Levels.{begin_stands}

@@ -19,7 +19,8 @@ use Rattle.ppd_model.specs.World.{change}
 use Rattle.ppd_model.proofs.Changes.{change-at, change-else, some}
 use Rattle.ppd_model.proofs.Items.{own_keeps, step_keeps, first_length}
 use Rattle.ppd_model.proofs.CountedOn.{kept_at}
-use Rattle.law_flow_own.specs.Places.Levels.{IsLater, IsLaterSpan, Level, StandsIn, begin_level, end_level, levels_after, numbers, own_level, with_event}
+use Rattle.law_flow_own.specs.Places.Levels.{IsLater, IsLaterSpan, Level, StandsIn, numbers}
+use Rattle.law_flow_own.proofs.Vocabulary.Levels.{begin_level, end_level, levels_after, own_level, with_event}
 use Rattle.law_flow_own.proofs.Places.Levels.{begin_if_stands, end_if_stands, event_stands, quiet_stands}
 
 abbrev pub SpansLater : List Span → List Span → Type 0

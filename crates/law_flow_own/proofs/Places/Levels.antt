@@ -9,7 +9,8 @@ use Rattle.ppd_model.specs.declared.trace.EventId.{EventId}
 use Rattle.ppd_model.proofs.Changes.{change-at, change-else}
 use Rattle.ppd_model.proofs.CountedOn.{last_at}
 use Rattle.ppd_model.proofs.Items.{first_length}
-use Rattle.law_flow_own.specs.Places.Levels.{AreBelow, AreLevels, Level, StandsIn, begin_level, end_level, numbers, with_event, without_first}
+use Rattle.law_flow_own.specs.Places.Levels.{AreBelow, AreLevels, Level, StandsIn, numbers}
+use Rattle.law_flow_own.proofs.Vocabulary.Levels.{begin_level, end_level, with_event, without_first}
 
 -- ---- lists
 

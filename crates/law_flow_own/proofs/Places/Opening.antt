@@ -13,7 +13,8 @@ use Rattle.ppd_model.proofs.Changes.{some}
 use Rattle.ppd_model.proofs.CountedOn.{kept_at}
 use Rattle.ppd_flow_model.specs.declared.leaf_call.LeafCall.{LeafCall}
 use Rattle.ppd_flow_model.specs.Locals.{leaf_after, leaf_at}
-use Rattle.law_flow_own.specs.Places.Levels.{Level, put}
+use Rattle.law_flow_own.specs.Places.Levels.{Level}
+use Rattle.law_flow_own.proofs.Vocabulary.Levels.{put}
 use Rattle.law_flow_own.specs.Places.Leaves.{AreBegun, AreBegunBy, AreBegunIn, Begun, First, IsBegunAt, IsBegunOutside, items_so_far, leaf_of, of_leaf, open_at}
 use Rattle.law_flow_own.proofs.Places.Scans.{items_more, leaf_nested, leaf_own, nested_item, own_item}
 

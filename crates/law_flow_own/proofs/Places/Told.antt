@@ -31,7 +31,8 @@ use Rattle.ppd_flow_model.specs.Locals.{is_leaf_call}
 use Rattle.ppd_sem.specs.Described.{trap_of}
 use Rattle.law_replay.proofs.Facts.Entered.{unentered}
 use Rattle.law_flow_own.specs.Places.Closing.{closing}
-use Rattle.law_flow_own.specs.Places.Levels.{IsLater, Level, StandsIn, numbers, put, with_event, without_first}
+use Rattle.law_flow_own.specs.Places.Levels.{IsLater, Level, StandsIn, numbers}
+use Rattle.law_flow_own.proofs.Vocabulary.Levels.{put, with_event, without_first}
 use Rattle.law_flow_own.specs.Places.Leaves.{AreBegun, Begun, First, IsBegunAt, begun_by, items_so_far, leaf_of, of_leaf, open_at}
 use Rattle.law_flow_own.proofs.Places.Moves.{IsCalling, IsLeft, IsOther, IsReturning}
 use Rattle.law_flow_own.proofs.Places.NoLeaf.{call_no_leaf, is_call_of}

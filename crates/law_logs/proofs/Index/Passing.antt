@@ -27,7 +27,7 @@ use Rattle.ppd_model.proofs.Statuses.{status_after}
 use Rattle.law_steps.specs.OpenBlocks.Run.{IsRun}
 use Rattle.law_steps.specs.OpenBlocks.Stack.{IsInOrder, Moves, block_frames, functions_in, open_blocks, process_block, stack}
 use Rattle.law_steps.proofs.OpenBlocks.Stacks.{steps_move}
-use Rattle.law_replay.specs.Coming.Nested.{HasStopped}
+use Rattle.law_replay.proofs.Vocabulary.Nested.{HasStopped}
 use Rattle.law_replay.proofs.Coming.Later.{closing, news}
 use Rattle.law_replay.proofs.Coming.Shapes.{Shape, closes, ends, opens, passes, shape, stops}
 use Rattle.law_replay.proofs.Coming.Stacked.{stopped_run}

@@ -29,11 +29,11 @@ use Rattle.ppd_emul_model.specs.Fits.{fits}
 use Rattle.ppd_emul_model.specs.declared.wanted.Wanted.TheVariants as wanted
 use Rattle.ppd_emul_model.specs.declared.wanted.Found.TheVariants as found
 use Rattle.ppd_emul_model.specs.Replay.{Replaying, replay_from}
-use Rattle.law_replay.specs.Beside.Relation.{HasEnds, IsBlock}
+use Rattle.law_replay.proofs.Vocabulary.Relation.{HasEnds, IsBlock}
 use Rattle.law_replay.specs.Coming.Pieces.{coming}
 use Rattle.law_steps.specs.OpenBlocks.Run.{IsGiven, IsNumbered, IsRun}
 use Rattle.law_replay.specs.InForce.Values.{AreRead, in_force_after}
-use Rattle.law_replay.specs.Beside.Alone.{IsCrossing, IsInside, IsKept}
+use Rattle.law_replay.proofs.Vocabulary.Alone.{IsCrossing, IsInside, IsKept}
 use Rattle.law_replay.proofs.Alone.Goals.{AcrossGoal, IsAlong, IsOpening, OwnGoal}
 use Rattle.law_replay.proofs.Alone.Inside.{across_step, stops_inside}
 use Rattle.law_replay.proofs.Alone.Last.{leaves_own, spent, traps, waits}

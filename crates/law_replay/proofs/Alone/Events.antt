@@ -18,8 +18,8 @@ use Rattle.ppd_sem.specs.declared.proc.Todo.{Todo}
 use Rattle.ppd_sem.specs.Described.{described, frame_of, trap_of, evaluates, value_at, value_if, valued, writes_by}
 use Rattle.ppd_sem.specs.Process.{head_deed, need_of, top_cells}
 use Rattle.ppd_sem.specs.Reads.{reads_of_kind}
-use Rattle.law_replay.specs.Beside.Over.{IsKindOver, SameIn}
-use Rattle.law_replay.specs.Beside.Relation.{HasEnds, IsBeside, IsBlock, Stacked, at_base, called}
+use Rattle.law_replay.proofs.Vocabulary.Over.{IsKindOver, SameIn}
+use Rattle.law_replay.proofs.Vocabulary.Relation.{HasEnds, IsBeside, IsBlock, Stacked, at_base, called}
 use Rattle.law_replay.proofs.Beside.Asked.{ask_same}
 use Rattle.law_replay.proofs.Beside.Events.{kind_reads_same}
 use Rattle.law_replay.proofs.Beside.Framed.{framed}

@@ -11,7 +11,7 @@ use Rattle.ppd_model.specs.Story.{Moment}
 use Rattle.ppd_emul_model.specs.Fits.{wanted_of}
 use Rattle.ppd_emul_model.specs.declared.wanted.Wanted.TheVariants as wanted
 use Rattle.ppd_emul_model.specs.Replay.{Replaying, is_budget, replay_from, with_call}
-use Rattle.law_replay.specs.Beside.Relation.{IsBeside}
+use Rattle.law_replay.proofs.Vocabulary.Relation.{IsBeside}
 use Rattle.law_replay.specs.Coming.Pieces.{Inner, before, coming}
 use Rattle.law_steps.specs.OpenBlocks.Run.{IsRun}
 use Rattle.law_replay.specs.InForce.Values.{AreRead}

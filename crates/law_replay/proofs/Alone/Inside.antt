@@ -19,11 +19,11 @@ use Rattle.ppd_sem.specs.Blocks.{skipped, unit_past}
 use Rattle.ppd_emul_model.specs.Fits.{fits, found_of}
 use Rattle.ppd_emul_model.specs.declared.wanted.Wanted.TheVariants as wanted
 use Rattle.ppd_emul_model.specs.Replay.{Replaying, more, counted, end_here, finished, go_on, next_piece, past_piece, replay_from, step_with, take_unit, turn, with_item}
-use Rattle.law_replay.specs.Beside.Relation.{HasEnds, IsBlock}
+use Rattle.law_replay.proofs.Vocabulary.Relation.{HasEnds, IsBlock}
 use Rattle.law_replay.specs.Coming.Pieces.{After, Coming, Inner, at_rest, before, coming, inner_opens, leaves, unit_pieces}
 use Rattle.law_steps.specs.OpenBlocks.Run.{IsRun}
 use Rattle.law_replay.specs.InForce.Values.{AreRead, in_force_after, in_force_by, with_unit}
-use Rattle.law_replay.specs.Beside.Alone.{HasLeft, IsCrossing, IsKept}
+use Rattle.law_replay.proofs.Vocabulary.Alone.{HasLeft, IsCrossing, IsKept}
 use Rattle.law_replay.proofs.Beside.Turned.{piece_turn, unit_turn}
 use Rattle.law_replay.proofs.Alone.Goals.{AcrossGoal, IsAlong, IsOpening, OwnGoal}
 use Rattle.law_replay.proofs.Alone.Turns.{fuel_on, given, map_drop, next_at, on_more}

@@ -26,10 +26,10 @@ use Rattle.ppd_emul_model.specs.Fits.{fits, found_of, same_trap, wanted_of}
 use Rattle.ppd_emul_model.specs.declared.wanted.Wanted.{Wanted}
 use Rattle.ppd_emul_model.specs.declared.wanted.Wanted.TheVariants as wanted
 use Rattle.ppd_emul_model.specs.Replay.{Replaying, done, counted, fail, finished, is_budget, turn_by_end, turn_within, next_piece, replay_from, step_with, with_event}
-use Rattle.law_replay.specs.Beside.Relation.{HasEnds, IsBlock}
+use Rattle.law_replay.proofs.Vocabulary.Relation.{HasEnds, IsBlock}
 use Rattle.law_replay.specs.Coming.Pieces.{at_rest}
 use Rattle.law_steps.specs.OpenBlocks.Run.{IsRun}
-use Rattle.law_replay.specs.Beside.Alone.{IsKept}
+use Rattle.law_replay.proofs.Vocabulary.Alone.{IsKept}
 use Rattle.law_replay.proofs.Beside.Needs.{is_enter}
 use Rattle.law_replay.proofs.Beside.Turned.{piece_turn}
 use Rattle.law_replay.proofs.Alone.Events.{described_same}

@@ -21,8 +21,8 @@ use Rattle.ppd_model.specs.declared.trace.EventId.{EventId}
 use Rattle.ppd_model.specs.FullTrace.{event_of}
 use Rattle.ppd_model.specs.Marks.{opened, closed}
 use Rattle.ppd_emul_model.specs.Replay.{Replaying, done, counted, finished, is_budget, with_event}
-use Rattle.law_replay.specs.Beside.Relation.{HasEnds, IsBeside, IsBlock}
-use Rattle.law_replay.specs.Beside.Alone.{IsInside, IsKept}
+use Rattle.law_replay.proofs.Vocabulary.Relation.{HasEnds, IsBeside, IsBlock}
+use Rattle.law_replay.proofs.Vocabulary.Alone.{IsInside, IsKept}
 use Rattle.law_replay.proofs.Beside.Framed.{framed}
 use Rattle.law_replay.proofs.Beside.Needs.{is_enter}
 use Rattle.law_replay.proofs.Beside.Steps.{HasStep, step_beside}

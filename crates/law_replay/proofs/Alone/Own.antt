@@ -19,11 +19,11 @@ use Rattle.ppd_model.specs.FullTrace.{event_of}
 use Rattle.ppd_model.specs.Story.{Moment, cells_of_unit}
 use Rattle.ppd_emul_model.specs.Fits.{wanted_of}
 use Rattle.ppd_emul_model.specs.Replay.{Replaying, more, is_budget, past_piece, replay_from, step_without, stepped, take_unit, turn, value_in_force, with_event, with_write}
-use Rattle.law_replay.specs.Beside.Relation.{HasEnds, IsBlock}
+use Rattle.law_replay.proofs.Vocabulary.Relation.{HasEnds, IsBlock}
 use Rattle.law_replay.specs.Coming.Pieces.{before, coming}
 use Rattle.law_steps.specs.OpenBlocks.Run.{IsRun}
 use Rattle.law_replay.specs.InForce.Values.{AreRead}
-use Rattle.law_replay.specs.Beside.Alone.{IsInside, IsKept}
+use Rattle.law_replay.proofs.Vocabulary.Alone.{IsInside, IsKept}
 use Rattle.law_replay.proofs.Coming.Late.{late_own}
 use Rattle.law_replay.proofs.Beside.Turned.{plain_turn, unit_turn}
 use Rattle.law_replay.proofs.Alone.Goals.{IsAlong, OwnGoal}

@@ -18,11 +18,11 @@ use Rattle.ppd_model.specs.FullTrace.{event_of}
 use Rattle.ppd_model.specs.Story.{Moment, cells_of_unit}
 use Rattle.ppd_emul_model.specs.Fits.{fits, found_of, wanted_of}
 use Rattle.ppd_emul_model.specs.Replay.{Replaying, more, is_budget, next_piece, past_piece, replay_from, step_with, stepped, take_unit, turn, with_event}
-use Rattle.law_replay.specs.Beside.Relation.{HasEnds, IsBlock}
+use Rattle.law_replay.proofs.Vocabulary.Relation.{HasEnds, IsBlock}
 use Rattle.law_replay.specs.Coming.Pieces.{before, coming}
 use Rattle.law_steps.specs.OpenBlocks.Run.{IsRun}
 use Rattle.law_replay.specs.InForce.Values.{AreRead}
-use Rattle.law_replay.specs.Beside.Alone.{IsInside, IsKept}
+use Rattle.law_replay.proofs.Vocabulary.Alone.{IsInside, IsKept}
 use Rattle.law_replay.proofs.Beside.Turned.{piece_turn, unit_turn}
 use Rattle.law_replay.proofs.Alone.Goals.{IsAlong, OwnGoal}
 use Rattle.law_replay.proofs.Alone.Moved.{enough, item_is, moves}

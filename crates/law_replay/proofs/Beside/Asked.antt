@@ -11,7 +11,7 @@ use Rattle.ppd_ast.specs.declared.status.Trap.TheVariants.{Index}
 use Rattle.ppd_sem.specs.Asked.{Asked, gives, and_then, lift, read_shared}
 use Rattle.ppd_sem.specs.Ask.{ask, element, cell_of, is_zero}
 use Rattle.ppd_sem.specs.Deed.{Deed, ask_deed, ask_all, ask_stored, set_local, set_shared}
-use Rattle.law_replay.specs.Beside.Over.{IsOverCells, AreOverCells, IsKindOver, SameIn}
+use Rattle.law_replay.proofs.Vocabulary.Over.{IsOverCells, AreOverCells, IsKindOver, SameIn}
 
 after_same : {A B : Type 0} (q : Asked A) (next next' : A → List ℤ → Asked B)
     → ((x : A) (left : List ℤ) → next x left ≡ next' x left) → and_then q next ≡ and_then q next'

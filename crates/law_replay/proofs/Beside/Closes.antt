@@ -26,8 +26,8 @@ use Rattle.ppd_sem.proofs.Progress.{need_at_todo}
 use Rattle.ppd_model.specs.Marks.{Mark, closed}
 use Rattle.ppd_emul_model.specs.Fits.{postlog_wanted}
 use Rattle.ppd_emul_model.specs.Replay.{is_budget}
-use Rattle.law_replay.specs.Beside.Alone.{IsClosing}
-use Rattle.law_replay.specs.Beside.Relation.{HasEnds, IsBeside, IsBlock, Stacked, at_base, called}
+use Rattle.law_replay.proofs.Vocabulary.Alone.{IsClosing}
+use Rattle.law_replay.proofs.Vocabulary.Relation.{HasEnds, IsBeside, IsBlock, Stacked, at_base, called}
 use Rattle.law_replay.proofs.Beside.Kept.{head}
 use Rattle.law_replay.proofs.Beside.Framed.{framed}
 use Rattle.law_replay.proofs.Beside.HeadNeeds.{deed_is}

@@ -7,8 +7,8 @@ use Rattle.ppd_ast.specs.Lookups.{kind_of}
 use Rattle.ppd_sem.specs.declared.proc.Frame.{Frame}
 use Rattle.ppd_sem.specs.declared.proc.Todo.{Todo}
 use Rattle.ppd_sem.specs.Described.{ends_body}
-use Rattle.law_replay.specs.Beside.Relation.{IsLast, past_body}
-use Rattle.law_replay.specs.Beside.Held.{Held, IsKeptBut, own, called}
+use Rattle.law_replay.proofs.Vocabulary.Relation.{IsLast, past_body}
+use Rattle.law_replay.proofs.Vocabulary.Held.{Held, IsKeptBut, own, called}
 use Rattle.law_replay.specs.Beside.Opens.{open_at, opens}
 
 module _ (program : Program) (plan : Plan) (written inside : ℕ → Type 0) (closer : Todo) (base : Frame)

@@ -9,7 +9,7 @@ use Rattle.ppd_sem.specs.declared.proc.Todo.{Todo}
 use Rattle.ppd_sem.specs.declared.proc.Proc.{Proc}
 use Rattle.ppd_sem.specs.Deed.{Deed, set_local, set_shared, clear, invoke, branch, leave, turn, back, take, give, send, receive, print, pass, finish}
 use Rattle.ppd_sem.specs.Process.{todos, new_frame, act_by_deed, value_of}
-use Rattle.law_replay.specs.Beside.Relation.{HasEnds, IsBlock, IsBeside, Suits, Stays}
+use Rattle.law_replay.proofs.Vocabulary.Relation.{HasEnds, IsBlock, IsBeside, Suits, Stays}
 use Rattle.law_replay.proofs.Beside.Framed.{Framed, writes, clears, past, branches, turns, invokes, returns}
 
 module _ (program : Program) (used inside : ℕ → Type 0) (calls : Type 0) (closer : Todo) (home : ℕ) (depth : ℕ)

@@ -6,7 +6,8 @@ use Rattle.ppd_ast.specs.declared.program.Kind.TheVariants.{If, While, Call, Ret
 use Rattle.ppd_sem.specs.Deed.{Deed, ask_deed}
 use Rattle.ppd_sem.specs.Described.{ends_body}
 use Rattle.ppd_sem.proofs.OfKind.{IsDeedOf, asked_holds, backs, backs_value, finishes, goes_first, goes_second}
-use Rattle.law_replay.specs.Beside.Relation.{IsListOf, IsCallOf, IsReturn, IsEnd, Suits, Yields}
+use Rattle.law_replay.specs.Beside.Relation.{IsListOf, IsCallOf}
+use Rattle.law_replay.proofs.Vocabulary.Relation.{IsReturn, IsEnd, Suits, Yields}
 
 deed_suits : (k : Kind) (d : Deed) → IsDeedOf k d → Suits k d
 deed_suits k d goes_first = inl refl

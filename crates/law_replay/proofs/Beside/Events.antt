@@ -22,8 +22,8 @@ use Rattle.ppd_sem.specs.declared.event.Access.{Access}
 use Rattle.ppd_sem.specs.declared.event.Spot.TheVariants as spot
 use Rattle.ppd_sem.specs.Asked.{once, and_then}
 use Rattle.ppd_sem.specs.Reads.{ask_place, local_read, reads_of, reads_of_all, reads_of_stored, reads_of_kind}
-use Rattle.law_replay.specs.Beside.Relation.{HasEnd}
-use Rattle.law_replay.specs.Beside.Over.{IsOverCells, AreOverCells, IsKindOver, SameIn}
+use Rattle.law_replay.proofs.Vocabulary.Relation.{HasEnd}
+use Rattle.law_replay.proofs.Vocabulary.Over.{IsOverCells, AreOverCells, IsKindOver, SameIn}
 use Rattle.law_replay.proofs.Beside.Asked.{ask_same}
 
 once_same : {A : Type 0} (q : Asked A) (next next' : A → List ℤ → List Access)

@@ -6,8 +6,8 @@ use Rattle.std.proofs.lemmas.List.{get_or_past}
 use Rattle.ppd_sem.specs.declared.proc.Frame.{Frame}
 use Rattle.ppd_sem.specs.Ask.{cell_of}
 use Rattle.ppd_sem.specs.Blocks.{with_values}
-use Rattle.law_replay.specs.Beside.Relation.{IsSameIn}
-use Rattle.law_replay.specs.Beside.Held.{Among, IsKeptBut}
+use Rattle.law_replay.proofs.Vocabulary.Relation.{IsSameIn}
+use Rattle.law_replay.proofs.Vocabulary.Held.{Among, IsKeptBut}
 
 set_to : (cells others : List ℤ) (c d : ℕ) → length cells ≡ length others
     → ((d ≡ c → ⊥) → cell_of cells d ≡ cell_of others d) → (d ≡ c) ⊎ (d ≡ c → ⊥) → (c < length others)

@@ -9,7 +9,8 @@ use Rattle.ppd_sem.specs.declared.proc.Todo.{Todo}
 use Rattle.ppd_sem.specs.declared.proc.Proc.{Proc}
 use Rattle.ppd_sem.specs.Process.{returned_from, todos, into_of, returned, receive_at, write_top, clear_top}
 use Rattle.ppd_sem.specs.Described.{ends_body}
-use Rattle.law_replay.specs.Beside.Relation.{Rests, Stacked, at_base, called, past_body, HasEnds, IsBlock, IsBeside, IsCallOf, IsListOf, IsReturn, IsCalled}
+use Rattle.law_replay.specs.Beside.Relation.{IsCallOf, IsListOf}
+use Rattle.law_replay.proofs.Vocabulary.Relation.{Rests, Stacked, at_base, called, past_body, HasEnds, IsBlock, IsBeside, IsReturn, IsCalled}
 use Rattle.law_replay.proofs.Beside.Deeds.{list_goes_on, call_goes_on, return_ends}
 use Rattle.law_replay.proofs.Beside.Frames.{clear_length, clear_stacked, moved_stacked, past_stacked, write_length, write_stacked}
 use Rattle.law_replay.proofs.Beside.Todos.{all_todos, end_more, end_past, last_more, last_past, past_on}

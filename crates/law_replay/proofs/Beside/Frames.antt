@@ -9,8 +9,8 @@ use Rattle.ppd_sem.specs.declared.proc.Frame.{Frame}
 use Rattle.ppd_sem.specs.declared.proc.Todo.{Todo}
 use Rattle.ppd_sem.specs.Ask.{cell_of}
 use Rattle.ppd_sem.specs.Process.{write_top, clear_top, clear_cells}
-use Rattle.law_replay.specs.Beside.Over.{SameIn}
-use Rattle.law_replay.specs.Beside.Relation.{HasEnd, IsOwnTodo, Rests, Stacked, at_base, called, past_body}
+use Rattle.law_replay.proofs.Vocabulary.Over.{SameIn}
+use Rattle.law_replay.proofs.Vocabulary.Relation.{HasEnd, IsOwnTodo, Rests, Stacked, at_base, called, past_body}
 use Rattle.ppd_sem.specs.Described.{ends_body}
 use Rattle.law_replay.proofs.Beside.Todos.{end_past, last_headed, last_past}
 

@@ -13,8 +13,9 @@ use Rattle.ppd_sem.specs.declared.proc.Proc.{Proc}
 use Rattle.ppd_sem.specs.Deed.{Deed, set_local, set_shared, clear, invoke, branch, leave, turn, back, take, give, send, receive, print, pass, finish}
 use Rattle.ppd_sem.specs.Process.{todos, into_of, new_frame, returned, returned_from, receive_at, write_top, clear_top, clear_cells, value_of, act_by_deed}
 use Rattle.ppd_sem.specs.Described.{ends_body}
-use Rattle.law_replay.specs.Beside.Relation.{HasEnd, IsLong, IsOwnTodo, past_body, HasEnds, IsListOf, IsCallOf, IsReturn, Suits}
-use Rattle.law_replay.specs.Beside.Held.{IsWriting, MayWrite, IsWritingBlock, IsReceiving, Held, own, called, IsIn, StaysIn}
+use Rattle.law_replay.specs.Beside.Relation.{IsListOf, IsCallOf}
+use Rattle.law_replay.proofs.Vocabulary.Relation.{HasEnd, IsLong, IsOwnTodo, past_body, HasEnds, IsReturn, Suits}
+use Rattle.law_replay.proofs.Vocabulary.Held.{IsWriting, MayWrite, IsWritingBlock, IsReceiving, Held, own, called, IsIn, StaysIn}
 use Rattle.law_replay.proofs.Beside.Deeds.{list_goes_on, call_goes_on, return_ends}
 use Rattle.law_replay.proofs.Beside.Todos.{all_todos, end_more, end_past, last_more, last_past, past_on}
 use Rattle.law_replay.proofs.Beside.Writes.{kept_clear, kept_set, some_same}

@@ -7,8 +7,8 @@ use Rattle.ppd_ast.specs.declared.program.Program.{Program}
 use Rattle.ppd_sem.specs.Blocks.{postlog_cells}
 use Rattle.ppd_sem.specs.declared.proc.Todo.{Todo}
 use Rattle.ppd_sem.specs.Tables.{block_of}
-use Rattle.law_replay.specs.Beside.Alone.{IsKept}
-use Rattle.law_replay.specs.Beside.Relation.{HasEnds, IsBlock}
+use Rattle.law_replay.proofs.Vocabulary.Alone.{IsKept}
+use Rattle.law_replay.proofs.Vocabulary.Relation.{HasEnds, IsBlock}
 use Rattle.law_replay.proofs.Beside.Closes.{AreUsed, closes_alike}
 use Rattle.law_replay.proofs.Beside.Kept.{IsOwned, frame, head}
 use Rattle.law_replay.proofs.Beside.Staying.{IsClosed, stays}

@@ -5,8 +5,8 @@ use Rattle.ppd_ast.specs.declared.plan.Plan.{Plan}
 use Rattle.ppd_ast.specs.declared.program.Program.{Program}
 use Rattle.ppd_sem.specs.declared.proc.Proc.{Proc}
 use Rattle.ppd_sem.specs.declared.proc.Todo.{Todo}
-use Rattle.law_replay.specs.Beside.Alone.{IsKept}
-use Rattle.law_replay.specs.Beside.Fine.{IsFine}
+use Rattle.law_replay.proofs.Vocabulary.Alone.{IsKept}
+use Rattle.law_replay.proofs.Vocabulary.Fine.{IsFine}
 
 module _ (program : Program) (plan : Plan) (used inside : ℕ → Type 0) (calls : Type 0) (closer : Todo) (home : ℕ)
     (depth : ℕ) (outside : List Todo) (Fine : Proc → Type 0) (fine : IsFine program plan Fine) where

@@ -24,10 +24,10 @@ use Rattle.ppd_ast.specs.Lookups.{kind_of}
 use Rattle.ppd_ast.specs.declared.limits.TheConstants.{MOST_CALLS}
 use Rattle.ppd_model.specs.Marks.{values_at}
 use Rattle.ppd_sem.specs.Blocks.{skipped}
-use Rattle.law_replay.specs.Beside.Relation.{HasEnds, IsBeside, IsBlock, Rests, Stacked, at_base, called}
-use Rattle.law_replay.specs.Beside.Held.{Among, Held}
+use Rattle.law_replay.proofs.Vocabulary.Relation.{HasEnds, IsBeside, IsBlock, Rests, Stacked, at_base, called}
+use Rattle.law_replay.proofs.Vocabulary.Held.{Among, Held}
 use Rattle.law_replay.specs.Beside.Opens.{open_at, opens}
-use Rattle.law_replay.specs.Beside.Across.{IsInLoop}
+use Rattle.law_replay.proofs.Vocabulary.Across.{IsInLoop}
 use Rattle.law_replay.proofs.Beside.Closing.{IsAlone, alone}
 use Rattle.law_replay.proofs.Beside.Skipped.{loop_past, skipped_by, skipped_is}
 use Rattle.law_replay.proofs.Beside.Turned.{asks_is, head_is}

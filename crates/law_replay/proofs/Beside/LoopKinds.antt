@@ -4,7 +4,8 @@ use Rattle.ppd_ast.specs.declared.plan.Plan.{Plan}
 use Rattle.ppd_ast.specs.declared.program.Kind.{Kind}
 use Rattle.ppd_ast.specs.declared.program.Kind.TheVariants as kind
 use Rattle.ppd_sem.specs.Described.{ends_body}
-use Rattle.law_replay.specs.Beside.Relation.{IsCallOf, IsEnd, IsReturn}
+use Rattle.law_replay.specs.Beside.Relation.{IsCallOf}
+use Rattle.law_replay.proofs.Vocabulary.Relation.{IsEnd, IsReturn}
 use Rattle.law_replay.specs.Beside.Opens.{IsWhile, ends_block}
 
 pub call_no_loop : (k : Kind) (f : ℕ) → IsCallOf k f → IsWhile k → ⊥

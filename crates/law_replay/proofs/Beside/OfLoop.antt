@@ -7,7 +7,7 @@ use Rattle.ppd_ast.specs.declared.program.Expr.{Expr}
 use Rattle.ppd_sem.specs.Deed.{ask_deed}
 use Rattle.ppd_sem.specs.Deed.{Deed, turn, leave}
 use Rattle.ppd_sem.proofs.OfKind.{IsDeedOf, asked_holds, leaves}
-use Rattle.law_replay.specs.Beside.Relation.{Yields}
+use Rattle.law_replay.proofs.Vocabulary.Relation.{Yields}
 use Rattle.law_replay.specs.Beside.Opens.{IsWhile}
 
 -- a loop's test leaves it or begins a turn, and no other statement does

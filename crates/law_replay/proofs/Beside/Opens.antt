@@ -24,7 +24,8 @@ use Rattle.ppd_ast.specs.Lookups.{kind_of, top_of_body, body_of_stmt}
 use Rattle.ppd_ast.specs.Counting.{one_if}
 use Rattle.ppd_ast.specs.declared.limits.TheConstants.{MOST_CALLS}
 use Rattle.ppd_model.specs.Marks.{opened, closed}
-use Rattle.law_replay.specs.Beside.Relation.{IsCallOf, IsReturn, IsEnd, Suits, Yields}
+use Rattle.law_replay.specs.Beside.Relation.{IsCallOf}
+use Rattle.law_replay.proofs.Vocabulary.Relation.{IsReturn, IsEnd, Suits, Yields}
 use Rattle.law_replay.specs.Beside.Opens.{IsCountable, IsCountedStep, IsHome, IsWhile, ends_block, open_at, opens}
 use Rattle.law_replay.proofs.Beside.Deeds.{call_goes_on, list_goes_on, suits}
 use Rattle.law_replay.proofs.Beside.Sends.{offered_goes_on, offered_no_loop}

@@ -14,8 +14,8 @@ use Rattle.ppd_sem.specs.Process.{charged, cost, into_of, returned, returned_fro
 use Rattle.ppd_sem.specs.Described.{ends_body}
 use Rattle.ppd_sem.specs.Blocks.{postlog_cells}
 use Rattle.ppd_sem.specs.Blocks.{with_values, write_all, skipped, frames_past, head_stmt}
-use Rattle.law_replay.specs.Beside.Relation.{Rests, Stacked, at_base, called, HasEnds, IsBlock, IsBeside}
-use Rattle.law_replay.specs.Beside.Held.{Among, IsKeptBut}
+use Rattle.law_replay.proofs.Vocabulary.Relation.{Rests, Stacked, at_base, called, HasEnds, IsBlock, IsBeside}
+use Rattle.law_replay.proofs.Vocabulary.Held.{Among, IsKeptBut}
 use Rattle.law_replay.proofs.Beside.Filled.{filled_whole, filled_same}
 use Rattle.law_replay.proofs.Beside.Framed.{Framed, past, receives}
 

@@ -18,7 +18,7 @@ use Rattle.ppd_sem.specs.Process.{call_unit, entry_of, head_deed, need_by_entry,
 use Rattle.ppd_sem.specs.Tables.{block_of}
 use Rattle.ppd_model.specs.Marks.{closed}
 use Rattle.ppd_emul_model.specs.Replay.{is_budget}
-use Rattle.law_replay.specs.Beside.Relation.{IsReturn, Rests, Stacked, Stays, StaysAt, Suits, Yields, at_base, called}
+use Rattle.law_replay.proofs.Vocabulary.Relation.{IsReturn, Rests, Stacked, Stays, StaysAt, Suits, Yields, at_base, called}
 use Rattle.law_replay.specs.Beside.Opens.{IsWhile}
 use Rattle.law_replay.proofs.Beside.Deeds.{call_goes_on, list_goes_on, suits}
 use Rattle.law_replay.proofs.Beside.OfLoop.{IsOfLoop, of_loop, only_loop}

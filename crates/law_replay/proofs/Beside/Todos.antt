@@ -6,7 +6,7 @@ use Rattle.ppd_ast.specs.Lookups.{kind_of}
 use Rattle.ppd_sem.specs.declared.proc.Todo.{Todo}
 use Rattle.ppd_sem.specs.Described.{ends_body}
 use Rattle.ppd_sem.specs.Process.{todos}
-use Rattle.law_replay.specs.Beside.Relation.{HasEnd, IsLast, IsLong, past_body}
+use Rattle.law_replay.proofs.Vocabulary.Relation.{HasEnd, IsLast, IsLong, past_body}
 use Rattle.ppd_model.specs.World.{Each}
 
 pub all_todos : (inside : ℕ → Type 0) (stmts : List ℕ) (ts : List Todo) → Each inside stmts

@@ -7,8 +7,8 @@ use Rattle.ppd_sem.specs.declared.proc.Frame.{Frame}
 use Rattle.ppd_sem.specs.Deed.{Deed, ask_deed}
 use Rattle.ppd_sem.specs.Process.{clear_cells}
 use Rattle.ppd_sem.proofs.OfKind.{IsDeedOf, asked_holds, clears, receives, sets, sets_element}
-use Rattle.law_replay.specs.Beside.Relation.{Yields}
-use Rattle.law_replay.specs.Beside.Held.{IsWriting, MayWrite, IsKeptBut}
+use Rattle.law_replay.proofs.Vocabulary.Relation.{Yields}
+use Rattle.law_replay.proofs.Vocabulary.Held.{IsWriting, MayWrite, IsKeptBut}
 
 -- ---- what a statement writes
 

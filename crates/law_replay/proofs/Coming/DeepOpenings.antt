@@ -28,7 +28,7 @@ use Rattle.law_steps.specs.OpenBlocks.Run.{IsRun}
 use Rattle.law_steps.specs.OpenBlocks.Stack.{IsInOrder, Moves, block_frames, functions_in, stack}
 use Rattle.law_steps.proofs.OpenBlocks.Stacks.{steps_move}
 use Rattle.law_replay.specs.Coming.Pieces.{unit_pieces}
-use Rattle.law_replay.specs.Coming.Nested.{HasStopped}
+use Rattle.law_replay.proofs.Vocabulary.Nested.{HasStopped}
 use Rattle.law_replay.specs.Coming.Openings.{Opening, opening, opening_by}
 use Rattle.law_replay.proofs.Coming.IndexSteps.{put_new}
 use Rattle.law_replay.proofs.Coming.Later.{finals, news}

@@ -20,7 +20,7 @@ use Rattle.ppd_model.specs.Story.{Moment, unit_started}
 use Rattle.ppd_model.specs.Synchronizations.{Sync}
 use Rattle.ppd_model.proofs.Extents.{Fall}
 use Rattle.law_replay.specs.Coming.Pieces.{Inner, coming, event_items, inner_opens, own_opens, unit_pieces}
-use Rattle.law_replay.specs.Coming.Nested.{HasStopped}
+use Rattle.law_replay.proofs.Vocabulary.Nested.{HasStopped}
 use Rattle.law_replay.specs.Coming.Openings.{Opening, coming_in, opening, opening_by}
 use Rattle.law_replay.proofs.Coming.Indexes.{At, Grows, Past}
 use Rattle.law_replay.proofs.Coming.IndexSteps.{end_inner, end_own, end_past, none_past, open_length, piece_length}

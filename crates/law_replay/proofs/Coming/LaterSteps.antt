@@ -9,7 +9,7 @@ use Rattle.ppd_model.specs.Logs.{log_step, status_of}
 use Rattle.ppd_model.specs.Marks.{Mark, opened, closed}
 use Rattle.ppd_model.specs.Story.{Moment}
 use Rattle.ppd_model.specs.Synchronizations.{sync_of}
-use Rattle.law_replay.specs.Coming.Nested.{Goes, HasStopped, IsNested}
+use Rattle.law_replay.proofs.Vocabulary.Nested.{Goes, HasStopped, IsNested}
 use Rattle.law_replay.proofs.Coming.Shapes.{Shape, closes, opens, passes, shape, stops}
 use Rattle.law_replay.proofs.Coming.Shapes as shapes
 use Rattle.law_replay.proofs.Coming.Later.{Comes, Steps, Stops, finals, next_proc, rest_by, stepped, stopped, waits}

@@ -10,7 +10,7 @@ use Rattle.ppd_model.specs.Logs.{begun_log, closed_log, closed_logs, log_of, log
 use Rattle.ppd_model.specs.Story.{Moment, own_moments, told}
 use Rattle.law_steps.specs.OpenBlocks.Stack.{block_frames}
 use Rattle.law_replay.specs.Coming.Pieces.{coming}
-use Rattle.law_replay.specs.Coming.Nested.{IsNested}
+use Rattle.law_replay.proofs.Vocabulary.Nested.{IsNested}
 use Rattle.law_replay.specs.Coming.Openings.{AreAlike, IsLogOf, Opening, opening, opening_of}
 use Rattle.law_replay.proofs.Coming.Indexes.{Grows}
 use Rattle.law_replay.proofs.Coming.Later.{Begins, Comes, finals, finals_are}

@@ -16,7 +16,7 @@ use Rattle.ppd_model.proofs.Statuses.{status_after}
 use Rattle.law_steps.specs.OpenBlocks.Run.{IsGiven, IsRun}
 use Rattle.law_steps.specs.OpenBlocks.Stack.{IsInOrder, Moves, stack}
 use Rattle.law_steps.proofs.OpenBlocks.Stacks.{steps_move}
-use Rattle.law_replay.specs.Coming.Nested.{Goes, HasStopped, IsNested}
+use Rattle.law_replay.proofs.Vocabulary.Nested.{Goes, HasStopped, IsNested}
 use Rattle.law_replay.proofs.Coming.Shapes.{Shape, closes, ends, opens, passes, shape, stops}
 
 -- a process that has stopped needs nothing

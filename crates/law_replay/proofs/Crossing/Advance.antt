@@ -20,9 +20,9 @@ use Rattle.ppd_sem.specs.Tables.{block_of}
 use Rattle.ppd_model.specs.Logs.{status_of}
 use Rattle.ppd_model.specs.Marks.{opened, closed}
 use Rattle.ppd_emul_model.specs.Replay.{is_budget}
-use Rattle.law_replay.specs.Beside.Relation.{HasEnds, IsEnd, IsReturn}
-use Rattle.law_replay.specs.Beside.Fine.{IsFine}
-use Rattle.law_replay.specs.Beside.Held.{Held, IsIn, IsWritingBlock, own, called}
+use Rattle.law_replay.proofs.Vocabulary.Relation.{HasEnds, IsEnd, IsReturn}
+use Rattle.law_replay.proofs.Vocabulary.Fine.{IsFine}
+use Rattle.law_replay.proofs.Vocabulary.Held.{Held, IsIn, IsWritingBlock, own, called}
 use Rattle.law_replay.specs.Beside.Opens.{IsCountable, IsCountedStep, IsHome, IsWhile, ends_block, open_at, opens}
 use Rattle.law_replay.proofs.Crossing.InBlock.{entry_long, in_block, offer_long}
 use Rattle.law_replay.proofs.Beside.Opens.{counted_step, opens_append}

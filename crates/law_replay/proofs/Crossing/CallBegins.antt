@@ -22,10 +22,11 @@ use Rattle.ppd_sem.specs.Process.{act, act_at, act_by_asked, act_by_need, charge
 use Rattle.ppd_sem.specs.Tables.{block_of, capacity_of, unit_of}
 use Rattle.ppd_model.specs.Marks.{closed}
 use Rattle.ppd_emul_model.specs.Replay.{is_budget}
-use Rattle.law_replay.specs.Beside.Alone.{IsKept}
-use Rattle.law_replay.specs.Beside.Relation.{HasEnds, IsBeside, IsBlock, IsCallOf, Suits, Yields}
-use Rattle.law_replay.specs.Beside.Calls.{IsCallBody, IsInCall}
-use Rattle.law_replay.specs.Beside.Held.{own}
+use Rattle.law_replay.proofs.Vocabulary.Alone.{IsKept}
+use Rattle.law_replay.specs.Beside.Relation.{IsCallOf}
+use Rattle.law_replay.proofs.Vocabulary.Relation.{HasEnds, IsBeside, IsBlock, Suits, Yields}
+use Rattle.law_replay.proofs.Vocabulary.Calls.{IsCallBody, IsInCall}
+use Rattle.law_replay.proofs.Vocabulary.Held.{own}
 use Rattle.law_replay.specs.Beside.Opens.{IsCountable, IsHome}
 use Rattle.law_replay.proofs.Beside.Deeds.{call_goes_on, suits}
 use Rattle.law_replay.proofs.Beside.Framed.{framed}

@@ -23,11 +23,11 @@ use Rattle.ppd_model.specs.Logs.{status_of}
 use Rattle.ppd_model.specs.Marks.{Mark, opened, closed}
 use Rattle.ppd_model.specs.Story.{unit_started}
 use Rattle.ppd_sem.specs.Blocks.{skipped, unit_past}
-use Rattle.law_replay.specs.Beside.Alone.{HasLeft}
-use Rattle.law_replay.specs.Beside.Relation.{HasEnds, IsBeside, IsBlock}
-use Rattle.law_replay.specs.Beside.Calls.{IsCallBlock}
-use Rattle.law_replay.specs.Beside.Fine.{IsFine}
-use Rattle.law_replay.specs.Beside.Held.{Held}
+use Rattle.law_replay.proofs.Vocabulary.Alone.{HasLeft}
+use Rattle.law_replay.proofs.Vocabulary.Relation.{HasEnds, IsBeside, IsBlock}
+use Rattle.law_replay.proofs.Vocabulary.Calls.{IsCallBlock}
+use Rattle.law_replay.proofs.Vocabulary.Fine.{IsFine}
+use Rattle.law_replay.proofs.Vocabulary.Held.{Held}
 use Rattle.law_replay.specs.Beside.Opens.{IsCountable, IsCountedStep, IsHome, open_at, opens}
 use Rattle.law_replay.proofs.Crossing.Advance.{has_head}
 use Rattle.law_replay.proofs.Crossing.Calls.{Call, not_over}

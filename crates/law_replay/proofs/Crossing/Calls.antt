@@ -22,11 +22,11 @@ use Rattle.ppd_sem.specs.Tables.{block_of}
 use Rattle.ppd_sem.proofs.Progress.{act-stopped, need_at_status}
 use Rattle.ppd_model.specs.Logs.{status_of}
 use Rattle.ppd_model.specs.Marks.{Mark, opened, closed}
-use Rattle.law_replay.specs.Beside.Alone.{IsInside}
-use Rattle.law_replay.specs.Beside.Relation.{HasEnds, IsEnd, IsReturn, Suits, Yields, past_body}
-use Rattle.law_replay.specs.Beside.Calls.{IsCallBlock, IsInCall, past_all}
-use Rattle.law_replay.specs.Beside.Fine.{IsFine}
-use Rattle.law_replay.specs.Beside.Held.{Held, own, called}
+use Rattle.law_replay.proofs.Vocabulary.Alone.{IsInside}
+use Rattle.law_replay.proofs.Vocabulary.Relation.{HasEnds, IsEnd, IsReturn, Suits, Yields, past_body}
+use Rattle.law_replay.proofs.Vocabulary.Calls.{IsCallBlock, IsInCall, past_all}
+use Rattle.law_replay.proofs.Vocabulary.Fine.{IsFine}
+use Rattle.law_replay.proofs.Vocabulary.Held.{Held, own, called}
 use Rattle.law_replay.specs.Beside.Opens.{IsCountable, opens}
 use Rattle.law_replay.proofs.Crossing.Advance.{advances, has_head, never_ends, open_once}
 use Rattle.law_replay.proofs.Beside.Deeds.{end_ends, return_ends, suits}

@@ -17,8 +17,8 @@ use Rattle.ppd_sem.specs.Process.{entry_of, head_deed, need_of_asked, need_of_le
 use Rattle.ppd_sem.specs.Tables.{block_of}
 use Rattle.ppd_model.specs.Logs.{status_of}
 use Rattle.ppd_model.specs.Marks.{closed}
-use Rattle.law_replay.specs.Beside.Relation.{IsLong, IsReturn, Suits, Yields}
-use Rattle.law_replay.specs.Beside.Held.{Held, StaysIn, own, called}
+use Rattle.law_replay.proofs.Vocabulary.Relation.{IsLong, IsReturn, Suits, Yields}
+use Rattle.law_replay.proofs.Vocabulary.Held.{Held, StaysIn, own, called}
 use Rattle.law_replay.specs.Beside.Opens.{IsWhile}
 use Rattle.law_replay.proofs.Beside.Deeds.{call_goes_on, list_goes_on, suits}
 use Rattle.law_replay.proofs.Beside.OfLoop.{IsOfLoop, of_loop}

@@ -13,10 +13,10 @@ use Rattle.ppd_sem.specs.declared.proc.Proc.{Proc}
 use Rattle.ppd_sem.specs.declared.proc.Todo.{Todo}
 use Rattle.ppd_sem.specs.Process.{act, act_at, act_by_need, cost, entry_of, head_deed, need_by_entry, need_by_offer, need_of, need_of_head, offer_of}
 use Rattle.ppd_sem.proofs.Progress.{need_at_todo}
-use Rattle.law_replay.specs.Beside.Across.{IsInLoop}
-use Rattle.law_replay.specs.Beside.Relation.{IsBeside, Stacked, at_base, called}
-use Rattle.law_replay.specs.Beside.Fine.{IsLoopBlock}
-use Rattle.law_replay.specs.Beside.Held.{Among, Held, IsIn, own}
+use Rattle.law_replay.proofs.Vocabulary.Across.{IsInLoop}
+use Rattle.law_replay.proofs.Vocabulary.Relation.{IsBeside, Stacked, at_base, called}
+use Rattle.law_replay.proofs.Vocabulary.Fine.{IsLoopBlock}
+use Rattle.law_replay.proofs.Vocabulary.Held.{Among, Held, IsIn, own}
 use Rattle.law_replay.specs.Beside.Opens.{IsWhile, ends_block}
 use Rattle.law_replay.proofs.Beside.Kept.{head}
 use Rattle.law_replay.proofs.Crossing.Loops.{entered_by}

@@ -20,10 +20,10 @@ use Rattle.ppd_model.specs.Logs.{status_of}
 use Rattle.ppd_model.specs.Marks.{Mark, opened, closed, values_at}
 use Rattle.ppd_model.specs.Story.{unit_started}
 use Rattle.ppd_sem.specs.Blocks.{skipped, unit_past}
-use Rattle.law_replay.specs.Beside.Alone.{HasLeft}
-use Rattle.law_replay.specs.Beside.Relation.{HasEnds, IsBeside, IsBlock, IsReturn}
-use Rattle.law_replay.specs.Beside.Fine.{IsFine, IsLoopBlock}
-use Rattle.law_replay.specs.Beside.Held.{Among, Held}
+use Rattle.law_replay.proofs.Vocabulary.Alone.{HasLeft}
+use Rattle.law_replay.proofs.Vocabulary.Relation.{HasEnds, IsBeside, IsBlock, IsReturn}
+use Rattle.law_replay.proofs.Vocabulary.Fine.{IsFine, IsLoopBlock}
+use Rattle.law_replay.proofs.Vocabulary.Held.{Among, Held}
 use Rattle.law_replay.specs.Beside.Opens.{IsCountable, IsCountedStep, IsHome, IsWhile, opens}
 use Rattle.law_replay.proofs.Crossing.Advance.{has_head}
 use Rattle.law_replay.proofs.Beside.Closing.{IsAlone, alone}

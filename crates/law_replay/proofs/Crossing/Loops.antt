@@ -21,11 +21,11 @@ use Rattle.ppd_sem.specs.Tables.{block_of}
 use Rattle.ppd_sem.proofs.Progress.{act-stopped, need_at_status}
 use Rattle.ppd_model.specs.Logs.{status_of}
 use Rattle.ppd_model.specs.Marks.{Mark, opened, closed}
-use Rattle.law_replay.specs.Beside.Across.{IsInLoop}
-use Rattle.law_replay.specs.Beside.Alone.{IsInside}
-use Rattle.law_replay.specs.Beside.Relation.{HasEnds, IsEnd, IsReturn}
-use Rattle.law_replay.specs.Beside.Fine.{IsFine, IsLoopBlock}
-use Rattle.law_replay.specs.Beside.Held.{Among, Held, own, called}
+use Rattle.law_replay.proofs.Vocabulary.Across.{IsInLoop}
+use Rattle.law_replay.proofs.Vocabulary.Alone.{IsInside}
+use Rattle.law_replay.proofs.Vocabulary.Relation.{HasEnds, IsEnd, IsReturn}
+use Rattle.law_replay.proofs.Vocabulary.Fine.{IsFine, IsLoopBlock}
+use Rattle.law_replay.proofs.Vocabulary.Held.{Among, Held, own, called}
 use Rattle.law_replay.specs.Beside.Opens.{IsCountable, IsWhile}
 use Rattle.law_replay.proofs.Crossing.Advance.{advances, never_ends}
 use Rattle.law_replay.proofs.Beside.Deeds.{end_ends, return_ends}

@@ -17,8 +17,8 @@ use Rattle.ppd_sem.specs.Deed.{Deed, set_local, set_shared, clear, branch, turn,
 use Rattle.ppd_sem.specs.Described.{ends_body}
 use Rattle.ppd_sem.specs.Process.{act, act_at, act_by_asked, act_by_deed, act_by_need, head_deed, into_of, need_of, receive_at, returned, returned_from, todos, top_cells, value_of}
 use Rattle.ppd_sem.proofs.Offers.{CompletesSend, completes}
-use Rattle.law_replay.specs.Beside.Relation.{HasEnds, Suits, Yields, past_body}
-use Rattle.law_replay.specs.Beside.Calls.{IsPastFrames, past_all}
+use Rattle.law_replay.proofs.Vocabulary.Relation.{HasEnds, Suits, Yields, past_body}
+use Rattle.law_replay.proofs.Vocabulary.Calls.{IsPastFrames, past_all}
 use Rattle.law_replay.proofs.Beside.Deeds.{call_goes_on, list_goes_on, return_ends, suits}
 use Rattle.law_replay.proofs.Beside.Sends.{send_goes_on}
 use Rattle.law_replay.proofs.Beside.Frames.{clear_length, write_length}

@@ -15,11 +15,11 @@ use Rattle.ppd_sem.specs.declared.proc.Todo.{Todo}
 use Rattle.ppd_sem.specs.Described.{ends_body}
 use Rattle.ppd_sem.specs.Process.{act, need_of}
 use Rattle.ppd_model.specs.Marks.{Mark, opened, closed}
-use Rattle.law_replay.specs.Beside.Across.{IsInLoop}
-use Rattle.law_replay.specs.Beside.Alone.{HasLeft, IsCrossing, IsInside, IsKept}
-use Rattle.law_replay.specs.Beside.Relation.{HasEnds, IsBeside, IsBlock}
-use Rattle.law_replay.specs.Beside.Calls.{IsCallBlock, IsCallBody, IsInCall}
-use Rattle.law_replay.specs.Beside.Fine.{IsFine, IsLoopBlock}
+use Rattle.law_replay.proofs.Vocabulary.Across.{IsInLoop}
+use Rattle.law_replay.proofs.Vocabulary.Alone.{HasLeft, IsCrossing, IsInside, IsKept}
+use Rattle.law_replay.proofs.Vocabulary.Relation.{HasEnds, IsBeside, IsBlock}
+use Rattle.law_replay.proofs.Vocabulary.Calls.{IsCallBlock, IsCallBody, IsInCall}
+use Rattle.law_replay.proofs.Vocabulary.Fine.{IsFine, IsLoopBlock}
 use Rattle.law_replay.specs.Beside.Opens.{IsCountable}
 use Rattle.law_replay.proofs.Crossing.CallBegins.{call_begins}
 use Rattle.law_replay.proofs.Crossing.CallLeft.{call_leaves}

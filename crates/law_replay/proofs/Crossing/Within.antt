@@ -24,8 +24,8 @@ use Rattle.ppd_sem.proofs.Offers.{DoneSuch, entry_done}
 use Rattle.ppd_sem.proofs.Progress.{SamePurse, asked_purse}
 use Rattle.ppd_model.specs.Logs.{status_of}
 use Rattle.ppd_emul_model.specs.Replay.{is_budget}
-use Rattle.law_replay.specs.Beside.Relation.{HasEnd, HasEnds, IsLong, Suits, Yields, past_body}
-use Rattle.law_replay.specs.Beside.Held.{Held, IsIn, IsWritingBlock, MayWrite, StaysIn, own, called}
+use Rattle.law_replay.proofs.Vocabulary.Relation.{HasEnd, HasEnds, IsLong, Suits, Yields, past_body}
+use Rattle.law_replay.proofs.Vocabulary.Held.{Held, IsIn, IsWritingBlock, MayWrite, StaysIn, own, called}
 use Rattle.law_replay.proofs.Beside.Deeds.{suits}
 use Rattle.law_replay.proofs.Beside.Held.{deed_held, head_written, past_held}
 use Rattle.law_replay.proofs.Beside.Writes.{writes_at_most}

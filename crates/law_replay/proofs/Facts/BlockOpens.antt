@@ -16,7 +16,8 @@ use Rattle.ppd_ast.specs.Counting.{one_if}
 use Rattle.ppd_sem.specs.Described.{ends_body}
 use Rattle.ppd_sem.specs.Process.{todos}
 use Rattle.ppd_sem.specs.Tables.{block_of}
-use Rattle.law_replay.specs.Beside.Relation.{IsCallOf, IsReturn}
+use Rattle.law_replay.specs.Beside.Relation.{IsCallOf}
+use Rattle.law_replay.proofs.Vocabulary.Relation.{IsReturn}
 use Rattle.law_replay.specs.Beside.Opens.{IsCountable, ends_block, opens}
 use Rattle.law_replay.proofs.Facts.Placed.{EndsOnce, IsAt, IsCallee, all_at, body_ends_once, callee, inside_goes_on, listed}
 use Rattle.ppd_model.specs.World.{Each}

@@ -17,8 +17,9 @@ use Rattle.ppd_sem.specs.declared.proc.Todo.{Todo}
 use Rattle.ppd_sem.specs.Described.{ends_body}
 use Rattle.ppd_sem.specs.Process.{todos}
 use Rattle.ppd_sem.specs.Tables.{block_of}
-use Rattle.law_replay.specs.Beside.Relation.{IsBlock, IsCallOf, IsLast, IsListOf, IsOwnTodo, IsReturn}
-use Rattle.law_replay.specs.Beside.Held.{IsWritingBlock}
+use Rattle.law_replay.specs.Beside.Relation.{IsCallOf, IsListOf}
+use Rattle.law_replay.proofs.Vocabulary.Relation.{IsBlock, IsLast, IsOwnTodo, IsReturn}
+use Rattle.law_replay.proofs.Vocabulary.Held.{IsWritingBlock}
 use Rattle.law_replay.proofs.Beside.Closes.{AreUsed}
 use Rattle.law_replay.proofs.Beside.Kept.{IsOwned}
 use Rattle.law_replay.proofs.Beside.Staying.{IsClosed}

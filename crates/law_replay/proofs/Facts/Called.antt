@@ -12,7 +12,8 @@ use Rattle.ppd_sem.specs.Deed.{Deed, set_local, clear, invoke, back, receive}
 use Rattle.ppd_sem.specs.Process.{act, act_by_deed, clear_top, into_of, new_frame, receive_at, returned, returned_from, started, top_cells, write_top}
 use Rattle.ppd_sem.specs.Runs.{bodies_in}
 use Rattle.ppd_model.proofs.Homes.{AreHome, IsHome as IsHomeAll}
-use Rattle.law_replay.specs.Beside.Relation.{IsCallOf, Suits, Yields}
+use Rattle.law_replay.specs.Beside.Relation.{IsCallOf}
+use Rattle.law_replay.proofs.Vocabulary.Relation.{Suits, Yields}
 use Rattle.law_replay.proofs.Beside.Deeds.{suits}
 use Rattle.law_replay.proofs.Facts.Keeping.{keeps}
 

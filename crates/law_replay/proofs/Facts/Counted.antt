@@ -24,7 +24,8 @@ use Rattle.ppd_blocks.specs.Blocks.{plan_of}
 use Rattle.law_steps.proofs.Course.Rising.{Place, place_of, top_stands}
 use Rattle.ppd_sem.specs.declared.proc.Frame.{Frame}
 use Rattle.ppd_sem.specs.Tables.{block_of}
-use Rattle.law_replay.specs.Beside.Relation.{IsCallOf, IsEnd}
+use Rattle.law_replay.specs.Beside.Relation.{IsCallOf}
+use Rattle.law_replay.proofs.Vocabulary.Relation.{IsEnd}
 use Rattle.law_steps.specs.OpenBlocks.Stack.{block_frames}
 use Rattle.law_replay.proofs.Facts.Called.{AreCalled}
 use Rattle.law_replay.proofs.Facts.BlockOpens.{is_function_body}

@@ -8,8 +8,8 @@ use Rattle.ppd_sem.specs.declared.proc.Proc.{Proc}
 use Rattle.ppd_sem.specs.declared.proc.Todo.{Todo}
 use Rattle.ppd_sem.specs.Runs.{bodies_in}
 use Rattle.ppd_model.proofs.Homes.{AreHome}
-use Rattle.law_replay.specs.Beside.Relation.{IsEnd}
-use Rattle.law_replay.specs.Beside.Fine.{IsFine}
+use Rattle.law_replay.proofs.Vocabulary.Relation.{IsEnd}
+use Rattle.law_replay.proofs.Vocabulary.Fine.{IsFine}
 use Rattle.law_replay.proofs.Facts.Called.{head_home}
 use Rattle.law_replay.proofs.Facts.Ended.{end_is}
 use Rattle.law_replay.proofs.Facts.State.{IsState, act_state, end_lowest, head_is_home}

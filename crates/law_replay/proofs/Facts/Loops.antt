@@ -25,8 +25,9 @@ use Rattle.ppd_sets.proofs.Looping.{loop_defined_by_statements, loop_used_by_sta
 use Rattle.ppd_units.specs.Walk.{stands_in}
 use Rattle.ppd_units.proofs.Paths.{sorted_from}
 use Rattle.law_steps.proofs.Units.Numbers.{block_loop, loop_is_while}
-use Rattle.law_replay.specs.Beside.Relation.{IsBlock, IsListOf}
-use Rattle.law_replay.specs.Beside.Held.{Among, IsWritingBlock}
+use Rattle.law_replay.specs.Beside.Relation.{IsListOf}
+use Rattle.law_replay.proofs.Vocabulary.Relation.{IsBlock}
+use Rattle.law_replay.proofs.Vocabulary.Held.{Among, IsWritingBlock}
 use Rattle.law_replay.specs.Beside.Opens.{IsWhile}
 use Rattle.law_replay.proofs.Facts.Bodies.{HasCall, each_of}
 use Rattle.law_replay.proofs.Beside.Closes.{AreUsed}

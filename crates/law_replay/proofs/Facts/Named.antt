@@ -10,8 +10,8 @@ use Rattle.ppd_ast.specs.Uses.{kind_uses}
 use Rattle.ppd_ast.specs.Members.{has}
 use Rattle.ppd_ast.proofs.Members.{has_first, has_later, has_left, has_right, in_bounds_has, flat_from}
 use Rattle.ppd_sets.specs.Named.{cells_in, local_cells, reads, writes}
-use Rattle.law_replay.specs.Beside.Held.{IsWriting}
-use Rattle.law_replay.specs.Beside.Over.{AreOverCells, IsKindOver, IsOverCells}
+use Rattle.law_replay.proofs.Vocabulary.Held.{IsWriting}
+use Rattle.law_replay.proofs.Vocabulary.Over.{AreOverCells, IsKindOver, IsOverCells}
 use Rattle.ppd_model.proofs.Changes.{some}
 
 in_cells : (base len k : ℕ) → k < len → IsTrue (has (local_cells false base len) (base + k))

@@ -21,7 +21,8 @@ use Rattle.ppd_sem.specs.declared.proc.Todo.{Todo}
 use Rattle.ppd_sem.specs.Described.{ends_body}
 use Rattle.ppd_sem.specs.Process.{todos}
 use Rattle.ppd_sem.proofs.Validity.{last_cons}
-use Rattle.law_replay.specs.Beside.Relation.{HasEnd, HasEnds, IsCallOf, IsListOf, past_body}
+use Rattle.law_replay.specs.Beside.Relation.{IsCallOf, IsListOf}
+use Rattle.law_replay.proofs.Vocabulary.Relation.{HasEnd, HasEnds, past_body}
 use Rattle.ppd_model.proofs.Changes.{some}
 use Rattle.ppd_model.proofs.Parents.{none_some}
 use Rattle.ppd_model.specs.World.{Each}

@@ -23,7 +23,8 @@ use Rattle.ppd_sem.proofs.Kept.{leads_at, length-clear}
 use Rattle.ppd_sem.proofs.Validity.{valid-runnable}
 use Rattle.ppd_model.proofs.Homes.{AskedOf, head_of}
 use Rattle.ppd_model.specs.World.{Each}
-use Rattle.law_replay.specs.Beside.Relation.{IsCallOf, Suits, Yields}
+use Rattle.law_replay.specs.Beside.Relation.{IsCallOf}
+use Rattle.law_replay.proofs.Vocabulary.Relation.{Suits, Yields}
 use Rattle.law_replay.proofs.Beside.Deeds.{suits}
 use Rattle.law_replay.proofs.Facts.Keeping.{keeps}
 use Rattle.law_replay.proofs.Facts.Placed.{IsCallee, callee}

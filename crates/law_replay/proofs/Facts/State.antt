@@ -28,7 +28,7 @@ use Rattle.ppd_sem.proofs.Starts.{started_runs}
 use Rattle.ppd_sem.proofs.Validity.{valid-runnable}
 use Rattle.ppd_model.proofs.Homes.{AreHome, IsHome as IsHomeAll, act-home, started-home}
 use Rattle.ppd_model.specs.World.{Each}
-use Rattle.law_replay.specs.Beside.Relation.{IsEnd}
+use Rattle.law_replay.proofs.Vocabulary.Relation.{IsEnd}
 use Rattle.law_replay.specs.Beside.Opens.{IsHome}
 use Rattle.law_replay.proofs.Facts.Called.{AreCalled, act_called, head_home, started_called}
 use Rattle.law_steps.specs.OpenBlocks.Stack.{block_frames}

@@ -14,7 +14,7 @@ use Rattle.ppd_sem.specs.declared.proc.Proc.{Proc}
 use Rattle.ppd_sem.specs.Ask.{cell_of}
 use Rattle.ppd_sem.specs.Process.{cells_for, new_frame}
 use Rattle.ppd_sem.specs.Runs.{size_if, size_of}
-use Rattle.law_replay.specs.Beside.Relation.{IsBeside, IsSameIn, Stacked, at_base}
+use Rattle.law_replay.proofs.Vocabulary.Relation.{IsBeside, IsSameIn, Stacked, at_base}
 use Rattle.law_replay.specs.Coming.Openings.{Opening}
 use Rattle.law_replay.proofs.Openings.Blocks.{begins_own, calls_in, closer_in, inside_in, opening_frames, used_in}
 use Rattle.law_steps.specs.OpenBlocks.Stack.{block_frames}

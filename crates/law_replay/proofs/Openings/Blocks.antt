@@ -17,8 +17,8 @@ use Rattle.ppd_sem.specs.declared.proc.Todo.{Todo}
 use Rattle.ppd_sem.specs.Process.{todos}
 use Rattle.ppd_sem.specs.Tables.{block_of}
 use Rattle.law_steps.proofs.Course.Standing.{in_itself}
-use Rattle.law_replay.specs.Beside.Alone.{IsKept}
-use Rattle.law_replay.specs.Beside.Relation.{IsBlock, IsOwnTodo}
+use Rattle.law_replay.proofs.Vocabulary.Alone.{IsKept}
+use Rattle.law_replay.proofs.Vocabulary.Relation.{IsBlock, IsOwnTodo}
 use Rattle.law_replay.proofs.Facts.Bodies.{EachCell, HasCall, IsOf, body_begins, body_block, body_closer, body_postlogs, body_writing, ender, function_closed, function_owned, process_closed, process_owned}
 use Rattle.law_replay.proofs.Beside.Instance.{kept_by}
 use Rattle.law_replay.proofs.Facts.Loops.{IsPrelogged, IsWithin, closer_of, loop_block_is, loop_closed, loop_owned, loop_postlogs, loop_writing, postlog_is}
@@ -26,7 +26,7 @@ use Rattle.law_steps.specs.OpenBlocks.Stack.{block_frames}
 use Rattle.law_replay.proofs.Facts.Counted.{inside_body}
 use Rattle.law_replay.proofs.Facts.State.{IsState, opening_counted}
 use Rattle.law_replay.proofs.Facts.Within.{within_listed}
-use Rattle.law_replay.specs.Beside.Held.{Among, IsWritingBlock}
+use Rattle.law_replay.proofs.Vocabulary.Held.{Among, IsWritingBlock}
 use Rattle.law_replay.proofs.Facts.Placed.{has_ends}
 
 -- the local cells that a block of this kind uses

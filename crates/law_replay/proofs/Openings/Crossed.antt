@@ -16,9 +16,9 @@ use Rattle.ppd_sem.specs.declared.proc.Todo.{Todo}
 use Rattle.ppd_sem.specs.Described.{ends_body}
 use Rattle.ppd_sem.specs.Process.{todos}
 use Rattle.ppd_sem.specs.Tables.{block_of}
-use Rattle.law_replay.specs.Beside.Relation.{IsLast, IsOwnTodo, IsReturn}
-use Rattle.law_replay.specs.Beside.Calls.{IsCallBlock, IsCallBody}
-use Rattle.law_replay.specs.Beside.Fine.{IsLoopBlock}
+use Rattle.law_replay.proofs.Vocabulary.Relation.{IsLast, IsOwnTodo, IsReturn}
+use Rattle.law_replay.proofs.Vocabulary.Calls.{IsCallBlock, IsCallBody}
+use Rattle.law_replay.proofs.Vocabulary.Fine.{IsLoopBlock}
 use Rattle.law_replay.specs.Beside.Opens.{ends_block, open_at}
 use Rattle.law_replay.proofs.Openings.Blocks.{IsBodyThere, closer_in}
 use Rattle.law_replay.proofs.Facts.Bodies.{IsOf, body_begins, body_closer, body_writing, each_of, ender, last_stmt}

@@ -32,7 +32,8 @@ use Rattle.ppd_sem.specs.Runs.{bodies_in}
 use Rattle.ppd_model.proofs.Homes.{AreHome, AskedOf, head_of}
 use Rattle.ppd_model.specs.Marks.{Mark, opened}
 use Rattle.ppd_model.specs.Story.{unit_started}
-use Rattle.law_replay.specs.Beside.Relation.{IsCallOf, Suits, Yields}
+use Rattle.law_replay.specs.Beside.Relation.{IsCallOf}
+use Rattle.law_replay.proofs.Vocabulary.Relation.{Suits, Yields}
 use Rattle.law_replay.proofs.Openings.Blocks.{IsBodyThere}
 use Rattle.law_replay.proofs.Facts.Called.{head_home}
 use Rattle.law_replay.proofs.Beside.Deeds.{suits}

@@ -16,7 +16,7 @@ use Rattle.ppd_blocks.specs.Blocks.{params_of, prelog_of}
 use Rattle.ppd_sem.specs.declared.proc.Frame.{Frame}
 use Rattle.ppd_sem.specs.Ask.{cell_of}
 use Rattle.ppd_sem.specs.Process.{cells_for, new_frame}
-use Rattle.law_replay.specs.Beside.Held.{Among}
+use Rattle.law_replay.proofs.Vocabulary.Held.{Among}
 use Rattle.law_replay.proofs.Openings.Blocks.{IsBodyThere, used_in}
 use Rattle.law_replay.proofs.Facts.Loops.{among}
 use Rattle.law_replay.proofs.Openings.Opened.{IsMarkedBy}

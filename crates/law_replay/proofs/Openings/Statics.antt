@@ -6,9 +6,9 @@ use Rattle.ppd_ast.specs.declared.program.Program.{Program}
 use Rattle.ppd_ast.specs.Valid.{IsValid}
 use Rattle.ppd_blocks.specs.Blocks.{plan_of}
 use Rattle.ppd_sem.specs.Blocks.{block_body, block_kind, block_todo}
-use Rattle.law_replay.specs.Beside.Alone.{IsKept}
-use Rattle.law_replay.specs.Beside.Relation.{HasEnds, IsBlock, IsOwnTodo}
-use Rattle.law_replay.specs.Beside.Held.{IsWritingBlock}
+use Rattle.law_replay.proofs.Vocabulary.Alone.{IsKept}
+use Rattle.law_replay.proofs.Vocabulary.Relation.{HasEnds, IsBlock, IsOwnTodo}
+use Rattle.law_replay.proofs.Vocabulary.Held.{IsWritingBlock}
 use Rattle.law_replay.specs.Coming.Openings.{Opening}
 use Rattle.law_replay.specs.Beside.Opens.{IsCountable}
 use Rattle.law_replay.proofs.Openings.Blocks.{begins_own, block_is, block_kept, block_writing, calls_in, closer_in, inside_in, opening_frames, used_in, written_in}

@@ -25,7 +25,7 @@ use Rattle.law_steps.proofs.OpenBlocks.Runs.{schedules_run}
 use Rattle.law_steps.proofs.OpenBlocks.Stacks.{steps_move}
 use Rattle.law_steps.proofs.OpenBlocks.Told.{moments_length, own_steps_are}
 use Rattle.law_replay.specs.Coming.Pieces.{coming}
-use Rattle.law_replay.specs.Coming.Nested.{Goes, HasStopped, IsNested}
+use Rattle.law_replay.proofs.Vocabulary.Nested.{Goes, HasStopped, IsNested}
 use Rattle.law_replay.specs.Coming.Openings.{AreAlike, IsSpanOf, Opening, SpansAreComing, opening, opening_of}
 use Rattle.law_replay.proofs.Coming.Shapes.{Shape, closes, opens, passes, shape, stops}
 use Rattle.law_replay.proofs.Coming.Shapes as shapes

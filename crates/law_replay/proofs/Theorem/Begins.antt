@@ -12,7 +12,7 @@ use Rattle.ppd_entry.specs.Pieces.{Piece, unit}
 use Rattle.ppd_sem.specs.Blocks.{at_block, block_body, block_kind, block_unit}
 use Rattle.ppd_sem.specs.declared.proc.Proc.{Proc}
 use Rattle.ppd_emul_model.specs.Replay.{Replayed, Replaying, go_on, replay, replay_from, take_unit}
-use Rattle.law_replay.specs.Beside.Alone.{IsCrossing, IsKept}
+use Rattle.law_replay.proofs.Vocabulary.Alone.{IsCrossing, IsKept}
 use Rattle.law_replay.proofs.Beside.KeptFine.{kept_fine}
 use Rattle.law_replay.proofs.Beside.Turned.{unit_turn}
 use Rattle.law_replay.specs.Coming.Pieces.{Coming, coming}

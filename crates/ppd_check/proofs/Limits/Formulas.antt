@@ -13,7 +13,7 @@ use Rattle.ppd_check_names.specs.Reading.{Phrase, token, formula, goal, phrase, 
 use Rattle.ppd_check.proofs.Limits.Trees.{signs, signs_in, levels, levels_in, IsJoined, Fits, FitsIn}
 use Rattle.ppd_check.proofs.Limits.Depths.{place_in}
 use Rattle.ppd_check.proofs.Limits.Small.{indexes}
-use Rattle.ppd_check.specs.Sizes.{operators_in}
+use Rattle.ppd_check.proofs.Vocabulary.Sizes.{operators_in}
 
 -- Small expressions among phrases.
 

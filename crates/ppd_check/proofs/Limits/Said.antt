@@ -15,7 +15,7 @@ use Rattle.ppd_check.proofs.Limits.Trees.{signs_in, levels, levels_in, OwnFits, 
 use Rattle.ppd_check.proofs.Limits.Depths.{place_in}
 use Rattle.ppd_check.proofs.Limits.Small.{IsSmall, IsShort, IsSmallGoal, IsSmallValue, IsSmallIfAny, IsSmallSimple, IsSmallChange, IsSmallRow, IsSmallItem}
 use Rattle.ppd_check.proofs.Limits.Formulas.{weight, depth, said_few, said_below}
-use Rattle.ppd_check.specs.Sizes.{operators_in}
+use Rattle.ppd_check.proofs.Vocabulary.Sizes.{operators_in}
 
 -- Small phrases, whose rows are at most n deep.
 

@@ -5,7 +5,7 @@ use Rattle.std.specs.List.{AllByRecursion}
 use Rattle.ppd_ast.specs.declared.limits.TheConstants.{MOST_NAME_BYTES, MOST_OPEN, MOST_SOURCE_OPERATORS}
 use Rattle.ppd_check_names.specs.Syntax.{Name, Formula, number, variable, element, negated, inverted, two, both, either, Goal, Value, plain, result, received, Simple, fresh, array, store, change, call, give_back, take, give, send, print, assert, Row, stop, simple, block, choice, repeat, count, Item, shared, shared_array, semaphore, channel, function, process}
 use Rattle.ppd_check_names.specs.Reading.{goal_formula, params}
-use Rattle.ppd_check.specs.Sizes.{operators_in}
+use Rattle.ppd_check.proofs.Vocabulary.Sizes.{operators_in}
 
 -- Measures of expressions.
 

@@ -19,7 +19,7 @@ use Rattle.ppd_check_stmts.specs.Table.{terms}
 use Rattle.ppd_check_stmts.specs.Statements.{row_faults}
 use Rattle.ppd_check_bodies.specs.Sources.{head_faults, params_faults, return_faults, past_statements, heads, codes, bodies, all_stmts, outer, entry, core, Accepted}
 use Rattle.ppd_check_names.specs.Globals.{Head, Globals, no_globals, globals, items_faults, count_faults}
-use Rattle.ppd_check.specs.Sizes.{SourceFits}
+use Rattle.ppd_check.proofs.Vocabulary.Sizes.{SourceFits}
 use Rattle.ppd_check_stmts.proofs.Table.Writing.{length_flats}
 use Rattle.ppd_check_bodies.proofs.Heading.{length_bodies}
 use Rattle.ppd_check.proofs.Valid.Facts.{HeadNames, SourceNames}

@@ -11,7 +11,7 @@ use Rattle.ppd_check_names.specs.Syntax.{Source, Item, shared, shared_array, sem
 use Rattle.ppd_check_names.specs.Reading.{source_of, said, as_items}
 use Rattle.ppd_check_bodies.specs.Sources.{vars, core}
 use Rattle.ppd_check_names.specs.Globals.{Head, Object, Globals, no_globals, with_item, with_items, globals, sem, chan}
-use Rattle.ppd_check.specs.Sizes.{IsShort, ItemFits, SourceFits}
+use Rattle.ppd_check.proofs.Vocabulary.Sizes.{IsShort, ItemFits, SourceFits}
 use Rattle.ppd_check.proofs.Valid.Facts.{AreCounted}
 use Rattle.ppd_check.proofs.Valid.Headers.{HeadersPass, ItemPasses, tree_passes}
 use Rattle.ppd_check.proofs.Valid.Sizes.{AreShort, HeadFits, vars_short}

@@ -19,7 +19,7 @@ use Rattle.ppd_check.proofs.Limits.Depths.{place_in, statements_program, places_
 use Rattle.ppd_check.proofs.Limits.Said.{AreShort, AreShortIn, small_source}
 use Rattle.ppd_check_names.specs.Syntax.{Formula, number, variable, element, negated, inverted, two, both, either, Goal, scalar, item, Value, plain, result, received, Simple, Row, Item, shared, shared_array, semaphore, channel, function, process}
 use Rattle.ppd_check_names.specs.Syntax as S
-use Rattle.ppd_check.specs.Sizes as Z
+use Rattle.ppd_check.proofs.Vocabulary.Sizes as Z
 use Rattle.ppd_check.proofs.Limits.Small as L
 
 -- each part on the way down is an operator, an element or the last one

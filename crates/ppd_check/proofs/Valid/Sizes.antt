@@ -27,7 +27,7 @@ use Rattle.ppd_check_stmts.specs.Statements.{spot, spot_of, put, store_acts, ret
 use Rattle.ppd_check_names.specs.Frames.{declared, hidden_name, after_cells}
 use Rattle.ppd_check_bodies.specs.Sources.{close_code, head_code, head_frame, outer, entry, with_params, ends_with_return, vars}
 use Rattle.ppd_check_names.specs.Globals.{Head}
-use Rattle.ppd_check.specs.Sizes.{operators_in, depth_in, IsSmall, AreSmall, IsShort, GoalFits, ValueFits, ValueFitsIfAny, SimpleFits, SimpleFitsIfAny, RowFits, nested}
+use Rattle.ppd_check.proofs.Vocabulary.Sizes.{operators_in, depth_in, IsSmall, AreSmall, IsShort, GoalFits, ValueFits, ValueFitsIfAny, SimpleFits, SimpleFitsIfAny, RowFits, nested}
 use Rattle.ppd_check_stmts.proofs.Table.Joined.{terms_join}
 use Rattle.ppd_check.proofs.Valid.Facts.{TermSmall, nesting, HeadSizes}
 use Rattle.ppd_check.proofs.Limits.Said.{all_join}

@@ -13,11 +13,12 @@ use Rattle.ppd_model.specs.declared.flow.Origin.TheVariants as origin
 use Rattle.ppd_model.specs.declared.trace.TracedEvent.{TracedEvent}
 use Rattle.ppd_flow_model.specs.declared.writer.Writer.TheVariants.{Fresh, At}
 use Rattle.ppd_flow_model.specs.Locals.{Scan, begins_leaf, receives, scan, scan_event, scan_item, written_by, is_local}
-use Rattle.law_flow_own.specs.Places.Levels.{Level, put}
+use Rattle.law_flow_own.specs.Places.Levels.{Level}
+use Rattle.law_flow_own.proofs.Vocabulary.Levels.{put}
 use Rattle.law_flow_own.specs.Places.Leaves.{items_so_far, leaf_of}
 use Rattle.law_flow_own.proofs.Places.Scans.{items_more, next_is, own_item, same_place, scan_more}
-use Rattle.law_flow_own.specs.Locals.Says.{Says, SaysOr}
-use Rattle.law_flow_own.specs.Locals.LoopTells.{here, of_scan}
+use Rattle.law_flow_own.proofs.Vocabulary.Says.{Says, SaysOr}
+use Rattle.law_flow_own.proofs.Vocabulary.LoopTells.{here, of_scan}
 use Rattle.std.specs.List.{list_any}
 use Rattle.ppd_sem.specs.declared.event.Access.{Access}
 

@@ -14,11 +14,12 @@ use Rattle.ppd_model.specs.declared.flow.Origin.{Origin}
 use Rattle.ppd_flow_model.specs.declared.writer.Writer.TheVariants.{Of}
 use Rattle.ppd_flow_model.specs.Locals.{Scan, frame_in, in_loops, scan, scan_interval, scan_item, writer_at, written_by}
 use Rattle.ppd_flow_model.specs.Seen.{items_at, last_item, seen_of}
-use Rattle.law_flow_own.specs.Places.Levels.{Level, put}
+use Rattle.law_flow_own.specs.Places.Levels.{Level}
+use Rattle.law_flow_own.proofs.Vocabulary.Levels.{put}
 use Rattle.law_flow_own.specs.Places.Leaves.{items_so_far, leaf_of}
 use Rattle.law_flow_own.proofs.Places.Scans.{items_more, nested_item, same_place, scan_more}
-use Rattle.law_flow_own.specs.Locals.Says.{Says, SaysOr}
-use Rattle.law_flow_own.specs.Locals.LoopTells.{here, of_scan}
+use Rattle.law_flow_own.proofs.Vocabulary.Says.{Says, SaysOr}
+use Rattle.law_flow_own.proofs.Vocabulary.LoopTells.{here, of_scan}
 use Rattle.ppd_sem.specs.Process.{into_of}
 use Rattle.ppd_model.specs.Synchronizations.{is_number}
 

@@ -8,7 +8,7 @@ use Rattle.ppd_ast.specs.declared.program.Kind.{Kind}
 use Rattle.ppd_ast.specs.declared.program.Kind.TheVariants as kind
 use Rattle.ppd_ast.specs.declared.program.Program.{Program}
 use Rattle.ppd_ast.specs.Lookups.{kind_of}
-use Rattle.law_replay.specs.Beside.Held.{Among, IsWriting}
+use Rattle.law_replay.proofs.Vocabulary.Held.{Among, IsWriting}
 use Rattle.ppd_blocks.specs.Blocks.{plan_of}
 use Rattle.law_replay.proofs.Facts.Loops.{loop_writing}
 use Rattle.ppd_sem.specs.Blocks.{postlog_cells}
@@ -16,7 +16,7 @@ use Rattle.ppd_sem.specs.Process.{into_of}
 use Rattle.ppd_sem.specs.Tables.{block_of}
 use Rattle.ppd_units.specs.Walk.{stands_in}
 use Rattle.ppd_model.specs.Synchronizations.{is_number}
-use Rattle.law_flow_own.specs.Locals.LoopTells.{Takes}
+use Rattle.law_flow_own.proofs.Vocabulary.LoopTells.{Takes}
 use Rattle.law_flow_own.proofs.Locals.Cells.Writes.{among_in}
 
 number_is : (o : Option ℕ) (c : ℕ) → is_number o c ≡ true → o ≡ Some c

@@ -5,8 +5,8 @@ use Rattle.std.specs.Prelude.{nat_eq}
 use Rattle.std.proofs.lemmas.Bool.{or_cases, or_left, or_right}
 use Rattle.ppd_ast.specs.declared.plan.Plan.{Plan}
 use Rattle.ppd_ast.specs.declared.program.Program.{Program}
-use Rattle.law_replay.specs.Beside.Relation.{Yields}
-use Rattle.law_replay.specs.Beside.Held.{Among, IsWriting, MayWrite}
+use Rattle.law_replay.proofs.Vocabulary.Relation.{Yields}
+use Rattle.law_replay.proofs.Vocabulary.Held.{Among, IsWriting, MayWrite}
 use Rattle.law_replay.proofs.Beside.Writes.{writes_at_most}
 use Rattle.ppd_sem.specs.Asked.{Asked}
 use Rattle.ppd_sem.specs.Deed.{Deed, set_local, set_shared, clear, branch, turn, leave, invoke, back, take, give, send, receive, print, pass, finish}

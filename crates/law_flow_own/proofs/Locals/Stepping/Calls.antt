@@ -29,15 +29,16 @@ use Rattle.ppd_model.specs.declared.tracing.Taken.{Taken}
 use Rattle.ppd_model.proofs.Homes.{AskedOf, head_of}
 use Rattle.ppd_flow_model.specs.declared.leaf_call.LeafCall.{LeafCall}
 use Rattle.ppd_flow_model.specs.Locals.{frame_in, is_leaf_call, is_local, receives, Scan, begins_leaf, scan}
-use Rattle.law_flow_own.specs.Places.Levels.{Level, put}
+use Rattle.law_flow_own.specs.Places.Levels.{Level}
+use Rattle.law_flow_own.proofs.Vocabulary.Levels.{put}
 use Rattle.law_flow_own.specs.Places.Leaves.{items_so_far, leaf_of, open_at}
 use Rattle.law_flow_own.proofs.Places.Moves.{IsCalling}
 use Rattle.law_flow_own.proofs.Places.NoLeaf.{call_no_leaf, is_call_of}
 use Rattle.law_flow_own.proofs.Places.Scans.{items_more, own_item, scan_more}
 use Rattle.law_flow_own.proofs.Places.Telling.{call_stays, leaf_call_is, leaf_over}
 use Rattle.ppd_model.specs.declared.flow.Item.TheVariants as item
-use Rattle.law_flow_own.specs.Locals.Says.{activations}
-use Rattle.law_flow_own.specs.Locals.LoopTells.{LoopTells, Takes, own_number}
+use Rattle.law_flow_own.proofs.Vocabulary.Says.{activations}
+use Rattle.law_flow_own.proofs.Vocabulary.LoopTells.{LoopTells, Takes, own_number}
 use Rattle.law_flow_own.proofs.Locals.Cells.Events.{writes}
 use Rattle.law_flow_own.proofs.Locals.Cells.Spots.{passed_is}
 use Rattle.law_flow_own.proofs.Locals.Inside.{IsInside}

@@ -21,8 +21,8 @@ use Rattle.law_flow_own.specs.Places.Levels.{Level}
 use Rattle.law_flow_own.specs.Places.Leaves.{leaf_of}
 use Rattle.ppd_ast.specs.declared.plan.BlockKind.{BlockKind}
 use Rattle.ppd_sem.specs.Tables.{block_of}
-use Rattle.law_flow_own.specs.Locals.Says.{IsUnwritten, activations, with_own}
-use Rattle.law_flow_own.specs.Locals.LoopTells.{IsBefore, IsCalledIn, IsOutside, IsTold, LeafTold, LoopTells, OwnTold, here, own_number}
+use Rattle.law_flow_own.proofs.Vocabulary.Says.{IsUnwritten, activations, with_own}
+use Rattle.law_flow_own.proofs.Vocabulary.LoopTells.{IsBefore, IsCalledIn, IsOutside, IsTold, LeafTold, LoopTells, OwnTold, here, own_number}
 use Rattle.law_flow_own.proofs.Locals.Cells.Intervals.{says_then}
 use Rattle.law_flow_own.proofs.Locals.Stepping.FirstLevel.{IsFirst, TellsThen}
 use Rattle.law_flow_own.proofs.Locals.Tells.Same.{cover, tells_same}

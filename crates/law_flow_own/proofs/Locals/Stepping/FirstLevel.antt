@@ -33,8 +33,8 @@ use Rattle.law_flow_own.proofs.Places.Steps.{event_there}
 use Rattle.law_flow_own.proofs.Places.Telling.{stmt_now, trap_now}
 use Rattle.law_flow_own.proofs.Places.Told.{Told}
 use Rattle.law_flow_own.proofs.Places.Whole.{AreWhole, first_level, level_whole}
-use Rattle.law_flow_own.specs.Locals.Says.{activations, with_own}
-use Rattle.law_flow_own.specs.Locals.LoopTells.{own_number}
+use Rattle.law_flow_own.proofs.Vocabulary.Says.{activations, with_own}
+use Rattle.law_flow_own.proofs.Vocabulary.LoopTells.{own_number}
 use Rattle.law_flow_own.proofs.Locals.Counts.{begun_count, frames_length, own_of, some_begun}
 use Rattle.law_flow_own.proofs.Locals.Returned.{part_there}
 use Rattle.law_flow_own.proofs.Locals.Tells.Tags.{IsEventAt, TellsOf, are_tagged, change_of, none_below, writes_at}

@@ -26,7 +26,8 @@ use Rattle.ppd_model.specs.declared.tracing.Taken.{Taken}
 use Rattle.ppd_model.proofs.LocalSteps.{tags_its_writes}
 use Rattle.ppd_model.proofs.Statuses.{status_after}
 use Rattle.law_flow_own.specs.Places.Closing.{closing}
-use Rattle.law_flow_own.specs.Places.Levels.{IsLater, Level, levels_after, put}
+use Rattle.law_flow_own.specs.Places.Levels.{IsLater, Level}
+use Rattle.law_flow_own.proofs.Vocabulary.Levels.{levels_after, put}
 use Rattle.law_flow_own.specs.Places.Leaves.{leaf_of}
 use Rattle.law_flow_own.proofs.Places.Following.{IsFollowed, something, told_step}
 use Rattle.law_flow_own.proofs.Places.Opening.{first_block, not_nil}
@@ -40,7 +41,7 @@ use Rattle.ppd_ast.specs.Lookups.{kind_of}
 use Rattle.ppd_sem.specs.Tables.{block_of}
 use Rattle.std.specs.Prelude.{is_some, slice_get}
 use Rattle.ppd_model.proofs.Changes.{some}
-use Rattle.law_flow_own.specs.Locals.Says.{activations, with_own}
+use Rattle.law_flow_own.proofs.Vocabulary.Says.{activations, with_own}
 use Rattle.law_flow_own.proofs.Locals.Counts.{with_more}
 use Rattle.law_flow_own.proofs.Locals.Inside.{IsInside, inside_is}
 use Rattle.law_flow_own.proofs.Locals.OpenSpans.{new_framed}

@@ -33,7 +33,8 @@ use Rattle.ppd_model.proofs.Lists.{get_mapped}
 use Rattle.ppd_flow_model.specs.Locals.{Scan, frame_in, scan}
 use Rattle.ppd_flow_model.specs.Seen.{items_at, last_item, seen_of}
 use Rattle.law_flow_own.specs.Places.Closing.{closing}
-use Rattle.law_flow_own.specs.Places.Levels.{Level, put}
+use Rattle.law_flow_own.specs.Places.Levels.{Level}
+use Rattle.law_flow_own.proofs.Vocabulary.Levels.{put}
 use Rattle.law_flow_own.specs.Places.Leaves.{AreBegun, IsBegunOutside, begun_by, items_so_far, leaf_of, open_at}
 use Rattle.law_flow_own.proofs.Places.Moves.{IsLeft, IsOther, IsReturning}
 use Rattle.law_flow_own.proofs.Places.Opening.{begun_own, first_block, leaf_interval}
@@ -43,8 +44,8 @@ use Rattle.ppd_ast.specs.Lookups.{kind_of}
 use Rattle.ppd_sem.specs.Runs.{returns}
 use Rattle.ppd_sem.specs.Described.{is_event}
 use Rattle.law_flow_own.proofs.Places.Whole.{AreWhole}
-use Rattle.law_flow_own.specs.Locals.Says.{activations, with_own}
-use Rattle.law_flow_own.specs.Locals.LoopTells.{IsCalledIn, LoopTells, Takes, own_number}
+use Rattle.law_flow_own.proofs.Vocabulary.Says.{activations, with_own}
+use Rattle.law_flow_own.proofs.Vocabulary.LoopTells.{IsCalledIn, LoopTells, Takes, own_number}
 use Rattle.law_flow_own.proofs.Locals.Cells.Intervals.{returned_to}
 use Rattle.law_flow_own.proofs.Locals.Cells.Spots.{not_eq}
 use Rattle.law_flow_own.proofs.Locals.Closes.{IsLeftNow, left_now}

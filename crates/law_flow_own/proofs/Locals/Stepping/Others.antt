@@ -19,16 +19,17 @@ use Rattle.ppd_model.specs.declared.tracing.Story.{Story}
 use Rattle.ppd_model.specs.declared.tracing.Taken.{Taken}
 use Rattle.ppd_flow_model.specs.declared.leaf_call.LeafCall.{LeafCall}
 use Rattle.ppd_flow_model.specs.Locals.{frame_in, leaf_after, receives}
-use Rattle.law_flow_own.specs.Places.Levels.{Level, put}
+use Rattle.law_flow_own.specs.Places.Levels.{Level}
+use Rattle.law_flow_own.proofs.Vocabulary.Levels.{put}
 use Rattle.law_flow_own.specs.Places.Leaves.{items_so_far, leaf_of}
 use Rattle.law_flow_own.proofs.Places.Moves.{IsOther}
 use Rattle.law_flow_own.proofs.Places.Opening.{leaf_event}
 use Rattle.law_flow_own.proofs.Places.Scans.{leaf_stays}
-use Rattle.law_replay.specs.Beside.Held.{Among}
+use Rattle.law_replay.proofs.Vocabulary.Held.{Among}
 use Rattle.ppd_ast.specs.declared.plan.BlockKind.{BlockKind}
 use Rattle.ppd_ast.specs.Lookups.{kind_of}
-use Rattle.law_flow_own.specs.Locals.Says.{activations, with_own}
-use Rattle.law_flow_own.specs.Locals.LoopTells.{IsLoopTold, Takes, own_number}
+use Rattle.law_flow_own.proofs.Vocabulary.Says.{activations, with_own}
+use Rattle.law_flow_own.proofs.Vocabulary.LoopTells.{IsLoopTold, Takes, own_number}
 use Rattle.law_flow_own.proofs.Locals.Cells.Events.{writes}
 use Rattle.law_flow_own.proofs.Locals.Cells.Postlogs.{into_in, writes_in}
 use Rattle.law_flow_own.proofs.Locals.Cells.Writes.{among_in, any_own, event_cell, event_other}

@@ -25,14 +25,15 @@ use Rattle.ppd_model.specs.declared.tracing.Taken.{Taken}
 use Rattle.ppd_flow_model.specs.declared.leaf_call.LeafCall.{LeafCall}
 use Rattle.ppd_flow_model.specs.Locals.{frame_in, receives}
 use Rattle.law_flow_own.specs.Places.Closing.{closing}
-use Rattle.law_flow_own.specs.Places.Levels.{Level, put}
+use Rattle.law_flow_own.specs.Places.Levels.{Level}
+use Rattle.law_flow_own.proofs.Vocabulary.Levels.{put}
 use Rattle.law_flow_own.specs.Places.Leaves.{IsBegunAt, begun_by, items_so_far, leaf_of, open_at}
 use Rattle.law_flow_own.proofs.Places.Moves.{IsReturning}
 use Rattle.law_flow_own.proofs.Places.Opening.{begun_leaf, first_leaf}
 use Rattle.law_flow_own.proofs.Places.Telling.{leaf_ends}
 use Rattle.ppd_model.specs.declared.flow.Item.TheVariants as item
-use Rattle.law_flow_own.specs.Locals.Says.{activations}
-use Rattle.law_flow_own.specs.Locals.LoopTells.{own_number}
+use Rattle.law_flow_own.proofs.Vocabulary.Says.{activations}
+use Rattle.law_flow_own.proofs.Vocabulary.LoopTells.{own_number}
 use Rattle.law_flow_own.proofs.Locals.Cells.Spots.{not_eq}
 use Rattle.law_flow_own.proofs.Locals.Inside.{IsInside}
 use Rattle.law_flow_own.proofs.Locals.Once.{first_begun}

@@ -12,11 +12,12 @@ use Rattle.ppd_model.specs.declared.flow.Origin.TheVariants as origin
 use Rattle.ppd_model.specs.declared.trace.TracedEvent.{TracedEvent}
 use Rattle.ppd_flow_model.specs.Locals.{scan}
 use Rattle.ppd_flow_model.specs.Seen.{last_item, seen_of}
-use Rattle.law_flow_own.specs.Places.Levels.{Level, put}
+use Rattle.law_flow_own.specs.Places.Levels.{Level}
+use Rattle.law_flow_own.proofs.Vocabulary.Levels.{put}
 use Rattle.law_flow_own.specs.Places.Leaves.{items_so_far, leaf_of}
 use Rattle.law_flow_own.proofs.Places.Opening.{leaf_interval}
-use Rattle.law_flow_own.specs.Locals.Says.{Says, SaysOr, activations, with_own}
-use Rattle.law_flow_own.specs.Locals.LoopTells.{IsBefore, LoopTells, OwnTold, here, own_number}
+use Rattle.law_flow_own.proofs.Vocabulary.Says.{Says, SaysOr, activations, with_own}
+use Rattle.law_flow_own.proofs.Vocabulary.LoopTells.{IsBefore, LoopTells, OwnTold, here, own_number}
 use Rattle.law_flow_own.proofs.Locals.Cells.Events.{says_item}
 use Rattle.law_flow_own.proofs.Locals.Cells.Intervals.{here_returned, here_unreturned, loops_returned, returned_to}
 use Rattle.law_flow_own.proofs.Locals.Tells.Put.{cover_own, low_told, unless_in}

@@ -12,11 +12,12 @@ use Rattle.ppd_model.specs.NearIntervals.{is_in, is_loop}
 use Rattle.ppd_flow_model.specs.declared.leaf_call.LeafCall.{LeafCall}
 use Rattle.ppd_flow_model.specs.Locals.{frame_in}
 use Rattle.ppd_flow_model.specs.Seen.{items_at, seen_of}
-use Rattle.law_flow_own.specs.Places.Levels.{Level, put}
+use Rattle.law_flow_own.specs.Places.Levels.{Level}
+use Rattle.law_flow_own.proofs.Vocabulary.Levels.{put}
 use Rattle.law_flow_own.specs.Places.Leaves.{items_so_far, leaf_of}
 use Rattle.law_flow_own.proofs.Places.Opening.{leaf_interval}
-use Rattle.law_flow_own.specs.Locals.Says.{IsUnwritten, SaysOr, activations, with_own}
-use Rattle.law_flow_own.specs.Locals.LoopTells.{IsBefore, IsLoopTold, IsOutside, IsTold, LeafTold, LoopTells, OwnTold, here, own_number}
+use Rattle.law_flow_own.proofs.Vocabulary.Says.{IsUnwritten, SaysOr, activations, with_own}
+use Rattle.law_flow_own.proofs.Vocabulary.LoopTells.{IsBefore, IsLoopTold, IsOutside, IsTold, LeafTold, LoopTells, OwnTold, here, own_number}
 use Rattle.law_flow_own.proofs.Locals.Cells.Intervals.{here_loop, here_past, loops_past, says_both, says_then}
 
 module _ (program : Program) (plan : Plan) (p : ℕ) (y : Split) where

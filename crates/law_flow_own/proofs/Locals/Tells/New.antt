@@ -11,10 +11,11 @@ use Rattle.ppd_model.specs.NearIntervals.{is_in, is_loop}
 use Rattle.ppd_model.specs.declared.flow.Origin.TheVariants as origin
 use Rattle.ppd_model.specs.declared.trace.TracedEvent.{TracedEvent}
 use Rattle.ppd_flow_model.specs.Locals.{frame_in}
-use Rattle.law_flow_own.specs.Places.Levels.{Level, put}
+use Rattle.law_flow_own.specs.Places.Levels.{Level}
+use Rattle.law_flow_own.proofs.Vocabulary.Levels.{put}
 use Rattle.law_flow_own.specs.Places.Leaves.{leaf_of}
-use Rattle.law_flow_own.specs.Locals.Says.{IsPassed, Says, activations, with_own}
-use Rattle.law_flow_own.specs.Locals.LoopTells.{IsBefore, IsCalledIn, IsTold, OwnTold, own_number}
+use Rattle.law_flow_own.proofs.Vocabulary.Says.{IsPassed, Says, activations, with_own}
+use Rattle.law_flow_own.proofs.Vocabulary.LoopTells.{IsBefore, IsCalledIn, IsTold, OwnTold, own_number}
 use Rattle.law_flow_own.proofs.Locals.Cells.Events.{says_item, writes}
 use Rattle.law_flow_own.proofs.Locals.Tells.Tags.{Change, IsEventAt}
 

@@ -12,10 +12,11 @@ use Rattle.ppd_model.specs.NearIntervals.{is_in, is_loop}
 use Rattle.ppd_model.specs.declared.trace.TracedEvent.{TracedEvent}
 use Rattle.ppd_flow_model.specs.declared.leaf_call.LeafCall.{LeafCall}
 use Rattle.ppd_flow_model.specs.Locals.{begins_leaf, frame_in, receives}
-use Rattle.law_flow_own.specs.Places.Levels.{Level, put}
+use Rattle.law_flow_own.specs.Places.Levels.{Level}
+use Rattle.law_flow_own.proofs.Vocabulary.Levels.{put}
 use Rattle.law_flow_own.specs.Places.Leaves.{leaf_of}
-use Rattle.law_flow_own.specs.Locals.Says.{SaysOr, activations, with_own}
-use Rattle.law_flow_own.specs.Locals.LoopTells.{IsBefore, IsLoopTold, LeafTold, LoopTells, OwnTold, Takes, here, own_number}
+use Rattle.law_flow_own.proofs.Vocabulary.Says.{SaysOr, activations, with_own}
+use Rattle.law_flow_own.proofs.Vocabulary.LoopTells.{IsBefore, IsLoopTold, LeafTold, LoopTells, OwnTold, Takes, here, own_number}
 use Rattle.law_flow_own.proofs.Locals.Cells.Events.{here_event, here_same, loops_event, writes}
 use Rattle.law_flow_own.proofs.Locals.Tells.Same.{cover, tells_same}
 use Rattle.law_flow_own.proofs.Locals.Tells.Tags.{Change, IsEventAt}

@@ -13,8 +13,8 @@ use Rattle.ppd_flow_model.specs.declared.leaf_call.LeafCall.{LeafCall}
 use Rattle.ppd_flow_model.specs.Locals.{frame_in}
 use Rattle.law_flow_own.specs.Places.Levels.{Level}
 use Rattle.law_flow_own.specs.Places.Leaves.{leaf_of}
-use Rattle.law_flow_own.specs.Locals.Says.{SaysOr, activations, with_own}
-use Rattle.law_flow_own.specs.Locals.LoopTells.{IsBefore, IsTold, LoopTells, here, own_number}
+use Rattle.law_flow_own.proofs.Vocabulary.Says.{SaysOr, activations, with_own}
+use Rattle.law_flow_own.proofs.Vocabulary.LoopTells.{IsBefore, IsTold, LoopTells, here, own_number}
 
 -- the activations that n levels' are told of, where no loop runs directly inside, and where one does
 abbrev pub cover : Bool → ℕ → ℕ

@@ -19,8 +19,8 @@ use Rattle.ppd_model.specs.declared.tracing.Tracing.{Tracing}
 use Rattle.ppd_flow_model.specs.Locals.{frame_in, is_local}
 use Rattle.law_flow_own.specs.Places.Levels.{Level}
 use Rattle.law_flow_own.specs.Places.Leaves.{items_so_far, leaf_of}
-use Rattle.law_flow_own.specs.Locals.Says.{activations, with_own}
-use Rattle.law_flow_own.specs.Locals.LoopTells.{LoopTells}
+use Rattle.law_flow_own.proofs.Vocabulary.Says.{activations, with_own}
+use Rattle.law_flow_own.proofs.Vocabulary.LoopTells.{LoopTells}
 use Rattle.law_flow_own.proofs.Locals.Cells.Events.{writes}
 use Rattle.law_flow_own.proofs.Locals.Cells.Spots.{any_none, any_same, cell_at, cell_below}
 

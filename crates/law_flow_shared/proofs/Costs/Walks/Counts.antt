@@ -7,7 +7,7 @@ use Rattle.ppd_model.specs.declared.trace.TracedEvent.{TracedEvent}
 use Rattle.ppd_model.proofs.Changes.{some}
 use Rattle.ppd_model.proofs.Tested.{In, here as first_in, there as later_in}
 use Rattle.ppd_flow_model.specs.Shared.{greater, greatest}
-use Rattle.law_flow_shared.specs.Edges.Events.{AreQuiet, synchronizes}
+use Rattle.law_flow_shared.proofs.Vocabulary.Events.{AreQuiet, synchronizes}
 use Rattle.law_flow_shared.proofs.Edges.Back.Walked.{same_count}
 use Rattle.law_flow_shared.proofs.Edges.LogPlaces.EdgePlaces.{count_one}
 use Rattle.law_flow_shared.proofs.Edges.Spans.Facts.{count_to}

@@ -30,7 +30,7 @@ use Rattle.ppd_flow_model.specs.Ends.{end_interval, end_item}
 use Rattle.ppd_flow_model.specs.Seen.{Seen, seen_of}
 use Rattle.ppd_flow_model.specs.Shared.{Missing, seen_at, walk_in, writing, written_at, written_in}
 use Rattle.ppd_flow_model.specs.Walk.{walk, walk_replays}
-use Rattle.law_flow_shared.specs.Edges.Events.{IsLastWriter, IsWalk}
+use Rattle.law_flow_shared.proofs.Vocabulary.Events.{IsLastWriter, IsWalk}
 use Rattle.law_flow_shared.specs.Edges.Near.{IsOpenAt}
 use Rattle.law_flow_shared.specs.Edges.SharedEdges.{all_seen}
 use Rattle.law_flow_shared.specs.Edges.Within.{AreDistinct}

@@ -11,7 +11,7 @@ use Rattle.ppd_model.proofs.Changes.{some}
 use Rattle.ppd_flow_model.specs.declared.walked.Walked.{Walked}
 use Rattle.ppd_flow_model.specs.declared.walked.Walked.TheVariants.{Stopped, Passed, Found}
 use Rattle.ppd_flow_model.specs.Shared.{Missing, own_or}
-use Rattle.law_flow_shared.specs.Edges.Events.{AreQuiet, IsLastSync, IsLastWriter, IsWalk, synchronizes, written_by}
+use Rattle.law_flow_shared.proofs.Vocabulary.Events.{AreQuiet, IsLastSync, IsLastWriter, IsWalk, synchronizes, written_by}
 use Rattle.law_flow_shared.proofs.Edges.LogPlaces.EdgePlaces.{count_one}
 use Rattle.law_flow_shared.proofs.Edges.Spans.Facts.{count_to}
 use Rattle.ppd_ast.proofs.ValidLaws.{slice_get_there}

@@ -15,7 +15,7 @@ use Rattle.ppd_flow_model.specs.declared.walked.Walked.{Walked}
 use Rattle.ppd_flow_model.specs.declared.walked.Walked.TheVariants.{Stopped, Passed, Found}
 use Rattle.ppd_flow_model.specs.Seen.{Seen, is_item_of, items_at, place_of, seen_of}
 use Rattle.ppd_flow_model.specs.Walk.{back, back_from, back_over, backwards, found_or, inside as inside_of, onward, over_event, value_to, walk, walk_out}
-use Rattle.law_flow_shared.specs.Edges.Events.{AreQuiet, IsLastSync, IsLastWriter, IsQuiet, IsWalk, synchronizes, written_by}
+use Rattle.law_flow_shared.proofs.Vocabulary.Events.{AreQuiet, IsLastSync, IsLastWriter, IsQuiet, IsWalk, synchronizes, written_by}
 use Rattle.law_flow_shared.proofs.Edges.Spans.Tiles.{Stands, Tiles, ends, event, inside, outermost, within, IsNowhere, rises}
 use Rattle.ppd_ast.proofs.ValidLaws.{slice_get_there, slice_get_below}
 use Rattle.ppd_graph.proofs.Leads.{length_mapped}

@@ -17,7 +17,7 @@ use Rattle.ppd_model.specs.RecordedSets.{sync_in}
 use Rattle.ppd_flow_model.specs.Ends.{edge_at, end_interval, end_item, ending, ends_edge, first_edge, innermost_at, is_sync, sync_item}
 use Rattle.ppd_flow_model.specs.Seen.{items_at, seen_of}
 use Rattle.ppd_flow_model.specs.Walk.{walk}
-use Rattle.law_flow_shared.specs.Edges.Events.{IsWalk, synchronizes}
+use Rattle.law_flow_shared.proofs.Vocabulary.Events.{IsWalk, synchronizes}
 use Rattle.law_flow_shared.proofs.Edges.LogPlaces.EdgePlaces.{cut, edge_is, first_edge_is, none_is, sync_is}
 use Rattle.law_flow_shared.proofs.Edges.Spans.Facts.{Logged, OpensAt, SyncsAt, at, count_to, syncs}
 use Rattle.law_flow_shared.proofs.Edges.LogPlaces.Innermost.{innermost_is, innermost_none}

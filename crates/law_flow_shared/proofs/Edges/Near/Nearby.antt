@@ -19,7 +19,7 @@ use Rattle.ppd_model.specs.Story.{Moment, own_moments, story, told}
 use Rattle.ppd_model.proofs.Tested.{In, here as first_in, there as later_in}
 use Rattle.ppd_flow_model.specs.Seen.{seen_of}
 use Rattle.ppd_flow_model.specs.Walk.{walk_replays}
-use Rattle.law_flow_shared.specs.Edges.Events.{synchronizes}
+use Rattle.law_flow_shared.proofs.Vocabulary.Events.{synchronizes}
 use Rattle.law_flow_shared.specs.Edges.Near.{IsOpenAt, WalksStayNear}
 use Rattle.law_flow_shared.proofs.Edges.LogPlaces.EdgeEnds.{place_of_event}
 use Rattle.law_flow_shared.proofs.Edges.LogPlaces.EdgePlaces.{count_one}

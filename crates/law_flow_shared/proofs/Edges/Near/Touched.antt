@@ -12,7 +12,7 @@ use Rattle.ppd_flow_model.specs.declared.walked.Walked.{Walked}
 use Rattle.ppd_flow_model.specs.declared.walked.Walked.TheVariants.{Stopped, Passed, Found}
 use Rattle.ppd_flow_model.specs.Seen.{Seen, items_at, place_of, seen_of}
 use Rattle.ppd_flow_model.specs.Walk.{back, back_from, back_over, back_replays, backwards, found_or, if_passed, inside as inside_of, inside_replays, out_replays, over_event, over_replays, value_to, walk_replays}
-use Rattle.law_flow_shared.specs.Edges.Events.{IsWalk, synchronizes}
+use Rattle.law_flow_shared.proofs.Vocabulary.Events.{IsWalk, synchronizes}
 use Rattle.law_flow_shared.proofs.Edges.Spans.Tiles.{Stands, Tiles, ends, event, inside, outermost, within, rises}
 use Rattle.law_flow_shared.proofs.Edges.Back.Walks.{here, items_are, map_at, place_is, right_inside, taken, whole}
 use Rattle.law_flow_shared.proofs.Edges.Sources.Members.{in_cases, in_either, no_member}

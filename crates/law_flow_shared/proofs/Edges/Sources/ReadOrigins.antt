@@ -38,7 +38,7 @@ use Rattle.ppd_flow_model.specs.Shared.{edge_of_place, greatest, greatest_before
 use Rattle.ppd_flow_model.specs.Ends.{edge_at}
 use Rattle.ppd_flow_model.specs.Walk.{walk}
 use Rattle.law_static.proofs.SharedCells.Writers.{count_is, events_in}
-use Rattle.law_flow_shared.specs.Edges.Events.{AreQuiet, IsLastWriter, synchronizes, written_by}
+use Rattle.law_flow_shared.proofs.Vocabulary.Events.{AreQuiet, IsLastWriter, synchronizes, written_by}
 use Rattle.law_flow_shared.specs.Edges.SharedEdges.{SharedOriginsAreFound, all_seen}
 use Rattle.law_flow_shared.proofs.Edges.LogPlaces.EdgeEnds.{IsAt, at_place}
 use Rattle.law_flow_shared.proofs.Edges.LogPlaces.EdgePlaces.{count_one}

@@ -10,7 +10,7 @@ use Rattle.ppd_model.specs.RecordedSets.{sync_in}
 use Rattle.ppd_model.specs.World.{change}
 use Rattle.ppd_model.proofs.Changes.{length-change}
 use Rattle.ppd_model.proofs.CountedOn.{last_at}
-use Rattle.law_flow_shared.specs.Edges.Events.{synchronizes}
+use Rattle.law_flow_shared.proofs.Vocabulary.Events.{synchronizes}
 use Rattle.law_flow_shared.proofs.Edges.Spans.Facts.{Logged, More, MoreEvents, OpensAt, SyncsAt, at, count_front, count_last, count_to, opens_on, syncs, syncs_on}
 use Rattle.law_flow_shared.proofs.Edges.Spans.Tiles.{HaveGrown, Stands, Tiles, all_covered, one_event}
 use Rattle.law_flow_shared.proofs.Edges.Spans.Told.{Around, IsInnermost, IsPlaced, IsTold, AreTiled, around_on, at_last, changed_at, changed_below, changed_cases, grown_all, grown_by, none_more, placed_on, stands_of, syncs_last, tiles_on}

@@ -14,7 +14,7 @@ use Rattle.ppd_model.specs.Intervals.{Part, nested, Span, is_closed}
 use Rattle.ppd_model.specs.RecordedSets.{sync_in}
 use Rattle.ppd_model.specs.World.{change}
 use Rattle.ppd_model.proofs.Changes.{change-at, change-else, some}
-use Rattle.law_flow_shared.specs.Edges.Events.{synchronizes}
+use Rattle.law_flow_shared.proofs.Vocabulary.Events.{synchronizes}
 use Rattle.law_flow_shared.proofs.Edges.Spans.Facts.{Logged, More, MoreEvents, OpensAt, SyncsAt, at, count_to, logged_on, opens_on, syncs}
 use Rattle.law_flow_shared.proofs.Edges.Spans.Tiles.{Covers, HasGrown, HaveGrown, IsNowhere, Stands, Tiles, covers_grow, outermost, stands_grow, tiles_grow, within}
 

@@ -22,7 +22,7 @@ use Rattle.ppd_model.proofs.Parents.{own_from, own_to}
 use Rattle.law_static.proofs.Events.{there}
 use Rattle.law_static.proofs.SharedCells.Writers.{events_in}
 use Rattle.law_static.proofs.SharedCells.Writing.{count_events}
-use Rattle.law_flow_shared.specs.Edges.Events.{AreQuiet, IsQuiet, synchronizes, written_by}
+use Rattle.law_flow_shared.proofs.Vocabulary.Events.{AreQuiet, IsQuiet, synchronizes, written_by}
 use Rattle.law_flow_shared.proofs.Edges.Spans.Facts.{count_front, count_last, count_to}
 use Rattle.law_flow_shared.proofs.Edges.Spans.Steps.{IsNumbered, events_are, headed, new_event, no_sync, told_events, AreNumbered}
 use Rattle.law_flow_shared.proofs.Edges.StepEvents.Writes.{event_writes, write_to}

@@ -12,8 +12,8 @@ use Rattle.ppd_sem.specs.declared.proc.Todo.{Todo}
 use Rattle.ppd_sem.specs.Described.{ends_body}
 use Rattle.ppd_sem.specs.Process.{act, need_of}
 use Rattle.ppd_sem.specs.Tables.{block_of}
-use Rattle.law_replay.specs.Beside.Relation.{IsEnd}
-use Rattle.law_replay.specs.Beside.Held.{Among, IsWritingBlock}
+use Rattle.law_replay.proofs.Vocabulary.Relation.{IsEnd}
+use Rattle.law_replay.proofs.Vocabulary.Held.{Among, IsWritingBlock}
 use Rattle.law_replay.specs.Beside.Opens.{IsHome, IsWhile}
 
 -- it goes on with each step, its head is at home, and a process's end stands in the first frame

@@ -18,7 +18,7 @@ use Rattle.ppd_flow_model.specs.Locals.{Scan, frame_in, in_loops, scan, writer_a
 use Rattle.ppd_flow_model.specs.Seen.{seen_of}
 use Rattle.law_flow_own.specs.Places.Levels.{Level}
 use Rattle.law_flow_own.specs.Places.Leaves.{items_so_far, leaf_of}
-use Rattle.law_flow_own.specs.Locals.Says.{IsUnwritten, SaysOr, activations, with_own}
+use Rattle.law_flow_own.proofs.Vocabulary.Says.{IsUnwritten, SaysOr, activations, with_own}
 
 -- the origin that a scan of interval k finds: in the loops since the cell's writer, or that writer
 abbrev pub of_scan : Program → Plan → ℕ → Split → ℕ → ℕ → Scan → Option Origin

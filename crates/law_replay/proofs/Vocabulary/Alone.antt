@@ -15,7 +15,7 @@ use Rattle.ppd_sem.specs.Blocks.{skipped, unit_past}
 use Rattle.ppd_emul_model.specs.Fits.{wanted_of}
 use Rattle.ppd_emul_model.specs.declared.wanted.Wanted.TheVariants as wanted
 use Rattle.ppd_emul_model.specs.Replay.{is_budget}
-use Rattle.law_replay.specs.Beside.Relation.{IsBeside, Stacked, StaysAt}
+use Rattle.law_replay.proofs.Vocabulary.Relation.{IsBeside, Stacked, StaysAt}
 
 -- the step neither opens nor closes an interval, nor ends the process
 pub record IsInside (program : Program) (plan : Plan) (s : Proc) (n : Need) : Type 0 where

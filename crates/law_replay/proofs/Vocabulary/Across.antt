@@ -11,8 +11,8 @@ use Rattle.ppd_sem.specs.declared.proc.Todo.{Todo}
 use Rattle.ppd_sem.specs.Described.{ends_body}
 use Rattle.ppd_sem.specs.Process.{cost, need_of}
 use Rattle.ppd_sem.specs.declared.proc.Need.{Need}
-use Rattle.law_replay.specs.Beside.Relation.{IsBeside}
-use Rattle.law_replay.specs.Beside.Held.{Among, IsIn}
+use Rattle.law_replay.proofs.Vocabulary.Relation.{IsBeside}
+use Rattle.law_replay.proofs.Vocabulary.Held.{Among, IsIn}
 use Rattle.law_replay.specs.Beside.Opens.{opens}
 
 -- with need n the replay r comes to a statement that opens a block: `before` is the process as it then was

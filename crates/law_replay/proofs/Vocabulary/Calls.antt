@@ -11,10 +11,10 @@ use Rattle.ppd_sem.specs.declared.proc.Todo.{Todo}
 use Rattle.ppd_sem.specs.Described.{ends_body}
 use Rattle.ppd_sem.specs.Process.{cost, todos}
 use Rattle.ppd_sem.specs.Tables.{block_of}
-use Rattle.law_replay.specs.Beside.Relation.{IsEnd, IsOwnTodo, past_body}
-use Rattle.law_replay.specs.Beside.Held.{IsIn, IsWritingBlock}
+use Rattle.law_replay.proofs.Vocabulary.Relation.{IsEnd, IsOwnTodo, past_body}
+use Rattle.law_replay.proofs.Vocabulary.Held.{IsIn, IsWritingBlock}
 use Rattle.law_replay.specs.Beside.Opens.{open_at, opens}
-use Rattle.law_replay.specs.Beside.Across.{HasCome}
+use Rattle.law_replay.proofs.Vocabulary.Across.{HasCome}
 
 -- what is to do after the bodies of the first n frames
 abbrev pub past_all : Program → ℕ → List Todo → List Todo

@@ -11,7 +11,8 @@ use Rattle.ppd_sem.specs.declared.proc.Proc.{Proc}
 use Rattle.ppd_sem.specs.Ask.{cell_of}
 use Rattle.ppd_sem.specs.Deed.{Deed, set_local, clear, back, receive, turn, finish}
 use Rattle.ppd_sem.specs.Process.{into_of}
-use Rattle.law_replay.specs.Beside.Relation.{HasEnd, IsLong, IsOwnTodo, past_body, IsListOf}
+use Rattle.law_replay.specs.Beside.Relation.{IsListOf}
+use Rattle.law_replay.proofs.Vocabulary.Relation.{HasEnd, IsLong, IsOwnTodo, past_body}
 use Rattle.ppd_model.specs.World.{Each}
 
 -- the local cells that a statement of this kind writes are some of these

@@ -1,0 +1,2 @@
+-- What the proofs speak of: definitions that no contract cites.
+pub mod Events
