@@ -141,27 +141,61 @@ fn add_process<L: Ledger>(
     Ok(())
 }
 
-/// The first events, process after process, that lead to the synchronizations of a kind.
-fn leads_to<L: Ledger>(
-    alloc: Global,
+/// Puts the first events, process after process, that lead to the synchronizations of a kind into an empty map.
+fn add_leads<L: Ledger>(
     program: &Program,
     kind: SyncKind,
     story: &Story,
+    leads: &mut Leads,
     steps: &mut Steps<L>,
-) -> Result<Leads, Memory>
+) -> Result<(), Memory>
     requires few { All (λ own. length own < 2 ^ 32) story.now.steps }
     requires processes { length story.now.steps ≤ 2 ^ 8 }
-    ensures leads { IfOk result (λ leads. LeadTo program.now kind story.now leads) }
+    requires empty { (object number : ℕ) → found_in leads.old object number ≡ None }
+    ensures leads { OnOk result (LeadTo program.now kind story.now leads.new) }
     ensures cost { steps.new ≤ steps.old + length story.now.steps + 3 * steps_in story.now }
 {
     let lists = story.steps.as_slice();
-    let mut leads = HashMap::new(alloc);
     for (process, own) in lists.iter().enumerate() {
         steps.tick();
         let own = own.as_slice();
-        add_process(program, kind, process as u8, own, &mut leads, steps)?;
+        add_process(program, kind, process as u8, own, leads, steps)?;
     }
-    Ok(leads)
+    Ok(())
+}
+
+impl PairedStory {
+    /// Finds the pairs of the story, where none is found yet.
+    fn find<L: Ledger>(&mut self, program: &Program, steps: &mut Steps<L>) -> Result<(), Memory>
+        requires few { All (λ own. length own < 2 ^ 32) self.old.story.steps }
+        requires processes { length self.old.story.steps ≤ 2 ^ 8 }
+        requires takes { (object number : ℕ) → found_in self.old.takes object number ≡ None }
+        requires receives { (object number : ℕ) → found_in self.old.receives object number ≡ None }
+        requires sends { (object number : ℕ) → found_in self.old.sends object number ≡ None }
+        requires completes { (object number : ℕ) → found_in self.old.completes object number ≡ None }
+        ensures cost { steps.new
+            ≤ steps.old + 4 * length self.old.story.steps + 12 * steps_in self.old.story }
+        ensures story { self.new.story ≡ self.old.story }
+        ensures pairs { OnOk result
+            (HavePairs program.now self.old.story self.new.takes self.new.receives self.new.sends self.new.completes) }
+    {
+        add_leads(program, SyncKind::P, &self.story, &mut self.takes, steps)?;
+        add_leads(
+            program,
+            SyncKind::Recv,
+            &self.story,
+            &mut self.receives,
+            steps,
+        )?;
+        add_leads(program, SyncKind::Send, &self.story, &mut self.sends, steps)?;
+        add_leads(
+            program,
+            SyncKind::Done,
+            &self.story,
+            &mut self.completes,
+            steps,
+        )
+    }
 }
 
 /// Finds the pairs of a story, in four passes over its steps. `Memory` is want of memory.
@@ -178,17 +212,15 @@ pub(crate) fn find_pairs<L: Ledger>(
     ensures pairs { IfOk result
         (λ told. HavePairs program.now told.story told.takes told.receives told.sends told.completes) }
 {
-    let takes = leads_to(alloc, program, SyncKind::P, &story, steps)?;
-    let receives = leads_to(alloc, program, SyncKind::Recv, &story, steps)?;
-    let sends = leads_to(alloc, program, SyncKind::Send, &story, steps)?;
-    let completes = leads_to(alloc, program, SyncKind::Done, &story, steps)?;
-    Ok(PairedStory {
+    let mut told = PairedStory {
         story,
-        takes,
-        receives,
-        sends,
-        completes,
-    })
+        takes: HashMap::new(alloc),
+        receives: HashMap::new(alloc),
+        sends: HashMap::new(alloc),
+        completes: HashMap::new(alloc),
+    };
+    told.find(program, steps)?;
+    Ok(told)
 }
 
 /// The event that leads to a synchronization of this number.

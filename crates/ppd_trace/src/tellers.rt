@@ -152,57 +152,35 @@ impl<'a> Teller<'a> {
     }
 }
 
-/// So many zeros.
-fn zeros<L: Ledger>(alloc: Global, count: usize, steps: &mut Steps<L>) -> Result<Ids, Memory>
+/// Appends so many zeros.
+fn push_zeros<L: Ledger>(counts: &mut Ids, count: usize, steps: &mut Steps<L>) -> Result<(), Memory>
     ensures cost { steps.new ≤ steps.old + 2 * count }
-    ensures value { IfOk result (λ counts. counts ≡ replicate count 0) }
+    ensures value { OnOk result (counts.new ≡ counts.old ++ replicate count 0) }
 {
-    let mut counts = Seq::new(alloc);
     for _index in 0..count {
         steps.tick();
         steps.tick();
         counts.push(0)?;
     }
-    Ok(counts)
-}
-
-fn push_empty(lists: &mut Vec<Seq<Taken>>, alloc: Global) -> Result<(), Memory>
-    ensures { OnOk result (lists.new.items ≡ lists.old.items ++ [] ∷ []) }
-{
-    lists.push(Seq::new(alloc))?;
     Ok(())
 }
 
-/// So many empty lists.
-fn no_steps<L: Ledger>(
+/// Appends so many empty lists.
+fn push_empty<L: Ledger>(
     alloc: Global,
+    lists: &mut Vec<Seq<Taken>>,
     count: usize,
     steps: &mut Steps<L>,
-) -> Result<Vec<Seq<Taken>>, Memory>
-    ensures value { IfOk result (λ lists. lists.items ≡ replicate count []) }
+) -> Result<(), Memory>
+    ensures value { OnOk result (lists.new.items ≡ lists.old.items ++ replicate count []) }
     ensures cost { steps.new ≤ steps.old + 2 * count }
 {
-    let mut lists = Vec::new(alloc);
     for _index in 0..count {
         steps.tick();
         steps.tick();
-        push_empty(&mut lists, alloc)?;
+        lists.push(Seq::new(alloc))?;
     }
-    Ok(lists)
-}
-
-/// So many cells that nothing wrote.
-fn no_writers<L: Ledger>(
-    alloc: Global,
-    count: usize,
-    steps: &mut Steps<L>,
-) -> Result<Seq<Option<EventId>>, Memory>
-    ensures cost { steps.new ≤ steps.old + 2 * count }
-    ensures value { IfOk result (λ writers. writers ≡ replicate count None) }
-{
-    let mut writers = Seq::new(alloc);
-    push_copies(&mut writers, None, count, steps)?;
-    Ok(writers)
+    Ok(())
 }
 
 /// How many processes a valid program has.
@@ -211,6 +189,27 @@ fn process_count(program: &Program) -> usize
     ensures { result ≡ length program.now.bodies - program.now.functions }
 {
     program.bodies.len() - program.functions as usize
+}
+
+impl<'a> Teller<'a> {
+    /// Appends so many processes that took no step and so many cells that nothing wrote.
+    fn fill<L: Ledger>(
+        &mut self,
+        alloc: Global,
+        count: usize,
+        cells: usize,
+        steps: &mut Steps<L>,
+    ) -> Result<(), Memory>
+        ensures world { self.new.world ≡ self.old.world }
+        ensures counts { OnOk result (self.new.counts ≡ self.old.counts ++ replicate count 0) }
+        ensures writers { OnOk result (self.new.writers ≡ self.old.writers ++ replicate cells None) }
+        ensures steps { OnOk result (self.new.steps.items ≡ self.old.steps.items ++ replicate count []) }
+        ensures cost { steps.new ≤ steps.old + 4 * count + 2 * cells }
+    {
+        push_zeros(&mut self.counts, count, steps)?;
+        push_copies(&mut self.writers, None, cells, steps)?;
+        push_empty(alloc, &mut self.steps, count, steps)
+    }
 }
 
 /// Before the first step nothing is told.
@@ -224,12 +223,15 @@ fn begin<'a, L: Ledger>(setting: &Setting<'a>, steps: &mut Steps<L>) -> Result<T
     let alloc = setting.alloc;
     let world = World::new(alloc, setting.program, setting.plan, setting.budget)?;
     let count = process_count(setting.program);
-    Ok(Teller {
-        counts: zeros(alloc, count, steps)?,
-        writers: no_writers(alloc, world.cells().len(), steps)?,
-        steps: no_steps(alloc, count, steps)?,
+    let cells = world.cells().len();
+    let mut teller = Teller {
         world,
-    })
+        counts: Seq::new(alloc),
+        writers: Seq::new(alloc),
+        steps: Vec::new(alloc),
+    };
+    teller.fill(alloc, count, cells, steps)?;
+    Ok(teller)
 }
 
 fn push_values<L: Ledger>(

@@ -4,7 +4,7 @@ use Rattle.ppd_model.specs.FullTrace.{or_else}
 use Rattle.ppd_model.specs.Numbers.{sync}
 use Rattle.ppd_model.specs.Synchronizations.{leading_from}
 use Rattle.ppd_trace.specs.Leading.{found_in}
-use Rattle.ppd_trace.proofs.pairs.leads_to.Given as goal
+use Rattle.ppd_trace.proofs.pairs.add_leads.Given as goal
 
 abbrev pub invariant-loop-process : goal.invariant-loop-process
 invariant-loop-process g l = record {

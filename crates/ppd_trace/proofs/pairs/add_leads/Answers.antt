@@ -1,7 +1,7 @@
 use Rattle.std.proofs.Common.{◌≡◌, ◌<◌, length, get_or, ap, rules, arith}
 use Rattle.ppd_trace.proofs.Costs.{list_on, list_within}
 use Rattle.ppd_trace.proofs.Leading.{processes_on}
-use Rattle.ppd_trace.proofs.pairs.leads_to.Goals as goal
+use Rattle.ppd_trace.proofs.pairs.add_leads.Goals as goal
 
 pub returns-in_err-add_process-clause-cost : goal.returns-in_err-add_process-clause-cost
 returns-in_err-add_process-clause-cost g c =
