@@ -14,7 +14,8 @@ use Rattle.ppd_model.specs.Synchronizations.{Sync, is_number, leads, leads_at, l
 use Rattle.ppd_sem.specs.Tables.{capacity_of}
 use Rattle.ppd_model.proofs.SameSyncs.{same_is, same_self}
 use Rattle.ppd_graph.specs.declared.paired.Paired.TheVariants.{Nothing}
-use Rattle.ppd_graph.specs.Partners.{IsOnce, PartnersAreFound, found, found_from, found_in_row, paired_by, pairs_of, partner_of, wanted, wanted_by}
+use Rattle.ppd_graph.specs.Partners.{IsOnce, PartnersAreFound, found, found_from, found_in_row, paired_by, pairs_of, partner_of, wanted}
+use Rattle.ppd_graph_partners.specs.Wanted.{wanted_by}
 use Rattle.ppd_model.specs.SameSyncs.{same_sync}
 use Rattle.ppd_graph.specs.Times.{ArePartners, node_of, pair_at}
 

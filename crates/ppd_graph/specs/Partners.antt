@@ -1,15 +1,15 @@
 -- The synchronization that leads to one by their numbers, and where it stands.
-use Rattle.std.specs.Prelude.{◌≡◌, ℕ, zero, suc, ◌+◌, ◌-◌, nat_le, List, [], ◌∷◌, map, Option, Some, None, if◌then◌else◌}
+use Rattle.std.specs.Prelude.{◌≡◌, ℕ, ◌+◌, List, [], ◌∷◌, map, Option, Some, None, if◌then◌else◌}
 use Rattle.ppd_ast.specs.declared.program.Program.{Program}
 use Rattle.ppd_ast.specs.declared.status.SyncKind.{SyncKind}
-use Rattle.ppd_ast.specs.declared.status.SyncKind.TheVariants.{P, V, Send, Recv, Done}
+use Rattle.ppd_ast.specs.declared.status.SyncKind.TheVariants.{P}
 use Rattle.ppd_entry.specs.declared.entry.Logs.{Logs}
 use Rattle.ppd_model.specs.declared.graph.NodeId.{NodeId}
 use Rattle.ppd_model.specs.FullTrace.{or_else}
 use Rattle.ppd_model.specs.HappenedBefore.{node, sync_at}
-use Rattle.ppd_model.specs.Numbers.{sync}
 use Rattle.ppd_model.specs.Synchronizations.{Sync}
 use Rattle.ppd_sem.specs.Tables.{capacity_of}
+use Rattle.ppd_graph_partners.specs.Wanted.{wanted_by}
 use Rattle.ppd_graph.specs.declared.paired.Paired.{Paired}
 use Rattle.ppd_graph.specs.declared.paired.Paired.TheVariants.{Nothing, Initial, Node}
 use Rattle.ppd_model.specs.RecordedSets.{record_in}
@@ -17,27 +17,9 @@ use Rattle.ppd_graph.specs.Refusals.{placed, twice_after}
 use Rattle.ppd_model.specs.SameSyncs.{same_sync}
 use Rattle.ppd_graph.specs.Times.{ArePartners}
 
--- the one that leads to a synchronization by its number, by the capacity of its object: to a `P` the `V`, to
--- a receive the send, to a send the receive that freed its place; of a channel of capacity 0, to a
--- completion the receive, and to a send the completion before it
-abbrev pub wanted_by : ℕ → SyncKind → ℕ → ℕ → Option Sync
-wanted_by capacity P o k = Some (sync V o k)
-wanted_by capacity V o k = None
-wanted_by capacity Recv o k = Some (sync Send o k)
-wanted_by zero Done o k = Some (sync Recv o k)
-wanted_by (suc c) Done o k = None
-wanted_by zero Send o zero = None
-wanted_by zero Send o (suc k) = Some (sync Done o k)
-wanted_by (suc c) Send o k = if nat_le (suc c) k then Some (sync Recv o (k - suc c)) else None
-
 -- the synchronization that leads to this one, if one does
 abbrev pub wanted : Program → Sync → Option Sync
 wanted program s = wanted_by (capacity_of program s.object) s.kind s.object s.number
-
--- the synchronization of this object, by a kind and a number
-abbrev pub named : ℕ → Option (SyncKind × ℕ) → Option Sync
-named o None = None
-named o (Some w) = Some (sync w.0 o w.1)
 
 abbrev pub listed : Option Sync → List Sync
 listed None = []

@@ -3,59 +3,17 @@ ghost use Rattle.std.specs.List.{sum_by};
 ghost use Rattle.ppd_graph.specs.Spending.{list_cost};
 ghost use Rattle.ppd_graph.specs.ByNumber.{partner_kept};
 ghost use Rattle.ppd_model.specs.RecordedSets.{sync_in};
-ghost use Rattle.ppd_graph.specs.Partners.{listed, named, paired_by as paired_as, wanted_by};
+ghost use Rattle.ppd_graph.specs.Partners.{listed, paired_by as paired_as};
 ghost use Rattle.ppd_model.specs.Numbers.{sync};
 
 use crate::by_number::ByNumber;
 use crate::paired::Paired;
 use ppd_ast::{Memory, Program, Seq, Steps, SyncKind};
 use ppd_entry::Entry;
+use ppd_graph_partners::wanted;
 use ppd_sem::capacity_of;
 use std::alloc::Global;
 use std::sync::ledger::Ledger;
-
-/// The kind and the number of a synchronization of some object.
-type KindAndNumber = (SyncKind, u32);
-
-// What leads to a send: the receive that freed its place, or for capacity 0 the completion before it.
-fn wanted_by_send(capacity: u8, number: u32) -> Option<KindAndNumber>
-    ensures { (object : ℕ) → named object result ≡ wanted_by capacity SyncKind.Send object number }
-{
-    if capacity == 0 {
-        if number == 0 {
-            return None;
-        }
-        return Some((SyncKind::Done, number - 1));
-    }
-    let capacity = u32::from(capacity);
-    if capacity <= number {
-        return Some((SyncKind::Recv, number - capacity));
-    }
-    None
-}
-
-// What leads to a completion.
-fn wanted_by_done(capacity: u8, number: u32) -> Option<KindAndNumber>
-    ensures { (object : ℕ) → named object result ≡ wanted_by capacity SyncKind.Done object number }
-{
-    if capacity == 0 {
-        return Some((SyncKind::Recv, number));
-    }
-    None
-}
-
-// What leads to a synchronization by its number, of one object with this capacity.
-fn wanted(capacity: u8, kind: SyncKind, number: u32) -> Option<KindAndNumber>
-    ensures { (object : ℕ) → named object result ≡ wanted_by capacity kind object number }
-{
-    match kind {
-        SyncKind::P => Some((SyncKind::V, number)),
-        SyncKind::V => None,
-        SyncKind::Recv => Some((SyncKind::Send, number)),
-        SyncKind::Done => wanted_by_done(capacity, number),
-        SyncKind::Send => wanted_by_send(capacity, number),
-    }
-}
 
 // Where none leads to it.
 fn unpaired(kind: SyncKind) -> Paired

@@ -1,0 +1,2 @@
+-- What leads to a synchronization by its number.
+pub mod Wanted
