@@ -12,7 +12,7 @@ use Rattle.ppd_emul_model.specs.Fits.{found_of, fits}
 use Rattle.ppd_emul_model.specs.Laws.{TakesOneStep}
 use Rattle.ppd_emul_model.specs.Replay.{Replaying, Replayed, Turn, more, done, begun_replay, fail, go_on, next_piece, replay, replay_from, turn, unit_taken}
 use Rattle.ppd_emul_model.proofs.Turns.{turns_are_steps}
-use Rattle.ppd_emul.specs.Emulated.{IfTold}
+use Rattle.ppd_emul_values.specs.Emulated.{IfTold}
 use Rattle.ppd_emul.specs.Spending.{HasFewItems}
 use Rattle.ppd_emul.proofs.Grown.{Few, Grows, turn_grows}
 

@@ -5,7 +5,7 @@ use Rattle.ppd_ast.specs.declared.program.Program.{Program}
 use Rattle.ppd_emul_model.specs.Replay.{Replaying, Replayed, more, done, go_on, replay_from, turn}
 use Rattle.ppd_emul_model.specs.declared.trace.EmulError.{EmulError}
 use Rattle.ppd_emul_model.specs.declared.trace.EmulError.TheVariants.{Diverged, Memory}
-use Rattle.ppd_emul.specs.Emulated.{IfFailed}
+use Rattle.ppd_emul_values.specs.Emulated.{IfFailed}
 
 -- ---- turns
 

@@ -12,7 +12,7 @@ use Rattle.ppd_emul_model.specs.declared.trace.BlockTrace.{BlockTrace}
 use Rattle.ppd_emul_model.specs.declared.trace.EmulError.{EmulError}
 use Rattle.ppd_emul_model.specs.declared.trace.EmulError.TheVariants.{Diverged, Memory}
 use Rattle.law_replay.specs.Theorem.Laws.{EmulationsGiveIntervals, GivesIntervalAt, IsAnswerOf, GivesIntervals}
-use Rattle.ppd_emul.specs.Emulated.{IfTold}
+use Rattle.ppd_emul_values.specs.Emulated.{IfTold}
 
 -- the two clauses are an answer
 answers : (x : Replayed) (before after : ℕ) (r : Result BlockTrace EmulError) → IfTold r (r ≡ x.answer)

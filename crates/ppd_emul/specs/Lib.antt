@@ -1,5 +1,4 @@
 -- The replay of one interval in code: its parts and what they answer.
 pub use Rattle.law_replay.specs.Theorem.Laws
-pub mod Held
-pub mod Emulated
+pub mod Turns
 pub mod Spending

@@ -1,22 +1,20 @@
-ghost use Rattle.std.specs.Prelude.{◌≡◌, ◌+◌, ◌<◌, ◌≤◌, IfOk};
+ghost use Rattle.std.specs.Prelude.{◌≡◌, ◌+◌, ◌<◌, ◌≤◌};
 ghost use Rattle.law_replay.specs.Theorem.Laws.{GivesIntervals};
 ghost use Rattle.ppd_ast.specs.declared.limits.TheConstants.{MOST_CALLS};
 ghost use Rattle.ppd_ast.specs.Valid.{IsValid};
 ghost use Rattle.ppd_ast.specs.ValidPlan.{IsValidPlan};
 ghost use Rattle.ppd_emul.specs.Spending.{HasFewItems};
-ghost use Rattle.ppd_emul.specs.Emulated.{IfTold, IsGoing, IsSound, ended, replaying};
-ghost use Rattle.ppd_emul_model.specs.Replay.{begun_replay, go_on, replay, replay_from, take_unit as take_unit_of};
+ghost use Rattle.ppd_emul.specs.Turns.{ended};
+ghost use Rattle.ppd_emul_values.specs.Emulated.{IfTold, IsGoing, IsSound, replaying};
+ghost use Rattle.ppd_emul_model.specs.Replay.{go_on, replay, replay_from, take_unit as take_unit_of};
 
-use crate::in_force::InForce;
-use crate::pieces::Pieces;
-use crate::replayer::{Code, Replayer, Turned};
-use crate::stepping::{fail, take_unit};
 use crate::turning::turn;
 use law_replay::emulations_give_intervals;
-use ppd_ast::{Memory, Plan, Program, Seq, Steps};
+use ppd_ast::{Plan, Program, Steps};
 use ppd_emul_model::{BlockTrace, EmulError, Wanted};
+use ppd_emul_values::{Code, Replayer, Turned, begin, fail, take_unit};
 use ppd_index::IntervalLog;
-use ppd_sem::{Proc, block_kind, block_unit, valid_can_run, valid_is_numbered};
+use ppd_sem::{block_kind, block_unit, valid_can_run, valid_is_numbered};
 use std::alloc::Global;
 use std::marker::Brand;
 use std::sync::ledger::{Blank, Ledger};
@@ -26,36 +24,6 @@ use std::sync::ledger::{Blank, Ledger};
 pub struct Counters<L: Ledger, T: Ledger> {
     pub own: Steps<L>,
     pub turns: Steps<T>,
-}
-
-/// The replay of an interval before its first piece. `Memory` is want of memory.
-fn begin<'a>(code: &Code, log: &'a IntervalLog<'a>, budget: u32) -> Result<Replayer<'a>, Memory>
-    requires program { IsValid code.now.program.now }
-    requires plan { IsValidPlan code.now.program.now code.now.plan.now }
-    requires depth { log.now.depth ≤ MOST_CALLS }
-    ensures begun { IfOk result
-        (λ state. replaying state ≡ begun_replay code.now.program.now code.now.plan.now log.now budget) }
-    ensures going { IfOk result (λ state. IsGoing code.now state) }
-    ensures none { IfOk result (λ state. state.steps ≡ 0) }
-{
-    let (block, values) = (log.block(), log.values());
-    let proc = Proc::at_block(
-        code.alloc,
-        code.program,
-        code.plan,
-        block,
-        values,
-        log.depth(),
-        budget,
-    )?;
-    Ok(Replayer {
-        proc,
-        in_force: InForce::new(code.alloc),
-        pieces: Pieces::new(log),
-        since: 0,
-        steps: 0,
-        items: Seq::new(code.alloc),
-    })
 }
 
 /// Takes turns until the replay is over, at most one more than the budget, since each that goes on

@@ -1,35 +1,11 @@
-ghost use Rattle.std.specs.Prelude.{◌≡◌, IfOk};
+ghost use Rattle.std.specs.Prelude.{◌≡◌};
 ghost use Rattle.ppd_emul_model.specs.Fits.{fits as fits_of, found_of as found_of_piece, same_trap};
 ghost use Rattle.ppd_entry.specs.Pieces.{piece_of};
 ghost use Rattle.ppd_emul_model.specs.declared.wanted.Wanted.TheVariants as wanted;
 
-use ppd_ast::{Memory, Nums, Seq, SyncKind, Trap};
-use ppd_emul_model::{Found, Wanted};
+use ppd_ast::{SyncKind, Trap};
+use ppd_emul_model::Wanted;
 use ppd_entry::{Piece, same_kind};
-use std::alloc::Global;
-
-pub(crate) fn copied(alloc: Global, values: &[i64]) -> Result<Nums, Memory>
-    ensures { IfOk result (λ copy. copy ≡ values.now) }
-{
-    Ok(Seq::from_vec(Vec::from_slice(alloc, values)?))
-}
-
-/// A piece as it is compared. `Memory` is want of memory.
-pub(crate) fn found_of(alloc: Global, piece: Piece) -> Result<Found, Memory>
-    ensures { IfOk result (λ found. found ≡ found_of_piece (piece_of piece.entry)) }
-{
-    Ok(match piece {
-        Piece::Unit(unit, _) => Found::Unit(unit),
-        Piece::Sync(SyncKind::Send, object, _, value) => {
-            Found::Sync(SyncKind::Send, object, value)
-        }
-        Piece::Sync(kind, object, _, _) => Found::Sync(kind, object, 0),
-        Piece::Nested(_, block, _) => Found::Nested(block),
-        Piece::Unfinished(_, block) => Found::Nested(block),
-        Piece::Postlog(values) => Found::Postlog(copied(alloc, values)?),
-        Piece::End(status, _) => Found::End(status),
-    })
-}
 
 /// Whether the traps are one.
 pub(crate) fn is_same_trap(a: Trap, b: Trap) -> bool

@@ -3,9 +3,6 @@
 
 mod emulating;
 mod fitting;
-mod in_force;
-mod pieces;
-mod replayer;
 mod stepping;
 mod turning;
 mod wanting;

@@ -1,58 +1,69 @@
-ghost use Rattle.std.specs.Prelude.{◌≡◌, ◌<◌, ◌^◌, true, false, Err, None, OnOk};
-ghost use Rattle.ppd_emul.specs.Emulated.{IfFailed, IfMore, IfTold, IsAtNeed, IsGoing, IsSound, IsTurn, Meets, alone, replaying, skipped_over, turned};
+ghost use Rattle.std.specs.Prelude.{◌≡◌, ◌+◌, ◌<◌, ◌≤◌, ◌^◌, true, false, None, OnOk};
+ghost use Rattle.ppd_emul.specs.Turns.{Meets, alone};
+ghost use Rattle.ppd_emul_values.specs.Emulated.{IfMore, IfTold, IsAtNeed, IsGoing, IsSound, IsTurn, replaying, turned};
 ghost use Rattle.ppd_emul_model.specs.Fits.{wanted_of as wanted_of_need};
-ghost use Rattle.ppd_emul_model.specs.Replay.{counted, fail as fail_of, finished, is_budget, received as received_by, skip_nested as skip_nested_of, step_with as step_with_of, step_without as step_without_of, synchronize as synchronize_of, take_unit as take_unit_of, take_unit_if as take_unit_if_of, with_call, with_event, with_item};
+ghost use Rattle.ppd_emul_model.specs.Replay.{counted, finished, is_budget, received as received_by, skip_nested as skip_nested_of, step_with as step_with_of, step_without as step_without_of, stepped, synchronize as synchronize_of, take_unit_if as take_unit_if_of, with_call, with_event, with_item};
 ghost use Rattle.ppd_entry.specs.Pieces.{piece_of, unfinished};
 ghost use Rattle.ppd_model.specs.declared.flow.Item.TheVariants.{Nested};
-ghost use Rattle.ppd_sem.specs.Blocks.{head_stmt as head_stmt_of, unit_past as unit_past_of};
 ghost use Rattle.ppd_sem.specs.Described.{is_event};
 ghost use Rattle.ppd_sem.specs.Entries.{Begins};
 ghost use Rattle.ppd_sem.specs.Process.{need_of};
-ghost use Rattle.ppd_sem.specs.Runs.{IsNumbered, IsRunning};
+ghost use Rattle.ppd_sem.specs.Runs.{IsRunning};
 ghost use Rattle.ppd_sem.specs.declared.proc.Answer.TheVariants.{Go};
 ghost use Rattle.ppd_sem.specs.declared.proc.Need.TheVariants.{Read};
 
-use crate::fitting::{copied, found_of};
-use crate::replayer::{Code, Replayer, Turned, add_event, take_step};
-use ppd_ast::{Memory, Plan, Start, Steps};
+use ppd_ast::{Memory, Steps};
 use ppd_emul_model::{EmulError, Wanted};
+use ppd_emul_values::{Code, Replayer, Turned, copied, fail, skip_over, take_unit};
 use ppd_entry::Piece;
-use ppd_model::{Item, unit_cells, unit_started};
-use ppd_sem::{Answer, Need, Stack, Todo, find_unit, skip};
+use ppd_model::{Item, unit_started};
+use ppd_sem::{Answer, Need, describe, meet};
 use std::alloc::Global;
 use std::sync::ledger::Ledger;
 
-/// Why the replay cannot go on: the next piece is not the one that is wanted.
-pub(crate) fn fail(alloc: Global, state: &Replayer, wanted: Wanted) -> EmulError
-    ensures { IfFailed result (turned (Err result) state.now ≡ fail_of (replaying state.now) wanted) }
+/// Adds the event of the next step as an item, with the number of a synchronization. `Memory` is want
+/// of memory.
+fn add_event(
+    code: &Code,
+    state: &mut Replayer,
+    answer: Answer,
+    number: Option<u32>,
+) -> Result<(), Memory>
+    requires code { IsSound code.now }
+    requires proc { IsRunning code.now.program.now state.old.proc }
+    requires event { is_event (need_of code.now.program.now code.now.plan.now state.old.proc) ≡ true }
+    ensures added { OnOk result
+        (replaying state.new
+        ≡ with_event code.now.program.now code.now.plan.now answer number (replaying state.old)) }
+    ensures rest { state.new ≡ record state.old { items = state.new.items } }
 {
-    let (entry, piece) = state.pieces.next();
-    match found_of(alloc, piece) {
-        Ok(found) => EmulError::Diverged {
-            entry,
-            wanted,
-            found,
-        },
-        Err(_) => EmulError::Memory,
-    }
+    let mut event = describe(code.alloc, code.program, code.plan, &state.proc, &answer)?;
+    event.number = number;
+    state.push(Item::Own(event))
 }
 
-/// The start of a unit, which has to be the next piece.
-pub(crate) fn take_unit(code: &Code, state: &mut Replayer, unit: u16) -> Result<Turned, EmulError>
-    requires { IsGoing code.now state.old }
-    ensures told { IfTold result
-        (turned result state.new ≡ take_unit_of code.now.plan.now unit (replaying state.old)) }
-    ensures going { IfMore result (IsGoing code.now state.new) }
-    ensures steps { state.new.steps ≡ state.old.steps }
+/// Takes the next step of the process, which needs this, and counts it. `Memory` is want of memory: none is
+/// counted.
+fn take_step<L: Ledger>(
+    code: &Code,
+    state: &mut Replayer,
+    need: Need,
+    answer: Answer,
+    steps: &mut Steps<L>,
+) -> Result<(), Memory>
+    requires code { IsSound code.now }
+    requires state { IsGoing code.now state.old }
+    requires few { state.old.steps < 2 ^ 40 }
+    requires need { need ≡ need_of code.now.program.now code.now.plan.now state.old.proc }
+    ensures stepped { OnOk result
+        (replaying state.new ≡ stepped code.now.program.now code.now.plan.now answer (replaying state.old)) }
+    ensures going { OnOk result (IsGoing code.now state.new) }
+    ensures one { state.new.steps ≤ state.old.steps + 1 }
+    ensures ticks { steps.new + state.old.steps ≡ steps.old + state.new.steps }
 {
-    match state.pieces.next().1 {
-        Piece::Unit(found, values) if found == unit => {
-            state.in_force.start(unit_cells(code.plan, unit), values)?;
-            state.pass();
-            Ok(Turned::More)
-        }
-        _ => Err(fail(code.alloc, state, Wanted::Unit(unit))),
-    }
+    meet(code.program, code.plan, &mut state.proc, need, &answer)?;
+    state.count(steps);
+    Ok(())
 }
 
 /// The same where a unit starts at all.
@@ -135,47 +146,6 @@ fn add_nested(
         values,
         closed,
     })
-}
-
-/// The statement of the head, and 0 where nothing is to do.
-fn head_stmt(todo: &Stack<Todo>) -> u32
-    ensures { result ≡ head_stmt_of todo.now }
-{
-    match todo.top() {
-        Some(todo) => todo.stmt,
-        None => 0,
-    }
-}
-
-/// The unit that starts after a loop or a call.
-fn unit_past(plan: &Plan, todo: &Stack<Todo>, need: Need) -> u16
-    requires plan { IsNumbered plan.now }
-    ensures { result ≡ unit_past_of plan.now todo.now need }
-{
-    match need {
-        Need::Enter { .. } => find_unit(plan, Start::Exit(head_stmt(todo))),
-        _ => find_unit(plan, Start::After(head_stmt(todo))),
-    }
-}
-
-/// Goes past an interval that was left, in whose place its postlog is applied.
-fn skip_over<L: Ledger>(
-    code: &Code,
-    state: &mut Replayer,
-    need: Need,
-    values: &[i64],
-    steps: &mut Steps<L>,
-) -> Result<Turned, EmulError>
-    requires next { IsAtNeed code.now state.old need }
-    requires begins { Begins need }
-    ensures { IsTurn code.now state.old state.new steps.old steps.new result
-        (skipped_over code.now.program.now code.now.plan.now need values.now (replaying state.old)) }
-{
-    let unit = unit_past(code.plan, &state.proc.todo, need);
-    skip(code.program, code.plan, &mut state.proc, values);
-    state.count(steps);
-    state.pass();
-    take_unit(code, state, unit)
 }
 
 /// A nested interval that was left: its postlog is applied in its place, and the unit after it starts.

@@ -1,5 +1,5 @@
 use Rattle.std.proofs.Common.{◌≡◌, ◌+◌, ◌-◌, ◌≤◌}
-use Rattle.ppd_emul.specs.Emulated.{IsGoing, replaying}
+use Rattle.ppd_emul_values.specs.Emulated.{IsGoing, replaying}
 use Rattle.ppd_emul_model.specs.Replay.{replay_from}
 use Rattle.ppd_emul.proofs.emulating.run.Given as goal
 

@@ -1,10 +1,10 @@
 use Rattle.std.proofs.Common.{◌≡◌, ◌∙◌, ◌∷◌, ◌++◌, [], ℕ, ℤ, List, length, reverse, Option, Some, ap, sym, arith}
 use Rattle.std.specs.Prelude.{slice_set}
 use Rattle.std.proofs.lemmas.Int.{to_z-of_z}
-use Rattle.ppd_emul.specs.Held.{looked_up}
+use Rattle.ppd_emul_values.specs.Held.{looked_up}
 use Rattle.ppd_emul_model.specs.Replay.{value_in_force}
-use Rattle.ppd_emul.proofs.Held.{put_found}
-use Rattle.ppd_emul.proofs.in_force.InForce.put.Goals as goal
+use Rattle.ppd_emul_values.proofs.Held.{put_found}
+use Rattle.ppd_emul_values.proofs.in_force.InForce.put.Goals as goal
 
 pub invariant_of-self-2 : goal.invariant_of-self-2
 invariant_of-self-2 c d =

@@ -1,8 +1,8 @@
 use Rattle.std.proofs.Common.{◌≡◌, ◌-◌, ◌∙◌, ◌∷◌, ap, sym, ℕ, ℤ, pos, List, drop, get_or, reverse, arith}
 use Rattle.std.specs.Prelude.{zip}
 use Rattle.std.proofs.lemmas.Int.{to_z-of_z}
-use Rattle.ppd_emul.proofs.Held.{zip_before, zip_past}
-use Rattle.ppd_emul.proofs.in_force.InForce.start.Goals as goal
+use Rattle.ppd_emul_values.proofs.Held.{zip_before, zip_past}
+use Rattle.ppd_emul_values.proofs.in_force.InForce.start.Goals as goal
 
 pub loop-index-init : goal.loop-index-init
 loop-index-init c =

@@ -1,5 +1,5 @@
 ghost use Rattle.std.specs.Prelude.{◌≡◌, ◌<◌, ◌∷◌, ℕ, ℤ, List, [], length, zip, OnOk};
-ghost use Rattle.ppd_emul.specs.Held.{looked_up};
+ghost use Rattle.ppd_emul_values.specs.Held.{looked_up};
 ghost use Rattle.ppd_emul_model.specs.Replay.{value_in_force};
 
 use ppd_ast::{Memory, Seq};
@@ -10,7 +10,7 @@ use std::marker::Model;
 /// first. Reading one looks at one place, and the start of a unit does not look at the cells of the
 /// unit before it.
 #[derive(Drop)]
-pub(crate) struct InForce {
+pub struct InForce {
     /// The pairs since the last unit, the newest last.
     held: Seq<(u16, i64)>,
     /// The place of the newest pair of each cell. It tells nothing where another pair stands there, or none.
@@ -19,7 +19,7 @@ pub(crate) struct InForce {
 
 impl Model for InForce {
     ghost use Rattle.std.specs.Prelude.{◌≡◌, ℕ, ℤ, List, reverse};
-    ghost use Rattle.ppd_emul.specs.Held.{looked_up};
+    ghost use Rattle.ppd_emul_values.specs.Held.{looked_up};
     ghost use Rattle.ppd_emul_model.specs.Replay.{value_in_force};
 
     ghost Value = { List (ℕ × ℤ) };
@@ -53,7 +53,7 @@ impl InForce {
     }
 
     /// The value of the cell that is in force, and 0 without one.
-    pub(crate) fn value(&self, cell: u16) -> i64
+    pub fn value(&self, cell: u16) -> i64
         ensures { result ≡ value_in_force self.now cell }
     {
         let Some(Some(place)) = self.places.get(cell as usize) else {

@@ -1,6 +1,6 @@
 use Rattle.std.proofs.Common.{◌≡◌, ◌+◌, ℕ, ℤ, List, length}
-use Rattle.ppd_emul.specs.Held.{looked_up}
-use Rattle.ppd_emul.proofs.in_force.make_room.Given as goal
+use Rattle.ppd_emul_values.specs.Held.{looked_up}
+use Rattle.ppd_emul_values.proofs.in_force.make_room.Given as goal
 
 abbrev pub invariant-loop-index : goal.invariant-loop-index
 invariant-loop-index l = record {

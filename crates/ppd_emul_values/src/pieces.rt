@@ -9,7 +9,7 @@ use std::marker::Model;
 
 /// The pieces of an interval's log that are left.
 #[derive(Drop)]
-pub(crate) struct Pieces<'a> {
+pub struct Pieces<'a> {
     log: &'a IntervalLog<'a>,
     next: usize,
 }
@@ -32,7 +32,7 @@ impl<'a> Pieces<'a> {
     }
 
     /// The next piece with the number of its entry. Past the last one it is an end that fits nothing.
-    pub(crate) fn next(&self) -> (u32, Piece<'a>)
+    pub fn next(&self) -> (u32, Piece<'a>)
         ensures { (result.0, piece_of result.1) ≡ get_or self.now 0 (0, finish Ended 0) }
     {
         if self.next < self.log.pieces() {

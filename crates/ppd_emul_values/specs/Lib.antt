@@ -1,0 +1,3 @@
+-- What the parts of a replay answer, and the values in force.
+pub mod Held
+pub mod Emulated
