@@ -6,7 +6,7 @@ use Rattle.std.proofs.lemmas.List.{drop_all, drop_more, append_assoc, append-nil
 use Rattle.ppd_graph.proofs.Timed.{at_changed, at_end, at_front, at_other}
 use Rattle.ppd_graph.specs.declared.sets.EdgeSets.{EdgeSets}
 use Rattle.ppd_model.specs.World.{change}
-use Rattle.ppd_race.specs.Lists.{one_at}
+use Rattle.ppd_race_found.specs.Lists.{one_at}
 use Rattle.ppd_flow_writers.specs.Writing.{listed_in, times_in}
 
 -- ---- the lists of a process

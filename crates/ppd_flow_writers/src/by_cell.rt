@@ -2,7 +2,7 @@
 ghost use Rattle.std.specs.Prelude.{◌≡◌, ◌<◌, ◌^◌, ◌++◌, ◌∷◌, ℕ, [], IfOk, OnOk, get_or, length};
 ghost use Rattle.ppd_flow_past.specs.Pasts.{IsPast};
 ghost use Rattle.ppd_model.specs.World.{change};
-ghost use Rattle.ppd_race.specs.Lists.{one_at};
+ghost use Rattle.ppd_race_found.specs.Lists.{one_at};
 ghost use Rattle.ppd_flow_writers.specs.Writing.{AreWritingEdges, listed_in, times_in};
 
 use ppd_ast::{Ids, Memory, Seq};

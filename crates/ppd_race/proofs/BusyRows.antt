@@ -1,6 +1,6 @@
 -- The busy edges of processes.
-use Rattle.std.proofs.Common.{◌≡◌, ℕ, zero, suc, ◌+◌, ◌<◌, ◌≤◌, List, [], ◌∷◌, ◌++◌, Bool, true, false, cond, not, refl, ap, sym, subst, ◌∙◌, arith, length, drop, get_or, inl, inr, ◌&&◌, ◌||◌, eq-eqb, ne_eqb, true≢false}
-use Rattle.std.specs.Prelude.{IsTrue, nat_eq, if◌then◌else◌}
+use Rattle.std.proofs.Common.{◌≡◌, ℕ, zero, suc, ◌+◌, ◌<◌, ◌≤◌, List, [], ◌∷◌, ◌++◌, Bool, true, false, cond, not, refl, ap, sym, subst, ◌∙◌, arith, length, drop, get_or, inl, inr, ◌&&◌, ◌||◌, ne_eqb, true≢false}
+use Rattle.std.specs.Prelude.{nat_eq, if◌then◌else◌}
 use Rattle.std.specs.List.{filter, range_with_len}
 use Rattle.std.proofs.lemmas.Bool.{cases_eq}
 use Rattle.std.proofs.lemmas.List.{drop_more}
@@ -15,7 +15,7 @@ use Rattle.ppd_graph.specs.declared.sets.EdgeSets.{EdgeSets}
 use Rattle.ppd_graph.specs.LogRecord.{no_sets}
 use Rattle.ppd_graph.proofs.Timed.{at_end, at_front, length_more}
 use Rattle.ppd_graph.proofs.Counted.{range_more}
-use Rattle.ppd_race.specs.declared.busy.Busy.{Busy}
+use Rattle.ppd_race_found.specs.declared.busy.Busy.{Busy}
 use Rattle.ppd_race.specs.Busy.{EachBusyIn, IsBusyIn, IsBusyOf, IsBusyPart, IsBusyRow, Takes, is_busy, is_busy_in, is_none, numbers}
 
 -- ---- one edge
@@ -122,21 +122,6 @@ pub each_at : (q : ℕ) (own : List EdgeSets) (row : List Busy) → EachBusyIn q
 each_at q own [] h k d lt = absurd (omega (arith, lt))
 each_at q own (b ∷ bs) h zero d lt = h.0
 each_at q own (b ∷ bs) h (suc k) d lt = each_at q own bs h.1 k d (omega (arith, lt))
-
-pub below_at : (m : ℕ) (xs seen : List ℕ) (i d : ℕ) → seen ≡ xs → AreBelow m xs → i < length seen → get_or seen i d < m
-below_at m xs seen i d e below lt = below (get_or seen i d) (subst (λ ys. IsTrue (has ys (get_or seen i d))) e (has_at seen i d lt))
-  where
-    self : (x : ℕ) → nat_eq x x ≡ true
-    self x = eq-eqb x x refl
-
-    later : (b : Bool) (c : Bool) → IsTrue c → (b || c) ≡ true
-    later true c h = refl
-    later false c h = h
-
-    has_at : (ys : List ℕ) (i d : ℕ) → i < length ys → IsTrue (has ys (get_or ys i d))
-    has_at [] i d h = absurd (omega (arith, h))
-    has_at (y ∷ ys) zero d h = ap (λ b. b || has ys y) (self y)
-    has_at (y ∷ ys) (suc i) d h = later (nat_eq y (get_or ys i d)) (has ys (get_or ys i d)) (has_at ys i d (omega (arith, h)))
 
 -- ---- the numbers of a row rise
 

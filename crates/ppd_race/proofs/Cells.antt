@@ -14,8 +14,9 @@ use Rattle.ppd_model.specs.HappenedBefore.{edge}
 use Rattle.ppd_model.specs.Races.{first_writes, kinds, race, second_writes}
 use Rattle.ppd_graph.specs.declared.sync_graph.SyncGraph.{SyncGraph}
 use Rattle.ppd_graph.specs.Graphs.{is_before_by, reads_in, sets_at, writes_in}
-use Rattle.ppd_race.specs.declared.busy.Busy.{Busy}
-use Rattle.ppd_race.specs.Busy.{IsBusyOf, is_busy, is_none, race_if, race_of, races_all, races_at, races_between}
+use Rattle.ppd_race_found.specs.declared.busy.Busy.{Busy}
+use Rattle.ppd_race.specs.Busy.{IsBusyOf, is_busy, is_none, race_if, races_all, races_at, races_between}
+use Rattle.ppd_race_found.specs.Search.{race_of}
 use Rattle.ppd_race.specs.Races.{are_apart, candidates_at, edges_of_graph, is_race_in, most_cells}
 use Rattle.ppd_race.proofs.ByPairs.{filter_flat, flat_none, none_if_ordered}
 

@@ -1,8 +1,6 @@
 pub mod ByPairs
 pub mod Cells
 pub mod Alike
-pub mod Grown
-pub mod Halves
 pub mod Listed
 pub mod Merged
 pub mod Over

@@ -7,14 +7,13 @@ use Rattle.ppd_ast.specs.Members.{has, RisesFrom}
 use Rattle.ppd_ast.specs.declared.limits.TheConstants.{MOST_SHARED_CELLS}
 use Rattle.ppd_graph.specs.declared.sync_graph.SyncGraph.{SyncGraph}
 use Rattle.ppd_graph.specs.Graphs.{edge_count}
-use Rattle.ppd_race.specs.declared.busy.Accessor.{Accessor}
-use Rattle.ppd_race.specs.declared.busy.Busy.{Busy}
+use Rattle.ppd_race_found.specs.declared.busy.Accessor.{Accessor}
+use Rattle.ppd_race_found.specs.declared.busy.Busy.{Busy}
 use Rattle.ppd_race.specs.Busy.{EachBusyIn, IsBusyRow, numbers}
 use Rattle.ppd_race.specs.ByCell.{IsByCell, accessor, accessors_from, listed_if, listed_in}
-use Rattle.ppd_race.specs.declared.by_cell.ByCell.{ByCell}
-use Rattle.ppd_race.specs.Lists.{GrowsBy}
-use Rattle.ppd_race.specs.Busy.{IsRising}
-use Rattle.ppd_race.specs.Search.{AreInOrder, CanSearch}
+use Rattle.ppd_race_found.specs.declared.by_cell.ByCell.{ByCell}
+use Rattle.ppd_race_found.specs.Lists.{GrowsBy}
+use Rattle.ppd_race_found.specs.Search.{IsRising, AreInOrder, CanSearch}
 use Rattle.ppd_race.proofs.Cells.{not_below}
 use Rattle.ppd_race.proofs.BusyRows.{names_rise, weaker}
 

@@ -10,14 +10,14 @@ use Rattle.ppd_model.specs.declared.graph.Race.{Race}
 use Rattle.ppd_model.specs.declared.graph.RaceKind.TheVariants.{ReadWrite, WriteRead, WriteWrite}
 use Rattle.ppd_graph.specs.declared.sets.EdgeSets.{EdgeSets}
 use Rattle.ppd_graph.specs.declared.sync_graph.SyncGraph.{SyncGraph}
-use Rattle.ppd_race.specs.declared.busy.Accessor.{Accessor}
-use Rattle.ppd_race.specs.declared.busy.Against.{Against}
-use Rattle.ppd_race.specs.declared.busy.Busy.{Busy}
-use Rattle.ppd_race.specs.declared.by_cell.ByCell.{ByCell}
-use Rattle.ppd_race.specs.Busy.{AreBusyRows, EachBusyIn, can_race, race_if, race_of, races_at, races_between, races_from, races_with_later}
+use Rattle.ppd_race_found.specs.declared.busy.Accessor.{Accessor}
+use Rattle.ppd_race_found.specs.declared.busy.Against.{Against}
+use Rattle.ppd_race_found.specs.declared.busy.Busy.{Busy}
+use Rattle.ppd_race_found.specs.declared.by_cell.ByCell.{ByCell}
+use Rattle.ppd_race.specs.Busy.{AreBusyRows, EachBusyIn, can_race, race_if, races_at, races_between, races_from, races_with_later}
+use Rattle.ppd_race_found.specs.Search.{race_of, against, found_after, found_against, found_in, found_over, found_with, is_apart, picked}
 use Rattle.ppd_race.specs.ByCell.{IsByCell, accessor, accessors_from}
-use Rattle.ppd_race.specs.Lists.{GrowsBy}
-use Rattle.ppd_race.specs.Search.{against, found_after, found_against, found_in, found_over, found_with, is_apart, picked}
+use Rattle.ppd_race_found.specs.Lists.{GrowsBy}
 use Rattle.ppd_race.proofs.Cells.{below_rest}
 
 -- ---- one place of a list of accessors

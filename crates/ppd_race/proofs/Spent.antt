@@ -7,11 +7,11 @@ use Rattle.std.proofs.lemmas.Nat.{mul-le}
 use Rattle.ppd_model.specs.declared.graph.Race.{Race}
 use Rattle.ppd_graph.proofs.Rows.{length_replicated, no_items}
 use Rattle.ppd_graph.specs.declared.sync_graph.SyncGraph.{SyncGraph}
-use Rattle.ppd_race.specs.declared.busy.Busy.{Busy}
-use Rattle.ppd_race.specs.ByCell.{listing_cost}
-use Rattle.ppd_race.specs.Lists.{total}
+use Rattle.ppd_race_found.specs.declared.busy.Busy.{Busy}
+use Rattle.ppd_race.specs.ByCell.{listing_cost, own_cost}
+use Rattle.ppd_race_found.specs.Lists.{total}
 use Rattle.ppd_race.proofs.Over.{total_at_first, total_joined}
-use Rattle.ppd_race.specs.Search.{edge_cost, own_cost, row_cost}
+use Rattle.ppd_race_found.specs.Search.{edge_cost, row_cost}
 use Rattle.ppd_race.specs.Spending.{search_cost, work_of}
 
 listing_within : (own : List Busy) → sum_by listing_cost own + 2 * length own ≤ 3 * sum_by edge_cost own

@@ -6,8 +6,9 @@ use Rattle.ppd_model.specs.HappenedBefore.{edge}
 use Rattle.ppd_graph.specs.declared.sets.EdgeSets.{EdgeSets}
 use Rattle.ppd_graph.specs.declared.sync_graph.SyncGraph.{SyncGraph}
 use Rattle.ppd_graph.specs.Graphs.{sets_at}
-use Rattle.ppd_race.specs.declared.busy.Busy.{Busy}
-use Rattle.ppd_race.specs.Busy.{AreBusyRows, EachBusyIn, IsBusyIn, IsBusyOf, IsBusyRow, IsRising, is_busy_in, races_between, races_by_rows, races_from, races_with_later}
+use Rattle.ppd_race_found.specs.declared.busy.Busy.{Busy}
+use Rattle.ppd_race.specs.Busy.{AreBusyRows, EachBusyIn, IsBusyIn, IsBusyOf, IsBusyRow, is_busy_in, races_between, races_by_rows, races_from, races_with_later}
+use Rattle.ppd_race_found.specs.Search.{IsRising}
 use Rattle.ppd_race.specs.Races.{AreRacesOf, candidates_at, edges_of_graph, is_race_in, own_edges, races_among}
 use Rattle.ppd_race.proofs.Alike.{graph_races}
 use Rattle.ppd_race.proofs.Cells.{first_none, pair_races, second_none}

@@ -5,25 +5,20 @@ use Rattle.ppd_ast.specs.declared.limits.TheConstants.{MOST_SHARED_CELLS}
 use Rattle.ppd_ast.specs.Members.{has, those, RisesFrom, AreBelow}
 use Rattle.ppd_model.specs.declared.graph.EdgeId.{EdgeId}
 use Rattle.ppd_model.specs.declared.graph.Race.{Race}
-use Rattle.ppd_model.specs.declared.graph.RaceKind.{RaceKind}
 use Rattle.ppd_model.specs.declared.graph.RaceKind.TheVariants.{ReadWrite, WriteRead, WriteWrite}
-use Rattle.ppd_model.specs.Races.{race}
 use Rattle.ppd_ast.specs.declared.limits.TheConstants.{MOST_NAMED}
 use Rattle.ppd_graph.specs.declared.sets.EdgeSets.{EdgeSets}
 use Rattle.ppd_graph.specs.declared.sync_graph.SyncGraph.{SyncGraph}
-use Rattle.ppd_graph.specs.Graphs.{count_at, edge_count, is_before_by}
+use Rattle.ppd_graph.specs.Graphs.{is_before_by}
 use Rattle.ppd_graph.specs.LogRecord.{no_sets}
-use Rattle.ppd_race.specs.declared.busy.Busy.{Busy}
+use Rattle.ppd_race_found.specs.declared.busy.Busy.{Busy}
+use Rattle.ppd_race_found.specs.Search.{race_of}
 
 -- ---- the races of two edges
 
 -- the race where it is one
 abbrev pub race_if : Bool → Race → List Race
 race_if b r = if b then r ∷ [] else []
-
--- the race of two edges over a cell
-abbrev pub race_of : EdgeId → EdgeId → ℕ → RaceKind → Race
-race_of a b cell kind = race a.process a.edge b.process b.edge cell kind
 
 -- the races of two busy edges over a cell
 abbrev pub races_at : Busy → Busy → ℕ → List Race
@@ -105,11 +100,6 @@ pub record AreBusyRows (sets : List (List EdgeSets)) (rows : List (List Busy)) :
   pub row : (q : ℕ) → q < length rows → IsBusyRow q (get_or sets q []) (get_or rows q [])
 
 -- ---- as they are found
-
--- the more edges of a process, the more are before them
-abbrev pub IsRising : SyncGraph → Type 0
-IsRising g =
-    (p q j k : ℕ) → p < length g.edges → j ≤ k → k < edge_count g q → count_at g.times q j p ≤ count_at g.times q k p
 
 -- the races of a busy edge with the busy edges of the processes after p
 abbrev pub races_with_later : SyncGraph → List (List Busy) → ℕ → Busy → List Race

@@ -1,11 +1,12 @@
 -- The busy edges of a process by the cells that they access.
-use Rattle.std.specs.Prelude.{◌≡◌, ℕ, ◌+◌, ◌*◌, ◌<◌, Bool, ◌&&◌, ◌||◌, List, [], ◌∷◌, ◌++◌, get_or, length, if◌then◌else◌}
+use Rattle.std.specs.Prelude.{◌≡◌, ℕ, ◌+◌, ◌*◌, ◌<◌, Bool, ◌&&◌, List, [], ◌∷◌, ◌++◌, get_or, length, if◌then◌else◌}
+use Rattle.std.specs.List.{sum_by}
 use Rattle.ppd_ast.specs.declared.limits.TheConstants.{MOST_SHARED_CELLS}
-use Rattle.ppd_ast.specs.Members.{has, RisesFrom, AreBelow}
-use Rattle.ppd_race.specs.declared.busy.Accessor.{Accessor}
-use Rattle.ppd_race.specs.declared.busy.Busy.{Busy}
-use Rattle.ppd_race.specs.declared.by_cell.ByCell.{ByCell}
-use Rattle.ppd_race.specs.Lists.{one_at}
+use Rattle.ppd_ast.specs.Members.{has}
+use Rattle.ppd_race_found.specs.declared.busy.Accessor.{Accessor}
+use Rattle.ppd_race_found.specs.declared.busy.Busy.{Busy}
+use Rattle.ppd_race_found.specs.declared.by_cell.ByCell.{ByCell}
+use Rattle.ppd_race_found.specs.Lists.{one_at}
 
 -- a busy edge at its place
 abbrev pub accessor : ℕ → Busy → Accessor
@@ -25,15 +26,6 @@ pub record IsByCell (own : List Busy) (t : ByCell) : Type 0 where
   pub writers : (c : ℕ) → c < MOST_SHARED_CELLS
       → get_or t.writers.items c [] ≡ accessors_from 0 (λ a. has a.writes c) own
 
--- the cells of each rise, are below 1,024, and have those that it reads and writes
-pub record IsOfCells (a : Busy) : Type 0 where
-  pub rises : RisesFrom 0 a.cells
-  pub below : AreBelow MOST_SHARED_CELLS a.cells
-  pub all : (c : ℕ) → has a.cells c ≡ (has a.reads c || has a.writes c)
-
-abbrev pub AreOfCells : List Busy → Type 0
-AreOfCells own = (k : ℕ) (d : Busy) → k < length own → IsOfCells (get_or own k d)
-
 -- ---- as they are listed
 
 abbrev pub listed_if : Bool → ℕ → Accessor → ℕ → List Accessor
@@ -48,3 +40,7 @@ listing_cost a = 1 + 4 * length a.cells
 
 abbrev pub listing_least : Busy → ℕ
 listing_least a = 1 + 2 * length a.cells
+
+-- to list the edges of a process by their cells, and to join their races
+abbrev pub own_cost : List Busy → ℕ
+own_cost own = sum_by listing_cost own + 2 * length own

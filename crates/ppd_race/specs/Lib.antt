@@ -2,7 +2,5 @@
 pub mod Races
 pub mod Busy
 pub mod ByCell
-pub mod Lists
-pub mod Search
 pub mod Spending
 pub mod Union

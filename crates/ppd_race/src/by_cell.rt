@@ -1,23 +1,16 @@
 ghost use Rattle.std.specs.Prelude.{◌<◌, ◌≤◌, ◌+◌, ◌*◌, IfOk, OnOk, length};
 ghost use Rattle.std.specs.List.{sum_by};
 ghost use Rattle.ppd_ast.specs.Members.{RisesFrom, AreBelow};
-ghost use Rattle.ppd_race.specs.ByCell.{AreOfCells, IsByCell, accessor as accessor_of, listed_if, listed_in, listing_cost, listing_least};
-ghost use Rattle.ppd_race.specs.Lists.{GrowsBy};
+ghost use Rattle.ppd_race.specs.ByCell.{IsByCell, accessor as accessor_of, listed_if, listed_in, listing_cost, listing_least};
+ghost use Rattle.ppd_race_found.specs.Search.{AreOfCells};
+ghost use Rattle.ppd_race_found.specs.Lists.{GrowsBy};
 
-use crate::busy::{Accessor, Busy};
-use crate::lists::{Lists, no_lists, push_at};
 use ppd_ast::limits::MOST_SHARED_CELLS;
 use ppd_ast::{Memory, Steps};
 use ppd_bits::CellSet;
+use ppd_race_found::{Accessor, Busy, ByCell, Lists, no_lists, push_at};
 use std::alloc::Global;
 use std::sync::ledger::Ledger;
-
-/// The busy edges of a process by the cells that they read, and by those that they write, in order.
-#[derive(Drop)]
-pub(crate) struct ByCell {
-    pub(crate) readers: Lists<Accessor>,
-    pub(crate) writers: Lists<Accessor>,
-}
 
 fn push_if<L: Ledger>(
     lists: &mut Lists<Accessor>,

@@ -2,12 +2,8 @@
 //! access and one of them writes.
 #![tactic(auto)]
 
-mod apart;
-mod busy;
 mod by_cell;
-mod found;
 mod laws;
-mod lists;
 mod rows;
 mod search;
 mod union;

@@ -1,12 +1,11 @@
 ghost use Rattle.std.specs.Prelude.{◌≡◌, ◌<◌, ◌≤◌, ◌+◌, ◌*◌, ◌^◌, ℕ, ◌||◌, IfOk, OnOk, IsTrue, ◌↔◌, nat_eq, ◌&&◌, [], length};
 ghost use Rattle.std.specs.List.{sum_by};
 ghost use Rattle.ppd_ast.specs.Members.{has, AreBelow};
-ghost use Rattle.ppd_race.specs.Search.{edge_cost, row_cost};
+ghost use Rattle.ppd_race_found.specs.Search.{edge_cost, row_cost};
 ghost use Rattle.ppd_race.specs.Spending.{set_cost, sets_cost, sets_least};
 ghost use Rattle.ppd_race.specs.Union.{HasBelow, size_of};
 ghost use Rattle.ppd_race.specs.Busy.{AreBusyRows, AreFew, IsBusyOf, IsBusyRow, Takes, is_busy, is_none};
 
-use crate::busy::Busy;
 use crate::union::union_of;
 use ppd_ast::limits::{MOST_NAMED, MOST_SHARED_CELLS};
 use ppd_ast::{Memory, Seq, Steps};
@@ -14,6 +13,7 @@ use ppd_bits::CellSet;
 use ppd_entry::BoxedCells;
 use ppd_graph::EdgeSets;
 use ppd_model::EdgeId;
+use ppd_race_found::Busy;
 use std::alloc::Global;
 use std::sync::ledger::Ledger;
 

@@ -1,20 +1,19 @@
 ghost use Rattle.std.specs.Prelude.{◌≡◌, ◌<◌, ◌≤◌, ◌+◌, ◌-◌, ◌*◌, [], IfOk, OnOk, get_or, length, map};
 ghost use Rattle.std.specs.List.{flat_map, range_with_len, sum_by};
-ghost use Rattle.ppd_race.specs.Busy.{AreBusyRows, IsRising, races_by_rows, races_from};
-ghost use Rattle.ppd_race.specs.Lists.{GrowsBy, total};
+ghost use Rattle.ppd_race.specs.Busy.{AreBusyRows, races_by_rows, races_from};
+ghost use Rattle.ppd_race_found.specs.Search.{IsRising, CanSearch, IsWhole, found_after, row_cost};
+ghost use Rattle.ppd_race_found.specs.Lists.{GrowsBy, total};
 ghost use Rattle.ppd_race.specs.Races.{AreRacesOf};
-ghost use Rattle.ppd_race.specs.Search.{CanSearch, IsWhole, found_after, own_cost, row_cost};
+ghost use Rattle.ppd_race.specs.ByCell.{own_cost};
 ghost use Rattle.ppd_race.specs.Spending.{search_cost, search_least, sets_least, work_of};
 
-use crate::busy::Busy;
-use crate::by_cell::{ByCell, list_by_cell};
-use crate::found::{Found, add_row};
-use crate::lists::{Lists, no_lists};
+use crate::by_cell::list_by_cell;
 use crate::rows::{are_few, busy_rows};
 use ppd_ast::limits::MOST_NAMED;
 use ppd_ast::{Memory, Seq, Steps};
 use ppd_graph::SyncGraph;
 use ppd_model::Race;
+use ppd_race_found::{Busy, ByCell, Found, Lists, add_row, no_lists};
 use rayon::prelude::*;
 use std::alloc::{AllocError, Global};
 use std::marker::Brand;

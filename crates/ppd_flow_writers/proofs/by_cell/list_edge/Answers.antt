@@ -1,5 +1,5 @@
 use Rattle.std.proofs.Common.{◌++◌, ◌∙◌, [], ap, get_or}
-use Rattle.ppd_race.specs.Lists.{one_at}
+use Rattle.ppd_race_found.specs.Lists.{one_at}
 use Rattle.ppd_flow_writers.proofs.Growing.{with_one}
 use Rattle.ppd_flow_writers.proofs.by_cell.list_edge.Goals as goal
 

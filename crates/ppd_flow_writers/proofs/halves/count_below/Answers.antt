@@ -1,5 +1,5 @@
 use Rattle.std.proofs.Common.{◌+◌, ◌-◌, ◌/◌, arith, length, refl}
-use Rattle.ppd_race.proofs.Halves.{few_halves, first_halves, next_halves}
+use Rattle.ppd_race_found.proofs.Halves.{few_halves, first_halves, next_halves}
 use Rattle.ppd_flow_writers.proofs.Cut.{halved_cut, halved_down, halved_none, halved_up}
 use Rattle.ppd_flow_writers.proofs.halves.count_below.Goals as goal
 

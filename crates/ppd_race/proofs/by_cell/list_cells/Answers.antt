@@ -1,6 +1,6 @@
 use Rattle.std.proofs.Common.{refl, arith}
 use Rattle.ppd_ast.specs.declared.limits.TheConstants.{MOST_SHARED_CELLS}
-use Rattle.ppd_race.proofs.BusyRows.{below_at}
+use Rattle.ppd_race_found.proofs.OverCell.{below_at}
 use Rattle.ppd_race.proofs.Listed.{listed_all, listed_more, listed_none}
 use Rattle.ppd_race.proofs.by_cell.list_cells.Goals as goal
 

@@ -1,6 +1,6 @@
 use Rattle.std.proofs.Common.{rules, ◌≡◌, false, ap}
 use Rattle.ppd_race.specs.ByCell.{listed_if}
-use Rattle.ppd_race.proofs.Grown.{grown_none}
+use Rattle.ppd_race_found.proofs.Grown.{grown_none}
 use Rattle.ppd_race.proofs.by_cell.push_if.Goals as goal
 
 pub returns-clause-listed : goal.returns-clause-listed

@@ -1,7 +1,7 @@
 use Rattle.std.proofs.Common.{◌≤◌, ◌+◌, take}
 use Rattle.std.specs.List.{sum_by}
 use Rattle.ppd_race.specs.Busy.{IsBusyPart}
-use Rattle.ppd_race.specs.Search.{edge_cost}
+use Rattle.ppd_race_found.specs.Search.{edge_cost}
 use Rattle.ppd_race.specs.Spending.{set_cost}
 use Rattle.ppd_race.proofs.rows.busy_row.Given as goal
 

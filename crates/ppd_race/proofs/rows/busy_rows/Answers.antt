@@ -2,7 +2,7 @@ use Rattle.std.proofs.Common.{◌∙◌, ap, arith}
 use Rattle.std.specs.List.{sum_by}
 use Rattle.std.proofs.lemmas.List.{take_all}
 use Rattle.std.proofs.lemmas.List.Sums.{sum_by-take-le, sum_by_more, sum_by_push}
-use Rattle.ppd_race.specs.Search.{row_cost}
+use Rattle.ppd_race_found.specs.Search.{row_cost}
 use Rattle.ppd_race.specs.Spending.{sets_cost, sets_least}
 use Rattle.ppd_race.proofs.BusyRows.{rows_more}
 use Rattle.ppd_race.proofs.rows.busy_rows.Goals as goal

@@ -1,7 +1,7 @@
 use Rattle.std.proofs.Common.{◌≡◌, ℕ, ◌<◌, ◌≤◌, ◌+◌, [], get_or, length, take}
 use Rattle.std.specs.List.{sum_by}
 use Rattle.ppd_race.specs.Busy.{IsBusyRow}
-use Rattle.ppd_race.specs.Search.{row_cost}
+use Rattle.ppd_race_found.specs.Search.{row_cost}
 use Rattle.ppd_race.specs.Spending.{sets_cost, sets_least}
 use Rattle.ppd_race.proofs.rows.busy_rows.Given as goal
 

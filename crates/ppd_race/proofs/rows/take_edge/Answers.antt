@@ -1,7 +1,7 @@
 use Rattle.std.proofs.Common.{◌∙◌, ap, arith}
 use Rattle.std.specs.List.{sum_by}
 use Rattle.std.proofs.lemmas.List.Sums.{sum_by_push}
-use Rattle.ppd_race.specs.Search.{edge_cost}
+use Rattle.ppd_race_found.specs.Search.{edge_cost}
 use Rattle.ppd_race.proofs.BusyRows.{takes_none, takes_one}
 use Rattle.ppd_race.proofs.rows.take_edge.Goals as goal
 

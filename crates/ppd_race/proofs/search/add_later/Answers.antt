@@ -1,9 +1,9 @@
 use Rattle.std.proofs.Common.{refl, ◌-◌, ◌≡◌, ◌+◌, ◌<◌, ◌≤◌, ◌∙◌, [], ap, subst, arith, get_or, length}
 use Rattle.std.specs.List.{flat_map, range_with_len}
 use Rattle.std.proofs.lemmas.List.Sums.{sum_by-take-le, sum_by_more}
-use Rattle.ppd_race.specs.Lists.{GrowsBy}
-use Rattle.ppd_race.specs.Search.{found_in, row_cost}
-use Rattle.ppd_race.proofs.Grown.{grown_none}
+use Rattle.ppd_race_found.specs.Lists.{GrowsBy}
+use Rattle.ppd_race_found.specs.Search.{found_in, row_cost}
+use Rattle.ppd_race_found.proofs.Grown.{grown_none}
 use Rattle.ppd_race.proofs.Over.{grown_range, none_yet, row_cells, row_elsewhere}
 use Rattle.ppd_race.proofs.search.add_later.Goals as goal
 use Rattle.ppd_model.proofs.Lists.{get_or_any}

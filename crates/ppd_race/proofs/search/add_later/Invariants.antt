@@ -1,7 +1,7 @@
 use Rattle.std.proofs.Common.{◌≤◌, ◌+◌, ◌-◌, [], get_or, take, ◌≡◌, length}
 use Rattle.std.specs.List.{flat_map, range_with_len, sum_by}
-use Rattle.ppd_race.specs.Lists.{GrowsBy, total}
-use Rattle.ppd_race.specs.Search.{CanSearch, found_in, row_cost}
+use Rattle.ppd_race_found.specs.Lists.{GrowsBy, total}
+use Rattle.ppd_race_found.specs.Search.{CanSearch, found_in, row_cost}
 use Rattle.ppd_race.proofs.search.add_later.Given as goal
 
 abbrev pub invariant-loop-q : goal.invariant-loop-q

@@ -5,7 +5,8 @@ use Rattle.std.proofs.lemmas.List.{length-append}
 use Rattle.std.proofs.lemmas.List.Sums.{sum_by-take-le, sum_by_more}
 use Rattle.std.proofs.lemmas.Nat.{mul-le}
 use Rattle.ppd_race.specs.Busy.{races_from}
-use Rattle.ppd_race.specs.Search.{own_cost, row_cost}
+use Rattle.ppd_race.specs.ByCell.{own_cost}
+use Rattle.ppd_race_found.specs.Search.{row_cost}
 use Rattle.ppd_race.proofs.Over.{from_zero}
 use Rattle.ppd_race.proofs.search.all_races.Goals as goal
 

@@ -1,7 +1,8 @@
 use Rattle.std.proofs.Common.{◌≡◌, ◌≤◌, ◌+◌, ◌*◌, length, take}
 use Rattle.std.specs.List.{flat_map, range_with_len, sum_by}
-use Rattle.ppd_race.specs.Busy.{IsRising, races_from}
-use Rattle.ppd_race.specs.Search.{own_cost, row_cost}
+use Rattle.ppd_race.specs.Busy.{races_from}
+use Rattle.ppd_race_found.specs.Search.{IsRising, row_cost}
+use Rattle.ppd_race.specs.ByCell.{own_cost}
 use Rattle.ppd_race.proofs.search.all_races.Given as goal
 
 abbrev pub invariant-loop-p : goal.invariant-loop-p

@@ -1,6 +1,7 @@
 use Rattle.std.proofs.Common.{◌≡◌, length, map, subst}
 use Rattle.std.specs.List.{range_with_len}
-use Rattle.ppd_race.specs.Busy.{IsRising, races_from}
+use Rattle.ppd_race.specs.Busy.{races_from}
+use Rattle.ppd_race_found.specs.Search.{IsRising}
 use Rattle.ppd_race.proofs.Whole.{found_all}
 use Rattle.ppd_race.proofs.search.races_from_blank.Goals as goal
 

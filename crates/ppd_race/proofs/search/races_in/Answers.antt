@@ -1,7 +1,8 @@
 use Rattle.std.proofs.Common.{ap, arith, ◌≡◌, ◌≤◌, ◌+◌, ◌*◌, subst, length}
 use Rattle.std.specs.List.{sum_by}
-use Rattle.ppd_race.specs.Search.{own_cost, row_cost}
-use Rattle.ppd_race.specs.Busy.{IsRising, races_by_rows}
+use Rattle.ppd_race.specs.ByCell.{own_cost}
+use Rattle.ppd_race_found.specs.Search.{row_cost, IsRising}
+use Rattle.ppd_race.specs.Busy.{races_by_rows}
 use Rattle.ppd_race.proofs.Spent.{search_spent}
 use Rattle.ppd_race.proofs.Whole.{found_by_rows}
 use Rattle.ppd_race.proofs.search.races_in.Goals as goal

@@ -2,7 +2,8 @@ use Rattle.std.proofs.Common.{◌≡◌, ◌<◌, ◌-◌, ◌∙◌, IfOk, leng
 use Rattle.std.specs.List.{range_with_len}
 use Rattle.rayon.specs.Numbers.{nat_range}
 use Rattle.rayon.proofs.ToStd.{nat_range-All}
-use Rattle.ppd_race.specs.Busy.{IsRising, races_from}
+use Rattle.ppd_race.specs.Busy.{races_from}
+use Rattle.ppd_race_found.specs.Search.{IsRising}
 use Rattle.ppd_race.proofs.Joined.{parts_in}
 use Rattle.ppd_race.proofs.search.races_of_processes.Goals as goal
 

@@ -1,7 +1,0 @@
-use Rattle.std.proofs.Common.{arith}
-use Rattle.std.proofs.lemmas.Grind.{common_steps}
-use Rattle.ppd_race.proofs.lists.push_in.Goals as goal
-use Rattle.ppd_model.proofs.Lists.{set_is_change}
-
-pub returns : goal.returns
-returns g c = grind (arith, common_steps, set_is_change)

@@ -1,0 +1,3 @@
+-- The races with the edges of later processes, as they are found.
+pub mod Lists
+pub mod Search
