@@ -47,7 +47,7 @@ fn push_in<T: Drop>(lists: &mut Lists<T>, place: usize, item: T) -> Result<(), M
     push_one(&mut lists[place], item)
 }
 
-/// Appends an item to the list at a place, where there is one. `Memory` is want of memory: the list may be as before.
+/// Appends an item to the list at a place, where there is one. `Memory` is want of memory.
 pub fn push_at<T: Drop, L: Ledger>(
     lists: &mut Lists<T>,
     place: usize,
