@@ -6,8 +6,8 @@ use Rattle.std.proofs.lemmas.Option.{none-some}
 use Rattle.ppd_ast.specs.declared.plan.Plan.{Plan}
 use Rattle.ppd_ast.specs.declared.program.Program.{Program}
 use Rattle.ppd_model.specs.declared.flow.Item.{Item}
-use Rattle.ppd_flow_locals.specs.declared.table.LocalTable.{LocalTable}
-use Rattle.ppd_flow_locals.specs.Tables.{IsTableOf}
+use Rattle.ppd_flow_local_tables.specs.declared.table.LocalTable.{LocalTable}
+use Rattle.ppd_flow_local_tables.specs.Tables.{IsTableOf}
 use Rattle.ppd_flow_model.specs.Seen.{is_item_of, place_of}
 
 first_within : (test : Item → Bool) (xs : List Item) (i : ℕ) → position test xs ≡ Some i → i ≤ length xs

@@ -9,7 +9,7 @@ ghost use Rattle.ppd_flow_model.specs.Seen.{kind_at};
 use crate::search::{Place, Search};
 use crate::testing::last_test;
 use ppd_ast::{BlockKind, Memory, Steps};
-use ppd_flow_locals::frame_in;
+use ppd_flow_local_tables::frame_in;
 use ppd_flow_model::{LastTest, LeafCall};
 use ppd_flow_past::FlowError;
 use ppd_model::Origin;

@@ -3,7 +3,7 @@ ghost use Rattle.ppd_flow_local.specs.Scans.{leaf_past as leaf_past_by};
 ghost use Rattle.ppd_flow_model.specs.Locals.{leaf_at as leaf_among};
 
 use ppd_ast::Memory;
-use ppd_flow_locals::{Code, leaf_after};
+use ppd_flow_local_tables::{Code, leaf_after};
 use ppd_flow_model::LeafCall;
 use ppd_flow_past::number;
 use ppd_model::Item;

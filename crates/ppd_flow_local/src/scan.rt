@@ -6,7 +6,7 @@ ghost use Rattle.ppd_sem.specs.Blocks.{block_kind as kind_of_block, postlog_cell
 ghost use Rattle.ppd_flow_model.specs.Locals.{begins_leaf, begun_scan, is_local as is_local_of, receives as receives_by, scan as scan_of, scan_event, scan_interval, scan_item, written_by as written_of};
 
 use ppd_ast::{BlockKind, Memory, Seq};
-use ppd_flow_locals::{Code, frame_in, leaf_after};
+use ppd_flow_local_tables::{Code, frame_in, leaf_after};
 use ppd_flow_model::{LeafCall, Writer};
 use ppd_flow_past::number;
 use ppd_model::Item;

@@ -8,7 +8,7 @@ ghost use Rattle.ppd_flow_tables.specs.Tabled.{IsOfInterval};
 
 use crate::leaf::leaf_at;
 use ppd_ast::{BlockKind, Memory, Steps};
-use ppd_flow_locals::{Code, frame_in};
+use ppd_flow_local_tables::{Code, frame_in};
 use ppd_flow_model::LeafCall;
 use ppd_flow_past::{FlowError, Items, Past, block_of, interval_items, number, outer_of};
 use ppd_flow_tables::{BlockTables, Tables, place_of};

@@ -3,7 +3,7 @@ ghost use Rattle.ppd_model.specs.FullTrace.{is_passed as is_passed_by};
 ghost use Rattle.ppd_flow_model.specs.Control.{last_test as last_test_among, test_item};
 
 use ppd_ast::Memory;
-use ppd_flow_locals::Code;
+use ppd_flow_local_tables::Code;
 use ppd_flow_model::LastTest;
 use ppd_flow_past::number;
 use ppd_model::Item;

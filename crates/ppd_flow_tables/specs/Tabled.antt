@@ -1,7 +1,7 @@
 -- What the tables that are at hand have to do with a past.
 use Rattle.std.specs.Prelude.{◌≡◌, ℕ, nat_eq, ◌&&◌, List, [], get_or, slice_get, Option, Some, None, if◌then◌else◌, ⊤}
 use Rattle.ppd_entry.specs.Entries.{entries_at}
-use Rattle.ppd_flow_locals.specs.Tables.{IsTableOf}
+use Rattle.ppd_flow_local_tables.specs.Tables.{IsTableOf}
 use Rattle.ppd_flow_past.specs.declared.past.Past.{Past}
 use Rattle.ppd_flow_past.specs.Pasts.{IsPast}
 use Rattle.ppd_flow_past.specs.SeenBy.{items_in}

@@ -6,7 +6,7 @@ ghost use Rattle.ppd_flow_places.specs.Tables.{IsEdgeTable};
 ghost use Rattle.ppd_flow_tables.specs.Tabled.{IsOfInterval};
 
 use ppd_ast::Memory;
-use ppd_flow_locals::LocalTable;
+use ppd_flow_local_tables::LocalTable;
 use ppd_flow_past::Past;
 use ppd_flow_places::{EdgeTable, PlaceTable};
 use ppd_model::Item;
