@@ -20,7 +20,8 @@ use Rattle.ppd_activations.specs.declared.runs.Run.{Run}
 use Rattle.ppd_activations.specs.Runs.{parent_of, run_of}
 use Rattle.ppd_activations.proofs.Keeping.{parent_in_as, returned_as, tagged_as, with_test_as}
 use Rattle.ppd_whole_link.specs.declared.follower.Follower.{Follower}
-use Rattle.ppd_whole_link.specs.Runs.{begun, follow, follower_of, tag_write, tagged_by_kind, tagged_unless}
+use Rattle.ppd_whole_link.specs.Runs.{begun, follow, follower_of, tagged_unless}
+use Rattle.ppd_whole_writes.specs.Tags.{tag_write, tagged_by_kind}
 
 -- ---- control
 

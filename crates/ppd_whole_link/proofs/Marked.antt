@@ -19,7 +19,8 @@ use Rattle.ppd_whole_link.specs.declared.linker.Mark as kept
 use Rattle.ppd_whole_link.specs.declared.marks.Marks.{Marks}
 use Rattle.ppd_whole_link.specs.Laws.{AreMarksIf, AreMarksOf, MarksAreWriters}
 use Rattle.ppd_whole_link.specs.Linkers.{Own, own_access, own_in, own_past}
-use Rattle.ppd_whole_link.specs.Marks.{Written, key, mark_access, mark_event, marks_after, no_marks, syncs_if, syncs_past, written_if, written_past}
+use Rattle.ppd_whole_link.specs.Marks.{mark_event, marks_after, no_marks, syncs_if, syncs_past, written_if}
+use Rattle.ppd_whole_writes.specs.Writes.{Written, key, mark_access, written_past}
 
 -- ---- keys
 

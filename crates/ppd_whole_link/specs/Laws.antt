@@ -8,7 +8,8 @@ use Rattle.law_whole.specs.Writers.{mark_in, marks_of, own_write}
 use Rattle.ppd_whole_link.specs.declared.linker.Linker.{Linker}
 use Rattle.ppd_whole_link.specs.declared.marks.Marks.{Marks}
 use Rattle.ppd_whole_link.specs.Linkers.{linker_after, own_in}
-use Rattle.ppd_whole_link.specs.Marks.{key, marks_after}
+use Rattle.ppd_whole_link.specs.Marks.{marks_after}
+use Rattle.ppd_whole_writes.specs.Writes.{key}
 use Rattle.ppd_whole_link.specs.Runs.{follower_of}
 
 -- process p after these events

@@ -1,41 +1,23 @@
 -- What is kept of a process that is followed.
-use Rattle.std.specs.Prelude.{ℕ, ◌+◌, List, [], ◌∷◌, map, fold, drop, length, slice_get, Option, Some, None}
-use Rattle.ppd_ast.specs.declared.program.Kind.{Kind}
-use Rattle.ppd_ast.specs.declared.program.Kind.TheVariants as kind
+use Rattle.std.specs.Prelude.{ℕ, ◌+◌, List, [], ◌∷◌, map, slice_get, Option, Some, None}
 use Rattle.ppd_ast.specs.declared.program.Program.{Program}
 use Rattle.ppd_ast.specs.declared.status.Trap.{Trap}
 use Rattle.ppd_ast.specs.Lookups.{kind_of}
-use Rattle.ppd_sem.specs.declared.event.Access.{Access}
 use Rattle.ppd_sem.specs.declared.event.Event.{Event}
-use Rattle.ppd_sem.specs.declared.event.Spot.{Spot}
-use Rattle.ppd_sem.specs.declared.event.Spot.TheVariants.{Local, Shared}
 use Rattle.ppd_sem.specs.Runs.{size_if}
 use Rattle.ppd_model.specs.declared.trace.EventId.{EventId}
-use Rattle.ppd_model.specs.FullTrace.{Tag, into_at}
+use Rattle.ppd_model.specs.FullTrace.{Tag}
 use Rattle.law_whole.specs.Following.{Followed, calls_unless, edge_past, top_of}
 use Rattle.ppd_activations.specs.declared.runs.Run.{Run}
-use Rattle.ppd_activations.specs.Runs.{begun_run, called, run_of, tagged, tagged_into, with_test}
+use Rattle.ppd_activations.specs.Runs.{begun_run, run_of, with_test}
 use Rattle.ppd_whole_link.specs.declared.follower.Follower.{Follower}
+use Rattle.ppd_whole_writes.specs.Tags.{tagged_by_kind}
 
 -- what is kept of a process
 abbrev pub follower_of : Followed → Follower
 follower_of f = record { runs = map run_of f.activations; calls = f.calls; number = f.number; edge = f.edge }
 
 -- ---- the tags
-
-abbrev pub tag_spot : Tag → List Run → Spot → List Run
-tag_spot me xs (Local frame c) = tagged c me xs
-tag_spot me xs (Shared c) = xs
-
--- a local cell that is written has the event's tag
-abbrev pub tag_write : Tag → List Run → Access → List Run
-tag_write me xs a = tag_spot me xs a.spot
-
--- the runs after an event of a statement of this kind; `call` began the running body
-abbrev pub tagged_by_kind : Program → Option ℕ → Tag → Event → Kind → List Run → List Run
-tagged_by_kind program call me e (kind.Call f arguments into) xs = called program f (length e.writes) me ∷ xs
-tagged_by_kind program call me e (kind.Return v) xs = tagged_into (into_at program call) e.value me (drop 1 xs)
-tagged_by_kind program call me e k xs = fold (tag_write me) xs e.writes
 
 -- an event that traps writes nothing
 abbrev pub tagged_unless : Option Trap → Program → Option ℕ → Tag → Event → List Run → List Run

@@ -6,11 +6,12 @@ ghost use Rattle.law_whole.specs.Following.{calls_by_kind, calls_unless, edge_pa
 ghost use Rattle.ppd_activations.specs.Runs.{begun_run as begun_run_of, parent_of as parent_of_runs, top_tags as top_tags_of, with_test};
 ghost use Rattle.ppd_whole_link.specs.Runs.{begun, follow as follow_of, tagged_unless};
 
-use crate::tags::{At, tag_event};
+use crate::tags::tag_event;
 use ppd_activations::{Run, add_test, begun_run, parent_of, tag_in, top_tags};
 use ppd_ast::{Kind, Memory, Program, Steps};
 use ppd_model::EventId;
 use ppd_sem::{Event, Stack};
+use ppd_whole_writes::At;
 use std::alloc::Global;
 use std::marker::Brand;
 use std::sync::ledger::{Blank, Ledger};

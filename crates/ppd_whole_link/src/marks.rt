@@ -1,7 +1,7 @@
 // Which event of a process last wrote each shared cell in each internal edge, and which events are synchronizations.
-ghost use Rattle.std.specs.Prelude.{◌≡◌, ◌<◌, ◌*◌, ◌+◌, ◌^◌, List, fold, get_or, length, map, slice_get, unwrap_or, IfOk, OnOk};
+ghost use Rattle.std.specs.Prelude.{◌≡◌, ◌<◌, ◌^◌, List, get_or, length, map, slice_get, unwrap_or, IfOk, OnOk};
 ghost use Rattle.std.specs.FinMap as finite;
-ghost use Rattle.ppd_whole_link.specs.Marks.{key as key_of, mark_access as mark_access_of, mark_event, mark_spot as mark_spot_of, marks_after, no_marks, syncs_if, syncs_past, written_if, written_past};
+ghost use Rattle.ppd_whole_link.specs.Marks.{mark_event, marks_after, no_marks, syncs_if, syncs_past, written_if};
 ghost use Rattle.law_whole.specs.Linked.{sync_event as sync_event_of};
 ghost use Rattle.law_whole.specs.Writers.{written_in as written_in_events};
 ghost use Rattle.ppd_whole_link.specs.Laws.{AreAllMarks};
@@ -12,7 +12,8 @@ use crate::follower::{edge_past, next};
 use ppd_activations::ByNumber;
 use ppd_ast::{Memory, Seq};
 use ppd_model::{EventId, NodeId};
-use ppd_sem::{Access, Event, Spot};
+use ppd_sem::Event;
+use ppd_whole_writes::{key, mark_if};
 use std::alloc::Global;
 
 /// What a process's events leave: of each shared cell and internal edge the number of the last event that writes the
@@ -23,45 +24,6 @@ pub struct Marks {
     pub(crate) syncs: Seq<u32>,
     pub(crate) number: u32,
     pub(crate) edge: u32,
-}
-
-fn key(cell: u16, edge: u32) -> u64
-    ensures { result ≡ key_of cell edge }
-{
-    cell as u64 * 4294967296 + edge as u64
-}
-
-fn mark_spot(written: &mut ByNumber<u32>, edge: u32, number: u32, spot: Spot) -> Result<(), Memory>
-    ensures { OnOk result (written.new ≡ mark_spot_of edge number written.old spot) }
-{
-    match spot {
-        Spot::Local { .. } => Ok(()),
-        Spot::Shared(cell) => written.set(key(cell, edge), number),
-    }
-}
-
-fn mark_writes(
-    written: &mut ByNumber<u32>,
-    edge: u32,
-    number: u32,
-    writes: &[Access],
-) -> Result<(), Memory>
-    ensures { OnOk result (written.new ≡ fold (mark_access_of edge number) written.old writes.now) }
-{
-    for access in writes {
-        mark_spot(written, edge, number, access.spot)?;
-    }
-    Ok(())
-}
-
-fn mark_if(written: &mut ByNumber<u32>, edge: u32, number: u32, event: &Event) -> Result<(), Memory>
-    ensures { OnOk result
-        (written.new ≡ written_past event.now.number edge number event.now.writes written.old) }
-{
-    match event.number {
-        Some(_) => Ok(()),
-        None => mark_writes(written, edge, number, event.writes.as_slice()),
-    }
 }
 
 fn add_sync(syncs: &mut Seq<u32>, number: u32, sync: Option<u32>) -> Result<(), Memory>

@@ -5,8 +5,8 @@ use Rattle.ppd_model.specs.declared.flow.Item.{Item}
 use Rattle.ppd_sem.specs.declared.event.Event.{Event}
 use Rattle.law_whole.specs.Joined.{events_of_item, events_of_items, joined}
 use Rattle.ppd_flow_model.specs.Seen.{Seen, items_at}
-use Rattle.ppd_whole_link.proofs.Joining.{joined_at}
-use Rattle.ppd_whole_link.proofs.events.+joining.Goals as goal
+use Rattle.ppd_whole_writes.proofs.Joining.{joined_at}
+use Rattle.ppd_whole_writes.proofs.events.+joining.Goals as goal
 
 pub add_interval-loop-item-preserved : goal.add_interval-loop-item-preserved
 add_interval-loop-item-preserved t c = λ x same.

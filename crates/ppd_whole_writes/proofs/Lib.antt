@@ -1,0 +1,2 @@
+-- Events, joined.
+mod Joining

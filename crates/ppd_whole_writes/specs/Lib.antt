@@ -1,0 +1,3 @@
+-- What events write.
+pub mod Tags
+pub mod Writes
