@@ -4,12 +4,13 @@ use Rattle.std.specs.Prelude.{nat_eq, nat_le, unwrap_or}
 use Rattle.law_clean.specs.Answers.{CleanOr, no_item, unclean, unclean_or}
 use Rattle.law_clean.specs.Cuts.{cut_logs}
 use Rattle.law_clean.specs.Search as sought
-use Rattle.ppd_clean.specs.declared.asked.Asked.{Asked}
+use Rattle.ppd_clean_past.specs.declared.asked.Asked.{Asked}
 use Rattle.ppd_clean.specs.declared.clean_error.CleanError.{CleanError}
 use Rattle.ppd_clean.specs.declared.clean_error.CleanError.TheVariants as error
 use Rattle.ppd_clean.specs.declared.clean.Clean.{Clean}
 use Rattle.ppd_clean.specs.Answers.{Diverges, Fails, FailsFrom, IsCleanBy, IsFound, IsOrdered, answer_at, answer_by, cut_of, is_begun_unclean, item_at, reached_from, seens_of, unless_begun, with_edges}
-use Rattle.ppd_clean.specs.ByOrder.{cut_for, edge_of_item, first_unclean, is_led_to, is_unclean_at, last_before, last_edge, leads_from_race, own_last}
+use Rattle.ppd_clean.specs.ByOrder.{cut_for, edge_of_item, first_unclean, last_before, own_last}
+use Rattle.ppd_clean_past.specs.ByOrder.{is_led_to, is_unclean_at, last_edge, leads_from_race}
 use Rattle.ppd_clean.specs.Firsts.{firsts_of}
 use Rattle.ppd_clean.proofs.Orders.{first_is, leads_is}
 use Rattle.ppd_clean.proofs.WantedEdges.{cut_is, first_bound}

@@ -4,7 +4,7 @@ use Rattle.std.proofs.lemmas.Option.{get_or_from_slice_get, slice_get_past}
 use Rattle.std.specs.Prelude.{slice_get}
 use Rattle.law_clean.specs.Answers.{CleanOr, no_item, unclean, unclean_or}
 use Rattle.ppd_ast.proofs.ValidLaws.{slice_get_there}
-use Rattle.ppd_clean.specs.declared.asked.Asked.{Asked}
+use Rattle.ppd_clean_past.specs.declared.asked.Asked.{Asked}
 use Rattle.ppd_clean.specs.declared.clean_error.CleanError.{CleanError}
 use Rattle.ppd_clean.specs.declared.clean_error.CleanError.TheVariants as error
 use Rattle.ppd_clean.specs.declared.clean.Clean.{Clean}

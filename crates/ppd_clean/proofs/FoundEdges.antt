@@ -1,6 +1,6 @@
 -- The edges that a search by replays finds, or why it finds none.
 use Rattle.std.proofs.Common.{◌≡◌, ℕ, List, Option, Some, None, Result, Ok, Err, refl, ap, ◌∙◌}
-use Rattle.ppd_clean.specs.declared.asked.Asked.{Asked}
+use Rattle.ppd_clean_past.specs.declared.asked.Asked.{Asked}
 use Rattle.ppd_clean.specs.Answers.{AreEdges, edges_in, of_flow}
 use Rattle.ppd_clean.proofs.Found.{one_fails}
 use Rattle.ppd_flow.specs.Answers.{IsEdges, answer_if}

@@ -1,17 +1,14 @@
--- The edge in which an interval is left, as the index of a past has it, and the number of a last edge.
-use Rattle.std.proofs.Common.{◌≡◌, ℕ, zero, suc, ◌-◌, List, [], ◌∷◌, Option, Some, None, inl, inr, refl, ap, sym, ◌∙◌, arith, get_or, length, map, if◌then◌else◌}
+-- The edge in which an interval is left, as the index of a past has it.
+use Rattle.std.proofs.Common.{◌≡◌, ℕ, zero, suc, List, [], ◌∷◌, Option, Some, None, refl, ap, sym, ◌∙◌, get_or, length, map, if◌then◌else◌}
 use Rattle.std.specs.Prelude.{filter_map, option_map, slice_get, unwrap_or}
 use Rattle.law_clean.specs.Pasts.{left_edge, left_in}
-use Rattle.ppd_clean.specs.ByOrder.{last_edge, left_at}
-use Rattle.ppd_clean.proofs.Orders.{counted}
+use Rattle.ppd_clean.specs.ByOrder.{left_at}
 use Rattle.ppd_entry.specs.declared.entry.Entry.{Entry}
 use Rattle.ppd_entry.specs.declared.entry.Logs.{Logs}
 use Rattle.ppd_entry.specs.Entries.{entries_at}
 use Rattle.ppd_flow_model.specs.Ends.{syncs_before}
 use Rattle.ppd_flow_past.specs.declared.past.Past.{Past}
-use Rattle.ppd_flow_past.specs.Pasts.{IsPast}
 use Rattle.ppd_flow_past.proofs.Outward.{extent_at}
-use Rattle.ppd_graph.specs.Graphs.{edge_count}
 use Rattle.ppd_index.specs.declared.interval.Interval.{Interval}
 use Rattle.ppd_index.specs.declared.row.Row.{Row}
 use Rattle.ppd_index.specs.Indexes.{IsIndexOf, interval_of, rows_at}
@@ -37,16 +34,3 @@ module _ (past : Past) (p k : ℕ) (h : IsIndexOf past.plan.now past.logs.now pa
   left_is o e =
       ap (left_or past.logs.now p) e ∙ sym (left_by past.logs.now p (slice_get (rows_at past.index.now.tables p) k))
       ∙ ap (left_in (entries_at past.logs.now p)) (sym (extent_at past.plan.now past.logs.now past.index.now.tables p k h))
-
-module _ (past : Past) (is : IsPast past) (p n : ℕ) (n_is : n ≡ edge_count past.graph.now p) where
-  pub last_none : n ≡ 0 → 0 ≡ last_edge past.logs.now p
-  last_none e = elim (counted past.program.now past.logs.now past.graph.now is.graph_is p) [
-    | inl c ↦ absurd (omega (arith, n_is, e, c))
-    | inr z ↦ sym z.1
-  ]
-
-  pub last_some : (n ≡ 0 → ⊥) → n - 1 ≡ last_edge past.logs.now p
-  last_some other = elim (counted past.program.now past.logs.now past.graph.now is.graph_is p) [
-    | inl c ↦ omega (arith, n_is, c)
-    | inr z ↦ absurd (other (n_is ∙ z.0))
-  ]

@@ -2,7 +2,7 @@
 use Rattle.std.proofs.Common.{◌≡◌, ℕ, zero, suc, ◌+◌, ◌-◌, ◌<◌, ◌≤◌, Bool, true, false, ◌||◌, List, [], ◌∷◌, None, inl, inr, ◌⊎◌, refl, ap, sym, subst, ◌∙◌, arith, eqb-true, eq-eqb, get_or, length, map, if◌then◌else◌}
 use Rattle.std.proofs.lemmas.Bool.{and_from, cases_eq, cases_lt, false_from_ne_true, le-ltb, leb-false, leb-true, lt-ltb, ltb-true, or_left, or_right}
 use Rattle.std.specs.List.{list_any}
-use Rattle.std.specs.Prelude.{IsTrue, filter_map, find, is_some, nat_eq, nat_le, nat_lt}
+use Rattle.std.specs.Prelude.{IsTrue, find, is_some, nat_eq, nat_le, nat_lt}
 use Rattle.law_clean.specs.Pasts.{edges_between, is_raced, is_same_edge}
 use Rattle.law_clean.specs.Search as sought
 use Rattle.law_clean.proofs.CleanCuts.{before_back, next_before}
@@ -11,23 +11,22 @@ use Rattle.law_clean.proofs.PastRaces.{both, edge_of_race, either}
 use Rattle.ppd_ast.proofs.Those.{both as same_tests}
 use Rattle.ppd_ast.proofs.ValidLaws.{slice_get_there}
 use Rattle.ppd_ast.specs.declared.program.Program.{Program}
-use Rattle.ppd_clean.specs.ByOrder.{ends_before, first_unclean, has_race, is_in_past, last_edge, leads_from_race}
+use Rattle.ppd_clean.specs.ByOrder.{first_unclean, has_race}
+use Rattle.ppd_clean_past.specs.ByOrder.{ends_before, is_in_past, last_edge, leads_from_race}
 use Rattle.ppd_clean.specs.Firsts.{firsts_of}
 use Rattle.ppd_clean.proofs.FirstEdges.{first_raced, same_any}
 use Rattle.ppd_clean.proofs.Ranges.{any_same, find_same}
 use Rattle.ppd_clean.proofs.There.{raced_there}
-use Rattle.ppd_entry.specs.declared.entry.Entry.{Entry}
+use Rattle.ppd_clean_past.proofs.LastEdges.{counted}
 use Rattle.ppd_entry.specs.declared.entry.Logs.{Logs}
 use Rattle.ppd_flow_past.proofs.Edges.Before.{before_is}
 use Rattle.ppd_graph.specs.declared.sync_graph.SyncGraph.{SyncGraph}
 use Rattle.ppd_graph.specs.Graphs.{IsEdge, IsGraphOf, count_at, edge_count, is_before_by}
-use Rattle.ppd_graph.specs.LogRecord.{sets_from}
-use Rattle.ppd_graph.proofs.Built.{sets_count}
 use Rattle.ppd_model.specs.declared.graph.EdgeId.{EdgeId}
 use Rattle.ppd_model.specs.declared.graph.NodeId.{NodeId}
 use Rattle.ppd_model.specs.declared.graph.Race.{Race}
 use Rattle.ppd_model.specs.HappenedBefore.{Before, EdgeBefore, across, earlier, edge, ends_before as ends_before_of, is_before, is_edge_before, node, own_syncs, sync_at, through}
-use Rattle.ppd_model.specs.RecordedSets.{record_in, sync_in}
+use Rattle.ppd_model.specs.RecordedSets.{record_in}
 use Rattle.ppd_model.specs.Synchronizations.{Sync}
 use Rattle.ppd_model.proofs.LastEdges.{before_from}
 use Rattle.ppd_model.proofs.Tested.{In, before_there, tests_before, tests_edges}
@@ -98,34 +97,22 @@ module _ (program : Program) (rec : List (List Sync)) where
 
 -- ---- edges of a graph
 
-counted_in : (lists : List (List Entry)) (q : ℕ)
-    → (length (get_or (map (sets_from None) lists) q []) ≡ length (get_or (map (filter_map sync_in) lists) q []) + 1)
-    ⊎ ((length (get_or (map (sets_from None) lists) q []) ≡ 0) × (length (get_or (map (filter_map sync_in) lists) q []) ≡ 0))
-counted_in [] q = inr (refl, refl)
-counted_in (es ∷ lists) zero = inl (sets_count None es)
-counted_in (es ∷ lists) (suc q) = counted_in lists q
-
 module _ (program : Program) (logs : Logs) (g : SyncGraph) (is : IsGraphOf program logs g) where
   abbrev rec : List (List Sync)
   rec = record_in logs
-
-  pub counted : (q : ℕ) → (edge_count g q ≡ last_edge logs q + 1) ⊎ ((edge_count g q ≡ 0) × (last_edge logs q ≡ 0))
-  counted q =
-      subst (λ sets. (length (get_or sets q []) ≡ last_edge logs q + 1) ⊎ ((length (get_or sets q []) ≡ 0) × (last_edge logs q ≡ 0)))
-      (sym is.sets) (counted_in logs.lists q)
 
   -- it has the edge, or the edge is the first of its process
   abbrev pub IsIn : EdgeId → Type 0
   IsIn e = IsEdge g e ⊎ (e.edge ≡ 0)
 
   pub inside : (q i : ℕ) → i ≤ last_edge logs q → IsIn (edge q i)
-  inside q i le = elim (counted q) [
+  inside q i le = elim (counted program logs g is q) [
     | inl c ↦ (let r : i < edge_count g q = omega (arith, le, c) in inl r)
     | inr n ↦ (let z = n.1 in let r : i ≡ 0 = omega (arith, le, z) in inr r)
   ]
 
   pub ended : (q i : ℕ) → i < last_edge logs q → IsEdge g (edge q i) × IsEdge g (edge q (i + 1))
-  ended q i lt = elim (counted q) [
+  ended q i lt = elim (counted program logs g is q) [
     | inl c ↦ (let r : i < edge_count g q = omega (arith, lt, c) in let s : i + 1 < edge_count g q = omega (arith, lt, c) in (r, s))
     | inr n ↦ absurd (let z = n.1 in omega (arith, lt, z))
   ]

@@ -9,7 +9,8 @@ use Rattle.law_clean.specs.Search as sought
 use Rattle.law_clean.proofs.PastRaces.{both}
 use Rattle.law_clean.proofs.Ranges.{first_between}
 use Rattle.ppd_ast.specs.declared.program.Program.{Program}
-use Rattle.ppd_clean.specs.ByOrder.{first_unclean, is_raced_to, is_wanted, last_before, last_edge, own_last}
+use Rattle.ppd_clean.specs.ByOrder.{first_unclean, is_raced_to, is_wanted, last_before, own_last}
+use Rattle.ppd_clean_past.specs.ByOrder.{last_edge}
 use Rattle.ppd_clean.specs.Firsts.{firsts_of}
 use Rattle.ppd_clean.proofs.Orders.{IsIn, any_first, before_same, ended, first_is, inside}
 use Rattle.ppd_clean.proofs.Ranges.{fold_same}

@@ -3,7 +3,7 @@ use Rattle.std.specs.Prelude.{◌≡◌, ℕ, nat_le, Bool, false, List, map, sl
 use Rattle.law_clean.specs.Answers.{CleanOr, clean, no_item, unclean, unclean_or, unwritten}
 use Rattle.law_clean.specs.Pasts.{left_edge}
 use Rattle.law_clean.specs.Search.{clean_by, cut_by, first_raced}
-use Rattle.ppd_clean.specs.declared.asked.Asked.{Asked}
+use Rattle.ppd_clean_past.specs.declared.asked.Asked.{Asked}
 use Rattle.ppd_clean.specs.declared.clean_error.CleanError.{CleanError}
 use Rattle.ppd_clean.specs.declared.clean_error.CleanError.TheVariants as error
 use Rattle.ppd_clean.specs.declared.clean.Clean.{Clean}

@@ -1,12 +1,13 @@
 -- Pasts with races, wanted edges and cut logs, by the order of a graph and the first edge of each process in a race.
-use Rattle.std.specs.Prelude.{ℕ, ◌+◌, ◌-◌, nat_eq, nat_le, nat_lt, Bool, false, ◌&&◌, ◌||◌, not, List, find, fold, length, Option, Some, None, unwrap_or, if◌then◌else◌}
+use Rattle.std.specs.Prelude.{ℕ, ◌-◌, nat_eq, nat_le, Bool, ◌&&◌, not, List, find, fold, Option, Some, None, unwrap_or, if◌then◌else◌}
 use Rattle.std.specs.List.{list_any, range_with_len}
 use Rattle.law_clean.specs.Cuts.{cut_logs}
-use Rattle.law_clean.specs.Pasts.{edges_between, is_same_edge, left_edge}
-use Rattle.ppd_clean.specs.declared.asked.Asked.{Asked}
+use Rattle.law_clean.specs.Pasts.{edges_between, left_edge}
+use Rattle.ppd_clean_past.specs.declared.asked.Asked.{Asked}
+use Rattle.ppd_clean_past.specs.ByOrder.{is_in_past, is_unclean_at, last_edge}
 use Rattle.ppd_entry.specs.declared.entry.Logs.{Logs}
 use Rattle.ppd_entry.specs.Entries.{entries_at}
-use Rattle.ppd_flow_model.specs.Ends.{edge_at, is_sync_item, syncs_before}
+use Rattle.ppd_flow_model.specs.Ends.{edge_at, syncs_before}
 use Rattle.ppd_flow_model.specs.Seen.{Seen}
 use Rattle.ppd_flow_past.specs.declared.past.Past.{Past}
 use Rattle.ppd_graph.specs.declared.sync_graph.SyncGraph.{SyncGraph}
@@ -15,31 +16,13 @@ use Rattle.ppd_index.specs.declared.interval.Interval.{Interval}
 use Rattle.ppd_model.specs.declared.flow.Item.{Item}
 use Rattle.ppd_model.specs.declared.flow.Item.TheVariants as item
 use Rattle.ppd_model.specs.declared.graph.EdgeId.{EdgeId}
-use Rattle.ppd_model.specs.HappenedBefore.{edge, own_syncs}
-use Rattle.ppd_model.specs.RecordedSets.{record_in}
-
--- the number of process q's last edge
-abbrev pub last_edge : Logs → ℕ → ℕ
-last_edge logs q = length (own_syncs (record_in logs) q)
+use Rattle.ppd_model.specs.HappenedBefore.{edge}
 
 -- ---- pasts
-
--- edge a is edge e, or is before it
-abbrev pub is_in_past : SyncGraph → EdgeId → EdgeId → Bool
-is_in_past g e a = is_same_edge a e || is_before_by g a e
 
 -- the past of edge e has one of these
 abbrev pub has_race : SyncGraph → List EdgeId → EdgeId → Bool
 has_race g firsts e = list_any (is_in_past g e) firsts
-
--- edge a ends before the synchronization that ends edge e
-abbrev pub ends_before : SyncGraph → EdgeId → EdgeId → Bool
-ends_before g e a =
-    if nat_eq a.process e.process then nat_lt a.edge e.edge else is_before_by g a (edge e.process (e.edge + 1))
-
--- one of these does, where edge e is not the last of its process
-abbrev pub leads_from_race : SyncGraph → List EdgeId → ℕ → EdgeId → Bool
-leads_from_race g firsts last e = if nat_le last e.edge then false else list_any (ends_before g e) firsts
 
 -- the least edge of process p, from one through another, whose past has one of these
 abbrev pub first_unclean : SyncGraph → List EdgeId → (p from last : ℕ) → Option ℕ
@@ -87,16 +70,6 @@ left_at logs p i = if i.closed then syncs_before (entries_at logs p) i.last else
 abbrev pub edge_of_item : Past → Asked → Seen → Item → ℕ
 edge_of_item past a x (item.Own e) = edge_at (entries_at past.logs.now a.process) x a.interval a.item
 edge_of_item past a x (item.Nested m b values closed) = left_edge (entries_at past.logs.now a.process) m
-
--- the item is the synchronization that ends edge e, and a race ends before it
-abbrev pub is_led_to : Past → Asked → Item → EdgeId → Bool
-is_led_to past a t e =
-    is_sync_item t && leads_from_race past.graph.now a.firsts.now (last_edge past.logs.now e.process) e
-
--- the past of an item that lies in edge i has a race
-abbrev pub is_unclean_at : Past → Asked → Item → ℕ → Option ℕ → Bool
-is_unclean_at past a t i None = false
-is_unclean_at past a t i (Some u) = nat_le u i || is_led_to past a t (edge a.process i)
 
 abbrev pub is_unclean : Past → Asked → Seen → Item → Bool
 is_unclean past a x t = is_unclean_at past a t (edge_of_item past a x t) a.first

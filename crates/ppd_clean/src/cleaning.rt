@@ -10,7 +10,6 @@ ghost use Rattle.ppd_index.specs.Fitting.{AreFittingLogs};
 ghost use Rattle.ppd_index.specs.Indexes.{IsIndexOf};
 ghost use Rattle.ppd_race.specs.Races.{races_of_logs};
 
-use crate::asked::Asked;
 use crate::by_order::first_unclean;
 use crate::clean::Clean;
 use crate::clean_error::CleanError;
@@ -19,6 +18,7 @@ use crate::firsts::first_edges;
 use crate::laws::cleans_are_of_runs;
 use crate::unclean::{clean_item, unclean};
 use ppd_ast::{Memory, Plan, Program, Seq, Steps};
+use ppd_clean_past::Asked;
 use ppd_entry::Logs;
 use ppd_flow::edges;
 use ppd_flow_past::{FlowError, Past, edge_at, replayed};

@@ -1,15 +1,14 @@
 // Logs that are cut off after the last wanted edge of each process.
-ghost use Rattle.std.specs.Prelude.{◌≡◌, ◌≤◌, IfOk, length, slice_get, take};
-ghost use Rattle.law_clean.specs.Cuts.{cut as cut_of, cut_at as cut_at_of, cut_logs as cut_logs_of, is_sync_there, past_unit as past_unit_of, stop as stop_of};
+ghost use Rattle.std.specs.Prelude.{◌≡◌, ◌≤◌, IfOk, length, slice_get};
+ghost use Rattle.law_clean.specs.Cuts.{cut as cut_of, cut_at as cut_at_of, cut_logs as cut_logs_of, is_sync_there, stop as stop_of};
 ghost use Rattle.ppd_ast.specs.declared.limits.TheConstants.{MOST_NAMED};
 ghost use Rattle.ppd_clean.specs.ByOrder.{last_wanted as last_wanted_of};
 ghost use Rattle.ppd_flow_past.specs.Pasts.{IsPast};
 
-use crate::asked::Asked;
 use crate::copies::copied;
-use crate::syncs::first_entries;
 use crate::wanted::last_wanted;
 use ppd_ast::{Memory, Seq, Status};
+use ppd_clean_past::{Asked, kept_entries};
 use ppd_entry::{Boxed, Entry, Logs};
 use ppd_flow_past::{Past, ending};
 use std::alloc::Global;
@@ -20,16 +19,6 @@ fn is_sync_at(entries: &[Entry], n: usize) -> bool
     match entries.get(n) {
         Some(Entry::Sync { .. }) => true,
         _ => false,
-    }
-}
-
-/// Past entry `n` too where it is a unit.
-fn past_unit(entries: &[Entry], n: usize) -> usize
-    ensures { result ≡ past_unit_of entries.now n }
-{
-    match entries.get(n) {
-        Some(Entry::Unit { .. }) => n + 1,
-        _ => n,
     }
 }
 
@@ -49,7 +38,7 @@ fn stop() -> Entry
 fn cut_at(alloc: Global, entries: &[Entry], n: usize) -> Result<Seq<Entry>, Memory>
     ensures { IfOk result (λ cut. cut ≡ cut_at_of entries.now n) }
 {
-    let mut cut = copied(alloc, first_entries(entries, past_unit(entries, n)))?;
+    let mut cut = copied(alloc, kept_entries(entries, n))?;
     cut.push(stop())?;
     Ok(cut)
 }

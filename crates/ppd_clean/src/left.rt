@@ -2,15 +2,13 @@
 ghost use Rattle.std.specs.Prelude.{◌≡◌, IfOk, take};
 ghost use Rattle.ppd_clean.specs.ByOrder.{edge_of_item as edge_of_item_in, left_at as left_at_of};
 ghost use Rattle.ppd_entry.specs.Entries.{entries_at};
-ghost use Rattle.ppd_flow_model.specs.Ends.{is_sync_item as is_sync_there};
 ghost use Rattle.ppd_flow_past.specs.Pasts.{IsPast};
 ghost use Rattle.ppd_flow_past.specs.SeenBy.{items_in, seen_in};
 ghost use Rattle.law_clean.specs.Pasts.{left_edge as left_edge_of};
 
-use crate::asked::Asked;
-use crate::by_order::last_edge;
 use crate::syncs::syncs_before;
 use ppd_ast::Memory;
+use ppd_clean_past::{Asked, last_edge};
 use ppd_flow_past::{Past, edge_at, entries_of, number};
 use ppd_index::Interval;
 use ppd_model::Item;
@@ -36,16 +34,6 @@ pub(crate) fn left_edge(past: &Past, process: u8, interval: u32) -> Result<u32, 
     match past.index.interval(process, interval) {
         None => Ok(0),
         Some(found) => left_at(past, process, found),
-    }
-}
-
-/// Whether an item is a synchronization.
-pub(crate) fn is_sync_item(item: &Item) -> bool
-    ensures { result ≡ is_sync_there item.now }
-{
-    match item {
-        Item::Own(event) => event.number.is_some(),
-        Item::Nested { .. } => false,
     }
 }
 

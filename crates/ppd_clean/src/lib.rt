@@ -1,7 +1,6 @@
 //! Answers in runs with races: an item and its flowback edges, where no race touches the item's past.
 #![tactic(auto)]
 
-mod asked;
 mod by_order;
 mod clean;
 mod clean_error;

@@ -1,7 +1,8 @@
-ghost use Rattle.std.specs.Prelude.{◌≡◌, count_by, filter_map, length, take};
+ghost use Rattle.std.specs.Prelude.{◌≡◌, count_by, filter_map, length};
 ghost use Rattle.ppd_flow_model.specs.Ends.{is_sync as is_sync_entry, syncs_before as syncs_before_in};
 ghost use Rattle.ppd_model.specs.RecordedSets.{sync_in};
 
+use ppd_clean_past::first_entries;
 use ppd_entry::Entry;
 
 fn is_sync(entry: &Entry) -> bool
@@ -26,17 +27,6 @@ fn syncs_among(entries: &[Entry]) -> usize
     ensures { result ≡ length (filter_map sync_in entries.now) }
 {
     count_syncs(entries)
-}
-
-/// The first entries, at most so many.
-pub(crate) fn first_entries(entries: &[Entry], count: usize) -> &[Entry]
-    ensures { result.now ≡ take count entries.now }
-{
-    if count < entries.len() {
-        &entries[..count]
-    } else {
-        entries
-    }
 }
 
 /// How many synchronizations stand before entry `n`.

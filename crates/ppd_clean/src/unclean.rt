@@ -1,32 +1,17 @@
 // Whether the past of what is asked has a race.
 ghost use Rattle.std.specs.Prelude.{◌≡◌, IfErr, IfOk, OnOk, slice_get, take, Err};
 ghost use Rattle.ppd_clean.specs.Answers.{IsAnswer, IsCleanItem, IsItem, answer_at, reached_from, unclean_error};
-ghost use Rattle.ppd_clean.specs.ByOrder.{is_led_to as is_led_to_of, is_unclean as is_unclean_of};
+ghost use Rattle.ppd_clean.specs.ByOrder.{is_unclean as is_unclean_of};
 ghost use Rattle.ppd_flow_past.specs.Pasts.{IsPast};
 ghost use Rattle.ppd_flow_past.specs.SeenBy.{items_in, seen_in};
 ghost use Rattle.ppd_flow_shared.specs.SharedCells.{seens_in};
 
-use crate::asked::Asked;
-use crate::by_order::{last_edge, leads_from_race};
 use crate::clean_error::CleanError;
-use crate::left::{edge_of_item, is_sync_item, left_edge};
+use crate::left::{edge_of_item, left_edge};
 use ppd_ast::{Memory, Seq};
+use ppd_clean_past::{Asked, is_unclean_at};
 use ppd_flow_past::Past;
 use ppd_model::{EdgeId, Item};
-
-/// Whether a race ends before the item, where it is the synchronization that ends this edge.
-fn is_led_to(past: &Past, asked: &Asked, item: &Item, edge: EdgeId) -> bool
-    requires { IsPast past.now }
-    ensures { result ≡ is_led_to_of past.now asked.now item.now edge }
-{
-    is_sync_item(item)
-        && leads_from_race(
-            past.graph,
-            asked.firsts,
-            last_edge(past, edge.process),
-            edge,
-        )
-}
 
 /// Whether the past of the item has a race. The item is the one that is asked, after those before it in its interval.
 fn is_unclean(past: &Past, asked: &Asked, before: &[Item], item: &Item) -> Result<bool, Memory>
@@ -34,15 +19,11 @@ fn is_unclean(past: &Past, asked: &Asked, before: &[Item], item: &Item) -> Resul
     requires before { before.now ≡ take asked.now.item (items_in past.now asked.now.process asked.now.interval) }
     ensures { IfOk result (λ unclean. unclean ≡ is_unclean_of past.now asked.now (seen_in past.now asked.now.process) item.now) }
 {
-    let Some(first) = asked.first else {
+    let Some(_) = asked.first else {
         return Ok(false);
     };
     let edge = edge_of_item(past, asked, before, item)?;
-    let here = EdgeId {
-        process: asked.process,
-        edge,
-    };
-    Ok(first <= edge || is_led_to(past, asked, item, here))
+    Ok(is_unclean_at(past, asked, item, edge))
 }
 
 pub(crate) fn unclean(process: u8, first: Option<u32>) -> CleanError

@@ -1,10 +1,10 @@
 // The edges that are wanted for an item.
 ghost use Rattle.std.specs.Prelude.{◌≡◌, ◌&&◌, not, if◌then◌else◌};
-ghost use Rattle.ppd_clean.specs.ByOrder.{is_wanted as is_wanted_of, last_before as last_before_of, last_edge as last_edge_of, last_wanted as last_wanted_of, later as later_of, own_last as own_last_of};
+ghost use Rattle.ppd_clean.specs.ByOrder.{is_wanted as is_wanted_of, last_before as last_before_of, last_wanted as last_wanted_of, later as later_of, own_last as own_last_of};
 ghost use Rattle.ppd_flow_past.specs.Pasts.{IsPast};
 
-use crate::asked::Asked;
-use crate::by_order::{is_raced_to, last_edge};
+use crate::by_order::is_raced_to;
+use ppd_clean_past::{Asked, last_edge};
 use ppd_flow_past::Past;
 use ppd_graph::SyncGraph;
 use ppd_model::EdgeId;

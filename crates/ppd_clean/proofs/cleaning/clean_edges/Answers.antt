@@ -1,7 +1,8 @@
 use Rattle.std.proofs.Common.{◌≡◌, ◌∙◌, ◌+◌, List, ap, sym, arith}
-use Rattle.ppd_clean.specs.declared.asked.Asked.{Asked}
+use Rattle.ppd_clean_past.specs.declared.asked.Asked.{Asked}
 use Rattle.ppd_clean.specs.Answers.{IsCleanBy, IsOrdered}
-use Rattle.ppd_clean.specs.ByOrder.{first_unclean, last_edge}
+use Rattle.ppd_clean.specs.ByOrder.{first_unclean}
+use Rattle.ppd_clean_past.specs.ByOrder.{last_edge}
 use Rattle.ppd_clean.specs.Firsts.{firsts_of}
 use Rattle.ppd_clean.proofs.Answered.{answered_by}
 use Rattle.ppd_clean.proofs.Missing.{sets_missed}

@@ -1,5 +1,5 @@
-use Rattle.ppd_clean.proofs.LeftEdges.{last_none, last_some}
-use Rattle.ppd_clean.proofs.by_order.last_edge.Goals as goal
+use Rattle.ppd_clean_past.proofs.LastEdges.{last_none, last_some}
+use Rattle.ppd_clean_past.proofs.by_order.last_edge.Goals as goal
 
 pub returns-then-edges-eq0-clause-is : goal.returns-then-edges-eq0-clause-is
 returns-then-edges-eq0-clause-is c =

@@ -1,7 +1,7 @@
 use Rattle.std.proofs.Common.{◌≡◌, drop}
 use Rattle.std.specs.List.{list_any}
-use Rattle.ppd_clean.specs.ByOrder.{ends_before}
-use Rattle.ppd_clean.proofs.by_order.leads_from_race.Given as goal
+use Rattle.ppd_clean_past.specs.ByOrder.{ends_before}
+use Rattle.ppd_clean_past.proofs.by_order.leads_from_race.Given as goal
 
 abbrev pub invariant-loop-first : goal.invariant-loop-first
 invariant-loop-first l =

@@ -1,0 +1,2 @@
+-- The number of a last edge.
+pub mod LastEdges

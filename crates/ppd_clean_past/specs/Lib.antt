@@ -1,0 +1,2 @@
+-- Pasts with races.
+pub mod ByOrder
