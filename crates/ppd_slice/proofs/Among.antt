@@ -15,7 +15,7 @@ use Rattle.ppd_slice_model.specs.declared.reached.Reached.{Reached}
 use Rattle.ppd_slice_model.specs.Levels.{at_depth}
 use Rattle.ppd_slice_model.specs.Reach.{IsIn, item_of, places_of}
 use Rattle.ppd_slice.specs.Asked.{AreKeptAmong, AreKeptFor, IsAsked}
-use Rattle.ppd_slice.specs.Searched.{IsSortedOf, same_at, was_found, with_all_found, with_found}
+use Rattle.ppd_slice_search.specs.Searched.{IsSortedOf, same_at, was_found, with_all_found, with_found}
 use Rattle.ppd_slice.specs.Slices.{IsNoItem, has_process}
 use Rattle.ppd_slice.proofs.Flows.{same_here}
 use Rattle.ppd_slice.proofs.Origins.{HasOrigin, from_far}

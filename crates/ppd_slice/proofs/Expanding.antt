@@ -11,7 +11,7 @@ use Rattle.ppd_slice_model.specs.declared.reached.ItemAt.{ItemAt}
 use Rattle.ppd_slice_model.specs.declared.reached.Reached.{Reached}
 use Rattle.ppd_slice_model.specs.Reach.{item_of, places_of}
 use Rattle.ppd_slice.specs.Asked.{AreKeptAmong, AreKeptFor, IsAsked}
-use Rattle.ppd_slice.specs.Searched.{with_all_found}
+use Rattle.ppd_slice_search.specs.Searched.{with_all_found}
 use Rattle.ppd_slice.specs.Slices.{IsAnsweredFor, IsNoItem, IsUnfound, flow_of, has_process, origins_in}
 use Rattle.ppd_slice.proofs.Among.{among_none, among_some}
 use Rattle.ppd_slice.proofs.Flows.{answered_none, answered_some, origins_none, origins_some, unfound, unfound_none}

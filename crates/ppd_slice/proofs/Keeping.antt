@@ -1,7 +1,7 @@
 -- Keeping of replays before the edges of items are asked, one step after another.
 use Rattle.std.specs.Borrow.{Bor}
 use Rattle.std.specs.Prelude.{IfErr, IfOk, OnOk, nat_lt}
-use Rattle.std.proofs.Common.{◌≡◌, ℕ, zero, suc, ◌+◌, ◌<◌, ◌≤◌, true, List, [], ◌∷◌, Option, Some, None, Result, Ok, Err, inl, inr, refl, ap, sym, ◌∙◌, subst, arith, get_or, length, take}
+use Rattle.std.proofs.Common.{◌≡◌, ℕ, zero, suc, ◌+◌, ◌<◌, ◌≤◌, Bool, true, List, [], ◌∷◌, Option, Some, None, Result, Ok, Err, inl, inr, refl, ap, sym, ◌∙◌, subst, arith, get_or, length, take}
 use Rattle.std.proofs.lemmas.List.{take_more}
 use Rattle.ppd_flow.specs.Answers.{IsEdges}
 use Rattle.ppd_flow.specs.Far.{RoseWithin, far_in}
@@ -148,20 +148,18 @@ module _ (past known : Past) (r : Bor Kept) (kept : Kept) (e : r.now ≡ kept) (
   }
 
   module _ (a : ItemAt) (n m : ℕ) where
-    abbrev IsItems : Past → Result (List Item) FlowError → Type 0
-    IsItems x res = IsFoundBy x ((a.process, a.interval) ∷ []) (Ok (items_in x a.process a.interval)) n m res
+    abbrev IsTold : Past → Result Bool FlowError → Type 0
+    IsTold x res =
+        IsFoundBy x ((a.process, a.interval) ∷ []) (Ok (nat_lt a.item (length (items_in x a.process a.interval)))) n m res
 
-    pub there_known : (items shown : List Item) → shown ≡ items → IsItems known (Ok items)
-        → IsThere past a (nat_lt a.item (length shown))
-    there_known items shown same f =
-        subst (λ (xs : List Item). IsThere past a (nat_lt a.item (length xs))) (sym same)
-        (is_there past r kept e a n m items (subst (λ x. IsItems x (Ok items)) is f))
+    pub there_known : (there : Bool) → IsTold known (Ok there) → IsThere past a there
+    there_known there f = is_there past r kept e a n m there (subst (λ x. IsTold x (Ok there)) is f)
 
-    pub items_free : (items : List Item) → IsItems known (Ok items) → IsAllKept past kept a.process → m ≡ n
-    items_free items f all = costs_none past r kept e a n m items (subst (λ x. IsItems x (Ok items)) is f) all
+    pub items_free : (there : Bool) → IsTold known (Ok there) → IsAllKept past kept a.process → m ≡ n
+    items_free there f all = costs_none past r kept e a n m there (subst (λ x. IsTold x (Ok there)) is f) all
 
-    pub items_fail : (error : FlowError) → IsItems known (Err error) → IsReplayed past a.process a.interval (Err error)
-    items_fail error f = why_none past r kept e a n m error (subst (λ x. IsItems x (Err error)) is f)
+    pub items_fail : (error : FlowError) → IsTold known (Err error) → IsReplayed past a.process a.interval (Err error)
+    items_fail error f = why_none past r kept e a n m error (subst (λ x. IsTold x (Err error)) is f)
 
     pub far_free_known : IsAllKept past kept a.process → RoseWithin known a.process n m → m ≡ n
     far_free_known all f = far_free past r kept e a.process n m all (subst (λ x. RoseWithin x a.process n m) is f)

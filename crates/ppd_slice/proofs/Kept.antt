@@ -144,26 +144,23 @@ module _ (past : Past) where
         omega (arith, none, more)
 
     module _ (a : ItemAt) (n m : ℕ) where
-      abbrev IsItems : Result (List Item) FlowError → Type 0
-      IsItems res =
-          IsFoundBy known ((a.process, a.interval) ∷ []) (Ok (items_in known a.process a.interval)) n m res
+      abbrev IsTold : Result Bool FlowError → Type 0
+      IsTold res =
+          IsFoundBy known ((a.process, a.interval) ∷ []) (Ok (nat_lt a.item (length (items_in known a.process a.interval)))) n m res
 
-      same_items : (x y : List Item) → ◌≡◌ {A = Result (List Item) FlowError} (Ok x) (Ok y) → x ≡ y
-      same_items x y f = cc
+      same_told : (x y : Bool) → ◌≡◌ {A = Result Bool FlowError} (Ok x) (Ok y) → x ≡ y
+      same_told x y f = cc
 
-      pub is_there : (items : List Item) → IsItems (Ok items) → IsThere past a (nat_lt a.item (length items))
-      is_there items f = (
-        head_none known a.process a.interval [] f.0,
-        ap (λ (xs : List Item). nat_lt a.item (length xs)) (sym (same_items _ _ f.1)),
-      )
+      pub is_there : (there : Bool) → IsTold (Ok there) → IsThere past a there
+      is_there there f = (head_none known a.process a.interval [] f.0, sym (same_told _ _ f.1))
 
-      pub costs_none : (items : List Item) → IsItems (Ok items) → IsAllKept past kept a.process → m ≡ n
-      costs_none items f all =
+      pub costs_none : (there : Bool) → IsTold (Ok there) → IsAllKept past kept a.process → m ≡ n
+      costs_none there f all =
           let one = free a.process all a.interval in
           let rose = f.2 in
           omega (arith, one, rose)
 
-      pub why_none : (error : FlowError) → IsItems (Err error) → IsReplayed past a.process a.interval (Err error)
+      pub why_none : (error : FlowError) → IsTold (Err error) → IsReplayed past a.process a.interval (Err error)
       why_none (Diverged q j) f = by (failed_in known a.process a.interval) refl f
         where
           by : (o : Option ℕ) → failed_in known a.process a.interval ≡ o

@@ -9,8 +9,9 @@ ghost use Rattle.ppd_slice.specs.Slices.{IsNoItem, IsSliceOf};
 
 use crate::held::{Kept, keep};
 use ppd_ast::{Seq, Steps};
-use ppd_flow::{FlowEdge, FlowError, Past, Place, edges_by_tables, far_processes, interval_items};
+use ppd_flow::{FlowEdge, FlowError, Past, Place, edges_by_tables, far_processes};
 use ppd_slice_model::ItemAt;
+use ppd_slice_search::has_item;
 use std::alloc::Global;
 use std::sync::ledger::Ledger;
 
@@ -29,8 +30,8 @@ fn is_there<L: Ledger>(
     ensures error { IfErr result (λ e. IsReplayed past.now at.process at.interval (Err e)) }
 {
     let known = past.with_kept(kept.replays.as_slice());
-    match interval_items(alloc, &known, at.process, at.interval, steps) {
-        Ok(items) => Ok((at.item as usize) < items.as_slice().len()),
+    match has_item(alloc, &known, at, steps) {
+        Ok(there) => Ok(there),
         Err(error) => Err(error),
     }
 }

@@ -1,0 +1,2 @@
+-- Whether an item is there.
+mod There

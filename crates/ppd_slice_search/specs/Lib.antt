@@ -1,0 +1,2 @@
+-- What a slice's search finds.
+pub mod Searched
