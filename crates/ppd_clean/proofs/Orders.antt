@@ -1,5 +1,5 @@
 -- Pasts with races by the order of a past's graph are those by happened-before.
-use Rattle.std.proofs.Common.{◌≡◌, ℕ, zero, suc, ◌+◌, ◌-◌, ◌<◌, ◌≤◌, Bool, true, false, ◌||◌, List, [], ◌∷◌, None, inl, inr, ◌⊎◌, refl, ap, sym, subst, ◌∙◌, arith, eqb-true, eq-eqb, get_or, length, map, if◌then◌else◌}
+use Rattle.std.proofs.Common.{◌≡◌, ℕ, zero, suc, ◌+◌, ◌-◌, ◌<◌, ◌≤◌, Bool, true, false, ◌||◌, List, [], inl, inr, ◌⊎◌, refl, ap, sym, subst, ◌∙◌, arith, eqb-true, eq-eqb, get_or, length, if◌then◌else◌}
 use Rattle.std.proofs.lemmas.Bool.{and_from, cases_eq, cases_lt, false_from_ne_true, le-ltb, leb-false, leb-true, lt-ltb, ltb-true, or_left, or_right}
 use Rattle.std.specs.List.{list_any}
 use Rattle.std.specs.Prelude.{IsTrue, find, is_some, nat_eq, nat_le, nat_lt}
