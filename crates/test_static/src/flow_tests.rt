@@ -1,25 +1,47 @@
-use crate::sources::{ARRAYS, CALL_IN_LOOP, CALLEE_WRITE, LOOPS_AND_BRANCHES, ROUND};
-use ppd_ast::limits::MOST_SHARED_CELLS;
-use ppd_bits::CellSet;
 use ppd_cfg::{Cfg, flow_graph};
 use ppd_check::read_source;
 use ppd_sets::{VarSets, sets};
 use std::alloc::Global;
-use std::process::Abort;
 
-/// Whether these are the successors of the body's statements, from its first one on.
-fn flows(alloc: Global, source: &str, body: u16, first: u32, rows: &[&[u32]]) -> bool {
-    let Ok(program) = read_source(alloc, source.as_bytes()) else {
-        return false;
-    };
-    if body as usize >= program.bodies.len() {
-        return false;
-    }
-    match flow_graph(alloc, &program, body) {
-        Err(_) => false,
-        Ok(graph) => are_rows(&graph, first, rows),
-    }
-}
+const CALLEE_WRITE: &str = "shared int x; void f() { x = 4; } process a { x = 1; f(); print(x); }";
+
+const LOOPS_AND_BRANCHES: &str = "void g() { int k; if (k) { k = 1; } return; } \
+    process a { int i = 0; if (i) { } else { i = 1; } while (i) { } \
+    while (i) { while (i) { i = 2; } if (i) { i = 3; } } }";
+
+const ARRAYS: &str = "shared int u, a[3], v; \
+    process p { int b[2], i, k; while (a[i]) { b[1] = v; a[0] = b[k - u]; } }";
+
+const CALL_IN_LOOP: &str = "int f() { return 7; } process a { int v, i; while (i) { v = f(); } }";
+
+/// A source, a body of it with its first statement, and the successors of each statement from that one on.
+type Flow = (&'static str, u16, u32, &'static [&'static [u32]]);
+
+const FLOWS: [Flow; 5] = [
+    (CALLEE_WRITE, 0, 0, &[&[1], &[]]),
+    (CALLEE_WRITE, 1, 2, &[&[3], &[4], &[5], &[]]),
+    // a `return` behind an `if`
+    (LOOPS_AND_BRANCHES, 0, 0, &[&[1], &[2, 3], &[3], &[]]),
+    // an empty branch, an empty loop body, a loop in a loop, an `if` at the end of a loop body
+    (
+        LOOPS_AND_BRANCHES,
+        1,
+        4,
+        &[
+            &[5],
+            &[6, 7],
+            &[7],
+            &[7, 8],
+            &[9, 13],
+            &[10, 11],
+            &[9],
+            &[8, 12],
+            &[8],
+            &[],
+        ],
+    ),
+    (CALL_IN_LOOP, 1, 1, &[&[2], &[3], &[4, 5], &[3], &[]]),
+];
 
 fn are_rows(graph: &Cfg, first: u32, rows: &[&[u32]]) -> bool {
     let mut stmt = first;
@@ -32,24 +54,51 @@ fn are_rows(graph: &Cfg, first: u32, rows: &[&[u32]]) -> bool {
     !graph.has(stmt)
 }
 
+/// Whether the body's statements have these successors.
+fn flows(alloc: Global, (source, body, first, rows): Flow) -> bool {
+    let Ok(program) = read_source(alloc, source.as_bytes()) else {
+        return false;
+    };
+    if body as usize >= program.bodies.len() {
+        return false;
+    }
+    match flow_graph(alloc, &program, body) {
+        Err(_) => false,
+        Ok(graph) => are_rows(&graph, first, rows),
+    }
+}
+
+#[test]
+fn statements_flow(rt: HostRuntime) {
+    for (number, flow) in FLOWS.iter().enumerate() {
+        assert!(rt; flows(rt.alloc(), *flow), "{number}");
+    }
+}
+
+/// A source, a statement, and the cells that it uses and defines as a loop.
+type Loop = (&'static str, u32, &'static [u16], &'static [u16]);
+
+const LOOPS: [Loop; 7] = [
+    (LOOPS_AND_BRANCHES, 7, &[0], &[]),
+    (LOOPS_AND_BRANCHES, 8, &[0], &[0]),
+    (LOOPS_AND_BRANCHES, 9, &[0], &[0]),
+    // an `if` is no loop
+    (LOOPS_AND_BRANCHES, 5, &[], &[]),
+    // arrays are whole
+    (ARRAYS, 3, &[0, 1, 2, 3], &[0, 1]),
+    (ARRAYS, 4, &[], &[]),
+    // a call writes its receiving local
+    (CALL_IN_LOOP, 3, &[1], &[0]),
+];
+
 fn sets_of(alloc: Global, source: &str) -> Option<VarSets> {
     let program = read_source(alloc, source.as_bytes()).ok()?;
     sets(alloc, &program).ok()
 }
 
-/// Whether the body uses and defines these variables.
-fn uses(found: &Option<VarSets>, body: u16, used: &[u16], defined: &[u16]) -> bool {
-    match found {
-        None => false,
-        Some(sets) => {
-            sets.has_body(body) && sets.used(body) == used && sets.defined(body) == defined
-        }
-    }
-}
-
 /// Whether the loop uses and defines these cells.
-fn loop_uses(found: &Option<VarSets>, stmt: u32, used: &[u16], defined: &[u16]) -> bool {
-    match found {
+fn has_cells(alloc: Global, (source, stmt, used, defined): Loop) -> bool {
+    match sets_of(alloc, source) {
         None => false,
         Some(sets) => {
             sets.has_stmt(stmt)
@@ -59,147 +108,9 @@ fn loop_uses(found: &Option<VarSets>, stmt: u32, used: &[u16], defined: &[u16]) 
     }
 }
 
-fn set_of(cells: &[u16]) -> CellSet {
-    let mut set = CellSet::new();
-    for cell in cells {
-        if usize::from(*cell) < MOST_SHARED_CELLS {
-            set.insert(*cell);
-        }
-    }
-    set
-}
-
-fn lists(alloc: Global, set: &CellSet, cells: &[u16]) -> bool {
-    match set.to_list(alloc) {
-        Ok(list) => list.as_slice() == cells,
-        Err(_) => false,
-    }
-}
-
-fn holds(set: &CellSet, cell: u16) -> bool {
-    usize::from(cell) < MOST_SHARED_CELLS && set.contains(cell)
-}
-
-/// The first and the last cells of words.
-const ENDS: [u16; 5] = [64, 1023, 0, 63, 64];
-
-#[test]
-fn a_set_lists_cells_in_order(rt: HostRuntime) {
-    let alloc = rt.alloc();
-    assert!(rt; lists(alloc, &set_of(&ENDS), &[0, 63, 64, 1023]));
-    assert!(rt; lists(alloc, &CellSet::new(), &[]));
-}
-
-#[test]
-fn a_set_keeps_cells_at_the_ends_of_words(rt: HostRuntime) {
-    let set = set_of(&ENDS);
-    for cell in [0, 63, 64, 1023] {
-        assert!(rt; holds(&set, cell), "{cell}");
-    }
-    for cell in [1, 62, 65, 127, 128, 1022] {
-        assert!(rt; !holds(&set, cell), "{cell}");
-    }
-}
-
-#[test]
-fn a_set_meets_its_cells(rt: HostRuntime) {
-    let set = set_of(&ENDS);
-    for cell in [0, 63, 64, 1023] {
-        let single = set_of(&[cell]);
-        assert!(rt; set.meets(&single), "{cell}");
-        assert!(rt; single.meets(&set), "{cell}");
-    }
-}
-
-#[test]
-fn a_set_does_not_meet_other_cells(rt: HostRuntime) {
-    let set = set_of(&ENDS);
-    for cell in [1, 62, 65, 127, 128, 1022] {
-        assert!(rt; !set.meets(&set_of(&[cell])), "{cell}");
-    }
-    assert!(rt; !set.meets(&CellSet::new()));
-}
-
-#[test]
-fn a_set_takes_in_another_and_is_cleared(rt: HostRuntime) {
-    let alloc = rt.alloc();
-    let mut set = set_of(&ENDS);
-    set.insert_all(&set_of(&[65, 63]));
-    assert!(rt; lists(alloc, &set, &[0, 63, 64, 65, 1023]));
-    set.clear();
-    assert!(rt; lists(alloc, &set, &[]));
-}
-
-#[test]
-fn a_callee_flows(rt: HostRuntime) {
-    let alloc = rt.alloc();
-    assert!(rt; flows(alloc, CALLEE_WRITE, 0, 0, &[&[1], &[]]));
-    assert!(rt; flows(alloc, CALLEE_WRITE, 1, 2, &[&[3], &[4], &[5], &[]]));
-}
-
-#[test]
-fn a_callee_writes(rt: HostRuntime) {
-    let found = sets_of(rt.alloc(), CALLEE_WRITE);
-    assert!(rt; uses(&found, 0, &[], &[0]));
-    assert!(rt; uses(&found, 1, &[0], &[0]));
-}
-
-const OF_A_FUNCTION: [&[u32]; 4] = [&[1], &[2, 3], &[3], &[]];
-
-const OF_A_PROCESS: [&[u32]; 10] = [
-    &[5],
-    &[6, 7],
-    &[7],
-    &[7, 8],
-    &[9, 13],
-    &[10, 11],
-    &[9],
-    &[8, 12],
-    &[8],
-    &[],
-];
-
-// An empty branch, an empty loop body, a loop in a loop, an `if` at the end of a loop body, a
-// `return` behind an `if`.
-#[test]
-fn loops_and_branches_flow(rt: HostRuntime) {
-    let alloc = rt.alloc();
-    assert!(rt; flows(alloc, LOOPS_AND_BRANCHES, 0, 0, &OF_A_FUNCTION));
-    assert!(rt; flows(alloc, LOOPS_AND_BRANCHES, 1, 4, &OF_A_PROCESS));
-}
-
-// An `if`, statement 5, is no loop.
 #[test]
 fn loops_use_and_define(rt: HostRuntime) {
-    let found = sets_of(rt.alloc(), LOOPS_AND_BRANCHES);
-    assert!(rt; loop_uses(&found, 7, &[0], &[]));
-    assert!(rt; loop_uses(&found, 8, &[0], &[0]));
-    assert!(rt; loop_uses(&found, 9, &[0], &[0]));
-    assert!(rt; loop_uses(&found, 5, &[], &[]));
-}
-
-#[test]
-fn functions_call_each_other_round(rt: HostRuntime) {
-    let found = sets_of(rt.alloc(), ROUND);
-    for body in [0, 1, 2, 4] {
-        assert!(rt; uses(&found, body, &[2], &[0, 1]), "{body}");
+    for (number, row) in LOOPS.iter().enumerate() {
+        assert!(rt; has_cells(rt.alloc(), *row), "{number}");
     }
-    assert!(rt; uses(&found, 3, &[0], &[]));
-}
-
-#[test]
-fn arrays_are_whole(rt: HostRuntime) {
-    let found = sets_of(rt.alloc(), ARRAYS);
-    assert!(rt; uses(&found, 0, &[0, 1, 2], &[1]));
-    assert!(rt; loop_uses(&found, 3, &[0, 1, 2, 3], &[0, 1]));
-    assert!(rt; loop_uses(&found, 4, &[], &[]));
-}
-
-#[test]
-fn a_call_writes_its_receiving_local(rt: HostRuntime) {
-    let alloc = rt.alloc();
-    let found = sets_of(alloc, CALL_IN_LOOP);
-    assert!(rt; loop_uses(&found, 3, &[1], &[0]));
-    assert!(rt; uses(&found, 0, &[], &[]));
-    assert!(rt; flows(alloc, CALL_IN_LOOP, 1, 1, &[&[2], &[3], &[4, 5], &[3], &[]]));
 }
