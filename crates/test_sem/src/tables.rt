@@ -1,13 +1,12 @@
 // Changes of small programs and of their plans, after which they are not valid.
 
 use ppd_ast::{
-    Block, BlockKind, Body, Cells, Expr, Ids, Kind, Op, Place, Plan, Policy, Program, Seq, Start,
-    Stmt, Unit,
+    Block, BlockKind, Body, Cells, Expr, Ids, Kind, Memory, Op, Place, Plan, Policy, Program, Seq,
+    Start, Stmt, Unit,
 };
 use ppd_check::read_source;
-use std::alloc::{AllocError, Global};
+use std::alloc::Global;
 use std::process::Abort;
-use std::test::Fail;
 
 // A statement's kind in a line of a table.
 #[derive(Clone, Copy)]
@@ -29,11 +28,11 @@ enum Change<'a> {
     Body((bool, bool, u16), &'a [u32], (u32, u32)),
 }
 
-fn ids(alloc: Global, items: &[u32]) -> Result<Ids, AllocError> {
+fn ids(alloc: Global, items: &[u32]) -> Result<Ids, Memory> {
     Ok(Seq::from_vec(Vec::from_slice(alloc, items)?))
 }
 
-fn kind_of(alloc: Global, act: Act) -> Result<Kind, AllocError> {
+fn kind_of(alloc: Global, act: Act) -> Result<Kind, Memory> {
     Ok(match act {
         Act::If(value, list) => Kind::If(value, ids(alloc, list)?, Seq::new(alloc)),
         Act::Call(function, args, into) => Kind::Call {
@@ -48,12 +47,24 @@ fn kind_of(alloc: Global, act: Act) -> Result<Kind, AllocError> {
     })
 }
 
+fn stmt_of(alloc: Global, body: u16, parent: Option<u32>, act: Act) -> Result<Stmt, Memory> {
+    let kind = kind_of(alloc, act)?;
+    let place = Place { line: 1, column: 1 };
+    Ok(Stmt {
+        place,
+        body,
+        parent,
+        kind,
+    })
+}
+
 fn body_of(
     alloc: Global,
     (process, value, params): (bool, bool, u16),
     top: &[u32],
     (first, end): (u32, u32),
-) -> Result<Body, AllocError> {
+) -> Result<Body, Memory> {
+    let top = ids(alloc, top)?;
     Ok(Body {
         name: Seq::new(alloc),
         process,
@@ -61,7 +72,7 @@ fn body_of(
         value,
         cells: 0,
         locals: Seq::new(alloc),
-        top: ids(alloc, top)?,
+        top,
         first,
         end,
     })
@@ -72,18 +83,11 @@ fn apply(
     program: &mut Program,
     number: usize,
     change: Change,
-) -> Result<(), AllocError> {
+) -> Result<(), Memory> {
     match change {
         Change::Expr(expr) => program.exprs.set(number, expr),
         Change::Stmt(body, parent, act) => {
-            let kind = kind_of(alloc, act)?;
-            let place = Place { line: 1, column: 1 };
-            let stmt = Stmt {
-                place,
-                body,
-                parent,
-                kind,
-            };
+            let stmt = stmt_of(alloc, body, parent, act)?;
             program.stmts.set(number, stmt);
         }
         Change::Body(sort, top, range) => {
@@ -94,20 +98,11 @@ fn apply(
     Ok(())
 }
 
-/// The first of these changes after which the source's program is valid still.
-fn still_valid(
-    alloc: Global,
-    source: &str,
-    changes: &[(usize, Change)],
-) -> Result<Option<usize>, Fail> {
-    for (row, (number, change)) in changes.iter().enumerate() {
-        let mut program = read_source(alloc, source.as_bytes())?;
-        apply(alloc, &mut program, *number, *change)?;
-        if program.valid() {
-            return Ok(Some(row));
-        }
-    }
-    Ok(None)
+/// Whether the source's program is valid after a change. None where memory is wanting.
+fn is_valid_with(alloc: Global, source: &str, (number, change): (usize, Change)) -> Option<bool> {
+    let mut program = read_source(alloc, source.as_bytes()).ok()?;
+    apply(alloc, &mut program, number, change).ok()?;
+    Some(program.valid())
 }
 
 const ASSIGNMENT: &str = "shared int x; process a { x = 2; print(x + 3); }";
@@ -167,31 +162,32 @@ const OF_A_RECURSION: [(usize, Change<'static>); 5] = [
     (2, Change::Stmt(0, Some(1), Act::Call(0, &[], Some(1)))),
 ];
 
-// A source, changes of its program, and the first after which it is valid still.
-type Changed<'a> = (&'a str, &'a [(usize, Change<'a>)], Option<usize>);
+// A source, changes of its program, and whether it is valid after each of them.
+type Changed<'a> = (&'a str, &'a [(usize, Change<'a>)], bool);
 
 const CHANGED: [Changed<'static>; 5] = [
-    (ASSIGNMENT, &OF_AN_ASSIGNMENT, None),
-    (CALL, &LINES_OF_A_CALL, None),
-    (CALL, &BODIES_OF_A_CALL, None),
-    (CALL, &BODY_OF_A_CALL, Some(0)),
-    (RECURSION, &OF_A_RECURSION, None),
+    (ASSIGNMENT, &OF_AN_ASSIGNMENT, false),
+    (CALL, &LINES_OF_A_CALL, false),
+    (CALL, &BODIES_OF_A_CALL, false),
+    (CALL, &BODY_OF_A_CALL, true),
+    (RECURSION, &OF_A_RECURSION, false),
 ];
 
-// Asserts after which change a program is valid still.
-fn check_changed(rt: &impl Abort, alloc: Global, row: Changed, number: usize) -> Result<(), Fail> {
-    let (source, changes, wanted) = row;
-    let valid = still_valid(alloc, source, changes)?;
-    assert_eq!(rt; valid, wanted, "{number}");
-    Ok(())
+// Asserts whether a program is valid after each change.
+fn check_changed(rt: &impl Abort, alloc: Global, (source, changes, valid): Changed) {
+    for (number, change) in changes.iter().enumerate() {
+        assert!(rt;
+            is_valid_with(alloc, source, *change) == Some(valid),
+            "{source} {number}"
+        );
+    }
 }
 
 #[test]
-fn changed_programs(rt: HostRuntime) -> Result<(), Fail> {
-    for (number, row) in CHANGED.iter().enumerate() {
-        check_changed(&rt, rt.alloc(), *row, number)?;
+fn changed_programs(rt: HostRuntime) {
+    for row in CHANGED {
+        check_changed(&rt, rt.alloc(), row);
     }
-    Ok(())
 }
 
 const LOOP: &str =
@@ -322,67 +318,70 @@ const LOOPS: [Planned<'static>; 9] = [
     ),
 ];
 
-fn cells(alloc: Global, items: &[u16]) -> Result<Cells, AllocError> {
+fn cells(alloc: Global, items: &[u16]) -> Result<Cells, Memory> {
     Ok(Seq::from_vec(Vec::from_slice(alloc, items)?))
 }
 
-fn blocks_of(alloc: Global, parts: &[Part]) -> Result<Seq<Block>, AllocError> {
-    let mut blocks = Vec::new(alloc);
-    for (kind, before, after, value) in parts {
-        let prelog = cells(alloc, before)?;
-        let postlog = cells(alloc, after)?;
-        blocks.push(Block {
-            kind: *kind,
-            prelog,
-            postlog,
-            value: *value,
-        })?;
-    }
-    Ok(Seq::from_vec(blocks))
+fn block_of(alloc: Global, (kind, before, after, value): Part) -> Result<Block, Memory> {
+    let prelog = cells(alloc, before)?;
+    let postlog = cells(alloc, after)?;
+    Ok(Block {
+        kind,
+        prelog,
+        postlog,
+        value,
+    })
 }
 
-fn units_of(alloc: Global, starts: &[Start]) -> Result<Seq<Unit>, AllocError> {
-    let mut units = Vec::new(alloc);
-    for (number, start) in starts.iter().enumerate() {
-        let read: &[u16] = if number == 0 { &[] } else { &[0] };
-        let cells = cells(alloc, read)?;
-        let start = *start;
-        units.push(Unit { start, cells })?;
-    }
-    Ok(Seq::from_vec(units))
-}
-
-fn is_planned(alloc: Global, planned: Planned) -> Result<bool, Fail> {
-    let (source, (leaf, loops), parts, starts, _) = planned;
-    let program = read_source(alloc, source.as_bytes())?;
-    let plan = Plan {
-        policy: Policy { leaf, loops },
-        blocks: blocks_of(alloc, parts)?,
-        units: units_of(alloc, starts)?,
-    };
-    Ok(plan.valid(&program))
-}
-
-// Asserts whether each is a valid plan.
-fn check_planned(rt: &impl Abort, alloc: Global, rows: &[Planned]) -> Result<(), Fail> {
-    for (number, planned) in rows.iter().enumerate() {
-        let is_valid = is_planned(alloc, *planned)?;
-        assert_eq!(rt; is_valid, planned.4, "{number}");
+fn add_blocks(alloc: Global, plan: &mut Plan, parts: &[Part]) -> Result<(), Memory> {
+    for part in parts {
+        plan.blocks.push(block_of(alloc, *part)?)?;
     }
     Ok(())
 }
 
-#[test]
-fn plans_of_calls(rt: HostRuntime) -> Result<(), Fail> {
-    check_planned(&rt, rt.alloc(), &CALLS)
+fn add_units(alloc: Global, plan: &mut Plan, starts: &[Start]) -> Result<(), Memory> {
+    for (number, start) in starts.iter().enumerate() {
+        let read: &[u16] = if number == 0 { &[] } else { &[0] };
+        let cells = cells(alloc, read)?;
+        let start = *start;
+        plan.units.push(Unit { start, cells })?;
+    }
+    Ok(())
+}
+
+/// Whether a program and these parts are a valid plan. None where memory is wanting.
+fn is_plan(alloc: Global, program: &Program, planned: Planned) -> Option<bool> {
+    let (_, (leaf, loops), parts, starts, _) = planned;
+    let mut plan = Plan {
+        policy: Policy { leaf, loops },
+        blocks: Seq::new(alloc),
+        units: Seq::new(alloc),
+    };
+    add_blocks(alloc, &mut plan, parts).ok()?;
+    add_units(alloc, &mut plan, starts).ok()?;
+    Some(plan.valid(program))
+}
+
+fn is_planned(alloc: Global, planned: Planned) -> Option<bool> {
+    let program = read_source(alloc, planned.0.as_bytes()).ok()?;
+    is_plan(alloc, &program, planned)
+}
+
+// Asserts whether each is a valid plan.
+fn check_planned(rt: &impl Abort, alloc: Global, rows: &[Planned]) {
+    for (number, planned) in rows.iter().enumerate() {
+        assert!(rt;
+            is_planned(alloc, *planned) == Some(planned.4),
+            "{} {number}",
+            planned.0
+        );
+    }
 }
 
 #[test]
-fn plans_of_recursions(rt: HostRuntime) -> Result<(), Fail> {
-    check_planned(&rt, rt.alloc(), &RECURSIONS)
-}
-
-#[test]
-fn plans_of_loops(rt: HostRuntime) -> Result<(), Fail> {
-    check_planned(&rt, rt.alloc(), &LOOPS)
+fn plans_of_worked_programs(rt: HostRuntime) {
+    check_planned(&rt, rt.alloc(), &CALLS);
+    check_planned(&rt, rt.alloc(), &RECURSIONS);
+    check_planned(&rt, rt.alloc(), &LOOPS);
 }

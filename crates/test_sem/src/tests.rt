@@ -1,9 +1,8 @@
-use crate::limits::{elements, loops, signs};
-use ppd_ast::{Chan, Kind, Place, Plan, Policy, Program, Sem, Seq, Stmt};
+use crate::limits::{add_elements, add_loops, add_shared, add_signs, empty};
+use ppd_ast::{Chan, Kind, Memory, Place, Plan, Policy, Program, Sem, Seq, Stmt};
 use ppd_blocks::partition;
-use ppd_check::{SourceError, read_source};
-use std::alloc::{AllocError, Global};
-use std::test::Fail;
+use ppd_check::read_source;
+use std::alloc::Global;
 
 /// Four cells, three semaphores, two functions and two processes.
 const BUFFER: &str = "shared int buf[4]; shared int head, tail; sem empty = 4, full = 0, m = 1; \
@@ -12,81 +11,130 @@ const BUFFER: &str = "shared int buf[4]; shared int head, tail; sem empty = 4, f
     process producer { for (int i = 0; i < 100; i++) { int w = i; if (i == 57) { w = 0; } put(w); } } \
     process consumer { for (int i = 0; i < 100; i++) { int v = get(); assert(v == i); } }";
 
-fn buffer(alloc: Global) -> Result<Program, SourceError> {
-    read_source(alloc, BUFFER.as_bytes())
+fn buffer(alloc: Global) -> Option<Program> {
+    read_source(alloc, BUFFER.as_bytes()).ok()
 }
 
-fn planned_buffer(alloc: Global) -> Result<(Program, Plan), Fail> {
-    let program = read_source(alloc, BUFFER.as_bytes())?;
-    let plan = partition(alloc, &program, &Policy { leaf: 0, loops: 0 })?;
-    Ok((program, plan))
+/// A change of the buffer's program.
+#[derive(Clone, Copy)]
+enum Change {
+    Nothing,
+    /// So many functions before the processes.
+    Functions(u16),
+    /// One start value more.
+    Start,
+    /// A channel of this capacity.
+    Channel(u8),
+    /// A lock with a name of so many bytes and this start.
+    Lock(usize, u32),
+    /// `put` without its argument, whose expression is then used nowhere.
+    NoArgument,
 }
 
-// The bounded buffer is valid with its plan; each change below breaks one sentence of validity.
+fn set_lock(alloc: Global, program: &mut Program, bytes: usize, start: u32) -> bool {
+    let Ok(name) = vec![in alloc; b'a'; bytes] else {
+        return false;
+    };
+    let name = Seq::from_vec(name);
+    program.sems.set(2, Sem { name, start });
+    true
+}
+
+fn drop_argument(alloc: Global, program: &mut Program) {
+    let kind = Kind::Call {
+        function: 0,
+        args: Seq::new(alloc),
+        into: None,
+    };
+    let place = Place { line: 1, column: 1 };
+    program.stmts.set(
+        20,
+        Stmt {
+            place,
+            body: 2,
+            parent: Some(16),
+            kind,
+        },
+    );
+}
+
+/// Whether there was memory for the change.
+fn apply(alloc: Global, program: &mut Program, change: Change) -> bool {
+    match change {
+        Change::Nothing => true,
+        Change::Functions(count) => {
+            program.functions = count;
+            true
+        }
+        Change::Start => program.starts.push(0).is_ok(),
+        Change::Channel(capacity) => {
+            let name = Seq::new(alloc);
+            program.chans.push(Chan { name, capacity }).is_ok()
+        }
+        Change::Lock(bytes, start) => set_lock(alloc, program, bytes, start),
+        Change::NoArgument => {
+            drop_argument(alloc, program);
+            true
+        }
+    }
+}
+
+// The bounded buffer is valid; each of these changes that is not breaks one sentence of validity.
+const CHANGES: [(Change, bool); 13] = [
+    (Change::Nothing, true),
+    (Change::Functions(3), false),
+    (Change::Functions(2), true),
+    (Change::Start, false),
+    (Change::Channel(0), true),
+    (Change::Channel(64), true),
+    (Change::Channel(65), false),
+    (Change::Lock(1, 65_535), true),
+    (Change::Lock(1, 65_536), false),
+    (Change::Lock(64, 0), true),
+    (Change::Lock(65, 0), false),
+    (Change::Lock(0, 1), true),
+    (Change::NoArgument, false),
+];
+
+/// Whether the changed buffer is valid. None where memory is wanting.
+fn is_valid_with(alloc: Global, change: Change) -> Option<bool> {
+    let mut program = buffer(alloc)?;
+    if apply(alloc, &mut program, change) {
+        Some(program.valid())
+    } else {
+        None
+    }
+}
+
 #[test]
-fn the_bounded_buffer_is_valid(rt: HostRuntime) -> Result<(), Fail> {
-    let (program, plan) = planned_buffer(rt.alloc())?;
-    assert!(rt; program.valid());
-    assert!(rt; plan.valid(&program));
-    Ok(())
+fn changes_of_the_bounded_buffer(rt: HostRuntime) {
+    for (number, (change, valid)) in CHANGES.iter().enumerate() {
+        assert!(rt;
+            is_valid_with(rt.alloc(), *change) == Some(*valid),
+            "{number}"
+        );
+    }
 }
 
-/// Whether the buffer's plan is valid under another policy.
-fn is_valid_under(alloc: Global, policy: Policy) -> Result<bool, Fail> {
-    let (program, mut plan) = planned_buffer(alloc)?;
-    plan.policy = policy;
-    Ok(plan.valid(&program))
+const FUNCTIONS: Policy = Policy { leaf: 0, loops: 0 };
+
+/// Whether the buffer's plan is valid under another policy. None where memory is wanting.
+fn is_valid_under(alloc: Global, leaf: u16, loops: u16) -> Option<bool> {
+    let program = read_source(alloc, BUFFER.as_bytes()).ok()?;
+    let mut plan = partition(alloc, &program, &FUNCTIONS).ok()?;
+    plan.policy = Policy { leaf, loops };
+    Some(plan.valid(&program))
 }
 
 // With leaf 8 `put`, of seven statements and no call, is no block; with loops 3 both loops are blocks.
-const POLICIES: [(u16, u16, bool); 3] = [(8, 0, false), (7, 0, true), (0, 3, false)];
+const POLICIES: [(u16, u16, bool); 4] = [(0, 0, true), (8, 0, false), (7, 0, true), (0, 3, false)];
 
 #[test]
-fn other_policies(rt: HostRuntime) -> Result<(), Fail> {
+fn other_policies(rt: HostRuntime) {
     for (leaf, loops, valid) in POLICIES {
-        let is_valid = is_valid_under(rt.alloc(), Policy { leaf, loops })?;
-        assert_eq!(rt; is_valid, valid, "at {leaf} {loops}");
+        let is_valid = is_valid_under(rt.alloc(), leaf, loops);
+        assert!(rt; is_valid == Some(valid), "at {leaf} {loops}");
     }
-    Ok(())
-}
-
-// More functions than bodies stand before the processes.
-#[test]
-fn a_function_too_many(rt: HostRuntime) -> Result<(), Fail> {
-    let mut program = buffer(rt.alloc())?;
-    program.functions = 3;
-    assert!(rt; !program.valid());
-    program.functions = 2;
-    assert!(rt; program.valid());
-    Ok(())
-}
-
-/// Whether the buffer is valid with a channel of this capacity.
-fn is_valid_with_channel(alloc: Global, capacity: u8) -> Result<bool, Fail> {
-    let mut program = buffer(alloc)?;
-    let name = Seq::new(alloc);
-    program.chans.push(Chan { name, capacity })?;
-    Ok(program.valid())
-}
-
-#[test]
-fn limits_of_a_capacity(rt: HostRuntime) -> Result<(), Fail> {
-    for (capacity, valid) in [(0, true), (64, true), (65, false)] {
-        assert_eq!(rt;
-            is_valid_with_channel(rt.alloc(), capacity)?,
-            valid,
-            "at {capacity}"
-        );
-    }
-    Ok(())
-}
-
-#[test]
-fn a_start_value_too_many(rt: HostRuntime) -> Result<(), Fail> {
-    let mut program = buffer(rt.alloc())?;
-    assert!(rt; program.starts.push(0).is_ok());
-    assert!(rt; !program.valid());
-    Ok(())
 }
 
 #[derive(Clone, Copy, Debug)]
@@ -96,15 +144,28 @@ enum Limit {
     Loops,
 }
 
-/// Whether a program with so many of them is valid.
-fn is_valid(alloc: Global, limit: Limit, count: u8, more: u16) -> Result<bool, AllocError> {
+/// Adds a process with so many of them.
+fn add(
+    alloc: Global,
+    program: &mut Program,
+    limit: Limit,
+    count: u8,
+    more: u16,
+) -> Result<(), Memory> {
     let whole = u16::from(count) + more.min(1024);
-    let program = match limit {
-        Limit::Signs => signs(alloc, whole)?,
-        Limit::Nodes => elements(alloc, whole)?,
-        Limit::Loops => loops(alloc, count)?,
-    };
-    Ok(program.valid())
+    match limit {
+        Limit::Signs => add_signs(alloc, program, whole),
+        Limit::Nodes => add_elements(alloc, program, whole),
+        Limit::Loops => add_loops(alloc, program, count),
+    }
+}
+
+/// Whether a program with so many of them is valid. None where memory is wanting.
+fn is_valid(alloc: Global, limit: Limit, count: u8, more: u16) -> Option<bool> {
+    let mut program = empty(alloc);
+    add_shared(alloc, &mut program).ok()?;
+    add(alloc, &mut program, limit, count, more).ok()?;
+    Some(program.valid())
 }
 
 // Operators, nodes and nesting at their limits and one past them.
@@ -121,60 +182,11 @@ const LIMITS: [(Limit, u8, u16, bool); 9] = [
 ];
 
 #[test]
-fn limits_of_expressions_and_nesting(rt: HostRuntime) -> Result<(), Fail> {
+fn limits_of_expressions_and_nesting(rt: HostRuntime) {
     for (limit, count, more, valid) in LIMITS {
-        let is_valid = is_valid(rt.alloc(), limit, count, more)?;
-        assert_eq!(rt; is_valid, valid, "at {limit:?} {count} {more}");
+        let is_valid = is_valid(rt.alloc(), limit, count, more);
+        assert!(rt; is_valid == Some(valid), "at {limit:?} {count} {more}");
     }
-    Ok(())
-}
-
-/// Whether the buffer is valid where its lock has a name of so many bytes and this start.
-fn is_valid_with_lock(alloc: Global, bytes: usize, start: u32) -> Result<bool, Fail> {
-    let mut program = buffer(alloc)?;
-    let name = Seq::from_vec(vec![in alloc; b'a'; bytes]?);
-    program.sems.set(2, Sem { name, start });
-    Ok(program.valid())
-}
-
-// A name's length and a semaphore's start.
-const LOCKS: [(usize, u32, bool); 5] = [
-    (1, 65_535, true),
-    (1, 65_536, false),
-    (64, 0, true),
-    (65, 0, false),
-    (0, 1, true),
-];
-
-#[test]
-fn limits_of_a_semaphore(rt: HostRuntime) -> Result<(), Fail> {
-    for (bytes, start, valid) in LOCKS {
-        let is_valid = is_valid_with_lock(rt.alloc(), bytes, start)?;
-        assert_eq!(rt; is_valid, valid, "at {bytes} bytes and {start}");
-    }
-    Ok(())
-}
-
-// `put` without its argument, whose expression is then used nowhere.
-#[test]
-fn an_argument_too_few(rt: HostRuntime) -> Result<(), Fail> {
-    let mut program = buffer(rt.alloc())?;
-    let put = Kind::Call {
-        function: 0,
-        args: Seq::new(rt.alloc()),
-        into: None,
-    };
-    program.stmts.set(
-        20,
-        Stmt {
-            place: Place { line: 1, column: 1 },
-            body: 2,
-            parent: Some(16),
-            kind: put,
-        },
-    );
-    assert!(rt; !program.valid());
-    Ok(())
 }
 
 /// Whether the plan without cells has the blocks and units of this one, and a returned value alone.
@@ -199,11 +211,19 @@ fn is_bare(bare: &Plan, plan: &Plan) -> bool {
     true
 }
 
+/// Whether the buffer is valid with a plan without cells, which is the other one but for its cells. None where memory is
+/// wanting.
+fn has_bare_plan(alloc: Global) -> Option<bool> {
+    let program = buffer(alloc)?;
+    if !program.valid() {
+        return Some(false);
+    }
+    let plan = partition(alloc, &program, &FUNCTIONS).ok()?;
+    let bare = Plan::bare(alloc, &program, &FUNCTIONS).ok()?;
+    Some(bare.valid(&program) && is_bare(&bare, &plan))
+}
+
 #[test]
-fn a_plan_without_cells(rt: HostRuntime) -> Result<(), Fail> {
-    let (program, plan) = planned_buffer(rt.alloc())?;
-    assert!(rt; program.valid());
-    let bare = Plan::bare(rt.alloc(), &program, &Policy { leaf: 0, loops: 0 })?;
-    assert!(rt; bare.valid(&program) && is_bare(&bare, &plan));
-    Ok(())
+fn a_plan_without_cells(rt: HostRuntime) {
+    assert!(rt; has_bare_plan(rt.alloc()) == Some(true));
 }
