@@ -1,7 +1,6 @@
-use crate::runs::{Outcome, replay_if};
+use crate::runs::{Outcome, replay};
 use crate::shown::{Shown, has_items};
 use crate::written::{Refused, Wrote, check_refusals, claimed};
-use Shown::Own;
 use Wrote::{End, Postlog, Prelog, Sync, Unit};
 use ppd_ast::Policy;
 use ppd_emul::{EmulError, Found, Wanted};
@@ -105,8 +104,10 @@ struct Case<'a> {
 
 /// What the replay of the case's interval came to. None where the log has no index.
 fn outcome_of(alloc: Global, case: &Case) -> Outcome {
-    let run = claimed(alloc, case.source, &case.policy, case.wrote);
-    replay_if(alloc, run, case.budget, 0, case.k)
+    match claimed(alloc, case.source, &case.policy, case.wrote) {
+        Some(run) => replay(alloc, &run, case.budget, case.k),
+        None => None,
+    }
 }
 
 /// Cell 0 of the interval's own frame.
@@ -114,10 +115,10 @@ const FIRST: Spot = Spot::Local { frame: 0, cell: 0 };
 
 /// The items of a replay of four steps.
 const FOUR_ITEMS: [Shown<'static>; 4] = [
-    Own(0, &[], &[(FIRST, 0)], None),
-    Own(1, &[], &[], Some(1)),
-    Own(2, &[(FIRST, 0)], &[(FIRST, 1)], None),
-    Own(1, &[], &[], Some(1)),
+    (0, &[], &[(FIRST, 0)], None),
+    (1, &[], &[], Some(1)),
+    (2, &[(FIRST, 0)], &[(FIRST, 1)], None),
+    (1, &[], &[], Some(1)),
 ];
 
 const TOO_SHORT: Case<'static> = Case {

@@ -1,12 +1,10 @@
-//! Intervals of worked programs, replayed from their logs: tests of the index of logs and of the replay.
+//! Logs that need be no run's: tests of the index of logs and of the replay.
 #![tactic(auto)]
 
 #[cfg(test)]
 mod damaged_tests;
 #[cfg(test)]
 mod index_tests;
-#[cfg(test)]
-mod row_tests;
 #[cfg(test)]
 mod runs;
 #[cfg(test)]

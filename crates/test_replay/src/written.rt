@@ -1,7 +1,7 @@
 //! Logs of one process, entry by entry.
 
-use crate::runs::{Run, index_of, read, with_logs};
-use ppd_ast::{Memory, Policy, Seq, Status, SyncKind};
+use crate::runs::{Run, index_of, read};
+use ppd_ast::{Memory, Plan, Policy, Program, Seq, Status, SyncKind};
 use ppd_entry::{Boxed, BoxedNums, Entry, Logs};
 use ppd_index::BadLog;
 use std::alloc::Global;
@@ -64,10 +64,21 @@ fn logs_of(alloc: Global, wrote: &[Wrote]) -> Result<Logs, Memory> {
     Ok(Logs { lists })
 }
 
+fn with_logs(program: Program, plan: Plan, logs: Option<Logs>) -> Option<Run> {
+    match logs {
+        Some(logs) => Some(Run {
+            program,
+            plan,
+            logs,
+        }),
+        None => None,
+    }
+}
+
 /// A source of one process with a log that need be no run's.
 pub fn claimed(alloc: Global, source: &str, policy: &Policy, wrote: &[Wrote]) -> Option<Run> {
-    let parts = read(alloc, source, policy)?;
-    with_logs(parts, logs_of(alloc, wrote).ok())
+    let (program, plan) = read(alloc, source, policy)?;
+    with_logs(program, plan, logs_of(alloc, wrote).ok())
 }
 
 /// Why a source of one process with this log has no index, if it has none.
