@@ -211,8 +211,8 @@ fn is_bare(bare: &Plan, plan: &Plan) -> bool {
     true
 }
 
-/// Whether the buffer is valid with a plan without cells, which is the other one but for its cells. None where memory is
-/// wanting.
+/// Whether the buffer is valid with a plan without cells, which is the other one but for its cells. None where memory
+/// is wanting.
 fn has_bare_plan(alloc: Global) -> Option<bool> {
     let program = buffer(alloc)?;
     if !program.valid() {
