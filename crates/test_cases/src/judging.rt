@@ -196,7 +196,7 @@ fn judge<R: Threads + Wait + Sync>(
     answer.map(|_| ())
 }
 
-/// Runs a case, or one for each number of its line `each`, which stands for `@`.
+/// Runs a case, or one for each word of its line `each`, which stands for `@`.
 fn judge_each<R: Threads + Wait + Sync>(
     rt: &R,
     alloc: Global,
