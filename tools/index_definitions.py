@@ -125,7 +125,9 @@ def defined(name, word):
     return number + 1, as_cell(lines[first:number])
 
 
-DECLARED = re.compile(r"(?:abbrev pub|unfoldable pub|pub record|pub data|abbrev|unfoldable|record|data) (\w+)")
+# a definition begins so, also one inside a module without a name
+DECLARED = re.compile(r" *(?:(?:abbrev|unfoldable) (?:pub )?|(?:pub )?(?:record|data) (?=.*:))(\w+)")
+MODULE = re.compile(r" *module _ ")
 USED = re.compile(r"^(?:pub )?use Rattle\.([\w.]+?)(?:\.\{([^}]*)\}| as (\w+))?$", re.MULTILINE)
 WORD = re.compile(r"(?<![\w.])([^\W\d]\w*)(?:\.([^\W\d]\w*))?")
 
@@ -145,7 +147,7 @@ class Module:
         word = None
         for line in text.splitlines():
             declared = DECLARED.match(line)
-            if declared or line.startswith(("use ", "pub use ", "pub mod ")):
+            if declared or line.startswith(("use ", "pub use ", "pub mod ")) or MODULE.match(line):
                 word = declared and declared[1]
             if word:
                 self.texts[word] = self.texts.get(word, "") + line + "\n"
