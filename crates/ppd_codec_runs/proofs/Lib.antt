@@ -1,3 +1,4 @@
 pub mod Cells
 pub mod Same
 pub mod Runs
+pub mod Knowing

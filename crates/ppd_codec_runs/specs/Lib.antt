@@ -1,3 +1,4 @@
 -- Recordings of runs, and which are accepted.
 pub mod Recordings
+pub mod Knowing
 pub mod Laws
